@@ -20,10 +20,13 @@ from .batch import Books, remesh_files
 from .errors import FormatError, MeshError, QuadqError, WishError
 from .files import write_whole
 from .formats import bytes_of, read_file
+from .graphs import Cut, graph, layout
+from .maps import Map
 from .obj import read_obj
 from .obj_writing import write_obj
 from .program import Program
 from .quality import Quality, quality_of, scaled_jacobians
+from .refining import refine
 from .refusal import Refusal
 from .remeshing import remesh
 from .report import refusal_page, result_page
@@ -31,16 +34,23 @@ from .results import Counts, Report, Result
 from .rows import Row
 from .settings import Settings
 from .subdivision import subdivide
+from .transfer import areas, areas_under, transfer
 from .version import VERSION
 
 __all__ = [
-    "Books", "Counts", "Distance", "FormatError", "Layer", "Mesh", "MeshError", "Names", "Notice", "Program",
-    "QuadqError", "Quality", "Refusal", "Report", "Result", "Row", "Settings", "WishError", "distance_between",
-    "find_features", "quality_of", "read", "read_obj", "refusal_page", "remesh", "remesh_files", "result_page",
-    "scaled_jacobians", "subdivide", "write", "write_obj",
+    "Books", "Counts", "Cut", "Distance", "FormatError", "Layer", "Map", "Mesh", "MeshError", "Names", "Notice",
+    "Program", "QuadqError", "Quality", "Refusal", "Report", "Result", "Row", "Settings", "WishError", "areas",
+    "areas_under", "distance_between", "find_features", "graph", "layout", "map", "quality_of", "read", "read_obj",
+    "refine", "refusal_page", "remesh", "remesh_files", "result_page", "scaled_jacobians", "subdivide", "transfer",
+    "write", "write_obj",
 ]
 
 __version__ = VERSION
+
+
+def map(result: Result) -> Map:
+    """Where each point and face of a new mesh lies in the old one, over all parts."""
+    return result.made.under.map
 
 
 def read(path: Union[str, os.PathLike[str]], *, polygons: bool = False, program: Optional[Program] = None) -> Mesh:

@@ -45,6 +45,8 @@ def parser_of_words() -> argparse.ArgumentParser:
         stay.add_argument(f"--{kind}", dest="keep_edges", action="append_const", const=kind, help=meaning)
     stay.add_argument("--no-corners", dest="corners", action="store_false",
                       help="leave out the edges that keep corners of the boundary and of these lines")
+    stay.add_argument("--free-groups", action="store_true",
+                      help="let go the borders of groups that the file has, as gmsh writes them, which else stay")
     parser.add_argument("--coarse", action="store_true", help="merge patches where they have a whole side in common")
     parser.add_argument("--subdivide", action="store_true", help="divide all faces into quads first")
     parser.add_argument("--mirror", choices=["x", "y", "z"], help="remesh the half above 0, and mirror it")
@@ -129,7 +131,7 @@ def settings_of(asked: argparse.Namespace) -> Settings:
         scale=asked.scale, faces=asked.faces, edge=None if asked.edge is None else as_length(asked.edge),
         floor=asked.floor, weight=asked.weight, sharp=asked.sharp, keep=tuple(asked.keep_edges or ()),
         corners=asked.corners, coarse=asked.coarse, subdivide=asked.subdivide, mirror=asked.mirror, relax=asked.relax,
-        jobs=asked.jobs, folder=asked.keep, carry=asked.carry)
+        jobs=asked.jobs, folder=asked.keep, carry=asked.carry, free_groups=asked.free_groups)
 
 
 def refuse_missing(settings: Settings, program: Program) -> None:

@@ -27,10 +27,11 @@ KINDS = {
 """What may tell that an edge is a feature, besides an angle."""
 REASONS = (
     "by angle", "between groups", "at seams", "by normals", "by lines", "at corners of the boundary",
-    "at turns of lines",
+    "at turns of lines", "where groups of edges meet",
 )
-"""Why an edge is marked, in the order in which edges are marked: the first reason counts."""
-ANGLE, GROUPS, SEAMS, NORMALS, LINES, CORNERS, TURNS = range(len(REASONS))
+"""Why an edge is marked, in the order in which edges are marked: the first reason counts. The last is that of
+`groups.py`."""
+ANGLE, GROUPS, SEAMS, NORMALS, LINES, CORNERS, TURNS, MEETINGS = range(len(REASONS))
 TURN = 30.0
 """Degrees: where lines turn by more they have a corner, if no angle is given."""
 NEAR = 1e-9

@@ -96,7 +96,8 @@ def dropped_of(mesh: Mesh, settings: Settings) -> tuple[tuple[str, str], ...]:
         said.append(("loose", f"{counted(loose, 'loose point', True)} dropped: no face has them"))
     said += [("lines", it) for it in _lines_of(mesh, settings)]
     if not settings.carry:
-        names = [f"`{word}` within parts" for word, it in mesh.groups.items() if np.any(it.of_face != it.of_face[:1])]
+        names = [f"`{word}` within parts" for word, it in mesh.groups.items()
+                 if np.any(it.of_face != it.of_face[:1]) and not mesh.is_grouped]
         has = [("texture coordinates", mesh.texture), ("normals", mesh.normal), ("numbers of points", mesh.extra),
                *mesh.layers.items()]
         lost = [name for name, it in has if it is not None] + names
@@ -110,7 +111,7 @@ def dropped_of(mesh: Mesh, settings: Settings) -> tuple[tuple[str, str], ...]:
 
 def _lines_of(mesh: Mesh, settings: Settings) -> list[str]:
     """What becomes of lines that are not kept."""
-    if not mesh.lines:
+    if not mesh.lines or mesh.is_grouped:
         return []
     if "lines" not in settings.keep:
         return [f"{counted(len(mesh.lines), 'line', True)} dropped: --lines keeps those along edges"]

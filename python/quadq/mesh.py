@@ -88,6 +88,14 @@ class Mesh:
     """Further layers of corners, by name, for which OBJ has no word: other UV maps, colours of corners."""
     notes: tuple[str, ...] = ()
     """What was left out when the mesh was read."""
+    line_names: tuple[str, ...] = ()
+    """The group of each line, where some are in one."""
+    point_fields: dict[str, Array] = field(default_factory=dict)
+    """By name (points, ..): values at points, of a simulation."""
+    face_fields: dict[str, Array] = field(default_factory=dict)
+    """By name (faces, ..): values of faces."""
+    is_grouped: bool = False
+    """Whether its names are groups that a remesh brings back, as the physical groups of gmsh."""
 
     @staticmethod
     def of_quads(points: ArrayLike, quads: ArrayLike) -> Mesh:
@@ -182,6 +190,8 @@ class Mesh:
             extra=None if self.extra is None else self.extra[used],
             libraries=self.libraries,
             layers={name: replace(it, rows=it.rows[at]) for name, it in self.layers.items()},
+            point_fields={name: it[used] for name, it in self.point_fields.items()},
+            face_fields={name: it[chosen] for name, it in self.face_fields.items()},
         )
         return part, used
 

@@ -10,7 +10,7 @@ from dataclasses import dataclass, field, replace
 from decimal import Decimal
 from fractions import Fraction
 from pathlib import Path
-from typing import Optional, Union
+from typing import Optional, Sequence, Union
 
 from .refusal import STRANGE, Refusal
 from .running import Halt, run_program
@@ -111,6 +111,10 @@ class Program:
     def tidy(self, text: bytes) -> bytes:
         """The mesh in the plain form."""
         return self._run(["tidy"], text)
+
+    def answer(self, words: Sequence[str], text: bytes) -> bytes:
+        """What any command with its options writes for a text."""
+        return self._run([*words], text)
 
     def commands(self) -> tuple[str, ...]:
         """The first words that the program knows: those that its usage line has, and `map`, which that leaves out,

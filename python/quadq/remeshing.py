@@ -15,9 +15,11 @@ import numpy as np
 from . import mirror as mirroring
 from .arrays import Array
 from .attributes import map_of
+from .bringing import brought_over
 from .carrier import Carrier
 from .distance import distance_between
 from .features import ANGLE, mark_features
+from .groups import marks_of_groups, with_meetings
 from .losses import SHARP, dropped_of, lost_edges, lost_mirrors
 from .mesh import NONE, Mesh
 from .obj_writing import plain_text
@@ -57,6 +59,7 @@ def remesh(
     symmetry: Optional[str] = None,
     relax: int = 0,
     carry: bool = False,
+    free_groups: bool = False,
     rescale: bool = False,
     jobs: int = 0,
     folder: Optional[Path] = None,
@@ -78,7 +81,8 @@ def remesh(
         scale=None if scale is None else as_scale_wish(scale), faces=faces,
         edge=None if edge is None else as_length(edge),
         floor=floor, weight=weight, sharp=sharp, keep=tuple(keep), corners=corners, coarse=coarse, subdivide=subdivide,
-        mirror=mirror, symmetry=symmetry, relax=relax, jobs=jobs, folder=folder, carry=carry, rescale=rescale)
+        mirror=mirror, symmetry=symmetry, relax=relax, jobs=jobs, folder=folder, carry=carry,
+        free_groups=free_groups, rescale=rescale)
     runner = (Program() if program is None else program).within(timeout)
     mesh.refuse_strange()
     if text is not None:
@@ -94,11 +98,21 @@ def run(mesh: Mesh, settings: Settings, program: Program, text: Optional[bytes],
     wrong = np.flatnonzero(~np.isfinite(mesh.points).all(axis=1))
     if len(wrong):
         raise Refusal(SYNTAX, f"vertex {wrong[0] + 1}: a coordinate is no number", (), wrong.tolist())
+    settings = _with_groups(mesh, settings)
     factor = factor_of(mesh, settings.rescale)
     if factor == 1:
         return _Work(mesh, settings.times(1.0), program, tell).result(text)
     scaled = replace(mesh, points=mesh.points * factor)
     return _Work(scaled, settings.times(factor), program, tell).result(None).times(1 / factor)
+
+
+def _with_groups(mesh: Mesh, settings: Settings) -> Settings:
+    """The settings, with what has to stay so that the groups of a mesh come back, where the command can keep edges."""
+    if not mesh.is_grouped or settings.free_groups or settings.coarse or settings.edge is not None:
+        return settings
+    if not settings.is_creased and not len(marks_of_groups(mesh, settings.corners).edges):
+        return settings
+    return replace(settings, keep=tuple(dict.fromkeys((*settings.keep, "groups", "lines"))))
 
 
 class _Work:
@@ -156,7 +170,8 @@ class _Work:
                          symmetry="" if self.image is None else mirroring.AXES[self.image.axis])
         owners = None if self.ready is self.mesh else self.mesh.face_of_corner()
         text = written[0].text if is_as_written else None
-        return Result(new, report, text, tuple(parts), tuple(written), owners, carrier)
+        return brought_over(Result(new, report, text, tuple(parts), tuple(written), self.mesh, self.ready, self.program,
+                                   owners, carrier))
 
     def _parts(self, text: Optional[bytes]) -> list[Part]:
         mesh = self.mesh
@@ -182,6 +197,8 @@ class _Work:
         if not settings.is_creased:
             return NO_MARKS
         found = mark_features(mesh, settings.sharp, kinds=settings.keep, corners=settings.corners)
+        if mesh.is_grouped and not settings.free_groups:
+            found = with_meetings(mesh, found)
         self.marks = found.in_words()
         if settings.sharp == SHARP and self.ready is self.mesh:
             self.sharp = found.edges[found.reasons == ANGLE]

@@ -5,6 +5,7 @@ from __future__ import annotations
 from dataclasses import dataclass, replace
 from decimal import Decimal
 from fractions import Fraction
+from functools import cached_property
 from typing import Optional, Union
 
 from .arrays import Array
@@ -13,7 +14,9 @@ from .distance import Distance
 from .mesh import Mesh
 from .notices import Notice, notices_of
 from .parts import Part, Written
+from .program import Program
 from .quality import Quality
+from .under import Made, map_of_part, under_of
 
 
 @dataclass(frozen=True)
@@ -78,6 +81,8 @@ class Report:
     """The axis along which the mesh was its own mirror image and has stayed so by being remeshed in halves."""
     dropped: tuple[tuple[str, str], ...] = ()
     """What the old mesh had and the new one does not: kinds of notices, and their words."""
+    fields: str = ""
+    """The fields of the old mesh that came over, or nothing."""
     factor: float = 1.0
     """How many times as large the mesh was made for the program, which rounds to millionths."""
 
@@ -144,6 +149,7 @@ class Report:
             ("arcs", str(self.arcs)),
             ("arcs at the floor", str(self.arcs_at_floor)),
             ("deviation, least in each part", None if self.deviation is None else str(self.deviation)),
+            ("fields carried over", self.fields or None),
             ("moves of points", str(self.moves) if self.moves else None),
             ("made larger for the program", f"{self.factor:g} times" if self.factor != 1 else None),
         ]
@@ -170,10 +176,21 @@ class Result:
     parts: tuple[Part, ...]
     written: tuple[Written, ...]
     """What the program wrote for each part, accepted by `check`, or by `map` where another command wrote it."""
+    old: Mesh
+    """What was remeshed."""
+    ready: Mesh
+    """The same in quads: divided, where that was wished."""
+    program: Program
     owners: Optional[Array] = None
-    """(faces of the parts,) int64: of a mesh that was divided, the face of the file that each is a piece of."""
+    """(quads,) int64: of a mesh that was divided, the face of the file that each is a piece of."""
     carrier: Optional[Carrier] = None
     """What carries further values over, where it was wished that the mesh carries its own."""
+
+    @cached_property
+    def made(self) -> Made:
+        """Both meshes, and where the new one lies in the old one, by the maps of its parts."""
+        maps = [map_of_part(part, it, self.program) for part, it in zip(self.parts, self.written)]
+        return Made(self.mesh, self.old, self.ready, self.owners, under_of(self.parts, maps, self.mesh))
 
     def _repr_html_(self) -> str:
         """What a notebook shows: a small page with both meshes, which can be turned."""
@@ -186,5 +203,6 @@ class Result:
         def longer(mesh: Mesh) -> Mesh:
             return replace(mesh, points=mesh.points * factor)
 
-        parts = tuple(replace(it, mesh=longer(it.mesh)) for it in self.parts)
-        return replace(self, mesh=longer(self.mesh), report=self.report.times(factor), text=None, parts=parts)
+        return replace(self, mesh=longer(self.mesh), report=self.report.times(factor), text=None,
+                       parts=tuple(replace(it, mesh=longer(it.mesh)) for it in self.parts), old=longer(self.old),
+                       ready=longer(self.ready))

@@ -52,6 +52,9 @@ class Settings:
     carry: bool = False
     """Whether what corners, points and faces carry comes over: texture, normals, colours, names within parts. A mirror
     image carries what its half does."""
+    free_groups: bool = False
+    """Whether the borders of groups, which a mesh has as those of gmsh, may move; else they stay, where the command can
+    keep edges."""
     rescale: bool = False
     """Whether the mesh is brought to one size for the program, which rounds to millionths, and back, whatever its unit
     is; else that is done only where the unit is too small or too great."""

@@ -23,33 +23,46 @@ def subdivide(mesh: Mesh) -> Mesh:
         points + len(edges.ends) + faces,
         points + edges.of_corner[before],
     ])
+    lines, line_names = _refined_lines(mesh, edges)
     return replace(
         Mesh.of_quads(refined(mesh, mesh.points), quads),
         texture=None if mesh.texture is None else _refined_layer(mesh, before, mesh.texture),
         normal=None if mesh.normal is None else _refined_layer(mesh, before, mesh.normal),
         layers={name: _refined_layer(mesh, before, it) for name, it in mesh.layers.items()},
-        lines=_refined_lines(mesh, edges),
+        lines=lines,
         groups={word: replace(it, of_face=it.of_face[faces]) for word, it in mesh.groups.items()},
         extra=None if mesh.extra is None else refined(mesh, mesh.extra),
         libraries=mesh.libraries,
+        line_names=line_names,
+        point_fields={name: at_divided(mesh, it) for name, it in mesh.point_fields.items()},
+        face_fields={name: it[faces] for name, it in mesh.face_fields.items()},
+        is_grouped=mesh.is_grouped,
     )
 
 
-def _refined_lines(mesh: Mesh, edges: Edges) -> tuple[Array, ...]:
-    """The `l` lines with the middles of their edges; a pair of points that is no edge parts its line in two."""
+def at_divided(mesh: Mesh, values: Array) -> Array:
+    """Values at points (points, ..), at the points of the divided mesh."""
+    table = refined(mesh, np.asarray(values, dtype=np.float64).reshape(len(values), -1))
+    return table.reshape(len(table), *values.shape[1:])
+
+
+def _refined_lines(mesh: Mesh, edges: Edges) -> tuple[tuple[Array, ...], tuple[str, ...]]:
+    """The lines with the middles of their edges, and their names; a pair of points that is no edge parts its line in
+    two."""
     middles = {(one, other): len(mesh.points) + at for at, (one, other) in enumerate(edges.ends.tolist())}
-    done: list[list[int]] = []
-    for line in mesh.lines:
+    done: list[tuple[list[int], str]] = []
+    for line, name in zip(mesh.lines, mesh.line_names or ("",) * len(mesh.lines)):
         run = line[:1].tolist()
         for one, other in zip(line.tolist(), line[1:].tolist()):
             middle = middles.get((min(one, other), max(one, other)))
             if middle is None:
-                done.append(run)
+                done.append((run, name))
                 run = [other]
             else:
                 run += [middle, other]
-        done.append(run)
-    return tuple(np.array(it, dtype=np.int64) for it in done if len(it) > 1)
+        done.append((run, name))
+    kept = [(np.array(it, dtype=np.int64), name) for it, name in done if len(it) > 1]
+    return tuple(it for it, _ in kept), tuple(name for _, name in kept) if mesh.line_names else ()
 
 
 def refined(mesh: Mesh, values: Array) -> Array:

@@ -57,6 +57,11 @@ def darts_between(mesh: Mesh, heads: Array, tails: Array) -> Array:
     return darts
 
 
+def sides_beside(darts: Array, way: int) -> Array:
+    """(darts,) int64: of quads, the side so many sides after each around its face."""
+    return np.asarray(darts - darts % 4 + (darts + way) % 4)
+
+
 def irregular_counts(mesh: Mesh) -> tuple[int, int]:
     """How many points inside the mesh have another number of faces than four, and how many on the boundary another
     than two."""

@@ -22,7 +22,7 @@ _quadq_remesh() {
         --jobs) return ;;
     esac
     case $word in
-        -*) mapfile -t COMPREPLY < <(compgen -W "-h --help --scale --faces --edge --floor --weight --sharp --materials --groups --seams --normals --lines --no-corners --coarse --subdivide --mirror --relax --keep --report --up --carry --out --table --log --resume --recursive --pattern --timeout --jobs --quiet --version" -- "$word") ;;
+        -*) mapfile -t COMPREPLY < <(compgen -W "-h --help --scale --faces --edge --floor --weight --sharp --materials --groups --seams --normals --lines --no-corners --free-groups --coarse --subdivide --mirror --relax --keep --report --up --carry --out --table --log --resume --recursive --pattern --timeout --jobs --quiet --version" -- "$word") ;;
     esac
 }
 complete -o bashdefault -o default -F _quadq_remesh quadq-remesh

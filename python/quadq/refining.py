@@ -1,0 +1,38 @@
+"""Meshes whose edges are divided by the program, with their fields and groups."""
+
+from __future__ import annotations
+
+from dataclasses import replace
+from typing import Optional
+
+import numpy as np
+
+from .bringing import bring_over
+from .errors import WishError
+from .maps import read_map
+from .mesh import Mesh
+from .obj_writing import plain_text
+from .parts import Part
+from .plain import written_mesh
+from .program import LARGEST, Program
+from .scaling import factor_of
+from .under import Made, under_of
+
+
+def refine(mesh: Mesh, by: int, *, program: Optional[Program] = None) -> Mesh:
+    """A mesh of quads with each edge divided in so many, with its fields and groups. New points lie between the old
+    ones: no curved surface is guessed. Raises a `Refusal` that names the place, and a `WishError` for a number that is
+    not from 1 to 1000."""
+    if not 1 <= by <= LARGEST:
+        raise WishError(f"edges are divided in 1 to {LARGEST}, and not in {by}")
+    mesh.refuse_strange()
+    runner = Program() if program is None else program
+    factor = factor_of(mesh)
+    scaled = replace(mesh, points=mesh.points * factor)
+    text = plain_text(scaled)
+    written = runner.answer(["refine", "--by", str(by)], text)
+    part = Part(scaled, text, np.arange(mesh.face_count), np.arange(len(mesh.points)))
+    fine = written_mesh(written)
+    fine = replace(fine, points=fine.points / factor, libraries=mesh.libraries)
+    under = under_of([part], [read_map(runner.map(text, written), mesh.quads)], fine)
+    return bring_over(Made(fine, mesh, mesh, None, under))[0]

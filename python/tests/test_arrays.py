@@ -1,0 +1,106 @@
+"""What the program writes, as arrays: graphs, layouts, maps, and finer meshes."""
+
+import unittest
+from dataclasses import replace
+
+import numpy as np
+
+import quadq
+from quadq import Refusal, WishError, read, remesh
+from quadq.graphs import read_cut
+from quadq.quality import quality_of
+
+from .shapes import EXAMPLES, drum, grid, plate
+
+LAYOUT = """quadq layout 1 keep lines patches merged
+vertices 12 edges 17 faces 6 euler 1 components 1
+corner 1 1
+corner 4 1
+break 6
+arc 1 3 1 2 3 4
+marked 2 2 1 5 9
+arc 3 2 4 8 12
+arc 4 3 12 11 10 9
+patch 1 3 2
+south 1
+east 3
+north 4
+west 2
+"""
+
+
+class Graphs(unittest.TestCase):
+    def test_the_example(self):
+        found = quadq.graph(read(EXAMPLES / "notched_square.obj"))
+        self.assertEqual((found.euler, found.components), (1, 1))
+        self.assertEqual(found.irregular["corner"][0].tolist(), [0, 1])
+        self.assertEqual(found.sizes[0].tolist(), [3, 1])
+        self.assertEqual([it.tolist() for it in found.sides[0]], [[0], [3], [4, 1], [2]])
+        self.assertEqual(int(found.sizes.prod(axis=1).sum()), len(found.patch_of_face))
+        np.testing.assert_array_equal(np.bincount(found.patch_of_face), found.sizes.prod(axis=1))
+        self.assertIn("patches", repr(found))
+
+    def test_numbers_are_those_of_the_mesh(self):
+        mesh = plate()
+        loose = replace(mesh, points=np.concatenate([[[9.0, 9.0, 9.0]], mesh.points]), corners=mesh.corners + 1)
+        one, other = quadq.graph(mesh), quadq.graph(loose)
+        np.testing.assert_array_equal(one.arcs[:, :2] + 1, other.arcs[:, :2])
+        np.testing.assert_array_equal(one.irregular["corner"][:, 0] + 1, other.irregular["corner"][:, 0])
+
+    def test_a_torus_has_a_seed(self):
+        found = quadq.graph(read(EXAMPLES / "torus.obj"))
+        self.assertEqual((found.seeds.tolist(), found.sizes.tolist()), ([0], [[4, 4]]))
+
+    def test_a_layout(self):
+        found = read_cut(LAYOUT, "quadq layout 1 keep lines patches merged", np.arange(12))
+        self.assertEqual([it.tolist() for it in found.arc_points][1], [0, 4, 8])
+        self.assertEqual(found.arcs[1].tolist(), [0, 8, 2])
+        self.assertEqual((found.is_marked.tolist(), found.breaks.tolist()), ([False, True, False, False], [5]))
+        with self.assertRaises(Refusal):
+            read_cut(LAYOUT, "quadq graph 1", np.arange(12))
+
+    def test_a_layout_that_the_program_has_or_has_not(self):
+        if "layout" in quadq.Program().commands():
+            self.assertEqual(quadq.layout(grid(4, 3)).sizes.tolist(), [[4, 3]])
+        else:
+            with self.assertRaises(WishError):
+                quadq.layout(grid(4, 3))
+        for wish in ({"keep": "all"}, {"patches": "large"}):
+            with self.assertRaises(WishError):
+                quadq.layout(grid(4, 3), **wish)
+
+
+class Maps(unittest.TestCase):
+    def test_of_a_remesh(self):
+        result = remesh(plate(), scale="2/3")
+        found = quadq.map(result)
+        self.assertEqual((len(found.points), len(found.homes)), (len(result.mesh.points), result.mesh.face_count))
+        np.testing.assert_allclose(found.weights.sum(axis=1), 1)
+        np.testing.assert_allclose(found.at_points(result.old.points), result.mesh.points, atol=2e-6)
+        middles = result.mesh.points[result.mesh.quads].mean(axis=1)
+        homes = result.old.points[result.old.quads[found.homes]].mean(axis=1)
+        self.assertLess(np.linalg.norm(middles - homes, axis=1).max(), 2)
+
+
+class Refining(unittest.TestCase):
+    def test_faces_and_fields(self):
+        mesh = replace(plate(), point_fields={"T": plate().points[:, 1]}, face_fields={"n": np.arange(540)})
+        fine = quadq.refine(mesh, 3)
+        self.assertEqual(fine.face_count, 9 * mesh.face_count)
+        np.testing.assert_allclose(fine.point_fields["T"], fine.points[:, 1], atol=2e-6)
+        np.testing.assert_array_equal(np.bincount(fine.face_fields["n"]), 9)
+        self.assertGreater(quality_of(fine).least, 0)
+
+    def test_small_units_and_wrong_wishes(self):
+        mesh = drum()
+        fine = quadq.refine(replace(mesh, points=mesh.points * 1e-7), 2)
+        self.assertAlmostEqual(fine.points.max() / 1e-7, 1, 4)
+        for by in (0, 1001):
+            with self.assertRaises(WishError):
+                quadq.refine(mesh, by)
+        with self.assertRaises(Refusal):
+            quadq.refine(grid(2, 2), 1000)
+
+
+if __name__ == "__main__":
+    unittest.main()
