@@ -19,7 +19,7 @@ from typing import Optional, Union
 from .batch import Books, remesh_files
 from .errors import FormatError, MeshError, QuadqError, WishError
 from .files import write_whole
-from .formats import bytes_of, read_file
+from .formats import bytes_of, left_out, read_file
 from .graphs import Cut, graph, layout
 from .maps import Map
 from .obj import read_obj
@@ -59,7 +59,8 @@ def read(path: Union[str, os.PathLike[str]], *, polygons: bool = False, program:
     return read_file(Path(path), Program() if program is None else program, polygons)[0]
 
 
-def write(path: Union[str, os.PathLike[str]], mesh: Mesh) -> None:
-    """Writes a mesh as a whole file, in the format that its name says. Raises a `Refusal` where that fails, and a
-    `WishError` for a format that is not written."""
+def write(path: Union[str, os.PathLike[str]], mesh: Mesh) -> tuple[str, ...]:
+    """Writes a mesh as a whole file, in the format that its name says, and returns what the format has no word for, in
+    words. Raises a `Refusal` where that fails, and a `WishError` for a format that is not written."""
     write_whole(Path(path), bytes_of(Path(path), mesh))
+    return left_out(Path(path), mesh)

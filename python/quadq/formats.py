@@ -1,4 +1,4 @@
-"""Files of meshes: OBJ, and what meshio reads and writes where that is installed."""
+"""Files of meshes: OBJ, OFF, and what meshio reads and writes where that is installed."""
 
 from __future__ import annotations
 
@@ -6,22 +6,26 @@ import contextlib
 import io
 import tempfile
 from pathlib import Path
-from typing import Any, Optional
+from typing import Any, Callable, Optional
+from urllib.parse import unquote
 
 import numpy as np
 
-from .errors import MeshError, WishError
+from .errors import WishError
 from .files import read_whole
-from .mesh import Mesh, Names
+from .incoming import mesh_of
+from .mesh import Mesh
 from .obj_writing import write_obj
+from .off import read_off, write_off
+from .outgoing import fault_of, lost_in, pieces_of, with_plain_elements
 from .program import Program
 from .reading import read_judged
-from .refusal import NOT_QUAD, READ_FAULT, SYNTAX, WRITE_FAULT, Refusal
+from .refusal import READ_FAULT, SYNTAX, WRITE_FAULT, Refusal
 
 FORMATS = {".msh": "gmsh22"}
 """What is written under a name of several formats."""
-GROUP = "gmsh:physical"
-"""The name by which meshio has the physical groups of gmsh."""
+OWN = ("", ".obj", ".off")
+"""The formats for which meshio is not needed."""
 
 
 def read_file(path: Path, program: Program, polygons: bool = False) -> tuple[Mesh, Optional[bytes]]:
@@ -30,9 +34,12 @@ def read_file(path: Path, program: Program, polygons: bool = False) -> tuple[Mes
     Its vertices and faces are those that the program reads. With `polygons` faces may have any number of corners.
     Raises a `Refusal`.
     """
-    if path.suffix.lower() in ("", ".obj"):
+    suffix = path.suffix.lower()
+    if suffix in ("", ".obj"):
         text = read_whole(path)
         return read_judged(text, program, polygons), text
+    if suffix == ".off":
+        return read_off(read_whole(path), path.name), None
     _refuse_closed(path)
     return _read_other(path), None
 
@@ -47,118 +54,96 @@ def _refuse_closed(path: Path) -> None:
 
 
 def _read_other(path: Path) -> Mesh:
-    tool = _meshio()
+    tool = meshio()
     if tool is None:
         raise Refusal(SYNTAX, f"{path.name} is no .obj file; meshio, which reads others, is not installed")
-    said = io.StringIO()
-    try:
-        with contextlib.redirect_stdout(said), contextlib.redirect_stderr(said):
-            read = tool.read(path)
-    # meshio ends the whole process where it knows no way to read a file.
-    except (SystemExit, Exception) as error:
-        words = " ".join(said.getvalue().split()) or str(error) or type(error).__name__
-        raise Refusal(SYNTAX, f"{path.name} cannot be read by meshio: {words}") from error
+    gmsh = getattr(getattr(tool, "gmsh", None), "_gmsh22", None)
+    if hasattr(gmsh, "cell_data_from_raw"):
+        setattr(gmsh, "cell_data_from_raw", _divided_by_blocks)
+    read = _quietly(lambda: tool.read(path), SYNTAX, f"{path.name} cannot be read by meshio")
+    if path.suffix.lower() == ".vtk":
+        read.point_data = {unquote(name): it for name, it in read.point_data.items()}
+        read.cell_data = {unquote(name): it for name, it in read.cell_data.items()}
     return mesh_of(read, path.name)
 
 
-def mesh_of(read: Any, name: str) -> Mesh:
-    """The surface of what meshio has read: quads, and any other faces of straight sides, with its lines and physical
-    groups. What else it has is named in the notes; curved faces are refused."""
-    points = np.zeros((len(read.points), 3))
-    points[:, :read.points.shape[1]] = read.points
-    blocks = [(it, np.asarray(it.data, dtype=np.int64), at) for at, it in enumerate(read.cells)]
-    flat = [it for it in blocks if it[0].type in ("quad", "triangle", "polygon")]
-    curved = [f"{len(data)} cells of the type {it.type}" for it, data, _ in blocks if it.dim == 2
-              and it.type not in ("quad", "triangle", "polygon")]
-    if curved:
-        raise Refusal(NOT_QUAD, f"{name} has {' and '.join(curved)}: write it with faces of straight sides")
-    if not sum(len(data) for _, data, _ in flat):
-        raise Refusal(NOT_QUAD, f"no faces in {name}")
-    corners = np.concatenate([data.reshape(-1) for _, data, _ in flat])
-    sides = np.concatenate([np.full(len(data), data.shape[1]) for _, data, _ in flat])
-    lines = [data for it, data, _ in blocks if it.type == "line"]
-    others = [f"{len(data)} cells of the type {it.type} were left out" for it, data, _ in blocks
-              if it.dim in (0, 3) or (it.dim == 1 and it.type != "line")]
-    groups = _groups_of(read, [at for *_, at in flat])
-    mesh = Mesh(points, corners, np.concatenate([[0], np.cumsum(sides)]), groups=groups,
-                lines=tuple(pair for some in lines for pair in some), notes=tuple(others))
+def _divided_by_blocks(cells: Any, fields: dict[str, Any]) -> dict[str, Any]:
+    """Fields of all cells divided among the blocks of cells. In meshio 5.0 this counts wrongly for gmsh's version 2.2,
+    which so has no fields of cells."""
+    counts = [len(it[1]) if isinstance(it, tuple) else len(it.data) for it in cells]
+    for name, values in fields.items():
+        if len(values) != sum(counts):
+            raise ValueError(f"the field {name} is not of all cells: save all cells, or as version 4.1")
+    return {name: np.split(values, np.cumsum(counts)[:-1]) for name, values in fields.items()}
+
+
+def _quietly(work: Callable[[], Any], status: int, words: str) -> Any:
+    """What meshio makes, without what it says; where it fails, a `Refusal` with that. It ends the whole process where
+    it knows no way to read a file."""
+    said = io.StringIO()
     try:
-        mesh.refuse_strange()
-    except MeshError as error:
-        raise Refusal(SYNTAX, f"{name}: {error}") from error
-    return mesh
-
-
-def _groups_of(read: Any, blocks: list[int]) -> dict[str, Names]:
-    """The physical groups of faces, by their names, or by their numbers where they have none."""
-    if GROUP not in read.cell_data:
-        return {}
-    tags = np.concatenate([np.asarray(read.cell_data[GROUP][at], dtype=np.int64) for at in blocks])
-    named = {int(data[0]): name for name, data in read.field_data.items() if int(data[1]) == 2}
-    found, of_face = np.unique(tags, return_inverse=True)
-    names = tuple(named.get(it, str(it) if it else "") for it in found.tolist())
-    return {"g": Names(names, of_face.astype(np.int64))}
+        with contextlib.redirect_stdout(said), contextlib.redirect_stderr(said):
+            return work()
+    except (SystemExit, Exception) as error:
+        why = " ".join(said.getvalue().split()) or str(error) or type(error).__name__
+        raise Refusal(status, f"{words}: {why}") from error
 
 
 def refuse_format(path: Path) -> None:
     """Raises a `WishError` where a file of this name is of no format that is written."""
     suffix = path.suffix.lower()
-    if suffix in ("", ".obj"):
+    if suffix in OWN:
         return
-    tool = _meshio()
+    tool = meshio()
     if tool is None:
         raise WishError(f"{path.name} is no .obj file; meshio, which writes others, is not installed")
     if not set(tool.extension_to_filetypes.get(suffix, ())).intersection(tool._helpers._writer_map):
-        raise WishError(f"{path.name} is of no format that is written: take .obj, .msh, .vtk or .ply")
+        raise WishError(f"{path.name} is of no format that is written: take .obj, .msh, .vtk, .vtu, .inp, .ply, .off "
+                        "or .stl")
 
 
 def bytes_of(path: Path, mesh: Mesh, text: Optional[bytes] = None) -> bytes:
     """What stands in a file of a mesh, in the format that its name says; `text` is that of OBJ, if it is at hand.
     Raises a `Refusal` where that fails."""
-    if path.suffix.lower() not in ("", ".obj"):
+    suffix = path.suffix.lower()
+    if suffix == ".off":
+        return write_off(mesh)
+    if suffix not in OWN:
         return _other_text(path, mesh)
     return write_obj(mesh).encode("utf-8", "surrogateescape") if text is None else text
 
 
+def left_out(path: Path, mesh: Mesh) -> tuple[str, ...]:
+    """What of a mesh a file of this name has no word for."""
+    return tuple(lost_in(mesh, path.suffix.lower()))
+
+
 def _other_text(path: Path, mesh: Mesh) -> bytes:
     """A mesh as meshio writes it in the format of this name."""
-    tool = _meshio()
+    tool, suffix = meshio(), path.suffix.lower()
     refuse_format(path)
     assert tool is not None
-    cells = [("quad", mesh.quads)]
-    segments = [np.column_stack([it[:-1], it[1:]]) for it in mesh.lines]
-    if segments:
-        cells.append(("line", np.concatenate(segments)))
-    data, names = _tags_of(mesh, len(cells[-1][1]) if segments else None)
+    it = pieces_of(mesh, suffix)
     with tempfile.TemporaryDirectory() as folder:
-        place = Path(folder) / f"mesh{path.suffix.lower()}"
-        said = io.StringIO()
-        try:
-            with contextlib.redirect_stdout(said), contextlib.redirect_stderr(said):
-                made = tool.Mesh(mesh.points, cells, cell_data=data, field_data=names)
-                made.write(place, FORMATS.get(path.suffix.lower()))
-        except (SystemExit, Exception) as error:
-            words = " ".join(said.getvalue().split()) or str(error) or type(error).__name__
-            raise Refusal(WRITE_FAULT, f"write fault: {path.name} cannot be written by meshio: {words}") from error
-        return place.read_bytes()
+        place = Path(folder) / f"mesh{suffix}"
+
+        def write() -> str:
+            made = tool.Mesh(mesh.points, it.cells, point_data=it.point_data, cell_data=it.cell_data,
+                             field_data=it.field_data, cell_sets=it.cell_sets)
+            made.write(place, FORMATS.get(suffix))
+            return fault_of(tool, place, mesh)
+
+        words = f"write fault: {path.name} cannot be written by meshio"
+        fault = _quietly(write, WRITE_FAULT, words)
+        if fault:
+            raise Refusal(WRITE_FAULT, f"{words}: {fault}")
+        return with_plain_elements(place.read_bytes(), it) if suffix == ".inp" else place.read_bytes()
 
 
-def _tags_of(mesh: Mesh, lines: Optional[int]) -> tuple[dict[str, list[Any]], dict[str, Any]]:
-    """The physical groups of a mesh, as meshio has them, beside so many lines."""
-    if "g" not in mesh.groups:
-        return {}, {}
-    given = mesh.groups["g"]
-    tags = given.of_face + (0 if given.names[:1] == ("",) else 1)
-    columns: list[Any] = [tags.astype(np.int32)] + ([] if lines is None else [np.zeros(lines, dtype=np.int32)])
-    first = 0 if given.names[:1] == ("",) else 1
-    names = {name: np.array([first + at, 2]) for at, name in enumerate(given.names) if name}
-    return {GROUP: columns, "gmsh:geometrical": [it.copy() for it in columns]}, names
-
-
-def _meshio() -> Any:
+def meshio() -> Any:
     """The package meshio, if it is there."""
     try:
-        import meshio
+        import meshio as tool
     except ImportError:
         return None
-    return meshio
+    return tool

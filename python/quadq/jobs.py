@@ -12,7 +12,7 @@ from typing import Optional
 
 from .errors import WishError
 from .files import make_folder, read_whole, remove_stale, write_whole
-from .formats import bytes_of, read_file
+from .formats import bytes_of, left_out, read_file
 from .program import USAGE, Program
 from .refusal import MEMORY, READ_FAULT, STRANGE, WRITE_FAULT, Refusal
 from .remeshing import Tell, run
@@ -67,6 +67,7 @@ def one_file(
         result = run(mesh, settings, program, text, tell)
         tell("writing", 0, 1)
         data = bytes_of(target, result.mesh, result.text)
+        result = result.with_words("not-written", left_out(target, result.mesh))
         if makes_folder:
             make_folder(target.parent)
         write_whole(target, data)

@@ -22,8 +22,18 @@ def write_obj(mesh: Mesh) -> str:
     if mesh.normal is not None:
         pieces.append(number_lines("vn", mesh.normal.values))
     pieces += _face_lines(mesh)
-    pieces += ["l " + " ".join(map(str, (line + 1).tolist())) + "\n" for line in mesh.lines]
+    pieces += _line_lines(mesh)
     return "".join(pieces)
+
+
+def _line_lines(mesh: Mesh) -> Iterator[str]:
+    """The lines, and before those of each group its name."""
+    now = ""
+    for line, name in zip(mesh.lines, mesh.line_names or ("",) * len(mesh.lines)):
+        if name != now:
+            now = name
+            yield f"g {name}".rstrip() + "\n"
+        yield "l " + " ".join(map(str, (line + 1).tolist())) + "\n"
 
 
 def plain_text(mesh: Mesh) -> bytes:

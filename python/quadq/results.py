@@ -6,7 +6,7 @@ from dataclasses import dataclass, replace
 from decimal import Decimal
 from fractions import Fraction
 from functools import cached_property
-from typing import Optional, Union
+from typing import Optional, Sequence, Union
 
 from .arrays import Array
 from .carrier import Carrier
@@ -196,6 +196,11 @@ class Result:
         """What a notebook shows: a small page with both meshes, which can be turned."""
         from .report import notebook_view
         return notebook_view(self)
+
+    def with_words(self, kind: str, words: Sequence[str]) -> Result:
+        """The same with more to be known, of such a kind."""
+        dropped = (*self.report.dropped, *((kind, it) for it in words))
+        return replace(self, report=replace(self.report, dropped=dropped)) if words else self
 
     def times(self, factor: float) -> Result:
         """The same where lengths are so many times as long. What the program has read and written stays."""
