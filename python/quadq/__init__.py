@@ -17,6 +17,9 @@ from pathlib import Path
 from typing import Optional, Union
 
 from .batch import Books, remesh_files
+from .block_files import write_blocks
+from .blocks import Block, Blocks, Link, blocks
+from .conforming import conforming
 from .errors import FormatError, MeshError, QuadqError, WishError
 from .files import write_whole
 from .formats import bytes_of, left_out, read_file
@@ -38,11 +41,11 @@ from .transfer import areas, areas_under, transfer
 from .version import VERSION
 
 __all__ = [
-    "Books", "Counts", "Cut", "Distance", "FormatError", "Layer", "Map", "Mesh", "MeshError", "Names", "Notice",
-    "Program", "QuadqError", "Quality", "Refusal", "Report", "Result", "Row", "Settings", "WishError", "areas",
-    "areas_under", "distance_between", "find_features", "graph", "layout", "map", "quality_of", "read", "read_obj",
-    "refine", "refusal_page", "remesh", "remesh_files", "result_page", "scaled_jacobians", "subdivide", "transfer",
-    "write", "write_obj",
+    "Block", "Blocks", "Books", "Counts", "Cut", "Distance", "FormatError", "Layer", "Link", "Map", "Mesh",
+    "MeshError", "Names", "Notice", "Program", "QuadqError", "Quality", "Refusal", "Report", "Result", "Row",
+    "Settings", "WishError", "areas", "areas_under", "blocks", "conforming", "distance_between", "find_features",
+    "graph", "layout", "map", "quality_of", "read", "read_obj", "refine", "refusal_page", "remesh", "remesh_files",
+    "result_page", "scaled_jacobians", "subdivide", "transfer", "write", "write_blocks", "write_obj",
 ]
 
 __version__ = VERSION

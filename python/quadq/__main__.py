@@ -7,9 +7,10 @@ import os
 import sys
 from fractions import Fraction
 from pathlib import Path
-from typing import Optional, Sequence
+from typing import Callable, NamedTuple, Optional, Sequence
 
 from .batch import Books, remesh_files
+from .blocks_command import parser_of_blocks, write_asked
 from .errors import WishError
 from .features import KINDS
 from .files import remove_stale, write_whole
@@ -25,6 +26,16 @@ from .stopping import Stopped, stopped_by_signals
 from .version import VERSION, version_lines
 
 USAGE = 2
+
+
+class Command(NamedTuple):
+    """What the first word of a command line may name, if it is no file."""
+
+    parser: Callable[[], argparse.ArgumentParser]
+    done: Callable[[argparse.Namespace], int]
+
+
+COMMANDS = {"blocks": Command(parser_of_blocks, write_asked)}
 
 
 def parser_of_words() -> argparse.ArgumentParser:
@@ -87,10 +98,12 @@ class TellVersion(argparse.Action):
 
 def main(words: Optional[Sequence[str]] = None) -> int:
     """Does what the words of a command line ask, and returns the exit status."""
-    asked = parser_of_words().parse_args(words)
+    given = sys.argv[1:] if words is None else [*words]
+    command = COMMANDS.get(given[0]) if given and not os.path.exists(given[0]) else None
+    asked = parser_of_words().parse_args(given) if command is None else command.parser().parse_args(given[1:])
     try:
-        with stopped_by_signals(None if asked.out else asked.timeout):
-            status = _done(asked)
+        with stopped_by_signals(None if command is not None or asked.out else asked.timeout):
+            status = _done(asked) if command is None else command.done(asked)
             sys.stdout.flush()
             return status
     except Stopped as stopped:

@@ -1,0 +1,50 @@
+"""The command line `python3 -m quadq blocks IN OUT`: the blocks of a file in another."""
+
+from __future__ import annotations
+
+import argparse
+import sys
+from pathlib import Path
+
+from .block_files import write_blocks
+from .blocks import blocks
+from .files import remove_stale
+from .formats import read_file
+from .graphs import CUTS, KEPT
+from .program import Program
+from .refusal import Refusal
+
+NAME = "quadq blocks"
+
+
+def parser_of_blocks() -> argparse.ArgumentParser:
+    parser = argparse.ArgumentParser(
+        prog=NAME, description="Writes the patches of a mesh as structured blocks, with the names of its walls.",
+        usage="python3 -m quadq blocks IN (OUT.vtm | OUT.xyz | OUT.cgns | OUT/blockMeshDict) [..]")
+    parser.add_argument("source", type=Path, metavar="IN", help="a mesh: OBJ, or what meshio reads")
+    parser.add_argument("target", type=Path, metavar="OUT", help="its name says the format")
+    parser.add_argument("--by", type=int, default=1, metavar="K", help="divide each edge of the mesh in K")
+    parser.add_argument("--thickness", type=float, metavar="T", help="make the blocks a cell deep, of this thickness")
+    parser.add_argument("--keep", choices=KEPT, default="none", help="cut along the lines of the file")
+    parser.add_argument("--patches", choices=CUTS, default="traced", help="which patches are blocks")
+    parser.add_argument("--quiet", action="store_true", help="say only what is refused")
+    return parser
+
+
+def write_asked(asked: argparse.Namespace) -> int:
+    """Does what the words ask, and returns the exit status. Raises a `Refusal`; then no file of an earlier run is left.
+    """
+    program = Program()
+    try:
+        mesh, _ = read_file(asked.source, program)
+        found = blocks(mesh, asked.by, keep=asked.keep, patches=asked.patches, program=program)
+        said = write_blocks(asked.target, found, asked.thickness)
+    except Refusal:
+        remove_stale(asked.target, asked.source)
+        raise
+    if not asked.quiet:
+        print(f"{len(found)} blocks, {sum(it.wide * it.high for it in found)} faces, "
+              f"{sum(1 for _ in found.joins())} joins; walls: {', '.join(found.names) or 'none'}")
+    for it in (*mesh.notes, *said):
+        print(f"{NAME}: warning: {it}", file=sys.stderr)
+    return 0
