@@ -182,6 +182,40 @@ def read_obj(text: Union[bytes, str], polygons: bool = False) -> Obj:
     return reader.result()
 
 
+@dataclass
+class Survey:
+    """What a text has, and each of its lines that is refused."""
+
+    obj: Obj
+    errors: list[ObjError] = field(default_factory=list)
+    """In the order in which the program would come to them: each line's first one."""
+    vertex_lines: list[int] = field(default_factory=list)
+    """The number of the line of each vertex."""
+    face_lines: list[int] = field(default_factory=list)
+    """That of each face."""
+
+
+def survey(text: bytes) -> Survey:
+    """What a text has with all lines that are refused, not only the first. Triangles and polygons are taken. A `v` line
+    that is refused counts as a vertex, so that others keep their numbers, and a face that is refused is left out."""
+    reader, found = _Reader(True), Survey(Obj())
+    for line in logical_lines(text):
+        is_vertex = line.words[:1] == [b"v"]
+        try:
+            reader.take(line)
+        except ObjError as error:
+            found.errors.append(error)
+            if error.status == LIMIT and not error.line.endswith("line"):
+                break
+            if is_vertex:
+                reader.obj.points.append([b"0"] * 3)
+        if is_vertex:
+            found.vertex_lines.append(line.number)
+    found.errors += reader.drop_missing()
+    found.face_lines, found.obj = reader.face_lines, reader.result()
+    return found
+
+
 class _Reader:
     """What was read so far."""
 
@@ -258,6 +292,17 @@ class _Reader:
             self.wrong_lines += 1
         else:
             self.obj.lines.append(run)
+
+    def drop_missing(self) -> list[ObjError]:
+        """Leaves out the faces that name vertices that are not there, and says why."""
+        count = len(self.obj.points)
+        kept = [at for at, it in enumerate(self.corners) if all(corner.vertex < count for corner in it)]
+        errors = [ObjError(RANGE, f"line {self.face_lines[at]}: number out of range")
+                  for at in sorted(set(range(len(self.corners))) - set(kept))]
+        if errors:
+            self.corners, self.face_lines, self.obj.names = (
+                [some[at] for at in kept] for some in (self.corners, self.face_lines, self.obj.names))
+        return errors
 
     def result(self) -> Obj:
         obj = self.obj

@@ -19,6 +19,7 @@ from typing import Optional, Union
 from .batch import Books, remesh_files
 from .block_files import write_blocks
 from .blocks import Block, Blocks, Link, blocks
+from .checking import Checked, Fault, check
 from .conforming import conforming
 from .errors import FormatError, MeshError, QuadqError, WishError
 from .files import write_whole
@@ -41,11 +42,11 @@ from .transfer import areas, areas_under, transfer
 from .version import VERSION
 
 __all__ = [
-    "Block", "Blocks", "Books", "Counts", "Cut", "Distance", "FormatError", "Layer", "Link", "Map", "Mesh",
-    "MeshError", "Names", "Notice", "Program", "QuadqError", "Quality", "Refusal", "Report", "Result", "Row",
-    "Settings", "WishError", "areas", "areas_under", "blocks", "conforming", "distance_between", "find_features",
-    "graph", "layout", "map", "quality_of", "read", "read_obj", "refine", "refusal_page", "remesh", "remesh_files",
-    "result_page", "scaled_jacobians", "subdivide", "transfer", "write", "write_blocks", "write_obj",
+    "Block", "Blocks", "Books", "Checked", "Counts", "Cut", "Distance", "Fault", "FormatError", "Layer", "Link", "Map",
+    "Mesh", "MeshError", "Names", "Notice", "Program", "QuadqError", "Quality", "Refusal", "Report", "Result", "Row",
+    "Settings", "WishError", "areas", "areas_under", "blocks", "check", "conforming", "distance_between",
+    "find_features", "graph", "layout", "map", "quality_of", "read", "read_obj", "refine", "refusal_page", "remesh",
+    "remesh_files", "result_page", "scaled_jacobians", "subdivide", "transfer", "write", "write_blocks", "write_obj",
 ]
 
 __version__ = VERSION

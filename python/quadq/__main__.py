@@ -11,6 +11,7 @@ from typing import Callable, NamedTuple, Optional, Sequence
 
 from .batch import Books, remesh_files
 from .blocks_command import parser_of_blocks, write_asked
+from .check_command import check_asked, parser_of_check
 from .errors import WishError
 from .features import KINDS
 from .files import remove_stale, write_whole
@@ -35,7 +36,7 @@ class Command(NamedTuple):
     done: Callable[[argparse.Namespace], int]
 
 
-COMMANDS = {"blocks": Command(parser_of_blocks, write_asked)}
+COMMANDS = {"blocks": Command(parser_of_blocks, write_asked), "check": Command(parser_of_check, check_asked)}
 
 
 def parser_of_words() -> argparse.ArgumentParser:

@@ -35,7 +35,7 @@ def read_judged(text: bytes, program: Program, polygons: bool = False) -> Mesh:
     """The mesh of an OBJ text. Its faces, and the vertices that these have, are those that the program reads, as it
     rounds them; of a mesh of so small a unit that this shows they are as they stand. With `polygons` a mesh of any
     polygons is taken. Raises a `Refusal`."""
-    _refuse_other_texts(text)
+    refuse_other_texts(text)
     try:
         tidied = program.tidy(text)
     except Refusal as said:
@@ -63,7 +63,7 @@ def refuse_other(mesh: Mesh, text: bytes, program: Program) -> None:
         raise MeshError("the text is of another mesh")
 
 
-def _refuse_other_texts(text: bytes) -> None:
+def refuse_other_texts(text: bytes) -> None:
     """Refuses what is saved in another way than as UTF-8 or as single letters."""
     for sign, name in UNLIKE_TEXTS:
         if text.startswith(sign):
