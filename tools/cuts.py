@@ -65,6 +65,16 @@ class Cut:
         self.on = [edge_of(*self.ends(dart)) in graph for dart in range(4 * len(faces))]
         self.count = collections.Counter(self.start_of)
         self.rim = {vertex for dart, twin in enumerate(self.twin) if twin is None for vertex in self.ends(dart)}
+        self.kept, self.held, self.darts_of = set(), set(), {}
+
+    def keep(self, marks):
+        """Has merging keep the edges that are marked, and the vertices where lines of these break."""
+        on, self.kept = self.on, set(marks)
+        self.on = [twin is not None and edge_of(*self.ends(dart)) in self.kept for dart, twin in enumerate(self.twin)]
+        self.held, self.on = self.breaks(), on
+        for dart in range(len(on)):
+            for vertex in self.ends(dart):
+                self.darts_of.setdefault(vertex, []).append(dart)
 
     @staticmethod
     def next(dart):
@@ -118,7 +128,22 @@ class Cut:
         far = [self.twin[dart] for dart in reversed(near)]
         if None in far or not self.is_corner(far[0]) or self.side(far[0]) != far:
             return None
-        return None if far[0] in self.corners_from(corner) else (near, far)
+        if far[0] in self.corners_from(corner) or not self.may_go(near):
+            return None
+        return near, far
+
+    def may_go(self, run):
+        """Whether an arc has no kept edge, and leaves three edges of the graph where kept lines break at its ends."""
+        if not self.kept:
+            return True
+        if any(edge_of(*self.ends(dart)) in self.kept for dart in run):
+            return False
+        ends = collections.Counter([self.ends(run[0])[0], self.ends(run[-1])[1]])
+        return all(self.edges_at(vertex) - count >= 3 for vertex, count in ends.items() if vertex in self.held)
+
+    def edges_at(self, vertex):
+        """How many edges of the graph a vertex has."""
+        return len({edge_of(*self.ends(dart)) for dart in self.darts_of[vertex] if self.on[dart]})
 
     def merge(self):
         """Takes the first joinable arc out of the graph, by least darts, until there is none."""

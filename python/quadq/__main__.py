@@ -22,7 +22,7 @@ from .progress import NAME, Progress
 from .refusal import READ_FAULT, WRITE_FAULT, Refusal
 from .report import refused_page, result_page
 from .rows import Row, summary_of
-from .settings import Settings, as_length
+from .settings import MODES, Settings, as_length
 from .stopping import Stopped, stopped_by_signals
 from .version import VERSION, version_lines
 
@@ -42,13 +42,21 @@ COMMANDS = {"blocks": Command(parser_of_blocks, write_asked), "check": Command(p
 def parser_of_words() -> argparse.ArgumentParser:
     parser = argparse.ArgumentParser(
         prog=NAME, description="Remeshes quad meshes with the proved program quadq, and checks each part.",
-        usage=f"{NAME} IN.obj OUT.obj (--scale P/Q | --faces N | --edge D) [..]\n"
+        usage=f"{NAME} IN.obj OUT.obj (--faces N | --scale P/Q | --edge D | --within E) [..]\n"
               f"       {NAME} FILES AND FOLDERS.. --out FOLDER (..) [..]")
     parser.add_argument("paths", nargs="+", metavar="FILE", help="IN and OUT; with --out files and folders")
     wish = parser.add_mutually_exclusive_group(required=True)
     wish.add_argument("--scale", type=Fraction, metavar="P/Q", help="how long edges of patches are to be, of the old")
     wish.add_argument("--faces", type=int, metavar="N", help="how many faces the mesh is to have")
     wish.add_argument("--edge", metavar="D", help="how long edges are to be, in the unit of the file")
+    wish.add_argument("--within", type=float, metavar="E",
+                      help="how far the mesh may be from the old one, about, in the unit of the file")
+    parser.add_argument("--mode", default="shape", choices=MODES,
+                        help="where faces go: where the surface bends, unless one scale for all is better; by one "
+                        "scale for all; or so that edges are as long as each other")
+    parser.add_argument("--even", dest="mode", action="store_const", const="even", help="the same as --mode even")
+    parser.add_argument("--density", metavar="NAME|FILE", help="how many times denser faces are to be: red, green or "
+                        "blue of the points' colours, or a file with a number for each point")
     parser.add_argument("--floor", default="auto", choices=["1", "2", "3", "auto"], help="the least length of an arc")
     parser.add_argument("--weight", default="plain", choices=["plain", "length"], help="how deviations count")
     stay = parser.add_argument_group("edges that stay lines of the new mesh")
@@ -143,14 +151,16 @@ def settings_of(asked: argparse.Namespace) -> Settings:
     """What the words of a command line ask. Raises a `WishError` for what does not go together."""
     return Settings(
         scale=asked.scale, faces=asked.faces, edge=None if asked.edge is None else as_length(asked.edge),
-        floor=asked.floor, weight=asked.weight, sharp=asked.sharp, keep=tuple(asked.keep_edges or ()),
-        corners=asked.corners, coarse=asked.coarse, subdivide=asked.subdivide, mirror=asked.mirror, relax=asked.relax,
-        jobs=asked.jobs, folder=asked.keep, carry=asked.carry, free_groups=asked.free_groups)
+        within=asked.within, mode=asked.mode, density=asked.density, floor=asked.floor, weight=asked.weight,
+        sharp=asked.sharp, keep=tuple(asked.keep_edges or ()), corners=asked.corners, coarse=asked.coarse,
+        subdivide=asked.subdivide, mirror=asked.mirror, relax=asked.relax, jobs=asked.jobs, folder=asked.keep,
+        carry=asked.carry, free_groups=asked.free_groups)
 
 
 def refuse_missing(settings: Settings, program: Program) -> None:
     """Raises a `WishError` for a command that the program does not have."""
-    needed = {settings.command} if settings.command == "remesh" and not settings.carry else {settings.command, "map"}
+    is_checked = settings.command == "remesh" and not settings.carry and not program.has_fit()
+    needed = {settings.command} if is_checked else {settings.command, "map"}
     for command in sorted(needed.difference(program.commands())):
         raise WishError(f"this needs the command `{command}`, which this program does not have")
 

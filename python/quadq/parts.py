@@ -12,7 +12,7 @@ import numpy as np
 
 from .arrays import Array
 from .files import write_within
-from .mesh import Mesh, Names, join
+from .mesh import NONE, Mesh, Names, join
 from .obj_writing import number_lines, plain_text
 from .program import AUTO, DOUBLED, RAISED, Program, Verdict, Wish
 from .plain import written_mesh
@@ -23,8 +23,10 @@ from .surface import number_in_order, part_of_face
 Tell = Callable[[int], None]
 """Is told how many parts are done."""
 NO_MARKS = np.zeros((0, 2), dtype=np.int64)
-HEAD = re.compile(rb"#quadq 1 (?:(\w+) scale \S+|size edge \S+) floor (\S+)")
-"""The head line of a text that the program wrote, with its command, if that is not `size`, and its floor."""
+HEAD = re.compile(rb"#quadq 1 (?:\w+ scale \S+|size edge \S+|fit keep \S+ patches \S+ aim \S+) floor (\S+)")
+"""The head line of a text that the program wrote, with its floor."""
+WISH = b"#w "
+"""How a line begins that wishes the length of an edge."""
 LINE = re.compile(r"line (\d+): (.*)")
 KEPT = re.compile(r"part-(\d+)(?:\.remeshed)?\.obj")
 FEW, SMALL, TOGETHER = 16, 1_000, 20_000
@@ -54,6 +56,8 @@ class Part:
     """(marks, 2) int64: the edges that are to stay, as pairs of its own points."""
     count: int = 1
     """How many connected parts it has."""
+    wishes: Optional[Array] = None
+    """(edges,) int64: the wishes for the lengths of its edges that its text has, or NONE at each without one."""
 
     def refusal(self, said: Refusal) -> Refusal:
         """What the program said of this part, with the places of the whole mesh."""
@@ -74,8 +78,11 @@ class Part:
         one, points = self.mesh.faces_of(faces)
         at = np.minimum(np.searchsorted(points, self.marks), len(points) - 1)
         marks = at[np.all(points[at] == self.marks, axis=1)]
-        return Part(one, _with_lines(plain_text(one), marks), self.faces[faces], self.points[points], marks,
+        part = Part(one, with_marks(plain_text(one), marks), self.faces[faces], self.points[points], marks,
                     int(chosen.sum()))
+        if self.wishes is None:
+            return part
+        return with_wishes(part, self.wishes[self.mesh.edges.numbers_of(points[one.edges.ends])])
 
     def kinds(self, is_measured: bool) -> Array:
         """(parts,) int64: which of its connected parts are alike, and have alike lengths: they hang together in the
@@ -108,6 +115,8 @@ class Written:
     floor: int
     """The least length that these arcs could have: with the floor `auto`, the one that it chose."""
     command: str = "remesh"
+    is_merged: bool = False
+    """Whether patches were merged."""
 
     def mesh(self) -> Mesh:
         """What is written."""
@@ -128,7 +137,7 @@ def split(mesh: Mesh, text: Optional[bytes] = None, marks: Array = NO_MARKS) -> 
     if len(sizes) == 1:
         whole = plain_text(mesh) if text is None else text
         every = np.arange(mesh.face_count), np.arange(len(mesh.points))
-        return [Part(mesh, _with_lines(whole, marks), *every, marks)]
+        return [Part(mesh, with_marks(whole, marks), *every, marks)]
     bundle_of = _bundles(sizes)
     count = int(bundle_of.max(initial=-1)) + 1
     of_point = np.zeros(len(mesh.points), dtype=np.int64)
@@ -139,7 +148,7 @@ def split(mesh: Mesh, text: Optional[bytes] = None, marks: Array = NO_MARKS) -> 
                                 _by_part(bundle_of[of_point[marks[:, 0]]], marks, count), np.bincount(bundle_of)):
         one, points = mesh.faces_of(faces)
         own = np.searchsorted(points, own)
-        parts.append(Part(one, _with_lines(plain_text(one), own), faces, points, own, int(many)))
+        parts.append(Part(one, with_marks(plain_text(one), own), faces, points, own, int(many)))
     return parts
 
 
@@ -160,9 +169,19 @@ def _by_part(part_of: Array, values: Array, count: int) -> list[Array]:
     return np.split(values[np.argsort(part_of, kind="stable")], ends[:-1]) if count else []
 
 
-def _with_lines(text: bytes, marks: Array) -> bytes:
+def with_marks(text: bytes, marks: Array) -> bytes:
     """A text with a line for each mark behind it, which continues no line of it."""
     return text + b"\n\n" + number_lines("l", marks + 1).encode() if len(marks) else text
+
+
+def with_wishes(part: Part, wishes: Array) -> Part:
+    """A part with lines in its text for the edges with a wish (edges,): whole numbers from 0, or NONE."""
+    chosen = np.flatnonzero(wishes != NONE)
+    table = np.column_stack([part.mesh.edges.ends[chosen] + 1, wishes[chosen]])
+    text = part.text
+    if text.startswith(WISH) or b"\n" + WISH in text:
+        text = with_marks(plain_text(part.mesh), part.marks)
+    return replace(part, text=text + b"\n\n" + number_lines("#w", table).encode(), wishes=wishes)
 
 
 def _placed(part: Part, work: Callable[[Part], Made]) -> Made:
@@ -241,7 +260,7 @@ class Workshop:
     def _judged(self, part: Part, text: bytes, wish: Wish) -> Written:
         verdict = self.program.judge(part.text, text, wish)
         floor, lengths = certified_lengths(text)
-        return Written(text, verdict, lengths, floor, wish.command)
+        return Written(text, verdict, lengths, floor, wish.command, wish.command == "coarse" or wish.is_merged)
 
 
 def certified_lengths(text: bytes) -> tuple[int, Array]:
@@ -250,7 +269,7 @@ def certified_lengths(text: bytes) -> tuple[int, Array]:
     if head is None:
         raise Refusal(STRANGE, "what the program wrote is no remesh")
     named = text.rfind(b"\n#f ")
-    floor = head[2] if head[2] != b"auto" else text[named:named + 10].split()[1]
+    floor = head[1] if head[1] != b"auto" else text[named:named + 10].split()[1]
     lengths = re.findall(rb"^#x (\d+)$", text[max(named, 0):], re.M)
     return int(floor), np.array(lengths, dtype=np.int64)
 

@@ -8,12 +8,11 @@ from typing import Sequence
 import numpy as np
 
 from .arrays import Array
-from .carried import carried
+from .layout import layout_of
 from .mesh import NONE, Mesh
 from .parts import Part, Written
 from .program import Program
 from .surface import darts_between, least_in_class, number_in_order, twins_of
-from .tracing import Trace
 
 
 @dataclass(frozen=True)
@@ -62,28 +61,13 @@ class Patches:
 
 
 def patches_under(part: Part, written: Written, program: Program) -> Patches:
-    """The patches of a part: those of its graph; of the cut beside its marks after `crease`; merged after `coarse`."""
-    if written.command == "crease":
-        trace = Trace(part.mesh, part.marks)
-        return Patches(trace.patches(), trace.sizes(written.lengths), trace.arcs().nodes)
+    """The patches of a part: those of its graph; of the cut beside its marks; merged where that was wished."""
+    if written.command != "remesh":
+        layout = layout_of(part.mesh, part.marks, written.is_merged)
+        sizes = layout.widths(written.lengths).prod(axis=1).round().astype(np.int64)
+        return Patches(layout.trace.patches(), sizes, layout.trace.arcs().nodes)
     graph = program.graph(part.text)
-    if written.command == "coarse":
-        edges = part.mesh.edges
-        graph_edges = edges.ends[np.union1d(_ridden(part.mesh, graph), np.flatnonzero(edges.uses == 1))]
-        return _merged_patches(part, graph_edges, written)
     return Patches(old_patches(part.mesh, graph), new_sizes(graph, written.lengths), node_count(graph))
-
-
-def _merged_patches(part: Part, edges: Array, written: Written) -> Patches:
-    """The patches that are merged from those of a cut (edges, 2). Slow: a minute for a million faces."""
-    cuts = carried("cuts")
-    faces = part.mesh.quads.tolist()
-    cut = cuts.Cut(faces, set(map(tuple, edges.tolist())))
-    cut.merge()
-    of_face, _ = cuts.patches_of(faces, cut.edges())
-    sizes = np.array(cuts.sizes_of(cut, of_face, written.lengths.tolist()), dtype=np.int64).reshape(-1, 2)
-    ends = {end for arc in cut.arcs()[1] for end in (cut.ends(arc[0])[0], cut.ends(arc[-1])[1])}
-    return Patches(np.array(of_face, dtype=np.int64), sizes.prod(axis=1), len(ends))
 
 
 def borders(mesh: Mesh, patches: Array) -> Array:

@@ -19,6 +19,8 @@ LARGEST = 1000
 """The largest numerator and denominator of a scale."""
 
 
+FIT = "fit"
+"""The command that takes all wishes together."""
 AUTO = "auto"
 RAISED = 3
 """The floor that never doubles an edge."""
@@ -28,26 +30,50 @@ DOUBLED = 11
 """The program's status where the new mesh would have an edge twice."""
 
 
+_HAS_FIT: dict[Path, bool] = {}
+
+
 @dataclass(frozen=True)
 class Wish:
-    """What is asked of a remesh: the command, a scale of lengths or the length of an edge, the least length of an arc,
-    and how deviations count."""
+    """What is asked of a remesh: the command, a scale of lengths, the length of an edge or wishes edge by edge, the
+    least length of an arc, and how deviations count."""
 
     scale: Fraction = Fraction(1)
     floor: Union[int, str] = AUTO
     weight: str = "plain"
     command: str = "remesh"
-    """remesh, crease, coarse, or size, which takes an edge in place of scale and weight."""
+    """remesh, crease, coarse, size, which takes an edge in place of scale and weight, or fit, which takes all."""
     edge: Optional[Decimal] = None
+    keeps: bool = False
+    """Of `fit`: whether the lines of the text stay."""
+    is_merged: bool = False
+    """Of `fit`: whether patches are merged."""
+    has_lines: bool = False
+    """Of `fit`: whether lengths are wished edge by edge, by `#w` lines of the text."""
 
     def at_floor(self, floor: int) -> Wish:
         return replace(self, floor=floor)
 
     def words(self, floor: Union[int, str]) -> list[str]:
+        if self.command == FIT:
+            return self._words_of_fit(floor)
         if self.edge is not None:
             return [self.command, "--edge", f"{self.edge:.6f}", "--floor", str(floor)]
         scale = f"{self.scale.numerator}/{self.scale.denominator}"
         return [self.command, "--scale", scale, "--floor", str(floor), "--weight", self.weight]
+
+    def _words_of_fit(self, floor: Union[int, str]) -> list[str]:
+        aim = f"scale:{self.scale.numerator}/{self.scale.denominator}"
+        if self.has_lines:
+            aim = "lines"
+        elif self.edge is not None:
+            aim = f"edge:{self.edge:.6f}"
+        return [FIT, "--keep", "lines" if self.keeps else "none", "--patches", "merged" if self.is_merged else "traced",
+                "--aim", aim, "--floor", str(floor), "--weight", self.weight, "--spacing", "even"]
+
+    def floors(self) -> list[int]:
+        """The floors that are tried in place of `auto`, one after the other, where an edge would be there twice."""
+        return [1, 2, RAISED] if self.command == FIT else [1, RAISED]
 
 
 @dataclass(frozen=True)
@@ -75,15 +101,18 @@ class Program:
         return self if seconds is None else replace(self, until=time.monotonic() + seconds)
 
     def remesh(self, text: bytes, wish: Wish) -> bytes:
-        """The mesh remeshed, with its certificate. The floor `auto` is 1, and 3 where that doubles an edge."""
-        if wish.floor == AUTO and wish.command != "remesh":
+        """The mesh remeshed, with its certificate. The floor `auto` is 1, and a greater one where that doubles an edge.
+        """
+        if wish.floor != AUTO or wish.command == "remesh":
+            return self._run(wish.words(wish.floor), text)
+        *floors, last = wish.floors()
+        for floor in floors:
             try:
-                return self._run(wish.words(1), text)
+                return self._run(wish.words(floor), text)
             except Refusal as said:
                 if said.status != DOUBLED:
                     raise
-                return self._run(wish.words(RAISED), text)
-        return self._run(wish.words(wish.floor), text)
+        return self._run(wish.words(last), text)
 
     def judge(self, old: bytes, new: bytes, wish: Wish) -> Verdict:
         """Judges what a command wrote for a text: with `check` where that knows the command, else with `map`."""
@@ -117,12 +146,20 @@ class Program:
         return self._run([*words], text)
 
     def commands(self) -> tuple[str, ...]:
-        """The first words that the program knows: those that its usage line has, and `map`, which that leaves out,
-        where it is not taken for a wrong word."""
+        """The first words that the program knows: those that its usage line has, and `map` and `fit` where they are not
+        taken for wrong words."""
         _, _, said = run_program(self.path, [], b"", self.until)
         asked, _, _ = run_program(self.path, ["map"], b"", self.until)
         known = [it.split()[0] for it in re.split(r" \| ", said.partition("usage: quadq ")[2]) if it.split()]
-        return tuple(dict.fromkeys(known if asked == USAGE else [*known, "map"]))
+        known += ["map"] * (asked != USAGE) + [FIT] * self.has_fit()
+        return tuple(dict.fromkeys(known))
+
+    def has_fit(self) -> bool:
+        """Whether it takes all wishes together. It is asked once."""
+        if self.path not in _HAS_FIT:
+            asked, _, _ = run_program(self.path, Wish(command=FIT).words(1), b"", self.until)
+            _HAS_FIT[self.path] = asked != USAGE
+        return _HAS_FIT[self.path]
 
     def _run(self, words: list[str], text: bytes) -> bytes:
         status, out, said = run_program(self.path, words, text, self.until, self.halt)

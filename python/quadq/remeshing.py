@@ -6,7 +6,6 @@ import os
 from dataclasses import replace
 from decimal import Decimal
 from fractions import Fraction
-from itertools import count
 from pathlib import Path
 from typing import Callable, Iterable, Optional, Union
 
@@ -17,7 +16,10 @@ from .arrays import Array
 from .attributes import map_of
 from .bringing import brought_over
 from .carrier import Carrier
+from .choosing import Chooser, Chosen
+from .density import GIVEN, density_of
 from .distance import distance_between
+from .errors import WishError
 from .features import ANGLE, mark_features
 from .groups import marks_of_groups, with_meetings
 from .losses import SHARP, dropped_of, lost_edges, lost_mirrors
@@ -25,7 +27,7 @@ from .mesh import NONE, Mesh
 from .obj_writing import plain_text
 from .parts import NO_MARKS, Part, Workshop, Written, keep, put_together, split
 from .patches import patches_under
-from .program import RAISED, Program
+from .program import FIT, RAISED, Program
 from .quality import quality_of
 from .reading import divided, refuse_other, told_of_old
 from .refusal import NOT_QUAD, SYNTAX, Refusal
@@ -33,10 +35,10 @@ from .relaxing import relax
 from .results import Counts, Report, Result
 from .scaling import factor_of, mean_edge
 from .settings import Settings, as_length, as_scale_wish
+from .subdivision import at_divided
 from .subdivision import subdivide as subdivided
 from .symmetry import Image, image_of
 from .surface import irregular_counts
-from .targets import MOST_FACES, MOST_TRIES, TOO_FINE, Counted, Reached, nearest_scale
 
 Tell = Callable[[str, int, int], None]
 """Is told the step, how many things are done, and how many there are."""
@@ -48,6 +50,9 @@ def remesh(
     scale: Union[Fraction, float, str, None] = None,
     faces: Optional[int] = None,
     edge: Union[Decimal, float, str, None] = None,
+    within: Optional[float] = None,
+    mode: str = "shape",
+    density: Union[Array, str, None] = None,
     floor: Union[int, str] = "auto",
     weight: str = "plain",
     sharp: Optional[float] = None,
@@ -71,44 +76,54 @@ def remesh(
     """The mesh remeshed part by part. Each part was accepted by `check`, or by `map` where another command wrote it.
 
     `scale` is how long each edge of the patches is to be, as a part of its old length; or `faces` is how many faces the
-    mesh is to have, or `edge` how long edges are to be, in the unit of the mesh. `sharp` and `keep` tell which edges
-    stay. The other wishes are those of `Settings`. `text` is the OBJ text that the mesh was read from, if it is at
-    hand: then the certificate is of it. `timeout` is how many seconds the program may take. Raises a `Refusal` that
-    names the place, a `WishError` for wrong wishes, and a `MeshError` for arrays that are no mesh, or a text of another
-    one.
+    mesh is to have, or `edge` how long edges are to be, or `within` how far the new mesh may be from the old one, in
+    the unit of the mesh. `sharp` and `keep` tell which edges stay. `density` is how many times denser faces are to be
+    at each point (points,), or where that stands. The other wishes are those of `Settings`. `text` is the OBJ text that
+    the mesh was read from, if it is at hand: then the certificate is of it. `timeout` is how many seconds the program
+    may take. Raises a `Refusal` that names the place, a `WishError` for wrong wishes, and a `MeshError` for arrays that
+    are no mesh, or a text of another one.
     """
     settings = Settings(
         scale=None if scale is None else as_scale_wish(scale), faces=faces,
-        edge=None if edge is None else as_length(edge),
-        floor=floor, weight=weight, sharp=sharp, keep=tuple(keep), corners=corners, coarse=coarse, subdivide=subdivide,
-        mirror=mirror, symmetry=symmetry, relax=relax, jobs=jobs, folder=folder, carry=carry,
-        free_groups=free_groups, rescale=rescale)
+        edge=None if edge is None else as_length(edge), within=within, mode=mode,
+        density=density if density is None or isinstance(density, str) else GIVEN, floor=floor, weight=weight,
+        sharp=sharp, keep=tuple(keep), corners=corners, coarse=coarse, subdivide=subdivide, mirror=mirror,
+        symmetry=symmetry, relax=relax, jobs=jobs, folder=folder, carry=carry, free_groups=free_groups, rescale=rescale)
     runner = (Program() if program is None else program).within(timeout)
     mesh.refuse_strange()
     if text is not None:
         refuse_other(mesh, text, runner)
-    return run(mesh, settings, runner, text, tell)
+    given = None if density is None or isinstance(density, str) else np.asarray(density, dtype=float)
+    return run(mesh, settings, runner, text, tell, given)
 
 
-def run(mesh: Mesh, settings: Settings, program: Program, text: Optional[bytes], tell: Tell) -> Result:
+def run(
+    mesh: Mesh, settings: Settings, program: Program, text: Optional[bytes], tell: Tell, density: Optional[Array] = None
+) -> Result:
     """`remesh` with settings that are made already, of a mesh that was read from the text. Meshes of small or great
     units are scaled for the program, and back."""
+    if settings.needs_fit and not program.has_fit():
+        raise WishError(f"{settings.in_words} want the command `{FIT}`, which this program does not have")
+    if settings.density is not None:
+        density = density_of(mesh, settings.density, density)
     if not mesh.face_count:
         raise Refusal(NOT_QUAD, "no faces")
     wrong = np.flatnonzero(~np.isfinite(mesh.points).all(axis=1))
     if len(wrong):
         raise Refusal(SYNTAX, f"vertex {wrong[0] + 1}: a coordinate is no number", (), wrong.tolist())
-    settings = _with_groups(mesh, settings)
+    settings = _with_groups(mesh, settings, program)
     factor = factor_of(mesh, settings.rescale)
     if factor == 1:
-        return _Work(mesh, settings.times(1.0), program, tell).result(text)
+        return _Work(mesh, settings.times(1.0), program, tell, density).result(text)
     scaled = replace(mesh, points=mesh.points * factor)
-    return _Work(scaled, settings.times(factor), program, tell).result(None).times(1 / factor)
+    return _Work(scaled, settings.times(factor), program, tell, density).result(None).times(1 / factor)
 
 
-def _with_groups(mesh: Mesh, settings: Settings) -> Settings:
+def _with_groups(mesh: Mesh, settings: Settings, program: Program) -> Settings:
     """The settings, with what has to stay so that the groups of a mesh come back, where the command can keep edges."""
-    if not mesh.is_grouped or settings.free_groups or settings.coarse or settings.edge is not None:
+    if not mesh.is_grouped or settings.free_groups:
+        return settings
+    if (settings.coarse or settings.edge is not None) and not program.has_fit():
         return settings
     if not settings.is_creased and not len(marks_of_groups(mesh, settings.corners).edges):
         return settings
@@ -118,9 +133,12 @@ def _with_groups(mesh: Mesh, settings: Settings) -> Settings:
 class _Work:
     """One mesh on its way."""
 
-    def __init__(self, mesh: Mesh, settings: Settings, program: Program, tell: Tell) -> None:
+    def __init__(
+        self, mesh: Mesh, settings: Settings, program: Program, tell: Tell, density: Optional[Array] = None
+    ) -> None:
         self.mesh = mesh
         self.settings = settings
+        self.density = density
         self.program = program
         self.tell = tell
         self.step = ""
@@ -154,19 +172,17 @@ class _Work:
     def _result(self, text: Optional[bytes]) -> Result:
         self._begin("cutting into parts")
         parts = self._parts(text)
-        reached = self._scale(parts)
-        wish = self.settings.wish(reached.scale)
-        self._begin("remeshing", len(parts))
-        parts, texts = self.shop.remesh(parts, wish)
+        chosen = Chooser(parts, self.settings, self.shop, self._begin, self.density, self._halves()).chosen()
+        parts = chosen.parts
         self._begin("checking", len(parts))
-        written = self.shop.judge(parts, texts, wish)
+        written = self.shop.judge(parts, chosen.texts, chosen.wish)
         if self.settings.folder is not None:
             keep(self.settings.folder, parts, written)
         meshes, moves = self._relaxed(parts, written)
         new, carrier, over = self._put_together(parts, written, meshes)
         is_as_written = len(parts) == 1 and not (
             self._axis() is not None or self.settings.subdivide or moves or self.settings.carry)
-        report = replace(self._report(new, reached, parts, written), moves=moves, over_seams=over,
+        report = replace(self._report(new, chosen, parts, written), moves=moves, over_seams=over,
                          symmetry="" if self.image is None else mirroring.AXES[self.image.axis])
         owners = None if self.ready is self.mesh else self.mesh.face_of_corner()
         text = written[0].text if is_as_written else None
@@ -178,6 +194,7 @@ class _Work:
         if self.settings.subdivide:
             ready, text = divided(mesh, self.program), None
             mesh = self.ready = ready
+            self.density = None if self.density is None else at_divided(self.mesh, self.density)
         _refuse_polygons(mesh)
         if self.settings.symmetry is not None:
             self.image = image_of(mesh, self.settings.symmetry)
@@ -212,23 +229,6 @@ class _Work:
 
     def _halves(self) -> int:
         return 1 if self._axis() is None else 2
-
-    def _scale(self, parts: list[Part]) -> Reached:
-        settings = self.settings
-        if settings.faces is None:
-            return Reached(settings.scale, 0, 0, "")
-        most = self._halves() * sum(it.count for it in parts) * MOST_FACES
-        if settings.faces > most:
-            raise Refusal(TOO_FINE, f"too fine: {settings.faces} faces, where such a mesh can have {most}")
-        tries = count(1)
-
-        def count_at(scale: Fraction) -> Counted:
-            self._begin(f"bisecting, try {next(tries)} of at most {MOST_TRIES}", len(parts))
-            _, texts = self.shop.remesh(parts, settings.wish(scale))
-            floor = RAISED if any(_is_raised(it) for it in texts) else 1
-            return Counted(self._halves() * sum(it.count(b"\nf ") for it in texts), floor)
-
-        return nearest_scale(settings.faces, self._halves() * sum(it.mesh.face_count for it in parts), count_at)
 
     def _relaxed(self, parts: list[Part], written: list[Written]) -> tuple[list[Mesh], int]:
         """The new meshes, relaxed where that is wished, and how many moves that took."""
@@ -279,7 +279,7 @@ class _Work:
             raise Refusal(said.status, f"with its mirror image it is no manifold: {said.line}") from said
         return whole
 
-    def _report(self, new: Mesh, reached: Reached, parts: list[Part], written: list[Written]) -> Report:
+    def _report(self, new: Mesh, chosen: Chosen, parts: list[Part], written: list[Written]) -> Report:
         self._begin("measuring")
         old, after = _in_quads(self.mesh), _counts(new)
         return Report(
@@ -287,10 +287,13 @@ class _Work:
             after=after,
             ready=self._halves() * sum(it.mesh.face_count for it in parts),
             wished=self.settings.faces,
-            because=reached.because,
-            scale=reached.scale,
+            because=chosen.reached.because,
+            scale=chosen.reached.scale,
             edge=self.settings.edge,
-            command=self.settings.command,
+            command=chosen.wish.command,
+            within=self.settings.within,
+            way=chosen.reached.way,
+            strayed=chosen.reached.strayed,
             marks=self.marks,
             floor=self.settings.floor,
             weight=self.settings.weight,
@@ -329,8 +332,3 @@ def _in_quads(mesh: Mesh) -> Mesh:
 def _counts(mesh: Mesh) -> Counts:
     quads = _in_quads(mesh)
     return Counts(len(mesh.used), mesh.face_count, irregular_counts(quads), quality_of(quads), mean_edge(mesh))
-
-
-def _is_raised(text: bytes) -> bool:
-    """Whether a text was written with the floor that never doubles an edge."""
-    return b" floor 3 " in text[:100] or b"\n#f 3\n" in text

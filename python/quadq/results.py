@@ -83,6 +83,12 @@ class Report:
     """What the old mesh had and the new one does not: kinds of notices, and their words."""
     fields: str = ""
     """The fields of the old mesh that came over, or nothing."""
+    within: Optional[float] = None
+    """The distance that was asked for, if it was."""
+    way: str = ""
+    """How lengths were wished, where more than one way was tried."""
+    strayed: Optional[float] = None
+    """By how many edges all arcs differ from what was wished at first, where lengths were wished arc by arc."""
     factor: float = 1.0
     """How many times as large the mesh was made for the program, which rounds to millionths."""
 
@@ -105,7 +111,9 @@ class Report:
         before, after = (replace(it, mean_edge=it.mean_edge * factor) for it in (self.before, self.after))
         edge = None if self.edge is None else self.edge * Decimal(factor)
         return replace(
-            self, before=before, after=after, edge=edge, diagonal=self.diagonal * factor, factor=self.factor / factor,
+            self, before=before, after=after, edge=edge,
+            within=None if self.within is None else self.within * factor,
+            diagonal=self.diagonal * factor, factor=self.factor / factor,
             to_old=longer(self.to_old), to_new=longer(self.to_new))
 
     @property
@@ -139,6 +147,8 @@ class Report:
         told: list[tuple[str, Optional[str]]] = [
             ("wished faces", None if self.wished is None else str(self.wished)),
             ("wished length of edges", None if self.edge is None else f"{self.edge:f}"),
+            ("wished distance", None if self.within is None else f"{self.within:.6g}"),
+            ("lengths", self.way or None),
             ("scale", None if self.scale is None else f"{self.scale.numerator}/{self.scale.denominator}"),
             ("command", self.command if self.command != "remesh" else None),
             ("edges that stay", self.marks or None),
@@ -150,6 +160,7 @@ class Report:
             ("arcs at the floor", str(self.arcs_at_floor)),
             ("deviation, least in each part", None if self.deviation is None else str(self.deviation)),
             ("fields carried over", self.fields or None),
+            ("edges off from the first wishes", None if self.strayed is None else f"{self.strayed:.1f}"),
             ("moves of points", str(self.moves) if self.moves else None),
             ("made larger for the program", f"{self.factor:g} times" if self.factor != 1 else None),
         ]
@@ -158,7 +169,8 @@ class Report:
     def summary(self) -> str:
         """One line."""
         quality = self.after.quality
-        wish = f"scale {self.scale}" if self.edge is None else f"edges of {self.edge:f}"
+        wish = f"edges of {self.edge:f}" if self.edge is not None else (
+            self.way or "by wishes" if self.scale is None else f"scale {self.scale}")
         done = f"parts {self.parts} checked, deviation {self.deviation}" if self.is_checked else (
             f"parts {self.parts} by {self.command}")
         return (f"faces {self.before.faces} -> {self.after.faces}, {wish}, {done}, "
@@ -204,6 +216,8 @@ class Result:
 
     def times(self, factor: float) -> Result:
         """The same where lengths are so many times as long. What the program has read and written stays."""
+        if factor == 1:
+            return self
 
         def longer(mesh: Mesh) -> Mesh:
             return replace(mesh, points=mesh.points * factor)

@@ -11,22 +11,30 @@ from typing import Optional, Union
 from . import mirror as mirroring
 from .errors import WishError
 from .features import KINDS
-from .program import LARGEST, Wish
+from .program import FIT, LARGEST, Wish
 
 FAR = Decimal(10) ** 9
 """Edges are shorter than this."""
+MODES = ("shape", "scale", "even")
 LEAST = Decimal("0.000001")
 """The shortest length of edges that the program takes."""
 
 
 @dataclass(frozen=True)
 class Settings:
-    """How a mesh is to be remeshed. One of `scale`, `faces` and `edge` is given."""
+    """How a mesh is to be remeshed. One of `scale`, `faces`, `edge` and `within` is given."""
 
     scale: Optional[Fraction] = None
     faces: Optional[int] = None
     edge: Optional[Decimal] = None
     """How long edges are to be, in the unit of the mesh."""
+    within: Optional[float] = None
+    """How far the new mesh may be from the old one, about, in the unit of the mesh: the coarsest is looked for."""
+    mode: str = "shape"
+    """Of a number of faces or a distance: `shape`, more faces where the surface bends, if the program takes such
+    wishes, and one scale for all where that is better; `scale`, one scale for all; `even`, edges of one length."""
+    density: Optional[str] = None
+    """How many times denser faces are to be at each point: a colour of the points, or a file with a number for each."""
     floor: Union[int, str] = "auto"
     weight: str = "plain"
     sharp: Optional[float] = None
@@ -64,8 +72,12 @@ class Settings:
             object.__setattr__(self, "scale", as_scale_wish(self.scale))
         if self.edge is not None and not isinstance(self.edge, Decimal):
             object.__setattr__(self, "edge", as_length(self.edge))
-        if [self.scale, self.faces, self.edge].count(None) != 2:
-            raise WishError("one of scale, faces and edge has to be given")
+        if [self.scale, self.faces, self.edge, self.within].count(None) != 3:
+            raise WishError("one of scale, faces, edge and within has to be given")
+        if self.mode not in MODES:
+            raise WishError(f"the mode has to be of {', '.join(MODES)}, and is {self.mode}")
+        if self.within is not None and not 0 < self.within < float(FAR):
+            raise WishError(f"the distance has to be above 0 and below {FAR:f}, and is {self.within}")
         if self.faces is not None and self.faces < 1:
             raise WishError("the number of faces has to be 1 or more")
         scale = self.scale
@@ -95,12 +107,7 @@ class Settings:
             raise WishError(f"what is kept has to be of {', '.join(KINDS)}, and is {unknown[0]}")
         if self.sharp is not None and not 0 <= self.sharp <= 180:
             raise WishError(f"the angle of sharp edges has to be from 0 to 180 degrees, and is {self.sharp}")
-        asked = [name for name, is_asked in (
-            ("edges that stay", self.is_creased), ("merged patches", self.coarse), ("a length of edges", self.edge)
-        ) if is_asked]
-        if len(asked) > 1:
-            raise WishError(f"the program has no command for {' and '.join(asked)} together")
-        if self.edge is not None and self.weight != "plain":
+        if self.edge is not None and self.weight != "plain" and self.command == "size":
             raise WishError("with a length of edges the weight is plain")
 
     @property
@@ -110,13 +117,31 @@ class Settings:
 
     @property
     def command(self) -> str:
-        """The command of the program that does this."""
+        """The command of the program that does this: `fit` where no other does."""
+        if self.needs_fit:
+            return FIT
         if self.edge is not None:
             return "size"
         return "crease" if self.is_creased else "coarse" if self.coarse else "remesh"
 
+    @property
+    def needs_fit(self) -> bool:
+        """Whether wishes go together, or lengths are wished arc by arc."""
+        is_even = self.mode == "even" and self.edge is None
+        return [self.is_creased, self.coarse, self.edge is not None].count(True) > 1 or is_even or (
+            self.within is not None or self.density is not None)
+
+    @property
+    def in_words(self) -> str:
+        """What of it wants the command `fit`."""
+        told = [("edges that stay", self.is_creased), ("merged patches", self.coarse), ("a length of edges", self.edge),
+                ("a distance", self.within), ("a density", self.density), ("even edges", self.mode == "even")]
+        return " and ".join(name for name, is_asked in told if is_asked)
+
     def times(self, factor: float) -> Settings:
         """The same for a mesh that is so many times as large. Raises a `WishError` where its edges are too short."""
+        if self.within is not None:
+            return replace(self, within=self.within * factor)
         if self.edge is None:
             return self
         edge = self.edge * Decimal(factor)
@@ -126,7 +151,8 @@ class Settings:
         return replace(self, edge=edge)
 
     def wish(self, scale: Optional[Fraction]) -> Wish:
-        return Wish(Fraction(1) if scale is None else scale, self.floor, self.weight, self.command, self.edge)
+        return Wish(Fraction(1) if scale is None else scale, self.floor, self.weight, self.command, self.edge,
+                    self.is_creased, self.coarse and self.command == FIT)
 
 
 def as_length(value: Union[Decimal, float, str]) -> Decimal:

@@ -42,6 +42,10 @@ class Reached:
     tries: int
     because: str
     """Why it came no nearer, or nothing where it is near enough."""
+    way: str = ""
+    """How lengths were wished, where more than one way was tried."""
+    strayed: Optional[float] = None
+    """By how many edges all arcs differ from what was wished at first, where lengths were wished arc by arc."""
 
 
 def nearest_scale(wished: int, faces: int, count_at: Callable[[Fraction], Counted]) -> Reached:

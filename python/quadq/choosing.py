@@ -1,0 +1,206 @@
+"""The remesh that does best what is wished: one scale for all, or lengths by shape, tried one beside the other."""
+
+from __future__ import annotations
+
+from dataclasses import dataclass, replace
+from fractions import Fraction
+from itertools import count
+from typing import Callable, Optional, Sequence
+
+import numpy as np
+
+from .arrays import Array
+from .mesh import Mesh, join
+from .multiplying import Multiplying, met
+from .nearing import coarsest_within
+from .parts import Part, Workshop, certified_lengths
+from .program import FIT, RAISED, Wish
+from .refusal import Refusal
+from .settings import Settings
+from .targets import MOST_FACES, MOST_TRIES, TOO_FINE, Counted, Reached, nearest_scale
+from .trying import NEAR, Trials, Tried, Worth, worth_of
+from .wishing import AS_BEFORE, BENT, EVEN, FLAT, Shape, Shares
+
+BY_SHAPE = Reached(None, 0, 0, "", "by shape")
+MERGED = replace(BY_SHAPE, way="by shape, with merged patches")
+Begin = Callable[[str, int], None]
+"""Is told the step that begins, and how many things there are to do."""
+SLOW = 300_000
+"""Of more faces patches are not merged where that was not wished: it takes long."""
+
+
+@dataclass(frozen=True)
+class Chosen:
+    """What the program wrote for each part, and how that came."""
+
+    parts: list[Part]
+    texts: list[bytes]
+    wish: Wish
+    reached: Reached
+
+
+class Chooser:
+    """Finds what does best what settings wish of parts."""
+
+    def __init__(self, parts: list[Part], settings: Settings, shop: Workshop, begin: Begin,
+                 density: Optional[Array] = None, halves: int = 1) -> None:
+        self.parts, self.settings, self.shop, self.begin = parts, settings, shop, begin
+        self.density, self.halves = density, halves
+        self.tries = count(1)
+        self.old = join([it.mesh for it in parts])
+
+    def chosen(self) -> Chosen:
+        settings = self.settings
+        if settings.within is not None:
+            return self._within(settings.within)
+        if settings.faces is not None:
+            self._refuse_more_than(self.halves * sum(it.count for it in self.parts) * MOST_FACES, settings.faces)
+            is_by_scale = settings.mode == "scale" and self.density is None
+            if is_by_scale or not self.shop.program.has_fit():
+                return self._by_scale(settings.faces)
+            return self._by_shape(settings.faces)
+        reached = Reached(settings.scale, 0, 0, "")
+        if self.density is None and (settings.mode != "even" or settings.edge is not None):
+            return self._written(settings.wish(settings.scale), reached)
+        shapes, lengths = self._absolute()
+        self.begin("remeshing", len(self.parts))
+        tried = Trials(self.shop, shapes, self._wish(False)).at(lengths)
+        return _chosen(tried, replace(reached, strayed=tried.strayed()))
+
+    def _refuse_more_than(self, most: int, wished: int) -> None:
+        if wished > most:
+            raise Refusal(TOO_FINE, f"too fine: {wished} faces, where such a mesh can have {most}")
+
+    def _written(self, wish: Wish, reached: Reached) -> Chosen:
+        self.begin("remeshing", len(self.parts))
+        parts, texts = self.shop.remesh(self.parts, wish)
+        return Chosen(parts, texts, wish, reached)
+
+    def _wish(self, is_merged: bool) -> Wish:
+        """The wish for lengths by lines."""
+        settings = self.settings
+        return Wish(floor=settings.floor, weight=settings.weight, command=FIT, keeps=settings.is_creased,
+                    is_merged=settings.coarse or is_merged, has_lines=True)
+
+    def _shapes(self, is_merged: bool = False) -> list[Shape]:
+        self.begin("measuring the shape", 1)
+        return [Shape(it, self.settings.coarse or is_merged, None if self.density is None else self.density[it.points])
+                for it in self.parts]
+
+    def _absolute(self) -> tuple[list[Shape], list[Array]]:
+        """Wished lengths where a scale or a length of edges says how long they are."""
+        settings, shapes = self.settings, self._shapes()
+        if settings.edge is not None:
+            return shapes, [it.measures() / float(settings.edge) for it in shapes]
+        share = EVEN if settings.mode == "even" else AS_BEFORE
+        return shapes, [float(settings.scale or 1) * it.lengths(share) for it in shapes]
+
+    def _begin_try(self) -> None:
+        self.begin(f"bisecting, try {next(self.tries)}", len(self.parts))
+
+    def _by_scale(self, wished: int) -> Chosen:
+        """The one scale for all parts that comes nearest to a number of faces."""
+        settings = self.settings
+        tries = count(1)
+
+        def count_at(scale: Fraction) -> Counted:
+            self.begin(f"bisecting, try {next(tries)} of at most {MOST_TRIES}", len(self.parts))
+            _, texts = self.shop.remesh(self.parts, settings.wish(scale))
+            floor = max((certified_lengths(it)[0] for it in texts), default=1)
+            return Counted(self.halves * sum(it.count(b"\nf ") for it in texts), floor if floor >= RAISED else 1)
+
+        reached = nearest_scale(wished, self.halves * self.old.face_count, count_at)
+        return self._written(settings.wish(reached.scale), reached)
+
+    def _by_shape(self, wished: int) -> Chosen:
+        """Lengths by shape, or one scale for all, whichever comes out better."""
+        share = max(1, round(wished / self.halves))
+        found = Options(self.old, share)
+        if self.settings.mode == "shape" and self.density is None:
+            self._offer_scale(found, wished)
+        shapes = self._shapes()
+        found.offer(self._multiplied(shapes, self._shares(shapes), share), BY_SHAPE)
+        if found.is_worse_by_shape():
+            found.offer(self._multiplied(shapes, [FLAT] * len(shapes), share), BY_SHAPE)
+        if found.best()[0].missed and not self.settings.coarse and self.old.face_count <= SLOW:
+            merged = self._shapes(True)
+            found.offer(self._multiplied(merged, self._shares(merged), share, True), MERGED)
+        _, tried, reached = found.best()
+        self.begin("remeshing", len(self.parts))
+        return _chosen(tried, replace(
+            reached, faces=self.halves * tried.faces, tries=next(self.tries) - 1, because=_reason(tried, share),
+            strayed=tried.strayed()))
+
+    def _offer_scale(self, found: Options, wished: int) -> None:
+        """One scale, as the program takes it, and with single chords changed where that misses the number."""
+        scale = self._by_scale(wished)
+        tried, reached = Tried(scale.parts, scale.texts, scale.wish), replace(scale.reached, way="one scale")
+        found.offer(tried, reached)
+        if not reached.because or reached.scale is None or len(tried.texts) != len(self.parts):
+            return
+        shapes = self._shapes()
+        tried = replace(tried, shapes=tuple(shapes), wished=tuple(
+            float(reached.scale) * it.layout.old for it in shapes))
+        nearer = met(Trials(self.shop, shapes, self._wish(False)), tried, found.wished)
+        if nearer is not tried:
+            found.offer(nearer, replace(reached, scale=None, way="one scale, with single rows of faces more or less"))
+
+    def _shares(self, shapes: Sequence[Shape]) -> list[Shares]:
+        if self.settings.mode == "even":
+            return [EVEN] * len(shapes)
+        if self.settings.mode == "scale":
+            return [AS_BEFORE] * len(shapes)
+        return [FLAT if it.is_flat else BENT for it in shapes]
+
+    def _multiplied(self, shapes: list[Shape], shares: list[Shares], wished: int, is_merged: bool = False) -> Tried:
+        is_capped = self.density is None and wished <= self.old.face_count
+        trials = Trials(self.shop, shapes, self._wish(is_merged), is_capped)
+        lengths = [it.lengths(share) for it, share in zip(shapes, shares)]
+        found = Multiplying(trials, lengths, wished, self._begin_try).nearest()
+        return met(trials, found, wished)
+
+    def _within(self, distance: float) -> Chosen:
+        """The coarsest mesh that is about within a distance of the old surface, and the old one within that of it."""
+        shapes = self._shapes()
+        trials = Trials(self.shop, shapes, self._wish(False), self.density is None)
+        lengths = [it.lengths(share) for it, share in zip(shapes, self._shares(shapes))]
+        tried, because = coarsest_within(trials, lengths, self.old, distance, self._begin_try)
+        return _chosen(tried, Reached(None, self.halves * tried.faces, next(self.tries) - 1, because, BY_SHAPE.way,
+                                      tried.strayed()))
+
+
+class Options:
+    """Remeshes that were tried for a number of faces, and what each is worth."""
+
+    def __init__(self, old: Mesh, wished: int) -> None:
+        self.old, self.wished = old, wished
+        self.found: list[tuple[Worth, Tried, Reached]] = []
+
+    def offer(self, tried: Tried, reached: Reached) -> None:
+        self.found.append((worth_of(tried, self.old, self.wished), tried, reached))
+
+    def best(self) -> tuple[Worth, Tried, Reached]:
+        """The best; where no more faces are wished than there are, of those with no more, if any."""
+        fewer = [it for it in self.found if it[1].faces <= self.old.face_count]
+        return min(fewer if fewer and self.wished <= self.old.face_count else self.found, key=lambda it: it[0])
+
+    def is_worse_by_shape(self) -> bool:
+        """Whether the last, by shape, has more inverted faces than some other."""
+        return self.found[-1][0].inverted > min(it[0].inverted for it in self.found)
+
+
+def _chosen(tried: Tried, reached: Reached) -> Chosen:
+    return Chosen(tried.parts, tried.texts, tried.wish, reached)
+
+
+def _reason(tried: Tried, wished: int) -> str:
+    """Why a remesh has not about as many faces as wished, or nothing."""
+    if abs(tried.faces - wished) <= NEAR * wished:
+        return ""
+    lengths = np.concatenate(tried.lengths)
+    floors = np.repeat(tried.floors, [len(it) for it in tried.lengths])
+    short = int(np.sum(lengths <= floors))
+    if tried.faces > wished and 2 * short > len(lengths):
+        twice = ", and with a lower one an edge would be there twice" if int(floors.max()) > 1 else ""
+        return f"{short} of {len(lengths)} arcs are as short as the floor {int(floors.max())}{twice}"
+    return "no row of faces more or less brings it nearer"

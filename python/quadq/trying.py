@@ -1,0 +1,106 @@
+"""Remeshes that are tried: how many faces they have, and how near they are to what was."""
+
+from __future__ import annotations
+
+from dataclasses import dataclass
+from functools import cached_property
+from typing import Optional, Sequence
+
+import numpy as np
+
+from .arrays import Array
+from .distance import distance_between
+from .mesh import Mesh, join
+from .parts import Part, Workshop, certified_lengths
+from .plain import written_mesh
+from .program import Wish
+from .quality import quality_of
+from .wishing import UNIT, Shape
+
+NEAR = 0.01
+"""A part of the wished number: so near is near enough."""
+
+
+@dataclass(frozen=True)
+class Tried:
+    """What the program wrote for all parts with one wish."""
+
+    parts: list[Part]
+    texts: list[bytes]
+    wish: Wish
+    shapes: tuple[Shape, ...] = ()
+    """Where lengths were wished arc by arc: the shapes of the parts."""
+    wished: tuple[Array, ...] = ()
+    """What was wished for the arcs of each at first."""
+
+    @cached_property
+    def faces(self) -> int:
+        """How many faces they have together."""
+        return sum(it.count(b"\nf ") for it in self.texts)
+
+    @cached_property
+    def lengths(self) -> list[Array]:
+        """For each text the lengths of its arcs."""
+        return [certified_lengths(it)[1] for it in self.texts]
+
+    @cached_property
+    def floors(self) -> list[int]:
+        return [certified_lengths(it)[0] for it in self.texts]
+
+    @property
+    def fits_shapes(self) -> bool:
+        """Whether each shape has its text: none was divided by the program."""
+        return len(self.texts) == len(self.shapes) > 0 and all(
+            len(it) == len(shape.layout.old) for it, shape in zip(self.lengths, self.shapes))
+
+    def strayed(self) -> Optional[float]:
+        """By how many edges all arcs together differ from what was wished at first."""
+        if not self.fits_shapes:
+            return None
+        return float(sum(np.abs(it - np.rint(UNIT * wished) / UNIT).sum()
+                         for it, wished in zip(self.lengths, self.wished)))
+
+    def mesh(self) -> Mesh:
+        return join([written_mesh(it) for it in self.texts])
+
+
+@dataclass(frozen=True, order=True)
+class Worth:
+    """What counts of a remesh, the most important first. Less is better."""
+
+    inverted: int
+    missed: int
+    """By how many hundredths its number of faces is off, beyond the first."""
+    greatest: float
+    mean: float
+
+
+def worth_of(tried: Tried, old: Mesh, wished: Optional[int]) -> Worth:
+    """How good a remesh of the mesh is, where so many faces are wished."""
+    new = tried.mesh()
+    ways = distance_between(new, old), distance_between(old, new)
+    off = 0.0 if wished is None else abs(tried.faces - wished) / wished
+    return Worth(quality_of(new).inverted, int(max(0.0, off - NEAR) / NEAR + 0.999), max(it.greatest for it in ways),
+                 sum(it.mean for it in ways) / 2)
+
+
+class Trials:
+    """Runs the program over all parts with wishes that are made from their shapes."""
+
+    def __init__(self, shop: Workshop, shapes: Sequence[Shape], wish: Wish, is_capped: bool = False) -> None:
+        """Where it is capped, no arc wishes more edges than it had: new points lie on the old surface, and more of them
+        bring nothing nearer."""
+        self.shop, self.shapes, self.wish, self.is_capped = shop, tuple(shapes), wish, is_capped
+
+    def times(self, lengths: Sequence[Array], factor: float) -> list[Array]:
+        """Lengths for the arcs of each part, so many times as great."""
+        longer = [factor * it for it in lengths]
+        if not self.is_capped:
+            return longer
+        return [np.minimum(it, shape.layout.old) for it, shape in zip(longer, self.shapes)]
+
+    def at(self, lengths: Sequence[Array], first: Optional[Sequence[Array]] = None) -> Tried:
+        """With these lengths wished for the arcs of each part, in place of those that were wished at first."""
+        asked = [shape.wished(it) for shape, it in zip(self.shapes, lengths)]
+        parts, texts = self.shop.remesh(asked, self.wish)
+        return Tried(parts, texts, self.wish, self.shapes, tuple(lengths if first is None else first))
