@@ -70,6 +70,7 @@ def parser_of_words() -> argparse.ArgumentParser:
     parser.add_argument("--coarse", action="store_true", help="merge patches where they have a whole side in common")
     parser.add_argument("--subdivide", action="store_true", help="divide all faces into quads first")
     parser.add_argument("--mirror", choices=["x", "y", "z"], help="remesh the half above 0, and mirror it")
+    parser.add_argument("--round", action="store_true", help="put new points on a curved surface behind the old faces")
     parser.add_argument("--relax", type=int, default=0, metavar="N", help="move points so many times along the surface")
     parser.add_argument("--keep", type=Path, metavar="FOLDER", help="keep the old and new text of each part there")
     parser.add_argument("--report", type=Path, metavar="FILE.html",
@@ -153,14 +154,14 @@ def settings_of(asked: argparse.Namespace) -> Settings:
         scale=asked.scale, faces=asked.faces, edge=None if asked.edge is None else as_length(asked.edge),
         within=asked.within, mode=asked.mode, density=asked.density, floor=asked.floor, weight=asked.weight,
         sharp=asked.sharp, keep=tuple(asked.keep_edges or ()), corners=asked.corners, coarse=asked.coarse,
-        subdivide=asked.subdivide, mirror=asked.mirror, relax=asked.relax, jobs=asked.jobs, folder=asked.keep,
-        carry=asked.carry, free_groups=asked.free_groups)
+        subdivide=asked.subdivide, mirror=asked.mirror, round=asked.round, relax=asked.relax, jobs=asked.jobs,
+        folder=asked.keep, carry=asked.carry, free_groups=asked.free_groups)
 
 
 def refuse_missing(settings: Settings, program: Program) -> None:
     """Raises a `WishError` for a command that the program does not have."""
-    is_checked = settings.command == "remesh" and not settings.carry and not program.has_fit()
-    needed = {settings.command} if is_checked else {settings.command, "map"}
+    is_plain = settings.command == "remesh" and not (settings.carry or settings.round or program.has_fit())
+    needed = {settings.command} if is_plain else {settings.command, "map"}
     for command in sorted(needed.difference(program.commands())):
         raise WishError(f"this needs the command `{command}`, which this program does not have")
 

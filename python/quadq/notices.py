@@ -104,6 +104,9 @@ def _of_losses(report: Report) -> Iterator[Notice]:
     if report.factor != 1:
         yield Notice("scaled", f"coordinates were multiplied by {report.factor:g} for the program, which rounds to "
                      "millionths, and divided again: the file is not the program's own text")
+    if report.is_round:
+        yield Notice("round", "points are on a curved surface behind the old one: the certificates hold for the "
+                     "numbers of edges, not for the places, and distances are those from the old polygons")
     if report.moves:
         yield Notice("relaxed", "the mesh is relaxed: the certificates hold for the numbers of edges, not for the "
                      "places", report.moves)

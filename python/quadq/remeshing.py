@@ -33,6 +33,7 @@ from .reading import divided, refuse_other, told_of_old
 from .refusal import NOT_QUAD, SYNTAX, Refusal
 from .relaxing import relax
 from .results import Counts, Report, Result
+from .rounding import curved, rounded
 from .scaling import factor_of, mean_edge
 from .settings import Settings, as_length, as_scale_wish
 from .subdivision import at_divided
@@ -62,6 +63,7 @@ def remesh(
     subdivide: bool = False,
     mirror: Optional[str] = None,
     symmetry: Optional[str] = None,
+    round: bool = False,
     relax: int = 0,
     carry: bool = False,
     free_groups: bool = False,
@@ -88,7 +90,8 @@ def remesh(
         edge=None if edge is None else as_length(edge), within=within, mode=mode,
         density=density if density is None or isinstance(density, str) else GIVEN, floor=floor, weight=weight,
         sharp=sharp, keep=tuple(keep), corners=corners, coarse=coarse, subdivide=subdivide, mirror=mirror,
-        symmetry=symmetry, relax=relax, jobs=jobs, folder=folder, carry=carry, free_groups=free_groups, rescale=rescale)
+        symmetry=symmetry, round=round, relax=relax, jobs=jobs, folder=folder, carry=carry, free_groups=free_groups,
+        rescale=rescale)
     runner = (Program() if program is None else program).within(timeout)
     mesh.refuse_strange()
     if text is not None:
@@ -178,10 +181,10 @@ class _Work:
         written = self.shop.judge(parts, chosen.texts, chosen.wish)
         if self.settings.folder is not None:
             keep(self.settings.folder, parts, written)
-        meshes, moves = self._relaxed(parts, written)
+        meshes, moves = self._rounded(parts, written) if self.settings.round else self._relaxed(parts, written)
         new, carrier, over = self._put_together(parts, written, meshes)
         is_as_written = len(parts) == 1 and not (
-            self._axis() is not None or self.settings.subdivide or moves or self.settings.carry)
+            self._axis() is not None or self.settings.subdivide or moves or self.settings.carry or self.settings.round)
         report = replace(self._report(new, chosen, parts, written), moves=moves, over_seams=over,
                          symmetry="" if self.image is None else mirroring.AXES[self.image.axis])
         owners = None if self.ready is self.mesh else self.mesh.face_of_corner()
@@ -244,6 +247,15 @@ class _Work:
             self._tell_parts(len(done))
             moves += more
         return done, moves
+
+    def _rounded(self, parts: list[Part], written: list[Written]) -> tuple[list[Mesh], int]:
+        """The new meshes with their points on the curved surface behind the old mesh, and no moves."""
+        self._begin("rounding", len(parts))
+        surface = curved(self.ready, self._marks(self.ready), self.settings.sharp)
+        text_of = {id(part): it.text for part, it in zip(parts, written)}
+        maps = self.shop.each(parts, lambda part: self.program.map(part.text, text_of[id(part)]))
+        return [rounded(it.mesh(), surface, part, text, self._axis())
+                for part, it, text in zip(parts, written, maps)], 0
 
     def _put_together(
         self, parts: list[Part], written: list[Written], meshes: list[Mesh]
@@ -309,6 +321,7 @@ class _Work:
             sharp=lost_edges(old, new, after.mean_edge, self.sharp),
             mirrors=lost_mirrors(old, new),
             dropped=dropped_of(self.mesh, self.settings),
+            is_round=self.settings.round,
         )
 
 

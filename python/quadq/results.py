@@ -67,6 +67,8 @@ class Report:
     """From the old mesh to the new surface: what was lost at corners and edges shows here."""
     moves: int = 0
     """How often a point was moved: where it is not 0, the certificates hold for the counts, not for the places."""
+    is_round: bool = False
+    """Whether points were put on a curved surface behind the old one: certificates hold for the counts alone."""
     over_seams: int = 0
     """How many new faces lie over a seam of the texture or a border of names, where these were carried over."""
     raised: int = 0

@@ -51,6 +51,9 @@ class Settings:
     symmetry: Optional[str] = None
     """The axis, or auto for the first: where the mesh is its own mirror image along it, it stays so. One half is
     remeshed, and each half carries what it did. It goes with `carry`."""
+    round: bool = False
+    """Whether new points are put on a curved surface behind the old polygons, which is flat across edges that stay or
+    are sharp."""
     relax: int = 0
     """How many times points are moved along the old surface, where no face becomes worse by it."""
     jobs: int = 0
@@ -91,6 +94,8 @@ class Settings:
             raise WishError(f"the weight has to be plain or length, and is {self.weight}")
         if self.relax < 0:
             raise WishError("points are relaxed 0 times or more")
+        if self.round and self.relax:
+            raise WishError("points are relaxed along the old surface or put on a round one, and not both")
         if self.mirror is not None and self.mirror not in tuple(mirroring.AXES):
             raise WishError(f"the mirror axis has to be x, y or z, and is {self.mirror}")
         if self.symmetry is not None and self.symmetry not in (*mirroring.AXES, "auto"):
