@@ -7,7 +7,7 @@ import os
 import sys
 from fractions import Fraction
 from pathlib import Path
-from typing import Callable, NamedTuple, Optional, Sequence
+from typing import Callable, Iterator, NamedTuple, Optional, Sequence
 
 from .batch import Books, remesh_files
 from .blocks_command import parser_of_blocks, write_asked
@@ -17,10 +17,12 @@ from .features import KINDS
 from .files import remove_stale, write_whole
 from .formats import refuse_format
 from .jobs import one_file
+from .levels import level_files, path_of, shares_of
 from .program import Program, find_program
 from .progress import NAME, Progress
 from .refusal import READ_FAULT, WRITE_FAULT, Refusal
 from .report import refused_page, result_page
+from .results import Report, Result
 from .rows import Row, summary_of
 from .settings import MODES, Settings, as_length
 from .stopping import Stopped, stopped_by_signals
@@ -42,13 +44,14 @@ COMMANDS = {"blocks": Command(parser_of_blocks, write_asked), "check": Command(p
 def parser_of_words() -> argparse.ArgumentParser:
     parser = argparse.ArgumentParser(
         prog=NAME, description="Remeshes quad meshes with the proved program quadq, and checks each part.",
-        usage=f"{NAME} IN.obj OUT.obj (--faces N | --scale P/Q | --edge D | --within E) [..]\n"
+        usage=f"{NAME} IN.obj OUT.obj (--faces N | --scale P/Q | --edge D | --within E | --lods ..) [..]\n"
               f"       {NAME} FILES AND FOLDERS.. --out FOLDER (..) [..]")
     parser.add_argument("paths", nargs="+", metavar="FILE", help="IN and OUT; with --out files and folders")
     wish = parser.add_mutually_exclusive_group(required=True)
     wish.add_argument("--scale", type=Fraction, metavar="P/Q", help="how long edges of patches are to be, of the old")
     wish.add_argument("--faces", type=int, metavar="N", help="how many faces the mesh is to have")
     wish.add_argument("--edge", metavar="D", help="how long edges are to be, in the unit of the file")
+    wish.add_argument("--lods", metavar="P/Q,P/Q", help="a file for each part of the faces: OUT.lod1.obj and so on")
     wish.add_argument("--within", type=float, metavar="E",
                       help="how far the mesh may be from the old one, about, in the unit of the file")
     parser.add_argument("--mode", default="shape", choices=MODES,
@@ -143,6 +146,8 @@ def _done(asked: argparse.Namespace) -> int:
         if asked.log or asked.resume or asked.table or asked.recursive or asked.pattern:
             raise WishError("--log, --resume, --table, --recursive and --pattern go with --out FOLDER")
         return _single(asked, settings, program)
+    if asked.lods:
+        raise WishError("--lods goes with two files, IN and OUT")
     if asked.report is not None and asked.report.suffix.lower() in (".html", ".htm"):
         raise WishError("with --out the reports are a page for each file: --report FOLDER")
     return _batch(asked, settings, program)
@@ -151,11 +156,12 @@ def _done(asked: argparse.Namespace) -> int:
 def settings_of(asked: argparse.Namespace) -> Settings:
     """What the words of a command line ask. Raises a `WishError` for what does not go together."""
     return Settings(
-        scale=asked.scale, faces=asked.faces, edge=None if asked.edge is None else as_length(asked.edge),
-        within=asked.within, mode=asked.mode, density=asked.density, floor=asked.floor, weight=asked.weight,
-        sharp=asked.sharp, keep=tuple(asked.keep_edges or ()), corners=asked.corners, coarse=asked.coarse,
-        subdivide=asked.subdivide, mirror=asked.mirror, round=asked.round, relax=asked.relax, jobs=asked.jobs,
-        folder=asked.keep, carry=asked.carry, free_groups=asked.free_groups)
+        scale=asked.scale, faces=asked.faces, share=shares_of(asked.lods)[0] if asked.lods else None,
+        edge=None if asked.edge is None else as_length(asked.edge), within=asked.within, mode=asked.mode,
+        density=asked.density, floor=asked.floor, weight=asked.weight, sharp=asked.sharp,
+        keep=tuple(asked.keep_edges or ()), corners=asked.corners, coarse=asked.coarse, subdivide=asked.subdivide,
+        mirror=asked.mirror, round=asked.round, relax=asked.relax, jobs=asked.jobs, folder=asked.keep,
+        carry=asked.carry, free_groups=asked.free_groups)
 
 
 def refuse_missing(settings: Settings, program: Program) -> None:
@@ -170,29 +176,50 @@ def _single(asked: argparse.Namespace, settings: Settings, program: Program) -> 
     source, out = map(Path, asked.paths)
     refuse_format(out)
     progress = Progress(is_quiet=asked.quiet)
+    told: list[tuple[Path, Report]] = []
     try:
-        result, _ = one_file(source, out, settings, program, progress.tell)
-        if asked.report is not None:
-            progress.tell("drawing pictures", 0, 1)
-            write_whole(asked.report, result_page(source.name, result, program, asked.up).encode())
+        for level, (path, result) in enumerate(_results(asked, source, out, settings, program, progress), 1):
+            told.append((path, result.report))
+            if asked.report is not None:
+                progress.tell("drawing pictures", 0, 1)
+                page = path_of(asked.report, level) if asked.lods else asked.report
+                write_whole(page, result_page(source.name, result, program, asked.up).encode())
     except Refusal as said:
         if asked.report is not None:
             _report_refusal(asked, source, said)
         raise
     except Stopped:
-        remove_stale(out, source)
+        if not asked.lods:
+            remove_stale(out, source)
         raise
     finally:
         progress.end()
-    report = result.report
-    if not asked.quiet:
+        for path, report in told:
+            _say(path if asked.lods else None, report, asked.quiet)
+    return 0
+
+
+def _results(
+    asked: argparse.Namespace, source: Path, out: Path, settings: Settings, program: Program, progress: Progress
+) -> Iterator[tuple[Path, Result]]:
+    """The files that are written, each with its remesh."""
+    if asked.lods:
+        yield from level_files(source, out, shares_of(asked.lods), settings, program, progress.tell)
+    else:
+        yield out, one_file(source, out, settings, program, progress.tell)[0]
+
+
+def _say(path: Optional[Path], report: Report, is_quiet: bool) -> None:
+    """Prints what a remesh came to; of several with the name of its file."""
+    if not is_quiet:
+        if path is not None:
+            print(path)
         for label, value in report.facts():
             print(f"{label:<34}{value:>12}")
         for label, before, after in report.table():
             print(f"{label:<34}{before:>12}{after:>14}")
     for warning in report.warnings:
         print(f"{NAME}: warning: {warning}", file=sys.stderr)
-    return 0
 
 
 def _report_refusal(asked: argparse.Namespace, source: Path, said: Refusal) -> None:

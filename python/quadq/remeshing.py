@@ -50,6 +50,7 @@ def remesh(
     *,
     scale: Union[Fraction, float, str, None] = None,
     faces: Optional[int] = None,
+    share: Union[Fraction, float, str, None] = None,
     edge: Union[Decimal, float, str, None] = None,
     within: Optional[float] = None,
     mode: str = "shape",
@@ -78,16 +79,17 @@ def remesh(
     """The mesh remeshed part by part. Each part was accepted by `check`, or by `map` where another command wrote it.
 
     `scale` is how long each edge of the patches is to be, as a part of its old length; or `faces` is how many faces the
-    mesh is to have, or `edge` how long edges are to be, or `within` how far the new mesh may be from the old one, in
-    the unit of the mesh. `sharp` and `keep` tell which edges stay. `density` is how many times denser faces are to be
-    at each point (points,), or where that stands. The other wishes are those of `Settings`. `text` is the OBJ text that
-    the mesh was read from, if it is at hand: then the certificate is of it. `timeout` is how many seconds the program
-    may take. Raises a `Refusal` that names the place, a `WishError` for wrong wishes, and a `MeshError` for arrays that
-    are no mesh, or a text of another one.
+    mesh is to have, `share` which part of those that it has, `edge` how long edges are to be, or `within` how far the
+    new mesh may be from the old one, in the unit of the mesh. `sharp` and `keep` tell which edges stay. `density` is
+    how many times denser faces are to be at each point (points,), or where that stands. The other wishes are those of
+    `Settings`. `text` is the OBJ text that the mesh was read from, if it is at hand: then the certificate is of it.
+    `timeout` is how many seconds the program may take. Raises a `Refusal` that names the place, a `WishError` for wrong
+    wishes, and a `MeshError` for arrays that are no mesh, or a text of another one.
     """
     settings = Settings(
         scale=None if scale is None else as_scale_wish(scale), faces=faces,
-        edge=None if edge is None else as_length(edge), within=within, mode=mode,
+        share=None if share is None else as_scale_wish(share), edge=None if edge is None else as_length(edge),
+        within=within, mode=mode,
         density=density if density is None or isinstance(density, str) else GIVEN, floor=floor, weight=weight,
         sharp=sharp, keep=tuple(keep), corners=corners, coarse=coarse, subdivide=subdivide, mirror=mirror,
         symmetry=symmetry, round=round, relax=relax, jobs=jobs, folder=folder, carry=carry, free_groups=free_groups,
@@ -105,6 +107,7 @@ def run(
 ) -> Result:
     """`remesh` with settings that are made already, of a mesh that was read from the text. Meshes of small or great
     units are scaled for the program, and back."""
+    settings = settings.for_faces(mesh.face_count)
     if settings.needs_fit and not program.has_fit():
         raise WishError(f"{settings.in_words} want the command `{FIT}`, which this program does not have")
     if settings.density is not None:

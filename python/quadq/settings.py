@@ -22,10 +22,12 @@ LEAST = Decimal("0.000001")
 
 @dataclass(frozen=True)
 class Settings:
-    """How a mesh is to be remeshed. One of `scale`, `faces`, `edge` and `within` is given."""
+    """How a mesh is to be remeshed. One of `scale`, `faces`, `share`, `edge` and `within` is given."""
 
     scale: Optional[Fraction] = None
     faces: Optional[int] = None
+    share: Optional[Fraction] = None
+    """Which part of its faces the mesh is to have: a level of detail."""
     edge: Optional[Decimal] = None
     """How long edges are to be, in the unit of the mesh."""
     within: Optional[float] = None
@@ -75,8 +77,12 @@ class Settings:
             object.__setattr__(self, "scale", as_scale_wish(self.scale))
         if self.edge is not None and not isinstance(self.edge, Decimal):
             object.__setattr__(self, "edge", as_length(self.edge))
-        if [self.scale, self.faces, self.edge, self.within].count(None) != 3:
-            raise WishError("one of scale, faces, edge and within has to be given")
+        if self.share is not None and not isinstance(self.share, Fraction):
+            object.__setattr__(self, "share", as_scale_wish(self.share))
+        if [self.scale, self.faces, self.share, self.edge, self.within].count(None) != 4:
+            raise WishError("one of scale, faces, share, edge and within has to be given")
+        if self.share is not None and not 0 < self.share <= LARGEST:
+            raise WishError(f"a level of detail has to be a part of the faces above 0, and is {self.share}")
         if self.mode not in MODES:
             raise WishError(f"the mode has to be of {', '.join(MODES)}, and is {self.mode}")
         if self.within is not None and not 0 < self.within < float(FAR):
@@ -142,6 +148,12 @@ class Settings:
         told = [("edges that stay", self.is_creased), ("merged patches", self.coarse), ("a length of edges", self.edge),
                 ("a distance", self.within), ("a density", self.density), ("even edges", self.mode == "even")]
         return " and ".join(name for name, is_asked in told if is_asked)
+
+    def for_faces(self, count: int) -> Settings:
+        """The same where a mesh has so many faces: a part of them is a number."""
+        if self.share is None:
+            return self
+        return replace(self, share=None, faces=max(1, round(self.share * count)))
 
     def times(self, factor: float) -> Settings:
         """The same for a mesh that is so many times as large. Raises a `WishError` where its edges are too short."""

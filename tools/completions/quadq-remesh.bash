@@ -6,6 +6,7 @@ _quadq_remesh() {
         --scale) return ;;
         --faces) return ;;
         --edge) return ;;
+        --lods) return ;;
         --within) return ;;
         --mode) mapfile -t COMPREPLY < <(compgen -W "shape scale even" -- "$word"); return ;;
         --density) return ;;
@@ -25,7 +26,7 @@ _quadq_remesh() {
         --jobs) return ;;
     esac
     case $word in
-        -*) mapfile -t COMPREPLY < <(compgen -W "-h --help --scale --faces --edge --within --mode --even --density --floor --weight --sharp --materials --groups --seams --normals --lines --no-corners --free-groups --coarse --subdivide --mirror --round --relax --keep --report --up --carry --out --table --log --resume --recursive --pattern --timeout --jobs --quiet --version" -- "$word") ;;
+        -*) mapfile -t COMPREPLY < <(compgen -W "-h --help --scale --faces --edge --lods --within --mode --even --density --floor --weight --sharp --materials --groups --seams --normals --lines --no-corners --free-groups --coarse --subdivide --mirror --round --relax --keep --report --up --carry --out --table --log --resume --recursive --pattern --timeout --jobs --quiet --version" -- "$word") ;;
     esac
 }
 complete -o bashdefault -o default -F _quadq_remesh quadq-remesh
