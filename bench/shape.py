@@ -1,0 +1,117 @@
+#!/usr/bin/env python3
+"""Compares what meshes become at 1/2, 1/4, 1/8 and 1/16 of their faces: by one scale, by shape, and by QuadriFlow and
+Decimate (un-subdivide) of Blender.
+
+usage: bench/shape.py [--no-blender] [--rows FILE.csv] MESH.obj..
+
+It prints a row a mesh and a number, of each way: faces, the mean and the greatest distance of both meshes, in
+thousandths of the diagonal of the box; the least and the mean scaled Jacobian; inverted faces; irregular vertices.
+Behind them stands how often a number is met within a hundredth, and how often shape has no more inverted faces, or a
+smaller greatest distance, than scale. It wants numpy, a program with `fit`, which QUADQ may name, and Blender.
+"""
+import argparse
+import csv
+import os
+import pathlib
+import subprocess
+import sys
+import tempfile
+
+from measuring import ROOT, name_of
+
+sys.path.insert(0, f"{ROOT}/python")
+import quadq  # noqa: E402
+from quadq.mesh import Mesh  # noqa: E402
+from quadq.quality import jacobians_of  # noqa: E402
+from quadq.surface import irregular_counts  # noqa: E402
+
+SHARES = (2, 4, 8, 16)
+ITERATIONS = {2: 1, 4: 2, 8: 3, 16: 4}
+"""How often Decimate takes out each second line."""
+SECONDS = 600
+HEAD = ("mesh", "way", "wished", "faces", "mean", "greatest", "least J", "mean J", "inverted", "irregular")
+FORM = "{:<26} {:<10} {:>7} {:>7} {:>8} {:>9} {:>7} {:>7} {:>8} {:>9}"
+
+
+def measured(old, new, wished):
+    """The figures of a new mesh beside those of the old one."""
+    quads = new if new.is_quads() else quadq.subdivide(new)
+    diagonal = float(((old.points[old.used].max(axis=0) - old.points[old.used].min(axis=0)) ** 2).sum() ** 0.5)
+    ways = quadq.distance_between(quads, old), quadq.distance_between(old, quads)
+    chosen = [it for it in range(new.face_count) if new.sides[it] == 4]
+    shapes = jacobians_of(new.points[new.faces_of(chosen)[1]][new.faces_of(chosen)[0].quads])
+    return [wished, new.face_count, round(500 * sum(it.mean for it in ways) / diagonal, 4),
+            round(1000 * max(it.greatest for it in ways) / diagonal, 3), round(float(shapes.min(initial=1)), 3),
+            round(float(shapes.mean()), 3), int((shapes < 0).sum()), sum(irregular_counts(quads))]
+
+
+def by_quadq(old, wished, mode):
+    try:
+        return quadq.remesh(old, faces=wished, mode=mode).mesh
+    except quadq.Refusal as said:
+        print(f"quadq {mode} at {wished}: {said}", file=sys.stderr)
+        return None
+
+
+def by_blender(mesh, counts, folder):
+    """The meshes that Blender makes, by way and wished number."""
+    words = ["blender", "--background", "--factory-startup", "--python", f"{ROOT}/bench/remeshers.py", "--", mesh,
+             folder, ",".join(map(str, counts.values())), ",".join(map(str, ITERATIONS.values()))]
+    try:
+        subprocess.run(words, stdout=subprocess.DEVNULL, stderr=subprocess.DEVNULL, timeout=SECONDS, check=False)
+    except subprocess.TimeoutExpired:
+        print(f"Blender took more than {SECONDS} s for {mesh}", file=sys.stderr)
+    found = {}
+    for share, count in counts.items():
+        for way, path in (("quadriflow", f"quadriflow-{count}"), ("decimate", f"decimate-{ITERATIONS[share]}")):
+            if os.path.exists(f"{folder}/{path}.obj"):
+                found[way, share] = quadq.read(f"{folder}/{path}.obj", polygons=True)
+    return found
+
+
+def rows_of(path, with_blender):
+    old = quadq.read(str(path))
+    counts = {share: max(1, round(old.face_count / share)) for share in SHARES}
+    with tempfile.TemporaryDirectory() as folder:
+        others = by_blender(str(path), counts, folder) if with_blender else {}
+    for share, wished in counts.items():
+        made = {mode: by_quadq(old, wished, mode) for mode in ("scale", "shape")}
+        made.update({way: others[way, share] for way in ("quadriflow", "decimate") if (way, share) in others})
+        for way, new in made.items():
+            if isinstance(new, Mesh) and new.face_count:
+                yield [name_of(path), way, *measured(old, new, wished)]
+
+
+def summary(rows):
+    """How shape does beside scale, and how often numbers are met."""
+    by_way = {}
+    for it in rows:
+        by_way.setdefault(it[1], {})[it[0], it[2]] = it
+    for way, some in by_way.items():
+        met = sum(abs(it[3] - it[2]) <= 0.01 * it[2] for it in some.values())
+        print(f"{way}: {met} of {len(some)} within a hundredth")
+    both = [(it, by_way["shape"][key]) for key, it in by_way.get("scale", {}).items() if key in by_way.get("shape", {})]
+    print(f"shape: inverted no more in {sum(b[8] <= a[8] for a, b in both)}, nearer or as near at most in "
+          f"{sum(b[5] <= a[5] for a, b in both)}, on average in {sum(b[4] <= a[4] for a, b in both)} of {len(both)}")
+
+
+def main():
+    parser = argparse.ArgumentParser(usage=__doc__.partition("usage: ")[2].partition("\n")[0])
+    parser.add_argument("meshes", nargs="+", type=pathlib.Path)
+    parser.add_argument("--no-blender", action="store_true")
+    parser.add_argument("--rows", type=pathlib.Path)
+    asked = parser.parse_args()
+    print(FORM.format(*HEAD))
+    rows = []
+    for mesh in asked.meshes:
+        for row in rows_of(mesh, not asked.no_blender):
+            rows.append(row)
+            print(FORM.format(*map(str, row)), flush=True)
+    summary(rows)
+    if asked.rows:
+        with asked.rows.open("w", newline="") as file:
+            csv.writer(file).writerows([HEAD, *rows])
+
+
+if __name__ == "__main__":
+    main()
