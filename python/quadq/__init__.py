@@ -21,6 +21,8 @@ from .block_files import write_blocks
 from .blocks import Block, Blocks, Link, blocks
 from .checking import Checked, Fault, check
 from .conforming import conforming
+from .conversions import (
+    MeshLike, as_mesh, from_meshio, from_pyvista, from_trimesh, to_meshio, to_pyvista, to_trimesh)
 from .errors import FormatError, MeshError, QuadqError, WishError
 from .files import write_whole
 from .formats import bytes_of, left_out, read_file
@@ -44,9 +46,10 @@ from .version import VERSION
 __all__ = [
     "Block", "Blocks", "Books", "Checked", "Counts", "Cut", "Distance", "Fault", "FormatError", "Layer", "Link", "Map",
     "Mesh", "MeshError", "Names", "Notice", "Program", "QuadqError", "Quality", "Refusal", "Report", "Result", "Row",
-    "Settings", "WishError", "areas", "areas_under", "blocks", "check", "conforming", "distance_between",
-    "find_features", "graph", "layout", "map", "quality_of", "read", "read_obj", "refine", "refusal_page", "remesh",
-    "remesh_files", "result_page", "scaled_jacobians", "subdivide", "transfer", "write", "write_blocks", "write_obj",
+    "Settings", "WishError", "areas", "areas_under", "as_mesh", "blocks", "check", "conforming", "distance_between",
+    "find_features", "from_meshio", "from_pyvista", "from_trimesh", "graph", "layout", "map", "quality_of", "read",
+    "read_obj", "refine", "refusal_page", "remesh", "remesh_files", "result_page", "scaled_jacobians", "subdivide",
+    "to_meshio", "to_pyvista", "to_trimesh", "transfer", "write", "write_blocks", "write_obj",
 ]
 
 __version__ = VERSION
@@ -63,8 +66,9 @@ def read(path: Union[str, os.PathLike[str]], *, polygons: bool = False, program:
     return read_file(Path(path), Program() if program is None else program, polygons)[0]
 
 
-def write(path: Union[str, os.PathLike[str]], mesh: Mesh) -> tuple[str, ...]:
+def write(path: Union[str, os.PathLike[str]], mesh: MeshLike) -> tuple[str, ...]:
     """Writes a mesh as a whole file, in the format that its name says, and returns what the format has no word for, in
     words. Raises a `Refusal` where that fails, and a `WishError` for a format that is not written."""
-    write_whole(Path(path), bytes_of(Path(path), mesh))
-    return left_out(Path(path), mesh)
+    made = as_mesh(mesh)
+    write_whole(Path(path), bytes_of(Path(path), made))
+    return left_out(Path(path), made)

@@ -8,6 +8,7 @@ from typing import Iterator, Optional, Sequence
 import numpy as np
 
 from .arrays import Array
+from .conversions import MeshLike, as_mesh
 from .errors import WishError
 from .graphs import Cut, graph, layout, text_with_lines, words_of_cut
 from .groups import edges_by_group
@@ -123,13 +124,14 @@ class Blocks:
 
 
 def blocks(
-    mesh: Mesh, by: int = 1, *, keep: str = "none", patches: str = "traced", program: Optional[Program] = None
+    mesh: MeshLike, by: int = 1, *, keep: str = "none", patches: str = "traced", program: Optional[Program] = None
 ) -> Blocks:
     """The patches of a mesh of quads as blocks, each edge of the mesh divided in so many. Walls have the names of the
     groups of their edges. What is kept, and other patches than traced ones, need the program's command `grids`. Raises
     a `WishError` and a `Refusal`."""
     if not 1 <= by <= LARGEST:
         raise WishError(f"edges are divided in 1 to {LARGEST}, and not in {by}")
+    mesh = as_mesh(mesh)
     mesh.refuse_strange()
     runner = Program() if program is None else program
     factor = factor_of(mesh)

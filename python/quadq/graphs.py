@@ -8,6 +8,7 @@ from typing import Iterable, Optional
 import numpy as np
 
 from .arrays import Array
+from .conversions import MeshLike, as_mesh
 from .errors import WishError
 from .mesh import Mesh
 from .obj_writing import number_lines, plain_text
@@ -54,17 +55,19 @@ class Cut:
         return f"<quadq.Cut: {len(self.sizes)} patches, {len(self.arcs)} arcs, euler {self.euler}>"
 
 
-def graph(mesh: Mesh, *, program: Optional[Program] = None) -> Cut:
+def graph(mesh: MeshLike, *, program: Optional[Program] = None) -> Cut:
     """The motorcycle graph of a mesh of quads and its patches. Raises a `Refusal` that names the place."""
+    mesh = as_mesh(mesh)
     mesh.refuse_strange()
     text = (Program() if program is None else program).graph(plain_text(_readable(mesh)))
     patches = old_patches(mesh, text)
     return replace(read_cut(text, "quadq graph 1", mesh.used), patch_of_face=patches)
 
 
-def layout(mesh: Mesh, *, keep: str = "none", patches: str = "traced", program: Optional[Program] = None) -> Cut:
+def layout(mesh: MeshLike, *, keep: str = "none", patches: str = "traced", program: Optional[Program] = None) -> Cut:
     """The cut of a mesh of quads beside its lines, or beside none; traced, merged or conforming. Raises a `WishError`
     where the program has no command `layout`, and a `Refusal`."""
+    mesh = as_mesh(mesh)
     mesh.refuse_strange()
     runner = Program() if program is None else program
     words = words_of_cut("layout", keep, patches, runner)

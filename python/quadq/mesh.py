@@ -97,6 +97,23 @@ class Mesh:
     is_grouped: bool = False
     """Whether its names are groups that a remesh brings back, as the physical groups of gmsh."""
 
+    def __repr__(self) -> str:
+        return f"<quadq.Mesh: {self.in_words()}>"
+
+    def in_words(self) -> str:
+        """What it has, in a line."""
+        names = {name: None for it in self.groups.values() for name in it.names if name}
+        names.update({name: None for name in self.line_names if name})
+        fields = [*self.point_fields, *self.face_fields]
+        kind = "quads" if self.is_quads() else "faces"
+        more = [f"groups {', '.join(names)}" if names else "", f"fields {', '.join(fields)}" if fields else ""]
+        return "; ".join([f"{self.face_count} {kind}, {len(self.points)} points", *(it for it in more if it)])
+
+    def _repr_html_(self) -> str:
+        """What a notebook shows: a picture of the mesh."""
+        from .report import mesh_view
+        return mesh_view(self)
+
     @staticmethod
     def of_quads(points: ArrayLike, quads: ArrayLike) -> Mesh:
         """A mesh of points (points, 3) and quads (faces, 4) alone. Raises a `MeshError` for other arrays."""

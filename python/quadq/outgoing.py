@@ -52,7 +52,7 @@ class Pieces:
 def pieces_of(mesh: Mesh, suffix: str) -> Pieces:
     """A mesh as meshio takes it for a format."""
     takes = TAKES.get(suffix, (MATERIALS, POINT_FIELDS, FACE_FIELDS))
-    blocks = _triangles(mesh) if suffix in TRIANGLES else _face_blocks(mesh)
+    blocks = [("triangle", *triangles_of(mesh))] if suffix in TRIANGLES else _face_blocks(mesh)
     lines = _line_table(mesh, is_repeated=suffix == ".msh") if EDGES in takes else _Lines.none()
     cells = [(kind, data) for kind, data, _ in blocks] + ([("line", lines.pairs)] if len(lines.pairs) else [])
     of_faces = [numbers for *_, numbers in blocks]
@@ -118,8 +118,9 @@ def _face_blocks(mesh: Mesh) -> list[tuple[str, Array, Array]]:
             for first, last in zip(firsts.tolist(), [*firsts[1:].tolist(), len(sides)])]
 
 
-def _triangles(mesh: Mesh) -> list[tuple[str, Array, Array]]:
-    """The faces as triangles: quads along their shorter diagonal, others around their first corner."""
+def triangles_of(mesh: Mesh) -> tuple[Array, Array]:
+    """The faces as triangles (triangles, 3), and the number of the face that each is of: quads along their shorter
+    diagonal, others around their first corner."""
     found, numbers = [], []
     for kind, data, faces in _face_blocks(mesh):
         if kind == "quad":
@@ -129,7 +130,8 @@ def _triangles(mesh: Mesh) -> list[tuple[str, Array, Array]]:
         wide = data.shape[1]
         found.append(np.stack([data[:, [0, at, at + 1]] for at in range(1, wide - 1)], axis=1).reshape(-1, 3))
         numbers.append(np.repeat(faces, wide - 2))
-    return [("triangle", np.concatenate(found), np.concatenate(numbers))]
+    return (np.concatenate([np.zeros((0, 3), dtype=np.int64), *found]),
+            np.concatenate([np.zeros(0, dtype=np.int64), *numbers]))
 
 
 @dataclass(frozen=True)

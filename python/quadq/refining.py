@@ -8,6 +8,7 @@ from typing import Optional
 import numpy as np
 
 from .bringing import bring_over
+from .conversions import MeshLike, as_mesh
 from .errors import WishError
 from .maps import read_map
 from .mesh import Mesh
@@ -19,12 +20,13 @@ from .scaling import factor_of
 from .under import Made, under_of
 
 
-def refine(mesh: Mesh, by: int, *, program: Optional[Program] = None) -> Mesh:
+def refine(mesh: MeshLike, by: int, *, program: Optional[Program] = None) -> Mesh:
     """A mesh of quads with each edge divided in so many, with its fields and groups. New points lie between the old
     ones: no curved surface is guessed. Raises a `Refusal` that names the place, and a `WishError` for a number that is
     not from 1 to 1000."""
     if not 1 <= by <= LARGEST:
         raise WishError(f"edges are divided in 1 to {LARGEST}, and not in {by}")
+    mesh = as_mesh(mesh)
     mesh.refuse_strange()
     runner = Program() if program is None else program
     factor = factor_of(mesh)

@@ -17,6 +17,7 @@ from .attributes import map_of
 from .bringing import brought_over
 from .carrier import Carrier
 from .choosing import Chooser, Chosen
+from .conversions import MeshLike, as_mesh
 from .density import GIVEN, density_of
 from .distance import distance_between
 from .errors import WishError
@@ -46,7 +47,7 @@ Tell = Callable[[str, int, int], None]
 
 
 def remesh(
-    mesh: Mesh,
+    mesh: MeshLike,
     *,
     scale: Union[Fraction, float, str, None] = None,
     faces: Optional[int] = None,
@@ -76,7 +77,8 @@ def remesh(
     text: Optional[bytes] = None,
     tell: Tell = lambda step, done, total: None,
 ) -> Result:
-    """The mesh remeshed part by part. Each part was accepted by `check`, or by `map` where another command wrote it.
+    """The mesh remeshed part by part: a `Mesh`, a pair of points and faces, or one of another package. Each part was
+    accepted by `check`, or by `map` where another command wrote it.
 
     `scale` is how long each edge of the patches is to be, as a part of its old length; or `faces` is how many faces the
     mesh is to have, `share` which part of those that it has, `edge` how long edges are to be, or `within` how far the
@@ -95,6 +97,7 @@ def remesh(
         symmetry=symmetry, round=round, relax=relax, jobs=jobs, folder=folder, carry=carry, free_groups=free_groups,
         rescale=rescale)
     runner = (Program() if program is None else program).within(timeout)
+    mesh = as_mesh(mesh)
     mesh.refuse_strange()
     if text is not None:
         refuse_other(mesh, text, runner)

@@ -11,11 +11,12 @@ import numpy as np
 
 from .canvas import Canvas
 from .errors import FormatError
+from .features import edges_in
 from .looks import Looks, Place, places_of, shown_of
 from .mesh import Mesh
 from .obj import read_obj
 from .pages import figure, page_of, table, viewer, words
-from .pictures import View, draw, draw_place, patch_look, place_look
+from .pictures import PLAIN, Look, View, draw, draw_place, patch_look, place_look
 from .program import Program
 from .quality import scaled_jacobians
 from .refusal import Refusal
@@ -73,6 +74,16 @@ def notebook_view(result: Result, program: Optional[Program] = None) -> str:
     page = page_of("quadq", body, scene)
     return (f'<iframe srcdoc="{escape(page)}" sandbox="allow-scripts" width="100%" height="780" '
             'title="Both meshes of a remesh"></iframe>')
+
+
+def mesh_view(mesh: Mesh) -> str:
+    """A picture of a mesh for a notebook, over a line that says what it has."""
+    told = f"<p>{words(mesh.in_words())}</p>"
+    if not mesh.face_count or not np.all(np.isfinite(mesh.points)):
+        return told
+    size = (SIZE[0] // 2, SIZE[1] // 2)
+    look = Look(np.tile(PLAIN, (mesh.face_count, 1)), mesh.edges.ends[mesh.edges.uses == 1], edges_in(mesh.lines))
+    return figure(draw(mesh, look, View.of(mesh.points), size).png(), size, f"a mesh of {mesh.face_count} faces") + told
 
 
 def refusal_page(title: str, mesh: Mesh, refusal: Refusal, up: str = "y") -> str:

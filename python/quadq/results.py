@@ -206,6 +206,9 @@ class Result:
         maps = [map_of_part(part, it, self.program) for part, it in zip(self.parts, self.written)]
         return Made(self.mesh, self.old, self.ready, self.owners, under_of(self.parts, maps, self.mesh))
 
+    def __repr__(self) -> str:
+        return f"<quadq.Result: {self.report.summary()}>"
+
     def _repr_html_(self) -> str:
         """What a notebook shows: a small page with both meshes, which can be turned."""
         from .report import notebook_view
