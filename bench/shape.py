@@ -17,12 +17,13 @@ import subprocess
 import sys
 import tempfile
 
+import numpy as np
+
 from measuring import ROOT, name_of
 
 sys.path.insert(0, f"{ROOT}/python")
 import quadq  # noqa: E402
 from quadq.mesh import Mesh  # noqa: E402
-from quadq.quality import jacobians_of  # noqa: E402
 from quadq.surface import irregular_counts  # noqa: E402
 
 SHARES = (2, 4, 8, 16)
@@ -36,10 +37,9 @@ FORM = "{:<26} {:<10} {:>7} {:>7} {:>8} {:>9} {:>7} {:>7} {:>8} {:>9}"
 def measured(old, new, wished):
     """The figures of a new mesh beside those of the old one."""
     quads = new if new.is_quads() else quadq.subdivide(new)
-    diagonal = float(((old.points[old.used].max(axis=0) - old.points[old.used].min(axis=0)) ** 2).sum() ** 0.5)
+    diagonal = float(np.linalg.norm(np.ptp(old.points[old.used], axis=0)))
     ways = quadq.distance_between(quads, old), quadq.distance_between(old, quads)
-    chosen = [it for it in range(new.face_count) if new.sides[it] == 4]
-    shapes = jacobians_of(new.points[new.faces_of(chosen)[1]][new.faces_of(chosen)[0].quads])
+    shapes = quadq.scaled_jacobians(new.faces_of(np.flatnonzero(new.sides == 4))[0])
     return [wished, new.face_count, round(500 * sum(it.mean for it in ways) / diagonal, 4),
             round(1000 * max(it.greatest for it in ways) / diagonal, 3), round(float(shapes.min(initial=1)), 3),
             round(float(shapes.mean()), 3), int((shapes < 0).sum()), sum(irregular_counts(quads))]

@@ -18,13 +18,15 @@ from .program import FIT, RAISED, Wish
 from .refusal import Refusal
 from .settings import Settings
 from .targets import MOST_FACES, MOST_TRIES, TOO_FINE, Counted, Reached, nearest_scale
-from .trying import NEAR, Trials, Tried, Worth, worth_of
+from .trying import Trials, Tried, Worth, worth_of
 from .wishing import AS_BEFORE, BENT, EVEN, FLAT, Shape, Shares
 
 BY_SHAPE = Reached(None, 0, 0, "", "by shape")
 MERGED = replace(BY_SHAPE, way="by shape, with merged patches")
 Begin = Callable[[str, int], None]
 """Is told the step that begins, and how many things there are to do."""
+FARTHER, LATER = 1.5, 2
+"""Where merged patches are so much farther from the old mesh, a number is taken to be off by so many steps more."""
 SLOW = 300_000
 """Of more faces patches are not merged where that was not wished: it takes long."""
 
@@ -119,17 +121,18 @@ class Chooser:
         if self.settings.mode == "shape" and self.density is None:
             self._offer_scale(found, wished)
         shapes = self._shapes()
-        found.offer(self._multiplied(shapes, self._shares(shapes), share), BY_SHAPE)
-        if found.is_worse_by_shape():
-            found.offer(self._multiplied(shapes, [FLAT] * len(shapes), share), BY_SHAPE)
+        shares, flat = self._shares(shapes), [FLAT] * len(shapes)
+        self._offer_shape(found, shapes, shares)
+        if found.is_worse_by_shape and shares != flat and self.settings.mode == "shape":
+            self._offer_shape(found, shapes, flat)
         if found.best()[0].missed and not self.settings.coarse and self.old.face_count <= SLOW:
             merged = self._shapes(True)
-            found.offer(self._multiplied(merged, self._shares(merged), share, True), MERGED)
+            self._offer_shape(found, merged, self._shares(merged), True)
         _, tried, reached = found.best()
         self.begin("remeshing", len(self.parts))
         return _chosen(tried, replace(
-            reached, faces=self.halves * tried.faces, tries=next(self.tries) - 1, because=_reason(tried, share),
-            strayed=tried.strayed()))
+            reached, faces=self.halves * tried.faces, tries=next(self.tries) - 1, strayed=tried.strayed(),
+            because=found.reason(self.halves)))
 
     def _offer_scale(self, found: Options, wished: int) -> None:
         """One scale, as the program takes it, and with single chords changed where that misses the number."""
@@ -152,12 +155,18 @@ class Chooser:
             return [AS_BEFORE] * len(shapes)
         return [FLAT if it.is_flat else BENT for it in shapes]
 
-    def _multiplied(self, shapes: list[Shape], shares: list[Shares], wished: int, is_merged: bool = False) -> Tried:
-        is_capped = self.density is None and wished <= self.old.face_count
+    def _offer_shape(
+        self, found: Options, shapes: list[Shape], shares: list[Shares], is_merged: bool = False
+    ) -> None:
+        """Lengths by shape, as they come nearest by one multiplier, and with single chords changed."""
+        is_capped = self.density is None and found.wished <= self.old.face_count
         trials = Trials(self.shop, shapes, self._wish(is_merged), is_capped)
         lengths = [it.lengths(share) for it, share in zip(shapes, shares)]
-        found = Multiplying(trials, lengths, wished, self._begin_try).nearest()
-        return met(trials, found, wished)
+        first = Multiplying(trials, lengths, found.wished, self._begin_try).nearest()
+        found.offer(first, MERGED if is_merged else BY_SHAPE)
+        nearer = met(trials, first, found.wished)
+        if nearer is not first:
+            found.offer(nearer, MERGED if is_merged else BY_SHAPE)
 
     def _within(self, distance: float) -> Chosen:
         """The coarsest mesh that is about within a distance of the old surface, and the old one within that of it."""
@@ -177,30 +186,42 @@ class Options:
         self.found: list[tuple[Worth, Tried, Reached]] = []
 
     def offer(self, tried: Tried, reached: Reached) -> None:
-        self.found.append((worth_of(tried, self.old, self.wished), tried, reached))
+        """With merged patches that are much farther a number is hardly nearer."""
+        worth = worth_of(tried, self.old, self.wished)
+        if reached.way == MERGED.way and worth.greatest > FARTHER * self.best()[0].greatest:
+            worth = replace(worth, missed=worth.missed + LATER)
+        self.found.append((worth, tried, reached))
 
     def best(self) -> tuple[Worth, Tried, Reached]:
-        """The best; where no more faces are wished than there are, of those with no more, if any."""
-        fewer = [it for it in self.found if it[1].faces <= self.old.face_count]
-        return min(fewer if fewer and self.wished <= self.old.face_count else self.found, key=lambda it: it[0])
+        """The best of those that have no more inverted faces than the first; where no more faces are wished than there
+        are, of those with no more, if any."""
+        good = [it for it in self.found if it[0].inverted <= self.found[0][0].inverted]
+        fewer = [it for it in good if it[1].faces <= self.old.face_count]
+        return min(fewer if fewer and self.wished <= self.old.face_count else good, key=lambda it: it[0])
 
+    @property
     def is_worse_by_shape(self) -> bool:
-        """Whether the last, by shape, has more inverted faces than some other."""
-        return self.found[-1][0].inverted > min(it[0].inverted for it in self.found)
+        """Whether all that were made by shape have more inverted faces than the first."""
+        return all(it[0].inverted > self.found[0][0].inverted for it in self.found if it[2].scale is None)
+
+    def reason(self, halves: int) -> str:
+        """Why the best has not about as many faces as wished, or nothing."""
+        worth, tried, _ = self.best()
+        if not worth.missed:
+            return ""
+        nearer = [it for it in self.found if it[0].missed < worth.missed]
+        if nearer:
+            there = min(nearer, key=lambda it: it[0])
+            return (f"with {halves * there[1].faces} faces {there[0].inverted} of them are inverted, and "
+                    f"{worth.inverted} so")
+        lengths = np.concatenate(tried.lengths)
+        floors = np.repeat(tried.floors, [len(it) for it in tried.lengths])
+        short = int(np.sum(lengths <= floors))
+        if tried.faces > self.wished and 2 * short > len(lengths):
+            twice = ", and with a lower one an edge would be there twice" if int(floors.max()) > 1 else ""
+            return f"{short} of {len(lengths)} arcs are as short as the floor {int(floors.max())}{twice}"
+        return "no row of faces more or less brings it nearer"
 
 
 def _chosen(tried: Tried, reached: Reached) -> Chosen:
     return Chosen(tried.parts, tried.texts, tried.wish, reached)
-
-
-def _reason(tried: Tried, wished: int) -> str:
-    """Why a remesh has not about as many faces as wished, or nothing."""
-    if abs(tried.faces - wished) <= NEAR * wished:
-        return ""
-    lengths = np.concatenate(tried.lengths)
-    floors = np.repeat(tried.floors, [len(it) for it in tried.lengths])
-    short = int(np.sum(lengths <= floors))
-    if tried.faces > wished and 2 * short > len(lengths):
-        twice = ", and with a lower one an edge would be there twice" if int(floors.max()) > 1 else ""
-        return f"{short} of {len(lengths)} arcs are as short as the floor {int(floors.max())}{twice}"
-    return "no row of faces more or less brings it nearer"

@@ -30,6 +30,7 @@ DOUBLED = 11
 """The program's status where the new mesh would have an edge twice."""
 
 
+SQUARE = b"v 0 0 0\nv 1 0 0\nv 1 1 0\nv 0 1 0\nf 1 2 3 4\n"
 _HAS_FIT: dict[Path, bool] = {}
 
 
@@ -155,10 +156,12 @@ class Program:
         return tuple(dict.fromkeys(known))
 
     def has_fit(self) -> bool:
-        """Whether it takes all wishes together. It is asked once."""
+        """Whether it takes all wishes together, and judges what comes of that. It is asked once."""
         if self.path not in _HAS_FIT:
-            asked, _, _ = run_program(self.path, Wish(command=FIT).words(1), b"", self.until)
-            _HAS_FIT[self.path] = asked != USAGE
+            status, out, _ = run_program(self.path, Wish(command=FIT).words(1), SQUARE, self.until)
+            if status == 0:
+                status, _, _ = run_program(self.path, ["map"], b"\n".join([SQUARE, out]), self.until)
+            _HAS_FIT[self.path] = status == 0
         return _HAS_FIT[self.path]
 
     def _run(self, words: list[str], text: bytes) -> bytes:

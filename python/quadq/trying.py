@@ -2,6 +2,7 @@
 
 from __future__ import annotations
 
+import math
 from dataclasses import dataclass
 from functools import cached_property
 from typing import Optional, Sequence
@@ -68,9 +69,9 @@ class Tried:
 class Worth:
     """What counts of a remesh, the most important first. Less is better."""
 
-    inverted: int
     missed: int
-    """By how many hundredths its number of faces is off, beyond the first."""
+    """How far its number of faces is off: 0 up to a hundredth, 1 up to two, 2 up to four, and so on."""
+    inverted: int
     greatest: float
     mean: float
 
@@ -80,8 +81,8 @@ def worth_of(tried: Tried, old: Mesh, wished: Optional[int]) -> Worth:
     new = tried.mesh()
     ways = distance_between(new, old), distance_between(old, new)
     off = 0.0 if wished is None else abs(tried.faces - wished) / wished
-    return Worth(quality_of(new).inverted, int(max(0.0, off - NEAR) / NEAR + 0.999), max(it.greatest for it in ways),
-                 sum(it.mean for it in ways) / 2)
+    missed = math.ceil(math.log2(off / NEAR)) if off > NEAR else 0
+    return Worth(missed, quality_of(new).inverted, max(it.greatest for it in ways), sum(it.mean for it in ways) / 2)
 
 
 class Trials:
