@@ -24,7 +24,7 @@ from .refusal import READ_FAULT, WRITE_FAULT, Refusal
 from .report import refused_page, result_page
 from .results import Report, Result
 from .rows import Row, summary_of
-from .settings import MODES, Settings, as_length
+from .settings import MODES, SYMMETRIES, Settings, as_length
 from .stopping import Stopped, stopped_by_signals
 from .version import VERSION, version_lines
 
@@ -73,6 +73,8 @@ def parser_of_words() -> argparse.ArgumentParser:
     parser.add_argument("--coarse", action="store_true", help="merge patches where they have a whole side in common")
     parser.add_argument("--subdivide", action="store_true", help="divide all faces into quads first")
     parser.add_argument("--mirror", choices=["x", "y", "z"], help="remesh the half above 0, and mirror it")
+    parser.add_argument("--symmetry", choices=SYMMETRIES, help="whether a mesh that is its own mirror image about 0 "
+                        "stays so, each half with what it carries; where faces go by shape it does if nothing is said")
     parser.add_argument("--round", action="store_true", help="put new points on a curved surface behind the old faces")
     parser.add_argument("--relax", type=int, default=0, metavar="N", help="move points so many times along the surface")
     parser.add_argument("--keep", type=Path, metavar="FOLDER", help="keep the old and new text of each part there")
@@ -160,8 +162,8 @@ def settings_of(asked: argparse.Namespace) -> Settings:
         edge=None if asked.edge is None else as_length(asked.edge), within=asked.within, mode=asked.mode,
         density=asked.density, floor=asked.floor, weight=asked.weight, sharp=asked.sharp,
         keep=tuple(asked.keep_edges or ()), corners=asked.corners, coarse=asked.coarse, subdivide=asked.subdivide,
-        mirror=asked.mirror, round=asked.round, relax=asked.relax, jobs=asked.jobs, folder=asked.keep,
-        carry=asked.carry, free_groups=asked.free_groups)
+        mirror=asked.mirror, symmetry=asked.symmetry, round=asked.round, relax=asked.relax, jobs=asked.jobs,
+        folder=asked.keep, carry=asked.carry, free_groups=asked.free_groups)
 
 
 def refuse_missing(settings: Settings, program: Program) -> None:

@@ -87,3 +87,11 @@ def _with_image(layer: Layer, axis: Optional[int] = None) -> Layer:
     mirrored[:, axis] *= -1
     rows = np.where(rows == NONE, NONE, rows + len(mirrored))
     return Layer(np.concatenate([layer.values, mirrored]), np.concatenate([layer.rows, rows]))
+
+
+def both_names(one: Names, other: Names) -> Names:
+    """The names of the faces of one mesh and behind them those of another."""
+    place: dict[str, int] = {}
+    tables = [np.array([place.setdefault(it, len(place)) for it in names.names], dtype=np.int64)[names.of_face]
+              for names in (one, other)]
+    return Names(tuple(place), np.concatenate(tables))

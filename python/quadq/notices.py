@@ -90,8 +90,8 @@ def _of_shape(report: Report) -> Iterator[Notice]:
         yield Notice("distance", f"the new mesh is up to {report.greatest_distance:.4g} from the old one, {part:.2g}% "
                      "of its diagonal: --sharp 30 or more faces bring them nearer")
     for axis in report.mirrors:
-        yield Notice("mirror", f"the mesh was its own mirror image along {axis}, and is not any more: --mirror {axis} "
-                     "keeps that, where the mirror plane is at 0")
+        yield Notice("mirror", f"the mesh was its own mirror image along {axis}, and is not any more: --symmetry "
+                     f"{axis} keeps that, where the mirror plane is at 0 and no face crosses it")
 
 
 def _of_losses(report: Report) -> Iterator[Notice]:

@@ -25,6 +25,7 @@ from .features import ANGLE, mark_features
 from .groups import marks_of_groups, with_meetings
 from .losses import SHARP, dropped_of, lost_edges, lost_mirrors
 from .mesh import NONE, Mesh
+from .notices import counted
 from .obj_writing import plain_text
 from .parts import NO_MARKS, Part, Workshop, Written, keep, put_together, split
 from .patches import patches_under
@@ -39,8 +40,8 @@ from .scaling import factor_of, mean_edge
 from .settings import Settings, as_length, as_scale_wish
 from .subdivision import at_divided
 from .subdivision import subdivide as subdivided
-from .symmetry import Image, image_of
 from .surface import irregular_counts
+from .symmetry import Image, SeamOpens, image_of, named_as_image, refuse_open_seam, why_none
 
 Tell = Callable[[str, int, int], None]
 """Is told the step, how many things are done, and how many there are."""
@@ -147,7 +148,7 @@ class _Work:
     ) -> None:
         self.mesh = mesh
         self.settings = settings
-        self.density = density
+        self.given = self.density = density
         self.program = program
         self.tell = tell
         self.step = ""
@@ -160,6 +161,8 @@ class _Work:
         """The mesh of quads: divided, where that was wished."""
         self.image: Optional[Image] = None
         """Its mirror image in itself, where its symmetry is kept."""
+        self.said = ""
+        """Why it is not."""
         self.shop = Workshop(program, settings.jobs or os.cpu_count() or 1, self._tell_parts)
 
     def _begin(self, step: str, total: int = 1) -> None:
@@ -173,6 +176,9 @@ class _Work:
     def result(self, text: Optional[bytes]) -> Result:
         try:
             return self._result(text)
+        except SeamOpens as opens:
+            self.settings, self.said = replace(self.settings, symmetry="off"), str(opens)
+            return self._result(text)
         except Refusal as said:
             if self.ready is self.mesh:
                 raise
@@ -183,6 +189,8 @@ class _Work:
         parts = self._parts(text)
         chosen = Chooser(parts, self.settings, self.shop, self._begin, self.density, self._halves()).chosen()
         parts = chosen.parts
+        if self.image is not None and self.settings.symmetry is None and chosen.reached.because:
+            raise SeamOpens(f"two halves would have {chosen.reached.faces} faces: {chosen.reached.because}")
         self._begin("checking", len(parts))
         written = self.shop.judge(parts, chosen.texts, chosen.wish)
         if self.settings.folder is not None:
@@ -203,10 +211,9 @@ class _Work:
         if self.settings.subdivide:
             ready, text = divided(mesh, self.program), None
             mesh = self.ready = ready
-            self.density = None if self.density is None else at_divided(self.mesh, self.density)
+            self.density = None if self.given is None else at_divided(self.mesh, self.given)
         _refuse_polygons(mesh)
-        if self.settings.symmetry is not None:
-            self.image = image_of(mesh, self.settings.symmetry)
+        self._find_image(mesh)
         marks, axis = self._marks(mesh), self._axis()
         if axis is None:
             # `crease` would take the lines of the file as marks.
@@ -216,6 +223,15 @@ class _Work:
         at = at[np.all(points[at] == marks, axis=1)]
         parts = split(one, None, at[one.edges.numbers_of(at) != NONE])
         return [replace(it, faces=faces[it.faces], points=points[it.points]) for it in parts]
+
+    def _find_image(self, mesh: Mesh) -> None:
+        """Finds the mirror image of the mesh of quads in itself, where it is to stay so."""
+        settings, self.image = self.settings, None
+        is_wished = settings.symmetry is not None or (settings.is_by_shape and self.program.has_fit())
+        if is_wished and settings.symmetry != "off" and settings.mirror is None:
+            wished = settings.symmetry or "auto"
+            self.image = image_of(mesh, wished)
+            self.said = why_none(mesh, wished) if self.image is None else ""
 
     def _marks(self, mesh: Mesh) -> Array:
         """(marks, 2): the edges that are to stay, as pairs of points."""
@@ -270,7 +286,7 @@ class _Work:
         was carried over."""
         new = put_together(parts, meshes)
         if not self.settings.carry:
-            return self._whole(new), None, 0
+            return self._with_names(self._whole(new), new, parts, meshes), None, 0
         self._begin("carrying over", len(parts))
         given, axis = map_of(parts, written, meshes, self.shop), self._axis()
         if self.image is not None:
@@ -294,8 +310,33 @@ class _Work:
         try:
             self.program.tidy(plain_text(whole))
         except Refusal as said:
+            if self.image is not None:
+                raise SeamOpens(f"a half with its mirror image is no manifold: {said.line}") from said
             raise Refusal(said.status, f"with its mirror image it is no manifold: {said.line}") from said
+        if self.image is not None:
+            refuse_open_seam(self.ready, whole)
         return whole
+
+    def _with_names(self, whole: Mesh, half: Mesh, parts: list[Part], meshes: list[Mesh]) -> Mesh:
+        """The whole mesh, of which the image has the names of its own half."""
+        image = self.image
+        if image is None or not self.ready.groups:
+            return whole
+        other = put_together([named_as_image(image, it, self.ready) for it in parts], meshes)
+        words = [it for it in half.groups if it in other.groups]
+        return replace(whole, groups={it: mirroring.both_names(half.groups[it], other.groups[it]) for it in words})
+
+    def _dropped(self, parts: list[Part]) -> tuple[tuple[str, str], ...]:
+        """What the old mesh had and the new one does not: kinds of notices, and their words."""
+        gone = self.ready.face_count - sum(it.mesh.face_count for it in parts)
+        found = dropped_of(self.mesh, self.settings)
+        if self.said:
+            found += (("asymmetric", f"the whole was remeshed, and not one half: {self.said}"),)
+        if self.settings.mirror is not None and gone:
+            found += (("mirror-half", f"{counted(gone, 'face')} beyond the mirror plane gave way to the image of the "
+                       f"others, with what they carried; --symmetry {self.settings.mirror} keeps that of a mesh that "
+                       "is its own mirror image"),)
+        return found
 
     def _report(self, new: Mesh, chosen: Chosen, parts: list[Part], written: list[Written]) -> Report:
         self._begin("measuring")
@@ -326,7 +367,7 @@ class _Work:
             diagonal=float(np.linalg.norm(np.ptp(self.mesh.points[self.mesh.used], axis=0))),
             sharp=lost_edges(old, new, after.mean_edge, self.sharp),
             mirrors=lost_mirrors(old, new),
-            dropped=dropped_of(self.mesh, self.settings),
+            dropped=self._dropped(parts),
             is_round=self.settings.round,
         )
 

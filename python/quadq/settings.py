@@ -15,6 +15,7 @@ from .program import FIT, LARGEST, Wish
 
 FAR = Decimal(10) ** 9
 """Edges are shorter than this."""
+SYMMETRIES = (*mirroring.AXES, "auto", "off")
 MODES = ("shape", "scale", "even")
 LEAST = Decimal("0.000001")
 """The shortest length of edges that the program takes."""
@@ -52,7 +53,7 @@ class Settings:
     """The axis, x, y or z: the half where that coordinate is above 0 is remeshed, and mirrored."""
     symmetry: Optional[str] = None
     """The axis, or auto for the first: where the mesh is its own mirror image along it, it stays so. One half is
-    remeshed, and each half carries what it did. It goes with `carry`."""
+    remeshed, and each half carries what it did. `off` for never; None for auto where lengths are wished by shape."""
     round: bool = False
     """Whether new points are put on a curved surface behind the old polygons, which is flat across edges that stay or
     are sharp."""
@@ -104,12 +105,10 @@ class Settings:
             raise WishError("points are relaxed along the old surface or put on a round one, and not both")
         if self.mirror is not None and self.mirror not in tuple(mirroring.AXES):
             raise WishError(f"the mirror axis has to be x, y or z, and is {self.mirror}")
-        if self.symmetry is not None and self.symmetry not in (*mirroring.AXES, "auto"):
-            raise WishError(f"the axis of a symmetry has to be x, y, z or auto, and is {self.symmetry}")
-        if self.symmetry is not None and self.mirror is not None:
+        if self.symmetry is not None and self.symmetry not in SYMMETRIES:
+            raise WishError(f"the axis of a symmetry has to be x, y, z, auto or off, and is {self.symmetry}")
+        if self.symmetry not in (None, "off") and self.mirror is not None:
             raise WishError("a mesh is mirrored, or keeps its symmetry, and not both")
-        if self.symmetry is not None and not self.carry:
-            raise WishError("a symmetry is kept where what a mesh carries is carried over, and not else")
         self._check_features()
 
     def _check_features(self) -> None:
@@ -141,6 +140,11 @@ class Settings:
         is_even = self.mode == "even" and self.edge is None
         return [self.is_creased, self.coarse, self.edge is not None].count(True) > 1 or is_even or (
             self.within is not None or self.density is not None)
+
+    @property
+    def is_by_shape(self) -> bool:
+        """Whether lengths are wished by shape, if the program takes such wishes."""
+        return self.mode == "shape" and (self.faces is not None or self.within is not None)
 
     @property
     def in_words(self) -> str:

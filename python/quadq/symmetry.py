@@ -2,7 +2,7 @@
 
 from __future__ import annotations
 
-from dataclasses import dataclass
+from dataclasses import dataclass, replace
 from typing import Optional
 
 import numpy as np
@@ -11,7 +11,8 @@ from .arrays import Array
 from .losses import keys_of
 from .mesh import NONE, Mesh
 from .mirror import AXES, crossing
-from .surface import darts_between
+from .parts import Part
+from .surface import darts_between, least_in_class
 
 NEAR = 1e-5
 """A part of the mesh's size: so near is a point to the image of another that is its own."""
@@ -40,6 +41,38 @@ def image_of(mesh: Mesh, wished: str) -> Optional[Image]:
         if points is not None and darts is not None and not len(crossing(mesh, axis)):
             return Image(axis, points, darts)
     return None
+
+
+def why_none(mesh: Mesh, wished: str) -> str:
+    """Why there is no image of which a half could be remeshed, in words; nothing where none was named."""
+    for axis in range(3) if wished == "auto" else [AXES.index(wished)]:
+        points = _image_points(mesh, axis)
+        if points is not None and _image_darts(mesh, points) is not None:
+            return f"{len(crossing(mesh, axis))} faces cross the mirror plane {AXES[axis]} = 0"
+    return "" if wished == "auto" else f"the mesh is not its own mirror image about {wished} = 0"
+
+
+class SeamOpens(Exception):
+    """Where a half and its image do not hang together as the whole did, or do not come near a number of faces."""
+
+
+def refuse_open_seam(old: Mesh, new: Mesh) -> None:
+    """Raises `SeamOpens` where the boundary of the new mesh has another number of lines than that of the old one."""
+    if _rims_of(new) != _rims_of(old):
+        raise SeamOpens("a half does not meet its mirror image along all of the plane")
+
+
+def _rims_of(mesh: Mesh) -> int:
+    """How many lines the boundary has that hang together."""
+    ends = mesh.edges.ends[mesh.edges.uses == 1]
+    return len(np.unique(least_in_class(len(mesh.points), ends[:, 0], ends[:, 1])[ends[:, 0]]))
+
+
+def named_as_image(image: Image, part: Part, whole: Mesh) -> Part:
+    """A part of the half of a mesh with the names that the image of each of its faces has."""
+    faces = image.darts[4 * part.faces] // 4
+    groups = {word: replace(it, of_face=it.of_face[faces]) for word, it in whole.groups.items()}
+    return replace(part, mesh=replace(part.mesh, groups=groups))
 
 
 def _image_points(mesh: Mesh, axis: int) -> Optional[Array]:

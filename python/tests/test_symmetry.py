@@ -70,8 +70,26 @@ class Symmetry(unittest.TestCase):
         self.assertEqual((result.report.symmetry, result.mesh.face_count), ("x", 6 * 16))
         np.testing.assert_allclose(result.carrier.mixed(cube.points), result.mesh.points, atol=1e-6)
 
+    def test_names_stay_where_nothing_is_carried(self):
+        sides = two_sided(moved(grid(8, 4), -4))
+        pair = join([moved(sides, 6), moved(sides, -6)])
+        named = replace(pair, groups={"o": Names(("eye.L", "eye.R"), np.repeat([0, 1], 32))})
+        mesh = remesh(named, scale="1/2", symmetry="x").mesh
+        left = mesh.points[mesh.quads, 0].mean(axis=1) < 0
+        names = np.array(mesh.groups["o"].names)[mesh.groups["o"].of_face]
+        self.assertEqual(names.tolist(), np.where(left, "eye.R", "eye.L").tolist())
+
+    def test_why_a_whole_is_remeshed(self):
+        odd = moved(grid(9, 4), -4.5)
+        told = [it.words for it in remesh(odd, scale="1/2", symmetry="x").report.notices if it.kind == "asymmetric"]
+        self.assertIn("4 faces cross the mirror plane x = 0", told[0])
+        told = [it.words for it in remesh(grid(4, 4), scale="1/2", symmetry="y").report.notices]
+        self.assertTrue(any("not its own mirror image about y = 0" in it for it in told))
+        lost = [it.kind for it in remesh(moved(grid(8, 4), -4), scale="1/2", mirror="x").report.notices]
+        self.assertIn("mirror-half", lost)
+
     def test_wishes_that_do_not_go_together(self):
-        for wrong in ({"symmetry": "w"}, {"symmetry": "x", "mirror": "x"}, {"symmetry": "x", "carry": False}):
+        for wrong in ({"symmetry": "w"}, {"symmetry": "x", "mirror": "x"}):
             with self.assertRaises(WishError):
                 remesh(grid(4, 4), scale=1, **{"carry": True, **wrong})
 

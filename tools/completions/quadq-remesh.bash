@@ -14,6 +14,7 @@ _quadq_remesh() {
         --weight) mapfile -t COMPREPLY < <(compgen -W "plain length" -- "$word"); return ;;
         --sharp) return ;;
         --mirror) mapfile -t COMPREPLY < <(compgen -W "x y z" -- "$word"); return ;;
+        --symmetry) mapfile -t COMPREPLY < <(compgen -W "x y z auto off" -- "$word"); return ;;
         --relax) return ;;
         --keep) return ;;
         --report) return ;;
@@ -26,7 +27,7 @@ _quadq_remesh() {
         --jobs) return ;;
     esac
     case $word in
-        -*) mapfile -t COMPREPLY < <(compgen -W "-h --help --scale --faces --edge --lods --within --mode --even --density --floor --weight --sharp --materials --groups --seams --normals --lines --no-corners --free-groups --coarse --subdivide --mirror --round --relax --keep --report --up --carry --out --table --log --resume --recursive --pattern --timeout --jobs --quiet --version" -- "$word") ;;
+        -*) mapfile -t COMPREPLY < <(compgen -W "-h --help --scale --faces --edge --lods --within --mode --even --density --floor --weight --sharp --materials --groups --seams --normals --lines --no-corners --free-groups --coarse --subdivide --mirror --symmetry --round --relax --keep --report --up --carry --out --table --log --resume --recursive --pattern --timeout --jobs --quiet --version" -- "$word") ;;
     esac
 }
 complete -o bashdefault -o default -F _quadq_remesh quadq-remesh
