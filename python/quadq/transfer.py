@@ -74,7 +74,7 @@ def _on_faces(made: Made, values: Array, how: str) -> Array:
     if how == SAMPLE:
         return np.asarray(values[under.map.homes])
     over = under.overlaps
-    weights = over.parts if how == MEAN else over.parts * areas(made.ready)[over.old]
+    weights = over.parts if how == MEAN else over.parts * _areas_of_quads(made)[over.old]
     sums = _sums(over.new, weights, len(under.map.homes))
     # Under a face there may be nothing but faces without an area.
     weights = np.where(sums[over.new] > 0, weights, over.parts)
@@ -102,4 +102,13 @@ def areas_under(result: Result) -> Array:
     """(new faces,) float64: how much of the old surface lies under each new face. Where the surface is kept, in all it
     is the area of the old mesh."""
     over = result.made.under.overlaps
-    return _sums(over.new, over.parts * areas(result.ready)[over.old], result.mesh.face_count)
+    return _sums(over.new, over.parts * _areas_of_quads(result.made)[over.old], result.mesh.face_count)
+
+
+def _areas_of_quads(made: Made) -> Array:
+    """(quads,): the areas of the old quads; the pieces of a face that was divided have its area together."""
+    found = areas(made.ready)
+    if made.owners is None:
+        return found
+    sums = _sums(made.owners, found, made.old.face_count)
+    return np.asarray(found * np.divide(areas(made.old), sums, out=np.ones(len(sums)), where=sums > 0)[made.owners])

@@ -76,6 +76,10 @@ class Faces(unittest.TestCase):
         result = remesh(mesh, scale="1/3", subdivide=True)
         found = transfer(result, values, "faces", "conserve")
         self.assertAlmostEqual(areas_under(result) @ found, areas(mesh) @ values, 9)
+        bent = replace(mesh, points=mesh.points + np.sin(mesh.points[:, :1] * mesh.points[:, 1:2]) * [0, 0, 1])
+        result = remesh(bent, scale="1/2", subdivide=True)
+        found = transfer(result, values, "faces", "conserve")
+        self.assertAlmostEqual(areas_under(result) @ found / (areas(bent) @ values), 1, 12)
 
     def test_halves_of_faces_are_weighed_by_area(self):
         mesh = grid(2, 1)
