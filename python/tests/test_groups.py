@@ -85,14 +85,14 @@ class Groups(unittest.TestCase):
         new = remesh(mesh, scale="1/2").mesh
         at = new.points[new.quads].mean(axis=1)[:, 0]
         self.assertEqual(new.groups["usemtl"].of_face.tolist(), (at > 5).astype(int).tolist())
-        size = remesh(mesh, edge=2.0)
+        size = remesh(mesh, edge=2.0, free_groups=True)
         self.assertEqual(set(size.mesh.groups["g"].of_face.tolist()), {0, 1})
         self.assertIn("over-groups", [it.kind for it in size.report.notices])
 
     def test_a_group_that_is_lost_is_named(self):
         mesh = grid(12, 8)
         mesh = grouped(mesh, {}, Names(("all", "one"), (np.arange(96) == 40).astype(int)))
-        told = remesh(mesh, edge=4.0).report.notices
+        told = remesh(mesh, edge=4.0, free_groups=True).report.notices
         self.assertTrue(any(it.kind == "groups" and "one" in it.words for it in told))
 
     def test_of_polygons_and_mirrored(self):

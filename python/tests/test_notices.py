@@ -43,7 +43,7 @@ class Faces(unittest.TestCase):
             report = remesh(mesh, faces=2, **wishes).report
             self.assertLessEqual(report.after.faces, mesh.face_count)
             self.assertIn("faces", kinds_of(report))
-        self.assertIn("with the floor 1 an edge would be there twice", remesh(band(4, 1), faces=2).report.warnings[0])
+        self.assertRegex(remesh(band(4, 1), faces=2).report.warnings[0], "faces in place of 2: .* nearer")
         self.assertGreater(remesh(band(4, 1), scale="1/2").report.after.faces, 4)
 
     def test_more_than_before_and_unchanged(self):

@@ -158,9 +158,8 @@ class Remesh(unittest.TestCase):
             remesh(Mesh.of_quads(np.full((4, 3), np.nan), [[0, 1, 2, 3]]), scale=1)
         for wrong in ({}, {"scale": 1, "faces": 2}, {"scale": 0}, {"scale": "1/1001"}, {"faces": 0},
                       {"scale": 1, "floor": 4}, {"scale": 1, "mirror": "w"}, {"scale": 1, "weight": "x"},
-                      {"scale": 1, "edge": 1}, {"edge": 0}, {"edge": 1e9}, {"edge": "long"}, {"edge": 1, "sharp": 9},
-                      {"scale": 1, "sharp": 9, "coarse": True}, {"scale": 1, "keep": ["uvs"]},
-                      {"scale": 1, "sharp": -1}, {"edge": 1, "weight": "length"}, {"edge": 1, "coarse": True}):
+                      {"scale": 1, "edge": 1}, {"edge": 0}, {"edge": 1e9}, {"edge": "long"}, {"scale": 1, "keep": ["uvs"]},
+                      {"scale": 1, "sharp": -1}):
             with self.assertRaises(ValueError, msg=str(wrong)):
                 remesh(grid(1, 1), **wrong)
 
@@ -266,7 +265,7 @@ class CommandLine(unittest.TestCase):
     def test_wrong_words(self):
         for words in ((CUBE, "--scale", "1"), (CUBE, CUBE, CUBE, "--scale", "1"), (CUBE, "x.obj", "--scale", "0"),
                       (EXAMPLES, "--out", EXAMPLES, "--scale", "1"),
-                      (CUBE, "x.obj", "--edge", "1", "--coarse"), (CUBE, "x.obj", "--edge", "one"),
+                      (CUBE, "x.obj", "--edge", "one"),
                       (CUBE, "--out", "x", "--scale", "1", "--report", "x.html")):
             self.assertEqual(self.run_words(*words)[0], 2, words)
 

@@ -174,7 +174,7 @@ class CommandLine(unittest.TestCase):
                     self.assertEqual(main([f"{name}/in.obj", f"{name}/out.obj", "--faces", "100", *more]), 0)
                 count = quadq.read(folder / "out.obj").face_count
                 self.assertLess(abs(count - 100), 9, more)
-            self.assertIn("<svg", (folder / "page.html").read_text())
+            self.assertIn("quadq fit", (folder / "page.html").read_text())
 
 
 if __name__ == "__main__":
