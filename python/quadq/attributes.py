@@ -24,4 +24,5 @@ def map_of(parts: Sequence[Part], written: Sequence[Written], meshes: Sequence[M
 def dressed_as(old: Mesh, new: Mesh, text: str) -> tuple[Mesh, int]:
     """A new mesh of quads with what the old mesh carries, by the text of its map; and how many faces lie over a seam of
     the texture or a border of names."""
-    return Carrier(old, old, new, read_map(text, old, new)).dressed()
+    mesh, over = Carrier(old, old, new, read_map(text, old, new)).dressed()
+    return mesh, int(over.sum())

@@ -77,9 +77,9 @@ class Carrier:
         between which it lies."""
         return self.map.mixed(refined(self.old, values) if self.is_divided else values)
 
-    def dressed(self) -> tuple[Mesh, int]:
-        """The new mesh with the layers, names and further numbers of points of the old one; and how many faces lie over
-        a seam of the texture or a border of names."""
+    def dressed(self) -> tuple[Mesh, Array]:
+        """The new mesh with the layers, names and further numbers of points of the old one; and (new faces,) bool,
+        which faces lie over a seam of the texture or a border of names."""
         ready, homes = self.ready, self.map.homes // 4
         texture, over = self._layer(ready.texture)
         normal, _ = self._layer(ready.normal, are_directions=True)
@@ -93,7 +93,7 @@ class Carrier:
             libraries=ready.libraries,
             layers={name: it for name, it in layers.items() if it is not None},
         )
-        return mesh, int(np.sum(over | self._over_borders()))
+        return mesh, np.asarray(over | self._over_borders())
 
     def _layer(self, layer: Optional[Layer], are_directions: bool = False) -> tuple[Optional[Layer], Array]:
         if layer is None:

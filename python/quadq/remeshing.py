@@ -199,12 +199,14 @@ class _Work:
         new, carrier, over = self._put_together(parts, written, meshes)
         is_as_written = len(parts) == 1 and not (
             self._axis() is not None or self.settings.subdivide or moves or self.settings.carry or self.settings.round)
-        report = replace(self._report(new, chosen, parts, written), moves=moves, over_seams=over,
-                         symmetry="" if self.image is None else mirroring.AXES[self.image.axis])
+        symmetry = "" if self.image is None else mirroring.AXES[self.image.axis]
+        report = replace(self._report(new, chosen, parts, written), moves=moves, symmetry=symmetry,
+                         over_seams=0 if over is None else int(over.sum()))
         owners = None if self.ready is self.mesh else self.mesh.face_of_corner()
         text = written[0].text if is_as_written else None
-        return brought_over(Result(new, report, text, tuple(parts), tuple(written), self.mesh, self.ready, self.program,
-                                   owners, carrier))
+        done = Result(new, report, text, tuple(parts), tuple(written), self.mesh, self.ready, self.program, owners,
+                      carrier, over)
+        return brought_over(done)
 
     def _parts(self, text: Optional[bytes]) -> list[Part]:
         mesh = self.mesh
@@ -281,12 +283,12 @@ class _Work:
 
     def _put_together(
         self, parts: list[Part], written: list[Written], meshes: list[Mesh]
-    ) -> tuple[Mesh, Optional[Carrier], int]:
-        """The new meshes side by side, what carries over to them, and how many of their faces lie over seams of what
-        was carried over."""
+    ) -> tuple[Mesh, Optional[Carrier], Optional[Array]]:
+        """The new meshes side by side, what carries over to them, and which of their faces lie over seams of what was
+        carried over."""
         new = put_together(parts, meshes)
         if not self.settings.carry:
-            return self._with_names(self._whole(new), new, parts, meshes), None, 0
+            return self._with_names(self._whole(new), new, parts, meshes), None, None
         self._begin("carrying over", len(parts))
         given, axis = map_of(parts, written, meshes, self.shop), self._axis()
         if self.image is not None:
@@ -299,7 +301,7 @@ class _Work:
         whole = self._whole(half)
         if axis is not None:
             carrier = replace(carrier, new=whole, map=given.with_copy(mirroring.sewn(new, axis)))
-        return whole, carrier, over * self._halves()
+        return whole, carrier, np.tile(over, self._halves())
 
     def _whole(self, new: Mesh) -> Mesh:
         """The new mesh, with its mirror image where that is wished: then the whole is read by the program once more."""

@@ -199,6 +199,9 @@ class Result:
     """(quads,) int64: of a mesh that was divided, the face of the file that each is a piece of."""
     carrier: Optional[Carrier] = None
     """What carries further values over, where it was wished that the mesh carries its own."""
+    over_seams: Optional[Array] = None
+    """(faces,) bool: which faces of the new mesh lie over a seam of the texture or a border of names, where that was
+    wished."""
 
     @cached_property
     def made(self) -> Made:
