@@ -1,195 +1,227 @@
-"""Blender's meshes as those of the package, and back."""
+"""Blender's meshes as those of the package, with all that they carry, and back."""
+
+from __future__ import annotations
+
+from dataclasses import dataclass, field, replace
+from typing import Any, Generator, Optional, Sequence
 
 import bpy
 import numpy as np
 
-from .attributes import attributes_of, column
-from .quadq import Mesh, Names
+from .arrays import column, name_of, put_column
+from .objects import remove_mesh
+from .quadq import Layer, Mesh, Names, Result
+from .quadq.arrays import Array
+from .quadq.carrier import Carrier
+from .rig import Groups, ShapeKeys, copy_animation
+from .tables import ALWAYS, SKIPPED, Table, attribute_tables, built_in_tables, ends_of, uv_tables
+from .versions import can_set, corner_normals, smooth_by_angle
 
-MATERIAL, SMOOTH = "usemtl", "s"
-EDGES = ("sharp", "seams", "creases")
-"""The kinds of marked edges."""
-NEAR = 0.25
-"""A part of the length of a new edge: an old edge so near its middle is the one whose place it keeps."""
-AT_A_TIME = 1 << 20
-"""How many pairs of edges are compared together: it bounds the memory."""
+MATERIAL = "usemtl"
+KEPT = {"sharp": "sharp edges", "seams": "seams", "creases": "creases", "bevels": "bevel weights of edges",
+        "freestyle": "freestyle marks"}
+"""The kinds of marked edges that can be kept, and the words of their tables."""
+ATTRIBUTES = {"attribute crease_edge": "creases", "attribute bevel_weight_edge": "bevel weights of edges"}
+"""What two of them are from Blender 4.0 on."""
 
 
-def taken(source, kept=(), is_dressed=True):
-    """The package's mesh of an object, with the marked edges of these kinds as lines. It has UV maps, colours, weights
-    and normals, unless it is not dressed."""
-    data = source.data
+@dataclass(frozen=True)
+class Taken:
+    """All that is read of a mesh before the work begins. Nothing here is Blender's, but for the shape keys."""
+
+    mesh: Mesh
+    tables: list[Table]
+    groups: Optional[Groups] = None
+    keys: Optional[ShapeKeys] = None
+    lost: list[str] = field(default_factory=list)
+    """What cannot come over."""
+
+    def marked(self, kind: str) -> Array:
+        """(edges,) bool: the edges of the package's mesh that have a mark of this kind."""
+        found = np.zeros(len(self.mesh.edges.ends), dtype=bool)
+        for it in self.tables:
+            if ATTRIBUTES.get(it.words, it.words) == KEPT[kind]:
+                found |= it.is_marked
+        return found
+
+    def with_lines(self, kinds: Sequence[str]) -> Taken:
+        """The same, where the edges that are marked so are lines of the mesh."""
+        marked = np.zeros(len(self.mesh.edges.ends), dtype=bool)
+        for kind in kinds:
+            marked |= self.marked(kind)
+        return replace(self, mesh=replace(self.mesh, lines=tuple(self.mesh.edges.ends[marked])))
+
+
+@dataclass(frozen=True)
+class Made:
+    """What becomes of a mesh, ready to be put into Blender."""
+
+    result: Result
+    tables: list[Table]
+    normal: Optional[Layer]
+    groups: Optional[Groups]
+    keys: Optional[ShapeKeys]
+    lost: list[str]
+    seams: Optional[Array] = None
+    """(edges,) bool: those that become seams besides, at the borders of patches."""
+
+
+def taken(source: Any, data: Any, is_carried: bool = True, is_look: bool = False) -> Taken:
+    """What is read of an object and of a mesh, its own or as it looks."""
+    mesh, loops = _shape_of(data)
+    built_in = built_in_tables(data, mesh)
+    if not is_carried:
+        lost = _worn(source, data)
+        kept = [it for it in built_in if it.words in ALWAYS or it.domain == "EDGE"]
+        return Taken(_with_texture(mesh, data, uv_tables(data), loops), kept, lost=lost + _strays(data))
+    attributes, strange = attribute_tables(data, mesh)
+    uvs = uv_tables(data)
+    layers = {it.words: it.layer(loops) for it in [*uvs, *attributes] if it.domain == "CORNER" and it.is_mixed}
+    mesh = replace(_with_texture(mesh, data, uvs, loops), layers=layers, normal=_normals_of(data, loops))
+    keys = None if is_look else ShapeKeys.of(data)
+    lost = [f"attribute {it} (of a type that is not known)" for it in strange] + _strays(data)
+    if is_look and source.data.shape_keys is not None:
+        lost.append("shape keys (the mesh is taken as it looks)")
+    groups = Groups.of(source, data) if len(source.vertex_groups) else None
+    return Taken(mesh, [*built_in, *uvs, *attributes], groups, keys, lost)
+
+
+def _shape_of(data: Any) -> tuple[Mesh, Array]:
+    """The package's mesh of places, faces and materials; and the loop of each of its corners."""
     points = column(data.vertices, "co", np.float32, 3).astype(float)
     sides = column(data.polygons, "loop_total", np.int32).astype(np.int64)
     firsts = column(data.polygons, "loop_start", np.int32).astype(np.int64)
     starts = np.concatenate([[0], np.cumsum(sides)])
     loops = np.repeat(firsts - starts[:-1], sides) + np.arange(starts[-1])
     corners = column(data.loops, "vertex_index", np.int32).astype(np.int64)[loops]
-    groups = {MATERIAL: _numbers(column(data.polygons, "material_index", np.int32)),
-              SMOOTH: _numbers(column(data.polygons, "use_smooth", bool))}
-    marked = np.zeros(len(data.edges), dtype=bool)
-    for kind in set(kept) & set(EDGES):
-        marked |= edge_marks(data, kind) > 0
-    lines = tuple(ends_of(data)[marked])
-    worn = attributes_of(source, loops) if is_dressed else {}
-    return Mesh(points, corners, starts, groups=groups, lines=lines, **worn)
+    material = column(data.polygons, "material_index", np.int32).astype(np.int64)
+    names = Names(tuple(map(str, range(int(material.max(initial=0)) + 1))), material)
+    return Mesh(points, corners, starts, groups={MATERIAL: names}), loops
 
 
-def has_more(mesh):
-    """Whether a mesh carries more than one material and one smoothing, so that a map is needed to carry it over."""
-    names = any(np.any(it.of_face != it.of_face[:1]) for it in mesh.groups.values())
-    return names or mesh.texture is not None or mesh.normal is not None or mesh.extra is not None or bool(mesh.layers)
+def _with_texture(mesh: Mesh, data: Any, uvs: list[Table], loops: Array) -> Mesh:
+    """The mesh with its active UV map as texture, which tells where islands end."""
+    active = data.uv_layers.active
+    layers = [it.layer(loops) for it in uvs if active is not None and it.words == f"UV map {name_of(active)}"]
+    return replace(mesh, texture=layers[0]) if layers else mesh
 
 
-def ends_of(data):
-    """(edges, 2) int64: the vertices of edges."""
-    return column(data.edges, "vertices", np.int32, 2).astype(np.int64)
+def _normals_of(data: Any, loops: Array) -> Optional[Layer]:
+    """The layer of normals that were given by hand, or None."""
+    if not data.has_custom_normals:
+        return None
+    values = column(*corner_normals(data), np.float32, 3)
+    return Layer(values[loops].astype(float), np.arange(len(loops)))
 
 
-def edge_marks(data, kind):
-    """(edges,) float: how strongly each edge is marked so, from 0 to 1."""
-    if kind != "creases":
-        name = {"sharp": "use_edge_sharp", "seams": "use_seam"}[kind]
-        return column(data.edges, name, bool).astype(float)
-    attribute = data.attributes.get("crease_edge")
-    if attribute is not None:
-        return column(attribute.data, "value", np.float32).astype(float)
-    if edges_have_creases():
-        return column(data.edges, "crease", np.float32).astype(float)
-    return np.zeros(len(data.edges))
-
-
-def edges_have_creases():
-    """Whether this Blender keeps creases with the edges themselves, as before 4.0, and not as an attribute."""
-    return "crease" in bpy.types.MeshEdge.bl_rna.properties
-
-
-def _numbers(values):
-    return Names(tuple(map(str, range(int(values.max(initial=0)) + 1))), values.astype(np.int64))
-
-
-def made(source, result, painted):
-    """Blender's mesh of a result, with the material slots of the source. A new face has the material and the smoothing
-    that were carried over, or, where patches are painted, those of most faces of its old patch."""
-    mesh = result.mesh
-    data = bpy.data.meshes.new(source.name)
-    data.from_pydata(mesh.points.tolist(), [], mesh.quads.tolist())
-    for material in source.materials:
-        data.materials.append(material)
-    for word, name in ((MATERIAL, "material_index"), (SMOOTH, "use_smooth")):
-        data.polygons.foreach_set(name, _numbers_of_faces(result, painted, word).tolist())
-    for name in ("use_auto_smooth", "auto_smooth_angle"):
-        if hasattr(source, name):
-            setattr(data, name, getattr(source, name))
-    data.update()
-    return data
-
-
-def _numbers_of_faces(result, painted, word):
-    """(faces,): the number that each new face has for a name."""
-    if painted is None:
-        given = result.mesh.groups[word]
-        return np.array([int(it) for it in given.names], dtype=np.int64)[given.of_face]
-    old = np.concatenate([it.mesh.groups[word].of_face for it in result.parts])
-    return painted.most_of(old)[painted.of_all(result.mesh)]
-
-
-def mark_kept(source, data, lines):
-    """Marks the edges of lines as those edges of the source are marked whose places they keep."""
-    kept = {tuple(sorted(edge)) for line in lines for edge in zip(line.tolist(), line.tolist()[1:])}
-    marks = {kind: edge_marks(source, kind) for kind in EDGES}
-    marked = np.flatnonzero(sum(marks.values()) > 0)
-    if not kept or not len(marked):
-        return
-    chosen = np.array([at for at, edge in enumerate(data.edge_keys) if edge in kept])
-    new = segments_of(data)[chosen]
-    at, far = nearest_edges(new.mean(axis=1), segments_of(source)[marked])
-    near = far <= NEAR * np.linalg.norm(new[:, 1] - new[:, 0], axis=1)
-    for kind, values in marks.items():
-        put_marks(data, kind, chosen[near], values[marked][at[near]])
-
-
-def segments_of(data):
-    """(edges, 2, 3): the ends of edges."""
-    return column(data.vertices, "co", np.float32, 3)[ends_of(data)]
-
-
-def put_marks(data, kind, edges, values):
-    """Marks these edges as strongly as these values say."""
-    all_values = np.zeros(len(data.edges), dtype=np.float32)
-    all_values[edges] = values
-    if kind != "creases":
-        data.edges.foreach_set({"sharp": "use_edge_sharp", "seams": "use_seam"}[kind], (all_values > 0).tolist())
-    elif all_values.any() and edges_have_creases():
-        if "use_customdata_edge_crease" in bpy.types.Mesh.bl_rna.properties:
-            data.use_customdata_edge_crease = True
-        data.edges.foreach_set("crease", all_values)
-    elif all_values.any():
-        data.attributes.new("crease_edge", "FLOAT", "EDGE").data.foreach_set("value", all_values)
-
-
-def nearest_edges(places, edges):
-    """For each of (places, 3) the nearest of the edges (edges, 2, 3), and how far it is."""
-    start, along = edges[:, 0], edges[:, 1] - edges[:, 0]
-    square = np.maximum(np.einsum("ei,ei->e", along, along), 1e-30)
-    found, far = [], []
-    for some in np.array_split(places, -(-len(places) * len(edges) // AT_A_TIME)):
-        part = np.clip(np.einsum("pei,ei->pe", some[:, None] - start, along) / square, 0, 1)
-        distances = np.linalg.norm(some[:, None] - start - part[:, :, None] * along, axis=2)
-        found.append(distances.argmin(axis=1))
-        far.append(distances.min(axis=1))
-    return np.concatenate(found), np.concatenate(far)
-
-
-def mark_seams(data, edges):
-    """Marks edges, given as pairs of points, as seams, and leaves the others as they are."""
-    wanted = set(map(tuple, edges.tolist()))
-    chosen = [tuple(sorted(it)) in wanted for it in data.edge_keys]
-    data.edges.foreach_set("use_seam", (column(data.edges, "use_seam", bool) | chosen).tolist())
-
-
-def lost_with(source, is_carried):
-    """What an object has that its remesh does not get."""
-    data = source.data
-    has = [("shape keys", data.shape_keys)]
-    if not is_carried:
-        has += [("UV maps", data.uv_layers), ("colours", data.color_attributes), ("normals", data.has_custom_normals),
-                ("vertex groups", source.vertex_groups)]
+def _worn(source: Any, data: Any) -> list[str]:
+    """What an object has that comes over only where it is carried."""
+    own = [it for it in map(name_of, data.attributes) if not it.startswith(".")]
+    colours = list(map(name_of, data.color_attributes))
+    has = [("UV maps", len(data.uv_layers)), ("colours", len(colours)), ("vertex groups", len(source.vertex_groups)),
+           ("shape keys", data.shape_keys), ("normals", data.has_custom_normals),
+           ("attributes", set(own) - {*colours, *SKIPPED, *map(name_of, data.uv_layers)})]
     return [name for name, there in has if there]
 
 
-def put(context, source, data, replace):
-    """Gives the object its new mesh, or makes an object with it beside the source, which is hidden; returns the object
-    that has it."""
-    if replace:
-        source.data = data
-        return source
-    new = source.copy()
-    new.data = data
-    new.name = f"{source.name} quadq"
-    for collection in source.users_collection:
-        collection.objects.link(new)
-    source.select_set(False)
-    source.hide_set(True)
-    new.select_set(True)
-    context.view_layer.objects.active = new
-    return new
+def _strays(data: Any) -> list[str]:
+    """What no remesh can have: vertices and edges without faces, and what belongs to the old vertices."""
+    used = np.zeros(len(data.vertices), dtype=bool)
+    used[column(data.loops, "vertex_index", np.int32)] = True
+    ends = ends_of(data)
+    has_face = np.zeros(len(ends), dtype=bool)
+    has_face[column(data.loops, "edge_index", np.int32)] = True
+    at_edge = np.zeros(len(used), dtype=bool)
+    at_edge[ends] = True
+    counts = (("edge", "edges", int(np.sum(~has_face))), ("vertex", "vertices", int(np.sum(~used & ~at_edge))))
+    words = [f"{count} loose {one if count == 1 else many}" for one, many, count in counts if count]
+    return words + ["skin radii"] * bool(len(getattr(data, "skin_vertices", ())))
 
 
-def show_fault(context, source, said):
-    """Selects what a refusal names, in edit mode."""
-    if not said.faces and not said.vertices:
-        return
-    for it in context.selected_objects:
-        it.select_set(False)
-    source.select_set(True)
-    context.view_layer.objects.active = source
-    data = source.data
-    by_faces = bool(said.faces)
-    for items, chosen in ((data.vertices, () if by_faces else said.vertices), (data.edges, ()),
-                          (data.polygons, said.faces)):
-        marks = np.zeros(len(items), dtype=bool)
-        marks[list(chosen)] = True
-        items.foreach_set("select", marks)
-    context.tool_settings.mesh_select_mode = (not by_faces, False, by_faces)
-    bpy.ops.object.mode_set(mode="EDIT")
+def made(old: Taken, result: Result, axis: Optional[int]) -> Made:
+    """What becomes of a mesh. With an axis, what lies below 0 is a mirror image of the rest."""
+    carrier = result.carrier
+    assert carrier is not None
+    tables = [it.carried(carrier, result.mesh.layers) for it in old.tables]
+    return Made(
+        result, tables, result.mesh.normal,
+        None if old.groups is None else old.groups.carried(carrier, axis),
+        None if old.keys is None else old.keys.carried(carrier, axis),
+        old.lost + _lost_marks(old, carrier),
+    )
+
+
+def _lost_marks(old: Taken, carrier: Carrier) -> list[str]:
+    """Marked edges that no new edge follows, by kinds."""
+    found = []
+    for it in old.tables:
+        if it.domain == "EDGE":
+            marked = int(it.is_marked.sum())
+            lost = marked - it.kept(carrier)
+            if lost:
+                found.append(f"{lost} of {marked} {it.words}, along which no new edge lies")
+    return found
+
+
+def built(source: Any, it: Made) -> Generator[Any, None, None]:
+    """Makes Blender's mesh of a remesh, with the materials and settings of the old one (`source`); yields None between
+    its steps, and the mesh at last. What is made is removed where it is not waited for."""
+    data = source.copy()
+    target = None
+    try:
+        data.clear_geometry()
+        target = bpy.data.objects.new(name_of(source), data)
+        if data.shape_keys is not None:
+            target.shape_key_clear()
+        copy_animation(source, data)
+        _put_shape(data, it.result.mesh)
+        yield None
+        for table in it.tables:
+            table.put(data, table.values)
+            yield None
+        if it.seams is not None:
+            put_column(data.edges, "use_seam", column(data.edges, "use_seam", bool) | it.seams)
+        _put_active(source, data)
+        if it.normal is not None:
+            smooth_by_angle(data)
+            data.normals_split_custom_set(it.normal.values[it.normal.rows].astype(np.float32))
+            yield None
+        for some in (it.groups, it.keys):
+            if some is not None:
+                yield from some.put(target)
+    except BaseException:
+        if target is not None:
+            bpy.data.objects.remove(target)
+        remove_mesh(data)
+        raise
+    bpy.data.objects.remove(target)
+    yield data
+
+
+def _put_shape(data: Any, mesh: Mesh) -> None:
+    """Gives an empty mesh of Blender the places and faces; its edges are those of the package, in their order."""
+    ends = mesh.edges.ends
+    for items, count in (("vertices", len(mesh.points)), ("edges", len(ends)), ("loops", len(mesh.corners)),
+                         ("polygons", mesh.face_count)):
+        getattr(data, items).add(count)
+    put_column(data.vertices, "co", mesh.points.astype(np.float32))
+    put_column(data.edges, "vertices", ends.astype(np.int32))
+    put_column(data.loops, "vertex_index", mesh.corners.astype(np.int32))
+    put_column(data.loops, "edge_index", mesh.edges.of_corner.astype(np.int32))
+    put_column(data.polygons, "loop_start", mesh.starts[:-1].astype(np.int32))
+    if can_set("MeshPolygon", "loop_total"):
+        put_column(data.polygons, "loop_total", mesh.sides.astype(np.int32))
+    data.update()
+
+
+def _put_active(source: Any, data: Any) -> None:
+    """Makes those UV maps, colours and attributes active that were."""
+    if len(data.uv_layers):
+        data.uv_layers.active_index = min(max(source.uv_layers.active_index, 0), len(data.uv_layers) - 1)
+        for old, new in zip(source.uv_layers, data.uv_layers):
+            if old.active_render:
+                new.active_render = True
+    colours = data.color_attributes
+    if len(colours):
+        colours.active_color_index = source.color_attributes.active_color_index
+        colours.render_color_index = source.color_attributes.render_color_index

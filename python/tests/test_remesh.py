@@ -158,8 +158,8 @@ class Remesh(unittest.TestCase):
             remesh(Mesh.of_quads(np.full((4, 3), np.nan), [[0, 1, 2, 3]]), scale=1)
         for wrong in ({}, {"scale": 1, "faces": 2}, {"scale": 0}, {"scale": "1/1001"}, {"faces": 0},
                       {"scale": 1, "floor": 4}, {"scale": 1, "mirror": "w"}, {"scale": 1, "weight": "x"},
-                      {"scale": 1, "edge": 1}, {"edge": 0}, {"edge": 1e9}, {"edge": "long"}, {"scale": 1, "keep": ["uvs"]},
-                      {"scale": 1, "sharp": -1}):
+                      {"scale": 1, "edge": 1}, {"edge": 0}, {"edge": 1e9}, {"edge": "long"},
+                      {"scale": 1, "keep": ["uvs"]}, {"scale": 1, "sharp": -1}):
             with self.assertRaises(ValueError, msg=str(wrong)):
                 remesh(grid(1, 1), **wrong)
 
