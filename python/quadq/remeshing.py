@@ -205,7 +205,7 @@ class _Work:
         owners = None if self.ready is self.mesh else self.mesh.face_of_corner()
         text = written[0].text if is_as_written else None
         done = Result(new, report, text, tuple(parts), tuple(written), self.mesh, self.ready, self.program, owners,
-                      carrier, over)
+                      carrier, over, self.image)
         return brought_over(done)
 
     def _parts(self, text: Optional[bytes]) -> list[Part]:

@@ -16,6 +16,7 @@ from .notices import Notice, notices_of
 from .parts import Part, Written
 from .program import Program
 from .quality import Quality
+from .symmetry import Image
 from .under import Made, map_of_part, under_of
 
 
@@ -202,12 +203,14 @@ class Result:
     over_seams: Optional[Array] = None
     """(faces,) bool: which faces of the new mesh lie over a seam of the texture or a border of names, where that was
     wished."""
+    image: Optional[Image] = None
+    """The old mesh's image in itself, where its symmetry was kept."""
 
     @cached_property
     def made(self) -> Made:
         """Both meshes, and where the new one lies in the old one, by the maps of its parts."""
         maps = [map_of_part(part, it, self.program) for part, it in zip(self.parts, self.written)]
-        return Made(self.mesh, self.old, self.ready, self.owners, under_of(self.parts, maps, self.mesh))
+        return Made(self.mesh, self.old, self.ready, self.owners, under_of(self.parts, maps, self.mesh, self.image))
 
     def __repr__(self) -> str:
         return f"<quadq.Result: {self.report.summary()}>"

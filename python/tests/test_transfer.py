@@ -56,6 +56,23 @@ class Points(unittest.TestCase):
         heights = transfer(result, mesh.points[mesh.quads].mean(axis=1)[:, 1], "faces")
         np.testing.assert_allclose(heights, result.mesh.points[result.mesh.quads].mean(axis=1)[:, 1])
 
+    def test_where_a_symmetry_is_kept_each_half_has_its_own(self):
+        mesh = moved(grid(8, 4), -4)
+        mesh = replace(mesh, face_fields={"n": np.arange(32.0)})
+        result = remesh(mesh, scale="3/2", symmetry="x", carry=True)
+        np.testing.assert_allclose(transfer(result, mesh.points @ [1, 2, 0]), result.mesh.points @ [1, 2, 0], atol=1e-5)
+        found = result.mesh.face_fields["n"]
+        self.assertAlmostEqual(areas_under(result) @ found, areas(mesh) @ mesh.face_fields["n"], 9)
+        at = result.mesh.points[result.mesh.quads].mean(axis=1)[:, 0]
+        columns = transfer(result, np.arange(32) % 8, "faces", "sample")
+        self.assertLess(np.abs(columns - (at + 3.5)).max(), 0.6)
+        rim = result.mesh.edges.uses == 1
+        over = result.made.under.overlaps
+        new, old = (it.points[it.edges.ends[it.edges.of_corner[darts]]].mean(axis=1)
+                    for it, darts in ((result.mesh, over.darts), (mesh, over.under)))
+        of_rim = rim[result.mesh.edges.of_corner[over.darts]]
+        self.assertLess(np.abs(new - old)[of_rim].max(), 0.9)
+
 
 class Faces(unittest.TestCase):
     def test_the_sum_is_kept_and_a_constant_stays(self):
