@@ -17,8 +17,8 @@ from .layout import SIDES, Layout
 
 START = 0.02
 """What each arc of a chord costs, besides how much farther from its wish it comes."""
-MOST = 150
-"""Through how many arcs chords are looked for."""
+MOST, BUDGET = 150, 60_000
+"""Through how many arcs chords are looked for at most, and how many arcs are looked at for that, about."""
 BOUNDARY = -1
 State = tuple[int, int, int]
 """An arc, the place of its use whose patch comes next, and whether it gets longer: 1, or shorter: -1."""
@@ -142,7 +142,8 @@ def chords_of(layout: Layout, lengths: Array, wished: Array, floor: int) -> list
     """Chords through arcs all over a layout, each once, those of least cost first."""
     finder = Chords(layout, lengths, wished, floor)
     found: dict[bytes, Chord] = {}
-    for arc in range(0, len(lengths), max(1, -(-len(lengths) // MOST))):
+    most = max(1, min(MOST, BUDGET // max(1, len(lengths))))
+    for arc in range(0, len(lengths), max(1, -(-len(lengths) // most))):
         for sign in (1, -1):
             it = finder.through(arc, sign)
             if it is not None:

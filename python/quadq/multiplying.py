@@ -19,6 +19,8 @@ SAME = 1.003
 """Multipliers that differ by less are one."""
 FADED = 0.3
 """Where no arc wishes more, all are at the floor."""
+FAR = 0.2
+"""A part of the wished number: where it is off by more, no single chords bring it near."""
 ROUNDS = 3
 """How often chords are looked for, one time after the other."""
 SINGLE = 40
@@ -115,7 +117,7 @@ def met(trials: Trials, found: Tried, wished: int) -> Tried:
     """A remesh with single chords longer or shorter, until the number of faces is met within a hundredth, or no chord
     brings it nearer: those that come least far from the first wishes."""
     for _ in range(ROUNDS):
-        if not found.fits_shapes or abs(found.faces - wished) <= NEAR * wished:
+        if not found.fits_shapes or not NEAR * wished < abs(found.faces - wished) <= FAR * wished:
             break
         nearer = _nearer(trials, found, wished)
         if nearer is None:

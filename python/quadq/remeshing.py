@@ -197,6 +197,7 @@ class _Work:
             keep(self.settings.folder, parts, written)
         meshes, moves = self._rounded(parts, written) if self.settings.round else self._relaxed(parts, written)
         new, carrier, over = self._put_together(parts, written, meshes)
+        self._refuse_worse_halves(new)
         is_as_written = len(parts) == 1 and not (
             self._axis() is not None or self.settings.subdivide or moves or self.settings.carry or self.settings.round)
         symmetry = "" if self.image is None else mirroring.AXES[self.image.axis]
@@ -225,6 +226,13 @@ class _Work:
         at = at[np.all(points[at] == marks, axis=1)]
         parts = split(one, None, at[one.edges.numbers_of(at) != NONE])
         return [replace(it, faces=faces[it.faces], points=points[it.points]) for it in parts]
+
+    def _refuse_worse_halves(self, new: Mesh) -> None:
+        """Raises `SeamOpens` where no symmetry was wished and halves have inverted faces that were not."""
+        if self.image is not None and self.settings.symmetry is None:
+            inverted = quality_of(new).inverted
+            if inverted > quality_of(self.ready).inverted:
+                raise SeamOpens(f"two halves would have {counted(inverted, 'inverted face')}")
 
     def _find_image(self, mesh: Mesh) -> None:
         """Finds the mirror image of the mesh of quads in itself, where it is to stay so."""
