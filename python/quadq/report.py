@@ -39,6 +39,10 @@ LEGEND = """<p>Each colour is a patch; an old patch and the new one made of it h
 <span class="swatch inverted"></span>inverted faces (in still pictures without stripes)</p>"""
 
 
+GRAVE = ("faces", "more-faces", "inverted", "distance")
+"""Of such kinds are warnings that stand before all else."""
+
+
 def result_page(title: str, result: Result, program: Program, up: str = "y") -> str:
     """The page of a remesh that was accepted."""
     looks = Looks.of(result, program)
@@ -46,9 +50,7 @@ def result_page(title: str, result: Result, program: Program, up: str = "y") -> 
     view, scene, places = _turned(result, looks, program, up, MOST_FACES)
     labels = (f"before: {report.before.faces} faces", f"after: {report.after.faces} faces")
     body = [
-        f'<p class="good">{_parts_in_words(report)}: no whole lengths are nearer to what was asked for, and its faces '
-        "are connected as before (same Euler number, same irregular vertices).</p>",
-        *_warnings(report, places),
+        *_verdict(report, _warnings(report, places)),
         *view,
         '<div class="pair">', *(figure(drawn.png(), SIZE, it) for drawn, it in zip(pictures, labels)), "</div>",
         LEGEND,
@@ -161,6 +163,15 @@ def _small_pictures(pictures: Sequence[Canvas]) -> str:
     """The pictures for the index of a batch, which reads them from the head of the page."""
     small = " ".join(base64.b64encode(it.png(SHRUNK)).decode() for it in pictures)
     return f'<meta name="quadq-small" content="{small}">\n'
+
+
+def _verdict(report: Report, warnings: list[str]) -> list[str]:
+    """That the mesh was accepted, and the warnings: these come first where the shape or the number is not as wished."""
+    said = (f"{_parts_in_words(report)}: no whole lengths are nearer to what was asked for, and its faces are "
+            "connected as before (same Euler number, same irregular vertices).</p>")
+    if any(it.kind in GRAVE for it in report.notices):
+        return [*warnings, f"<p>{said}"]
+    return [f'<p class="good">{said}', *warnings]
 
 
 def _parts_in_words(report: Report) -> str:

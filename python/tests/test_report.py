@@ -66,6 +66,13 @@ class Pictures(unittest.TestCase):
 
 
 class Pages(unittest.TestCase):
+    def test_a_warning_stands_in_place_of_the_green_sentence(self):
+        cube = read_obj((EXAMPLES / "cube.obj").read_text())
+        for wishes, is_green in (({"scale": 1}, True), ({"faces": 1}, False)):
+            page = result_page("cube", remesh(cube, **wishes), Program())
+            self.assertEqual('<p class="good">' in page, is_green)
+            self.assertIn("no whole lengths are nearer", page)
+
     def test_patches(self):
         program = Program()
         for name in ("letter_q", "notched_square", "torus", "cylinder"):
