@@ -29,19 +29,17 @@ from .notices import counted
 from .obj_writing import plain_text
 from .parts import NO_MARKS, Part, Workshop, Written, keep, put_together, split
 from .patches import patches_under
+from .plain import written_mesh
 from .program import FIT, RAISED, Program
-from .quality import quality_of
 from .reading import divided, refuse_other, told_of_old
 from .refusal import NOT_QUAD, SYNTAX, Refusal
 from .relaxing import relax
 from .results import Counts, Report, Result
 from .rounding import curved, rounded
-from .scaling import factor_of, mean_edge
+from .scaling import factor_of
 from .settings import Settings, as_length, as_scale_wish
-from .subdivision import at_divided
-from .subdivision import subdivide as subdivided
-from .surface import irregular_counts
-from .symmetry import Image, SeamOpens, image_of, named_as_image, refuse_open_seam, why_none
+from .subdivision import at_divided, in_quads
+from .symmetry import Image, SeamOpens, image_of, named_as_image, refuse_open_seam, refuse_worse, why_none
 
 Tell = Callable[[str, int, int], None]
 """Is told the step, how many things are done, and how many there are."""
@@ -228,11 +226,15 @@ class _Work:
         return [replace(it, faces=faces[it.faces], points=points[it.points]) for it in parts]
 
     def _refuse_worse_halves(self, new: Mesh) -> None:
-        """Raises `SeamOpens` where no symmetry was wished and halves have inverted faces that were not."""
-        if self.image is not None and self.settings.symmetry is None:
-            inverted = quality_of(new).inverted
-            if inverted > quality_of(self.ready).inverted:
-                raise SeamOpens(f"two halves would have {counted(inverted, 'inverted face')}")
+        """Raises `SeamOpens` where no symmetry was wished and two halves are worse than the whole by one scale."""
+        settings = self.settings
+        if self.image is None or settings.symmetry is not None or settings.faces is None:
+            return
+        parts = split(self.ready, None, self._marks(self.ready))
+        by_scale = replace(settings, mode="scale", density=None)
+        tried = Chooser(parts, by_scale, self.shop, self._begin).chosen()
+        refuse_worse(new, put_together(tried.parts, [written_mesh(it) for it in tried.texts]), self.ready,
+                     settings.faces)
 
     def _find_image(self, mesh: Mesh) -> None:
         """Finds the mirror image of the mesh of quads in itself, where it is to stay so."""
@@ -350,9 +352,9 @@ class _Work:
 
     def _report(self, new: Mesh, chosen: Chosen, parts: list[Part], written: list[Written]) -> Report:
         self._begin("measuring")
-        old, after = _in_quads(self.mesh), _counts(new)
+        old, after = in_quads(self.mesh), Counts.of(new)
         return Report(
-            before=_counts(self.mesh),
+            before=Counts.of(self.mesh),
             after=after,
             ready=self._halves() * sum(it.mesh.face_count for it in parts),
             wished=self.settings.faces,
@@ -393,12 +395,3 @@ def _refuse_polygons(mesh: Mesh) -> None:
     if len(wrong):
         others = f", and {len(wrong) - 1} more are no quads" if len(wrong) > 1 else ""
         raise Refusal(4, f"face {wrong[0] + 1}: {mesh.sides[wrong[0]]} corners{others}", wrong.tolist())
-
-
-def _in_quads(mesh: Mesh) -> Mesh:
-    return mesh if mesh.is_quads() else subdivided(mesh)
-
-
-def _counts(mesh: Mesh) -> Counts:
-    quads = _in_quads(mesh)
-    return Counts(len(mesh.used), mesh.face_count, irregular_counts(quads), quality_of(quads), mean_edge(mesh))

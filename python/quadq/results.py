@@ -15,7 +15,10 @@ from .mesh import Mesh
 from .notices import Notice, notices_of
 from .parts import Part, Written
 from .program import Program
-from .quality import Quality
+from .quality import Quality, quality_of
+from .scaling import mean_edge
+from .subdivision import in_quads
+from .surface import irregular_counts
 from .symmetry import Image
 from .under import Made, map_of_part, under_of
 
@@ -32,6 +35,11 @@ class Counts:
     quality: Quality
     mean_edge: float
     """The mean length of its edges, in the unit of the mesh."""
+
+    @staticmethod
+    def of(mesh: Mesh) -> Counts:
+        quads = in_quads(mesh)
+        return Counts(len(mesh.used), mesh.face_count, irregular_counts(quads), quality_of(quads), mean_edge(mesh))
 
 
 @dataclass(frozen=True)

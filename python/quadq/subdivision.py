@@ -40,6 +40,11 @@ def subdivide(mesh: Mesh) -> Mesh:
     )
 
 
+def in_quads(mesh: Mesh) -> Mesh:
+    """The mesh, or what becomes of it when its faces are divided where some are no quads."""
+    return mesh if mesh.is_quads() else subdivide(mesh)
+
+
 def at_divided(mesh: Mesh, values: Array) -> Array:
     """Values at points (points, ..), at the points of the divided mesh."""
     table = refined(mesh, np.asarray(values, dtype=np.float64).reshape(len(values), -1))

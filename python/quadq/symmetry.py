@@ -8,14 +8,21 @@ from typing import Optional
 import numpy as np
 
 from .arrays import Array
+from .distance import distance_between
 from .losses import keys_of
 from .mesh import NONE, Mesh
 from .mirror import AXES, crossing
+from .notices import counted
 from .parts import Part
+from .quality import quality_of
 from .surface import darts_between, least_in_class
 
 NEAR = 1e-5
 """A part of the mesh's size: so near is a point to the image of another that is its own."""
+ABOUT = 0.1
+"""A part of the wished number of faces: so near is about it."""
+FARTHER = 1.5
+"""By how many times halves may be farther from the old mesh than one scale of the whole."""
 SHIFTS = (0.0, 0.31, -0.31, 0.17)
 """By which parts of a cell the grid is moved that tells which points are near each other."""
 
@@ -60,6 +67,18 @@ def refuse_open_seam(old: Mesh, new: Mesh) -> None:
     """Raises `SeamOpens` where the boundary of the new mesh has another number of lines than that of the old one."""
     if _rims_of(new) != _rims_of(old):
         raise SeamOpens("a half does not meet its mirror image along all of the plane")
+
+
+def refuse_worse(halves: Mesh, other: Mesh, old: Mesh, wished: int) -> None:
+    """Raises `SeamOpens` where two halves have more inverted faces than another remesh of the whole, or are much
+    farther from the old mesh though the other has about as many faces as wished."""
+    inverted = quality_of(halves).inverted
+    if inverted > quality_of(other).inverted:
+        raise SeamOpens(f"two halves would have {counted(inverted, 'inverted face')}")
+    far, near = (max(distance_between(it, old).greatest, distance_between(old, it).greatest) for it in (halves, other))
+    if abs(other.face_count - wished) <= ABOUT * wished and far > FARTHER * near:
+        raise SeamOpens(f"two halves would be up to {far:.4g} from the old mesh, and the whole is up to {near:.4g} by "
+                        "one scale")
 
 
 def _rims_of(mesh: Mesh) -> int:

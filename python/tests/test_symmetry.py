@@ -12,7 +12,7 @@ import numpy as np
 from quadq import Layer, Mesh, Names, Program, Refusal, WishError, read, remesh
 from quadq.mesh import join
 from quadq.running import Halt
-from quadq.symmetry import image_of
+from quadq.symmetry import SeamOpens, image_of, refuse_worse
 
 from .shapes import EXAMPLES, drum, grid, moved
 
@@ -87,6 +87,18 @@ class Symmetry(unittest.TestCase):
         self.assertTrue(any("not its own mirror image about y = 0" in it for it in told))
         lost = [it.kind for it in remesh(moved(grid(8, 4), -4), scale="1/2", mirror="x").report.notices]
         self.assertIn("mirror-half", lost)
+
+    def test_halves_that_are_worse_than_one_scale_give_way(self):
+        old = drum(24, 12)
+        near, far = (remesh(old, scale=scale, symmetry="off").mesh for scale in ("1/2", "1/4"))
+        refuse_worse(near, near, old, near.face_count)
+        refuse_worse(far, near, old, 2 * near.face_count)
+        with self.assertRaisesRegex(SeamOpens, "from the old mesh"):
+            refuse_worse(far, near, old, near.face_count)
+        folded = near.points.copy()
+        folded[near.quads[0, 0]] += 3 * (near.points[near.quads[0, 2]] - near.points[near.quads[0, 0]])
+        with self.assertRaisesRegex(SeamOpens, "inverted"):
+            refuse_worse(replace(near, points=folded), near, old, near.face_count)
 
     def test_wishes_that_do_not_go_together(self):
         for wrong in ({"symmetry": "w"}, {"symmetry": "x", "mirror": "x"}):
