@@ -8,7 +8,6 @@ from typing import Sequence
 import numpy as np
 
 from .arrays import Array
-from .layout import layout_of
 from .mesh import NONE, Mesh
 from .parts import Part, Written
 from .program import Program
@@ -62,12 +61,29 @@ class Patches:
 
 def patches_under(part: Part, written: Written, program: Program) -> Patches:
     """The patches of a part: those of its graph; of the cut beside its marks; merged where that was wished."""
-    if written.command != "remesh":
-        layout = layout_of(part.mesh, part.marks, written.is_merged)
-        sizes = layout.widths(written.lengths).prod(axis=1).round().astype(np.int64)
-        return Patches(layout.trace.patches(), sizes, layout.trace.arcs().nodes)
-    graph = program.graph(part.text)
-    return Patches(old_patches(part.mesh, graph), new_sizes(graph, written.lengths), node_count(graph))
+    if written.command == "remesh":
+        graph = program.graph(part.text)
+        return Patches(old_patches(part.mesh, graph), new_sizes(graph, written.lengths), node_count(graph))
+    layout = program.layout(part.text, len(part.marks) > 0, written.is_merged)
+    arcs = arcs_of(layout)
+    ends = {int(end) for it in arcs for end in (it[0], it[-1])}
+    return Patches(patches_between(part.mesh, arcs), new_sizes(layout, written.lengths), len(ends))
+
+
+def arcs_of(layout: str) -> list[Array]:
+    """Of each arc of the text of a layout the points along it, which count from 0."""
+    lines = [line for line in layout.splitlines() if line.startswith(("arc ", "marked "))]
+    return [np.array(line.split()[3:], dtype=np.int64) - 1 for line in lines]
+
+
+def patches_between(mesh: Mesh, arcs: Sequence[Array]) -> Array:
+    """(faces,) int64: the patch of each face between these arcs. Patches count from 0, in the order of their first
+    faces."""
+    pairs = np.concatenate([np.zeros((0, 2), dtype=np.int64), *(np.column_stack([it[:-1], it[1:]]) for it in arcs)])
+    inner = mesh.edges.uses == 2
+    inner[mesh.edges.numbers_of(np.sort(pairs, axis=1))] = False
+    one, other = mesh.edges.rising[inner] // 4, mesh.edges.falling[inner] // 4
+    return number_in_order(least_in_class(mesh.face_count, one, other))
 
 
 def borders(mesh: Mesh, patches: Array) -> Array:
