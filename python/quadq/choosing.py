@@ -212,8 +212,8 @@ class Options:
         nearer = [it for it in self.found if it[0].missed < worth.missed]
         if nearer:
             there = min(nearer, key=lambda it: it[0])
-            return (f"with {halves * there[1].faces} faces {there[0].inverted} of them are inverted, and "
-                    f"{worth.inverted} so")
+            return (f"a mesh of {halves * there[1].faces} would have {halves * there[0].inverted} inverted faces, and "
+                    f"this one has {halves * worth.inverted}")
         lengths = np.concatenate(tried.lengths)
         floors = np.repeat(tried.floors, [len(it) for it in tried.lengths])
         short = int(np.sum(lengths <= floors))
