@@ -148,10 +148,10 @@ class Course:
             new += objects_of
             self.results.append((target.name if self.wishes.replace else old_name, made.result))
             self.messages += made_messages(name_of(objects_of[0]), old_name, made)
-            bound = [name for it in objects_of[:1] for name in objects.bound_modifiers(it)]
+            bound = objects.bound_to(old[0])
             if bound:
-                self.messages.append(Message("WARNING", f"{name_of(objects_of[0])}: modifiers that know the old "
-                                             f"vertices, to be bound or baked again: {', '.join(bound)}"))
+                self.messages.append(Message("WARNING", f"{name_of(objects_of[0])}: modifiers and children that know "
+                                             f"the old vertices, to be bound or baked again: {', '.join(bound)}"))
         objects.set_parents(pairs)
         return new
 

@@ -15,7 +15,7 @@ from .quadq.arrays import Array
 from .quadq.carrier import Carrier
 from .rig import Groups, ShapeKeys, copy_animation
 from .tables import ALWAYS, SKIPPED, Table, attribute_tables, built_in_tables, ends_of, uv_tables
-from .versions import can_set, corner_normals, smooth_by_angle
+from .versions import can_set, corner_normals, has, smooth_by_angle
 
 MATERIAL = "usemtl"
 KEPT = {"sharp": "sharp edges", "seams": "seams", "creases": "creases", "bevels": "bevel weights of edges",
@@ -135,7 +135,10 @@ def _strays(data: Any) -> list[str]:
     at_edge[ends] = True
     counts = (("edge", "edges", int(np.sum(~has_face))), ("vertex", "vertices", int(np.sum(~used & ~at_edge))))
     words = [f"{count} loose {one if count == 1 else many}" for one, many, count in counts if count]
-    return words + ["skin radii"] * bool(len(getattr(data, "skin_vertices", ())))
+    has_pins = has("MeshUVLoop", "pin_uv") and any(column(it.data, "pin_uv", bool).any() for it in data.uv_layers)
+    others = (("skin radii", len(getattr(data, "skin_vertices", ()))), ("pins of UV maps", has_pins),
+              ("sculpt masks", len(getattr(data, "vertex_paint_masks", ()))))
+    return words + [name for name, is_there in others if is_there]
 
 
 def made(old: Taken, result: Result, axis: Optional[int]) -> Made:

@@ -174,6 +174,7 @@ def leave_edit_mode(context: Any) -> list[Any]:
     return editing
 
 
-def bound_modifiers(source: Any) -> list[str]:
-    """The modifiers of an object that know the old vertices by their numbers."""
-    return [name_of(it) for it in source.modifiers if it.type in BOUND]
+def bound_to(source: Any) -> list[str]:
+    """The modifiers of an object, and the objects below it, that know the old vertices by their numbers."""
+    children = [name_of(it) for it in source.children if it.parent_type.startswith("VERTEX")]
+    return [name_of(it) for it in source.modifiers if it.type in BOUND] + children

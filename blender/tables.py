@@ -46,9 +46,10 @@ BUILT_IN = (
 )
 """What has a property of its own: words, domain, property and type. From 4.0 on some are attributes."""
 TYPES = {"POINT": "MeshVertex", "EDGE": "MeshEdge", "FACE": "MeshPolygon"}
-SKIPPED = ("position", "material_index", "sharp_face", "sharp_edge", "uv_seam", "custom_normal", "freestyle_edge",
-           "freestyle_face")
+SKIPPED = ("position", "material_index", "sharp_face", "sharp_edge", "uv_seam", "custom_normal")
 """Attributes that have a property of their own in each version that has them."""
+FREESTYLE = {"freestyle_edge": "MeshEdge", "freestyle_face": "MeshPolygon"}
+"""Those that have one before 5.0, by the type that has it."""
 INNER = (".sculpt_mask", ".sculpt_face_set")
 """Of the attributes that Blender hides, those that somebody made by hand."""
 ALWAYS = ("materials", "smoothing")
@@ -126,7 +127,8 @@ def attribute_tables(data: Any, mesh: Mesh) -> tuple[list[Table], list[str]]:
     for it in data.attributes:
         name = name_of(it)
         is_hidden = name.startswith(".") and name not in INNER
-        if name in SKIPPED or name in maps or is_hidden:
+        is_told = name in SKIPPED or (name in FREESTYLE and has(FREESTYLE[name], "use_freestyle_mark"))
+        if is_told or name in maps or is_hidden:
             continue
         if it.data_type not in KINDS or it.domain not in ITEMS:
             strange.append(name)

@@ -9,6 +9,7 @@ from shapes import body, grid, mark, marked, shape, uv_area, weights_at
 
 remesh = bpy.ops.object.quadq_remesh
 HALF = dict(wish="SCALE", scale=0.5, mirror="NONE", keep_sharp=False, keep_materials=False)
+"""At half the scale, with UV islands alone kept."""
 
 
 class Carry(unittest.TestCase):
@@ -198,8 +199,9 @@ class Carry(unittest.TestCase):
         points = [(x, y, 0) for y in range(5) for x in range(5)] + [(9, 9, 9), (8, 8, 8), (7, 7, 7)]
         faces = [(it, it + 1, it + 6, it + 5) for y in range(4) for it in range(5 * y, 5 * y + 4)]
         chosen = shapes.with_mesh("loose", points, faces, [(25, 26)])
-        remesh(**HALF)
-        self.assertIn("loose quadq: not carried over: 1 loose edge, 1 loose vertex", shapes.messages())
+        chosen.data.uv_layers.new(name="flat").data[0].pin_uv = True
+        remesh(**HALF, keep_islands=False)
+        self.assertIn("loose quadq: not carried over: 1 loose edge, 1 loose vertex, pins of UV maps", shapes.messages())
         self.assertEqual(len(chosen.data.vertices), 28)
 
     def test_custom_properties_and_settings_of_the_mesh(self):

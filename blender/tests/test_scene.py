@@ -93,8 +93,11 @@ class Scene(unittest.TestCase):
     def test_modifiers_that_know_the_old_vertices_are_named(self):
         source = grid(8, 8)
         source.modifiers.new("Cloth", "CLOTH")
+        child = grid(2, 2)
+        child.name, child.parent, child.parent_type = "flag", source, "VERTEX"
+        chosen(source)
         remesh(**HALF)
-        self.assertTrue(any("to be bound or baked again: Cloth" in it for it in shapes.messages()))
+        self.assertTrue(any("to be bound or baked again: Cloth, flag" in it for it in shapes.messages()))
 
     def test_linked_duplicates_stay_linked(self):
         for replace in (False, True):
