@@ -40,16 +40,17 @@ from .results import Counts, Report, Result
 from .rows import Row
 from .settings import Settings
 from .subdivision import subdivide
-from .transfer import areas, areas_under, transfer
+from .transfer import areas, areas_under, edges_under, transfer
 from .version import VERSION
 
 __all__ = [
     "Block", "Blocks", "Books", "Checked", "Counts", "Cut", "Distance", "Fault", "FormatError", "Layer", "Link", "Map",
     "Mesh", "MeshError", "Names", "Notice", "Program", "QuadqError", "Quality", "Refusal", "Report", "Result", "Row",
     "Settings", "WishError", "areas", "areas_under", "as_mesh", "blocks", "check", "conforming", "distance_between",
-    "find_features", "from_meshio", "from_pyvista", "from_trimesh", "graph", "layout", "map", "quality_of", "read",
-    "read_obj", "refine", "refusal_page", "remesh", "remesh_files", "result_page", "scaled_jacobians", "subdivide",
-    "to_meshio", "to_pyvista", "to_trimesh", "transfer", "write", "write_blocks", "write_obj",
+    "edges_under", "find_features", "from_meshio", "from_pyvista", "from_trimesh", "graph", "layout", "map",
+    "quality_of", "read", "read_obj", "refine", "refusal_page", "remesh", "remesh_files", "result_page",
+    "scaled_jacobians", "subdivide", "to_meshio", "to_pyvista", "to_trimesh", "transfer", "write", "write_blocks",
+    "write_obj",
 ]
 
 __version__ = VERSION

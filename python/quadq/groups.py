@@ -27,8 +27,8 @@ def edges_by_group(mesh: Mesh) -> dict[str, Array]:
     found: dict[str, list[Array]] = {}
     for line, name in zip(mesh.lines, mesh.line_names):
         if name:
-            found.setdefault(name, []).append(mesh.edges.numbers_of(edges_in((line,))))
-    whole = {name: np.unique(np.concatenate(some)) for name, some in found.items()}
+            found.setdefault(name, []).append(line)
+    whole = {name: np.unique(mesh.edges.numbers_of(edges_in(tuple(some)))) for name, some in found.items()}
     return {name: some[some != NONE] for name, some in whole.items()}
 
 

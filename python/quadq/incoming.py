@@ -95,7 +95,7 @@ def _cells(read: Any, blocks: list[int], dimension: int) -> Cells:
                 cells.take(key, chosen)
     for key in read.cell_data:
         if key.startswith(GROUP):
-            chosen = _column(read, key, blocks).reshape(cells.count, -1)[:, 0] != 0
+            chosen = np.nan_to_num(_column(read, key, blocks).reshape(cells.count, -1)[:, 0]) != 0
             if chosen.any():
                 cells.take(key[len(GROUP):], chosen)
     return cells

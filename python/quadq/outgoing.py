@@ -11,7 +11,6 @@ from urllib.parse import quote
 import numpy as np
 
 from .arrays import Array
-from .features import edges_in
 from .incoming import GEOMETRICAL, GROUP, PHYSICAL
 from .mesh import NONE, Mesh
 
@@ -62,7 +61,7 @@ def pieces_of(mesh: Mesh, suffix: str) -> Pieces:
     fields = mesh.face_fields if FACE_FIELDS in takes else {}
     for name in fields if suffix not in MASKED else [it for it in fields if not it.startswith(GROUP)]:
         values = _fitting(fields[name], suffix)
-        columns[name] = [values[it] for it in of_faces] + lines.beside(values * (not name.startswith(GROUP)))
+        columns[name] = [values[it] for it in of_faces] + lines.beside(values)
     if MATERIALS in takes:
         columns.update(_tags(mesh, of_faces, lines, names, suffix))
         if suffix in MASKED:
@@ -144,20 +143,15 @@ class _Lines:
     """The groups of edges."""
     table: Array
     """(groups, edges) bool: which edge is in which group."""
-    faces: Array
-    """(edges,): a face at each edge, or NONE."""
 
     @staticmethod
     def none() -> _Lines:
-        return _Lines(np.zeros((0, 2), dtype=np.int64), (), np.zeros((0, 0), dtype=bool), np.zeros(0, dtype=np.int64))
+        return _Lines(np.zeros((0, 2), dtype=np.int64), (), np.zeros((0, 0), dtype=bool))
 
     def beside(self, values: Array) -> list[Array]:
-        """The values of the faces at the edges, for the block of lines where there is one."""
-        if not len(self.pairs):
-            return []
-        some = values[np.maximum(self.faces, 0)]
-        some[self.faces == NONE] = 0
-        return [some]
+        """What stands for values in the block of lines, where there is one: no number, or 0 among whole ones."""
+        nothing = np.nan if values.dtype.kind == "f" else 0
+        return [np.full((len(self.pairs), *values.shape[1:]), nothing, dtype=values.dtype)] if len(self.pairs) else []
 
 
 def _line_table(mesh: Mesh, is_repeated: bool) -> _Lines:
@@ -177,9 +171,7 @@ def _line_table(mesh: Mesh, is_repeated: bool) -> _Lines:
         for row, it in zip(merged, table):
             row[of.reshape(-1)[it]] = True
         pairs, table = pairs[first], merged
-    at = mesh.edges.numbers_of(edges_in(tuple(pairs)))
-    darts = np.where(at == NONE, NONE, np.maximum(mesh.edges.rising[at], mesh.edges.falling[at]))
-    return _Lines(pairs, names, table, np.where(darts == NONE, NONE, mesh.face_of_corner()[darts]))
+    return _Lines(pairs, names, table)
 
 
 def _masks(mesh: Mesh, of_faces: list[Array], lines: _Lines) -> dict[str, list[Array]]:

@@ -105,6 +105,17 @@ def areas_under(result: Result) -> Array:
     return _sums(over.new, over.parts * _areas_of_quads(result.made)[over.old], result.mesh.face_count)
 
 
+def edges_under(result: Result) -> tuple[Array, Array, Array]:
+    """The old edges under each new edge that lies along some, as all of the boundary and of kept lines do: a row for
+    each pair of them, with the points of the new edge (n, 2) in the direction of a face, those of the old one (n, 2) in
+    the same direction, and from where to where on that the new edge lies, in parts of it (n, 2). Of a mesh that was
+    divided the old edges are those of its quads."""
+    over, old = result.made.under.overlaps, result.ready
+    ends = [np.column_stack([it.corners[darts], it.corners[it.next_corners()[darts]]])
+            for it, darts in ((result.mesh, over.darts), (old, over.under))]
+    return ends[0], ends[1], over.spans
+
+
 def _areas_of_quads(made: Made) -> Array:
     """(quads,): the areas of the old quads; the pieces of a face that was divided have its area together."""
     found = areas(made.ready)

@@ -5,7 +5,7 @@ from dataclasses import replace
 
 import numpy as np
 
-from quadq import MeshError, WishError, areas, areas_under, remesh, transfer
+from quadq import MeshError, WishError, areas, areas_under, edges_under, remesh, transfer
 from quadq.maps import areas_in_square
 
 from .shapes import drum, grid, moved, plate
@@ -97,6 +97,18 @@ class Faces(unittest.TestCase):
         result = remesh(bent, scale="1/2", subdivide=True)
         found = transfer(result, values, "faces", "conserve")
         self.assertAlmostEqual(areas_under(result) @ found / (areas(bent) @ values), 1, 12)
+
+    def test_each_edge_of_the_boundary_knows_the_old_edges_under_it(self):
+        mesh = grid(6, 4)
+        result = remesh(mesh, scale="1/2")
+        new, old, spans = edges_under(result)
+        for (one, other), (begin, end), (low, high) in zip(new, old, spans):
+            ends = result.mesh.points[[one, other]]
+            places = mesh.points[begin] + np.outer([low, high], mesh.points[end] - mesh.points[begin])
+            self.assertTrue(np.all(places >= ends.min(axis=0)) and np.all(places <= ends.max(axis=0)))
+        edges = result.mesh.edges
+        at = edges.numbers_of(np.sort(new, axis=1))
+        np.testing.assert_array_equal(np.bincount(at, minlength=len(edges.ends))[edges.uses == 1], 2)
 
     def test_halves_of_faces_are_weighed_by_area(self):
         mesh = grid(2, 1)
