@@ -160,7 +160,7 @@ class Wishes:
             sharp=sharp,
             coarse=self.coarse and self.wish != "EDGE", folder=self.folder,
             mirror=None if self.axis is None else self.mirror.lower(),
-            symmetry="auto" if self.mirror == "AUTO" else None)
+            symmetry="auto" if self.mirror == "AUTO" else "off")
 
 
 def draw_wish(layout: Any, it: Any) -> None:
