@@ -41,7 +41,7 @@ MEANINGS = (
     ("--sharp 30 keeps them", "Keep > All by Angle keeps them"),
     ("--sharp 30 or more faces bring them nearer", "Keep > All by Angle or more faces bring them nearer"),
     ("try --sharp 30 or more faces", "try Keep > All by Angle, or more faces"),
-    *((f"--mirror {it} keeps that, where the mirror plane is at 0",
+    *((f"--symmetry {it} keeps that, where the mirror plane is at 0 and no face crosses it",
        f"that can be kept where {it.upper()} = 0 is its plane, edges lie in it, and Symmetry is on") for it in "xyz"),
 )
 """Words of the package, and what they are in Blender."""

@@ -59,7 +59,7 @@ END
 checkout() {
     mkdir -p "$1/docs/pictures" "$1/crates/low/src" "$1/crates/low/proofs" "$1/crates/qm_prog/src" "$1/crates/low/specs" "$1/.ci"
     cp -r "$root/quadq" "$root/install.sh" "$root/tools" "$1"
-    for step in trusted_base third_party try_packages edits documents test_launcher.sh command_lines allocations.sh test_python test_blender test_report; do
+    for step in trusted_base third_party try_packages edits documents test_launcher.sh command_lines allocations.sh test_python get_blender test_blender test_report; do
         printf '#!/bin/sh\n' >"$1/tools/$step"
     done
     install -m 755 "$1/tools/edits" "$1/docs/pictures/draw_crates.py"
