@@ -10,7 +10,7 @@ import numpy as np
 from .arrays import Array
 from .conversions import MeshLike, as_mesh
 from .errors import WishError
-from .graphs import Cut, graph, layout, text_with_lines, words_of_cut
+from .graphs import Cut, answer_of_cut, graph, layout, text_with_lines, words_of_cut
 from .groups import edges_by_group
 from .mesh import NONE, Mesh
 from .obj_writing import plain_text
@@ -138,14 +138,14 @@ def blocks(
     scaled = replace(mesh, points=mesh.points * factor)
     if (keep, patches) == ("none", "traced"):
         cut = graph(mesh, program=runner)
-        text = runner.answer(["blocks", "--by", str(by)], plain_text(scaled))
+        text = runner.answer(["blocks", "--by", str(by)], plain_text(scaled)).decode()
         head = f"quadq blocks 1 by {by}"
     else:
-        words = [*words_of_cut("grids", keep, patches, runner), "--by", str(by)]
+        words = [*words_of_cut("grids", keep, patches), "--by", str(by)]
         cut = layout(mesh, keep=keep, patches=patches, program=runner)
-        text = runner.answer(words, text_with_lines(scaled))
+        text = answer_of_cut(runner, words, text_with_lines(scaled))
         head = f"quadq grids 1 keep {keep} patches {patches} by {by}"
-    found = read_blocks(text.decode(), head, by)
+    found = read_blocks(text, head, by)
     named = _named(found, cut, mesh)
     return Blocks(tuple(replace(it, points=it.points / factor) for it in named), by)
 

@@ -14,7 +14,8 @@ from .mesh import Mesh
 from .obj_writing import number_lines, plain_text
 from .patches import old_patches
 from .plain import strange
-from .program import Program
+from .program import USAGE, Program
+from .refusal import Refusal
 from .scaling import factor_of
 
 SIDES = ("south", "east", "north", "west")
@@ -70,8 +71,8 @@ def layout(mesh: MeshLike, *, keep: str = "none", patches: str = "traced", progr
     mesh = as_mesh(mesh)
     mesh.refuse_strange()
     runner = Program() if program is None else program
-    words = words_of_cut("layout", keep, patches, runner)
-    text = runner.answer(words, text_with_lines(_readable(mesh))).decode()
+    words = words_of_cut("layout", keep, patches)
+    text = answer_of_cut(runner, words, text_with_lines(_readable(mesh)))
     return read_cut(text, f"quadq layout 1 keep {keep} patches {patches}", np.arange(len(mesh.points)))
 
 
@@ -80,13 +81,22 @@ def _readable(mesh: Mesh) -> Mesh:
     return replace(mesh, points=mesh.points * factor_of(mesh))
 
 
-def words_of_cut(command: str, keep: str, patches: str, program: Program) -> list[str]:
-    """The command with its options for a cut. Raises a `WishError` where the program does not have it."""
+def words_of_cut(command: str, keep: str, patches: str) -> list[str]:
+    """The command with its options for a cut. Raises a `WishError` for others than there are."""
     if keep not in KEPT or patches not in CUTS:
         raise WishError(f"what is kept is {' or '.join(KEPT)}, and patches are {', '.join(CUTS)}")
-    if command not in program.commands():
-        raise WishError(f"this needs the command `{command}`, which this program does not have")
     return [command, "--keep", keep, "--patches", patches]
+
+
+def answer_of_cut(program: Program, words: list[str], text: bytes) -> str:
+    """What a command over a cut writes. Raises a `WishError` where the program does not have it: the usage line names
+    only some commands."""
+    try:
+        return program.answer(words, text).decode()
+    except Refusal as said:
+        if said.status != USAGE:
+            raise
+        raise WishError(f"this needs the command `{words[0]}`, which this program does not have") from said
 
 
 def text_with_lines(mesh: Mesh) -> bytes:

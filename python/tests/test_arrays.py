@@ -1,6 +1,7 @@
 """What the program writes, as arrays: graphs, layouts, maps, and finer meshes."""
 
 import unittest
+import unittest.mock
 from dataclasses import replace
 
 import numpy as np
@@ -60,9 +61,15 @@ class Graphs(unittest.TestCase):
             read_cut(LAYOUT, "quadq graph 1", np.arange(12))
 
     def test_a_layout_that_the_program_has_or_has_not(self):
-        if "layout" in quadq.Program().commands():
-            self.assertEqual(quadq.layout(grid(4, 3)).sizes.tolist(), [[4, 3]])
-        else:
+        found = quadq.layout(plate(), patches="conforming")
+        self.assertEqual(int(found.sizes.prod(axis=1).sum()), 540)
+        self.assertTrue(all(len(it) == 1 for sides in found.sides for it in sides))
+        for arc, points in zip(found.arcs, found.arc_points):
+            self.assertEqual(arc.tolist(), [points[0], points[-1], len(points) - 1])
+        line = np.arange(5) + 2 * 5
+        kept = quadq.layout(replace(grid(4, 4), lines=(line,)), keep="lines")
+        self.assertEqual((len(kept.sizes), int(kept.is_marked.sum())), (2, 1))
+        with unittest.mock.patch.object(quadq.Program, "answer", side_effect=Refusal(2, "usage")):
             with self.assertRaises(WishError):
                 quadq.layout(grid(4, 3))
         for wish in ({"keep": "all"}, {"patches": "large"}):

@@ -117,11 +117,13 @@ class Meeting(unittest.TestCase):
         self.assertEqual((len(found), found[0].links[1].block, found[1].links[3].across), (2, 1, 1))
         with self.assertRaises(Refusal):
             read_blocks(GRIDS, "quadq blocks 1 by 1", 1)
-        if "grids" in quadq.Program().commands():
-            self.assertMeet(quadq.blocks(uneven(), patches="conforming"))
-        else:
-            with self.assertRaises(WishError):
-                quadq.blocks(uneven(), patches="conforming")
+        for patches in ("merged", "conforming"):
+            whole = quadq.blocks(uneven(), 2, patches=patches)
+            self.assertMeet(whole)
+            self.assertEqual(sum(it.wide * it.high for it in whole), 4 * uneven().face_count)
+        self.assertTrue(all(len(it.links) == len(SIDES) for it in whole))
+        named = quadq.blocks(named_plate(), patches="conforming")
+        self.assertEqual(set(named.names), {"left", "right", "bottom", "top", "hole"})
 
 
 class Files(unittest.TestCase):

@@ -85,9 +85,11 @@ class Recipes(unittest.TestCase):
             self.assertAlmostEqual(half[name] / old[name], 1, 1)
 
     @unittest.skipIf(meshio is None, "meshio is not here")
-    def test_edges_of_one_length(self):
+    def test_a_size_field(self):
         self.put("plate.msh")
-        self.assertRegex(self.run_recipe("Edges of one length"), r"^\d+% of the edges are 0.25 long")
+        said = self.run_recipe("A plate with a size field")
+        self.assertRegex(said, r"^\d+% of the edges are as long as wished")
+        self.assertGreater(int(said.partition("%")[0]), 30)
 
     @unittest.skipIf(meshio is None, "meshio is not here")
     def test_blocks(self):
