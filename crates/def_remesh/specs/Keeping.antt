@@ -13,14 +13,14 @@ use Rattle.def_remesh.specs.Numberings.{IsNumbering}
 use Rattle.def_remesh.specs.Certified.{AreKept}
 use Rattle.def_remesh.specs.Remeshed.{AreCoarse}
 use Rattle.def_remesh.specs.Stitched.{KeepsShapes}
-use Rattle.def_remesh.specs.Tasks.{Wish}
+use Rattle.def_remesh.specs.Tasks.{old_lengths, Wish}
 use Rattle.def_remesh.specs.declared.tables.Tables.{Tables}
 
 -- A network of a layout with these wished lengths, within bounds and not too tangled.
 pub record IsNetFor (wish : Wish) (plan : Plan) (settings : Settings) (net : Network) : Type 0 where
   pub mesh : IsSomeLayout plan
   pub floor : 1 ≤ settings.floor
-  pub is : IsNetOf (layout_of plan) (wish plan) settings net
+  pub is : IsNetOf (layout_of plan) (old_lengths plan) (wish plan) settings net
   pub bounds : IsWithinBounds net
   pub untangled : tangle_number net ≤ MAX_TANGLE
 

@@ -13,7 +13,7 @@ use Rattle.def_written.specs.NewFaces.{face_count}
 use Rattle.def_remesh.specs.NewPoints.{lengths_in}
 use Rattle.def_remesh.specs.Certified.{AreKept, IsCertified}
 use Rattle.def_remesh.specs.Remeshed.{AreCoarse, with_floor}
-use Rattle.def_remesh.specs.Tasks.{Wish}
+use Rattle.def_remesh.specs.Tasks.{old_lengths, Wish}
 use Rattle.def_remesh.specs.declared.kept.Kept.{Kept}
 use Rattle.def_remesh.specs.declared.kept.Kept.TheVariants.{Multiple, Least, Raised}
 use Rattle.def_remesh.specs.declared.kept.LayoutFail.{LayoutFail}
@@ -22,7 +22,7 @@ use Rattle.def_remesh.specs.declared.limits.TheConstants.{MAX_NEW_FACES}
 
 -- The network of a layout with these wished lengths has this tangle number, which is too great.
 abbrev pub IsTangledAt : (wish : Wish) (plan : Plan) (settings : Settings) (count : ℕ) → Type 0
-IsTangledAt wish plan settings count = IsTangled (layout_of plan) (wish plan) settings count
+IsTangledAt wish plan settings count = IsTangled (layout_of plan) (old_lengths plan) (wish plan) settings count
 
 -- The lengths give so many faces, more than a new mesh may have.
 abbrev pub AreTooFine : (plan : Plan) (lengths : List ℕ) (faces : ℕ) → Type 0
@@ -55,7 +55,7 @@ IsLayoutFail wish plan settings auto fail.Memory = ⊤
 -- A least list for a layout with these settings: one length for each arc.
 pub record IsLeastFor (wish : Wish) (plan : Plan) (settings : Settings) (lengths : List ℕ) : Type 0 where
   pub net : Network
-  pub of_layout : IsNetOf (layout_of plan) (wish plan) settings net
+  pub of_layout : IsNetOf (layout_of plan) (old_lengths plan) (wish plan) settings net
   pub count : length lengths ≡ length plan.arcs
   pub least : IsLeast net (entries lengths)
 

@@ -20,7 +20,7 @@ use Rattle.def_written.specs.NewFaces.{face_count, new_faces}
 use Rattle.def_written.specs.Shape.{KeepsShape}
 use Rattle.def_remesh.specs.NewPoints.{lengths_in}
 use Rattle.def_remesh.specs.NewSoup.{new_soup}
-use Rattle.def_remesh.specs.Tasks.{remesh_task, Task, Wish}
+use Rattle.def_remesh.specs.Tasks.{old_lengths, remesh_task, Task, Wish}
 use Rattle.def_remesh.specs.declared.limits.TheConstants.{MAX_NEW_FACES}
 
 -- The settings with another floor.
@@ -33,7 +33,7 @@ with_floor settings floor =
 -- is not too tangled, and the certificate can be written.
 pub record HasLeastLengths (wish : Wish) (plan : Plan) (settings : Settings) (cert : Lists) : Type 0 where
   pub net : Network
-  pub of_layout : IsNetOf (layout_of plan) (wish plan) settings net
+  pub of_layout : IsNetOf (layout_of plan) (old_lengths plan) (wish plan) settings net
   pub untangled : tangle_number net ≤ MAX_TANGLE
   pub count : length cert.x ≡ length net.arcs
   pub opposite : AreOpposite (layout_of plan) (entries cert.x)

@@ -87,7 +87,9 @@ node_low q east n h = omega arith
 node_low q north n h = omega arith
 node_low q west n h = omega arith
 
-module _ (l : Layout) (old : Lengths) (set : Settings) (net : Network) (laid : IsSurface l) (is : IsNetOf l old set net) (x : ℕ → ℤ) where
+module _
+    (l : Layout) (old wish : Lengths) (set : Settings) (net : Network) (laid : IsSurface l) (is : IsNetOf l old wish set net)
+    (x : ℕ → ℤ) where
   -- The slot with number j on a side of a patch.
   abbrev slot_at : (p : ℕ) (s : Way) (j : ℕ) → Slot
   slot_at p s j = record { patch = p; side = s; at = j }
@@ -269,4 +271,4 @@ module _ (l : Layout) (old : Lengths) (set : Settings) (net : Network) (laid : I
       by_half p low (inr e) = subst (λ (u : ℕ). side_sum net.arcs x true u ≡ side_sum net.arcs x false u) (sym e) (side_is p east low ∙ (equal.upright p low ∙ sym (side_is p west low)))
 
 pub balance_law : BalanceLaw
-balance_law l old set net laid is x = (opposite l old set net laid is x, balanced l old set net laid is x)
+balance_law l old wish set net laid is x = (opposite l old wish set net laid is x, balanced l old wish set net laid is x)

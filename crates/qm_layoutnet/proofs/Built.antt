@@ -69,7 +69,7 @@ ends_begin l w runs long = record {
 
 -- When all slots are done, these are the arcs of the network.
 pub net_is : (l : Layout) (old : Lengths) (set : Settings) (net : Network) → net.nodes ≡ 2 * l.patches → net.floor ≡ set.floor → net.p ≡ set.p → net.q ≡ set.q
-    → AreEnds l old set.weight (PatchesBelow l.patches) net.arcs → IsNetOf l old set net
+    → AreEnds l old set.weight (PatchesBelow l.patches) net.arcs → IsNetOf l old old set net
 net_is l old set net nodes floor p q are = record {
   nodes = nodes;
   floor = floor;
@@ -84,7 +84,7 @@ net_is l old set net nodes floor p q are = record {
 }
 
 module _ (l : Layout) (x : Lengths) (set : Settings) (net : Network) (laid : IsSurface l) (len : AreLengths l x) (few : count_below x l.arcs ≤ 2 ^ 23)
-    (in_range : AreSettings set) (is : IsNetOf l x set net) where
+    (in_range : AreSettings set) (is : IsNetOf l x x set net) where
   -- The arcs are few.
   arcs_few : l.arcs ≤ 2 ^ 23
   arcs_few = omega (arith, few, count_below_ones l.arcs, count_below_le (λ k. 1) x l.arcs (λ k low. len.some k low))
@@ -103,7 +103,7 @@ module _ (l : Layout) (x : Lengths) (set : Settings) (net : Network) (laid : IsS
   even = record {
     high = λ k low. omega (arith, old_at k low, len.some k (omega (arith, low, is.long)));
     small = omega (arith, count_at (λ a. a.old) net.arcs, count_below_same (λ k. (arc_at net.arcs k).old) x (length net.arcs) old_at, ap (count_below x) is.long, few);
-    balanced = (balance_law l x set net laid is (λ k. pos (arc_at net.arcs k).old)).1 (record {
+    balanced = (balance_law l x x set net laid is (λ k. pos (arc_at net.arcs k).old)).1 (record {
       across = λ p low. along_is p south low ∙ (ap pos (sym (len.across p low)) ∙ sym (along_is p north low));
       upright = λ p low. along_is p east low ∙ (ap pos (len.upright p low) ∙ sym (along_is p west low));
     });
@@ -122,9 +122,9 @@ module _ (l : Layout) (x : Lengths) (set : Settings) (net : Network) (laid : IsS
   rest right = list_all (λ (e : End). nat_lt e.node net.nodes) (option_to_list right)
 
   ends_low : (k : ℕ) → k < l.arcs → list_all (λ (e : End). nat_lt e.node net.nodes) (ends (arc_at net.arcs k)) ≡ true
-  ends_low k low = by_ends (has_ends l x set net laid is (λ k. pos 0) k low)
+  ends_low k low = by_ends (has_ends l x x set net laid is (λ k. pos 0) k low)
     where
-      by_ends : HasEnds l x set net laid is (λ k. pos 0) k → list_all (λ (e : End). nat_lt e.node net.nodes) (ends (arc_at net.arcs k)) ≡ true
+      by_ends : HasEnds l x x set net laid is (λ k. pos 0) k → list_all (λ (e : End). nat_lt e.node net.nodes) (ends (arc_at net.arcs k)) ≡ true
       by_ends h = ap (λ (b : Bool). b && rest (arc_at net.arcs k).right) (low_at (arc_at net.arcs k).left h.ahead left h.ahead_is) ∙ by_right h.right
         where
           low_at : (e : End) (v : Slot) → e ≡ end_at v.patch v.side → IsSlot l v → nat_lt e.node net.nodes ≡ true

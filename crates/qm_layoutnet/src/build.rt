@@ -22,16 +22,17 @@ use def_layoutnet::NetFail;
 use qm_net::tangle_of;
 use std::alloc::{AllocError, Global};
 
-/// The network of the layout of a mesh. Linear in the arcs and in the sides of patches.
+/// The network of the layout of a mesh near its old lengths. Linear in the arcs and in the sides of patches.
 pub fn net_of(alloc: Global, t: &TMesh, set: &Settings) -> Result<Net, NetFail>
     requires layout { IsSomeLayout (plan t.now) }
     requires settings { AreSettings set.now }
     ensures net { IfOk result (λ net.
-        IsNetOf (layout_of (plan t.now)) (long_at (plan t.now).arcs) set.now (network net)) }
+        IsNetOf (layout_of (plan t.now)) (long_at (plan t.now).arcs) (long_at (plan t.now).arcs) set.now (network net)) }
     ensures even { IfOk result (λ net. IsEven (network net)) }
     ensures bounds { IfOk result (λ net. IsWithinBounds (network net)) }
     ensures small { IfOk result (λ net. tangle_number (network net) ≤ MAX_TANGLE) }
-    ensures tangled { IfErr result (HasNoNet (layout_of (plan t.now)) (long_at (plan t.now).arcs) set.now) }
+    ensures tangled { IfErr result
+        (HasNoNet (layout_of (plan t.now)) (long_at (plan t.now).arcs) (long_at (plan t.now).arcs) set.now) }
 {
     let net = any_net_of(alloc, t, set)?;
     let tangle = tangle_of(alloc, &net)?;
@@ -48,7 +49,7 @@ fn any_net_of(alloc: Global, t: &TMesh, set: &Settings) -> Result<Net, AllocErro
     requires layout { IsSomeLayout (plan t.now) }
     requires settings { AreSettings set.now }
     ensures net { IfOk result (λ net.
-        IsNetOf (layout_of (plan t.now)) (long_at (plan t.now).arcs) set.now (network net)) }
+        IsNetOf (layout_of (plan t.now)) (long_at (plan t.now).arcs) (long_at (plan t.now).arcs) set.now (network net)) }
     ensures even { IfOk result (λ net. IsEven (network net)) }
     ensures bounds { IfOk result (λ net. IsWithinBounds (network net)) }
     ensures small { IfOk result (λ net. tangle_number (network net) < 2 ^ 64) }

@@ -60,7 +60,8 @@ net c = record {
   q = c.args.set.now.q;
 }
 
-is_net : (c : goal.After-len) → IsNetOf (layout_of (plan c.args.t.now)) (long_at (plan c.args.t.now).arcs) c.args.set.now (net c)
+is_net : (c : goal.After-len) → IsNetOf (layout_of (plan c.args.t.now)) (long_at (plan c.args.t.now).arcs)
+    (long_at (plan c.args.t.now).arcs) c.args.set.now (net c)
 is_net c = net_is (layout_of (plan c.args.t.now)) (long_at (plan c.args.t.now).arcs) c.args.set.now (net c)
     (omega (arith, c.len.ensures, c.args.t.now.patches.ok.0, length-map c.args.t.now.patches.items rectangle)) refl refl refl (ends_put c)
 
