@@ -29,7 +29,8 @@ west_breaks = refl
 west_starts : map (to_of grid) (marked_starts grid west) ≡ 1 ∷ 7 ∷ 5 ∷ []
 west_starts = refl
 
-west_stops : map (λ (r : Moving). r.stop) (marked_last grid west).riders ≡ Some (Boundary 1) ∷ Some (Boundary 7) ∷ Some (Boundary 5) ∷ []
+west_stops : map (λ (r : Moving). r.stop) (marked_last grid west).riders ≡ Some (Boundary 1) ∷ Some (Boundary 7) ∷ Some
+    (Boundary 5) ∷ []
 west_stops = refl
 
 west_cut : filter not (marked_cut grid west) ≡ []

@@ -1,3 +1,5 @@
 pub mod Marks
 pub mod Marked
 pub mod Laws
+pub mod Beside
+pub mod Conforming

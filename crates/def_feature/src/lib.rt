@@ -1,3 +1,4 @@
-//! What feature lines are: edges that are marked by `l` lines, and the motion that keeps them in the cut.
+//! What feature lines are: edges that are marked by `l` lines, the motion that keeps them in the cut, and the conforming
+//! cut beside them.
 
 #![tactic(auto)]

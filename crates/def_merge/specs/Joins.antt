@@ -1,10 +1,11 @@
 -- Arcs that join two patches along a whole side of each.
-use Rattle.std.specs.Prelude.{◌≡◌, ◌⊎◌, ℕ, suc, ◌+◌, ◌<◌, ◌≤◌, true, false, Some}
+use Rattle.std.specs.Prelude.{◌≡◌, ◌⊎◌, ℕ, suc, Bool, ◌+◌, ◌<◌, ◌≤◌, true, false, Some}
 use Rattle.def_mesh.specs.HalfEdges.{HalfEdges}
 use Rattle.def_cut.specs.Cuts.{Cut, Links, IsCorner}
 use Rattle.def_cut.specs.Steps.{easts}
 
--- The n darts straight on from s are a whole side of a patch: s leaves one of its corners, the last arrives at the next.
+-- The n darts straight on from s are a whole side of a patch: s leaves one of its corners, the last arrives at the
+-- next.
 pub record IsWholeSide (mesh : HalfEdges) (cut : Cut) (s n : ℕ) : Type 0 where
   pub some : 0 < n
   pub corner : IsCorner mesh cut s
@@ -35,12 +36,17 @@ pub record IsNameOf (mesh : HalfEdges) (s t n name : ℕ) : Type 0 where
   pub on : IsOnArc mesh s t n name
   pub least : (d : ℕ) → IsOnArc mesh s t n d → name ≤ d
 
--- The first joinable arc in order of names, which is the order of arcs.
-pub record IsFirstJoinable (mesh : HalfEdges) (cut : Cut) (s t n : ℕ) : Type 0 where
+-- Which arcs may leave, told by the first darts of both sides and the length.
+abbrev pub Leave : Type 0
+Leave = (s t n : ℕ) → Bool
+
+-- The first joinable arc that may leave, in order of names, which is the order of arcs.
+pub record IsFirstJoinable (mesh : HalfEdges) (cut : Cut) (may : Leave) (s t n : ℕ) : Type 0 where
   pub joinable : IsJoinable mesh cut s t n
+  pub free : may s t n ≡ true
   pub name : ℕ
   pub named : IsNameOf mesh s t n name
-  pub first : (r u m d : ℕ) → IsJoinable mesh cut r u m → IsOnArc mesh r u m d → name ≤ d
+  pub first : (r u m d : ℕ) → IsJoinable mesh cut r u m → may r u m ≡ true → IsOnArc mesh r u m d → name ≤ d
 
 -- The cut that is left when the arc is taken away.
 pub record IsWithout (mesh : HalfEdges) (cut rest : Cut) (s t n : ℕ) : Type 0 where

@@ -12,7 +12,7 @@ use Rattle.def_layout.specs.FaceLayouts.{IsCutLayout}
 use Rattle.def_layout.specs.Layouts.{Slot, use_of}
 use Rattle.def_layout.specs.Plans.{layout_of, Plan}
 use Rattle.def_merge.specs.Joins.{IsJoinable, IsOnArc, IsWithout}
-use Rattle.def_merge.specs.Merged.{IsMergedCut}
+use Rattle.def_merge.specs.Merged.{IsMergedBy, MayLeave}
 use Rattle.def_merge.specs.Layouts.{IsJoinableAt}
 
 -- Without a joinable arc a full cut is a full cut.
@@ -32,15 +32,16 @@ GrownLaw = (mesh : HalfEdges) (cut rest : Cut) (s t n r u m : ℕ) → IsQuadMan
     → IsJoinable mesh cut s t n → IsWithout mesh cut rest s t n → IsJoinable mesh rest r u m
     → IsJoinable mesh cut r u m ⊎ (IsOnArc mesh r u m (mesh.prev s) ⊎ IsOnArc mesh r u m (mesh.prev t))
 
--- A full cut has at most one merged cut, which is a full cut.
+-- Merging leaves at most one cut of a full cut, which is a full cut.
 abbrev pub OneMergedLaw : Type 0
-OneMergedLaw = (faces : Faces) (marks rest other : List Bool) → IsManifold faces → IsFullCut faces marks
-    → IsMergedCut faces marks rest → IsMergedCut faces marks other → (rest ≡ other) × IsFullCut faces rest
+OneMergedLaw = (faces : Faces) (may : MayLeave) (marks rest other : List Bool) → IsManifold faces
+    → IsFullCut faces marks → IsMergedBy faces may marks rest → IsMergedBy faces may marks other
+    → (rest ≡ other) × IsFullCut faces rest
 
--- A full cut has a merged cut.
+-- And it comes to an end.
 abbrev pub MergedLaw : Type 0
-MergedLaw = (faces : Faces) (marks : List Bool) → IsManifold faces → IsFullCut faces marks
-    → (rest : List Bool) × IsMergedCut faces marks rest
+MergedLaw = (faces : Faces) (may : MayLeave) (marks : List Bool) → IsManifold faces → IsFullCut faces marks
+    → (rest : List Bool) × IsMergedBy faces may marks rest
 
 -- What is joinable in a layout is joinable in its cut, at the sides where it lies.
 abbrev pub JoinableLaw : Type 0

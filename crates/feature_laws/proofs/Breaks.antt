@@ -1,8 +1,10 @@
 -- Marked edges at a vertex: a line goes straight on there, or it begins.
-use Rattle.std.proofs.Common.{◌≡◌, ◌⊎◌, ℕ, suc, ◌+◌, ◌<◌, ◌≤◌, Bool, true, false, not, eqb, ltb, ◌&&◌, ◌||◌, List, Option, Some, None, is_some, sym, subst, ap, ◌∙◌, refl, inl, inr, arith}
+use Rattle.std.proofs.Common.{◌≡◌, ◌⊎◌, ℕ, suc, ◌+◌, ◌<◌, ◌≤◌, Bool, true, false, not, eqb, ltb, ◌&&◌, ◌||◌, List}
+use Rattle.std.proofs.Common.{Option, Some, None, is_some, sym, subst, ap, ◌∙◌, refl, inl, inr, arith}
 use Rattle.std.specs.Prelude.{option_map}
 use Rattle.std.specs.List.{list_any}
-use Rattle.std.proofs.lemmas.Bool.{cases_Bool, cond-true, eq-eqb, eqb-true, lt-ltb, or_left, or_right, and_from, and_parts, not_from_false, false≢true, false_from_ne_true}
+use Rattle.std.proofs.lemmas.Bool.{cases_Bool, cond-true, eq-eqb, eqb-true, lt-ltb, or_left, or_right, and_from}
+use Rattle.std.proofs.lemmas.Bool.{and_parts, not_from_false, false≢true, false_from_ne_true}
 use Rattle.std.proofs.lemmas.Option.{same_Some}
 use Rattle.def_mesh.specs.Faces.{Faces}
 use Rattle.def_mesh.specs.Darts.{darts, all_darts, from_of, to_of, next_of, prev_of, twin_of, straight_of}
@@ -17,7 +19,8 @@ use Rattle.def_cut.specs.FullCut.{is_on}
 use Rattle.def_cut.specs.Motion.{is_among}
 use Rattle.def_cut.specs.Steps.{or_zero}
 use Rattle.def_cut.specs.Trails.{IsStraight}
-use Rattle.def_feature.specs.Marks.{AreMarks, is_touched, is_found_on, goes_through, is_crossed, is_least_in_ring, is_break}
+use Rattle.def_feature.specs.Marks.{AreMarks, is_touched, is_found_on, goes_through, is_crossed, is_least_in_ring}
+use Rattle.def_feature.specs.Marks.{is_break}
 use Rattle.def_feature.specs.Marked.{is_origin}
 use Rattle.cut_laws.proofs.Crosses.{one_of_four, low_a, low_b, low_c, at_a, at_b, at_c}
 use Rattle.cut_laws.proofs.Darts.{turn_from, turn_low}
@@ -29,11 +32,14 @@ use Rattle.site_laws.proofs.Fans.{three_faces}
 
 -- What stands in the fan of a vertex.
 pub in_fan : (faces : Faces) (v d : ℕ) → d < darts faces → from_of faces d ≡ v → is_among d (fan_of faces v) ≡ true
-in_fan faces v d l at = in_filter (λ e. eqb (from_of faces e) v) d (all_darts faces) (among_range 0 (darts faces) d (omega arith) (omega arith)) (eq-eqb _ _ at)
+in_fan faces v d l at = in_filter (λ e. eqb (from_of faces e) v) d (all_darts faces)
+    (among_range 0 (darts faces) d (omega arith) (omega arith)) (eq-eqb _ _ at)
 
-pub from_fan : (faces : Faces) (v d : ℕ) → is_among d (fan_of faces v) ≡ true → (d < darts faces) × (from_of faces d ≡ v)
+pub from_fan : (faces : Faces) (v d : ℕ) → is_among d (fan_of faces v) ≡ true → (d < darts faces)
+    × (from_of faces d ≡ v)
 from_fan faces v d m =
-    let f : (is_among d (all_darts faces) ≡ true) × (eqb (from_of faces d) v ≡ true) = from_filter (λ e. eqb (from_of faces e) v) d (all_darts faces) m in
+    let f : (is_among d (all_darts faces) ≡ true) × (eqb (from_of faces d) v ≡ true) =
+    from_filter (λ e. eqb (from_of faces e) v) d (all_darts faces) m in
     let r : (0 ≤ d) × (d < 0 + darts faces) = range_among 0 (darts faces) d f.0 in
     (omega (arith, r.1), eqb-true _ _ f.1)
 
@@ -47,7 +53,8 @@ is_held_after faces marks (Some t) = is_held faces marks (next_of t)
 
 -- A line may begin with d: it is an origin, or it is marked and so are the edges beside it.
 abbrev pub begins : (faces : Faces) (marks : List Bool) (d : ℕ) → Bool
-begins faces marks d = is_origin faces marks d || (is_on marks d && (is_held faces marks (prev_of d) && is_held_after faces marks (twin_of faces d)))
+begins faces marks d = is_origin faces marks d ||
+    (is_on marks d && (is_held faces marks (prev_of d) && is_held_after faces marks (twin_of faces d)))
 
 -- The dart that leads straight to d.
 abbrev pub back : (faces : Faces) (d : ℕ) → ℕ
@@ -75,12 +82,23 @@ module _ (faces : Faces) (m : IsManifold faces) (marks : List Bool) (marked : Ar
       at (Some t) w = (t, w)
 
   -- A cross lies at a passed vertex.
-  pub cross_passed : (d : ℕ) → d < darts faces → HasCross (half_edges faces) d → is_passed faces (from_of faces d) ≡ true
+  pub cross_passed : (d : ℕ) → d < darts faces → HasCross (half_edges faces) d
+      → is_passed faces (from_of faces d) ≡ true
   cross_passed d l x = and_from _ _ (cross_inner faces laws d l x) (cross_regular faces laws d l x)
 
+  -- At a break there is a cross.
+  pub break_cross : (d : ℕ) → d < darts faces → is_break faces marks (from_of faces d) ≡ true
+      → HasCross (half_edges faces) d
+  break_cross d l y =
+      let passed : (is_inner faces (from_of faces d) ≡ true) × (is_regular faces (from_of faces d) ≡ true) =
+      and_parts _ _ (and_parts (is_passed faces (from_of faces d)) _ y).0 in
+      regular_cross faces laws d l passed.0 passed.1
+
   -- The line over a dart of a cross goes through where the opposite one is marked too.
-  through_is : (x a b c : ℕ) → x < darts faces → IsCross (half_edges faces) x a b c → goes_through faces marks (twin_of faces x) ≡ (is_on marks x && is_on marks b)
-  through_is x a b c l k = ap (goes_through faces marks) over ∙ (ap (λ o. is_on marks (prev_of c) && is_found_on o marks) ahead ∙ ap (λ q. q && is_on marks b) same)
+  through_is : (x a b c : ℕ) → x < darts faces → IsCross (half_edges faces) x a b c
+      → goes_through faces marks (twin_of faces x) ≡ (is_on marks x && is_on marks b)
+  through_is x a b c l k = ap (goes_through faces marks) over
+      ∙ (ap (λ o. is_on marks (prev_of c) && is_found_on o marks) ahead ∙ ap (λ q. q && is_on marks b) same)
     where
       c_low : c < darts faces
       c_low = low_c (half_edges faces) laws x a b c l k
@@ -89,14 +107,17 @@ module _ (faces : Faces) (m : IsManifold faces) (marks : List Bool) (marked : Ar
       over = laws.twin_twin (prev_of c) x (laws.prev_low c c_low) k.last
 
       ahead : straight_of faces (prev_of c) ≡ Some b
-      ahead = ap (λ y. option_map next_of (twin_of faces y)) (laws.next_prev c) ∙ (ap (option_map next_of) (laws.twin_twin (prev_of b) c (laws.prev_low b (low_b (half_edges faces) laws x a b c l k)) k.third) ∙ ap Some (laws.next_prev b))
+      ahead = ap (λ y. option_map next_of (twin_of faces y)) (laws.next_prev c)
+          ∙ (ap (option_map next_of) (laws.twin_twin (prev_of b) c
+          (laws.prev_low b (low_b (half_edges faces) laws x a b c l k)) k.third) ∙ ap Some (laws.next_prev b))
 
       same : is_on marks (prev_of c) ≡ is_on marks x
       same = marked.alike x (prev_of c) l over
 
   -- At a cross where d is marked, the opposite edge is marked, or both beside it are, or lines break there.
   pub two_ways : (d a b c : ℕ) → d < darts faces → is_on marks d ≡ true → IsCross (half_edges faces) d a b c
-      → (is_on marks b ≡ true) ⊎ (((is_on marks a ≡ true) × (is_on marks c ≡ true)) ⊎ (is_break faces marks (from_of faces d) ≡ true))
+      → (is_on marks b ≡ true) ⊎ (((is_on marks a ≡ true) × (is_on marks c ≡ true))
+      ⊎ (is_break faces marks (from_of faces d) ≡ true))
   two_ways d a b c l on k = by_tests (cases_Bool (is_on marks b)) (cases_Bool (is_on marks a && is_on marks c))
     where
       la : a < darts faces
@@ -122,49 +143,80 @@ module _ (faces : Faces) (m : IsManifold faces) (marks : List Bool) (marked : Ar
       both true false e = absurd (false≢true e)
       both false q e = absurd (false≢true e)
 
-      not_through : is_on marks b ≡ false → (is_on marks a && is_on marks c) ≡ false → (e : ℕ) → (e ≡ d) ⊎ ((e ≡ a) ⊎ ((e ≡ b) ⊎ (e ≡ c))) → goes_through faces marks (twin_of faces e) ≡ true → ⊥
-      not_through off side e (inl s) y = let p : (is_on marks d ≡ true) × (is_on marks b ≡ true) = and_parts _ _ (sym (ap (λ x. goes_through faces marks (twin_of faces x)) s ∙ through_is d a b c l k) ∙ y) in false≢true (sym off ∙ p.1)
-      not_through off side e (inr (inl s)) y = false≢true (sym side ∙ (sym (ap (λ x. goes_through faces marks (twin_of faces x)) s ∙ through_is a b c d la k1) ∙ y))
-      not_through off side e (inr (inr (inl s))) y = let p : (is_on marks b ≡ true) × (is_on marks d ≡ true) = and_parts _ _ (sym (ap (λ x. goes_through faces marks (twin_of faces x)) s ∙ through_is b c d a lb k2) ∙ y) in false≢true (sym off ∙ p.0)
-      not_through off side e (inr (inr (inr s))) y = false≢true (sym side ∙ both (is_on marks c) (is_on marks a) (sym (ap (λ x. goes_through faces marks (twin_of faces x)) s ∙ through_is c d a b lc k3) ∙ y))
+      not_through : is_on marks b ≡ false → (is_on marks a && is_on marks c) ≡ false → (e : ℕ) → (e ≡ d)
+          ⊎ ((e ≡ a) ⊎ ((e ≡ b) ⊎ (e ≡ c))) → goes_through faces marks (twin_of faces e) ≡ true → ⊥
+      not_through off side e (inl s) y = let p : (is_on marks d ≡ true) × (is_on marks b ≡ true) =
+          and_parts _ _ (sym (ap (λ x. goes_through faces marks (twin_of faces x)) s ∙ through_is d a b c l k) ∙ y) in
+          false≢true (sym off ∙ p.1)
+      not_through off side e (inr (inl s)) y =
+          false≢true
+          (sym side ∙ (sym (ap (λ x. goes_through faces marks (twin_of faces x)) s ∙ through_is a b c d la k1) ∙ y))
+      not_through off side e (inr (inr (inl s))) y = let p : (is_on marks b ≡ true) × (is_on marks d ≡ true) =
+          and_parts _ _ (sym (ap (λ x. goes_through faces marks (twin_of faces x)) s ∙ through_is b c d a lb k2) ∙ y) in
+          false≢true (sym off ∙ p.0)
+      not_through off side e (inr (inr (inr s))) y =
+          false≢true (sym side ∙ both (is_on marks c) (is_on marks a)
+          (sym (ap (λ x. goes_through faces marks (twin_of faces x)) s ∙ through_is c d a b lc k3) ∙ y))
 
-      none_through : is_on marks b ≡ false → (is_on marks a && is_on marks c) ≡ false → is_crossed faces marks (from_of faces d) ≡ false
-      none_through off side = false_from_ne_true _ (λ y. by_dart (any_where (λ e. goes_through faces marks (twin_of faces e)) (fan_of faces (from_of faces d)) y))
+      none_through : is_on marks b ≡ false → (is_on marks a && is_on marks c) ≡ false
+          → is_crossed faces marks (from_of faces d) ≡ false
+      none_through off side = false_from_ne_true _
+          (λ y. by_dart (any_where (λ e. goes_through faces marks (twin_of faces e)) (fan_of faces (from_of faces d))
+          y))
         where
-          by_dart : (e : ℕ) × (is_among e (fan_of faces (from_of faces d)) ≡ true) × (goes_through faces marks (twin_of faces e) ≡ true) → ⊥
+          by_dart : (e : ℕ) × (is_among e (fan_of faces (from_of faces d)) ≡ true)
+              × (goes_through faces marks (twin_of faces e) ≡ true) → ⊥
           by_dart (e, n, y) =
               let f : (e < darts faces) × (from_of faces e ≡ from_of faces d) = from_fan faces (from_of faces d) e n in
-              not_through off side e (one_of_four (half_edges faces) laws d a b c l k e (record { low = f.0; at = f.1 })) y
+              not_through off side e (one_of_four (half_edges faces) laws d a b c l k e
+              (record { low = f.0; at = f.1 })) y
 
       touched : is_touched faces marks (from_of faces d) ≡ true
       touched = any_at (is_on marks) d (fan_of faces (from_of faces d)) (in_fan faces (from_of faces d) d l refl) on
 
-      by_tests : (is_on marks b ≡ true) ⊎ (is_on marks b ≡ false) → ((is_on marks a && is_on marks c) ≡ true) ⊎ ((is_on marks a && is_on marks c) ≡ false) → (is_on marks b ≡ true) ⊎ (((is_on marks a ≡ true) × (is_on marks c ≡ true)) ⊎ (is_break faces marks (from_of faces d) ≡ true))
+      by_tests : (is_on marks b ≡ true) ⊎ (is_on marks b ≡ false) → ((is_on marks a && is_on marks c) ≡ true)
+          ⊎ ((is_on marks a && is_on marks c) ≡ false) → (is_on marks b ≡ true)
+          ⊎ (((is_on marks a ≡ true) × (is_on marks c ≡ true)) ⊎ (is_break faces marks (from_of faces d) ≡ true))
       by_tests (inl y) s = inl y
       by_tests (inr n) (inl y) = inr (inl (and_parts _ _ y))
-      by_tests (inr off) (inr side) = inr (inr (and_from _ _ (cross_passed d l (a, b, c, k)) (or_left _ _ (and_from _ _ touched (not_from_false _ (none_through off side))))))
+      by_tests (inr off) (inr side) =
+          inr
+          (inr (and_from _ _ (cross_passed d l (a, b, c, k))
+          (or_left _ _ (and_from _ _ touched (not_from_false _ (none_through off side))))))
 
   -- At a break each dart with a twin is an origin.
-  pub break_origin : (d t : ℕ) → twin_of faces d ≡ Some t → is_break faces marks (from_of faces d) ≡ true → is_origin faces marks d ≡ true
+  pub break_origin : (d t : ℕ) → twin_of faces d ≡ Some t → is_break faces marks (from_of faces d) ≡ true
+      → is_origin faces marks d ≡ true
   break_origin d t w y = or_right (is_start faces (seeds faces) d) _ (and_from _ _ (ap is_some w) y)
 
   -- At a boundary vertex with more than two faces so is each dart with a twin, and at a singular one.
-  reflex_origin : (d t : ℕ) → twin_of faces d ≡ Some t → is_inner faces (from_of faces d) ≡ false → 3 ≤ faces_at faces (from_of faces d) → is_origin faces marks d ≡ true
-  reflex_origin d t w out three = or_left _ _ (or_right _ _ (and_from _ _ (ap is_some w) (or_left _ _ (and_from _ _ (not_from_false _ out) (lt-ltb 2 (faces_at faces (from_of faces d)) (omega arith))))))
+  reflex_origin : (d t : ℕ) → twin_of faces d ≡ Some t → is_inner faces (from_of faces d) ≡ false
+      → 3 ≤ faces_at faces (from_of faces d) → is_origin faces marks d ≡ true
+  reflex_origin d t w out three =
+      or_left _ _
+      (or_right _ _ (and_from _ _ (ap is_some w)
+      (or_left _ _ (and_from _ _ (not_from_false _ out) (lt-ltb 2 (faces_at faces (from_of faces d)) (omega arith))))))
 
   pub held_alone : (d : ℕ) → twin_of faces d ≡ None → is_held faces marks d ≡ true
   held_alone d w = or_right _ _ (ap (λ o. not (is_some o)) w)
 
   -- A line begins with a marked dart, or a marked dart leads straight to it.
-  pub one_back : (d : ℕ) → d < darts faces → is_on marks d ≡ true → (begins faces marks d ≡ true) ⊎ GoesBack faces marks d
+  pub one_back : (d : ℕ) → d < darts faces → is_on marks d ≡ true → (begins faces marks d ≡ true)
+      ⊎ GoesBack faces marks d
   one_back d l on = by_twin (twin_on d l on)
     where
-      beside : (t : ℕ) → twin_of faces d ≡ Some t → is_held faces marks (prev_of d) ≡ true → is_held faces marks (next_of t) ≡ true → begins faces marks d ≡ true
-      beside t w before after = or_right _ _ (and_from _ _ on (and_from _ _ before (ap (is_held_after faces marks) w ∙ after)))
+      beside : (t : ℕ) → twin_of faces d ≡ Some t → is_held faces marks (prev_of d) ≡ true
+          → is_held faces marks (next_of t) ≡ true → begins faces marks d ≡ true
+      beside t w before after = or_right _ _
+          (and_from _ _ on (and_from _ _ before (ap (is_held_after faces marks) w ∙ after)))
 
-      by_cross : (t : ℕ) → twin_of faces d ≡ Some t → (a b c : ℕ) → IsCross (half_edges faces) d a b c → (is_on marks b ≡ true) ⊎ (((is_on marks a ≡ true) × (is_on marks c ≡ true)) ⊎ (is_break faces marks (from_of faces d) ≡ true)) → (begins faces marks d ≡ true) ⊎ GoesBack faces marks d
+      by_cross : (t : ℕ) → twin_of faces d ≡ Some t → (a b c : ℕ) → IsCross (half_edges faces) d a b c
+          → (is_on marks b ≡ true) ⊎ (((is_on marks a ≡ true) × (is_on marks c ≡ true))
+          ⊎ (is_break faces marks (from_of faces d) ≡ true)) → (begins faces marks d ≡ true) ⊎ GoesBack faces marks d
       by_cross t w a b c k (inr (inr y)) = inl (or_left _ _ (break_origin d t w y))
-      by_cross t w a b c k (inr (inl (ya, yc))) = inl (beside t w (or_left _ _ (sym (marked.alike (prev_of d) a (laws.prev_low d l) k.first) ∙ ya)) (or_left _ _ (ap (is_on marks) after ∙ yc)))
+      by_cross t w a b c k (inr (inl (ya, yc))) =
+          inl (beside t w (or_left _ _ (sym (marked.alike (prev_of d) a (laws.prev_low d l) k.first) ∙ ya))
+          (or_left _ _ (ap (is_on marks) after ∙ yc)))
         where
           over : twin_of faces d ≡ Some (prev_of c)
           over = laws.twin_twin (prev_of c) d (laws.prev_low c (low_c (half_edges faces) laws d a b c l k)) k.last
@@ -174,8 +226,15 @@ module _ (faces : Faces) (m : IsManifold faces) (marks : List Bool) (marked : Ar
       by_cross t w a b c k (inl yb) = inr (record {
         low = subst (λ (x : ℕ). x < darts faces) (sym is) pa_low;
         on = ap (is_on marks) is ∙ (sym (marked.alike (prev_of a) b pa_low k.second) ∙ yb);
-        follows = ap (follower faces) is ∙ (cond-true (is_passed faces (to_of faces (prev_of a))) (straight_of faces (prev_of a)) None passed_there ∙ ahead);
-        straight = (prev_of d, ap (λ x. twin_of faces (next_of x)) is ∙ (ap (twin_of faces) (laws.next_prev a) ∙ a_twin), sym (laws.next_prev d));
+        follows = ap (follower faces) is
+            ∙ (cond-true (is_passed faces (to_of faces (prev_of a))) (straight_of faces (prev_of a)) None passed_there
+            ∙ ahead);
+        straight = (
+          prev_of d,
+          ap (λ x. twin_of faces (next_of x)) is
+              ∙ (ap (twin_of faces) (laws.next_prev a) ∙ a_twin),
+          sym (laws.next_prev d),
+        );
         cross = (a, b, c, k);
         passed = cross_passed d l (a, b, c, k);
       })
@@ -193,33 +252,49 @@ module _ (faces : Faces) (m : IsManifold faces) (marks : List Bool) (marked : Ar
           a_twin = laws.twin_twin (prev_of d) a (laws.prev_low d l) k.first
 
           ahead : straight_of faces (prev_of a) ≡ Some d
-          ahead = ap (λ x. option_map next_of (twin_of faces x)) (laws.next_prev a) ∙ (ap (option_map next_of) a_twin ∙ ap Some (laws.next_prev d))
+          ahead = ap (λ x. option_map next_of (twin_of faces x)) (laws.next_prev a)
+              ∙ (ap (option_map next_of) a_twin ∙ ap Some (laws.next_prev d))
 
           passed_there : is_passed faces (to_of faces (prev_of a)) ≡ true
-          passed_there = ap (λ x. is_passed faces (from_of faces x)) (laws.next_prev a) ∙ (ap (is_passed faces) (at_a (half_edges faces) laws d a b c l k) ∙ cross_passed d l (a, b, c, k))
+          passed_there = ap (λ x. is_passed faces (from_of faces x)) (laws.next_prev a)
+              ∙ (ap (is_passed faces) (at_a (half_edges faces) laws d a b c l k) ∙ cross_passed d l (a, b, c, k))
 
       -- Where the boundary has two faces, both edges beside d have one dart.
-      on_rim : (t : ℕ) → twin_of faces d ≡ Some t → is_inner faces (from_of faces d) ≡ false → (o p : Option ℕ) → twin_of faces (prev_of d) ≡ o → twin_of faces (next_of t) ≡ p → begins faces marks d ≡ true
+      on_rim : (t : ℕ) → twin_of faces d ≡ Some t → is_inner faces (from_of faces d) ≡ false → (o p : Option ℕ)
+          → twin_of faces (prev_of d) ≡ o → twin_of faces (next_of t) ≡ p → begins faces marks d ≡ true
       on_rim t w out None None before after = beside t w (held_alone (prev_of d) before) (held_alone (next_of t) after)
-      on_rim t w out (Some a) p before after = or_left _ _ (reflex_origin d t w out (subst (λ (v : ℕ). 3 ≤ faces_at faces v) at (three_faces faces laws (prev_of a) (prev_of d) t (laws.prev_low a a_low) (ap (twin_of faces) (laws.next_prev a) ∙ laws.twin_twin (prev_of d) a (laws.prev_low d l) before) (ap (twin_of faces) (laws.next_prev d) ∙ w) (ap (is_inner faces) at ∙ out))))
+      on_rim t w out (Some a) p before after =
+          or_left _ _ (reflex_origin d t w out
+          (subst (λ (v : ℕ). 3 ≤ faces_at faces v) at
+          (three_faces faces laws (prev_of a) (prev_of d) t (laws.prev_low a a_low)
+          (ap (twin_of faces) (laws.next_prev a) ∙ laws.twin_twin (prev_of d) a (laws.prev_low d l) before)
+          (ap (twin_of faces) (laws.next_prev d) ∙ w) (ap (is_inner faces) at ∙ out))))
         where
           a_low : a < darts faces
           a_low = turn_low (half_edges faces) laws d a l before
 
           at : from_of faces (next_of (prev_of a)) ≡ from_of faces d
           at = ap (from_of faces) (laws.next_prev a) ∙ turn_from (half_edges faces) laws d a l before
-      on_rim t w out None (Some u) before after = or_left _ _ (reflex_origin d t w out (subst (λ (v : ℕ). 3 ≤ faces_at faces v) at (three_faces faces laws (prev_of d) t u (laws.prev_low d l) (ap (twin_of faces) (laws.next_prev d) ∙ w) after (ap (is_inner faces) at ∙ out))))
+      on_rim t w out None (Some u) before after =
+          or_left _ _ (reflex_origin d t w out
+          (subst (λ (v : ℕ). 3 ≤ faces_at faces v) at
+          (three_faces faces laws (prev_of d) t u (laws.prev_low d l) (ap (twin_of faces) (laws.next_prev d) ∙ w) after
+          (ap (is_inner faces) at ∙ out))))
         where
           at : from_of faces (next_of (prev_of d)) ≡ from_of faces d
           at = ap (from_of faces) (laws.next_prev d)
 
-      by_kind : (t : ℕ) → twin_of faces d ≡ Some t → (is_inner faces (from_of faces d) ≡ true) ⊎ (is_inner faces (from_of faces d) ≡ false) → (is_regular faces (from_of faces d) ≡ true) ⊎ (is_regular faces (from_of faces d) ≡ false) → (begins faces marks d ≡ true) ⊎ GoesBack faces marks d
+      by_kind : (t : ℕ) → twin_of faces d ≡ Some t → (is_inner faces (from_of faces d) ≡ true)
+          ⊎ (is_inner faces (from_of faces d) ≡ false) → (is_regular faces (from_of faces d) ≡ true)
+          ⊎ (is_regular faces (from_of faces d) ≡ false) → (begins faces marks d ≡ true) ⊎ GoesBack faces marks d
       by_kind t w (inr out) r = inl (on_rim t w out (twin_of faces (prev_of d)) (twin_of faces (next_of t)) refl refl)
-      by_kind t w (inl inner) (inr off) = inl (or_left _ _ (or_left _ _ (or_left _ _ (and_from _ _ inner (not_from_false _ off)))))
+      by_kind t w (inl inner) (inr off) =
+          inl (or_left _ _ (or_left _ _ (or_left _ _ (and_from _ _ inner (not_from_false _ off)))))
       by_kind t w (inl inner) (inl regular) = at (regular_cross faces laws d l inner regular)
         where
           at : HasCross (half_edges faces) d → (begins faces marks d ≡ true) ⊎ GoesBack faces marks d
           at (a, b, c, k) = by_cross t w a b c k (two_ways d a b c l on k)
 
       by_twin : (t : ℕ) × (twin_of faces d ≡ Some t) → (begins faces marks d ≡ true) ⊎ GoesBack faces marks d
-      by_twin (t, w) = by_kind t w (cases_Bool (is_inner faces (from_of faces d))) (cases_Bool (is_regular faces (from_of faces d)))
+      by_twin (t, w) = by_kind t w (cases_Bool (is_inner faces (from_of faces d)))
+          (cases_Bool (is_regular faces (from_of faces d)))

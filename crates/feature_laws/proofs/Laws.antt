@@ -26,28 +26,35 @@ use Rattle.feature_laws.proofs.Breaks.{begins}
 use Rattle.feature_laws.proofs.First.{origin_soon, marked_begin}
 
 -- A mark of the cut.
-pub mark_is : (faces : Faces) (marks : List Bool) (d : ℕ) → d < darts faces → is_on (marked_cut faces marks) d ≡ is_cut (terrain_of faces) (marked_last faces marks) d
-mark_is faces marks d l = get_or-map-range_with_len (is_cut (terrain_of faces) (marked_last faces marks)) 0 (darts faces) d d false l (omega arith)
+pub mark_is : (faces : Faces) (marks : List Bool) (d : ℕ) → d < darts faces
+    → is_on (marked_cut faces marks) d ≡ is_cut (terrain_of faces) (marked_last faces marks) d
+mark_is faces marks d l = get_or-map-range_with_len (is_cut (terrain_of faces) (marked_last faces marks)) 0
+    (darts faces) d d false l (omega arith)
 
 module _ (faces : Faces) (m : IsManifold faces) (marks : List Bool) (marked : AreMarks faces marks) where
   none : ridden (marked_last faces marks).riders ≡ []
-  none = nobody_runs (terrain_of faces) (terrain faces m) (begins faces marks) (marked_first faces marks) (marked_begin faces m marks marked) (vertex_count faces) (all_below faces)
+  none = nobody_runs (terrain_of faces) (terrain faces m) (begins faces marks) (marked_first faces marks)
+      (marked_begin faces m marks marked) (vertex_count faces) (all_below faces)
 
   last : IsReachedFrom (terrain_of faces) (begins faces marks) (marked_first faces marks) (marked_last faces marks)
-  last = end_reached (terrain_of faces) (terrain faces m) (begins faces marks) (marked_first faces marks) (marked_begin faces m marks marked) (vertex_count faces) (all_below faces)
+  last = end_reached (terrain_of faces) (terrain faces m) (begins faces marks) (marked_first faces marks)
+      (marked_begin faces m marks marked) (vertex_count faces) (all_below faces)
 
   cut : IsCut (half_edges faces) (is_cut (terrain_of faces) (marked_last faces marks))
-  cut = full_cut (terrain_of faces) (terrain faces m) (begins faces marks) (marked_first faces marks) (marked_begin faces m marks marked) (marked_last faces marks) last none
+  cut = full_cut (terrain_of faces) (terrain faces m) (begins faces marks) (marked_first faces marks)
+      (marked_begin faces m marks marked) (marked_last faces marks) last none
 
   long : length (marked_cut faces marks) ≡ darts faces
-  long = length-map (all_darts faces) (is_cut (terrain_of faces) (marked_last faces marks)) ∙ length-range_with_len 0 (darts faces)
+  long = length-map (all_darts faces) (is_cut (terrain_of faces) (marked_last faces marks))
+      ∙ length-range_with_len 0 (darts faces)
 
   covered : (d : ℕ) → IsSoon (marked_last faces marks) d → (marked_last faces marks).covered d ≡ true
   covered d (inl c) = c
   covered d (inr n) = absurd (false≢true (sym (ap (is_among d) none) ∙ n))
 
   -- What is covered or ridden first is in the cut, so each origin is.
-  pub soon_cut : (d : ℕ) → d < darts faces → IsSoon (marked_first faces marks) d → is_on (marked_cut faces marks) d ≡ true
+  pub soon_cut : (d : ℕ) → d < darts faces → IsSoon (marked_first faces marks) d
+      → is_on (marked_cut faces marks) d ≡ true
   soon_cut d l k = mark_is faces marks d l ∙ or_left _ _ (covered d (last.kept d k))
 
   pub origin_cut : (d : ℕ) → d < darts faces → is_origin faces marks d ≡ true → is_on (marked_cut faces marks) d ≡ true
@@ -56,7 +63,11 @@ module _ (faces : Faces) (m : IsManifold faces) (marks : List Bool) (marked : Ar
   pub keeps_marks : KeepsMarks faces marks
   keeps_marks = record {
     rests = none;
-    full = (full_cut_law faces (marked_cut faces marks) m).1 (long, same_cut (half_edges faces) (manifold_law faces m) (is_cut (terrain_of faces) (marked_last faces marks)) (is_on (marked_cut faces marks)) (mark_is faces marks) cut);
+    full = (full_cut_law faces (marked_cut faces marks) m).1 (
+      long,
+      same_cut (half_edges faces) (manifold_law faces m) (is_cut (terrain_of faces) (marked_last faces marks))
+          (is_on (marked_cut faces marks)) (mark_is faces marks) cut,
+    );
     kept = λ d l on. soon_cut d l (inl on);
   }
 

@@ -1,5 +1,6 @@
 -- Without marks the motion is that of the traced graph.
-use Rattle.std.proofs.Common.{◌≡◌, ℕ, zero, suc, ◌<◌, Bool, true, false, not, eqb, ◌&&◌, ◌||◌, List, map, replicate, Some, is_some, sym, subst, ap, ◌∙◌, refl, arith}
+use Rattle.std.proofs.Common.{◌≡◌, ℕ, zero, suc, ◌<◌, Bool, true, false, not, eqb, ◌&&◌, ◌||◌, List, map, replicate}
+use Rattle.std.proofs.Common.{Some, is_some, sym, subst, ap, ◌∙◌, refl, arith}
 use Rattle.std.specs.List.{filter, list_any}
 use Rattle.std.proofs.lemmas.Bool.{false≢true, false_from_ne_true, and_parts}
 use Rattle.std.proofs.lemmas.List.{length-replicate}
@@ -31,7 +32,7 @@ module _ (faces : Faces) where
   abbrev pub no_marks : List Bool
   no_marks = replicate (darts faces) false
 
-  off : (d : ℕ) → is_on (replicate (darts faces) false) d ≡ false
+  pub off : (d : ℕ) → is_on (replicate (darts faces) false) d ≡ false
   off d = none_on (darts faces) d
 
   pub are_none : AreMarks faces (replicate (darts faces) false)
@@ -45,17 +46,23 @@ module _ (faces : Faces) where
   no_round v zero d l = absurd (omega arith)
   no_round v (suc n) d l = rw (off d) refl
 
-  no_break : (v : ℕ) → is_break faces (replicate (darts faces) false) v ≡ false
-  no_break v = at (is_passed faces v) (is_touched faces (replicate (darts faces) false) v) (not (is_crossed faces (replicate (darts faces) false) v)) (is_least_in_ring faces (replicate (darts faces) false) v)
+  pub no_break : (v : ℕ) → is_break faces (replicate (darts faces) false) v ≡ false
+  no_break v = at (is_passed faces v) (is_touched faces (replicate (darts faces) false) v)
+      (not (is_crossed faces (replicate (darts faces) false) v))
+      (is_least_in_ring faces (replicate (darts faces) false) v)
       (none_pass (is_on (replicate (darts faces) false)) (fan_of faces v) (λ d n. off d))
-      (none_pass (goes_round faces (replicate (darts faces) false) v (darts faces)) (fan_of faces v) (λ d n. no_round v (darts faces) d (omega (arith, (from_fan faces v d n).0))))
+      (none_pass (goes_round faces (replicate (darts faces) false) v (darts faces)) (fan_of faces v)
+      (λ d n. no_round v (darts faces) d (omega (arith, (from_fan faces v d n).0))))
     where
       at : (p t c r : Bool) → t ≡ false → r ≡ false → (p && ((t && c) || r)) ≡ false
       at true t c r e f = rw (e, f) refl
       at false t c r e f = refl
 
-  same_test_at : (d : ℕ) → (is_origin faces (replicate (darts faces) false) d && not (is_on (replicate (darts faces) false) d)) ≡ is_start faces (seeds faces) d
-  same_test_at d = at (is_start faces (seeds faces) d) (is_some (twin_of faces d)) (is_break faces (replicate (darts faces) false) (from_of faces d)) (is_on (replicate (darts faces) false) d) (no_break (from_of faces d)) (off d)
+  same_test_at : (d : ℕ) → (is_origin faces (replicate (darts faces) false) d && not
+      (is_on (replicate (darts faces) false) d)) ≡ is_start faces (seeds faces) d
+  same_test_at d = at (is_start faces (seeds faces) d) (is_some (twin_of faces d))
+      (is_break faces (replicate (darts faces) false) (from_of faces d)) (is_on (replicate (darts faces) false) d)
+      (no_break (from_of faces d)) (off d)
     where
       at : (s t b o : Bool) → b ≡ false → o ≡ false → ((s || (t && b)) && not o) ≡ s
       at true t b o e f = rw f refl
@@ -65,8 +72,12 @@ module _ (faces : Faces) where
   pub same_starts : marked_starts faces (replicate (darts faces) false) ≡ start_darts faces
   same_starts = λ i. filter (λ d. same_test_at d i) (all_darts faces)
 
-  same_stood : (v : ℕ) → (list_any (λ d. eqb (from_of faces d) v) (marked_starts faces (replicate (darts faces) false)) || list_any (λ d. is_on (replicate (darts faces) false) d && is_end faces v d) (all_darts faces)) ≡ list_any (λ d. eqb (from_of faces d) v) (start_darts faces)
-  same_stood v = ap (λ b. list_any (λ d. eqb (from_of faces d) v) (marked_starts faces (replicate (darts faces) false)) || b) (none_pass (λ d. is_on (replicate (darts faces) false) d && is_end faces v d) (all_darts faces) (λ d n. rw (off d) refl))
+  same_stood : (v : ℕ) → (list_any (λ d. eqb (from_of faces d) v) (marked_starts faces (replicate (darts faces) false))
+      || list_any (λ d. is_on (replicate (darts faces) false) d && is_end faces v d) (all_darts faces)) ≡ list_any
+      (λ d. eqb (from_of faces d) v) (start_darts faces)
+  same_stood v = ap (λ b. list_any (λ d. eqb (from_of faces d) v) (marked_starts faces (replicate (darts faces) false))
+      || b) (none_pass (λ d. is_on (replicate (darts faces) false) d && is_end faces v d) (all_darts faces)
+      (λ d n. rw (off d) refl))
       ∙ (or_none (list_any (λ d. eqb (from_of faces d) v) (marked_starts faces (replicate (darts faces) false)))
       ∙ ap (list_any (λ d. eqb (from_of faces d) v)) same_starts)
     where
@@ -86,5 +97,7 @@ module _ (faces : Faces) where
   pub same_graph : (graph : Graph) → IsMarkedGraph faces (replicate (darts faces) false) graph → IsGraphOf faces graph
   same_graph graph g = record {
     covered = g.covered ∙ same_cut;
-    riders = subst (λ (ds : List ℕ). AreRiders (last_state faces).riders ds graph.riders.items) same_starts (subst (λ (ms : List Moving). AreRiders ms (marked_starts faces (replicate (darts faces) false)) graph.riders.items) (ap (λ (s : State). s.riders) same_last) g.riders);
+    riders = subst (λ (ds : List ℕ). AreRiders (last_state faces).riders ds graph.riders.items) same_starts
+        (subst (λ (ms : List Moving). AreRiders ms (marked_starts faces (replicate (darts faces) false))
+        graph.riders.items) (ap (λ (s : State). s.riders) same_last) g.riders);
   }

@@ -1,14 +1,15 @@
--- Joinable arcs: those with a dart in common are one, each has a name, and those that come up are told by where they run.
-use Rattle.std.proofs.Common.{◌≡◌, ◌⊎◌, ℕ, zero, suc, ◌-◌, ◌<◌, ◌≤◌, Bool, true, false, sym, ◌∙◌, ap, subst, refl, inl, inr, true≢false, arith}
+-- Joinable arcs: those with a dart in common are one, each has a name, and those that come up are told by where they
+-- run.
+use Rattle.std.proofs.Common.{◌≡◌, ◌⊎◌, ℕ, zero, suc, ◌-◌, ◌<◌, ◌≤◌, Bool, true, false, sym, ◌∙◌, ap, subst, refl, inl}
+use Rattle.std.proofs.Common.{inr, true≢false, arith}
 use Rattle.std.proofs.lemmas.Bool.{cases_Bool, cases_eq, cases_lt}
 use Rattle.std.proofs.lemmas.Option.{same_Some}
 use Rattle.def_mesh.specs.HalfEdges.{HalfEdges, IsQuadManifold}
 use Rattle.def_cut.specs.Cuts.{Cut, IsCut}
-use Rattle.def_cut.specs.Grids.{IsGrid}
 use Rattle.def_cut.specs.Steps.{easts}
-use Rattle.cut_laws.specs.Grown.{grown}
-use Rattle.merge_laws.proofs.Sides.{side_low, side_on, first_place, one_place, one_size, grid_on}
-use Rattle.merge_laws.proofs.Joins.{on_or_not, other_way, other_without, turned_glued, turned_arc, less, links_less, start_stays, join_law}
+use Rattle.merge_laws.proofs.Sides.{side_low, side_on, first_place, one_place, one_size}
+use Rattle.merge_laws.proofs.ArcDarts.{on_or_not, other_way, turned_glued, less, links_less}
+use Rattle.merge_laws.proofs.Joins.{join_law}
 use Rattle.def_merge.specs.Joins.{IsWholeSide, AreInOne, AreGlued, IsJoinable, IsOnArc, IsNameOf, IsWithout}
 use Rattle.def_merge.specs.Laws.{GrownLaw}
 
@@ -21,36 +22,66 @@ some_or_none : (p : ℕ → Bool) (n : ℕ) → ((k : ℕ) × (k < n) × (p k �
 some_or_none p zero = inr (λ k l. absurd (omega arith))
 some_or_none p (suc n) = by_before (some_or_none p n) (cases_Bool (p n))
   where
-    by_before : ((k : ℕ) × (k < n) × (p k ≡ true)) ⊎ ((k : ℕ) → k < n → p k ≡ false) → (p n ≡ true) ⊎ (p n ≡ false) → ((k : ℕ) × (k < suc n) × (p k ≡ true)) ⊎ ((k : ℕ) → k < suc n → p k ≡ false)
+    by_before : ((k : ℕ) × (k < n) × (p k ≡ true)) ⊎ ((k : ℕ) → k < n → p k ≡ false) → (p n ≡ true) ⊎ (p n ≡ false)
+        → ((k : ℕ) × (k < suc n) × (p k ≡ true)) ⊎ ((k : ℕ) → k < suc n → p k ≡ false)
     by_before (inl f) b = inl (f.0, omega (arith, f.1), f.2)
     by_before (inr none) (inl on) = inl (n, omega arith, on)
-    by_before (inr none) (inr off) = inr (λ k l. elim (cases_eq k n) [ inl e ↦ ap p e ∙ off | inr ne ↦ none k (omega arith) ])
+    by_before (inr none) (inr off) =
+        inr (λ k l. elim (cases_eq k n) [ inl e ↦ ap p e ∙ off | inr ne ↦ none k (omega arith) ])
 
 -- Two darts for each of n places: the least of them.
-least_below : (f g : ℕ → ℕ) (n : ℕ) → 0 < n → (m : ℕ) × ((k : ℕ) × (k < n) × ((m ≡ f k) ⊎ (m ≡ g k))) × ((k : ℕ) → k < n → (m ≤ f k) × (m ≤ g k))
+least_below : (f g : ℕ → ℕ) (n : ℕ) → 0 < n → (m : ℕ) × ((k : ℕ) × (k < n) × ((m ≡ f k) ⊎ (m ≡ g k)))
+    × ((k : ℕ) → k < n → (m ≤ f k) × (m ≤ g k))
 least_below f g zero l = absurd (omega arith)
 least_below f g (suc zero) l = elim (cases_lt (g 0) (f 0)) [
-  | inl less ↦ (g 0, (0, omega arith, inr refl), λ k h. let e : k ≡ 0 = omega arith in let a : f k ≡ f 0 = ap f e in let b : g k ≡ g 0 = ap g e in (omega arith, omega arith))
-  | inr more ↦ (f 0, (0, omega arith, inl refl), λ k h. let e : k ≡ 0 = omega arith in let a : f k ≡ f 0 = ap f e in let b : g k ≡ g 0 = ap g e in (omega arith, omega arith))
+  | inl less ↦ (
+    g 0,
+    (0, omega arith, inr refl),
+    λ k h. let e : k ≡ 0 = omega arith in let a : f k ≡ f 0 =
+        ap f e in let b : g k ≡ g 0 = ap g e in (omega arith, omega arith),
+  )
+  | inr more ↦ (
+    f 0,
+    (0, omega arith, inl refl),
+    λ k h. let e : k ≡ 0 = omega arith in let a : f k ≡ f 0 =
+        ap f e in let b : g k ≡ g 0 = ap g e in (omega arith, omega arith),
+  )
 ]
 least_below f g (suc (suc n)) l = by_rest (least_below f g (suc n) (omega arith))
   where
-    with_last : (m : ℕ) → (m ≤ f (suc n)) → (m ≤ g (suc n)) → ((k : ℕ) → k < suc n → (m ≤ f k) × (m ≤ g k)) → (k : ℕ) → k < suc (suc n) → (m ≤ f k) × (m ≤ g k)
+    with_last : (m : ℕ) → (m ≤ f (suc n)) → (m ≤ g (suc n)) → ((k : ℕ) → k < suc n → (m ≤ f k) × (m ≤ g k)) → (k : ℕ)
+        → k < suc (suc n) → (m ≤ f k) × (m ≤ g k)
     with_last m a b before k h = elim (cases_eq k (suc n)) [
       | inl e ↦ let x : f k ≡ f (suc n) = ap f e in let y : g k ≡ g (suc n) = ap g e in (omega arith, omega arith)
       | inr ne ↦ before k (omega arith)
     ]
 
-    lower : (m m' : ℕ) → m' ≤ m → ((k : ℕ) → k < suc n → (m ≤ f k) × (m ≤ g k)) → (k : ℕ) → k < suc n → (m' ≤ f k) × (m' ≤ g k)
+    lower : (m m' : ℕ) → m' ≤ m → ((k : ℕ) → k < suc n → (m ≤ f k) × (m ≤ g k)) → (k : ℕ) → k < suc n → (m' ≤ f k)
+        × (m' ≤ g k)
     lower m m' h all k l = (omega (arith, (all k l).0), omega (arith, (all k l).1))
 
-    by_rest : (m : ℕ) × ((k : ℕ) × (k < suc n) × ((m ≡ f k) ⊎ (m ≡ g k))) × ((k : ℕ) → k < suc n → (m ≤ f k) × (m ≤ g k)) → (m : ℕ) × ((k : ℕ) × (k < suc (suc n)) × ((m ≡ f k) ⊎ (m ≡ g k))) × ((k : ℕ) → k < suc (suc n) → (m ≤ f k) × (m ≤ g k))
+    by_rest : (m : ℕ) × ((k : ℕ) × (k < suc n) × ((m ≡ f k) ⊎ (m ≡ g k)))
+        × ((k : ℕ) → k < suc n → (m ≤ f k) × (m ≤ g k)) → (m : ℕ)
+        × ((k : ℕ) × (k < suc (suc n)) × ((m ≡ f k) ⊎ (m ≡ g k))) × ((k : ℕ) → k < suc (suc n) → (m ≤ f k) × (m ≤ g k))
     by_rest r = at r.0 r.1 r.2 (cases_lt (f (suc n)) r.0) (cases_lt (g (suc n)) r.0) (cases_lt (g (suc n)) (f (suc n)))
       where
-        at : (m : ℕ) → ((k : ℕ) × (k < suc n) × ((m ≡ f k) ⊎ (m ≡ g k))) → ((k : ℕ) → k < suc n → (m ≤ f k) × (m ≤ g k)) → (f (suc n) < m) ⊎ (m ≤ f (suc n)) → (g (suc n) < m) ⊎ (m ≤ g (suc n)) → (g (suc n) < f (suc n)) ⊎ (f (suc n) ≤ g (suc n)) → (m : ℕ) × ((k : ℕ) × (k < suc (suc n)) × ((m ≡ f k) ⊎ (m ≡ g k))) × ((k : ℕ) → k < suc (suc n) → (m ≤ f k) × (m ≤ g k))
+        at : (m : ℕ) → ((k : ℕ) × (k < suc n) × ((m ≡ f k) ⊎ (m ≡ g k))) → ((k : ℕ) → k < suc n → (m ≤ f k) × (m ≤ g k))
+            → (f (suc n) < m) ⊎ (m ≤ f (suc n)) → (g (suc n) < m) ⊎ (m ≤ g (suc n)) → (g (suc n) < f (suc n))
+            ⊎ (f (suc n) ≤ g (suc n)) → (m : ℕ) × ((k : ℕ) × (k < suc (suc n)) × ((m ≡ f k) ⊎ (m ≡ g k)))
+            × ((k : ℕ) → k < suc (suc n) → (m ≤ f k) × (m ≤ g k))
         at m is all (inr a) (inr b) c = (m, (is.0, omega (arith, is.1), is.2), with_last m a b all)
-        at m is all (inl a) b (inr c) = (f (suc n), (suc n, omega arith, inl refl), with_last (f (suc n)) (omega arith) c (lower m (f (suc n)) (omega arith) all))
-        at m is all a (inl b) (inl c) = (g (suc n), (suc n, omega arith, inr refl), with_last (g (suc n)) (omega arith) (omega arith) (lower m (g (suc n)) (omega arith) all))
+        at m is all (inl a) b (inr c) = (
+          f (suc n),
+          (suc n, omega arith, inl refl),
+          with_last (f (suc n)) (omega arith) c
+              (lower m (f (suc n)) (omega arith) all),
+        )
+        at m is all a (inl b) (inl c) = (
+          g (suc n),
+          (suc n, omega arith, inr refl),
+          with_last (g (suc n)) (omega arith) (omega arith)
+              (lower m (g (suc n)) (omega arith) all),
+        )
         at m is all (inl a) (inr b) (inl c) = absurd (omega arith)
         at m is all (inr a) (inl b) (inr c) = absurd (omega arith)
 
@@ -58,7 +89,8 @@ least_below f g (suc (suc n)) l = by_rest (least_below f g (suc n) (omega arith)
 pub name_there : (mesh : HalfEdges) (s t n : ℕ) → 0 < n → (name : ℕ) × IsNameOf mesh s t n name
 name_there mesh s t n some = by_least (least_below (easts mesh s) (easts mesh t) n some)
   where
-    by_least : (m : ℕ) × ((k : ℕ) × (k < n) × ((m ≡ easts mesh s k) ⊎ (m ≡ easts mesh t k))) × ((k : ℕ) → k < n → (m ≤ easts mesh s k) × (m ≤ easts mesh t k)) → (name : ℕ) × IsNameOf mesh s t n name
+    by_least : (m : ℕ) × ((k : ℕ) × (k < n) × ((m ≡ easts mesh s k) ⊎ (m ≡ easts mesh t k)))
+        × ((k : ℕ) → k < n → (m ≤ easts mesh s k) × (m ≤ easts mesh t k)) → (name : ℕ) × IsNameOf mesh s t n name
     by_least r = (r.0, record { on = r.1; least = λ d o. at d o.0 o.1 o.2 })
       where
         at : (d k : ℕ) → k < n → (d ≡ easts mesh s k) ⊎ (d ≡ easts mesh t k) → r.0 ≤ d
@@ -69,7 +101,11 @@ pub one_name : (mesh : HalfEdges) (s t n a b : ℕ) → IsNameOf mesh s t n a �
 one_name mesh s t n a b one two = omega (arith, one.least b two.on, two.least a one.on)
 
 pub name_other : (mesh : HalfEdges) (s t n a : ℕ) → IsNameOf mesh s t n a → IsNameOf mesh t s n a
-name_other mesh s t n a is = record { on = other_way mesh s t n a is.on; least = λ d o. is.least d (other_way mesh t s n d o) }
+name_other mesh s t n a is = record {
+  on = other_way mesh s t n a is.on;
+  least =
+      λ d o. is.least d (other_way mesh t s n d o);
+}
 
 module _ (mesh : HalfEdges) (laws : IsQuadManifold mesh) (cut : Cut) (full : IsCut mesh cut) where
   -- The other side is told by the first.
@@ -80,43 +116,42 @@ module _ (mesh : HalfEdges) (laws : IsQuadManifold mesh) (cut : Cut) (full : IsC
       same = one_size mesh laws cut full s n m one.near two.near
 
       far : t ≡ u
-      far = same_Some t u (sym (one.across (n - 1) 0 (omega (arith, one.near.some))) ∙ (ap (λ x. mesh.twin (easts mesh s (x - 1))) same ∙ two.across (m - 1) 0 (omega (arith, two.near.some))))
+      far = same_Some t u (sym (one.across (n - 1) 0 (omega (arith, one.near.some)))
+          ∙ (ap (λ x. mesh.twin (easts mesh s (x - 1))) same ∙ two.across (m - 1) 0 (omega (arith, two.near.some))))
 
-  one_near : (s t n r u m k j : ℕ) → AreGlued mesh cut s t n → AreGlued mesh cut r u m → k < n → j < m → easts mesh s k ≡ easts mesh r j → (s ≡ r) × (t ≡ u) × (n ≡ m)
+  one_near : (s t n r u m k j : ℕ) → AreGlued mesh cut s t n → AreGlued mesh cut r u m → k < n → j < m
+      → easts mesh s k ≡ easts mesh r j → (s ≡ r) × (t ≡ u) × (n ≡ m)
   one_near s t n r u m k j one two lk lj e =
       let start : s ≡ r = (one_place mesh laws cut full s n r m k j one.near two.near lk lj e).0 in
       let f : (t ≡ u) × (n ≡ m) = one_far s t u n m one (subst (λ (x : ℕ). AreGlued mesh cut x u m) (sym start) two) in
       (start, f.0, f.1)
 
   -- Arcs with a dart in common are one.
-  pub one_arc : (s t n r u m d : ℕ) → AreGlued mesh cut s t n → AreGlued mesh cut r u m → IsOnArc mesh s t n d → IsOnArc mesh r u m d → AreOneArc s t r u × (n ≡ m)
+  pub one_arc : (s t n r u m d : ℕ) → AreGlued mesh cut s t n → AreGlued mesh cut r u m → IsOnArc mesh s t n d
+      → IsOnArc mesh r u m d → AreOneArc s t r u × (n ≡ m)
   one_arc s t n r u m d one two a b = by_sides a.0 b.0 a.1 b.1 a.2 b.2
     where
-      by_sides : (k j : ℕ) → k < n → j < m → (d ≡ easts mesh s k) ⊎ (d ≡ easts mesh t k) → (d ≡ easts mesh r j) ⊎ (d ≡ easts mesh u j) → AreOneArc s t r u × (n ≡ m)
-      by_sides k j lk lj (inl e) (inl f) = let p : (s ≡ r) × (t ≡ u) × (n ≡ m) = one_near s t n r u m k j one two lk lj (sym e ∙ f) in (inl (p.0, p.1), p.2)
-      by_sides k j lk lj (inl e) (inr f) = let p : (s ≡ u) × (t ≡ r) × (n ≡ m) = one_near s t n u r m k j one (turned_glued mesh laws cut full r u m two) lk lj (sym e ∙ f) in (inr (p.0, p.1), p.2)
-      by_sides k j lk lj (inr e) (inl f) = let p : (t ≡ r) × (s ≡ u) × (n ≡ m) = one_near t s n r u m k j (turned_glued mesh laws cut full s t n one) two lk lj (sym e ∙ f) in (inr (p.1, p.0), p.2)
-      by_sides k j lk lj (inr e) (inr f) = let p : (t ≡ u) × (s ≡ r) × (n ≡ m) = one_near t s n u r m k j (turned_glued mesh laws cut full s t n one) (turned_glued mesh laws cut full r u m two) lk lj (sym e ∙ f) in (inl (p.1, p.0), p.2)
+      by_sides : (k j : ℕ) → k < n → j < m → (d ≡ easts mesh s k) ⊎ (d ≡ easts mesh t k) → (d ≡ easts mesh r j)
+          ⊎ (d ≡ easts mesh u j) → AreOneArc s t r u × (n ≡ m)
+      by_sides k j lk lj (inl e) (inl f) = let p : (s ≡ r) × (t ≡ u) × (n ≡ m) =
+          one_near s t n r u m k j one two lk lj (sym e ∙ f) in (inl (p.0, p.1), p.2)
+      by_sides k j lk lj (inl e) (inr f) = let p : (s ≡ u) × (t ≡ r) × (n ≡ m) =
+          one_near s t n u r m k j one (turned_glued mesh laws cut full r u m two) lk lj (sym e ∙ f) in
+          (inr (p.0, p.1), p.2)
+      by_sides k j lk lj (inr e) (inl f) = let p : (t ≡ r) × (s ≡ u) × (n ≡ m) =
+          one_near t s n r u m k j (turned_glued mesh laws cut full s t n one) two lk lj (sym e ∙ f) in
+          (inr (p.1, p.0), p.2)
+      by_sides k j lk lj (inr e) (inr f) = let p : (t ≡ u) × (s ≡ r) × (n ≡ m) =
+          one_near t s n u r m k j (turned_glued mesh laws cut full s t n one)
+          (turned_glued mesh laws cut full r u m two) lk lj (sym e ∙ f) in (inl (p.1, p.0), p.2)
 
   module _ (rest : Cut) (s t n : ℕ) (arc : IsJoinable mesh cut s t n) (without : IsWithout mesh cut rest s t n) where
     full_rest : IsCut mesh rest
     full_rest = join_law mesh cut rest s t n laws full arc without
 
-    -- The edges before its two starts stay.
-    pub near_stays : rest (mesh.prev s) ≡ true
-    near_stays = by_grids (grid_on mesh laws cut full s n arc.glued.near) (grid_on mesh laws cut full t n arc.glued.far)
-      where
-        by_grids : (h : ℕ) × IsGrid mesh cut n h (grown mesh s) → (g : ℕ) × IsGrid mesh cut n g (grown mesh t) → rest (mesh.prev s) ≡ true
-        by_grids p q = start_stays mesh laws cut full s t n arc p.0 q.0 p.1 q.1 rest without
-
-    pub far_stays : rest (mesh.prev t) ≡ true
-    far_stays = by_grids (grid_on mesh laws cut full t n arc.glued.far) (grid_on mesh laws cut full s n arc.glued.near)
-      where
-        by_grids : (h : ℕ) × IsGrid mesh cut n h (grown mesh t) → (g : ℕ) × IsGrid mesh cut n g (grown mesh s) → rest (mesh.prev t) ≡ true
-        by_grids p q = start_stays mesh laws cut full t s n (turned_arc mesh laws cut full s t n arc) p.0 q.0 p.1 q.1 rest (other_without mesh cut rest s t n without)
-
     -- A cut dart that led into the arc arrived at one of its ends.
-    over_end : (d : ℕ) → d < mesh.count → rest d ≡ true → IsOnArc mesh s t n (mesh.next d) → (d ≡ mesh.prev s) ⊎ (d ≡ mesh.prev t)
+    over_end : (d : ℕ) → d < mesh.count → rest d ≡ true → IsOnArc mesh s t n (mesh.next d) → (d ≡ mesh.prev s)
+        ⊎ (d ≡ mesh.prev t)
     over_end d l on o = by_side o.0 o.1 o.2
       where
         was : cut (mesh.prev (mesh.next d)) ≡ true
@@ -124,46 +159,73 @@ module _ (mesh : HalfEdges) (laws : IsQuadManifold mesh) (cut : Cut) (full : IsC
 
         start : (c k : ℕ) → IsWholeSide mesh cut c n → k < n → mesh.next d ≡ easts mesh c k → d ≡ mesh.prev c
         start c k side lk e =
-            let zero_is : k ≡ 0 = first_place mesh laws cut full c n side k lk (ap (λ x. cut (mesh.prev x)) (sym e) ∙ was) in
+            let zero_is : k ≡ 0 = first_place mesh laws cut full c n side k lk
+            (ap (λ x. cut (mesh.prev x)) (sym e) ∙ was) in
             sym (laws.prev_next d) ∙ ap mesh.prev (e ∙ ap (easts mesh c) zero_is)
 
-        by_side : (k : ℕ) → k < n → (mesh.next d ≡ easts mesh s k) ⊎ (mesh.next d ≡ easts mesh t k) → (d ≡ mesh.prev s) ⊎ (d ≡ mesh.prev t)
+        by_side : (k : ℕ) → k < n → (mesh.next d ≡ easts mesh s k) ⊎ (mesh.next d ≡ easts mesh t k) → (d ≡ mesh.prev s)
+            ⊎ (d ≡ mesh.prev t)
         by_side k lk (inl e) = inl (start s k arc.glued.near lk e)
         by_side k lk (inr e) = inr (start t k arc.glued.far lk e)
 
     -- A whole side was one before, or it goes on over an end of the arc.
-    side_before_or_over : (r m : ℕ) → IsWholeSide mesh rest r m → IsWholeSide mesh cut r m ⊎ ((k : ℕ) × (k < m) × ((mesh.prev s ≡ easts mesh r k) ⊎ (mesh.prev t ≡ easts mesh r k)))
+    side_before_or_over : (r m : ℕ) → IsWholeSide mesh rest r m → IsWholeSide mesh cut r m
+        ⊎ ((k : ℕ) × (k < m) × ((mesh.prev s ≡ easts mesh r k) ⊎ (mesh.prev t ≡ easts mesh r k)))
     unfolding full_rest
     side_before_or_over r m side = by_search (some_or_none (λ k. cut (mesh.next (easts mesh r k))) (m - 1))
       where
         low : (k : ℕ) → k < m → easts mesh r k < mesh.count
         low k l = side_low mesh laws rest full_rest r m side k l
 
-        by_search : ((k : ℕ) × (k < m - 1) × (cut (mesh.next (easts mesh r k)) ≡ true)) ⊎ ((k : ℕ) → k < m - 1 → cut (mesh.next (easts mesh r k)) ≡ false) → IsWholeSide mesh cut r m ⊎ ((k : ℕ) × (k < m) × ((mesh.prev s ≡ easts mesh r k) ⊎ (mesh.prev t ≡ easts mesh r k)))
+        by_search : ((k : ℕ) × (k < m - 1) × (cut (mesh.next (easts mesh r k)) ≡ true))
+            ⊎ ((k : ℕ) → k < m - 1 → cut (mesh.next (easts mesh r k)) ≡ false) → IsWholeSide mesh cut r m
+            ⊎ ((k : ℕ) × (k < m) × ((mesh.prev s ≡ easts mesh r k) ⊎ (mesh.prev t ≡ easts mesh r k)))
         by_search (inl f) = at f.0 f.1 f.2
           where
-            at : (k : ℕ) → k < m - 1 → cut (mesh.next (easts mesh r k)) ≡ true → IsWholeSide mesh cut r m ⊎ ((k : ℕ) × (k < m) × ((mesh.prev s ≡ easts mesh r k) ⊎ (mesh.prev t ≡ easts mesh r k)))
+            at : (k : ℕ) → k < m - 1 → cut (mesh.next (easts mesh r k)) ≡ true → IsWholeSide mesh cut r m
+                ⊎ ((k : ℕ) × (k < m) × ((mesh.prev s ≡ easts mesh r k) ⊎ (mesh.prev t ≡ easts mesh r k)))
             at k l on = elim (on_or_not mesh s t n (mesh.next (easts mesh r k))) [
-              | inl o ↦ inr (k, omega arith, elim (over_end (easts mesh r k) (low k (omega arith)) (side_on mesh laws rest full_rest r m side k (omega arith)) o) [ inl e ↦ inl (sym e) | inr e ↦ inr (sym e) ])
-              | inr none ↦ absurd (true≢false (sym on ∙ (sym (without.kept (mesh.next (easts mesh r k)) (laws.next_low (easts mesh r k) (low k (omega arith))) none) ∙ side.inside k (omega arith))))
+              | inl o ↦ inr (
+                k,
+                omega arith,
+                elim (over_end (easts mesh r k) (low k (omega arith))
+                    (side_on mesh laws rest full_rest r m side k (omega arith)) o)
+                    [ inl e ↦ inl (sym e) | inr e ↦ inr (sym e) ],
+              )
+              | inr none ↦ absurd (true≢false
+                  (sym on
+                  ∙ (sym (without.kept (mesh.next (easts mesh r k))
+                  (laws.next_low (easts mesh r k) (low k (omega arith))) none) ∙ side.inside k (omega arith))))
             ]
         by_search (inr none) = inl (record {
           some = side.some;
-          corner = (side.corner.0, less mesh laws cut rest s t n without r side.corner.0 side.corner.1, less mesh laws cut rest s t n without (mesh.prev r) (laws.prev_low r side.corner.0) side.corner.2);
+          corner = (
+            side.corner.0,
+            less mesh laws cut rest s t n without r side.corner.0 side.corner.1,
+            less mesh laws cut rest s t n without (mesh.prev r) (laws.prev_low r side.corner.0) side.corner.2,
+          );
           inside = λ k l. none k (omega arith);
-          ends = λ k e. less mesh laws cut rest s t n without (mesh.next (easts mesh r k)) (laws.next_low (easts mesh r k) (low k (omega arith))) (side.ends k e);
+          ends = λ k e. less mesh laws cut rest s t n without (mesh.next (easts mesh r k))
+              (laws.next_low (easts mesh r k) (low k (omega arith))) (side.ends k e);
         })
 
-    grown_arc : (r u m : ℕ) → IsJoinable mesh rest r u m → IsJoinable mesh cut r u m ⊎ (IsOnArc mesh r u m (mesh.prev s) ⊎ IsOnArc mesh r u m (mesh.prev t))
+    grown_arc : (r u m : ℕ) → IsJoinable mesh rest r u m → IsJoinable mesh cut r u m
+        ⊎ (IsOnArc mesh r u m (mesh.prev s) ⊎ IsOnArc mesh r u m (mesh.prev t))
     grown_arc r u m new = by_sides (side_before_or_over r m new.glued.near) (side_before_or_over u m new.glued.far)
       where
         apart : AreInOne mesh cut r u → ⊥
         apart a = new.apart (a.0, links_less mesh laws cut rest s t n without r u a.0 new.glued.near.corner.0 a.1)
 
-        by_sides : IsWholeSide mesh cut r m ⊎ ((k : ℕ) × (k < m) × ((mesh.prev s ≡ easts mesh r k) ⊎ (mesh.prev t ≡ easts mesh r k))) → IsWholeSide mesh cut u m ⊎ ((k : ℕ) × (k < m) × ((mesh.prev s ≡ easts mesh u k) ⊎ (mesh.prev t ≡ easts mesh u k))) → IsJoinable mesh cut r u m ⊎ (IsOnArc mesh r u m (mesh.prev s) ⊎ IsOnArc mesh r u m (mesh.prev t))
-        by_sides (inl a) (inl b) = inl (record { glued = record { near = a; far = b; across = new.glued.across }; apart = apart })
+        by_sides : IsWholeSide mesh cut r m
+            ⊎ ((k : ℕ) × (k < m) × ((mesh.prev s ≡ easts mesh r k) ⊎ (mesh.prev t ≡ easts mesh r k)))
+            → IsWholeSide mesh cut u m ⊎ ((k : ℕ) × (k < m)
+            × ((mesh.prev s ≡ easts mesh u k) ⊎ (mesh.prev t ≡ easts mesh u k))) → IsJoinable mesh cut r u m
+            ⊎ (IsOnArc mesh r u m (mesh.prev s) ⊎ IsOnArc mesh r u m (mesh.prev t))
+        by_sides (inl a) (inl b) = inl
+            (record { glued = record { near = a; far = b; across = new.glued.across }; apart = apart })
         by_sides (inl a) (inr o) = inr (elim o.2 [ inl e ↦ inl (o.0, o.1, inr e) | inr e ↦ inr (o.0, o.1, inr e) ])
         by_sides (inr o) b = inr (elim o.2 [ inl e ↦ inl (o.0, o.1, inl e) | inr e ↦ inr (o.0, o.1, inl e) ])
 
 pub grown_law : GrownLaw
-grown_law mesh cut rest s t n r u m laws full arc without new = grown_arc mesh laws cut full rest s t n arc without r u m new
+grown_law mesh cut rest s t n r u m laws full arc without new =
+    grown_arc mesh laws cut full rest s t n arc without r u m new

@@ -1,202 +1,23 @@
--- Each full cut has a merged cut: whether an arc is joinable is decided, and each step leaves fewer darts.
-use Rattle.std.proofs.Common.{◌≡◌, ◌⊎◌, ℕ, zero, suc, ◌+◌, ◌-◌, ◌<◌, ◌≤◌, Bool, true, false, cond, Option, Some, None, List, map, sym, ◌∙◌, ap, subst, refl, inl, inr, true≢false, arith}
+-- Each full cut has a merged cut: each step leaves fewer darts.
+use Rattle.std.proofs.Common.{◌≡◌, ◌⊎◌, ℕ, zero, suc, ◌<◌, ◌≤◌, Bool, true, false, cond}
+use Rattle.std.proofs.Common.{List, map, sym, ◌∙◌, ap, subst, refl, inl, inr, arith}
 use Rattle.std.specs.List.{range_with_len}
-use Rattle.std.proofs.lemmas.Bool.{cases_Bool, cases_eq, cases_lt}
+use Rattle.std.proofs.lemmas.Bool.{cases_lt}
 use Rattle.std.proofs.lemmas.List.FromFn.{get_or-map-range_with_len, length-map-range_with_len}
-use Rattle.std.proofs.lemmas.Option.{same_Some}
 use Rattle.def_math.specs.Counts.{count_below}
 use Rattle.sum_laws.proofs.Counts.{count_below_lt}
 use Rattle.def_mesh.specs.Faces.{Faces}
 use Rattle.def_mesh.specs.Darts.{darts}
 use Rattle.def_mesh.specs.HalfEdges.{HalfEdges, IsQuadManifold, half_edges}
-use Rattle.def_cut.specs.Cuts.{Cut, IsCorner, IsCut}
 use Rattle.def_cut.specs.FullCut.{is_on}
-use Rattle.def_cut.specs.Grids.{IsGrid}
-use Rattle.def_cut.specs.Steps.{easts, spin}
-use Rattle.cut_laws.specs.Grown.{grown, IsGrown}
-use Rattle.cut_laws.proofs.Classes.{In, closed, first_in, linked_in}
-use Rattle.cut_laws.proofs.Grown.{grow}
 use Rattle.mesh_laws.proofs.HalfEdges.{manifold_law}
 use Rattle.face_laws.proofs.FullCuts.{full_cut_law}
-use Rattle.def_merge.specs.Joins.{AreInOne, IsJoinable, IsOnArc, IsWholeSide}
+use Rattle.def_merge.specs.Joins.{IsJoinable, IsOnArc}
 use Rattle.def_merge.specs.Laws.{MergedLaw}
-use Rattle.def_merge.specs.Merged.{IsMergedCut, IsStep, Steps}
-use Rattle.merge_laws.proofs.Joins.{on_cut, on_low, on_or_not, turned_arc}
+use Rattle.def_merge.specs.Merged.{IsMergedBy, IsStep, Steps, MayLeave}
+use Rattle.merge_laws.proofs.ArcDarts.{on_cut, on_low, on_or_not}
 use Rattle.merge_laws.proofs.OneMerged.{IsCutOf, cut_after}
-use Rattle.merge_laws.proofs.Sides.{IsFirstDart, StandsOn, corner_in, grid_on, one_place, one_size, side_low, side_on, stands}
-
--- Whether an entry is this number.
-found_or_not : (o : Option ℕ) (t : ℕ) → (o ≡ Some t) ⊎ (o ≡ Some t → ⊥)
-found_or_not None t = inr (λ e. cc)
-found_or_not (Some x) t = elim (cases_eq x t) [ inl e ↦ inl (ap Some e) | inr ne ↦ inr (λ e. ne (same_Some x t e)) ]
-
-module _ (mesh : HalfEdges) (laws : IsQuadManifold mesh) (cut : Cut) (full : IsCut mesh cut) where
-  -- The arcs that join two patches from s.
-  abbrev From : (s : ℕ) → Type 0
-  From s = (t : ℕ) × (n : ℕ) × IsJoinable mesh cut s t n
-
-  abbrev Over : (d : ℕ) → Type 0
-  Over d = (s : ℕ) × (t : ℕ) × (n : ℕ) × IsJoinable mesh cut s t n × IsOnArc mesh s t n d
-
-  -- Whether a corner lies in the patch of a side.
-  in_one_or_not : (s n t : ℕ) → IsWholeSide mesh cut s n → IsCorner mesh cut t → AreInOne mesh cut s t ⊎ (AreInOne mesh cut s t → ⊥)
-  in_one_or_not s n t side corner = by_grid (grid_on mesh laws cut full s n side)
-    where
-      by_grid : (h : ℕ) × IsGrid mesh cut n h (grown mesh s) → AreInOne mesh cut s t ⊎ (AreInOne mesh cut s t → ⊥)
-      by_grid (h, grid) = by_tests (cases_eq t (grown mesh s 0 0)) (cases_eq t (mesh.next (grown mesh s (n - 1) 0)))
-          (cases_eq t (mesh.next (mesh.next (grown mesh s (n - 1) (h - 1))))) (cases_eq t (mesh.next (mesh.next (mesh.next (grown mesh s 0 (h - 1))))))
-        where
-          linked : (k a b : ℕ) → a < n → b < h → t ≡ spin mesh k (grown mesh s a b) → AreInOne mesh cut s t
-          linked k a b la lb is = linked_in mesh laws cut full n h (grown mesh s) grid t (k, record { a = a; b = b; a_low = la; b_low = lb; is = is })
-
-          none : (IsFirstDart mesh n h (grown mesh s) t → ⊥) → AreInOne mesh cut s t → ⊥
-          none not_first a =
-              let i : In mesh n h (grown mesh s) t = closed mesh laws cut full n h (grown mesh s) grid s t a.0 a.1 (first_in mesh laws cut full n h (grown mesh s) grid) in
-              not_first (corner_in mesh laws cut full n h (grown mesh s) grid t i corner)
-
-          by_tests : (t ≡ grown mesh s 0 0) ⊎ (t ≡ grown mesh s 0 0 → ⊥) → (t ≡ mesh.next (grown mesh s (n - 1) 0)) ⊎ (t ≡ mesh.next (grown mesh s (n - 1) 0) → ⊥)
-              → (t ≡ mesh.next (mesh.next (grown mesh s (n - 1) (h - 1)))) ⊎ (t ≡ mesh.next (mesh.next (grown mesh s (n - 1) (h - 1))) → ⊥)
-              → (t ≡ mesh.next (mesh.next (mesh.next (grown mesh s 0 (h - 1))))) ⊎ (t ≡ mesh.next (mesh.next (mesh.next (grown mesh s 0 (h - 1)))) → ⊥)
-              → AreInOne mesh cut s t ⊎ (AreInOne mesh cut s t → ⊥)
-          by_tests (inl e) b c d = inl (linked 0 0 0 grid.wide grid.tall e)
-          by_tests (inr a) (inl e) c d = inl (linked 1 (n - 1) 0 (omega (arith, grid.wide)) grid.tall e)
-          by_tests (inr a) (inr b) (inl e) d = inl (linked 2 (n - 1) (h - 1) (omega (arith, grid.wide)) (omega (arith, grid.tall)) e)
-          by_tests (inr a) (inr b) (inr c) (inl e) = inl (linked 3 0 (h - 1) grid.wide (omega (arith, grid.tall)) e)
-          by_tests (inr a) (inr b) (inr c) (inr d) = inr (none (λ first. elim first [ inl e ↦ a e | inr f ↦ elim f [ inl e ↦ b e | inr g ↦ elim g [ inl e ↦ c e | inr e ↦ d e ] ] ]))
-
-  -- The whole side that begins at a corner.
-  side_there : (s : ℕ) → IsCorner mesh cut s → (n : ℕ) × IsWholeSide mesh cut s n
-  side_there s corner = by_grown (grow mesh laws cut full s corner)
-    where
-      by_grown : (w : ℕ) × (h : ℕ) × IsGrown mesh cut s w h → (n : ℕ) × IsWholeSide mesh cut s n
-      by_grown (w, h, is) = (w, record { some = is.wide; corner = corner; inside = is.row.inside; ends = is.row.ends })
-
-  -- Whether two whole sides are one arc.
-  across_or_not : (s t n m : ℕ) → m ≤ n
-      → ((k j : ℕ) → k < m → k + suc j ≡ n → mesh.twin (easts mesh s k) ≡ Some (easts mesh t j))
-      ⊎ (((k j : ℕ) → k + suc j ≡ n → mesh.twin (easts mesh s k) ≡ Some (easts mesh t j)) → ⊥)
-  across_or_not s t n zero le = inl (λ k j l e. absurd (omega arith))
-  across_or_not s t n (suc m) le = by_last (found_or_not (mesh.twin (easts mesh s m)) (easts mesh t (n - suc m))) (across_or_not s t n m (omega arith))
-    where
-      by_last : (mesh.twin (easts mesh s m) ≡ Some (easts mesh t (n - suc m))) ⊎ (mesh.twin (easts mesh s m) ≡ Some (easts mesh t (n - suc m)) → ⊥)
-          → ((k j : ℕ) → k < m → k + suc j ≡ n → mesh.twin (easts mesh s k) ≡ Some (easts mesh t j))
-          ⊎ (((k j : ℕ) → k + suc j ≡ n → mesh.twin (easts mesh s k) ≡ Some (easts mesh t j)) → ⊥)
-          → ((k j : ℕ) → k < suc m → k + suc j ≡ n → mesh.twin (easts mesh s k) ≡ Some (easts mesh t j))
-          ⊎ (((k j : ℕ) → k + suc j ≡ n → mesh.twin (easts mesh s k) ≡ Some (easts mesh t j)) → ⊥)
-      by_last (inr never) before = inr (λ all. never (all m (n - suc m) (omega (arith, le))))
-      by_last (inl on) (inr never) = inr never
-      by_last (inl on) (inl before) = inl (λ k j l e. elim (cases_eq k m) [
-        | inl same ↦
-            let other : n - suc m ≡ j = omega (arith, same, e) in
-            ap (λ x. mesh.twin (easts mesh s x)) same ∙ (on ∙ ap (λ x. Some (easts mesh t x)) other)
-        | inr apart ↦ before k j (omega (arith, l, apart)) e
-      ])
-
-  -- Whether an arc that joins two patches begins at s.
-  from_or_not : (s : ℕ) → IsCorner mesh cut s → From s ⊎ (From s → ⊥)
-  from_or_not s corner = by_side (side_there s corner)
-    where
-      by_side : (n : ℕ) × IsWholeSide mesh cut s n → From s ⊎ (From s → ⊥)
-      by_side (n, side) = by_twin (mesh.twin (easts mesh s (n - 1))) refl
-        where
-          last : n - 1 < n
-          last = omega (arith, side.some)
-
-          -- Each arc from s ends there.
-          far_is : (f : From s) → mesh.twin (easts mesh s (n - 1)) ≡ Some f.0
-          far_is (t, m, arc) =
-              let same : m ≡ n = one_size mesh laws cut full s m n arc.glued.near side in
-              arc.glued.across (n - 1) 0 (omega (arith, same, side.some))
-
-          by_far : (t : ℕ) → mesh.twin (easts mesh s (n - 1)) ≡ Some t → IsCorner mesh cut t ⊎ (IsCorner mesh cut t → ⊥) → From s ⊎ (From s → ⊥)
-          by_far t is (inr never) = inr none
-            where
-              none : From s → ⊥
-              none f =
-                  let same : f.0 ≡ t = same_Some f.0 t (sym (far_is f) ∙ is) in
-                  never (subst (λ (x : ℕ). IsCorner mesh cut x) same f.2.glued.far.corner)
-          by_far t is (inl there) = by_size (side_there t there)
-            where
-              by_size : (m : ℕ) × IsWholeSide mesh cut t m → From s ⊎ (From s → ⊥)
-              by_size (m, far) = by_tests (cases_eq m n) (across_or_not s t n n (omega arith)) (in_one_or_not s n t side there)
-                where
-                  of_t : (f : From s) → (f.0 ≡ t) × (f.1 ≡ n)
-                  of_t f = (same_Some f.0 t (sym (far_is f) ∙ is), one_size mesh laws cut full s f.1 n f.2.glued.near side)
-
-                  at_t : (f : From s) → IsJoinable mesh cut s t n
-                  at_t f = subst (λ (x : ℕ). IsJoinable mesh cut s x n) (of_t f).0 (subst (λ (x : ℕ). IsJoinable mesh cut s f.0 x) (of_t f).1 f.2)
-
-                  by_tests : (m ≡ n) ⊎ (m ≡ n → ⊥)
-                      → ((k j : ℕ) → k < n → k + suc j ≡ n → mesh.twin (easts mesh s k) ≡ Some (easts mesh t j))
-                      ⊎ (((k j : ℕ) → k + suc j ≡ n → mesh.twin (easts mesh s k) ≡ Some (easts mesh t j)) → ⊥)
-                      → AreInOne mesh cut s t ⊎ (AreInOne mesh cut s t → ⊥) → From s ⊎ (From s → ⊥)
-                  by_tests (inr never) b c = inr (λ f. never (one_size mesh laws cut full t m n far (at_t f).glued.far))
-                  by_tests (inl e) (inr never) c = inr (λ f. never (at_t f).glued.across)
-                  by_tests (inl e) (inl across) (inl one) = inr (λ f. (at_t f).apart one)
-                  by_tests (inl e) (inl across) (inr apart) = inl (
-                    t,
-                    n,
-                    record {
-                      glued = record {
-                        near = side;
-                        far = subst (λ (x : ℕ). IsWholeSide mesh cut t x) e far;
-                        across = λ k j sum. across k j (omega (arith, sum)) sum;
-                      };
-                      apart = apart;
-                    },
-                  )
-
-          by_twin : (o : Option ℕ) → mesh.twin (easts mesh s (n - 1)) ≡ o → From s ⊎ (From s → ⊥)
-          by_twin None is = inr (λ f. let both : None ≡ Some f.0 = sym is ∙ far_is f in cc)
-          by_twin (Some t) is = by_far t is (by_before (cases_Bool (cut (mesh.prev t))))
-            where
-              low : easts mesh s (n - 1) < mesh.count
-              low = side_low mesh laws cut full s n side (n - 1) last
-
-              by_before : (cut (mesh.prev t) ≡ true) ⊎ (cut (mesh.prev t) ≡ false) → IsCorner mesh cut t ⊎ (IsCorner mesh cut t → ⊥)
-              by_before (inl on) = inl (
-                laws.twin_low (easts mesh s (n - 1)) t low is,
-                full.alike (easts mesh s (n - 1)) t low is ∙ side_on mesh laws cut full s n side (n - 1) last,
-                on,
-              )
-              by_before (inr off) = inr (λ c. true≢false (sym c.2 ∙ off))
-
-  -- Whether one goes over d.
-  over_or_not : (d : ℕ) → d < mesh.count → Over d ⊎ (Over d → ⊥)
-  over_or_not d low = by_cut (cases_Bool (cut d))
-    where
-      by_cut : (cut d ≡ true) ⊎ (cut d ≡ false) → Over d ⊎ (Over d → ⊥)
-      by_cut (inr off) = inr (λ o. true≢false (sym (on_cut mesh laws cut full o.0 o.1 o.2 o.3.glued d o.4) ∙ off))
-      by_cut (inl on) = by_side (stands mesh laws cut full d low on)
-        where
-          by_side : (c : ℕ) × (n : ℕ) × (k : ℕ) × StandsOn mesh cut c n k d → Over d ⊎ (Over d → ⊥)
-          by_side (c, n, k, stand) = by_from (from_or_not c stand.side.corner)
-            where
-              begins : (r u m : ℕ) → IsJoinable mesh cut r u m → (j : ℕ) → j < m → d ≡ easts mesh r j → From c
-              begins r u m arc j l e =
-                  let same : (r ≡ c) × (j ≡ k) = one_place mesh laws cut full r m c n j k arc.glued.near stand.side l stand.low (sym e ∙ sym stand.at) in
-                  (u, m, subst (λ (x : ℕ). IsJoinable mesh cut x u m) same.0 arc)
-
-              by_from : From c ⊎ (From c → ⊥) → Over d ⊎ (Over d → ⊥)
-              by_from (inl f) =
-                  let size : f.1 ≡ n = one_size mesh laws cut full c f.1 n f.2.glued.near stand.side in
-                  inl (c, f.0, f.1, f.2, (k, omega (arith, size, stand.low), inl (sym stand.at)))
-              by_from (inr never) = inr none
-                where
-                  none : Over d → ⊥
-                  none (r, u, m, arc, (j, l, inl e)) = never (begins r u m arc j l e)
-                  none (r, u, m, arc, (j, l, inr e)) = never (begins u r m (turned_arc mesh laws cut full r u m arc) j l e)
-
-  -- The first one.
-  least_or_none : (b : ℕ) → b ≤ mesh.count → ((d : ℕ) × (d < b) × Over d × ((x : ℕ) → x < d → Over x → ⊥)) ⊎ ((x : ℕ) → x < b → Over x → ⊥)
-  least_or_none zero le = inr (λ x l. absurd (omega arith))
-  least_or_none (suc b) le = by_last (least_or_none b (omega arith)) (over_or_not b (omega arith))
-    where
-      by_last : ((d : ℕ) × (d < b) × Over d × ((x : ℕ) → x < d → Over x → ⊥)) ⊎ ((x : ℕ) → x < b → Over x → ⊥) → Over b ⊎ (Over b → ⊥)
-          → ((d : ℕ) × (d < suc b) × Over d × ((x : ℕ) → x < d → Over x → ⊥)) ⊎ ((x : ℕ) → x < suc b → Over x → ⊥)
-      by_last (inl (d, l, over, before)) at = inl (d, omega arith, over, before)
-      by_last (inr none) (inl over) = inl (b, omega arith, over, none)
-      by_last (inr none) (inr never) = inr (λ x l o. elim (cases_eq x b) [ inl e ↦ never (subst (λ (y : ℕ). Over y) e o) | inr ne ↦ none x (omega (arith, l, ne)) o ])
+use Rattle.merge_laws.proofs.Decided.{Over, least_or_none}
 
 -- Marks without those of an arc.
 abbrev left : (b : Bool) {P : Type 0} → P ⊎ (P → ⊥) → Bool
@@ -215,7 +36,7 @@ left_le : (b : Bool) {P : Type 0} (o : P ⊎ (P → ⊥)) → cond (left b o) 1 
 left_le b (inl p) = omega arith
 left_le b (inr never) = omega arith
 
-module _ (faces : Faces) (laws : IsQuadManifold (half_edges faces)) where
+module _ (faces : Faces) (may : MayLeave) (laws : IsQuadManifold (half_edges faces)) where
   abbrev mesh : HalfEdges
   mesh = half_edges faces
 
@@ -228,72 +49,110 @@ module _ (faces : Faces) (laws : IsQuadManifold (half_edges faces)) where
 
   -- Either an arc leaves, and fewer darts are marked, or none is joinable.
   step_or_end : (marks : List Bool) → IsCutOf faces marks
-      → ((rest : List Bool) × IsStep faces marks rest × (marked rest < marked marks)) ⊎ ((s t n : ℕ) → IsJoinable mesh (is_on marks) s t n → ⊥)
-  step_or_end marks cut = by_least (least_or_none mesh laws (is_on marks) cut.full (darts faces) (omega arith))
+      → ((rest : List Bool) × IsStep faces may marks rest × (marked rest < marked marks))
+      ⊎ ((s t n : ℕ) → IsJoinable mesh (is_on marks) s t n → may marks s t n ≡ true → ⊥)
+  step_or_end marks cut = by_least
+      (least_or_none mesh laws (is_on marks) cut.full (may marks) (darts faces) (omega arith))
     where
-      after : (d : ℕ) → d < darts faces → (s t n : ℕ) → IsJoinable mesh (is_on marks) s t n → IsOnArc mesh s t n d
-          → ((x : ℕ) → x < d → Over mesh laws (is_on marks) cut.full x → ⊥) → (rest : List Bool) × IsStep faces marks rest × (marked rest < marked marks)
-      after d low s t n arc on before = (without marks s t n, step, fewer)
+      after : (d : ℕ) → d < darts faces → (s t n : ℕ) → IsJoinable mesh (is_on marks) s t n → may marks s t n ≡ true
+          → IsOnArc mesh s t n d
+          → ((x : ℕ) → x < d → Over mesh laws (is_on marks) cut.full (may marks) x → ⊥) → (rest : List Bool)
+          × IsStep faces may marks rest × (marked rest < marked marks)
+      after d low s t n arc free on before = (without marks s t n, step, fewer)
         where
-          value : (x : ℕ) → x < darts faces → is_on (without marks s t n) x ≡ left (is_on marks x) (on_or_not mesh s t n x)
-          value x l = get_or-map-range_with_len (λ y. left (is_on marks y) (on_or_not mesh s t n y)) 0 (darts faces) x x false l (omega arith)
+          value : (x : ℕ) → x < darts faces
+              → is_on (without marks s t n) x ≡ left (is_on marks x) (on_or_not mesh s t n x)
+          value x l = get_or-map-range_with_len (λ y. left (is_on marks y) (on_or_not mesh s t n y)) 0 (darts faces) x x
+              false l (omega arith)
 
-          least : (r u m x : ℕ) → IsJoinable mesh (is_on marks) r u m → IsOnArc mesh r u m x → d ≤ x
-          least r u m x other o = elim (cases_lt x d) [ inl l ↦ absurd (before x l (r, u, m, other, o)) | inr le ↦ omega (arith, le) ]
+          least : (r u m x : ℕ) → IsJoinable mesh (is_on marks) r u m → may marks r u m ≡ true → IsOnArc mesh r u m x
+              → d ≤ x
+          least r u m x other may_too o =
+              elim (cases_lt x d) [
+                | inl l ↦ absurd (before x l (r, u, m, other, may_too, o))
+                | inr le ↦ omega
+                    (arith, le)
+              ]
 
-          step : IsStep faces marks (without marks s t n)
+          step : IsStep faces may marks (without marks s t n)
           step = record {
             near = s;
             far = t;
             size = n;
             first = record {
               joinable = arc;
+              free = free;
               name = d;
-              named = record { on = on; least = λ x o. least s t n x arc o };
-              first = λ r u m x other o. least r u m x other o;
+              named = record { on = on; least = λ x o. least s t n x arc free o };
+              first = λ r u m x other may_too o. least r u m x other may_too o;
             };
-            long = length-map-range_with_len (λ y. left (is_on marks y) (on_or_not mesh s t n y)) 0 (darts faces) ∙ sym cut.long;
+            long = length-map-range_with_len (λ y. left (is_on marks y) (on_or_not mesh s t n y)) 0 (darts faces)
+                ∙ sym cut.long;
             without = record {
-              gone = λ x o. value x (on_low mesh laws (is_on marks) cut.full s t n arc.glued x o) ∙ left_on (is_on marks x) (on_or_not mesh s t n x) o;
+              gone = λ x o. value x (on_low mesh laws (is_on marks) cut.full s t n arc.glued x o)
+                  ∙ left_on (is_on marks x) (on_or_not mesh s t n x) o;
               kept = λ x l none. value x l ∙ left_off (is_on marks x) (on_or_not mesh s t n x) none;
             };
           }
 
           fewer : marked (without marks s t n) < marked marks
-          fewer = count_below_lt (λ x. cond (is_on (without marks s t n) x) 1 0) (λ x. cond (is_on marks x) 1 0) (darts faces) d low
-              (λ x l. subst (λ (b : Bool). cond b 1 0 ≤ cond (is_on marks x) 1 0) (sym (value x l)) (left_le (is_on marks x) (on_or_not mesh s t n x)))
-              (let off : is_on (without marks s t n) d ≡ false = value d low ∙ left_on (is_on marks d) (on_or_not mesh s t n d) on in
+          fewer = count_below_lt (λ x. cond (is_on (without marks s t n) x) 1 0) (λ x. cond (is_on marks x) 1 0)
+              (darts faces) d low
+              (λ x l. subst (λ (b : Bool). cond b 1 0 ≤ cond (is_on marks x) 1 0) (sym (value x l))
+              (left_le (is_on marks x) (on_or_not mesh s t n x)))
+              (let off : is_on (without marks s t n) d ≡ false =
+              value d low ∙ left_on (is_on marks d) (on_or_not mesh s t n d) on in
               let was : is_on marks d ≡ true = on_cut mesh laws (is_on marks) cut.full s t n arc.glued d on in
-              let zero_now : ◌≡◌ {A = ℕ} (cond (is_on (without marks s t n) d) 1 0) 0 = ap (λ (b : Bool). cond {A = ℕ} b 1 0) off in
+              let zero_now : ◌≡◌ {A = ℕ} (cond (is_on (without marks s t n) d) 1 0) 0 =
+              ap (λ (b : Bool). cond {A = ℕ} b 1 0) off in
               let one_before : ◌≡◌ {A = ℕ} (cond (is_on marks d) 1 0) 1 = ap (λ (b : Bool). cond {A = ℕ} b 1 0) was in
               omega (arith, zero_now, one_before))
 
-      by_least : ((d : ℕ) × (d < darts faces) × Over mesh laws (is_on marks) cut.full d × ((x : ℕ) → x < d → Over mesh laws (is_on marks) cut.full x → ⊥))
-          ⊎ ((x : ℕ) → x < darts faces → Over mesh laws (is_on marks) cut.full x → ⊥)
-          → ((rest : List Bool) × IsStep faces marks rest × (marked rest < marked marks)) ⊎ ((s t n : ℕ) → IsJoinable mesh (is_on marks) s t n → ⊥)
-      by_least (inl (d, low, (s, t, n, arc, on), before)) = inl (after d low s t n arc on before)
-      by_least (inr none) = inr (λ s t n arc. none s arc.glued.near.corner.0 (s, t, n, arc, (0, arc.glued.near.some, inl refl)))
+      by_least : ((d : ℕ) × (d < darts faces) × Over mesh laws (is_on marks) cut.full (may marks) d
+          × ((x : ℕ) → x < d → Over mesh laws (is_on marks) cut.full (may marks) x → ⊥))
+          ⊎ ((x : ℕ) → x < darts faces → Over mesh laws (is_on marks) cut.full (may marks) x → ⊥)
+          → ((rest : List Bool) × IsStep faces may marks rest × (marked rest < marked marks))
+          ⊎ ((s t n : ℕ) → IsJoinable mesh (is_on marks) s t n → may marks s t n ≡ true → ⊥)
+      by_least (inl (d, low, (s, t, n, arc, free, on), before)) = inl (after d low s t n arc free on before)
+      by_least (inr none) =
+          inr (λ s t n arc free. none s arc.glued.near.corner.0
+          (s, t, n, arc, free, (0, arc.glued.near.some, inl refl)))
 
   -- A step in front of others.
-  in_front : (marks between rest : List Bool) (n : ℕ) → IsStep faces marks between → Steps faces between rest n → Steps faces marks rest (suc n)
-  in_front marks between rest zero step same = (marks, refl, subst (λ (x : List Bool). IsStep faces marks x) same step)
+  in_front : (marks between rest : List Bool) (n : ℕ) → IsStep faces may marks between → Steps faces may between rest n
+      → Steps faces may marks rest (suc n)
+  in_front marks between rest zero step same =
+      (marks, refl, subst (λ (x : List Bool). IsStep faces may marks x) same step)
   in_front marks between rest (suc n) step steps = (steps.0, in_front marks between steps.0 n step steps.1, steps.2)
 
-  merged_from : (fuel : ℕ) (marks : List Bool) → IsCutOf faces marks → marked marks < fuel → (rest : List Bool) × IsMergedCut faces marks rest
+  merged_from : (fuel : ℕ) (marks : List Bool) → IsCutOf faces marks → marked marks < fuel → (rest : List Bool)
+      × IsMergedBy faces may marks rest
   merged_from zero marks cut le = absurd (omega arith)
   merged_from (suc fuel) marks cut le = by_step (step_or_end marks cut) (λ rest c l. merged_from fuel rest c l)
     where
-      by_step : ((rest : List Bool) × IsStep faces marks rest × (marked rest < marked marks)) ⊎ ((s t n : ℕ) → IsJoinable mesh (is_on marks) s t n → ⊥)
-          → ((rest : List Bool) → IsCutOf faces rest → marked rest < fuel → (last : List Bool) × IsMergedCut faces rest last)
-          → (rest : List Bool) × IsMergedCut faces marks rest
+      by_step : ((rest : List Bool) × IsStep faces may marks rest × (marked rest < marked marks))
+          ⊎ ((s t n : ℕ) → IsJoinable mesh (is_on marks) s t n → may marks s t n ≡ true → ⊥)
+          → ((rest : List Bool) → IsCutOf faces rest → marked rest < fuel → (last : List Bool)
+          × IsMergedBy faces may rest last)
+          → (rest : List Bool) × IsMergedBy faces may marks rest
       by_step (inr none) go = (marks, record { steps = 0; reached = refl; merged = none })
-      by_step (inl (between, step, fewer)) go = after (go between (cut_after faces laws marks between cut step) (omega (arith, fewer, le)))
+      by_step (inl (between, step, fewer)) go =
+          after (go between (cut_after faces may laws marks between cut step) (omega (arith, fewer, le)))
         where
-          after : (last : List Bool) × IsMergedCut faces between last → (rest : List Bool) × IsMergedCut faces marks rest
-          after (last, is) = (last, record { steps = suc is.steps; reached = in_front marks between last is.steps step is.reached; merged = is.merged })
+          after : (last : List Bool) × IsMergedBy faces may between last → (rest : List Bool)
+              × IsMergedBy faces may marks rest
+          after (last, is) = (
+            last,
+            record {
+              steps = suc is.steps;
+              reached = in_front marks between last is.steps step is.reached;
+              merged = is.merged;
+            },
+          )
 
 pub merged_law : MergedLaw
-merged_law faces marks manifold full = merged_from faces laws (suc (marked faces laws marks)) marks cut (omega arith)
+merged_law faces may marks manifold full =
+    merged_from faces may laws (suc (marked faces may laws marks)) marks cut (omega arith)
   where
     laws : IsQuadManifold (half_edges faces)
     laws = manifold_law faces manifold

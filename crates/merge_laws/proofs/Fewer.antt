@@ -1,5 +1,6 @@
 -- Without a joinable arc there is one patch less.
-use Rattle.std.proofs.Common.{◌≡◌, ◌≢◌, ◌⊎◌, ℕ, zero, suc, ◌+◌, ◌-◌, ◌<◌, ◌≤◌, ◌==◌, Bool, true, false, not, cond, List, length, Some, sym, ◌∙◌, ap, subst, refl, inl, inr, true≢false, arith}
+use Rattle.std.proofs.Common.{◌≡◌, ◌≢◌, ◌⊎◌, ℕ, zero, suc, ◌+◌, ◌-◌, ◌<◌, ◌≤◌, ◌==◌, Bool, true, false, not, cond, List}
+use Rattle.std.proofs.Common.{length, Some, sym, ◌∙◌, ap, subst, refl, inl, inr, true≢false, arith}
 use Rattle.std.proofs.lemmas.Bool.{cases_eq, cond-true, cond-false, eq-eqb, ne_eqb}
 use Rattle.std.proofs.lemmas.Option.{same_Some}
 use Rattle.def_math.specs.Counts.{count_below}
@@ -14,7 +15,8 @@ use Rattle.cut_laws.proofs.Classes.{links_join, links_low, linked_back, linked_i
 use Rattle.def_merge.specs.Joins.{AreInOne, IsJoinable, IsOnArc, IsWithout}
 use Rattle.def_merge.specs.Laws.{FewerLaw}
 use Rattle.merge_laws.proofs.Classes.{IsIn, one_place_of}
-use Rattle.merge_laws.proofs.Joins.{join_law, links_less, on_low, on_or_not, on_twin}
+use Rattle.merge_laws.proofs.ArcDarts.{links_less, on_low, on_or_not, on_twin}
+use Rattle.merge_laws.proofs.Joins.{join_law}
 use Rattle.merge_laws.proofs.Sides.{grid_on}
 
 -- All numbers below a bound but one.
@@ -33,10 +35,12 @@ one_less u m low = omega (arith, parts, all, count_below_ones m, one)
     all = count_below_same (λ k. one_if (not (k == u)) + one_if (k == u)) (λ k. 1) m (λ k l. by_test (k == u))
 
     one : count_below (λ k. one_if (k == u)) m ≡ 1
-    one = count_below_one (λ k. one_if (k == u)) m u low (λ k l apart. ap one_if (ne_eqb k u apart)) ∙ ap one_if (eq-eqb u u refl)
+    one = count_below_one (λ k. one_if (k == u)) m u low (λ k l apart. ap one_if (ne_eqb k u apart))
+        ∙ ap one_if (eq-eqb u u refl)
 
 -- The darts beside the arc, and what is linked without it.
-module _ (mesh : HalfEdges) (laws : IsQuadManifold mesh) (cut rest : Cut) (full : IsCut mesh cut) (s t n : ℕ) (arc : IsJoinable mesh cut s t n)
+module _ (mesh : HalfEdges) (laws : IsQuadManifold mesh) (cut rest : Cut) (full : IsCut mesh cut) (s t n : ℕ)
+    (arc : IsJoinable mesh cut s t n)
     (without : IsWithout mesh cut rest s t n) where
   abbrev Beside : ℕ → Type 0
   Beside x = AreInOne mesh cut s x ⊎ AreInOne mesh cut t x
@@ -53,13 +57,15 @@ module _ (mesh : HalfEdges) (laws : IsQuadManifold mesh) (cut rest : Cut) (full 
   along_near k l = by_grid (grid_on mesh laws cut full s n arc.glued.near)
     where
       by_grid : (h : ℕ) × IsGrid mesh cut n h (grown mesh s) → AreInOne mesh cut s (easts mesh s k)
-      by_grid g = linked_in mesh laws cut full n g.0 (grown mesh s) g.1 (easts mesh s k) (0, record { a = k; b = 0; a_low = l; b_low = g.1.tall; is = refl })
+      by_grid g = linked_in mesh laws cut full n g.0 (grown mesh s) g.1 (easts mesh s k)
+          (0, record { a = k; b = 0; a_low = l; b_low = g.1.tall; is = refl })
 
   along_far : (k : ℕ) → k < n → AreInOne mesh cut t (easts mesh t k)
   along_far k l = by_grid (grid_on mesh laws cut full t n arc.glued.far)
     where
       by_grid : (h : ℕ) × IsGrid mesh cut n h (grown mesh t) → AreInOne mesh cut t (easts mesh t k)
-      by_grid g = linked_in mesh laws cut full n g.0 (grown mesh t) g.1 (easts mesh t k) (0, record { a = k; b = 0; a_low = l; b_low = g.1.tall; is = refl })
+      by_grid g = linked_in mesh laws cut full n g.0 (grown mesh t) g.1 (easts mesh t k)
+          (0, record { a = k; b = 0; a_low = l; b_low = g.1.tall; is = refl })
 
   beside_on : (x : ℕ) → IsOnArc mesh s t n x → Beside x
   beside_on x o = elim o.2 [
@@ -71,22 +77,28 @@ module _ (mesh : HalfEdges) (laws : IsQuadManifold mesh) (cut rest : Cut) (full 
   both : AreInOne mesh rest s t
   both =
       let last : n - 1 < n = omega (arith, arc.glued.near.some) in
-      let across : mesh.twin s ≡ Some (easts mesh t (n - 1)) = arc.glued.across 0 (n - 1) (omega (arith, arc.glued.near.some)) in
+      let across : mesh.twin s ≡ Some (easts mesh t (n - 1)) =
+      arc.glued.across 0 (n - 1) (omega (arith, arc.glued.near.some)) in
       let gone : rest s ≡ false = without.gone s (0, arc.glued.near.some, inl refl) in
-      let back : AreInOne mesh cut (easts mesh t (n - 1)) t = linked_back mesh laws cut full t (easts mesh t (n - 1)) arc.glued.far.corner.0 (along_far (n - 1) last) in
-      links_join mesh laws rest s (easts mesh t (n - 1)) t (step_over mesh laws rest s s (easts mesh t (n - 1)) (0, refl) gone across)
-      (joined_less (easts mesh t (n - 1)) t (on_low mesh laws cut full s t n arc.glued (easts mesh t (n - 1)) (n - 1, last, inr refl)) back)
+      let back : AreInOne mesh cut (easts mesh t (n - 1)) t =
+      linked_back mesh laws cut full t (easts mesh t (n - 1)) arc.glued.far.corner.0 (along_far (n - 1) last) in
+      links_join mesh laws rest s (easts mesh t (n - 1)) t
+      (step_over mesh laws rest s s (easts mesh t (n - 1)) (0, refl) gone across)
+      (joined_less (easts mesh t (n - 1)) t
+      (on_low mesh laws cut full s t n arc.glued (easts mesh t (n - 1)) (n - 1, last, inr refl)) back)
 
   -- What is linked then was linked, or lies beside the arc.
   linked_or : (x y m : ℕ) → x < mesh.count → Links mesh rest x y m → AreInOne mesh cut x y ⊎ (Beside x × Beside y)
   linked_or x y zero l a = inl (0, a)
   linked_or x y (suc m) l a = by_step a.0 (links_low mesh laws rest x a.0 m l a.1) (linked_or x a.0 m l a.1) a.2
     where
-      more : (c : ℕ) → AreInOne mesh cut c y → AreInOne mesh cut x c ⊎ (Beside x × Beside c) → AreInOne mesh cut x y ⊎ (Beside x × Beside y)
+      more : (c : ℕ) → AreInOne mesh cut c y → AreInOne mesh cut x c ⊎ (Beside x × Beside c) → AreInOne mesh cut x y
+          ⊎ (Beside x × Beside y)
       more c b (inl z) = inl (links_join mesh laws cut x c y z b)
       more c b (inr p) = inr (p.0, beside_more c y p.1 b)
 
-      over : (c : ℕ) → c < mesh.count → mesh.twin c ≡ Some y → IsOnArc mesh s t n c → AreInOne mesh cut x c ⊎ (Beside x × Beside c) → Beside x × Beside y
+      over : (c : ℕ) → c < mesh.count → mesh.twin c ≡ Some y → IsOnArc mesh s t n c → AreInOne mesh cut x c
+          ⊎ (Beside x × Beside c) → Beside x × Beside y
       over c lc is o was = (beside_x was, beside_y)
         where
           beside_x : AreInOne mesh cut x c ⊎ (Beside x × Beside c) → Beside x
@@ -95,25 +107,31 @@ module _ (mesh : HalfEdges) (laws : IsQuadManifold mesh) (cut rest : Cut) (full 
 
           beside_y : Beside y
           beside_y =
-              let p : (e : ℕ) × (mesh.twin c ≡ Some e) × IsOnArc mesh s t n e = on_twin mesh laws cut full s t n arc.glued c o in
+              let p : (e : ℕ) × (mesh.twin c ≡ Some e) × IsOnArc mesh s t n e =
+              on_twin mesh laws cut full s t n arc.glued c o in
               beside_on y (subst (λ (z : ℕ). IsOnArc mesh s t n z) (same_Some p.0 y (sym p.1 ∙ is)) p.2)
 
-      by_step : (c : ℕ) → c < mesh.count → AreInOne mesh cut x c ⊎ (Beside x × Beside c) → ((y ≡ mesh.next c) ⊎ ((rest c ≡ false) × (mesh.twin c ≡ Some y)))
+      by_step : (c : ℕ) → c < mesh.count → AreInOne mesh cut x c ⊎ (Beside x × Beside c)
+          → ((y ≡ mesh.next c) ⊎ ((rest c ≡ false) × (mesh.twin c ≡ Some y)))
           → AreInOne mesh cut x y ⊎ (Beside x × Beside y)
-      by_step c lc was (inl e) = more c (subst (λ (z : ℕ). AreInOne mesh cut c z) (sym e) (step_next mesh laws cut c c (0, refl))) was
+      by_step c lc was (inl e) = more c
+          (subst (λ (z : ℕ). AreInOne mesh cut c z) (sym e) (step_next mesh laws cut c c (0, refl))) was
       by_step c lc was (inr p) = elim (on_or_not mesh s t n c) [
         | inl o ↦ inr (over c lc p.1 o was)
         | inr none ↦ more c (step_over mesh laws cut c c y (0, refl) (sym (without.kept c lc none) ∙ p.0) p.1) was
       ]
 
 -- Patches of a cut.
-module _ (mesh : HalfEdges) (laws : IsQuadManifold mesh) (cut : Cut) (full : IsCut mesh cut) (face : ℕ → ℕ) (ps : List Rectangle) (parts : IsPartition mesh cut face ps) where
+module _ (mesh : HalfEdges) (laws : IsQuadManifold mesh) (cut : Cut) (full : IsCut mesh cut) (face : ℕ → ℕ)
+    (ps : List Rectangle) (parts : IsPartition mesh cut face ps) where
   -- The patch of a dart.
   pub in_patch : (x : ℕ) → x < mesh.count → (p : ℕ) × (p < length ps) × IsIn mesh ps p x
   in_patch x l = by_cell (parts.covers x l)
     where
-      by_cell : (p : ℕ) × (i : ℕ) × (j : ℕ) × (k : ℕ) × (p < length ps) × IsSide mesh (patch_at ps p) i j k x → (p : ℕ) × (p < length ps) × IsIn mesh ps p x
-      by_cell (p, i, j, k, low, side) = (p, low, (k, record { a = i; b = j; a_low = side.i_low; b_low = side.j_low; is = side.is }))
+      by_cell : (p : ℕ) × (i : ℕ) × (j : ℕ) × (k : ℕ) × (p < length ps) × IsSide mesh (patch_at ps p) i j k x → (p : ℕ)
+          × (p < length ps) × IsIn mesh ps p x
+      by_cell (p, i, j, k, low, side) =
+          (p, low, (k, record { a = i; b = j; a_low = side.i_low; b_low = side.j_low; is = side.is }))
 
   pub grid_of : (p : ℕ) → p < length ps → IsGrid mesh cut (patch_at ps p).w (patch_at ps p).h (cell_of (patch_at ps p))
   grid_of p l = (parts.patch p l).grid
@@ -129,13 +147,17 @@ module _ (mesh : HalfEdges) (laws : IsQuadManifold mesh) (cut : Cut) (full : IsC
   first_in p l = (0, record { a = 0; b = 0; a_low = (grid_of p l).wide; b_low = (grid_of p l).tall; is = refl })
 
   pub first_linked : (p x : ℕ) → p < length ps → IsIn mesh ps p x → AreInOne mesh cut (first_dart p) x
-  first_linked p x l i = linked_in mesh laws cut full (patch_at ps p).w (patch_at ps p).h (cell_of (patch_at ps p)) (grid_of p l) x i
+  first_linked p x l i = linked_in mesh laws cut full (patch_at ps p).w (patch_at ps p).h (cell_of (patch_at ps p))
+      (grid_of p l) x i
 
-  pub one_of : (p q x y : ℕ) → p < length ps → q < length ps → IsIn mesh ps p x → IsIn mesh ps q y → AreInOne mesh cut x y → p ≡ q
+  pub one_of : (p q x y : ℕ) → p < length ps → q < length ps → IsIn mesh ps p x → IsIn mesh ps q y
+      → AreInOne mesh cut x y → p ≡ q
   one_of p q x y lp lq i j a = one_place_of mesh laws cut full face ps parts p q x y lp lq i j a
 
-module _ (mesh : HalfEdges) (laws : IsQuadManifold mesh) (cut rest : Cut) (full : IsCut mesh cut) (after : IsCut mesh rest) (face : ℕ → ℕ) (s t n : ℕ)
-    (arc : IsJoinable mesh cut s t n) (without : IsWithout mesh cut rest s t n) (ps qs : List Rectangle) (parts : IsPartition mesh cut face ps)
+module _ (mesh : HalfEdges) (laws : IsQuadManifold mesh) (cut rest : Cut) (full : IsCut mesh cut)
+    (after : IsCut mesh rest) (face : ℕ → ℕ) (s t n : ℕ)
+    (arc : IsJoinable mesh cut s t n) (without : IsWithout mesh cut rest s t n) (ps qs : List Rectangle)
+    (parts : IsPartition mesh cut face ps)
     (whole : IsPartition mesh rest face qs) where
   -- The patches on both sides of the arc.
   near : (p : ℕ) × (p < length ps) × IsIn mesh ps p s
@@ -151,10 +173,16 @@ module _ (mesh : HalfEdges) (laws : IsQuadManifold mesh) (cut rest : Cut) (full 
   new q = first_dart mesh laws rest after face qs whole q
 
   apart : far.0 ≢ near.0
-  apart same = arc.apart (links_join mesh laws cut s (old near.0) t (linked_back mesh laws cut full (old near.0) s (first_low mesh laws cut full face ps parts near.0 near.1) (first_linked mesh laws cut full face ps parts near.0 s near.1 near.2)) (subst (λ (p : ℕ). AreInOne mesh cut (old p) t) same (first_linked mesh laws cut full face ps parts far.0 t far.1 far.2)))
+  apart same =
+      arc.apart (links_join mesh laws cut s (old near.0) t
+      (linked_back mesh laws cut full (old near.0) s (first_low mesh laws cut full face ps parts near.0 near.1)
+      (first_linked mesh laws cut full face ps parts near.0 s near.1 near.2))
+      (subst (λ (p : ℕ). AreInOne mesh cut (old p) t) same
+      (first_linked mesh laws cut full face ps parts far.0 t far.1 far.2)))
 
   -- A patch beside the arc is one of the two.
-  beside_is : (p x : ℕ) → p < length ps → IsIn mesh ps p x → Beside mesh laws cut rest full s t n arc without x → (p ≡ near.0) ⊎ (p ≡ far.0)
+  beside_is : (p x : ℕ) → p < length ps → IsIn mesh ps p x → Beside mesh laws cut rest full s t n arc without x
+      → (p ≡ near.0) ⊎ (p ≡ far.0)
   beside_is p x l i (inl a) = inl (sym (one_of mesh laws cut full face ps parts near.0 p s x near.1 l near.2 i a))
   beside_is p x l i (inr a) = inr (sym (one_of mesh laws cut full face ps parts far.0 p t x far.1 l far.2 i a))
 
@@ -162,8 +190,10 @@ module _ (mesh : HalfEdges) (laws : IsQuadManifold mesh) (cut rest : Cut) (full 
   new_of : (p : ℕ) → (l : p < length ps) → (q : ℕ) × (q < length qs) × IsIn mesh qs q (old p)
   new_of p l = in_patch mesh laws rest after face qs whole (old p) (first_low mesh laws cut full face ps parts p l)
 
-  new_once : (p r : ℕ) (lp : p < length ps) (lr : r < length ps) → p ≢ far.0 → r ≢ far.0 → (new_of p lp).0 ≡ (new_of r lr).0 → p ≡ r
-  new_once p r lp lr np nr same = by_linked (linked_or mesh laws cut rest full s t n arc without (old p) (old r) link.0 low link.1)
+  new_once : (p r : ℕ) (lp : p < length ps) (lr : r < length ps) → p ≢ far.0 → r ≢ far.0
+      → (new_of p lp).0 ≡ (new_of r lr).0 → p ≡ r
+  new_once p r lp lr np nr same =
+      by_linked (linked_or mesh laws cut rest full s t n arc without (old p) (old r) link.0 low link.1)
     where
       low : old p < mesh.count
       low = first_low mesh laws cut full face ps parts p lp
@@ -175,14 +205,21 @@ module _ (mesh : HalfEdges) (laws : IsQuadManifold mesh) (cut rest : Cut) (full 
       to_r = first_linked mesh laws rest after face qs whole (new_of r lr).0 (old r) (new_of r lr).1 (new_of r lr).2
 
       link : AreInOne mesh rest (old p) (old r)
-      link = links_join mesh laws rest (old p) (new (new_of p lp).0) (old r) (linked_back mesh laws rest after (new (new_of p lp).0) (old p) (first_low mesh laws rest after face qs whole (new_of p lp).0 (new_of p lp).1) to_p)
+      link = links_join mesh laws rest (old p) (new (new_of p lp).0) (old r)
+          (linked_back mesh laws rest after (new (new_of p lp).0) (old p)
+          (first_low mesh laws rest after face qs whole (new_of p lp).0 (new_of p lp).1) to_p)
           (subst (λ (q : ℕ). AreInOne mesh rest (new q) (old r)) (sym same) to_r)
 
-      is_near : (u : ℕ) (l : u < length ps) → u ≢ far.0 → Beside mesh laws cut rest full s t n arc without (old u) → u ≡ near.0
-      is_near u l nu b = elim (beside_is u (old u) l (first_in mesh laws cut full face ps parts u l) b) [ inl e ↦ e | inr e ↦ absurd (nu e) ]
+      is_near : (u : ℕ) (l : u < length ps) → u ≢ far.0 → Beside mesh laws cut rest full s t n arc without (old u)
+          → u ≡ near.0
+      is_near u l nu b = elim (beside_is u (old u) l (first_in mesh laws cut full face ps parts u l) b)
+          [ inl e ↦ e | inr e ↦ absurd (nu e) ]
 
-      by_linked : AreInOne mesh cut (old p) (old r) ⊎ (Beside mesh laws cut rest full s t n arc without (old p) × Beside mesh laws cut rest full s t n arc without (old r)) → p ≡ r
-      by_linked (inl a) = one_of mesh laws cut full face ps parts p r (old p) (old r) lp lr (first_in mesh laws cut full face ps parts p lp) (first_in mesh laws cut full face ps parts r lr) a
+      by_linked : AreInOne mesh cut (old p) (old r)
+          ⊎ (Beside mesh laws cut rest full s t n arc without (old p)
+          × Beside mesh laws cut rest full s t n arc without (old r)) → p ≡ r
+      by_linked (inl a) = one_of mesh laws cut full face ps parts p r (old p) (old r) lp lr
+          (first_in mesh laws cut full face ps parts p lp) (first_in mesh laws cut full face ps parts r lr) a
       by_linked (inr b) = is_near p lp np b.0 ∙ sym (is_near r lr nr b.1)
 
   -- New patches come from different old ones, where the far one is taken for the near one.
@@ -206,21 +243,33 @@ module _ (mesh : HalfEdges) (laws : IsQuadManifold mesh) (cut rest : Cut) (full 
   stands_for p x l i = by_case (merged_is p)
     where
       linked : (u y : ℕ) → u < length ps → IsIn mesh ps u y → AreInOne mesh rest (old u) y
-      linked u y lu j = joined_less mesh laws cut rest full s t n arc without (old u) y (first_low mesh laws cut full face ps parts u lu) (first_linked mesh laws cut full face ps parts u y lu j)
+      linked u y lu j = joined_less mesh laws cut rest full s t n arc without (old u) y
+          (first_low mesh laws cut full face ps parts u lu) (first_linked mesh laws cut full face ps parts u y lu j)
 
-      by_case : ((p ≡ far.0) × (merged p ≡ near.0)) ⊎ ((p ≢ far.0) × (merged p ≡ p)) → AreInOne mesh rest (old (merged p)) x
+      by_case : ((p ≡ far.0) × (merged p ≡ near.0)) ⊎ ((p ≢ far.0) × (merged p ≡ p))
+          → AreInOne mesh rest (old (merged p)) x
       by_case (inl e) =
-          let from_t : AreInOne mesh cut t x = links_join mesh laws cut t (old far.0) x (linked_back mesh laws cut full (old far.0) t (first_low mesh laws cut full face ps parts far.0 far.1) (first_linked mesh laws cut full face ps parts far.0 t far.1 far.2)) (subst (λ (u : ℕ). AreInOne mesh cut (old u) x) e.0 (first_linked mesh laws cut full face ps parts p x l i)) in
+          let from_t : AreInOne mesh cut t x =
+          links_join mesh laws cut t (old far.0) x
+          (linked_back mesh laws cut full (old far.0) t (first_low mesh laws cut full face ps parts far.0 far.1)
+          (first_linked mesh laws cut full face ps parts far.0 t far.1 far.2))
+          (subst (λ (u : ℕ). AreInOne mesh cut (old u) x) e.0
+          (first_linked mesh laws cut full face ps parts p x l i)) in
           let to_s : AreInOne mesh rest (old near.0) s = linked near.0 s near.1 near.2 in
-          let to_x : AreInOne mesh rest s x = links_join mesh laws rest s t x (both mesh laws cut rest full s t n arc without) (joined_less mesh laws cut rest full s t n arc without t x arc.glued.far.corner.0 from_t) in
-          subst (λ (u : ℕ). AreInOne mesh rest (old u) x) (sym e.1) (links_join mesh laws rest (old near.0) s x to_s to_x)
+          let to_x : AreInOne mesh rest s x =
+          links_join mesh laws rest s t x (both mesh laws cut rest full s t n arc without)
+          (joined_less mesh laws cut rest full s t n arc without t x arc.glued.far.corner.0 from_t) in
+          subst (λ (u : ℕ). AreInOne mesh rest (old u) x) (sym e.1)
+          (links_join mesh laws rest (old near.0) s x to_s to_x)
       by_case (inr e) = subst (λ (u : ℕ). AreInOne mesh rest (old u) x) (sym e.1) (linked p x l i)
 
   old_of : (q : ℕ) → (l : q < length qs) → (p : ℕ) × (p < length ps) × IsIn mesh ps p (new q)
   old_of q l = in_patch mesh laws cut full face ps parts (new q) (first_low mesh laws rest after face qs whole q l)
 
-  old_once : (q r : ℕ) (lq : q < length qs) (lr : r < length qs) → merged (old_of q lq).0 ≡ merged (old_of r lr).0 → q ≡ r
-  old_once q r lq lr same = one_of mesh laws rest after face qs whole q r (new q) (new r) lq lr (first_in mesh laws rest after face qs whole q lq) (first_in mesh laws rest after face qs whole r lr) link
+  old_once : (q r : ℕ) (lq : q < length qs) (lr : r < length qs) → merged (old_of q lq).0 ≡ merged (old_of r lr).0
+      → q ≡ r
+  old_once q r lq lr same = one_of mesh laws rest after face qs whole q r (new q) (new r) lq lr
+      (first_in mesh laws rest after face qs whole q lq) (first_in mesh laws rest after face qs whole r lr) link
     where
       to_q : AreInOne mesh rest (old (merged (old_of q lq).0)) (new q)
       to_q = stands_for (old_of q lq).0 (new q) (old_of q lq).1 (old_of q lq).2
@@ -230,7 +279,9 @@ module _ (mesh : HalfEdges) (laws : IsQuadManifold mesh) (cut rest : Cut) (full 
 
       link : AreInOne mesh rest (new q) (new r)
       link = links_join mesh laws rest (new q) (old (merged (old_of q lq).0)) (new r)
-          (linked_back mesh laws rest after (old (merged (old_of q lq).0)) (new q) (first_low mesh laws cut full face ps parts (merged (old_of q lq).0) (merged_low (old_of q lq).0 (old_of q lq).1).0) to_q)
+          (linked_back mesh laws rest after (old (merged (old_of q lq).0)) (new q)
+          (first_low mesh laws cut full face ps parts (merged (old_of q lq).0)
+          (merged_low (old_of q lq).0 (old_of q lq).1).0) to_q)
           (subst (λ (u : ℕ). AreInOne mesh rest (old u) (new r)) (sym same) to_r)
 
   -- So there is one less.
@@ -241,16 +292,19 @@ module _ (mesh : HalfEdges) (laws : IsQuadManifold mesh) (cut rest : Cut) (full 
       is_other p on same = true≢false (sym on ∙ ap not (eq-eqb p far.0 same))
 
       down : passing (λ p. not (p == far.0)) (length ps) ≤ passing (λ q. true) (length qs)
-      down = passing_le (λ p. not (p == far.0)) (λ q. true) (length ps) (length qs) (λ p l on. ((new_of p l).0, (new_of p l).1, refl))
+      down = passing_le (λ p. not (p == far.0)) (λ q. true) (length ps) (length qs)
+          (λ p l on. ((new_of p l).0, (new_of p l).1, refl))
           (λ p r lp on lr also same. new_once p r lp lr (is_other p on) (is_other r also) same)
 
       up : passing (λ q. true) (length qs) ≤ passing (λ p. not (p == far.0)) (length ps)
       up = passing_le (λ q. true) (λ p. not (p == far.0)) (length qs) (length ps)
           (λ q l on.
-          let low : (merged (old_of q l).0 < length ps) × (merged (old_of q l).0 ≢ far.0) = merged_low (old_of q l).0 (old_of q l).1 in
+          let low : (merged (old_of q l).0 < length ps) × (merged (old_of q l).0 ≢ far.0) =
+          merged_low (old_of q l).0 (old_of q l).1 in
           (merged (old_of q l).0, low.0, ap not (ne_eqb (merged (old_of q l).0) far.0 low.1)))
           (λ q r lq on lr also same. old_once q r lq lr same)
 
 pub fewer_law : FewerLaw
 fewer_law mesh cut rest face s t n ps qs laws full arc without parts whole =
-    fewer mesh laws cut rest full (join_law mesh cut rest s t n laws full arc without) face s t n arc without ps qs parts whole
+    fewer mesh laws cut rest full (join_law mesh cut rest s t n laws full arc without) face s t n arc without ps qs
+    parts whole

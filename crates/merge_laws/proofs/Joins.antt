@@ -1,146 +1,43 @@
 -- Without a joinable arc a full cut is a full cut.
-use Rattle.std.proofs.Common.{◌≡◌, ◌⊎◌, ℕ, zero, suc, ◌+◌, ◌-◌, ◌<◌, true, false, Some, None, sym, ◌∙◌, ap, subst, refl, inl, inr, true≢false, arith}
+use Rattle.std.proofs.Common.{◌≡◌, ◌⊎◌, ℕ, zero, suc, ◌+◌, ◌-◌, ◌<◌, true, false, Some, None, sym, ◌∙◌, ap, subst, refl}
+use Rattle.std.proofs.Common.{inl, inr, true≢false, arith}
 use Rattle.std.proofs.lemmas.Bool.{cases_Bool, cases_eq, false≢true}
 use Rattle.std.proofs.lemmas.Option.{same_Some}
 use Rattle.def_mesh.specs.HalfEdges.{HalfEdges, IsQuadManifold}
-use Rattle.def_cut.specs.Cuts.{Cut, IsCross, HasCross, IsUncut, Links, IsCorner, GoesOn, IsCut}
-use Rattle.def_cut.specs.Grids.{Cells, IsGrid}
+use Rattle.def_cut.specs.Cuts.{Cut, HasCross, IsUncut, Links, IsCorner, GoesOn, IsCut}
+use Rattle.def_cut.specs.Grids.{IsGrid}
 use Rattle.def_cut.specs.Steps.{spin, easts}
 use Rattle.cut_laws.specs.Grown.{grown}
-use Rattle.cut_laws.proofs.Crosses.{one_of_four, low_a, low_b}
 use Rattle.cut_laws.proofs.Darts.{prev_three, next_same, twin_same}
 use Rattle.cut_laws.proofs.Rows.{cross_at}
-use Rattle.cut_laws.proofs.Folds.{no_fold}
-use Rattle.cut_laws.proofs.Pigeon.{sent_or_not}
-use Rattle.cut_laws.proofs.Classes.{In, AreLinked, links_join, links_low, linked_back, linked_in}
+use Rattle.cut_laws.proofs.Classes.{In, AreLinked, links_join, linked_back, linked_in}
 use Rattle.cut_laws.proofs.Corners.{CornerOf}
-use Rattle.motion_laws.proofs.Bits.{rotated}
-use Rattle.def_merge.specs.Joins.{AreGlued, IsJoinable, IsOnArc, IsWithout}
+use Rattle.def_merge.specs.Joins.{IsJoinable, IsOnArc, IsWithout}
 use Rattle.def_merge.specs.Laws.{JoinLaw}
-use Rattle.merge_laws.proofs.Sides.{side_low, side_on, side_link, side_from, first_place, grid_on}
-
--- Whether a dart lies on an arc.
-pub on_or_not : (mesh : HalfEdges) (s t n d : ℕ) → IsOnArc mesh s t n d ⊎ (IsOnArc mesh s t n d → ⊥)
-on_or_not mesh s t n d = by_sides (sent_or_not (easts mesh s) d n) (sent_or_not (easts mesh t) d n)
-  where
-    by_sides : ((k : ℕ) × (k < n) × (easts mesh s k ≡ d)) ⊎ ((k : ℕ) → k < n → easts mesh s k ≡ d → ⊥) → ((k : ℕ) × (k < n) × (easts mesh t k ≡ d)) ⊎ ((k : ℕ) → k < n → easts mesh t k ≡ d → ⊥) → IsOnArc mesh s t n d ⊎ (IsOnArc mesh s t n d → ⊥)
-    by_sides (inl a) b = inl (a.0, a.1, inl (sym a.2))
-    by_sides (inr a) (inl b) = inl (b.0, b.1, inr (sym b.2))
-    by_sides (inr a) (inr b) = inr none
-      where
-        none : IsOnArc mesh s t n d → ⊥
-        none o = elim o.2 [ inl e ↦ a o.0 o.1 (sym e) | inr e ↦ b o.0 o.1 (sym e) ]
-
-pub other_way : (mesh : HalfEdges) (s t n d : ℕ) → IsOnArc mesh s t n d → IsOnArc mesh t s n d
-other_way mesh s t n d o = (o.0, o.1, elim o.2 [ inl e ↦ inr e | inr e ↦ inl e ])
-
-pub other_without : (mesh : HalfEdges) (cut rest : Cut) (s t n : ℕ) → IsWithout mesh cut rest s t n → IsWithout mesh cut rest t s n
-other_without mesh cut rest s t n without = record { gone = λ d o. without.gone d (other_way mesh t s n d o); kept = λ d l none. without.kept d l (λ o. none (other_way mesh s t n d o)) }
-
--- Four faces go round a vertex, from wherever they are counted.
-cross_from : (mesh : HalfEdges) → IsQuadManifold mesh → (x d : ℕ) → x < mesh.count → d < mesh.count → mesh.from d ≡ mesh.from x → HasCross mesh x → HasCross mesh d
-cross_from mesh laws x d lx ld at cross = by_cross cross.0 cross.1 cross.2 cross.3
-  where
-    by_cross : (a b c : ℕ) → IsCross mesh x a b c → HasCross mesh d
-    by_cross a b c is = by_one (one_of_four mesh laws x a b c lx is d (record { low = ld; at = at }))
-      where
-        second : IsCross mesh a b c x
-        second = rotated mesh laws x a b c lx is
-
-        third : IsCross mesh b c x a
-        third = rotated mesh laws a b c x (low_a mesh laws x a b c lx is) second
-
-        fourth : IsCross mesh c x a b
-        fourth = rotated mesh laws b c x a (low_b mesh laws x a b c lx is) third
-
-        by_one : (d ≡ x) ⊎ ((d ≡ a) ⊎ ((d ≡ b) ⊎ (d ≡ c))) → HasCross mesh d
-        by_one (inl e) = subst (λ (y : ℕ). HasCross mesh y) (sym e) (a, b, c, is)
-        by_one (inr (inl e)) = subst (λ (y : ℕ). HasCross mesh y) (sym e) (b, c, x, second)
-        by_one (inr (inr (inl e))) = subst (λ (y : ℕ). HasCross mesh y) (sym e) (c, x, a, third)
-        by_one (inr (inr (inr e))) = subst (λ (y : ℕ). HasCross mesh y) (sym e) (x, a, b, fourth)
-
-module _ (mesh : HalfEdges) (laws : IsQuadManifold mesh) (cut : Cut) (full : IsCut mesh cut) where
-  -- A joinable arc seen from its other side.
-  pub turned_glued : (s t n : ℕ) → AreGlued mesh cut s t n → AreGlued mesh cut t s n
-  turned_glued s t n g = record { near = g.far; far = g.near; across = λ k j e. laws.twin_twin (easts mesh s j) (easts mesh t k) (side_low mesh laws cut full s n g.near j (omega arith)) (g.across j k (omega arith)) }
-
-  pub turned_arc : (s t n : ℕ) → IsJoinable mesh cut s t n → IsJoinable mesh cut t s n
-  turned_arc s t n arc = record { glued = turned_glued s t n arc.glued; apart = λ a. arc.apart (linked_back mesh laws cut full t s arc.glued.far.corner.0 a) }
-
-  pub on_low : (s t n : ℕ) → AreGlued mesh cut s t n → (d : ℕ) → IsOnArc mesh s t n d → d < mesh.count
-  on_low s t n g d o = elim o.2 [
-    | inl e ↦ subst (λ (x : ℕ). x < mesh.count) (sym e) (side_low mesh laws cut full s n g.near o.0 o.1)
-    | inr e ↦ subst (λ (x : ℕ). x < mesh.count) (sym e) (side_low mesh laws cut full t n g.far o.0 o.1)
-  ]
-
-  pub on_cut : (s t n : ℕ) → AreGlued mesh cut s t n → (d : ℕ) → IsOnArc mesh s t n d → cut d ≡ true
-  on_cut s t n g d o = elim o.2 [
-    | inl e ↦ ap cut e ∙ side_on mesh laws cut full s n g.near o.0 o.1
-    | inr e ↦ ap cut e ∙ side_on mesh laws cut full t n g.far o.0 o.1
-  ]
-
-  -- Its darts are paired.
-  pub on_twin : (s t n : ℕ) → AreGlued mesh cut s t n → (d : ℕ) → IsOnArc mesh s t n d → (e : ℕ) × (mesh.twin d ≡ Some e) × IsOnArc mesh s t n e
-  on_twin s t n g d o = by_side o.0 o.1 o.2
-    where
-      by_side : (k : ℕ) → k < n → (d ≡ easts mesh s k) ⊎ (d ≡ easts mesh t k) → (e : ℕ) × (mesh.twin d ≡ Some e) × IsOnArc mesh s t n e
-      by_side k l (inl e) = (easts mesh t (n - suc k), ap mesh.twin e ∙ g.across k (n - suc k) (omega arith), (n - suc k, omega arith, inr refl))
-      by_side k l (inr e) = (easts mesh s (n - suc k), ap mesh.twin e ∙ (turned_glued s t n g).across k (n - suc k) (omega arith), (n - suc k, omega arith, inl refl))
-
-  -- No other side of a cell is a south side of its grid.
-  never_south : (w h : ℕ) (cell : Cells) → IsGrid mesh cut w h cell → (q i a b : ℕ) → 0 < q → q < 4 → i < w → a < w → b < h → cell i 0 ≡ spin mesh q (cell a b) → ⊥
-  never_south w h cell grid q i a b some low li la lb e = by_turn q some low (same ∙ e)
-    where
-      place : (i ≡ a) × (◌≡◌ {A = ℕ} 0 b)
-      place = no_fold mesh laws cut full w h cell grid q i 0 a b li grid.tall la lb e
-
-      same : cell a b ≡ cell i 0
-      same = ap (λ x. cell x b) (sym place.0) ∙ ap (cell i) (sym place.1)
-
-      lc : cell a b < mesh.count
-      lc = grid.low a b la lb
-
-      by_turn : (q : ℕ) → 0 < q → q < 4 → cell a b ≡ spin mesh q (cell a b) → ⊥
-      by_turn zero some low e = omega arith
-      by_turn (suc zero) some low e = (laws.corners_differ (cell a b) lc).0 (ap mesh.from e)
-      by_turn (suc (suc zero)) some low e = (laws.corners_differ (cell a b) lc).1 (ap mesh.from e)
-      by_turn (suc (suc (suc zero))) some low e = (laws.corners_differ (cell a b) lc).0 (sym (ap mesh.from (ap mesh.next e ∙ laws.four_sides (cell a b))))
-      by_turn (suc (suc (suc (suc q)))) some low e = omega arith
-
--- What is left of the cut without an arc.
-module _ (mesh : HalfEdges) (laws : IsQuadManifold mesh) (cut rest : Cut) (s t n : ℕ) (without : IsWithout mesh cut rest s t n) where
-  pub less : (d : ℕ) → d < mesh.count → rest d ≡ true → cut d ≡ true
-  less d l on = elim (on_or_not mesh s t n d) [
-    | inl o ↦ absurd (true≢false (sym on ∙ without.gone d o))
-    | inr none ↦ sym (without.kept d l none) ∙ on
-  ]
-
-  pub still : (d : ℕ) → d < mesh.count → (IsOnArc mesh s t n d → ⊥) → cut d ≡ true → rest d ≡ true
-  still d l none on = without.kept d l none ∙ on
-
-  pub opened : (d : ℕ) → d < mesh.count → cut d ≡ false → rest d ≡ false
-  opened d l off = elim (on_or_not mesh s t n d) [
-    | inl o ↦ without.gone d o
-    | inr none ↦ without.kept d l none ∙ off
-  ]
-
-  pub links_less : (d e m : ℕ) → d < mesh.count → Links mesh cut d e m → Links mesh rest d e m
-  links_less d e zero l a = a
-  links_less d e (suc m) l a = (a.0, links_less d a.0 m l a.1, elim a.2 [ inl r ↦ inl r | inr o ↦ inr (opened a.0 (links_low mesh laws cut d a.0 m l a.1) o.0, o.1) ])
+use Rattle.merge_laws.proofs.ArcDarts.{on_or_not, other_without, cross_from, turned_glued, turned_arc, on_twin}
+use Rattle.merge_laws.proofs.ArcDarts.{never_south, less, still, links_less}
+use Rattle.merge_laws.proofs.Sides.{side_low, side_link, side_from, first_place, grid_on}
 
 -- The grids on both sides of a joinable arc.
-module _ (mesh : HalfEdges) (laws : IsQuadManifold mesh) (cut : Cut) (full : IsCut mesh cut) (s t n : ℕ) (arc : IsJoinable mesh cut s t n) (h g : ℕ) (grid : IsGrid mesh cut n h (grown mesh s)) (other : IsGrid mesh cut n g (grown mesh t)) where
+module _ (mesh : HalfEdges) (laws : IsQuadManifold mesh) (cut : Cut) (full : IsCut mesh cut) (s t n : ℕ)
+    (arc : IsJoinable mesh cut s t n) (h g : ℕ) (grid : IsGrid mesh cut n h (grown mesh s))
+    (other : IsGrid mesh cut n g (grown mesh t)) where
   -- They have no dart in common.
   pub foreign : (x : ℕ) → In mesh n h (grown mesh s) x → In mesh n g (grown mesh t) x → ⊥
-  foreign x i j = arc.apart (links_join mesh laws cut s x t (linked_in mesh laws cut full n h (grown mesh s) grid x i) (linked_back mesh laws cut full t x arc.glued.far.corner.0 (linked_in mesh laws cut full n g (grown mesh t) other x j)))
+  foreign x i j = arc.apart (links_join mesh laws cut s x t (linked_in mesh laws cut full n h (grown mesh s) grid x i)
+      (linked_back mesh laws cut full t x arc.glued.far.corner.0
+      (linked_in mesh laws cut full n g (grown mesh t) other x j)))
 
   -- No other side of a cell on the near side lies on the arc.
   pub clear : (q a b : ℕ) → 0 < q → q < 4 → a < n → b < h → IsOnArc mesh s t n (spin mesh q (grown mesh s a b)) → ⊥
   clear q a b some low la lb o = by_side o.0 o.1 o.2
     where
-      by_side : (k : ℕ) → k < n → (spin mesh q (grown mesh s a b) ≡ easts mesh s k) ⊎ (spin mesh q (grown mesh s a b) ≡ easts mesh t k) → ⊥
+      by_side : (k : ℕ) → k < n → (spin mesh q (grown mesh s a b) ≡ easts mesh s k)
+          ⊎ (spin mesh q (grown mesh s a b) ≡ easts mesh t k) → ⊥
       by_side k l (inl e) = never_south mesh laws cut full n h (grown mesh s) grid q k a b some low l la lb (sym e)
-      by_side k l (inr e) = foreign (spin mesh q (grown mesh s a b)) (q, record { a = a; b = b; a_low = la; b_low = lb; is = refl }) (0, record { a = k; b = 0; a_low = l; b_low = other.tall; is = e })
+      by_side k l (inr e) = foreign (spin mesh q (grown mesh s a b))
+          (q, record { a = a; b = b; a_low = la; b_low = lb; is = refl })
+          (0, record { a = k; b = 0; a_low = l; b_low = other.tall; is = e })
 
   -- Inside the arc four faces go round a vertex.
   pub crossed_at : (k : ℕ) → suc k < n → HasCross mesh (easts mesh s (suc k))
@@ -158,51 +55,83 @@ module _ (mesh : HalfEdges) (laws : IsQuadManifold mesh) (cut : Cut) (full : IsC
         easts mesh t (suc i),
         mesh.next (easts mesh t i),
         record {
-          first = laws.twin_twin (mesh.next (easts mesh s k)) (mesh.prev (easts mesh s (suc k))) (laws.next_low (easts mesh s k) (low k (omega arith))) (side_link mesh laws cut full s n arc.glued.near k l);
+          first = laws.twin_twin (mesh.next (easts mesh s k)) (mesh.prev (easts mesh s (suc k)))
+              (laws.next_low (easts mesh s k) (low k (omega arith)))
+              (side_link mesh laws cut full s n arc.glued.near k l);
           second = ap mesh.twin (laws.prev_next (easts mesh s k)) ∙ arc.glued.across k (suc i) e;
-          third = laws.twin_twin (mesh.next (easts mesh t i)) (mesh.prev (easts mesh t (suc i))) (laws.next_low (easts mesh t i) (low_far i (omega arith))) (side_link mesh laws cut full t n arc.glued.far i (omega arith));
-          last = ap mesh.twin (laws.prev_next (easts mesh t i)) ∙ (turned_glued mesh laws cut full s t n arc.glued).across i (suc k) (omega arith);
-          apart = λ same. foreign (easts mesh s (suc k)) (0, record { a = suc k; b = 0; a_low = l; b_low = grid.tall; is = refl }) (0, record { a = suc i; b = 0; a_low = omega arith; b_low = other.tall; is = same });
+          third = laws.twin_twin (mesh.next (easts mesh t i)) (mesh.prev (easts mesh t (suc i)))
+              (laws.next_low (easts mesh t i) (low_far i (omega arith)))
+              (side_link mesh laws cut full t n arc.glued.far i (omega arith));
+          last = ap mesh.twin (laws.prev_next (easts mesh t i))
+              ∙ (turned_glued mesh laws cut full s t n arc.glued).across i (suc k) (omega arith);
+          apart = λ same. foreign (easts mesh s (suc k))
+              (0, record { a = suc k; b = 0; a_low = l; b_low = grid.tall; is = refl })
+              (0, record { a = suc i; b = 0; a_low = omega arith; b_low = other.tall; is = same });
         },
       )
 
   module _ (rest : Cut) (without : IsWithout mesh cut rest s t n) where
     -- Where the cut came along the face to the arc, it goes straight on over its end.
-    pub gap_over : (d : ℕ) → d < mesh.count → cut d ≡ true → (k : ℕ) → k < n → mesh.next d ≡ easts mesh s k → (rest_end : rest (mesh.next (easts mesh t (n - 1))) ≡ true) → GoesOn mesh rest d
+    pub gap_over : (d : ℕ) → d < mesh.count → cut d ≡ true → (k : ℕ) → k < n → mesh.next d ≡ easts mesh s k
+        → (rest_end : rest (mesh.next (easts mesh t (n - 1))) ≡ true) → GoesOn mesh rest d
     gap_over d ld on k l e rest_end =
-        let start : k ≡ 0 = first_place mesh laws cut full s n arc.glued.near k l (ap (λ x. cut (mesh.prev x)) (sym e) ∙ (ap cut (laws.prev_next d) ∙ on)) in
+        let start : k ≡ 0 = first_place mesh laws cut full s n arc.glued.near k l
+        (ap (λ x. cut (mesh.prev x)) (sym e) ∙ (ap cut (laws.prev_next d) ∙ on)) in
         let is : mesh.next d ≡ s = e ∙ ap (easts mesh s) start in
-        inr (easts mesh t (n - 1), ap mesh.twin is ∙ arc.glued.across 0 (n - 1) (omega (arith, arc.glued.near.some)), rest_end)
+        inr (
+          easts mesh t (n - 1),
+          ap mesh.twin is ∙ arc.glued.across 0 (n - 1) (omega (arith, arc.glued.near.some)),
+          rest_end,
+        )
 
     -- Where it came straight on to the arc, it came along the arc.
-    pub gap_on : (d e : ℕ) → d < mesh.count → cut (mesh.next d) ≡ false → mesh.twin (mesh.next d) ≡ Some e → (k : ℕ) → k < n → mesh.next e ≡ easts mesh s k → (j : ℕ) × (j < n) × (d ≡ easts mesh s j)
-    gap_on d e ld off tw zero l is = absurd (true≢false (sym arc.glued.near.corner.2 ∙ (ap (λ x. cut (mesh.prev x)) (sym is) ∙ (ap cut (laws.prev_next e) ∙ (full.alike (mesh.next d) e (laws.next_low d ld) tw ∙ off)))))
+    pub gap_on : (d e : ℕ) → d < mesh.count → cut (mesh.next d) ≡ false → mesh.twin (mesh.next d) ≡ Some e → (k : ℕ)
+        → k < n → mesh.next e ≡ easts mesh s k → (j : ℕ) × (j < n) × (d ≡ easts mesh s j)
+    gap_on d e ld off tw zero l is =
+        absurd (true≢false (sym arc.glued.near.corner.2
+        ∙ (ap (λ x. cut (mesh.prev x)) (sym is)
+        ∙ (ap cut (laws.prev_next e) ∙ (full.alike (mesh.next d) e (laws.next_low d ld) tw ∙ off)))))
     gap_on d e ld off tw (suc k) l is =
         let before : e ≡ mesh.prev (easts mesh s (suc k)) = sym (laws.prev_next e) ∙ ap mesh.prev is in
         let lk : easts mesh s k < mesh.count = side_low mesh laws cut full s n arc.glued.near k (omega arith) in
-        let same : mesh.next d ≡ mesh.next (easts mesh s k) = twin_same mesh laws (mesh.next d) (mesh.next (easts mesh s k)) e (laws.next_low d ld) (laws.next_low (easts mesh s k) lk) tw (side_link mesh laws cut full s n arc.glued.near k l ∙ ap Some (sym before)) in
+        let same : mesh.next d ≡ mesh.next (easts mesh s k) =
+        twin_same mesh laws (mesh.next d) (mesh.next (easts mesh s k)) e (laws.next_low d ld)
+        (laws.next_low (easts mesh s k) lk) tw (side_link mesh laws cut full s n arc.glued.near k l
+        ∙ ap Some (sym before)) in
         (k, omega arith, next_same mesh laws d (easts mesh s k) same)
 
     -- The end of the arc on the near side is followed by an edge that stays.
     pub end_stays : rest (mesh.next (easts mesh s (n - 1))) ≡ true
-    end_stays = still mesh laws cut rest s t n without (mesh.next (easts mesh s (n - 1))) (laws.next_low (easts mesh s (n - 1)) (side_low mesh laws cut full s n arc.glued.near (n - 1) last)) (clear 1 (n - 1) 0 (omega arith) (omega arith) last grid.tall) (arc.glued.near.ends (n - 1) (omega (arith, arc.glued.near.some)))
+    end_stays = still mesh laws cut rest s t n without (mesh.next (easts mesh s (n - 1)))
+        (laws.next_low (easts mesh s (n - 1)) (side_low mesh laws cut full s n arc.glued.near (n - 1) last))
+        (clear 1 (n - 1) 0 (omega arith) (omega arith) last grid.tall)
+        (arc.glued.near.ends (n - 1) (omega (arith, arc.glued.near.some)))
       where
         last : n - 1 < n
         last = omega (arith, arc.glued.near.some)
 
     -- So does the edge before its start.
     pub start_stays : rest (mesh.prev s) ≡ true
-    start_stays = ap rest (prev_three mesh laws s) ∙ still mesh laws cut rest s t n without (spin mesh 3 s) (subst (λ (x : ℕ). x < mesh.count) (prev_three mesh laws s) (laws.prev_low s arc.glued.near.corner.0)) (clear 3 0 0 (omega arith) (omega arith) arc.glued.near.some grid.tall) (ap cut (sym (prev_three mesh laws s)) ∙ arc.glued.near.corner.2)
+    start_stays = ap rest (prev_three mesh laws s)
+        ∙ still mesh laws cut rest s t n without (spin mesh 3 s)
+        (subst (λ (x : ℕ). x < mesh.count) (prev_three mesh laws s) (laws.prev_low s arc.glued.near.corner.0))
+        (clear 3 0 0 (omega arith) (omega arith) arc.glued.near.some grid.tall)
+        (ap cut (sym (prev_three mesh laws s)) ∙ arc.glued.near.corner.2)
 
     -- An open vertex with a dart on the near side.
-    pub cross_on : (d : ℕ) → d < mesh.count → rest (mesh.prev d) ≡ false → (k : ℕ) → k < n → d ≡ easts mesh s k → HasCross mesh d
+    pub cross_on : (d : ℕ) → d < mesh.count → rest (mesh.prev d) ≡ false → (k : ℕ) → k < n → d ≡ easts mesh s k
+        → HasCross mesh d
     cross_on d ld off zero l e = absurd (false≢true (sym off ∙ (ap (λ x. rest (mesh.prev x)) e ∙ start_stays)))
     cross_on d ld off (suc k) l e = subst (λ (x : ℕ). HasCross mesh x) (sym e) (crossed_at k l)
 
-    pub cross_before : (d : ℕ) → d < mesh.count → cut d ≡ false → (k : ℕ) → k < n → mesh.prev d ≡ easts mesh s k → HasCross mesh d
+    pub cross_before : (d : ℕ) → d < mesh.count → cut d ≡ false → (k : ℕ) → k < n → mesh.prev d ≡ easts mesh s k
+        → HasCross mesh d
     cross_before d ld off k l e = elim (cases_eq (suc k) n) [
       | inl z ↦ absurd (true≢false (sym (arc.glued.near.ends k z) ∙ (ap cut (sym is) ∙ off)))
-      | inr ne ↦ let lk : suc k < n = omega arith in cross_from mesh laws (easts mesh s (suc k)) d (side_low mesh laws cut full s n arc.glued.near (suc k) lk) ld (ap mesh.from is ∙ sym (side_from mesh laws cut full s n arc.glued.near k lk)) (crossed_at k lk)
+      | inr ne ↦ let lk : suc k < n =
+          omega arith in cross_from mesh laws (easts mesh s (suc k)) d
+          (side_low mesh laws cut full s n arc.glued.near (suc k) lk) ld
+          (ap mesh.from is ∙ sym (side_from mesh laws cut full s n arc.glued.near k lk)) (crossed_at k lk)
     ]
       where
         is : d ≡ mesh.next (easts mesh s k)
@@ -214,7 +143,13 @@ module _ (mesh : HalfEdges) (laws : IsQuadManifold mesh) (cut : Cut) (full : IsC
 
     pub lost : (d e : ℕ) → d < mesh.count → AreLinked mesh cut d e → In mesh n h (grown mesh s) e → CornerOf mesh rest d
     unfolding far_corner
-    lost d e ld a i = by_links (links_join mesh laws cut d e far_corner a (links_join mesh laws cut e s far_corner (linked_back mesh laws cut full s e arc.glued.near.corner.0 (linked_in mesh laws cut full n h (grown mesh s) grid e i)) (linked_in mesh laws cut full n h (grown mesh s) grid far_corner (2, record { a = n - 1; b = h - 1; a_low = last; b_low = top; is = refl }))))
+    lost d e ld a i =
+        by_links (links_join mesh laws cut d e far_corner a
+        (links_join mesh laws cut e s far_corner
+        (linked_back mesh laws cut full s e arc.glued.near.corner.0
+        (linked_in mesh laws cut full n h (grown mesh s) grid e i))
+        (linked_in mesh laws cut full n h (grown mesh s) grid far_corner
+        (2, record { a = n - 1; b = h - 1; a_low = last; b_low = top; is = refl }))))
       where
         last : n - 1 < n
         last = omega (arith, arc.glued.near.some)
@@ -228,14 +163,22 @@ module _ (mesh : HalfEdges) (laws : IsQuadManifold mesh) (cut : Cut) (full : IsC
         corner : IsCorner mesh rest far_corner
         corner = (
           laws.next_low (mesh.next (grown mesh s (n - 1) (h - 1))) low,
-          still mesh laws cut rest s t n without far_corner (laws.next_low (mesh.next (grown mesh s (n - 1) (h - 1))) low) (clear 2 (n - 1) (h - 1) (omega arith) (omega arith) last top) (grid.north_shut (n - 1) (h - 1) last (omega (arith, grid.tall))),
-          ap rest (laws.prev_next (mesh.next (grown mesh s (n - 1) (h - 1)))) ∙ still mesh laws cut rest s t n without (mesh.next (grown mesh s (n - 1) (h - 1))) low (clear 1 (n - 1) (h - 1) (omega arith) (omega arith) last top) (grid.east_shut (n - 1) (h - 1) (omega (arith, arc.glued.near.some)) top),
+          still mesh laws cut rest s t n without far_corner
+              (laws.next_low (mesh.next (grown mesh s (n - 1) (h - 1))) low)
+              (clear 2 (n - 1) (h - 1) (omega arith) (omega arith) last top)
+              (grid.north_shut (n - 1) (h - 1) last (omega (arith, grid.tall))),
+          ap rest (laws.prev_next (mesh.next (grown mesh s (n - 1) (h - 1))))
+              ∙ still mesh laws cut rest s t n without (mesh.next (grown mesh s (n - 1) (h - 1))) low
+              (clear 1 (n - 1) (h - 1) (omega arith) (omega arith) last top)
+              (grid.east_shut (n - 1) (h - 1) (omega (arith, arc.glued.near.some)) top),
         )
 
         by_links : AreLinked mesh cut d far_corner → CornerOf mesh rest d
         by_links l = (far_corner, l.0, links_less mesh laws cut rest s t n without d far_corner l.0 ld l.1, corner)
 
-module _ (mesh : HalfEdges) (laws : IsQuadManifold mesh) (cut : Cut) (full : IsCut mesh cut) (s t n : ℕ) (arc : IsJoinable mesh cut s t n) (h g : ℕ) (grid : IsGrid mesh cut n h (grown mesh s)) (other : IsGrid mesh cut n g (grown mesh t)) (rest : Cut) (without : IsWithout mesh cut rest s t n) where
+module _ (mesh : HalfEdges) (laws : IsQuadManifold mesh) (cut : Cut) (full : IsCut mesh cut) (s t n : ℕ)
+    (arc : IsJoinable mesh cut s t n) (h g : ℕ) (grid : IsGrid mesh cut n h (grown mesh s))
+    (other : IsGrid mesh cut n g (grown mesh t)) (rest : Cut) (without : IsWithout mesh cut rest s t n) where
   back : IsJoinable mesh cut t s n
   back = turned_arc mesh laws cut full s t n arc
 
@@ -260,22 +203,35 @@ module _ (mesh : HalfEdges) (laws : IsQuadManifold mesh) (cut : Cut) (full : IsC
 
       over : (k : ℕ) → k < n → (mesh.next d ≡ easts mesh s k) ⊎ (mesh.next d ≡ easts mesh t k) → GoesOn mesh rest d
       over k lk (inl e) = gap_over mesh laws cut full s t n arc h g grid other rest without d l was k lk e far_end
-      over k lk (inr e) = gap_over mesh laws cut full t s n back g h other grid rest without_back d l was k lk e near_end
+      over k lk (inr e) = gap_over mesh laws cut full t s n back g h other grid rest without_back d l was k lk e
+          near_end
 
-      along : (e : ℕ) → cut (mesh.next d) ≡ false → mesh.twin (mesh.next d) ≡ Some e → (k : ℕ) → k < n → (mesh.next e ≡ easts mesh s k) ⊎ (mesh.next e ≡ easts mesh t k) → IsOnArc mesh s t n d
-      along e off tw k lk (inl is) = let p : (j : ℕ) × (j < n) × (d ≡ easts mesh s j) = gap_on mesh laws cut full s t n arc h g grid other rest without d e l off tw k lk is in (p.0, p.1, inl p.2)
-      along e off tw k lk (inr is) = let p : (j : ℕ) × (j < n) × (d ≡ easts mesh t j) = gap_on mesh laws cut full t s n back g h other grid rest without_back d e l off tw k lk is in (p.0, p.1, inr p.2)
+      along : (e : ℕ) → cut (mesh.next d) ≡ false → mesh.twin (mesh.next d) ≡ Some e → (k : ℕ) → k < n
+          → (mesh.next e ≡ easts mesh s k) ⊎ (mesh.next e ≡ easts mesh t k) → IsOnArc mesh s t n d
+      along e off tw k lk (inl is) = let p : (j : ℕ) × (j < n) × (d ≡ easts mesh s j) =
+          gap_on mesh laws cut full s t n arc h g grid other rest without d e l off tw k lk is in (p.0, p.1, inl p.2)
+      along e off tw k lk (inr is) = let p : (j : ℕ) × (j < n) × (d ≡ easts mesh t j) =
+          gap_on mesh laws cut full t s n back g h other grid rest without_back d e l off tw k lk is in
+          (p.0, p.1, inr p.2)
 
       straight : cut (mesh.next d) ≡ false → GoesOn mesh cut d → GoesOn mesh rest d
       straight off (inl c) = absurd (true≢false (sym c ∙ off))
       straight off (inr f) = at f.0 f.1 f.2 (on_or_not mesh s t n (mesh.next f.0))
         where
-          at : (e : ℕ) → mesh.twin (mesh.next d) ≡ Some e → cut (mesh.next e) ≡ true → IsOnArc mesh s t n (mesh.next e) ⊎ (IsOnArc mesh s t n (mesh.next e) → ⊥) → GoesOn mesh rest d
+          at : (e : ℕ) → mesh.twin (mesh.next d) ≡ Some e → cut (mesh.next e) ≡ true → IsOnArc mesh s t n (mesh.next e)
+              ⊎ (IsOnArc mesh s t n (mesh.next e) → ⊥) → GoesOn mesh rest d
           at e tw c (inl o) = absurd (true≢false (sym on ∙ without.gone d (along e off tw o.0 o.1 o.2)))
-          at e tw c (inr none) = inr (e, tw, keeps (mesh.next e) (laws.next_low e (laws.twin_low (mesh.next d) e (laws.next_low d l) tw)) none c)
+          at e tw c (inr none) =
+              inr (
+                e,
+                tw,
+                keeps (mesh.next e) (laws.next_low e (laws.twin_low (mesh.next d) e (laws.next_low d l) tw))
+                    none c,
+              )
 
       by_next : (cut (mesh.next d) ≡ true) ⊎ (cut (mesh.next d) ≡ false) → GoesOn mesh rest d
-      by_next (inl c) = elim (on_or_not mesh s t n (mesh.next d)) [ inl o ↦ over o.0 o.1 o.2 | inr none ↦ inl (keeps (mesh.next d) (laws.next_low d l) none c) ]
+      by_next (inl c) = elim (on_or_not mesh s t n (mesh.next d))
+          [ inl o ↦ over o.0 o.1 o.2 | inr none ↦ inl (keeps (mesh.next d) (laws.next_low d l) none c) ]
       by_next (inr off) = straight off (full.gaps d l was)
 
   crossed : (d : ℕ) → d < mesh.count → IsUncut mesh rest (mesh.from d) → HasCross mesh d
@@ -286,40 +242,59 @@ module _ (mesh : HalfEdges) (laws : IsQuadManifold mesh) (cut : Cut) (full : IsC
       off = uncut d l refl
 
       on_arc : (x : ℕ) → x < mesh.count → cut x ≡ true → rest x ≡ false → IsOnArc mesh s t n x
-      on_arc x lx c r = elim (on_or_not mesh s t n x) [ inl o ↦ o | inr none ↦ absurd (true≢false (sym (keeps x lx none c) ∙ r)) ]
+      on_arc x lx c r = elim (on_or_not mesh s t n x)
+          [ inl o ↦ o | inr none ↦ absurd (true≢false (sym (keeps x lx none c) ∙ r)) ]
 
       at : (k : ℕ) → k < n → (d ≡ easts mesh s k) ⊎ (d ≡ easts mesh t k) → HasCross mesh d
       at k lk (inl e) = cross_on mesh laws cut full s t n arc h g grid other rest without d l off.1 k lk e
       at k lk (inr e) = cross_on mesh laws cut full t s n back g h other grid rest without_back d l off.1 k lk e
 
-      after : cut d ≡ false → (k : ℕ) → k < n → (mesh.prev d ≡ easts mesh s k) ⊎ (mesh.prev d ≡ easts mesh t k) → HasCross mesh d
+      after : cut d ≡ false → (k : ℕ) → k < n → (mesh.prev d ≡ easts mesh s k) ⊎ (mesh.prev d ≡ easts mesh t k)
+          → HasCross mesh d
       after c k lk (inl e) = cross_before mesh laws cut full s t n arc h g grid other rest without d l c k lk e
       after c k lk (inr e) = cross_before mesh laws cut full t s n back g h other grid rest without_back d l c k lk e
 
-      by_edges : (cut d ≡ true) ⊎ (cut d ≡ false) → (cut (mesh.prev d) ≡ true) ⊎ (cut (mesh.prev d) ≡ false) → HasCross mesh d
+      by_edges : (cut d ≡ true) ⊎ (cut d ≡ false) → (cut (mesh.prev d) ≡ true) ⊎ (cut (mesh.prev d) ≡ false)
+          → HasCross mesh d
       by_edges (inl c) before = let o : IsOnArc mesh s t n d = on_arc d l c off.0 in at o.0 o.1 o.2
-      by_edges (inr c) (inl b) = let o : IsOnArc mesh s t n (mesh.prev d) = on_arc (mesh.prev d) (laws.prev_low d l) b off.1 in after c o.0 o.1 o.2
+      by_edges (inr c) (inl b) = let o : IsOnArc mesh s t n (mesh.prev d) =
+          on_arc (mesh.prev d) (laws.prev_low d l) b off.1 in after c o.0 o.1 o.2
       by_edges (inr c) (inr b) = cross_at mesh laws cut full d l (c, b)
 
   corner : (d : ℕ) → d < mesh.count → CornerOf mesh rest d
   unfolding back without_back
   corner d l = by_corner (full.corner d l)
     where
-      lost_at : (e : ℕ) → AreLinked mesh cut d e → (k : ℕ) → k < n → (e ≡ easts mesh s k) ⊎ (e ≡ easts mesh t k) → CornerOf mesh rest d
-      lost_at e a k lk (inl is) = lost mesh laws cut full s t n arc h g grid other rest without d e l a (0, record { a = k; b = 0; a_low = lk; b_low = grid.tall; is = is })
-      lost_at e a k lk (inr is) = lost mesh laws cut full t s n back g h other grid rest without_back d e l a (0, record { a = k; b = 0; a_low = lk; b_low = other.tall; is = is })
+      lost_at : (e : ℕ) → AreLinked mesh cut d e → (k : ℕ) → k < n → (e ≡ easts mesh s k) ⊎ (e ≡ easts mesh t k)
+          → CornerOf mesh rest d
+      lost_at e a k lk (inl is) = lost mesh laws cut full s t n arc h g grid other rest without d e l a
+          (0, record { a = k; b = 0; a_low = lk; b_low = grid.tall; is = is })
+      lost_at e a k lk (inr is) = lost mesh laws cut full t s n back g h other grid rest without_back d e l a
+          (0, record { a = k; b = 0; a_low = lk; b_low = other.tall; is = is })
 
-      lost_after : (e : ℕ) → AreLinked mesh cut d e → (k : ℕ) → k < n → (mesh.prev e ≡ easts mesh s k) ⊎ (mesh.prev e ≡ easts mesh t k) → CornerOf mesh rest d
-      lost_after e a k lk (inl is) = lost mesh laws cut full s t n arc h g grid other rest without d e l a (1, record { a = k; b = 0; a_low = lk; b_low = grid.tall; is = sym (laws.next_prev e) ∙ ap mesh.next is })
-      lost_after e a k lk (inr is) = lost mesh laws cut full t s n back g h other grid rest without_back d e l a (1, record { a = k; b = 0; a_low = lk; b_low = other.tall; is = sym (laws.next_prev e) ∙ ap mesh.next is })
+      lost_after : (e : ℕ) → AreLinked mesh cut d e → (k : ℕ) → k < n → (mesh.prev e ≡ easts mesh s k)
+          ⊎ (mesh.prev e ≡ easts mesh t k) → CornerOf mesh rest d
+      lost_after e a k lk (inl is) =
+          lost mesh laws cut full s t n arc h g grid other rest without d e l a
+          (1, record { a = k; b = 0; a_low = lk; b_low = grid.tall; is = sym (laws.next_prev e) ∙ ap mesh.next is })
+      lost_after e a k lk (inr is) =
+          lost mesh laws cut full t s n back g h other grid rest without_back d e l a
+          (1, record { a = k; b = 0; a_low = lk; b_low = other.tall; is = sym (laws.next_prev e) ∙ ap mesh.next is })
 
       by_corner : CornerOf mesh cut d → CornerOf mesh rest d
       by_corner c = at c.0 c.1 c.2 c.3 (on_or_not mesh s t n c.0) (on_or_not mesh s t n (mesh.prev c.0))
         where
-          at : (e m : ℕ) → Links mesh cut d e m → IsCorner mesh cut e → IsOnArc mesh s t n e ⊎ (IsOnArc mesh s t n e → ⊥) → IsOnArc mesh s t n (mesh.prev e) ⊎ (IsOnArc mesh s t n (mesh.prev e) → ⊥) → CornerOf mesh rest d
+          at : (e m : ℕ) → Links mesh cut d e m → IsCorner mesh cut e → IsOnArc mesh s t n e
+              ⊎ (IsOnArc mesh s t n e → ⊥) → IsOnArc mesh s t n (mesh.prev e) ⊎ (IsOnArc mesh s t n (mesh.prev e) → ⊥)
+              → CornerOf mesh rest d
           at e m a is (inl o) before = lost_at e (m, a) o.0 o.1 o.2
           at e m a is (inr none) (inl o) = lost_after e (m, a) o.0 o.1 o.2
-          at e m a is (inr none) (inr clear) = (e, m, links_less mesh laws cut rest s t n without d e m l a, (is.0, keeps e is.0 none is.1, keeps (mesh.prev e) (laws.prev_low e is.0) clear is.2))
+          at e m a is (inr none) (inr clear) = (
+            e,
+            m,
+            links_less mesh laws cut rest s t n without d e m l a,
+            (is.0, keeps e is.0 none is.1, keeps (mesh.prev e) (laws.prev_low e is.0) clear is.2),
+          )
 
   pub full_rest : IsCut mesh rest
   full_rest = record { alike = alike; boundary = boundary; gaps = gaps; crossed = crossed; corner = corner }
@@ -328,22 +303,29 @@ module _ (mesh : HalfEdges) (laws : IsQuadManifold mesh) (cut : Cut) (full : IsC
       alike d e l tw = by_on (on_or_not mesh s t n d) (on_or_not mesh s t n e)
         where
           paired : (x y : ℕ) → mesh.twin x ≡ Some y → IsOnArc mesh s t n x → IsOnArc mesh s t n y
-          paired x y is o = let p : (z : ℕ) × (mesh.twin x ≡ Some z) × IsOnArc mesh s t n z = on_twin mesh laws cut full s t n arc.glued x o in subst (λ (z : ℕ). IsOnArc mesh s t n z) (same_Some p.0 y (sym p.1 ∙ is)) p.2
+          paired x y is o = let p : (z : ℕ) × (mesh.twin x ≡ Some z) × IsOnArc mesh s t n z =
+              on_twin mesh laws cut full s t n arc.glued x o in subst (λ (z : ℕ). IsOnArc mesh s t n z)
+              (same_Some p.0 y (sym p.1 ∙ is)) p.2
 
-          by_on : IsOnArc mesh s t n d ⊎ (IsOnArc mesh s t n d → ⊥) → IsOnArc mesh s t n e ⊎ (IsOnArc mesh s t n e → ⊥) → rest e ≡ rest d
+          by_on : IsOnArc mesh s t n d ⊎ (IsOnArc mesh s t n d → ⊥) → IsOnArc mesh s t n e ⊎ (IsOnArc mesh s t n e → ⊥)
+              → rest e ≡ rest d
           by_on (inl o) (inl p) = without.gone e p ∙ sym (without.gone d o)
           by_on (inl o) (inr none) = absurd (none (paired d e tw o))
           by_on (inr none) (inl p) = absurd (none (paired e d (laws.twin_twin d e l tw) p))
-          by_on (inr none) (inr clear) = without.kept e (laws.twin_low d e l tw) clear ∙ (full.alike d e l tw ∙ sym (without.kept d l none))
+          by_on (inr none) (inr clear) = without.kept e (laws.twin_low d e l tw) clear
+              ∙ (full.alike d e l tw ∙ sym (without.kept d l none))
 
       boundary : (d : ℕ) → d < mesh.count → mesh.twin d ≡ None → rest d ≡ true
       boundary d l is = keeps d l none (full.boundary d l is)
         where
           none : IsOnArc mesh s t n d → ⊥
-          none o = let p : (z : ℕ) × (mesh.twin d ≡ Some z) × IsOnArc mesh s t n z = on_twin mesh laws cut full s t n arc.glued d o in let clash : None ≡ Some p.0 = sym is ∙ p.1 in absurd cc
+          none o = let p : (z : ℕ) × (mesh.twin d ≡ Some z) × IsOnArc mesh s t n z =
+              on_twin mesh laws cut full s t n arc.glued d o in let clash : None ≡ Some p.0 = sym is ∙ p.1 in absurd cc
 
 pub join_law : JoinLaw
-join_law mesh cut rest s t n laws full arc without = by_grids (grid_on mesh laws cut full s n arc.glued.near) (grid_on mesh laws cut full t n arc.glued.far)
+join_law mesh cut rest s t n laws full arc without =
+    by_grids (grid_on mesh laws cut full s n arc.glued.near) (grid_on mesh laws cut full t n arc.glued.far)
   where
-    by_grids : (h : ℕ) × IsGrid mesh cut n h (grown mesh s) → (g : ℕ) × IsGrid mesh cut n g (grown mesh t) → IsCut mesh rest
+    by_grids : (h : ℕ) × IsGrid mesh cut n h (grown mesh s) → (g : ℕ) × IsGrid mesh cut n g (grown mesh t)
+        → IsCut mesh rest
     by_grids p q = full_rest mesh laws cut full s t n arc p.0 q.0 p.1 q.1 rest without

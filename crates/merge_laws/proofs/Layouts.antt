@@ -1,5 +1,6 @@
 -- What is joinable in a layout is joinable in its cut.
-use Rattle.std.proofs.Common.{◌≡◌, ℕ, suc, ◌+◌, ◌-◌, ◌<◌, Bool, true, false, not, Some, sym, ◌∙◌, ap, subst, refl, arith}
+use Rattle.std.proofs.Common.{◌≡◌, ℕ, suc, ◌+◌, ◌-◌, ◌<◌, Bool, true, false, not, Some, sym, ◌∙◌, ap, subst, refl}
+use Rattle.std.proofs.Common.{arith}
 use Rattle.def_mesh.specs.HalfEdges.{HalfEdges, IsQuadManifold, half_edges}
 use Rattle.def_mesh.specs.Vertices.{vertex_count}
 use Rattle.def_cut.specs.Cuts.{Cut, IsCut}
@@ -16,19 +17,21 @@ use Rattle.def_layout.specs.Nodes.{is_node}
 use Rattle.def_layout.specs.Plans.{Plan, layout_of, IsDartLayout}
 use Rattle.mesh_laws.proofs.HalfEdges.{manifold_law}
 use Rattle.face_laws.proofs.FullCuts.{full_cut_law}
-use Rattle.merge_laws.proofs.Sides.{south_side, east_side, north_side, west_side, along_south, along_east, along_north, along_west}
+use Rattle.merge_laws.proofs.Sides.{south_side, east_side, north_side, west_side, along_south, along_east, along_north}
+use Rattle.merge_laws.proofs.Sides.{along_west}
 use Rattle.merge_laws.proofs.Classes.{one_place_of}
 use Rattle.def_merge.specs.Joins.{IsWholeSide, AreInOne, IsJoinable}
 use Rattle.def_merge.specs.Layouts.{IsJoinableAt}
 use Rattle.def_merge.specs.Laws.{JoinableLaw}
 
 -- A side of a patch: the whole of it, dart by dart.
-record IsBorder (mesh : HalfEdges) (cut : Cut) (p : Rectangle) (side : Way) : Type 0 where
-  whole : IsWholeSide mesh cut (border_dart mesh p side 0) (side_size p side)
-  along : (k : ℕ) → k < side_size p side → easts mesh (border_dart mesh p side 0) k ≡ border_dart mesh p side k
-  inside : (k : ℕ) → k < side_size p side → In mesh p.w p.h (cell_of p) (border_dart mesh p side k)
+pub record IsBorder (mesh : HalfEdges) (cut : Cut) (p : Rectangle) (side : Way) : Type 0 where
+  pub whole : IsWholeSide mesh cut (border_dart mesh p side 0) (side_size p side)
+  pub along : (k : ℕ) → k < side_size p side → easts mesh (border_dart mesh p side 0) k ≡ border_dart mesh p side k
+  pub inside : (k : ℕ) → k < side_size p side → In mesh p.w p.h (cell_of p) (border_dart mesh p side k)
 
-module _ (mesh : HalfEdges) (laws : IsQuadManifold mesh) (cut : Cut) (full : IsCut mesh cut) (p : Rectangle) (grid : IsGrid mesh cut p.w p.h (cell_of p)) where
+module _ (mesh : HalfEdges) (laws : IsQuadManifold mesh) (cut : Cut) (full : IsCut mesh cut) (p : Rectangle)
+    (grid : IsGrid mesh cut p.w p.h (cell_of p)) where
   first_column : p.w - 1 - 0 ≡ p.w - 1
   first_column = omega arith
 
@@ -47,7 +50,7 @@ module _ (mesh : HalfEdges) (laws : IsQuadManifold mesh) (cut : Cut) (full : IsC
   last_row : p.h - 1 < p.h
   last_row = omega (arith, grid.tall)
 
-  border : (side : Way) → IsBorder mesh cut p side
+  pub border : (side : Way) → IsBorder mesh cut p side
   border south = record {
     whole = south_side mesh laws cut full p.w p.h (cell_of p) grid;
     along = along_south mesh laws cut full p.w p.h (cell_of p) grid;
@@ -59,42 +62,69 @@ module _ (mesh : HalfEdges) (laws : IsQuadManifold mesh) (cut : Cut) (full : IsC
     inside = λ k l. (1, record { a = p.w - 1; b = k; a_low = last_column; b_low = l; is = refl });
   }
   border north = record {
-    whole = subst (λ (x : ℕ). IsWholeSide mesh cut x p.w) north_start (north_side mesh laws cut full p.w p.h (cell_of p) grid);
-    along = λ k l. ap (λ x. easts mesh x k) (sym north_start) ∙ along_north mesh laws cut full p.w p.h (cell_of p) grid k (p.w - 1 - k) (omega arith);
+    whole = subst (λ (x : ℕ). IsWholeSide mesh cut x p.w) north_start
+        (north_side mesh laws cut full p.w p.h (cell_of p) grid);
+    along = λ k l. ap (λ x. easts mesh x k) (sym north_start)
+        ∙ along_north mesh laws cut full p.w p.h (cell_of p) grid k (p.w - 1 - k) (omega arith);
     inside = λ k l. (2, record { a = p.w - 1 - k; b = p.h - 1; a_low = omega arith; b_low = last_row; is = refl });
   }
   border west = record {
-    whole = subst (λ (x : ℕ). IsWholeSide mesh cut x p.h) west_start (west_side mesh laws cut full p.w p.h (cell_of p) grid);
-    along = λ k l. ap (λ x. easts mesh x k) (sym west_start) ∙ (along_west mesh laws cut full p.w p.h (cell_of p) grid k (p.h - 1 - k) (omega arith) ∙ sym (prev_three mesh laws (cell_of p 0 (p.h - 1 - k))));
-    inside = λ k l. (3, record { a = 0; b = p.h - 1 - k; a_low = grid.wide; b_low = omega arith; is = prev_three mesh laws (cell_of p 0 (p.h - 1 - k)) });
+    whole = subst (λ (x : ℕ). IsWholeSide mesh cut x p.h) west_start
+        (west_side mesh laws cut full p.w p.h (cell_of p) grid);
+    along = λ k l. ap (λ x. easts mesh x k) (sym west_start)
+        ∙ (along_west mesh laws cut full p.w p.h (cell_of p) grid k (p.h - 1 - k) (omega arith)
+        ∙ sym (prev_three mesh laws (cell_of p 0 (p.h - 1 - k))));
+    inside =
+        λ k l. (
+          3,
+          record {
+            a = 0;
+            b = p.h - 1 - k;
+            a_low = grid.wide;
+            b_low = omega arith;
+            is =
+                prev_three mesh laws (cell_of p 0 (p.h - 1 - k));
+          },
+        );
   }
 
-module _ (mesh : HalfEdges) (laws : IsQuadManifold mesh) (cut : Cut) (full : IsCut mesh cut) (node : ℕ → Bool) (face : ℕ → ℕ) (vertices : ℕ) (plan : Plan) (lay : IsDartLayout mesh cut node face vertices plan) where
+module _ (mesh : HalfEdges) (laws : IsQuadManifold mesh) (cut : Cut) (full : IsCut mesh cut) (node : ℕ → Bool)
+    (face : ℕ → ℕ) (vertices : ℕ) (plan : Plan) (lay : IsDartLayout mesh cut node face vertices plan) where
   abbrev arc_of : (slot : Slot) → ℕ
   arc_of slot = (use_of (layout_of plan) slot).arc
 
-  grid_of : (slot : Slot) → IsSlot (layout_of plan) slot → IsGrid mesh cut (patch_at plan.patches slot.patch).w (patch_at plan.patches slot.patch).h (cell_of (patch_at plan.patches slot.patch))
+  grid_of : (slot : Slot) → IsSlot (layout_of plan) slot
+      → IsGrid mesh cut (patch_at plan.patches slot.patch).w (patch_at plan.patches slot.patch).h
+      (cell_of (patch_at plan.patches slot.patch))
   grid_of slot is = (lay.patches.patch slot.patch is.patch_low).grid
 
   -- A slot that is alone on its side: its arc is as long as the side, and begins with it.
-  module _ (slot : Slot) (is : IsSlot (layout_of plan) slot) (alone : (layout_of plan).many slot.patch slot.side ≡ 1) where
-    at_first : slot.at ≡ 0
-    at_first = omega (arith, is.low, alone)
+  module _ (slot : Slot) (is : IsSlot (layout_of plan) slot) (alone : (layout_of plan).many slot.patch slot.side ≡ 1)
+    where
+      at_first : slot.at ≡ 0
+      at_first = omega (arith, is.low, alone)
 
-    use_here : (layout_of plan).use_at slot.patch slot.side 0 ≡ use_of (layout_of plan) slot
-    use_here = ap (λ k. (layout_of plan).use_at slot.patch slot.side k) (sym at_first)
+      use_here : (layout_of plan).use_at slot.patch slot.side 0 ≡ use_of (layout_of plan) slot
+      use_here = ap (λ k. (layout_of plan).use_at slot.patch slot.side k) (sym at_first)
 
-    one_long : reach (layout_of plan) (long_at plan.arcs) slot.patch slot.side 1 ≡ long_at plan.arcs (arc_of slot)
-    one_long = let none : 0 + long_at plan.arcs (arc_of slot) ≡ long_at plan.arcs (arc_of slot) = omega arith in ap (λ u. 0 + long_at plan.arcs u.arc) use_here ∙ none
+      one_long : reach (layout_of plan) (long_at plan.arcs) slot.patch slot.side 1 ≡ long_at plan.arcs (arc_of slot)
+      one_long = let none : 0 + long_at plan.arcs (arc_of slot) ≡ long_at plan.arcs (arc_of slot) =
+          omega arith in ap (λ u. 0 + long_at plan.arcs u.arc) use_here ∙ none
 
-    long : long_at plan.arcs (arc_of slot) ≡ side_size (patch_at plan.patches slot.patch) slot.side
-    long = sym one_long ∙ (ap (reach (layout_of plan) (long_at plan.arcs) slot.patch slot.side) (sym alone) ∙ lay.sizes slot.patch slot.side is.patch_low)
+      long : long_at plan.arcs (arc_of slot) ≡ side_size (patch_at plan.patches slot.patch) slot.side
+      long = sym one_long ∙ (ap (reach (layout_of plan) (long_at plan.arcs) slot.patch slot.side) (sym alone)
+          ∙ lay.sizes slot.patch slot.side is.patch_low)
 
-    lies : (o : ℕ) → o < long_at plan.arcs (arc_of slot) → LiesAt mesh (path_at plan.arcs (arc_of slot)).darts (use_of (layout_of plan) slot).forward o (border_dart mesh (patch_at plan.patches slot.patch) slot.side o)
-    lies o l = subst (λ (r : ℕ). LiesAt mesh (path_at plan.arcs (arc_of slot)).darts (use_of (layout_of plan) slot).forward o (border_dart mesh (patch_at plan.patches slot.patch) slot.side r)) none (lay.used slot o is l)
-      where
-        none : reach (layout_of plan) (long_at plan.arcs) slot.patch slot.side slot.at + o ≡ o
-        none = let same : 0 + o ≡ o = omega arith in ap (λ k. reach (layout_of plan) (long_at plan.arcs) slot.patch slot.side k + o) at_first ∙ same
+      lies : (o : ℕ) → o < long_at plan.arcs (arc_of slot)
+          → LiesAt mesh (path_at plan.arcs (arc_of slot)).darts (use_of (layout_of plan) slot).forward o
+          (border_dart mesh (patch_at plan.patches slot.patch) slot.side o)
+      lies o l =
+          subst (λ (r : ℕ). LiesAt mesh (path_at plan.arcs (arc_of slot)).darts (use_of (layout_of plan) slot).forward o
+          (border_dart mesh (patch_at plan.patches slot.patch) slot.side r)) none (lay.used slot o is l)
+        where
+          none : reach (layout_of plan) (long_at plan.arcs) slot.patch slot.side slot.at + o ≡ o
+          none = let same : 0 + o ≡ o = omega arith in ap
+              (λ k. reach (layout_of plan) (long_at plan.arcs) slot.patch slot.side k + o) at_first ∙ same
 
   module _ (one other : Slot) (are : IsJoinableAt (layout_of plan) one other) where
     near : IsBorder mesh cut (patch_at plan.patches one.patch) one.side
@@ -109,37 +139,61 @@ module _ (mesh : HalfEdges) (laws : IsQuadManifold mesh) (cut : Cut) (full : IsC
     far_long : side_size (patch_at plan.patches other.patch) other.side ≡ long_at plan.arcs (arc_of one)
     far_long = sym (long other are.across.0 are.alone_across) ∙ ap (long_at plan.arcs) are.across.1.arc
 
-    far_lies : (o : ℕ) → o < long_at plan.arcs (arc_of one) → LiesAt mesh (path_at plan.arcs (arc_of one)).darts (not (use_of (layout_of plan) one).forward) o (border_dart mesh (patch_at plan.patches other.patch) other.side o)
-    far_lies o l = subst (λ (b : Bool). LiesAt mesh (path_at plan.arcs (arc_of one)).darts b o (border_dart mesh (patch_at plan.patches other.patch) other.side o)) are.across.1.turned
-        (subst (λ (a : ℕ). LiesAt mesh (path_at plan.arcs a).darts (use_of (layout_of plan) other).forward o (border_dart mesh (patch_at plan.patches other.patch) other.side o)) are.across.1.arc
+    far_lies : (o : ℕ) → o < long_at plan.arcs (arc_of one)
+        → LiesAt mesh (path_at plan.arcs (arc_of one)).darts (not (use_of (layout_of plan) one).forward) o
+        (border_dart mesh (patch_at plan.patches other.patch) other.side o)
+    far_lies o l =
+        subst (λ (b : Bool). LiesAt mesh (path_at plan.arcs (arc_of one)).darts b o
+        (border_dart mesh (patch_at plan.patches other.patch) other.side o)) are.across.1.turned
+        (subst (λ (a : ℕ). LiesAt mesh (path_at plan.arcs a).darts (use_of (layout_of plan) other).forward o
+        (border_dart mesh (patch_at plan.patches other.patch) other.side o)) are.across.1.arc
         (lies other are.across.0 are.alone_across o (omega (arith, l, ap (long_at plan.arcs) are.across.1.arc))))
 
-    paired : (b : Bool) (k j x y : ℕ) → y < mesh.count → k + suc j ≡ long_at plan.arcs (arc_of one) → LiesAt mesh (path_at plan.arcs (arc_of one)).darts b k x → LiesAt mesh (path_at plan.arcs (arc_of one)).darts (not b) j y → mesh.twin x ≡ Some y
-    paired true k j x y ly sum a b = let same : long_at plan.arcs (arc_of one) - 1 - j ≡ k = omega arith in ap mesh.twin (a ∙ ap (dart_at plan.arcs (arc_of one)) (sym same)) ∙ b
+    paired : (b : Bool) (k j x y : ℕ) → y < mesh.count → k + suc j ≡ long_at plan.arcs (arc_of one)
+        → LiesAt mesh (path_at plan.arcs (arc_of one)).darts b k x
+        → LiesAt mesh (path_at plan.arcs (arc_of one)).darts (not b) j y → mesh.twin x ≡ Some y
+    paired true k j x y ly sum a b = let same : long_at plan.arcs (arc_of one) - 1 - j ≡ k =
+        omega arith in ap mesh.twin (a ∙ ap (dart_at plan.arcs (arc_of one)) (sym same)) ∙ b
     paired false k j x y ly sum a b = let same : long_at plan.arcs (arc_of one) - 1 - k ≡ j = omega arith in
         laws.twin_twin y x ly (ap mesh.twin (b ∙ ap (dart_at plan.arcs (arc_of one)) (sym same)) ∙ a)
 
-    joined : IsJoinable mesh cut (border_dart mesh (patch_at plan.patches one.patch) one.side 0) (border_dart mesh (patch_at plan.patches other.patch) other.side 0) (long_at plan.arcs (arc_of one))
+    joined : IsJoinable mesh cut (border_dart mesh (patch_at plan.patches one.patch) one.side 0)
+        (border_dart mesh (patch_at plan.patches other.patch) other.side 0) (long_at plan.arcs (arc_of one))
     joined = record {
       glued = record {
-        near = subst (λ (m : ℕ). IsWholeSide mesh cut (border_dart mesh (patch_at plan.patches one.patch) one.side 0) m) near_long near.whole;
-        far = subst (λ (m : ℕ). IsWholeSide mesh cut (border_dart mesh (patch_at plan.patches other.patch) other.side 0) m) far_long far.whole;
+        near = subst (λ (m : ℕ). IsWholeSide mesh cut (border_dart mesh (patch_at plan.patches one.patch) one.side 0) m)
+            near_long near.whole;
+        far = subst (λ (m : ℕ). IsWholeSide mesh cut (border_dart mesh (patch_at plan.patches other.patch) other.side 0)
+            m) far_long far.whole;
         across = across;
       };
       apart = apart;
     }
       where
-        across : (k j : ℕ) → k + suc j ≡ long_at plan.arcs (arc_of one) → mesh.twin (easts mesh (border_dart mesh (patch_at plan.patches one.patch) one.side 0) k) ≡ Some (easts mesh (border_dart mesh (patch_at plan.patches other.patch) other.side 0) j)
+        across : (k j : ℕ) → k + suc j ≡ long_at plan.arcs (arc_of one)
+            → mesh.twin (easts mesh (border_dart mesh (patch_at plan.patches one.patch) one.side 0) k) ≡ Some
+            (easts mesh (border_dart mesh (patch_at plan.patches other.patch) other.side 0) j)
         across k j sum =
             let lj : j < side_size (patch_at plan.patches other.patch) other.side = omega (arith, far_long) in
-            let low : border_dart mesh (patch_at plan.patches other.patch) other.side j < mesh.count = in_low mesh laws cut full (patch_at plan.patches other.patch).w (patch_at plan.patches other.patch).h (cell_of (patch_at plan.patches other.patch)) (grid_of other are.across.0) (border_dart mesh (patch_at plan.patches other.patch) other.side j) (far.inside j lj) in
+            let low : border_dart mesh (patch_at plan.patches other.patch) other.side j < mesh.count =
+            in_low mesh laws cut full (patch_at plan.patches other.patch).w (patch_at plan.patches other.patch).h
+            (cell_of (patch_at plan.patches other.patch)) (grid_of other are.across.0)
+            (border_dart mesh (patch_at plan.patches other.patch) other.side j) (far.inside j lj) in
             ap mesh.twin (near.along k (omega (arith, near_long)))
-            ∙ (paired (use_of (layout_of plan) one).forward k j (border_dart mesh (patch_at plan.patches one.patch) one.side k) (border_dart mesh (patch_at plan.patches other.patch) other.side j) low sum (lies one are.slot are.alone k (omega arith)) (far_lies j (omega arith))
+            ∙ (paired (use_of (layout_of plan) one).forward k j
+            (border_dart mesh (patch_at plan.patches one.patch) one.side k)
+            (border_dart mesh (patch_at plan.patches other.patch) other.side j) low sum
+            (lies one are.slot are.alone k (omega arith)) (far_lies j (omega arith))
             ∙ ap Some (sym (far.along j lj)))
 
-        apart : AreInOne mesh cut (border_dart mesh (patch_at plan.patches one.patch) one.side 0) (border_dart mesh (patch_at plan.patches other.patch) other.side 0) → ⊥
-        apart a = are.apart (one_place_of mesh laws cut full face plan.patches lay.patches one.patch other.patch (border_dart mesh (patch_at plan.patches one.patch) one.side 0) (border_dart mesh (patch_at plan.patches other.patch) other.side 0) are.slot.patch_low are.across.0.patch_low (near.inside 0 near.whole.some) (far.inside 0 far.whole.some) a)
+        apart : AreInOne mesh cut (border_dart mesh (patch_at plan.patches one.patch) one.side 0)
+            (border_dart mesh (patch_at plan.patches other.patch) other.side 0) → ⊥
+        apart a = are.apart (one_place_of mesh laws cut full face plan.patches lay.patches one.patch other.patch
+            (border_dart mesh (patch_at plan.patches one.patch) one.side 0)
+            (border_dart mesh (patch_at plan.patches other.patch) other.side 0) are.slot.patch_low
+            are.across.0.patch_low (near.inside 0 near.whole.some) (far.inside 0 far.whole.some) a)
 
 pub joinable_law : JoinableLaw
 joinable_law faces marks plan manifold full lay one other are =
-    joined (half_edges faces) (manifold_law faces manifold) (is_on marks) ((full_cut_law faces marks manifold).0 full).1 (is_node faces marks) face_of (vertex_count faces) plan lay one other are
+    joined (half_edges faces) (manifold_law faces manifold) (is_on marks) ((full_cut_law faces marks manifold).0 full).1
+    (is_node faces marks) face_of (vertex_count faces) plan lay one other are

@@ -2,6 +2,7 @@
 
 #![tactic(auto)]
 
+ghost use Rattle.def_merge.specs.Beside.{HeldLaw, MergedBesideLaw, SparedLaw};
 ghost use Rattle.def_merge.specs.Laws.{FewerLaw, GrownLaw, JoinLaw, JoinableLaw, MergedLaw, OneMergedLaw};
 
 /// Without a joinable arc a full cut is a full cut.
@@ -19,12 +20,12 @@ pub fn grown_law()
     ensures { GrownLaw }
 {}
 
-/// A full cut has a merged cut.
+/// Merging comes to an end.
 pub fn merged_law()
     ensures { MergedLaw }
 {}
 
-/// A full cut has at most one merged cut, which is a full cut.
+/// It leaves one cut of a full cut, which is a full cut.
 pub fn one_merged_law()
     ensures { OneMergedLaw }
 {}
@@ -32,4 +33,19 @@ pub fn one_merged_law()
 /// What is joinable in a layout is joinable in its cut.
 pub fn joinable_law()
     ensures { JoinableLaw }
+{}
+
+/// What is merged beside marked lines keeps them.
+pub fn merged_beside_law()
+    ensures { MergedBesideLaw }
+{}
+
+/// An arc that may not leave beside marked lines may not leave later.
+pub fn held_law()
+    ensures { HeldLaw }
+{}
+
+/// Whether an arc may leave beside marked lines is told at its darts and its ends.
+pub fn spared_law()
+    ensures { SparedLaw }
 {}

@@ -6,11 +6,11 @@ ghost use Rattle.def_feature.specs.Marks.{is_crossed as is_crossed_at, is_found_
 ghost use Rattle.def_feature.specs.Marks.{is_least_in_ring, is_touched as is_touched_at};
 ghost use Rattle.def_mesh.specs.Darts.{darts};
 ghost use Rattle.def_mesh.specs.Vertices.{all_vertices, vertex_count};
-ghost use Rattle.def_runs.specs.Runs.{is_passed as passes};
 
 use crate::Memory;
 use crate::closed::ring_vertices;
 use qm_mesh::Mesh;
+use qm_sing::is_passed;
 use std::alloc::Global;
 
 /// A mark for each vertex: whether marked lines break there. Linear in the darts.
@@ -35,14 +35,6 @@ fn is_break(mesh: &Mesh, marks: &[bool], in_ring: bool, v: u32) -> bool
 {
     is_passed(mesh, v)
         && (is_bent(is_touched(mesh, marks, v), is_crossed(mesh, marks, v)) || in_ring)
-}
-
-/// Whether v is inner and has four faces.
-fn is_passed(mesh: &Mesh, v: u32) -> bool
-    requires { v < vertex_count mesh.now }
-    ensures { result ≡ passes mesh.now v }
-{
-    mesh.is_inner(v) && mesh.faces_at(v) == 4
 }
 
 /// Whether some edge is marked, but no two opposite ones.

@@ -83,7 +83,8 @@ fn mark_rings(mesh: &Mesh, run: &[u32], whole: &[bool], least: &[u32], rings: &m
     requires least { (d : ℕ) → d < length run.now → run_at run.now d < length least.now }
     requires rings { length rings.old ≡ vertex_count mesh.now }
     ensures { (v : ℕ) → is_on rings.new v
-        ≡ (is_on rings.old v || list_any (λ d. (from_of mesh.now d == v) && is_home mesh.now run.now whole.now least.now d) (all_darts mesh.now)) }
+        ≡ (is_on rings.old v || list_any (λ d. (from_of mesh.now d == v)
+        && is_home mesh.now run.now whole.now least.now d) (all_darts mesh.now)) }
 {
     for d in 0..4 * mesh.faces().len() as u32 {
         mark_if(mesh, d, is_first(mesh, d, run, whole, least), rings);

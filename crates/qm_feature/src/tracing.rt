@@ -70,7 +70,7 @@ pub fn marked_starts(
 }
 
 /// Sets the marks of these darts.
-fn mark_starts(starts: &[u32], begun: &mut [bool])
+pub(crate) fn mark_starts(starts: &[u32], begun: &mut [bool])
     requires { (d : ℕ) → is_among d starts.now ≡ true → d < length begun.old }
     ensures { (d : ℕ) → is_on begun.new d ≡ cond (is_among d starts.now) true (is_on begun.old d) }
 {

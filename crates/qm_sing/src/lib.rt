@@ -12,7 +12,7 @@ pub use classes::{classify, edge_count, euler};
 pub use def_mesh::{Kind, Starts};
 pub use def_runs::RunTable;
 pub use flooding::components;
-pub use lines::runs;
+pub use lines::{follower, is_passed, runs};
 pub use origins::sources;
 
 /// Memory was refused.

@@ -94,8 +94,8 @@ fn number(mesh: &Mesh, first: u32, r: u32, run: &mut [u32], at: &mut [u32]) -> L
     unreachable!()
 }
 
-/// The dart after d in its run.
-fn follower(mesh: &Mesh, d: u32) -> Option<u32>
+/// The dart after d in its run, if runs go on over its end.
+pub fn follower(mesh: &Mesh, d: u32) -> Option<u32>
     requires { d < darts mesh.now }
     ensures value { result ≡ follower_of mesh.now d }
     ensures dart { IfSome result (λ e. e < darts mesh.now) }
@@ -121,8 +121,8 @@ fn leader(mesh: &Mesh, d: u32) -> Option<u32>
     }
 }
 
-/// Whether runs go on over v: it is inner and regular.
-fn is_passed(mesh: &Mesh, v: u32) -> bool
+/// Whether runs go on over v: it is inner and regular. Linear in the faces at v.
+pub fn is_passed(mesh: &Mesh, v: u32) -> bool
     requires { v < vertex_count mesh.now }
     ensures { result ≡ passes mesh.now v }
 {

@@ -6,4 +6,5 @@ use Rattle.def_feature.specs.Marks.{goes_through}
 use Rattle.qm_feature.proofs.breaking.is_crossed.Given as goal
 
 abbrev pub invariant-loop-d : goal.invariant-loop-d
-invariant-loop-d l = list_any (λ d. goes_through l.mesh l.marks (twin_of l.mesh d)) (take l.d-index (fan_of l.mesh l.v)) ≡ false
+invariant-loop-d l = list_any (λ d. goes_through l.mesh l.marks (twin_of l.mesh d)) (take l.d-index (fan_of l.mesh l.v))
+    ≡ false

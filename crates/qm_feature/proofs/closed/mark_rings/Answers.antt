@@ -10,6 +10,16 @@ pub loop-d-preserved : goal.loop-d-preserved
 loop-d-preserved c v =
     c.mark_if.ensures v
     ∙ (ap (λ b. is_on c.loop-d.rings v || (eqb (from_of c.args.mesh.now c.loop-d.d) v && b)) c.is_first.ensures
-    ∙ (ap (λ b. b || (eqb (from_of c.args.mesh.now c.loop-d.d) v && is_home c.args.mesh.now c.args.run.now c.args.whole.now c.args.least.now c.loop-d.d)) (c.loop-d.invariant v)
-    ∙ (or_shift (is_on c.args.rings.now v) (list_any (λ d. eqb (from_of c.args.mesh.now d) v && is_home c.args.mesh.now c.args.run.now c.args.whole.now c.args.least.now d) (range_with_len 0 c.loop-d.d)) (eqb (from_of c.args.mesh.now c.loop-d.d) v && is_home c.args.mesh.now c.args.run.now c.args.whole.now c.args.least.now c.loop-d.d)
-    ∙ ap (λ b. is_on c.args.rings.now v || b) (sym (any_range_more (λ d. eqb (from_of c.args.mesh.now d) v && is_home c.args.mesh.now c.args.run.now c.args.whole.now c.args.least.now d) c.loop-d.d)))))
+    ∙
+    (ap
+    (λ b. b || (eqb (from_of c.args.mesh.now c.loop-d.d) v && is_home c.args.mesh.now c.args.run.now
+    c.args.whole.now c.args.least.now c.loop-d.d)) (c.loop-d.invariant v)
+    ∙ (or_shift (is_on c.args.rings.now v)
+    (list_any (λ d. eqb (from_of c.args.mesh.now d) v && is_home c.args.mesh.now c.args.run.now c.args.whole.now
+    c.args.least.now d) (range_with_len 0 c.loop-d.d))
+    (eqb (from_of c.args.mesh.now c.loop-d.d) v && is_home c.args.mesh.now c.args.run.now c.args.whole.now
+    c.args.least.now c.loop-d.d)
+    ∙ ap (λ b. is_on c.args.rings.now v || b)
+    (sym
+    (any_range_more (λ d. eqb (from_of c.args.mesh.now d) v && is_home c.args.mesh.now c.args.run.now
+    c.args.whole.now c.args.least.now d) c.loop-d.d)))))

@@ -6,4 +6,6 @@ use Rattle.qm_feature.specs.Rings.{is_home}
 use Rattle.qm_feature.proofs.closed.mark_rings.Given as goal
 
 abbrev pub invariant-loop-d : goal.invariant-loop-d
-invariant-loop-d l = (v : ℕ) → is_on l.rings v ≡ (is_on l.initial.rings v || list_any (λ d. eqb (from_of l.mesh d) v && is_home l.mesh l.run l.whole l.least d) (range_with_len 0 l.d))
+invariant-loop-d l = (v : ℕ) → is_on l.rings v
+    ≡ (is_on l.initial.rings v || list_any (λ d. eqb (from_of l.mesh d) v && is_home l.mesh l.run l.whole l.least d)
+    (range_with_len 0 l.d))

@@ -11,14 +11,22 @@ pub returns-clause-each : goal.returns-clause-each
 returns-clause-each c v l =
     let least : c.in_ok-least.least.items ≡ replicate (length c.in_ok-table.table.closed.items) NONE = search rules in
     let rings : c.in_ok-rings.rings.items ≡ replicate (vertex_count c.args.mesh.now) false = search rules in
-    ap (λ (xs : List Bool). is_on xs v) (with_items_is c.in_ok-rings.rings c.mark_rings.new.rings (c.mark_rings.auto.rings ∙ c.deref_mut-3.ensures.len))
-    ∙ rings_told c.args.mesh.now c.faces-known.ensures.mesh.manifold c.in_ok-table.table c.in_ok-table.ensures c.args.marks.now c.deref-2.result.now c.deref-3.result.now c.deref-4.result.now c.deref_mut.result.now c.drop_unmarked.new.whole c.deref-5.result.now c.lower.new.least c.deref-6.result.now c.deref_mut-3.result.now c.mark_rings.new.rings NONE v
+    ap (λ (xs : List Bool). is_on xs v)
+    (with_items_is c.in_ok-rings.rings c.mark_rings.new.rings (c.mark_rings.auto.rings ∙ c.deref_mut-3.ensures.len))
+    ∙ rings_told c.args.mesh.now c.faces-known.ensures.mesh.manifold c.in_ok-table.table c.in_ok-table.ensures
+    c.args.marks.now c.deref-2.result.now c.deref-3.result.now c.deref-4.result.now c.deref_mut.result.now
+    c.drop_unmarked.new.whole c.deref-5.result.now c.lower.new.least c.deref-6.result.now c.deref_mut-3.result.now
+    c.mark_rings.new.rings NONE v
     c.deref-2.ensures.value c.deref-3.ensures.value c.deref-4.ensures.value
     (c.deref_mut.ensures.value ∙ (c.in_ok-whole.ensures.items ∙ c.deref.ensures.value)) c.drop_unmarked.ensures
-    (c.deref-5.ensures.value ∙ with_items_is c.in_ok-whole.whole c.drop_unmarked.new.whole (c.drop_unmarked.auto.whole ∙ c.deref_mut.ensures.len))
+    (c.deref-5.ensures.value ∙ with_items_is c.in_ok-whole.whole c.drop_unmarked.new.whole
+    (c.drop_unmarked.auto.whole ∙ c.deref_mut.ensures.len))
     c.lower.ensures
-    (c.deref-6.ensures.value ∙ with_items_is c.in_ok-least.least c.lower.new.least (c.lower.auto.least ∙ c.deref_mut-2.ensures.len))
-    (c.lower.auto.least ∙ (ap length (c.deref_mut-2.ensures.value ∙ least) ∙ length-replicate (length c.in_ok-table.table.closed.items) NONE))
+    (c.deref-6.ensures.value ∙ with_items_is c.in_ok-least.least c.lower.new.least
+    (c.lower.auto.least ∙ c.deref_mut-2.ensures.len))
+    (c.lower.auto.least ∙ (ap length (c.deref_mut-2.ensures.value ∙ least)
+    ∙ length-replicate (length c.in_ok-table.table.closed.items) NONE))
     (omega (arith, c.vertices.type_inv, c.vertices.ensures.value))
-    (ap (λ (xs : List Bool). is_on xs v) (c.deref_mut-3.ensures.value ∙ rings) ∙ none_on (vertex_count c.args.mesh.now) v)
+    (ap (λ (xs : List Bool). is_on xs v) (c.deref_mut-3.ensures.value ∙ rings)
+    ∙ none_on (vertex_count c.args.mesh.now) v)
     (c.mark_rings.ensures v)

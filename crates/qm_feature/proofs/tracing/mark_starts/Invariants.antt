@@ -4,4 +4,5 @@ use Rattle.def_cut.specs.Motion.{is_among}
 use Rattle.qm_feature.proofs.tracing.mark_starts.Given as goal
 
 abbrev pub invariant-loop-d : goal.invariant-loop-d
-invariant-loop-d l = (d : ℕ) → is_on l.begun d ≡ cond (is_among d (take l.d-index l.starts)) true (is_on l.initial.begun d)
+invariant-loop-d l = (d : ℕ) → is_on l.begun d ≡ cond (is_among d (take l.d-index l.starts)) true
+    (is_on l.initial.begun d)

@@ -1,0 +1,172 @@
+-- What is merged beside marked lines keeps them.
+use Rattle.std.proofs.Common.{◌≡◌, ◌⊎◌, ℕ, zero, suc, ◌+◌, ◌<◌, ◌≤◌, Bool, true, false, not, eqb, ◌&&◌, ◌||◌, List}
+use Rattle.std.proofs.Common.{length, sym, ◌∙◌, ap, refl, inl, inr, arith}
+use Rattle.std.specs.List.{list_all, range_with_len}
+use Rattle.std.proofs.lemmas.Bool.{cases_Bool, or_left, or_right, or_cases, and_from, and_parts, eq-eqb, eqb-true}
+use Rattle.std.proofs.lemmas.Bool.{false≢true}
+use Rattle.std.proofs.lemmas.List.{ext_get_or, length-map}
+use Rattle.std.proofs.lemmas.List.FromFn.{length-range_with_len, get_or-map-range_with_len}
+use Rattle.def_mesh.specs.Faces.{Faces}
+use Rattle.def_mesh.specs.Darts.{darts, all_darts, from_of, prev_of}
+use Rattle.def_mesh.specs.HalfEdges.{HalfEdges, IsQuadManifold, half_edges}
+use Rattle.def_mesh.specs.Manifold.{IsManifold}
+use Rattle.def_mesh.specs.Vertices.{fan_of}
+use Rattle.def_cut.specs.FullCut.{is_on}
+use Rattle.def_cut.specs.Motion.{is_among}
+use Rattle.def_cut.specs.Steps.{easts}
+use Rattle.def_feature.specs.Beside.{is_turn, IsCutBeside, is_kept, keeps_lines}
+use Rattle.def_feature.specs.Marks.{is_break}
+use Rattle.def_merge.specs.Beside.{is_on_arc, without, may_beside, MergedBesideLaw}
+use Rattle.def_merge.specs.Joins.{IsOnArc}
+use Rattle.def_merge.specs.Merged.{IsStep, Steps}
+use Rattle.mesh_laws.proofs.HalfEdges.{manifold_law}
+use Rattle.face_laws.proofs.FullCuts.{full_cut_law}
+use Rattle.motion_laws.proofs.Among.{any_at, any_where, all_at, not_all, among_range, range_among}
+use Rattle.merge_laws.proofs.OneMerged.{IsCutOf, cut_reached}
+
+-- The test of an arc's darts is what it says.
+pub on_arc : (mesh : HalfEdges) (s t n d : ℕ) → IsOnArc mesh s t n d → is_on_arc mesh s t n d ≡ true
+on_arc mesh s t n d (k, l, is) =
+    any_at (λ j. eqb d (easts mesh s j) || eqb d (easts mesh t j)) k (range_with_len 0 n)
+    (among_range 0 n k (omega arith) (omega (arith, l))) (by_side is)
+  where
+    by_side : (d ≡ easts mesh s k) ⊎ (d ≡ easts mesh t k) → (eqb d (easts mesh s k) || eqb d (easts mesh t k)) ≡ true
+    by_side (inl e) = or_left _ _ (eq-eqb _ _ e)
+    by_side (inr e) = or_right (eqb d (easts mesh s k)) _ (eq-eqb _ _ e)
+
+pub of_arc : (mesh : HalfEdges) (s t n d : ℕ) → is_on_arc mesh s t n d ≡ true → IsOnArc mesh s t n d
+of_arc mesh s t n d y = by_place
+    (any_where (λ j. eqb d (easts mesh s j) || eqb d (easts mesh t j)) (range_with_len 0 n) y)
+  where
+    by_place : (k : ℕ) × (is_among k (range_with_len 0 n) ≡ true)
+        × ((eqb d (easts mesh s k) || eqb d (easts mesh t k)) ≡ true) → IsOnArc mesh s t n d
+    by_place (k, m, is) =
+        let r : (0 ≤ k) × (k < 0 + n) = range_among 0 n k m in
+        (k, omega (arith, r.1), elim (or_cases _ _ is) [ inl e ↦ inl (eqb-true _ _ e) | inr e ↦ inr (eqb-true _ _ e) ])
+
+-- Tests grow with the cut.
+turn_more : (faces : Faces) (cut rest : List Bool) (v : ℕ) → ((d : ℕ) → is_on rest d ≡ true → is_on cut d ≡ true)
+    → is_turn faces rest v ≡ true → is_turn faces cut v ≡ true
+turn_more faces cut rest v more y = by_dart (any_where (λ d. is_on rest d && is_on rest (prev_of d)) (fan_of faces v) y)
+  where
+    by_dart : (d : ℕ) × (is_among d (fan_of faces v) ≡ true) × ((is_on rest d && is_on rest (prev_of d)) ≡ true)
+        → is_turn faces cut v ≡ true
+    by_dart (d, m, is) =
+        let p : (is_on rest d ≡ true) × (is_on rest (prev_of d) ≡ true) = and_parts _ _ is in
+        any_at (λ e. is_on cut e && is_on cut (prev_of e)) d (fan_of faces v) m
+        (and_from _ _ (more d p.0) (more (prev_of d) p.1))
+
+implied : (a b : Bool) → (a ≡ true → b ≡ true) → (not a || b) ≡ true
+implied true b f = f refl
+implied false b f = refl
+
+implies : (a b : Bool) → (not a || b) ≡ true → a ≡ true → b ≡ true
+implies true b e is = e
+implies false b e is = absurd (false≢true is)
+
+all_from : (p : ℕ → Bool) (ds : List ℕ) → ((d : ℕ) → is_among d ds ≡ true → p d ≡ true) → list_all p ds ≡ true
+all_from p ds each = elim (cases_Bool (list_all p ds)) [
+  | inl y ↦ y
+  | inr off ↦ let r : (d : ℕ) × (is_among d ds ≡ true) × (p d ≡ false) =
+      not_all p ds off in absurd (false≢true (sym r.2 ∙ each r.0 r.1))
+]
+
+-- The test of a cut is what it says.
+pub keeps_from : (faces : Faces) (marks cut : List Bool)
+    → ((d : ℕ) → d < darts faces → is_on marks d ≡ true → is_on cut d ≡ true)
+    → ((d : ℕ) → d < darts faces → is_break faces marks (from_of faces d) ≡ true
+    → is_turn faces cut (from_of faces d) ≡ true) → keeps_lines faces marks cut ≡ true
+keeps_from faces marks cut kept turned =
+    all_from (is_kept faces marks cut) (all_darts faces) (λ d m. each d (range_among 0 (darts faces) d m))
+  where
+    each : (d : ℕ) → (0 ≤ d) × (d < 0 + darts faces) → is_kept faces marks cut d ≡ true
+    each d r = and_from _ _ (implied (is_on marks d) (is_on cut d) (kept d (omega (arith, r.1))))
+        (implied (is_break faces marks (from_of faces d)) (is_turn faces cut (from_of faces d))
+        (turned d (omega (arith, r.1))))
+
+module _ (faces : Faces) (marks cut : List Bool) (keeps : keeps_lines faces marks cut ≡ true) where
+  at_dart : (d : ℕ) → d < darts faces → is_kept faces marks cut d ≡ true
+  at_dart d l = all_at (is_kept faces marks cut) d (all_darts faces) keeps
+      (among_range 0 (darts faces) d (omega arith) (omega (arith, l)))
+
+  pub kept_from : (d : ℕ) → d < darts faces → is_on marks d ≡ true → is_on cut d ≡ true
+  kept_from d l on = implies (is_on marks d) (is_on cut d)
+      (and_parts (not (is_on marks d) || is_on cut d) _ (at_dart d l)).0 on
+
+  pub turned_from : (d : ℕ) → d < darts faces → is_break faces marks (from_of faces d) ≡ true
+      → is_turn faces cut (from_of faces d) ≡ true
+  turned_from d l y = implies (is_break faces marks (from_of faces d)) (is_turn faces cut (from_of faces d))
+      (and_parts (not (is_on marks d) || is_on cut d) _ (at_dart d l)).1 y
+
+pub without_is : (faces : Faces) (cut : List Bool) (s t n d : ℕ) → d < darts faces
+    → is_on (without faces cut s t n) d ≡ (is_on cut d && not (is_on_arc (half_edges faces) s t n d))
+without_is faces cut s t n d l =
+    get_or-map-range_with_len (λ x. is_on cut x && not (is_on_arc (half_edges faces) s t n x)) 0 (darts faces) d d false
+    l (omega arith)
+
+pub without_long : (faces : Faces) (cut : List Bool) (s t n : ℕ) → length (without faces cut s t n) ≡ darts faces
+without_long faces cut s t n =
+    length-map (all_darts faces) (λ x. is_on cut x && not (is_on_arc (half_edges faces) s t n x))
+    ∙ length-range_with_len 0 (darts faces)
+
+-- The cut of a step is the one that is left.
+pub step_is : (faces : Faces) (marks cut rest : List Bool) → length cut ≡ darts faces
+    → (step : IsStep faces (may_beside faces marks) cut rest) → rest ≡ without faces cut step.near step.far step.size
+step_is faces marks cut rest long step =
+    ext_get_or false rest (without faces cut step.near step.far step.size)
+    (step.long ∙ (long ∙ sym (without_long faces cut step.near step.far step.size)))
+    (λ d l. each d (omega (arith, l, step.long, long))
+    (cases_Bool (is_on_arc (half_edges faces) step.near step.far step.size d)))
+  where
+    off_test : (a b : Bool) → b ≡ true → (a && not b) ≡ false
+    off_test true b y = ap not y
+    off_test false b y = refl
+
+    on_test : (a b : Bool) → b ≡ false → (a && not b) ≡ a
+    on_test true b y = ap not y
+    on_test false b y = refl
+
+    each : (d : ℕ) → d < darts faces → (is_on_arc (half_edges faces) step.near step.far step.size d ≡ true)
+        ⊎ (is_on_arc (half_edges faces) step.near step.far step.size d ≡ false)
+        → is_on rest d ≡ is_on (without faces cut step.near step.far step.size) d
+    each d l (inl y) = step.without.gone d (of_arc (half_edges faces) step.near step.far step.size d y)
+        ∙ sym (without_is faces cut step.near step.far step.size d l ∙ off_test (is_on cut d) _ y)
+    each d l (inr n) = step.without.kept d l
+        (λ o. false≢true (sym n ∙ on_arc (half_edges faces) step.near step.far step.size d o))
+        ∙ sym (without_is faces cut step.near step.far step.size d l ∙ on_test (is_on cut d) _ n)
+
+module _ (faces : Faces) (laws : IsQuadManifold (half_edges faces)) (marks : List Bool) where
+  keeps_reached : (cut rest : List Bool) (i : ℕ) → IsCutOf faces cut → keeps_lines faces marks cut ≡ true
+      → Steps faces (may_beside faces marks) cut rest i → keeps_lines faces marks rest ≡ true
+  keeps_reached cut rest zero is keeps steps = ap (keeps_lines faces marks) (sym steps) ∙ keeps
+  keeps_reached cut rest (suc i) is keeps steps =
+      let before : IsCutOf faces steps.0 = cut_reached faces (may_beside faces marks) laws cut steps.0 i is steps.1 in
+      ap (keeps_lines faces marks) (step_is faces marks steps.0 rest before.long steps.2) ∙ steps.2.first.free
+
+-- So many steps keep marked lines.
+pub beside_reached : (faces : Faces) (marks cut rest : List Bool) (steps : ℕ) → IsManifold faces
+    → IsCutBeside faces marks cut → Steps faces (may_beside faces marks) cut rest steps → IsCutBeside faces marks rest
+beside_reached faces marks cut rest steps manifold beside reached =
+    record {
+      full = (full_cut_law faces rest manifold).1 (after.long, after.full);
+      kept =
+          kept_from faces marks rest keeps;
+      turned = turned_from faces marks rest keeps;
+    }
+  where
+    laws : IsQuadManifold (half_edges faces)
+    laws = manifold_law faces manifold
+
+    is : IsCutOf faces cut
+    is = record { long = beside.full.long; full = ((full_cut_law faces cut manifold).0 beside.full).1 }
+
+    after : IsCutOf faces rest
+    after = cut_reached faces (may_beside faces marks) laws cut rest steps is reached
+
+    keeps : keeps_lines faces marks rest ≡ true
+    keeps = keeps_reached faces laws marks cut rest steps is (keeps_from faces marks cut beside.kept beside.turned)
+        reached
+
+pub merged_beside_law : MergedBesideLaw
+merged_beside_law faces marks cut rest manifold beside merged =
+    beside_reached faces marks cut rest merged.steps manifold beside merged.reached

@@ -1,0 +1,11 @@
+use Rattle.std.proofs.Common.{sym, ◌∙◌, arith}
+use Rattle.std.proofs.lemmas.List.FromFn.{map-range_with_len_more}
+use Rattle.def_mesh.specs.Darts.{twin_of}
+use Rattle.feature_laws.specs.Leads.{is_led_edge}
+use Rattle.qm_feature.proofs.straightening.led_edges.Goals as goal
+
+pub loop-d-preserved : goal.loop-d-preserved
+loop-d-preserved c = c.in_ok-push.ensures.items
+    ∙ (rw (c.loop-d.invariant, c.is_led.ensures)
+    (sym (map-range_with_len_more (λ d. is_led_edge c.args.led.now d (twin_of c.args.mesh.now d)) 0 c.loop-d.d
+    c.loop-d.d (omega arith))))
