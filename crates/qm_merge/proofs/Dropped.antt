@@ -1,73 +1,132 @@
 -- What one arc less leaves joinable.
-use Rattle.std.proofs.Common.{◌≡◌, ◌≢◌, ◌⊎◌, ℕ, suc, ◌+◌, ◌<◌, ◌≤◌, Bool, true, false, List, length, sym, ◌∙◌, ap, subst, refl, inl, inr, true≢false, arith}
+use Rattle.std.proofs.Common.{◌≡◌, ◌≢◌, ◌⊎◌, ℕ, ◌+◌, ◌≤◌, Bool, true, List, length, sym, ◌∙◌, ap}
+use Rattle.std.proofs.Common.{inl, inr, true≢false, arith}
 use Rattle.std.specs.BTreeSet.{BTreeSet}
 use Rattle.std.specs.Prelude.{OnOk}
 use Rattle.std.specs.declared.result.Result.{Result}
 use Rattle.std.specs.declared.result.Result.TheVariants.{Ok, Err}
 use Rattle.def_mesh.specs.Faces.{Faces}
-use Rattle.def_mesh.specs.HalfEdges.{half_edges, IsQuadManifold}
-use Rattle.def_cut.specs.Cuts.{IsCut}
+use Rattle.def_mesh.specs.HalfEdges.{half_edges}
 use Rattle.def_cut.specs.FullCut.{is_on}
-use Rattle.def_mesh.specs.Darts.{darts}
-use Rattle.merge_laws.proofs.Joins.{on_cut, less, join_law}
-use Rattle.merge_laws.proofs.Arcs.{near_stays, far_stays, name_there, grown_law}
+use Rattle.merge_laws.proofs.Sides.{StandsOn}
+use Rattle.merge_laws.proofs.ArcDarts.{on_cut, less, other_without, turned_arc}
+use Rattle.merge_laws.proofs.Joins.{join_law}
+use Rattle.merge_laws.proofs.Arcs.{name_there, grown_law}
 use Rattle.def_merge.specs.Joins.{IsJoinable, IsOnArc, IsNameOf, IsWithout}
-use Rattle.def_merge.specs.Merged.{IsStep}
+use Rattle.def_merge.specs.Merged.{IsStep, MayLeave}
 use Rattle.qm_grid.specs.Cutting.{IsCutting}
+use Rattle.qm_merge.specs.Links.{IsRound}
 use Rattle.qm_merge.specs.Seams.{IsSeam}
-use Rattle.qm_merge.specs.Waiting.{Waits, AllWait, AllWaitBut, mark_count}
-use Rattle.qm_merge.specs.Places.{IsFirstPlace}
-use Rattle.qm_merge.specs.declared.merged.Place.{Place}
-use Rattle.qm_merge.proofs.Names.{fewer_marks, mark_low}
+use Rattle.qm_merge.specs.Waiting.{IsNoted, WaitStill, mark_count}
+use Rattle.qm_merge.specs.declared.links.Round.{Round}
+use Rattle.qm_merge.specs.declared.seams.Place.{Place}
+use Rattle.feature_laws.proofs.Conforming.{mark_low}
+use Rattle.qm_merge.proofs.Names.{fewer_marks, noted_over}
+use Rattle.qm_merge.proofs.Rejoined.{near_over}
 
 -- Two facts where a call went well.
 pub both_ok : {T E P Q R : Type 0} (r : Result T E) → (P → Q → R) → OnOk r P → OnOk r Q → OnOk r R
 both_ok (Ok x) f p q = f p q
 both_ok (Err e) f p q = p
 
-module _ (faces : Faces) (marks rest : List Bool) (cutting : IsCutting faces marks) (place : Place) (is : IsFirstPlace (half_edges faces) (is_on marks) place.seam.name place) (long : length rest ≡ length marks) (without : IsWithout (half_edges faces) (is_on marks) (is_on rest) place.start place.seam.far place.seam.long) where
+module _ (faces : Faces) (marks rest : List Bool) (cutting : IsCutting faces marks) (place : Place)
+    (is : IsSeam (half_edges faces) (is_on marks) place.start place.seam) (long : length rest ≡ length marks)
+    (without : IsWithout (half_edges faces) (is_on marks) (is_on rest) place.start place.seam.far place.seam.long) where
   pub cutting_after : IsCutting faces rest
-  cutting_after = record { few = cutting.few; long = long ∙ cutting.long; laws = cutting.laws; full = join_law (half_edges faces) (is_on marks) (is_on rest) place.start place.seam.far place.seam.long cutting.laws cutting.full is.is_seam.joinable without }
+  cutting_after = record {
+    few = cutting.few;
+    long = long ∙ cutting.long;
+    laws = cutting.laws;
+    full =
+        join_law (half_edges faces) (is_on marks) (is_on rest) place.start place.seam.far place.seam.long cutting.laws
+        cutting.full is.joinable without;
+  }
 
-  pub step_taken : IsStep faces marks rest
-  step_taken = record {
+  -- What is left was there.
+  pub less_on : (d : ℕ) → is_on rest d ≡ true → is_on marks d ≡ true
+  less_on d on = less (half_edges faces) cutting.laws (is_on marks) (is_on rest) place.start place.seam.far
+      place.seam.long without d (omega (arith, mark_low rest d on, long, cutting.long)) on
+
+  -- The step that the first of the arcs makes that may leave.
+  pub step_taken : (may : MayLeave) → may marks place.start place.seam.far place.seam.long ≡ true
+      → ((r u m name : ℕ) → IsJoinable (half_edges faces) (is_on marks) r u m → may marks r u m ≡ true
+      → IsNameOf (half_edges faces) r u m name → place.seam.name ≤ name) → IsStep faces may marks rest
+  step_taken may free least = record {
     near = place.start;
     far = place.seam.far;
     size = place.seam.long;
-    first = record { joinable = is.is_seam.joinable; name = place.seam.name; named = is.is_seam.named; first = first };
+    first = record {
+      joinable = is.joinable;
+      free = free;
+      name = place.seam.name;
+      named = is.named;
+      first = λ r u m d arc y on.
+          use_name r u m arc y (name_there (half_edges faces) r u m arc.glued.near.some) d on;
+    };
     long = long;
     without = without;
   }
     where
-      use_name : (r u m : ℕ) → IsJoinable (half_edges faces) (is_on marks) r u m → (name : ℕ) × IsNameOf (half_edges faces) r u m name → (d : ℕ) → IsOnArc (half_edges faces) r u m d → place.seam.name ≤ d
-      use_name r u m arc n d on = omega (arith, is.first r u m n.0 arc n.1, n.1.least d on)
+      use_name : (r u m : ℕ) → IsJoinable (half_edges faces) (is_on marks) r u m → may marks r u m ≡ true
+          → (name : ℕ) × IsNameOf (half_edges faces) r u m name → (d : ℕ) → IsOnArc (half_edges faces) r u m d
+          → place.seam.name ≤ d
+      use_name r u m arc y n d on = omega (arith, least r u m n.0 arc y n.1, n.1.least d on)
 
-      first : (r u m d : ℕ) → IsJoinable (half_edges faces) (is_on marks) r u m → IsOnArc (half_edges faces) r u m d → place.seam.name ≤ d
-      first r u m d arc on = use_name r u m arc (name_there (half_edges faces) r u m arc.glued.near.some) d on
-
-  pub near_before : is_on rest ((half_edges faces).prev place.start) ≡ true
-  near_before = near_stays (half_edges faces) cutting.laws (is_on marks) cutting.full (is_on rest) place.start place.seam.far place.seam.long is.is_seam.joinable without
-
-  pub far_before : is_on rest ((half_edges faces).prev place.seam.far) ≡ true
-  far_before = far_stays (half_edges faces) cutting.laws (is_on marks) cutting.full (is_on rest) place.start place.seam.far place.seam.long is.is_seam.joinable without
-
-  pub all_wait : (old new : BTreeSet ℕ) → AllWaitBut (half_edges faces) (is_on marks) old place.seam.name
-      → ((name : ℕ) → Waits old name → Waits new name)
-      → ((s t n name : ℕ) → IsJoinable (half_edges faces) (is_on rest) s t n → IsOnArc (half_edges faces) s t n ((half_edges faces).prev place.start) → IsNameOf (half_edges faces) s t n name → Waits new name)
-      → ((s t n name : ℕ) → IsJoinable (half_edges faces) (is_on rest) s t n → IsOnArc (half_edges faces) s t n ((half_edges faces).prev place.seam.far) → IsNameOf (half_edges faces) s t n name → Waits new name)
-      → AllWait (half_edges faces) (is_on rest) new
-  all_wait old new waiting kept near far s t n name arc named = by_arc (grown_law (half_edges faces) (is_on marks) (is_on rest) place.start place.seam.far place.seam.long s t n cutting.laws cutting.full is.is_seam.joinable without arc)
-    where
-      other : name ≢ place.seam.name
-      other e = true≢false (sym (on_cut (half_edges faces) cutting.laws (is_on rest) cutting_after.full s t n arc.glued name named.on) ∙ (ap (is_on rest) e ∙ without.gone place.seam.name is.is_seam.named.on))
-
-      by_arc : IsJoinable (half_edges faces) (is_on marks) s t n ⊎ (IsOnArc (half_edges faces) s t n ((half_edges faces).prev place.start) ⊎ IsOnArc (half_edges faces) s t n ((half_edges faces).prev place.seam.far)) → Waits new name
-      by_arc (inl old_arc) = kept name (waiting s t n name old_arc named other)
-      by_arc (inr (inl o)) = near s t n name arc o named
-      by_arc (inr (inr o)) = far s t n name arc o named
+  -- No arc has its name any more.
+  pub name_gone : (s t n name : ℕ) → IsJoinable (half_edges faces) (is_on rest) s t n
+      → IsNameOf (half_edges faces) s t n name → name ≢ place.seam.name
+  name_gone s t n name arc named e =
+      true≢false
+      (sym (on_cut (half_edges faces) cutting.laws (is_on rest) cutting_after.full s t n arc.glued name named.on)
+      ∙ (ap (is_on rest) e ∙ without.gone place.seam.name is.named.on))
 
   pub marks_fewer : mark_count rest + 1 ≤ mark_count marks
-  marks_fewer = fewer_marks marks rest long less_at place.seam.name (on_cut (half_edges faces) cutting.laws (is_on marks) cutting.full place.start place.seam.far place.seam.long is.is_seam.joinable.glued place.seam.name is.is_seam.named.on) (without.gone place.seam.name is.is_seam.named.on)
-    where
-      less_at : (d : ℕ) → is_on rest d ≡ true → is_on marks d ≡ true
-      less_at d on = less (half_edges faces) cutting.laws (is_on marks) (is_on rest) place.start place.seam.far place.seam.long without d (omega (arith, mark_low rest d on, long, cutting.long)) on
+  marks_fewer = fewer_marks marks rest long less_on place.seam.name
+      (on_cut (half_edges faces) cutting.laws (is_on marks) cutting.full place.start place.seam.far place.seam.long
+      is.joinable.glued place.seam.name is.named.on) (without.gone place.seam.name is.named.on)
+
+  -- What is joinable then was joinable before, or is noted anew.
+  module _ (near far : Round) (ones : IsRound (half_edges faces) (is_on marks) place.start near)
+      (others : IsRound (half_edges faces) (is_on marks) place.seam.far far) where
+    near_end : (m : ℕ) × (k : ℕ)
+        × StandsOn (half_edges faces) (is_on rest) near.fourth m k ((half_edges faces).prev place.start)
+    near_end = near_over (half_edges faces) cutting.laws (is_on marks) (is_on rest) cutting.full place.start
+        place.seam.far place.seam.long is.joinable without near far ones others
+
+    far_end : (m : ℕ) × (k : ℕ)
+        × StandsOn (half_edges faces) (is_on rest) far.fourth m k ((half_edges faces).prev place.seam.far)
+    far_end = near_over (half_edges faces) cutting.laws (is_on marks) (is_on rest) cutting.full place.seam.far
+        place.start place.seam.long
+        (turned_arc (half_edges faces) cutting.laws (is_on marks) cutting.full place.start place.seam.far
+        place.seam.long is.joinable)
+        (other_without (half_edges faces) (is_on marks) (is_on rest) place.start place.seam.far place.seam.long without)
+        far near others ones
+
+    module _ (old between new : BTreeSet ℕ) (starts one_starts new_starts : List ℕ) where
+      abbrev IsNotedFrom : (c : ℕ) (names : BTreeSet ℕ) (table : List ℕ) → Type 0
+      IsNotedFrom c names table = (t n name : ℕ) → IsJoinable (half_edges faces) (is_on rest) c t n
+          → IsNameOf (half_edges faces) c t n name → IsNoted names table c t name
+
+      abbrev AreKeptNotes : (names more : BTreeSet ℕ) (table next : List ℕ) → Type 0
+      AreKeptNotes names more table next = (r u m name : ℕ) → IsJoinable (half_edges faces) (is_on rest) r u m
+          → IsNameOf (half_edges faces) r u m name → IsNoted names table r u name → IsNoted more next r u name
+
+      pub wait_still : IsNotedFrom near.fourth between one_starts → AreKeptNotes old between starts one_starts
+          → IsNotedFrom far.fourth new new_starts → AreKeptNotes between new one_starts new_starts
+          → WaitStill (half_edges faces) (is_on marks) (is_on rest) old new starts new_starts
+      wait_still near_noted kept far_noted still s t n name arc named was =
+          by_arc (grown_law (half_edges faces) (is_on marks) (is_on rest) place.start place.seam.far place.seam.long
+          s t n cutting.laws cutting.full is.joinable without arc)
+        where
+          by_arc : IsJoinable (half_edges faces) (is_on marks) s t n
+              ⊎ (IsOnArc (half_edges faces) s t n ((half_edges faces).prev place.start)
+              ⊎ IsOnArc (half_edges faces) s t n ((half_edges faces).prev place.seam.far))
+              → IsNoted new new_starts s t name
+          by_arc (inl before) = still s t n name arc named (kept s t n name arc named (was before))
+          by_arc (inr (inl o)) = still s t n name arc named
+              (noted_over (half_edges faces) cutting.laws (is_on rest) cutting_after.full near.fourth near_end.0
+              near_end.1 ((half_edges faces).prev place.start) near_end.2 between one_starts near_noted s t n name arc
+              o named)
+          by_arc (inr (inr o)) = noted_over (half_edges faces) cutting.laws (is_on rest) cutting_after.full far.fourth
+              far_end.0 far_end.1 ((half_edges faces).prev place.seam.far) far_end.2 new new_starts far_noted s t n
+              name arc o named

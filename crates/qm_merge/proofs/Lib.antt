@@ -1,5 +1,9 @@
-pub mod CornerWalks
+pub mod Rounds
 pub mod SideWalks
+pub mod Rejoined
+pub mod Across
+pub mod Linked
 pub mod Leaving
 pub mod Names
 pub mod Dropped
+pub mod Spared

@@ -1,7 +1,8 @@
 -- The set of names: one put in, one taken out, and which ones are put in.
-use Rattle.std.proofs.Common.{◌≡◌, ◌≢◌, ◌⊎◌, ℕ, zero, suc, ◌+◌, ◌*◌, ◌<◌, ◌≤◌, Bool, true, false, cond, eqb, ltb, List, [], ◌∷◌, length, sym, ◌∙◌, ap, subst, refl, inl, inr, true≢false, arith}
+use Rattle.std.proofs.Common.{◌≡◌, ◌≢◌, ◌⊎◌, ℕ, zero, suc, ◌+◌, ◌<◌, ◌≤◌, Bool, true, false, cond, eqb, ltb, List}
+use Rattle.std.proofs.Common.{[], ◌∷◌, length, set, sym, ◌∙◌, ap, subst, refl, inl, inr, true≢false, arith}
 use Rattle.std.proofs.lemmas.Bool.{cases_eq, ne_eqb, false≢true}
-use Rattle.std.proofs.lemmas.Option.{same_Some}
+use Rattle.std.proofs.lemmas.List.{get_or-set_other, get_or-set_same}
 use Rattle.std.specs.Ordering.{nat_cmp, is_eq}
 use Rattle.std.specs.declared.cmp.Ordering.TheVariants.{Less, Equal, Greater}
 use Rattle.std.specs.BTreeSet as sorted
@@ -11,13 +12,13 @@ use Rattle.def_mesh.specs.HalfEdges.{HalfEdges, IsQuadManifold}
 use Rattle.def_cut.specs.Cuts.{Cut, IsCut}
 use Rattle.def_cut.specs.FullCut.{is_on}
 use Rattle.def_cut.specs.Steps.{easts}
-use Rattle.merge_laws.proofs.Joins.{turned_arc, on_cut}
-use Rattle.merge_laws.proofs.Arcs.{one_far, one_name, name_other, name_there}
-use Rattle.def_merge.specs.Joins.{IsWholeSide, AreGlued, IsJoinable, IsOnArc, IsNameOf}
-use Rattle.qm_merge.specs.Walks.{IsAfter}
+use Rattle.merge_laws.proofs.Sides.{StandsOn, one_place}
+use Rattle.merge_laws.proofs.ArcDarts.{turned_arc}
+use Rattle.merge_laws.proofs.Arcs.{AreOneArc, one_arc, one_far, one_name, name_other}
+use Rattle.def_merge.specs.Joins.{IsWholeSide, IsJoinable, IsOnArc, IsNameOf, Leave}
 use Rattle.qm_merge.specs.Seams.{IsSeam}
-use Rattle.qm_merge.specs.Waiting.{Waits, AreBelow, AllWait, AllWaitBut, mark_count}
-use Rattle.qm_merge.specs.Places.{IsNoName}
+use Rattle.qm_merge.specs.Links.{at}
+use Rattle.qm_merge.specs.Waiting.{AreBelow, IsNoted, Waits, mark_count}
 use Rattle.qm_merge.specs.declared.seams.Seam.{Seam}
 
 -- Another number is not at a number's place.
@@ -35,7 +36,8 @@ module _ (old new : BTreeSet ℕ) (k : ℕ) where
     | inr ne ↦ up.2 name (apart_at k name ne) ∙ w
   ]
 
-  pub put_below : sorted.Updates nat_cmp old new k true → (count : ℕ) → k < count → AreBelow old count → AreBelow new count
+  pub put_below : sorted.Updates nat_cmp old new k true → (count : ℕ) → k < count → AreBelow old count
+      → AreBelow new count
   put_below up count low below name w = elim (cases_eq k name) [
     | inl e ↦ subst (λ (x : ℕ). x < count) e low
     | inr ne ↦ below name (sym (up.2 name (apart_at k name ne)) ∙ w)
@@ -51,49 +53,123 @@ module _ (old new : BTreeSet ℕ) (k : ℕ) where
   ]
 
 pub none_waits : (names : BTreeSet ℕ) (name : ℕ) → length names.keys ≡ 0 → Waits names name → ⊥
-none_waits names name none w = false≢true (sym (ap (λ (xs : List ℕ). sorted.contains nat_cmp (record { keys = xs }) name) (empty names.keys none)) ∙ w)
+none_waits names name none w =
+    false≢true (sym (ap (λ (xs : List ℕ). sorted.contains nat_cmp (record { keys = xs }) name) (empty names.keys none))
+    ∙ w)
   where
     empty : (xs : List ℕ) → length xs ≡ 0 → xs ≡ []
     empty [] e = refl
     empty (x ∷ xs) e = absurd (omega arith)
 
+-- An arc is noted from either side.
+pub other_noted : (names : BTreeSet ℕ) (starts : List ℕ) (s t name : ℕ) → IsNoted names starts s t name
+    → IsNoted names starts t s name
+other_noted names starts s t name is = (is.0, elim is.1 [ inl e ↦ inr e | inr e ↦ inl e ])
+
 module _ (mesh : HalfEdges) (laws : IsQuadManifold mesh) (cut : Cut) (full : IsCut mesh cut) where
   -- A seam has the name of each joinable arc that begins there.
-  pub seam_name : (s : ℕ) (seam : Seam) → IsSeam mesh cut s seam → (t n name : ℕ) → IsJoinable mesh cut s t n → IsNameOf mesh s t n name → seam.name ≡ name
+  pub seam_name : (s : ℕ) (seam : Seam) → IsSeam mesh cut s seam → (t n name : ℕ) → IsJoinable mesh cut s t n
+      → IsNameOf mesh s t n name → seam.name ≡ name
   seam_name s seam is t n name arc named =
-      let far : (seam.far ≡ t) × (seam.long ≡ n) = one_far mesh laws cut full s seam.far t seam.long n is.joinable.glued arc.glued in
-      one_name mesh s t n seam.name name (subst (λ (x : ℕ). IsNameOf mesh s t x seam.name) far.1 (subst (λ (x : ℕ). IsNameOf mesh s x seam.long seam.name) far.0 is.named)) named
+      let far : (seam.far ≡ t) × (seam.long ≡ n) =
+      one_far mesh laws cut full s seam.far t seam.long n is.joinable.glued arc.glued in
+      one_name mesh s t n seam.name name
+      (subst (λ (x : ℕ). IsNameOf mesh s t x seam.name) far.1
+      (subst (λ (x : ℕ). IsNameOf mesh s x seam.long seam.name) far.0 is.named)) named
 
-  -- A joinable arc over d begins, on one side, where the side of d does.
-  pub from_start : (d start : ℕ) → ((c k : ℕ) → IsAfter mesh cut c k d → start ≡ c) → (s t n name : ℕ) → IsJoinable mesh cut s t n → IsOnArc mesh s t n d → IsNameOf mesh s t n name → (u : ℕ) × IsJoinable mesh cut start u n × IsNameOf mesh start u n name
-  from_start d start starts s t n name arc o named = by_side o.0 o.1 o.2
+  -- A seam may leave where each joinable arc may that begins there on one side.
+  pub seam_free : (may : Leave) → ((a b c : ℕ) → may a b c ≡ true → may b a c ≡ true) → (start : ℕ) (seam : Seam)
+      → IsSeam mesh cut start seam → (s t n : ℕ) → IsJoinable mesh cut s t n → may s t n ≡ true
+      → (start ≡ s) ⊎ (start ≡ t) → may start seam.far seam.long ≡ true
+  seam_free may turn start seam is s t n arc free side = by_side side
     where
-      after : (c k : ℕ) → IsWholeSide mesh cut c n → k < n → d ≡ easts mesh c k → start ≡ c
-      after c k side l e = starts c k (record { corner = side.corner; inside = λ i h. side.inside i (omega arith); at = sym e })
+      from : (c b : ℕ) → start ≡ c → IsJoinable mesh cut c b n → may c b n ≡ true → may start seam.far seam.long ≡ true
+      from c b e joined y =
+          let here : IsJoinable mesh cut start b n = subst (λ (x : ℕ). IsJoinable mesh cut x b n) (sym e) joined in
+          let far : (seam.far ≡ b) × (seam.long ≡ n) =
+          one_far mesh laws cut full start seam.far b seam.long n is.joinable.glued here.glued in
+          subst (λ (x : ℕ). may start seam.far x ≡ true) (sym far.1)
+          (subst (λ (x : ℕ). may start x n ≡ true) (sym far.0) (subst (λ (x : ℕ). may x b n ≡ true) (sym e) y))
 
-      by_side : (k : ℕ) → k < n → (d ≡ easts mesh s k) ⊎ (d ≡ easts mesh t k) → (u : ℕ) × IsJoinable mesh cut start u n × IsNameOf mesh start u n name
-      by_side k l (inl e) = let same : start ≡ s = after s k arc.glued.near l e in (t, subst (λ (x : ℕ). IsJoinable mesh cut x t n) (sym same) arc, subst (λ (x : ℕ). IsNameOf mesh x t n name) (sym same) named)
-      by_side k l (inr e) = let same : start ≡ t = after t k arc.glued.far l e in (s, subst (λ (x : ℕ). IsJoinable mesh cut x s n) (sym same) (turned_arc mesh laws cut full s t n arc), subst (λ (x : ℕ). IsNameOf mesh x s n name) (sym same) (name_other mesh s t n name named))
+      by_side : (start ≡ s) ⊎ (start ≡ t) → may start seam.far seam.long ≡ true
+      by_side (inl e) = from s t e arc free
+      by_side (inr e) = from t s e (turned_arc mesh laws cut full s t n arc) (turn s t n free)
 
-  -- No arc has this name: its dart is not cut, or no such arc begins where its side does.
-  pub no_name_off : (name : ℕ) → cut name ≡ false → IsNoName mesh cut name
-  no_name_off name off s t n arc named = true≢false (sym (on_cut mesh laws cut full s t n arc.glued name named.on) ∙ off)
+  -- No joinable arc has a name that none has which begins at its start.
+  pub none_named : (start name : ℕ) → ((t n : ℕ) → IsJoinable mesh cut start t n → IsNameOf mesh start t n name → ⊥)
+      → (s t n : ℕ) → IsJoinable mesh cut s t n → IsNameOf mesh s t n name → (start ≡ s) ⊎ (start ≡ t) → ⊥
+  none_named start name none s t n arc named (inl e) =
+      none t n (subst (λ (x : ℕ). IsJoinable mesh cut x t n) (sym e) arc)
+      (subst (λ (x : ℕ). IsNameOf mesh x t n name) (sym e) named)
+  none_named start name none s t n arc named (inr e) =
+      none s n (subst (λ (x : ℕ). IsJoinable mesh cut x s n) (sym e) (turned_arc mesh laws cut full s t n arc))
+      (subst (λ (x : ℕ). IsNameOf mesh x s n name) (sym e) (name_other mesh s t n name named))
 
-  pub no_name_from : (name start : ℕ) → ((c k : ℕ) → IsAfter mesh cut c k name → start ≡ c) → ((u n : ℕ) → IsJoinable mesh cut start u n → IsNameOf mesh start u n name → ⊥) → IsNoName mesh cut name
-  no_name_from name start starts none s t n arc named = let f : (u : ℕ) × IsJoinable mesh cut start u n × IsNameOf mesh start u n name = from_start name start starts s t n name arc named.on named in none f.0 n f.1 f.2
+  -- A joinable arc over d begins, on one side, where the side of d does: it is noted where that start is.
+  pub noted_over : (start m k d : ℕ) → StandsOn mesh cut start m k d → (names : BTreeSet ℕ) (starts : List ℕ)
+      → ((t n name : ℕ) → IsJoinable mesh cut start t n → IsNameOf mesh start t n name
+      → IsNoted names starts start t name) → (s t n name : ℕ) → IsJoinable mesh cut s t n → IsOnArc mesh s t n d
+      → IsNameOf mesh s t n name → IsNoted names starts s t name
+  noted_over start m k d on names starts noted s t n name arc o named = by_side o.0 o.1 o.2
+    where
+      is : (c j : ℕ) → IsWholeSide mesh cut c n → j < n → d ≡ easts mesh c j → start ≡ c
+      is c j side l e = (one_place mesh laws cut full start m c n k j on.side side on.low l (on.at ∙ e)).0
 
--- What is marked is there.
-pub mark_low : (marks : List Bool) (d : ℕ) → is_on marks d ≡ true → d < length marks
-mark_low [] d on = absurd (false≢true on)
-mark_low (b ∷ bs) zero on = omega arith
-mark_low (b ∷ bs) (suc d) on = let l : d < length bs = mark_low bs d on in omega arith
+      by_side : (j : ℕ) → j < n → (d ≡ easts mesh s j) ⊎ (d ≡ easts mesh t j) → IsNoted names starts s t name
+      by_side j l (inl e) =
+          let same : start ≡ s = is s j arc.glued.near l e in
+          subst (λ (x : ℕ). IsNoted names starts x t name) same (noted t n name
+          (subst (λ (x : ℕ). IsJoinable mesh cut x t n) (sym same) arc)
+          (subst (λ (x : ℕ). IsNameOf mesh x t n name) (sym same) named))
+      by_side j l (inr e) =
+          let same : start ≡ t = is t j arc.glued.far l e in
+          other_noted names starts t s name (subst (λ (x : ℕ). IsNoted names starts x s name) same (noted s n name
+          (subst (λ (x : ℕ). IsJoinable mesh cut x s n) (sym same) (turned_arc mesh laws cut full s t n arc))
+          (subst (λ (x : ℕ). IsNameOf mesh x s n name) (sym same) (name_other mesh s t n name named))))
+
+  -- One arc more is noted.
+  module _ (s : ℕ) (seam : Seam) (is : IsSeam mesh cut s seam) (old new : BTreeSet ℕ) (starts : List ℕ)
+      (updates : sorted.Updates nat_cmp old new seam.name true) (low : seam.name < length starts) where
+    pub noted_new : (t n name : ℕ) → IsJoinable mesh cut s t n → IsNameOf mesh s t n name
+        → IsNoted new (set starts seam.name s) s t name
+    noted_new t n name arc named =
+        let same : seam.name ≡ name = seam_name s seam is t n name arc named in (
+          subst (λ (x : ℕ). Waits new x) same updates.1,
+          inl (subst (λ (x : ℕ). at (set starts seam.name s) x ≡ s) same
+              (get_or-set_same starts seam.name s 0 low)),
+        )
+
+    pub noted_still : (r u m name : ℕ) → IsJoinable mesh cut r u m → IsNameOf mesh r u m name
+        → IsNoted old starts r u name → IsNoted new (set starts seam.name s) r u name
+    noted_still r u m name arc named noted =
+        (put_kept old new seam.name updates name noted.0, by_name (cases_eq name seam.name))
+      where
+        by_arc : name ≡ seam.name → AreOneArc s seam.far r u
+            → (at (set starts seam.name s) name ≡ r) ⊎ (at (set starts seam.name s) name ≡ u)
+        by_arc e one =
+            let here : at (set starts seam.name s) name ≡ s = subst (λ (x : ℕ). at (set starts seam.name s) x ≡ s)
+            (sym e) (get_or-set_same starts seam.name s 0 low) in
+            elim one [ inl p ↦ inl (here ∙ p.0) | inr p ↦ inr (here ∙ p.0) ]
+
+        by_name : (name ≡ seam.name) ⊎ (name ≡ seam.name → ⊥)
+            → (at (set starts seam.name s) name ≡ r) ⊎ (at (set starts seam.name s) name ≡ u)
+        by_name (inl e) = by_arc e
+            (one_arc mesh laws cut full s seam.far seam.long r u m name is.joinable.glued arc.glued
+            (subst (λ (x : ℕ). IsOnArc mesh s seam.far seam.long x) (sym e) is.named.on) named.on).0
+        by_name (inr ne) =
+            let kept : at (set starts seam.name s) name ≡ at starts name =
+            get_or-set_other starts seam.name name s 0 ne in
+            elim noted.1 [ inl q ↦ inl (kept ∙ q) | inr q ↦ inr (kept ∙ q) ]
 
 -- Marks that go leave fewer.
-fewer_or_same : (old new : List Bool) → length new ≡ length old → ((d : ℕ) → is_on new d ≡ true → is_on old d ≡ true) → mark_count new ≤ mark_count old
+fewer_or_same : (old new : List Bool) → length new ≡ length old → ((d : ℕ) → is_on new d ≡ true → is_on old d ≡ true)
+    → mark_count new ≤ mark_count old
 fewer_or_same [] [] e less = omega arith
-fewer_or_same (a ∷ old) (b ∷ new) e less = by_first a b (less 0) (fewer_or_same old new (omega arith) (λ d on. less (suc d) on))
+fewer_or_same (a ∷ old) (b ∷ new) e less =
+    by_first a b (less 0) (fewer_or_same old new (omega arith) (λ d on. less (suc d) on))
   where
-    by_first : (a b : Bool) → (b ≡ true → a ≡ true) → mark_count new ≤ mark_count old → cond b 1 0 + mark_count new ≤ cond a 1 0 + mark_count old
+    by_first : (a b : Bool) → (b ≡ true → a ≡ true) → mark_count new ≤ mark_count old
+        → cond b 1 0 + mark_count new ≤ cond a 1 0 + mark_count old
     by_first true true l rest = omega arith
     by_first true false l rest = omega arith
     by_first false true l rest = absurd (false≢true (l refl))
@@ -101,18 +177,23 @@ fewer_or_same (a ∷ old) (b ∷ new) e less = by_first a b (less 0) (fewer_or_s
 fewer_or_same [] (b ∷ new) e less = absurd (omega arith)
 fewer_or_same (a ∷ old) [] e less = absurd (omega arith)
 
-pub fewer_marks : (old new : List Bool) → length new ≡ length old → ((d : ℕ) → is_on new d ≡ true → is_on old d ≡ true) → (d : ℕ) → is_on old d ≡ true → is_on new d ≡ false → mark_count new + 1 ≤ mark_count old
+pub fewer_marks : (old new : List Bool) → length new ≡ length old → ((d : ℕ) → is_on new d ≡ true → is_on old d ≡ true)
+    → (d : ℕ) → is_on old d ≡ true → is_on new d ≡ false → mark_count new + 1 ≤ mark_count old
 fewer_marks [] new e less d on off = absurd (false≢true on)
 fewer_marks (a ∷ old) [] e less d on off = absurd (omega arith)
-fewer_marks (a ∷ old) (b ∷ new) e less zero on off = by_first a b on off (fewer_or_same old new (omega arith) (λ d on. less (suc d) on))
+fewer_marks (a ∷ old) (b ∷ new) e less zero on off =
+    by_first a b on off (fewer_or_same old new (omega arith) (λ d on. less (suc d) on))
   where
-    by_first : (a b : Bool) → a ≡ true → b ≡ false → mark_count new ≤ mark_count old → (cond b 1 0 + mark_count new) + 1 ≤ cond a 1 0 + mark_count old
+    by_first : (a b : Bool) → a ≡ true → b ≡ false → mark_count new ≤ mark_count old
+        → (cond b 1 0 + mark_count new) + 1 ≤ cond a 1 0 + mark_count old
     by_first true false on off rest = omega arith
     by_first true true on off rest = absurd (true≢false off)
     by_first false b on off rest = absurd (false≢true on)
-fewer_marks (a ∷ old) (b ∷ new) e less (suc d) on off = by_first a b (less 0) (fewer_marks old new (omega arith) (λ d on. less (suc d) on) d on off)
+fewer_marks (a ∷ old) (b ∷ new) e less (suc d) on off =
+    by_first a b (less 0) (fewer_marks old new (omega arith) (λ d on. less (suc d) on) d on off)
   where
-    by_first : (a b : Bool) → (b ≡ true → a ≡ true) → mark_count new + 1 ≤ mark_count old → (cond b 1 0 + mark_count new) + 1 ≤ cond a 1 0 + mark_count old
+    by_first : (a b : Bool) → (b ≡ true → a ≡ true) → mark_count new + 1 ≤ mark_count old
+        → (cond b 1 0 + mark_count new) + 1 ≤ cond a 1 0 + mark_count old
     by_first true true l rest = omega arith
     by_first true false l rest = omega arith
     by_first false true l rest = absurd (false≢true (l refl))

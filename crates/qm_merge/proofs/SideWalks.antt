@@ -1,5 +1,6 @@
 -- The walk along a side and the twins of its darts.
-use Rattle.std.proofs.Common.{◌≡◌, ◌⊎◌, ℕ, zero, suc, ◌+◌, ◌-◌, ◌<◌, ◌≤◌, min, true, false, Some, None, sym, ◌∙◌, ap, subst, refl, inl, inr, true≢false, arith}
+use Rattle.std.proofs.Common.{◌≡◌, ◌⊎◌, ℕ, zero, suc, ◌+◌, ◌-◌, ◌<◌, ◌≤◌, min, true, false, Some, None, sym, ◌∙◌, ap}
+use Rattle.std.proofs.Common.{subst, refl, inl, inr, true≢false, arith}
 use Rattle.std.proofs.lemmas.Bool.{cases_eq, cases_lt}
 use Rattle.std.proofs.lemmas.Option.{same_Some}
 use Rattle.def_mesh.specs.HalfEdges.{HalfEdges, IsQuadManifold}
@@ -16,12 +17,18 @@ least_of_three a b c = min (min a b) c
 
 -- Nothing yet.
 pub glued_begins : (mesh : HalfEdges) (cut : Cut) (s far : ℕ) → AreGluedSoFar mesh cut s far 0
-glued_begins mesh cut s far = record { across = λ k j e. absurd (omega arith); inside = λ j l. absurd (omega arith); ends = λ j e. absurd (omega arith) }
+glued_begins mesh cut s far = record {
+  across = λ k j e. absurd (omega arith);
+  inside =
+      λ j l. absurd (omega arith);
+  ends = λ j e. absurd (omega arith);
+}
 
 pub name_begins : (mesh : HalfEdges) (s far : ℕ) → IsNameSoFar mesh s far 0 s
 name_begins mesh s far = record { on = inl refl; least = λ d o. absurd (omega (arith, o.1)) }
 
-module _ (mesh : HalfEdges) (cut : Cut) (s far d n t : ℕ) (at : d ≡ easts mesh s n) (tw : mesh.twin d ≡ Some t) (leads : LeadsOn mesh cut t n far) where
+module _ (mesh : HalfEdges) (cut : Cut) (s far d n t : ℕ) (at : d ≡ easts mesh s n) (tw : mesh.twin d ≡ Some t)
+    (leads : LeadsOn mesh cut t n far) where
   -- Straight on from the new twin lie those before.
   behind : (n j : ℕ) → LeadsOn mesh cut t n far → 0 < n → easts mesh t (suc j) ≡ easts mesh far j
   behind zero j leads some = absurd (omega arith)
@@ -31,19 +38,24 @@ module _ (mesh : HalfEdges) (cut : Cut) (s far d n t : ℕ) (at : d ≡ easts me
   glued_more g = record { across = across; inside = inside n leads g.inside; ends = ends n leads g.ends }
     where
       across : (k j : ℕ) → k + suc j ≡ n + 1 → mesh.twin (easts mesh s k) ≡ Some (easts mesh t j)
-      across k zero e = let same : k ≡ n = omega arith in ap (λ x. mesh.twin (easts mesh s x)) same ∙ (ap mesh.twin (sym at) ∙ tw)
+      across k zero e = let same : k ≡ n = omega arith in ap (λ x. mesh.twin (easts mesh s x)) same
+          ∙ (ap mesh.twin (sym at) ∙ tw)
       across k (suc j) e = g.across k j (omega arith) ∙ ap Some (sym (behind n j leads (omega arith)))
 
-      inside : (n : ℕ) → LeadsOn mesh cut t n far → ((j : ℕ) → suc j < n → cut (mesh.next (easts mesh far j)) ≡ false) → (j : ℕ) → suc j < n + 1 → cut (mesh.next (easts mesh t j)) ≡ false
+      inside : (n : ℕ) → LeadsOn mesh cut t n far → ((j : ℕ) → suc j < n → cut (mesh.next (easts mesh far j)) ≡ false)
+          → (j : ℕ) → suc j < n + 1 → cut (mesh.next (easts mesh t j)) ≡ false
       inside zero leads before j l = absurd (omega arith)
       inside (suc n) leads before zero l = leads.0
-      inside (suc n) leads before (suc j) l = ap (λ x. cut (mesh.next x)) (behind (suc n) j leads (omega arith)) ∙ before j (omega arith)
+      inside (suc n) leads before (suc j) l = ap (λ x. cut (mesh.next x)) (behind (suc n) j leads (omega arith))
+          ∙ before j (omega arith)
 
-      ends : (n : ℕ) → LeadsOn mesh cut t n far → ((j : ℕ) → suc j ≡ n → cut (mesh.next (easts mesh far j)) ≡ true) → (j : ℕ) → suc j ≡ n + 1 → cut (mesh.next (easts mesh t j)) ≡ true
+      ends : (n : ℕ) → LeadsOn mesh cut t n far → ((j : ℕ) → suc j ≡ n → cut (mesh.next (easts mesh far j)) ≡ true)
+          → (j : ℕ) → suc j ≡ n + 1 → cut (mesh.next (easts mesh t j)) ≡ true
       ends zero leads before zero e = leads
       ends zero leads before (suc j) e = absurd (omega arith)
       ends (suc n) leads before zero e = absurd (omega arith)
-      ends (suc n) leads before (suc j) e = ap (λ x. cut (mesh.next x)) (behind (suc n) j leads (omega arith)) ∙ before j (omega arith)
+      ends (suc n) leads before (suc j) e = ap (λ x. cut (mesh.next x)) (behind (suc n) j leads (omega arith))
+          ∙ before j (omega arith)
 
   pub name_more : (name : ℕ) → IsNameSoFar mesh s far n name → IsNameSoFar mesh s t (n + 1) (least_of_three name d t)
   name_more name is = record { on = on (cases_lt t (min name d)) (cases_lt d name); least = λ x o. least x o.0 o.1 o.2 }
@@ -54,10 +66,15 @@ module _ (mesh : HalfEdges) (cut : Cut) (s far d n t : ℕ) (at : d ≡ easts me
         | inr e ↦ (suc o.0, omega (arith, o.1), inr (e ∙ sym (behind n o.0 leads (omega (arith, o.1)))))
       ]
 
-      on : (t < min name d) ⊎ (min name d ≤ t) → (d < name) ⊎ (name ≤ d) → (least_of_three name d t ≡ s) ⊎ IsOnArc mesh s t (n + 1) (least_of_three name d t)
-      on (inl l) b = let e : t ≡ least_of_three name d t = omega arith in subst (λ (x : ℕ). (x ≡ s) ⊎ IsOnArc mesh s t (n + 1) x) e (inr (0, omega arith, inr refl))
-      on (inr h) (inl l) = let e : d ≡ least_of_three name d t = omega arith in subst (λ (x : ℕ). (x ≡ s) ⊎ IsOnArc mesh s t (n + 1) x) e (inr (n, omega arith, inl at))
-      on (inr h) (inr g) = let e : name ≡ least_of_three name d t = omega arith in subst (λ (x : ℕ). (x ≡ s) ⊎ IsOnArc mesh s t (n + 1) x) e (elim is.on [ inl q ↦ inl q | inr o ↦ inr (moved o) ])
+      on : (t < min name d) ⊎ (min name d ≤ t) → (d < name) ⊎ (name ≤ d) → (least_of_three name d t ≡ s)
+          ⊎ IsOnArc mesh s t (n + 1) (least_of_three name d t)
+      on (inl l) b = let e : t ≡ least_of_three name d t =
+          omega arith in subst (λ (x : ℕ). (x ≡ s) ⊎ IsOnArc mesh s t (n + 1) x) e (inr (0, omega arith, inr refl))
+      on (inr h) (inl l) = let e : d ≡ least_of_three name d t =
+          omega arith in subst (λ (x : ℕ). (x ≡ s) ⊎ IsOnArc mesh s t (n + 1) x) e (inr (n, omega arith, inl at))
+      on (inr h) (inr g) = let e : name ≡ least_of_three name d t =
+          omega arith in subst (λ (x : ℕ). (x ≡ s) ⊎ IsOnArc mesh s t (n + 1) x) e
+          (elim is.on [ inl q ↦ inl q | inr o ↦ inr (moved o) ])
 
       least : (x k : ℕ) → k < n + 1 → (x ≡ easts mesh s k) ⊎ (x ≡ easts mesh t k) → least_of_three name d t ≤ x
       least x k l (inl e) = elim (cases_eq k n) [
@@ -65,24 +82,34 @@ module _ (mesh : HalfEdges) (cut : Cut) (s far d n t : ℕ) (at : d ≡ easts me
         | inr ne ↦ let low : name ≤ x = is.least x (k, omega arith, inl e) in omega arith
       ]
       least x zero l (inr e) = let same : x ≡ t = e in omega arith
-      least x (suc k) l (inr e) = let low : name ≤ x = is.least x (k, omega arith, inr (e ∙ behind n k leads (omega arith))) in omega arith
+      least x (suc k) l (inr e) = let low : name ≤ x =
+          is.least x (k, omega arith, inr (e ∙ behind n k leads (omega arith))) in omega arith
 
-module _ (mesh : HalfEdges) (laws : IsQuadManifold mesh) (cut : Cut) (full : IsCut mesh cut) (s d n : ℕ) (corner : IsCorner mesh cut s) (at : d ≡ easts mesh s n) (inside : (k : ℕ) → k < n → cut (mesh.next (easts mesh s k)) ≡ false) where
+module _ (mesh : HalfEdges) (laws : IsQuadManifold mesh) (cut : Cut) (full : IsCut mesh cut) (s d n : ℕ)
+    (corner : IsCorner mesh cut s) (at : d ≡ easts mesh s n)
+    (inside : (k : ℕ) → k < n → cut (mesh.next (easts mesh s k)) ≡ false) where
   -- At the end of the near side.
   pub near_done : cut (mesh.next d) ≡ true → IsWholeSide mesh cut s (n + 1)
   near_done on = record {
     some = omega arith;
     corner = corner;
     inside = λ k l. inside k (omega arith);
-    ends = λ k e. let same : k ≡ n = omega arith in ap (λ x. cut (mesh.next (easts mesh s x))) same ∙ (ap (λ x. cut (mesh.next x)) (sym at) ∙ on);
+    ends = λ k e. let same : k ≡ n = omega arith in ap (λ x. cut (mesh.next (easts mesh s x))) same
+        ∙ (ap (λ x. cut (mesh.next x)) (sym at) ∙ on);
   }
 
-  pub glued_done : (t : ℕ) → AreGluedSoFar mesh cut s t (n + 1) → mesh.twin d ≡ Some t → cut (mesh.next d) ≡ true → cut (mesh.prev t) ≡ true → AreGlued mesh cut s t (n + 1)
+  pub glued_done : (t : ℕ) → AreGluedSoFar mesh cut s t (n + 1) → mesh.twin d ≡ Some t → cut (mesh.next d) ≡ true
+      → cut (mesh.prev t) ≡ true → AreGlued mesh cut s t (n + 1)
   glued_done t g tw on before = record {
     near = near_done on;
     far = record {
       some = omega arith;
-      corner = (laws.twin_low d t low tw, full.alike d t low tw ∙ (ap cut at ∙ side_on mesh laws cut full s (n + 1) (near_done on) n (omega arith)), before);
+      corner = (
+        laws.twin_low d t low tw,
+        full.alike d t low tw
+            ∙ (ap cut at ∙ side_on mesh laws cut full s (n + 1) (near_done on) n (omega arith)),
+        before,
+      );
       inside = g.inside;
       ends = g.ends;
     };
@@ -90,7 +117,8 @@ module _ (mesh : HalfEdges) (laws : IsQuadManifold mesh) (cut : Cut) (full : IsC
   }
     where
       low : d < mesh.count
-      low = subst (λ (x : ℕ). x < mesh.count) (sym at) (side_low mesh laws cut full s (n + 1) (near_done on) n (omega arith))
+      low = subst (λ (x : ℕ). x < mesh.count) (sym at)
+          (side_low mesh laws cut full s (n + 1) (near_done on) n (omega arith))
 
   pub name_done : (t name : ℕ) → IsNameSoFar mesh s t (n + 1) name → IsNameOf mesh s t (n + 1) name
   name_done t name is = record { on = elim is.on [ inl e ↦ (0, omega arith, inl e) | inr o ↦ o ]; least = is.least }
@@ -107,16 +135,21 @@ module _ (mesh : HalfEdges) (laws : IsQuadManifold mesh) (cut : Cut) (full : IsC
     over j e = ap mesh.twin at ∙ glued.across n j e
 
     pub no_twin : mesh.twin d ≡ None → ⊥
-    no_twin is = let clash : None ≡ Some (easts mesh t (m - suc n)) = sym is ∙ over (m - suc n) (omega (arith, longer)) in absurd cc
+    no_twin is = let clash : None ≡ Some (easts mesh t (m - suc n)) =
+        sym is ∙ over (m - suc n) (omega (arith, longer)) in absurd cc
 
     pub leads_there : (u far : ℕ) → mesh.twin d ≡ Some u → AreGluedSoFar mesh cut s far n → LeadsOn mesh cut u n far
-    leads_there u far tw g = here n (m - suc n) (omega (arith, longer)) (same_Some (easts mesh t (m - suc n)) u (sym (over (m - suc n) (omega (arith, longer))) ∙ tw)) g.across
+    leads_there u far tw g = here n (m - suc n) (omega (arith, longer))
+        (same_Some (easts mesh t (m - suc n)) u (sym (over (m - suc n) (omega (arith, longer))) ∙ tw)) g.across
       where
-        here : (n j : ℕ) → n + suc j ≡ m → easts mesh t j ≡ u → ((k i : ℕ) → k + suc i ≡ n → mesh.twin (easts mesh s k) ≡ Some (easts mesh far i)) → LeadsOn mesh cut u n far
+        here : (n j : ℕ) → n + suc j ≡ m → easts mesh t j ≡ u
+            → ((k i : ℕ) → k + suc i ≡ n → mesh.twin (easts mesh s k) ≡ Some (easts mesh far i))
+            → LeadsOn mesh cut u n far
         here zero j e is across = ap (λ x. cut (mesh.next x)) (sym is) ∙ glued.far.ends j (omega arith)
         here (suc n) j e is across = (
           ap (λ x. cut (mesh.next x)) (sym is) ∙ glued.far.inside j (omega arith),
-          ap (step_east mesh) (sym is) ∙ same_Some (easts mesh t (suc j)) far (sym (glued.across n (suc j) (omega arith)) ∙ across n 0 (omega arith)),
+          ap (step_east mesh) (sym is) ∙ same_Some (easts mesh t (suc j)) far
+              (sym (glued.across n (suc j) (omega arith)) ∙ across n 0 (omega arith)),
         )
 
     pub far_corner : (u : ℕ) → mesh.twin d ≡ Some u → cut (mesh.next d) ≡ true → cut (mesh.prev u) ≡ true
@@ -124,4 +157,5 @@ module _ (mesh : HalfEdges) (laws : IsQuadManifold mesh) (cut : Cut) (full : IsC
       where
         at_last : (j : ℕ) → n + suc j ≡ m → cut (mesh.prev u) ≡ true
         at_last zero e = ap (λ x. cut (mesh.prev x)) (same_Some u t (sym tw ∙ over 0 e)) ∙ glued.far.corner.2
-        at_last (suc j) e = absurd (true≢false (sym on ∙ (ap (λ x. cut (mesh.next x)) at ∙ glued.near.inside n (omega arith))))
+        at_last (suc j) e =
+            absurd (true≢false (sym on ∙ (ap (λ x. cut (mesh.next x)) at ∙ glued.near.inside n (omega arith))))

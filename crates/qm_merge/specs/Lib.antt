@@ -1,4 +1,5 @@
 pub mod Walks
 pub mod Seams
 pub mod Waiting
-pub mod Places
+pub mod Beside
+pub mod Links

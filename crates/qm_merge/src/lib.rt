@@ -4,12 +4,14 @@
 
 mod corners;
 mod drops;
+mod held;
+mod links;
 mod merged;
 mod seams;
 mod waiting;
 
 pub use def_cut::Graph;
-pub use merged::merge;
+pub use merged::{merge, merge_beside};
 
 /// Memory was refused.
 pub type Memory = std::alloc::AllocError;

@@ -1,25 +1,32 @@
 //! The merged cut: the first joinable arc leaves, again and again.
 
-ghost use Rattle.std.specs.Prelude.{◌≡◌, ◌≤◌, ◌<◌, ℕ, true, IfOk, OnOk, IfSome, IfNone};
+ghost use Rattle.std.specs.Prelude.{◌≡◌, ◌≤◌, ◌<◌, ℕ, length, map, true, IfOk, OnOk, IfSome, IfNone};
 ghost use Rattle.def_mesh.specs.Darts.{darts};
 ghost use Rattle.def_mesh.specs.HalfEdges.{half_edges};
 ghost use Rattle.def_cut.specs.FullCut.{is_on, IsFullCut};
-ghost use Rattle.def_merge.specs.Merged.{IsStep, IsMergedCut};
+ghost use Rattle.def_mesh.specs.Vertices.{all_vertices};
+ghost use Rattle.def_merge.specs.Joins.{IsJoinable, IsNameOf, IsWithout};
+ghost use Rattle.def_merge.specs.Merged.{IsMergedBy, IsMergedCut};
+ghost use Rattle.def_merge.specs.Beside.{may_beside};
+ghost use Rattle.def_feature.specs.Beside.{IsCutBeside};
+ghost use Rattle.def_feature.specs.Marks.{AreMarks, is_break};
+ghost use Rattle.qm_merge.specs.Beside.{IsBeside};
 ghost use Rattle.qm_grid.specs.Cutting.{IsCutting};
-ghost use Rattle.qm_merge.specs.Places.{IsFirstPlace, IsNoName};
-ghost use Rattle.qm_merge.specs.Waiting.{AreBelow, AllWait, AllWaitBut, IsFirstName, left_over};
+ghost use Rattle.qm_merge.specs.Links.{AreLinks, AreStarts, at};
+ghost use Rattle.qm_merge.specs.Seams.{IsSeam};
+ghost use Rattle.qm_merge.specs.Waiting.{AreBelow, WaitStill, left_over};
 
-use crate::corners::side_start;
 use crate::drops::drop_seam;
-use crate::seams::{Seam, seam_from};
-use crate::waiting::{Names, all_names, note_over};
+use crate::held::may_leave;
+use crate::links::{Links, all_links, join_rounds, round_from};
+use crate::seams::{Place, seam_from};
+use crate::waiting::{Names, all_names, note_from};
 use def_cut::Graph;
 use qm_mesh::Mesh;
 use std::alloc::{AllocError, Global};
 
-/// Merges the patches of a full cut across whole sides. The riders stay. Each arc that leaves costs the lengths of the
-/// sides at its ends: linear in the darts, up to logarithms, but for a long side that grows patch by patch, where it is
-/// quadratic in that side.
+/// Merges the patches of a full cut across whole sides, beside no marked line. The riders stay. The time is that of
+/// [`merge_beside`].
 pub fn merge(alloc: Global, mesh: &Mesh, graph: &Graph) -> Result<Graph, AllocError>
     requires cut { IsFullCut mesh.now graph.now.covered.items }
     ensures merged { IfOk result (λ g. IsMergedCut mesh.now graph.now.covered.items g.covered.items) }
@@ -28,48 +35,81 @@ pub fn merge(alloc: Global, mesh: &Mesh, graph: &Graph) -> Result<Graph, AllocEr
         (d : ℕ) → is_on g.covered.items d ≡ true → is_on graph.now.covered.items d ≡ true) }
     ensures riders { IfOk result (λ g. g.riders.items ≡ graph.now.riders.items) }
 {
+    let marks = vec![in alloc; false; 4 * mesh.faces().len()]?;
+    let breaks = vec![in alloc; false; mesh.vertices() as usize]?;
+    merge_beside(alloc, mesh, graph, &marks, &breaks)
+}
+
+/// Merges the patches of a full cut across whole sides, beside marked lines that break at these vertices: each marked
+/// edge stays, and so does a corner at each break. The riders stay. An arc is walked only where both its sides are
+/// whole and of one length, and is refused in constant time elsewhere: linear in the darts, up to logarithms, but for
+/// sides of two patches that grow together, step by step.
+pub fn merge_beside(
+    alloc: Global,
+    mesh: &Mesh,
+    graph: &Graph,
+    marks: &[bool],
+    breaks: &[bool],
+) -> Result<Graph, AllocError>
+    requires marks { AreMarks mesh.now marks.now }
+    requires breaks { breaks.now ≡ map (is_break mesh.now marks.now) (all_vertices mesh.now) }
+    requires beside { IsCutBeside mesh.now marks.now graph.now.covered.items }
+    ensures merged { IfOk result (λ g.
+        IsMergedBy mesh.now (may_beside mesh.now marks.now) graph.now.covered.items g.covered.items) }
+    ensures keeps { IfOk result (λ g. IsCutBeside mesh.now marks.now g.covered.items) }
+    ensures full { IfOk result (λ g. IsFullCut mesh.now g.covered.items) }
+    ensures part { IfOk result (λ g.
+        (d : ℕ) → is_on g.covered.items d ≡ true → is_on graph.now.covered.items d ≡ true) }
+    ensures riders { IfOk result (λ g. g.riders.items ≡ graph.now.riders.items) }
+{
     let mut covered = Vec::with_capacity(alloc, 4 * mesh.faces().len())?;
     covered.extend_from_slice(&graph.covered)?;
-    merge_all(alloc, mesh, &mut covered)?;
+    merge_all(alloc, mesh, marks, breaks, &mut covered)?;
     let riders = Vec::from_slice(alloc, &graph.riders)?;
     Ok(Graph { covered, riders })
 }
 
-fn merge_all(alloc: Global, mesh: &Mesh, cut: &mut [bool]) -> Result<(), AllocError>
+fn merge_all(
+    alloc: Global,
+    mesh: &Mesh,
+    marks: &[bool],
+    breaks: &[bool],
+    cut: &mut [bool],
+) -> Result<(), AllocError>
     requires cutting { IsCutting mesh.now cut.old }
-    ensures merged { OnOk result (IsMergedCut mesh.now cut.old cut.new) }
+    requires beside { IsBeside mesh.now marks.now breaks.now cut.old }
+    ensures merged { OnOk result (IsMergedBy mesh.now (may_beside mesh.now marks.now) cut.old cut.new) }
+    ensures keeps { OnOk result (IsCutBeside mesh.now marks.now cut.new) }
     ensures full { OnOk result (IsFullCut mesh.now cut.new) }
     ensures part { OnOk result ((d : ℕ) → is_on cut.new d ≡ true → is_on cut.old d ≡ true) }
 {
-    let mut names = all_names(alloc, mesh, cut)?;
+    let mut links = all_links(alloc, mesh, cut)?;
+    let mut names = all_names(alloc, mesh, cut, &mut links)?;
     while let Some(name) = names.pop_first() {
-        if let Some(place) = first_seam(mesh, cut, name) {
-            drop_first(mesh, cut, &mut names, place)?;
+        if let Some(place) = place_of(mesh, cut, &links, name) {
+            if may_leave(mesh, marks, breaks, cut, place) {
+                drop_first(mesh, cut, &mut links, &mut names, place)?;
+            }
         }
     }
     Ok(())
 }
 
-/// A joinable arc and a corner where one of its sides begins.
-#[derive(Clone, Copy, Debug, PartialEq, Eq)]
-struct Place {
-    start: u32,
-    seam: Seam,
-}
-
-/// The joinable arc with this name, if there is one, where none has a lesser name.
-fn first_seam(mesh: &Mesh, cut: &[bool], name: u32) -> Option<Place>
+/// The joinable arc from the start of this name, if that is its name. Linear in it.
+fn place_of(mesh: &Mesh, cut: &[bool], links: &Links, name: u32) -> Option<Place>
     requires cutting { IsCutting mesh.now cut.now }
+    requires links { AreLinks (half_edges mesh.now) (is_on cut.now) links.now }
+    requires starts { AreStarts links.now.starts.items (darts mesh.now) }
     requires dart { name < darts mesh.now }
-    requires first { IsFirstName (half_edges mesh.now) (is_on cut.now) name }
-    ensures found { IfSome result (IsFirstPlace (half_edges mesh.now) (is_on cut.now) name) }
-    ensures none { IfNone result (IsNoName (half_edges mesh.now) (is_on cut.now) name) }
+    ensures found { IfSome result (λ place. IsSeam (half_edges mesh.now) (is_on cut.now) place.start place.seam) }
+    ensures start { IfSome result (λ place. place.start ≡ at links.now.starts.items name) }
+    ensures named { IfSome result (λ place. place.seam.name ≡ name) }
+    ensures none { IfNone result ((t n : ℕ) → IsJoinable (half_edges mesh.now) (is_on cut.now)
+        (at links.now.starts.items name) t n
+        → ¬ IsNameOf (half_edges mesh.now) (at links.now.starts.items name) t n name) }
 {
-    if !cut[name as usize] {
-        return None;
-    }
-    let start = side_start(mesh, cut, name);
-    let Some(seam) = seam_from(mesh, cut, start) else {
+    let start = links.starts[name as usize];
+    let Some(seam) = seam_from(mesh, cut, links, start) else {
         return None;
     };
     if seam.name != name {
@@ -78,24 +118,34 @@ fn first_seam(mesh: &Mesh, cut: &[bool], name: u32) -> Option<Place>
     Some(Place { start, seam })
 }
 
-/// Takes the first joinable arc out of the cut, and notes what is joinable then and was not.
+/// Takes a joinable arc out of the cut, and notes what is joinable then and was not.
 fn drop_first(
     mesh: &Mesh,
     cut: &mut [bool],
+    links: &mut Links,
     names: &mut Names,
     place: Place,
 ) -> Result<(), AllocError>
     requires cutting { IsCutting mesh.now cut.old }
-    requires first { IsFirstPlace (half_edges mesh.now) (is_on cut.old) place.seam.name place }
-    requires waiting { AllWaitBut (half_edges mesh.now) (is_on cut.old) names.old place.seam.name }
+    requires links { AreLinks (half_edges mesh.now) (is_on cut.old) links.old }
+    requires starts { AreStarts links.old.starts.items (darts mesh.now) }
+    requires seam { IsSeam (half_edges mesh.now) (is_on cut.old) place.start place.seam }
     requires below { AreBelow names.old (darts mesh.now) }
     ensures cutting { IsCutting mesh.now cut.new }
-    ensures step { IsStep mesh.now cut.old cut.new }
-    ensures waiting { OnOk result (AllWait (half_edges mesh.now) (is_on cut.new) names.new) }
+    ensures links { AreLinks (half_edges mesh.now) (is_on cut.new) links.new }
+    ensures starts { AreStarts links.new.starts.items (darts mesh.now) }
+    ensures long { length cut.new ≡ length cut.old }
+    ensures without { IsWithout (half_edges mesh.now) (is_on cut.old) (is_on cut.new)
+        place.start place.seam.far place.seam.long }
+    ensures waiting { OnOk result (WaitStill (half_edges mesh.now) (is_on cut.old) (is_on cut.new)
+        names.old names.new links.old.starts.items links.new.starts.items) }
     ensures below { OnOk result (AreBelow names.new (darts mesh.now)) }
     ensures fewer { OnOk result (left_over cut.new names.new ≤ left_over cut.old names.old) }
 {
+    let near = round_from(mesh, cut, links, place.start);
+    let far = round_from(mesh, cut, links, place.seam.far);
+    join_rounds(links, near, far);
     drop_seam(mesh, cut, place.start, place.seam);
-    note_over(mesh, cut, names, mesh.prev(place.start))?;
-    note_over(mesh, cut, names, mesh.prev(place.seam.far))
+    note_from(mesh, cut, links, names, near.fourth)?;
+    note_from(mesh, cut, links, names, far.fourth)
 }

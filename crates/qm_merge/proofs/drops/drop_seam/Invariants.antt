@@ -1,4 +1,4 @@
-use Rattle.std.proofs.Common.{◌≡◌, ◌<◌, ◌-◌, length}
+use Rattle.std.proofs.Common.{◌≡◌, ◌-◌, length}
 use Rattle.def_mesh.specs.HalfEdges.{half_edges}
 use Rattle.def_cut.specs.FullCut.{is_on}
 use Rattle.def_cut.specs.Steps.{easts}

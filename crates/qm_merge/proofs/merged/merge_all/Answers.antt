@@ -1,60 +1,170 @@
-use Rattle.std.proofs.Common.{◌≡◌, ◌≤◌, ◌<◌, ℕ, suc, length, sym, ◌∙◌, subst, inl, inr, arith}
+use Rattle.std.proofs.Common.{true, refl, ◌≡◌, ◌⊎◌, ℕ, suc, length, sym, ◌∙◌, ap, subst, inl, inr, arith}
 use Rattle.std.proofs.lemmas.Bool.{cases_lt, false≢true}
 use Rattle.std.proofs.lemmas.Map.Keys.{le_from_not_gt}
 use Rattle.def_mesh.specs.Darts.{darts}
 use Rattle.def_mesh.specs.HalfEdges.{half_edges}
 use Rattle.def_cut.specs.FullCut.{is_on}
 use Rattle.def_merge.specs.Joins.{IsJoinable, IsNameOf}
+use Rattle.def_merge.specs.Beside.{may_beside}
+use Rattle.feature_laws.proofs.Conforming.{mark_low}
+use Rattle.merge_laws.proofs.Beside.{beside_reached}
 use Rattle.face_laws.proofs.FullCuts.{from_cut}
 use Rattle.merge_laws.proofs.Arcs.{name_there}
 use Rattle.merge_laws.proofs.OneMerged.{part_reached}
-use Rattle.qm_merge.proofs.Names.{taken_kept, taken_below, none_waits, mark_low}
+use Rattle.merge_laws.proofs.Held.{held_law, turned_may}
+use Rattle.qm_merge.specs.Links.{at}
+use Rattle.qm_merge.proofs.Dropped.{less_on, name_gone, step_taken}
+use Rattle.qm_merge.proofs.Names.{none_named, none_waits, seam_free, taken_below, taken_kept}
 use Rattle.qm_merge.proofs.merged.merge_all.Goals as goal
 
-pub first_seam-requires-clause-first : goal.first_seam-requires-clause-first
-first_seam-requires-clause-first c = λ s t n name arc named. le_from_not_gt c.in-Some.name name (c.in-Some.ensures.least name (c.loop-name.invariant.waiting s t n name arc named))
+pub loop-name-init : goal.loop-name-init
+loop-name-init c = record {
+  cutting = c.requires.cutting;
+  links = c.in_ok-names.ensures.links;
+  starts = c.in_ok-names.ensures.starts;
+  reached = (0, refl);
+  waiting = λ s t n name arc free named. c.in_ok-names.ensures.all s t n name arc named;
+  below = c.in_ok-names.ensures.below;
+}
 
-pub drop_first-requires-clause-waiting : goal.drop_first-requires-clause-waiting
-drop_first-requires-clause-waiting c = λ s t n name arc named ne.
-    taken_kept c.loop-name.names c.pop_first.new.self c.in-Some.name c.in-Some.ensures.updates name (λ e. ne (e ∙ sym c.in-Some-first_seam.ensures.found.named)) (c.loop-name.invariant.waiting s t n name arc named)
+pub may_leave-requires-clause-beside : goal.may_leave-requires-clause-beside
+may_leave-requires-clause-beside c =
+    let b = c.requires.beside in
+    record {
+      manifold = b.manifold;
+      lines = b.lines;
+      broken = b.broken;
+      keeps = beside_reached c.args.mesh.now c.args.marks.now c.args.cut.now c.loop-name.cut
+          c.loop-name.invariant.reached.0 b.manifold b.keeps c.loop-name.invariant.reached.1;
+    }
 
 pub drop_first-requires-clause-below : goal.drop_first-requires-clause-below
-drop_first-requires-clause-below c = taken_below c.loop-name.names c.pop_first.new.self c.in-Some.name c.in-Some.ensures.updates (darts c.args.mesh.now) c.loop-name.invariant.below
+drop_first-requires-clause-below c =
+    taken_below c.loop-name.names c.pop_first.new.self c.in-Some.name c.in-Some.ensures.updates (darts c.args.mesh.now)
+    c.loop-name.invariant.below
 
-pub loop-name-preserved-in-Continue-branch-2 : goal.loop-name-preserved-in-Continue-branch-2
-loop-name-preserved-in-Continue-branch-2 c =
+pub loop-name-preserved-in-Continue-branch-3 : goal.loop-name-preserved-in-Continue-branch-3
+loop-name-preserved-in-Continue-branch-3 c =
     let e = c.in_ok-drop_first.ensures in
+    let p = c.in-Some-place_of.ensures in
     let before = c.loop-name.invariant.reached in
-    record { cutting = e.cutting; reached = (suc before.0, (c.loop-name.cut, before.1, e.step)); waiting = e.waiting; below = e.below }
+    record {
+      cutting = e.cutting;
+      links = e.links;
+      starts = e.starts;
+      reached = (
+        suc before.0,
+        (
+          c.loop-name.cut,
+          before.1,
+          step_taken c.args.mesh.now c.loop-name.cut c.drop_first.new.cut
+              c.loop-name.invariant.cutting c.in-Some-place_of.place p.found e.long e.without
+              (may_beside c.args.mesh.now c.args.marks.now) (c.may_leave.ensures.0 c.if-may_leave.true)
+              (λ r u m name arc free named. omega (
+                arith,
+                p.named,
+                le_from_not_gt c.in-Some.name name
+                    (c.in-Some.ensures.least name (c.loop-name.invariant.waiting r u m name arc free named).0),
+              )),
+        ),
+      );
+      waiting = λ s t n name arc free named. e.waiting s t n name arc named (λ old.
+          let w = c.loop-name.invariant.waiting s t n name old
+          (held_law c.args.mesh.now c.args.marks.now c.loop-name.cut c.drop_first.new.cut s t n
+          (less_on c.args.mesh.now c.loop-name.cut c.drop_first.new.cut c.loop-name.invariant.cutting
+          c.in-Some-place_of.place p.found e.long e.without) free) named in (
+            taken_kept c.loop-name.names c.pop_first.new.self c.in-Some.name c.in-Some.ensures.updates name
+                (λ same. name_gone c.args.mesh.now c.loop-name.cut c.drop_first.new.cut c.loop-name.invariant.cutting
+                c.in-Some-place_of.place p.found e.long e.without s t n name arc named (same ∙ sym p.named)) w.0,
+            w.1,
+          ));
+      below = e.below;
+    }
+
+pub loop-name-preserved-else-may_leave : goal.loop-name-preserved-else-may_leave
+loop-name-preserved-else-may_leave c =
+    let f = c.loop-name.invariant.cutting in
+    let p = c.in-Some-place_of.ensures in
+    record {
+      cutting = f;
+      links = c.loop-name.invariant.links;
+      starts = c.loop-name.invariant.starts;
+      reached = c.loop-name.invariant.reached;
+      waiting = λ s t n name arc free named.
+          let w = c.loop-name.invariant.waiting s t n name arc free named in (
+            taken_kept c.loop-name.names c.pop_first.new.self c.in-Some.name c.in-Some.ensures.updates name (λ same.
+                let start : c.in-Some-place_of.place.start ≡ at c.loop-name.links.starts.items name =
+                p.start ∙ ap (at c.loop-name.links.starts.items) (sym same) in
+                let side : (c.in-Some-place_of.place.start ≡ s) ⊎ (c.in-Some-place_of.place.start ≡ t) =
+                elim w.1 [ inl q ↦ inl (start ∙ q) | inr q ↦ inr (start ∙ q) ] in
+                false≢true (sym c.if-may_leave.false
+                ∙ c.may_leave.ensures.1 (seam_free (half_edges c.args.mesh.now) f.laws (is_on c.loop-name.cut) f.full
+                (may_beside c.args.mesh.now c.args.marks.now c.loop-name.cut)
+                (turned_may c.args.mesh.now c.args.marks.now c.loop-name.cut) c.in-Some-place_of.place.start
+                c.in-Some-place_of.place.seam p.found s t n arc free side))) w.0,
+            w.1,
+          );
+      below = taken_below c.loop-name.names c.pop_first.new.self c.in-Some.name c.in-Some.ensures.updates
+          (darts c.args.mesh.now) c.loop-name.invariant.below;
+    }
 
 pub loop-name-preserved : goal.loop-name-preserved
-loop-name-preserved c = record {
-  cutting = c.loop-name.invariant.cutting;
-  reached = c.loop-name.invariant.reached;
-  waiting = λ s t n name arc named. taken_kept c.loop-name.names c.pop_first.new.self c.in-Some.name c.in-Some.ensures.updates name
-      (λ e. c.in_default-first_seam.ensures.none s t n arc (subst (λ (x : ℕ). IsNameOf (half_edges c.args.mesh.now) s t n x) e named))
-      (c.loop-name.invariant.waiting s t n name arc named);
-  below = taken_below c.loop-name.names c.pop_first.new.self c.in-Some.name c.in-Some.ensures.updates (darts c.args.mesh.now) c.loop-name.invariant.below;
-}
+loop-name-preserved c =
+    let f = c.loop-name.invariant.cutting in
+    record {
+      cutting = f;
+      links = c.loop-name.invariant.links;
+      starts = c.loop-name.invariant.starts;
+      reached = c.loop-name.invariant.reached;
+      waiting = λ s t n name arc free named.
+          let w = c.loop-name.invariant.waiting s t n name arc free named in (
+            taken_kept c.loop-name.names c.pop_first.new.self c.in-Some.name c.in-Some.ensures.updates name (λ same.
+                let start : at c.loop-name.links.starts.items c.in-Some.name ≡ at c.loop-name.links.starts.items name =
+                ap (at c.loop-name.links.starts.items) (sym same) in
+                let side : (at c.loop-name.links.starts.items c.in-Some.name ≡ s)
+                ⊎ (at c.loop-name.links.starts.items c.in-Some.name ≡ t) =
+                elim w.1 [ inl q ↦ inl (start ∙ q) | inr q ↦ inr (start ∙ q) ] in
+                none_named (half_edges c.args.mesh.now) f.laws (is_on c.loop-name.cut) f.full
+                (at c.loop-name.links.starts.items c.in-Some.name) c.in-Some.name c.in_default-place_of.ensures.none s t
+                n
+                arc (subst (λ (x : ℕ). IsNameOf (half_edges c.args.mesh.now) s t n x) same named) side) w.0,
+            w.1,
+          );
+      below = taken_below c.loop-name.names c.pop_first.new.self c.in-Some.name c.in-Some.ensures.updates
+          (darts c.args.mesh.now) c.loop-name.invariant.below;
+    }
 
 pub returns-clause-merged : goal.returns-clause-merged
 returns-clause-merged c = record {
   steps = c.loop-name.invariant.reached.0;
   reached = c.loop-name.invariant.reached.1;
-  merged = λ s t n arc. named s t n arc (name_there (half_edges c.args.mesh.now) s t n arc.glued.near.some);
+  merged = λ s t n arc free. named s t n arc free (name_there (half_edges c.args.mesh.now) s t n arc.glued.near.some);
 }
   where
     none : length c.loop-name.names.keys ≡ 0
-    none = elim (cases_lt 0 (length c.loop-name.names.keys)) [ inl some ↦ absurd (false≢true (c.in_default.ensures.variant.1 some)) | inr few ↦ omega arith ]
+    none = elim (cases_lt 0 (length c.loop-name.names.keys))
+        [ inl some ↦ absurd (false≢true (c.in_default.ensures.variant.1 some)) | inr few ↦ omega (arith, few) ]
 
-    named : (s t n : ℕ) → IsJoinable (half_edges c.args.mesh.now) (is_on c.loop-name.cut) s t n → (name : ℕ) × IsNameOf (half_edges c.args.mesh.now) s t n name → ⊥
-    named s t n arc m = none_waits c.loop-name.names m.0 none (c.loop-name.invariant.waiting s t n m.0 arc m.1)
+    named : (s t n : ℕ) → IsJoinable (half_edges c.args.mesh.now) (is_on c.loop-name.cut) s t n
+        → may_beside c.args.mesh.now c.args.marks.now c.loop-name.cut s t n ≡ true → (name : ℕ)
+        × IsNameOf (half_edges c.args.mesh.now) s t n name → ⊥
+    named s t n arc free m = none_waits c.loop-name.names m.0 none
+        (c.loop-name.invariant.waiting s t n m.0 arc free m.1).0
+
+pub returns-clause-keeps : goal.returns-clause-keeps
+returns-clause-keeps c =
+    let b = c.requires.beside in
+    beside_reached c.args.mesh.now c.args.marks.now c.args.cut.now c.loop-name.cut c.loop-name.invariant.reached.0
+    b.manifold b.keeps c.loop-name.invariant.reached.1
 
 pub returns-clause-full : goal.returns-clause-full
-returns-clause-full c = let f = c.loop-name.invariant.cutting in from_cut c.args.mesh.now f.laws c.loop-name.cut f.long f.full
+returns-clause-full c = let f =
+    c.loop-name.invariant.cutting in from_cut c.args.mesh.now f.laws c.loop-name.cut f.long f.full
 
 pub returns-clause-part : goal.returns-clause-part
 returns-clause-part c =
     let f = c.requires.cutting in
-    λ d on. part_reached c.args.mesh.now f.laws c.args.cut.now c.loop-name.cut c.loop-name.invariant.reached.0 (record { long = f.long; full = f.full }) c.loop-name.invariant.reached.1 d
+    λ d on. part_reached c.args.mesh.now (may_beside c.args.mesh.now c.args.marks.now) f.laws c.args.cut.now
+    c.loop-name.cut c.loop-name.invariant.reached.0 (record { long = f.long; full = f.full })
+    c.loop-name.invariant.reached.1 d
     (omega (arith, mark_low c.loop-name.cut d on, c.loop-name.invariant.cutting.long)) on

@@ -1,17 +1,22 @@
-use Rattle.std.proofs.Common.{◌≡◌, ℕ, subst}
-use Rattle.def_mesh.specs.HalfEdges.{half_edges}
-use Rattle.def_cut.specs.FullCut.{is_on}
-use Rattle.def_merge.specs.Joins.{AreInOne}
-use Rattle.merge_laws.proofs.Arcs.{one_far}
+use Rattle.std.proofs.Common.{sym, ◌∙◌}
+use Rattle.std.proofs.lemmas.Bool.{false≢true}
+use Rattle.std.proofs.lemmas.Option.{IfSome_then}
+use Rattle.qm_merge.proofs.Across.{none_then}
 use Rattle.qm_merge.proofs.seams.seam_from.Goals as goal
 
-pub returns-in_default-clause-none : goal.returns-in_default-clause-none
-returns-in_default-clause-none c = λ t n arc. c.in_default.ensures.none t n arc.glued
+pub returns-then-not-may_join-clause-none : goal.returns-then-not-may_join-clause-none
+returns-then-not-may_join-clause-none c =
+    λ t n arc. false≢true (sym c.if-not-may_join.true ∙ (c.may_join.ensures t n arc.glued).1 arc.apart)
 
-pub returns-then-is_around-clause-none : goal.returns-then-is_around-clause-none
-returns-then-is_around-clause-none c =
-    let f = c.requires.cutting in
-    λ t n arc.
-    arc.apart (subst (λ (x : ℕ). AreInOne (half_edges c.args.mesh.now) (is_on c.args.cut.now) c.args.s x)
-    (one_far (half_edges c.args.mesh.now) f.laws (is_on c.args.cut.now) f.full c.args.s c.in-Some.seam.far t c.in-Some.seam.long n c.in-Some.ensures.found.glued arc.glued).0
-    (c.is_around.ensures.0 c.if-is_around.true))
+pub returns-clause-found : goal.returns-clause-found
+returns-clause-found c = IfSome_then c.glued_from.result c.glued_from.ensures.found (λ seam is. record {
+  joinable = record {
+    glued = is.glued;
+    apart = (c.may_join.ensures seam.far seam.long is.glued).0 c.if-not-may_join.false;
+  };
+  named = is.named;
+})
+
+pub returns-clause-none : goal.returns-clause-none
+returns-clause-none c =
+    none_then c.glued_from.result c.glued_from.ensures.none (λ none t n arc. none t n arc.glued)

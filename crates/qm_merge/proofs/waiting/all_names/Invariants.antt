@@ -3,12 +3,16 @@ use Rattle.def_mesh.specs.Darts.{darts}
 use Rattle.def_mesh.specs.HalfEdges.{half_edges}
 use Rattle.def_cut.specs.FullCut.{is_on}
 use Rattle.def_merge.specs.Joins.{IsJoinable, IsNameOf}
-use Rattle.qm_merge.specs.Waiting.{Waits, AreBelow}
+use Rattle.qm_merge.specs.Links.{AreLinks, AreStarts}
+use Rattle.qm_merge.specs.Waiting.{AreBelow, IsNoted}
 use Rattle.qm_merge.proofs.waiting.all_names.Given as goal
 
 -- the arcs with a side that begins below d wait
 abbrev pub invariant-loop-d : goal.invariant-loop-d
 invariant-loop-d l = record {
-  all : (s t n name : ℕ) → s < l.d → IsJoinable (half_edges l.mesh) (is_on l.cut) s t n → IsNameOf (half_edges l.mesh) s t n name → Waits l.names name;
+  links : AreLinks (half_edges l.mesh) (is_on l.cut) l.links;
+  starts : AreStarts l.links.starts.items (darts l.mesh);
+  all : (s t n name : ℕ) → s < l.d → IsJoinable (half_edges l.mesh) (is_on l.cut) s t n
+      → IsNameOf (half_edges l.mesh) s t n name → IsNoted l.names l.links.starts.items s t name;
   below : AreBelow l.names (darts l.mesh);
 }

@@ -1,0 +1,244 @@
+-- The sides of patches when an arc leaves: those before its ends go on along those behind it, and the others stay.
+use Rattle.std.proofs.Common.{◌≡◌, ◌⊎◌, ℕ, zero, suc, ◌+◌, ◌-◌, ◌<◌, true, false, sym, ◌∙◌, ap, subst, refl}
+use Rattle.std.proofs.Common.{inl, inr, true≢false, arith}
+use Rattle.std.proofs.lemmas.Bool.{cases_eq, cases_order}
+use Rattle.def_mesh.specs.HalfEdges.{HalfEdges, IsQuadManifold}
+use Rattle.def_cut.specs.Cuts.{Cut, IsCorner, IsCut}
+use Rattle.def_cut.specs.Steps.{or_zero, step_east, easts}
+use Rattle.cut_laws.proofs.Classes.{linked_back, links_join}
+use Rattle.def_merge.specs.Joins.{AreInOne, IsJoinable, IsOnArc, IsWholeSide, IsWithout}
+use Rattle.merge_laws.proofs.ArcDarts.{less, opened, still}
+use Rattle.merge_laws.proofs.Sides.{StandsOn, first_place, one_size, side_low}
+use Rattle.qm_merge.specs.Walks.{IsNextCorner}
+use Rattle.qm_merge.specs.Links.{IsRound}
+use Rattle.qm_merge.specs.declared.links.Round.{Round}
+use Rattle.qm_merge.proofs.Rounds.{around, closes, next_is_corner, one_next, opposite}
+
+module _ (mesh : HalfEdges) (laws : IsQuadManifold mesh) (cut rest : Cut) (full : IsCut mesh cut) (s t n : ℕ)
+    (arc : IsJoinable mesh cut s t n) (without : IsWithout mesh cut rest s t n) where
+  -- A corner on the arc is where one of its sides begins.
+  on_start : (c : ℕ) → IsCorner mesh cut c → IsOnArc mesh s t n c → (c ≡ s) ⊎ (c ≡ t)
+  on_start c corner o = by_side o.0 o.1 o.2
+    where
+      start : (b k : ℕ) → IsWholeSide mesh cut b n → k < n → c ≡ easts mesh b k → c ≡ b
+      start b k side l e =
+          let first : k ≡ 0 =
+          first_place mesh laws cut full b n side k l (ap (λ x. cut (mesh.prev x)) (sym e) ∙ corner.2) in
+          e ∙ ap (easts mesh b) first
+
+      by_side : (k : ℕ) → k < n → (c ≡ easts mesh s k) ⊎ (c ≡ easts mesh t k) → (c ≡ s) ⊎ (c ≡ t)
+      by_side k l (inl e) = inl (start s k arc.glued.near l e)
+      by_side k l (inr e) = inr (start t k arc.glued.far l e)
+
+  -- A corner behind a dart of the arc is where one of its sides ends.
+  on_end : (c : ℕ) → IsCorner mesh cut c → IsOnArc mesh s t n (mesh.prev c)
+      → IsNextCorner mesh cut s c ⊎ IsNextCorner mesh cut t c
+  on_end c corner o = by_side o.0 o.1 o.2
+    where
+      end : (b k : ℕ) → IsWholeSide mesh cut b n → k < n → mesh.prev c ≡ easts mesh b k → IsNextCorner mesh cut b c
+      end b k side l e = by_place (cases_eq (suc k) n)
+        where
+          here : c ≡ mesh.next (easts mesh b k)
+          here = sym (laws.next_prev c) ∙ ap mesh.next e
+
+          by_place : (suc k ≡ n) ⊎ (suc k ≡ n → ⊥) → IsNextCorner mesh cut b c
+          by_place (inl q) = (k, subst (λ (m : ℕ). IsWholeSide mesh cut b m) (sym q) side, here)
+          by_place (inr ne) =
+              absurd (true≢false (sym corner.1 ∙ (ap cut here ∙ side.inside k (omega (arith, l, ne)))))
+
+      by_side : (k : ℕ) → k < n → (mesh.prev c ≡ easts mesh s k) ⊎ (mesh.prev c ≡ easts mesh t k)
+          → IsNextCorner mesh cut s c ⊎ IsNextCorner mesh cut t c
+      by_side k l (inl e) = inl (end s k arc.glued.near l e)
+      by_side k l (inr e) = inr (end t k arc.glued.far l e)
+
+  -- The corners that stay are the others.
+  pub corner_stays : (c : ℕ) → IsCorner mesh cut c → (c ≡ s → ⊥) → (c ≡ t → ⊥) → (IsNextCorner mesh cut s c → ⊥)
+      → (IsNextCorner mesh cut t c → ⊥) → IsCorner mesh rest c
+  corner_stays c corner not_s not_t after_s after_t = (
+    corner.0,
+    still mesh laws cut rest s t n without c corner.0
+        (λ o. elim (on_start c corner o) [ inl e ↦ not_s e | inr e ↦ not_t e ]) corner.1,
+    still mesh laws cut rest s t n without (mesh.prev c) (laws.prev_low c corner.0)
+        (λ o. elim (on_end c corner o) [ inl e ↦ after_s e | inr e ↦ after_t e ]) corner.2,
+  )
+
+  pub corner_was : (c : ℕ) → IsCorner mesh rest c → IsCorner mesh cut c
+  corner_was c corner = (
+    corner.0,
+    less mesh laws cut rest s t n without c corner.0 corner.1,
+    less mesh laws cut rest s t n without (mesh.prev c) (laws.prev_low c corner.0) corner.2,
+  )
+
+  -- A side stays that does not end where the arc begins.
+  pub side_stays : (c m : ℕ) → IsCorner mesh rest c → IsWholeSide mesh cut c m → (IsNextCorner mesh cut c s → ⊥)
+      → (IsNextCorner mesh cut c t → ⊥) → IsWholeSide mesh rest c m
+  side_stays c m corner side not_s not_t = record {
+    some = side.some;
+    corner = corner;
+    inside = λ k l. opened mesh laws cut rest s t n without (mesh.next (easts mesh c k)) (low k (omega (arith, l)))
+        (side.inside k l);
+    ends = λ k e. still mesh laws cut rest s t n without (mesh.next (easts mesh c k)) (low k (omega (arith, e)))
+        (off k e) (side.ends k e);
+  }
+    where
+      low : (k : ℕ) → k < m → mesh.next (easts mesh c k) < mesh.count
+      low k l = laws.next_low (easts mesh c k) (side_low mesh laws cut full c m side k l)
+
+      next : (k : ℕ) → suc k ≡ m → IsNextCorner mesh cut c (mesh.next (easts mesh c k))
+      next k e = (k, subst (λ (x : ℕ). IsWholeSide mesh cut c x) (sym e) side, refl)
+
+      off : (k : ℕ) → suc k ≡ m → IsOnArc mesh s t n (mesh.next (easts mesh c k)) → ⊥
+      off k e o =
+          elim (on_start (mesh.next (easts mesh c k))
+          (next_is_corner mesh laws cut full c (mesh.next (easts mesh c k)) (next k e)) o) [
+            | inl q ↦ not_s (subst (λ (x : ℕ). IsNextCorner mesh cut c x) q (next k e))
+            | inr q ↦ not_t (subst (λ (x : ℕ). IsNextCorner mesh cut c x) q (next k e))
+          ]
+
+  -- The side from p that ends at s goes on along the one from q, which begins where the other side of the arc ends.
+  module _ (p q x a b : ℕ) (before : IsWholeSide mesh cut p (suc a)) (meets : s ≡ mesh.next (easts mesh p a))
+      (behind : IsWholeSide mesh cut q (suc b)) (ends : x ≡ mesh.next (easts mesh q b))
+      (turn : IsNextCorner mesh cut t q)
+      (corner : IsCorner mesh rest p) (other : IsOnArc mesh s t n x → ⊥) where
+    over : easts mesh p (suc a) ≡ q
+    over = at turn.0 turn.1 turn.2
+      where
+        at : (k : ℕ) → IsWholeSide mesh cut t (suc k) → q ≡ mesh.next (easts mesh t k) → easts mesh p (suc a) ≡ q
+        at k side is =
+            let size : suc k ≡ n = one_size mesh laws cut full t (suc k) n side arc.glued.far in
+            ap (λ o. mesh.next (or_zero o)) (ap mesh.twin (sym meets) ∙ arc.glued.across 0 k (omega (arith, size)))
+            ∙ sym is
+
+    along : (i j : ℕ) → i ≡ suc a + j → easts mesh p i ≡ easts mesh q j
+    along i zero e = let here : i ≡ suc a = omega (arith, e) in ap (easts mesh p) here ∙ over
+    along zero (suc j) e = absurd (omega (arith, e))
+    along (suc i) (suc j) e = ap (step_east mesh) (along i j (omega (arith, e)))
+
+    inside : (k : ℕ) → suc k < suc a + suc b → rest (mesh.next (easts mesh p k)) ≡ false
+    inside k l = by_order (cases_order k a)
+      where
+        by_order : (k ≡ a) ⊎ ((k < a) ⊎ (a < k)) → rest (mesh.next (easts mesh p k)) ≡ false
+        by_order (inl e) = ap (λ i. rest (mesh.next (easts mesh p i))) e
+            ∙ (ap rest (sym meets) ∙ without.gone s (0, arc.glued.near.some, inl refl))
+        by_order (inr (inl less)) = opened mesh laws cut rest s t n without (mesh.next (easts mesh p k))
+            (laws.next_low (easts mesh p k) (side_low mesh laws cut full p (suc a) before k (omega (arith, less))))
+            (before.inside k (omega (arith, less)))
+        by_order (inr (inr more)) = later (k - suc a) (omega (arith, more)) (omega (arith, more, l))
+          where
+            later : (j : ℕ) → k ≡ suc a + j → suc j < suc b → rest (mesh.next (easts mesh p k)) ≡ false
+            later j e h = ap (λ z. rest (mesh.next z)) (along k j e)
+                ∙ opened mesh laws cut rest s t n without (mesh.next (easts mesh q j))
+                (laws.next_low (easts mesh q j) (side_low mesh laws cut full q (suc b) behind j (omega (arith, h))))
+                (behind.inside j h)
+
+    last : (k : ℕ) → suc k ≡ suc a + suc b → mesh.next (easts mesh p k) ≡ x
+    last k e = ap mesh.next (along k b (omega (arith, e))) ∙ sym ends
+
+    shut : rest x ≡ true
+    shut = still mesh laws cut rest s t n without x
+        (subst (λ (z : ℕ). z < mesh.count) (sym ends)
+        (laws.next_low (easts mesh q b) (side_low mesh laws cut full q (suc b) behind b (omega arith)))) other
+        (ap cut ends ∙ behind.ends b refl)
+
+    pub grown_side : IsWholeSide mesh rest p (suc a + suc b)
+    grown_side = record {
+      some = omega arith;
+      corner = corner;
+      inside = inside;
+      ends = λ k e. ap rest (last k e) ∙ shut;
+    }
+
+    pub grown_end : x ≡ mesh.next (easts mesh p (suc a + suc b - 1))
+    grown_end = sym (last (suc a + suc b - 1) (omega arith))
+
+  -- The corners of the two patches.
+  module _ (near far : Round) (ones : IsRound mesh cut s near) (others : IsRound mesh cut t far) where
+    pub near_closes : IsNextCorner mesh cut near.fourth s
+    near_closes = closes mesh laws cut full s near.second near.third near.fourth ones.second ones.third ones.fourth
+
+    pub near_corner : IsCorner mesh cut near.fourth
+    near_corner = next_is_corner mesh laws cut full near.third near.fourth ones.fourth
+
+    -- Those of the near patch are none of the far one.
+    foreign : (x : ℕ) → AreInOne mesh cut s x → AreInOne mesh cut t x → ⊥
+    foreign x a b =
+        arc.apart (links_join mesh laws cut s x t a
+        (linked_back mesh laws cut full t x arc.glued.far.corner.0 b))
+
+    near_in : (x : ℕ) → (x ≡ s) ⊎ ((x ≡ near.second) ⊎ ((x ≡ near.third) ⊎ (x ≡ near.fourth))) → AreInOne mesh cut s x
+    near_in x is = around mesh laws cut full s near.second near.third near.fourth ones.second ones.third ones.fourth x
+        is
+
+    far_in : (x : ℕ) → (x ≡ t) ⊎ ((x ≡ far.second) ⊎ ((x ≡ far.third) ⊎ (x ≡ far.fourth))) → AreInOne mesh cut t x
+    far_in x is =
+        around mesh laws cut full t far.second far.third far.fourth others.second others.third others.fourth x is
+
+    near_opposite : near.third ≡ s → ⊥
+    near_opposite e =
+        opposite mesh laws cut full s near.second near.third near.fourth ones.second ones.third ones.fourth e
+
+    pub fourths_differ : near.fourth ≡ far.fourth → ⊥
+    fourths_differ e =
+        foreign near.fourth (near_in near.fourth (inr (inr (inr refl)))) (far_in near.fourth (inr (inr (inr e))))
+
+    -- The corner before the arc stays, and so does the one behind it.
+    pub near_stays : IsCorner mesh rest near.fourth
+    near_stays = corner_stays near.fourth near_corner
+        (λ e. near_opposite (one_next mesh laws cut full near.second near.third s ones.third
+        (subst (λ (x : ℕ). IsNextCorner mesh cut x s) (e ∙ sym (second_is e)) near_closes)))
+        (λ e. foreign near.fourth (near_in near.fourth (inr (inr (inr refl)))) (far_in near.fourth (inl e)))
+        (λ next. near_opposite (one_next mesh laws cut full near.second near.third s ones.third
+        (subst (λ (x : ℕ). IsNextCorner mesh cut x s)
+        (one_next mesh laws cut full s near.fourth near.second next ones.second) near_closes)))
+        (λ next. foreign near.fourth (near_in near.fourth (inr (inr (inr refl)))) (far_in near.fourth
+        (inr (inl (one_next mesh laws cut full t near.fourth far.second next others.second)))))
+      where
+        -- A corner that is the next of itself would be all four.
+        second_is : near.fourth ≡ s → near.second ≡ s
+        second_is e = one_next mesh laws cut full s near.second s ones.second
+            (subst (λ (x : ℕ). IsNextCorner mesh cut x s) e near_closes)
+
+    pub far_third_off : IsOnArc mesh s t n far.third → ⊥
+    far_third_off o = elim (on_start far.third (next_is_corner mesh laws cut full far.second far.third others.third) o) [
+      | inl e ↦ foreign far.third (near_in far.third (inl e)) (far_in far.third (inr (inr (inl refl))))
+      | inr e ↦ opposite mesh laws cut full t far.second far.third far.fourth others.second others.third others.fourth e
+    ]
+
+    -- The side before s, as it goes on.
+    pub near_side : (a b : ℕ) → IsWholeSide mesh cut near.fourth a → IsWholeSide mesh cut far.second b
+        → IsWholeSide mesh rest near.fourth (a + b) × (far.third ≡ mesh.next (easts mesh near.fourth (a + b - 1)))
+    near_side a b one two = at near_closes.0 others.third.0 near_closes.1 others.third.1 near_closes.2 others.third.2
+      where
+        at : (i j : ℕ) → IsWholeSide mesh cut near.fourth (suc i) → IsWholeSide mesh cut far.second (suc j)
+            → s ≡ mesh.next (easts mesh near.fourth i) → far.third ≡ mesh.next (easts mesh far.second j)
+            → IsWholeSide mesh rest near.fourth (a + b)
+            × (far.third ≡ mesh.next (easts mesh near.fourth (a + b - 1)))
+        at i j before behind meets ends =
+            let left : suc i ≡ a = one_size mesh laws cut full near.fourth (suc i) a before one in
+            let right : suc j ≡ b = one_size mesh laws cut full far.second (suc j) b behind two in
+            let sum : suc i + suc j ≡ a + b = omega (arith, left, right) in (
+              subst (λ (m : ℕ). IsWholeSide mesh rest near.fourth m) sum
+                  (grown_side near.fourth far.second far.third i j before meets behind ends others.second near_stays
+                  far_third_off),
+              subst (λ (m : ℕ). far.third ≡ mesh.next (easts mesh near.fourth (m - 1))) sum
+                  (grown_end near.fourth far.second far.third i j before meets behind ends others.second near_stays
+                  far_third_off),
+            )
+
+    -- The dart before the arc stands on it.
+    pub near_over : (m : ℕ) × (k : ℕ) × StandsOn mesh rest near.fourth m k (mesh.prev s)
+    near_over = at near_closes.0 others.third.0 near_closes.1 others.third.1 near_closes.2 others.third.2
+      where
+        at : (i j : ℕ) → IsWholeSide mesh cut near.fourth (suc i) → IsWholeSide mesh cut far.second (suc j)
+            → s ≡ mesh.next (easts mesh near.fourth i) → far.third ≡ mesh.next (easts mesh far.second j)
+            → (m : ℕ) × (k : ℕ) × StandsOn mesh rest near.fourth m k (mesh.prev s)
+        at i j before behind meets ends = (
+          suc i + suc j,
+          i,
+          record {
+            side = grown_side near.fourth far.second far.third i j before meets behind ends others.second near_stays
+                far_third_off;
+            low = omega arith;
+            at = sym (laws.prev_next (easts mesh near.fourth i)) ∙ ap mesh.prev (sym meets);
+          },
+        )

@@ -1,0 +1,14 @@
+use Rattle.std.proofs.Common.{◌≡◌, ◌<◌, ℕ, false}
+use Rattle.def_mesh.specs.Darts.{darts, next_of}
+use Rattle.def_mesh.specs.HalfEdges.{half_edges}
+use Rattle.def_cut.specs.FullCut.{is_on}
+use Rattle.def_cut.specs.Steps.{easts}
+use Rattle.qm_merge.proofs.corners.side_from.Given as goal
+
+-- the walk stands at its next dart, and has not met the end
+abbrev pub invariant-loop-n : goal.invariant-loop-n
+invariant-loop-n l = record {
+  at : l.d ≡ easts (half_edges l.mesh) l.corner l.n;
+  low : l.d < darts l.mesh;
+  inside : (k : ℕ) → k < l.n → is_on l.cut (next_of (easts (half_edges l.mesh) l.corner k)) ≡ false;
+}

@@ -1,0 +1,12 @@
+use Rattle.def_mesh.specs.Darts.{darts}
+use Rattle.def_mesh.specs.HalfEdges.{half_edges}
+use Rattle.def_cut.specs.FullCut.{is_on}
+use Rattle.qm_merge.specs.Links.{AreSides, AreStarts}
+use Rattle.qm_merge.proofs.links.all_links.Given as goal
+
+-- the corners below c are linked
+abbrev pub invariant-loop-c : goal.invariant-loop-c
+invariant-loop-c l = record {
+  sides : AreSides (half_edges l.mesh) (is_on l.cut) l.links.next.items l.links.long.items l.c;
+  starts : AreStarts l.links.starts.items (darts l.mesh);
+}
