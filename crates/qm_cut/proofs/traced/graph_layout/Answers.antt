@@ -10,7 +10,8 @@ pub returns-clause-mesh : goal.returns-clause-mesh
 returns-clause-mesh c =
     let faces = c.args.mesh.now in
     let marks = c.args.graph.now.covered.items in
-    IfOk-weaker c.layout.result (λ t. IsCutLayout faces marks (plan t)) (λ t. (is : IsSomeLayout (plan t)) × (is.faces ≡ faces))
+    IfOk-weaker c.layout.result (λ t. IsCutLayout faces marks (plan t))
+    (λ t. (is : IsSomeLayout (plan t)) × (is.faces ≡ faces))
     (λ t laid. (
       record {
         faces = faces;

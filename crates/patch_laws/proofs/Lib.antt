@@ -1,0 +1,2 @@
+pub mod OneArc
+pub mod Chosen

@@ -1,0 +1,15 @@
+use Rattle.std.proofs.Common.{option_copied}
+use Rattle.std.proofs.lemmas.Result.{IfOk-weaker}
+use Rattle.patch_laws.proofs.Chosen.{chosen_cut_law}
+use Rattle.qm_cut.proofs.chosen.chosen_layout.Goals as goal
+
+pub graph_layout-requires : goal.graph_layout-requires
+graph_layout-requires c = record {
+  cut = chosen_cut_law c.args.mesh.now (option_copied c.args.kept) c.args.patches c.in_ok-graph.graph.covered.items
+      c.faces-known.ensures.mesh.manifold c.requires c.in_ok-graph.ensures;
+}
+
+pub returns-clause-chosen : goal.returns-clause-chosen
+returns-clause-chosen c =
+    IfOk-weaker c.graph_layout.result _ _
+    (λ t laid. (c.in_ok-graph.graph.covered.items, c.in_ok-graph.ensures, laid)) c.graph_layout.ensures.laid
