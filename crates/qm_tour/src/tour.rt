@@ -13,17 +13,21 @@ pub type Memory = AllocError;
 /// Keys, seen as their list. The key `u64::MAX` stands for none.
 ///
 /// Node `k` has the lesser of the keys of nodes `2 k` and `2 k + 1`; the leaves are the nodes from `room` on.
-/// The coin decides between leaves of one least key. It is tossed by each `set`, and begins alike in each tournament,
-/// so that runs on the same keys are alike.
+/// The coin decides between leaves of one least key. It stands for some time, in which ties lead to one part of the
+/// tree, whose nodes are at hand. It begins alike in each tournament, so that runs on the same keys are alike.
 #[derive(Drop)]
 pub struct Tour {
     keys: Vec<u64>,
     room: usize,
     coin: u64,
+    sets: u32,
 }
 
 /// What the coin of a new tournament shows.
 const FIRST_COIN: u64 = 0x9e37_79b9_7f4a_7c15;
+
+/// The coin is tossed after each so many calls of `set`.
+const STANDING: u32 = 1_024;
 
 impl Model for Tour {
     ghost use Rattle.std.specs.Prelude.{ℕ, List, drop};
@@ -47,6 +51,7 @@ impl Tour {
             keys: vec![in alloc; u64::MAX; room + room]?,
             room,
             coin: FIRST_COIN,
+            sets: 0,
         })
     }
 
@@ -74,7 +79,10 @@ impl Tour {
     {
         let place = self.room + leaf;
         self.keys[place] = key;
-        self.coin = toss(self.coin);
+        self.sets = self.sets.wrapping_add(1);
+        if self.sets % STANDING == 0 {
+            self.coin = toss(self.coin);
+        }
         settle(&mut self.keys, self.room, place / 2);
     }
 }
