@@ -5,5 +5,6 @@ mod Taken
 mod Turned
 mod Ready
 mod Raised
+pub mod Costs
 pub mod Outcomes
 pub mod Edges

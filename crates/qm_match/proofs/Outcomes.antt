@@ -6,7 +6,7 @@ use Rattle.std.proofs.lemmas.Bool.{cases_lt}
 use Rattle.std.proofs.lemmas.List.{get_or_past}
 use Rattle.def_math.specs.Increasing.{IsIncreasing}
 use Rattle.def_matching.specs.Matching.{WeightedGraph, IsCheap, IsGraph, IsSmallGraph, edge_at}
-use Rattle.def_matching.specs.Dual.{DualLists, IsSmallDual, SaysYes, dual_sum, verdict}
+use Rattle.def_matching.specs.Dual.{AreSmall, DualLists, IsSmallDual, SaysYes, dual_sum, verdict}
 use Rattle.def_matching.specs.declared.limits.TheConstants.{MAX_PRODUCT}
 use Rattle.def_matching.specs.declared.weighted.WEdge.{WEdge}
 use Rattle.def_matching.specs.declared.weighted.Verdict.TheVariants.{Yes}
@@ -108,6 +108,14 @@ wished_first g ys y same small cheap long near feasible = subst (λ (zs : List �
       omega (arith, times_low g.n (unsigned_abs (get_or ys v (pos 0))) (2 * w.0 + MAX_WISH) (near w.0 w.1 v), times_sum g.n w.0, w.2, small.vertices));
   feasible = feasible;
 })
+
+-- They are small, too.
+pub wished_small : (g : WeightedGraph) (ys y : List ℤ) → y ≡ ys → IsCheap g → length ys ≡ g.n
+    → ((most : ℕ) → AreCostsBelow g most → (v : ℕ) → unsigned_abs (get_or ys v (pos 0)) ≤ 2 * most + MAX_WISH)
+    → AreSmall y
+wished_small g ys y same cheap long near = subst (λ (zs : List ℤ). AreSmall zs) (sym same) (λ v l. (
+    let w : (most : ℕ) × AreCostsBelow g most × (g.n * most ≤ MAX_PRODUCT) = greatest g cheap in
+    omega (arith, near w.0 w.1 v, w.2, one_of g.n w.0 (omega (arith, l, long)))))
 
 -- The dual of a forest in range is small.
 pub small_dual : (g : WeightedGraph) (s : Search) (d : DualLists) → IsIdle g s → HasPerfect g → IsDualOf (length s.forest.hand) (forest_of s.forest) d → 2 * length d.z ≤ length s.forest.hand → IsSmallDual d

@@ -12,6 +12,7 @@ use crate::Memory;
 use crate::fans::fans_of;
 use crate::first::{First, are_small, led};
 use crate::search::Search;
+use crate::shown::shown_by;
 use crate::start::search_of;
 use crate::weights::first_weights;
 use def_matching::{Dual, Verdict, WGraph};
@@ -181,7 +182,8 @@ pub fn best_from(
     Ok(matcher.run(g, known))
 }
 
-/// The same, from first weights near wished ones. Any wish will do.
+/// The same, from first weights near wished ones. Any wish will do. Where the weights show the known matching to be
+/// least, nothing is searched.
 pub fn best_near(
     alloc: Global,
     g: &WGraph,
@@ -199,6 +201,9 @@ pub fn best_near(
         ≡ Verdict.Yes (pos 2 *ℤ matching_cost (graph g.now) found.0.items)) }
 {
     let y = initial_dual(alloc, g, wish)?;
+    if let Some(dual) = shown_by(alloc, g, known, &y)? {
+        return Ok((Vec::from_slice(alloc, known)?, dual));
+    }
     let matcher = Matcher::new_led(alloc, g, known, y)?;
     Ok(matcher.run(g, known))
 }
