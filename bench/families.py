@@ -3,16 +3,21 @@
 sizes each, so that a family whose time or memory grows faster than its meshes is seen.
 
 usage: bench/families.py [--against PROGRAM] [NAME..]     NAME: these families alone
+       bench/families.py --memory                         the bound of memory, on the meshes that come nearest to it
 
 Seconds are of the processor, the least of some runs, and the exponent is that of the time between the two larger sizes:
 1 where twice the faces take twice the time. With --against another program runs by turns with quadq, and a last column
 has quadq's seconds by its own. QUADQ may name the program, which is dist/quadq else. The meshes are those of
 bench/meshes.cpp (with g++).
+
+The bound of memory is by the faces and by the tangle, which status 9 tells where it is too great: sixteen times the sum
+of the squares of how many arcs meet each direction of each patch. With --memory the status is 1 where a run passes it.
 """
 import argparse
 import math
 import os
 import subprocess
+import sys
 import tempfile
 from typing import NamedTuple
 
@@ -37,6 +42,20 @@ FAMILIES = {
     "combs, cut alone": Family("comb {}", ("10667", "42667", "85333"), "graph"),
     "fans": Family("fan {}", ("60000", "120000", "240000"), "remesh --scale 7/1 --floor auto --weight length"),
 }
+# What takes the most memory by its faces and its tangle.
+HEAVIEST = [
+    ("fan 240000", "remesh --scale 7/1 --floor auto --weight length"),
+    ("steps 8000", "remesh --scale 1/1 --floor 3 --weight plain"),
+    ("voxels 100", "remesh --scale 7/2 --floor 1 --weight plain"),
+    ("plate 684", "remesh --scale 1/1 --floor 3 --weight plain"),
+    ("hills 112", "remesh --scale 7/2 --floor 2 --weight length"),
+    ("torus 126 4", "size --edge 30 --floor 1"),
+    ("torus 252 4", "size --edge 130 --floor 1"),
+    ("torus 252 20", "remesh --scale 1/1 --floor 3 --weight length"),
+    ("holes 1024 1024", "remesh --scale 1/2 --floor auto --weight plain"),
+]
+# The bound: so many megabytes, and bytes for each face and for each of the tangle.
+AT_FIRST, A_FACE, A_TANGLE = 16, 250, 48
 HEAD = "| family | faces | new faces | seconds | exponent | s a million faces | MB | bytes a face |"
 
 
@@ -79,16 +98,47 @@ def rows(name, programs, room):
         yield "| " + " | ".join(cells) + " |"
 
 
+def tangle_of(text):
+    """Sixteen times the sum of the squares of how many arcs meet each direction of each patch of a graph text."""
+    squares = many = 0
+    for line in text.splitlines():
+        word, _, arcs = line.partition(b" ")
+        if word in (b"south", b"east"):
+            many = len(arcs.split())
+        elif word in (b"north", b"west"):
+            squares += (many + len(arcs.split())) ** 2
+    return 16 * squares
+
+
+def hold_memory(quadq, room):
+    """Whether each of the heaviest runs keeps the bound of memory."""
+    print("| mesh | faces | tangle | MB | the bound |\n|---|---|---|---|---|")
+    is_kept = True
+    for name, words in HEAVIEST:
+        mesh = made(name, room)
+        with open(mesh, "rb") as text:
+            graph = subprocess.run([quadq, "graph"], stdin=text, stdout=subprocess.PIPE, check=True).stdout
+        faces, tangle = count_lines(mesh, b"f "), tangle_of(graph)
+        _, _, megabytes, _ = taken([quadq, *words.split()], mesh, f"{room}/out")
+        most = AT_FIRST + (A_FACE * faces + A_TANGLE * tangle) / 2**20
+        is_kept = is_kept and megabytes <= most
+        print(f"| {name}, `{words}` | {faces:,} | {tangle:,} | {megabytes:.0f} | {most:.0f} |", flush=True)
+    return is_kept
+
+
 def main():
     parser = argparse.ArgumentParser(description=__doc__, formatter_class=argparse.RawDescriptionHelpFormatter)
     parser.add_argument("--against")
+    parser.add_argument("--memory", action="store_true")
     parser.add_argument("names", nargs="*", metavar="NAME", help=", ".join(FAMILIES))
     chosen = parser.parse_args()
     programs = [program()] + ([chosen.against] if chosen.against else [])
-    print(HEAD + (" by the other |" if chosen.against else ""))
-    print("|---" * (9 if chosen.against else 8) + "|")
     with tempfile.TemporaryDirectory() as room:
         subprocess.run(["g++", "-O2", "-std=c++20", "-o", f"{room}/meshes", f"{ROOT}/bench/meshes.cpp"], check=True)
+        if chosen.memory:
+            sys.exit(0 if hold_memory(programs[0], room) else 1)
+        print(HEAD + (" by the other |" if chosen.against else ""))
+        print("|---" * (9 if chosen.against else 8) + "|")
         for name in chosen.names or FAMILIES:
             for row in rows(name, programs, room):
                 print(row, flush=True)

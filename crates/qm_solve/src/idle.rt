@@ -18,6 +18,9 @@ pub(crate) fn without_idle_sets(alloc: Global, g: &WGraph, d: Dual) -> Result<Du
     ensures same { IfOk result (λ kept. verdict (graph g.now) (dual kept) ≡ verdict (graph g.now) (dual d)) }
     ensures small { IfOk result (λ kept. IsSmallDual (dual kept)) }
 {
+    if d.z.is_empty() {
+        return Ok(d);
+    }
     let Verdict::Yes { sum: old } = dual_ok(alloc, g, &d)? else {
         return Ok(d);
     };

@@ -2,8 +2,7 @@
 
 ghost use Rattle.std.specs.Prelude.{◌≡◌, ◌≤◌, ◌<◌, ◌^◌, ◌*◌, ℕ, pos, length, slice_index_or};
 ghost use Rattle.std.specs.Prelude.{unsigned_abs, IfOk};
-ghost use Rattle.def_math.specs.Increasing.{IsIncreasing};
-ghost use Rattle.def_matching.specs.Matching.{graph, matching_cost, IsGraph};
+ghost use Rattle.def_matching.specs.Matching.{graph, IsGraph};
 ghost use Rattle.def_flow.specs.Network.{network, tangle_number, IsWithinBounds};
 ghost use Rattle.def_flow.specs.Admissible.{entries, AreNetLengths, IsAdmissible};
 ghost use Rattle.qm_solve.specs.Rounds.{IsRound};
@@ -12,10 +11,10 @@ use crate::Memory;
 use crate::idle::without_idle_sets;
 use crate::priced::wishes_of;
 use def_flow::{Gadget, MAX_STEP, MAX_TANGLE, Net};
-use def_matching::{Dual, WGraph};
+use def_matching::Dual;
 use qm_gadget::{graph_of, lengths_of, matching_of};
 use qm_initial::{MAX_WISH, least_costs};
-use qm_match::best_near;
+use qm_match::{best_near, cost_of};
 use std::alloc::Global;
 
 /// What a round finds: a list of less deviation, or a dual by which no list a few steps away has less.
@@ -70,17 +69,4 @@ pub fn first_wishes(
     } else {
         least_costs(alloc, &gadget.graph)
     }
-}
-
-/// The cost of a matching. Linear in its edges.
-pub(crate) fn cost_of(g: &WGraph, matching: &[u32]) -> i128
-    requires few { length g.now.edges.items ≤ 2 ^ 30 }
-    requires increasing { IsIncreasing 0 (length g.now.edges.items) matching.now }
-    ensures { result ≡ matching_cost (graph g.now) matching.now }
-{
-    let mut cost = 0i128;
-    for edge in matching {
-        cost += i128::from(g.edges[*edge as usize].cost);
-    }
-    cost
 }

@@ -85,12 +85,22 @@ impl Slope {
     pub(crate) fn least(&self, floor: u64) -> u64
         ensures { floor ≤ result }
     {
-        for turn in &self.turns {
-            if turn.rise > 0 {
-                return floor.max(turn.from);
-            }
+        floor.max(self.first_from(1).unwrap_or(floor))
+    }
+
+    /// The first length at which one more costs at least so much, if there is one. Logarithmic in the turns.
+    pub(crate) fn first_from(&self, rise: i64) -> Option<u64> {
+        if self.before >= rise {
+            return Some(0);
         }
-        floor
+        let turns = self.turns.as_slice();
+        let less = turns.partition_point(|turn| turn.rise < rise);
+        turns.get(less).map(|turn| turn.from)
+    }
+
+    /// The most that one more saves at any length.
+    pub(crate) fn most_saved(&self) -> u64 {
+        self.before.min(0).unsigned_abs()
     }
 }
 

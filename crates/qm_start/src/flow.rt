@@ -4,7 +4,9 @@ ghost use Rattle.std.specs.Prelude.{◌≡◌, ◌*◌, ◌<◌, ◌≤◌, leng
 ghost use Rattle.qm_start.specs.Tables.{IsCover, IsOver, exit_count, way_count};
 
 use crate::Memory;
+use crate::costs::Slope;
 use crate::cover::{Cover, Step, Way};
+use crate::scaling::first_scale;
 use def_flow::MAX_LENGTH;
 use std::alloc::Global;
 
@@ -23,13 +25,15 @@ pub(crate) struct Flow {
     /// the first of them, and a step along one goes half of it on both; what is too much is counted in halves, and the
     /// ground takes all.
     pub(crate) mirrored: bool,
+    /// How many bits of the costs are left out.
+    pub(crate) scale: u32,
     pub(crate) lengths: Vec<u64>,
     pub(crate) excess: Vec<i64>,
     pub(crate) prices: Vec<i64>,
     pub(crate) costs: Vec<i64>,
 }
 
-/// The mirrored flow of the lengths of least cost. Linear.
+/// The mirrored flow of the lengths of least cost, which they are at each scale. Linear.
 pub(crate) fn first_flow(alloc: Global, cover: &Cover) -> Result<Flow, Memory>
     requires { IsCover cover.now }
     ensures { IfOk result (IsOver cover.now) }
@@ -40,6 +44,7 @@ pub(crate) fn first_flow(alloc: Global, cover: &Cover) -> Result<Flow, Memory>
     }
     let mut flow = Flow {
         mirrored: true,
+        scale: first_scale(cover),
         lengths,
         excess: vec![in alloc; 0i64; cover.nodes as usize]?,
         prices: vec![in alloc; 0i64; cover.nodes as usize]?,
@@ -82,7 +87,7 @@ pub(crate) fn share(cover: &Cover, lengths: &[u64], flow: &mut Flow)
 }
 
 /// Adds up at each node what its ways bring, and finds what each step costs.
-fn weigh(cover: &Cover, flow: &mut Flow)
+pub(crate) fn weigh(cover: &Cover, flow: &mut Flow)
     requires cover { IsCover cover.now }
     requires flow { IsOver cover.now flow.old }
     ensures { IsOver cover.now flow.new }
@@ -127,6 +132,11 @@ impl Flow {
         if self.mirrored { 2 } else { 1 }
     }
 
+    /// What a step beyond a length costs, with the bits that the scale leaves.
+    fn rise(&self, slope: &Slope, length: u64) -> i64 {
+        slope.rise(length / self.fold()) >> self.scale.min(63)
+    }
+
     /// What an exit costs by prices, at which no step of a least flow costs less than nothing.
     #[inline(always)]
     pub(crate) fn reduced(&self, price: i64, place: u32, to: u32) -> i64
@@ -164,12 +174,12 @@ fn charge(cover: &Cover, flow: &mut Flow, way: u32)
     let more = cover.place(Step { way, more: true });
     let less = cover.place(Step { way, more: false });
     flow.costs[more as usize] = if length < fold * MAX_LENGTH {
-        slope.rise(length / fold).saturating_mul(2)
+        flow.rise(slope, length).saturating_mul(2)
     } else {
         BARRED
     };
     flow.costs[less as usize] = if length > cover.floor.saturating_mul(fold) {
-        slope.rise((length - 1) / fold).saturating_mul(-2)
+        flow.rise(slope, length - 1).saturating_mul(-2)
     } else {
         BARRED
     };
@@ -186,12 +196,12 @@ pub(crate) fn is_even(cover: &Cover, flow: &Flow, step: Step, times: u64) -> boo
     if step.more {
         length <= fold * MAX_LENGTH
             && times <= fold * MAX_LENGTH - length
-            && slope.rise(length / fold) == slope.rise((length + times - 1) / fold)
+            && flow.rise(slope, length) == flow.rise(slope, length + times - 1)
     } else {
         let least = cover.floor.saturating_mul(fold);
         length > least
             && times <= length - least
-            && slope.rise((length - 1) / fold) == slope.rise((length - times) / fold)
+            && flow.rise(slope, length - 1) == flow.rise(slope, length - times)
     }
 }
 

@@ -8,6 +8,7 @@
 #![tactic(auto)]
 
 mod blocking;
+mod centering;
 mod chains;
 mod costs;
 mod cover;
@@ -16,6 +17,7 @@ mod levels;
 mod phases;
 mod pricing;
 mod repair;
+mod scaling;
 mod search;
 mod start;
 mod trails;

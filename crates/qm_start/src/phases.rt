@@ -7,10 +7,12 @@ ghost use Rattle.qm_start.specs.Tables.{AreSources, IsCover, IsLevels, IsOver, I
 
 use crate::Memory;
 use crate::blocking::{Course, begin, flow_on, no_course};
+use crate::centering::center;
 use crate::cover::Cover;
 use crate::flow::{Flow, unfold};
 use crate::levels::{Levels, find_levels, no_levels};
 use crate::pricing::reprice;
+use crate::scaling::{FINER, refine};
 use crate::search::{Search, no_search};
 use std::alloc::Global;
 
@@ -33,7 +35,8 @@ struct Room {
 }
 
 /// Brings what is too much at nodes to where there is too little, at least cost, until each node is balanced or the
-/// fuel runs out. First in mirrored form, where both ways of a chain have one length; what that leaves then.
+/// fuel runs out. First in mirrored form, where both ways of a chain have one length, from scale to scale; what that
+/// leaves then.
 pub(crate) fn relax(
     alloc: Global,
     cover: &Cover,
@@ -49,11 +52,38 @@ pub(crate) fn relax(
         course: no_course(alloc, cover)?,
         search: no_search(alloc, cover)?,
     };
-    let mut sources = sources_of(alloc, cover, flow)?;
-    run(cover, flow, &mut sources, &mut room, fuel)?;
+    let is_scaled = flow.scale > 0;
+    let mut scale = flow.scale;
+    while scale > 0 {
+        balance(alloc, cover, flow, &mut room, fuel)?;
+        scale = scale.saturating_sub(FINER);
+        refine(cover, flow, scale);
+    }
+    balance(alloc, cover, flow, &mut room, fuel)?;
     unfold(cover, flow);
+    balance(alloc, cover, flow, &mut room, fuel)?;
+    if is_scaled {
+        return center(cover, flow, &mut room.search, fuel);
+    }
+    Ok(())
+}
+
+/// Brings away what is too much, as far as the form and the scale of a flow allow.
+fn balance(
+    alloc: Global,
+    cover: &Cover,
+    flow: &mut Flow,
+    room: &mut Room,
+    fuel: &mut u32,
+) -> Result<(), Memory>
+    requires cover { IsCover cover.now }
+    requires flow { IsOver cover.now flow.old }
+    requires room { IsRoom cover.now room.old }
+    ensures flow { OnOk result (IsOver cover.now flow.new) }
+    ensures room { OnOk result (IsRoom cover.now room.new) }
+{
     let mut sources = sources_of(alloc, cover, flow)?;
-    run(cover, flow, &mut sources, &mut room, fuel)
+    run(cover, flow, &mut sources, room, fuel)
 }
 
 /// The nodes that have too much at first.
