@@ -1,5 +1,6 @@
 -- Why a layout is not remeshed with edges of a given length.
 use Rattle.std.specs.Prelude.{◌≡◌, ℕ, ◌<◌, ◌≤◌, false, ⊤}
+use Rattle.def_flow.specs.declared.net.Settings.{Settings}
 use Rattle.def_layout.specs.Plans.{Plan}
 use Rattle.def_layoutnet.specs.declared.NetFail.{NetFail}
 use Rattle.def_layoutnet.specs.declared.NetFail.TheVariants as nets
@@ -18,16 +19,16 @@ abbrev pub AreNear : (wish : Wish) (plan : Plan) → Type 0
 AreNear wish plan = wish_sum wish plan ≤ MAX_TARGETS
 
 -- They add up to this sum, which is too great, and their network is not too tangled.
-pub record IsFar (wish : Wish) (plan : Plan) (floor sum : ℕ) : Type 0 where
-  pub untangled : (count : ℕ) → ¬ IsTangledAt wish plan (edge_settings floor) count
+pub record IsFar (wish : Wish) (plan : Plan) (settings : Settings) (sum : ℕ) : Type 0 where
+  pub untangled : (count : ℕ) → ¬ IsTangledAt wish plan settings count
   pub told : sum ≡ wish_sum wish plan
   pub high : MAX_TARGETS < sum
 
 -- Why a layout has no network for these targets. Want of memory says nothing of them.
-abbrev pub HasNoTargets : (wish : Wish) (plan : Plan) (floor : ℕ) (fail : MetricFail) → Type 0
-HasNoTargets wish plan floor (Tangled count) = IsTangledAt wish plan (edge_settings floor) count
-HasNoTargets wish plan floor (Far sum) = IsFar wish plan floor sum
-HasNoTargets wish plan floor Memory = ⊤
+abbrev pub HasNoTargets : (wish : Wish) (plan : Plan) (settings : Settings) (fail : MetricFail) → Type 0
+HasNoTargets wish plan settings (Tangled count) = IsTangledAt wish plan settings count
+HasNoTargets wish plan settings (Far sum) = IsFar wish plan settings sum
+HasNoTargets wish plan settings Memory = ⊤
 
 -- A layout that has no network at all has none for them.
 abbrev pub metric_fail_of : (fail : NetFail) → MetricFail
@@ -42,7 +43,7 @@ size_fail_of Memory = sizes.Layout layouts.Memory
 
 -- Why it is not remeshed: it has no network, or least lengths give too many faces or double an edge.
 abbrev pub IsSizeFail : (wish : Wish) (plan : Plan) (floor : ℕ) (fail : SizeFail) → Type 0
-IsSizeFail wish plan floor (sizes.Far sum) = IsFar wish plan floor sum
+IsSizeFail wish plan floor (sizes.Far sum) = IsFar wish plan (edge_settings floor) sum
 IsSizeFail wish plan floor (sizes.Layout (layouts.Tangled count)) = IsTangledAt wish plan (edge_settings floor) count
 IsSizeFail wish plan floor (sizes.Layout layouts.Memory) = ⊤
 IsSizeFail wish plan floor (sizes.Layout failed) =

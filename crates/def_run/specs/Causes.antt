@@ -14,6 +14,9 @@ use Rattle.def_run.specs.Check.{RefusesToCheck, WritesAccepted}
 use Rattle.def_run.specs.Coarse.{AsksToMerge}
 use Rattle.def_run.specs.CommandLines.{IsCommand}
 use Rattle.def_run.specs.Crease.{AsksToCrease, HasCreased, RefusesToCrease}
+use Rattle.def_run.specs.Fit.{AsksForNearFit, HasFit, RefusesFit}
+use Rattle.def_run.specs.Grids.{HasGrids, RefusesGrids, WritesGrids}
+use Rattle.def_run.specs.LayOut.{HasKept, RefusesToLayOut, WritesLayout}
 use Rattle.def_run.specs.Graph.{RefusesToTrace, WritesGraph}
 use Rattle.def_run.specs.Map.{HasMap, RefusesToMap, WritesMap}
 use Rattle.def_run.specs.Mesh.{HasMesh}
@@ -25,7 +28,7 @@ use Rattle.def_run.specs.declared.answer.Answer.{Answer}
 use Rattle.def_run.specs.declared.answer.Answer.TheVariants.{Done, Usage, Limit, ReadFault, WriteFault, Memory}
 use Rattle.def_run.specs.declared.command.Command.{Command}
 use Rattle.def_run.specs.declared.command.Command.TheVariants.{Tidy, Graph, Refine, Remesh, Check, Bench, Crease, Size, Coarse}
-use Rattle.def_run.specs.declared.command.Command.TheVariants.{Blocks, Map}
+use Rattle.def_run.specs.declared.command.Command.TheVariants.{Blocks, Map, Fit, LayOut, Grids}
 
 -- The text that a command writes for the bytes that it read.
 abbrev pub Writes : (command : Command) (bytes text : Bytes) → Type 0
@@ -40,6 +43,9 @@ Writes (Size edge floor) bytes text = WritesFinished (AsksForNearSize edge floor
 Writes (Coarse settings) bytes text = WritesFinished (AsksToMerge settings) bytes text
 Writes (Blocks by) bytes text = WritesBlocks by bytes text
 Writes Map bytes text = WritesMap bytes text
+Writes (Fit fit) bytes text = WritesFinished (AsksForNearFit fit) bytes text
+Writes (LayOut keep patches) bytes text = WritesLayout keep patches bytes text
+Writes (Grids keep patches by) bytes text = WritesGrids keep patches by bytes text
 
 -- The answer with which a command refuses the bytes that it read.
 abbrev pub Refuses : (command : Command) (bytes : Bytes) (answer : Answer) → Type 0
@@ -54,6 +60,9 @@ Refuses (Size edge floor) bytes answer = RefusesSize edge floor bytes answer
 Refuses (Coarse settings) bytes answer = RefusesTask (AsksToMerge settings) bytes answer
 Refuses (Blocks by) bytes answer = RefusesToRefine by bytes answer
 Refuses Map bytes answer = RefusesToMap bytes answer
+Refuses (Fit fit) bytes answer = RefusesFit fit bytes answer
+Refuses (LayOut keep patches) bytes answer = RefusesToLayOut keep bytes answer
+Refuses (Grids keep patches by) bytes answer = RefusesGrids keep patches by bytes answer
 
 -- The bytes for which a command has a text to write, whatever is free in it.
 abbrev pub Takes : (command : Command) (bytes : Bytes) → Type 0
@@ -68,6 +77,9 @@ Takes (Size edge floor) bytes = HasSize edge floor bytes
 Takes (Coarse settings) bytes = HasFinished (AsksToMerge settings) bytes
 Takes (Blocks by) bytes = HasRefined by bytes
 Takes Map bytes = HasMap bytes
+Takes (Fit fit) bytes = HasFit fit bytes
+Takes (LayOut keep patches) bytes = HasKept keep bytes
+Takes (Grids keep patches by) bytes = HasGrids keep patches by bytes
 
 -- The source is as it was, as far as it tells.
 abbrev pub IsUnread : (input : Change) → Type 0

@@ -8,7 +8,6 @@ use Rattle.def_flow.specs.Network.{Network}
 use Rattle.def_flow.specs.declared.net.Settings.{Settings}
 use Rattle.def_io.specs.Bytes.{Bytes}
 use Rattle.def_io.specs.Lines.{lines_of}
-use Rattle.def_layout.specs.Arcs.{long_at}
 use Rattle.def_layout.specs.Plans.{Plan, layout_of}
 use Rattle.def_layoutnet.specs.LayoutNet.{IsNetOf}
 use Rattle.def_mesh.specs.Faults.{IsFirstFault}
@@ -37,7 +36,8 @@ pub record IsCountedPair (bytes : Bytes) (arcs faces deviates : ℕ) : Type 0 wh
   pub arcs_told : arcs ≡ length pair.remeshed.plan.arcs
   pub faces_told : faces ≡ face_count (layout_of pair.remeshed.plan) (lengths_in (used pair.remeshed.certificates).x)
   pub net : Network
-  pub of_layout : IsNetOf (layout_of pair.remeshed.plan) (long_at pair.remeshed.plan.arcs) pair.settings net
+  pub of_layout : IsNetOf (layout_of pair.remeshed.plan) (old_lengths pair.remeshed.plan)
+      (old_lengths pair.remeshed.plan) pair.settings net
   pub deviation_told : deviates ≡ deviation net (entries (used pair.remeshed.certificates).x)
 
 -- For these bytes it writes this text: the line that accepts them, with the numbers of arcs and of new faces and the

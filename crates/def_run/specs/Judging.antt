@@ -17,7 +17,7 @@ use Rattle.def_remesh.specs.NewPoints.{lengths_in}
 use Rattle.def_remesh.specs.Certified.{AreKept, certificate_of, IsCertified}
 use Rattle.def_remesh.specs.Refusals.{AreTooFine}
 use Rattle.def_remesh.specs.Remeshed.{AreCoarse, AreDoubled, finished_text, with_floor}
-use Rattle.def_remesh.specs.Tasks.{Task, Wish}
+use Rattle.def_remesh.specs.Tasks.{old_lengths, Task, Wish}
 use Rattle.def_text.specs.FaceSet.{FaceSet}
 use Rattle.def_written.specs.Edges.{IsFirstDoubled, IsUndoubled}
 use Rattle.def_run.specs.declared.answer.Why.{Why}
@@ -47,7 +47,7 @@ TellsMade judged made = TellHow (head_line judged.task.settings judged.task.auto
 -- The verdict on a certificate for a layout with these wished lengths and settings.
 pub record HasVerdict (wish : Wish) (plan : Plan) (settings : Settings) (cert : Lists) (verdict : CertVerdict) : Type 0 where
   pub net : Network
-  pub of_layout : IsNetOf (layout_of plan) (wish plan) settings net
+  pub of_layout : IsNetOf (layout_of plan) (old_lengths plan) (wish plan) settings net
   pub told : verdict ≡ cert_verdict net (certificate_of cert)
   pub refuted : (d : ℤ) → verdict ≢ certs.Yes d
 

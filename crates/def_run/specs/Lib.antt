@@ -8,9 +8,12 @@ pub mod CommandLines
 pub mod Crease
 pub mod ErrorLines
 pub mod Exits
+pub mod Fit
 pub mod Graph
+pub mod Grids
 pub mod Heads
 pub mod Judging
+pub mod LayOut
 pub mod Map
 pub mod MapFails
 pub mod MarkLines

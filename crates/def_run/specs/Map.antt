@@ -15,6 +15,7 @@ use Rattle.def_text.specs.FaceSet.{FaceSet}
 use Rattle.def_run.specs.Check.{head_of}
 use Rattle.def_run.specs.Coarse.{AsksToMerge}
 use Rattle.def_run.specs.Crease.{AsksToCrease, RefusesToCrease}
+use Rattle.def_run.specs.Fit.{AsksForNearFit, RefusesFit}
 use Rattle.def_run.specs.Judging.{DifferFrom, IsReason, Judged}
 use Rattle.def_run.specs.MarkLines.{front_of, HasNoMark, IsLastMark, IsMarkLine}
 use Rattle.def_run.specs.Mesh.{IsMeshText, IsNoMesh}
@@ -26,7 +27,7 @@ use Rattle.def_run.specs.declared.answer.Answer.TheVariants.{NotAccepted, TooFin
 use Rattle.def_run.specs.declared.answer.Why.{Why}
 use Rattle.def_run.specs.declared.answer.Why.TheVariants as why
 use Rattle.def_run.specs.declared.command.Command.{Command}
-use Rattle.def_run.specs.declared.command.Command.TheVariants.{Refine, Remesh, Crease, Size, Coarse}
+use Rattle.def_run.specs.declared.command.Command.TheVariants.{Refine, Remesh, Crease, Size, Coarse, Fit}
 
 -- What a command that finds least lengths asks for.
 abbrev pub asks_of : (command : Command) → Asks
@@ -34,6 +35,7 @@ asks_of (Remesh settings auto) = AsksToRemesh settings auto
 asks_of (Crease settings) = AsksToCrease settings
 asks_of (Size edge floor) = AsksForNearSize edge floor
 asks_of (Coarse settings) = AsksToMerge settings
+asks_of (Fit fit) = AsksForNearFit fit
 asks_of _ = λ bytes soup task. ⊥
 
 -- The text of a new mesh that a command writes for the text of a mesh.
@@ -59,6 +61,7 @@ IsMapOf (Remesh settings auto) front text said map = map ≡ finished_map (AsksT
 IsMapOf (Crease settings) front text said map = map ≡ finished_map (AsksToCrease settings) front text said
 IsMapOf (Size edge floor) front text said map = map ≡ finished_map (AsksForNearSize edge floor) front text said
 IsMapOf (Coarse settings) front text said map = map ≡ finished_map (AsksToMerge settings) front text said
+IsMapOf (Fit fit) front text said map = map ≡ finished_map (AsksForNearFit fit) front text said
 IsMapOf _ front text said map = ⊥
 
 -- For these bytes it writes this text. The last line that begins as a head line does is that of a command; from it on the
@@ -104,6 +107,7 @@ abbrev pub RefusesNew : (command : Command) (front : Bytes) (answer : Answer) �
 RefusesNew (Refine by) front answer = RefusesToRefine by front answer
 RefusesNew (Crease settings) front answer = RefusesToCrease settings front answer
 RefusesNew (Size edge floor) front answer = RefusesSize edge floor front answer
+RefusesNew (Fit fit) front answer = RefusesFit fit front answer
 RefusesNew command front answer = RefusesTask (asks_of command) front answer
 
 -- The command of the line refuses the bytes before it.

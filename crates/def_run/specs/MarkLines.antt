@@ -5,6 +5,9 @@ use Rattle.std.specs.List.{flat_map, starts_with}
 use Rattle.def_certtext.specs.HeadLine.{HasNoLine, IsLastLine}
 use Rattle.def_certtext.specs.Reading.{IsHead}
 use Rattle.def_certtext.specs.Settings.{AreInRange}
+use Rattle.def_fit.specs.Aims.{IsFit}
+use Rattle.def_fit.specs.FitWords.{fit_head}
+use Rattle.def_fit.specs.declared.fit.Fit.{Fit as AnyFit}
 use Rattle.def_flow.specs.declared.limits.TheConstants.{MAX_FLOOR}
 use Rattle.def_flow.specs.declared.net.Settings.{Settings}
 use Rattle.def_io.specs.Bytes.{Bytes, Lines}
@@ -14,7 +17,7 @@ use Rattle.def_text.specs.declared.limits.TheConstants.{MAX_MICRO}
 use Rattle.def_run.specs.Heads.{named_head}
 use Rattle.def_run.specs.Size.{size_head}
 use Rattle.def_run.specs.declared.command.Command.{Command}
-use Rattle.def_run.specs.declared.command.Command.TheVariants.{Refine, Remesh, Crease, Size, Coarse}
+use Rattle.def_run.specs.declared.command.Command.TheVariants.{Refine, Remesh, Crease, Size, Coarse, Fit}
 use Rattle.def_run.specs.declared.command.TheConstants.{MAX_MULTIPLE}
 
 -- A line that begins as the head line of a new mesh does.
@@ -52,6 +55,11 @@ pub record IsSizeHead (line : Bytes) (edge : ℤ) (floor : ℕ) : Type 0 where
   pub floor_low : 1 ≤ floor
   pub floor_high : floor ≤ MAX_FLOOR
 
+-- The head line of `fit`, for a fit that may be asked for.
+pub record IsFitHead (line : Bytes) (fit : AnyFit) : Type 0 where
+  pub written : line ≡ fit_head fit
+  pub in_range : IsFit fit
+
 -- The line is the head line of this command, one of those that write a new mesh.
 abbrev pub IsMarkLine : (line : Bytes) (command : Command) → Type 0
 IsMarkLine line (Refine by) = IsRefineHead line by
@@ -59,4 +67,5 @@ IsMarkLine line (Remesh settings auto) = IsHead line settings auto
 IsMarkLine line (Crease settings) = IsNamedHead (codes "crease") line settings
 IsMarkLine line (Size edge floor) = IsSizeHead line edge floor
 IsMarkLine line (Coarse settings) = IsNamedHead (codes "coarse") line settings
+IsMarkLine line (Fit fit) = IsFitHead line fit
 IsMarkLine line _ = ⊥

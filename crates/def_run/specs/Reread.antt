@@ -13,10 +13,11 @@ use Rattle.def_run.specs.Causes.{Writes, Wrote}
 use Rattle.def_run.specs.Coarse.{AsksToMerge}
 use Rattle.def_run.specs.CommandLines.{IsCommand}
 use Rattle.def_run.specs.Crease.{AsksToCrease}
+use Rattle.def_run.specs.Fit.{AsksForNearFit}
 use Rattle.def_run.specs.Remesh.{Asks, AsksToRemesh, WritesFinished}
 use Rattle.def_run.specs.Size.{AsksForNearSize}
 use Rattle.def_run.specs.declared.command.Command.{Command}
-use Rattle.def_run.specs.declared.command.Command.TheVariants.{Refine, Remesh, Crease, Size, Coarse}
+use Rattle.def_run.specs.declared.command.Command.TheVariants.{Refine, Remesh, Crease, Size, Coarse, Fit}
 
 -- No line is longer than a reader takes.
 abbrev pub HasShortLines : (text : Bytes) → Type 0
@@ -26,8 +27,8 @@ HasShortLines text = (k : ℕ) → k < length (lines_of text) → length (slice_
 abbrev pub RereadsTask : (asks : Asks) (bytes text : Bytes) (said : WritesFinished asks bytes text) → Type 0
 RereadsTask asks bytes text said = IsReadAgain text (finished_soup said.task said.soup text said.shown.finished)
 
--- The text of a command that writes a new mesh is read again as this mesh: that of `crease` where no line of marked
--- edges is too long.
+-- The text of a command that writes a new mesh is read again as this mesh: that of `crease` and of `fit` where no line
+-- of marked edges is too long.
 abbrev pub Rereads : (command : Command) (bytes text : Bytes) (said : Writes command bytes text) → Type 0
 Rereads (Refine by) bytes text said =
     IsReadAgain text (new_soup said.soup said.refined.plan (multiple_of by (long_at said.refined.plan.arcs)))
@@ -36,6 +37,8 @@ Rereads (Crease settings) bytes text said = HasShortLines (lines_between said.ta
     → RereadsTask (AsksToCrease settings) bytes text said
 Rereads (Size edge floor) bytes text said = RereadsTask (AsksForNearSize edge floor) bytes text said
 Rereads (Coarse settings) bytes text said = RereadsTask (AsksToMerge settings) bytes text said
+Rereads (Fit fit) bytes text said = HasShortLines (lines_between said.task said.soup text said.shown.finished)
+    → RereadsTask (AsksForNearFit fit) bytes text said
 Rereads _ bytes text said = ⊤
 
 -- The words are a command's line. It read bytes, and the sink took its text for them, which is read again.

@@ -49,7 +49,7 @@ pub record IsFarText (edge : ℤ) (floor : ℕ) (bytes : Bytes) (sum : ℕ) : Ty
   pub mesh : IsMeshText bytes soup
   pub plan : Plan
   pub cut : IsTracedLayout soup.faces plan
-  pub far : IsFar (soup_targets edge soup) plan floor sum
+  pub far : IsFar (soup_targets edge soup) plan (edge_settings floor) sum
 
 -- The answer with which it refuses bytes. A network that is too tangled comes before targets that are too great, and
 -- these before all that least lengths show.

@@ -8,10 +8,11 @@ use Rattle.def_remesh.specs.Tasks.{old_lengths}
 use Rattle.def_run.specs.Bench.{bench_faces, bench_settings}
 use Rattle.def_run.specs.Coarse.{AsksToMerge}
 use Rattle.def_run.specs.Crease.{HoldsMarked}
+use Rattle.def_run.specs.Fit.{HoldsFit}
 use Rattle.def_run.specs.Remesh.{AsksToRemesh, HoldsUntangled, IsTracedLayout}
 use Rattle.def_run.specs.Size.{HoldsSize}
 use Rattle.def_run.specs.declared.command.Command.{Command}
-use Rattle.def_run.specs.declared.command.Command.TheVariants.{Remesh, Bench, Crease, Size, Coarse}
+use Rattle.def_run.specs.declared.command.Command.TheVariants.{Remesh, Bench, Crease, Size, Coarse, Fit}
 
 -- The mesh of this size has a network that is not too tangled.
 pub record IsUntangledBench (size : ℕ) : Type 0 where
@@ -26,4 +27,5 @@ IsUntangled (Bench size) left = IsUntangledBench size
 IsUntangled (Crease settings) left = HoldsMarked settings left
 IsUntangled (Size edge floor) left = HoldsSize edge floor left
 IsUntangled (Coarse settings) left = HoldsUntangled (AsksToMerge settings) left
+IsUntangled (Fit fit) left = HoldsFit fit left
 IsUntangled _ left = ⊥

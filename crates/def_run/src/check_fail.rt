@@ -22,13 +22,14 @@ pub enum CheckFail {
     /// The faces of its soup are no manifold, first at this place.
     #[error("the old text: no manifold")]
     NotManifold { place: Place, soup: Soup },
-    /// One of its `l` lines is refused, where `crease` reads them. The refusal is never want of memory.
+    /// One of the lines beside its mesh is refused, where `crease` and `fit` read them. The refusal is never want of
+    /// memory.
     #[error("the old text: {fail}")]
     Marks { fail: MarkFail },
     /// The tangle number of its network is above the limit.
     #[error("tangled: {count}")]
     Tangled { count: u64 },
-    /// The lengths that `size` wants of its arcs add up to more than the limit.
+    /// The lengths that `size` and `fit` want of its arcs add up to more than the limit.
     #[error("far: {sum}")]
     Far { sum: u128 },
     #[error("out of memory")]

@@ -1,0 +1,4 @@
+pub mod Aims
+pub mod FitTasks
+pub mod FitWords
+pub mod WishLines

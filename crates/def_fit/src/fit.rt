@@ -1,0 +1,29 @@
+//! The cut and the aim of a fit.
+
+use def_flow::Weight;
+use def_patches::{Keep, Patches};
+use def_text::Micro;
+
+/// The greatest wish for an edge, in thousandths.
+pub const MAX_WISH: u32 = 1_000_000;
+
+/// What the new lengths of arcs aim at.
+#[derive(Clone, Copy, Debug, PartialEq, Eq)]
+pub enum Aim {
+    /// The old lengths, times p over q.
+    Scale { p: u32, q: u32 },
+    /// New edges of this length in space.
+    Edge { edge: Micro },
+    /// What the lines of the text wish for their edges.
+    Wishes,
+}
+
+/// A cut, what the lengths of its arcs aim at, the least length of an arc, and how arcs are weighed.
+#[derive(Clone, Copy, Debug, PartialEq, Eq)]
+pub struct Fit {
+    pub keep: Keep,
+    pub patches: Patches,
+    pub aim: Aim,
+    pub floor: u32,
+    pub weight: Weight,
+}
