@@ -12,11 +12,22 @@ pub(crate) fn read_cut<S: Source>(
     alloc: Global,
     input: &mut S,
 ) -> Result<Option<CutMesh>, AllocError> {
+    match read_mesh(alloc, input)? {
+        Some(meshed) => Ok(Some(cut_of(alloc, meshed)?)),
+        None => Ok(None),
+    }
+}
+
+/// The mesh that a source gives, if there is one.
+pub(crate) fn read_mesh<S: Source>(
+    alloc: Global,
+    input: &mut S,
+) -> Result<Option<Meshed>, AllocError> {
     let Ok(soup) = read_soup(alloc, input, MAX_BYTES) else {
         return Ok(None);
     };
     match Meshed::new(alloc, soup) {
-        Ok(meshed) => Ok(Some(cut_of(alloc, meshed)?)),
+        Ok(meshed) => Ok(Some(meshed)),
         Err(NoMesh::NotManifold { .. }) => Ok(None),
         Err(NoMesh::Memory) => Err(AllocError),
     }

@@ -1,7 +1,9 @@
-//! Tests of meshes, of the networks of edge lengths, and of new meshes at given lengths, on meshes that are worked out by
-//! hand.
+//! Tests of meshes, of the networks of edge lengths, of the wishes of lines, and of new meshes at given lengths, on meshes
+//! that are worked out by hand.
 #![tactic(auto)]
 
+#[cfg(test)]
+mod cuts;
 #[cfg(test)]
 mod layouts;
 #[cfg(test)]
@@ -14,3 +16,5 @@ mod meshes;
 mod new_meshes;
 #[cfg(test)]
 mod stitched;
+#[cfg(test)]
+mod wishes;

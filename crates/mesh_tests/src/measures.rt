@@ -1,12 +1,10 @@
 //! Networks of meshes whose new edges are to have a given length.
 
+use crate::layouts::read_cut;
 use def_flow::Net;
-use def_text::{MAX_BYTES, Micro};
-use qm_cut::traced_layout;
+use def_text::Micro;
 use qm_io::{MemSource, Source};
-use qm_mesh::build;
-use qm_metric::{MetricFail, measured, old_start};
-use qm_obj::read_soup;
+use qm_metric::{MetricFail, edge_fit, net_for, old_start};
 use std::alloc::{AllocError, Global};
 use std::test::Fail;
 
@@ -86,22 +84,15 @@ fn network_text<S: Source>(
     edge: i64,
     floor: u32,
 ) -> Result<Option<String>, AllocError> {
-    let Ok(soup) = read_soup(alloc, input, MAX_BYTES) else {
-        return Ok(None);
-    };
-    let Ok(mesh) = build(alloc, soup.pos.len() as u32, &soup.faces) else {
+    let Some(cut) = read_cut(alloc, input)? else {
         return Ok(None);
     };
     if !(1..=999_999_999_999_999).contains(&edge) || !(1..=3).contains(&floor) {
         return Ok(None);
     }
-    let layout = traced_layout(alloc, &mesh)?;
-    if soup.pos.len() != mesh.vertices() as usize {
-        return Ok(None);
-    }
-    match measured(alloc, &mesh, &layout, &soup.pos, Micro { n: edge }, floor) {
+    match net_for(alloc, &cut, &edge_fit(Micro { n: edge }, floor), &[]) {
         Ok(net) => {
-            let start = old_start(alloc, &layout, floor)?;
+            let start = old_start(alloc, cut.layout(), floor)?;
             Ok(Some(told(alloc, &net, &start)?))
         }
         Err(MetricFail::Tangled { count }) => Ok(Some(format!(in alloc; "tangled {count}")?)),

@@ -27,7 +27,7 @@ const PILLOW: &str = "\
 const QUAD: &str = "f 1 2 3 4\n";
 
 /// The text of a mesh with so many vertices and these faces.
-fn mesh_text(alloc: Global, vertices: u32, faces: &str) -> Result<Vec<u8>, AllocError> {
+pub(crate) fn mesh_text(alloc: Global, vertices: u32, faces: &str) -> Result<Vec<u8>, AllocError> {
     let mut text = Vec::new(alloc);
     for _ in 0..vertices {
         text.extend_from_slice(b"v 0 0 0\n")?;

@@ -1,3 +1,4 @@
+mod AllWishes
 mod AlongChains
 mod CornerFails
 mod CornerWords
@@ -6,4 +7,6 @@ mod EndKeys
 mod FirstWords
 mod LineMarks
 mod NamePlaces
+mod OneWish
+mod Pieces
 mod Ranges

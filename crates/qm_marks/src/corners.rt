@@ -136,7 +136,7 @@ fn named_vertex(names: &[u32], index: Index) -> u32
 }
 
 /// The place of a number, or how many there are where it has none.
-fn vertex_at(names: &[u32], k: u32) -> u32
+pub(crate) fn vertex_at(names: &[u32], k: u32) -> u32
     requires names { IsStrictlyIncreasing names.now }
     requires few { length names.now ≤ 4_294_967_295 }
     ensures { result ≡ position_or_len (λ name. name == k) names.now }

@@ -96,7 +96,12 @@ fn take_logical(
 }
 
 /// How many `v` lines there are from `first` up to but not including `after`.
-fn count_vertex_lines(alloc: Global, lines: &Lines, first: u32, after: u32) -> Result<u32, Memory>
+pub(crate) fn count_vertex_lines(
+    alloc: Global,
+    lines: &Lines,
+    first: u32,
+    after: u32,
+) -> Result<u32, Memory>
     requires order { first ≤ after }
     requires within { after ≤ length (lines_of lines.now) }
     ensures { IfOk result (λ count. count ≡ count_by is_vertex_line

@@ -1,32 +1,39 @@
--- The network of a layout with its targets as wishes, and why there is none.
-use Rattle.std.proofs.Common.{◌≡◌, ℕ, ◌-◌, ◌^◌, ◌<◌, ◌≤◌, List, length, map, sym, ap, ◌∙◌, arith}
+-- The network of a layout with what is wished of its arcs, and why there is none.
+use Rattle.std.proofs.Common.{◌≡◌, ℕ, ◌-◌, ◌^◌, ◌<◌, ◌≤◌, List, length, map, refl, sym, ap, ◌∙◌, subst, arith}
 use Rattle.std.specs.Prelude.{min, slice_index}
 use Rattle.std.proofs.lemmas.List.{length-map}
 use Rattle.def_math.specs.Counts.{count}
+use Rattle.def_fit.specs.Aims.{aimed, denominator, fit_settings, numerator, AreAimedNear, IsAim, IsFit, IsFitFail}
+use Rattle.def_fit.specs.declared.fit.Aim.{Aim}
+use Rattle.def_fit.specs.declared.fit.Aim.TheVariants.{Scale, Edge, Wishes}
+use Rattle.def_fit.specs.declared.fit.Fit.{Fit}
+use Rattle.def_flow.specs.Admissible.{IsEven}
 use Rattle.def_flow.specs.Network.{Network, arc_at, tangle_number, IsWithinBounds}
 use Rattle.def_flow.specs.declared.limits.TheConstants.{MAX_TANGLE}
-use Rattle.def_layout.specs.Arcs.{long_at, path}
+use Rattle.def_flow.specs.declared.net.Settings.{Settings}
+use Rattle.def_layout.specs.Arcs.{long_at, path, path_at}
 use Rattle.def_layout.specs.Surfaces.{IsSurface}
-use Rattle.def_layout.specs.Plans.{layout_of, plan}
+use Rattle.def_layout.specs.Plans.{layout_of, plan, Plan}
 use Rattle.def_layout.specs.declared.tmesh.TArc.{TArc}
 use Rattle.def_layout.specs.declared.tmesh.TMesh.{TMesh}
-use Rattle.def_layoutnet.specs.LayoutNet.{HasNoNet, IsNetOf, IsTangled}
+use Rattle.def_layoutnet.specs.LayoutNet.{AreSettings, HasNoNet, IsNetOf}
 use Rattle.def_layoutnet.specs.MeshLayouts.{IsSomeLayout}
 use Rattle.def_layoutnet.specs.declared.NetFail.{NetFail}
 use Rattle.def_layoutnet.specs.declared.NetFail.TheVariants as nets
-use Rattle.def_mesh.specs.Faces.{Faces}
 use Rattle.def_remesh.specs.Keeping.{IsNetFor}
-use Rattle.def_remesh.specs.Placings.{IsMeshLayout}
 use Rattle.def_remesh.specs.Refusals.{IsTangledAt}
-use Rattle.def_text.specs.Types.{Positions}
-use Rattle.def_metric.specs.Fails.{metric_fail_of, AreNear, HasNoTargets, IsFar}
-use Rattle.def_metric.specs.Targets.{edge_settings, target_of, targets, wish_sum}
+use Rattle.def_remesh.specs.Tasks.{Wish}
+use Rattle.def_text.specs.FaceSet.{FaceSet}
+use Rattle.def_metric.specs.Fails.{metric_fail_of, size_fail_of, IsFar}
+use Rattle.def_metric.specs.Targets.{wish_sum}
+use Rattle.def_metric.specs.declared.fail.MetricFail.TheVariants.{Far}
 use Rattle.def_metric.specs.declared.limits.TheConstants.{MAX_TARGETS}
 use Rattle.sum_laws.proofs.Counts.{count_below_le, count_below_ones}
 use Rattle.table_laws.proofs.Ranges.{part_low}
 use Rattle.plan_laws.proofs.MeshLayouts.{laid_of, lengths_of}
+use Rattle.qm_layoutnet.proofs.OneNet.{one_net_law}
 use Rattle.qm_layoutnet.proofs.Whole.{lengths_few}
-use Rattle.qm_metric.specs.Wishes.{with_wish, HasWishes}
+use Rattle.qm_metric.specs.Wishes.{wish_along, with_wish, HasWishes}
 use Rattle.qm_metric.proofs.Reading.{sum_is, whole_entry}
 use Rattle.qm_metric.proofs.Wished.{tangle_same, tangled_for, untangled_for, wished, within}
 
@@ -41,60 +48,63 @@ few_arcs t is = omega (
   is.mesh.few,
 )
 
-module _ (t : TMesh) (faces : Faces) (places : Positions) (edge floor : ℕ) (lies : IsMeshLayout faces (plan t)) where
+-- The settings of a fit are within their limits.
+pub settings_fit : (fit : Fit) → IsFit fit → AreSettings (fit_settings fit)
+settings_fit fit is =
+    let scale = by_aim fit.aim is.aim in
+    record { p_low = scale.0; p_high = scale.1; q_low = scale.2; q_high = scale.3; floor_low = is.low; floor_high = is.high }
+  where
+    by_aim : (aim : Aim) → IsAim aim → (1 ≤ numerator aim) × (numerator aim ≤ 1000) × (1 ≤ denominator aim) × (denominator aim ≤ 1000)
+    by_aim (Scale p q) range = range
+    by_aim (Edge edge) range = (omega arith, omega arith, omega arith, omega arith)
+    by_aim Wishes range = (omega arith, omega arith, omega arith, omega arith)
+
+-- Wishes that are told arc by arc.
+abbrev along : (f : List ℕ → ℕ) → Wish
+along f p arc = f (path_at p.arcs arc).darts
+
+aimed_along : (aim : Aim) (soup : FaceSet) (wishes : List ℕ) → along (wish_along aim soup wishes) ≡ aimed aim soup wishes
+aimed_along (Scale p q) soup wishes = refl
+aimed_along (Edge edge) soup wishes = refl
+aimed_along Wishes soup wishes = refl
+
+module _ (t : TMesh) (f : List ℕ → ℕ) (settings : Settings) (lies : IsSomeLayout (plan t)) where
   laid : IsSurface (layout_of (plan t))
-  laid = laid_of (plan t) lies.0
+  laid = laid_of (plan t) lies
 
-  -- It is too tangled.
-  too_tangled : (number : ℕ) → IsTangled (layout_of (plan t)) (long_at (plan t).arcs) (edge_settings floor) number
-      → IsTangledAt (targets faces places edge) (plan t) (edge_settings floor) number
-  too_tangled number is = tangled_for (layout_of (plan t)) (long_at (plan t).arcs) (targets faces places edge (plan t)) floor number laid is
-
-  -- Where it has no network it has none for these targets.
-  pub no_targets : (fail : NetFail) → HasNoNet (layout_of (plan t)) (long_at (plan t).arcs) (edge_settings floor) fail
-      → HasNoTargets (targets faces places edge) (plan t) floor (metric_fail_of fail)
-  no_targets (nets.Tangled number) is = too_tangled number is
-  no_targets nets.Memory is = tt
-
-  module _ (net : Network) (is : IsNetOf (layout_of (plan t)) (long_at (plan t).arcs) (edge_settings floor) net) (small : tangle_number net ≤ MAX_TANGLE) where
-    -- It is not, and its targets are too great.
-    pub too_far : (sum : ℕ) → sum ≡ count (λ (run : TArc). target_of faces places edge run.darts.items) t.arcs.items → MAX_TARGETS < sum
-        → IsFar (targets faces places edge) (plan t) floor sum
+  module _ (net : Network) (is : IsNetOf (layout_of (plan t)) (long_at (plan t).arcs) (long_at (plan t).arcs) settings net) (small : tangle_number net ≤ MAX_TANGLE) where
+    -- It is not too tangled, and the wishes are too great.
+    too_far : (sum : ℕ) → sum ≡ count (λ (run : TArc). f run.darts.items) t.arcs.items → MAX_TARGETS < sum → IsFar (along f) (plan t) settings sum
     too_far sum told high = record {
-      untangled = untangled_for (layout_of (plan t)) (long_at (plan t).arcs) (targets faces places edge (plan t)) floor net laid is small;
-      told = told ∙ sum_is (target_of faces places edge) t.arcs.items;
+      untangled = untangled_for (layout_of (plan t)) (long_at (plan t).arcs) (along f (plan t)) settings net laid is small;
+      told = told ∙ sum_is f t.arcs.items;
       high = high;
     }
 
-    -- They are not too great.
-    pub near : (sum : ℕ) → sum ≡ count (λ (run : TArc). target_of faces places edge run.darts.items) t.arcs.items → sum ≤ MAX_TARGETS → AreNear (targets faces places edge) (plan t)
-    near sum told low = omega (arith, told, low, sum_is (target_of faces places edge) t.arcs.items)
-
-    -- So they are its wishes.
-    pub net_for : (new : Network) (wishes : List ℕ) → 1 ≤ floor → IsWithinBounds net
-        → wishes ≡ map (λ (run : TArc). min (target_of faces places edge run.darts.items) (2 ^ 32 - 1)) t.arcs.items
-        → AreNear (targets faces places edge) (plan t) → HasWishes net (slice_index wishes) new
-        → IsNetFor (targets faces places edge) (plan t) (edge_settings floor) new
-    net_for new wishes low bounds are few has = record {
-      mesh = lies.0;
+    -- Where they are not, they are its wishes.
+    wished_net : (new : Network) (wishes : List ℕ) → 1 ≤ settings.floor → IsWithinBounds net
+        → wishes ≡ map (λ (run : TArc). min (f run.darts.items) (2 ^ 32 - 1)) t.arcs.items
+        → wish_sum (along f) (plan t) ≤ MAX_TARGETS → HasWishes net (slice_index wishes) new
+        → IsNetFor (along f) (plan t) settings new
+    wished_net new wishes low bounds are few has = record {
+      mesh = lies;
       floor = low;
-      is = wished (layout_of (plan t)) (long_at (plan t).arcs) (targets faces places edge (plan t)) floor net new laid is exact;
-      bounds = within net (targets faces places edge (plan t)) new exact bounds (λ k l. omega (arith, part k l, few));
-      untangled = omega (arith, tangle_same net (targets faces places edge (plan t)) new exact, small);
+      is = wished (layout_of (plan t)) (long_at (plan t).arcs) (along f (plan t)) settings net new laid is exact;
+      bounds = within net (along f (plan t)) new exact bounds (λ k l. omega (arith, part k l, few));
+      untangled = omega (arith, tangle_same net (along f (plan t)) new exact, small);
     }
       where
         inner : (k : ℕ) → k < length net.arcs → k < length (plan t).arcs
         inner k l = omega (arith, l, is.long)
 
-        part : (k : ℕ) → k < length net.arcs → targets faces places edge (plan t) k ≤ wish_sum (targets faces places edge) (plan t)
-        part k l = omega (arith, part_low (targets faces places edge (plan t)) k (length (plan t).arcs) (inner k l))
+        part : (k : ℕ) → k < length net.arcs → along f (plan t) k ≤ wish_sum (along f) (plan t)
+        part k l = omega (arith, part_low (along f (plan t)) k (length (plan t).arcs) (inner k l))
 
-        entry : (k : ℕ) → k < length net.arcs → slice_index wishes k ≡ targets faces places edge (plan t) k
+        entry : (k : ℕ) → k < length net.arcs → slice_index wishes k ≡ along f (plan t) k
         entry k l =
-            ap (λ (ws : List ℕ). slice_index ws k) are
-            ∙ whole_entry (target_of faces places edge) (2 ^ 32 - 1) t.arcs.items k (inner k l) (omega (arith, few))
+            ap (λ (ws : List ℕ). slice_index ws k) are ∙ whole_entry f (2 ^ 32 - 1) t.arcs.items k (inner k l) (omega (arith, few))
 
-        exact : HasWishes net (targets faces places edge (plan t)) new
+        exact : HasWishes net (along f (plan t)) new
         exact = record {
           nodes = has.nodes;
           floor = has.floor;
@@ -103,3 +113,65 @@ module _ (t : TMesh) (faces : Faces) (places : Positions) (edge floor : ℕ) (li
           long = has.long;
           arcs = λ k l. has.arcs k l ∙ ap (λ (w : ℕ). with_wish w (arc_at net.arcs k)) (entry k l);
         }
+
+-- Old lengths are few, and other wishes are near where their sum is.
+near_aims : (aim : Aim) (soup : FaceSet) (wishes : List ℕ) (p : Plan) → wish_sum (aimed aim soup wishes) p ≤ MAX_TARGETS → AreAimedNear aim (aimed aim soup wishes) p
+near_aims (Scale a b) soup wishes p few = tt
+near_aims (Edge edge) soup wishes p few = few
+near_aims Wishes soup wishes p few = few
+
+far_aims : (aim : Aim) (soup : FaceSet) (wishes : List ℕ) (p : Plan) → IsSomeLayout p → MAX_TARGETS < wish_sum (aimed aim soup wishes) p
+    → AreAimedNear aim (aimed aim soup wishes) p → ⊥
+far_aims (Scale a b) soup wishes p lies high near = omega (arith, high, lengths_few p lies, lies.mesh.few)
+far_aims (Edge edge) soup wishes p lies high near = omega (arith, high, near)
+far_aims Wishes soup wishes p lies high near = omega (arith, high, near)
+
+module _ (aim : Aim) (soup : FaceSet) (wishes : List ℕ) (t : TMesh) (p : Plan) (same : plan t ≡ p) (settings : Settings) (lies : IsSomeLayout p) where
+  abbrev f : List ℕ → ℕ
+  f = wish_along aim soup wishes
+
+  there : IsSomeLayout (plan t)
+  there = subst IsSomeLayout (sym same) lies
+
+  -- What holds of the wishes arc by arc and of the layout holds of what is aimed at.
+  moved : (P : Wish → Plan → Type 0) → P (along f) (plan t) → P (aimed aim soup wishes) p
+  moved P holds = subst (λ (q : Plan). P (aimed aim soup wishes) q) same (subst (λ (w : Wish). P w (plan t)) (aimed_along aim soup wishes) holds)
+
+  sum_of : (sum : ℕ) → sum ≡ count (λ (run : TArc). f run.darts.items) t.arcs.items → sum ≡ wish_sum (aimed aim soup wishes) p
+  sum_of sum told = moved (λ w q. sum ≡ wish_sum w q) (told ∙ sum_is f t.arcs.items)
+
+  -- It has no network.
+  pub no_net : (fail : NetFail) → HasNoNet (layout_of (plan t)) (long_at (plan t).arcs) (long_at (plan t).arcs) settings fail
+      → IsFitFail aim (aimed aim soup wishes) p settings (size_fail_of (metric_fail_of fail))
+  no_net (nets.Tangled number) is =
+      moved (λ w q. IsTangledAt w q settings number)
+      (tangled_for (layout_of (plan t)) (long_at (plan t).arcs) (along f (plan t)) settings number (laid_of (plan t) there) is)
+  no_net nets.Memory is = tt
+
+  module _ (net : Network) (is : IsNetOf (layout_of (plan t)) (long_at (plan t).arcs) (long_at (plan t).arcs) settings net) (small : tangle_number net ≤ MAX_TANGLE) where
+    pub far : (sum : ℕ) → sum ≡ count (λ (run : TArc). f run.darts.items) t.arcs.items → MAX_TARGETS < sum
+        → IsFitFail aim (aimed aim soup wishes) p settings (size_fail_of (Far sum))
+    far sum told high = (
+      far_aims aim soup wishes p lies (omega (arith, high, sum_of sum told)),
+      moved (λ w q. IsFar w q settings sum) (too_far t f settings there net is small sum told high),
+    )
+
+    module _ (sum : ℕ) (told : sum ≡ count (λ (run : TArc). f run.darts.items) t.arcs.items) (low : sum ≤ MAX_TARGETS) where
+      pub near : AreAimedNear aim (aimed aim soup wishes) p
+      near = near_aims aim soup wishes p (omega (arith, low, sum_of sum told))
+
+      pub net_is : (new : Network) (found : List ℕ) → 1 ≤ settings.floor → IsWithinBounds net
+          → found ≡ map (λ (run : TArc). min (f run.darts.items) (2 ^ 32 - 1)) t.arcs.items
+          → HasWishes net (slice_index found) new → IsNetFor (aimed aim soup wishes) p settings new
+      net_is new found floor bounds are has =
+          moved (λ w q. IsNetFor w q settings new)
+          (wished_net t f settings there net is small new found floor bounds are (omega (arith, low, told, sum_is f t.arcs.items)) has)
+
+    -- The network near the old lengths is the one that it was.
+    pub even_is : (new : Network) (a b : ℕ) → aim ≡ Scale a b → IsNetFor (aimed aim soup wishes) p settings new → IsEven net → IsEven new
+    even_is new a b scale for even =
+        let old : IsNetOf (layout_of p) (long_at p.arcs) (long_at p.arcs) settings new =
+        subst (λ (aim : Aim). IsNetOf (layout_of p) (long_at p.arcs) (aimed aim soup wishes p) settings new) scale for.is in
+        let here : IsNetOf (layout_of p) (long_at p.arcs) (long_at p.arcs) settings net =
+        subst (λ (q : Plan). IsNetOf (layout_of q) (long_at q.arcs) (long_at q.arcs) settings net) same is in
+        subst IsEven (one_net_law (layout_of p) (long_at p.arcs) (long_at p.arcs) settings (laid_of p lies) net new here old) even

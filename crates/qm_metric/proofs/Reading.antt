@@ -1,5 +1,5 @@
 -- What is read of the arcs of a layout: their darts, and the sum and the entries of a list of targets.
-use Rattle.std.proofs.Common.{◌≡◌, ℕ, zero, suc, ◌+◌, ◌*◌, ◌-◌, ◌^◌, ◌<◌, ◌≤◌, List, [], ◌∷◌, ◌++◌, take, length, map, get_or, refl, sym, ap, ◌∙◌, subst, arith}
+use Rattle.std.proofs.Common.{◌≡◌, ℕ, zero, suc, ◌+◌, ◌*◌, ◌<◌, ◌≤◌, List, [], ◌∷◌, ◌++◌, take, length, map, get_or, refl, sym, ap, ◌∙◌, subst, arith}
 use Rattle.std.specs.Prelude.{min, slice_index}
 use Rattle.std.specs.List.{All}
 use Rattle.std.proofs.lemmas.List.{get_or_default, get_or-map, length-map, map-append, take_more}
@@ -12,7 +12,7 @@ use Rattle.def_layout.specs.declared.tmesh.TMesh.{TMesh}
 use Rattle.def_layoutnet.specs.MeshLayouts.{IsSomeLayout}
 use Rattle.sum_laws.proofs.Counts.{count_below_prefix}
 use Rattle.table_laws.proofs.Ranges.{part_low}
-use Rattle.qm_layoutnet.proofs.Whole.{arc_inside, lengths_few}
+use Rattle.qm_layoutnet.proofs.Whole.{arc_inside}
 
 -- The darts of all arcs are darts of the mesh.
 pub runs_inside : (t : TMesh) (is : IsSomeLayout (plan t)) → All (λ (run : TArc). All (λ (d : ℕ). d < darts is.faces) run.darts.items) t.arcs.items

@@ -1,24 +1,29 @@
 -- The old lengths times the floor start the descent whatever lengths are wished for.
-use Rattle.std.proofs.Common.{◌≡◌, ℕ, ◌+◌, ◌*◌, ◌^◌, ◌<◌, ◌≤◌, List, [], length, ℤ, pos, ◌-ℤ◌, ◌*ℤ◌, ◌≤ℤ◌, sym, ap, ◌∙◌, mul-one, arith}
+use Rattle.std.proofs.Common.{◌≡◌, ℕ, ◌+◌, ◌*◌, ◌^◌, ◌<◌, ◌≤◌, List, [], length, pos, ◌-ℤ◌, ◌*ℤ◌, ◌≤ℤ◌, sym, ap, ◌∙◌, mul-one, arith}
 use Rattle.std.specs.Prelude.{unsigned_abs}
 use Rattle.std.proofs.Math.Nat.{mul-le-mul_left, mul-le-mul_right}
+use Rattle.std.proofs.lemmas.Nat.{mul-le}
 use Rattle.std.proofs.lemmas.Int.{ints}
 use Rattle.std.proofs.lemmas.List.{get_or-map, length-map}
 use Rattle.def_math.specs.Counts.{count_below}
 use Rattle.def_flow.specs.Admissible.{arc_deviation, deviation, entries, IsBalanced}
 use Rattle.def_flow.specs.Descent.{IsStartOf}
 use Rattle.def_flow.specs.Network.{Network, arc_at}
+use Rattle.def_flow.specs.declared.net.Settings.{Settings}
+use Rattle.def_flow.specs.declared.net.Weight.{Weight}
+use Rattle.def_flow.specs.declared.net.Weight.TheVariants.{Plain, Length}
 use Rattle.def_layout.specs.Arcs.{Path, long_at}
 use Rattle.def_layout.specs.Surfaces.{IsSurface}
 use Rattle.def_layout.specs.Layouts.{Way, south, east, north, west, Layout}
 use Rattle.def_layout.specs.Lengths.{Lengths, size, AreLengths}
 use Rattle.def_layout.specs.Plans.{Plan, layout_of}
-use Rattle.def_layoutnet.specs.LayoutNetLaws.{sum_along, AreOpposite}
+use Rattle.def_layoutnet.specs.LayoutNet.{weight_of}
+use Rattle.def_layoutnet.specs.LayoutNetLaws.{sum_along}
 use Rattle.def_remesh.specs.Keeping.{IsNetFor}
 use Rattle.def_remesh.specs.Tasks.{Wish}
 use Rattle.def_metric.specs.Fails.{AreNear}
 use Rattle.def_metric.specs.Starts.{times_long, StartLaw}
-use Rattle.def_metric.specs.Targets.{edge_settings, wish_sum}
+use Rattle.def_metric.specs.Targets.{wish_sum}
 use Rattle.def_metric.specs.declared.limits.TheConstants.{MAX_TARGETS}
 use Rattle.sum_laws.proofs.Counts.{count_below_le, count_below_sum, count_below_times, count_below_total}
 use Rattle.sum_laws.proofs.Sums.{total_below_same}
@@ -27,7 +32,14 @@ use Rattle.plan_laws.proofs.MeshLayouts.{laid_of, lengths_of}
 use Rattle.qm_layoutnet.proofs.Balance.{balance_law}
 use Rattle.qm_layoutnet.proofs.Whole.{lengths_few}
 
-module _ (wish : Wish) (plan : Plan) (floor : ℕ) (net : Network) (is : IsNetFor wish plan (edge_settings floor) net) (near : AreNear wish plan) where
+-- No weight is above 1000.
+weight_low : (weight : Weight) (old : ℕ) → weight_of weight old ≤ 1000
+weight_low Plain old = omega arith
+weight_low Length old = omega arith
+
+module _
+    (wish : Wish) (plan : Plan) (settings : Settings) (net : Network) (is : IsNetFor wish plan settings net)
+    (unit : settings.p ≡ 1) (parts : settings.q ≡ 1000) (near : AreNear wish plan) where
   abbrev l : Layout
   l = layout_of plan
 
@@ -35,7 +47,7 @@ module _ (wish : Wish) (plan : Plan) (floor : ℕ) (net : Network) (is : IsNetFo
   x = long_at plan.arcs
 
   abbrev xs : List ℕ
-  xs = times_long floor plan
+  xs = times_long settings.floor plan
 
   laid : IsSurface (layout_of plan)
   laid = laid_of plan is.mesh
@@ -43,21 +55,21 @@ module _ (wish : Wish) (plan : Plan) (floor : ℕ) (net : Network) (is : IsNetFo
   len : AreLengths (layout_of plan) (long_at plan.arcs)
   len = lengths_of plan is.mesh
 
-  entry : (a : ℕ) → a < length plan.arcs → entries xs a ≡ pos (floor * x a)
-  entry a low = ap pos (get_or-map (λ (p : Path). floor * length p.darts) plan.arcs a (record { first = 0; last = 0; darts = [] }) 0 low)
+  entry : (a : ℕ) → a < length plan.arcs → entries xs a ≡ pos (settings.floor * x a)
+  entry a low = ap pos (get_or-map (λ (run : Path). settings.floor * length run.darts) plan.arcs a (record { first = 0; last = 0; darts = [] }) 0 low)
 
   -- Opposite sides are equal.
-  along : (p : ℕ) (s : Way) → p < l.patches → sum_along l (entries xs) p s ≡ pos (floor * size l x p s)
+  along : (p : ℕ) (s : Way) → p < l.patches → sum_along l (entries xs) p s ≡ pos (settings.floor * size l x p s)
   along p s low =
-      total_below_same (λ k. entries xs (l.use_at p s k).arc) (λ k. pos (floor * x (l.use_at p s k).arc)) (l.many p s)
+      total_below_same (λ k. entries xs (l.use_at p s k).arc) (λ k. pos (settings.floor * x (l.use_at p s k).arc)) (l.many p s)
       (λ k less. entry (l.use_at p s k).arc (laid.paved.arc_low (record { patch = p; side = s; at = k }) (record { patch_low = low; low = less })))
-      ∙ sym (count_below_total (λ k. floor * x (l.use_at p s k).arc) (l.many p s))
-      ∙ ap pos (count_below_times floor (λ k. x (l.use_at p s k).arc) (l.many p s))
+      ∙ sym (count_below_total (λ k. settings.floor * x (l.use_at p s k).arc) (l.many p s))
+      ∙ ap pos (count_below_times settings.floor (λ k. x (l.use_at p s k).arc) (l.many p s))
 
   balanced : IsBalanced net.arcs (entries xs)
-  balanced = (balance_law l (wish plan) (edge_settings floor) net laid is.is (entries xs)).1 (record {
-    across = λ p low. along p south low ∙ (ap (λ n. pos (floor * n)) (sym (len.across p low)) ∙ sym (along p north low));
-    upright = λ p low. along p east low ∙ (ap (λ n. pos (floor * n)) (len.upright p low) ∙ sym (along p west low));
+  balanced = (balance_law l (long_at plan.arcs) (wish plan) settings net laid is.is (entries xs)).1 (record {
+    across = λ p low. along p south low ∙ (ap (λ n. pos (settings.floor * n)) (sym (len.across p low)) ∙ sym (along p north low));
+    upright = λ p low. along p east low ∙ (ap (λ n. pos (settings.floor * n)) (len.upright p low) ∙ sym (along p west low));
   })
 
   arc_low : (k : ℕ) → k < length net.arcs → k < length plan.arcs
@@ -66,37 +78,42 @@ module _ (wish : Wish) (plan : Plan) (floor : ℕ) (net : Network) (is : IsNetFo
   -- No length is below the floor.
   tall : (k : ℕ) → k < length net.arcs → pos net.floor ≤ℤ entries xs k
   tall k low =
-      let some : floor * 1 ≤ floor * x k = mul-le-mul_left floor (len.some k (arc_low k low)) in
-      rw (entry k (arc_low k low)) (omega (arith, ints, some, mul-one floor, is.is.floor))
+      let some : settings.floor * 1 ≤ settings.floor * x k = mul-le-mul_left settings.floor (len.some k (arc_low k low)) in
+      rw (entry k (arc_low k low)) (omega (arith, ints, some, mul-one settings.floor, is.is.floor))
 
   -- How far an arc is from its wish.
-  far : (k : ℕ) → k < length net.arcs → arc_deviation net (arc_at net.arcs k) (entries xs k) ≤ 3000 * x k + wish plan k
+  far : (k : ℕ) → k < length net.arcs → arc_deviation net (arc_at net.arcs k) (entries xs k) ≤ 1000 * (3000 * x k + wish plan k)
   far k low =
       let inner : k < length plan.arcs = arc_low k low in
-      let same : arc_deviation net (arc_at net.arcs k) (entries xs k) ≡ 1 * unsigned_abs (pos 1000 *ℤ pos (floor * x k) -ℤ pos (1 * wish plan k)) =
-      (λ i. is.is.weights k inner i * unsigned_abs (pos (is.is.q i) *ℤ entry k inner i -ℤ pos (is.is.p i * is.is.olds k inner i))) in
-      let high : floor * x k ≤ 3 * x k = mul-le-mul_right (x k) (omega (arith, is.is.floor, is.bounds.floor_high)) in
-      omega (arith, ints, same, high)
+      let same : arc_deviation net (arc_at net.arcs k) (entries xs k)
+      ≡ weight_of settings.weight (x k) * unsigned_abs (pos 1000 *ℤ pos (settings.floor * x k) -ℤ pos (1 * wish plan k)) =
+      (λ i. is.is.weights k inner i * unsigned_abs (pos ((is.is.q ∙ parts) i) *ℤ entry k inner i -ℤ pos ((is.is.p ∙ unit) i * is.is.olds k inner i))) in
+      let high : settings.floor * x k ≤ 3 * x k = mul-le-mul_right (x k) (omega (arith, is.is.floor, is.bounds.floor_high)) in
+      let few : unsigned_abs (pos 1000 *ℤ pos (settings.floor * x k) -ℤ pos (1 * wish plan k)) ≤ 3000 * x k + wish plan k = omega (arith, ints, high) in
+      let both = mul-le (weight_of settings.weight (x k)) (unsigned_abs (pos 1000 *ℤ pos (settings.floor * x k) -ℤ pos (1 * wish plan k)))
+      1000 (3000 * x k + wish plan k) (weight_low settings.weight (x k)) few in
+      omega (arith, same, both)
 
-  all_far : deviation net (entries xs) ≤ 3000 * 2 ^ 23 + MAX_TARGETS
+  all_far : deviation net (entries xs) ≤ 1000 * (3000 * 2 ^ 23 + MAX_TARGETS)
   all_far =
-      let each = count_below_le (λ k. arc_deviation net (arc_at net.arcs k) (entries xs k)) (λ k. 3000 * x k + wish plan k) (length net.arcs) far in
+      let each = count_below_le (λ k. arc_deviation net (arc_at net.arcs k) (entries xs k)) (λ k. 1000 * (3000 * x k + wish plan k)) (length net.arcs) far in
+      let heavy = count_below_times 1000 (λ k. 3000 * x k + wish plan k) (length net.arcs) in
       let sum = count_below_sum (λ k. 3000 * x k) (wish plan) (length net.arcs) in
       let times = count_below_times 3000 x (length net.arcs) in
       let lengths : count_below x (length net.arcs) ≡ count_below x (length plan.arcs) = ap (count_below x) is.is.long in
       let wishes : count_below (wish plan) (length net.arcs) ≡ wish_sum wish plan = ap (count_below (wish plan)) is.is.long in
-      omega (arith, each, sum, times, lengths, wishes, near, lengths_few plan is.mesh, is.mesh.mesh.few)
+      omega (arith, each, heavy, sum, times, lengths, wishes, near, lengths_few plan is.mesh, is.mesh.mesh.few)
 
   close : (k : ℕ) → k < length net.arcs → net.p * (arc_at net.arcs k).old + deviation net (entries xs) ≤ 10 ^ 12 * net.q
   close k low =
       let inner : k < length plan.arcs = arc_low k low in
-      let wanted : net.p * (arc_at net.arcs k).old ≡ 1 * wish plan k = (λ i. is.is.p i * is.is.olds k inner i) in
+      let wanted : net.p * (arc_at net.arcs k).old ≡ 1 * wish plan k = (λ i. (is.is.p ∙ unit) i * is.is.olds k inner i) in
       let part : wish plan k ≤ wish_sum wish plan = omega (arith, part_low (wish plan) k (length plan.arcs) inner) in
-      omega (arith, wanted, part, near, all_far, is.is.q)
+      omega (arith, wanted, part, near, all_far, is.is.q, parts)
 
   starts : IsStartOf net xs
   starts = record {
-    count = length-map plan.arcs (λ (p : Path). floor * length p.darts) ∙ sym is.is.long;
+    count = length-map plan.arcs (λ (run : Path). settings.floor * length run.darts) ∙ sym is.is.long;
     admissible = record { high = tall; balanced = balanced };
     near = close;
   }

@@ -9,11 +9,11 @@ use Rattle.def_flow.specs.Network.{Network, arc_at, degree, ends, is_bounded, ta
 use Rattle.def_flow.specs.declared.limits.TheConstants.{MAX_OLD, MAX_TANGLE, MAX_WEIGHT}
 use Rattle.def_flow.specs.declared.net.Arc.{Arc}
 use Rattle.def_flow.specs.declared.net.End.{End}
+use Rattle.def_flow.specs.declared.net.Settings.{Settings}
 use Rattle.def_layout.specs.Surfaces.{IsSurface}
 use Rattle.def_layout.specs.Layouts.{Layout, use_of}
 use Rattle.def_layout.specs.Lengths.{Lengths}
 use Rattle.def_layoutnet.specs.LayoutNet.{IsNetOf, IsTangled}
-use Rattle.def_metric.specs.Targets.{edge_settings}
 use Rattle.sum_laws.proofs.Counts.{count_below_same}
 use Rattle.qm_layoutnet.proofs.Built.{all_pass, count_at}
 use Rattle.qm_layoutnet.proofs.OneNet.{one_net_law}
@@ -66,9 +66,9 @@ module _ (net : Network) (wish : Lengths) (new : Network) (has : HasWishes net w
               ∙ (ap (λ (t : Bool). t && all) (le-leb (wish k) MAX_OLD (low k l)) ∙ parts.1)
 
 -- It is the network of the layout for these wishes.
-pub wished : (l : Layout) (old wish : Lengths) (floor : ℕ) (net new : Network) → IsSurface l → IsNetOf l old (edge_settings floor) net → HasWishes net wish new
-    → IsNetOf l wish (edge_settings floor) new
-wished l old wish floor net new laid is has = record {
+pub wished : (l : Layout) (old wish : Lengths) (settings : Settings) (net new : Network) → IsSurface l → IsNetOf l old old settings net → HasWishes net wish new
+    → IsNetOf l old wish settings new
+wished l old wish settings net new laid is has = record {
   nodes = has.nodes ∙ is.nodes;
   floor = has.floor ∙ is.floor;
   p = has.p ∙ is.p;
@@ -112,19 +112,19 @@ has_wishes wish net = record {
 }
 
 -- A layout is too tangled for other wishes where it is for some.
-pub tangled_for : (l : Layout) (old wish : Lengths) (floor count : ℕ) → IsSurface l → IsTangled l old (edge_settings floor) count → IsTangled l wish (edge_settings floor) count
-tangled_for l old wish floor count laid is = record {
+pub tangled_for : (l : Layout) (old wish : Lengths) (settings : Settings) (count : ℕ) → IsSurface l → IsTangled l old old settings count → IsTangled l old wish settings count
+tangled_for l old wish settings count laid is = record {
   net = rewished_net wish is.net;
-  is = wished l old wish floor is.net (rewished_net wish is.net) laid is.is (has_wishes wish is.net);
+  is = wished l old wish settings is.net (rewished_net wish is.net) laid is.is (has_wishes wish is.net);
   told = is.told ∙ sym (tangle_same is.net wish (rewished_net wish is.net) (has_wishes wish is.net));
   high = is.high;
 }
 
 -- And it is not where it is not.
-pub untangled_for : (l : Layout) (old wish : Lengths) (floor : ℕ) (net : Network) → IsSurface l → IsNetOf l old (edge_settings floor) net → tangle_number net ≤ MAX_TANGLE
-    → (count : ℕ) → IsTangled l wish (edge_settings floor) count → ⊥
-untangled_for l old wish floor net laid is low count tangled =
+pub untangled_for : (l : Layout) (old wish : Lengths) (settings : Settings) (net : Network) → IsSurface l → IsNetOf l old old settings net → tangle_number net ≤ MAX_TANGLE
+    → (count : ℕ) → IsTangled l old wish settings count → ⊥
+untangled_for l old wish settings net laid is low count tangled =
     let same : tangle_number tangled.net ≡ tangle_number (rewished_net wish net) =
-    ap tangle_number (one_net_law l wish (edge_settings floor) laid tangled.net (rewished_net wish net) tangled.is
-    (wished l old wish floor net (rewished_net wish net) laid is (has_wishes wish net))) in
+    ap tangle_number (one_net_law l old wish settings laid tangled.net (rewished_net wish net) tangled.is
+    (wished l old wish settings net (rewished_net wish net) laid is (has_wishes wish net))) in
     omega (arith, same, tangle_same net wish (rewished_net wish net) (has_wishes wish net), tangled.told, tangled.high, low)

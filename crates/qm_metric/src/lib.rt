@@ -1,15 +1,18 @@
-//! Lengths in space: square roots, rounded down, and the network of a layout for edges of a given length.
+//! Lengths in space: square roots, rounded down, and the network of a layout for what new lengths aim at.
 #![tactic(auto)]
 
+mod aims;
 mod law;
 mod measures;
 mod network;
 mod roots;
 mod start;
+mod sums;
 mod wishes;
 
+pub use aims::{edge_fit, fit_settings};
 pub use def_metric::MetricFail;
 pub use law::{root_law, start_law};
-pub use network::measured;
+pub use network::net_for;
 pub use roots::root;
 pub use start::old_start;

@@ -1,20 +1,16 @@
-//! How long the arcs of a layout are in space, and the lengths that are wanted of them.
+//! How long the arcs of a layout are in space, and the lengths that are wanted of them where new edges have one length.
 
-ghost use Rattle.std.specs.Prelude.{◌≡◌, ◌<◌, ◌≤◌, ◌-◌, ◌*◌, ◌^◌, ℕ, length, map, min, IfOk};
+ghost use Rattle.std.specs.Prelude.{◌≡◌, ◌<◌, ◌≤◌, ◌^◌, length};
 ghost use Rattle.std.specs.List.{All};
-ghost use Rattle.def_math.specs.Counts.{count};
 ghost use Rattle.def_mesh.specs.Darts.{darts, from_of, to_of};
 ghost use Rattle.def_mesh.specs.Vertices.{vertex_count};
-ghost use Rattle.def_layout.specs.declared.tmesh.TArc.{TArc as Run};
 ghost use Rattle.def_metric.specs.Targets.{edge_length, measure_of, position_at, squared_apart};
 ghost use Rattle.def_metric.specs.Targets.{squared_between, target_of};
 
 use crate::roots::root;
-use def_layout::TArc;
 use def_metric::EDGE_PARTS;
 use def_text::Micro;
 use qm_mesh::Mesh;
-use std::alloc::{AllocError, Global};
 
 /// What the arcs of a layout are measured by: the mesh with the positions of its vertices, and the length that new
 /// edges are to have, in millionths.
@@ -25,38 +21,8 @@ pub(crate) struct Ruler<'a> {
     pub(crate) edge: u64,
 }
 
-/// The targets of arcs, each as far as the type goes, and the sum of them all.
-#[derive(Debug, Drop)]
-pub(crate) struct Targets {
-    pub(crate) wishes: Vec<u32>,
-    pub(crate) sum: u128,
-}
-
-/// The targets of arcs. Linear in their darts.
-pub(crate) fn targets_of(alloc: Global, ruler: &Ruler, runs: &[TArc]) -> Result<Targets, AllocError>
-    requires positions { length ruler.now.pos.now ≡ vertex_count ruler.now.mesh.now }
-    requires edge { 1 ≤ ruler.now.edge }
-    requires few { length runs.now ≤ 2 ^ 23 }
-    requires short { All (λ (run : Run). length run.darts.items < 2 ^ 32) runs.now }
-    requires inside { All (λ (run : Run). All (λ d. d < darts ruler.now.mesh.now) run.darts.items) runs.now }
-    ensures sum { IfOk result (λ all. all.sum
-        ≡ count (λ (run : Run). target_of ruler.now.mesh.now ruler.now.pos.now ruler.now.edge run.darts.items) runs.now) }
-    ensures wishes { IfOk result (λ all. all.wishes.items
-        ≡ map (λ (run : Run). min (target_of ruler.now.mesh.now ruler.now.pos.now ruler.now.edge run.darts.items)
-        (2 ^ 32 - 1)) runs.now) }
-{
-    let mut wishes = Vec::with_capacity(alloc, runs.len())?;
-    let mut sum = 0u128;
-    for run in runs {
-        let target = target_of(ruler, &run.darts);
-        wishes.push(target.min(u128::from(u32::MAX)) as u32)?;
-        sum += target;
-    }
-    Ok(Targets { wishes, sum })
-}
-
 /// The length that is wanted of an arc with these darts.
-fn target_of(ruler: &Ruler, path: &[u32]) -> u128
+pub(crate) fn target_of(ruler: &Ruler, path: &[u32]) -> u128
     requires positions { length ruler.now.pos.now ≡ vertex_count ruler.now.mesh.now }
     requires edge { 1 ≤ ruler.now.edge }
     requires short { length path.now < 2 ^ 32 }

@@ -1,58 +1,41 @@
-//! The network of a layout for new edges of a given length.
+//! The network of a layout for what new lengths aim at.
 
-ghost use Rattle.std.specs.Prelude.{◌≡◌, ◌≤◌, length, pos as whole, ◌≤ℤ◌, unsigned_abs, IfOk, IfErr, OnOk};
+ghost use Rattle.std.specs.Prelude.{◌≡◌, ℕ, length, IfOk, IfErr, OnOk};
+ghost use Rattle.def_fit.specs.Aims.{aimed, fit_settings, AreAimedNear, IsFit, IsFitFail};
+ghost use Rattle.def_flow.specs.Admissible.{IsEven};
 ghost use Rattle.def_flow.specs.Network.{network};
-ghost use Rattle.def_layout.specs.Plans.{plan};
-ghost use Rattle.def_mesh.specs.Vertices.{vertex_count};
-ghost use Rattle.def_metric.specs.Fails.{AreNear, HasNoTargets};
-ghost use Rattle.def_metric.specs.Targets.{edge_settings, targets};
+ghost use Rattle.def_mesh.specs.Darts.{darts};
+ghost use Rattle.def_metric.specs.Fails.{size_fail_of};
 ghost use Rattle.def_remesh.specs.Keeping.{IsNetFor};
-ghost use Rattle.def_remesh.specs.Placings.{IsMeshLayout};
 
-use crate::measures::{Ruler, targets_of};
+use crate::aims::fit_settings;
+use crate::sums::sums_of;
 use crate::wishes::with_wishes;
-use def_flow::{Net, Settings, Weight};
-use def_layout::TMesh;
-use def_metric::{EDGE_PARTS, MAX_TARGETS, MetricFail};
-use def_text::Micro;
+use def_fit::{Aim, Fit};
+use def_flow::Net;
+use def_metric::{MAX_TARGETS, MetricFail};
+use qm_cutmesh::CutMesh;
 use qm_layoutnet::net_of;
-use qm_mesh::Mesh;
 use std::alloc::Global;
 
-/// The network of a layout for new edges of this length: what is wished of an arc is its length in space, in
-/// thousandths of such an edge. Near linear in the darts of the arcs, as a root takes at most 64 steps.
-pub fn measured(
-    alloc: Global,
-    mesh: &Mesh,
-    t: &TMesh,
-    pos: &[[Micro; 3]],
-    edge: Micro,
-    floor: u32,
-) -> Result<Net, MetricFail>
-    requires layout { IsMeshLayout mesh.now (plan t.now) }
-    requires positions { length pos.now ≡ vertex_count mesh.now }
-    requires edge { whole 1 ≤ℤ edge }
-    requires floor { (1 ≤ floor) × (floor ≤ 3) }
-    ensures net { IfOk result (λ net. IsNetFor (targets mesh.now pos.now (unsigned_abs edge)) (plan t.now)
-        (edge_settings floor) (network net)) }
-    ensures near { OnOk result (AreNear (targets mesh.now pos.now (unsigned_abs edge)) (plan t.now)) }
-    ensures refused { IfErr result (HasNoTargets (targets mesh.now pos.now (unsigned_abs edge)) (plan t.now) floor) }
+/// The network of a layout for what a fit aims at. There is a wish for each dart where these are what it aims at. Near
+/// linear in the darts of the arcs, as a root takes at most 64 steps.
+pub fn net_for(alloc: Global, cut: &CutMesh, fit: &Fit, wishes: &[u32]) -> Result<Net, MetricFail>
+    requires fit { IsFit fit.now }
+    requires wishes { fit.now.aim ≡ Aim.Wishes → length wishes.now ≡ darts cut.now.soup.faces }
+    ensures net { IfOk result (λ net. IsNetFor (aimed fit.now.aim cut.now.soup wishes.now) cut.now.plan
+        (fit_settings fit.now) (network net)) }
+    ensures near { OnOk result
+        (AreAimedNear fit.now.aim (aimed fit.now.aim cut.now.soup wishes.now) cut.now.plan) }
+    ensures even { (p q : ℕ) → fit.now.aim ≡ Aim.Scale p q → IfOk result (λ net. IsEven (network net)) }
+    ensures refused { IfErr result (λ fail. IsFitFail fit.now.aim (aimed fit.now.aim cut.now.soup wishes.now)
+        cut.now.plan (fit_settings fit.now) (size_fail_of fail)) }
 {
-    let set = Settings {
-        p: 1,
-        q: EDGE_PARTS,
-        floor,
-        weight: Weight::Plain,
-    };
-    let net = net_of(alloc, t, &set)?;
-    let ruler = Ruler {
-        mesh,
-        pos,
-        edge: edge.n.unsigned_abs(),
-    };
-    let targets = targets_of(alloc, &ruler, &t.arcs)?;
-    if targets.sum > u128::from(MAX_TARGETS) {
-        return Err(MetricFail::Far { sum: targets.sum });
+    let layout = cut.layout();
+    let net = net_of(alloc, layout, &fit_settings(fit))?;
+    let sums = sums_of(alloc, cut, &fit.aim, wishes, &layout.arcs)?;
+    if sums.sum > u128::from(MAX_TARGETS) {
+        return Err(MetricFail::Far { sum: sums.sum });
     }
-    Ok(with_wishes(net, &targets.wishes))
+    Ok(with_wishes(net, &sums.wishes))
 }

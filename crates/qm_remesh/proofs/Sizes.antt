@@ -1,34 +1,28 @@
--- Why a layout is not remeshed with edges of a given length.
-use Rattle.std.proofs.Common.{◌≡◌, false, ℕ, subst}
+-- Why a layout is not remeshed with what is wished of it.
+use Rattle.std.proofs.Common.{◌≡◌, ℕ, false, refl}
+use Rattle.def_fit.specs.Aims.{denominator, numerator, AreAimedNear, IsFitFail}
+use Rattle.def_fit.specs.declared.fit.Aim.{Aim}
+use Rattle.def_fit.specs.declared.fit.Aim.TheVariants.{Scale, Edge, Wishes}
+use Rattle.def_flow.specs.declared.net.Settings.{Settings}
 use Rattle.def_layout.specs.Plans.{Plan}
-use Rattle.def_mesh.specs.Faces.{Faces}
-use Rattle.def_text.specs.Types.{Positions}
 use Rattle.def_remesh.specs.Refusals.{IsLayoutFail}
 use Rattle.def_remesh.specs.Tasks.{Wish}
 use Rattle.def_remesh.specs.declared.kept.LayoutFail.{LayoutFail}
 use Rattle.def_remesh.specs.declared.kept.LayoutFail.TheVariants as layouts
-use Rattle.def_metric.specs.Fails.{size_fail_of, AreNear, HasNoTargets, IsSizeFail}
-use Rattle.def_metric.specs.Targets.{edge_settings, targets}
-use Rattle.def_metric.specs.declared.fail.MetricFail.{MetricFail}
-use Rattle.def_metric.specs.declared.fail.MetricFail.TheVariants.{Tangled, Far, Memory}
+use Rattle.def_metric.specs.Fails.{AreNear}
 use Rattle.def_metric.specs.declared.fail.SizeFail.TheVariants.{Layout}
 
--- It has no network.
-pub no_targets : (wish : Wish) (plan : Plan) (floor : ℕ) (fail : MetricFail) → HasNoTargets wish plan floor fail → IsSizeFail wish plan floor (size_fail_of fail)
-no_targets wish plan floor (Tangled count) why = why
-no_targets wish plan floor (Far sum) why = why
-no_targets wish plan floor Memory why = tt
-
 -- Its least lengths give no new mesh.
-pub no_mesh : (wish : Wish) (plan : Plan) (floor : ℕ) (fail : LayoutFail) → AreNear wish plan → IsLayoutFail wish plan (edge_settings floor) false fail
-    → IsSizeFail wish plan floor (Layout fail)
-no_mesh wish plan floor (layouts.Tangled count) near why = why
-no_mesh wish plan floor layouts.Memory near why = tt
-no_mesh wish plan floor (layouts.TooFine faces kept) near why = (near, why)
-no_mesh wish plan floor (layouts.Doubled u v cert) near why = (near, why)
+pub no_mesh : (aim : Aim) (wish : Wish) (plan : Plan) (settings : Settings) (fail : LayoutFail) → AreAimedNear aim wish plan
+    → IsLayoutFail wish plan settings false fail → IsFitFail aim wish plan settings (Layout fail)
+no_mesh aim wish plan settings (layouts.Tangled count) near why = why
+no_mesh aim wish plan settings layouts.Memory near why = tt
+no_mesh aim wish plan settings (layouts.TooFine faces kept) near why = (near, why)
+no_mesh aim wish plan settings (layouts.Doubled u v cert) near why = (near, why)
 
--- What holds of the targets and a layout of a mesh holds of them under other names.
-pub renamed : (P : Wish → Plan → Type 0) (faces also : Faces) (places beside : Positions) (edge : ℕ) (plan other : Plan) → faces ≡ also → places ≡ beside
-    → plan ≡ other → P (targets faces places edge) plan → P (targets also beside edge) other
-renamed P faces also places beside edge plan other f p q holds =
-    subst (λ (r : Plan). P (targets also beside edge) r) q (subst (λ (w : Wish). P w plan) (λ i. targets (f i) (p i) edge) holds)
+-- Wishes that do not scale the old lengths are in thousandths of an edge, and their sum is bounded.
+pub unscaled : (aim : Aim) (wish : Wish) (plan : Plan) → ((p q : ℕ) → aim ≡ Scale p q → ⊥) → AreAimedNear aim wish plan
+    → (numerator aim ≡ 1) × (denominator aim ≡ 1000) × AreNear wish plan
+unscaled (Scale p q) wish plan other near = absurd (other p q refl)
+unscaled (Edge edge) wish plan other near = (refl, refl, near)
+unscaled Wishes wish plan other near = (refl, refl, near)

@@ -8,14 +8,11 @@ ghost use Rattle.def_metric.specs.Targets.{edge_settings, targets};
 ghost use Rattle.def_remesh.specs.Keeping.{IsKept};
 ghost use Rattle.def_remesh.specs.Placings.{IsMeshLayout};
 
-use crate::keeping::keep_solved;
-use def_certtext::Asked;
-use def_flow::{Settings, Weight};
-use def_metric::{EDGE_PARTS, SizeFail};
+use crate::fitted::keep_fit;
+use def_metric::SizeFail;
 use def_text::Micro;
 use qm_cutmesh::CutMesh;
-use qm_metric::{measured, old_start};
-use qm_solve::solve_near;
+use qm_metric::edge_fit;
 use qm_write::Remesh;
 use std::alloc::Global;
 
@@ -35,19 +32,5 @@ pub fn keep_sized(alloc: Global, cut: &CutMesh, edge: Micro, floor: u32) -> Resu
     ensures refused { IfErr result
         (IsSizeFail (targets cut.now.soup.faces cut.now.soup.pos (unsigned_abs edge)) cut.now.plan floor) }
 {
-    let layout = cut.layout();
-    let net = measured(alloc, cut.mesh(), layout, cut.pos(), edge, floor)?;
-    let start = old_start(alloc, layout, floor)?;
-    let first = solve_near(alloc, &net, start)?;
-    let asked = Asked {
-        settings: Settings {
-            p: 1,
-            q: EDGE_PARTS,
-            floor,
-            weight: Weight::Plain,
-        },
-        auto: false,
-    };
-    let kept = keep_solved(alloc, cut, asked, net, first)?;
-    Ok(kept)
+    keep_fit(alloc, cut, &edge_fit(edge, floor), &[])
 }

@@ -8,10 +8,19 @@ use Rattle.std.specs.Str.{bytes_eq}
 use Rattle.std.proofs.lemmas.Bool.{and_from, and_parts, cases_Bool, eqb-true, false≢true, or_left, or_right}
 use Rattle.std.proofs.lemmas.Slice.Eq.{bytes_eq-Decides}
 use Rattle.def_certtext.specs.Settings.{floor_text, weight_text, IsFloor}
+use Rattle.def_fit.specs.FitWords.{keep_word, patches_word, IsAimWord, IsEdgeLength}
+use Rattle.def_fit.specs.declared.fit.Aim.{Aim}
+use Rattle.def_fit.specs.declared.fit.Aim.TheVariants.{Scale, Edge, Wishes}
+use Rattle.def_fit.specs.declared.fit.Fit.{Fit}
 use Rattle.def_flow.specs.declared.net.Settings.{Settings}
 use Rattle.def_flow.specs.declared.net.Weight.{Weight}
 use Rattle.def_flow.specs.declared.net.Weight.TheVariants.{Plain, Length}
-use Rattle.def_run.specs.CommandLines.{remesh_options, size_options, HasCount, HasEdge, HasSettings, IsEdgeLength}
+use Rattle.def_patches.specs.declared.Keep.{Keep}
+use Rattle.def_patches.specs.declared.Keep.TheVariants.{Nothing, Lines}
+use Rattle.def_patches.specs.declared.Patches.{Patches}
+use Rattle.def_patches.specs.declared.Patches.TheVariants.{Traced, Merged, Conforming}
+use Rattle.def_run.specs.CommandLines.{fit_options, grids_options, layout_options, remesh_options, size_options, HasCount, HasCutOptions, HasEdge}
+use Rattle.def_run.specs.CommandLines.{HasFitOptions, HasGridsOptions, HasSettings}
 use Rattle.def_run.specs.Options.{count_of, is_of, value_of, AreOptions, Use, Uses}
 use Rattle.def_text.specs.Decimal.{rounded_size}
 use Rattle.def_text.specs.Types.{Word, Words}
@@ -65,11 +74,24 @@ once_of (n ∷ names) uses name all known =
       | inr other ↦ later (rw other at known)
     ]
 
-values_plain : (names words : Words) (uses : Uses) → AreOptions names words uses → ((name : Word) → is_known names name ≡ true → is_plain (value_of name uses) ≡ true)
+-- A name among these is one of them.
+known_plain : (names : Words) (uses : Uses) (n : Word) → list_all (λ name. is_plain (value_of name uses)) names ≡ true → is_known names n ≡ true
+    → is_plain (value_of n uses) ≡ true
+known_plain [] uses n all known = absurd (false≢true known)
+known_plain (name ∷ names) uses n all known =
+    let parts = and_parts (is_plain (value_of name uses)) (list_all (λ m. is_plain (value_of m uses)) names) all in
+    let later : is_known names n ≡ true → is_plain (value_of n uses) ≡ true = known_plain names uses n parts.1 in
+    elim (cases_Bool (bytes_eq name n)) [
+      | inl is ↦ subst (λ (m : Word). is_plain (value_of m uses) ≡ true) ((bytes_eq-Decides name n).0 is) parts.0
+      | inr other ↦ later (rw other at known)
+    ]
+
+values_plain : (names words : Words) (uses : Uses) → AreOptions names words uses → list_all (λ name. is_plain (value_of name uses)) names ≡ true
     → list_all (λ (one : Use). is_plain one.value) uses ≡ true
 values_plain names words uses line plain =
     let parts = and_parts (list_all (λ n. count_of n uses == 1) names) _ line.once in
-    each_plain names uses parts.1 (λ name known. omega (arith, once_of names uses name parts.0 known)) (λ name known some. plain name known)
+    each_plain names uses parts.1 (λ name known. omega (arith, once_of names uses name parts.0 known))
+    (λ name known some. known_plain names uses name plain known)
 
 -- Digits begin with no hyphen, and so does what begins with them.
 digits_plain : (digits : Word) (behind : Word) → list_all is_ascii_digit digits ≡ true → is_plain behind ≡ true → is_plain (digits ++ behind) ≡ true
@@ -92,24 +114,17 @@ weight_plain : (weight : Weight) → is_plain (weight_text weight) ≡ true
 weight_plain Plain = refl
 weight_plain Length = refl
 
--- A name among few is one of them.
-one_name : (name : Word) (n : Word) → is_known (name ∷ []) n ≡ true → n ≡ name
-one_name name n known = by_test (cases_Bool (bytes_eq name n))
-  where
-    by_test : (bytes_eq name n ≡ true) ⊎ (bytes_eq name n ≡ false) → n ≡ name
-    by_test (inl is) = sym ((bytes_eq-Decides name n).0 is)
-    by_test (inr other) = absurd (false≢true (rw other at known))
-
 -- So what clap refuses is no line.
 pub no_count : (name : Word) (greatest : ℕ) (words : Words) (n : ℕ) → greatest ≤ 10000 → Refuses (name ∷ []) words → HasCount name greatest words n → ⊥
 no_count name greatest words n few refuses has =
     refuses has.uses has.options
     (values_plain (name ∷ []) words has.uses has.options
-    (λ m known. subst (λ (k : Word). is_plain (value_of k has.uses) ≡ true) (sym (one_name name m known))
-    (ap is_plain has.count.written ∙ number_plain n (omega (arith, has.count.high)))))
+    (and_from _ _ (ap is_plain has.count.written ∙ number_plain n (omega (arith, has.count.high))) refl))
 
 pub no_settings : (words : Words) (settings : Settings) (auto : Bool) → Refuses remesh_options words → HasSettings words settings auto → ⊥
-no_settings words settings auto refuses has = refuses has.uses has.options (values_plain remesh_options words has.uses has.options by_name)
+no_settings words settings auto refuses has =
+    refuses has.uses has.options
+    (values_plain remesh_options words has.uses has.options (and_from _ _ scale (and_from _ _ floor (and_from _ _ weight refl))))
   where
     scale : is_plain (value_of (codes "scale") has.uses) ≡ true
     scale = ap is_plain has.values.scaled ∙ digits_plain (decimal settings.p) (47 ∷ decimal settings.q) (decimal_digits settings.p (omega (arith, has.values.in_range.p_high))) refl
@@ -119,19 +134,6 @@ no_settings words settings auto refuses has = refuses has.uses has.options (valu
 
     weight : is_plain (value_of (codes "weight") has.uses) ≡ true
     weight = ap is_plain has.values.weighed ∙ weight_plain settings.weight
-
-    plain_at : (name n : Word) → bytes_eq name n ≡ true → is_plain (value_of name has.uses) ≡ true → is_plain (value_of n has.uses) ≡ true
-    plain_at name n is plain = subst (λ (k : Word). is_plain (value_of k has.uses) ≡ true) ((bytes_eq-Decides name n).0 is) plain
-
-    by_tests : (n : Word) → (bytes_eq (codes "scale") n ≡ true) ⊎ (bytes_eq (codes "scale") n ≡ false) → (bytes_eq (codes "floor") n ≡ true) ⊎ (bytes_eq (codes "floor") n ≡ false)
-        → (bytes_eq (codes "weight") n ≡ true) ⊎ (bytes_eq (codes "weight") n ≡ false) → is_known remesh_options n ≡ true → is_plain (value_of n has.uses) ≡ true
-    by_tests n (inl is) b c known = plain_at (codes "scale") n is scale
-    by_tests n (inr s) (inl is) c known = plain_at (codes "floor") n is floor
-    by_tests n (inr s) (inr f) (inl is) known = plain_at (codes "weight") n is weight
-    by_tests n (inr s) (inr f) (inr w) known = absurd (false≢true (rw (s, f, w) at known))
-
-    by_name : (n : Word) → is_known remesh_options n ≡ true → is_plain (value_of n has.uses) ≡ true
-    by_name n known = by_tests n (cases_Bool (bytes_eq (codes "scale") n)) (cases_Bool (bytes_eq (codes "floor") n)) (cases_Bool (bytes_eq (codes "weight") n)) known
 
 -- A length above 0 has no minus.
 edge_plain : (word : Word) (edge : ℤ) → IsEdgeLength word edge → is_plain word ≡ true
@@ -143,17 +145,47 @@ edge_plain (byte ∷ word) edge is = ap not (positive (byte == 45) (rounded_size
     positive false n edge same low = refl
 
 pub no_edge : (words : Words) (edge : ℤ) (floor : ℕ) → Refuses size_options words → HasEdge words edge floor → ⊥
-no_edge words edge floor refuses has = refuses has.uses has.options (values_plain size_options words has.uses has.options by_name)
-  where
-    plain_at : (name n : Word) → bytes_eq name n ≡ true → is_plain (value_of name has.uses) ≡ true → is_plain (value_of n has.uses) ≡ true
-    plain_at name n is plain = subst (λ (k : Word). is_plain (value_of k has.uses) ≡ true) ((bytes_eq-Decides name n).0 is) plain
+no_edge words edge floor refuses has =
+    refuses has.uses has.options
+    (values_plain size_options words has.uses has.options
+    (and_from _ _ (edge_plain (value_of (codes "edge") has.uses) edge has.length)
+    (and_from _ _ (ap is_plain has.least.written ∙ number_plain floor (omega (arith, has.least.high))) refl)))
 
-    by_tests : (n : Word) → (bytes_eq (codes "edge") n ≡ true) ⊎ (bytes_eq (codes "edge") n ≡ false) → (bytes_eq (codes "floor") n ≡ true) ⊎ (bytes_eq (codes "floor") n ≡ false)
-        → is_known size_options n ≡ true → is_plain (value_of n has.uses) ≡ true
-    by_tests n (inl is) b known = plain_at (codes "edge") n is (edge_plain (value_of (codes "edge") has.uses) edge has.length)
-    by_tests n (inr e) (inl is) known =
-        plain_at (codes "floor") n is (ap is_plain has.least.written ∙ number_plain floor (omega (arith, has.least.high)))
-    by_tests n (inr e) (inr f) known = absurd (false≢true (rw (e, f) at known))
+-- The words of a fit begin with letters.
+keep_plain : (keep : Keep) → is_plain (keep_word keep) ≡ true
+keep_plain Nothing = refl
+keep_plain Lines = refl
 
-    by_name : (n : Word) → is_known size_options n ≡ true → is_plain (value_of n has.uses) ≡ true
-    by_name n known = by_tests n (cases_Bool (bytes_eq (codes "edge") n)) (cases_Bool (bytes_eq (codes "floor") n)) known
+patches_plain : (patches : Patches) → is_plain (patches_word patches) ≡ true
+patches_plain Traced = refl
+patches_plain Merged = refl
+patches_plain Conforming = refl
+
+aim_plain : (word : Word) (aim : Aim) → IsAimWord word aim → is_plain word ≡ true
+aim_plain word (Scale p q) is = ap is_plain is
+aim_plain word (Edge edge) is = ap is_plain is.1
+aim_plain word Wishes is = ap is_plain is
+
+pub no_fit : (words : Words) (fit : Fit) → Refuses fit_options words → HasFitOptions words fit → ⊥
+no_fit words fit refuses has =
+    refuses has.uses has.options
+    (values_plain fit_options words has.uses has.options
+    (and_from _ _ (ap is_plain has.values.kept ∙ keep_plain fit.keep)
+    (and_from _ _ (ap is_plain has.values.cut ∙ patches_plain fit.patches)
+    (and_from _ _ (aim_plain _ fit.aim has.values.aimed)
+    (and_from _ _ (ap is_plain has.values.bounded ∙ number_plain fit.floor (omega (arith, has.values.in_range.high)))
+    (and_from _ _ (ap is_plain has.values.weighed ∙ weight_plain fit.weight) (and_from _ _ (ap is_plain has.values.spaced) refl)))))))
+
+pub no_cut : (words : Words) (keep : Keep) (patches : Patches) → Refuses layout_options words → HasCutOptions words keep patches → ⊥
+no_cut words keep patches refuses has =
+    refuses has.uses has.options
+    (values_plain layout_options words has.uses has.options
+    (and_from _ _ (ap is_plain has.kept ∙ keep_plain keep) (and_from _ _ (ap is_plain has.cut ∙ patches_plain patches) refl)))
+
+pub no_grids : (words : Words) (keep : Keep) (patches : Patches) (by : ℕ) → Refuses grids_options words → HasGridsOptions words keep patches by → ⊥
+no_grids words keep patches by refuses has =
+    refuses has.uses has.options
+    (values_plain grids_options words has.uses has.options
+    (and_from _ _ (ap is_plain has.kept ∙ keep_plain keep)
+    (and_from _ _ (ap is_plain has.cut ∙ patches_plain patches)
+    (and_from _ _ (ap is_plain has.count.written ∙ number_plain by (omega (arith, has.count.high))) refl))))

@@ -6,16 +6,22 @@ use Rattle.std.proofs.lemmas.Slice.Eq.{bytes_eq-Decides}
 use Rattle.def_flow.specs.declared.net.Settings.{Settings}
 use Rattle.std.specs.Prelude.{codes, ℤ}
 use Rattle.def_certtext.specs.Settings.{AreWordsOf}
-use Rattle.def_run.specs.CommandLines.{name_of, HasCount, HasEdge, HasOptions, HasSettings, IsCommand}
+use Rattle.def_fit.specs.FitWords.{AreFitWords}
+use Rattle.def_fit.specs.declared.fit.Fit.{Fit as AnyFit}
+use Rattle.def_run.specs.CommandLines.{name_of, HasCount, HasCutOptions, HasEdge, HasFitOptions, HasGridsOptions, HasOptions}
+use Rattle.def_run.specs.CommandLines.{HasSettings, IsCommand}
+use Rattle.def_patches.specs.declared.Keep.{Keep}
+use Rattle.def_patches.specs.declared.Patches.{Patches}
 use Rattle.def_run.specs.Options.{uses_of, value_of, Uses}
 use Rattle.def_run.specs.declared.command.Command.{Command}
-use Rattle.def_run.specs.declared.command.Command.TheVariants.{Tidy, Graph, Refine, Remesh, Check, Bench, Crease, Size, Coarse, Blocks, Map}
+use Rattle.def_run.specs.declared.command.Command.TheVariants.{Tidy, Graph, Refine, Remesh, Check, Bench, Crease, Size, Coarse, Blocks, Map, Fit, LayOut, Grids}
 use Rattle.def_run.specs.declared.words.WordsFail.{WordsFail}
 use Rattle.def_run.specs.declared.words.WordsFail.TheVariants.{Memory, Usage}
 use Rattle.def_text.specs.Decimal.{rounded}
 use Rattle.def_text.specs.Types.{Word, Words}
 use Rattle.std.proofs.lemmas.Fmt.{decimal_injective}
 use Rattle.qm_certtext.proofs.Unique.{same_settings}
+use Rattle.qm_fit.proofs.OneFit.{same_fit, same_keep, same_patches}
 
 -- Other names are other lines.
 apart : (x y : Word) → bytes_eq x y ≡ false → x ≡ y → ⊥
@@ -48,6 +54,33 @@ same_edge words e d m n one two =
           (sym one.least.written ∙ ap (value_of (codes "floor")) uses ∙ two.least.written),
     )
 
+same_fits : (words : Words) (a b : AnyFit) → HasFitOptions words a → HasFitOptions words b → a ≡ b
+same_fits words a b one two =
+    let uses = same_uses words two.uses one.uses two.options.spelled one.options.spelled in
+    same_fit _ _ _ _ _ _ a b one.values (subst (HasValues b) uses two.values)
+  where
+    HasValues : AnyFit → Uses → Type 0
+    HasValues fit uses = AreFitWords (value_of (codes "keep") uses) (value_of (codes "patches") uses) (value_of (codes "aim") uses)
+        (value_of (codes "floor") uses) (value_of (codes "weight") uses) (value_of (codes "spacing") uses) fit
+
+-- So do words that choose a cut.
+same_cut : (words : Words) (k l : Keep) (p q : Patches) → HasCutOptions words k p → HasCutOptions words l q → (k ≡ l) × (p ≡ q)
+same_cut words k l p q one two =
+    let uses = same_uses words one.uses two.uses one.options.spelled two.options.spelled in (
+      same_keep k l (sym one.kept ∙ ap (value_of (codes "keep")) uses ∙ two.kept),
+      same_patches p q (sym one.cut ∙ ap (value_of (codes "patches")) uses ∙ two.cut),
+    )
+
+same_grids : (words : Words) (k l : Keep) (p q : Patches) (m n : ℕ) → HasGridsOptions words k p m → HasGridsOptions words l q n
+    → (k ≡ l) × (p ≡ q) × (m ≡ n)
+same_grids words k l p q m n one two =
+    let uses = same_uses words one.uses two.uses one.options.spelled two.options.spelled in (
+      same_keep k l (sym one.kept ∙ ap (value_of (codes "keep")) uses ∙ two.kept),
+      same_patches p q (sym one.cut ∙ ap (value_of (codes "patches")) uses ∙ two.cut),
+      decimal_injective m n (omega (arith, one.count.high)) (omega (arith, two.count.high))
+          (sym one.count.written ∙ ap (value_of (codes "by")) uses ∙ two.count.written),
+    )
+
 same_options : (a b : Command) (words : Words) → name_of a ≡ name_of b → HasOptions a words → HasOptions b words → a ≡ b
 same_options Tidy Tidy words name one two = refl
 same_options Graph Graph words name one two = refl
@@ -64,6 +97,13 @@ same_options (Size e m) (Size d n) words name one two =
 same_options (Coarse s) (Coarse t) words name one two = ap (λ (k : Settings). Coarse k) (same_asked words s t false false one two).0
 same_options (Blocks m) (Blocks n) words name one two = ap (λ (k : ℕ). Blocks k) (same_count _ 1000 words m n (omega arith) one two)
 same_options Map Map words name one two = refl
+same_options (Fit f) (Fit g) words name one two = ap (λ (k : AnyFit). Fit k) (same_fits words f g one two)
+same_options (LayOut k p) (LayOut l q) words name one two =
+    let both = same_cut words k l p q one two in
+    λ i. LayOut (both.0 i) (both.1 i)
+same_options (Grids k p m) (Grids l q n) words name one two =
+    let all = same_grids words k l p q m n one two in
+    λ i. Grids (all.0 i) (all.1 i) (all.2 i)
 same_options a b words name one two = absurd (apart (name_of a) (name_of b) refl name)
 
 pub one_command : (words : Words) (a b : Command) → IsCommand words a → IsCommand words b → a ≡ b

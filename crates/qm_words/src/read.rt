@@ -4,7 +4,7 @@ ghost use Rattle.std.specs.Prelude.{◌≡◌, ◌↔◌, ◌⊎◌, [], map, st
 ghost use Rattle.def_run.specs.CommandLines.{name_of, HasOptions, IsCommand};
 ghost use Rattle.def_run.specs.declared.command.Command.{Command as AnyCommand};
 
-use crate::values::{edge_of, fixed_settings_of, number_of, settings_of};
+use crate::values::{cut_of, edge_of, fit_of, fixed_settings_of, grids_of, number_of, settings_of};
 use def_run::{Command, MAX_MULTIPLE, MAX_SIZE, WordsFail};
 use std::alloc::Global;
 
@@ -82,6 +82,25 @@ fn read_command(alloc: Global, name: &str, rest: &[String]) -> Result<Command, W
     }
     if is_word(name, "map") {
         return alone(Command::Map, rest);
+    }
+    if is_word(name, "fit") {
+        let fit = fit_of(alloc, rest)?;
+        return Ok(Command::Fit { fit });
+    }
+    if is_word(name, "layout") {
+        let chosen = cut_of(alloc, rest)?;
+        return Ok(Command::LayOut {
+            keep: chosen.keep,
+            patches: chosen.patches,
+        });
+    }
+    if is_word(name, "grids") {
+        let chosen = grids_of(alloc, rest)?;
+        return Ok(Command::Grids {
+            keep: chosen.keep,
+            patches: chosen.patches,
+            by: chosen.by,
+        });
     }
     Err(WordsFail::Usage)
 }

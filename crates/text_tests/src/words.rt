@@ -1,5 +1,6 @@
 //! Lines as a shell hands them over.
 
+use def_fit::{Aim, Fit, Keep, Patches};
 use def_flow::{Settings, Weight};
 use def_run::{Command, WordsFail};
 use def_text::Micro;
@@ -21,78 +22,160 @@ const WHOLE: Settings = Settings {
     weight: Weight::Length,
 };
 
-/// Lines with the commands that they are.
-const COMMANDS: [(&str, Command); 13] = [
-    ("tidy", Command::Tidy),
-    ("graph", Command::Graph),
-    ("check", Command::Check),
-    ("refine --by=1000", Command::Refine { by: 1000 }),
-    ("bench --size 10000", Command::Bench { size: 10_000 }),
+/// The cut that keeps lines, with lengths as the lines wish.
+const LINES: Fit = Fit {
+    keep: Keep::Lines,
+    patches: Patches::Conforming,
+    aim: Aim::Wishes,
+    floor: 2,
+    weight: Weight::Length,
+};
+
+/// No command.
+const NONE: Result<Command, WordsFail> = Err(WordsFail::Usage);
+
+/// Lines with the commands that they are, and those that are none.
+const CASES: [(&str, Result<Command, WordsFail>); 50] = [
+    ("tidy", Ok(Command::Tidy)),
+    ("graph", Ok(Command::Graph)),
+    ("check", Ok(Command::Check)),
+    ("refine --by=1000", Ok(Command::Refine { by: 1000 })),
+    ("bench --size 10000", Ok(Command::Bench { size: 10_000 })),
     (
         "size --edge +50e-2 --floor=3",
-        Command::Size {
+        Ok(Command::Size {
             edge: Micro { n: 500_000 },
             floor: 3,
-        },
+        }),
     ),
     (
         "remesh --scale=1/2 --weight plain --floor 1",
-        Command::Remesh {
+        Ok(Command::Remesh {
             settings: HALF,
             auto: false,
-        },
+        }),
     ),
     (
         "remesh --floor auto --scale 1/2 --weight=plain",
-        Command::Remesh {
+        Ok(Command::Remesh {
             settings: HALF,
             auto: true,
-        },
+        }),
     ),
     (
         "remesh --weight length --floor=3 --scale 2/4",
-        Command::Remesh {
+        Ok(Command::Remesh {
             settings: WHOLE,
             auto: false,
-        },
+        }),
     ),
     (
         "crease --floor 3 --scale=2/4 --weight length",
-        Command::Crease { settings: WHOLE },
+        Ok(Command::Crease { settings: WHOLE }),
     ),
     (
         "coarse --weight=length --scale 2/4 --floor 3",
-        Command::Coarse { settings: WHOLE },
+        Ok(Command::Coarse { settings: WHOLE }),
     ),
-    ("blocks --by 7", Command::Blocks { by: 7 }),
-    ("map", Command::Map),
-];
-
-/// Lines that are no command.
-const REFUSED: [&str; 23] = [
-    "",
-    "tidy --",
-    "--help",
-    "refine",
-    "refine --help",
-    "refine --by 0",
-    "refine --by 1001",
-    "refine --by=-3",
-    "refine --by 2 --by 2",
-    "refine --by=2 --",
-    "refine --by 2 more",
-    "refine --b=2",
-    "size --edge=0 --floor 1",
-    "size --edge=-1 --floor 1",
-    "size --edge 1 --floor auto",
-    "size --edge 1000000000 --floor 1",
-    "remesh --scale 1/2 --floor 1",
-    "remesh --scale 0/2 --floor 1 --weight plain",
-    "remesh --scale 01/2 --floor 1 --weight plain",
-    "remesh --scale 1/2 --floor 4 --weight plain",
-    "crease --floor auto --scale=2/4 --weight length",
-    "coarse --weight length --scale 2/4 --floor auto",
-    "blocks --by=0",
+    ("blocks --by 7", Ok(Command::Blocks { by: 7 })),
+    ("map", Ok(Command::Map)),
+    (
+        "fit --keep lines --patches conforming --aim lines --floor 2 --weight length --spacing even",
+        Ok(Command::Fit { fit: LINES }),
+    ),
+    (
+        "fit --spacing=even --aim=scale:2/4 --weight=plain --floor=1 --patches merged --keep none",
+        Ok(Command::Fit {
+            fit: Fit {
+                keep: Keep::Nothing,
+                patches: Patches::Merged,
+                aim: Aim::Scale { p: 2, q: 4 },
+                floor: 1,
+                weight: Weight::Plain,
+            },
+        }),
+    ),
+    (
+        "fit --aim edge:+50e-2 --keep=none --patches=traced --floor 3 --weight plain --spacing even",
+        Ok(Command::Fit {
+            fit: Fit {
+                keep: Keep::Nothing,
+                patches: Patches::Traced,
+                aim: Aim::Edge {
+                    edge: Micro { n: 500_000 },
+                },
+                floor: 3,
+                weight: Weight::Plain,
+            },
+        }),
+    ),
+    ("", NONE),
+    ("tidy --", NONE),
+    ("--help", NONE),
+    ("refine", NONE),
+    ("refine --help", NONE),
+    ("refine --by 0", NONE),
+    ("refine --by 1001", NONE),
+    ("refine --by=-3", NONE),
+    ("refine --by 2 --by 2", NONE),
+    ("refine --by=2 --", NONE),
+    ("refine --by 2 more", NONE),
+    ("refine --b=2", NONE),
+    ("size --edge=0 --floor 1", NONE),
+    ("size --edge=-1 --floor 1", NONE),
+    ("size --edge 1 --floor auto", NONE),
+    ("size --edge 1000000000 --floor 1", NONE),
+    ("remesh --scale 1/2 --floor 1", NONE),
+    ("remesh --scale 0/2 --floor 1 --weight plain", NONE),
+    ("remesh --scale 01/2 --floor 1 --weight plain", NONE),
+    ("remesh --scale 1/2 --floor 4 --weight plain", NONE),
+    ("crease --floor auto --scale=2/4 --weight length", NONE),
+    ("coarse --weight length --scale 2/4 --floor auto", NONE),
+    ("blocks --by=0", NONE),
+    (
+        "fit --keep lines --patches conforming --aim lines --floor 2 --weight length",
+        NONE,
+    ),
+    (
+        "fit --keep line --patches traced --aim lines --floor 1 --weight plain --spacing even",
+        NONE,
+    ),
+    (
+        "fit --keep none --patches trace --aim lines --floor 1 --weight plain --spacing even",
+        NONE,
+    ),
+    (
+        "fit --keep none --patches traced --aim wishes --floor 1 --weight plain --spacing even",
+        NONE,
+    ),
+    (
+        "fit --keep none --patches traced --aim scale:1001/1 --floor 1 --weight plain --spacing even",
+        NONE,
+    ),
+    (
+        "fit --keep none --patches traced --aim scale:1 --floor 1 --weight plain --spacing even",
+        NONE,
+    ),
+    (
+        "fit --keep none --patches traced --aim edge: --floor 1 --weight plain --spacing even",
+        NONE,
+    ),
+    (
+        "fit --keep none --patches traced --aim edge:0.0000004 --floor 1 --weight plain --spacing even",
+        NONE,
+    ),
+    (
+        "fit --keep none --patches traced --aim edge:1000000000 --floor 1 --weight plain --spacing even",
+        NONE,
+    ),
+    (
+        "fit --keep none --patches traced --aim lines --floor auto --weight plain --spacing even",
+        NONE,
+    ),
+    (
+        "fit --keep none --patches traced --aim lines --floor 1 --weight plain --spacing wished",
+        NONE,
+    ),
 ];
 
 /// What the words of a line are read as.
@@ -106,16 +189,8 @@ fn read_line(alloc: Global, line: &str) -> Result<Result<Command, WordsFail>, Al
 
 #[test]
 fn lines_have_their_commands(rt: HostRuntime) -> Result<(), Fail> {
-    for (line, wanted) in COMMANDS {
-        assert_eq!(rt; read_line(rt.alloc(), line)?, Ok(wanted));
-    }
-    Ok(())
-}
-
-#[test]
-fn other_lines_are_refused(rt: HostRuntime) -> Result<(), Fail> {
-    for line in REFUSED {
-        assert_eq!(rt; read_line(rt.alloc(), line)?, Err(WordsFail::Usage));
+    for (line, wanted) in CASES {
+        assert_eq!(rt; read_line(rt.alloc(), line)?, wanted);
     }
     Ok(())
 }

@@ -1,0 +1,27 @@
+use Rattle.std.proofs.Common.{ap, sym, ◌∙◌}
+use Rattle.std.proofs.lemmas.Bool.{true≢false}
+use Rattle.def_fit.specs.FitWords.{aim_text}
+use Rattle.qm_fit.proofs.Heads.{head_of, line_cut, words_of}
+use Rattle.qm_fit.proofs.OneFit.{same_aim}
+use Rattle.qm_fit.proofs.reading.read_fit_head.Goals as goal
+
+pub returns-in_default : goal.returns-in_default
+returns-in_default c fit is head = c.in_default.ensures _ _ _ _ _ _ (line_cut c.args.line.now fit is head)
+
+pub returns-in_default-read_fit : goal.returns-in_default-read_fit
+returns-in_default-read_fit c fit is head =
+    c.in_default-read_fit.ensures fit (words_of c.args.line.now _ _ _ _ _ _ c.in-Some.ensures fit is head).0
+
+pub returns-then-is_aim_text : goal.returns-then-is_aim_text
+returns-then-is_aim_text c =
+    let read = c.in-Some-read_fit in (
+      head_of c.args.line.now _ _ _ _ _ _ c.in-Some.ensures read.fit read.ensures (c.is_aim_text.ensures.0 c.if-is_aim_text.true),
+      read.ensures.in_range,
+    )
+
+pub returns-else-is_aim_text : goal.returns-else-is_aim_text
+returns-else-is_aim_text c fit is head =
+    let read = c.in-Some-read_fit in
+    let told = words_of c.args.line.now _ _ _ _ _ _ c.in-Some.ensures fit is head in
+    let same = same_aim _ fit.aim read.fit.aim is.aim told.0.aimed read.ensures.in_range.aim read.ensures.aimed in
+    true≢false (sym (c.is_aim_text.ensures.1 (told.1 ∙ ap aim_text same)) ∙ c.if-is_aim_text.false)

@@ -1,0 +1,7 @@
+use Rattle.std.proofs.Common.{take}
+use Rattle.def_io.specs.Lines.{lines_of}
+use Rattle.qm_marks.proofs.AllWishes.{IsAtWish}
+use Rattle.qm_marks.proofs.wishes.read_wishes.Given as goal
+
+abbrev pub invariant-loop-i : goal.invariant-loop-i
+invariant-loop-i l = IsAtWish l.soup (take l.fn.after (lines_of l.lines)) l.places.all l.i l.wishes.items

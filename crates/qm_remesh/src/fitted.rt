@@ -1,0 +1,68 @@
+//! Least lengths for a layout, with whatever they aim at.
+
+ghost use Rattle.std.specs.Prelude.{◌≡◌, ℕ, false, length, IfOk, IfErr, OnOk};
+ghost use Rattle.def_certtext.specs.CertLines.{certificates_of};
+ghost use Rattle.def_fit.specs.Aims.{aimed, fit_settings, AreAimedNear, IsFit, IsFitFail};
+ghost use Rattle.def_flow.specs.Accepted.{certificate};
+ghost use Rattle.def_flow.specs.Admissible.{IsEven};
+ghost use Rattle.def_flow.specs.Descent.{IsSolution};
+ghost use Rattle.def_flow.specs.Network.{network};
+ghost use Rattle.def_mesh.specs.Darts.{darts};
+ghost use Rattle.def_remesh.specs.Keeping.{IsKept, IsNetFor};
+ghost use Rattle.def_remesh.specs.Placings.{IsMeshLayout};
+ghost use Rattle.def_remesh.specs.Tasks.{Wish};
+
+use crate::keeping::keep_solved;
+use def_certtext::Asked;
+use def_fit::{Aim, Fit};
+use def_flow::{Cert, Net};
+use def_metric::SizeFail;
+use qm_cutmesh::CutMesh;
+use qm_metric::{fit_settings, net_for, old_start};
+use qm_solve::{solve, solve_near};
+use qm_write::Remesh;
+use std::alloc::{AllocError, Global};
+
+/// Finds lengths that come nearest to what a fit aims at, and numbers the new mesh that they give. There is a wish for
+/// each dart where these are what it aims at.
+///
+/// The time is that of `solve` for a scale and else that of `solve_near` and, beyond it, near linear in the sizes of
+/// the old and the new mesh.
+pub fn keep_fit(alloc: Global, cut: &CutMesh, fit: &Fit, wishes: &[u32]) -> Result<Remesh, SizeFail>
+    requires fit { IsFit fit.now }
+    requires wishes { fit.now.aim ≡ Aim.Wishes → length wishes.now ≡ darts cut.now.soup.faces }
+    ensures kept { IfOk result (λ kept. IsKept (aimed fit.now.aim cut.now.soup wishes.now) cut.now.plan
+        (fit_settings fit.now) false (certificates_of kept.certs) kept.numbering) }
+    ensures asked { IfOk result (λ kept. kept.asked ≡ record { settings = fit_settings fit.now; auto = false }) }
+    ensures laid { IsMeshLayout cut.now.soup.faces cut.now.plan }
+    ensures near { OnOk result
+        (AreAimedNear fit.now.aim (aimed fit.now.aim cut.now.soup wishes.now) cut.now.plan) }
+    ensures refused { IfErr result
+        (IsFitFail fit.now.aim (aimed fit.now.aim cut.now.soup wishes.now) cut.now.plan (fit_settings fit.now)) }
+{
+    let _laid = cut.layout();
+    let net = net_for(alloc, cut, fit, wishes)?;
+    let first = solve_fit(alloc, cut, fit, &net)?;
+    let asked = Asked {
+        settings: fit_settings(fit),
+        auto: false,
+    };
+    let kept = keep_solved(alloc, cut, asked, net, first)?;
+    Ok(kept)
+}
+
+/// A least list of lengths of the network of a fit, with its certificate.
+fn solve_fit(alloc: Global, cut: &CutMesh, fit: &Fit, net: &Net) -> Result<Cert, AllocError>
+    requires net { (wish : Wish) × IsNetFor wish cut.now.plan (fit_settings fit.now) (network net.now)
+        × AreAimedNear fit.now.aim wish cut.now.plan }
+    requires even { (p q : ℕ) → fit.now.aim ≡ Aim.Scale p q → IsEven (network net.now) }
+    ensures { IfOk result (λ cert. IsSolution (network net.now) (certificate cert)) }
+{
+    match fit.aim {
+        Aim::Scale { .. } => solve(alloc, net),
+        _ => {
+            let start = old_start(alloc, cut.layout(), fit.floor)?;
+            solve_near(alloc, net, start)
+        }
+    }
+}
