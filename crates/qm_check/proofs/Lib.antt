@@ -1,13 +1,14 @@
 mod Aligned
 mod Differences
 mod Fronts
+pub mod Heads
 mod Kept
-pub mod Laid
 mod Maps
-pub mod MarkLines
 mod OldTexts
 pub mod Pairs
+mod Points
 mod Reach
 mod Refuted
-pub mod Tasks
+mod Results
+mod Tasks
 mod Verdicts

@@ -29,13 +29,14 @@ use Rattle.def_run.specs.declared.answer.Why.TheVariants as why
 use Rattle.def_run.specs.declared.check_fail.CheckFail.{CheckFail}
 use Rattle.def_run.specs.declared.check_fail.CheckFail.TheVariants.{NotAccepted, Old, NotManifold, Marks, Tangled, Far, Memory}
 use Rattle.def_run.specs.declared.command.Command.{Command}
-use Rattle.def_run.specs.declared.command.Command.TheVariants.{Refine, Remesh, Crease, Size, Coarse}
+use Rattle.def_run.specs.declared.command.Command.TheVariants.{Refine, Remesh, Crease, Size, Coarse, Fit}
 use Rattle.def_text.specs.FaceSet.{FaceSet}
 use Rattle.plan_laws.proofs.OnePlan.{one_layout_law}
 use Rattle.site_laws.proofs.Laws.{graph_law}
 use Rattle.qm_certtext.specs.declared.last.HeadAt.{HeadAt}
 use Rattle.qm_check.proofs.Pairs.{one_last}
-use Rattle.qm_check.proofs.Tasks.{ok_or_err, one_ok, shown_by}
+use Rattle.qm_check.proofs.Results.{ok_or_err, one_ok}
+use Rattle.qm_check.proofs.Tasks.{shown_by}
 use Rattle.qm_check.proofs.Verdicts.{shape_of, untangled}
 use Rattle.qm_check.specs.Checked.{IsDifference}
 use Rattle.qm_check.specs.Judged.{judged_by, Finishes, IsTextFail}
@@ -105,6 +106,7 @@ module _ (front text : Bytes) (soup : FaceSet) (mesh : IsMeshText front soup) (t
   map_is (Crease settings) asked = refl
   map_is (Size edge floor) asked = refl
   map_is (Coarse settings) asked = refl
+  map_is (Fit fit) asked = refl
   map_is _ asked = absurd asked
 
 module _ (bytes : Bytes) (mark : HeadAt) (old : FaceSet) (command : Command) (given : IsGivenTo bytes mark old command) where
@@ -133,9 +135,9 @@ module _ (bytes : Bytes) (mark : HeadAt) (old : FaceSet) (command : Command) (gi
       (inr (record { line = mark.line; command = command; headed = headed; said = why }), λ (has : HasMap bytes). never text (given_writes has))
   unmade_fails (Far sum) (why, never) =
       (inr (record { line = mark.line; command = command; headed = headed; said = why }), λ (has : HasMap bytes). never text (given_writes has))
-  unmade_fails (Marks fail) (lines, never) = (
-    record { line = mark.line; settings = lines.settings; headed = subst (IsHeadedBy bytes mark.line) lines.crease headed; said = lines.said },
-    lines.other,
+  unmade_fails (Marks fail) (said, other, never) = (
+    record { line = mark.line; command = command; headed = headed; said = said },
+    other,
     λ (has : HasMap bytes). never text (given_writes has),
   )
   unmade_fails Memory none = tt

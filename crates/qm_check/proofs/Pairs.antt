@@ -8,7 +8,6 @@ use Rattle.def_flow.specs.Network.{network}
 use Rattle.def_flow.specs.declared.net.Settings.{Settings}
 use Rattle.def_io.specs.Bytes.{Bytes, Lines}
 use Rattle.def_io.specs.Lines.{lines_of, tail_of}
-use Rattle.def_layout.specs.Arcs.{long_at}
 use Rattle.def_layout.specs.FaceLayouts.{IsCutLayout}
 use Rattle.def_layout.specs.Plans.{layout_of, Plan}
 use Rattle.def_layoutnet.specs.LayoutNet.{IsNetOf}
@@ -30,14 +29,14 @@ use Rattle.def_run.specs.declared.answer.Why.{Why}
 use Rattle.def_run.specs.declared.answer.Why.TheVariants as why
 use Rattle.def_run.specs.declared.check_fail.CheckFail.{CheckFail}
 use Rattle.def_run.specs.declared.check_fail.CheckFail.TheVariants.{NotAccepted, Old, NotManifold, Marks, Tangled, Far, Memory}
-use Rattle.def_run.specs.declared.command.Command.{Command}
-use Rattle.def_run.specs.declared.command.Command.TheVariants.{Remesh, Crease}
+use Rattle.def_run.specs.declared.command.Command.TheVariants.{Remesh}
 use Rattle.def_text.specs.FaceSet.{FaceSet}
 use Rattle.def_text.specs.Text.{soup_in, text_soup}
 use Rattle.def_text.specs.declared.refusal.ObjFail.{ObjFail}
 use Rattle.def_written.specs.NewFaces.{face_count}
 use Rattle.qm_certtext.proofs.Texts.{same_head}
-use Rattle.qm_check.proofs.Tasks.{ok_or_err, one_ok, shown_by}
+use Rattle.qm_check.proofs.Results.{ok_or_err, one_ok}
+use Rattle.qm_check.proofs.Tasks.{shown_by}
 use Rattle.qm_check.proofs.Verdicts.{untangled}
 use Rattle.qm_check.specs.Judged.{judged_by, Finishes, IsTextFail}
 use Rattle.qm_check.specs.Making.{IsReadyFor, IsUnmade}
@@ -178,8 +177,7 @@ module _ (bytes front : Bytes) (line : ℕ) (soup : FaceSet) (settings : Setting
       )
   unmade_fails (Far sum) (inl none, never) = absurd none
   unmade_fails (Far sum) (inr (task, plan, has, none), never) = absurd none
-  unmade_fails (Marks fail) (lines, never) =
-      let clash : ◌≡◌ {A = Command} (Remesh settings auto) (Crease lines.settings) = lines.crease in absurd cc
+  unmade_fails (Marks fail) (none, other, never) = absurd none
   unmade_fails Memory none = tt
   unmade_fails _ none = absurd none
 
@@ -253,6 +251,6 @@ module _ (bytes front : Bytes) (line : ℕ) (soup : FaceSet) (settings : Setting
         arcs_told = arcs_told ∙ ap (λ (p : Plan). length p.arcs) plan_is;
         faces_told = faces_told ∙ ap (λ (new : Regrid). face_count (layout_of new.plan) (lengths_in new.lengths)) by.new;
         net = network ready.net;
-        of_layout = subst (λ (p : Plan). IsNetOf (layout_of p) (long_at p.arcs) settings (network ready.net)) (sym by.plan_is) is.net.is;
+        of_layout = subst (λ (p : Plan). IsNetOf (layout_of p) (old_lengths p) (old_lengths p) settings (network ready.net)) (sym by.plan_is) is.net.is;
         deviation_told = deviates_told ∙ by.deviates;
       }

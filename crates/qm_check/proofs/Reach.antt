@@ -1,5 +1,5 @@
 -- The certificates that lines tell are within the limits of the checker.
-use Rattle.std.proofs.Common.{◌≡◌, ◌<◌, ◌≤◌, ◌+◌, ◌^◌, ℕ, zero, suc, pos, Bool, true, false, List, [], ◌∷◌, if◌then◌else◌, length, filter, drop, refl, ap, sym, ◌∙◌, subst, arith}
+use Rattle.std.proofs.Common.{◌≡◌, ◌<◌, ◌≤◌, ◌+◌, ◌^◌, ℕ, zero, suc, pos, Bool, true, false, List, [], ◌∷◌, if◌then◌else◌, length, drop, refl, ap, sym, ◌∙◌, subst, arith}
 use Rattle.std.specs.Prelude.{slice_index, slice_index_or, unsigned_abs}
 use Rattle.std.specs.List.{after_first, before_first, flat_map, list_all, list_any, position_or_len}
 use Rattle.std.proofs.lemmas.Bool.{and_parts, false≢true, leb-true, ltb-true}

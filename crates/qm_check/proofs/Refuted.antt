@@ -20,7 +20,7 @@ use Rattle.def_remesh.specs.NewPoints.{lengths_in}
 use Rattle.def_remesh.specs.Refusals.{IsTangledAt}
 use Rattle.def_remesh.specs.Certified.{AreKept, certificate_of, IsCertified, IsShown}
 use Rattle.def_remesh.specs.Remeshed.{AreCoarse, finished_text, with_floor}
-use Rattle.def_remesh.specs.Tasks.{Task, Wish}
+use Rattle.def_remesh.specs.Tasks.{old_lengths, Task, Wish}
 use Rattle.def_remesh.specs.TextLaws.{IsSolid, made_by}
 use Rattle.def_run.specs.Judging.{behind_in, first_checked, text_in, IsLoneDoubled, IsThirdWrong, IsWrong, IsWrongText, Judged, TellsMade, TellsOtherText}
 use Rattle.def_run.specs.declared.answer.Why.{Why}
@@ -63,9 +63,9 @@ module _ (wish : Wish) (plan : Plan) (settings : Settings) (auto : Bool) where
 
 module _ (wish : Wish) (plan : Plan) (mesh : IsSomeLayout plan) where
   -- A layout has one network.
-  pub one_net : (settings : Settings) (net other : Network) → IsNetOf (layout_of plan) (wish plan) settings net
-      → IsNetOf (layout_of plan) (wish plan) settings other → net ≡ other
-  one_net settings net other is also = one_net_law (layout_of plan) (wish plan) settings (laid_of plan mesh) net other is also
+  pub one_net : (settings : Settings) (net other : Network) → IsNetOf (layout_of plan) (old_lengths plan) (wish plan) settings net
+      → IsNetOf (layout_of plan) (old_lengths plan) (wish plan) settings other → net ≡ other
+  one_net settings net other is also = one_net_law (layout_of plan) (old_lengths plan) (wish plan) settings (laid_of plan mesh) net other is also
 
   -- A certified list is not refused.
   not_wrong : (settings : Settings) (cert : Lists) (why : Why) → IsCertified wish plan settings cert → AreCoarse plan cert.x → IsWrong wish plan settings cert why → ⊥

@@ -6,6 +6,7 @@ use Rattle.def_certtext.specs.Reading.{HasBadLine, Made, TellHow}
 use Rattle.def_certtext.specs.Settings.{AreInRange}
 use Rattle.def_certtext.specs.declared.Asked.{Asked}
 use Rattle.def_cut.specs.FullCut.{IsFullCut}
+use Rattle.def_fit.specs.FitTasks.{kept_text}
 use Rattle.def_flow.specs.Network.{network, tangle_number, Network}
 use Rattle.def_flow.specs.declared.net.Settings.{Settings}
 use Rattle.def_io.specs.Bytes.{Bytes}
@@ -35,7 +36,7 @@ use Rattle.qm_check.proofs.Aligned.{IsJudgeable}
 use Rattle.qm_check.proofs.Refuted.{line_refuted, one_net, text_refuted}
 use Rattle.qm_check.specs.Checked.{HasWrongCert, IsChecked, IsDifference, IsUnused}
 use Rattle.qm_check.specs.Judged.{judged_by, Finishes, IsTextFail}
-use Rattle.qm_check.specs.Ready.{between_text, marks_of, IsReady, TellsNothing}
+use Rattle.qm_check.specs.Ready.{marks_of, IsReady, TellsNothing}
 use Rattle.qm_check.specs.declared.ready.Ready.{Ready}
 use Rattle.qm_write.proofs.Framing.{text_is}
 use Rattle.qm_write.specs.Framing.{framed_text, IsFramed}
@@ -58,7 +59,7 @@ pub shape_of : (soup : FaceSet) (marks : List Bool) (plan : Plan) (new : Lengths
 shape_of soup marks plan new solid full laid shapes = shapes soup.faces marks solid.mesh (quads_of soup.faces solid.printable.quads) full laid
 
 -- The lines between are no lines of certificates.
-between_silent : (marks : Option (List Bool)) (plan : Plan) (new : Lengths) → IsSilent (between_text marks plan new)
+between_silent : (marks : Option (List Bool)) (plan : Plan) (new : Lengths) → IsSilent (kept_text marks plan new)
 between_silent None plan new = none_silent
 between_silent (Some marks) plan new = marked_silent marks plan new
 
@@ -134,7 +135,7 @@ module _ (bytes : Bytes) (line : ℕ) (task : Task) (ready : Ready) (is : IsRead
         (right : IsChecked task.wish ready.cut.plan (network ready.net) made (record { remesh = framed.remesh; deviation = deviates }))
         (head : framed.head.items ≡ ready.frame.head.items)
         (between : framed.between.items
-        ≡ between_text (marks_of ready.frame) ready.cut.plan (lengths_in (used (certificates_of framed.remesh.certs)).x)) where
+        ≡ kept_text (marks_of ready.frame) ready.cut.plan (lengths_in (used (certificates_of framed.remesh.certs)).x)) where
       abbrev certificates : Certificates
       certificates = certificates_of framed.remesh.certs
 

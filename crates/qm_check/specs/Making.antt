@@ -3,21 +3,18 @@ use Rattle.std.specs.Prelude.{◌≡◌, ◌≢◌, ⊤}
 use Rattle.def_io.specs.Bytes.{Bytes}
 use Rattle.def_io.specs.Lines.{lines_of}
 use Rattle.def_map.specs.MapText.{map_text}
-use Rattle.def_marks.specs.declared.fail.MarkFail.{MarkFail}
 use Rattle.def_marks.specs.declared.fail.MarkFail.TheVariants as mark_fail
-use Rattle.def_flow.specs.declared.net.Settings.{Settings}
 use Rattle.def_remesh.specs.CutSoups.{Regrid}
 use Rattle.def_remesh.specs.NewPoints.{lengths_in}
 use Rattle.def_remesh.specs.Tasks.{Task}
 use Rattle.def_run.specs.Check.{head_of}
-use Rattle.def_run.specs.Crease.{HasMarkFail}
 use Rattle.def_run.specs.Map.{asks_of, RefusesNew, WritesMap, WritesNew}
+use Rattle.def_run.specs.MapFails.{HasLineFail}
 use Rattle.def_run.specs.MarkLines.{front_of, IsLastMark, IsMarkLine}
 use Rattle.def_run.specs.declared.answer.Answer.TheVariants as answers
 use Rattle.def_run.specs.declared.check_fail.CheckFail.{CheckFail}
 use Rattle.def_run.specs.declared.check_fail.CheckFail.TheVariants.{Marks, Tangled, Far, Memory}
 use Rattle.def_run.specs.declared.command.Command.{Command}
-use Rattle.def_run.specs.declared.command.Command.TheVariants.{Crease}
 use Rattle.def_text.specs.FaceSet.{FaceSet}
 use Rattle.qm_certtext.specs.declared.last.HeadAt.{HeadAt}
 use Rattle.qm_check.specs.Ready.{CutsAt, IsOld, IsReady}
@@ -38,18 +35,12 @@ pub record IsReadyFor (command : Command) (front : Bytes) (ready : Ready) : Type
 abbrev pub NeverWrites : (command : Command) (front : Bytes) → Type 0
 NeverWrites command front = (text : Bytes) → ¬ WritesNew command front text
 
--- The command is `crease`, and an `l` line is refused.
-pub record RefusesLines (command : Command) (front : Bytes) (fail : MarkFail) : Type 0 where
-  pub settings : Settings
-  pub crease : command ≡ Crease settings
-  pub said : HasMarkFail front fail
-  pub other : fail ≢ mark_fail.Memory
-
 -- Why nothing is made ready, where there is memory.
 abbrev pub IsUnmade : (command : Command) (front : Bytes) (fail : CheckFail) → Type 0
 IsUnmade command front (Tangled count) = RefusesNew command front (answers.Tangled count) × NeverWrites command front
 IsUnmade command front (Far sum) = RefusesNew command front (answers.Far sum) × NeverWrites command front
-IsUnmade command front (Marks fail) = RefusesLines command front fail × NeverWrites command front
+IsUnmade command front (Marks fail) =
+    HasLineFail command front fail × (fail ≢ mark_fail.Memory) × NeverWrites command front
 IsUnmade command front Memory = ⊤
 IsUnmade command front _ = ⊥
 

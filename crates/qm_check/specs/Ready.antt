@@ -1,5 +1,5 @@
 -- What a text is judged by: the mesh in front of it, the layout of its cut, and the network and the frame of a task.
-use Rattle.std.specs.Prelude.{◌≡◌, ◌≢◌, ◌≤◌, ◌<◌, ◌∷◌, ◌++◌, ℕ, ◌+◌, Bool, true, List, Option, Some, None, Ok, Err, []}
+use Rattle.std.specs.Prelude.{◌≡◌, ◌≢◌, ◌≤◌, ◌<◌, ◌∷◌, ◌++◌, ℕ, ◌+◌, Bool, true, List, Option, Ok, Err, []}
 use Rattle.std.specs.Prelude.{drop, length, take, ⊤}
 use Rattle.std.specs.List.{list_all}
 use Rattle.std.specs.Option.{option_map}
@@ -7,6 +7,8 @@ use Rattle.def_certtext.specs.HeadLine.{IsLastHead}
 use Rattle.def_certtext.specs.Reading.{HasBadLine}
 use Rattle.def_certtext.specs.Settings.{AreInRange}
 use Rattle.def_cut.specs.FullCut.{IsFullCut}
+use Rattle.def_fit.specs.FitTasks.{asides_in, kept_text}
+use Rattle.def_fit.specs.declared.fit.Fit.{Fit}
 use Rattle.def_flow.specs.Network.{network}
 use Rattle.def_io.specs.Bytes.{Bytes}
 use Rattle.def_io.specs.Lines.{lines_of, tail_of}
@@ -14,8 +16,6 @@ use Rattle.def_io.specs.declared.TheConstants.{LINE_FEED}
 use Rattle.def_layout.specs.FaceLayouts.{IsCutLayout}
 use Rattle.def_layout.specs.Lengths.{Lengths}
 use Rattle.def_layout.specs.Plans.{Plan}
-use Rattle.def_marks.specs.Lines.{marks_in}
-use Rattle.def_marks.specs.MarkedText.{marked_text}
 use Rattle.def_marks.specs.declared.fail.MarkFail.TheVariants as marks
 use Rattle.def_mesh.specs.Faults.{IsFirstFault}
 use Rattle.def_mesh.specs.Manifold.{IsManifold}
@@ -62,11 +62,6 @@ IsNoOld text (NotManifold place soup) =
 IsNoOld text Memory = ⊤
 IsNoOld text _ = ⊥
 
--- The lines of marked arcs, or none where there are no marks.
-abbrev pub between_text : (marks : Option (List Bool)) (plan : Plan) (new : Lengths) → Bytes
-between_text None plan new = []
-between_text (Some marks) plan new = marked_text marks plan new
-
 -- The marks whose lines stand in a text.
 abbrev pub marks_of : (frame : Frame) → Option (List Bool)
 marks_of frame = option_map (λ marks. marks.items) frame.marks
@@ -80,7 +75,7 @@ pub record IsLaidOut (task : Task) (cut : CutSoup) (frame : Frame) : Type 0 wher
   pub asked : frame.asked ≡ record { settings = task.settings; auto = task.auto }
   pub head : frame.head.items ≡ task.head ++ LINE_FEED ∷ []
   pub inside : list_all is_inside task.head ≡ true
-  pub between : (plan : Plan) (new : Lengths) → task.between plan new ≡ between_text (marks_of frame) plan new
+  pub between : (plan : Plan) (new : Lengths) → task.between plan new ≡ kept_text (marks_of frame) plan new
 
 -- The same with the network of the task.
 pub record IsReady (task : Task) (ready : Ready) : Type 0 where
@@ -94,8 +89,8 @@ TellsNothing head bytes line (NotAccepted (why.CertLine bad)) =
 TellsNothing head bytes line Memory = ⊤
 TellsNothing head bytes line _ = ⊥
 
--- Why the `l` lines of a text mark no edges, where there is memory.
-abbrev pub IsLineFail : (text : Bytes) (soup : FaceSet) (fail : CheckFail) → Type 0
-IsLineFail text soup (Marks fail) = (fail ≢ marks.Memory) × (marks_in text soup ≡ Err fail)
-IsLineFail text soup Memory = ⊤
-IsLineFail text soup _ = ⊥
+-- Why a line beside the mesh of a text is refused, where there is memory.
+abbrev pub IsAsideFail : (fit : Fit) (text : Bytes) (soup : FaceSet) (fail : CheckFail) → Type 0
+IsAsideFail fit text soup (Marks fail) = (fail ≢ marks.Memory) × (asides_in fit text soup ≡ Err fail)
+IsAsideFail fit text soup Memory = ⊤
+IsAsideFail fit text soup _ = ⊥

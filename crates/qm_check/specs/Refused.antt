@@ -11,7 +11,7 @@ abbrev pub of_obj : (fail : ObjFail) → CheckFail
 of_obj obj.Memory = Memory
 of_obj fail = Old fail
 
--- The refusal of one whose `l` lines mark no edges.
+-- The refusal of one with a line beside its mesh that is refused.
 abbrev pub of_marks : (fail : MarkFail) → CheckFail
 of_marks marks.Memory = Memory
 of_marks fail = Marks fail

@@ -10,7 +10,6 @@ ghost use Rattle.def_text.specs.declared.limits.TheConstants.{MAX_BYTES};
 ghost use Rattle.qm_check.specs.Judged.{judged_by, Finishes, IsTextFail};
 ghost use Rattle.qm_check.specs.Ready.{CutsAt, IsReady, TellsNothing};
 
-use crate::between::lines_between;
 use crate::certificates::check_written;
 use crate::comparing::compare;
 use crate::parts::{text_behind, written_text};
@@ -19,6 +18,7 @@ use def_certtext::{Asked, CertFail, Written};
 use def_run::{CheckFail, Why};
 use qm_certtext::{HeadAt, read_certs};
 use qm_cutmesh::Regridded;
+use qm_marktext::lines_between;
 use qm_write::Framed;
 use std::alloc::Global;
 
@@ -49,7 +49,7 @@ pub(crate) fn judge_text(
     let written = read_certificates(alloc, bytes, head, ready.frame.asked)?;
     let Ready { cut, frame, net } = ready;
     let checked = check_written(alloc, &cut, net, written)?;
-    let between = lines_between(alloc, frame.marks, &cut, &checked.remesh)?;
+    let between = lines_between(alloc, frame.marks.as_deref(), &cut, &checked.remesh)?;
     let framed = Framed {
         head: frame.head,
         between,

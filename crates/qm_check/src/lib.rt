@@ -2,7 +2,7 @@
 //! finished remesh, or of any command that writes a new mesh.
 #![tactic(auto)]
 
-mod between;
+mod asides;
 mod certificates;
 mod comparing;
 mod judging;
@@ -10,7 +10,6 @@ mod least;
 mod lengths;
 mod making;
 mod map;
-mod marks;
 mod old;
 mod pair;
 mod parts;

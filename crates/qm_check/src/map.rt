@@ -1,29 +1,29 @@
 //! The text of a new mesh behind that of the mesh it was made of, from its bytes to what its map is written from.
 
-ghost use Rattle.std.specs.Prelude.{◌≤◌, length, IfErr, IfOk};
+ghost use Rattle.std.specs.Prelude.{◌≡◌, ◌≤◌, length, Some, IfErr, IfOk};
 ghost use Rattle.def_map.specs.MapText.{map_text};
 ghost use Rattle.def_remesh.specs.NewPoints.{lengths_in};
 ghost use Rattle.def_run.specs.Map.{WritesMap};
 ghost use Rattle.def_run.specs.MapFails.{IsMapFail};
+ghost use Rattle.def_run.specs.declared.command.Command.{Command as AnyCommand};
 ghost use Rattle.def_text.specs.declared.limits.TheConstants.{MAX_BYTES};
-ghost use Rattle.qm_check.specs.Least.{command_of};
+ghost use Rattle.qm_check.specs.Least.{least_of};
 ghost use Rattle.qm_check.specs.Making.{HasMapOf, IsGivenTo, IsMarkedAt};
 
 use crate::judging::judge_text;
-use crate::least::Least;
+use crate::least::{Least, least_of};
 use crate::making::ready_for;
 use crate::old::read_old;
 use crate::parts::{head_line, old_text};
 use crate::refined::judge_refined;
-use def_certtext::Asked;
 use def_run::{CheckFail, Command, Why};
 use qm_certtext::HeadAt;
 use qm_cutmesh::{Meshed, Regridded};
 use qm_head::{find_mark, read_mark};
 use std::alloc::Global;
 
-/// Judges a text. The last line that begins with `#quadq 1 ` divides it into an old text and one that the command of this
-/// line is to write for it: its certificates are checked, and it is compared with the text as it is made anew.
+/// Judges a text. The last line that begins with `#quadq 1 ` divides it into an old text and one that the command of
+/// this line is to write for it: its certificates are checked, and it is compared with the text as it is made anew.
 pub fn judge(alloc: Global, bytes: &[u8]) -> Result<Regridded, CheckFail>
     requires { length bytes.now ≤ MAX_BYTES }
     ensures map { IfOk result (λ new. WritesMap bytes.now (map_text new.soup new.plan (lengths_in new.lengths))) }
@@ -62,21 +62,11 @@ fn judge_command(
     ensures mapped { IfOk result (HasMapOf bytes.now) }
     ensures refused { IfErr result (IsMapFail bytes.now) }
 {
+    if let Some(least) = least_of(&command) {
+        return judge_least(alloc, bytes, mark, old, &least);
+    }
     match command {
         Command::Refine { by } => judge_refined(alloc, bytes, mark, old, by),
-        Command::Remesh { settings, auto } => {
-            let asked = Asked { settings, auto };
-            judge_least(alloc, bytes, mark, old, Least::Remesh { asked })
-        }
-        Command::Crease { settings } => {
-            judge_least(alloc, bytes, mark, old, Least::Crease { settings })
-        }
-        Command::Size { edge, floor } => {
-            judge_least(alloc, bytes, mark, old, Least::Size { edge, floor })
-        }
-        Command::Coarse { settings } => {
-            judge_least(alloc, bytes, mark, old, Least::Coarse { settings })
-        }
         _ => unreachable!(),
     }
 }
@@ -87,10 +77,11 @@ fn judge_least(
     bytes: &[u8],
     mark: HeadAt,
     old: Meshed,
-    least: Least,
+    least: &Least,
 ) -> Result<Regridded, CheckFail>
     requires few { length bytes.now ≤ MAX_BYTES }
-    requires given { IsGivenTo bytes.now mark old (command_of least) }
+    requires given { (command : AnyCommand) × IsGivenTo bytes.now mark old command
+        × (least_of command ≡ Some least.now) }
     ensures mapped { IfOk result (HasMapOf bytes.now) }
     ensures refused { IfErr result (IsMapFail bytes.now) }
 {

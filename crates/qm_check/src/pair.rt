@@ -10,7 +10,7 @@ ghost use Rattle.def_written.specs.NewFaces.{face_count};
 ghost use Rattle.qm_check.specs.Ready.{DividesAt};
 
 use crate::judging::{Finished, judge_text};
-use crate::least::Least;
+use crate::least::remeshed;
 use crate::making::ready_for;
 use crate::old::read_old;
 use crate::parts::{head_line, old_text};
@@ -52,7 +52,7 @@ fn check_parts(alloc: Global, bytes: &[u8], head: HeadAt) -> Result<Accepted, Ch
     let Some(asked) = read_head(line) else {
         return Err(CheckFail::NotAccepted { why: Why::Head });
     };
-    let ready = ready_for(alloc, text, line, old, Least::Remesh { asked })?;
+    let ready = ready_for(alloc, text, line, old, &remeshed(asked))?;
     let finished = judge_text(alloc, bytes, head, ready)?;
     Ok(told_of(&finished))
 }

@@ -12,6 +12,7 @@ use def_flow::Settings;
 use def_run::{Command, MAX_MULTIPLE};
 use qm_certtext::{read_asked, read_head};
 use qm_dec::read_count;
+use qm_fit::read_fit_head;
 
 /// The command whose head line this is, of those that write a new mesh. Linear.
 pub fn read_mark(line: &[u8]) -> Option<Command>
@@ -41,8 +42,11 @@ fn read_command(line: &[u8]) -> Option<Command>
             floor: asked.floor,
         });
     }
-    match read_fixed(line, b"#quadq 1 coarse scale ") {
-        Some(settings) => Some(Command::Coarse { settings }),
+    if let Some(settings) = read_fixed(line, b"#quadq 1 coarse scale ") {
+        return Some(Command::Coarse { settings });
+    }
+    match read_fit_head(line) {
+        Some(fit) => Some(Command::Fit { fit }),
         None => None,
     }
 }

@@ -1,6 +1,6 @@
 //! What a head line of `size` asks for.
 
-ghost use Rattle.std.specs.Prelude.{◌≡◌, ◌≤◌, ◌↔◌, ℕ, ℤ, pos, ◌≤ℤ◌, unsigned_abs, IsTrue, MatchOption};
+ghost use Rattle.std.specs.Prelude.{◌≡◌, ◌≤◌, ℕ, ℤ, pos, ◌≤ℤ◌, unsigned_abs, MatchOption};
 ghost use Rattle.def_run.specs.MarkLines.{IsSizeHead};
 ghost use Rattle.def_text.specs.Canonical.{micro_text};
 ghost use Rattle.def_text.specs.declared.limits.TheConstants.{MAX_MICRO};
@@ -8,7 +8,8 @@ ghost use Rattle.def_text.specs.declared.limits.TheConstants.{MAX_MICRO};
 use def_flow::MAX_FLOOR;
 use def_text::Micro;
 use qm_certtext::cut_word;
-use qm_dec::{read_count, read_micro, write_micro};
+use qm_dec::read_count;
+use qm_fit::{is_micro_text, read_edge};
 
 /// The length of an edge, and the least length of an arc.
 #[derive(Clone, Copy)]
@@ -28,7 +29,7 @@ pub(crate) fn read_size(line: &[u8]) -> Option<EdgeAndFloor>
     let Some((word, rest)) = cut_word(rest, b" floor ") else {
         return None;
     };
-    let Some(edge) = read_edge(word) else {
+    let Some(edge) = read_written(word) else {
         return None;
     };
     match read_count(rest, MAX_FLOOR) {
@@ -38,29 +39,17 @@ pub(crate) fn read_size(line: &[u8]) -> Option<EdgeAndFloor>
 }
 
 /// The length whose canonical text a word is, where that is at least a millionth.
-fn read_edge(word: &[u8]) -> Option<Micro>
+fn read_written(word: &[u8]) -> Option<Micro>
     ensures { MatchOption result
         ((edge : ℤ) → pos 1 ≤ℤ edge → unsigned_abs edge ≤ MAX_MICRO → ¬ (word.now ≡ micro_text edge))
         (λ edge. (word.now ≡ micro_text edge) × (pos 1 ≤ℤ edge) × (unsigned_abs edge ≤ MAX_MICRO)) }
 {
-    let Ok(edge) = read_micro(word) else {
+    let Some(edge) = read_edge(word) else {
         return None;
     };
-    if edge.n <= 0 {
-        return None;
-    }
-    if is_canonical(word, edge) {
+    if is_micro_text(word, edge) {
         Some(edge)
     } else {
         None
     }
-}
-
-/// Whether a word is the canonical text of a number.
-fn is_canonical(word: &[u8], number: Micro) -> bool
-    ensures { IsTrue result ↔ (word.now ≡ micro_text number) }
-{
-    let mut digits = [0u8; 24];
-    let end = write_micro(&mut digits, number);
-    word == &digits[..end]
 }

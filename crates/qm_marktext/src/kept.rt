@@ -1,7 +1,8 @@
 //! The lines of marked arcs over a remesh.
 
-ghost use Rattle.std.specs.Prelude.{◌≡◌, IfOk};
+ghost use Rattle.std.specs.Prelude.{◌≡◌, option_copied, IfOk};
 ghost use Rattle.def_certtext.specs.CertLines.{certificates_of, used};
+ghost use Rattle.def_fit.specs.FitTasks.{kept_text};
 ghost use Rattle.def_marks.specs.MarkedText.{marked_text};
 ghost use Rattle.def_remesh.specs.Keeping.{IsKept};
 ghost use Rattle.def_remesh.specs.NewPoints.{lengths_in};
@@ -27,4 +28,22 @@ pub fn kept_lines(
 {
     let _count = remesh.numbering.vertices();
     marked_lines(alloc, marks, cut.layout(), &remesh.used_cert().x)
+}
+
+/// The same, or no lines where no marks are kept.
+pub fn lines_between(
+    alloc: Global,
+    kept: Option<&[bool]>,
+    cut: &CutMesh,
+    remesh: &Remesh,
+) -> Result<Vec<u8>, Memory>
+    requires { (wish : Wish) × IsKept wish cut.now.plan remesh.now.asked.settings remesh.now.asked.auto
+        (certificates_of remesh.now.certs) remesh.now.numbering }
+    ensures { IfOk result (λ text. text.items ≡ kept_text (option_copied kept.entry) cut.now.plan
+        (lengths_in (used (certificates_of remesh.now.certs)).x)) }
+{
+    match kept {
+        Some(marks) => kept_lines(alloc, marks, cut, remesh),
+        None => Ok(Vec::new(alloc)),
+    }
 }

@@ -4,8 +4,8 @@
 mod kept;
 mod lines;
 
-pub use kept::kept_lines;
-pub use lines::marked_lines;
+pub use kept::{kept_lines, lines_between};
+pub use lines::{is_marked, marked_lines};
 
 /// Memory was refused.
 pub type Memory = std::alloc::AllocError;

@@ -34,8 +34,8 @@ pub fn marked_lines(alloc: Global, marks: &[bool], t: &TMesh, x: &[u64]) -> Resu
     Ok(text)
 }
 
-/// Whether an arc is marked, as its first dart is.
-fn is_marked(marks: &[bool], arc: &TArc) -> bool
+/// Whether an arc is marked, as its first dart is. In constant time.
+pub fn is_marked(marks: &[bool], arc: &TArc) -> bool
     ensures { result ≡ is_on marks.now (slice_index arc.now.darts.items 0) }
 {
     is_on(marks, first_of(&arc.darts))

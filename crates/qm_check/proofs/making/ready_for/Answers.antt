@@ -1,31 +1,85 @@
-use Rattle.std.proofs.Common.{sym, subst}
-use Rattle.std.specs.Option.{option_map}
+use Rattle.std.proofs.Common.{List, Bool, ℕ, Option, refl, sym, ◌∙◌, subst}
 use Rattle.error_laws.proofs.Errors.{handed}
-use Rattle.qm_check.proofs.Laid.{laid_for}
-use Rattle.qm_check.proofs.Tasks.{net_unmade, only_for}
-use Rattle.qm_check.specs.Least.{command_of, task_for}
+use Rattle.def_fit.specs.Aims.{aimed, fit_settings, AreAimedNear}
+use Rattle.def_flow.specs.Network.{network}
+use Rattle.def_layout.specs.Plans.{plan}
+use Rattle.def_mesh.specs.Faces.{Faces}
+use Rattle.def_patches.specs.Chosen.{IsChosenLayout}
+use Rattle.def_remesh.specs.CutSoups.{CutSoup}
+use Rattle.def_remesh.specs.Keeping.{IsNetFor}
+use Rattle.qm_asides.specs.Beside.{asides_of}
+use Rattle.qm_check.proofs.Points.{point_of}
+use Rattle.qm_check.proofs.Tasks.{aside_unmade, cut_by, laid_for, net_unmade, only_for, task, IsCutBy}
+use Rattle.qm_check.specs.Least.{HasNoNet}
 use Rattle.qm_check.specs.Making.{IsUnmade}
 use Rattle.qm_check.specs.Ready.{IsOld}
+use Rattle.qm_check.proofs.making.ready_for.Goals.{After-new-cut}
 use Rattle.qm_check.proofs.making.ready_for.Goals as goal
 
-pub net_for-requires : goal.net_for-requires
-net_for-requires c = (c.args.line.now, c.requires.line)
+-- The mesh is cut as the command asks.
+old_is : (c : After-new-cut) → IsOld c.args.text.now c.new-cut.result.soup
+old_is c = subst (λ (cut : CutSoup). IsOld c.args.text.now cut.soup) (sym c.new-cut.ensures) c.requires.old
+
+cut_is : (c : After-new-cut)
+    → IsCutBy c.args.least.now c.args.text.now c.new-cut.result (asides_of c.in_ok-asides.asides)
+cut_is c =
+    let t = plan c.in_ok-layout.layout in
+    let patches = c.args.least.now.fit.patches in
+    cut_by c.args.least.now c.args.text.now c.args.old t c.new-cut.result
+    (asides_of c.in_ok-asides.asides) c.new-cut.ensures
+    c.in_ok-asides.ensures.said c.in_ok-asides.ensures.inner
+    (subst (λ (fs : Faces). IsChosenLayout fs (asides_of c.in_ok-asides.asides).kept patches t) c.mesh.ensures
+    (subst (λ (o : Option (List Bool)). IsChosenLayout c.mesh.result.now o patches t) c.as_deref-kept.ensures.value
+    c.in_ok-layout.ensures.chosen))
+
+pub returns-in_err-asides-clause-unmade : goal.returns-in_err-asides-clause-unmade
+returns-in_err-asides-clause-unmade c command is =
+    handed (IsUnmade command c.args.text.now) c.from_residual.result c.in_err-asides.field-0.0 c.from_residual.ensures.1
+    (aside_unmade command c.args.line.now c.args.text.now c.args.least.now
+    (point_of command c.args.line.now c.args.least.now is) c.args.old c.requires.old.mesh c.in_err-asides.field-0.0
+    c.in_err-asides.ensures.refused)
+
+pub net_near-requires-clause-fit : goal.net_near-requires-clause-fit
+net_near-requires-clause-fit c =
+    (point_of c.requires.line.0 c.args.line.now c.args.least.now c.requires.line.1).head.fit
+
+pub new-cut-requires : goal.new-cut-requires
+new-cut-requires c = (c.in_ok-layout.ensures.mesh.0, c.in_ok-layout.ensures.mesh.1 ∙ c.mesh.ensures)
 
 pub returns-in_err-net-clause-unmade : goal.returns-in_err-net-clause-unmade
-returns-in_err-net-clause-unmade c =
-    handed (IsUnmade (command_of c.args.least) c.args.text.now) c.from_residual-in_err-net.result c.in_err-net.field-0.0 c.from_residual-in_err-net.ensures.1
-    (net_unmade c.args.least c.args.text.now c.in_ok-laid.laid.cut _ (subst (IsOld c.args.text.now) (sym c.in_ok-laid.ensures.soup) c.requires.old)
-    c.in_ok-laid.ensures.laid c.in_err-net.field-0.0 c.in_err-net.ensures.none)
+returns-in_err-net-clause-unmade c command is =
+    let at = (goal.at.returns-in_err-net-clause-unmade c).After-new-cut in
+    let fit = c.args.least.now.fit in
+    let cut = c.new-cut.result in
+    handed (IsUnmade command c.args.text.now) c.from_residual-in_err-net.result c.in_err-net.field-0.0
+    c.from_residual-in_err-net.ensures.1
+    (net_unmade command c.args.line.now c.args.text.now c.args.least.now
+    (point_of command c.args.line.now c.args.least.now is) cut
+    (asides_of c.in_ok-asides.asides) (old_is at) (cut_is at) c.in_err-net.field-0.0
+    (subst (λ (ws : List ℕ). HasNoNet fit.aim (aimed fit.aim cut.soup ws) cut.plan
+    (fit_settings fit) c.in_err-net.field-0.0) c.deref.ensures.value
+    c.in_err-net.ensures.none))
 
 pub returns-clause-ready : goal.returns-clause-ready
-returns-clause-ready c =
-    let old = subst (IsOld c.args.text.now) (sym c.in_ok-laid.ensures.soup) c.requires.old in
+returns-clause-ready c command is =
+    let at = (goal.at.returns-clause-ready c).After-new-cut in
+    let fit = c.args.least.now.fit in
+    let cut = c.new-cut.result in
+    let point = point_of command c.args.line.now c.args.least.now is in
+    let asides = asides_of c.in_ok-asides.asides in
     record {
-      task = task_for c.args.least c.in_ok-laid.laid.cut.soup c.in_ok-laid.ensures.laid.edges (option_map (λ m. m.items) c.in_ok-laid.laid.marks);
-      only = only_for c.args.least c.args.text.now c.in_ok-laid.laid.cut _ old c.in_ok-laid.ensures.laid c.in_ok-net.ensures.net.near;
+      task = task command c.args.line.now c.args.text.now c.args.least.now point cut asides (old_is at) (cut_is at);
+      only = only_for command c.args.line.now c.args.text.now c.args.least.now point cut asides (old_is at) (cut_is at)
+          (subst (λ (ws : List ℕ). AreAimedNear fit.aim (aimed fit.aim cut.soup ws) cut.plan) c.deref.ensures.value
+          c.in_ok-net.ensures.near);
       holds = record {
-        laid_out = laid_for c.args.least c.args.text.now c.args.line.now c.in_ok-laid.laid.cut _ old c.requires.line c.in_ok-laid.ensures.laid
-            c.asked_of.ensures c.in_ok-head.ensures;
-        net = c.in_ok-net.ensures.net.for;
+        laid_out =
+            laid_for command c.args.line.now c.args.text.now c.args.least.now point cut asides (old_is at) (cut_is at)
+            (record { asked = c.asked_of.result; head = c.in_ok-head.head; marks = c.in_ok-asides.asides.kept })
+            c.asked_of.ensures c.in_ok-head.ensures refl;
+        net =
+            subst (λ (ws : List ℕ). IsNetFor (aimed fit.aim cut.soup ws) cut.plan (fit_settings fit)
+            (network c.in_ok-net.net)) c.deref.ensures.value
+            c.in_ok-net.ensures.net;
       };
     }

@@ -4,57 +4,89 @@ use Rattle.def_certtext.specs.Reading.{IsHead}
 use Rattle.def_flow.specs.declared.net.Settings.{Settings}
 use Rattle.def_io.specs.Bytes.{Bytes}
 use Rattle.def_run.specs.CheckFails.{IsCheckFail}
+use Rattle.qm_check.proofs.Points.{remesh_line}
 use Rattle.qm_check.proofs.Pairs.{counted, few_arcs, no_head, no_old, text_fails, unmade_fails, IsAskedAt}
-use Rattle.qm_check.proofs.pair.check_parts.Goals.{In-Some}
+use Rattle.def_run.specs.declared.command.Command.TheVariants.{Remesh}
+use Rattle.qm_check.specs.Making.{IsReadyFor}
+use Rattle.qm_check.proofs.pair.check_parts.Goals.{In_ok-ready, In-Some}
 use Rattle.qm_check.proofs.pair.check_parts.Goals as goal
 
 -- The line behind the old text asks for a remesh.
-asked : (c : In-Some) → IsAskedAt c.args.bytes.now c.old_text-text.result.now c.args.head.line c.in_ok-old.old c.in-Some.asked.settings c.in-Some.asked.auto
+asked : (c : In-Some)
+    → IsAskedAt c.args.bytes.now c.old_text-text.result.now c.args.head.line c.in_ok-old.old c.in-Some.asked.settings
+    c.in-Some.asked.auto
 asked c = record {
   divided = c.requires.head.last;
   lines = c.old_text-text.ensures.lines;
   read = c.in_ok-old.ensures.old;
-  head = subst (λ (line : Bytes). IsHead line c.in-Some.asked.settings c.in-Some.asked.auto) c.head_line-line.ensures c.in-Some.ensures;
+  head =
+      subst (λ (line : Bytes). IsHead line c.in-Some.asked.settings c.in-Some.asked.auto) c.head_line-line.ensures
+      c.in-Some.ensures;
 }
 
 pub returns-in_err-old-clause-refused : goal.returns-in_err-old-clause-refused
 returns-in_err-old-clause-refused c =
     handed (IsCheckFail c.args.bytes.now) c.from_residual.result c.in_err-old.field-0.0 c.from_residual.ensures.1
-    (no_old c.args.bytes.now c.old_text-text.result.now c.args.head.line c.requires.head.last c.old_text-text.ensures.lines c.in_err-old.field-0.0
+    (no_old c.args.bytes.now c.old_text-text.result.now c.args.head.line c.requires.head.last
+    c.old_text-text.ensures.lines c.in_err-old.field-0.0
     c.in_err-old.ensures.refused)
 
 pub returns-in_default-clause-refused : goal.returns-in_default-clause-refused
 returns-in_default-clause-refused c =
-    no_head c.args.bytes.now c.old_text-text.result.now c.args.head.line c.requires.head.last c.old_text-text.ensures.lines c.in_ok-old.old
+    no_head c.args.bytes.now c.old_text-text.result.now c.args.head.line c.requires.head.last
+    c.old_text-text.ensures.lines c.in_ok-old.old
     c.in_ok-old.ensures.old
-    (subst (λ (line : Bytes). (settings : Settings) (auto : Bool) → ¬ IsHead line settings auto) c.head_line-line.ensures c.in_default.ensures)
+    (subst (λ (line : Bytes). (settings : Settings) (auto : Bool)
+    → ¬ IsHead line settings auto) c.head_line-line.ensures c.in_default.ensures)
+
+pub ready_for-requires-clause-line : goal.ready_for-requires-clause-line
+ready_for-requires-clause-line c = (
+  Remesh c.in-Some.asked.settings c.in-Some.asked.auto,
+  remesh_line c.head_line-line.result.now c.in-Some.asked
+      c.remeshed.result c.in-Some.ensures c.remeshed.ensures,
+)
 
 pub ready_for-requires-clause-few : goal.ready_for-requires-clause-few
 ready_for-requires-clause-few c = omega (arith, c.requires.few, c.old_text-text.ensures.few)
 
 pub returns-in_err-ready-clause-refused : goal.returns-in_err-ready-clause-refused
 returns-in_err-ready-clause-refused c =
-    handed (IsCheckFail c.args.bytes.now) c.from_residual-in_err-ready.result c.in_err-ready.field-0.0 c.from_residual-in_err-ready.ensures.1
-    (unmade_fails _ _ _ _ _ _ (asked (goal.at.returns-in_err-ready-clause-refused c).In-Some) c.in_err-ready.field-0.0 c.in_err-ready.ensures.unmade)
+    handed (IsCheckFail c.args.bytes.now) c.from_residual-in_err-ready.result c.in_err-ready.field-0.0
+    c.from_residual-in_err-ready.ensures.1
+    (unmade_fails _ _ _ _ _ _ (asked (goal.at.returns-in_err-ready-clause-refused c).In-Some) c.in_err-ready.field-0.0
+    (c.in_err-ready.ensures.unmade (Remesh c.in-Some.asked.settings c.in-Some.asked.auto)
+    (remesh_line c.head_line-line.result.now c.in-Some.asked c.remeshed.result c.in-Some.ensures c.remeshed.ensures)))
+
+ready_is : (c : In_ok-ready)
+    → IsReadyFor (Remesh c.in-Some.asked.settings c.in-Some.asked.auto) c.old_text-text.result.now c.in_ok-ready.ready
+ready_is c = c.in_ok-ready.ensures.ready (Remesh c.in-Some.asked.settings c.in-Some.asked.auto)
+    (remesh_line c.head_line-line.result.now c.in-Some.asked c.remeshed.result c.in-Some.ensures c.remeshed.ensures)
 
 pub judge_text-requires-clause-ready : goal.judge_text-requires-clause-ready
-judge_text-requires-clause-ready c = (c.in_ok-ready.ensures.ready.task, c.in_ok-ready.ensures.ready.holds)
+judge_text-requires-clause-ready c =
+    let for = ready_is (goal.at.judge_text-requires-clause-ready c).In_ok-ready in (for.task, for.holds)
 
 pub returns-in_err-finished-clause-refused : goal.returns-in_err-finished-clause-refused
 returns-in_err-finished-clause-refused c =
-    let for = c.in_ok-ready.ensures.ready in
-    handed (IsCheckFail c.args.bytes.now) c.from_residual-in_err-finished.result c.in_err-finished.field-0.0 c.from_residual-in_err-finished.ensures.1
-    (text_fails _ _ _ _ _ _ (asked (goal.at.returns-in_err-finished-clause-refused c).In-Some) c.in_ok-ready.ready for c.in_ok-ready.ensures.soup
+    let for = ready_is (goal.at.returns-in_err-finished-clause-refused c).In_ok-ready in
+    handed (IsCheckFail c.args.bytes.now) c.from_residual-in_err-finished.result c.in_err-finished.field-0.0
+    c.from_residual-in_err-finished.ensures.1
+    (text_fails _ _ _ _ _ _
+    (asked (goal.at.returns-in_err-finished-clause-refused c).In-Some) c.in_ok-ready.ready for
+    c.in_ok-ready.ensures.soup
     c.in_err-finished.field-0.0 (c.in_err-finished.ensures.refused for.task for.holds))
 
 pub told_of-requires : goal.told_of-requires
 told_of-requires c =
-    let for = c.in_ok-ready.ensures.ready in
-    few_arcs _ _ _ _ _ _ (asked (goal.at.told_of-requires c).In-Some) c.in_ok-ready.ready for c.in_ok-ready.ensures.soup c.in_ok-finished.finished
+    let for = ready_is (goal.at.told_of-requires c).In_ok-ready in
+    few_arcs _ _ _ _ _ _ (asked (goal.at.told_of-requires c).In-Some) c.in_ok-ready.ready for c.in_ok-ready.ensures.soup
+    c.in_ok-finished.finished
     (c.in_ok-finished.ensures.finished for.task for.holds)
 
 pub returns-clause-accepted : goal.returns-clause-accepted
 returns-clause-accepted c =
-    let for = c.in_ok-ready.ensures.ready in
-    counted _ _ _ _ _ _ (asked (goal.at.returns-clause-accepted c).In-Some) c.in_ok-ready.ready for c.in_ok-ready.ensures.soup c.in_ok-finished.finished
-    (c.in_ok-finished.ensures.finished for.task for.holds) _ _ _ c.told_of.ensures.arcs c.told_of.ensures.faces c.told_of.ensures.deviation
+    let for = ready_is (goal.at.returns-clause-accepted c).In_ok-ready in
+    counted _ _ _ _ _ _ (asked (goal.at.returns-clause-accepted c).In-Some) c.in_ok-ready.ready for
+    c.in_ok-ready.ensures.soup c.in_ok-finished.finished
+    (c.in_ok-finished.ensures.finished for.task for.holds) _ _ _ c.told_of.ensures.arcs c.told_of.ensures.faces
+    c.told_of.ensures.deviation

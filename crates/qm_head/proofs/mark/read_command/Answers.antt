@@ -12,4 +12,4 @@ returns-in-Some-read_fixed-2 c =
 pub returns-in-None : goal.returns-in-None
 returns-in-None c =
     no_line c.args.line.now c.in_default.ensures c.in_default-read_head.ensures c.in_default-read_fixed.ensures c.in_default-read_size.ensures
-    c.in-None.ensures
+    c.in_default-read_fixed-2.ensures c.in-None.ensures
