@@ -2,12 +2,15 @@
 use Rattle.std.specs.Prelude.{ℕ, List, ◌+◌, length, map}
 use Rattle.std.specs.List.{flat_map, range_with_len}
 use Rattle.def_io.specs.Bytes.{Bytes}
+use Rattle.def_cuttext.specs.GridsText.{cut_block_lines}
 use Rattle.def_layout.specs.Lengths.{wide, high}
 use Rattle.def_layout.specs.Plans.{layout_of}
+use Rattle.def_layout.specs.declared.tmesh.Side.{Side}
+use Rattle.def_layout.specs.declared.tmesh.SideArc.{SideArc}
 use Rattle.def_remesh.specs.CutSoups.{Regrid}
 use Rattle.def_remesh.specs.NewPoints.{lengths_in}
 use Rattle.def_text.specs.Types.{Position, Positions}
-use Rattle.def_blocks.specs.BlockTexts.{block_line, block_lines, grid_place, points_text, row_places}
+use Rattle.def_blocks.specs.BlockTexts.{block_line, grid_place, points_text, row_places}
 use Rattle.def_blocks.specs.declared.link.Link.{Link}
 use Rattle.qm_blocktext.specs.declared.blocks.Blocks.{Blocks}
 
@@ -36,10 +39,15 @@ size_in new block = block_line (block + 1) (width_in new block) (height_in new b
 abbrev pub links_in : (blocks : Blocks) → List (List Link)
 links_in blocks = map (λ links. links.items) blocks.links.items
 
+-- The arcs of sides, one after the other.
+abbrev pub arcs_of : (sides : List Side) → List ℕ
+arcs_of sides = flat_map (λ (side : Side). map (λ (used : SideArc). used.arc) side.arcs.items) sides
+
 -- The lines of one of the blocks, and of all.
 abbrev pub lines_at : (blocks : Blocks) (block : ℕ) → Bytes
 lines_at blocks block =
-    block_lines blocks.points.soup blocks.points.plan (lengths_in blocks.points.lengths) (links_in blocks) block
+    cut_block_lines blocks.chosen blocks.points.soup blocks.points.plan (lengths_in blocks.points.lengths)
+    (links_in blocks) block
 
 abbrev pub lines_in : (blocks : Blocks) → Bytes
 lines_in blocks = flat_map (lines_at blocks) (range_with_len 0 (length blocks.points.plan.patches))

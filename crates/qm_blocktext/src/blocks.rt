@@ -3,11 +3,14 @@
 ghost use Rattle.std.specs.Prelude.{◌≡◌, length};
 
 use def_blocks::Link;
+use def_cuttext::Chosen;
 use qm_cutmesh::Regridded;
 
-/// The blocks of a mesh: how many parts each old edge has, the new mesh of their points, and the links of each block.
+/// The blocks of a mesh: how its cut was chosen, if it was, how many parts each old edge has, the new mesh of their
+/// points, and the links of each block.
 #[derive(Drop)]
 pub struct Blocks {
+    pub chosen: Option<Chosen>,
     pub by: u32,
     pub points: Regridded,
     pub links: Vec<Vec<Link>>,

@@ -1,7 +1,7 @@
 //! The text of blocks.
 
 ghost use Rattle.std.specs.Prelude.{◌≡◌, ◌<◌, length, map, IfOk, OnOk, OnErr};
-ghost use Rattle.def_blocks.specs.BlockTexts.{blocks_text};
+ghost use Rattle.def_cuttext.specs.GridsText.{chosen_text};
 ghost use Rattle.def_remesh.specs.NewPoints.{lengths_in};
 ghost use Rattle.qm_blocktext.specs.Gridded.{lines_at, lines_in, size_in};
 
@@ -15,8 +15,8 @@ use std::alloc::{AllocError, Global};
 
 /// The text of blocks as a whole.
 pub fn block_text(alloc: Global, blocks: &Blocks) -> Result<Vec<u8>, AllocError>
-    ensures { IfOk result (λ text. text.items
-        ≡ blocks_text blocks.now.by blocks.now.points.soup blocks.now.points.plan (lengths_in blocks.now.points.lengths)
+    ensures { IfOk result (λ text. text.items ≡ chosen_text blocks.now.chosen blocks.now.by
+        blocks.now.points.soup blocks.now.points.plan (lengths_in blocks.now.points.lengths)
         (map (λ block. block.items) blocks.now.links.items)) }
 {
     let mut text = MemText::new(alloc);
@@ -30,13 +30,16 @@ pub fn block_text(alloc: Global, blocks: &Blocks) -> Result<Vec<u8>, AllocError>
 /// link. Linear in the points but for those on sides, which are logarithmic in the arcs; without memory.
 pub fn put_blocks<T: Output>(out: &mut T, blocks: &Blocks) -> Result<(), Stopped>
     ensures whole { OnOk result (T.takes out.old out.new
-        (blocks_text blocks.now.by blocks.now.points.soup blocks.now.points.plan (lengths_in blocks.now.points.lengths)
-        (map (λ block. block.items) blocks.now.links.items))) }
+        (chosen_text blocks.now.chosen blocks.now.by blocks.now.points.soup blocks.now.points.plan
+        (lengths_in blocks.now.points.lengths) (map (λ block. block.items) blocks.now.links.items))) }
     ensures part { OnErr result (T.stops out.old out.new
-        (blocks_text blocks.now.by blocks.now.points.soup blocks.now.points.plan (lengths_in blocks.now.points.lengths)
-        (map (λ block. block.items) blocks.now.links.items))) }
+        (chosen_text blocks.now.chosen blocks.now.by blocks.now.points.soup blocks.now.points.plan
+        (lengths_in blocks.now.points.lengths) (map (λ block. block.items) blocks.now.links.items))) }
 {
-    put_line(out, &head_of(blocks.by, blocks.links.len() as u64))?;
+    put_line(
+        out,
+        &head_of(blocks.chosen, blocks.by, blocks.links.len() as u64),
+    )?;
     put_each(out, blocks)
 }
 
@@ -60,7 +63,8 @@ fn put_block<T: Output>(out: &mut T, blocks: &Blocks, block: usize) -> Result<()
     put_size(out, blocks, block)?;
     put_points(out, &blocks.points, block)?;
     let links = blocks.links.as_slice();
-    put_links(out, &links[block])
+    let layout = blocks.points.cut().layout();
+    put_links(out, blocks.chosen, &links[block], &layout.sides[block])
 }
 
 /// Puts the line of a block with its number, which counts from 1, and its size.

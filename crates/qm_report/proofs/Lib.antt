@@ -1,3 +1,4 @@
 mod Texts
 pub mod TableReads
 mod FirstDarts
+mod Layouts

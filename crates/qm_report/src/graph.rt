@@ -48,7 +48,7 @@ pub fn graph_text(
 }
 
 /// How many vertices, edges, faces and components there are, and Euler's number.
-fn push_counts(
+pub(crate) fn push_counts(
     alloc: Global,
     text: &mut Vec<u8>,
     mesh: &Mesh,
@@ -79,7 +79,12 @@ fn push_vertices(text: &mut Vec<u8>, mesh: &Mesh, kinds: &[Kind]) -> Result<(), 
 }
 
 /// A vertex of some kind with so many faces, unless it is regular.
-fn push_vertex(text: &mut Vec<u8>, kind: Kind, vertex: u32, faces: u32) -> Result<(), Memory>
+pub(crate) fn push_vertex(
+    text: &mut Vec<u8>,
+    kind: Kind,
+    vertex: u32,
+    faces: u32,
+) -> Result<(), Memory>
     ensures { OnOk result (text.new.items ≡ text.old.items ++ kind_line kind vertex faces) }
 {
     let numbers = [u64::from(vertex) + 1, u64::from(faces)];

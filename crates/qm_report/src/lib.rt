@@ -2,6 +2,7 @@
 #![tactic(auto)]
 
 mod graph;
+mod layout;
 mod lines;
 mod parts;
 mod riders;
@@ -9,6 +10,7 @@ mod summary;
 
 pub use def_report::Counts;
 pub use graph::graph_text;
+pub use layout::layout_text;
 pub use summary::summary_text;
 
 /// Want of memory.

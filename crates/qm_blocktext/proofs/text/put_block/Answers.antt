@@ -1,19 +1,26 @@
 use Rattle.std.specs.Prelude.{OnErr, OnOk}
 use Rattle.std.proofs.Common.{◌≡◌, ◌<◌, ℕ, List, [], Vec, Global, length, map, ◌++◌, get_or, sym, ◌∙◌, ap, subst, arith}
-use Rattle.std.specs.List.{flat_map}
 use Rattle.std.proofs.lemmas.List.{get_or-map}
 use Rattle.std.proofs.lemmas.Result.{on_err_weaker, on_ok_weaker}
-use Rattle.def_blocks.specs.BlockTexts.{link_line}
 use Rattle.def_blocks.specs.declared.link.Link.{Link}
+use Rattle.def_cuttext.specs.GridsText.{arcs_around}
 use Rattle.def_io.specs.Bytes.{Bytes}
+use Rattle.def_layout.specs.Plans.{plan}
+use Rattle.def_layout.specs.declared.tmesh.Side.{Side}
+use Rattle.def_layout.specs.declared.tmesh.TMesh.{TMesh}
+use Rattle.def_remesh.specs.CutSoups.{CutSoup}
+use Rattle.def_remesh.specs.Placings.{IsMeshLayout}
 use Rattle.qm_output.proofs.Prefixes.{of_error}
-use Rattle.qm_blocktext.specs.Gridded.{links_in, points_in, size_in}
+use Rattle.qm_blocktext.specs.Gridded.{arcs_of, links_in, points_in, size_in}
+use Rattle.def_cuttext.specs.GridsText.{links_text}
 use Rattle.qm_blocktext.specs.declared.blocks.Blocks.{Blocks}
+use Rattle.qm_blocktext.proofs.Rounds.{arcs_round, sides_low}
 use Rattle.qm_blocktext.proofs.text.put_block.Goals as goal
 
 -- The lines of its links, and those of its points before them.
 abbrev link_lines : (blocks : Blocks) (block : ℕ) → Bytes
-link_lines blocks block = flat_map link_line (get_or (links_in blocks) block [])
+link_lines blocks block =
+    links_text blocks.chosen (get_or (links_in blocks) block []) (arcs_around blocks.points.plan block)
 
 abbrev rest_of : (blocks : Blocks) (block : ℕ) → Bytes
 rest_of blocks block = points_in blocks.points block ++ link_lines blocks block
@@ -40,24 +47,47 @@ returns-in_err-put_points-clause-part g c =
     (laws.stops_later _ _ _ (size_in blocks.points c.args.block) (rest_of blocks c.args.block) c.in_ok-put_size.ensures.whole
     (laws.stops_before _ _ (points_in blocks.points c.args.block) (link_lines blocks c.args.block) c.in_err-put_points.ensures.part))
 
+-- The arcs around it.
+around : (blocks : Blocks) (block : ℕ) (cut : CutSoup) (t : TMesh) (four : List Side) → block < length blocks.links.items
+    → cut ≡ record { soup = blocks.points.soup; plan = blocks.points.plan } → plan t ≡ cut.plan
+    → IsMeshLayout cut.soup.faces cut.plan → four ≡ get_or t.sides.items block four
+    → arcs_of four ≡ arcs_around blocks.points.plan block
+around blocks block cut t four low of same laid read =
+    arcs_round t cut.plan same laid.0 block
+    (omega (arith, low, blocks.linked, ap (λ (k : CutSoup). length k.plan.patches) of)) four read
+    ∙ ap (λ (k : CutSoup). arcs_around k.plan block) of
+
+pub index-requires : goal.index-requires
+index-requires g c =
+    let blocks = c.args.blocks.now in
+    let t = c.layout-layout.result.now in
+    let low : c.args.block < length t.sides.items =
+    sides_low t c.cut.result.now.plan c.layout-layout.ensures.plan c.layout-layout.ensures.laid.0 c.args.block
+    (omega (arith, c.requires, blocks.linked, ap (λ (k : CutSoup). length k.plan.patches) c.cut.ensures)) in
+    omega (arith, low, t.sides.ok.0)
+
 pub returns-clause-whole : goal.returns-clause-whole
 returns-clause-whole g c =
     let laws = g.met.T.Output in
     let blocks = c.args.blocks.now in
     let links = own blocks c.args.block c.as_slice-links.result.now c.index-links-block.result c.requires c.as_slice-links.ensures.value c.index-links-block.is in
+    let arcs = around blocks c.args.block c.cut.result.now c.layout-layout.result.now c.index.result.now c.requires c.cut.ensures
+    c.layout-layout.ensures.plan c.layout-layout.ensures.laid c.index.ensures in
     on_ok_weaker c.put_links.result
     (λ last. laws.takes_more _ _ _ (size_in blocks.points c.args.block) (rest_of blocks c.args.block) c.in_ok-put_size.ensures.whole
     (laws.takes_more _ _ _ (points_in blocks.points c.args.block) (link_lines blocks c.args.block) c.in_ok-put_points.ensures.whole last))
-    (subst (λ (ls : List Link). OnOk c.put_links.result (g.T.Output.takes c.put_points.new.out c.put_links.new.out (flat_map link_line ls)))
-    (c.deref.ensures.value ∙ links) c.put_links.ensures.whole)
+    (subst (λ (text : Bytes). OnOk c.put_links.result (g.T.Output.takes c.put_points.new.out c.put_links.new.out text))
+    (λ i. links_text blocks.chosen ((c.deref.ensures.value ∙ links) i) (arcs i)) c.put_links.ensures.whole)
 
 pub returns-clause-part : goal.returns-clause-part
 returns-clause-part g c =
     let laws = g.met.T.Output in
     let blocks = c.args.blocks.now in
     let links = own blocks c.args.block c.as_slice-links.result.now c.index-links-block.result c.requires c.as_slice-links.ensures.value c.index-links-block.is in
+    let arcs = around blocks c.args.block c.cut.result.now c.layout-layout.result.now c.index.result.now c.requires c.cut.ensures
+    c.layout-layout.ensures.plan c.layout-layout.ensures.laid c.index.ensures in
     on_err_weaker c.put_links.result
     (λ last. laws.stops_later _ _ _ (size_in blocks.points c.args.block) (rest_of blocks c.args.block) c.in_ok-put_size.ensures.whole
     (laws.stops_later _ _ _ (points_in blocks.points c.args.block) (link_lines blocks c.args.block) c.in_ok-put_points.ensures.whole last))
-    (subst (λ (ls : List Link). OnErr c.put_links.result (g.T.Output.stops c.put_points.new.out c.put_links.new.out (flat_map link_line ls)))
-    (c.deref.ensures.value ∙ links) c.put_links.ensures.part)
+    (subst (λ (text : Bytes). OnErr c.put_links.result (g.T.Output.stops c.put_points.new.out c.put_links.new.out text))
+    (λ i. links_text blocks.chosen ((c.deref.ensures.value ∙ links) i) (arcs i)) c.put_links.ensures.part)

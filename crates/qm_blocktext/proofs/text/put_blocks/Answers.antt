@@ -1,7 +1,7 @@
 use Rattle.std.proofs.Common.{◌≡◌, length, ap, ◌∙◌, subst}
 use Rattle.std.proofs.lemmas.Result.{on_err_weaker, on_ok_weaker}
-use Rattle.def_blocks.specs.BlockTexts.{blocks_head}
 use Rattle.qm_output.proofs.Prefixes.{of_error}
+use Rattle.def_cuttext.specs.GridsText.{head_lines}
 use Rattle.qm_blocktext.specs.Gridded.{lines_in}
 use Rattle.qm_blocktext.proofs.text.put_blocks.Goals as goal
 
@@ -11,8 +11,8 @@ returns-in_err-put_line-clause-part g c =
     let blocks = c.args.blocks.now in
     let count : c.len.result ≡ length blocks.points.plan.patches = c.len.ensures ∙ blocks.links.ok.0 ∙ blocks.linked in
     of_error c.from_residual.result
-    (laws.stops_before _ _ (blocks_head blocks.by (length blocks.points.plan.patches)) (lines_in blocks)
-    (subst (g.T.Output.stops c.args.out.now c.put_line.new.out) (c.head_of.ensures ∙ ap (blocks_head blocks.by) count) c.in_err-put_line.ensures.part))
+    (laws.stops_before _ _ (head_lines blocks.chosen blocks.by (length blocks.points.plan.patches)) (lines_in blocks)
+    (subst (g.T.Output.stops c.args.out.now c.put_line.new.out) (c.head_of.ensures ∙ ap (head_lines blocks.chosen blocks.by) count) c.in_err-put_line.ensures.part))
 
 pub returns-clause-whole : goal.returns-clause-whole
 returns-clause-whole g c =
@@ -20,8 +20,8 @@ returns-clause-whole g c =
     let blocks = c.args.blocks.now in
     let count : c.len.result ≡ length blocks.points.plan.patches = c.len.ensures ∙ blocks.links.ok.0 ∙ blocks.linked in
     on_ok_weaker c.put_each.result
-    (laws.takes_more _ _ _ (blocks_head blocks.by (length blocks.points.plan.patches)) (lines_in blocks)
-    (subst (g.T.Output.takes c.args.out.now c.put_line.new.out) (c.head_of.ensures ∙ ap (blocks_head blocks.by) count) c.in_ok-put_line.ensures.whole))
+    (laws.takes_more _ _ _ (head_lines blocks.chosen blocks.by (length blocks.points.plan.patches)) (lines_in blocks)
+    (subst (g.T.Output.takes c.args.out.now c.put_line.new.out) (c.head_of.ensures ∙ ap (head_lines blocks.chosen blocks.by) count) c.in_ok-put_line.ensures.whole))
     c.put_each.ensures.whole
 
 pub returns-clause-part : goal.returns-clause-part
@@ -30,6 +30,6 @@ returns-clause-part g c =
     let blocks = c.args.blocks.now in
     let count : c.len.result ≡ length blocks.points.plan.patches = c.len.ensures ∙ blocks.links.ok.0 ∙ blocks.linked in
     on_err_weaker c.put_each.result
-    (laws.stops_later _ _ _ (blocks_head blocks.by (length blocks.points.plan.patches)) (lines_in blocks)
-    (subst (g.T.Output.takes c.args.out.now c.put_line.new.out) (c.head_of.ensures ∙ ap (blocks_head blocks.by) count) c.in_ok-put_line.ensures.whole))
+    (laws.stops_later _ _ _ (head_lines blocks.chosen blocks.by (length blocks.points.plan.patches)) (lines_in blocks)
+    (subst (g.T.Output.takes c.args.out.now c.put_line.new.out) (c.head_of.ensures ∙ ap (head_lines blocks.chosen blocks.by) count) c.in_ok-put_line.ensures.whole))
     c.put_each.ensures.part

@@ -1,7 +1,7 @@
 use Rattle.std.proofs.Common.{take}
 use Rattle.std.specs.List.{flat_map}
 use Rattle.def_blocks.specs.BlockTexts.{link_line}
-use Rattle.qm_blocktext.proofs.links.put_links.Given as goal
+use Rattle.qm_blocktext.proofs.links.put_plain.Given as goal
 
 abbrev pub invariant-loop-link : goal.invariant-loop-link
 invariant-loop-link g l =

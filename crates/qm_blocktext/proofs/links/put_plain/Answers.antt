@@ -3,7 +3,7 @@ use Rattle.def_io.specs.Bytes.{Bytes}
 use Rattle.def_blocks.specs.BlockTexts.{link_line}
 use Rattle.qm_output.proofs.Prefixes.{of_error}
 use Rattle.qm_output.proofs.Lists.{stops_at_item}
-use Rattle.qm_blocktext.proofs.links.put_links.Goals as goal
+use Rattle.qm_blocktext.proofs.links.put_plain.Goals as goal
 
 pub returns-in_err-put_line-clause-part : goal.returns-in_err-put_line-clause-part
 returns-in_err-put_line-clause-part g c =

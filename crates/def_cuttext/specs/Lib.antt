@@ -1,0 +1,2 @@
+pub mod GridsText
+pub mod LayoutText

@@ -1,0 +1,33 @@
+use Rattle.std.proofs.Common.{◌≡◌, ℕ, ◌++◌, length, ap, subst, arith}
+use Rattle.std.specs.Prelude.{option_copied}
+use Rattle.std.specs.List.{flat_map, range_with_len}
+use Rattle.std.proofs.lemmas.List.{length-map}
+use Rattle.def_cuttext.specs.LayoutText.{whole_arc_line}
+use Rattle.def_layout.specs.Arcs.{path}
+use Rattle.def_layout.specs.Plans.{Plan}
+use Rattle.qm_report.proofs.Texts.{piece_behind}
+use Rattle.qm_report.proofs.layout.push_arcs.Goals as goal
+
+pub loop-a-preserved : goal.loop-a-preserved
+loop-a-preserved c =
+    let cut = c.args.cut.now in
+    piece_behind (whole_arc_line cut.soup (option_copied c.args.kept) cut.plan) c.loop-a.a c.args.text.now.items c.loop-a.text.items
+    c.push_arc.new.text.items c.loop-a.invariant c.in_ok-push_arc.ensures
+
+pub returns : goal.returns
+returns c =
+    let cut = c.args.cut.now in
+    let t = c.layout.result.now in
+    let all : c.loop-a.a ≡ length cut.plan.arcs =
+    omega (
+      arith,
+      c.loop-a-test.false,
+      c.loop-a.auto.a-end,
+      c.len-a-end.ensures,
+      t.arcs.ok.0,
+      length-map t.arcs.items path,
+      ap (λ (p : Plan). length p.arcs) c.layout.ensures.plan,
+    ) in
+    subst
+    (λ (n : ℕ). c.loop-a.text.items ≡ c.args.text.now.items ++ flat_map (whole_arc_line cut.soup (option_copied c.args.kept) cut.plan) (range_with_len 0 n))
+    all c.loop-a.invariant

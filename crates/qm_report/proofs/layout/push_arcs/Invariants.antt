@@ -1,0 +1,9 @@
+use Rattle.std.proofs.Common.{◌≡◌, ◌++◌}
+use Rattle.std.specs.Prelude.{option_copied}
+use Rattle.std.specs.List.{flat_map, range_with_len}
+use Rattle.def_cuttext.specs.LayoutText.{whole_arc_line}
+use Rattle.qm_report.proofs.layout.push_arcs.Given as goal
+
+abbrev pub invariant-loop-a : goal.invariant-loop-a
+invariant-loop-a l = l.text.items
+    ≡ l.fn.text.items ++ flat_map (whole_arc_line l.cut.soup (option_copied l.kept) l.cut.plan) (range_with_len 0 l.a)

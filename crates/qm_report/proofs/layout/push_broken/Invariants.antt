@@ -1,0 +1,8 @@
+use Rattle.std.proofs.Common.{◌≡◌, ◌++◌, Some}
+use Rattle.std.specs.List.{flat_map, range_with_len}
+use Rattle.def_cuttext.specs.LayoutText.{break_line}
+use Rattle.qm_report.proofs.layout.push_broken.Given as goal
+
+abbrev pub invariant-loop-v : goal.invariant-loop-v
+invariant-loop-v l =
+    l.text.items ≡ l.fn.text.items ++ flat_map (break_line l.cut.soup (Some l.marks)) (range_with_len 0 l.v)
