@@ -17,7 +17,7 @@ README = ROOT / "README.md"
 BASH = ROOT / "tools/completions/quadq.bash"
 ZSH = ROOT / "tools/completions/_quadq"
 USAGE_STATUS = 2
-UNNAMED = frozenset({"map"})
+UNNAMED = frozenset({"fit", "grids", "layout", "map"})
 """The commands that the usage line leaves out."""
 
 
@@ -112,12 +112,22 @@ COPIES = [
 ]
 
 
+def left_out(text: str, known: Commands) -> set[str]:
+    """The commands that the sentence on the usage line says it leaves out."""
+    said = re.search(r"leaves out(.*?)(?:\|\n|\n\.TP)", text, re.DOTALL)
+    return set(re.findall(r"\w+", said[1])) & known.keys() if said else set()
+
+
 def listed(options: set[str]) -> str:
     return ", ".join(sorted(f"--{it}" for it in options)) or "none"
 
 
 def faults() -> Iterator[Fault]:
     wanted = by_definition()
+    for file in (README, MAN_PAGE):
+        if (found := left_out(file.read_text(), wanted)) != UNNAMED:
+            names = ", ".join(sorted(UNNAMED ^ found))
+            yield Fault(file, 1, f"the usage line and what is said of it differ in {names}")
     for copy in COPIES:
         found = copy.read()
         for name in sorted(wanted.keys() - found.keys() - copy.lacks):

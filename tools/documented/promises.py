@@ -26,13 +26,14 @@ class Code(NamedTuple):
     whole: str
 
 
+@functools.cache
 def code_of(file: pathlib.Path, crate: str) -> Code:
     files = sorted((ROOT / "crates" / crate / "src").rglob("*.rt"))
     return Code(file.read_text(), crate, "\n".join(it.read_text() for it in files))
 
 
 def function(text: str, name: str) -> str | None:
-    """The heads of the functions with this name that others can call, up to their bodies: public ones, and a trait's."""
+    """The heads of the functions with this name that others can call, up to their bodies: public, or of a trait."""
     traits = re.findall(r"^(?:pub trait|impl)\b[^\n{]*(?:\n[^\n{]*)?\{\n(?:[^}\n].*\n|\n)*", text, re.M)
     traits = [it for it in traits if re.match(r"pub trait|impl\b[^{]*\bfor\b", it)]
     heads = [re.search(rf"^( *)pub (?:const )?fn {name}\b(?:.*\n)*?\1(?:\{{|[^\n]*;$)", text, re.M)]
@@ -83,10 +84,18 @@ def faults_of_edits(cell: str, crates: list[str]) -> Iterator[str]:
             yield f"there is no edit {every or edit} in {' or '.join(folders)}"
 
 
+def has_clause(name: str, behind: list[str], code: Code) -> bool:
+    """Whether a call has a clause, or a method of a type: one of those behind it, where any are."""
+    if is_type(code.text, name) and not behind:
+        return "ensures" in code.whole
+    return any("ensures" in (function(code.whole, it) or "") for it in ([name] if not behind else [name, *behind]))
+
+
 def faults_of_row(cells: list[str], edits: int) -> Iterator[str]:
     """What a row says wrongly of the code."""
     crates: list[str] = []
     row = " | ".join(cells)
+    shown = "each contract" in row
     for link in LINK.finditer(row):
         path, crate = PROMISES.parent / link[2], link[3]
         crates.append(crate)
@@ -96,16 +105,28 @@ def faults_of_row(cells: list[str], edits: int) -> Iterator[str]:
         words = re.findall(r"`(\w+)`", behind[1]) if behind else []
         for name in WORD.findall(link[1]):
             yield from faults_of_link(name, words, code_of(path, crate))
-    if crates and edits < len(cells):
-        yield from faults_of_edits(cells[edits], crates)
+            shown = shown or has_clause(name.rpartition("::")[2], words, code_of(path, crate))
+    yield from faults_of_edits(cells[edits], crates or ["*"])
+    # (no state stands in an item: all of a list is proved)
+    if not shown and not "".join(cells[edits + 1 :]).startswith("tested"):
+        yield "this is told as proved, and nothing that is linked has a clause"
+
+
+def faults_in(text: str) -> Iterator[Fault]:
+    """What the tables and the lists of a text say wrongly."""
+    edits = 0
+    for number, line in enumerate(text.splitlines(), 1):
+        cells = [it.strip() for it in line.split("|")]
+        found: Iterator[str] = iter(())
+        if EDITS in cells:
+            edits = cells.index(EDITS)
+        elif line.startswith("- "):
+            promise, _, refused = line.partition(" Refused: ")
+            found = faults_of_row([promise, refused], 1)
+        elif len(cells) > edits + 1 and not line.startswith("|---"):
+            found = faults_of_row(cells, edits)
+        yield from (Fault(PROMISES, number, it) for it in found)
 
 
 def faults() -> Iterator[Fault]:
-    edits = 0
-    for number, line in enumerate(PROMISES.read_text().splitlines(), 1):
-        cells = [it.strip() for it in line.split("|")]
-        if EDITS in cells:
-            edits = cells.index(EDITS)
-        item = line.partition(" Refused: ") if line.startswith("- ") else None
-        for what in faults_of_row([item[0], item[2]], 1) if item else faults_of_row(cells, edits):
-            yield Fault(PROMISES, number, what)
+    yield from faults_in(PROMISES.read_text())

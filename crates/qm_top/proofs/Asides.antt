@@ -1,15 +1,27 @@
 -- The lines that commands write around a mesh are passed over by a reader of meshes.
-use Rattle.std.proofs.Common.{◌≡◌, ◌+◌, ◌^◌, ◌<◌, ◌≤◌, not, ℕ, zero, suc, ℤ, Bool, true, false, List, [], ◌∷◌, ◌++◌, codes, length, take, map, get_or, sym, ◌∙◌, ap, subst, refl, arith, length-append}
+use Rattle.std.proofs.Common.{◌≡◌, ◌+◌, ◌^◌, ◌<◌, ◌≤◌, not, ℕ, zero, suc, ℤ, Bool, true, false, List, [], ◌∷◌, ◌++◌}
+use Rattle.std.proofs.Common.{codes, length, take, map, get_or, sym, ◌∙◌, ap, subst, refl, arith, length-append}
 use Rattle.std.proofs.Math.Seq.{take-length}
 use Rattle.std.proofs.lemmas.Bool.{and_from, and_parts}
 use Rattle.std.specs.List.{before_first, list_all}
 use Rattle.std.specs.Prelude.{◌==◌, ◌&&◌, decimal, if◌then◌else◌, unsigned_abs}
-use Rattle.def_certtext.specs.Settings.{AreInRange}
+use Rattle.def_certtext.specs.Settings.{weight_text, AreInRange}
+use Rattle.def_fit.specs.Aims.{IsAim, IsFit}
+use Rattle.def_fit.specs.FitWords.{aim_text, fit_head, keep_word, patches_word}
+use Rattle.def_fit.specs.declared.fit.Aim.{Aim}
+use Rattle.def_fit.specs.declared.fit.Aim.TheVariants.{Scale, Edge, Wishes}
+use Rattle.def_fit.specs.declared.fit.Fit.{Fit}
 use Rattle.def_flow.specs.declared.net.Settings.{Settings}
+use Rattle.def_flow.specs.declared.net.Weight.{Weight}
+use Rattle.def_flow.specs.declared.net.Weight.TheVariants as weights
 use Rattle.def_io.specs.Bytes.{Bytes, Lines}
 use Rattle.def_layout.specs.Lengths.{Lengths}
 use Rattle.def_layout.specs.Plans.{Plan}
 use Rattle.def_marks.specs.MarkedText.{marked_text}
+use Rattle.def_patches.specs.declared.Keep.{Keep}
+use Rattle.def_patches.specs.declared.Keep.TheVariants as keeps
+use Rattle.def_patches.specs.declared.Patches.{Patches}
+use Rattle.def_patches.specs.declared.Patches.TheVariants.{Traced, Merged, Conforming}
 use Rattle.def_run.specs.Heads.{named_head}
 use Rattle.def_run.specs.Reread.{HasShortLines}
 use Rattle.def_run.specs.Size.{size_head}
@@ -19,20 +31,25 @@ use Rattle.def_text.specs.Reading.{begins_with}
 use Rattle.def_text.specs.Words.{words}
 use Rattle.qm_dec.proofs.Texts.{none_first}
 use Rattle.qm_obj.proofs.LawText.{is_tame, micro_word, no_continuation}
-use Rattle.qm_check.proofs.Laid.{size_inside}
+use Rattle.qm_check.proofs.Heads.{fit_inside, size_inside}
 use Rattle.remesh_laws.proofs.Asides.{line_aside, number_short, settings_aside}
 use Rattle.remesh_laws.proofs.MarkedLines.{chain_line, chain_tame, marked_chains, marked_ended, marked_lines}
 use Rattle.remesh_laws.specs.Asides.{IsAside, IsPassedOver}
 
 -- ---- Head lines.
 
-pub coarse_aside : (settings : Settings) → AreInRange settings false → IsAside (named_head (codes "coarse") settings ++ 10 ∷ [])
-coarse_aside settings range = settings_aside (codes "#quadq 1 " ++ codes "coarse" ++ codes " scale ") settings false refl refl (omega arith) range
+pub coarse_aside : (settings : Settings) → AreInRange settings false
+    → IsAside (named_head (codes "coarse") settings ++ 10 ∷ [])
+coarse_aside settings range = settings_aside (codes "#quadq 1 " ++ codes "coarse" ++ codes " scale ") settings false
+    refl refl (omega arith) range
 
-pub crease_aside : (settings : Settings) → AreInRange settings false → IsAside (named_head (codes "crease") settings ++ 10 ∷ [])
-crease_aside settings range = settings_aside (codes "#quadq 1 " ++ codes "crease" ++ codes " scale ") settings false refl refl (omega arith) range
+pub crease_aside : (settings : Settings) → AreInRange settings false
+    → IsAside (named_head (codes "crease") settings ++ 10 ∷ [])
+crease_aside settings range = settings_aside (codes "#quadq 1 " ++ codes "crease" ++ codes " scale ") settings false
+    refl refl (omega arith) range
 
-pub size_aside : (edge : ℤ) → unsigned_abs edge ≤ 999_999_999_999_999 → (floor : ℕ) → floor < 2 ^ 64 → IsAside (size_head edge floor ++ 10 ∷ [])
+pub size_aside : (edge : ℤ) → unsigned_abs edge ≤ 999_999_999_999_999 → (floor : ℕ) → floor < 2 ^ 64
+    → IsAside (size_head edge floor ++ 10 ∷ [])
 size_aside edge near floor low = line_aside (size_head edge floor) refl (size_inside edge near floor low) short
   where
     front : Bytes
@@ -47,6 +64,55 @@ size_aside edge near floor low = line_aside (size_head edge floor) refl (size_in
       (micro_word edge near).short,
       number_short floor low,
     )
+
+keep_short : (keep : Keep) → length (keep_word keep) ≤ 20
+keep_short keeps.Nothing = omega arith
+keep_short keeps.Lines = omega arith
+
+patches_short : (patches : Patches) → length (patches_word patches) ≤ 20
+patches_short Traced = omega arith
+patches_short Merged = omega arith
+patches_short Conforming = omega arith
+
+aim_short : (aim : Aim) → IsAim aim → length (aim_text aim) ≤ 100
+aim_short (Scale p q) is = omega (
+  arith,
+  length-append (codes "scale:" ++ decimal p) (47 ∷ decimal q),
+  length-append (codes "scale:") (decimal p),
+  number_short p (omega (arith, is.1)),
+  number_short q (omega (arith, is.3)),
+)
+aim_short (Edge edge) is = omega (arith, length-append (codes "edge:") (micro_text edge), (micro_word edge is.1).short)
+aim_short Wishes is = omega arith
+
+weight_short : (weight : Weight) → length (weight_text weight) ≤ 20
+weight_short weights.Plain = omega arith
+weight_short weights.Length = omega arith
+
+-- A mark and a word behind a text.
+behind : (front mark word : Bytes) (m n k : ℕ) → length front ≤ m → length mark ≤ n → length word ≤ k
+    → length (front ++ mark ++ word) ≤ m + n + k
+behind front mark word m n k one other last =
+    omega (arith, length-append (front ++ mark) word, length-append front mark, one, other, last)
+
+pub fit_aside : (fit : Fit) → IsFit fit → IsAside (fit_head fit ++ 10 ∷ [])
+fit_aside fit is =
+    let kept = codes "#quadq 1 fit keep " ++ keep_word fit.keep in
+    let cut = kept ++ codes " patches " ++ patches_word fit.patches in
+    let aimed = cut ++ codes " aim " ++ aim_text fit.aim in
+    let bounded = aimed ++ codes " floor " ++ decimal fit.floor in
+    line_aside (fit_head fit) refl (fit_inside fit is) (omega (
+      arith,
+      length-append (bounded ++ codes " weight " ++ weight_text fit.weight) (codes " spacing even"),
+      behind bounded (codes " weight ") (weight_text fit.weight) 260 20 20
+          (behind aimed (codes " floor ") (decimal fit.floor) 220 20 20
+          (behind cut (codes " aim ") (aim_text fit.aim) 100 20 100
+          (behind kept (codes " patches ") (patches_word fit.patches) 60 20 20
+          (behind [] (codes "#quadq 1 fit keep ") (keep_word fit.keep) 0 40 20 (omega arith) (omega arith)
+          (keep_short fit.keep))
+          (omega arith) (patches_short fit.patches)) (omega arith) (aim_short fit.aim is.aim)) (omega arith)
+          (number_short fit.floor (omega (arith, is.high)))) (omega arith) (weight_short fit.weight),
+    ))
 
 -- ---- The lines of marked arcs.
 
@@ -80,14 +146,17 @@ chain_passed chain short = record {
   where
     part : part_of (chain_line chain) ≡ chain_line chain
     part =
-        ap (λ (t : Bool). if t then with_space (chain_line chain) else before_first is_hash (chain_line chain)) (no_continuation (chain_line chain) (chain_tame chain))
+        ap (λ (t : Bool). if t then with_space (chain_line chain) else before_first is_hash (chain_line chain))
+        (no_continuation (chain_line chain) (chain_tame chain))
         ∙ whole_line (chain_line chain) (chain_tame chain)
 
-chains_passed : (chains : List (List ℕ)) → ((k : ℕ) → k < length (map chain_line chains) → length (get_or (map chain_line chains) k []) ≤ 65536)
+chains_passed : (chains : List (List ℕ))
+    → ((k : ℕ) → k < length (map chain_line chains) → length (get_or (map chain_line chains) k []) ≤ 65536)
     → (k : ℕ) → k < length (map chain_line chains) → IsPassedOver (get_or (map chain_line chains) k [])
 chains_passed [] short k low = absurd (omega (arith, low))
 chains_passed (chain ∷ chains) short zero low = chain_passed chain (short 0 low)
-chains_passed (chain ∷ chains) short (suc k) low = chains_passed chains (λ j l. short (suc j) (omega (arith, l))) k (omega (arith, low))
+chains_passed (chain ∷ chains) short (suc k) low =
+    chains_passed chains (λ j l. short (suc j) (omega (arith, l))) k (omega (arith, low))
 
 module _ (marks : List Bool) (plan : Plan) (new : Lengths) where
   -- They are passed over where none is too long.
@@ -95,7 +164,8 @@ module _ (marks : List Bool) (plan : Plan) (new : Lengths) where
   marked_aside short = record {
     ended = marked_ended marks plan new;
     each = subst
-        (λ (ls : Lines). ((k : ℕ) → k < length ls → length (get_or ls k []) ≤ 65536) → (k : ℕ) → k < length ls → IsPassedOver (get_or ls k []))
+        (λ (ls : Lines). ((k : ℕ) → k < length ls → length (get_or ls k []) ≤ 65536) → (k : ℕ) → k < length ls
+        → IsPassedOver (get_or ls k []))
         (sym (marked_lines marks plan new))
         (chains_passed (marked_chains marks plan new)) short;
   }

@@ -1,6 +1,5 @@
 -- The text of the blocks of a mesh, and what `blocks` keeps.
 use Rattle.std.proofs.Common.{◌≡◌, ℕ, ◌<◌}
-use Rattle.def_blocks.specs.BlockTexts.{blocks_text}
 use Rattle.def_io.specs.Moves.{Change}
 use Rattle.def_layout.specs.Arcs.{long_at}
 use Rattle.def_layout.specs.Surfaces.{IsSurface}
@@ -16,6 +15,7 @@ use Rattle.def_text.specs.declared.limits.TheConstants.{MAX_BYTES}
 use Rattle.plan_laws.proofs.MeshLayouts.{laid_of}
 use Rattle.qm_blocks.proofs.Joined.{linked_points}
 use Rattle.qm_blocks.proofs.Mutual.{lead_back}
+use Rattle.def_cuttext.specs.GridsText.{chosen_text}
 use Rattle.qm_blocktext.specs.declared.blocks.Blocks.{Blocks}
 use Rattle.qm_refine.proofs.Multiplied.{are_multiples}
 use Rattle.qm_top.specs.Blocking.{links_in, told_text, AreBlocksBy}
@@ -35,7 +35,7 @@ is_blocked by soup blocks some are = record {
     linked = are.links;
     back = lead_back (layout_of plan) new laid (links_in blocks) are.links;
     joined = linked_points (layout_of plan) new laid lengths (links_in blocks) are.links;
-    written = λ k. blocks_text (are.parts k) (are.points.same k) plan (are.points.lengths k) (links_in blocks);
+    written = λ k. chosen_text (are.told k) (are.parts k) (are.points.same k) plan (are.points.lengths k) (links_in blocks);
   };
 }
   where

@@ -1,9 +1,14 @@
 -- Bytes that a command takes are not refused.
-use Rattle.std.proofs.Common.{Bool, false, ◌≡◌, ◌≤◌, ◌⊎◌, ℕ, ℤ, List, ◌++◌, length, Some, None, Result, Ok, Err, sym, ◌∙◌, ap, subst, arith, refl, inl, inr, length-append}
+use Rattle.std.proofs.Common.{Bool, false, ◌≡◌, ◌≤◌, ◌⊎◌, ℕ, ℤ, List, ◌++◌, length, Option, Some, None, Result, Ok, Err}
+use Rattle.std.proofs.Common.{sym, ◌∙◌, ap, subst, arith, refl, inl, inr, length-append}
 use Rattle.std.proofs.lemmas.List.{append-nil}
+use Rattle.def_fit.specs.FitTasks.{asides_in, kept_in, Asides}
+use Rattle.def_fit.specs.declared.fit.Fit.{Fit as AnyFit}
 use Rattle.def_io.specs.Bytes.{Bytes, Told}
 use Rattle.def_io.specs.Faults.{Rose}
 use Rattle.def_io.specs.Moves.{Change, gave, GaveMore, IsEmptied}
+use Rattle.def_marks.specs.declared.fail.MarkFail.{MarkFail}
+use Rattle.def_marks.specs.declared.fail.MarkFail.TheVariants as marks
 use Rattle.def_mesh.specs.Manifold.{IsManifold}
 use Rattle.def_text.specs.FaceSet.{FaceSet}
 use Rattle.def_text.specs.declared.limits.TheConstants.{MAX_BYTES}
@@ -13,6 +18,12 @@ use Rattle.def_run.specs.Bench.{bench_settings, HasBench, RefusesToBench}
 use Rattle.def_run.specs.Causes.{Cause, FailsToRead, SourceHolds, IsGood, Reads, ReadsTooMany, Refused, Refuses, Takes}
 use Rattle.def_run.specs.Coarse.{AsksToMerge}
 use Rattle.def_run.specs.Crease.{AsksToCrease, HasCreased, RefusesToCrease}
+use Rattle.def_run.specs.Fit.{AsksForNearFit, AsksToFit, HasAsideFail, HasFit, HasNearAsides, HasNearWishes, IsFarFit}
+use Rattle.def_run.specs.Fit.{RefusesAsides, RefusesFit}
+use Rattle.def_patches.specs.declared.Keep.{Keep}
+use Rattle.def_patches.specs.declared.Patches.{Patches}
+use Rattle.def_run.specs.Grids.{HasGrids, RefusesGrids}
+use Rattle.def_run.specs.LayOut.{HasKept, HasKeptFail, RefusesKept, RefusesToLayOut}
 use Rattle.def_run.specs.Mesh.{IsMeshText, IsNoMesh}
 use Rattle.def_flow.specs.declared.net.Settings.{Settings}
 use Rattle.def_remesh.specs.Refusals.{IsRemeshable}
@@ -21,9 +32,12 @@ use Rattle.def_run.specs.Remesh.{Asks, AsksToRemesh, HasFinished, RefusesLayout,
 use Rattle.def_layout.specs.Plans.{Plan}
 use Rattle.def_run.specs.Size.{AsksForNearSize, AsksForSize, HasNearTargets, HasSize, IsFarText, RefusesSize}
 use Rattle.def_run.specs.declared.answer.Answer.{Answer}
-use Rattle.def_run.specs.declared.answer.Answer.TheVariants.{Done, NotAccepted, Usage, Syntax, NotQuad, Range, Limit, NotManifold, Tangled, TooFine, Doubled, ReadFault, WriteFault, Memory, Far}
+use Rattle.def_run.specs.declared.answer.Answer.TheVariants.{Done, NotAccepted, Usage, Syntax, NotQuad, Range, Limit}
+use Rattle.def_run.specs.declared.answer.Answer.TheVariants.{NotManifold, NotEdge, Tangled, TooFine, Doubled, ReadFault}
+use Rattle.def_run.specs.declared.answer.Answer.TheVariants.{WriteFault, Memory, Far}
 use Rattle.def_run.specs.declared.command.Command.{Command}
-use Rattle.def_run.specs.declared.command.Command.TheVariants.{Tidy, Graph, Refine, Remesh, Check, Bench, Crease, Size, Coarse, Blocks, Map}
+use Rattle.def_run.specs.declared.command.Command.TheVariants.{Tidy, Graph, Refine, Remesh, Check, Bench, Crease, Size}
+use Rattle.def_run.specs.declared.command.Command.TheVariants.{Coarse, Blocks, Map, Fit, LayOut, Grids}
 use Rattle.def_run.specs.declared.words.WordsFail.{WordsFail}
 use Rattle.def_run.specs.declared.words.WordsFail.TheVariants as words_fail
 use Rattle.def_run.specs.CommandLines.{IsAcceptedLine, IsCommand}
@@ -32,14 +46,19 @@ use Rattle.remesh_laws.proofs.Fits.{fits_not_doubled, fits_not_fine}
 use Rattle.qm_top.proofs.Checked.{pair_not_refused}
 use Rattle.qm_top.proofs.Creased.{marks_not_refused}
 use Rattle.qm_top.specs.Refusals.{answer_of_words}
-use Rattle.def_remesh.specs.Tasks.{old_lengths, Wish}
+use Rattle.def_remesh.specs.Tasks.{old_lengths, Task, Wish}
 
 -- Bytes that have a mesh have no refusal of one.
-pub mesh_not_refused : (bytes : Bytes) (soup : FaceSet) (answer : Answer) → IsMeshText bytes soup → IsNoMesh bytes answer → ⊥
-mesh_not_refused bytes soup (Syntax line) mesh none = let both : ◌≡◌ {A = Result FaceSet ObjFail} (Ok soup) (Err _) = sym mesh.said ∙ none in cc
-mesh_not_refused bytes soup (NotQuad line corners) mesh none = let both : ◌≡◌ {A = Result FaceSet ObjFail} (Ok soup) (Err _) = sym mesh.said ∙ none in cc
-mesh_not_refused bytes soup (Range line) mesh none = let both : ◌≡◌ {A = Result FaceSet ObjFail} (Ok soup) (Err _) = sym mesh.said ∙ none in cc
-mesh_not_refused bytes soup (Limit which line) mesh none = let both : ◌≡◌ {A = Result FaceSet ObjFail} (Ok soup) (Err _) = sym mesh.said ∙ none in cc
+pub mesh_not_refused : (bytes : Bytes) (soup : FaceSet) (answer : Answer) → IsMeshText bytes soup
+    → IsNoMesh bytes answer → ⊥
+mesh_not_refused bytes soup (Syntax line) mesh none = let both : ◌≡◌ {A = Result FaceSet ObjFail} (Ok soup) (Err _) =
+    sym mesh.said ∙ none in cc
+mesh_not_refused bytes soup (NotQuad line corners) mesh none =
+    let both : ◌≡◌ {A = Result FaceSet ObjFail} (Ok soup) (Err _) = sym mesh.said ∙ none in cc
+mesh_not_refused bytes soup (Range line) mesh none = let both : ◌≡◌ {A = Result FaceSet ObjFail} (Ok soup) (Err _) =
+    sym mesh.said ∙ none in cc
+mesh_not_refused bytes soup (Limit which line) mesh none =
+    let both : ◌≡◌ {A = Result FaceSet ObjFail} (Ok soup) (Err _) = sym mesh.said ∙ none in cc
 mesh_not_refused bytes soup (NotManifold place) mesh none =
     let both : ◌≡◌ {A = Result FaceSet ObjFail} (Ok soup) (Ok none.soup) = sym mesh.said ∙ none.said in
     let same : soup ≡ none.soup = cc in
@@ -48,24 +67,41 @@ mesh_not_refused bytes soup _ mesh none = absurd none
 
 -- Bytes whose mesh is refined are not refused.
 refine_not_both : (by : ℕ) (bytes : Bytes) (answer : Answer) → HasRefined by bytes → RefusesToRefine by bytes answer → ⊥
-refine_not_both by bytes (TooFine faces kept) takes (plan, cut, fine) = absurd (omega (arith, fine.counted, fine.many, takes.fits plan cut))
+refine_not_both by bytes (TooFine faces kept) takes (plan, cut, fine) =
+    absurd (omega (arith, fine.counted, fine.many, takes.fits plan cut))
 refine_not_both by bytes answer takes refuses = mesh_not_refused bytes takes.soup answer takes.mesh refuses
 
 -- Bytes whose mesh is remeshed whatever least lists are kept are not refused.
-layout_not_both : (wish : Wish) (settings : Settings) (auto : Bool) (plan : Plan) (answer : Answer) → IsRemeshable wish plan settings auto
+layout_not_both : (wish : Wish) (settings : Settings) (auto : Bool) (plan : Plan) (answer : Answer)
+    → IsRemeshable wish plan settings auto
     → RefusesLayout wish plan settings auto answer → ⊥
 layout_not_both wish settings auto plan (Tangled count) fits refuses = fits.untangled count refuses
-layout_not_both wish settings auto plan (TooFine faces kept) fits refuses = fits_not_fine wish plan settings auto faces kept fits refuses
-layout_not_both wish settings auto plan (Doubled u v cert) fits refuses = fits_not_doubled wish plan settings auto u v cert fits refuses
+layout_not_both wish settings auto plan (TooFine faces kept) fits refuses =
+    fits_not_fine wish plan settings auto faces kept fits refuses
+layout_not_both wish settings auto plan (Doubled u v cert) fits refuses =
+    fits_not_doubled wish plan settings auto u v cert fits refuses
 layout_not_both wish settings auto plan _ fits refuses = absurd refuses
 
-task_not_both : (asks : Asks) (bytes : Bytes) (answer : Answer) → HasFinished asks bytes → RefusesTask asks bytes answer → ⊥
+task_not_both : (asks : Asks) (bytes : Bytes) (answer : Answer) → HasFinished asks bytes → RefusesTask asks bytes answer
+    → ⊥
 task_not_both asks bytes answer takes (inl none) = mesh_not_refused bytes takes.soup answer takes.mesh none
 task_not_both asks bytes answer takes (inr (task, plan, has, why)) =
     layout_not_both task.wish task.settings task.auto plan answer (takes.fits task plan has) why
 
+-- What is asked for under a condition is finished with all that is asked for.
+near_finished : (asks near : Asks) (bytes : Bytes)
+    → ((soup : FaceSet) (task : Task) → near bytes soup task → asks bytes soup task) → HasFinished asks bytes
+    → HasFinished near bytes
+near_finished asks near bytes more finished = record {
+  soup = finished.soup;
+  mesh = finished.mesh;
+  fits = λ task plan has. finished.fits task plan
+      (record { soup = has.soup; mesh = has.mesh; asked = more has.soup task has.asked; cut = has.cut });
+}
+
 -- Targets that are too great for it are not near.
-pub far_not_near : (edge : ℤ) (floor sum : ℕ) (bytes : Bytes) (soup : FaceSet) → IsMeshText bytes soup → HasNearTargets edge soup → IsFarText edge floor bytes sum → ⊥
+pub far_not_near : (edge : ℤ) (floor sum : ℕ) (bytes : Bytes) (soup : FaceSet) → IsMeshText bytes soup
+    → HasNearTargets edge soup → IsFarText edge floor bytes sum → ⊥
 far_not_near edge floor sum bytes soup mesh near is =
     let both : ◌≡◌ {A = Result FaceSet ObjFail} (Ok is.soup) (Ok soup) = sym is.mesh.said ∙ mesh.said in
     let same : is.soup ≡ soup = cc in
@@ -73,36 +109,104 @@ far_not_near edge floor sum bytes soup mesh near is =
     absurd (omega (arith, here is.plan is.cut, is.far.told, is.far.high))
 
 -- Bytes that it takes are not refused.
-pub size_not_both : (edge : ℤ) (floor : ℕ) (bytes : Bytes) (answer : Answer) → HasSize edge floor bytes → RefusesSize edge floor bytes answer → ⊥
+pub size_not_both : (edge : ℤ) (floor : ℕ) (bytes : Bytes) (answer : Answer) → HasSize edge floor bytes
+    → RefusesSize edge floor bytes answer → ⊥
 size_not_both edge floor bytes (Far sum) takes far =
     far_not_near edge floor sum bytes takes.finished.soup takes.finished.mesh takes.near far
 size_not_both edge floor bytes (Tangled count) takes refuses =
     task_not_both (AsksForSize edge floor) bytes (Tangled count) takes.finished refuses
-size_not_both edge floor bytes answer takes refuses = task_not_both (AsksForNearSize edge floor) bytes answer finished refuses
-  where
-    finished : HasFinished (AsksForNearSize edge floor) bytes
-    finished = record {
-      soup = takes.finished.soup;
-      mesh = takes.finished.mesh;
-      fits = λ task plan has. takes.finished.fits task plan (record { soup = has.soup; mesh = has.mesh; asked = has.asked.0; cut = has.cut });
-    }
+size_not_both edge floor bytes answer takes refuses =
+    task_not_both (AsksForNearSize edge floor) bytes answer
+    (near_finished (AsksForSize edge floor) (AsksForNearSize edge floor) bytes (λ soup task near. near.0)
+    takes.finished) refuses
 
 -- So is the mesh of a size.
 bench_not_both : (size : ℕ) (answer : Answer) → HasBench size → RefusesToBench size answer → ⊥
 bench_not_both size (NotManifold place) takes refuses = refuses.1 takes.manifold
-bench_not_both size answer takes (plan, cut, why) = layout_not_both old_lengths bench_settings false plan answer (takes.fits plan cut) why
+bench_not_both size answer takes (plan, cut, why) =
+    layout_not_both old_lengths bench_settings false plan answer (takes.fits plan cut) why
 
 -- Bytes with marks are refused for what is asked of them alone.
-crease_not_both : (settings : Settings) (bytes : Bytes) (answer : Answer) → HasCreased settings bytes → RefusesToCrease settings bytes answer → ⊥
+crease_not_both : (settings : Settings) (bytes : Bytes) (answer : Answer) → HasCreased settings bytes
+    → RefusesToCrease settings bytes answer → ⊥
 crease_not_both settings bytes answer takes (inl none) = marks_not_refused bytes answer takes.marks none
-crease_not_both settings bytes answer takes (inr why) = task_not_both (AsksToCrease settings) bytes answer takes.finished why
+crease_not_both settings bytes answer takes (inr why) =
+    task_not_both (AsksToCrease settings) bytes answer takes.finished why
+
+-- Bytes whose lines beside their mesh are not refused, with wishes that are not too great, are refused for what is
+-- asked of them alone.
+asides_fail : (fit : AnyFit) (bytes : Bytes) (fail : MarkFail) → HasNearAsides fit bytes → HasAsideFail fit bytes fail
+    → ⊥
+asides_fail fit bytes fail has none =
+    let both : ◌≡◌ {A = Result FaceSet ObjFail} (Ok has.soup) (Ok none.soup) = sym has.mesh.said ∙ none.mesh.said in
+    let same : has.soup ≡ none.soup = cc in
+    let clash : ◌≡◌ {A = Result Asides MarkFail} (Ok has.asides) (Err fail) =
+    sym has.said ∙ (ap (asides_in fit bytes) same ∙ none.said) in
+    cc
+
+pub asides_not_refused : (fit : AnyFit) (bytes : Bytes) (answer : Answer) → HasNearAsides fit bytes
+    → RefusesAsides fit bytes answer → ⊥
+asides_not_refused fit bytes (Syntax line) has none = asides_fail fit bytes (marks.Syntax line) has none
+asides_not_refused fit bytes (Range line) has none = asides_fail fit bytes (marks.Range line) has none
+asides_not_refused fit bytes (NotEdge line) has none = asides_fail fit bytes (marks.NotEdge line) has none
+asides_not_refused fit bytes _ has none = absurd none
+
+pub wishes_not_near : (fit : AnyFit) (bytes : Bytes) (sum : ℕ) → HasNearAsides fit bytes → IsFarFit fit bytes sum → ⊥
+wishes_not_near fit bytes sum has is =
+    let both : ◌≡◌ {A = Result FaceSet ObjFail} (Ok is.asked.soup) (Ok has.soup) =
+    sym is.asked.mesh.said ∙ has.mesh.said in
+    let same : is.asked.soup ≡ has.soup = cc in
+    let near : (task : Task) → AsksToFit fit bytes is.asked.soup task → HasNearWishes fit.aim is.asked.soup task =
+    subst (λ (s : FaceSet). (task : Task) → AsksToFit fit bytes s task → HasNearWishes fit.aim s task) (sym same)
+    has.near in
+    is.unbounded (near is.task is.asked.asked is.plan is.asked.cut)
+
+fit_not_both : (fit : AnyFit) (bytes : Bytes) (answer : Answer) → HasFit fit bytes → RefusesFit fit bytes answer → ⊥
+fit_not_both fit bytes (Far sum) takes far = wishes_not_near fit bytes sum takes.asides far
+fit_not_both fit bytes (Tangled count) takes refuses =
+    task_not_both (AsksToFit fit) bytes (Tangled count) takes.finished refuses
+fit_not_both fit bytes answer takes refuses = by_parts answer refuses
+  where
+    by_parts : (answer : Answer) → RefusesAsides fit bytes answer ⊎ RefusesTask (AsksForNearFit fit) bytes answer → ⊥
+    by_parts answer (inl none) = asides_not_refused fit bytes answer takes.asides none
+    by_parts answer (inr why) =
+        task_not_both (AsksForNearFit fit) bytes answer
+        (near_finished (AsksToFit fit) (AsksForNearFit fit) bytes (λ soup task near. near.0) takes.finished) why
+
+-- Bytes whose lines that are kept are not refused have no refusal of them, and so no refusal of a layout.
+kept_fails : (keep : Keep) (bytes : Bytes) (fail : MarkFail) → HasKept keep bytes → HasKeptFail keep bytes fail → ⊥
+kept_fails keep bytes fail has none =
+    let both : ◌≡◌ {A = Result FaceSet ObjFail} (Ok has.soup) (Ok none.soup) = sym has.mesh.said ∙ none.mesh.said in
+    let same : has.soup ≡ none.soup = cc in
+    let clash : ◌≡◌ {A = Result (Option (List Bool)) MarkFail} (Ok has.kept) (Err fail) =
+    sym has.said ∙ (ap (kept_in keep bytes) same ∙ none.said) in
+    cc
+
+kept_not_refused : (keep : Keep) (bytes : Bytes) (answer : Answer) → HasKept keep bytes → RefusesKept keep bytes answer → ⊥
+kept_not_refused keep bytes (Syntax line) has none = kept_fails keep bytes (marks.Syntax line) has none
+kept_not_refused keep bytes (Range line) has none = kept_fails keep bytes (marks.Range line) has none
+kept_not_refused keep bytes (NotEdge line) has none = kept_fails keep bytes (marks.NotEdge line) has none
+kept_not_refused keep bytes _ has none = absurd none
+
+lay_out_not_both : (keep : Keep) (bytes : Bytes) (answer : Answer) → HasKept keep bytes → RefusesToLayOut keep bytes answer
+    → ⊥
+lay_out_not_both keep bytes answer takes (inl none) = mesh_not_refused bytes takes.soup answer takes.mesh none
+lay_out_not_both keep bytes answer takes (inr why) = kept_not_refused keep bytes answer takes why
+
+grids_not_both : (keep : Keep) (patches : Patches) (by : ℕ) (bytes : Bytes) (answer : Answer)
+    → HasGrids keep patches by bytes → RefusesGrids keep patches by bytes answer → ⊥
+grids_not_both keep patches by bytes (TooFine faces kept) takes (plan, layout, fine) =
+    absurd (omega (arith, fine.counted, fine.many, takes.fits plan layout))
+grids_not_both keep patches by bytes answer takes refuses = lay_out_not_both keep bytes answer takes.has refuses
 
 -- No command both takes bytes and refuses them.
-not_both : (command : Command) (bytes : Bytes) (answer : Answer) → Takes command bytes → Refuses command bytes answer → ⊥
+not_both : (command : Command) (bytes : Bytes) (answer : Answer) → Takes command bytes → Refuses command bytes answer
+    → ⊥
 not_both Tidy bytes answer takes refuses = mesh_not_refused bytes takes.soup answer takes.mesh refuses
 not_both Graph bytes answer takes refuses = mesh_not_refused bytes takes.soup answer takes.mesh refuses
 not_both (Refine by) bytes answer takes refuses = refine_not_both by bytes answer takes refuses
-not_both (Remesh settings auto) bytes answer takes refuses = task_not_both (AsksToRemesh settings auto) bytes answer takes refuses
+not_both (Remesh settings auto) bytes answer takes refuses =
+    task_not_both (AsksToRemesh settings auto) bytes answer takes refuses
 not_both Check bytes answer takes refuses = pair_not_refused bytes answer takes refuses
 not_both (Bench size) bytes answer takes refuses = bench_not_both size answer takes refuses
 not_both (Crease settings) bytes answer takes refuses = crease_not_both settings bytes answer takes refuses
@@ -110,9 +214,13 @@ not_both (Size edge floor) bytes answer takes refuses = size_not_both edge floor
 not_both (Coarse settings) bytes answer takes refuses = task_not_both (AsksToMerge settings) bytes answer takes refuses
 not_both (Blocks by) bytes answer takes refuses = refine_not_both by bytes answer takes refuses
 not_both Map bytes answer takes refuses = refuses.1 takes
+not_both (Fit fit) bytes answer takes refuses = fit_not_both fit bytes answer takes refuses
+not_both (LayOut keep patches) bytes answer takes refuses = lay_out_not_both keep bytes answer takes refuses
+not_both (Grids keep patches by) bytes answer takes refuses = grids_not_both keep patches by bytes answer takes refuses
 
 -- What a source gave whole is what it held.
-pub same_bytes : (before now : Told) (bytes held : Bytes) → before ≡ Some held → before ≡ gave bytes now → IsEmptied now → bytes ≡ held
+pub same_bytes : (before now : Told) (bytes held : Bytes) → before ≡ Some held → before ≡ gave bytes now → IsEmptied now
+    → bytes ≡ held
 same_bytes before None bytes held told given end = let never : Some held ≡ None = sym told ∙ given in cc
 same_bytes before (Some rest) bytes held told given end =
     let joined : Some (bytes ++ rest) ≡ Some held = sym given ∙ told in
@@ -120,18 +228,22 @@ same_bytes before (Some rest) bytes held told given end =
     sym (append-nil bytes) ∙ ap (λ (xs : List ℕ). bytes ++ xs) (sym end) ∙ same
 
 -- What a command read is what its source held.
-same_read : (command : Command) (input : Change) (bytes held : Bytes) → Reads command input bytes → SourceHolds command input.told held → bytes ≡ held
+same_read : (command : Command) (input : Change) (bytes held : Bytes) → Reads command input bytes
+    → SourceHolds command input.told held → bytes ≡ held
 same_read (Bench size) input bytes held read holds = read.1 ∙ sym holds
 same_read _ input bytes held read holds = same_bytes input.told input.told_now bytes held holds.0 read.given read.ended
 
 -- Good bytes are not refused.
-not_refused : (command : Command) (input : Change) (answer : Answer) → IsGood command input.told → Refused command input answer → ⊥
+not_refused : (command : Command) (input : Change) (answer : Answer) → IsGood command input.told
+    → Refused command input answer → ⊥
 not_refused command input answer good bad =
     not_both command good.bytes answer good.taken
-    (subst (λ (xs : Bytes). Refuses command xs answer) (same_read command input bad.bytes good.bytes bad.whole good.held) bad.said)
+    (subst (λ (xs : Bytes). Refuses command xs answer)
+    (same_read command input bad.bytes good.bytes bad.whole good.held) bad.said)
 
 -- They are not too many.
-pub not_too_long : (before now : Told) (held : Bytes) → before ≡ Some held → length held ≤ MAX_BYTES → GaveMore MAX_BYTES before now → ⊥
+pub not_too_long : (before now : Told) (held : Bytes) → before ≡ Some held → length held ≤ MAX_BYTES
+    → GaveMore MAX_BYTES before now → ⊥
 not_too_long before now held told few more = by_rest now more.moved
   where
     by_rest : (o : Told) → before ≡ gave more.piece o → ⊥
@@ -151,7 +263,8 @@ rose_if (Bench size) input fault = absurd fault
 rose_if _ input fault = fault
 
 -- So the command is done, or memory is wanting or a stream failed.
-pub completes : (command : Command) (input out : Change) (answer : Answer) → Cause command input out answer → IsGood command input.told
+pub completes : (command : Command) (input out : Change) (answer : Answer) → Cause command input out answer
+    → IsGood command input.told
     → (answer ≡ Done) ⊎ ((answer ≡ Memory) ⊎ (Rose input.faults input.faults_now ⊎ Rose out.faults out.faults_now))
 completes command input out Done why good = inl refl
 completes command input out (NotAccepted why) cause good = absurd (not_refused command input _ good cause)
@@ -163,17 +276,20 @@ completes command input out Memory why good = inr (inl refl)
 completes command input out _ why good = absurd (not_refused command input _ good why)
 
 -- The same of the answer that a run gives, and of a line's one command.
-pub completes_as : (read command : Command) (input out : Change) (answer said : Answer) → answer ≡ said → command ≡ read → Cause read input out said
+pub completes_as : (read command : Command) (input out : Change) (answer said : Answer) → answer ≡ said → command ≡ read
+    → Cause read input out said
     → IsGood command input.told
     → (answer ≡ Done) ⊎ ((answer ≡ Memory) ⊎ (Rose input.faults input.faults_now ⊎ Rose out.faults out.faults_now))
 completes_as read command input out answer said is one cause good =
     subst
-    (λ (a : Answer). (a ≡ Done) ⊎ ((a ≡ Memory) ⊎ (Rose input.faults input.faults_now ⊎ Rose out.faults out.faults_now)))
+    (λ (a : Answer). (a ≡ Done) ⊎ ((a ≡ Memory)
+    ⊎ (Rose input.faults input.faults_now ⊎ Rose out.faults out.faults_now)))
     (sym is)
     (completes read input out said cause (subst (λ (k : Command). IsGood k input.told) one good))
 
 -- What was read is what was said.
-pub same_command : (read other : Command) → (◌≡◌ {A = Result Command WordsFail} (Ok read) (Ok other)) ⊎ (Ok read ≡ Err words_fail.Memory) → other ≡ read
+pub same_command : (read other : Command) → (◌≡◌ {A = Result Command WordsFail} (Ok read) (Ok other))
+    ⊎ (Ok read ≡ Err words_fail.Memory) → other ≡ read
 same_command read other (inl is) = cc
 same_command read other (inr none) = absurd cc
 
@@ -187,4 +303,5 @@ not_read words command words_fail.Memory answer is line refused = is
 pub not_accepted : (words : Words) (fail : WordsFail) (answer : Answer) → answer ≡ answer_of_words fail
     → (fail ≡ words_fail.Usage → (k : Command) → ¬ IsCommand words k) → answer ≡ Usage → ¬ IsAcceptedLine words
 not_accepted words words_fail.Usage answer is refused usage = λ accepted. refused refl accepted.command accepted.line
-not_accepted words words_fail.Memory answer is refused usage = λ accepted. let never : ◌≡◌ {A = Answer} Usage Memory = sym usage ∙ is in absurd cc
+not_accepted words words_fail.Memory answer is refused usage = λ accepted. let never : ◌≡◌ {A = Answer} Usage Memory =
+    sym usage ∙ is in absurd cc

@@ -4,8 +4,12 @@ mod Blocked
 mod Checked
 mod Complete
 mod Creased
+mod Fits
+mod Fitted
 mod Framed
+mod LaidOut
 mod Mapped
+mod Meshless
 mod Naming
 mod NeverBytes
 mod Refined

@@ -1,5 +1,5 @@
 -- What `map` keeps: the map of a new mesh is written, or a refusal has its cause.
-use Rattle.std.proofs.Common.{◌≡◌, inl, inr}
+use Rattle.std.proofs.Common.{◌≡◌, ◌≢◌, inl, inr}
 use Rattle.def_io.specs.Bytes.{Bytes}
 use Rattle.def_io.specs.Lines.{lines_of}
 use Rattle.def_io.specs.Moves.{Change}
@@ -8,19 +8,22 @@ use Rattle.def_marks.specs.declared.fail.MarkFail.TheVariants as marks
 use Rattle.def_mesh.specs.declared.Place.{Place}
 use Rattle.def_remesh.specs.declared.kept.LayoutFail.TheVariants as layouts
 use Rattle.def_run.specs.Causes.{Cause}
-use Rattle.def_run.specs.Map.{HasMap, WritesMap}
-use Rattle.def_run.specs.MapFails.{IsMapFail, RefusesFrontMarks, RefusesFrontText}
+use Rattle.def_run.specs.Map.{HasMap, RefusesNew, WritesMap}
+use Rattle.def_run.specs.MapFails.{HasLineFail, IsMapFail, RefusesFrontMarks, RefusesFrontText}
 use Rattle.def_run.specs.MarkLines.{front_of}
 use Rattle.def_run.specs.declared.answer.Answer.TheVariants as answers
 use Rattle.def_run.specs.declared.check_fail.CheckFail.{CheckFail}
 use Rattle.def_run.specs.declared.check_fail.CheckFail.TheVariants as check_fail
-use Rattle.def_run.specs.declared.command.Command.TheVariants.{Crease, Map}
+use Rattle.def_run.specs.declared.command.Command.{Command}
+use Rattle.def_run.specs.declared.command.Command.TheVariants.{Crease, Fit, Map}
 use Rattle.def_text.specs.Input.{ReadWhole}
 use Rattle.def_text.specs.declared.limits.TheConstants.{MAX_BYTES}
 use Rattle.def_text.specs.declared.refusal.ObjFail.{ObjFail}
 use Rattle.def_text.specs.declared.refusal.ObjFail.TheVariants as obj
 use Rattle.def_text.specs.declared.refusal.SoupFail.TheVariants as soup
 use Rattle.def_text.specs.declared.refusal.Which.TheVariants.{Bytes as AllBytes}
+use Rattle.qm_top.proofs.Creased.{marks_refuse}
+use Rattle.qm_top.proofs.Fits.{asides_refuse}
 use Rattle.qm_top.proofs.NeverBytes.{never_bytes}
 use Rattle.qm_top.proofs.Refusals.{obj_place}
 use Rattle.qm_top.proofs.Writers.{IsWriter}
@@ -41,10 +44,21 @@ marks_place : (fail : MarkFail) (p : Place) → answer_of_marks fail ≡ answers
 marks_place marks.Memory p is = cc
 marks_place _ p is = cc
 
-module _ (input out : Change) (bytes : Bytes) (whole : ReadWhole MAX_BYTES input.told input.told_now bytes) (calm : input.faults_now ≡ input.faults) where
+-- A command refuses a text whose lines beside its mesh are refused.
+lines_refuse : (command : Command) (front : Bytes) (fail : MarkFail) → fail ≢ marks.Memory
+    → HasLineFail command front fail
+    → RefusesNew command front (answer_of_marks fail)
+lines_refuse (Crease settings) front fail other has = marks_refuse settings front fail other has
+lines_refuse (Fit fit) front fail other has = asides_refuse fit front fail other has
+lines_refuse _ front fail other has = absurd has
+
+module _ (input out : Change) (bytes : Bytes) (whole : ReadWhole MAX_BYTES input.told input.told_now bytes)
+    (calm : input.faults_now ≡ input.faults) where
   -- The refusal of the text in front has its cause.
-  front_cause : (fail : ObjFail) → RefusesFrontText bytes fail → (¬ HasMap bytes) → Cause Map input out (answer_of_obj fail)
-  front_cause (obj.Limit AllBytes line) none never = absurd (never_bytes 1 (lines_of (front_of none.line bytes)) line none.said)
+  front_cause : (fail : ObjFail) → RefusesFrontText bytes fail → (¬ HasMap bytes)
+      → Cause Map input out (answer_of_obj fail)
+  front_cause (obj.Limit AllBytes line) none never =
+      absurd (never_bytes 1 (lines_of (front_of none.line bytes)) line none.said)
   front_cause obj.Memory none never = tt
   front_cause _ none never = record {
     bytes = bytes;
@@ -52,13 +66,22 @@ module _ (input out : Change) (bytes : Bytes) (whole : ReadWhole MAX_BYTES input
     said = (inl (record { line = none.line; divided = none.divided; none = none.said }), never);
   }
 
-  -- So has that of its `l` lines.
-  marks_cause : (fail : MarkFail) → RefusesFrontMarks bytes fail → (¬ HasMap bytes) → Cause Map input out (answer_of_marks fail)
-  marks_cause marks.Memory none never = tt
-  marks_cause _ none never = record {
+  -- So has that of the lines beside its mesh.
+  marks_cause : (fail : MarkFail) → RefusesFrontMarks bytes fail → fail ≢ marks.Memory → (¬ HasMap bytes)
+      → Cause Map input out (answer_of_marks fail)
+  marks_cause marks.Memory none other never = tt
+  marks_cause fail none other never = record {
     bytes = bytes;
     whole = whole;
-    said = (inr (record { line = none.line; command = Crease none.settings; headed = none.headed; said = inl none.said }), never);
+    said = (
+      inr (record {
+        line = none.line;
+        command = none.command;
+        headed = none.headed;
+        said = lines_refuse none.command (front_of none.line bytes) fail other none.said;
+      }),
+      never,
+    );
   }
 
   -- Bytes that have no map end the command.
@@ -66,7 +89,12 @@ module _ (input out : Change) (bytes : Bytes) (whole : ReadWhole MAX_BYTES input
   unmapped_ends (NotAccepted why) none =
       record { cause = record { bytes = bytes; whole = whole; said = none }; names = λ p is. cc; calm = λ f m. calm }
   unmapped_ends (Soup (soup.Obj fail)) none =
-      record { cause = front_cause fail none.0 none.2; names = λ p is. absurd (obj_place fail p is); calm = λ f m. calm }
+      record {
+        cause = front_cause fail none.0 none.2;
+        names = λ p is. absurd (obj_place fail p is);
+        calm =
+            λ f m. calm;
+      }
   unmapped_ends (NotManifold named) none =
       let fault = none.0.fault in record {
         cause = record {
@@ -91,7 +119,12 @@ module _ (input out : Change) (bytes : Bytes) (whole : ReadWhole MAX_BYTES input
         calm = λ f m. calm;
       }
   unmapped_ends (Marks fail) none =
-      record { cause = marks_cause fail none.0 none.2; names = λ p is. absurd (marks_place fail p is); calm = λ f m. calm }
+      record {
+        cause = marks_cause fail none.0 none.1 none.2;
+        names = λ p is. absurd (marks_place fail p is);
+        calm =
+            λ f m. calm;
+      }
   unmapped_ends (Layout (layouts.Tangled count)) none =
       record { cause = record { bytes = bytes; whole = whole; said = none }; names = λ p is. cc; calm = λ f m. calm }
   unmapped_ends (Far sum) none =
@@ -101,4 +134,12 @@ module _ (input out : Change) (bytes : Bytes) (whole : ReadWhole MAX_BYTES input
 
   pub map_writer : IsWriter Map (WritesMap bytes) (IsNoMapFor bytes) input out
   map_writer =
-      record { bytes = bytes; whole = whole; calm = calm; writes = λ text said. said; read = λ text said. tt; ends = unmapped_ends }
+      record {
+        bytes = bytes;
+        whole = whole;
+        calm = calm;
+        writes = λ text said. said;
+        read = λ text said. tt;
+        ends =
+            unmapped_ends;
+      }

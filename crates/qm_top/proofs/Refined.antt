@@ -1,5 +1,6 @@
 -- The text of a refined mesh, and what `refine` keeps.
-use Rattle.std.proofs.Common.{◌≡◌, ℕ, ◌≤◌, sym, ap, ◌∙◌, subst, refl, arith}
+use Rattle.std.specs.Prelude.{IfErr, IfOk, OnOk}
+use Rattle.std.proofs.Common.{◌≡◌, ℕ, ◌≤◌, Result, Ok, Err, sym, ap, ◌∙◌, subst, refl, arith}
 use Rattle.def_io.specs.Moves.{Change}
 use Rattle.def_layout.specs.Arcs.{long_at}
 use Rattle.def_layout.specs.Plans.{Plan, layout_of, vertex_at}
@@ -26,7 +27,7 @@ use Rattle.def_text.specs.Input.{ReadSoup}
 use Rattle.def_text.specs.declared.limits.TheConstants.{MAX_BYTES}
 use Rattle.def_written.specs.NewFaces.{new_faces}
 use Rattle.def_written.specs.Shape.{KeepsShape}
-use Rattle.qm_top.specs.Refining.{FailsToRefine, IsRefinedMesh, ShowsRefined}
+use Rattle.qm_top.specs.Refining.{FailsBy, FailsToRefine, IsRefinedMesh, ShowsRefined}
 use Rattle.qm_top.specs.Refusals.{answer_of_layout}
 use Rattle.qm_top.specs.Writing.{IsOfLayout}
 use Rattle.qm_top.proofs.Writers.{layout_ends, IsWriter}
@@ -49,6 +50,25 @@ refined_of by soup cut new is laid traced (same, on, lengths) fits shape =
       fits = subst (λ (p : Plan). refined_faces by p ≤ MAX_NEW_FACES) (sym on) fits;
       shape = subst (λ (p : Plan). KeepsShapes p (multiple_of by (long_at p.arcs))) (sym on) shape;
     }
+
+pub all_refined : (by : ℕ) (soup : FaceSet) (cut : CutSoup) (result : Result Regrid LayoutFail) → cut.soup ≡ soup
+    → IsMeshLayout cut.soup.faces cut.plan → IsTracedLayout cut.soup.faces cut.plan
+    → IfOk result (λ new. (new.soup ≡ cut.soup) × (new.plan ≡ cut.plan) × (lengths_in new.lengths ≡ multiple_of by (long_at cut.plan.arcs)))
+    → OnOk result (refined_faces by cut.plan ≤ MAX_NEW_FACES) → OnOk result (KeepsShapes cut.plan (multiple_of by (long_at cut.plan.arcs)))
+    → IfOk result (IsRefinedMesh by soup)
+all_refined by soup cut (Ok new) is laid traced made few shape = refined_of by soup cut new is laid traced made few shape
+all_refined by soup cut (Err fail) is laid traced made few shape = tt
+
+-- What is refused of a cut mesh is refused of that soup.
+pub all_refused : (by : ℕ) (soup : FaceSet) (cut : CutSoup) (result : Result Regrid LayoutFail) → cut.soup ≡ soup
+    → IsTracedLayout cut.soup.faces cut.plan → IfErr result (FailsBy by cut.plan) → IfErr result (FailsToRefine by soup)
+all_refused by soup cut (Ok new) is traced why = tt
+all_refused by soup cut (Err fail) is traced why = by_fail fail why
+  where
+    by_fail : (fail : LayoutFail) → FailsBy by cut.plan fail → FailsToRefine by soup fail
+    by_fail (layouts.TooFine faces kept) why = (cut.plan, subst (λ (s : FaceSet). IsTracedLayout s.faces cut.plan) is traced, why)
+    by_fail layouts.Memory why = tt
+    by_fail _ why = absurd why
 
 -- Its text is one of a refined mesh.
 pub is_refined : (by : ℕ) (soup : FaceSet) (new : Regrid) → 1 ≤ by → by ≤ MAX_MULTIPLE → IsRefinedMesh by soup new

@@ -23,6 +23,9 @@ use Rattle.def_run.specs.declared.answer.Answer.{Answer}
 use Rattle.def_run.specs.declared.answer.Answer.TheVariants as answers
 use Rattle.def_run.specs.declared.command.Command.{Command}
 use Rattle.def_run.specs.declared.command.Command.TheVariants.{Tidy, Graph, Refine, Remesh, Crease, Size, Coarse, Blocks}
+use Rattle.def_run.specs.declared.command.Command.TheVariants.{LayOut, Grids}
+use Rattle.def_patches.specs.declared.Keep.{Keep}
+use Rattle.def_patches.specs.declared.Patches.{Patches}
 use Rattle.qm_top.specs.declared.refusal.Refusal.{Refusal}
 use Rattle.qm_top.specs.declared.refusal.Refusal.TheVariants.{Soup, NotManifold}
 use Rattle.qm_top.specs.declared.refusal.Refusal.TheVariants as refusals
@@ -122,6 +125,28 @@ blocks_needs by = record {
   too_many = λ input more. more;
   fails = λ input rose. rose;
 }
+
+pub layout_needs : (keep : Keep) (patches : Patches) → NeedsMesh (LayOut keep patches)
+layout_needs keep patches = record {
+  refuses = λ bytes answer none. inl none;
+  reads = λ input bytes whole. whole;
+  looks = λ bytes soup said. said;
+  too_many = λ input more. more;
+  fails = λ input rose. rose;
+}
+
+pub grids_needs : (keep : Keep) (patches : Patches) (by : ℕ) → NeedsMesh (Grids keep patches by)
+grids_needs keep patches by = record {
+  refuses = no_mesh;
+  reads = λ input bytes whole. whole;
+  looks = λ bytes soup said. said;
+  too_many = λ input more. more;
+  fails = λ input rose. rose;
+}
+  where
+    no_mesh : (bytes : Bytes) (answer : Answer) → IsNoMesh bytes answer → Refuses (Grids keep patches by) bytes answer
+    no_mesh bytes (answers.TooFine faces kept) none = absurd none
+    no_mesh bytes _ none = inl none
 
 -- The refusal of a text has its cause.
 text_cause : (command : Command) (input out : Change) (fail : ObjFail) → NeedsMesh command

@@ -32,7 +32,13 @@ pub record IsRefinedMesh (by : ℕ) (soup : FaceSet) (new : Regrid) : Type 0 whe
   pub fits : refined_faces by new.plan ≤ MAX_NEW_FACES
   pub shape : KeepsShapes new.plan (multiple_of by (long_at new.plan.arcs))
 
--- Why there is none, where there is memory: it would have too many faces.
+-- Why a layout is not refined, where there is memory: there would be too many faces.
+abbrev pub FailsBy : (by : ℕ) (plan : Plan) (failed : LayoutFail) → Type 0
+FailsBy by plan (TooFine faces kept) = IsTooFineBy by plan faces kept
+FailsBy by plan layouts.Memory = ⊤
+FailsBy by plan _ = ⊥
+
+-- The same of a soup and its motorcycle graph.
 abbrev pub FailsToRefine : (by : ℕ) (soup : FaceSet) (failed : LayoutFail) → Type 0
 FailsToRefine by soup (TooFine faces kept) =
     (plan : Plan) × IsTracedLayout soup.faces plan × IsTooFineBy by plan faces kept

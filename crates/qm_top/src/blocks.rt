@@ -5,7 +5,7 @@ ghost use Rattle.def_io.specs.Faults.{Rose};
 ghost use Rattle.def_io.specs.Moves.{change, stream, took, TookPrefix};
 ghost use Rattle.def_run.specs.Blocks.{IsBlocked};
 ghost use Rattle.def_run.specs.declared.command.TheConstants.{MAX_MULTIPLE};
-ghost use Rattle.qm_top.specs.Blocking.{told_text, AreBlocksBy};
+ghost use Rattle.qm_top.specs.Blocking.{told_text, AreBlocksBy, AreBlocksOf};
 ghost use Rattle.qm_top.specs.Refining.{FailsToRefine};
 ghost use Rattle.qm_top.specs.Runs.{HasRun};
 ghost use Rattle.qm_top.specs.Writing.{IsOfLayout, IsUnwritten, WroteText};
@@ -16,9 +16,9 @@ use crate::refusal::Refusal;
 use def_output::Stopped;
 use def_remesh::LayoutFail;
 use def_run::Command;
-use qm_blocktext::{Blocks, links_by, put_blocks};
-use qm_cutmesh::Meshed;
-use qm_io::{Sink, Source};
+use qm_blocktext::{Blocks, Chosen, links_by, put_blocks};
+use qm_cutmesh::{Meshed, Regridded};
+use qm_io::{Memory, Sink, Source};
 use qm_output::{Buffer, Room};
 use std::alloc::Global;
 
@@ -62,12 +62,35 @@ fn blocks_by(alloc: Global, by: u32, read: Meshed) -> Result<Blocks, LayoutFail>
     ensures refused { IfErr result (FailsToRefine by read) }
 {
     let points = refined(alloc, by, read)?;
+    let blocks = blocks_of(alloc, None, by, points)?;
+    Ok(blocks)
+}
+
+/// The blocks of these points, which stand at so many times the old lengths.
+pub(crate) fn blocks_of(
+    alloc: Global,
+    chosen: Option<Chosen>,
+    by: u32,
+    points: Regridded,
+) -> Result<Blocks, Memory>
+    requires { by ≤ MAX_MULTIPLE }
+    ensures { IfOk result (AreBlocksOf chosen by points) }
+{
     let links = links_by(alloc, points.cut(), by)?;
-    Ok(Blocks { by, points, links })
+    Ok(Blocks {
+        chosen,
+        by,
+        points,
+        links,
+    })
 }
 
 /// Writes the text of the blocks through a buffer.
-fn write_blocks<O: Sink>(blocks: &Blocks, out: &mut O, room: &mut Room) -> Result<(), Stopped>
+pub(crate) fn write_blocks<O: Sink>(
+    blocks: &Blocks,
+    out: &mut O,
+    room: &mut Room,
+) -> Result<(), Stopped>
     ensures whole { OnOk result ((O.state out.new).told ≡ took (O.state out.old).told (told_text blocks.now)) }
     ensures prefix { OnErr result (TookPrefix (O.state out.old).told (O.state out.new).told (told_text blocks.now)) }
     ensures fault { OnErr result (Rose (O.state out.old).faults (O.state out.new).faults) }

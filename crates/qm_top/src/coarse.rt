@@ -8,13 +8,14 @@ ghost use Rattle.def_run.specs.Coarse.{AsksToMerge};
 ghost use Rattle.qm_top.specs.Runs.{HasRun};
 ghost use Rattle.qm_top.specs.Writing.{FailsAsked, IsOfLayout, IsUnwritten, ShowsAsked, WroteText};
 
-use crate::cuts::merged_cut;
+use crate::cuts::chosen_cut;
 use crate::finishing::{Headed, finish};
 use crate::heads::named_head;
 use crate::input::read_mesh;
 use crate::refusal::Refusal;
 use def_certtext::Asked;
 use def_flow::Settings;
+use def_patches::Patches;
 use def_run::Command;
 use qm_cutmesh::Meshed;
 use qm_io::{Sink, Source};
@@ -49,7 +50,7 @@ fn coarse_mesh<O: Sink>(
     ensures refused { (bytes : Bytes) → IfErr result (IsUnwritten (ShowsAsked (AsksToMerge settings) bytes read)
         (IsOfLayout (FailsAsked (AsksToMerge settings) bytes read)) (stream O.state out.old out.new)) }
 {
-    let cut = merged_cut(alloc, read)?;
+    let cut = chosen_cut(alloc, read, None, Patches::Merged)?;
     let head = named_head(alloc, b"coarse", &settings)?;
     let asked = Asked {
         settings,

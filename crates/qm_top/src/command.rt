@@ -14,7 +14,10 @@ use crate::check::check;
 use crate::coarse::coarse;
 use crate::crease::crease;
 use crate::error_line::error_line_of;
+use crate::fit::fit;
 use crate::graph::graph;
+use crate::grids::grids;
+use crate::layout::layout;
 use crate::map::map;
 use crate::refine::refine;
 use crate::refusal::{Refusal, words_answer};
@@ -23,6 +26,7 @@ use crate::size::size;
 use crate::tidy::tidy;
 use def_certtext::Asked;
 use def_run::{Answer, Command};
+use qm_blocktext::Chosen;
 use qm_io::{Sink, Source, write_all};
 use qm_print::Line;
 use qm_words::read_words;
@@ -84,6 +88,11 @@ fn run_command<S: Source, O: Sink>(
         Command::Coarse { settings } => coarse(alloc, settings, input, out),
         Command::Blocks { by } => blocks(alloc, by, input, out),
         Command::Map => map(alloc, input, out),
+        Command::Fit { fit: asked } => fit(alloc, &asked, input, out),
+        Command::LayOut { keep, patches } => layout(alloc, Chosen { keep, patches }, input, out),
+        Command::Grids { keep, patches, by } => {
+            grids(alloc, Chosen { keep, patches }, by, input, out)
+        }
     }
 }
 

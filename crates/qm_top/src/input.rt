@@ -1,17 +1,19 @@
-//! The mesh of a source.
+//! The mesh of a source, or of a text that it gave.
 
 ghost use Rattle.std.specs.Prelude.{◌≡◌, ◌≤◌, length, IfOk, IfErr, OnOk};
 ghost use Rattle.def_io.specs.Moves.{change};
 ghost use Rattle.def_mesh.specs.Manifold.{IsManifold};
+ghost use Rattle.def_run.specs.Mesh.{IsMeshText};
 ghost use Rattle.def_text.specs.Input.{ReadSoup};
+ghost use Rattle.qm_top.specs.Meshless.{IsMeshless};
 ghost use Rattle.qm_top.specs.Refusals.{IsInputRefusal, IsNoMeshOf};
 
 use crate::named::named_place;
 use crate::refusal::Refusal;
 use def_text::{MAX_BYTES, MAX_F_LINES, MAX_V_LINES, Soup};
 use qm_cutmesh::{Meshed, NoMesh};
-use qm_io::Source;
-use qm_obj::read_soup;
+use qm_io::{Lines, Source};
+use qm_obj::{read_obj, read_soup};
 use std::alloc::Global;
 
 /// The mesh of the whole input.
@@ -23,6 +25,17 @@ pub(crate) fn read_mesh<S: Source>(alloc: Global, input: &mut S) -> Result<Meshe
         (change (S.state input.old) (S.state input.new))) }
 {
     let soup = read_soup(alloc, input, MAX_BYTES)?;
+    mesh_of(alloc, soup)
+}
+
+/// The mesh of a text.
+pub(crate) fn text_mesh(alloc: Global, lines: &Lines) -> Result<Meshed, Refusal>
+    ensures mesh { IfOk result (λ read. IsMeshText lines.now read) }
+    ensures few { IfOk result (λ read. length read.pos ≤ MAX_V_LINES) }
+    ensures refused { IfErr result (IsMeshless lines.now) }
+{
+    let after = lines.count();
+    let soup = read_obj(alloc, lines, 0, after)?;
     mesh_of(alloc, soup)
 }
 

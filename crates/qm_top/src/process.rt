@@ -17,7 +17,7 @@ pub fn run_process<W: CommandLine, S: Source, O: Sink, E: Sink>(
     out: &mut O,
     err: &mut E,
 ) -> u8
-    ensures { Ends (W.given line.now) (stream S.state input.old input.new)
+    ensures ends { Ends (W.given line.now) (stream S.state input.old input.new)
         (stream O.state out.old out.new) (stream E.state err.old err.new) result }
 {
     match words_of(alloc, line, &mut [0; MAX_WORD]) {
@@ -34,7 +34,7 @@ pub fn exit_status<S: Source, O: Sink, E: Sink>(
     out: &mut O,
     err: &mut E,
 ) -> u8
-    ensures { Exits (map string_bytes words.now) (stream S.state input.old input.new)
+    ensures exits { Exits (map string_bytes words.now) (stream S.state input.old input.new)
         (stream O.state out.old out.new) (stream E.state err.old err.new) result }
 {
     run(alloc, words, input, out, err).status()

@@ -5,9 +5,11 @@ ghost use Rattle.def_io.specs.Faults.{Rose};
 ghost use Rattle.def_io.specs.Moves.{change, stream, took, TookPrefix};
 ghost use Rattle.def_layout.specs.Arcs.{long_at};
 ghost use Rattle.def_remesh.specs.NewPoints.{lengths_in, multiple_of};
-ghost use Rattle.def_remesh.specs.Refined.{refined_text};
+ghost use Rattle.def_remesh.specs.Refined.{refined_faces, refined_text};
+ghost use Rattle.def_remesh.specs.Stitched.{KeepsShapes};
+ghost use Rattle.def_remesh.specs.declared.limits.TheConstants.{MAX_NEW_FACES};
 ghost use Rattle.def_run.specs.declared.command.TheConstants.{MAX_MULTIPLE};
-ghost use Rattle.qm_top.specs.Refining.{FailsToRefine, IsRefinedMesh, ShowsRefined};
+ghost use Rattle.qm_top.specs.Refining.{FailsBy, FailsToRefine, IsRefinedMesh, ShowsRefined};
 ghost use Rattle.qm_top.specs.Runs.{HasRun};
 ghost use Rattle.qm_top.specs.Writing.{IsOfLayout, IsUnwritten, WroteText};
 
@@ -17,7 +19,7 @@ use crate::refusal::Refusal;
 use def_output::Stopped;
 use def_remesh::{Kept, LayoutFail, StitchFail};
 use def_run::Command;
-use qm_cutmesh::{Meshed, Regridded};
+use qm_cutmesh::{CutMesh, Meshed, Regridded};
 use qm_io::{Sink, Source};
 use qm_output::{Buffer, Room};
 use qm_refine::{put_refined, refined_points};
@@ -63,6 +65,19 @@ pub(crate) fn refined(alloc: Global, by: u32, read: Meshed) -> Result<Regridded,
     ensures refused { IfErr result (FailsToRefine by read) }
 {
     let cut = traced_cut(alloc, read)?;
+    refined_cut(alloc, by, cut)
+}
+
+/// The same over any cut.
+pub(crate) fn refined_cut(alloc: Global, by: u32, cut: CutMesh) -> Result<Regridded, LayoutFail>
+    requires some { 1 ≤ by }
+    requires few { by ≤ MAX_MULTIPLE }
+    ensures new { IfOk result (λ new. (new.soup ≡ cut.soup) × (new.plan ≡ cut.plan)
+        × (lengths_in new.lengths ≡ multiple_of by (long_at cut.plan.arcs))) }
+    ensures few { OnOk result (refined_faces by cut.plan ≤ MAX_NEW_FACES) }
+    ensures shape { OnOk result (KeepsShapes cut.plan (multiple_of by (long_at cut.plan.arcs))) }
+    ensures refused { IfErr result (FailsBy by cut.plan) }
+{
     match refined_points(alloc, cut, by) {
         Ok(new) => Ok(new),
         Err(StitchFail::TooFine { faces }) => Err(LayoutFail::TooFine {

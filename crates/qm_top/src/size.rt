@@ -1,13 +1,14 @@
 //! `size`: a mesh is read, and remeshed with edges of a given length.
 
 ghost use Rattle.std.specs.Prelude.{◌≡◌, ◌≤◌, ◌++◌, ◌∷◌, [], pos, ◌≤ℤ◌, IfOk, IfErr, OnOk};
+ghost use Rattle.def_fit.specs.declared.fit.Aim.TheVariants.{Edge};
 ghost use Rattle.def_flow.specs.declared.limits.TheConstants.{MAX_FLOOR};
 ghost use Rattle.def_io.specs.Bytes.{Bytes};
 ghost use Rattle.def_io.specs.Moves.{change, stream};
 ghost use Rattle.def_io.specs.declared.TheConstants.{LINE_FEED};
-ghost use Rattle.def_run.specs.Size.{size_head, AsksForNearSize};
+ghost use Rattle.def_run.specs.Size.{size_head, AsksForNearSize, AsksForSize};
+ghost use Rattle.qm_top.specs.Fitting.{FailsNear, IsFarTask, IsOfWishes};
 ghost use Rattle.qm_top.specs.Runs.{HasRun};
-ghost use Rattle.qm_top.specs.Sizing.{FailsSize, IsFarSoup, IsOfSize};
 ghost use Rattle.qm_top.specs.Writing.{IsUnwritten, ShowsAsked, WroteText};
 
 use crate::cuts::traced_cut;
@@ -58,8 +59,8 @@ fn size_mesh<O: Sink>(
         (change (O.state out.old) (O.state out.new))) }
     ensures refused { (bytes : Bytes) → IfErr result (IsUnwritten
         (ShowsAsked (AsksForNearSize edge floor) bytes read)
-        (IsOfSize (FailsSize edge floor bytes read) (IsFarSoup edge floor read))
-        (stream O.state out.old out.new)) }
+        (IsOfWishes (FailsNear (AsksForSize edge floor) (AsksForNearSize edge floor) bytes read)
+        (IsFarTask (Edge edge) (AsksForSize edge floor) bytes read)) (stream O.state out.old out.new)) }
 {
     let cut = traced_cut(alloc, read)?;
     let remesh = keep_sized(alloc, &cut, edge, floor)?;

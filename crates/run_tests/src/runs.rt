@@ -53,11 +53,12 @@ const ALL_WELL: Streams = Streams {
 };
 
 /// Commands that write a mesh: the first one whole, the others line by line; and one that writes its blocks.
-const LINES: [&str; 5] = [
+const LINES: [&str; 6] = [
     "tidy",
     "remesh --scale 3/1 --floor 1 --weight plain",
     "crease --scale 3/1 --floor 1 --weight plain",
     "coarse --scale 3/1 --floor 1 --weight plain",
+    "fit --keep lines --patches merged --aim lines --floor 3 --weight plain --spacing even",
     "blocks --by 3",
 ];
 
@@ -155,6 +156,63 @@ fn a_fault_of_the_error_sink_changes_nothing(rt: HostRuntime) -> Result<(), Fail
             assert_eq!(rt; out.taken(), b"".as_slice());
             assert!(rt; told.starts_with(err.taken()));
         }
+    }
+    Ok(())
+}
+
+/// Four faces, with a marked edge.
+const MARKED: &[u8] =
+    b"v 0 0 0\nv 1 0 0\nv 2 0 0\nv 0 1 0\nv 1 1 0\nv 2 1 0\nv 0 2 0\nv 1 2 0\nv 2 2 0\n\
+    f 1 2 5 4\nf 2 3 6 5\nf 4 5 8 7\nf 5 6 9 8\nl 4 5\n";
+
+/// Lines of `fit`, and the command that each is but for its head line.
+const POINTS: [(&str, &str); 4] = [
+    (
+        "fit --keep none --patches traced --aim scale:3/2 --floor 1 --weight length --spacing even",
+        "remesh --scale 3/2 --floor 1 --weight length",
+    ),
+    (
+        "fit --keep lines --patches traced --aim scale:3/2 --floor 1 --weight plain --spacing even",
+        "crease --scale 3/2 --floor 1 --weight plain",
+    ),
+    (
+        "fit --keep none --patches merged --aim scale:3/2 --floor 2 --weight plain --spacing even",
+        "coarse --scale 3/2 --floor 2 --weight plain",
+    ),
+    (
+        "fit --keep none --patches traced --aim edge:0.4 --floor 1 --weight plain --spacing even",
+        "size --edge 0.4 --floor 1",
+    ),
+];
+
+/// What stands behind the first line of a text.
+fn behind_head(text: &[u8]) -> &[u8] {
+    match text.iter().position(|byte| *byte == b'\n') {
+        Some(end) => &text[end + 1..],
+        None => text,
+    }
+}
+
+#[test]
+fn other_commands_are_points_of_fit(rt: HostRuntime) -> Result<(), Fail> {
+    for (fit, command) in POINTS {
+        let (answer, out, err) = ran(rt.alloc(), fit, MARKED, ALL_WELL)?;
+        let (_answer, other, _err) = ran(rt.alloc(), command, MARKED, ALL_WELL)?;
+        assert!(rt; matches!(answer, Answer::Done));
+        assert_eq!(rt; behind_head(out.taken()), behind_head(other.taken()));
+        assert_eq!(rt; err.taken(), b"".as_slice());
+    }
+    Ok(())
+}
+
+#[test]
+fn other_commands_refuse_as_fit_does(rt: HostRuntime) -> Result<(), Fail> {
+    for (fit, command) in POINTS {
+        let (answer, out, err) = ran(rt.alloc(), fit, TWICE, ALL_WELL)?;
+        let (other, _out, told) = ran(rt.alloc(), command, TWICE, ALL_WELL)?;
+        assert_eq!(rt; answer.status(), other.status());
+        assert_eq!(rt; err.taken(), told.taken());
+        assert_eq!(rt; out.taken(), b"".as_slice());
     }
     Ok(())
 }

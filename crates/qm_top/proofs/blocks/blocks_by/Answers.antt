@@ -1,24 +1,21 @@
-use Rattle.std.proofs.Common.{map, sym, ◌∙◌, refl, subst}
-use Rattle.std.proofs.lemmas.List.{length-map}
+use Rattle.std.proofs.Common.{sym, subst}
 use Rattle.def_blocks.specs.Links.{AreLinks}
 use Rattle.def_layout.specs.Arcs.{long_at}
 use Rattle.def_layout.specs.Plans.{layout_of}
-use Rattle.def_remesh.specs.CutSoups.{CutSoup}
+use Rattle.def_remesh.specs.CutSoups.{Regrid}
 use Rattle.def_remesh.specs.NewPoints.{multiple_of}
+use Rattle.qm_top.specs.Blocking.{links_in}
+use Rattle.qm_top.specs.Refining.{IsRefinedMesh}
 use Rattle.qm_top.proofs.blocks.blocks_by.Goals as goal
 
-pub invariant_of-result : goal.invariant_of-result
-invariant_of-result c =
-    let links = subst
-    (λ (k : CutSoup). AreLinks (layout_of k.plan) (multiple_of c.args.by (long_at k.plan.arcs)) (map (λ links. links.items) c.in_ok-links.links.items))
-    c.cut.ensures c.in_ok-links.ensures in
-    record { linked = sym (length-map c.in_ok-links.links.items (λ links. links.items)) ∙ links.blocks }
-
 pub returns-clause-blocks : goal.returns-clause-blocks
-returns-clause-blocks c = record {
-  parts = refl;
-  points = c.in_ok-points.ensures.new;
-  links = subst
-      (λ (k : CutSoup). AreLinks (layout_of k.plan) (multiple_of c.args.by (long_at k.plan.arcs)) (map (λ links. links.items) c.in_ok-links.links.items))
-      c.cut.ensures c.in_ok-links.ensures;
-}
+returns-clause-blocks c =
+    let of = c.in_ok-blocks.ensures in
+    record {
+      told = of.told;
+      parts = of.parts;
+      points = subst (IsRefinedMesh c.args.by c.args.read) (sym of.points) c.in_ok-points.ensures.new;
+      links = subst
+          (λ (k : Regrid). AreLinks (layout_of k.plan) (multiple_of c.args.by (long_at k.plan.arcs)) (links_in c.in_ok-blocks.blocks))
+          (sym of.points) of.links;
+    }

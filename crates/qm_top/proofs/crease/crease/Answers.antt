@@ -1,30 +1,53 @@
 use Rattle.std.proofs.Common.{refl}
 use Rattle.def_run.specs.Crease.{AsksToCrease}
 use Rattle.def_run.specs.declared.command.Command.TheVariants.{Crease}
-use Rattle.qm_top.proofs.Creased.{unmarked_ended}
+use Rattle.qm_top.proofs.Creased.{marks_refuse}
+use Rattle.qm_top.proofs.Meshless.{marks_ended, meshless_ended}
 use Rattle.qm_top.proofs.Refusals.{crease_needs, handed_run}
 use Rattle.qm_top.proofs.Remeshed.{crease_tasked, task_writer}
 use Rattle.qm_top.proofs.Writers.{writer_runs}
+use Rattle.qm_top.specs.declared.refusal.Refusal.TheVariants.{Marks}
 use Rattle.qm_top.proofs.crease.crease.Goals as goal
 
-pub returns-in_err-marked : goal.returns-in_err-marked
-returns-in_err-marked g c =
-    let read = c.in_ok-lines.ensures in
-    handed_run _ _ _ _ c.in_err-marked.field-0.0 c.from_residual-in_err-marked.ensures.1
-    (unmarked_ended c.args.settings _ _ c.in_ok-lines.lines (record { given = read.bytes; ended = read.whole; few = read.short }) read.calm
-    c.in_err-marked.field-0.0 c.in_err-marked.ensures.refused) refl
+pub returns-in_err-read : goal.returns-in_err-read
+returns-in_err-read g c =
+    let given = c.in_ok-lines.ensures in
+    let settings = c.args.settings in
+    handed_run _ _ _ _ c.in_err-read.field-0.0 c.from_residual-in_err-read.ensures.1
+    (meshless_ended (Crease settings) (crease_needs settings) _ _ c.in_ok-lines.lines
+    (record { given = given.bytes; ended = given.whole; few = given.short }) given.calm c.in_err-read.field-0.0
+    c.in_err-read.ensures.refused) refl
+
+pub returns-in_err-marks : goal.returns-in_err-marks
+returns-in_err-marks g c =
+    let given = c.in_ok-lines.ensures in
+    let settings = c.args.settings in
+    let fail = c.in_err-marks.field-0.0 in
+    handed_run _ _ _ _ (Marks fail) c.from_residual-in_err-marks.ensures.1
+    (marks_ended (Crease settings) (crease_needs settings) _ _ c.in_ok-lines.lines
+    (record { given = given.bytes; ended = given.whole; few = given.short }) given.calm fail
+    (λ other. marks_refuse settings c.in_ok-lines.lines fail other
+    (record {
+      soup = c.in_ok-read.read;
+      mesh = c.in_ok-read.ensures.mesh;
+      said =
+          c.in_err-marks.ensures.refused other;
+    }))) refl
 
 pub returns : goal.returns
 returns g c =
-    let read = c.in_ok-lines.ensures in
-    let marked = c.in_ok-marked.ensures in
+    let given = c.in_ok-lines.ensures in
+    let settings = c.args.settings in
+    let mesh = c.in_ok-read.ensures.mesh in
+    let said = c.in_ok-marks.ensures.marks in
     writer_runs _ _ _ _ _
-    (task_writer (Crease c.args.settings) (AsksToCrease c.args.settings) _ _ c.in_ok-marked.marked.read (crease_needs c.args.settings)
-    (crease_tasked c.args.settings c.requires) marked.mesh.manifold
+    (task_writer (Crease settings) (AsksToCrease settings) _ _ c.in_ok-read.read (crease_needs settings)
+    (crease_tasked settings c.requires) mesh.manifold
     (record {
       bytes = c.in_ok-lines.lines;
-      whole = record { given = read.bytes; ended = read.whole; few = read.short };
-      said = marked.mesh.said;
-    })
-    read.calm)
-    c.crease_mesh.result (c.crease_mesh.ensures.done c.in_ok-lines.lines marked.marks) (c.crease_mesh.ensures.refused c.in_ok-lines.lines marked.marks)
+      whole =
+          record { given = given.bytes; ended = given.whole; few = given.short };
+      said = mesh.said;
+    }) given.calm)
+    c.crease_mesh.result (c.crease_mesh.ensures.done c.in_ok-lines.lines said)
+    (c.crease_mesh.ensures.refused c.in_ok-lines.lines said)

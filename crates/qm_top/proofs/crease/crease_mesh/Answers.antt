@@ -5,30 +5,34 @@ use Rattle.def_remesh.specs.Tasks.{old_lengths}
 use Rattle.def_run.specs.Crease.{AsksToCrease}
 use Rattle.qm_write.specs.Framing.{framed_text}
 use Rattle.qm_write.specs.declared.text.Framed.{Framed}
-use Rattle.qm_top.proofs.Creased.{creased_fails, creased_shown}
+use Rattle.qm_top.proofs.Creased.{chosen_marked, creased_fails, creased_shown}
 use Rattle.qm_top.proofs.Framed.{kept_for, put_refused}
 use Rattle.qm_top.specs.Writing.{refusal_of_put, FailsAsked, IsOfLayout, ShowsAsked}
 use Rattle.qm_top.proofs.crease.crease_mesh.Goals as goal
 
-pub marked_cut-requires : goal.marked_cut-requires
-marked_cut-requires g c = subst (AreMarks c.args.marked.read.faces) (sym c.as_slice-marks.ensures.value) c.args.marked.each
+pub chosen_cut-requires : goal.chosen_cut-requires
+chosen_cut-requires g c = subst (AreMarks c.args.read.faces) (sym c.as_slice.ensures.value) c.requires.marks
 
-pub kept_lines-requires : goal.kept_lines-requires
-kept_lines-requires g c =
-    kept_for old_lengths c.in_ok-cut.cut.plan c.in_ok-remesh.remesh (record { settings = c.args.settings; auto = false }) c.in_ok-remesh.ensures.asked
+pub lines_between-requires : goal.lines_between-requires
+lines_between-requires g c =
+    kept_for old_lengths c.in_ok-cut.cut.plan c.in_ok-remesh.remesh
+    (record { settings = c.args.settings; auto = false }) c.in_ok-remesh.ensures.asked
     c.in_ok-remesh.ensures.kept
 
 pub write_framed-requires : goal.write_framed-requires
 write_framed-requires g c =
-    kept_for old_lengths c.in_ok-cut.cut.plan c.in_ok-remesh.remesh (record { settings = c.args.settings; auto = false }) c.in_ok-remesh.ensures.asked
+    kept_for old_lengths c.in_ok-cut.cut.plan c.in_ok-remesh.remesh
+    (record { settings = c.args.settings; auto = false }) c.in_ok-remesh.ensures.asked
     c.in_ok-remesh.ensures.kept
 
 pub returns-in_err-remesh-clause-refused : goal.returns-in_err-remesh-clause-refused
 returns-in_err-remesh-clause-refused g c bytes said =
     handed _ _ _ c.from_residual-in_err-remesh.ensures.1 (
       refl,
-      creased_fails c.args.settings bytes c.args.marked.read c.in_ok-cut.cut c.as_slice-marks.result.now c.in_ok-cut.ensures.soup
-          (said ∙ ap Ok (sym c.as_slice-marks.ensures.value)) c.in_ok-cut.ensures.marked _ c.in_err-remesh.ensures.refused,
+      creased_fails c.args.settings bytes c.args.read c.in_ok-cut.cut c.as_slice.result.now c.in_ok-cut.ensures.soup
+          (said ∙ ap Ok (sym c.as_slice.ensures.value))
+          (chosen_marked c.in_ok-cut.cut.soup.faces c.as_slice.result.now c.in_ok-cut.cut.plan
+          c.in_ok-cut.ensures.chosen) _ c.in_err-remesh.ensures.refused,
     )
 
 pub returns-in_err-head-clause-refused : goal.returns-in_err-head-clause-refused
@@ -39,26 +43,41 @@ returns-in_err-between-clause-refused g c bytes said = handed _ _ _ c.from_resid
 
 pub returns-in_err-write_framed-clause-refused : goal.returns-in_err-write_framed-clause-refused
 returns-in_err-write_framed-clause-refused g c bytes said =
-    let framed : Framed = record { head = c.in_ok-head.head; between = c.in_ok-between.between; remesh = c.in_ok-remesh.remesh } in
+    let framed : Framed = record {
+      head = c.in_ok-head.head;
+      between = c.in_ok-between.between;
+      remesh =
+          c.in_ok-remesh.remesh;
+    } in
     let cut = c.in_ok-cut.cut in
     let kept = c.in_ok-remesh.ensures in
     let failed = c.in_err-write_framed in
     handed _ _ (refusal_of_put failed.field-0.0) c.from_residual-in_err-write_framed.ensures.1
-    (put_refused (ShowsAsked (AsksToCrease c.args.settings) bytes c.args.marked.read) (IsOfLayout (FailsAsked (AsksToCrease c.args.settings) bytes c.args.marked.read))
+    (put_refused (ShowsAsked (AsksToCrease c.args.settings) bytes c.args.read)
+    (IsOfLayout (FailsAsked (AsksToCrease c.args.settings) bytes c.args.read))
     _ (framed_text framed cut.soup cut.plan) failed.field-0.0
-    (creased_shown c.args.settings bytes c.args.marked.read cut c.as_slice-marks.result.now c.in_ok-cut.ensures.soup
-    (said ∙ ap Ok (sym c.as_slice-marks.ensures.value)) c.in_ok-cut.ensures.marked framed kept.laid kept.asked kept.kept c.in_ok-head.ensures c.in_ok-between.ensures)
+    (creased_shown c.args.settings bytes c.args.read cut c.as_slice.result.now c.in_ok-cut.ensures.soup
+    (said ∙ ap Ok (sym c.as_slice.ensures.value))
+    (chosen_marked c.in_ok-cut.cut.soup.faces c.as_slice.result.now c.in_ok-cut.cut.plan c.in_ok-cut.ensures.chosen)
+    framed kept.laid kept.asked kept.kept c.in_ok-head.ensures c.in_ok-between.ensures)
     tt failed.ensures.prefix failed.ensures.fault failed.ensures.untouched)
 
 pub returns-clause-done : goal.returns-clause-done
 returns-clause-done g c bytes said =
-    let framed : Framed = record { head = c.in_ok-head.head; between = c.in_ok-between.between; remesh = c.in_ok-remesh.remesh } in
+    let framed : Framed = record {
+      head = c.in_ok-head.head;
+      between = c.in_ok-between.between;
+      remesh =
+          c.in_ok-remesh.remesh;
+    } in
     let cut = c.in_ok-cut.cut in
     let kept = c.in_ok-remesh.ensures in
     record {
       text = framed_text framed cut.soup cut.plan;
-      said = creased_shown c.args.settings bytes c.args.marked.read cut c.as_slice-marks.result.now c.in_ok-cut.ensures.soup
-          (said ∙ ap Ok (sym c.as_slice-marks.ensures.value)) c.in_ok-cut.ensures.marked framed kept.laid kept.asked kept.kept c.in_ok-head.ensures
+      said = creased_shown c.args.settings bytes c.args.read cut c.as_slice.result.now c.in_ok-cut.ensures.soup
+          (said ∙ ap Ok (sym c.as_slice.ensures.value))
+          (chosen_marked c.in_ok-cut.cut.soup.faces c.as_slice.result.now c.in_ok-cut.cut.plan
+          c.in_ok-cut.ensures.chosen) framed kept.laid kept.asked kept.kept c.in_ok-head.ensures
           c.in_ok-between.ensures;
       written = c.in_ok-write_framed.ensures.whole;
     }

@@ -1,7 +1,11 @@
 use Rattle.std.specs.Prelude.{unsigned_abs}
 use Rattle.std.proofs.Common.{◌≤◌, refl, arith, rules}
+use Rattle.def_fit.specs.declared.fit.Aim.TheVariants.{Edge}
+use Rattle.def_run.specs.Size.{AsksForNearSize, AsksForSize}
+use Rattle.def_run.specs.declared.command.Command.TheVariants.{Size}
+use Rattle.qm_top.proofs.Fitted.{aimed_writer}
 use Rattle.qm_top.proofs.Refusals.{handed_run, input_ended, size_needs}
-use Rattle.qm_top.proofs.Sized.{size_writer}
+use Rattle.qm_top.proofs.Sized.{size_aimed}
 use Rattle.qm_top.proofs.Writers.{writer_runs}
 use Rattle.qm_top.proofs.size.size.Goals as goal
 
@@ -14,6 +18,10 @@ pub returns : goal.returns
 returns g c =
     let near : unsigned_abs c.args.edge ≤ 999_999_999_999_999 = search rules in
     writer_runs _ _ _ _ _
-    (size_writer c.args.edge c.args.floor _ _ c.in_ok-read.read c.in_ok-read.ensures.manifold c.in_ok-read.ensures.soup c.in_ok-read.ensures.calm near
-    (omega (arith, c.requires.floor.1)))
-    c.size_mesh.result (c.size_mesh.ensures.done c.in_ok-read.ensures.soup.bytes) (c.size_mesh.ensures.refused c.in_ok-read.ensures.soup.bytes)
+    (aimed_writer (Size c.args.edge c.args.floor) (Edge c.args.edge) (AsksForSize c.args.edge c.args.floor)
+    (AsksForNearSize c.args.edge c.args.floor) _ _
+    c.in_ok-read.read (size_needs c.args.edge c.args.floor)
+    (size_aimed c.args.edge c.args.floor near (omega (arith, c.requires.floor.1)))
+    c.in_ok-read.ensures.manifold c.in_ok-read.ensures.soup c.in_ok-read.ensures.calm)
+    c.size_mesh.result (c.size_mesh.ensures.done c.in_ok-read.ensures.soup.bytes)
+    (c.size_mesh.ensures.refused c.in_ok-read.ensures.soup.bytes)

@@ -1,0 +1,25 @@
+use Rattle.std.proofs.Common.{map, sym, ◌∙◌, refl, subst}
+use Rattle.std.proofs.lemmas.List.{length-map}
+use Rattle.def_blocks.specs.Links.{AreLinks}
+use Rattle.def_layout.specs.Arcs.{long_at}
+use Rattle.def_layout.specs.Plans.{layout_of}
+use Rattle.def_remesh.specs.CutSoups.{CutSoup}
+use Rattle.def_remesh.specs.NewPoints.{multiple_of}
+use Rattle.qm_top.proofs.blocks.blocks_of.Goals as goal
+
+pub invariant_of-result : goal.invariant_of-result
+invariant_of-result c =
+    let links = subst
+    (λ (k : CutSoup). AreLinks (layout_of k.plan) (multiple_of c.args.by (long_at k.plan.arcs)) (map (λ links. links.items) c.in_ok-links.links.items))
+    c.cut.ensures c.in_ok-links.ensures in
+    record { linked = sym (length-map c.in_ok-links.links.items (λ links. links.items)) ∙ links.blocks }
+
+pub returns : goal.returns
+returns c = record {
+  told = refl;
+  parts = refl;
+  points = refl;
+  links = subst
+      (λ (k : CutSoup). AreLinks (layout_of k.plan) (multiple_of c.args.by (long_at k.plan.arcs)) (map (λ links. links.items) c.in_ok-links.links.items))
+      c.cut.ensures c.in_ok-links.ensures;
+}

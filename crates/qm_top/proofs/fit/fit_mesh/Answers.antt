@@ -1,0 +1,105 @@
+use Rattle.std.proofs.Common.{◌≡◌, Ok, false, List, ap, sym, ◌∙◌, refl, subst, length}
+use Rattle.std.specs.Prelude.{option_copied}
+use Rattle.error_laws.proofs.Errors.{handed}
+use Rattle.def_fit.specs.Aims.{aimed, fit_settings}
+use Rattle.def_fit.specs.FitTasks.{asides_in, Asides}
+use Rattle.def_io.specs.Bytes.{Bytes}
+use Rattle.def_mesh.specs.Darts.{darts}
+use Rattle.def_patches.specs.Chosen.{AreKeptMarks}
+use Rattle.def_run.specs.Fit.{AsksForNearFit, AsksToFit}
+use Rattle.def_text.specs.FaceSet.{FaceSet}
+use Rattle.qm_write.specs.Framing.{framed_text}
+use Rattle.qm_write.specs.declared.text.Framed.{Framed}
+use Rattle.qm_asides.specs.Beside.{asides_of}
+use Rattle.qm_top.proofs.Fits.{asides_by_parts, fit_fails, fit_shown}
+use Rattle.qm_top.proofs.Framed.{kept_for, put_refused}
+use Rattle.qm_top.specs.Fitting.{FailsNear, IsFarTask, IsOfWishes}
+use Rattle.qm_top.specs.Refusals.{refusal_of_size}
+use Rattle.qm_top.specs.Writing.{refusal_of_put, ShowsAsked}
+use Rattle.qm_top.proofs.fit.fit_mesh.Goals as goal
+
+pub lines_between-requires : goal.lines_between-requires
+lines_between-requires g c =
+    kept_for (aimed c.args.fit.now.aim c.in_ok-cut.cut.soup c.deref.result.now) c.in_ok-cut.cut.plan
+    c.in_ok-remesh.remesh
+    (record { settings = fit_settings c.args.fit.now; auto = false }) c.in_ok-remesh.ensures.asked
+    c.in_ok-remesh.ensures.kept
+
+pub write_framed-requires : goal.write_framed-requires
+write_framed-requires g c =
+    kept_for (aimed c.args.fit.now.aim c.in_ok-cut.cut.soup c.deref.result.now) c.in_ok-cut.cut.plan
+    c.in_ok-remesh.remesh
+    (record { settings = fit_settings c.args.fit.now; auto = false }) c.in_ok-remesh.ensures.asked
+    c.in_ok-remesh.ensures.kept
+
+pub returns-in_err-remesh-clause-refused : goal.returns-in_err-remesh-clause-refused
+returns-in_err-remesh-clause-refused g c bytes said =
+    let fit = c.args.fit.now in
+    let cut = c.in_ok-cut.cut in
+    let made = c.in_ok-cut.ensures in
+    let asides : Asides = record { kept = option_copied c.as_deref-kept.result; wishes = c.deref.result.now } in
+    let parts = asides_by_parts (asides_of c.args.asides) asides.kept asides.wishes c.as_deref-kept.ensures.value
+    c.deref.ensures.value in
+    handed _ _ (refusal_of_size c.in_err-remesh.field-0.0) c.from_residual-in_err-remesh.ensures.1
+    (fit_fails fit bytes c.args.read cut asides made.soup (said ∙ ap Ok parts)
+    (subst (AreKeptMarks c.args.read.faces) (sym c.as_deref-kept.ensures.value) c.requires.marks) made.laid made.chosen
+    _ _ refl
+    c.in_err-remesh.field-0.0 c.in_err-remesh.ensures.refused)
+
+pub returns-in_err-head-clause-refused : goal.returns-in_err-head-clause-refused
+returns-in_err-head-clause-refused g c bytes said = handed _ _ _ c.from_residual-in_err-head.ensures.1 (refl, tt)
+
+pub returns-in_err-between-clause-refused : goal.returns-in_err-between-clause-refused
+returns-in_err-between-clause-refused g c bytes said = handed _ _ _ c.from_residual-in_err-between.ensures.1 (refl, tt)
+
+pub returns-in_err-write_framed-clause-refused : goal.returns-in_err-write_framed-clause-refused
+returns-in_err-write_framed-clause-refused g c bytes said =
+    let framed : Framed = record {
+      head = c.in_ok-head.head;
+      between = c.in_ok-between.between;
+      remesh =
+          c.in_ok-remesh.remesh;
+    } in
+    let fit = c.args.fit.now in
+    let cut = c.in_ok-cut.cut in
+    let made = c.in_ok-cut.ensures in
+    let kept = c.in_ok-remesh.ensures in
+    let asides : Asides = record { kept = option_copied c.as_deref-kept.result; wishes = c.deref.result.now } in
+    let parts = asides_by_parts (asides_of c.args.asides) asides.kept asides.wishes c.as_deref-kept.ensures.value
+    c.deref.ensures.value in
+    let near = AsksForNearFit fit in
+    let failed = c.in_err-write_framed in
+    handed _ _ (refusal_of_put failed.field-0.0) c.from_residual-in_err-write_framed.ensures.1
+    (put_refused (ShowsAsked near bytes c.args.read)
+    (IsOfWishes (FailsNear (AsksToFit fit) near bytes c.args.read) (IsFarTask fit.aim (AsksToFit fit) bytes c.args.read))
+    _
+    (framed_text framed cut.soup cut.plan) failed.field-0.0
+    (fit_shown fit bytes c.args.read cut asides made.soup (said ∙ ap Ok parts)
+    (subst (AreKeptMarks c.args.read.faces) (sym c.as_deref-kept.ensures.value) c.requires.marks) made.laid made.chosen
+    framed kept.near
+    kept.asked kept.kept c.in_ok-head.ensures c.in_ok-between.ensures)
+    tt failed.ensures.prefix failed.ensures.fault failed.ensures.untouched)
+
+pub returns-clause-done : goal.returns-clause-done
+returns-clause-done g c bytes said =
+    let framed : Framed = record {
+      head = c.in_ok-head.head;
+      between = c.in_ok-between.between;
+      remesh =
+          c.in_ok-remesh.remesh;
+    } in
+    let fit = c.args.fit.now in
+    let cut = c.in_ok-cut.cut in
+    let made = c.in_ok-cut.ensures in
+    let kept = c.in_ok-remesh.ensures in
+    let asides : Asides = record { kept = option_copied c.as_deref-kept.result; wishes = c.deref.result.now } in
+    let parts = asides_by_parts (asides_of c.args.asides) asides.kept asides.wishes c.as_deref-kept.ensures.value
+    c.deref.ensures.value in
+    record {
+      text = framed_text framed cut.soup cut.plan;
+      said = fit_shown fit bytes c.args.read cut asides made.soup (said ∙ ap Ok parts)
+          (subst (AreKeptMarks c.args.read.faces) (sym c.as_deref-kept.ensures.value) c.requires.marks) made.laid
+          made.chosen framed kept.near
+          kept.asked kept.kept c.in_ok-head.ensures c.in_ok-between.ensures;
+      written = c.in_ok-write_framed.ensures.whole;
+    }

@@ -1,0 +1,24 @@
+use Rattle.std.proofs.Common.{◌∙◌, ap, subst}
+use Rattle.def_blocks.specs.Links.{AreLinks}
+use Rattle.def_layout.specs.Arcs.{long_at}
+use Rattle.def_layout.specs.Plans.{layout_of, Plan}
+use Rattle.def_remesh.specs.CutSoups.{Regrid}
+use Rattle.def_remesh.specs.NewPoints.{lengths_in, multiple_of}
+use Rattle.qm_top.specs.Blocking.{links_in}
+use Rattle.qm_top.proofs.grids.grids_by.Goals as goal
+
+pub returns-clause-blocks : goal.returns-clause-blocks
+returns-clause-blocks c =
+    let of = c.in_ok-blocks.ensures in
+    let made = c.in_ok-points.ensures in
+    record {
+      told = of.told;
+      parts = of.parts;
+      same = ap (λ (k : Regrid). k.soup) of.points ∙ made.new.0;
+      on = ap (λ (k : Regrid). k.plan) of.points ∙ made.new.1;
+      lengths = ap (λ (k : Regrid). lengths_in k.lengths) of.points ∙ made.new.2;
+      fits = made.few;
+      links = subst
+          (λ (p : Plan). AreLinks (layout_of p) (multiple_of c.args.by (long_at p.arcs)) (links_in c.in_ok-blocks.blocks))
+          made.new.1 of.links;
+    }
