@@ -1,0 +1,2 @@
+//! What is proved of the bytes that are read.
+#![tactic(auto)]

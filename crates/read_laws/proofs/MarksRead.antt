@@ -1,0 +1,86 @@
+-- The marks that the text of a mesh says are marks of the mesh.
+use Rattle.std.proofs.Common.{◌≡◌, ℕ, ◌+◌, ◌<◌, Bool, false, eqb, ◌&&◌, ◌||◌, List, [], ◌∷◌, Option, Some, None, is_some, sym, subst, ap, ◌∙◌, arith, map, refl, Ok, Err, Result}
+use Rattle.std.specs.List.{flat_map, list_any}
+use Rattle.std.specs.Result.{result_map_both}
+use Rattle.std.proofs.lemmas.List.{length-map}
+use Rattle.std.proofs.lemmas.List.FromFn.{length-range_with_len, get_or-map-range_with_len}
+use Rattle.def_cut.specs.FullCut.{is_on}
+use Rattle.def_feature.specs.Marks.{AreMarks}
+use Rattle.def_fit.specs.FitTasks.{asides_by, Asides, kept_in, wished_in}
+use Rattle.def_io.specs.Bytes.{Bytes}
+use Rattle.def_io.specs.Lines.{lines_of}
+use Rattle.def_marks.specs.Chains.{is_along_chains, link_at, marks_along, runs_along, runs_between, step_places}
+use Rattle.def_marks.specs.Lines.{first_fail, line_chain, line_fails, marks_in, text_lines}
+use Rattle.def_marks.specs.declared.fail.MarkFail.{MarkFail}
+use Rattle.def_mesh.specs.Darts.{all_darts, darts, from_of, IsTwin, to_of, twin_of}
+use Rattle.def_mesh.specs.Faces.{Faces}
+use Rattle.def_mesh.specs.Manifold.{IsManifold}
+use Rattle.def_patches.specs.Chosen.{AreKeptMarks}
+use Rattle.def_patches.specs.declared.Keep.{Keep}
+use Rattle.def_patches.specs.declared.Keep.TheVariants as keeps
+use Rattle.def_readlaws.specs.ReadMarks.{AsidesInLaw, MarksInLaw}
+use Rattle.def_run.specs.Mesh.{IsMeshText}
+use Rattle.def_text.specs.FaceSet.{FaceSet}
+use Rattle.def_text.specs.Logical.{logical_lines}
+use Rattle.mesh_laws.proofs.Twins.{twin_found, twin_is}
+
+-- Tests of the two ends of an edge do not tell its direction.
+turned : (a b c e : Bool) → ((e && c) || (b && a)) ≡ ((a && b) || (c && e))
+turned a b c e = grind (arith)
+
+-- The mark of a dart.
+mark_along : (faces : Faces) (chains : List (List ℕ)) (d : ℕ) → d < darts faces → is_on (marks_along faces chains) d ≡ is_along_chains faces chains d
+mark_along faces chains d low = get_or-map-range_with_len (is_along_chains faces chains) 0 (darts faces) d d false low (omega arith)
+
+-- Twins run along the same chains.
+twins_along : (faces : Faces) (d e : ℕ) → IsTwin faces d e → (chain : List ℕ) → runs_along faces chain e ≡ runs_along faces chain d
+twins_along faces d e is chain = λ i. list_any (λ k. between (link_at chain k) (link_at chain (k + 1)) i) (step_places chain)
+  where
+    between : (u v : ℕ) → runs_between faces u v e ≡ runs_between faces u v d
+    between u v =
+        ap (λ x. (eqb x u && eqb (to_of faces e) v) || (eqb x v && eqb (to_of faces e) u)) is.1
+        ∙ (ap (λ y. (eqb (to_of faces d) u && eqb y v) || (eqb (to_of faces d) v && eqb y u)) is.2
+        ∙ turned (eqb (from_of faces d) u) (eqb (to_of faces d) v) (eqb (from_of faces d) v) (eqb (to_of faces d) u))
+
+-- The marks along chains are those of inner edges, equal at twins.
+pub chain_marks : (faces : Faces) (chains : List (List ℕ)) → IsManifold faces → AreMarks faces (marks_along faces chains)
+chain_marks faces chains m = record {
+  long = length-map (all_darts faces) (is_along_chains faces chains) ∙ length-range_with_len 0 (darts faces);
+  alike = λ d e low twin. mark_along faces chains e (twin_is faces d e twin).0 ∙ (alike d e low twin (twin_is faces d e twin) ∙ sym (mark_along faces chains d low));
+  inner = λ d low none. mark_along faces chains d low ∙ ap (λ (o : Option ℕ). is_some o && list_any (λ chain. runs_along faces chain d) chains) none;
+}
+  where
+    alike : (d e : ℕ) → d < darts faces → twin_of faces d ≡ Some e → IsTwin faces d e → is_along_chains faces chains e ≡ is_along_chains faces chains d
+    alike d e low twin is =
+        ap (λ (o : Option ℕ). is_some o && list_any (λ chain. runs_along faces chain e) chains) (twin_found faces m.edges_once e d (low, sym is.2, sym is.1))
+        ∙ ((λ i. list_any (λ chain. twins_along faces d e is chain i) chains)
+        ∙ sym (ap (λ (o : Option ℕ). is_some o && list_any (λ chain. runs_along faces chain d) chains) twin))
+
+-- Marks that no line refuses are those along the chains.
+passed : (fails : List MarkFail) (along marks : List Bool) → first_fail fails along ≡ Ok marks → along ≡ marks
+passed [] along marks said = cc said
+passed (fail ∷ fails) along marks said = cc said
+
+pub marks_in_law : MarksInLaw
+marks_in_law bytes soup marks is said =
+    let lines = text_lines (logical_lines 1 (lines_of bytes)) in
+    subst (AreMarks soup.faces) (passed (flat_map (line_fails soup) lines) (marks_along soup.faces (map (line_chain soup) lines)) marks said)
+    (chain_marks soup.faces (map (line_chain soup) lines) is.manifold)
+
+-- What is kept where both are read.
+kept_of : (kept : Result (Option (List Bool)) MarkFail) (wishes : Result (List ℕ) MarkFail) (asides : Asides) → asides_by kept wishes ≡ Ok asides → kept ≡ Ok asides.kept
+kept_of (Err fail) wishes asides said = cc said
+kept_of (Ok kept) (Err fail) asides said = cc said
+kept_of (Ok kept) (Ok wishes) asides said = let same : record { kept = kept; wishes = wishes } ≡ asides = cc said in ap (λ (a : Asides). Ok a.kept) same
+
+kept_marks : (keep : Keep) (bytes : Bytes) (soup : FaceSet) (kept : Option (List Bool)) → IsMeshText bytes soup → kept_in keep bytes soup ≡ Ok kept → AreKeptMarks soup.faces kept
+kept_marks keeps.Nothing bytes soup kept is said = let same : ◌≡◌ {A = Option (List Bool)} None kept = cc said in subst (AreKeptMarks soup.faces) same tt
+kept_marks keeps.Lines bytes soup kept is said = by_marks (marks_in bytes soup) refl said
+  where
+    by_marks : (r : Result (List Bool) MarkFail) → marks_in bytes soup ≡ r → result_map_both Some (λ fail. fail) r ≡ Ok kept → AreKeptMarks soup.faces kept
+    by_marks (Err fail) read said = cc said
+    by_marks (Ok marks) read said = let same : Some marks ≡ kept = cc said in subst (AreKeptMarks soup.faces) same (marks_in_law bytes soup marks is read)
+
+pub asides_in_law : AsidesInLaw
+asides_in_law fit bytes soup asides is said =
+    kept_marks fit.keep bytes soup asides.kept is (kept_of (kept_in fit.keep bytes soup) (wished_in fit.aim bytes soup) asides said)
