@@ -59,7 +59,7 @@ END
 checkout() {
     mkdir -p "$1/docs/pictures" "$1/crates/low/src" "$1/crates/low/proofs" "$1/crates/qm_prog/src" "$1/crates/low/specs" "$1/.ci"
     cp -r "$root/quadq" "$root/install.sh" "$root/tools" "$1"
-    for step in trusted_base third_party try_packages edits documents test_launcher.sh command_lines allocations.sh test_python get_blender test_blender test_report; do
+    for step in trusted_base measure_proofs third_party try_packages edits documents test_launcher.sh command_lines allocations.sh test_python get_blender test_blender test_report; do
         printf '#!/bin/sh\n' >"$1/tools/$step"
     done
     install -m 755 "$1/tools/edits" "$1/docs/pictures/draw_crates.py"
@@ -229,29 +229,29 @@ gate() {
 the_gate() {
     at=$room/gate
     checkout "$at"
-    wants "the gate without dist/ proves all, and fails" "1 10 passed, 1 failed" "$(gate)"
+    wants "the gate without dist/ proves all, and fails" "1 11 passed, 1 failed" "$(gate)"
     holds "it names the command that writes dist/" grep -q 'tools/dist writes it anew' "$room/err1"
     "$at/quadq" >/dev/null 2>&1
     wants "after the gate nothing is built" 1 "$(builds)"
     "$at/tools/dist" >/dev/null
-    wants "with dist/ it passes" "0 17 passed, 0 failed" "$(gate)"
+    wants "with dist/ it passes" "0 19 passed, 0 failed" "$(gate)"
     touch "$room/bad"
-    wants "it fails on an edit that cannot be applied" "1 16 passed, 1 failed" "$(gate)"
+    wants "it fails on an edit that cannot be applied" "1 18 passed, 1 failed" "$(gate)"
     rm "$room/bad"
     touch "$room/broken"
-    wants "it fails where a proof fails" "1 14 passed, 1 failed" "$(gate)"
+    wants "it fails where a proof fails" "1 16 passed, 1 failed" "$(gate)"
     rm "$room/broken"
     echo '# more' >>"$at/build/quadq"
     echo "another kit" >"$room/version"
     "$at/tools/dist" "$at/build/quadq" >/dev/null
     echo "a false kit" >"$room/version"
-    wants "it fails where dist/quadq has another byte" "1 16 passed, 1 failed" "$(gate)"
+    wants "it fails where dist/quadq has another byte" "1 18 passed, 1 failed" "$(gate)"
     wants "and says that the kit is another" 1 "$(tail -n 3 "$room/err1" | grep -c 'kit another kit.* a false kit')"
     cp "$at/crates/qm_prog/out/qm_prog" "$at/build/quadq"
     "$at/tools/dist" >/dev/null
     printf '#!/bin/sh\nexit 1\n' >"$at/tools/documents"
     before=$(builds)
-    wants "a step that fails ends it before the proofs" "1 10 passed, 2 failed $before" "$(gate) $(builds)"
+    wants "a step that fails ends it before the proofs" "1 12 passed, 2 failed $before" "$(gate) $(builds)"
     printf '#!/bin/sh\n' >"$at/tools/documents"
 }
 
@@ -359,7 +359,7 @@ installing() {
     wants "installed under a narrow umask" "755 755 755" \
         "$(stat -c %a "$room/new prefix" "$room/new prefix/bin" "$room/new prefix/bin/quadq" | tr '\n' ' ' | sed 's/ $//')"
     wants "what is installed" "bin/quadq bin/quadq-draw-graph share/bash-completion/completions/quadq \
-share/man/man1/quadq.1 share/quadq/cuts.py share/quadq/obj_text.py share/zsh/site-functions/_quadq " \
+share/man/man1/quadq.1 share/quadq/layout_text.py share/quadq/obj_text.py share/zsh/site-functions/_quadq " \
         "$(cd "$room/new prefix" && find . -type f | sed 's/^..//' | LC_ALL=C sort | tr '\n' ' ')"
     wants "what is installed runs" "first: z" "$("$room/new prefix/bin/quadq" z 2>/dev/null)"
     holds "the script that draws runs" "$room/new prefix/bin/quadq-draw-graph" --help >/dev/null

@@ -1,5 +1,6 @@
 -- Classes of faces that are joined over edges that are not cut: each is one grid, and has one patch.
-use Rattle.std.proofs.Common.{◌≡◌, ◌⊎◌, ℕ, zero, suc, ◌<◌, ◌≤◌, true, false, Some, sym, ◌∙◌, ap, subst, refl, inl, inr, true≢false, arith}
+use Rattle.std.proofs.Common.{◌≡◌, ◌⊎◌, ℕ, zero, suc, ◌<◌, ◌≤◌, true, false, Some, sym, ◌∙◌, ap, subst, refl, inl, inr}
+use Rattle.std.proofs.Common.{true≢false, arith}
 use Rattle.std.proofs.lemmas.Bool.{cases_eq, cases_order}
 use Rattle.std.proofs.lemmas.Option.{same_Some}
 use Rattle.def_mesh.specs.HalfEdges.{HalfEdges, IsQuadManifold}
@@ -45,7 +46,8 @@ module _ (mesh : HalfEdges) (laws : IsQuadManifold mesh) (cut : Cut) where
   step_over d e t a off is = (suc a.0, (e, a.1, inr (off, is)))
 
   pub step_prev : (d e : ℕ) → AreLinked mesh cut d e → AreLinked mesh cut d (mesh.prev e)
-  step_prev d e a = subst (λ (x : ℕ). AreLinked mesh cut d x) (sym (prev_three mesh laws e)) (step_next d (mesh.next (mesh.next e)) (step_next d (mesh.next e) (step_next d e a)))
+  step_prev d e a = subst (λ (x : ℕ). AreLinked mesh cut d x) (sym (prev_three mesh laws e))
+      (step_next d (mesh.next (mesh.next e)) (step_next d (mesh.next e) (step_next d e a)))
 
   pub step_spin : (d e k : ℕ) → AreLinked mesh cut d e → AreLinked mesh cut d (spin mesh k e)
   step_spin d e zero a = a
@@ -55,7 +57,8 @@ module _ (mesh : HalfEdges) (laws : IsQuadManifold mesh) (cut : Cut) where
   links_low d e zero l a = subst (λ (x : ℕ). x < mesh.count) a l
   links_low d e (suc n) l a = by_step a.0 (links_low d a.0 n l a.1) a.2
     where
-      by_step : (c : ℕ) → c < mesh.count → (e ≡ mesh.next c) ⊎ ((cut c ≡ false) × (mesh.twin c ≡ Some e)) → e < mesh.count
+      by_step : (c : ℕ) → c < mesh.count → (e ≡ mesh.next c) ⊎ ((cut c ≡ false) × (mesh.twin c ≡ Some e))
+          → e < mesh.count
       by_step c lc (inl s) = subst (λ (x : ℕ). x < mesh.count) (sym s) (laws.next_low c lc)
       by_step c lc (inr o) = laws.twin_low c e lc o.1
 
@@ -64,16 +67,25 @@ module _ (mesh : HalfEdges) (laws : IsQuadManifold mesh) (cut : Cut) (full : IsC
   links_back d e zero l a = (0, sym a)
   links_back d e (suc n) l a = by_step a.0 (links_low mesh laws cut d a.0 n l a.1) (links_back d a.0 n l a.1) a.2
     where
-      by_step : (c : ℕ) → c < mesh.count → AreLinked mesh cut c d → (e ≡ mesh.next c) ⊎ ((cut c ≡ false) × (mesh.twin c ≡ Some e)) → AreLinked mesh cut e d
-      by_step c lc back (inl s) = links_join mesh laws cut e c d (subst (λ (x : ℕ). AreLinked mesh cut e x) (ap mesh.prev s ∙ laws.prev_next c) (step_prev mesh laws cut e e (0, refl))) back
-      by_step c lc back (inr o) = links_join mesh laws cut e c d (step_over mesh laws cut e e c (0, refl) (full.alike c e lc o.1 ∙ o.0) (laws.twin_twin c e lc o.1)) back
+      by_step : (c : ℕ) → c < mesh.count → AreLinked mesh cut c d → (e ≡ mesh.next c)
+          ⊎ ((cut c ≡ false) × (mesh.twin c ≡ Some e)) → AreLinked mesh cut e d
+      by_step c lc back (inl s) =
+          links_join mesh laws cut e c d (subst (λ (x : ℕ). AreLinked mesh cut e x) (ap mesh.prev s ∙ laws.prev_next c)
+          (step_prev mesh laws cut e e (0, refl))) back
+      by_step c lc back (inr o) =
+          links_join mesh laws cut e c d (step_over mesh laws cut e e c (0, refl) (full.alike c e lc o.1 ∙ o.0)
+          (laws.twin_twin c e lc o.1)) back
 
   pub linked_back : (d e : ℕ) → d < mesh.count → AreLinked mesh cut d e → AreLinked mesh cut e d
   linked_back d e l a = links_back d e a.0 l a.1
 
   -- The corner of a grid, and what is linked to it.
   pub first_corner : (w h : ℕ) (cell : Cells) → IsGrid mesh cut w h cell → IsCorner mesh cut (cell 0 0)
-  first_corner w h cell grid = (grid.low 0 0 grid.wide grid.tall, grid.south_shut 0 grid.wide, grid.west_shut 0 grid.tall)
+  first_corner w h cell grid = (
+    grid.low 0 0 grid.wide grid.tall,
+    grid.south_shut 0 grid.wide,
+    grid.west_shut 0 grid.tall,
+  )
 
   module _ (w h : ℕ) (cell : Cells) (grid : IsGrid mesh cut w h cell) where
     pub in_low : (x : ℕ) → In mesh w h cell x → x < mesh.count
@@ -88,64 +100,103 @@ module _ (mesh : HalfEdges) (laws : IsQuadManifold mesh) (cut : Cut) (full : IsC
     closed d e zero l i = subst (λ (x : ℕ). In mesh w h cell x) l i
     closed d e (suc n) l i = by_step l.0 (closed d l.0 n l.1 i) l.2
       where
-        by_step : (c : ℕ) → In mesh w h cell c → (e ≡ mesh.next c) ⊎ ((cut c ≡ false) × (mesh.twin c ≡ Some e)) → In mesh w h cell e
-        by_step c at (inl s) = subst (λ (x : ℕ). In mesh w h cell x) (sym s) (suc at.0, one_more mesh laws w h cell at.0 c at.1)
+        by_step : (c : ℕ) → In mesh w h cell c → (e ≡ mesh.next c) ⊎ ((cut c ≡ false) × (mesh.twin c ≡ Some e))
+            → In mesh w h cell e
+        by_step c at (inl s) = subst (λ (x : ℕ). In mesh w h cell x) (sym s) (
+          suc at.0,
+          one_more mesh laws w h cell at.0 c at.1,
+        )
         by_step c at (inr o) = (suc (suc at.0), cross_to mesh laws cut full w h cell grid at.0 c e at.1 o.0 o.1)
 
     -- The whole grid is of one class.
     linked_east : (i : ℕ) → i < w → AreLinked mesh cut (cell 0 0) (cell i 0)
     linked_east zero l = (0, refl)
     linked_east (suc i) l =
-        let over : AreLinked mesh cut (cell 0 0) (mesh.prev (cell (suc i) 0)) = step_over mesh laws cut (cell 0 0) (mesh.next (cell i 0)) (mesh.prev (cell (suc i) 0)) (step_next mesh laws cut (cell 0 0) (cell i 0) (linked_east i (omega arith))) (grid.east_open i 0 l grid.tall) (grid.east i 0 l grid.tall) in
-        subst (λ (x : ℕ). AreLinked mesh cut (cell 0 0) x) (laws.next_prev (cell (suc i) 0)) (step_next mesh laws cut (cell 0 0) (mesh.prev (cell (suc i) 0)) over)
+        let over : AreLinked mesh cut (cell 0 0) (mesh.prev (cell (suc i) 0)) =
+        step_over mesh laws cut (cell 0 0) (mesh.next (cell i 0)) (mesh.prev (cell (suc i) 0))
+        (step_next mesh laws cut (cell 0 0) (cell i 0) (linked_east i (omega arith)))
+        (grid.east_open i 0 l grid.tall) (grid.east i 0 l grid.tall) in
+        subst (λ (x : ℕ). AreLinked mesh cut (cell 0 0) x) (laws.next_prev (cell (suc i) 0))
+        (step_next mesh laws cut (cell 0 0) (mesh.prev (cell (suc i) 0)) over)
 
     pub linked_cell : (i j : ℕ) → i < w → j < h → AreLinked mesh cut (cell 0 0) (cell i j)
     linked_cell i zero li lj = linked_east i li
-    linked_cell i (suc j) li lj = step_over mesh laws cut (cell 0 0) (mesh.next (mesh.next (cell i j))) (cell i (suc j)) (step_next mesh laws cut (cell 0 0) (mesh.next (cell i j)) (step_next mesh laws cut (cell 0 0) (cell i j) (linked_cell i j li (omega arith)))) (grid.north_open i j li lj) (grid.north i j li lj)
+    linked_cell i (suc j) li lj = step_over mesh laws cut (cell 0 0) (mesh.next (mesh.next (cell i j))) (cell i (suc j))
+        (step_next mesh laws cut (cell 0 0) (mesh.next (cell i j)) (step_next mesh laws cut (cell 0 0) (cell i j)
+        (linked_cell i j li (omega arith)))) (grid.north_open i j li lj) (grid.north i j li lj)
 
     pub linked_in : (x : ℕ) → In mesh w h cell x → AreLinked mesh cut (cell 0 0) x
-    linked_in x i = subst (λ (y : ℕ). AreLinked mesh cut (cell 0 0) y) (sym i.1.is) (step_spin mesh laws cut (cell 0 0) (cell i.1.a i.1.b) i.0 (linked_cell i.1.a i.1.b i.1.a_low i.1.b_low))
+    linked_in x i = subst (λ (y : ℕ). AreLinked mesh cut (cell 0 0) y) (sym i.1.is)
+        (step_spin mesh laws cut (cell 0 0) (cell i.1.a i.1.b) i.0 (linked_cell i.1.a i.1.b i.1.a_low i.1.b_low))
 
     pub first_in : In mesh w h cell (cell 0 0)
     first_in = (0, record { a = 0; b = 0; a_low = grid.wide; b_low = grid.tall; is = refl })
 
     -- Each corner of the class is one of the four of the grid.
-    pub least_corner : (m : ℕ) → AtMost mesh w h cell m → (k a b x : ℕ) → a < w → b < h → x ≡ spin mesh k (cell a b) → cut x ≡ true → cut (mesh.prev x) ≡ true → m ≤ x
+    pub least_corner : (m : ℕ) → AtMost mesh w h cell m → (k a b x : ℕ) → a < w → b < h → x ≡ spin mesh k (cell a b)
+        → cut x ≡ true → cut (mesh.prev x) ≡ true → m ≤ x
     least_corner m least zero zero zero x la lb e on before = subst (λ (y : ℕ). m ≤ y) (sym e) least.first
-    least_corner m least zero (suc a) b x la lb e on before = absurd (true≢false (sym before ∙ (ap (λ y. cut (mesh.prev y)) e ∙ west_open mesh laws cut full w h cell grid a b la lb)))
-    least_corner m least zero zero (suc b) x la lb e on before = absurd (true≢false (sym on ∙ (ap cut e ∙ south_open mesh laws cut full w h cell grid 0 b la lb)))
+    least_corner m least zero (suc a) b x la lb e on before =
+        absurd (true≢false (sym before
+        ∙ (ap (λ y. cut (mesh.prev y)) e ∙ west_open mesh laws cut full w h cell grid a b la lb)))
+    least_corner m least zero zero (suc b) x la lb e on before =
+        absurd (true≢false (sym on ∙ (ap cut e ∙ south_open mesh laws cut full w h cell grid 0 b la lb)))
     least_corner m least (suc zero) a zero x la lb e on before = elim (cases_eq (suc a) w) [
       | inl z ↦ subst (λ (y : ℕ). m ≤ y) (sym e) (least.east a z)
       | inr ne ↦ absurd (true≢false (sym on ∙ (ap cut e ∙ grid.east_open a 0 (omega arith) lb)))
     ]
-    least_corner m least (suc zero) a (suc b) x la lb e on before = absurd (true≢false (sym before ∙ (ap (λ y. cut (mesh.prev y)) e ∙ (ap cut (laws.prev_next (cell a (suc b))) ∙ south_open mesh laws cut full w h cell grid a b la lb))))
+    least_corner m least (suc zero) a (suc b) x la lb e on before =
+        absurd (true≢false (sym before
+        ∙ (ap (λ y. cut (mesh.prev y)) e
+        ∙ (ap cut (laws.prev_next (cell a (suc b))) ∙ south_open mesh laws cut full w h cell grid a b la lb))))
     least_corner m least (suc (suc zero)) a b x la lb e on before = elim (cases_eq (suc a) w) [
       | inl z ↦ elim (cases_eq (suc b) h) [
         | inl y ↦ subst (λ (y : ℕ). m ≤ y) (sym e) (least.far a b z y)
         | inr ne ↦ absurd (true≢false (sym on ∙ (ap cut e ∙ grid.north_open a b la (omega arith))))
       ]
-      | inr ne ↦ absurd (true≢false (sym before ∙ (ap (λ y. cut (mesh.prev y)) e ∙ (ap cut (laws.prev_next (mesh.next (cell a b))) ∙ grid.east_open a b (omega arith) lb))))
+      | inr ne ↦ absurd (true≢false (sym before
+          ∙ (ap (λ y. cut (mesh.prev y)) e ∙ (ap cut (laws.prev_next (mesh.next (cell a b)))
+          ∙ grid.east_open a b (omega arith) lb))))
     ]
     least_corner m least (suc (suc (suc zero))) zero b x la lb e on before = elim (cases_eq (suc b) h) [
       | inl z ↦ subst (λ (y : ℕ). m ≤ y) (prev_three mesh laws (cell 0 b) ∙ sym e) (least.north b z)
-      | inr ne ↦ absurd (true≢false (sym before ∙ (ap (λ y. cut (mesh.prev y)) e ∙ (ap cut (laws.prev_next (mesh.next (mesh.next (cell 0 b)))) ∙ grid.north_open 0 b la (omega arith)))))
+      | inr ne ↦ absurd (true≢false (sym before
+          ∙ (ap (λ y. cut (mesh.prev y)) e ∙ (ap cut (laws.prev_next (mesh.next (mesh.next (cell 0 b))))
+          ∙ grid.north_open 0 b la (omega arith)))))
     ]
-    least_corner m least (suc (suc (suc zero))) (suc a) b x la lb e on before = absurd (true≢false (sym on ∙ (ap cut (e ∙ sym (prev_three mesh laws (cell (suc a) b))) ∙ west_open mesh laws cut full w h cell grid a b la lb)))
-    least_corner m least (suc (suc (suc (suc k)))) a b x la lb e on before = least_corner m least k a b x la lb (e ∙ laws.four_sides (spin mesh k (cell a b))) on before
+    least_corner m least (suc (suc (suc zero))) (suc a) b x la lb e on before =
+        absurd (true≢false (sym on ∙ (ap cut (e ∙ sym (prev_three mesh laws (cell (suc a) b)))
+        ∙ west_open mesh laws cut full w h cell grid a b la lb)))
+    least_corner m least (suc (suc (suc (suc k)))) a b x la lb e on before =
+        least_corner m least k a b x la lb (e ∙ laws.four_sides (spin mesh k (cell a b))) on before
 
     pub least_in : (m x : ℕ) → AtMost mesh w h cell m → In mesh w h cell x → IsCorner mesh cut x → m ≤ x
     least_in m x least i corner = least_corner m least i.0 i.1.a i.1.b x i.1.a_low i.1.b_low i.1.is corner.1 corner.2
 
     -- The four are corners of the class.
-    pub at_most : (m : ℕ) → ((x : ℕ) → AreLinked mesh cut (cell 0 0) x → IsCorner mesh cut x → m ≤ x) → AtMost mesh w h cell m
+    pub at_most : (m : ℕ) → ((x : ℕ) → AreLinked mesh cut (cell 0 0) x → IsCorner mesh cut x → m ≤ x)
+        → AtMost mesh w h cell m
     at_most m least = record {
       first = least (cell 0 0) (0, refl) (first_corner w h cell grid);
-      east = λ i e. least (mesh.next (cell i 0)) (step_next mesh laws cut (cell 0 0) (cell i 0) (linked_cell i 0 (omega arith) grid.tall))
-          (laws.next_low (cell i 0) (grid.low i 0 (omega arith) grid.tall), grid.east_shut i 0 e grid.tall, ap cut (laws.prev_next (cell i 0)) ∙ grid.south_shut i (omega arith));
-      far = λ i j e z. let l : cell i j < mesh.count = grid.low i j (omega arith) (omega arith) in least (mesh.next (mesh.next (cell i j))) (step_next mesh laws cut (cell 0 0) (mesh.next (cell i j)) (step_next mesh laws cut (cell 0 0) (cell i j) (linked_cell i j (omega arith) (omega arith))))
-          (laws.next_low (mesh.next (cell i j)) (laws.next_low (cell i j) l), grid.north_shut i j (omega arith) z, ap cut (laws.prev_next (mesh.next (cell i j))) ∙ grid.east_shut i j e (omega arith));
-      north = λ j z. least (mesh.prev (cell 0 j)) (step_prev mesh laws cut (cell 0 0) (cell 0 j) (linked_cell 0 j grid.wide (omega arith)))
-          (laws.prev_low (cell 0 j) (grid.low 0 j grid.wide (omega arith)), grid.west_shut j (omega arith), ap cut (prev_twice mesh laws (cell 0 j)) ∙ grid.north_shut 0 j grid.wide z);
+      east = λ i e. least (mesh.next (cell i 0)) (step_next mesh laws cut (cell 0 0) (cell i 0)
+          (linked_cell i 0 (omega arith) grid.tall)) (
+            laws.next_low (cell i 0) (grid.low i 0 (omega arith) grid.tall),
+            grid.east_shut i 0 e grid.tall,
+            ap cut (laws.prev_next (cell i 0)) ∙ grid.south_shut i (omega arith),
+          );
+      far = λ i j e z. let l : cell i j < mesh.count = grid.low i j (omega arith) (omega arith) in
+          least (mesh.next (mesh.next (cell i j))) (step_next mesh laws cut (cell 0 0) (mesh.next (cell i j))
+          (step_next mesh laws cut (cell 0 0) (cell i j) (linked_cell i j (omega arith) (omega arith)))) (
+            laws.next_low (mesh.next (cell i j)) (laws.next_low (cell i j) l),
+            grid.north_shut i j (omega arith) z,
+            ap cut (laws.prev_next (mesh.next (cell i j))) ∙ grid.east_shut i j e (omega arith),
+          );
+      north = λ j z. least (mesh.prev (cell 0 j)) (step_prev mesh laws cut (cell 0 0) (cell 0 j)
+          (linked_cell 0 j grid.wide (omega arith))) (
+            laws.prev_low (cell 0 j) (grid.low 0 j grid.wide (omega arith)),
+            grid.west_shut j (omega arith),
+            ap cut (prev_twice mesh laws (cell 0 j)) ∙ grid.north_shut 0 j grid.wide z,
+          );
     }
 
   -- Two patches.
@@ -156,23 +207,36 @@ module _ (mesh : HalfEdges) (laws : IsQuadManifold mesh) (cut : Cut) (full : IsC
     -- Grids with one first cell have the same cells.
     cells_east : (cell 0 0 ≡ tile 0 0) → (i : ℕ) → i < w → i < v → cell i 0 ≡ tile i 0
     cells_east e zero lw lv = e
-    cells_east e (suc i) lw lv = prev_same mesh laws (cell (suc i) 0) (tile (suc i) 0) (same_Some _ _ (sym (one.east i 0 lw one.tall) ∙ (ap (λ x. mesh.twin (mesh.next x)) (cells_east e i (omega arith) (omega arith)) ∙ two.east i 0 lv two.tall)))
+    cells_east e (suc i) lw lv =
+        prev_same mesh laws (cell (suc i) 0) (tile (suc i) 0)
+        (same_Some _ _ (sym (one.east i 0 lw one.tall)
+        ∙ (ap (λ x. mesh.twin (mesh.next x)) (cells_east e i (omega arith) (omega arith))
+        ∙ two.east i 0 lv two.tall)))
 
     cells_north : (i j : ℕ) → i < w → i < v → cell i 0 ≡ tile i 0 → j < h → j < g → cell i j ≡ tile i j
     cells_north i zero lw lv e lh lg = e
-    cells_north i (suc j) lw lv e lh lg = same_Some _ _ (sym (one.north i j lw lh) ∙ (ap (λ x. mesh.twin (mesh.next (mesh.next x))) (cells_north i j lw lv e (omega arith) (omega arith)) ∙ two.north i j lv lg))
+    cells_north i (suc j) lw lv e lh lg =
+        same_Some _ _ (sym (one.north i j lw lh)
+        ∙ (ap (λ x. mesh.twin (mesh.next (mesh.next x))) (cells_north i j lw lv e (omega arith) (omega arith))
+        ∙ two.north i j lv lg))
 
     not_wider : cell 0 0 ≡ tile 0 0 → (i : ℕ) → suc i ≡ w → suc i < v → ⊥
-    not_wider e i z l = true≢false (sym (one.east_shut i 0 z one.tall) ∙ (ap (λ x. cut (mesh.next x)) (cells_east e i (omega arith) (omega arith)) ∙ two.east_open i 0 l two.tall))
+    not_wider e i z l = true≢false (sym (one.east_shut i 0 z one.tall)
+        ∙ (ap (λ x. cut (mesh.next x)) (cells_east e i (omega arith) (omega arith)) ∙ two.east_open i 0 l two.tall))
 
     not_taller : cell 0 0 ≡ tile 0 0 → (j : ℕ) → suc j ≡ h → suc j < g → ⊥
-    not_taller e j z l = true≢false (sym (one.north_shut 0 j one.wide z) ∙ (ap (λ x. cut (mesh.next (mesh.next x))) (cells_north 0 j one.wide two.wide e (omega arith) (omega arith)) ∙ two.north_open 0 j two.wide l))
+    not_taller e j z l = true≢false (sym (one.north_shut 0 j one.wide z)
+        ∙ (ap (λ x. cut (mesh.next (mesh.next x))) (cells_north 0 j one.wide two.wide e (omega arith) (omega arith))
+        ∙ two.north_open 0 j two.wide l))
 
-  pub one_grid : (w h v g : ℕ) (cell tile : Cells) → IsGrid mesh cut w h cell → IsGrid mesh cut v g tile → cell 0 0 ≡ tile 0 0 → AreOne w h v g cell tile
+  pub one_grid : (w h v g : ℕ) (cell tile : Cells) → IsGrid mesh cut w h cell → IsGrid mesh cut v g tile
+      → cell 0 0 ≡ tile 0 0 → AreOne w h v g cell tile
   one_grid w h v g cell tile one two e = record {
     wide = same_wide;
     tall = same_tall;
-    cells = λ i j li lj. let lv : i < v = omega (arith, same_wide) in cells_north w h v g cell tile one two i j li lv (cells_east w h v g cell tile one two e i li lv) lj (omega (arith, same_tall));
+    cells = λ i j li lj. let lv : i < v = omega (arith, same_wide) in
+        cells_north w h v g cell tile one two i j li lv (cells_east w h v g cell tile one two e i li lv) lj
+        (omega (arith, same_tall));
   }
     where
       width : (n m : ℕ) → suc n ≡ w → suc m ≡ v → w ≡ v
@@ -198,22 +262,30 @@ module _ (mesh : HalfEdges) (laws : IsQuadManifold mesh) (cut : Cut) (full : IsC
       before (suc k) l = (k, refl)
 
       same_wide : w ≡ v
-      same_wide = let a : (k : ℕ) × (suc k ≡ w) = before w one.wide in let b : (k : ℕ) × (suc k ≡ v) = before v two.wide in width a.0 b.0 a.1 b.1
+      same_wide = let a : (k : ℕ) × (suc k ≡ w) = before w one.wide in let b : (k : ℕ) × (suc k ≡ v) =
+          before v two.wide in width a.0 b.0 a.1 b.1
 
       same_tall : h ≡ g
-      same_tall = let a : (k : ℕ) × (suc k ≡ h) = before h one.tall in let b : (k : ℕ) × (suc k ≡ g) = before g two.tall in height a.0 b.0 a.1 b.1
+      same_tall = let a : (k : ℕ) × (suc k ≡ h) = before h one.tall in let b : (k : ℕ) × (suc k ≡ g) =
+          before g two.tall in height a.0 b.0 a.1 b.1
 
   -- Patches with a dart in common are one.
-  pub one_patch : (w h v g : ℕ) (cell tile : Cells) → IsPatch mesh cut w h cell → IsPatch mesh cut v g tile → (x : ℕ) → In mesh w h cell x → In mesh v g tile x → AreOne w h v g cell tile
-  one_patch w h v g cell tile one two x ix iy = one_grid w h v g cell tile one.grid two.grid (omega (arith, below, above))
+  pub one_patch : (w h v g : ℕ) (cell tile : Cells) → IsPatch mesh cut w h cell → IsPatch mesh cut v g tile → (x : ℕ)
+      → In mesh w h cell x → In mesh v g tile x → AreOne w h v g cell tile
+  one_patch w h v g cell tile one two x ix iy =
+      one_grid w h v g cell tile one.grid two.grid (omega (arith, below, above))
     where
-      there : (w h v g : ℕ) (cell tile : Cells) → IsGrid mesh cut w h cell → IsGrid mesh cut v g tile → In mesh w h cell x → In mesh v g tile x → In mesh v g tile (cell 0 0)
+      there : (w h v g : ℕ) (cell tile : Cells) → IsGrid mesh cut w h cell → IsGrid mesh cut v g tile
+          → In mesh w h cell x → In mesh v g tile x → In mesh v g tile (cell 0 0)
       there w h v g cell tile a b i j =
-          let back : AreLinked mesh cut x (cell 0 0) = linked_back (cell 0 0) x (a.low 0 0 a.wide a.tall) (linked_in w h cell a x i) in
+          let back : AreLinked mesh cut x (cell 0 0) =
+          linked_back (cell 0 0) x (a.low 0 0 a.wide a.tall) (linked_in w h cell a x i) in
           closed v g tile b x (cell 0 0) back.0 back.1 j
 
       below : tile 0 0 ≤ cell 0 0
-      below = least_in v g tile two.grid (tile 0 0) (cell 0 0) (least_first v g tile two) (there w h v g cell tile one.grid two.grid ix iy) (first_corner w h cell one.grid)
+      below = least_in v g tile two.grid (tile 0 0) (cell 0 0) (least_first v g tile two)
+          (there w h v g cell tile one.grid two.grid ix iy) (first_corner w h cell one.grid)
 
       above : cell 0 0 ≤ tile 0 0
-      above = least_in w h cell one.grid (cell 0 0) (tile 0 0) (least_first w h cell one) (there v g w h tile cell two.grid one.grid iy ix) (first_corner v g tile two.grid)
+      above = least_in w h cell one.grid (cell 0 0) (tile 0 0) (least_first w h cell one)
+          (there v g w h tile cell two.grid one.grid iy ix) (first_corner v g tile two.grid)

@@ -45,7 +45,9 @@ module _ (mesh : HalfEdges) (laws : IsQuadManifold mesh) where
   -- A turn leads to another dart.
   pub no_fix : (d : ℕ) → d < mesh.count → mesh.twin (mesh.prev d) ≡ Some d → ⊥
   no_fix d l t =
-      let ends : (mesh.from d ≡ mesh.from (mesh.next (mesh.prev d))) × (mesh.from (mesh.next d) ≡ mesh.from (mesh.prev d)) = laws.twin_ends (mesh.prev d) d (laws.prev_low d l) t in
+      let ends : (mesh.from d ≡ mesh.from (mesh.next (mesh.prev d)))
+      × (mesh.from (mesh.next d) ≡ mesh.from (mesh.prev d)) =
+      laws.twin_ends (mesh.prev d) d (laws.prev_low d l) t in
       (laws.corners_differ (mesh.next d) (laws.next_low d l)).1 (ends.1 ∙ ap mesh.from (prev_three mesh laws d))
 
   module _ (v : ℕ) (round : IsRound mesh v) (d : ℕ) (leaves : Leaves mesh v d) where
@@ -56,70 +58,114 @@ module _ (mesh : HalfEdges) (laws : IsQuadManifold mesh) where
         on : (x : ℕ) → Leaves mesh v x → Leaves mesh v (or_zero (mesh.twin (mesh.prev x)))
         on x l =
             let t : (t : ℕ) × (mesh.twin (mesh.prev x) ≡ Some t) = round x l.low l.at in
-            let is : Leaves mesh v t.0 = record { low = turn_low mesh laws x t.0 l.low t.1; at = turn_from mesh laws x t.0 l.low t.1 ∙ l.at } in
+            let is : Leaves mesh v t.0 = record {
+              low = turn_low mesh laws x t.0 l.low t.1;
+              at =
+                  turn_from mesh laws x t.0 l.low t.1 ∙ l.at;
+            } in
             subst (λ (y : ℕ). Leaves mesh v y) (ap or_zero (sym t.1)) is
 
     turned_is : (n : ℕ) → mesh.twin (mesh.prev (turned mesh d n)) ≡ Some (turned mesh d (suc n))
-    turned_is n = let l : Leaves mesh v (turned mesh d n) = turned_leaves n in let t : (t : ℕ) × (mesh.twin (mesh.prev (turned mesh d n)) ≡ Some t) = round (turned mesh d n) l.low l.at in t.1 ∙ ap Some (ap or_zero (sym t.1))
+    turned_is n = let l : Leaves mesh v (turned mesh d n) = turned_leaves n in let t : (t : ℕ)
+        × (mesh.twin (mesh.prev (turned mesh d n)) ≡ Some t) = round (turned mesh d n) l.low l.at in
+        t.1 ∙ ap Some (ap or_zero (sym t.1))
 
     turned_same : (i j : ℕ) → turned mesh d (suc i) ≡ turned mesh d (suc j) → turned mesh d i ≡ turned mesh d j
-    turned_same i j e = turn_same mesh laws (turned mesh d i) (turned mesh d j) (turned mesh d (suc i)) (turned_leaves i).low (turned_leaves j).low (turned_is i) (turned_is j ∙ ap Some (sym e))
+    turned_same i j e = turn_same mesh laws (turned mesh d i) (turned mesh d j) (turned mesh d (suc i))
+        (turned_leaves i).low (turned_leaves j).low (turned_is i) (turned_is j ∙ ap Some (sym e))
 
     -- Where p + 1 turns lead back, all darts that leave v are among them.
-    among : (p : ℕ) → turned mesh d (suc p) ≡ d → (n x : ℕ) → Turns mesh d x n → (i : ℕ) × (i < suc p) × (turned mesh d i ≡ x)
+    among : (p : ℕ) → turned mesh d (suc p) ≡ d → (n x : ℕ) → Turns mesh d x n → (i : ℕ) × (i < suc p)
+        × (turned mesh d i ≡ x)
     among p back zero x t = (0, omega arith, t)
     among p back (suc n) x t = by_step t.0 t.2 (among p back n t.0 t.1) t.3
       where
-        forth : (i : ℕ) → i < suc p → mesh.twin (mesh.prev (turned mesh d i)) ≡ Some x → (i : ℕ) × (i < suc p) × (turned mesh d i ≡ x)
+        forth : (i : ℕ) → i < suc p → mesh.twin (mesh.prev (turned mesh d i)) ≡ Some x → (i : ℕ) × (i < suc p)
+            × (turned mesh d i ≡ x)
         forth i l r = elim (cases_eq i p) [
-          | inl s ↦ (0, omega arith, sym back ∙ (ap (λ k. turned mesh d (suc k)) (sym s) ∙ same_Some (turned mesh d (suc i)) x (sym (turned_is i) ∙ r)))
+          | inl s ↦ (
+            0,
+            omega arith,
+            sym back ∙ (ap (λ k. turned mesh d (suc k)) (sym s)
+                ∙ same_Some (turned mesh d (suc i)) x (sym (turned_is i) ∙ r)),
+          )
           | inr ne ↦ (suc i, omega arith, same_Some (turned mesh d (suc i)) x (sym (turned_is i) ∙ r))
         ]
 
         to_it : (i : ℕ) → x < mesh.count → mesh.twin (mesh.prev x) ≡ Some (turned mesh d (suc i)) → turned mesh d i ≡ x
-        to_it i lx r = turn_same mesh laws (turned mesh d i) x (turned mesh d (suc i)) (turned_leaves i).low lx (turned_is i) r
+        to_it i lx r = turn_same mesh laws (turned mesh d i) x (turned mesh d (suc i)) (turned_leaves i).low lx
+            (turned_is i) r
 
-        back_to : (i : ℕ) → i < suc p → x < mesh.count → mesh.twin (mesh.prev x) ≡ Some (turned mesh d i) → (i : ℕ) × (i < suc p) × (turned mesh d i ≡ x)
+        back_to : (i : ℕ) → i < suc p → x < mesh.count → mesh.twin (mesh.prev x) ≡ Some (turned mesh d i)
+            → (i : ℕ) × (i < suc p) × (turned mesh d i ≡ x)
         back_to zero l lx r = (p, omega arith, to_it p lx (r ∙ ap Some (sym back)))
         back_to (suc i) l lx r = (i, omega arith, to_it i lx r)
 
-        by_step : (y : ℕ) → x < mesh.count → (i : ℕ) × (i < suc p) × (turned mesh d i ≡ y) → AreTurned mesh y x → (i : ℕ) × (i < suc p) × (turned mesh d i ≡ x)
+        by_step : (y : ℕ) → x < mesh.count → (i : ℕ) × (i < suc p) × (turned mesh d i ≡ y) → AreTurned mesh y x
+            → (i : ℕ) × (i < suc p) × (turned mesh d i ≡ x)
         by_step y lx a (inl r) = forth a.0 a.1 (ap (λ z. mesh.twin (mesh.prev z)) a.2 ∙ r)
         by_step y lx a (inr r) = back_to a.0 a.1 lx (r ∙ ap Some (sym a.2))
 
     all_turned : (p : ℕ) → turned mesh d (suc p) ≡ d → AreAll mesh v (suc p) (turned mesh d)
-    all_turned p back x l = let t : (n : ℕ) × Turns mesh d x n = laws.one_fan d x leaves.low l.low (leaves.at ∙ sym l.at) in among p back t.0 x t.1
+    all_turned p back x l = let t : (n : ℕ) × Turns mesh d x n =
+        laws.one_fan d x leaves.low l.low (leaves.at ∙ sym l.at) in among p back t.0 x t.1
 
     -- With four faces all round, the fourth turn is the first that leads back.
     pub four_cross : HasFan mesh v 4 → HasCross mesh d
-    four_cross fan = by_turns (cases_eq (turned mesh d 2) d) (cases_eq (turned mesh d 3) d) (cases_eq (turned mesh d 4) d)
+    four_cross fan = by_turns (cases_eq (turned mesh d 2) d) (cases_eq (turned mesh d 3) d)
+        (cases_eq (turned mesh d 4) d)
       where
-        down : (i j : ℕ) → i < j → turned mesh d i ≡ turned mesh d j → (k : ℕ) × (turned mesh d (suc k) ≡ d) × (suc k ≤ j)
+        down : (i j : ℕ) → i < j → turned mesh d i ≡ turned mesh d j → (k : ℕ) × (turned mesh d (suc k) ≡ d)
+            × (suc k ≤ j)
         down zero (suc j) l e = (j, sym e, omega arith)
-        down (suc i) (suc j) l e = let r : (k : ℕ) × (turned mesh d (suc k) ≡ d) × (suc k ≤ j) = down i j (omega arith) (turned_same i j e) in (r.0, r.1, omega (arith, r.2))
+        down (suc i) (suc j) l e = let r : (k : ℕ) × (turned mesh d (suc k) ≡ d) × (suc k ≤ j) =
+            down i j (omega arith) (turned_same i j e) in (r.0, r.1, omega (arith, r.2))
         down _ zero l e = absurd (omega arith)
 
-        early : (turned mesh d 2 ≡ d → ⊥) → (turned mesh d 3 ≡ d → ⊥) → (turned mesh d 4 ≡ d → ⊥) → (k : ℕ) → turned mesh d (suc k) ≡ d → suc k ≤ 4 → ⊥
+        early : (turned mesh d 2 ≡ d → ⊥) → (turned mesh d 3 ≡ d → ⊥) → (turned mesh d 4 ≡ d → ⊥) → (k : ℕ)
+            → turned mesh d (suc k) ≡ d → suc k ≤ 4 → ⊥
         early two three four zero e l = no_fix d leaves.low (turned_is 0 ∙ ap Some e)
         early two three four (suc zero) e l = two e
         early two three four (suc (suc zero)) e l = three e
         early two three four (suc (suc (suc zero))) e l = four e
         early two three four (suc (suc (suc (suc k)))) e l = omega arith
 
-        apart : (turned mesh d 2 ≡ d → ⊥) → (turned mesh d 3 ≡ d → ⊥) → (turned mesh d 4 ≡ d → ⊥) → (i j : ℕ) → i < 5 → j < 5 → turned mesh d i ≡ turned mesh d j → i ≡ j
+        apart : (turned mesh d 2 ≡ d → ⊥) → (turned mesh d 3 ≡ d → ⊥) → (turned mesh d 4 ≡ d → ⊥) → (i j : ℕ) → i < 5
+            → j < 5 → turned mesh d i ≡ turned mesh d j → i ≡ j
         apart two three four i j li lj e = elim (cases_order i j) [
           | inl s ↦ s
           | inr o ↦ elim o [
-            | inl l ↦ absurd (let r : (k : ℕ) × (turned mesh d (suc k) ≡ d) × (suc k ≤ j) = down i j l e in early two three four r.0 r.1 (omega (arith, r.2)))
-            | inr l ↦ absurd (let r : (k : ℕ) × (turned mesh d (suc k) ≡ d) × (suc k ≤ i) = down j i l (sym e) in early two three four r.0 r.1 (omega (arith, r.2)))
+            | inl l ↦ absurd (let r : (k : ℕ) × (turned mesh d (suc k) ≡ d) × (suc k ≤ j) = down i j l e in
+                early two three four r.0 r.1 (omega (arith, r.2)))
+            | inr l ↦ absurd (let r : (k : ℕ) × (turned mesh d (suc k) ≡ d) × (suc k ≤ i) = down j i l (sym e) in
+                early two three four r.0 r.1 (omega (arith, r.2)))
           ]
         ]
 
-        by_turns : (turned mesh d 2 ≡ d) ⊎ (turned mesh d 2 ≡ d → ⊥) → (turned mesh d 3 ≡ d) ⊎ (turned mesh d 3 ≡ d → ⊥) → (turned mesh d 4 ≡ d) ⊎ (turned mesh d 4 ≡ d → ⊥) → HasCross mesh d
-        by_turns (inl two) three four = absurd (let h : 4 ≤ 2 = fan.most 2 (turned mesh d) (all_turned 1 two) in omega arith)
-        by_turns (inr two) (inl three) four = absurd (let h : 4 ≤ 3 = fan.most 3 (turned mesh d) (all_turned 2 three) in omega arith)
-        by_turns (inr two) (inr three) (inl four) = (turned mesh d 1, turned mesh d 2, turned mesh d 3, record { first = turned_is 0; second = turned_is 1; third = turned_is 2; last = turned_is 3 ∙ ap Some four; apart = λ e. two (sym e) })
-        by_turns (inr two) (inr three) (inr four) = absurd (let h : 5 ≤ 4 = fan.least 5 (turned mesh d) (record { each = λ j l. turned_leaves j; apart = apart two three four }) in omega arith)
+        by_turns : (turned mesh d 2 ≡ d) ⊎ (turned mesh d 2 ≡ d → ⊥) → (turned mesh d 3 ≡ d) ⊎ (turned mesh d 3 ≡ d → ⊥)
+            → (turned mesh d 4 ≡ d) ⊎ (turned mesh d 4 ≡ d → ⊥) → HasCross mesh d
+        by_turns (inl two) three four = absurd (let h : 4 ≤ 2 = fan.most 2 (turned mesh d) (all_turned 1 two) in
+            omega arith)
+        by_turns (inr two) (inl three) four = absurd (let h : 4 ≤ 3 = fan.most 3 (turned mesh d) (all_turned 2 three) in
+            omega arith)
+        by_turns (inr two) (inr three) (inl four) = (
+          turned mesh d 1,
+          turned mesh d 2,
+          turned mesh d 3,
+          record {
+            first = turned_is 0;
+            second = turned_is 1;
+            third = turned_is 2;
+            last = turned_is 3 ∙ ap Some four;
+            apart = λ e. two (sym e);
+          },
+        )
+        by_turns (inr two) (inr three) (inr four) =
+            absurd (let h : 5 ≤ 4 = fan.least 5 (turned mesh d) (record {
+              each = λ j l. turned_leaves j;
+              apart =
+                  apart two three four;
+            }) in omega arith)
 
   -- And the other way round: a cross has four darts, all with twins on both sides.
   module _ (d a b c : ℕ) (low : d < mesh.count) (cross : IsCross mesh d a b c) where
@@ -149,13 +195,16 @@ module _ (mesh : HalfEdges) (laws : IsQuadManifold mesh) where
         along zero x t = inl (sym t)
         along (suc n) x t = by_step t.0 t.2 (along n t.0 t.1) t.3
           where
-            to : (y z : ℕ) → mesh.twin (mesh.prev y) ≡ Some z → (s : ℕ) → s ≡ y → mesh.twin (mesh.prev s) ≡ Some x → x ≡ z
+            to : (y z : ℕ) → mesh.twin (mesh.prev y) ≡ Some z → (s : ℕ) → s ≡ y → mesh.twin (mesh.prev s) ≡ Some x
+                → x ≡ z
             to y z is s e r = same_Some x z (sym r ∙ (ap (λ k. mesh.twin (mesh.prev k)) e ∙ is))
 
-            of : (y z : ℕ) → y < mesh.count → x < mesh.count → mesh.twin (mesh.prev y) ≡ Some z → (s : ℕ) → s ≡ z → mesh.twin (mesh.prev x) ≡ Some s → x ≡ y
+            of : (y z : ℕ) → y < mesh.count → x < mesh.count → mesh.twin (mesh.prev y) ≡ Some z → (s : ℕ) → s ≡ z
+                → mesh.twin (mesh.prev x) ≡ Some s → x ≡ y
             of y z ly lx is s e r = turn_same mesh laws x y z lx ly (r ∙ ap Some e) is
 
-            by_step : (y : ℕ) → x < mesh.count → (y ≡ d) ⊎ ((y ≡ a) ⊎ ((y ≡ b) ⊎ (y ≡ c))) → AreTurned mesh y x → (x ≡ d) ⊎ ((x ≡ a) ⊎ ((x ≡ b) ⊎ (x ≡ c)))
+            by_step : (y : ℕ) → x < mesh.count → (y ≡ d) ⊎ ((y ≡ a) ⊎ ((y ≡ b) ⊎ (y ≡ c))) → AreTurned mesh y x
+                → (x ≡ d) ⊎ ((x ≡ a) ⊎ ((x ≡ b) ⊎ (x ≡ c)))
             by_step y lx (inl e) (inl r) = inr (inl (to d a cross.first y e r))
             by_step y lx (inr (inl e)) (inl r) = inr (inr (inl (to a b cross.second y e r)))
             by_step y lx (inr (inr (inl e))) (inl r) = inr (inr (inr (to b c cross.third y e r)))
@@ -210,13 +259,19 @@ module _ (mesh : HalfEdges) (laws : IsQuadManifold mesh) where
         each (suc (suc (suc j))) l = record { low = low_c; at = at_c }
 
     -- So each edge at the vertex has two darts.
-    pub both_twins : (x : ℕ) → Leaves mesh (mesh.from d) x → ((t : ℕ) × (mesh.twin (mesh.prev x) ≡ Some t)) × ((t : ℕ) × (mesh.twin x ≡ Some t))
+    pub both_twins : (x : ℕ) → Leaves mesh (mesh.from d) x → ((t : ℕ) × (mesh.twin (mesh.prev x) ≡ Some t))
+        × ((t : ℕ) × (mesh.twin x ≡ Some t))
     both_twins x l = by_one (one_of_four x l)
       where
-        of : (y z w : ℕ) → w < mesh.count → mesh.twin (mesh.prev w) ≡ Some y → mesh.twin (mesh.prev y) ≡ Some z → x ≡ y → ((t : ℕ) × (mesh.twin (mesh.prev x) ≡ Some t)) × ((t : ℕ) × (mesh.twin x ≡ Some t))
-        of y z w lw came is e = ((z, ap (λ k. mesh.twin (mesh.prev k)) e ∙ is), (mesh.prev w, ap mesh.twin e ∙ laws.twin_twin (mesh.prev w) y (laws.prev_low w lw) came))
+        of : (y z w : ℕ) → w < mesh.count → mesh.twin (mesh.prev w) ≡ Some y → mesh.twin (mesh.prev y) ≡ Some z → x ≡ y
+            → ((t : ℕ) × (mesh.twin (mesh.prev x) ≡ Some t)) × ((t : ℕ) × (mesh.twin x ≡ Some t))
+        of y z w lw came is e = (
+          (z, ap (λ k. mesh.twin (mesh.prev k)) e ∙ is),
+          (mesh.prev w, ap mesh.twin e ∙ laws.twin_twin (mesh.prev w) y (laws.prev_low w lw) came),
+        )
 
-        by_one : (x ≡ d) ⊎ ((x ≡ a) ⊎ ((x ≡ b) ⊎ (x ≡ c))) → ((t : ℕ) × (mesh.twin (mesh.prev x) ≡ Some t)) × ((t : ℕ) × (mesh.twin x ≡ Some t))
+        by_one : (x ≡ d) ⊎ ((x ≡ a) ⊎ ((x ≡ b) ⊎ (x ≡ c))) → ((t : ℕ) × (mesh.twin (mesh.prev x) ≡ Some t))
+            × ((t : ℕ) × (mesh.twin x ≡ Some t))
         by_one (inl e) = of d a c low_c cross.last cross.first e
         by_one (inr (inl e)) = of a b d low cross.first cross.second e
         by_one (inr (inr (inl e))) = of b c a low_a cross.second cross.third e

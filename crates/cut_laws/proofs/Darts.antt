@@ -35,11 +35,14 @@ module _ (mesh : HalfEdges) (laws : IsQuadManifold mesh) where
   turn_low d e l t = laws.twin_low (mesh.prev d) e (laws.prev_low d l) t
 
   -- Turns from two darts to one come from one.
-  pub turn_same : (d e t : ℕ) → d < mesh.count → e < mesh.count → mesh.twin (mesh.prev d) ≡ Some t → mesh.twin (mesh.prev e) ≡ Some t → d ≡ e
-  turn_same d e t ld le a b = prev_same d e (twin_same (mesh.prev d) (mesh.prev e) t (laws.prev_low d ld) (laws.prev_low e le) a b)
+  pub turn_same : (d e t : ℕ) → d < mesh.count → e < mesh.count → mesh.twin (mesh.prev d) ≡ Some t
+      → mesh.twin (mesh.prev e) ≡ Some t → d ≡ e
+  turn_same d e t ld le a b =
+      prev_same d e (twin_same (mesh.prev d) (mesh.prev e) t (laws.prev_low d ld) (laws.prev_low e le) a b)
 
   -- Where two turns lead back, the fan has two darts.
-  pub two_darts : (d e : ℕ) → d < mesh.count → e < mesh.count → mesh.twin (mesh.prev d) ≡ Some e → mesh.twin (mesh.prev e) ≡ Some d → (n x : ℕ) → Turns mesh d x n → (x ≡ d) ⊎ (x ≡ e)
+  pub two_darts : (d e : ℕ) → d < mesh.count → e < mesh.count → mesh.twin (mesh.prev d) ≡ Some e
+      → mesh.twin (mesh.prev e) ≡ Some d → (n x : ℕ) → Turns mesh d x n → (x ≡ d) ⊎ (x ≡ e)
   two_darts d e ld le one two zero x t = inl (sym t)
   two_darts d e ld le one two (suc n) x t = by_before t.0 t.2 (two_darts d e ld le one two n t.0 t.1) t.3
     where

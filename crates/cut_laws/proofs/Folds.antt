@@ -1,6 +1,7 @@
 -- No grid of a full cut is folded onto itself: such a fold has a centre, which would be a face, an edge or a vertex
 -- at which no four faces meet.
-use Rattle.std.proofs.Common.{◌≡◌, ◌⊎◌, ℕ, zero, suc, ◌+◌, ◌*◌, ◌-◌, ◌/◌, ◌<◌, ◌≤◌, true, false, Some, sym, ◌∙◌, ap, subst, refl, inl, inr, true≢false, arith}
+use Rattle.std.proofs.Common.{◌≡◌, ◌⊎◌, ℕ, zero, suc, ◌+◌, ◌*◌, ◌-◌, ◌/◌, ◌<◌, ◌≤◌, true, false, Some, sym, ◌∙◌, ap}
+use Rattle.std.proofs.Common.{subst, refl, inl, inr, true≢false, arith}
 use Rattle.std.proofs.lemmas.Bool.{cases_eq, cases_order}
 use Rattle.std.proofs.lemmas.Option.{same_Some}
 use Rattle.def_mesh.specs.HalfEdges.{HalfEdges, Turns, IsQuadManifold}
@@ -27,30 +28,49 @@ module _ (mesh : HalfEdges) (laws : IsQuadManifold mesh) (w h : ℕ) (cell : Cel
   one_more k x at = record { a = at.a; b = at.b; a_low = at.a_low; b_low = at.b_low; is = ap mesh.next at.is }
 
   pub four_less : (k x : ℕ) → At mesh w h cell (suc (suc (suc (suc k)))) x → At mesh w h cell k x
-  four_less k x at = record { a = at.a; b = at.b; a_low = at.a_low; b_low = at.b_low; is = at.is ∙ laws.four_sides (spin mesh k (cell at.a at.b)) }
+  four_less k x at = record {
+    a = at.a;
+    b = at.b;
+    a_low = at.a_low;
+    b_low = at.b_low;
+    is =
+        at.is ∙ laws.four_sides (spin mesh k (cell at.a at.b));
+  }
 
   pub four_more : (k x : ℕ) → At mesh w h cell k x → At mesh w h cell (suc (suc (suc (suc k)))) x
-  four_more k x at = record { a = at.a; b = at.b; a_low = at.a_low; b_low = at.b_low; is = at.is ∙ sym (laws.four_sides (spin mesh k (cell at.a at.b))) }
+  four_more k x at = record {
+    a = at.a;
+    b = at.b;
+    a_low = at.a_low;
+    b_low = at.b_low;
+    is =
+        at.is ∙ sym (laws.four_sides (spin mesh k (cell at.a at.b)));
+  }
 
   pub moved : (k x y : ℕ) → x ≡ y → At mesh w h cell k x → At mesh w h cell k y
   moved k x y e at = subst (λ (z : ℕ). At mesh w h cell k z) e at
 
-module _ (mesh : HalfEdges) (laws : IsQuadManifold mesh) (cut : Cut) (full : IsCut mesh cut) (w h : ℕ) (cell : Cells) (grid : IsGrid mesh cut w h cell) where
+module _ (mesh : HalfEdges) (laws : IsQuadManifold mesh) (cut : Cut) (full : IsCut mesh cut) (w h : ℕ) (cell : Cells)
+    (grid : IsGrid mesh cut w h cell) where
   -- The links from the other side.
   pub west : (i j : ℕ) → suc i < w → j < h → mesh.twin (mesh.prev (cell (suc i) j)) ≡ Some (mesh.next (cell i j))
-  west i j li lj = laws.twin_twin (mesh.next (cell i j)) (mesh.prev (cell (suc i) j)) (laws.next_low (cell i j) (grid.low i j (omega arith) lj)) (grid.east i j li lj)
+  west i j li lj = laws.twin_twin (mesh.next (cell i j)) (mesh.prev (cell (suc i) j))
+      (laws.next_low (cell i j) (grid.low i j (omega arith) lj)) (grid.east i j li lj)
 
   pub north_low : (i j : ℕ) → i < w → j < h → mesh.next (mesh.next (cell i j)) < mesh.count
   north_low i j li lj = laws.next_low (mesh.next (cell i j)) (laws.next_low (cell i j) (grid.low i j li lj))
 
   pub south : (i j : ℕ) → i < w → suc j < h → mesh.twin (cell i (suc j)) ≡ Some (mesh.next (mesh.next (cell i j)))
-  south i j li lj = laws.twin_twin (mesh.next (mesh.next (cell i j))) (cell i (suc j)) (north_low i j li (omega arith)) (grid.north i j li lj)
+  south i j li lj = laws.twin_twin (mesh.next (mesh.next (cell i j))) (cell i (suc j)) (north_low i j li (omega arith))
+      (grid.north i j li lj)
 
   pub west_open : (i j : ℕ) → suc i < w → j < h → cut (mesh.prev (cell (suc i) j)) ≡ false
-  west_open i j li lj = full.alike (mesh.next (cell i j)) (mesh.prev (cell (suc i) j)) (laws.next_low (cell i j) (grid.low i j (omega arith) lj)) (grid.east i j li lj) ∙ grid.east_open i j li lj
+  west_open i j li lj = full.alike (mesh.next (cell i j)) (mesh.prev (cell (suc i) j))
+      (laws.next_low (cell i j) (grid.low i j (omega arith) lj)) (grid.east i j li lj) ∙ grid.east_open i j li lj
 
   pub south_open : (i j : ℕ) → i < w → suc j < h → cut (cell i (suc j)) ≡ false
-  south_open i j li lj = full.alike (mesh.next (mesh.next (cell i j))) (cell i (suc j)) (north_low i j li (omega arith)) (grid.north i j li lj) ∙ grid.north_open i j li lj
+  south_open i j li lj = full.alike (mesh.next (mesh.next (cell i j))) (cell i (suc j)) (north_low i j li (omega arith))
+      (grid.north i j li lj) ∙ grid.north_open i j li lj
 
   -- Over an edge of a cell that is not cut lies another cell.
   clash : (x y : ℕ) → x ≡ y → cut y ≡ true → cut x ≡ false → ⊥
@@ -58,17 +78,41 @@ module _ (mesh : HalfEdges) (laws : IsQuadManifold mesh) (cut : Cut) (full : IsC
 
   over : (k a b x : ℕ) → a < w → b < h → x ≡ spin mesh k (cell a b) → cut x ≡ false → HasOther mesh w h cell k x
   over zero a zero x la lb e off = absurd (clash x (cell a 0) e (grid.south_shut a la) off)
-  over zero a (suc b) x la lb e off = (mesh.next (mesh.next (cell a b)), ap mesh.twin e ∙ south a b la lb, record { a = a; b = b; a_low = la; b_low = omega arith; is = refl })
+  over zero a (suc b) x la lb e off = (
+    mesh.next (mesh.next (cell a b)),
+    ap mesh.twin e ∙ south a b la lb,
+    record { a = a; b = b; a_low = la; b_low = omega arith; is = refl },
+  )
   over (suc zero) a b x la lb e off = elim (cases_eq (suc a) w) [
     | inl z ↦ absurd (clash x (mesh.next (cell a b)) e (grid.east_shut a b z lb) off)
-    | inr ne ↦ let l : suc a < w = omega arith in (mesh.prev (cell (suc a) b), ap mesh.twin e ∙ grid.east a b l lb, record { a = suc a; b = b; a_low = l; b_low = lb; is = prev_three mesh laws (cell (suc a) b) })
+    | inr ne ↦ let l : suc a < w = omega arith in (
+      mesh.prev (cell (suc a) b),
+      ap mesh.twin e ∙ grid.east a b l lb,
+      record { a = suc a; b = b; a_low = l; b_low = lb; is = prev_three mesh laws (cell (suc a) b) },
+    )
   ]
   over (suc (suc zero)) a b x la lb e off = elim (cases_eq (suc b) h) [
     | inl z ↦ absurd (clash x (mesh.next (mesh.next (cell a b))) e (grid.north_shut a b la z) off)
-    | inr ne ↦ let l : suc b < h = omega arith in (cell a (suc b), ap mesh.twin e ∙ grid.north a b la l, record { a = a; b = suc b; a_low = la; b_low = l; is = sym (laws.four_sides (cell a (suc b))) })
+    | inr ne ↦ let l : suc b < h = omega arith in (
+      cell a (suc b),
+      ap mesh.twin e ∙ grid.north a b la l,
+      record {
+        a = a;
+        b = suc b;
+        a_low = la;
+        b_low = l;
+        is =
+            sym (laws.four_sides (cell a (suc b)));
+      },
+    )
   ]
-  over (suc (suc (suc zero))) zero b x la lb e off = absurd (clash x (mesh.prev (cell 0 b)) (e ∙ sym (prev_three mesh laws (cell 0 b))) (grid.west_shut b lb) off)
-  over (suc (suc (suc zero))) (suc a) b x la lb e off = (mesh.next (cell a b), ap mesh.twin (e ∙ sym (prev_three mesh laws (cell (suc a) b))) ∙ west a b la lb, record { a = a; b = b; a_low = omega arith; b_low = lb; is = sym (laws.four_sides (mesh.next (cell a b))) })
+  over (suc (suc (suc zero))) zero b x la lb e off =
+      absurd (clash x (mesh.prev (cell 0 b)) (e ∙ sym (prev_three mesh laws (cell 0 b))) (grid.west_shut b lb) off)
+  over (suc (suc (suc zero))) (suc a) b x la lb e off = (
+    mesh.next (cell a b),
+    ap mesh.twin (e ∙ sym (prev_three mesh laws (cell (suc a) b))) ∙ west a b la lb,
+    record { a = a; b = b; a_low = omega arith; b_low = lb; is = sym (laws.four_sides (mesh.next (cell a b))) },
+  )
   over (suc (suc (suc (suc k)))) a b x la lb e off =
       let o : HasOther mesh w h cell k x = over k a b x la lb (e ∙ laws.four_sides (spin mesh k (cell a b))) off in
       (o.0, o.1, four_more mesh laws w h cell (suc (suc k)) o.0 o.2)
@@ -77,38 +121,61 @@ module _ (mesh : HalfEdges) (laws : IsQuadManifold mesh) (cut : Cut) (full : IsC
   cross k x at off = over k at.a at.b x at.a_low at.b_low at.is off
 
   -- The twin that is known is the one that was found.
-  pub cross_to : (k x t : ℕ) → At mesh w h cell k x → cut x ≡ false → mesh.twin x ≡ Some t → At mesh w h cell (suc (suc k)) t
-  cross_to k x t at off is = let o : HasOther mesh w h cell k x = cross k x at off in moved mesh laws w h cell (suc (suc k)) o.0 t (same_Some o.0 t (sym o.1 ∙ is)) o.2
+  pub cross_to : (k x t : ℕ) → At mesh w h cell k x → cut x ≡ false → mesh.twin x ≡ Some t
+      → At mesh w h cell (suc (suc k)) t
+  cross_to k x t at off is = let o : HasOther mesh w h cell k x = cross k x at off in
+      moved mesh laws w h cell (suc (suc k)) o.0 t (same_Some o.0 t (sym o.1 ∙ is)) o.2
 
   -- What stands over one cell stands over its neighbours.
   at_east : (k i j : ℕ) → suc i < w → j < h → At mesh w h cell k (cell i j) → At mesh w h cell k (cell (suc i) j)
   at_east k i j li lj at =
       let here : At mesh w h cell (suc k) (mesh.next (cell i j)) = one_more mesh laws w h cell k (cell i j) at in
-      let there : At mesh w h cell (suc (suc (suc k))) (mesh.prev (cell (suc i) j)) = cross_to (suc k) (mesh.next (cell i j)) (mesh.prev (cell (suc i) j)) here (grid.east_open i j li lj) (grid.east i j li lj) in
-      let on : At mesh w h cell (suc (suc (suc (suc k)))) (mesh.next (mesh.prev (cell (suc i) j))) = one_more mesh laws w h cell (suc (suc (suc k))) (mesh.prev (cell (suc i) j)) there in
-      four_less mesh laws w h cell k (cell (suc i) j) (moved mesh laws w h cell (suc (suc (suc (suc k)))) (mesh.next (mesh.prev (cell (suc i) j))) (cell (suc i) j) (laws.next_prev (cell (suc i) j)) on)
+      let there : At mesh w h cell (suc (suc (suc k))) (mesh.prev (cell (suc i) j)) =
+      cross_to (suc k) (mesh.next (cell i j)) (mesh.prev (cell (suc i) j)) here (grid.east_open i j li lj)
+      (grid.east i j li lj) in
+      let on : At mesh w h cell (suc (suc (suc (suc k)))) (mesh.next (mesh.prev (cell (suc i) j))) =
+      one_more mesh laws w h cell (suc (suc (suc k))) (mesh.prev (cell (suc i) j)) there in
+      four_less mesh laws w h cell k (cell (suc i) j) (moved mesh laws w h cell (suc (suc (suc (suc k))))
+      (mesh.next (mesh.prev (cell (suc i) j))) (cell (suc i) j) (laws.next_prev (cell (suc i) j)) on)
 
   at_north : (k i j : ℕ) → i < w → suc j < h → At mesh w h cell k (cell i j) → At mesh w h cell k (cell i (suc j))
   at_north k i j li lj at =
-      let here : At mesh w h cell (suc (suc k)) (mesh.next (mesh.next (cell i j))) = one_more mesh laws w h cell (suc k) (mesh.next (cell i j)) (one_more mesh laws w h cell k (cell i j) at) in
-      four_less mesh laws w h cell k (cell i (suc j)) (cross_to (suc (suc k)) (mesh.next (mesh.next (cell i j))) (cell i (suc j)) here (grid.north_open i j li lj) (grid.north i j li lj))
+      let here : At mesh w h cell (suc (suc k)) (mesh.next (mesh.next (cell i j))) =
+      one_more mesh laws w h cell (suc k) (mesh.next (cell i j)) (one_more mesh laws w h cell k (cell i j) at) in
+      four_less mesh laws w h cell k (cell i (suc j)) (cross_to (suc (suc k)) (mesh.next (mesh.next (cell i j)))
+      (cell i (suc j)) here (grid.north_open i j li lj) (grid.north i j li lj))
 
   at_west : (k i j : ℕ) → suc i < w → j < h → At mesh w h cell k (cell (suc i) j) → At mesh w h cell k (cell i j)
   at_west k i j li lj at =
       let c : ℕ = cell (suc i) j in
-      let three : At mesh w h cell (suc (suc (suc k))) (mesh.next (mesh.next (mesh.next c))) = one_more mesh laws w h cell (suc (suc k)) (mesh.next (mesh.next c)) (one_more mesh laws w h cell (suc k) (mesh.next c) (one_more mesh laws w h cell k c at)) in
-      let here : At mesh w h cell (suc (suc (suc k))) (mesh.prev c) = moved mesh laws w h cell (suc (suc (suc k))) (mesh.next (mesh.next (mesh.next c))) (mesh.prev c) (sym (prev_three mesh laws c)) three in
-      let there : At mesh w h cell (suc k) (mesh.next (cell i j)) = four_less mesh laws w h cell (suc k) (mesh.next (cell i j)) (cross_to (suc (suc (suc k))) (mesh.prev c) (mesh.next (cell i j)) here (west_open i j li lj) (west i j li lj)) in
+      let three : At mesh w h cell (suc (suc (suc k))) (mesh.next (mesh.next (mesh.next c))) =
+      one_more mesh laws w h cell (suc (suc k)) (mesh.next (mesh.next c))
+      (one_more mesh laws w h cell (suc k) (mesh.next c) (one_more mesh laws w h cell k c at)) in
+      let here : At mesh w h cell (suc (suc (suc k))) (mesh.prev c) =
+      moved mesh laws w h cell (suc (suc (suc k))) (mesh.next (mesh.next (mesh.next c))) (mesh.prev c)
+      (sym (prev_three mesh laws c)) three in
+      let there : At mesh w h cell (suc k) (mesh.next (cell i j)) =
+      four_less mesh laws w h cell (suc k) (mesh.next (cell i j))
+      (cross_to (suc (suc (suc k))) (mesh.prev c) (mesh.next (cell i j)) here (west_open i j li lj)
+      (west i j li lj)) in
       home k (cell i j) there
     where
       home : (k x : ℕ) → At mesh w h cell (suc k) (mesh.next x) → At mesh w h cell k x
-      home k x at = four_less mesh laws w h cell k x (moved mesh laws w h cell (suc (suc (suc (suc k)))) (mesh.next (mesh.next (mesh.next (mesh.next x)))) x (laws.four_sides x) (one_more mesh laws w h cell (suc (suc (suc k))) (mesh.next (mesh.next (mesh.next x))) (one_more mesh laws w h cell (suc (suc k)) (mesh.next (mesh.next x)) (one_more mesh laws w h cell (suc k) (mesh.next x) at))))
+      home k x at = four_less mesh laws w h cell k x (moved mesh laws w h cell (suc (suc (suc (suc k))))
+          (mesh.next (mesh.next (mesh.next (mesh.next x)))) x (laws.four_sides x)
+          (one_more mesh laws w h cell (suc (suc (suc k))) (mesh.next (mesh.next (mesh.next x)))
+          (one_more mesh laws w h cell (suc (suc k)) (mesh.next (mesh.next x))
+          (one_more mesh laws w h cell (suc k) (mesh.next x) at))))
 
   at_south : (k i j : ℕ) → i < w → suc j < h → At mesh w h cell k (cell i (suc j)) → At mesh w h cell k (cell i j)
   at_south k i j li lj at =
       let x : ℕ = cell i j in
-      let there : At mesh w h cell (suc (suc k)) (mesh.next (mesh.next x)) = cross_to k (cell i (suc j)) (mesh.next (mesh.next x)) at (south_open i j li lj) (south i j li lj) in
-      four_less mesh laws w h cell k x (moved mesh laws w h cell (suc (suc (suc (suc k)))) (mesh.next (mesh.next (mesh.next (mesh.next x)))) x (laws.four_sides x) (one_more mesh laws w h cell (suc (suc (suc k))) (mesh.next (mesh.next (mesh.next x))) (one_more mesh laws w h cell (suc (suc k)) (mesh.next (mesh.next x)) there)))
+      let there : At mesh w h cell (suc (suc k)) (mesh.next (mesh.next x)) =
+      cross_to k (cell i (suc j)) (mesh.next (mesh.next x)) at (south_open i j li lj) (south i j li lj) in
+      four_less mesh laws w h cell k x (moved mesh laws w h cell (suc (suc (suc (suc k))))
+      (mesh.next (mesh.next (mesh.next (mesh.next x)))) x (laws.four_sides x)
+      (one_more mesh laws w h cell (suc (suc (suc k))) (mesh.next (mesh.next (mesh.next x)))
+      (one_more mesh laws w h cell (suc (suc k)) (mesh.next (mesh.next x)) there)))
 
   -- So it stands over each cell.
   to_west : (k i j : ℕ) → i < w → j < h → At mesh w h cell k (cell i j) → At mesh w h cell k (cell 0 j)
@@ -127,17 +194,22 @@ module _ (mesh : HalfEdges) (laws : IsQuadManifold mesh) (cut : Cut) (full : IsC
   to_north k zero lj at = at
   to_north k (suc j) lj at = at_north k 0 j grid.wide lj (to_north k j (omega arith) at)
 
-  pub carry : (k i j a b : ℕ) → i < w → j < h → a < w → b < h → At mesh w h cell k (cell i j) → At mesh w h cell k (cell a b)
+  pub carry : (k i j a b : ℕ) → i < w → j < h → a < w → b < h → At mesh w h cell k (cell i j)
+      → At mesh w h cell k (cell a b)
   carry k i j a b li lj la lb at = to_east k a b la lb (to_north k b lb (to_south k j lj (to_west k i j li lj at)))
 
   -- Equal cells stand in one column and in one row.
   column_less : (n i j a b : ℕ) → a + suc n ≡ w → i < a → j < h → b < h → cell i j ≡ cell a b → ⊥
-  column_less zero i j a b far l lj lb e = true≢false (sym (grid.east_shut a b (omega arith) lb) ∙ (ap (λ x. cut (mesh.next x)) (sym e) ∙ grid.east_open i j (omega arith) lj))
+  column_less zero i j a b far l lj lb e =
+      true≢false (sym (grid.east_shut a b (omega arith) lb)
+      ∙ (ap (λ x. cut (mesh.next x)) (sym e) ∙ grid.east_open i j (omega arith) lj))
   column_less (suc n) i j a b far l lj lb e =
       let la : suc a < w = omega arith in
       let li : suc i < w = omega arith in
-      let same : mesh.prev (cell (suc i) j) ≡ mesh.prev (cell (suc a) b) = same_Some _ _ (sym (grid.east i j li lj) ∙ (ap (λ x. mesh.twin (mesh.next x)) e ∙ grid.east a b la lb)) in
-      column_less n (suc i) j (suc a) b (omega arith) (omega arith) lj lb (prev_same mesh laws (cell (suc i) j) (cell (suc a) b) same)
+      let same : mesh.prev (cell (suc i) j) ≡ mesh.prev (cell (suc a) b) =
+      same_Some _ _ (sym (grid.east i j li lj) ∙ (ap (λ x. mesh.twin (mesh.next x)) e ∙ grid.east a b la lb)) in
+      column_less n (suc i) j (suc a) b (omega arith) (omega arith) lj lb
+      (prev_same mesh laws (cell (suc i) j) (cell (suc a) b) same)
 
   pub same_column : (i j a b : ℕ) → i < w → j < h → a < w → b < h → cell i j ≡ cell a b → i ≡ a
   same_column i j a b li lj la lb e = elim (cases_order i a) [
@@ -149,11 +221,15 @@ module _ (mesh : HalfEdges) (laws : IsQuadManifold mesh) (cut : Cut) (full : IsC
   ]
 
   row_less : (n i j a b : ℕ) → b + suc n ≡ h → j < b → i < w → a < w → cell i j ≡ cell a b → ⊥
-  row_less zero i j a b far l li la e = true≢false (sym (grid.north_shut a b la (omega arith)) ∙ (ap (λ x. cut (mesh.next (mesh.next x))) (sym e) ∙ grid.north_open i j li (omega arith)))
+  row_less zero i j a b far l li la e =
+      true≢false (sym (grid.north_shut a b la (omega arith)) ∙ (ap (λ x. cut (mesh.next (mesh.next x))) (sym e)
+      ∙ grid.north_open i j li (omega arith)))
   row_less (suc n) i j a b far l li la e =
       let lb : suc b < h = omega arith in
       let lj : suc j < h = omega arith in
-      let same : cell i (suc j) ≡ cell a (suc b) = same_Some _ _ (sym (grid.north i j li lj) ∙ (ap (λ x. mesh.twin (mesh.next (mesh.next x))) e ∙ grid.north a b la lb)) in
+      let same : cell i (suc j) ≡ cell a (suc b) =
+      same_Some _ _ (sym (grid.north i j li lj) ∙ (ap (λ x. mesh.twin (mesh.next (mesh.next x))) e
+      ∙ grid.north a b la lb)) in
       row_less n i (suc j) a (suc b) (omega arith) (omega arith) li la same
 
   pub same_row : (i j a b : ℕ) → i < w → j < h → a < w → b < h → cell i j ≡ cell a b → j ≡ b
@@ -166,29 +242,43 @@ module _ (mesh : HalfEdges) (laws : IsQuadManifold mesh) (cut : Cut) (full : IsC
   ]
 
   -- A half turn exchanges east and west, and north and south.
-  turned_column : (n i j a b : ℕ) → i + suc n ≡ w → j < h → a < w → b < h → cell i j ≡ mesh.next (mesh.next (cell a b)) → a ≡ n
+  turned_column : (n i j a b : ℕ) → i + suc n ≡ w → j < h → a < w → b < h → cell i j ≡ mesh.next (mesh.next (cell a b))
+      → a ≡ n
   turned_column zero i j zero b far lj la lb e = refl
   turned_column zero i j (suc a) b far lj la lb e =
-      absurd (true≢false (sym (grid.east_shut i j (omega arith) lj) ∙ (ap (λ x. cut (mesh.next x)) e ∙ (ap cut (sym (prev_three mesh laws (cell (suc a) b))) ∙ west_open a b la lb))))
+      absurd (true≢false (sym (grid.east_shut i j (omega arith) lj)
+      ∙ (ap (λ x. cut (mesh.next x)) e ∙ (ap cut (sym (prev_three mesh laws (cell (suc a) b)))
+      ∙ west_open a b la lb))))
   turned_column (suc n) i j zero b far lj la lb e =
-      absurd (true≢false (sym (grid.west_shut b lb) ∙ (ap cut (prev_three mesh laws (cell 0 b)) ∙ (ap (λ x. cut (mesh.next x)) (sym e) ∙ grid.east_open i j (omega arith) lj))))
+      absurd (true≢false (sym (grid.west_shut b lb)
+      ∙ (ap cut (prev_three mesh laws (cell 0 b))
+      ∙ (ap (λ x. cut (mesh.next x)) (sym e) ∙ grid.east_open i j (omega arith) lj))))
   turned_column (suc n) i j (suc a) b far lj la lb e =
       let li : suc i < w = omega arith in
-      let across : mesh.next (cell i j) ≡ mesh.prev (cell (suc a) b) = ap mesh.next e ∙ sym (prev_three mesh laws (cell (suc a) b)) in
-      let same : mesh.prev (cell (suc i) j) ≡ mesh.next (cell a b) = same_Some _ _ (sym (grid.east i j li lj) ∙ (ap mesh.twin across ∙ west a b la lb)) in
-      let on : cell (suc i) j ≡ mesh.next (mesh.next (cell a b)) = sym (laws.next_prev (cell (suc i) j)) ∙ ap mesh.next same in
+      let across : mesh.next (cell i j) ≡ mesh.prev (cell (suc a) b) =
+      ap mesh.next e ∙ sym (prev_three mesh laws (cell (suc a) b)) in
+      let same : mesh.prev (cell (suc i) j) ≡ mesh.next (cell a b) =
+      same_Some _ _ (sym (grid.east i j li lj) ∙ (ap mesh.twin across ∙ west a b la lb)) in
+      let on : cell (suc i) j ≡ mesh.next (mesh.next (cell a b)) = sym (laws.next_prev (cell (suc i) j))
+      ∙ ap mesh.next same in
       ap suc (turned_column n (suc i) j a b (omega arith) lj (omega arith) lb on)
 
-  turned_row : (n i j a b : ℕ) → j + suc n ≡ h → i < w → a < w → b < h → cell i j ≡ mesh.next (mesh.next (cell a b)) → b ≡ n
+  turned_row : (n i j a b : ℕ) → j + suc n ≡ h → i < w → a < w → b < h → cell i j ≡ mesh.next (mesh.next (cell a b))
+      → b ≡ n
   turned_row zero i j a zero far li la lb e = refl
   turned_row zero i j a (suc b) far li la lb e =
-      absurd (true≢false (sym (grid.north_shut i j li (omega arith)) ∙ (ap (λ x. cut (mesh.next (mesh.next x))) e ∙ (ap cut (laws.four_sides (cell a (suc b))) ∙ south_open a b la lb))))
+      absurd (true≢false (sym (grid.north_shut i j li (omega arith))
+      ∙ (ap (λ x. cut (mesh.next (mesh.next x))) e
+      ∙ (ap cut (laws.four_sides (cell a (suc b))) ∙ south_open a b la lb))))
   turned_row (suc n) i j a zero far li la lb e =
-      absurd (true≢false (sym (grid.south_shut a la) ∙ (ap cut (sym (laws.four_sides (cell a 0))) ∙ (ap (λ x. cut (mesh.next (mesh.next x))) (sym e) ∙ grid.north_open i j li (omega arith)))))
+      absurd (true≢false (sym (grid.south_shut a la) ∙ (ap cut (sym (laws.four_sides (cell a 0)))
+      ∙ (ap (λ x. cut (mesh.next (mesh.next x))) (sym e) ∙ grid.north_open i j li (omega arith)))))
   turned_row (suc n) i j a (suc b) far li la lb e =
       let lj : suc j < h = omega arith in
-      let across : mesh.next (mesh.next (cell i j)) ≡ cell a (suc b) = ap (λ x. mesh.next (mesh.next x)) e ∙ laws.four_sides (cell a (suc b)) in
-      let same : cell i (suc j) ≡ mesh.next (mesh.next (cell a b)) = same_Some _ _ (sym (grid.north i j li lj) ∙ (ap mesh.twin across ∙ south a b la lb)) in
+      let across : mesh.next (mesh.next (cell i j)) ≡ cell a (suc b) = ap (λ x. mesh.next (mesh.next x)) e
+      ∙ laws.four_sides (cell a (suc b)) in
+      let same : cell i (suc j) ≡ mesh.next (mesh.next (cell a b)) =
+      same_Some _ _ (sym (grid.north i j li lj) ∙ (ap mesh.twin across ∙ south a b la lb)) in
       ap suc (turned_row n i (suc j) a b (omega arith) li la (omega arith) same)
 
   -- The centre of a half turn as a face, as an edge, and as a vertex.
@@ -197,15 +287,20 @@ module _ (mesh : HalfEdges) (laws : IsQuadManifold mesh) (cut : Cut) (full : IsC
 
   at_east_edge : (i j : ℕ) → suc i < w → j < h → cell i j ≡ mesh.next (mesh.next (cell (suc i) j)) → ⊥
   at_east_edge i j li lj e =
-      let self : mesh.next (cell i j) ≡ mesh.prev (cell (suc i) j) = ap mesh.next e ∙ sym (prev_three mesh laws (cell (suc i) j)) in
-      no_self mesh laws (mesh.next (cell i j)) (laws.next_low (cell i j) (grid.low i j (omega arith) lj)) (grid.east i j li lj ∙ ap Some (sym self))
+      let self : mesh.next (cell i j) ≡ mesh.prev (cell (suc i) j) =
+      ap mesh.next e ∙ sym (prev_three mesh laws (cell (suc i) j)) in
+      no_self mesh laws (mesh.next (cell i j)) (laws.next_low (cell i j) (grid.low i j (omega arith) lj))
+      (grid.east i j li lj ∙ ap Some (sym self))
 
   at_north_edge : (i j : ℕ) → i < w → suc j < h → cell i j ≡ mesh.next (mesh.next (cell i (suc j))) → ⊥
   at_north_edge i j li lj e =
-      let self : mesh.next (mesh.next (cell i j)) ≡ cell i (suc j) = ap (λ x. mesh.next (mesh.next x)) e ∙ laws.four_sides (cell i (suc j)) in
-      no_self mesh laws (mesh.next (mesh.next (cell i j))) (north_low i j li (omega arith)) (grid.north i j li lj ∙ ap Some (sym self))
+      let self : mesh.next (mesh.next (cell i j)) ≡ cell i (suc j) = ap (λ x. mesh.next (mesh.next x)) e
+      ∙ laws.four_sides (cell i (suc j)) in
+      no_self mesh laws (mesh.next (mesh.next (cell i j))) (north_low i j li (omega arith)) (grid.north i j li lj
+      ∙ ap Some (sym self))
 
-  two_turns : (d e : ℕ) → d < mesh.count → mesh.twin (mesh.prev d) ≡ Some e → mesh.twin (mesh.prev e) ≡ Some d → cut d ≡ false → cut (mesh.prev d) ≡ false → cut e ≡ false → cut (mesh.prev e) ≡ false → ⊥
+  two_turns : (d e : ℕ) → d < mesh.count → mesh.twin (mesh.prev d) ≡ Some e → mesh.twin (mesh.prev e) ≡ Some d
+      → cut d ≡ false → cut (mesh.prev d) ≡ false → cut e ≡ false → cut (mesh.prev e) ≡ false → ⊥
   two_turns d e ld one two off_d off_pd off_e off_pe = crossed (full.crossed d ld uncut)
     where
       le : e < mesh.count
@@ -216,7 +311,8 @@ module _ (mesh : HalfEdges) (laws : IsQuadManifold mesh) (cut : Cut) (full : IsC
       off x (inr s) = (ap cut s ∙ off_e, ap (λ z. cut (mesh.prev z)) s ∙ off_pe)
 
       uncut : IsUncut mesh cut (mesh.from d)
-      uncut x lx s = let t : (n : ℕ) × Turns mesh d x n = laws.one_fan d x ld lx (sym s) in off x (two_darts mesh laws d e ld le one two t.0 x t.1)
+      uncut x lx s = let t : (n : ℕ) × Turns mesh d x n = laws.one_fan d x ld lx (sym s) in
+          off x (two_darts mesh laws d e ld le one two t.0 x t.1)
 
       crossed : HasCross mesh d → ⊥
       crossed c = apart c.0 c.1 c.2 c.3
@@ -231,52 +327,86 @@ module _ (mesh : HalfEdges) (laws : IsQuadManifold mesh) (cut : Cut) (full : IsC
       let d : ℕ = cell (suc i) (suc j) in
       let f : ℕ = mesh.prev (cell (suc i) j) in
       let before : mesh.prev d ≡ mesh.next (cell i j) = prev_three mesh laws d ∙ ap mesh.next (sym e) in
-      let above : mesh.prev f ≡ mesh.next (mesh.next (cell (suc i) j)) = prev_three mesh laws f ∙ ap (λ x. mesh.next (mesh.next x)) (laws.next_prev (cell (suc i) j)) in
-      two_turns d f (grid.low (suc i) (suc j) li lj) (ap mesh.twin before ∙ grid.east i j li (omega arith)) (ap mesh.twin above ∙ grid.north (suc i) j li lj)
-      (south_open (suc i) j li lj) (ap cut before ∙ grid.east_open i j li (omega arith)) (west_open i j li (omega arith)) (ap cut above ∙ grid.north_open (suc i) j li lj)
+      let above : mesh.prev f ≡ mesh.next (mesh.next (cell (suc i) j)) = prev_three mesh laws f
+      ∙ ap (λ x. mesh.next (mesh.next x)) (laws.next_prev (cell (suc i) j)) in
+      two_turns d f (grid.low (suc i) (suc j) li lj) (ap mesh.twin before ∙ grid.east i j li (omega arith))
+      (ap mesh.twin above ∙ grid.north (suc i) j li lj)
+      (south_open (suc i) j li lj) (ap cut before ∙ grid.east_open i j li (omega arith))
+      (west_open i j li (omega arith)) (ap cut above ∙ grid.north_open (suc i) j li lj)
 
   -- No half turn: at a cell in the middle it leads to the cell itself, or to one beside it.
   pub no_half_turn : (i j : ℕ) → i < w → j < h → At mesh w h cell 2 (cell i j) → ⊥
-  no_half_turn i j li lj at = by_middle ((w - 1) / 2) ((h - 1) / 2) (omega arith) (omega arith) (omega arith) (omega arith)
+  no_half_turn i j li lj at = by_middle ((w - 1) / 2) ((h - 1) / 2) (omega arith) (omega arith) (omega arith)
+      (omega arith)
     where
       by_middle : (x y : ℕ) → 2 * x < w → w ≤ 2 * x + 2 → 2 * y < h → h ≤ 2 * y + 2 → ⊥
       by_middle x y xl xh yl yh = by_at (carry 2 i j x y li lj (omega arith) (omega arith) at)
         where
           by_at : At mesh w h cell 2 (cell x y) → ⊥
           by_at c =
-              let column : c.a ≡ w - suc x = turned_column (w - suc x) x y c.a c.b (omega arith) (omega arith) c.a_low c.b_low c.is in
-              let row : c.b ≡ h - suc y = turned_row (h - suc y) x y c.a c.b (omega arith) (omega arith) c.a_low c.b_low c.is in
+              let column : c.a ≡ w - suc x = turned_column (w - suc x) x y c.a c.b (omega arith) (omega arith) c.a_low
+              c.b_low c.is in
+              let row : c.b ≡ h - suc y = turned_row (h - suc y) x y c.a c.b (omega arith) (omega arith) c.a_low c.b_low
+              c.is in
               by_place c.a c.b column row c.is (cases_eq c.a x) (cases_eq c.b y)
             where
-              by_place : (a b : ℕ) → a ≡ w - suc x → b ≡ h - suc y → cell x y ≡ mesh.next (mesh.next (cell a b)) → (a ≡ x) ⊎ (a ≡ x → ⊥) → (b ≡ y) ⊎ (b ≡ y → ⊥) → ⊥
-              by_place a b column row is (inl p) (inl q) = at_face x y (omega arith) (omega arith) (is ∙ ap (λ z. mesh.next (mesh.next z)) (ap (λ z. cell z b) p ∙ ap (cell x) q))
-              by_place a b column row is (inr p) (inl q) = let on : a ≡ suc x = omega arith in at_east_edge x y (omega arith) (omega arith) (is ∙ ap (λ z. mesh.next (mesh.next z)) (ap (λ z. cell z b) on ∙ ap (cell (suc x)) q))
-              by_place a b column row is (inl p) (inr q) = let up : b ≡ suc y = omega arith in at_north_edge x y (omega arith) (omega arith) (is ∙ ap (λ z. mesh.next (mesh.next z)) (ap (λ z. cell z b) p ∙ ap (cell x) up))
+              by_place : (a b : ℕ) → a ≡ w - suc x → b ≡ h - suc y → cell x y ≡ mesh.next (mesh.next (cell a b))
+                  → (a ≡ x) ⊎ (a ≡ x → ⊥) → (b ≡ y) ⊎ (b ≡ y → ⊥) → ⊥
+              by_place a b column row is (inl p) (inl q) =
+                  at_face x y (omega arith) (omega arith) (is ∙ ap (λ z. mesh.next (mesh.next z)) (ap (λ z. cell z b) p
+                  ∙ ap (cell x) q))
+              by_place a b column row is (inr p) (inl q) = let on : a ≡ suc x = omega arith in
+                  at_east_edge x y (omega arith) (omega arith)
+                  (is ∙ ap (λ z. mesh.next (mesh.next z)) (ap (λ z. cell z b) on ∙ ap (cell (suc x)) q))
+              by_place a b column row is (inl p) (inr q) = let up : b ≡ suc y = omega arith in
+                  at_north_edge x y (omega arith) (omega arith)
+                  (is ∙ ap (λ z. mesh.next (mesh.next z)) (ap (λ z. cell z b) p ∙ ap (cell x) up))
               by_place a b column row is (inr p) (inr q) =
                   let on : a ≡ suc x = omega arith in
                   let up : b ≡ suc y = omega arith in
-                  at_vertex x y (omega arith) (omega arith) (is ∙ ap (λ z. mesh.next (mesh.next z)) (ap (λ z. cell z b) on ∙ ap (cell (suc x)) up))
+                  at_vertex x y (omega arith) (omega arith)
+                  (is ∙ ap (λ z. mesh.next (mesh.next z)) (ap (λ z. cell z b) on ∙ ap (cell (suc x)) up))
 
   -- No quarter turn either: done twice it is a half turn.
   no_quarter : (i j : ℕ) → i < w → j < h → At mesh w h cell 1 (cell i j) → ⊥
   no_quarter i j li lj at = by_next (carry 1 i j at.a at.b li lj at.a_low at.b_low at)
     where
       by_next : At mesh w h cell 1 (cell at.a at.b) → ⊥
-      by_next two = no_half_turn i j li lj (record { a = two.a; b = two.b; a_low = two.a_low; b_low = two.b_low; is = at.is ∙ ap mesh.next two.is })
+      by_next two = no_half_turn i j li lj (record {
+        a = two.a;
+        b = two.b;
+        a_low = two.a_low;
+        b_low = two.b_low;
+        is =
+            at.is ∙ ap mesh.next two.is;
+      })
 
   no_three : (i j : ℕ) → i < w → j < h → At mesh w h cell 3 (cell i j) → ⊥
   no_three i j li lj at = by_next (carry 3 i j at.a at.b li lj at.a_low at.b_low at)
     where
       by_next : At mesh w h cell 3 (cell at.a at.b) → ⊥
-      by_next two = no_half_turn i j li lj (four_less mesh laws w h cell 2 (cell i j) (record { a = two.a; b = two.b; a_low = two.a_low; b_low = two.b_low; is = at.is ∙ ap (λ x. mesh.next (mesh.next (mesh.next x))) two.is }))
+      by_next two = no_half_turn i j li lj
+          (four_less mesh laws w h cell 2 (cell i j) (record {
+            a = two.a;
+            b = two.b;
+            a_low = two.a_low;
+            b_low =
+                two.b_low;
+            is = at.is ∙ ap (λ x. mesh.next (mesh.next (mesh.next x))) two.is;
+          }))
 
   -- A cell with a side in common with another is that cell.
   pub no_fold : (k i j a b : ℕ) → i < w → j < h → a < w → b < h → cell i j ≡ spin mesh k (cell a b) → (i ≡ a) × (j ≡ b)
   no_fold zero i j a b li lj la lb e = (same_column i j a b li lj la lb e, same_row i j a b li lj la lb e)
-  no_fold (suc zero) i j a b li lj la lb e = absurd (no_quarter i j li lj (record { a = a; b = b; a_low = la; b_low = lb; is = e }))
-  no_fold (suc (suc zero)) i j a b li lj la lb e = absurd (no_half_turn i j li lj (record { a = a; b = b; a_low = la; b_low = lb; is = e }))
-  no_fold (suc (suc (suc zero))) i j a b li lj la lb e = absurd (no_three i j li lj (record { a = a; b = b; a_low = la; b_low = lb; is = e }))
-  no_fold (suc (suc (suc (suc k)))) i j a b li lj la lb e = no_fold k i j a b li lj la lb (e ∙ laws.four_sides (spin mesh k (cell a b)))
+  no_fold (suc zero) i j a b li lj la lb e =
+      absurd (no_quarter i j li lj (record { a = a; b = b; a_low = la; b_low = lb; is = e }))
+  no_fold (suc (suc zero)) i j a b li lj la lb e =
+      absurd (no_half_turn i j li lj (record { a = a; b = b; a_low = la; b_low = lb; is = e }))
+  no_fold (suc (suc (suc zero))) i j a b li lj la lb e =
+      absurd (no_three i j li lj (record { a = a; b = b; a_low = la; b_low = lb; is = e }))
+  no_fold (suc (suc (suc (suc k)))) i j a b li lj la lb e =
+      no_fold k i j a b li lj la lb (e ∙ laws.four_sides (spin mesh k (cell a b)))
 
 pub no_fold_law : NoFoldLaw
-no_fold_law mesh cut w h cell laws full grid i j a b k li lj la lb e = no_fold mesh laws cut full w h cell grid k i j a b li lj la lb e
+no_fold_law mesh cut w h cell laws full grid i j a b k li lj la lb e =
+    no_fold mesh laws cut full w h cell grid k i j a b li lj la lb e

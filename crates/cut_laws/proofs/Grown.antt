@@ -1,5 +1,6 @@
 -- From each corner grows a grid: rows of one width stand over each other until a cut edge lies to the north.
-use Rattle.std.proofs.Common.{◌≡◌, ◌⊎◌, ℕ, zero, suc, ◌<◌, ◌≤◌, Bool, true, false, Some, sym, ◌∙◌, ap, refl, inl, inr, arith}
+use Rattle.std.proofs.Common.{◌≡◌, ◌⊎◌, ℕ, zero, suc, ◌<◌, ◌≤◌, Bool, true, false, Some, sym, ◌∙◌, ap, refl, inl, inr}
+use Rattle.std.proofs.Common.{arith}
 use Rattle.std.proofs.lemmas.Bool.{cases_eq, cases_Bool}
 use Rattle.def_mesh.specs.HalfEdges.{HalfEdges, IsQuadManifold}
 use Rattle.def_cut.specs.Cuts.{Cut, IsCorner, IsCut}
@@ -7,7 +8,8 @@ use Rattle.def_cut.specs.Grids.{Cells, IsGrid}
 use Rattle.def_cut.specs.Laws.{GridLaw}
 use Rattle.def_cut.specs.Steps.{step_east, easts, norths}
 use Rattle.cut_laws.specs.Grown.{grown, IsRow, IsGrown}
-use Rattle.cut_laws.proofs.Rows.{east_twin, north_twin, row_low, row_south, row_north_on, row_north_off, row_above, next_row, west_on, endless}
+use Rattle.cut_laws.proofs.Rows.{east_twin, north_twin, row_low, row_south, row_north_on, row_north_off, row_above}
+use Rattle.cut_laws.proofs.Rows.{next_row, west_on, endless}
 
 -- The first number up to a bound that passes a test.
 pub record IsFirst (p : ℕ → Bool) (k : ℕ) : Type 0 where
@@ -18,10 +20,12 @@ first_or_none : (p : ℕ → Bool) (n : ℕ) → ((k : ℕ) × IsFirst p k) ⊎ 
 first_or_none p zero = inr (λ i l. absurd (omega arith))
 first_or_none p (suc n) = by_before (first_or_none p n) (cases_Bool (p n))
   where
-    by_before : ((k : ℕ) × IsFirst p k) ⊎ ((i : ℕ) → i < n → p i ≡ false) → (p n ≡ true) ⊎ (p n ≡ false) → ((k : ℕ) × IsFirst p k) ⊎ ((i : ℕ) → i < suc n → p i ≡ false)
+    by_before : ((k : ℕ) × IsFirst p k) ⊎ ((i : ℕ) → i < n → p i ≡ false) → (p n ≡ true) ⊎ (p n ≡ false)
+        → ((k : ℕ) × IsFirst p k) ⊎ ((i : ℕ) → i < suc n → p i ≡ false)
     by_before (inl found) b = inl found
     by_before (inr none) (inl on) = inl (n, record { on = on; before = none })
-    by_before (inr none) (inr off) = inr (λ i l. elim (cases_eq i n) [ inl e ↦ ap p e ∙ off | inr ne ↦ none i (omega arith) ])
+    by_before (inr none) (inr off) =
+        inr (λ i l. elim (cases_eq i n) [ inl e ↦ ap p e ∙ off | inr ne ↦ none i (omega arith) ])
 
 -- A column is a row of the mesh turned by a quarter.
 pub norths_turned : (mesh : HalfEdges) (d j : ℕ) → mesh.next (norths mesh d j) ≡ easts mesh (mesh.next d) j
@@ -32,28 +36,57 @@ module _ (mesh : HalfEdges) (laws : IsQuadManifold mesh) (cut : Cut) (full : IsC
   row_there : (d : ℕ) → IsCorner mesh cut d → (w : ℕ) × IsRow mesh cut d w
   row_there d corner = by_first (first_or_none (λ i. cut (mesh.next (easts mesh d i))) (suc mesh.count))
     where
-      by_first : ((k : ℕ) × IsFirst (λ i. cut (mesh.next (easts mesh d i))) k) ⊎ ((i : ℕ) → i < suc mesh.count → cut (mesh.next (easts mesh d i)) ≡ false) → (w : ℕ) × IsRow mesh cut d w
+      by_first : ((k : ℕ) × IsFirst (λ i. cut (mesh.next (easts mesh d i))) k)
+          ⊎ ((i : ℕ) → i < suc mesh.count → cut (mesh.next (easts mesh d i)) ≡ false) → (w : ℕ) × IsRow mesh cut d w
       by_first (inl f) = at f.0 f.1
         where
           at : (k : ℕ) → IsFirst (λ i. cut (mesh.next (easts mesh d i))) k → (w : ℕ) × IsRow mesh cut d w
-          at k first = (suc k, record { wide = omega arith; low = corner.0; inside = λ i l. first.before i (omega arith); ends = λ i e. ap (λ x. cut (mesh.next (easts mesh d x))) (is i e) ∙ first.on })
+          at k first = (
+            suc k,
+            record {
+              wide = omega arith;
+              low = corner.0;
+              inside =
+                  λ i l. first.before i (omega arith);
+              ends = λ i e. ap (λ x. cut (mesh.next (easts mesh d x))) (is i e)
+                  ∙ first.on;
+            },
+          )
             where
               is : (i : ℕ) → suc i ≡ suc k → i ≡ k
               is i e = omega arith
       by_first (inr none) = absurd (endless mesh laws cut full d corner.0 corner.2 (λ i l. none i (omega arith)))
 
   -- A column whose south edge is cut ends.
-  pub endless_north : (d : ℕ) → d < mesh.count → cut d ≡ true → ((j : ℕ) → j ≤ mesh.count → cut (mesh.next (mesh.next (norths mesh d j))) ≡ false) → ⊥
-  endless_north d l on off = endless mesh laws cut full (mesh.next d) (laws.next_low d l) (ap cut (laws.prev_next d) ∙ on) (λ j h. ap (λ x. cut (mesh.next x)) (sym (norths_turned mesh d j)) ∙ off j h)
+  pub endless_north : (d : ℕ) → d < mesh.count → cut d ≡ true
+      → ((j : ℕ) → j ≤ mesh.count → cut (mesh.next (mesh.next (norths mesh d j))) ≡ false) → ⊥
+  endless_north d l on off = endless mesh laws cut full (mesh.next d) (laws.next_low d l) (ap cut (laws.prev_next d)
+      ∙ on) (λ j h. ap (λ x. cut (mesh.next x)) (sym (norths_turned mesh d j)) ∙ off j h)
 
   grown_there : (d : ℕ) → IsCorner mesh cut d → (w : ℕ) × (h : ℕ) × IsGrown mesh cut d w h
-  grown_there d corner = by_row (row_there d corner) (first_or_none (λ j. cut (mesh.next (mesh.next (norths mesh d j)))) (suc mesh.count))
+  grown_there d corner = by_row (row_there d corner) (first_or_none (λ j. cut (mesh.next (mesh.next (norths mesh d j))))
+      (suc mesh.count))
     where
-      by_row : (w : ℕ) × IsRow mesh cut d w → ((k : ℕ) × IsFirst (λ j. cut (mesh.next (mesh.next (norths mesh d j)))) k) ⊎ ((j : ℕ) → j < suc mesh.count → cut (mesh.next (mesh.next (norths mesh d j))) ≡ false) → (w : ℕ) × (h : ℕ) × IsGrown mesh cut d w h
+      by_row : (w : ℕ) × IsRow mesh cut d w → ((k : ℕ) × IsFirst (λ j. cut (mesh.next (mesh.next (norths mesh d j)))) k)
+          ⊎ ((j : ℕ) → j < suc mesh.count → cut (mesh.next (mesh.next (norths mesh d j))) ≡ false) → (w : ℕ) × (h : ℕ)
+          × IsGrown mesh cut d w h
       by_row r (inl f) = at r.0 r.1 f.0 f.1
         where
-          at : (w : ℕ) → IsRow mesh cut d w → (k : ℕ) → IsFirst (λ j. cut (mesh.next (mesh.next (norths mesh d j)))) k → (w : ℕ) × (h : ℕ) × IsGrown mesh cut d w h
-          at w row k first = (w, suc k, record { wide = row.wide; tall = omega arith; row = row; inside = λ j l. first.before j (omega arith); ends = λ j e. ap (λ x. cut (mesh.next (mesh.next (norths mesh d x)))) (is j e) ∙ first.on })
+          at : (w : ℕ) → IsRow mesh cut d w → (k : ℕ) → IsFirst (λ j. cut (mesh.next (mesh.next (norths mesh d j)))) k
+              → (w : ℕ) × (h : ℕ) × IsGrown mesh cut d w h
+          at w row k first = (
+            w,
+            suc k,
+            record {
+              wide = row.wide;
+              tall = omega arith;
+              row = row;
+              inside =
+                  λ j l. first.before j (omega arith);
+              ends =
+                  λ j e. ap (λ x. cut (mesh.next (mesh.next (norths mesh d x)))) (is j e) ∙ first.on;
+            },
+          )
             where
               is : (j : ℕ) → suc j ≡ suc k → j ≡ k
               is j e = omega arith
@@ -62,11 +95,14 @@ module _ (mesh : HalfEdges) (laws : IsQuadManifold mesh) (cut : Cut) (full : IsC
   -- The rows of what has grown.
   pub row_at : (d w h : ℕ) → IsGrown mesh cut d w h → (j : ℕ) → j < h → IsRow mesh cut (norths mesh d j) w
   row_at d w h g zero l = g.row
-  row_at d w h g (suc j) l = next_row mesh laws cut full (norths mesh d j) w (row_at d w h g j (omega arith)) (g.inside j l)
+  row_at d w h g (suc j) l = next_row mesh laws cut full (norths mesh d j) w (row_at d w h g j (omega arith))
+      (g.inside j l)
 
-  west_at : (d w h : ℕ) → IsGrown mesh cut d w h → cut (mesh.prev d) ≡ true → (j : ℕ) → j < h → cut (mesh.prev (norths mesh d j)) ≡ true
+  west_at : (d w h : ℕ) → IsGrown mesh cut d w h → cut (mesh.prev d) ≡ true → (j : ℕ) → j < h
+      → cut (mesh.prev (norths mesh d j)) ≡ true
   west_at d w h g on zero l = on
-  west_at d w h g on (suc j) l = west_on mesh laws cut full (norths mesh d j) (row_at d w h g j (omega arith)).low (west_at d w h g on j (omega arith)) (g.inside j l)
+  west_at d w h g on (suc j) l = west_on mesh laws cut full (norths mesh d j) (row_at d w h g j (omega arith)).low
+      (west_at d w h g on j (omega arith)) (g.inside j l)
 
   -- What has grown from a corner is a grid.
   pub grown_grid : (d w h : ℕ) → IsCorner mesh cut d → IsGrown mesh cut d w h → IsGrid mesh cut w h (grown mesh d)
@@ -74,14 +110,20 @@ module _ (mesh : HalfEdges) (laws : IsQuadManifold mesh) (cut : Cut) (full : IsC
     wide = g.wide;
     tall = g.tall;
     low = λ i j li lj. row_low mesh laws cut full (norths mesh d j) w (row j lj) i li;
-    east = λ i j li lj. east_twin mesh laws cut full (grown mesh d i j) (row_low mesh laws cut full (norths mesh d j) w (row j lj) i (omega arith)) ((row j lj).inside i li);
-    north = λ i j li lj. north_twin mesh laws cut full (grown mesh d i j) (row_low mesh laws cut full (norths mesh d j) w (row j (omega arith)) i li) (row_north_off mesh laws cut full (norths mesh d j) w (row j (omega arith)) (g.inside j lj) i li) ∙ ap Some (sym (row_above mesh laws cut full (norths mesh d j) w (row j (omega arith)) (g.inside j lj) i li));
+    east = λ i j li lj. east_twin mesh laws cut full (grown mesh d i j) (row_low mesh laws cut full (norths mesh d j) w
+        (row j lj) i (omega arith)) ((row j lj).inside i li);
+    north = λ i j li lj. north_twin mesh laws cut full (grown mesh d i j) (row_low mesh laws cut full (norths mesh d j)
+        w (row j (omega arith)) i li) (row_north_off mesh laws cut full (norths mesh d j) w (row j (omega arith))
+        (g.inside j lj) i li) ∙ ap Some
+        (sym (row_above mesh laws cut full (norths mesh d j) w (row j (omega arith)) (g.inside j lj) i li));
     east_open = λ i j li lj. (row j lj).inside i li;
-    north_open = λ i j li lj. row_north_off mesh laws cut full (norths mesh d j) w (row j (omega arith)) (g.inside j lj) i li;
+    north_open = λ i j li lj. row_north_off mesh laws cut full (norths mesh d j) w (row j (omega arith)) (g.inside j lj)
+        i li;
     south_shut = λ i li. row_south mesh laws cut full d w g.row corner.1 i li;
     west_shut = λ j lj. west_at d w h g corner.2 j lj;
     east_shut = λ i j e lj. (row j lj).ends i e;
-    north_shut = λ i j li e. row_north_on mesh laws cut full (norths mesh d j) w (row j (omega arith)) (g.ends j e) i li;
+    north_shut = λ i j li e. row_north_on mesh laws cut full (norths mesh d j) w (row j (omega arith)) (g.ends j e) i
+        li;
   }
     where
       row : (j : ℕ) → j < h → IsRow mesh cut (norths mesh d j) w
@@ -93,5 +135,6 @@ module _ (mesh : HalfEdges) (laws : IsQuadManifold mesh) (cut : Cut) (full : IsC
 pub grid_law : GridLaw
 grid_law mesh cut laws full d corner = by_grown (grow mesh laws cut full d corner)
   where
-    by_grown : (w : ℕ) × (h : ℕ) × IsGrown mesh cut d w h → (w : ℕ) × (h : ℕ) × (cell : Cells) × (cell 0 0 ≡ d) × IsGrid mesh cut w h cell
+    by_grown : (w : ℕ) × (h : ℕ) × IsGrown mesh cut d w h → (w : ℕ) × (h : ℕ) × (cell : Cells) × (cell 0 0 ≡ d)
+        × IsGrid mesh cut w h cell
     by_grown g = (g.0, g.1, grown mesh d, refl, grown_grid mesh laws cut full d g.0 g.1 corner g.2)

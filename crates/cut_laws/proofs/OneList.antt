@@ -1,5 +1,6 @@
 -- At most one list of patches holds each face once.
-use Rattle.std.proofs.Common.{◌≡◌, ℕ, suc, ◌+◌, ◌*◌, ◌/◌, ◌%◌, ◌<◌, List, [], map, length, get_or, sym, ◌∙◌, ap, subst, refl, arith}
+use Rattle.std.proofs.Common.{◌≡◌, ℕ, suc, ◌+◌, ◌*◌, ◌/◌, ◌%◌, ◌<◌, List, [], map, length, get_or, sym, ◌∙◌, ap, subst}
+use Rattle.std.proofs.Common.{refl, arith}
 use Rattle.std.proofs.Math.Nat.{div-lt_iff_lt-mul}
 use Rattle.std.proofs.lemmas.List.{ext_get_or}
 use Rattle.def_mesh.specs.HalfEdges.{HalfEdges, IsQuadManifold}
@@ -20,7 +21,8 @@ pub place_is : (k w : ℕ) → 0 < w → k ≡ k / w * w + k % w
 place_is k w wide = omega arith
 
 -- Rectangles that have the same cells are equal.
-pub same_rectangle : (p q : Rectangle) → 0 < p.w → length p.cells ≡ p.h * p.w → length q.cells ≡ q.h * q.w → AreOne p.w p.h q.w q.h (cell_of p) (cell_of q) → p ≡ q
+pub same_rectangle : (p q : Rectangle) → 0 < p.w → length p.cells ≡ p.h * p.w → length q.cells ≡ q.h * q.w
+    → AreOne p.w p.h q.w q.h (cell_of p) (cell_of q) → p ≡ q
 same_rectangle p q wide lp lq one = λ i. record { w = one.wide i; h = one.tall i; cells = cells i }
   where
     long : length p.cells ≡ length q.cells
@@ -29,8 +31,11 @@ same_rectangle p q wide lp lq one = λ i. record { w = one.wide i; h = one.tall 
     each : (k : ℕ) → k < length p.cells → get_or p.cells k 0 ≡ get_or q.cells k 0
     each k l =
         let low : k < p.h * p.w = omega (arith, lp) in
-        let here : cell_of p (k % p.w) (k / p.w) ≡ cell_of q (k % p.w) (k / p.w) = one.cells (k % p.w) (k / p.w) (omega arith) (place_row k p.w p.h wide low) in
-        ap (λ x. get_or p.cells x 0) (place_is k p.w wide) ∙ (here ∙ (ap (λ x. get_or q.cells (k / p.w * x + k % p.w) 0) (sym one.wide) ∙ ap (λ x. get_or q.cells x 0) (sym (place_is k p.w wide))))
+        let here : cell_of p (k % p.w) (k / p.w) ≡ cell_of q (k % p.w) (k / p.w) =
+        one.cells (k % p.w) (k / p.w) (omega arith) (place_row k p.w p.h wide low) in
+        ap (λ x. get_or p.cells x 0) (place_is k p.w wide)
+        ∙ (here ∙ (ap (λ x. get_or q.cells (k / p.w * x + k % p.w) 0) (sym one.wide)
+        ∙ ap (λ x. get_or q.cells x 0) (sym (place_is k p.w wide))))
 
     cells : p.cells ≡ q.cells
     cells = ext_get_or 0 p.cells q.cells long each
@@ -51,62 +56,93 @@ LiesInPatch mesh patch x = In mesh patch.w patch.h (cell_of patch) x
 
 module _ (mesh : HalfEdges) (laws : IsQuadManifold mesh) (cut : Cut) (full : IsCut mesh cut) (face : ℕ → ℕ) where
   -- Patches of lists that have a dart in common are equal.
-  pub shared : (ps qs : List Rectangle) → AreTiles mesh cut face ps → AreTiles mesh cut face qs → (p q x : ℕ) → p < length ps → q < length qs → LiesInPatch mesh (patch_at ps p) x → LiesInPatch mesh (patch_at qs q) x → patch_at ps p ≡ patch_at qs q
+  pub shared : (ps qs : List Rectangle) → AreTiles mesh cut face ps → AreTiles mesh cut face qs → (p q x : ℕ)
+      → p < length ps → q < length qs → LiesInPatch mesh (patch_at ps p) x → LiesInPatch mesh (patch_at qs q) x
+      → patch_at ps p ≡ patch_at qs q
   shared ps qs a b p q x lp lq ip iq =
       same_rectangle (patch_at ps p) (patch_at qs q) (a.patch p lp).grid.wide (a.sized p lp) (b.sized q lq)
-      (one_patch mesh laws cut full (patch_at ps p).w (patch_at ps p).h (patch_at qs q).w (patch_at qs q).h (cell_of (patch_at ps p)) (cell_of (patch_at qs q)) (a.patch p lp) (b.patch q lq) x ip iq)
+      (one_patch mesh laws cut full (patch_at ps p).w (patch_at ps p).h (patch_at qs q).w (patch_at qs q).h
+      (cell_of (patch_at ps p)) (cell_of (patch_at qs q)) (a.patch p lp) (b.patch q lq) x ip iq)
 
   -- So in one list they stand at one place,
-  pub same_place : (ps : List Rectangle) → AreTiles mesh cut face ps → (p q x : ℕ) → p < length ps → q < length ps → LiesInPatch mesh (patch_at ps p) x → LiesInPatch mesh (patch_at ps q) x → p ≡ q
+  pub same_place : (ps : List Rectangle) → AreTiles mesh cut face ps → (p q x : ℕ) → p < length ps → q < length ps
+      → LiesInPatch mesh (patch_at ps p) x → LiesInPatch mesh (patch_at ps q) x → p ≡ q
   same_place ps a p q x lp lq ip iq =
-      increasing_place (least_at face ps) (length ps) (record { step = a.ordered }) p q lp lq (ap (λ (r : Rectangle). least_of (map face r.cells)) (shared ps ps a a p q x lp lq ip iq))
+      increasing_place (least_at face ps) (length ps) (record { step = a.ordered }) p q lp lq
+      (ap (λ (r : Rectangle). least_of (map face r.cells)) (shared ps ps a a p q x lp lq ip iq))
 
   -- and each cell at one place there.
-  pub once : (ps : List Rectangle) → AreTiles mesh cut face ps → (d p i j k q a b l : ℕ) → p < length ps → q < length ps → IsSide mesh (patch_at ps p) i j k d → IsSide mesh (patch_at ps q) a b l d → (p ≡ q) × (i ≡ a) × (j ≡ b)
-  once ps t d p i j k q a b l lp lq one two = by_place (same_place ps t p q d lp lq (inside p i j k one) (inside q a b l two))
+  pub once : (ps : List Rectangle) → AreTiles mesh cut face ps → (d p i j k q a b l : ℕ) → p < length ps → q < length ps
+      → IsSide mesh (patch_at ps p) i j k d → IsSide mesh (patch_at ps q) a b l d → (p ≡ q) × (i ≡ a) × (j ≡ b)
+  once ps t d p i j k q a b l lp lq one two =
+      by_place (same_place ps t p q d lp lq (inside p i j k one) (inside q a b l two))
     where
       inside : (p i j k : ℕ) → IsSide mesh (patch_at ps p) i j k d → LiesInPatch mesh (patch_at ps p) d
       inside p i j k s = (k, record { a = i; b = j; a_low = s.i_low; b_low = s.j_low; is = s.is })
 
       by_place : p ≡ q → (p ≡ q) × (i ≡ a) × (j ≡ b)
-      by_place same = let f : (i ≡ a) × (j ≡ b) = at (subst (λ (r : ℕ). IsSide mesh (patch_at ps r) a b l d) (sym same) two) in (same, f.0, f.1)
+      by_place same = let f : (i ≡ a) × (j ≡ b) =
+          at (subst (λ (r : ℕ). IsSide mesh (patch_at ps r) a b l d) (sym same) two) in (same, f.0, f.1)
         where
           at : IsSide mesh (patch_at ps p) a b l d → (i ≡ a) × (j ≡ b)
-          at s = let r : (n : ℕ) × (cell_of (patch_at ps p) i j ≡ spin mesh n (cell_of (patch_at ps p) a b)) = spun mesh laws k l (cell_of (patch_at ps p) i j) (cell_of (patch_at ps p) a b) (sym one.is ∙ s.is) in
-              no_fold mesh laws cut full (patch_at ps p).w (patch_at ps p).h (cell_of (patch_at ps p)) (t.patch p lp).grid r.0 i j a b one.i_low one.j_low s.i_low s.j_low r.1
+          at s = let r : (n : ℕ) × (cell_of (patch_at ps p) i j ≡ spin mesh n (cell_of (patch_at ps p) a b)) =
+              spun mesh laws k l (cell_of (patch_at ps p) i j) (cell_of (patch_at ps p) a b) (sym one.is ∙ s.is) in
+              no_fold mesh laws cut full (patch_at ps p).w (patch_at ps p).h (cell_of (patch_at ps p))
+              (t.patch p lp).grid r.0 i j a b one.i_low one.j_low s.i_low s.j_low r.1
 
   tiles : (ps : List Rectangle) → IsPartition mesh cut face ps → AreTiles mesh cut face ps
   tiles ps a = record { patch = a.patch; sized = a.sized; ordered = a.ordered }
 
   -- Each patch of one list stands in the other.
-  found : (ps qs : List Rectangle) → IsPartition mesh cut face ps → IsPartition mesh cut face qs → (p : ℕ) → p < length ps → (q : ℕ) × (q < length qs) × (patch_at ps p ≡ patch_at qs q)
+  found : (ps qs : List Rectangle) → IsPartition mesh cut face ps → IsPartition mesh cut face qs → (p : ℕ)
+      → p < length ps → (q : ℕ) × (q < length qs) × (patch_at ps p ≡ patch_at qs q)
   found ps qs a b p lp = by_cover (b.covers (cell_of (patch_at ps p) 0 0) (grid.low 0 0 grid.wide grid.tall))
     where
       grid : IsGrid mesh cut (patch_at ps p).w (patch_at ps p).h (cell_of (patch_at ps p))
       grid = (a.patch p lp).grid
 
-      by_cover : (q : ℕ) × (i : ℕ) × (j : ℕ) × (k : ℕ) × (q < length qs) × IsSide mesh (patch_at qs q) i j k (cell_of (patch_at ps p) 0 0) → (q : ℕ) × (q < length qs) × (patch_at ps p ≡ patch_at qs q)
+      by_cover : (q : ℕ) × (i : ℕ) × (j : ℕ) × (k : ℕ) × (q < length qs)
+          × IsSide mesh (patch_at qs q) i j k (cell_of (patch_at ps p) 0 0) → (q : ℕ) × (q < length qs)
+          × (patch_at ps p ≡ patch_at qs q)
       by_cover c = at c.0 c.1 c.2 c.3 c.4 c.5
         where
-          at : (q i j k : ℕ) → q < length qs → IsSide mesh (patch_at qs q) i j k (cell_of (patch_at ps p) 0 0) → (q : ℕ) × (q < length qs) × (patch_at ps p ≡ patch_at qs q)
-          at q i j k lq s = (q, lq, shared ps qs (tiles ps a) (tiles qs b) p q (cell_of (patch_at ps p) 0 0) lp lq (0, record { a = 0; b = 0; a_low = grid.wide; b_low = grid.tall; is = refl }) (k, record { a = i; b = j; a_low = s.i_low; b_low = s.j_low; is = s.is }))
+          at : (q i j k : ℕ) → q < length qs → IsSide mesh (patch_at qs q) i j k (cell_of (patch_at ps p) 0 0)
+              → (q : ℕ) × (q < length qs) × (patch_at ps p ≡ patch_at qs q)
+          at q i j k lq s = (
+            q,
+            lq,
+            shared ps qs (tiles ps a) (tiles qs b) p q (cell_of (patch_at ps p) 0 0) lp lq (
+              0,
+              record { a = 0; b = 0; a_low = grid.wide; b_low = grid.tall; is = refl },
+            ) (
+              k,
+              record { a = i; b = j; a_low = s.i_low; b_low = s.j_low; is = s.is },
+            ),
+          )
 
   pub one_list : (ps qs : List Rectangle) → IsPartition mesh cut face ps → IsPartition mesh cut face qs → ps ≡ qs
   one_list ps qs a b = ext_get_or (record { w = 0; h = 0; cells = [] }) ps qs many each
     where
-      least_there : (ps qs : List Rectangle) → IsPartition mesh cut face ps → IsPartition mesh cut face qs → (p : ℕ) → p < length ps → (q : ℕ) × (q < length qs) × (least_at face ps p ≡ least_at face qs q)
-      least_there ps qs a b p l = let f : (q : ℕ) × (q < length qs) × (patch_at ps p ≡ patch_at qs q) = found ps qs a b p l in (f.0, f.1, ap (λ (r : Rectangle). least_of (map face r.cells)) f.2)
+      least_there : (ps qs : List Rectangle) → IsPartition mesh cut face ps → IsPartition mesh cut face qs → (p : ℕ)
+          → p < length ps → (q : ℕ) × (q < length qs) × (least_at face ps p ≡ least_at face qs q)
+      least_there ps qs a b p l = let f : (q : ℕ) × (q < length qs) × (patch_at ps p ≡ patch_at qs q) =
+          found ps qs a b p l in (f.0, f.1, ap (λ (r : Rectangle). least_of (map face r.cells)) f.2)
 
       many : length ps ≡ length qs
-      many = same_many (least_at face ps) (least_at face qs) (length ps) (length qs) (record { step = a.ordered }) (record { step = b.ordered }) (least_there ps qs a b) (least_there qs ps b a)
+      many = same_many (least_at face ps) (least_at face qs) (length ps) (length qs) (record { step = a.ordered })
+          (record { step = b.ordered }) (least_there ps qs a b) (least_there qs ps b a)
 
       each : (p : ℕ) → p < length ps → patch_at ps p ≡ patch_at qs p
       each p l = by_found (found ps qs a b p l)
         where
           by_found : (q : ℕ) × (q < length qs) × (patch_at ps p ≡ patch_at qs q) → patch_at ps p ≡ patch_at qs p
           by_found f =
-              let values : least_at face ps p ≡ least_at face qs p = same_values (least_at face ps) (least_at face qs) (length ps) (length qs) (record { step = a.ordered }) (record { step = b.ordered }) (least_there ps qs a b) (least_there qs ps b a) p l in
-              let place : f.0 ≡ p = increasing_place (least_at face qs) (length qs) (record { step = b.ordered }) f.0 p f.1 (omega (arith, many)) (sym (ap (λ (r : Rectangle). least_of (map face r.cells)) f.2) ∙ values) in
+              let values : least_at face ps p ≡ least_at face qs p =
+              same_values (least_at face ps) (least_at face qs) (length ps) (length qs)
+              (record { step = a.ordered }) (record { step = b.ordered }) (least_there ps qs a b)
+              (least_there qs ps b a) p l in
+              let place : f.0 ≡ p = increasing_place (least_at face qs) (length qs) (record { step = b.ordered }) f.0 p
+              f.1 (omega (arith, many)) (sym (ap (λ (r : Rectangle). least_of (map face r.cells)) f.2) ∙ values) in
               f.2 ∙ ap (patch_at qs) place
 
 pub one_list_law : OneListLaw

@@ -1,5 +1,6 @@
 -- Rows of cells in a full cut: they stay straight, stand one over the other with one width, and end.
-use Rattle.std.proofs.Common.{◌≡◌, ℕ, zero, suc, ◌<◌, ◌≤◌, true, false, Option, Some, None, sym, ◌∙◌, ap, subst, refl, inl, inr, true≢false, arith}
+use Rattle.std.proofs.Common.{◌≡◌, ℕ, zero, suc, ◌<◌, ◌≤◌, true, false, Option, Some, None, sym, ◌∙◌, ap, subst, refl}
+use Rattle.std.proofs.Common.{inl, inr, true≢false, arith}
 use Rattle.std.proofs.lemmas.Bool.{false≢true, true_from_ne_false, false_from_ne_true}
 use Rattle.std.proofs.lemmas.Option.{same_Some}
 use Rattle.def_mesh.specs.HalfEdges.{HalfEdges, AreTurned, Turns, IsQuadManifold}
@@ -22,28 +23,40 @@ module _ (mesh : HalfEdges) (laws : IsQuadManifold mesh) (cut : Cut) (full : IsC
       by_twin None is = absurd (true≢false (sym (full.boundary d l is) ∙ off))
       by_twin (Some t) is = (t, is)
 
-  pub east_twin : (d : ℕ) → d < mesh.count → cut (mesh.next d) ≡ false → mesh.twin (mesh.next d) ≡ Some (mesh.prev (step_east mesh d))
-  east_twin d l off = let t : (t : ℕ) × (mesh.twin (mesh.next d) ≡ Some t) = twin_there (mesh.next d) (laws.next_low d l) off in t.1 ∙ ap Some (sym (laws.prev_next t.0) ∙ ap (λ o. mesh.prev (mesh.next (or_zero o))) (sym t.1))
+  pub east_twin : (d : ℕ) → d < mesh.count → cut (mesh.next d) ≡ false → mesh.twin (mesh.next d)
+      ≡ Some (mesh.prev (step_east mesh d))
+  east_twin d l off = let t : (t : ℕ) × (mesh.twin (mesh.next d) ≡ Some t) =
+      twin_there (mesh.next d) (laws.next_low d l) off in
+      t.1 ∙ ap Some (sym (laws.prev_next t.0) ∙ ap (λ o. mesh.prev (mesh.next (or_zero o))) (sym t.1))
 
-  pub north_twin : (d : ℕ) → d < mesh.count → cut (mesh.next (mesh.next d)) ≡ false → mesh.twin (mesh.next (mesh.next d)) ≡ Some (step_north mesh d)
-  north_twin d l off = let t : (t : ℕ) × (mesh.twin (mesh.next (mesh.next d)) ≡ Some t) = twin_there (mesh.next (mesh.next d)) (laws.next_low (mesh.next d) (laws.next_low d l)) off in t.1 ∙ ap Some (ap or_zero (sym t.1))
+  pub north_twin : (d : ℕ) → d < mesh.count → cut (mesh.next (mesh.next d)) ≡ false
+      → mesh.twin (mesh.next (mesh.next d)) ≡ Some (step_north mesh d)
+  north_twin d l off = let t : (t : ℕ) × (mesh.twin (mesh.next (mesh.next d)) ≡ Some t) =
+      twin_there (mesh.next (mesh.next d)) (laws.next_low (mesh.next d) (laws.next_low d l)) off in
+      t.1 ∙ ap Some (ap or_zero (sym t.1))
 
   pub east_low : (d : ℕ) → d < mesh.count → cut (mesh.next d) ≡ false → step_east mesh d < mesh.count
-  east_low d l off = subst (λ (x : ℕ). x < mesh.count) (laws.next_prev (step_east mesh d)) (laws.next_low (mesh.prev (step_east mesh d)) (laws.twin_low (mesh.next d) (mesh.prev (step_east mesh d)) (laws.next_low d l) (east_twin d l off)))
+  east_low d l off = subst (λ (x : ℕ). x < mesh.count) (laws.next_prev (step_east mesh d))
+      (laws.next_low (mesh.prev (step_east mesh d)) (laws.twin_low (mesh.next d) (mesh.prev (step_east mesh d))
+      (laws.next_low d l) (east_twin d l off)))
 
   pub north_low : (d : ℕ) → d < mesh.count → cut (mesh.next (mesh.next d)) ≡ false → step_north mesh d < mesh.count
-  north_low d l off = laws.twin_low (mesh.next (mesh.next d)) (step_north mesh d) (laws.next_low (mesh.next d) (laws.next_low d l)) (north_twin d l off)
+  north_low d l off = laws.twin_low (mesh.next (mesh.next d)) (step_north mesh d)
+      (laws.next_low (mesh.next d) (laws.next_low d l)) (north_twin d l off)
 
   -- The edge west of the cell that lies east, and the edge south of the one that lies north, is not cut.
   pub west_off : (d : ℕ) → d < mesh.count → cut (mesh.next d) ≡ false → cut (mesh.prev (step_east mesh d)) ≡ false
-  west_off d l off = full.alike (mesh.next d) (mesh.prev (step_east mesh d)) (laws.next_low d l) (east_twin d l off) ∙ off
+  west_off d l off = full.alike (mesh.next d) (mesh.prev (step_east mesh d)) (laws.next_low d l) (east_twin d l off)
+      ∙ off
 
   pub south_off : (d : ℕ) → d < mesh.count → cut (mesh.next (mesh.next d)) ≡ false → cut (step_north mesh d) ≡ false
-  south_off d l off = full.alike (mesh.next (mesh.next d)) (step_north mesh d) (laws.next_low (mesh.next d) (laws.next_low d l)) (north_twin d l off) ∙ off
+  south_off d l off = full.alike (mesh.next (mesh.next d)) (step_north mesh d)
+      (laws.next_low (mesh.next d) (laws.next_low d l)) (north_twin d l off) ∙ off
 
   -- Two neighbouring edges at a vertex that are not cut: then the next one is not cut either, one way round ..
   open_turn : (d e : ℕ) → d < mesh.count → IsOpen mesh cut d → mesh.twin (mesh.prev d) ≡ Some e → IsOpen mesh cut e
-  open_turn d e l free t = (here, false_from_ne_true (cut (mesh.prev e)) (λ on. by_gap (full.gaps (mesh.prev e) (laws.prev_low e le) on)))
+  open_turn d e l free t =
+      (here, false_from_ne_true (cut (mesh.prev e)) (λ on. by_gap (full.gaps (mesh.prev e) (laws.prev_low e le) on)))
     where
       le : e < mesh.count
       le = turn_low mesh laws d e l t
@@ -57,7 +70,8 @@ module _ (mesh : HalfEdges) (laws : IsQuadManifold mesh) (cut : Cut) (full : IsC
       by_gap : GoesOn mesh cut (mesh.prev e) → ⊥
       by_gap (inl on) = true≢false (sym on ∙ (ap cut (laws.next_prev e) ∙ here))
       by_gap (inr g) =
-          let same : g.0 ≡ mesh.prev d = same_Some g.0 (mesh.prev d) (sym g.1 ∙ (ap mesh.twin (laws.next_prev e) ∙ back)) in
+          let same : g.0 ≡ mesh.prev d =
+          same_Some g.0 (mesh.prev d) (sym g.1 ∙ (ap mesh.twin (laws.next_prev e) ∙ back)) in
           true≢false (sym g.2 ∙ (ap (λ x. cut (mesh.next x)) same ∙ (ap cut (laws.next_prev d) ∙ free.0)))
 
   -- .. and so all the way round, back to the first.
@@ -70,9 +84,11 @@ module _ (mesh : HalfEdges) (laws : IsQuadManifold mesh) (cut : Cut) (full : IsC
 
   turn_is : (d : ℕ) → d < mesh.count → IsOpen mesh cut d → mesh.twin (mesh.prev d) ≡ Some (turn d)
   unfolding turn
-  turn_is d l free = let t : (t : ℕ) × (mesh.twin (mesh.prev d) ≡ Some t) = twin_there (mesh.prev d) (laws.prev_low d l) free.1 in t.1 ∙ ap Some (ap or_zero (sym t.1))
+  turn_is d l free = let t : (t : ℕ) × (mesh.twin (mesh.prev d) ≡ Some t) =
+      twin_there (mesh.prev d) (laws.prev_low d l) free.1 in t.1 ∙ ap Some (ap or_zero (sym t.1))
 
-  turns_open : (d : ℕ) → d < mesh.count → IsOpen mesh cut d → (n : ℕ) → (turns d n < mesh.count) × IsOpen mesh cut (turns d n)
+  turns_open : (d : ℕ) → d < mesh.count → IsOpen mesh cut d → (n : ℕ) → (turns d n < mesh.count)
+      × IsOpen mesh cut (turns d n)
   unfolding turns
   turns_open d l free zero = (l, free)
   turns_open d l free (suc n) = on (turns d n) (turns_open d l free n)
@@ -83,15 +99,19 @@ module _ (mesh : HalfEdges) (laws : IsQuadManifold mesh) (cut : Cut) (full : IsC
           let free : IsOpen mesh cut (turn x) = open_turn x (turn x) o.0 o.1 is in
           (turn_low mesh laws x (turn x) o.0 is, free)
 
-  open_back : (d e : ℕ) → d < mesh.count → e < mesh.count → IsOpen mesh cut d → mesh.twin (mesh.prev e) ≡ Some d → IsOpen mesh cut e
+  open_back : (d e : ℕ) → d < mesh.count → e < mesh.count → IsOpen mesh cut d → mesh.twin (mesh.prev e) ≡ Some d
+      → IsOpen mesh cut e
   unfolding turns
-  open_back d e ld le free t = by_round (comes_back mesh.count (turns d) (λ k l. (turns_open d ld free k).0) (λ i j li lj. apart i j))
+  open_back d e ld le free t =
+      by_round (comes_back mesh.count (turns d) (λ k l. (turns_open d ld free k).0) (λ i j li lj. apart i j))
     where
       is : (k : ℕ) → mesh.twin (mesh.prev (turns d k)) ≡ Some (turns d (suc k))
-      is k = let o : (turns d k < mesh.count) × IsOpen mesh cut (turns d k) = turns_open d ld free k in turn_is (turns d k) o.0 o.1
+      is k = let o : (turns d k < mesh.count) × IsOpen mesh cut (turns d k) = turns_open d ld free k in
+          turn_is (turns d k) o.0 o.1
 
       apart : (i j : ℕ) → turns d (suc i) ≡ turns d (suc j) → turns d i ≡ turns d j
-      apart i j s = turn_same mesh laws (turns d i) (turns d j) (turns d (suc i)) (turns_open d ld free i).0 (turns_open d ld free j).0 (is i) (is j ∙ ap Some (sym s))
+      apart i j s = turn_same mesh laws (turns d i) (turns d j) (turns d (suc i)) (turns_open d ld free i).0
+          (turns_open d ld free j).0 (is i) (is j ∙ ap Some (sym s))
 
       by_round : (k : ℕ) × (k < mesh.count) × (turns d (suc k) ≡ d) → IsOpen mesh cut e
       by_round r =
@@ -100,14 +120,16 @@ module _ (mesh : HalfEdges) (laws : IsQuadManifold mesh) (cut : Cut) (full : IsC
           subst (λ (x : ℕ). IsOpen mesh cut x) same o.1
 
   -- Two neighbouring edges that are not cut: no edge at the vertex is cut.
-  pub no_cut : (d : ℕ) → d < mesh.count → IsOpen mesh cut d → (e : ℕ) → e < mesh.count → mesh.from e ≡ mesh.from d → IsOpen mesh cut e
+  pub no_cut : (d : ℕ) → d < mesh.count → IsOpen mesh cut d → (e : ℕ) → e < mesh.count → mesh.from e ≡ mesh.from d
+      → IsOpen mesh cut e
   no_cut d l free e le s = let t : (n : ℕ) × Turns mesh d e n = laws.one_fan d e l le (sym s) in (along t.0 e t.1).1
     where
       along : (n x : ℕ) → Turns mesh d x n → (x < mesh.count) × (IsOpen mesh cut x)
       along zero x t = subst (λ (y : ℕ). (y < mesh.count) × (IsOpen mesh cut y)) t (l, free)
       along (suc n) x t = by_step t.0 (along n t.0 t.1) t.2 t.3
         where
-          by_step : (y : ℕ) → (y < mesh.count) × (IsOpen mesh cut y) → x < mesh.count → AreTurned mesh y x → (x < mesh.count) × (IsOpen mesh cut x)
+          by_step : (y : ℕ) → (y < mesh.count) × (IsOpen mesh cut y) → x < mesh.count → AreTurned mesh y x
+              → (x < mesh.count) × (IsOpen mesh cut x)
           by_step y o lx (inl r) = (lx, open_turn y x o.0 o.1 r)
           by_step y o lx (inr r) = (lx, open_back y x o.0 lx o.1 r)
 
@@ -123,7 +145,8 @@ module _ (mesh : HalfEdges) (laws : IsQuadManifold mesh) (cut : Cut) (full : IsC
       by_gap (inr g) = ap (λ o. cut (mesh.next (or_zero o))) g.1 ∙ g.2
 
   -- The east edge goes on to the north.
-  pub east_on : (d : ℕ) → d < mesh.count → cut (mesh.next d) ≡ true → cut (mesh.next (mesh.next d)) ≡ false → cut (mesh.next (step_north mesh d)) ≡ true
+  pub east_on : (d : ℕ) → d < mesh.count → cut (mesh.next d) ≡ true → cut (mesh.next (mesh.next d)) ≡ false
+      → cut (mesh.next (step_north mesh d)) ≡ true
   east_on d l on off = by_gap (full.gaps (mesh.next d) (laws.next_low d l) on)
     where
       by_gap : GoesOn mesh cut (mesh.next d) → cut (mesh.next (step_north mesh d)) ≡ true
@@ -131,30 +154,47 @@ module _ (mesh : HalfEdges) (laws : IsQuadManifold mesh) (cut : Cut) (full : IsC
       by_gap (inr g) = ap (λ o. cut (mesh.next (or_zero o))) g.1 ∙ g.2
 
   -- The west edge goes on to the north.
-  pub west_on : (d : ℕ) → d < mesh.count → cut (mesh.prev d) ≡ true → cut (mesh.next (mesh.next d)) ≡ false → cut (mesh.prev (step_north mesh d)) ≡ true
-  west_on d l on off = true_from_ne_false (cut (mesh.prev (step_north mesh d))) (λ c. false≢true (sym (no_cut (step_north mesh d) (north_low d l off) (south_off d l off, c) (mesh.prev d) (laws.prev_low d l) meets).0 ∙ on))
+  pub west_on : (d : ℕ) → d < mesh.count → cut (mesh.prev d) ≡ true → cut (mesh.next (mesh.next d)) ≡ false
+      → cut (mesh.prev (step_north mesh d)) ≡ true
+  west_on d l on off = true_from_ne_false (cut (mesh.prev (step_north mesh d)))
+      (λ c. false≢true (sym (no_cut (step_north mesh d) (north_low d l off) (south_off d l off, c) (mesh.prev d)
+      (laws.prev_low d l) meets).0 ∙ on))
     where
       meets : mesh.from (mesh.prev d) ≡ mesh.from (step_north mesh d)
-      meets = ap mesh.from (prev_three mesh laws d) ∙ sym (laws.twin_ends (mesh.next (mesh.next d)) (step_north mesh d) (laws.next_low (mesh.next d) (laws.next_low d l)) (north_twin d l off)).0
+      meets = ap mesh.from (prev_three mesh laws d)
+          ∙ sym (laws.twin_ends (mesh.next (mesh.next d)) (step_north mesh d)
+          (laws.next_low (mesh.next d) (laws.next_low d l)) (north_twin d l off)).0
 
   -- The north edges on both sides of an east edge that is not cut are cut or not together.
-  corner_east : (d : ℕ) → d < mesh.count → cut (mesh.next d) ≡ false → mesh.from (mesh.prev (step_east mesh d)) ≡ mesh.from (mesh.next (mesh.next d))
-  corner_east d l off = (laws.twin_ends (mesh.next d) (mesh.prev (step_east mesh d)) (laws.next_low d l) (east_twin d l off)).0
+  corner_east : (d : ℕ) → d < mesh.count → cut (mesh.next d) ≡ false → mesh.from (mesh.prev (step_east mesh d))
+      ≡ mesh.from (mesh.next (mesh.next d))
+  corner_east d l off = (laws.twin_ends (mesh.next d) (mesh.prev (step_east mesh d)) (laws.next_low d l)
+      (east_twin d l off)).0
 
-  pub north_off : (d : ℕ) → d < mesh.count → cut (mesh.next d) ≡ false → cut (mesh.next (mesh.next d)) ≡ false → cut (mesh.next (mesh.next (step_east mesh d))) ≡ false
+  pub north_off : (d : ℕ) → d < mesh.count → cut (mesh.next d) ≡ false → cut (mesh.next (mesh.next d)) ≡ false
+      → cut (mesh.next (mesh.next (step_east mesh d))) ≡ false
   north_off d l off up =
       let lx : mesh.next (mesh.next d) < mesh.count = laws.next_low (mesh.next d) (laws.next_low d l) in
       let free : IsOpen mesh cut (mesh.next (mesh.next d)) = (up, ap cut (laws.prev_next (mesh.next d)) ∙ off) in
-      let o : IsOpen mesh cut (mesh.prev (step_east mesh d)) = no_cut (mesh.next (mesh.next d)) lx free (mesh.prev (step_east mesh d)) (laws.prev_low (step_east mesh d) (east_low d l off)) (corner_east d l off) in
+      let o : IsOpen mesh cut (mesh.prev (step_east mesh d)) =
+      no_cut (mesh.next (mesh.next d)) lx free (mesh.prev (step_east mesh d))
+      (laws.prev_low (step_east mesh d) (east_low d l off)) (corner_east d l off) in
       ap cut (sym (prev_twice mesh laws (step_east mesh d))) ∙ o.1
 
-  pub north_on : (d : ℕ) → d < mesh.count → cut (mesh.next d) ≡ false → cut (mesh.next (mesh.next d)) ≡ true → cut (mesh.next (mesh.next (step_east mesh d))) ≡ true
-  north_on d l off up = true_from_ne_false (cut (mesh.next (mesh.next (step_east mesh d)))) (λ c. false≢true (sym (no_cut (mesh.prev (step_east mesh d)) (laws.prev_low (step_east mesh d) (east_low d l off)) (west_off d l off, ap cut (prev_twice mesh laws (step_east mesh d)) ∙ c) (mesh.next (mesh.next d)) (laws.next_low (mesh.next d) (laws.next_low d l)) (sym (corner_east d l off))).0 ∙ up))
+  pub north_on : (d : ℕ) → d < mesh.count → cut (mesh.next d) ≡ false → cut (mesh.next (mesh.next d)) ≡ true
+      → cut (mesh.next (mesh.next (step_east mesh d))) ≡ true
+  north_on d l off up = true_from_ne_false (cut (mesh.next (mesh.next (step_east mesh d))))
+      (λ c. false≢true (sym (no_cut (mesh.prev (step_east mesh d)) (laws.prev_low (step_east mesh d) (east_low d l off))
+      (west_off d l off, ap cut (prev_twice mesh laws (step_east mesh d)) ∙ c) (mesh.next (mesh.next d))
+      (laws.next_low (mesh.next d) (laws.next_low d l)) (sym (corner_east d l off))).0 ∙ up))
 
   -- East and north of a cell without a cut edge there: the edge between the two cells above is not cut, and both ways
   -- lead to one cell.
-  pub square : (d : ℕ) → d < mesh.count → cut (mesh.next d) ≡ false → cut (mesh.next (mesh.next d)) ≡ false → (cut (mesh.next (step_north mesh d)) ≡ false) × (step_east mesh (step_north mesh d) ≡ step_north mesh (step_east mesh d))
-  square d l off up = let c : HasCross mesh (mesh.next (mesh.next d)) = cross_at (mesh.next (mesh.next d)) lx free in by_cross c.0 c.1 c.2 c.3
+  pub square : (d : ℕ) → d < mesh.count → cut (mesh.next d) ≡ false → cut (mesh.next (mesh.next d)) ≡ false
+      → (cut (mesh.next (step_north mesh d)) ≡ false)
+      × (step_east mesh (step_north mesh d) ≡ step_north mesh (step_east mesh d))
+  square d l off up = let c : HasCross mesh (mesh.next (mesh.next d)) = cross_at (mesh.next (mesh.next d)) lx free in
+      by_cross c.0 c.1 c.2 c.3
     where
       lx : mesh.next (mesh.next d) < mesh.count
       lx = laws.next_low (mesh.next d) (laws.next_low d l)
@@ -162,18 +202,28 @@ module _ (mesh : HalfEdges) (laws : IsQuadManifold mesh) (cut : Cut) (full : IsC
       free : IsOpen mesh cut (mesh.next (mesh.next d))
       free = (up, ap cut (laws.prev_next (mesh.next d)) ∙ off)
 
-      by_cross : (a b c : ℕ) → IsCross mesh (mesh.next (mesh.next d)) a b c → (cut (mesh.next (step_north mesh d)) ≡ false) × (step_east mesh (step_north mesh d) ≡ step_north mesh (step_east mesh d))
+      by_cross : (a b c : ℕ) → IsCross mesh (mesh.next (mesh.next d)) a b c
+          → (cut (mesh.next (step_north mesh d)) ≡ false)
+          × (step_east mesh (step_north mesh d) ≡ step_north mesh (step_east mesh d))
       by_cross a b c is =
           let x : ℕ = mesh.next (mesh.next d) in
-          let first : a ≡ mesh.prev (step_east mesh d) = same_Some a (mesh.prev (step_east mesh d)) (sym is.first ∙ (ap mesh.twin (laws.prev_next (mesh.next d)) ∙ east_twin d l off)) in
+          let first : a ≡ mesh.prev (step_east mesh d) =
+          same_Some a (mesh.prev (step_east mesh d)) (sym is.first ∙ (ap mesh.twin (laws.prev_next (mesh.next d))
+          ∙ east_twin d l off)) in
           let la : a < mesh.count = turn_low mesh laws x a lx is.first in
           let lb : b < mesh.count = turn_low mesh laws a b la is.second in
           let lc : c < mesh.count = turn_low mesh laws b c lb is.third in
-          let above : step_north mesh (step_east mesh d) ≡ b = ap (λ y. or_zero (mesh.twin y)) (sym (ap mesh.prev first ∙ prev_twice mesh laws (step_east mesh d))) ∙ ap or_zero is.second in
-          let last : mesh.prev c ≡ step_north mesh d = same_Some (mesh.prev c) (step_north mesh d) (sym (laws.twin_twin (mesh.prev c) x (laws.prev_low c lc) is.last) ∙ north_twin d l up) in
+          let above : step_north mesh (step_east mesh d) ≡ b =
+          ap (λ y. or_zero (mesh.twin y)) (sym (ap mesh.prev first ∙ prev_twice mesh laws (step_east mesh d)))
+          ∙ ap or_zero is.second in
+          let last : mesh.prev c ≡ step_north mesh d =
+          same_Some (mesh.prev c) (step_north mesh d)
+          (sym (laws.twin_twin (mesh.prev c) x (laws.prev_low c lc) is.last) ∙ north_twin d l up) in
           let right : c ≡ mesh.next (step_north mesh d) = sym (laws.next_prev c) ∙ ap mesh.next last in
-          let back : mesh.twin (mesh.next (step_north mesh d)) ≡ Some (mesh.prev b) = ap mesh.twin (sym right) ∙ laws.twin_twin (mesh.prev b) c (laws.prev_low b lb) is.third in
-          let at : mesh.from c ≡ mesh.from x = turn_from mesh laws b c lb is.third ∙ (turn_from mesh laws a b la is.second ∙ turn_from mesh laws x a lx is.first) in
+          let back : mesh.twin (mesh.next (step_north mesh d)) ≡ Some (mesh.prev b) = ap mesh.twin (sym right)
+          ∙ laws.twin_twin (mesh.prev b) c (laws.prev_low b lb) is.third in
+          let at : mesh.from c ≡ mesh.from x = turn_from mesh laws b c lb is.third
+          ∙ (turn_from mesh laws a b la is.second ∙ turn_from mesh laws x a lx is.first) in
           let o : IsOpen mesh cut c = no_cut x lx free c lc at in
           (ap cut (sym right) ∙ o.0, ap (λ y. mesh.next (or_zero y)) back ∙ (laws.next_prev b ∙ sym above))
 
@@ -185,41 +235,64 @@ module _ (mesh : HalfEdges) (laws : IsQuadManifold mesh) (cut : Cut) (full : IsC
   -- Its south edges are cut if the first one is.
   pub row_south : (s w : ℕ) → IsRow mesh cut s w → cut s ≡ true → (i : ℕ) → i < w → cut (easts mesh s i) ≡ true
   row_south s w row on zero l = on
-  row_south s w row on (suc i) l = south_on (easts mesh s i) (row_low s w row i (omega arith)) (row_south s w row on i (omega arith)) (row.inside i l)
+  row_south s w row on (suc i) l =
+      south_on (easts mesh s i) (row_low s w row i (omega arith)) (row_south s w row on i (omega arith))
+      (row.inside i l)
 
   -- Its north edges are cut or not together.
-  pub row_north_on : (s w : ℕ) → IsRow mesh cut s w → cut (mesh.next (mesh.next s)) ≡ true → (i : ℕ) → i < w → cut (mesh.next (mesh.next (easts mesh s i))) ≡ true
+  pub row_north_on : (s w : ℕ) → IsRow mesh cut s w → cut (mesh.next (mesh.next s)) ≡ true → (i : ℕ) → i < w
+      → cut (mesh.next (mesh.next (easts mesh s i))) ≡ true
   row_north_on s w row on zero l = on
-  row_north_on s w row on (suc i) l = north_on (easts mesh s i) (row_low s w row i (omega arith)) (row.inside i l) (row_north_on s w row on i (omega arith))
+  row_north_on s w row on (suc i) l = north_on (easts mesh s i) (row_low s w row i (omega arith)) (row.inside i l)
+      (row_north_on s w row on i (omega arith))
 
-  pub row_north_off : (s w : ℕ) → IsRow mesh cut s w → cut (mesh.next (mesh.next s)) ≡ false → (i : ℕ) → i < w → cut (mesh.next (mesh.next (easts mesh s i))) ≡ false
+  pub row_north_off : (s w : ℕ) → IsRow mesh cut s w → cut (mesh.next (mesh.next s)) ≡ false → (i : ℕ) → i < w
+      → cut (mesh.next (mesh.next (easts mesh s i))) ≡ false
   row_north_off s w row off zero l = off
-  row_north_off s w row off (suc i) l = north_off (easts mesh s i) (row_low s w row i (omega arith)) (row.inside i l) (row_north_off s w row off i (omega arith))
+  row_north_off s w row off (suc i) l = north_off (easts mesh s i) (row_low s w row i (omega arith)) (row.inside i l)
+      (row_north_off s w row off i (omega arith))
 
   -- The cells over a row are a row of the same width.
-  pub row_above : (s w : ℕ) → IsRow mesh cut s w → cut (mesh.next (mesh.next s)) ≡ false → (i : ℕ) → i < w → easts mesh (step_north mesh s) i ≡ step_north mesh (easts mesh s i)
+  pub row_above : (s w : ℕ) → IsRow mesh cut s w → cut (mesh.next (mesh.next s)) ≡ false → (i : ℕ) → i < w
+      → easts mesh (step_north mesh s) i ≡ step_north mesh (easts mesh s i)
   row_above s w row off zero l = refl
   row_above s w row off (suc i) l =
-      ap (step_east mesh) (row_above s w row off i (omega arith)) ∙ (square (easts mesh s i) (row_low s w row i (omega arith)) (row.inside i l) (row_north_off s w row off i (omega arith))).1
+      ap (step_east mesh) (row_above s w row off i (omega arith))
+      ∙ (square (easts mesh s i) (row_low s w row i (omega arith)) (row.inside i l)
+      (row_north_off s w row off i (omega arith))).1
 
-  pub next_row : (s w : ℕ) → IsRow mesh cut s w → cut (mesh.next (mesh.next s)) ≡ false → IsRow mesh cut (step_north mesh s) w
+  pub next_row : (s w : ℕ) → IsRow mesh cut s w → cut (mesh.next (mesh.next s)) ≡ false
+      → IsRow mesh cut (step_north mesh s) w
   next_row s w row off = record {
     wide = row.wide;
     low = north_low s row.low off;
-    inside = λ i l. ap (λ x. cut (mesh.next x)) (row_above s w row off i (omega arith)) ∙ (square (easts mesh s i) (row_low s w row i (omega arith)) (row.inside i l) (row_north_off s w row off i (omega arith))).0;
-    ends = λ i e. ap (λ x. cut (mesh.next x)) (row_above s w row off i (omega arith)) ∙ east_on (easts mesh s i) (row_low s w row i (omega arith)) (row.ends i e) (row_north_off s w row off i (omega arith));
+    inside = λ i l. ap (λ x. cut (mesh.next x)) (row_above s w row off i (omega arith))
+        ∙ (square (easts mesh s i) (row_low s w row i (omega arith)) (row.inside i l)
+        (row_north_off s w row off i (omega arith))).0;
+    ends = λ i e. ap (λ x. cut (mesh.next x)) (row_above s w row off i (omega arith))
+        ∙ east_on (easts mesh s i) (row_low s w row i (omega arith)) (row.ends i e)
+        (row_north_off s w row off i (omega arith));
   }
 
   -- A row whose west edge is cut ends.
-  east_same : (d e : ℕ) → d < mesh.count → e < mesh.count → cut (mesh.next d) ≡ false → cut (mesh.next e) ≡ false → step_east mesh d ≡ step_east mesh e → d ≡ e
-  east_same d e ld le offd offe s = next_same mesh laws d e (twin_same mesh laws (mesh.next d) (mesh.next e) (mesh.prev (step_east mesh d)) (laws.next_low d ld) (laws.next_low e le) (east_twin d ld offd) (east_twin e le offe ∙ ap (λ x. Some (mesh.prev x)) (sym s)))
+  east_same : (d e : ℕ) → d < mesh.count → e < mesh.count → cut (mesh.next d) ≡ false → cut (mesh.next e) ≡ false
+      → step_east mesh d ≡ step_east mesh e → d ≡ e
+  east_same d e ld le offd offe s =
+      next_same mesh laws d e (twin_same mesh laws (mesh.next d) (mesh.next e) (mesh.prev (step_east mesh d))
+      (laws.next_low d ld) (laws.next_low e le) (east_twin d ld offd) (east_twin e le offe
+      ∙ ap (λ x. Some (mesh.prev x)) (sym s)))
 
-  pub endless : (d : ℕ) → d < mesh.count → cut (mesh.prev d) ≡ true → ((i : ℕ) → i ≤ mesh.count → cut (mesh.next (easts mesh d i)) ≡ false) → ⊥
-  endless d l on off = by_round (comes_back mesh.count (easts mesh d) low (λ i j li lj s. east_same (easts mesh d i) (easts mesh d j) (low i (omega arith)) (low j (omega arith)) (off i (omega arith)) (off j (omega arith)) s))
+  pub endless : (d : ℕ) → d < mesh.count → cut (mesh.prev d) ≡ true
+      → ((i : ℕ) → i ≤ mesh.count → cut (mesh.next (easts mesh d i)) ≡ false) → ⊥
+  endless d l on off = by_round
+      (comes_back mesh.count (easts mesh d) low (λ i j li lj s. east_same (easts mesh d i) (easts mesh d j)
+      (low i (omega arith)) (low j (omega arith)) (off i (omega arith)) (off j (omega arith)) s))
     where
       low : (i : ℕ) → i ≤ mesh.count → easts mesh d i < mesh.count
       low zero h = l
       low (suc i) h = east_low (easts mesh d i) (low i (omega arith)) (off i (omega arith))
 
       by_round : (k : ℕ) × (k < mesh.count) × (easts mesh d (suc k) ≡ d) → ⊥
-      by_round r = true≢false (sym on ∙ (ap (λ x. cut (mesh.prev x)) (sym r.2) ∙ west_off (easts mesh d r.0) (low r.0 (omega (arith, r.1))) (off r.0 (omega (arith, r.1)))))
+      by_round r = true≢false (sym on
+          ∙ (ap (λ x. cut (mesh.prev x)) (sym r.2) ∙ west_off (easts mesh d r.0) (low r.0 (omega (arith, r.1)))
+          (off r.0 (omega (arith, r.1)))))

@@ -13,14 +13,16 @@ module _ (mesh : HalfEdges) (laws : IsQuadManifold mesh) where
   spin_back (suc k) x = on (spin_back k x)
     where
       home : (m y : ℕ) → spin mesh m y ≡ spin mesh (suc (suc (suc m))) (mesh.next y)
-      home m y = ap (spin mesh m) (sym (laws.four_sides y)) ∙ (spin_next m (mesh.next (mesh.next (mesh.next y))) ∙ ap mesh.next (spin_next m (mesh.next (mesh.next y)) ∙ ap mesh.next (spin_next m (mesh.next y))))
+      home m y = ap (spin mesh m) (sym (laws.four_sides y)) ∙ (spin_next m (mesh.next (mesh.next (mesh.next y)))
+          ∙ ap mesh.next (spin_next m (mesh.next (mesh.next y)) ∙ ap mesh.next (spin_next m (mesh.next y))))
 
       on : (m : ℕ) × (x ≡ spin mesh m (spin mesh k x)) → (m : ℕ) × (x ≡ spin mesh m (spin mesh (suc k) x))
       on b = (suc (suc (suc b.0)), b.1 ∙ home b.0 (spin mesh k x))
 
   pub spin_join : (m l y : ℕ) → (n : ℕ) × (spin mesh m (spin mesh l y) ≡ spin mesh n y)
   spin_join zero l y = (l, refl)
-  spin_join (suc m) l y = let r : (n : ℕ) × (spin mesh m (spin mesh l y) ≡ spin mesh n y) = spin_join m l y in (suc r.0, ap mesh.next r.1)
+  spin_join (suc m) l y = let r : (n : ℕ) × (spin mesh m (spin mesh l y) ≡ spin mesh n y) = spin_join m l y in
+      (suc r.0, ap mesh.next r.1)
 
   -- Two darts with a side in common are sides of each other.
   pub spun : (k l x y : ℕ) → spin mesh k x ≡ spin mesh l y → (n : ℕ) × (x ≡ spin mesh n y)

@@ -35,11 +35,13 @@ TwoLinksLaw = (layout : Layout) → IsSurface layout → (arc : ℕ) → arc < l
 -- A slot is the other one of its other one, which is another slot, and no other slot is.
 abbrev pub SymmetricLaw : Type 0
 SymmetricLaw = (layout : Layout) → IsSurface layout → (one other : Slot) → IsSlot layout one
-    → IsOtherSlot layout one other → IsOtherSlot layout other one × ((next : Slot) → IsOtherSlot layout one next → next ≡ other)
+    → IsOtherSlot layout one other → IsOtherSlot layout other one × ((next : Slot) → IsOtherSlot layout one next
+    → next ≡ other)
 
 -- A block has a link: so many points of its side, from this one on, lie at a point of another block's side.
 abbrev pub HasLink :
-    (links : List (List Link)) (block : ℕ) (side : SideName) (from len other : ℕ) (side' : SideName) (from' : ℕ) → Type 0
+    (links : List (List Link)) (block : ℕ) (side : SideName) (from len other : ℕ) (side' : SideName) (from' : ℕ)
+    → Type 0
 HasLink links block side from len other side' from' = Contains (slice_index_or links block [])
     (record { side = side; from = from; len = len; other = Some (other, side', from') })
 

@@ -18,7 +18,8 @@ side_name west = West
 abbrev pub first_point : (layout : Layout) (lengths : Lengths) (slot : Slot) → ℕ
 first_point layout lengths slot = reach layout lengths slot.patch slot.side slot.at
 
--- The link of a slot: the points of its arc on its side, and where they lie on the side of the other slot, if there is one.
+-- The link of a slot: the points of its arc on its side, and where they lie on the side of the other slot, if there is
+-- one.
 pub record IsLinkOf (layout : Layout) (lengths : Lengths) (slot : Slot) (link : Link) : Type 0 where
   pub side : link.side ≡ side_name slot.side
   pub from : link.from ≡ first_point layout lengths slot

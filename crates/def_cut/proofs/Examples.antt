@@ -51,11 +51,14 @@ notched_why = refl
 -- In each instant first the riders ride, in the order of one list, and then vertices are settled, in that of another.
 abbrev ride_each : (x : EventState) (riders : List ℕ) → EventState
 ride_each x [] = x
-ride_each x (r ∷ rs) = ride_each (elim (may_ride x r) as (λ b. EventState) [ true ↦ after_ride_of (terrain_of notched) x r | false ↦ x ]) rs
+ride_each x (r ∷ rs) = ride_each
+    (elim (may_ride x r) as (λ b. EventState) [ true ↦ after_ride_of (terrain_of notched) x r | false ↦ x ]) rs
 
 abbrev settle_each : (x : EventState) (vertices : List ℕ) → EventState
 settle_each x [] = x
-settle_each x (v ∷ vs) = settle_each (elim (may_settle (terrain_of notched) x v) as (λ b. EventState) [ true ↦ after_settling (terrain_of notched) x v | false ↦ x ]) vs
+settle_each x (v ∷ vs) =
+    settle_each (elim (may_settle (terrain_of notched) x v) as (λ b. EventState)
+    [ true ↦ after_settling (terrain_of notched) x v | false ↦ x ]) vs
 
 abbrev instant : (x : EventState) (riders vertices : List ℕ) → EventState
 instant x rs vs = settle_each (ride_each x rs) vs
@@ -65,13 +68,16 @@ instants x rs vs zero = x
 instants x rs vs (suc n) = instants (instant x rs vs) rs vs n
 
 -- Both orders lead to the same end.
-increasing : stops (instants (first_event_state notched) (range_with_len 0 4) (range_with_len 0 23) 3).riders ≡ notched_stops
+increasing : stops (instants (first_event_state notched) (range_with_len 0 4) (range_with_len 0 23) 3).riders
+    ≡ notched_stops
 increasing = refl
 
-falling : stops (instants (first_event_state notched) (reverse (range_with_len 0 4)) (reverse (range_with_len 0 23)) 3).riders ≡ notched_stops
+falling : stops (instants (first_event_state notched) (reverse (range_with_len 0 4)) (reverse (range_with_len 0 23))
+    3).riders ≡ notched_stops
 falling = refl
 
-falling_rides : rides (instants (first_event_state notched) (reverse (range_with_len 0 4)) (reverse (range_with_len 0 23)) 3).riders ≡ 2 ∷ 3 ∷ 3 ∷ 2 ∷ []
+falling_rides : rides (instants (first_event_state notched) (reverse (range_with_len 0 4))
+    (reverse (range_with_len 0 23)) 3).riders ≡ 2 ∷ 3 ∷ 3 ∷ 2 ∷ []
 falling_rides = refl
 
 -- After the rides of riders 0 and 1 alone nobody may ride again, and nothing may be settled yet.
@@ -86,7 +92,8 @@ not_yet = refl
 
 -- In the second instant, after vertex 15 alone is settled, rider 0 has its stop and rider 1 has none yet.
 abbrev one_settled : EventState
-one_settled = settle_each (ride_each (instants (first_event_state notched) (range_with_len 0 4) (range_with_len 0 23) 1) (range_with_len 0 4)) (15 ∷ [])
+one_settled = settle_each (ride_each (instants (first_event_state notched) (range_with_len 0 4) (range_with_len 0 23) 1)
+    (range_with_len 0 4)) (15 ∷ [])
 
 half_way : stops one_settled.riders ≡ Some (Tie 15) ∷ None ∷ None ∷ None ∷ []
 half_way = refl
@@ -114,5 +121,6 @@ torus =
     (14 ∷ 15 ∷ 3 ∷ 2 ∷ []) ∷
     (15 ∷ 12 ∷ 0 ∷ 3 ∷ []) ∷ []
 
-torus_stops : stops (end_state (terrain_of torus) 16 (0 ∷ 13 ∷ 51 ∷ 62 ∷ [])).riders ≡ Some (Tie 2) ∷ Some (Tie 8) ∷ Some (Tie 8) ∷ Some (Tie 2) ∷ []
+torus_stops : stops (end_state (terrain_of torus) 16 (0 ∷ 13 ∷ 51 ∷ 62 ∷ [])).riders ≡ Some (Tie 2) ∷ Some (Tie 8)
+    ∷ Some (Tie 8) ∷ Some (Tie 2) ∷ []
 torus_stops = refl

@@ -1,6 +1,7 @@
 -- The motion event by event: riders of one instant ride one by one, and then the vertices where they end are settled.
 use Rattle.std.specs.Prelude.{◌≡◌, ℕ, suc, ◌+◌, ◌<◌, Bool, true, false, cond, not, ◌&&◌, ◌||◌}
-use Rattle.std.specs.Prelude.{◌==◌, List, [], ◌∷◌, map, length, replicate, slice_set, slice_index_or, Option, Some, None}
+use Rattle.std.specs.Prelude.{◌==◌, List, [], ◌∷◌, map, length, replicate, slice_set, slice_index_or, Option, Some}
+use Rattle.std.specs.Prelude.{None}
 use Rattle.std.specs.List.{list_any, list_all}
 use Rattle.def_mesh.specs.Faces.{Faces}
 use Rattle.def_mesh.specs.Vertices.{vertex_count}

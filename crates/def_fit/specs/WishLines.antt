@@ -1,5 +1,6 @@
 -- What the `#w` lines of a text wish: lengths for the edges of its mesh, or the first line that is refused.
-use Rattle.std.specs.Prelude.{ℕ, ◌+◌, ◌==◌, ◌&&◌, ◌||◌, nat_eq, nat_le, nat_lt, not, Bool, if◌then◌else◌, List, [], ◌∷◌, ◌++◌}
+use Rattle.std.specs.Prelude.{ℕ, ◌+◌, ◌==◌, ◌&&◌, ◌||◌, nat_eq, nat_le, nat_lt, not, Bool, if◌then◌else◌, List, [], ◌∷◌}
+use Rattle.std.specs.Prelude.{◌++◌}
 use Rattle.std.specs.Prelude.{length, map, drop, slice_index, Option, Some, None, Result, Ok, Err, codes}
 use Rattle.std.specs.List.{count_by, position_or_len, slice_split, starts_with}
 use Rattle.def_io.specs.Bytes.{Bytes, Lines}

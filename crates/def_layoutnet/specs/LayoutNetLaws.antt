@@ -30,7 +30,8 @@ OppositeLaw = (layout : Layout) (lengths : Lengths) → ((arc : ℕ) → arc < l
 -- Whole numbers are balanced at the nodes of the network exactly where opposite sides are equal.
 abbrev pub BalanceLaw : Type 0
 BalanceLaw = (layout : Layout) (old wish : Lengths) (settings : Settings) (net : Network) → IsSurface layout
-    → IsNetOf layout old wish settings net → (lengths : ℕ → ℤ) → IsBalanced net.arcs lengths ↔ AreOpposite layout lengths
+    → IsNetOf layout old wish settings net → (lengths : ℕ → ℤ)
+    → IsBalanced net.arcs lengths ↔ AreOpposite layout lengths
 
 -- A layout has one network.
 abbrev pub OneNetLaw : Type 0

@@ -23,7 +23,8 @@ abbrev grid_soup : FaceSet
 grid_soup = record { pos = []; faces = grid; names = numbers_to 9 }
 
 abbrev said_by : (line : Bytes) → Result (List Bool) MarkFail
-said_by line = marks_in (codes "v 0 0 0\nv\nv\nv\nv\nv\nv\nv\nv # a comment\nf 1 2 5 4\nf 2 3 6 5\nf 4 5 8 7\nf 5 6 9 8\n" ++ line) grid_soup
+said_by line = marks_in (codes
+    "v 0 0 0\nv\nv\nv\nv\nv\nv\nv\nv # a comment\nf 1 2 5 4\nf 2 3 6 5\nf 4 5 8 7\nf 5 6 9 8\n" ++ line) grid_soup
 
 one_edge : said_by (codes "l 4 5") ≡ Ok (marks_at (2 ∷ 8 ∷ []))
 one_edge = refl

@@ -12,7 +12,8 @@ use Rattle.def_mesh.specs.declared.Kind.TheVariants.{Regular, Singular, Corner, 
 
 -- A cube: its eight vertices are singular, so a rider starts along each dart.
 abbrev cube : Faces
-cube = (3 ∷ 2 ∷ 1 ∷ 0 ∷ []) ∷ (4 ∷ 5 ∷ 6 ∷ 7 ∷ []) ∷ (0 ∷ 1 ∷ 5 ∷ 4 ∷ []) ∷ (1 ∷ 2 ∷ 6 ∷ 5 ∷ []) ∷ (2 ∷ 3 ∷ 7 ∷ 6 ∷ []) ∷ (3 ∷ 0 ∷ 4 ∷ 7 ∷ []) ∷ []
+cube = (3 ∷ 2 ∷ 1 ∷ 0 ∷ []) ∷ (4 ∷ 5 ∷ 6 ∷ 7 ∷ []) ∷ (0 ∷ 1 ∷ 5 ∷ 4 ∷ []) ∷ (1 ∷ 2 ∷ 6 ∷ 5 ∷ []) ∷ (2 ∷ 3 ∷ 7 ∷ 6 ∷ [])
+    ∷ (3 ∷ 0 ∷ 4 ∷ 7 ∷ []) ∷ []
 
 cube_vertices : vertex_count cube ≡ 8
 cube_vertices = refl
@@ -48,7 +49,8 @@ bend = (0 ∷ 1 ∷ 4 ∷ 3 ∷ []) ∷ (1 ∷ 2 ∷ 5 ∷ 4 ∷ []) ∷ (3 ∷ 
 bend_kinds : map (kind_of bend) (0 ∷ 1 ∷ 2 ∷ 4 ∷ []) ≡ Corner ∷ Regular ∷ Corner ∷ Reflex ∷ []
 bend_kinds = refl
 
-bend_twins : map (twin_of bend) (all_darts bend) ≡ None ∷ Some 7 ∷ Some 8 ∷ None ∷ None ∷ None ∷ None ∷ Some 1 ∷ Some 2 ∷ None ∷ None ∷ None ∷ []
+bend_twins : map (twin_of bend) (all_darts bend) ≡ None ∷ Some 7 ∷ Some 8 ∷ None ∷ None ∷ None ∷ None ∷ Some 1 ∷ Some 2
+    ∷ None ∷ None ∷ None ∷ []
 bend_twins = refl
 
 bend_starts : start_darts bend ≡ 2 ∷ 7 ∷ []
@@ -84,7 +86,8 @@ parts_counts : edge_count parts ≡ 13
 parts_counts = refl
 
 -- The vertex that a face names again, seen from its first corner.
-repeats : map repeat_in ((0 ∷ 1 ∷ 2 ∷ 3 ∷ []) ∷ (0 ∷ 1 ∷ 2 ∷ 1 ∷ []) ∷ (7 ∷ 7 ∷ 2 ∷ 2 ∷ []) ∷ (5 ∷ 6 ∷ 5 ∷ 6 ∷ []) ∷ []) ≡ None ∷ Some 1 ∷ Some 7 ∷ Some 5 ∷ []
+repeats : map repeat_in ((0 ∷ 1 ∷ 2 ∷ 3 ∷ []) ∷ (0 ∷ 1 ∷ 2 ∷ 1 ∷ []) ∷ (7 ∷ 7 ∷ 2 ∷ 2 ∷ []) ∷ (5 ∷ 6 ∷ 5 ∷ 6 ∷ []) ∷ [])
+    ≡ None ∷ Some 1 ∷ Some 7 ∷ Some 5 ∷ []
 repeats = refl
 
 -- Two faces that run along one edge in the same direction: their first darts are the first two along it.
@@ -117,7 +120,8 @@ bow_stays : (e n : ℕ) → Chain bow 0 e n → e ≡ 0
 bow_stays e zero c = sym c
 bow_stays e (suc n) c =
     let first : c.0 ≡ 0 = bow_stays c.0 n c.1 in
-    by_dart e c.2 (subst (λ (d : ℕ). from_of bow d ≡ from_of bow e) first c.3) (subst (λ (d : ℕ). AreNeighbours bow d e) first c.4)
+    by_dart e c.2 (subst (λ (d : ℕ). from_of bow d ≡ from_of bow e) first c.3)
+    (subst (λ (d : ℕ). AreNeighbours bow d e) first c.4)
   where
     by_dart : (d : ℕ) → d < 8 → 0 ≡ from_of bow d → AreNeighbours bow 0 d → d ≡ 0
     by_dart zero l s a = refl
@@ -126,4 +130,5 @@ bow_stays e (suc n) c =
     by_dart _ l s a = absurd (omega (arith, s))
 
 bow_two_fans : ¬ HasOneFan bow 0
-bow_two_fans one = let c : (n : ℕ) × Chain bow 0 4 n = one 0 4 (omega arith) (omega arith) refl refl in absurd (omega (arith, bow_stays 4 c.0 c.1))
+bow_two_fans one = let c : (n : ℕ) × Chain bow 0 4 n = one 0 4 (omega arith) (omega arith) refl refl in
+    absurd (omega (arith, bow_stays 4 c.0 c.1))

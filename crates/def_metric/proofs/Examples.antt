@@ -18,5 +18,6 @@ abbrev places : Positions
 places = (pos 0 ∷ pos 0 ∷ pos 0 ∷ []) ∷ (pos 3000000 ∷ pos 0 ∷ pos 0 ∷ [])
     ∷ (pos 3000000 ∷ pos 4000000 ∷ pos 0 ∷ []) ∷ (pos 0 ∷ pos 8000000 ∷ pos 0 ∷ []) ∷ []
 
-targets_of_quad : map (λ dart. target_of ((0 ∷ 1 ∷ 2 ∷ 3 ∷ []) ∷ []) places 1000000 (dart ∷ [])) (0 ∷ 1 ∷ 2 ∷ 3 ∷ []) ≡ 3000 ∷ 4000 ∷ 5000 ∷ 8000 ∷ []
+targets_of_quad : map (λ dart. target_of ((0 ∷ 1 ∷ 2 ∷ 3 ∷ []) ∷ []) places 1000000 (dart ∷ [])) (0 ∷ 1 ∷ 2 ∷ 3 ∷ [])
+    ≡ 3000 ∷ 4000 ∷ 5000 ∷ 8000 ∷ []
 targets_of_quad = refl

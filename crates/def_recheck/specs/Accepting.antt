@@ -12,8 +12,8 @@ use Rattle.def_text.specs.FaceSet.{FaceSet}
 use Rattle.def_text.specs.Text.{soup_in}
 
 -- A text of a mesh whose last line has its line feed, and behind it the text of a finished remesh of this mesh, as
--- accepted certificates show, are a checked pair: `check` accepts them. Head lines in the first text do not matter, since
--- the last one counts.
+-- accepted certificates show, are a checked pair: `check` accepts them. Head lines in the first text do not matter,
+-- since the last one counts.
 abbrev pub AcceptsLaw : Type 0
 AcceptsLaw = (settings : Settings) (auto : Bool) (old text : Bytes) (soup : FaceSet) → AreInRange settings auto
     → soup_in old ≡ Ok soup → ends_line old ≡ true → IsSolid soup

@@ -38,7 +38,8 @@ IsFineBy wish plan settings auto faces (Raised first cert) =
     AreKept wish plan settings auto (raised (lists_of first) (lists_of cert)) × AreTooFine plan cert.x.items faces
 
 -- The kept lengths of a given floor double an edge, first at these vertices of the new mesh. With floor 3 none does.
-pub record IsDoubledBy (wish : Wish) (plan : Plan) (settings : Settings) (auto : Bool) (u v : ℕ) (cert : Cert) : Type 0 where
+pub record IsDoubledBy (wish : Wish) (plan : Plan) (settings : Settings) (auto : Bool) (u v : ℕ) (cert : Cert) : Type
+    0 where
   pub given : auto ≡ false
   pub low : settings.floor < MAX_FLOOR
   pub certified : IsCertified wish plan settings (lists_of cert)

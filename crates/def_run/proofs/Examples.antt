@@ -16,7 +16,8 @@ are_settings : Words → Bool
 are_settings words = by_uses (uses_of words)
 
 -- Both forms, in any order.
-forms_row : map are_settings ((codes "--scale=1/2" ∷ codes "--weight" ∷ codes "plain" ∷ codes "--floor" ∷ codes "1" ∷ [])
+forms_row : map are_settings ((codes "--scale=1/2" ∷ codes "--weight" ∷ codes "plain" ∷ codes "--floor" ∷ codes "1"
+    ∷ [])
     ∷ (codes "--floor=1" ∷ codes "--weight=plain" ∷ codes "--scale" ∷ codes "1=2" ∷ []) ∷ []) ≡ true ∷ true ∷ []
 unfolding are_settings by_uses
 forms_row = refl

@@ -9,8 +9,8 @@ use Rattle.def_text.specs.FaceSet.{FaceSet}
 use Rattle.def_run.specs.Mesh.{IsMeshText}
 use Rattle.def_run.specs.Remesh.{IsTracedLayout}
 
--- A text of the blocks of a mesh: a layout cuts the mesh into rectangular grids of its motorcycle graph, and the text is
--- that of these grids, with `by` times their old lengths and with their links.
+-- A text of the blocks of a mesh: a layout cuts the mesh into rectangular grids of its motorcycle graph, and the text
+-- is that of these grids, with `by` times their old lengths and with their links.
 pub record IsBlocked (by : ℕ) (soup : FaceSet) (text : Bytes) : Type 0 where
   pub plan : Plan
   pub cut : IsTracedLayout soup.faces plan

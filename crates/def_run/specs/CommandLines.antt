@@ -10,7 +10,8 @@ use Rattle.def_patches.specs.declared.Keep.{Keep}
 use Rattle.def_patches.specs.declared.Patches.{Patches}
 use Rattle.def_run.specs.Options.{value_of, AreOptions, Uses}
 use Rattle.def_run.specs.declared.command.Command.{Command}
-use Rattle.def_run.specs.declared.command.Command.TheVariants.{Tidy, Graph, Refine, Remesh, Check, Bench, Crease, Size, Coarse}
+use Rattle.def_run.specs.declared.command.Command.TheVariants.{Tidy, Graph, Refine, Remesh, Check, Bench, Crease, Size}
+use Rattle.def_run.specs.declared.command.Command.TheVariants.{Coarse}
 use Rattle.def_run.specs.declared.command.Command.TheVariants.{Blocks, Map, Fit, LayOut, Grids}
 use Rattle.def_run.specs.declared.command.TheConstants.{MAX_MULTIPLE, MAX_SIZE}
 

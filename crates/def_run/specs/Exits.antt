@@ -23,8 +23,8 @@ WasShort input out answer =
     (answer ≡ Memory) ⊎ (Rose input.faults input.faults_now ⊎ Rose out.faults out.faults_now)
 
 -- Running these words gives this answer: it has its cause, and its line is told; what is good is done, and a network
--- that is not too tangled gets least lengths; a new mesh that was written is read again; and each stream that the answer
--- leaves alone is as it was.
+-- that is not too tangled gets least lengths; a new mesh that was written is read again; and each stream that the
+-- answer leaves alone is as it was.
 pub record RunsTo {S O E : Type 0} (words : Words) (input : Stream S) (out : Stream O) (err : Stream E)
     (answer : Answer) : Type 0 where
   pub usage : answer ≡ Usage → ¬ IsAcceptedLine words

@@ -45,7 +45,8 @@ abbrev pub TellsMade : (judged : Judged) (made : Made) → Type 0
 TellsMade judged made = TellHow (head_line judged.task.settings judged.task.auto) (behind_in judged) made
 
 -- The verdict on a certificate for a layout with these wished lengths and settings.
-pub record HasVerdict (wish : Wish) (plan : Plan) (settings : Settings) (cert : Lists) (verdict : CertVerdict) : Type 0 where
+pub record HasVerdict (wish : Wish) (plan : Plan) (settings : Settings) (cert : Lists) (verdict : CertVerdict) : Type
+    0 where
   pub net : Network
   pub of_layout : IsNetOf (layout_of plan) (old_lengths plan) (wish plan) settings net
   pub told : verdict ≡ cert_verdict net (certificate_of cert)

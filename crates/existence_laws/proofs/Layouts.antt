@@ -35,23 +35,28 @@ module _ (faces : Faces) (marks : List Bool) (mesh : IsMesh faces) (full : IsFul
   marked : IsMarked faces marks nodes
   marked = to_marked faces marks nodes mesh full refl
 
-  with_sides : (ps : List Rectangle) (parts : IsPartition (half_edges faces) (is_on marks) (λ d. d / 4) ps) (arcs : List Path)
+  with_sides : (ps : List Rectangle) (parts : IsPartition (half_edges faces) (is_on marks) (λ d. d / 4) ps)
+      (arcs : List Path)
       (below : AreArcsBelow faces marks (node_list faces marks nodes marked) (darts faces) arcs)
       (uses : List SideArc) (table : HasUsesBelow faces arcs (length arcs) uses)
-      → (sides : List (List (List SideArc))) × AreAllFour faces arcs uses ps sides → (plan : Plan) × IsCutLayout faces marks plan
+      → (sides : List (List (List SideArc))) × AreAllFour faces arcs uses ps sides → (plan : Plan)
+      × IsCutLayout faces marks plan
   with_sides ps parts arcs below uses table (sides, all) = (
     record { nodes = node_list faces marks nodes marked; arcs = arcs; patches = ps; sides = sides },
-    is_layout faces marks nodes marked (darts faces) (omega arith) (node_list faces marks nodes marked) arcs uses ps (λ d. d / 4) parts below table sides all refl,
+    is_layout faces marks nodes marked (darts faces) (omega arith) (node_list faces marks nodes marked) arcs uses ps
+        (λ d. d / 4) parts below table sides all refl,
   )
 
   exists : (plan : Plan) × IsCutLayout faces marks plan
   exists =
       let ps = patches_exist faces marks (to_cutting faces marks mesh full) in
       let arcs = arcs_exist faces marks nodes marked ps.0 ps.1 in
-      let uses = uses_exist faces marks nodes marked arcs.0 (to_named faces marks nodes marked (node_list faces marks nodes marked) (darts faces) arcs.0 arcs.1) in
+      let uses = uses_exist faces marks nodes marked arcs.0
+      (to_named faces marks nodes marked (node_list faces marks nodes marked) (darts faces) arcs.0 arcs.1) in
       with_sides ps.0 ps.1 arcs.0 arcs.1 uses.0 uses.1
       (sides_exist faces arcs.0 uses.0 ps.0
-      (have_patches faces marks nodes marked (darts faces) (omega arith) (node_list faces marks nodes marked) arcs.0 uses.0 ps.0 (λ d. d / 4) ps.1 arcs.1 uses.1))
+      (have_patches faces marks nodes marked (darts faces) (omega arith) (node_list faces marks nodes marked) arcs.0
+      uses.0 ps.0 (λ d. d / 4) ps.1 arcs.1 uses.1))
 
   one : HasOneLayout faces marks
   one = record {

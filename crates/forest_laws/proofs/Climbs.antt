@@ -1,5 +1,6 @@
 -- Climbing towards the root ends: a computed number of steps falls.
-use Rattle.std.proofs.Common.{◌≡◌, ◌≢◌, ℕ, zero, suc, ◌+◌, ◌<◌, ◌≤◌, Bool, true, false, Option, Some, None, ◌⊎◌, refl, sym, ◌∙◌, ap, subst, inl, inr, arith}
+use Rattle.std.proofs.Common.{◌≡◌, ◌≢◌, ℕ, zero, suc, ◌+◌, ◌<◌, ◌≤◌, Bool, true, false, Option, Some, None, ◌⊎◌, refl}
+use Rattle.std.proofs.Common.{sym, ◌∙◌, ap, subst, inl, inr, arith}
 use Rattle.std.specs.Prelude.{nat_lt}
 use Rattle.std.proofs.lemmas.Bool.{cases_lt, lt-ltb, le-ltb}
 use Rattle.def_math.specs.Counts.{count_below}
@@ -30,7 +31,8 @@ module _ (g : Darts) (are : AreDarts g) (f : Forest) (r : ℕ) (valid : IsValid 
     pub inner_depth : tree.depth (inner_of g f a) ≡ tree.depth a
     inner_depth =
         sym inner_tree.same
-        ∙ ap tree.depth (ap (λ x. f.out (far g x)) (some_is inner_tree.dart (g.twin d) (sym inner_tree.mate ∙ inner_back))
+        ∙ ap tree.depth (ap (λ x. f.out (far g x)) (some_is inner_tree.dart (g.twin d) (sym inner_tree.mate
+        ∙ inner_back))
         ∙ (ap f.out (far_twin g are d) ∙ (valid.matched a d mate).here))
 
     pub parent_outer : f.label (parent_of g f a) ≡ Outer
@@ -53,20 +55,27 @@ module _ (g : Darts) (are : AreDarts g) (f : Forest) (r : ℕ) (valid : IsValid 
   not_nearer a b l = ap bool_number (le-ltb (tree.depth b) (tree.depth a) l)
 
   outer_low : (b : ℕ) → f.label b ≡ Outer → b < f.size
-  outer_low b l = let w : IsOutermost g.n f b = valid.outermost.named b named in subst (λ x. x < f.size) w.2 (valid.outermost.out_low w.0 w.1)
+  outer_low b l = let w : IsOutermost g.n f b = valid.outermost.named b named in
+      subst (λ x. x < f.size) w.2 (valid.outermost.out_low w.0 w.1)
     where
       named : f.label b ≢ Outside
       named off = let h : Outer ≡ Outside = sym l ∙ off in cc
 
   nearer_falls : (a d : ℕ) → f.label a ≡ Outer → f.mate a ≡ Some d → nearer (parent_of g f a) < nearer a
   nearer_falls a d outer mate =
-      count_below_lt (nearer_to p) (nearer_to a) f.size p (outer_low p (parent_outer a d outer mate)) each (omega (arith, not_nearer p p (omega arith), is_nearer a p (parent_nearer a d outer mate)))
+      count_below_lt (nearer_to p) (nearer_to a) f.size p (outer_low p (parent_outer a d outer mate)) each
+      (omega (arith, not_nearer p p (omega arith), is_nearer a p (parent_nearer a d outer mate)))
     where
       p : ℕ
       p = parent_of g f a
 
-      by_depth : (b : ℕ) → (tree.depth b < tree.depth (parent_of g f a)) ⊎ (tree.depth (parent_of g f a) ≤ tree.depth b) → nearer_to (parent_of g f a) b ≤ nearer_to a b
-      by_depth b (inl l) = omega (arith, is_nearer (parent_of g f a) b l, is_nearer a b (omega (arith, parent_nearer a d outer mate)))
+      by_depth : (b : ℕ) → (tree.depth b < tree.depth (parent_of g f a)) ⊎ (tree.depth (parent_of g f a) ≤ tree.depth b)
+          → nearer_to (parent_of g f a) b ≤ nearer_to a b
+      by_depth b (inl l) = omega (
+        arith,
+        is_nearer (parent_of g f a) b l,
+        is_nearer a b (omega (arith, parent_nearer a d outer mate)),
+      )
       by_depth b (inr l) = omega (arith, not_nearer (parent_of g f a) b l)
 
       each : (b : ℕ) → b < f.size → nearer_to p b ≤ nearer_to a b
@@ -77,23 +86,36 @@ module _ (g : Darts) (are : AreDarts g) (f : Forest) (r : ℕ) (valid : IsValid 
   enough zero a outer l = absurd (omega arith)
   enough (suc k) a outer l = by_mate (f.mate a) refl (enough k (parent_of g f a))
     where
-      by_mate : (o : Option ℕ) → f.mate a ≡ o → (f.label (parent_of g f a) ≡ Outer → nearer (parent_of g f a) < k → steps g f (suc k) (parent_of g f a) ≡ steps g f k (parent_of g f a))
-          → steps_by (f.mate a) (steps g f (suc k) (parent_of g f a)) ≡ steps_by (f.mate a) (steps g f k (parent_of g f a))
-      by_mate None e more = ap (λ o. steps_by o (steps g f (suc k) (parent_of g f a))) e ∙ sym (ap (λ o. steps_by o (steps g f k (parent_of g f a))) e)
-      by_mate (Some d) e more = ap (steps_by (f.mate a)) (more (parent_outer a d outer e) (omega (arith, nearer_falls a d outer e)))
+      by_mate : (o : Option ℕ) → f.mate a ≡ o → (f.label (parent_of g f a) ≡ Outer → nearer (parent_of g f a) < k
+          → steps g f (suc k) (parent_of g f a) ≡ steps g f k (parent_of g f a))
+          → steps_by (f.mate a) (steps g f (suc k) (parent_of g f a))
+          ≡ steps_by (f.mate a) (steps g f k (parent_of g f a))
+      by_mate None e more = ap (λ o. steps_by o (steps g f (suc k) (parent_of g f a))) e
+          ∙ sym (ap (λ o. steps_by o (steps g f k (parent_of g f a))) e)
+      by_mate (Some d) e more =
+          ap (steps_by (f.mate a)) (more (parent_outer a d outer e) (omega (arith, nearer_falls a d outer e)))
 
   few : (a : ℕ) → nearer a ≤ f.size
-  few a = let h : nearer a ≤ count_below (λ b. 1) f.size = count_below_le (nearer_to a) (λ b. 1) f.size (λ b l. by_test (nat_lt (tree.depth b) (tree.depth a))) in omega (arith, h, count_below_ones f.size)
+  few a = let h : nearer a ≤ count_below (λ b. 1) f.size =
+      count_below_le (nearer_to a) (λ b. 1) f.size (λ b l. by_test (nat_lt (tree.depth b) (tree.depth a))) in
+      omega (arith, h, count_below_ones f.size)
     where
       by_test : (b : Bool) → bool_number b ≤ 1
       by_test true = omega arith
       by_test false = omega arith
 
   -- The parent has one step less to the root.
-  pub fewer_steps : (a d : ℕ) → f.label a ≡ Outer → f.mate a ≡ Some d → steps g f (f.size + 1) a ≡ suc (steps g f (f.size + 1) (parent_of g f a))
+  pub fewer_steps : (a d : ℕ) → f.label a ≡ Outer → f.mate a ≡ Some d → steps g f (f.size + 1) a
+      ≡ suc (steps g f (f.size + 1) (parent_of g f a))
   fewer_steps a d outer mate =
-      let here : steps g f (suc f.size) a ≡ suc (steps g f f.size (parent_of g f a)) = ap (λ o. steps_by o (steps g f f.size (parent_of g f a))) mate in
-      let same : steps g f (suc f.size) (parent_of g f a) ≡ steps g f f.size (parent_of g f a) = enough f.size (parent_of g f a) (parent_outer a d outer mate) (omega (arith, nearer_falls a d outer mate, few a)) in
+      let here : steps g f (suc f.size) a ≡ suc (steps g f f.size (parent_of g f a)) =
+      ap (λ o. steps_by o (steps g f f.size (parent_of g f a))) mate in
+      let same : steps g f (suc f.size) (parent_of g f a) ≡ steps g f f.size (parent_of g f a) =
+      enough f.size (parent_of g f a) (parent_outer a d outer mate) (omega (
+        arith,
+        nearer_falls a d outer mate,
+        few a,
+      )) in
       let one : f.size + 1 ≡ suc f.size = omega arith in
       ap (λ k. steps g f k a) one ∙ (here ∙ ap suc (sym same ∙ sym (ap (λ k. steps g f k (parent_of g f a)) one)))
 

@@ -1,5 +1,6 @@
 -- The tree after an expansion, and the whole: the forest is valid.
-use Rattle.std.proofs.Common.{◌≡◌, ◌≢◌, ℕ, ◌+◌, ◌*◌, ◌-◌, ◌/◌, ◌<◌, ◌≤◌, cond, eqb, Some, None, ◌⊎◌, refl, sym, ◌∙◌, ap, subst, inl, inr, arith}
+use Rattle.std.proofs.Common.{◌≡◌, ◌≢◌, ℕ, ◌+◌, ◌*◌, ◌-◌, ◌/◌, ◌<◌, ◌≤◌, cond, eqb, Some, None, ◌⊎◌, refl, sym, ◌∙◌, ap}
+use Rattle.std.proofs.Common.{subst, inl, inr, arith}
 use Rattle.std.proofs.Math.Nat.{mul-le-mul_left}
 use Rattle.std.proofs.lemmas.Bool.{cases_eq, cases_lt, cond-true, cond-false, eq-eqb, ne_eqb}
 use Rattle.def_math.specs.Searches.{least}
@@ -13,9 +14,14 @@ use Rattle.def_forest.specs.Ways.{dart_or}
 use Rattle.forest_laws.proofs.Writes.{some_is}
 use Rattle.forest_laws.proofs.Facts.{far_low, far_twin, tight_twin}
 use Rattle.forest_laws.proofs.WayLaws.{some_none}
-use Rattle.forest_laws.proofs.Expands.{b as the_b, b_named as the_b_named, out_not_part as the_out_not_part, out_in as the_out_in, out_old as the_out_old, Place as the_Place, place as the_place, other_not_b as the_other_not_b, same_tight as the_same_tight, new_outermost as the_new_outermost, new_nested as the_new_nested, new_feasible as the_new_feasible, halves}
+use Rattle.forest_laws.proofs.Expands.{b as the_b, b_named as the_b_named, out_not_part as the_out_not_part}
+use Rattle.forest_laws.proofs.Expands.{out_in as the_out_in, out_old as the_out_old, Place as the_Place}
+use Rattle.forest_laws.proofs.Expands.{place as the_place, other_not_b as the_other_not_b, same_tight as the_same_tight}
+use Rattle.forest_laws.proofs.Expands.{new_outermost as the_new_outermost, new_nested as the_new_nested}
+use Rattle.forest_laws.proofs.Expands.{new_feasible as the_new_feasible, halves}
 
-module _ (g : Darts) (are : AreDarts g) (f : Forest) (r : ℕ) (valid : IsValid g f (Some r)) (tree : IsTree g f r) (new : Forest) (o : Opening) (opening : IsOpening g f o) (is : IsOpened g f new o) where
+module _ (g : Darts) (are : AreDarts g) (f : Forest) (r : ℕ) (valid : IsValid g f (Some r)) (tree : IsTree g f r)
+    (new : Forest) (o : Opening) (opening : IsOpening g f o) (is : IsOpened g f new o) where
   abbrev b : ℕ
   b = the_b g are f r valid tree new o opening is
 
@@ -51,7 +57,8 @@ module _ (g : Darts) (are : AreDarts g) (f : Forest) (r : ℕ) (valid : IsValid 
   place_of x = dart_or (least (λ j. eqb (o.q j) x) many)
 
   place_is : (j : ℕ) → j ≤ 2 * o.half → place_of (o.q j) ≡ j
-  place_is j l = ap dart_or (least_some (λ i. eqb (o.q i) (o.q j)) many j (omega arith) (λ k lk. ne_eqb (o.q k) (o.q j) (opening.distinct k j lk l)) (eq-eqb (o.q j) (o.q j) refl))
+  place_is j l = ap dart_or (least_some (λ i. eqb (o.q i) (o.q j)) many j (omega arith)
+      (λ k lk. ne_eqb (o.q k) (o.q j) (opening.distinct k j lk l)) (eq-eqb (o.q j) (o.q j) refl))
 
   -- Depths: there is room between the outer blossom on which b hung and b's mate.
   abbrev room : ℕ
@@ -61,11 +68,13 @@ module _ (g : Darts) (are : AreDarts g) (f : Forest) (r : ℕ) (valid : IsValid 
   depths x = cond (eqb (f.nest.up x) b) (room * tree.depth b - (place_of x + 1) / 2) (room * tree.depth x)
 
   depth_old : (x : ℕ) → f.nest.up x ≢ b → depths x ≡ room * tree.depth x
-  depth_old x ne = cond-false (eqb (f.nest.up x) b) (room * tree.depth b - (place_of x + 1) / 2) (room * tree.depth x) (ne_eqb (f.nest.up x) b ne)
+  depth_old x ne = cond-false (eqb (f.nest.up x) b) (room * tree.depth b - (place_of x + 1) / 2) (room * tree.depth x)
+      (ne_eqb (f.nest.up x) b ne)
 
   depth_part : (j k : ℕ) → j ≤ 2 * o.half → k ≡ (j + 1) / 2 → depths (o.q j) ≡ room * tree.depth b - k
   depth_part j k l e =
-      cond-true (eqb (f.nest.up (o.q j)) b) (room * tree.depth b - (place_of (o.q j) + 1) / 2) (room * tree.depth (o.q j)) (eq-eqb (f.nest.up (o.q j)) b (opening.parts j l).0)
+      cond-true (eqb (f.nest.up (o.q j)) b) (room * tree.depth b - (place_of (o.q j) + 1) / 2)
+      (room * tree.depth (o.q j)) (eq-eqb (f.nest.up (o.q j)) b (opening.parts j l).0)
       ∙ ap (λ x. room * tree.depth b - x) (ap (λ x. (x + 1) / 2) (place_is j l) ∙ sym e)
 
   deeper : (p d : ℕ) → p < d → room * p + room ≤ room * d
@@ -94,10 +103,12 @@ module _ (g : Darts) (are : AreDarts g) (f : Forest) (r : ℕ) (valid : IsValid 
 
   -- The ends of the darts between parts.
   e_begins : (j : ℕ) → j < 2 * o.half → new.out (g.near (o.e j)) ≡ o.q j
-  e_begins j l = out_in (g.near (o.e j)) (are.near_low (o.e j) (opening.tight j l).low) (opening.begins j l).0 ∙ (opening.begins j l).1
+  e_begins j l = out_in (g.near (o.e j)) (are.near_low (o.e j) (opening.tight j l).low) (opening.begins j l).0
+      ∙ (opening.begins j l).1
 
   e_ends : (j : ℕ) → j < 2 * o.half → new.out (far g (o.e j)) ≡ o.q (j + 1)
-  e_ends j l = out_in (far g (o.e j)) (far_low g are (o.e j) (opening.tight j l).low) (opening.ends j l).0 ∙ (opening.ends j l).1
+  e_ends j l = out_in (far g (o.e j)) (far_low g are (o.e j) (opening.tight j l).low) (opening.ends j l).0
+      ∙ (opening.ends j l).1
 
   odd_mate_is : (i : ℕ) → i < o.half → IsMate g new (o.q (2 * i + 1)) (o.e (2 * i + 1))
   odd_mate_is i l =
@@ -105,15 +116,19 @@ module _ (g : Darts) (are : AreDarts g) (f : Forest) (r : ℕ) (valid : IsValid 
       record {
         tight = same_tight (o.e (2 * i + 1)) (opening.tight (2 * i + 1) lt);
         here = e_begins (2 * i + 1) lt;
-        other = λ x. opening.distinct (2 * i + 1) (2 * i + 1 + 1) (omega arith) (omega arith) (sym x ∙ e_ends (2 * i + 1) lt);
-        back = ap new.mate (e_ends (2 * i + 1) lt ∙ ap o.q (let e : 2 * i + 1 + 1 ≡ 2 * i + 2 = omega arith in e)) ∙ is.even_mate i l;
+        other = λ x. opening.distinct (2 * i + 1) (2 * i + 1 + 1) (omega arith) (omega arith) (sym x
+            ∙ e_ends (2 * i + 1) lt);
+        back = ap new.mate (e_ends (2 * i + 1) lt ∙ ap o.q (let e : 2 * i + 1 + 1 ≡ 2 * i + 2 = omega arith in e))
+            ∙ is.even_mate i l;
       }
 
   even_mate_is : (i : ℕ) → i < o.half → IsMate g new (o.q (2 * i + 2)) (g.twin (o.e (2 * i + 1)))
   even_mate_is i l =
       let lt : 2 * i + 1 < 2 * o.half = omega arith in
-      let there : new.out (far g (o.e (2 * i + 1))) ≡ o.q (2 * i + 2) = e_ends (2 * i + 1) lt ∙ ap o.q (let e : 2 * i + 1 + 1 ≡ 2 * i + 2 = omega arith in e) in
-      let back : new.out (far g (g.twin (o.e (2 * i + 1)))) ≡ o.q (2 * i + 1) = ap new.out (far_twin g are (o.e (2 * i + 1))) ∙ e_begins (2 * i + 1) lt in
+      let there : new.out (far g (o.e (2 * i + 1))) ≡ o.q (2 * i + 2) = e_ends (2 * i + 1) lt
+      ∙ ap o.q (let e : 2 * i + 1 + 1 ≡ 2 * i + 2 = omega arith in e) in
+      let back : new.out (far g (g.twin (o.e (2 * i + 1)))) ≡ o.q (2 * i + 1) =
+      ap new.out (far_twin g are (o.e (2 * i + 1))) ∙ e_begins (2 * i + 1) lt in
       record {
         tight = tight_twin g are new (o.e (2 * i + 1)) (same_tight (o.e (2 * i + 1)) (opening.tight (2 * i + 1) lt));
         here = there;
@@ -125,7 +140,8 @@ module _ (g : Darts) (are : AreDarts g) (f : Forest) (r : ℕ) (valid : IsValid 
   first_mate_is = record {
     tight = same_tight o.m b_pair.tight;
     here = m_at;
-    other = λ x. out_not_part (far g o.m) m_far b_pair.other (ap f.nest.up (sym m_to ∙ x) ∙ (opening.parts 0 (omega arith)).0);
+    other = λ x. out_not_part (far g o.m) m_far b_pair.other (ap f.nest.up (sym m_to ∙ x)
+        ∙ (opening.parts 0 (omega arith)).0);
     back = ap new.mate m_to ∙ m_back;
   }
 
@@ -140,7 +156,8 @@ module _ (g : Darts) (are : AreDarts g) (f : Forest) (r : ℕ) (valid : IsValid 
 
       by_even : (i : ℕ) → (i ≡ 0) ⊎ (i ≢ 0) → j ≡ 2 * i → IsMate g new (o.q j) d
       by_even i (inl z) at = moved 0 o.m (omega arith) is.first_mate first_mate_is
-      by_even i (inr nz) at = moved (2 * (i - 1) + 2) (g.twin (o.e (2 * (i - 1) + 1))) (omega arith) (is.even_mate (i - 1) (omega arith)) (even_mate_is (i - 1) (omega arith))
+      by_even i (inr nz) at = moved (2 * (i - 1) + 2) (g.twin (o.e (2 * (i - 1) + 1))) (omega arith)
+          (is.even_mate (i - 1) (omega arith)) (even_mate_is (i - 1) (omega arith))
 
       by_odd : (i : ℕ) → j ≡ 2 * i + 1 → IsMate g new (o.q j) d
       by_odd i at = moved (2 * i + 1) (o.e (2 * i + 1)) at (is.odd_mate i (omega arith)) (odd_mate_is i (omega arith))
@@ -155,7 +172,8 @@ module _ (g : Darts) (are : AreDarts g) (f : Forest) (r : ℕ) (valid : IsValid 
           let there : new.out (far g d) ≡ o.q 0 = ap (λ x. new.out (g.near x)) twin ∙ m_at in
           record {
             tight = same_tight d pair.tight;
-            here = out_old (g.near d) (are.near_low d pair.tight.low) (λ x. other_not_b c ne (sym pair.here ∙ x)) ∙ pair.here;
+            here = out_old (g.near d) (are.near_low d pair.tight.low) (λ x. other_not_b c ne (sym pair.here ∙ x))
+                ∙ pair.here;
             other = λ x. ne (ap f.nest.up (sym (sym there ∙ x)) ∙ (opening.parts 0 (omega arith)).0);
             back = ap new.mate there ∙ (is.first_mate ∙ ap (λ (y : ℕ). Some y) (sym twin));
           }
@@ -166,9 +184,11 @@ module _ (g : Darts) (are : AreDarts g) (f : Forest) (r : ℕ) (valid : IsValid 
           let fl : far g d < g.n = far_low g are d pair.tight.low in
           record {
             tight = same_tight d pair.tight;
-            here = out_old (g.near d) (are.near_low d pair.tight.low) (λ x. other_not_b c ne (sym pair.here ∙ x)) ∙ pair.here;
+            here = out_old (g.near d) (are.near_low d pair.tight.low) (λ x. other_not_b c ne (sym pair.here ∙ x))
+                ∙ pair.here;
             other = λ x. pair.other (sym (out_old (far g d) fl nb) ∙ x);
-            back = ap new.mate (out_old (far g d) fl nb) ∙ ((is.others (f.out (far g d)) (out_not_part (far g d) fl nb)).mate ∙ pair.back);
+            back = ap new.mate (out_old (far g d) fl nb)
+                ∙ ((is.others (f.out (far g d)) (out_not_part (far g d) fl nb)).mate ∙ pair.back);
           }
 
       by_old : f.nest.up c ≢ b → f.mate c ≡ Some d → (f.out (far g d) ≡ b) ⊎ (f.out (far g d) ≢ b) → IsMate g new c d
@@ -182,42 +202,57 @@ module _ (g : Darts) (are : AreDarts g) (f : Forest) (r : ℕ) (valid : IsValid 
 
   -- The links of the parts that become inner.
   abbrev Hangs : ℕ → Type 0
-  Hangs i = IsTight g new (new.link (o.q (2 * i))) × (new.out (g.near (new.link (o.q (2 * i)))) ≡ o.q (2 * i)) × (new.label (new.out (far g (new.link (o.q (2 * i))))) ≡ Outer) × (depths (new.out (far g (new.link (o.q (2 * i))))) < room * tree.depth b - i)
+  Hangs i = IsTight g new (new.link (o.q (2 * i))) × (new.out (g.near (new.link (o.q (2 * i)))) ≡ o.q (2 * i))
+      × (new.label (new.out (far g (new.link (o.q (2 * i))))) ≡ Outer)
+      × (depths (new.out (far g (new.link (o.q (2 * i))))) < room * tree.depth b - i)
 
   enough : (i : ℕ) → i ≤ o.turns → room * tree.depth (f.out (far g (f.link b))) + i < room * tree.depth b
-  enough i l = let h : room * tree.depth (f.out (far g (f.link b))) + room ≤ room * tree.depth b = deeper (tree.depth (f.out (far g (f.link b)))) (tree.depth b) b_inner.nearer in omega (arith, h, opening.short)
+  enough i l = let h : room * tree.depth (f.out (far g (f.link b))) + room ≤ room * tree.depth b =
+      deeper (tree.depth (f.out (far g (f.link b)))) (tree.depth b) b_inner.nearer in omega (arith, h, opening.short)
 
   hangs : (i : ℕ) → i ≤ o.turns → Hangs i
   hangs i l = by_last (cases_eq i o.turns)
     where
       by_last : (i ≡ o.turns) ⊎ (i ≢ o.turns) → Hangs i
-      by_last (inr ne) = subst (λ d. IsTight g new d × (new.out (g.near d) ≡ o.q (2 * i)) × (new.label (new.out (far g d)) ≡ Outer) × (depths (new.out (far g d)) < room * tree.depth b - i)) (sym (is.link i (omega arith)))
+      by_last (inr ne) = subst (λ d. IsTight g new d × (new.out (g.near d) ≡ o.q (2 * i))
+          × (new.label (new.out (far g d)) ≡ Outer) × (depths (new.out (far g d)) < room * tree.depth b - i))
+          (sym (is.link i (omega arith)))
           (let lt : 2 * i < 2 * o.half = omega (arith, opening.short) in (
             same_tight (o.e (2 * i)) (opening.tight (2 * i) lt),
             e_begins (2 * i) lt,
             ap new.label (e_ends (2 * i) lt) ∙ is.outer i (omega arith),
-            subst (λ x. depths x < room * tree.depth b - i) (sym (e_ends (2 * i) lt)) (let e : depths (o.q (2 * i + 1)) ≡ room * tree.depth b - (i + 1) = depth_part (2 * i + 1) (i + 1) (omega arith) (omega arith) in omega (arith, enough i l)),
+            subst (λ x. depths x < room * tree.depth b - i) (sym (e_ends (2 * i) lt)) (let e : depths (o.q (2 * i + 1))
+                ≡ room * tree.depth b - (i + 1) = depth_part (2 * i + 1) (i + 1) (omega arith) (omega arith) in
+                omega (arith, enough i l)),
           ))
       by_last (inl at) =
           let link_is : new.link (o.q (2 * i)) ≡ f.link b = ap (λ x. new.link (o.q (2 * x))) at ∙ is.last_link in
           let fl : far g (f.link b) < g.n = far_low g are (f.link b) b_inner.tight.low in
           let nb : f.out (far g (f.link b)) ≢ b = λ e. not_outer (ap f.label e) b_inner.above in
           let to : new.out (far g (f.link b)) ≡ f.out (far g (f.link b)) = out_old (far g (f.link b)) fl nb in
-          subst (λ d. IsTight g new d × (new.out (g.near d) ≡ o.q (2 * i)) × (new.label (new.out (far g d)) ≡ Outer) × (depths (new.out (far g d)) < room * tree.depth b - i)) (sym link_is) (
+          subst (λ d. IsTight g new d × (new.out (g.near d) ≡ o.q (2 * i)) × (new.label (new.out (far g d)) ≡ Outer)
+          × (depths (new.out (far g d)) < room * tree.depth b - i)) (sym link_is) (
             same_tight (f.link b) b_inner.tight,
-            out_in (g.near (f.link b)) (are.near_low (f.link b) b_inner.tight.low) b_inner.here ∙ (opening.last ∙ ap (λ x. o.q (2 * x)) (sym at)),
-            ap new.label to ∙ ((is.others (f.out (far g (f.link b))) (out_not_part (far g (f.link b)) fl nb)).label ∙ b_inner.above),
-            subst (λ x. depths x < room * tree.depth b - i) (sym to) (let e : depths (f.out (far g (f.link b))) ≡ room * tree.depth (f.out (far g (f.link b))) = depth_old (f.out (far g (f.link b))) (out_not_part (far g (f.link b)) fl nb) in omega (arith, enough i l)),
+            out_in (g.near (f.link b)) (are.near_low (f.link b) b_inner.tight.low) b_inner.here
+                ∙ (opening.last ∙ ap (λ x. o.q (2 * x)) (sym at)),
+            ap new.label to ∙ ((is.others (f.out (far g (f.link b))) (out_not_part (far g (f.link b)) fl nb)).label
+                ∙ b_inner.above),
+            subst (λ x. depths x < room * tree.depth b - i) (sym to) (let e : depths (f.out (far g (f.link b)))
+                ≡ room * tree.depth (f.out (far g (f.link b))) =
+                depth_old (f.out (far g (f.link b))) (out_not_part (far g (f.link b)) fl nb) in
+                omega (arith, enough i l)),
           )
         where
           not_outer : f.label (f.out (far g (f.link b))) ≡ f.label b → f.label (f.out (far g (f.link b))) ≡ Outer → ⊥
           not_outer same outer = let h : Inner ≡ Outer = sym opening.label ∙ (sym same ∙ outer) in cc
 
   m_outer : f.label (f.out (far g o.m)) ≡ Outer
-  m_outer = ap (λ x. f.label (f.out (far g x))) (some_is o.m b_inner.dart (sym opening.mate ∙ b_inner.mate)) ∙ b_inner.child
+  m_outer = ap (λ x. f.label (f.out (far g x))) (some_is o.m b_inner.dart (sym opening.mate ∙ b_inner.mate))
+      ∙ b_inner.child
 
   m_depth : tree.depth (f.out (far g o.m)) ≡ tree.depth b
-  m_depth = ap (λ x. tree.depth (f.out (far g x))) (some_is o.m b_inner.dart (sym opening.mate ∙ b_inner.mate)) ∙ b_inner.same
+  m_depth = ap (λ x. tree.depth (f.out (far g x))) (some_is o.m b_inner.dart (sym opening.mate ∙ b_inner.mate))
+      ∙ b_inner.same
 
   inner_part : (i : ℕ) → i ≤ o.turns → IsInner g new depths (o.q (2 * i))
   inner_part i l = by_first (cases_eq i 0)
@@ -225,7 +260,8 @@ module _ (g : Darts) (are : AreDarts g) (f : Forest) (r : ℕ) (valid : IsValid 
       own_depth : depths (o.q (2 * i)) ≡ room * tree.depth b - i
       own_depth = depth_part (2 * i) i (omega (arith, opening.short)) (omega arith)
 
-      with_mate : (d : ℕ) → new.mate (o.q (2 * i)) ≡ Some d → new.label (new.out (far g d)) ≡ Outer → depths (new.out (far g d)) ≡ room * tree.depth b - i → IsInner g new depths (o.q (2 * i))
+      with_mate : (d : ℕ) → new.mate (o.q (2 * i)) ≡ Some d → new.label (new.out (far g d)) ≡ Outer
+          → depths (new.out (far g d)) ≡ room * tree.depth b - i → IsInner g new depths (o.q (2 * i))
       with_mate d mate child same = record {
         tight = (hangs i l).0;
         here = (hangs i l).1;
@@ -238,28 +274,41 @@ module _ (g : Darts) (are : AreDarts g) (f : Forest) (r : ℕ) (valid : IsValid 
       }
 
       by_first : (i ≡ 0) ⊎ (i ≢ 0) → IsInner g new depths (o.q (2 * i))
-      by_first (inl z) = with_mate o.m (ap (λ x. new.mate (o.q x)) (let e : 2 * i ≡ 0 = omega arith in e) ∙ is.first_mate)
-          (ap new.label m_to ∙ ((is.others (f.out (far g o.m)) (out_not_part (far g o.m) m_far b_pair.other)).label ∙ m_outer))
-          (ap depths m_to ∙ (depth_old (f.out (far g o.m)) (out_not_part (far g o.m) m_far b_pair.other) ∙ (ap (λ x. room * x) m_depth ∙ (let e : room * tree.depth b ≡ room * tree.depth b - i = omega arith in e))))
+      by_first (inl z) = with_mate o.m (ap (λ x. new.mate (o.q x)) (let e : 2 * i ≡ 0 = omega arith in e)
+          ∙ is.first_mate)
+          (ap new.label m_to ∙ ((is.others (f.out (far g o.m)) (out_not_part (far g o.m) m_far b_pair.other)).label
+          ∙ m_outer))
+          (ap depths m_to ∙ (depth_old (f.out (far g o.m)) (out_not_part (far g o.m) m_far b_pair.other)
+          ∙ (ap (λ x. room * x) m_depth ∙ (let e : room * tree.depth b ≡ room * tree.depth b - i =
+          omega arith in e))))
       by_first (inr nz) = by_pair (i - 1) (omega arith)
         where
           by_pair : (k : ℕ) → i ≡ k + 1 → IsInner g new depths (o.q (2 * i))
           by_pair k at =
-              let back : new.out (far g (g.twin (o.e (2 * k + 1)))) ≡ o.q (2 * k + 1) = ap new.out (far_twin g are (o.e (2 * k + 1))) ∙ e_begins (2 * k + 1) (omega (arith, opening.short)) in
-              with_mate (g.twin (o.e (2 * k + 1))) (ap (λ x. new.mate (o.q x)) (let e : 2 * i ≡ 2 * k + 2 = omega arith in e) ∙ is.even_mate k (omega (arith, opening.short)))
+              let back : new.out (far g (g.twin (o.e (2 * k + 1)))) ≡ o.q (2 * k + 1) =
+              ap new.out (far_twin g are (o.e (2 * k + 1))) ∙ e_begins (2 * k + 1) (omega (arith, opening.short)) in
+              with_mate (g.twin (o.e (2 * k + 1))) (ap (λ x. new.mate (o.q x)) (let e : 2 * i ≡ 2 * k + 2 =
+              omega arith in e) ∙ is.even_mate k (omega (arith, opening.short)))
               (ap new.label back ∙ is.outer k (omega arith))
               (ap depths back ∙ depth_part (2 * k + 1) i (omega (arith, opening.short)) (omega arith))
 
   inner_old : (c : ℕ) → f.nest.up c ≢ b → f.label c ≡ Inner → IsInner g f tree.depth c → IsInner g new depths c
   inner_old c ne l old = record {
     tight = subst (λ d. IsTight g new d) (sym link_is) (same_tight (f.link c) old.tight);
-    here = ap (λ d. new.out (g.near d)) link_is ∙ (out_old (g.near (f.link c)) (are.near_low (f.link c) old.tight.low) (λ x. other_not_b c ne (sym old.here ∙ x)) ∙ old.here);
-    above = ap (λ d. new.label (new.out (far g d))) link_is ∙ (ap new.label up_to ∙ ((is.others (f.out (far g (f.link c))) (out_not_part (far g (f.link c)) ul un)).label ∙ old.above));
-    nearer = subst (λ d. depths (new.out (far g d)) < depths c) (sym link_is) (subst (λ x. depths x < depths c) (sym up_to) nearer);
+    here = ap (λ d. new.out (g.near d)) link_is
+        ∙ (out_old (g.near (f.link c)) (are.near_low (f.link c) old.tight.low)
+        (λ x. other_not_b c ne (sym old.here ∙ x)) ∙ old.here);
+    above = ap (λ d. new.label (new.out (far g d))) link_is
+        ∙ (ap new.label up_to ∙ ((is.others (f.out (far g (f.link c))) (out_not_part (far g (f.link c)) ul un)).label
+        ∙ old.above));
+    nearer = subst (λ d. depths (new.out (far g d)) < depths c) (sym link_is)
+        (subst (λ x. depths x < depths c) (sym up_to) nearer);
     dart = old.dart;
     mate = (is.others c ne).mate ∙ old.mate;
-    child = ap new.label down_to ∙ ((is.others (f.out (far g old.dart)) (out_not_part (far g old.dart) dl dn)).label ∙ old.child);
-    same = ap depths down_to ∙ (depth_old (f.out (far g old.dart)) (out_not_part (far g old.dart) dl dn) ∙ (ap (λ x. room * x) old.same ∙ sym (depth_old c ne)));
+    child = ap new.label down_to ∙ ((is.others (f.out (far g old.dart)) (out_not_part (far g old.dart) dl dn)).label
+        ∙ old.child);
+    same = ap depths down_to ∙ (depth_old (f.out (far g old.dart)) (out_not_part (far g old.dart) dl dn)
+        ∙ (ap (λ x. room * x) old.same ∙ sym (depth_old c ne)));
   }
     where
       outer_not : (x : ℕ) → f.label x ≡ Outer → x ≢ b
@@ -288,14 +337,23 @@ module _ (g : Darts) (are : AreDarts g) (f : Forest) (r : ℕ) (valid : IsValid 
 
       nearer : depths (f.out (far g (f.link c))) < depths c
       nearer =
-          let a : depths (f.out (far g (f.link c))) ≡ room * tree.depth (f.out (far g (f.link c))) = depth_old (f.out (far g (f.link c))) (out_not_part (far g (f.link c)) ul un) in
+          let a : depths (f.out (far g (f.link c))) ≡ room * tree.depth (f.out (far g (f.link c))) =
+          depth_old (f.out (far g (f.link c))) (out_not_part (far g (f.link c)) ul un) in
           let z : depths c ≡ room * tree.depth c = depth_old c ne in
-          let h : room * tree.depth (f.out (far g (f.link c))) + room ≤ room * tree.depth c = deeper (tree.depth (f.out (far g (f.link c)))) (tree.depth c) old.nearer in
+          let h : room * tree.depth (f.out (far g (f.link c))) + room ≤ room * tree.depth c =
+          deeper (tree.depth (f.out (far g (f.link c)))) (tree.depth c) old.nearer in
           omega (arith, h)
 
   -- A label by the place.
-  by_label : (j : ℕ) → j ≤ 2 * o.half → ((i : ℕ) × (i ≤ o.turns) × (j ≡ 2 * i)) ⊎ (((i : ℕ) × (i < o.turns) × (j ≡ 2 * i + 1)) ⊎ (2 * o.turns < j))
-  by_label j l = elim (cases_lt (2 * o.turns) j) [ inl far ↦ inr (inr far) | inr near ↦ elim (halves j) [ inl w ↦ inl (w.0, omega (arith, w.1), w.1) | inr w ↦ inr (inl (w.0, omega (arith, w.1), w.1)) ] ]
+  by_label : (j : ℕ) → j ≤ 2 * o.half → ((i : ℕ) × (i ≤ o.turns) × (j ≡ 2 * i))
+      ⊎ (((i : ℕ) × (i < o.turns) × (j ≡ 2 * i + 1)) ⊎ (2 * o.turns < j))
+  by_label j l = elim (cases_lt (2 * o.turns) j) [
+    | inl far ↦ inr (inr far)
+    | inr near ↦ elim (halves j) [
+      | inl w ↦ inl (w.0, omega (arith, w.1), w.1)
+      | inr w ↦ inr (inl (w.0, omega (arith, w.1), w.1))
+    ]
+  ]
 
   new_tree : IsTree g new r
   new_tree = record {
@@ -308,7 +366,8 @@ module _ (g : Darts) (are : AreDarts g) (f : Forest) (r : ℕ) (valid : IsValid 
     where
       r_old : f.nest.up r ≢ b
       r_old up =
-          let w : IsOutermost g.n f r = valid.outermost.named r (λ off. (let h : Outer ≡ Outside = sym tree.root_outer ∙ off in cc)) in
+          let w : IsOutermost g.n f r =
+          valid.outermost.named r (λ off. (let h : Outer ≡ Outside = sym tree.root_outer ∙ off in cc)) in
           let at : r ≡ b = sym (ap f.nest.up (sym w.2) ∙ (valid.outermost.tops w.0 w.1 ∙ w.2)) ∙ up in
           let h : Outer ≡ Inner = sym tree.root_outer ∙ (ap f.label at ∙ opening.label) in cc
 
@@ -316,11 +375,15 @@ module _ (g : Darts) (are : AreDarts g) (f : Forest) (r : ℕ) (valid : IsValid 
       inner c l (inl e) = let h : Outside ≡ Inner = sym is.gone.0 ∙ (ap new.label (sym e) ∙ l) in absurd (cc h)
       inner c l (inr (inl p)) = subst (λ x. IsInner g new depths x) p.2 (at_part (by_label p.0 p.1))
         where
-          at_part : ((i : ℕ) × (i ≤ o.turns) × (p.0 ≡ 2 * i)) ⊎ (((i : ℕ) × (i < o.turns) × (p.0 ≡ 2 * i + 1)) ⊎ (2 * o.turns < p.0)) → IsInner g new depths (o.q p.0)
+          at_part : ((i : ℕ) × (i ≤ o.turns) × (p.0 ≡ 2 * i)) ⊎ (((i : ℕ) × (i < o.turns) × (p.0 ≡ 2 * i + 1))
+              ⊎ (2 * o.turns < p.0)) → IsInner g new depths (o.q p.0)
           at_part (inl w) = subst (λ j. IsInner g new depths (o.q j)) (sym w.2) (inner_part w.0 w.1)
-          at_part (inr (inl w)) = let h : Outer ≡ Inner = sym (is.outer w.0 w.1) ∙ (ap (λ j. new.label (o.q j)) (sym w.2) ∙ (ap new.label p.2 ∙ l)) in absurd (cc h)
-          at_part (inr (inr far)) = let h : Outside ≡ Inner = sym (is.off p.0 far p.1) ∙ (ap new.label p.2 ∙ l) in absurd (cc h)
-      inner c l (inr (inr ne)) = inner_old c ne (sym (is.others c ne).label ∙ l) (tree.inner c (sym (is.others c ne).label ∙ l))
+          at_part (inr (inl w)) = let h : Outer ≡ Inner = sym (is.outer w.0 w.1)
+              ∙ (ap (λ j. new.label (o.q j)) (sym w.2) ∙ (ap new.label p.2 ∙ l)) in absurd (cc h)
+          at_part (inr (inr far)) = let h : Outside ≡ Inner = sym (is.off p.0 far p.1) ∙ (ap new.label p.2 ∙ l) in
+              absurd (cc h)
+      inner c l (inr (inr ne)) =
+          inner_old c ne (sym (is.others c ne).label ∙ l) (tree.inner c (sym (is.others c ne).label ∙ l))
 
       old_is : (c : ℕ) → f.nest.up c ≢ b → IsOuter g f r c → IsOuter g new r c
       old_is c ne (inl e) = inl e
@@ -328,20 +391,32 @@ module _ (g : Darts) (are : AreDarts g) (f : Forest) (r : ℕ) (valid : IsValid 
         where
           label : (f.out (far g w.0) ≡ b) ⊎ (f.out (far g w.0) ≢ b) → new.label (new.out (far g w.0)) ≡ Inner
           label (inl e) =
-              let twin : g.twin w.0 ≡ o.m = some_is (g.twin w.0) o.m (sym (valid.matched c w.0 w.1).back ∙ (ap f.mate e ∙ opening.mate)) in
+              let twin : g.twin w.0 ≡ o.m =
+              some_is (g.twin w.0) o.m (sym (valid.matched c w.0 w.1).back ∙ (ap f.mate e ∙ opening.mate)) in
               ap new.label (ap (λ x. new.out (g.near x)) twin ∙ m_at) ∙ is.inner 0 (omega arith)
           label (inr nb) =
               let fl : far g w.0 < g.n = far_low g are w.0 (valid.matched c w.0 w.1).tight.low in
-              ap new.label (out_old (far g w.0) fl nb) ∙ ((is.others (f.out (far g w.0)) (out_not_part (far g w.0) fl nb)).label ∙ w.2)
+              ap new.label (out_old (far g w.0) fl nb)
+              ∙ ((is.others (f.out (far g w.0)) (out_not_part (far g w.0) fl nb)).label ∙ w.2)
 
       outer : (c : ℕ) → new.label c ≡ Outer → Place c → IsOuter g new r c
       outer c l (inl e) = let h : Outside ≡ Outer = sym is.gone.0 ∙ (ap new.label (sym e) ∙ l) in absurd (cc h)
       outer c l (inr (inl p)) = subst (λ x. IsOuter g new r x) p.2 (at_part (by_label p.0 p.1))
         where
-          at_part : ((i : ℕ) × (i ≤ o.turns) × (p.0 ≡ 2 * i)) ⊎ (((i : ℕ) × (i < o.turns) × (p.0 ≡ 2 * i + 1)) ⊎ (2 * o.turns < p.0)) → IsOuter g new r (o.q p.0)
-          at_part (inl w) = let h : Inner ≡ Outer = sym (is.inner w.0 w.1) ∙ (ap (λ j. new.label (o.q j)) (sym w.2) ∙ (ap new.label p.2 ∙ l)) in absurd (cc h)
-          at_part (inr (inl w)) = inr (o.e (2 * w.0 + 1), ap (λ j. new.mate (o.q j)) w.2 ∙ is.odd_mate w.0 (omega (arith, w.1, opening.short)), ap new.label (e_ends (2 * w.0 + 1) (omega (arith, w.1, opening.short)) ∙ ap o.q (let e : 2 * w.0 + 1 + 1 ≡ 2 * (w.0 + 1) = omega arith in e)) ∙ is.inner (w.0 + 1) (omega (arith, w.1)))
-          at_part (inr (inr far)) = let h : Outside ≡ Outer = sym (is.off p.0 far p.1) ∙ (ap new.label p.2 ∙ l) in absurd (cc h)
+          at_part : ((i : ℕ) × (i ≤ o.turns) × (p.0 ≡ 2 * i)) ⊎ (((i : ℕ) × (i < o.turns) × (p.0 ≡ 2 * i + 1))
+              ⊎ (2 * o.turns < p.0)) → IsOuter g new r (o.q p.0)
+          at_part (inl w) = let h : Inner ≡ Outer = sym (is.inner w.0 w.1)
+              ∙ (ap (λ j. new.label (o.q j)) (sym w.2) ∙ (ap new.label p.2 ∙ l)) in absurd (cc h)
+          at_part (inr (inl w)) = inr (
+            o.e (2 * w.0 + 1),
+            ap (λ j. new.mate (o.q j)) w.2
+                ∙ is.odd_mate w.0 (omega (arith, w.1, opening.short)),
+            ap new.label (e_ends (2 * w.0 + 1) (omega (arith, w.1, opening.short))
+                ∙ ap o.q (let e : 2 * w.0 + 1 + 1 ≡ 2 * (w.0 + 1) = omega arith in e))
+                ∙ is.inner (w.0 + 1) (omega (arith, w.1)),
+          )
+          at_part (inr (inr far)) = let h : Outside ≡ Outer = sym (is.off p.0 far p.1) ∙ (ap new.label p.2 ∙ l) in
+              absurd (cc h)
       outer c l (inr (inr ne)) = old_is c ne (tree.outer c (sym (is.others c ne).label ∙ l))
 
   new_outside : KeepsOutside g new
@@ -352,27 +427,42 @@ module _ (g : Darts) (are : AreDarts g) (f : Forest) (r : ℕ) (valid : IsValid 
           let fl : far g d < g.n = far_low g are d (valid.matched c d was).tight.low in
           let gone : f.label (f.out (far g d)) ≡ Outside = valid.outside c d out was in
           let nb : f.out (far g d) ≢ b = λ e. b_named (ap f.label (sym e) ∙ gone) in
-          ap new.label (out_old (far g d) fl nb) ∙ ((is.others (f.out (far g d)) (out_not_part (far g d) fl nb)).label ∙ gone)
+          ap new.label (out_old (far g d) fl nb) ∙ ((is.others (f.out (far g d)) (out_not_part (far g d) fl nb)).label
+          ∙ gone)
 
-      at_part : (j : ℕ) → j ≤ 2 * o.half → 2 * o.turns < j → new.mate (o.q j) ≡ Some d → new.label (new.out (far g d)) ≡ Outside
-      at_part j lj past is_d = elim (halves j) [ inl w ↦ by_even (w.0 - 1) (omega (arith, w.1)) | inr w ↦ by_odd w.0 w.1 ]
+      at_part : (j : ℕ) → j ≤ 2 * o.half → 2 * o.turns < j → new.mate (o.q j) ≡ Some d → new.label (new.out (far g d))
+          ≡ Outside
+      at_part j lj past is_d = elim (halves j) [
+        | inl w ↦ by_even (w.0 - 1) (omega (arith, w.1))
+        | inr w ↦ by_odd w.0 w.1
+      ]
         where
           by_even : (k : ℕ) → j ≡ 2 * k + 2 → new.label (new.out (far g d)) ≡ Outside
           by_even k at =
-              let d_is : g.twin (o.e (2 * k + 1)) ≡ d = some_is (g.twin (o.e (2 * k + 1))) d (sym (is.even_mate k (omega arith)) ∙ (ap (λ x. new.mate (o.q x)) (sym at) ∙ is_d)) in
-              ap (λ x. new.label (new.out (far g x))) (sym d_is) ∙ (ap new.label (ap new.out (far_twin g are (o.e (2 * k + 1))) ∙ e_begins (2 * k + 1) (omega arith)) ∙ is.off (2 * k + 1) (omega arith) (omega arith))
+              let d_is : g.twin (o.e (2 * k + 1)) ≡ d =
+              some_is (g.twin (o.e (2 * k + 1))) d (sym (is.even_mate k (omega arith))
+              ∙ (ap (λ x. new.mate (o.q x)) (sym at) ∙ is_d)) in
+              ap (λ x. new.label (new.out (far g x))) (sym d_is)
+              ∙ (ap new.label (ap new.out (far_twin g are (o.e (2 * k + 1))) ∙ e_begins (2 * k + 1) (omega arith))
+              ∙ is.off (2 * k + 1) (omega arith) (omega arith))
 
           by_odd : (k : ℕ) → j ≡ 2 * k + 1 → new.label (new.out (far g d)) ≡ Outside
           by_odd k at =
-              let d_is : o.e (2 * k + 1) ≡ d = some_is (o.e (2 * k + 1)) d (sym (is.odd_mate k (omega arith)) ∙ (ap (λ x. new.mate (o.q x)) (sym at) ∙ is_d)) in
-              ap (λ x. new.label (new.out (far g x))) (sym d_is) ∙ (ap new.label (e_ends (2 * k + 1) (omega arith)) ∙ is.off (2 * k + 1 + 1) (omega arith) (omega arith))
+              let d_is : o.e (2 * k + 1) ≡ d =
+              some_is (o.e (2 * k + 1)) d (sym (is.odd_mate k (omega arith))
+              ∙ (ap (λ x. new.mate (o.q x)) (sym at) ∙ is_d)) in
+              ap (λ x. new.label (new.out (far g x))) (sym d_is) ∙ (ap new.label (e_ends (2 * k + 1) (omega arith))
+              ∙ is.off (2 * k + 1 + 1) (omega arith) (omega arith))
 
       out_part : (j : ℕ) → j ≤ 2 * o.half → new.label (o.q j) ≡ Outside → 2 * o.turns < j
       out_part j lj off = by_case (by_label j lj)
         where
-          by_case : ((i : ℕ) × (i ≤ o.turns) × (j ≡ 2 * i)) ⊎ (((i : ℕ) × (i < o.turns) × (j ≡ 2 * i + 1)) ⊎ (2 * o.turns < j)) → 2 * o.turns < j
-          by_case (inl w) = let h : Inner ≡ Outside = sym (is.inner w.0 w.1) ∙ (ap (λ x. new.label (o.q x)) (sym w.2) ∙ off) in absurd (cc h)
-          by_case (inr (inl w)) = let h : Outer ≡ Outside = sym (is.outer w.0 w.1) ∙ (ap (λ x. new.label (o.q x)) (sym w.2) ∙ off) in absurd (cc h)
+          by_case : ((i : ℕ) × (i ≤ o.turns) × (j ≡ 2 * i)) ⊎ (((i : ℕ) × (i < o.turns) × (j ≡ 2 * i + 1))
+              ⊎ (2 * o.turns < j)) → 2 * o.turns < j
+          by_case (inl w) = let h : Inner ≡ Outside = sym (is.inner w.0 w.1)
+              ∙ (ap (λ x. new.label (o.q x)) (sym w.2) ∙ off) in absurd (cc h)
+          by_case (inr (inl w)) = let h : Outer ≡ Outside = sym (is.outer w.0 w.1)
+              ∙ (ap (λ x. new.label (o.q x)) (sym w.2) ∙ off) in absurd (cc h)
           by_case (inr (inr far)) = far
 
       by_place : Place c → new.label (new.out (far g d)) ≡ Outside

@@ -19,7 +19,8 @@ far_twin g are d = ap g.near (are.twin_twin d)
 pub tight_twin : (g : Darts) → AreDarts g → (f : Forest) (d : ℕ) → IsTight g f d → IsTight g f (g.twin d)
 tight_twin g are f d tight = record {
   low = are.twin_low d tight.low;
-  exact = ap (weight_between f (far g d)) (far_twin g are d) ∙ (load_order f (far g d) (g.near d) ∙ (tight.exact ∙ sym (ap (λ x. x +ℤ x) (are.cost_twin d))));
+  exact = ap (weight_between f (far g d)) (far_twin g are d)
+      ∙ (load_order f (far g d) (g.near d) ∙ (tight.exact ∙ sym (ap (λ x. x +ℤ x) (are.cost_twin d))));
 }
 
 module _ (g : Darts) (are : AreDarts g) (f : Forest) (root : Option ℕ) (valid : IsValid g f root) where
@@ -33,15 +34,18 @@ module _ (g : Darts) (are : AreDarts g) (f : Forest) (root : Option ℕ) (valid 
 
   -- The mate of an inner blossom is outer.
   pub inner_mate : (b d : ℕ) → f.label b ≡ Inner → f.mate b ≡ Some d → f.label (f.out (far g d)) ≡ Outer
-  inner_mate b d label mate = let w : (r : ℕ) × (root ≡ Some r) × IsTree g f r = tree_of b (λ off. cc) in by_tree w.2.depth (w.2.inner b label)
+  inner_mate b d label mate = let w : (r : ℕ) × (root ≡ Some r) × IsTree g f r = tree_of b (λ off. cc) in
+      by_tree w.2.depth (w.2.inner b label)
     where
       by_tree : (depth : ℕ → ℕ) → IsInner g f depth b → f.label (f.out (far g d)) ≡ Outer
       by_tree depth is = ap (λ x. f.label (f.out (far g x))) (some_is d is.dart (sym mate ∙ is.mate)) ∙ is.child
 
   -- The mate of an outer blossom is inner.
   pub outer_mate : (b d : ℕ) → f.label b ≡ Outer → f.mate b ≡ Some d → f.label (f.out (far g d)) ≡ Inner
-  outer_mate b d label mate = let w : (r : ℕ) × (root ≡ Some r) × IsTree g f r = tree_of b (λ off. cc) in by_tree w.0 w.2 (w.2.outer b label)
+  outer_mate b d label mate = let w : (r : ℕ) × (root ≡ Some r) × IsTree g f r = tree_of b (λ off. cc) in
+      by_tree w.0 w.2 (w.2.outer b label)
     where
       by_tree : (r : ℕ) → IsTree g f r → IsOuter g f r b → f.label (f.out (far g d)) ≡ Inner
-      by_tree r tree (inl e) = let clash : ◌≡◌ {A = Option ℕ} (Some d) None = sym mate ∙ (ap f.mate e ∙ tree.root_free) in absurd (cc clash)
+      by_tree r tree (inl e) = let clash : ◌≡◌ {A = Option ℕ} (Some d) None =
+          sym mate ∙ (ap f.mate e ∙ tree.root_free) in absurd (cc clash)
       by_tree r tree (inr is) = ap (λ x. f.label (f.out (far g x))) (some_is d is.0 (sym mate ∙ is.1)) ∙ is.2

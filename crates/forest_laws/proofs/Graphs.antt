@@ -1,5 +1,6 @@
 -- The darts of a graph are darts: they come in pairs and begin at vertices.
-use Rattle.std.proofs.Common.{◌≡◌, ◌≢◌, ℕ, ◌+◌, ◌-◌, ◌*◌, ◌/◌, ◌%◌, ◌<◌, eqb, length, ◌⊎◌, refl, sym, ◌∙◌, ap, subst, inl, inr, arith}
+use Rattle.std.proofs.Common.{◌≡◌, ◌≢◌, ℕ, ◌+◌, ◌-◌, ◌*◌, ◌/◌, ◌%◌, ◌<◌, eqb, length, ◌⊎◌, refl, sym, ◌∙◌, ap, subst}
+use Rattle.std.proofs.Common.{inl, inr, arith}
 use Rattle.std.proofs.lemmas.Bool.{cases_eq, cond-true, cond-false, eq-eqb, ne_eqb}
 use Rattle.def_matching.specs.Matching.{WeightedGraph, IsGraph, edge_at}
 use Rattle.def_forest.specs.Darts.{AreDarts, darts_of, other_dart, far}
@@ -14,12 +15,14 @@ twin_odd d ne = cond-false (eqb (d % 2) 0) (d + 1) (d - 1) (ne_eqb (d % 2) 0 ne)
 pub near_even : (g : WeightedGraph) (d k : ℕ) → d ≡ 2 * k → (darts_of g).near d ≡ (edge_at g k).u
 near_even g d k e =
     let half : d / 2 ≡ k = omega arith in
-    cond-true (eqb (d % 2) 0) (edge_at g (d / 2)).u (edge_at g (d / 2)).v (eq-eqb (d % 2) 0 (omega arith)) ∙ ap (λ j. (edge_at g j).u) half
+    cond-true (eqb (d % 2) 0) (edge_at g (d / 2)).u (edge_at g (d / 2)).v (eq-eqb (d % 2) 0 (omega arith))
+    ∙ ap (λ j. (edge_at g j).u) half
 
 pub near_odd : (g : WeightedGraph) (d k : ℕ) → d ≡ 2 * k + 1 → (darts_of g).near d ≡ (edge_at g k).v
 near_odd g d k e =
     let half : d / 2 ≡ k = omega arith in
-    cond-false (eqb (d % 2) 0) (edge_at g (d / 2)).u (edge_at g (d / 2)).v (ne_eqb (d % 2) 0 (λ x. absurd (omega arith))) ∙ ap (λ j. (edge_at g j).v) half
+    cond-false (eqb (d % 2) 0) (edge_at g (d / 2)).u (edge_at g (d / 2)).v
+    (ne_eqb (d % 2) 0 (λ x. absurd (omega arith))) ∙ ap (λ j. (edge_at g j).v) half
 
 -- An edge's first dart goes from its one end to the other.
 pub dart_near : (g : WeightedGraph) (k : ℕ) → (darts_of g).near (2 * k) ≡ (edge_at g k).u
@@ -40,17 +43,23 @@ are_darts g is = record {
 }
   where
     near_low : (d : ℕ) → d < 2 * length g.edges → (d % 2 ≡ 0) ⊎ (d % 2 ≢ 0) → (darts_of g).near d < g.n
-    near_low d l (inl e) = subst (λ v. v < g.n) (sym (near_even g d (d / 2) (omega arith))) (is.left (d / 2) (omega arith))
-    near_low d l (inr ne) = subst (λ v. v < g.n) (sym (near_odd g d (d / 2) (omega arith))) (is.right (d / 2) (omega arith))
+    near_low d l (inl e) = subst (λ v. v < g.n) (sym (near_even g d (d / 2) (omega arith)))
+        (is.left (d / 2) (omega arith))
+    near_low d l (inr ne) = subst (λ v. v < g.n) (sym (near_odd g d (d / 2) (omega arith)))
+        (is.right (d / 2) (omega arith))
 
     twin_low : (d : ℕ) → d < 2 * length g.edges → (d % 2 ≡ 0) ⊎ (d % 2 ≢ 0) → other_dart d < 2 * length g.edges
     twin_low d l (inl e) = subst (λ x. x < 2 * length g.edges) (sym (twin_even d e)) (omega arith)
     twin_low d l (inr ne) = subst (λ x. x < 2 * length g.edges) (sym (twin_odd d ne)) (omega arith)
 
     twin_twin : (d : ℕ) → (d % 2 ≡ 0) ⊎ (d % 2 ≢ 0) → other_dart (other_dart d) ≡ d
-    twin_twin d (inl e) = ap other_dart (twin_even d e) ∙ (twin_odd (d + 1) (λ x. absurd (omega arith)) ∙ (let h : d + 1 - 1 ≡ d = omega arith in h))
-    twin_twin d (inr ne) = ap other_dart (twin_odd d ne) ∙ (twin_even (d - 1) (omega arith) ∙ (let h : d - 1 + 1 ≡ d = omega arith in h))
+    twin_twin d (inl e) = ap other_dart (twin_even d e) ∙ (twin_odd (d + 1) (λ x. absurd (omega arith))
+        ∙ (let h : d + 1 - 1 ≡ d = omega arith in h))
+    twin_twin d (inr ne) = ap other_dart (twin_odd d ne)
+        ∙ (twin_even (d - 1) (omega arith) ∙ (let h : d - 1 + 1 ≡ d = omega arith in h))
 
     cost_twin : (d : ℕ) → (d % 2 ≡ 0) ⊎ (d % 2 ≢ 0) → (darts_of g).cost (other_dart d) ≡ (darts_of g).cost d
-    cost_twin d (inl e) = ap (darts_of g).cost (twin_even d e) ∙ (let h : (d + 1) / 2 ≡ d / 2 = omega arith in ap (λ j. (edge_at g j).cost) h)
-    cost_twin d (inr ne) = ap (darts_of g).cost (twin_odd d ne) ∙ (let h : (d - 1) / 2 ≡ d / 2 = omega arith in ap (λ j. (edge_at g j).cost) h)
+    cost_twin d (inl e) = ap (darts_of g).cost (twin_even d e) ∙ (let h : (d + 1) / 2 ≡ d / 2 = omega arith in
+        ap (λ j. (edge_at g j).cost) h)
+    cost_twin d (inr ne) = ap (darts_of g).cost (twin_odd d ne) ∙ (let h : (d - 1) / 2 ≡ d / 2 = omega arith in
+        ap (λ j. (edge_at g j).cost) h)

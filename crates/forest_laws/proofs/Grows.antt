@@ -1,11 +1,13 @@
 -- A tree that begins, and a tree that grows, keep a forest valid.
-use Rattle.std.proofs.Common.{◌≡◌, ◌≢◌, ℕ, suc, ◌<◌, Option, Some, None, ◌⊎◌, refl, sym, ◌∙◌, ap, subst, inl, inr, arith}
+use Rattle.std.proofs.Common.{◌≡◌, ◌≢◌, ℕ, suc, ◌<◌, Option, Some, None, ◌⊎◌, refl, sym, ◌∙◌, ap, subst, inl, inr}
+use Rattle.std.proofs.Common.{arith}
 use Rattle.std.proofs.lemmas.Bool.{cases_eq}
 use Rattle.def_forest.specs.Darts.{Darts, AreDarts, far}
 use Rattle.def_forest.specs.Forests.{Forest, IsTight, IsOutermost, set_at}
 use Rattle.def_forest.specs.Steps.{rooted, grown}
 use Rattle.def_forest.specs.Ways.{Reaches}
-use Rattle.def_forest.specs.Valid.{AreOutermost, IsNested, IsRing, IsJoint, IsFeasible, IsMatched, IsMate, IsTree, IsInner, IsOuter, IsValid, KeepsOutside}
+use Rattle.def_forest.specs.Valid.{AreOutermost, IsNested, IsRing, IsJoint, IsFeasible, IsMatched, IsMate, IsTree}
+use Rattle.def_forest.specs.Valid.{IsInner, IsOuter, IsValid, KeepsOutside}
 use Rattle.def_forest.specs.declared.kinds.Label.{Label}
 use Rattle.def_forest.specs.declared.kinds.Label.TheVariants.{Outer, Inner, Outside}
 use Rattle.forest_laws.proofs.Writes.{some_is, set_here, set_there}
@@ -33,32 +35,76 @@ module _ (g : Darts) (f : Forest) (label : ℕ → Label) (mate : ℕ → Option
   }
     where
       ring : (b : ℕ) → IsRing g f b → IsRing g (replaced f label mate link) b
-      ring b is = record { half = is.half; some = is.some; odd = is.odd; closed = is.closed; inside = is.inside; lower = is.lower; below = is.below; distinct = is.distinct; all = is.all; shared = is.shared }
+      ring b is = record {
+        half = is.half;
+        some = is.some;
+        odd = is.odd;
+        closed = is.closed;
+        inside = is.inside;
+        lower =
+            is.lower;
+        below = is.below;
+        distinct = is.distinct;
+        all = is.all;
+        shared = is.shared;
+      }
 
       joint : (p : ℕ) → IsJoint g f p → IsJoint g (replaced f label mate link) p
-      joint p is = record { tight = same_tight (f.nest.joint p) is.tight; begins = is.begins; ends = is.ends; same = is.same }
+      joint p is = record {
+        tight = same_tight (f.nest.joint p) is.tight;
+        begins = is.begins;
+        ends = is.ends;
+        same =
+            is.same;
+      }
 
-  pub same_outermost : (n : ℕ) → AreOutermost n f → ((b : ℕ) → label b ≢ Outside → IsOutermost n f b) → AreOutermost n (replaced f label mate link)
-  same_outermost n top named = record { vertices = top.vertices; out_low = top.out_low; held = top.held; tops = top.tops; together = top.together; named = named }
+  pub same_outermost : (n : ℕ) → AreOutermost n f → ((b : ℕ) → label b ≢ Outside → IsOutermost n f b)
+      → AreOutermost n (replaced f label mate link)
+  same_outermost n top named = record {
+    vertices = top.vertices;
+    out_low = top.out_low;
+    held = top.held;
+    tops =
+        top.tops;
+    together = top.together;
+    named = named;
+  }
 
   -- The mates are the same.
-  pub same_matched : (m : ℕ → Option ℕ) → m ≡ mate → IsMatched g (record f { mate = m }) → IsMatched g (replaced f label mate link)
-  same_matched m e matched b d is = let x : IsMate g (record f { mate = m }) b d = matched b d (ap (λ (h : ℕ → Option ℕ). h b) e ∙ is) in
-      record { tight = record { low = x.tight.low; exact = x.tight.exact }; here = x.here; other = x.other; back = sym (ap (λ (h : ℕ → Option ℕ). h (f.out (far g d))) e) ∙ x.back }
+  pub same_matched : (m : ℕ → Option ℕ) → m ≡ mate → IsMatched g (record f { mate = m })
+      → IsMatched g (replaced f label mate link)
+  same_matched m e matched b d is = let x : IsMate g (record f { mate = m }) b d =
+      matched b d (ap (λ (h : ℕ → Option ℕ). h b) e ∙ is) in
+      record {
+        tight = record { low = x.tight.low; exact = x.tight.exact };
+        here = x.here;
+        other = x.other;
+        back =
+            sym (ap (λ (h : ℕ → Option ℕ). h (f.out (far g d))) e) ∙ x.back;
+      }
 
 -- The mates of a forest as they are.
-pub own_matched : (g : Darts) (f : Forest) (label : ℕ → Label) (link : ℕ → ℕ) → IsMatched g f → IsMatched g (replaced f label f.mate link)
+pub own_matched : (g : Darts) (f : Forest) (label : ℕ → Label) (link : ℕ → ℕ) → IsMatched g f
+    → IsMatched g (replaced f label f.mate link)
 own_matched g f label link matched b d is = let x : IsMate g f b d = matched b d is in
-    record { tight = record { low = x.tight.low; exact = x.tight.exact }; here = x.here; other = x.other; back = x.back }
+    record {
+      tight = record { low = x.tight.low; exact = x.tight.exact };
+      here = x.here;
+      other = x.other;
+      back =
+          x.back;
+    }
 
-module _ (g : Darts) (are : AreDarts g) (f : Forest) (valid : IsValid g f None) (b : ℕ) (outermost : IsOutermost g.n f b) (free : f.mate b ≡ None) where
+module _ (g : Darts) (are : AreDarts g) (f : Forest) (valid : IsValid g f None) (b : ℕ)
+    (outermost : IsOutermost g.n f b) (free : f.mate b ≡ None) where
   root_label : (x : ℕ) → x ≢ b → set_at f.label b Outer x ≡ Outside
   root_label x ne = set_there f.label b x Outer ne ∙ valid.no_tree refl x
 
   -- Where no tree stands, a blossom that is not matched may become the root.
   pub rooted_valid : IsValid g (rooted f b) (Some b)
   rooted_valid = record {
-    outermost = same_outermost g f (set_at f.label b Outer) f.mate f.link g.n valid.outermost (λ x named. by_place x named (cases_eq x b));
+    outermost = same_outermost g f (set_at f.label b Outer) f.mate f.link g.n valid.outermost
+        (λ x named. by_place x named (cases_eq x b));
     nested = same_nested g f (set_at f.label b Outer) f.mate f.link valid.nested;
     feasible = same_feasible g f (set_at f.label b Outer) f.mate f.link valid.feasible;
     matched = own_matched g f (set_at f.label b Outer) f.link valid.matched;
@@ -84,7 +130,8 @@ module _ (g : Darts) (are : AreDarts g) (f : Forest) (valid : IsValid g f None) 
       }
         where
           no_inner : (x : ℕ) → set_at f.label b Outer x ≡ Inner → (x ≡ b) ⊎ (x ≢ b) → ⊥
-          no_inner x l (inl e) = let h : Outer ≡ Inner = sym (set_here f.label b Outer) ∙ (ap (set_at f.label b Outer) (sym e) ∙ l) in cc
+          no_inner x l (inl e) = let h : Outer ≡ Inner = sym (set_here f.label b Outer)
+              ∙ (ap (set_at f.label b Outer) (sym e) ∙ l) in cc
           no_inner x l (inr ne) = let h : Outside ≡ Inner = sym (root_label x ne) ∙ l in cc
 
           is_root : (x : ℕ) → set_at f.label b Outer x ≡ Outer → (x ≡ b) ⊎ (x ≢ b) → x ≡ b
@@ -96,9 +143,11 @@ module _ (g : Darts) (are : AreDarts g) (f : Forest) (valid : IsValid g f None) 
         where
           by_place' : (f.out (far g d) ≡ b) ⊎ (f.out (far g d) ≢ b) → set_at f.label b Outer (f.out (far g d)) ≡ Outside
           by_place' (inr ne) = root_label (f.out (far g d)) ne
-          by_place' (inl e) = let h : ◌≡◌ {A = Option ℕ} (Some (g.twin d)) None = sym ((valid.matched x d mate).back) ∙ (ap f.mate e ∙ free) in absurd (cc h)
+          by_place' (inl e) = let h : ◌≡◌ {A = Option ℕ} (Some (g.twin d)) None = sym ((valid.matched x d mate).back)
+              ∙ (ap f.mate e ∙ free) in absurd (cc h)
 
-module _ (g : Darts) (are : AreDarts g) (f : Forest) (r : ℕ) (valid : IsValid g f (Some r)) (d m : ℕ) (reach : Reaches g f d) (mate : f.mate (f.out (far g d)) ≡ Some m) where
+module _ (g : Darts) (are : AreDarts g) (f : Forest) (r : ℕ) (valid : IsValid g f (Some r)) (d m : ℕ)
+    (reach : Reaches g f d) (mate : f.mate (f.out (far g d)) ≡ Some m) where
   -- The blossom on which the new ones hang, the new inner one, and the new outer one.
   abbrev on : ℕ
   on = f.out (g.near d)
@@ -141,7 +190,13 @@ module _ (g : Darts) (are : AreDarts g) (f : Forest) (r : ℕ) (valid : IsValid 
   Place x = (x ≡ outer) ⊎ ((x ≡ inn) ⊎ ((x ≢ inn) × (x ≢ outer)))
 
   place : (x : ℕ) → Place x
-  place x = elim (cases_eq x outer) [ inl e ↦ inl e | inr nu ↦ elim (cases_eq x inn) [ inl e ↦ inr (inl e) | inr ni ↦ inr (inr (ni, nu)) ] ]
+  place x = elim (cases_eq x outer) [
+    | inl e ↦ inl e
+    | inr nu ↦ elim (cases_eq x inn) [
+      | inl e ↦ inr (inl e)
+      | inr ni ↦ inr (inr (ni, nu))
+    ]
+  ]
 
   named : (x : ℕ) → labels x ≢ Outside → IsOutermost g.n f x
   named x is = by_place (place x)
@@ -163,10 +218,12 @@ module _ (g : Darts) (are : AreDarts g) (f : Forest) (r : ℕ) (valid : IsValid 
       by_other : (x ≢ inn) → (x ≢ outer) → Place (f.out (far g e)) → labels (f.out (far g e)) ≡ Outside
       by_other ni nu (inr (inr ne)) = label_other (f.out (far g e)) ne.0 ne.1 ∙ valid.outside x e (off ni nu) mine
       by_other ni nu (inr (inl at)) =
-          let same : g.twin e ≡ m = some_is (g.twin e) m (sym ((valid.matched x e mine).back) ∙ (ap f.mate at ∙ mate)) in
+          let same : g.twin e ≡ m =
+          some_is (g.twin e) m (sym ((valid.matched x e mine).back) ∙ (ap f.mate at ∙ mate)) in
           absurd (nu (sym ((valid.matched x e mine).here) ∙ ap f.out (sym (far_twin g are e) ∙ ap (far g) same)))
       by_other ni nu (inl at) =
-          let same : g.twin e ≡ g.twin m = some_is (g.twin e) (g.twin m) (sym ((valid.matched x e mine).back) ∙ (ap f.mate at ∙ pair.back)) in
+          let same : g.twin e ≡ g.twin m = some_is (g.twin e) (g.twin m) (sym ((valid.matched x e mine).back)
+          ∙ (ap f.mate at ∙ pair.back)) in
           let one : e ≡ m = sym (are.twin_twin e) ∙ (ap g.twin same ∙ are.twin_twin m) in
           absurd (ni (sym ((valid.matched x e mine).here) ∙ (ap (λ y. f.out (g.near y)) one ∙ pair.here)))
 
@@ -183,10 +240,13 @@ module _ (g : Darts) (are : AreDarts g) (f : Forest) (r : ℕ) (valid : IsValid 
     depth_outer = set_here (set_at tree.depth inn (suc (tree.depth on))) outer (suc (tree.depth on))
 
     depth_inner : depths inn ≡ suc (tree.depth on)
-    depth_inner = set_there (set_at tree.depth inn (suc (tree.depth on))) outer inn (suc (tree.depth on)) inn_not_outer ∙ set_here tree.depth inn (suc (tree.depth on))
+    depth_inner = set_there (set_at tree.depth inn (suc (tree.depth on))) outer inn (suc (tree.depth on)) inn_not_outer
+        ∙ set_here tree.depth inn (suc (tree.depth on))
 
     depth_named : (x : ℕ) → f.label x ≢ Outside → depths x ≡ tree.depth x
-    depth_named x is = set_there (set_at tree.depth inn (suc (tree.depth on))) outer x (suc (tree.depth on)) (λ e. is (ap f.label e ∙ outer_off)) ∙ set_there tree.depth inn x (suc (tree.depth on)) (λ e. is (ap f.label e ∙ reach.off))
+    depth_named x is = set_there (set_at tree.depth inn (suc (tree.depth on))) outer x (suc (tree.depth on))
+        (λ e. is (ap f.label e ∙ outer_off)) ∙ set_there tree.depth inn x (suc (tree.depth on))
+        (λ e. is (ap f.label e ∙ reach.off))
 
     outer_is : (x : ℕ) → f.label x ≡ Outer → f.label x ≢ Outside
     outer_is x l off = cc
@@ -196,10 +256,13 @@ module _ (g : Darts) (are : AreDarts g) (f : Forest) (r : ℕ) (valid : IsValid 
 
     new_inner : IsInner g (grown g f d m) depths inn
     new_inner = record {
-      tight = subst (λ x. IsTight g (grown g f d m) x) (sym link_is) (same_tight g f labels f.mate links (g.twin d) (tight_twin g are f d reach.tight));
+      tight = subst (λ x. IsTight g (grown g f d m) x) (sym link_is) (same_tight g f labels f.mate links (g.twin d)
+          (tight_twin g are f d reach.tight));
       here = ap (λ x. f.out (g.near x)) link_is;
       above = ap labels goes ∙ (named_other on (outer_is on reach.outer) ∙ reach.outer);
-      nearer = subst (λ x. depths x < depths inn) (sym goes) (let a : depths on ≡ tree.depth on = depth_named on (outer_is on reach.outer) in let b : depths inn ≡ suc (tree.depth on) = depth_inner in omega arith);
+      nearer = subst (λ x. depths x < depths inn) (sym goes) (let a : depths on ≡ tree.depth on =
+          depth_named on (outer_is on reach.outer) in let b : depths inn ≡ suc (tree.depth on) = depth_inner in
+          omega arith);
       dart = m;
       mate = mate;
       child = label_outer;
@@ -214,14 +277,18 @@ module _ (g : Darts) (are : AreDarts g) (f : Forest) (r : ℕ) (valid : IsValid 
 
     old_inner : (x : ℕ) → f.label x ≡ Inner → IsInner g f tree.depth x → IsInner g (grown g f d m) depths x
     old_inner x l is = record {
-      tight = subst (λ y. IsTight g (grown g f d m) y) (sym link_is) (same_tight g f labels f.mate links (f.link x) is.tight);
+      tight = subst (λ y. IsTight g (grown g f d m) y) (sym link_is) (same_tight g f labels f.mate links (f.link x)
+          is.tight);
       here = ap (λ y. f.out (g.near y)) link_is ∙ is.here;
       above = ap labels goes ∙ (named_other up (outer_is up is.above) ∙ is.above);
-      nearer = subst (λ y. depths y < depths x) (sym goes) (let a : depths up ≡ tree.depth up = depth_named up (outer_is up is.above) in let b : depths x ≡ tree.depth x = depth_named x (inner_is x l) in let h : tree.depth up < tree.depth x = is.nearer in omega arith);
+      nearer = subst (λ y. depths y < depths x) (sym goes) (let a : depths up ≡ tree.depth up =
+          depth_named up (outer_is up is.above) in let b : depths x ≡ tree.depth x = depth_named x (inner_is x l) in
+          let h : tree.depth up < tree.depth x = is.nearer in omega arith);
       dart = is.dart;
       mate = is.mate;
       child = named_other (f.out (far g is.dart)) (outer_is (f.out (far g is.dart)) is.child) ∙ is.child;
-      same = depth_named (f.out (far g is.dart)) (outer_is (f.out (far g is.dart)) is.child) ∙ (is.same ∙ sym (depth_named x (inner_is x l)));
+      same = depth_named (f.out (far g is.dart)) (outer_is (f.out (far g is.dart)) is.child)
+          ∙ (is.same ∙ sym (depth_named x (inner_is x l)));
     }
       where
         up : ℕ
@@ -245,14 +312,24 @@ module _ (g : Darts) (are : AreDarts g) (f : Forest) (r : ℕ) (valid : IsValid 
         inner : (x : ℕ) → labels x ≡ Inner → Place x → IsInner g (grown g f d m) depths x
         inner x l (inl at) = let h : Outer ≡ Inner = sym label_outer ∙ (ap labels (sym at) ∙ l) in absurd (cc h)
         inner x l (inr (inl at)) = subst (λ y. IsInner g (grown g f d m) depths y) (sym at) new_inner
-        inner x l (inr (inr ne)) = old_inner x (sym (label_other x ne.0 ne.1) ∙ l) (tree.inner x (sym (label_other x ne.0 ne.1) ∙ l))
+        inner x l (inr (inr ne)) =
+            old_inner x (sym (label_other x ne.0 ne.1) ∙ l) (tree.inner x (sym (label_other x ne.0 ne.1) ∙ l))
 
         by_old : (x : ℕ) → IsOuter g f r x → IsOuter g (grown g f d m) r x
         by_old x (inl e) = inl e
-        by_old x (inr is) = inr (is.0, is.1, named_other (f.out (far g is.0)) (inner_is (f.out (far g is.0)) is.2) ∙ is.2)
+        by_old x (inr is) = inr (
+          is.0,
+          is.1,
+          named_other (f.out (far g is.0)) (inner_is (f.out (far g is.0)) is.2)
+              ∙ is.2,
+        )
 
         outers : (x : ℕ) → labels x ≡ Outer → Place x → IsOuter g (grown g f d m) r x
-        outers x l (inl at) = inr (g.twin m, ap f.mate at ∙ pair.back, ap labels (ap f.out (far_twin g are m) ∙ pair.here) ∙ label_inner)
+        outers x l (inl at) = inr (
+          g.twin m,
+          ap f.mate at ∙ pair.back,
+          ap labels (ap f.out (far_twin g are m) ∙ pair.here) ∙ label_inner,
+        )
         outers x l (inr (inl at)) = let h : Inner ≡ Outer = sym label_inner ∙ (ap labels (sym at) ∙ l) in absurd (cc h)
         outers x l (inr (inr ne)) = by_old x (tree.outer x (sym (label_other x ne.0 ne.1) ∙ l))
 

@@ -1,5 +1,6 @@
 -- Climbing the tree one blossom at a time: each step brings one a level nearer to the root.
-use Rattle.std.proofs.Common.{◌≡◌, ◌≢◌, ℕ, zero, suc, ◌+◌, ◌-◌, ◌*◌, ◌<◌, ◌≤◌, Option, Some, None, ◌⊎◌, refl, sym, ◌∙◌, ap, subst, inl, inr, arith}
+use Rattle.std.proofs.Common.{◌≡◌, ◌≢◌, ℕ, zero, suc, ◌+◌, ◌-◌, ◌*◌, ◌<◌, ◌≤◌, Option, Some, None, ◌⊎◌, refl, sym, ◌∙◌}
+use Rattle.std.proofs.Common.{ap, subst, inl, inr, arith}
 use Rattle.def_forest.specs.Darts.{Darts, AreDarts, far}
 use Rattle.def_forest.specs.Forests.{Forest, IsTight}
 use Rattle.def_forest.specs.Valid.{IsValid, IsTree, IsInner, IsOuter, IsMate}
@@ -39,10 +40,12 @@ module _ (g : Darts) (are : AreDarts g) (f : Forest) (r : ℕ) (valid : IsValid 
   inner_rise b e = ap (λ (l : Label). rise_by l (f.mate b) (f.link b)) e
 
   outer_level : (b : ℕ) → f.label b ≡ Outer → level b ≡ 2 * steps g f (f.size + 1) b
-  outer_level b e = ap (λ (l : Label). level_by l (steps g f (f.size + 1) b) (steps g f (f.size + 1) (inner_of g f b))) e
+  outer_level b e = ap (λ (l : Label). level_by l (steps g f (f.size + 1) b) (steps g f (f.size + 1) (inner_of g f b)))
+      e
 
   inner_level : (b : ℕ) → f.label b ≡ Inner → level b ≡ 2 * steps g f (f.size + 1) (inner_of g f b) - 1
-  inner_level b e = ap (λ (l : Label). level_by l (steps g f (f.size + 1) b) (steps g f (f.size + 1) (inner_of g f b))) e
+  inner_level b e = ap (λ (l : Label). level_by l (steps g f (f.size + 1) b) (steps g f (f.size + 1) (inner_of g f b)))
+      e
 
   above_is : (b d : ℕ) → rise_of f b ≡ Some d → above b ≡ f.out (far g d)
   above_is b d e = ap (λ o. f.out (far g (dart_or o))) e
@@ -58,14 +61,20 @@ module _ (g : Darts) (are : AreDarts g) (f : Forest) (r : ℕ) (valid : IsValid 
 
   step_outer : (b d : ℕ) → f.label b ≡ Outer → f.mate b ≡ Some d → IsStep b d
   step_outer b d outer mate =
-      let up : above b ≡ inner_of g f b = above_is b d (outer_rise b outer ∙ mate) ∙ sym (inner_is g are f r valid tree b d outer mate) in
+      let up : above b ≡ inner_of g f b = above_is b d (outer_rise b outer ∙ mate)
+      ∙ sym (inner_is g are f r valid tree b d outer mate) in
       let label : f.label (inner_of g f b) ≡ Inner = inner_label g are f r valid tree b d outer mate in
       let pair : IsMate g f b d = valid.matched b d mate in
-      let back : inner_of g f (inner_of g f b) ≡ b = ap (λ o. f.out (far g (dart_or o))) (inner_back g are f r valid tree b d outer mate) ∙ (ap f.out (far_twin g are d) ∙ pair.here) in
-      let one : steps g f (f.size + 1) b ≡ suc (steps g f (f.size + 1) (parent_of g f b)) = fewer_steps g are f r valid tree b d outer mate in
-      let higher : level (inner_of g f b) ≡ 2 * steps g f (f.size + 1) b - 1 = inner_level (inner_of g f b) label ∙ ap (λ x. 2 * steps g f (f.size + 1) x - 1) back in
+      let back : inner_of g f (inner_of g f b) ≡ b =
+      ap (λ o. f.out (far g (dart_or o))) (inner_back g are f r valid tree b d outer mate)
+      ∙ (ap f.out (far_twin g are d) ∙ pair.here) in
+      let one : steps g f (f.size + 1) b ≡ suc (steps g f (f.size + 1) (parent_of g f b)) =
+      fewer_steps g are f r valid tree b d outer mate in
+      let higher : level (inner_of g f b) ≡ 2 * steps g f (f.size + 1) b - 1 = inner_level (inner_of g f b) label
+      ∙ ap (λ x. 2 * steps g f (f.size + 1) x - 1) back in
       let up_level : level (above b) ≡ level (inner_of g f b) = ap level up in
-      let deep : tree.depth (above b) ≡ tree.depth b = ap tree.depth up ∙ inner_depth g are f r valid tree b d outer mate in
+      let deep : tree.depth (above b) ≡ tree.depth b = ap tree.depth up ∙ inner_depth g are f r valid tree b d outer
+      mate in
       record {
         tight = pair.tight;
         here = pair.here;
@@ -76,22 +85,32 @@ module _ (g : Darts) (are : AreDarts g) (f : Forest) (r : ℕ) (valid : IsValid 
       }
 
   -- The child of an inner blossom.
-  child_of : (b : ℕ) → f.label b ≡ Inner → (d : ℕ) × (f.label (inner_of g f b) ≡ Outer) × (f.mate (inner_of g f b) ≡ Some d) × (f.out (far g d) ≡ b)
+  child_of : (b : ℕ) → f.label b ≡ Inner → (d : ℕ) × (f.label (inner_of g f b) ≡ Outer)
+      × (f.mate (inner_of g f b) ≡ Some d) × (f.out (far g d) ≡ b)
   child_of b label =
       let is : IsInner g f tree.depth b = tree.inner b label in
       let pair : IsMate g f b is.dart = valid.matched b is.dart is.mate in
-      let same : inner_of g f b ≡ f.out (far g is.dart) = ap (λ o. f.out (far g (dart_or o))) is.mate in
-      (g.twin is.dart, ap f.label same ∙ is.child, ap f.mate same ∙ pair.back, ap f.out (far_twin g are is.dart) ∙ pair.here)
+      let same : inner_of g f b ≡ f.out (far g is.dart) = ap (λ o. f.out (far g (dart_or o))) is.mate in (
+        g.twin is.dart,
+        ap f.label same ∙ is.child,
+        ap f.mate same ∙ pair.back,
+        ap f.out (far_twin g are is.dart)
+            ∙ pair.here,
+      )
 
   step_inner : (b : ℕ) → f.label b ≡ Inner → IsStep b (f.link b)
   step_inner b label =
       let is : IsInner g f tree.depth b = tree.inner b label in
-      let c : (d : ℕ) × (f.label (inner_of g f b) ≡ Outer) × (f.mate (inner_of g f b) ≡ Some d) × (f.out (far g d) ≡ b) = child_of b label in
+      let c : (d : ℕ) × (f.label (inner_of g f b) ≡ Outer) × (f.mate (inner_of g f b) ≡ Some d)
+      × (f.out (far g d) ≡ b) = child_of b label in
       let up : above b ≡ f.out (far g (f.link b)) = above_is b (f.link b) (inner_rise b label) in
       let back : inner_of g f (inner_of g f b) ≡ b = ap (λ o. f.out (far g (dart_or o))) c.2 ∙ c.3 in
       let parent : parent_of g f (inner_of g f b) ≡ above b = ap (λ x. f.out (far g (f.link x))) back ∙ sym up in
-      let one : steps g f (f.size + 1) (inner_of g f b) ≡ suc (steps g f (f.size + 1) (parent_of g f (inner_of g f b))) = fewer_steps g are f r valid tree (inner_of g f b) c.0 c.1 c.2 in
-      let same : steps g f (f.size + 1) (parent_of g f (inner_of g f b)) ≡ steps g f (f.size + 1) (above b) = ap (steps g f (f.size + 1)) parent in
+      let one : steps g f (f.size + 1) (inner_of g f b)
+      ≡ suc (steps g f (f.size + 1) (parent_of g f (inner_of g f b))) =
+      fewer_steps g are f r valid tree (inner_of g f b) c.0 c.1 c.2 in
+      let same : steps g f (f.size + 1) (parent_of g f (inner_of g f b)) ≡ steps g f (f.size + 1) (above b) =
+      ap (steps g f (f.size + 1)) parent in
       let outer : f.label (above b) ≡ Outer = ap f.label up ∙ is.above in
       let deep : tree.depth (above b) ≡ tree.depth (f.out (far g (f.link b))) = ap tree.depth up in
       record {
@@ -109,14 +128,20 @@ module _ (g : Darts) (are : AreDarts g) (f : Forest) (r : ℕ) (valid : IsValid 
     where
       by_label : (f.label b ≡ Outer) ⊎ (f.label b ≡ Inner) → IsStep b d
       by_label (inl outer) = step_outer b d outer (sym (outer_rise b outer) ∙ rise)
-      by_label (inr inner) = subst (λ x. IsStep b x) (some_is (f.link b) d (sym (inner_rise b inner) ∙ rise)) (step_inner b inner)
+      by_label (inr inner) = subst (λ x. IsStep b x) (some_is (f.link b) d (sym (inner_rise b inner) ∙ rise))
+          (step_inner b inner)
 
   -- Where there is none one is at the root.
   pub at_root : (b : ℕ) → f.label b ≢ Outside → rise_of f b ≡ None → (b ≡ r) × (level b ≡ 0)
   at_root b named rise = by_label (tree_cases (f.label b) named)
     where
       by_outer : f.label b ≡ Outer → f.mate b ≡ None → IsOuter g f r b → (b ≡ r) × (level b ≡ 0)
-      by_outer outer free (inl e) = (e, outer_level b outer ∙ (let one : f.size + 1 ≡ suc f.size = omega arith in let s : steps g f (f.size + 1) b ≡ 0 = ap (λ k. steps g f k b) one ∙ ap (λ o. steps_by o (steps g f f.size (parent_of g f b))) free in omega (arith, s)))
+      by_outer outer free (inl e) = (
+        e,
+        outer_level b outer ∙ (let one : f.size + 1 ≡ suc f.size = omega arith in let s : steps g f (f.size + 1) b
+            ≡ 0 = ap (λ k. steps g f k b) one ∙ ap (λ o. steps_by o (steps g f f.size (parent_of g f b))) free in
+            omega (arith, s)),
+      )
       by_outer outer free (inr w) = absurd (some_none (f.mate b) w.0 w.1 free)
 
       by_label : (f.label b ≡ Outer) ⊎ (f.label b ≡ Inner) → (b ≡ r) × (level b ≡ 0)
@@ -141,7 +166,8 @@ module _ (g : Darts) (are : AreDarts g) (f : Forest) (r : ℕ) (valid : IsValid 
   root_level = (at_root r (outer_named (f.label r) tree.root_outer) (outer_rise r tree.root_outer ∙ tree.root_free)).1
 
   -- Along a way the levels fall one by one, and one stays in the tree.
-  pub on_way : (a m : ℕ) → f.label a ≢ Outside → m ≤ level a → (f.label (way a m) ≢ Outside) × (level (way a m) + m ≡ level a)
+  pub on_way : (a m : ℕ) → f.label a ≢ Outside → m ≤ level a → (f.label (way a m) ≢ Outside)
+      × (level (way a m) + m ≡ level a)
   on_way a zero named l = (named, omega arith)
   on_way a (suc m) named l =
       let was : (f.label (way a m) ≢ Outside) × (level (way a m) + m ≡ level a) = on_way a m named (omega (arith, l)) in
@@ -171,7 +197,8 @@ module _ (g : Darts) (are : AreDarts g) (f : Forest) (r : ℕ) (valid : IsValid 
   pub above_inner : (b : ℕ) → f.label b ≡ Inner → f.label (above b) ≡ Outer
   above_inner b inner = ap f.label (above_is b (f.link b) (inner_rise b inner)) ∙ (tree.inner b inner).above
 
-  pub come_from : (b e : ℕ) → f.label b ≢ Outside → 1 ≤ level b → f.label (above b) ≡ Inner → f.mate (above b) ≡ Some e → f.out (far g e) ≡ b
+  pub come_from : (b e : ℕ) → f.label b ≢ Outside → 1 ≤ level b → f.label (above b) ≡ Inner → f.mate (above b) ≡ Some e
+      → f.out (far g e) ≡ b
   come_from b e named some inner mate = by_label (tree_cases (f.label b) named)
     where
       by_label : (f.label b ≡ Outer) ⊎ (f.label b ≡ Inner) → f.out (far g e) ≡ b
@@ -181,21 +208,24 @@ module _ (g : Darts) (are : AreDarts g) (f : Forest) (r : ℕ) (valid : IsValid 
           let was : f.mate b ≡ Some d.0 = sym (outer_rise b outer) ∙ d.1 in
           let pair : IsMate g f b d.0 = valid.matched b d.0 was in
           let back : f.mate (above b) ≡ Some (g.twin d.0) = ap f.mate (above_is b d.0 d.1) ∙ pair.back in
-          ap (λ x. f.out (far g x)) (some_is e (g.twin d.0) (sym mate ∙ back)) ∙ (ap f.out (far_twin g are d.0) ∙ pair.here)
+          ap (λ x. f.out (far g x)) (some_is e (g.twin d.0) (sym mate ∙ back))
+          ∙ (ap f.out (far_twin g are d.0) ∙ pair.here)
 
   -- Levels of outer blossoms are even.
   pub outer_even : (b : ℕ) → f.label b ≡ Outer → (k : ℕ) × (level b ≡ 2 * k)
   outer_even b outer = (steps g f (f.size + 1) b, outer_level b outer)
 
   -- The mate of an outer blossom is where one comes to.
-  pub outer_above : (b d : ℕ) → f.label b ≡ Outer → f.mate b ≡ Some d → (f.out (far g d) ≡ above b) × (level b ≡ suc (level (above b)))
+  pub outer_above : (b d : ℕ) → f.label b ≡ Outer → f.mate b ≡ Some d → (f.out (far g d) ≡ above b)
+      × (level b ≡ suc (level (above b)))
   outer_above b d outer mate = let s : IsStep b d = step_outer b d outer mate in (s.there, s.lower)
 
 -- There are no more levels than twice the numbers of blossoms and two.
 pub level_few : (g : Darts) (f : Forest) (b : ℕ) → level_of g f b ≤ 2 * f.size + 2
 level_few g f b = by_label (f.label b)
   where
-    by_label : (l : Label) → level_by l (steps g f (f.size + 1) b) (steps g f (f.size + 1) (inner_of g f b)) ≤ 2 * f.size + 2
+    by_label : (l : Label) → level_by l (steps g f (f.size + 1) b) (steps g f (f.size + 1) (inner_of g f b))
+        ≤ 2 * f.size + 2
     by_label Outer = omega (arith, steps_low g f (f.size + 1) b)
     by_label Inner = omega (arith, steps_low g f (f.size + 1) (inner_of g f b))
     by_label Outside = omega arith

@@ -9,14 +9,17 @@ use Rattle.def_forest.specs.Valid.{IsNested, IsRing, IsJoint}
 use Rattle.forest_laws.proofs.Writes.{true_false}
 
 -- A count of sums along a ring.
-pub counts_exchanged : (next : ℕ → ℕ) (f : ℕ → ℕ → ℕ) (front n k : ℕ) → count_below (λ w. ring_sum next (λ p. f p w) front k) n ≡ ring_sum next (λ p. count_below (f p) n) front k
+pub counts_exchanged : (next : ℕ → ℕ) (f : ℕ → ℕ → ℕ) (front n k : ℕ)
+    → count_below (λ w. ring_sum next (λ p. f p w) front k) n ≡ ring_sum next (λ p. count_below (f p) n) front k
 counts_exchanged next f front n zero = count_below_none (λ w. 0) n (λ j l. refl)
 counts_exchanged next f front n (suc k) =
-    let h : count_below (λ w. ring_sum next (λ p. f p w) front k) n ≡ ring_sum next (λ p. count_below (f p) n) front k = counts_exchanged next f front n k in
+    let h : count_below (λ w. ring_sum next (λ p. f p w) front k) n ≡ ring_sum next (λ p. count_below (f p) n) front k =
+    counts_exchanged next f front n k in
     omega (arith, h, count_below_sum (λ w. ring_sum next (λ p. f p w) front k) (f (walk next front k)) n)
 
 -- A sum of odd numbers is odd where there is an odd number of them.
-pub odd_sum : (next f : ℕ → ℕ) (front k : ℕ) → ((j : ℕ) → f (walk next front j) % 2 ≡ 1) → ring_sum next f front k % 2 ≡ k % 2
+pub odd_sum : (next f : ℕ → ℕ) (front k : ℕ) → ((j : ℕ) → f (walk next front j) % 2 ≡ 1) → ring_sum next f front k % 2
+    ≡ k % 2
 odd_sum next f front zero odd = refl
 odd_sum next f front (suc k) odd =
     let h : ring_sum next f front k % 2 ≡ k % 2 = odd_sum next f front k odd in
@@ -30,7 +33,8 @@ IsBlossom g f b = (b < g.n) ⊎ ((g.n ≤ b) × (f.nest.parts b ≢ 0))
 module _ (g : Darts) (are : AreDarts g) (f : Forest) (nested : IsNested g f) where
   vertex_odd : (b : ℕ) → b < g.n → blossom_size g.n f b ≡ 1
   vertex_odd b l =
-      count_below_one (λ v. bool_number (f.holds b v)) g.n b l (λ k lk ne. ap bool_number (nested.alone b k l lk ∙ ne_eqb b k (λ e. ne (sym e))))
+      count_below_one (λ v. bool_number (f.holds b v)) g.n b l (λ k lk ne. ap bool_number (nested.alone b k l lk
+      ∙ ne_eqb b k (λ e. ne (sym e))))
       ∙ ap bool_number (nested.alone b b l l ∙ eq-eqb b b refl)
 
   -- A part is in use.
@@ -41,7 +45,8 @@ module _ (g : Darts) (are : AreDarts g) (f : Forest) (nested : IsNested g f) whe
       p = walk f.nest.after (f.nest.head b) k
 
       inner : f.nest.up p ≢ p
-      inner e = let h : f.nest.rank p < f.nest.rank b = ring.lower k in let same : f.nest.rank b ≡ f.nest.rank p = ap f.nest.rank (sym (ring.inside k) ∙ e) in omega arith
+      inner e = let h : f.nest.rank p < f.nest.rank b = ring.lower k in let same : f.nest.rank b ≡ f.nest.rank p =
+          ap f.nest.rank (sym (ring.inside k) ∙ e) in omega arith
 
       joint : IsJoint g f p
       joint = nested.joints p inner
@@ -51,27 +56,39 @@ module _ (g : Darts) (are : AreDarts g) (f : Forest) (nested : IsNested g f) whe
 
       by_size : (p < g.n) ⊎ (g.n ≤ p) → IsBlossom g f p
       by_size (inl l) = inl l
-      by_size (inr h) = inr (h, λ none. true_false (f.holds p (g.near (f.nest.joint p))) joint.begins (nested.empty p (g.near (f.nest.joint p)) h near_low none))
+      by_size (inr h) = inr (
+        h,
+        λ none. true_false (f.holds p (g.near (f.nest.joint p))) joint.begins
+            (nested.empty p (g.near (f.nest.joint p)) h near_low none),
+      )
 
   -- A set has the vertices of its parts.
-  set_sum : (b : ℕ) → IsRing g f b → blossom_size g.n f b ≡ ring_sum f.nest.after (blossom_size g.n f) (f.nest.head b) (f.nest.parts b)
+  set_sum : (b : ℕ) → IsRing g f b → blossom_size g.n f b ≡ ring_sum f.nest.after (blossom_size g.n f) (f.nest.head b)
+      (f.nest.parts b)
   set_sum b ring =
-      count_below_same (λ v. bool_number (f.holds b v)) (λ v. ring_sum f.nest.after (λ p. bool_number (f.holds p v)) (f.nest.head b) (f.nest.parts b)) g.n ring.shared
+      count_below_same (λ v. bool_number (f.holds b v)) (λ v. ring_sum f.nest.after (λ p. bool_number (f.holds p v))
+      (f.nest.head b) (f.nest.parts b)) g.n ring.shared
       ∙ counts_exchanged f.nest.after (λ p v. bool_number (f.holds p v)) (f.nest.head b) g.n (f.nest.parts b)
 
-  set_odd : (b : ℕ) → IsRing g f b → ((k : ℕ) → blossom_size g.n f (walk f.nest.after (f.nest.head b) k) % 2 ≡ 1) → blossom_size g.n f b % 2 ≡ 1
+  set_odd : (b : ℕ) → IsRing g f b → ((k : ℕ) → blossom_size g.n f (walk f.nest.after (f.nest.head b) k) % 2 ≡ 1)
+      → blossom_size g.n f b % 2 ≡ 1
   set_odd b ring odd =
-      let parity : ring_sum f.nest.after (blossom_size g.n f) (f.nest.head b) (f.nest.parts b) % 2 ≡ f.nest.parts b % 2 = odd_sum f.nest.after (blossom_size g.n f) (f.nest.head b) (f.nest.parts b) odd in
+      let parity : ring_sum f.nest.after (blossom_size g.n f) (f.nest.head b) (f.nest.parts b) % 2
+      ≡ f.nest.parts b % 2 = odd_sum f.nest.after (blossom_size g.n f) (f.nest.head b) (f.nest.parts b) odd in
       let whole : blossom_size g.n f b % 2 ≡ f.nest.parts b % 2 = ap (λ x. x % 2) (set_sum b ring) ∙ parity in
       omega (arith, whole, ring.odd)
 
   odd_below : (fuel b : ℕ) → f.nest.rank b < fuel → IsBlossom g f b → blossom_size g.n f b % 2 ≡ 1
   odd_below zero b l used = absurd (omega arith)
   odd_below (suc fuel) b l (inl low) = ap (λ x. x % 2) (vertex_odd b low)
-  odd_below (suc fuel) b l (inr (high, live)) = by_ring (nested.rings b high live) (λ p lp used. odd_below fuel p lp used)
+  odd_below (suc fuel) b l (inr (high, live)) =
+      by_ring (nested.rings b high live) (λ p lp used. odd_below fuel p lp used)
     where
-      by_ring : IsRing g f b → ((p : ℕ) → f.nest.rank p < fuel → IsBlossom g f p → blossom_size g.n f p % 2 ≡ 1) → blossom_size g.n f b % 2 ≡ 1
-      by_ring ring more = set_odd b ring (λ k. more (walk f.nest.after (f.nest.head b) k) (let h : f.nest.rank (walk f.nest.after (f.nest.head b) k) < f.nest.rank b = ring.lower k in omega arith) (part_used b ring k))
+      by_ring : IsRing g f b → ((p : ℕ) → f.nest.rank p < fuel → IsBlossom g f p → blossom_size g.n f p % 2 ≡ 1)
+          → blossom_size g.n f b % 2 ≡ 1
+      by_ring ring more = set_odd b ring (λ k. more (walk f.nest.after (f.nest.head b) k)
+          (let h : f.nest.rank (walk f.nest.after (f.nest.head b) k) < f.nest.rank b = ring.lower k in
+          omega arith) (part_used b ring k))
 
   -- A blossom holds an odd number of vertices.
   pub odd_blossom : (b : ℕ) → IsBlossom g f b → blossom_size g.n f b % 2 ≡ 1
@@ -82,8 +99,10 @@ module _ (g : Darts) (are : AreDarts g) (f : Forest) (nested : IsNested g f) whe
   large_set b high live = by_ring (nested.rings b high live)
     where
       by_ring : IsRing g f b → 3 ≤ blossom_size g.n f b
-      by_ring ring = (let sum : blossom_size g.n f b ≡ ring_sum f.nest.after (blossom_size g.n f) (f.nest.head b) (f.nest.parts b) = set_sum b ring in omega (arith, sum, each (f.nest.parts b), ring.odd, ring.some))
+      by_ring ring = (let sum : blossom_size g.n f b ≡ ring_sum f.nest.after (blossom_size g.n f) (f.nest.head b)
+          (f.nest.parts b) = set_sum b ring in omega (arith, sum, each (f.nest.parts b), ring.odd, ring.some))
         where
           each : (k : ℕ) → k ≤ ring_sum f.nest.after (blossom_size g.n f) (f.nest.head b) k
           each zero = omega arith
-          each (suc k) = (let one : blossom_size g.n f (walk f.nest.after (f.nest.head b) k) % 2 ≡ 1 = odd_blossom (walk f.nest.after (f.nest.head b) k) (part_used b ring k) in omega (arith, each k, one))
+          each (suc k) = (let one : blossom_size g.n f (walk f.nest.after (f.nest.head b) k) % 2 ≡ 1 =
+              odd_blossom (walk f.nest.after (f.nest.head b) k) (part_used b ring k) in omega (arith, each k, one))

@@ -1,5 +1,6 @@
 -- The potentials of the vertices of one blossom have one parity, and so have those of all vertices in the tree.
-use Rattle.std.proofs.Common.{◌≡◌, ◌≢◌, ℕ, zero, suc, ◌+◌, ◌<◌, ◌≤◌, Bool, true, false, not, cond, eqb, length, Option, Some, ℤ, pos, ◌+ℤ◌, ◌-ℤ◌, ◌⊎◌, refl, sym, ◌∙◌, ap, subst, inl, inr, arith}
+use Rattle.std.proofs.Common.{◌≡◌, ◌≢◌, ℕ, zero, suc, ◌+◌, ◌<◌, ◌≤◌, Bool, true, false, not, cond, eqb, length, Option}
+use Rattle.std.proofs.Common.{Some, ℤ, pos, ◌+ℤ◌, ◌-ℤ◌, ◌⊎◌, refl, sym, ◌∙◌, ap, subst, inl, inr, arith}
 use Rattle.std.proofs.lemmas.Int.{ints}
 use Rattle.std.proofs.lemmas.Bool.{cases_lt, eq-eqb, eqb-true}
 use Rattle.def_math.specs.Sums.{total_below}
@@ -33,36 +34,45 @@ alike_on {a} {b} {c} p q = record { half = p.half +ℤ q.half; is = omega (arith
 abbrev around_both : (f : Forest) (u v b : ℕ) → ℤ
 around_both f u v b = cond (f.holds b u) (cond (f.holds b v) (f.weight b) (pos 0)) (pos 0)
 
-by_both : (p q : Bool) (x : ℤ) → cond p x (pos 0) +ℤ cond q x (pos 0) ≡ cond (cond p (not q) q) x (pos 0) +ℤ (cond p (cond q x (pos 0)) (pos 0) +ℤ cond p (cond q x (pos 0)) (pos 0))
+by_both : (p q : Bool) (x : ℤ) → cond p x (pos 0) +ℤ cond q x (pos 0)
+    ≡ cond (cond p (not q) q) x (pos 0) +ℤ (cond p (cond q x (pos 0)) (pos 0) +ℤ cond p (cond q x (pos 0)) (pos 0))
 by_both true true x = omega (arith, ints)
 by_both true false x = omega (arith, ints)
 by_both false true x = omega (arith, ints)
 by_both false false x = omega (arith, ints)
 
-sums_both : (f : Forest) (u v m : ℕ) → total_below (λ b. cond (f.holds b u) (f.weight b) (pos 0)) m +ℤ total_below (λ b. cond (f.holds b v) (f.weight b) (pos 0)) m
-    ≡ total_below (λ b. cond (splits (f.holds b) u v) (f.weight b) (pos 0)) m +ℤ (total_below (around_both f u v) m +ℤ total_below (around_both f u v) m)
+sums_both : (f : Forest) (u v m : ℕ) → total_below (λ b. cond (f.holds b u) (f.weight b) (pos 0)) m +ℤ total_below
+    (λ b. cond (f.holds b v) (f.weight b) (pos 0)) m
+    ≡ total_below (λ b. cond (splits (f.holds b) u v) (f.weight b) (pos 0)) m +ℤ
+    (total_below (around_both f u v) m +ℤ total_below (around_both f u v) m)
 sums_both f u v zero = omega (arith, ints)
 sums_both f u v (suc m) = omega (arith, ints, sums_both f u v m, by_both (f.holds m u) (f.holds m v) (f.weight m))
 
 -- Two potentials are a load and twice what lies around both vertices.
-potentials_both : (f : Forest) (u v : ℕ) → potential f u +ℤ potential f v ≡ weight_between f u v +ℤ (total_below (around_both f u v) f.size +ℤ total_below (around_both f u v) f.size)
+potentials_both : (f : Forest) (u v : ℕ) → potential f u +ℤ potential f v
+    ≡ weight_between f u v +ℤ (total_below (around_both f u v) f.size +ℤ total_below (around_both f u v) f.size)
 potentials_both f u v = sums_both f u v f.size
 
 -- Where a sum along a ring is not 0, one of its terms is not.
-ring_found : (next f : ℕ → ℕ) (front n : ℕ) → 1 ≤ ring_sum next f front n → (k : ℕ) × (k < n) × (1 ≤ f (walk next front k))
+ring_found : (next f : ℕ → ℕ) (front n : ℕ) → 1 ≤ ring_sum next f front n → (k : ℕ) × (k < n)
+    × (1 ≤ f (walk next front k))
 ring_found next f front zero l = absurd (omega arith)
 ring_found next f front (suc n) l = by_last (cases_lt 0 (f (walk next front n))) (ring_found next f front n)
   where
-    by_last : (0 < f (walk next front n)) ⊎ (f (walk next front n) ≤ 0) → (1 ≤ ring_sum next f front n → (k : ℕ) × (k < n) × (1 ≤ f (walk next front k))) → (k : ℕ) × (k < suc n) × (1 ≤ f (walk next front k))
+    by_last : (0 < f (walk next front n)) ⊎ (f (walk next front n) ≤ 0)
+        → (1 ≤ ring_sum next f front n → (k : ℕ) × (k < n) × (1 ≤ f (walk next front k))) → (k : ℕ) × (k < suc n)
+        × (1 ≤ f (walk next front k))
     by_last (inl h) more = (n, omega arith, omega (arith, h))
-    by_last (inr h) more = let w : (k : ℕ) × (k < n) × (1 ≤ f (walk next front k)) = more (omega (arith, l, h)) in (w.0, omega (arith, w.1), w.2)
+    by_last (inr h) more = let w : (k : ℕ) × (k < n) × (1 ≤ f (walk next front k)) = more (omega (arith, l, h)) in
+        (w.0, omega (arith, w.1), w.2)
 
 module _ (g : Darts) (are : AreDarts g) (f : Forest) where
   -- The ends of a tight dart.
   pub tight_alike : (d : ℕ) → IsTight g f d → AreAlike (potential f (g.near d)) (potential f (far g d))
   tight_alike d tight =
       let both : ℤ = total_below (around_both f (g.near d) (far g d)) f.size in
-      let sum : potential f (g.near d) +ℤ potential f (far g d) ≡ weight_between f (g.near d) (far g d) +ℤ (both +ℤ both) = potentials_both f (g.near d) (far g d) in
+      let sum : potential f (g.near d) +ℤ potential f (far g d) ≡ weight_between f (g.near d) (far g d) +ℤ
+      (both +ℤ both) = potentials_both f (g.near d) (far g d) in
       record { half = (g.cost d +ℤ both) -ℤ potential f (far g d); is = omega (arith, ints, sum, tight.exact) }
 
   module _ (nested : IsNested g f) where
@@ -74,11 +84,13 @@ module _ (g : Darts) (are : AreDarts g) (f : Forest) where
     start b k = g.near (f.nest.joint (part b k))
 
     abbrev Within : ℕ → Type 0
-    Within b = (u v : ℕ) → u < g.n → v < g.n → f.holds b u ≡ true → f.holds b v ≡ true → AreAlike (potential f u) (potential f v)
+    Within b = (u v : ℕ) → u < g.n → v < g.n → f.holds b u ≡ true → f.holds b v ≡ true
+        → AreAlike (potential f u) (potential f v)
 
     module _ (b : ℕ) (ring : IsRing g f b) (more : (k : ℕ) → Within (part b k)) where
       not_top : (k : ℕ) → f.nest.up (part b k) ≢ part b k
-      not_top k e = let h : f.nest.rank (part b k) < f.nest.rank b = ring.lower k in let same : f.nest.rank b ≡ f.nest.rank (part b k) = ap f.nest.rank (sym (ring.inside k) ∙ e) in omega (arith, h, same)
+      not_top k e = let h : f.nest.rank (part b k) < f.nest.rank b = ring.lower k in let same : f.nest.rank b
+          ≡ f.nest.rank (part b k) = ap f.nest.rank (sym (ring.inside k) ∙ e) in omega (arith, h, same)
 
       joint : (k : ℕ) → IsJoint g f (part b k)
       joint k = nested.joints (part b k) (not_top k)
@@ -89,17 +101,22 @@ module _ (g : Darts) (are : AreDarts g) (f : Forest) where
       starts_alike : (k : ℕ) → AreAlike (potential f (start b 0)) (potential f (start b k))
       starts_alike zero = alike_self (potential f (start b 0))
       starts_alike (suc k) = alike_on (starts_alike k) (alike_on (tight_alike (f.nest.joint (part b k)) (joint k).tight)
-          (more (suc k) (far g (f.nest.joint (part b k))) (start b (suc k)) (far_low g are (f.nest.joint (part b k)) (joint k).tight.low) (start_low (suc k)) (joint k).ends (joint (suc k)).begins))
+          (more (suc k) (far g (f.nest.joint (part b k))) (start b (suc k))
+          (far_low g are (f.nest.joint (part b k)) (joint k).tight.low) (start_low (suc k)) (joint k).ends
+          (joint (suc k)).begins))
 
       to_start : (u : ℕ) → u < g.n → f.holds b u ≡ true → AreAlike (potential f u) (potential f (start b 0))
-      to_start u lu hu = by_part (ring_found f.nest.after (λ p. bool_number (f.holds p u)) (f.nest.head b) (f.nest.parts b) (subst (λ x. 1 ≤ x) (ring.shared u lu) (some (f.holds b u) hu)))
+      to_start u lu hu = by_part (ring_found f.nest.after (λ p. bool_number (f.holds p u)) (f.nest.head b)
+          (f.nest.parts b) (subst (λ x. 1 ≤ x) (ring.shared u lu) (some (f.holds b u) hu)))
         where
           some : (c : Bool) → c ≡ true → 1 ≤ bool_number c
           some true e = omega arith
           some false e = absurd (cc e)
 
-          by_part : (k : ℕ) × (k < f.nest.parts b) × (1 ≤ bool_number (f.holds (part b k) u)) → AreAlike (potential f u) (potential f (start b 0))
-          by_part w = alike_on (more w.0 u (start b w.0) lu (start_low w.0) (number_true (f.holds (part b w.0) u) w.2) (joint w.0).begins) (alike_back (starts_alike w.0))
+          by_part : (k : ℕ) × (k < f.nest.parts b) × (1 ≤ bool_number (f.holds (part b k) u))
+              → AreAlike (potential f u) (potential f (start b 0))
+          by_part w = alike_on (more w.0 u (start b w.0) lu (start_low w.0) (number_true (f.holds (part b w.0) u) w.2)
+              (joint w.0).begins) (alike_back (starts_alike w.0))
 
       ring_alike : Within b
       ring_alike u v lu lv hu hv = alike_on (to_start u lu hu) (alike_back (to_start v lv hv))
@@ -113,64 +130,86 @@ module _ (g : Darts) (are : AreDarts g) (f : Forest) where
             let bu : b ≡ u = eqb-true b u (sym (nested.alone b u low lu) ∙ hu) in
             let bv : b ≡ v = eqb-true b v (sym (nested.alone b v low lv) ∙ hv) in
             subst (λ x. AreAlike (potential f u) (potential f x)) (sym bu ∙ bv) (alike_self (potential f u))
-        by_size (inr high) more u v lu lv hu hv = by_ring (nested.rings b high (λ none. true_false (f.holds b u) hu (nested.empty b u high lu none)))
+        by_size (inr high) more u v lu lv hu hv =
+            by_ring (nested.rings b high (λ none. true_false (f.holds b u) hu (nested.empty b u high lu none)))
           where
             by_ring : IsRing g f b → AreAlike (potential f u) (potential f v)
-            by_ring ring = ring_alike b ring (λ k. more (part b k) (let h : f.nest.rank (part b k) < f.nest.rank b = ring.lower k in omega (arith, h, l))) u v lu lv hu hv
+            by_ring ring = ring_alike b ring (λ k. more (part b k) (let h : f.nest.rank (part b k) < f.nest.rank b =
+                ring.lower k in omega (arith, h, l))) u v lu lv hu hv
 
   module _ (root : Option ℕ) (valid : IsValid g f root) where
     -- Two vertices with one outermost blossom.
     pub together_alike : (u v : ℕ) → u < g.n → v < g.n → f.out u ≡ f.out v → AreAlike (potential f u) (potential f v)
     together_alike u v lu lv e = within valid.nested (suc (f.nest.rank (f.out u))) (f.out u) (omega arith) u v lu lv
-        (valid.outermost.held u u lu lu ∙ eq-eqb (f.out u) (f.out u) refl) (valid.outermost.held u v lu lv ∙ eq-eqb (f.out v) (f.out u) (sym e))
+        (valid.outermost.held u u lu lu ∙ eq-eqb (f.out u) (f.out u) refl) (valid.outermost.held u v lu lv
+        ∙ eq-eqb (f.out v) (f.out u) (sym e))
 
     module _ (r : ℕ) (tree : IsTree g f r) (w : ℕ) (lw : w < g.n) (at_root : f.out w ≡ r) where
       -- The two ends of a dart, and what lies with them.
-      over : (d u v : ℕ) → IsTight g f d → u < g.n → v < g.n → f.out u ≡ f.out (g.near d) → f.out (far g d) ≡ f.out v → AreAlike (potential f u) (potential f v)
+      over : (d u v : ℕ) → IsTight g f d → u < g.n → v < g.n → f.out u ≡ f.out (g.near d) → f.out (far g d) ≡ f.out v
+          → AreAlike (potential f u) (potential f v)
       over d u v tight lu lv eu ev = alike_on (together_alike u (g.near d) lu (are.near_low d tight.low) eu)
           (alike_on (tight_alike d tight) (together_alike (far g d) v (far_low g are d tight.low) lv ev))
 
-      outer_alike : (fuel u : ℕ) → u < g.n → f.label (f.out u) ≡ Outer → tree.depth (f.out u) < fuel → AreAlike (potential f u) (potential f w)
+      outer_alike : (fuel u : ℕ) → u < g.n → f.label (f.out u) ≡ Outer → tree.depth (f.out u) < fuel
+          → AreAlike (potential f u) (potential f w)
       outer_alike zero u lu label l = absurd (omega arith)
       outer_alike (suc fuel) u lu label l = by_place (tree.outer (f.out u) label) (outer_alike fuel)
         where
-          by_place : IsOuter g f r (f.out u) → ((x : ℕ) → x < g.n → f.label (f.out x) ≡ Outer → tree.depth (f.out x) < fuel → AreAlike (potential f x) (potential f w)) → AreAlike (potential f u) (potential f w)
+          by_place : IsOuter g f r (f.out u) → ((x : ℕ) → x < g.n → f.label (f.out x) ≡ Outer
+              → tree.depth (f.out x) < fuel → AreAlike (potential f x) (potential f w))
+              → AreAlike (potential f u) (potential f w)
           by_place (inl e) more = together_alike u w lu lw (e ∙ sym at_root)
           by_place (inr m) more = by_inner m.0 (valid.matched (f.out u) m.0 m.1) (tree.inner (f.out (far g m.0)) m.2)
             where
-              by_inner : (d : ℕ) → IsMate g f (f.out u) d → IsInner g f tree.depth (f.out (far g d)) → AreAlike (potential f u) (potential f w)
+              by_inner : (d : ℕ) → IsMate g f (f.out u) d → IsInner g f tree.depth (f.out (far g d))
+                  → AreAlike (potential f u) (potential f w)
               by_inner d pair is =
                   let up : ℕ = far g (f.link (f.out (far g d))) in
                   let lup : up < g.n = far_low g are (f.link (f.out (far g d))) is.tight.low in
                   let twin_is : is.dart ≡ g.twin d = some_is is.dart (g.twin d) (sym is.mate ∙ pair.back) in
-                  let here : f.out (far g is.dart) ≡ f.out u = ap (λ x. f.out (far g x)) twin_is ∙ (ap f.out (far_twin g are d) ∙ pair.here) in
-                  let level : tree.depth (f.out u) ≡ tree.depth (f.out (far g d)) = ap tree.depth (sym here) ∙ is.same in
+                  let here : f.out (far g is.dart) ≡ f.out u = ap (λ x. f.out (far g x)) twin_is
+                  ∙ (ap f.out (far_twin g are d) ∙ pair.here) in
+                  let level : tree.depth (f.out u) ≡ tree.depth (f.out (far g d)) = ap tree.depth (sym here)
+                  ∙ is.same in
                   let nearer : tree.depth (f.out up) < tree.depth (f.out (far g d)) = is.nearer in
                   let near_link : ℕ = g.near (f.link (f.out (far g d))) in
                   let lnear : near_link < g.n = are.near_low (f.link (f.out (far g d))) is.tight.low in
                   alike_on (over d u near_link pair.tight lu lnear (sym pair.here) (sym is.here))
-                  (alike_on (tight_alike (f.link (f.out (far g d))) is.tight) (more up lup is.above (omega (arith, l, level, nearer))))
+                  (alike_on (tight_alike (f.link (f.out (far g d))) is.tight)
+                  (more up lup is.above (omega (arith, l, level, nearer))))
 
       pub to_root : (u : ℕ) → u < g.n → f.label (f.out u) ≡ Outer → AreAlike (potential f u) (potential f w)
       to_root u lu label = outer_alike (suc (tree.depth (f.out u))) u lu label (omega arith)
 
     -- Two vertices in outer blossoms.
-    pub outers_alike : (u v : ℕ) → u < g.n → v < g.n → f.label (f.out u) ≡ Outer → f.label (f.out v) ≡ Outer → AreAlike (potential f u) (potential f v)
-    outers_alike u v lu lv on_u on_v = by_tree (tree_of g are f root valid (f.out u) (outer_named (f.label (f.out u)) on_u))
+    pub outers_alike : (u v : ℕ) → u < g.n → v < g.n → f.label (f.out u) ≡ Outer → f.label (f.out v) ≡ Outer
+        → AreAlike (potential f u) (potential f v)
+    outers_alike u v lu lv on_u on_v =
+        by_tree (tree_of g are f root valid (f.out u) (outer_named (f.label (f.out u)) on_u))
       where
         by_root : (r : ℕ) → IsTree g f r → IsOutermost g.n f r → AreAlike (potential f u) (potential f v)
-        by_root r tree x = alike_on (to_root r tree x.0 x.1 x.2 u lu on_u) (alike_back (to_root r tree x.0 x.1 x.2 v lv on_v))
+        by_root r tree x = alike_on (to_root r tree x.0 x.1 x.2 u lu on_u)
+            (alike_back (to_root r tree x.0 x.1 x.2 v lv on_v))
 
         by_tree : (r : ℕ) × (root ≡ Some r) × IsTree g f r → AreAlike (potential f u) (potential f v)
         by_tree t = by_root t.0 t.2 (valid.outermost.named t.0 (outer_named (f.label t.0) t.2.root_outer))
 
 -- The slack between two outer blossoms is even.
-pub slack_even : (g : WeightedGraph) (f : Forest) (root : Option ℕ) (e : ℕ) → IsGraph g → IsValid (darts_of g) f root → e < length g.edges
-    → f.label (f.out (edge_at g e).u) ≡ Outer → f.label (f.out (edge_at g e).v) ≡ Outer → (half : ℤ) × (slack_of g f e ≡ half +ℤ half)
-slack_even g f root e is valid low on_u on_v = by_alike (outers_alike (darts_of g) (are_darts g is) f root valid (edge_at g e).u (edge_at g e).v (is.left e low) (is.right e low) on_u on_v)
+pub slack_even : (g : WeightedGraph) (f : Forest) (root : Option ℕ) (e : ℕ) → IsGraph g → IsValid (darts_of g) f root
+    → e < length g.edges
+    → f.label (f.out (edge_at g e).u) ≡ Outer → f.label (f.out (edge_at g e).v) ≡ Outer → (half : ℤ)
+    × (slack_of g f e ≡ half +ℤ half)
+slack_even g f root e is valid low on_u on_v =
+    by_alike (outers_alike (darts_of g) (are_darts g is) f root valid (edge_at g e).u (edge_at g e).v (is.left e low)
+    (is.right e low) on_u on_v)
   where
     both : ℤ
     both = total_below (around_both f (edge_at g e).u (edge_at g e).v) f.size
 
-    by_alike : AreAlike (potential f (edge_at g e).u) (potential f (edge_at g e).v) → (half : ℤ) × (slack_of g f e ≡ half +ℤ half)
-    by_alike p = (((edge_at g e).cost +ℤ both) -ℤ (p.half +ℤ potential f (edge_at g e).v), omega (arith, ints, p.is, potentials_both f (edge_at g e).u (edge_at g e).v))
+    by_alike : AreAlike (potential f (edge_at g e).u) (potential f (edge_at g e).v) → (half : ℤ)
+        × (slack_of g f e ≡ half +ℤ half)
+    by_alike p = (
+      ((edge_at g e).cost +ℤ both) -ℤ (p.half +ℤ potential f (edge_at g e).v),
+      omega (arith, ints, p.is, potentials_both f (edge_at g e).u (edge_at g e).v),
+    )

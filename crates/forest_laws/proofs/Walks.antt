@@ -1,6 +1,8 @@
 -- What a walk comes past, and a function that is written at the places of a walk.
-use Rattle.std.proofs.Common.{◌≡◌, ◌≢◌, ℕ, zero, suc, ◌+◌, ◌<◌, ◌≤◌, Bool, true, false, cond, ◌||◌, eqb, ◌⊎◌, refl, sym, ◌∙◌, ap, subst, inl, inr, arith}
-use Rattle.std.proofs.lemmas.Bool.{cases_eq, cases_lt, cond-true, eq-eqb, ne_eqb, eqb-true, or_right, or_left, or_cases, or_from}
+use Rattle.std.proofs.Common.{◌≡◌, ◌≢◌, ℕ, zero, suc, ◌+◌, ◌<◌, ◌≤◌, Bool, true, false, cond, ◌||◌, eqb, ◌⊎◌, refl, sym}
+use Rattle.std.proofs.Common.{◌∙◌, ap, subst, inl, inr, arith}
+use Rattle.std.proofs.lemmas.Bool.{cases_eq, cases_lt, cond-true, eq-eqb, ne_eqb, eqb-true, or_right, or_left, or_cases}
+use Rattle.std.proofs.lemmas.Bool.{or_from}
 use Rattle.def_forest.specs.Forests.{bool_number, walk, ring_sum, set_at}
 use Rattle.forest_laws.specs.Walks.{listed, writes}
 use Rattle.forest_laws.proofs.Writes.{set_here, set_there}
@@ -15,54 +17,83 @@ pub listed_at : (next : ℕ → ℕ) (from many k : ℕ) → k < many → listed
 listed_at next from zero k l = absurd (omega arith)
 listed_at next from (suc many) k l = by_place (cases_eq k many) (listed_at next from many k)
   where
-    by_place : (k ≡ many) ⊎ (k ≢ many) → (k < many → listed next from many (walk next from k) ≡ true) → (listed next from many (walk next from k) || eqb (walk next from many) (walk next from k)) ≡ true
-    by_place (inl e) more = or_right (listed next from many (walk next from k)) (eqb (walk next from many) (walk next from k)) (eq-eqb (walk next from many) (walk next from k) (ap (walk next from) (sym e)))
-    by_place (inr ne) more = or_left (listed next from many (walk next from k)) (eqb (walk next from many) (walk next from k)) (more (omega arith))
+    by_place : (k ≡ many) ⊎ (k ≢ many) → (k < many → listed next from many (walk next from k) ≡ true)
+        → (listed next from many (walk next from k) || eqb (walk next from many) (walk next from k)) ≡ true
+    by_place (inl e) more = or_right (listed next from many (walk next from k))
+        (eqb (walk next from many) (walk next from k)) (eq-eqb (walk next from many) (walk next from k)
+        (ap (walk next from) (sym e)))
+    by_place (inr ne) more =
+        or_left (listed next from many (walk next from k)) (eqb (walk next from many) (walk next from k))
+        (more (omega arith))
 
 -- And past no other.
-pub listed_place : (next : ℕ → ℕ) (from many x : ℕ) → listed next from many x ≡ true → (k : ℕ) × (k < many) × (walk next from k ≡ x)
+pub listed_place : (next : ℕ → ℕ) (from many x : ℕ) → listed next from many x ≡ true → (k : ℕ) × (k < many)
+    × (walk next from k ≡ x)
 listed_place next from zero x on = absurd (cc on)
-listed_place next from (suc many) x on = by_or (or_cases (listed next from many x) (eqb (walk next from many) x) on) (listed_place next from many x)
+listed_place next from (suc many) x on = by_or (or_cases (listed next from many x) (eqb (walk next from many) x) on)
+    (listed_place next from many x)
   where
-    by_or : (listed next from many x ≡ true) ⊎ (eqb (walk next from many) x ≡ true) → (listed next from many x ≡ true → (k : ℕ) × (k < many) × (walk next from k ≡ x)) → (k : ℕ) × (k < suc many) × (walk next from k ≡ x)
-    by_or (inl e) more = let w : (k : ℕ) × (k < many) × (walk next from k ≡ x) = more e in (w.0, omega (arith, w.1), w.2)
+    by_or : (listed next from many x ≡ true) ⊎ (eqb (walk next from many) x ≡ true)
+        → (listed next from many x ≡ true → (k : ℕ) × (k < many) × (walk next from k ≡ x)) → (k : ℕ) × (k < suc many)
+        × (walk next from k ≡ x)
+    by_or (inl e) more = let w : (k : ℕ) × (k < many) × (walk next from k ≡ x) = more e in
+        (w.0, omega (arith, w.1), w.2)
     by_or (inr e) more = (many, omega arith, eqb-true (walk next from many) x e)
 
-pub listed_off : (next : ℕ → ℕ) (from many x : ℕ) → ((k : ℕ) → k < many → walk next from k ≢ x) → listed next from many x ≡ false
+pub listed_off : (next : ℕ → ℕ) (from many x : ℕ) → ((k : ℕ) → k < many → walk next from k ≢ x)
+    → listed next from many x ≡ false
 listed_off next from zero x off = refl
-listed_off next from (suc many) x off = or_from (listed next from many x) (eqb (walk next from many) x) (listed_off next from many x (λ k l. off k (omega arith))) (ne_eqb (walk next from many) x (off many (omega arith)))
+listed_off next from (suc many) x off = or_from (listed next from many x) (eqb (walk next from many) x)
+    (listed_off next from many x (λ k l. off k (omega arith))) (ne_eqb (walk next from many) x (off many (omega arith)))
 
 -- A walk that is closed stays among its places.
-pub listed_closed : (next : ℕ → ℕ) (from many : ℕ) → 1 ≤ many → walk next from many ≡ from → (k : ℕ) → listed next from many (walk next from k) ≡ true
-listed_closed next from many some closed k = let w : (j : ℕ) × (j < many) × (walk next from j ≡ walk next from k) = at k in subst (λ x. listed next from many x ≡ true) w.2 (listed_at next from many w.0 w.1)
+pub listed_closed : (next : ℕ → ℕ) (from many : ℕ) → 1 ≤ many → walk next from many ≡ from → (k : ℕ)
+    → listed next from many (walk next from k) ≡ true
+listed_closed next from many some closed k = let w : (j : ℕ) × (j < many) × (walk next from j ≡ walk next from k) =
+    at k in subst (λ x. listed next from many x ≡ true) w.2 (listed_at next from many w.0 w.1)
   where
-    one_more : (k : ℕ) → (j : ℕ) × (j < many) × (walk next from j ≡ walk next from k) → (j : ℕ) × (j < many) × (walk next from j ≡ walk next from (suc k))
+    one_more : (k : ℕ) → (j : ℕ) × (j < many) × (walk next from j ≡ walk next from k) → (j : ℕ) × (j < many)
+        × (walk next from j ≡ walk next from (suc k))
     one_more k w = by_place (cases_lt (suc w.0) many)
       where
-        by_place : (suc w.0 < many) ⊎ (many ≤ suc w.0) → (j : ℕ) × (j < many) × (walk next from j ≡ walk next from (suc k))
+        by_place : (suc w.0 < many) ⊎ (many ≤ suc w.0) → (j : ℕ) × (j < many)
+            × (walk next from j ≡ walk next from (suc k))
         by_place (inl l) = (suc w.0, l, ap next w.2)
-        by_place (inr h) = let e : many ≡ suc w.0 = omega (arith, h, w.1) in (0, omega (arith, some), sym closed ∙ (ap (walk next from) e ∙ ap next w.2))
+        by_place (inr h) = let e : many ≡ suc w.0 = omega (arith, h, w.1) in
+            (0, omega (arith, some), sym closed ∙ (ap (walk next from) e ∙ ap next w.2))
 
     at : (k : ℕ) → (j : ℕ) × (j < many) × (walk next from j ≡ walk next from k)
     at zero = (0, omega (arith, some), refl)
     at (suc k) = one_more k (at k)
 
 -- A walk past different places counts each once.
-pub listed_sum : (next : ℕ → ℕ) (from many y : ℕ) → ((i j : ℕ) → i < j → j < many → walk next from i ≢ walk next from j) → bool_number (listed next from many y) ≡ ring_sum next (λ p. bool_number (eqb y p)) from many
+pub listed_sum : (next : ℕ → ℕ) (from many y : ℕ) → ((i j : ℕ) → i < j → j < many → walk next from i ≢ walk next from j)
+    → bool_number (listed next from many y) ≡ ring_sum next (λ p. bool_number (eqb y p)) from many
 listed_sum next from zero y distinct = refl
-listed_sum next from (suc many) y distinct = by_place (cases_eq y (walk next from many)) (listed_sum next from many y (λ i j lij lj. distinct i j lij (omega arith)))
+listed_sum next from (suc many) y distinct =
+    by_place (cases_eq y (walk next from many))
+    (listed_sum next from many y (λ i j lij lj. distinct i j lij (omega arith)))
   where
-    by_place : (y ≡ walk next from many) ⊎ (y ≢ walk next from many) → bool_number (listed next from many y) ≡ ring_sum next (λ p. bool_number (eqb y p)) from many
-        → bool_number (listed next from many y || eqb (walk next from many) y) ≡ ring_sum next (λ p. bool_number (eqb y p)) from many + bool_number (eqb y (walk next from many))
+    by_place : (y ≡ walk next from many) ⊎ (y ≢ walk next from many) → bool_number (listed next from many y)
+        ≡ ring_sum next (λ p. bool_number (eqb y p)) from many
+        → bool_number (listed next from many y || eqb (walk next from many) y)
+        ≡ ring_sum next (λ p. bool_number (eqb y p)) from many + bool_number (eqb y (walk next from many))
     by_place (inl e) more =
-        let off : listed next from many y ≡ false = listed_off next from many y (λ k l w. distinct k many l (omega arith) (w ∙ e)) in
-        let left : bool_number (listed next from many y || eqb (walk next from many) y) ≡ 1 = ap bool_number (or_right (listed next from many y) (eqb (walk next from many) y) (eq-eqb (walk next from many) y (sym e))) in
+        let off : listed next from many y ≡ false =
+        listed_off next from many y (λ k l w. distinct k many l (omega arith) (w ∙ e)) in
+        let left : bool_number (listed next from many y || eqb (walk next from many) y) ≡ 1 =
+        ap bool_number (or_right (listed next from many y) (eqb (walk next from many) y)
+        (eq-eqb (walk next from many) y (sym e))) in
         let none : bool_number (listed next from many y) ≡ 0 = ap bool_number off in
         let right : bool_number (eqb y (walk next from many)) ≡ 1 = ap bool_number (eq-eqb y (walk next from many) e) in
         omega (arith, left, none, right, more)
     by_place (inr ne) more =
-        let left : bool_number (listed next from many y || eqb (walk next from many) y) ≡ bool_number (listed next from many y) = ap bool_number (or_off (listed next from many y) (eqb (walk next from many) y) (ne_eqb (walk next from many) y (λ e. ne (sym e)))) in
-        let right : bool_number (eqb y (walk next from many)) ≡ 0 = ap bool_number (ne_eqb y (walk next from many) ne) in
+        let left : bool_number (listed next from many y || eqb (walk next from many) y)
+        ≡ bool_number (listed next from many y) =
+        ap bool_number (or_off (listed next from many y) (eqb (walk next from many) y)
+        (ne_eqb (walk next from many) y (λ e. ne (sym e)))) in
+        let right : bool_number (eqb y (walk next from many)) ≡ 0 =
+        ap bool_number (ne_eqb y (walk next from many) ne) in
         omega (arith, left, right, more)
       where
         or_off : (a b : Bool) → b ≡ false → (a || b) ≡ a
@@ -70,17 +101,24 @@ listed_sum next from (suc many) y distinct = by_place (cases_eq y (walk next fro
         or_off false b e = e
 
 -- What is written at one of different places stands there, and elsewhere nothing is changed.
-pub writes_at : {X : Type 0} (f : ℕ → X) (place : ℕ → ℕ) (value : ℕ → X) (many k : ℕ) → k < many → ((i j : ℕ) → i < j → j < many → place i ≢ place j) → writes f place value many (place k) ≡ value k
+pub writes_at : {X : Type 0} (f : ℕ → X) (place : ℕ → ℕ) (value : ℕ → X) (many k : ℕ) → k < many
+    → ((i j : ℕ) → i < j → j < many → place i ≢ place j) → writes f place value many (place k) ≡ value k
 writes_at f place value zero k l distinct = absurd (omega arith)
-writes_at f place value (suc many) k l distinct = by_place (cases_eq k many) (λ lk. writes_at f place value many k lk (λ i j lij lj. distinct i j lij (omega arith)))
+writes_at f place value (suc many) k l distinct =
+    by_place (cases_eq k many) (λ lk. writes_at f place value many k lk (λ i j lij lj. distinct i j lij (omega arith)))
   where
-    by_place : (k ≡ many) ⊎ (k ≢ many) → (k < many → writes f place value many (place k) ≡ value k) → set_at (writes f place value many) (place many) (value many) (place k) ≡ value k
-    by_place (inl e) more = ap (λ j. set_at (writes f place value many) (place many) (value many) (place j)) e ∙ (set_here (writes f place value many) (place many) (value many) ∙ ap value (sym e))
-    by_place (inr ne) more = set_there (writes f place value many) (place many) (place k) (value many) (distinct k many (omega arith) (omega arith)) ∙ more (omega arith)
+    by_place : (k ≡ many) ⊎ (k ≢ many) → (k < many → writes f place value many (place k) ≡ value k)
+        → set_at (writes f place value many) (place many) (value many) (place k) ≡ value k
+    by_place (inl e) more = ap (λ j. set_at (writes f place value many) (place many) (value many) (place j)) e
+        ∙ (set_here (writes f place value many) (place many) (value many) ∙ ap value (sym e))
+    by_place (inr ne) more = set_there (writes f place value many) (place many) (place k) (value many)
+        (distinct k many (omega arith) (omega arith)) ∙ more (omega arith)
 
-pub writes_off : {X : Type 0} (f : ℕ → X) (place : ℕ → ℕ) (value : ℕ → X) (many x : ℕ) → ((k : ℕ) → k < many → place k ≢ x) → writes f place value many x ≡ f x
+pub writes_off : {X : Type 0} (f : ℕ → X) (place : ℕ → ℕ) (value : ℕ → X) (many x : ℕ)
+    → ((k : ℕ) → k < many → place k ≢ x) → writes f place value many x ≡ f x
 writes_off f place value zero x off = refl
-writes_off f place value (suc many) x off = set_there (writes f place value many) (place many) x (value many) (λ e. off many (omega arith) (sym e)) ∙ writes_off f place value many x (λ k l. off k (omega arith))
+writes_off f place value (suc many) x off = set_there (writes f place value many) (place many) x (value many)
+    (λ e. off many (omega arith) (sym e)) ∙ writes_off f place value many x (λ k l. off k (omega arith))
 
 -- A walk from the next place, and one from where one stays.
 pub walk_front : (f : ℕ → ℕ) (a k : ℕ) → walk f a (suc k) ≡ walk f (f a) k
@@ -92,8 +130,10 @@ walk_fixed f a zero e = refl
 walk_fixed f a (suc k) e = ap f (walk_fixed f a k e) ∙ e
 
 -- What one comes past in two parts of a walk.
-pub listed_parts : (next : ℕ → ℕ) (from m k x : ℕ) → listed next from (m + k) x ≡ (listed next from m x || listed next (walk next from m) k x)
-listed_parts next from m zero x = (let e : m + 0 ≡ m = omega arith in ap (λ j. listed next from j x) e) ∙ sym (or_no (listed next from m x))
+pub listed_parts : (next : ℕ → ℕ) (from m k x : ℕ) → listed next from (m + k) x
+    ≡ (listed next from m x || listed next (walk next from m) k x)
+listed_parts next from m zero x = (let e : m + 0 ≡ m = omega arith in ap (λ j. listed next from j x) e)
+    ∙ sym (or_no (listed next from m x))
   where
     or_no : (a : Bool) → (a || false) ≡ a
     or_no true = refl
@@ -109,7 +149,8 @@ listed_parts next from m (suc k) x =
     or_three false b c = refl
 
 -- A function that is written with one value at all places of a walk.
-pub writes_all : {X : Type 0} (f : ℕ → X) (next : ℕ → ℕ) (from many : ℕ) (y : X) (x : ℕ) → writes f (walk next from) (λ j. y) many x ≡ cond (listed next from many x) y (f x)
+pub writes_all : {X : Type 0} (f : ℕ → X) (next : ℕ → ℕ) (from many : ℕ) (y : X) (x : ℕ)
+    → writes f (walk next from) (λ j. y) many x ≡ cond (listed next from many x) y (f x)
 writes_all f next from zero y x = refl
 writes_all f next from (suc k) y x = by_place (cases_eq x (walk next from k)) (writes_all f next from k y x)
   where
@@ -117,10 +158,16 @@ writes_all f next from (suc k) y x = by_place (cases_eq x (walk next from k)) (w
     or_off true b e = refl
     or_off false b e = e
 
-    by_place : (x ≡ walk next from k) ⊎ (x ≢ walk next from k) → writes f (walk next from) (λ j. y) k x ≡ cond (listed next from k x) y (f x) → set_at (writes f (walk next from) (λ j. y) k) (walk next from k) y x ≡ cond (listed next from k x || eqb (walk next from k) x) y (f x)
+    by_place : (x ≡ walk next from k) ⊎ (x ≢ walk next from k) → writes f (walk next from) (λ j. y) k x
+        ≡ cond (listed next from k x) y (f x) → set_at (writes f (walk next from) (λ j. y) k) (walk next from k) y x
+        ≡ cond (listed next from k x || eqb (walk next from k) x) y (f x)
     by_place (inl e) more =
-        ap (set_at (writes f (walk next from) (λ j. y) k) (walk next from k) y) e ∙ (set_here (writes f (walk next from) (λ j. y) k) (walk next from k) y
-        ∙ sym (cond-true (listed next from k x || eqb (walk next from k) x) y (f x) (or_right (listed next from k x) (eqb (walk next from k) x) (eq-eqb (walk next from k) x (sym e)))))
+        ap (set_at (writes f (walk next from) (λ j. y) k) (walk next from k) y) e
+        ∙ (set_here (writes f (walk next from) (λ j. y) k) (walk next from k) y
+        ∙ sym (cond-true (listed next from k x || eqb (walk next from k) x) y (f x)
+        (or_right (listed next from k x) (eqb (walk next from k) x) (eq-eqb (walk next from k) x (sym e)))))
     by_place (inr ne) more =
         set_there (writes f (walk next from) (λ j. y) k) (walk next from k) x y ne ∙ (more
-        ∙ ap (λ (s : Bool). cond s y (f x)) (sym (or_off (listed next from k x) (eqb (walk next from k) x) (ne_eqb (walk next from k) x (λ e. ne (sym e))))))
+        ∙ ap (λ (s : Bool). cond s y (f x))
+        (sym (or_off (listed next from k x) (eqb (walk next from k) x)
+        (ne_eqb (walk next from k) x (λ e. ne (sym e))))))

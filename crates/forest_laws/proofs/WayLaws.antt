@@ -1,5 +1,6 @@
 -- Changing the matching along the way to the root: how it begins, goes on and ends, and why it ends.
-use Rattle.std.proofs.Common.{◌≡◌, ◌≢◌, ℕ, ◌<◌, ◌≤◌, Option, Some, None, ◌⊎◌, refl, sym, ◌∙◌, ap, subst, inl, inr, arith}
+use Rattle.std.proofs.Common.{◌≡◌, ◌≢◌, ℕ, ◌<◌, ◌≤◌, Option, Some, None, ◌⊎◌, refl, sym, ◌∙◌, ap, subst, inl, inr}
+use Rattle.std.proofs.Common.{arith}
 use Rattle.std.proofs.lemmas.Bool.{cases_eq}
 use Rattle.def_forest.specs.Darts.{Darts, AreDarts, far}
 use Rattle.def_forest.specs.Forests.{Forest, set_at}
@@ -15,7 +16,8 @@ use Rattle.forest_laws.proofs.Grows.{same_outermost, same_nested, same_feasible}
 pub some_none : (o : Option ℕ) (d : ℕ) → o ≡ Some d → o ≢ None
 some_none o d is off = let h : ◌≡◌ {A = Option ℕ} (Some d) None = sym is ∙ off in cc
 
-module _ (g : Darts) (are : AreDarts g) (f : Forest) (r : ℕ) (valid : IsValid g f (Some r)) (tree : IsTree g f r) (start : ℕ) where
+module _ (g : Darts) (are : AreDarts g) (f : Forest) (r : ℕ) (valid : IsValid g f (Some r)) (tree : IsTree g f r)
+    (start : ℕ) where
   outer_is : (x : ℕ) → f.label x ≡ Outer → f.label x ≢ Outside
   outer_is x l off = cc
 
@@ -23,7 +25,9 @@ module _ (g : Darts) (are : AreDarts g) (f : Forest) (r : ℕ) (valid : IsValid 
   inner_is x l off = cc
 
   -- It begins where a dart reaches a blossom that is not matched.
-  pub begin : Reaches g f start → f.mate (f.out (far g start)) ≡ None → IsAlmost g f tree.depth start (set_at f.mate (f.out (far g start)) (Some (g.twin start))) (f.out (g.near start)) start
+  pub begin : Reaches g f start → f.mate (f.out (far g start)) ≡ None
+      → IsAlmost g f tree.depth start (set_at f.mate (f.out (far g start)) (Some (g.twin start))) (f.out (g.near start))
+      start
   begin reach free = record {
     outer = reach.outer;
     tight = reach.tight;
@@ -45,7 +49,8 @@ module _ (g : Darts) (are : AreDarts g) (f : Forest) (r : ℕ) (valid : IsValid 
       at_there : mates there ≡ Some (g.twin start)
       at_there = set_here f.mate there (Some (g.twin start))
 
-      each : (b d : ℕ) → b ≢ f.out (g.near start) → mates b ≡ Some d → (b ≡ there) ⊎ (b ≢ there) → IsHalf g f mates (f.out (g.near start)) start b d
+      each : (b d : ℕ) → b ≢ f.out (g.near start) → mates b ≡ Some d → (b ≡ there) ⊎ (b ≢ there)
+          → IsHalf g f mates (f.out (g.near start)) start b d
       each b d ne mate (inl e) =
           let d_is : g.twin start ≡ d = some_is (g.twin start) d (sym at_there ∙ (ap mates (sym e) ∙ mate)) in
           subst (λ x. IsHalf g f mates (f.out (g.near start)) start b x) d_is (record {
@@ -61,7 +66,8 @@ module _ (g : Darts) (are : AreDarts g) (f : Forest) (r : ℕ) (valid : IsValid 
             tight = is.tight;
             here = is.here;
             other = is.other;
-            back = inl (set_there f.mate there (f.out (far g d)) (Some (g.twin start)) (λ x. some_none (f.mate (f.out (far g d))) (g.twin d) is.back (ap f.mate x ∙ free)) ∙ is.back);
+            back = inl (set_there f.mate there (f.out (far g d)) (Some (g.twin start))
+                (λ x. some_none (f.mate (f.out (far g d))) (g.twin d) is.back (ap f.mate x ∙ free)) ∙ is.back);
           }
 
       more : (b : ℕ) → mates b ≡ None → (b ≡ there) ⊎ (b ≢ there) → f.mate b ≡ None
@@ -74,13 +80,15 @@ module _ (g : Darts) (are : AreDarts g) (f : Forest) (r : ℕ) (valid : IsValid 
       where
         by_above : (f.label (f.out (far g e)) ≡ Outside) ⊎ (tree.depth a < tree.depth (f.out (far g e))) → ⊥
         by_above (inl off) = outer_is a almost.outer (ap f.label (sym at) ∙ off)
-        by_above (inr less) = let h : tree.depth a < tree.depth a = subst (λ x. tree.depth a < tree.depth x) at less in omega arith
+        by_above (inr less) = let h : tree.depth a < tree.depth a = subst (λ x. tree.depth a < tree.depth x) at less in
+            omega arith
 
     own : mate a ≡ f.mate a
     own = almost.kept a (outer_is a almost.outer) (omega arith)
 
     -- It ends at a blossom that is not matched: all mates are in order.
-    pub end_matched : f.mate a ≡ None → (b d : ℕ) → set_at mate a (Some e) b ≡ Some d → IsMate g (with_mates f (set_at mate a (Some e))) b d
+    pub end_matched : f.mate a ≡ None → (b d : ℕ) → set_at mate a (Some e) b ≡ Some d
+        → IsMate g (with_mates f (set_at mate a (Some e))) b d
     end_matched free b d is = by_place (cases_eq b a)
       where
         mates : ℕ → Option ℕ
@@ -92,9 +100,13 @@ module _ (g : Darts) (are : AreDarts g) (f : Forest) (r : ℕ) (valid : IsValid 
         by_back : (x : ℕ) → IsHalf g f mate a e b x → mates (f.out (far g x)) ≡ Some (g.twin x)
         by_back x half = by_case half.back
           where
-            by_case : (mate (f.out (far g x)) ≡ Some (g.twin x)) ⊎ ((f.out (far g x) ≡ a) × ((x ≡ g.twin e) ⊎ (f.mate a ≡ Some (g.twin x)))) → mates (f.out (far g x)) ≡ Some (g.twin x)
-            by_case (inl back) = set_there mate a (f.out (far g x)) (Some e) (λ at. some_none (mate a) (g.twin x) (ap mate (sym at) ∙ back) (own ∙ free)) ∙ back
-            by_case (inr (at, inl twin)) = ap mates at ∙ (here ∙ ap (λ (y : ℕ). Some y) (sym (ap g.twin twin ∙ are.twin_twin e)))
+            by_case : (mate (f.out (far g x)) ≡ Some (g.twin x))
+                ⊎ ((f.out (far g x) ≡ a) × ((x ≡ g.twin e) ⊎ (f.mate a ≡ Some (g.twin x)))) → mates (f.out (far g x))
+                ≡ Some (g.twin x)
+            by_case (inl back) = set_there mate a (f.out (far g x)) (Some e)
+                (λ at. some_none (mate a) (g.twin x) (ap mate (sym at) ∙ back) (own ∙ free)) ∙ back
+            by_case (inr (at, inl twin)) =
+                ap mates at ∙ (here ∙ ap (λ (y : ℕ). Some y) (sym (ap g.twin twin ∙ are.twin_twin e)))
             by_case (inr (at, inr was)) = absurd (some_none (f.mate a) (g.twin x) was free)
 
         by_place : (b ≡ a) ⊎ (b ≢ a) → IsMate g (with_mates f mates) b d
@@ -108,12 +120,19 @@ module _ (g : Darts) (are : AreDarts g) (f : Forest) (r : ℕ) (valid : IsValid 
             })
         by_place (inr ne) =
             let half : IsHalf g f mate a e b d = almost.each b d ne (sym (set_there mate a b (Some e) ne) ∙ is) in
-            record { tight = record { low = half.tight.low; exact = half.tight.exact }; here = half.here; other = half.other; back = by_back d half }
+            record {
+              tight = record { low = half.tight.low; exact = half.tight.exact };
+              here = half.here;
+              other =
+                  half.other;
+              back = by_back d half;
+            }
 
     -- The forest is valid then, and no tree stands.
     pub end_valid : f.mate a ≡ None → IsValid g (with_mates f (set_at mate a (Some e))) None
     end_valid free = record {
-      outermost = same_outermost g f (λ b. Outside) (set_at mate a (Some e)) f.link g.n valid.outermost (λ b named. absurd (named refl));
+      outermost = same_outermost g f (λ b. Outside) (set_at mate a (Some e)) f.link g.n valid.outermost
+          (λ b named. absurd (named refl));
       nested = same_nested g f (λ b. Outside) (set_at mate a (Some e)) f.link valid.nested;
       feasible = same_feasible g f (λ b. Outside) (set_at mate a (Some e)) f.link valid.feasible;
       matched = end_matched free;
@@ -169,7 +188,9 @@ module _ (g : Darts) (are : AreDarts g) (f : Forest) (r : ℕ) (valid : IsValid 
       inn_is = tree.inner inn inn_inner
 
       inn_depth : tree.depth inn ≡ tree.depth a
-      inn_depth = sym inn_is.same ∙ ap tree.depth (ap (λ x. f.out (far g x)) (some_is inn_is.dart (g.twin old) (sym inn_is.mate ∙ pair.back)) ∙ (ap f.out (far_twin g are old) ∙ pair.here))
+      inn_depth = sym inn_is.same
+          ∙ ap tree.depth (ap (λ x. f.out (far g x)) (some_is inn_is.dart (g.twin old) (sym inn_is.mate ∙ pair.back))
+          ∙ (ap f.out (far_twin g are old) ∙ pair.here))
 
       abbrev up : ℕ
       up = f.link inn
@@ -200,15 +221,23 @@ module _ (g : Darts) (are : AreDarts g) (f : Forest) (r : ℕ) (valid : IsValid 
 
       place : (x : ℕ) → Place x
       unfolding Place
-      place x = elim (cases_eq x inn) [ inl at ↦ inl at | inr ni ↦ elim (cases_eq x a) [ inl at ↦ inr (inl at) | inr na ↦ inr (inr (na, ni)) ] ]
+      place x = elim (cases_eq x inn) [
+        | inl at ↦ inl at
+        | inr ni ↦ elim (cases_eq x a) [
+          | inl at ↦ inr (inl at)
+          | inr na ↦ inr (inr (na, ni))
+        ]
+      ]
 
       -- Only the old partner is matched to what it was matched to.
       old_partner : (b d : ℕ) → f.out (g.near d) ≡ b → Some (g.twin d) ≡ Some old → b ≡ inn
-      old_partner b d here same = sym here ∙ (ap f.out (sym (far_twin g are d)) ∙ ap (λ x. f.out (far g x)) (some_is (g.twin d) old same))
+      old_partner b d here same =
+          sym here ∙ (ap f.out (sym (far_twin g are d)) ∙ ap (λ x. f.out (far g x)) (some_is (g.twin d) old same))
 
       old_owner : (b d : ℕ) → f.out (g.near d) ≡ b → Some (g.twin d) ≡ Some (g.twin old) → b ≡ a
       old_owner b d here same =
-          let d_is : d ≡ old = sym (are.twin_twin d) ∙ (ap g.twin (some_is (g.twin d) (g.twin old) same) ∙ are.twin_twin old) in
+          let d_is : d ≡ old = sym (are.twin_twin d) ∙ (ap g.twin (some_is (g.twin d) (g.twin old) same)
+          ∙ are.twin_twin old) in
           sym here ∙ (ap (λ x. f.out (g.near x)) d_is ∙ pair.here)
 
       reach_not_inn : f.out (far g e) ≢ inn
@@ -216,23 +245,29 @@ module _ (g : Darts) (are : AreDarts g) (f : Forest) (r : ℕ) (valid : IsValid 
         where
           by_above : (f.label (f.out (far g e)) ≡ Outside) ⊎ (tree.depth a < tree.depth (f.out (far g e))) → ⊥
           by_above (inl off) = inner_is inn inn_inner (ap f.label (sym at) ∙ off)
-          by_above (inr less) = let h : tree.depth a < tree.depth inn = subst (λ x. tree.depth a < tree.depth x) at less in omega (arith, inn_depth)
+          by_above (inr less) = let h : tree.depth a < tree.depth inn =
+              subst (λ x. tree.depth a < tree.depth x) at less in omega (arith, inn_depth)
 
       Waits : ℕ → Type 0
-      Waits x = (turned (f.out (far g x)) ≡ Some (g.twin x)) ⊎ ((f.out (far g x) ≡ next) × ((x ≡ g.twin (g.twin up)) ⊎ (f.mate next ≡ Some (g.twin x))))
+      Waits x = (turned (f.out (far g x)) ≡ Some (g.twin x))
+          ⊎ ((f.out (far g x) ≡ next) × ((x ≡ g.twin (g.twin up)) ⊎ (f.mate next ≡ Some (g.twin x))))
 
       by_old : (b x : ℕ) → b ≢ a → b ≢ inn → IsHalf g f mate a e b x → Waits x
       unfolding Place Waits
       by_old b x na ni half = by_case half.back (place (f.out (far g x)))
         where
-          by_case : (mate (f.out (far g x)) ≡ Some (g.twin x)) ⊎ ((f.out (far g x) ≡ a) × ((x ≡ g.twin e) ⊎ (f.mate a ≡ Some (g.twin x)))) → Place (f.out (far g x))
-              → (turned (f.out (far g x)) ≡ Some (g.twin x)) ⊎ ((f.out (far g x) ≡ next) × ((x ≡ g.twin (g.twin up)) ⊎ (f.mate next ≡ Some (g.twin x))))
+          by_case : (mate (f.out (far g x)) ≡ Some (g.twin x))
+              ⊎ ((f.out (far g x) ≡ a) × ((x ≡ g.twin e) ⊎ (f.mate a ≡ Some (g.twin x)))) → Place (f.out (far g x))
+              → (turned (f.out (far g x)) ≡ Some (g.twin x))
+              ⊎ ((f.out (far g x) ≡ next) × ((x ≡ g.twin (g.twin up)) ⊎ (f.mate next ≡ Some (g.twin x))))
           by_case (inl back) (inl at) =
               let kept : mate inn ≡ f.mate inn = almost.kept inn (inner_is inn inn_inner) (omega (arith, inn_depth)) in
               absurd (na (old_owner b x half.here (sym (ap mate (sym at) ∙ back) ∙ (kept ∙ pair.back))))
-          by_case (inl back) (inr (inl at)) = absurd (ni (old_partner b x half.here (sym (ap mate (sym at) ∙ back) ∙ (own ∙ was))))
+          by_case (inl back) (inr (inl at)) =
+              absurd (ni (old_partner b x half.here (sym (ap mate (sym at) ∙ back) ∙ (own ∙ was))))
           by_case (inl back) (inr (inr ne)) = inl (at_other (f.out (far g x)) ne.0 ne.1 ∙ back)
-          by_case (inr (at, inl twin)) other = inl (ap turned at ∙ (at_a ∙ ap (λ (y : ℕ). Some y) (sym (ap g.twin twin ∙ are.twin_twin e))))
+          by_case (inr (at, inl twin)) other =
+              inl (ap turned at ∙ (at_a ∙ ap (λ (y : ℕ). Some y) (sym (ap g.twin twin ∙ are.twin_twin e))))
           by_case (inr (at, inr is)) other = absurd (ni (old_partner b x half.here (sym is ∙ was)))
 
       -- It goes on past a blossom that is matched.
@@ -242,8 +277,10 @@ module _ (g : Darts) (are : AreDarts g) (f : Forest) (r : ℕ) (valid : IsValid 
         outer = inn_is.above;
         tight = tight_twin g are f up inn_is.tight;
         here = refl;
-        reached = ap turned (ap f.out (far_twin g are up) ∙ inn_is.here) ∙ (at_inn ∙ ap (λ (x : ℕ). Some x) (sym (are.twin_twin up)));
-        above = inr (subst (λ x. tree.depth next < tree.depth x) (sym (ap f.out (far_twin g are up) ∙ inn_is.here)) inn_is.nearer);
+        reached = ap turned (ap f.out (far_twin g are up) ∙ inn_is.here)
+            ∙ (at_inn ∙ ap (λ (x : ℕ). Some x) (sym (are.twin_twin up)));
+        above = inr (subst (λ x. tree.depth next < tree.depth x) (sym (ap f.out (far_twin g are up) ∙ inn_is.here))
+            inn_is.nearer);
         kept = λ b named low. kept b named low (place b);
         each = λ b d ne is. each b d is (place b);
         more = λ b is. more b is (place b);
@@ -251,8 +288,10 @@ module _ (g : Darts) (are : AreDarts g) (f : Forest) (r : ℕ) (valid : IsValid 
       }
         where
           kept : (b : ℕ) → f.label b ≢ Outside → tree.depth b ≤ tree.depth next → Place b → turned b ≡ f.mate b
-          kept b named low (inl at) = let h : tree.depth inn ≤ tree.depth next = subst (λ x. tree.depth x ≤ tree.depth next) at low in absurd (omega (arith, inn_depth, next_nearer))
-          kept b named low (inr (inl at)) = let h : tree.depth a ≤ tree.depth next = subst (λ x. tree.depth x ≤ tree.depth next) at low in absurd (omega (arith, next_nearer))
+          kept b named low (inl at) = let h : tree.depth inn ≤ tree.depth next =
+              subst (λ x. tree.depth x ≤ tree.depth next) at low in absurd (omega (arith, inn_depth, next_nearer))
+          kept b named low (inr (inl at)) = let h : tree.depth a ≤ tree.depth next =
+              subst (λ x. tree.depth x ≤ tree.depth next) at low in absurd (omega (arith, next_nearer))
           kept b named low (inr (inr ne)) = at_other b ne.0 ne.1 ∙ almost.kept b named (omega (arith, next_nearer))
 
           each : (b d : ℕ) → turned b ≡ Some d → Place b → IsHalf g f turned next (g.twin up) b d
@@ -261,7 +300,8 @@ module _ (g : Darts) (are : AreDarts g) (f : Forest) (r : ℕ) (valid : IsValid 
               subst (λ x. IsHalf g f turned next (g.twin up) b x) d_is (record {
                 tight = inn_is.tight;
                 here = inn_is.here ∙ sym at;
-                other = λ x. (let h : tree.depth inn < tree.depth inn = subst (λ y. tree.depth y < tree.depth inn) (x ∙ at) inn_is.nearer in omega arith);
+                other = λ x. (let h : tree.depth inn < tree.depth inn =
+                    subst (λ y. tree.depth y < tree.depth inn) (x ∙ at) inn_is.nearer in omega arith);
                 back = inr (refl, inl (sym (are.twin_twin up)));
               })
           each b d is (inr (inl at)) =

@@ -1,5 +1,6 @@
 -- A function with another value at one place; cases on labels; tests as terms of sums.
-use Rattle.std.proofs.Common.{◌∙◌, sym, ◌≡◌, ◌≢◌, ℕ, Bool, true, false, not, cond, eqb, Some, ℤ, pos, ◌+ℤ◌, ◌⊎◌, refl, inl, inr, arith}
+use Rattle.std.proofs.Common.{◌∙◌, sym, ◌≡◌, ◌≢◌, ℕ, Bool, true, false, not, cond, eqb, Some, ℤ, pos, ◌+ℤ◌, ◌⊎◌, refl}
+use Rattle.std.proofs.Common.{inl, inr, arith}
 use Rattle.std.proofs.lemmas.Int.{ints}
 use Rattle.std.proofs.lemmas.Bool.{cond-true, cond-false, eq-eqb, ne_eqb}
 use Rattle.def_forest.specs.Forests.{set_at}
@@ -32,7 +33,8 @@ pub inner_named : (l : Label) → l ≡ Inner → l ≢ Outside
 inner_named l e off = cc
 
 -- Two sets that have nothing in common: what lies in just one of them.
-pub by_two : (p q : Bool) (x : ℤ) → (p ≡ true → q ≡ true → ⊥) → cond (cond p (not q) q) x (pos 0) ≡ cond p x (pos 0) +ℤ cond q x (pos 0)
+pub by_two : (p q : Bool) (x : ℤ) → (p ≡ true → q ≡ true → ⊥) → cond (cond p (not q) q) x (pos 0)
+    ≡ cond p x (pos 0) +ℤ cond q x (pos 0)
 by_two true true x off = absurd (off refl refl)
 by_two true false x off = omega (arith, ints)
 by_two false true x off = omega (arith, ints)

@@ -1,5 +1,8 @@
 -- Any states of the units tell a list of the box: the cost of the units that are on is at least its deviation.
-use Rattle.std.proofs.Common.{◌≡◌, ℕ, zero, suc, ◌+◌, ◌-◌, ◌*◌, ◌%◌, ◌/◌, ◌<◌, ◌≤◌, Bool, true, false, ◌==◌, List, [], ◌∷◌, ◌++◌, length, map, take, drop, Option, ℤ, pos, ◌+ℤ◌, ◌-ℤ◌, ◌≤ℤ◌, refl, sym, ◌∙◌, ap, inl, inr, ◌⊎◌, add-mul, mul-add, one-mul, zero-mul, zero-add, add-zero, div-mul-le_self, mul-le-mul_right, length-append, arith}
+use Rattle.std.proofs.Common.{◌≡◌, ℕ, zero, suc, ◌+◌, ◌-◌, ◌*◌, ◌%◌, ◌/◌, ◌<◌, ◌≤◌, Bool, true, false, ◌==◌, List, []}
+use Rattle.std.proofs.Common.{◌∷◌, ◌++◌, length, map, take, drop, Option, ℤ, pos, ◌+ℤ◌, ◌-ℤ◌, ◌≤ℤ◌, refl, sym, ◌∙◌, ap}
+use Rattle.std.proofs.Common.{inl, inr, ◌⊎◌, add-mul, mul-add, one-mul, zero-mul, zero-add, add-zero, div-mul-le_self}
+use Rattle.std.proofs.Common.{mul-le-mul_right, length-append, arith}
 use Rattle.std.proofs.lemmas.Int.{ints}
 use Rattle.std.proofs.lemmas.Bool.{cases_lt}
 use Rattle.std.proofs.lemmas.List.{length-take-le, length-drop, length-map}
@@ -19,15 +22,23 @@ use Rattle.gadget_laws.specs.Box.{IsRaised}
 use Rattle.gadget_laws.specs.Told.{marks_from, states_told, steps_told, lengths_on, lengths_told}
 use Rattle.gadget_laws.proofs.Unit.{ends_active}
 use Rattle.gadget_laws.proofs.Units.{UnitsAt}
-use Rattle.gadget_laws.proofs.Box.{own_box, box_length, arc_active, weighted_ends, units_length, box_active, box_ends, side_list, balanced_list, deviations, deviation_list}
+use Rattle.gadget_laws.proofs.Box.{own_box, box_length, arc_active, weighted_ends, units_length, box_active, box_ends}
+use Rattle.gadget_laws.proofs.Box.{side_list, balanced_list, deviations, deviation_list}
 use Rattle.gadget_laws.proofs.Law.{arcs_at, units_at}
 use Rattle.gadget_laws.proofs.Steps.{raised_in_box}
 use Rattle.gadget_laws.proofs.Reading.{told_length, told_fills, told_cost}
 
 -- The active ends of an arc with any states of its units.
-any_active : (net : Network) (step v : ℕ) (a : Arc) (x k n : ℕ) (os : List Bool) → length os ≡ n → active v (units_from net step a (low net step x) k n) os + trues os * arc_active v false a ≡ trues os * arc_active v true a + n * arc_active v false a
+any_active : (net : Network) (step v : ℕ) (a : Arc) (x k n : ℕ) (os : List Bool) → length os ≡ n
+    → active v (units_from net step a (low net step x) k n) os + trues os * arc_active v false a
+    ≡ trues os * arc_active v true a + n * arc_active v false a
 any_active net step v a x k zero [] l = omega arith
-any_active net step v a x k (suc n) (true ∷ os) l = omega (arith, add-mul 1 (trues os) (arc_active v false a), add-mul 1 (trues os) (arc_active v true a), any_active net step v a x (k + 1) n os (omega arith))
+any_active net step v a x k (suc n) (true ∷ os) l = omega (
+  arith,
+  add-mul 1 (trues os) (arc_active v false a),
+  add-mul 1 (trues os) (arc_active v true a),
+  any_active net step v a x (k + 1) n os (omega arith),
+)
 any_active net step v a x k (suc n) (false ∷ os) l = omega (arith, any_active net step v a x (k + 1) n os (omega arith))
 any_active net step v a x k _ _ l = absurd (omega arith)
 
@@ -36,8 +47,15 @@ abbrev at_step : Network → ℕ → Arc → ℕ → ℕ → ℕ
 at_step net step a x k = arc_deviation net a (pos (low net step x + k * step))
 
 -- A step costs no less further up.
-increments : (net : Network) (step : ℕ) (a : Arc) (x k t : ℕ) → at_step net step a x (k + 1) + at_step net step a x (k + t) ≤ at_step net step a x k + at_step net step a x (k + 1 + t)
-increments net step a x k t = omega (arith, arc_convex net a here there (pos step) part, ap (arc_deviation net a) up, ap (arc_deviation net a) less)
+increments : (net : Network) (step : ℕ) (a : Arc) (x k t : ℕ)
+    → at_step net step a x (k + 1) + at_step net step a x (k + t) ≤ at_step net step a x k + at_step net step a x
+    (k + 1 + t)
+increments net step a x k t = omega (
+  arith,
+  arc_convex net a here there (pos step) part,
+  ap (arc_deviation net a) up,
+  ap (arc_deviation net a) less,
+)
   where
     here : ℤ
     here = pos (low net step x + k * step)
@@ -58,15 +76,19 @@ increments net step a x k t = omega (arith, arc_convex net a here there (pos ste
     less = omega (arith, ints, spread, add-mul k t step)
 
 -- Any units of an arc that are on cost no less than the first ones.
-any_cost : (net : Network) (step : ℕ) (a : Arc) (x k n : ℕ) (os : List Bool) → length os ≡ n → pos (at_step net step a x (k + trues os)) ≤ℤ (cost_on (units_from net step a (low net step x) k n) os +ℤ pos (at_step net step a x k))
+any_cost : (net : Network) (step : ℕ) (a : Arc) (x k n : ℕ) (os : List Bool) → length os ≡ n
+    → pos (at_step net step a x (k + trues os)) ≤ℤ (cost_on (units_from net step a (low net step x) k n) os +ℤ pos
+    (at_step net step a x k))
 any_cost net step a x k zero [] l = rw (add-zero k) (omega (arith, ints))
 any_cost net step a x k (suc n) (true ∷ os) l =
     let past : k + (1 + trues os) ≡ k + 1 + trues os = omega arith in
-    let same : at_step net step a x (k + (1 + trues os)) ≡ at_step net step a x (k + 1 + trues os) = ap (at_step net step a x) past in
+    let same : at_step net step a x (k + (1 + trues os)) ≡ at_step net step a x (k + 1 + trues os) =
+    ap (at_step net step a x) past in
     omega (arith, ints, same, any_cost net step a x (k + 1) n os (omega arith))
 any_cost net step a x k (suc n) (false ∷ os) l =
     let none : k + (0 + trues os) ≡ k + trues os = omega arith in
-    let same : at_step net step a x (k + (0 + trues os)) ≡ at_step net step a x (k + trues os) = ap (at_step net step a x) none in
+    let same : at_step net step a x (k + (0 + trues os)) ≡ at_step net step a x (k + trues os) =
+    ap (at_step net step a x) none in
     omega (arith, ints, same, increments net step a x k (trues os), any_cost net step a x (k + 1) n os (omega arith))
 any_cost net step a x k _ _ l = absurd (omega arith)
 
@@ -75,7 +97,8 @@ active_none : (v : ℕ) (us : List ArcUnit) → active v us [] ≡ 0
 active_none v [] = refl
 active_none v (u ∷ us) = refl
 
-active_split : (v : ℕ) (us vs : List ArcUnit) (ons : List Bool) → active v (us ++ vs) ons ≡ active v us (take (length us) ons) + active v vs (drop (length us) ons)
+active_split : (v : ℕ) (us vs : List ArcUnit) (ons : List Bool) → active v (us ++ vs) ons
+    ≡ active v us (take (length us) ons) + active v vs (drop (length us) ons)
 active_split v [] vs ons = omega arith
 active_split v (u ∷ us) vs [] = omega (arith, active_none v vs)
 active_split v (u ∷ us) vs (on ∷ ons) = omega (arith, active_split v us vs ons)
@@ -84,7 +107,8 @@ cost_none : (us : List ArcUnit) → cost_on us [] ≡ pos 0
 cost_none [] = refl
 cost_none (u ∷ us) = refl
 
-cost_split : (us vs : List ArcUnit) (ons : List Bool) → cost_on (us ++ vs) ons ≡ cost_on us (take (length us) ons) +ℤ cost_on vs (drop (length us) ons)
+cost_split : (us vs : List ArcUnit) (ons : List Bool) → cost_on (us ++ vs) ons
+    ≡ cost_on us (take (length us) ons) +ℤ cost_on vs (drop (length us) ons)
 cost_split [] vs ons = omega (arith, ints)
 cost_split (u ∷ us) vs [] = omega (arith, ints, cost_none vs)
 cost_split (u ∷ us) vs (on ∷ ons) = omega (arith, ints, cost_split us vs ons)
@@ -96,24 +120,44 @@ trues_take (suc n) (true ∷ ms) = omega (arith, trues_take n ms)
 trues_take (suc n) (false ∷ ms) = omega (arith, trues_take n ms)
 
 -- The list that states tell is in the box.
-pub told_box : (net : Network) (step : ℕ) (xs : List ℕ) (ons : List Bool) → IsRaised net step xs (steps_told net step xs ons) (lengths_on net step xs (steps_told net step xs ons))
+pub told_box : (net : Network) (step : ℕ) (xs : List ℕ) (ons : List Bool)
+    → IsRaised net step xs (steps_told net step xs ons) (lengths_on net step xs (steps_told net step xs ons))
 told_box net step [] ons = tt
-told_box net step (x ∷ xs) ons = (trues_take (cap net step x) ons, refl, told_box net step xs (drop (cap net step x) ons))
+told_box net step (x ∷ xs) ons =
+    (trues_take (cap net step x) ons, refl, told_box net step xs (drop (cap net step x) ons))
 
 -- The units and states of the first arc, and those of the others.
-first_length : (net : Network) (step : ℕ) (a : Arc) (arcs : List Arc) (x : ℕ) (xs : List ℕ) (ons : List Bool) → length ons ≡ length (units net step (a ∷ arcs) (x ∷ xs)) → (length (take (cap net step x) ons) ≡ cap net step x) × (length (drop (cap net step x) ons) ≡ length (units net step arcs xs))
+first_length : (net : Network) (step : ℕ) (a : Arc) (arcs : List Arc) (x : ℕ) (xs : List ℕ) (ons : List Bool)
+    → length ons ≡ length (units net step (a ∷ arcs) (x ∷ xs)) → (length (take (cap net step x) ons) ≡ cap net step x)
+    × (length (drop (cap net step x) ons) ≡ length (units net step arcs xs))
 first_length net step a arcs x xs ons l =
-    let whole : length ons ≡ cap net step x + length (units net step arcs xs) = omega (arith, l, length-append (units_from net step a (low net step x) 0 (cap net step x)) (units net step arcs xs), units_length net step a x 0 (cap net step x)) in
+    let whole : length ons ≡ cap net step x + length (units net step arcs xs) =
+    omega (
+      arith,
+      l,
+      length-append (units_from net step a (low net step x) 0 (cap net step x))
+          (units net step arcs xs),
+      units_length net step a x 0 (cap net step x),
+    ) in
     (length-take-le (cap net step x) ons (omega (arith, whole)), omega (arith, whole, length-drop (cap net step x) ons))
 
-told_active : (net : Network) (step v : ℕ) (arcs : List Arc) (xs : List ℕ) (ons : List Bool) → length xs ≡ length arcs → length ons ≡ length (units net step arcs xs) → active v (units net step arcs xs) ons + weighted_ends v false arcs (steps_told net step xs ons) ≡ weighted_ends v true arcs (steps_told net step xs ons) + weighted_ends v false arcs (map (cap net step) xs)
+told_active : (net : Network) (step v : ℕ) (arcs : List Arc) (xs : List ℕ) (ons : List Bool) → length xs ≡ length arcs
+    → length ons ≡ length (units net step arcs xs) → active v (units net step arcs xs) ons + weighted_ends v false arcs
+    (steps_told net step xs ons) ≡ weighted_ends v true arcs (steps_told net step xs ons) + weighted_ends v false arcs
+    (map (cap net step) xs)
 told_active net step v [] [] ons l m = refl
 told_active net step v (a ∷ arcs) (x ∷ xs) ons l m =
     let n : ℕ = cap net step x in
-    let ls : (length (take n ons) ≡ n) × (length (drop n ons) ≡ length (units net step arcs xs)) = first_length net step a arcs x xs ons m in
+    let ls : (length (take n ons) ≡ n) × (length (drop n ons) ≡ length (units net step arcs xs)) =
+    first_length net step a arcs x xs ons m in
     let len : length (units_from net step a (low net step x) 0 n) ≡ n = units_length net step a x 0 n in
-    let first : active v (units_from net step a (low net step x) 0 n) (take (length (units_from net step a (low net step x) 0 n)) ons) ≡ active v (units_from net step a (low net step x) 0 n) (take n ons) = ap (λ k. active v (units_from net step a (low net step x) 0 n) (take k ons)) len in
-    let others : active v (units net step arcs xs) (drop (length (units_from net step a (low net step x) 0 n)) ons) ≡ active v (units net step arcs xs) (drop n ons) = ap (λ k. active v (units net step arcs xs) (drop k ons)) len in
+    let first : active v (units_from net step a (low net step x) 0 n)
+    (take (length (units_from net step a (low net step x) 0 n)) ons)
+    ≡ active v (units_from net step a (low net step x) 0 n) (take n ons) =
+    ap (λ k. active v (units_from net step a (low net step x) 0 n) (take k ons)) len in
+    let others : active v (units net step arcs xs) (drop (length (units_from net step a (low net step x) 0 n)) ons)
+    ≡ active v (units net step arcs xs) (drop n ons) =
+    ap (λ k. active v (units net step arcs xs) (drop k ons)) len in
     omega (
       arith,
       first,
@@ -124,7 +168,10 @@ told_active net step v (a ∷ arcs) (x ∷ xs) ons l m =
     )
 told_active net step v _ _ ons l m = absurd (omega arith)
 
-told_dear : (net : Network) (step : ℕ) (arcs : List Arc) (xs : List ℕ) (ons : List Bool) → length xs ≡ length arcs → length ons ≡ length (units net step arcs xs) → pos (deviations net arcs (lengths_on net step xs (steps_told net step xs ons))) ≤ℤ (cost_on (units net step arcs xs) ons +ℤ pos (deviations net arcs (lows net step xs)))
+told_dear : (net : Network) (step : ℕ) (arcs : List Arc) (xs : List ℕ) (ons : List Bool) → length xs ≡ length arcs
+    → length ons ≡ length (units net step arcs xs)
+    → pos (deviations net arcs (lengths_on net step xs (steps_told net step xs ons))) ≤ℤ
+    (cost_on (units net step arcs xs) ons +ℤ pos (deviations net arcs (lows net step xs)))
 told_dear net step [] [] ons l m = omega (arith, ints, none ons)
   where
     none : (os : List Bool) → cost_on [] os ≡ pos 0
@@ -132,12 +179,18 @@ told_dear net step [] [] ons l m = omega (arith, ints, none ons)
 told_dear net step (a ∷ arcs) (x ∷ xs) ons l m =
     let n : ℕ = cap net step x in
     let t : ℕ = trues (take n ons) in
-    let ls : (length (take n ons) ≡ n) × (length (drop n ons) ≡ length (units net step arcs xs)) = first_length net step a arcs x xs ons m in
+    let ls : (length (take n ons) ≡ n) × (length (drop n ons) ≡ length (units net step arcs xs)) =
+    first_length net step a arcs x xs ons m in
     let len : length (units_from net step a (low net step x) 0 n) ≡ n = units_length net step a x 0 n in
-    let first : cost_on (units_from net step a (low net step x) 0 n) (take (length (units_from net step a (low net step x) 0 n)) ons) ≡ cost_on (units_from net step a (low net step x) 0 n) (take n ons) = ap (λ k. cost_on (units_from net step a (low net step x) 0 n) (take k ons)) len in
-    let others : cost_on (units net step arcs xs) (drop (length (units_from net step a (low net step x) 0 n)) ons) ≡ cost_on (units net step arcs xs) (drop n ons) = ap (λ k. cost_on (units net step arcs xs) (drop k ons)) len in
+    let first : cost_on (units_from net step a (low net step x) 0 n)
+    (take (length (units_from net step a (low net step x) 0 n)) ons)
+    ≡ cost_on (units_from net step a (low net step x) 0 n) (take n ons) =
+    ap (λ k. cost_on (units_from net step a (low net step x) 0 n) (take k ons)) len in
+    let others : cost_on (units net step arcs xs) (drop (length (units_from net step a (low net step x) 0 n)) ons)
+    ≡ cost_on (units net step arcs xs) (drop n ons) = ap (λ k. cost_on (units net step arcs xs) (drop k ons)) len in
     let begin : low net step x + 0 * step ≡ low net step x = omega (arith, zero-mul step) in
-    let bottom : at_step net step a x 0 ≡ arc_deviation net a (pos (low net step x)) = ap (λ k. arc_deviation net a (pos k)) begin in
+    let bottom : at_step net step a x 0 ≡ arc_deviation net a (pos (low net step x)) =
+    ap (λ k. arc_deviation net a (pos k)) begin in
     let top : at_step net step a x (0 + t) ≡ at_step net step a x t = ap (at_step net step a x) (zero-add t) in
     omega (
       arith,
@@ -153,13 +206,18 @@ told_dear net step (a ∷ arcs) (x ∷ xs) ons l m =
 told_dear net step _ _ ons l m = absurd (omega arith)
 
 -- No end is at a node past the last.
-ends_past : (nodes v : ℕ) (on : Bool) (left : End) (right : Option End) → nodes ≤ v → EndsBelow nodes left right → ends_active v on left right ≡ 0
+ends_past : (nodes v : ℕ) (on : Bool) (left : End) (right : Option End) → nodes ≤ v → EndsBelow nodes left right
+    → ends_active v on left right ≡ 0
 ends_past nodes v on left right le at = grind (arith)
 
 active_past : (nodes v : ℕ) (us : List ArcUnit) (ons : List Bool) → nodes ≤ v → UnitsAt nodes us → active v us ons ≡ 0
 active_past nodes v [] ons le at = refl
 active_past nodes v (u ∷ us) [] le at = refl
-active_past nodes v (u ∷ us) (on ∷ ons) le at = omega (arith, ends_past nodes v on u.left u.right le at.0, active_past nodes v us ons le at.1)
+active_past nodes v (u ∷ us) (on ∷ ons) le at = omega (
+  arith,
+  ends_past nodes v on u.left u.right le at.0,
+  active_past nodes v us ons le at.1,
+)
 
 -- The lows are as high as the floor, and so is each list of the box.
 low_high : (net : Network) (step x : ℕ) → net.floor ≤ x → net.floor ≤ low net step x
@@ -168,24 +226,40 @@ low_high net step x le =
     let g : ((x - net.floor) / step) * step ≤ x - net.floor = div-mul-le_self (x - net.floor) step in
     omega (arith, h, g)
 
-box_high : (net : Network) (step : ℕ) (xs js ys : List ℕ) → IsRaised net step xs js ys → ((k : ℕ) → k < length xs → pos net.floor ≤ℤ entries xs k) → (k : ℕ) → k < length xs → pos net.floor ≤ℤ entries ys k
+box_high : (net : Network) (step : ℕ) (xs js ys : List ℕ) → IsRaised net step xs js ys
+    → ((k : ℕ) → k < length xs → pos net.floor ≤ℤ entries xs k) → (k : ℕ) → k < length xs
+    → pos net.floor ≤ℤ entries ys k
 box_high net step [] js ys box high k l = absurd (omega arith)
 box_high net step (x ∷ xs) (j ∷ js) (y ∷ ys) box high zero l =
     omega (arith, ints, box.1, low_high net step x (omega (arith, ints, high 0 (omega arith))))
-box_high net step (x ∷ xs) (j ∷ js) (y ∷ ys) box high (suc k) l = box_high net step xs js ys box.2 (λ i li. high (suc i) (omega arith)) k (omega arith)
+box_high net step (x ∷ xs) (j ∷ js) (y ∷ ys) box high (suc k) l =
+    box_high net step xs js ys box.2 (λ i li. high (suc i) (omega arith)) k (omega arith)
 box_high net step (x ∷ xs) _ _ box high k l = absurd box
 
 -- The list that a matching tells is in the box.
-pub told_in_box : (net : Network) (step : ℕ) (xs m : List ℕ) → IsInBox step (lows net step xs) (caps net step xs) (lengths_told net step xs m)
+pub told_in_box : (net : Network) (step : ℕ) (xs m : List ℕ)
+    → IsInBox step (lows net step xs) (caps net step xs) (lengths_told net step xs m)
 told_in_box net step xs m =
     let us : List ArcUnit = units net step net.arcs xs in
-    let ons : List Bool = states_told (λ v. active v us (states_at net step xs)) us (marks_from 0 (length (matching_graph net step xs).edges) m) in
+    let ons : List Bool = states_told (λ v. active v us (states_at net step xs)) us
+    (marks_from 0 (length (matching_graph net step xs).edges) m) in
     raised_in_box net step xs (steps_told net step xs ons) (lengths_told net step xs m) (told_box net step xs ons)
 
 -- The lengths law.
-pub lengths_law : (net : Network) (step : ℕ) (xs m : List ℕ) → IsWithinBounds net → 1 ≤ step → length xs ≡ length net.arcs → IsAdmissible net (entries xs) → IsPerfect (matching_graph net step xs) m
-    → (length (lengths_told net step xs m) ≡ length net.arcs) × IsAdmissible net (entries (lengths_told net step xs m)) × ((pos (deviation net (entries (lengths_told net step xs m))) -ℤ pos (deviation net (entries (lows net step xs)))) ≤ℤ matching_cost (matching_graph net step xs) m)
-lengths_law net step xs m bounds positive l ax perfect = (count, record { high = λ k lk. box_high net step xs js ys box (λ i li. ax.high i (omega (arith, l))) k (omega (arith, l)); balanced = balanced }, dear)
+pub lengths_law : (net : Network) (step : ℕ) (xs m : List ℕ) → IsWithinBounds net → 1 ≤ step
+    → length xs ≡ length net.arcs → IsAdmissible net (entries xs) → IsPerfect (matching_graph net step xs) m
+    → (length (lengths_told net step xs m) ≡ length net.arcs) × IsAdmissible net (entries (lengths_told net step xs m))
+    × ((pos (deviation net (entries (lengths_told net step xs m))) -ℤ pos
+    (deviation net (entries (lows net step xs)))) ≤ℤ matching_cost (matching_graph net step xs) m)
+lengths_law net step xs m bounds positive l ax perfect = (
+  count,
+  record {
+    high = λ k lk. box_high net step xs js ys box (λ i li. ax.high i (omega (arith, l))) k
+        (omega (arith, l));
+    balanced = balanced;
+  },
+  dear,
+)
   where
     us : List ArcUnit
     us = units net step net.arcs xs
@@ -218,8 +292,10 @@ lengths_law net step xs m bounds positive l ax perfect = (count, record { high =
     fills v = by_node (cases_lt v net.nodes)
       where
         by_node : (v < net.nodes) ⊎ (net.nodes ≤ v) → active v us ons ≡ active v us (states_at net step xs)
-        by_node (inl low_node) = told_fills net.nodes copies_at (rim_active us (states_at net step xs) % 2 == 1) us at m perfect v low_node
-        by_node (inr past) = active_past net.nodes v us ons past at ∙ sym (active_past net.nodes v us (states_at net step xs) past at)
+        by_node (inl low_node) = told_fills net.nodes copies_at (rim_active us (states_at net step xs) % 2 == 1) us at m
+            perfect v low_node
+        by_node (inr past) = active_past net.nodes v us ons past at
+            ∙ sym (active_past net.nodes v us (states_at net step xs) past at)
 
     own : IsRaised net step xs (map (down net step) xs) xs
     own = own_box net step xs
@@ -247,7 +323,12 @@ lengths_law net step xs m bounds positive l ax perfect = (count, record { high =
         minus ks = weighted_ends v false net.arcs ks
 
         equal : plus js + minus ds ≡ minus js + plus ds
-        equal = omega (arith, fills v, told_active net step v net.arcs xs ons l ons_count, box_active net step v net.arcs xs ds xs l own)
+        equal = omega (
+          arith,
+          fills v,
+          told_active net step v net.arcs xs ons l ons_count,
+          box_active net step v net.arcs xs ds xs l own,
+        )
 
         scaled : step * (plus js + minus ds) ≡ step * (minus js + plus ds)
         scaled = ap (λ n. step * n) equal
@@ -255,7 +336,8 @@ lengths_law net step xs m bounds positive l ax perfect = (count, record { high =
     balanced : IsBalanced net.arcs (entries ys)
     balanced v = omega (arith, ints, side_list v true net.arcs ys count, side_list v false net.arcs ys count, side v)
 
-    dear : (pos (deviation net (entries ys)) -ℤ pos (deviation net (entries (lows net step xs)))) ≤ℤ matching_cost (matching_graph net step xs) m
+    dear : (pos (deviation net (entries ys)) -ℤ pos (deviation net (entries (lows net step xs)))) ≤ℤ matching_cost
+        (matching_graph net step xs) m
     dear = omega (
       arith,
       ints,

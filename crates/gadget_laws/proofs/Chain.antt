@@ -1,5 +1,6 @@
 -- The chain at the rim: each vertex that waits gets a mate, and so do all fresh vertices.
-use Rattle.std.proofs.Common.{◌≡◌, ℕ, suc, ◌+◌, ◌-◌, ◌*◌, ◌%◌, Bool, true, false, cond, List, [], ◌∷◌, ◌++◌, length, Option, Some, None, ℤ, pos, ◌+ℤ◌, refl, ◌∙◌, ap, true≢false, arith}
+use Rattle.std.proofs.Common.{◌≡◌, ℕ, suc, ◌+◌, ◌-◌, ◌*◌, ◌%◌, Bool, true, false, cond, List, [], ◌∷◌, ◌++◌, length}
+use Rattle.std.proofs.Common.{Option, Some, None, ℤ, pos, ◌+ℤ◌, refl, ◌∙◌, ap, true≢false, arith}
 use Rattle.std.proofs.lemmas.Int.{ints}
 use Rattle.def_math.specs.Sums.{span}
 use Rattle.def_flow.specs.MatchingGraph.{link_from, rung, rim_links}
@@ -25,15 +26,20 @@ waiting w None waits = pos 0
 waiting w (Some b) waits = cond waits (w b) (pos 0)
 
 -- Two fresh vertices more.
-two_more : (w : ℕ → ℤ) (fresh n : ℕ) → span w fresh (pairs (suc (suc n))) ≡ w fresh +ℤ (w (fresh + 1) +ℤ span w (fresh + 2) (pairs (suc n)))
+two_more : (w : ℕ → ℤ) (fresh n : ℕ) → span w fresh (pairs (suc (suc n)))
+    ≡ w fresh +ℤ (w (fresh + 1) +ℤ span w (fresh + 2) (pairs (suc n)))
 two_more w fresh n =
     let more : pairs (suc (suc n)) ≡ suc (suc (pairs (suc n))) = omega arith in
     let past : fresh + 1 + 1 ≡ fresh + 2 = omega arith in
-    let same : span w (fresh + 1 + 1) (pairs (suc n)) ≡ span w (fresh + 2) (pairs (suc n)) = ap (λ a. span w a (pairs (suc n))) past in
+    let same : span w (fresh + 1 + 1) (pairs (suc n)) ≡ span w (fresh + 2) (pairs (suc n)) =
+    ap (λ a. span w a (pairs (suc n))) past in
     ap (span w fresh) more ∙ omega (arith, ints, same)
 
 -- What is picked at the rim weighs what waits and what is fresh.
-pub chain_sum : (w : ℕ → ℤ) (before : Option ℕ) (waits : Bool) (fresh : ℕ) (rs : List ℕ) (os : List Bool) → length os ≡ length rs → IsThere before waits → (cond waits 1 0 + trues os) % 2 ≡ 0 → picked (at_ends w) (rim_marks before waits fresh os) (rim_links before fresh rs) ≡ waiting w before waits +ℤ (picked w os rs +ℤ span w fresh (pairs (length rs)))
+pub chain_sum : (w : ℕ → ℤ) (before : Option ℕ) (waits : Bool) (fresh : ℕ) (rs : List ℕ) (os : List Bool)
+    → length os ≡ length rs → IsThere before waits → (cond waits 1 0 + trues os) % 2 ≡ 0
+    → picked (at_ends w) (rim_marks before waits fresh os) (rim_links before fresh rs)
+    ≡ waiting w before waits +ℤ (picked w os rs +ℤ span w fresh (pairs (length rs)))
 chain_sum w None waits fresh [] [] l there even = refl
 chain_sum w (Some b) true fresh [] [] l there even = absurd (omega arith)
 chain_sum w (Some b) false fresh [] [] l there even = refl
@@ -49,12 +55,54 @@ chain_sum w (Some b) true fresh (r ∷ []) (false ∷ []) l there even = absurd 
 chain_sum w (Some b) false fresh (r ∷ []) (true ∷ []) l there even = absurd (omega arith)
 chain_sum w (Some b) false fresh (r ∷ []) (false ∷ []) l there even = omega (arith, ints)
 chain_sum w None true fresh (r ∷ s ∷ rs) (o ∷ p ∷ os) l there even = absurd (true≢false there)
-chain_sum w None false fresh (r ∷ s ∷ rs) (true ∷ p ∷ os) l there even = omega (arith, ints, two_more w fresh (length rs), chain_sum w (Some (fresh + 1)) true (fresh + 2) (s ∷ rs) (p ∷ os) (omega arith) tt (omega arith))
-chain_sum w None false fresh (r ∷ s ∷ rs) (false ∷ p ∷ os) l there even = omega (arith, ints, two_more w fresh (length rs), chain_sum w (Some (fresh + 1)) false (fresh + 2) (s ∷ rs) (p ∷ os) (omega arith) tt (omega arith))
-chain_sum w (Some b) true fresh (r ∷ s ∷ rs) (true ∷ p ∷ os) l there even = omega (arith, ints, two_more w fresh (length rs), chain_sum w (Some (fresh + 1)) false (fresh + 2) (s ∷ rs) (p ∷ os) (omega arith) tt (omega arith))
-chain_sum w (Some b) true fresh (r ∷ s ∷ rs) (false ∷ p ∷ os) l there even = omega (arith, ints, two_more w fresh (length rs), chain_sum w (Some (fresh + 1)) true (fresh + 2) (s ∷ rs) (p ∷ os) (omega arith) tt (omega arith))
-chain_sum w (Some b) false fresh (r ∷ s ∷ rs) (true ∷ p ∷ os) l there even = omega (arith, ints, two_more w fresh (length rs), chain_sum w (Some (fresh + 1)) true (fresh + 2) (s ∷ rs) (p ∷ os) (omega arith) tt (omega arith))
-chain_sum w (Some b) false fresh (r ∷ s ∷ rs) (false ∷ p ∷ os) l there even = omega (arith, ints, two_more w fresh (length rs), chain_sum w (Some (fresh + 1)) false (fresh + 2) (s ∷ rs) (p ∷ os) (omega arith) tt (omega arith))
+chain_sum w None false fresh (r ∷ s ∷ rs) (true ∷ p ∷ os) l there even =
+    omega (
+      arith,
+      ints,
+      two_more w fresh (length rs),
+      chain_sum w (Some (fresh + 1)) true (fresh + 2) (s ∷ rs) (p ∷ os)
+          (omega arith) tt (omega arith),
+    )
+chain_sum w None false fresh (r ∷ s ∷ rs) (false ∷ p ∷ os) l there even =
+    omega (
+      arith,
+      ints,
+      two_more w fresh (length rs),
+      chain_sum w (Some (fresh + 1)) false (fresh + 2) (s ∷ rs) (p ∷ os)
+          (omega arith) tt (omega arith),
+    )
+chain_sum w (Some b) true fresh (r ∷ s ∷ rs) (true ∷ p ∷ os) l there even =
+    omega (
+      arith,
+      ints,
+      two_more w fresh (length rs),
+      chain_sum w (Some (fresh + 1)) false (fresh + 2) (s ∷ rs) (p ∷ os)
+          (omega arith) tt (omega arith),
+    )
+chain_sum w (Some b) true fresh (r ∷ s ∷ rs) (false ∷ p ∷ os) l there even =
+    omega (
+      arith,
+      ints,
+      two_more w fresh (length rs),
+      chain_sum w (Some (fresh + 1)) true (fresh + 2) (s ∷ rs) (p ∷ os)
+          (omega arith) tt (omega arith),
+    )
+chain_sum w (Some b) false fresh (r ∷ s ∷ rs) (true ∷ p ∷ os) l there even =
+    omega (
+      arith,
+      ints,
+      two_more w fresh (length rs),
+      chain_sum w (Some (fresh + 1)) true (fresh + 2) (s ∷ rs) (p ∷ os)
+          (omega arith) tt (omega arith),
+    )
+chain_sum w (Some b) false fresh (r ∷ s ∷ rs) (false ∷ p ∷ os) l there even =
+    omega (
+      arith,
+      ints,
+      two_more w fresh (length rs),
+      chain_sum w (Some (fresh + 1)) false (fresh + 2) (s ∷ rs) (p ∷ os)
+          (omega arith) tt (omega arith),
+    )
 
 -- Edges that cost nothing.
 abbrev pub AreFree : List WEdge → Type 0
@@ -77,7 +125,8 @@ rung_free (Some b) fresh r = (refl, (refl, (refl, (refl, tt))))
 pub rim_free : (before : Option ℕ) (fresh : ℕ) (rs : List ℕ) → AreFree (rim_links before fresh rs)
 rim_free before fresh [] = tt
 rim_free before fresh (r ∷ []) = link_from_free before r
-rim_free before fresh (r ∷ s ∷ rs) = free_append (rung before fresh r) _ (rung_free before fresh r) (rim_free (Some (fresh + 1)) (fresh + 2) (s ∷ rs))
+rim_free before fresh (r ∷ s ∷ rs) = free_append (rung before fresh r) _ (rung_free before fresh r)
+    (rim_free (Some (fresh + 1)) (fresh + 2) (s ∷ rs))
 
 -- Of free edges nothing is paid for.
 pub picked_free : (ms : List Bool) (es : List WEdge) → AreFree es → picked (λ e. e.cost) ms es ≡ pos 0
@@ -87,10 +136,13 @@ picked_free (true ∷ ms) (e ∷ es) free = omega (arith, ints, free.0, picked_f
 picked_free (false ∷ ms) (e ∷ es) free = omega (arith, ints, picked_free ms es free.1)
 
 -- There are as many marks as edges.
-pub rim_length : (before : Option ℕ) (waits : Bool) (fresh : ℕ) (rs : List ℕ) (os : List Bool) → length os ≡ length rs → length (rim_marks before waits fresh os) ≡ length (rim_links before fresh rs)
+pub rim_length : (before : Option ℕ) (waits : Bool) (fresh : ℕ) (rs : List ℕ) (os : List Bool) → length os ≡ length rs
+    → length (rim_marks before waits fresh os) ≡ length (rim_links before fresh rs)
 rim_length before waits fresh [] [] l = refl
 rim_length None waits fresh (r ∷ []) (o ∷ []) l = refl
 rim_length (Some b) waits fresh (r ∷ []) (o ∷ []) l = refl
-rim_length None waits fresh (r ∷ s ∷ rs) (o ∷ p ∷ os) l = omega (arith, rim_length (Some (fresh + 1)) (differ waits o) (fresh + 2) (s ∷ rs) (p ∷ os) (omega arith))
-rim_length (Some b) waits fresh (r ∷ s ∷ rs) (o ∷ p ∷ os) l = omega (arith, rim_length (Some (fresh + 1)) (differ waits o) (fresh + 2) (s ∷ rs) (p ∷ os) (omega arith))
+rim_length None waits fresh (r ∷ s ∷ rs) (o ∷ p ∷ os) l =
+    omega (arith, rim_length (Some (fresh + 1)) (differ waits o) (fresh + 2) (s ∷ rs) (p ∷ os) (omega arith))
+rim_length (Some b) waits fresh (r ∷ s ∷ rs) (o ∷ p ∷ os) l =
+    omega (arith, rim_length (Some (fresh + 1)) (differ waits o) (fresh + 2) (s ∷ rs) (p ∷ os) (omega arith))
 rim_length before waits fresh _ _ l = absurd (omega arith)

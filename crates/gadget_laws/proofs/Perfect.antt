@@ -1,12 +1,15 @@
 -- In a perfect matching each own vertex of each unit has one mate.
-use Rattle.std.proofs.Common.{◌≡◌, ◌≢◌, ℕ, ◌+◌, ◌<◌, ◌≤◌, Bool, true, false, cond, ◌==◌, List, [], ◌∷◌, ◌++◌, length, drop, Option, Some, None, ℤ, pos, ◌+ℤ◌, ◌*ℤ◌, refl, sym, ◌∙◌, ap, subst, eq-eqb, ne_eqb, append_assoc, arith}
+use Rattle.std.proofs.Common.{◌≡◌, ◌≢◌, ℕ, ◌+◌, ◌<◌, ◌≤◌, Bool, true, false, cond, ◌==◌, List, [], ◌∷◌, ◌++◌, length}
+use Rattle.std.proofs.Common.{drop, Option, Some, None, ℤ, pos, ◌+ℤ◌, ◌*ℤ◌, refl, sym, ◌∙◌, ap, subst, eq-eqb, ne_eqb}
+use Rattle.std.proofs.Common.{append_assoc, arith}
 use Rattle.std.proofs.lemmas.Int.{ints}
 use Rattle.std.proofs.Math.IntN.{*ℤ-zero}
 use Rattle.def_math.specs.Sums.{total_below}
 use Rattle.def_math.specs.Counts.{count, count_below}
 use Rattle.sum_laws.proofs.Sums.{total_below_one}
 use Rattle.def_flow.specs.Network.{EndsBelow}
-use Rattle.def_flow.specs.MatchingGraph.{link, to_copies, inner_link, are_alike, links_by, size_by, unit_links, unit_size, units_links, with_rim, rim, link_from, rung, rim_links}
+use Rattle.def_flow.specs.MatchingGraph.{link, to_copies, inner_link, are_alike, links_by, size_by, unit_links}
+use Rattle.def_flow.specs.MatchingGraph.{unit_size, units_links, with_rim, rim, link_from, rung, rim_links}
 use Rattle.def_flow.specs.declared.net.End.{End}
 use Rattle.def_flow.specs.declared.units.ArcUnit.{ArcUnit}
 use Rattle.def_matching.specs.declared.weighted.WEdge.{WEdge}
@@ -16,12 +19,14 @@ use Rattle.gadget_laws.proofs.Chain.{at_ends}
 use Rattle.gadget_laws.proofs.Units.{UnitsAt}
 use Rattle.gadget_laws.proofs.Links.{copies_below, AreBelow, IsPast}
 use Rattle.gadget_laws.proofs.Touch.{pick_split, AreZero, zero_append, picked_zero, fan_zero}
-use Rattle.gadget_laws.proofs.Facts.{left_marks, right_marks, lone_inner, alike_inner, IsWorth, lone_pick, alike_pick, unlike_pick, links_width, IsPairOk, IsUnitOk}
+use Rattle.gadget_laws.proofs.Facts.{left_marks, right_marks, lone_inner, alike_inner, IsWorth, lone_pick, alike_pick}
+use Rattle.gadget_laws.proofs.Facts.{unlike_pick, links_width, IsPairOk, IsUnitOk}
 
 -- All units' own vertices have one mate.
 abbrev pub UnitsOk : (ℕ → ℕ) → List ArcUnit → List Bool → Type 0
 UnitsOk copies_at [] ms = Unit {0}
-UnitsOk copies_at (u ∷ us) ms = IsUnitOk copies_at ms u.left u.right × UnitsOk copies_at us (drop (width_by copies_at u.left u.right) ms)
+UnitsOk copies_at (u ∷ us) ms = IsUnitOk copies_at ms u.left u.right
+    × UnitsOk copies_at us (drop (width_by copies_at u.left u.right) ms)
 
 -- 1 at b, and 0 elsewhere.
 abbrev pub only : ℕ → ℕ → ℤ
@@ -34,8 +39,15 @@ only_there : (b k : ℕ) → k ≢ b → only b k ≡ pos 0
 only_there b k ne = rw (ne_eqb k b ne) refl
 
 -- Where the copies weigh nothing, the edges of an end are worth the weight of its vertex.
-copies_worth : (w : ℕ → ℤ) (nodes : ℕ) (copies_at : ℕ → ℕ) (b : ℕ) (c : ℤ) (e : End) (s : ℤ) → e.node < nodes → ((k : ℕ) → k < count_below copies_at nodes → w k ≡ pos 0) → w b ≡ s → IsWorth (at_ends w) copies_at b c e s
-copies_worth w nodes copies_at b c e s l zero_copies here i li = omega (arith, ints, here, zero_copies (count_below copies_at e.node + i) (omega (arith, copies_below copies_at e.node nodes l)))
+copies_worth : (w : ℕ → ℤ) (nodes : ℕ) (copies_at : ℕ → ℕ) (b : ℕ) (c : ℤ) (e : End) (s : ℤ) → e.node < nodes
+    → ((k : ℕ) → k < count_below copies_at nodes → w k ≡ pos 0) → w b ≡ s → IsWorth (at_ends w) copies_at b c e s
+copies_worth w nodes copies_at b c e s l zero_copies here i li =
+    omega (
+      arith,
+      ints,
+      here,
+      zero_copies (count_below copies_at e.node + i) (omega (arith, copies_below copies_at e.node nodes l)),
+    )
 
 -- n edges worth 1, and one more where it is marked.
 one_more : (n : ℕ) (i : Bool) (x : ℤ) → x ≡ pos 1 → pos n *ℤ pos 1 +ℤ cond i x (pos 0) ≡ pos (n + cond i 1 0)
@@ -43,18 +55,62 @@ one_more n i x e = grind (arith, ints)
 
 -- The inner edge of a unit weighs 1 where one of its ends does and the other weighs nothing.
 inner_one : (b : ℕ) → (only b b +ℤ only b (b + 1) ≡ pos 1) × (only (b + 1) b +ℤ only (b + 1) (b + 1) ≡ pos 1)
-inner_one b = (omega (arith, ints, only_here b, only_there b (b + 1) (λ e. omega arith)), omega (arith, ints, only_here (b + 1), only_there (b + 1) b (λ e. omega arith)))
+inner_one b = (
+  omega (arith, ints, only_here b, only_there b (b + 1) (λ e. omega arith)),
+  omega (arith, ints, only_here (b + 1), only_there (b + 1) b (λ e. omega arith)),
+)
 
-lone_ok : (nodes : ℕ) (copies_at : ℕ → ℕ) (b : ℕ) (c : ℤ) (left : End) (ms : List Bool) → left.node < nodes → count_below copies_at nodes ≤ b → picked (at_ends (only b)) ms (links_by copies_at b c left None) ≡ pos 1 → IsUnitOk copies_at ms left None
+lone_ok : (nodes : ℕ) (copies_at : ℕ → ℕ) (b : ℕ) (c : ℤ) (left : End) (ms : List Bool) → left.node < nodes
+    → count_below copies_at nodes ≤ b → picked (at_ends (only b)) ms (links_by copies_at b c left None) ≡ pos 1
+    → IsUnitOk copies_at ms left None
 lone_ok nodes copies_at b c left ms at le first =
-    let worth : IsWorth (at_ends (only b)) copies_at b c left (pos 1) = copies_worth (only b) nodes copies_at b c left (pos 1) at (λ k l. only_there b k (λ e. omega arith)) (only_here b) in
-    omega (arith, ints, lone_pick (at_ends (only b)) copies_at b c left (pos 1) ms worth, first, one_more (left_marks copies_at ms left) (lone_inner copies_at ms left) (at_ends (only b) (inner_link b c left)) (inner_one b).0)
+    let worth : IsWorth (at_ends (only b)) copies_at b c left (pos 1) =
+    copies_worth (only b) nodes copies_at b c left (pos 1) at (λ k l. only_there b k (λ e. omega arith))
+    (only_here b) in
+    omega (
+      arith,
+      ints,
+      lone_pick (at_ends (only b)) copies_at b c left (pos 1) ms worth,
+      first,
+      one_more (left_marks copies_at ms left) (lone_inner copies_at ms left)
+          (at_ends (only b) (inner_link b c left)) (inner_one b).0,
+    )
 
-pair_ok : (nodes : ℕ) (copies_at : ℕ → ℕ) (b : ℕ) (c : ℤ) (left right : End) (ms : List Bool) → (left.node < nodes) × (right.node < nodes) → count_below copies_at nodes ≤ b → picked (at_ends (only b)) ms (links_by copies_at b c left (Some right)) ≡ pos 1 → (are_alike left right ≡ true → picked (at_ends (only (b + 1))) ms (links_by copies_at b c left (Some right)) ≡ pos 1) → IsPairOk copies_at ms left right
+pair_ok : (nodes : ℕ) (copies_at : ℕ → ℕ) (b : ℕ) (c : ℤ) (left right : End) (ms : List Bool) → (left.node < nodes)
+    × (right.node < nodes) → count_below copies_at nodes ≤ b
+    → picked (at_ends (only b)) ms (links_by copies_at b c left (Some right)) ≡ pos 1
+    → (are_alike left right ≡ true → picked (at_ends (only (b + 1))) ms (links_by copies_at b c left (Some right))
+    ≡ pos 1) → IsPairOk copies_at ms left right
 pair_ok nodes copies_at b c left right ms at le first second = record {
-  alike_left = λ e. omega (arith, ints, alike_pick (at_ends (only b)) copies_at b c left right (pos 1) (pos 0) ms (left_worth b (pos 1) (omega arith) (only_here b)) (right_worth b (pos 0) (omega arith) (only_there b (b + 1) (λ q. omega arith))), alike_first e, one_more (left_marks copies_at ms left) (alike_inner copies_at ms left right) (at_ends (only b) (inner_link b c left)) (inner_one b).0, *ℤ-zero (pos (right_marks copies_at ms left right)));
-  alike_right = λ e. omega (arith, ints, alike_pick (at_ends (only (b + 1))) copies_at b c left right (pos 0) (pos 1) ms (left_worth (b + 1) (pos 0) (omega arith) (only_there (b + 1) b (λ q. omega arith))) (right_worth (b + 1) (pos 1) (omega arith) (only_here (b + 1))), alike_second e, one_more (right_marks copies_at ms left right) (alike_inner copies_at ms left right) (at_ends (only (b + 1)) (inner_link b c left)) (inner_one b).1, *ℤ-zero (pos (left_marks copies_at ms left)));
-  unlike = λ e. omega (arith, ints, unlike_pick (at_ends (only b)) copies_at b c left right (pos 1) (pos 1) ms (left_worth b (pos 1) (omega arith) (only_here b)) unlike_worth, unlike_first e);
+  alike_left = λ e. omega (
+    arith,
+    ints,
+    alike_pick (at_ends (only b)) copies_at b c left right (pos 1) (pos 0) ms
+        (left_worth b (pos 1) (omega arith) (only_here b))
+        (right_worth b (pos 0) (omega arith) (only_there b (b + 1) (λ q. omega arith))),
+    alike_first e,
+    one_more (left_marks copies_at ms left) (alike_inner copies_at ms left right)
+        (at_ends (only b) (inner_link b c left)) (inner_one b).0,
+    *ℤ-zero (pos (right_marks copies_at ms left right)),
+  );
+  alike_right = λ e. omega (
+    arith,
+    ints,
+    alike_pick (at_ends (only (b + 1))) copies_at b c left right (pos 0) (pos 1) ms
+        (left_worth (b + 1) (pos 0) (omega arith) (only_there (b + 1) b (λ q. omega arith)))
+        (right_worth (b + 1) (pos 1) (omega arith) (only_here (b + 1))),
+    alike_second e,
+    one_more (right_marks copies_at ms left right) (alike_inner copies_at ms left right)
+        (at_ends (only (b + 1)) (inner_link b c left)) (inner_one b).1,
+    *ℤ-zero (pos (left_marks copies_at ms left)),
+  );
+  unlike = λ e. omega (
+    arith,
+    ints,
+    unlike_pick (at_ends (only b)) copies_at b c left right (pos 1) (pos 1) ms
+        (left_worth b (pos 1) (omega arith) (only_here b)) unlike_worth,
+    unlike_first e,
+  );
 }
   where
     low : (d : ℕ) → b ≤ d → (k : ℕ) → k < count_below copies_at nodes → only d k ≡ pos 0
@@ -63,19 +119,22 @@ pair_ok nodes copies_at b c left right ms at le first second = record {
     left_worth : (d : ℕ) (s : ℤ) → b ≤ d → only d b ≡ s → IsWorth (at_ends (only d)) copies_at b c left s
     left_worth d s h e = copies_worth (only d) nodes copies_at b c left s at.0 (low d h) e
 
-    right_worth : (d : ℕ) (s : ℤ) → b ≤ d → only d (b + 1) ≡ s → IsWorth (at_ends (only d)) copies_at (b + 1) (pos 0) right s
+    right_worth : (d : ℕ) (s : ℤ) → b ≤ d → only d (b + 1) ≡ s
+        → IsWorth (at_ends (only d)) copies_at (b + 1) (pos 0) right s
     right_worth d s h e = copies_worth (only d) nodes copies_at (b + 1) (pos 0) right s at.1 (low d h) e
 
     unlike_worth : IsWorth (at_ends (only b)) copies_at b c right (pos 1)
     unlike_worth = copies_worth (only b) nodes copies_at b c right (pos 1) at.1 (low b (omega arith)) (only_here b)
 
     alike_edges : List WEdge
-    alike_edges = to_copies copies_at b c left ++ (to_copies copies_at (b + 1) (pos 0) right ++ inner_link b c left ∷ [])
+    alike_edges = to_copies copies_at b c left ++ (to_copies copies_at (b + 1) (pos 0) right ++ inner_link b c left
+        ∷ [])
 
     unlike_edges : List WEdge
     unlike_edges = to_copies copies_at b c left ++ to_copies copies_at b c right
 
-    edges : (a : Bool) → are_alike left right ≡ a → links_by copies_at b c left (Some right) ≡ cond a alike_edges unlike_edges
+    edges : (a : Bool) → are_alike left right ≡ a → links_by copies_at b c left (Some right)
+        ≡ cond a alike_edges unlike_edges
     edges a e = ap (λ t. cond t alike_edges unlike_edges) e
 
     alike_first : are_alike left right ≡ true → picked (at_ends (only b)) ms alike_edges ≡ pos 1
@@ -88,20 +147,41 @@ pair_ok nodes copies_at b c left right ms at le first second = record {
     unlike_first e = ap (picked (at_ends (only b)) ms) (sym (edges false e)) ∙ first
 
 -- Units whose vertices and copies weigh nothing have edges that weigh nothing.
-copies_zero : (w : ℕ → ℤ) (nodes : ℕ) (copies_at : ℕ → ℕ) (b : ℕ) (c : ℤ) (e : End) → e.node < nodes → ((k : ℕ) → k < count_below copies_at nodes → w k ≡ pos 0) → w b ≡ pos 0 → AreZero w (to_copies copies_at b c e)
-copies_zero w nodes copies_at b c e l low here = fan_zero w b (cond e.plus c (pos 0)) (count_below copies_at e.node) (copies_at e.node) here (λ k lk. low k (omega (arith, copies_below copies_at e.node nodes l)))
+copies_zero : (w : ℕ → ℤ) (nodes : ℕ) (copies_at : ℕ → ℕ) (b : ℕ) (c : ℤ) (e : End) → e.node < nodes
+    → ((k : ℕ) → k < count_below copies_at nodes → w k ≡ pos 0) → w b ≡ pos 0 → AreZero w (to_copies copies_at b c e)
+copies_zero w nodes copies_at b c e l low here = fan_zero w b (cond e.plus c (pos 0)) (count_below copies_at e.node)
+    (copies_at e.node) here (λ k lk. low k (omega (arith, copies_below copies_at e.node nodes l)))
 
-pub unit_zero : (w : ℕ → ℤ) (nodes : ℕ) (copies_at : ℕ → ℕ) (b : ℕ) (c : ℤ) (left : End) (right : Option End) → EndsBelow nodes left right → ((k : ℕ) → k < count_below copies_at nodes → w k ≡ pos 0) → ((k : ℕ) → b ≤ k → k < b + size_by left right → w k ≡ pos 0) → AreZero w (links_by copies_at b c left right)
-unit_zero w nodes copies_at b c left None at low own = zero_append w (to_copies copies_at b c left) _ (copies_zero w nodes copies_at b c left at low (own b (omega arith) (omega arith))) (own b (omega arith) (omega arith), own (b + 1) (omega arith) (omega arith), tt)
+pub unit_zero : (w : ℕ → ℤ) (nodes : ℕ) (copies_at : ℕ → ℕ) (b : ℕ) (c : ℤ) (left : End) (right : Option End)
+    → EndsBelow nodes left right → ((k : ℕ) → k < count_below copies_at nodes → w k ≡ pos 0)
+    → ((k : ℕ) → b ≤ k → k < b + size_by left right → w k ≡ pos 0) → AreZero w (links_by copies_at b c left right)
+unit_zero w nodes copies_at b c left None at low own =
+    zero_append w (to_copies copies_at b c left) _ (copies_zero w nodes copies_at b c left at low
+    (own b (omega arith) (omega arith))) (
+      own b (omega arith) (omega arith),
+      own (b + 1) (omega arith) (omega arith),
+      tt,
+    )
 unit_zero w nodes copies_at b c left (Some right) at low own = by_alike (are_alike left right) own
   where
-    by_alike : (a : Bool) → ((k : ℕ) → b ≤ k → k < b + cond a 2 1 → w k ≡ pos 0) → AreZero w (cond a (to_copies copies_at b c left ++ (to_copies copies_at (b + 1) (pos 0) right ++ inner_link b c left ∷ [])) (to_copies copies_at b c left ++ to_copies copies_at b c right))
-    by_alike true h = zero_append w (to_copies copies_at b c left) _ (copies_zero w nodes copies_at b c left at.0 low (h b (omega arith) (omega arith))) (zero_append w (to_copies copies_at (b + 1) (pos 0) right) _ (copies_zero w nodes copies_at (b + 1) (pos 0) right at.1 low (h (b + 1) (omega arith) (omega arith))) (h b (omega arith) (omega arith), h (b + 1) (omega arith) (omega arith), tt))
-    by_alike false h = zero_append w (to_copies copies_at b c left) _ (copies_zero w nodes copies_at b c left at.0 low (h b (omega arith) (omega arith))) (copies_zero w nodes copies_at b c right at.1 low (h b (omega arith) (omega arith)))
+    by_alike : (a : Bool) → ((k : ℕ) → b ≤ k → k < b + cond a 2 1 → w k ≡ pos 0)
+        → AreZero w (cond a (to_copies copies_at b c left ++ (to_copies copies_at (b + 1) (pos 0) right
+        ++ inner_link b c left ∷ [])) (to_copies copies_at b c left ++ to_copies copies_at b c right))
+    by_alike true h = zero_append w (to_copies copies_at b c left) _ (copies_zero w nodes copies_at b c left at.0 low
+        (h b (omega arith) (omega arith))) (zero_append w (to_copies copies_at (b + 1) (pos 0) right) _
+        (copies_zero w nodes copies_at (b + 1) (pos 0) right at.1 low (h (b + 1) (omega arith) (omega arith)))
+        (h b (omega arith) (omega arith), h (b + 1) (omega arith) (omega arith), tt))
+    by_alike false h = zero_append w (to_copies copies_at b c left) _ (copies_zero w nodes copies_at b c left at.0 low
+        (h b (omega arith) (omega arith))) (copies_zero w nodes copies_at b c right at.1 low
+        (h b (omega arith) (omega arith)))
 
-units_zero : (w : ℕ → ℤ) (nodes : ℕ) (copies_at : ℕ → ℕ) (b : ℕ) (us : List ArcUnit) → UnitsAt nodes us → ((k : ℕ) → k < count_below copies_at nodes → w k ≡ pos 0) → ((k : ℕ) → b ≤ k → w k ≡ pos 0) → AreZero w (units_links copies_at b us)
+units_zero : (w : ℕ → ℤ) (nodes : ℕ) (copies_at : ℕ → ℕ) (b : ℕ) (us : List ArcUnit) → UnitsAt nodes us
+    → ((k : ℕ) → k < count_below copies_at nodes → w k ≡ pos 0) → ((k : ℕ) → b ≤ k → w k ≡ pos 0)
+    → AreZero w (units_links copies_at b us)
 units_zero w nodes copies_at b [] at low high = tt
-units_zero w nodes copies_at b (u ∷ us) at low high = zero_append w (unit_links copies_at b u) _ (unit_zero w nodes copies_at b u.cost u.left u.right at.0 low (λ k l h. high k l)) (units_zero w nodes copies_at (b + unit_size u) us at.1 low (λ k l. high k (omega arith)))
+units_zero w nodes copies_at b (u ∷ us) at low high =
+    zero_append w (unit_links copies_at b u) _ (unit_zero w nodes copies_at b u.cost u.left u.right at.0 low
+    (λ k l h. high k l)) (units_zero w nodes copies_at (b + unit_size u) us at.1 low (λ k l. high k (omega arith)))
 
 -- Rim vertices that weigh nothing.
 abbrev pub AreNil : (ℕ → ℤ) → List ℕ → Type 0
@@ -120,25 +200,35 @@ pub nil_rim : (w : ℕ → ℤ) (b : ℕ) (us : List ArcUnit) → ((k : ℕ) →
 nil_rim w b [] high = tt
 nil_rim w b (u ∷ us) high = by_right u.right (nil_rim w (b + unit_size u) us (λ k l. high k (omega arith)))
   where
-    by_right : (right : Option End) → AreNil w (rim (b + unit_size u) us) → AreNil w (with_rim right (b + 1) (rim (b + unit_size u) us))
+    by_right : (right : Option End) → AreNil w (rim (b + unit_size u) us)
+        → AreNil w (with_rim right (b + 1) (rim (b + unit_size u) us))
     by_right None rest = (high (b + 1) (omega arith), rest)
     by_right (Some right) rest = rest
 
-from_zero : (w : ℕ → ℤ) (m fresh v : ℕ) (before : Option ℕ) → IsPast m fresh before → ((k : ℕ) → m ≤ k → w k ≡ pos 0) → w v ≡ pos 0 → AreZero w (link_from before v)
+from_zero : (w : ℕ → ℤ) (m fresh v : ℕ) (before : Option ℕ) → IsPast m fresh before → ((k : ℕ) → m ≤ k → w k ≡ pos 0)
+    → w v ≡ pos 0 → AreZero w (link_from before v)
 from_zero w m fresh v None past high here = tt
 from_zero w m fresh v (Some b) past high here = (high b past.0, here, tt)
 
-rung_zero : (w : ℕ → ℤ) (m fresh r : ℕ) (before : Option ℕ) → w r ≡ pos 0 → ((k : ℕ) → m ≤ k → w k ≡ pos 0) → m ≤ fresh → IsPast m fresh before → AreZero w (rung before fresh r)
+rung_zero : (w : ℕ → ℤ) (m fresh r : ℕ) (before : Option ℕ) → w r ≡ pos 0 → ((k : ℕ) → m ≤ k → w k ≡ pos 0) → m ≤ fresh
+    → IsPast m fresh before → AreZero w (rung before fresh r)
 rung_zero w m fresh r before nil high le past =
     let last : AreZero w (link fresh (fresh + 1) (pos 0) ∷ []) = (high fresh le, high (fresh + 1) (omega arith), tt) in
     let up : AreZero w (link_from before fresh) = from_zero w m fresh fresh before past high (high fresh le) in
-    zero_append w (link_from before r) _ (from_zero w m fresh r before past high nil) (nil, high fresh le, zero_append w (link_from before fresh) _ up last)
+    zero_append w (link_from before r) _ (from_zero w m fresh r before past high nil) (
+      nil,
+      high fresh le,
+      zero_append w (link_from before fresh) _ up last,
+    )
 
 -- At the rim nothing weighs where neither its vertices do nor those past the units.
-pub rim_zero : (w : ℕ → ℤ) (m fresh : ℕ) (before : Option ℕ) (rs : List ℕ) → AreNil w rs → ((k : ℕ) → m ≤ k → w k ≡ pos 0) → m ≤ fresh → IsPast m fresh before → AreZero w (rim_links before fresh rs)
+pub rim_zero : (w : ℕ → ℤ) (m fresh : ℕ) (before : Option ℕ) (rs : List ℕ) → AreNil w rs
+    → ((k : ℕ) → m ≤ k → w k ≡ pos 0) → m ≤ fresh → IsPast m fresh before → AreZero w (rim_links before fresh rs)
 rim_zero w m fresh before [] nil high le past = tt
 rim_zero w m fresh before (r ∷ []) nil high le past = from_zero w m fresh r before past high nil.0
-rim_zero w m fresh before (r ∷ s ∷ rs) nil high le past = zero_append w (rung before fresh r) _ (rung_zero w m fresh r before nil.0 high le past) (rim_zero w m (fresh + 2) (Some (fresh + 1)) (s ∷ rs) nil.1 high (omega arith) (omega arith, omega arith))
+rim_zero w m fresh before (r ∷ s ∷ rs) nil high le past =
+    zero_append w (rung before fresh r) _ (rung_zero w m fresh r before nil.0 high le past)
+    (rim_zero w m (fresh + 2) (Some (fresh + 1)) (s ∷ rs) nil.1 high (omega arith) (omega arith, omega arith))
 
 -- The rest of the graph, beside the edges of the units from b on: nothing of it weighs where neither its rim
 -- vertices do nor those past the units.
@@ -147,22 +237,34 @@ RestZero m rs rest = (w : ℕ → ℤ) → AreNil w rs → ((k : ℕ) → m ≤ 
 
 -- For each weight that is 0 below b, the edges of the units from b on and the rest weigh what all vertices do.
 abbrev pub IsFull : ℕ → (ℕ → ℕ) → ℕ → List ArcUnit → List Bool → List WEdge → List Bool → Type 0
-IsFull n copies_at b us ms rest rms = (w : ℕ → ℤ) → ((k : ℕ) → k < b → w k ≡ pos 0) → picked (at_ends w) ms (units_links copies_at b us) +ℤ picked (at_ends w) rms rest ≡ total_below w n
+IsFull n copies_at b us ms rest rms = (w : ℕ → ℤ) → ((k : ℕ) → k < b → w k ≡ pos 0)
+    → picked (at_ends w) ms (units_links copies_at b us) +ℤ picked (at_ends w) rms rest ≡ total_below w n
 
 only_total : (n b : ℕ) → b < n → total_below (only b) n ≡ pos 1
 only_total n b l = total_below_one (only b) n b l (λ k lk ne. only_there b k ne) ∙ only_here b
 
 -- What is picked at the first unit for a weight that is 1 at one of its vertices and 0 at all others.
-first_unit : (n nodes : ℕ) (copies_at : ℕ → ℕ) (b m d : ℕ) (u : ArcUnit) (us : List ArcUnit) (ms : List Bool) (prefix rs : List ℕ) (rest : List WEdge) (rms : List Bool) → UnitsAt nodes us → count_below copies_at nodes ≤ b → b ≤ d → d < b + unit_size u → b + (unit_size u + count unit_size us) ≤ m → m ≤ n → AreBelow b prefix → rs ≡ prefix ++ with_rim u.right (b + 1) (rim (b + unit_size u) us) → AreNil (only d) (with_rim u.right (b + 1) (rim (b + unit_size u) us)) → RestZero m rs rest → IsFull n copies_at b (u ∷ us) ms rest rms → picked (at_ends (only d)) ms (unit_links copies_at b u) ≡ pos 1
-first_unit n nodes copies_at b m d u us ms prefix rs rest rms at le low high fits within below is nil nothing full = omega (
-  arith,
-  ints,
-  full (only d) (λ k l. only_there d k (λ e. omega arith)),
-  pick_split (at_ends (only d)) ms (unit_links copies_at b u) (units_links copies_at (b + unit_size u) us),
-  picked_zero (only d) (drop (length (unit_links copies_at b u)) ms) (units_links copies_at (b + unit_size u) us) (units_zero (only d) nodes copies_at (b + unit_size u) us at (λ k l. only_there d k (λ e. omega arith)) (λ k l. only_there d k (λ e. omega arith))),
-  picked_zero (only d) rms rest (nothing (only d) (subst (λ (xs : List ℕ). AreNil (only d) xs) (sym is) (nil_append (only d) prefix _ (nil_below (only d) b prefix below (λ k l. only_there d k (λ e. omega arith))) nil)) (λ k l. only_there d k (λ e. omega arith))),
-  only_total n d (omega arith),
-)
+first_unit : (n nodes : ℕ) (copies_at : ℕ → ℕ) (b m d : ℕ) (u : ArcUnit) (us : List ArcUnit) (ms : List Bool)
+    (prefix rs : List ℕ) (rest : List WEdge) (rms : List Bool) → UnitsAt nodes us → count_below copies_at nodes ≤ b
+    → b ≤ d → d < b + unit_size u → b + (unit_size u + count unit_size us) ≤ m → m ≤ n → AreBelow b prefix
+    → rs ≡ prefix ++ with_rim u.right (b + 1) (rim (b + unit_size u) us)
+    → AreNil (only d) (with_rim u.right (b + 1) (rim (b + unit_size u) us)) → RestZero m rs rest
+    → IsFull n copies_at b (u ∷ us) ms rest rms → picked (at_ends (only d)) ms (unit_links copies_at b u) ≡ pos 1
+first_unit n nodes copies_at b m d u us ms prefix rs rest rms at le low high fits within below is nil nothing full =
+    omega (
+      arith,
+      ints,
+      full (only d) (λ k l. only_there d k (λ e. omega arith)),
+      pick_split (at_ends (only d)) ms (unit_links copies_at b u) (units_links copies_at (b + unit_size u) us),
+      picked_zero (only d) (drop (length (unit_links copies_at b u)) ms) (units_links copies_at (b + unit_size u) us)
+          (units_zero (only d) nodes copies_at (b + unit_size u) us at (λ k l. only_there d k (λ e. omega arith))
+          (λ k l. only_there d k (λ e. omega arith))),
+      picked_zero (only d) rms rest
+          (nothing (only d) (subst (λ (xs : List ℕ). AreNil (only d) xs) (sym is)
+          (nil_append (only d) prefix _ (nil_below (only d) b prefix below (λ k l. only_there d k (λ e. omega arith)))
+          nil)) (λ k l. only_there d k (λ e. omega arith))),
+      only_total n d (omega arith),
+    )
 
 -- The rest of the graph holds the rim of these units, and before it vertices below b.
 pub record HasRim (b : ℕ) (us : List ArcUnit) (rs : List ℕ) : Type 0 where
@@ -178,40 +280,73 @@ below_append : (m : ℕ) (rs ss : List ℕ) → AreBelow m rs → AreBelow m ss 
 below_append m [] ss a b = b
 below_append m (r ∷ rs) ss a b = (a.0, below_append m rs ss a.1 b)
 
-next_rim : (b : ℕ) (u : ArcUnit) (us : List ArcUnit) (rs : List ℕ) → HasRim b (u ∷ us) rs → HasRim (b + unit_size u) us rs
+next_rim : (b : ℕ) (u : ArcUnit) (us : List ArcUnit) (rs : List ℕ) → HasRim b (u ∷ us) rs
+    → HasRim (b + unit_size u) us rs
 next_rim b u us rs h = by_right u.right h.is
   where
-    by_right : (right : Option End) → rs ≡ h.prefix ++ with_rim right (b + 1) (rim (b + size_by u.left right) us) → HasRim (b + size_by u.left right) us rs
+    by_right : (right : Option End) → rs ≡ h.prefix ++ with_rim right (b + 1) (rim (b + size_by u.left right) us)
+        → HasRim (b + size_by u.left right) us rs
     by_right None e = record {
       prefix = h.prefix ++ (b + 1) ∷ [];
-      below = below_append (b + 2) h.prefix ((b + 1) ∷ []) (below_more b (b + 2) h.prefix (omega arith) h.below) (omega arith, tt);
+      below = below_append (b + 2) h.prefix ((b + 1) ∷ []) (below_more b (b + 2) h.prefix (omega arith) h.below)
+          (omega arith, tt);
       is = e ∙ sym (append_assoc h.prefix ((b + 1) ∷ []) (rim (b + 2) us));
     }
-    by_right (Some right) e = record { prefix = h.prefix; below = below_more b _ h.prefix (omega arith) h.below; is = e }
+    by_right (Some right) e = record {
+      prefix = h.prefix;
+      below = below_more b _ h.prefix (omega arith) h.below;
+      is =
+          e;
+    }
 
 size_low : (left : End) (right : Option End) → 1 ≤ size_by left right
 size_low left right = grind (arith)
 
 -- Each own vertex of each unit has one mate.
-pub units_ok : (n nodes : ℕ) (copies_at : ℕ → ℕ) (b m : ℕ) (us : List ArcUnit) (ms : List Bool) (rs : List ℕ) (rest : List WEdge) (rms : List Bool) → UnitsAt nodes us → count_below copies_at nodes ≤ b → b + count unit_size us ≤ m → m ≤ n → HasRim b us rs → RestZero m rs rest → IsFull n copies_at b us ms rest rms → UnitsOk copies_at us ms
+pub units_ok : (n nodes : ℕ) (copies_at : ℕ → ℕ) (b m : ℕ) (us : List ArcUnit) (ms : List Bool) (rs : List ℕ)
+    (rest : List WEdge) (rms : List Bool) → UnitsAt nodes us → count_below copies_at nodes ≤ b
+    → b + count unit_size us ≤ m → m ≤ n → HasRim b us rs → RestZero m rs rest → IsFull n copies_at b us ms rest rms
+    → UnitsOk copies_at us ms
 units_ok n nodes copies_at b m [] ms rs rest rms at le fits within has nothing full = tt
-units_ok n nodes copies_at b m (u ∷ us) ms rs rest rms at le fits within has nothing full = (by_right u.right at.0 (first b (omega arith) (omega (arith, size_low u.left u.right)) (nil_rim (only b) b (u ∷ us) (λ k l. only_there b k (λ e. omega arith)))) (λ two. first (b + 1) (omega arith) (omega (arith, two))), units_ok n nodes copies_at (b + unit_size u) m us (drop (width_by copies_at u.left u.right) ms) rs rest rms at.1 (omega arith) (omega arith) within (next_rim b u us rs has) nothing later)
+units_ok n nodes copies_at b m (u ∷ us) ms rs rest rms at le fits within has nothing full = (
+  by_right u.right at.0 (first b (omega arith) (omega (arith, size_low u.left u.right))
+      (nil_rim (only b) b (u ∷ us) (λ k l. only_there b k (λ e. omega arith))))
+      (λ two. first (b + 1) (omega arith) (omega (arith, two))),
+  units_ok n nodes copies_at (b + unit_size u) m us (drop (width_by copies_at u.left u.right) ms) rs rest rms at.1
+      (omega arith) (omega arith) within (next_rim b u us rs has) nothing later,
+)
   where
-    first : (d : ℕ) → b ≤ d → d < b + unit_size u → AreNil (only d) (with_rim u.right (b + 1) (rim (b + unit_size u) us)) → picked (at_ends (only d)) ms (unit_links copies_at b u) ≡ pos 1
-    first d low high nil = first_unit n nodes copies_at b m d u us ms has.prefix rs rest rms at.1 le low high fits within has.below has.is nil nothing full
+    first : (d : ℕ) → b ≤ d → d < b + unit_size u
+        → AreNil (only d) (with_rim u.right (b + 1) (rim (b + unit_size u) us))
+        → picked (at_ends (only d)) ms (unit_links copies_at b u) ≡ pos 1
+    first d low high nil = first_unit n nodes copies_at b m d u us ms has.prefix rs rest rms at.1 le low high fits
+        within has.below has.is nil nothing full
 
-    by_right : (right : Option End) → EndsBelow nodes u.left right → picked (at_ends (only b)) ms (links_by copies_at b u.cost u.left right) ≡ pos 1 → (size_by u.left right ≡ 2 → AreNil (only (b + 1)) (with_rim right (b + 1) (rim (b + size_by u.left right) us)) → picked (at_ends (only (b + 1))) ms (links_by copies_at b u.cost u.left right) ≡ pos 1) → IsUnitOk copies_at ms u.left right
+    by_right : (right : Option End) → EndsBelow nodes u.left right
+        → picked (at_ends (only b)) ms (links_by copies_at b u.cost u.left right) ≡ pos 1
+        → (size_by u.left right ≡ 2 → AreNil (only (b + 1)) (with_rim right (b + 1) (rim (b + size_by u.left right) us))
+        → picked (at_ends (only (b + 1))) ms (links_by copies_at b u.cost u.left right) ≡ pos 1)
+        → IsUnitOk copies_at ms u.left right
     by_right None a one two = lone_ok nodes copies_at b u.cost u.left ms a le one
-    by_right (Some right) a one two = pair_ok nodes copies_at b u.cost u.left right ms a le one (λ e. two (ap (λ t. cond t 2 1) e) (nil_rim (only (b + 1)) (b + size_by u.left (Some right)) us (λ k l. only_there (b + 1) k (λ q. omega (arith, size_low u.left (Some right))))))
+    by_right (Some right) a one two =
+        pair_ok nodes copies_at b u.cost u.left right ms a le one
+        (λ e. two (ap (λ t. cond t 2 1) e) (nil_rim (only (b + 1)) (b + size_by u.left (Some right)) us
+        (λ k l. only_there (b + 1) k (λ q. omega (arith, size_low u.left (Some right))))))
 
     later : IsFull n copies_at (b + unit_size u) us (drop (width_by copies_at u.left u.right) ms) rest rms
     later w low =
-        let here : picked (at_ends w) (drop (length (unit_links copies_at b u)) ms) (units_links copies_at (b + unit_size u) us) ≡ picked (at_ends w) (drop (width_by copies_at u.left u.right) ms) (units_links copies_at (b + unit_size u) us) = ap (λ k. picked (at_ends w) (drop k ms) (units_links copies_at (b + unit_size u) us)) (links_width copies_at b u.cost u.left u.right) in
+        let here : picked (at_ends w) (drop (length (unit_links copies_at b u)) ms)
+        (units_links copies_at (b + unit_size u) us)
+        ≡ picked (at_ends w) (drop (width_by copies_at u.left u.right) ms)
+        (units_links copies_at (b + unit_size u) us) =
+        ap (λ k. picked (at_ends w) (drop k ms) (units_links copies_at (b + unit_size u) us))
+        (links_width copies_at b u.cost u.left u.right) in
         omega (
           arith,
           ints,
           here,
           full w (λ k l. low k (omega arith)),
           pick_split (at_ends w) ms (unit_links copies_at b u) (units_links copies_at (b + unit_size u) us),
-          picked_zero w ms (unit_links copies_at b u) (unit_zero w nodes copies_at b u.cost u.left u.right at.0 (λ k l. low k (omega arith)) (λ k l h. low k h)),
+          picked_zero w ms (unit_links copies_at b u) (unit_zero w nodes copies_at b u.cost u.left u.right at.0
+              (λ k l. low k (omega arith)) (λ k l h. low k h)),
         )

@@ -1,13 +1,19 @@
 -- The matching graph has at most 9/16 of the tangle number of vertices, and at most 9/8 of it of edges.
-use Rattle.std.proofs.Common.{◌≡◌, ◌≢◌, ℕ, zero, suc, ◌+◌, ◌-◌, ◌*◌, ◌%◌, ◌<◌, ◌≤◌, Bool, true, false, cond, ◌&&◌, ◌==◌, List, [], ◌∷◌, length, map, Option, Some, None, option_to_list, pos, ◌≤ℤ◌, refl, sym, ◌∙◌, ap, inl, inr, ◌⊎◌, add-mul, mul-add, mul_comm, mul_left_comm, zero-mul, mul-le-mul_left, mul-le-mul_right, length-append, eq-eqb, ne_eqb, arith}
+use Rattle.std.proofs.Common.{◌≡◌, ◌≢◌, ℕ, zero, suc, ◌+◌, ◌-◌, ◌*◌, ◌%◌, ◌<◌, ◌≤◌, Bool, true, false, cond, ◌&&◌, ◌==◌}
+use Rattle.std.proofs.Common.{List, [], ◌∷◌, length, map, Option, Some, None, option_to_list, pos, ◌≤ℤ◌, refl, sym, ◌∙◌}
+use Rattle.std.proofs.Common.{ap, inl, inr, ◌⊎◌, add-mul, mul-add, mul_comm, mul_left_comm, zero-mul, mul-le-mul_left}
+use Rattle.std.proofs.Common.{mul-le-mul_right, length-append, eq-eqb, ne_eqb, arith}
 use Rattle.std.proofs.lemmas.Int.{ints}
 use Rattle.std.proofs.lemmas.Bool.{cases_eq}
 use Rattle.def_math.specs.Counts.{count, count_below}
-use Rattle.sum_laws.proofs.Counts.{count_append, count_sum, count_below_sum, count_below_le, count_below_same, count_below_one, count_below_none, count_below_times}
+use Rattle.sum_laws.proofs.Counts.{count_append, count_sum, count_below_sum, count_below_le, count_below_same}
+use Rattle.sum_laws.proofs.Counts.{count_below_one, count_below_none, count_below_times}
 use Rattle.def_flow.specs.Network.{EndsBelow, Network, IsWithinBounds, ends, degree, tangle_number}
 use Rattle.def_flow.specs.Admissible.{IsAdmissible, entries}
-use Rattle.def_flow.specs.Units.{down, low, cap, units_from, units, states_at, is_active, active, alone_active, rim_active}
-use Rattle.def_flow.specs.MatchingGraph.{link_from, rung, rim_links, rim, size_by, unit_size, unit_links, units_links, first_fresh, lone_vertex, matching_graph}
+use Rattle.def_flow.specs.Units.{down, low, cap, units_from, units, states_at, is_active, active, alone_active}
+use Rattle.def_flow.specs.Units.{rim_active}
+use Rattle.def_flow.specs.MatchingGraph.{link_from, rung, rim_links, rim, size_by, unit_size, unit_links, units_links}
+use Rattle.def_flow.specs.MatchingGraph.{first_fresh, lone_vertex, matching_graph}
 use Rattle.def_flow.specs.declared.net.Arc.{Arc}
 use Rattle.def_flow.specs.declared.net.End.{End}
 use Rattle.def_flow.specs.declared.units.ArcUnit.{ArcUnit}
@@ -22,7 +28,9 @@ abbrev ends_on : ℕ → Bool → List Arc → ℕ
 ends_on v on arcs = count (arc_active v on) arcs
 
 -- All ends at a node are on one side or the other.
-both_sides : (v : ℕ) (es : List End) → count (λ e. cond (e.node == v) 1 0) es ≡ count (λ e. cond ((e.node == v) && is_active true e) 1 0) es + count (λ e. cond ((e.node == v) && is_active false e) 1 0) es
+both_sides : (v : ℕ) (es : List End) → count (λ e. cond (e.node == v) 1 0) es
+    ≡ count (λ e. cond ((e.node == v) && is_active true e) 1 0) es
+    + count (λ e. cond ((e.node == v) && is_active false e) 1 0) es
 both_sides v [] = refl
 both_sides v (e ∷ es) = grind (arith, both_sides v es)
 
@@ -31,15 +39,18 @@ degree_sides v [] = refl
 degree_sides v (a ∷ arcs) = omega (arith, both_sides v (ends a), degree_sides v arcs)
 
 -- Entries of at least 1 weigh at least the number of ends, and nothing where there are none.
-weighted_high : (v : ℕ) (on : Bool) (arcs : List Arc) (xs : List ℕ) → length xs ≡ length arcs → ((k : ℕ) → k < length xs → pos 1 ≤ℤ entries xs k) → ends_on v on arcs ≤ weighted_ends v on arcs xs
+weighted_high : (v : ℕ) (on : Bool) (arcs : List Arc) (xs : List ℕ) → length xs ≡ length arcs
+    → ((k : ℕ) → k < length xs → pos 1 ≤ℤ entries xs k) → ends_on v on arcs ≤ weighted_ends v on arcs xs
 weighted_high v on [] xs l high = omega arith
 weighted_high v on (a ∷ arcs) [] l high = absurd (omega arith)
 weighted_high v on (a ∷ arcs) (x ∷ xs) l high =
     let first : pos 1 ≤ℤ pos x = high 0 (omega arith) in
-    let here : 1 * arc_active v on a ≤ x * arc_active v on a = mul-le-mul_right (arc_active v on a) (omega (arith, ints, first)) in
+    let here : 1 * arc_active v on a ≤ x * arc_active v on a =
+    mul-le-mul_right (arc_active v on a) (omega (arith, ints, first)) in
     omega (arith, here, weighted_high v on arcs xs (omega arith) (λ k lk. high (suc k) (omega arith)))
 
-weighted_none : (v : ℕ) (on : Bool) (arcs : List Arc) (xs : List ℕ) → ends_on v on arcs ≡ 0 → weighted_ends v on arcs xs ≡ 0
+weighted_none : (v : ℕ) (on : Bool) (arcs : List Arc) (xs : List ℕ) → ends_on v on arcs ≡ 0 → weighted_ends v on arcs xs
+    ≡ 0
 weighted_none v on [] xs none = refl
 weighted_none v on (a ∷ arcs) [] none = refl
 weighted_none v on (a ∷ arcs) (x ∷ xs) none =
@@ -48,7 +59,8 @@ weighted_none v on (a ∷ arcs) (x ∷ xs) none =
     omega (arith, product, mul_comm x 0, zero-mul x, weighted_none v on arcs xs (omega (arith, none)))
 
 -- No node has a single end: the other side would have the sum 0.
-no_single : (net : Network) (xs : List ℕ) → IsWithinBounds net → length xs ≡ length net.arcs → IsAdmissible net (entries xs) → (v : ℕ) → degree net.arcs v ≢ 1
+no_single : (net : Network) (xs : List ℕ) → IsWithinBounds net → length xs ≡ length net.arcs
+    → IsAdmissible net (entries xs) → (v : ℕ) → degree net.arcs v ≢ 1
 no_single net xs bounds l a v single = by_side (cases_eq (ends_on v true net.arcs) 0)
   where
     high : (k : ℕ) → k < length xs → pos 1 ≤ℤ entries xs k
@@ -58,24 +70,49 @@ no_single net xs bounds l a v single = by_side (cases_eq (ends_on v true net.arc
     equal = balanced_list net.arcs xs l a.balanced v
 
     by_side : (ends_on v true net.arcs ≡ 0) ⊎ (ends_on v true net.arcs ≢ 0) → ⊥
-    by_side (inl none) = omega (arith, single, degree_sides v net.arcs, equal, weighted_none v true net.arcs xs none, weighted_high v false net.arcs xs l high)
-    by_side (inr some) = (let none : ends_on v false net.arcs ≡ 0 = omega (arith, single, some, degree_sides v net.arcs) in omega (arith, equal, some, weighted_none v false net.arcs xs none, weighted_high v true net.arcs xs l high))
+    by_side (inl none) = omega (
+      arith,
+      single,
+      degree_sides v net.arcs,
+      equal,
+      weighted_none v true net.arcs xs none,
+      weighted_high v false net.arcs xs l high,
+    )
+    by_side (inr some) = (let none : ends_on v false net.arcs ≡ 0 =
+        omega (arith, single, some, degree_sides v net.arcs) in
+        omega (arith, equal, some, weighted_none v false net.arcs xs none, weighted_high v true net.arcs xs l high))
 
 -- A node has at most two copies for each of its ends.
-caps_ends : (net : Network) (step v : ℕ) (arcs : List Arc) (xs : List ℕ) → length xs ≡ length arcs → weighted_ends v false arcs (map (cap net step) xs) ≡ weighted_ends v false arcs (map (down net step) xs) + 2 * ends_on v false arcs
+caps_ends : (net : Network) (step v : ℕ) (arcs : List Arc) (xs : List ℕ) → length xs ≡ length arcs
+    → weighted_ends v false arcs (map (cap net step) xs) ≡ weighted_ends v false arcs (map (down net step) xs)
+    + 2 * ends_on v false arcs
 caps_ends net step v [] [] l = refl
-caps_ends net step v (a ∷ arcs) (x ∷ xs) l = omega (arith, add-mul (down net step x) 2 (arc_active v false a), caps_ends net step v arcs xs (omega arith))
+caps_ends net step v (a ∷ arcs) (x ∷ xs) l = omega (
+  arith,
+  add-mul (down net step x) 2 (arc_active v false a),
+  caps_ends net step v arcs xs (omega arith),
+)
 caps_ends net step v _ _ l = absurd (omega arith)
 
-downs_ends : (net : Network) (step v : ℕ) (arcs : List Arc) (xs : List ℕ) → weighted_ends v true arcs (map (down net step) xs) ≤ 2 * ends_on v true arcs
+downs_ends : (net : Network) (step v : ℕ) (arcs : List Arc) (xs : List ℕ)
+    → weighted_ends v true arcs (map (down net step) xs) ≤ 2 * ends_on v true arcs
 downs_ends net step v [] xs = omega arith
 downs_ends net step v (a ∷ arcs) [] = omega arith
 downs_ends net step v (a ∷ arcs) (x ∷ xs) =
     let low : down net step x ≤ 2 = omega arith in
     omega (arith, mul-le-mul_right (arc_active v true a) low, downs_ends net step v arcs xs)
 
-pub count_low : (net : Network) (step : ℕ) (xs : List ℕ) → length xs ≡ length net.arcs → (v : ℕ) → active v (units net step net.arcs xs) (states_at net step xs) ≤ 2 * degree net.arcs v
-count_low net step xs l v = omega (arith, degree_sides v net.arcs, box_active net step v net.arcs xs (map (down net step) xs) xs l (own_box net step xs), caps_ends net step v net.arcs xs l, downs_ends net step v net.arcs xs)
+pub count_low : (net : Network) (step : ℕ) (xs : List ℕ) → length xs ≡ length net.arcs → (v : ℕ)
+    → active v (units net step net.arcs xs) (states_at net step xs) ≤ 2 * degree net.arcs v
+count_low net step xs l v =
+    omega (
+      arith,
+      degree_sides v net.arcs,
+      box_active net step v net.arcs xs (map (down net step) xs) xs l
+          (own_box net step xs),
+      caps_ends net step v net.arcs xs l,
+      downs_ends net step v net.arcs xs,
+    )
 
 -- All ends, and what f is along them.
 abbrev along_ends : (ℕ → ℕ) → List Arc → ℕ
@@ -90,39 +127,75 @@ one_node f nodes u l = count_below_one (λ v. cond (u == v) 1 0 * f v) nodes u l
     here : cond (u == u) 1 0 * f u ≡ f u
     here = rw (eq-eqb u u refl) (omega arith)
 
-arc_exchange : (f : ℕ → ℕ) (nodes : ℕ) (left : End) (right : Option End) → EndsBelow nodes left right → count_below (λ v. count (λ e. cond (e.node == v) 1 0) (left ∷ option_to_list right) * f v) nodes ≡ count (λ e. f e.node) (left ∷ option_to_list right)
+arc_exchange : (f : ℕ → ℕ) (nodes : ℕ) (left : End) (right : Option End) → EndsBelow nodes left right
+    → count_below (λ v. count (λ e. cond (e.node == v) 1 0) (left ∷ option_to_list right) * f v) nodes
+    ≡ count (λ e. f e.node) (left ∷ option_to_list right)
 arc_exchange f nodes left None at =
-    let same : count_below (λ v. (cond (left.node == v) 1 0 + 0) * f v) nodes ≡ count_below (λ v. cond (left.node == v) 1 0 * f v) nodes = count_below_same _ _ nodes (λ v l. omega (arith, add-mul (cond (left.node == v) 1 0) 0 (f v))) in
+    let same : count_below (λ v. (cond (left.node == v) 1 0 + 0) * f v) nodes
+    ≡ count_below (λ v. cond (left.node == v) 1 0 * f v) nodes =
+    count_below_same _ _ nodes (λ v l. omega (arith, add-mul (cond (left.node == v) 1 0) 0 (f v))) in
     omega (arith, same, one_node f nodes left.node at)
 arc_exchange f nodes left (Some right) at =
-    let same : count_below (λ v. (cond (left.node == v) 1 0 + (cond (right.node == v) 1 0 + 0)) * f v) nodes ≡ count_below (λ v. cond (left.node == v) 1 0 * f v + cond (right.node == v) 1 0 * f v) nodes = count_below_same _ _ nodes (λ v l. omega (arith, add-mul (cond (left.node == v) 1 0) (cond (right.node == v) 1 0 + 0) (f v), add-mul (cond (right.node == v) 1 0) 0 (f v))) in
-    omega (arith, same, count_below_sum (λ v. cond (left.node == v) 1 0 * f v) (λ v. cond (right.node == v) 1 0 * f v) nodes, one_node f nodes left.node at.0, one_node f nodes right.node at.1)
+    let same : count_below (λ v. (cond (left.node == v) 1 0 + (cond (right.node == v) 1 0 + 0)) * f v) nodes
+    ≡ count_below (λ v. cond (left.node == v) 1 0 * f v + cond (right.node == v) 1 0 * f v) nodes =
+    count_below_same _ _ nodes
+    (λ v l. omega (
+      arith,
+      add-mul (cond (left.node == v) 1 0) (cond (right.node == v) 1 0 + 0) (f v),
+      add-mul (cond (right.node == v) 1 0) 0 (f v),
+    )) in
+    omega (
+      arith,
+      same,
+      count_below_sum (λ v. cond (left.node == v) 1 0 * f v) (λ v. cond (right.node == v) 1 0 * f v)
+          nodes,
+      one_node f nodes left.node at.0,
+      one_node f nodes right.node at.1,
+    )
 
 -- Along the ends, and node by node.
-exchange : (f : ℕ → ℕ) (nodes : ℕ) (arcs : List Arc) → ArcsAt nodes arcs → count_below (λ v. degree arcs v * f v) nodes ≡ along_ends f arcs
+exchange : (f : ℕ → ℕ) (nodes : ℕ) (arcs : List Arc) → ArcsAt nodes arcs → count_below (λ v. degree arcs v * f v) nodes
+    ≡ along_ends f arcs
 exchange f nodes [] at = count_below_none (λ v. 0 * f v) nodes (λ v l. zero-mul (f v))
 exchange f nodes (a ∷ arcs) at =
     let here : ℕ → ℕ = λ v. count (λ (e : End). cond (e.node == v) 1 0) (ends a) * f v in
     let rest : ℕ → ℕ = λ v. degree arcs v * f v in
-    omega (arith, count_below_same _ _ nodes (λ v l. add-mul (count (λ (e : End). cond (e.node == v) 1 0) (ends a)) (degree arcs v) (f v)), count_below_sum here rest nodes, arc_exchange f nodes a.left a.right at.0, exchange f nodes arcs at.1)
+    omega (
+      arith,
+      count_below_same _ _ nodes (λ v l. add-mul (count (λ (e : End). cond (e.node == v) 1 0) (ends a))
+          (degree arcs v) (f v)),
+      count_below_sum here rest nodes,
+      arc_exchange f nodes a.left a.right at.0,
+      exchange f nodes arcs at.1,
+    )
 
 -- The number of all ends.
 abbrev all_ends : List Arc → ℕ
 all_ends arcs = along_ends (λ v. 1) arcs
 
 degrees_sum : (nodes : ℕ) (arcs : List Arc) → ArcsAt nodes arcs → count_below (degree arcs) nodes ≡ all_ends arcs
-degrees_sum nodes arcs at = count_below_same (degree arcs) (λ v. degree arcs v * 1) nodes (λ v l. omega arith) ∙ exchange (λ v. 1) nodes arcs at
+degrees_sum nodes arcs at = count_below_same (degree arcs) (λ v. degree arcs v * 1) nodes (λ v l. omega arith)
+    ∙ exchange (λ v. 1) nodes arcs at
 
 -- Where no node has a single end, there are at most 1/32 of the tangle number of ends.
-tangle_high : (net : Network) → ArcsAt net.nodes net.arcs → ((v : ℕ) → degree net.arcs v ≢ 1) → 32 * all_ends net.arcs ≤ tangle_number net
-tangle_high net at several = omega (arith, count_below_times 32 (degree net.arcs) net.nodes, degrees_sum net.nodes net.arcs at, count_below_le (λ v. 32 * degree net.arcs v) (λ v. 16 * (degree net.arcs v * degree net.arcs v)) net.nodes (λ v l. each v))
+tangle_high : (net : Network) → ArcsAt net.nodes net.arcs → ((v : ℕ) → degree net.arcs v ≢ 1)
+    → 32 * all_ends net.arcs ≤ tangle_number net
+tangle_high net at several = omega (
+  arith,
+  count_below_times 32 (degree net.arcs) net.nodes,
+  degrees_sum net.nodes net.arcs at,
+  count_below_le (λ v. 32 * degree net.arcs v) (λ v. 16 * (degree net.arcs v * degree net.arcs v)) net.nodes
+      (λ v l. each v),
+)
   where
     each : (v : ℕ) → 32 * degree net.arcs v ≤ 16 * (degree net.arcs v * degree net.arcs v)
     each v = by_degree (cases_eq (degree net.arcs v) 0)
       where
-        by_degree : (degree net.arcs v ≡ 0) ⊎ (degree net.arcs v ≢ 0) → 32 * degree net.arcs v ≤ 16 * (degree net.arcs v * degree net.arcs v)
+        by_degree : (degree net.arcs v ≡ 0) ⊎ (degree net.arcs v ≢ 0)
+            → 32 * degree net.arcs v ≤ 16 * (degree net.arcs v * degree net.arcs v)
         by_degree (inl none) = omega (arith, none)
-        by_degree (inr some) = (let h : 2 * degree net.arcs v ≤ degree net.arcs v * degree net.arcs v = mul-le-mul_right (degree net.arcs v) (omega (arith, several v)) in omega (arith, h))
+        by_degree (inr some) = (let h : 2 * degree net.arcs v ≤ degree net.arcs v * degree net.arcs v =
+            mul-le-mul_right (degree net.arcs v) (omega (arith, several v)) in omega (arith, h))
 
 -- Whether a unit has one end, as 1 or 0.
 abbrev lone_by : Option End → ℕ
@@ -155,14 +228,24 @@ rung_low before fresh r = grind (arith)
 rim_low : (before : Option ℕ) (fresh : ℕ) (rs : List ℕ) → length (rim_links before fresh rs) ≤ 4 * length rs
 rim_low before fresh [] = omega arith
 rim_low before fresh (r ∷ []) = omega (arith, from_low before r)
-rim_low before fresh (r ∷ s ∷ rs) = omega (arith, length-append (rung before fresh r) (rim_links (Some (fresh + 1)) (fresh + 2) (s ∷ rs)), rung_low before fresh r, rim_low (Some (fresh + 1)) (fresh + 2) (s ∷ rs))
+rim_low before fresh (r ∷ s ∷ rs) =
+    omega (
+      arith,
+      length-append (rung before fresh r) (rim_links (Some (fresh + 1)) (fresh + 2) (s ∷ rs)),
+      rung_low before fresh r,
+      rim_low (Some (fresh + 1)) (fresh + 2) (s ∷ rs),
+    )
 
 -- Of each arc there are at most four units, all of its shape.
-shape_count : (g : End → Option End → ℕ) (net : Network) (step : ℕ) (a : Arc) (x k n : ℕ) → count (λ u. g u.left u.right) (units_from net step a (low net step x) k n) ≡ n * g a.left a.right
+shape_count : (g : End → Option End → ℕ) (net : Network) (step : ℕ) (a : Arc) (x k n : ℕ)
+    → count (λ u. g u.left u.right) (units_from net step a (low net step x) k n) ≡ n * g a.left a.right
 shape_count g net step a x k zero = omega (arith, zero-mul (g a.left a.right))
-shape_count g net step a x k (suc n) = omega (arith, add-mul 1 n (g a.left a.right), shape_count g net step a x (k + 1) n)
+shape_count g net step a x k (suc n) =
+    omega (arith, add-mul 1 n (g a.left a.right), shape_count g net step a x (k + 1) n)
 
-units_few : (g : End → Option End → ℕ) (f : ℕ → ℕ) (net : Network) (step : ℕ) (arcs : List Arc) (xs : List ℕ) → ((left : End) (right : Option End) → g left right ≤ count (λ e. f e.node) (left ∷ option_to_list right)) → count (λ u. g u.left u.right) (units net step arcs xs) ≤ 4 * along_ends f arcs
+units_few : (g : End → Option End → ℕ) (f : ℕ → ℕ) (net : Network) (step : ℕ) (arcs : List Arc) (xs : List ℕ)
+    → ((left : End) (right : Option End) → g left right ≤ count (λ e. f e.node) (left ∷ option_to_list right))
+    → count (λ u. g u.left u.right) (units net step arcs xs) ≤ 4 * along_ends f arcs
 units_few g f net step [] xs le = omega arith
 units_few g f net step (a ∷ arcs) [] le = omega arith
 units_few g f net step (a ∷ arcs) (x ∷ xs) le =
@@ -171,12 +254,14 @@ units_few g f net step (a ∷ arcs) (x ∷ xs) le =
       arith,
       mul-le-mul_right (g a.left a.right) four,
       le a.left a.right,
-      count_append (λ (u : ArcUnit). g u.left u.right) (units_from net step a (low net step x) 0 (cap net step x)) (units net step arcs xs),
+      count_append (λ (u : ArcUnit). g u.left u.right) (units_from net step a (low net step x) 0 (cap net step x))
+          (units net step arcs xs),
       shape_count g net step a x 0 (cap net step x),
       units_few g f net step arcs xs le,
     )
 
-ends_sum : (f g : ℕ → ℕ) (es : List End) → count (λ e. f e.node + g e.node) es ≡ count (λ e. f e.node) es + count (λ e. g e.node) es
+ends_sum : (f g : ℕ → ℕ) (es : List End) → count (λ e. f e.node + g e.node) es
+    ≡ count (λ e. f e.node) es + count (λ e. g e.node) es
 ends_sum f g es = count_sum (λ (e : End). f e.node) (λ (e : End). g e.node) es
 
 along_sum : (f g : ℕ → ℕ) (arcs : List Arc) → along_ends (λ v. f v + g v) arcs ≡ along_ends f arcs + along_ends g arcs
@@ -189,7 +274,12 @@ ends_const c (e ∷ es) = omega (arith, mul-add c 1 (count (λ f. 1) es), ends_c
 
 along_const : (c : ℕ) (arcs : List Arc) → along_ends (λ v. c) arcs ≡ c * all_ends arcs
 along_const c [] = omega (arith, mul_comm c 0, zero-mul c)
-along_const c (a ∷ arcs) = omega (arith, mul-add c (count (λ e. 1) (ends a)) (all_ends arcs), ends_const c (ends a), along_const c arcs)
+along_const c (a ∷ arcs) = omega (
+  arith,
+  mul-add c (count (λ e. 1) (ends a)) (all_ends arcs),
+  ends_const c (ends a),
+  along_const c arcs,
+)
 
 -- The vertices of a unit, and two at the rim for it where it has one end.
 abbrev size_and_rim : End → Option End → ℕ
@@ -198,7 +288,8 @@ size_and_rim left right = size_by left right + (lone_by right + lone_by right)
 size_low : (left : End) (right : Option End) → size_and_rim left right ≤ count (λ e. 4) (left ∷ option_to_list right)
 size_low left right = grind (arith)
 
-sizes_split : (us : List ArcUnit) → count (λ u. size_and_rim u.left u.right) us ≡ count unit_size us + (count is_lone us + count is_lone us)
+sizes_split : (us : List ArcUnit) → count (λ u. size_and_rim u.left u.right) us
+    ≡ count unit_size us + (count is_lone us + count is_lone us)
 sizes_split [] = refl
 sizes_split (u ∷ us) = omega (arith, sizes_split us)
 
@@ -206,15 +297,25 @@ sizes_split (u ∷ us) = omega (arith, sizes_split us)
 abbrev width_and_rim : (ℕ → ℕ) → End → Option End → ℕ
 width_and_rim copies_at left right = width_by copies_at left right + 4 * lone_by right
 
-width_low : (copies_at : ℕ → ℕ) (left : End) (right : Option End) → width_and_rim copies_at left right ≤ count (λ e. copies_at e.node + 5) (left ∷ option_to_list right)
+width_low : (copies_at : ℕ → ℕ) (left : End) (right : Option End) → width_and_rim copies_at left right
+    ≤ count (λ e. copies_at e.node + 5) (left ∷ option_to_list right)
 width_low copies_at left right = grind (arith)
 
-widths_split : (copies_at : ℕ → ℕ) (b : ℕ) (us : List ArcUnit) → count (λ u. width_and_rim copies_at u.left u.right) us ≡ length (units_links copies_at b us) + 4 * count is_lone us
+widths_split : (copies_at : ℕ → ℕ) (b : ℕ) (us : List ArcUnit) → count (λ u. width_and_rim copies_at u.left u.right) us
+    ≡ length (units_links copies_at b us) + 4 * count is_lone us
 widths_split copies_at b [] = refl
-widths_split copies_at b (u ∷ us) = omega (arith, length-append (unit_links copies_at b u) (units_links copies_at (b + unit_size u) us), links_width copies_at b u.cost u.left u.right, widths_split copies_at (b + unit_size u) us)
+widths_split copies_at b (u ∷ us) =
+    omega (
+      arith,
+      length-append (unit_links copies_at b u) (units_links copies_at (b + unit_size u) us),
+      links_width copies_at b u.cost u.left u.right,
+      widths_split copies_at (b + unit_size u) us,
+    )
 
 -- The bounds.
-pub size_law : (net : Network) (step : ℕ) (xs : List ℕ) → IsWithinBounds net → length xs ≡ length net.arcs → IsAdmissible net (entries xs) → (16 * (matching_graph net step xs).n ≤ 9 * tangle_number net) × (8 * length (matching_graph net step xs).edges ≤ 9 * tangle_number net)
+pub size_law : (net : Network) (step : ℕ) (xs : List ℕ) → IsWithinBounds net → length xs ≡ length net.arcs
+    → IsAdmissible net (entries xs) → (16 * (matching_graph net step xs).n ≤ 9 * tangle_number net)
+    × (8 * length (matching_graph net step xs).edges ≤ 9 * tangle_number net)
 size_law net step xs bounds l a = (omega (arith, copies, vertices, tangle), omega (arith, edges, shared, tangle))
   where
     us : List ArcUnit
@@ -236,27 +337,44 @@ size_law net step xs bounds l a = (omega (arith, copies, vertices, tangle), omeg
     tangle = tangle_high net at (no_single net xs bounds l a)
 
     copies : count_below copies_at net.nodes ≤ 2 * all_ends net.arcs
-    copies = omega (arith, count_below_le copies_at (λ v. 2 * degree net.arcs v) net.nodes (λ v lv. count_low net step xs l v), count_below_times 2 (degree net.arcs) net.nodes, degrees_sum net.nodes net.arcs at)
+    copies = omega (
+      arith,
+      count_below_le copies_at (λ v. 2 * degree net.arcs v) net.nodes
+          (λ v lv. count_low net step xs l v),
+      count_below_times 2 (degree net.arcs) net.nodes,
+      degrees_sum net.nodes net.arcs at,
+    )
 
     pairs_low : cond lone 1 0 + 2 * (length (rim (count_below copies_at net.nodes) us) - 1) ≤ m + m
     pairs_low = by_rim (cases_eq m 0)
       where
         by_rim : (m ≡ 0) ⊎ (m ≢ 0) → cond lone 1 0 + 2 * (length (rim (count_below copies_at net.nodes) us) - 1) ≤ m + m
         by_rim (inl none) =
-            let even : ◌≡◌ {A = ℕ} (rim_active us (states_at net step xs) % 2) 0 = omega (arith, none, rim_active_low us (states_at net step xs)) in
-            let off : ◌≡◌ {A = ℕ} (cond lone 1 0) 0 = rw (ne_eqb (rim_active us (states_at net step xs) % 2) 1 (λ e. omega (arith, even, e))) refl in
+            let even : ◌≡◌ {A = ℕ} (rim_active us (states_at net step xs) % 2) 0 =
+            omega (arith, none, rim_active_low us (states_at net step xs)) in
+            let off : ◌≡◌ {A = ℕ} (cond lone 1 0) 0 =
+            rw (ne_eqb (rim_active us (states_at net step xs) % 2) 1 (λ e. omega (arith, even, e))) refl in
             omega (arith, off, none, rim_count (count_below copies_at net.nodes) us)
         by_rim (inr some) = omega (arith, some, once_at_most lone, rim_count (count_below copies_at net.nodes) us)
 
     vertices : (matching_graph net step xs).n ≤ count_below copies_at net.nodes + 16 * all_ends net.arcs
-    vertices = omega (arith, pairs_low, sizes_split us, units_few size_and_rim (λ v. 4) net step net.arcs xs size_low, along_const 4 net.arcs)
+    vertices = omega (
+      arith,
+      pairs_low,
+      sizes_split us,
+      units_few size_and_rim (λ v. 4) net step net.arcs xs size_low,
+      along_const 4 net.arcs,
+    )
 
     edges : length (matching_graph net step xs).edges ≤ 4 * along_ends copies_at net.arcs + 20 * all_ends net.arcs
     edges = omega (
       arith,
-      length-append (units_links copies_at (count_below copies_at net.nodes) us) (rim_links (lone_vertex net.nodes copies_at lone us) (first_fresh net.nodes copies_at lone us) (rim (count_below copies_at net.nodes) us)),
+      length-append (units_links copies_at (count_below copies_at net.nodes) us)
+          (rim_links (lone_vertex net.nodes copies_at lone us) (first_fresh net.nodes copies_at lone us)
+          (rim (count_below copies_at net.nodes) us)),
       widths_split copies_at (count_below copies_at net.nodes) us,
-      rim_low (lone_vertex net.nodes copies_at lone us) (first_fresh net.nodes copies_at lone us) (rim (count_below copies_at net.nodes) us),
+      rim_low (lone_vertex net.nodes copies_at lone us) (first_fresh net.nodes copies_at lone us)
+          (rim (count_below copies_at net.nodes) us),
       rim_count (count_below copies_at net.nodes) us,
       units_few (width_and_rim copies_at) (λ v. copies_at v + 5) net step net.arcs xs (width_low copies_at),
       along_sum copies_at (λ v. 5) net.arcs,
@@ -269,9 +387,14 @@ size_law net step xs bounds l a = (omega (arith, copies, vertices, tangle), omeg
       exchange copies_at net.nodes net.arcs at,
       count_below_times 32 (λ v. degree net.arcs v * copies_at v) net.nodes,
       count_below_times 4 (λ v. 16 * (degree net.arcs v * degree net.arcs v)) net.nodes,
-      count_below_le (λ v. 32 * (degree net.arcs v * copies_at v)) (λ v. 4 * (16 * (degree net.arcs v * degree net.arcs v))) net.nodes (λ v lv. each v),
+      count_below_le (λ v. 32 * (degree net.arcs v * copies_at v))
+          (λ v. 4 * (16 * (degree net.arcs v * degree net.arcs v))) net.nodes (λ v lv. each v),
     )
       where
         each : (v : ℕ) → 32 * (degree net.arcs v * copies_at v) ≤ 4 * (16 * (degree net.arcs v * degree net.arcs v))
         each v =
-            omega (arith, mul-le-mul_left (degree net.arcs v) (count_low net step xs l v), mul_left_comm (degree net.arcs v) 2 (degree net.arcs v))
+            omega (
+              arith,
+              mul-le-mul_left (degree net.arcs v) (count_low net step xs l v),
+              mul_left_comm (degree net.arcs v) 2 (degree net.arcs v),
+            )

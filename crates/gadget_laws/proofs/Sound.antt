@@ -1,5 +1,6 @@
 -- Soundness: the list of an accepted certificate is least.
-use Rattle.std.proofs.Common.{◌≡◌, ℕ, zero, suc, ◌+◌, ◌-◌, ◌*◌, ◌/◌, ◌<◌, ◌≤◌, min, true, false, List, [], ◌∷◌, length, map, ℤ, pos, ◌-ℤ◌, ◌*ℤ◌, ◌≤ℤ◌, unsigned_abs, sym, ◌∙◌, ap, inl, inr, ◌⊎◌, arith}
+use Rattle.std.proofs.Common.{◌≡◌, ℕ, zero, suc, ◌+◌, ◌-◌, ◌*◌, ◌/◌, ◌<◌, ◌≤◌, min, true, false, List, [], ◌∷◌, length}
+use Rattle.std.proofs.Common.{map, ℤ, pos, ◌-ℤ◌, ◌*ℤ◌, ◌≤ℤ◌, unsigned_abs, sym, ◌∙◌, ap, inl, inr, ◌⊎◌, arith}
 use Rattle.std.proofs.lemmas.Int.{ints}
 use Rattle.std.proofs.lemmas.Bool.{cases_lt}
 use Rattle.sum_laws.proofs.Counts.{count_below_same}
@@ -29,43 +30,63 @@ units_on net f (x ∷ xs) = (unsigned_abs (f 0) - low net 1 x) ∷ units_on net 
 
 -- Each entry is high enough and within 2 of the one of xs.
 abbrev IsNear : ℕ → (ℕ → ℤ) → List ℕ → Type 0
-IsNear floor f xs = (k : ℕ) → k < length xs → (pos floor ≤ℤ f k) × (pos floor ≤ℤ entries xs k) × (unsigned_abs (f k -ℤ entries xs k) ≤ 2)
+IsNear floor f xs = (k : ℕ) → k < length xs → (pos floor ≤ℤ f k) × (pos floor ≤ℤ entries xs k)
+    × (unsigned_abs (f k -ℤ entries xs k) ≤ 2)
 
-near_entries : (floor : ℕ) (f : ℕ → ℤ) (xs : List ℕ) → IsNear floor f xs → (k : ℕ) → k < length xs → entries (listed f xs) k ≡ f k
+near_entries : (floor : ℕ) (f : ℕ → ℤ) (xs : List ℕ) → IsNear floor f xs → (k : ℕ) → k < length xs
+    → entries (listed f xs) k ≡ f k
 near_entries floor f [] near k l = absurd (omega arith)
-near_entries floor f (x ∷ xs) near zero l = (let h : pos floor ≤ℤ f 0 = (near 0 (omega arith)).0 in omega (arith, ints, h))
-near_entries floor f (x ∷ xs) near (suc k) l = near_entries floor (λ j. f (suc j)) xs (λ j lj. near (suc j) (omega arith)) k (omega arith)
+near_entries floor f (x ∷ xs) near zero l = (let h : pos floor ≤ℤ f 0 = (near 0 (omega arith)).0 in
+    omega (arith, ints, h))
+near_entries floor f (x ∷ xs) near (suc k) l =
+    near_entries floor (λ j. f (suc j)) xs (λ j lj. near (suc j) (omega arith)) k (omega arith)
 
 -- A near list is in the box.
-near_one : (net : Network) (y : ℤ) (x : ℕ) → pos net.floor ≤ℤ y → pos net.floor ≤ℤ pos x → unsigned_abs (y -ℤ pos x) ≤ 2 → (unsigned_abs y - low net 1 x ≤ cap net 1 x) × (unsigned_abs y ≡ low net 1 x + (unsigned_abs y - low net 1 x) * 1)
+near_one : (net : Network) (y : ℤ) (x : ℕ) → pos net.floor ≤ℤ y → pos net.floor ≤ℤ pos x → unsigned_abs (y -ℤ pos x) ≤ 2
+    → (unsigned_abs y - low net 1 x ≤ cap net 1 x) × (unsigned_abs y ≡ low net 1 x + (unsigned_abs y - low net 1 x) * 1)
 near_one net y x high own near =
     let whole : (x - net.floor) / 1 ≡ x - net.floor = omega arith in
     let steps : down net 1 x ≡ min 2 (x - net.floor) = ap (min 2) whole in
     (omega (arith, ints, steps), omega (arith, ints, steps))
 
-near_box : (net : Network) (f : ℕ → ℤ) (xs : List ℕ) → IsNear net.floor f xs → IsRaised net 1 xs (units_on net f xs) (listed f xs)
+near_box : (net : Network) (f : ℕ → ℤ) (xs : List ℕ) → IsNear net.floor f xs
+    → IsRaised net 1 xs (units_on net f xs) (listed f xs)
 near_box net f [] near = tt
 near_box net f (x ∷ xs) near = (here.0, here.1, near_box net (λ k. f (suc k)) xs (λ k l. near (suc k) (omega arith)))
   where
     first : (pos net.floor ≤ℤ f 0) × (pos net.floor ≤ℤ pos x) × (unsigned_abs (f 0 -ℤ pos x) ≤ 2)
     first = near 0 (omega arith)
 
-    here : (unsigned_abs (f 0) - low net 1 x ≤ cap net 1 x) × (unsigned_abs (f 0) ≡ low net 1 x + (unsigned_abs (f 0) - low net 1 x) * 1)
+    here : (unsigned_abs (f 0) - low net 1 x ≤ cap net 1 x)
+        × (unsigned_abs (f 0) ≡ low net 1 x + (unsigned_abs (f 0) - low net 1 x) * 1)
     here = near_one net (f 0) x first.0 first.1 first.2
 
 -- Two lists with the same entries are admissible alike, and as far from what is wanted.
-same_admissible : (net : Network) (x y : ℕ → ℤ) → ((k : ℕ) → k < length net.arcs → x k ≡ y k) → IsAdmissible net y → IsAdmissible net x
+same_admissible : (net : Network) (x y : ℕ → ℤ) → ((k : ℕ) → k < length net.arcs → x k ≡ y k) → IsAdmissible net y
+    → IsAdmissible net x
 same_admissible net x y same a = record {
   high = λ k l. (let e : x k ≡ y k = same k l in omega (arith, ints, e, a.high k l));
   balanced = λ v. same_sides net.arcs x y same true v ∙ (a.balanced v ∙ sym (same_sides net.arcs x y same false v));
 }
 
-same_deviation : (net : Network) (x y : ℕ → ℤ) → ((k : ℕ) → k < length net.arcs → x k ≡ y k) → deviation net x ≡ deviation net y
-same_deviation net x y same = count_below_same _ _ (length net.arcs) (λ k l. ap (arc_deviation net (arc_at net.arcs k)) (same k l))
+same_deviation : (net : Network) (x y : ℕ → ℤ) → ((k : ℕ) → k < length net.arcs → x k ≡ y k)
+    → deviation net x ≡ deviation net y
+same_deviation net x y same =
+    count_below_same _ _ (length net.arcs) (λ k l. ap (arc_deviation net (arc_at net.arcs k)) (same k l))
 
 -- No list near that of an accepted certificate is better.
-near_not_better : (net : Network) (c : Certificate) → IsWithinBounds net → IsAccepted net c → (f : ℕ → ℤ) → IsAdmissible net f → ((k : ℕ) → k < length net.arcs → unsigned_abs (f k -ℤ entries c.x k) ≤ 2) → deviation net (entries c.x) ≤ deviation net f
-near_not_better net c bounds accepted f af near = omega (arith, ints, accepted.sums, weak, told.1, own_cost, same_deviation net (entries ys) f same)
+near_not_better : (net : Network) (c : Certificate) → IsWithinBounds net → IsAccepted net c → (f : ℕ → ℤ)
+    → IsAdmissible net f → ((k : ℕ) → k < length net.arcs → unsigned_abs (f k -ℤ entries c.x k) ≤ 2)
+    → deviation net (entries c.x) ≤ deviation net f
+near_not_better net c bounds accepted f af near = omega (
+  arith,
+  ints,
+  accepted.sums,
+  weak,
+  told.1,
+  own_cost,
+  same_deviation net (entries ys) f same,
+)
   where
     ys : List ℕ
     ys = listed f c.x
@@ -74,27 +95,39 @@ near_not_better net c bounds accepted f af near = omega (arith, ints, accepted.s
     js = units_on net f c.x
 
     is_near : IsNear net.floor f c.x
-    is_near k l = (let lk : k < length net.arcs = omega (arith, accepted.count) in (af.high k lk, accepted.admissible.high k lk, near k lk))
+    is_near k l = (let lk : k < length net.arcs = omega (arith, accepted.count) in
+        (af.high k lk, accepted.admissible.high k lk, near k lk))
 
     same : (k : ℕ) → k < length net.arcs → entries ys k ≡ f k
     same k l = near_entries net.floor f c.x is_near k (omega (arith, accepted.count))
 
-    told : IsPerfect (matching_graph net 1 c.x) (matching_told net 1 c.x js) × (matching_cost (matching_graph net 1 c.x) (matching_told net 1 c.x js) ≡ pos (deviation net (entries ys)) -ℤ pos (deviation net (entries (lows net 1 c.x))))
-    told = matching_law net 1 c.x js ys bounds (omega arith) accepted.count accepted.admissible (same_admissible net (entries ys) f same af) (near_box net f c.x is_near)
+    told : IsPerfect (matching_graph net 1 c.x) (matching_told net 1 c.x js)
+        × (matching_cost (matching_graph net 1 c.x) (matching_told net 1 c.x js)
+        ≡ pos (deviation net (entries ys)) -ℤ pos (deviation net (entries (lows net 1 c.x))))
+    told = matching_law net 1 c.x js ys bounds (omega arith) accepted.count accepted.admissible
+        (same_admissible net (entries ys) f same af) (near_box net f c.x is_near)
 
     weak : dual_sum c.dual ≤ℤ (pos 2 *ℤ matching_cost (matching_graph net 1 c.x) (matching_told net 1 c.x js))
-    weak = weak_duality (matching_graph net 1 c.x) c.dual (graph_law net 1 c.x bounds) accepted.yes (matching_told net 1 c.x js) told.0
+    weak = weak_duality (matching_graph net 1 c.x) c.dual (graph_law net 1 c.x bounds) accepted.yes
+        (matching_told net 1 c.x js) told.0
 
     own_cost : on_cost net 1 c.x ≡ pos (deviation net (entries c.x)) -ℤ pos (deviation net (entries (lows net 1 c.x)))
     own_cost = box_deviation net 1 c.x (map (down net 1) c.x) c.x accepted.count (own_box net 1 c.x)
 
 -- The list of an accepted certificate is least.
 pub sound : (net : Network) (c : Certificate) → IsWithinBounds net → IsAccepted net c → IsLeast net (entries c.x)
-sound net c bounds accepted = record { admissible = accepted.admissible; least = λ other ao. least other ao (cases_lt (deviation net other) (deviation net (entries c.x))) }
+sound net c bounds accepted = record {
+  admissible = accepted.admissible;
+  least =
+      λ other ao. least other ao (cases_lt (deviation net other) (deviation net (entries c.x)));
+}
   where
-    least : (other : ℕ → ℤ) → IsAdmissible net other → (deviation net other < deviation net (entries c.x)) ⊎ (deviation net (entries c.x) ≤ deviation net other) → deviation net (entries c.x) ≤ deviation net other
+    least : (other : ℕ → ℤ) → IsAdmissible net other → (deviation net other < deviation net (entries c.x))
+        ⊎ (deviation net (entries c.x) ≤ deviation net other) → deviation net (entries c.x) ≤ deviation net other
     least other ao (inr le) = le
     least other ao (inl better) = refuted (lift_law net (entries c.x) other accepted.admissible ao better)
       where
-        refuted : (near : ℕ → ℤ) × IsAdmissible net near × ((k : ℕ) → k < length net.arcs → unsigned_abs (near k -ℤ entries c.x k) ≤ 2) × (deviation net near < deviation net (entries c.x)) → deviation net (entries c.x) ≤ deviation net other
+        refuted : (near : ℕ → ℤ) × IsAdmissible net near
+            × ((k : ℕ) → k < length net.arcs → unsigned_abs (near k -ℤ entries c.x k) ≤ 2)
+            × (deviation net near < deviation net (entries c.x)) → deviation net (entries c.x) ≤ deviation net other
         refuted (near, a, close, less) = absurd (omega (arith, near_not_better net c bounds accepted near a close))

@@ -1,5 +1,7 @@
 -- The whole matching of states: each vertex gets one mate, and the cost is that of the units that are on.
-use Rattle.std.proofs.Common.{◌≡◌, ℕ, zero, suc, ◌+◌, ◌*◌, ◌%◌, ◌<◌, ◌≤◌, Bool, true, false, cond, ◌==◌, List, [], ◌∷◌, length, map, Some, None, ℤ, pos, ◌+ℤ◌, refl, ◌∙◌, ap, zero-add, add-zero, length-append, eq-eqb, ne_eqb, arith}
+use Rattle.std.proofs.Common.{◌≡◌, ℕ, zero, suc, ◌+◌, ◌*◌, ◌%◌, ◌<◌, ◌≤◌, Bool, true, false, cond, ◌==◌, List, [], ◌∷◌}
+use Rattle.std.proofs.Common.{length, map, Some, None, ℤ, pos, ◌+ℤ◌, refl, ◌∙◌, ap, zero-add, add-zero, length-append}
+use Rattle.std.proofs.Common.{eq-eqb, ne_eqb, arith}
 use Rattle.std.proofs.lemmas.Int.{ints}
 use Rattle.def_math.specs.Sums.{total, total_below, span}
 use Rattle.def_math.specs.Counts.{count, count_below}
@@ -25,16 +27,29 @@ pub record StatesFit (nodes : ℕ) (copies_at : ℕ → ℕ) (lone : Bool) (us :
   pub even : (cond lone 1 0 + rim_active us ons) % 2 ≡ 0
 
 -- All copies weigh what the numbers below their count weigh.
-pub copies_weight : (w : ℕ → ℤ) (copies_at : ℕ → ℕ) (nodes : ℕ) → held nodes copies_at w copies_at ≡ total_below w (count_below copies_at nodes)
+pub copies_weight : (w : ℕ → ℤ) (copies_at : ℕ → ℕ) (nodes : ℕ) → held nodes copies_at w copies_at
+    ≡ total_below w (count_below copies_at nodes)
 copies_weight w copies_at zero = refl
-copies_weight w copies_at (suc n) = omega (arith, ints, copies_weight w copies_at n, total_below_span w (count_below copies_at n) (copies_at n))
+copies_weight w copies_at (suc n) =
+    omega (arith, ints, copies_weight w copies_at n, total_below_span w (count_below copies_at n) (copies_at n))
 
 held_none : (w : ℕ → ℤ) (copies_at : ℕ → ℕ) (nodes : ℕ) → held nodes copies_at w (λ v. 0) ≡ pos 0
 held_none w copies_at nodes = total_below_none (λ v. pos 0) nodes (λ v l. refl)
 
 -- The vertices below the bound, in their four groups.
-pub graph_total : (w : ℕ → ℤ) (nodes : ℕ) (copies_at : ℕ → ℕ) (lone : Bool) (us : List ArcUnit) → total_below w (graph_by nodes copies_at lone us).n ≡ ((total_below w (count_below copies_at nodes) +ℤ span w (count_below copies_at nodes) (count unit_size us)) +ℤ waiting w (lone_vertex nodes copies_at lone us) lone) +ℤ span w (first_fresh nodes copies_at lone us) (pairs (length (rim (count_below copies_at nodes) us)))
-graph_total w nodes copies_at lone us = omega (arith, ints, total_below_span w (first_fresh nodes copies_at lone us) (pairs (length (rim copies us))), total_below_span w copies sizes, by_lone lone)
+pub graph_total : (w : ℕ → ℤ) (nodes : ℕ) (copies_at : ℕ → ℕ) (lone : Bool) (us : List ArcUnit)
+    → total_below w (graph_by nodes copies_at lone us).n
+    ≡ ((total_below w (count_below copies_at nodes) +ℤ span w (count_below copies_at nodes) (count unit_size us)) +ℤ
+    waiting w (lone_vertex nodes copies_at lone us) lone) +ℤ span w (first_fresh nodes copies_at lone us)
+    (pairs (length (rim (count_below copies_at nodes) us)))
+graph_total w nodes copies_at lone us =
+    omega (
+      arith,
+      ints,
+      total_below_span w (first_fresh nodes copies_at lone us) (pairs (length (rim copies us))),
+      total_below_span w copies sizes,
+      by_lone lone,
+    )
   where
     copies : ℕ
     copies = count_below copies_at nodes
@@ -42,33 +57,47 @@ graph_total w nodes copies_at lone us = omega (arith, ints, total_below_span w (
     sizes : ℕ
     sizes = count unit_size us
 
-    by_lone : (o : Bool) → total_below w (copies + sizes + cond o 1 0) ≡ total_below w (copies + sizes) +ℤ waiting w (cond o (Some (copies + sizes)) None) o
+    by_lone : (o : Bool) → total_below w (copies + sizes + cond o 1 0) ≡ total_below w (copies + sizes) +ℤ waiting w
+        (cond o (Some (copies + sizes)) None) o
     by_lone true = total_below_span w (copies + sizes) 1 ∙ omega (arith, ints)
     by_lone false = rw (add-zero (copies + sizes)) (omega (arith, ints))
 
-pub lone_there : (nodes : ℕ) (copies_at : ℕ → ℕ) (lone : Bool) (us : List ArcUnit) → IsThere (lone_vertex nodes copies_at lone us) lone
+pub lone_there : (nodes : ℕ) (copies_at : ℕ → ℕ) (lone : Bool) (us : List ArcUnit)
+    → IsThere (lone_vertex nodes copies_at lone us) lone
 lone_there nodes copies_at true us = tt
 lone_there nodes copies_at false us = refl
 
-module _ (nodes : ℕ) (copies_at : ℕ → ℕ) (lone : Bool) (us : List ArcUnit) (ons : List Bool) (fit : StatesFit nodes copies_at lone us ons) where
+module _ (nodes : ℕ) (copies_at : ℕ → ℕ) (lone : Bool) (us : List ArcUnit) (ons : List Bool)
+    (fit : StatesFit nodes copies_at lone us ons) where
   -- There are as many marks as edges.
   marks_length : length (states_marks nodes copies_at lone us ons) ≡ length (graph_by nodes copies_at lone us).edges
   marks_length = omega (
     arith,
-    length-append (units_marks copies_at (λ v. 0) us ons) (rim_marks (lone_vertex nodes copies_at lone us) lone (first_fresh nodes copies_at lone us) (rim_states us ons)),
-    length-append (units_links copies_at (count_below copies_at nodes) us) (rim_links (lone_vertex nodes copies_at lone us) (first_fresh nodes copies_at lone us) (rim (count_below copies_at nodes) us)),
+    length-append (units_marks copies_at (λ v. 0) us ons) (rim_marks (lone_vertex nodes copies_at lone us) lone
+        (first_fresh nodes copies_at lone us) (rim_states us ons)),
+    length-append (units_links copies_at (count_below copies_at nodes) us)
+        (rim_links (lone_vertex nodes copies_at lone us) (first_fresh nodes copies_at lone us)
+        (rim (count_below copies_at nodes) us)),
     units_length copies_at (λ v. 0) (count_below copies_at nodes) us ons fit.count,
-    rim_length (lone_vertex nodes copies_at lone us) lone (first_fresh nodes copies_at lone us) (rim (count_below copies_at nodes) us) (rim_states us ons) (states_length (count_below copies_at nodes) us ons fit.count),
+    rim_length (lone_vertex nodes copies_at lone us) lone (first_fresh nodes copies_at lone us)
+        (rim (count_below copies_at nodes) us) (rim_states us ons) (states_length (count_below copies_at nodes) us ons
+        fit.count),
   )
 
-  split : (f : WEdge → ℤ) → picked f (states_marks nodes copies_at lone us ons) (graph_by nodes copies_at lone us).edges ≡ picked f (units_marks copies_at (λ v. 0) us ons) (units_links copies_at (count_below copies_at nodes) us) +ℤ picked f (rim_marks (lone_vertex nodes copies_at lone us) lone (first_fresh nodes copies_at lone us) (rim_states us ons)) (rim_links (lone_vertex nodes copies_at lone us) (first_fresh nodes copies_at lone us) (rim (count_below copies_at nodes) us))
-  split f = pick_append f (units_marks copies_at (λ v. 0) us ons) _ (units_links copies_at (count_below copies_at nodes) us) _ (units_length copies_at (λ v. 0) (count_below copies_at nodes) us ons fit.count)
+  split : (f : WEdge → ℤ) → picked f (states_marks nodes copies_at lone us ons) (graph_by nodes copies_at lone us).edges
+      ≡ picked f (units_marks copies_at (λ v. 0) us ons) (units_links copies_at (count_below copies_at nodes) us) +ℤ
+      picked f (rim_marks (lone_vertex nodes copies_at lone us) lone (first_fresh nodes copies_at lone us)
+      (rim_states us ons)) (rim_links (lone_vertex nodes copies_at lone us) (first_fresh nodes copies_at lone us)
+      (rim (count_below copies_at nodes) us))
+  split f = pick_append f (units_marks copies_at (λ v. 0) us ons) _ (units_links copies_at (count_below copies_at nodes)
+      us) _ (units_length copies_at (λ v. 0) (count_below copies_at nodes) us ons fit.count)
 
   free : (v : ℕ) → 0 + active v us ons ≤ copies_at v
   free v = omega (arith, fit.fills v)
 
   -- For each weight the ends of the chosen edges weigh what all vertices weigh.
-  marks_weight : (w : ℕ → ℤ) → picked (at_ends w) (states_marks nodes copies_at lone us ons) (graph_by nodes copies_at lone us).edges ≡ total_below w (graph_by nodes copies_at lone us).n
+  marks_weight : (w : ℕ → ℤ) → picked (at_ends w) (states_marks nodes copies_at lone us ons)
+      (graph_by nodes copies_at lone us).edges ≡ total_below w (graph_by nodes copies_at lone us).n
   marks_weight w = omega (
     arith,
     ints,
@@ -77,7 +106,9 @@ module _ (nodes : ℕ) (copies_at : ℕ → ℕ) (lone : Bool) (us : List ArcUni
     held_none w copies_at nodes,
     full,
     copies_weight w copies_at nodes,
-    chain_sum w (lone_vertex nodes copies_at lone us) lone (first_fresh nodes copies_at lone us) (rim (count_below copies_at nodes) us) (rim_states us ons) (states_length (count_below copies_at nodes) us ons fit.count) (lone_there nodes copies_at lone us) even,
+    chain_sum w (lone_vertex nodes copies_at lone us) lone (first_fresh nodes copies_at lone us)
+        (rim (count_below copies_at nodes) us) (rim_states us ons) (states_length (count_below copies_at nodes) us ons
+        fit.count) (lone_there nodes copies_at lone us) even,
     graph_total w nodes copies_at lone us,
   )
     where
@@ -88,32 +119,49 @@ module _ (nodes : ℕ) (copies_at : ℕ → ℕ) (lone : Bool) (us : List ArcUni
       even = omega (arith, rim_trues us ons, fit.even)
 
   -- The cost of the chosen edges.
-  marks_cost : picked (λ e. e.cost) (states_marks nodes copies_at lone us ons) (graph_by nodes copies_at lone us).edges ≡ cost_on us ons
+  marks_cost : picked (λ e. e.cost) (states_marks nodes copies_at lone us ons) (graph_by nodes copies_at lone us).edges
+      ≡ cost_on us ons
   marks_cost = omega (
     arith,
     ints,
     split (λ e. e.cost),
     units_cost copies_at (λ v. 0) (count_below copies_at nodes) us ons fit.count free,
-    picked_free (rim_marks (lone_vertex nodes copies_at lone us) lone (first_fresh nodes copies_at lone us) (rim_states us ons)) (rim_links (lone_vertex nodes copies_at lone us) (first_fresh nodes copies_at lone us) (rim (count_below copies_at nodes) us)) (rim_free (lone_vertex nodes copies_at lone us) (first_fresh nodes copies_at lone us) (rim (count_below copies_at nodes) us)),
+    picked_free (rim_marks (lone_vertex nodes copies_at lone us) lone (first_fresh nodes copies_at lone us)
+        (rim_states us ons)) (rim_links (lone_vertex nodes copies_at lone us) (first_fresh nodes copies_at lone us)
+        (rim (count_below copies_at nodes) us)) (rim_free (lone_vertex nodes copies_at lone us)
+        (first_fresh nodes copies_at lone us) (rim (count_below copies_at nodes) us)),
   )
 
-  chosen_is : map (edge_at (graph_by nodes copies_at lone us)) (places 0 (states_marks nodes copies_at lone us ons)) ≡ chosen (states_marks nodes copies_at lone us ons) (graph_by nodes copies_at lone us).edges
-  chosen_is = at_places (edge_at (graph_by nodes copies_at lone us)) (record { u = 0; v = 0; cost = pos 0 }) 0 (states_marks nodes copies_at lone us ons) (graph_by nodes copies_at lone us).edges marks_length (λ j. ap (edge_at (graph_by nodes copies_at lone us)) (zero-add j))
+  chosen_is : map (edge_at (graph_by nodes copies_at lone us)) (places 0 (states_marks nodes copies_at lone us ons))
+      ≡ chosen (states_marks nodes copies_at lone us ons) (graph_by nodes copies_at lone us).edges
+  chosen_is = at_places (edge_at (graph_by nodes copies_at lone us)) (record { u = 0; v = 0; cost = pos 0 }) 0
+      (states_marks nodes copies_at lone us ons) (graph_by nodes copies_at lone us).edges marks_length
+      (λ j. ap (edge_at (graph_by nodes copies_at lone us)) (zero-add j))
 
   -- The places of the marks are a perfect matching.
-  pub states_perfect : IsPerfect (graph_by nodes copies_at lone us) (places 0 (states_marks nodes copies_at lone us ons))
+  pub states_perfect : IsPerfect (graph_by nodes copies_at lone us)
+      (places 0 (states_marks nodes copies_at lone us ons))
   states_perfect = record {
-    increasing = places_rise 0 (length (graph_by nodes copies_at lone us).edges) (states_marks nodes copies_at lone us ons) (omega (arith, marks_length));
-    once = λ v l. (let e : count (ends_at v) (map (edge_at (graph_by nodes copies_at lone us)) (places 0 (states_marks nodes copies_at lone us ons))) ≡ count (ends_at v) (chosen (states_marks nodes copies_at lone us ons) (graph_by nodes copies_at lone us).edges) = ap (count (ends_at v)) chosen_is in e ∙ once v l);
+    increasing = places_rise 0 (length (graph_by nodes copies_at lone us).edges)
+        (states_marks nodes copies_at lone us ons) (omega (arith, marks_length));
+    once = λ v l. (let e : count (ends_at v) (map (edge_at (graph_by nodes copies_at lone us))
+        (places 0 (states_marks nodes copies_at lone us ons)))
+        ≡ count (ends_at v) (chosen (states_marks nodes copies_at lone us ons)
+        (graph_by nodes copies_at lone us).edges) = ap (count (ends_at v)) chosen_is in e ∙ once v l);
   }
     where
-      once : (v : ℕ) → v < (graph_by nodes copies_at lone us).n → count (ends_at v) (chosen (states_marks nodes copies_at lone us ons) (graph_by nodes copies_at lone us).edges) ≡ 1
+      once : (v : ℕ) → v < (graph_by nodes copies_at lone us).n
+          → count (ends_at v) (chosen (states_marks nodes copies_at lone us ons)
+          (graph_by nodes copies_at lone us).edges) ≡ 1
       once v l = omega (
         arith,
         ints,
-        count_total (ends_at v) (chosen (states_marks nodes copies_at lone us ons) (graph_by nodes copies_at lone us).edges),
-        total_same (λ e. pos (ends_at v e)) (at_ends is_v) (chosen (states_marks nodes copies_at lone us ons) (graph_by nodes copies_at lone us).edges) (λ e. omega (arith, ints)),
-        picked_chosen (at_ends is_v) (states_marks nodes copies_at lone us ons) (graph_by nodes copies_at lone us).edges,
+        count_total (ends_at v) (chosen (states_marks nodes copies_at lone us ons)
+            (graph_by nodes copies_at lone us).edges),
+        total_same (λ e. pos (ends_at v e)) (at_ends is_v) (chosen (states_marks nodes copies_at lone us ons)
+            (graph_by nodes copies_at lone us).edges) (λ e. omega (arith, ints)),
+        picked_chosen (at_ends is_v) (states_marks nodes copies_at lone us ons)
+            (graph_by nodes copies_at lone us).edges,
         marks_weight is_v,
         total_below_one is_v (graph_by nodes copies_at lone us).n v l (λ k lk ne. rw (ne_eqb k v ne) refl),
         here,
@@ -126,8 +174,11 @@ module _ (nodes : ℕ) (copies_at : ℕ → ℕ) (lone : Bool) (us : List ArcUni
           here = rw (eq-eqb v v refl) refl
 
   -- Its cost is that of the units that are on.
-  pub states_cost : matching_cost (graph_by nodes copies_at lone us) (places 0 (states_marks nodes copies_at lone us ons)) ≡ cost_on us ons
-  states_cost = ap (total (λ (e : WEdge). e.cost)) chosen_is ∙ (picked_chosen (λ (e : WEdge). e.cost) (states_marks nodes copies_at lone us ons) (graph_by nodes copies_at lone us).edges ∙ marks_cost)
+  pub states_cost : matching_cost (graph_by nodes copies_at lone us)
+      (places 0 (states_marks nodes copies_at lone us ons)) ≡ cost_on us ons
+  states_cost = ap (total (λ (e : WEdge). e.cost)) chosen_is
+      ∙ (picked_chosen (λ (e : WEdge). e.cost) (states_marks nodes copies_at lone us ons)
+      (graph_by nodes copies_at lone us).edges ∙ marks_cost)
 
 -- Twice as many ends as chosen edges.
 twice : (ms : List Bool) (es : List WEdge) → (k : ℕ) × (picked (at_ends (λ v. pos 1)) ms es ≡ pos (2 * k))
@@ -135,7 +186,8 @@ twice [] es = (0, refl)
 twice (m ∷ ms) [] = (0, refl)
 twice (m ∷ ms) (e ∷ es) = more m (twice ms es)
   where
-    more : (b : Bool) → (k : ℕ) × (picked (at_ends (λ v. pos 1)) ms es ≡ pos (2 * k)) → (k : ℕ) × (cond b (pos 2) (pos 0) +ℤ picked (at_ends (λ v. pos 1)) ms es ≡ pos (2 * k))
+    more : (b : Bool) → (k : ℕ) × (picked (at_ends (λ v. pos 1)) ms es ≡ pos (2 * k))
+        → (k : ℕ) × (cond b (pos 2) (pos 0) +ℤ picked (at_ends (λ v. pos 1)) ms es ≡ pos (2 * k))
     more true (k, e) = (k + 1, omega (arith, ints, e))
     more false (k, e) = (k, omega (arith, ints, e))
 
@@ -151,20 +203,44 @@ rim_ones (false ∷ os) (r ∷ rs) l = omega (arith, ints, rim_ones os rs (omega
 rim_ones _ _ l = absurd (omega arith)
 
 -- States that fill the same copies have as many active units at the rim, but for an even number.
-pub rim_parity : (nodes : ℕ) (copies_at : ℕ → ℕ) (us : List ArcUnit) (ons other : List Bool) → UnitsAt nodes us → length us ≡ length ons → length us ≡ length other → ((v : ℕ) → active v us ons ≡ copies_at v) → ((v : ℕ) → active v us other ≡ copies_at v) → rim_active us ons % 2 ≡ rim_active us other % 2
+pub rim_parity : (nodes : ℕ) (copies_at : ℕ → ℕ) (us : List ArcUnit) (ons other : List Bool) → UnitsAt nodes us
+    → length us ≡ length ons → length us ≡ length other → ((v : ℕ) → active v us ons ≡ copies_at v)
+    → ((v : ℕ) → active v us other ≡ copies_at v) → rim_active us ons % 2 ≡ rim_active us other % 2
 rim_parity nodes copies_at us ons other at l m fills fills_other = by_two (two ons l fills) (two other m fills_other)
   where
     vertices : ℤ
-    vertices = span (λ v. pos 1) (count_below copies_at nodes) (count unit_size us) +ℤ held nodes copies_at (λ v. pos 1) copies_at
+    vertices = span (λ v. pos 1) (count_below copies_at nodes) (count unit_size us) +ℤ held nodes copies_at (λ v. pos 1)
+        copies_at
 
-    two : (xs : List Bool) → length us ≡ length xs → ((v : ℕ) → active v us xs ≡ copies_at v) → (k : ℕ) × (pos (2 * k) +ℤ pos (rim_active us xs) ≡ vertices)
-    two xs lx fx = with_k (twice (units_marks copies_at (λ v. 0) us xs) (units_links copies_at (count_below copies_at nodes) us))
+    two : (xs : List Bool) → length us ≡ length xs → ((v : ℕ) → active v us xs ≡ copies_at v)
+        → (k : ℕ) × (pos (2 * k) +ℤ pos (rim_active us xs) ≡ vertices)
+    two xs lx fx = with_k (twice (units_marks copies_at (λ v. 0) us xs)
+        (units_links copies_at (count_below copies_at nodes) us))
       where
         full : held nodes copies_at (λ v. pos 1) (λ v. 0 + active v us xs) ≡ held nodes copies_at (λ v. pos 1) copies_at
         full = held_same nodes copies_at (λ v. pos 1) (λ v. 0 + active v us xs) copies_at (λ v lv. omega (arith, fx v))
 
-        with_k : (k : ℕ) × (picked (at_ends (λ v. pos 1)) (units_marks copies_at (λ v. 0) us xs) (units_links copies_at (count_below copies_at nodes) us) ≡ pos (2 * k)) → (k : ℕ) × (pos (2 * k) +ℤ pos (rim_active us xs) ≡ vertices)
-        with_k (k, e) = (k, omega (arith, ints, e, full, held_none (λ v. pos 1) copies_at nodes, rim_ones (rim_states us xs) (rim (count_below copies_at nodes) us) (states_length (count_below copies_at nodes) us xs lx), rim_trues us xs, units_weight (λ v. pos 1) nodes copies_at (λ v. 0) (count_below copies_at nodes) us xs lx at (λ v. omega (arith, fx v))))
+        with_k : (k : ℕ) × (picked (at_ends (λ v. pos 1)) (units_marks copies_at (λ v. 0) us xs)
+            (units_links copies_at (count_below copies_at nodes) us) ≡ pos (2 * k))
+            → (k : ℕ) × (pos (2 * k) +ℤ pos (rim_active us xs) ≡ vertices)
+        with_k (k, e) = (
+          k,
+          omega (
+            arith,
+            ints,
+            e,
+            full,
+            held_none (λ v. pos 1) copies_at nodes,
+            rim_ones (rim_states us xs) (rim (count_below copies_at nodes) us)
+                (states_length (count_below copies_at nodes) us xs lx),
+            rim_trues us xs,
+            units_weight (λ v. pos 1) nodes copies_at (λ v. 0) (count_below copies_at nodes) us xs lx at
+                (λ v. omega (arith, fx v)),
+          ),
+        )
 
-    by_two : (k : ℕ) × (pos (2 * k) +ℤ pos (rim_active us ons) ≡ vertices) → (k : ℕ) × (pos (2 * k) +ℤ pos (rim_active us other) ≡ vertices) → rim_active us ons % 2 ≡ rim_active us other % 2
-    by_two (k, e) (j, f) = (let same : 2 * k + rim_active us ons ≡ 2 * j + rim_active us other = omega (arith, ints, e, f) in omega (arith, same))
+    by_two : (k : ℕ) × (pos (2 * k) +ℤ pos (rim_active us ons) ≡ vertices)
+        → (k : ℕ) × (pos (2 * k) +ℤ pos (rim_active us other) ≡ vertices) → rim_active us ons % 2
+        ≡ rim_active us other % 2
+    by_two (k, e) (j, f) = (let same : 2 * k + rim_active us ons ≡ 2 * j + rim_active us other =
+        omega (arith, ints, e, f) in omega (arith, same))

@@ -1,5 +1,6 @@
 -- Straight runs of a cut from node to node.
-use Rattle.std.proofs.Common.{◌≡◌, ◌⊎◌, ℕ, zero, suc, ◌+◌, ◌-◌, ◌<◌, ◌≤◌, Bool, true, false, Option, Some, None, sym, ◌∙◌, ap, subst, refl, inl, inr, arith}
+use Rattle.std.proofs.Common.{◌≡◌, ◌⊎◌, ℕ, zero, suc, ◌+◌, ◌-◌, ◌<◌, ◌≤◌, Bool, true, false, Option, Some, None, sym}
+use Rattle.std.proofs.Common.{◌∙◌, ap, subst, refl, inl, inr, arith}
 use Rattle.std.proofs.lemmas.Bool.{cases_eq, cases_lt, cases_order, false≢true}
 use Rattle.std.proofs.lemmas.Option.{same_Some}
 use Rattle.def_mesh.specs.HalfEdges.{HalfEdges, IsQuadManifold}
@@ -22,10 +23,20 @@ pub record IsBack (mesh : HalfEdges) (cut : Cut) (node : ℕ → Bool) (s n r : 
   pub run : IsRun mesh cut node r n
   pub twin : (k j : ℕ) → k + suc j ≡ n → mesh.twin (easts mesh s k) ≡ Some (easts mesh r j)
 
-module _ (mesh : HalfEdges) (laws : IsQuadManifold mesh) (cut : Cut) (full : IsCut mesh cut) (node : ℕ → Bool) (nodes : AreNodes mesh cut node) where
+module _ (mesh : HalfEdges) (laws : IsQuadManifold mesh) (cut : Cut) (full : IsCut mesh cut) (node : ℕ
+    → Bool) (nodes : AreNodes mesh cut node) where
   -- Where the next dart has a twin.
-  straight : (d t : ℕ) → d < mesh.count → mesh.twin (mesh.next d) ≡ Some t → cut (mesh.next t) ≡ true → GoesStraight mesh cut d
-  straight d t l is on = record { over = is ∙ ap Some (sym (laws.prev_next t) ∙ ap mesh.prev (sym e)); low = subst (λ (x : ℕ). x < mesh.count) (sym e) (laws.next_low t (laws.twin_low (mesh.next d) t (laws.next_low d l) is)); from = ap mesh.from e ∙ (laws.twin_ends (mesh.next d) t (laws.next_low d l) is).1; on = ap cut e ∙ on }
+  straight : (d t : ℕ) → d < mesh.count → mesh.twin (mesh.next d) ≡ Some t → cut (mesh.next t) ≡ true
+      → GoesStraight mesh cut d
+  straight d t l is on = record {
+    over = is ∙ ap Some (sym (laws.prev_next t) ∙ ap mesh.prev (sym e));
+    low =
+        subst (λ (x : ℕ). x < mesh.count) (sym e)
+        (laws.next_low t (laws.twin_low (mesh.next d) t (laws.next_low d l) is));
+    from =
+        ap mesh.from e ∙ (laws.twin_ends (mesh.next d) t (laws.next_low d l) is).1;
+    on = ap cut e ∙ on;
+  }
     where
       e : step_east mesh d ≡ mesh.next t
       e = ap (λ o. mesh.next (or_zero o)) is
@@ -35,30 +46,43 @@ module _ (mesh : HalfEdges) (laws : IsQuadManifold mesh) (cut : Cut) (full : IsC
   on_from d l on inner = by_twin (mesh.twin d) refl
     where
       no_corner : cut (mesh.next d) ≡ true → ⊥
-      no_corner c = false≢true (sym inner ∙ nodes.corner (mesh.next d) (laws.next_low d l) c (ap cut (laws.prev_next d) ∙ on))
+      no_corner c = false≢true (sym inner ∙ nodes.corner (mesh.next d) (laws.next_low d l) c (ap cut (laws.prev_next d)
+          ∙ on))
 
       by_gap : GoesOn mesh cut d → GoesStraight mesh cut d
       by_gap (inl c) = absurd (no_corner c)
       by_gap (inr g) = straight d g.0 l g.1 g.2
 
       by_twin : (o : Option ℕ) → mesh.twin d ≡ o → GoesStraight mesh cut d
-      by_twin None is = let a : (t : ℕ) × (mesh.twin (mesh.next d) ≡ Some t) × (mesh.twin (mesh.next t) ≡ None) = nodes.along d l is inner in
-          straight d a.0 l a.1 (full.boundary (mesh.next a.0) (laws.next_low a.0 (laws.twin_low (mesh.next d) a.0 (laws.next_low d l) a.1)) a.2)
+      by_twin None is = let a : (t : ℕ) × (mesh.twin (mesh.next d) ≡ Some t) × (mesh.twin (mesh.next t) ≡ None) =
+          nodes.along d l is inner in
+          straight d a.0 l a.1 (full.boundary (mesh.next a.0)
+          (laws.next_low a.0 (laws.twin_low (mesh.next d) a.0 (laws.next_low d l) a.1)) a.2)
       by_twin (Some t) is = by_gap (full.gaps d l on)
 
   -- Straight on is injective.
-  pub east_same : (d e : ℕ) → d < mesh.count → e < mesh.count → mesh.twin (mesh.next d) ≡ Some (mesh.prev (step_east mesh d)) → mesh.twin (mesh.next e) ≡ Some (mesh.prev (step_east mesh e)) → step_east mesh d ≡ step_east mesh e → d ≡ e
-  east_same d e ld le a b s = next_same mesh laws d e (twin_same mesh laws (mesh.next d) (mesh.next e) (mesh.prev (step_east mesh d)) (laws.next_low d ld) (laws.next_low e le) a (b ∙ ap (λ x. Some (mesh.prev x)) (sym s)))
+  pub east_same : (d e : ℕ) → d < mesh.count → e < mesh.count → mesh.twin (mesh.next d)
+      ≡ Some (mesh.prev (step_east mesh d)) → mesh.twin (mesh.next e) ≡ Some (mesh.prev (step_east mesh e))
+      → step_east mesh d ≡ step_east mesh e → d ≡ e
+  east_same d e ld le a b s =
+      next_same mesh laws d e (twin_same mesh laws (mesh.next d) (mesh.next e) (mesh.prev (step_east mesh d))
+      (laws.next_low d ld) (laws.next_low e le) a (b ∙ ap (λ x. Some (mesh.prev x)) (sym s)))
 
   -- A walk over inner vertices.
-  pub walked : (s i : ℕ) → s < mesh.count → cut s ≡ true → ((k : ℕ) → k < i → node (end_vertex mesh (easts mesh s k)) ≡ false) → (k : ℕ) → k ≤ i → (easts mesh s k < mesh.count) × (cut (easts mesh s k) ≡ true)
+  pub walked : (s i : ℕ) → s < mesh.count → cut s ≡ true
+      → ((k : ℕ) → k < i → node (end_vertex mesh (easts mesh s k)) ≡ false) → (k : ℕ) → k ≤ i
+      → (easts mesh s k < mesh.count) × (cut (easts mesh s k) ≡ true)
   walked s i l on inner zero h = (l, on)
   walked s i l on inner (suc k) h = step (walked s i l on inner k (omega arith))
     where
-      step : (easts mesh s k < mesh.count) × (cut (easts mesh s k) ≡ true) → (easts mesh s (suc k) < mesh.count) × (cut (easts mesh s (suc k)) ≡ true)
-      step w = let g : GoesStraight mesh cut (easts mesh s k) = on_from (easts mesh s k) w.0 w.1 (inner k (omega arith)) in (g.low, g.on)
+      step : (easts mesh s k < mesh.count) × (cut (easts mesh s k) ≡ true) → (easts mesh s (suc k) < mesh.count)
+          × (cut (easts mesh s (suc k)) ≡ true)
+      step w = let g : GoesStraight mesh cut (easts mesh s k) =
+          on_from (easts mesh s k) w.0 w.1 (inner k (omega arith)) in (g.low, g.on)
 
-  pub walk_done : (s i : ℕ) → s < mesh.count → cut s ≡ true → node (mesh.from s) ≡ true → ((k : ℕ) → k < i → node (end_vertex mesh (easts mesh s k)) ≡ false) → node (end_vertex mesh (easts mesh s i)) ≡ true → IsRun mesh cut node s (i + 1)
+  pub walk_done : (s i : ℕ) → s < mesh.count → cut s ≡ true → node (mesh.from s) ≡ true
+      → ((k : ℕ) → k < i → node (end_vertex mesh (easts mesh s k)) ≡ false) → node (end_vertex mesh (easts mesh s i))
+      ≡ true → IsRun mesh cut node s (i + 1)
   walk_done s i l on begins inner ends = record {
     some = omega arith;
     low = l;
@@ -68,8 +92,12 @@ module _ (mesh : HalfEdges) (laws : IsQuadManifold mesh) (cut : Cut) (full : IsC
     ends = λ k e. let same : k ≡ i = omega arith in ap (λ x. node (end_vertex mesh (easts mesh s x))) same ∙ ends;
   }
 
-  pub walk_never : (s i : ℕ) → s < mesh.count → cut s ≡ true → node (mesh.from s) ≡ true → ((k : ℕ) → k < i → node (end_vertex mesh (easts mesh s k)) ≡ false) → mesh.count ≤ i → ⊥
-  walk_never s i l on begins inner far = by_round (comes_back mesh.count (easts mesh s) (λ k h. (walked s i l on inner k (omega arith)).0) (λ a b la lb e. east_same (easts mesh s a) (easts mesh s b) (low a (omega arith)) (low b (omega arith)) (goes a (omega arith)).over (goes b (omega arith)).over e))
+  pub walk_never : (s i : ℕ) → s < mesh.count → cut s ≡ true → node (mesh.from s) ≡ true
+      → ((k : ℕ) → k < i → node (end_vertex mesh (easts mesh s k)) ≡ false) → mesh.count ≤ i → ⊥
+  walk_never s i l on begins inner far =
+      by_round (comes_back mesh.count (easts mesh s) (λ k h. (walked s i l on inner k (omega arith)).0)
+      (λ a b la lb e. east_same (easts mesh s a) (easts mesh s b) (low a (omega arith)) (low b (omega arith))
+      (goes a (omega arith)).over (goes b (omega arith)).over e))
     where
       low : (k : ℕ) → k ≤ i → easts mesh s k < mesh.count
       low k h = (walked s i l on inner k h).0
@@ -78,26 +106,36 @@ module _ (mesh : HalfEdges) (laws : IsQuadManifold mesh) (cut : Cut) (full : IsC
       goes k h = on_from (easts mesh s k) (low k (omega arith)) (walked s i l on inner k (omega arith)).1 (inner k h)
 
       by_round : (k : ℕ) × (k < mesh.count) × (easts mesh s (suc k) ≡ s) → ⊥
-      by_round r = let h : r.0 < i = omega (arith, r.1) in false≢true (sym (inner r.0 h) ∙ (ap node (sym (goes r.0 h).from) ∙ (ap (λ x. node (mesh.from x)) r.2 ∙ begins)))
+      by_round r = let h : r.0 < i = omega (arith, r.1) in
+          false≢true (sym (inner r.0 h)
+          ∙ (ap node (sym (goes r.0 h).from) ∙ (ap (λ x. node (mesh.from x)) r.2 ∙ begins)))
 
   -- A run.
   pub run_low : (s n : ℕ) → IsRun mesh cut node s n → (k : ℕ) → k < n → easts mesh s k < mesh.count
   run_low s n run zero l = run.low
-  run_low s n run (suc k) l = (on_from (easts mesh s k) (run_low s n run k (omega arith)) (run.on k (omega arith)) (run.inside k l)).low
+  run_low s n run (suc k) l =
+      (on_from (easts mesh s k) (run_low s n run k (omega arith)) (run.on k (omega arith)) (run.inside k l)).low
 
   pub run_goes : (s n : ℕ) → IsRun mesh cut node s n → (k : ℕ) → suc k < n → GoesStraight mesh cut (easts mesh s k)
-  run_goes s n run k l = on_from (easts mesh s k) (run_low s n run k (omega arith)) (run.on k (omega arith)) (run.inside k l)
+  run_goes s n run k l = on_from (easts mesh s k) (run_low s n run k (omega arith)) (run.on k (omega arith))
+      (run.inside k l)
 
-  pub run_inner : (s n : ℕ) → IsRun mesh cut node s n → (k : ℕ) → suc k < n → node (mesh.from (easts mesh s (suc k))) ≡ false
+  pub run_inner : (s n : ℕ) → IsRun mesh cut node s n → (k : ℕ) → suc k < n → node (mesh.from (easts mesh s (suc k)))
+      ≡ false
   run_inner s n run k l = ap node (run_goes s n run k l).from ∙ run.inside k l
 
   -- Two runs with a dart in common are one.
-  pub same_place : (s n r m : ℕ) → IsRun mesh cut node s n → IsRun mesh cut node r m → (k j : ℕ) → k < n → j < m → easts mesh s k ≡ easts mesh r j → (s ≡ r) × (k ≡ j)
+  pub same_place : (s n r m : ℕ) → IsRun mesh cut node s n → IsRun mesh cut node r m → (k j : ℕ) → k < n → j < m
+      → easts mesh s k ≡ easts mesh r j → (s ≡ r) × (k ≡ j)
   same_place s n r m one two zero zero lk lj e = (e, refl)
-  same_place s n r m one two zero (suc j) lk lj e = absurd (false≢true (sym (run_inner r m two j lj) ∙ (ap (λ x. node (mesh.from x)) (sym e) ∙ one.begins)))
-  same_place s n r m one two (suc k) zero lk lj e = absurd (false≢true (sym (run_inner s n one k lk) ∙ (ap (λ x. node (mesh.from x)) e ∙ two.begins)))
+  same_place s n r m one two zero (suc j) lk lj e =
+      absurd (false≢true (sym (run_inner r m two j lj) ∙ (ap (λ x. node (mesh.from x)) (sym e) ∙ one.begins)))
+  same_place s n r m one two (suc k) zero lk lj e =
+      absurd (false≢true (sym (run_inner s n one k lk) ∙ (ap (λ x. node (mesh.from x)) e ∙ two.begins)))
   same_place s n r m one two (suc k) (suc j) lk lj e =
-      let before : easts mesh s k ≡ easts mesh r j = east_same (easts mesh s k) (easts mesh r j) (run_low s n one k (omega arith)) (run_low r m two j (omega arith)) (run_goes s n one k lk).over (run_goes r m two j lj).over e in
+      let before : easts mesh s k ≡ easts mesh r j =
+      east_same (easts mesh s k) (easts mesh r j) (run_low s n one k (omega arith))
+      (run_low r m two j (omega arith)) (run_goes s n one k lk).over (run_goes r m two j lj).over e in
       let p : (s ≡ r) × (k ≡ j) = same_place s n r m one two k j (omega arith) (omega arith) before in
       (p.0, ap suc p.1)
 
@@ -121,8 +159,11 @@ module _ (mesh : HalfEdges) (laws : IsQuadManifold mesh) (cut : Cut) (full : IsC
     pub over : mesh.twin (mesh.next after) ≡ Some (mesh.prev (step_east mesh after))
     pub apart : u ≡ step_east mesh d → ⊥
 
-  pub doubled : (d u : ℕ) → d < mesh.count → cut d ≡ true → node (end_vertex mesh d) ≡ false → mesh.twin d ≡ Some u → IsDouble d u
-  doubled d u l on inner tw = by_cross (nodes.through u d lu (full.alike d u l tw ∙ on) (laws.twin_twin d u l tw) (ap node (laws.twin_ends d u l tw).0 ∙ inner))
+  pub doubled : (d u : ℕ) → d < mesh.count → cut d ≡ true → node (end_vertex mesh d) ≡ false → mesh.twin d ≡ Some u
+      → IsDouble d u
+  doubled d u l on inner tw =
+      by_cross (nodes.through u d lu (full.alike d u l tw ∙ on) (laws.twin_twin d u l tw)
+      (ap node (laws.twin_ends d u l tw).0 ∙ inner))
     where
       lu : u < mesh.count
       lu = laws.twin_low d u l tw
@@ -132,13 +173,17 @@ module _ (mesh : HalfEdges) (laws : IsQuadManifold mesh) (cut : Cut) (full : IsC
           let la : a < mesh.count = turn_low mesh laws u a lu is.first in
           let lb : b < mesh.count = turn_low mesh laws a b la is.second in
           let lc : c < mesh.count = turn_low mesh laws b c lb is.third in
-          let last : mesh.prev c ≡ d = same_Some (mesh.prev c) d (sym (laws.twin_twin (mesh.prev c) u (laws.prev_low c lc) is.last) ∙ laws.twin_twin d u l tw) in
+          let last : mesh.prev c ≡ d =
+          same_Some (mesh.prev c) d (sym (laws.twin_twin (mesh.prev c) u (laws.prev_low c lc) is.last)
+          ∙ laws.twin_twin d u l tw) in
           let right : c ≡ mesh.next d = sym (laws.next_prev c) ∙ ap mesh.next last in
-          let over : mesh.twin (mesh.next d) ≡ Some (mesh.prev b) = ap mesh.twin (sym right) ∙ laws.twin_twin (mesh.prev b) c (laws.prev_low b lb) is.third in
+          let over : mesh.twin (mesh.next d) ≡ Some (mesh.prev b) = ap mesh.twin (sym right)
+          ∙ laws.twin_twin (mesh.prev b) c (laws.prev_low b lb) is.third in
           let ahead : step_east mesh d ≡ b = ap (λ o. mesh.next (or_zero o)) over ∙ laws.next_prev b in
           let tb : mesh.twin b ≡ Some (mesh.prev a) = laws.twin_twin (mesh.prev a) b (laws.prev_low a la) is.second in
           let ta : mesh.twin a ≡ Some (mesh.prev u) = laws.twin_twin (mesh.prev u) a (laws.prev_low u lu) is.first in
-          let home : step_east mesh (mesh.prev a) ≡ u = ap (λ x. mesh.next (or_zero (mesh.twin x))) (laws.next_prev a) ∙ (ap (λ o. mesh.next (or_zero o)) ta ∙ laws.next_prev u) in
+          let home : step_east mesh (mesh.prev a) ≡ u = ap (λ x. mesh.next (or_zero (mesh.twin x))) (laws.next_prev a)
+          ∙ (ap (λ o. mesh.next (or_zero o)) ta ∙ laws.next_prev u) in
           record {
             after = mesh.prev a;
             is = ap mesh.twin ahead ∙ tb;
@@ -151,60 +196,81 @@ module _ (mesh : HalfEdges) (laws : IsQuadManifold mesh) (cut : Cut) (full : IsC
       by_cross : HasCross mesh u → IsDouble d u
       by_cross c = at c.0 c.1 c.2 c.3
 
-  twin_before : (d e : ℕ) → d < mesh.count → GoesStraight mesh cut d → node (end_vertex mesh d) ≡ false → mesh.twin (step_east mesh d) ≡ Some e → (u : ℕ) × (mesh.twin d ≡ Some u)
-  twin_before d e l goes inner tw = by_cross (nodes.through (step_east mesh d) e goes.low goes.on tw (ap node goes.from ∙ inner))
+  twin_before : (d e : ℕ) → d < mesh.count → GoesStraight mesh cut d → node (end_vertex mesh d) ≡ false
+      → mesh.twin (step_east mesh d) ≡ Some e → (u : ℕ) × (mesh.twin d ≡ Some u)
+  twin_before d e l goes inner tw =
+      by_cross (nodes.through (step_east mesh d) e goes.low goes.on tw (ap node goes.from ∙ inner))
     where
       at : (a b c : ℕ) → IsCross mesh (step_east mesh d) a b c → (u : ℕ) × (mesh.twin d ≡ Some u)
       at a b c is =
-          let first : a ≡ mesh.next d = same_Some a (mesh.next d) (sym is.first ∙ laws.twin_twin (mesh.next d) (mesh.prev (step_east mesh d)) (laws.next_low d l) goes.over) in
+          let first : a ≡ mesh.next d =
+          same_Some a (mesh.next d) (sym is.first ∙ laws.twin_twin (mesh.next d) (mesh.prev (step_east mesh d))
+          (laws.next_low d l) goes.over) in
           (b, ap mesh.twin (sym (laws.prev_next d) ∙ ap mesh.prev (sym first)) ∙ is.second)
 
       by_cross : HasCross mesh (step_east mesh d) → (u : ℕ) × (mesh.twin d ≡ Some u)
       by_cross c = at c.0 c.1 c.2 c.3
 
   -- Where one dart of a run has a twin, each has.
-  twins_after : (s n : ℕ) → IsRun mesh cut node s n → (k : ℕ) → (u : ℕ) × (mesh.twin (easts mesh s k) ≡ Some u) → (j : ℕ) → k ≤ j → j < n → (u : ℕ) × (mesh.twin (easts mesh s j) ≡ Some u)
-  twins_after s n run k u zero h l = let e : k ≡ 0 = omega arith in (u.0, ap (λ x. mesh.twin (easts mesh s x)) (sym e) ∙ u.1)
+  twins_after : (s n : ℕ) → IsRun mesh cut node s n → (k : ℕ) → (u : ℕ) × (mesh.twin (easts mesh s k) ≡ Some u)
+      → (j : ℕ) → k ≤ j → j < n → (u : ℕ) × (mesh.twin (easts mesh s j) ≡ Some u)
+  twins_after s n run k u zero h l = let e : k ≡ 0 = omega arith in
+      (u.0, ap (λ x. mesh.twin (easts mesh s x)) (sym e) ∙ u.1)
   twins_after s n run k u (suc j) h l = by_place (cases_eq k (suc j)) (twins_after s n run k u j)
     where
-      by_place : (k ≡ suc j) ⊎ (k ≡ suc j → ⊥) → (k ≤ j → j < n → (u : ℕ) × (mesh.twin (easts mesh s j) ≡ Some u)) → (u : ℕ) × (mesh.twin (easts mesh s (suc j)) ≡ Some u)
+      by_place : (k ≡ suc j) ⊎ (k ≡ suc j → ⊥) → (k ≤ j → j < n → (u : ℕ) × (mesh.twin (easts mesh s j) ≡ Some u))
+          → (u : ℕ) × (mesh.twin (easts mesh s (suc j)) ≡ Some u)
       by_place (inl e) rest = (u.0, ap (λ x. mesh.twin (easts mesh s x)) (sym e) ∙ u.1)
       by_place (inr ne) rest =
           let b : (u : ℕ) × (mesh.twin (easts mesh s j) ≡ Some u) = rest (omega arith) (omega arith) in
-          let d : IsDouble (easts mesh s j) b.0 = doubled (easts mesh s j) b.0 (run_low s n run j (omega arith)) (run.on j (omega arith)) (run.inside j l) b.1 in
+          let d : IsDouble (easts mesh s j) b.0 = doubled (easts mesh s j) b.0 (run_low s n run j (omega arith))
+          (run.on j (omega arith)) (run.inside j l) b.1 in
           (d.after, d.is)
 
-  twins_before : (s n : ℕ) → IsRun mesh cut node s n → (k : ℕ) → k < n → (u : ℕ) × (mesh.twin (easts mesh s k) ≡ Some u) → (u : ℕ) × (mesh.twin s ≡ Some u)
+  twins_before : (s n : ℕ) → IsRun mesh cut node s n → (k : ℕ) → k < n → (u : ℕ) × (mesh.twin (easts mesh s k) ≡ Some u)
+      → (u : ℕ) × (mesh.twin s ≡ Some u)
   twins_before s n run zero l u = u
-  twins_before s n run (suc k) l u = twins_before s n run k (omega arith) (twin_before (easts mesh s k) u.0 (run_low s n run k (omega arith)) (run_goes s n run k l) (run.inside k l) u.1)
+  twins_before s n run (suc k) l u =
+      twins_before s n run k (omega arith) (twin_before (easts mesh s k) u.0 (run_low s n run k (omega arith))
+      (run_goes s n run k l) (run.inside k l) u.1)
 
-  pub twins_all : (s n : ℕ) → IsRun mesh cut node s n → (k u : ℕ) → k < n → mesh.twin (easts mesh s k) ≡ Some u → (j : ℕ) → j < n → (v : ℕ) × (mesh.twin (easts mesh s j) ≡ Some v)
+  pub twins_all : (s n : ℕ) → IsRun mesh cut node s n → (k u : ℕ) → k < n → mesh.twin (easts mesh s k) ≡ Some u
+      → (j : ℕ) → j < n → (v : ℕ) × (mesh.twin (easts mesh s j) ≡ Some v)
   twins_all s n run k u l tw j lj = twins_after s n run 0 (twins_before s n run k l (u, tw)) j (omega arith) lj
 
   -- So the twins are a run.
-  pub back_run : (s n : ℕ) → IsRun mesh cut node s n → (k u : ℕ) → k < n → mesh.twin (easts mesh s k) ≡ Some u → (r : ℕ) × IsBack mesh cut node s n r
-  back_run s n run k u l tw = by_last (n - 1) (omega (arith, run.some)) (twins_all s n run k u l tw (n - 1) (omega (arith, run.some)))
+  pub back_run : (s n : ℕ) → IsRun mesh cut node s n → (k u : ℕ) → k < n → mesh.twin (easts mesh s k) ≡ Some u
+      → (r : ℕ) × IsBack mesh cut node s n r
+  back_run s n run k u l tw =
+      by_last (n - 1) (omega (arith, run.some)) (twins_all s n run k u l tw (n - 1) (omega (arith, run.some)))
     where
-      by_last : (e : ℕ) → suc e ≡ n → (r : ℕ) × (mesh.twin (easts mesh s e) ≡ Some r) → (r : ℕ) × IsBack mesh cut node s n r
+      by_last : (e : ℕ) → suc e ≡ n → (r : ℕ) × (mesh.twin (easts mesh s e) ≡ Some r)
+          → (r : ℕ) × IsBack mesh cut node s n r
       by_last e far last = (last.0, record { run = is_run; twin = twins })
         where
           twins : (k j : ℕ) → k + suc j ≡ n → mesh.twin (easts mesh s k) ≡ Some (easts mesh last.0 j)
           twins k zero sum = let same : k ≡ e = omega arith in ap (λ x. mesh.twin (easts mesh s x)) same ∙ last.1
           twins k (suc j) sum = step (twins (suc k) j (omega arith))
             where
-              step : mesh.twin (easts mesh s (suc k)) ≡ Some (easts mesh last.0 j) → mesh.twin (easts mesh s k) ≡ Some (easts mesh last.0 (suc j))
+              step : mesh.twin (easts mesh s (suc k)) ≡ Some (easts mesh last.0 j) → mesh.twin (easts mesh s k)
+                  ≡ Some (easts mesh last.0 (suc j))
               step next =
                   let lk : suc k < n = omega arith in
-                  let b : (u : ℕ) × (mesh.twin (easts mesh s k) ≡ Some u) = twin_before (easts mesh s k) (easts mesh last.0 j) (run_low s n run k (omega arith)) (run_goes s n run k lk) (run.inside k lk) next in
-                  let d : IsDouble (easts mesh s k) b.0 = doubled (easts mesh s k) b.0 (run_low s n run k (omega arith)) (run.on k (omega arith)) (run.inside k lk) b.1 in
-                  let same : d.after ≡ easts mesh last.0 j = same_Some d.after (easts mesh last.0 j) (sym d.is ∙ next) in
+                  let b : (u : ℕ) × (mesh.twin (easts mesh s k) ≡ Some u) =
+                  twin_before (easts mesh s k) (easts mesh last.0 j) (run_low s n run k (omega arith))
+                  (run_goes s n run k lk) (run.inside k lk) next in
+                  let d : IsDouble (easts mesh s k) b.0 = doubled (easts mesh s k) b.0 (run_low s n run k (omega arith))
+                  (run.on k (omega arith)) (run.inside k lk) b.1 in
+                  let same : d.after ≡ easts mesh last.0 j =
+                  same_Some d.after (easts mesh last.0 j) (sym d.is ∙ next) in
                   b.1 ∙ ap Some (sym d.back ∙ ap (step_east mesh) same)
 
           other : (j : ℕ) → j < n → (k : ℕ) × (k + suc j ≡ n)
           other j lj = (n - suc j, omega arith)
 
           back_to : (j k : ℕ) → k + suc j ≡ n → end_vertex mesh (easts mesh last.0 j) ≡ mesh.from (easts mesh s k)
-          back_to j k sum = (laws.twin_ends (easts mesh s k) (easts mesh last.0 j) (run_low s n run k (omega arith)) (twins k j sum)).1
+          back_to j k sum = (laws.twin_ends (easts mesh s k) (easts mesh last.0 j) (run_low s n run k (omega arith))
+              (twins k j sum)).1
 
           inner : (j k : ℕ) → k + suc j ≡ n → suc j < n → node (end_vertex mesh (easts mesh last.0 j)) ≡ false
           inner j zero sum lj = absurd (omega arith)
@@ -214,26 +280,40 @@ module _ (mesh : HalfEdges) (laws : IsQuadManifold mesh) (cut : Cut) (full : IsC
           is_run = record {
             some = run.some;
             low = laws.twin_low (easts mesh s e) last.0 (run_low s n run e (omega arith)) last.1;
-            begins = ap node (laws.twin_ends (easts mesh s e) last.0 (run_low s n run e (omega arith)) last.1).0 ∙ run.ends e far;
-            on = λ j lj. let o : (k : ℕ) × (k + suc j ≡ n) = other j lj in let lo : o.0 < n = omega (arith, o.1) in full.alike (easts mesh s o.0) (easts mesh last.0 j) (run_low s n run o.0 lo) (twins o.0 j o.1) ∙ run.on o.0 lo;
+            begins = ap node (laws.twin_ends (easts mesh s e) last.0 (run_low s n run e (omega arith)) last.1).0
+                ∙ run.ends e far;
+            on = λ j lj. let o : (k : ℕ) × (k + suc j ≡ n) = other j lj in let lo : o.0 < n = omega (arith, o.1) in
+                full.alike (easts mesh s o.0) (easts mesh last.0 j) (run_low s n run o.0 lo) (twins o.0 j o.1)
+                ∙ run.on o.0 lo;
             inside = λ j lj. let o : (k : ℕ) × (k + suc j ≡ n) = other j (omega arith) in inner j o.0 o.1 lj;
             ends = λ j e. ap node (back_to j 0 (omega arith)) ∙ run.begins;
           }
 
   -- No run is its own reverse: its middle would be a dart that is its own twin, or that leads back.
-  mirror : (g s n i j : ℕ) → IsRun mesh cut node s n → j ≡ i + g → j < n → mesh.twin (easts mesh s i) ≡ Some (easts mesh s j) → ⊥
-  mirror zero s n i j run e l tw = let same : j ≡ i = omega arith in no_self mesh laws (easts mesh s i) (run_low s n run i (omega arith)) (tw ∙ ap (λ x. Some (easts mesh s x)) same)
-  mirror (suc zero) s n i j run e l tw = let same : j ≡ suc i = omega arith in (doubled (easts mesh s i) (easts mesh s j) (run_low s n run i (omega arith)) (run.on i (omega arith)) (run.inside i (omega arith)) tw).apart (ap (easts mesh s) same)
+  mirror : (g s n i j : ℕ) → IsRun mesh cut node s n → j ≡ i + g → j < n → mesh.twin (easts mesh s i)
+      ≡ Some (easts mesh s j) → ⊥
+  mirror zero s n i j run e l tw = let same : j ≡ i = omega arith in
+      no_self mesh laws (easts mesh s i) (run_low s n run i (omega arith)) (tw ∙ ap (λ x. Some (easts mesh s x)) same)
+  mirror (suc zero) s n i j run e l tw = let same : j ≡ suc i = omega arith in
+      (doubled (easts mesh s i) (easts mesh s j) (run_low s n run i (omega arith)) (run.on i (omega arith))
+      (run.inside i (omega arith)) tw).apart (ap (easts mesh s) same)
   mirror (suc (suc g)) s n i zero run e l tw = absurd (omega arith)
-  mirror (suc (suc g)) s n i (suc j) run e l tw = inner (doubled (easts mesh s i) (easts mesh s (suc j)) (run_low s n run i (omega arith)) (run.on i (omega arith)) (run.inside i (omega arith)) tw) (mirror g s n (suc i) j run (omega arith) (omega arith))
+  mirror (suc (suc g)) s n i (suc j) run e l tw =
+      inner (doubled (easts mesh s i) (easts mesh s (suc j)) (run_low s n run i (omega arith)) (run.on i (omega arith))
+      (run.inside i (omega arith)) tw) (mirror g s n (suc i) j run (omega arith) (omega arith))
     where
-      inner : IsDouble (easts mesh s i) (easts mesh s (suc j)) → (mesh.twin (easts mesh s (suc i)) ≡ Some (easts mesh s j) → ⊥) → ⊥
+      inner : IsDouble (easts mesh s i) (easts mesh s (suc j))
+          → (mesh.twin (easts mesh s (suc i)) ≡ Some (easts mesh s j) → ⊥) → ⊥
       inner d rest =
-          let same : d.after ≡ easts mesh s j = east_same d.after (easts mesh s j) d.low (run_low s n run j (omega arith)) d.over (run_goes s n run j l).over d.back in
+          let same : d.after ≡ easts mesh s j =
+          east_same d.after (easts mesh s j) d.low (run_low s n run j (omega arith)) d.over
+          (run_goes s n run j l).over d.back in
           rest (d.is ∙ ap Some same)
 
-  pub no_mirror : (s n i j : ℕ) → IsRun mesh cut node s n → i < n → j < n → mesh.twin (easts mesh s i) ≡ Some (easts mesh s j) → ⊥
+  pub no_mirror : (s n i j : ℕ) → IsRun mesh cut node s n → i < n → j < n → mesh.twin (easts mesh s i)
+      ≡ Some (easts mesh s j) → ⊥
   no_mirror s n i j run li lj tw = elim (cases_lt j i) [
-    | inl l ↦ mirror (i - j) s n j i run (omega arith) li (laws.twin_twin (easts mesh s i) (easts mesh s j) (run_low s n run i li) tw)
+    | inl l ↦ mirror (i - j) s n j i run (omega arith) li (laws.twin_twin (easts mesh s i) (easts mesh s j)
+        (run_low s n run i li) tw)
     | inr g ↦ mirror (j - i) s n i j run (omega arith) lj tw
   ]

@@ -1,5 +1,6 @@
 -- The new faces patch by patch: those of a patch stand one after the other, row by row.
-use Rattle.std.proofs.Common.{◌≡◌, ℕ, zero, suc, ◌+◌, ◌*◌, ◌/◌, ◌%◌, ◌<◌, List, [], ◌∷◌, ◌++◌, map, refl, sym, ◌∙◌, ap, ap₂, append_assoc, append-nil, arith}
+use Rattle.std.proofs.Common.{◌≡◌, ℕ, zero, suc, ◌+◌, ◌*◌, ◌/◌, ◌%◌, ◌<◌, List, [], ◌∷◌, ◌++◌, map, refl, sym, ◌∙◌, ap}
+use Rattle.std.proofs.Common.{ap₂, append_assoc, append-nil, arith}
 use Rattle.std.specs.List.{flat_map, range_with_len}
 use Rattle.std.proofs.lemmas.Grind.{flat_map-append}
 use Rattle.std.proofs.lemmas.List.FromFn.{map-range_with_len_more}
@@ -12,9 +13,11 @@ use Rattle.written_laws.proofs.Runs.{run_place}
 
 -- Numbers up to a sum are those up to its first term, and as many behind them as the other.
 range_join : {X : Type 0} (item : ℕ → X) (a n : ℕ)
-    → map item (range_with_len 0 (a + n)) ≡ map item (range_with_len 0 a) ++ map (λ k. item (a + k)) (range_with_len 0 n)
+    → map item (range_with_len 0 (a + n)) ≡ map item (range_with_len 0 a)
+    ++ map (λ k. item (a + k)) (range_with_len 0 n)
 range_join item a zero =
-    let e : a + zero ≡ a = omega arith in ap (λ k. map item (range_with_len 0 k)) e ∙ sym (append-nil (map item (range_with_len 0 a)))
+    let e : a + zero ≡ a = omega arith in ap (λ k. map item (range_with_len 0 k)) e
+    ∙ sym (append-nil (map item (range_with_len 0 a)))
 range_join item a (suc n) =
     let e : a + suc n ≡ a + n + 1 = omega arith in
     let one : n + 1 ≡ suc n = omega arith in
@@ -22,7 +25,8 @@ range_join item a (suc n) =
     ∙ map-range_with_len_more item 0 (a + n) (a + n) (omega arith)
     ∙ ap (λ xs. xs ++ item (a + n) ∷ []) (range_join item a n)
     ∙ append_assoc (map item (range_with_len 0 a)) (map (λ k. item (a + k)) (range_with_len 0 n)) (item (a + n) ∷ [])
-    ∙ ap (λ xs. map item (range_with_len 0 a) ++ xs) (sym (map-range_with_len_more (λ k. item (a + k)) 0 n n (omega arith)))
+    ∙ ap (λ xs. map item (range_with_len 0 a) ++ xs)
+    (sym (map-range_with_len_more (λ k. item (a + k)) 0 n n (omega arith)))
     ∙ ap (λ m. map item (range_with_len 0 a) ++ map (λ k. item (a + k)) (range_with_len 0 m)) one
 
 module _ (l : Layout) (x : Lengths) where
@@ -31,7 +35,8 @@ module _ (l : Layout) (x : Lengths) where
   cell_dart p k = dart p (k % wide l x p) (k / wide l x p) south
 
   -- Its number is that of the cells before the patch, and k.
-  pub cell_is : (p k : ℕ) → p < l.patches → k < wide l x p * high l x p → dart_of l x (cells_before l x p + k) south ≡ cell_dart p k
+  pub cell_is : (p k : ℕ) → p < l.patches → k < wide l x p * high l x p → dart_of l x (cells_before l x p + k) south
+      ≡ cell_dart p k
   cell_is p k low less = λ t. record {
     patch = patch t;
     i = place t % wide l x (patch t);
@@ -47,7 +52,8 @@ module _ (l : Layout) (x : Lengths) where
 
   -- What is put together cell by cell is put together patch by patch.
   pub by_patches : {X : Type 0} (item : CellDart → X) (text : X → List ℕ) (n : ℕ) → n < l.patches + 1
-      → flat_map (λ p. flat_map text (map (λ k. item (cell_dart p k)) (range_with_len 0 (wide l x p * high l x p)))) (map (λ p. p) (range_with_len 0 n))
+      → flat_map (λ p. flat_map text (map (λ k. item (cell_dart p k)) (range_with_len 0 (wide l x p * high l x p))))
+      (map (λ p. p) (range_with_len 0 n))
       ≡ flat_map text (map (λ f. item (dart_of l x f south)) (range_with_len 0 (cells_before l x n)))
   by_patches item text zero low = refl
   by_patches item text (suc n) low =
@@ -56,7 +62,8 @@ module _ (l : Layout) (x : Lengths) where
       ap (λ m. flat_map whole (map (λ p. p) (range_with_len 0 m))) (sym one)
       ∙ ap (flat_map whole) (map-range_with_len_more (λ p. p) 0 n n (omega arith))
       ∙ flat_map-append whole (map (λ p. p) (range_with_len 0 n)) (n ∷ [])
-      ∙ ap₂ (λ (xs ys : List ℕ). xs ++ ys) (by_patches item text n (omega arith)) (append-nil (whole n) ∙ ap (flat_map text) (here (omega arith)))
+      ∙ ap₂ (λ (xs ys : List ℕ). xs ++ ys) (by_patches item text n (omega arith)) (append-nil (whole n)
+      ∙ ap (flat_map text) (here (omega arith)))
       ∙ sym (flat_map-append text (map (λ f. item (dart_of l x f south)) (range_with_len 0 (cells_before l x n)))
       (map (λ k. item (dart_of l x (cells_before l x n + k) south)) (range_with_len 0 w)))
       ∙ ap (flat_map text) (sym (range_join (λ f. item (dart_of l x f south)) (cells_before l x n) w))
@@ -68,5 +75,6 @@ module _ (l : Layout) (x : Lengths) where
           → map (λ k. item (cell_dart n k)) (range_with_len 0 (wide l x n * high l x n))
           ≡ map (λ k. item (dart_of l x (cells_before l x n + k) south)) (range_with_len 0 (wide l x n * high l x n))
       here n_low =
-          map_range_same (λ k. item (cell_dart n k)) (λ k. item (dart_of l x (cells_before l x n + k) south)) 0 (wide l x n * high l x n)
+          map_range_same (λ k. item (cell_dart n k)) (λ k. item (dart_of l x (cells_before l x n + k) south)) 0
+          (wide l x n * high l x n)
           (λ k from less. ap item (sym (cell_is n k n_low (omega (arith, less)))))

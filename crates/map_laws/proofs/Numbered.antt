@@ -17,7 +17,8 @@ module _ (l : Layout) (new : Lengths) where
   pub at_node : (v : ℕ) → v < l.nodes → point_at l new v ≡ node v
   at_node v low = cond-true (nat_lt v l.nodes) _ _ (lt-ltb _ _ low)
 
-  pub at_arc : (v : ℕ) → l.nodes ≤ v → v < l.nodes + before_arc new l.arcs → point_at l new v ≡ along_arcs l new (v - l.nodes)
+  pub at_arc : (v : ℕ) → l.nodes ≤ v → v < l.nodes + before_arc new l.arcs
+      → point_at l new v ≡ along_arcs l new (v - l.nodes)
   at_arc v from low =
       cond-false (nat_lt v l.nodes) _ _ (le-ltb _ _ from)
       ∙ cond-true (nat_lt v (l.nodes + before_arc new l.arcs)) _ _ (lt-ltb _ _ low)
@@ -49,6 +50,7 @@ module _ (l : Layout) (new : Lengths) where
     | inr le ↦ elim (cases_lt v (l.nodes + before_arc new l.arcs)) [
       | inl less ↦ subst (IsPoint l new) (sym (at_arc v le less)) (along_is (v - l.nodes) (omega (arith, le, less)))
       | inr past ↦
-          subst (IsPoint l new) (sym (at_patch v past)) (inside_is (v - (l.nodes + before_arc new l.arcs)) (omega (arith, past, low)))
+          subst (IsPoint l new) (sym (at_patch v past)) (inside_is (v - (l.nodes + before_arc new l.arcs))
+          (omega (arith, past, low)))
     ]
   ]

@@ -49,7 +49,8 @@ module _ (plan : Plan) (is : IsSomeLayout plan) where
   abbrev cell : (d : CellDart) → ℕ
   cell = cell_dart (half_edges is.faces) plan
 
-  sided : IsEmbedding (half_edges is.faces) (layout_of plan) (long_at plan.arcs) (cell_dart (half_edges is.faces) plan) (vertex_at plan) (dart_at plan.arcs)
+  sided : IsEmbedding (half_edges is.faces) (layout_of plan) (long_at plan.arcs) (cell_dart (half_edges is.faces) plan)
+      (vertex_at plan) (dart_at plan.arcs)
   sided = sides_in_mesh is.faces is.marks plan is.mesh is.quads is.cut is.laid
 
   next_cell : (d : CellDart) → cell (next d) ≡ next_of (cell d)
@@ -58,19 +59,22 @@ module _ (plan : Plan) (is : IsSomeLayout plan) where
   alike : (d e : CellDart) → IsDart l x d → IsDart l x e → dart_start l x d ≡ dart_start l x e
       → from_of is.faces (cell d) ≡ from_of is.faces (cell e)
   alike d e is_d is_e same =
-      (old_model is.faces in_mesh.manifold l x in_mesh.paved in_mesh.lengths cell (vertex_at plan) (dart_at plan.arcs) sided in_mesh.quads).alike
+      (old_model is.faces in_mesh.manifold l x in_mesh.paved in_mesh.lengths cell (vertex_at plan) (dart_at plan.arcs)
+      sided in_mesh.quads).alike
       d e is_d is_e same
 
   -- At each point a dart leaves the old vertex.
   point_vertex : (a : Point) → IsPoint l x a
-      → (d : CellDart) × IsDart l x d × (dart_start l x d ≡ a) × (from_of is.faces (cell d) ≡ old_vertex is.faces plan a)
+      → (d : CellDart) × IsDart l x d × (dart_start l x d ≡ a)
+      × (from_of is.faces (cell d) ≡ old_vertex is.faces plan a)
   point_vertex (node n) low =
       let r : (w : Slot) × IsSlot l w × (start_node l (use_of l w) ≡ n) = laid.reached n low in
       let some : 0 < x (use_of l r.0).arc = use_some l x laid.paved len r.0 r.1 in (
         slot_dart l x r.0 0,
         at_is l x laid.paved len r.0 0 r.1 some,
         at_from l x laid len r.0 0 r.1 some ∙ use_begins l x (use_of l r.0) some ∙ ap node r.2,
-        starts (half_edges is.faces) (manifold_law is.faces in_mesh.manifold) l x in_mesh.paved in_mesh.lengths cell (vertex_at plan) (dart_at plan.arcs) sided r.0 r.1
+        starts (half_edges is.faces) (manifold_law is.faces in_mesh.manifold) l x in_mesh.paved in_mesh.lengths cell
+            (vertex_at plan) (dart_at plan.arcs) sided r.0 r.1
             ∙ ap (vertex_at plan) r.2,
       )
   point_vertex (along a k) low =
@@ -78,8 +82,10 @@ module _ (plan : Plan) (is : IsSomeLayout plan) where
       let less : k < x (use_of l f.0).arc = omega (arith, low.2, ap (λ (u : SideArc). x u.arc) f.2) in (
         slot_dart l x f.0 k,
         at_is l x laid.paved len f.0 k f.1 less,
-        at_from l x laid len f.0 k f.1 less ∙ ap (λ (u : SideArc). use_point l x u k) f.2 ∙ arc_inner l x a k low.1 low.2,
-        ap (from_of is.faces) (sided.ahead f.0 k f.1 less (ap (λ (u : SideArc). u.forward) f.2) ∙ ap (λ (u : SideArc). dart_at plan.arcs u.arc k) f.2),
+        at_from l x laid len f.0 k f.1 less ∙ ap (λ (u : SideArc). use_point l x u k) f.2
+            ∙ arc_inner l x a k low.1 low.2,
+        ap (from_of is.faces) (sided.ahead f.0 k f.1 less (ap (λ (u : SideArc). u.forward) f.2)
+            ∙ ap (λ (u : SideArc). dart_at plan.arcs u.arc k) f.2),
       )
   point_vertex (inside p i j) low = (
     dart p i j south,
@@ -89,14 +95,17 @@ module _ (plan : Plan) (is : IsSomeLayout plan) where
   )
 
   -- It is a vertex of the mesh.
-  pub old_low : (a : Point) → IsPoint (layout_of plan) (long_at plan.arcs) a → old_vertex is.faces plan a < vertex_count is.faces
+  pub old_low : (a : Point) → IsPoint (layout_of plan) (long_at plan.arcs) a
+      → old_vertex is.faces plan a < vertex_count is.faces
   old_low a low =
-      let e = point_vertex a low in subst (λ v. v < vertex_count is.faces) e.3 (all_below is.faces (cell e.0) (sided.low e.0 e.1))
+      let e = point_vertex a low in
+      subst (λ v. v < vertex_count is.faces) e.3 (all_below is.faces (cell e.0) (sided.low e.0 e.1))
 
   old_from : (d : CellDart) → IsDart l x d → old_vertex is.faces plan (dart_start l x d) ≡ from_of is.faces (cell d)
   old_from d is_d = by_vertex (point_vertex (dart_start l x d) (from_is l x laid len d is_d))
     where
-      by_vertex : (e : CellDart) × IsDart l x e × (dart_start l x e ≡ dart_start l x d) × (from_of is.faces (cell e) ≡ old_vertex is.faces plan (dart_start l x d))
+      by_vertex : (e : CellDart) × IsDart l x e × (dart_start l x e ≡ dart_start l x d)
+          × (from_of is.faces (cell e) ≡ old_vertex is.faces plan (dart_start l x d))
           → old_vertex is.faces plan (dart_start l x d) ≡ from_of is.faces (cell d)
       by_vertex e = sym e.3 ∙ alike e.0 d e.1 is_d e.2
 
@@ -104,11 +113,15 @@ module _ (plan : Plan) (is : IsSomeLayout plan) where
   pub record AreCorners (p a b d : ℕ) : Type 0 where
     pub low : d < darts is.faces
     pub south_west : old_vertex is.faces plan (point (layout_of plan) (long_at plan.arcs) p a b) ≡ from_of is.faces d
-    pub south_east : old_vertex is.faces plan (point (layout_of plan) (long_at plan.arcs) p (a + 1) b) ≡ from_of is.faces (next_of d)
-    pub north_east : old_vertex is.faces plan (point (layout_of plan) (long_at plan.arcs) p (a + 1) (b + 1)) ≡ from_of is.faces (next_of (next_of d))
-    pub north_west : old_vertex is.faces plan (point (layout_of plan) (long_at plan.arcs) p a (b + 1)) ≡ from_of is.faces (next_of (next_of (next_of d)))
+    pub south_east : old_vertex is.faces plan (point (layout_of plan) (long_at plan.arcs) p (a + 1) b)
+        ≡ from_of is.faces (next_of d)
+    pub north_east : old_vertex is.faces plan (point (layout_of plan) (long_at plan.arcs) p (a + 1) (b + 1))
+        ≡ from_of is.faces (next_of (next_of d))
+    pub north_west : old_vertex is.faces plan (point (layout_of plan) (long_at plan.arcs) p a (b + 1))
+        ≡ from_of is.faces (next_of (next_of (next_of d)))
 
-  pub corners : (p a b : ℕ) → p < length plan.patches → a < wide (layout_of plan) (long_at plan.arcs) p → b < high (layout_of plan) (long_at plan.arcs) p
+  pub corners : (p a b : ℕ) → p < length plan.patches → a < wide (layout_of plan) (long_at plan.arcs) p
+      → b < high (layout_of plan) (long_at plan.arcs) p
       → AreCorners p a b (cell_of (patch_at plan.patches p) a b)
   corners p a b p_low a_low b_low = record {
     low = sided.low (dart p a b south) (at south);
@@ -117,7 +130,8 @@ module _ (plan : Plan) (is : IsSomeLayout plan) where
     north_east = old_from (dart p a b north) (at north)
         ∙ ap (from_of is.faces) (next_cell (dart p a b east) ∙ ap next_of (next_cell (dart p a b south)));
     north_west = old_from (dart p a b west) (at west)
-        ∙ ap (from_of is.faces) (next_cell (dart p a b north) ∙ ap next_of (next_cell (dart p a b east) ∙ ap next_of (next_cell (dart p a b south))));
+        ∙ ap (from_of is.faces) (next_cell (dart p a b north)
+        ∙ ap next_of (next_cell (dart p a b east) ∙ ap next_of (next_cell (dart p a b south))));
   }
     where
       at : (w : Way) → IsDart l x (dart p a b w)
@@ -132,12 +146,15 @@ module _ (plan : Plan) (is : IsSomeLayout plan) where
   pub ends : (a i : ℕ) → a < length plan.arcs → i < long_at plan.arcs a → AreEnds a i (dart_at plan.arcs a i)
   ends a i a_low i_low = by_slot (laid.forward a a_low)
     where
-      by_slot : (w : Slot) × IsSlot l w × (use_of l w ≡ record { arc = a; forward = true }) → AreEnds a i (dart_at plan.arcs a i)
+      by_slot : (w : Slot) × IsSlot l w × (use_of l w ≡ record { arc = a; forward = true })
+          → AreEnds a i (dart_at plan.arcs a i)
       by_slot f = record {
         low = sided.arc_low a i a_low i_low;
-        first = ap (old_vertex is.faces plan) (sym (at_from l x laid len f.0 i f.1 less ∙ ap (λ (u : SideArc). use_point l x u i) f.2))
+        first = ap (old_vertex is.faces plan)
+            (sym (at_from l x laid len f.0 i f.1 less ∙ ap (λ (u : SideArc). use_point l x u i) f.2))
             ∙ old_from (slot_dart l x f.0 i) is_dart ∙ ap (from_of is.faces) here;
-        last = ap (old_vertex is.faces plan) (sym (at_to l x laid len f.0 i f.1 less ∙ ap (λ (u : SideArc). use_point l x u (i + 1)) f.2))
+        last = ap (old_vertex is.faces plan)
+            (sym (at_to l x laid len f.0 i f.1 less ∙ ap (λ (u : SideArc). use_point l x u (i + 1)) f.2))
             ∙ old_from (next (slot_dart l x f.0 i)) (next_is l x (slot_dart l x f.0 i) is_dart)
             ∙ ap (from_of is.faces) (next_cell (slot_dart l x f.0 i) ∙ ap next_of here);
       }
@@ -149,4 +166,5 @@ module _ (plan : Plan) (is : IsSomeLayout plan) where
           is_dart = at_is l x laid.paved len f.0 i f.1 less
 
           here : cell (slot_dart l x f.0 i) ≡ dart_at plan.arcs a i
-          here = sided.ahead f.0 i f.1 less (ap (λ (u : SideArc). u.forward) f.2) ∙ ap (λ (u : SideArc). dart_at plan.arcs u.arc i) f.2
+          here = sided.ahead f.0 i f.1 less (ap (λ (u : SideArc). u.forward) f.2)
+              ∙ ap (λ (u : SideArc). dart_at plan.arcs u.arc i) f.2

@@ -1,5 +1,6 @@
 -- Chains of neighbours round a vertex: their steps, their ends, one after another, and back.
-use Rattle.std.proofs.Common.{◌≡◌, ◌≢◌, ◌⊎◌, ℕ, zero, suc, ◌+◌, ◌/◌, ◌%◌, ◌<◌, Bool, true, false, not, [], ◌∷◌, sym, subst, ap, ◌∙◌, refl, inl, inr, arith}
+use Rattle.std.proofs.Common.{◌≡◌, ◌≢◌, ◌⊎◌, ℕ, zero, suc, ◌+◌, ◌/◌, ◌%◌, ◌<◌, Bool, true, false, not, [], ◌∷◌, sym}
+use Rattle.std.proofs.Common.{subst, ap, ◌∙◌, refl, inl, inr, arith}
 use Rattle.std.proofs.lemmas.Bool.{cases_lt}
 use Rattle.std.proofs.lemmas.Bool.Decides.{nat_tests}
 use Rattle.def_mesh.specs.Faces.{Faces, corner}
@@ -10,9 +11,12 @@ use Rattle.mesh_laws.proofs.Darts.{prev_of_low, next_of-prev_of, next_face, next
 -- The ends of a dart differ.
 pub ends_differ : (faces : Faces) → IsRepeatFree faces → (d : ℕ) → d < darts faces → from_of faces d ≢ to_of faces d
 ends_differ faces free d l same = elim (cases_lt (d % 4) 3) [
-  | inl b ↦ free (d / 4) (d % 4) (d % 4 + 1) (omega arith) (omega arith) (omega arith) (same ∙ ap (λ f. corner faces f (next_of d % 4)) (next_face d) ∙ ap (corner faces (d / 4)) (next_place d b))
+  | inl b ↦ free (d / 4) (d % 4) (d % 4 + 1) (omega arith) (omega arith) (omega arith) (same
+      ∙ ap (λ f. corner faces f (next_of d % 4)) (next_face d) ∙ ap (corner faces (d / 4)) (next_place d b))
   | inr b ↦ let three : d % 4 ≡ 3 = omega arith in
-      free (d / 4) 0 3 (omega arith) (omega arith) (omega arith) (sym (ap (λ f. corner faces f (next_of d % 4)) (next_face d) ∙ ap (corner faces (d / 4)) (next_first d three)) ∙ sym same ∙ ap (corner faces (d / 4)) three)
+      free (d / 4) 0 3 (omega arith) (omega arith) (omega arith)
+      (sym (ap (λ f. corner faces f (next_of d % 4)) (next_face d) ∙ ap (corner faces (d / 4)) (next_first d three))
+      ∙ sym same ∙ ap (corner faces (d / 4)) three)
 ]
 
 -- Corner e lies beside d: behind the edge of the dart before d to the left, behind that of d to the right.
@@ -50,22 +54,29 @@ step_neighbour faces false d e s = meet_from _ _ _ _ (inl s.2)
 pub neighbour_back : (faces : Faces) (d e : ℕ) → AreNeighbours faces d e → AreNeighbours faces e d
 neighbour_back faces d e n = meet_from _ _ _ _ (by_case (meet_cases _ _ _ _ n))
   where
-    by_case : ShareOne (to_of faces d) (from_of faces (prev_of d)) (to_of faces e) (from_of faces (prev_of e)) → ShareOne (to_of faces e) (from_of faces (prev_of e)) (to_of faces d) (from_of faces (prev_of d))
+    by_case : ShareOne (to_of faces d) (from_of faces (prev_of d)) (to_of faces e) (from_of faces (prev_of e))
+        → ShareOne (to_of faces e) (from_of faces (prev_of e)) (to_of faces d) (from_of faces (prev_of d))
     by_case (inl a) = inr (inl a)
     by_case (inr (inl a)) = inl a
     by_case (inr (inr (inl a))) = inr (inr (inl (sym a)))
     by_case (inr (inr (inr a))) = inr (inr (inr (sym a)))
 
 -- With each edge once, a neighbour is the corner itself or beside it.
-pub neighbour_step : (faces : Faces) → HasEdgesOnce faces → (d e : ℕ) → d < darts faces → e < darts faces → from_of faces d ≡ from_of faces e → AreNeighbours faces d e → (d ≡ e) ⊎ ((left : Bool) × Step faces left d e)
+pub neighbour_step : (faces : Faces) → HasEdgesOnce faces → (d e : ℕ) → d < darts faces → e < darts faces
+    → from_of faces d ≡ from_of faces e → AreNeighbours faces d e → (d ≡ e) ⊎ ((left : Bool) × Step faces left d e)
 neighbour_step faces once d e low high same n = by_case (meet_cases _ _ _ _ n)
   where
-    by_case : ShareOne (to_of faces d) (from_of faces (prev_of d)) (to_of faces e) (from_of faces (prev_of e)) → (d ≡ e) ⊎ ((left : Bool) × Step faces left d e)
+    by_case : ShareOne (to_of faces d) (from_of faces (prev_of d)) (to_of faces e) (from_of faces (prev_of e))
+        → (d ≡ e) ⊎ ((left : Bool) × Step faces left d e)
     by_case (inl a) = inr (false, (low, same ∙ sym (before_from faces e), a))
     by_case (inr (inl a)) = inr (true, (high, sym same ∙ sym (before_from faces d), a))
     by_case (inr (inr (inl a))) = inl (once d e low high (same, a))
     by_case (inr (inr (inr a))) = inl
-        (sym (next_of-prev_of d) ∙ ap next_of (once (prev_of d) (prev_of e) (prev_of_low faces d low) (prev_of_low faces e high) (a, before_from faces d ∙ same ∙ sym (before_from faces e))) ∙ next_of-prev_of e)
+        (sym (next_of-prev_of d)
+        ∙ ap next_of (once (prev_of d) (prev_of e) (prev_of_low faces d low) (prev_of_low faces e high) (
+          a,
+          before_from faces d ∙ same ∙ sym (before_from faces e),
+        )) ∙ next_of-prev_of e)
 
 -- Chains: their ends, one after another, and back.
 pub chain_low : (faces : Faces) (d e n : ℕ) → d < darts faces → Chain faces d e n → e < darts faces
@@ -78,7 +89,8 @@ chain_vertex faces d e (suc n) c = chain_vertex faces d c.0 n c.1 ∙ c.3
 
 pub chain_join : (faces : Faces) (d c e n m : ℕ) → Chain faces d c n → Chain faces c e m → (k : ℕ) × Chain faces d e k
 chain_join faces d c e n zero a b = (n, subst (λ (x : ℕ). Chain faces d x n) b a)
-chain_join faces d c e n (suc m) a b = let j : (k : ℕ) × Chain faces d b.0 k = chain_join faces d c b.0 n m a b.1 in (suc j.0, (b.0, j.1, b.2, b.3, b.4))
+chain_join faces d c e n (suc m) a b = let j : (k : ℕ) × Chain faces d b.0 k = chain_join faces d c b.0 n m a b.1 in
+    (suc j.0, (b.0, j.1, b.2, b.3, b.4))
 
 pub chain_back : (faces : Faces) (d e n : ℕ) → d < darts faces → Chain faces d e n → (k : ℕ) × Chain faces e d k
 chain_back faces d e zero l c = (0, sym c)
@@ -90,7 +102,9 @@ pub twin_differs : (faces : Faces) → IsRepeatFree faces → (d e : ℕ) → d 
 twin_differs faces free d e l is same = ends_differ faces free d l (sym (ap (from_of faces) same) ∙ is.1)
 
 -- One dart lies beside a corner to each side.
-pub step_once : (faces : Faces) → HasEdgesOnce faces → (left : Bool) (d e k : ℕ) → d < darts faces → e < darts faces → k < darts faces → Step faces left d e → Step faces left d k → e ≡ k
+pub step_once : (faces : Faces) → HasEdgesOnce faces → (left : Bool) (d e k : ℕ) → d < darts faces → e < darts faces
+    → k < darts faces → Step faces left d e → Step faces left d k → e ≡ k
 step_once faces once true d e k l m h s t = once e k m h (s.1 ∙ sym t.1, s.2 ∙ sym t.2)
 step_once faces once false d e k l m h s t =
-    sym (next_of-prev_of e) ∙ ap next_of (once (prev_of e) (prev_of k) (prev_of_low faces e m) (prev_of_low faces k h) (sym s.2 ∙ t.2, sym s.1 ∙ t.1)) ∙ next_of-prev_of k
+    sym (next_of-prev_of e) ∙ ap next_of (once (prev_of e) (prev_of k) (prev_of_low faces e m) (prev_of_low faces k h)
+    (sym s.2 ∙ t.2, sym s.1 ∙ t.1)) ∙ next_of-prev_of k

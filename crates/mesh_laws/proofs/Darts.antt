@@ -28,7 +28,8 @@ next_place d l = grind (arith, nat_tests)
 pub next_first : (d : ℕ) → d % 4 ≡ 3 → next_of d % 4 ≡ 0
 next_first d e = grind (arith, nat_tests)
 
-pub two_on : (d : ℕ) → (d % 4 < 2 → next_of (next_of d) % 4 ≡ d % 4 + 2) × (2 ≤ d % 4 → next_of (next_of d) % 4 ≡ d % 4 - 2)
+pub two_on : (d : ℕ) → (d % 4 < 2 → next_of (next_of d) % 4 ≡ d % 4 + 2)
+    × (2 ≤ d % 4 → next_of (next_of d) % 4 ≡ d % 4 - 2)
 two_on d = (λ l. grind (arith, nat_tests), λ l. grind (arith, nat_tests))
 
 -- Four steps lead back.

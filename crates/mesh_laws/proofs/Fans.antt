@@ -17,22 +17,33 @@ pub fan_of_is : (faces : Faces) (v : ℕ) → IsFan faces v (fan_of faces v)
 fan_of_is faces v = record {
   dart = λ t l. omega (arith, (kept t l).high);
   leaves = λ t l. eqb-true _ v (kept t l).passes;
-  place = λ d l e. place_of (λ k. eqb (from_of faces k) v) 0 (darts faces) d (record { low = omega arith; high = omega arith; passes = eq-eqb _ v e });
+  place = λ d l e. place_of (λ k. eqb (from_of faces k) v) 0 (darts faces) d (record {
+    low = omega arith;
+    high =
+        omega arith;
+    passes = eq-eqb _ v e;
+  });
   increasing = rises (λ k. eqb (from_of faces k) v) 0 (darts faces);
 }
   where
-    kept : (t : ℕ) → t < length (fan_of faces v) → IsKept (λ d. eqb (from_of faces d) v) 0 (darts faces) (get_or (fan_of faces v) t 0)
+    kept : (t : ℕ) → t < length (fan_of faces v)
+        → IsKept (λ d. eqb (from_of faces d) v) 0 (darts faces) (get_or (fan_of faces v) t 0)
     kept t l = kept_at (λ d. eqb (from_of faces d) v) 0 (darts faces) t l
 
 pub is_fan : (faces : Faces) (v : ℕ) (fan : List ℕ) → fan ≡ fan_of faces v → IsFan faces v fan
 is_fan faces v fan e = subst (λ (xs : List ℕ). IsFan faces v xs) (sym e) (fan_of_is faces v)
 
 -- A dart that leaves v and is less than that at place i has an earlier place.
-pub earlier_place : (faces : Faces) (v : ℕ) (fan : List ℕ) → IsFan faces v fan → (i j : ℕ) → i < length fan → j < get_or fan i 0 → from_of faces j ≡ v → (t : ℕ) × (t < i) × (get_or fan t 0 ≡ j)
+pub earlier_place : (faces : Faces) (v : ℕ) (fan : List ℕ) → IsFan faces v fan → (i j : ℕ) → i < length fan
+    → j < get_or fan i 0 → from_of faces j ≡ v → (t : ℕ) × (t < i) × (get_or fan t 0 ≡ j)
 earlier_place faces v fan h i j l m e =
     let p : (t : ℕ) × (t < length fan) × (get_or fan t 0 ≡ j) = h.place j (omega (arith, h.dart i l)) e in
     by_order p.0 p.1 p.2 (cases_lt p.0 i)
   where
-    by_order : (t : ℕ) → t < length fan → get_or fan t 0 ≡ j → (t < i) ⊎ (i ≤ t) → (t : ℕ) × (t < i) × (get_or fan t 0 ≡ j)
+    by_order : (t : ℕ) → t < length fan → get_or fan t 0 ≡ j → (t < i) ⊎ (i ≤ t) → (t : ℕ) × (t < i)
+        × (get_or fan t 0 ≡ j)
     by_order t low s (inl b) = (t, b, s)
-    by_order t low s (inr b) = elim (cases_eq i t) [ inl q ↦ absurd (omega (arith, ap (λ x. get_or fan x 0) q)) | inr ne ↦ absurd (omega (arith, h.increasing i t (omega arith) low)) ]
+    by_order t low s (inr b) = elim (cases_eq i t) [
+      | inl q ↦ absurd (omega (arith, ap (λ x. get_or fan x 0) q))
+      | inr ne ↦ absurd (omega (arith, h.increasing i t (omega arith) low))
+    ]

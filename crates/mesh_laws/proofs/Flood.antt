@@ -1,7 +1,9 @@
 -- The flood of a component is exact: it marks just the faces to which chains of shared edges lead.
-use Rattle.std.proofs.Common.{◌≡◌, ◌⊎◌, ℕ, zero, suc, ◌+◌, ◌*◌, ◌<◌, ◌≤◌, Bool, true, false, not, cond, eqb, ◌&&◌, ◌||◌, map, length, sym, subst, ap, ◌∙◌, refl, inl, inr, arith}
+use Rattle.std.proofs.Common.{◌≡◌, ◌⊎◌, ℕ, zero, suc, ◌+◌, ◌*◌, ◌<◌, ◌≤◌, Bool, true, false, not, cond, eqb, ◌&&◌, ◌||◌}
+use Rattle.std.proofs.Common.{map, length, sym, subst, ap, ◌∙◌, refl, inl, inr, arith}
 use Rattle.std.specs.List.{list_any, range_with_len, position_or_len}
-use Rattle.std.proofs.lemmas.Bool.{eq-eqb, eqb-true, cases_Bool, cases_lt, or_left, or_right, or_cases, and_parts, and_from, false≢true, not_from_false}
+use Rattle.std.proofs.lemmas.Bool.{eq-eqb, eqb-true, cases_Bool, cases_lt, or_left, or_right, or_cases, and_parts}
+use Rattle.std.proofs.lemmas.Bool.{and_from, false≢true, not_from_false}
 use Rattle.sum_laws.proofs.Tests.{once_at_most, same_test}
 use Rattle.std.proofs.lemmas.List.{length-map}
 use Rattle.std.proofs.lemmas.List.FromFn.{length-range_with_len, get_or-map-range_with_len}
@@ -16,19 +18,24 @@ use Rattle.def_mesh.specs.Components.{share_edge, is_marked, within, component_o
 -- So many shared edges lead from face f to face g.
 abbrev pub Shares : (faces : Faces) (f g edges : ℕ) → Type 0
 Shares faces f g zero = f ≡ g
-Shares faces f g (suc n) = (h : ℕ) × Shares faces f h n × (h < length faces) × (g < length faces) × (share_edge faces h g ≡ true)
+Shares faces f g (suc n) = (h : ℕ) × Shares faces f h n × (h < length faces) × (g < length faces)
+    × (share_edge faces h g ≡ true)
 
 -- Faces share an edge both ways.
 pub share_back : (faces : Faces) (f g : ℕ) → share_edge faces f g ≡ true → share_edge faces g f ≡ true
 share_back faces f g s =
-    let d : (d : ℕ) × (4 * f ≤ d) × (d < 4 * f + 4) × (list_any (is_reverse faces d) (range_with_len (4 * g) 4) ≡ true) = range_any (λ d. list_any (is_reverse faces d) (range_with_len (4 * g) 4)) (4 * f) 4 s in
+    let d : (d : ℕ) × (4 * f ≤ d) × (d < 4 * f + 4) × (list_any (is_reverse faces d) (range_with_len (4 * g) 4)
+    ≡ true) = range_any (λ d. list_any (is_reverse faces d) (range_with_len (4 * g) 4)) (4 * f) 4 s in
     by_dart d.0 d.1 d.2 (range_any (is_reverse faces d.0) (4 * g) 4 d.3)
   where
-    by_dart : (d : ℕ) → 4 * f ≤ d → d < 4 * f + 4 → (e : ℕ) × (4 * g ≤ e) × (e < 4 * g + 4) × (is_reverse faces d e ≡ true) → share_edge faces g f ≡ true
+    by_dart : (d : ℕ) → 4 * f ≤ d → d < 4 * f + 4 → (e : ℕ) × (4 * g ≤ e) × (e < 4 * g + 4)
+        × (is_reverse faces d e ≡ true) → share_edge faces g f ≡ true
     by_dart d l h (e, m, k, r) =
-        let p : (eqb (from_of faces e) (to_of faces d) ≡ true) × (eqb (to_of faces e) (from_of faces d) ≡ true) = and_parts _ _ r in
+        let p : (eqb (from_of faces e) (to_of faces d) ≡ true) × (eqb (to_of faces e) (from_of faces d) ≡ true) =
+        and_parts _ _ r in
         any_in_range (λ x. list_any (is_reverse faces x) (range_with_len (4 * f) 4)) (4 * g) 4 e m k
-        (any_in_range (is_reverse faces e) (4 * f) 4 d l h (and_from _ _ (eq-eqb _ _ (sym (eqb-true _ _ p.1))) (eq-eqb _ _ (sym (eqb-true _ _ p.0)))))
+        (any_in_range (is_reverse faces e) (4 * f) 4 d l h (and_from _ _ (eq-eqb _ _ (sym (eqb-true _ _ p.1)))
+        (eq-eqb _ _ (sym (eqb-true _ _ p.0)))))
 
 module _ (faces : Faces) where
   shares_low : (f g n : ℕ) → f < length faces → Shares faces f g n → g < length faces
@@ -37,7 +44,8 @@ module _ (faces : Faces) where
 
   pub shares_join : (f g h n m : ℕ) → Shares faces f g n → Shares faces g h m → (k : ℕ) × Shares faces f h k
   shares_join f g h n zero a b = (n, subst (λ (x : ℕ). Shares faces f x n) b a)
-  shares_join f g h n (suc m) a b = let j : (k : ℕ) × Shares faces f b.0 k = shares_join f g b.0 n m a b.1 in (suc j.0, (b.0, j.1, b.2, b.3, b.4))
+  shares_join f g h n (suc m) a b = let j : (k : ℕ) × Shares faces f b.0 k = shares_join f g b.0 n m a b.1 in
+      (suc j.0, (b.0, j.1, b.2, b.3, b.4))
 
   pub shares_back : (f g n : ℕ) → f < length faces → Shares faces f g n → (k : ℕ) × Shares faces g f k
   shares_back f g zero l s = (0, sym s)
@@ -52,25 +60,36 @@ module _ (faces : Faces) where
   pub first_mark : (f g : ℕ) → g < length faces → is_marked (within faces f 0) g ≡ eqb g f
   first_mark f g l = get_or-map-range_with_len (λ x. eqb x f) 0 (length faces) g g false l (omega arith)
 
-  pub next_mark : (f k g : ℕ) → g < length faces → is_marked (within faces f (suc k)) g ≡ (is_marked (within faces f k) g || list_any (λ h. is_marked (within faces f k) h && share_edge faces h g) (all_faces faces))
-  next_mark f k g l = get_or-map-range_with_len (λ x. is_marked (within faces f k) x || list_any (λ h. is_marked (within faces f k) h && share_edge faces h x) (all_faces faces)) 0 (length faces) g g false l (omega arith)
+  pub next_mark : (f k g : ℕ) → g < length faces → is_marked (within faces f (suc k)) g
+      ≡ (is_marked (within faces f k) g || list_any (λ h. is_marked (within faces f k) h && share_edge faces h g)
+      (all_faces faces))
+  next_mark f k g l = get_or-map-range_with_len (λ x. is_marked (within faces f k) x
+      || list_any (λ h. is_marked (within faces f k) h && share_edge faces h x) (all_faces faces)) 0 (length faces) g
+      g false l (omega arith)
 
   grows : (f k g : ℕ) → g < length faces → mark f k g ≡ true → mark f (suc k) g ≡ true
   grows f k g l m = next_mark f k g l ∙ or_left _ _ m
 
-  reaches : (f k h g : ℕ) → h < length faces → g < length faces → mark f k h ≡ true → share_edge faces h g ≡ true → mark f (suc k) g ≡ true
-  reaches f k h g lh lg m s = next_mark f k g lg ∙ or_right _ _ (any_in_range (λ x. mark f k x && share_edge faces x g) 0 (length faces) h (omega arith) (omega arith) (and_from _ _ m s))
+  reaches : (f k h g : ℕ) → h < length faces → g < length faces → mark f k h ≡ true → share_edge faces h g ≡ true
+      → mark f (suc k) g ≡ true
+  reaches f k h g lh lg m s =
+      next_mark f k g lg ∙ or_right _ _ (any_in_range (λ x. mark f k x && share_edge faces x g) 0 (length faces) h
+      (omega arith) (omega arith) (and_from _ _ m s))
 
   -- Each mark has a chain.
-  pub sound : (f k g : ℕ) → f < length faces → g < length faces → is_marked (within faces f k) g ≡ true → (n : ℕ) × Shares faces f g n
+  pub sound : (f k g : ℕ) → f < length faces → g < length faces → is_marked (within faces f k) g ≡ true
+      → (n : ℕ) × Shares faces f g n
   sound f zero g lf lg m = (0, sym (eqb-true g f (sym (first_mark f g lg) ∙ m)))
   sound f (suc k) g lf lg m = by_last (or_cases _ _ (sym (next_mark f k g lg) ∙ m)) (sound f k)
     where
-      by_last : (mark f k g ≡ true) ⊎ (list_any (λ h. mark f k h && share_edge faces h g) (all_faces faces) ≡ true) → ((h : ℕ) → f < length faces → h < length faces → mark f k h ≡ true → (n : ℕ) × Shares faces f h n) → (n : ℕ) × Shares faces f g n
+      by_last : (mark f k g ≡ true) ⊎ (list_any (λ h. mark f k h && share_edge faces h g) (all_faces faces) ≡ true)
+          → ((h : ℕ) → f < length faces → h < length faces → mark f k h ≡ true → (n : ℕ) × Shares faces f h n)
+          → (n : ℕ) × Shares faces f g n
       by_last (inl old) rest = rest g lf lg old
       by_last (inr new) rest = at (range_any (λ h. mark f k h && share_edge faces h g) 0 (length faces) new)
         where
-          at : (h : ℕ) × (0 ≤ h) × (h < 0 + length faces) × ((mark f k h && share_edge faces h g) ≡ true) → (n : ℕ) × Shares faces f g n
+          at : (h : ℕ) × (0 ≤ h) × (h < 0 + length faces) × ((mark f k h && share_edge faces h g) ≡ true)
+              → (n : ℕ) × Shares faces f g n
           at (h, l, u, t) =
               let p : (mark f k h ≡ true) × (share_edge faces h g ≡ true) = and_parts _ _ t in
               let low : h < length faces = omega arith in
@@ -87,11 +106,13 @@ module _ (faces : Faces) where
   stays_stable : (f k : ℕ) → IsStable f k → IsStable f (suc k)
   stays_stable f k stable g l m = by_last (or_cases _ _ (sym (next_mark f (suc k) g l) ∙ m))
     where
-      by_last : (mark f (suc k) g ≡ true) ⊎ (list_any (λ h. mark f (suc k) h && share_edge faces h g) (all_faces faces) ≡ true) → mark f (suc k) g ≡ true
+      by_last : (mark f (suc k) g ≡ true) ⊎ (list_any (λ h. mark f (suc k) h && share_edge faces h g) (all_faces faces)
+          ≡ true) → mark f (suc k) g ≡ true
       by_last (inl old) = old
       by_last (inr new) = at (range_any (λ h. mark f (suc k) h && share_edge faces h g) 0 (length faces) new)
         where
-          at : (h : ℕ) × (0 ≤ h) × (h < 0 + length faces) × ((mark f (suc k) h && share_edge faces h g) ≡ true) → mark f (suc k) g ≡ true
+          at : (h : ℕ) × (0 ≤ h) × (h < 0 + length faces) × ((mark f (suc k) h && share_edge faces h g) ≡ true)
+              → mark f (suc k) g ≡ true
           at (h, low, u, t) =
               let p : (mark f (suc k) h ≡ true) × (share_edge faces h g ≡ true) = and_parts _ _ t in
               let lh : h < length faces = omega arith in
@@ -104,37 +125,62 @@ module _ (faces : Faces) where
   one_more b c off on = rw (off, on) (omega arith)
 
   stable_or_more : (f k : ℕ) → f < length faces → IsStable f k ⊎ (suc k ≤ size f k)
-  stable_or_more f zero lf = inr (omega (arith, count_below_none (λ g. 0) (length faces) (λ k l. refl), count_below_lt (λ g. 0) (λ g. cond (mark f 0 g) 1 0) (length faces) f lf (λ k l. omega arith) (one_more false (mark f 0 f) refl (first_mark f f lf ∙ eq-eqb f f refl))))
+  stable_or_more f zero lf =
+      inr (omega (
+        arith,
+        count_below_none (λ g. 0) (length faces) (λ k l. refl),
+        count_below_lt (λ g. 0) (λ g. cond (mark f 0 g) 1 0) (length faces) f lf (λ k l. omega arith)
+            (one_more false (mark f 0 f) refl (first_mark f f lf ∙ eq-eqb f f refl)),
+      ))
   stable_or_more f (suc k) lf = by_before (stable_or_more f k lf)
     where
-      by_search : suc k ≤ size f k → (list_any (λ g. mark f (suc k) g && not (mark f k g)) (all_faces faces) ≡ true) ⊎ (list_any (λ g. mark f (suc k) g && not (mark f k g)) (all_faces faces) ≡ false) → IsStable f (suc k) ⊎ (suc (suc k) ≤ size f (suc k))
+      by_search : suc k ≤ size f k → (list_any (λ g. mark f (suc k) g && not (mark f k g)) (all_faces faces) ≡ true)
+          ⊎ (list_any (λ g. mark f (suc k) g && not (mark f k g)) (all_faces faces) ≡ false) → IsStable f (suc k)
+          ⊎ (suc (suc k) ≤ size f (suc k))
       by_search big (inl new) = at (range_any (λ g. mark f (suc k) g && not (mark f k g)) 0 (length faces) new)
         where
           unmarked : (b : Bool) → not b ≡ true → b ≡ false
           unmarked b e = grind (arith)
 
-          at : (g : ℕ) × (0 ≤ g) × (g < 0 + length faces) × ((mark f (suc k) g && not (mark f k g)) ≡ true) → IsStable f (suc k) ⊎ (suc (suc k) ≤ size f (suc k))
+          at : (g : ℕ) × (0 ≤ g) × (g < 0 + length faces) × ((mark f (suc k) g && not (mark f k g)) ≡ true)
+              → IsStable f (suc k) ⊎ (suc (suc k) ≤ size f (suc k))
           at (g, l, u, t) =
               let p : (mark f (suc k) g ≡ true) × (not (mark f k g) ≡ true) = and_parts _ _ t in
-              let less : size f k < size f (suc k) = count_below_lt (λ h. cond (mark f k h) 1 0) (λ h. cond (mark f (suc k) h) 1 0) (length faces) g (omega arith) (λ h lh. more_at (mark f k h) (mark f (suc k) h) (grows f k h lh)) (one_more (mark f k g) (mark f (suc k) g) (unmarked (mark f k g) p.1) p.0) in
+              let less : size f k < size f (suc k) =
+              count_below_lt (λ h. cond (mark f k h) 1 0) (λ h. cond (mark f (suc k) h) 1 0) (length faces) g
+              (omega arith) (λ h lh. more_at (mark f k h) (mark f (suc k) h) (grows f k h lh))
+              (one_more (mark f k g) (mark f (suc k) g) (unmarked (mark f k g) p.1) p.0) in
               inr (omega arith)
       by_search big (inr none) = inl (stays_stable f k (λ g l m. at g l m (cases_Bool (mark f k g))))
         where
-          at : (g : ℕ) → g < length faces → mark f (suc k) g ≡ true → (mark f k g ≡ true) ⊎ (mark f k g ≡ false) → mark f k g ≡ true
+          at : (g : ℕ) → g < length faces → mark f (suc k) g ≡ true → (mark f k g ≡ true) ⊎ (mark f k g ≡ false)
+              → mark f k g ≡ true
           at g l m (inl y) = y
-          at g l m (inr off) = absurd (false≢true (sym none ∙ any_in_range (λ h. mark f (suc k) h && not (mark f k h)) 0 (length faces) g (omega arith) (omega arith) (and_from _ _ m (not_from_false _ off))))
+          at g l m (inr off) = absurd
+              (false≢true (sym none ∙ any_in_range (λ h. mark f (suc k) h && not (mark f k h)) 0 (length faces) g
+              (omega arith) (omega arith) (and_from _ _ m (not_from_false _ off))))
 
       by_before : IsStable f k ⊎ (suc k ≤ size f k) → IsStable f (suc k) ⊎ (suc (suc k) ≤ size f (suc k))
       by_before (inl stable) = inl (stays_stable f k stable)
-      by_before (inr big) = by_search big (cases_Bool (list_any (λ g. mark f (suc k) g && not (mark f k g)) (all_faces faces)))
+      by_before (inr big) = by_search big
+          (cases_Bool (list_any (λ g. mark f (suc k) g && not (mark f k g)) (all_faces faces)))
 
   -- The component is closed.
-  pub closed : (f h g : ℕ) → f < length faces → h < length faces → g < length faces → is_marked (component_of faces f) h ≡ true → share_edge faces h g ≡ true → is_marked (component_of faces f) g ≡ true
+  pub closed : (f h g : ℕ) → f < length faces → h < length faces → g < length faces → is_marked (component_of faces f) h
+      ≡ true → share_edge faces h g ≡ true → is_marked (component_of faces f) g ≡ true
   closed f h g lf lh lg m s = by_round (stable_or_more f (length faces) lf)
     where
-      by_round : IsStable f (length faces) ⊎ (suc (length faces) ≤ size f (length faces)) → mark f (length faces) g ≡ true
+      by_round : IsStable f (length faces) ⊎ (suc (length faces) ≤ size f (length faces)) → mark f (length faces) g
+          ≡ true
       by_round (inl stable) = stable g lg (reaches f (length faces) h g lh lg m s)
-      by_round (inr big) = absurd (omega (arith, big, count_below_le (λ x. cond (mark f (length faces) x) 1 0) (λ x. 1) (length faces) (λ x l. once_at_most (mark f (length faces) x)), count_below_ones (length faces)))
+      by_round (inr big) = absurd
+          (omega (
+            arith,
+            big,
+            count_below_le (λ x. cond (mark f (length faces) x) 1 0) (λ x. 1) (length faces)
+                (λ x l. once_at_most (mark f (length faces) x)),
+            count_below_ones (length faces),
+          ))
 
   -- It has its own face, and each to which a chain leads.
   own : (f k : ℕ) → f < length faces → mark f k f ≡ true
@@ -150,16 +196,23 @@ module _ (faces : Faces) where
 
   -- Faces of one component have the same.
   marks_are : (f k : ℕ) → within faces f k ≡ map (mark f k) (all_faces faces)
-  marks_are f zero = map_range_same (λ g. eqb g f) (mark f 0) 0 (length faces) (λ x l h. sym (first_mark f x (omega arith)))
-  marks_are f (suc k) = map_range_same (λ g. mark f k g || list_any (λ h. mark f k h && share_edge faces h g) (all_faces faces)) (mark f (suc k)) 0 (length faces) (λ x l h. sym (next_mark f k x (omega arith)))
+  marks_are f zero = map_range_same (λ g. eqb g f) (mark f 0) 0 (length faces)
+      (λ x l h. sym (first_mark f x (omega arith)))
+  marks_are f (suc k) = map_range_same (λ g. mark f k g || list_any (λ h. mark f k h && share_edge faces h g)
+      (all_faces faces)) (mark f (suc k)) 0 (length faces) (λ x l h. sym (next_mark f k x (omega arith)))
 
-  pub same_component : (f g : ℕ) → f < length faces → g < length faces → is_marked (component_of faces f) g ≡ true → component_of faces g ≡ component_of faces f
+  pub same_component : (f g : ℕ) → f < length faces → g < length faces → is_marked (component_of faces f) g ≡ true
+      → component_of faces g ≡ component_of faces f
   same_component f g lf lg m =
       let there : (n : ℕ) × Shares faces f g n = sound f (length faces) g lf lg m in
       let back : (n : ℕ) × Shares faces g f n = shares_back f g there.0 lf there.1 in
-      marks_are g (length faces) ∙ (map_range_same (mark g (length faces)) (mark f (length faces)) 0 (length faces) (λ x l h. same_test _ _ (one_way f g there.0 lf lg there.1 x (omega arith)) (one_way g f back.0 lg lf back.1 x (omega arith))) ∙ sym (marks_are f (length faces)))
+      marks_are g (length faces)
+      ∙ (map_range_same (mark g (length faces)) (mark f (length faces)) 0 (length faces)
+      (λ x l h. same_test _ _ (one_way f g there.0 lf lg there.1 x (omega arith))
+      (one_way g f back.0 lg lf back.1 x (omega arith))) ∙ sym (marks_are f (length faces)))
     where
-      one_way : (f g n : ℕ) → f < length faces → g < length faces → Shares faces f g n → (x : ℕ) → x < length faces → mark g (length faces) x ≡ true → mark f (length faces) x ≡ true
+      one_way : (f g n : ℕ) → f < length faces → g < length faces → Shares faces f g n → (x : ℕ) → x < length faces
+          → mark g (length faces) x ≡ true → mark f (length faces) x ≡ true
       one_way f g n lf lg s x lx m =
           let c : (k : ℕ) × Shares faces g x k = sound g (length faces) x lg lx m in
           let j : (k : ℕ) × Shares faces f x k = shares_join f g x n c.0 s c.1 in
@@ -167,7 +220,8 @@ module _ (faces : Faces) where
 
   -- The least face of a component.
   marks_long : (f : ℕ) → length (component_of faces f) ≡ length faces
-  marks_long f = ap length (marks_are f (length faces)) ∙ (length-map (all_faces faces) (mark f (length faces)) ∙ length-range_with_len 0 (length faces))
+  marks_long f = ap length (marks_are f (length faces)) ∙ (length-map (all_faces faces) (mark f (length faces))
+      ∙ length-range_with_len 0 (length faces))
 
   pub least_most : (f g : ℕ) → g < length faces → is_marked (component_of faces f) g ≡ true → least_face faces f ≤ g
   least_most f g l m = elim (cases_lt g (least_face faces f)) [
@@ -181,7 +235,8 @@ module _ (faces : Faces) where
   pub least_marked : (f : ℕ) → f < length faces → is_marked (component_of faces f) (least_face faces f) ≡ true
   least_marked f l = passes_at_first (λ b. b) (component_of faces f) false (omega (arith, least_low f l, marks_long f))
 
-  pub least_same : (f g : ℕ) → f < length faces → g < length faces → is_marked (component_of faces f) g ≡ true → least_face faces g ≡ least_face faces f
+  pub least_same : (f g : ℕ) → f < length faces → g < length faces → is_marked (component_of faces f) g ≡ true
+      → least_face faces g ≡ least_face faces f
   least_same f g lf lg m = ap (position_or_len (λ b. b)) (same_component f g lf lg m)
 
   pub least_again : (f : ℕ) → f < length faces → least_face faces (least_face faces f) ≡ least_face faces f

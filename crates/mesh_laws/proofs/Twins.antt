@@ -7,19 +7,25 @@ use Rattle.def_mesh.specs.Manifold.{HasEdgesOnce}
 use Rattle.list_laws.proofs.Filters.{find_none, find_one, find_passes}
 
 pub reverse_twin : (faces : Faces) (d e : ℕ) → e < darts faces → is_reverse faces d e ≡ true → IsTwin faces d e
-reverse_twin faces d e l r = let b : (eqb (from_of faces e) (to_of faces d) ≡ true) × (eqb (to_of faces e) (from_of faces d) ≡ true) = and_parts _ _ r in (l, eqb-true _ _ b.0, eqb-true _ _ b.1)
+reverse_twin faces d e l r = let b : (eqb (from_of faces e) (to_of faces d) ≡ true)
+    × (eqb (to_of faces e) (from_of faces d) ≡ true) = and_parts _ _ r in (l, eqb-true _ _ b.0, eqb-true _ _ b.1)
 
 pub twin_reverse : (faces : Faces) (d e : ℕ) → IsTwin faces d e → is_reverse faces d e ≡ true
 twin_reverse faces d e is = and_from _ _ (eq-eqb _ _ is.1) (eq-eqb _ _ is.2)
 
 -- With each edge once, the twin is that dart that has the ends exchanged.
 pub twin_found : (faces : Faces) → HasEdgesOnce faces → (d e : ℕ) → IsTwin faces d e → twin_of faces d ≡ Some e
-twin_found faces once d e is = find_one (is_reverse faces d) 0 (darts faces) e (omega arith) (omega (arith, is.0)) (twin_reverse faces d e is)
-    (λ y l h r. let t : IsTwin faces d y = reverse_twin faces d y (omega arith) r in once y e t.0 is.0 (t.1 ∙ sym is.1, t.2 ∙ sym is.2))
+twin_found faces once d e is = find_one (is_reverse faces d) 0 (darts faces) e (omega arith) (omega (arith, is.0))
+    (twin_reverse faces d e is)
+    (λ y l h r. let t : IsTwin faces d y = reverse_twin faces d y (omega arith) r in
+    once y e t.0 is.0 (t.1 ∙ sym is.1, t.2 ∙ sym is.2))
 
 pub twin_none : (faces : Faces) (d : ℕ) → ((e : ℕ) → ¬ IsTwin faces d e) → twin_of faces d ≡ None
-twin_none faces d none = find_none (is_reverse faces d) 0 (darts faces) (λ x l h. false_from_ne_true (is_reverse faces d x) (λ r. none x (reverse_twin faces d x (omega arith) r)))
+twin_none faces d none =
+    find_none (is_reverse faces d) 0 (darts faces) (λ x l h. false_from_ne_true (is_reverse faces d x)
+    (λ r. none x (reverse_twin faces d x (omega arith) r)))
 
 -- What is told to be the twin has the ends exchanged.
 pub twin_is : (faces : Faces) (d e : ℕ) → twin_of faces d ≡ Some e → IsTwin faces d e
-twin_is faces d e t = let f : (is_reverse faces d e ≡ true) × (e < 0 + darts faces) = find_passes (is_reverse faces d) 0 (darts faces) e t in reverse_twin faces d e (omega (arith, f.1)) f.0
+twin_is faces d e t = let f : (is_reverse faces d e ≡ true) × (e < 0 + darts faces) =
+    find_passes (is_reverse faces d) 0 (darts faces) e t in reverse_twin faces d e (omega (arith, f.1)) f.0

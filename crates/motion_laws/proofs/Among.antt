@@ -1,7 +1,9 @@
 -- Lists of darts: what stands among them, filters, and lists without repeats.
-use Rattle.std.proofs.Common.{◌≡◌, ◌≢◌, ◌⊎◌, ℕ, zero, suc, Bool, true, false, cond, eqb, ◌&&◌, ◌+◌, ◌<◌, ◌≤◌, List, [], ◌∷◌, arith, sym, ap, ◌∙◌, refl, inl, inr}
+use Rattle.std.proofs.Common.{◌≡◌, ◌≢◌, ◌⊎◌, ℕ, zero, suc, Bool, true, false, cond, eqb, ◌&&◌, ◌+◌, ◌<◌, ◌≤◌, List, []}
+use Rattle.std.proofs.Common.{◌∷◌, arith, sym, ap, ◌∙◌, refl, inl, inr}
 use Rattle.std.specs.List.{filter, list_any, list_all, range_with_len}
-use Rattle.std.proofs.lemmas.Bool.{or_left, or_right, or_cases, eq-eqb, eqb-true, and_parts, false≢true, false_from_ne_true}
+use Rattle.std.proofs.lemmas.Bool.{or_left, or_right, or_cases, eq-eqb, eqb-true, and_parts, false≢true}
+use Rattle.std.proofs.lemmas.Bool.{false_from_ne_true}
 use Rattle.list_laws.proofs.Filters.{any_in_range, range_any}
 use Rattle.def_cut.specs.Motion.{is_among}
 
@@ -18,13 +20,17 @@ among_cases d e ds m = elim (or_cases _ _ m) [ inl s ↦ inl (eqb-true d e s) | 
 -- A test that some dart of the list passes.
 pub any_at : (p : ℕ → Bool) (d : ℕ) (ds : List ℕ) → is_among d ds ≡ true → p d ≡ true → list_any p ds ≡ true
 any_at p d [] m t = absurd (false≢true m)
-any_at p d (e ∷ ds) m t = elim (among_cases d e ds m) [ inl s ↦ or_left _ _ (ap p (sym s) ∙ t) | inr r ↦ or_right _ _ (any_at p d ds r t) ]
+any_at p d (e ∷ ds) m t = elim (among_cases d e ds m) [
+  | inl s ↦ or_left _ _ (ap p (sym s) ∙ t)
+  | inr r ↦ or_right _ _ (any_at p d ds r t)
+]
 
 pub any_where : (p : ℕ → Bool) (ds : List ℕ) → list_any p ds ≡ true → (d : ℕ) × (is_among d ds ≡ true) × (p d ≡ true)
 any_where p [] t = absurd (false≢true t)
 any_where p (e ∷ ds) t = elim (or_cases _ _ t) [
   | inl a ↦ (e, among_here e e ds refl, a)
-  | inr b ↦ let r : (d : ℕ) × (is_among d ds ≡ true) × (p d ≡ true) = any_where p ds b in (r.0, among_later r.0 e ds r.1, r.2)
+  | inr b ↦ let r : (d : ℕ) × (is_among d ds ≡ true) × (p d ≡ true) = any_where p ds b in
+      (r.0, among_later r.0 e ds r.1, r.2)
 ]
 
 -- A test that all of a list pass, or that one does not.
@@ -38,26 +44,34 @@ pub not_all : (p : ℕ → Bool) (ds : List ℕ) → list_all p ds ≡ false →
 not_all p [] off = absurd (false≢true (sym off))
 not_all p (e ∷ ds) off = at (p e) refl off (not_all p ds)
   where
-    at : (b : Bool) → p e ≡ b → (b && list_all p ds) ≡ false → (list_all p ds ≡ false → (d : ℕ) × (is_among d ds ≡ true) × (p d ≡ false)) → (d : ℕ) × (is_among d (e ∷ ds) ≡ true) × (p d ≡ false)
+    at : (b : Bool) → p e ≡ b → (b && list_all p ds) ≡ false → (list_all p ds ≡ false → (d : ℕ) × (is_among d ds ≡ true)
+        × (p d ≡ false)) → (d : ℕ) × (is_among d (e ∷ ds) ≡ true) × (p d ≡ false)
     at false is off rest = (e, among_here e e ds refl, is)
-    at true is off rest = let r : (d : ℕ) × (is_among d ds ≡ true) × (p d ≡ false) = rest off in (r.0, among_later r.0 e ds r.1, r.2)
+    at true is off rest = let r : (d : ℕ) × (is_among d ds ≡ true) × (p d ≡ false) = rest off in
+        (r.0, among_later r.0 e ds r.1, r.2)
 
 -- What stands among a filter.
-pub in_filter : (p : ℕ → Bool) (d : ℕ) (ds : List ℕ) → is_among d ds ≡ true → p d ≡ true → is_among d (filter p ds) ≡ true
+pub in_filter : (p : ℕ → Bool) (d : ℕ) (ds : List ℕ) → is_among d ds ≡ true → p d ≡ true → is_among d (filter p ds)
+    ≡ true
 in_filter p d [] m t = absurd (false≢true m)
 in_filter p d (e ∷ ds) m t = at (p e) refl (among_cases d e ds m) (in_filter p d ds)
   where
-    at : (b : Bool) → p e ≡ b → (d ≡ e) ⊎ (is_among d ds ≡ true) → (is_among d ds ≡ true → p d ≡ true → is_among d (filter p ds) ≡ true) → is_among d (cond b (e ∷ filter p ds) (filter p ds)) ≡ true
+    at : (b : Bool) → p e ≡ b → (d ≡ e) ⊎ (is_among d ds ≡ true)
+        → (is_among d ds ≡ true → p d ≡ true → is_among d (filter p ds) ≡ true)
+        → is_among d (cond b (e ∷ filter p ds) (filter p ds)) ≡ true
     at true k (inl s) rest = among_here d e (filter p ds) s
     at true k (inr r) rest = among_later d e (filter p ds) (rest r t)
     at false k (inl s) rest = absurd (false≢true (sym k ∙ (ap p (sym s) ∙ t)))
     at false k (inr r) rest = rest r t
 
-pub from_filter : (p : ℕ → Bool) (d : ℕ) (ds : List ℕ) → is_among d (filter p ds) ≡ true → (is_among d ds ≡ true) × (p d ≡ true)
+pub from_filter : (p : ℕ → Bool) (d : ℕ) (ds : List ℕ) → is_among d (filter p ds) ≡ true → (is_among d ds ≡ true)
+    × (p d ≡ true)
 from_filter p d [] m = absurd (false≢true m)
 from_filter p d (e ∷ ds) m = at (p e) refl m (from_filter p d ds)
   where
-    at : (b : Bool) → p e ≡ b → is_among d (cond b (e ∷ filter p ds) (filter p ds)) ≡ true → (is_among d (filter p ds) ≡ true → (is_among d ds ≡ true) × (p d ≡ true)) → (is_among d (e ∷ ds) ≡ true) × (p d ≡ true)
+    at : (b : Bool) → p e ≡ b → is_among d (cond b (e ∷ filter p ds) (filter p ds)) ≡ true
+        → (is_among d (filter p ds) ≡ true → (is_among d ds ≡ true) × (p d ≡ true)) → (is_among d (e ∷ ds) ≡ true)
+        × (p d ≡ true)
     at true k m rest = elim (among_cases d e (filter p ds) m) [
       | inl s ↦ (among_here d e ds s, ap p s ∙ k)
       | inr r ↦ let q : (is_among d ds ≡ true) × (p d ≡ true) = rest r in (among_later d e ds q.0, q.1)
@@ -74,7 +88,11 @@ apart_filter p [] a = tt
 apart_filter p (e ∷ ds) a = at (p e) (apart_filter p ds a.1)
   where
     at : (b : Bool) → AreApart (filter p ds) → AreApart (cond b (e ∷ filter p ds) (filter p ds))
-    at true rest = (false_from_ne_true _ (λ m. let q : (is_among e ds ≡ true) × (p e ≡ true) = from_filter p e ds m in false≢true (sym a.0 ∙ q.0)), rest)
+    at true rest = (
+      false_from_ne_true _ (λ m. let q : (is_among e ds ≡ true) × (p e ≡ true) = from_filter p e ds m in
+          false≢true (sym a.0 ∙ q.0)),
+      rest,
+    )
     at false rest = rest
 
 -- What stands among a range.
@@ -82,8 +100,13 @@ pub among_range : (a n d : ℕ) → a ≤ d → d < a + n → is_among d (range_
 among_range a n d l h = any_in_range (λ e. eqb d e) a n d l h (eq-eqb d d refl)
 
 pub range_among : (a n d : ℕ) → is_among d (range_with_len a n) ≡ true → (a ≤ d) × (d < a + n)
-range_among a n d m = let r : (x : ℕ) × (a ≤ x) × (x < a + n) × (eqb d x ≡ true) = range_any (λ e. eqb d e) a n m in (omega (arith, eqb-true d r.0 r.3, r.1), omega (arith, eqb-true d r.0 r.3, r.2))
+range_among a n d m = let r : (x : ℕ) × (a ≤ x) × (x < a + n) × (eqb d x ≡ true) = range_any (λ e. eqb d e) a n m in
+    (omega (arith, eqb-true d r.0 r.3, r.1), omega (arith, eqb-true d r.0 r.3, r.2))
 
 pub range_apart : (a : ℕ) (n : ℕ) → AreApart (range_with_len a n)
 range_apart a zero = tt
-range_apart a (suc n) = (false_from_ne_true _ (λ m. let r : (a + 1 ≤ a) × (a < a + 1 + n) = range_among (a + 1) n a m in absurd (omega (arith, r.0))), range_apart (a + 1) n)
+range_apart a (suc n) = (
+  false_from_ne_true _ (λ m. let r : (a + 1 ≤ a) × (a < a + 1 + n) = range_among (a + 1) n a m in
+      absurd (omega (arith, r.0))),
+  range_apart (a + 1) n,
+)

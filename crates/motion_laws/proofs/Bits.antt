@@ -1,6 +1,7 @@
 -- Who goes on at a vertex with four faces, told by two bits: the rider by d, where neither the rider to whom it gives
 -- way arrives nor the one from the opposite side.
-use Rattle.std.proofs.Common.{◌≡◌, ◌≢◌, ◌⊎◌, ℕ, ◌<◌, Bool, true, false, not, eqb, ◌&&◌, ◌||◌, List, [], ◌∷◌, sym, ap, ◌∙◌, refl, inl, inr, arith}
+use Rattle.std.proofs.Common.{◌≡◌, ◌≢◌, ◌⊎◌, ℕ, ◌<◌, Bool, true, false, not, eqb, ◌&&◌, ◌||◌, List, [], ◌∷◌, sym, ap}
+use Rattle.std.proofs.Common.{◌∙◌, refl, inl, inr, arith}
 use Rattle.std.proofs.Math.Bool.{or-false}
 use Rattle.std.proofs.lemmas.Bool.{eq-eqb, ne_eqb, false≢true}
 use Rattle.def_mesh.specs.HalfEdges.{HalfEdges, IsQuadManifold}
@@ -26,26 +27,49 @@ abbrev pub IsOfFour : (d p q r x : ℕ) → Type 0
 IsOfFour d p q r x = (x ≡ d) ⊎ ((x ≡ p) ⊎ ((x ≡ q) ⊎ (x ≡ r)))
 
 -- A cross seen from the next dart.
-pub rotated : (mesh : HalfEdges) → IsQuadManifold mesh → (d a b c : ℕ) → d < mesh.count → IsCross mesh d a b c → IsCross mesh a b c d
-rotated mesh laws d a b c low x = record { first = x.second; second = x.third; third = x.last; last = x.first; apart = a_c mesh laws d a b c low x }
+pub rotated : (mesh : HalfEdges) → IsQuadManifold mesh → (d a b c : ℕ) → d < mesh.count → IsCross mesh d a b c
+    → IsCross mesh a b c d
+rotated mesh laws d a b c low x = record {
+  first = x.second;
+  second = x.third;
+  third = x.last;
+  last = x.first;
+  apart =
+      a_c mesh laws d a b c low x;
+}
 
 module _ (g : Terrain) (d p q r : ℕ) (round : AreRound g d p q r) where
   -- Who else arrives beside d alone decides.
   other : (y : ℕ) → (y ≡ p) ⊎ ((y ≡ q) ⊎ (y ≡ r)) → gives_way g y d ≡ (not (eqb p y || false) && not (eqb q y || false))
   other y (inl e) = rw (eq-eqb p y (sym e)) (ap (λ k. gives_way g k d) e ∙ round.p_d)
-  other y (inr (inl e)) = rw (ne_eqb p y (λ k. round.p_q (k ∙ e)), eq-eqb q y (sym e)) (ap (λ k. gives_way g k d) e ∙ round.q_d)
-  other y (inr (inr e)) = rw (ne_eqb p y (λ k. round.p_r (k ∙ e)), ne_eqb q y (λ k. round.q_r (k ∙ e))) (ap (λ k. gives_way g k d) e ∙ round.r_d)
+  other y (inr (inl e)) = rw (ne_eqb p y (λ k. round.p_q (k ∙ e)), eq-eqb q y (sym e)) (ap (λ k. gives_way g k d) e
+      ∙ round.q_d)
+  other y (inr (inr e)) = rw (ne_eqb p y (λ k. round.p_r (k ∙ e)), ne_eqb q y (λ k. round.q_r (k ∙ e)))
+      (ap (λ k. gives_way g k d) e ∙ round.r_d)
 
   not_d : (y : ℕ) → d ≢ y → IsOfFour d p q r y → (y ≡ p) ⊎ ((y ≡ q) ⊎ (y ≡ r))
   not_d y ne (inl e) = absurd (ne (sym e))
   not_d y ne (inr o) = o
 
-  first_of_two : (x y : ℕ) → d ≡ x → x ≢ y → IsOfFour d p q r y → goes_on g (x ∷ y ∷ []) d ≡ (not (is_among p (x ∷ y ∷ [])) && not (is_among q (x ∷ y ∷ [])))
-  first_of_two x y s ne o = rw (ne_eqb d y (λ k. ne (sym s ∙ k)), eq-eqb d x s, ne_eqb p x (λ k. round.d_p (s ∙ sym k)), ne_eqb q x (λ k. round.d_q (s ∙ sym k)))
+  first_of_two : (x y : ℕ) → d ≡ x → x ≢ y → IsOfFour d p q r y → goes_on g (x ∷ y ∷ []) d
+      ≡ (not (is_among p (x ∷ y ∷ [])) && not (is_among q (x ∷ y ∷ [])))
+  first_of_two x y s ne o = rw (
+    ne_eqb d y (λ k. ne (sym s ∙ k)),
+    eq-eqb d x s,
+    ne_eqb p x (λ k. round.d_p (s ∙ sym k)),
+    ne_eqb q x (λ k. round.d_q (s ∙ sym k)),
+  )
       (ap (λ k. gives_way g y k) (sym s) ∙ other y (not_d y (λ k. ne (sym s ∙ k)) o))
 
-  second_of_two : (x y : ℕ) → d ≡ y → x ≢ y → IsOfFour d p q r x → goes_on g (x ∷ y ∷ []) d ≡ (not (is_among p (x ∷ y ∷ [])) && not (is_among q (x ∷ y ∷ [])))
-  second_of_two x y s ne o = rw (ne_eqb d x (λ k. ne (sym k ∙ s)), eq-eqb d y s, ne_eqb p y (λ k. round.d_p (s ∙ sym k)), ne_eqb q y (λ k. round.d_q (s ∙ sym k)))
+  second_of_two : (x y : ℕ) → d ≡ y → x ≢ y → IsOfFour d p q r x → goes_on g (x ∷ y ∷ []) d
+      ≡ (not (is_among p (x ∷ y ∷ [])) && not (is_among q (x ∷ y ∷ [])))
+  second_of_two x y s ne o =
+      rw (
+        ne_eqb d x (λ k. ne (sym k ∙ s)),
+        eq-eqb d y s,
+        ne_eqb p y (λ k. round.d_p (s ∙ sym k)),
+        ne_eqb q y (λ k. round.d_q (s ∙ sym k)),
+      )
       (or-false (gives_way g x y) ∙ (ap (λ k. gives_way g x k) (sym s) ∙ other x (not_d x (λ k. ne (sym k ∙ s)) o)))
 
   -- Of three that differ, one is p or q.
@@ -63,7 +87,8 @@ module _ (g : Terrain) (d p q r : ℕ) (round : AreRound g d p q r) where
   two_same x y z (inr a) (inl b) (inl c) = inr (inr (b ∙ sym c))
   two_same x y z (inr a) (inl b) (inr c) = inr (inl (a ∙ sym c))
 
-  off_by : (ds : List ℕ) (x : ℕ) → is_among x ds ≡ true → (x ≡ p) ⊎ (x ≡ q) → false ≡ (not (is_among p ds) && not (is_among q ds))
+  off_by : (ds : List ℕ) (x : ℕ) → is_among x ds ≡ true → (x ≡ p) ⊎ (x ≡ q)
+      → false ≡ (not (is_among p ds) && not (is_among q ds))
   off_by ds x m (inl e) = rw (ap (λ k. is_among k ds) (sym e) ∙ m) refl
   off_by ds x m (inr e) = rw (ap (λ k. is_among k ds) (sym e) ∙ m) (by_test (is_among p ds))
     where
@@ -75,20 +100,25 @@ module _ (g : Terrain) (d p q r : ℕ) (round : AreRound g d p q r) where
   differ x y ds off on e = false≢true (sym off ∙ (ap (λ k. is_among k ds) e ∙ on))
 
   -- The rider by d goes on where neither p nor q arrives.
-  pub two_bits_of : (ds : List ℕ) → AreApart ds → is_among d ds ≡ true → ((x : ℕ) → is_among x ds ≡ true → IsOfFour d p q r x) → goes_on g ds d ≡ (not (is_among p ds) && not (is_among q ds))
+  pub two_bits_of : (ds : List ℕ) → AreApart ds → is_among d ds ≡ true
+      → ((x : ℕ) → is_among x ds ≡ true → IsOfFour d p q r x)
+      → goes_on g ds d ≡ (not (is_among p ds) && not (is_among q ds))
   two_bits_of [] apart m all = absurd (false≢true m)
   two_bits_of (x ∷ []) apart m all = elim (among_cases d x [] m) [
     | inl s ↦ rw (ne_eqb p x (λ k. round.d_p (s ∙ sym k)), ne_eqb q x (λ k. round.d_q (s ∙ sym k))) refl
     | inr o ↦ absurd (false≢true o)
   ]
   two_bits_of (x ∷ y ∷ []) apart m all = elim (among_cases d x (y ∷ []) m) [
-    | inl s ↦ first_of_two x y s (differ x y (y ∷ []) apart.0 (among_here y y [] refl)) (all y (among_later y x (y ∷ []) (among_here y y [] refl)))
+    | inl s ↦ first_of_two x y s (differ x y (y ∷ []) apart.0 (among_here y y [] refl))
+        (all y (among_later y x (y ∷ []) (among_here y y [] refl)))
     | inr o ↦ elim (among_cases d y [] o) [
-      | inl s ↦ second_of_two x y s (differ x y (y ∷ []) apart.0 (among_here y y [] refl)) (all x (among_here x x (y ∷ []) refl))
+      | inl s ↦ second_of_two x y s (differ x y (y ∷ []) apart.0 (among_here y y [] refl))
+          (all x (among_here x x (y ∷ []) refl))
       | inr n ↦ absurd (false≢true n)
     ]
   ]
-  two_bits_of (x ∷ y ∷ z ∷ more) apart m all = by_sides (side x (all x in_x)) (side y (all y in_y)) (side z (all z in_z))
+  two_bits_of (x ∷ y ∷ z ∷ more) apart m all =
+      by_sides (side x (all x in_x)) (side y (all y in_y)) (side z (all z in_z))
     where
       in_x : is_among x (x ∷ y ∷ z ∷ more) ≡ true
       in_x = among_here x x (y ∷ z ∷ more) refl
@@ -99,7 +129,9 @@ module _ (g : Terrain) (d p q r : ℕ) (round : AreRound g d p q r) where
       in_z : is_among z (x ∷ y ∷ z ∷ more) ≡ true
       in_z = among_later z x (y ∷ z ∷ more) (among_later z y (z ∷ more) (among_here z z more refl))
 
-      by_sides : ((x ≡ p) ⊎ (x ≡ q)) ⊎ ((x ≡ d) ⊎ (x ≡ r)) → ((y ≡ p) ⊎ (y ≡ q)) ⊎ ((y ≡ d) ⊎ (y ≡ r)) → ((z ≡ p) ⊎ (z ≡ q)) ⊎ ((z ≡ d) ⊎ (z ≡ r)) → false ≡ (not (is_among p (x ∷ y ∷ z ∷ more)) && not (is_among q (x ∷ y ∷ z ∷ more)))
+      by_sides : ((x ≡ p) ⊎ (x ≡ q)) ⊎ ((x ≡ d) ⊎ (x ≡ r)) → ((y ≡ p) ⊎ (y ≡ q)) ⊎ ((y ≡ d) ⊎ (y ≡ r))
+          → ((z ≡ p) ⊎ (z ≡ q)) ⊎ ((z ≡ d) ⊎ (z ≡ r))
+          → false ≡ (not (is_among p (x ∷ y ∷ z ∷ more)) && not (is_among q (x ∷ y ∷ z ∷ more)))
       by_sides (inl a) b c = off_by (x ∷ y ∷ z ∷ more) x in_x a
       by_sides (inr a) (inl b) c = off_by (x ∷ y ∷ z ∷ more) y in_y b
       by_sides (inr a) (inr b) (inl c) = off_by (x ∷ y ∷ z ∷ more) z in_z c
@@ -113,7 +145,8 @@ module _ (g : Terrain) (d p q r : ℕ) (round : AreRound g d p q r) where
 
 module _ (g : Terrain) (laws : IsQuadManifold g.half) where
   -- The darts before those of a cross are such a round.
-  pub round_of : (d a b c : ℕ) → d < g.half.count → IsCross g.half (g.half.next d) a b c → AreRound g d (g.half.prev a) (g.half.prev b) (g.half.prev c)
+  pub round_of : (d a b c : ℕ) → d < g.half.count → IsCross g.half (g.half.next d) a b c
+      → AreRound g d (g.half.prev a) (g.half.prev b) (g.half.prev c)
   round_of d a b c low x = record {
     d_p = λ e. ne 0 1 (omega arith) (omega arith) (omega arith) (ap g.half.next e ∙ laws.next_prev a);
     d_q = λ e. ne 0 2 (omega arith) (omega arith) (omega arith) (ap g.half.next e ∙ laws.next_prev b);
@@ -121,25 +154,32 @@ module _ (g : Terrain) (laws : IsQuadManifold g.half) where
     p_q = λ e. ne 1 2 (omega arith) (omega arith) (omega arith) (over a b e);
     p_r = λ e. ne 1 3 (omega arith) (omega arith) (omega arith) (over a c e);
     q_r = λ e. ne 2 3 (omega arith) (omega arith) (omega arith) (over b c e);
-    p_d = ap (λ t. is_twin t (g.half.next d)) x.second ∙ ne_eqb b (g.half.next d) (λ e. ne 0 2 (omega arith) (omega arith) (omega arith) (sym e));
-    q_d = ap (λ t. is_twin t (g.half.next d)) x.third ∙ ne_eqb c (g.half.next d) (λ e. ne 0 3 (omega arith) (omega arith) (omega arith) (sym e));
+    p_d = ap (λ t. is_twin t (g.half.next d)) x.second
+        ∙ ne_eqb b (g.half.next d) (λ e. ne 0 2 (omega arith) (omega arith) (omega arith) (sym e));
+    q_d = ap (λ t. is_twin t (g.half.next d)) x.third
+        ∙ ne_eqb c (g.half.next d) (λ e. ne 0 3 (omega arith) (omega arith) (omega arith) (sym e));
     r_d = ap (λ t. is_twin t (g.half.next d)) x.last ∙ eq-eqb (g.half.next d) (g.half.next d) refl;
   }
     where
       ne : (i j : ℕ) → i < 4 → j < 4 → i < j → of_four (g.half.next d) a b c i ≡ of_four (g.half.next d) a b c j → ⊥
-      ne i j li lj less e = let s : i ≡ j = four_apart g.half laws (g.half.next d) a b c (laws.next_low d low) x i j li lj e in absurd (omega arith)
+      ne i j li lj less e = let s : i ≡ j = four_apart g.half laws (g.half.next d) a b c (laws.next_low d low) x i j li
+          lj e in absurd (omega arith)
 
       over : (x y : ℕ) → g.half.prev x ≡ g.half.prev y → x ≡ y
       over x y e = sym (laws.next_prev x) ∙ (ap g.half.next e ∙ laws.next_prev y)
 
   -- Each dart that arrives there is one of the four.
-  pub of_round : (d a b c : ℕ) → d < g.half.count → IsCross g.half (g.half.next d) a b c → (e : ℕ) → e < g.half.count → end_of g e ≡ end_of g d → IsOfFour d (g.half.prev a) (g.half.prev b) (g.half.prev c) e
-  of_round d a b c low x e l s = by_one (one_of_four g.half laws (g.half.next d) a b c (laws.next_low d low) x (g.half.next e) (record { low = laws.next_low e l; at = s }))
+  pub of_round : (d a b c : ℕ) → d < g.half.count → IsCross g.half (g.half.next d) a b c → (e : ℕ) → e < g.half.count
+      → end_of g e ≡ end_of g d → IsOfFour d (g.half.prev a) (g.half.prev b) (g.half.prev c) e
+  of_round d a b c low x e l s =
+      by_one (one_of_four g.half laws (g.half.next d) a b c (laws.next_low d low) x (g.half.next e)
+      (record { low = laws.next_low e l; at = s }))
     where
       back : (y : ℕ) → g.half.next e ≡ y → e ≡ g.half.prev y
       back y k = sym (laws.prev_next e) ∙ ap g.half.prev k
 
-      by_one : (g.half.next e ≡ g.half.next d) ⊎ ((g.half.next e ≡ a) ⊎ ((g.half.next e ≡ b) ⊎ (g.half.next e ≡ c))) → IsOfFour d (g.half.prev a) (g.half.prev b) (g.half.prev c) e
+      by_one : (g.half.next e ≡ g.half.next d) ⊎ ((g.half.next e ≡ a) ⊎ ((g.half.next e ≡ b) ⊎ (g.half.next e ≡ c)))
+          → IsOfFour d (g.half.prev a) (g.half.prev b) (g.half.prev c) e
       by_one (inl k) = inl (back (g.half.next d) k ∙ laws.prev_next d)
       by_one (inr (inl k)) = inr (inl (back a k))
       by_one (inr (inr (inl k))) = inr (inr (inl (back b k)))

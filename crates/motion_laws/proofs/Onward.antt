@@ -1,5 +1,6 @@
 -- The states that the motion reaches from a first state, its end, and that what it traces is a full cut.
-use Rattle.std.proofs.Common.{◌≡◌, ◌≢◌, ◌⊎◌, ℕ, zero, suc, ◌+◌, ◌<◌, ◌≤◌, Bool, true, false, not, cond, ◌||◌, List, [], ◌∷◌, map, length, Option, Some, None, is_some, sym, subst, ap, ◌∙◌, refl, inl, inr, arith}
+use Rattle.std.proofs.Common.{◌≡◌, ◌≢◌, ◌⊎◌, ℕ, zero, suc, ◌+◌, ◌<◌, ◌≤◌, Bool, true, false, not, cond, ◌||◌, List, []}
+use Rattle.std.proofs.Common.{◌∷◌, map, length, Option, Some, None, is_some, sym, subst, ap, ◌∙◌, refl, inl, inr, arith}
 use Rattle.std.proofs.lemmas.Bool.{eq-eqb, eqb-true, false≢true, cases_Bool, cases_eq, or_left, or_right, or_cases}
 use Rattle.def_math.specs.Counts.{count_below}
 use Rattle.sum_laws.proofs.Counts.{count_below_lt, count_below_ones}
@@ -16,11 +17,13 @@ use Rattle.motion_laws.proofs.Terrains.{IsTerrain, IsReachedFrom, IsFirst, IsKno
 use Rattle.motion_laws.proofs.Steps.{trail_more, IsNext, next_is, step_keeps, back, stands}
 
 -- Where nobody rides, a step changes no rider.
-pub still_riders : (g : Terrain) (stood : ℕ → Bool) (ds : List ℕ) (rs : List Moving) → ridden rs ≡ [] → map (ride g stood ds) rs ≡ rs
+pub still_riders : (g : Terrain) (stood : ℕ → Bool) (ds : List ℕ) (rs : List Moving) → ridden rs ≡ []
+    → map (ride g stood ds) rs ≡ rs
 still_riders g stood ds [] e = refl
 still_riders g stood ds (q ∷ rs) e = at q.stop refl e (still_riders g stood ds rs)
   where
-    at : (o : Option Stop) → q.stop ≡ o → with_next o q.dart (ridden rs) ≡ [] → (ridden rs ≡ [] → map (ride g stood ds) rs ≡ rs) → ride_on g stood ds q o ∷ map (ride g stood ds) rs ≡ q ∷ rs
+    at : (o : Option Stop) → q.stop ≡ o → with_next o q.dart (ridden rs) ≡ []
+        → (ridden rs ≡ [] → map (ride g stood ds) rs ≡ rs) → ride_on g stood ds q o ∷ map (ride g stood ds) rs ≡ q ∷ rs
     at None is e rest = absurd (let n : suc (length (ridden rs)) ≡ 0 = ap length e in omega arith)
     at (Some s) is e rest = ap (λ qs. q ∷ qs) (rest e)
 
@@ -32,10 +35,12 @@ at_rest g (suc k) s none = at (ridden s.riders) none
     at : (ds : List ℕ) → ds ≡ [] → elim ds as (λ x. State) [ [] ↦ s | d ∷ es ↦ finish g k (step g s) ] ≡ s
     at ds is = rw is refl
 
-pub runs_on : (g : Terrain) (k d : ℕ) (ds : List ℕ) (s : State) → ridden s.riders ≡ d ∷ ds → finish g (suc k) s ≡ finish g k (step g s)
+pub runs_on : (g : Terrain) (k d : ℕ) (ds : List ℕ) (s : State) → ridden s.riders ≡ d ∷ ds → finish g (suc k) s
+    ≡ finish g k (step g s)
 runs_on g k d ds s is = at (ridden s.riders) is
   where
-    at : (xs : List ℕ) → xs ≡ d ∷ ds → elim xs as (λ x. State) [ [] ↦ s | e ∷ es ↦ finish g k (step g s) ] ≡ finish g k (step g s)
+    at : (xs : List ℕ) → xs ≡ d ∷ ds → elim xs as (λ x. State) [ [] ↦ s | e ∷ es ↦ finish g k (step g s) ]
+        ≡ finish g k (step g s)
     at xs e = rw e refl
 
 module _ (g : Terrain) (t : IsTerrain g) (begins : ℕ → Bool) (first : State) (begin : IsFirst g begins first) where
@@ -48,23 +53,30 @@ module _ (g : Terrain) (t : IsTerrain g) (begins : ℕ → Bool) (first : State)
   stood_later i zero v le k = let s : i ≡ 0 = omega arith in subst (λ (n : ℕ). (later g first n).stood v ≡ true) s k
   stood_later i (suc j) v le k = by_last (cases_eq i (suc j)) (stood_later i j v)
     where
-      by_last : (i ≡ suc j) ⊎ (i ≡ suc j → ⊥) → (i ≤ j → (later g first i).stood v ≡ true → (later g first j).stood v ≡ true) → (later g first (suc j)).stood v ≡ true
+      by_last : (i ≡ suc j) ⊎ (i ≡ suc j → ⊥) → (i ≤ j → (later g first i).stood v ≡ true → (later g first j).stood v
+          ≡ true) → (later g first (suc j)).stood v ≡ true
       by_last (inl s) rest = subst (λ (n : ℕ). (later g first n).stood v ≡ true) s k
       by_last (inr ne) rest = or_left _ _ (rest (omega arith) k)
 
   -- No dart is ridden at two instants.
-  pub rides_once : (e i j : ℕ) → i < j → is_among e (ridden (later g first i).riders) ≡ true → is_among e (ridden (later g first j).riders) ≡ true → ⊥
+  pub rides_once : (e i j : ℕ) → i < j → is_among e (ridden (later g first i).riders) ≡ true
+      → is_among e (ridden (later g first j).riders) ≡ true → ⊥
   rides_once e i zero less m n = omega arith
   rides_once e i (suc j) less m n =
-      let x : (d : ℕ) × (is_among d (ridden (later g first j).riders) ≡ true) × IsNext g t (later g first j).stood (ridden (later g first j).riders) d e = next_is g t begins first (later g first j) (later_reached j) e n in
-      false≢true (sym x.2.going.fresh ∙ (ap (later g first j).stood (sym x.2.at) ∙ stood_later i j (g.half.from e) (omega arith) ((later_reached i).left e m)))
+      let x : (d : ℕ) × (is_among d (ridden (later g first j).riders) ≡ true)
+      × IsNext g t (later g first j).stood (ridden (later g first j).riders) d e =
+      next_is g t begins first (later g first j) (later_reached j) e n in
+      false≢true (sym x.2.going.fresh
+      ∙ (ap (later g first j).stood (sym x.2.at) ∙ stood_later i j (g.half.from e) (omega arith)
+      ((later_reached i).left e m)))
 
   module _ (n : ℕ) (few : (d : ℕ) → d < g.half.count → g.half.from d < n) where
     -- How many vertices there are where nobody has stood.
     abbrev pub fresh : (s : State) → ℕ
     fresh s = count_below (λ v. cond (s.stood v) 0 1) n
 
-    falls_at : (s : State) → IsReachedFrom g begins first s → (e : ℕ) → is_among e (ridden (step g s).riders) ≡ true → fresh (step g s) < fresh s
+    falls_at : (s : State) → IsReachedFrom g begins first s → (e : ℕ) → is_among e (ridden (step g s).riders) ≡ true
+        → fresh (step g s) < fresh s
     falls_at s r e m = by_next (next_is g t begins first s r e m)
       where
         no_more_at : (b c : Bool) → (b ≡ true → c ≡ true) → cond c 0 1 ≤ cond b 0 1
@@ -78,16 +90,21 @@ module _ (g : Terrain) (t : IsTerrain g) (begins : ℕ → Bool) (first : State)
         less_at false true off on = omega arith
         less_at false false off on = absurd (false≢true on)
 
-        by_next : (d : ℕ) × (is_among d (ridden s.riders) ≡ true) × IsNext g t s.stood (ridden s.riders) d e → fresh (step g s) < fresh s
-        by_next (d, k, x) = count_below_lt (λ v. cond ((step g s).stood v) 0 1) (λ v. cond (s.stood v) 0 1) n (end_of g d)
+        by_next : (d : ℕ) × (is_among d (ridden s.riders) ≡ true) × IsNext g t s.stood (ridden s.riders) d e
+            → fresh (step g s) < fresh s
+        by_next (d, k, x) = count_below_lt (λ v. cond ((step g s).stood v) 0 1) (λ v. cond (s.stood v) 0 1) n
+            (end_of g d)
             (few (g.half.next d) (t.half.next_low d (r.low d k)))
             (λ v l. no_more_at (s.stood v) ((step g s).stood v) (λ y. or_left _ _ y))
-            (less_at (s.stood (end_of g d)) ((step g s).stood (end_of g d)) x.going.fresh (stands g t begins first s r d k))
+            (less_at (s.stood (end_of g d)) ((step g s).stood (end_of g d)) x.going.fresh
+            (stands g t begins first s r d k))
 
-    pub rests_or_falls : (s : State) → IsReachedFrom g begins first s → (ridden (step g s).riders ≡ []) ⊎ (fresh (step g s) < fresh s)
+    pub rests_or_falls : (s : State) → IsReachedFrom g begins first s → (ridden (step g s).riders ≡ [])
+        ⊎ (fresh (step g s) < fresh s)
     rests_or_falls s r = at (ridden (step g s).riders) refl
       where
-        at : (ds : List ℕ) → ridden (step g s).riders ≡ ds → (ridden (step g s).riders ≡ []) ⊎ (fresh (step g s) < fresh s)
+        at : (ds : List ℕ) → ridden (step g s).riders ≡ ds → (ridden (step g s).riders ≡ [])
+            ⊎ (fresh (step g s) < fresh s)
         at [] is = inl is
         at (e ∷ ds) is = inr (falls_at s r e (ap (is_among e) is ∙ or_left _ _ (eq-eqb e e refl)))
 
@@ -99,15 +116,18 @@ module _ (g : Terrain) (t : IsTerrain g) (begins : ℕ → Bool) (first : State)
       where
         at : (ds : List ℕ) → ridden s.riders ≡ ds → ridden (finish g 1 s).riders ≡ []
         at [] is = none_after 1 s is
-        at (d ∷ ds) is = ap (λ (x : State). ridden x.riders) (runs_on g 0 d ds s is) ∙ elim (rests_or_falls s r) [ inl none ↦ none | inr less ↦ absurd (omega (arith, less, le)) ]
+        at (d ∷ ds) is = ap (λ (x : State). ridden x.riders) (runs_on g 0 d ds s is)
+            ∙ elim (rests_or_falls s r) [ inl none ↦ none | inr less ↦ absurd (omega (arith, less, le)) ]
     over (suc k) s r le = at (ridden s.riders) refl (over k)
       where
-        at : (ds : List ℕ) → ridden s.riders ≡ ds → ((x : State) → IsReachedFrom g begins first x → fresh x ≤ k → ridden (finish g (suc k) x).riders ≡ []) → ridden (finish g (suc (suc k)) s).riders ≡ []
+        at : (ds : List ℕ) → ridden s.riders ≡ ds → ((x : State) → IsReachedFrom g begins first x → fresh x ≤ k
+            → ridden (finish g (suc k) x).riders ≡ []) → ridden (finish g (suc (suc k)) s).riders ≡ []
         at [] is rest = none_after (suc (suc k)) s is
-        at (d ∷ ds) is rest = ap (λ (x : State). ridden x.riders) (runs_on g (suc k) d ds s is) ∙ elim (rests_or_falls s r) [
-          | inl none ↦ none_after (suc k) (step g s) none
-          | inr less ↦ rest (step g s) (step_keeps g t begins first s r) (omega (arith, less, le))
-        ]
+        at (d ∷ ds) is rest = ap (λ (x : State). ridden x.riders) (runs_on g (suc k) d ds s is)
+            ∙ elim (rests_or_falls s r) [
+              | inl none ↦ none_after (suc k) (step g s) none
+              | inr less ↦ rest (step g s) (step_keeps g t begins first s r) (omega (arith, less, le))
+            ]
 
     fresh_low : (s : State) (m : ℕ) → count_below (λ v. cond (s.stood v) 0 1) m ≤ m
     fresh_low s zero = omega arith
@@ -121,9 +141,11 @@ module _ (g : Terrain) (t : IsTerrain g) (begins : ℕ → Bool) (first : State)
     finish_reached zero s r = r
     finish_reached (suc k) s r = at (ridden s.riders) refl (finish_reached k)
       where
-        at : (ds : List ℕ) → ridden s.riders ≡ ds → ((x : State) → IsReachedFrom g begins first x → IsReachedFrom g begins first (finish g k x)) → IsReachedFrom g begins first (finish g (suc k) s)
+        at : (ds : List ℕ) → ridden s.riders ≡ ds → ((x : State) → IsReachedFrom g begins first x
+            → IsReachedFrom g begins first (finish g k x)) → IsReachedFrom g begins first (finish g (suc k) s)
         at [] is rest = subst (IsReachedFrom g begins first) (sym (at_rest g (suc k) s is)) r
-        at (d ∷ ds) is rest = subst (IsReachedFrom g begins first) (sym (runs_on g k d ds s is)) (rest (step g s) (step_keeps g t begins first s r))
+        at (d ∷ ds) is rest = subst (IsReachedFrom g begins first) (sym (runs_on g k d ds s is))
+            (rest (step g s) (step_keeps g t begins first s r))
 
     -- After as many steps as there are vertices nobody runs.
     pub last_rests : ridden (later g first n).riders ≡ []
@@ -143,12 +165,24 @@ module _ (g : Terrain) (t : IsTerrain g) (begins : ℕ → Bool) (first : State)
             at [] is = inl is
             at (d ∷ ds) is =
                 let m : is_among d (ridden first.riders) ≡ true = ap (is_among d) is ∙ among_here d d ds refl in
-                inr (omega (arith, count_below_ones n, count_below_lt (λ v. cond (first.stood v) 0 1) (λ v. 1) n (g.half.from d) (few d (begin.reached.low d m)) (λ v l. no_more_at (first.stood v)) (less_at (first.stood (g.half.from d)) (begin.reached.left d m))))
+                inr (omega (
+                  arith,
+                  count_below_ones n,
+                  count_below_lt (λ v. cond (first.stood v) 0 1) (λ v. 1) n
+                      (g.half.from d) (few d (begin.reached.low d m)) (λ v l. no_more_at (first.stood v))
+                      (less_at (first.stood (g.half.from d)) (begin.reached.left d m)),
+                ))
         runs_out (suc k) = by_before (runs_out k)
           where
-            by_before : (ridden (later g first k).riders ≡ []) ⊎ (fresh (later g first k) + k < n) → (ridden (later g first (suc k)).riders ≡ []) ⊎ (fresh (later g first (suc k)) + suc k < n)
-            by_before (inl none) = inl (ap ridden (still_riders g (later g first k).stood (ridden (later g first k).riders) (later g first k).riders none) ∙ none)
-            by_before (inr low) = elim (rests_or_falls (later g first k) (later_reached k)) [ inl none ↦ inl none | inr falls ↦ inr (omega (arith, low, falls)) ]
+            by_before : (ridden (later g first k).riders ≡ []) ⊎ (fresh (later g first k) + k < n)
+                → (ridden (later g first (suc k)).riders ≡ []) ⊎ (fresh (later g first (suc k)) + suc k < n)
+            by_before (inl none) = inl
+                (ap ridden (still_riders g (later g first k).stood (ridden (later g first k).riders)
+                (later g first k).riders none) ∙ none)
+            by_before (inr low) = elim (rests_or_falls (later g first k) (later_reached k)) [
+              | inl none ↦ inl none
+              | inr falls ↦ inr (omega (arith, low, falls))
+            ]
 
     -- Nobody runs in the end.
     pub nobody_runs : ridden (finish g (suc n) first).riders ≡ []
@@ -173,10 +207,15 @@ module _ (g : Terrain) (t : IsTerrain g) (begins : ℕ → Bool) (first : State)
     alone_cut d w = or_right _ _ (ap (λ o. not (is_some o)) w)
 
     covered_there : (d e : ℕ) → g.half.twin d ≡ Some e → cut d ≡ true → s.covered d ≡ true
-    covered_there d e w c = elim (or_cases _ _ c) [ inl y ↦ y | inr n ↦ absurd (false≢true (sym (ap (λ o. not (is_some o)) w) ∙ n)) ]
+    covered_there d e w c = elim (or_cases _ _ c) [
+      | inl y ↦ y
+      | inr n ↦ absurd (false≢true (sym (ap (λ o. not (is_some o)) w) ∙ n))
+    ]
 
     cut_alike : (d e : ℕ) → d < g.half.count → g.half.twin d ≡ Some e → cut e ≡ cut d
-    cut_alike d e low w = ap (λ b. b || not (is_some (g.half.twin e))) (r.alike d e low w) ∙ (ap (λ o. s.covered d || not (is_some o)) (back g t d e low w) ∙ sym (ap (λ o. s.covered d || not (is_some o)) w))
+    cut_alike d e low w = ap (λ b. b || not (is_some (g.half.twin e))) (r.alike d e low w)
+        ∙ (ap (λ o. s.covered d || not (is_some o)) (back g t d e low w)
+        ∙ sym (ap (λ o. s.covered d || not (is_some o)) w))
 
     -- What was shut first is cut.
     shut_cut : (d : ℕ) → d < g.half.count → IsShut g first d → cut d ≡ true
@@ -191,7 +230,8 @@ module _ (g : Terrain) (t : IsTerrain g) (begins : ℕ → Bool) (first : State)
         next_low : g.half.next d < g.half.count
         next_low = t.half.next_low d low
 
-        by_side : IsShut g first (g.half.next d) ⊎ ((e : ℕ) × (g.half.twin (g.half.next d) ≡ Some e) × (g.half.twin (g.half.next e) ≡ None)) → CutGoesOn g.half cut d
+        by_side : IsShut g first (g.half.next d) ⊎ ((e : ℕ) × (g.half.twin (g.half.next d) ≡ Some e)
+            × (g.half.twin (g.half.next e) ≡ None)) → CutGoesOn g.half cut d
         by_side (inl k) = inl (shut_cut (g.half.next d) next_low k)
         by_side (inr (e, w, v)) = inr (e, w, alone_cut (g.half.next e) v)
 
@@ -206,34 +246,58 @@ module _ (g : Terrain) (t : IsTerrain g) (begins : ℕ → Bool) (first : State)
             at None w = absurd (false≢true (sym inner ∙ (t.edged d low w).1))
             at (Some e) w = by_known (r.ends d low (covered_there d e w c)).1
 
-        by_place : (x a b f : ℕ) → x < g.half.count → g.half.from x ≡ end_of g d → IsCross g.half x a b f → cut x ≡ true → cut b ≡ true → (g.half.next d ≡ x) ⊎ ((g.half.next d ≡ a) ⊎ ((g.half.next d ≡ b) ⊎ (g.half.next d ≡ f))) → CutGoesOn g.half cut d
+        by_place : (x a b f : ℕ) → x < g.half.count → g.half.from x ≡ end_of g d → IsCross g.half x a b f → cut x ≡ true
+            → cut b ≡ true → (g.half.next d ≡ x) ⊎ ((g.half.next d ≡ a) ⊎ ((g.half.next d ≡ b) ⊎ (g.half.next d ≡ f)))
+            → CutGoesOn g.half cut d
         by_place x a b f x_low at k on_x on_b (inl e) = inl (ap cut e ∙ on_x)
-        by_place x a b f x_low at k on_x on_b (inr (inl e)) = inr (g.half.prev x, ap g.half.twin e ∙ back g t (g.half.prev x) a (t.half.prev_low x x_low) k.first, ap cut (t.half.next_prev x) ∙ on_x)
+        by_place x a b f x_low at k on_x on_b (inr (inl e)) =
+            inr (
+              g.half.prev x,
+              ap g.half.twin e ∙ back g t (g.half.prev x) a (t.half.prev_low x x_low) k.first,
+              ap cut (t.half.next_prev x) ∙ on_x,
+            )
         by_place x a b f x_low at k on_x on_b (inr (inr (inl e))) = inl (ap cut e ∙ on_b)
-        by_place x a b f x_low at k on_x on_b (inr (inr (inr e))) = inr (g.half.prev b, ap g.half.twin e ∙ back g t (g.half.prev b) f (t.half.prev_low b (low_b g.half t.half x a b f x_low k)) k.third, ap cut (t.half.next_prev b) ∙ on_b)
+        by_place x a b f x_low at k on_x on_b (inr (inr (inr e))) =
+            inr (
+              g.half.prev b,
+              ap g.half.twin e
+                  ∙ back g t (g.half.prev b) f (t.half.prev_low b (low_b g.half t.half x a b f x_low k)) k.third,
+              ap cut (t.half.next_prev b) ∙ on_b,
+            )
 
         by_cross : IsCrossedAt g s (end_of g d) → CutGoesOn g.half cut d
         by_cross x = by_place x.x x.a x.b x.c x.low x.at x.cross (soon_cut x.x x.soon) (soon_cut x.b x.facing)
-            (one_of_four g.half t.half x.x x.a x.b x.c x.low x.cross (g.half.next d) (record { low = next_low; at = sym x.at }))
+            (one_of_four g.half t.half x.x x.a x.b x.c x.low x.cross (g.half.next d) (record {
+              low = next_low;
+              at =
+                  sym x.at;
+            }))
 
-        by_kind : (g.boundary (end_of g d) ≡ true) ⊎ (g.boundary (end_of g d) ≡ false) → (g.singular (end_of g d) ≡ true) ⊎ (g.singular (end_of g d) ≡ false) → CutGoesOn g.half cut d
+        by_kind : (g.boundary (end_of g d) ≡ true) ⊎ (g.boundary (end_of g d) ≡ false)
+            → (g.singular (end_of g d) ≡ true) ⊎ (g.singular (end_of g d) ≡ false) → CutGoesOn g.half cut d
         by_kind (inl y) k = by_side (begin.sided d low y)
-        by_kind (inr inner) (inl y) = inl (shut_cut (g.half.next d) next_low (begin.singular (g.half.next d) next_low y))
-        by_kind (inr inner) (inr regular) = by_cross (r.through (g.half.next d) next_low (stood_there inner) inner regular)
+        by_kind (inr inner) (inl y) =
+            inl (shut_cut (g.half.next d) next_low (begin.singular (g.half.next d) next_low y))
+        by_kind (inr inner) (inr regular) =
+            by_cross (r.through (g.half.next d) next_low (stood_there inner) inner regular)
 
     -- A vertex without cut edges has four faces.
     uncut_crossed : (d : ℕ) → d < g.half.count → IsUncut g.half cut (g.half.from d) → HasCross g.half d
-    uncut_crossed d low u = t.crossed d low (by_boundary (cases_Bool (g.boundary (g.half.from d)))) (by_singular (cases_Bool (g.singular (g.half.from d))))
+    uncut_crossed d low u = t.crossed d low (by_boundary (cases_Bool (g.boundary (g.half.from d))))
+        (by_singular (cases_Bool (g.singular (g.half.from d))))
       where
-        by_rim : (e : ℕ) × (e < g.half.count) × (g.half.from e ≡ g.half.from d) × ((g.half.twin e ≡ None) ⊎ (g.half.twin (g.half.prev e) ≡ None)) → ⊥
+        by_rim : (e : ℕ) × (e < g.half.count) × (g.half.from e ≡ g.half.from d)
+            × ((g.half.twin e ≡ None) ⊎ (g.half.twin (g.half.prev e) ≡ None)) → ⊥
         by_rim (e, l, at, inl w) = false≢true (sym (u e l at).0 ∙ alone_cut e w)
         by_rim (e, l, at, inr w) = false≢true (sym (u e l at).1 ∙ alone_cut (g.half.prev e) w)
 
-        by_boundary : (g.boundary (g.half.from d) ≡ true) ⊎ (g.boundary (g.half.from d) ≡ false) → g.boundary (g.half.from d) ≡ false
+        by_boundary : (g.boundary (g.half.from d) ≡ true) ⊎ (g.boundary (g.half.from d) ≡ false)
+            → g.boundary (g.half.from d) ≡ false
         by_boundary (inl y) = absurd (by_rim (t.rimmed d low y))
         by_boundary (inr n) = n
 
-        by_singular : (g.singular (g.half.from d) ≡ true) ⊎ (g.singular (g.half.from d) ≡ false) → g.singular (g.half.from d) ≡ false
+        by_singular : (g.singular (g.half.from d) ≡ true) ⊎ (g.singular (g.half.from d) ≡ false)
+            → g.singular (g.half.from d) ≡ false
         by_singular (inl y) = absurd (false≢true (sym (u d low refl).0 ∙ shut_cut d low (begin.singular d low y)))
         by_singular (inr n) = n
 
@@ -243,7 +307,8 @@ module _ (g : Terrain) (t : IsTerrain g) (begins : ℕ → Bool) (first : State)
       boundary = λ d low w. alone_cut d w;
       started = λ d low b. soon_cut d (r.kept d (begin.begun d low b));
       before = λ d low b. shut_cut (g.half.prev d) (t.half.prev_low d low) (begin.before d low b);
-      beside = λ d e low b w. shut_cut (g.half.next e) (t.half.next_low e (t.half.twin_low d e low w)) (begin.beside d e low b w);
+      beside = λ d e low b w. shut_cut (g.half.next e) (t.half.next_low e (t.half.twin_low d e low w))
+          (begin.beside d e low b w);
       tracked = tracked;
     }
       where

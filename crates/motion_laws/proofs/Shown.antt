@@ -1,19 +1,24 @@
 -- What an event state shows of the motion: it stands within the instant that begins with one state of the motion.
-use Rattle.std.proofs.Common.{◌≡◌, ◌≢◌, ◌⊎◌, ℕ, zero, suc, ◌<◌, Bool, true, false, cond, ◌&&◌, ◌||◌, List, [], ◌∷◌, map, length, set, replicate, Option, Some, None, sym, subst, ap, ◌∙◌, refl, inl, inr, arith}
+use Rattle.std.proofs.Common.{◌≡◌, ◌≢◌, ◌⊎◌, ℕ, zero, suc, ◌<◌, Bool, true, false, cond, ◌&&◌, ◌||◌, List, [], ◌∷◌, map}
+use Rattle.std.proofs.Common.{length, set, replicate, Option, Some, None, sym, subst, ap, ◌∙◌, refl, inl, inr, arith}
 use Rattle.std.proofs.lemmas.Option.{none-some}
 use Rattle.std.proofs.lemmas.Bool.{eq-eqb, false≢true, cases_eq}
 use Rattle.def_cut.specs.FullCut.{is_on}
 use Rattle.def_cut.specs.declared.graph.Stop.{Stop}
 use Rattle.def_cut.specs.declared.graph.Stop.TheVariants.{Middle, Boundary, Singular, Trail, Tie}
 use Rattle.def_cut.specs.declared.moving.Moving.{Moving}
-use Rattle.def_cut.specs.Motion.{Terrain, State, end_of, with_next, ridden, is_among, is_met, arrives_at, arrivals, goes_on, stop_of, after_ride, ride_on, ride}
-use Rattle.def_cut.specs.Events.{EventState, is_waiting, more_if, waiting, with_note, darts_in, rider_at, note_at, ridden_once_more, told, told_at, all_told}
+use Rattle.def_cut.specs.Motion.{Terrain, State, end_of, with_next, ridden, is_among, is_met, arrives_at, arrivals}
+use Rattle.def_cut.specs.Motion.{goes_on, stop_of, after_ride, ride_on, ride}
+use Rattle.def_cut.specs.Events.{EventState, is_waiting, more_if, waiting, with_note, darts_in, rider_at, note_at}
+use Rattle.def_cut.specs.Events.{ridden_once_more, told, told_at, all_told}
 use Rattle.motion_laws.proofs.Among.{among_here, among_later, among_cases, AreApart}
 
 -- What a rider shows within an instant: b at its start, n the dart noted for it, and `settled` the vertices settled.
-abbrev pub shown_by : (g : Terrain) (stood : ℕ → Bool) (ds : List ℕ) (settled : ℕ → Bool) (b : Moving) (n : Option ℕ) → Moving
+abbrev pub shown_by : (g : Terrain) (stood : ℕ → Bool) (ds : List ℕ) (settled : ℕ → Bool) (b : Moving) (n : Option ℕ)
+    → Moving
 shown_by g stood ds settled b None = b
-shown_by g stood ds settled b (Some d) = cond (settled (end_of g d)) (after_ride g d b.rides (stop_of g stood ds d)) (ridden_once_more b)
+shown_by g stood ds settled b (Some d) = cond (settled (end_of g d)) (after_ride g d b.rides (stop_of g stood ds d))
+    (ridden_once_more b)
 
 -- The note is of the rider's next dart, and the rider ran.
 abbrev pub IsNoted : (b : Moving) (n : Option ℕ) → Type 0
@@ -21,9 +26,11 @@ IsNoted b None = Unit {0}
 IsNoted b (Some d) = (b.stop ≡ None) × (d ≡ b.dart)
 
 -- Riders at the start of an instant, riders now, and their notes.
-abbrev pub AreShown : (g : Terrain) (stood : ℕ → Bool) (ds : List ℕ) (settled : ℕ → Bool) (bs rs : List Moving) (ns : List (Option ℕ)) → Type 0
+abbrev pub AreShown : (g : Terrain) (stood : ℕ → Bool) (ds : List ℕ) (settled : ℕ → Bool) (bs rs : List Moving)
+    (ns : List (Option ℕ)) → Type 0
 AreShown g stood ds settled [] [] [] = Unit {0}
-AreShown g stood ds settled (b ∷ bs) (r ∷ rs) (n ∷ ns) = IsNoted b n × (r ≡ shown_by g stood ds settled b n) × AreShown g stood ds settled bs rs ns
+AreShown g stood ds settled (b ∷ bs) (r ∷ rs) (n ∷ ns) = IsNoted b n × (r ≡ shown_by g stood ds settled b n)
+    × AreShown g stood ds settled bs rs ns
 AreShown g stood ds settled [] [] (n ∷ ns) = ⊥
 AreShown g stood ds settled [] (r ∷ rs) ns = ⊥
 AreShown g stood ds settled (b ∷ bs) [] ns = ⊥
@@ -41,16 +48,22 @@ pub record IsShown (g : Terrain) (n : ℕ) (s : State) (x : EventState) : Type 0
   pub stood_long : length x.stood ≡ n
   pub covered_long : length x.covered ≡ g.half.count
   pub settled_long : length x.settled ≡ n
-  pub stood : (v : ℕ) → v < n → is_on x.stood v ≡ (s.stood v || (is_on x.settled v && Rattle.std.specs.List.list_any (arrives_at g (ridden s.riders) v) (ridden s.riders)))
-  pub covered : (d : ℕ) → d < g.half.count → is_on x.covered d ≡ (s.covered d || (is_among d (darts_in x.noted) || is_met g (darts_in x.noted) d))
+  pub stood : (v : ℕ) → v < n
+      → is_on x.stood v ≡ (s.stood v
+      || (is_on x.settled v && Rattle.std.specs.List.list_any (arrives_at g (ridden s.riders) v) (ridden s.riders)))
+  pub covered : (d : ℕ) → d < g.half.count
+      → is_on x.covered d ≡ (s.covered d || (is_among d (darts_in x.noted) || is_met g (darts_in x.noted) d))
   pub phase : AllNoted s.riders x.noted ⊎ ((v : ℕ) → is_on x.settled v ≡ false)
-  pub rest : ((darts_in x.noted ≡ []) × ((v : ℕ) → is_on x.settled v ≡ false)) ⊎ ((d : ℕ) × (is_among d (darts_in x.noted) ≡ true) × (is_on x.settled (end_of g d) ≡ false))
+  pub rest : ((darts_in x.noted ≡ []) × ((v : ℕ) → is_on x.settled v ≡ false))
+      ⊎ ((d : ℕ) × (is_among d (darts_in x.noted) ≡ true) × (is_on x.settled (end_of g d) ≡ false))
 
 module _ (g : Terrain) (stood : ℕ → Bool) (ds : List ℕ) where
   -- All three lists are of one length.
-  pub long : (V : ℕ → Bool) (bs rs : List Moving) (ns : List (Option ℕ)) → AreShown g stood ds V bs rs ns → (length rs ≡ length bs) × (length ns ≡ length bs)
+  pub long : (V : ℕ → Bool) (bs rs : List Moving) (ns : List (Option ℕ)) → AreShown g stood ds V bs rs ns
+      → (length rs ≡ length bs) × (length ns ≡ length bs)
   long V [] [] [] a = (refl, refl)
-  long V (b ∷ bs) (r ∷ rs) (n ∷ ns) a = let l : (length rs ≡ length bs) × (length ns ≡ length bs) = long V bs rs ns a.2 in (ap suc l.0, ap suc l.1)
+  long V (b ∷ bs) (r ∷ rs) (n ∷ ns) a = let l : (length rs ≡ length bs) × (length ns ≡ length bs) =
+      long V bs rs ns a.2 in (ap suc l.0, ap suc l.1)
   long V _ _ _ a = absurd a
 
   -- Who waits runs and has no note.
@@ -59,11 +72,15 @@ module _ (g : Terrain) (stood : ℕ → Bool) (ds : List ℕ) where
   waits_runs _ _ w = absurd (false≢true w)
 
   -- Where nobody waits, each that ran has its note.
-  pub all_noted : (V : ℕ → Bool) (bs rs : List Moving) (ns : List (Option ℕ)) → AreShown g stood ds V bs rs ns → waiting rs ns ≡ 0 → AllNoted bs ns
+  pub all_noted : (V : ℕ → Bool) (bs rs : List Moving) (ns : List (Option ℕ)) → AreShown g stood ds V bs rs ns
+      → waiting rs ns ≡ 0 → AllNoted bs ns
   all_noted V [] rs ns a w = tt
   all_noted V (b ∷ bs) [] ns a w = absurd a
   all_noted V (b ∷ bs) (r ∷ rs) [] a w = tt
-  all_noted V (b ∷ bs) (r ∷ rs) (n ∷ ns) a w = (at n a.0 a.1 (none_of (is_waiting r.stop n) (waiting rs ns) w), all_noted V bs rs ns a.2 (rest_of (is_waiting r.stop n) (waiting rs ns) w))
+  all_noted V (b ∷ bs) (r ∷ rs) (n ∷ ns) a w = (
+    at n a.0 a.1 (none_of (is_waiting r.stop n) (waiting rs ns) w),
+    all_noted V bs rs ns a.2 (rest_of (is_waiting r.stop n) (waiting rs ns) w),
+  )
     where
       none_of : (t : Bool) (k : ℕ) → more_if t k ≡ 0 → t ≡ false
       none_of true k e = absurd (omega arith)
@@ -73,48 +90,69 @@ module _ (g : Terrain) (stood : ℕ → Bool) (ds : List ℕ) where
       rest_of true k e = absurd (omega arith)
       rest_of false k e = e
 
-      at : (n : Option ℕ) → IsNoted b n → r ≡ shown_by g stood ds V b n → is_waiting r.stop n ≡ false → b.stop ≡ None → n ≡ Some b.dart
+      at : (n : Option ℕ) → IsNoted b n → r ≡ shown_by g stood ds V b n → is_waiting r.stop n ≡ false → b.stop ≡ None
+          → n ≡ Some b.dart
       at (Some d) i s off runs = ap Some i.1
-      at None i s off runs = absurd (false≢true (sym off ∙ ap (λ (o : Option Stop). is_waiting o None) (ap (λ (q : Moving). q.stop) s ∙ runs)))
+      at None i s off runs = absurd
+          (false≢true (sym off ∙ ap (λ (o : Option Stop). is_waiting o None) (ap (λ (q : Moving). q.stop) s ∙ runs)))
 
   -- Where all that ran have notes, the noted darts are those ridden.
-  pub darts_are : (V : ℕ → Bool) (bs rs : List Moving) (ns : List (Option ℕ)) → AreShown g stood ds V bs rs ns → AllNoted bs ns → darts_in ns ≡ ridden bs
+  pub darts_are : (V : ℕ → Bool) (bs rs : List Moving) (ns : List (Option ℕ)) → AreShown g stood ds V bs rs ns
+      → AllNoted bs ns → darts_in ns ≡ ridden bs
   darts_are V [] [] [] a all = refl
   darts_are V (b ∷ bs) (r ∷ rs) (n ∷ ns) a all = at n b.stop refl a.0 all.0 (darts_are V bs rs ns a.2 all.1)
     where
-      at : (n : Option ℕ) (o : Option Stop) → b.stop ≡ o → IsNoted b n → (b.stop ≡ None → n ≡ Some b.dart) → darts_in ns ≡ ridden bs → with_note n (darts_in ns) ≡ with_next o b.dart (ridden bs)
+      at : (n : Option ℕ) (o : Option Stop) → b.stop ≡ o → IsNoted b n → (b.stop ≡ None → n ≡ Some b.dart)
+          → darts_in ns ≡ ridden bs → with_note n (darts_in ns) ≡ with_next o b.dart (ridden bs)
       at n None is i f rest = let e : n ≡ Some b.dart = f is in rw e (ap (λ xs. b.dart ∷ xs) rest)
       at None (Some s) is i f rest = rest
       at (Some d) (Some s) is i f rest = absurd (none-some s (sym i.0 ∙ is))
   darts_are V _ _ _ a all = absurd a
 
   -- Noted darts are ridden, each once.
-  pub noted_rides : (V : ℕ → Bool) (bs rs : List Moving) (ns : List (Option ℕ)) (d : ℕ) → AreShown g stood ds V bs rs ns → is_among d (darts_in ns) ≡ true → is_among d (ridden bs) ≡ true
+  pub noted_rides : (V : ℕ → Bool) (bs rs : List Moving) (ns : List (Option ℕ)) (d : ℕ) → AreShown g stood ds V bs rs ns
+      → is_among d (darts_in ns) ≡ true → is_among d (ridden bs) ≡ true
   noted_rides V [] [] [] d a m = absurd (false≢true m)
   noted_rides V (b ∷ bs) (r ∷ rs) (n ∷ ns) d a m = at n b.stop refl a.0 m (noted_rides V bs rs ns d a.2)
     where
-      at : (n : Option ℕ) (o : Option Stop) → b.stop ≡ o → IsNoted b n → is_among d (with_note n (darts_in ns)) ≡ true → (is_among d (darts_in ns) ≡ true → is_among d (ridden bs) ≡ true) → is_among d (with_next o b.dart (ridden bs)) ≡ true
+      at : (n : Option ℕ) (o : Option Stop) → b.stop ≡ o → IsNoted b n → is_among d (with_note n (darts_in ns)) ≡ true
+          → (is_among d (darts_in ns) ≡ true → is_among d (ridden bs) ≡ true)
+          → is_among d (with_next o b.dart (ridden bs)) ≡ true
       at None None is i m rest = among_later d b.dart (ridden bs) (rest m)
       at None (Some s) is i m rest = rest m
-      at (Some e) None is i m rest = elim (among_cases d e (darts_in ns) m) [ inl s ↦ among_here d b.dart (ridden bs) (s ∙ i.1) | inr k ↦ among_later d b.dart (ridden bs) (rest k) ]
+      at (Some e) None is i m rest =
+          elim (among_cases d e (darts_in ns) m) [
+            | inl s ↦ among_here d b.dart (ridden bs) (s ∙ i.1)
+            | inr k ↦ among_later d b.dart (ridden bs) (rest k)
+          ]
       at (Some e) (Some s) is i m rest = absurd (none-some s (sym i.0 ∙ is))
   noted_rides V _ _ _ d a m = absurd a
 
-  pub notes_apart : (V : ℕ → Bool) (bs rs : List Moving) (ns : List (Option ℕ)) → AreShown g stood ds V bs rs ns → AreApart (ridden bs) → AreApart (darts_in ns)
+  pub notes_apart : (V : ℕ → Bool) (bs rs : List Moving) (ns : List (Option ℕ)) → AreShown g stood ds V bs rs ns
+      → AreApart (ridden bs) → AreApart (darts_in ns)
   notes_apart V [] [] [] a apart = tt
   notes_apart V (b ∷ bs) (r ∷ rs) (n ∷ ns) a apart = at n b.stop refl a.0 apart (notes_apart V bs rs ns a.2)
     where
-      at : (n : Option ℕ) (o : Option Stop) → b.stop ≡ o → IsNoted b n → AreApart (with_next o b.dart (ridden bs)) → (AreApart (ridden bs) → AreApart (darts_in ns)) → AreApart (with_note n (darts_in ns))
+      at : (n : Option ℕ) (o : Option Stop) → b.stop ≡ o → IsNoted b n → AreApart (with_next o b.dart (ridden bs))
+          → (AreApart (ridden bs) → AreApart (darts_in ns)) → AreApart (with_note n (darts_in ns))
       at None None is i p rest = rest p.1
       at None (Some s) is i p rest = rest p
-      at (Some e) None is i p rest = (Rattle.std.proofs.lemmas.Bool.false_from_ne_true _ (λ m. false≢true (sym p.0 ∙ (ap (λ k. is_among k (ridden bs)) (sym i.1) ∙ noted_rides V bs rs ns e a.2 m))), rest p.1)
+      at (Some e) None is i p rest = (
+        Rattle.std.proofs.lemmas.Bool.false_from_ne_true _
+            (λ m. false≢true (sym p.0 ∙ (ap (λ k. is_among k (ridden bs)) (sym i.1) ∙ noted_rides V bs rs ns e a.2 m))),
+        rest p.1,
+      )
       at (Some e) (Some s) is i p rest = absurd (none-some s (sym i.0 ∙ is))
   notes_apart V _ _ _ a apart = absurd a
 
   -- A ride of a waiting rider whose dart ends where nothing is settled.
-  pub ride_shown : (V : ℕ → Bool) (bs rs : List Moving) (ns : List (Option ℕ)) (r : ℕ) → AreShown g stood ds V bs rs ns → r < length rs → is_waiting (rider_at rs r).stop (note_at ns r) ≡ true → V (end_of g (rider_at rs r).dart) ≡ false → AreShown g stood ds V bs (set rs r (ridden_once_more (rider_at rs r))) (set ns r (Some (rider_at rs r).dart))
+  pub ride_shown : (V : ℕ → Bool) (bs rs : List Moving) (ns : List (Option ℕ)) (r : ℕ) → AreShown g stood ds V bs rs ns
+      → r < length rs → is_waiting (rider_at rs r).stop (note_at ns r) ≡ true → V (end_of g (rider_at rs r).dart)
+      ≡ false → AreShown g stood ds V bs (set rs r (ridden_once_more (rider_at rs r)))
+      (set ns r (Some (rider_at rs r).dart))
   ride_shown V [] [] ns r a l w off = absurd (omega arith)
-  ride_shown V (b ∷ bs) (q ∷ rs) (n ∷ ns) (suc r) a l w off = (a.0, a.1, ride_shown V bs rs ns r a.2 (omega arith) w off)
+  ride_shown V (b ∷ bs) (q ∷ rs) (n ∷ ns) (suc r) a l w off =
+      (a.0, a.1, ride_shown V bs rs ns r a.2 (omega arith) w off)
   ride_shown V (b ∷ bs) (q ∷ rs) (n ∷ ns) zero a l w off =
       let p : (q.stop ≡ None) × (n ≡ None) = waits_runs q.stop n w in
       let s : q ≡ b = subst (λ (o : Option ℕ). q ≡ shown_by g stood ds V b o) p.1 a.1 in
@@ -122,20 +160,28 @@ module _ (g : Terrain) (stood : ℕ → Bool) (ds : List ℕ) where
   ride_shown V _ _ _ r a l w off = absurd a
 
   -- Who waits is as at the start, and rides now.
-  pub waits_as_was : (V : ℕ → Bool) (bs rs : List Moving) (ns : List (Option ℕ)) (r : ℕ) → AreShown g stood ds V bs rs ns → r < length rs → is_waiting (rider_at rs r).stop (note_at ns r) ≡ true → (note_at ns r ≡ None) × (is_among (rider_at rs r).dart (ridden bs) ≡ true)
+  pub waits_as_was : (V : ℕ → Bool) (bs rs : List Moving) (ns : List (Option ℕ)) (r : ℕ)
+      → AreShown g stood ds V bs rs ns → r < length rs → is_waiting (rider_at rs r).stop (note_at ns r) ≡ true
+      → (note_at ns r ≡ None) × (is_among (rider_at rs r).dart (ridden bs) ≡ true)
   waits_as_was V [] [] ns r a l w = absurd (omega arith)
   waits_as_was V (b ∷ bs) (q ∷ rs) (n ∷ ns) (suc r) a l w =
-      let p : (note_at ns r ≡ None) × (is_among (rider_at rs r).dart (ridden bs) ≡ true) = waits_as_was V bs rs ns r a.2 (omega arith) w in
+      let p : (note_at ns r ≡ None) × (is_among (rider_at rs r).dart (ridden bs) ≡ true) =
+      waits_as_was V bs rs ns r a.2 (omega arith) w in
       (p.0, Rattle.motion_laws.proofs.Next.with_later b.stop b.dart (rider_at rs r).dart (ridden bs) p.1)
   waits_as_was V (b ∷ bs) (q ∷ rs) (n ∷ ns) zero a l w =
       let p : (q.stop ≡ None) × (n ≡ None) = waits_runs q.stop n w in
       let s : q ≡ b = subst (λ (o : Option ℕ). q ≡ shown_by g stood ds V b o) p.1 a.1 in
-      let runs : b.stop ≡ None = sym (ap (λ (m : Moving). m.stop) s) ∙ p.0 in
-      (p.1, subst (λ (o : Option Stop). is_among q.dart (with_next o b.dart (ridden bs)) ≡ true) (sym runs) (among_here q.dart b.dart (ridden bs) (ap (λ (m : Moving). m.dart) s)))
+      let runs : b.stop ≡ None = sym (ap (λ (m : Moving). m.stop) s) ∙ p.0 in (
+        p.1,
+        subst (λ (o : Option Stop). is_among q.dart (with_next o b.dart (ridden bs)) ≡ true) (sym runs)
+            (among_here q.dart b.dart (ridden bs) (ap (λ (m : Moving). m.dart) s)),
+      )
   waits_as_was V _ _ _ r a l w = absurd a
 
   -- Where somebody waits, not all have notes.
-  pub waits_not_all : (V : ℕ → Bool) (bs rs : List Moving) (ns : List (Option ℕ)) (r : ℕ) → AreShown g stood ds V bs rs ns → r < length rs → is_waiting (rider_at rs r).stop (note_at ns r) ≡ true → AllNoted bs ns → ⊥
+  pub waits_not_all : (V : ℕ → Bool) (bs rs : List Moving) (ns : List (Option ℕ)) (r : ℕ)
+      → AreShown g stood ds V bs rs ns → r < length rs → is_waiting (rider_at rs r).stop (note_at ns r) ≡ true
+      → AllNoted bs ns → ⊥
   waits_not_all V [] [] ns r a l w all = omega arith
   waits_not_all V [] (q ∷ rs) ns r a l w all = a
   waits_not_all V (b ∷ bs) [] ns r a l w all = a
@@ -147,18 +193,23 @@ module _ (g : Terrain) (stood : ℕ → Bool) (ds : List ℕ) where
       none-some b.dart (sym p.1 ∙ all.0 (sym (ap (λ (m : Moving). m.stop) s) ∙ p.0))
 
   -- Where somebody waits, it has a number.
-  pub somebody : (V : ℕ → Bool) (bs rs : List Moving) (ns : List (Option ℕ)) → AreShown g stood ds V bs rs ns → (waiting rs ns ≡ 0) ⊎ ((r : ℕ) × (r < length rs) × (is_waiting (rider_at rs r).stop (note_at ns r) ≡ true))
+  pub somebody : (V : ℕ → Bool) (bs rs : List Moving) (ns : List (Option ℕ)) → AreShown g stood ds V bs rs ns
+      → (waiting rs ns ≡ 0) ⊎ ((r : ℕ) × (r < length rs) × (is_waiting (rider_at rs r).stop (note_at ns r) ≡ true))
   somebody V [] [] [] a = inl refl
   somebody V (b ∷ bs) (r ∷ rs) (n ∷ ns) a = at (is_waiting r.stop n) refl (somebody V bs rs ns a.2)
     where
-      at : (t : Bool) → is_waiting r.stop n ≡ t → (waiting rs ns ≡ 0) ⊎ ((k : ℕ) × (k < length rs) × (is_waiting (rider_at rs k).stop (note_at ns k) ≡ true)) → (more_if t (waiting rs ns) ≡ 0) ⊎ ((k : ℕ) × (k < suc (length rs)) × (is_waiting (rider_at (r ∷ rs) k).stop (note_at (n ∷ ns) k) ≡ true))
+      at : (t : Bool) → is_waiting r.stop n ≡ t → (waiting rs ns ≡ 0)
+          ⊎ ((k : ℕ) × (k < length rs) × (is_waiting (rider_at rs k).stop (note_at ns k) ≡ true))
+          → (more_if t (waiting rs ns) ≡ 0)
+          ⊎ ((k : ℕ) × (k < suc (length rs)) × (is_waiting (rider_at (r ∷ rs) k).stop (note_at (n ∷ ns) k) ≡ true))
       at true is rest = inr (0, omega arith, is)
       at false is (inl e) = inl e
       at false is (inr k) = inr (suc k.0, omega (arith, k.1), k.2)
   somebody V _ _ _ a = absurd a
 
   -- Nothing noted: the riders are as at the start.
-  pub as_was : (V : ℕ → Bool) (bs rs : List Moving) (ns : List (Option ℕ)) → AreShown g stood ds V bs rs ns → darts_in ns ≡ [] → rs ≡ bs
+  pub as_was : (V : ℕ → Bool) (bs rs : List Moving) (ns : List (Option ℕ)) → AreShown g stood ds V bs rs ns
+      → darts_in ns ≡ [] → rs ≡ bs
   as_was V [] [] ns a e = refl
   as_was V (b ∷ bs) (r ∷ rs) (None ∷ ns) a e = rw a.1 (ap (λ qs. b ∷ qs) (as_was V bs rs ns a.2 e))
   as_was V (b ∷ bs) (r ∷ rs) (Some d ∷ ns) a e = absurd (absurd_list d (darts_in ns) e)
@@ -168,53 +219,79 @@ module _ (g : Terrain) (stood : ℕ → Bool) (ds : List ℕ) where
   as_was V _ _ _ a e = absurd a
 
   -- A rider whose noted dart ends where nothing is settled still runs.
-  pub still_runs : (V : ℕ → Bool) (bs rs : List Moving) (ns : List (Option ℕ)) (d : ℕ) → AreShown g stood ds V bs rs ns → is_among d (darts_in ns) ≡ true → V (end_of g d) ≡ false → (r : ℕ) × (r < length rs) × ((rider_at rs r).stop ≡ None)
+  pub still_runs : (V : ℕ → Bool) (bs rs : List Moving) (ns : List (Option ℕ)) (d : ℕ) → AreShown g stood ds V bs rs ns
+      → is_among d (darts_in ns) ≡ true → V (end_of g d) ≡ false → (r : ℕ) × (r < length rs)
+      × ((rider_at rs r).stop ≡ None)
   still_runs V [] [] [] d a m off = absurd (false≢true m)
   still_runs V (b ∷ bs) (r ∷ rs) (n ∷ ns) d a m off = at n a.0 a.1 m (λ k. still_runs V bs rs ns d a.2 k off)
     where
-      later : (k : ℕ) × (k < length rs) × ((rider_at rs k).stop ≡ None) → (k : ℕ) × (k < suc (length rs)) × ((rider_at (r ∷ rs) k).stop ≡ None)
+      later : (k : ℕ) × (k < length rs) × ((rider_at rs k).stop ≡ None) → (k : ℕ) × (k < suc (length rs))
+          × ((rider_at (r ∷ rs) k).stop ≡ None)
       later k = (suc k.0, omega (arith, k.1), k.2)
 
-      at : (n : Option ℕ) → IsNoted b n → r ≡ shown_by g stood ds V b n → is_among d (with_note n (darts_in ns)) ≡ true → (is_among d (darts_in ns) ≡ true → (k : ℕ) × (k < length rs) × ((rider_at rs k).stop ≡ None)) → (k : ℕ) × (k < suc (length rs)) × ((rider_at (r ∷ rs) k).stop ≡ None)
+      at : (n : Option ℕ) → IsNoted b n → r ≡ shown_by g stood ds V b n → is_among d (with_note n (darts_in ns)) ≡ true
+          → (is_among d (darts_in ns) ≡ true → (k : ℕ) × (k < length rs) × ((rider_at rs k).stop ≡ None))
+          → (k : ℕ) × (k < suc (length rs)) × ((rider_at (r ∷ rs) k).stop ≡ None)
       at None i s m rest = later (rest m)
       at (Some e) i s m rest = elim (among_cases d e (darts_in ns) m) [
-        | inl q ↦ (0, omega arith, ap (λ (k : Moving). k.stop) s ∙ (ap (λ (t : Bool). (cond t (after_ride g e b.rides (stop_of g stood ds e)) (ridden_once_more b)).stop) (ap (λ k. V (end_of g k)) (sym q) ∙ off) ∙ i.0))
+        | inl q ↦ (
+          0,
+          omega arith,
+          ap (λ (k : Moving). k.stop) s
+              ∙ (ap (λ (t : Bool). (cond t (after_ride g e b.rides (stop_of g stood ds e)) (ridden_once_more b)).stop)
+              (ap (λ k. V (end_of g k)) (sym q) ∙ off) ∙ i.0),
+        )
         | inr k ↦ later (rest k)
       ]
   still_runs V _ _ _ d a m off = absurd a
 
   -- All ends settled: the riders are those after the step.
-  pub closed_is : (V : ℕ → Bool) (bs rs : List Moving) (ns : List (Option ℕ)) → AreShown g stood ds V bs rs ns → AllNoted bs ns → ((d : ℕ) → is_among d (darts_in ns) ≡ true → V (end_of g d) ≡ true) → rs ≡ map (ride g stood ds) bs
+  pub closed_is : (V : ℕ → Bool) (bs rs : List Moving) (ns : List (Option ℕ)) → AreShown g stood ds V bs rs ns
+      → AllNoted bs ns → ((d : ℕ) → is_among d (darts_in ns) ≡ true → V (end_of g d) ≡ true)
+      → rs ≡ map (ride g stood ds) bs
   closed_is V [] [] ns a all on = refl
-  closed_is V (b ∷ bs) (r ∷ rs) (n ∷ ns) a all on = rw (at n b.stop refl a.0 a.1 all.0 on) (ap (λ qs. ride g stood ds b ∷ qs) (closed_is V bs rs ns a.2 all.1 (λ d m. on d (later n d m))))
+  closed_is V (b ∷ bs) (r ∷ rs) (n ∷ ns) a all on =
+      rw (at n b.stop refl a.0 a.1 all.0 on)
+      (ap (λ qs. ride g stood ds b ∷ qs) (closed_is V bs rs ns a.2 all.1 (λ d m. on d (later n d m))))
     where
       later : (o : Option ℕ) (d : ℕ) → is_among d (darts_in ns) ≡ true → is_among d (with_note o (darts_in ns)) ≡ true
       later None d m = m
       later (Some e) d m = among_later d e (darts_in ns) m
 
-      at : (n : Option ℕ) (o : Option Stop) → b.stop ≡ o → IsNoted b n → r ≡ shown_by g stood ds V b n → (b.stop ≡ None → n ≡ Some b.dart) → ((d : ℕ) → is_among d (with_note n (darts_in ns)) ≡ true → V (end_of g d) ≡ true) → r ≡ ride_on g stood ds b o
+      at : (n : Option ℕ) (o : Option Stop) → b.stop ≡ o → IsNoted b n → r ≡ shown_by g stood ds V b n
+          → (b.stop ≡ None → n ≡ Some b.dart) → ((d : ℕ) → is_among d (with_note n (darts_in ns)) ≡ true
+          → V (end_of g d) ≡ true) → r ≡ ride_on g stood ds b o
       at None None is i s f on = absurd (none-some b.dart (f is))
       at None (Some q) is i s f on = s
-      at (Some d) None is i s f on = s ∙ (ap (λ (t : Bool). cond t (after_ride g d b.rides (stop_of g stood ds d)) (ridden_once_more b)) (on d (among_here d d (darts_in ns) refl)) ∙ ap (λ k. after_ride g k b.rides (stop_of g stood ds k)) i.1)
+      at (Some d) None is i s f on =
+          s ∙ (ap (λ (t : Bool). cond t (after_ride g d b.rides (stop_of g stood ds d)) (ridden_once_more b))
+          (on d (among_here d d (darts_in ns) refl)) ∙ ap (λ k. after_ride g k b.rides (stop_of g stood ds k)) i.1)
       at (Some d) (Some q) is i s f on = absurd (none-some q (sym i.0 ∙ is))
   closed_is V _ _ _ a all on = absurd a
 
   -- A new instant.
-  pub none_shown : (V : ℕ → Bool) (bs : List Moving) (k : ℕ) → length bs ≡ k → AreShown g stood ds V bs bs (replicate k None)
+  pub none_shown : (V : ℕ → Bool) (bs : List Moving) (k : ℕ) → length bs ≡ k
+      → AreShown g stood ds V bs bs (replicate k None)
   none_shown V [] zero e = tt
   none_shown V (b ∷ bs) (suc k) e = (tt, refl, none_shown V bs k (omega arith))
   none_shown V _ _ e = absurd (omega arith)
 
   -- A settling of v tells the riders that come there, by where somebody had stood when the instant began.
-  module _ (V W : ℕ → Bool) (v : ℕ) (now : ℕ → Bool) (kept : (u : ℕ) → u ≢ v → W u ≡ V u) (on : W v ≡ true) (off : V v ≡ false) (same : now v ≡ stood v) where
+  module _ (V W : ℕ → Bool) (v : ℕ) (now : ℕ → Bool) (kept : (u : ℕ) → u ≢ v → W u ≡ V u) (on : W v ≡ true) (off : V v
+      ≡ false) (same : now v ≡ stood v) where
     same_stop : (d : ℕ) → end_of g d ≡ v → stop_of g now ds d ≡ stop_of g stood ds d
-    same_stop d at = ap (λ (b : Bool). cond (is_met g ds d) (Some (Middle (g.half.from d) (end_of g d))) (cond (g.boundary (end_of g d)) (Some (Boundary (end_of g d))) (cond (g.singular (end_of g d)) (Some (Singular (end_of g d))) (cond b (Some (Trail (end_of g d))) (cond (goes_on g (arrivals g ds (end_of g d)) d) None (Some (Tie (end_of g d)))))))) (ap now at ∙ (same ∙ ap stood (sym at)))
+    same_stop d at = ap (λ (b : Bool). cond (is_met g ds d) (Some (Middle (g.half.from d) (end_of g d)))
+        (cond (g.boundary (end_of g d)) (Some (Boundary (end_of g d)))
+        (cond (g.singular (end_of g d)) (Some (Singular (end_of g d)))
+        (cond b (Some (Trail (end_of g d))) (cond (goes_on g (arrivals g ds (end_of g d)) d) None
+        (Some (Tie (end_of g d)))))))) (ap now at ∙ (same ∙ ap stood (sym at)))
 
     told_is : (d : ℕ) (b : Moving) (o : Option Stop) → told g d (ridden_once_more b) o ≡ after_ride g d b.rides o
     told_is d b (Some s) = refl
     told_is d b None = refl
 
-    pub told_shown : (bs rs : List Moving) (ns : List (Option ℕ)) → AreShown g stood ds V bs rs ns → AreShown g stood ds W bs (all_told g now ds v rs ns) ns
+    pub told_shown : (bs rs : List Moving) (ns : List (Option ℕ)) → AreShown g stood ds V bs rs ns
+        → AreShown g stood ds W bs (all_told g now ds v rs ns) ns
     told_shown [] [] [] a = tt
     told_shown (b ∷ bs) (r ∷ rs) (n ∷ ns) a = (a.0, at n a.1, told_shown bs rs ns a.2)
       where
@@ -222,16 +299,21 @@ module _ (g : Terrain) (stood : ℕ → Bool) (ds : List ℕ) where
         at None s = s
         at (Some d) s = by_end (cases_eq (end_of g d) v)
           where
-            by_end : (end_of g d ≡ v) ⊎ (end_of g d ≡ v → ⊥) → told_at g now ds v r (Some d) ≡ shown_by g stood ds W b (Some d)
+            by_end : (end_of g d ≡ v) ⊎ (end_of g d ≡ v → ⊥) → told_at g now ds v r (Some d)
+                ≡ shown_by g stood ds W b (Some d)
             by_end (inl e) =
-                let r_is : r ≡ ridden_once_more b = s ∙ ap (λ (t : Bool). cond t (after_ride g d b.rides (stop_of g stood ds d)) (ridden_once_more b)) (ap V e ∙ off) in
+                let r_is : r ≡ ridden_once_more b =
+                s ∙ ap (λ (t : Bool). cond t (after_ride g d b.rides (stop_of g stood ds d)) (ridden_once_more b))
+                (ap V e ∙ off) in
                 let w_on : W (end_of g d) ≡ true = ap W e ∙ on in
-                rw (eq-eqb (end_of g d) v e, w_on) (ap (λ (q : Moving). told g d q (stop_of g now ds d)) r_is ∙ (told_is d b (stop_of g now ds d) ∙ ap (after_ride g d b.rides) (same_stop d e)))
+                rw (eq-eqb (end_of g d) v e, w_on) (ap (λ (q : Moving). told g d q (stop_of g now ds d)) r_is
+                ∙ (told_is d b (stop_of g now ds d) ∙ ap (after_ride g d b.rides) (same_stop d e)))
             by_end (inr ne) = rw (Rattle.std.proofs.lemmas.Bool.ne_eqb (end_of g d) v ne, kept (end_of g d) ne) s
     told_shown _ _ _ a = absurd a
 
   -- How many riders there are stays so.
-  pub told_long : (now : ℕ → Bool) (v : ℕ) (rs : List Moving) (ns : List (Option ℕ)) → length ns ≡ length rs → length (all_told g now ds v rs ns) ≡ length rs
+  pub told_long : (now : ℕ → Bool) (v : ℕ) (rs : List Moving) (ns : List (Option ℕ)) → length ns ≡ length rs
+      → length (all_told g now ds v rs ns) ≡ length rs
   told_long now v [] ns e = refl
   told_long now v (r ∷ rs) [] e = absurd (omega arith)
   told_long now v (r ∷ rs) (n ∷ ns) e = ap suc (told_long now v rs ns (omega arith))

@@ -10,10 +10,13 @@ use Rattle.motion_laws.proofs.Among.{AreApart}
 -- nor singular has four faces; and a boundary vertex has an edge with one dart.
 pub record IsTerrain (g : Terrain) : Type 0 where
   pub half : IsQuadManifold g.half
-  pub edged : (d : ℕ) → d < g.half.count → g.half.twin d ≡ None → (g.boundary (g.half.from d) ≡ true) × (g.boundary (end_of g d) ≡ true)
-  pub crossed : (d : ℕ) → d < g.half.count → g.boundary (g.half.from d) ≡ false → g.singular (g.half.from d) ≡ false → HasCross g.half d
+  pub edged : (d : ℕ) → d < g.half.count → g.half.twin d ≡ None → (g.boundary (g.half.from d) ≡ true)
+      × (g.boundary (end_of g d) ≡ true)
+  pub crossed : (d : ℕ) → d < g.half.count → g.boundary (g.half.from d) ≡ false → g.singular (g.half.from d) ≡ false
+      → HasCross g.half d
   pub rimmed : (d : ℕ) → d < g.half.count → g.boundary (g.half.from d) ≡ true
-      → (e : ℕ) × (e < g.half.count) × (g.half.from e ≡ g.half.from d) × ((g.half.twin e ≡ None) ⊎ (g.half.twin (g.half.prev e) ≡ None))
+      → (e : ℕ) × (e < g.half.count) × (g.half.from e ≡ g.half.from d)
+      × ((g.half.twin e ≡ None) ⊎ (g.half.twin (g.half.prev e) ≡ None))
 
 -- The start darts differ, and each component has one or a vertex with one face. Of the darts with a twin that leave one
 -- vertex all start or none, all that leave a singular vertex do, and where a dart ends at the boundary, the next one
@@ -21,12 +24,14 @@ pub record IsTerrain (g : Terrain) : Type 0 where
 pub record IsStarted (g : Terrain) (starts : List ℕ) : Type 0 where
   pub apart : AreApart starts
   pub low : (d : ℕ) → is_among d starts ≡ true → d < g.half.count
-  pub all : (d e t : ℕ) → d < g.half.count → e < g.half.count → is_among d starts ≡ true → g.half.from e ≡ g.half.from d → g.half.twin e ≡ Some t → is_among e starts ≡ true
+  pub all : (d e t : ℕ) → d < g.half.count → e < g.half.count → is_among d starts ≡ true → g.half.from e ≡ g.half.from d
+      → g.half.twin e ≡ Some t → is_among e starts ≡ true
   pub found : HasSources g.half (λ e. is_among e starts)
   pub singular : (d : ℕ) → d < g.half.count → g.singular (g.half.from d) ≡ true → is_among d starts ≡ true
   pub sided : (d : ℕ) → d < g.half.count → g.boundary (end_of g d) ≡ true
       → (is_among (g.half.next d) starts ≡ true)
-      ⊎ ((g.half.twin (g.half.next d) ≡ None) ⊎ ((t : ℕ) × (g.half.twin (g.half.next d) ≡ Some t) × (g.half.twin (g.half.next t) ≡ None)))
+      ⊎ ((g.half.twin (g.half.next d) ≡ None) ⊎ ((t : ℕ) × (g.half.twin (g.half.next d) ≡ Some t)
+      × (g.half.twin (g.half.next t) ≡ None)))
 
 -- A rider has stood at v, or v lies at the boundary.
 abbrev pub IsKnown : (g : Terrain) (s : State) (v : ℕ) → Type 0
@@ -52,9 +57,9 @@ pub record IsCrossedAt (g : Terrain) (s : State) (v : ℕ) : Type 0 where
   pub soon : IsSoon s x
   pub facing : IsSoon s b
 
--- What each state knows that is reached from a first one, where trails may begin with these darts. The darts ridden next
--- differ, and leave vertices where a rider has stood; both ends of a covered edge are known; what was covered or ridden
--- first is kept; trails lead to what is ridden and covered.
+-- What each state knows that is reached from a first one, where trails may begin with these darts. The darts ridden
+-- next differ, and leave vertices where a rider has stood; both ends of a covered edge are known; what was covered or
+-- ridden first is kept; trails lead to what is ridden and covered.
 pub record IsReachedFrom (g : Terrain) (begins : ℕ → Bool) (first s : State) : Type 0 where
   pub apart : AreApart (ridden s.riders)
   pub low : (d : ℕ) → is_among d (ridden s.riders) ≡ true → d < g.half.count
@@ -64,11 +69,12 @@ pub record IsReachedFrom (g : Terrain) (begins : ℕ → Bool) (first s : State)
   pub kept : (d : ℕ) → IsSoon first d → IsSoon s d
   pub trails : (d : ℕ) → is_among d (ridden s.riders) ≡ true → (k : ℕ) × Trail g.half begins s.covered d k
   pub tracked : (d : ℕ) → d < g.half.count → s.covered d ≡ true → IsTracked g.half begins s.covered d
-  pub through : (d : ℕ) → d < g.half.count → s.stood (g.half.from d) ≡ true → g.boundary (g.half.from d) ≡ false → g.singular (g.half.from d) ≡ false → IsCrossedAt g s (g.half.from d)
+  pub through : (d : ℕ) → d < g.half.count → s.stood (g.half.from d) ≡ true → g.boundary (g.half.from d) ≡ false
+      → g.singular (g.half.from d) ≡ false → IsCrossedAt g s (g.half.from d)
 
--- A state from which the motion comes to a full cut: it knows what reached states know; each component has a source; where
--- a trail begins its edge, the one before and the one after its twin are shut; so are all edges at singular vertices, and
--- where a dart ends at the boundary, the next one is, or the boundary goes on straight.
+-- A state from which the motion comes to a full cut: it knows what reached states know; each component has a source;
+-- where a trail begins its edge, the one before and the one after its twin are shut; so are all edges at singular
+-- vertices, and where a dart ends at the boundary, the next one is, or the boundary goes on straight.
 pub record IsFirst (g : Terrain) (begins : ℕ → Bool) (first : State) : Type 0 where
   pub reached : IsReachedFrom g begins first first
   pub found : HasSources g.half begins
@@ -77,7 +83,8 @@ pub record IsFirst (g : Terrain) (begins : ℕ → Bool) (first : State) : Type 
   pub beside : (d t : ℕ) → d < g.half.count → begins d ≡ true → g.half.twin d ≡ Some t → IsShut g first (g.half.next t)
   pub singular : (d : ℕ) → d < g.half.count → g.singular (g.half.from d) ≡ true → IsShut g first d
   pub sided : (d : ℕ) → d < g.half.count → g.boundary (end_of g d) ≡ true
-      → IsShut g first (g.half.next d) ⊎ ((t : ℕ) × (g.half.twin (g.half.next d) ≡ Some t) × (g.half.twin (g.half.next t) ≡ None))
+      → IsShut g first (g.half.next d) ⊎ ((t : ℕ) × (g.half.twin (g.half.next d) ≡ Some t)
+      × (g.half.twin (g.half.next t) ≡ None))
 
 -- The states of the motion that starts with these darts.
 abbrev pub IsReached : (g : Terrain) (starts : List ℕ) (s : State) → Type 0

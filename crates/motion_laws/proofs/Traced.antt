@@ -1,5 +1,6 @@
 -- The motion that starts with riders at given darts: its states, and its end.
-use Rattle.std.proofs.Common.{◌≡◌, ◌⊎◌, ℕ, ◌<◌, Bool, true, false, List, [], ◌∷◌, map, Option, Some, None, sym, subst, ap, ◌∙◌, refl, inl, inr}
+use Rattle.std.proofs.Common.{◌≡◌, ◌⊎◌, ℕ, ◌<◌, Bool, true, false, List, [], ◌∷◌, map, Option, Some, None, sym, subst}
+use Rattle.std.proofs.Common.{ap, ◌∙◌, refl, inl, inr}
 use Rattle.std.proofs.lemmas.Bool.{eq-eqb, eqb-true, false≢true}
 use Rattle.def_cut.specs.Cuts.{HasCross}
 use Rattle.def_cut.specs.Motion.{Terrain, end_of, ridden, is_among, begun, start, after_steps}
@@ -23,15 +24,20 @@ module _ (g : Terrain) (t : IsTerrain g) (starts : List ℕ) (begin : IsStarted 
   is_start d m = sym (ap (is_among d) (ridden_begun starts)) ∙ m
 
   -- A start of which one is at a vertex with four faces: then the opposite one is a start too.
-  start_through : (d : ℕ) → d < g.half.count → (start g starts).stood (g.half.from d) ≡ true → g.boundary (g.half.from d) ≡ false → g.singular (g.half.from d) ≡ false → IsCrossedAt g (start g starts) (g.half.from d)
-  start_through d low k inner regular = by_start (any_where (λ e. Rattle.std.proofs.Common.eqb (g.half.from e) (g.half.from d)) starts k)
+  start_through : (d : ℕ) → d < g.half.count → (start g starts).stood (g.half.from d) ≡ true
+      → g.boundary (g.half.from d) ≡ false → g.singular (g.half.from d) ≡ false
+      → IsCrossedAt g (start g starts) (g.half.from d)
+  start_through d low k inner regular =
+      by_start (any_where (λ e. Rattle.std.proofs.Common.eqb (g.half.from e) (g.half.from d)) starts k)
     where
-      by_cross : (x : ℕ) → is_among x starts ≡ true → g.half.from x ≡ g.half.from d → HasCross g.half x → IsCrossedAt g (start g starts) (g.half.from d)
+      by_cross : (x : ℕ) → is_among x starts ≡ true → g.half.from x ≡ g.half.from d → HasCross g.half x
+          → IsCrossedAt g (start g starts) (g.half.from d)
       by_cross x m at (a, b, c, f) =
           let x_low : x < g.half.count = begin.low x m in
           let a_low : a < g.half.count = low_a g.half t.half x a b c x_low f in
           let b_low : b < g.half.count = low_b g.half t.half x a b c x_low f in
-          let b_twin : g.half.twin b ≡ Some (g.half.prev a) = t.half.twin_twin (g.half.prev a) b (t.half.prev_low a a_low) f.second in
+          let b_twin : g.half.twin b ≡ Some (g.half.prev a) =
+          t.half.twin_twin (g.half.prev a) b (t.half.prev_low a a_low) f.second in
           record {
             x = x;
             a = a;
@@ -41,10 +47,12 @@ module _ (g : Terrain) (t : IsTerrain g) (starts : List ℕ) (begin : IsStarted 
             at = at;
             cross = f;
             soon = inr (rides_next x m);
-            facing = inr (rides_next b (begin.all x b (g.half.prev a) x_low b_low m (at_b g.half t.half x a b c x_low f) b_twin));
+            facing = inr (rides_next b (begin.all x b (g.half.prev a) x_low b_low m (at_b g.half t.half x a b c x_low f)
+                b_twin));
           }
 
-      by_start : (x : ℕ) × (is_among x starts ≡ true) × (Rattle.std.proofs.Common.eqb (g.half.from x) (g.half.from d) ≡ true) → IsCrossedAt g (start g starts) (g.half.from d)
+      by_start : (x : ℕ) × (is_among x starts ≡ true) × (Rattle.std.proofs.Common.eqb (g.half.from x) (g.half.from d)
+          ≡ true) → IsCrossedAt g (start g starts) (g.half.from d)
       by_start (x, m, e) =
           let at : g.half.from x ≡ g.half.from d = eqb-true _ _ e in
           by_cross x m at (t.crossed x (begin.low x m) (ap g.boundary at ∙ inner) (ap g.singular at ∙ regular))
@@ -54,7 +62,8 @@ module _ (g : Terrain) (t : IsTerrain g) (starts : List ℕ) (begin : IsStarted 
   start_reached = record {
     apart = subst AreApart (sym (ridden_begun starts)) begin.apart;
     low = λ d m. begin.low d (is_start d m);
-    left = λ d m. any_at (λ e. Rattle.std.proofs.Common.eqb (g.half.from e) (g.half.from d)) d starts (is_start d m) (eq-eqb _ _ refl);
+    left = λ d m. any_at (λ e. Rattle.std.proofs.Common.eqb (g.half.from e) (g.half.from d)) d starts (is_start d m)
+        (eq-eqb _ _ refl);
     alike = λ d e low w. refl;
     ends = λ d low c. absurd (false≢true c);
     kept = λ d k. k;
@@ -64,7 +73,8 @@ module _ (g : Terrain) (t : IsTerrain g) (starts : List ℕ) (begin : IsStarted 
   }
 
   -- All edges at a start are shut.
-  shut_at : (d e : ℕ) → d < g.half.count → is_among d starts ≡ true → e < g.half.count → g.half.from e ≡ g.half.from d → IsShut g (start g starts) e
+  shut_at : (d e : ℕ) → d < g.half.count → is_among d starts ≡ true → e < g.half.count → g.half.from e ≡ g.half.from d
+      → IsShut g (start g starts) e
   shut_at d e low m e_low at = by_twin (g.half.twin e) refl
     where
       by_twin : (o : Option ℕ) → g.half.twin e ≡ o → IsShut g (start g starts) e
@@ -78,13 +88,25 @@ module _ (g : Terrain) (t : IsTerrain g) (starts : List ℕ) (begin : IsStarted 
       by_twin None w = inr (inl w)
       by_twin (Some a) w =
           let a_twin : g.half.twin a ≡ Some (g.half.prev d) = back g t (g.half.prev d) a (t.half.prev_low d low) w in
-          inr (inr (a, w, inr (rides_next a (begin.all d a (g.half.prev d) low (turn_low g.half t.half d a low w) m (turn_from g.half t.half d a low w) a_twin))))
+          inr (inr (
+            a,
+            w,
+            inr (rides_next a (begin.all d a (g.half.prev d) low (turn_low g.half t.half d a low w) m
+                (turn_from g.half t.half d a low w) a_twin)),
+          ))
 
-  shut_beside : (d e : ℕ) → d < g.half.count → is_among d starts ≡ true → g.half.twin d ≡ Some e → IsShut g (start g starts) (g.half.next e)
-  shut_beside d e low m w = shut_at d (g.half.next e) low m (t.half.next_low e (t.half.twin_low d e low w)) (t.half.twin_ends d e low w).1
+  shut_beside : (d e : ℕ) → d < g.half.count → is_among d starts ≡ true → g.half.twin d ≡ Some e
+      → IsShut g (start g starts) (g.half.next e)
+  shut_beside d e low m w = shut_at d (g.half.next e) low m (t.half.next_low e (t.half.twin_low d e low w))
+      (t.half.twin_ends d e low w).1
 
-  shut_beyond : (d : ℕ) → d < g.half.count → g.boundary (end_of g d) ≡ true → IsShut g (start g starts) (g.half.next d) ⊎ ((e : ℕ) × (g.half.twin (g.half.next d) ≡ Some e) × (g.half.twin (g.half.next e) ≡ None))
-  shut_beyond d low y = elim (begin.sided d low y) [ inl m ↦ inl (inl (inr (rides_next (g.half.next d) m))) | inr (inl w) ↦ inl (inr (inl w)) | inr (inr k) ↦ inr k ]
+  shut_beyond : (d : ℕ) → d < g.half.count → g.boundary (end_of g d) ≡ true → IsShut g (start g starts) (g.half.next d)
+      ⊎ ((e : ℕ) × (g.half.twin (g.half.next d) ≡ Some e) × (g.half.twin (g.half.next e) ≡ None))
+  shut_beyond d low y = elim (begin.sided d low y) [
+    | inl m ↦ inl (inl (inr (rides_next (g.half.next d) m)))
+    | inr (inl w) ↦ inl (inr (inl w))
+    | inr (inr k) ↦ inr k
+  ]
 
   pub first : IsFirst g (λ e. is_among e starts) (start g starts)
   first = record {
@@ -102,5 +124,6 @@ module _ (g : Terrain) (t : IsTerrain g) (starts : List ℕ) (begin : IsStarted 
   after_reached = later_reached g t (λ e. is_among e starts) (start g starts) first
 
   -- No dart is ridden at two instants.
-  pub ridden_once : (e i j : ℕ) → i < j → is_among e (ridden (after_steps g starts i).riders) ≡ true → is_among e (ridden (after_steps g starts j).riders) ≡ true → ⊥
+  pub ridden_once : (e i j : ℕ) → i < j → is_among e (ridden (after_steps g starts i).riders) ≡ true
+      → is_among e (ridden (after_steps g starts j).riders) ≡ true → ⊥
   ridden_once = rides_once g t (λ e. is_among e starts) (start g starts) first

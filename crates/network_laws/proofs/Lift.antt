@@ -1,5 +1,6 @@
 -- The lift law: the deviation is convex, so a small part of the way to a better list is better, or the rest is.
-use Rattle.std.proofs.Common.{◌≡◌, ◌≢◌, ℕ, zero, suc, ◌+◌, ◌*◌, ◌<◌, ◌≤◌, length, ℤ, pos, ◌+ℤ◌, ◌-ℤ◌, ◌*ℤ◌, ◌≤ℤ◌, unsigned_abs, sym, ◌∙◌, ap, inl, inr, ◌⊎◌, arith, mul-le-mul_left, mul-add}
+use Rattle.std.proofs.Common.{◌≡◌, ◌≢◌, ℕ, zero, suc, ◌+◌, ◌*◌, ◌<◌, ◌≤◌, length, ℤ, pos, ◌+ℤ◌, ◌-ℤ◌, ◌*ℤ◌, ◌≤ℤ◌}
+use Rattle.std.proofs.Common.{unsigned_abs, sym, ◌∙◌, ap, inl, inr, ◌⊎◌, arith, mul-le-mul_left, mul-add}
 use Rattle.std.proofs.lemmas.Int.{ints}
 use Rattle.std.proofs.lemmas.Bool.{cases_eq, cases_lt}
 use Rattle.std.proofs.Math.IntN.{*ℤ-zero}
@@ -20,17 +21,32 @@ times_le (suc q) a b le = omega (arith, ints, le, times_le q a b le)
 
 -- A part stays a part when both are multiplied.
 part_times : (q : ℕ) (c d : ℤ) → IsPart c d → IsPart (pos q *ℤ c) (pos q *ℤ d)
-part_times q c d (inl (low, high)) = inl (omega (arith, ints, times_le q (pos 0) c low, *ℤ-zero (pos q)), times_le q c d high)
-part_times q c d (inr (low, high)) = inr (times_le q d c low, omega (arith, ints, times_le q c (pos 0) high, *ℤ-zero (pos q)))
+part_times q c d (inl (low, high)) = inl (
+  omega (arith, ints, times_le q (pos 0) c low, *ℤ-zero (pos q)),
+  times_le q c d high,
+)
+part_times q c d (inr (low, high)) =
+    inr (times_le q d c low, omega (arith, ints, times_le q c (pos 0) high, *ℤ-zero (pos q)))
 
 -- The distance from a point is convex.
-abs_convex : (x c d : ℤ) → IsPart c d → unsigned_abs (x +ℤ c) + unsigned_abs ((x +ℤ d) -ℤ c) ≤ unsigned_abs x + unsigned_abs (x +ℤ d)
+abs_convex : (x c d : ℤ) → IsPart c d → unsigned_abs (x +ℤ c) + unsigned_abs ((x +ℤ d) -ℤ c)
+    ≤ unsigned_abs x + unsigned_abs (x +ℤ d)
 abs_convex x c d (inl (low, high)) = omega (arith, ints)
 abs_convex x c d (inr (low, high)) = omega (arith, ints)
 
 -- The deviation of an arc is convex.
-pub arc_convex : (net : Network) (a : Arc) (x other c : ℤ) → IsPart c (other -ℤ x) → arc_deviation net a (x +ℤ c) + arc_deviation net a (other -ℤ c) ≤ arc_deviation net a x + arc_deviation net a other
-arc_convex net a x other c part = omega (arith, mul-le-mul_left a.weight shifted, mul-add a.weight (unsigned_abs ((pos net.q *ℤ (x +ℤ c)) -ℤ t)) (unsigned_abs ((pos net.q *ℤ (other -ℤ c)) -ℤ t)), mul-add a.weight (unsigned_abs ((pos net.q *ℤ x) -ℤ t)) (unsigned_abs ((pos net.q *ℤ other) -ℤ t)))
+pub arc_convex : (net : Network) (a : Arc) (x other c : ℤ) → IsPart c (other -ℤ x)
+    → arc_deviation net a (x +ℤ c) + arc_deviation net a (other -ℤ c) ≤ arc_deviation net a x + arc_deviation net a
+    other
+arc_convex net a x other c part =
+    omega (
+      arith,
+      mul-le-mul_left a.weight shifted,
+      mul-add a.weight (unsigned_abs ((pos net.q *ℤ (x +ℤ c)) -ℤ t))
+          (unsigned_abs ((pos net.q *ℤ (other -ℤ c)) -ℤ t)),
+      mul-add a.weight (unsigned_abs ((pos net.q *ℤ x) -ℤ t))
+          (unsigned_abs ((pos net.q *ℤ other) -ℤ t)),
+    )
   where
     t : ℤ
     t = pos (net.p * a.old)
@@ -39,26 +55,37 @@ arc_convex net a x other c part = omega (arith, mul-le-mul_left a.weight shifted
     times y = pos net.q *ℤ y
 
     rest : times other ≡ times (other -ℤ c) +ℤ times c
-    rest = (let e : other ≡ (other -ℤ c) +ℤ c = omega (arith, ints) in ap times e ∙ times_sum (pos net.q) (other -ℤ c) c)
+    rest = (let e : other ≡ (other -ℤ c) +ℤ c = omega (arith, ints) in
+        ap times e ∙ times_sum (pos net.q) (other -ℤ c) c)
 
     far : times other ≡ times x +ℤ times (other -ℤ x)
     far = (let e : other ≡ x +ℤ (other -ℤ x) = omega (arith, ints) in ap times e ∙ times_sum (pos net.q) x (other -ℤ x))
 
-    shifted : unsigned_abs (times (x +ℤ c) -ℤ t) + unsigned_abs (times (other -ℤ c) -ℤ t) ≤ unsigned_abs (times x -ℤ t) + unsigned_abs (times other -ℤ t)
+    shifted : unsigned_abs (times (x +ℤ c) -ℤ t) + unsigned_abs (times (other -ℤ c) -ℤ t) ≤ unsigned_abs (times x -ℤ t)
+        + unsigned_abs (times other -ℤ t)
     shifted =
         let first : (times x -ℤ t) +ℤ times c ≡ times (x +ℤ c) -ℤ t = omega (arith, ints, times_sum (pos net.q) x c) in
-        let second : ((times x -ℤ t) +ℤ times (other -ℤ x)) -ℤ times c ≡ times (other -ℤ c) -ℤ t = omega (arith, ints, far, rest) in
+        let second : ((times x -ℤ t) +ℤ times (other -ℤ x)) -ℤ times c ≡ times (other -ℤ c) -ℤ t =
+        omega (arith, ints, far, rest) in
         let third : (times x -ℤ t) +ℤ times (other -ℤ x) ≡ times other -ℤ t = omega (arith, ints, far) in
-        omega (arith, abs_convex (times x -ℤ t) (times c) (times (other -ℤ x)) (part_times net.q c (other -ℤ x) part), ap unsigned_abs first, ap unsigned_abs second, ap unsigned_abs third)
+        omega (
+          arith,
+          abs_convex (times x -ℤ t) (times c) (times (other -ℤ x)) (part_times net.q c (other -ℤ x) part),
+          ap unsigned_abs first,
+          ap unsigned_abs second,
+          ap unsigned_abs third,
+        )
 
 -- Taking a part of the way from one list, and leaving it off the way to the other, costs nothing together.
-deviation_convex : (net : Network) (x other c : ℕ → ℤ) → ((k : ℕ) → k < length net.arcs → IsPart (c k) (other k -ℤ x k)) → deviation net (λ k. x k +ℤ c k) + deviation net (λ k. other k -ℤ c k) ≤ deviation net x + deviation net other
+deviation_convex : (net : Network) (x other c : ℕ → ℤ) → ((k : ℕ) → k < length net.arcs → IsPart (c k) (other k -ℤ x k))
+    → deviation net (λ k. x k +ℤ c k) + deviation net (λ k. other k -ℤ c k) ≤ deviation net x + deviation net other
 deviation_convex net x other c part =
     omega (
       arith,
       count_below_sum (at (λ k. x k +ℤ c k)) (at (λ k. other k -ℤ c k)) n,
       count_below_sum (at x) (at other) n,
-      count_below_le (λ k. at (λ j. x j +ℤ c j) k + at (λ j. other j -ℤ c j) k) (λ k. at x k + at other k) n (λ k l. arc_convex net (arc_at net.arcs k) (x k) (other k) (c k) (part k l)),
+      count_below_le (λ k. at (λ j. x j +ℤ c j) k + at (λ j. other j -ℤ c j) k) (λ k. at x k + at other k) n
+          (λ k l. arc_convex net (arc_at net.arcs k) (x k) (other k) (c k) (part k l)),
     )
   where
     n : ℕ
@@ -72,9 +99,11 @@ differ_or_not : (x y : ℕ → ℤ) (n : ℕ) → ((k : ℕ) × (k < n) × (x k 
 differ_or_not x y zero = inr (λ k l. absurd (omega arith))
 differ_or_not x y (suc n) = by_rest (differ_or_not x y n) (cases_eq (unsigned_abs (x n -ℤ y n)) 0)
   where
-    by_rest : ((k : ℕ) × (k < n) × (x k ≢ y k)) ⊎ ((k : ℕ) → k < n → x k ≡ y k) → (unsigned_abs (x n -ℤ y n) ≡ 0) ⊎ (unsigned_abs (x n -ℤ y n) ≢ 0) → ((k : ℕ) × (k < suc n) × (x k ≢ y k)) ⊎ ((k : ℕ) → k < suc n → x k ≡ y k)
+    by_rest : ((k : ℕ) × (k < n) × (x k ≢ y k)) ⊎ ((k : ℕ) → k < n → x k ≡ y k) → (unsigned_abs (x n -ℤ y n) ≡ 0)
+        ⊎ (unsigned_abs (x n -ℤ y n) ≢ 0) → ((k : ℕ) × (k < suc n) × (x k ≢ y k)) ⊎ ((k : ℕ) → k < suc n → x k ≡ y k)
     by_rest (inl (k, l, ne)) _ = inl (k, omega arith, ne)
-    by_rest (inr same) (inr ne) = inl (n, omega arith, λ e. ne (let z : x n -ℤ y n ≡ pos 0 = omega (arith, ints, e) in ap unsigned_abs z))
+    by_rest (inr same) (inr ne) =
+        inl (n, omega arith, λ e. ne (let z : x n -ℤ y n ≡ pos 0 = omega (arith, ints, e) in ap unsigned_abs z))
     by_rest (inr same) (inl e) = inr (λ k l. at k l (cases_eq k n))
       where
         at : (k : ℕ) → k < suc n → (k ≡ n) ⊎ (k ≢ n) → x k ≡ y k
@@ -82,49 +111,87 @@ differ_or_not x y (suc n) = by_rest (differ_or_not x y n) (cases_eq (unsigned_ab
         at k l (inr before) = same k (omega arith)
 
 -- A list with a part of the way to another one taken is as high as the floor, and so is the other without it.
-part_high : (floor x other c : ℤ) → floor ≤ℤ x → floor ≤ℤ other → IsPart c (other -ℤ x) → (floor ≤ℤ (x +ℤ c)) × (floor ≤ℤ (other -ℤ c))
+part_high : (floor x other c : ℤ) → floor ≤ℤ x → floor ≤ℤ other → IsPart c (other -ℤ x) → (floor ≤ℤ (x +ℤ c))
+    × (floor ≤ℤ (other -ℤ c))
 part_high floor x other c hx ho (inl (low, high)) = (omega (arith, ints), omega (arith, ints))
 part_high floor x other c hx ho (inr (low, high)) = (omega (arith, ints), omega (arith, ints))
 
 -- The other list without a part of the way is nowhere further, and nearer where the part is not zero.
-part_nearer : (x other c : ℤ) → IsPart c (other -ℤ x) → unsigned_abs ((other -ℤ c) -ℤ x) + unsigned_abs c ≤ unsigned_abs (other -ℤ x)
+part_nearer : (x other c : ℤ) → IsPart c (other -ℤ x) → unsigned_abs ((other -ℤ c) -ℤ x) + unsigned_abs c
+    ≤ unsigned_abs (other -ℤ x)
 part_nearer x other c (inl (low, high)) = omega (arith, ints)
 part_nearer x other c (inr (low, high)) = omega (arith, ints)
 
 -- A better list near x.
 abbrev Near : Network → (ℕ → ℤ) → Type 0
-Near net x = (near : ℕ → ℤ) × IsAdmissible net near × ((k : ℕ) → k < length net.arcs → unsigned_abs (near k -ℤ x k) ≤ 2) × (deviation net near < deviation net x)
+Near net x = (near : ℕ → ℤ) × IsAdmissible net near × ((k : ℕ) → k < length net.arcs → unsigned_abs (near k -ℤ x k) ≤ 2)
+    × (deviation net near < deviation net x)
 
 -- How far two lists are apart.
 abbrev distance : Network → (ℕ → ℤ) → (ℕ → ℤ) → ℕ
 distance net x other = count_below (λ k. unsigned_abs (other k -ℤ x k)) (length net.arcs)
 
 -- Either a better list is near, or some better list is nearer than this one.
-nearer : (net : Network) (x other : ℕ → ℤ) → IsAdmissible net x → IsAdmissible net other → deviation net other < deviation net x → ((o : ℕ → ℤ) → IsAdmissible net o → deviation net o < deviation net x → distance net x o < distance net x other → Near net x) → Near net x
+nearer : (net : Network) (x other : ℕ → ℤ) → IsAdmissible net x → IsAdmissible net other
+    → deviation net other < deviation net x → ((o : ℕ → ℤ) → IsAdmissible net o → deviation net o < deviation net x
+    → distance net x o < distance net x other → Near net x) → Near net x
 nearer net x other ax ao better on = by_differ (differ_or_not x other (length net.arcs))
   where
-    by_part : (c : ℕ → ℤ) → IsSmallPart net x other c → (deviation net (λ k. x k +ℤ c k) < deviation net x) ⊎ (deviation net x ≤ deviation net (λ k. x k +ℤ c k)) → Near net x
-    by_part c p (inl here) = (λ k. x k +ℤ c k, record { high = λ k l. (part_high (pos net.floor) (x k) (other k) (c k) (ax.high k l) (ao.high k l) (p.part k l)).0; balanced = balanced_sum net.arcs x c ax.balanced p.balanced }, λ k l. (let e : (x k +ℤ c k) -ℤ x k ≡ c k = omega (arith, ints) in rw e (p.small k l)), here)
-    by_part c p (inr not_here) = on (λ k. other k -ℤ c k) (record { high = λ k l. (part_high (pos net.floor) (x k) (other k) (c k) (ax.high k l) (ao.high k l) (p.part k l)).1; balanced = balanced_minus net.arcs other c ao.balanced p.balanced }) (omega (arith, deviation_convex net x other c p.part)) less
+    by_part : (c : ℕ → ℤ) → IsSmallPart net x other c → (deviation net (λ k. x k +ℤ c k) < deviation net x)
+        ⊎ (deviation net x ≤ deviation net (λ k. x k +ℤ c k)) → Near net x
+    by_part c p (inl here) = (
+      λ k. x k +ℤ c k,
+      record {
+        high =
+            λ k l. (part_high (pos net.floor) (x k) (other k) (c k) (ax.high k l) (ao.high k l) (p.part k l)).0;
+        balanced = balanced_sum net.arcs x c ax.balanced p.balanced;
+      },
+      λ k l. (let e : (x k +ℤ c k) -ℤ x k ≡ c k =
+          omega (arith, ints) in rw e (p.small k l)),
+      here,
+    )
+    by_part c p (inr not_here) =
+        on (λ k. other k -ℤ c k)
+        (record {
+          high = λ k l. (part_high (pos net.floor) (x k) (other k) (c k) (ax.high k l) (ao.high k l)
+              (p.part k l)).1;
+          balanced = balanced_minus net.arcs other c ao.balanced p.balanced;
+        })
+        (omega (arith, deviation_convex net x other c p.part)) less
       where
         some : (z : ℤ) → z ≢ pos 0 → 0 < unsigned_abs z
         some z ne = elim (cases_lt 0 (unsigned_abs z)) [ inl l ↦ l | inr none ↦ absurd (ne (omega (arith, ints))) ]
 
         less : distance net x (λ k. other k -ℤ c k) < distance net x other
-        less = count_below_lt (λ k. unsigned_abs ((other k -ℤ c k) -ℤ x k)) (λ k. unsigned_abs (other k -ℤ x k)) (length net.arcs) p.place p.within (λ k l. omega (arith, part_nearer (x k) (other k) (c k) (p.part k l))) (omega (arith, part_nearer (x p.place) (other p.place) (c p.place) (p.part p.place p.within), some (c p.place) p.nonzero))
+        less = count_below_lt (λ k. unsigned_abs ((other k -ℤ c k) -ℤ x k)) (λ k. unsigned_abs (other k -ℤ x k))
+            (length net.arcs) p.place p.within (λ k l. omega (arith, part_nearer (x k) (other k) (c k) (p.part k l)))
+            (omega (
+              arith,
+              part_nearer (x p.place) (other p.place) (c p.place) (p.part p.place p.within),
+              some (c p.place) p.nonzero,
+            ))
 
-    by_differ : ((k : ℕ) × (k < length net.arcs) × (x k ≢ other k)) ⊎ ((k : ℕ) → k < length net.arcs → x k ≡ other k) → Near net x
+    by_differ : ((k : ℕ) × (k < length net.arcs) × (x k ≢ other k)) ⊎ ((k : ℕ) → k < length net.arcs → x k ≡ other k)
+        → Near net x
     by_differ (inr same) =
-        absurd (omega (arith, count_below_same _ _ (length net.arcs) (λ k l. ap (arc_deviation net (arc_at net.arcs k)) (same k l))))
+        absurd (omega (
+          arith,
+          count_below_same _ _ (length net.arcs) (λ k l. ap (arc_deviation net (arc_at net.arcs k))
+              (same k l)),
+        ))
     by_differ (inl (k, l, differ)) = taken (walk_law net x other k ax ao l differ)
       where
         taken : (c : ℕ → ℤ) × IsSmallPart net x other c → Near net x
         taken (c, p) = by_part c p (cases_lt (deviation net (λ k. x k +ℤ c k)) (deviation net x))
 
-lift_within : (fuel : ℕ) (net : Network) (x other : ℕ → ℤ) → IsAdmissible net x → IsAdmissible net other → deviation net other < deviation net x → distance net x other ≤ fuel → Near net x
+lift_within : (fuel : ℕ) (net : Network) (x other : ℕ → ℤ) → IsAdmissible net x → IsAdmissible net other
+    → deviation net other < deviation net x → distance net x other ≤ fuel → Near net x
 lift_within zero net x other ax ao better within = nearer net x other ax ao better (λ o a b less. absurd (omega arith))
-lift_within (suc fuel) net x other ax ao better within = nearer net x other ax ao better (λ o a b less. lift_within fuel net x o ax a b (omega arith))
+lift_within (suc fuel) net x other ax ao better within =
+    nearer net x other ax ao better (λ o a b less. lift_within fuel net x o ax a b (omega arith))
 
 -- The lift law.
-pub lift_law : (net : Network) (x other : ℕ → ℤ) → IsAdmissible net x → IsAdmissible net other → deviation net other < deviation net x → (near : ℕ → ℤ) × IsAdmissible net near × ((k : ℕ) → k < length net.arcs → unsigned_abs (near k -ℤ x k) ≤ 2) × (deviation net near < deviation net x)
+pub lift_law : (net : Network) (x other : ℕ → ℤ) → IsAdmissible net x → IsAdmissible net other
+    → deviation net other < deviation net x → (near : ℕ → ℤ) × IsAdmissible net near
+    × ((k : ℕ) → k < length net.arcs → unsigned_abs (near k -ℤ x k) ≤ 2) × (deviation net near < deviation net x)
 lift_law net x other ax ao better = lift_within (distance net x other) net x other ax ao better (omega arith)

@@ -1,5 +1,6 @@
 -- Ports: the effects that a copy of an arc has on the balances at its ends.
-use Rattle.std.proofs.Common.{◌≡◌, ◌≢◌, ℕ, Bool, true, false, cond, not, ◌&&◌, ◌==◌, Option, Some, None, ℤ, pos, ◌+ℤ◌, ◌≤ℤ◌, ◌<ℤ◌, neg_ℤ, refl, sym, ap, inl, inr, ◌⊎◌, true≢false, arith, eq-eqb, ne_eqb}
+use Rattle.std.proofs.Common.{◌≡◌, ◌≢◌, ℕ, Bool, true, false, cond, not, ◌&&◌, ◌==◌, Option, Some, None, ℤ, pos, ◌+ℤ◌}
+use Rattle.std.proofs.Common.{◌≤ℤ◌, ◌<ℤ◌, neg_ℤ, refl, sym, ap, inl, inr, ◌⊎◌, true≢false, arith, eq-eqb, ne_eqb}
 use Rattle.std.proofs.lemmas.Int.{ints}
 use Rattle.std.proofs.lemmas.Bool.{cases_eq}
 
@@ -44,7 +45,8 @@ same_is (Some p) (Some q) e = by_node (cases_eq p.node q.node)
     by_node (inl n) =
         let b : cond p.up q.up (not q.up) ≡ true = rw (eq-eqb q.node p.node (sym n)) at e in
         ap Some (same_port p q n (same_up p.up q.up b))
-    by_node (inr n) = let f : false ≡ true = rw (ne_eqb q.node p.node (λ e. n (sym e))) at e in absurd (true≢false (sym f))
+    by_node (inr n) = let f : false ≡ true = rw (ne_eqb q.node p.node (λ e. n (sym e))) at e in
+        absurd (true≢false (sym f))
 same_is _ _ e = absurd (true≢false (sym e))
 
 -- What is one, the test says is one.
@@ -77,11 +79,13 @@ weigh_other p None e = omega (arith, ints)
 weigh_other p (Some q) e = grind (arith, ints)
 
 -- What weighs less than nothing is the opposite effect.
-pub weigh_low : (p : Port) (q : Option Port) (m : ℤ) → pos 0 ≤ℤ m → weigh p q m <ℤ pos 0 → (opposite q ≡ Some p) × (pos 0 <ℤ m)
+pub weigh_low : (p : Port) (q : Option Port) (m : ℤ) → pos 0 ≤ℤ m → weigh p q m <ℤ pos 0 → (opposite q ≡ Some p)
+    × (pos 0 <ℤ m)
 weigh_low p None m le lt = absurd (omega (arith, ints))
 weigh_low p (Some q) m le lt = by_node (cases_eq p.node q.node)
   where
-    by_up : (c d : Bool) → cond true (cond c (cond d m (neg_ℤ m)) (cond d (neg_ℤ m) m)) (pos 0) <ℤ pos 0 → (not d ≡ c) × (pos 0 <ℤ m)
+    by_up : (c d : Bool) → cond true (cond c (cond d m (neg_ℤ m)) (cond d (neg_ℤ m) m)) (pos 0) <ℤ pos 0 → (not d ≡ c)
+        × (pos 0 <ℤ m)
     by_up true false h = (refl, omega (arith, ints))
     by_up false true h = (refl, omega (arith, ints))
     by_up _ _ h = absurd (omega (arith, ints))
@@ -90,4 +94,5 @@ weigh_low p (Some q) m le lt = by_node (cases_eq p.node q.node)
     by_node (inl n) =
         let h : (not q.up ≡ p.up) × (pos 0 <ℤ m) = by_up p.up q.up (rw (eq-eqb q.node p.node (sym n)) at lt) in
         (ap Some (same_port (record { node = q.node; up = not q.up }) p (sym n) h.0), h.1)
-    by_node (inr n) = let h : pos 0 <ℤ pos 0 = rw (ne_eqb q.node p.node (λ e. n (sym e))) at lt in absurd (omega (arith, ints))
+    by_node (inr n) = let h : pos 0 <ℤ pos 0 = rw (ne_eqb q.node p.node (λ e. n (sym e))) at lt in
+        absurd (omega (arith, ints))

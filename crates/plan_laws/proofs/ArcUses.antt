@@ -1,5 +1,6 @@
 -- A dart of the cut lies on one arc, at one place of it, in one direction.
-use Rattle.std.proofs.Common.{◌≡◌, ℕ, zero, suc, ◌+◌, ◌-◌, ◌<◌, Bool, true, false, List, length, Some, refl, sym, ◌∙◌, ap, subst, inl, inr, arith}
+use Rattle.std.proofs.Common.{◌≡◌, ℕ, zero, suc, ◌+◌, ◌-◌, ◌<◌, Bool, true, false, List, length, Some, refl, sym, ◌∙◌}
+use Rattle.std.proofs.Common.{ap, subst, inl, inr, arith}
 use Rattle.std.proofs.lemmas.Bool.{cases_eq, cases_order}
 use Rattle.std.proofs.lemmas.Option.{same_Some}
 use Rattle.def_mesh.specs.HalfEdges.{HalfEdges, IsQuadManifold}
@@ -10,7 +11,8 @@ use Rattle.def_layout.specs.Nodes.{AreNodes}
 use Rattle.cut_laws.proofs.Leasts.{least_high, least_there}
 use Rattle.layout_laws.proofs.Runs.{IsBack, run_low, same_place, same_length, back_run}
 
-module _ (m : HalfEdges) (laws : IsQuadManifold m) (cut : Cut) (full : IsCut m cut) (node : ℕ → Bool) (nodes : AreNodes m cut node)
+module _ (m : HalfEdges) (laws : IsQuadManifold m) (cut : Cut) (full : IsCut m cut) (node : ℕ
+    → Bool) (nodes : AreNodes m cut node)
     (arcs : List Path) (are : AreArcs m cut node arcs) where
   pub run : (a : ℕ) → a < length arcs → IsRun m cut node (dart_at arcs a 0) (long_at arcs a)
   run a low = (are.each a low).run
@@ -41,7 +43,8 @@ module _ (m : HalfEdges) (laws : IsQuadManifold m) (cut : Cut) (full : IsCut m c
   ]
 
 -- The same of two lists of arcs.
-module _ (m : HalfEdges) (laws : IsQuadManifold m) (cut : Cut) (full : IsCut m cut) (node : ℕ → Bool) (nodes : AreNodes m cut node)
+module _ (m : HalfEdges) (laws : IsQuadManifold m) (cut : Cut) (full : IsCut m cut) (node : ℕ
+    → Bool) (nodes : AreNodes m cut node)
     (arcs : List Path) (are : AreArcs m cut node arcs) (others : List Path) (them : AreArcs m cut node others) where
   one_run : (a : ℕ) → a < length arcs → IsRun m cut node (dart_at arcs a 0) (long_at arcs a)
   one_run a low = (are.each a low).run
@@ -61,7 +64,8 @@ module _ (m : HalfEdges) (laws : IsQuadManifold m) (cut : Cut) (full : IsCut m c
   same_arc a b k j a_low b_low k_low j_low same = record { place = place.1; long = long; each = each }
     where
       place : (dart_at arcs a 0 ≡ dart_at others b 0) × (k ≡ j)
-      place = same_place m laws cut full node nodes (dart_at arcs a 0) (long_at arcs a) (dart_at others b 0) (long_at others b) (one_run a a_low) (other_run b b_low)
+      place = same_place m laws cut full node nodes (dart_at arcs a 0) (long_at arcs a) (dart_at others b 0)
+          (long_at others b) (one_run a a_low) (other_run b b_low)
           k j k_low j_low (sym ((are.each a a_low).each k k_low) ∙ same ∙ (them.each b b_low).each j j_low)
 
       long : long_at arcs a ≡ long_at others b
@@ -69,13 +73,17 @@ module _ (m : HalfEdges) (laws : IsQuadManifold m) (cut : Cut) (full : IsCut m c
           (subst (λ (s : ℕ). IsRun m cut node s (long_at arcs a)) place.0 (one_run a a_low)) (other_run b b_low)
 
       each : (i : ℕ) → i < long_at arcs a → dart_at arcs a i ≡ dart_at others b i
-      each i less = (are.each a a_low).each i less ∙ ap (λ s. easts m s i) place.0 ∙ sym ((them.each b b_low).each i (omega (arith, long)))
+      each i less = (are.each a a_low).each i less ∙ ap (λ s. easts m s i) place.0
+          ∙ sym ((them.each b b_low).each i (omega (arith, long)))
 
   -- Then they have one name.
-  pub one_name_both : (a b k j : ℕ) → a < length arcs → b < length others → IsSameArc a b k j → name_at arcs a ≡ name_at others b
+  pub one_name_both : (a b k j : ℕ) → a < length arcs → b < length others → IsSameArc a b k j
+      → name_at arcs a ≡ name_at others b
   one_name_both a b k j a_low b_low s =
-      let n : (i : ℕ) × (i < long_at arcs a) × (dart_at arcs a i ≡ name_at arcs a) = least_there (path_at arcs a).darts (one_run a a_low).some in
-      let p : (i : ℕ) × (i < long_at others b) × (dart_at others b i ≡ name_at others b) = least_there (path_at others b).darts (other_run b b_low).some in
+      let n : (i : ℕ) × (i < long_at arcs a) × (dart_at arcs a i ≡ name_at arcs a) =
+      least_there (path_at arcs a).darts (one_run a a_low).some in
+      let p : (i : ℕ) × (i < long_at others b) × (dart_at others b i ≡ name_at others b) =
+      least_there (path_at others b).darts (other_run b b_low).some in
       omega (
         arith,
         n.2,
@@ -90,7 +98,8 @@ module _ (m : HalfEdges) (laws : IsQuadManifold m) (cut : Cut) (full : IsCut m c
   pub clash : (a b k j : ℕ) → a < length arcs → b < length others → k < long_at arcs a → j < long_at others b
       → m.twin (dart_at others b j) ≡ Some (dart_at arcs a k) → ⊥
   clash a b k j a_low b_low k_low j_low twin =
-      by_back (back_run m laws cut full node nodes (dart_at others b 0) (long_at others b) (other_run b b_low) j (dart_at arcs a k) j_low
+      by_back (back_run m laws cut full node nodes (dart_at others b 0) (long_at others b) (other_run b b_low) j
+      (dart_at arcs a k) j_low
       (ap m.twin (sym ((them.each b b_low).each j j_low)) ∙ twin))
     where
       by_back : (r : ℕ) × IsBack m cut node (dart_at others b 0) (long_at others b) r → ⊥
@@ -101,10 +110,12 @@ module _ (m : HalfEdges) (laws : IsQuadManifold m) (cut : Cut) (full : IsCut m c
 
           there : dart_at arcs a k ≡ easts m b_back.0 (long_at others b - 1 - j)
           there = same_Some (dart_at arcs a k) (easts m b_back.0 (long_at others b - 1 - j))
-              (sym twin ∙ ap m.twin ((them.each b b_low).each j j_low) ∙ back.twin j (long_at others b - 1 - j) (omega arith))
+              (sym twin ∙ ap m.twin ((them.each b b_low).each j j_low) ∙ back.twin j (long_at others b - 1 - j)
+              (omega arith))
 
           place : (dart_at arcs a 0 ≡ b_back.0) × (k ≡ long_at others b - 1 - j)
-          place = same_place m laws cut full node nodes (dart_at arcs a 0) (long_at arcs a) b_back.0 (long_at others b) (one_run a a_low) back.run
+          place = same_place m laws cut full node nodes (dart_at arcs a 0) (long_at arcs a) b_back.0 (long_at others b)
+              (one_run a a_low) back.run
               k (long_at others b - 1 - j) k_low (omega arith) (sym ((are.each a a_low).each k k_low) ∙ there)
 
           long : long_at arcs a ≡ long_at others b
@@ -118,7 +129,8 @@ module _ (m : HalfEdges) (laws : IsQuadManifold m) (cut : Cut) (full : IsCut m c
 
           b_less : name_at others b < name_at arcs a
           b_less =
-              let n : (i : ℕ) × (i < long_at arcs a) × (dart_at arcs a i ≡ name_at arcs a) = least_there (path_at arcs a).darts (one_run a a_low).some in
+              let n : (i : ℕ) × (i < long_at arcs a) × (dart_at arcs a i ≡ name_at arcs a) =
+              least_there (path_at arcs a).darts (one_run a a_low).some in
               let l : name_at others b < dart_at arcs a n.0 =
               (them.each b b_low).named (long_at others b - 1 - n.0) (dart_at arcs a n.0) (omega (arith, long, n.1))
               (across (long_at others b - 1 - n.0) n.0 (omega (arith, long, n.1))) in
@@ -126,7 +138,8 @@ module _ (m : HalfEdges) (laws : IsQuadManifold m) (cut : Cut) (full : IsCut m c
 
           a_less : name_at arcs a < name_at others b
           a_less =
-              let p : (i : ℕ) × (i < long_at others b) × (dart_at others b i ≡ name_at others b) = least_there (path_at others b).darts (other_run b b_low).some in
+              let p : (i : ℕ) × (i < long_at others b) × (dart_at others b i ≡ name_at others b) =
+              least_there (path_at others b).darts (other_run b b_low).some in
               let i_low : long_at others b - 1 - p.0 < long_at arcs a = omega (arith, long, p.1) in
               let l : name_at arcs a < dart_at others b p.0 =
               (are.each a a_low).named (long_at others b - 1 - p.0) (dart_at others b p.0) i_low
@@ -135,7 +148,8 @@ module _ (m : HalfEdges) (laws : IsQuadManifold m) (cut : Cut) (full : IsCut m c
               (across p.0 (long_at others b - 1 - p.0) (omega (arith, p.1)))) in
               omega (arith, l, p.2)
 
-module _ (m : HalfEdges) (laws : IsQuadManifold m) (cut : Cut) (full : IsCut m cut) (node : ℕ → Bool) (nodes : AreNodes m cut node)
+module _ (m : HalfEdges) (laws : IsQuadManifold m) (cut : Cut) (full : IsCut m cut) (node : ℕ
+    → Bool) (nodes : AreNodes m cut node)
     (arcs : List Path) (are : AreArcs m cut node arcs) where
   -- Arcs with a dart in common are one.
   pub same_dart : (a b k j : ℕ) → a < length arcs → b < length arcs → k < long_at arcs a → j < long_at arcs b
@@ -150,21 +164,27 @@ module _ (m : HalfEdges) (laws : IsQuadManifold m) (cut : Cut) (full : IsCut m c
         s.place,
       )
 
-  pub same_use : (a b : ℕ) (f g : Bool) (o k d : ℕ) → a < length arcs → b < length arcs → o < long_at arcs a → k < long_at arcs b
+  pub same_use : (a b : ℕ) (f g : Bool) (o k d : ℕ) → a < length arcs → b < length arcs → o < long_at arcs a
+      → k < long_at arcs b
       → LiesAt m (path_at arcs a).darts f o d → LiesAt m (path_at arcs b).darts g k d → (a ≡ b) × (f ≡ g) × (o ≡ k)
   same_use a b true true o k d a_low b_low o_low k_low at also =
       let s : (a ≡ b) × (o ≡ k) = same_dart a b o k a_low b_low o_low k_low (sym at ∙ also) in (s.0, refl, s.1)
   same_use a b true false o k d a_low b_low o_low k_low at also =
-      absurd (clash m laws cut full node nodes arcs are arcs are a b o (long_at arcs b - 1 - k) a_low b_low o_low (omega arith) (also ∙ ap Some at))
+      absurd (clash m laws cut full node nodes arcs are arcs are a b o (long_at arcs b - 1 - k) a_low b_low o_low
+      (omega arith) (also ∙ ap Some at))
   same_use a b false true o k d a_low b_low o_low k_low at also =
-      absurd (clash m laws cut full node nodes arcs are arcs are b a k (long_at arcs a - 1 - o) b_low a_low k_low (omega arith) (at ∙ ap Some also))
+      absurd (clash m laws cut full node nodes arcs are arcs are b a k (long_at arcs a - 1 - o) b_low a_low k_low
+      (omega arith) (at ∙ ap Some also))
   same_use a b false false o k d a_low b_low o_low k_low at also =
       let one : m.twin d ≡ Some (dart_at arcs a (long_at arcs a - 1 - o)) =
-      laws.twin_twin (dart_at arcs a (long_at arcs a - 1 - o)) d (dart_low m laws cut full node nodes arcs are a (long_at arcs a - 1 - o) a_low (omega arith)) at in
+      laws.twin_twin (dart_at arcs a (long_at arcs a - 1 - o)) d (dart_low m laws cut full node nodes arcs are a
+      (long_at arcs a - 1 - o) a_low (omega arith)) at in
       let other : m.twin d ≡ Some (dart_at arcs b (long_at arcs b - 1 - k)) =
-      laws.twin_twin (dart_at arcs b (long_at arcs b - 1 - k)) d (dart_low m laws cut full node nodes arcs are b (long_at arcs b - 1 - k) b_low (omega arith)) also in
+      laws.twin_twin (dart_at arcs b (long_at arcs b - 1 - k)) d (dart_low m laws cut full node nodes arcs are b
+      (long_at arcs b - 1 - k) b_low (omega arith)) also in
       let s : (a ≡ b) × (long_at arcs a - 1 - o ≡ long_at arcs b - 1 - k) =
       same_dart a b (long_at arcs a - 1 - o) (long_at arcs b - 1 - k) a_low b_low (omega arith) (omega arith)
-      (same_Some (dart_at arcs a (long_at arcs a - 1 - o)) (dart_at arcs b (long_at arcs b - 1 - k)) (sym one ∙ other)) in
+      (same_Some (dart_at arcs a (long_at arcs a - 1 - o)) (dart_at arcs b (long_at arcs b - 1 - k)) (sym one
+      ∙ other)) in
       let long : long_at arcs a ≡ long_at arcs b = ap (long_at arcs) s.0 in
       (s.0, refl, omega (arith, s.1, long))

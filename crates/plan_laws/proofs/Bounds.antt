@@ -36,7 +36,8 @@ module _ (l : Layout) (x : Lengths) (laid : IsSurface l) (len : AreLengths l x) 
         passing_le (λ k. true) (λ k. true) (vertices l x) (4 * face_count l x)
             (λ v low on. (dart_number l x (dart v low).0, below v low, refl))
             (λ v w a on b too same. sym (dart v a).2
-            ∙ ap (λ (d : CellDart). vertex_number l x (dart_start l x d)) (dart_same l x (dart v a).0 (dart w b).0 (dart v a).1 (dart w b).1 same) ∙ (dart w b).2),
+            ∙ ap (λ (d : CellDart). vertex_number l x (dart_start l x d))
+            (dart_same l x (dart v a).0 (dart w b).0 (dart v a).1 (dart w b).1 same) ∙ (dart w b).2),
       )
     where
       dart : (v : ℕ) → v < vertices l x → (d : CellDart) × IsDart l x d × (vertex_number l x (dart_start l x d) ≡ v)
@@ -76,17 +77,20 @@ module _ (l : Layout) (x : Lengths) (laid : IsSurface l) (len : AreLengths l x) 
   side_few p west low = high_few p low
 
 -- Lengths of at most k make a layout no larger than k times the old lengths do.
-module _ (l : Layout) (old x : Lengths) (k : ℕ) (laid : IsSurface l) (len : AreLengths l old) (most : (a : ℕ) → x a ≤ k) where
+module _ (l : Layout) (old x : Lengths) (k : ℕ) (laid : IsSurface l) (len : AreLengths l old) (most : (a : ℕ)
+    → x a ≤ k) where
   pub side_most : (p : ℕ) (s : Way) → p < l.patches → size l x p s ≤ k * size l old p s
   side_most p s low =
-      let each : count_below (λ m. x (l.use_at p s m).arc) (l.many p s) ≤ count_below (λ m. k * old (l.use_at p s m).arc) (l.many p s) =
+      let each : count_below (λ m. x (l.use_at p s m).arc) (l.many p s)
+      ≤ count_below (λ m. k * old (l.use_at p s m).arc) (l.many p s) =
       count_below_le (λ m. x (l.use_at p s m).arc) (λ m. k * old (l.use_at p s m).arc) (l.many p s) term in
       omega (arith, each, count_below_times k (λ m. old (l.use_at p s m).arc) (l.many p s))
     where
       term : (m : ℕ) → m < l.many p s → x (l.use_at p s m).arc ≤ k * old (l.use_at p s m).arc
       term m less =
           let some : 0 < old (l.use_at p s m).arc =
-          len.some (l.use_at p s m).arc (laid.paved.arc_low (record { patch = p; side = s; at = m }) (record { patch_low = low; low = less })) in
+          len.some (l.use_at p s m).arc (laid.paved.arc_low (record { patch = p; side = s; at = m })
+          (record { patch_low = low; low = less })) in
           by_parts (x (l.use_at p s m).arc) (old (l.use_at p s m).arc) (most (l.use_at p s m).arc) some
         where
           by_parts : (a b : ℕ) → a ≤ k → 0 < b → a ≤ k * b
@@ -102,7 +106,8 @@ module _ (l : Layout) (old x : Lengths) (k : ℕ) (laid : IsSurface l) (len : Ar
     where
       term : (p : ℕ) → p < l.patches → wide l x p * high l x p ≤ k * k * (wide l old p * high l old p)
       term p low = by_parts (wide l old p) (high l old p)
-          (mul-le (wide l x p) (high l x p) (k * wide l old p) (k * high l old p) (side_most p south low) (side_most p west low))
+          (mul-le (wide l x p) (high l x p) (k * wide l old p) (k * high l old p) (side_most p south low)
+          (side_most p west low))
         where
           by_parts : (w h : ℕ) → wide l x p * high l x p ≤ (k * w) * (k * h) → wide l x p * high l x p ≤ k * k * (w * h)
           by_parts w h most_of = grind (arith, most_of)
@@ -115,5 +120,6 @@ old_faces plan is =
       arith,
       is.mesh.few,
       faces_are (layout_of plan) (long_at plan.arcs) _ m.lengths is.faces m.cell
-          (old_model is.faces m.manifold (layout_of plan) (long_at plan.arcs) m.paved m.lengths m.cell (vertex_at plan) m.arc_dart m.sided m.quads),
+          (old_model is.faces m.manifold (layout_of plan) (long_at plan.arcs) m.paved m.lengths m.cell (vertex_at plan)
+          m.arc_dart m.sided m.quads),
     )

@@ -1,5 +1,6 @@
 -- The layout of a full cut lies in the mesh.
-use Rattle.std.proofs.Common.{◌≡◌, ◌≢◌, ◌⊎◌, ℕ, zero, suc, ◌+◌, ◌-◌, ◌<◌, Bool, true, false, not, List, length, get_or, Option, Some, None, refl, sym, ◌∙◌, ap, subst, inl, inr, arith}
+use Rattle.std.proofs.Common.{◌≡◌, ◌≢◌, ◌⊎◌, ℕ, zero, suc, ◌+◌, ◌-◌, ◌<◌, Bool, true, false, not, List, length, get_or}
+use Rattle.std.proofs.Common.{Option, Some, None, refl, sym, ◌∙◌, ap, subst, inl, inr, arith}
 use Rattle.std.proofs.lemmas.Bool.{cases_eq, cases_lt, cases_order, false≢true}
 use Rattle.std.proofs.lemmas.Option.{none-some}
 use Rattle.def_mesh.specs.HalfEdges.{HalfEdges, IsQuadManifold}
@@ -27,7 +28,8 @@ use Rattle.plan_laws.proofs.ArcUses.{on_run, dart_low, same_use}
 abbrev pub cell_dart : (m : HalfEdges) (plan : Plan) (d : CellDart) → ℕ
 cell_dart m plan d = spin m (way_number d.way) (cell_of (patch_at plan.patches d.patch) d.i d.j)
 
-module _ (m : HalfEdges) (laws : IsQuadManifold m) (cut : Cut) (full : IsCut m cut) (node : ℕ → Bool) (nodes : AreNodes m cut node)
+module _ (m : HalfEdges) (laws : IsQuadManifold m) (cut : Cut) (full : IsCut m cut) (node : ℕ
+    → Bool) (nodes : AreNodes m cut node)
     (face : ℕ → ℕ) (v_count : ℕ) (t : Plan) (lay : IsDartLayout m cut node face v_count t) where
   abbrev l : Layout
   l = layout_of t
@@ -49,7 +51,8 @@ module _ (m : HalfEdges) (laws : IsQuadManifold m) (cut : Cut) (full : IsCut m c
 
       full_sides : (p : ℕ) (s : Way) → p < length t.patches → 0 < l.many p s
       full_sides p s low = elim (cases_eq (l.many p s) 0) [
-        | inl e ↦ let none : size l x p s ≡ 0 = ap (reach l x p s) e in absurd (omega (arith, none, lay.sizes p s low, some p s low))
+        | inl e ↦ let none : size l x p s ≡ 0 = ap (reach l x p s) e in
+            absurd (omega (arith, none, lay.sizes p s low, some p s low))
         | inr ne ↦ omega arith
       ]
 
@@ -60,10 +63,12 @@ module _ (m : HalfEdges) (laws : IsQuadManifold m) (cut : Cut) (full : IsCut m c
     upright = λ p low. lay.sizes p east low ∙ sym (lay.sizes p west low);
   }
 
-  grid : (p : ℕ) → p < length t.patches → IsGrid m cut (patch_at t.patches p).w (patch_at t.patches p).h (cell_of (patch_at t.patches p))
+  grid : (p : ℕ) → p < length t.patches → IsGrid m cut (patch_at t.patches p).w (patch_at t.patches p).h
+      (cell_of (patch_at t.patches p))
   grid p low = (lay.patches.patch p low).grid
 
-  cell_side : (d : CellDart) → IsDart l x d → IsSide m (patch_at t.patches d.patch) d.i d.j (way_number d.way) (cell_dart m t d)
+  cell_side : (d : CellDart) → IsDart l x d → IsSide m (patch_at t.patches d.patch) d.i d.j (way_number d.way)
+      (cell_dart m t d)
   cell_side d is = record {
     i_low = omega (arith, is.i_low, lay.sizes d.patch south is.patch_low);
     j_low = omega (arith, is.j_low, lay.sizes d.patch west is.patch_low);
@@ -76,8 +81,10 @@ module _ (m : HalfEdges) (laws : IsQuadManifold m) (cut : Cut) (full : IsCut m c
   same : (d e : CellDart) → IsDart l x d → IsDart l x e → cell_dart m t d ≡ cell_dart m t e → d ≡ e
   same d e is_d is_e equal =
       let s : (d.patch ≡ e.patch) × (d.i ≡ e.i) × (d.j ≡ e.j) =
-      lay.patches.once (cell_dart m t d) d.patch d.i d.j (way_number d.way) e.patch e.i e.j (way_number e.way) is_d.patch_low is_e.patch_low
-      (cell_side d is_d) (subst (λ (k : ℕ). IsSide m (patch_at t.patches e.patch) e.i e.j (way_number e.way) k) (sym equal) (cell_side e is_e)) in
+      lay.patches.once (cell_dart m t d) d.patch d.i d.j (way_number d.way) e.patch e.i e.j (way_number e.way)
+      is_d.patch_low is_e.patch_low
+      (cell_side d is_d) (subst (λ (k : ℕ). IsSide m (patch_at t.patches e.patch) e.i e.j (way_number e.way) k)
+      (sym equal) (cell_side e is_e)) in
       let ways : d.way ≡ e.way =
       spin_once m laws (cell_of (patch_at t.patches e.patch) e.i e.j) d.way e.way (corner_low e is_e)
       ((λ r. spin m (way_number d.way) (cell_of (patch_at t.patches (sym s.0 r)) (sym s.1 r) (sym s.2 r))) ∙ equal) in
@@ -86,12 +93,19 @@ module _ (m : HalfEdges) (laws : IsQuadManifold m) (cut : Cut) (full : IsCut m c
   onto : (k : ℕ) → k < m.count → (d : CellDart) × IsDart l x d × (cell_dart m t d ≡ k)
   onto k low = by_cover (lay.patches.covers k low)
     where
-      by_cover : (p : ℕ) × (i : ℕ) × (j : ℕ) × (q : ℕ) × (p < length t.patches) × IsSide m (patch_at t.patches p) i j q k → (d : CellDart) × IsDart l x d × (cell_dart m t d ≡ k)
+      by_cover : (p : ℕ) × (i : ℕ) × (j : ℕ) × (q : ℕ) × (p < length t.patches)
+          × IsSide m (patch_at t.patches p) i j q k → (d : CellDart) × IsDart l x d × (cell_dart m t d ≡ k)
       by_cover c =
-          let w : (w : Way) × (spin m c.3 (cell_of (patch_at t.patches c.0) c.1 c.2) ≡ spin m (way_number w) (cell_of (patch_at t.patches c.0) c.1 c.2)) =
+          let w : (w : Way) × (spin m c.3 (cell_of (patch_at t.patches c.0) c.1 c.2)
+          ≡ spin m (way_number w) (cell_of (patch_at t.patches c.0) c.1 c.2)) =
           spin_way m laws c.3 (cell_of (patch_at t.patches c.0) c.1 c.2) in (
             dart c.0 c.1 c.2 w.0,
-            record { patch_low = c.4; i_low = omega (arith, c.5.i_low, lay.sizes c.0 south c.4); j_low = omega (arith, c.5.j_low, lay.sizes c.0 west c.4) },
+            record {
+              patch_low = c.4;
+              i_low = omega (arith, c.5.i_low, lay.sizes c.0 south c.4);
+              j_low =
+                  omega (arith, c.5.j_low, lay.sizes c.0 west c.4);
+            },
             sym w.1 ∙ sym c.5.is,
           )
 
@@ -116,11 +130,13 @@ module _ (m : HalfEdges) (laws : IsQuadManifold m) (cut : Cut) (full : IsCut m c
   ]
 
   -- Border darts by side and place.
-  rim_dart : (p : ℕ) (s : Way) (k : ℕ) → p < length t.patches → cell_dart m t (dart_along l x p s k) ≡ border_dart m (patch_at t.patches p) s k
+  rim_dart : (p : ℕ) (s : Way) (k : ℕ) → p < length t.patches → cell_dart m t (dart_along l x p s k)
+      ≡ border_dart m (patch_at t.patches p) s k
   rim_dart p south k low = refl
   rim_dart p east k low = ap (λ w. m.next (cell_of (patch_at t.patches p) (w - 1) k)) (lay.sizes p south low)
   rim_dart p north k low =
-      λ r. m.next (m.next (cell_of (patch_at t.patches p) (lay.sizes p south low r - 1 - k) (lay.sizes p west low r - 1)))
+      λ r. m.next (m.next (cell_of (patch_at t.patches p) (lay.sizes p south low r - 1 - k)
+      (lay.sizes p west low r - 1)))
   rim_dart p west k low =
       ap (λ h. m.next (m.next (m.next (cell_of (patch_at t.patches p) 0 (h - 1 - k))))) (lay.sizes p west low)
       ∙ prev_is m laws (cell_of (patch_at t.patches p) 0 ((patch_at t.patches p).h - 1 - k))
@@ -140,44 +156,55 @@ module _ (m : HalfEdges) (laws : IsQuadManifold m) (cut : Cut) (full : IsCut m c
         record {
           is_slot = on.is_slot;
           low = on.inside;
-          lies = subst (LiesAt m _ _ _) (ap (border_dart m (patch_at t.patches p) s) (sym on.place) ∙ is) (lay.used (slot p s _) _ on.is_slot on.inside);
+          lies = subst (LiesAt m _ _ _) (ap (border_dart m (patch_at t.patches p) s) (sym on.place) ∙ is)
+              (lay.used (slot p s _) _ on.is_slot on.inside);
         },
       )
 
   pub stands : (d : ℕ) → d < m.count → cut d ≡ true → (w : Slot) × (o : ℕ) × StandsAt d w o
   stands d low on = by_cover (lay.patches.covers d low)
     where
-      by_cover : (p : ℕ) × (i : ℕ) × (j : ℕ) × (q : ℕ) × (p < length t.patches) × IsSide m (patch_at t.patches p) i j q d → (w : Slot) × (o : ℕ) × StandsAt d w o
-      by_cover c = by_side (on_side m laws cut full (patch_at t.patches c.0) (grid c.0 c.4) c.3 c.1 c.2 d c.5.i_low c.5.j_low c.5.is on)
+      by_cover : (p : ℕ) × (i : ℕ) × (j : ℕ) × (q : ℕ) × (p < length t.patches)
+          × IsSide m (patch_at t.patches p) i j q d → (w : Slot) × (o : ℕ) × StandsAt d w o
+      by_cover c = by_side (on_side m laws cut full (patch_at t.patches c.0) (grid c.0 c.4) c.3 c.1 c.2 d c.5.i_low
+          c.5.j_low c.5.is on)
         where
-          by_side : (s : Way) × (k : ℕ) × (k < side_size (patch_at t.patches c.0) s) × (border_dart m (patch_at t.patches c.0) s k ≡ d) → (w : Slot) × (o : ℕ) × StandsAt d w o
+          by_side : (s : Way) × (k : ℕ) × (k < side_size (patch_at t.patches c.0) s)
+              × (border_dart m (patch_at t.patches c.0) s k ≡ d) → (w : Slot) × (o : ℕ) × StandsAt d w o
           by_side s = border_stands c.0 s.0 s.1 d c.4 s.2 s.3
 
   -- What lies on an arc has one slot's use.
-  one_use : (a : ℕ) (f : Bool) (k d : ℕ) (w : Slot) (o : ℕ) → a < length t.arcs → k < long_at t.arcs a → LiesAt m (path_at t.arcs a).darts f k d → StandsAt d w o
+  one_use : (a : ℕ) (f : Bool) (k d : ℕ) (w : Slot) (o : ℕ) → a < length t.arcs → k < long_at t.arcs a
+      → LiesAt m (path_at t.arcs a).darts f k d → StandsAt d w o
       → ((use_of l w).arc ≡ a) × ((use_of l w).forward ≡ f) × (o ≡ k)
   one_use a f k d w o a_low k_low at s =
-      same_use m laws cut full node nodes t.arcs lay.arcs (use_of l w).arc a (use_of l w).forward f o k d (lay.uses w s.is_slot) a_low s.low k_low s.lies at
+      same_use m laws cut full node nodes t.arcs lay.arcs (use_of l w).arc a (use_of l w).forward f o k d
+      (lay.uses w s.is_slot) a_low s.low k_low s.lies at
 
   arc_dart_low : (a k : ℕ) → a < length t.arcs → k < long_at t.arcs a → dart_at t.arcs a k < m.count
   arc_dart_low a k low less = dart_low m laws cut full node nodes t.arcs lay.arcs a k low less
 
   arc_on : (a k : ℕ) → a < length t.arcs → k < long_at t.arcs a → cut (dart_at t.arcs a k) ≡ true
-  arc_on a k low less = ap cut (on_run m laws cut full node nodes t.arcs lay.arcs a k low less) ∙ (arc_run a low).on k less
+  arc_on a k low less = ap cut (on_run m laws cut full node nodes t.arcs lay.arcs a k low less)
+      ∙ (arc_run a low).on k less
 
   forward : (a : ℕ) → a < l.arcs → (w : Slot) × IsSlot l w × (use_of l w ≡ record { arc = a; forward = true })
-  forward a low = by_stand (stands (dart_at t.arcs a 0) (arc_dart_low a 0 low (arc_run a low).some) (arc_on a 0 low (arc_run a low).some))
+  forward a low = by_stand (stands (dart_at t.arcs a 0) (arc_dart_low a 0 low (arc_run a low).some)
+      (arc_on a 0 low (arc_run a low).some))
     where
-      by_stand : (w : Slot) × (o : ℕ) × StandsAt (dart_at t.arcs a 0) w o → (w : Slot) × IsSlot l w × (use_of l w ≡ record { arc = a; forward = true })
+      by_stand : (w : Slot) × (o : ℕ) × StandsAt (dart_at t.arcs a 0) w o → (w : Slot) × IsSlot l w
+          × (use_of l w ≡ record { arc = a; forward = true })
       by_stand s =
           let u : ((use_of l s.0).arc ≡ a) × ((use_of l s.0).forward ≡ true) × (s.1 ≡ 0) =
           one_use a true 0 (dart_at t.arcs a 0) s.0 s.1 low (arc_run a low).some refl s.2 in
           (s.0, s.2.is_slot, λ r. record { arc = u.0 r; forward = u.1 r })
 
   -- The twin of a dart of an arc lies on the arc the other way round.
-  twin_lies : (a k u : ℕ) → k < long_at t.arcs a → m.twin (dart_at t.arcs a k) ≡ Some u → LiesAt m (path_at t.arcs a).darts false (long_at t.arcs a - 1 - k) u
+  twin_lies : (a k u : ℕ) → k < long_at t.arcs a → m.twin (dart_at t.arcs a k) ≡ Some u
+      → LiesAt m (path_at t.arcs a).darts false (long_at t.arcs a - 1 - k) u
   twin_lies a k u less twin =
-      let e : long_at t.arcs a - 1 - (long_at t.arcs a - 1 - k) ≡ k = omega arith in ap (λ i. m.twin (dart_at t.arcs a i)) e ∙ twin
+      let e : long_at t.arcs a - 1 - (long_at t.arcs a - 1 - k) ≡ k = omega arith in
+      ap (λ i. m.twin (dart_at t.arcs a i)) e ∙ twin
 
   twin_on : (d u : ℕ) → d < m.count → m.twin d ≡ Some u → cut d ≡ true → (u < m.count) × (cut u ≡ true)
   twin_on d u low twin on = (laws.twin_low d u low twin, full.alike d u low twin ∙ on)
@@ -195,7 +222,8 @@ module _ (m : HalfEdges) (laws : IsQuadManifold m) (cut : Cut) (full : IsCut m c
       ahead : (v : Slot) × IsSlot l v × (use_of l v ≡ record { arc = (use_of l w).arc; forward = true })
       ahead = forward (use_of l w).arc a_low
 
-      by_way : (f : Bool) → (use_of l w).forward ≡ f → (u : ℕ) → m.twin (dart_at t.arcs (use_of l w).arc 0) ≡ Some u → (v : Slot) × IsOtherSlot l w v
+      by_way : (f : Bool) → (use_of l w).forward ≡ f → (u : ℕ) → m.twin (dart_at t.arcs (use_of l w).arc 0) ≡ Some u
+          → (v : Slot) × IsOtherSlot l w v
       by_way false e u twin = (
         ahead.0,
         (
@@ -208,30 +236,39 @@ module _ (m : HalfEdges) (laws : IsQuadManifold m) (cut : Cut) (full : IsCut m c
       )
       by_way true e u twin =
           let on : (u < m.count) × (cut u ≡ true) =
-          twin_on (dart_at t.arcs (use_of l w).arc 0) u (arc_dart_low (use_of l w).arc 0 a_low some) twin (arc_on (use_of l w).arc 0 a_low some) in
+          twin_on (dart_at t.arcs (use_of l w).arc 0) u (arc_dart_low (use_of l w).arc 0 a_low some) twin
+          (arc_on (use_of l w).arc 0 a_low some) in
           let s : (v : Slot) × (o : ℕ) × StandsAt u v o = stands u on.0 on.1 in
-          let one : ((use_of l s.0).arc ≡ (use_of l w).arc) × ((use_of l s.0).forward ≡ false) × (s.1 ≡ long_at t.arcs (use_of l w).arc - 1 - 0) =
-          one_use (use_of l w).arc false (long_at t.arcs (use_of l w).arc - 1 - 0) u s.0 s.1 a_low (omega (arith, some)) (twin_lies (use_of l w).arc 0 u some twin) s.2 in
+          let one : ((use_of l s.0).arc ≡ (use_of l w).arc) × ((use_of l s.0).forward ≡ false)
+          × (s.1 ≡ long_at t.arcs (use_of l w).arc - 1 - 0) =
+          one_use (use_of l w).arc false (long_at t.arcs (use_of l w).arc - 1 - 0) u s.0 s.1 a_low (omega (arith, some))
+          (twin_lies (use_of l w).arc 0 u some twin) s.2 in
           (s.0, (s.2.is_slot, record { arc = one.0; turned = one.1 ∙ ap not (sym e) }))
 
       -- The last border dart of a slot's arc.
       last_dart : (v : Slot) → ℕ
-      last_dart v = border_dart m (patch_at t.patches v.patch) v.side (reach l x v.patch v.side v.at + (long_at t.arcs (use_of l v).arc - 1))
+      last_dart v = border_dart m (patch_at t.patches v.patch) v.side
+          (reach l x v.patch v.side v.at + (long_at t.arcs (use_of l v).arc - 1))
 
       -- A slot against the arc's direction makes the first dart have a twin.
       backward : (v : Slot) → IsSlot l v → (use_of l v).arc ≡ (use_of l w).arc → (use_of l v).forward ≡ false
           → m.twin (dart_at t.arcs (use_of l w).arc 0) ≡ None → ⊥
       backward v is_v arc way none =
-          let low : long_at t.arcs (use_of l v).arc - 1 < long_at t.arcs (use_of l v).arc = omega (arith, (arc_run (use_of l v).arc (lay.uses v is_v)).some) in
-          let at : LiesAt m (path_at t.arcs (use_of l v).arc).darts (use_of l v).forward (long_at t.arcs (use_of l v).arc - 1) (last_dart v) =
+          let low : long_at t.arcs (use_of l v).arc - 1 < long_at t.arcs (use_of l v).arc =
+          omega (arith, (arc_run (use_of l v).arc (lay.uses v is_v)).some) in
+          let at : LiesAt m (path_at t.arcs (use_of l v).arc).darts (use_of l v).forward
+          (long_at t.arcs (use_of l v).arc - 1) (last_dart v) =
           lay.used v (long_at t.arcs (use_of l v).arc - 1) is_v low in
-          let back : LiesAt m (path_at t.arcs (use_of l w).arc).darts false (long_at t.arcs (use_of l w).arc - 1) (last_dart v) =
-          subst (λ (z : SideArc). LiesAt m (path_at t.arcs z.arc).darts z.forward (long_at t.arcs z.arc - 1) (last_dart v))
+          let back : LiesAt m (path_at t.arcs (use_of l w).arc).darts false (long_at t.arcs (use_of l w).arc - 1)
+          (last_dart v) =
+          subst (λ (z : SideArc). LiesAt m (path_at t.arcs z.arc).darts z.forward (long_at t.arcs z.arc - 1)
+          (last_dart v))
           (λ r. record { arc = arc r; forward = way r }) at in
           let zero_is : long_at t.arcs (use_of l w).arc - 1 - (long_at t.arcs (use_of l w).arc - 1) ≡ 0 = omega arith in
           none-some (last_dart v) (sym none ∙ ap (λ i. m.twin (dart_at t.arcs (use_of l w).arc i)) (sym zero_is) ∙ back)
 
-      by_twin : (o : Option ℕ) → m.twin (dart_at t.arcs (use_of l w).arc 0) ≡ o → ((v : Slot) × IsOtherSlot l w v) ⊎ ((v : Slot) → ¬ IsOtherSlot l w v)
+      by_twin : (o : Option ℕ) → m.twin (dart_at t.arcs (use_of l w).arc 0) ≡ o → ((v : Slot) × IsOtherSlot l w v)
+          ⊎ ((v : Slot) → ¬ IsOtherSlot l w v)
       by_twin (Some u) twin = inl (by_way (use_of l w).forward refl u twin)
       by_twin None none = inr (λ v o. by_ways (use_of l w).forward refl v o)
         where
@@ -239,14 +276,16 @@ module _ (m : HalfEdges) (laws : IsQuadManifold m) (cut : Cut) (full : IsCut m c
           by_ways false e v o = backward w is refl e none
           by_ways true e v o = backward v o.0 o.1.arc (o.1.turned ∙ ap not e) none
 
-  alone : (a k : ℕ) → a < l.arcs → k < x a → ((w : Slot) → IsSlot l w → (use_of l w).arc ≡ a → (use_of l w).forward ≡ true)
+  alone : (a k : ℕ) → a < l.arcs → k < x a → ((w : Slot) → IsSlot l w → (use_of l w).arc ≡ a → (use_of l w).forward
+      ≡ true)
       → m.twin (dart_at t.arcs a k) ≡ None
   alone a k low less all = by_twin (m.twin (dart_at t.arcs a k)) refl
     where
       by_twin : (o : Option ℕ) → m.twin (dart_at t.arcs a k) ≡ o → m.twin (dart_at t.arcs a k) ≡ None
       by_twin None e = e
       by_twin (Some u) e =
-          let on : (u < m.count) × (cut u ≡ true) = twin_on (dart_at t.arcs a k) u (arc_dart_low a k low less) e (arc_on a k low less) in
+          let on : (u < m.count) × (cut u ≡ true) = twin_on (dart_at t.arcs a k) u (arc_dart_low a k low less) e
+          (arc_on a k low less) in
           let s : (v : Slot) × (o : ℕ) × StandsAt u v o = stands u on.0 on.1 in
           let one : ((use_of l s.0).arc ≡ a) × ((use_of l s.0).forward ≡ false) × (s.1 ≡ long_at t.arcs a - 1 - k) =
           one_use a false (long_at t.arcs a - 1 - k) u s.0 s.1 low (omega arith) (twin_lies a k u less e) s.2 in
@@ -256,13 +295,15 @@ module _ (m : HalfEdges) (laws : IsQuadManifold m) (cut : Cut) (full : IsCut m c
       → cell_dart m t (slot_dart l x w k) ≡ dart_at t.arcs (use_of l w).arc k
   ahead_is w k is less e =
       rim_dart w.patch w.side (reach l x w.patch w.side w.at + k) is.patch_low
-      ∙ subst (λ (f : Bool). LiesAt m (path_at t.arcs (use_of l w).arc).darts f k (border_dart m (patch_at t.patches w.patch) w.side (reach l x w.patch w.side w.at + k))) e
+      ∙ subst (λ (f : Bool). LiesAt m (path_at t.arcs (use_of l w).arc).darts f k
+      (border_dart m (patch_at t.patches w.patch) w.side (reach l x w.patch w.side w.at + k))) e
       (lay.used w k is less)
 
   behind_is : (w : Slot) (k : ℕ) → IsSlot l w → k < x (use_of l w).arc → (use_of l w).forward ≡ false
       → m.twin (dart_at t.arcs (use_of l w).arc (x (use_of l w).arc - 1 - k)) ≡ Some (cell_dart m t (slot_dart l x w k))
   behind_is w k is less e =
-      subst (λ (f : Bool). LiesAt m (path_at t.arcs (use_of l w).arc).darts f k (border_dart m (patch_at t.patches w.patch) w.side (reach l x w.patch w.side w.at + k))) e
+      subst (λ (f : Bool). LiesAt m (path_at t.arcs (use_of l w).arc).darts f k
+      (border_dart m (patch_at t.patches w.patch) w.side (reach l x w.patch w.side w.at + k))) e
       (lay.used w k is less)
       ∙ ap Some (sym (rim_dart w.patch w.side (reach l x w.patch w.side w.at + k) is.patch_low))
 
@@ -273,70 +314,95 @@ module _ (m : HalfEdges) (laws : IsQuadManifold m) (cut : Cut) (full : IsCut m c
   last_vertex a low = sym (lay.last_at a (x a - 1) low (omega (arith, (arc_run a low).some)))
 
   -- A dart of the cut that leaves a node begins a slot's arc there.
-  node_starts : (n d : ℕ) → n < l.nodes → d < m.count → cut d ≡ true → m.from d ≡ vertex_at t n → (w : Slot) × IsSlot l w × (start_node l (use_of l w) ≡ n)
+  node_starts : (n d : ℕ) → n < l.nodes → d < m.count → cut d ≡ true → m.from d ≡ vertex_at t n → (w : Slot)
+      × IsSlot l w × (start_node l (use_of l w) ≡ n)
   node_starts n d n_low d_low on leaves = by_stand (stands d d_low on)
     where
       is_node_here : node (m.from d) ≡ true
       is_node_here = ap node leaves ∙ (node_kept n n_low).passes
 
       -- Past its beginning an arc meets no node.
-      place : (a : ℕ) (f : Bool) (o : ℕ) → a < length t.arcs → o < long_at t.arcs a → LiesAt m (path_at t.arcs a).darts f o d → o ≡ 0
+      place : (a : ℕ) (f : Bool) (o : ℕ) → a < length t.arcs → o < long_at t.arcs a
+          → LiesAt m (path_at t.arcs a).darts f o d → o ≡ 0
       place a f zero a_low o_low at = refl
       place a true (suc o) a_low o_low at =
-          absurd (false≢true (sym (run_inner m laws cut full node nodes (dart_at t.arcs a 0) (long_at t.arcs a) (arc_run a a_low) o o_low)
-          ∙ ap (λ k. node (m.from k)) (sym (at ∙ on_run m laws cut full node nodes t.arcs lay.arcs a (suc o) a_low o_low)) ∙ is_node_here))
+          absurd (false≢true (sym (run_inner m laws cut full node nodes (dart_at t.arcs a 0) (long_at t.arcs a)
+          (arc_run a a_low) o o_low)
+          ∙ ap (λ k. node (m.from k))
+          (sym (at ∙ on_run m laws cut full node nodes t.arcs lay.arcs a (suc o) a_low o_low)) ∙ is_node_here))
       place a false (suc o) a_low o_low at =
           let k_low : long_at t.arcs a - 1 - suc o < long_at t.arcs a = omega arith in
           let ends : m.from d ≡ m.from (m.next (dart_at t.arcs a (long_at t.arcs a - 1 - suc o))) =
-          (laws.twin_ends (dart_at t.arcs a (long_at t.arcs a - 1 - suc o)) d (arc_dart_low a (long_at t.arcs a - 1 - suc o) a_low k_low) at).0 in
+          (laws.twin_ends (dart_at t.arcs a (long_at t.arcs a - 1 - suc o)) d
+          (arc_dart_low a (long_at t.arcs a - 1 - suc o) a_low k_low) at).0 in
           absurd (false≢true (sym ((arc_run a a_low).inside (long_at t.arcs a - 1 - suc o) (omega arith))
-          ∙ ap (λ k. node (m.from (m.next k))) (sym (on_run m laws cut full node nodes t.arcs lay.arcs a (long_at t.arcs a - 1 - suc o) a_low k_low))
+          ∙ ap (λ k. node (m.from (m.next k)))
+          (sym (on_run m laws cut full node nodes t.arcs lay.arcs a (long_at t.arcs a - 1 - suc o) a_low k_low))
           ∙ ap node (sym ends) ∙ is_node_here))
 
-      starts : (a : ℕ) (f : Bool) → a < length t.arcs → LiesAt m (path_at t.arcs a).darts f 0 d → start_node l (record { arc = a; forward = f }) ≡ n
+      starts : (a : ℕ) (f : Bool) → a < length t.arcs → LiesAt m (path_at t.arcs a).darts f 0 d
+          → start_node l (record { arc = a; forward = f }) ≡ n
       starts a true a_low at =
           vertex_same (l.first a) n (lay.first_low a a_low) n_low (lay.first_at a a_low ∙ ap m.from (sym at) ∙ leaves)
       starts a false a_low at =
           let z : long_at t.arcs a - 1 - 0 ≡ long_at t.arcs a - 1 = omega arith in
           let some : 0 < long_at t.arcs a = (arc_run a a_low).some in
           let ends : m.from d ≡ m.from (m.next (dart_at t.arcs a (long_at t.arcs a - 1))) =
-          (laws.twin_ends (dart_at t.arcs a (long_at t.arcs a - 1)) d (arc_dart_low a (long_at t.arcs a - 1) a_low (omega (arith, some)))
+          (laws.twin_ends (dart_at t.arcs a (long_at t.arcs a - 1)) d
+          (arc_dart_low a (long_at t.arcs a - 1) a_low (omega (arith, some)))
           (ap (λ i. m.twin (dart_at t.arcs a i)) (sym z) ∙ at)).0 in
           vertex_same (l.last a) n (lay.last_low a a_low) n_low (sym (last_vertex a a_low) ∙ sym ends ∙ leaves)
 
       by_stand : (w : Slot) × (o : ℕ) × StandsAt d w o → (w : Slot) × IsSlot l w × (start_node l (use_of l w) ≡ n)
       by_stand s =
-          let z : s.1 ≡ 0 = place (use_of l s.0).arc (use_of l s.0).forward s.1 (lay.uses s.0 s.2.is_slot) s.2.low s.2.lies in (
+          let z : s.1 ≡ 0 = place (use_of l s.0).arc (use_of l s.0).forward s.1 (lay.uses s.0 s.2.is_slot) s.2.low
+          s.2.lies in (
             s.0,
             s.2.is_slot,
             starts (use_of l s.0).arc (use_of l s.0).forward (lay.uses s.0 s.2.is_slot)
-                (subst (λ (o : ℕ). LiesAt m (path_at t.arcs (use_of l s.0).arc).darts (use_of l s.0).forward o d) z s.2.lies),
+                (subst (λ (o : ℕ). LiesAt m (path_at t.arcs (use_of l s.0).arc).darts (use_of l s.0).forward o d) z
+                s.2.lies),
           )
 
   -- After a dart of the cut comes one that leaves its end.
-  pub goes_on : (d : ℕ) → d < m.count → cut d ≡ true → (e : ℕ) × (e < m.count) × (cut e ≡ true) × (m.from e ≡ end_vertex m d)
+  pub goes_on : (d : ℕ) → d < m.count → cut d ≡ true → (e : ℕ) × (e < m.count) × (cut e ≡ true)
+      × (m.from e ≡ end_vertex m d)
   goes_on d low on = by_cover (lay.patches.covers d low)
     where
-      by_cover : (p : ℕ) × (i : ℕ) × (j : ℕ) × (q : ℕ) × (p < length t.patches) × IsSide m (patch_at t.patches p) i j q d → (e : ℕ) × (e < m.count) × (cut e ≡ true) × (m.from e ≡ end_vertex m d)
-      by_cover c = by_side (on_side m laws cut full (patch_at t.patches c.0) (grid c.0 c.4) c.3 c.1 c.2 d c.5.i_low c.5.j_low c.5.is on)
+      by_cover : (p : ℕ) × (i : ℕ) × (j : ℕ) × (q : ℕ) × (p < length t.patches)
+          × IsSide m (patch_at t.patches p) i j q d → (e : ℕ) × (e < m.count) × (cut e ≡ true)
+          × (m.from e ≡ end_vertex m d)
+      by_cover c = by_side (on_side m laws cut full (patch_at t.patches c.0) (grid c.0 c.4) c.3 c.1 c.2 d c.5.i_low
+          c.5.j_low c.5.is on)
         where
-          by_line : (s : Way) (k : ℕ) → k < side_size (patch_at t.patches c.0) s → border_dart m (patch_at t.patches c.0) s k ≡ d
-              → IsLine m cut (border_dart m (patch_at t.patches c.0) s) (side_size (patch_at t.patches c.0) s) → (e : ℕ) × (e < m.count) × (cut e ≡ true) × (m.from e ≡ end_vertex m d)
+          by_line : (s : Way) (k : ℕ) → k < side_size (patch_at t.patches c.0) s
+              → border_dart m (patch_at t.patches c.0) s k ≡ d
+              → IsLine m cut (border_dart m (patch_at t.patches c.0) s) (side_size (patch_at t.patches c.0) s)
+              → (e : ℕ) × (e < m.count) × (cut e ≡ true) × (m.from e ≡ end_vertex m d)
           by_line s k less is b = elim (cases_lt (suc k) (side_size (patch_at t.patches c.0) s)) [
             | inl more ↦ (
               border_dart m (patch_at t.patches c.0) s (suc k),
               b.low (suc k) more,
               b.on (suc k) more,
-              line_from m laws cut full node nodes (border_dart m (patch_at t.patches c.0) s) (side_size (patch_at t.patches c.0) s) b k more ∙ ap (end_vertex m) is,
+              line_from m laws cut full node nodes (border_dart m (patch_at t.patches c.0) s)
+                  (side_size (patch_at t.patches c.0) s) b k more ∙ ap (end_vertex m) is,
             )
-            | inr last ↦ (m.next d, laws.next_low d low, ap (λ z. cut (m.next z)) (sym is) ∙ b.last k (omega arith), refl)
+            | inr last ↦ (
+              m.next d,
+              laws.next_low d low,
+              ap (λ z. cut (m.next z)) (sym is) ∙ b.last k (omega arith),
+              refl,
+            )
           ]
 
-          by_side : (s : Way) × (k : ℕ) × (k < side_size (patch_at t.patches c.0) s) × (border_dart m (patch_at t.patches c.0) s k ≡ d) → (e : ℕ) × (e < m.count) × (cut e ≡ true) × (m.from e ≡ end_vertex m d)
+          by_side : (s : Way) × (k : ℕ) × (k < side_size (patch_at t.patches c.0) s)
+              × (border_dart m (patch_at t.patches c.0) s k ≡ d) → (e : ℕ) × (e < m.count) × (cut e ≡ true)
+              × (m.from e ≡ end_vertex m d)
           by_side s = by_line s.0 s.1 s.2 s.3 (line m laws cut full (patch_at t.patches c.0) (grid c.0 c.4) s.0)
 
   -- All that a layout needs of its mesh, where an edge of the cut ends at each node.
-  pub sided : ((n : ℕ) → n < l.nodes → (e : ℕ) × (e < m.count) × (cut e ≡ true) × ((m.from e ≡ vertex_at t n) ⊎ (end_vertex m e ≡ vertex_at t n)))
+  pub sided : ((n : ℕ) → n < l.nodes → (e : ℕ) × (e < m.count) × (cut e ≡ true)
+      × ((m.from e ≡ vertex_at t n) ⊎ (end_vertex m e ≡ vertex_at t n)))
       → IsEmbedding m l x (cell_dart m t) (vertex_at t) (dart_at t.arcs)
   sided met = record {
     low = λ d is. spin_low m laws (way_number d.way) (cell_of (patch_at t.patches d.patch) d.i d.j) (corner_low d is);
@@ -362,7 +428,8 @@ module _ (m : HalfEdges) (laws : IsQuadManifold m) (cut : Cut) (full : IsCut m c
       east_of p i j low i_low j_low =
           let one : suc i ≡ i + 1 = omega arith in
           (grid p low).east i j (omega (arith, lay.sizes p south low)) (omega (arith, lay.sizes p west low))
-          ∙ ap Some (ap (λ k. m.prev (cell_of (patch_at t.patches p) k j)) one ∙ sym (prev_is m laws (cell_of (patch_at t.patches p) (i + 1) j)))
+          ∙ ap Some (ap (λ k. m.prev (cell_of (patch_at t.patches p) k j)) one
+          ∙ sym (prev_is m laws (cell_of (patch_at t.patches p) (i + 1) j)))
 
       north_of : (p i j : ℕ) → p < l.patches → i < wide l x p → j + 1 < high l x p
           → m.twin (cell_dart m t (dart p i j north)) ≡ Some (cell_dart m t (dart p i (j + 1) south))
@@ -374,7 +441,8 @@ module _ (m : HalfEdges) (laws : IsQuadManifold m) (cut : Cut) (full : IsCut m c
       reached : (n : ℕ) → n < l.nodes → (w : Slot) × IsSlot l w × (start_node l (use_of l w) ≡ n)
       reached n low = by_end (met n low).0 (met n low).1 (met n low).2 (met n low).3
         where
-          by_end : (e : ℕ) → e < m.count → cut e ≡ true → (m.from e ≡ vertex_at t n) ⊎ (end_vertex m e ≡ vertex_at t n) → (w : Slot) × IsSlot l w × (start_node l (use_of l w) ≡ n)
+          by_end : (e : ℕ) → e < m.count → cut e ≡ true → (m.from e ≡ vertex_at t n) ⊎ (end_vertex m e ≡ vertex_at t n)
+              → (w : Slot) × IsSlot l w × (start_node l (use_of l w) ≡ n)
           by_end e e_low on (inl leaves) = node_starts n e low e_low on leaves
           by_end e e_low on (inr arrives) =
               let f : (f : ℕ) × (f < m.count) × (cut f ≡ true) × (m.from f ≡ end_vertex m e) = goes_on e e_low on in

@@ -1,5 +1,6 @@
 -- At each node an edge of the cut ends.
-use Rattle.std.proofs.Common.{◌≡◌, ◌⊎◌, ℕ, zero, suc, ◌<◌, Bool, true, false, not, cond, List, [], ◌∷◌, length, get_or, refl, ◌∙◌, ap, inl, inr, arith}
+use Rattle.std.proofs.Common.{◌≡◌, ◌⊎◌, ℕ, zero, suc, ◌<◌, Bool, true, false, not, cond, List, [], ◌∷◌, length, get_or}
+use Rattle.std.proofs.Common.{refl, ◌∙◌, ap, inl, inr, arith}
 use Rattle.std.specs.Prelude.{nat_lt, is_some}
 use Rattle.std.specs.List.{filter}
 use Rattle.std.proofs.lemmas.Bool.{cases_lt, or_cases, and_parts, not-true, ltb-true}
@@ -14,7 +15,8 @@ use Rattle.mesh_laws.proofs.Fans.{IsFan, fan_of_is}
 use Rattle.mesh_laws.proofs.Chains.{before_from}
 
 -- What a filter keeps is there.
-filter_some : (p : ℕ → Bool) (xs : List ℕ) → 0 < length (filter p xs) → (k : ℕ) × (k < length xs) × (p (get_or xs k 0) ≡ true)
+filter_some : (p : ℕ → Bool) (xs : List ℕ) → 0 < length (filter p xs) → (k : ℕ) × (k < length xs)
+    × (p (get_or xs k 0) ≡ true)
 filter_some p [] some = absurd (omega arith)
 filter_some p (x ∷ xs) some = by_test (p x) refl some (filter_some p xs)
   where
@@ -32,24 +34,29 @@ module _ (faces : Faces) (marks : List Bool) (full : IsFullCut faces marks) wher
 
   pub node_met : (v d : ℕ) → d < darts faces → from_of faces d ≡ v → is_node faces marks v ≡ true → IsMet v
   node_met v d d_low leaves is = elim (or_cases (not (is_regular faces v)) (nat_lt 2 (cut_degree faces marks v)) is) [
-    | inl irregular ↦ by_mark (full.irregular d d_low (ap (is_regular faces) leaves ∙ not-true (is_regular faces v) irregular))
+    | inl irregular ↦ by_mark (full.irregular d d_low (ap (is_regular faces) leaves
+        ∙ not-true (is_regular faces v) irregular))
     | inr many ↦ by_degree (ltb-true 2 (cut_degree faces marks v) many)
   ]
     where
       fan : IsFan faces v (fan_of faces v)
       fan = fan_of_is faces v
 
-      by_mark : (e : ℕ) × (e < darts faces) × (is_on marks e ≡ true) × ((from_of faces e ≡ from_of faces d) ⊎ (to_of faces e ≡ from_of faces d)) → IsMet v
+      by_mark : (e : ℕ) × (e < darts faces) × (is_on marks e ≡ true)
+          × ((from_of faces e ≡ from_of faces d) ⊎ (to_of faces e ≡ from_of faces d)) → IsMet v
       by_mark e = (e.0, e.1, e.2, elim e.3 [ inl s ↦ inl (s ∙ leaves) | inr s ↦ inr (s ∙ leaves) ])
 
-      by_leaving : (k : ℕ) × (k < length (fan_of faces v)) × (is_on marks (get_or (fan_of faces v) k 0) ≡ true) → IsMet v
+      by_leaving : (k : ℕ) × (k < length (fan_of faces v)) × (is_on marks (get_or (fan_of faces v) k 0) ≡ true)
+          → IsMet v
       by_leaving k = (get_or (fan_of faces v) k.0 0, fan.dart k.0 k.1, k.2, inl (fan.leaves k.0 k.1))
 
-      by_lone : (k : ℕ) × (k < length (fan_of faces v)) × (is_lone_before faces marks (get_or (fan_of faces v) k 0) ≡ true) → IsMet v
+      by_lone : (k : ℕ) × (k < length (fan_of faces v)) × (is_lone_before faces marks (get_or (fan_of faces v) k 0)
+          ≡ true) → IsMet v
       by_lone k = (
         prev_of (get_or (fan_of faces v) k.0 0),
         prev_of_low faces (get_or (fan_of faces v) k.0 0) (fan.dart k.0 k.1),
-        (and_parts (is_on marks (prev_of (get_or (fan_of faces v) k.0 0))) (not (is_some (twin_of faces (prev_of (get_or (fan_of faces v) k.0 0))))) k.2).0,
+        (and_parts (is_on marks (prev_of (get_or (fan_of faces v) k.0 0)))
+            (not (is_some (twin_of faces (prev_of (get_or (fan_of faces v) k.0 0))))) k.2).0,
         inr (before_from faces (get_or (fan_of faces v) k.0 0) ∙ fan.leaves k.0 k.1),
       )
 

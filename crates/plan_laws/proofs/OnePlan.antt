@@ -1,5 +1,6 @@
 -- A mesh and a full cut have at most one layout.
-use Rattle.std.proofs.Common.{◌≡◌, ◌⊎◌, ℕ, zero, suc, ◌+◌, ◌-◌, ◌<◌, ◌≤◌, Bool, true, false, List, [], length, get_or, sym, ◌∙◌, ap, subst, inl, inr, arith}
+use Rattle.std.proofs.Common.{◌≡◌, ◌⊎◌, ℕ, zero, suc, ◌+◌, ◌-◌, ◌<◌, ◌≤◌, Bool, true, false, List, [], length, get_or}
+use Rattle.std.proofs.Common.{sym, ◌∙◌, ap, subst, inl, inr, arith}
 use Rattle.std.proofs.lemmas.Bool.{cases_eq, cases_order}
 use Rattle.std.proofs.lemmas.List.{ext_get_or}
 use Rattle.sum_laws.proofs.Counts.{count_below_same}
@@ -26,7 +27,8 @@ use Rattle.mesh_laws.proofs.HalfEdges.{manifold_law}
 use Rattle.plan_laws.proofs.ArcUses.{dart_low, same_arc, one_name_both, clash, same_use, IsSameArc}
 use Rattle.plan_laws.proofs.Lies.{vertex_same}
 
-module _ (m : HalfEdges) (laws : IsQuadManifold m) (cut : Cut) (full : IsCut m cut) (node : ℕ → Bool) (nodes : AreNodes m cut node) where
+module _ (m : HalfEdges) (laws : IsQuadManifold m) (cut : Cut) (full : IsCut m cut) (node : ℕ
+    → Bool) (nodes : AreNodes m cut node) where
   -- Of two lists of arcs each arc of the one is one of the other.
   record IsFound (arcs others : List Path) (a : ℕ) : Type 0 where
     at : ℕ
@@ -35,8 +37,10 @@ module _ (m : HalfEdges) (laws : IsQuadManifold m) (cut : Cut) (full : IsCut m c
     long : long_at arcs a ≡ long_at others at
     each : (i : ℕ) → i < long_at arcs a → dart_at arcs a i ≡ dart_at others at i
 
-  found : (arcs others : List Path) (are : AreArcs m cut node arcs) (them : AreArcs m cut node others) (a : ℕ) → a < length arcs → IsFound arcs others a
-  found arcs others are them a low = by_cover (them.covers (dart_at arcs a 0) (dart_low m laws cut full node nodes arcs are a 0 low some) (run_on))
+  found : (arcs others : List Path) (are : AreArcs m cut node arcs) (them : AreArcs m cut node others) (a : ℕ)
+      → a < length arcs → IsFound arcs others a
+  found arcs others are them a low =
+      by_cover (them.covers (dart_at arcs a 0) (dart_low m laws cut full node nodes arcs are a 0 low some) (run_on))
     where
       some : 0 < long_at arcs a
       some = (are.each a low).run.some
@@ -44,14 +48,26 @@ module _ (m : HalfEdges) (laws : IsQuadManifold m) (cut : Cut) (full : IsCut m c
       run_on : cut (dart_at arcs a 0) ≡ true
       run_on = (are.each a low).run.on 0 some
 
-      by_cover : (b : ℕ) × (o : ℕ) × (f : Bool) × (b < length others) × (o < long_at others b) × LiesAt m (path_at others b).darts f o (dart_at arcs a 0) → IsFound arcs others a
+      by_cover : (b : ℕ) × (o : ℕ) × (f : Bool) × (b < length others) × (o < long_at others b)
+          × LiesAt m (path_at others b).darts f o (dart_at arcs a 0) → IsFound arcs others a
       by_cover c = by_way c.0 c.1 c.2 c.3 c.4 c.5
         where
-          by_way : (b o : ℕ) (f : Bool) → b < length others → o < long_at others b → LiesAt m (path_at others b).darts f o (dart_at arcs a 0) → IsFound arcs others a
+          by_way : (b o : ℕ) (f : Bool) → b < length others → o < long_at others b
+              → LiesAt m (path_at others b).darts f o (dart_at arcs a 0) → IsFound arcs others a
           by_way b o true b_low o_low lies =
-              let s : IsSameArc m laws cut full node nodes arcs are others them a b 0 o = same_arc m laws cut full node nodes arcs are others them a b 0 o low b_low some o_low lies in
-              record { at = b; low = b_low; name = one_name_both m laws cut full node nodes arcs are others them a b 0 o low b_low s; long = s.long; each = s.each }
-          by_way b o false b_low o_low lies = absurd (clash m laws cut full node nodes arcs are others them a b 0 (long_at others b - 1 - o) low b_low some (omega arith) lies)
+              let s : IsSameArc m laws cut full node nodes arcs are others them a b 0 o =
+              same_arc m laws cut full node nodes arcs are others them a b 0 o low b_low some o_low lies in
+              record {
+                at = b;
+                low = b_low;
+                name = one_name_both m laws cut full node nodes arcs are others them a b 0 o
+                    low b_low s;
+                long = s.long;
+                each = s.each;
+              }
+          by_way b o false b_low o_low lies =
+              absurd (clash m laws cut full node nodes arcs are others them a b 0 (long_at others b - 1 - o) low b_low
+              some (omega arith) lies)
 
   increasing : (arcs : List Path) → AreArcs m cut node arcs → AreIncreasing (name_at arcs) (length arcs)
   increasing arcs are = record { step = are.ordered }
@@ -71,7 +87,8 @@ module _ (m : HalfEdges) (laws : IsQuadManifold m) (cut : Cut) (full : IsCut m c
       back b low = let f = found others arcs them are b low in (f.at, f.low, f.name)
 
       many : length arcs ≡ length others
-      many = same_many (name_at arcs) (name_at others) (length arcs) (length others) (increasing arcs are) (increasing others them) there back
+      many = same_many (name_at arcs) (name_at others) (length arcs) (length others) (increasing arcs are)
+          (increasing others them) there back
 
       each : (a : ℕ) → a < length arcs → (path_at arcs a).darts ≡ (path_at others a).darts
       each a low = by_found (found arcs others are them a low)
@@ -79,13 +96,17 @@ module _ (m : HalfEdges) (laws : IsQuadManifold m) (cut : Cut) (full : IsCut m c
           by_found : IsFound arcs others a → (path_at arcs a).darts ≡ (path_at others a).darts
           by_found f =
               let same : f.at ≡ a =
-              increasing_place (name_at others) (length others) (increasing others them) f.at a f.low (omega (arith, low, many))
-              (sym f.name ∙ same_values (name_at arcs) (name_at others) (length arcs) (length others) (increasing arcs are) (increasing others them) there back a low) in
-              ext_get_or 0 (path_at arcs a).darts (path_at others f.at).darts f.long f.each ∙ ap (λ (b : ℕ). (path_at others b).darts) same
+              increasing_place (name_at others) (length others) (increasing others them) f.at a f.low
+              (omega (arith, low, many))
+              (sym f.name ∙ same_values (name_at arcs) (name_at others) (length arcs) (length others)
+              (increasing arcs are) (increasing others them) there back a low) in
+              ext_get_or 0 (path_at arcs a).darts (path_at others f.at).darts f.long f.each
+              ∙ ap (λ (b : ℕ). (path_at others b).darts) same
 
   module _ (face : ℕ → ℕ) (v : ℕ) where
     -- The layouts have the same nodes, arcs and patches.
-    same_paths : (t u : Plan) → IsDartLayout m cut node face v t → IsDartLayout m cut node face v u → t.nodes ≡ u.nodes → t.arcs ≡ u.arcs
+    same_paths : (t u : Plan) → IsDartLayout m cut node face v t → IsDartLayout m cut node face v u → t.nodes ≡ u.nodes
+        → t.arcs ≡ u.arcs
     same_paths t u lt lu same = ext_get_or (record { first = 0; last = 0; darts = [] }) t.arcs u.arcs s.many path
       where
         s : AreSame t.arcs u.arcs
@@ -107,19 +128,24 @@ module _ (m : HalfEdges) (laws : IsQuadManifold m) (cut : Cut) (full : IsCut m c
             kept n = ap (λ (xs : List ℕ). get_or xs n 0) (sym same)
 
             first : (path_at t.arcs a).first ≡ (path_at u.arcs a).first
-            first = vertex_same m laws cut full node nodes face v t lt (path_at t.arcs a).first (path_at u.arcs a).first (lt.first_low a low)
+            first = vertex_same m laws cut full node nodes face v t lt (path_at t.arcs a).first (path_at u.arcs a).first
+                (lt.first_low a low)
                 (omega (arith, lu.first_low a u_low, ap (λ (xs : List ℕ). length xs) same))
-                (lt.first_at a low ∙ (ap (λ (ds : List ℕ). m.from (get_or ds 0 0)) (s.each a low) ∙ (sym (lu.first_at a u_low) ∙ kept (path_at u.arcs a).first)))
+                (lt.first_at a low ∙ (ap (λ (ds : List ℕ). m.from (get_or ds 0 0)) (s.each a low)
+                ∙ (sym (lu.first_at a u_low) ∙ kept (path_at u.arcs a).first)))
 
             last : (path_at t.arcs a).last ≡ (path_at u.arcs a).last
-            last = vertex_same m laws cut full node nodes face v t lt (path_at t.arcs a).last (path_at u.arcs a).last (lt.last_low a low)
+            last = vertex_same m laws cut full node nodes face v t lt (path_at t.arcs a).last (path_at u.arcs a).last
+                (lt.last_low a low)
                 (omega (arith, lu.last_low a u_low, ap (λ (xs : List ℕ). length xs) same))
                 (lt.last_at a (long_at t.arcs a - 1) low (omega (arith, some))
                 ∙ (ap (λ (ds : List ℕ). end_vertex m (get_or ds (long_at t.arcs a - 1) 0)) (s.each a low)
-                ∙ (sym (lu.last_at a (long_at t.arcs a - 1) u_low (omega (arith, long, some))) ∙ kept (path_at u.arcs a).last)))
+                ∙ (sym (lu.last_at a (long_at t.arcs a - 1) u_low (omega (arith, long, some)))
+                ∙ kept (path_at u.arcs a).last)))
 
     -- Two layouts that differ in their sides at most.
-    module _ (t : Plan) (sides : List (List (List SideArc))) (lt : IsDartLayout m cut node face v t) (lu : IsDartLayout m cut node face v (record t { sides = sides })) where
+    module _ (t : Plan) (sides : List (List (List SideArc))) (lt : IsDartLayout m cut node face v t)
+        (lu : IsDartLayout m cut node face v (record t { sides = sides })) where
       abbrev u : Plan
       u = record t { sides = sides }
 
@@ -139,17 +165,23 @@ module _ (m : HalfEdges) (laws : IsQuadManifold m) (cut : Cut) (full : IsCut m c
       some a low = (lt.arcs.each a low).run.some
 
       -- Sides that agree before a place reach equally far.
-      same_reach : (p : ℕ) (s : Way) (k : ℕ) → ((i : ℕ) → i < k → here p s i ≡ there p s i) → reach (layout_of t) x p s k ≡ reach (layout_of u) x p s k
-      same_reach p s k before = count_below_same (λ i. x (here p s i).arc) (λ i. x (there p s i).arc) k (λ i l. ap (λ (w : SideArc). x w.arc) (before i l))
+      same_reach : (p : ℕ) (s : Way) (k : ℕ) → ((i : ℕ) → i < k → here p s i ≡ there p s i)
+          → reach (layout_of t) x p s k ≡ reach (layout_of u) x p s k
+      same_reach p s k before = count_below_same (λ i. x (here p s i).arc) (λ i. x (there p s i).arc) k
+          (λ i l. ap (λ (w : SideArc). x w.arc) (before i l))
 
       -- So they agree there, too.
-      one_more : (p : ℕ) (s : Way) (k : ℕ) → p < length t.patches → k < (layout_of t).many p s → k < (layout_of u).many p s
+      one_more : (p : ℕ) (s : Way) (k : ℕ) → p < length t.patches → k < (layout_of t).many p s
+          → k < (layout_of u).many p s
           → ((i : ℕ) → i < k → here p s i ≡ there p s i) → here p s k ≡ there p s k
       one_more p s k low one other before =
-          by_use (same_use m laws cut full node nodes t.arcs lt.arcs (here p s k).arc (there p s k).arc (here p s k).forward (there p s k).forward 0 0
-          (border_dart m (patch_at t.patches p) s (reach (layout_of t) x p s k + 0)) a_low b_low (some (here p s k).arc a_low) (some (there p s k).arc b_low)
+          by_use (same_use m laws cut full node nodes t.arcs lt.arcs (here p s k).arc (there p s k).arc
+          (here p s k).forward (there p s k).forward 0 0
+          (border_dart m (patch_at t.patches p) s (reach (layout_of t) x p s k + 0)) a_low b_low
+          (some (here p s k).arc a_low) (some (there p s k).arc b_low)
           (lt.used (slot p s k) 0 is_one (some (here p s k).arc a_low))
-          (subst (λ (r : ℕ). LiesAt m (path_at t.arcs (there p s k).arc).darts (there p s k).forward 0 (border_dart m (patch_at t.patches p) s (r + 0)))
+          (subst (λ (r : ℕ). LiesAt m (path_at t.arcs (there p s k).arc).darts (there p s k).forward 0
+          (border_dart m (patch_at t.patches p) s (r + 0)))
           (sym (same_reach p s k before)) (lu.used (slot p s k) 0 is_other (some (there p s k).arc b_low))))
         where
           is_one : IsSlot (layout_of t) (slot p s k)
@@ -164,7 +196,8 @@ module _ (m : HalfEdges) (laws : IsQuadManifold m) (cut : Cut) (full : IsCut m c
           b_low : (there p s k).arc < length t.arcs
           b_low = lu.uses (slot p s k) is_other
 
-          by_use : ((here p s k).arc ≡ (there p s k).arc) × ((here p s k).forward ≡ (there p s k).forward) × (◌≡◌ {A = ℕ} 0 0) → here p s k ≡ there p s k
+          by_use : ((here p s k).arc ≡ (there p s k).arc) × ((here p s k).forward ≡ (there p s k).forward)
+              × (◌≡◌ {A = ℕ} 0 0) → here p s k ≡ there p s k
           by_use e = λ i. record { arc = e.0 i; forward = e.1 i }
 
       agree : (p : ℕ) (s : Way) (k : ℕ) → p < length t.patches → k ≤ (layout_of t).many p s → k ≤ (layout_of u).many p s
@@ -173,7 +206,9 @@ module _ (m : HalfEdges) (laws : IsQuadManifold m) (cut : Cut) (full : IsCut m c
       agree p s (suc k) low one other i l = by_last (cases_eq i k) (agree p s k low (omega arith) (omega arith))
         where
           by_last : (i ≡ k) ⊎ (i ≡ k → ⊥) → ((j : ℕ) → j < k → here p s j ≡ there p s j) → here p s i ≡ there p s i
-          by_last (inl e) before = subst (λ (j : ℕ). here p s j ≡ there p s j) (sym e) (one_more p s k low (omega arith) (omega arith) before)
+          by_last (inl e) before =
+              subst (λ (j : ℕ). here p s j ≡ there p s j) (sym e) (one_more p s k low (omega arith) (omega arith)
+              before)
           by_last (inr ne) before = before i (omega arith)
 
       -- They have as many uses, since both are as long as the side of the patch.
@@ -185,24 +220,32 @@ module _ (m : HalfEdges) (laws : IsQuadManifold m) (cut : Cut) (full : IsCut m c
         where
           fewer : (layout_of t).many p s < (layout_of u).many p s → ⊥
           fewer l =
-              let reached = same_reach p s ((layout_of t).many p s) (agree p s ((layout_of t).many p s) low (omega arith) (omega arith)) in
-              let far = count_rises (λ i. x (there p s i).arc) (suc ((layout_of t).many p s)) ((layout_of u).many p s) (omega arith) in
-              let step = some (there p s ((layout_of t).many p s)).arc (lu.uses (slot p s ((layout_of t).many p s)) (record { patch_low = low; low = l })) in
+              let reached = same_reach p s ((layout_of t).many p s)
+              (agree p s ((layout_of t).many p s) low (omega arith) (omega arith)) in
+              let far = count_rises (λ i. x (there p s i).arc) (suc ((layout_of t).many p s)) ((layout_of u).many p s)
+              (omega arith) in
+              let step = some (there p s ((layout_of t).many p s)).arc
+              (lu.uses (slot p s ((layout_of t).many p s)) (record { patch_low = low; low = l })) in
               omega (arith, lt.sizes p s low, lu.sizes p s low, reached, far, step)
 
           more : (layout_of u).many p s < (layout_of t).many p s → ⊥
           more l =
-              let reached = same_reach p s ((layout_of u).many p s) (agree p s ((layout_of u).many p s) low (omega arith) (omega arith)) in
-              let far = count_rises (λ i. x (here p s i).arc) (suc ((layout_of u).many p s)) ((layout_of t).many p s) (omega arith) in
-              let step = some (here p s ((layout_of u).many p s)).arc (lt.uses (slot p s ((layout_of u).many p s)) (record { patch_low = low; low = l })) in
+              let reached = same_reach p s ((layout_of u).many p s)
+              (agree p s ((layout_of u).many p s) low (omega arith) (omega arith)) in
+              let far = count_rises (λ i. x (here p s i).arc) (suc ((layout_of u).many p s)) ((layout_of t).many p s)
+              (omega arith) in
+              let step = some (here p s ((layout_of u).many p s)).arc
+              (lt.uses (slot p s ((layout_of u).many p s)) (record { patch_low = low; low = l })) in
               omega (arith, lt.sizes p s low, lu.sizes p s low, reached, far, step)
 
       same_side : (p : ℕ) (s : Way) → p < length t.patches → side_at t p s ≡ side_at u p s
-      same_side p s low = ext_get_or (record { arc = 0; forward = true }) (side_at t p s) (side_at u p s) (same_count p s low)
+      same_side p s low = ext_get_or (record { arc = 0; forward = true }) (side_at t p s) (side_at u p s)
+          (same_count p s low)
           (λ i l. agree p s ((layout_of t).many p s) low (omega arith) (omega (arith, same_count p s low)) i l)
 
       same_four : (p : ℕ) → p < length t.patches → get_or t.sides p [] ≡ get_or sides p []
-      same_four p low = ext_get_or [] (get_or t.sides p []) (get_or sides p []) (lt.four p low ∙ sym (lu.four p low)) (λ i l. by_number i (omega (arith, l, lt.four p low)))
+      same_four p low = ext_get_or [] (get_or t.sides p []) (get_or sides p []) (lt.four p low ∙ sym (lu.four p low))
+          (λ i l. by_number i (omega (arith, l, lt.four p low)))
         where
           by_number : (i : ℕ) → i < 4 → get_or (get_or t.sides p []) i [] ≡ get_or (get_or sides p []) i []
           by_number zero l = same_side p south low
@@ -212,10 +255,17 @@ module _ (m : HalfEdges) (laws : IsQuadManifold m) (cut : Cut) (full : IsCut m c
           by_number (suc (suc (suc (suc i)))) l = absurd (omega arith)
 
       same_sides : t.sides ≡ sides
-      same_sides = ext_get_or [] t.sides sides (lt.sided ∙ sym lu.sided) (λ p l. same_four p (omega (arith, l, lt.sided)))
+      same_sides = ext_get_or [] t.sides sides (lt.sided ∙ sym lu.sided)
+          (λ p l. same_four p (omega (arith, l, lt.sided)))
 
     one_plan : (t u : Plan) → IsDartLayout m cut node face v t → IsDartLayout m cut node face v u → t ≡ u
-    one_plan t u lt lu = λ i. record { nodes = nodes_same i; arcs = arcs_same i; patches = patches_same i; sides = sides_same i }
+    one_plan t u lt lu = λ i. record {
+      nodes = nodes_same i;
+      arcs = arcs_same i;
+      patches = patches_same i;
+      sides =
+          sides_same i;
+    }
       where
         nodes_same : t.nodes ≡ u.nodes
         nodes_same = lt.nodes ∙ sym lu.nodes
@@ -228,9 +278,27 @@ module _ (m : HalfEdges) (laws : IsQuadManifold m) (cut : Cut) (full : IsCut m c
 
         moved : IsDartLayout m cut node face v (record t { sides = u.sides })
         moved =
-            subst (λ (xs : List Rectangle). IsDartLayout m cut node face v (record { nodes = t.nodes; arcs = t.arcs; patches = xs; sides = u.sides })) (sym patches_same)
-            (subst (λ (xs : List Path). IsDartLayout m cut node face v (record { nodes = t.nodes; arcs = xs; patches = u.patches; sides = u.sides })) (sym arcs_same)
-            (subst (λ (xs : List ℕ). IsDartLayout m cut node face v (record { nodes = xs; arcs = u.arcs; patches = u.patches; sides = u.sides })) (sym nodes_same) lu))
+            subst (λ (xs : List Rectangle). IsDartLayout m cut node face v (record {
+              nodes = t.nodes;
+              arcs =
+                  t.arcs;
+              patches = xs;
+              sides = u.sides;
+            })) (sym patches_same)
+            (subst (λ (xs : List Path). IsDartLayout m cut node face v (record {
+              nodes = t.nodes;
+              arcs = xs;
+              patches =
+                  u.patches;
+              sides = u.sides;
+            })) (sym arcs_same)
+            (subst (λ (xs : List ℕ). IsDartLayout m cut node face v (record {
+              nodes = xs;
+              arcs = u.arcs;
+              patches =
+                  u.patches;
+              sides = u.sides;
+            })) (sym nodes_same) lu))
 
         sides_same : t.sides ≡ u.sides
         sides_same = same_sides t u.sides lt moved
@@ -239,4 +307,5 @@ pub one_layout_law : OneLayoutLaw
 one_layout_law faces marks manifold full one other is also =
     let laws : IsQuadManifold (half_edges faces) = manifold_law faces manifold in
     let cut : IsCut (half_edges faces) (is_on marks) = ((full_cut_law faces marks manifold).0 full).1 in
-    one_plan (half_edges faces) laws (is_on marks) cut (is_node faces marks) (are_nodes faces laws marks cut) face_of (vertex_count faces) one other is also
+    one_plan (half_edges faces) laws (is_on marks) cut (is_node faces marks) (are_nodes faces laws marks cut) face_of
+    (vertex_count faces) one other is also

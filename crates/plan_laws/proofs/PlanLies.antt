@@ -22,7 +22,8 @@ use Rattle.written_laws.proofs.Models.{used_dart}
 use Rattle.plan_laws.proofs.NodeEdges.{IsMet, node_met}
 use Rattle.plan_laws.proofs.Lies.{cell_dart, paved, lengths, node_kept, sided}
 
-module _ (faces : Faces) (marks : List Bool) (plan : Plan) (mesh : IsMesh faces) (quads : AreQuads faces) (full : IsFullCut faces marks)
+module _ (faces : Faces) (marks : List Bool) (plan : Plan) (mesh : IsMesh faces) (quads : AreQuads faces)
+    (full : IsFullCut faces marks)
     (lay : IsDartLayout (half_edges faces) (is_on marks) (is_node faces marks) face_of (vertex_count faces) plan) where
   laws : IsQuadManifold (half_edges faces)
   laws = manifold_law faces mesh.manifold
@@ -34,28 +35,35 @@ module _ (faces : Faces) (marks : List Bool) (plan : Plan) (mesh : IsMesh faces)
   nodes = are_nodes faces laws marks cut
 
   met : (n : ℕ) → n < length plan.nodes → IsMet faces marks full (vertex_at plan n)
-  met n low = by_kept (node_kept (half_edges faces) laws (is_on marks) cut (is_node faces marks) nodes face_of (vertex_count faces) plan lay n low)
+  met n low = by_kept (node_kept (half_edges faces) laws (is_on marks) cut (is_node faces marks) nodes face_of
+      (vertex_count faces) plan lay n low)
     where
       by_dart : is_node faces marks (vertex_at plan n) ≡ true
-          → (d : ℕ) × (d < darts faces) × (from_of faces d ≡ vertex_at plan n) → IsMet faces marks full (vertex_at plan n)
+          → (d : ℕ) × (d < darts faces) × (from_of faces d ≡ vertex_at plan n)
+          → IsMet faces marks full (vertex_at plan n)
       by_dart is d = node_met faces marks full (vertex_at plan n) d.0 d.1 d.2 is
 
-      by_kept : IsKept (is_node faces marks) 0 (vertex_count faces) (vertex_at plan n) → IsMet faces marks full (vertex_at plan n)
+      by_kept : IsKept (is_node faces marks) 0 (vertex_count faces) (vertex_at plan n)
+          → IsMet faces marks full (vertex_at plan n)
       by_kept kept =
           let below : vertex_at plan n < vertex_count faces = omega (arith, kept.high) in
           by_dart kept.passes (used_dart faces (vertex_at plan n) quads (mesh.used (vertex_at plan n) below))
 
   -- Cells are the darts of the patches' lists, and the darts of arcs are those of their lists.
-  pub in_mesh : IsEmbedding (half_edges faces) (layout_of plan) (long_at plan.arcs) (cell_dart (half_edges faces) plan) (vertex_at plan) (dart_at plan.arcs)
-  in_mesh = sided (half_edges faces) laws (is_on marks) cut (is_node faces marks) nodes face_of (vertex_count faces) plan lay met
+  pub in_mesh : IsEmbedding (half_edges faces) (layout_of plan) (long_at plan.arcs) (cell_dart (half_edges faces) plan)
+      (vertex_at plan) (dart_at plan.arcs)
+  in_mesh = sided (half_edges faces) laws (is_on marks) cut (is_node faces marks) nodes face_of (vertex_count faces)
+      plan lay met
 
   lies : LiesInMesh faces (layout_of plan) (long_at plan.arcs) (vertex_at plan)
   lies = record {
     manifold = mesh.manifold;
     quads = quads;
     used = mesh.used;
-    paved = paved (half_edges faces) laws (is_on marks) cut (is_node faces marks) nodes face_of (vertex_count faces) plan lay;
-    lengths = lengths (half_edges faces) laws (is_on marks) cut (is_node faces marks) nodes face_of (vertex_count faces) plan lay;
+    paved = paved (half_edges faces) laws (is_on marks) cut (is_node faces marks) nodes face_of (vertex_count faces)
+        plan lay;
+    lengths = lengths (half_edges faces) laws (is_on marks) cut (is_node faces marks) nodes face_of (vertex_count faces)
+        plan lay;
     cell = cell_dart (half_edges faces) plan;
     arc_dart = dart_at plan.arcs;
     sided = in_mesh;

@@ -19,7 +19,8 @@ module _ (m : HalfEdges) (laws : IsQuadManifold m) where
   pub spin_way : (k c : ℕ) → (w : Way) × (spin m k c ≡ spin m (way_number w) c)
   spin_way zero c = (south, refl)
   spin_way (suc k) c =
-      let w : (w : Way) × (spin m k c ≡ spin m (way_number w) c) = spin_way k c in (side_after w.0, ap m.next w.1 ∙ sym (spin_after w.0 c))
+      let w : (w : Way) × (spin m k c ≡ spin m (way_number w) c) = spin_way k c in
+      (side_after w.0, ap m.next w.1 ∙ sym (spin_after w.0 c))
 
   one_on : (d : ℕ) → d < m.count → d ≢ m.next d
   one_on d low e = (laws.corners_differ d low).0 (ap m.from e)

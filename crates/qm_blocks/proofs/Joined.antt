@@ -27,7 +27,8 @@ module _ (l : Layout) (x : Lengths) (laid : IsSurface l) (len : AreLengths l x) 
 
   -- So is that at a point of a slot.
   slot_vertex : (w : Slot) (k : ℕ) → IsSlot l w → k ≤ x (use_of l w).arc
-      → side_vertex l x w.patch (side_name w.side) (first_point l x w + k) ≡ vertex_number l x (use_point l x (use_of l w) k)
+      → side_vertex l x w.patch (side_name w.side) (first_point l x w + k)
+      ≡ vertex_number l x (use_point l x (use_of l w) k)
   slot_vertex w k is le =
       vertex_on w.patch w.side (first_point l x w + k) is.patch_low (omega (arith, reach_low l x w is, le))
       ∙ ap (vertex_number l x) (side_upto l x laid len w k (first_point l x w + k) is le refl)
@@ -39,7 +40,8 @@ module _ (l : Layout) (x : Lengths) (laid : IsSurface l) (len : AreLengths l x) 
       let long : x (use_of l v).arc ≡ x (use_of l w).arc = ap x across.1.arc in
       let e : x (use_of l w).arc - (x (use_of l w).arc - k) ≡ k = omega (arith, le) in
       slot_vertex w k is le ∙ ap (λ o. vertex_number l x (use_point l x (use_of l w) o)) (sym e)
-      ∙ ap (vertex_number l x) (sym (use_back l x (use_of l w) (use_of l v) across.1 (x (use_of l w).arc - k) (omega arith)))
+      ∙ ap (vertex_number l x)
+      (sym (use_back l x (use_of l w) (use_of l v) across.1 (x (use_of l w).arc - k) (omega arith)))
       ∙ sym (slot_vertex v (x (use_of l w).arc - k) across.0 (omega (arith, long)))
 
 pub linked_points : LinkedPointsLaw
@@ -55,7 +57,8 @@ linked_points l x laid len links are one other low side side' from from' n has k
     ]
       where
         over : (v : Slot) → IsOtherSlot l w v
-            → ◌≡◌ {A = Option (ℕ × SideName × ℕ)} (Some (other, side', from')) (Some (v.patch, side_name v.side, first_point l x v))
+            → ◌≡◌ {A = Option (ℕ × SideName × ℕ)} (Some (other, side', from'))
+            (Some (v.patch, side_name v.side, first_point l x v))
             → side_vertex l x one side (from + k) ≡ side_vertex l x other side' (from' + (n - k))
         over v across told =
             (λ t. side_vertex l x ((sym at) t) (is_link.side t) (is_link.from t + k))

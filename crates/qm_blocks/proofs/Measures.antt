@@ -30,13 +30,15 @@ patches_few plan is = omega (arith, up (length plan.patches) (omega arith), old_
     one p low =
         let paved = (laid_of plan is).paved in
         mul-le 1 1 (wide (layout_of plan) old p) (high (layout_of plan) old p)
-        (wide_some (layout_of plan) old paved (lengths_of plan is) p low) (high_some (layout_of plan) old paved (lengths_of plan is) p low)
+        (wide_some (layout_of plan) old paved (lengths_of plan is) p low)
+        (high_some (layout_of plan) old paved (lengths_of plan is) p low)
 
     up : (n : ℕ) → n ≤ length plan.patches → n ≤ cells_before (layout_of plan) old n
     up zero le = omega arith
     up (suc n) le = omega (arith, up n (omega (arith, le)), one n (omega (arith, le)))
 
-module _ (plan : Plan) (x : List ℕ) (is : IsMeasured plan x) (block : ℕ) (low : block < length plan.patches) (way : Way) (side : List SideArc)
+module _ (plan : Plan) (x : List ℕ) (is : IsMeasured plan x) (block : ℕ) (low : block < length plan.patches) (way : Way)
+    (side : List SideArc)
     (same : side ≡ side_at plan block way) where
   -- Its arcs have lengths.
   pub arcs_low : All (λ (used : SideArc). used.arc < length x) side
@@ -47,7 +49,8 @@ module _ (plan : Plan) (x : List ℕ) (is : IsMeasured plan x) (block : ℕ) (lo
   side_small = omega (
     arith,
     side_long plan block way (lengths_in x) side same,
-    side_most (layout_of plan) (long_at plan.arcs) (lengths_in x) MAX_LENGTH (laid_of plan is.layout) (lengths_of plan is.layout) is.bounded block way low,
+    side_most (layout_of plan) (long_at plan.arcs) (lengths_in x) MAX_LENGTH (laid_of plan is.layout)
+        (lengths_of plan is.layout) is.bounded block way low,
     side_few (layout_of plan) (long_at plan.arcs) (laid_of plan is.layout) (lengths_of plan is.layout) block way low,
     old_faces plan is.layout,
   )

@@ -1,8 +1,10 @@
 -- Tables of spots: what each side puts into one, and what a whole one says.
-use Rattle.std.proofs.Common.{◌≡◌, ◌≢◌, ◌⊎◌, ℕ, ◌+◌, ◌*◌, ◌<◌, Bool, true, false, not, cond, List, length, Some, None, Option}
+use Rattle.std.proofs.Common.{◌≡◌, ◌≢◌, ◌⊎◌, ℕ, ◌+◌, ◌*◌, ◌<◌, Bool, true, false, not, cond, List, length, Some, None}
+use Rattle.std.proofs.Common.{Option}
 use Rattle.std.proofs.Common.{refl, sym, ◌∙◌, ap, subst, inl, inr, arith, replicate}
 use Rattle.std.proofs.lemmas.Bool.{cases_eq, cases_lt, false≢true}
-use Rattle.std.proofs.lemmas.List.{get_or-replicate, get_or-set_other, get_or-set_same, get_or_past, length-replicate, length-set}
+use Rattle.std.proofs.lemmas.List.{get_or-replicate, get_or-set_other, get_or-set_same, get_or_past, length-replicate}
+use Rattle.std.proofs.lemmas.List.{length-set}
 use Rattle.std.proofs.lemmas.Option.{same_Some}
 use Rattle.std.proofs.Math.ListN.{set}
 use Rattle.std.specs.Option.{is_some}
@@ -14,7 +16,8 @@ use Rattle.def_layout.specs.declared.tmesh.SideArc.{SideArc}
 use Rattle.def_remesh.specs.Numberings.{used_at}
 use Rattle.def_blocks.specs.Links.{side_name}
 use Rattle.def_blocks.specs.declared.link.SideName.{SideName}
-use Rattle.qm_blocks.specs.Spots.{back_key, key_of, spot_at, spot_of, spot_on, HasSpots, HasUses, HavePut, IsBefore, IsOnBlock, IsOnSide, Spot}
+use Rattle.qm_blocks.specs.Spots.{back_key, key_of, spot_at, spot_of, spot_on, HasSpots, HasUses, HavePut, IsBefore}
+use Rattle.qm_blocks.specs.Spots.{IsOnBlock, IsOnSide, Spot}
 
 -- No use yet.
 pub no_uses : (side : List SideArc) (lengths : Lengths) (block : ℕ) (name : SideName) (old : List (Option Spot))
@@ -27,9 +30,11 @@ no_uses side lengths block name old = record {
 }
 
 -- The next use puts its spot in.
-pub use_more : (side : List SideArc) (lengths : Lengths) (block : ℕ) (name : SideName) (many : ℕ) (old mid : List (Option Spot))
+pub use_more : (side : List SideArc) (lengths : Lengths) (block : ℕ) (name : SideName) (many : ℕ)
+    (old mid : List (Option Spot))
     → key_of (used_at side many) < length mid → HasUses side lengths block name many old mid
-    → HasUses side lengths block name (many + 1) old (set mid (key_of (used_at side many)) (Some (spot_on side lengths block name many)))
+    → HasUses side lengths block name (many + 1) old
+    (set mid (key_of (used_at side many)) (Some (spot_on side lengths block name many)))
 use_more side lengths block name many old mid low are = record {
   long = length-set mid key (Some here) ∙ are.long;
   kept = λ k is. elim (cases_eq k key) [ inl e ↦ filled k e | inr ne ↦ ap is_some (other k ne) ∙ are.kept k is ];
@@ -62,13 +67,16 @@ use_more side lengths block name many old mid low are = record {
     filled k e = ap is_some (there k e)
 
     before : (k : ℕ) (spot : Spot)
-        → (spot_at old k ≡ Some spot) ⊎ ((at : ℕ) × (at < many) × (key_of (used_at side at) ≡ k) × (spot_on side lengths block name at ≡ spot))
-        → (spot_at old k ≡ Some spot) ⊎ ((at : ℕ) × (at < many + 1) × (key_of (used_at side at) ≡ k) × (spot_on side lengths block name at ≡ spot))
+        → (spot_at old k ≡ Some spot) ⊎ ((at : ℕ) × (at < many) × (key_of (used_at side at) ≡ k)
+        × (spot_on side lengths block name at ≡ spot))
+        → (spot_at old k ≡ Some spot) ⊎ ((at : ℕ) × (at < many + 1) × (key_of (used_at side at) ≡ k)
+        × (spot_on side lengths block name at ≡ spot))
     before k spot (inl was) = inl was
     before k spot (inr (at, less, is, same)) = inr (at, omega arith, is, same)
 
 -- A table in which nothing stands.
-pub no_spots : (l : Layout) (x : Lengths) (table : List (Option Spot)) (n : ℕ) → n ≡ 2 * l.arcs → table ≡ replicate n None
+pub no_spots : (l : Layout) (x : Lengths) (table : List (Option Spot)) (n : ℕ) → n ≡ 2 * l.arcs
+    → table ≡ replicate n None
     → HasSpots l x (IsBefore 0) table
 no_spots l x table n long is = record {
   long = ap length is ∙ length-replicate n None ∙ long;
@@ -92,7 +100,8 @@ spots_for l x done now table back are = record {
 }
 
 -- More slots are done.
-pub spots_more : (l : Layout) (x : Lengths) (done now : Slot → Type 0) (old new : List (Option Spot)) → HasSpots l x done old
+pub spots_more : (l : Layout) (x : Lengths) (done now : Slot → Type 0) (old new : List (Option Spot))
+    → HasSpots l x done old
     → HavePut l x now old new → HasSpots l x (λ w. done w ⊎ now w) new
 spots_more l x done now old new are more = record {
   long = more.long ∙ are.long;
@@ -105,13 +114,15 @@ spots_more l x done now old new are more = record {
     put w slot (inr here) = more.put w slot here
 
     told : (key : ℕ) (spot : Spot)
-        → (spot_at old key ≡ Some spot) ⊎ ((w : Slot) × IsSlot l w × (key_of (use_of l w) ≡ key) × (spot_of l x w ≡ spot))
+        → (spot_at old key ≡ Some spot) ⊎ ((w : Slot) × IsSlot l w × (key_of (use_of l w) ≡ key)
+        × (spot_of l x w ≡ spot))
         → (w : Slot) × IsSlot l w × (key_of (use_of l w) ≡ key) × (spot_of l x w ≡ spot)
     told key spot (inl was) = are.only key spot was
     told key spot (inr here) = here
 
 -- The slots of a side have put theirs.
-pub side_put : (plan : Plan) (x : Lengths) (block : ℕ) (way : Way) (side : List SideArc) (name : SideName) (old new : List (Option Spot))
+pub side_put : (plan : Plan) (x : Lengths) (block : ℕ) (way : Way) (side : List SideArc) (name : SideName)
+    (old new : List (Option Spot))
     → side ≡ side_at plan block way → name ≡ side_name way → block < length plan.patches
     → HasUses side x block name (length side) old new
     → HavePut (layout_of plan) x (IsOnSide block way) old new
@@ -134,19 +145,23 @@ side_put plan x block way side name old new same named low uses = record {
 
     put : (w : Slot) → IsSlot l w → IsOnSide block way w → is_some (spot_at new (key_of (use_of l w))) ≡ true
     put w slot (p, s) =
-        let e : w ≡ record { patch = block; side = way; at = w.at } = λ t. record { patch = p t; side = s t; at = w.at } in
+        let e : w ≡ record { patch = block; side = way; at = w.at } =
+        λ t. record { patch = p t; side = s t; at = w.at } in
         let less : w.at < length arcs = subst (λ (v : Slot). v.at < length (side_at plan v.patch v.side)) e slot.low in
         subst (λ (v : Slot). is_some (spot_at new (key_of (use_of l v))) ≡ true) (sym e) (put_in.put w.at less)
 
     from_uses : (key : ℕ) (spot : Spot)
-        → (spot_at old key ≡ Some spot) ⊎ ((at : ℕ) × (at < length arcs) × (key_of (used_at arcs at) ≡ key) × (spot_on arcs x block (side_name way) at ≡ spot))
-        → (spot_at old key ≡ Some spot) ⊎ ((w : Slot) × IsSlot l w × (key_of (use_of l w) ≡ key) × (spot_of l x w ≡ spot))
+        → (spot_at old key ≡ Some spot) ⊎ ((at : ℕ) × (at < length arcs) × (key_of (used_at arcs at) ≡ key)
+        × (spot_on arcs x block (side_name way) at ≡ spot))
+        → (spot_at old key ≡ Some spot) ⊎ ((w : Slot) × IsSlot l w × (key_of (use_of l w) ≡ key)
+        × (spot_of l x w ≡ spot))
     from_uses key spot (inl was) = inl was
     from_uses key spot (inr (at, less, is, here)) =
         inr (record { patch = block; side = way; at = at }, record { patch_low = low; low = less }, is, here)
 
 -- So have those of two sides, one after the other.
-pub both_put : (l : Layout) (x : Lengths) (one other : Slot → Type 0) (old mid new : List (Option Spot)) → HavePut l x one old mid
+pub both_put : (l : Layout) (x : Lengths) (one other : Slot → Type 0) (old mid new : List (Option Spot))
+    → HavePut l x one old mid
     → HavePut l x other mid new → HavePut l x (λ w. one w ⊎ other w) old new
 both_put l x one other old mid new first second = record {
   long = second.long ∙ first.long;
@@ -160,14 +175,17 @@ both_put l x one other old mid new first second = record {
     put w slot (inr here) = second.put w slot here
 
     told : (key : ℕ) (spot : Spot)
-        → (spot_at mid key ≡ Some spot) ⊎ ((w : Slot) × IsSlot l w × (key_of (use_of l w) ≡ key) × (spot_of l x w ≡ spot))
-        → (spot_at old key ≡ Some spot) ⊎ ((w : Slot) × IsSlot l w × (key_of (use_of l w) ≡ key) × (spot_of l x w ≡ spot))
+        → (spot_at mid key ≡ Some spot) ⊎ ((w : Slot) × IsSlot l w × (key_of (use_of l w) ≡ key)
+        × (spot_of l x w ≡ spot))
+        → (spot_at old key ≡ Some spot) ⊎ ((w : Slot) × IsSlot l w × (key_of (use_of l w) ≡ key)
+        × (spot_of l x w ≡ spot))
     told key spot (inl was) = first.only key spot was
     told key spot (inr here) = inr here
 
 -- The four sides of a block are the block.
 pub block_put : (l : Layout) (x : Lengths) (block : ℕ) (old new : List (Option Spot))
-    → HavePut l x (λ w. ((IsOnSide block south w ⊎ IsOnSide block east w) ⊎ IsOnSide block north w) ⊎ IsOnSide block west w) old new
+    → HavePut l x (λ w. ((IsOnSide block south w ⊎ IsOnSide block east w) ⊎ IsOnSide block north w)
+    ⊎ IsOnSide block west w) old new
     → HavePut l x (IsOnBlock block) old new
 block_put l x block old new are = record {
   long = are.long;
@@ -198,7 +216,8 @@ key_low u n low = by_way u.forward
 key_same : (u v : SideArc) → key_of u ≡ key_of v → u ≡ v
 key_same u v e = by_ways u.forward v.forward refl refl e
   where
-    by_ways : (a b : Bool) → u.forward ≡ a → v.forward ≡ b → 2 * u.arc + cond u.forward 1 0 ≡ 2 * v.arc + cond v.forward 1 0 → u ≡ v
+    by_ways : (a b : Bool) → u.forward ≡ a → v.forward ≡ b → 2 * u.arc + cond u.forward 1 0
+        ≡ 2 * v.arc + cond v.forward 1 0 → u ≡ v
     by_ways true true f g e =
         let le : u.arc ≡ v.arc = omega (arith, e, ap (λ b. cond {A = ℕ} b 1 0) f, ap (λ b. cond {A = ℕ} b 1 0) g) in
         λ t. record { arc = le t; forward = (f ∙ sym g) t }
@@ -225,13 +244,16 @@ reverse_is u v e =
     let rev : AreReverse u turned = record { arc = refl; turned = refl } in
     subst (AreReverse u) (sym (key_same v turned (e ∙ sym (back_is u turned rev)))) rev
 
-module _ (l : Layout) (x : Lengths) (laid : IsSurface l) (table : List (Option Spot)) (are : HasSpots l x (IsSlot l) table) where
+module _ (l : Layout) (x : Lengths) (laid : IsSurface l) (table : List (Option Spot))
+    (are : HasSpots l x (IsSlot l) table) where
   -- What stands in a whole table behind a slot: the spot of its other slot, if there is one.
   pub other_spot : (w v : Slot) → IsOtherSlot l w v → spot_at table (back_key (use_of l w)) ≡ Some (spot_of l x v)
   other_spot w v across =
-      ap (spot_at table) (sym (back_is (use_of l w) (use_of l v) across.1)) ∙ here (spot_at table (key_of (use_of l v))) refl
+      ap (spot_at table) (sym (back_is (use_of l w) (use_of l v) across.1)) ∙ here (spot_at table (key_of (use_of l v)))
+      refl
     where
-      here : (o : Option Spot) → spot_at table (key_of (use_of l v)) ≡ o → spot_at table (key_of (use_of l v)) ≡ Some (spot_of l x v)
+      here : (o : Option Spot) → spot_at table (key_of (use_of l v)) ≡ o → spot_at table (key_of (use_of l v))
+          ≡ Some (spot_of l x v)
       here None e = absurd (false≢true (sym (ap is_some e) ∙ are.put v across.0 across.0))
       here (Some spot) e = by_slot (are.only (key_of (use_of l v)) spot e)
         where
@@ -244,7 +266,8 @@ module _ (l : Layout) (x : Lengths) (laid : IsSurface l) (table : List (Option S
   pub no_spot : (w : Slot) → ((v : Slot) → ¬ IsOtherSlot l w v) → spot_at table (back_key (use_of l w)) ≡ None
   no_spot w wall = here (spot_at table (back_key (use_of l w))) refl
     where
-      here : (o : Option Spot) → spot_at table (back_key (use_of l w)) ≡ o → spot_at table (back_key (use_of l w)) ≡ None
+      here : (o : Option Spot) → spot_at table (back_key (use_of l w)) ≡ o → spot_at table (back_key (use_of l w))
+          ≡ None
       here None e = e
       here (Some spot) e = by_slot (are.only (back_key (use_of l w)) spot e)
         where

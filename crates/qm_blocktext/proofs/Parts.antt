@@ -15,7 +15,8 @@ pub stops_at : {T : Type 0} (takes stops : T → T → List ℕ → Type 0)
     → takes a b (flat_map f (range_with_len 0 i)) → stops b c (f i) → stops a c (flat_map f (range_with_len 0 n))
 stops_at takes stops later before f n i a b c low took stopped =
     subst (stops a c) (by_number f n)
-    (stops_at_number takes stops later before f (λ k. k) n i a b c low (subst (takes a b) (sym (by_number f i)) took) stopped)
+    (stops_at_number takes stops later before f (λ k. k) n i a b c low (subst (takes a b) (sym (by_number f i)) took)
+    stopped)
 
 -- One more of them is put.
 pub takes_one : {T : Type 0} (takes : T → T → List ℕ → Type 0)

@@ -1,5 +1,6 @@
 -- The arcs around a block, and the lines of links along them.
-use Rattle.std.proofs.Common.{◌≡◌, ℕ, zero, suc, ◌+◌, ◌-◌, ◌<◌, ◌≤◌, List, [], ◌∷◌, ◌++◌, length, map, take, drop, get_or, Option, Some, None, refl, sym, ◌∙◌, ap, subst, append_assoc, append-nil, arith}
+use Rattle.std.proofs.Common.{◌≡◌, ℕ, zero, suc, ◌+◌, ◌-◌, ◌<◌, ◌≤◌, List, [], ◌∷◌, ◌++◌, length, map, take, drop}
+use Rattle.std.proofs.Common.{get_or, Option, Some, None, refl, sym, ◌∙◌, ap, subst, append_assoc, append-nil, arith}
 use Rattle.std.specs.Prelude.{slice_get}
 use Rattle.std.specs.List.{flat_map}
 use Rattle.std.proofs.Math.Seq.{drop-cons}
@@ -20,7 +21,8 @@ get_first [] ys k low = absurd (omega (arith, low))
 get_first (x ∷ xs) ys zero low = refl
 get_first (x ∷ xs) ys (suc k) low = get_first xs ys k (omega (arith, low))
 
-get_later : {X : Type 0} (xs ys : List X) (k : ℕ) → length xs ≤ k → slice_get (xs ++ ys) k ≡ slice_get ys (k - length xs)
+get_later : {X : Type 0} (xs ys : List X) (k : ℕ) → length xs ≤ k → slice_get (xs ++ ys) k
+    ≡ slice_get ys (k - length xs)
 get_later [] ys k past = let same : k - 0 ≡ k = omega arith in ap (λ (n : ℕ). slice_get ys n) (sym same)
 get_later (x ∷ xs) ys zero past = absurd (omega (arith, past))
 get_later (x ∷ xs) ys (suc k) past =
@@ -38,13 +40,16 @@ arcs_from sides i side low is =
     ap arcs_of (drop-cons sides i side low) ∙ ap (λ (s : Side). numbers s ++ arcs_of (drop (suc i) sides)) (sym is)
 
 -- An arc of this side.
-pub arc_here : (sides : List Side) (i k : ℕ) (side : Side) (used : SideArc) → i < length sides → side ≡ get_or sides i side
+pub arc_here : (sides : List Side) (i k : ℕ) (side : Side) (used : SideArc) → i < length sides
+    → side ≡ get_or sides i side
     → k < length side.arcs.items → used ≡ get_or side.arcs.items k used
     → slice_get (arcs_of (drop i sides)) k ≡ Some used.arc
 arc_here sides i k side used low is less read =
     ap (λ (xs : List ℕ). slice_get xs k) (arcs_from sides i side low is)
-    ∙ get_first (numbers side) (arcs_of (drop (suc i) sides)) k (omega (arith, less, length-map side.arcs.items (λ (u : SideArc). u.arc)))
-    ∙ slice_get-get_or (numbers side) k used.arc (omega (arith, less, length-map side.arcs.items (λ (u : SideArc). u.arc)))
+    ∙ get_first (numbers side) (arcs_of (drop (suc i) sides)) k
+    (omega (arith, less, length-map side.arcs.items (λ (u : SideArc). u.arc)))
+    ∙ slice_get-get_or (numbers side) k used.arc
+    (omega (arith, less, length-map side.arcs.items (λ (u : SideArc). u.arc)))
     ∙ ap Some (named side.arcs.items k used less read)
   where
     named : (arcs : List SideArc) (k : ℕ) (used : SideArc) → k < length arcs → used ≡ get_or arcs k used
@@ -83,7 +88,8 @@ lines_apart (l ∷ links) (a ∷ arcs) (suc k) link arc low has =
 -- One more of them is put.
 pub lines_more : (links : List Link) (arcs : List ℕ) (k : ℕ) (link : Link) (arc : ℕ) → k < length links
     → slice_get arcs k ≡ Some arc
-    → arc_link_lines (take (suc k) links) arcs ≡ arc_link_lines (take k links) arcs ++ arc_link_line (get_or links k link) arc
+    → arc_link_lines (take (suc k) links) arcs ≡ arc_link_lines (take k links) arcs
+    ++ arc_link_line (get_or links k link) arc
 lines_more [] arcs k link arc low has = absurd (omega (arith, low))
 lines_more (l ∷ links) [] k link arc low has = absurd cc
 lines_more (l ∷ links) (a ∷ arcs) zero link arc low has =
@@ -91,7 +97,8 @@ lines_more (l ∷ links) (a ∷ arcs) zero link arc low has =
     append-nil (arc_link_line l a) ∙ ap (arc_link_line l) same
 lines_more (l ∷ links) (a ∷ arcs) (suc k) link arc low has =
     ap (λ (text : List ℕ). arc_link_line l a ++ text) (lines_more links arcs k link arc (omega (arith, low)) has)
-    ∙ sym (append_assoc (arc_link_line l a) (arc_link_lines (take k links) arcs) (arc_link_line (get_or links k link) arc))
+    ∙ sym (append_assoc (arc_link_line l a) (arc_link_lines (take k links) arcs)
+    (arc_link_line (get_or links k link) arc))
 
 -- Where there is no further arc all lines are put.
 pub lines_all : (links : List Link) (arcs : List ℕ) (k : ℕ) → slice_get arcs k ≡ None
@@ -125,10 +132,12 @@ four_round (s ∷ e ∷ n ∷ w ∷ []) many =
     ∙ sym (map-append number (items_of s ++ items_of e ++ items_of n) (items_of w)
     ∙ ap (λ (xs : List ℕ). xs ++ numbers w) (map-append number (items_of s ++ items_of e) (items_of n)
     ∙ ap (λ (xs : List ℕ). xs ++ numbers n) (map-append number (items_of s) (items_of e)))
-    ∙ (append_assoc (numbers s ++ numbers e) (numbers n) (numbers w) ∙ append_assoc (numbers s) (numbers e) (numbers n ++ numbers w)))
+    ∙ (append_assoc (numbers s ++ numbers e) (numbers n) (numbers w)
+    ∙ append_assoc (numbers s) (numbers e) (numbers n ++ numbers w)))
 four_round (s ∷ e ∷ n ∷ w ∷ x ∷ xs) many = absurd (omega (arith, many))
 
-module _ (t : TMesh) (here : Plan) (same : plan t ≡ here) (is : IsSomeLayout here) (p : ℕ) (low : p < length here.patches) where
+module _ (t : TMesh) (here : Plan) (same : plan t ≡ here) (is : IsSomeLayout here) (p : ℕ)
+    (low : p < length here.patches) where
   -- A block has its sides.
   pub sides_low : p < length t.sides.items
   sides_low =

@@ -26,8 +26,8 @@ pub fn block_text(alloc: Global, blocks: &Blocks) -> Result<Vec<u8>, AllocError>
     }
 }
 
-/// Puts the text of blocks: two head lines, and for each block a line with its size, one for each point and one for each
-/// link. Linear in the points but for those on sides, which are logarithmic in the arcs; without memory.
+/// Puts the text of blocks: two head lines, and for each block a line with its size, one for each point and one for
+/// each link. Linear in the points but for those on sides, which are logarithmic in the arcs; without memory.
 pub fn put_blocks<T: Output>(out: &mut T, blocks: &Blocks) -> Result<(), Stopped>
     ensures whole { OnOk result (T.takes out.old out.new
         (chosen_text blocks.now.chosen blocks.now.by blocks.now.points.soup blocks.now.points.plan

@@ -1,5 +1,7 @@
 -- The verdict yes is that the certificate is accepted.
-use Rattle.std.proofs.Common.{◌≡◌, ◌≢◌, ℕ, ℤ, ◌<◌, ◌≤◌, ◌==◌, nat_lt, not, length, List, map, Option, Some, None, option_map, pos, unsigned_abs, ◌-ℤ◌, ◌*ℤ◌, ◌≤ℤ◌, true, false, cond, Bool, ◌↔◌, Result, Ok, Err, IfOk, refl, sym, ◌∙◌, ap, inl, inr, ◌⊎◌, ltb-false, le-ltb, eq-eqb, eqb-true, arith}
+use Rattle.std.proofs.Common.{◌≡◌, ◌≢◌, ℕ, ℤ, ◌<◌, ◌≤◌, ◌==◌, nat_lt, not, length, List, map, Option, Some, None}
+use Rattle.std.proofs.Common.{option_map, pos, unsigned_abs, ◌-ℤ◌, ◌*ℤ◌, ◌≤ℤ◌, true, false, cond, Bool, ◌↔◌, Result, Ok}
+use Rattle.std.proofs.Common.{Err, IfOk, refl, sym, ◌∙◌, ap, inl, inr, ◌⊎◌, ltb-false, le-ltb, eq-eqb, eqb-true, arith}
 use Rattle.std.specs.Prelude.{slice_index, if◌then◌else◌}
 use Rattle.std.specs.Ordering.{int_eq}
 use Rattle.std.proofs.lemmas.Int.{ints}
@@ -11,7 +13,8 @@ use Rattle.def_flow.specs.Admissible.{IsAdmissible, IsLeast, deviation, entries,
 use Rattle.def_flow.specs.Units.{low, down, on_cost}
 use Rattle.def_flow.specs.MatchingGraph.{matching_graph}
 use Rattle.def_matching.specs.Dual.{dual_sum, refuse, verdict}
-use Rattle.def_flow.specs.Accepted.{Certificate, IsAccepted, below_fault, unequal_fault, refuse_dual, sums_verdict, cert_verdict}
+use Rattle.def_flow.specs.Accepted.{Certificate, IsAccepted, below_fault, unequal_fault, refuse_dual, sums_verdict}
+use Rattle.def_flow.specs.Accepted.{cert_verdict}
 use Rattle.def_flow.specs.declared.cert.CertVerdict.{CertVerdict}
 use Rattle.def_flow.specs.declared.cert.CertVerdict.TheVariants.{Count, Below, Unequal, Sums}
 use Rattle.def_flow.specs.declared.cert.CertVerdict.TheVariants.{Yes as Accepted}
@@ -28,34 +31,42 @@ use Rattle.qm_cert.specs.Faults.{first_of_two, or_else, below_verdict, unequal_v
 abbrev pub checked : ℤ → ℤ → ℤ → CertVerdict
 checked far sum cost = if int_eq sum cost then Accepted far else Sums sum cost
 
-pub checked_same : (far near sum other cost price : ℤ) → far ≡ near → sum ≡ other → cost ≡ price → checked far sum cost ≡ checked near other price
-checked_same far near sum other cost price e f g = ap (λ z. checked z sum cost) e ∙ (ap (λ z. checked near z cost) f ∙ ap (λ z. checked near other z) g)
+pub checked_same : (far near sum other cost price : ℤ) → far ≡ near → sum ≡ other → cost ≡ price → checked far sum cost
+    ≡ checked near other price
+checked_same far near sum other cost price e f g = ap (λ z. checked z sum cost) e
+    ∙ (ap (λ z. checked near z cost) f ∙ ap (λ z. checked near other z) g)
 
 -- The cost of the units that are on is the deviation less that of the lows.
-pub cost_is : (net : Network) (xs : List ℕ) → length xs ≡ length net.arcs → on_cost net 1 xs ≡ pos (deviation net (entries xs)) -ℤ pos (deviation net (entries (map (low net 1) xs)))
+pub cost_is : (net : Network) (xs : List ℕ) → length xs ≡ length net.arcs
+    → on_cost net 1 xs ≡ pos (deviation net (entries xs)) -ℤ pos (deviation net (entries (map (low net 1) xs)))
 cost_is net xs l = box_deviation net 1 xs (map (down net 1) xs) xs l (own_box net 1 xs)
 
 -- A refusal, as a verdict that may be missing.
-refuse_is : (o : Option ℕ) (at : ℕ → CertVerdict) (after : CertVerdict) → refuse o at after ≡ or_else (option_map at o) after
+refuse_is : (o : Option ℕ) (at : ℕ → CertVerdict) (after : CertVerdict)
+    → refuse o at after ≡ or_else (option_map at o) after
 refuse_is o at after = grind (arith)
 
-or_else_two : (a b : Option CertVerdict) (after : CertVerdict) → or_else (first_of_two a b) after ≡ or_else a (or_else b after)
+or_else_two : (a b : Option CertVerdict) (after : CertVerdict) → or_else (first_of_two a b) after
+    ≡ or_else a (or_else b after)
 or_else_two a b after = grind (arith)
 
 -- The verdict is the fault of the list, or what comes after.
-pub by_list : (net : Network) (c : Certificate) → cert_verdict net c ≡ or_else (list_verdict net c.x) (refuse_dual (verdict (matching_graph net 1 c.x) c.dual) (sums_verdict net c))
+pub by_list : (net : Network) (c : Certificate) → cert_verdict net c
+    ≡ or_else (list_verdict net c.x) (refuse_dual (verdict (matching_graph net 1 c.x) c.dual) (sums_verdict net c))
 by_list net c = grind (arith)
   where
     below : ℕ → CertVerdict
     below k = Below k (slice_index c.x k)
 
     unequal : ℕ → CertVerdict
-    unequal v = Unequal v (unsigned_abs (side_sum net.arcs (entries c.x) true v)) (unsigned_abs (side_sum net.arcs (entries c.x) false v))
+    unequal v = Unequal v (unsigned_abs (side_sum net.arcs (entries c.x) true v))
+        (unsigned_abs (side_sum net.arcs (entries c.x) false v))
 
     after : CertVerdict
     after = refuse_dual (verdict (matching_graph net 1 c.x) c.dual) (sums_verdict net c)
 
-    faults : refuse (below_fault net c.x) below (refuse (unequal_fault net c.x) unequal after) ≡ or_else (first_of_two (below_verdict net c.x) (unequal_verdict net c.x)) after
+    faults : refuse (below_fault net c.x) below (refuse (unequal_fault net c.x) unequal after)
+        ≡ or_else (first_of_two (below_verdict net c.x) (unequal_verdict net c.x)) after
     faults =
         refuse_is (below_fault net c.x) below (refuse (unequal_fault net c.x) unequal after)
         ∙ (ap (or_else (below_verdict net c.x)) (refuse_is (unequal_fault net c.x) unequal after)
@@ -69,10 +80,12 @@ none_of_two : (a b : Option CertVerdict) → first_of_two a b ≡ None → (a �
 none_of_two None b e = (refl, e)
 none_of_two (Some v) b e = absurd cc
 
-pub no_fault : (net : Network) (xs : List ℕ) → IsWithinBounds net → list_verdict net xs ≡ None → (length xs ≡ length net.arcs) × IsAdmissible net (entries xs)
+pub no_fault : (net : Network) (xs : List ℕ) → IsWithinBounds net → list_verdict net xs ≡ None
+    → (length xs ≡ length net.arcs) × IsAdmissible net (entries xs)
 no_fault net xs bounds none = by_count (length xs == length net.arcs) refl none
   where
-    admissible : length xs ≡ length net.arcs → (below_verdict net xs ≡ None) × (unequal_verdict net xs ≡ None) → IsAdmissible net (entries xs)
+    admissible : length xs ≡ length net.arcs → (below_verdict net xs ≡ None) × (unequal_verdict net xs ≡ None)
+        → IsAdmissible net (entries xs)
     admissible count parts = record { high = high; balanced = λ v. balanced v (cases_lt v net.nodes) }
       where
         below : below_fault net xs ≡ None
@@ -82,30 +95,49 @@ no_fault net xs bounds none = by_count (length xs == length net.arcs) refl none
         unequal = none_of _ (unequal_fault net xs) parts.1
 
         high : (k : ℕ) → k < length net.arcs → pos net.floor ≤ℤ entries xs k
-        high k l = (let h : net.floor ≤ slice_index xs k = ltb-false (slice_index xs k) net.floor (none_below (λ j. nat_lt (slice_index xs j) net.floor) (length net.arcs) below k l) in omega (arith, ints, h))
+        high k l = (let h : net.floor ≤ slice_index xs k =
+            ltb-false (slice_index xs k) net.floor (none_below (λ j. nat_lt (slice_index xs j) net.floor)
+            (length net.arcs) below k l) in omega (arith, ints, h))
 
-        balanced : (v : ℕ) → (v < net.nodes) ⊎ (net.nodes ≤ v) → side_sum net.arcs (entries xs) true v ≡ side_sum net.arcs (entries xs) false v
-        balanced v (inl l) = (Decides-int_eq (side_sum net.arcs (entries xs) true v) (side_sum net.arcs (entries xs) false v)).0 (not-false _ (none_below (λ u. not (int_eq (side_sum net.arcs (entries xs) true u) (side_sum net.arcs (entries xs) false u))) net.nodes unequal v l))
+        balanced : (v : ℕ) → (v < net.nodes) ⊎ (net.nodes ≤ v) → side_sum net.arcs (entries xs) true v
+            ≡ side_sum net.arcs (entries xs) false v
+        balanced v (inl l) = (Decides-int_eq (side_sum net.arcs (entries xs) true v)
+            (side_sum net.arcs (entries xs) false v)).0
+            (not-false _ (none_below
+            (λ u. not (int_eq (side_sum net.arcs (entries xs) true u) (side_sum net.arcs (entries xs) false u)))
+            net.nodes unequal v l))
         balanced v (inr h) = no_side_past net bounds xs true v h ∙ sym (no_side_past net bounds xs false v h)
 
-    by_count : (b : Bool) → (length xs == length net.arcs) ≡ b → cond (not b) (Some (Count (length net.arcs) (length xs))) (first_of_two (below_verdict net xs) (unequal_verdict net xs)) ≡ None → (length xs ≡ length net.arcs) × IsAdmissible net (entries xs)
+    by_count : (b : Bool) → (length xs == length net.arcs) ≡ b
+        → cond (not b) (Some (Count (length net.arcs) (length xs)))
+        (first_of_two (below_verdict net xs) (unequal_verdict net xs)) ≡ None → (length xs ≡ length net.arcs)
+        × IsAdmissible net (entries xs)
     by_count false e f = absurd cc
-    by_count true e f = (let count : length xs ≡ length net.arcs = eqb-true (length xs) (length net.arcs) e in (count, admissible count (none_of_two (below_verdict net xs) (unequal_verdict net xs) f)))
+    by_count true e f = (let count : length xs ≡ length net.arcs = eqb-true (length xs) (length net.arcs) e in
+        (count, admissible count (none_of_two (below_verdict net xs) (unequal_verdict net xs) f)))
 
 -- An admissible list has no fault.
-admissible_none : (net : Network) (xs : List ℕ) → length xs ≡ length net.arcs → IsAdmissible net (entries xs) → list_verdict net xs ≡ None
+admissible_none : (net : Network) (xs : List ℕ) → length xs ≡ length net.arcs → IsAdmissible net (entries xs)
+    → list_verdict net xs ≡ None
 admissible_none net xs count a =
     let same : (length xs == length net.arcs) ≡ true = eq-eqb (length xs) (length net.arcs) count in
-    let below : below_fault net xs ≡ None = least_none (λ j. nat_lt (slice_index xs j) net.floor) (length net.arcs) (λ k l. le-ltb (slice_index xs k) net.floor (omega (arith, ints, a.high k l))) in
-    let unequal : unequal_fault net xs ≡ None = least_none (λ u. not (int_eq (side_sum net.arcs (entries xs) true u) (side_sum net.arcs (entries xs) false u))) net.nodes (λ v l. ap not ((Decides-int_eq (side_sum net.arcs (entries xs) true v) (side_sum net.arcs (entries xs) false v)).1 (a.balanced v))) in
+    let below : below_fault net xs ≡ None = least_none (λ j. nat_lt (slice_index xs j) net.floor) (length net.arcs)
+    (λ k l. le-ltb (slice_index xs k) net.floor (omega (arith, ints, a.high k l))) in
+    let unequal : unequal_fault net xs ≡ None =
+    least_none (λ u. not (int_eq (side_sum net.arcs (entries xs) true u) (side_sum net.arcs (entries xs) false u)))
+    net.nodes (λ v l. ap not
+    ((Decides-int_eq (side_sum net.arcs (entries xs) true v) (side_sum net.arcs (entries xs) false v)).1
+    (a.balanced v))) in
     rw (same, below, unequal) refl
 
 -- After a yes the dual has no fault and the sums are equal.
-list_yes : (o : Option CertVerdict) (after : CertVerdict) (d : ℤ) → ((v : CertVerdict) → o ≡ Some v → v ≢ Accepted d) → or_else o after ≡ Accepted d → (o ≡ None) × (after ≡ Accepted d)
+list_yes : (o : Option CertVerdict) (after : CertVerdict) (d : ℤ) → ((v : CertVerdict) → o ≡ Some v → v ≢ Accepted d)
+    → or_else o after ≡ Accepted d → (o ≡ None) × (after ≡ Accepted d)
 list_yes None after d other e = (refl, e)
 list_yes (Some v) after d other e = absurd (other v refl e)
 
-dual_yes : (v : Verdict) (after : CertVerdict) (d : ℤ) → refuse_dual v after ≡ Accepted d → (s : ℤ) × (v ≡ Yes s) × (after ≡ Accepted d)
+dual_yes : (v : Verdict) (after : CertVerdict) (d : ℤ) → refuse_dual v after ≡ Accepted d → (s : ℤ) × (v ≡ Yes s)
+    × (after ≡ Accepted d)
 dual_yes (Yes s) after d e = (s, refl, e)
 dual_yes _ after d e = absurd cc
 
@@ -116,11 +148,13 @@ sums_yes far sum cost d e = by_test (int_eq sum cost) refl e
     by_test true on f = (Decides-int_eq sum cost).0 on
     by_test false off f = absurd cc
 
-map_other : (f : ℕ → CertVerdict) (o : Option ℕ) (d : ℤ) → ((k : ℕ) → f k ≢ Accepted d) → (v : CertVerdict) → option_map f o ≡ Some v → v ≢ Accepted d
+map_other : (f : ℕ → CertVerdict) (o : Option ℕ) (d : ℤ) → ((k : ℕ) → f k ≢ Accepted d) → (v : CertVerdict)
+    → option_map f o ≡ Some v → v ≢ Accepted d
 map_other f None d other v e = absurd cc
 map_other f (Some k) d other v e = λ is. other k ((let g : f k ≡ v = cc in g) ∙ is)
 
-two_other : (a b : Option CertVerdict) (d : ℤ) → ((v : CertVerdict) → a ≡ Some v → v ≢ Accepted d) → ((v : CertVerdict) → b ≡ Some v → v ≢ Accepted d) → (v : CertVerdict) → first_of_two a b ≡ Some v → v ≢ Accepted d
+two_other : (a b : Option CertVerdict) (d : ℤ) → ((v : CertVerdict) → a ≡ Some v → v ≢ Accepted d)
+    → ((v : CertVerdict) → b ≡ Some v → v ≢ Accepted d) → (v : CertVerdict) → first_of_two a b ≡ Some v → v ≢ Accepted d
 two_other None b d p q v e = q v e
 two_other (Some u) b d p q v e = p v e
 
@@ -128,15 +162,19 @@ two_other (Some u) b d p q v e = p v e
 list_other : (net : Network) (xs : List ℕ) (d : ℤ) (v : CertVerdict) → list_verdict net xs ≡ Some v → v ≢ Accepted d
 list_other net xs d v e = by_count (length xs == length net.arcs) e
   where
-    by_count : (b : Bool) → cond (not b) (Some (Count (length net.arcs) (length xs))) (first_of_two (below_verdict net xs) (unequal_verdict net xs)) ≡ Some v → v ≢ Accepted d
-    by_count true f = two_other (below_verdict net xs) (unequal_verdict net xs) d (map_other _ (below_fault net xs) d (λ k g. absurd cc)) (map_other _ (unequal_fault net xs) d (λ k g. absurd cc)) v f
+    by_count : (b : Bool) → cond (not b) (Some (Count (length net.arcs) (length xs)))
+        (first_of_two (below_verdict net xs) (unequal_verdict net xs)) ≡ Some v → v ≢ Accepted d
+    by_count true f = two_other (below_verdict net xs) (unequal_verdict net xs) d
+        (map_other _ (below_fault net xs) d (λ k g. absurd cc))
+        (map_other _ (unequal_fault net xs) d (λ k g. absurd cc)) v f
     by_count false f = λ is. (let g : Count (length net.arcs) (length xs) ≡ v = cc in absurd (count_other (g ∙ is)))
       where
         count_other : Count (length net.arcs) (length xs) ≡ Accepted d → ⊥
         count_other h = cc
 
 -- The verdict yes comes exactly where the certificate is accepted.
-pub yes_accepted : (net : Network) (c : Certificate) (d : ℤ) → IsWithinBounds net → cert_verdict net c ≡ Accepted d → IsAccepted net c
+pub yes_accepted : (net : Network) (c : Certificate) (d : ℤ) → IsWithinBounds net → cert_verdict net c ≡ Accepted d
+    → IsAccepted net c
 yes_accepted net c d bounds says = record {
   count = (no_fault net c.x bounds list.0).0;
   admissible = (no_fault net c.x bounds list.0).1;
@@ -153,34 +191,51 @@ yes_accepted net c d bounds says = record {
     dual : (s : ℤ) × (verdict (matching_graph net 1 c.x) c.dual ≡ Yes s) × (sums_verdict net c ≡ Accepted d)
     dual = dual_yes (verdict (matching_graph net 1 c.x) c.dual) (sums_verdict net c) d list.1
 
-pub accepted_yes : (net : Network) (c : Certificate) → IsAccepted net c → cert_verdict net c ≡ Accepted (pos (deviation net (entries c.x)))
+pub accepted_yes : (net : Network) (c : Certificate) → IsAccepted net c → cert_verdict net c
+    ≡ Accepted (pos (deviation net (entries c.x)))
 accepted_yes net c a =
     let list : list_verdict net c.x ≡ None = admissible_none net c.x a.count a.admissible in
-    let dual : verdict (matching_graph net 1 c.x) c.dual ≡ Yes (dual_sum c.dual) = says_yes (matching_graph net 1 c.x) c.dual a.yes in
-    let sums : int_eq (dual_sum c.dual) (pos 2 *ℤ on_cost net 1 c.x) ≡ true = (Decides-int_eq (dual_sum c.dual) (pos 2 *ℤ on_cost net 1 c.x)).1 a.sums in
+    let dual : verdict (matching_graph net 1 c.x) c.dual ≡ Yes (dual_sum c.dual) =
+    says_yes (matching_graph net 1 c.x) c.dual a.yes in
+    let sums : int_eq (dual_sum c.dual) (pos 2 *ℤ on_cost net 1 c.x) ≡ true =
+    (Decides-int_eq (dual_sum c.dual) (pos 2 *ℤ on_cost net 1 c.x)).1 a.sums in
     by_list net c ∙ rw (list, dual, sums) refl
 
 -- After a yes the list is least.
-pub yes_least : (net : Network) (c : Certificate) (d : ℤ) → IsWithinBounds net → cert_verdict net c ≡ Accepted d → IsLeast net (entries c.x)
+pub yes_least : (net : Network) (c : Certificate) (d : ℤ) → IsWithinBounds net → cert_verdict net c ≡ Accepted d
+    → IsLeast net (entries c.x)
 yes_least net c d bounds says = sound net c bounds (yes_accepted net c d bounds says)
 
 -- Where the verdict is exact, yes comes exactly for accepted certificates.
-pub exact_accepted : (net : Network) (c : Certificate) (v : CertVerdict) → IsWithinBounds net → v ≡ cert_verdict net c → ((d : ℤ) × (v ≡ Accepted d)) ↔ IsAccepted net c
-exact_accepted net c v bounds exact = (λ (d, e). yes_accepted net c d bounds (sym exact ∙ e), λ a. (pos (deviation net (entries c.x)), exact ∙ accepted_yes net c a))
+pub exact_accepted : (net : Network) (c : Certificate) (v : CertVerdict) → IsWithinBounds net → v ≡ cert_verdict net c
+    → ((d : ℤ) × (v ≡ Accepted d)) ↔ IsAccepted net c
+exact_accepted net c v bounds exact = (
+  λ (d, e). yes_accepted net c d bounds (sym exact ∙ e),
+  λ a. (pos (deviation net (entries c.x)), exact ∙ accepted_yes net c a),
+)
 
-pub accepted_where_exact : {E : Type 0} (net : Network) (c : Certificate) (r : Result CertVerdict E) → IsWithinBounds net → IfOk r (λ v. v ≡ cert_verdict net c) → IfOk r (λ v. ((d : ℤ) × (v ≡ Accepted d)) ↔ IsAccepted net c)
+pub accepted_where_exact : {E : Type 0} (net : Network) (c : Certificate) (r : Result CertVerdict E)
+    → IsWithinBounds net → IfOk r (λ v. v ≡ cert_verdict net c)
+    → IfOk r (λ v. ((d : ℤ) × (v ≡ Accepted d)) ↔ IsAccepted net c)
 accepted_where_exact net c (Ok v) bounds exact = exact_accepted net c v bounds exact
 accepted_where_exact net c (Err e) bounds exact = tt
 
-pub least_where_exact : {E : Type 0} (net : Network) (c : Certificate) (r : Result CertVerdict E) → IsWithinBounds net → IfOk r (λ v. v ≡ cert_verdict net c) → IfOk r (λ v. (d : ℤ) → v ≡ Accepted d → IsLeast net (entries c.x))
+pub least_where_exact : {E : Type 0} (net : Network) (c : Certificate) (r : Result CertVerdict E) → IsWithinBounds net
+    → IfOk r (λ v. v ≡ cert_verdict net c) → IfOk r (λ v. (d : ℤ) → v ≡ Accepted d → IsLeast net (entries c.x))
 least_where_exact net c (Ok v) bounds exact = λ d e. yes_least net c d bounds (sym exact ∙ e)
 least_where_exact net c (Err e) bounds exact = tt
 
 -- The verdict where the list has a fault.
-pub faulty : (net : Network) (c : Certificate) (v : CertVerdict) → list_verdict net c.x ≡ Some v → v ≡ cert_verdict net c
-faulty net c v e = sym (by_list net c ∙ ap (λ o. or_else o (refuse_dual (verdict (matching_graph net 1 c.x) c.dual) (sums_verdict net c))) e)
+pub faulty : (net : Network) (c : Certificate) (v : CertVerdict) → list_verdict net c.x ≡ Some v
+    → v ≡ cert_verdict net c
+faulty net c v e = sym (by_list net c
+    ∙ ap (λ o. or_else o (refuse_dual (verdict (matching_graph net 1 c.x) c.dual) (sums_verdict net c))) e)
 
 -- The verdict where the list has none.
-pub faultless : {E : Type 0} (net : Network) (c : Certificate) (r : Result CertVerdict E) → list_verdict net c.x ≡ None → IfOk r (λ v. v ≡ refuse_dual (verdict (matching_graph net 1 c.x) c.dual) (sums_verdict net c)) → IfOk r (λ v. v ≡ cert_verdict net c)
-faultless net c (Ok v) none exact = exact ∙ sym (by_list net c ∙ ap (λ o. or_else o (refuse_dual (verdict (matching_graph net 1 c.x) c.dual) (sums_verdict net c))) none)
+pub faultless : {E : Type 0} (net : Network) (c : Certificate) (r : Result CertVerdict E) → list_verdict net c.x ≡ None
+    → IfOk r (λ v. v ≡ refuse_dual (verdict (matching_graph net 1 c.x) c.dual) (sums_verdict net c))
+    → IfOk r (λ v. v ≡ cert_verdict net c)
+faultless net c (Ok v) none exact =
+    exact ∙ sym (by_list net c
+    ∙ ap (λ o. or_else o (refuse_dual (verdict (matching_graph net 1 c.x) c.dual) (sums_verdict net c))) none)
 faultless net c (Err e) none exact = tt

@@ -1,5 +1,6 @@
 -- Deviations are far from the ends of their type.
-use Rattle.std.proofs.Common.{◌≡◌, ℕ, ◌*◌, ◌^◌, ◌<◌, ◌≤◌, List, length, map, pos, unsigned_abs, ◌-ℤ◌, ◌*ℤ◌, ◌&&◌, nat_le, true, ◌∙◌, ap, mul-le-mul, leb-true, arith}
+use Rattle.std.proofs.Common.{◌≡◌, ℕ, ◌*◌, ◌^◌, ◌<◌, ◌≤◌, List, length, map, pos, unsigned_abs, ◌-ℤ◌, ◌*ℤ◌, ◌&&◌}
+use Rattle.std.proofs.Common.{nat_le, true, ◌∙◌, ap, mul-le-mul, leb-true, arith}
 use Rattle.std.specs.Prelude.{slice_index, nat_lt}
 use Rattle.std.specs.List.{list_all}
 use Rattle.std.proofs.lemmas.Int.{ints}
@@ -15,14 +16,17 @@ use Rattle.def_flow.specs.Admissible.{AreNetLengths}
 use Rattle.qm_net.proofs.Within.{arc_bounded}
 
 -- The deviation of an arc of a network within bounds.
-arc_small : (net : Network) (k y : ℕ) → IsWithinBounds net → k < length net.arcs → y ≤ 10 ^ 12 → arc_deviation net (arc_at net.arcs k) (pos y) ≤ 10 ^ 19
+arc_small : (net : Network) (k y : ℕ) → IsWithinBounds net → k < length net.arcs → y ≤ 10 ^ 12
+    → arc_deviation net (arc_at net.arcs k) (pos y) ≤ 10 ^ 19
 arc_small net k y bounds l short = omega (arith, heavy, apart)
   where
     a : Arc
     a = arc_at net.arcs k
 
-    tests : ((nat_le 1 a.weight && nat_le a.weight 1000 && nat_le a.old 4000000000) ≡ true) × (list_all (λ e. nat_lt e.node net.nodes) (ends a) ≡ true)
-    tests = and_parts (nat_le 1 a.weight && nat_le a.weight 1000 && nat_le a.old 4000000000) _ (arc_bounded net bounds k l)
+    tests : ((nat_le 1 a.weight && nat_le a.weight 1000 && nat_le a.old 4000000000) ≡ true)
+        × (list_all (λ e. nat_lt e.node net.nodes) (ends a) ≡ true)
+    tests = and_parts (nat_le 1 a.weight && nat_le a.weight 1000 && nat_le a.old 4000000000) _
+        (arc_bounded net bounds k l)
 
     numbers : ((nat_le 1 a.weight && nat_le a.weight 1000) ≡ true) × (nat_le a.old 4000000000 ≡ true)
     numbers = and_parts (nat_le 1 a.weight && nat_le a.weight 1000) (nat_le a.old 4000000000) tests.0
@@ -46,18 +50,24 @@ arc_small net k y bounds l short = omega (arith, heavy, apart)
     heavy = mul-le-mul weight apart
 
 -- The deviation of a list of lengths.
-pub deviation_small : (net : Network) (xs : List ℕ) → IsWithinBounds net → AreNetLengths net.arcs xs → deviation net (entries xs) ≤ 2 ^ 120
+pub deviation_small : (net : Network) (xs : List ℕ) → IsWithinBounds net → AreNetLengths net.arcs xs
+    → deviation net (entries xs) ≤ 2 ^ 120
 deviation_small net xs bounds are = omega (arith, each, whole, bounds.few)
   where
     each : deviation net (entries xs) ≤ count_below (λ k. 10 ^ 19 * 1) (length net.arcs)
-    each = count_below_le _ (λ k. 10 ^ 19 * 1) (length net.arcs) (λ k l. omega (arith, arc_small net k (slice_index xs k) bounds l (are.small k (omega (arith, are.count)))))
+    each = count_below_le _ (λ k. 10 ^ 19 * 1) (length net.arcs)
+        (λ k l. omega (arith, arc_small net k (slice_index xs k) bounds l (are.small k (omega (arith, are.count)))))
 
     whole : count_below (λ k. 10 ^ 19 * 1) (length net.arcs) ≡ 10 ^ 19 * length net.arcs
-    whole = count_below_times (10 ^ 19) (λ k. 1) (length net.arcs) ∙ ap (λ n. 10 ^ 19 * n) (count_below_ones (length net.arcs))
+    whole = count_below_times (10 ^ 19) (λ k. 1) (length net.arcs)
+        ∙ ap (λ n. 10 ^ 19 * n) (count_below_ones (length net.arcs))
 
 -- The lows are lengths too.
-pub lows_lengths : (net : Network) (xs : List ℕ) → AreNetLengths net.arcs xs → AreNetLengths net.arcs (map (low net 1) xs)
+pub lows_lengths : (net : Network) (xs : List ℕ) → AreNetLengths net.arcs xs
+    → AreNetLengths net.arcs (map (low net 1) xs)
 lows_lengths net xs are = record {
   count = length-map xs (low net 1) ∙ are.count;
-  small = λ k l. (let lk : k < length xs = omega (arith, length-map xs (low net 1)) in let e : slice_index (map (low net 1) xs) k ≡ low net 1 (slice_index xs k) = get_or-map (low net 1) xs k 0 0 lk in omega (arith, e, are.small k lk));
+  small = λ k l. (let lk : k < length xs = omega (arith, length-map xs (low net 1)) in
+      let e : slice_index (map (low net 1) xs) k ≡ low net 1 (slice_index xs k) =
+      get_or-map (low net 1) xs k 0 0 lk in omega (arith, e, are.small k lk));
 }

@@ -1,5 +1,6 @@
 -- Sums on one side of the nodes, one arc at a time.
-use Rattle.std.proofs.Common.{◌≡◌, ℕ, zero, suc, ◌+◌, ◌*◌, ◌^◌, ◌<◌, ◌≤◌, Bool, true, false, not, cond, List, length, pos, refl, ◌∙◌, add-one, arith}
+use Rattle.std.proofs.Common.{◌≡◌, ℕ, zero, suc, ◌+◌, ◌*◌, ◌^◌, ◌<◌, ◌≤◌, Bool, true, false, not, cond, List, length}
+use Rattle.std.proofs.Common.{pos, refl, ◌∙◌, add-one, arith}
 use Rattle.std.specs.Prelude.{slice_index}
 use Rattle.def_math.specs.Sums.{total}
 use Rattle.def_math.specs.Tables.{at_place, IsRaised}
@@ -13,11 +14,14 @@ use Rattle.def_flow.specs.declared.net.End.{End}
 use Rattle.qm_cert.specs.Sides.{end_put, arc_put, side_count, AreSides}
 
 -- Adding at the node of an end that is on the side.
-pub end_raised : (plus : Bool) (e : End) (x : ℕ) (old new : List ℕ) → cond plus e.plus (not e.plus) ≡ true → IsRaised (at_place e.node x) old new → IsRaised (end_put plus e x) old new
-end_raised plus e x old new on raised = raised_as (at_place e.node x) (end_put plus e x) old new (λ v l. rw on (grind (arith))) raised
+pub end_raised : (plus : Bool) (e : End) (x : ℕ) (old new : List ℕ) → cond plus e.plus (not e.plus) ≡ true
+    → IsRaised (at_place e.node x) old new → IsRaised (end_put plus e x) old new
+end_raised plus e x old new on raised =
+    raised_as (at_place e.node x) (end_put plus e x) old new (λ v l. rw on (grind (arith))) raised
 
 -- An end on the other side puts nothing.
-pub end_still : (plus : Bool) (e : End) (x : ℕ) (table : List ℕ) → cond plus e.plus (not e.plus) ≡ false → IsRaised (end_put plus e x) table table
+pub end_still : (plus : Bool) (e : End) (x : ℕ) (table : List ℕ) → cond plus e.plus (not e.plus) ≡ false
+    → IsRaised (end_put plus e x) table table
 end_still plus e x table off = raised_none (end_put plus e x) table (λ v l. rw off (grind (arith)))
 
 -- An end puts its length at most, and an arc twice its length.
@@ -27,28 +31,46 @@ end_low plus e x v = grind (arith)
 arc_low : (plus : Bool) (a : Arc) (x v : ℕ) → arc_put plus a x v ≤ 2 * x
 arc_low plus a x v = grind (arith, end_low plus a.left x v)
 
-side_low : (arcs : List Arc) (xs : List ℕ) (plus : Bool) (k v : ℕ) → ((i : ℕ) → i < k → slice_index xs i ≤ 10 ^ 12) → side_count arcs xs plus k v ≤ k * (2 * 10 ^ 12)
+side_low : (arcs : List Arc) (xs : List ℕ) (plus : Bool) (k v : ℕ) → ((i : ℕ) → i < k → slice_index xs i ≤ 10 ^ 12)
+    → side_count arcs xs plus k v ≤ k * (2 * 10 ^ 12)
 side_low arcs xs plus zero v short = omega arith
-side_low arcs xs plus (suc k) v short = omega (arith, side_low arcs xs plus k v (λ i l. short i (omega arith)), short k (omega arith), arc_low plus (arc_at arcs k) (slice_index xs k) v)
+side_low arcs xs plus (suc k) v short = omega (
+  arith,
+  side_low arcs xs plus k v (λ i l. short i (omega arith)),
+  short k (omega arith),
+  arc_low plus (arc_at arcs k) (slice_index xs k) v,
+)
 
 -- The sums of the first arcs are small.
-pub sides_low : (nodes : ℕ) (arcs : List Arc) (xs : List ℕ) (plus : Bool) (k : ℕ) (sums : List ℕ) → AreNetLengths arcs xs → k ≤ length arcs → AreSides nodes arcs xs plus k sums → (v : ℕ) → slice_index sums v ≤ k * (2 * 10 ^ 12)
-sides_low nodes arcs xs plus k sums lengths le are = tally_low (side_count arcs xs plus k) nodes (k * (2 * 10 ^ 12)) sums are (λ v l. side_low arcs xs plus k v (λ i li. lengths.small i (omega (arith, lengths.count))))
+pub sides_low : (nodes : ℕ) (arcs : List Arc) (xs : List ℕ) (plus : Bool) (k : ℕ) (sums : List ℕ)
+    → AreNetLengths arcs xs → k ≤ length arcs → AreSides nodes arcs xs plus k sums → (v : ℕ)
+    → slice_index sums v ≤ k * (2 * 10 ^ 12)
+sides_low nodes arcs xs plus k sums lengths le are = tally_low (side_count arcs xs plus k) nodes (k * (2 * 10 ^ 12))
+    sums are (λ v l. side_low arcs xs plus k v (λ i li. lengths.small i (omega (arith, lengths.count))))
 
 -- One arc more.
-pub sides_more : (nodes : ℕ) (arcs : List Arc) (xs : List ℕ) (plus : Bool) (k : ℕ) (old new : List ℕ) → AreSides nodes arcs xs plus k old → IsRaised (arc_put plus (arc_at arcs k) (slice_index xs k)) old new → AreSides nodes arcs xs plus (k + 1) new
-sides_more nodes arcs xs plus k old new are raised = tally_more (side_count arcs xs plus k) (side_count arcs xs plus (k + 1)) (arc_put plus (arc_at arcs k) (slice_index xs k)) nodes old new (λ v l. rw (add-one k) refl) are raised
+pub sides_more : (nodes : ℕ) (arcs : List Arc) (xs : List ℕ) (plus : Bool) (k : ℕ) (old new : List ℕ)
+    → AreSides nodes arcs xs plus k old → IsRaised (arc_put plus (arc_at arcs k) (slice_index xs k)) old new
+    → AreSides nodes arcs xs plus (k + 1) new
+sides_more nodes arcs xs plus k old new are raised =
+    tally_more (side_count arcs xs plus k) (side_count arcs xs plus (k + 1))
+    (arc_put plus (arc_at arcs k) (slice_index xs k)) nodes old new (λ v l. rw (add-one k) refl) are raised
 
 -- Such a sum as a whole number.
-pub side_is : (arcs : List Arc) (xs : List ℕ) (plus : Bool) (v : ℕ) → pos (side_count arcs xs plus (length arcs) v) ≡ side_sum arcs (entries xs) plus v
-side_is arcs xs plus v = count_below_total (λ i. arc_put plus (arc_at arcs i) (slice_index xs i) v) (length arcs) ∙ total_below_same _ _ (length arcs) (λ i l. by_arc i)
+pub side_is : (arcs : List Arc) (xs : List ℕ) (plus : Bool) (v : ℕ) → pos (side_count arcs xs plus (length arcs) v)
+    ≡ side_sum arcs (entries xs) plus v
+side_is arcs xs plus v = count_below_total (λ i. arc_put plus (arc_at arcs i) (slice_index xs i) v) (length arcs)
+    ∙ total_below_same _ _ (length arcs) (λ i l. by_arc i)
   where
-    one : (i : ℕ) (e : End) → pos (end_put plus e (slice_index xs i) v) ≡ cond (is_on_side v plus e) (entries xs i) (pos 0)
+    one : (i : ℕ) (e : End) → pos (end_put plus e (slice_index xs i) v) ≡ cond (is_on_side v plus e) (entries xs i)
+        (pos 0)
     one i e = by_test (is_on_side v plus e)
       where
         by_test : (b : Bool) → pos (cond b (slice_index xs i) 0) ≡ cond b (pos (slice_index xs i)) (pos 0)
         by_test true = refl
         by_test false = refl
 
-    by_arc : (i : ℕ) → pos (arc_put plus (arc_at arcs i) (slice_index xs i) v) ≡ total (λ e. cond (is_on_side v plus e) (entries xs i) (pos 0)) (ends (arc_at arcs i))
-    by_arc i = count_total (λ (e : End). end_put plus e (slice_index xs i) v) (ends (arc_at arcs i)) ∙ total_same _ _ (ends (arc_at arcs i)) (one i)
+    by_arc : (i : ℕ) → pos (arc_put plus (arc_at arcs i) (slice_index xs i) v)
+        ≡ total (λ e. cond (is_on_side v plus e) (entries xs i) (pos 0)) (ends (arc_at arcs i))
+    by_arc i = count_total (λ (e : End). end_put plus e (slice_index xs i) v) (ends (arc_at arcs i))
+        ∙ total_same _ _ (ends (arc_at arcs i)) (one i)

@@ -1,5 +1,6 @@
 -- The verdict on a list by tables of sums.
-use Rattle.std.proofs.Common.{◌≡◌, ◌≢◌, ℕ, ℤ, ◌<◌, ◌==◌, not, length, List, Option, Some, None, option_map, pos, unsigned_abs, true, false, Bool, refl, sym, ◌∙◌, ap, inl, inr, ◌⊎◌, eq-eqb, ne_eqb, arith}
+use Rattle.std.proofs.Common.{◌≡◌, ◌≢◌, ℕ, ℤ, ◌<◌, ◌==◌, not, length, List, Option, Some, None, option_map, pos}
+use Rattle.std.proofs.Common.{unsigned_abs, true, false, Bool, refl, sym, ◌∙◌, ap, inl, inr, ◌⊎◌, eq-eqb, ne_eqb, arith}
 use Rattle.std.specs.Prelude.{slice_index}
 use Rattle.std.specs.Ordering.{int_eq}
 use Rattle.std.proofs.lemmas.Int.{ints}
@@ -27,15 +28,22 @@ same_test m n = by_order (cases_eq m n)
   where
     by_order : (m ≡ n) ⊎ (m ≢ n) → (m == n) ≡ int_eq (pos m) (pos n)
     by_order (inl e) = eq-eqb m n e ∙ sym ((Decides-int_eq (pos m) (pos n)).1 (ap pos e))
-    by_order (inr ne) = ne_eqb m n ne ∙ sym (off (int_eq (pos m) (pos n)) (λ on. ne (omega (arith, ints, (Decides-int_eq (pos m) (pos n)).0 on))))
+    by_order (inr ne) = ne_eqb m n ne
+        ∙ sym (off (int_eq (pos m) (pos n)) (λ on. ne (omega (arith, ints, (Decides-int_eq (pos m) (pos n)).0 on))))
       where
         off : (b : Bool) → (b ≡ true → ⊥) → b ≡ false
         off b no_way = grind (arith)
 
 -- The tables tell the least node with unequal sums, and these.
-pub compared_is : (net : Network) (xs : List ℕ) (plus minus : List ℕ) → AreSides net.nodes net.arcs xs true (length net.arcs) plus → AreSides net.nodes net.arcs xs false (length net.arcs) minus → compared_verdict plus minus ≡ unequal_verdict net xs
+pub compared_is : (net : Network) (xs : List ℕ) (plus minus : List ℕ)
+    → AreSides net.nodes net.arcs xs true (length net.arcs) plus
+    → AreSides net.nodes net.arcs xs false (length net.arcs) minus → compared_verdict plus minus
+    ≡ unequal_verdict net xs
 compared_is net xs plus minus p m =
-    ap (option_map (λ v. Unequal v (slice_index plus v) (slice_index minus v))) found ∙ map_same (λ v. Unequal v (slice_index plus v) (slice_index minus v)) (λ v. Unequal v (unsigned_abs (side true v)) (unsigned_abs (side false v))) (unequal_fault net xs) (λ v e. same v (least_low (λ u. not (int_eq (side true u) (side false u))) net.nodes v e))
+    ap (option_map (λ v. Unequal v (slice_index plus v) (slice_index minus v))) found
+    ∙ map_same (λ v. Unequal v (slice_index plus v) (slice_index minus v))
+    (λ v. Unequal v (unsigned_abs (side true v)) (unsigned_abs (side false v))) (unequal_fault net xs)
+    (λ v e. same v (least_low (λ u. not (int_eq (side true u) (side false u))) net.nodes v e))
   where
     side : Bool → ℕ → ℤ
     side s v = side_sum net.arcs (entries xs) s v
@@ -46,11 +54,17 @@ compared_is net xs plus minus p m =
     minus_is : (v : ℕ) → v < net.nodes → pos (slice_index minus v) ≡ side false v
     minus_is v l = ap pos (m.each v l) ∙ side_is net.arcs xs false v
 
-    test : (v : ℕ) → v < net.nodes → not (slice_index plus v == slice_index minus v) ≡ not (int_eq (side true v) (side false v))
-    test v l = ap not (same_test (slice_index plus v) (slice_index minus v)) ∙ (ap (λ z. not (int_eq z (pos (slice_index minus v)))) (plus_is v l) ∙ ap (λ z. not (int_eq (side true v) z)) (minus_is v l))
+    test : (v : ℕ) → v < net.nodes → not (slice_index plus v == slice_index minus v)
+        ≡ not (int_eq (side true v) (side false v))
+    test v l = ap not (same_test (slice_index plus v) (slice_index minus v))
+        ∙ (ap (λ z. not (int_eq z (pos (slice_index minus v)))) (plus_is v l) ∙ ap (λ z. not (int_eq (side true v) z))
+        (minus_is v l))
 
     found : least (λ v. not (slice_index plus v == slice_index minus v)) (length plus) ≡ unequal_fault net xs
-    found = ap (least (λ v. not (slice_index plus v == slice_index minus v))) p.count ∙ least_same _ (λ u. not (int_eq (side true u) (side false u))) net.nodes test
+    found = ap (least (λ v. not (slice_index plus v == slice_index minus v))) p.count
+        ∙ least_same _ (λ u. not (int_eq (side true u) (side false u))) net.nodes test
 
-    same : (v : ℕ) → v < net.nodes → Unequal v (slice_index plus v) (slice_index minus v) ≡ Unequal v (unsigned_abs (side true v)) (unsigned_abs (side false v))
-    same v l = ap (λ z. Unequal v (unsigned_abs z) (slice_index minus v)) (plus_is v l) ∙ ap (λ z. Unequal v (unsigned_abs (side true v)) (unsigned_abs z)) (minus_is v l)
+    same : (v : ℕ) → v < net.nodes → Unequal v (slice_index plus v) (slice_index minus v)
+        ≡ Unequal v (unsigned_abs (side true v)) (unsigned_abs (side false v))
+    same v l = ap (λ z. Unequal v (unsigned_abs z) (slice_index minus v)) (plus_is v l)
+        ∙ ap (λ z. Unequal v (unsigned_abs (side true v)) (unsigned_abs z)) (minus_is v l)

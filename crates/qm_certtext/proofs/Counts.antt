@@ -1,11 +1,14 @@
 -- Numbers as certificate lines have them.
-use Rattle.std.proofs.Common.{◌≡◌, ◌⊎◌, ◌≤◌, ◌<◌, ◌+◌, ◌-◌, ◌^◌, ◌&&◌, min, ℕ, zero, suc, ℤ, pos, negsuc, Bool, true, false, not, [], ◌∷◌, ◌++◌, Option, Some, None, length, take, drop, get_or, map, cond, eqb, ltb, inl, inr, refl, ap, ap₂, sym, ◌∙◌, subst, arith}
+use Rattle.std.proofs.Common.{◌≡◌, ◌⊎◌, ◌≤◌, ◌<◌, ◌+◌, ◌-◌, ◌^◌, ◌&&◌, min, ℕ, zero, suc, ℤ, pos, negsuc, Bool, true}
+use Rattle.std.proofs.Common.{false, not, [], ◌∷◌, ◌++◌, Option, Some, None, length, take, drop, get_or, map, cond, eqb}
+use Rattle.std.proofs.Common.{ltb, inl, inr, refl, ap, ap₂, sym, ◌∙◌, subst, arith}
 use Rattle.std.specs.Prelude.{decimal, unsigned_abs}
 use Rattle.std.specs.Char.{is_ascii_digit}
 use Rattle.std.specs.Fmt.{digits}
 use Rattle.std.specs.Int.Digits.{number_from_digits_after}
 use Rattle.std.specs.List.{list_all, position_or_len}
-use Rattle.std.proofs.lemmas.Bool.{and_cases, and_from, and_parts, eq-eqb, eqb-false, eqb-true, false≢true, le-leb, lt-ltb, ltb-false, ltb-true, ne_eqb, not-true, not_from_false, and_right, true≢false}
+use Rattle.std.proofs.lemmas.Bool.{and_cases, and_from, and_parts, eq-eqb, eqb-false, eqb-true, false≢true, le-leb}
+use Rattle.std.proofs.lemmas.Bool.{lt-ltb, ltb-false, ltb-true, ne_eqb, not-true, not_from_false, and_right, true≢false}
 use Rattle.std.proofs.lemmas.Fmt.{decimal-digits_value, decimal_nonempty, first_decimal}
 use Rattle.std.proofs.lemmas.List.{drop_at, take_at, take-append-drop}
 use Rattle.std.proofs.lemmas.Str.Parse.{numerals_by_fold, IsDigitsTest, IsNumeralModel}
@@ -25,7 +28,8 @@ AreDigits word = list_all is_ascii_digit word ≡ true
 digits_test : IsDigitsTest AreDigits
 digits_test = record {
   empty = refl;
-  parts = λ c cs all. let both = and_parts (is_ascii_digit c) (list_all is_ascii_digit cs) all in (digit_small c both.0, both.1);
+  parts = λ c cs all. let both = and_parts (is_ascii_digit c) (list_all is_ascii_digit cs) all in
+      (digit_small c both.0, both.1);
   more = λ c cs small all. and_from _ _ (and_from _ _ (le-leb 48 c small.0) (le-leb c 57 small.1)) all;
 }
 
@@ -37,13 +41,16 @@ unfolding after
 numeral = numerals_by_fold AreDigits digits_test after (record { empty = λ n. refl; more = λ n c cs small. refl })
 
 -- A number that is not written with a leading zero is written so.
-pub written : (word : Word) → is_number word ≡ true → (ltb 1 (length word) && eqb (get_or word 0 0) 48) ≡ false → number_written word < 2 ^ 64 → word ≡ decimal (number_written word)
+pub written : (word : Word) → is_number word ≡ true → (ltb 1 (length word) && eqb (get_or word 0 0) 48) ≡ false
+    → number_written word < 2 ^ 64 → word ≡ decimal (number_written word)
 written word is lead small =
     let parts = and_parts (not (eqb (length word) 0)) (list_all is_ascii_digit word) (sym (number_all word) ∙ is) in
     let some : 0 < length word = omega (arith, eqb-false (length word) 0 (not-true _ parts.0)) in
-    sym (decimal-digits_value numeral word parts.1 some (λ zero_first. by_lead zero_first (and_cases (ltb 1 (length word)) (eqb (get_or word 0 0) 48) lead)) small)
+    sym (decimal-digits_value numeral word parts.1 some
+    (λ zero_first. by_lead zero_first (and_cases (ltb 1 (length word)) (eqb (get_or word 0 0) 48) lead)) small)
   where
-    by_lead : get_or word 0 0 ≡ 48 → (ltb 1 (length word) ≡ false) ⊎ (eqb (get_or word 0 0) 48 ≡ false) → length word ≡ 1
+    by_lead : get_or word 0 0 ≡ 48 → (ltb 1 (length word) ≡ false) ⊎ (eqb (get_or word 0 0) 48 ≡ false)
+        → length word ≡ 1
     by_lead zero_first (inl short) = omega (arith, ltb-false 1 (length word) short, some_of (is_some word is))
       where
         is_some : (w : Word) → is_number w ≡ true → 0 < length w
@@ -58,12 +65,14 @@ written word is lead small =
 pub decimal_is_number : (n : ℕ) → n < 2 ^ 64 → is_number (decimal n) ≡ true
 decimal_is_number n low =
     number_all (decimal n)
-    ∙ and_from _ _ (not_from_false (eqb (length (decimal n)) 0) (ne_eqb _ _ (λ e. absurd (omega (arith, decimal_nonempty n low))))) (decimal_digits n low)
+    ∙ and_from _ _ (not_from_false (eqb (length (decimal n)) 0)
+    (ne_eqb _ _ (λ e. absurd (omega (arith, decimal_nonempty n low))))) (decimal_digits n low)
 
 pub no_lead : (n : ℕ) → n < 2 ^ 64 → (ltb 1 (length (decimal n)) && eqb (get_or (decimal n) 0 0) 48) ≡ false
 unfolding digits
 no_lead zero low = refl
-no_lead (suc n) low = and_right (ltb 1 (length (decimal (suc n)))) _ (ne_eqb _ _ (λ e. absurd (omega (arith, first_decimal (suc n) (omega arith) low))))
+no_lead (suc n) low = and_right (ltb 1 (length (decimal (suc n)))) _
+    (ne_eqb _ _ (λ e. absurd (omega (arith, first_decimal (suc n) (omega arith) low))))
 
 -- What is not read as a count is none.
 pub no_count : (word : Word) (greatest n : ℕ) (o : Option ℕ) → greatest < 10 ^ 18 → n ≤ greatest → word ≡ decimal n
@@ -74,11 +83,13 @@ no_count word greatest n o few low is read =
     read ∙ rw number_is (ap (λ k. Some k) (omega arith))
 
 -- A count is read where there is one.
-pub count_read : (word : Word) (greatest n : ℕ) → greatest < 10 ^ 18 → n ≤ greatest → (ltb 1 (length word) && eqb (get_or word 0 0) 48) ≡ false
+pub count_read : (word : Word) (greatest n : ℕ) → greatest < 10 ^ 18 → n ≤ greatest
+    → (ltb 1 (length word) && eqb (get_or word 0 0) 48) ≡ false
     → Some n ≡ cond (is_number word) (Some (min (number_written word) (2 ^ 64 - 1))) None → word ≡ decimal n
 count_read word greatest n few low lead read = by_form (is_number word) refl read
   where
-    by_form : (t : Bool) → is_number word ≡ t → Some n ≡ cond t (Some (min (number_written word) (2 ^ 64 - 1))) None → word ≡ decimal n
+    by_form : (t : Bool) → is_number word ≡ t → Some n ≡ cond t (Some (min (number_written word) (2 ^ 64 - 1))) None
+        → word ≡ decimal n
     by_form true is same =
         let value : n ≡ min (number_written word) (2 ^ 64 - 1) = cc in
         let whole : number_written word ≡ n = omega arith in
@@ -99,7 +110,8 @@ count_none word greatest n few low is read =
     let same : None ≡ Some n = no_count word greatest n None few low is read in
     cc
 
-pub count_lead : (word : Word) (greatest n : ℕ) → greatest < 10 ^ 18 → n ≤ greatest → (ltb 1 (length word) && eqb (get_or word 0 0) 48) ≡ true → word ≡ decimal n → ⊥
+pub count_lead : (word : Word) (greatest n : ℕ) → greatest < 10 ^ 18 → n ≤ greatest
+    → (ltb 1 (length word) && eqb (get_or word 0 0) 48) ≡ true → word ≡ decimal n → ⊥
 count_lead word greatest n few low lead is =
     true≢false (sym lead ∙ ap (λ (w : Word). ltb 1 (length w) && eqb (get_or w 0 0) 48) is ∙ no_lead n (omega arith))
 
@@ -107,21 +119,26 @@ count_lead word greatest n few low lead is =
 no_minus : (n : ℕ) (digits : Word) → n < 2 ^ 64 → 45 ∷ digits ≡ decimal n → ⊥
 no_minus n digits low is =
     let minus : is_ascii_digit 45 ≡ true =
-    (and_parts (is_ascii_digit 45) (list_all is_ascii_digit digits) (ap (list_all is_ascii_digit) is ∙ decimal_digits n low)).0 in
+    (and_parts (is_ascii_digit 45) (list_all is_ascii_digit digits) (ap (list_all is_ascii_digit) is
+    ∙ decimal_digits n low)).0 in
     false≢true minus
 
-pub negative_form : (z : ℤ) (digits : Word) → unsigned_abs z < 10 ^ 18 → 45 ∷ digits ≡ signed_decimal z → (k : ℕ) × (z ≡ negsuc k) × (digits ≡ decimal (suc k)) × (suc k < 10 ^ 18)
+pub negative_form : (z : ℤ) (digits : Word) → unsigned_abs z < 10 ^ 18 → 45 ∷ digits ≡ signed_decimal z
+    → (k : ℕ) × (z ≡ negsuc k) × (digits ≡ decimal (suc k)) × (suc k < 10 ^ 18)
 negative_form (pos n) digits low is = absurd (no_minus n digits (omega arith) is)
 negative_form (negsuc k) digits low is = (k, refl, ap (drop 1) is, low)
 
 -- Where the digits behind the minus are those of 0, or of none.
-pub not_negative : (z : ℤ) (digits : Word) (n : ℕ) → unsigned_abs z < 10 ^ 18 → n ≡ 0 → digits ≡ decimal n → 45 ∷ digits ≡ signed_decimal z → ⊥
+pub not_negative : (z : ℤ) (digits : Word) (n : ℕ) → unsigned_abs z < 10 ^ 18 → n ≡ 0 → digits ≡ decimal n
+    → 45 ∷ digits ≡ signed_decimal z → ⊥
 not_negative z digits n low none is same =
     let form = negative_form z digits low same in
-    let equal : n ≡ suc form.0 = decimal_injective n (suc form.0) (omega arith) (omega (arith, form.3)) (sym is ∙ form.2) in
+    let equal : n ≡ suc form.0 = decimal_injective n (suc form.0) (omega arith) (omega (arith, form.3)) (sym is
+    ∙ form.2) in
     omega arith
 
-pub none_negative : (z : ℤ) (digits : Word) → ((n : ℕ) → n ≤ 10 ^ 18 - 1 → digits ≡ decimal n → ⊥) → unsigned_abs z < 10 ^ 18 → 45 ∷ digits ≡ signed_decimal z → ⊥
+pub none_negative : (z : ℤ) (digits : Word) → ((n : ℕ) → n ≤ 10 ^ 18 - 1 → digits ≡ decimal n → ⊥)
+    → unsigned_abs z < 10 ^ 18 → 45 ∷ digits ≡ signed_decimal z → ⊥
 none_negative z digits none low same =
     let form = negative_form z digits low same in
     none (suc form.0) (omega (arith, form.3)) form.2
@@ -131,53 +148,67 @@ abbrev no_space : (word : Word) → Bool
 no_space word = list_all (λ b. not (eqb b 32)) word
 
 signed_bare : (z : ℤ) → unsigned_abs z < 10 ^ 18 → no_space (signed_decimal z) ≡ true
-signed_bare (pos n) low = digits_fail (λ b. eqb b 32) (digit_other 32 (omega arith)) (decimal n) (decimal_digits n (omega arith))
-signed_bare (negsuc k) low = digits_fail (λ b. eqb b 32) (digit_other 32 (omega arith)) (decimal (suc k)) (decimal_digits (suc k) (omega arith))
+signed_bare (pos n) low = digits_fail (λ b. eqb b 32) (digit_other 32 (omega arith)) (decimal n)
+    (decimal_digits n (omega arith))
+signed_bare (negsuc k) low = digits_fail (λ b. eqb b 32) (digit_other 32 (omega arith)) (decimal (suc k))
+    (decimal_digits (suc k) (omega arith))
 
-pub place_of_space : (text : Word) (z : ℤ) (up : ℕ) → unsigned_abs z < 10 ^ 18 → text ≡ signed_decimal z ++ 32 ∷ decimal up
+pub place_of_space : (text : Word) (z : ℤ) (up : ℕ) → unsigned_abs z < 10 ^ 18
+    → text ≡ signed_decimal z ++ 32 ∷ decimal up
     → position_or_len (λ b. eqb b 32) text ≡ length (signed_decimal z)
 place_of_space text z up low is =
-    ap (position_or_len (λ b. eqb b 32)) is ∙ first_at (λ b. eqb b 32) (signed_decimal z) 32 (decimal up) (signed_bare z low) refl
+    ap (position_or_len (λ b. eqb b 32)) is ∙ first_at (λ b. eqb b 32) (signed_decimal z) 32 (decimal up)
+    (signed_bare z low) refl
 
 pub small_parts : (z : ℤ) (up : ℕ) → is_small z up ≡ true → (unsigned_abs z < 10 ^ 18) × (up < 2 ^ 32)
 small_parts z up is =
     let parts = and_parts (ltb (unsigned_abs z) (10 ^ 18)) (ltb up (2 ^ 32)) is in
     (ltb-true _ _ parts.0, ltb-true _ _ parts.1)
 
-module _ (text prefix behind : Word) (i : ℕ) (place : i ≡ position_or_len (λ b. eqb b 32) text) (before : prefix ≡ take i text) (back : behind ≡ drop i text) where
-  parts_are : (z : ℤ) (up : ℕ) → unsigned_abs z < 10 ^ 18 → text ≡ signed_decimal z ++ 32 ∷ decimal up → (prefix ≡ signed_decimal z) × (behind ≡ 32 ∷ decimal up)
+module _ (text prefix behind : Word) (i : ℕ) (place : i ≡ position_or_len (λ b. eqb b 32) text) (before : prefix
+    ≡ take i text) (back : behind ≡ drop i text) where
+  parts_are : (z : ℤ) (up : ℕ) → unsigned_abs z < 10 ^ 18 → text ≡ signed_decimal z ++ 32 ∷ decimal up
+      → (prefix ≡ signed_decimal z) × (behind ≡ 32 ∷ decimal up)
   parts_are z up low is =
       let at : i ≡ length (signed_decimal z) = place ∙ place_of_space text z up low is in (
         before ∙ ap₂ (λ (k : ℕ) (t : Word). take k t) at is ∙ take_at (signed_decimal z) (32 ∷ decimal up) _ refl,
         back ∙ ap₂ (λ (k : ℕ) (t : Word). drop k t) at is ∙ drop_at (signed_decimal z) (32 ∷ decimal up) _ refl,
       )
 
-  pub no_behind : length behind ≡ 0 → (z : ℤ) (up : ℕ) → is_small z up ≡ true → text ≡ signed_decimal z ++ 32 ∷ decimal up → ⊥
+  pub no_behind : length behind ≡ 0 → (z : ℤ) (up : ℕ) → is_small z up ≡ true
+      → text ≡ signed_decimal z ++ 32 ∷ decimal up → ⊥
   no_behind none z up small is = omega (arith, none, ap length (parts_are z up (small_parts z up small).0 is).1)
 
-  pub no_number : ((z : ℤ) → unsigned_abs z < 10 ^ 18 → prefix ≡ signed_decimal z → ⊥) → (z : ℤ) (up : ℕ) → is_small z up ≡ true → text ≡ signed_decimal z ++ 32 ∷ decimal up → ⊥
+  pub no_number : ((z : ℤ) → unsigned_abs z < 10 ^ 18 → prefix ≡ signed_decimal z → ⊥) → (z : ℤ) (up : ℕ)
+      → is_small z up ≡ true → text ≡ signed_decimal z ++ 32 ∷ decimal up → ⊥
   no_number none z up small is = none z (small_parts z up small).0 (parts_are z up (small_parts z up small).0 is).0
 
-  pub no_up : (rest : Word) → rest ≡ drop 1 behind → ((n : ℕ) → n ≤ 2 ^ 32 - 1 → rest ≡ decimal n → ⊥) → (z : ℤ) (up : ℕ) → is_small z up ≡ true
+  pub no_up : (rest : Word) → rest ≡ drop 1 behind → ((n : ℕ) → n ≤ 2 ^ 32 - 1 → rest ≡ decimal n → ⊥)
+      → (z : ℤ) (up : ℕ) → is_small z up ≡ true
       → text ≡ signed_decimal z ++ 32 ∷ decimal up → ⊥
   no_up rest is none z up small same =
-      none up (omega (arith, (small_parts z up small).1)) (is ∙ ap (drop 1) (parts_are z up (small_parts z up small).0 same).1)
+      none up (omega (arith, (small_parts z up small).1))
+      (is ∙ ap (drop 1) (parts_are z up (small_parts z up small).0 same).1)
 
-  pub both_read : (rest : Word) (z : ℤ) (up : ℕ) → 0 < length behind → rest ≡ drop 1 behind → unsigned_abs z < 10 ^ 18 → prefix ≡ signed_decimal z → up ≤ 2 ^ 32 - 1 → rest ≡ decimal up
+  pub both_read : (rest : Word) (z : ℤ) (up : ℕ) → 0 < length behind → rest ≡ drop 1 behind → unsigned_abs z < 10 ^ 18
+      → prefix ≡ signed_decimal z → up ≤ 2 ^ 32 - 1 → rest ≡ decimal up
       → (is_small z up ≡ true) × (text ≡ signed_decimal z ++ 32 ∷ decimal up)
   both_read rest z up some is low written_so few ups = (
     and_from _ _ (lt-ltb _ _ low) (lt-ltb _ _ (omega arith)),
-    sym (take-append-drop i text) ∙ ap₂ ◌++◌ (sym before ∙ written_so) (sym back ∙ begins ∙ ap (λ (w : Word). 32 ∷ w) (sym is ∙ ups)),
+    sym (take-append-drop i text) ∙ ap₂ ◌++◌ (sym before ∙ written_so) (sym back ∙ begins
+        ∙ ap (λ (w : Word). 32 ∷ w) (sym is ∙ ups)),
   )
     where
       first_space : (x : ℕ) (xs : Word) → x ∷ xs ≡ drop (position_or_len (λ b. eqb b 32) text) text → eqb x 32 ≡ true
       first_space x xs same =
-          ap (λ (w : Word). eqb (get_or w 0 0) 32) same ∙ first_passes (λ b. eqb b 32) text (subst (λ (w : Word). 0 < length w) same (omega arith))
+          ap (λ (w : Word). eqb (get_or w 0 0) 32) same
+          ∙ first_passes (λ b. eqb b 32) text (subst (λ (w : Word). 0 < length w) same (omega arith))
 
       by_behind : (b : Word) → behind ≡ b → 0 < length b → b ≡ 32 ∷ drop 1 b
       by_behind [] same none = absurd (omega arith)
       by_behind (x ∷ xs) same more =
-          ap (λ (y : ℕ). y ∷ xs) (eqb-true x 32 (first_space x xs (sym same ∙ back ∙ ap (λ (k : ℕ). drop k text) place)))
+          ap (λ (y : ℕ). y ∷ xs) (eqb-true x 32
+          (first_space x xs (sym same ∙ back ∙ ap (λ (k : ℕ). drop k text) place)))
 
       begins : behind ≡ 32 ∷ drop 1 behind
       begins = by_behind behind refl some
@@ -187,10 +218,12 @@ some_behind [] is = absurd (false≢true is)
 some_behind (x ∷ xs) is = omega arith
 
 -- A text is one number and one `up`.
-pub split_once : (text : Word) (y z : ℤ) (u v : ℕ) → unsigned_abs y < 10 ^ 18 → unsigned_abs z < 10 ^ 18 → text ≡ signed_decimal y ++ 32 ∷ decimal u
+pub split_once : (text : Word) (y z : ℤ) (u v : ℕ) → unsigned_abs y < 10 ^ 18 → unsigned_abs z < 10 ^ 18
+    → text ≡ signed_decimal y ++ 32 ∷ decimal u
     → text ≡ signed_decimal z ++ 32 ∷ decimal v → (signed_decimal y ≡ signed_decimal z) × (decimal u ≡ decimal v)
 split_once text y z u v low_y low_z one two =
-    let first = parts_are text (take (length (signed_decimal y)) text) (drop (length (signed_decimal y)) text) (length (signed_decimal y)) (sym (place_of_space text y u low_y one)) refl refl in
+    let first = parts_are text (take (length (signed_decimal y)) text) (drop (length (signed_decimal y)) text)
+    (length (signed_decimal y)) (sym (place_of_space text y u low_y one)) refl refl in
     let by_y = first y u low_y one in
     let by_z = first z v low_z two in
     (sym by_y.0 ∙ by_z.0, ap (drop 1) (sym by_y.1 ∙ by_z.1))

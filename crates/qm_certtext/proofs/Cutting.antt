@@ -1,5 +1,7 @@
 -- A head line is cut into its words in one way.
-use Rattle.std.proofs.Common.{◌≡◌, ◌+◌, not, ℕ, suc, Bool, true, false, [], ◌∷◌, ◌++◌, Option, Some, None, MatchOption, codes, length, take, drop, get_or, eqb, inl, inr, refl, ap, ap₂, sym, ◌∙◌, arith, append_assoc}
+use Rattle.std.proofs.Common.{◌≡◌, ◌+◌, not, ℕ, suc, Bool, true, false, [], ◌∷◌, ◌++◌, Option, Some, None, MatchOption}
+use Rattle.std.proofs.Common.{codes, length, take, drop, get_or, eqb, inl, inr, refl, ap, ap₂, sym, ◌∙◌, arith}
+use Rattle.std.proofs.Common.{append_assoc}
 use Rattle.std.specs.Prelude.{decimal}
 use Rattle.std.specs.Char.{is_ascii_digit}
 use Rattle.std.specs.List.{list_all, position_or_len}
@@ -17,13 +19,17 @@ use Rattle.qm_certtext.specs.Cuts.{asked_line, is_bare, IsCut}
 use Rattle.qm_dec.proofs.Texts.{decimal_digits, digit_other, digits_fail, first_at}
 
 -- A text with and without this prefix.
-pub stripped : (prefix text rest : Word) → bytes_eq (take (length prefix) text) prefix ≡ true → rest ≡ drop (length prefix) text → text ≡ prefix ++ rest
+pub stripped : (prefix text rest : Word) → bytes_eq (take (length prefix) text) prefix ≡ true
+    → rest ≡ drop (length prefix) text → text ≡ prefix ++ rest
 stripped prefix text rest is behind =
-    sym (take-append-drop (length prefix) text) ∙ ap₂ ◌++◌ ((bytes_eq-Decides (take (length prefix) text) prefix).0 is) (sym behind)
+    sym (take-append-drop (length prefix) text) ∙ ap₂ ◌++◌ ((bytes_eq-Decides (take (length prefix) text) prefix).0 is)
+    (sym behind)
 
-pub not_stripped : (prefix text rest : Word) → bytes_eq (take (length prefix) text) prefix ≡ false → text ≡ prefix ++ rest → ⊥
+pub not_stripped : (prefix text rest : Word) → bytes_eq (take (length prefix) text) prefix ≡ false
+    → text ≡ prefix ++ rest → ⊥
 not_stripped prefix text rest other is =
-    true≢false (sym ((bytes_eq-Decides (take (length prefix) text) prefix).1 (ap (take (length prefix)) is ∙ take_at prefix rest (length prefix) refl)) ∙ other)
+    true≢false (sym ((bytes_eq-Decides (take (length prefix) text) prefix).1 (ap (take (length prefix)) is
+    ∙ take_at prefix rest (length prefix) refl)) ∙ other)
 
 -- What stands before the first space has none.
 prefix_bare : (text : Word) → is_bare (take (position_or_len (λ b. eqb b 32) text) text) ≡ true
@@ -33,12 +39,14 @@ prefix_bare (x ∷ xs) = elim (cases_Bool (eqb x 32)) [
   | inr other ↦ rw other (step (prefix_bare xs) other)
 ]
   where
-    step : is_bare (take (position_or_len (λ b. eqb b 32) xs) xs) ≡ true → eqb x 32 ≡ false → is_bare (take (1 + position_or_len (λ b. eqb b 32) xs) (x ∷ xs)) ≡ true
+    step : is_bare (take (position_or_len (λ b. eqb b 32) xs) xs) ≡ true → eqb x 32 ≡ false
+        → is_bare (take (1 + position_or_len (λ b. eqb b 32) xs) (x ∷ xs)) ≡ true
     step rest other =
         let next : 1 + position_or_len (λ b. eqb b 32) xs ≡ suc (position_or_len (λ b. eqb b 32) xs) = omega arith in
         rw next (and_from (not (eqb x 32)) _ (ap not other) rest)
 
-pub word_bare : (text word : Word) (i : ℕ) → i ≡ position_or_len (λ b. eqb b 32) text → word ≡ take i text → is_bare word ≡ true
+pub word_bare : (text word : Word) (i : ℕ) → i ≡ position_or_len (λ b. eqb b 32) text → word ≡ take i text
+    → is_bare word ≡ true
 word_bare text word i place is = ap is_bare (is ∙ ap (λ (k : ℕ). take k text) place) ∙ prefix_bare text
 
 -- A mark that begins with a space.
@@ -47,24 +55,31 @@ mark_form [] is = absurd (omega arith)
 mark_form (x ∷ xs) is = (xs, ap (λ (b : ℕ). b ∷ xs) is)
 
 -- The word before it is the prefix.
-place_of : (word mark rest : Word) → is_bare word ≡ true → get_or mark 0 0 ≡ 32 → position_or_len (λ b. eqb b 32) (word ++ (mark ++ rest)) ≡ length word
+place_of : (word mark rest : Word) → is_bare word ≡ true → get_or mark 0 0 ≡ 32
+    → position_or_len (λ b. eqb b 32) (word ++ (mark ++ rest)) ≡ length word
 place_of word mark rest bare begins =
     let form = mark_form mark begins in
-    ap (λ (m : Word). position_or_len (λ b. eqb b 32) (word ++ (m ++ rest))) form.1 ∙ first_at (λ b. eqb b 32) word 32 (form.0 ++ rest) bare refl
+    ap (λ (m : Word). position_or_len (λ b. eqb b 32) (word ++ (m ++ rest))) form.1
+    ∙ first_at (λ b. eqb b 32) word 32 (form.0 ++ rest) bare refl
 
-pub behind_is : (text word mark rest behind : Word) (i : ℕ) → is_bare word ≡ true → get_or mark 0 0 ≡ 32 → text ≡ word ++ (mark ++ rest)
+pub behind_is : (text word mark rest behind : Word) (i : ℕ) → is_bare word ≡ true → get_or mark 0 0 ≡ 32
+    → text ≡ word ++ (mark ++ rest)
     → i ≡ position_or_len (λ b. eqb b 32) text → behind ≡ drop i text → behind ≡ mark ++ rest
 behind_is text word mark rest behind i bare begins is place back =
     let at : i ≡ length word = place ∙ ap (position_or_len (λ b. eqb b 32)) is ∙ place_of word mark rest bare begins in
     back ∙ ap₂ (λ (k : ℕ) (t : Word). drop k t) at is ∙ drop_at word (mark ++ rest) (length word) refl
 
 -- So one word stands before the first mark.
-pub one_word : (a b x y mark : Word) → is_bare a ≡ true → is_bare b ≡ true → get_or mark 0 0 ≡ 32 → a ++ (mark ++ x) ≡ b ++ (mark ++ y) → (a ≡ b) × (x ≡ y)
+pub one_word : (a b x y mark : Word) → is_bare a ≡ true → is_bare b ≡ true → get_or mark 0 0 ≡ 32
+    → a ++ (mark ++ x) ≡ b ++ (mark ++ y) → (a ≡ b) × (x ≡ y)
 one_word a b x y mark bare_a bare_b begins same =
     let long : length a ≡ length b =
-    sym (place_of a mark x bare_a begins) ∙ ap (position_or_len (λ c. eqb c 32)) same ∙ place_of b mark y bare_b begins in
-    let prefix : a ≡ b = sym (take_at a (mark ++ x) (length a) refl) ∙ ap (take (length a)) same ∙ take_at b (mark ++ y) (length a) (sym long) in
-    let behind : mark ++ x ≡ mark ++ y = append_cancel_left a _ _ (same ∙ ap (λ (w : Word). w ++ (mark ++ y)) (sym prefix)) in
+    sym (place_of a mark x bare_a begins) ∙ ap (position_or_len (λ c. eqb c 32)) same
+    ∙ place_of b mark y bare_b begins in
+    let prefix : a ≡ b = sym (take_at a (mark ++ x) (length a) refl) ∙ ap (take (length a)) same
+    ∙ take_at b (mark ++ y) (length a) (sym long) in
+    let behind : mark ++ x ≡ mark ++ y =
+    append_cancel_left a _ _ (same ∙ ap (λ (w : Word). w ++ (mark ++ y)) (sym prefix)) in
     (prefix, append_cancel_left mark x y behind)
 
 abbrev floor_mark : Word
@@ -74,12 +89,14 @@ abbrev weight_mark : Word
 weight_mark = codes " weight "
 
 -- What stands behind the prefix of a head line.
-behind_prefix : (prefix line rest scale floor weight : Word) → line ≡ prefix ++ rest → IsCut prefix line scale floor weight
+behind_prefix : (prefix line rest scale floor weight : Word) → line ≡ prefix ++ rest
+    → IsCut prefix line scale floor weight
     → rest ≡ scale ++ (floor_mark ++ (floor ++ (weight_mark ++ weight)))
 behind_prefix prefix line rest scale floor weight is cut = append_cancel_left prefix _ _ (sym is ∙ cut.written)
 
 -- A line has one cut.
-one_cut : (prefix line a b c d e f : Word) → IsCut prefix line a b c → IsCut prefix line d e f → (a ≡ d) × (b ≡ e) × (c ≡ f)
+one_cut : (prefix line a b c d e f : Word) → IsCut prefix line a b c → IsCut prefix line d e f → (a ≡ d) × (b ≡ e)
+    × (c ≡ f)
 one_cut prefix line a b c d e f one two =
     let scales : (a ≡ d) × (b ++ (weight_mark ++ c) ≡ e ++ (weight_mark ++ f)) =
     one_word a d (b ++ (weight_mark ++ c)) (e ++ (weight_mark ++ f)) floor_mark one.scale_bare two.scale_bare refl
@@ -94,7 +111,8 @@ digits_bare digits all = digits_fail (λ b. eqb b 32) (digit_other 32 (omega ari
 scale_bare : (settings : Settings) (auto : Bool) → AreInRange settings auto → is_bare (scale_text settings) ≡ true
 scale_bare settings auto range =
     list_all-append (λ b. not (eqb b 32)) (decimal settings.p) (47 ∷ decimal settings.q)
-    ∙ and_from _ _ (digits_bare (decimal settings.p) (decimal_digits settings.p (omega (arith, range.p_high)))) (digits_bare (decimal settings.q) (decimal_digits settings.q (omega (arith, range.q_high))))
+    ∙ and_from _ _ (digits_bare (decimal settings.p) (decimal_digits settings.p (omega (arith, range.p_high))))
+    (digits_bare (decimal settings.q) (decimal_digits settings.q (omega (arith, range.q_high))))
 
 floor_bare : (floor : ℕ) (auto : Bool) → IsFloor floor auto → is_bare (floor_text floor auto) ≡ true
 floor_bare floor true may = refl
@@ -103,31 +121,39 @@ floor_bare floor false may = digits_bare (decimal floor) (decimal_digits floor (
 -- The parts of a head line, from the right.
 nested : (a b c d e f : Word) → a ++ b ++ c ++ d ++ e ++ f ≡ a ++ (b ++ (c ++ (d ++ (e ++ f))))
 nested a b c d e f =
-    append_assoc (((a ++ b) ++ c) ++ d) e f ∙ append_assoc ((a ++ b) ++ c) d (e ++ f) ∙ append_assoc (a ++ b) c (d ++ (e ++ f)) ∙ append_assoc a b (c ++ (d ++ (e ++ f)))
+    append_assoc (((a ++ b) ++ c) ++ d) e f ∙ append_assoc ((a ++ b) ++ c) d (e ++ f)
+    ∙ append_assoc (a ++ b) c (d ++ (e ++ f)) ∙ append_assoc a b (c ++ (d ++ (e ++ f)))
 
-pub asked_cut : (prefix line : Word) (settings : Settings) (auto : Bool) → AreInRange settings auto → line ≡ asked_line prefix settings auto
+pub asked_cut : (prefix line : Word) (settings : Settings) (auto : Bool) → AreInRange settings auto
+    → line ≡ asked_line prefix settings auto
     → IsCut prefix line (scale_text settings) (floor_text settings.floor auto) (weight_text settings.weight)
 asked_cut prefix line settings auto range is = record {
-  written = is ∙ nested prefix (scale_text settings) floor_mark (floor_text settings.floor auto) weight_mark (weight_text settings.weight);
+  written = is ∙ nested prefix (scale_text settings) floor_mark (floor_text settings.floor auto) weight_mark
+      (weight_text settings.weight);
   scale_bare = scale_bare settings auto range;
   floor_bare = floor_bare settings.floor auto range.floor;
 }
 
 -- Its words are those of the settings.
-pub asked_words : (prefix line scale floor weight : Word) (settings : Settings) (auto : Bool) → IsCut prefix line scale floor weight
+pub asked_words : (prefix line scale floor weight : Word) (settings : Settings) (auto : Bool)
+    → IsCut prefix line scale floor weight
     → AreInRange settings auto → line ≡ asked_line prefix settings auto → AreWordsOf scale floor weight settings auto
 asked_words prefix line scale floor weight settings auto cut range is =
     let same = one_cut prefix line scale floor weight _ _ _ cut (asked_cut prefix line settings auto range is) in
     record { scaled = same.0; bounded = same.1; weighed = same.2; in_range = range }
 
-words_asked : (prefix line scale floor weight : Word) (settings : Settings) (auto : Bool) → IsCut prefix line scale floor weight
+words_asked : (prefix line scale floor weight : Word) (settings : Settings) (auto : Bool)
+    → IsCut prefix line scale floor weight
     → AreWordsOf scale floor weight settings auto → line ≡ asked_line prefix settings auto
 words_asked prefix line scale floor weight settings auto cut words =
-    cut.written ∙ (λ i. prefix ++ (words.scaled i ++ (floor_mark ++ (words.bounded i ++ (weight_mark ++ words.weighed i)))))
-    ∙ sym (nested prefix (scale_text settings) floor_mark (floor_text settings.floor auto) weight_mark (weight_text settings.weight))
+    cut.written ∙ (λ i. prefix
+    ++ (words.scaled i ++ (floor_mark ++ (words.bounded i ++ (weight_mark ++ words.weighed i)))))
+    ∙ sym (nested prefix (scale_text settings) floor_mark (floor_text settings.floor auto) weight_mark
+    (weight_text settings.weight))
 
 -- Where the line was cut so far, it is cut whole, or it has no cut.
-pub cut_of : (prefix line rest scale more floor weight : Word) → line ≡ prefix ++ rest → is_bare scale ≡ true → rest ≡ scale ++ (floor_mark ++ more)
+pub cut_of : (prefix line rest scale more floor weight : Word) → line ≡ prefix ++ rest → is_bare scale ≡ true
+    → rest ≡ scale ++ (floor_mark ++ more)
     → is_bare floor ≡ true → more ≡ floor ++ (weight_mark ++ weight) → IsCut prefix line scale floor weight
 cut_of prefix line rest scale more floor weight is scale_is first floor_is second = record {
   written = is ∙ ap (λ (w : Word). prefix ++ w) (first ∙ ap (λ (w : Word). scale ++ (floor_mark ++ w)) second);
@@ -135,11 +161,14 @@ cut_of prefix line rest scale more floor weight is scale_is first floor_is secon
   floor_bare = floor_is;
 }
 
-pub no_prefix : (prefix line : Word) → bytes_eq (take (length prefix) line) prefix ≡ false → (scale floor weight : Word) → IsCut prefix line scale floor weight → ⊥
+pub no_prefix : (prefix line : Word) → bytes_eq (take (length prefix) line) prefix ≡ false → (scale floor weight : Word)
+    → IsCut prefix line scale floor weight → ⊥
 no_prefix prefix line other scale floor weight cut = not_stripped prefix line _ other cut.written
 
-pub no_floor : (prefix line rest first more : Word) → line ≡ prefix ++ rest → is_bare first ≡ true → rest ≡ first ++ (floor_mark ++ more)
-    → ((word last : Word) → is_bare word ≡ true → more ≡ word ++ (weight_mark ++ last) → ⊥) → (scale floor weight : Word) → IsCut prefix line scale floor weight → ⊥
+pub no_floor : (prefix line rest first more : Word) → line ≡ prefix ++ rest → is_bare first ≡ true
+    → rest ≡ first ++ (floor_mark ++ more)
+    → ((word last : Word) → is_bare word ≡ true → more ≡ word ++ (weight_mark ++ last) → ⊥)
+    → (scale floor weight : Word) → IsCut prefix line scale floor weight → ⊥
 no_floor prefix line rest first more is bare_is split none scale floor weight cut =
     let one = one_word first scale more (floor ++ (weight_mark ++ weight)) floor_mark bare_is cut.scale_bare refl
     (sym split ∙ behind_prefix prefix line rest scale floor weight is cut) in
@@ -147,8 +176,10 @@ no_floor prefix line rest first more is bare_is split none scale floor weight cu
 
 -- The settings of a cut line are those of its words.
 pub asked_read : (prefix line scale floor weight : Word) (o : Option Asked) → IsCut prefix line scale floor weight
-    → MatchOption o ((settings : Settings) (auto : Bool) → AreWordsOf scale floor weight settings auto → ⊥) (λ asked. AreWordsOf scale floor weight asked.settings asked.auto)
-    → MatchOption o ((settings : Settings) (auto : Bool) → AreInRange settings auto → line ≡ asked_line prefix settings auto → ⊥)
+    → MatchOption o ((settings : Settings) (auto : Bool) → AreWordsOf scale floor weight settings auto
+    → ⊥) (λ asked. AreWordsOf scale floor weight asked.settings asked.auto)
+    → MatchOption o ((settings : Settings) (auto : Bool) → AreInRange settings auto
+    → line ≡ asked_line prefix settings auto → ⊥)
     (λ asked. AreInRange asked.settings asked.auto × (line ≡ asked_line prefix asked.settings asked.auto))
 asked_read prefix line scale floor weight None cut none =
     λ settings auto range is. none settings auto (asked_words prefix line scale floor weight settings auto cut range is)
@@ -157,8 +188,11 @@ asked_read prefix line scale floor weight (Some asked) cut words =
 
 -- Behind the prefix of a head line they are those of the head line.
 pub head_read : (line : Word) (o : Option Asked)
-    → MatchOption o ((settings : Settings) (auto : Bool) → AreInRange settings auto → line ≡ asked_line (codes "#quadq 1 remesh scale ") settings auto → ⊥)
-    (λ asked. AreInRange asked.settings asked.auto × (line ≡ asked_line (codes "#quadq 1 remesh scale ") asked.settings asked.auto))
-    → MatchOption o ((settings : Settings) (auto : Bool) → IsHead line settings auto → ⊥) (λ asked. IsHead line asked.settings asked.auto)
+    → MatchOption o ((settings : Settings) (auto : Bool) → AreInRange settings auto
+    → line ≡ asked_line (codes "#quadq 1 remesh scale ") settings auto → ⊥)
+    (λ asked. AreInRange asked.settings asked.auto
+    × (line ≡ asked_line (codes "#quadq 1 remesh scale ") asked.settings asked.auto))
+    → MatchOption o ((settings : Settings) (auto : Bool) → IsHead line settings auto
+    → ⊥) (λ asked. IsHead line asked.settings asked.auto)
 head_read line None none = λ settings auto head. none settings auto head.in_range head.written
 head_read line (Some asked) read = record { written = read.1; in_range = read.0 }

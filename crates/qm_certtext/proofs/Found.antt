@@ -1,6 +1,7 @@
 -- The last line that begins with a prefix, found line after line.
 use Rattle.std.specs.Prelude.{IfSome, MatchOption}
-use Rattle.std.proofs.Common.{◌≡◌, ◌≤◌, ◌<◌, ◌+◌, ◌-◌, ◌⊎◌, ℕ, Bool, true, false, Option, Some, None, if◌then◌else◌, [], length, take, drop, slice_index_or, inl, inr, refl, sym, ◌∙◌, ap, subst, arith}
+use Rattle.std.proofs.Common.{◌≡◌, ◌≤◌, ◌<◌, ◌+◌, ◌-◌, ◌⊎◌, ℕ, Bool, true, false, Option, Some, None, if◌then◌else◌, []}
+use Rattle.std.proofs.Common.{length, take, drop, slice_index_or, inl, inr, refl, sym, ◌∙◌, ap, subst, arith}
 use Rattle.std.specs.Prelude.{nat_eq}
 use Rattle.std.specs.List.{starts_with}
 use Rattle.std.proofs.lemmas.Bool.{cases_lt}
@@ -12,7 +13,8 @@ use Rattle.qm_certtext.specs.declared.last.HeadAt.{HeadAt}
 use Rattle.qm_io.proofs.Cuts.{first_lines, rest_is}
 
 -- What was found among all lines is the last that begins so.
-pub found_last : (prefix bytes : Bytes) (n : ℕ) (found : Option HeadAt) → n ≤ length (lines_of bytes) → length (lines_of bytes) ≤ n → IsFoundIn prefix bytes n found
+pub found_last : (prefix bytes : Bytes) (n : ℕ) (found : Option HeadAt) → n ≤ length (lines_of bytes)
+    → length (lines_of bytes) ≤ n → IsFoundIn prefix bytes n found
     → MatchOption found (HasNoLine (λ line. starts_with nat_eq line prefix) (lines_of bytes))
     (λ head. IsLastLine (λ line. starts_with nat_eq line prefix) (lines_of bytes) head.line)
 found_last prefix bytes n None low all is = λ k l. is k (omega (arith, l, all))
@@ -22,7 +24,8 @@ found_last prefix bytes n (Some head) low all is = record {
   last = λ k above l. is.last k above (omega (arith, l, all));
 }
 
-pub found_within : (prefix bytes : Bytes) (n : ℕ) (found : Option HeadAt) → IsFoundIn prefix bytes n found → IfSome found (λ head. head.at ≤ length bytes)
+pub found_within : (prefix bytes : Bytes) (n : ℕ) (found : Option HeadAt) → IsFoundIn prefix bytes n found
+    → IfSome found (λ head. head.at ≤ length bytes)
 found_within prefix bytes n None is = tt
 found_within prefix bytes n (Some head) is = is.within
 
@@ -52,7 +55,8 @@ found_same prefix bytes line i found at other is = by_found found is
     one : (k : ℕ) → k ≡ i → begins_at prefix bytes k ≡ false
     one k same = ap (begins_at prefix bytes) same ∙ (ap (λ (l : Bytes). starts_with nat_eq l prefix) (sym at) ∙ other)
 
-    by_place : (k : ℕ) → (k < i → begins_at prefix bytes k ≡ false) → (k < i) ⊎ (k ≡ i) → begins_at prefix bytes k ≡ false
+    by_place : (k : ℕ) → (k < i → begins_at prefix bytes k ≡ false) → (k < i) ⊎ (k ≡ i) → begins_at prefix bytes k
+        ≡ false
     by_place k before (inl less) = before less
     by_place k before (inr same) = one k same
 
@@ -68,8 +72,10 @@ found_same prefix bytes line i found at other is = by_found found is
     }
 
 -- A line that begins so is the last one.
-found_next : (prefix bytes rest line : Bytes) (i at : ℕ) → rest ≡ tail_of i bytes → line ≡ slice_index_or (lines_of bytes) i []
-    → starts_with nat_eq line prefix ≡ true → at ≡ length bytes - length rest → IsFoundIn prefix bytes (i + 1) (Some (record { line = i; at = at }))
+found_next : (prefix bytes rest line : Bytes) (i at : ℕ) → rest ≡ tail_of i bytes
+    → line ≡ slice_index_or (lines_of bytes) i []
+    → starts_with nat_eq line prefix ≡ true → at ≡ length bytes - length rest
+    → IsFoundIn prefix bytes (i + 1) (Some (record { line = i; at = at }))
 found_next prefix bytes rest line i at tail is begins place = record {
   there = omega arith;
   begins = ap (λ (l : Bytes). starts_with nat_eq l prefix) (sym is) ∙ begins;
@@ -82,13 +88,17 @@ found_next prefix bytes rest line i at tail is begins place = record {
 -- One line more.
 pub found_more : (prefix bytes rest line : Bytes) (i at : ℕ) (found next : Option HeadAt) → rest ≡ tail_of i bytes
     → line ≡ slice_index_or (lines_of bytes) i [] → at ≡ length bytes - length rest → IsFoundIn prefix bytes i found
-    → next ≡ (if starts_with nat_eq line prefix then Some (record { line = i; at = at }) else found) → IsFoundIn prefix bytes (i + 1) next
-found_more prefix bytes rest line i at found next tail is place before said = by_test (starts_with nat_eq line prefix) refl said
+    → next ≡ (if starts_with nat_eq line prefix then Some (record { line = i; at = at }) else found)
+    → IsFoundIn prefix bytes (i + 1) next
+found_more prefix bytes rest line i at found next tail is place before said =
+    by_test (starts_with nat_eq line prefix) refl said
   where
     here : Option HeadAt
     here = Some (record { line = i; at = at })
 
-    by_test : (begins : Bool) → starts_with nat_eq line prefix ≡ begins → next ≡ (if begins then here else found) → IsFoundIn prefix bytes (i + 1) next
+    by_test : (begins : Bool) → starts_with nat_eq line prefix ≡ begins → next ≡ (if begins then here else found)
+        → IsFoundIn prefix bytes (i + 1) next
     by_test true begins taken =
         subst (IsFoundIn prefix bytes (i + 1)) (sym taken) (found_next prefix bytes rest line i at tail is begins place)
-    by_test false other taken = subst (IsFoundIn prefix bytes (i + 1)) (sym taken) (found_same prefix bytes line i found is other before)
+    by_test false other taken =
+        subst (IsFoundIn prefix bytes (i + 1)) (sym taken) (found_same prefix bytes line i found is other before)

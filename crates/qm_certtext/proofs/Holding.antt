@@ -1,5 +1,7 @@
 -- The lists of one line more, and those before and behind the first `#f 3`.
-use Rattle.std.proofs.Common.{◌≡◌, ◌+◌, ◌||◌, not, ℕ, suc, Bool, true, false, List, [], ◌∷◌, ◌++◌, Option, Some, None, is_some, Result, Ok, Err, OnOk, ◌&&◌, take, drop, inl, inr, refl, ap, ap₂, sym, ◌∙◌, subst, arith, append-nil}
+use Rattle.std.proofs.Common.{◌≡◌, ◌+◌, ◌||◌, not, ℕ, suc, Bool, true, false, List, [], ◌∷◌, ◌++◌, Option, Some, None}
+use Rattle.std.proofs.Common.{is_some, Result, Ok, Err, OnOk, ◌&&◌, take, drop, inl, inr, refl, ap, ap₂, sym, ◌∙◌}
+use Rattle.std.proofs.Common.{subst, arith, append-nil}
 use Rattle.std.specs.List.{after_first, before_first, flat_map, list_any, position_or_len}
 use Rattle.std.proofs.lemmas.Bool.{cases_Bool, false≢true, or_parts}
 use Rattle.std.proofs.lemmas.List.Concat.{flat_map-append}
@@ -34,7 +36,8 @@ module _ {X : Type 0} (p : X → Bool) where
       let later : list_any p xs ≡ true → before_first p (xs ++ ys) ≡ before_first p xs = before_there xs ys in
       elim (cases_Bool (p x)) [
         | inl is ↦ before_here x (xs ++ ys) is ∙ sym (before_here x xs is)
-        | inr other ↦ before_step x (xs ++ ys) other ∙ ap (λ (zs : List X). x ∷ zs) (later (rw other at some)) ∙ sym (before_step x xs other)
+        | inr other ↦ before_step x (xs ++ ys) other ∙ ap (λ (zs : List X). x ∷ zs) (later (rw other at some))
+            ∙ sym (before_step x xs other)
       ]
 
   pub after_there : (xs ys : List X) → list_any p xs ≡ true → after_first p (xs ++ ys) ≡ after_first p xs ++ ys
@@ -43,17 +46,20 @@ module _ {X : Type 0} (p : X → Bool) where
       let later : list_any p xs ≡ true → after_first p (xs ++ ys) ≡ after_first p xs ++ ys = after_there xs ys in
       elim (cases_Bool (p x)) [
         | inl is ↦ after_here x (xs ++ ys) is ∙ ap (λ (zs : List X). zs ++ ys) (sym (after_here x xs is))
-        | inr other ↦ after_step x (xs ++ ys) other ∙ later (rw other at some) ∙ ap (λ (zs : List X). zs ++ ys) (sym (after_step x xs other))
+        | inr other ↦ after_step x (xs ++ ys) other ∙ later (rw other at some)
+            ∙ ap (λ (zs : List X). zs ++ ys) (sym (after_step x xs other))
       ]
 
   -- Where none passes before it.
-  pub before_first_one : (xs : List X) (y : X) (ys : List X) → list_any p xs ≡ false → p y ≡ true → before_first p (xs ++ y ∷ ys) ≡ xs
+  pub before_first_one : (xs : List X) (y : X) (ys : List X) → list_any p xs ≡ false → p y ≡ true
+      → before_first p (xs ++ y ∷ ys) ≡ xs
   before_first_one [] y ys none is = before_here y ys is
   before_first_one (x ∷ xs) y ys none is =
       let parts : (p x ≡ false) × (list_any p xs ≡ false) = or_parts (p x) (list_any p xs) none in
       before_step x (xs ++ y ∷ ys) parts.0 ∙ ap (λ (zs : List X). x ∷ zs) (before_first_one xs y ys parts.1 is)
 
-  pub after_first_one : (xs : List X) (y : X) (ys : List X) → list_any p xs ≡ false → p y ≡ true → after_first p (xs ++ y ∷ ys) ≡ ys
+  pub after_first_one : (xs : List X) (y : X) (ys : List X) → list_any p xs ≡ false → p y ≡ true
+      → after_first p (xs ++ y ∷ ys) ≡ ys
   after_first_one [] y ys none is = after_here y ys is
   after_first_one (x ∷ xs) y ys none is =
       let parts : (p x ≡ false) × (list_any p xs ≡ false) = or_parts (p x) (list_any p xs) none in
@@ -68,10 +74,12 @@ module _ {X : Type 0} (p : X → Bool) where
       or_assoc false b c = refl
 
 -- One line more.
-more : {Y : Type 0} (f : CertLine → List Y) (old new : List Y) (said : List CertLine) (line : CertLine) → old ≡ flat_map f said → new ≡ old ++ f line
+more : {Y : Type 0} (f : CertLine → List Y) (old new : List Y) (said : List CertLine) (line : CertLine)
+    → old ≡ flat_map f said → new ≡ old ++ f line
     → new ≡ flat_map f (said ++ line ∷ [])
 more f old new said line is grown =
-    grown ∙ ap (λ (ys : List _). ys ++ f line) is ∙ ap (λ (ys : List _). flat_map f said ++ ys) (sym (append-nil (f line))) ∙ sym (flat_map-append f said (line ∷ []))
+    grown ∙ ap (λ (ys : List _). ys ++ f line) is ∙ ap (λ (ys : List _). flat_map f said ++ ys)
+    (sym (append-nil (f line))) ∙ sym (flat_map-append f said (line ∷ []))
 
 -- What a line adds to lists.
 pub record Adds (old new : Parts) (line : CertLine) : Type 0 where
@@ -81,7 +89,8 @@ pub record Adds (old new : Parts) (line : CertLine) : Type 0 where
   pub sets : new.sets.items ≡ old.sets.items ++ set_in line
   pub set_ups : new.set_ups.items ≡ old.set_ups.items ++ set_up_in line
 
-holds_more : (old new : Parts) (said : List CertLine) (line : CertLine) → Adds old new line → Holds old said → Holds new (said ++ line ∷ [])
+holds_more : (old new : Parts) (said : List CertLine) (line : CertLine) → Adds old new line → Holds old said
+    → Holds new (said ++ line ∷ [])
 holds_more old new said line adds holds = record {
   lengths = more length_in _ _ said line holds.lengths adds.lengths;
   vertices = more vertex_in _ _ said line holds.vertices adds.vertices;
@@ -91,40 +100,57 @@ holds_more old new said line adds holds = record {
 }
 
 -- The lines before the first `#f 3` stay, and the next are those of another certificate.
-pub takes_third : (old new : Found) (line : CertLine) → old.first ≡ None → is_third line ≡ true → new.first ≡ Some old.last → Holds new.last [] → TakesLine old new line
+pub takes_third : (old new : Found) (line : CertLine) → old.first ≡ None → is_third line ≡ true
+    → new.first ≡ Some old.last → Holds new.last [] → TakesLine old new line
 takes_third old new line none third first empty said holds =
-    let before : (list_any is_third said ≡ false) × Holds old.last said = subst (λ (o : Option Parts). HoldBoth o old.last said) none holds in
-    let some : list_any is_third (said ++ line ∷ []) ≡ true = any_append is_third said (line ∷ []) ∙ ap₂ (λ a b. a || (b || false)) before.0 third in
-    subst (λ (o : Option Parts). HoldBoth o new.last (said ++ line ∷ [])) (sym first)
-    (some, subst (Holds old.last) (sym (before_first_one is_third said line [] before.0 third)) before.1, subst (Holds new.last) (sym (after_first_one is_third said line [] before.0 third)) empty)
+    let before : (list_any is_third said ≡ false) × Holds old.last said =
+    subst (λ (o : Option Parts). HoldBoth o old.last said) none holds in
+    let some : list_any is_third (said ++ line ∷ []) ≡ true = any_append is_third said (line ∷ [])
+    ∙ ap₂ (λ a b. a || (b || false)) before.0 third in
+    subst (λ (o : Option Parts). HoldBoth o new.last (said ++ line ∷ [])) (sym first) (
+      some,
+      subst (Holds old.last) (sym (before_first_one is_third said line [] before.0 third)) before.1,
+      subst (Holds new.last) (sym (after_first_one is_third said line [] before.0 third)) empty,
+    )
 
 -- Any other line is one of the last certificate.
-pub takes_other : (old new : Found) (line : CertLine) → (old.first ≡ None → is_third line ≡ false) → new.first ≡ old.first → Adds old.last new.last line → TakesLine old new line
+pub takes_other : (old new : Found) (line : CertLine) → (old.first ≡ None → is_third line ≡ false)
+    → new.first ≡ old.first → Adds old.last new.last line → TakesLine old new line
 takes_other old new line other first adds said holds = by_first old.first refl holds
   where
-    by_first : (o : Option Parts) → old.first ≡ o → HoldBoth o old.last said → HoldBoth new.first new.last (said ++ line ∷ [])
+    by_first : (o : Option Parts) → old.first ≡ o → HoldBoth o old.last said
+        → HoldBoth new.first new.last (said ++ line ∷ [])
     by_first None is none =
-        let still : list_any is_third (said ++ line ∷ []) ≡ false = any_append is_third said (line ∷ []) ∙ ap₂ (λ a b. a || (b || false)) none.0 (other is) in
-        subst (λ (o : Option Parts). HoldBoth o new.last (said ++ line ∷ [])) (sym (first ∙ is)) (still, holds_more old.last new.last said line adds none.1)
+        let still : list_any is_third (said ++ line ∷ []) ≡ false = any_append is_third said (line ∷ [])
+        ∙ ap₂ (λ a b. a || (b || false)) none.0 (other is) in
+        subst (λ (o : Option Parts). HoldBoth o new.last (said ++ line ∷ [])) (sym (first ∙ is)) (
+          still,
+          holds_more old.last new.last said line adds none.1,
+        )
     by_first (Some prefix) is both =
-        let still : list_any is_third (said ++ line ∷ []) ≡ true = any_append is_third said (line ∷ []) ∙ ap (λ a. a || (is_third line || false)) both.0 in
+        let still : list_any is_third (said ++ line ∷ []) ≡ true = any_append is_third said (line ∷ [])
+        ∙ ap (λ a. a || (is_third line || false)) both.0 in
         subst (λ (o : Option Parts). HoldBoth o new.last (said ++ line ∷ [])) (sym (first ∙ is)) (
           still,
           subst (Holds prefix) (sym (before_there is_third said (line ∷ []) both.0)) both.1,
-          subst (Holds new.last) (sym (after_there is_third said (line ∷ []) both.0)) (holds_more old.last new.last (after_first is_third said) line adds both.2),
+          subst (Holds new.last) (sym (after_there is_third said (line ∷ []) both.0))
+              (holds_more old.last new.last (after_first is_third said) line adds both.2),
         )
 
 -- Whether a line starts the certificate for floor 3.
-pub starts : (first : Option Parts) (line : CertLine) → (not (is_some first) && is_third line) ≡ true → (first ≡ None) × (is_third line ≡ true)
+pub starts : (first : Option Parts) (line : CertLine) → (not (is_some first) && is_third line) ≡ true → (first ≡ None)
+    × (is_third line ≡ true)
 starts None line is = (refl, is)
 starts (Some prefix) line is = absurd (false≢true is)
 
-pub starts_not : (first : Option Parts) (line : CertLine) → (not (is_some first) && is_third line) ≡ false → first ≡ None → is_third line ≡ false
+pub starts_not : (first : Option Parts) (line : CertLine) → (not (is_some first) && is_third line) ≡ false
+    → first ≡ None → is_third line ≡ false
 starts_not None line is none = is
 starts_not (Some prefix) line is none = absurd cc
 
 -- Where memory was found for the line.
-pub takes_ok : {T E : Type 0} (r : Result T E) (old new : Found) (line : CertLine) → (old.first ≡ None → is_third line ≡ false) → new.first ≡ old.first
+pub takes_ok : {T E : Type 0} (r : Result T E) (old new : Found) (line : CertLine)
+    → (old.first ≡ None → is_third line ≡ false) → new.first ≡ old.first
     → OnOk r (new.last.lengths.items ≡ old.last.lengths.items ++ length_in line)
     → OnOk r (new.last.vertices.items ≡ old.last.vertices.items ++ vertex_in line)
     → OnOk r (new.last.vertex_ups.items ≡ old.last.vertex_ups.items ++ vertex_up_in line)

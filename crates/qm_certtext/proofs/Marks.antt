@@ -1,5 +1,6 @@
 -- The marked lines of a text, one line after another.
-use Rattle.std.proofs.Common.{◌≡◌, ◌<◌, ◌+◌, ℕ, zero, suc, Bool, true, false, Option, None, List, [], ◌∷◌, ◌++◌, length, take, map, filter, slice_index_or, cond, inl, inr, refl, ap, sym, ◌∙◌, subst, arith}
+use Rattle.std.proofs.Common.{◌≡◌, ◌<◌, ◌+◌, ℕ, zero, suc, Bool, true, false, Option, None, List, [], ◌∷◌, ◌++◌, length}
+use Rattle.std.proofs.Common.{take, map, filter, slice_index_or, cond, inl, inr, refl, ap, sym, ◌∙◌, subst, arith}
 use Rattle.std.specs.List.{list_all}
 use Rattle.std.proofs.lemmas.Bool.{and_parts, cases_Bool, true≢false}
 use Rattle.std.proofs.lemmas.List.{get_or-take, length-take-le, take_more}
@@ -17,17 +18,22 @@ pub filter_append : {X : Type 0} (p : X → Bool) (xs ys : List X) → filter p 
 filter_append p [] ys = refl
 filter_append p (x ∷ xs) ys = by_test (p x) (filter_append p xs ys)
   where
-    by_test : (t : Bool) → filter p (xs ++ ys) ≡ filter p xs ++ filter p ys → cond t (x ∷ filter p (xs ++ ys)) (filter p (xs ++ ys)) ≡ cond t (x ∷ filter p xs) (filter p xs) ++ filter p ys
+    by_test : (t : Bool) → filter p (xs ++ ys) ≡ filter p xs ++ filter p ys
+        → cond t (x ∷ filter p (xs ++ ys)) (filter p (xs ++ ys)) ≡ cond t (x ∷ filter p xs) (filter p xs) ++ filter p ys
     by_test true is = ap (λ (zs : List _). x ∷ zs) is
     by_test false is = is
 
 -- Each marked line of those that were read says something.
-pub said_at : (auto : Bool) (behind : Lines) (said : List CertLine) → filter is_hash_line behind ≡ map line_text said → list_all (may_stand auto) said ≡ true
-    → (j : ℕ) → j < length behind → is_hash_line (slice_index_or behind j []) ≡ true → (line : CertLine) × Says auto (slice_index_or behind j []) line
+pub said_at : (auto : Bool) (behind : Lines) (said : List CertLine) → filter is_hash_line behind ≡ map line_text said
+    → list_all (may_stand auto) said ≡ true
+    → (j : ℕ) → j < length behind → is_hash_line (slice_index_or behind j []) ≡ true → (line : CertLine)
+    × Says auto (slice_index_or behind j []) line
 said_at auto [] said texts all j low is = absurd (omega arith)
 said_at auto (line ∷ behind) said texts all j low is =
-    let later : (more : List CertLine) → filter is_hash_line behind ≡ map line_text more → list_all (may_stand auto) more ≡ true
-    → (i : ℕ) → i < length behind → is_hash_line (slice_index_or behind i []) ≡ true → (l : CertLine) × Says auto (slice_index_or behind i []) l =
+    let later : (more : List CertLine) → filter is_hash_line behind ≡ map line_text more
+    → list_all (may_stand auto) more ≡ true
+    → (i : ℕ) → i < length behind → is_hash_line (slice_index_or behind i []) ≡ true → (l : CertLine)
+    × Says auto (slice_index_or behind i []) l =
     said_at auto behind in
     elim (cases_Bool (is_hash_line line)) [
       | inl marked ↦ by_said said (rw marked at texts) all later j low is
@@ -35,19 +41,29 @@ said_at auto (line ∷ behind) said texts all j low is =
     ]
   where
     by_place : (i : ℕ) → i < length (line ∷ behind) → is_hash_line (slice_index_or (line ∷ behind) i []) ≡ true
-        → ((k : ℕ) → k < length behind → is_hash_line (slice_index_or behind k []) ≡ true → (l : CertLine) × Says auto (slice_index_or behind k []) l)
+        → ((k : ℕ) → k < length behind → is_hash_line (slice_index_or behind k []) ≡ true → (l : CertLine)
+        × Says auto (slice_index_or behind k []) l)
         → is_hash_line line ≡ false → (l : CertLine) × Says auto (slice_index_or (line ∷ behind) i []) l
     by_place zero lt marked rest other = absurd (true≢false (sym marked ∙ other))
     by_place (suc i) lt marked rest other = rest i (omega arith) marked
 
-    by_said : (more : List CertLine) → line ∷ filter is_hash_line behind ≡ map line_text more → list_all (may_stand auto) more ≡ true
-        → ((rest : List CertLine) → filter is_hash_line behind ≡ map line_text rest → list_all (may_stand auto) rest ≡ true
-        → (k : ℕ) → k < length behind → is_hash_line (slice_index_or behind k []) ≡ true → (l : CertLine) × Says auto (slice_index_or behind k []) l)
-        → (i : ℕ) → i < length (line ∷ behind) → is_hash_line (slice_index_or (line ∷ behind) i []) ≡ true → (l : CertLine) × Says auto (slice_index_or (line ∷ behind) i []) l
+    by_said : (more : List CertLine) → line ∷ filter is_hash_line behind ≡ map line_text more
+        → list_all (may_stand auto) more ≡ true
+        → ((rest : List CertLine) → filter is_hash_line behind ≡ map line_text rest → list_all (may_stand auto) rest
+        ≡ true
+        → (k : ℕ) → k < length behind → is_hash_line (slice_index_or behind k []) ≡ true → (l : CertLine)
+        × Says auto (slice_index_or behind k []) l)
+        → (i : ℕ) → i < length (line ∷ behind) → is_hash_line (slice_index_or (line ∷ behind) i []) ≡ true
+        → (l : CertLine) × Says auto (slice_index_or (line ∷ behind) i []) l
     by_said [] same ok rest i lt marked = absurd cc
     by_said (one ∷ more) same ok rest zero lt marked =
-        let first : line ≡ line_text one = cc in
-        (one, record { written = first; allowed = (and_parts (may_stand auto one) (list_all (may_stand auto) more) ok).0 })
+        let first : line ≡ line_text one = cc in (
+          one,
+          record {
+            written = first;
+            allowed = (and_parts (may_stand auto one) (list_all (may_stand auto) more) ok).0;
+          },
+        )
     by_said (one ∷ more) same ok rest (suc i) lt marked =
         let others : filter is_hash_line behind ≡ map line_text more = cc in
         rest more others (and_parts (may_stand auto one) (list_all (may_stand auto) more) ok).1 i (omega arith) marked
@@ -62,14 +78,17 @@ read_none auto found first holds = record {
 }
 
 -- The next line behind the head line.
-module _ (auto : Bool) (behind : Lines) (i : ℕ) (line : Bytes) (old : Found) (low : i < length behind) (is : line ≡ slice_index_or behind i []) where
-  pub read_next : (new : Found) → ReadSome auto (take i behind) old → TakesText auto line old new → ReadSome auto (take (i + 1) behind) new
+module _ (auto : Bool) (behind : Lines) (i : ℕ) (line : Bytes) (old : Found) (low : i < length behind) (is : line
+    ≡ slice_index_or behind i []) where
+  pub read_next : (new : Found) → ReadSome auto (take i behind) old → TakesText auto line old new
+      → ReadSome auto (take (i + 1) behind) new
   read_next new read takes =
       let longer : take i behind ++ line ∷ [] ≡ take (i + 1) behind =
       ap (λ (l : Bytes). take i behind ++ l ∷ []) is ∙ sym (take_more behind i [] low) in
       subst (λ (ls : Lines). ReadSome auto ls new) longer (takes (take i behind) read)
 
-  pub behind_fail : (number : ℕ) (fail : CertFail) → ReadSome auto (take i behind) old → IsLineFail auto line (number + i) fail → IsBehindFail auto number behind fail
+  pub behind_fail : (number : ℕ) (fail : CertFail) → ReadSome auto (take i behind) old
+      → IsLineFail auto line (number + i) fail → IsBehindFail auto number behind fail
   behind_fail number Head read why = why
   behind_fail number Memory read why = tt
   behind_fail number (Line n) read why = (
@@ -80,7 +99,8 @@ module _ (auto : Bool) (behind : Lines) (i : ℕ) (line : Bytes) (old : Found) (
       bad = λ said says. why.2 said (subst (λ (l : Bytes). Says auto l said) (sym is) says);
       before = λ j lt marked.
           let same : slice_index_or (take i behind) j [] ≡ slice_index_or behind j [] = get_or-take i behind j [] lt in
-          let there : j < length (take i behind) = omega (arith, lt, low, length-take-le i behind (omega (arith, low))) in
+          let there : j < length (take i behind) =
+          omega (arith, lt, low, length-take-le i behind (omega (arith, low))) in
           subst (λ (l : Bytes). (said : CertLine) × Says auto l said) same
           (said_at auto (take i behind) read.said read.texts read.allowed j there (ap is_hash_line same ∙ marked));
     },

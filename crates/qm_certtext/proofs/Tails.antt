@@ -1,5 +1,6 @@
 -- What the bytes from the head line on tell, and those behind it.
-use Rattle.std.proofs.Common.{◌≡◌, ◌+◌, ◌<◌, ◌^◌, ℕ, Bool, [], ◌∷◌, length, drop, get_or, slice_index_or, sym, ◌∙◌, ap, subst, arith, length-drop}
+use Rattle.std.proofs.Common.{◌≡◌, ◌+◌, ◌<◌, ◌^◌, ℕ, Bool, [], ◌∷◌, length, drop, get_or, slice_index_or, sym, ◌∙◌, ap}
+use Rattle.std.proofs.Common.{subst, arith, length-drop}
 use Rattle.std.proofs.lemmas.List.{drop-drop, get_or-drop}
 use Rattle.def_certtext.specs.HeadLine.{head_line}
 use Rattle.def_certtext.specs.Reading.{IsCertFail, IsHead, Made, TellHow}
@@ -16,12 +17,14 @@ module _ (bytes tail : Bytes) (line : ℕ) (is : tail ≡ tail_of line bytes) wh
   head_is : slice_index_or (lines_of tail) 0 [] ≡ slice_index_or (lines_of bytes) line []
   head_is =
       let same : line + 0 ≡ line = omega arith in
-      ap (λ (ls : Lines). get_or ls 0 []) lines_are ∙ (get_or-drop line (lines_of bytes) 0 [] ∙ ap (λ (k : ℕ). get_or (lines_of bytes) k []) same)
+      ap (λ (ls : Lines). get_or ls 0 []) lines_are
+      ∙ (get_or-drop line (lines_of bytes) 0 [] ∙ ap (λ (k : ℕ). get_or (lines_of bytes) k []) same)
 
   behind_is : drop 1 (lines_of tail) ≡ drop (line + 1) (lines_of bytes)
   behind_is = ap (λ (ls : Lines). drop 1 ls) lines_are ∙ drop-drop 1 line (lines_of bytes)
 
-  pub few_lines : line < length (lines_of bytes) → length (lines_of bytes) < 2 ^ 32 → line + length (lines_of tail) < 2 ^ 32
+  pub few_lines : line < length (lines_of bytes) → length (lines_of bytes) < 2 ^ 32 → line + length (lines_of tail)
+      < 2 ^ 32
   few_lines there few = omega (arith, there, few, ap length lines_are, length-drop line (lines_of bytes))
 
   pub tail_tells : (made : Made) → TellHow (slice_index_or (lines_of tail) 0 []) (drop 1 (lines_of tail)) made
@@ -30,15 +33,21 @@ module _ (bytes tail : Bytes) (line : ℕ) (is : tail ≡ tail_of line bytes) wh
       subst (λ (head : Bytes). TellHow head (drop (line + 1) (lines_of bytes)) made) head_is
       (subst (λ (behind : Lines). TellHow (slice_index_or (lines_of tail) 0 []) behind made) behind_is tells)
 
-  pub tail_fails : (fail : CertFail) → IsCertFail (slice_index_or (lines_of tail) 0 []) (line + 2) (drop 1 (lines_of tail)) fail
+  pub tail_fails : (fail : CertFail) → IsCertFail (slice_index_or (lines_of tail) 0 []) (line + 2)
+      (drop 1 (lines_of tail)) fail
       → IsCertFail (slice_index_or (lines_of bytes) line []) (line + 2) (drop (line + 1) (lines_of bytes)) fail
   tail_fails fail why =
       subst (λ (head : Bytes). IsCertFail head (line + 2) (drop (line + 1) (lines_of bytes)) fail) head_is
-      (subst (λ (behind : Lines). IsCertFail (slice_index_or (lines_of tail) 0 []) (line + 2) behind fail) behind_is why)
+      (subst (λ (behind : Lines). IsCertFail (slice_index_or (lines_of tail) 0 []) (line + 2) behind fail) behind_is
+      why)
 
 -- Why the lines behind a head line tell nothing, their text tells nothing.
-pub text_fails : (text line behind : Bytes) (settings : Settings) (auto : Bool) (number : ℕ) (fail : CertFail) → lines_of text ≡ line ∷ lines_of behind → IsHead line settings auto
-    → IsCertFail (head_line settings auto) number (lines_of behind) fail → IsCertFail (slice_index_or (lines_of text) 0 []) number (drop 1 (lines_of text)) fail
+pub text_fails : (text line behind : Bytes) (settings : Settings) (auto : Bool) (number : ℕ) (fail : CertFail)
+    → lines_of text ≡ line ∷ lines_of behind → IsHead line settings auto
+    → IsCertFail (head_line settings auto) number (lines_of behind) fail
+    → IsCertFail (slice_index_or (lines_of text) 0 []) number (drop 1 (lines_of text)) fail
 text_fails text line behind settings auto number fail cut head why =
-    subst (λ (first : Bytes). IsCertFail first number (drop 1 (lines_of text)) fail) (sym (ap (λ (ls : Lines). slice_index_or ls 0 []) cut ∙ head.written))
-    (subst (λ (later : Lines). IsCertFail (head_line settings auto) number later fail) (sym (ap (λ (ls : Lines). drop 1 ls) cut)) why)
+    subst (λ (first : Bytes). IsCertFail first number (drop 1 (lines_of text)) fail)
+    (sym (ap (λ (ls : Lines). slice_index_or ls 0 []) cut ∙ head.written))
+    (subst (λ (later : Lines). IsCertFail (head_line settings auto) number later fail)
+    (sym (ap (λ (ls : Lines). drop 1 ls) cut)) why)

@@ -1,5 +1,7 @@
 -- The lines of a written text, and what they tell.
-use Rattle.std.proofs.Common.{◌≡◌, ◌↔◌, ◌<◌, ◌+◌, ◌^◌, not, ℕ, zero, suc, ℤ, pos, negsuc, Bool, true, false, List, [], ◌∷◌, ◌++◌, codes, length, drop, get_or, slice_index_or, map, filter, ltb, refl, ap, ap₂, sym, ◌∙◌, subst, arith, append_assoc}
+use Rattle.std.proofs.Common.{◌≡◌, ◌↔◌, ◌<◌, ◌+◌, ◌^◌, not, ℕ, zero, suc, ℤ, pos, negsuc, Bool, true, false, List, []}
+use Rattle.std.proofs.Common.{◌∷◌, ◌++◌, codes, length, drop, get_or, slice_index_or, map, filter, ltb, refl, ap, ap₂}
+use Rattle.std.proofs.Common.{sym, ◌∙◌, subst, arith, append_assoc}
 use Rattle.std.specs.Prelude.{decimal, unsigned_abs}
 use Rattle.std.specs.Char.{is_ascii_digit}
 use Rattle.std.specs.List.{flat_map, list_all}
@@ -25,7 +27,8 @@ use Rattle.def_certtext.specs.Settings.{floor_text, scale_text, weight_text, Are
 use Rattle.def_certtext.specs.declared.CertLine.{CertLine}
 use Rattle.def_certtext.specs.declared.CertLine.TheVariants.{Length, Vertex, Set, Floor}
 use Rattle.qm_dec.proofs.Texts.{decimal_digits, digit_other}
-use Rattle.qm_obj.proofs.LawSoup.{canonical_lines, each_both, each_map, face_line, position_line, position_line_is, text_lines, vertex_word}
+use Rattle.qm_obj.proofs.LawSoup.{canonical_lines, each_both, each_map, face_line, position_line, position_line_is}
+use Rattle.qm_obj.proofs.LawSoup.{text_lines, vertex_word}
 use Rattle.qm_obj.proofs.LawText.{decimal_word, is_inside, line_tame, lines_back, tame_inside, IsLine, IsWord}
 use Rattle.qm_obj.proofs.ListLemmas.{passes_at}
 use Rattle.qm_certtext.proofs.Counts.{small_parts}
@@ -40,12 +43,14 @@ digits_inside : (digits : Word) → list_all is_ascii_digit digits ≡ true → 
 digits_inside [] all = refl
 digits_inside (d ∷ ds) all =
     let parts = and_parts (is_ascii_digit d) (list_all is_ascii_digit ds) all in
-    and_from _ _ (and_from _ _ (ap not (digit_other 10 (omega arith) d parts.0)) (ap not (digit_other 13 (omega arith) d parts.0))) (digits_inside ds parts.1)
+    and_from _ _ (and_from _ _ (ap not (digit_other 10 (omega arith) d parts.0))
+    (ap not (digit_other 13 (omega arith) d parts.0))) (digits_inside ds parts.1)
 
 pub number_inside : (n : ℕ) → n < 2 ^ 64 → list_all is_inside (decimal n) ≡ true
 number_inside n low = digits_inside (decimal n) (decimal_digits n low)
 
-pub both_inside : (a b : Word) → list_all is_inside a ≡ true → list_all is_inside b ≡ true → list_all is_inside (a ++ b) ≡ true
+pub both_inside : (a b : Word) → list_all is_inside a ≡ true → list_all is_inside b ≡ true → list_all is_inside (a ++ b)
+    ≡ true
 both_inside a b p q = list_all-append is_inside a b ∙ and_from _ _ p q
 
 signed_inside : (z : ℤ) → unsigned_abs z < 10 ^ 18 → list_all is_inside (signed_decimal z) ≡ true
@@ -57,22 +62,28 @@ line_inside : (auto : Bool) (line : CertLine) → may_stand auto line ≡ true �
 line_inside auto (Length n) may = number_inside n (omega (arith, leb-true n (10 ^ 12) may))
 line_inside auto (Vertex z u) may =
     let parts = small_parts z u may in
-    both_inside (35 ∷ 121 ∷ 32 ∷ signed_decimal z) (32 ∷ decimal u) (signed_inside z parts.0) (number_inside u (omega (arith, parts.1)))
+    both_inside (35 ∷ 121 ∷ 32 ∷ signed_decimal z) (32 ∷ decimal u) (signed_inside z parts.0)
+    (number_inside u (omega (arith, parts.1)))
 line_inside auto (Set z u) may =
     let parts = small_parts z u may in
-    both_inside (35 ∷ 115 ∷ 32 ∷ signed_decimal z) (32 ∷ decimal u) (signed_inside z parts.0) (number_inside u (omega (arith, parts.1)))
+    both_inside (35 ∷ 115 ∷ 32 ∷ signed_decimal z) (32 ∷ decimal u) (signed_inside z parts.0)
+    (number_inside u (omega (arith, parts.1)))
 line_inside auto (Floor f) may = number_inside f (omega (arith, floor_low auto f may))
 
-pub lines_inside : (auto : Bool) (said : List CertLine) → list_all (may_stand auto) said ≡ true → (k : ℕ) → k < length (map line_text said)
+pub lines_inside : (auto : Bool) (said : List CertLine) → list_all (may_stand auto) said ≡ true → (k : ℕ)
+    → k < length (map line_text said)
     → list_all is_inside (get_or (map line_text said) k []) ≡ true
 lines_inside auto [] all k low = absurd (omega arith)
-lines_inside auto (line ∷ said) all zero low = line_inside auto line (and_parts (may_stand auto line) (list_all (may_stand auto) said) all).0
-lines_inside auto (line ∷ said) all (suc k) low = lines_inside auto said (and_parts (may_stand auto line) (list_all (may_stand auto) said) all).1 k (omega arith)
+lines_inside auto (line ∷ said) all zero low =
+    line_inside auto line (and_parts (may_stand auto line) (list_all (may_stand auto) said) all).0
+lines_inside auto (line ∷ said) all (suc k) low =
+    lines_inside auto said (and_parts (may_stand auto line) (list_all (may_stand auto) said) all).1 k (omega arith)
 
 -- So is a line that ends with settings, as a head line does.
 abbrev pub settings_line : (front : Word) (settings : Settings) (auto : Bool) → Word
 settings_line front settings auto =
-    front ++ scale_text settings ++ codes " floor " ++ floor_text settings.floor auto ++ codes " weight " ++ weight_text settings.weight
+    front ++ scale_text settings ++ codes " floor " ++ floor_text settings.floor auto ++ codes " weight "
+    ++ weight_text settings.weight
 
 floor_inside : (floor : ℕ) (auto : Bool) → IsFloor floor auto → list_all is_inside (floor_text floor auto) ≡ true
 floor_inside floor true may = refl
@@ -82,40 +93,49 @@ weight_inside : (weight : Weight) → list_all is_inside (weight_text weight) �
 weight_inside Plain = refl
 weight_inside ByLength = refl
 
-pub settings_inside : (front : Word) (settings : Settings) (auto : Bool) → list_all is_inside front ≡ true → AreInRange settings auto
+pub settings_inside : (front : Word) (settings : Settings) (auto : Bool) → list_all is_inside front ≡ true
+    → AreInRange settings auto
     → list_all is_inside (settings_line front settings auto) ≡ true
 settings_inside front settings auto inside range =
     let scale : Word = front ++ scale_text settings in
     let floor : Word = scale ++ codes " floor " ++ floor_text settings.floor auto in
     let parts : list_all is_inside scale ≡ true =
     both_inside front (scale_text settings) inside
-    (both_inside (decimal settings.p) (47 ∷ decimal settings.q) (number_inside settings.p (omega (arith, range.p_high))) (number_inside settings.q (omega (arith, range.q_high)))) in
+    (both_inside (decimal settings.p) (47 ∷ decimal settings.q) (number_inside settings.p (omega (arith, range.p_high)))
+    (number_inside settings.q (omega (arith, range.q_high)))) in
     both_inside (floor ++ codes " weight ") (weight_text settings.weight)
     (both_inside floor (codes " weight ")
-    (both_inside (scale ++ codes " floor ") (floor_text settings.floor auto) (both_inside scale (codes " floor ") parts refl) (floor_inside settings.floor auto range.floor)) refl)
+    (both_inside (scale ++ codes " floor ") (floor_text settings.floor auto)
+    (both_inside scale (codes " floor ") parts refl) (floor_inside settings.floor auto range.floor)) refl)
     (weight_inside settings.weight)
 
-pub head_inside : (settings : Settings) (auto : Bool) → AreInRange settings auto → list_all is_inside (head_line settings auto) ≡ true
+pub head_inside : (settings : Settings) (auto : Bool) → AreInRange settings auto
+    → list_all is_inside (head_line settings auto) ≡ true
 head_inside settings auto range = settings_inside (codes "#quadq 1 remesh scale ") settings auto refl range
 
 -- The lines of a mesh.
-face_words_are : (face : List ℕ) → list_all (λ v. ltb v (2 ^ 32)) face ≡ true → (k : ℕ) → k < length (map vertex_word face) → IsWord (get_or (map vertex_word face) k [])
+face_words_are : (face : List ℕ) → list_all (λ v. ltb v (2 ^ 32)) face ≡ true → (k : ℕ)
+    → k < length (map vertex_word face) → IsWord (get_or (map vertex_word face) k [])
 face_words_are face low = each_map IsWord vertex_word face 0 [] (λ k l.
     let small : get_or face k 0 < 2 ^ 32 = ltb-true _ _ (passes_at (λ v. ltb v (2 ^ 32)) face k 0 low l) in
     decimal_word (get_or face k 0 + 1) (omega arith))
 
-face_line_is : (face : List ℕ) → is_quad face ≡ true → list_all (λ v. ltb v (2 ^ 32)) face ≡ true → IsLine (face_line face)
+face_line_is : (face : List ℕ) → is_quad face ≡ true → list_all (λ v. ltb v (2 ^ 32)) face ≡ true
+    → IsLine (face_line face)
 face_line_is face quad low =
     let four : length face ≡ 4 = eqb-true _ _ quad in
     line_tame 102 (map vertex_word face) refl (omega (arith, length-map face vertex_word)) (face_words_are face low)
 
-mesh_inside : (soup : FaceSet) → IsPrintable soup → (k : ℕ) → k < length (canonical_lines soup) → list_all is_inside (get_or (canonical_lines soup) k []) ≡ true
+mesh_inside : (soup : FaceSet) → IsPrintable soup → (k : ℕ) → k < length (canonical_lines soup)
+    → list_all is_inside (get_or (canonical_lines soup) k []) ≡ true
 mesh_inside soup able =
     each_both (λ l. list_all is_inside l ≡ true) (map position_line soup.pos) (map face_line soup.faces) []
     (each_map (λ l. list_all is_inside l ≡ true) position_line soup.pos [] [] (λ k l.
-    tame_inside (position_line (get_or soup.pos k [])) (position_line_is (get_or soup.pos k []) (passes_at is_position soup.pos k [] able.positions l)).tame))
+    tame_inside (position_line (get_or soup.pos k []))
+    (position_line_is (get_or soup.pos k []) (passes_at is_position soup.pos k [] able.positions l)).tame))
     (each_map (λ l. list_all is_inside l ≡ true) face_line soup.faces [] [] (λ k l.
-    tame_inside (face_line (get_or soup.faces k [])) (face_line_is (get_or soup.faces k []) (passes_at is_quad soup.faces k [] able.quads l)
+    tame_inside (face_line (get_or soup.faces k []))
+    (face_line_is (get_or soup.faces k []) (passes_at is_quad soup.faces k [] able.quads l)
     (passes_at (λ face. list_all (λ v. ltb v (2 ^ 32)) face) soup.faces k [] able.corners l)).tame))
 
 no_marks_in : (xs : List (List ℤ)) → filter is_hash_line (map position_line xs) ≡ []
@@ -134,70 +154,88 @@ text_is : (settings : Settings) (auto : Bool) (soup : FaceSet) (said : List Cert
     → written_text settings auto soup said ≡ flat_map (λ l. l ++ 10 ∷ []) (whole settings auto soup said)
 text_is settings auto soup said =
     let mesh : canonical_text soup ≡ flat_map (λ l. l ++ 10 ∷ []) (canonical_lines soup) = text_lines soup in
-    let cert : text_of said ≡ flat_map (λ l. l ++ 10 ∷ []) (map line_text said) = sym (flat_map-map (λ l. l ++ 10 ∷ []) line_text said) in
+    let cert : text_of said ≡ flat_map (λ l. l ++ 10 ∷ []) (map line_text said) =
+    sym (flat_map-map (λ l. l ++ 10 ∷ []) line_text said) in
     ap₂ (λ (m c : Word). head_line settings auto ++ 10 ∷ (m ++ c)) mesh cert
-    ∙ ap (λ (t : Word). head_line settings auto ++ 10 ∷ t) (sym (flat_map-append (λ l. l ++ 10 ∷ []) (canonical_lines soup) (map line_text said)))
+    ∙ ap (λ (t : Word). head_line settings auto ++ 10 ∷ t)
+    (sym (flat_map-append (λ l. l ++ 10 ∷ []) (canonical_lines soup) (map line_text said)))
     ∙ sym (append_assoc (head_line settings auto) (10 ∷ []) _)
 
-lines_are : (settings : Settings) (auto : Bool) (soup : FaceSet) (said : List CertLine) → AreInRange settings auto → IsPrintable soup → list_all (may_stand auto) said ≡ true
+lines_are : (settings : Settings) (auto : Bool) (soup : FaceSet) (said : List CertLine) → AreInRange settings auto
+    → IsPrintable soup → list_all (may_stand auto) said ≡ true
     → lines_of (written_text settings auto soup said) ≡ whole settings auto soup said
 lines_are settings auto soup said range able allowed =
     ap lines_of (text_is settings auto soup said)
     ∙ lines_back (whole settings auto soup said) (by_place)
   where
-    by_place : (k : ℕ) → k < length (whole settings auto soup said) → list_all is_inside (get_or (whole settings auto soup said) k []) ≡ true
+    by_place : (k : ℕ) → k < length (whole settings auto soup said)
+        → list_all is_inside (get_or (whole settings auto soup said) k []) ≡ true
     by_place zero low = head_inside settings auto range
     by_place (suc k) low =
-        each_both (λ l. list_all is_inside l ≡ true) (canonical_lines soup) (map line_text said) [] (mesh_inside soup able) (lines_inside auto said allowed) k (omega arith)
+        each_both (λ l. list_all is_inside l ≡ true) (canonical_lines soup) (map line_text said) []
+        (mesh_inside soup able) (lines_inside auto said allowed) k (omega arith)
 
 -- Those that are marked.
-marked_are : (soup : FaceSet) (said : List CertLine) → filter is_hash_line (canonical_lines soup ++ map line_text said) ≡ map line_text said
+marked_are : (soup : FaceSet) (said : List CertLine) → filter is_hash_line (canonical_lines soup ++ map line_text said)
+    ≡ map line_text said
 marked_are soup said =
     filter_append is_hash_line (canonical_lines soup) (map line_text said)
-    ∙ ap₂ ◌++◌ (filter_append is_hash_line (map position_line soup.pos) (map face_line soup.faces) ∙ ap₂ ◌++◌ (no_marks_in soup.pos) (no_marks_at soup.faces)) (all_marked said)
+    ∙ ap₂ ◌++◌ (filter_append is_hash_line (map position_line soup.pos) (map face_line soup.faces)
+    ∙ ap₂ ◌++◌ (no_marks_in soup.pos) (no_marks_at soup.faces)) (all_marked said)
 
 -- One line behind a prefix is of one settings.
-pub same_asked : (prefix line : Word) (s t : Settings) (a b : Bool) → AreInRange s a → line ≡ asked_line prefix s a → AreInRange t b → line ≡ asked_line prefix t b
+pub same_asked : (prefix line : Word) (s t : Settings) (a b : Bool) → AreInRange s a → line ≡ asked_line prefix s a
+    → AreInRange t b → line ≡ asked_line prefix t b
     → (s ≡ t) × (a ≡ b)
 same_asked prefix line s t a b range is other also =
     let cut = asked_cut prefix line s a range is in
-    same_settings _ _ _ s t a b (asked_words prefix line _ _ _ s a cut range is) (asked_words prefix line _ _ _ t b cut other also)
+    same_settings _ _ _ s t a b (asked_words prefix line _ _ _ s a cut range is)
+    (asked_words prefix line _ _ _ t b cut other also)
 
 -- So is one head line.
 pub same_head : (line : Word) (s t : Settings) (a b : Bool) → IsHead line s a → IsHead line t b → (s ≡ t) × (a ≡ b)
-same_head line s t a b one two = same_asked (codes "#quadq 1 remesh scale ") line s t a b one.in_range one.written two.in_range two.written
+same_head line s t a b one two = same_asked (codes "#quadq 1 remesh scale ") line s t a b one.in_range one.written
+    two.in_range two.written
 
 -- A text tells what it was made of, and nothing else.
-pub tells : (made : Made) (soup : FaceSet) (said : List CertLine) → AreInRange made.settings made.auto → IsPrintable soup → list_all (may_stand made.auto) said ≡ true
+pub tells : (made : Made) (soup : FaceSet) (said : List CertLine) → AreInRange made.settings made.auto
+    → IsPrintable soup → list_all (may_stand made.auto) said ≡ true
     → made.certificates ≡ certificates_in said → TellsOnly (written_text made.settings made.auto soup said) made
 tells made soup said range able allowed certificates other =
-    subst (λ (ls : Lines). TellHow (slice_index_or ls 0 []) (drop 1 ls) other ↔ (other ≡ made)) (sym (lines_are made.settings made.auto soup said range able allowed)) (only, is)
+    subst (λ (ls : Lines). TellHow (slice_index_or ls 0 []) (drop 1 ls) other ↔ (other ≡ made))
+    (sym (lines_are made.settings made.auto soup said range able allowed)) (only, is)
   where
     head : IsHead (head_line made.settings made.auto) made.settings made.auto
     head = record { written = refl; in_range = range }
 
     only : TellHow (head_line made.settings made.auto) (canonical_lines soup ++ map line_text said) other → other ≡ made
     only tell =
-        let same = same_head (head_line made.settings made.auto) made.settings other.settings made.auto other.auto head tell.settings in
+        let same = same_head (head_line made.settings made.auto) made.settings other.settings made.auto other.auto head
+        tell.settings in
         let lines : said ≡ tell.said =
-        one_list made.auto said tell.said allowed (subst (λ (b : Bool). list_all (may_stand b) tell.said ≡ true) (sym same.1) tell.allowed)
+        one_list made.auto said tell.said allowed (subst (λ (b : Bool). list_all (may_stand b) tell.said ≡ true)
+        (sym same.1) tell.allowed)
         (sym (marked_are soup said) ∙ tell.texts) in
-        let both : other.certificates ≡ made.certificates = tell.certificates ∙ ap certificates_in (sym lines) ∙ sym certificates in
+        let both : other.certificates ≡ made.certificates = tell.certificates ∙ ap certificates_in (sym lines)
+        ∙ sym certificates in
         λ i. record { settings = sym same.0 i; auto = sym same.1 i; certificates = both i }
 
     is : other ≡ made → TellHow (head_line made.settings made.auto) (canonical_lines soup ++ map line_text said) other
-    is same = subst (TellHow (head_line made.settings made.auto) (canonical_lines soup ++ map line_text said)) (sym same) (record {
-      settings = head;
-      said = said;
-      texts = marked_are soup said;
-      allowed = allowed;
-      certificates = certificates;
-    })
+    is same = subst (TellHow (head_line made.settings made.auto) (canonical_lines soup ++ map line_text said))
+        (sym same) (record {
+          settings = head;
+          said = said;
+          texts = marked_are soup said;
+          allowed = allowed;
+          certificates = certificates;
+        })
 
 pub written_law : WrittenLaw
 written_law settings soup cert range able writable =
-    tells (record { settings = settings; auto = false; certificates = alone cert }) soup (said_by cert) range able writable.allowed (one_cert cert writable)
+    tells (record { settings = settings; auto = false; certificates = alone cert }) soup (said_by cert) range able
+    writable.allowed (one_cert cert writable)
 
 pub chosen_law : ChosenLaw
 chosen_law settings soup certificates range able writable =
-    tells (chosen settings certificates) soup (chosen_lines certificates) range able (chosen_allowed certificates writable) (chosen_certs certificates writable)
+    tells (chosen settings certificates) soup (chosen_lines certificates) range able
+    (chosen_allowed certificates writable) (chosen_certs certificates writable)

@@ -1,4 +1,5 @@
--- A text that is shown to finish a task does so over the layout by which it is judged, and tells its certificates alone.
+-- A text that is shown to finish a task does so over the layout by which it is judged, and tells its certificates
+-- alone.
 use Rattle.std.proofs.Common.{◌≡◌, ◌↔◌, true, drop, ap, sym, ◌∙◌, subst}
 use Rattle.std.specs.List.{list_all}
 use Rattle.def_certtext.specs.CertLines.{used, Certificates}
@@ -51,8 +52,10 @@ module _ (judged : Judged) (able : IsJudgeable judged) where
 
   module _ (shown : IsShown judged.task judged.soup (text_in judged)) where
     -- The lines behind the head line are those of the text that was made.
-    behind_is : drop 1 (lines_of (finished_text judged.task judged.soup shown.finished.plan shown.finished.certificates)) ≡ behind_in judged
-    behind_is = ap (λ (text : Bytes). drop 1 (lines_of text)) (sym shown.finished.written) ∙ tail_behind judged.line judged.bytes
+    behind_is : drop 1 (lines_of (finished_text judged.task judged.soup shown.finished.plan
+        shown.finished.certificates)) ≡ behind_in judged
+    behind_is = ap (λ (text : Bytes). drop 1 (lines_of text)) (sym shown.finished.written)
+        ∙ tail_behind judged.line judged.bytes
 
     own : IsAligned judged shown.finished.plan
     own = record {
@@ -67,9 +70,11 @@ module _ (judged : Judged) (able : IsJudgeable judged) where
           behind_is
           (task_told judged.task judged.soup shown.finished.plan shown.finished.certificates able.range able.solid
           (cut_layout judged.soup judged.task.marks shown.finished.plan able.solid able.full shown.finished.cut)
-          shown.finished.lengths shown.finished.coarse able.inside (able.silent shown.finished.plan (lengths_in (used shown.finished.certificates).x)) made);
+          shown.finished.lengths shown.finished.coarse able.inside
+          (able.silent shown.finished.plan (lengths_in (used shown.finished.certificates).x)) made);
     }
 
     pub aligned : IsAligned judged judged.plan
     aligned = subst (IsAligned judged)
-        (one_layout_law judged.soup.faces judged.task.marks able.solid.mesh.manifold able.full shown.finished.plan judged.plan shown.finished.cut able.laid) own
+        (one_layout_law judged.soup.faces judged.task.marks able.solid.mesh.manifold able.full shown.finished.plan
+        judged.plan shown.finished.cut able.laid) own

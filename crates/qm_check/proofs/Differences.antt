@@ -1,5 +1,6 @@
 -- Where a text and the one that is made differ.
-use Rattle.std.proofs.Common.{◌≡◌, ◌≢◌, ◌≤◌, ◌+◌, ◌-◌, ℕ, suc, [], ◌∷◌, ◌++◌, length, take, refl, ap, sym, ◌∙◌, subst, arith, length-append}
+use Rattle.std.proofs.Common.{◌≡◌, ◌≢◌, ◌≤◌, ◌+◌, ◌-◌, ℕ, suc, [], ◌∷◌, ◌++◌, length, take, refl, ap, sym, ◌∙◌, subst}
+use Rattle.std.proofs.Common.{arith, length-append}
 use Rattle.def_io.specs.Bytes.{Bytes}
 use Rattle.def_output.specs.Compared.{Compared, Differs, IsAlike, LacksFirst}
 use Rattle.def_run.specs.Judging.{DifferFrom}
@@ -14,9 +15,11 @@ one_more : (prefix more rest : Bytes) (byte : ℕ) → LacksFirst byte rest
 one_more [] more [] byte lacks same = absurd cc
 one_more [] more (other ∷ rest) byte lacks same = lacks (let first : other ≡ byte = cc in sym first)
 one_more (x ∷ prefix) more rest byte lacks same =
-    one_more prefix more rest byte lacks (let later : take (suc (length prefix)) (prefix ++ rest) ≡ take (suc (length prefix)) (prefix ++ byte ∷ more) = cc in later)
+    one_more prefix more rest byte lacks (let later : take (suc (length prefix)) (prefix ++ rest)
+    ≡ take (suc (length prefix)) (prefix ++ byte ∷ more) = cc in later)
 
-differ_behind : (prefix more rest : Bytes) (byte : ℕ) → LacksFirst byte rest → DifferFrom (prefix ++ rest) (prefix ++ byte ∷ more) (suc (length prefix))
+differ_behind : (prefix more rest : Bytes) (byte : ℕ) → LacksFirst byte rest
+    → DifferFrom (prefix ++ rest) (prefix ++ byte ∷ more) (suc (length prefix))
 differ_behind prefix more rest byte lacks = record {
   counted = omega arith;
   before = (let back : suc (length prefix) - 1 ≡ length prefix = omega arith in
@@ -26,7 +29,8 @@ differ_behind prefix more rest byte lacks = record {
 }
 
 -- The bytes stop being alike.
-pub stopped_differ : (given text : Bytes) (before now : Compared) → before ≡ record { at = 0; rest = given } → Differs before now text
+pub stopped_differ : (given text : Bytes) (before now : Compared) → before ≡ record { at = 0; rest = given }
+    → Differs before now text
     → DifferFrom given text (now.at + 1)
 stopped_differ given text before now fresh is =
     subst (DifferFrom given text) at
@@ -40,7 +44,8 @@ stopped_differ given text before now fresh is =
     at : suc (length is.prefix) ≡ now.at + 1
     at = omega (arith, is.counted, ap (λ (c : Compared). c.at) fresh)
 
-pub stopped_within : (given text : Bytes) (before now : Compared) → before ≡ record { at = 0; rest = given } → Differs before now text → now.at ≤ length given
+pub stopped_within : (given text : Bytes) (before now : Compared) → before ≡ record { at = 0; rest = given }
+    → Differs before now text → now.at ≤ length given
 stopped_within given text before now fresh is =
     omega (
       arith,
@@ -54,13 +59,15 @@ stopped_within given text before now fresh is =
 longer : (text rest : Bytes) → rest ≢ [] → take (suc (length text)) (text ++ rest) ≡ take (suc (length text)) text → ⊥
 longer [] [] some same = some refl
 longer [] (x ∷ rest) some same = absurd cc
-longer (x ∷ text) rest some same = longer text rest some (let later : take (suc (length text)) (text ++ rest) ≡ take (suc (length text)) text = cc in later)
+longer (x ∷ text) rest some same = longer text rest some (let later : take (suc (length text)) (text ++ rest)
+    ≡ take (suc (length text)) text = cc in later)
 
 take_whole : (text : Bytes) → take (length text) text ≡ text
 take_whole [] = refl
 take_whole (x ∷ text) = ap (λ (xs : Bytes). x ∷ xs) (take_whole text)
 
-pub longer_differ : (given text : Bytes) (before now : Compared) → before ≡ record { at = 0; rest = given } → IsAlike before now text
+pub longer_differ : (given text : Bytes) (before now : Compared) → before ≡ record { at = 0; rest = given }
+    → IsAlike before now text
     → now.rest ≢ [] → DifferFrom given text (now.at + 1)
 longer_differ given text before now fresh is some =
     subst (DifferFrom given text) at

@@ -8,7 +8,8 @@ use Rattle.qm_check.specs.Ready.{IsNoOld}
 use Rattle.qm_check.specs.Refused.{of_obj}
 
 -- A text that has no soup is refused.
-pub old_fails : (text : Bytes) (fail : ObjFail) → (fail ≢ obj.Memory → soup_in text ≡ Err fail) → IsNoOld text (of_obj fail)
+pub old_fails : (text : Bytes) (fail : ObjFail) → (fail ≢ obj.Memory → soup_in text ≡ Err fail)
+    → IsNoOld text (of_obj fail)
 old_fails text obj.Memory says = tt
 old_fails text (obj.Syntax l) says = let other : obj.Syntax l ≢ obj.Memory = λ e. cc in (other, says other)
 old_fails text (obj.NotQuad l n) says = let other : obj.NotQuad l n ≢ obj.Memory = λ e. cc in (other, says other)

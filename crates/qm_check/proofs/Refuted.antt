@@ -1,5 +1,6 @@
 -- What is told of a text that is refused shows that it finishes no task.
-use Rattle.std.proofs.Common.{◌≡◌, ◌⊎◌, ◌+◌, ℕ, Bool, true, false, [], take, inl, inr, refl, ap, sym, ◌∙◌, subst, arith, pos}
+use Rattle.std.proofs.Common.{◌≡◌, ◌⊎◌, ◌+◌, ℕ, Bool, true, false, [], take, inl, inr, refl, ap, sym, ◌∙◌, subst, arith}
+use Rattle.std.proofs.Common.{pos}
 use Rattle.std.proofs.lemmas.Bool.{false≢true}
 use Rattle.std.specs.Prelude.{slice_index_or}
 use Rattle.def_certtext.specs.CertLines.{alone, raised, used, Certificates, Lists}
@@ -22,7 +23,8 @@ use Rattle.def_remesh.specs.Certified.{AreKept, certificate_of, IsCertified, IsS
 use Rattle.def_remesh.specs.Remeshed.{AreCoarse, finished_text, with_floor}
 use Rattle.def_remesh.specs.Tasks.{old_lengths, Task, Wish}
 use Rattle.def_remesh.specs.TextLaws.{IsSolid, made_by}
-use Rattle.def_run.specs.Judging.{behind_in, first_checked, text_in, IsLoneDoubled, IsThirdWrong, IsWrong, IsWrongText, Judged, TellsMade, TellsOtherText}
+use Rattle.def_run.specs.Judging.{behind_in, first_checked, text_in, IsLoneDoubled, IsThirdWrong, IsWrong, IsWrongText}
+use Rattle.def_run.specs.Judging.{Judged, TellsMade, TellsOtherText}
 use Rattle.def_run.specs.declared.answer.Why.{Why}
 use Rattle.def_run.specs.declared.answer.Why.TheVariants as why
 use Rattle.def_text.specs.FaceSet.{FaceSet}
@@ -37,7 +39,8 @@ use Rattle.plan_laws.proofs.MeshLayouts.{laid_of}
 use Rattle.qm_check.proofs.Aligned.{aligned, judged_layout, IsAligned, IsJudgeable}
 
 -- Lines tell the certificates that were kept.
-told_kept : (wish : Wish) (plan : Plan) (settings : Settings) (auto : Bool) (certificates : Certificates) → AreKept wish plan settings auto certificates
+told_kept : (wish : Wish) (plan : Plan) (settings : Settings) (auto : Bool) (certificates : Certificates)
+    → AreKept wish plan settings auto certificates
     → (made_by settings auto certificates).certificates ≡ certificates
 told_kept wish plan settings true certificates kept = refl
 told_kept wish plan settings false (alone cert) kept = refl
@@ -45,52 +48,68 @@ told_kept wish plan settings false (raised first cert) kept = absurd (false≢tr
 
 module _ (wish : Wish) (plan : Plan) (settings : Settings) (auto : Bool) where
   -- The certificate that is checked first.
-  kept_first : (certificates : Certificates) → AreKept wish plan settings auto certificates → IsCertified wish plan settings (first_checked certificates)
+  kept_first : (certificates : Certificates) → AreKept wish plan settings auto certificates
+      → IsCertified wish plan settings (first_checked certificates)
   kept_first (alone cert) kept = kept
   kept_first (raised first cert) kept = kept.1
 
-  kept_coarse : (certificates : Certificates) → AreKept wish plan settings auto certificates → AreCoarse plan (used certificates).x
+  kept_coarse : (certificates : Certificates) → AreKept wish plan settings auto certificates
+      → AreCoarse plan (used certificates).x
       → AreCoarse plan (first_checked certificates).x
   kept_coarse (alone cert) kept coarse = coarse
   kept_coarse (raised first cert) kept coarse = kept.2
 
   -- It is not used alone where its lengths double an edge.
-  used_alone : (certificates other : Certificates) → AreKept wish plan settings auto certificates → other ≡ alone (first_checked certificates)
+  used_alone : (certificates other : Certificates) → AreKept wish plan settings auto certificates
+      → other ≡ alone (first_checked certificates)
       → IsUndoubled (layout_of plan) (lengths_in (used other).x) → other ≡ certificates
   used_alone (alone cert) other kept is undoubled = is
   used_alone (raised first cert) other kept is undoubled =
-      absurd (subst (λ (c : Certificates). IsUndoubled (layout_of plan) (lengths_in (used c).x)) is undoubled kept.3.0 kept.3.1 kept.3.2)
+      absurd (subst (λ (c : Certificates). IsUndoubled (layout_of plan) (lengths_in (used c).x)) is undoubled kept.3.0
+      kept.3.1 kept.3.2)
 
 module _ (wish : Wish) (plan : Plan) (mesh : IsSomeLayout plan) where
   -- A layout has one network.
-  pub one_net : (settings : Settings) (net other : Network) → IsNetOf (layout_of plan) (old_lengths plan) (wish plan) settings net
+  pub one_net : (settings : Settings) (net other : Network)
+      → IsNetOf (layout_of plan) (old_lengths plan) (wish plan) settings net
       → IsNetOf (layout_of plan) (old_lengths plan) (wish plan) settings other → net ≡ other
-  one_net settings net other is also = one_net_law (layout_of plan) (old_lengths plan) (wish plan) settings (laid_of plan mesh) net other is also
+  one_net settings net other is also = one_net_law (layout_of plan) (old_lengths plan) (wish plan) settings
+      (laid_of plan mesh) net other is also
 
   -- A certified list is not refused.
-  not_wrong : (settings : Settings) (cert : Lists) (why : Why) → IsCertified wish plan settings cert → AreCoarse plan cert.x → IsWrong wish plan settings cert why → ⊥
+  not_wrong : (settings : Settings) (cert : Lists) (why : Why) → IsCertified wish plan settings cert
+      → AreCoarse plan cert.x → IsWrong wish plan settings cert why → ⊥
   not_wrong settings cert (why.Verdict verdict) is coarse wrong =
-      let same : wrong.net ≡ is.lengths.net = one_net settings wrong.net is.lengths.net wrong.of_layout is.lengths.of_layout in
+      let same : wrong.net ≡ is.lengths.net =
+      one_net settings wrong.net is.lengths.net wrong.of_layout is.lengths.of_layout in
       wrong.refuted (pos (deviation is.lengths.net (entries cert.x)))
-      (wrong.told ∙ ap (λ (n : Network). cert_verdict n (certificate_of cert)) same ∙ accepted_yes is.lengths.net (certificate_of cert) is.accepted)
-  not_wrong settings cert (why.TooFine faces) is coarse (certified, fine) = absurd (omega (arith, fine.0, fine.1, coarse))
+      (wrong.told ∙ ap (λ (n : Network). cert_verdict n (certificate_of cert)) same
+      ∙ accepted_yes is.lengths.net (certificate_of cert) is.accepted)
+  not_wrong settings cert (why.TooFine faces) is coarse (certified, fine) =
+      absurd (omega (arith, fine.0, fine.1, coarse))
   not_wrong settings cert _ is coarse wrong = wrong
 
   -- A network that is too tangled has no certified list.
-  not_tangled : (settings : Settings) (auto : Bool) (count : ℕ) (certificates : Certificates) → AreKept wish plan settings auto certificates
+  not_tangled : (settings : Settings) (auto : Bool) (count : ℕ) (certificates : Certificates)
+      → AreKept wish plan settings auto certificates
       → IsTangledAt wish plan settings count → ⊥
   not_tangled settings auto count certificates kept tangled =
       let is = kept_first wish plan settings auto certificates kept in
-      let same : tangled.net ≡ is.lengths.net = one_net settings tangled.net is.lengths.net tangled.is is.lengths.of_layout in
+      let same : tangled.net ≡ is.lengths.net =
+      one_net settings tangled.net is.lengths.net tangled.is is.lengths.of_layout in
       absurd (omega (arith, tangled.high, tangled.told, ap tangle_number same, is.lengths.untangled))
 
 -- A task that is shown has a network that is not too tangled.
-pub shown_untangled : (task : Task) (soup : FaceSet) (text : Bytes) (plan : Plan) → IsSolid soup → IsFullCut soup.faces task.marks
-    → IsCutLayout soup.faces task.marks plan → IsShown task soup text → (count : ℕ) → IsTangledAt task.wish plan task.settings count → ⊥
+pub shown_untangled : (task : Task) (soup : FaceSet) (text : Bytes) (plan : Plan) → IsSolid soup
+    → IsFullCut soup.faces task.marks
+    → IsCutLayout soup.faces task.marks plan → IsShown task soup text → (count : ℕ)
+    → IsTangledAt task.wish plan task.settings count → ⊥
 shown_untangled task soup text plan solid full laid shown count tangled =
-    not_tangled task.wish plan (cut_layout soup task.marks plan solid full laid) task.settings task.auto count shown.finished.certificates
+    not_tangled task.wish plan (cut_layout soup task.marks plan solid full laid) task.settings task.auto count
+    shown.finished.certificates
     (subst (λ (p : Plan). AreKept task.wish p task.settings task.auto shown.finished.certificates)
-    (one_layout_law soup.faces task.marks solid.mesh.manifold full shown.finished.plan plan shown.finished.cut laid) shown.certified) tangled
+    (one_layout_law soup.faces task.marks solid.mesh.manifold full shown.finished.plan plan shown.finished.cut laid)
+    shown.certified) tangled
 
 module _ (judged : Judged) (able : IsJudgeable judged) (shown : IsShown judged.task judged.soup (text_in judged)) where
   is : IsAligned judged judged.plan
@@ -109,18 +128,24 @@ module _ (judged : Judged) (able : IsJudgeable judged) (shown : IsShown judged.t
     -- So none of them is wrong, whichever they are called.
     module _ (certificates : Certificates) (there : made.certificates ≡ certificates) where
       kept : AreKept judged.task.wish judged.plan judged.task.settings judged.task.auto certificates
-      kept = subst (AreKept judged.task.wish judged.plan judged.task.settings judged.task.auto) (sym same ∙ there) is.kept
+      kept = subst (AreKept judged.task.wish judged.plan judged.task.settings judged.task.auto) (sym same ∙ there)
+          is.kept
 
       coarse : AreCoarse judged.plan (used certificates).x
       coarse = subst (λ (c : Certificates). AreCoarse judged.plan (used c).x) (sym same ∙ there) is.coarse
 
       undoubled : IsUndoubled (layout_of judged.plan) (lengths_in (used certificates).x)
-      undoubled = subst (λ (c : Certificates). IsUndoubled (layout_of judged.plan) (lengths_in (used c).x)) (sym same ∙ there) is.undoubled
+      undoubled = subst (λ (c : Certificates). IsUndoubled (layout_of judged.plan) (lengths_in (used c).x)) (sym same
+          ∙ there) is.undoubled
 
-    first_fine : (why : Why) → IsWrong judged.task.wish judged.plan judged.task.settings (first_checked made.certificates) why → ⊥
-    first_fine why = not_wrong judged.task.wish judged.plan (judged_layout judged able) judged.task.settings (first_checked made.certificates) why
-        (kept_first judged.task.wish judged.plan judged.task.settings judged.task.auto made.certificates (kept made.certificates refl))
-        (kept_coarse judged.task.wish judged.plan judged.task.settings judged.task.auto made.certificates (kept made.certificates refl)
+    first_fine : (why : Why) → IsWrong judged.task.wish judged.plan judged.task.settings
+        (first_checked made.certificates) why → ⊥
+    first_fine why = not_wrong judged.task.wish judged.plan (judged_layout judged able) judged.task.settings
+        (first_checked made.certificates) why
+        (kept_first judged.task.wish judged.plan judged.task.settings judged.task.auto made.certificates
+        (kept made.certificates refl))
+        (kept_coarse judged.task.wish judged.plan judged.task.settings judged.task.auto made.certificates
+        (kept made.certificates refl)
         (coarse made.certificates refl))
 
     lone_fine : (why : Why) → IsLoneDoubled judged.task.wish judged.plan judged.task.settings made why → ⊥
@@ -128,17 +153,22 @@ module _ (judged : Judged) (able : IsJudgeable judged) (shown : IsShown judged.t
     lone_fine _ lone = lone
 
     third_fine : (why : Why) → IsThirdWrong judged.task.wish judged.plan judged.task.settings made why → ⊥
-    third_fine why third = not_wrong judged.task.wish judged.plan (judged_layout judged able) (with_floor judged.task.settings 3) third.cert why
-        (kept (raised third.first third.cert) third.there).4 (coarse (raised third.first third.cert) third.there) third.wrong
+    third_fine why third = not_wrong judged.task.wish judged.plan (judged_layout judged able)
+        (with_floor judged.task.settings 3) third.cert why
+        (kept (raised third.first third.cert) third.there).4 (coarse (raised third.first third.cert) third.there)
+        third.wrong
 
     -- The certificates that are compared with are those too, and their text is the one that is given.
     other_fine : (why : Why) → TellsOtherText judged made why → ⊥
     other_fine (why.Byte at) other = other.differ.there
-        (ap (take at) (is.written ∙ ap (finished_text judged.task judged.soup judged.plan) (sym same ∙ sym (by_case other.chosen))))
+        (ap (take at) (is.written ∙ ap (finished_text judged.task judged.soup judged.plan) (sym same
+        ∙ sym (by_case other.chosen))))
       where
-        by_case : (other.certificates ≡ alone (first_checked made.certificates)) ⊎ (other.certificates ≡ made.certificates)
+        by_case : (other.certificates ≡ alone (first_checked made.certificates))
+            ⊎ (other.certificates ≡ made.certificates)
             → other.certificates ≡ made.certificates
-        by_case (inl first) = used_alone judged.task.wish judged.plan judged.task.settings judged.task.auto made.certificates other.certificates
+        by_case (inl first) = used_alone judged.task.wish judged.plan judged.task.settings judged.task.auto
+            made.certificates other.certificates
             (kept made.certificates refl) first other.undoubled
         by_case (inr both) = both
     other_fine _ other = other
@@ -149,14 +179,16 @@ module _ (judged : Judged) (able : IsJudgeable judged) (shown : IsShown judged.t
     where
       by_case : IsWrong judged.task.wish judged.plan judged.task.settings (first_checked wrong.made.certificates) why
           ⊎ (IsLoneDoubled judged.task.wish judged.plan judged.task.settings wrong.made why
-          ⊎ (IsThirdWrong judged.task.wish judged.plan judged.task.settings wrong.made why ⊎ TellsOtherText judged wrong.made why)) → ⊥
+          ⊎ (IsThirdWrong judged.task.wish judged.plan judged.task.settings wrong.made why
+          ⊎ TellsOtherText judged wrong.made why)) → ⊥
       by_case (inl one) = first_fine wrong.made wrong.told why one
       by_case (inr (inl lone)) = lone_fine wrong.made wrong.told why lone
       by_case (inr (inr (inl three))) = third_fine wrong.made wrong.told why three
       by_case (inr (inr (inr other))) = other_fine wrong.made wrong.told why other
 
   -- Nor does one with a bad line behind the head line.
-  pub line_refuted : (line : ℕ) → HasBadLine (head_line judged.task.settings judged.task.auto) (judged.line + 2) (behind_in judged) line → ⊥
+  pub line_refuted : (line : ℕ) → HasBadLine (head_line judged.task.settings judged.task.auto) (judged.line + 2)
+      (behind_in judged) line → ⊥
   line_refuted line has = found.bad said.0 said.1
     where
       how : TellsMade judged by
@@ -164,7 +196,8 @@ module _ (judged : Judged) (able : IsJudgeable judged) (shown : IsShown judged.t
 
       found : IsFirstBad by.auto (behind_in judged) has.k
       found = subst (λ (b : Bool). IsFirstBad b (behind_in judged) has.k)
-          (same_head (head_line judged.task.settings judged.task.auto) has.settings by.settings has.auto by.auto has.asked how.settings).1 has.bad
+          (same_head (head_line judged.task.settings judged.task.auto) has.settings by.settings has.auto by.auto
+          has.asked how.settings).1 has.bad
 
       said : (l : CertLine) × Says by.auto (slice_index_or (behind_in judged) has.k []) l
       said = said_at by.auto (behind_in judged) how.said how.texts how.allowed has.k found.there found.marked

@@ -49,5 +49,6 @@ module _ (l : Layout) (x : Lengths) (laid : IsSurface l) (len : AreLengths l x) 
   ]
 
   -- So its number is that of a vertex.
-  pub grid_low : (p i j : ℕ) → p < l.patches → i ≤ wide l x p → j ≤ high l x p → vertex_number l x (point l x p i j) < vertices l x
+  pub grid_low : (p i j : ℕ) → p < l.patches → i ≤ wide l x p → j ≤ high l x p → vertex_number l x (point l x p i j)
+      < vertices l x
   grid_low p i j low i_le j_le = number_low l x (point l x p i j) (grid_point p i j low i_le j_le)

@@ -7,7 +7,9 @@ use Rattle.def_text.specs.FaceSet.{FaceSet, IsSoup}
 use Rattle.def_written.specs.Laws.{AreQuads}
 use Rattle.qm_mesh.proofs.Vertices.{below_from, corners_from, count_is}
 
-pub all_placed : (soup : FaceSet) (plan : Plan) → IsMeshLayout soup.faces plan → IsSoup soup → length soup.pos ≡ vertex_count soup.faces
+pub all_placed : (soup : FaceSet) (plan : Plan) → IsMeshLayout soup.faces plan → IsSoup soup
+    → length soup.pos ≡ vertex_count soup.faces
 all_placed soup plan (is, on) sound =
     let quads : AreQuads soup.faces = subst AreQuads on is.quads in
-    sym (count_is soup.faces (length soup.pos) (below_from soup.faces quads (length soup.pos) sound.in_range) (corners_from soup.faces quads (length soup.pos) sound.used))
+    sym (count_is soup.faces (length soup.pos) (below_from soup.faces quads (length soup.pos) sound.in_range)
+    (corners_from soup.faces quads (length soup.pos) sound.used))

@@ -14,7 +14,8 @@ use Rattle.def_text.specs.Laws.{is_position, is_quad}
 use Rattle.def_remesh.specs.TextLaws.{IsSolid}
 
 -- Numbers below a bound are below a greater one.
-below_more : (n m : ℕ) → n ≤ m → (xs : List ℕ) → list_all (λ v. nat_lt v n) xs ≡ true → list_all (λ v. nat_lt v m) xs ≡ true
+below_more : (n m : ℕ) → n ≤ m → (xs : List ℕ) → list_all (λ v. nat_lt v n) xs ≡ true → list_all (λ v. nat_lt v m) xs
+    ≡ true
 below_more n m le [] all = refl
 below_more n m le (x ∷ xs) all =
     let parts = and_parts (nat_lt x n) (list_all (λ v. nat_lt v n) xs) all in
@@ -34,7 +35,8 @@ solid_of soup mesh near four n few below = record {
   printable = record {
     positions = near;
     quads = list_all-from_AllPass is_quad soup.faces
-        (λ f d l. eq-eqb (length (slice_index_or soup.faces f d)) 4 (ap length (get_or_default soup.faces f d [] l) ∙ four f l));
+        (λ f d l. eq-eqb (length (slice_index_or soup.faces f d)) 4 (ap length (get_or_default soup.faces f d [] l)
+        ∙ four f l));
     corners = names_more n (2 ^ 32) (omega (arith, few)) soup.faces below;
   };
 }

@@ -27,7 +27,8 @@ pub grown_more : (v p : ℕ) → 0 < p → clamped (min (v * 10) (10 ^ 15) * 10 
 grown_more v zero l = absurd (omega arith)
 grown_more v (suc p) l =
     let e : suc p - 1 ≡ p = omega arith in
-    ap (λ k. clamped (min (v * 10) (10 ^ 15) * 10 ^ k)) e ∙ clamp_scaled (v * 10) (10 ^ p) (ten_power p) ∙ ap clamped (omega (arith, ap (λ x. v * x) (pow-suc 10 p)))
+    ap (λ k. clamped (min (v * 10) (10 ^ 15) * 10 ^ k)) e ∙ clamp_scaled (v * 10) (10 ^ p) (ten_power p)
+    ∙ ap clamped (omega (arith, ap (λ x. v * x) (pow-suc 10 p)))
 
 pub grown_far : (v p : ℕ) → 10 ^ 15 ≤ v → 10 ^ 15 ≡ clamped (v * 10 ^ p)
 grown_far v p far = let a : v * 1 ≤ v * 10 ^ p = mul-le-mul_left v (ten_power p) in omega arith

@@ -1,5 +1,6 @@
 -- Numbers as they are printed: their digits, their value, their length, and where other bytes stand among them.
-use Rattle.std.proofs.Common.{◌≡◌, ℕ, ◌+◌, ◌%◌, ◌^◌, ◌<◌, Bool, true, false, not, cond, eqb, List, [], ◌∷◌, ◌++◌, length, ap, ◌∙◌, refl, arith}
+use Rattle.std.proofs.Common.{◌≡◌, ℕ, ◌+◌, ◌%◌, ◌^◌, ◌<◌, Bool, true, false, not, cond, eqb, List, [], ◌∷◌, ◌++◌}
+use Rattle.std.proofs.Common.{length, ap, ◌∙◌, refl, arith}
 use Rattle.std.specs.Prelude.{decimal}
 use Rattle.std.specs.Char.{is_ascii_digit}
 use Rattle.std.specs.List.{list_all, position_or_len, prefix_len}
@@ -17,7 +18,8 @@ glyph d l = and_from _ _ (le-leb 48 (48 + d) (omega arith)) (le-leb (48 + d) 57 
 pub decimal_digits : (n : ℕ) → n < 2 ^ 64 → list_all is_ascii_digit (decimal n) ≡ true
 decimal_digits n l = decimal_by_steps (λ m ds. list_all is_ascii_digit ds ≡ true)
     (λ m s. and_from _ _ (glyph m s) refl)
-    (λ m ds s all. list_all-append is_ascii_digit ds ((48 + m % 10) ∷ []) ∙ and_from _ _ all (and_from _ _ (glyph (m % 10) (omega arith)) refl))
+    (λ m ds s all. list_all-append is_ascii_digit ds ((48 + m % 10) ∷ [])
+    ∙ and_from _ _ all (and_from _ _ (glyph (m % 10) (omega arith)) refl))
     n l
 
 pub decimal_number : (n : ℕ) → n < 2 ^ 64 → number_written (decimal n) ≡ n
@@ -32,15 +34,19 @@ none_first b [] all = refl
 none_first b (x ∷ xs) all = let p : (not (b x) ≡ true) × (list_all (λ x. not (b x)) xs ≡ true) = and_parts _ _ all in
     ap (λ t. cond t (1 + prefix_len (λ y. not (b y)) xs) 0) p.0 ∙ omega (arith, none_first b xs p.1)
 
-pub first_at : (b : ℕ → Bool) (xs : List ℕ) (y : ℕ) (ys : List ℕ) → list_all (λ x. not (b x)) xs ≡ true → b y ≡ true → position_or_len b (xs ++ y ∷ ys) ≡ length xs
+pub first_at : (b : ℕ → Bool) (xs : List ℕ) (y : ℕ) (ys : List ℕ) → list_all (λ x. not (b x)) xs ≡ true → b y ≡ true
+    → position_or_len b (xs ++ y ∷ ys) ≡ length xs
 first_at b [] y ys all is = ap (λ t. cond t (1 + prefix_len (λ x. not (b x)) ys) 0) (not_from_true (b y) is)
-first_at b (x ∷ xs) y ys all is = let p : (not (b x) ≡ true) × (list_all (λ x. not (b x)) xs ≡ true) = and_parts _ _ all in
+first_at b (x ∷ xs) y ys all is = let p : (not (b x) ≡ true) × (list_all (λ x. not (b x)) xs ≡ true) =
+    and_parts _ _ all in
     ap (λ t. cond t (1 + prefix_len (λ z. not (b z)) (xs ++ y ∷ ys)) 0) p.0 ∙ omega (arith, first_at b xs y ys p.1 is)
 
 -- no digit passes a test that passes none
-pub digits_fail : (b : ℕ → Bool) → ((d : ℕ) → is_ascii_digit d ≡ true → b d ≡ false) → (xs : List ℕ) → list_all is_ascii_digit xs ≡ true → list_all (λ x. not (b x)) xs ≡ true
+pub digits_fail : (b : ℕ → Bool) → ((d : ℕ) → is_ascii_digit d ≡ true → b d ≡ false) → (xs : List ℕ)
+    → list_all is_ascii_digit xs ≡ true → list_all (λ x. not (b x)) xs ≡ true
 digits_fail b other [] all = refl
-digits_fail b other (x ∷ xs) all = let p : (is_ascii_digit x ≡ true) × (list_all is_ascii_digit xs ≡ true) = and_parts _ _ all in and_from _ _ (not_from_false (b x) (other x p.0)) (digits_fail b other xs p.1)
+digits_fail b other (x ∷ xs) all = let p : (is_ascii_digit x ≡ true) × (list_all is_ascii_digit xs ≡ true) =
+    and_parts _ _ all in and_from _ _ (not_from_false (b x) (other x p.0)) (digits_fail b other xs p.1)
 
 -- no digit is this byte, below the digits
 pub digit_other : (c : ℕ) → c < 48 → (d : ℕ) → is_ascii_digit d ≡ true → eqb d c ≡ false

@@ -1,5 +1,6 @@
 -- The canonical text of a number: zeros at the end of digits, and lengths.
-use Rattle.std.proofs.Common.{◌≡◌, ℕ, ◌+◌, ◌-◌, ◌<◌, ◌≤◌, cond, List, [], ◌∷◌, ◌++◌, length, take, refl, ap, ◌∙◌, arith, eqb}
+use Rattle.std.proofs.Common.{◌≡◌, ℕ, ◌+◌, ◌-◌, ◌<◌, ◌≤◌, cond, List, [], ◌∷◌, ◌++◌, length, take, refl, ap, ◌∙◌, arith}
+use Rattle.std.proofs.Common.{eqb}
 use Rattle.std.specs.List.{suffix_len, prefix_len}
 use Rattle.std.proofs.lemmas.List.{reverse-append, take-append-le, take_all, length_push}
 use Rattle.std.proofs.lemmas.Bool.{ne_eqb}
@@ -11,7 +12,8 @@ use Rattle.std.proofs.lemmas.List.{length-take, length-drop}
 use Rattle.def_text.specs.Canonical.{fraction_text, six_digits, without_zeros}
 
 -- The zeros at the end of digits with one more.
-suffix_push : (xs : List ℕ) (x : ℕ) → suffix_len (λ d. eqb d 48) (xs ++ x ∷ []) ≡ cond (eqb x 48) (1 + suffix_len (λ d. eqb d 48) xs) 0
+suffix_push : (xs : List ℕ) (x : ℕ) → suffix_len (λ d. eqb d 48) (xs ++ x ∷ [])
+    ≡ cond (eqb x 48) (1 + suffix_len (λ d. eqb d 48) xs) 0
 suffix_push xs x = ap (prefix_len (λ d. eqb d 48)) (reverse-append xs (x ∷ []))
 
 -- A zero at the end goes.
@@ -19,7 +21,8 @@ pub without_zeros-zero : (xs : List ℕ) → without_zeros (xs ++ 48 ∷ []) ≡
 without_zeros-zero xs =
     let most : suffix_len (λ d. eqb d 48) xs ≤ length xs = suffix_len-le-length (λ d. eqb d 48) xs in
     let s : suffix_len (λ d. eqb d 48) (xs ++ 48 ∷ []) ≡ 1 + suffix_len (λ d. eqb d 48) xs = suffix_push xs 48 in
-    let n : length (xs ++ 48 ∷ []) - suffix_len (λ d. eqb d 48) (xs ++ 48 ∷ []) ≡ length xs - suffix_len (λ d. eqb d 48) xs = omega (arith, length_push xs 48) in
+    let n : length (xs ++ 48 ∷ []) - suffix_len (λ d. eqb d 48) (xs ++ 48 ∷ []) ≡ length xs - suffix_len (λ d. eqb d 48)
+    xs = omega (arith, length_push xs 48) in
     rw n (take-append-le _ xs _ (omega arith))
 
 -- Another digit at the end stays.
@@ -32,7 +35,14 @@ pub ruleset trims = (without_zeros-zero, without_zeros-other)
 
 -- the text behind the point is short
 pub trimmed_short : (r : ℕ) → r < 10 ^ 6 → length (without_zeros (six_digits r)) ≤ 6
-trimmed_short r l = omega (arith, length-take (length (six_digits r) - suffix_len (λ d. eqb d 48) (six_digits r)) (six_digits r), length-drop 1 (decimal (10 ^ 6 + r)), length-decimal-le 7 (10 ^ 6 + r) (omega arith) (omega arith) (omega arith))
+trimmed_short r l = omega (
+  arith,
+  length-take (length (six_digits r) - suffix_len (λ d. eqb d 48) (six_digits r))
+      (six_digits r),
+  length-drop 1 (decimal (10 ^ 6 + r)),
+  length-decimal-le 7 (10 ^ 6 + r) (omega arith) (omega arith)
+      (omega arith),
+)
 
 pub fraction_short : (r : ℕ) → r < 10 ^ 6 → length (fraction_text r) ≤ 7
 fraction_short r l = grind (arith, trimmed_short r l)

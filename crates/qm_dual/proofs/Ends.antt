@@ -1,5 +1,6 @@
 -- A sum over the ends of edges is a sum over the vertices.
-use Rattle.std.proofs.Common.{◌≡◌, ℕ, ◌+◌, ◌<◌, ◌==◌, eqb, true, false, List, [], ◌∷◌, cond, ℤ, pos, ◌+ℤ◌, ◌*ℤ◌, refl, sym, ◌∙◌, arith}
+use Rattle.std.proofs.Common.{◌≡◌, ℕ, ◌+◌, ◌<◌, ◌==◌, eqb, true, false, List, [], ◌∷◌, cond, ℤ, pos, ◌+ℤ◌, ◌*ℤ◌, refl}
+use Rattle.std.proofs.Common.{sym, ◌∙◌, arith}
 use Rattle.std.proofs.lemmas.Int.{ints}
 use Rattle.std.proofs.lemmas.Bool.{eq-eqb, ne_eqb}
 use Rattle.std.proofs.Math.IntN.{*ℤ_comm}
@@ -18,7 +19,14 @@ EndsBelow u v n (x ∷ xs) = (u x < n) × (v x < n) × EndsBelow u v n xs
 
 -- A sum as a factor.
 pub plus_times : (a b : ℕ) (c : ℤ) → pos (a + b) *ℤ c ≡ pos a *ℤ c +ℤ pos b *ℤ c
-plus_times a b c = omega (arith, ints, *ℤ_comm (pos (a + b)) c, times_sum c (pos a) (pos b), *ℤ_comm (pos a) c, *ℤ_comm (pos b) c)
+plus_times a b c = omega (
+  arith,
+  ints,
+  *ℤ_comm (pos (a + b)) c,
+  times_sum c (pos a) (pos b),
+  *ℤ_comm (pos a) c,
+  *ℤ_comm (pos b) c,
+)
 
 -- The number of one vertex, as a sum in which it alone counts.
 pub one_end : (f : ℕ → ℤ) (n u : ℕ) → u < n → total_below (λ k. pos (hit u k) *ℤ f k) n ≡ f u
@@ -38,12 +46,28 @@ ends_sum {X} u v f n (x ∷ xs) below =
     let rest : ℕ → ℤ = λ (k : ℕ). pos (count (λ (e : X). hit (u e) k + hit (v e) k) xs) *ℤ f k in
     let left : ℕ → ℤ = λ (k : ℕ). pos (hit (u x) k) *ℤ f k in
     let right : ℕ → ℤ = λ (k : ℕ). pos (hit (v x) k) *ℤ f k in
-    let parts : total_below (λ k. pos (hit (u x) k + hit (v x) k + count (λ (e : X). hit (u e) k + hit (v e) k) xs) *ℤ f k) n ≡ total_below (λ k. (left k +ℤ right k) +ℤ rest k) n =
-    total_below_same _ _ n (λ k l. omega (arith, ints, plus_times (hit (u x) k + hit (v x) k) (count (λ (e : X). hit (u e) k + hit (v e) k) xs) (f k), plus_times (hit (u x) k) (hit (v x) k) (f k))) in
-    omega (arith, ints, parts, total_below_sum (λ k. left k +ℤ right k) rest n, total_below_sum left right n, one_end f n (u x) below.0, one_end f n (v x) below.1, ends_sum u v f n xs below.2)
+    let parts : total_below (λ k. pos (hit (u x) k + hit (v x) k + count (λ (e : X). hit (u e) k + hit (v e) k) xs) *ℤ f
+    k) n ≡ total_below (λ k. (left k +ℤ right k) +ℤ rest k) n =
+    total_below_same _ _ n (λ k l. omega (
+      arith,
+      ints,
+      plus_times (hit (u x) k + hit (v x) k) (count (λ (e : X). hit (u e) k + hit (v e) k) xs) (f k),
+      plus_times (hit (u x) k) (hit (v x) k) (f k),
+    )) in
+    omega (
+      arith,
+      ints,
+      parts,
+      total_below_sum (λ k. left k +ℤ right k) rest n,
+      total_below_sum left right n,
+      one_end f n (u x) below.0,
+      one_end f n (v x) below.1,
+      ends_sum u v f n xs below.2,
+    )
 
 -- Where each vertex is an end just once, each counts once.
 pub ends_once : {X : Type 0} (u v : X → ℕ) (f : ℕ → ℤ) (n : ℕ) (xs : List X) → EndsBelow u v n xs
     → ((k : ℕ) → k < n → count (λ x. hit (u x) k + hit (v x) k) xs ≡ 1)
     → total (λ x. f (u x) +ℤ f (v x)) xs ≡ total_below f n
-ends_once u v f n xs below once = ends_sum u v f n xs below ∙ total_below_same _ f n (λ k l. rw (once k l) (omega (arith, ints)))
+ends_once u v f n xs below once = ends_sum u v f n xs below
+    ∙ total_below_same _ f n (λ k l. rw (once k l) (omega (arith, ints)))

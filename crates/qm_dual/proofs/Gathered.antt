@@ -1,5 +1,6 @@
 -- The load of an edge, by the sets around each of its ends and around both.
-use Rattle.std.proofs.Common.{◌≡◌, ℕ, zero, suc, ◌+◌, ◌-◌, ◌*◌, ◌^◌, ◌<◌, ◌≤◌, ◌==◌, ◌||◌, true, false, not, cond, List, length, ℤ, pos, ◌+ℤ◌, ◌-ℤ◌, refl, sym, ◌∙◌, ap, inl, inr, ◌⊎◌, arith}
+use Rattle.std.proofs.Common.{◌≡◌, ℕ, zero, suc, ◌+◌, ◌-◌, ◌*◌, ◌^◌, ◌<◌, ◌≤◌, ◌==◌, ◌||◌, true, false, not, cond, List}
+use Rattle.std.proofs.Common.{length, ℤ, pos, ◌+ℤ◌, ◌-ℤ◌, refl, sym, ◌∙◌, ap, inl, inr, ◌⊎◌, arith}
 use Rattle.std.specs.Prelude.{slice_index, unsigned_abs}
 use mir.Syntax.{w128}
 use mir.Val.{to_z, of_z}
@@ -12,26 +13,42 @@ use Rattle.qm_dual.specs.Nest.{climbs, around, apart, named_sum, AreSums, IsMeet
 use Rattle.qm_dual.proofs.Climbs.{set_later, climb_on, climb_none, passed_later}
 
 -- A sum of small terms is small.
-pub total_below_small : (f : ℕ → ℤ) (c n : ℕ) → ((k : ℕ) → k < n → unsigned_abs (f k) ≤ c) → unsigned_abs (total_below f n) ≤ n * c
+pub total_below_small : (f : ℕ → ℤ) (c n : ℕ) → ((k : ℕ) → k < n → unsigned_abs (f k) ≤ c)
+    → unsigned_abs (total_below f n) ≤ n * c
 total_below_small f c zero small = omega arith
-total_below_small f c (suc n) small = omega (arith, ints, small n (omega arith), total_below_small f c n (λ k l. small k (omega arith)))
+total_below_small f c (suc n) small =
+    omega (arith, ints, small n (omega arith), total_below_small f c n (λ k l. small k (omega arith)))
 
 -- What a climb gathers is small.
-pub around_small : (n : ℕ) (d : DualLists) → AreSmall d.z → (entry : ℕ) → unsigned_abs (around n d entry) ≤ length d.z * 10 ^ 18
+pub around_small : (n : ℕ) (d : DualLists) → AreSmall d.z → (entry : ℕ) → unsigned_abs (around n d entry)
+    ≤ length d.z * 10 ^ 18
 around_small n d small entry = total_below_small _ (10 ^ 18) (length d.z) (λ k l. grind (arith, ints, small k l))
 
 -- From no set nothing is gathered.
 pub around_none : (n : ℕ) (d : DualLists) → around n d 0 ≡ pos 0
-around_none n d = total_below_none _ (length d.z) (λ k l. ap (λ b. cond b (z_at d k) (pos 0)) (climb_none n d.up (length d.z) k))
+around_none n d = total_below_none _ (length d.z)
+    (λ k l. ap (λ b. cond b (z_at d k) (pos 0)) (climb_none n d.up (length d.z) k))
 
 -- A set gathers its own number, and what the set around it gathers.
-pub around_step : (n : ℕ) (d : DualLists) → AreNestedSets n (length d.z) d.up → (j : ℕ) → j < length d.z → around n d (suc j) ≡ z_at d j +ℤ around n d (slice_index d.up (n + j))
+pub around_step : (n : ℕ) (d : DualLists) → AreNestedSets n (length d.z) d.up → (j : ℕ) → j < length d.z
+    → around n d (suc j) ≡ z_at d j +ℤ around n d (slice_index d.up (n + j))
 around_step n d nested j l =
     let own : ℕ → ℤ = λ (k : ℕ). cond (j == k) (z_at d k) (pos 0) in
     let rest : ℕ → ℤ = λ (k : ℕ). cond (climbs n d.up (length d.z) k (slice_index d.up (n + j))) (z_at d k) (pos 0) in
-    let parts : around n d (suc j) ≡ total_below (λ k. own k +ℤ rest k) (length d.z) = total_below_same _ _ (length d.z) (λ k lk. ap (λ b. cond b (z_at d k) (pos 0)) (climb_on n (length d.z) d.up nested k j l) ∙ by_tests k (cases_eq j k)) in
+    let parts : around n d (suc j) ≡ total_below (λ k. own k +ℤ rest k) (length d.z) =
+    total_below_same _ _ (length d.z)
+    (λ k lk. ap (λ b. cond b (z_at d k) (pos 0)) (climb_on n (length d.z) d.up nested k j l)
+    ∙ by_tests k (cases_eq j k)) in
     let here : own j ≡ z_at d j = ap (λ b. cond b (z_at d j) (pos 0)) (eq-eqb j j refl) in
-    omega (arith, ints, parts, total_below_sum own rest (length d.z), total_below_one own (length d.z) j l (λ k lk ne. ap (λ b. cond b (z_at d k) (pos 0)) (ne_eqb j k (λ e. ne (sym e)))), here)
+    omega (
+      arith,
+      ints,
+      parts,
+      total_below_sum own rest (length d.z),
+      total_below_one own (length d.z) j l (λ k lk ne. ap (λ b. cond b (z_at d k) (pos 0))
+          (ne_eqb j k (λ e. ne (sym e)))),
+      here,
+    )
   where
     m : ℕ
     m = length d.z
@@ -39,53 +56,86 @@ around_step n d nested j l =
     not_around_itself : climbs n d.up m j (slice_index d.up (n + j)) ≡ false
     not_around_itself = by_around (set_later n m d.up nested j)
       where
-        by_around : (slice_index d.up (n + j) ≡ 0) ⊎ ((j + 1 < slice_index d.up (n + j)) × (slice_index d.up (n + j) ≤ m)) → climbs n d.up m j (slice_index d.up (n + j)) ≡ false
+        by_around : (slice_index d.up (n + j) ≡ 0)
+            ⊎ ((j + 1 < slice_index d.up (n + j)) × (slice_index d.up (n + j) ≤ m))
+            → climbs n d.up m j (slice_index d.up (n + j)) ≡ false
         by_around (inl e) = ap (climbs n d.up m j) e ∙ climb_none n d.up m j
-        by_around (inr h) = false_from_ne_true _ (λ on. omega (arith, passed_later n m d.up nested m j (slice_index d.up (n + j)) on))
+        by_around (inr h) = false_from_ne_true _
+            (λ on. omega (arith, passed_later n m d.up nested m j (slice_index d.up (n + j)) on))
 
-    by_tests : (k : ℕ) → (j ≡ k) ⊎ (j ≡ k → ⊥) → cond ((j == k) || climbs n d.up m k (slice_index d.up (n + j))) (z_at d k) (pos 0) ≡ cond (j == k) (z_at d k) (pos 0) +ℤ cond (climbs n d.up m k (slice_index d.up (n + j))) (z_at d k) (pos 0)
+    by_tests : (k : ℕ) → (j ≡ k) ⊎ (j ≡ k → ⊥) → cond ((j == k) || climbs n d.up m k (slice_index d.up (n + j)))
+        (z_at d k) (pos 0) ≡ cond (j == k) (z_at d k) (pos 0) +ℤ cond (climbs n d.up m k (slice_index d.up (n + j)))
+        (z_at d k) (pos 0)
     by_tests k (inl e) =
         let on : (j == k) ≡ true = eq-eqb j k e in
-        let off : climbs n d.up m k (slice_index d.up (n + j)) ≡ false = ap (λ i. climbs n d.up m i (slice_index d.up (n + j))) (sym e) ∙ not_around_itself in
+        let off : climbs n d.up m k (slice_index d.up (n + j)) ≡ false =
+        ap (λ i. climbs n d.up m i (slice_index d.up (n + j))) (sym e) ∙ not_around_itself in
         rw (on, off) (omega (arith, ints))
     by_tests k (inr ne) =
         let off : (j == k) ≡ false = ne_eqb j k ne in
         rw off (omega (arith, ints))
 
 -- A set's sum is what a climb gathers from its entry.
-pub named_around : (n : ℕ) (d : DualLists) (sums : List ℤ) → AreSums n d 0 sums → (entry : ℕ) → entry ≤ length d.z → named_sum sums entry ≡ around n d entry
+pub named_around : (n : ℕ) (d : DualLists) (sums : List ℤ) → AreSums n d 0 sums → (entry : ℕ) → entry ≤ length d.z
+    → named_sum sums entry ≡ around n d entry
 named_around n d sums are zero low = sym (around_none n d)
 named_around n d sums are (suc j) low = are.each j (omega arith) (omega arith)
 
 -- The same of the set around a set, where the sums of the later sets are known.
-pub named_later : (n : ℕ) (d : DualLists) (k : ℕ) (sums : List ℤ) → AreSums n d (k + 1) sums → (entry : ℕ) → (entry ≡ 0) ⊎ ((k + 1 < entry) × (entry ≤ length d.z)) → named_sum sums entry ≡ around n d entry
+pub named_later : (n : ℕ) (d : DualLists) (k : ℕ) (sums : List ℤ) → AreSums n d (k + 1) sums → (entry : ℕ) → (entry ≡ 0)
+    ⊎ ((k + 1 < entry) × (entry ≤ length d.z)) → named_sum sums entry ≡ around n d entry
 named_later n d k sums are zero later = sym (around_none n d)
-named_later n d k sums are (suc j) later = elim later [ inl e ↦ absurd (omega arith) | inr h ↦ are.each j (omega arith) (omega arith) ]
+named_later n d k sums are (suc j) later =
+    elim later [ inl e ↦ absurd (omega arith) | inr h ↦ are.each j (omega arith) (omega arith) ]
 
 -- The sets around exactly one of two entries, by those around each and those around both.
 pub apart_is : (n : ℕ) (d : DualLists) (a b entry : ℕ) → IsMeeting n (length d.z) d.up a b entry
     → apart n d a b ≡ (around n d a +ℤ around n d b) -ℤ (around n d entry +ℤ around n d entry)
 apart_is n d a b entry meets =
-    let crossing : ℕ → ℤ = λ (k : ℕ). cond (cond (climbs n d.up (length d.z) k a) (not (climbs n d.up (length d.z) k b)) (climbs n d.up (length d.z) k b)) (z_at d k) (pos 0) in
+    let crossing : ℕ → ℤ = λ (k : ℕ). cond (cond (climbs n d.up (length d.z) k a) (not (climbs n d.up (length d.z) k b))
+    (climbs n d.up (length d.z) k b)) (z_at d k) (pos 0) in
     let left : ℕ → ℤ = λ (k : ℕ). cond (climbs n d.up (length d.z) k a) (z_at d k) (pos 0) in
     let right : ℕ → ℤ = λ (k : ℕ). cond (climbs n d.up (length d.z) k b) (z_at d k) (pos 0) in
     let both : ℕ → ℤ = λ (k : ℕ). cond (climbs n d.up (length d.z) k entry) (z_at d k) (pos 0) in
-    let parts : total_below (λ k. crossing k +ℤ (both k +ℤ both k)) (length d.z) ≡ total_below (λ k. left k +ℤ right k) (length d.z) =
-    total_below_same _ _ (length d.z) (λ k l. ap (λ x. crossing k +ℤ (cond x (z_at d k) (pos 0) +ℤ cond x (z_at d k) (pos 0))) (meets k) ∙ grind (arith, ints)) in
-    omega (arith, ints, parts, total_below_sum crossing (λ k. both k +ℤ both k) (length d.z), total_below_sum both both (length d.z), total_below_sum left right (length d.z))
+    let parts : total_below (λ k. crossing k +ℤ (both k +ℤ both k)) (length d.z)
+    ≡ total_below (λ k. left k +ℤ right k) (length d.z) =
+    total_below_same _ _ (length d.z)
+    (λ k l. ap (λ x. crossing k +ℤ (cond x (z_at d k) (pos 0) +ℤ cond x (z_at d k) (pos 0))) (meets k)
+    ∙ grind (arith, ints)) in
+    omega (
+      arith,
+      ints,
+      parts,
+      total_below_sum crossing (λ k. both k +ℤ both k) (length d.z),
+      total_below_sum both both (length d.z),
+      total_below_sum left right (length d.z),
+    )
 
 -- The sum of a named set is small.
-pub named_small : (n : ℕ) (d : DualLists) (sums : List ℤ) → AreSums n d 0 sums → AreSmall d.z → (entry : ℕ) → entry ≤ length d.z → unsigned_abs (named_sum sums entry) ≤ length d.z * 10 ^ 18
-named_small n d sums are small entry low = let is : named_sum sums entry ≡ around n d entry = named_around n d sums are entry low in rw is (around_small n d small entry)
+pub named_small : (n : ℕ) (d : DualLists) (sums : List ℤ) → AreSums n d 0 sums → AreSmall d.z → (entry : ℕ)
+    → entry ≤ length d.z → unsigned_abs (named_sum sums entry) ≤ length d.z * 10 ^ 18
+named_small n d sums are small entry low = let is : named_sum sums entry ≡ around n d entry =
+    named_around n d sums are entry low in rw is (around_small n d small entry)
 
 -- The sets around exactly one of two entries, by the sums of the sets that they name.
-pub apart_sums : (n : ℕ) (d : DualLists) (sums : List ℤ) → AreSums n d 0 sums → (a b entry : ℕ) → a ≤ length d.z → b ≤ length d.z → entry ≤ length d.z → IsMeeting n (length d.z) d.up a b entry
+pub apart_sums : (n : ℕ) (d : DualLists) (sums : List ℤ) → AreSums n d 0 sums → (a b entry : ℕ) → a ≤ length d.z
+    → b ≤ length d.z → entry ≤ length d.z → IsMeeting n (length d.z) d.up a b entry
     → apart n d a b ≡ (named_sum sums a +ℤ named_sum sums b) -ℤ (named_sum sums entry +ℤ named_sum sums entry)
-apart_sums n d sums are a b entry la lb le meets = omega (arith, ints, apart_is n d a b entry meets, named_around n d sums are a la, named_around n d sums are b lb, named_around n d sums are entry le)
+apart_sums n d sums are a b entry la lb le meets =
+    omega (
+      arith,
+      ints,
+      apart_is n d a b entry meets,
+      named_around n d sums are a la,
+      named_around n d sums are b lb,
+      named_around n d sums are entry le,
+    )
 
 -- The sum that the code makes of three small numbers wraps nowhere.
-pub plain_difference : (x y z : ℤ) → unsigned_abs x ≤ 2 ^ 30 * 10 ^ 18 → unsigned_abs y ≤ 2 ^ 30 * 10 ^ 18 → unsigned_abs z ≤ 2 ^ 30 * 10 ^ 18
-    → to_z w128 (of_z w128 (to_z w128 (of_z w128 (to_z w128 (of_z w128 x) +ℤ to_z w128 (of_z w128 y))) -ℤ to_z w128 (of_z w128 (to_z w128 (of_z w128 z) +ℤ to_z w128 (of_z w128 z))))) ≡ (x +ℤ y) -ℤ (z +ℤ z)
+pub plain_difference : (x y z : ℤ) → unsigned_abs x ≤ 2 ^ 30 * 10 ^ 18 → unsigned_abs y ≤ 2 ^ 30 * 10 ^ 18
+    → unsigned_abs z ≤ 2 ^ 30 * 10 ^ 18
+    → to_z w128 (of_z w128 (to_z w128 (of_z w128 (to_z w128 (of_z w128 x) +ℤ to_z w128 (of_z w128 y))) -ℤ to_z w128
+    (of_z w128 (to_z w128 (of_z w128 z) +ℤ to_z w128 (of_z w128 z))))) ≡ (x +ℤ y) -ℤ (z +ℤ z)
 plain_difference x y z lx ly lz =
     let a : to_z w128 (of_z w128 x) ≡ x = omega (arith, ints) in
     let b : to_z w128 (of_z w128 y) ≡ y = omega (arith, ints) in
@@ -96,5 +146,6 @@ plain_difference x y z lx ly lz =
     rw (a, b, c, ab, cc', all) refl
 
 -- How great it is.
-pub abs_difference : (x y z : ℤ) → unsigned_abs x ≤ 2 ^ 30 * 10 ^ 18 → unsigned_abs y ≤ 2 ^ 30 * 10 ^ 18 → unsigned_abs z ≤ 2 ^ 30 * 10 ^ 18 → unsigned_abs ((x +ℤ y) -ℤ (z +ℤ z)) ≤ 2 ^ 92
+pub abs_difference : (x y z : ℤ) → unsigned_abs x ≤ 2 ^ 30 * 10 ^ 18 → unsigned_abs y ≤ 2 ^ 30 * 10 ^ 18
+    → unsigned_abs z ≤ 2 ^ 30 * 10 ^ 18 → unsigned_abs ((x +ℤ y) -ℤ (z +ℤ z)) ≤ 2 ^ 92
 abs_difference x y z lx ly lz = omega (arith, ints)

@@ -1,5 +1,6 @@
 -- Laws of the least number that passes a test.
-use Rattle.std.proofs.Common.{◌≡◌, ℕ, zero, suc, ◌<◌, Bool, true, false, Option, Some, None, refl, sym, ◌∙◌, ap, inl, inr, arith}
+use Rattle.std.proofs.Common.{◌≡◌, ℕ, zero, suc, ◌<◌, Bool, true, false, Option, Some, None, refl, sym, ◌∙◌, ap, inl}
+use Rattle.std.proofs.Common.{inr, arith}
 use Rattle.std.proofs.lemmas.Bool.{cases_eq}
 use Rattle.def_math.specs.Searches.{least, or_this}
 
@@ -19,7 +20,8 @@ least_some p (suc n) j l off on = elim (cases_eq j n) [ inl e ↦ at_end e | inr
         let here : p n ≡ true = ap p (sym e) ∙ on in
         rw (none, here) (ap Some (sym e))
 
-    before : (j ≡ n → ⊥) → ((i : ℕ) → i < n → ((k : ℕ) → k < i → p k ≡ false) → p i ≡ true → least p n ≡ Some i) → least p (suc n) ≡ Some j
+    before : (j ≡ n → ⊥) → ((i : ℕ) → i < n → ((k : ℕ) → k < i → p k ≡ false) → p i ≡ true → least p n ≡ Some i)
+        → least p (suc n) ≡ Some j
     before ne rest =
         let found : least p n ≡ Some j = rest j (omega arith) off on in
         rw found refl
@@ -29,8 +31,10 @@ pub none_below : (p : ℕ → Bool) (n : ℕ) → least p n ≡ None → (k : �
 none_below p zero none k l = absurd (omega arith)
 none_below p (suc n) none k l = by_before (least p n) (p n) refl refl none (none_below p n)
   where
-    by_before : (o : Option ℕ) (b : Bool) → least p n ≡ o → p n ≡ b → or_this o n b ≡ None → (least p n ≡ None → (i : ℕ) → i < n → p i ≡ false) → p k ≡ false
-    by_before None false was is off rest = elim (cases_eq k n) [ inl e ↦ ap p e ∙ is | inr ne ↦ rest was k (omega arith) ]
+    by_before : (o : Option ℕ) (b : Bool) → least p n ≡ o → p n ≡ b → or_this o n b ≡ None
+        → (least p n ≡ None → (i : ℕ) → i < n → p i ≡ false) → p k ≡ false
+    by_before None false was is off rest =
+        elim (cases_eq k n) [ inl e ↦ ap p e ∙ is | inr ne ↦ rest was k (omega arith) ]
     by_before _ _ was is off rest = absurd cc
 
 -- Tests that agree below the bound have the same least number.
@@ -43,7 +47,8 @@ pub least_low : (p : ℕ → Bool) (n j : ℕ) → least p n ≡ Some j → j < 
 least_low p zero j found = absurd cc
 least_low p (suc n) j found = by_before (least p n) (p n) refl found (least_low p n)
   where
-    by_before : (o : Option ℕ) (b : Bool) → least p n ≡ o → or_this o n b ≡ Some j → ((i : ℕ) → least p n ≡ Some i → i < n) → j < suc n
+    by_before : (o : Option ℕ) (b : Bool) → least p n ≡ o → or_this o n b ≡ Some j
+        → ((i : ℕ) → least p n ≡ Some i → i < n) → j < suc n
     by_before (Some i) b was is low = let same : i ≡ j = cc in omega (arith, low i was, same)
     by_before None true was is low = let same : n ≡ j = cc in omega (arith, same)
     by_before None false was is low = absurd cc

@@ -196,7 +196,8 @@ module _ (faces : Faces) (m : IsManifold faces) where
       -- What a walk of one step more says.
       walk_here : (n x : ℕ) → goes_round faces marks v (suc n) x ≡ true → (is_on marks x ≡ true) × (v ≤ from_of faces x)
       walk_here n x g =
-          let p : (is_on marks x ≡ true) × (not (ltb (from_of faces x) v) ≡ true) = and_parts _ _ (and_parts _ _ g).0 in (
+          let p : (is_on marks x ≡ true) × (not (ltb (from_of faces x) v) ≡ true)
+          = and_parts _ _ (and_parts _ _ g).0 in (
             p.0,
             elim (cases_lt (from_of faces x) v)
                 [ inl less ↦ absurd (false≢true (sym (ap not (lt-ltb _ _ less)) ∙ p.1)) | inr more ↦ more ],

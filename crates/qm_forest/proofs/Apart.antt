@@ -1,8 +1,10 @@
 -- Climbing from two vertices of one blossom until one meets: what is passed on the way is what lies around just one.
-use Rattle.std.proofs.Common.{◌≡◌, ◌≢◌, ℕ, zero, suc, ◌+◌, ◌*◌, ◌<◌, ◌≤◌, ◌^◌, Bool, true, false, not, cond, eqb, ◌||◌, ℤ, pos, ◌+ℤ◌, ◌⊎◌, refl, sym, ◌∙◌, ap, subst, inl, inr, arith}
+use Rattle.std.proofs.Common.{◌≡◌, ◌≢◌, ℕ, zero, suc, ◌+◌, ◌*◌, ◌<◌, ◌≤◌, ◌^◌, Bool, true, false, not, cond, eqb, ◌||◌}
+use Rattle.std.proofs.Common.{ℤ, pos, ◌+ℤ◌, ◌⊎◌, refl, sym, ◌∙◌, ap, subst, inl, inr, arith}
 use Rattle.std.specs.Prelude.{unsigned_abs}
 use Rattle.std.proofs.lemmas.Int.{ints}
-use Rattle.std.proofs.lemmas.Bool.{cases_eq, cases_Bool, cond-true, cond-false, eq-eqb, ne_eqb, eqb-true, or_cases, or_left}
+use Rattle.std.proofs.lemmas.Bool.{cases_eq, cases_Bool, cond-true, cond-false, eq-eqb, ne_eqb, eqb-true, or_cases}
+use Rattle.std.proofs.lemmas.Bool.{or_left}
 use Rattle.def_math.specs.Sums.{total_below}
 use Rattle.sum_laws.proofs.Sums.{total_below_same, total_below_sum, total_below_one, total_below_none}
 use Rattle.def_forest.specs.Forests.{splits, walk}
@@ -36,19 +38,23 @@ or_twice false = refl
 -- One step more passes nothing new where one has come to stay.
 climbs_last : (up : ℕ → ℕ) (m b y : ℕ) → up (walk up y m) ≡ walk up y m → climbs up (suc m) b y ≡ climbs up m b y
 climbs_last up zero b y e = ap (λ x. eqb y b || eqb x b) e ∙ or_twice (eqb y b)
-climbs_last up (suc m) b y e = ap (λ x. eqb y b || x) (climbs_last up m b (up y) (ap up (shifted y m) ∙ (e ∙ sym (shifted y m))))
+climbs_last up (suc m) b y e =
+    ap (λ x. eqb y b || x) (climbs_last up m b (up y) (ap up (shifted y m) ∙ (e ∙ sym (shifted y m))))
   where
     shifted : (y m : ℕ) → walk up (up y) m ≡ walk up y (suc m)
     shifted y zero = refl
     shifted y (suc k) = ap up (shifted y k)
 
-module _ (n : ℕ) (up rank out : ℕ → ℕ) (climb : IsClimb n up out) (rises : (x : ℕ) → up x ≢ x → rank x < rank (up x)) where
+module _ (n : ℕ) (up rank out : ℕ → ℕ) (climb : IsClimb n up out) (rises : (x : ℕ) → up x ≢ x
+    → rank x < rank (up x)) where
   -- One comes past a blossom only from below.
   passed_rank : (k b from : ℕ) → climbs up k b from ≡ true → from ≢ b → rank from < rank b
   passed_rank zero b from on ne = absurd (ne (eqb-true from b on))
-  passed_rank (suc k) b from on ne = by_or (or_cases (eqb from b) (climbs up k b (up from)) on) (passed_rank k b (up from))
+  passed_rank (suc k) b from on ne =
+      by_or (or_cases (eqb from b) (climbs up k b (up from)) on) (passed_rank k b (up from))
     where
-      climbing : (up from ≡ b) ⊎ (up from ≢ b) → (climbs up k b (up from) ≡ true → up from ≢ b → rank (up from) < rank b) → climbs up k b (up from) ≡ true → rank from < rank b
+      climbing : (up from ≡ b) ⊎ (up from ≢ b) → (climbs up k b (up from) ≡ true → up from ≢ b
+          → rank (up from) < rank b) → climbs up k b (up from) ≡ true → rank from < rank b
       climbing (inl e) more on' = subst (λ x. rank from < rank x) e (rises from (λ s. ne (sym s ∙ e)))
       climbing (inr nb) more on' = by_step (cases_eq (up from) from) (more on' nb)
         where
@@ -56,16 +62,21 @@ module _ (n : ℕ) (up rank out : ℕ → ℕ) (climb : IsClimb n up out) (rises
           by_step (inl s) l = subst (λ x. rank x < rank b) s l
           by_step (inr ns) l = let h : rank from < rank (up from) = rises from ns in omega arith
 
-      by_or : (eqb from b ≡ true) ⊎ (climbs up k b (up from) ≡ true) → (climbs up k b (up from) ≡ true → up from ≢ b → rank (up from) < rank b) → rank from < rank b
+      by_or : (eqb from b ≡ true) ⊎ (climbs up k b (up from) ≡ true) → (climbs up k b (up from) ≡ true → up from ≢ b
+          → rank (up from) < rank b) → rank from < rank b
       by_or (inl e) more = absurd (ne (eqb-true from b e))
       by_or (inr on') more = climbing (cases_eq (up from) b) more on'
 
   rank_up : (x : ℕ) → rank x ≤ rank (up x)
-  rank_up x = elim (cases_eq (up x) x) [ inl e ↦ (let h : rank (up x) ≡ rank x = ap rank e in omega arith) | inr ne ↦ (let h : rank x < rank (up x) = rises x ne in omega arith) ]
+  rank_up x = elim (cases_eq (up x) x) [
+    | inl e ↦ (let h : rank (up x) ≡ rank x = ap rank e in omega arith)
+    | inr ne ↦ (let h : rank x < rank (up x) = rises x ne in omega arith)
+  ]
 
   rank_walk : (x k : ℕ) → rank x ≤ rank (walk up x k)
   rank_walk x zero = omega arith
-  rank_walk x (suc k) = let h : rank (walk up x k) ≤ rank (up (walk up x k)) = rank_up (walk up x k) in omega (arith, rank_walk x k)
+  rank_walk x (suc k) = let h : rank (walk up x k) ≤ rank (up (walk up x k)) = rank_up (walk up x k) in
+      omega (arith, rank_walk x k)
 
   -- A blossom on the way from a vertex.
   abbrev pub OnWayFrom : ℕ → ℕ → Type 0
@@ -75,7 +86,10 @@ module _ (n : ℕ) (up rank out : ℕ → ℕ) (climb : IsClimb n up out) (rises
   pub comes_out : (v x : ℕ) → v < n → OnWayFrom v x → walk up x n ≡ out v
   comes_out v x l w =
       let order : w.0 + n ≡ n + w.0 = omega arith in
-      ap (λ y. walk up y n) (sym w.1) ∙ (sym (walk_sum up v w.0 n) ∙ (ap (walk up v) order ∙ (walk_sum up v n w.0 ∙ (ap (λ y. walk up y w.0) (climb.ends v l) ∙ walk_stays up (out v) w.0 (climb.tops v l)))))
+      ap (λ y. walk up y n) (sym w.1)
+      ∙ (sym (walk_sum up v w.0 n)
+      ∙ (ap (walk up v) order ∙ (walk_sum up v n w.0
+      ∙ (ap (λ y. walk up y w.0) (climb.ends v l) ∙ walk_stays up (out v) w.0 (climb.tops v l)))))
 
   pub rank_low : (v x : ℕ) → v < n → OnWayFrom v x → rank x ≤ rank (out v)
   rank_low v x l w = subst (λ y. rank x ≤ rank y) (comes_out v x l w) (rank_walk x n)
@@ -88,7 +102,8 @@ module _ (n : ℕ) (up rank out : ℕ → ℕ) (climb : IsClimb n up out) (rises
   goes_on v x w = (suc w.0, ap up w.1)
 
   -- Of two blossoms on the ways, the lower can climb.
-  pub can_climb : (u v x y : ℕ) → u < n → v < n → out u ≡ out v → OnWayFrom u x → OnWayFrom v y → x ≢ y → rank x ≤ rank y → up x ≢ x
+  pub can_climb : (u v x y : ℕ) → u < n → v < n → out u ≡ out v → OnWayFrom u x → OnWayFrom v y → x ≢ y
+      → rank x ≤ rank y → up x ≢ x
   can_climb u v x y lu lv same wx wy ne le fixed = by_top (cases_eq (up y) y)
     where
       x_top : x ≡ out u
@@ -111,55 +126,98 @@ module _ (n : ℕ) (up rank out : ℕ → ℕ) (climb : IsClimb n up out) (rises
       by_size (suc m) e =
           let fuel : climbs up n b x ≡ (eqb x b || climbs up m b (up x)) = ap (λ k. climbs up k b x) e in
           let here : walk up (up x) m ≡ walk up x n = shift x m ∙ ap (walk up x) (sym e) in
-          let top : up (walk up (up x) m) ≡ walk up (up x) m = ap up (here ∙ comes_out v x l w) ∙ (climb.tops v l ∙ sym (here ∙ comes_out v x l w)) in
-          fuel ∙ ap (λ (s : Bool). eqb x b || s) (sym (climbs_last up m b (up x) top) ∙ ap (λ k. climbs up k b (up x)) (sym e))
+          let top : up (walk up (up x) m) ≡ walk up (up x) m = ap up (here ∙ comes_out v x l w)
+          ∙ (climb.tops v l ∙ sym (here ∙ comes_out v x l w)) in
+          fuel ∙ ap (λ (s : Bool). eqb x b || s) (sym (climbs_last up m b (up x) top)
+          ∙ ap (λ k. climbs up k b (up x)) (sym e))
         where
           shift : (y k : ℕ) → walk up (up y) k ≡ walk up y (suc k)
           shift y zero = refl
           shift y (suc k) = ap up (shift y k)
 
-  module _ (weight : ℕ → ℤ) (size : ℕ) (u v x y : ℕ) (lu : u < n) (wx : OnWayFrom u x) (ne : x ≢ y) (le : rank x ≤ rank y) (inner : up x ≢ x) (low : x < size) where
+  module _ (weight : ℕ → ℤ) (size : ℕ) (u v x y : ℕ) (lu : u < n) (wx : OnWayFrom u x) (ne : x ≢ y)
+      (le : rank x ≤ rank y) (inner : up x ≢ x) (low : x < size) where
     not_from_y : climbs up n x y ≡ false
-    not_from_y = elim (cases_Bool (climbs up n x y)) [ inl on ↦ (let h : rank y < rank x = passed_rank n x y on (λ e. ne (sym e)) in absurd (omega arith)) | inr off ↦ off ]
+    not_from_y = elim (cases_Bool (climbs up n x y)) [
+      | inl on ↦ (let h : rank y < rank x =
+          passed_rank n x y on (λ e. ne (sym e)) in absurd (omega arith))
+      | inr off ↦ off
+    ]
 
     not_further : climbs up n x (up x) ≡ false
-    not_further = elim (cases_Bool (climbs up n x (up x))) [ inl on ↦ (let h : rank (up x) < rank x = passed_rank n x (up x) on inner in let r : rank x < rank (up x) = rises x inner in absurd (omega arith)) | inr off ↦ off ]
+    not_further = elim (cases_Bool (climbs up n x (up x))) [
+      | inl on ↦ (let h : rank (up x) < rank x =
+          passed_rank n x (up x) on inner in let r : rank x < rank (up x) = rises x inner in absurd (omega arith))
+      | inr off ↦ off
+    ]
 
     here_true : climbs up n x x ≡ true
     here_true = climbs_step u x x lu wx ∙ or_left (eqb x x) (climbs up n x (up x)) (eq-eqb x x refl)
 
-    term : (b : ℕ) → cond (splits (climbs up n b) x y) (weight b) (pos 0) ≡ cond (splits (climbs up n b) (up x) y) (weight b) (pos 0) +ℤ cond (eqb b x) (weight x) (pos 0)
+    term : (b : ℕ) → cond (splits (climbs up n b) x y) (weight b) (pos 0) ≡ cond (splits (climbs up n b) (up x) y)
+        (weight b) (pos 0) +ℤ cond (eqb b x) (weight x) (pos 0)
     term b = by_place (cases_eq b x)
       where
-        by_place : (b ≡ x) ⊎ (b ≢ x) → cond (splits (climbs up n b) x y) (weight b) (pos 0) ≡ cond (splits (climbs up n b) (up x) y) (weight b) (pos 0) +ℤ cond (eqb b x) (weight x) (pos 0)
+        by_place : (b ≡ x) ⊎ (b ≢ x) → cond (splits (climbs up n b) x y) (weight b) (pos 0)
+            ≡ cond (splits (climbs up n b) (up x) y) (weight b) (pos 0) +ℤ cond (eqb b x) (weight x) (pos 0)
         by_place (inl e) =
-            subst (λ k. cond (splits (climbs up n k) x y) (weight k) (pos 0) ≡ cond (splits (climbs up n k) (up x) y) (weight k) (pos 0) +ℤ cond (eqb k x) (weight x) (pos 0)) (sym e)
-            (let left : cond (splits (climbs up n x) x y) (weight x) (pos 0) ≡ weight x = ap (λ (s : Bool). cond (cond s (not (climbs up n x y)) (climbs up n x y)) (weight x) (pos 0)) here_true ∙ ap (λ (s : Bool). cond (not s) (weight x) (pos 0)) not_from_y in
-            let right : cond (splits (climbs up n x) (up x) y) (weight x) (pos 0) ≡ pos 0 = ap (λ (s : Bool). cond (cond s (not (climbs up n x y)) (climbs up n x y)) (weight x) (pos 0)) not_further ∙ ap (λ (s : Bool). cond s (weight x) (pos 0)) not_from_y in
-            let one : cond (eqb x x) (weight x) (pos 0) ≡ weight x = cond-true (eqb x x) (weight x) (pos 0) (eq-eqb x x refl) in
+            subst (λ k. cond (splits (climbs up n k) x y) (weight k) (pos 0) ≡ cond (splits (climbs up n k) (up x) y)
+            (weight k) (pos 0) +ℤ cond (eqb k x) (weight x) (pos 0)) (sym e)
+            (let left : cond (splits (climbs up n x) x y) (weight x) (pos 0) ≡ weight x =
+            ap (λ (s : Bool). cond (cond s (not (climbs up n x y)) (climbs up n x y)) (weight x) (pos 0))
+            here_true ∙ ap (λ (s : Bool). cond (not s) (weight x) (pos 0)) not_from_y in
+            let right : cond (splits (climbs up n x) (up x) y) (weight x) (pos 0) ≡ pos 0 =
+            ap (λ (s : Bool). cond (cond s (not (climbs up n x y)) (climbs up n x y)) (weight x) (pos 0))
+            not_further ∙ ap (λ (s : Bool). cond s (weight x) (pos 0)) not_from_y in
+            let one : cond (eqb x x) (weight x) (pos 0) ≡ weight x =
+            cond-true (eqb x x) (weight x) (pos 0) (eq-eqb x x refl) in
             omega (arith, ints, left, right, one))
         by_place (inr nb) =
-            let same : climbs up n b x ≡ climbs up n b (up x) = climbs_step u x b lu wx ∙ or_first (eqb x b) (climbs up n b (up x)) (ne_eqb x b (λ e. nb (sym e))) in
-            let left : cond (splits (climbs up n b) x y) (weight b) (pos 0) ≡ cond (splits (climbs up n b) (up x) y) (weight b) (pos 0) = ap (λ (s : Bool). cond (cond s (not (climbs up n b y)) (climbs up n b y)) (weight b) (pos 0)) same in
-            let none : cond (eqb b x) (weight x) (pos 0) ≡ pos 0 = cond-false (eqb b x) (weight x) (pos 0) (ne_eqb b x nb) in
+            let same : climbs up n b x ≡ climbs up n b (up x) = climbs_step u x b lu wx
+            ∙ or_first (eqb x b) (climbs up n b (up x)) (ne_eqb x b (λ e. nb (sym e))) in
+            let left : cond (splits (climbs up n b) x y) (weight b) (pos 0) ≡ cond (splits (climbs up n b) (up x) y)
+            (weight b) (pos 0) = ap (λ (s : Bool). cond (cond s (not (climbs up n b y)) (climbs up n b y))
+            (weight b) (pos 0)) same in
+            let none : cond (eqb b x) (weight x) (pos 0) ≡ pos 0 =
+            cond-false (eqb b x) (weight x) (pos 0) (ne_eqb b x nb) in
             omega (arith, ints, left, none)
 
     -- The lower climbs: its weight is passed.
     pub apart_step : apart n up weight size x y ≡ apart n up weight size (up x) y +ℤ weight x
     apart_step =
-        let same : apart n up weight size x y ≡ total_below (λ b. cond (splits (climbs up n b) (up x) y) (weight b) (pos 0) +ℤ cond (eqb b x) (weight x) (pos 0)) size = total_below_same (λ b. cond (splits (climbs up n b) x y) (weight b) (pos 0)) (λ b. cond (splits (climbs up n b) (up x) y) (weight b) (pos 0) +ℤ cond (eqb b x) (weight x) (pos 0)) size (λ b l. term b) in
-        let one : total_below (λ b. cond (eqb b x) (weight x) (pos 0)) size ≡ weight x = total_below_one (λ b. cond (eqb b x) (weight x) (pos 0)) size x low (λ k l nk. cond-false (eqb k x) (weight x) (pos 0) (ne_eqb k x nk)) ∙ cond-true (eqb x x) (weight x) (pos 0) (eq-eqb x x refl) in
-        omega (arith, ints, same, total_below_sum (λ b. cond (splits (climbs up n b) (up x) y) (weight b) (pos 0)) (λ b. cond (eqb b x) (weight x) (pos 0)) size, one)
+        let same : apart n up weight size x y
+        ≡ total_below (λ b. cond (splits (climbs up n b) (up x) y) (weight b) (pos 0) +ℤ cond (eqb b x) (weight x)
+        (pos 0)) size = total_below_same (λ b. cond (splits (climbs up n b) x y) (weight b) (pos 0))
+        (λ b. cond (splits (climbs up n b) (up x) y) (weight b) (pos 0) +ℤ cond (eqb b x) (weight x) (pos 0)) size
+        (λ b l. term b) in
+        let one : total_below (λ b. cond (eqb b x) (weight x) (pos 0)) size ≡ weight x =
+        total_below_one (λ b. cond (eqb b x) (weight x) (pos 0)) size x low
+        (λ k l nk. cond-false (eqb k x) (weight x) (pos 0) (ne_eqb k x nk)) ∙ cond-true (eqb x x) (weight x) (pos 0)
+        (eq-eqb x x refl) in
+        omega (
+          arith,
+          ints,
+          same,
+          total_below_sum (λ b. cond (splits (climbs up n b) (up x) y) (weight b) (pos 0))
+              (λ b. cond (eqb b x) (weight x) (pos 0)) size,
+          one,
+        )
 
 -- It is the same in either order, nothing where one has met, and small.
-pub apart_order : (n : ℕ) (up : ℕ → ℕ) (weight : ℕ → ℤ) (size x y : ℕ) → apart n up weight size x y ≡ apart n up weight size y x
-apart_order n up weight size x y = total_below_same (λ b. cond (splits (climbs up n b) x y) (weight b) (pos 0)) (λ b. cond (splits (climbs up n b) y x) (weight b) (pos 0)) size (λ b l. ap (λ (p : Bool). cond p (weight b) (pos 0)) (by_order (climbs up n b x) (climbs up n b y)))
+pub apart_order : (n : ℕ) (up : ℕ → ℕ) (weight : ℕ → ℤ) (size x y : ℕ) → apart n up weight size x y
+    ≡ apart n up weight size y x
+apart_order n up weight size x y = total_below_same (λ b. cond (splits (climbs up n b) x y) (weight b) (pos 0))
+    (λ b. cond (splits (climbs up n b) y x) (weight b) (pos 0)) size
+    (λ b l. ap (λ (p : Bool). cond p (weight b) (pos 0)) (by_order (climbs up n b x) (climbs up n b y)))
 
 pub apart_met : (n : ℕ) (up : ℕ → ℕ) (weight : ℕ → ℤ) (size x y : ℕ) → x ≡ y → apart n up weight size x y ≡ pos 0
-apart_met n up weight size x y e = total_below_none (λ b. cond (splits (climbs up n b) x y) (weight b) (pos 0)) size (λ b l. by_same (climbs up n b x) (climbs up n b y) (weight b) (ap (climbs up n b) e))
+apart_met n up weight size x y e = total_below_none (λ b. cond (splits (climbs up n b) x y) (weight b) (pos 0)) size
+    (λ b l. by_same (climbs up n b x) (climbs up n b y) (weight b) (ap (climbs up n b) e))
 
-pub apart_small : (n : ℕ) (up : ℕ → ℕ) (weight : ℕ → ℤ) (size x y : ℕ) → ((b : ℕ) → unsigned_abs (weight b) ≤ 2 ^ 62) → unsigned_abs (apart n up weight size x y) ≤ size * 2 ^ 62
-apart_small n up weight size x y small = sum_small (λ b. cond (splits (climbs up n b) x y) (weight b) (pos 0)) size (λ b l. by_test (splits (climbs up n b) x y) b)
+pub apart_small : (n : ℕ) (up : ℕ → ℕ) (weight : ℕ → ℤ) (size x y : ℕ) → ((b : ℕ) → unsigned_abs (weight b) ≤ 2 ^ 62)
+    → unsigned_abs (apart n up weight size x y) ≤ size * 2 ^ 62
+apart_small n up weight size x y small = sum_small (λ b. cond (splits (climbs up n b) x y) (weight b) (pos 0)) size
+    (λ b l. by_test (splits (climbs up n b) x y) b)
   where
     by_test : (c : Bool) (b : ℕ) → unsigned_abs (cond c (weight b) (pos 0)) ≤ 2 ^ 62
     by_test true b = small b

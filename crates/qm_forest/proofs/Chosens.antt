@@ -1,5 +1,7 @@
 -- The edges that are chosen in the end, as a list.
-use Rattle.std.proofs.Common.{◌≡◌, ℕ, suc, ◌+◌, ◌-◌, ◌*◌, ◌<◌, ◌≤◌, Bool, true, false, cond, eqb, ◌&&◌, List, [], ◌∷◌, ◌++◌, map, length, get_or, replicate, Option, Some, None, Result, Ok, Err, IfOk, ◌⊎◌, refl, sym, ◌∙◌, ap, subst, inl, inr, arith, length-append}
+use Rattle.std.proofs.Common.{◌≡◌, ℕ, suc, ◌+◌, ◌-◌, ◌*◌, ◌<◌, ◌≤◌, Bool, true, false, cond, eqb, ◌&&◌, List, [], ◌∷◌}
+use Rattle.std.proofs.Common.{◌++◌, map, length, get_or, replicate, Option, Some, None, Result, Ok, Err, IfOk, ◌⊎◌}
+use Rattle.std.proofs.Common.{refl, sym, ◌∙◌, ap, subst, inl, inr, arith, length-append}
 use Rattle.std.proofs.lemmas.Bool.{cases_lt, cond-true, cond-false}
 use Rattle.std.proofs.lemmas.List.{get_or_append_left, get_or-append_right, length-replicate}
 use Rattle.def_math.specs.Counts.{count, count_below}
@@ -10,74 +12,110 @@ use Rattle.def_forest.specs.Forests.{bool_number, splits}
 use Rattle.def_forest.specs.Tables.{ForestTables, forest_of, MatchesBut}
 use Rattle.forest_laws.proofs.Bounds.{leaves_vertex}
 use Rattle.forest_laws.proofs.Graphs.{dart_near, near_odd}
-use Rattle.qm_forest.specs.Rounds.{IsSoundFor, AreMarked, HasRoom, IsLaminar, IsRound, leaving, near_at, waiting, waits_but, waits_for, within}
+use Rattle.qm_forest.specs.Rounds.{IsSoundFor, AreMarked, HasRoom, IsLaminar, IsRound, leaving, near_at, waiting}
+use Rattle.qm_forest.specs.Rounds.{waits_but, waits_for, within}
 use Rattle.qm_forest.specs.declared.rounds.Round.{Round}
 use Rattle.qm_forest.proofs.Fresh.{same_everywhere}
 use Rattle.qm_forest.proofs.Laminars.{alone}
 
 -- An increasing list with one number more at its end.
-pub increasing_more : (low bound : ℕ) (xs : List ℕ) → low ≤ bound → IsIncreasing low bound xs → IsIncreasing low (bound + 1) (xs ++ bound ∷ [])
+pub increasing_more : (low bound : ℕ) (xs : List ℕ) → low ≤ bound → IsIncreasing low bound xs
+    → IsIncreasing low (bound + 1) (xs ++ bound ∷ [])
 increasing_more low bound [] le increasing = (le, omega arith, tt)
-increasing_more low bound (x ∷ xs) le increasing = (increasing.0, omega (arith, increasing.1), increasing_more (x + 1) bound xs (omega (arith, increasing.1)) increasing.2)
+increasing_more low bound (x ∷ xs) le increasing = (
+  increasing.0,
+  omega (arith, increasing.1),
+  increasing_more (x + 1) bound xs (omega (arith, increasing.1))
+      increasing.2,
+)
 
 pub increasing_higher : (low bound : ℕ) (xs : List ℕ) → IsIncreasing low bound xs → IsIncreasing low (bound + 1) xs
 increasing_higher low bound [] increasing = tt
-increasing_higher low bound (x ∷ xs) increasing = (increasing.0, omega (arith, increasing.1), increasing_higher (x + 1) bound xs increasing.2)
+increasing_higher low bound (x ∷ xs) increasing =
+    (increasing.0, omega (arith, increasing.1), increasing_higher (x + 1) bound xs increasing.2)
 
 -- One place more, with a mark or without.
-pub marked_more : (marks : List Bool) (e : ℕ) (xs : List ℕ) → get_or marks e false ≡ true → AreMarked marks e xs → AreMarked marks (e + 1) (xs ++ e ∷ [])
+pub marked_more : (marks : List Bool) (e : ℕ) (xs : List ℕ) → get_or marks e false ≡ true → AreMarked marks e xs
+    → AreMarked marks (e + 1) (xs ++ e ∷ [])
 marked_more marks e xs on are = record {
   increasing = increasing_more 0 e xs (omega arith) are.increasing;
   each = λ k l. each k l (cases_lt k (length xs));
   counts = λ f. (let s : count f (xs ++ e ∷ []) ≡ count f xs + count f (e ∷ []) = count_append f xs (e ∷ []) in
       let one : cond (get_or marks e false) (f e) 0 ≡ f e = cond-true (get_or marks e false) (f e) 0 on in
-      let up : count_below (λ k. cond (get_or marks k false) (f k) 0) (e + 1) ≡ count_below (λ k. cond (get_or marks k false) (f k) 0) (suc e) = (let o : e + 1 ≡ suc e = omega arith in ap (count_below (λ k. cond (get_or marks k false) (f k) 0)) o) in
+      let up : count_below (λ k. cond (get_or marks k false) (f k) 0) (e + 1)
+      ≡ count_below (λ k. cond (get_or marks k false) (f k) 0) (suc e) =
+      (let o : e + 1 ≡ suc e = omega arith in ap (count_below (λ k. cond (get_or marks k false) (f k) 0)) o) in
       omega (arith, s, one, up, are.counts f));
 }
   where
-    each : (k : ℕ) → k < length (xs ++ e ∷ []) → (k < length xs) ⊎ (length xs ≤ k) → get_or marks (get_or (xs ++ e ∷ []) k 0) false ≡ true
+    each : (k : ℕ) → k < length (xs ++ e ∷ []) → (k < length xs) ⊎ (length xs ≤ k)
+        → get_or marks (get_or (xs ++ e ∷ []) k 0) false ≡ true
     each k l (inl low) = ap (λ x. get_or marks x false) (get_or_append_left xs (e ∷ []) 0 k low) ∙ are.each k low
     each k l (inr high) =
-        let last : k - length xs ≡ 0 = (let size : length (xs ++ e ∷ []) ≡ length xs + 1 = length-append xs (e ∷ []) in omega (arith, l, size)) in
-        ap (λ x. get_or marks x false) (get_or-append_right xs (e ∷ []) (length xs) k 0 refl high ∙ ap (λ j. get_or (e ∷ []) j 0) last) ∙ on
+        let last : k - length xs ≡ 0 = (let size : length (xs ++ e ∷ []) ≡ length xs + 1 = length-append xs (e ∷ []) in
+        omega (arith, l, size)) in
+        ap (λ x. get_or marks x false) (get_or-append_right xs (e ∷ []) (length xs) k 0 refl high
+        ∙ ap (λ j. get_or (e ∷ []) j 0) last) ∙ on
 
-pub marked_same : (marks : List Bool) (e : ℕ) (xs : List ℕ) → get_or marks e false ≡ false → AreMarked marks e xs → AreMarked marks (e + 1) xs
+pub marked_same : (marks : List Bool) (e : ℕ) (xs : List ℕ) → get_or marks e false ≡ false → AreMarked marks e xs
+    → AreMarked marks (e + 1) xs
 marked_same marks e xs off are = record {
   increasing = increasing_higher 0 e xs are.increasing;
   each = are.each;
   counts = λ f. (let none : cond (get_or marks e false) (f e) 0 ≡ 0 = cond-false (get_or marks e false) (f e) 0 off in
-      let up : count_below (λ k. cond (get_or marks k false) (f k) 0) (e + 1) ≡ count_below (λ k. cond (get_or marks k false) (f k) 0) (suc e) = (let o : e + 1 ≡ suc e = omega arith in ap (count_below (λ k. cond (get_or marks k false) (f k) 0)) o) in
+      let up : count_below (λ k. cond (get_or marks k false) (f k) 0) (e + 1)
+      ≡ count_below (λ k. cond (get_or marks k false) (f k) 0) (suc e) =
+      (let o : e + 1 ≡ suc e = omega arith in ap (count_below (λ k. cond (get_or marks k false) (f k) 0)) o) in
       omega (arith, none, up, are.counts f));
 }
 
 -- Nothing is chosen, and nothing waits.
-pub round_begins : (t : ForestTables) (marks : List Bool) (left : List (Option ℕ)) (m size : ℕ) (rest : ℕ → ℕ) → marks ≡ replicate m false → left ≡ replicate size None → ((v : ℕ) → v < length t.hand → rest v ≤ 1) → IsRound t marks left rest rest
+pub round_begins : (t : ForestTables) (marks : List Bool) (left : List (Option ℕ)) (m size : ℕ) (rest : ℕ → ℕ)
+    → marks ≡ replicate m false → left ≡ replicate size None → ((v : ℕ) → v < length t.hand → rest v ≤ 1)
+    → IsRound t marks left rest rest
 round_begins t marks left m size rest marks_is left_is once = record {
-  each = λ b l. (let none : leaving t marks b ≡ 0 = count_below_none (λ e. bool_number (get_or marks e false && splits ((forest_of t).holds b) (near_at t (2 * e)) (near_at t (2 * e + 1)))) (length marks) (λ e le. ap (λ (s : Bool). bool_number (s && splits ((forest_of t).holds b) (near_at t (2 * e)) (near_at t (2 * e + 1)))) (same_everywhere marks m false marks_is e)) in
-      let calm : waiting t left b ≡ 0 = count_below_none (λ c. waits_for t b c (get_or left c None)) (length left) (λ c lc. ap (waits_for t b c) (same_everywhere left size None left_is c)) in
+  each = λ b l. (let none : leaving t marks b ≡ 0 =
+      count_below_none (λ e. bool_number (get_or marks e false && splits ((forest_of t).holds b) (near_at t (2 * e))
+      (near_at t (2 * e + 1)))) (length marks)
+      (λ e le. ap (λ (s : Bool). bool_number (s && splits ((forest_of t).holds b) (near_at t (2 * e))
+      (near_at t (2 * e + 1)))) (same_everywhere marks m false marks_is e)) in
+      let calm : waiting t left b ≡ 0 = count_below_none (λ c. waits_for t b c (get_or left c None)) (length left)
+      (λ c lc. ap (waits_for t b c) (same_everywhere left size None left_is c)) in
       omega (arith, none, calm));
-  entry = λ c v is. (let clash : ◌≡◌ {A = Option ℕ} None (Some v) = sym (same_everywhere left size None left_is c) ∙ is in absurd (cc clash));
+  entry = λ c v is. (let clash : ◌≡◌ {A = Option ℕ} None (Some v) = sym (same_everywhere left size None left_is c)
+      ∙ is in absurd (cc clash));
   once = once;
-  tight = λ g is valid e on. (let clash : false ≡ true = sym (same_everywhere marks m false marks_is e) ∙ on in absurd (cc clash));
+  tight = λ g is valid e on. (let clash : false ≡ true = sym (same_everywhere marks m false marks_is e) ∙ on in
+      absurd (cc clash));
 }
 
-pub room_begins : {E : Type 0} (t : ForestTables) (r : Result Round E) (m size : ℕ) → IsLaminar t → length t.near ≡ 2 * m → size ≡ length t.up → IfOk r (λ round. round.marks.items ≡ replicate m false) → IfOk r (λ round. round.left_out.items ≡ replicate size None) → IfOk r (λ round. HasRoom t round)
+pub room_begins : {E : Type 0} (t : ForestTables) (r : Result Round E) (m size : ℕ) → IsLaminar t
+    → length t.near ≡ 2 * m → size ≡ length t.up → IfOk r (λ round. round.marks.items ≡ replicate m false)
+    → IfOk r (λ round. round.left_out.items ≡ replicate size None) → IfOk r (λ round. HasRoom t round)
 room_begins t (Ok round) m size known near up marks left = record {
   laminar = known;
-  marks = (let s : length round.marks.items ≡ length (replicate m false) = ap length marks in omega (arith, s, length-replicate m false, near));
+  marks = (let s : length round.marks.items ≡ length (replicate m false) = ap length marks in
+      omega (arith, s, length-replicate m false, near));
   left_out = ap length left ∙ (length-replicate size None ∙ up);
 }
 room_begins t (Err e) m size known near up marks left = tt
 
-pub rounds_begin : {E : Type 0} (t : ForestTables) (r : Result Round E) (m size : ℕ) → IfOk r (λ round. round.marks.items ≡ replicate m false) → IfOk r (λ round. round.left_out.items ≡ replicate size None)
-    → IfOk r (λ round. (rest : ℕ → ℕ) → ((v : ℕ) → v < length t.hand → rest v ≤ 1) → IsRound t round.marks.items round.left_out.items rest rest)
-rounds_begin t (Ok round) m size marks left = λ rest once. round_begins t round.marks.items round.left_out.items m size rest marks left once
+pub rounds_begin : {E : Type 0} (t : ForestTables) (r : Result Round E) (m size : ℕ)
+    → IfOk r (λ round. round.marks.items ≡ replicate m false)
+    → IfOk r (λ round. round.left_out.items ≡ replicate size None)
+    → IfOk r (λ round. (rest : ℕ → ℕ) → ((v : ℕ) → v < length t.hand → rest v ≤ 1)
+    → IsRound t round.marks.items round.left_out.items rest rest)
+rounds_begin t (Ok round) m size marks left = λ rest once. round_begins t round.marks.items round.left_out.items m size
+    rest marks left once
 rounds_begin t (Err e) m size marks left = tt
 
 -- Where nothing waits, each blossom is left as often as is due.
-pub round_ends : (t : ForestTables) (marks : List Bool) (left : List (Option ℕ)) (due : ℕ → ℕ) → IsRound t marks left (λ b. 0) due → ((c : ℕ) → get_or left c None ≡ None) → (b : ℕ) → b < length t.up → leaving t marks b ≡ due b
+pub round_ends : (t : ForestTables) (marks : List Bool) (left : List (Option ℕ)) (due : ℕ → ℕ)
+    → IsRound t marks left (λ b. 0) due → ((c : ℕ) → get_or left c None ≡ None) → (b : ℕ) → b < length t.up
+    → leaving t marks b ≡ due b
 round_ends t marks left due round ended b l =
-    let calm : waiting t left b ≡ 0 = count_below_none (λ c. waits_for t b c (get_or left c None)) (length left) (λ c lc. ap (waits_for t b c) (ended c)) in
+    let calm : waiting t left b ≡ 0 = count_below_none (λ c. waits_for t b c (get_or left c None)) (length left)
+    (λ c lc. ap (waits_for t b c) (ended c)) in
     omega (arith, calm, round.each b l)
 
 -- A blossom waits in a set once at most.
@@ -93,22 +131,36 @@ pub count_map : {X : Type 0} (f : X → ℕ) (h : ℕ → X) (xs : List ℕ) →
 count_map f h [] = refl
 count_map f h (x ∷ xs) = ap (λ m. f (h x) + m) (count_map f h xs)
 
-module _ (t : ForestTables) (known : IsLaminar t) (g : WeightedGraph) (is : IsSmallGraph g) (valid : IsSoundFor g t) (marks : List Bool) (size : length t.near ≡ 2 * length marks) (list : List ℕ) (are : AreMarked marks (length marks) list) where
+module _ (t : ForestTables) (known : IsLaminar t) (g : WeightedGraph) (is : IsSmallGraph g) (valid : IsSoundFor g t)
+    (marks : List Bool) (size : length t.near ≡ 2 * length marks) (list : List ℕ)
+    (are : AreMarked marks (length marks) list) where
   pub edges_is : length marks ≡ length g.edges
   edges_is = omega (arith, size, valid.darts)
 
   sides : (e : ℕ) → e < length marks → (near_at t (2 * e) ≡ (edge_at g e).u) × (near_at t (2 * e + 1) ≡ (edge_at g e).v)
-  sides e l = (valid.ends (2 * e) (omega (arith, l, edges_is)) ∙ dart_near g e, valid.ends (2 * e + 1) (omega (arith, l, edges_is)) ∙ near_odd g (2 * e + 1) e refl)
+  sides e l = (
+    valid.ends (2 * e) (omega (arith, l, edges_is)) ∙ dart_near g e,
+    valid.ends (2 * e + 1) (omega (arith, l, edges_is)) ∙ near_odd g (2 * e + 1) e refl,
+  )
 
   -- Edges that leave a blossom, along the list.
-  pub leaving_listed : (b : ℕ) → leaving t marks b ≡ count (λ e. bool_number (splits ((forest_of t).holds b) (edge_at g e).u (edge_at g e).v)) list
+  pub leaving_listed : (b : ℕ)
+      → leaving t marks b ≡ count (λ e. bool_number (splits ((forest_of t).holds b) (edge_at g e).u (edge_at g e).v))
+      list
   leaving_listed b =
-      count_below_same (λ e. bool_number (get_or marks e false && splits ((forest_of t).holds b) (near_at t (2 * e)) (near_at t (2 * e + 1)))) (λ e. cond (get_or marks e false) (bool_number (splits ((forest_of t).holds b) (edge_at g e).u (edge_at g e).v)) 0) (length marks) (λ e l. each e l (get_or marks e false))
+      count_below_same (λ e. bool_number (get_or marks e false && splits ((forest_of t).holds b) (near_at t (2 * e))
+      (near_at t (2 * e + 1))))
+      (λ e. cond (get_or marks e false)
+      (bool_number (splits ((forest_of t).holds b) (edge_at g e).u (edge_at g e).v)) 0) (length marks)
+      (λ e l. each e l (get_or marks e false))
       ∙ sym (are.counts (λ e. bool_number (splits ((forest_of t).holds b) (edge_at g e).u (edge_at g e).v)))
     where
-      each : (e : ℕ) → e < length marks → (s : Bool) → bool_number (s && splits ((forest_of t).holds b) (near_at t (2 * e)) (near_at t (2 * e + 1))) ≡ cond s (bool_number (splits ((forest_of t).holds b) (edge_at g e).u (edge_at g e).v)) 0
+      each : (e : ℕ) → e < length marks → (s : Bool)
+          → bool_number (s && splits ((forest_of t).holds b) (near_at t (2 * e)) (near_at t (2 * e + 1)))
+          ≡ cond s (bool_number (splits ((forest_of t).holds b) (edge_at g e).u (edge_at g e).v)) 0
       each e l false = refl
-      each e l true = ap (λ u. bool_number (splits ((forest_of t).holds b) u (near_at t (2 * e + 1)))) (sides e l).0 ∙ ap (λ v. bool_number (splits ((forest_of t).holds b) (edge_at g e).u v)) (sides e l).1
+      each e l true = ap (λ u. bool_number (splits ((forest_of t).holds b) u (near_at t (2 * e + 1)))) (sides e l).0
+          ∙ ap (λ v. bool_number (splits ((forest_of t).holds b) (edge_at g e).u v)) (sides e l).1
 
   -- A vertex is met as often as it is left.
   pub met_as_left : (w : ℕ) → w < length t.hand → count (ends_at w) (map (edge_at g) list) ≡ leaving t marks w
@@ -117,22 +169,32 @@ module _ (t : ForestTables) (known : IsLaminar t) (g : WeightedGraph) (is : IsSm
       increasing : IsIncreasing 0 (length g.edges) list
       increasing = subst (λ m. IsIncreasing 0 m list) edges_is are.increasing
 
-      counted : (low : ℕ) (xs : List ℕ) → IsIncreasing low (length g.edges) xs → count (λ e. bool_number (splits ((forest_of t).holds w) (edge_at g e).u (edge_at g e).v)) xs ≡ count (λ e. ends_at w (edge_at g e)) xs
+      counted : (low : ℕ) (xs : List ℕ) → IsIncreasing low (length g.edges) xs
+          → count (λ e. bool_number (splits ((forest_of t).holds w) (edge_at g e).u (edge_at g e).v)) xs
+          ≡ count (λ e. ends_at w (edge_at g e)) xs
       counted low [] r = refl
       counted low (x ∷ xs) r =
-          let here : bool_number (splits ((forest_of t).holds w) (edge_at g x).u (edge_at g x).v) ≡ ends_at w (edge_at g x) = leaves_vertex g is.lawful (forest_of t) (subst (λ m. m ≤ length t.up) valid.vertices known.vertices) valid.valid.nested w x (subst (λ m. w < m) valid.vertices lw) r.1 in
-          let rest : count (λ e. bool_number (splits ((forest_of t).holds w) (edge_at g e).u (edge_at g e).v)) xs ≡ count (λ e. ends_at w (edge_at g e)) xs = counted (x + 1) xs r.2 in
+          let here : bool_number (splits ((forest_of t).holds w) (edge_at g x).u (edge_at g x).v)
+          ≡ ends_at w (edge_at g x) =
+          leaves_vertex g is.lawful (forest_of t) (subst (λ m. m ≤ length t.up) valid.vertices known.vertices)
+          valid.valid.nested w x (subst (λ m. w < m) valid.vertices lw) r.1 in
+          let rest : count (λ e. bool_number (splits ((forest_of t).holds w) (edge_at g e).u (edge_at g e).v)) xs
+          ≡ count (λ e. ends_at w (edge_at g e)) xs = counted (x + 1) xs r.2 in
           omega (arith, here, rest)
 
   -- The edges match all vertices of a blossom but one.
-  pub matches_but : (left : List (Option ℕ)) (b v : ℕ) → v < length t.hand → IsRound t marks left (λ c. 0) (λ c. waits_but t c b v + 0) → ((c : ℕ) → get_or left c None ≡ None) → MatchesBut g (forest_of t) b v list
+  pub matches_but : (left : List (Option ℕ)) (b v : ℕ) → v < length t.hand
+      → IsRound t marks left (λ c. 0) (λ c. waits_but t c b v + 0) → ((c : ℕ) → get_or left c None ≡ None)
+      → MatchesBut g (forest_of t) b v list
   matches_but left b v lv round ended = record {
     increasing = subst (λ m. IsIncreasing 0 m list) edges_is are.increasing;
     tight = λ k l. round.tight g is valid (get_or list k 0) (are.each k l);
     once = λ w lw. (
         let low : w < length t.hand = subst (λ m. w < m) (sym valid.vertices) lw in
         let low_up : w < length t.up = omega (arith, low, known.vertices) in
-        let due : leaving t marks w ≡ waits_but t w b v + 0 = round_ends t marks left (λ c. waits_but t c b v + 0) round ended w low_up in
-        let other : waits_but t w b v ≡ cond ((forest_of t).holds b w) (cond (eqb w v) 0 1) 0 = ap (λ (s : Bool). cond ((forest_of t).holds b w) (cond s 0 1) 0) (alone t known w v low lv) in
+        let due : leaving t marks w ≡ waits_but t w b v + 0 =
+        round_ends t marks left (λ c. waits_but t c b v + 0) round ended w low_up in
+        let other : waits_but t w b v ≡ cond ((forest_of t).holds b w) (cond (eqb w v) 0 1) 0 =
+        ap (λ (s : Bool). cond ((forest_of t).holds b w) (cond s 0 1) 0) (alone t known w v low lv) in
         omega (arith, met_as_left w low, due, other));
   }

@@ -1,5 +1,6 @@
 -- Expanding, step by step: what each of its calls needs, and the forest after all of them.
-use Rattle.std.proofs.Common.{◌≡◌, ◌≢◌, ℕ, ◌+◌, ◌*◌, ◌<◌, ◌≤◌, ◌^◌, ◌-◌, ◌%◌, Bool, true, false, length, pos, Option, Some, None, ◌⊎◌, refl, sym, ◌∙◌, ap, subst, inl, inr, arith}
+use Rattle.std.proofs.Common.{◌≡◌, ◌≢◌, ℕ, ◌+◌, ◌*◌, ◌<◌, ◌≤◌, ◌^◌, ◌-◌, ◌%◌, Bool, true, false, length, pos, Option}
+use Rattle.std.proofs.Common.{Some, None, ◌⊎◌, refl, sym, ◌∙◌, ap, subst, inl, inr, arith}
 use Rattle.def_matching.specs.Matching.{WeightedGraph, IsSmallGraph}
 use Rattle.def_forest.specs.Darts.{Darts, darts_of}
 use Rattle.def_forest.specs.Forests.{Forest, walk}
@@ -17,9 +18,11 @@ use Rattle.qm_forest.specs.declared.expanding.Course.{Course}
 use Rattle.qm_forest.proofs.Leavings.{outermost_kept}
 use Rattle.qm_forest.proofs.OnWays.{darts_kept, ends_kept, room_kept}
 use Rattle.qm_forest.proofs.Openeds.{expanding}
-use Rattle.qm_forest.proofs.Openings.{IsJoined, are, inside as the_inside, in_tree, joined, mate_is, part_low, ring_from, first_in, last_in, tree_is}
+use Rattle.qm_forest.proofs.Openings.{IsJoined, are, inside as the_inside, in_tree, joined, mate_is, part_low}
+use Rattle.qm_forest.proofs.Openings.{ring_from, first_in, last_in, tree_is}
 
-module _ (g : WeightedGraph) (is : IsSmallGraph g) (t0 : ForestTables) (valid : IsValidFor g t0) (b : ℕ) (high : g.n ≤ b) (inner : (forest_of t0).label b ≡ Inner) (weightless : (forest_of t0).weight b ≡ pos 0) where
+module _ (g : WeightedGraph) (is : IsSmallGraph g) (t0 : ForestTables) (valid : IsValidFor g t0) (b : ℕ)
+    (high : g.n ≤ b) (inner : (forest_of t0).label b ≡ Inner) (weightless : (forest_of t0).weight b ≡ pos 0) where
   abbrev d : Darts
   d = darts_of g
 
@@ -31,7 +34,8 @@ module _ (g : WeightedGraph) (is : IsSmallGraph g) (t0 : ForestTables) (valid : 
 
   -- The set is matched, and its darts are darts of the graph.
   pub matched : f0.mate b ≢ None
-  matched none = (let clash : ◌≡◌ {A = Option ℕ} (Some m) None = sym (in_tree g is t0 valid b high inner weightless).mate ∙ none in absurd (cc clash))
+  matched none = (let clash : ◌≡◌ {A = Option ℕ} (Some m) None =
+      sym (in_tree g is t0 valid b high inner weightless).mate ∙ none in absurd (cc clash))
 
   pub mate_dart_is : (x : ℕ) → x ≡ dart_or (f0.mate b) → x ≡ m
   mate_dart_is x e = e ∙ ap dart_or (in_tree g is t0 valid b high inner weightless).mate
@@ -52,28 +56,39 @@ module _ (g : WeightedGraph) (is : IsSmallGraph g) (t0 : ForestTables) (valid : 
     hand2 : length t2.hand ≡ g.n
     hand2 = opened.hand ∙ left_size
 
-    pub parted : IsParted g.n (mated (labelled f0 b Outside) b None) f2 (listed f0.nest.after (f0.nest.head b) (f0.nest.parts b)) b
-    parted = subst (λ n. IsParted n (mated (labelled f0 b Outside) b None) f2 (listed f0.nest.after (f0.nest.head b) (f0.nest.parts b)) b) left_size
-        (subst (λ (x : Forest). IsParted (length opened.left.hand) x f2 (listed x.nest.after (x.nest.head b) (x.nest.parts b)) b) opened.gone opened.is)
+    pub parted : IsParted g.n (mated (labelled f0 b Outside) b None) f2
+        (listed f0.nest.after (f0.nest.head b) (f0.nest.parts b)) b
+    parted = subst (λ n. IsParted n (mated (labelled f0 b Outside) b None) f2
+        (listed f0.nest.after (f0.nest.head b) (f0.nest.parts b)) b) left_size
+        (subst (λ (x : Forest). IsParted (length opened.left.hand) x f2
+        (listed x.nest.after (x.nest.head b) (x.nest.parts b)) b) opened.gone opened.is)
 
     pub vertex_low : (v x : ℕ) → v ≡ d.near x → x < 2 * length g.edges → v < length t2.hand
-    vertex_low v x e l = subst (λ n. v < n) (sym hand2) (subst (λ y. y < g.n) (sym e) ((are g is t0 valid b high inner weightless).near_low x l))
+    vertex_low v x e l = subst (λ n. v < n) (sym hand2)
+        (subst (λ y. y < g.n) (sym e) ((are g is t0 valid b high inner weightless).near_low x l))
 
     abbrev inside : ℕ → Bool
     inside = the_inside g is t0 valid b high inner weightless
 
     part_top : (x : ℕ) → inside x ≡ true → IsOutermostIn t2 x
     part_top x on =
-        let j : IsJoined g is t0 valid b high inner weightless f2 parted f2.nest.after f2.nest.joint x = joined g is t0 valid b high inner weightless f2 parted x on in
-        (d.near (f2.nest.joint x), vertex_low (d.near (f2.nest.joint x)) (f2.nest.joint x) refl j.tight.low, j.near_part)
+        let j : IsJoined g is t0 valid b high inner weightless f2 parted f2.nest.after f2.nest.joint x =
+        joined g is t0 valid b high inner weightless f2 parted x on in (
+          d.near (f2.nest.joint x),
+          vertex_low (d.near (f2.nest.joint x)) (f2.nest.joint x) refl j.tight.low,
+          j.near_part,
+        )
 
     low2 : (x : ℕ) → inside x ≡ true → x < length t2.up
     low2 x on = subst (λ n. x < n) (sym parted.size) (part_low g is t0 valid b high inner weightless x on)
 
     joint_low : (x : ℕ) → inside x ≡ true → f2.nest.joint x < 2 ^ 31
-    joint_low x on = (let l : f2.nest.joint x < 2 * length g.edges = (joined g is t0 valid b high inner weightless f2 parted x on).tight.low in omega (arith, l, is.edges))
+    joint_low x on = (let l : f2.nest.joint x < 2 * length g.edges =
+        (joined g is t0 valid b high inner weightless f2 parted x on).tight.low in omega (arith, l, is.edges))
 
-    module _ (m' l' first' last' many' v' w' : ℕ) (m_is : m' ≡ m) (l_is : l' ≡ f0.link b) (v_is : v' ≡ d.near m') (w_is : w' ≡ d.near l') (first_at : first' ≡ f2.out v') (last_at : last' ≡ f2.out w') (many_is : many' ≡ f0.nest.parts b) where
+    module _ (m' l' first' last' many' v' w' : ℕ) (m_is : m' ≡ m) (l_is : l' ≡ f0.link b) (v_is : v' ≡ d.near m')
+        (w_is : w' ≡ d.near l') (first_at : first' ≡ f2.out v') (last_at : last' ≡ f2.out w') (many_is : many'
+        ≡ f0.nest.parts b) where
       first_is : first' ≡ f2.out (d.near m)
       first_is = first_at ∙ (ap f2.out v_is ∙ ap (λ x. f2.out (d.near x)) m_is)
 
@@ -99,7 +114,8 @@ module _ (g : WeightedGraph) (is : IsSmallGraph g) (t0 : ForestTables) (valid : 
       darts_low k l = joint_low (walk f2.nest.after first' k) ((circle_at first' first_marked).marked k)
 
       -- The parts are matched.
-      module _ (t3 : ForestTables) (seen3 : forest_of t3 ≡ mated (paired f2 first' many') first' (Some m')) (same3 : HasSameNest t2 t3) where
+      module _ (t3 : ForestTables) (seen3 : forest_of t3 ≡ mated (paired f2 first' many') first' (Some m'))
+          (same3 : HasSameNest t2 t3) where
         after3 : (forest_of t3).nest.after ≡ f2.nest.after
         after3 = ap (λ (f : Forest). f.nest.after) seen3
 
@@ -110,11 +126,13 @@ module _ (g : WeightedGraph) (is : IsSmallGraph g) (t0 : ForestTables) (valid : 
         up3 = ap length same3.up
 
         pub reached3 : (k : ℕ) × (k < many') × (walk (forest_of t3).nest.after first' k ≡ last')
-        reached3 = (let w : (k : ℕ) × (k < f0.nest.parts b) × (walk f2.nest.after first' k ≡ last') = (circle_at first' first_marked).all last' last_marked in
+        reached3 = (let w : (k : ℕ) × (k < f0.nest.parts b) × (walk f2.nest.after first' k ≡ last') =
+            (circle_at first' first_marked).all last' last_marked in
             (w.0, subst (λ n. w.0 < n) (sym many_is) w.1, at3 first' w.0 ∙ w.2))
 
         low_from : (x : ℕ) → inside x ≡ true → (k : ℕ) → walk (forest_of t3).nest.after x k < length t3.up
-        low_from x on k = subst (λ n. walk (forest_of t3).nest.after x k < n) (sym up3) (subst (λ y. y < length t2.up) (sym (at3 x k)) (low2 (walk f2.nest.after x k) ((circle_at x on).marked k)))
+        low_from x on k = subst (λ n. walk (forest_of t3).nest.after x k < n) (sym up3)
+            (subst (λ y. y < length t2.up) (sym (at3 x k)) (low2 (walk f2.nest.after x k) ((circle_at x on).marked k)))
 
         pub low3 : (k : ℕ) → k < many' → walk (forest_of t3).nest.after first' k < length t3.up
         low3 k l = low_from first' first_marked k
@@ -124,20 +142,27 @@ module _ (g : WeightedGraph) (is : IsSmallGraph g) (t0 : ForestTables) (valid : 
           front_marked : inside course.front ≡ true
           front_marked = by_way way.way
             where
-              by_way : ((course.forward ≡ true) × (course.front ≡ first') × (course.many ≡ way.steps + 1) × (way.steps % 2 ≡ 0))
-                  ⊎ ((course.forward ≡ false) × (course.front ≡ last') × (course.many ≡ (many' - way.steps) + 1) × (way.steps % 2 ≡ 1)) → inside course.front ≡ true
+              by_way : ((course.forward ≡ true) × (course.front ≡ first') × (course.many ≡ way.steps + 1)
+                  × (way.steps % 2 ≡ 0))
+                  ⊎ ((course.forward ≡ false) × (course.front ≡ last') × (course.many ≡ (many' - way.steps) + 1)
+                  × (way.steps % 2 ≡ 1)) → inside course.front ≡ true
               by_way (inl w) = ap inside w.1 ∙ first_marked
               by_way (inr w) = ap inside w.1 ∙ last_marked
 
           pub tops3 : (k : ℕ) → k < course.many → IsOutermostIn t3 (walk (forest_of t3).nest.after course.front k)
-          tops3 k l = outermost_kept t2 t3 (walk (forest_of t3).nest.after course.front k) (walk f2.nest.after course.front k) same3 (at3 course.front k) (part_top (walk f2.nest.after course.front k) ((circle_at course.front front_marked).marked k))
+          tops3 k l = outermost_kept t2 t3 (walk (forest_of t3).nest.after course.front k)
+              (walk f2.nest.after course.front k) same3 (at3 course.front k)
+              (part_top (walk f2.nest.after course.front k) ((circle_at course.front front_marked).marked k))
 
           pub front_low : (k : ℕ) → k < course.many → walk (forest_of t3).nest.after course.front k < length t3.up
           front_low k l = low_from course.front front_marked k
 
-          pub joints3 : (k : ℕ) → k < course.many → (forest_of t3).nest.joint (walk (forest_of t3).nest.after course.front k) < 2 ^ 31
-          joints3 k l = subst (λ (h : ℕ → ℕ). h (walk (forest_of t3).nest.after course.front k) < 2 ^ 31) (sym (ap (λ (f : Forest). f.nest.joint) seen3))
-              (subst (λ y. f2.nest.joint y < 2 ^ 31) (sym (at3 course.front k)) (joint_low (walk f2.nest.after course.front k) ((circle_at course.front front_marked).marked k)))
+          pub joints3 : (k : ℕ) → k < course.many
+              → (forest_of t3).nest.joint (walk (forest_of t3).nest.after course.front k) < 2 ^ 31
+          joints3 k l = subst (λ (h : ℕ → ℕ). h (walk (forest_of t3).nest.after course.front k) < 2 ^ 31)
+              (sym (ap (λ (f : Forest). f.nest.joint) seen3))
+              (subst (λ y. f2.nest.joint y < 2 ^ 31) (sym (at3 course.front k))
+              (joint_low (walk f2.nest.after course.front k) ((circle_at course.front front_marked).marked k)))
 
           way2 : IsCourse f2.nest.after (f2.out (d.near m)) (f2.out (d.near (f0.link b))) (f0.nest.parts b) course
           way2 = subst (λ n. IsCourse f2.nest.after (f2.out (d.near m)) (f2.out (d.near (f0.link b))) n course) many_is
@@ -148,16 +173,24 @@ module _ (g : WeightedGraph) (is : IsSmallGraph g) (t0 : ForestTables) (valid : 
           pub last_low : (t4 : ForestTables) → HasSameNest t3 t4 → last' < length t4.up
           last_low t4 same4 = subst (λ n. last' < n) (sym (ap length same4.up ∙ up3)) (low2 last' last_marked)
 
-          module _ (f6 : Forest) (t4 : ForestTables) (seen4 : forest_of t4 ≡ hung (forest_of t3) course.front course.many course.forward) (seen6 : f6 ≡ linked (forest_of t4) last' l') where
-            done : f6 ≡ linked (hung (mated (paired f2 (f2.out (d.near m)) (f0.nest.parts b)) (f2.out (d.near m)) (Some m)) course.front course.many course.forward) (f2.out (d.near (f0.link b))) (f0.link b)
+          module _ (f6 : Forest) (t4 : ForestTables) (seen4 : forest_of t4
+              ≡ hung (forest_of t3) course.front course.many course.forward) (seen6 : f6
+              ≡ linked (forest_of t4) last' l') where
+            done : f6 ≡ linked (hung (mated (paired f2 (f2.out (d.near m)) (f0.nest.parts b)) (f2.out (d.near m))
+                (Some m)) course.front course.many course.forward) (f2.out (d.near (f0.link b))) (f0.link b)
             done = seen6
                 ∙ (ap (λ (f : Forest). linked f last' l') seen4
                 ∙ (ap (λ (f : Forest). linked (hung f course.front course.many course.forward) last' l') seen3
-                ∙ (ap (λ x. linked (hung (mated (paired f2 x many') x (Some m')) course.front course.many course.forward) last' l') first_is
-                ∙ (ap (λ n. linked (hung (mated (paired f2 (f2.out (d.near m)) n) (f2.out (d.near m)) (Some m')) course.front course.many course.forward) last' l') many_is
-                ∙ (ap (λ x. linked (hung (mated (paired f2 (f2.out (d.near m)) (f0.nest.parts b)) (f2.out (d.near m)) (Some x)) course.front course.many course.forward) last' l') m_is
-                ∙ (ap (λ x. linked (hung (mated (paired f2 (f2.out (d.near m)) (f0.nest.parts b)) (f2.out (d.near m)) (Some m)) course.front course.many course.forward) x l') last_is
-                ∙ ap (λ x. linked (hung (mated (paired f2 (f2.out (d.near m)) (f0.nest.parts b)) (f2.out (d.near m)) (Some m)) course.front course.many course.forward) (f2.out (d.near (f0.link b))) x) l_is))))))
+                ∙ (ap (λ x. linked (hung (mated (paired f2 x many') x (Some m')) course.front course.many
+                course.forward) last' l') first_is
+                ∙ (ap (λ n. linked (hung (mated (paired f2 (f2.out (d.near m)) n) (f2.out (d.near m)) (Some m'))
+                course.front course.many course.forward) last' l') many_is
+                ∙ (ap (λ x. linked (hung (mated (paired f2 (f2.out (d.near m)) (f0.nest.parts b)) (f2.out (d.near m))
+                (Some x)) course.front course.many course.forward) last' l') m_is
+                ∙ (ap (λ x. linked (hung (mated (paired f2 (f2.out (d.near m)) (f0.nest.parts b)) (f2.out (d.near m))
+                (Some m)) course.front course.many course.forward) x l') last_is
+                ∙ ap (λ x. linked (hung (mated (paired f2 (f2.out (d.near m)) (f0.nest.parts b)) (f2.out (d.near m))
+                (Some m)) course.front course.many course.forward) (f2.out (d.near (f0.link b))) x) l_is))))))
 
             pub expanded : IsExpanding d f0 f6 b
             expanded = expanding g is t0 valid b high inner weightless f2 parted course way2 f6 done
@@ -165,12 +198,16 @@ module _ (g : WeightedGraph) (is : IsSmallGraph g) (t0 : ForestTables) (valid : 
             abbrev tree : (r : ℕ) × (t0.root ≡ Some r) × IsTree d f0 r
             tree = tree_is g is t0 valid b high inner weightless
 
-            pub expanded_valid : (t6 : ForestTables) → forest_of t6 ≡ f6 → length t6.hand ≡ length t2.hand → t6.root ≡ t0.root → fixed_of t6 ≡ fixed_of t2 → IsValidFor g t6
+            pub expanded_valid : (t6 : ForestTables) → forest_of t6 ≡ f6 → length t6.hand ≡ length t2.hand
+                → t6.root ≡ t0.root → fixed_of t6 ≡ fixed_of t2 → IsValidFor g t6
             expanded_valid t6 seen hand root fixed = record {
               darts = darts_kept g t0 t6 valid (fixed ∙ (opened.fixed ∙ opened.same.fixed));
               ends = ends_kept g t0 t6 valid (fixed ∙ (opened.fixed ∙ opened.same.fixed));
               room = room_kept g t0 t6 valid (fixed ∙ (opened.fixed ∙ opened.same.fixed));
               vertices = hand ∙ hand2;
-              valid = subst (λ o. IsValid d (forest_of t6) o) (sym (root ∙ tree.1)) (subst (λ (f : Forest). IsValid d f (Some tree.0)) (sym seen)
-                  (opened_valid d (are g is t0 valid b high inner weightless) f0 tree.0 (subst (λ o. IsValid d f0 o) tree.1 valid.valid) tree.2 f6 expanded.o expanded.opening expanded.opened));
+              valid = subst (λ o. IsValid d (forest_of t6) o) (sym (root ∙ tree.1))
+                  (subst (λ (f : Forest). IsValid d f (Some tree.0)) (sym seen)
+                  (opened_valid d (are g is t0 valid b high inner weightless) f0 tree.0
+                  (subst (λ o. IsValid d f0 o) tree.1 valid.valid) tree.2 f6 expanded.o expanded.opening
+                  expanded.opened));
             }

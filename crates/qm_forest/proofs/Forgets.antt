@@ -1,5 +1,6 @@
 -- The tables where the tree is forgotten.
-use Rattle.std.proofs.Common.{◌≡◌, ◌≢◌, ℕ, suc, Bool, true, false, [], ◌∷◌, count_by, ◌<◌, ◌≤◌, ◌^◌, List, length, get_or, ℤ, pos, ◌+ℤ◌, ◌⊎◌, cond, None, refl, sym, ◌∙◌, ap, subst, inl, inr, arith}
+use Rattle.std.proofs.Common.{◌≡◌, ◌≢◌, ℕ, suc, Bool, true, false, [], ◌∷◌, count_by, ◌<◌, ◌≤◌, ◌^◌, List, length}
+use Rattle.std.proofs.Common.{get_or, ℤ, pos, ◌+ℤ◌, ◌⊎◌, cond, None, refl, sym, ◌∙◌, ap, subst, inl, inr, arith}
 use Rattle.std.specs.Prelude.{unsigned_abs}
 use Rattle.std.proofs.lemmas.Int.{ints}
 use Rattle.std.proofs.lemmas.Bool.{cases_Bool}
@@ -21,8 +22,11 @@ none_counted (m ∷ ms) none =
     let here : ◌≡◌ {A = ℕ} (cond m 1 0) 0 = ap (λ (b : Bool). cond b 1 0) (none 0) in
     omega (arith, here, sum_by-cons (λ (b : Bool). cond b 1 0) m ms, none_counted ms (λ v. none (suc v)))
 
-module _ (t : ForestTables) (hid : HiddenTables) (tied : AreTied t hid) (outside : (k : ℕ) → k < length t.trail → label_at t.label (out_of t.hand t.top (get_or t.trail k 0)) ≡ Outside)
-    (marks : List Bool) (size : length marks ≡ length hid.touched) (old : (v : ℕ) → get_or marks v false ≡ true → get_or hid.touched v false ≡ true) (gone : (k : ℕ) → k < length t.trail → get_or marks (get_or t.trail k 0) false ≡ false)
+module _ (t : ForestTables) (hid : HiddenTables) (tied : AreTied t hid) (outside : (k : ℕ) → k < length t.trail
+    → label_at t.label (out_of t.hand t.top (get_or t.trail k 0)) ≡ Outside)
+    (marks : List Bool) (size : length marks ≡ length hid.touched) (old : (v : ℕ) → get_or marks v false ≡ true
+    → get_or hid.touched v false ≡ true) (gone : (k : ℕ) → k < length t.trail
+    → get_or marks (get_or t.trail k 0) false ≡ false)
     (trail : List ℕ) (empty : length trail ≡ 0) (room : ℕ) (more : hid.room ≤ room) where
   -- All blossoms are outside: those that are not outermost have no place in the tree.
   all_outside : (b : ℕ) → label_at t.label b ≡ Outside
@@ -30,14 +34,19 @@ module _ (t : ForestTables) (hid : HiddenTables) (tied : AreTied t hid) (outside
     where
       by_label : (label_at t.label b ≡ Outside) ⊎ (label_at t.label b ≢ Outside) → label_at t.label b ≡ Outside
       by_label (inl off') = off'
-      by_label (inr named) = let w : (k : ℕ) × (k < length t.trail) × (out_of t.hand t.top (get_or t.trail k 0) ≡ b) = tied.trail.named b named in absurd (named (ap (label_at t.label) (sym w.2) ∙ outside w.0 w.1))
+      by_label (inr named) = let w : (k : ℕ) × (k < length t.trail) × (out_of t.hand t.top (get_or t.trail k 0) ≡ b) =
+          tied.trail.named b named in absurd (named (ap (label_at t.label) (sym w.2) ∙ outside w.0 w.1))
 
   abbrev pub forgotten : ForestTables
   forgotten = record t { root = None; delta = pos 0; trail = trail }
 
   -- No mark is left.
   none_marked : (v : ℕ) → get_or marks v false ≡ false
-  none_marked v = elim (cases_Bool (get_or marks v false)) [ inl on ↦ (let w : IsOnTrail t.trail v = tied.trail.marked v (old v on) in subst (λ u. get_or marks u false ≡ false) w.2 (gone w.0 w.1)) | inr off ↦ off ]
+  none_marked v = elim (cases_Bool (get_or marks v false)) [
+    | inl on ↦ (let w : IsOnTrail t.trail v =
+        tied.trail.marked v (old v on) in subst (λ u. get_or marks u false ≡ false) w.2 (gone w.0 w.1))
+    | inr off ↦ off
+  ]
 
   change_none : (b : ℕ) (d : ℤ) → weight_change (label_at t.label b) d ≡ pos 0
   change_none b d = ap (λ (l : Label). weight_change l d) (all_outside b)
@@ -58,10 +67,13 @@ module _ (t : ForestTables) (hid : HiddenTables) (tied : AreTied t hid) (outside
   }
 
   added_same : (v : ℕ) → added t.hand t.top hid.off t.label (pos 0) v ≡ added t.hand t.top hid.off t.label t.delta v
-  added_same v = ap (λ (x : ℤ). get_or hid.off (get_or t.hand v 0) (pos 0) +ℤ x) (change_none (out_of t.hand t.top v) (pos 0) ∙ sym (change_none (out_of t.hand t.top v) t.delta))
+  added_same v = ap (λ (x : ℤ). get_or hid.off (get_or t.hand v 0) (pos 0) +ℤ x)
+      (change_none (out_of t.hand t.top v) (pos 0) ∙ sym (change_none (out_of t.hand t.top v) t.delta))
 
   potential_same : (v : ℕ) → potential (forest_of forgotten) v ≡ potential (forest_of t) v
-  potential_same v = total_below_same (λ b. cond ((forest_of t).holds b v) ((forest_of forgotten).weight b) (pos 0)) (λ b. cond ((forest_of t).holds b v) ((forest_of t).weight b) (pos 0)) (length t.up) (λ b l. ap (λ (x : ℤ). cond ((forest_of t).holds b v) x (pos 0)) (weight_same b))
+  potential_same v = total_below_same (λ b. cond ((forest_of t).holds b v) ((forest_of forgotten).weight b) (pos 0))
+      (λ b. cond ((forest_of t).holds b v) ((forest_of t).weight b) (pos 0)) (length t.up)
+      (λ b l. ap (λ (x : ℤ). cond ((forest_of t).holds b v) x (pos 0)) (weight_same b))
 
   sum_same : dual_sum_of (forest_of forgotten) ≡ dual_sum_of (forest_of t)
   sum_same = total_below_same (forest_of forgotten).weight (forest_of t).weight (length t.up) (λ b l. weight_same b)
@@ -71,7 +83,8 @@ module _ (t : ForestTables) (hid : HiddenTables) (tied : AreTied t hid) (outside
     sizes = sizes_kept t hid tied.sizes (pos 0) None trail marks room (size ∙ tied.sizes.touched) more;
     nest = tied.nest;
     numbers = record {
-      potentials = λ v l. potential_same v ∙ (tied.numbers.potentials v l ∙ ap (λ (x : ℤ). get_or hid.q v (pos 0) +ℤ x) (sym (added_same v)));
+      potentials = λ v l. potential_same v
+          ∙ (tied.numbers.potentials v l ∙ ap (λ (x : ℤ). get_or hid.q v (pos 0) +ℤ x) (sym (added_same v)));
       small = λ b. subst (λ (x : ℤ). unsigned_abs x ≤ 2 ^ 62) (sym (weight_same b)) (tied.numbers.small b);
       start = tied.numbers.start;
       small_start = tied.numbers.small_start;

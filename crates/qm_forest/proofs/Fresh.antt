@@ -1,5 +1,7 @@
 -- The tables of a forest of single vertices are tied, and valid for a graph whose costs the weights stay below.
-use Rattle.std.proofs.Common.{count_by, is_some, ◌≡◌, ◌≢◌, ℕ, zero, suc, ◌+◌, ◌-◌, ◌*◌, ◌/◌, ◌%◌, ◌<◌, ◌≤◌, ◌^◌, Bool, true, false, cond, eqb, ◌||◌, List, length, get_or, replicate, ℤ, pos, ◌+ℤ◌, ◌*ℤ◌, ◌≤ℤ◌, ◌⊎◌, Option, Some, None, refl, sym, ◌∙◌, ap, subst, inl, inr, arith}
+use Rattle.std.proofs.Common.{count_by, is_some, ◌≡◌, ◌≢◌, ℕ, zero, suc, ◌+◌, ◌-◌, ◌*◌, ◌/◌, ◌%◌, ◌<◌, ◌≤◌, ◌^◌, Bool}
+use Rattle.std.proofs.Common.{true, false, cond, eqb, ◌||◌, List, length, get_or, replicate, ℤ, pos, ◌+ℤ◌, ◌*ℤ◌, ◌≤ℤ◌}
+use Rattle.std.proofs.Common.{◌⊎◌, Option, Some, None, refl, sym, ◌∙◌, ap, subst, inl, inr, arith}
 use Rattle.std.specs.Prelude.{unsigned_abs, nat_lt}
 use Rattle.std.proofs.lemmas.Int.{ints}
 use Rattle.std.proofs.lemmas.List.{get_or-replicate, length-replicate, get_or_past}
@@ -21,7 +23,8 @@ use Rattle.forest_laws.proofs.Graphs.{near_even, near_odd, twin_even, twin_odd}
 use Rattle.forest_laws.proofs.Writes.{true_false}
 use Rattle.forest_laws.proofs.Loads.{load_across}
 use Rattle.qm_pool.specs.declared.pool.Node.{Node}
-use Rattle.qm_forest.specs.Ties.{AreTied, HasSizes, IsLaidOut, IsListed, HiddenTables, IsCounted, IsFresh, AreFeasible, AreStarts, potential, added}
+use Rattle.qm_forest.specs.Ties.{AreTied, HasSizes, IsLaidOut, IsListed, HiddenTables, IsCounted, IsFresh, AreFeasible}
+use Rattle.qm_forest.specs.Ties.{AreStarts, potential, added}
 use Rattle.qm_forest.proofs.Forgets.{none_counted}
 use Rattle.qm_forest.proofs.Apart.{walk_stays}
 use Rattle.qm_forest.proofs.Ranges.{sum_small, read_nat}
@@ -45,7 +48,8 @@ or_same false = refl
 -- Where each is around itself, one climbs past oneself alone.
 pub climbs_self : (up : ℕ → ℕ) (k b v : ℕ) → up v ≡ v → climbs up k b v ≡ eqb v b
 climbs_self up zero b v e = refl
-climbs_self up (suc k) b v e = ap (λ (x : ℕ). eqb v b || climbs up k b x) e ∙ (ap (λ (x : Bool). eqb v b || x) (climbs_self up k b v e) ∙ or_same (eqb v b))
+climbs_self up (suc k) b v e = ap (λ (x : ℕ). eqb v b || climbs up k b x) e
+    ∙ (ap (λ (x : Bool). eqb v b || x) (climbs_self up k b v e) ∙ or_same (eqb v b))
 
 module _ (n size : ℕ) (lows : List ℤ) (t : ForestTables) (hid : HiddenTables) (fresh : IsFresh n size lows t hid) where
   vertices : n ≤ size
@@ -87,13 +91,17 @@ module _ (n size : ℕ) (lows : List ℤ) (t : ForestTables) (hid : HiddenTables
 
   potential_is : (v : ℕ) → v < n → potential (forest_of t) v ≡ get_or lows v (pos 0)
   potential_is v l =
-      total_below_one (λ b. cond ((forest_of t).holds b v) ((forest_of t).weight b) (pos 0)) (length t.up) v (subst (λ m. v < m) (sym size_up) (omega (arith, vertices)))
-      (λ k lk ne. cond-false ((forest_of t).holds k v) ((forest_of t).weight k) (pos 0) (holds_is k v ∙ ne_eqb v k (λ e. ne (sym e))))
-      ∙ (cond-true ((forest_of t).holds v v) ((forest_of t).weight v) (pos 0) (holds_is v v ∙ eq-eqb v v refl) ∙ weight_is v)
+      total_below_one (λ b. cond ((forest_of t).holds b v) ((forest_of t).weight b) (pos 0)) (length t.up) v
+      (subst (λ m. v < m) (sym size_up) (omega (arith, vertices)))
+      (λ k lk ne. cond-false ((forest_of t).holds k v) ((forest_of t).weight k) (pos 0) (holds_is k v
+      ∙ ne_eqb v k (λ e. ne (sym e))))
+      ∙ (cond-true ((forest_of t).holds v v) ((forest_of t).weight v) (pos 0) (holds_is v v ∙ eq-eqb v v refl)
+      ∙ weight_is v)
 
   added_is : (v : ℕ) → v < n → added t.hand t.top hid.off t.label t.delta v ≡ pos 0
   added_is v l =
-      let o : get_or hid.off (get_or t.hand v 0) (pos 0) ≡ pos 0 = same_everywhere hid.off n (pos 0) fresh.offs (get_or t.hand v 0) in
+      let o : get_or hid.off (get_or t.hand v 0) (pos 0) ≡ pos 0 =
+      same_everywhere hid.off n (pos 0) fresh.offs (get_or t.hand v 0) in
       omega (arith, ints, o, change_none (out_of t.hand t.top v) t.delta)
 
   -- Each is the list of itself.
@@ -107,12 +115,24 @@ module _ (n size : ℕ) (lows : List ℤ) (t : ForestTables) (hid : HiddenTables
   rank_is : (x : ℕ) → x < n → get_or t.rank x 0 ≡ 1
   rank_is x l = ap (λ xs. get_or xs x 0) fresh.rank ∙ get_or-replicate size x 1 0 (omega (arith, vertices))
 
-  listed_self : (x : ℕ) → x < n → IsListed n (λ k. get_or hid.following k 0) (get_or hid.first x 0) (get_or hid.last x 0) (get_or t.rank x 0) (climbs (up_at t.up) n x)
+  listed_self : (x : ℕ) → x < n → IsListed n (λ k. get_or hid.following k 0) (get_or hid.first x 0)
+      (get_or hid.last x 0) (get_or t.rank x 0) (climbs (up_at t.up) n x)
   listed_self x l =
-      subst (λ k. IsListed n (λ k. get_or hid.following k 0) (get_or hid.first x 0) (get_or hid.last x 0) k (climbs (up_at t.up) n x)) (sym (rank_is x l))
-      (subst (λ k. IsListed n (λ k. get_or hid.following k 0) (get_or hid.first x 0) k 1 (climbs (up_at t.up) n x)) (sym (list_at hid.last x fresh.lists.2 l))
-      (subst (λ k. IsListed n (λ k. get_or hid.following k 0) k x 1 (climbs (up_at t.up) n x)) (sym (list_at hid.first x fresh.lists.1 l))
-      (record { all = λ v lv. eqb_order x v ∙ sym (climbs_self (up_at t.up) n x v (up_self v)); low = λ k lk. first_low k lk; distinct = λ i j lij lj. absurd (omega (arith, lij, lj)); ends = λ k e. first_is k e; some = omega arith })))
+      subst (λ k. IsListed n (λ k. get_or hid.following k 0) (get_or hid.first x 0) (get_or hid.last x 0) k
+      (climbs (up_at t.up) n x)) (sym (rank_is x l))
+      (subst (λ k. IsListed n (λ k. get_or hid.following k 0) (get_or hid.first x 0) k 1 (climbs (up_at t.up) n x))
+      (sym (list_at hid.last x fresh.lists.2 l))
+      (subst (λ k. IsListed n (λ k. get_or hid.following k 0) k x 1 (climbs (up_at t.up) n x))
+      (sym (list_at hid.first x fresh.lists.1 l))
+      (record {
+        all = λ v lv. eqb_order x v ∙ sym (climbs_self (up_at t.up) n x v (up_self v));
+        low =
+            λ k lk. first_low k lk;
+        distinct = λ i j lij lj. absurd (omega (arith, lij, lj));
+        ends =
+            λ k e. first_is k e;
+        some = omega arith;
+      })))
     where
       first_low : (k : ℕ) → k < 1 → walk (λ k. get_or hid.following k 0) x k < n
       first_low zero lk = l
@@ -152,24 +172,39 @@ module _ (n size : ℕ) (lows : List ℤ) (t : ForestTables) (hid : HiddenTables
   fresh_nest : IsLaidOut n size t.hand t.top t.up t.rank t.parts hid.leader hid.first hid.last hid.following
   fresh_nest = record {
     hands = λ v l. subst (λ k. k < length t.top) (sym (hand_is v l)) (subst (λ m. v < m) (sym fresh.top.size) l);
-    outs = λ h l. (let lh : h < n = subst (λ m. h < m) fresh.top.size l in subst (λ k. k < size) (sym (fresh.top.each h lh)) (omega (arith, vertices)));
+    outs = λ h l. (let lh : h < n = subst (λ m. h < m) fresh.top.size l in
+        subst (λ k. k < size) (sym (fresh.top.each h lh)) (omega (arith, vertices)));
     ups = λ b l. subst (λ k. k < size) (sym (fresh.up.each b l)) l;
-    climb = record { ends = λ v l. walk_stays (up_at t.up) v n (up_self v) ∙ sym (out_is v l); tops = λ v l. up_self (out_of t.hand t.top v) };
-    led = λ v l. hand_is v l ∙ (sym (list_at hid.leader v fresh.lists.0 l) ∙ ap (λ b. get_or hid.leader b 0) (sym (out_is v l)));
-    leaders = λ x lx used. (let l : x < n = used_low x used in let e : get_or hid.leader x 0 ≡ x = list_at hid.leader x fresh.lists.0 l in
-        (subst (λ k. k < n) (sym e) l, climbs_self (up_at t.up) n x (get_or hid.leader x 0) (up_self (get_or hid.leader x 0)) ∙ eq-eqb (get_or hid.leader x 0) x e));
+    climb = record {
+      ends = λ v l. walk_stays (up_at t.up) v n (up_self v) ∙ sym (out_is v l);
+      tops =
+          λ v l. up_self (out_of t.hand t.top v);
+    };
+    led = λ v l. hand_is v l ∙ (sym (list_at hid.leader v fresh.lists.0 l)
+        ∙ ap (λ b. get_or hid.leader b 0) (sym (out_is v l)));
+    leaders = λ x lx used. (let l : x < n = used_low x used in let e : get_or hid.leader x 0 ≡ x =
+        list_at hid.leader x fresh.lists.0 l in (
+          subst (λ k. k < n) (sym e) l,
+          climbs_self (up_at t.up) n x (get_or hid.leader x 0)
+              (up_self (get_or hid.leader x 0)) ∙ eq-eqb (get_or hid.leader x 0) x e,
+        ));
     members = λ x lx used. listed_self x (used_low x used);
-    ended = λ x y k lx ly ux uy l e. (let one : get_or t.rank y 0 ≡ 1 = rank_is y (used_low y uy) in absurd (omega (arith, one, l)));
+    ended = λ x y k lx ly ux uy l e. (let one : get_or t.rank y 0 ≡ 1 = rank_is y (used_low y uy) in
+        absurd (omega (arith, one, l)));
     idle = λ x high none. up_self x;
     rises = λ x inner. absurd (inner (up_self x));
     around = λ x inner. absurd (inner (up_self x));
   }
 
   none_some : count_by is_some hid.pool ≡ 0
-  none_some = ap (count_by is_some) fresh.pool ∙ (sum_by-replicate (λ (o : Option Node). cond (is_some o) 1 0) (n / 2) None ∙ (let e : (n / 2) * 0 ≡ 0 = omega arith in e))
+  none_some = ap (count_by is_some) fresh.pool
+      ∙ (sum_by-replicate (λ (o : Option Node). cond (is_some o) 1 0) (n / 2) None ∙ (let e : (n / 2) * 0 ≡ 0 =
+      omega arith in e))
 
   none_many : count_below (live_at (length t.hand) (λ i. get_or t.parts i 0)) (length t.up) ≡ 0
-  none_many = count_below_none (live_at (length t.hand) (λ i. get_or t.parts i 0)) (length t.up) (λ x l. ap (λ m. cond (nat_lt x (length t.hand)) 0 (cond (eqb m 0) 0 1)) (same_everywhere t.parts size 0 fresh.parts x) ∙ none (nat_lt x (length t.hand)))
+  none_many = count_below_none (live_at (length t.hand) (λ i. get_or t.parts i 0)) (length t.up)
+      (λ x l. ap (λ m. cond (nat_lt x (length t.hand)) 0 (cond (eqb m 0) 0 1))
+      (same_everywhere t.parts size 0 fresh.parts x) ∙ none (nat_lt x (length t.hand)))
     where
       none : (s : Bool) → ◌≡◌ {A = ℕ} (cond s 0 0) 0
       none true = refl
@@ -182,12 +217,25 @@ module _ (n size : ℕ) (lows : List ℤ) (t : ForestTables) (hid : HiddenTables
   pub fresh_tied : ((v : ℕ) → unsigned_abs (get_or lows v (pos 0)) ≤ 2 ^ 60) → AreTied t hid
   fresh_tied small = record {
     sizes = fresh_sizes;
-    nest = subst (λ m. IsLaidOut m (length t.up) t.hand t.top t.up t.rank t.parts hid.leader hid.first hid.last hid.following) (sym fresh.hand.size) (subst (λ m. IsLaidOut n m t.hand t.top t.up t.rank t.parts hid.leader hid.first hid.last hid.following) (sym size_up) fresh_nest);
+    nest = subst (λ m. IsLaidOut m (length t.up) t.hand t.top t.up t.rank t.parts hid.leader hid.first hid.last
+        hid.following) (sym fresh.hand.size)
+        (subst (λ m. IsLaidOut n m t.hand t.top t.up t.rank t.parts hid.leader hid.first hid.last hid.following)
+        (sym size_up) fresh_nest);
     numbers = record {
-      potentials = λ v l. potential_is v (in_n v l) ∙ (let e : get_or hid.q v (pos 0) ≡ get_or lows v (pos 0) = ap (λ (xs : List ℤ). get_or xs v (pos 0)) fresh.kept in omega (arith, ints, e, added_is v (in_n v l)));
-      small = λ b. (let e : (forest_of t).weight b ≡ get_or lows b (pos 0) = weight_is b in omega (arith, ints, e, small b));
+      potentials = λ v l. potential_is v (in_n v l) ∙ (let e : get_or hid.q v (pos 0) ≡ get_or lows v (pos 0) =
+          ap (λ (xs : List ℤ). get_or xs v (pos 0)) fresh.kept in omega (arith, ints, e, added_is v (in_n v l)));
+      small = λ b. (let e : (forest_of t).weight b ≡ get_or lows b (pos 0) = weight_is b in
+          omega (arith, ints, e, small b));
       start = dual_sum_of (forest_of t);
-      small_start = omega (arith, ints, sum_small (forest_of t).weight (length t.up) (λ k l. (let e : (forest_of t).weight k ≡ get_or lows k (pos 0) = weight_is k in omega (arith, ints, e, small k))), size_up, fresh.few);
+      small_start = omega (
+        arith,
+        ints,
+        sum_small (forest_of t).weight (length t.up)
+            (λ k l. (let e : (forest_of t).weight k ≡ get_or lows k (pos 0) = weight_is k in
+            omega (arith, ints, e, small k))),
+        size_up,
+        fresh.few,
+      );
       moved = λ v l. omega (arith, ints, added_is v (in_n v l));
       risen = (omega (arith, ints, fresh.delta), omega (arith, ints, fresh.delta));
       still = λ none. fresh.delta;
@@ -221,7 +269,8 @@ module _ (n size : ℕ) (lows : List ℤ) (t : ForestTables) (hid : HiddenTables
       out_low = λ v l. subst (λ k. k < length t.up) (sym (outs v l)) (omega (arith, size_up, vertices, n_is));
       held = λ u v lu lv. holds_is ((forest_of t).out u) v ∙ ap (λ k. eqb k ((forest_of t).out u)) (sym (outs v lv));
       tops = λ v l. up_self ((forest_of t).out v);
-      together = λ b u v lu lv hu hv. outs u lu ∙ (eqb-true u b (sym (holds_is b u) ∙ hu) ∙ (sym (eqb-true v b (sym (holds_is b v) ∙ hv)) ∙ sym (outs v lv)));
+      together = λ b u v lu lv hu hv. outs u lu
+          ∙ (eqb-true u b (sym (holds_is b u) ∙ hu) ∙ (sym (eqb-true v b (sym (holds_is b v) ∙ hv)) ∙ sym (outs v lv)));
       named = λ b named. absurd (named (label_is b));
     }
 
@@ -230,32 +279,57 @@ module _ (n size : ℕ) (lows : List ℤ) (t : ForestTables) (hid : HiddenTables
       alone = λ v w lv lw. holds_is v w ∙ eqb_order w v;
       rings = λ b high live. absurd (live (same_everywhere t.parts size 0 fresh.parts b));
       empty = λ b v high low none. holds_is b v ∙ ne_eqb v b (λ e. absurd (omega arith));
-      weightless = λ b high none. weight_is b ∙ get_or_past lows b (pos 0) (subst (λ m. m ≤ b) (sym (fresh.size_lows ∙ n_is)) high);
+      weightless = λ b high none. weight_is b
+          ∙ get_or_past lows b (pos 0) (subst (λ m. m ≤ b) (sym (fresh.size_lows ∙ n_is)) high);
       live = λ p inner. absurd (inner (up_self p));
       joints = λ p inner. absurd (inner (up_self p));
     }
 
     -- No load between two vertices is above twice the cost of an edge between them.
-    feasible_dart : (u v : ℕ) (c : ℤ) → u < g.n → v < g.n → u ≢ v → (get_or lows u (pos 0) +ℤ get_or lows v (pos 0)) ≤ℤ (pos 2 *ℤ c) → weight_between (forest_of t) u v ≤ℤ (c +ℤ c)
-    feasible_dart u v c lu lv ne h = omega (arith, ints, load_across g.n (forest_of t) outermost u v lu lv (λ e. ne (sym (outs u lu) ∙ (e ∙ outs v lv))), potential_is u (up_to u lu), potential_is v (up_to v lv))
+    feasible_dart : (u v : ℕ) (c : ℤ) → u < g.n → v < g.n → u ≢ v
+        → (get_or lows u (pos 0) +ℤ get_or lows v (pos 0)) ≤ℤ (pos 2 *ℤ c)
+        → weight_between (forest_of t) u v ≤ℤ (c +ℤ c)
+    feasible_dart u v c lu lv ne h =
+        omega (
+          arith,
+          ints,
+          load_across g.n (forest_of t) outermost u v lu lv
+              (λ e. ne (sym (outs u lu) ∙ (e ∙ outs v lv))),
+          potential_is u (up_to u lu),
+          potential_is v (up_to v lv),
+        )
 
     feasible : IsFeasible (darts_of g) (forest_of t)
     feasible = record {
-      sets = λ b high low. subst (λ x. pos 0 ≤ℤ x) (sym (weight_is b ∙ get_or_past lows b (pos 0) (subst (λ m. m ≤ b) (sym (fresh.size_lows ∙ n_is)) high))) (omega (arith, ints));
+      sets = λ b high low. subst (λ x. pos 0 ≤ℤ x)
+          (sym (weight_is b ∙ get_or_past lows b (pos 0) (subst (λ m. m ≤ b) (sym (fresh.size_lows ∙ n_is)) high)))
+          (omega (arith, ints));
       darts = λ d low. by_side d low (cases_eq (d % 2) 0);
     }
       where
-        at : (d u v : ℕ) → d / 2 < length g.edges → (darts_of g).near d ≡ u → far (darts_of g) d ≡ v → u < g.n → v < g.n → u ≢ v → (get_or lows u (pos 0) +ℤ get_or lows v (pos 0)) ≤ℤ (pos 2 *ℤ (edge_at g (d / 2)).cost)
-            → weight_between (forest_of t) ((darts_of g).near d) (far (darts_of g) d) ≤ℤ ((edge_at g (d / 2)).cost +ℤ (edge_at g (d / 2)).cost)
-        at d u v l eu ev lu lv ne h = subst (λ k. weight_between (forest_of t) k (far (darts_of g) d) ≤ℤ ((edge_at g (d / 2)).cost +ℤ (edge_at g (d / 2)).cost)) (sym eu) (subst (λ k. weight_between (forest_of t) u k ≤ℤ ((edge_at g (d / 2)).cost +ℤ (edge_at g (d / 2)).cost)) (sym ev) (feasible_dart u v (edge_at g (d / 2)).cost lu lv ne h))
+        at : (d u v : ℕ) → d / 2 < length g.edges → (darts_of g).near d ≡ u → far (darts_of g) d ≡ v → u < g.n → v < g.n
+            → u ≢ v → (get_or lows u (pos 0) +ℤ get_or lows v (pos 0)) ≤ℤ (pos 2 *ℤ (edge_at g (d / 2)).cost)
+            → weight_between (forest_of t) ((darts_of g).near d) (far (darts_of g) d) ≤ℤ
+            ((edge_at g (d / 2)).cost +ℤ (edge_at g (d / 2)).cost)
+        at d u v l eu ev lu lv ne h =
+            subst (λ k. weight_between (forest_of t) k (far (darts_of g) d) ≤ℤ
+            ((edge_at g (d / 2)).cost +ℤ (edge_at g (d / 2)).cost)) (sym eu)
+            (subst (λ k. weight_between (forest_of t) u k ≤ℤ ((edge_at g (d / 2)).cost +ℤ (edge_at g (d / 2)).cost))
+            (sym ev) (feasible_dart u v (edge_at g (d / 2)).cost lu lv ne h))
 
-        by_side : (d : ℕ) → d < 2 * length g.edges → (d % 2 ≡ 0) ⊎ (d % 2 ≢ 0) → weight_between (forest_of t) ((darts_of g).near d) (far (darts_of g) d) ≤ℤ ((edge_at g (d / 2)).cost +ℤ (edge_at g (d / 2)).cost)
+        by_side : (d : ℕ) → d < 2 * length g.edges → (d % 2 ≡ 0) ⊎ (d % 2 ≢ 0)
+            → weight_between (forest_of t) ((darts_of g).near d) (far (darts_of g) d) ≤ℤ
+            ((edge_at g (d / 2)).cost +ℤ (edge_at g (d / 2)).cost)
         by_side d low (inl e) =
             let l : d / 2 < length g.edges = omega arith in
-            at d (edge_at g (d / 2)).u (edge_at g (d / 2)).v l (near_even g d (d / 2) (omega arith)) (ap (darts_of g).near (twin_even d e) ∙ near_odd g (d + 1) (d / 2) (omega arith)) (is.left (d / 2) l) (is.right (d / 2) l) (is.apart (d / 2) l) (costs.edges (d / 2) l)
+            at d (edge_at g (d / 2)).u (edge_at g (d / 2)).v l (near_even g d (d / 2) (omega arith))
+            (ap (darts_of g).near (twin_even d e) ∙ near_odd g (d + 1) (d / 2) (omega arith)) (is.left (d / 2) l)
+            (is.right (d / 2) l) (is.apart (d / 2) l) (costs.edges (d / 2) l)
         by_side d low (inr ne) =
             let l : d / 2 < length g.edges = omega arith in
-            at d (edge_at g (d / 2)).v (edge_at g (d / 2)).u l (near_odd g d (d / 2) (omega arith)) (ap (darts_of g).near (twin_odd d ne) ∙ near_even g (d - 1) (d / 2) (omega arith)) (is.right (d / 2) l) (is.left (d / 2) l) (λ e. is.apart (d / 2) l (sym e)) (omega (arith, ints, costs.edges (d / 2) l))
+            at d (edge_at g (d / 2)).v (edge_at g (d / 2)).u l (near_odd g d (d / 2) (omega arith))
+            (ap (darts_of g).near (twin_odd d ne) ∙ near_even g (d - 1) (d / 2) (omega arith)) (is.right (d / 2) l)
+            (is.left (d / 2) l) (λ e. is.apart (d / 2) l (sym e)) (omega (arith, ints, costs.edges (d / 2) l))
 
     -- The forest of single vertices is valid.
     pub fresh_valid : AreStarts g (2 * length g.edges) t.near → t.room ≡ Some (size_of g) → IsValidFor g t
@@ -276,7 +350,8 @@ module _ (n size : ℕ) (lows : List ℤ) (t : ForestTables) (hid : HiddenTables
     }
       where
         none : (b d : ℕ) → (forest_of t).mate b ≡ Some d → ⊥
-        none b d mate = let h : ◌≡◌ {A = Option ℕ} (Some d) None = sym mate ∙ same_everywhere t.mate size None fresh.mate b in cc
+        none b d mate = let h : ◌≡◌ {A = Option ℕ} (Some d) None =
+            sym mate ∙ same_everywhere t.mate size None fresh.mate b in cc
 
         no_root : (r : ℕ) → t.root ≡ Some r → ⊥
         no_root r e = let h : ◌≡◌ {A = Option ℕ} (Some r) None = sym e ∙ fresh.root in cc

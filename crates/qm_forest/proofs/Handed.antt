@@ -1,5 +1,6 @@
 -- What a forest hands out, whose room was taken out before.
-use Rattle.std.proofs.Common.{◌≡◌, ◌≢◌, ℕ, ◌*◌, ◌<◌, ◌≤◌, List, length, Option, Some, None, pos, ◌*ℤ◌, sym, ◌∙◌, ap, subst}
+use Rattle.std.proofs.Common.{◌≡◌, ◌≢◌, ℕ, ◌*◌, ◌<◌, ◌≤◌, List, length, Option, Some, None, pos, ◌*ℤ◌, sym, ◌∙◌, ap}
+use Rattle.std.proofs.Common.{subst}
 use Rattle.def_matching.specs.Matching.{WeightedGraph, IsSmallGraph, IsPerfect, matching_cost}
 use Rattle.def_matching.specs.Dual.{DualLists, SaysYes, dual_sum}
 use Rattle.def_forest.specs.Tables.{ForestTables, GraphSize, forest_of, IsValidFor}
@@ -24,24 +25,31 @@ in_some {X = X} o x y e f = inside (sym e ∙ f)
 module _ (t u : ForestTables) (room : Option GraphSize) (same : u ≡ record t { room = room }) where
   -- It stays sound.
   pub sound_still : (g : WeightedGraph) → IsValidFor g t → IsSoundFor g u
-  sound_still g valid = subst (λ (w : ForestTables). IsSoundFor g w) (sym same) (record { vertices = valid.vertices; darts = valid.darts; ends = valid.ends; valid = valid.valid })
+  sound_still g valid = subst (λ (w : ForestTables). IsSoundFor g w) (sym same)
+      (record { vertices = valid.vertices; darts = valid.darts; ends = valid.ends; valid = valid.valid })
 
   module _ (known : IsLaminar u) (sets : List (ℕ × ℕ)) (d : DualLists) (outline : IsOutline u sets d) where
     pub yes_handed : (g : WeightedGraph) → IsSmallGraph g → IsValidFor g t → SaysYes g d
     yes_handed g small valid = says_yes u known sets d outline g small (sound_still g valid)
 
     pub dual_handed : (g : WeightedGraph) → IsSmallGraph g → IsValidFor g t → IsDualOf (length t.hand) (forest_of t) d
-    dual_handed g small valid = subst (λ (w : ForestTables). IsDualOf (length w.hand) (forest_of w) d) same (dual_is u known sets d outline g small (sound_still g valid))
+    dual_handed g small valid = subst (λ (w : ForestTables). IsDualOf (length w.hand) (forest_of w) d) same
+        (dual_is u known sets d outline g small (sound_still g valid))
 
     pub few_handed : 2 * length d.z ≤ length t.hand
     few_handed = subst (λ (w : ForestTables). 2 * length d.z ≤ length w.hand) same (few_is u known sets d outline)
 
-    pub perfect_handed : (round : Round) → IsChosen u round → (list : List ℕ) → AreMarked round.marks.items (length round.marks.items) list → (g : WeightedGraph) → IsSmallGraph g → IsValidFor g t → ((v : ℕ) → v < g.n → (forest_of t).mate ((forest_of t).out v) ≢ None)
+    pub perfect_handed : (round : Round) → IsChosen u round → (list : List ℕ)
+        → AreMarked round.marks.items (length round.marks.items) list → (g : WeightedGraph) → IsSmallGraph g
+        → IsValidFor g t → ((v : ℕ) → v < g.n → (forest_of t).mate ((forest_of t).out v) ≢ None)
         → IsPerfect g list × (dual_sum d ≡ pos 2 *ℤ matching_cost g list)
     perfect_handed round chosen list marked g small valid matched = (
-      perfect u known g small (sound_still g valid) round.marks.items chosen.room.marks list marked round.left_out.items chosen.done chosen.ended still,
-      (dual_is u known sets d outline g small (sound_still g valid)).sum ∙ met u known g small (sound_still g valid) round.marks.items chosen.room.marks list marked round.left_out.items chosen.done chosen.ended still,
+      perfect u known g small (sound_still g valid) round.marks.items chosen.room.marks list marked round.left_out.items
+          chosen.done chosen.ended still,
+      (dual_is u known sets d outline g small (sound_still g valid)).sum ∙ met u known g small (sound_still g valid)
+          round.marks.items chosen.room.marks list marked round.left_out.items chosen.done chosen.ended still,
     )
       where
         still : (v : ℕ) → v < g.n → (forest_of u).mate ((forest_of u).out v) ≢ None
-        still = subst (λ (w : ForestTables). (v : ℕ) → v < g.n → (forest_of w).mate ((forest_of w).out v) ≢ None) (sym same) matched
+        still = subst (λ (w : ForestTables). (v : ℕ) → v < g.n → (forest_of w).mate ((forest_of w).out v) ≢ None)
+            (sym same) matched

@@ -18,12 +18,16 @@ writes_keep : {X : Type 0} (f : ℕ → X) (place : ℕ → ℕ) (a many : ℕ) 
 writes_keep f place a zero = refl
 writes_keep f place a (suc k) = by_place (cases_eq a (place k)) (writes_keep f place a k)
   where
-    by_place : (a ≡ place k) ⊎ (a ≢ place k) → writes f place (λ j. f a) k a ≡ f a → set_at (writes f place (λ j. f a) k) (place k) (f a) a ≡ f a
-    by_place (inl e) was = ap (set_at (writes f place (λ j. f a) k) (place k) (f a)) e ∙ set_here (writes f place (λ j. f a) k) (place k) (f a)
+    by_place : (a ≡ place k) ⊎ (a ≢ place k) → writes f place (λ j. f a) k a ≡ f a
+        → set_at (writes f place (λ j. f a) k) (place k) (f a) a ≡ f a
+    by_place (inl e) was = ap (set_at (writes f place (λ j. f a) k) (place k) (f a)) e
+        ∙ set_here (writes f place (λ j. f a) k) (place k) (f a)
     by_place (inr ne) was = set_there (writes f place (λ j. f a) k) (place k) a (f a) ne ∙ was
 
-module _ (h0 h1 : Handles) (lists : Lists) (after : List ℕ) (front many set' k x : ℕ) (has : HasPartLists h0 lists after front many set') (l : k < many)
-    (x_is : x ≡ walk (λ i. get_or after i 0) front k) (done : HasHandedRow h0 h1 lists after front k set') (row : IsRow (length after) after front many) where
+module _ (h0 h1 : Handles) (lists : Lists) (after : List ℕ) (front many set' k x : ℕ)
+    (has : HasPartLists h0 lists after front many set') (l : k < many)
+    (x_is : x ≡ walk (λ i. get_or after i 0) front k) (done : HasHandedRow h0 h1 lists after front k set')
+    (row : IsRow (length after) after front many) where
   abbrev at : ℕ → ℕ
   at i = walk (λ i. get_or after i 0) front i
 
@@ -38,7 +42,8 @@ module _ (h0 h1 : Handles) (lists : Lists) (after : List ℕ) (front many set' k
     following = was.following ∙ sym done.hands;
     few = omega (arith, was.few, done.hands);
     many = omega (arith, was.many, done.hands);
-    low = λ j lj. subst (λ n. walk (λ i. get_or lists.following.items i 0) (get_or lists.first.items (at k) 0) j < n) (sym done.hands) (was.low j lj);
+    low = λ j lj. subst (λ n. walk (λ i. get_or lists.following.items i 0) (get_or lists.first.items (at k) 0) j < n)
+        (sym done.hands) (was.low j lj);
     distinct = was.distinct;
   })
 
@@ -64,20 +69,30 @@ module _ (h0 h1 : Handles) (lists : Lists) (after : List ℕ) (front many set' k
   part_small v = subst (λ (z : ℤ). unsigned_abs z ≤ 2 ^ 100) (sym (done.q v)) (has.small v)
 
   -- One part more.
-  pub row_more : (h2 : Handles) (j : ℕ) → j ≡ suc k → HasHandedOver h1 h2 lists x set' → HasHandedRow h0 h2 lists after front j set'
+  pub row_more : (h2 : Handles) (j : ℕ) → j ≡ suc k → HasHandedOver h1 h2 lists x set'
+      → HasHandedRow h0 h2 lists after front j set'
   row_more h2 j j_is one' = subst (λ m. HasHandedRow h0 h2 lists after front m set') (sym j_is) (record {
     own = λ i v li on. own i v li on (cases_eq i k);
-    other = λ v off. one.hand v ∙ (cond-false (lists_at lists (at k) v) (get_or lists.leader.items (at k) 0) (get_or h1.hand.items v 0) (off k (omega arith)) ∙ done.other v (λ i li. off i (omega (arith, li))));
+    other = λ v off. one.hand v
+        ∙ (cond-false (lists_at lists (at k) v) (get_or lists.leader.items (at k) 0) (get_or h1.hand.items v 0)
+        (off k (omega arith)) ∙ done.other v (λ i li. off i (omega (arith, li))));
     q = λ v. one.q v ∙ done.q v;
     hands = one.hands ∙ done.hands;
     qs = one.qs ∙ done.qs;
-    top = ap (λ xs i. get_or xs i 0) one.top ∙ (entry_set h1.top.items (get_or lists.leader.items (at k) 0) (at k) 0 (subst (λ n. get_or lists.leader.items (at k) 0 < n) (sym done.tops) (has.tops k l))
+    top = ap (λ xs i. get_or xs i 0) one.top
+        ∙ (entry_set h1.top.items (get_or lists.leader.items (at k) 0) (at k) 0
+        (subst (λ n. get_or lists.leader.items (at k) 0 < n) (sym done.tops) (has.tops k l))
         ∙ ap (λ (f : ℕ → ℕ). set_at f (get_or lists.leader.items (at k) 0) (at k)) done.top);
     tops = ap length one.top ∙ (length-set h1.top.items (get_or lists.leader.items (at k) 0) (at k) ∙ done.tops);
-    off = off_set ∙ (entry_set h1.off.items (get_or lists.leader.items (at k) 0) (get_or h1.off.items (get_or lists.leader.items set' 0) (pos 0)) (pos 0) (subst (λ n. get_or lists.leader.items (at k) 0 < n) (sym (done.offs ∙ has.offs)) (has.tops k l))
+    off = off_set ∙ (entry_set h1.off.items (get_or lists.leader.items (at k) 0)
+        (get_or h1.off.items (get_or lists.leader.items set' 0) (pos 0)) (pos 0)
+        (subst (λ n. get_or lists.leader.items (at k) 0 < n) (sym (done.offs ∙ has.offs)) (has.tops k l))
         ∙ (ap (λ (z : ℤ). set_at (λ i. get_or h1.off.items i (pos 0)) (get_or lists.leader.items (at k) 0) z) set_off
-        ∙ ap (λ (f : ℕ → ℤ). set_at f (get_or lists.leader.items (at k) 0) (get_or h0.off.items (get_or lists.leader.items set' 0) (pos 0))) done.off));
-    offs = ap length one.off ∙ (length-set h1.off.items (get_or lists.leader.items (at k) 0) (get_or h1.off.items (get_or lists.leader.items set' 0) (pos 0)) ∙ done.offs);
+        ∙ ap (λ (f : ℕ → ℤ). set_at f (get_or lists.leader.items (at k) 0)
+        (get_or h0.off.items (get_or lists.leader.items set' 0) (pos 0))) done.off));
+    offs = ap length one.off
+        ∙ (length-set h1.off.items (get_or lists.leader.items (at k) 0)
+        (get_or h1.off.items (get_or lists.leader.items set' 0) (pos 0)) ∙ done.offs);
   })
     where
       one : HasHandedOver h1 h2 lists (at k) set'
@@ -86,19 +101,26 @@ module _ (h0 h1 : Handles) (lists : Lists) (after : List ℕ) (front many set' k
       read : List ℤ → ℕ → ℤ
       read xs i = get_or xs i (pos 0)
 
-      off_set : read h2.off.items ≡ read (set h1.off.items (get_or lists.leader.items (at k) 0) (get_or h1.off.items (get_or lists.leader.items set' 0) (pos 0)))
+      off_set : read h2.off.items
+          ≡ read (set h1.off.items (get_or lists.leader.items (at k) 0)
+          (get_or h1.off.items (get_or lists.leader.items set' 0) (pos 0)))
       off_set = ap read one.off
 
-      set_off : get_or h1.off.items (get_or lists.leader.items set' 0) (pos 0) ≡ get_or h0.off.items (get_or lists.leader.items set' 0) (pos 0)
+      set_off : get_or h1.off.items (get_or lists.leader.items set' 0) (pos 0)
+          ≡ get_or h0.off.items (get_or lists.leader.items set' 0) (pos 0)
       set_off = ap (λ (f : ℕ → ℤ). f (get_or lists.leader.items set' 0)) done.off
-          ∙ writes_keep (λ i. get_or h0.off.items i (pos 0)) (λ i. get_or lists.leader.items (at i) 0) (get_or lists.leader.items set' 0) k
+          ∙ writes_keep (λ i. get_or h0.off.items i (pos 0)) (λ i. get_or lists.leader.items (at i) 0)
+          (get_or lists.leader.items set' 0) k
 
-      own : (i v : ℕ) → i < suc k → lists_at lists (at i) v ≡ true → (i ≡ k) ⊎ (i ≢ k) → get_or h2.hand.items v 0 ≡ get_or lists.leader.items (at i) 0
+      own : (i v : ℕ) → i < suc k → lists_at lists (at i) v ≡ true → (i ≡ k) ⊎ (i ≢ k) → get_or h2.hand.items v 0
+          ≡ get_or lists.leader.items (at i) 0
       own i v li on (inl e) =
-          one.hand v ∙ (cond-true (lists_at lists (at k) v) (get_or lists.leader.items (at k) 0) (get_or h1.hand.items v 0) (subst (λ j. lists_at lists (at j) v ≡ true) e on)
+          one.hand v ∙ (cond-true (lists_at lists (at k) v) (get_or lists.leader.items (at k) 0)
+          (get_or h1.hand.items v 0) (subst (λ j. lists_at lists (at j) v ≡ true) e on)
           ∙ ap (λ j. get_or lists.leader.items (at j) 0) (sym e))
       own i v li on (inr ne) =
-          one.hand v ∙ (cond-false (lists_at lists (at k) v) (get_or lists.leader.items (at k) 0) (get_or h1.hand.items v 0) (off (cases_Bool (lists_at lists (at k) v)))
+          one.hand v ∙ (cond-false (lists_at lists (at k) v) (get_or lists.leader.items (at k) 0)
+          (get_or h1.hand.items v 0) (off (cases_Bool (lists_at lists (at k) v)))
           ∙ done.own i v (omega (arith, li, ne)) on)
         where
           off : (lists_at lists (at k) v ≡ true) ⊎ (lists_at lists (at k) v ≡ false) → lists_at lists (at k) v ≡ false

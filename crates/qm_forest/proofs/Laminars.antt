@@ -1,5 +1,6 @@
 -- What tied tables say of how blossoms lie in each other, and the two parts that a joint joins.
-use Rattle.std.proofs.Common.{◌≡◌, ◌≢◌, ℕ, suc, ◌*◌, ◌<◌, ◌≤◌, true, eqb, length, get_or, ◌⊎◌, refl, sym, ◌∙◌, ap, subst, inl, inr, arith}
+use Rattle.std.proofs.Common.{◌≡◌, ◌≢◌, ℕ, suc, ◌*◌, ◌<◌, ◌≤◌, true, eqb, length, get_or, ◌⊎◌, refl, sym, ◌∙◌, ap}
+use Rattle.std.proofs.Common.{subst, inl, inr, arith}
 use Rattle.std.proofs.lemmas.Bool.{cases_eq, cases_lt, eq-eqb, ne_eqb}
 use Rattle.def_matching.specs.Matching.{WeightedGraph, IsSmallGraph}
 use Rattle.def_forest.specs.Darts.{AreDarts, darts_of, other_dart}
@@ -21,10 +22,18 @@ laminar t hid tied = record {
   vertices = tied.sizes.vertices;
   few = tied.sizes.few;
   rises = tied.nest.rises;
-  low = λ x l used. list_few (length t.hand) (λ k. get_or hid.following k 0) (get_or hid.first x 0) (get_or hid.last x 0) (get_or t.rank x 0) (climbs (up_at t.up) (length t.hand) x) (tied.nest.members x l used);
+  low = λ x l used. list_few (length t.hand) (λ k. get_or hid.following k 0) (get_or hid.first x 0)
+      (get_or hid.last x 0) (get_or t.rank x 0) (climbs (up_at t.up) (length t.hand) x) (tied.nest.members x l used);
   passed = λ b v l on. (
-      let low : get_or t.rank b 0 ≤ get_or t.rank (out_of t.hand t.top v) 0 = rank_passed (length t.hand) (length t.up) t.hand t.top t.up t.rank t.parts hid.leader hid.first hid.last hid.following tied.nest v b l on in
-      omega (arith, low, rank_few (length t.hand) (length t.up) t.hand t.top t.up t.rank t.parts hid.leader hid.first hid.last hid.following tied.nest v l));
+      let low : get_or t.rank b 0 ≤ get_or t.rank (out_of t.hand t.top v) 0 =
+      rank_passed (length t.hand) (length t.up) t.hand t.top t.up t.rank t.parts hid.leader hid.first hid.last
+      hid.following tied.nest v b l on in
+      omega (
+        arith,
+        low,
+        rank_few (length t.hand) (length t.up) t.hand t.top t.up t.rank t.parts hid.leader hid.first
+            hid.last hid.following tied.nest v l,
+      ));
   own = λ b x l on. own b x l (climbs_place (up_at t.up) (length t.hand) x b on) (cases_eq b x);
   two = λ x l used more. two x more (tied.nest.members x l used);
   some = λ x l used. (tied.nest.members x l used).some;
@@ -34,20 +43,26 @@ laminar t hid tied = record {
     own b x l w (inl e) = e
     own b x l w (inr ne) =
         let y : (y : ℕ) × (up_at t.up y ≡ x) × (y ≢ x) = comes_by (up_at t.up) b w.0 x w.1 ne in
-        let around : (length t.hand ≤ up_at t.up y.0) × (get_or t.parts (up_at t.up y.0) 0 ≢ 0) = tied.nest.around y.0 (λ s. y.2 (sym s ∙ y.1)) in
+        let around : (length t.hand ≤ up_at t.up y.0) × (get_or t.parts (up_at t.up y.0) 0 ≢ 0) =
+        tied.nest.around y.0 (λ s. y.2 (sym s ∙ y.1)) in
         let high : length t.hand ≤ x = subst (λ z. length t.hand ≤ z) y.1 around.0 in
         absurd (omega (arith, l, high))
 
-    two : (x : ℕ) → 2 ≤ get_or t.rank x 0 → IsListed (length t.hand) (λ k. get_or hid.following k 0) (get_or hid.first x 0) (get_or hid.last x 0) (get_or t.rank x 0) (climbs (up_at t.up) (length t.hand) x)
-        → (u : ℕ) × (v : ℕ) × (u < length t.hand) × (v < length t.hand) × (u ≢ v) × (within t u x ≡ true) × (within t v x ≡ true)
+    two : (x : ℕ) → 2 ≤ get_or t.rank x 0
+        → IsListed (length t.hand) (λ k. get_or hid.following k 0) (get_or hid.first x 0) (get_or hid.last x 0)
+        (get_or t.rank x 0) (climbs (up_at t.up) (length t.hand) x)
+        → (u : ℕ) × (v : ℕ) × (u < length t.hand) × (v < length t.hand) × (u ≢ v) × (within t u x ≡ true)
+        × (within t v x ≡ true)
     two x more list = (
       walk (λ k. get_or hid.following k 0) (get_or hid.first x 0) 0,
       walk (λ k. get_or hid.following k 0) (get_or hid.first x 0) 1,
       list.low 0 (omega (arith, more)),
       list.low 1 (omega (arith, more)),
       list.distinct 0 1 (omega arith) (omega (arith, more)),
-      list_member (length t.hand) (λ k. get_or hid.following k 0) (get_or hid.first x 0) (get_or hid.last x 0) (get_or t.rank x 0) (climbs (up_at t.up) (length t.hand) x) list 0 (omega (arith, more)),
-      list_member (length t.hand) (λ k. get_or hid.following k 0) (get_or hid.first x 0) (get_or hid.last x 0) (get_or t.rank x 0) (climbs (up_at t.up) (length t.hand) x) list 1 (omega (arith, more)),
+      list_member (length t.hand) (λ k. get_or hid.following k 0) (get_or hid.first x 0) (get_or hid.last x 0)
+          (get_or t.rank x 0) (climbs (up_at t.up) (length t.hand) x) list 0 (omega (arith, more)),
+      list_member (length t.hand) (λ k. get_or hid.following k 0) (get_or hid.first x 0) (get_or hid.last x 0)
+          (get_or t.rank x 0) (climbs (up_at t.up) (length t.hand) x) list 1 (omega (arith, more)),
     )
 
 -- A valid forest is sound.
@@ -63,16 +78,26 @@ module _ (t : ForestTables) (known : IsLaminar t) where
   alone v w lv lw = by_eq (cases_eq v w)
     where
       by_eq : (v ≡ w) ⊎ (v ≢ w) → (forest_of t).holds v w ≡ eqb v w
-      by_eq (inl e) = ap (λ x. climbs (up_at t.up) (length t.hand) v x) (sym e) ∙ (climbs_here (up_at t.up) (length t.hand) v ∙ sym (eq-eqb v w e))
-      by_eq (inr ne) = off_where (climbs (up_at t.up) (length t.hand) v w) (λ on. ne (sym (known.own w v lv on))) ∙ sym (ne_eqb v w ne)
+      by_eq (inl e) = ap (λ x. climbs (up_at t.up) (length t.hand) v x) (sym e)
+          ∙ (climbs_here (up_at t.up) (length t.hand) v ∙ sym (eq-eqb v w e))
+      by_eq (inr ne) = off_where (climbs (up_at t.up) (length t.hand) v w) (λ on. ne (sym (known.own w v lv on)))
+          ∙ sym (ne_eqb v w ne)
 
   module _ (g : WeightedGraph) (is : IsSmallGraph g) (valid : IsSoundFor g t) where
     abbrev are : AreDarts (darts_of g)
     are = are_darts g is.lawful
 
     -- A set has another vertex than any one.
-    pub another : (x w : ℕ) → length t.hand ≤ x → x < length t.up → get_or t.parts x 0 ≢ 0 → (v : ℕ) × (v < length t.hand) × (v ≢ w) × ((forest_of t).holds x v ≡ true)
-    another x w high low live = by_two (known.two x low (inr live) (omega (arith, ring.lower 0, known.some (walk (forest_of t).nest.after ((forest_of t).nest.head x) 0) (ring.below 0) part_used)))
+    pub another : (x w : ℕ) → length t.hand ≤ x → x < length t.up → get_or t.parts x 0 ≢ 0
+        → (v : ℕ) × (v < length t.hand) × (v ≢ w) × ((forest_of t).holds x v ≡ true)
+    another x w high low live =
+        by_two (known.two x low (inr live)
+        (omega (
+          arith,
+          ring.lower 0,
+          known.some (walk (forest_of t).nest.after ((forest_of t).nest.head x) 0)
+              (ring.below 0) part_used,
+        )))
       where
         ring : IsRing (darts_of g) (forest_of t) x
         ring = valid.valid.nested.rings x (subst (λ m. m ≤ x) valid.vertices high) live
@@ -81,18 +106,29 @@ module _ (t : ForestTables) (known : IsLaminar t) where
         part_used = by_size (cases_lt (get_or t.head x 0) (length t.hand))
           where
             inner : (forest_of t).nest.up (get_or t.head x 0) ≢ get_or t.head x 0
-            inner e = (let r : get_or t.rank (get_or t.head x 0) 0 < get_or t.rank x 0 = ring.lower 0 in let s : get_or t.rank x 0 ≡ get_or t.rank (get_or t.head x 0) 0 = ap (λ y. get_or t.rank y 0) (sym (ring.inside 0) ∙ e) in absurd (omega (arith, r, s)))
+            inner e = (let r : get_or t.rank (get_or t.head x 0) 0 < get_or t.rank x 0 = ring.lower 0 in
+                let s : get_or t.rank x 0 ≡ get_or t.rank (get_or t.head x 0) 0 =
+                ap (λ y. get_or t.rank y 0) (sym (ring.inside 0) ∙ e) in absurd (omega (arith, r, s)))
 
             joint : IsJoint (darts_of g) (forest_of t) (get_or t.head x 0)
             joint = valid.valid.nested.joints (get_or t.head x 0) inner
 
-            by_size : (get_or t.head x 0 < length t.hand) ⊎ (length t.hand ≤ get_or t.head x 0) → IsInUse (length t.hand) t.parts (get_or t.head x 0)
+            by_size : (get_or t.head x 0 < length t.hand) ⊎ (length t.hand ≤ get_or t.head x 0)
+                → IsInUse (length t.hand) t.parts (get_or t.head x 0)
             by_size (inl l) = inl l
-            by_size (inr h) = inr (λ none. true_false ((forest_of t).holds (get_or t.head x 0) ((darts_of g).near (get_or t.joint (get_or t.head x 0) 0))) joint.begins
-                (valid.valid.nested.empty (get_or t.head x 0) ((darts_of g).near (get_or t.joint (get_or t.head x 0) 0)) (subst (λ m. m ≤ get_or t.head x 0) valid.vertices h) (are.near_low (get_or t.joint (get_or t.head x 0) 0) joint.tight.low) none))
+            by_size (inr h) = inr (λ none. true_false
+                ((forest_of t).holds (get_or t.head x 0) ((darts_of g).near (get_or t.joint (get_or t.head x 0) 0)))
+                joint.begins
+                (valid.valid.nested.empty (get_or t.head x 0) ((darts_of g).near (get_or t.joint (get_or t.head x 0) 0))
+                (subst (λ m. m ≤ get_or t.head x 0) valid.vertices h)
+                (are.near_low (get_or t.joint (get_or t.head x 0) 0) joint.tight.low) none))
 
-        by_two : (u : ℕ) × (v : ℕ) × (u < length t.hand) × (v < length t.hand) × (u ≢ v) × (within t u x ≡ true) × (within t v x ≡ true) → (v : ℕ) × (v < length t.hand) × (v ≢ w) × ((forest_of t).holds x v ≡ true)
-        by_two s = elim (cases_eq s.0 w) [ inl e ↦ (s.1, s.3, (λ f. s.4 (e ∙ sym f)), s.6) | inr ne ↦ (s.0, s.2, ne, s.5) ]
+        by_two : (u : ℕ) × (v : ℕ) × (u < length t.hand) × (v < length t.hand) × (u ≢ v) × (within t u x ≡ true)
+            × (within t v x ≡ true) → (v : ℕ) × (v < length t.hand) × (v ≢ w) × ((forest_of t).holds x v ≡ true)
+        by_two s = elim (cases_eq s.0 w) [
+          | inl e ↦ (s.1, s.3, (λ f. s.4 (e ∙ sym f)), s.6)
+          | inr ne ↦ (s.0, s.2, ne, s.5)
+        ]
 
     -- A part and the next are joined.
     module _ (x : ℕ) (inner : up_at t.up x ≢ x) where
@@ -120,8 +156,12 @@ module _ (t : ForestTables) (known : IsLaminar t) where
       pub next_around : up_at t.up y ≡ q
       next_around = ap (λ z. up_at t.up (get_or t.after z 0)) (sym x_place.2) ∙ ring_around.inside (suc x_place.0)
 
-      part_other : (z : ℕ) → up_at t.up z ≡ q → (k : ℕ) → walk (λ i. get_or t.after i 0) (get_or t.head q 0) k ≡ z → z ≢ q
-      part_other z e k at s = (let r : get_or t.rank (walk (λ i. get_or t.after i 0) (get_or t.head q 0) k) 0 < get_or t.rank q 0 = ring_around.lower k in let same : get_or t.rank (walk (λ i. get_or t.after i 0) (get_or t.head q 0) k) 0 ≡ get_or t.rank q 0 = ap (λ w. get_or t.rank w 0) (at ∙ s) in absurd (omega (arith, r, same)))
+      part_other : (z : ℕ) → up_at t.up z ≡ q → (k : ℕ) → walk (λ i. get_or t.after i 0) (get_or t.head q 0) k ≡ z
+          → z ≢ q
+      part_other z e k at s = (let r : get_or t.rank (walk (λ i. get_or t.after i 0) (get_or t.head q 0) k) 0
+          < get_or t.rank q 0 = ring_around.lower k in
+          let same : get_or t.rank (walk (λ i. get_or t.after i 0) (get_or t.head q 0) k) 0 ≡ get_or t.rank q 0 =
+          ap (λ w. get_or t.rank w 0) (at ∙ s) in absurd (omega (arith, r, same)))
 
       pub next_other : y ≢ q
       next_other = part_other y next_around (suc x_place.0) (ap (λ z. get_or t.after z 0) x_place.2)
@@ -135,12 +175,15 @@ module _ (t : ForestTables) (known : IsLaminar t) where
       differ : x ≢ y
       differ e = by_end (cases_eq (suc x_place.0) (get_or t.parts q 0))
         where
-          same : walk (λ i. get_or t.after i 0) (get_or t.head q 0) x_place.0 ≡ walk (λ i. get_or t.after i 0) (get_or t.head q 0) (suc x_place.0)
+          same : walk (λ i. get_or t.after i 0) (get_or t.head q 0) x_place.0
+              ≡ walk (λ i. get_or t.after i 0) (get_or t.head q 0) (suc x_place.0)
           same = x_place.2 ∙ (e ∙ sym (ap (λ z. get_or t.after z 0) x_place.2))
 
           by_end : (suc x_place.0 ≡ get_or t.parts q 0) ⊎ (suc x_place.0 ≢ get_or t.parts q 0) → ⊥
-          by_end (inr l) = ring_around.distinct x_place.0 (suc x_place.0) (omega arith) (omega (arith, l, x_place.1)) same
-          by_end (inl at) = ring_around.distinct 0 x_place.0 (omega (arith, at, ring_around.odd, ring_around.some)) x_place.1
+          by_end (inr l) = ring_around.distinct x_place.0 (suc x_place.0) (omega arith) (omega (arith, l, x_place.1))
+              same
+          by_end (inl at) = ring_around.distinct 0 x_place.0 (omega (arith, at, ring_around.odd, ring_around.some))
+              x_place.1
               (sym ring_around.closed ∙ (ap (walk (λ i. get_or t.after i 0) (get_or t.head q 0)) (sym at) ∙ sym same))
 
       d_low : d < 2 * length g.edges
@@ -153,10 +196,12 @@ module _ (t : ForestTables) (known : IsLaminar t) where
       far_is = valid.ends (other_dart d) (are.twin_low d d_low)
 
       near_ok : near_at t d < length t.hand
-      near_ok = subst (λ m. near_at t d < m) (sym valid.vertices) (subst (λ v. v < g.n) (sym near_is) (are.near_low d d_low))
+      near_ok = subst (λ m. near_at t d < m) (sym valid.vertices)
+          (subst (λ v. v < g.n) (sym near_is) (are.near_low d d_low))
 
       far_ok : far_at t d < length t.hand
-      far_ok = subst (λ m. far_at t d < m) (sym valid.vertices) (subst (λ v. v < g.n) (sym far_is) (far_low (darts_of g) are d d_low))
+      far_ok = subst (λ m. far_at t d < m) (sym valid.vertices)
+          (subst (λ v. v < g.n) (sym far_is) (far_low (darts_of g) are d d_low))
 
       near_in : within t (near_at t d) x ≡ true
       near_in = subst (λ v. (forest_of t).holds x v ≡ true) (sym near_is) joint_is.begins
@@ -165,7 +210,9 @@ module _ (t : ForestTables) (known : IsLaminar t) where
       far_in = subst (λ v. (forest_of t).holds y v ≡ true) (sym far_is) joint_is.ends
 
       used : (z v : ℕ) → v < length t.hand → within t v z ≡ true → length t.hand ≤ z → get_or t.parts z 0 ≢ 0
-      used z v l on high none = true_false ((forest_of t).holds z v) on (valid.valid.nested.empty z v (subst (λ m. m ≤ z) valid.vertices high) (subst (λ m. v < m) valid.vertices l) none)
+      used z v l on high none =
+          true_false ((forest_of t).holds z v) on (valid.valid.nested.empty z v (subst (λ m. m ≤ z) valid.vertices high)
+          (subst (λ m. v < m) valid.vertices l) none)
 
       pub part_rank : (z v : ℕ) → v < length t.hand → within t v z ≡ true → get_or t.rank z 0 ≤ length t.hand
       part_rank z v l on = known.passed z v l on
@@ -178,14 +225,18 @@ module _ (t : ForestTables) (known : IsLaminar t) where
         low_x = x_low;
         low_y = y_low;
         other = differ;
-        apart = λ e. none_in_both (length t.hand) (up_at t.up) (λ z. get_or t.rank z 0) known.rises (near_at t d) x y q refl next_around (λ s. inner (sym s)) next_other differ near_in (subst (λ v. within t v y ≡ true) (sym e) far_in);
+        apart = λ e. none_in_both (length t.hand) (up_at t.up) (λ z. get_or t.rank z 0) known.rises (near_at t d) x y q
+            refl next_around (λ s. inner (sym s)) next_other differ near_in
+            (subst (λ v. within t v y ≡ true) (sym e) far_in);
         near_low = near_ok;
         far_low = far_ok;
         near_held = near_in;
         far_held = far_in;
         live_x = used x (near_at t d) near_ok near_in;
         live_y = used y (far_at t d) far_ok far_in;
-        law = λ b l. pair_law (length t.hand) (up_at t.up) (λ z. get_or t.rank z 0) known.rises x y q (near_at t d) (far_at t d) refl next_around (λ s. inner (sym s)) next_other differ near_in far_in (known.passed x (near_at t d) near_ok near_in) (known.passed y (far_at t d) far_ok far_in) b
+        law = λ b l. pair_law (length t.hand) (up_at t.up) (λ z. get_or t.rank z 0) known.rises x y q (near_at t d)
+            (far_at t d) refl next_around (λ s. inner (sym s)) next_other differ near_in far_in
+            (known.passed x (near_at t d) near_ok near_in) (known.passed y (far_at t d) far_ok far_in) b
             (λ on. known.passed b (near_at t d) near_ok on) (λ on. known.passed b (far_at t d) far_ok on);
         tight = λ h is' valid'. (valid'.valid.nested.joints x inner).tight;
       }

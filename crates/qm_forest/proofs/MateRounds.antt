@@ -1,5 +1,6 @@
 -- The outermost blossoms are matched as they are: each is met once.
-use Rattle.std.proofs.Common.{◌≡◌, ◌≢◌, ℕ, suc, ◌+◌, ◌-◌, ◌*◌, ◌/◌, ◌%◌, ◌<◌, ◌≤◌, Bool, true, false, cond, eqb, List, length, get_or, Option, Some, None, ◌⊎◌, refl, sym, ◌∙◌, ap, subst, inl, inr, arith}
+use Rattle.std.proofs.Common.{◌≡◌, ◌≢◌, ℕ, suc, ◌+◌, ◌-◌, ◌*◌, ◌/◌, ◌%◌, ◌<◌, ◌≤◌, Bool, true, false, cond, eqb, List}
+use Rattle.std.proofs.Common.{length, get_or, Option, Some, None, ◌⊎◌, refl, sym, ◌∙◌, ap, subst, inl, inr, arith}
 use Rattle.std.proofs.Math.ListN.{set}
 use Rattle.std.proofs.lemmas.Bool.{cases_Bool, cases_eq, cases_lt, cond-true, cond-false, eq-eqb, eqb-true, ne_eqb}
 use Rattle.sum_laws.proofs.Counts.{count_below_none, count_below_one, count_below_same}
@@ -11,13 +12,15 @@ use Rattle.def_forest.specs.Valid.{IsMate}
 use Rattle.forest_laws.proofs.Graphs.{are_darts, twin_even, twin_odd}
 use Rattle.forest_laws.proofs.Writes.{some_is, true_false}
 use Rattle.forest_laws.proofs.Walks.{walk_sum}
-use Rattle.qm_forest.specs.Rounds.{IsSoundFor, IsLaminar, IsPairing, IsRound, entered, far_at, is_dart, matched_by, matches, near_at, waits_but, within}
+use Rattle.qm_forest.specs.Rounds.{IsSoundFor, IsLaminar, IsPairing, IsRound, entered, far_at, is_dart, matched_by}
+use Rattle.qm_forest.specs.Rounds.{matches, near_at, waits_but, within}
 use Rattle.qm_forest.proofs.Apart.{walk_stays}
 use Rattle.qm_forest.proofs.Laminars.{alone, another}
 use Rattle.qm_forest.proofs.Pairings.{option_cases, paired_round}
 use Rattle.qm_forest.proofs.Withins.{by_pair, in_line, in_where, off_where, where_in}
 
-module _ (t : ForestTables) (known : IsLaminar t) (g : WeightedGraph) (is : IsSmallGraph g) (valid : IsSoundFor g t) where
+module _ (t : ForestTables) (known : IsLaminar t) (g : WeightedGraph) (is : IsSmallGraph g)
+    (valid : IsSoundFor g t) where
   abbrev f : Forest
   f = forest_of t
 
@@ -40,34 +43,59 @@ module _ (t : ForestTables) (known : IsLaminar t) (g : WeightedGraph) (is : IsSm
   -- What holds a vertex lies in its outermost blossom.
   around_in : (b u : ℕ) → u < length t.hand → within t u b ≡ true → within t b (f.out u) ≡ true
   around_in b u lu on =
-      let wb : (j : ℕ) × (walk (up_at t.up) u j ≡ b) = where_in (length t.hand) (up_at t.up) (λ z. get_or t.rank z 0) known.rises u b on in
-      let wo : (j : ℕ) × (walk (up_at t.up) u j ≡ f.out u) = where_in (length t.hand) (up_at t.up) (λ z. get_or t.rank z 0) known.rises u (f.out u) (within_out u u lu lu ∙ eq-eqb (f.out u) (f.out u) refl) in
-      elim (in_line (length t.hand) (up_at t.up) (λ z. get_or t.rank z 0) known.rises u b (f.out u) wb.0 wo.0 wb.1 wo.1) [
-        | inl m ↦ in_where (length t.hand) (up_at t.up) (λ z. get_or t.rank z 0) known.rises b (f.out u) m.0 (top_rank u lu) m.1
-        | inr m ↦ in_where (length t.hand) (up_at t.up) (λ z. get_or t.rank z 0) known.rises b (f.out u) 0 (top_rank u lu) (sym m.1 ∙ walk_stays (up_at t.up) (f.out u) m.0 (top_stays u lu))
+      let wb : (j : ℕ) × (walk (up_at t.up) u j ≡ b) = where_in (length t.hand) (up_at t.up) (λ z. get_or t.rank z 0)
+      known.rises u b on in
+      let wo : (j : ℕ) × (walk (up_at t.up) u j ≡ f.out u) =
+      where_in (length t.hand) (up_at t.up) (λ z. get_or t.rank z 0) known.rises u (f.out u) (within_out u u lu lu
+      ∙ eq-eqb (f.out u) (f.out u) refl) in
+      elim (in_line (length t.hand) (up_at t.up) (λ z. get_or t.rank z 0)
+      known.rises u b (f.out u) wb.0 wo.0 wb.1 wo.1) [
+        | inl m ↦ in_where (length t.hand) (up_at t.up) (λ z. get_or t.rank z 0) known.rises b (f.out u) m.0
+            (top_rank u lu) m.1
+        | inr m ↦ in_where (length t.hand) (up_at t.up) (λ z. get_or t.rank z 0) known.rises b (f.out u) 0
+            (top_rank u lu) (sym m.1 ∙ walk_stays (up_at t.up) (f.out u) m.0 (top_stays u lu))
       ]
 
-  through : (b u w : ℕ) → u < length t.hand → within t w b ≡ true → within t b (f.out u) ≡ true → within t w (f.out u) ≡ true
+  through : (b u w : ℕ) → u < length t.hand → within t w b ≡ true → within t b (f.out u) ≡ true → within t w (f.out u)
+      ≡ true
   through b u w lu first second =
-      let wb : (j : ℕ) × (walk (up_at t.up) w j ≡ b) = where_in (length t.hand) (up_at t.up) (λ z. get_or t.rank z 0) known.rises w b first in
-      let wo : (j : ℕ) × (walk (up_at t.up) b j ≡ f.out u) = where_in (length t.hand) (up_at t.up) (λ z. get_or t.rank z 0) known.rises b (f.out u) second in
-      in_where (length t.hand) (up_at t.up) (λ z. get_or t.rank z 0) known.rises w (f.out u) (wb.0 + wo.0) (top_rank u lu) (walk_sum (up_at t.up) w wb.0 wo.0 ∙ (ap (λ x. walk (up_at t.up) x wo.0) wb.1 ∙ wo.1))
+      let wb : (j : ℕ) × (walk (up_at t.up) w j ≡ b) = where_in (length t.hand) (up_at t.up) (λ z. get_or t.rank z 0)
+      known.rises w b first in
+      let wo : (j : ℕ) × (walk (up_at t.up) b j ≡ f.out u) =
+      where_in (length t.hand) (up_at t.up) (λ z. get_or t.rank z 0) known.rises b (f.out u) second in
+      in_where (length t.hand) (up_at t.up) (λ z. get_or t.rank z 0) known.rises w (f.out u) (wb.0 + wo.0)
+      (top_rank u lu) (walk_sum (up_at t.up) w wb.0 wo.0 ∙ (ap (λ x. walk (up_at t.up) x wo.0) wb.1 ∙ wo.1))
 
   -- No blossom lies in two outermost ones.
-  not_both : (b u v : ℕ) → u < length t.hand → v < length t.hand → f.out u ≢ f.out v → within t b (f.out u) ≡ true → within t b (f.out v) ≡ true → ⊥
+  not_both : (b u v : ℕ) → u < length t.hand → v < length t.hand → f.out u ≢ f.out v → within t b (f.out u) ≡ true
+      → within t b (f.out v) ≡ true → ⊥
   not_both b u v lu lv ne on other =
-      let wu : (j : ℕ) × (walk (up_at t.up) b j ≡ f.out u) = where_in (length t.hand) (up_at t.up) (λ z. get_or t.rank z 0) known.rises b (f.out u) on in
-      let wv : (j : ℕ) × (walk (up_at t.up) b j ≡ f.out v) = where_in (length t.hand) (up_at t.up) (λ z. get_or t.rank z 0) known.rises b (f.out v) other in
-      elim (in_line (length t.hand) (up_at t.up) (λ z. get_or t.rank z 0) known.rises b (f.out u) (f.out v) wu.0 wv.0 wu.1 wv.1)
-      [ inl m ↦ ne (sym (walk_stays (up_at t.up) (f.out u) m.0 (top_stays u lu)) ∙ m.1) | inr m ↦ ne (sym m.1 ∙ walk_stays (up_at t.up) (f.out v) m.0 (top_stays v lv)) ]
+      let wu : (j : ℕ) × (walk (up_at t.up) b j ≡ f.out u) =
+      where_in (length t.hand) (up_at t.up) (λ z. get_or t.rank z 0) known.rises b (f.out u) on in
+      let wv : (j : ℕ) × (walk (up_at t.up) b j ≡ f.out v) =
+      where_in (length t.hand) (up_at t.up) (λ z. get_or t.rank z 0) known.rises b (f.out v) other in
+      elim (in_line (length t.hand) (up_at t.up) (λ z. get_or t.rank z 0) known.rises b (f.out u) (f.out v) wu.0 wv.0
+      wu.1 wv.1) [
+        | inl m ↦ ne (sym (walk_stays (up_at t.up) (f.out u) m.0 (top_stays u lu)) ∙ m.1)
+        | inr m ↦ ne (sym m.1 ∙ walk_stays (up_at t.up) (f.out v) m.0 (top_stays v lv))
+      ]
 
   -- Two outermost blossoms are a pair.
   tops_law : (u v b : ℕ) → u < length t.hand → v < length t.hand → f.out u ≢ f.out v
-      → bool_number (splits (f.holds b) u v) + (waits_but t b (f.out u) u + waits_but t b (f.out v) v) ≡ bool_number (within t b (f.out u)) + bool_number (within t b (f.out v))
-  tops_law u v b lu lv ne = by_pair (length t.hand) (up_at t.up) (λ z. get_or t.rank z 0) known.rises (within t b (f.out u)) (within t b (f.out v)) (f.holds b u) (f.holds b v)
-      (λ on. (off_where (within t b (f.out v)) (λ o. not_both b u v lu lv ne on o), off_where (f.holds b v) (λ o. not_both b u v lu lv ne on (around_in b v lv o))))
-      (λ on. (off_where (within t b (f.out u)) (λ o. not_both b u v lu lv ne o on), off_where (f.holds b u) (λ o. not_both b u v lu lv ne (around_in b u lu o) on)))
-      (λ ou ov. off_where (f.holds b u) (λ o. true_false (within t b (f.out u)) (around_in b u lu o) ou) ∙ sym (off_where (f.holds b v) (λ o. true_false (within t b (f.out v)) (around_in b v lv o) ov)))
+      → bool_number (splits (f.holds b) u v) + (waits_but t b (f.out u) u + waits_but t b (f.out v) v)
+      ≡ bool_number (within t b (f.out u)) + bool_number (within t b (f.out v))
+  tops_law u v b lu lv ne = by_pair (length t.hand) (up_at t.up) (λ z. get_or t.rank z 0) known.rises
+      (within t b (f.out u)) (within t b (f.out v)) (f.holds b u) (f.holds b v)
+      (λ on. (
+        off_where (within t b (f.out v)) (λ o. not_both b u v lu lv ne on o),
+        off_where (f.holds b v) (λ o. not_both b u v lu lv ne on (around_in b v lv o)),
+      ))
+      (λ on. (
+        off_where (within t b (f.out u)) (λ o. not_both b u v lu lv ne o on),
+        off_where (f.holds b u) (λ o. not_both b u v lu lv ne (around_in b u lu o) on),
+      ))
+      (λ ou ov. off_where (f.holds b u) (λ o. true_false (within t b (f.out u)) (around_in b u lu o) ou)
+      ∙ sym (off_where (f.holds b v) (λ o. true_false (within t b (f.out v)) (around_in b v lv o) ov)))
 
   -- What an edge that matches says.
   pub record IsMateEdge (e : ℕ) : Type 0 where
@@ -83,10 +111,12 @@ module _ (t : ForestTables) (known : IsLaminar t) (g : WeightedGraph) (is : IsSm
   twin_is e = twin_even (2 * e) (omega arith)
 
   pub vertex_low : (d : ℕ) → d < 2 * length g.edges → near_at t d < length t.hand
-  vertex_low d l = subst (λ m. near_at t d < m) (sym valid.vertices) (subst (λ v. v < g.n) (sym (valid.ends d l)) (are.near_low d l))
+  vertex_low d l = subst (λ m. near_at t d < m) (sym valid.vertices)
+      (subst (λ v. v < g.n) (sym (valid.ends d l)) (are.near_low d l))
 
   used_at : (u : ℕ) → u < length t.hand → length t.hand ≤ f.out u → get_or t.parts (f.out u) 0 ≢ 0
-  used_at u lu high none = true_false (f.holds (f.out u) u) (within_out u u lu lu ∙ eq-eqb (f.out u) (f.out u) refl) (valid.valid.nested.empty (f.out u) u (subst (λ m. m ≤ f.out u) valid.vertices high) (low_in u lu) none)
+  used_at u lu high none = true_false (f.holds (f.out u) u) (within_out u u lu lu ∙ eq-eqb (f.out u) (f.out u) refl)
+      (valid.valid.nested.empty (f.out u) u (subst (λ m. m ≤ f.out u) valid.vertices high) (low_in u lu) none)
 
   pub mate_edge : (e : ℕ) → f.mate (f.out (near_at t (2 * e))) ≡ Some (2 * e) → IsMateEdge e
   mate_edge e mate = record {
@@ -105,11 +135,17 @@ module _ (t : ForestTables) (known : IsLaminar t) (g : WeightedGraph) (is : IsSm
       apart = λ s. apart (ap f.out (s ∙ far_same));
       near_low = nl;
       far_low = subst (λ v. v < length t.hand) (sym far_same) fl;
-      near_held = within_out (near_at t (2 * e)) (near_at t (2 * e)) nl nl ∙ eq-eqb (f.out (near_at t (2 * e))) (f.out (near_at t (2 * e))) refl;
-      far_held = ap (λ v. within t v (f.out (near_at t (2 * e + 1)))) far_same ∙ (within_out (near_at t (2 * e + 1)) (near_at t (2 * e + 1)) fl fl ∙ eq-eqb (f.out (near_at t (2 * e + 1))) (f.out (near_at t (2 * e + 1))) refl);
+      near_held = within_out (near_at t (2 * e)) (near_at t (2 * e)) nl nl
+          ∙ eq-eqb (f.out (near_at t (2 * e))) (f.out (near_at t (2 * e))) refl;
+      far_held = ap (λ v. within t v (f.out (near_at t (2 * e + 1)))) far_same
+          ∙ (within_out (near_at t (2 * e + 1)) (near_at t (2 * e + 1)) fl fl ∙ eq-eqb (f.out (near_at t (2 * e + 1)))
+          (f.out (near_at t (2 * e + 1))) refl);
       live_x = used_at (near_at t (2 * e)) nl;
       live_y = used_at (near_at t (2 * e + 1)) fl;
-      law = λ b l. subst (λ v. bool_number (splits (f.holds b) (near_at t (2 * e)) v) + (waits_but t b (f.out (near_at t (2 * e))) (near_at t (2 * e)) + waits_but t b (f.out (near_at t (2 * e + 1))) v) ≡ bool_number (within t b (f.out (near_at t (2 * e)))) + bool_number (within t b (f.out (near_at t (2 * e + 1))))) (sym far_same)
+      law = λ b l. subst (λ v. bool_number (splits (f.holds b) (near_at t (2 * e)) v)
+          + (waits_but t b (f.out (near_at t (2 * e))) (near_at t (2 * e)) + waits_but t b
+          (f.out (near_at t (2 * e + 1))) v) ≡ bool_number (within t b (f.out (near_at t (2 * e)))) + bool_number
+          (within t b (f.out (near_at t (2 * e + 1))))) (sym far_same)
           (tops_law (near_at t (2 * e)) (near_at t (2 * e + 1)) b nl fl apart);
       tight = λ h is' valid'. (valid'.valid.matched (f.out (near_at t (2 * e))) (2 * e) mate).tight;
     };
@@ -144,21 +180,30 @@ module _ (t : ForestTables) (known : IsLaminar t) (g : WeightedGraph) (is : IsSm
   matches_is e on = mate_edge e (dart_true (f.mate (f.out (near_at t (2 * e)))) (2 * e) on)
 
   abbrev term : ℕ → ℕ → ℕ
-  term b e = cond (matches t e) (bool_number (within t b (f.out (near_at t (2 * e)))) + bool_number (within t b (f.out (near_at t (2 * e + 1))))) 0
+  term b e = cond (matches t e) (bool_number (within t b (f.out (near_at t (2 * e)))) + bool_number
+      (within t b (f.out (near_at t (2 * e + 1))))) 0
 
   -- An edge that matches the outermost blossom of a vertex is that of its mate.
   term_none : (w e : ℕ) → w < length t.hand → ((d : ℕ) → f.mate (f.out w) ≡ Some d → e ≢ d / 2) → term w e ≡ 0
   term_none w e lw other = by_test (cases_Bool (matches t e))
     where
       by_test : (matches t e ≡ true) ⊎ (matches t e ≡ false) → term w e ≡ 0
-      by_test (inr off) = cond-false (matches t e) (bool_number (within t w (f.out (near_at t (2 * e)))) + bool_number (within t w (f.out (near_at t (2 * e + 1))))) 0 off
+      by_test (inr off) = cond-false (matches t e) (bool_number (within t w (f.out (near_at t (2 * e)))) + bool_number
+          (within t w (f.out (near_at t (2 * e + 1))))) 0 off
       by_test (inl on) =
           let m : IsMateEdge e = matches_is e on in
-          let first : within t w (f.out (near_at t (2 * e))) ≡ false = off_where (within t w (f.out (near_at t (2 * e)))) (λ o. other (2 * e) (ap f.mate (eqb-true (f.out w) (f.out (near_at t (2 * e))) (sym (within_out w (near_at t (2 * e)) lw m.near_low) ∙ o)) ∙ m.mate) (omega arith)) in
-          let second : within t w (f.out (near_at t (2 * e + 1))) ≡ false = off_where (within t w (f.out (near_at t (2 * e + 1)))) (λ o. other (2 * e + 1) (ap f.mate (eqb-true (f.out w) (f.out (near_at t (2 * e + 1))) (sym (within_out w (near_at t (2 * e + 1)) lw m.far_low) ∙ o)) ∙ m.back) (omega arith)) in
+          let first : within t w (f.out (near_at t (2 * e))) ≡ false =
+          off_where (within t w (f.out (near_at t (2 * e))))
+          (λ o. other (2 * e) (ap f.mate (eqb-true (f.out w) (f.out (near_at t (2 * e)))
+          (sym (within_out w (near_at t (2 * e)) lw m.near_low) ∙ o)) ∙ m.mate) (omega arith)) in
+          let second : within t w (f.out (near_at t (2 * e + 1))) ≡ false =
+          off_where (within t w (f.out (near_at t (2 * e + 1))))
+          (λ o. other (2 * e + 1) (ap f.mate (eqb-true (f.out w) (f.out (near_at t (2 * e + 1)))
+          (sym (within_out w (near_at t (2 * e + 1)) lw m.far_low) ∙ o)) ∙ m.back) (omega arith)) in
           let one : bool_number (within t w (f.out (near_at t (2 * e)))) ≡ 0 = ap bool_number first in
           let two : bool_number (within t w (f.out (near_at t (2 * e + 1)))) ≡ 0 = ap bool_number second in
-          cond-true (matches t e) (bool_number (within t w (f.out (near_at t (2 * e)))) + bool_number (within t w (f.out (near_at t (2 * e + 1))))) 0 on ∙ omega (arith, one, two)
+          cond-true (matches t e) (bool_number (within t w (f.out (near_at t (2 * e)))) + bool_number
+          (within t w (f.out (near_at t (2 * e + 1))))) 0 on ∙ omega (arith, one, two)
 
   term_one : (w d : ℕ) → w < length t.hand → f.mate (f.out w) ≡ Some d → (term w (d / 2) ≡ 1) × (d / 2 < length g.edges)
   term_one w d lw mate = by_side (cases_eq (d % 2) 0)
@@ -169,8 +214,10 @@ module _ (t : ForestTables) (known : IsLaminar t) (g : WeightedGraph) (is : IsSm
       d_low : d < 2 * length g.edges
       d_low = m.tight.low
 
-      value : (e : ℕ) → matches t e ≡ true → (f.out w ≡ f.out (near_at t (2 * e))) ⊎ (f.out w ≡ f.out (near_at t (2 * e + 1))) → term w e ≡ 1
-      value e on side = cond-true (matches t e) (bool_number (within t w (f.out (near_at t (2 * e)))) + bool_number (within t w (f.out (near_at t (2 * e + 1))))) 0 on ∙ by_end side
+      value : (e : ℕ) → matches t e ≡ true → (f.out w ≡ f.out (near_at t (2 * e)))
+          ⊎ (f.out w ≡ f.out (near_at t (2 * e + 1))) → term w e ≡ 1
+      value e on side = cond-true (matches t e) (bool_number (within t w (f.out (near_at t (2 * e)))) + bool_number
+          (within t w (f.out (near_at t (2 * e + 1))))) 0 on ∙ by_end side
         where
           me : IsMateEdge e
           me = matches_is e on
@@ -181,9 +228,19 @@ module _ (t : ForestTables) (known : IsLaminar t) (g : WeightedGraph) (is : IsSm
           off : (v : ℕ) → v < length t.hand → f.out w ≢ f.out v → bool_number (within t w (f.out v)) ≡ 0
           off v lv s = ap bool_number (within_out w v lw lv ∙ ne_eqb (f.out w) (f.out v) s)
 
-          by_end : (f.out w ≡ f.out (near_at t (2 * e))) ⊎ (f.out w ≡ f.out (near_at t (2 * e + 1))) → bool_number (within t w (f.out (near_at t (2 * e)))) + bool_number (within t w (f.out (near_at t (2 * e + 1)))) ≡ 1
-          by_end (inl s) = omega (arith, at (near_at t (2 * e)) me.near_low s, off (near_at t (2 * e + 1)) me.far_low (λ z. me.other (sym s ∙ z)))
-          by_end (inr s) = omega (arith, off (near_at t (2 * e)) me.near_low (λ z. me.other (sym z ∙ s)), at (near_at t (2 * e + 1)) me.far_low s)
+          by_end : (f.out w ≡ f.out (near_at t (2 * e))) ⊎ (f.out w ≡ f.out (near_at t (2 * e + 1)))
+              → bool_number (within t w (f.out (near_at t (2 * e)))) + bool_number
+              (within t w (f.out (near_at t (2 * e + 1)))) ≡ 1
+          by_end (inl s) = omega (
+            arith,
+            at (near_at t (2 * e)) me.near_low s,
+            off (near_at t (2 * e + 1)) me.far_low (λ z. me.other (sym s ∙ z)),
+          )
+          by_end (inr s) = omega (
+            arith,
+            off (near_at t (2 * e)) me.near_low (λ z. me.other (sym z ∙ s)),
+            at (near_at t (2 * e + 1)) me.far_low s,
+          )
 
       near_is : f.out (near_at t d) ≡ f.out w
       near_is = ap f.out (valid.ends d d_low) ∙ m.here
@@ -191,20 +248,30 @@ module _ (t : ForestTables) (known : IsLaminar t) (g : WeightedGraph) (is : IsSm
       by_side : (d % 2 ≡ 0) ⊎ (d % 2 ≢ 0) → (term w (d / 2) ≡ 1) × (d / 2 < length g.edges)
       by_side (inl z) =
           let s : d ≡ 2 * (d / 2) = omega (arith, z) in
-          let here : f.out w ≡ f.out (near_at t (2 * (d / 2))) = sym near_is ∙ ap (λ k. f.out (near_at t k)) s in
-          (value (d / 2) (dart_is (f.mate (f.out (near_at t (2 * (d / 2))))) (2 * (d / 2)) (ap f.mate (sym here) ∙ (mate ∙ ap (λ (k : ℕ). Some k) s))) (inl here), omega (arith, d_low))
+          let here : f.out w ≡ f.out (near_at t (2 * (d / 2))) = sym near_is ∙ ap (λ k. f.out (near_at t k)) s in (
+            value (d / 2) (dart_is (f.mate (f.out (near_at t (2 * (d / 2))))) (2 * (d / 2)) (ap f.mate (sym here)
+                ∙ (mate ∙ ap (λ (k : ℕ). Some k) s))) (inl here),
+            omega (arith, d_low),
+          )
       by_side (inr nz) =
           let s : other_dart d ≡ 2 * (d / 2) = twin_odd d nz ∙ (let k : d - 1 ≡ 2 * (d / 2) = omega (arith, nz) in k) in
           let up : d ≡ 2 * (d / 2) + 1 = omega (arith, nz) in
-          let far_is : far (darts_of g) d ≡ near_at t (2 * (d / 2)) = sym (valid.ends (other_dart d) (are.twin_low d d_low)) ∙ ap (near_at t) s in
-          (value (d / 2) (dart_is (f.mate (f.out (near_at t (2 * (d / 2))))) (2 * (d / 2)) (ap (λ v. f.mate (f.out v)) (sym far_is) ∙ (m.back ∙ ap (λ (k : ℕ). Some k) s))) (inr (sym near_is ∙ ap (λ k. f.out (near_at t k)) up)), omega (arith, d_low))
+          let far_is : far (darts_of g) d ≡ near_at t (2 * (d / 2)) =
+          sym (valid.ends (other_dart d) (are.twin_low d d_low)) ∙ ap (near_at t) s in (
+            value (d / 2) (dart_is (f.mate (f.out (near_at t (2 * (d / 2))))) (2 * (d / 2))
+                (ap (λ v. f.mate (f.out v)) (sym far_is) ∙ (m.back ∙ ap (λ (k : ℕ). Some k) s)))
+                (inr (sym near_is ∙ ap (λ k. f.out (near_at t k)) up)),
+            omega (arith, d_low),
+          )
 
   -- A vertex is met once at most, and once where its blossom is matched.
   pub due_low : (w edges : ℕ) → w < length t.hand → matched_by t edges w ≤ 1
   due_low w edges lw = by_mate (option_cases (f.mate (f.out w)))
     where
       by_mate : (f.mate (f.out w) ≡ None) ⊎ ((d : ℕ) × (f.mate (f.out w) ≡ Some d)) → matched_by t edges w ≤ 1
-      by_mate (inl none) = (let z : matched_by t edges w ≡ 0 = count_below_none (term w) edges (λ k l. term_none w k lw (λ d s. absurd (clash (sym none ∙ s)))) in omega (arith, z))
+      by_mate (inl none) = (let z : matched_by t edges w ≡ 0 =
+          count_below_none (term w) edges (λ k l. term_none w k lw (λ d s. absurd (clash (sym none ∙ s)))) in
+          omega (arith, z))
         where
           clash : {d : ℕ} → ◌≡◌ {A = Option ℕ} None (Some d) → ⊥
           clash s = cc s
@@ -214,15 +281,23 @@ module _ (t : ForestTables) (known : IsLaminar t) (g : WeightedGraph) (is : IsSm
           others k ne = term_none w k lw (λ d e at. ne (at ∙ ap (λ x. x / 2) (some_is d s.0 (sym e ∙ s.1))))
 
           by_place : (s.0 / 2 < edges) ⊎ (edges ≤ s.0 / 2) → matched_by t edges w ≤ 1
-          by_place (inl l) = (let o : matched_by t edges w ≡ term w (s.0 / 2) = count_below_one (term w) edges (s.0 / 2) l (λ k lk ne. others k ne) in omega (arith, o, (term_one w s.0 lw s.1).0))
-          by_place (inr h) = (let z : matched_by t edges w ≡ 0 = count_below_none (term w) edges (λ k l. others k (λ e. absurd (omega (arith, l, h, e)))) in omega (arith, z))
+          by_place (inl l) = (let o : matched_by t edges w ≡ term w (s.0 / 2) =
+              count_below_one (term w) edges (s.0 / 2) l (λ k lk ne. others k ne) in
+              omega (arith, o, (term_one w s.0 lw s.1).0))
+          by_place (inr h) = (let z : matched_by t edges w ≡ 0 =
+              count_below_none (term w) edges (λ k l. others k (λ e. absurd (omega (arith, l, h, e)))) in
+              omega (arith, z))
 
-  pub due_one : (w edges : ℕ) → w < length t.hand → edges ≡ length g.edges → f.mate (f.out w) ≢ None → matched_by t edges w ≡ 1
+  pub due_one : (w edges : ℕ) → w < length t.hand → edges ≡ length g.edges → f.mate (f.out w) ≢ None
+      → matched_by t edges w ≡ 1
   due_one w edges lw all matched = by_mate (option_cases (f.mate (f.out w)))
     where
       by_mate : (f.mate (f.out w) ≡ None) ⊎ ((d : ℕ) × (f.mate (f.out w) ≡ Some d)) → matched_by t edges w ≡ 1
       by_mate (inl none) = absurd (matched none)
-      by_mate (inr s) = count_below_one (term w) edges (s.0 / 2) (subst (λ m. s.0 / 2 < m) (sym all) (term_one w s.0 lw s.1).1) (λ k lk ne. term_none w k lw (λ d e at. ne (at ∙ ap (λ x. x / 2) (some_is d s.0 (sym e ∙ s.1))))) ∙ (term_one w s.0 lw s.1).0
+      by_mate (inr s) = count_below_one (term w) edges (s.0 / 2)
+          (subst (λ m. s.0 / 2 < m) (sym all) (term_one w s.0 lw s.1).1)
+          (λ k lk ne. term_none w k lw (λ d e at. ne (at ∙ ap (λ x. x / 2) (some_is d s.0 (sym e ∙ s.1)))))
+          ∙ (term_one w s.0 lw s.1).0
 
   -- A blossom is met as its vertices are.
   pub due_same : (b w edges : ℕ) → w < length t.hand → within t w b ≡ true → matched_by t edges b ≡ matched_by t edges w
@@ -231,7 +306,8 @@ module _ (t : ForestTables) (known : IsLaminar t) (g : WeightedGraph) (is : IsSm
       same : (u : ℕ) → u < length t.hand → within t b (f.out u) ≡ within t w (f.out u)
       same u lu = by_test (cases_Bool (within t b (f.out u))) (cases_Bool (within t w (f.out u)))
         where
-          by_test : (within t b (f.out u) ≡ true) ⊎ (within t b (f.out u) ≡ false) → (within t w (f.out u) ≡ true) ⊎ (within t w (f.out u) ≡ false) → within t b (f.out u) ≡ within t w (f.out u)
+          by_test : (within t b (f.out u) ≡ true) ⊎ (within t b (f.out u) ≡ false) → (within t w (f.out u) ≡ true)
+              ⊎ (within t w (f.out u) ≡ false) → within t b (f.out u) ≡ within t w (f.out u)
           by_test (inl on) y = on ∙ sym (through b u w lu held on)
           by_test (inr off) (inr free) = off ∙ sym free
           by_test (inr off) (inl on) =
@@ -239,29 +315,49 @@ module _ (t : ForestTables) (known : IsLaminar t) (g : WeightedGraph) (is : IsSm
               absurd (true_false (within t b (f.out u)) (ap (within t b) (sym here) ∙ around_in b w lw held) off)
 
       each : (e : ℕ) → (matches t e ≡ true) ⊎ (matches t e ≡ false) → term b e ≡ term w e
-      each e (inr off) = cond-false (matches t e) (bool_number (within t b (f.out (near_at t (2 * e)))) + bool_number (within t b (f.out (near_at t (2 * e + 1))))) 0 off ∙ sym (cond-false (matches t e) (bool_number (within t w (f.out (near_at t (2 * e)))) + bool_number (within t w (f.out (near_at t (2 * e + 1))))) 0 off)
+      each e (inr off) = cond-false (matches t e) (bool_number (within t b (f.out (near_at t (2 * e)))) + bool_number
+          (within t b (f.out (near_at t (2 * e + 1))))) 0 off
+          ∙ sym (cond-false (matches t e) (bool_number (within t w (f.out (near_at t (2 * e)))) + bool_number
+          (within t w (f.out (near_at t (2 * e + 1))))) 0 off)
       each e (inl on) =
           let m : IsMateEdge e = matches_is e on in
-          ap (λ (s : Bool). cond (matches t e) (bool_number s + bool_number (within t b (f.out (near_at t (2 * e + 1))))) 0) (same (near_at t (2 * e)) m.near_low)
-          ∙ ap (λ (s : Bool). cond (matches t e) (bool_number (within t w (f.out (near_at t (2 * e)))) + bool_number s) 0) (same (near_at t (2 * e + 1)) m.far_low)
+          ap (λ (s : Bool). cond (matches t e)
+          (bool_number s + bool_number (within t b (f.out (near_at t (2 * e + 1))))) 0)
+          (same (near_at t (2 * e)) m.near_low)
+          ∙ ap (λ (s : Bool). cond (matches t e) (bool_number (within t w (f.out (near_at t (2 * e)))) + bool_number s)
+          0) (same (near_at t (2 * e + 1)) m.far_low)
 
   -- One edge more.
-  pub edge_more : (marks marks2 : List Bool) (left left2 : List (Option ℕ)) (e j : ℕ) → j ≡ e + 1 → length t.near ≡ 2 * length marks → length left ≡ length t.up → f.mate (f.out (near_at t (2 * e))) ≡ Some (2 * e) → marks2 ≡ set marks (2 * e / 2) true
-      → left2 ≡ entered (length t.hand) (entered (length t.hand) left (f.out (near_at t (2 * e))) (near_at t (2 * e))) (f.out (near_at t (2 * e + 1))) (far_at t (2 * e))
+  pub edge_more : (marks marks2 : List Bool) (left left2 : List (Option ℕ)) (e j : ℕ) → j ≡ e + 1
+      → length t.near ≡ 2 * length marks → length left ≡ length t.up → f.mate (f.out (near_at t (2 * e))) ≡ Some (2 * e)
+      → marks2 ≡ set marks (2 * e / 2) true
+      → left2 ≡ entered (length t.hand) (entered (length t.hand) left (f.out (near_at t (2 * e))) (near_at t (2 * e)))
+      (f.out (near_at t (2 * e + 1))) (far_at t (2 * e))
       → IsRound t marks left (λ b. 0) (matched_by t e) → IsRound t marks2 left2 (λ b. 0) (matched_by t j)
   edge_more marks marks2 left left2 e j j_is size_marks size_left mate marks_is left_is round =
-      subst (λ ms. IsRound t ms left2 (λ b. 0) (matched_by t j)) (sym marks_is) (subst (λ ls. IsRound t (set marks (2 * e / 2) true) ls (λ b. 0) (matched_by t j)) (sym left_is)
-      (paired_round t known.vertices (alone t known) known.own (another t known g is valid) marks left (f.out (near_at t (2 * e))) (f.out (near_at t (2 * e + 1))) (2 * e) (λ b. 0) (matched_by t j) size_marks size_left (record {
+      subst (λ ms. IsRound t ms left2 (λ b. 0) (matched_by t j)) (sym marks_is)
+      (subst (λ ls. IsRound t (set marks (2 * e / 2) true) ls (λ b. 0) (matched_by t j)) (sym left_is)
+      (paired_round t known.vertices (alone t known) known.own (another t known g is valid) marks left
+      (f.out (near_at t (2 * e))) (f.out (near_at t (2 * e + 1))) (2 * e) (λ b. 0) (matched_by t j) size_marks
+      size_left (record {
         each = λ b l. omega (arith, round.each b l, step b);
         entry = round.entry;
         once = λ v l. due_low v j l;
         tight = round.tight;
       }) (mate_edge e mate).pairing))
     where
-      step : (b : ℕ) → matched_by t j b ≡ matched_by t e b + (bool_number (within t b (f.out (near_at t (2 * e)))) + bool_number (within t b (f.out (near_at t (2 * e + 1)))))
-      step b = ap (λ k. matched_by t k b) (j_is ∙ (let o : e + 1 ≡ suc e = omega arith in o)) ∙ ap (λ m. matched_by t e b + m) (cond-true (matches t e) (bool_number (within t b (f.out (near_at t (2 * e)))) + bool_number (within t b (f.out (near_at t (2 * e + 1))))) 0 (dart_is (f.mate (f.out (near_at t (2 * e)))) (2 * e) mate))
+      step : (b : ℕ) → matched_by t j b
+          ≡ matched_by t e b + (bool_number (within t b (f.out (near_at t (2 * e)))) + bool_number
+          (within t b (f.out (near_at t (2 * e + 1)))))
+      step b = ap (λ k. matched_by t k b) (j_is ∙ (let o : e + 1 ≡ suc e = omega arith in o))
+          ∙ ap (λ m. matched_by t e b + m)
+          (cond-true (matches t e) (bool_number (within t b (f.out (near_at t (2 * e)))) + bool_number
+          (within t b (f.out (near_at t (2 * e + 1))))) 0 (dart_is (f.mate (f.out (near_at t (2 * e)))) (2 * e)
+          mate))
 
-  pub edge_same : (marks : List Bool) (left : List (Option ℕ)) (e j : ℕ) → j ≡ e + 1 → f.mate (f.out (near_at t (2 * e))) ≢ Some (2 * e) → IsRound t marks left (λ b. 0) (matched_by t e) → IsRound t marks left (λ b. 0) (matched_by t j)
+  pub edge_same : (marks : List Bool) (left : List (Option ℕ)) (e j : ℕ) → j ≡ e + 1
+      → f.mate (f.out (near_at t (2 * e))) ≢ Some (2 * e) → IsRound t marks left (λ b. 0) (matched_by t e)
+      → IsRound t marks left (λ b. 0) (matched_by t j)
   edge_same marks left e j j_is off round = record {
     each = λ b l. omega (arith, round.each b l, step b);
     entry = round.entry;
@@ -270,4 +366,9 @@ module _ (t : ForestTables) (known : IsLaminar t) (g : WeightedGraph) (is : IsSm
   }
     where
       step : (b : ℕ) → matched_by t j b ≡ matched_by t e b
-      step b = ap (λ k. matched_by t k b) (j_is ∙ (let o : e + 1 ≡ suc e = omega arith in o)) ∙ (ap (λ m. matched_by t e b + m) (cond-false (matches t e) (bool_number (within t b (f.out (near_at t (2 * e)))) + bool_number (within t b (f.out (near_at t (2 * e + 1))))) 0 (off_where (matches t e) (λ on. off (dart_true (f.mate (f.out (near_at t (2 * e)))) (2 * e) on)))) ∙ (let o : matched_by t e b + 0 ≡ matched_by t e b = omega arith in o))
+      step b = ap (λ k. matched_by t k b) (j_is ∙ (let o : e + 1 ≡ suc e = omega arith in o))
+          ∙ (ap (λ m. matched_by t e b + m)
+          (cond-false (matches t e) (bool_number (within t b (f.out (near_at t (2 * e)))) + bool_number
+          (within t b (f.out (near_at t (2 * e + 1))))) 0
+          (off_where (matches t e) (λ on. off (dart_true (f.mate (f.out (near_at t (2 * e)))) (2 * e) on))))
+          ∙ (let o : matched_by t e b + 0 ≡ matched_by t e b = omega arith in o))

@@ -1,5 +1,6 @@
 -- Two climbers in a valid forest: each turn keeps what they know, and brings them nearer.
-use Rattle.std.proofs.Common.{◌≡◌, ◌≢◌, ℕ, suc, ◌+◌, ◌-◌, ◌<◌, ◌≤◌, ◌^◌, length, get_or, ℤ, pos, ◌+ℤ◌, ◌⊎◌, refl, sym, ◌∙◌, ap, subst, inl, inr, arith}
+use Rattle.std.proofs.Common.{◌≡◌, ◌≢◌, ℕ, suc, ◌+◌, ◌-◌, ◌<◌, ◌≤◌, ◌^◌, length, get_or, ℤ, pos, ◌+ℤ◌, ◌⊎◌, refl, sym}
+use Rattle.std.proofs.Common.{◌∙◌, ap, subst, inl, inr, arith}
 use Rattle.std.specs.Prelude.{unsigned_abs, slice_index}
 use Rattle.std.proofs.lemmas.Int.{ints}
 use Rattle.def_matching.specs.Matching.{WeightedGraph}
@@ -14,7 +15,9 @@ use Rattle.forest_laws.proofs.Writes.{label_cases}
 use Rattle.qm_forest.specs.Ties.{IsClimb, IsWithin, IsMeeting, apart}
 use Rattle.qm_forest.proofs.Apart.{can_climb, rank_low, apart_step, apart_order, apart_met, apart_small}
 
-module _ (g : WeightedGraph) (t : ForestTables) (valid : IsValidFor g t) (climb : IsClimb (length t.hand) (up_at t.up) (forest_of t).out) (few : length t.up ≤ 2 ^ 26) (small : (b : ℕ) → unsigned_abs ((forest_of t).weight b) ≤ 2 ^ 62) where
+module _ (g : WeightedGraph) (t : ForestTables) (valid : IsValidFor g t) (climb : IsClimb (length t.hand) (up_at t.up)
+    (forest_of t).out) (few : length t.up ≤ 2 ^ 26) (small : (b : ℕ) → unsigned_abs ((forest_of t).weight b)
+    ≤ 2 ^ 62) where
   abbrev up : ℕ → ℕ
   up = up_at t.up
 
@@ -23,20 +26,27 @@ module _ (g : WeightedGraph) (t : ForestTables) (valid : IsValidFor g t) (climb 
 
   -- Ranks rise.
   rises : (x : ℕ) → up x ≢ x → rank x < rank (up x)
-  rises x inner = by_ring (valid.valid.nested.rings (up x) (valid.valid.nested.live x inner).0 (valid.valid.nested.live x inner).1)
+  rises x inner = by_ring (valid.valid.nested.rings (up x) (valid.valid.nested.live x inner).0
+      (valid.valid.nested.live x inner).1)
     where
-      by_ring : IsRing (darts_of g) (forest_of t) (up_at t.up x) → slice_index t.rank x < slice_index t.rank (up_at t.up x)
+      by_ring : IsRing (darts_of g) (forest_of t) (up_at t.up x)
+          → slice_index t.rank x < slice_index t.rank (up_at t.up x)
       by_ring ring =
-          let w : (k : ℕ) × (k < (forest_of t).nest.parts (up_at t.up x)) × (walk (forest_of t).nest.after ((forest_of t).nest.head (up_at t.up x)) k ≡ x) = ring.all x refl (λ e. inner (sym e)) in
+          let w : (k : ℕ) × (k < (forest_of t).nest.parts (up_at t.up x))
+          × (walk (forest_of t).nest.after ((forest_of t).nest.head (up_at t.up x)) k ≡ x) =
+          ring.all x refl (λ e. inner (sym e)) in
           subst (λ y. slice_index t.rank y < slice_index t.rank (up_at t.up x)) w.2 (ring.lower w.0)
 
   -- The weight of a blossom that is not outermost is as it is kept.
   base_is : (x : ℕ) → up x ≢ x → get_or t.base x (pos 0) ≡ (forest_of t).weight x
   base_is x inner = by_label (label_cases (label_at t.label x))
     where
-      by_label : (label_at t.label x ≡ Outside) ⊎ (label_at t.label x ≢ Outside) → get_or t.base x (pos 0) ≡ (forest_of t).weight x
-      by_label (inl off) = let z : weight_change (label_at t.label x) t.delta ≡ pos 0 = ap (λ (l : Label). weight_change l t.delta) off in omega (arith, ints, z)
-      by_label (inr named) = let w : IsOutermost g.n (forest_of t) x = valid.valid.outermost.named x named in absurd (inner (ap (up_at t.up) (sym w.2) ∙ (valid.valid.outermost.tops w.0 w.1 ∙ w.2)))
+      by_label : (label_at t.label x ≡ Outside) ⊎ (label_at t.label x ≢ Outside) → get_or t.base x (pos 0)
+          ≡ (forest_of t).weight x
+      by_label (inl off) = let z : weight_change (label_at t.label x) t.delta ≡ pos 0 =
+          ap (λ (l : Label). weight_change l t.delta) off in omega (arith, ints, z)
+      by_label (inr named) = let w : IsOutermost g.n (forest_of t) x = valid.valid.outermost.named x named in
+          absurd (inner (ap (up_at t.up) (sym w.2) ∙ (valid.valid.outermost.tops w.0 w.1 ∙ w.2)))
 
   abbrev passing : ℕ → ℕ → ℤ
   passing x y = apart (length t.hand) up (forest_of t).weight (length t.up) x y
@@ -49,15 +59,19 @@ module _ (g : WeightedGraph) (t : ForestTables) (valid : IsValidFor g t) (climb 
   within_up b x w = (w.0, w.1, w.2, suc w.3, ap up w.4)
 
   within_rank : (b x : ℕ) → IsWithin t b x → rank x ≤ rank b
-  within_rank b x w = subst (λ k. rank x ≤ rank k) w.2 (rank_low (length t.hand) up rank (forest_of t).out climb rises w.0 x w.1 (w.3, w.4))
+  within_rank b x w = subst (λ k. rank x ≤ rank k) w.2 (rank_low (length t.hand) up rank (forest_of t).out climb rises
+      w.0 x w.1 (w.3, w.4))
 
   within_climbs : (b x y : ℕ) → IsWithin t b x → IsWithin t b y → x ≢ y → rank x ≤ rank y → up x ≢ x
-  within_climbs b x y wx wy ne le = can_climb (length t.hand) up rank (forest_of t).out climb rises wx.0 wy.0 x y wx.1 wy.1 (wx.2 ∙ sym wy.2) (wx.3, wx.4) (wy.3, wy.4) ne le
+  within_climbs b x y wx wy ne le = can_climb (length t.hand) up rank (forest_of t).out climb rises wx.0 wy.0 x y wx.1
+      wy.1 (wx.2 ∙ sym wy.2) (wx.3, wx.4) (wy.3, wy.4) ne le
 
-  within_step : (b x y : ℕ) → IsWithin t b x → IsWithin t b y → x ≢ y → rank x ≤ rank y → x < length t.up → passing x y ≡ passing (up x) y +ℤ get_or t.base x (pos 0)
+  within_step : (b x y : ℕ) → IsWithin t b x → IsWithin t b y → x ≢ y → rank x ≤ rank y → x < length t.up
+      → passing x y ≡ passing (up x) y +ℤ get_or t.base x (pos 0)
   within_step b x y wx wy ne le low =
       let inner : up x ≢ x = within_climbs b x y wx wy ne le in
-      apart_step (length t.hand) up rank (forest_of t).out climb rises (forest_of t).weight (length t.up) wx.0 wx.0 x y wx.1 (wx.3, wx.4) ne le inner low ∙ ap (λ z. passing (up x) y +ℤ z) (sym (base_is x inner))
+      apart_step (length t.hand) up rank (forest_of t).out climb rises (forest_of t).weight (length t.up) wx.0 wx.0 x y
+      wx.1 (wx.3, wx.4) ne le inner low ∙ ap (λ z. passing (up x) y +ℤ z) (sym (base_is x inner))
 
   all_small : (x y : ℕ) → unsigned_abs (passing x y) ≤ 2 ^ 88
   all_small x y = omega (arith, apart_small (length t.hand) up (forest_of t).weight (length t.up) x y small, few)
@@ -67,14 +81,19 @@ module _ (g : WeightedGraph) (t : ForestTables) (valid : IsValidFor g t) (climb 
     top = (forest_of t).out u
 
     -- A turn: the lower one climbs, and what it was at is passed.
-    pub turn_meets : (low high x2 : ℕ) (load2 : ℤ) → ((low ≡ x) × (high ≡ y)) ⊎ ((low ≡ y) × (high ≡ x)) → rank low ≤ rank high → x2 ≡ up low → x2 < length t.up → load2 ≡ load +ℤ get_or t.base low (pos 0) → IsMeeting t u v x2 high load2
+    pub turn_meets : (low high x2 : ℕ) (load2 : ℤ) → ((low ≡ x) × (high ≡ y)) ⊎ ((low ≡ y) × (high ≡ x))
+        → rank low ≤ rank high → x2 ≡ up low → x2 < length t.up → load2 ≡ load +ℤ get_or t.base low (pos 0)
+        → IsMeeting t u v x2 high load2
     turn_meets low high x2 load2 either order x2_is x2_low load_is = by_side either
       where
-        build : IsWithin t top low → IsWithin t top high → low ≢ high → low < length t.up → high < length t.up → passing x y ≡ passing low high → IsMeeting t u v x2 high load2
+        build : IsWithin t top low → IsWithin t top high → low ≢ high → low < length t.up → high < length t.up
+            → passing x y ≡ passing low high → IsMeeting t u v x2 high load2
         build wl wh nlh ll lh same =
-            let step : passing low high ≡ passing (up low) high +ℤ get_or t.base low (pos 0) = within_step top low high wl wh nlh order ll in
+            let step : passing low high ≡ passing (up low) high +ℤ get_or t.base low (pos 0) =
+            within_step top low high wl wh nlh order ll in
             let next : passing x2 high ≡ passing (up low) high = ap (λ k. passing k high) x2_is in
-            let sum : load2 +ℤ passing x2 high ≡ passing u v = omega (arith, ints, step, next, load_is, same, meet.sum) in
+            let sum : load2 +ℤ passing x2 high ≡ passing u v =
+            omega (arith, ints, step, next, load_is, same, meet.sum) in
             record {
               sum = sum;
               first = subst (λ k. IsWithin t top k) (sym x2_is) (within_up top low wl);
@@ -85,32 +104,50 @@ module _ (g : WeightedGraph) (t : ForestTables) (valid : IsValidFor g t) (climb 
             }
 
         by_side : ((low ≡ x) × (high ≡ y)) ⊎ ((low ≡ y) × (high ≡ x)) → IsMeeting t u v x2 high load2
-        by_side (inl e) = build (subst (λ k. IsWithin t top k) (sym e.0) meet.first) (subst (λ k. IsWithin t top k) (sym e.1) meet.second) (λ s. ne (sym e.0 ∙ (s ∙ e.1))) (subst (λ k. k < length t.up) (sym e.0) meet.low_x) (subst (λ k. k < length t.up) (sym e.1) meet.low_y)
+        by_side (inl e) = build (subst (λ k. IsWithin t top k) (sym e.0) meet.first)
+            (subst (λ k. IsWithin t top k) (sym e.1) meet.second) (λ s. ne (sym e.0 ∙ (s ∙ e.1)))
+            (subst (λ k. k < length t.up) (sym e.0) meet.low_x) (subst (λ k. k < length t.up) (sym e.1) meet.low_y)
             (ap (λ k. passing k y) (sym e.0) ∙ ap (passing low) (sym e.1))
-        by_side (inr e) = build (subst (λ k. IsWithin t top k) (sym e.0) meet.second) (subst (λ k. IsWithin t top k) (sym e.1) meet.first) (λ s. ne (sym (sym e.0 ∙ (s ∙ e.1)))) (subst (λ k. k < length t.up) (sym e.0) meet.low_y) (subst (λ k. k < length t.up) (sym e.1) meet.low_x)
-            (apart_order (length t.hand) up (forest_of t).weight (length t.up) x y ∙ (ap (λ k. passing k x) (sym e.0) ∙ ap (passing low) (sym e.1)))
+        by_side (inr e) = build (subst (λ k. IsWithin t top k) (sym e.0) meet.second)
+            (subst (λ k. IsWithin t top k) (sym e.1) meet.first) (λ s. ne (sym (sym e.0 ∙ (s ∙ e.1))))
+            (subst (λ k. k < length t.up) (sym e.0) meet.low_y) (subst (λ k. k < length t.up) (sym e.1) meet.low_x)
+            (apart_order (length t.hand) up (forest_of t).weight (length t.up) x y
+            ∙ (ap (λ k. passing k x) (sym e.0) ∙ ap (passing low) (sym e.1)))
 
     -- And they come nearer.
-    pub turn_nearer : (low high x2 : ℕ) → ((low ≡ x) × (high ≡ y)) ⊎ ((low ≡ y) × (high ≡ x)) → rank low ≤ rank high → x2 ≡ up low → (rank top + rank top) - (rank x2 + rank high) < (rank top + rank top) - (rank x + rank y)
+    pub turn_nearer : (low high x2 : ℕ) → ((low ≡ x) × (high ≡ y)) ⊎ ((low ≡ y) × (high ≡ x)) → rank low ≤ rank high
+        → x2 ≡ up low → (rank top + rank top) - (rank x2 + rank high) < (rank top + rank top) - (rank x + rank y)
     turn_nearer low high x2 either order x2_is = by_side either
       where
-        increasing : IsWithin t top low → IsWithin t top high → low ≢ high → (rank low < rank x2) × (rank x2 ≤ rank top) × (rank high ≤ rank top)
-        increasing wl wh nlh =
-            (subst (λ k. rank low < rank k) (sym x2_is) (rises low (within_climbs top low high wl wh nlh order)), subst (λ k. rank k ≤ rank top) (sym x2_is) (within_rank top (up low) (within_up top low wl)), within_rank top high wh)
+        increasing : IsWithin t top low → IsWithin t top high → low ≢ high → (rank low < rank x2) × (rank x2 ≤ rank top)
+            × (rank high ≤ rank top)
+        increasing wl wh nlh = (
+          subst (λ k. rank low < rank k) (sym x2_is) (rises low (within_climbs top low high wl wh nlh order)),
+          subst (λ k. rank k ≤ rank top) (sym x2_is) (within_rank top (up low) (within_up top low wl)),
+          within_rank top high wh,
+        )
 
-        by_side : ((low ≡ x) × (high ≡ y)) ⊎ ((low ≡ y) × (high ≡ x)) → (rank top + rank top) - (rank x2 + rank high) < (rank top + rank top) - (rank x + rank y)
+        by_side : ((low ≡ x) × (high ≡ y)) ⊎ ((low ≡ y) × (high ≡ x)) → (rank top + rank top) - (rank x2 + rank high)
+            < (rank top + rank top) - (rank x + rank y)
         by_side (inl e) =
-            let r : (rank low < rank x2) × (rank x2 ≤ rank top) × (rank high ≤ rank top) = increasing (subst (λ k. IsWithin t top k) (sym e.0) meet.first) (subst (λ k. IsWithin t top k) (sym e.1) meet.second) (λ s. ne (sym e.0 ∙ (s ∙ e.1))) in
+            let r : (rank low < rank x2) × (rank x2 ≤ rank top) × (rank high ≤ rank top) =
+            increasing (subst (λ k. IsWithin t top k) (sym e.0) meet.first)
+            (subst (λ k. IsWithin t top k) (sym e.1) meet.second) (λ s. ne (sym e.0 ∙ (s ∙ e.1))) in
             let a : rank low ≡ rank x = ap rank e.0 in
             let b : rank high ≡ rank y = ap rank e.1 in
             omega (arith, r.0, r.1, r.2)
         by_side (inr e) =
-            let r : (rank low < rank x2) × (rank x2 ≤ rank top) × (rank high ≤ rank top) = increasing (subst (λ k. IsWithin t top k) (sym e.0) meet.second) (subst (λ k. IsWithin t top k) (sym e.1) meet.first) (λ s. ne (sym (sym e.0 ∙ (s ∙ e.1)))) in
+            let r : (rank low < rank x2) × (rank x2 ≤ rank top) × (rank high ≤ rank top) =
+            increasing (subst (λ k. IsWithin t top k) (sym e.0) meet.second)
+            (subst (λ k. IsWithin t top k) (sym e.1) meet.first) (λ s. ne (sym (sym e.0 ∙ (s ∙ e.1)))) in
             let a : rank low ≡ rank y = ap rank e.0 in
             let b : rank high ≡ rank x = ap rank e.1 in
             omega (arith, r.0, r.1, r.2)
 
 -- Where they have met, the load is found.
-pub met_load : (t : ForestTables) (u v x y : ℕ) (sum : ℤ) → IsMeeting t u v x y sum → x ≡ y → sum ≡ weight_between (forest_of t) u v
-met_load t u v x y sum meet e = let none : apart (length t.hand) (up_at t.up) (forest_of t).weight (length t.up) x y ≡ pos 0 = apart_met (length t.hand) (up_at t.up) (forest_of t).weight (length t.up) x y e in
-    let all : sum ≡ apart (length t.hand) (up_at t.up) (forest_of t).weight (length t.up) u v = omega (arith, ints, none, meet.sum) in all
+pub met_load : (t : ForestTables) (u v x y : ℕ) (sum : ℤ) → IsMeeting t u v x y sum → x ≡ y
+    → sum ≡ weight_between (forest_of t) u v
+met_load t u v x y sum meet e = let none : apart (length t.hand) (up_at t.up) (forest_of t).weight (length t.up) x y
+    ≡ pos 0 = apart_met (length t.hand) (up_at t.up) (forest_of t).weight (length t.up) x y e in
+    let all : sum ≡ apart (length t.hand) (up_at t.up) (forest_of t).weight (length t.up) u v =
+    omega (arith, ints, none, meet.sum) in all

@@ -1,5 +1,6 @@
 -- What the tables of a nest say at once: the outermost blossoms are in use, and their leaders are theirs.
-use Rattle.std.proofs.Common.{◌≡◌, ◌≢◌, ℕ, zero, suc, ◌<◌, ◌≤◌, Bool, true, false, eqb, ◌||◌, List, get_or, ◌⊎◌, refl, sym, ◌∙◌, ap, subst, inl, inr, arith}
+use Rattle.std.proofs.Common.{◌≡◌, ◌≢◌, ℕ, zero, suc, ◌<◌, ◌≤◌, Bool, true, false, eqb, ◌||◌, List, get_or, ◌⊎◌, refl}
+use Rattle.std.proofs.Common.{sym, ◌∙◌, ap, subst, inl, inr, arith}
 use Rattle.std.proofs.lemmas.Bool.{cases_eq, eq-eqb, eqb-true}
 use Rattle.def_forest.specs.Forests.{walk}
 use Rattle.def_forest.specs.Tables.{climbs, out_of, up_at}
@@ -11,22 +12,28 @@ use Rattle.qm_forest.proofs.JoinedLists.{list_few, list_has_last, list_member}
 -- What one comes past lies on the way.
 pub climbs_place : (up : ℕ → ℕ) (k b from : ℕ) → climbs up k b from ≡ true → (i : ℕ) × (walk up from i ≡ b)
 climbs_place up zero b from on = (0, eqb-true from b on)
-climbs_place up (suc k) b from on = by_or (or_parts (eqb from b) (climbs up k b (up from)) on) (climbs_place up k b (up from))
+climbs_place up (suc k) b from on =
+    by_or (or_parts (eqb from b) (climbs up k b (up from)) on) (climbs_place up k b (up from))
   where
     or_parts : (p q : Bool) → (p || q) ≡ true → (p ≡ true) ⊎ (q ≡ true)
     or_parts true q e = inl refl
     or_parts false q e = inr e
 
-    by_or : (eqb from b ≡ true) ⊎ (climbs up k b (up from) ≡ true) → (climbs up k b (up from) ≡ true → (i : ℕ) × (walk up (up from) i ≡ b)) → (i : ℕ) × (walk up from i ≡ b)
+    by_or : (eqb from b ≡ true) ⊎ (climbs up k b (up from) ≡ true)
+        → (climbs up k b (up from) ≡ true → (i : ℕ) × (walk up (up from) i ≡ b)) → (i : ℕ) × (walk up from i ≡ b)
     by_or (inl e) more = (0, eqb-true from b e)
     by_or (inr e) more = let w : (i : ℕ) × (walk up (up from) i ≡ b) = more e in (suc w.0, walk_front up from w.0 ∙ w.1)
 
 -- Where one comes to from elsewhere one comes by a step.
 pub comes_by : (up : ℕ → ℕ) (v i x : ℕ) → walk up v i ≡ x → v ≢ x → (y : ℕ) × (up y ≡ x) × (y ≢ x)
 comes_by up v zero x e ne = absurd (ne e)
-comes_by up v (suc i) x e ne = elim (cases_eq (walk up v i) x) [ inl at ↦ comes_by up v i x at ne | inr off ↦ (walk up v i, e, off) ]
+comes_by up v (suc i) x e ne = elim (cases_eq (walk up v i) x) [
+  | inl at ↦ comes_by up v i x at ne
+  | inr off ↦ (walk up v i, e, off)
+]
 
-module _ (n size : ℕ) (hand top up rank parts leader first last following : List ℕ) (nest : IsLaidOut n size hand top up rank parts leader first last following) where
+module _ (n size : ℕ) (hand top up rank parts leader first last following : List ℕ)
+    (nest : IsLaidOut n size hand top up rank parts leader first last following) where
   abbrev out : ℕ → ℕ
   out = out_of hand top
 
@@ -36,7 +43,8 @@ module _ (n size : ℕ) (hand top up rank parts leader first last following : Li
     where
       by_place : (v ≡ x) ⊎ (v ≢ x) → IsInUse n parts x
       by_place (inl at) = inl (subst (λ y. y < n) at l)
-      by_place (inr ne) = (let w : (y : ℕ) × (up_at up y ≡ x) × (y ≢ x) = comes_by (up_at up) v i x e ne in inr (subst (λ y. get_or parts y 0 ≢ 0) w.1 (nest.around w.0 (λ s. w.2 (sym s ∙ w.1))).1))
+      by_place (inr ne) = (let w : (y : ℕ) × (up_at up y ≡ x) × (y ≢ x) = comes_by (up_at up) v i x e ne in
+          inr (subst (λ y. get_or parts y 0 ≢ 0) w.1 (nest.around w.0 (λ s. w.2 (sym s ∙ w.1))).1))
 
   pub out_used : (v : ℕ) → v < n → IsInUse n parts (out v)
   out_used v l = reached_used v n (out v) l (nest.climb.ends v l)
@@ -44,44 +52,57 @@ module _ (n size : ℕ) (hand top up rank parts leader first last following : Li
   pub out_size : (v : ℕ) → v < n → out v < size
   out_size v l = nest.outs (get_or hand v 0) (nest.hands v l)
 
-  pub list_of : (v : ℕ) → v < n → IsListed n (λ k. get_or following k 0) (get_or first (out v) 0) (get_or last (out v) 0) (get_or rank (out v) 0) (climbs (up_at up) n (out v))
+  pub list_of : (v : ℕ) → v < n → IsListed n (λ k. get_or following k 0) (get_or first (out v) 0)
+      (get_or last (out v) 0) (get_or rank (out v) 0) (climbs (up_at up) n (out v))
   list_of v l = nest.members (out v) (out_size v l) (out_used v l)
 
   pub rank_few : (v : ℕ) → v < n → get_or rank (out v) 0 ≤ n
-  rank_few v l = list_few n (λ k. get_or following k 0) (get_or first (out v) 0) (get_or last (out v) 0) (get_or rank (out v) 0) (climbs (up_at up) n (out v)) (list_of v l)
+  rank_few v l = list_few n (λ k. get_or following k 0) (get_or first (out v) 0) (get_or last (out v) 0)
+      (get_or rank (out v) 0) (climbs (up_at up) n (out v)) (list_of v l)
 
   pub rank_some : (v : ℕ) → v < n → n ≤ size → 1 ≤ get_or rank v 0
   rank_some v l le = (nest.members v (omega (arith, l, le)) (inl l)).some
 
   -- A vertex in an outermost blossom has it as its own.
   pub held_out : (v w : ℕ) → v < n → w < n → climbs (up_at up) n (out v) w ≡ true → out w ≡ out v
-  held_out v w lv lw on = sym (fixed_top n (up_at up) (λ x. get_or rank x 0) out nest.climb nest.rises w (out v) lw (climbs_place (up_at up) n (out v) w on) (nest.climb.tops v lv))
+  held_out v w lv lw on = sym (fixed_top n (up_at up) (λ x. get_or rank x 0) out nest.climb nest.rises w (out v) lw
+      (climbs_place (up_at up) n (out v) w on) (nest.climb.tops v lv))
 
   -- The leader of an outermost blossom is one of its vertices.
   pub leader_low : (v : ℕ) → v < n → get_or leader (out v) 0 < n
   leader_low v l = (nest.leaders (out v) (out_size v l) (out_used v l)).0
 
   pub leader_out : (v : ℕ) → v < n → out (get_or leader (out v) 0) ≡ out v
-  leader_out v l = held_out v (get_or leader (out v) 0) l (leader_low v l) (nest.leaders (out v) (out_size v l) (out_used v l)).1
+  leader_out v l = held_out v (get_or leader (out v) 0) l (leader_low v l)
+      (nest.leaders (out v) (out_size v l) (out_used v l)).1
 
   -- What one comes past has no more vertices than the outermost.
   pub rank_passed : (v y : ℕ) → v < n → climbs (up_at up) n y v ≡ true → get_or rank y 0 ≤ get_or rank (out v) 0
-  rank_passed v y l on = rank_low n (up_at up) (λ x. get_or rank x 0) out nest.climb nest.rises v y l (climbs_place (up_at up) n y v on)
+  rank_passed v y l on = rank_low n (up_at up) (λ x. get_or rank x 0) out nest.climb nest.rises v y l
+      (climbs_place (up_at up) n y v on)
 
   -- The last vertex of an outermost blossom is the last of each list that it is on.
   pub last_free : (v y j : ℕ) → v < n → y < size → IsInUse n parts y → suc j < get_or rank y 0
       → walk (λ k. get_or following k 0) (get_or first y 0) j ≢ get_or last (out v) 0
   last_free v y j lv ly used l e =
-      let more : get_or rank (out v) 0 < get_or rank y 0 = nest.ended (out v) y j (out_size v lv) ly (out_used v lv) used l e in
-      let mine : (get_or last (out v) 0 < n) × (climbs (up_at up) n (out v) (get_or last (out v) 0) ≡ true) = list_has_last n (λ k. get_or following k 0) (get_or first (out v) 0) (get_or last (out v) 0) (get_or rank (out v) 0) (climbs (up_at up) n (out v)) (list_of v lv) in
-      let low : get_or rank y 0 ≤ get_or rank (out (get_or last (out v) 0)) 0 = rank_passed (get_or last (out v) 0) y mine.0 (subst (λ w. climbs (up_at up) n y w ≡ true) e (list_member n (λ k. get_or following k 0) (get_or first y 0) (get_or last y 0) (get_or rank y 0) (climbs (up_at up) n y) (nest.members y ly used) j (omega (arith, l)))) in
-      let same : get_or rank (out (get_or last (out v) 0)) 0 ≡ get_or rank (out v) 0 = ap (λ x. get_or rank x 0) (held_out v (get_or last (out v) 0) lv mine.0 mine.1) in
+      let more : get_or rank (out v) 0 < get_or rank y 0 =
+      nest.ended (out v) y j (out_size v lv) ly (out_used v lv) used l e in
+      let mine : (get_or last (out v) 0 < n) × (climbs (up_at up) n (out v) (get_or last (out v) 0) ≡ true) =
+      list_has_last n (λ k. get_or following k 0) (get_or first (out v) 0) (get_or last (out v) 0)
+      (get_or rank (out v) 0) (climbs (up_at up) n (out v)) (list_of v lv) in
+      let low : get_or rank y 0 ≤ get_or rank (out (get_or last (out v) 0)) 0 =
+      rank_passed (get_or last (out v) 0) y mine.0 (subst (λ w. climbs (up_at up) n y w ≡ true) e
+      (list_member n (λ k. get_or following k 0) (get_or first y 0) (get_or last y 0) (get_or rank y 0)
+      (climbs (up_at up) n y) (nest.members y ly used) j (omega (arith, l)))) in
+      let same : get_or rank (out (get_or last (out v) 0)) 0 ≡ get_or rank (out v) 0 =
+      ap (λ x. get_or rank x 0) (held_out v (get_or last (out v) 0) lv mine.0 mine.1) in
       omega (arith, more, low, same)
 
 -- One comes past where one comes to.
 pub came_past : (up : ℕ → ℕ) (k v x : ℕ) → walk up v k ≡ x → climbs up k x v ≡ true
 came_past up zero v x e = eq-eqb v x e
-came_past up (suc k) v x e = or_right (eqb v x) (climbs up k x (up v)) (came_past up k (up v) x (sym (walk_front up v k) ∙ e))
+came_past up (suc k) v x e =
+    or_right (eqb v x) (climbs up k x (up v)) (came_past up k (up v) x (sym (walk_front up v k) ∙ e))
   where
     or_right : (p q : Bool) → q ≡ true → (p || q) ≡ true
     or_right true q f = refl

@@ -1,5 +1,6 @@
 -- An inner set that is opened: labels, mates and links of its parts, along the ring and against it.
-use Rattle.std.proofs.Common.{◌≡◌, ◌≢◌, ℕ, suc, ◌+◌, ◌-◌, ◌*◌, ◌/◌, ◌%◌, ◌<◌, ◌≤◌, Bool, true, false, cond, eqb, length, pos, Option, Some, None, ◌⊎◌, refl, sym, ◌∙◌, ap, subst, inl, inr, arith}
+use Rattle.std.proofs.Common.{◌≡◌, ◌≢◌, ℕ, suc, ◌+◌, ◌-◌, ◌*◌, ◌/◌, ◌%◌, ◌<◌, ◌≤◌, Bool, true, false, cond, eqb, length}
+use Rattle.std.proofs.Common.{pos, Option, Some, None, ◌⊎◌, refl, sym, ◌∙◌, ap, subst, inl, inr, arith}
 use Rattle.std.proofs.lemmas.Bool.{cases_Bool, cases_eq, cases_lt, cond-true, cond-false, eq-eqb, ne_eqb}
 use Rattle.def_matching.specs.Matching.{WeightedGraph, IsSmallGraph}
 use Rattle.def_forest.specs.Darts.{Darts, darts_of}
@@ -16,7 +17,10 @@ use Rattle.forest_laws.proofs.Writes.{set_here, set_there, true_false}
 use Rattle.qm_forest.specs.Parts.{IsCourse, IsParted, hung, paired, side_dart, turn_label}
 use Rattle.qm_forest.specs.Ties.{labelled, linked, mated}
 use Rattle.qm_forest.specs.declared.expanding.Course.{Course}
-use Rattle.qm_forest.proofs.Openings.{IsJoined, IsRoute, are as the_are, inside as the_inside, in_tree as the_in_tree, joined as the_joined, opening_at as the_opening_at, opening_is as the_opening_is, out_is, part_around as the_part_around, around_part, part_other, part_outside, ring_from as the_ring_from, ring_is as the_ring_is, first_in, last_in, set_top}
+use Rattle.qm_forest.proofs.Openings.{IsJoined, IsRoute, are as the_are, inside as the_inside, in_tree as the_in_tree}
+use Rattle.qm_forest.proofs.Openings.{joined as the_joined, opening_at as the_opening_at, opening_is as the_opening_is}
+use Rattle.qm_forest.proofs.Openings.{out_is, part_around as the_part_around, around_part, part_other, part_outside}
+use Rattle.qm_forest.proofs.Openings.{ring_from as the_ring_from, ring_is as the_ring_is, first_in, last_in, set_top}
 
 even_is : (k i : ℕ) → k ≡ 2 * i → turn_label k ≡ Inner
 even_is k i e = cond-true (eqb (k % 2) 0) Inner Outer (eq-eqb (k % 2) 0 (omega (arith, e)))
@@ -24,8 +28,10 @@ even_is k i e = cond-true (eqb (k % 2) 0) Inner Outer (eq-eqb (k % 2) 0 (omega (
 odd_is : (k i : ℕ) → k ≡ 2 * i + 1 → turn_label k ≡ Outer
 odd_is k i e = cond-false (eqb (k % 2) 0) Inner Outer (ne_eqb (k % 2) 0 (λ z. absurd (omega (arith, e, z))))
 
-module _ (g : WeightedGraph) (is : IsSmallGraph g) (t0 : ForestTables) (valid : IsValidFor g t0) (b : ℕ) (high : g.n ≤ b) (inner : (forest_of t0).label b ≡ Inner) (weightless : (forest_of t0).weight b ≡ pos 0)
-    (f2 : Forest) (parted : IsParted g.n (mated (labelled (forest_of t0) b Outside) b None) f2 (listed (forest_of t0).nest.after ((forest_of t0).nest.head b) ((forest_of t0).nest.parts b)) b) where
+module _ (g : WeightedGraph) (is : IsSmallGraph g) (t0 : ForestTables) (valid : IsValidFor g t0) (b : ℕ)
+    (high : g.n ≤ b) (inner : (forest_of t0).label b ≡ Inner) (weightless : (forest_of t0).weight b ≡ pos 0)
+    (f2 : Forest) (parted : IsParted g.n (mated (labelled (forest_of t0) b Outside) b None) f2
+    (listed (forest_of t0).nest.after ((forest_of t0).nest.head b) ((forest_of t0).nest.parts b)) b) where
   abbrev d : Darts
   d = darts_of g
 
@@ -63,7 +69,8 @@ module _ (g : WeightedGraph) (is : IsSmallGraph g) (t0 : ForestTables) (valid : 
   at k = walk next first k
 
   circle : IsCircle next first many inside
-  circle = the_ring_from g is t0 valid b high inner weightless f2 parted first (first_in g is t0 valid b high inner weightless f2 parted)
+  circle = the_ring_from g is t0 valid b high inner weightless f2 parted first
+      (first_in g is t0 valid b high inner weightless f2 parted)
 
   joined : (k : ℕ) → IsJoined g is t0 valid b high inner weightless f2 parted next joint (at k)
   joined k = the_joined g is t0 valid b high inner weightless f2 parted (at k) (circle.marked k)
@@ -90,24 +97,43 @@ module _ (g : WeightedGraph) (is : IsSmallGraph g) (t0 : ForestTables) (valid : 
     marked = λ j. circle.marked (many - j);
     distinct = λ i j lij lj e. differ i j lij lj e (cases_eq i 0);
     all = λ x on. found x (circle.all x on);
-    tight = λ j l. tight_twin d (the_are g is t0 valid b high inner weightless) f0 (joint (at (many - suc j))) (joined (many - suc j)).tight;
-    near = λ j l. ((joined (many - suc j)).far_in, (joined (many - suc j)).far_part ∙ (let e : suc (many - suc j) ≡ many - j = omega (arith, odd, l) in ap at e));
+    tight = λ j l. tight_twin d (the_are g is t0 valid b high inner weightless) f0 (joint (at (many - suc j)))
+        (joined (many - suc j)).tight;
+    near = λ j l. (
+      (joined (many - suc j)).far_in,
+      (joined (many - suc j)).far_part
+          ∙ (let e : suc (many - suc j) ≡ many - j = omega (arith, odd, l) in ap at e),
+    );
     far = λ j l. (
-      ap f0.out (far_twin d (the_are g is t0 valid b high inner weightless) (joint (at (many - suc j)))) ∙ (joined (many - suc j)).near_in,
-      ap f2.out (far_twin d (the_are g is t0 valid b high inner weightless) (joint (at (many - suc j)))) ∙ ((joined (many - suc j)).near_part ∙ (let e : many - suc j ≡ many - (j + 1) = omega arith in ap at e)),
+      ap f0.out (far_twin d (the_are g is t0 valid b high inner weightless) (joint (at (many - suc j))))
+          ∙ (joined (many - suc j)).near_in,
+      ap f2.out (far_twin d (the_are g is t0 valid b high inner weightless) (joint (at (many - suc j))))
+          ∙ ((joined (many - suc j)).near_part ∙ (let e : many - suc j ≡ many - (j + 1) = omega arith in ap at e)),
     );
   }
     where
       differ : (i j : ℕ) → i < j → j ≤ 2 * half → at (many - i) ≡ at (many - j) → (i ≡ 0) ⊎ (i ≢ 0) → ⊥
-      differ i j lij lj e (inl z) = circle.distinct 0 (many - j) (omega (arith, odd, lj)) (omega (arith, odd, lij, lj)) (sym circle.closed ∙ ((let e : many ≡ many - i = omega (arith, z) in ap at e) ∙ e))
-      differ i j lij lj e (inr nz) = circle.distinct (many - j) (many - i) (omega (arith, odd, lij, lj)) (omega (arith, odd, lij, lj, nz)) (sym e)
+      differ i j lij lj e (inl z) = circle.distinct 0 (many - j) (omega (arith, odd, lj)) (omega (arith, odd, lij, lj))
+          (sym circle.closed ∙ ((let e : many ≡ many - i = omega (arith, z) in ap at e) ∙ e))
+      differ i j lij lj e (inr nz) = circle.distinct (many - j) (many - i) (omega (arith, odd, lij, lj))
+          (omega (arith, odd, lij, lj, nz)) (sym e)
 
       found : (x : ℕ) → (k : ℕ) × (k < many) × (at k ≡ x) → (j : ℕ) × (j ≤ 2 * half) × (at (many - j) ≡ x)
       found x w = by_start (cases_eq w.0 0)
         where
           by_start : (w.0 ≡ 0) ⊎ (w.0 ≢ 0) → (j : ℕ) × (j ≤ 2 * half) × (at (many - j) ≡ x)
-          by_start (inl z) = (0, omega arith, (let e : many - 0 ≡ many = omega arith in ap at e) ∙ (circle.closed ∙ (ap at (sym z) ∙ w.2)))
-          by_start (inr nz) = (many - w.0, omega (arith, odd, nz), (let e : many - (many - w.0) ≡ w.0 = omega (arith, w.1) in ap at e) ∙ w.2)
+          by_start (inl z) = (
+            0,
+            omega arith,
+            (let e : many - 0 ≡ many = omega arith in ap at e)
+                ∙ (circle.closed ∙ (ap at (sym z) ∙ w.2)),
+          )
+          by_start (inr nz) = (
+            many - w.0,
+            omega (arith, odd, nz),
+            (let e : many - (many - w.0) ≡ w.0 =
+                omega (arith, w.1) in ap at e) ∙ w.2,
+          )
 
   b_off : inside b ≡ false
   b_off = by_test (cases_Bool (inside b))
@@ -129,10 +155,13 @@ module _ (g : WeightedGraph) (is : IsSmallGraph g) (t0 : ForestTables) (valid : 
       ap f0.nest.up (sym w.2) ∙ (valid.valid.outermost.tops w.0 l ∙ w.2))
 
   part_label : (x : ℕ) → inside x ≡ true → f2.label x ≡ Outside
-  part_label x on = ap (λ (h : ℕ → Label). h x) parted.label ∙ (set_there f0.label b x Outside (part_other g is t0 valid b high inner weightless x on) ∙ part_outside g is t0 valid b high inner weightless x on)
+  part_label x on = ap (λ (h : ℕ → Label). h x) parted.label
+      ∙ (set_there f0.label b x Outside (part_other g is t0 valid b high inner weightless x on)
+      ∙ part_outside g is t0 valid b high inner weightless x on)
 
   module _ (course : Course) (way : IsCourse next first last many course) (f6 : Forest)
-      (done : f6 ≡ linked (hung (mated (paired f2 first many) first (Some m)) course.front course.many course.forward) last (f0.link b)) where
+      (done : f6 ≡ linked (hung (mated (paired f2 first many) first (Some m)) course.front course.many course.forward)
+      last (f0.link b)) where
     mate_at : (k : ℕ) → 1 ≤ k → k < many → f6.mate (at k) ≡ Some (side_dart f2 (at (k - 1)) (at k) (eqb (k % 2) 1))
     mate_at k some l =
         ap (λ (f : Forest). f.mate (at k)) done
@@ -140,10 +169,14 @@ module _ (g : WeightedGraph) (is : IsSmallGraph g) (t0 : ForestTables) (valid : 
         ∙ writes_at f2.mate at (λ j. Some (side_dart f2 (at (j - 1)) (at j) (eqb (j % 2) 1))) many k l circle.distinct)
 
     mate_odd : (k i : ℕ) → k ≡ 2 * i + 1 → k < many → f6.mate (at k) ≡ Some (joint (at k))
-    mate_odd k i e l = mate_at k (omega (arith, e)) l ∙ ap (λ (x : ℕ). Some x) (cond-true (eqb (k % 2) 1) (joint (at k)) (d.twin (joint (at (k - 1)))) (eq-eqb (k % 2) 1 (omega (arith, e))))
+    mate_odd k i e l = mate_at k (omega (arith, e)) l
+        ∙ ap (λ (x : ℕ). Some x) (cond-true (eqb (k % 2) 1) (joint (at k)) (d.twin (joint (at (k - 1))))
+        (eq-eqb (k % 2) 1 (omega (arith, e))))
 
     mate_even : (k j i : ℕ) → k ≡ 2 * i + 2 → k ≡ suc j → k < many → f6.mate (at k) ≡ Some (d.twin (joint (at j)))
-    mate_even k j i e ej l = mate_at k (omega (arith, e)) l ∙ ap (λ (x : ℕ). Some x) (cond-false (eqb (k % 2) 1) (joint (at k)) (d.twin (joint (at (k - 1)))) (ne_eqb (k % 2) 1 (λ z. absurd (omega (arith, e, z))))
+    mate_even k j i e ej l = mate_at k (omega (arith, e)) l
+        ∙ ap (λ (x : ℕ). Some x) (cond-false (eqb (k % 2) 1) (joint (at k)) (d.twin (joint (at (k - 1))))
+        (ne_eqb (k % 2) 1 (λ z. absurd (omega (arith, e, z))))
         ∙ (let s : k - 1 ≡ j = omega (arith, ej) in ap (λ x. d.twin (joint (at x))) s))
 
     mate_first : f6.mate first ≡ Some m
@@ -152,8 +185,10 @@ module _ (g : WeightedGraph) (is : IsSmallGraph g) (t0 : ForestTables) (valid : 
     mate_off : (x : ℕ) → inside x ≡ false → f6.mate x ≡ f2.mate x
     mate_off x off =
         ap (λ (f : Forest). f.mate x) done
-        ∙ (set_there (paired f2 first many).mate first x (Some m) (λ e. true_false (inside x) (ap inside e ∙ circle.marked 0) off)
-        ∙ writes_off f2.mate at (λ j. Some (side_dart f2 (at (j - 1)) (at j) (eqb (j % 2) 1))) many x (λ k lk e. true_false (inside x) (ap inside (sym e) ∙ circle.marked k) off))
+        ∙ (set_there (paired f2 first many).mate first x (Some m)
+        (λ e. true_false (inside x) (ap inside e ∙ circle.marked 0) off)
+        ∙ writes_off f2.mate at (λ j. Some (side_dart f2 (at (j - 1)) (at j) (eqb (j % 2) 1))) many x
+        (λ k lk e. true_false (inside x) (ap inside (sym e) ∙ circle.marked k) off))
 
     -- Where the parts stand, and how they are joined, in the order of a route.
     record HasPlaces (q e : ℕ → ℕ) (turns : ℕ) : Type 0 where
@@ -168,7 +203,8 @@ module _ (g : WeightedGraph) (is : IsSmallGraph g) (t0 : ForestTables) (valid : 
       label_off : (x : ℕ) → inside x ≡ false → f6.label x ≡ f2.label x
       link_off : (x : ℕ) → inside x ≡ false → f6.link x ≡ f2.link x
 
-    opened_is : (q e : ℕ → ℕ) (turns : ℕ) → HasPlaces q e turns → IsOpened d f0 f6 (the_opening_at g is t0 valid b high inner weightless f2 parted q e turns)
+    opened_is : (q e : ℕ → ℕ) (turns : ℕ) → HasPlaces q e turns
+        → IsOpened d f0 f6 (the_opening_at g is t0 valid b high inner weightless f2 parted q e turns)
     opened_is q e turns places = record {
       size = ap (λ (f : Forest). f.size) done ∙ parted.size;
       weight = λ x. ap (λ (f : Forest). f.weight x) done ∙ ap (λ h. h x) parted.weight;
@@ -183,12 +219,18 @@ module _ (g : WeightedGraph) (is : IsSmallGraph g) (t0 : ForestTables) (valid : 
       even_mate = places.even_mate;
       link = places.links;
       last_link = places.last_link;
-      gone = (places.label_off b b_off ∙ (ap (λ (h : ℕ → Label). h b) parted.label ∙ set_here f0.label b Outside), mate_off b b_off ∙ (ap (λ (h : ℕ → Option ℕ). h b) parted.mate ∙ set_here f0.mate b None));
+      gone = (
+        places.label_off b b_off ∙ (ap (λ (h : ℕ → Label). h b) parted.label ∙ set_here f0.label b Outside),
+        mate_off b b_off ∙ (ap (λ (h : ℕ → Option ℕ). h b) parted.mate ∙ set_here f0.mate b None),
+      );
       others = λ x ne. record {
-        label = places.label_off x (other_off x ne) ∙ (ap (λ (h : ℕ → Label). h x) parted.label ∙ set_there f0.label b x Outside (other_b x ne));
-        mate = mate_off x (other_off x ne) ∙ (ap (λ (h : ℕ → Option ℕ). h x) parted.mate ∙ set_there f0.mate b x None (other_b x ne));
+        label = places.label_off x (other_off x ne)
+            ∙ (ap (λ (h : ℕ → Label). h x) parted.label ∙ set_there f0.label b x Outside (other_b x ne));
+        mate = mate_off x (other_off x ne) ∙ (ap (λ (h : ℕ → Option ℕ). h x) parted.mate
+            ∙ set_there f0.mate b x None (other_b x ne));
         link = places.link_off x (other_off x ne) ∙ ap (λ (h : ℕ → ℕ). h x) parted.link;
-        up = ap (λ (f : Forest). f.nest.up x) done ∙ (parted.up x ∙ cond-false (inside x) x (f0.nest.up x) (other_off x ne));
+        up = ap (λ (f : Forest). f.nest.up x) done
+            ∙ (parted.up x ∙ cond-false (inside x) x (f0.nest.up x) (other_off x ne));
         after = ap (λ (f : Forest). f.nest.after x) done ∙ ap (λ (h : ℕ → ℕ). h x) parted.after;
         joint = ap (λ (f : Forest). f.nest.joint x) done ∙ ap (λ (h : ℕ → ℕ). h x) parted.joint;
       };
@@ -206,41 +248,59 @@ module _ (g : WeightedGraph) (is : IsSmallGraph g) (t0 : ForestTables) (valid : 
 
         part_top : (x : ℕ) → f0.nest.up x ≡ b → (x ≡ b) ⊎ (x ≢ b) → cond (inside x) x (f0.nest.up x) ≡ x
         part_top x up (inl e) = cond-false (inside x) x (f0.nest.up x) (ap inside e ∙ b_off) ∙ (up ∙ sym e)
-        part_top x up (inr ne) = cond-true (inside x) x (f0.nest.up x) (around_part g is t0 valid b high inner weightless x up ne)
+        part_top x up (inr ne) =
+            cond-true (inside x) x (f0.nest.up x) (around_part g is t0 valid b high inner weightless x up ne)
 
     -- The tree goes along the ring.
-    module _ (steps : ℕ) (low : steps < many) (ends : at steps ≡ last) (even : steps % 2 ≡ 0) (on : f6 ≡ linked (hung (mated (paired f2 first many) first (Some m)) first (steps + 1) true) last (f0.link b)) where
+    module _ (steps : ℕ) (low : steps < many) (ends : at steps ≡ last) (even : steps % 2 ≡ 0) (on : f6
+        ≡ linked (hung (mated (paired f2 first many) first (Some m)) first (steps + 1) true) last (f0.link b)) where
       label_on : (k : ℕ) → k < steps + 1 → f6.label (at k) ≡ turn_label k
-      label_on k l = ap (λ (f : Forest). f.label (at k)) on ∙ writes_at f2.label at turn_label (steps + 1) k l (λ i j lij lj. circle.distinct i j lij (omega (arith, lj, low)))
+      label_on k l = ap (λ (f : Forest). f.label (at k)) on ∙ writes_at f2.label at turn_label (steps + 1) k l
+          (λ i j lij lj. circle.distinct i j lij (omega (arith, lj, low)))
 
       places_on : HasPlaces at (λ j. joint (at j)) (steps / 2)
       places_on = record {
         inners = λ i l. label_on (2 * i) (omega (arith, l)) ∙ even_is (2 * i) i refl;
         outers = λ i l. label_on (2 * i + 1) (omega (arith, l)) ∙ odd_is (2 * i + 1) i refl;
-        off = λ j more l. ap (λ (f : Forest). f.label (at j)) on ∙ (writes_off f2.label at turn_label (steps + 1) (at j) (λ k lk e. circle.distinct k j (omega (arith, lk, more, even)) (omega (arith, l, odd)) e) ∙ part_label (at j) (circle.marked j));
+        off = λ j more l. ap (λ (f : Forest). f.label (at j)) on
+            ∙ (writes_off f2.label at turn_label (steps + 1) (at j)
+            (λ k lk e. circle.distinct k j (omega (arith, lk, more, even)) (omega (arith, l, odd)) e)
+            ∙ part_label (at j) (circle.marked j));
         first_mate = mate_first;
         odd_mate = λ i l. mate_odd (2 * i + 1) i refl (omega (arith, odd, l));
         even_mate = λ i l. mate_even (2 * i + 2) (2 * i + 1) i refl (omega arith) (omega (arith, odd, l));
         links = λ i l. ap (λ (f : Forest). f.link (at (2 * i))) on
-            ∙ (set_there (hung (mated (paired f2 first many) first (Some m)) first (steps + 1) true).link last (at (2 * i)) (f0.link b) (λ e. circle.distinct (2 * i) steps (omega (arith, l)) low (e ∙ sym ends))
-            ∙ writes_at f2.link at (λ k. joint (at k)) (steps + 1) (2 * i) (omega (arith, l)) (λ i j lij lj. circle.distinct i j lij (omega (arith, lj, low))));
-        last_link = ap f6.link ((let e : 2 * (steps / 2) ≡ steps = omega (arith, even) in ap at e) ∙ ends) ∙ (ap (λ (f : Forest). f.link last) on ∙ set_here (hung (mated (paired f2 first many) first (Some m)) first (steps + 1) true).link last (f0.link b));
-        label_off = λ x off. ap (λ (f : Forest). f.label x) on ∙ writes_off f2.label at turn_label (steps + 1) x (λ k lk e. true_false (inside x) (ap inside (sym e) ∙ circle.marked k) off);
+            ∙ (set_there (hung (mated (paired f2 first many) first (Some m)) first (steps + 1) true).link last
+            (at (2 * i)) (f0.link b) (λ e. circle.distinct (2 * i) steps (omega (arith, l)) low (e ∙ sym ends))
+            ∙ writes_at f2.link at (λ k. joint (at k)) (steps + 1) (2 * i) (omega (arith, l))
+            (λ i j lij lj. circle.distinct i j lij (omega (arith, lj, low))));
+        last_link = ap f6.link ((let e : 2 * (steps / 2) ≡ steps = omega (arith, even) in ap at e) ∙ ends)
+            ∙ (ap (λ (f : Forest). f.link last) on
+            ∙ set_here (hung (mated (paired f2 first many) first (Some m)) first (steps + 1) true).link last
+            (f0.link b));
+        label_off = λ x off. ap (λ (f : Forest). f.label x) on ∙ writes_off f2.label at turn_label (steps + 1) x
+            (λ k lk e. true_false (inside x) (ap inside (sym e) ∙ circle.marked k) off);
         link_off = λ x off. ap (λ (f : Forest). f.link x) on
-            ∙ (set_there (hung (mated (paired f2 first many) first (Some m)) first (steps + 1) true).link last x (f0.link b) (λ e. true_false (inside x) (ap inside (e ∙ sym ends) ∙ circle.marked steps) off)
-            ∙ writes_off f2.link at (λ k. joint (at k)) (steps + 1) x (λ k lk e. true_false (inside x) (ap inside (sym e) ∙ circle.marked k) off));
+            ∙ (set_there (hung (mated (paired f2 first many) first (Some m)) first (steps + 1) true).link last x
+            (f0.link b) (λ e. true_false (inside x) (ap inside (e ∙ sym ends) ∙ circle.marked steps) off)
+            ∙ writes_off f2.link at (λ k. joint (at k)) (steps + 1) x
+            (λ k lk e. true_false (inside x) (ap inside (sym e) ∙ circle.marked k) off));
       }
 
       expanding_on : IsExpanding d f0 f6 b
       expanding_on = record {
         o = the_opening_at g is t0 valid b high inner weightless f2 parted at (λ j. joint (at j)) (steps / 2);
         is = refl;
-        opening = the_opening_is g is t0 valid b high inner weightless f2 parted at (λ j. joint (at j)) (steps / 2) route_on (omega (arith, low, odd)) ((let e : 2 * (steps / 2) ≡ steps = omega (arith, even) in ap at e) ∙ ends);
+        opening = the_opening_is g is t0 valid b high inner weightless f2 parted at (λ j. joint (at j)) (steps / 2)
+            route_on (omega (arith, low, odd)) ((let e : 2 * (steps / 2) ≡ steps = omega (arith, even) in ap at e)
+            ∙ ends);
         opened = opened_is at (λ j. joint (at j)) (steps / 2) places_on;
       }
 
     -- The tree goes against the ring.
-    module _ (steps : ℕ) (low : steps < many) (ends : at steps ≡ last) (uneven : steps % 2 ≡ 1) (on : f6 ≡ linked (hung (mated (paired f2 first many) first (Some m)) last (many - steps + 1) false) last (f0.link b)) where
+    module _ (steps : ℕ) (low : steps < many) (ends : at steps ≡ last) (uneven : steps % 2 ≡ 1) (on : f6
+        ≡ linked (hung (mated (paired f2 first many) first (Some m)) last (many - steps + 1) false) last
+        (f0.link b)) where
       abbrev bt : ℕ → ℕ
       bt k = walk next last k
 
@@ -248,7 +308,8 @@ module _ (g : WeightedGraph) (is : IsSmallGraph g) (t0 : ForestTables) (valid : 
       turns = (many - steps) / 2
 
       circle_back : IsCircle next last many inside
-      circle_back = the_ring_from g is t0 valid b high inner weightless f2 parted last (last_in g is t0 valid b high inner weightless f2 parted)
+      circle_back = the_ring_from g is t0 valid b high inner weightless f2 parted last
+          (last_in g is t0 valid b high inner weightless f2 parted)
 
       bt_at : (k j : ℕ) → steps + k ≡ j → bt k ≡ at j
       bt_at k j e = ap (λ x. walk next x k) (sym ends) ∙ (sym (walk_sum next first steps k) ∙ ap at e)
@@ -260,54 +321,87 @@ module _ (g : WeightedGraph) (is : IsSmallGraph g) (t0 : ForestTables) (valid : 
       differ i j lij lj = circle_back.distinct i j lij (omega (arith, lj, uneven))
 
       label_back : (k j : ℕ) → k < many - steps + 1 → steps + k ≡ j → f6.label (at j) ≡ turn_label k
-      label_back k j l e = ap f6.label (sym (bt_at k j e)) ∙ (ap (λ (f : Forest). f.label (bt k)) on ∙ writes_at f2.label bt turn_label (many - steps + 1) k l differ)
+      label_back k j l e = ap f6.label (sym (bt_at k j e))
+          ∙ (ap (λ (f : Forest). f.label (bt k)) on ∙ writes_at f2.label bt turn_label (many - steps + 1) k l differ)
 
       missed : (k j : ℕ) → k < many - steps + 1 → 2 * turns < j → j ≤ 2 * half → bt k ≢ at (many - j)
       missed k j lk more lj e = by_end (cases_lt (steps + k) many)
         where
           by_end : (steps + k < many) ⊎ (many ≤ steps + k) → ⊥
-          by_end (inl l) = circle.distinct (many - j) (steps + k) (omega (arith, more, twice, lj, odd)) l (sym e ∙ bt_at k (steps + k) refl)
-          by_end (inr h) = (let all : steps + k ≡ many = omega (arith, h, lk) in circle.distinct 0 (many - j) (omega (arith, lj, odd)) (omega (arith, more, low)) (sym circle.closed ∙ (sym (bt_at k many all) ∙ e)))
+          by_end (inl l) = circle.distinct (many - j) (steps + k) (omega (arith, more, twice, lj, odd)) l (sym e
+              ∙ bt_at k (steps + k) refl)
+          by_end (inr h) = (let all : steps + k ≡ many = omega (arith, h, lk) in
+              circle.distinct 0 (many - j) (omega (arith, lj, odd)) (omega (arith, more, low)) (sym circle.closed
+              ∙ (sym (bt_at k many all) ∙ e)))
 
       places_back : HasPlaces (λ j. at (many - j)) (λ j. d.twin (joint (at (many - suc j)))) turns
       places_back = record {
-        inners = λ i l. label_back (many - steps - 2 * i) (many - 2 * i) (omega (arith, low)) (omega (arith, l, twice, low)) ∙ even_is (many - steps - 2 * i) (turns - i) (omega (arith, l, twice));
-        outers = λ i l. label_back (many - steps - (2 * i + 1)) (many - (2 * i + 1)) (omega (arith, low)) (omega (arith, l, twice, low)) ∙ odd_is (many - steps - (2 * i + 1)) (turns - suc i) (omega (arith, l, twice));
-        off = λ j more l. ap (λ (f : Forest). f.label (at (many - j))) on ∙ (writes_off f2.label bt turn_label (many - steps + 1) (at (many - j)) (λ k lk. missed k j lk more l) ∙ part_label (at (many - j)) (circle.marked (many - j)));
+        inners = λ i l. label_back (many - steps - 2 * i) (many - 2 * i) (omega (arith, low))
+            (omega (arith, l, twice, low)) ∙ even_is (many - steps - 2 * i) (turns - i) (omega (arith, l, twice));
+        outers = λ i l. label_back (many - steps - (2 * i + 1)) (many - (2 * i + 1)) (omega (arith, low))
+            (omega (arith, l, twice, low)) ∙ odd_is (many - steps - (2 * i + 1)) (turns - suc i)
+            (omega (arith, l, twice));
+        off = λ j more l. ap (λ (f : Forest). f.label (at (many - j))) on
+            ∙ (writes_off f2.label bt turn_label (many - steps + 1) (at (many - j)) (λ k lk. missed k j lk more l)
+            ∙ part_label (at (many - j)) (circle.marked (many - j)));
         first_mate = ap f6.mate ((let e : many - 0 ≡ many = omega arith in ap at e) ∙ circle.closed) ∙ mate_first;
-        odd_mate = λ i l. mate_even (many - (2 * i + 1)) (many - suc (2 * i + 1)) (half - suc i) (omega (arith, odd, l)) (omega (arith, odd, l)) (omega (arith, odd));
+        odd_mate = λ i l. mate_even (many - (2 * i + 1)) (many - suc (2 * i + 1)) (half - suc i) (omega (arith, odd, l))
+            (omega (arith, odd, l)) (omega (arith, odd));
         even_mate = λ i l. mate_odd (many - (2 * i + 2)) (half - suc i) (omega (arith, odd, l)) (omega (arith, odd))
-            ∙ ap (λ (x : ℕ). Some x) ((let e : many - (2 * i + 2) ≡ many - suc (2 * i + 1) = omega arith in ap (λ k. joint (at k)) e) ∙ sym ((the_are g is t0 valid b high inner weightless).twin_twin (joint (at (many - suc (2 * i + 1))))));
+            ∙ ap (λ (x : ℕ). Some x) ((let e : many - (2 * i + 2) ≡ many - suc (2 * i + 1) = omega arith in
+            ap (λ k. joint (at k)) e)
+            ∙ sym ((the_are g is t0 valid b high inner weightless).twin_twin
+            (joint (at (many - suc (2 * i + 1))))));
         links = λ i l. ap f6.link (sym (bt_at (many - steps - 2 * i) (many - 2 * i) (omega (arith, l, twice, low))))
             ∙ (ap (λ (f : Forest). f.link (bt (many - steps - 2 * i))) on
-            ∙ (set_there (hung (mated (paired f2 first many) first (Some m)) last (many - steps + 1) false).link last (bt (many - steps - 2 * i)) (f0.link b) (λ e. differ 0 (many - steps - 2 * i) (omega (arith, l, twice)) (omega arith) (sym e))
-            ∙ (writes_at f2.link bt (λ k. d.twin (joint (bt (k - 1)))) (many - steps + 1) (many - steps - 2 * i) (omega arith) differ
-            ∙ ap (λ x. d.twin (joint x)) (bt_at (many - steps - 2 * i - 1) (many - suc (2 * i)) (omega (arith, l, twice, low))))));
-        last_link = ap f6.link ((let e : many - 2 * turns ≡ steps = omega (arith, twice, low) in ap at e) ∙ ends) ∙ (ap (λ (f : Forest). f.link last) on ∙ set_here (hung (mated (paired f2 first many) first (Some m)) last (many - steps + 1) false).link last (f0.link b));
-        label_off = λ x off. ap (λ (f : Forest). f.label x) on ∙ writes_off f2.label bt turn_label (many - steps + 1) x (λ k lk e. true_false (inside x) (ap inside (sym e) ∙ circle_back.marked k) off);
+            ∙ (set_there (hung (mated (paired f2 first many) first (Some m)) last (many - steps + 1) false).link last
+            (bt (many - steps - 2 * i)) (f0.link b)
+            (λ e. differ 0 (many - steps - 2 * i) (omega (arith, l, twice)) (omega arith) (sym e))
+            ∙ (writes_at f2.link bt (λ k. d.twin (joint (bt (k - 1)))) (many - steps + 1) (many - steps - 2 * i)
+            (omega arith) differ
+            ∙ ap (λ x. d.twin (joint x)) (bt_at (many - steps - 2 * i - 1) (many - suc (2 * i))
+            (omega (arith, l, twice, low))))));
+        last_link = ap f6.link ((let e : many - 2 * turns ≡ steps = omega (arith, twice, low) in ap at e) ∙ ends)
+            ∙ (ap (λ (f : Forest). f.link last) on
+            ∙ set_here (hung (mated (paired f2 first many) first (Some m)) last (many - steps + 1) false).link last
+            (f0.link b));
+        label_off = λ x off. ap (λ (f : Forest). f.label x) on ∙ writes_off f2.label bt turn_label (many - steps + 1) x
+            (λ k lk e. true_false (inside x) (ap inside (sym e) ∙ circle_back.marked k) off);
         link_off = λ x off. ap (λ (f : Forest). f.link x) on
-            ∙ (set_there (hung (mated (paired f2 first many) first (Some m)) last (many - steps + 1) false).link last x (f0.link b) (λ e. true_false (inside x) (ap inside e ∙ circle_back.marked 0) off)
-            ∙ writes_off f2.link bt (λ k. d.twin (joint (bt (k - 1)))) (many - steps + 1) x (λ k lk e. true_false (inside x) (ap inside (sym e) ∙ circle_back.marked k) off));
+            ∙ (set_there (hung (mated (paired f2 first many) first (Some m)) last (many - steps + 1) false).link last x
+            (f0.link b) (λ e. true_false (inside x) (ap inside e ∙ circle_back.marked 0) off)
+            ∙ writes_off f2.link bt (λ k. d.twin (joint (bt (k - 1)))) (many - steps + 1) x
+            (λ k lk e. true_false (inside x) (ap inside (sym e) ∙ circle_back.marked k) off));
       }
 
       expanding_back : IsExpanding d f0 f6 b
       expanding_back = record {
-        o = the_opening_at g is t0 valid b high inner weightless f2 parted (λ j. at (many - j)) (λ j. d.twin (joint (at (many - suc j)))) turns;
+        o = the_opening_at g is t0 valid b high inner weightless f2 parted (λ j. at (many - j))
+            (λ j. d.twin (joint (at (many - suc j)))) turns;
         is = refl;
-        opening = the_opening_is g is t0 valid b high inner weightless f2 parted (λ j. at (many - j)) (λ j. d.twin (joint (at (many - suc j)))) turns route_back (omega (arith, twice, odd, uneven)) ((let e : many - 2 * turns ≡ steps = omega (arith, twice, low) in ap at e) ∙ ends);
+        opening = the_opening_is g is t0 valid b high inner weightless f2 parted (λ j. at (many - j))
+            (λ j. d.twin (joint (at (many - suc j)))) turns route_back (omega (arith, twice, odd, uneven))
+            ((let e : many - 2 * turns ≡ steps = omega (arith, twice, low) in ap at e) ∙ ends);
         opened = opened_is (λ j. at (many - j)) (λ j. d.twin (joint (at (many - suc j)))) turns places_back;
       }
 
     pub expanding : IsExpanding d f0 f6 b
     expanding = by_way way.way
       where
-        turned : (front cm : ℕ) (forward : Bool) → course.front ≡ front → course.many ≡ cm → course.forward ≡ forward → f6 ≡ linked (hung (mated (paired f2 first many) first (Some m)) front cm forward) last (f0.link b)
+        turned : (front cm : ℕ) (forward : Bool) → course.front ≡ front → course.many ≡ cm → course.forward ≡ forward
+            → f6 ≡ linked (hung (mated (paired f2 first many) first (Some m)) front cm forward) last (f0.link b)
         turned front cm forward ef em eb = done
-            ∙ (ap (λ x. linked (hung (mated (paired f2 first many) first (Some m)) x course.many course.forward) last (f0.link b)) ef
-            ∙ (ap (λ x. linked (hung (mated (paired f2 first many) first (Some m)) front x course.forward) last (f0.link b)) em
-            ∙ ap (λ (x : Bool). linked (hung (mated (paired f2 first many) first (Some m)) front cm x) last (f0.link b)) eb))
+            ∙ (ap (λ x. linked (hung (mated (paired f2 first many) first (Some m)) x course.many course.forward) last
+            (f0.link b)) ef
+            ∙ (ap (λ x. linked (hung (mated (paired f2 first many) first (Some m)) front x course.forward) last
+            (f0.link b)) em
+            ∙ ap (λ (x : Bool). linked (hung (mated (paired f2 first many) first (Some m)) front cm x) last (f0.link b))
+            eb))
 
-        by_way : ((course.forward ≡ true) × (course.front ≡ first) × (course.many ≡ way.steps + 1) × (way.steps % 2 ≡ 0))
-            ⊎ ((course.forward ≡ false) × (course.front ≡ last) × (course.many ≡ (many - way.steps) + 1) × (way.steps % 2 ≡ 1)) → IsExpanding d f0 f6 b
+        by_way : ((course.forward ≡ true) × (course.front ≡ first) × (course.many ≡ way.steps + 1)
+            × (way.steps % 2 ≡ 0))
+            ⊎ ((course.forward ≡ false) × (course.front ≡ last) × (course.many ≡ (many - way.steps) + 1)
+            × (way.steps % 2 ≡ 1)) → IsExpanding d f0 f6 b
         by_way (inl w) = expanding_on way.steps way.low way.at w.3 (turned first (way.steps + 1) true w.1 w.2 w.0)
-        by_way (inr w) = expanding_back way.steps way.low way.at w.3 (turned last (many - way.steps + 1) false w.1 w.2 w.0)
+        by_way (inr w) = expanding_back way.steps way.low way.at w.3 (turned last (many - way.steps + 1) false w.1 w.2
+            w.0)

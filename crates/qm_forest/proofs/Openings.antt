@@ -1,5 +1,6 @@
 -- The ring of an inner set that is opened: what holds of the set before, and of its parts after.
-use Rattle.std.proofs.Common.{◌≡◌, ◌≢◌, ℕ, suc, ◌+◌, ◌*◌, ◌<◌, ◌≤◌, Bool, true, false, cond, eqb, length, pos, Some, None, ◌⊎◌, sym, ◌∙◌, ap, subst, inl, inr, arith}
+use Rattle.std.proofs.Common.{◌≡◌, ◌≢◌, ℕ, suc, ◌+◌, ◌*◌, ◌<◌, ◌≤◌, Bool, true, false, cond, eqb, length, pos, Some}
+use Rattle.std.proofs.Common.{None, ◌⊎◌, sym, ◌∙◌, ap, subst, inl, inr, arith}
 use Rattle.std.proofs.lemmas.Bool.{cases_Bool, cases_eq, cond-true, cond-false, eq-eqb, eqb-true, ne_eqb}
 use Rattle.def_matching.specs.Matching.{WeightedGraph, IsSmallGraph}
 use Rattle.def_forest.specs.Darts.{AreDarts, Darts, darts_of, far}
@@ -20,7 +21,8 @@ use Rattle.qm_forest.specs.Ties.{HasSameNest, labelled, mated}
 use Rattle.qm_forest.proofs.Increases.{named_low}
 
 -- An inner set of weight 0 of a valid forest.
-module _ (g : WeightedGraph) (is : IsSmallGraph g) (t0 : ForestTables) (valid : IsValidFor g t0) (b : ℕ) (high : g.n ≤ b) (inner : (forest_of t0).label b ≡ Inner) (weightless : (forest_of t0).weight b ≡ pos 0) where
+module _ (g : WeightedGraph) (is : IsSmallGraph g) (t0 : ForestTables) (valid : IsValidFor g t0) (b : ℕ)
+    (high : g.n ≤ b) (inner : (forest_of t0).label b ≡ Inner) (weightless : (forest_of t0).weight b ≡ pos 0) where
   abbrev d : Darts
   d = darts_of g
 
@@ -52,7 +54,8 @@ module _ (g : WeightedGraph) (is : IsSmallGraph g) (t0 : ForestTables) (valid : 
   held_b v l = subst (λ x. f0.holds x v ≡ eqb (f0.out v) x) top_is.2 (valid.valid.outermost.held top_is.0 v top_is.1 l)
 
   pub set_live : many ≢ 0
-  set_live none = true_false (f0.holds b top_is.0) (held_b top_is.0 top_is.1 ∙ eq-eqb (f0.out top_is.0) b top_is.2) (valid.valid.nested.empty b top_is.0 high top_is.1 none)
+  set_live none = true_false (f0.holds b top_is.0) (held_b top_is.0 top_is.1 ∙ eq-eqb (f0.out top_is.0) b top_is.2)
+      (valid.valid.nested.empty b top_is.0 high top_is.1 none)
 
   pub ring_is : IsRing d f0 b
   ring_is = valid.valid.nested.rings b high set_live
@@ -67,20 +70,24 @@ module _ (g : WeightedGraph) (is : IsSmallGraph g) (t0 : ForestTables) (valid : 
   mate_is = valid.valid.matched b in_tree.dart in_tree.mate
 
   pub part_around : (x : ℕ) → inside x ≡ true → f0.nest.up x ≡ b
-  part_around x on = (let w : (k : ℕ) × (k < many) × (walk f0.nest.after (f0.nest.head b) k ≡ x) = listed_place f0.nest.after (f0.nest.head b) many x on in ap f0.nest.up (sym w.2) ∙ ring_is.inside w.0)
+  part_around x on = (let w : (k : ℕ) × (k < many) × (walk f0.nest.after (f0.nest.head b) k ≡ x) =
+      listed_place f0.nest.after (f0.nest.head b) many x on in ap f0.nest.up (sym w.2) ∙ ring_is.inside w.0)
 
   pub part_other : (x : ℕ) → inside x ≡ true → x ≢ b
   part_other x on e =
-      let w : (k : ℕ) × (k < many) × (walk f0.nest.after (f0.nest.head b) k ≡ x) = listed_place f0.nest.after (f0.nest.head b) many x on in
+      let w : (k : ℕ) × (k < many) × (walk f0.nest.after (f0.nest.head b) k ≡ x) =
+      listed_place f0.nest.after (f0.nest.head b) many x on in
       let low : f0.nest.rank (walk f0.nest.after (f0.nest.head b) w.0) < f0.nest.rank b = ring_is.lower w.0 in
       let same : f0.nest.rank (walk f0.nest.after (f0.nest.head b) w.0) ≡ f0.nest.rank b = ap f0.nest.rank (w.2 ∙ e) in
       absurd (omega (arith, low, same))
 
   pub part_low : (x : ℕ) → inside x ≡ true → x < f0.size
-  part_low x on = (let w : (k : ℕ) × (k < many) × (walk f0.nest.after (f0.nest.head b) k ≡ x) = listed_place f0.nest.after (f0.nest.head b) many x on in subst (λ y. y < f0.size) w.2 (ring_is.below w.0))
+  part_low x on = (let w : (k : ℕ) × (k < many) × (walk f0.nest.after (f0.nest.head b) k ≡ x) =
+      listed_place f0.nest.after (f0.nest.head b) many x on in subst (λ y. y < f0.size) w.2 (ring_is.below w.0))
 
   pub around_part : (x : ℕ) → f0.nest.up x ≡ b → x ≢ b → inside x ≡ true
-  around_part x up ne = (let w : (k : ℕ) × (k < many) × (walk f0.nest.after (f0.nest.head b) k ≡ x) = ring_is.all x up ne in subst (λ y. inside y ≡ true) w.2 (listed_at f0.nest.after (f0.nest.head b) many w.0 w.1))
+  around_part x up ne = (let w : (k : ℕ) × (k < many) × (walk f0.nest.after (f0.nest.head b) k ≡ x) =
+      ring_is.all x up ne in subst (λ y. inside y ≡ true) w.2 (listed_at f0.nest.after (f0.nest.head b) many w.0 w.1))
 
   part_inner : (x : ℕ) → inside x ≡ true → f0.nest.up x ≢ x
   part_inner x on e = part_other x on (sym e ∙ part_around x on)
@@ -91,7 +98,8 @@ module _ (g : WeightedGraph) (is : IsSmallGraph g) (t0 : ForestTables) (valid : 
     where
       by_label : (f0.label x ≡ Outside) ⊎ (f0.label x ≢ Outside) → f0.label x ≡ Outside
       by_label (inl e) = e
-      by_label (inr named) = (let w : IsOutermost g.n f0 x = valid.valid.outermost.named x named in absurd (part_inner x on (ap f0.nest.up (sym w.2) ∙ (valid.valid.outermost.tops w.0 w.1 ∙ w.2))))
+      by_label (inr named) = (let w : IsOutermost g.n f0 x = valid.valid.outermost.named x named in
+          absurd (part_inner x on (ap f0.nest.up (sym w.2) ∙ (valid.valid.outermost.tops w.0 w.1 ∙ w.2))))
 
   pub circle_is : IsCircle f0.nest.after (f0.nest.head b) many inside
   circle_is = record {
@@ -103,41 +111,52 @@ module _ (g : WeightedGraph) (is : IsSmallGraph g) (t0 : ForestTables) (valid : 
   }
 
   pub next_part : (x : ℕ) → inside x ≡ true → inside (f0.nest.after x) ≡ true
-  next_part x on = (let w : (k : ℕ) × (k < many) × (walk f0.nest.after (f0.nest.head b) k ≡ x) = circle_is.all x on in subst (λ y. inside (f0.nest.after y) ≡ true) w.2 (circle_is.marked (suc w.0)))
+  next_part x on = (let w : (k : ℕ) × (k < many) × (walk f0.nest.after (f0.nest.head b) k ≡ x) = circle_is.all x on in
+      subst (λ y. inside (f0.nest.after y) ≡ true) w.2 (circle_is.marked (suc w.0)))
 
   -- What a part holds is in the set.
   part_in : (x v : ℕ) → inside x ≡ true → v < g.n → f0.holds x v ≡ true → f0.out v ≡ b
-  part_in x v on l held = (let up : f0.holds (f0.nest.up x) v ≡ true = holds_up d f0 valid.valid.nested x v l (part_inner x on) held in
+  part_in x v on l held = (let up : f0.holds (f0.nest.up x) v ≡ true =
+      holds_up d f0 valid.valid.nested x v l (part_inner x on) held in
       eqb-true (f0.out v) b (sym (held_b v l) ∙ subst (λ y. f0.holds y v ≡ true) (part_around x on) up))
 
   -- The tables, once the set has left the tree, can be parted.
-  pub partable : (t1 : ForestTables) → forest_of t1 ≡ mated (labelled f0 b Outside) b None → HasSameNest t0 t1 → IsPartable t1 b
+  pub partable : (t1 : ForestTables) → forest_of t1 ≡ mated (labelled f0 b Outside) b None → HasSameNest t0 t1
+      → IsPartable t1 b
   partable t1 gone same = record {
     high = subst (λ n. n ≤ b) (sym (ap length same.hand ∙ valid.vertices)) high;
     low = subst (λ n. b < n) (sym (ap length same.up)) set_low;
-    top = (set_top.0, subst (λ xs. set_top.0 < length xs) (sym same.hand) set_top.1, ap (λ (f : Forest). f.out set_top.0) gone ∙ set_top.2);
+    top = (
+      set_top.0,
+      subst (λ xs. set_top.0 < length xs) (sym same.hand) set_top.1,
+      ap (λ (f : Forest). f.out set_top.0) gone ∙ set_top.2,
+    );
     outside = ap (λ (f : Forest). f.label b) gone ∙ set_here f0.label b Outside;
     weightless = ap (λ (f : Forest). f.weight b) gone ∙ weightless;
     live = λ none. set_live (sym (ap (λ (f : Forest). f.nest.parts b) gone) ∙ none);
     row = record {
       some = subst (λ m. 1 ≤ m) (sym many1) circle_is.some;
-      low = λ k l. subst (λ x. x < length t1.up) (sym (at1 k)) (subst (λ m. walk f0.nest.after (f0.nest.head b) k < m) (sym (ap length same.up)) (ring_is.below k));
+      low = λ k l. subst (λ x. x < length t1.up) (sym (at1 k)) (subst (λ m. walk f0.nest.after (f0.nest.head b) k < m)
+          (sym (ap length same.up)) (ring_is.below k));
       distinct = λ i j lij lj e. ring_is.distinct i j lij (subst (λ m. j < m) many1 lj) (sym (at1 i) ∙ (e ∙ at1 j));
     };
     around = λ k l. ap (λ (f : Forest). f.nest.up (walk f.nest.after (f.nest.head b) k)) gone ∙ ring_is.inside k;
     other = λ k l e. part_other (walk f0.nest.after (f0.nest.head b) k) (circle_is.marked k) (sym (at1 k) ∙ e);
-    all = λ p up ne. (let w : (k : ℕ) × (k < many) × (walk f0.nest.after (f0.nest.head b) k ≡ p) = ring_is.all p (sym (ap (λ (f : Forest). f.nest.up p) gone) ∙ up) ne in
+    all = λ p up ne. (let w : (k : ℕ) × (k < many) × (walk f0.nest.after (f0.nest.head b) k ≡ p) =
+        ring_is.all p (sym (ap (λ (f : Forest). f.nest.up p) gone) ∙ up) ne in
         (w.0, subst (λ m. w.0 < m) (sym many1) w.1, at1 w.0 ∙ w.2));
   }
     where
       many1 : (forest_of t1).nest.parts b ≡ many
       many1 = ap (λ (f : Forest). f.nest.parts b) gone
 
-      at1 : (k : ℕ) → walk (forest_of t1).nest.after ((forest_of t1).nest.head b) k ≡ walk f0.nest.after (f0.nest.head b) k
+      at1 : (k : ℕ) → walk (forest_of t1).nest.after ((forest_of t1).nest.head b) k
+          ≡ walk f0.nest.after (f0.nest.head b) k
       at1 k = ap (λ (f : Forest). walk f.nest.after (f.nest.head b) k) gone
 
   -- The set is parted.
-  module _ (f2 : Forest) (parted : IsParted g.n (mated (labelled f0 b Outside) b None) f2 (listed f0.nest.after (f0.nest.head b) (f0.nest.parts b)) b) where
+  module _ (f2 : Forest) (parted : IsParted g.n (mated (labelled f0 b Outside) b None) f2
+      (listed f0.nest.after (f0.nest.head b) (f0.nest.parts b)) b) where
     abbrev pub next : ℕ → ℕ
     next = f2.nest.after
 
@@ -156,13 +175,14 @@ module _ (g : WeightedGraph) (is : IsSmallGraph g) (t0 : ForestTables) (valid : 
       pub far_part : part (far d (darts x)) ≡ after x
 
     pub joined : (x : ℕ) → inside x ≡ true → IsJoined next joint x
-    joined x on = subst (λ (h : ℕ → ℕ). IsJoined next h x) (sym parted.joint) (subst (λ (h : ℕ → ℕ). IsJoined h f0.nest.joint x) (sym parted.after) (record {
-      tight = old.tight;
-      near_in = part_in x (d.near (f0.nest.joint x)) on near_low old.begins;
-      near_part = parted.own x (d.near (f0.nest.joint x)) on near_low old.begins;
-      far_in = part_in (f0.nest.after x) (far d (f0.nest.joint x)) (next_part x on) far_is_low old.ends;
-      far_part = parted.own (f0.nest.after x) (far d (f0.nest.joint x)) (next_part x on) far_is_low old.ends;
-    }))
+    joined x on = subst (λ (h : ℕ → ℕ). IsJoined next h x) (sym parted.joint)
+        (subst (λ (h : ℕ → ℕ). IsJoined h f0.nest.joint x) (sym parted.after) (record {
+          tight = old.tight;
+          near_in = part_in x (d.near (f0.nest.joint x)) on near_low old.begins;
+          near_part = parted.own x (d.near (f0.nest.joint x)) on near_low old.begins;
+          far_in = part_in (f0.nest.after x) (far d (f0.nest.joint x)) (next_part x on) far_is_low old.ends;
+          far_part = parted.own (f0.nest.after x) (far d (f0.nest.joint x)) (next_part x on) far_is_low old.ends;
+        }))
       where
         old : IsJoint d f0 x
         old = valid.valid.nested.joints x (part_inner x on)
@@ -179,22 +199,27 @@ module _ (g : WeightedGraph) (is : IsSmallGraph g) (t0 : ForestTables) (valid : 
       where
         by_test : (inside (part v) ≡ true) ⊎ (inside (part v) ≡ false) → inside (part v) ≡ true
         by_test (inl on) = on
-        by_test (inr off) = absurd (parted.ended v l (sym (parted.out v l ∙ cond-false (inside (part v)) b (part v) off) ∙ e))
+        by_test (inr off) = absurd (parted.ended v l (sym (parted.out v l ∙ cond-false (inside (part v)) b (part v) off)
+            ∙ e))
 
     pub out_is : (v : ℕ) → v < g.n → f2.out v ≡ cond (eqb (f0.out v) b) (part v) (f0.out v)
     out_is v l = by_test (cases_eq (f0.out v) b) (cases_Bool (inside (part v)))
       where
-        by_test : (f0.out v ≡ b) ⊎ (f0.out v ≢ b) → (inside (part v) ≡ true) ⊎ (inside (part v) ≡ false) → part v ≡ cond (eqb (f0.out v) b) (part v) (f0.out v)
+        by_test : (f0.out v ≡ b) ⊎ (f0.out v ≢ b) → (inside (part v) ≡ true) ⊎ (inside (part v) ≡ false)
+            → part v ≡ cond (eqb (f0.out v) b) (part v) (f0.out v)
         by_test (inl e) x = sym (cond-true (eqb (f0.out v) b) (part v) (f0.out v) (eq-eqb (f0.out v) b e))
         by_test (inr ne) (inl on) = absurd (ne (parted.out v l ∙ cond-true (inside (part v)) b (part v) on))
-        by_test (inr ne) (inr off) = sym (parted.out v l ∙ cond-false (inside (part v)) b (part v) off) ∙ sym (cond-false (eqb (f0.out v) b) (part v) (f0.out v) (ne_eqb (f0.out v) b ne))
+        by_test (inr ne) (inr off) = sym (parted.out v l ∙ cond-false (inside (part v)) b (part v) off)
+            ∙ sym (cond-false (eqb (f0.out v) b) (part v) (f0.out v) (ne_eqb (f0.out v) b ne))
 
     held_part : (x v : ℕ) → inside x ≡ true → v < g.n → f0.holds x v ≡ eqb (part v) x
     held_part x v on l = by_test (cases_Bool (f0.holds x v)) (cases_eq (part v) x)
       where
-        by_test : (f0.holds x v ≡ true) ⊎ (f0.holds x v ≡ false) → (part v ≡ x) ⊎ (part v ≢ x) → f0.holds x v ≡ eqb (part v) x
+        by_test : (f0.holds x v ≡ true) ⊎ (f0.holds x v ≡ false) → (part v ≡ x) ⊎ (part v ≢ x)
+            → f0.holds x v ≡ eqb (part v) x
         by_test (inl held) y = held ∙ sym (eq-eqb (part v) x (parted.own x v on l held))
-        by_test (inr free) (inl e) = absurd (true_false (f0.holds x v) (subst (λ y. f0.holds y v ≡ true) e (parted.holds_out v l)) free)
+        by_test (inr free) (inl e) =
+            absurd (true_false (f0.holds x v) (subst (λ y. f0.holds y v ≡ true) e (parted.holds_out v l)) free)
         by_test (inr free) (inr ne) = free ∙ sym (ne_eqb (part v) x ne)
 
     abbrev pub first : ℕ
@@ -210,7 +235,8 @@ module _ (g : WeightedGraph) (is : IsSmallGraph g) (t0 : ForestTables) (valid : 
     last_in = in_part (d.near (f0.link b)) (are.near_low (f0.link b) in_tree.tight.low) in_tree.here
 
     pub ring_from : (x : ℕ) → inside x ≡ true → IsCircle next x many inside
-    ring_from x on = subst (λ (h : ℕ → ℕ). IsCircle h x many inside) (sym parted.after) (circle_from f0.nest.after (f0.nest.head b) many inside circle_is x on)
+    ring_from x on = subst (λ (h : ℕ → ℕ). IsCircle h x many inside) (sym parted.after)
+        (circle_from f0.nest.after (f0.nest.head b) many inside circle_is x on)
 
     -- The parts in the order in which the tree goes through them, and the darts between them.
     pub record IsRoute (q e : ℕ → ℕ) : Type 0 where
@@ -223,9 +249,19 @@ module _ (g : WeightedGraph) (is : IsSmallGraph g) (t0 : ForestTables) (valid : 
       pub far : (j : ℕ) → j < 2 * ring_is.half → (f0.out (far d (e j)) ≡ b) × (part (far d (e j)) ≡ q (j + 1))
 
     abbrev pub opening_at : (q e : ℕ → ℕ) (turns : ℕ) → Opening
-    opening_at q e turns = record { b = b; m = in_tree.dart; half = ring_is.half; turns = turns; q = q; e = e; part = part }
+    opening_at q e turns = record {
+      b = b;
+      m = in_tree.dart;
+      half = ring_is.half;
+      turns = turns;
+      q = q;
+      e = e;
+      part =
+          part;
+    }
 
-    pub opening_is : (q e : ℕ → ℕ) (turns : ℕ) → IsRoute q e → turns ≤ ring_is.half → q (2 * turns) ≡ last → IsOpening d f0 (opening_at q e turns)
+    pub opening_is : (q e : ℕ → ℕ) (turns : ℕ) → IsRoute q e → turns ≤ ring_is.half → q (2 * turns) ≡ last
+        → IsOpening d f0 (opening_at q e turns)
     opening_is q e turns route short ends = record {
       high = high;
       label = inner;
@@ -233,7 +269,11 @@ module _ (g : WeightedGraph) (is : IsSmallGraph g) (t0 : ForestTables) (valid : 
       mate = in_tree.mate;
       some = ring_is.some;
       short = short;
-      parts = λ j l. (part_around (q j) (route.marked j), part_other (q j) (route.marked j), part_low (q j) (route.marked j));
+      parts = λ j l. (
+        part_around (q j) (route.marked j),
+        part_other (q j) (route.marked j),
+        part_low (q j) (route.marked j),
+      );
       distinct = route.distinct;
       all = λ p up ne. route.all p (around_part p up ne);
       tight = route.tight;

@@ -1,16 +1,20 @@
 -- A forest that is written down as a dual: the sets hold what they held, and the dual says yes.
-use Rattle.std.proofs.Common.{◌≡◌, ◌≢◌, ℕ, zero, suc, ◌+◌, ◌-◌, ◌*◌, ◌%◌, ◌<◌, ◌≤◌, Bool, true, false, not, cond, eqb, ◌&&◌, ◌||◌, List, length, get_or, ℤ, pos, ◌+ℤ◌, ◌*ℤ◌, ◌≤ℤ◌, ◌⊎◌, refl, sym, ◌∙◌, ap, subst, inl, inr, arith}
+use Rattle.std.proofs.Common.{◌≡◌, ◌≢◌, ℕ, zero, suc, ◌+◌, ◌-◌, ◌*◌, ◌%◌, ◌<◌, ◌≤◌, Bool, true, false, not, cond, eqb}
+use Rattle.std.proofs.Common.{◌&&◌, ◌||◌, List, length, get_or, ℤ, pos, ◌+ℤ◌, ◌*ℤ◌, ◌≤ℤ◌, ◌⊎◌, refl, sym, ◌∙◌, ap}
+use Rattle.std.proofs.Common.{subst, inl, inr, arith}
 use Rattle.std.specs.Prelude.{nat_lt, nat_le}
 use Rattle.std.specs.List.{list_any}
 use Rattle.std.proofs.lemmas.Int.{ints}
-use Rattle.std.proofs.lemmas.Bool.{cases_eq, cases_lt, cond-false, cond-true, eq-eqb, eqb-true, le-leb, le-ltb, lt-ltb, ne_eqb}
+use Rattle.std.proofs.lemmas.Bool.{cases_eq, cases_lt, cond-false, cond-true, eq-eqb, eqb-true, le-leb, le-ltb, lt-ltb}
+use Rattle.std.proofs.lemmas.Bool.{ne_eqb}
 use Rattle.def_math.specs.Sums.{total, total_below}
 use Rattle.sum_laws.proofs.Counts.{count_below_same}
 use Rattle.qm_dual.proofs.Entries.{total_entries}
 use Rattle.sum_laws.proofs.Sums.{total_below_one, total_below_same, total_below_sum}
 use Rattle.sum_laws.proofs.Tests.{same_test}
 use Rattle.def_matching.specs.Matching.{WeightedGraph, IsSmallGraph, edge_at}
-use Rattle.def_matching.specs.Dual.{DualLists, SaysYes, AreNestedSets, crosses, dual_sum, holds, is_odd_size, is_up, load as dual_load, set_size, sets_from, y_at, z_at}
+use Rattle.def_matching.specs.Dual.{DualLists, SaysYes, AreNestedSets, crosses, dual_sum, holds, is_odd_size, is_up}
+use Rattle.def_matching.specs.Dual.{load as dual_load, set_size, sets_from, y_at, z_at}
 use Rattle.def_forest.specs.Darts.{AreDarts, darts_of}
 use Rattle.def_forest.specs.Forests.{Forest, dual_sum_of, weight_between, bool_number, splits, blossom_size, walk}
 use Rattle.def_forest.specs.Tables.{ForestTables, forest_of, climbs, up_at}
@@ -28,7 +32,8 @@ use Rattle.qm_forest.proofs.Withins.{in_where}
 -- Where one stays one passes nothing else.
 climbs_still : (up : ℕ → ℕ) (m b y : ℕ) → up y ≡ y → climbs up m b y ≡ eqb y b
 climbs_still up zero b y e = refl
-climbs_still up (suc m) b y e = ap (λ x. eqb y b || climbs up m b x) e ∙ (ap (λ x. eqb y b || x) (climbs_still up m b y e) ∙ twice (eqb y b))
+climbs_still up (suc m) b y e = ap (λ x. eqb y b || climbs up m b x) e
+    ∙ (ap (λ x. eqb y b || x) (climbs_still up m b y e) ∙ twice (eqb y b))
   where
     twice : (s : Bool) → (s || s) ≡ s
     twice true = refl
@@ -40,7 +45,8 @@ or_false false = refl
 
 -- A lawful entry, and a lawful size.
 entry_lawful : (n m i entry : ℕ) → (entry ≡ 0) ⊎ ((i + 1 < n + entry) × (entry ≤ m)) → is_up n m i entry ≡ true
-entry_lawful n m i entry (inl e) = ap (λ (s : Bool). s || (nat_lt (i + 1) (n + entry) && nat_le entry m)) (eq-eqb entry 0 e)
+entry_lawful n m i entry (inl e) = ap (λ (s : Bool). s || (nat_lt (i + 1) (n + entry) && nat_le entry m))
+    (eq-eqb entry 0 e)
 entry_lawful n m i entry (inr h) = right (eqb entry 0) ∙ refl
   where
     both : (nat_lt (i + 1) (n + entry) && nat_le entry m) ≡ true
@@ -80,7 +86,8 @@ module _ (t : ForestTables) (known : IsLaminar t) (sets : List (ℕ × ℕ)) (d 
   entry_none x e = cond-true (eqb (up x) x) 0 (get_or is.names (up x) 0) (eq-eqb (up x) x e)
 
   entry_some : (x k : ℕ) → up x ≢ x → k < m → set_in sets k ≡ up x → entry x ≡ suc k
-  entry_some x k ne l at = cond-false (eqb (up x) x) 0 (get_or is.names (up x) 0) (ne_eqb (up x) x ne) ∙ (ap (λ b. get_or is.names b 0) (sym at) ∙ is.named k l)
+  entry_some x k ne l at = cond-false (eqb (up x) x) 0 (get_or is.names (up x) 0) (ne_eqb (up x) x ne)
+      ∙ (ap (λ b. get_or is.names b 0) (sym at) ∙ is.named k l)
 
   vertex_entry : (v : ℕ) → v < n → get_or d.up v 0 ≡ entry v
   vertex_entry v l = (let z : v ≡ 0 + v = omega arith in ap (λ i. get_or d.up i 0) z) ∙ is.entries.vertices v l
@@ -93,7 +100,8 @@ module _ (t : ForestTables) (known : IsLaminar t) (sets : List (ℕ × ℕ)) (d 
   name_vertex x l = cond-true (nat_lt x n) 0 (get_or is.names x 0) (lt-ltb x n l)
 
   name_set : (k : ℕ) → k < m → name (set_in sets k) ≡ suc k
-  name_set k l = cond-false (nat_lt (set_in sets k) n) 0 (get_or is.names (set_in sets k) 0) (le-ltb (set_in sets k) n (sized t sets is.order k l).high) ∙ is.named k l
+  name_set k l = cond-false (nat_lt (set_in sets k) n) 0 (get_or is.names (set_in sets k) 0)
+      (le-ltb (set_in sets k) n (sized t sets is.order k l).high) ∙ is.named k l
 
   later : (j k : ℕ) → j < m → k < m → get_or t.rank (set_in sets j) 0 < get_or t.rank (set_in sets k) 0 → j < k
   later j k lj lk less = by_order (cases_lt j k)
@@ -105,7 +113,10 @@ module _ (t : ForestTables) (known : IsLaminar t) (sets : List (ℕ × ℕ)) (d 
           absurd (omega (arith, rise, (sized t sets is.order k lk).rank, (sized t sets is.order j lj).rank, less))
 
   inner_later : (j x : ℕ) → j < m → set_in sets j ≡ x → (ne : up x ≢ x) → j < (around_place x ne).0
-  inner_later j x l at ne = later j (around_place x ne).0 l (around_place x ne).1 (subst (λ b. get_or t.rank b 0 < get_or t.rank (set_in sets (around_place x ne).0) 0) (sym at) (subst (λ b. get_or t.rank x 0 < get_or t.rank b 0) (sym (around_place x ne).2) (known.rises x ne)))
+  inner_later j x l at ne =
+      later j (around_place x ne).0 l (around_place x ne).1
+      (subst (λ b. get_or t.rank b 0 < get_or t.rank (set_in sets (around_place x ne).0) 0) (sym at)
+      (subst (λ b. get_or t.rank x 0 < get_or t.rank b 0) (sym (around_place x ne).2) (known.rises x ne)))
 
   name_rises : (x : ℕ) → up x ≢ x → name x < name (up x)
   name_rises x ne = by_size (cases_lt x n)
@@ -118,7 +129,8 @@ module _ (t : ForestTables) (known : IsLaminar t) (sets : List (ℕ × ℕ)) (d 
       by_size (inr h) = placed (place_of t sets is.order x h (is.inner x ne) (is.live x ne h))
         where
           placed : (j : ℕ) × (j < m) × (set_in sets j ≡ x) → name x < name (up x)
-          placed w = (let here : name x ≡ suc w.0 = ap name (sym w.2) ∙ name_set w.0 w.1 in omega (arith, outer, here, inner_later w.0 x w.1 w.2 ne))
+          placed w = (let here : name x ≡ suc w.0 = ap name (sym w.2) ∙ name_set w.0 w.1 in
+              omega (arith, outer, here, inner_later w.0 x w.1 w.2 ne))
 
   module _ (k : ℕ) (low : k < m) where
     abbrev b : ℕ
@@ -129,12 +141,16 @@ module _ (t : ForestTables) (known : IsLaminar t) (sets : List (ℕ × ℕ)) (d 
 
     -- The sets that an entry leads to are those that one climbs past.
     abbrev leads : (most x : ℕ) → Type 0
-    leads most x = list_any here (sets_from n d.up (suc most) (entry x)) ≡ cond (eqb (up x) x) false (climbs up most b (up x))
+    leads most x = list_any here (sets_from n d.up (suc most) (entry x))
+        ≡ cond (eqb (up x) x) false (climbs up most b (up x))
 
-    any_step : (most x : ℕ) → (eqb (up x) b || list_any here (sets_from n d.up most (entry (up x)))) ≡ climbs up most b (up x) → leads most x
+    any_step : (most x : ℕ) → (eqb (up x) b || list_any here (sets_from n d.up most (entry (up x))))
+        ≡ climbs up most b (up x) → leads most x
     any_step most x rest = by_up (cases_eq (up x) x)
       where
-        placed : (ne : up x ≢ x) → (j : ℕ) × (j < m) × (set_in sets j ≡ up x) → list_any here (sets_from n d.up (suc most) (entry x)) ≡ cond (eqb (up x) x) false (climbs up most b (up x))
+        placed : (ne : up x ≢ x) → (j : ℕ) × (j < m) × (set_in sets j ≡ up x)
+            → list_any here (sets_from n d.up (suc most) (entry x))
+            ≡ cond (eqb (up x) x) false (climbs up most b (up x))
         placed ne w =
             ap (λ z. list_any here (sets_from n d.up (suc most) z)) (entry_some x w.0 ne w.1 w.2)
             ∙ (ap (λ z. here w.0 || list_any here (sets_from n d.up most z)) (is.entries.sets w.0 w.1 ∙ ap entry w.2)
@@ -144,20 +160,29 @@ module _ (t : ForestTables) (known : IsLaminar t) (sets : List (ℕ × ℕ)) (d 
             same : here w.0 ≡ eqb (up x) b
             same = same_test (here w.0) (eqb (up x) b)
                 (λ on. eq-eqb (up x) b (sym w.2 ∙ ap (set_in sets) (eqb-true w.0 k on)))
-                (λ on. eq-eqb w.0 k (let e : suc w.0 ≡ suc k = sym (is.named w.0 w.1) ∙ (ap (λ z. get_or is.names z 0) (w.2 ∙ eqb-true (up x) b on) ∙ is.named k low) in omega (arith, e)))
+                (λ on. eq-eqb w.0 k (let e : suc w.0 ≡ suc k = sym (is.named w.0 w.1)
+                ∙ (ap (λ z. get_or is.names z 0) (w.2 ∙ eqb-true (up x) b on) ∙ is.named k low) in
+                omega (arith, e)))
 
-        by_up : (up x ≡ x) ⊎ (up x ≢ x) → list_any here (sets_from n d.up (suc most) (entry x)) ≡ cond (eqb (up x) x) false (climbs up most b (up x))
-        by_up (inl e) = ap (λ z. list_any here (sets_from n d.up (suc most) z)) (entry_none x e) ∙ sym (cond-true (eqb (up x) x) false (climbs up most b (up x)) (eq-eqb (up x) x e))
+        by_up : (up x ≡ x) ⊎ (up x ≢ x) → list_any here (sets_from n d.up (suc most) (entry x))
+            ≡ cond (eqb (up x) x) false (climbs up most b (up x))
+        by_up (inl e) = ap (λ z. list_any here (sets_from n d.up (suc most) z)) (entry_none x e)
+            ∙ sym (cond-true (eqb (up x) x) false (climbs up most b (up x)) (eq-eqb (up x) x e))
         by_up (inr ne) = placed ne (around_place x ne)
 
-    any_rest : (more x : ℕ) → leads more (up x) → (eqb (up x) b || list_any here (sets_from n d.up (suc more) (entry (up x)))) ≡ climbs up (suc more) b (up x)
+    any_rest : (more x : ℕ) → leads more (up x)
+        → (eqb (up x) b || list_any here (sets_from n d.up (suc more) (entry (up x)))) ≡ climbs up (suc more) b (up x)
     any_rest more x further = ap (λ s. eqb (up x) b || s) further ∙ by_next (cases_eq (up (up x)) (up x))
       where
-        by_next : (up (up x) ≡ up x) ⊎ (up (up x) ≢ up x) → (eqb (up x) b || cond (eqb (up (up x)) (up x)) false (climbs up more b (up (up x)))) ≡ climbs up (suc more) b (up x)
+        by_next : (up (up x) ≡ up x) ⊎ (up (up x) ≢ up x)
+            → (eqb (up x) b || cond (eqb (up (up x)) (up x)) false (climbs up more b (up (up x))))
+            ≡ climbs up (suc more) b (up x)
         by_next (inl e) =
-            ap (λ s. eqb (up x) b || s) (cond-true (eqb (up (up x)) (up x)) false (climbs up more b (up (up x))) (eq-eqb (up (up x)) (up x) e))
+            ap (λ s. eqb (up x) b || s) (cond-true (eqb (up (up x)) (up x)) false (climbs up more b (up (up x)))
+            (eq-eqb (up (up x)) (up x) e))
             ∙ (or_false (eqb (up x) b) ∙ sym (climbs_still up (suc more) b (up x) e))
-        by_next (inr ne) = ap (λ s. eqb (up x) b || s) (cond-false (eqb (up (up x)) (up x)) false (climbs up more b (up (up x))) (ne_eqb (up (up x)) (up x) ne))
+        by_next (inr ne) = ap (λ s. eqb (up x) b || s)
+            (cond-false (eqb (up (up x)) (up x)) false (climbs up more b (up (up x))) (ne_eqb (up (up x)) (up x) ne))
 
     any_is : (most x : ℕ) → leads most x
     any_is zero x = any_step zero x (or_false (eqb (up x) b))
@@ -165,23 +190,30 @@ module _ (t : ForestTables) (known : IsLaminar t) (sets : List (ℕ × ℕ)) (d 
 
     -- A set holds what it held.
     pub holds_is : (v : ℕ) → v < n → holds n d k v ≡ f.holds b v
-    holds_is v l = ap (λ e. list_any here (sets_from n d.up (length d.z) e)) (vertex_entry v l) ∙ (ap (λ z. list_any here (sets_from n d.up z (entry v))) sets_many ∙ (fuel m refl ∙ enough))
+    holds_is v l = ap (λ e. list_any here (sets_from n d.up (length d.z) e)) (vertex_entry v l)
+        ∙ (ap (λ z. list_any here (sets_from n d.up z (entry v))) sets_many ∙ (fuel m refl ∙ enough))
       where
         other : v ≢ b
         other e = omega (arith, e, l, (sized t sets is.order k low).high)
 
         fuel : (z : ℕ) → z ≡ m → list_any here (sets_from n d.up z (entry v)) ≡ climbs up z b v
         fuel zero e = absurd (omega (arith, e, low))
-        fuel (suc z) e = any_is z v ∙ (by_up (cases_eq (up v) v) ∙ sym (ap (λ s. s || climbs up z b (up v)) (ne_eqb v b other)))
+        fuel (suc z) e = any_is z v
+            ∙ (by_up (cases_eq (up v) v) ∙ sym (ap (λ s. s || climbs up z b (up v)) (ne_eqb v b other)))
           where
             by_up : (up v ≡ v) ⊎ (up v ≢ v) → cond (eqb (up v) v) false (climbs up z b (up v)) ≡ climbs up z b (up v)
-            by_up (inl s) = cond-true (eqb (up v) v) false (climbs up z b (up v)) (eq-eqb (up v) v s) ∙ sym (climbs_still up z b (up v) (ap up s) ∙ ne_eqb (up v) b (λ x. other (sym s ∙ x)))
+            by_up (inl s) = cond-true (eqb (up v) v) false (climbs up z b (up v)) (eq-eqb (up v) v s)
+                ∙ sym (climbs_still up z b (up v) (ap up s) ∙ ne_eqb (up v) b (λ x. other (sym s ∙ x)))
             by_up (inr ne) = cond-false (eqb (up v) v) false (climbs up z b (up v)) (ne_eqb (up v) v ne)
 
         enough : climbs up m b v ≡ climbs up n b v
         enough = same_test (climbs up m b v) (climbs up n b v)
-            (λ on. (let w : (i : ℕ) × (walk up v i ≡ b) = climbs_place up m b v on in in_where n up (λ z. get_or t.rank z 0) known.rises v b w.0 (known.low b (set_low t sets is.order k low) (inr (sized t sets is.order k low).live)) w.1))
-            (λ on. (let w : (i : ℕ) × (walk up v i ≡ b) = climbs_place up n b v on in in_where m up name name_rises v b w.0 (let e : name b ≡ suc k = name_set k low in omega (arith, e, low)) w.1))
+            (λ on. (let w : (i : ℕ) × (walk up v i ≡ b) = climbs_place up m b v on in
+            in_where n up (λ z. get_or t.rank z 0) known.rises v b w.0
+            (known.low b (set_low t sets is.order k low) (inr (sized t sets is.order k low).live)) w.1))
+            (λ on. (let w : (i : ℕ) × (walk up v i ≡ b) = climbs_place up n b v on in
+            in_where m up name name_rises v b w.0 (let e : name b ≡ suc k = name_set k low in
+            omega (arith, e, low)) w.1))
 
     pub z_is : z_at d k ≡ f.weight b
     z_is = is.z.each k low
@@ -211,67 +243,111 @@ module _ (t : ForestTables) (known : IsLaminar t) (sets : List (ℕ × ℕ)) (d 
     -- The sum is that of the weights.
     sum_is : dual_sum d ≡ dual_sum_of f
     sum_is =
-        let ys : total (λ y. y) d.y ≡ total_below f.weight n = total_entries (λ y. y) (pos 0) d.y ∙ (ap (total_below (λ k. get_or d.y k (pos 0))) is.y.size ∙ total_below_same (λ k. get_or d.y k (pos 0)) f.weight n (λ v l. is.y.each v l)) in
-        let zs : total (λ z. z) d.z ≡ total_below (λ k. f.weight (set_in sets k)) m = total_entries (λ z. z) (pos 0) d.z ∙ (ap (total_below (λ k. get_or d.z k (pos 0))) sets_many ∙ total_below_same (λ k. get_or d.z k (pos 0)) (λ k. f.weight (set_in sets k)) m (λ k l. is.z.each k l)) in
+        let ys : total (λ y. y) d.y ≡ total_below f.weight n = total_entries (λ y. y) (pos 0) d.y
+        ∙ (ap (total_below (λ k. get_or d.y k (pos 0))) is.y.size ∙ total_below_same (λ k. get_or d.y k (pos 0))
+        f.weight n (λ v l. is.y.each v l)) in
+        let zs : total (λ z. z) d.z ≡ total_below (λ k. f.weight (set_in sets k)) m = total_entries (λ z. z) (pos 0) d.z
+        ∙ (ap (total_below (λ k. get_or d.z k (pos 0))) sets_many ∙ total_below_same (λ k. get_or d.z k (pos 0))
+        (λ k. f.weight (set_in sets k)) m (λ k l. is.z.each k l)) in
         omega (arith, ints, ys, zs, sum_parts t sets is.order f.weight known.vertices weights_high weights_none)
 
     pub dual_is : IsDualOf n f d
     dual_is = record {
       vertices = is.y.size;
       y = y_is;
-      sets = λ k l. (let low : k < m = subst (λ x. k < x) sets_many l in (set_in sets k, (sized t sets is.order k low).high, (sized t sets is.order k low).live, z_is k low, λ v lv. holds_is k low v lv));
+      sets = λ k l. (let low : k < m = subst (λ x. k < x) sets_many l in (
+        set_in sets k,
+        (sized t sets is.order k low).high,
+        (sized t sets is.order k low).live,
+        z_is k low,
+        λ v lv. holds_is k low v lv,
+      ));
       sum = sum_is;
     }
 
     nested : AreNestedSets g.n (length d.z) d.up
     nested = record {
       entries = is.entries.size ∙ (ap (λ x. x + m) valid.vertices ∙ ap (λ x. g.n + x) (sym sets_many));
-      later = λ i l. subst (λ x. is_up x (length d.z) i (get_or d.up i 0) ≡ true) valid.vertices (subst (λ x. is_up n x i (get_or d.up i 0) ≡ true) (sym sets_many) (by_place i (omega (arith, l, valid.vertices, sets_many)) (cases_lt i n)));
+      later = λ i l. subst (λ x. is_up x (length d.z) i (get_or d.up i 0) ≡ true) valid.vertices
+          (subst (λ x. is_up n x i (get_or d.up i 0) ≡ true) (sym sets_many)
+          (by_place i (omega (arith, l, valid.vertices, sets_many)) (cases_lt i n)));
     }
       where
-        at : (i x : ℕ) → get_or d.up i 0 ≡ entry x → ((ne : up x ≢ x) → i < n + (around_place x ne).0) → is_up n m i (get_or d.up i 0) ≡ true
+        at : (i x : ℕ) → get_or d.up i 0 ≡ entry x → ((ne : up x ≢ x) → i < n + (around_place x ne).0)
+            → is_up n m i (get_or d.up i 0) ≡ true
         at i x e less = ap (λ z. is_up n m i z) e ∙ entry_lawful n m i (entry x) (by_up (cases_eq (up x) x))
           where
             by_up : (up x ≡ x) ⊎ (up x ≢ x) → (entry x ≡ 0) ⊎ ((i + 1 < n + entry x) × (entry x ≤ m))
             by_up (inl s) = inl (entry_none x s)
-            by_up (inr ne) = (let e : entry x ≡ suc (around_place x ne).0 = entry_some x (around_place x ne).0 ne (around_place x ne).1 (around_place x ne).2 in inr (omega (arith, e, less ne), omega (arith, e, (around_place x ne).1)))
+            by_up (inr ne) = (let e : entry x ≡ suc (around_place x ne).0 =
+                entry_some x (around_place x ne).0 ne (around_place x ne).1 (around_place x ne).2 in
+                inr (omega (arith, e, less ne), omega (arith, e, (around_place x ne).1)))
 
         by_place : (i : ℕ) → i < n + m → (i < n) ⊎ (n ≤ i) → is_up n m i (get_or d.up i 0) ≡ true
         by_place i l (inl low) = at i i (vertex_entry i low) (λ ne. omega (arith, low))
         by_place i l (inr high) =
             let k_low : i - n < m = omega (arith, l, high) in
             let i_is : i ≡ n + (i - n) = omega (arith, high) in
-            at i (set_in sets (i - n)) (ap (λ z. get_or d.up z 0) i_is ∙ is.entries.sets (i - n) k_low) (λ ne. omega (arith, inner_later (i - n) (set_in sets (i - n)) k_low refl ne, high))
+            at i (set_in sets (i - n)) (ap (λ z. get_or d.up z 0) i_is ∙ is.entries.sets (i - n) k_low)
+            (λ ne. omega (arith, inner_later (i - n) (set_in sets (i - n)) k_low refl ne, high))
 
     -- A set has as many vertices as it had.
     size_is : (k : ℕ) → k < m → set_size g.n d k ≡ blossom_size g.n f (set_in sets k)
-    size_is k l = count_below_same (λ v. cond (holds g.n d k v) 1 0) (λ v. bool_number (f.holds (set_in sets k) v)) g.n (λ v lv. ap bool_number (ap (λ x. holds x d k v) (sym valid.vertices) ∙ holds_is k l v (low_in v lv)))
+    size_is k l = count_below_same (λ v. cond (holds g.n d k v) 1 0) (λ v. bool_number (f.holds (set_in sets k) v)) g.n
+        (λ v lv. ap bool_number (ap (λ x. holds x d k v) (sym valid.vertices) ∙ holds_is k l v (low_in v lv)))
 
     size_odd : (k : ℕ) → k < m → is_odd_size (set_size g.n d k) ≡ true
     size_odd k l =
-        ap is_odd_size (size_is k l) ∙ size_lawful (blossom_size g.n f (set_in sets k)) (odd_blossom (darts_of g) are f valid.valid.nested (set_in sets k) (inr (high_in (set_in sets k) (sized t sets is.order k l).high, (sized t sets is.order k l).live)))
-        (large_set (darts_of g) are f valid.valid.nested (set_in sets k) (high_in (set_in sets k) (sized t sets is.order k l).high) (sized t sets is.order k l).live)
+        ap is_odd_size (size_is k l) ∙ size_lawful (blossom_size g.n f (set_in sets k))
+        (odd_blossom (darts_of g) are f valid.valid.nested (set_in sets k)
+        (inr (high_in (set_in sets k) (sized t sets is.order k l).high, (sized t sets is.order k l).live)))
+        (large_set (darts_of g) are f valid.valid.nested (set_in sets k)
+        (high_in (set_in sets k) (sized t sets is.order k l).high) (sized t sets is.order k l).live)
 
     -- What the vertices add to a load.
-    ends_load : (u v : ℕ) → u < n → v < n → u ≢ v → total_below (λ w. cond (splits (f.holds w) u v) (f.weight w) (pos 0)) n ≡ f.weight u +ℤ f.weight v
+    ends_load : (u v : ℕ) → u < n → v < n → u ≢ v
+        → total_below (λ w. cond (splits (f.holds w) u v) (f.weight w) (pos 0)) n ≡ f.weight u +ℤ f.weight v
     ends_load u v lu lv ne =
-        total_below_same (λ w. cond (splits (f.holds w) u v) (f.weight w) (pos 0)) (λ w. cond (eqb w u) (f.weight w) (pos 0) +ℤ cond (eqb w v) (f.weight w) (pos 0)) n each
+        total_below_same (λ w. cond (splits (f.holds w) u v) (f.weight w) (pos 0))
+        (λ w. cond (eqb w u) (f.weight w) (pos 0) +ℤ cond (eqb w v) (f.weight w) (pos 0)) n each
         ∙ (total_below_sum (λ w. cond (eqb w u) (f.weight w) (pos 0)) (λ w. cond (eqb w v) (f.weight w) (pos 0)) n
-        ∙ (ap (λ x. x +ℤ total_below (λ w. cond (eqb w v) (f.weight w) (pos 0)) n) (only u lu) ∙ ap (λ x. f.weight u +ℤ x) (only v lv)))
+        ∙ (ap (λ x. x +ℤ total_below (λ w. cond (eqb w v) (f.weight w) (pos 0)) n) (only u lu)
+        ∙ ap (λ x. f.weight u +ℤ x) (only v lv)))
       where
         only : (a : ℕ) → a < n → total_below (λ w. cond (eqb w a) (f.weight w) (pos 0)) n ≡ f.weight a
-        only a l = total_below_one (λ w. cond (eqb w a) (f.weight w) (pos 0)) n a l (λ k lk off. cond-false (eqb k a) (f.weight k) (pos 0) (ne_eqb k a off)) ∙ cond-true (eqb a a) (f.weight a) (pos 0) (eq-eqb a a refl)
+        only a l = total_below_one (λ w. cond (eqb w a) (f.weight w) (pos 0)) n a l
+            (λ k lk off. cond-false (eqb k a) (f.weight k) (pos 0) (ne_eqb k a off))
+            ∙ cond-true (eqb a a) (f.weight a) (pos 0) (eq-eqb a a refl)
 
-        each : (w : ℕ) → w < n → cond (splits (f.holds w) u v) (f.weight w) (pos 0) ≡ cond (eqb w u) (f.weight w) (pos 0) +ℤ cond (eqb w v) (f.weight w) (pos 0)
-        each w l = ap (λ (s : Bool). cond (cond s (not (f.holds w v)) (f.holds w v)) (f.weight w) (pos 0)) (alone t known w u l lu) ∙ (ap (λ (s : Bool). cond (cond (eqb w u) (not s) s) (f.weight w) (pos 0)) (alone t known w v l lv)
+        each : (w : ℕ) → w < n → cond (splits (f.holds w) u v) (f.weight w) (pos 0)
+            ≡ cond (eqb w u) (f.weight w) (pos 0) +ℤ cond (eqb w v) (f.weight w) (pos 0)
+        each w l = ap (λ (s : Bool). cond (cond s (not (f.holds w v)) (f.holds w v)) (f.weight w) (pos 0))
+            (alone t known w u l lu)
+            ∙ (ap (λ (s : Bool). cond (cond (eqb w u) (not s) s) (f.weight w) (pos 0)) (alone t known w v l lv)
             ∙ by_two (eqb w u) (eqb w v) (f.weight w) (λ a c. ne (sym (eqb-true w u a) ∙ eqb-true w v c)))
 
     -- The load of an edge is what it was.
-    load_is : (e : ℕ) → e < length g.edges → dual_load g.n d (edge_at g e) ≡ weight_between f (edge_at g e).u (edge_at g e).v
+    load_is : (e : ℕ) → e < length g.edges → dual_load g.n d (edge_at g e)
+        ≡ weight_between f (edge_at g e).u (edge_at g e).v
     load_is e l =
-        let parts : total_below added n +ℤ total_below (λ k. added (set_in sets k)) m ≡ weight_between f u v = sum_parts t sets is.order added known.vertices (λ b h lb. high_term (splits (f.holds b) u v) (f.weight b) (weights_high b h lb)) (λ b h dead. no_term (splits (f.holds b) u v) (f.weight b) (weights_none b h dead)) in
-        let sets_load : total_below (λ k. cond (crosses (holds g.n d k) (edge_at g e)) (z_at d k) (pos 0)) (length d.z) ≡ total_below (λ k. added (set_in sets k)) m = ap (total_below (λ k. cond (crosses (holds g.n d k) (edge_at g e)) (z_at d k) (pos 0))) sets_many ∙ total_below_same (λ k. cond (crosses (holds g.n d k) (edge_at g e)) (z_at d k) (pos 0)) (λ k. added (set_in sets k)) m term in
-        omega (arith, ints, parts, sets_load, ends_load u v u_low v_low (small.lawful.apart e l), y_is u u_low, y_is v v_low)
+        let parts : total_below added n +ℤ total_below (λ k. added (set_in sets k)) m ≡ weight_between f u v =
+        sum_parts t sets is.order added known.vertices (λ b h lb. high_term (splits (f.holds b) u v) (f.weight b)
+        (weights_high b h lb)) (λ b h dead. no_term (splits (f.holds b) u v) (f.weight b)
+        (weights_none b h dead)) in
+        let sets_load : total_below (λ k. cond (crosses (holds g.n d k) (edge_at g e)) (z_at d k) (pos 0)) (length d.z)
+        ≡ total_below (λ k. added (set_in sets k)) m =
+        ap (total_below (λ k. cond (crosses (holds g.n d k) (edge_at g e)) (z_at d k) (pos 0))) sets_many
+        ∙ total_below_same (λ k. cond (crosses (holds g.n d k) (edge_at g e)) (z_at d k) (pos 0))
+        (λ k. added (set_in sets k)) m term in
+        omega (
+          arith,
+          ints,
+          parts,
+          sets_load,
+          ends_load u v u_low v_low (small.lawful.apart e l),
+          y_is u u_low,
+          y_is v v_low,
+        )
       where
         u : ℕ
         u = (edge_at g e).u
@@ -300,15 +376,21 @@ module _ (t : ForestTables) (known : IsLaminar t) (sets : List (ℕ × ℕ)) (d 
         held k w lk lw = ap (λ x. holds x d k w) (sym valid.vertices) ∙ holds_is k lk w lw
 
         term : (k : ℕ) → k < m → cond (crosses (holds g.n d k) (edge_at g e)) (z_at d k) (pos 0) ≡ added (set_in sets k)
-        term k lk = ap (λ (s : Bool). cond (cond s (not (holds g.n d k v)) (holds g.n d k v)) (z_at d k) (pos 0)) (held k u lk u_low)
-            ∙ (ap (λ (s : Bool). cond (cond (f.holds (set_in sets k) u) (not s) s) (z_at d k) (pos 0)) (held k v lk v_low)
+        term k lk = ap (λ (s : Bool). cond (cond s (not (holds g.n d k v)) (holds g.n d k v)) (z_at d k) (pos 0))
+            (held k u lk u_low)
+            ∙ (ap (λ (s : Bool). cond (cond (f.holds (set_in sets k) u) (not s) s) (z_at d k) (pos 0))
+            (held k v lk v_low)
             ∙ ap (λ (z : ℤ). cond (splits (f.holds (set_in sets k)) u v) z (pos 0)) (z_is k lk))
 
     edge_loaded : (e : ℕ) → e < length g.edges → dual_load g.n d (edge_at g e) ≤ℤ (pos 2 *ℤ (edge_at g e).cost)
     edge_loaded e l =
         let low : 2 * e < (darts_of g).count = omega (arith, l) in
-        let here : weight_between f ((darts_of g).near (2 * e)) ((darts_of g).near ((darts_of g).twin (2 * e))) ≤ℤ ((darts_of g).cost (2 * e) +ℤ (darts_of g).cost (2 * e)) = valid.valid.feasible.darts (2 * e) low in
-        let ends : weight_between f ((darts_of g).near (2 * e)) ((darts_of g).near ((darts_of g).twin (2 * e))) ≡ weight_between f (edge_at g e).u (edge_at g e).v = ap (λ x. weight_between f x ((darts_of g).near ((darts_of g).twin (2 * e)))) (dart_near g e) ∙ ap (weight_between f (edge_at g e).u) (dart_far g e) in
+        let here : weight_between f ((darts_of g).near (2 * e)) ((darts_of g).near ((darts_of g).twin (2 * e))) ≤ℤ
+        ((darts_of g).cost (2 * e) +ℤ (darts_of g).cost (2 * e)) = valid.valid.feasible.darts (2 * e) low in
+        let ends : weight_between f ((darts_of g).near (2 * e)) ((darts_of g).near ((darts_of g).twin (2 * e)))
+        ≡ weight_between f (edge_at g e).u (edge_at g e).v =
+        ap (λ x. weight_between f x ((darts_of g).near ((darts_of g).twin (2 * e)))) (dart_near g e)
+        ∙ ap (weight_between f (edge_at g e).u) (dart_far g e) in
         let cost : (darts_of g).cost (2 * e) ≡ (edge_at g e).cost = dart_cost g e in
         omega (arith, ints, here, ends, cost, load_is e l)
 
@@ -318,6 +400,8 @@ module _ (t : ForestTables) (known : IsLaminar t) (sets : List (ℕ × ℕ)) (d 
       numbers = is.y.size ∙ valid.vertices;
       nested = nested;
       odd = λ k l. size_odd k (subst (λ x. k < x) sets_many l);
-      positive = λ k l. (let low : k < m = subst (λ x. k < x) sets_many l in subst (λ (x : ℤ). pos 0 ≤ℤ x) (sym (z_is k low)) (weights_high (set_in sets k) (sized t sets is.order k low).high (set_low t sets is.order k low)));
+      positive = λ k l. (let low : k < m = subst (λ x. k < x) sets_many l in
+          subst (λ (x : ℤ). pos 0 ≤ℤ x) (sym (z_is k low))
+          (weights_high (set_in sets k) (sized t sets is.order k low).high (set_low t sets is.order k low)));
       loaded = edge_loaded;
     }

@@ -1,5 +1,6 @@
 -- Climbing after a set was parted: one comes past the same blossoms but for the set.
-use Rattle.std.proofs.Common.{◌≡◌, ◌≢◌, ℕ, zero, suc, ◌<◌, ◌≤◌, Bool, true, false, cond, List, length, get_or, ◌⊎◌, refl, sym}
+use Rattle.std.proofs.Common.{◌≡◌, ◌≢◌, ℕ, zero, suc, ◌<◌, ◌≤◌, Bool, true, false, cond, List, length, get_or, ◌⊎◌}
+use Rattle.std.proofs.Common.{refl, sym}
 use Rattle.std.proofs.Common.{◌∙◌, ap, subst, inl, inr, arith}
 use Rattle.std.proofs.lemmas.Bool.{cases_eq, cases_lt, cases_Bool, cond-true, cond-false}
 use Rattle.def_forest.specs.Forests.{walk, set_at}
@@ -15,32 +16,46 @@ use Rattle.qm_forest.proofs.Enclosed.{climb_enclosed, holds_same as the_holds_sa
 use Rattle.qm_forest.proofs.Nests.{came_past, climbs_place, rank_few, rank_some}
 
 -- A table in which each place of a walk is written with itself.
-pub writes_self : (f next : ℕ → ℕ) (from many x : ℕ) → writes f (walk next from) (walk next from) many x ≡ cond (listed next from many x) x (f x)
+pub writes_self : (f next : ℕ → ℕ) (from many x : ℕ) → writes f (walk next from) (walk next from) many x
+    ≡ cond (listed next from many x) x (f x)
 writes_self f next from zero x = refl
-writes_self f next from (suc k) x = by_place (cases_eq x (walk next from k)) (cases_Bool (listed next from k x)) (writes_self f next from k x)
+writes_self f next from (suc k) x = by_place (cases_eq x (walk next from k)) (cases_Bool (listed next from k x))
+    (writes_self f next from k x)
   where
-    by_place : (x ≡ walk next from k) ⊎ (x ≢ walk next from k) → (listed next from k x ≡ true) ⊎ (listed next from k x ≡ false)
-        → writes f (walk next from) (walk next from) k x ≡ cond (listed next from k x) x (f x) → set_at (writes f (walk next from) (walk next from) k) (walk next from k) (walk next from k) x ≡ cond (listed next from (suc k) x) x (f x)
+    by_place : (x ≡ walk next from k) ⊎ (x ≢ walk next from k) → (listed next from k x ≡ true)
+        ⊎ (listed next from k x ≡ false)
+        → writes f (walk next from) (walk next from) k x ≡ cond (listed next from k x) x (f x)
+        → set_at (writes f (walk next from) (walk next from) k) (walk next from k) (walk next from k) x
+        ≡ cond (listed next from (suc k) x) x (f x)
     by_place (inl e) s was =
-        let on : listed next from (suc k) x ≡ true = subst (λ y. listed next from (suc k) y ≡ true) (sym e) (listed_at next from (suc k) k (omega arith)) in
+        let on : listed next from (suc k) x ≡ true =
+        subst (λ y. listed next from (suc k) y ≡ true) (sym e) (listed_at next from (suc k) k (omega arith)) in
         ap (set_at (writes f (walk next from) (walk next from) k) (walk next from k) (walk next from k)) e
-        ∙ (set_here (writes f (walk next from) (walk next from) k) (walk next from k) (walk next from k) ∙ (sym e ∙ sym (cond-true (listed next from (suc k) x) x (f x) on)))
+        ∙ (set_here (writes f (walk next from) (walk next from) k) (walk next from k) (walk next from k)
+        ∙ (sym e ∙ sym (cond-true (listed next from (suc k) x) x (f x) on)))
     by_place (inr ne) (inl on) was =
         let w : (j : ℕ) × (j < k) × (walk next from j ≡ x) = listed_place next from k x on in
-        let more : listed next from (suc k) x ≡ true = subst (λ y. listed next from (suc k) y ≡ true) w.2 (listed_at next from (suc k) w.0 (omega (arith, w.1))) in
+        let more : listed next from (suc k) x ≡ true =
+        subst (λ y. listed next from (suc k) y ≡ true) w.2 (listed_at next from (suc k) w.0 (omega (arith, w.1))) in
         set_there (writes f (walk next from) (walk next from) k) (walk next from k) x (walk next from k) ne
-        ∙ (was ∙ (cond-true (listed next from k x) x (f x) on ∙ sym (cond-true (listed next from (suc k) x) x (f x) more)))
+        ∙ (was ∙ (cond-true (listed next from k x) x (f x) on
+        ∙ sym (cond-true (listed next from (suc k) x) x (f x) more)))
     by_place (inr ne) (inr off) was =
-        let more : listed next from (suc k) x ≡ false = listed_off next from (suc k) x (λ j lj e. by_last j lj e (cases_eq j k)) in
+        let more : listed next from (suc k) x ≡ false =
+        listed_off next from (suc k) x (λ j lj e. by_last j lj e (cases_eq j k)) in
         set_there (writes f (walk next from) (walk next from) k) (walk next from k) x (walk next from k) ne
-        ∙ (was ∙ (cond-false (listed next from k x) x (f x) off ∙ sym (cond-false (listed next from (suc k) x) x (f x) more)))
+        ∙ (was ∙ (cond-false (listed next from k x) x (f x) off
+        ∙ sym (cond-false (listed next from (suc k) x) x (f x) more)))
       where
         by_last : (j : ℕ) → j < suc k → walk next from j ≡ x → (j ≡ k) ⊎ (j ≢ k) → ⊥
         by_last j lj e (inl at) = ne (sym e ∙ ap (walk next from) at)
-        by_last j lj e (inr before) = (let s : false ≡ true = sym off ∙ subst (λ y. listed next from k y ≡ true) e (listed_at next from k j (omega (arith, lj, before))) in cc)
+        by_last j lj e (inr before) =
+            (let s : false ≡ true = sym off ∙ subst (λ y. listed next from k y ≡ true) e
+            (listed_at next from k j (omega (arith, lj, before))) in cc)
 
 module _ (t : ForestTables) (hid : HiddenTables) (tied : AreTied t hid) (b : ℕ) (ready : IsPartable t b) (up2 : List ℕ)
-    (up_is : up_at up2 ≡ writes (up_at t.up) (walk (λ i. get_or t.after i 0) (get_or t.head b 0)) (walk (λ i. get_or t.after i 0) (get_or t.head b 0)) (get_or t.parts b 0)) where
+    (up_is : up_at up2 ≡ writes (up_at t.up) (walk (λ i. get_or t.after i 0) (get_or t.head b 0))
+    (walk (λ i. get_or t.after i 0) (get_or t.head b 0)) (get_or t.parts b 0)) where
   abbrev n : ℕ
   n = length t.hand
 
@@ -72,7 +87,9 @@ module _ (t : ForestTables) (hid : HiddenTables) (tied : AreTied t hid) (b : ℕ
   up_off x off = ups x ∙ cond-false (inside x) x (up_at t.up x) off
 
   pub in_around : (x : ℕ) → inside x ≡ true → up_at t.up x ≡ b
-  in_around x on = let w : (k : ℕ) × (k < many) × (at k ≡ x) = listed_place (λ i. get_or t.after i 0) (get_or t.head b 0) many x on in ap (up_at t.up) (sym w.2) ∙ ready.around w.0 w.1
+  in_around x on = let w : (k : ℕ) × (k < many) × (at k ≡ x) =
+      listed_place (λ i. get_or t.after i 0) (get_or t.head b 0) many x on in ap (up_at t.up) (sym w.2)
+      ∙ ready.around w.0 w.1
 
   pub at_in : (k : ℕ) → k < many → inside (at k) ≡ true
   at_in k l = listed_at (λ i. get_or t.after i 0) (get_or t.head b 0) many k l
@@ -111,57 +128,83 @@ module _ (t : ForestTables) (hid : HiddenTables) (tied : AreTied t hid) (b : ℕ
     where
       by_test : (inside x ≡ true) ⊎ (inside x ≡ false) → rank x < rank (up_at up2 x)
       by_test (inl on) = absurd (inner (up_in x on))
-      by_test (inr off) = subst (λ y. rank x < rank y) (sym (up_off x off)) (tied.nest.rises x (λ e. inner (up_off x off ∙ e)))
+      by_test (inr off) = subst (λ y. rank x < rank y) (sym (up_off x off))
+          (tied.nest.rises x (λ e. inner (up_off x off ∙ e)))
 
   ones : (v : ℕ) → v < n → 1 ≤ rank v
-  ones v l = rank_some n (length t.up) t.hand t.top t.up t.rank t.parts hid.leader hid.first hid.last hid.following tied.nest v l tied.sizes.vertices
+  ones v l = rank_some n (length t.up) t.hand t.top t.up t.rank t.parts hid.leader hid.first hid.last hid.following
+      tied.nest v l tied.sizes.vertices
 
   -- Where one comes to one came before.
   on_way : (v i : ℕ) → (j : ℕ) × (walk (up_at t.up) v j ≡ walk (up_at up2) v i)
   on_way v zero = (0, refl)
   on_way v (suc i) = by_test (on_way v i) (cases_Bool (inside (walk (up_at up2) v i)))
     where
-      by_test : (j : ℕ) × (walk (up_at t.up) v j ≡ walk (up_at up2) v i) → (inside (walk (up_at up2) v i) ≡ true) ⊎ (inside (walk (up_at up2) v i) ≡ false)
+      by_test : (j : ℕ) × (walk (up_at t.up) v j ≡ walk (up_at up2) v i) → (inside (walk (up_at up2) v i) ≡ true)
+          ⊎ (inside (walk (up_at up2) v i) ≡ false)
           → (j : ℕ) × (walk (up_at t.up) v j ≡ walk (up_at up2) v (suc i))
       by_test w (inl on) = (w.0, w.1 ∙ sym (up_in (walk (up_at up2) v i) on))
       by_test w (inr off) = (suc w.0, ap (up_at t.up) w.1 ∙ sym (up_off (walk (up_at up2) v i) off))
 
   few : (v i : ℕ) → v < n → rank (walk (up_at up2) v i) ≤ n
   few v i l =
-      let low : rank (walk (up_at up2) v i) ≤ rank (out v) = rank_low n (up_at t.up) rank out tied.nest.climb tied.nest.rises v (walk (up_at up2) v i) l (on_way v i) in
-      omega (arith, low, rank_few n (length t.up) t.hand t.top t.up t.rank t.parts hid.leader hid.first hid.last hid.following tied.nest v l)
+      let low : rank (walk (up_at up2) v i) ≤ rank (out v) =
+      rank_low n (up_at t.up) rank out tied.nest.climb tied.nest.rises v (walk (up_at up2) v i) l (on_way v i) in
+      omega (
+        arith,
+        low,
+        rank_few n (length t.up) t.hand t.top t.up t.rank t.parts hid.leader hid.first hid.last
+            hid.following tied.nest v l,
+      )
 
   -- Each step rises, or one has come to stay.
-  stays_or : (v i : ℕ) → v < n → (up_at up2 (walk (up_at up2) v i) ≡ walk (up_at up2) v i) ⊎ (i < rank (walk (up_at up2) v i))
+  stays_or : (v i : ℕ) → v < n → (up_at up2 (walk (up_at up2) v i) ≡ walk (up_at up2) v i)
+      ⊎ (i < rank (walk (up_at up2) v i))
   stays_or v zero l = (let one : 1 ≤ rank v = ones v l in inr (omega (arith, one)))
   stays_or v (suc i) l = by_stay (stays_or v i l) (cases_eq (up_at up2 (walk (up_at up2) v i)) (walk (up_at up2) v i))
     where
       by_stay : (up_at up2 (walk (up_at up2) v i) ≡ walk (up_at up2) v i) ⊎ (i < rank (walk (up_at up2) v i))
-          → (up_at up2 (walk (up_at up2) v i) ≡ walk (up_at up2) v i) ⊎ (up_at up2 (walk (up_at up2) v i) ≢ walk (up_at up2) v i)
-          → (up_at up2 (walk (up_at up2) v (suc i)) ≡ walk (up_at up2) v (suc i)) ⊎ (suc i < rank (walk (up_at up2) v (suc i)))
+          → (up_at up2 (walk (up_at up2) v i) ≡ walk (up_at up2) v i)
+          ⊎ (up_at up2 (walk (up_at up2) v i) ≢ walk (up_at up2) v i)
+          → (up_at up2 (walk (up_at up2) v (suc i)) ≡ walk (up_at up2) v (suc i))
+          ⊎ (suc i < rank (walk (up_at up2) v (suc i)))
       by_stay x (inl e) = inl (ap (up_at up2) e)
       by_stay (inl e) (inr ne) = absurd (ne e)
-      by_stay (inr h) (inr ne) = (let r : rank (walk (up_at up2) v i) < rank (up_at up2 (walk (up_at up2) v i)) = rises (walk (up_at up2) v i) ne in inr (omega (arith, h, r)))
+      by_stay (inr h) (inr ne) = (let r : rank (walk (up_at up2) v i) < rank (up_at up2 (walk (up_at up2) v i)) =
+          rises (walk (up_at up2) v i) ne in inr (omega (arith, h, r)))
 
   pub climb_parted : IsClimb n (up_at up2) (λ v. walk (up_at up2) v n)
-  climb_parted = record { ends = λ v l. refl; tops = λ v l. elim (stays_or v n l) [ inl e ↦ e | inr h ↦ (let f : rank (walk (up_at up2) v n) ≤ n = few v n l in absurd (omega (arith, h, f))) ] }
+  climb_parted = record {
+    ends = λ v l. refl;
+    tops =
+        λ v l. elim (stays_or v n l) [
+          | inl e ↦ e
+          | inr h ↦ (let f : rank (walk (up_at up2) v n) ≤ n = few v n l in
+              absurd (omega (arith, h, f)))
+        ];
+  }
 
   pub holds_old : (x v : ℕ) → x ≢ b → v < n → climbs (up_at up2) n x v ≡ climbs (up_at t.up) n x v
-  holds_old x v ne l = sym (the_holds_same n (up_at up2) rank fresh climb_parted rises ones (λ u lu. few u n lu) (up_at t.up) inside b ready.high up_in b_off alone unused back v x ne l)
+  holds_old x v ne l = sym (the_holds_same n (up_at up2) rank fresh climb_parted rises ones (λ u lu. few u n lu)
+      (up_at t.up) inside b ready.high up_in b_off alone unused back v x ne l)
 
   -- The parts of the set are where its vertices are now.
   pub out_is : (v : ℕ) → v < n → out v ≡ cond (inside (fresh v)) b (fresh v)
   out_is v l = sym (tied.nest.climb.ends v l)
-      ∙ (climb_enclosed n (up_at up2) rank fresh climb_parted rises ones (λ u lu. few u n lu) (up_at t.up) inside b ready.high up_in b_off alone unused back).ends v l
+      ∙ (climb_enclosed n (up_at up2) rank fresh climb_parted rises ones (λ u lu. few u n lu) (up_at t.up) inside b
+      ready.high up_in b_off alone unused back).ends v l
 
   pub never : (v i : ℕ) → v < n → walk (up_at up2) v i ≢ b
-  never v i l = the_not_new n (up_at up2) rank fresh climb_parted rises ones (λ u lu. few u n lu) (up_at t.up) inside b ready.high up_in b_off alone unused back v l i
+  never v i l = the_not_new n (up_at up2) rank fresh climb_parted rises ones (λ u lu. few u n lu) (up_at t.up) inside b
+      ready.high up_in b_off alone unused back v l i
 
   pub holds_none : (v : ℕ) → v < n → climbs (up_at up2) n b v ≡ false
   holds_none v l = by_test (cases_Bool (climbs (up_at up2) n b v))
     where
-      by_test : (climbs (up_at up2) n b v ≡ true) ⊎ (climbs (up_at up2) n b v ≡ false) → climbs (up_at up2) n b v ≡ false
-      by_test (inl on) = (let w : (i : ℕ) × (walk (up_at up2) v i ≡ b) = climbs_place (up_at up2) n b v on in absurd (never v w.0 l w.1))
+      by_test : (climbs (up_at up2) n b v ≡ true) ⊎ (climbs (up_at up2) n b v ≡ false) → climbs (up_at up2) n b v
+          ≡ false
+      by_test (inl on) = (let w : (i : ℕ) × (walk (up_at up2) v i ≡ b) = climbs_place (up_at up2) n b v on in
+          absurd (never v w.0 l w.1))
       by_test (inr off) = off
 
   -- A vertex of a part is in it.
@@ -170,10 +213,13 @@ module _ (t : ForestTables) (hid : HiddenTables) (tied : AreTied t hid) (b : ℕ
       (climbs_place (up_at up2) n (at k) v (holds_old (at k) v (ready.other k lk) l ∙ on)) (up_in (at k) (at_in k lk)))
 
   -- The vertices of any other blossom lie in one part.
-  pub fresh_together : (x u v : ℕ) → u < n → v < n → x ≢ b → climbs (up_at t.up) n x u ≡ true → climbs (up_at t.up) n x v ≡ true → fresh u ≡ fresh v
+  pub fresh_together : (x u v : ℕ) → u < n → v < n → x ≢ b → climbs (up_at t.up) n x u ≡ true
+      → climbs (up_at t.up) n x v ≡ true → fresh u ≡ fresh v
   fresh_together x u v lu lv ne hu hv =
-      sym (comes_out n (up_at up2) rank fresh climb_parted rises u x lu (climbs_place (up_at up2) n x u (holds_old x u ne lu ∙ hu)))
-      ∙ comes_out n (up_at up2) rank fresh climb_parted rises v x lv (climbs_place (up_at up2) n x v (holds_old x v ne lv ∙ hv))
+      sym (comes_out n (up_at up2) rank fresh climb_parted rises u x lu
+      (climbs_place (up_at up2) n x u (holds_old x u ne lu ∙ hu)))
+      ∙ comes_out n (up_at up2) rank fresh climb_parted rises v x lv
+      (climbs_place (up_at up2) n x v (holds_old x v ne lv ∙ hv))
 
   pub fresh_part : (k v : ℕ) → k < many → v < n → fresh v ≡ at k → climbs (up_at t.up) n (at k) v ≡ true
   fresh_part k v lk l e = sym (holds_old (at k) v (ready.other k lk) l) ∙ came_past (up_at up2) n v (at k) e
@@ -191,10 +237,12 @@ module _ (t : ForestTables) (hid : HiddenTables) (tied : AreTied t hid) (b : ℕ
   pub part_used : (k : ℕ) → k < many → IsInUse n t.parts (at k)
   part_used k l = by_size (cases_lt (at k) n) (cases_eq (get_or t.parts (at k) 0) 0)
     where
-      by_size : (at k < n) ⊎ (n ≤ at k) → (get_or t.parts (at k) 0 ≡ 0) ⊎ (get_or t.parts (at k) 0 ≢ 0) → IsInUse n t.parts (at k)
+      by_size : (at k < n) ⊎ (n ≤ at k) → (get_or t.parts (at k) 0 ≡ 0) ⊎ (get_or t.parts (at k) 0 ≢ 0)
+          → IsInUse n t.parts (at k)
       by_size (inl low) x = inl low
       by_size (inr high) (inr live) = inr live
-      by_size (inr high) (inl dead) = absurd (ready.other k l (sym (tied.nest.idle (at k) high dead) ∙ ready.around k l))
+      by_size (inr high) (inl dead) =
+          absurd (ready.other k l (sym (tied.nest.idle (at k) high dead) ∙ ready.around k l))
 
   pub part_outside : (x : ℕ) → inside x ≡ true → label_at t.label x ≡ Outside
   part_outside x on = by_label (label_cases (label_at t.label x))
@@ -203,15 +251,20 @@ module _ (t : ForestTables) (hid : HiddenTables) (tied : AreTied t hid) (b : ℕ
       by_label (inl e) = e
       by_label (inr named) =
           let w : (k : ℕ) × (k < length t.trail) × (out (get_or t.trail k 0) ≡ x) = tied.trail.named x named in
-          absurd (in_ne x on (ap (λ y. y) (sym w.2) ∙ (sym (tied.nest.climb.tops (get_or t.trail w.0 0) (tied.trail.low w.0 w.1)) ∙ (ap (up_at t.up) w.2 ∙ in_around x on))))
+          absurd (in_ne x on (ap (λ y. y) (sym w.2)
+          ∙ (sym (tied.nest.climb.tops (get_or t.trail w.0 0) (tied.trail.low w.0 w.1))
+          ∙ (ap (up_at t.up) w.2 ∙ in_around x on))))
 
   -- The leaders of the parts are different vertices of them.
-  pub leader_in : (k : ℕ) → k < many → (get_or hid.leader (at k) 0 < n) × (climbs (up_at t.up) n (at k) (get_or hid.leader (at k) 0) ≡ true)
+  pub leader_in : (k : ℕ) → k < many → (get_or hid.leader (at k) 0 < n)
+      × (climbs (up_at t.up) n (at k) (get_or hid.leader (at k) 0) ≡ true)
   leader_in k l = tied.nest.leaders (at k) (ready.row.low k l) (part_used k l)
 
   pub leaders_differ : (i j : ℕ) → i < j → j < many → get_or hid.leader (at i) 0 ≢ get_or hid.leader (at j) 0
   leaders_differ i j lij lj e =
       let li : i < many = omega (arith, lij, lj) in
-      let first : fresh (get_or hid.leader (at i) 0) ≡ at i = part_fresh i (get_or hid.leader (at i) 0) li (leader_in i li).0 (leader_in i li).1 in
-      let second : fresh (get_or hid.leader (at j) 0) ≡ at j = part_fresh j (get_or hid.leader (at j) 0) lj (leader_in j lj).0 (leader_in j lj).1 in
+      let first : fresh (get_or hid.leader (at i) 0) ≡ at i =
+      part_fresh i (get_or hid.leader (at i) 0) li (leader_in i li).0 (leader_in i li).1 in
+      let second : fresh (get_or hid.leader (at j) 0) ≡ at j =
+      part_fresh j (get_or hid.leader (at j) 0) lj (leader_in j lj).0 (leader_in j lj).1 in
       ready.row.distinct i j lij lj (sym first ∙ (ap fresh e ∙ second))

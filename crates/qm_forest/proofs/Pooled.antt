@@ -43,46 +43,64 @@ module _ (n size : ℕ) (parts : List ℕ) (pool : List (Option Node)) (pooled :
     where
       by_size : (k < length pool) ⊎ (length pool ≤ k) → slice_get pool2 k ≡ slice_get pool k
       by_size (inl l) = slice_get-get_or pool2 k None (subst (λ m. k < m) (sym pool_size) l)
-          ∙ (ap (λ (o : Option Node). Some o) (get_or-set_other pool id k (Some node) None ne) ∙ sym (slice_get-get_or pool k None l))
+          ∙ (ap (λ (o : Option Node). Some o) (get_or-set_other pool id k (Some node) None ne)
+          ∙ sym (slice_get-get_or pool k None l))
       by_size (inr h) = slice_get_past pool2 k (subst (λ m. m ≤ k) (sym pool_size) h) ∙ sym (slice_get_past pool k h)
 
   other : (k : ℕ) → k ≢ id → n + k ≢ b
   other k ne e = ne (omega (arith, e, id_is))
 
   free : (k : ℕ) → slice_get pool2 k ≡ Some None → (k ≡ id) ⊎ (k ≢ id) → get_or parts2 (n + k) 0 ≡ 0
-  free k is (inl e) = (let s : ◌≡◌ {A = Option (Option Node)} (Some (Some node)) (Some None) = sym here ∙ (ap (slice_get pool2) (sym e) ∙ is) in absurd (cc s))
+  free k is (inl e) = (let s : ◌≡◌ {A = Option (Option Node)} (Some (Some node)) (Some None) =
+      sym here ∙ (ap (slice_get pool2) (sym e) ∙ is) in absurd (cc s))
   free k is (inr ne) = at_old (n + k) (other k ne) ∙ pooled.free k (sym (there k ne) ∙ is)
 
-  live : (k : ℕ) → get_or parts2 (n + k) 0 ≢ 0 → (k ≡ id) ⊎ (k ≢ id) → (node : Node) × (slice_get pool2 k ≡ Some (Some node))
+  live : (k : ℕ) → get_or parts2 (n + k) 0 ≢ 0 → (k ≡ id) ⊎ (k ≢ id) → (node : Node)
+      × (slice_get pool2 k ≡ Some (Some node))
   live k live' (inl e) = (node, ap (slice_get pool2) e ∙ here)
   live k live' (inr ne) =
-      let w : (node : Node) × (slice_get pool k ≡ Some (Some node)) = pooled.live k (λ none. live' (at_old (n + k) (other k ne) ∙ none)) in
+      let w : (node : Node) × (slice_get pool k ≡ Some (Some node)) =
+      pooled.live k (λ none. live' (at_old (n + k) (other k ne) ∙ none)) in
       (w.0, there k ne ∙ w.1)
 
   -- The number that was taken is in use from then on, and was not before.
   live_b : (parts' : List ℕ) (m : ℕ) → get_or parts' b 0 ≡ m → live_at n (λ i. get_or parts' i 0) b ≡ cond (eqb m 0) 0 1
-  live_b parts' m is = cond-false (nat_lt b n) 0 (cond (eqb (get_or parts' b 0) 0) 0 1) (le-ltb b n high) ∙ ap (λ k. cond (eqb k 0) 0 1) is
+  live_b parts' m is = cond-false (nat_lt b n) 0 (cond (eqb (get_or parts' b 0) 0) 0 1) (le-ltb b n high)
+      ∙ ap (λ k. cond (eqb k 0) 0 1) is
 
-  live_new : (x : ℕ) → (x ≡ b) ⊎ (x ≢ b) → live_at n (λ i. get_or parts2 i 0) x ≡ live_at n (λ i. get_or parts i 0) x + bool_number (eqb x b)
+  live_new : (x : ℕ) → (x ≡ b) ⊎ (x ≢ b) → live_at n (λ i. get_or parts2 i 0) x ≡ live_at n (λ i. get_or parts i 0) x
+      + bool_number (eqb x b)
   live_new x (inl e) =
       let some' : ◌≡◌ {A = ℕ} (cond (eqb many 0) 0 1) 1 = cond-false (eqb many 0) 0 1 (ne_eqb many 0 some) in
-      let here' : live_at n (λ i. get_or parts2 i 0) x ≡ cond (eqb many 0) 0 1 = ap (live_at n (λ i. get_or parts2 i 0)) e ∙ live_b parts2 many at_b in
-      let gone : live_at n (λ i. get_or parts i 0) x ≡ 0 = ap (live_at n (λ i. get_or parts i 0)) e ∙ live_b parts 0 dead in
+      let here' : live_at n (λ i. get_or parts2 i 0) x ≡ cond (eqb many 0) 0 1 =
+      ap (live_at n (λ i. get_or parts2 i 0)) e ∙ live_b parts2 many at_b in
+      let gone : live_at n (λ i. get_or parts i 0) x ≡ 0 = ap (live_at n (λ i. get_or parts i 0)) e
+      ∙ live_b parts 0 dead in
       let mark : bool_number (eqb x b) ≡ 1 = ap bool_number (eq-eqb x b e) in
       omega (arith, some', here', gone, mark)
   live_new x (inr ne) =
-      let same : live_at n (λ i. get_or parts2 i 0) x ≡ live_at n (λ i. get_or parts i 0) x = ap (λ m. cond (nat_lt x n) 0 (cond (eqb m 0) 0 1)) (at_old x ne) in
+      let same : live_at n (λ i. get_or parts2 i 0) x ≡ live_at n (λ i. get_or parts i 0) x =
+      ap (λ m. cond (nat_lt x n) 0 (cond (eqb m 0) 0 1)) (at_old x ne) in
       let mark : bool_number (eqb x b) ≡ 0 = ap bool_number (ne_eqb x b ne) in
       omega (arith, same, mark)
 
   counted : count_by is_some pool2 ≡ count_below (live_at n (λ i. get_or parts2 i 0)) size
   counted =
       let none : get_or pool id None ≡ None = get_or_from_slice_get pool id None None id_free in
-      let was : ◌≡◌ {A = ℕ} (cond (is_some (get_or pool id None)) 1 0) 0 = ap (λ (o : Option Node). cond (is_some o) 1 0) none in
-      let pools : count_by is_some pool2 + cond (is_some (get_or pool id None)) 1 0 ≡ count_by is_some pool + 1 = sum_by-set (λ (o : Option Node). cond (is_some o) 1 0) pool id (Some node) None id_low in
-      let each : count_below (live_at n (λ i. get_or parts2 i 0)) size ≡ count_below (λ x. live_at n (λ i. get_or parts i 0) x + bool_number (eqb x b)) size = count_below_same (live_at n (λ i. get_or parts2 i 0)) (λ x. live_at n (λ i. get_or parts i 0) x + bool_number (eqb x b)) size (λ x l. live_new x (cases_eq x b)) in
-      let split : count_below (λ x. live_at n (λ i. get_or parts i 0) x + bool_number (eqb x b)) size ≡ count_below (live_at n (λ i. get_or parts i 0)) size + count_below (λ x. bool_number (eqb x b)) size = count_below_sum (live_at n (λ i. get_or parts i 0)) (λ x. bool_number (eqb x b)) size in
-      let one : count_below (λ x. bool_number (eqb x b)) size ≡ 1 = count_below_one (λ x. bool_number (eqb x b)) size b low (λ x l ne. ap bool_number (ne_eqb x b ne)) ∙ ap bool_number (eq-eqb b b refl) in
+      let was : ◌≡◌ {A = ℕ} (cond (is_some (get_or pool id None)) 1 0) 0 =
+      ap (λ (o : Option Node). cond (is_some o) 1 0) none in
+      let pools : count_by is_some pool2 + cond (is_some (get_or pool id None)) 1 0 ≡ count_by is_some pool + 1 =
+      sum_by-set (λ (o : Option Node). cond (is_some o) 1 0) pool id (Some node) None id_low in
+      let each : count_below (live_at n (λ i. get_or parts2 i 0)) size
+      ≡ count_below (λ x. live_at n (λ i. get_or parts i 0) x + bool_number (eqb x b)) size =
+      count_below_same (live_at n (λ i. get_or parts2 i 0)) (λ x. live_at n (λ i. get_or parts i 0) x + bool_number
+      (eqb x b)) size (λ x l. live_new x (cases_eq x b)) in
+      let split : count_below (λ x. live_at n (λ i. get_or parts i 0) x + bool_number (eqb x b)) size
+      ≡ count_below (live_at n (λ i. get_or parts i 0)) size + count_below (λ x. bool_number (eqb x b)) size =
+      count_below_sum (live_at n (λ i. get_or parts i 0)) (λ x. bool_number (eqb x b)) size in
+      let one : count_below (λ x. bool_number (eqb x b)) size ≡ 1 =
+      count_below_one (λ x. bool_number (eqb x b)) size b low (λ x l ne. ap bool_number (ne_eqb x b ne))
+      ∙ ap bool_number (eq-eqb b b refl) in
       omega (arith, was, pools, each, split, one, pooled.counted)
 
   pub pool_taken : IsPooled n size (set parts b many) (set pool id (Some node))
@@ -96,7 +114,8 @@ module _ (n size : ℕ) (parts : List ℕ) (pool : List (Option Node)) (pooled :
   }
 
 -- The pool after one of its sets was given back.
-module _ (n size : ℕ) (parts : List ℕ) (pool : List (Option Node)) (pooled : IsPooled n size parts pool) (b id : ℕ) (node : Node)
+module _ (n size : ℕ) (parts : List ℕ) (pool : List (Option Node)) (pooled : IsPooled n size parts pool) (b id : ℕ)
+    (node : Node)
     (high : n ≤ b) (low : b < size) (wide : length parts ≡ size) (live' : get_or parts b 0 ≢ 0) (id_is : b ≡ n + id)
     (id_live : slice_get pool id ≡ Some (Some node)) where
   abbrev parts3 : List ℕ
@@ -126,7 +145,8 @@ module _ (n size : ℕ) (parts : List ℕ) (pool : List (Option Node)) (pooled :
     where
       by_size : (k < length pool) ⊎ (length pool ≤ k) → slice_get pool3 k ≡ slice_get pool k
       by_size (inl l) = slice_get-get_or pool3 k None (subst (λ m. k < m) (sym size_kept) l)
-          ∙ (ap (λ (o : Option Node). Some o) (get_or-set_other pool id k None None ne) ∙ sym (slice_get-get_or pool k None l))
+          ∙ (ap (λ (o : Option Node). Some o) (get_or-set_other pool id k None None ne)
+          ∙ sym (slice_get-get_or pool k None l))
       by_size (inr h) = slice_get_past pool3 k (subst (λ m. m ≤ k) (sym size_kept) h) ∙ sym (slice_get_past pool k h)
 
   apart3 : (k : ℕ) → k ≢ id → n + k ≢ b
@@ -136,35 +156,53 @@ module _ (n size : ℕ) (parts : List ℕ) (pool : List (Option Node)) (pooled :
   free3 k is (inl e) = (let at : n + k ≡ b = omega (arith, e, id_is) in ap (λ x. get_or parts3 x 0) at ∙ none_b)
   free3 k is (inr ne) = old_at (n + k) (apart3 k ne) ∙ pooled.free k (sym (there3 k ne) ∙ is)
 
-  live3 : (k : ℕ) → get_or parts3 (n + k) 0 ≢ 0 → (k ≡ id) ⊎ (k ≢ id) → (node : Node) × (slice_get pool3 k ≡ Some (Some node))
-  live3 k some (inl e) = (let at : n + k ≡ b = omega (arith, e, id_is) in absurd (some (ap (λ x. get_or parts3 x 0) at ∙ none_b)))
+  live3 : (k : ℕ) → get_or parts3 (n + k) 0 ≢ 0 → (k ≡ id) ⊎ (k ≢ id) → (node : Node)
+      × (slice_get pool3 k ≡ Some (Some node))
+  live3 k some (inl e) = (let at : n + k ≡ b = omega (arith, e, id_is) in
+      absurd (some (ap (λ x. get_or parts3 x 0) at ∙ none_b)))
   live3 k some (inr ne) =
-      let w : (node : Node) × (slice_get pool k ≡ Some (Some node)) = pooled.live k (λ none. some (old_at (n + k) (apart3 k ne) ∙ none)) in
+      let w : (node : Node) × (slice_get pool k ≡ Some (Some node)) =
+      pooled.live k (λ none. some (old_at (n + k) (apart3 k ne) ∙ none)) in
       (w.0, there3 k ne ∙ w.1)
 
   mark_b : (parts' : List ℕ) (m : ℕ) → get_or parts' b 0 ≡ m → live_at n (λ i. get_or parts' i 0) b ≡ cond (eqb m 0) 0 1
-  mark_b parts' m is = cond-false (nat_lt b n) 0 (cond (eqb (get_or parts' b 0) 0) 0 1) (le-ltb b n high) ∙ ap (λ k. cond (eqb k 0) 0 1) is
+  mark_b parts' m is = cond-false (nat_lt b n) 0 (cond (eqb (get_or parts' b 0) 0) 0 1) (le-ltb b n high)
+      ∙ ap (λ k. cond (eqb k 0) 0 1) is
 
-  live_old : (x : ℕ) → (x ≡ b) ⊎ (x ≢ b) → live_at n (λ i. get_or parts i 0) x ≡ live_at n (λ i. get_or parts3 i 0) x + bool_number (eqb x b)
+  live_old : (x : ℕ) → (x ≡ b) ⊎ (x ≢ b) → live_at n (λ i. get_or parts i 0) x ≡ live_at n (λ i. get_or parts3 i 0) x
+      + bool_number (eqb x b)
   live_old x (inl e) =
-      let some' : ◌≡◌ {A = ℕ} (cond (eqb (get_or parts b 0) 0) 0 1) 1 = cond-false (eqb (get_or parts b 0) 0) 0 1 (ne_eqb (get_or parts b 0) 0 live') in
-      let was : live_at n (λ i. get_or parts i 0) x ≡ cond (eqb (get_or parts b 0) 0) 0 1 = ap (live_at n (λ i. get_or parts i 0)) e ∙ mark_b parts (get_or parts b 0) refl in
-      let gone : live_at n (λ i. get_or parts3 i 0) x ≡ 0 = ap (live_at n (λ i. get_or parts3 i 0)) e ∙ mark_b parts3 0 none_b in
+      let some' : ◌≡◌ {A = ℕ} (cond (eqb (get_or parts b 0) 0) 0 1) 1 =
+      cond-false (eqb (get_or parts b 0) 0) 0 1 (ne_eqb (get_or parts b 0) 0 live') in
+      let was : live_at n (λ i. get_or parts i 0) x ≡ cond (eqb (get_or parts b 0) 0) 0 1 =
+      ap (live_at n (λ i. get_or parts i 0)) e ∙ mark_b parts (get_or parts b 0) refl in
+      let gone : live_at n (λ i. get_or parts3 i 0) x ≡ 0 = ap (live_at n (λ i. get_or parts3 i 0)) e
+      ∙ mark_b parts3 0 none_b in
       let mark : bool_number (eqb x b) ≡ 1 = ap bool_number (eq-eqb x b e) in
       omega (arith, some', was, gone, mark)
   live_old x (inr ne) =
-      let same : live_at n (λ i. get_or parts3 i 0) x ≡ live_at n (λ i. get_or parts i 0) x = ap (λ m. cond (nat_lt x n) 0 (cond (eqb m 0) 0 1)) (old_at x ne) in
+      let same : live_at n (λ i. get_or parts3 i 0) x ≡ live_at n (λ i. get_or parts i 0) x =
+      ap (λ m. cond (nat_lt x n) 0 (cond (eqb m 0) 0 1)) (old_at x ne) in
       let mark : bool_number (eqb x b) ≡ 0 = ap bool_number (ne_eqb x b ne) in
       omega (arith, same, mark)
 
   counted3 : count_by is_some pool3 ≡ count_below (live_at n (λ i. get_or parts3 i 0)) size
   counted3 =
       let some : get_or pool id None ≡ Some node = get_or_from_slice_get pool id (Some node) None id_live in
-      let was : ◌≡◌ {A = ℕ} (cond (is_some (get_or pool id None)) 1 0) 1 = ap (λ (o : Option Node). cond (is_some o) 1 0) some in
-      let pools : count_by is_some pool3 + cond (is_some (get_or pool id None)) 1 0 ≡ count_by is_some pool + 0 = sum_by-set (λ (o : Option Node). cond (is_some o) 1 0) pool id None None low_id in
-      let each : count_below (live_at n (λ i. get_or parts i 0)) size ≡ count_below (λ x. live_at n (λ i. get_or parts3 i 0) x + bool_number (eqb x b)) size = count_below_same (live_at n (λ i. get_or parts i 0)) (λ x. live_at n (λ i. get_or parts3 i 0) x + bool_number (eqb x b)) size (λ x l. live_old x (cases_eq x b)) in
-      let split : count_below (λ x. live_at n (λ i. get_or parts3 i 0) x + bool_number (eqb x b)) size ≡ count_below (live_at n (λ i. get_or parts3 i 0)) size + count_below (λ x. bool_number (eqb x b)) size = count_below_sum (live_at n (λ i. get_or parts3 i 0)) (λ x. bool_number (eqb x b)) size in
-      let one : count_below (λ x. bool_number (eqb x b)) size ≡ 1 = count_below_one (λ x. bool_number (eqb x b)) size b low (λ x l ne. ap bool_number (ne_eqb x b ne)) ∙ ap bool_number (eq-eqb b b refl) in
+      let was : ◌≡◌ {A = ℕ} (cond (is_some (get_or pool id None)) 1 0) 1 =
+      ap (λ (o : Option Node). cond (is_some o) 1 0) some in
+      let pools : count_by is_some pool3 + cond (is_some (get_or pool id None)) 1 0 ≡ count_by is_some pool + 0 =
+      sum_by-set (λ (o : Option Node). cond (is_some o) 1 0) pool id None None low_id in
+      let each : count_below (live_at n (λ i. get_or parts i 0)) size
+      ≡ count_below (λ x. live_at n (λ i. get_or parts3 i 0) x + bool_number (eqb x b)) size =
+      count_below_same (live_at n (λ i. get_or parts i 0)) (λ x. live_at n (λ i. get_or parts3 i 0) x + bool_number
+      (eqb x b)) size (λ x l. live_old x (cases_eq x b)) in
+      let split : count_below (λ x. live_at n (λ i. get_or parts3 i 0) x + bool_number (eqb x b)) size
+      ≡ count_below (live_at n (λ i. get_or parts3 i 0)) size + count_below (λ x. bool_number (eqb x b)) size =
+      count_below_sum (live_at n (λ i. get_or parts3 i 0)) (λ x. bool_number (eqb x b)) size in
+      let one : count_below (λ x. bool_number (eqb x b)) size ≡ 1 =
+      count_below_one (λ x. bool_number (eqb x b)) size b low (λ x l ne. ap bool_number (ne_eqb x b ne))
+      ∙ ap bool_number (eq-eqb b b refl) in
       omega (arith, was, pools, each, split, one, pooled.counted)
 
   pub pool_given : IsPooled n size (set parts b 0) (set pool id None)

@@ -1,5 +1,6 @@
 -- The numbers of a forest stay small.
-use Rattle.std.proofs.Common.{Some, ◌≡◌, ◌≢◌, ℕ, zero, suc, ◌*◌, ◌<◌, ◌≤◌, ◌^◌, Bool, true, false, cond, List, length, get_or, ℤ, pos, ◌+ℤ◌, sym, ◌∙◌, ap, subst, arith}
+use Rattle.std.proofs.Common.{Some, ◌≡◌, ◌≢◌, ℕ, zero, suc, ◌*◌, ◌<◌, ◌≤◌, ◌^◌, Bool, true, false, cond, List, length}
+use Rattle.std.proofs.Common.{get_or, ℤ, pos, ◌+ℤ◌, sym, ◌∙◌, ap, subst, arith}
 use Rattle.std.specs.Prelude.{unsigned_abs}
 use Rattle.std.proofs.lemmas.Int.{ints}
 use Rattle.std.proofs.lemmas.Option.{slice_get-get_or}
@@ -14,7 +15,8 @@ use Rattle.def_forest.specs.declared.kinds.Label.TheVariants.{Outer, Inner, Outs
 use Rattle.qm_forest.specs.Ties.{AreTied, HiddenTables, potential, added, told}
 
 -- A sum of small numbers.
-pub sum_small : (f : ℕ → ℤ) (n : ℕ) → ((k : ℕ) → k < n → unsigned_abs (f k) ≤ 2 ^ 62) → unsigned_abs (total_below f n) ≤ n * 2 ^ 62
+pub sum_small : (f : ℕ → ℤ) (n : ℕ) → ((k : ℕ) → k < n → unsigned_abs (f k) ≤ 2 ^ 62) → unsigned_abs (total_below f n)
+    ≤ n * 2 ^ 62
 sum_small f zero each = omega (arith, ints)
 sum_small f (suc n) each = omega (arith, ints, each n (omega arith), sum_small f n (λ k l. each k (omega arith)))
 
@@ -25,7 +27,12 @@ change_small Outside d = omega (arith, ints)
 
 module _ (t : ForestTables) (hid : HiddenTables) (tied : AreTied t hid) where
   pub sum_is_small : unsigned_abs (dual_sum_of (forest_of t)) ≤ 2 ^ 88
-  sum_is_small = omega (arith, ints, sum_small (forest_of t).weight (length t.up) (λ k l. tied.numbers.small k), tied.sizes.few)
+  sum_is_small = omega (
+    arith,
+    ints,
+    sum_small (forest_of t).weight (length t.up) (λ k l. tied.numbers.small k),
+    tied.sizes.few,
+  )
 
   pub delta_small : unsigned_abs t.delta ≤ 2 ^ 92
   delta_small = omega (arith, ints, sum_is_small, tied.numbers.small_start, tied.numbers.risen.0, tied.numbers.risen.1)
@@ -34,13 +41,20 @@ module _ (t : ForestTables) (hid : HiddenTables) (tied : AreTied t hid) where
   added_small v l = omega (arith, ints, sum_is_small, tied.numbers.small_start, tied.numbers.moved v l)
 
   pub potential_small : (v : ℕ) → unsigned_abs (potential (forest_of t) v) ≤ 2 ^ 88
-  potential_small v = omega (arith, ints, sum_small (λ b. cond ((forest_of t).holds b v) ((forest_of t).weight b) (pos 0)) (length t.up) (λ b l. by_test ((forest_of t).holds b v) b), tied.sizes.few)
+  potential_small v = omega (
+    arith,
+    ints,
+    sum_small (λ b. cond ((forest_of t).holds b v) ((forest_of t).weight b) (pos 0)) (length t.up)
+        (λ b l. by_test ((forest_of t).holds b v) b),
+    tied.sizes.few,
+  )
     where
       by_test : (c : Bool) (b : ℕ) → unsigned_abs (cond c ((forest_of t).weight b) (pos 0)) ≤ 2 ^ 62
       by_test true b = tied.numbers.small b
       by_test false b = omega (arith, ints)
 
-  pub told_small : (v : ℕ) → v < length t.hand → unsigned_abs (told hid.q t.hand t.top hid.off t.label t.delta v) ≤ 2 ^ 88
+  pub told_small : (v : ℕ) → v < length t.hand → unsigned_abs (told hid.q t.hand t.top hid.off t.label t.delta v)
+      ≤ 2 ^ 88
   told_small v l = subst (λ (x : ℤ). unsigned_abs x ≤ 2 ^ 88) (tied.numbers.potentials v l) (potential_small v)
 
   -- An outermost blossom has a number below the size.
@@ -49,10 +63,12 @@ module _ (t : ForestTables) (hid : HiddenTables) (tied : AreTied t hid) where
 
   -- A blossom with a place in the tree is outermost.
   pub named_in : (b : ℕ) → label_at t.label b ≢ Outside → IsOutermostIn t b
-  named_in b named = let w : (k : ℕ) × (k < length t.trail) × (out_of t.hand t.top (get_or t.trail k 0) ≡ b) = tied.trail.named b named in (get_or t.trail w.0 0, tied.trail.low w.0 w.1, w.2)
+  named_in b named = let w : (k : ℕ) × (k < length t.trail) × (out_of t.hand t.top (get_or t.trail k 0) ≡ b) =
+      tied.trail.named b named in (get_or t.trail w.0 0, tied.trail.low w.0 w.1, w.2)
 
   -- The vertices of an outermost blossom have one handle.
-  pub one_hand : (u v : ℕ) → u < length t.hand → v < length t.hand → out_of t.hand t.top u ≡ out_of t.hand t.top v → get_or t.hand u 0 ≡ get_or t.hand v 0
+  pub one_hand : (u v : ℕ) → u < length t.hand → v < length t.hand → out_of t.hand t.top u ≡ out_of t.hand t.top v
+      → get_or t.hand u 0 ≡ get_or t.hand v 0
   one_hand u v lu lv e = tied.nest.led u lu ∙ (ap (λ b. get_or hid.leader b 0) e ∙ sym (tied.nest.led v lv))
 
   pub out_low : (v : ℕ) → v < length t.hand → out_of t.hand t.top v < length t.up
@@ -63,20 +79,34 @@ pub kept_in_bits : (z : ℤ) → unsigned_abs z ≤ 2 ^ 100 → to_z w128 (of_z 
 kept_in_bits z small = omega (arith, ints)
 
 -- What the tables at hand add to a potential.
-pub added_bound : (t : ForestTables) (hid : HiddenTables) → AreTied t hid → (v : ℕ) → v < length t.hand → (xs : List ℤ) (h : ℕ) (l : Label) (d : ℤ)
-    → xs ≡ hid.off → h ≡ get_or t.hand v 0 → l ≡ label_at t.label (out_of t.hand t.top v) → d ≡ t.delta → get_or xs h (pos 0) +ℤ weight_change l d ≡ added t.hand t.top hid.off t.label t.delta v
+pub added_bound : (t : ForestTables) (hid : HiddenTables) → AreTied t hid → (v : ℕ) → v < length t.hand
+    → (xs : List ℤ) (h : ℕ) (l : Label) (d : ℤ)
+    → xs ≡ hid.off → h ≡ get_or t.hand v 0 → l ≡ label_at t.label (out_of t.hand t.top v) → d ≡ t.delta
+    → get_or xs h (pos 0) +ℤ weight_change l d ≡ added t.hand t.top hid.off t.label t.delta v
 added_bound t hid tied v low xs h l d e1 e2 e3 e4 =
-    ap (λ (ys : List ℤ). get_or ys h (pos 0) +ℤ weight_change l d) e1 ∙ (ap (λ k. get_or hid.off k (pos 0) +ℤ weight_change l d) e2
-    ∙ (ap (λ (x : Label). get_or hid.off (get_or t.hand v 0) (pos 0) +ℤ weight_change x d) e3 ∙ ap (λ (x : ℤ). get_or hid.off (get_or t.hand v 0) (pos 0) +ℤ weight_change (label_at t.label (out_of t.hand t.top v)) x) e4))
+    ap (λ (ys : List ℤ). get_or ys h (pos 0) +ℤ weight_change l d) e1
+    ∙ (ap (λ k. get_or hid.off k (pos 0) +ℤ weight_change l d) e2
+    ∙ (ap (λ (x : Label). get_or hid.off (get_or t.hand v 0) (pos 0) +ℤ weight_change x d) e3
+    ∙ ap (λ (x : ℤ). get_or hid.off (get_or t.hand v 0) (pos 0) +ℤ weight_change
+    (label_at t.label (out_of t.hand t.top v)) x) e4))
 
 -- What the tables at hand tell of a potential.
-pub told_bound : (t : ForestTables) (hid : HiddenTables) → AreTied t hid → (v : ℕ) → v < length t.hand → (qs : List ℤ) (more : ℤ) → qs ≡ hid.q → more ≡ added t.hand t.top hid.off t.label t.delta v
+pub told_bound : (t : ForestTables) (hid : HiddenTables) → AreTied t hid → (v : ℕ) → v < length t.hand
+    → (qs : List ℤ) (more : ℤ) → qs ≡ hid.q → more ≡ added t.hand t.top hid.off t.label t.delta v
     → get_or qs v (pos 0) +ℤ more ≡ potential (forest_of t) v
-told_bound t hid tied v low qs more e1 e2 = ap (λ (ys : List ℤ). get_or ys v (pos 0) +ℤ more) e1 ∙ (ap (λ (x : ℤ). get_or hid.q v (pos 0) +ℤ x) e2 ∙ sym (tied.numbers.potentials v low))
+told_bound t hid tied v low qs more e1 e2 = ap (λ (ys : List ℤ). get_or ys v (pos 0) +ℤ more) e1
+    ∙ (ap (λ (x : ℤ). get_or hid.q v (pos 0) +ℤ x) e2 ∙ sym (tied.numbers.potentials v low))
 
 -- A weight as it is kept is small.
-pub base_small : (t : ForestTables) (hid : HiddenTables) → AreTied t hid → (b : ℕ) → unsigned_abs (get_or t.base b (pos 0)) ≤ 2 ^ 93
-base_small t hid tied b = omega (arith, ints, tied.numbers.small b, change_small (label_at t.label b) t.delta, delta_small t hid tied)
+pub base_small : (t : ForestTables) (hid : HiddenTables) → AreTied t hid → (b : ℕ)
+    → unsigned_abs (get_or t.base b (pos 0)) ≤ 2 ^ 93
+base_small t hid tied b = omega (
+  arith,
+  ints,
+  tied.numbers.small b,
+  change_small (label_at t.label b) t.delta,
+  delta_small t hid tied,
+)
 
 -- An element that is read, whatever would stand past the end.
 pub read_is : (xs : List ℤ) (b : ℕ) (r d : ℤ) → b < length xs → r ≡ get_or xs b r → r ≡ get_or xs b d
@@ -92,8 +122,11 @@ read_nat xs b r d low = same (sym (slice_get-get_or xs b r low) ∙ slice_get-ge
     same p = cc
 
 -- A weight, read from the tables at hand.
-pub weight_read : (r : ℤ) (xs base : List ℤ) (ls label : List Label) (d delta : ℤ) (b : ℕ) → r ≡ weight_at xs ls d b → xs ≡ base → ls ≡ label → d ≡ delta → r ≡ weight_at base label delta b
-weight_read r xs base ls label d delta b e e1 e2 e3 = e ∙ (ap (λ (ys : List ℤ). weight_at ys ls d b) e1 ∙ (ap (λ (ys : List Label). weight_at base ys d b) e2 ∙ ap (λ (x : ℤ). weight_at base label x b) e3))
+pub weight_read : (r : ℤ) (xs base : List ℤ) (ls label : List Label) (d delta : ℤ) (b : ℕ) → r ≡ weight_at xs ls d b
+    → xs ≡ base → ls ≡ label → d ≡ delta → r ≡ weight_at base label delta b
+weight_read r xs base ls label d delta b e e1 e2 e3 =
+    e ∙ (ap (λ (ys : List ℤ). weight_at ys ls d b) e1 ∙ (ap (λ (ys : List Label). weight_at base ys d b) e2
+    ∙ ap (λ (x : ℤ). weight_at base label x b) e3))
 
 -- A mark that is read, whatever would stand past the end.
 pub mark_read : (xs : List Bool) (v : ℕ) (r d : Bool) → v < length xs → r ≡ get_or xs v r → get_or xs v d ≡ r

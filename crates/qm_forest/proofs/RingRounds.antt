@@ -1,5 +1,6 @@
 -- A ring is matched in pairs, but for one part; and the round goes on to the set around it.
-use Rattle.std.proofs.Common.{◌≡◌, ◌≢◌, ℕ, zero, suc, ◌+◌, ◌-◌, ◌*◌, ◌/◌, ◌<◌, ◌≤◌, Bool, true, false, cond, List, length, get_or, Option, Some, None, ◌⊎◌, refl, sym, ◌∙◌, ap, subst, inl, inr, arith}
+use Rattle.std.proofs.Common.{◌≡◌, ◌≢◌, ℕ, zero, suc, ◌+◌, ◌-◌, ◌*◌, ◌/◌, ◌<◌, ◌≤◌, Bool, true, false, cond, List}
+use Rattle.std.proofs.Common.{length, get_or, Option, Some, None, ◌⊎◌, refl, sym, ◌∙◌, ap, subst, inl, inr, arith}
 use Rattle.std.proofs.Math.ListN.{set}
 use Rattle.def_matching.specs.Matching.{WeightedGraph, IsSmallGraph}
 use Rattle.def_forest.specs.Darts.{darts_of}
@@ -9,7 +10,8 @@ use Rattle.def_forest.specs.Valid.{IsRing}
 use Rattle.forest_laws.specs.Walks.{listed}
 use Rattle.forest_laws.proofs.Circles.{IsCircle, circle_from}
 use Rattle.forest_laws.proofs.Walks.{listed_at, listed_closed, listed_place, walk_front}
-use Rattle.qm_forest.specs.Rounds.{IsSoundFor, IsLaminar, IsPairing, IsRound, entered, far_at, near_at, waits_but, within}
+use Rattle.qm_forest.specs.Rounds.{IsSoundFor, IsLaminar, IsPairing, IsRound, entered, far_at, near_at, waits_but}
+use Rattle.qm_forest.specs.Rounds.{within}
 use Rattle.qm_forest.proofs.Apart.{walk_stays}
 use Rattle.qm_forest.proofs.Enclosed.{climbs_here}
 use Rattle.qm_forest.proofs.Nests.{climbs_place}
@@ -19,10 +21,17 @@ use Rattle.qm_forest.proofs.Pairings.{entered_size, entry_cases, paired_round}
 use Rattle.qm_forest.proofs.Withins.{climb_law, in_where, rank_walk, ring_front}
 
 -- The rest may be told otherwise.
-pub round_rest : (t : ForestTables) (marks : List Bool) (left : List (Option ℕ)) (rest rest2 due : ℕ → ℕ) → ((b : ℕ) → b < length t.up → rest b ≡ rest2 b) → IsRound t marks left rest due → IsRound t marks left rest2 due
-round_rest t marks left rest rest2 due same round = record { each = λ b l. omega (arith, round.each b l, same b l); entry = round.entry; once = round.once; tight = round.tight }
+pub round_rest : (t : ForestTables) (marks : List Bool) (left : List (Option ℕ)) (rest rest2 due : ℕ → ℕ)
+    → ((b : ℕ) → b < length t.up → rest b ≡ rest2 b) → IsRound t marks left rest due → IsRound t marks left rest2 due
+round_rest t marks left rest rest2 due same round = record {
+  each = λ b l. omega (arith, round.each b l, same b l);
+  entry = round.entry;
+  once = round.once;
+  tight = round.tight;
+}
 
-module _ (t : ForestTables) (known : IsLaminar t) (g : WeightedGraph) (is_small : IsSmallGraph g) (valid : IsSoundFor g t) (p : ℕ) (inner : up_at t.up p ≢ p) where
+module _ (t : ForestTables) (known : IsLaminar t) (g : WeightedGraph) (is_small : IsSmallGraph g)
+    (valid : IsSoundFor g t) (p : ℕ) (inner : up_at t.up p ≢ p) where
   abbrev after : ℕ → ℕ
   after k = get_or t.after k 0
 
@@ -40,11 +49,17 @@ module _ (t : ForestTables) (known : IsLaminar t) (g : WeightedGraph) (is_small 
 
   part : (x : ℕ) → inside x ≡ true → (up_at t.up x ≡ q) × (x ≢ q)
   part x on =
-      let w : (k : ℕ) × (k < many) × (walk after (get_or t.head q 0) k ≡ x) = listed_place after (get_or t.head q 0) many x on in
-      (ap (up_at t.up) (sym w.2) ∙ ring.inside w.0, (λ e. (let r : get_or t.rank (walk after (get_or t.head q 0) w.0) 0 < get_or t.rank q 0 = ring.lower w.0 in let same : get_or t.rank (walk after (get_or t.head q 0) w.0) 0 ≡ get_or t.rank q 0 = ap (λ z. get_or t.rank z 0) (w.2 ∙ e) in absurd (omega (arith, r, same)))))
+      let w : (k : ℕ) × (k < many) × (walk after (get_or t.head q 0) k ≡ x) =
+      listed_place after (get_or t.head q 0) many x on in (
+        ap (up_at t.up) (sym w.2) ∙ ring.inside w.0,
+        (λ e. (let r : get_or t.rank (walk after (get_or t.head q 0) w.0) 0 < get_or t.rank q 0 = ring.lower w.0 in
+            let same : get_or t.rank (walk after (get_or t.head q 0) w.0) 0 ≡ get_or t.rank q 0 =
+            ap (λ z. get_or t.rank z 0) (w.2 ∙ e) in absurd (omega (arith, r, same)))),
+      )
 
   parts : (x : ℕ) → up_at t.up x ≡ q → x ≢ q → inside x ≡ true
-  parts x e ne = (let w : (k : ℕ) × (k < many) × (walk after (get_or t.head q 0) k ≡ x) = ring.all x e ne in subst (λ y. inside y ≡ true) w.2 (listed_at after (get_or t.head q 0) many w.0 w.1))
+  parts x e ne = (let w : (k : ℕ) × (k < many) × (walk after (get_or t.head q 0) k ≡ x) = ring.all x e ne in
+      subst (λ y. inside y ≡ true) w.2 (listed_at after (get_or t.head q 0) many w.0 w.1))
 
   inner_part : (x : ℕ) → inside x ≡ true → up_at t.up x ≢ x
   inner_part x on e = (part x on).1 (sym e ∙ (part x on).0)
@@ -78,100 +93,167 @@ module _ (t : ForestTables) (known : IsLaminar t) (g : WeightedGraph) (is_small 
 
   -- Each part and the next are a pair.
   pub turn_pairing : (k x y d : ℕ) → x ≡ at (2 * k) → y ≡ after x → d ≡ get_or t.joint x 0 → IsPairing t x y d
-  turn_pairing k x y d x_is y_is d_is = subst (λ e. IsPairing t x y e) (sym d_is) (subst (λ z. IsPairing t x z (get_or t.joint x 0)) (sym y_is) (subst (λ z. IsPairing t z (after z) (get_or t.joint z 0)) (sym x_is) (at_pairing (2 * k))))
+  turn_pairing k x y d x_is y_is d_is =
+      subst (λ e. IsPairing t x y e) (sym d_is) (subst (λ z. IsPairing t x z (get_or t.joint x 0)) (sym y_is)
+      (subst (λ z. IsPairing t z (after z) (get_or t.joint z 0)) (sym x_is) (at_pairing (2 * k))))
 
   -- Before the first pair.
-  pub ring_begun : (marks : List Bool) (left : List (Option ℕ)) (rest due : ℕ → ℕ) (x k : ℕ) → x ≡ after p → k ≡ 0 → IsRound t marks left (λ b. sum_from (after p) (many - 1) b + rest b) due → IsRound t marks left (λ b. sum_from x (many - 1 - 2 * k) b + rest b) due
-  ring_begun marks left rest due x k x_is k_is round = round_rest t marks left (λ b. sum_from (after p) (many - 1) b + rest b) (λ b. sum_from x (many - 1 - 2 * k) b + rest b) due (λ b l. ap (λ m. m + rest b) (same b)) round
+  pub ring_begun : (marks : List Bool) (left : List (Option ℕ)) (rest due : ℕ → ℕ) (x k : ℕ) → x ≡ after p → k ≡ 0
+      → IsRound t marks left (λ b. sum_from (after p) (many - 1) b + rest b) due
+      → IsRound t marks left (λ b. sum_from x (many - 1 - 2 * k) b + rest b) due
+  ring_begun marks left rest due x k x_is k_is round =
+      round_rest t marks left (λ b. sum_from (after p) (many - 1) b + rest b) (λ b. sum_from x (many - 1 - 2 * k) b
+      + rest b) due (λ b l. ap (λ m. m + rest b) (same b)) round
     where
       same : (b : ℕ) → sum_from (after p) (many - 1) b ≡ sum_from x (many - 1 - 2 * k) b
-      same b = (let e : many - 1 ≡ many - 1 - 2 * k = omega (arith, k_is) in ap (λ m. sum_from (after p) m b) e ∙ ap (λ z. sum_from z (many - 1 - 2 * k) b) (sym x_is))
+      same b = (let e : many - 1 ≡ many - 1 - 2 * k = omega (arith, k_is) in ap (λ m. sum_from (after p) m b) e
+          ∙ ap (λ z. sum_from z (many - 1 - 2 * k) b) (sym x_is))
 
   -- The sets that wait after it are parts, or waited before.
-  pub turn_entries : (left left2 : List (Option ℕ)) (k x y d c v : ℕ) → x ≡ at (2 * k) → y ≡ after x → length left ≡ length t.up → left2 ≡ entered (length t.hand) (entered (length t.hand) left x (near_at t d)) y (far_at t d) → x < length t.up → y < length t.up
-      → get_or left2 c None ≡ Some v → (get_or left c None ≡ Some v) ⊎ (get_or t.rank c 0 < get_or t.rank (up_at t.up p) 0)
-  turn_entries left left2 k x y d c v x_is y_is size is low_x low_y e = by_last (entry_cases t known.vertices (alone t known) known.own (another t known g is_small valid) (entered (length t.hand) left x (near_at t d)) y (far_at t d) c (subst (λ m. y < m) (sym (entered_size t known.vertices (alone t known) known.own (another t known g is_small valid) left x (near_at t d) ∙ size)) low_y))
+  pub turn_entries : (left left2 : List (Option ℕ)) (k x y d c v : ℕ) → x ≡ at (2 * k) → y ≡ after x
+      → length left ≡ length t.up → left2 ≡ entered (length t.hand) (entered (length t.hand) left x (near_at t d)) y
+      (far_at t d) → x < length t.up → y < length t.up
+      → get_or left2 c None ≡ Some v → (get_or left c None ≡ Some v)
+      ⊎ (get_or t.rank c 0 < get_or t.rank (up_at t.up p) 0)
+  turn_entries left left2 k x y d c v x_is y_is size is low_x low_y e =
+      by_last (entry_cases t known.vertices (alone t known) known.own (another t known g is_small valid)
+      (entered (length t.hand) left x (near_at t d)) y (far_at t d) c
+      (subst (λ m. y < m) (sym (entered_size t known.vertices (alone t known) known.own
+      (another t known g is_small valid) left x (near_at t d) ∙ size)) low_y))
     where
-      now : get_or (entered (length t.hand) (entered (length t.hand) left x (near_at t d)) y (far_at t d)) c None ≡ Some v
+      now : get_or (entered (length t.hand) (entered (length t.hand) left x (near_at t d)) y (far_at t d)) c None
+          ≡ Some v
       now = ap (λ xs. get_or xs c None) (sym is) ∙ e
 
       below : (z j : ℕ) → z ≡ at j → c ≡ z → get_or t.rank c 0 < get_or t.rank (up_at t.up p) 0
       below z j z_is c_is =
-          let r : get_or t.rank (at j) 0 < get_or t.rank (up_at t.up (at j)) 0 = known.rises (at j) (inner_part (at j) (at_in j)) in
-          let a : get_or t.rank (up_at t.up (at j)) 0 ≡ get_or t.rank (up_at t.up p) 0 = ap (λ w. get_or t.rank w 0) (at_around j) in
+          let r : get_or t.rank (at j) 0 < get_or t.rank (up_at t.up (at j)) 0 =
+          known.rises (at j) (inner_part (at j) (at_in j)) in
+          let a : get_or t.rank (up_at t.up (at j)) 0 ≡ get_or t.rank (up_at t.up p) 0 =
+          ap (λ w. get_or t.rank w 0) (at_around j) in
           let s : get_or t.rank c 0 ≡ get_or t.rank (at j) 0 = ap (λ w. get_or t.rank w 0) (c_is ∙ z_is) in
           omega (arith, r, a, s)
 
-      by_first : ((length t.hand ≤ x) × (c ≡ x) × (get_or (entered (length t.hand) left x (near_at t d)) c None ≡ Some (near_at t d))) ⊎ (get_or (entered (length t.hand) left x (near_at t d)) c None ≡ get_or left c None)
-          → get_or (entered (length t.hand) left x (near_at t d)) c None ≡ Some v → (get_or left c None ≡ Some v) ⊎ (get_or t.rank c 0 < get_or t.rank (up_at t.up p) 0)
+      by_first : ((length t.hand ≤ x) × (c ≡ x) × (get_or (entered (length t.hand) left x (near_at t d)) c None
+          ≡ Some (near_at t d))) ⊎ (get_or (entered (length t.hand) left x (near_at t d)) c None
+          ≡ get_or left c None)
+          → get_or (entered (length t.hand) left x (near_at t d)) c None ≡ Some v → (get_or left c None ≡ Some v)
+          ⊎ (get_or t.rank c 0 < get_or t.rank (up_at t.up p) 0)
       by_first (inl w) here = inr (below x (2 * k) x_is w.1)
       by_first (inr same) here = inl (sym same ∙ here)
 
-      by_last : ((length t.hand ≤ y) × (c ≡ y) × (get_or (entered (length t.hand) (entered (length t.hand) left x (near_at t d)) y (far_at t d)) c None ≡ Some (far_at t d))) ⊎ (get_or (entered (length t.hand) (entered (length t.hand) left x (near_at t d)) y (far_at t d)) c None ≡ get_or (entered (length t.hand) left x (near_at t d)) c None)
+      by_last : ((length t.hand ≤ y) × (c ≡ y)
+          × (get_or (entered (length t.hand) (entered (length t.hand) left x (near_at t d)) y (far_at t d)) c None
+          ≡ Some (far_at t d))) ⊎ (get_or (entered (length t.hand) (entered (length t.hand) left x (near_at t d)) y
+          (far_at t d)) c None ≡ get_or (entered (length t.hand) left x (near_at t d)) c None)
           → (get_or left c None ≡ Some v) ⊎ (get_or t.rank c 0 < get_or t.rank (up_at t.up p) 0)
       by_last (inl w) = inr (below y (suc (2 * k)) (y_is ∙ ap after x_is) w.1)
-      by_last (inr same) = by_first (entry_cases t known.vertices (alone t known) known.own (another t known g is_small valid) left x (near_at t d) c (subst (λ m. x < m) (sym size) low_x)) (sym same ∙ now)
+      by_last (inr same) = by_first (entry_cases t known.vertices (alone t known) known.own
+          (another t known g is_small valid) left x (near_at t d) c (subst (λ m. x < m) (sym size) low_x)) (sym same
+          ∙ now)
 
   -- One pair more.
-  pub ring_turn : (marks marks2 : List Bool) (left left2 : List (Option ℕ)) (rest due : ℕ → ℕ) (k j x y d : ℕ) → x ≡ at (2 * k) → k < many / 2 → y ≡ after x → d ≡ get_or t.joint x 0 → j ≡ k + 1 → length t.near ≡ 2 * length marks → length left ≡ length t.up
-      → marks2 ≡ set marks (d / 2) true → left2 ≡ entered (length t.hand) (entered (length t.hand) left x (near_at t d)) y (far_at t d)
-      → IsRound t marks left (λ b. sum_from x (many - 1 - 2 * k) b + rest b) due → IsRound t marks2 left2 (λ b. sum_from (after y) (many - 1 - 2 * j) b + rest b) due
-  ring_turn marks marks2 left left2 rest due k j x y d x_is low y_is d_is j_is size_marks size_left marks_is left_is round =
+  pub ring_turn : (marks marks2 : List Bool) (left left2 : List (Option ℕ)) (rest due : ℕ → ℕ) (k j x y d : ℕ)
+      → x ≡ at (2 * k) → k < many / 2 → y ≡ after x → d ≡ get_or t.joint x 0 → j ≡ k + 1
+      → length t.near ≡ 2 * length marks → length left ≡ length t.up
+      → marks2 ≡ set marks (d / 2) true → left2 ≡ entered (length t.hand) (entered (length t.hand) left x (near_at t d))
+      y (far_at t d)
+      → IsRound t marks left (λ b. sum_from x (many - 1 - 2 * k) b + rest b) due
+      → IsRound t marks2 left2 (λ b. sum_from (after y) (many - 1 - 2 * j) b + rest b) due
+  ring_turn marks marks2 left left2 rest due k j x y d x_is low y_is d_is j_is size_marks size_left marks_is left_is
+      round =
       subst (λ ms. IsRound t ms left2 (λ b. sum_from (after y) (many - 1 - 2 * j) b + rest b) due) (sym marks_is)
-      (subst (λ ls. IsRound t (set marks (d / 2) true) ls (λ b. sum_from (after y) (many - 1 - 2 * j) b + rest b) due) (sym left_is)
-      (paired_round t known.vertices (alone t known) known.own (another t known g is_small valid) marks left x y d (λ b. sum_from (after y) (many - 1 - 2 * j) b + rest b) due size_marks size_left
-      (round_rest t marks left (λ b. sum_from x (many - 1 - 2 * k) b + rest b) (λ b. (bool_number (within t b x) + bool_number (within t b y)) + (sum_from (after y) (many - 1 - 2 * j) b + rest b)) due (λ b l. peeled b) round) (turn_pairing k x y d x_is y_is d_is)))
+      (subst (λ ls. IsRound t (set marks (d / 2) true) ls (λ b. sum_from (after y) (many - 1 - 2 * j) b + rest b) due)
+      (sym left_is)
+      (paired_round t known.vertices (alone t known) known.own (another t known g is_small valid) marks left x y d
+      (λ b. sum_from (after y) (many - 1 - 2 * j) b + rest b) due size_marks size_left
+      (round_rest t marks left (λ b. sum_from x (many - 1 - 2 * k) b + rest b)
+      (λ b. (bool_number (within t b x) + bool_number (within t b y))
+      + (sum_from (after y) (many - 1 - 2 * j) b + rest b)) due (λ b l. peeled b) round)
+      (turn_pairing k x y d x_is y_is d_is)))
     where
-      peeled : (b : ℕ) → sum_from x (many - 1 - 2 * k) b + rest b ≡ (bool_number (within t b x) + bool_number (within t b y)) + (sum_from (after y) (many - 1 - 2 * j) b + rest b)
+      peeled : (b : ℕ) → sum_from x (many - 1 - 2 * k) b + rest b
+          ≡ (bool_number (within t b x) + bool_number (within t b y))
+          + (sum_from (after y) (many - 1 - 2 * j) b + rest b)
       peeled b =
           let two : many - 1 - 2 * k ≡ suc (suc (many - 1 - 2 * j)) = omega (arith, ring.odd, low, j_is) in
-          let one : sum_from x (many - 1 - 2 * k) b ≡ sum_from x (suc (suc (many - 1 - 2 * j))) b = ap (λ m. sum_from x m b) two in
-          let first : sum_from x (suc (suc (many - 1 - 2 * j))) b ≡ bool_number (within t b x) + sum_from (after x) (suc (many - 1 - 2 * j)) b = ring_front after (λ r. bool_number (within t b r)) x (suc (many - 1 - 2 * j)) in
-          let second : sum_from (after x) (suc (many - 1 - 2 * j)) b ≡ bool_number (within t b (after x)) + sum_from (after (after x)) (many - 1 - 2 * j) b = ring_front after (λ r. bool_number (within t b r)) (after x) (many - 1 - 2 * j) in
-          let next : bool_number (within t b (after x)) ≡ bool_number (within t b y) = ap (λ z. bool_number (within t b z)) (sym y_is) in
-          let more : sum_from (after (after x)) (many - 1 - 2 * j) b ≡ sum_from (after y) (many - 1 - 2 * j) b = ap (λ z. sum_from (after z) (many - 1 - 2 * j) b) (sym y_is) in
+          let one : sum_from x (many - 1 - 2 * k) b ≡ sum_from x (suc (suc (many - 1 - 2 * j))) b =
+          ap (λ m. sum_from x m b) two in
+          let first : sum_from x (suc (suc (many - 1 - 2 * j))) b ≡ bool_number (within t b x) + sum_from (after x)
+          (suc (many - 1 - 2 * j)) b =
+          ring_front after (λ r. bool_number (within t b r)) x (suc (many - 1 - 2 * j)) in
+          let second : sum_from (after x) (suc (many - 1 - 2 * j)) b ≡ bool_number (within t b (after x)) + sum_from
+          (after (after x)) (many - 1 - 2 * j) b = ring_front after (λ r. bool_number (within t b r)) (after x)
+          (many - 1 - 2 * j) in
+          let next : bool_number (within t b (after x)) ≡ bool_number (within t b y) =
+          ap (λ z. bool_number (within t b z)) (sym y_is) in
+          let more : sum_from (after (after x)) (many - 1 - 2 * j) b ≡ sum_from (after y) (many - 1 - 2 * j) b =
+          ap (λ z. sum_from (after z) (many - 1 - 2 * j) b) (sym y_is) in
           omega (arith, one, first, second, next, more)
 
   -- All pairs.
-  pub ring_ended : (marks : List Bool) (left : List (Option ℕ)) (rest due : ℕ → ℕ) (k x : ℕ) → k ≡ many / 2 → IsRound t marks left (λ b. sum_from x (many - 1 - 2 * k) b + rest b) due → IsRound t marks left rest due
-  ring_ended marks left rest due k x k_is round = round_rest t marks left (λ b. sum_from x (many - 1 - 2 * k) b + rest b) rest due (λ b l. none b) round
+  pub ring_ended : (marks : List Bool) (left : List (Option ℕ)) (rest due : ℕ → ℕ) (k x : ℕ) → k ≡ many / 2
+      → IsRound t marks left (λ b. sum_from x (many - 1 - 2 * k) b + rest b) due → IsRound t marks left rest due
+  ring_ended marks left rest due k x k_is round =
+      round_rest t marks left (λ b. sum_from x (many - 1 - 2 * k) b + rest b) rest due (λ b l. none b) round
     where
       none : (b : ℕ) → sum_from x (many - 1 - 2 * k) b + rest b ≡ rest b
-      none b = (let z : many - 1 - 2 * k ≡ 0 = omega (arith, ring.odd, k_is) in let s : sum_from x (many - 1 - 2 * k) b ≡ 0 = ap (λ m. sum_from x m b) z in omega (arith, s))
+      none b = (let z : many - 1 - 2 * k ≡ 0 = omega (arith, ring.odd, k_is) in let s : sum_from x (many - 1 - 2 * k) b
+          ≡ 0 = ap (λ m. sum_from x m b) z in omega (arith, s))
 
   -- From a part to its set.
-  pub ring_climb : (marks : List Bool) (left : List (Option ℕ)) (rest due : ℕ → ℕ) (v c j : ℕ) → within t v p ≡ true → v < length t.hand → walk (up_at t.up) q j ≡ c → get_or t.rank c 0 ≤ length t.hand → get_or t.rank q 0 ≤ length t.hand
-      → IsRound t marks left (λ b. cond (within t b p) 0 (waits_but t b c v) + rest b) due → IsRound t marks left (λ b. sum_from (after p) (many - 1) b + (cond (within t b q) 0 (waits_but t b c v) + rest b)) due
+  pub ring_climb : (marks : List Bool) (left : List (Option ℕ)) (rest due : ℕ → ℕ) (v c j : ℕ) → within t v p ≡ true
+      → v < length t.hand → walk (up_at t.up) q j ≡ c → get_or t.rank c 0 ≤ length t.hand
+      → get_or t.rank q 0 ≤ length t.hand
+      → IsRound t marks left (λ b. cond (within t b p) 0 (waits_but t b c v) + rest b) due
+      → IsRound t marks left (λ b. sum_from (after p) (many - 1) b
+      + (cond (within t b q) 0 (waits_but t b c v) + rest b)) due
   ring_climb marks left rest due v c j held lv climbs' low_c low_q round =
-      round_rest t marks left (λ b. cond (within t b p) 0 (waits_but t b c v) + rest b) (λ b. sum_from (after p) (many - 1) b + (cond (within t b q) 0 (waits_but t b c v) + rest b)) due (λ b l.
-      (let law : cond (within t b p) 0 (waits_but t b c v) ≡ sum_from (after p) (many - 1) b + cond (within t b q) 0 (waits_but t b c v)
-      = climb_law (length t.hand) (up_at t.up) (λ z. get_or t.rank z 0) known.rises p q v c many after inside circle part parts low low_q low_c held j climbs' b in
+      round_rest t marks left (λ b. cond (within t b p) 0 (waits_but t b c v) + rest b)
+      (λ b. sum_from (after p) (many - 1) b + (cond (within t b q) 0 (waits_but t b c v) + rest b)) due (λ b l.
+      (let law : cond (within t b p) 0 (waits_but t b c v) ≡ sum_from (after p) (many - 1) b + cond (within t b q) 0
+      (waits_but t b c v)
+      = climb_law (length t.hand) (up_at t.up) (λ z. get_or t.rank z 0) known.rises p q v c many after inside circle
+      part parts low low_q low_c held j climbs' b in
       omega (arith, law))) round
     where
       low : (x : ℕ) → inside x ≡ true → get_or t.rank x 0 ≤ length t.hand
-      low x on = (let r : get_or t.rank x 0 < get_or t.rank (up_at t.up x) 0 = known.rises x (inner_part x on) in let s : get_or t.rank (up_at t.up x) 0 ≡ get_or t.rank q 0 = ap (λ z. get_or t.rank z 0) (part x on).0 in omega (arith, r, s, low_q))
+      low x on = (let r : get_or t.rank x 0 < get_or t.rank (up_at t.up x) 0 = known.rises x (inner_part x on) in
+          let s : get_or t.rank (up_at t.up x) 0 ≡ get_or t.rank q 0 = ap (λ z. get_or t.rank z 0) (part x on).0 in
+          omega (arith, r, s, low_q))
 
 -- Going up from a vertex: at it, at each step, and at the end.
 module _ (t : ForestTables) (known : IsLaminar t) (v c : ℕ) (lv : v < length t.hand) (held : within t v c ≡ true) where
   pub top_rank : get_or t.rank c 0 ≤ length t.hand
   top_rank = known.passed c v lv held
 
-  pub climb_begins : (marks : List Bool) (left : List (Option ℕ)) (rest due : ℕ → ℕ) → IsRound t marks left (λ b. waits_but t b c v + rest b) due → IsRound t marks left (λ b. cond (within t b v) 0 (waits_but t b c v) + rest b) due
-  climb_begins marks left rest due round = round_rest t marks left (λ b. waits_but t b c v + rest b) (λ b. cond (within t b v) 0 (waits_but t b c v) + rest b) due (λ b l. ap (λ m. m + rest b) (same b (cases_Bool (within t b v)))) round
+  pub climb_begins : (marks : List Bool) (left : List (Option ℕ)) (rest due : ℕ → ℕ)
+      → IsRound t marks left (λ b. waits_but t b c v + rest b) due
+      → IsRound t marks left (λ b. cond (within t b v) 0 (waits_but t b c v) + rest b) due
+  climb_begins marks left rest due round =
+      round_rest t marks left (λ b. waits_but t b c v + rest b) (λ b. cond (within t b v) 0 (waits_but t b c v)
+      + rest b) due (λ b l. ap (λ m. m + rest b) (same b (cases_Bool (within t b v)))) round
     where
       nothing : (s : Bool) → ◌≡◌ {A = ℕ} (cond s 0 0) 0
       nothing true = refl
       nothing false = refl
 
-      same : (b : ℕ) → (within t b v ≡ true) ⊎ (within t b v ≡ false) → waits_but t b c v ≡ cond (within t b v) 0 (waits_but t b c v)
+      same : (b : ℕ) → (within t b v ≡ true) ⊎ (within t b v ≡ false)
+          → waits_but t b c v ≡ cond (within t b v) 0 (waits_but t b c v)
       same b (inr off) = sym (cond-false (within t b v) 0 (waits_but t b c v) off)
       same b (inl on) =
-          let own : (forest_of t).holds b v ≡ true = ap (λ z. (forest_of t).holds z v) (known.own b v lv on) ∙ climbs_here (up_at t.up) (length t.hand) v in
-          ap (λ (s : Bool). cond (within t b c) (cond s 0 1) 0) own ∙ (nothing (within t b c) ∙ sym (cond-true (within t b v) 0 (waits_but t b c v) on))
+          let own : (forest_of t).holds b v ≡ true = ap (λ z. (forest_of t).holds z v) (known.own b v lv on)
+          ∙ climbs_here (up_at t.up) (length t.hand) v in
+          ap (λ (s : Bool). cond (within t b c) (cond s 0 1) 0) own
+          ∙ (nothing (within t b c) ∙ sym (cond-true (within t b v) 0 (waits_but t b c v) on))
 
-  pub climb_ends : (marks : List Bool) (left : List (Option ℕ)) (rest due : ℕ → ℕ) (p : ℕ) → p ≡ c → IsRound t marks left (λ b. cond (within t b p) 0 (waits_but t b c v) + rest b) due → IsRound t marks left rest due
-  climb_ends marks left rest due p p_is round = round_rest t marks left (λ b. cond (within t b p) 0 (waits_but t b c v) + rest b) rest due (λ b l.
-      (let first : cond (within t b p) 0 (waits_but t b c v) ≡ cond (within t b c) 0 (waits_but t b c v) = ap (λ z. cond (within t b z) 0 (waits_but t b c v)) p_is in
+  pub climb_ends : (marks : List Bool) (left : List (Option ℕ)) (rest due : ℕ → ℕ) (p : ℕ) → p ≡ c
+      → IsRound t marks left (λ b. cond (within t b p) 0 (waits_but t b c v) + rest b) due
+      → IsRound t marks left rest due
+  climb_ends marks left rest due p p_is round =
+      round_rest t marks left (λ b. cond (within t b p) 0 (waits_but t b c v) + rest b) rest due (λ b l.
+      (let first : cond (within t b p) 0 (waits_but t b c v) ≡ cond (within t b c) 0 (waits_but t b c v) =
+      ap (λ z. cond (within t b z) 0 (waits_but t b c v)) p_is in
       let second : ◌≡◌ {A = ℕ} (cond (within t b c) 0 (waits_but t b c v)) 0 = none b (within t b c) in
       omega (arith, first, second))) round
     where
@@ -192,8 +274,10 @@ module _ (t : ForestTables) (known : IsLaminar t) (v c : ℕ) (lv : v < length t
 
     pub next_rank : get_or t.rank (up_at t.up p) 0 ≤ get_or t.rank c 0
     next_rank =
-        let h : get_or t.rank (up_at t.up p) 0 ≤ get_or t.rank (walk (up_at t.up) (up_at t.up p) above_more.0) 0 = rank_walk (length t.hand) (up_at t.up) (λ z. get_or t.rank z 0) known.rises (up_at t.up p) above_more.0 in
-        let s : get_or t.rank (walk (up_at t.up) (up_at t.up p) above_more.0) 0 ≡ get_or t.rank c 0 = ap (λ z. get_or t.rank z 0) above_more.1 in
+        let h : get_or t.rank (up_at t.up p) 0 ≤ get_or t.rank (walk (up_at t.up) (up_at t.up p) above_more.0) 0 =
+        rank_walk (length t.hand) (up_at t.up) (λ z. get_or t.rank z 0) known.rises (up_at t.up p) above_more.0 in
+        let s : get_or t.rank (walk (up_at t.up) (up_at t.up p) above_more.0) 0 ≡ get_or t.rank c 0 =
+        ap (λ z. get_or t.rank z 0) above_more.1 in
         omega (arith, h, s)
 
     pub rises_here : get_or t.rank p 0 < get_or t.rank (up_at t.up p) 0
@@ -201,4 +285,5 @@ module _ (t : ForestTables) (known : IsLaminar t) (v c : ℕ) (lv : v < length t
 
     pub held_more : within t v p ≡ true → within t v (up_at t.up p) ≡ true
     held_more on = (let w : (i : ℕ) × (walk (up_at t.up) v i ≡ p) = climbs_place (up_at t.up) (length t.hand) p v on in
-        in_where (length t.hand) (up_at t.up) (λ z. get_or t.rank z 0) known.rises v (up_at t.up p) (suc w.0) (omega (arith, next_rank, top_rank)) (ap (up_at t.up) w.1))
+        in_where (length t.hand) (up_at t.up) (λ z. get_or t.rank z 0) known.rises v (up_at t.up p) (suc w.0)
+        (omega (arith, next_rank, top_rank)) (ap (up_at t.up) w.1))

@@ -1,5 +1,6 @@
 -- Tied tables with another room, and room that is blank.
-use Rattle.std.proofs.Common.{◌≡◌, ◌≢◌, ℕ, ◌+◌, ◌/◌, ◌<◌, ◌≤◌, length, get_or, None, inl, inr, sym, ◌∙◌, ap, subst, arith}
+use Rattle.std.proofs.Common.{◌≡◌, ◌≢◌, ℕ, ◌+◌, ◌/◌, ◌<◌, ◌≤◌, length, get_or, None, inl, inr, sym, ◌∙◌, ap, subst}
+use Rattle.std.proofs.Common.{arith}
 use Rattle.std.proofs.lemmas.Bool.{cases_lt}
 use Rattle.std.proofs.lemmas.Grind.{get_or_default_zero}
 use Rattle.std.proofs.lemmas.List.{get_or_past, length-replicate}
@@ -12,8 +13,11 @@ use Rattle.qm_forest.proofs.Chosens.{round_begins}
 use Rattle.qm_forest.specs.Ties.{AreTied, HiddenTables}
 
 -- The room of a forest is as large as what it comes to.
-module _ (t : ForestTables) (known : IsLaminar t) (whole : length t.up ≡ length t.hand + length t.hand / 2) (g : WeightedGraph) (valid : IsSoundFor g t) (n : ℕ) (round : Round) (sets y z : ℕ) (blank : IsBlank n round sets y z)
-    (s : GraphSize) (view_is : ◌≡◌ {A = GraphSize} (record { vertices = n; edges = length round.marks.items }) s) (room : s ≡ size_of g) where
+module _ (t : ForestTables) (known : IsLaminar t) (whole : length t.up ≡ length t.hand + length t.hand / 2)
+    (g : WeightedGraph) (valid : IsSoundFor g t) (n : ℕ) (round : Round) (sets y z : ℕ)
+    (blank : IsBlank n round sets y z)
+    (s : GraphSize) (view_is : ◌≡◌ {A = GraphSize} (record { vertices = n; edges = length round.marks.items }) s)
+    (room : s ≡ size_of g) where
   n_is : n ≡ length t.hand
   n_is = ap (λ (r : GraphSize). r.vertices) (view_is ∙ room) ∙ sym valid.vertices
 
@@ -31,7 +35,8 @@ module _ (t : ForestTables) (known : IsLaminar t) (whole : length t.up ≡ lengt
   }
 
   pub room_begun : IsRound t round.marks.items round.left_out.items (λ b. 0) (λ b. 0)
-  room_begun = round_begins t round.marks.items round.left_out.items (length round.marks.items) (n + n / 2) (λ b. 0) blank.marks blank.left_out (λ v l. omega arith)
+  room_begun = round_begins t round.marks.items round.left_out.items (length round.marks.items) (n + n / 2) (λ b. 0)
+      blank.marks blank.left_out (λ v l. omega arith)
 
   pub room_y_is : length t.hand ≤ y
   room_y_is = omega (arith, blank.room_y, n_is)
@@ -50,8 +55,14 @@ module _ (t : ForestTables) (hid : HiddenTables) (tied : AreTied t hid) where
   pub inner_low : (x : ℕ) → up_at t.up x ≢ x → x < length t.up
   inner_low x ne = elim (cases_lt x (length t.up)) [ inl l ↦ l | inr h ↦ absurd (ne (get_or_past t.up x x h)) ]
 
-  pub around_used : (x : ℕ) → up_at t.up x ≢ x → (length t.hand ≤ up_at t.up x) × (up_at t.up x < length t.up) × (get_or t.parts (up_at t.up x) 0 ≢ 0)
-  around_used x ne = ((tied.nest.around x ne).0, subst (λ b. b < length t.up) (sym (get_or_default_zero t.up x x (inner_low x ne))) (tied.nest.ups x (inner_low x ne)), (tied.nest.around x ne).1)
+  pub around_used : (x : ℕ) → up_at t.up x ≢ x → (length t.hand ≤ up_at t.up x) × (up_at t.up x < length t.up)
+      × (get_or t.parts (up_at t.up x) 0 ≢ 0)
+  around_used x ne = (
+    (tied.nest.around x ne).0,
+    subst (λ b. b < length t.up) (sym (get_or_default_zero t.up x x (inner_low x ne)))
+        (tied.nest.ups x (inner_low x ne)),
+    (tied.nest.around x ne).1,
+  )
 
   pub inner_live : (x : ℕ) → up_at t.up x ≢ x → length t.hand ≤ x → get_or t.parts x 0 ≢ 0
   inner_live x ne high none = ne (tied.nest.idle x high none)

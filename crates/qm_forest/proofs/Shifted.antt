@@ -1,5 +1,6 @@
 -- What a shift does to the tables.
-use Rattle.std.proofs.Common.{◌≡◌, ℕ, ◌<◌, ◌≤◌, ◌^◌, length, ℤ, pos, ◌+ℤ◌, ◌≤ℤ◌, Option, Some, None, is_some, true, false, refl, sym, ◌∙◌, ap, subst, arith}
+use Rattle.std.proofs.Common.{◌≡◌, ℕ, ◌<◌, ◌≤◌, ◌^◌, length, ℤ, pos, ◌+ℤ◌, ◌≤ℤ◌, Option, Some, None, is_some, true}
+use Rattle.std.proofs.Common.{false, refl, sym, ◌∙◌, ap, subst, arith}
 use Rattle.std.specs.Prelude.{unsigned_abs}
 use Rattle.std.proofs.lemmas.Int.{ints}
 use Rattle.def_matching.specs.Matching.{WeightedGraph, IsGraph}
@@ -31,7 +32,8 @@ change_low Inner s h = omega (arith, ints)
 change_low Outside s h = omega (arith, ints)
 
 -- The forest sees the shift.
-pub seen_shift : (t : ForestTables) (s d : ℤ) → d ≡ t.delta +ℤ s → forest_of (record t { delta = d }) ≡ shifted (forest_of t) s
+pub seen_shift : (t : ForestTables) (s d : ℤ) → d ≡ t.delta +ℤ s → forest_of (record t { delta = d })
+    ≡ shifted (forest_of t) s
 seen_shift t s d e i = record {
   size = (forest_of t).size;
   holds = (forest_of t).holds;
@@ -43,11 +45,15 @@ seen_shift t s d e i = record {
   nest = (forest_of t).nest;
 }
   where
-    weight : (b : ℕ) → (forest_of (record t { delta = d })).weight b ≡ (forest_of t).weight b +ℤ weight_change (label_at t.label b) s
-    weight b = let h : weight_change (label_at t.label b) d ≡ weight_change (label_at t.label b) t.delta +ℤ weight_change (label_at t.label b) s = ap (weight_change (label_at t.label b)) e ∙ change_sum (label_at t.label b) t.delta s in omega (arith, ints, h)
+    weight : (b : ℕ) → (forest_of (record t { delta = d })).weight b ≡ (forest_of t).weight b +ℤ weight_change
+        (label_at t.label b) s
+    weight b = let h : weight_change (label_at t.label b) d ≡ weight_change (label_at t.label b) t.delta +ℤ
+        weight_change (label_at t.label b) s = ap (weight_change (label_at t.label b)) e
+        ∙ change_sum (label_at t.label b) t.delta s in omega (arith, ints, h)
 
 -- Where no tree stands a shift changes nothing.
-pub seen_still : (g : WeightedGraph) (t : ForestTables) (s : ℤ) → IsValidFor g t → t.root ≡ None → forest_of t ≡ shifted (forest_of t) s
+pub seen_still : (g : WeightedGraph) (t : ForestTables) (s : ℤ) → IsValidFor g t → t.root ≡ None
+    → forest_of t ≡ shifted (forest_of t) s
 seen_still g t s valid none i = record {
   size = (forest_of t).size;
   holds = (forest_of t).holds;
@@ -60,18 +66,25 @@ seen_still g t s valid none i = record {
 }
   where
     weight : (b : ℕ) → (forest_of t).weight b ≡ (forest_of t).weight b +ℤ weight_change (label_at t.label b) s
-    weight b = let h : weight_change (label_at t.label b) s ≡ pos 0 = ap (λ (l : Label). weight_change l s) (valid.valid.no_tree none b) in omega (arith, ints, h)
+    weight b = let h : weight_change (label_at t.label b) s ≡ pos 0 =
+        ap (λ (l : Label). weight_change l s) (valid.valid.no_tree none b) in omega (arith, ints, h)
 
-module _ (t : ForestTables) (hid : HiddenTables) (tied : AreTied t hid) (g : WeightedGraph) (is : IsGraph g) (valid : IsValidFor g t) (r : ℕ) (root : t.root ≡ Some r) (s d : ℤ) (d_is : d ≡ t.delta +ℤ s) (high : pos 0 ≤ℤ s)
+module _ (t : ForestTables) (hid : HiddenTables) (tied : AreTied t hid) (g : WeightedGraph) (is : IsGraph g)
+    (valid : IsValidFor g t) (r : ℕ) (root : t.root ≡ Some r) (s d : ℤ) (d_is : d ≡ t.delta +ℤ s) (high : pos 0 ≤ℤ s)
     (small : (b : ℕ) → unsigned_abs ((shifted (forest_of t) s).weight b) ≤ 2 ^ 62) where
   valid_root : IsValid (darts_of g) (forest_of t) (Some r)
   valid_root = subst (λ (o : Option ℕ). IsValid (darts_of g) (forest_of t) o) root valid.valid
 
   sum_is : dual_sum_of (forest_of (record t { delta = d })) ≡ dual_sum_of (forest_of t) +ℤ s
-  sum_is = ap dual_sum_of (seen_shift t s d d_is) ∙ sum_rises (darts_of g) (are_darts g is) (forest_of t) r valid_root (valid_root.tree r refl) s
+  sum_is = ap dual_sum_of (seen_shift t s d d_is) ∙ sum_rises (darts_of g) (are_darts g is) (forest_of t) r valid_root
+      (valid_root.tree r refl) s
 
-  added_is : (v : ℕ) → added t.hand t.top hid.off t.label d v ≡ added t.hand t.top hid.off t.label t.delta v +ℤ weight_change (label_at t.label (out_of t.hand t.top v)) s
-  added_is v = let h : weight_change (label_at t.label (out_of t.hand t.top v)) d ≡ weight_change (label_at t.label (out_of t.hand t.top v)) t.delta +ℤ weight_change (label_at t.label (out_of t.hand t.top v)) s = ap (weight_change (label_at t.label (out_of t.hand t.top v))) d_is ∙ change_sum (label_at t.label (out_of t.hand t.top v)) t.delta s in omega (arith, ints, h)
+  added_is : (v : ℕ) → added t.hand t.top hid.off t.label d v ≡ added t.hand t.top hid.off t.label t.delta v +ℤ
+      weight_change (label_at t.label (out_of t.hand t.top v)) s
+  added_is v = let h : weight_change (label_at t.label (out_of t.hand t.top v)) d
+      ≡ weight_change (label_at t.label (out_of t.hand t.top v)) t.delta +ℤ weight_change
+      (label_at t.label (out_of t.hand t.top v)) s = ap (weight_change (label_at t.label (out_of t.hand t.top v))) d_is
+      ∙ change_sum (label_at t.label (out_of t.hand t.top v)) t.delta s in omega (arith, ints, h)
 
   -- The tie after a shift.
   pub tied_shift : AreTied (record t { delta = d }) hid
@@ -83,8 +96,18 @@ module _ (t : ForestTables) (hid : HiddenTables) (tied : AreTied t hid) (g : Wei
       small = λ b. subst (λ (f : Forest). unsigned_abs (f.weight b) ≤ 2 ^ 62) (sym (seen_shift t s d d_is)) (small b);
       start = tied.numbers.start;
       small_start = tied.numbers.small_start;
-      moved = λ v lv. omega (arith, ints, sum_is, added_is v, tied.numbers.moved v lv, change_low (label_at t.label (out_of t.hand t.top v)) s high);
-      risen = (omega (arith, ints, d_is, tied.numbers.risen.0), omega (arith, ints, d_is, sum_is, tied.numbers.risen.1));
+      moved = λ v lv. omega (
+        arith,
+        ints,
+        sum_is,
+        added_is v,
+        tied.numbers.moved v lv,
+        change_low (label_at t.label (out_of t.hand t.top v)) s high,
+      );
+      risen = (
+        omega (arith, ints, d_is, tied.numbers.risen.0),
+        omega (arith, ints, d_is, sum_is, tied.numbers.risen.1),
+      );
       still = λ none. absurd (clash (sym root ∙ none));
     };
     trail = tied.trail;
@@ -94,32 +117,48 @@ module _ (t : ForestTables) (hid : HiddenTables) (tied : AreTied t hid) (g : Wei
       clash : Some r ≡ None → ⊥
       clash e = cc
 
-      potentials : (v : ℕ) → v < length t.hand → potential (forest_of (record t { delta = d })) v ≡ told hid.q t.hand t.top hid.off t.label d v
+      potentials : (v : ℕ) → v < length t.hand → potential (forest_of (record t { delta = d })) v
+          ≡ told hid.q t.hand t.top hid.off t.label d v
       potentials v lv =
-          let p : potential (forest_of (record t { delta = d })) v ≡ potential (shifted (forest_of t) s) v = ap (λ (f : Forest). potential f v) (seen_shift t s d d_is) in
-          let h : potential (shifted (forest_of t) s) v ≡ potential (forest_of t) v +ℤ weight_change (label_at t.label (out_of t.hand t.top v)) s = potential_shifted g.n (forest_of t) valid.valid.outermost s v (subst (λ n. v < n) valid.vertices lv) in
+          let p : potential (forest_of (record t { delta = d })) v ≡ potential (shifted (forest_of t) s) v =
+          ap (λ (f : Forest). potential f v) (seen_shift t s d d_is) in
+          let h : potential (shifted (forest_of t) s) v ≡ potential (forest_of t) v +ℤ weight_change
+          (label_at t.label (out_of t.hand t.top v)) s =
+          potential_shifted g.n (forest_of t) valid.valid.outermost s v (subst (λ n. v < n) valid.vertices lv) in
           omega (arith, ints, p, h, tied.numbers.potentials v lv, added_is v)
 
 -- The forest is valid after a shift whose end is feasible.
-pub valid_shift : (t u : ForestTables) (g : WeightedGraph) (s : ℤ) → IsGraph g → IsValidFor g t → IsFeasible (darts_of g) (shifted (forest_of t) s) → forest_of u ≡ shifted (forest_of t) s → u.hand ≡ t.hand → u.root ≡ t.root → fixed_of u ≡ fixed_of t → IsValidFor g u
+pub valid_shift : (t u : ForestTables) (g : WeightedGraph) (s : ℤ) → IsGraph g → IsValidFor g t
+    → IsFeasible (darts_of g) (shifted (forest_of t) s) → forest_of u ≡ shifted (forest_of t) s → u.hand ≡ t.hand
+    → u.root ≡ t.root → fixed_of u ≡ fixed_of t → IsValidFor g u
 valid_shift t u g s is valid feasible seen hand root fixed = record {
   vertices = ap length hand ∙ valid.vertices;
   darts = darts_kept g t u valid fixed;
   ends = ends_kept g t u valid fixed;
   room = room_kept g t u valid fixed;
-  valid = subst (λ (f : Forest). IsValid (darts_of g) f u.root) (sym seen) (subst (λ (o : Option ℕ). IsValid (darts_of g) (shifted (forest_of t) s) o) (sym root) (shift_valid (darts_of g) (are_darts g is) (forest_of t) t.root valid.valid s feasible));
+  valid = subst (λ (f : Forest). IsValid (darts_of g) f u.root) (sym seen)
+      (subst (λ (o : Option ℕ). IsValid (darts_of g) (shifted (forest_of t) s) o) (sym root)
+      (shift_valid (darts_of g) (are_darts g is) (forest_of t) t.root valid.valid s feasible));
 }
 
 -- The forest is valid after a blossom has become the root.
-pub valid_rooted : (t u : ForestTables) (g : WeightedGraph) → IsGraph g → IsValidFor g t → (v : ℕ) → v < length t.hand → t.root ≡ None → (forest_of t).mate ((forest_of t).out v) ≡ None
-    → forest_of u ≡ rooted (forest_of t) ((forest_of t).out v) → u.hand ≡ t.hand → u.root ≡ Some ((forest_of t).out v) → fixed_of u ≡ fixed_of t → IsValidFor g u
+pub valid_rooted : (t u : ForestTables) (g : WeightedGraph) → IsGraph g → IsValidFor g t → (v : ℕ) → v < length t.hand
+    → t.root ≡ None → (forest_of t).mate ((forest_of t).out v) ≡ None
+    → forest_of u ≡ rooted (forest_of t) ((forest_of t).out v) → u.hand ≡ t.hand → u.root ≡ Some ((forest_of t).out v)
+    → fixed_of u ≡ fixed_of t → IsValidFor g u
 valid_rooted t u g is valid v low none free seen hand root fixed = record {
   vertices = ap length hand ∙ valid.vertices;
   darts = darts_kept g t u valid fixed;
   ends = ends_kept g t u valid fixed;
   room = room_kept g t u valid fixed;
-  valid = subst (λ (f : Forest). IsValid (darts_of g) f u.root) (sym seen) (subst (λ (o : Option ℕ). IsValid (darts_of g) (rooted (forest_of t) ((forest_of t).out v)) o) (sym root)
-      (rooted_valid (darts_of g) (are_darts g is) (forest_of t) (subst (λ (o : Option ℕ). IsValid (darts_of g) (forest_of t) o) none valid.valid) ((forest_of t).out v) (v, subst (λ n. v < n) valid.vertices low, refl) free));
+  valid = subst (λ (f : Forest). IsValid (darts_of g) f u.root) (sym seen)
+      (subst (λ (o : Option ℕ). IsValid (darts_of g) (rooted (forest_of t) ((forest_of t).out v)) o) (sym root)
+      (rooted_valid (darts_of g) (are_darts g is) (forest_of t)
+      (subst (λ (o : Option ℕ). IsValid (darts_of g) (forest_of t) o) none valid.valid) ((forest_of t).out v) (
+        v,
+        subst (λ n. v < n) valid.vertices low,
+        refl,
+      ) free));
 }
 
 -- An option that is not empty has something in it.
@@ -132,5 +171,6 @@ none_of None e = refl
 none_of (Some r) e = absurd (cc e)
 
 -- The forest sees the shift, of tables that are tied.
-pub seen_shift_tied : (t : ForestTables) (hid : HiddenTables) → AreTied t hid → (s d : ℤ) → d ≡ t.delta +ℤ s → forest_of (record t { delta = d }) ≡ shifted (forest_of t) s
+pub seen_shift_tied : (t : ForestTables) (hid : HiddenTables) → AreTied t hid → (s d : ℤ) → d ≡ t.delta +ℤ s
+    → forest_of (record t { delta = d }) ≡ shifted (forest_of t) s
 seen_shift_tied t hid tied s d e = seen_shift t s d e

@@ -1,5 +1,6 @@
 -- Blossoms within each other: climbing from one, one comes past the other.
-use Rattle.std.proofs.Common.{◌≡◌, ◌≢◌, ℕ, zero, suc, ◌+◌, ◌-◌, ◌<◌, ◌≤◌, Bool, true, false, not, cond, eqb, ◌||◌, ◌⊎◌, refl, sym, ◌∙◌, ap, subst, inl, inr, arith}
+use Rattle.std.proofs.Common.{◌≡◌, ◌≢◌, ℕ, zero, suc, ◌+◌, ◌-◌, ◌<◌, ◌≤◌, Bool, true, false, not, cond, eqb, ◌||◌, ◌⊎◌}
+use Rattle.std.proofs.Common.{refl, sym, ◌∙◌, ap, subst, inl, inr, arith}
 use Rattle.std.proofs.lemmas.Bool.{cases_eq, cases_lt, cases_Bool, eq-eqb}
 use Rattle.def_forest.specs.Forests.{bool_number, walk, ring_sum}
 use Rattle.def_forest.specs.Tables.{climbs}
@@ -30,16 +31,30 @@ ring_front next f from (suc k) =
     let last : f (walk next from (suc k)) ≡ f (walk next (next from) k) = ap f (walk_front next from k) in
     omega (arith, h, last)
 
-pub ring_none : (next f : ℕ → ℕ) (from k : ℕ) → ((j : ℕ) → j < k → f (walk next from j) ≡ 0) → ring_sum next f from k ≡ 0
+pub ring_none : (next f : ℕ → ℕ) (from k : ℕ) → ((j : ℕ) → j < k → f (walk next from j) ≡ 0) → ring_sum next f from k
+    ≡ 0
 ring_none next f from zero none = refl
-ring_none next f from (suc k) none = omega (arith, ring_none next f from k (λ j l. none j (omega (arith, l))), none k (omega arith))
+ring_none next f from (suc k) none = omega (
+  arith,
+  ring_none next f from k (λ j l. none j (omega (arith, l))),
+  none k (omega arith),
+)
 
-pub ring_one : (next f : ℕ → ℕ) (from k j : ℕ) → j < k → f (walk next from j) ≡ 1 → ((i : ℕ) → i < k → i ≢ j → f (walk next from i) ≡ 0) → ring_sum next f from k ≡ 1
+pub ring_one : (next f : ℕ → ℕ) (from k j : ℕ) → j < k → f (walk next from j) ≡ 1
+    → ((i : ℕ) → i < k → i ≢ j → f (walk next from i) ≡ 0) → ring_sum next f from k ≡ 1
 ring_one next f from zero j l one others = absurd (omega (arith, l))
-ring_one next f from (suc k) j l one others = by_last (cases_eq j k) (λ lj. ring_one next f from k j lj one (λ i li ne. others i (omega (arith, li)) ne))
+ring_one next f from (suc k) j l one others =
+    by_last (cases_eq j k) (λ lj. ring_one next f from k j lj one (λ i li ne. others i (omega (arith, li)) ne))
   where
-    by_last : (j ≡ k) ⊎ (j ≢ k) → (j < k → ring_sum next f from k ≡ 1) → ring_sum next f from k + f (walk next from k) ≡ 1
-    by_last (inl e) more = (let here : f (walk next from k) ≡ 1 = ap (λ i. f (walk next from i)) (sym e) ∙ one in omega (arith, here, ring_none next f from k (λ i li. others i (omega (arith, li)) (λ s. absurd (omega (arith, li, s, e))))))
+    by_last : (j ≡ k) ⊎ (j ≢ k) → (j < k → ring_sum next f from k ≡ 1) → ring_sum next f from k + f (walk next from k)
+        ≡ 1
+    by_last (inl e) more = (let here : f (walk next from k) ≡ 1 = ap (λ i. f (walk next from i)) (sym e) ∙ one in
+        omega (
+          arith,
+          here,
+          ring_none next f from k
+              (λ i li. others i (omega (arith, li)) (λ s. absurd (omega (arith, li, s, e)))),
+        ))
     by_last (inr ne) more = omega (arith, more (omega (arith, l, ne)), others k (omega arith) (λ s. ne (sym s)))
 
 module _ (n : ℕ) (up rank : ℕ → ℕ) (rises : (x : ℕ) → up x ≢ x → rank x < rank (up x)) where
@@ -48,7 +63,11 @@ module _ (n : ℕ) (up rank : ℕ → ℕ) (rises : (x : ℕ) → up x ≢ x →
 
   pub rank_walk : (x k : ℕ) → rank x ≤ rank (walk up x k)
   rank_walk x zero = omega arith
-  rank_walk x (suc k) = elim (cases_eq (up (walk up x k)) (walk up x k)) [ inl e ↦ (let s : rank (up (walk up x k)) ≡ rank (walk up x k) = ap rank e in omega (arith, rank_walk x k, s)) | inr ne ↦ (let r : rank (walk up x k) < rank (up (walk up x k)) = rises (walk up x k) ne in omega (arith, rank_walk x k, r)) ]
+  rank_walk x (suc k) = elim (cases_eq (up (walk up x k)) (walk up x k)) [
+    | inl e ↦ (let s : rank (up (walk up x k)) ≡ rank (walk up x k) = ap rank e in omega (arith, rank_walk x k, s))
+    | inr ne ↦ (let r : rank (walk up x k) < rank (up (walk up x k)) = rises (walk up x k) ne in
+        omega (arith, rank_walk x k, r))
+  ]
 
   -- What one comes to one comes past, if there are steps enough.
   reach : (k c from j : ℕ) → walk up from j ≡ c → rank c ≤ rank from + k → climbs up k c from ≡ true
@@ -69,7 +88,9 @@ module _ (n : ℕ) (up rank : ℕ → ℕ) (rises : (x : ℕ) → up x ≢ x →
               absurd (omega (arith, r, h, same, low))
   reach (suc k) c from j e low = by_eq (cases_eq from c) (cases_eq (up from) from) (λ i s l. reach k c (up from) i s l)
     where
-      by_eq : (from ≡ c) ⊎ (from ≢ c) → (up from ≡ from) ⊎ (up from ≢ from) → ((i : ℕ) → walk up (up from) i ≡ c → rank c ≤ rank (up from) + k → climbs up k c (up from) ≡ true) → (eqb from c || climbs up k c (up from)) ≡ true
+      by_eq : (from ≡ c) ⊎ (from ≢ c) → (up from ≡ from) ⊎ (up from ≢ from)
+          → ((i : ℕ) → walk up (up from) i ≡ c → rank c ≤ rank (up from) + k → climbs up k c (up from) ≡ true)
+          → (eqb from c || climbs up k c (up from)) ≡ true
       by_eq (inl s) x more = or_left (eqb from c) (climbs up k c (up from)) (eq-eqb from c s)
       by_eq (inr ne) (inl stays) more = absurd (ne (sym (walk_stays up from j stays) ∙ e))
       by_eq (inr ne) (inr goes) more = by_steps j e
@@ -77,7 +98,8 @@ module _ (n : ℕ) (up rank : ℕ → ℕ) (rises : (x : ℕ) → up x ≢ x →
           by_steps : (i : ℕ) → walk up from i ≡ c → (eqb from c || climbs up k c (up from)) ≡ true
           by_steps zero s = absurd (ne s)
           by_steps (suc i) s = (let r : rank from < rank (up from) = rises from goes in
-              or_right (eqb from c) (climbs up k c (up from)) (more i (sym (walk_front up from i) ∙ s) (omega (arith, r, low))))
+              or_right (eqb from c) (climbs up k c (up from))
+              (more i (sym (walk_front up from i) ∙ s) (omega (arith, r, low))))
 
   pub in_where : (b c j : ℕ) → rank c ≤ n → walk up b j ≡ c → in_it b c ≡ true
   in_where b c j low e = reach n c b j e (omega (arith, low))
@@ -86,12 +108,21 @@ module _ (n : ℕ) (up rank : ℕ → ℕ) (rises : (x : ℕ) → up x ≢ x →
   where_in b c on = climbs_place up n c b on
 
   -- Of two blossoms on one way one lies within the other.
-  pub in_line : (w a b i j : ℕ) → walk up w i ≡ a → walk up w j ≡ b → ((m : ℕ) × (walk up a m ≡ b)) ⊎ ((m : ℕ) × (walk up b m ≡ a))
+  pub in_line : (w a b i j : ℕ) → walk up w i ≡ a → walk up w j ≡ b → ((m : ℕ) × (walk up a m ≡ b))
+      ⊎ ((m : ℕ) × (walk up b m ≡ a))
   in_line w a b i j ea eb = by_order (cases_lt i j)
     where
       by_order : (i < j) ⊎ (j ≤ i) → ((m : ℕ) × (walk up a m ≡ b)) ⊎ ((m : ℕ) × (walk up b m ≡ a))
-      by_order (inl l) = inl (j - i, ap (λ x. walk up x (j - i)) (sym ea) ∙ (sym (walk_sum up w i (j - i)) ∙ ((let s : i + (j - i) ≡ j = omega (arith, l) in ap (walk up w) s) ∙ eb)))
-      by_order (inr h) = inr (i - j, ap (λ x. walk up x (i - j)) (sym eb) ∙ (sym (walk_sum up w j (i - j)) ∙ ((let s : j + (i - j) ≡ i = omega (arith, h) in ap (walk up w) s) ∙ ea)))
+      by_order (inl l) = inl (
+        j - i,
+        ap (λ x. walk up x (j - i)) (sym ea)
+            ∙ (sym (walk_sum up w i (j - i)) ∙ ((let s : i + (j - i) ≡ j = omega (arith, l) in ap (walk up w) s) ∙ eb)),
+      )
+      by_order (inr h) = inr (
+        i - j,
+        ap (λ x. walk up x (i - j)) (sym eb)
+            ∙ (sym (walk_sum up w j (i - j)) ∙ ((let s : j + (i - j) ≡ i = omega (arith, h) in ap (walk up w) s) ∙ ea)),
+      )
 
   -- Two parts of a set are not within each other.
   pub parts_apart : (x y q m : ℕ) → up x ≡ q → up y ≡ q → y ≢ q → x ≢ y → walk up x m ≡ y → ⊥
@@ -105,21 +136,30 @@ module _ (n : ℕ) (up rank : ℕ → ℕ) (rises : (x : ℕ) → up x ≢ x →
       absurd (omega (arith, h, same, r, up_same))
 
   -- Two parts have nothing in common.
-  pub none_in_both : (w x y q : ℕ) → up x ≡ q → up y ≡ q → x ≢ q → y ≢ q → x ≢ y → in_it w x ≡ true → in_it w y ≡ true → ⊥
+  pub none_in_both : (w x y q : ℕ) → up x ≡ q → up y ≡ q → x ≢ q → y ≢ q → x ≢ y → in_it w x ≡ true → in_it w y ≡ true
+      → ⊥
   none_in_both w x y q ex ey nx ny ne hx hy =
       let wx : (j : ℕ) × (walk up w j ≡ x) = where_in w x hx in
       let wy : (j : ℕ) × (walk up w j ≡ y) = where_in w y hy in
-      elim (in_line w x y wx.0 wy.0 wx.1 wy.1) [ inl m ↦ parts_apart x y q m.0 ex ey ny ne m.1 | inr m ↦ parts_apart y x q m.0 ey ex nx (λ s. ne (sym s)) m.1 ]
+      elim (in_line w x y wx.0 wy.0 wx.1 wy.1) [
+        | inl m ↦ parts_apart x y q m.0 ex ey ny ne m.1
+        | inr m ↦ parts_apart y x q m.0 ey ex nx (λ s. ne (sym s)) m.1
+      ]
 
   -- What is within a set but the set is within a part of it.
   pub in_part : (b q j : ℕ) → walk up b j ≡ q → b ≢ q → (r : ℕ) × (up r ≡ q) × (r ≢ q) × (i : ℕ) × (walk up b i ≡ r)
   in_part b q zero e ne = absurd (ne e)
-  in_part b q (suc j) e ne = elim (cases_eq (walk up b j) q) [ inl s ↦ in_part b q j s ne | inr off ↦ (walk up b j, e, off, j, refl) ]
+  in_part b q (suc j) e ne = elim (cases_eq (walk up b j) q) [
+    | inl s ↦ in_part b q j s ne
+    | inr off ↦ (walk up b j, e, off, j, refl)
+  ]
 
   -- Where two parts of one set are matched with each other, the edge leaves just the blossoms of one of them that have
   -- its end there, and all other blossoms of the two wait.
-  pub by_pair : (wx wy hu hv : Bool) → (wx ≡ true → (wy ≡ false) × (hv ≡ false)) → (wy ≡ true → (wx ≡ false) × (hu ≡ false)) → (wx ≡ false → wy ≡ false → hu ≡ hv)
-      → bool_number (cond hu (not hv) hv) + (cond wx (cond hu 0 1) 0 + cond wy (cond hv 0 1) 0) ≡ bool_number wx + bool_number wy
+  pub by_pair : (wx wy hu hv : Bool) → (wx ≡ true → (wy ≡ false) × (hv ≡ false))
+      → (wy ≡ true → (wx ≡ false) × (hu ≡ false)) → (wx ≡ false → wy ≡ false → hu ≡ hv)
+      → bool_number (cond hu (not hv) hv) + (cond wx (cond hu 0 1) 0 + cond wy (cond hv 0 1) 0)
+      ≡ bool_number wx + bool_number wy
   by_pair true true hu hv first second none = absurd (true_false true refl (first refl).0)
   by_pair true false hu true first second none = absurd (true_false true refl (first refl).1)
   by_pair true false true false first second none = refl
@@ -132,41 +172,60 @@ module _ (n : ℕ) (up rank : ℕ → ℕ) (rises : (x : ℕ) → up x ≢ x →
   by_pair false false true false first second none = absurd (true_false true refl (none refl refl))
   by_pair false false false true first second none = absurd (true_false true refl (sym (none refl refl)))
 
-  module _ (x y q u v : ℕ) (ex : up x ≡ q) (ey : up y ≡ q) (nx : x ≢ q) (ny : y ≢ q) (ne : x ≢ y) (hu : in_it u x ≡ true) (hv : in_it v y ≡ true) (low_x : rank x ≤ n) (low_y : rank y ≤ n) where
+  module _ (x y q u v : ℕ) (ex : up x ≡ q) (ey : up y ≡ q) (nx : x ≢ q) (ny : y ≢ q) (ne : x ≢ y) (hu : in_it u x
+      ≡ true) (hv : in_it v y ≡ true) (low_x : rank x ≤ n) (low_y : rank y ≤ n) where
     -- A blossom around one end that is not within its part is around the other end.
-    around_other : (u v x y b : ℕ) → up x ≡ q → up y ≡ q → rank x ≤ n → in_it u x ≡ true → in_it v y ≡ true → in_it b x ≡ false → rank b ≤ n → in_it u b ≡ true → in_it v b ≡ true
+    around_other : (u v x y b : ℕ) → up x ≡ q → up y ≡ q → rank x ≤ n → in_it u x ≡ true → in_it v y ≡ true
+        → in_it b x ≡ false → rank b ≤ n → in_it u b ≡ true → in_it v b ≡ true
     around_other u v x y b ex ey low_x hu hv off low on =
         let wx : (j : ℕ) × (walk up u j ≡ x) = where_in u x hu in
         let wb : (j : ℕ) × (walk up u j ≡ b) = where_in u b on in
         let wy : (j : ℕ) × (walk up v j ≡ y) = where_in v y hv in
-        elim (in_line u b x wb.0 wx.0 wb.1 wx.1) [ inl m ↦ absurd (true_false (in_it b x) (in_where b x m.0 low_x m.1) off) | inr m ↦ beyond wy m.0 m.1 ]
+        elim (in_line u b x wb.0 wx.0 wb.1 wx.1)
+        [ inl m ↦ absurd (true_false (in_it b x) (in_where b x m.0 low_x m.1) off) | inr m ↦ beyond wy m.0 m.1 ]
       where
         beyond : (j : ℕ) × (walk up v j ≡ y) → (m : ℕ) → walk up x m ≡ b → in_it v b ≡ true
         beyond wy zero e = absurd (true_false (in_it b x) (in_where b x 0 low_x (sym e)) off)
-        beyond wy (suc m) e = in_where v b (wy.0 + suc m) low (walk_sum up v wy.0 (suc m) ∙ (ap (λ z. walk up z (suc m)) wy.1 ∙ (walk_front up y m ∙ (ap (λ z. walk up z m) (ey ∙ sym ex) ∙ (sym (walk_front up x m) ∙ e)))))
+        beyond wy (suc m) e = in_where v b (wy.0 + suc m) low (walk_sum up v wy.0 (suc m)
+            ∙ (ap (λ z. walk up z (suc m)) wy.1
+            ∙ (walk_front up y m ∙ (ap (λ z. walk up z m) (ey ∙ sym ex) ∙ (sym (walk_front up x m) ∙ e)))))
 
     pub pair_law : (b : ℕ) → (in_it u b ≡ true → rank b ≤ n) → (in_it v b ≡ true → rank b ≤ n)
-        → bool_number (cond (in_it u b) (not (in_it v b)) (in_it v b)) + (cond (in_it b x) (cond (in_it u b) 0 1) 0 + cond (in_it b y) (cond (in_it v b) 0 1) 0) ≡ bool_number (in_it b x) + bool_number (in_it b y)
+        → bool_number (cond (in_it u b) (not (in_it v b)) (in_it v b))
+        + (cond (in_it b x) (cond (in_it u b) 0 1) 0 + cond (in_it b y) (cond (in_it v b) 0 1) 0)
+        ≡ bool_number (in_it b x) + bool_number (in_it b y)
     pair_law b low_u low_v = by_pair (in_it b x) (in_it b y) (in_it u b) (in_it v b)
-        (λ on. (off_where (in_it b y) (λ o. none_in_both b x y q ex ey nx ny ne on o), off_where (in_it v b) (λ o. none_in_both v x y q ex ey nx ny ne (through v b x low_x o on) hv)))
-        (λ on. (off_where (in_it b x) (λ o. none_in_both b x y q ex ey nx ny ne o on), off_where (in_it u b) (λ o. none_in_both u x y q ex ey nx ny ne hu (through u b y low_y o on))))
+        (λ on. (
+          off_where (in_it b y) (λ o. none_in_both b x y q ex ey nx ny ne on o),
+          off_where (in_it v b) (λ o. none_in_both v x y q ex ey nx ny ne (through v b x low_x o on) hv),
+        ))
+        (λ on. (
+          off_where (in_it b x) (λ o. none_in_both b x y q ex ey nx ny ne o on),
+          off_where (in_it u b) (λ o. none_in_both u x y q ex ey nx ny ne hu (through u b y low_y o on)),
+        ))
         (λ ox oy. both ox oy (cases_Bool (in_it u b)) (cases_Bool (in_it v b)))
       where
         through : (w b c : ℕ) → rank c ≤ n → in_it w b ≡ true → in_it b c ≡ true → in_it w c ≡ true
         through w b c low o on =
             let first : (j : ℕ) × (walk up w j ≡ b) = where_in w b o in
             let second : (j : ℕ) × (walk up b j ≡ c) = where_in b c on in
-            in_where w c (first.0 + second.0) low (walk_sum up w first.0 second.0 ∙ (ap (λ z. walk up z second.0) first.1 ∙ second.1))
+            in_where w c (first.0 + second.0) low (walk_sum up w first.0 second.0
+            ∙ (ap (λ z. walk up z second.0) first.1 ∙ second.1))
 
-        both : in_it b x ≡ false → in_it b y ≡ false → (in_it u b ≡ true) ⊎ (in_it u b ≡ false) → (in_it v b ≡ true) ⊎ (in_it v b ≡ false) → in_it u b ≡ in_it v b
+        both : in_it b x ≡ false → in_it b y ≡ false → (in_it u b ≡ true) ⊎ (in_it u b ≡ false) → (in_it v b ≡ true)
+            ⊎ (in_it v b ≡ false) → in_it u b ≡ in_it v b
         both ox oy (inl hu') (inl hv') = hu' ∙ sym hv'
         both ox oy (inr fu) (inr fv) = fu ∙ sym fv
-        both ox oy (inl hu') (inr fv) = absurd (true_false (in_it v b) (around_other u v x y b ex ey low_x hu hv ox (low_u hu') hu') fv)
-        both ox oy (inr fu) (inl hv') = absurd (true_false (in_it u b) (around_other v u y x b ey ex low_y hv hu oy (low_v hv') hv') fu)
+        both ox oy (inl hu') (inr fv) =
+            absurd (true_false (in_it v b) (around_other u v x y b ex ey low_x hu hv ox (low_u hu') hu') fv)
+        both ox oy (inr fu) (inl hv') =
+            absurd (true_false (in_it u b) (around_other v u y x b ey ex low_y hv hu oy (low_v hv') hv') fu)
 
   -- From a part to its set: what waited there waits in the parts after it, or around the set.
-  module _ (p q v c many : ℕ) (after : ℕ → ℕ) (inside : ℕ → Bool) (circle : IsCircle after p many inside) (part : (x : ℕ) → inside x ≡ true → (up x ≡ q) × (x ≢ q)) (parts : (x : ℕ) → up x ≡ q → x ≢ q → inside x ≡ true)
-      (low : (x : ℕ) → inside x ≡ true → rank x ≤ n) (low_q : rank q ≤ n) (low_c : rank c ≤ n) (hv : in_it v p ≡ true) (j : ℕ) (hq : walk up q j ≡ c) where
+  module _ (p q v c many : ℕ) (after : ℕ → ℕ) (inside : ℕ → Bool) (circle : IsCircle after p many inside)
+      (part : (x : ℕ) → inside x ≡ true → (up x ≡ q) × (x ≢ q)) (parts : (x : ℕ) → up x ≡ q → x ≢ q → inside x ≡ true)
+      (low : (x : ℕ) → inside x ≡ true → rank x ≤ n) (low_q : rank q ≤ n) (low_c : rank c ≤ n) (hv : in_it v p ≡ true)
+      (j : ℕ) (hq : walk up q j ≡ c) where
     abbrev pub rest_at : ℕ → ℕ → ℕ
     rest_at p b = cond (in_it b p) 0 (cond (in_it b c) (cond (in_it v b) 0 1) 0)
 
@@ -174,7 +233,8 @@ module _ (n : ℕ) (up rank : ℕ → ℕ) (rises : (x : ℕ) → up x ≢ x →
     p_part = part p (circle.marked 0)
 
     at_part : (k : ℕ) → (up (walk after (after p) k) ≡ q) × (walk after (after p) k ≢ q)
-    at_part k = subst (λ x. (up x ≡ q) × (x ≢ q)) (walk_front after p k) (part (walk after p (suc k)) (circle.marked (suc k)))
+    at_part k = subst (λ x. (up x ≡ q) × (x ≢ q)) (walk_front after p k)
+        (part (walk after p (suc k)) (circle.marked (suc k)))
 
     at_low : (k : ℕ) → rank (walk after (after p) k) ≤ n
     at_low k = subst (λ x. rank x ≤ n) (walk_front after p k) (low (walk after p (suc k)) (circle.marked (suc k)))
@@ -183,7 +243,8 @@ module _ (n : ℕ) (up rank : ℕ → ℕ) (rises : (x : ℕ) → up x ≢ x →
     at_other k l e = circle.distinct 0 (suc k) (omega arith) (omega (arith, l)) (e ∙ sym (walk_front after p k))
 
     in_set : (b r : ℕ) → up r ≡ q → in_it b r ≡ true → in_it b q ≡ true
-    in_set b r er on = (let w : (i : ℕ) × (walk up b i ≡ r) = where_in b r on in in_where b q (suc w.0) low_q (ap up w.1 ∙ er))
+    in_set b r er on = (let w : (i : ℕ) × (walk up b i ≡ r) = where_in b r on in
+        in_where b q (suc w.0) low_q (ap up w.1 ∙ er))
 
     q_free : (r : ℕ) → up r ≡ q → r ≢ q → in_it q r ≡ false
     q_free r er nr = off_where (in_it q r) (λ on. at_rank (where_in q r on))
@@ -196,8 +257,10 @@ module _ (n : ℕ) (up rank : ℕ → ℕ) (rises : (x : ℕ) → up x ≢ x →
             let s : rank (up r) ≡ rank q = ap rank er in
             absurd (omega (arith, h, same, r', s))
 
-    none_after : (b : ℕ) → ((k : ℕ) → k < many - 1 → in_it b (walk after (after p) k) ≡ false) → ring_sum after (λ r. bool_number (in_it b r)) (after p) (many - 1) ≡ 0
-    none_after b off = ring_none after (λ r. bool_number (in_it b r)) (after p) (many - 1) (λ k l. ap bool_number (off k l))
+    none_after : (b : ℕ) → ((k : ℕ) → k < many - 1 → in_it b (walk after (after p) k) ≡ false)
+        → ring_sum after (λ r. bool_number (in_it b r)) (after p) (many - 1) ≡ 0
+    none_after b off = ring_none after (λ r. bool_number (in_it b r)) (after p) (many - 1)
+        (λ k l. ap bool_number (off k l))
 
     zero_in : (b x : ℕ) → in_it b x ≡ true → rest_at x b ≡ 0
     zero_in b x on = ap (λ (s : Bool). cond s 0 (cond (in_it b c) (cond (in_it v b) 0 1) 0)) on
@@ -205,13 +268,15 @@ module _ (n : ℕ) (up rank : ℕ → ℕ) (rises : (x : ℕ) → up x ≢ x →
     out_of : (b x : ℕ) → in_it b x ≡ false → rest_at x b ≡ cond (in_it b c) (cond (in_it v b) 0 1) 0
     out_of b x off = ap (λ (s : Bool). cond s 0 (cond (in_it b c) (cond (in_it v b) 0 1) 0)) off
 
-    pub climb_law : (b : ℕ) → rest_at p b ≡ ring_sum after (λ r. bool_number (in_it b r)) (after p) (many - 1) + rest_at q b
+    pub climb_law : (b : ℕ) → rest_at p b ≡ ring_sum after (λ r. bool_number (in_it b r)) (after p) (many - 1)
+        + rest_at q b
     climb_law b = by_part (cases_Bool (in_it b p)) (cases_Bool (in_it b q)) (cases_eq b q)
       where
         v_in : in_it v q ≡ true
         v_in = in_set v p p_part.0 hv
 
-        around : (r : ℕ) × (up r ≡ q) × (r ≢ q) × (i : ℕ) × (walk up b i ≡ r) → in_it b p ≡ false → in_it b q ≡ true → rest_at p b ≡ ring_sum after (λ r. bool_number (in_it b r)) (after p) (many - 1) + rest_at q b
+        around : (r : ℕ) × (up r ≡ q) × (r ≢ q) × (i : ℕ) × (walk up b i ≡ r) → in_it b p ≡ false → in_it b q ≡ true
+            → rest_at p b ≡ ring_sum after (λ r. bool_number (in_it b r)) (after p) (many - 1) + rest_at q b
         around w off on = by_place (circle.all w.0 (parts w.0 w.1 w.2))
           where
             in_r : in_it b w.0 ≡ true
@@ -221,43 +286,66 @@ module _ (n : ℕ) (up rank : ℕ → ℕ) (rises : (x : ℕ) → up x ≢ x →
             other_p e = true_false (in_it b p) (subst (λ x. in_it b x ≡ true) e in_r) off
 
             in_c : in_it b c ≡ true
-            in_c = (let s : (i : ℕ) × (walk up b i ≡ q) = where_in b q on in in_where b c (s.0 + j) low_c (walk_sum up b s.0 j ∙ (ap (λ x. walk up x j) s.1 ∙ hq)))
+            in_c = (let s : (i : ℕ) × (walk up b i ≡ q) = where_in b q on in
+                in_where b c (s.0 + j) low_c (walk_sum up b s.0 j ∙ (ap (λ x. walk up x j) s.1 ∙ hq)))
 
             v_off : in_it v b ≡ false
             v_off = off_where (in_it v b) (λ o. (let s : (i : ℕ) × (walk up v i ≡ b) = where_in v b o in
-                none_in_both v w.0 p q w.1 p_part.0 w.2 p_part.1 other_p (in_where v w.0 (s.0 + w.3) (low w.0 (parts w.0 w.1 w.2)) (walk_sum up v s.0 w.3 ∙ (ap (λ x. walk up x w.3) s.1 ∙ w.4))) hv))
+                none_in_both v w.0 p q w.1 p_part.0 w.2 p_part.1 other_p
+                (in_where v w.0 (s.0 + w.3) (low w.0 (parts w.0 w.1 w.2)) (walk_sum up v s.0 w.3
+                ∙ (ap (λ x. walk up x w.3) s.1 ∙ w.4))) hv))
 
             one_left : rest_at p b ≡ 1
-            one_left = out_of b p off ∙ (ap (λ (s : Bool). cond s (cond (in_it v b) 0 1) 0) in_c ∙ ap (λ (s : Bool). cond s 0 1) v_off)
+            one_left = out_of b p off ∙ (ap (λ (s : Bool). cond s (cond (in_it v b) 0 1) 0) in_c
+                ∙ ap (λ (s : Bool). cond s 0 1) v_off)
 
-            by_place : (k : ℕ) × (k < many) × (walk after p k ≡ w.0) → rest_at p b ≡ ring_sum after (λ r. bool_number (in_it b r)) (after p) (many - 1) + rest_at q b
+            by_place : (k : ℕ) × (k < many) × (walk after p k ≡ w.0)
+                → rest_at p b ≡ ring_sum after (λ r. bool_number (in_it b r)) (after p) (many - 1) + rest_at q b
             by_place s = by_front s.0 s.1 s.2
               where
-                by_front : (k : ℕ) → k < many → walk after p k ≡ w.0 → rest_at p b ≡ ring_sum after (λ r. bool_number (in_it b r)) (after p) (many - 1) + rest_at q b
+                by_front : (k : ℕ) → k < many → walk after p k ≡ w.0
+                    → rest_at p b ≡ ring_sum after (λ r. bool_number (in_it b r)) (after p) (many - 1) + rest_at q b
                 by_front zero l e = absurd (other_p (sym e))
                 by_front (suc k) l e =
                     let here : walk after (after p) k ≡ w.0 = sym (walk_front after p k) ∙ e in
-                    let one : ring_sum after (λ r. bool_number (in_it b r)) (after p) (many - 1) ≡ 1 = ring_one after (λ r. bool_number (in_it b r)) (after p) (many - 1) k (omega (arith, l)) (ap (λ x. bool_number (in_it b x)) here ∙ ap bool_number in_r)
-                    (λ i li ne. ap bool_number (off_where (in_it b (walk after (after p) i)) (λ o. none_in_both b (walk after (after p) i) w.0 q (at_part i).0 w.1 (at_part i).1 w.2 (λ same. apart i k li (omega (arith, l)) ne (same ∙ sym here)) o in_r))) in
+                    let one : ring_sum after (λ r. bool_number (in_it b r)) (after p) (many - 1) ≡ 1 =
+                    ring_one after (λ r. bool_number (in_it b r)) (after p) (many - 1) k (omega (arith, l))
+                    (ap (λ x. bool_number (in_it b x)) here ∙ ap bool_number in_r)
+                    (λ i li ne. ap bool_number (off_where (in_it b (walk after (after p) i))
+                    (λ o. none_in_both b (walk after (after p) i) w.0 q (at_part i).0 w.1 (at_part i).1 w.2
+                    (λ same. apart i k li (omega (arith, l)) ne (same ∙ sym here)) o in_r))) in
                     omega (arith, one_left, one, zero_in b q on)
                   where
-                    apart : (i k : ℕ) → i < many - 1 → k < many - 1 → i ≢ k → walk after (after p) i ≢ walk after (after p) k
+                    apart : (i k : ℕ) → i < many - 1 → k < many - 1 → i ≢ k
+                        → walk after (after p) i ≢ walk after (after p) k
                     apart i k li lk ne same = elim (cases_lt i k) [
-                      | inl lt ↦ circle.distinct (suc i) (suc k) (omega (arith, lt)) (omega (arith, lk)) (walk_front after p i ∙ (same ∙ sym (walk_front after p k)))
-                      | inr ge ↦ circle.distinct (suc k) (suc i) (omega (arith, ge, ne)) (omega (arith, li)) (walk_front after p k ∙ (sym same ∙ sym (walk_front after p i)))
+                      | inl lt ↦ circle.distinct (suc i) (suc k) (omega (arith, lt)) (omega (arith, lk))
+                          (walk_front after p i ∙ (same ∙ sym (walk_front after p k)))
+                      | inr ge ↦ circle.distinct (suc k) (suc i) (omega (arith, ge, ne)) (omega (arith, li))
+                          (walk_front after p k ∙ (sym same ∙ sym (walk_front after p i)))
                     ]
 
-        by_part : (in_it b p ≡ true) ⊎ (in_it b p ≡ false) → (in_it b q ≡ true) ⊎ (in_it b q ≡ false) → (b ≡ q) ⊎ (b ≢ q) → rest_at p b ≡ ring_sum after (λ r. bool_number (in_it b r)) (after p) (many - 1) + rest_at q b
+        by_part : (in_it b p ≡ true) ⊎ (in_it b p ≡ false) → (in_it b q ≡ true) ⊎ (in_it b q ≡ false)
+            → (b ≡ q) ⊎ (b ≢ q) → rest_at p b ≡ ring_sum after (λ r. bool_number (in_it b r)) (after p) (many - 1)
+            + rest_at q b
         by_part (inl on) y z =
-            let none : ring_sum after (λ r. bool_number (in_it b r)) (after p) (many - 1) ≡ 0 = none_after b (λ k l. off_where (in_it b (walk after (after p) k)) (λ o. none_in_both b p (walk after (after p) k) q p_part.0 (at_part k).0 p_part.1 (at_part k).1 (at_other k l) on o)) in
+            let none : ring_sum after (λ r. bool_number (in_it b r)) (after p) (many - 1) ≡ 0 =
+            none_after b (λ k l. off_where (in_it b (walk after (after p) k))
+            (λ o. none_in_both b p (walk after (after p) k) q p_part.0 (at_part k).0 p_part.1 (at_part k).1
+            (at_other k l) on o)) in
             omega (arith, zero_in b p on, none, zero_in b q (in_set b p p_part.0 on))
         by_part (inr off) (inr free) z =
-            let none : ring_sum after (λ r. bool_number (in_it b r)) (after p) (many - 1) ≡ 0 = none_after b (λ k l. off_where (in_it b (walk after (after p) k)) (λ o. true_false (in_it b q) (in_set b (walk after (after p) k) (at_part k).0 o) free)) in
+            let none : ring_sum after (λ r. bool_number (in_it b r)) (after p) (many - 1) ≡ 0 =
+            none_after b (λ k l. off_where (in_it b (walk after (after p) k))
+            (λ o. true_false (in_it b q) (in_set b (walk after (after p) k) (at_part k).0 o) free)) in
             omega (arith, none, out_of b p off, out_of b q free)
         by_part (inr off) (inl on) (inl e) =
-            let none : ring_sum after (λ r. bool_number (in_it b r)) (after p) (many - 1) ≡ 0 = none_after b (λ k l. ap (λ x. in_it x (walk after (after p) k)) e ∙ q_free (walk after (after p) k) (at_part k).0 (at_part k).1) in
+            let none : ring_sum after (λ r. bool_number (in_it b r)) (after p) (many - 1) ≡ 0 =
+            none_after b (λ k l. ap (λ x. in_it x (walk after (after p) k)) e
+            ∙ q_free (walk after (after p) k) (at_part k).0 (at_part k).1) in
             let held : in_it v b ≡ true = ap (in_it v) e ∙ v_in in
-            let left : rest_at p b ≡ 0 = out_of b p off ∙ (ap (λ (s : Bool). cond (in_it b c) (cond s 0 1) 0) held ∙ nothing (in_it b c)) in
+            let left : rest_at p b ≡ 0 = out_of b p off ∙ (ap (λ (s : Bool). cond (in_it b c) (cond s 0 1) 0) held
+            ∙ nothing (in_it b c)) in
             omega (arith, none, left, zero_in b q on)
           where
             nothing : (s : Bool) → ◌≡◌ {A = ℕ} (cond s 0 0) 0

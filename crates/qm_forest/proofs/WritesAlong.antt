@@ -34,18 +34,23 @@ module _ (first second at : ℕ → ℕ) (left right : ℕ) (ways : IsForked fir
   lain_over =
       let z : left - left ≡ 0 = omega arith in
       ap lain (ways.left_is left (omega arith) ∙ ap first z)
-      ∙ (writes_off (set_at (writes old (λ i. first (suc i)) down left) (first 0) over) (λ i. second i) up right (first 0)
-      (λ m lm e. ways.apart 0 m (omega arith) lm e) ∙ set_here (writes old (λ i. first (suc i)) down left) (first 0) over)
+      ∙ (writes_off (set_at (writes old (λ i. first (suc i)) down left) (first 0) over) (λ i. second i) up right
+      (first 0)
+      (λ m lm e. ways.apart 0 m (omega arith) lm e) ∙ set_here (writes old (λ i. first (suc i)) down left) (first 0)
+      over)
 
   pub lain_right : (k m : ℕ) → k ≡ left + 1 + m → m < right → lain (at k) ≡ up m
   lain_right k m e l = ap lain (ways.right_is k m e)
-      ∙ writes_at (set_at (writes old (λ i. first (suc i)) down left) (first 0) over) (λ i. second i) up right m l ways.right_differs
+      ∙ writes_at (set_at (writes old (λ i. first (suc i)) down left) (first 0) over) (λ i. second i) up right m l
+      ways.right_differs
 
   pub lain_off : (x : ℕ) → ((k : ℕ) → k < left + right + 1 → at k ≢ x) → lain x ≡ old x
   lain_off x off =
       writes_off (set_at (writes old (λ i. first (suc i)) down left) (first 0) over) (λ i. second i) up right x
       (λ m lm e. off (left + 1 + m) (omega (arith, lm)) (ways.right_is (left + 1 + m) m refl ∙ e))
       ∙ (set_there (writes old (λ i. first (suc i)) down left) (first 0) x over
-      (λ e. off left (omega arith) (ways.left_is left (omega arith) ∙ ((let z : left - left ≡ 0 = omega arith in ap first z) ∙ sym e)))
+      (λ e. off left (omega arith) (ways.left_is left (omega arith)
+      ∙ ((let z : left - left ≡ 0 = omega arith in ap first z) ∙ sym e)))
       ∙ writes_off old (λ i. first (suc i)) down left x (λ i li e. off (left - suc i) (omega (arith, li))
-      (ways.left_is (left - suc i) (omega arith) ∙ ((let s : left - (left - suc i) ≡ suc i = omega (arith, li) in ap first s) ∙ e))))
+      (ways.left_is (left - suc i) (omega arith)
+      ∙ ((let s : left - (left - suc i) ≡ suc i = omega (arith, li) in ap first s) ∙ e))))

@@ -1,5 +1,7 @@
 -- Numbers of marks, one part of the marks after the other.
-use Rattle.std.proofs.Common.{◌≡◌, ℕ, zero, suc, ◌+◌, ◌<◌, ◌≤◌, ◌==◌, Bool, true, false, not, ◌&&◌, cond, List, [], ◌∷◌, ◌++◌, length, drop, Option, Some, None, refl, sym, ◌∙◌, ap, add-zero, append_assoc, length-append, inl, inr, ◌⊎◌, arith}
+use Rattle.std.proofs.Common.{◌≡◌, ℕ, zero, suc, ◌+◌, ◌<◌, ◌≤◌, ◌==◌, Bool, true, false, not, ◌&&◌, cond, List, [], ◌∷◌}
+use Rattle.std.proofs.Common.{◌++◌, length, drop, Option, Some, None, refl, sym, ◌∙◌, ap, add-zero, append_assoc}
+use Rattle.std.proofs.Common.{length-append, inl, inr, ◌⊎◌, arith}
 use Rattle.std.specs.Prelude.{nat_lt, slice_index_or}
 use Rattle.std.proofs.lemmas.Bool.{cond-true, cases_eq, eq-eqb, ne_eqb}
 use Rattle.std.proofs.lemmas.Bool.Decides.{nat_tests}
@@ -8,7 +10,8 @@ use Rattle.def_flow.specs.Units.{is_active, active_at}
 use Rattle.def_flow.specs.MatchingGraph.{are_alike}
 use Rattle.def_flow.specs.declared.net.End.{End}
 use Rattle.def_flow.specs.declared.units.ArcUnit.{ArcUnit}
-use Rattle.gadget_laws.specs.Marks.{choice, places, take_end, end_marks, marks_by, units_marks, differ, mark_from, rim_marks}
+use Rattle.gadget_laws.specs.Marks.{choice, places, take_end, end_marks, marks_by, units_marks, differ, mark_from}
+use Rattle.gadget_laws.specs.Marks.{rim_marks}
 use Rattle.gadget_laws.specs.Told.{width_by}
 use Rattle.gadget_laws.proofs.Pick.{choice_length}
 use Rattle.qm_gadget.specs.Marked.{right_marks, mark_if, rim_by, turn_marks}
@@ -30,7 +33,8 @@ none_chosen k zero (suc n) = none_chosen (k + 1) zero n
 none_chosen k (suc i) (suc n) = none_chosen (k + 1) i n
 
 -- What is chosen among n edges.
-pub choice_places : (k : ℕ) (some : Bool) (i n : ℕ) → places k (choice some i n) ≡ cond (some && nat_lt i n) ((k + i) ∷ []) []
+pub choice_places : (k : ℕ) (some : Bool) (i n : ℕ) → places k (choice some i n)
+    ≡ cond (some && nat_lt i n) ((k + i) ∷ []) []
 choice_places k false i n = none_chosen k i n
 choice_places k true i zero = let off : nat_lt i 0 ≡ false = grind (arith, nat_tests) in rw off refl
 choice_places k true zero (suc n) =
@@ -40,23 +44,43 @@ choice_places k true zero (suc n) =
 choice_places k true (suc i) (suc n) =
     let same : nat_lt i n ≡ nat_lt (suc i) (suc n) = grind (arith, nat_tests) in
     let there : k + 1 + i ≡ k + suc i = omega arith in
-    choice_places (k + 1) true i n ∙ (ap (λ b. cond b ((k + 1 + i) ∷ []) []) same ∙ ap (λ j. cond (nat_lt (suc i) (suc n)) (j ∷ []) []) there)
+    choice_places (k + 1) true i n ∙ (ap (λ b. cond b ((k + 1 + i) ∷ []) []) same
+    ∙ ap (λ j. cond (nat_lt (suc i) (suc n)) (j ∷ []) []) there)
 
 -- The marks of a unit with two ends: those of the first end, and the others.
-pub marks_two : (copies_at used : ℕ → ℕ) (on : Bool) (left right : End) → marks_by copies_at used on left (Some right) ≡ end_marks copies_at used (is_active on left) left ++ right_marks copies_at (take_end used (is_active on left) left) on left right
+pub marks_two : (copies_at used : ℕ → ℕ) (on : Bool) (left right : End) → marks_by copies_at used on left (Some right)
+    ≡ end_marks copies_at used (is_active on left) left
+    ++ right_marks copies_at (take_end used (is_active on left) left) on left right
 marks_two copies_at used on left right = by_signs (are_alike left right)
   where
     by_signs : (b : Bool) → cond b
-        (end_marks copies_at used (is_active on left) left ++ (end_marks copies_at (take_end used (is_active on left) left) (is_active on right) right ++ not (is_active on left) ∷ []))
-        (end_marks copies_at used (is_active on left) left ++ end_marks copies_at (take_end used (is_active on left) left) (is_active on right) right)
-        ≡ end_marks copies_at used (is_active on left) left ++ cond b (end_marks copies_at (take_end used (is_active on left) left) (is_active on right) right ++ not (is_active on left) ∷ []) (end_marks copies_at (take_end used (is_active on left) left) (is_active on right) right)
+        (end_marks copies_at used (is_active on left) left
+        ++ (end_marks copies_at (take_end used (is_active on left) left) (is_active on right) right
+        ++ not (is_active on left) ∷ []))
+        (end_marks copies_at used (is_active on left) left
+        ++ end_marks copies_at (take_end used (is_active on left) left) (is_active on right) right)
+        ≡ end_marks copies_at used (is_active on left) left
+        ++ cond b (end_marks copies_at (take_end used (is_active on left) left) (is_active on right) right
+        ++ not (is_active on left) ∷ []) (end_marks copies_at (take_end used (is_active on left) left)
+        (is_active on right) right)
     by_signs true = refl
     by_signs false = refl
 
 -- A unit has as many marks as edges.
-pub marks_width : (copies_at used : ℕ → ℕ) (on : Bool) (left : End) (right : Option End) → length (marks_by copies_at used on left right) ≡ width_by copies_at left right
-marks_width copies_at used on left None = length-append (end_marks copies_at used (is_active on left) left) (not (is_active on left) ∷ []) ∙ ap (λ n. n + 1) (choice_length (is_active on left) (used left.node) (copies_at left.node))
-marks_width copies_at used on left (Some right) = grind (arith, length-append firsts (seconds ++ not (is_active on left) ∷ []), length-append seconds (not (is_active on left) ∷ []), first, second, length-append firsts seconds)
+pub marks_width : (copies_at used : ℕ → ℕ) (on : Bool) (left : End) (right : Option End)
+    → length (marks_by copies_at used on left right) ≡ width_by copies_at left right
+marks_width copies_at used on left None = length-append (end_marks copies_at used (is_active on left) left)
+    (not (is_active on left) ∷ [])
+    ∙ ap (λ n. n + 1) (choice_length (is_active on left) (used left.node) (copies_at left.node))
+marks_width copies_at used on left (Some right) =
+    grind (
+      arith,
+      length-append firsts (seconds ++ not (is_active on left) ∷ []),
+      length-append seconds (not (is_active on left) ∷ []),
+      first,
+      second,
+      length-append firsts seconds,
+    )
   where
     firsts : List Bool
     firsts = end_marks copies_at used (is_active on left) left
@@ -68,7 +92,8 @@ marks_width copies_at used on left (Some right) = grind (arith, length-append fi
     first = choice_length (is_active on left) (used left.node) (copies_at left.node)
 
     second : length seconds ≡ copies_at right.node
-    second = choice_length (is_active on right) (take_end used (is_active on left) left right.node) (copies_at right.node)
+    second = choice_length (is_active on right) (take_end used (is_active on left) left right.node)
+        (copies_at right.node)
 
 -- The marks at the rim, by whether there is a vertex before.
 abbrev pub is_there : Option ℕ → Bool
@@ -78,72 +103,110 @@ is_there (Some b) = true
 mark_is : (before : Option ℕ) (m : Bool) → mark_from before m ≡ mark_if (is_there before) m
 mark_is before m = grind (arith)
 
-pub rim_is : (before : Option ℕ) (waits : Bool) (fresh : ℕ) (os : List Bool) → rim_marks before waits fresh os ≡ rim_by (is_there before) waits os
+pub rim_is : (before : Option ℕ) (waits : Bool) (fresh : ℕ) (os : List Bool) → rim_marks before waits fresh os
+    ≡ rim_by (is_there before) waits os
 rim_is before waits fresh [] = refl
 rim_is before waits fresh (o ∷ []) = mark_is before (waits && o)
-rim_is before waits fresh (o ∷ p ∷ os) = rw (mark_is before (waits && o), mark_is before (waits && not o), rim_is (Some (fresh + 1)) (differ waits o) (fresh + 2) (p ∷ os)) refl
+rim_is before waits fresh (o ∷ p ∷ os) = rw (
+  mark_is before (waits && o),
+  mark_is before (waits && not o),
+  rim_is (Some (fresh + 1)) (differ waits o) (fresh + 2) (p ∷ os),
+) refl
 
 -- The marks from a unit on, and those from the next on.
-pub units_marks_step : (copies_at used : ℕ → ℕ) (us : List ArcUnit) (ons : List Bool) (k : ℕ) (u : ArcUnit) (b : Bool) → k < length us → length us ≡ length ons
-    → units_marks copies_at used (drop k us) (drop k ons) ≡ marks_by copies_at used (slice_index_or ons k b) (slice_index_or us k u).left (slice_index_or us k u).right ++ units_marks copies_at (λ v. used v + active_at v (slice_index_or us k u) (slice_index_or ons k b)) (drop (k + 1) us) (drop (k + 1) ons)
+pub units_marks_step : (copies_at used : ℕ → ℕ) (us : List ArcUnit) (ons : List Bool) (k : ℕ) (u : ArcUnit) (b : Bool)
+    → k < length us → length us ≡ length ons
+    → units_marks copies_at used (drop k us) (drop k ons) ≡ marks_by copies_at used (slice_index_or ons k b)
+    (slice_index_or us k u).left (slice_index_or us k u).right
+    ++ units_marks copies_at (λ v. used v + active_at v (slice_index_or us k u) (slice_index_or ons k b))
+    (drop (k + 1) us) (drop (k + 1) ons)
 units_marks_step copies_at used us ons k u b l same =
     let inner : k < length ons = omega arith in
     rw (drop_more us k u l, drop_more ons k b inner) refl
 
 -- The marks of the second end and of the edge inside, one after the other.
-pub right_alike : (old mid now : List ℕ) (k : ℕ) (copies_at used : ℕ → ℕ) (on : Bool) (left right : End) → are_alike left right ≡ true
-    → mid ≡ old ++ places k (end_marks copies_at used (is_active on right) right) → now ≡ mid ++ places (k + copies_at right.node) (not (is_active on left) ∷ []) → now ≡ old ++ places k (right_marks copies_at used on left right)
+pub right_alike : (old mid now : List ℕ) (k : ℕ) (copies_at used : ℕ → ℕ) (on : Bool) (left right : End)
+    → are_alike left right ≡ true
+    → mid ≡ old ++ places k (end_marks copies_at used (is_active on right) right)
+    → now ≡ mid ++ places (k + copies_at right.node) (not (is_active on left) ∷ [])
+    → now ≡ old ++ places k (right_marks copies_at used on left right)
 right_alike old mid now k copies_at used on left right alike first second =
-    let width : length (end_marks copies_at used (is_active on right) right) ≡ copies_at right.node = choice_length (is_active on right) (used right.node) (copies_at right.node) in
+    let width : length (end_marks copies_at used (is_active on right) right) ≡ copies_at right.node =
+    choice_length (is_active on right) (used right.node) (copies_at right.node) in
     two_parts old mid now _ _ first second
-    ∙ ap (λ l. old ++ l) (ap (λ w. places k (end_marks copies_at used (is_active on right) right) ++ places (k + w) (not (is_active on left) ∷ [])) (sym width)
-    ∙ (sym (places_append k (end_marks copies_at used (is_active on right) right) (not (is_active on left) ∷ [])) ∙ ap (places k) (sym (cond-true (are_alike left right) (end_marks copies_at used (is_active on right) right ++ not (is_active on left) ∷ []) (end_marks copies_at used (is_active on right) right) alike))))
+    ∙ ap (λ l. old ++ l) (ap (λ w. places k (end_marks copies_at used (is_active on right) right)
+    ++ places (k + w) (not (is_active on left) ∷ [])) (sym width)
+    ∙ (sym (places_append k (end_marks copies_at used (is_active on right) right) (not (is_active on left) ∷ []))
+    ∙ ap (places k) (sym (cond-true (are_alike left right) (end_marks copies_at used (is_active on right) right
+    ++ not (is_active on left) ∷ []) (end_marks copies_at used (is_active on right) right) alike))))
 
 -- The marks of a unit with one end.
 pub unit_lone : (old mid now : List ℕ) (k : ℕ) (copies_at used : ℕ → ℕ) (on : Bool) (left : End)
-    → mid ≡ old ++ places k (end_marks copies_at used (is_active on left) left) → now ≡ mid ++ places (k + copies_at left.node) (not (is_active on left) ∷ []) → now ≡ old ++ places k (marks_by copies_at used on left None)
+    → mid ≡ old ++ places k (end_marks copies_at used (is_active on left) left)
+    → now ≡ mid ++ places (k + copies_at left.node) (not (is_active on left) ∷ [])
+    → now ≡ old ++ places k (marks_by copies_at used on left None)
 unit_lone old mid now k copies_at used on left first second =
-    let width : length (end_marks copies_at used (is_active on left) left) ≡ copies_at left.node = choice_length (is_active on left) (used left.node) (copies_at left.node) in
+    let width : length (end_marks copies_at used (is_active on left) left) ≡ copies_at left.node =
+    choice_length (is_active on left) (used left.node) (copies_at left.node) in
     two_parts old mid now _ _ first second
-    ∙ ap (λ l. old ++ l) (ap (λ w. places k (end_marks copies_at used (is_active on left) left) ++ places (k + w) (not (is_active on left) ∷ [])) (sym width)
+    ∙ ap (λ l. old ++ l) (ap (λ w. places k (end_marks copies_at used (is_active on left) left)
+    ++ places (k + w) (not (is_active on left) ∷ [])) (sym width)
     ∙ sym (places_append k (end_marks copies_at used (is_active on left) left) (not (is_active on left) ∷ [])))
 
 -- The marks of a unit with two ends, where the copies in use are counted in between.
-pub unit_two : (old mid now : List ℕ) (k : ℕ) (copies_at used next : ℕ → ℕ) (on : Bool) (left right : End) → next right.node ≡ take_end used (is_active on left) left right.node
-    → mid ≡ old ++ places k (end_marks copies_at used (is_active on left) left) → now ≡ mid ++ places (k + copies_at left.node) (right_marks copies_at next on left right) → now ≡ old ++ places k (marks_by copies_at used on left (Some right))
+pub unit_two : (old mid now : List ℕ) (k : ℕ) (copies_at used next : ℕ → ℕ) (on : Bool) (left right : End)
+    → next right.node ≡ take_end used (is_active on left) left right.node
+    → mid ≡ old ++ places k (end_marks copies_at used (is_active on left) left)
+    → now ≡ mid ++ places (k + copies_at left.node) (right_marks copies_at next on left right)
+    → now ≡ old ++ places k (marks_by copies_at used on left (Some right))
 unit_two old mid now k copies_at used next on left right taken first second =
-    let width : length (end_marks copies_at used (is_active on left) left) ≡ copies_at left.node = choice_length (is_active on left) (used left.node) (copies_at left.node) in
-    let same : right_marks copies_at next on left right ≡ right_marks copies_at (take_end used (is_active on left) left) on left right =
-    ap (λ i. cond (are_alike left right) (choice (is_active on right) i (copies_at right.node) ++ not (is_active on left) ∷ []) (choice (is_active on right) i (copies_at right.node))) taken in
+    let width : length (end_marks copies_at used (is_active on left) left) ≡ copies_at left.node =
+    choice_length (is_active on left) (used left.node) (copies_at left.node) in
+    let same : right_marks copies_at next on left right ≡ right_marks copies_at (take_end used (is_active on left) left)
+    on left right =
+    ap (λ i. cond (are_alike left right) (choice (is_active on right) i (copies_at right.node)
+    ++ not (is_active on left) ∷ []) (choice (is_active on right) i (copies_at right.node))) taken in
     two_parts old mid now _ _ first second
-    ∙ ap (λ l. old ++ l) (ap (λ ms. places k (end_marks copies_at used (is_active on left) left) ++ places (k + copies_at left.node) ms) same
-    ∙ (ap (λ w. places k (end_marks copies_at used (is_active on left) left) ++ places (k + w) (right_marks copies_at (take_end used (is_active on left) left) on left right)) (sym width)
-    ∙ (sym (places_append k (end_marks copies_at used (is_active on left) left) (right_marks copies_at (take_end used (is_active on left) left) on left right)) ∙ ap (places k) (sym (marks_two copies_at used on left right)))))
+    ∙ ap (λ l. old ++ l) (ap (λ ms. places k (end_marks copies_at used (is_active on left) left)
+    ++ places (k + copies_at left.node) ms) same
+    ∙ (ap (λ w. places k (end_marks copies_at used (is_active on left) left)
+    ++ places (k + w) (right_marks copies_at (take_end used (is_active on left) left) on left right))
+    (sym width)
+    ∙ (sym (places_append k (end_marks copies_at used (is_active on left) left)
+    (right_marks copies_at (take_end used (is_active on left) left) on left right))
+    ∙ ap (places k) (sym (marks_two copies_at used on left right)))))
 
 -- The numbers of the first part of the marks, and those of what is left.
-pub marks_step : (m now : List ℕ) (k w : ℕ) (part rest whole : List Bool) → whole ≡ part ++ rest → length part ≡ w → now ≡ m ++ places k part → now ++ places (k + w) rest ≡ m ++ places k whole
+pub marks_step : (m now : List ℕ) (k w : ℕ) (part rest whole : List Bool) → whole ≡ part ++ rest → length part ≡ w
+    → now ≡ m ++ places k part → now ++ places (k + w) rest ≡ m ++ places k whole
 marks_step m now k w part rest whole split width pushed =
     ap (λ l. l ++ places (k + w) rest) pushed
     ∙ (append_assoc m (places k part) (places (k + w) rest)
-    ∙ ap (λ l. m ++ l) (ap (λ i. places k part ++ places (k + i) rest) (sym width) ∙ (sym (places_append k part rest) ∙ ap (places k) (sym split))))
+    ∙ ap (λ l. m ++ l) (ap (λ i. places k part ++ places (k + i) rest) (sym width)
+    ∙ (sym (places_append k part rest) ∙ ap (places k) (sym split))))
 
 -- The marks of one vertex at the rim, and of those after it.
-rim_first : (there waits o p : Bool) (os : List Bool) → rim_by there waits (o ∷ p ∷ os) ≡ turn_marks there waits o false ++ rim_by true (differ waits o) (p ∷ os)
+rim_first : (there waits o p : Bool) (os : List Bool) → rim_by there waits (o ∷ p ∷ os) ≡ turn_marks there waits o false
+    ++ rim_by true (differ waits o) (p ∷ os)
 rim_first there waits o p os = grind (arith)
 
-pub rim_step : (there waits : Bool) (os : List Bool) (i : ℕ) → i < length os → rim_by there waits (drop i os) ≡ turn_marks there waits (slice_index_or os i false) (i + 1 == length os) ++ rim_by true (differ waits (slice_index_or os i false)) (drop (i + 1) os)
+pub rim_step : (there waits : Bool) (os : List Bool) (i : ℕ) → i < length os → rim_by there waits (drop i os)
+    ≡ turn_marks there waits (slice_index_or os i false) (i + 1 == length os)
+    ++ rim_by true (differ waits (slice_index_or os i false)) (drop (i + 1) os)
 rim_step there waits os i l = ap (rim_by there waits) (drop_more os i false l) ∙ by_order (cases_eq (i + 1) (length os))
   where
     o : Bool
     o = slice_index_or os i false
 
-    by_order : (i + 1 ≡ length os) ⊎ (i + 1 ≡ length os → ⊥) → rim_by there waits (o ∷ drop (i + 1) os) ≡ turn_marks there waits o (i + 1 == length os) ++ rim_by true (differ waits o) (drop (i + 1) os)
+    by_order : (i + 1 ≡ length os) ⊎ (i + 1 ≡ length os → ⊥) → rim_by there waits (o ∷ drop (i + 1) os)
+        ≡ turn_marks there waits o (i + 1 == length os) ++ rim_by true (differ waits o) (drop (i + 1) os)
     by_order (inl e) =
         let none : drop (i + 1) os ≡ [] = drop_all (i + 1) os (omega arith) in
         let test : (i + 1 == length os) ≡ true = eq-eqb (i + 1) (length os) e in
         rw (none, test) (sym (append-nil (mark_if there (waits && o))))
     by_order (inr ne) =
-        let next : drop (i + 1) os ≡ slice_index_or os (i + 1) false ∷ drop (i + 1 + 1) os = drop_more os (i + 1) false (omega arith) in
+        let next : drop (i + 1) os ≡ slice_index_or os (i + 1) false ∷ drop (i + 1 + 1) os =
+        drop_more os (i + 1) false (omega arith) in
         let test : (i + 1 == length os) ≡ false = ne_eqb (i + 1) (length os) ne in
         rw (next, test) (rim_first there waits o (slice_index_or os (i + 1) false) (drop (i + 1 + 1) os))
 

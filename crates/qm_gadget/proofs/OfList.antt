@@ -1,5 +1,6 @@
 -- The lows and caps of an admissible list are ready for a plan, and its plan gives its matching graph.
-use Rattle.std.proofs.Common.{◌≡◌, ℕ, zero, suc, ◌+◌, ◌-◌, ◌*◌, ◌%◌, ◌^◌, ◌<◌, ◌≤◌, ◌==◌, Bool, cond, List, [], ◌∷◌, length, map, Option, Some, None, sym, ◌∙◌, ap, inl, inr, arith}
+use Rattle.std.proofs.Common.{◌≡◌, ℕ, zero, suc, ◌+◌, ◌-◌, ◌*◌, ◌%◌, ◌^◌, ◌<◌, ◌≤◌, ◌==◌, Bool, cond, List, [], ◌∷◌}
+use Rattle.std.proofs.Common.{length, map, Option, Some, None, sym, ◌∙◌, ap, inl, inr, arith}
 use Rattle.std.specs.Prelude.{unsigned_abs}
 use Rattle.std.proofs.Math.Nat.{mul-le-mul}
 use Rattle.std.proofs.lemmas.Bool.{cases_lt}
@@ -9,7 +10,8 @@ use Rattle.def_flow.specs.Network.{Network, IsWithinBounds, tangle_number}
 use Rattle.def_flow.specs.Admissible.{IsAdmissible, entries}
 use Rattle.def_matching.specs.Matching.{WeightedGraph, IsCheap, IsSmallGraph, edge_at}
 use Rattle.def_flow.specs.Units.{low, cap, units, active, rim_active}
-use Rattle.def_flow.specs.MatchingGraph.{graph_by, graph_of_units, matching_graph, first_fresh, unit_size, size_by, are_alike, rim}
+use Rattle.def_flow.specs.MatchingGraph.{graph_by, graph_of_units, matching_graph, first_fresh, unit_size, size_by}
+use Rattle.def_flow.specs.MatchingGraph.{are_alike, rim}
 use Rattle.def_flow.specs.declared.net.End.{End}
 use Rattle.def_flow.specs.declared.units.ArcUnit.{ArcUnit}
 use Rattle.def_flow.specs.Admissible.{AreNetLengths}
@@ -44,52 +46,82 @@ units_few (u ∷ us) = omega (arith, one u.left u.right, units_few us)
     one left (Some right) = by_signs (are_alike left right)
 
 -- The matching graph is small.
-pub graph_small : (net : Network) (step : ℕ) (xs : List ℕ) → IsWithinBounds net → length xs ≡ length net.arcs → IsAdmissible net (entries xs) → tangle_number net ≤ 2 ^ 25 → (matching_graph net step xs).n ≤ 2 ^ 25
+pub graph_small : (net : Network) (step : ℕ) (xs : List ℕ) → IsWithinBounds net → length xs ≡ length net.arcs
+    → IsAdmissible net (entries xs) → tangle_number net ≤ 2 ^ 25 → (matching_graph net step xs).n ≤ 2 ^ 25
 graph_small net step xs bounds count admissible tangle =
-    let law : (16 * (matching_graph net step xs).n ≤ 9 * tangle_number net) × (8 * length (matching_graph net step xs).edges ≤ 9 * tangle_number net) = size_law net step xs bounds count admissible in
+    let law : (16 * (matching_graph net step xs).n ≤ 9 * tangle_number net)
+    × (8 * length (matching_graph net step xs).edges ≤ 9 * tangle_number net) =
+    size_law net step xs bounds count admissible in
     omega (arith, law.0)
 
 -- The matching graph is lawful and small.
-pub graph_lawful : (net : Network) (step : ℕ) (xs : List ℕ) → IsWithinBounds net → length xs ≡ length net.arcs → IsAdmissible net (entries xs) → tangle_number net ≤ 2 ^ 25 → IsSmallGraph (matching_graph net step xs)
+pub graph_lawful : (net : Network) (step : ℕ) (xs : List ℕ) → IsWithinBounds net → length xs ≡ length net.arcs
+    → IsAdmissible net (entries xs) → tangle_number net ≤ 2 ^ 25 → IsSmallGraph (matching_graph net step xs)
 graph_lawful net step xs bounds count admissible tangle =
-    let law : (16 * (matching_graph net step xs).n ≤ 9 * tangle_number net) × (8 * length (matching_graph net step xs).edges ≤ 9 * tangle_number net) = size_law net step xs bounds count admissible in
+    let law : (16 * (matching_graph net step xs).n ≤ 9 * tangle_number net)
+    × (8 * length (matching_graph net step xs).edges ≤ 9 * tangle_number net) =
+    size_law net step xs bounds count admissible in
     record { lawful = graph_law net step xs bounds; vertices = omega (arith, law.0); edges = omega (arith, law.1) }
 
 -- Its costs are so low that no sum of them overflows.
-pub graph_cheap : (net : Network) (step : ℕ) (xs : List ℕ) → IsWithinBounds net → length xs ≡ length net.arcs → IsAdmissible net (entries xs) → tangle_number net ≤ 2 ^ 25 → step ≤ 4096 → IsCheap (matching_graph net step xs)
+pub graph_cheap : (net : Network) (step : ℕ) (xs : List ℕ) → IsWithinBounds net → length xs ≡ length net.arcs
+    → IsAdmissible net (entries xs) → tangle_number net ≤ 2 ^ 25 → step ≤ 4096 → IsCheap (matching_graph net step xs)
 graph_cheap net step xs bounds count admissible tangle short k l =
     let g : WeightedGraph = matching_graph net step xs in
     let few : g.n ≤ 20000000 = omega (arith, (size_law net step xs bounds count admissible).0) in
     let low : unsigned_abs (edge_at g k).cost ≤ 4096000000 = omega (arith, costs net step xs bounds k l) in
-    omega (arith, mul-le-mul {n₁ = g.n} {m₁ = unsigned_abs (edge_at g k).cost} {n₂ = 20000000} {m₂ = 4096000000} few low)
+    omega (
+      arith,
+      mul-le-mul {n₁ = g.n} {m₁ = unsigned_abs (edge_at g k).cost} {n₂ = 20000000} {m₂ = 4096000000} few
+          low,
+    )
 
 -- The lows and caps of an admissible list.
-pub list_ready : (net : Network) (step : ℕ) (xs : List ℕ) → IsWithinBounds net → AreNetLengths net.arcs xs → IsAdmissible net (entries xs) → tangle_number net ≤ 2 ^ 25 → IsReady net step (map (low net step) xs) (map (cap net step) xs)
+pub list_ready : (net : Network) (step : ℕ) (xs : List ℕ) → IsWithinBounds net → AreNetLengths net.arcs xs
+    → IsAdmissible net (entries xs) → tangle_number net ≤ 2 ^ 25
+    → IsReady net step (map (low net step) xs) (map (cap net step) xs)
 list_ready net step xs bounds lengths admissible tangle = record {
   boxes = record {
     lows_count = length-map xs (low net step) ∙ lengths.count;
     caps_count = length-map xs (cap net step) ∙ lengths.count;
-    low = λ k l. omega (arith, get_or-map (low net step) xs k 0 0 (omega (arith, lengths.count)), lengths.small k (omega (arith, lengths.count)));
+    low = λ k l. omega (
+      arith,
+      get_or-map (low net step) xs k 0 0 (omega (arith, lengths.count)),
+      lengths.small k (omega (arith, lengths.count)),
+    );
     least = λ k l. omega (arith, get_or-map (cap net step) xs k 0 0 (omega (arith, lengths.count)));
     most = λ k l. omega (arith, get_or-map (cap net step) xs k 0 0 (omega (arith, lengths.count)));
   };
-  few = omega (arith, units_few (units net step net.arcs xs), graph_small net step xs bounds lengths.count admissible tangle);
-  at = at_by_index net.nodes (units net step net.arcs xs) (units_at net step net.arcs xs (arcs_at net.nodes net.arcs bounds.arcs));
+  few = omega (
+    arith,
+    units_few (units net step net.arcs xs),
+    graph_small net step xs bounds lengths.count admissible
+        tangle,
+  );
+  at = at_by_index net.nodes (units net step net.arcs xs)
+      (units_at net step net.arcs xs (arcs_at net.nodes net.arcs bounds.arcs));
 }
 
 -- The copies of a plan are the active ends at each number, also past the nodes.
-pub plan_counts : (net : Network) (step : ℕ) (ls cs : List ℕ) (p : Plan) → IsReady net step ls cs → IsPlan net step ls cs p → copies_in p.counts.items ≡ (λ v. active v (units_over net step net.arcs ls cs) (states_of_caps cs))
-plan_counts net step ls cs p ready plan = same_everywhere (copies_in p.counts.items) (λ v. active v (units_over net step net.arcs ls cs) (states_of_caps cs)) (λ v. elim (cases_lt v net.nodes) [
-  | inl l ↦ plan.counts.each v l
-  | inr h ↦ get_or_past p.counts.items v 0 (omega (arith, plan.counts.count)) ∙ sym (none_past net.nodes (units_over net step net.arcs ls cs) (states_of_caps cs) ready.at v h)
-])
+pub plan_counts : (net : Network) (step : ℕ) (ls cs : List ℕ) (p : Plan) → IsReady net step ls cs
+    → IsPlan net step ls cs p → copies_in p.counts.items
+    ≡ (λ v. active v (units_over net step net.arcs ls cs) (states_of_caps cs))
+plan_counts net step ls cs p ready plan =
+    same_everywhere (copies_in p.counts.items) (λ v. active v (units_over net step net.arcs ls cs) (states_of_caps cs))
+    (λ v. elim (cases_lt v net.nodes) [
+      | inl l ↦ plan.counts.each v l
+      | inr h ↦ get_or_past p.counts.items v 0 (omega (arith, plan.counts.count))
+          ∙ sym (none_past net.nodes (units_over net step net.arcs ls cs) (states_of_caps cs) ready.at v h)
+    ])
 
 -- The graph of units by lows and caps is the matching graph of the list.
-pub graph_over : (net : Network) (step : ℕ) (xs : List ℕ) → graph_by_lows net step (map (low net step) xs) (map (cap net step) xs) ≡ matching_graph net step xs
+pub graph_over : (net : Network) (step : ℕ) (xs : List ℕ)
+    → graph_by_lows net step (map (low net step) xs) (map (cap net step) xs) ≡ matching_graph net step xs
 graph_over net step xs = ap (graph_of_units net.nodes (units net step net.arcs xs)) (own_states net step xs)
 
 -- The graph of a plan.
-pub plan_graph : (net : Network) (step : ℕ) (ls cs : List ℕ) (p : Plan) → IsReady net step ls cs → IsPlan net step ls cs p
+pub plan_graph : (net : Network) (step : ℕ) (ls cs : List ℕ) (p : Plan) → IsReady net step ls cs
+    → IsPlan net step ls cs p
     → graph_by (length p.counts.items) (copies_in p.counts.items) p.lone p.units.items ≡ graph_by_lows net step ls cs
 plan_graph net step ls cs p ready plan =
     ap (λ n. graph_by n (copies_in p.counts.items) p.lone p.units.items) plan.counts.count
@@ -104,13 +136,18 @@ plan_graph net step ls cs p ready plan =
     ons = states_of_caps cs
 
 -- A plan's units have their ends at the nodes that it counts.
-pub plan_at : (net : Network) (step : ℕ) (ls cs : List ℕ) (p : Plan) → IsReady net step ls cs → IsPlan net step ls cs p → AreAtNodes (length p.counts.items) p.units.items
+pub plan_at : (net : Network) (step : ℕ) (ls cs : List ℕ) (p : Plan) → IsReady net step ls cs → IsPlan net step ls cs p
+    → AreAtNodes (length p.counts.items) p.units.items
 plan_at net step ls cs p ready plan = rw (plan.counts.count, plan.units) ready.at
 
 -- The graph of a plan is small.
-pub plan_small : (net : Network) (step : ℕ) (ls cs : List ℕ) (p : Plan) → IsReady net step ls cs → IsPlan net step ls cs p → (graph_by_lows net step ls cs).n ≤ 2 ^ 25
-    → first_fresh (length p.counts.items) (copies_in p.counts.items) p.lone p.units.items + 2 * length (rim (count_below (copies_in p.counts.items) (length p.counts.items)) p.units.items) < 2 ^ 26
+pub plan_small : (net : Network) (step : ℕ) (ls cs : List ℕ) (p : Plan) → IsReady net step ls cs
+    → IsPlan net step ls cs p → (graph_by_lows net step ls cs).n ≤ 2 ^ 25
+    → first_fresh (length p.counts.items) (copies_in p.counts.items) p.lone p.units.items + 2 * length
+    (rim (count_below (copies_in p.counts.items) (length p.counts.items)) p.units.items) < 2 ^ 26
 plan_small net step ls cs p ready plan small =
-    let n : first_fresh (length p.counts.items) (copies_in p.counts.items) p.lone p.units.items + 2 * (length (rim (count_below (copies_in p.counts.items) (length p.counts.items)) p.units.items) - 1) ≡ (graph_by_lows net step ls cs).n =
+    let n : first_fresh (length p.counts.items) (copies_in p.counts.items) p.lone p.units.items
+    + 2 * (length (rim (count_below (copies_in p.counts.items) (length p.counts.items)) p.units.items) - 1)
+    ≡ (graph_by_lows net step ls cs).n =
     ap (λ (g : WeightedGraph). g.n) (plan_graph net step ls cs p ready plan) in
     omega arith

@@ -1,5 +1,7 @@
 -- Reading an increasing list of edges unit by unit.
-use Rattle.std.proofs.Common.{◌≡◌, ℕ, zero, suc, ◌+◌, ◌*◌, ◌<◌, ◌≤◌, ◌==◌, Bool, true, false, not, cond, List, [], ◌∷◌, length, take, drop, map, Option, refl, sym, ◌∙◌, ap, subst, inl, inr, ◌⊎◌, add-zero, length-append, arith}
+use Rattle.std.proofs.Common.{◌≡◌, ℕ, zero, suc, ◌+◌, ◌*◌, ◌<◌, ◌≤◌, ◌==◌, Bool, true, false, not, cond, List, [], ◌∷◌}
+use Rattle.std.proofs.Common.{length, take, drop, map, Option, refl, sym, ◌∙◌, ap, subst, inl, inr, ◌⊎◌, add-zero}
+use Rattle.std.proofs.Common.{length-append, arith}
 use Rattle.std.specs.Prelude.{nat_lt, slice_index_or}
 use Rattle.std.specs.Bool.{beq}
 use Rattle.std.proofs.lemmas.Bool.{cases_eq, cases_lt, eq-eqb, ne_eqb, lt-ltb}
@@ -26,19 +28,24 @@ none_below_first k high (e ∷ m) increasing = let le : k ≤ e = increasing.0 i
 
 skip_none : (k high : ℕ) (m : List ℕ) → IsIncreasing k high m → skip_below k m ≡ m
 skip_none k high [] increasing = refl
-skip_none k high (e ∷ m) increasing = let le : k ≤ e = increasing.0 in let off : nat_lt e k ≡ false = grind (arith, nat_tests) in rw off refl
+skip_none k high (e ∷ m) increasing = let le : k ≤ e = increasing.0 in let off : nat_lt e k ≡ false =
+    grind (arith, nat_tests) in rw off refl
 
 -- Without the numbers below a bound it rises from the bound on.
 pub increasing_skip : (k end high : ℕ) (m : List ℕ) → IsIncreasing k high m → IsIncreasing end high (skip_below end m)
 increasing_skip k end high [] increasing = tt
-increasing_skip k end high (e ∷ m) increasing = by_test (cases_lt e end) (increasing_skip (e + 1) end high m increasing.2)
+increasing_skip k end high (e ∷ m) increasing =
+    by_test (cases_lt e end) (increasing_skip (e + 1) end high m increasing.2)
   where
-    by_test : (e < end) ⊎ (end ≤ e) → IsIncreasing end high (skip_below end m) → IsIncreasing end high (cond (nat_lt e end) (skip_below end m) (e ∷ m))
+    by_test : (e < end) ⊎ (end ≤ e) → IsIncreasing end high (skip_below end m)
+        → IsIncreasing end high (cond (nat_lt e end) (skip_below end m) (e ∷ m))
     by_test (inl l) rest = let on : nat_lt e end ≡ true = grind (arith, nat_tests) in rw on rest
-    by_test (inr h) rest = let off : nat_lt e end ≡ false = grind (arith, nat_tests) in rw off (h, increasing.1, increasing.2)
+    by_test (inr h) rest = let off : nat_lt e end ≡ false = grind (arith, nat_tests) in
+        rw off (h, increasing.1, increasing.2)
 
 -- What is left of the marks past a number of edges.
-pub drop_marks : (w n t k high : ℕ) (m : List ℕ) → t ≡ w + n → IsIncreasing k high m → drop w (marks_from k t m) ≡ marks_from (k + w) n (skip_below (k + w) m)
+pub drop_marks : (w n t k high : ℕ) (m : List ℕ) → t ≡ w + n → IsIncreasing k high m → drop w (marks_from k t m)
+    ≡ marks_from (k + w) n (skip_below (k + w) m)
 drop_marks zero n t k high m e increasing =
     let here : k + 0 ≡ k = add-zero k in
     let long : t ≡ n = omega arith in
@@ -47,82 +54,133 @@ drop_marks (suc w) n zero k high m e increasing = absurd (omega arith)
 drop_marks (suc w) n (suc t) k high [] e increasing =
     let there : k + 1 + w ≡ k + suc w = omega arith in
     drop_marks w n t (k + 1) high [] (omega arith) tt ∙ ap (λ i. marks_from i n []) there
-drop_marks (suc w) n (suc t) k high (x ∷ m) e increasing = elim (cases_eq x k) [ inl is ↦ here is (drop_marks w n t (k + 1) high m (omega arith)) | inr ne ↦ after ne (drop_marks w n t (k + 1) high (x ∷ m) (omega arith)) ]
+drop_marks (suc w) n (suc t) k high (x ∷ m) e increasing =
+    elim (cases_eq x k) [
+      | inl is ↦ here is (drop_marks w n t (k + 1) high m (omega arith))
+      | inr ne ↦ after ne (drop_marks w n t (k + 1) high (x ∷ m) (omega arith))
+    ]
   where
     there : k + 1 + w ≡ k + suc w
     there = omega arith
 
-    here : x ≡ k → (IsIncreasing (k + 1) high m → drop w (marks_from (k + 1) t m) ≡ marks_from (k + 1 + w) n (skip_below (k + 1 + w) m)) → drop w (marks_from (k + 1) t (past (x == k) x m)) ≡ marks_from (k + suc w) n (skip_below (k + suc w) (x ∷ m))
+    here : x ≡ k → (IsIncreasing (k + 1) high m → drop w (marks_from (k + 1) t m)
+        ≡ marks_from (k + 1 + w) n (skip_below (k + 1 + w) m)) → drop w (marks_from (k + 1) t (past (x == k) x m))
+        ≡ marks_from (k + suc w) n (skip_below (k + suc w) (x ∷ m))
     here is rest =
         let on : (x == k) ≡ true = eq-eqb x k is in
         let low : nat_lt x (k + suc w) ≡ true = lt-ltb x (k + suc w) (omega arith) in
         let next : IsIncreasing (k + 1) high m = subst (λ (i : ℕ). IsIncreasing (i + 1) high m) is increasing.2 in
         rw (on, low) (rest next ∙ ap (λ i. marks_from i n (skip_below i m)) there)
 
-    after : (x ≡ k → ⊥) → (IsIncreasing (k + 1) high (x ∷ m) → drop w (marks_from (k + 1) t (x ∷ m)) ≡ marks_from (k + 1 + w) n (skip_below (k + 1 + w) (x ∷ m))) → drop w (marks_from (k + 1) t (past (x == k) x m)) ≡ marks_from (k + suc w) n (skip_below (k + suc w) (x ∷ m))
+    after : (x ≡ k → ⊥) → (IsIncreasing (k + 1) high (x ∷ m) → drop w (marks_from (k + 1) t (x ∷ m))
+        ≡ marks_from (k + 1 + w) n (skip_below (k + 1 + w) (x ∷ m)))
+        → drop w (marks_from (k + 1) t (past (x == k) x m)) ≡ marks_from (k + suc w) n (skip_below (k + suc w) (x ∷ m))
     after ne rest =
         let off : (x == k) ≡ false = ne_eqb x k ne in
         let next : IsIncreasing (k + 1) high (x ∷ m) = (omega (arith, increasing.0), increasing.1, increasing.2) in
         rw off (rest next ∙ ap (λ i. marks_from i n (skip_below i (x ∷ m))) there)
 
 -- Some of the first edges is marked exactly if the first number is among them.
-pub some_marked : (copies_at t k high : ℕ) (m : List ℕ) → copies_at ≤ t → IsIncreasing k high m → nat_lt 0 (trues (take copies_at (marks_from k t m))) ≡ first_below m (k + copies_at)
-some_marked zero t k high m le increasing = let here : k + 0 ≡ k = add-zero k in sym (ap (first_below m) here ∙ none_below_first k high m increasing)
+pub some_marked : (copies_at t k high : ℕ) (m : List ℕ) → copies_at ≤ t → IsIncreasing k high m
+    → nat_lt 0 (trues (take copies_at (marks_from k t m))) ≡ first_below m (k + copies_at)
+some_marked zero t k high m le increasing = let here : k + 0 ≡ k = add-zero k in
+    sym (ap (first_below m) here ∙ none_below_first k high m increasing)
 some_marked (suc copies_at) zero k high m le increasing = absurd (omega arith)
 some_marked (suc copies_at) (suc t) k high [] le increasing =
-    let rest : nat_lt 0 (trues (take copies_at (marks_from (k + 1) t []))) ≡ false = some_marked copies_at t (k + 1) high [] (omega arith) tt in
-    let none : 0 + trues (take copies_at (marks_from (k + 1) t [])) ≡ trues (take copies_at (marks_from (k + 1) t [])) = omega arith in
+    let rest : nat_lt 0 (trues (take copies_at (marks_from (k + 1) t []))) ≡ false =
+    some_marked copies_at t (k + 1) high [] (omega arith) tt in
+    let none : 0 + trues (take copies_at (marks_from (k + 1) t [])) ≡ trues (take copies_at (marks_from (k + 1) t [])) =
+    omega arith in
     ap (nat_lt 0) none ∙ rest
-some_marked (suc copies_at) (suc t) k high (x ∷ m) le increasing = elim (cases_eq x k) [ inl is ↦ here is | inr ne ↦ after ne (some_marked copies_at t (k + 1) high (x ∷ m) (omega arith)) ]
+some_marked (suc copies_at) (suc t) k high (x ∷ m) le increasing =
+    elim (cases_eq x k) [
+      | inl is ↦ here is
+      | inr ne ↦ after ne (some_marked copies_at t (k + 1) high (x ∷ m) (omega arith))
+    ]
   where
-    here : x ≡ k → nat_lt 0 (cond (x == k) 1 0 + trues (take copies_at (marks_from (k + 1) t (past (x == k) x m)))) ≡ nat_lt x (k + suc copies_at)
+    here : x ≡ k → nat_lt 0 (cond (x == k) 1 0 + trues (take copies_at (marks_from (k + 1) t (past (x == k) x m))))
+        ≡ nat_lt x (k + suc copies_at)
     here is =
         let on : (x == k) ≡ true = eq-eqb x k is in
         let low : nat_lt x (k + suc copies_at) ≡ true = lt-ltb x (k + suc copies_at) (omega arith) in
-        let some : nat_lt 0 (1 + trues (take copies_at (marks_from (k + 1) t m))) ≡ true = lt-ltb 0 (1 + trues (take copies_at (marks_from (k + 1) t m))) (omega arith) in
+        let some : nat_lt 0 (1 + trues (take copies_at (marks_from (k + 1) t m))) ≡ true =
+        lt-ltb 0 (1 + trues (take copies_at (marks_from (k + 1) t m))) (omega arith) in
         rw (on, low) some
 
-    after : (x ≡ k → ⊥) → (IsIncreasing (k + 1) high (x ∷ m) → nat_lt 0 (trues (take copies_at (marks_from (k + 1) t (x ∷ m)))) ≡ nat_lt x (k + 1 + copies_at)) → nat_lt 0 (cond (x == k) 1 0 + trues (take copies_at (marks_from (k + 1) t (past (x == k) x m)))) ≡ nat_lt x (k + suc copies_at)
+    after : (x ≡ k → ⊥) → (IsIncreasing (k + 1) high (x ∷ m)
+        → nat_lt 0 (trues (take copies_at (marks_from (k + 1) t (x ∷ m)))) ≡ nat_lt x (k + 1 + copies_at))
+        → nat_lt 0 (cond (x == k) 1 0 + trues (take copies_at (marks_from (k + 1) t (past (x == k) x m))))
+        ≡ nat_lt x (k + suc copies_at)
     after ne rest =
         let off : (x == k) ≡ false = ne_eqb x k ne in
         let next : IsIncreasing (k + 1) high (x ∷ m) = (omega (arith, increasing.0), increasing.1, increasing.2) in
         let there : k + 1 + copies_at ≡ k + suc copies_at = omega arith in
-        let none : 0 + trues (take copies_at (marks_from (k + 1) t (x ∷ m))) ≡ trues (take copies_at (marks_from (k + 1) t (x ∷ m))) = omega arith in
+        let none : 0 + trues (take copies_at (marks_from (k + 1) t (x ∷ m)))
+        ≡ trues (take copies_at (marks_from (k + 1) t (x ∷ m))) = omega arith in
         rw off (ap (nat_lt 0) none ∙ (rest next ∙ ap (nat_lt x) there))
 
 -- The state of a unit, by the first number.
-pub state_read : (copies_at : ℕ → ℕ) (left : End) (t k high : ℕ) (m : List ℕ) → copies_at left.node ≤ t → IsIncreasing k high m → state_told copies_at (marks_from k t m) left ≡ beq left.plus (first_below m (k + copies_at left.node))
-state_read copies_at left t k high m le increasing = ap (λ b. cond left.plus b (not b)) (some_marked (copies_at left.node) t k high m le increasing) ∙ grind (arith)
+pub state_read : (copies_at : ℕ → ℕ) (left : End) (t k high : ℕ) (m : List ℕ) → copies_at left.node ≤ t
+    → IsIncreasing k high m → state_told copies_at (marks_from k t m) left
+    ≡ beq left.plus (first_below m (k + copies_at left.node))
+state_read copies_at left t k high m le increasing =
+    ap (λ b. cond left.plus b (not b)) (some_marked (copies_at left.node) t k high m le increasing) ∙ grind (arith)
 
 -- The states from a unit on: its own, and those from the next on.
-pub states_read : (copies_at : ℕ → ℕ) (us : List ArcUnit) (i : ℕ) (u : ArcUnit) (t n k high : ℕ) (m : List ℕ) → i < length us → t ≡ width_of_unit copies_at (slice_index_or us i u) + n → copies_at (slice_index_or us i u).left.node ≤ t → IsIncreasing k high m
-    → states_told copies_at (drop i us) (marks_from k t m) ≡ beq (slice_index_or us i u).left.plus (first_below m (k + copies_at (slice_index_or us i u).left.node)) ∷ states_told copies_at (drop (i + 1) us) (marks_from (k + width_of_unit copies_at (slice_index_or us i u)) n (skip_below (k + width_of_unit copies_at (slice_index_or us i u)) m))
+pub states_read : (copies_at : ℕ → ℕ) (us : List ArcUnit) (i : ℕ) (u : ArcUnit) (t n k high : ℕ) (m : List ℕ)
+    → i < length us → t ≡ width_of_unit copies_at (slice_index_or us i u) + n
+    → copies_at (slice_index_or us i u).left.node ≤ t → IsIncreasing k high m
+    → states_told copies_at (drop i us) (marks_from k t m)
+    ≡ beq (slice_index_or us i u).left.plus (first_below m (k + copies_at (slice_index_or us i u).left.node))
+    ∷ states_told copies_at (drop (i + 1) us) (marks_from (k + width_of_unit copies_at (slice_index_or us i u)) n
+    (skip_below (k + width_of_unit copies_at (slice_index_or us i u)) m))
 states_read copies_at us i u t n k high m l long le increasing =
-    rw (drop_more us i u l, state_read copies_at (slice_index_or us i u).left t k high m le increasing, drop_marks (width_of_unit copies_at (slice_index_or us i u)) n t k high m long increasing) refl
+    rw (
+      drop_more us i u l,
+      state_read copies_at (slice_index_or us i u).left t k high m le increasing,
+      drop_marks (width_of_unit copies_at (slice_index_or us i u)) n t k high m long increasing,
+    ) refl
 
 -- The first end's copies are among a unit's edges.
-pub count_in_width : (copies_at : ℕ → ℕ) (left : End) (right : Option End) → copies_at left.node ≤ width_by copies_at left right
+pub count_in_width : (copies_at : ℕ → ℕ) (left : End) (right : Option End)
+    → copies_at left.node ≤ width_by copies_at left right
 count_in_width copies_at left right = grind (arith)
 
 -- The widths from a unit on.
-pub widths_step : (copies_at : ℕ → ℕ) (us : List ArcUnit) (i : ℕ) (u : ArcUnit) → i < length us → count (width_of_unit copies_at) (drop i us) ≡ width_of_unit copies_at (slice_index_or us i u) + count (width_of_unit copies_at) (drop (i + 1) us)
+pub widths_step : (copies_at : ℕ → ℕ) (us : List ArcUnit) (i : ℕ) (u : ArcUnit) → i < length us
+    → count (width_of_unit copies_at) (drop i us) ≡ width_of_unit copies_at (slice_index_or us i u)
+    + count (width_of_unit copies_at) (drop (i + 1) us)
 widths_step copies_at us i u l = rw (drop_more us i u l) refl
 
 -- The widths of all units are no more than the edges of the graph.
-widths_marks : (copies_at used : ℕ → ℕ) (us : List ArcUnit) (ons : List Bool) → length us ≡ length ons → count (width_of_unit copies_at) us ≡ length (units_marks copies_at used us ons)
+widths_marks : (copies_at used : ℕ → ℕ) (us : List ArcUnit) (ons : List Bool) → length us ≡ length ons
+    → count (width_of_unit copies_at) us ≡ length (units_marks copies_at used us ons)
 widths_marks copies_at used [] ons same = refl
 widths_marks copies_at used (u ∷ us) [] same = absurd (omega arith)
-widths_marks copies_at used (u ∷ us) (on ∷ ons) same = omega (arith, length-append (marks_by copies_at used on u.left u.right) (units_marks copies_at (λ v. used v + active_at v u on) us ons), marks_width copies_at used on u.left u.right, widths_marks copies_at (λ v. used v + active_at v u on) us ons (omega arith))
+widths_marks copies_at used (u ∷ us) (on ∷ ons) same =
+    omega (
+      arith,
+      length-append (marks_by copies_at used on u.left u.right)
+          (units_marks copies_at (λ v. used v + active_at v u on) us ons),
+      marks_width copies_at used on u.left u.right,
+      widths_marks copies_at (λ v. used v + active_at v u on) us ons (omega arith),
+    )
 
-pub widths_low : (nodes : ℕ) (copies_at : ℕ → ℕ) (lone : Bool) (us : List ArcUnit) (ons : List Bool) → length us ≡ length ons → count (width_of_unit copies_at) us ≤ length (graph_by nodes copies_at lone us).edges
+pub widths_low : (nodes : ℕ) (copies_at : ℕ → ℕ) (lone : Bool) (us : List ArcUnit) (ons : List Bool)
+    → length us ≡ length ons → count (width_of_unit copies_at) us ≤ length (graph_by nodes copies_at lone us).edges
 widths_low nodes copies_at lone us ons same = omega (
   arith,
   widths_marks copies_at (λ v. 0) us ons same,
   units_length copies_at (λ v. 0) (count_below copies_at nodes) us ons same,
-  length-append (units_links copies_at (count_below copies_at nodes) us) (rim_links (lone_vertex nodes copies_at lone us) (first_fresh nodes copies_at lone us) (rim (count_below copies_at nodes) us)),
+  length-append (units_links copies_at (count_below copies_at nodes) us)
+      (rim_links (lone_vertex nodes copies_at lone us) (first_fresh nodes copies_at lone us)
+      (rim (count_below copies_at nodes) us)),
 )
 
 -- The lengths by lows and caps are those with so many units on.
-pub lengths_is : (net : Network) (step : ℕ) (xs : List ℕ) (ons : List Bool) → lengths_by step (map (low net step) xs) (map (cap net step) xs) ons ≡ lengths_on net step xs (steps_told net step xs ons)
+pub lengths_is : (net : Network) (step : ℕ) (xs : List ℕ) (ons : List Bool)
+    → lengths_by step (map (low net step) xs) (map (cap net step) xs) ons
+    ≡ lengths_on net step xs (steps_told net step xs ons)
 lengths_is net step [] ons = refl
-lengths_is net step (x ∷ xs) ons = ap (λ ys. (low net step x + trues (take (cap net step x) ons) * step) ∷ ys) (lengths_is net step xs (drop (cap net step x) ons))
+lengths_is net step (x ∷ xs) ons = ap (λ ys. (low net step x + trues (take (cap net step x) ons) * step) ∷ ys)
+    (lengths_is net step xs (drop (cap net step x) ons))

@@ -1,5 +1,6 @@
 -- Lists in the box, by the steps that their entries are above the lows.
-use Rattle.std.proofs.Common.{◌≡◌, ℕ, suc, ◌-◌, ◌*◌, ◌/◌, ◌%◌, ◌^◌, ◌<◌, ◌≤◌, ◌==◌, Bool, true, false, List, [], ◌∷◌, length, map, refl, sym, ◌∙◌, ap, inl, inr, ◌⊎◌, length-append, arith}
+use Rattle.std.proofs.Common.{◌≡◌, ℕ, suc, ◌-◌, ◌*◌, ◌/◌, ◌%◌, ◌^◌, ◌<◌, ◌≤◌, ◌==◌, Bool, true, false, List, [], ◌∷◌}
+use Rattle.std.proofs.Common.{length, map, refl, sym, ◌∙◌, ap, inl, inr, ◌⊎◌, length-append, arith}
 use Rattle.std.specs.Prelude.{slice_index}
 use Rattle.std.proofs.lemmas.Bool.{cases_lt}
 use Rattle.std.proofs.lemmas.List.{get_or_past}
@@ -25,14 +26,22 @@ use Rattle.qm_gadget.proofs.OfList.{plan_counts}
 use Rattle.qm_gadget.proofs.NodeCounts.{active_low}
 
 -- No entry of a list in the box is more than 4 steps up.
-pub ups_small : (step : ℕ) (lows caps ys : List ℕ) → 1 ≤ step → IsInBox step lows caps ys → ((k : ℕ) → k < length lows → slice_index caps k ≤ 4) → (k : ℕ) → (slice_index ys k - slice_index lows k) / step ≤ 4
+pub ups_small : (step : ℕ) (lows caps ys : List ℕ) → 1 ≤ step → IsInBox step lows caps ys
+    → ((k : ℕ) → k < length lows → slice_index caps k ≤ 4) → (k : ℕ) → (slice_index ys k - slice_index lows k) / step
+    ≤ 4
 ups_small step lows caps ys some are most k = by_place (cases_lt k (length ys))
   where
     by_place : (k < length ys) ⊎ (length ys ≤ k) → (slice_index ys k - slice_index lows k) / step ≤ 4
     by_place (inl l) = inside (are.each k l)
       where
-        inside : IsStepUp (slice_index lows k) (slice_index caps k) step (slice_index ys k) → (slice_index ys k - slice_index lows k) / step ≤ 4
-        inside e = omega (arith, step_up e.up step (slice_index lows k) (slice_index ys k) some e.is, e.few, most k (omega (arith, are.count)))
+        inside : IsStepUp (slice_index lows k) (slice_index caps k) step (slice_index ys k)
+            → (slice_index ys k - slice_index lows k) / step ≤ 4
+        inside e = omega (
+          arith,
+          step_up e.up step (slice_index lows k) (slice_index ys k) some e.is,
+          e.few,
+          most k (omega (arith, are.count)),
+        )
     by_place (inr h) =
         let none : slice_index ys k - slice_index lows k ≡ 0 = omega (arith, get_or_past ys k 0 h) in
         let start : 0 * step ≡ 0 = omega arith in
@@ -46,9 +55,11 @@ ups_length step (l ∷ ls) [] same = absurd (omega arith)
 ups_length step (l ∷ ls) (y ∷ ys) same = ap suc (ups_length step ls ys (omega arith))
 
 -- Marks by lows and caps are those of the matching that is told.
-pub marks_over_is : (net : Network) (step : ℕ) (xs js : List ℕ) → places 0 (marks_over net step (map (low net step) xs) (map (cap net step) xs) js) ≡ matching_told net step xs js
+pub marks_over_is : (net : Network) (step : ℕ) (xs js : List ℕ)
+    → places 0 (marks_over net step (map (low net step) xs) (map (cap net step) xs) js) ≡ matching_told net step xs js
 marks_over_is net step xs js =
-    ap (λ os. places 0 (states_marks net.nodes (λ v. active v us os) (rim_active us os % 2 == 1) us (states net step xs js))) (own_states net step xs)
+    ap (λ os. places 0 (states_marks net.nodes (λ v. active v us os) (rim_active us os % 2 == 1) us
+    (states net step xs js))) (own_states net step xs)
   where
     us : List ArcUnit
     us = units net step net.arcs xs
@@ -57,13 +68,20 @@ marks_over_is net step xs js =
     ons = states_of_caps (map (cap net step) xs)
 
 -- There are as many marks as edges.
-pub marks_long : (nodes : ℕ) (copies_at : ℕ → ℕ) (lone : Bool) (us : List ArcUnit) (ons : List Bool) → length us ≡ length ons → length (states_marks nodes copies_at lone us ons) ≡ length (graph_by nodes copies_at lone us).edges
+pub marks_long : (nodes : ℕ) (copies_at : ℕ → ℕ) (lone : Bool) (us : List ArcUnit) (ons : List Bool)
+    → length us ≡ length ons → length (states_marks nodes copies_at lone us ons)
+    ≡ length (graph_by nodes copies_at lone us).edges
 marks_long nodes copies_at lone us ons same = omega (
   arith,
-  length-append (units_marks copies_at (λ v. 0) us ons) (rim_marks (lone_vertex nodes copies_at lone us) lone (first_fresh nodes copies_at lone us) (rim_states us ons)),
-  length-append (units_links copies_at (count_below copies_at nodes) us) (rim_links (lone_vertex nodes copies_at lone us) (first_fresh nodes copies_at lone us) (rim (count_below copies_at nodes) us)),
+  length-append (units_marks copies_at (λ v. 0) us ons) (rim_marks (lone_vertex nodes copies_at lone us) lone
+      (first_fresh nodes copies_at lone us) (rim_states us ons)),
+  length-append (units_links copies_at (count_below copies_at nodes) us)
+      (rim_links (lone_vertex nodes copies_at lone us) (first_fresh nodes copies_at lone us)
+      (rim (count_below copies_at nodes) us)),
   units_length copies_at (λ v. 0) (count_below copies_at nodes) us ons same,
-  rim_length (lone_vertex nodes copies_at lone us) lone (first_fresh nodes copies_at lone us) (rim (count_below copies_at nodes) us) (rim_states us ons) (states_length (count_below copies_at nodes) us ons same),
+  rim_length (lone_vertex nodes copies_at lone us) lone (first_fresh nodes copies_at lone us)
+      (rim (count_below copies_at nodes) us) (rim_states us ons) (states_length (count_below copies_at nodes) us ons
+      same),
 )
 
 -- No more units are at the rim than there are.
@@ -73,18 +91,23 @@ rim_states_few (u ∷ us) [] = omega arith
 rim_states_few (u ∷ us) (on ∷ ons) = grind (arith, rim_states_few us ons)
 
 -- The rim begins with the lone vertex, where there is one.
-pub rim_from_lone : (nodes : ℕ) (copies_at : ℕ → ℕ) (lone : Bool) (us : List ArcUnit) (fresh : ℕ) (os : List Bool) → rim_marks (lone_vertex nodes copies_at lone us) lone fresh os ≡ rim_by lone lone os
+pub rim_from_lone : (nodes : ℕ) (copies_at : ℕ → ℕ) (lone : Bool) (us : List ArcUnit) (fresh : ℕ) (os : List Bool)
+    → rim_marks (lone_vertex nodes copies_at lone us) lone fresh os ≡ rim_by lone lone os
 rim_from_lone nodes copies_at true us fresh os = rim_is (lone_vertex nodes copies_at true us) true fresh os
 rim_from_lone nodes copies_at false us fresh os = rim_is (lone_vertex nodes copies_at false us) false fresh os
 
 -- The marks of a plan.
-pub plan_marks : (net : Network) (step : ℕ) (ls cs js : List ℕ) (p : Plan) → IsReady net step ls cs → IsPlan net step ls cs p
-    → states_marks (length p.counts.items) (copies_in p.counts.items) p.lone p.units.items (states_over cs js) ≡ marks_over net step ls cs js
+pub plan_marks : (net : Network) (step : ℕ) (ls cs js : List ℕ) (p : Plan) → IsReady net step ls cs
+    → IsPlan net step ls cs p
+    → states_marks (length p.counts.items) (copies_in p.counts.items) p.lone p.units.items (states_over cs js)
+    ≡ marks_over net step ls cs js
 plan_marks net step ls cs js p ready plan =
     ap (λ n. states_marks n (copies_in p.counts.items) p.lone p.units.items (states_over cs js)) plan.counts.count
-    ∙ (ap (λ f. states_marks net.nodes f p.lone p.units.items (states_over cs js)) (plan_counts net step ls cs p ready plan)
+    ∙ (ap (λ f. states_marks net.nodes f p.lone p.units.items (states_over cs js))
+    (plan_counts net step ls cs p ready plan)
     ∙ (ap (λ b. states_marks net.nodes (λ v. active v over ons) b p.units.items (states_over cs js)) plan.lone
-    ∙ ap (λ us. states_marks net.nodes (λ v. active v over ons) (rim_active over ons % 2 == 1) us (states_over cs js)) plan.units))
+    ∙ ap (λ us. states_marks net.nodes (λ v. active v over ons) (rim_active over ons % 2 == 1) us (states_over cs js))
+    plan.units))
   where
     over : List ArcUnit
     over = units_over net step net.arcs ls cs
@@ -93,11 +116,18 @@ plan_marks net step ls cs js p ready plan =
     ons = states_of_caps cs
 
 -- A plan has few units, and few copies of each node.
-pub plan_few : (net : Network) (step : ℕ) (ls cs : List ℕ) (p : Plan) → IsReady net step ls cs → IsPlan net step ls cs p → (length p.units.items ≤ 2 ^ 25) × ((v : ℕ) → slice_index p.counts.items v ≤ 2 ^ 27)
+pub plan_few : (net : Network) (step : ℕ) (ls cs : List ℕ) (p : Plan) → IsReady net step ls cs → IsPlan net step ls cs p
+    → (length p.units.items ≤ 2 ^ 25) × ((v : ℕ) → slice_index p.counts.items v ≤ 2 ^ 27)
 plan_few net step ls cs p ready plan = (omega (arith, ap length plan.units, ready.few), counts)
   where
     counts : (v : ℕ) → slice_index p.counts.items v ≤ 2 ^ 27
     counts v = elim (cases_lt v net.nodes) [
-      | inl l ↦ omega (arith, plan.counts.each v l, active_low v (units_over net step net.arcs ls cs) (states_of_caps cs), ready.few)
+      | inl l ↦ omega (
+        arith,
+        plan.counts.each v l,
+        active_low v (units_over net step net.arcs ls cs)
+            (states_of_caps cs),
+        ready.few,
+      )
       | inr h ↦ omega (arith, get_or_past p.counts.items v 0 (omega (arith, plan.counts.count)))
     ]

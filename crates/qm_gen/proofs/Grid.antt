@@ -1,5 +1,6 @@
 -- The cells name points of the grid.
-use Rattle.std.proofs.Common.{◌≡◌, ◌<◌, ◌≤◌, ◌+◌, ◌*◌, ◌^◌, ◌&&◌, ℕ, zero, suc, ℤ, Bool, true, false, IsTrue, List, [], ◌∷◌, length, map, filter, cond, refl, ap, ap₂, sym, ◌∙◌, subst, arith, length-append}
+use Rattle.std.proofs.Common.{◌≡◌, ◌<◌, ◌≤◌, ◌+◌, ◌*◌, ◌^◌, ◌&&◌, ℕ, zero, suc, ℤ, Bool, true, false, IsTrue, List, []}
+use Rattle.std.proofs.Common.{◌∷◌, length, map, filter, cond, refl, ap, ap₂, sym, ◌∙◌, subst, arith, length-append}
 use Rattle.std.specs.Prelude.{nat_le, nat_lt}
 use Rattle.std.specs.List.{flat_map, list_all, range_with_len}
 use Rattle.std.proofs.lemmas.Bool.{and_from, le-leb, lt-ltb}
@@ -7,7 +8,8 @@ use Rattle.std.proofs.lemmas.List.{length-map}
 use Rattle.std.proofs.lemmas.List.Folds.{list_all-append}
 use Rattle.std.proofs.lemmas.List.FromFn.{length-map-range_with_len, length-range_with_len}
 use Rattle.std.proofs.Math.Nat.{mul-le-mul_right, suc-mul}
-use Rattle.def_gen.specs.Steps.{cell, cells, column_height, grid_points, whole_point, point_number, row_cells, row_points}
+use Rattle.def_gen.specs.Steps.{cell, cells, column_height, grid_points, whole_point, point_number, row_cells}
+use Rattle.def_gen.specs.Steps.{row_points}
 use Rattle.def_mesh.specs.Faces.{Faces}
 use Rattle.def_mesh.specs.Vertices.{is_used}
 use Rattle.def_text.specs.FaceSet.{FaceSet, IsSoup}
@@ -22,7 +24,13 @@ rows_long n y (suc k) =
     let first : length (row_points n y) ≡ 3 * n + 1 = length-map-range_with_len (λ x. whole_point x y) 0 (3 * n + 1) in
     let rest = rows_long n (y + 1) k in
     let product : suc k * (3 * n + 1) ≡ k * (3 * n + 1) + (3 * n + 1) = suc-mul k (3 * n + 1) in
-    omega (arith, length-append (row_points n y) (flat_map (row_points n) (range_with_len (y + 1) k)), first, rest, product)
+    omega (
+      arith,
+      length-append (row_points n y) (flat_map (row_points n) (range_with_len (y + 1) k)),
+      first,
+      rest,
+      product,
+    )
 
 pub few_points : (n : ℕ) → n ≤ 10000 → length (grid_points n) ≤ 2 ^ 21
 few_points n few = omega (arith, rows_long n 0 9)
@@ -34,21 +42,30 @@ fits n v = nat_lt 0 v && nat_le v (9 * (3 * n + 1))
 fits_in : (n x y : ℕ) → x ≤ 3 * n → y ≤ 8 → fits n (point_number n x y) ≡ true
 fits_in n x y low flat =
     let row : y * (3 * n + 1) ≤ 8 * (3 * n + 1) = mul-le-mul_right (3 * n + 1) flat in
-    and_from _ _ (lt-ltb 0 (point_number n x y) (omega arith)) (le-leb (point_number n x y) (9 * (3 * n + 1)) (omega arith))
+    and_from _ _ (lt-ltb 0 (point_number n x y) (omega arith)) (le-leb (point_number n x y) (9 * (3 * n + 1))
+    (omega arith))
 
 cell_fits : (n column row : ℕ) → column < 3 * n → row < 8 → list_all (fits n) (cell n column row) ≡ true
 cell_fits n column row low flat =
-    and_from _ _ (fits_in n column row (omega arith) (omega arith)) (and_from _ _ (fits_in n (column + 1) row (omega arith) (omega arith))
-    (and_from _ _ (fits_in n (column + 1) (row + 1) (omega arith) (omega arith)) (and_from _ _ (fits_in n column (row + 1) (omega arith) (omega arith)) refl)))
+    and_from _ _ (fits_in n column row (omega arith) (omega arith))
+    (and_from _ _ (fits_in n (column + 1) row (omega arith) (omega arith))
+    (and_from _ _ (fits_in n (column + 1) (row + 1) (omega arith) (omega arith))
+    (and_from _ _ (fits_in n column (row + 1) (omega arith) (omega arith)) refl)))
 
 row_fits : (n row a k : ℕ) → a + k ≤ 3 * n → row < 8
-    → list_all (list_all (fits n)) (map (λ column. cell n column row) (filter (λ column. nat_lt row (column_height n column)) (range_with_len a k))) ≡ true
+    → list_all (list_all (fits n))
+    (map (λ column. cell n column row) (filter (λ column. nat_lt row (column_height n column))
+    (range_with_len a k))) ≡ true
 row_fits n row a zero low flat = refl
-row_fits n row a (suc k) low flat = by_test (nat_lt row (column_height n a)) (row_fits n row (a + 1) k (omega arith) flat)
+row_fits n row a (suc k) low flat =
+    by_test (nat_lt row (column_height n a)) (row_fits n row (a + 1) k (omega arith) flat)
   where
-    by_test : (t : Bool) → list_all (list_all (fits n)) (map (λ column. cell n column row) (filter (λ column. nat_lt row (column_height n column)) (range_with_len (a + 1) k))) ≡ true
+    by_test : (t : Bool) → list_all (list_all (fits n))
+        (map (λ column. cell n column row) (filter (λ column. nat_lt row (column_height n column))
+        (range_with_len (a + 1) k))) ≡ true
         → list_all (list_all (fits n)) (map (λ column. cell n column row)
-        (cond t (a ∷ filter (λ column. nat_lt row (column_height n column)) (range_with_len (a + 1) k)) (filter (λ column. nat_lt row (column_height n column)) (range_with_len (a + 1) k)))) ≡ true
+        (cond t (a ∷ filter (λ column. nat_lt row (column_height n column)) (range_with_len (a + 1) k))
+        (filter (λ column. nat_lt row (column_height n column)) (range_with_len (a + 1) k)))) ≡ true
     by_test true rest = and_from _ _ (cell_fits n a row (omega arith) flat) rest
     by_test false rest = rest
 
@@ -69,12 +86,14 @@ filter_few : (p : ℕ → Bool) (xs : List ℕ) → length (filter p xs) ≤ len
 filter_few p [] = omega arith
 filter_few p (x ∷ xs) = by_test (p x) (filter_few p xs)
   where
-    by_test : (t : Bool) → length (filter p xs) ≤ length xs → length (cond t (x ∷ filter p xs) (filter p xs)) ≤ length (x ∷ xs)
+    by_test : (t : Bool) → length (filter p xs) ≤ length xs → length (cond t (x ∷ filter p xs) (filter p xs))
+        ≤ length (x ∷ xs)
     by_test true less = omega arith
     by_test false less = omega arith
 
 -- The points that cells use are not more.
-pub few_used : (n : ℕ) → n ≤ 10000 → (soup : FaceSet) → (points : Positions) (faces : Faces) → points ≡ grid_points n → soup ≡ face_set points faces → length soup.pos ≤ 2 ^ 21
+pub few_used : (n : ℕ) → n ≤ 10000 → (soup : FaceSet) → (points : Positions) (faces : Faces) → points ≡ grid_points n
+    → soup ≡ face_set points faces → length soup.pos ≤ 2 ^ 21
 few_used n few soup points faces is used =
     omega (
       arith,
@@ -90,7 +109,8 @@ few_used n few soup points faces is used =
 row_few : (n row : ℕ) → length (row_cells n row) ≤ 3 * n
 row_few n row = omega (
   arith,
-  length-map (filter (λ column. nat_lt row (column_height n column)) (range_with_len 0 (3 * n))) (λ column. cell n column row),
+  length-map (filter (λ column. nat_lt row (column_height n column)) (range_with_len 0 (3 * n)))
+      (λ column. cell n column row),
   filter_few (λ column. nat_lt row (column_height n column)) (range_with_len 0 (3 * n)),
   length-range_with_len 0 (3 * n),
 )
@@ -99,9 +119,16 @@ rows_few : (n y k : ℕ) → length (flat_map (row_cells n) (range_with_len y k)
 rows_few n y zero = omega arith
 rows_few n y (suc k) =
     let product : suc k * (3 * n) ≡ k * (3 * n) + 3 * n = suc-mul k (3 * n) in
-    omega (arith, length-append (row_cells n y) (flat_map (row_cells n) (range_with_len (y + 1) k)), row_few n y, rows_few n (y + 1) k, product)
+    omega (
+      arith,
+      length-append (row_cells n y) (flat_map (row_cells n) (range_with_len (y + 1) k)),
+      row_few n y,
+      rows_few n (y + 1) k,
+      product,
+    )
 
-pub few_faces : (n : ℕ) → n ≤ 10000 → (soup : FaceSet) → (points : Positions) (faces : Faces) → faces ≡ cells n → soup ≡ face_set points faces
+pub few_faces : (n : ℕ) → n ≤ 10000 → (soup : FaceSet) → (points : Positions) (faces : Faces) → faces ≡ cells n
+    → soup ≡ face_set points faces
     → length soup.faces ≤ 2 ^ 20
 few_faces n few soup points faces is used =
     omega (
@@ -113,7 +140,8 @@ few_faces n few soup points faces is used =
     )
 
 -- A soup whose vertices are numbered anew is one.
-pub with_numbers : (pos : Positions) (faces : Faces) (names : List ℕ) → IsSoup (record { pos = pos; faces = faces; names = names })
+pub with_numbers : (pos : Positions) (faces : Faces) (names : List ℕ)
+    → IsSoup (record { pos = pos; faces = faces; names = names })
     → IsSoup (record { pos = pos; faces = faces; names = numbers_to (length pos) })
 with_numbers pos faces names soup = record {
   in_range = soup.in_range;

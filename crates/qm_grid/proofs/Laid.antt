@@ -1,5 +1,6 @@
 -- What has grown from a corner, as a list of cells: a patch, which holds the faces of one class.
-use Rattle.std.proofs.Common.{◌≡◌, ℕ, zero, suc, ◌+◌, ◌*◌, ◌/◌, ◌%◌, ◌<◌, ◌≤◌, Bool, true, eqb, List, [], ◌∷◌, length, get_or, sym, ◌∙◌, ap, subst, refl, inl, inr, length-append, Option, Some, arith}
+use Rattle.std.proofs.Common.{◌≡◌, ℕ, zero, suc, ◌+◌, ◌*◌, ◌/◌, ◌%◌, ◌<◌, ◌≤◌, Bool, true, eqb, List, [], ◌∷◌, length}
+use Rattle.std.proofs.Common.{get_or, sym, ◌∙◌, ap, subst, refl, inl, inr, length-append, Option, Some, arith}
 use Rattle.std.proofs.Math.Nat.{mul-le-mul_right, suc-mul, zero-mul}
 use Rattle.std.proofs.lemmas.Bool.{cases_lt, eqb-true, eq-eqb, or_cases, false≢true}
 use Rattle.std.proofs.lemmas.List.{get_or_append_left, get_or-append-add}
@@ -29,12 +30,15 @@ row_long mesh s w = length-map-range_with_len (easts mesh s) 0 w
 
 pub grid_long : (mesh : HalfEdges) (d w h : ℕ) → length (grid_list mesh d w h) ≡ h * w
 grid_long mesh d w zero = sym (zero-mul w)
-grid_long mesh d w (suc h) = length-append (grid_list mesh d w h) (row_list mesh (norths mesh d h) w) ∙ (omega (arith, grid_long mesh d w h, row_long mesh (norths mesh d h) w, suc-mul h w))
+grid_long mesh d w (suc h) = length-append (grid_list mesh d w h) (row_list mesh (norths mesh d h) w)
+    ∙ (omega (arith, grid_long mesh d w h, row_long mesh (norths mesh d h) w, suc-mul h w))
 
-pub grid_at : (mesh : HalfEdges) (d w h i j : ℕ) → i < w → j < h → get_or (grid_list mesh d w h) (j * w + i) 0 ≡ grown mesh d i j
+pub grid_at : (mesh : HalfEdges) (d w h i j : ℕ) → i < w → j < h → get_or (grid_list mesh d w h) (j * w + i) 0
+    ≡ grown mesh d i j
 grid_at mesh d w zero i j li lj = absurd (omega arith)
 grid_at mesh d w (suc h) i j li lj = elim (cases_lt j h) [
-  | inl l ↦ get_or_append_left (grid_list mesh d w h) (row_list mesh (norths mesh d h) w) 0 (j * w + i) (inner l) ∙ grid_at mesh d w h i j li l
+  | inl l ↦ get_or_append_left (grid_list mesh d w h) (row_list mesh (norths mesh d h) w) 0 (j * w + i) (inner l)
+      ∙ grid_at mesh d w h i j li l
   | inr g ↦ let e : j ≡ h = omega arith in last e
 ]
   where
@@ -43,30 +47,40 @@ grid_at mesh d w (suc h) i j li lj = elim (cases_lt j h) [
 
     last : j ≡ h → get_or (grid_list mesh d w (suc h)) (j * w + i) 0 ≡ grown mesh d i j
     last e =
-        let place : j * w + i ≡ length (grid_list mesh d w h) + i = ap (λ x. x * w + i) e ∙ ap (λ x. x + i) (sym (grid_long mesh d w h)) in
-        ap (λ x. get_or (grid_list mesh d w (suc h)) x 0) place ∙ (get_or-append-add (grid_list mesh d w h) (row_list mesh (norths mesh d h) w) i 0 ∙ (get_or-map-range_with_len (easts mesh (norths mesh d h)) 0 w i i 0 li (omega arith) ∙ ap (λ x. easts mesh (norths mesh d x) i) (sym e)))
+        let place : j * w + i ≡ length (grid_list mesh d w h) + i = ap (λ x. x * w + i) e
+        ∙ ap (λ x. x + i) (sym (grid_long mesh d w h)) in
+        ap (λ x. get_or (grid_list mesh d w (suc h)) x 0) place
+        ∙ (get_or-append-add (grid_list mesh d w h) (row_list mesh (norths mesh d h) w) i 0
+        ∙ (get_or-map-range_with_len (easts mesh (norths mesh d h)) 0 w i i 0 li (omega arith)
+        ∙ ap (λ x. easts mesh (norths mesh d x) i) (sym e)))
 
 -- Cells and faces.
-pub lies_at : (cells : List ℕ) (f : ℕ) → lies_in cells f ≡ true → (k : ℕ) × (k < length cells) × (get_or cells k 0 / 4 ≡ f)
+pub lies_at : (cells : List ℕ) (f : ℕ) → lies_in cells f ≡ true → (k : ℕ) × (k < length cells)
+    × (get_or cells k 0 / 4 ≡ f)
 lies_at [] f l = absurd (false≢true l)
 lies_at (c ∷ cells) f l = elim (or_cases (eqb (c / 4) f) (lies_in cells f) l) [
   | inl here ↦ (0, omega arith, eqb-true (c / 4) f here)
-  | inr later ↦ let r : (k : ℕ) × (k < length cells) × (get_or cells k 0 / 4 ≡ f) = lies_at cells f later in (suc r.0, omega (arith, r.1), r.2)
+  | inr later ↦ let r : (k : ℕ) × (k < length cells) × (get_or cells k 0 / 4 ≡ f) = lies_at cells f later in
+      (suc r.0, omega (arith, r.1), r.2)
 ]
 
 pub at_lies : (cells : List ℕ) (f k : ℕ) → k < length cells → get_or cells k 0 / 4 ≡ f → lies_in cells f ≡ true
 at_lies cells f k l e = list_any_at (λ c. eqb (c / 4) f) cells k 0 l (eq-eqb (get_or cells k 0 / 4) f e)
 
 -- A grid told by other cells that are the same.
-pub grid_same : (mesh : HalfEdges) (cut : Cut) (w h : ℕ) (cell tile : Cells) → ((i j : ℕ) → i < w → j < h → tile i j ≡ cell i j) → IsGrid mesh cut w h cell → IsGrid mesh cut w h tile
+pub grid_same : (mesh : HalfEdges) (cut : Cut) (w h : ℕ) (cell tile : Cells)
+    → ((i j : ℕ) → i < w → j < h → tile i j ≡ cell i j) → IsGrid mesh cut w h cell → IsGrid mesh cut w h tile
 grid_same mesh cut w h cell tile same g = record {
   wide = g.wide;
   tall = g.tall;
   low = λ i j li lj. subst (λ (x : ℕ). x < mesh.count) (sym (same i j li lj)) (g.low i j li lj);
-  east = λ i j li lj. ap (λ x. mesh.twin (mesh.next x)) (same i j (omega arith) lj) ∙ (g.east i j li lj ∙ ap (λ x. step_back x) (sym (same (suc i) j li lj)));
-  north = λ i j li lj. ap (λ x. mesh.twin (mesh.next (mesh.next x))) (same i j li (omega arith)) ∙ (g.north i j li lj ∙ ap some_of (sym (same i (suc j) li lj)));
+  east = λ i j li lj. ap (λ x. mesh.twin (mesh.next x)) (same i j (omega arith) lj)
+      ∙ (g.east i j li lj ∙ ap (λ x. step_back x) (sym (same (suc i) j li lj)));
+  north = λ i j li lj. ap (λ x. mesh.twin (mesh.next (mesh.next x))) (same i j li (omega arith))
+      ∙ (g.north i j li lj ∙ ap some_of (sym (same i (suc j) li lj)));
   east_open = λ i j li lj. ap (λ x. cut (mesh.next x)) (same i j (omega arith) lj) ∙ g.east_open i j li lj;
-  north_open = λ i j li lj. ap (λ x. cut (mesh.next (mesh.next x))) (same i j li (omega arith)) ∙ g.north_open i j li lj;
+  north_open = λ i j li lj. ap (λ x. cut (mesh.next (mesh.next x))) (same i j li (omega arith))
+      ∙ g.north_open i j li lj;
   south_shut = λ i li. ap cut (same i 0 li g.tall) ∙ g.south_shut i li;
   west_shut = λ j lj. ap (λ x. cut (mesh.prev x)) (same 0 j g.wide lj) ∙ g.west_shut j lj;
   east_shut = λ i j e lj. ap (λ x. cut (mesh.next x)) (same i j (omega arith) lj) ∙ g.east_shut i j e lj;
@@ -79,29 +93,44 @@ grid_same mesh cut w h cell tile same g = record {
     some_of : ℕ → Option ℕ
     some_of x = Some x
 
-module _ (faces : Faces) (cut : List Bool) (cutting : IsCutting faces cut) (d w h : ℕ) (corner : IsCorner (half_edges faces) (is_on cut) d) (g : IsGrown (half_edges faces) (is_on cut) d w h) where
+module _ (faces : Faces) (cut : List Bool) (cutting : IsCutting faces cut) (d w h : ℕ)
+    (corner : IsCorner (half_edges faces) (is_on cut) d) (g : IsGrown (half_edges faces) (is_on cut) d w h) where
   whole : IsGrid (half_edges faces) (is_on cut) w h (grown (half_edges faces) d)
   whole = grown_grid (half_edges faces) cutting.laws (is_on cut) cutting.full d w h corner g
 
   -- Each cell is a dart.
-  pub cells_low : (k : ℕ) → k < length (grid_list (half_edges faces) d w h) → get_or (grid_list (half_edges faces) d w h) k 0 / 4 < length faces
+  pub cells_low : (k : ℕ) → k < length (grid_list (half_edges faces) d w h)
+      → get_or (grid_list (half_edges faces) d w h) k 0 / 4 < length faces
   cells_low k l =
       let low : k < h * w = omega (arith, grid_long (half_edges faces) d w h) in
-      let here : get_or (grid_list (half_edges faces) d w h) k 0 ≡ grown (half_edges faces) d (k % w) (k / w) = ap (λ x. get_or (grid_list (half_edges faces) d w h) x 0) (place_is k w g.wide) ∙ grid_at (half_edges faces) d w h (k % w) (k / w) (omega (arith, g.wide)) (place_row k w h g.wide low) in
-      let dart : grown (half_edges faces) d (k % w) (k / w) < darts faces = whole.low (k % w) (k / w) (omega (arith, g.wide)) (place_row k w h g.wide low) in
+      let here : get_or (grid_list (half_edges faces) d w h) k 0 ≡ grown (half_edges faces) d (k % w) (k / w) =
+      ap (λ x. get_or (grid_list (half_edges faces) d w h) x 0) (place_is k w g.wide)
+      ∙ grid_at (half_edges faces) d w h (k % w) (k / w) (omega (arith, g.wide)) (place_row k w h g.wide low) in
+      let dart : grown (half_edges faces) d (k % w) (k / w) < darts faces =
+      whole.low (k % w) (k / w) (omega (arith, g.wide)) (place_row k w h g.wide low) in
       omega arith
 
   -- A face of the cells is of the class,
   pub lies_linked : (f : ℕ) → lies_in (grid_list (half_edges faces) d w h) f ≡ true → AreOfOne faces cut d (4 * f)
   lies_linked f l = by_place (lies_at (grid_list (half_edges faces) d w h) f l)
     where
-      by_place : (k : ℕ) × (k < length (grid_list (half_edges faces) d w h)) × (get_or (grid_list (half_edges faces) d w h) k 0 / 4 ≡ f) → AreOfOne faces cut d (4 * f)
+      by_place : (k : ℕ) × (k < length (grid_list (half_edges faces) d w h))
+          × (get_or (grid_list (half_edges faces) d w h) k 0 / 4 ≡ f) → AreOfOne faces cut d (4 * f)
       by_place p =
           let low : p.0 < h * w = omega (arith, p.1, grid_long (half_edges faces) d w h) in
-          let here : get_or (grid_list (half_edges faces) d w h) p.0 0 ≡ grown (half_edges faces) d (p.0 % w) (p.0 / w) = ap (λ x. get_or (grid_list (half_edges faces) d w h) x 0) (place_is p.0 w g.wide) ∙ grid_at (half_edges faces) d w h (p.0 % w) (p.0 / w) (omega (arith, g.wide)) (place_row p.0 w h g.wide low) in
-          let s : (k : ℕ) × (4 * f ≡ spin (half_edges faces) k (grown (half_edges faces) d (p.0 % w) (p.0 / w))) = same_face faces cutting.laws (grown (half_edges faces) d (p.0 % w) (p.0 / w)) (4 * f) (ap (λ x. x / 4) (sym here) ∙ (p.2 ∙ omega arith)) in
-          let linked : AreOfOne faces cut d (grown (half_edges faces) d (p.0 % w) (p.0 / w)) = linked_cell (half_edges faces) cutting.laws (is_on cut) cutting.full w h (grown (half_edges faces) d) whole (p.0 % w) (p.0 / w) (omega (arith, g.wide)) (place_row p.0 w h g.wide low) in
-          subst (λ (x : ℕ). AreOfOne faces cut d x) (sym s.1) (step_spin (half_edges faces) cutting.laws (is_on cut) d (grown (half_edges faces) d (p.0 % w) (p.0 / w)) s.0 linked)
+          let here : get_or (grid_list (half_edges faces) d w h) p.0 0
+          ≡ grown (half_edges faces) d (p.0 % w) (p.0 / w) =
+          ap (λ x. get_or (grid_list (half_edges faces) d w h) x 0) (place_is p.0 w g.wide)
+          ∙ grid_at (half_edges faces) d w h (p.0 % w) (p.0 / w) (omega (arith, g.wide))
+          (place_row p.0 w h g.wide low) in
+          let s : (k : ℕ) × (4 * f ≡ spin (half_edges faces) k (grown (half_edges faces) d (p.0 % w) (p.0 / w))) =
+          same_face faces cutting.laws (grown (half_edges faces) d (p.0 % w) (p.0 / w)) (4 * f)
+          (ap (λ x. x / 4) (sym here) ∙ (p.2 ∙ omega arith)) in
+          let linked : AreOfOne faces cut d (grown (half_edges faces) d (p.0 % w) (p.0 / w)) =
+          linked_cell (half_edges faces) cutting.laws (is_on cut) cutting.full w h (grown (half_edges faces) d)
+          whole (p.0 % w) (p.0 / w) (omega (arith, g.wide)) (place_row p.0 w h g.wide low) in
+          subst (λ (x : ℕ). AreOfOne faces cut d x) (sym s.1) (step_spin (half_edges faces) cutting.laws (is_on cut) d
+          (grown (half_edges faces) d (p.0 % w) (p.0 / w)) s.0 linked)
 
   spin_face : (k x : ℕ) → spin (half_edges faces) k x / 4 ≡ x / 4
   spin_face zero x = refl
@@ -109,29 +138,50 @@ module _ (faces : Faces) (cut : List Bool) (cutting : IsCutting faces cut) (d w 
 
   -- and a dart of the class lies in the face of a cell.
   pub linked_lies : (x : ℕ) → AreOfOne faces cut d x → lies_in (grid_list (half_edges faces) d w h) (x / 4) ≡ true
-  linked_lies x l = by_in (closed (half_edges faces) cutting.laws (is_on cut) cutting.full w h (grown (half_edges faces) d) whole d x l.0 l.1 (0, record { a = 0; b = 0; a_low = g.wide; b_low = g.tall; is = refl }))
+  linked_lies x l = by_in (closed (half_edges faces) cutting.laws (is_on cut) cutting.full w h
+      (grown (half_edges faces) d) whole d x l.0 l.1 (
+        0,
+        record {
+          a = 0;
+          b = 0;
+          a_low = g.wide;
+          b_low = g.tall;
+          is =
+              refl;
+        },
+      ))
     where
-      by_in : In (half_edges faces) w h (grown (half_edges faces) d) x → lies_in (grid_list (half_edges faces) d w h) (x / 4) ≡ true
+      by_in : In (half_edges faces) w h (grown (half_edges faces) d) x
+          → lies_in (grid_list (half_edges faces) d w h) (x / 4) ≡ true
       by_in i = at i.0 i.1
         where
-          at : (k : ℕ) → At (half_edges faces) w h (grown (half_edges faces) d) k x → lies_in (grid_list (half_edges faces) d w h) (x / 4) ≡ true
+          at : (k : ℕ) → At (half_edges faces) w h (grown (half_edges faces) d) k x
+              → lies_in (grid_list (half_edges faces) d w h) (x / 4) ≡ true
           at k s =
               let m : suc s.b * w ≤ h * w = mul-le-mul_right w s.b_low in
-              at_lies (grid_list (half_edges faces) d w h) (x / 4) (s.b * w + s.a) (omega (arith, grid_long (half_edges faces) d w h, suc-mul s.b w, s.a_low))
-              (ap (λ y. y / 4) (grid_at (half_edges faces) d w h s.a s.b s.a_low s.b_low) ∙ (sym (spin_face k (grown (half_edges faces) d s.a s.b)) ∙ ap (λ y. y / 4) (sym s.is)))
+              at_lies (grid_list (half_edges faces) d w h) (x / 4) (s.b * w + s.a)
+              (omega (arith, grid_long (half_edges faces) d w h, suc-mul s.b w, s.a_low))
+              (ap (λ y. y / 4) (grid_at (half_edges faces) d w h s.a s.b s.a_low s.b_low)
+              ∙ (sym (spin_face k (grown (half_edges faces) d s.a s.b)) ∙ ap (λ y. y / 4) (sym s.is)))
 
   -- From the least corner grows a patch.
-  pub laid_patch : (f : ℕ) → IsHead faces cut f d → (patch : Rectangle) → patch.w ≡ w → patch.h ≡ h → patch.cells ≡ grid_list (half_edges faces) d w h → IsPatch (half_edges faces) (is_on cut) patch.w patch.h (cell_of patch)
-  laid_patch f head patch ew eh ec = subst (λ (n : ℕ). IsPatch (half_edges faces) (is_on cut) n patch.h (cell_of patch)) (sym ew) (subst (λ (n : ℕ). IsPatch (half_edges faces) (is_on cut) w n (cell_of patch)) (sym eh) here)
+  pub laid_patch : (f : ℕ) → IsHead faces cut f d → (patch : Rectangle) → patch.w ≡ w → patch.h ≡ h
+      → patch.cells ≡ grid_list (half_edges faces) d w h
+      → IsPatch (half_edges faces) (is_on cut) patch.w patch.h (cell_of patch)
+  laid_patch f head patch ew eh ec = subst (λ (n : ℕ). IsPatch (half_edges faces) (is_on cut) n patch.h (cell_of patch))
+      (sym ew) (subst (λ (n : ℕ). IsPatch (half_edges faces) (is_on cut) w n (cell_of patch)) (sym eh) here)
     where
       same : (i j : ℕ) → i < w → j < h → cell_of patch i j ≡ grown (half_edges faces) d i j
-      same i j li lj = ap (λ n. get_or patch.cells (j * n + i) 0) ew ∙ (ap (λ xs. get_or xs (j * w + i) 0) ec ∙ grid_at (half_edges faces) d w h i j li lj)
+      same i j li lj = ap (λ n. get_or patch.cells (j * n + i) 0) ew
+          ∙ (ap (λ xs. get_or xs (j * w + i) 0) ec ∙ grid_at (half_edges faces) d w h i j li lj)
 
       grid : IsGrid (half_edges faces) (is_on cut) w h (cell_of patch)
       grid = grid_same (half_edges faces) (is_on cut) w h (grown (half_edges faces) d) (cell_of patch) same whole
 
       most : AtMost (half_edges faces) w h (cell_of patch) d
-      most = at_most (half_edges faces) cutting.laws (is_on cut) cutting.full w h (cell_of patch) grid d (λ x l c. head.least x (links_join (half_edges faces) cutting.laws (is_on cut) (4 * f) d x head.linked (subst (λ (y : ℕ). AreOfOne faces cut y x) (same 0 0 g.wide g.tall) l)) c)
+      most = at_most (half_edges faces) cutting.laws (is_on cut) cutting.full w h (cell_of patch) grid d
+          (λ x l c. head.least x (links_join (half_edges faces) cutting.laws (is_on cut) (4 * f) d x head.linked
+          (subst (λ (y : ℕ). AreOfOne faces cut y x) (same 0 0 g.wide g.tall) l)) c)
 
       first : cell_of patch 0 0 ≡ d
       first = same 0 0 g.wide g.tall

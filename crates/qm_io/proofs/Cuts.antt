@@ -1,8 +1,11 @@
 -- A text whose lines are cut off one after another.
-use Rattle.std.proofs.Common.{◌≡◌, ◌+◌, ◌-◌, ◌<◌, ◌≤◌, ◌==◌, ℕ, zero, suc, true, false, [], ◌∷◌, ◌++◌, length, take, drop, map, get_or, slice_index_or, inl, inr, refl, sym, ◌∙◌, ap, arith, length-append, length-drop}
+use Rattle.std.proofs.Common.{◌≡◌, ◌+◌, ◌-◌, ◌<◌, ◌≤◌, ◌==◌, ℕ, zero, suc, true, false, [], ◌∷◌, ◌++◌, length, take}
+use Rattle.std.proofs.Common.{drop, map, get_or, slice_index_or, inl, inr, refl, sym, ◌∙◌, ap, arith, length-append}
+use Rattle.std.proofs.Common.{length-drop}
 use Rattle.std.specs.List.{flat_map}
 use Rattle.std.proofs.lemmas.Bool.{cases_Bool}
-use Rattle.std.proofs.lemmas.List.{drop-drop, drop-map, drop_at, get_or-drop, length-map, take-append-drop, take-map, take_at}
+use Rattle.std.proofs.lemmas.List.{drop-drop, drop-map, drop_at, get_or-drop, length-map, take-append-drop, take-map}
+use Rattle.std.proofs.lemmas.List.{take_at}
 use Rattle.std.proofs.lemmas.List.Concat.{flat_map-append}
 use Rattle.def_io.specs.Bytes.{Bytes, Lines}
 use Rattle.def_io.specs.Lines.{byte_in_front, line_of, lines_of, pieces, tail_of}
@@ -17,7 +20,8 @@ other_first : (b : ℕ) (bs : Bytes) → (b == 10) ≡ false → pieces (b ∷ b
 other_first b bs off = rw off refl
 
 -- A byte in front of the first piece is in front of all bytes, of the first pieces, and of none of the last.
-front_flat : (b : ℕ) (ps : Lines) (i : ℕ) → flat_map (λ p. p) (take (suc i) (byte_in_front b ps)) ≡ b ∷ flat_map (λ p. p) (take (suc i) ps)
+front_flat : (b : ℕ) (ps : Lines) (i : ℕ) → flat_map (λ p. p) (take (suc i) (byte_in_front b ps))
+    ≡ b ∷ flat_map (λ p. p) (take (suc i) ps)
 front_flat b [] zero = refl
 front_flat b [] (suc i) = refl
 front_flat b (p ∷ ps) i = refl
@@ -38,7 +42,8 @@ first_pieces [] (suc i) = refl
 first_pieces (b ∷ bs) (suc i) = elim (cases_Bool (b == 10)) [
   | inl is ↦ ap (λ (ps : Lines). pieces (flat_map (λ p. p) (take (suc i) ps))) (feed_first b bs is)
       ∙ (feed_first b (flat_map (λ p. p) (take i (pieces bs))) is
-      ∙ (ap (λ (ps : Lines). (b ∷ []) ∷ ps) (first_pieces bs i) ∙ sym (ap (λ (ps : Lines). take (suc i) ps) (feed_first b bs is))))
+      ∙ (ap (λ (ps : Lines). (b ∷ []) ∷ ps) (first_pieces bs i)
+      ∙ sym (ap (λ (ps : Lines). take (suc i) ps) (feed_first b bs is))))
   | inr off ↦ ap (λ (ps : Lines). pieces (flat_map (λ p. p) (take (suc i) ps))) (other_first b bs off)
       ∙ (ap pieces (front_flat b (pieces bs) i)
       ∙ (other_first b (flat_map (λ p. p) (take (suc i) (pieces bs))) off
@@ -54,7 +59,8 @@ last_pieces (b ∷ bs) (suc i) = elim (cases_Bool (b == 10)) [
       ∙ (last_pieces bs i ∙ sym (ap (λ (ps : Lines). drop (suc i) ps) (feed_first b bs is)))
   | inr off ↦ ap (λ (ps : Lines). pieces (flat_map (λ p. p) (drop (suc i) ps))) (other_first b bs off)
       ∙ (ap (λ (ps : Lines). pieces (flat_map (λ p. p) ps)) (front_drop b (pieces bs) i)
-      ∙ (last_pieces bs (suc i) ∙ sym (ap (λ (ps : Lines). drop (suc i) ps) (other_first b bs off) ∙ front_drop b (pieces bs) i)))
+      ∙ (last_pieces bs (suc i) ∙ sym (ap (λ (ps : Lines). drop (suc i) ps) (other_first b bs off)
+      ∙ front_drop b (pieces bs) i)))
 ]
 
 -- The lines from line i on.
@@ -76,10 +82,17 @@ module _ (bs rest : Bytes) (i : ℕ) (at : rest ≡ tail_of i bs) where
   both : bs ≡ flat_map (λ p. p) (take i (pieces bs)) ++ tail_of i bs
   both =
       sym (flat-pieces bs)
-      ∙ (ap (λ (ps : Lines). flat_map (λ p. p) ps) (sym (take-append-drop i (pieces bs))) ∙ flat_map-append (λ p. p) (take i (pieces bs)) (drop i (pieces bs)))
+      ∙ (ap (λ (ps : Lines). flat_map (λ p. p) ps) (sym (take-append-drop i (pieces bs)))
+      ∙ flat_map-append (λ p. p) (take i (pieces bs)) (drop i (pieces bs)))
 
   sizes : length bs ≡ length (flat_map (λ p. p) (take i (pieces bs))) + length rest
-  sizes = omega (arith, ap length both, ap length at, length-append (flat_map (λ p. p) (take i (pieces bs))) (tail_of i bs))
+  sizes = omega (
+    arith,
+    ap length both,
+    ap length at,
+    length-append (flat_map (λ p. p) (take i (pieces bs)))
+        (tail_of i bs),
+  )
 
   pub rest_low : length rest ≤ length bs
   rest_low = omega (arith, sizes)
@@ -94,12 +107,17 @@ module _ (bs rest : Bytes) (i : ℕ) (at : rest ≡ tail_of i bs) where
   first_lines =
       ap lines_of
       (ap (λ (xs : Bytes). take (length bs - length rest) xs) both
-      ∙ take_at (flat_map (λ p. p) (take i (pieces bs))) (tail_of i bs) (length bs - length rest) (omega (arith, sizes)))
+      ∙ take_at (flat_map (λ p. p) (take i (pieces bs))) (tail_of i bs) (length bs - length rest)
+      (omega (arith, sizes)))
       ∙ (ap (map line_of) (first_pieces bs i) ∙ sym (take-map line_of i (pieces bs)))
 
   -- Where nothing is left there is no further line.
   pub cut_ended : rest ≡ [] → length (lines_of bs) ≤ i
-  cut_ended none = omega (arith, length-drop i (lines_of bs), ap length (sym (last_lines bs i) ∙ (ap lines_of (sym at) ∙ ap lines_of none)))
+  cut_ended none = omega (
+    arith,
+    length-drop i (lines_of bs),
+    ap length (sym (last_lines bs i) ∙ (ap lines_of (sym at) ∙ ap lines_of none)),
+  )
 
   -- Else the next line is the first of the rest.
   module _ (line behind : Bytes) (first : lines_of rest ≡ line ∷ lines_of behind) (more : behind ≡ tail_of 1 rest) where
@@ -112,10 +130,12 @@ module _ (bs rest : Bytes) (i : ℕ) (at : rest ≡ tail_of i bs) where
     pub cut_is : line ≡ slice_index_or (lines_of bs) i []
     cut_is =
         let same : i + 0 ≡ i = omega arith in
-        sym (ap (λ (ls : Lines). get_or ls 0 []) next) ∙ (get_or-drop i (lines_of bs) 0 [] ∙ ap (λ (k : ℕ). get_or (lines_of bs) k []) same)
+        sym (ap (λ (ls : Lines). get_or ls 0 []) next)
+        ∙ (get_or-drop i (lines_of bs) 0 [] ∙ ap (λ (k : ℕ). get_or (lines_of bs) k []) same)
 
     pub cut_behind : behind ≡ tail_of (i + 1) bs
     cut_behind =
         more
         ∙ (ap (tail_of 1) at
-        ∙ ap (λ (ps : Lines). flat_map (λ p. p) ps) (ap (λ (ps : Lines). drop 1 ps) (last_pieces bs i) ∙ drop-drop 1 i (pieces bs)))
+        ∙ ap (λ (ps : Lines). flat_map (λ p. p) ps) (ap (λ (ps : Lines). drop 1 ps) (last_pieces bs i)
+        ∙ drop-drop 1 i (pieces bs)))

@@ -1,5 +1,6 @@
 -- Facts on bytes that move between a program and its streams.
-use Rattle.std.proofs.Common.{◌≡◌, ℕ, ◌+◌, ◌-◌, ◌≤◌, List, ◌++◌, Option, Some, None, length, take, drop, refl, sym, ◌∙◌, ap, arith, append_assoc, length-drop}
+use Rattle.std.proofs.Common.{◌≡◌, ℕ, ◌+◌, ◌-◌, ◌≤◌, List, ◌++◌, Option, Some, None, length, take, drop, refl, sym, ◌∙◌}
+use Rattle.std.proofs.Common.{ap, arith, append_assoc, length-drop}
 use Rattle.std.proofs.lemmas.List.{take_rest, drop-drop}
 use Rattle.std.proofs.Math.Seq.{take-add}
 use Rattle.def_io.specs.Moves.{gave, took}

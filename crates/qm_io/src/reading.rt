@@ -24,7 +24,8 @@ pub fn read_lines<S: Source>(alloc: Global, src: &mut S, limit: u32) -> Result<L
     ensures later { (S.state src.old).faults ≤ (S.state src.new).faults }
     ensures fault { IsErrOf result ReadFail.Fault → Rose (S.state src.old).faults (S.state src.new).faults }
     ensures too_long { IsErrOf result ReadFail.TooLong →
-        GaveMore limit (S.state src.old).told (S.state src.new).told × ((S.state src.new).faults ≡ (S.state src.old).faults) }
+        GaveMore limit (S.state src.old).told (S.state src.new).told
+        × ((S.state src.new).faults ≡ (S.state src.old).faults) }
 {
     let bytes = read_bytes(alloc, src, limit)?;
     let ends = ends_of(alloc, &bytes)?;
@@ -41,7 +42,8 @@ pub fn read_bytes<S: Source>(alloc: Global, src: &mut S, limit: u32) -> Result<V
     ensures later { (S.state src.old).faults ≤ (S.state src.new).faults }
     ensures fault { IsErrOf result ReadFail.Fault → Rose (S.state src.old).faults (S.state src.new).faults }
     ensures too_long { IsErrOf result ReadFail.TooLong →
-        GaveMore limit (S.state src.old).told (S.state src.new).told × ((S.state src.new).faults ≡ (S.state src.old).faults) }
+        GaveMore limit (S.state src.old).told (S.state src.new).told
+        × ((S.state src.new).faults ≡ (S.state src.old).faults) }
 {
     let mut buffer = read_buffer(alloc)?;
     let mut bytes = Vec::new(alloc);
@@ -70,7 +72,8 @@ fn read_piece<S: Source>(
     bytes: &mut Vec<u8>,
 ) -> Result<usize, ReadFail>
     requires { 0 < length buffer.old }
-    ensures gained { IfOk result (λ n. Gained bytes.old.items bytes.new.items (S.state src.old).told (S.state src.new).told n) }
+    ensures gained { IfOk result (λ n. Gained bytes.old.items bytes.new.items (S.state src.old).told
+        (S.state src.new).told n) }
     ensures end { IfOk result (λ n. n ≡ 0 → IsEmptied (S.state src.new).told) }
     ensures calm { OnOk result ((S.state src.new).faults ≡ (S.state src.old).faults) }
     ensures later { (S.state src.old).faults ≤ (S.state src.new).faults }

@@ -1,5 +1,6 @@
 -- Balance at the nodes of the network of a layout is that opposite sides have equal sums.
-use Rattle.std.proofs.Common.{◌≡◌, ◌≢◌, ◌⊎◌, ℕ, ◌+◌, ◌*◌, ◌/◌, ◌%◌, ◌<◌, ◌≤◌, Bool, true, false, cond, not, ◌&&◌, ◌==◌, ℤ, pos, ◌+ℤ◌}
+use Rattle.std.proofs.Common.{◌≡◌, ◌≢◌, ◌⊎◌, ℕ, ◌+◌, ◌*◌, ◌/◌, ◌%◌, ◌<◌, ◌≤◌, Bool, true, false, cond, not, ◌&&◌, ◌==◌}
+use Rattle.std.proofs.Common.{ℤ, pos, ◌+ℤ◌}
 use Rattle.std.proofs.Common.{length, Option, Some, None, refl, sym, ap, ◌∙◌, subst, inl, inr, arith}
 use Rattle.std.specs.Prelude.{option_to_list}
 use Rattle.std.proofs.lemmas.Bool.{cases_eq, cases_lt, eq-eqb, ne_eqb, false≢true}
@@ -78,7 +79,8 @@ counts_at p q s w = elim (cases_eq q p) [
     ]
 
     other : (p q : ℕ) (s w : Way) → q ≢ p → is_on_side (node_of p s) (is_plus s) (end_at q w) ≡ false
-    other p q s w ne = off (node_of q w) (node_of p s) (cond (is_plus s) (is_plus w) (not (is_plus w))) (differ p q s w ne)
+    other p q s w ne = off (node_of q w) (node_of p s) (cond (is_plus s) (is_plus w) (not (is_plus w)))
+        (differ p q s w ne)
 
 -- The nodes of a patch are below twice the number of patches.
 pub node_low : (q : ℕ) (s : Way) (patches : ℕ) → q < patches → node_of q s < 2 * patches
@@ -88,7 +90,8 @@ node_low q north n h = omega arith
 node_low q west n h = omega arith
 
 module _
-    (l : Layout) (old wish : Lengths) (set : Settings) (net : Network) (laid : IsSurface l) (is : IsNetOf l old wish set net)
+    (l : Layout) (old wish : Lengths) (set : Settings) (net : Network) (laid : IsSurface l)
+    (is : IsNetOf l old wish set net)
     (x : ℕ → ℤ) where
   -- The slot with number j on a side of a patch.
   abbrev slot_at : (p : ℕ) (s : Way) (j : ℕ) → Slot
@@ -99,19 +102,27 @@ module _
   hits p s k forward = total_below (λ j. cond (is_hit k forward (l.use_at p s j)) (x k) (pos 0)) (l.many p s)
 
   -- Where no slot of the side has the use, that is nothing.
-  hits_none : (p : ℕ) (s : Way) (k : ℕ) (forward : Bool) → ((j : ℕ) → j < l.many p s → l.use_at p s j ≡ use_of_arc k forward → ⊥) → hits p s k forward ≡ pos 0
-  hits_none p s k forward never = total_below_none (λ j. cond (is_hit k forward (l.use_at p s j)) (x k) (pos 0)) (l.many p s)
+  hits_none : (p : ℕ) (s : Way) (k : ℕ) (forward : Bool)
+      → ((j : ℕ) → j < l.many p s → l.use_at p s j ≡ use_of_arc k forward → ⊥) → hits p s k forward ≡ pos 0
+  hits_none p s k forward never = total_below_none (λ j. cond (is_hit k forward (l.use_at p s j)) (x k) (pos 0))
+      (l.many p s)
       (λ j low. ap (λ (b : Bool). cond b (x k) (pos 0)) (no_hit k forward (l.use_at p s j) (never j low)))
 
   -- Where slot w has it, that is the entry of the arc, if w is on the side.
-  hits_at : (p : ℕ) (s : Way) (k : ℕ) (forward : Bool) (w : Slot) → p < l.patches → IsSlot l w → use_of l w ≡ use_of_arc k forward
+  hits_at : (p : ℕ) (s : Way) (k : ℕ) (forward : Bool) (w : Slot) → p < l.patches → IsSlot l w
+      → use_of l w ≡ use_of_arc k forward
       → hits p s k forward ≡ cond (is_on_side (node_of p s) (is_plus s) (end_at w.patch w.side)) (x k) (pos 0)
   hits_at p s k forward w low slot e =
-      by_place ((w.patch == p) && is_way s w.side) refl ∙ ap (λ (b : Bool). cond b (x k) (pos 0)) (sym (counts_at p w.patch s w.side))
+      by_place ((w.patch == p) && is_way s w.side) refl ∙ ap (λ (b : Bool). cond b (x k) (pos 0))
+      (sym (counts_at p w.patch s w.side))
     where
       there : ((w.patch == p) && is_way s w.side) ≡ true → (w.patch ≡ p) × (w.side ≡ s)
       there yes_ = elim (cases_eq w.patch p) [
-        | inl same ↦ (same, way_is s w.side (sym (ap (λ (b : Bool). b && is_way s w.side) (eq-eqb w.patch p same)) ∙ yes_))
+        | inl same ↦ (
+          same,
+          way_is s w.side (sym (ap (λ (b : Bool). b && is_way s w.side) (eq-eqb w.patch p same))
+              ∙ yes_),
+        )
         | inr ne ↦ absurd (false≢true (sym (ap (λ (b : Bool). b && is_way s w.side) (ne_eqb w.patch p ne)) ∙ yes_))
       ]
 
@@ -128,15 +139,20 @@ module _
           itself west = refl
 
           here : {j : ℕ} → slot_at p s j ≡ w → ((w.patch == p) && is_way s w.side) ≡ true
-          here at = subst (λ (v : Slot). ((v.patch == p) && is_way s v.side) ≡ true) at (ap (λ (b : Bool). b && is_way s s) (eq-eqb p p refl) ∙ itself s)
+          here at = subst (λ (v : Slot). ((v.patch == p) && is_way s v.side) ≡ true) at
+              (ap (λ (b : Bool). b && is_way s s) (eq-eqb p p refl) ∙ itself s)
       by_place true on = by_parts (there on)
         where
           by_parts : ((w.patch ≡ p) × (w.side ≡ s)) → hits p s k forward ≡ x k
           by_parts q =
-              let less : w.at < l.many p s = subst (λ (u : Way). w.at < l.many p u) q.1 (subst (λ (r : ℕ). w.at < l.many r w.side) q.0 slot.low) in
-              let there : l.use_at p s w.at ≡ use_of_arc k forward = subst (λ (u : Way). l.use_at p u w.at ≡ use_of_arc k forward) q.1 (subst (λ (r : ℕ). l.use_at r w.side w.at ≡ use_of_arc k forward) q.0 e) in
+              let less : w.at < l.many p s =
+              subst (λ (u : Way). w.at < l.many p u) q.1 (subst (λ (r : ℕ). w.at < l.many r w.side) q.0 slot.low) in
+              let there : l.use_at p s w.at ≡ use_of_arc k forward =
+              subst (λ (u : Way). l.use_at p u w.at ≡ use_of_arc k forward) q.1
+              (subst (λ (r : ℕ). l.use_at r w.side w.at ≡ use_of_arc k forward) q.0 e) in
               total_below_one (λ j. cond (is_hit k forward (l.use_at p s j)) (x k) (pos 0)) (l.many p s) w.at less
-              (λ j low_j ne. ap (λ (b : Bool). cond b (x k) (pos 0)) (no_hit k forward (l.use_at p s j) (λ u. ne (ap (λ (v : Slot). v.at) (place j low_j u)))))
+              (λ j low_j ne. ap (λ (b : Bool). cond b (x k) (pos 0))
+              (no_hit k forward (l.use_at p s j) (λ u. ne (ap (λ (v : Slot). v.at) (place j low_j u)))))
               ∙ ap (λ (b : Bool). cond b (x k) (pos 0)) (ap (is_hit k forward) there ∙ hit_of k forward)
 
   -- What an arc puts on one side of a node.
@@ -148,7 +164,8 @@ module _
     pub ahead : Slot
     pub ahead_is : IsSlot l ahead
     pub ahead_use : use_of l ahead ≡ use_of_arc k true
-    pub right : ((v : Slot) × IsSlot l v × (use_of l v ≡ use_of_arc k false)) ⊎ ((v : Slot) → IsSlot l v → use_of l v ≡ use_of_arc k false → ⊥)
+    pub right : ((v : Slot) × IsSlot l v × (use_of l v ≡ use_of_arc k false))
+        ⊎ ((v : Slot) → IsSlot l v → use_of l v ≡ use_of_arc k false → ⊥)
 
   pub has_ends : (k : ℕ) → k < l.arcs → HasEnds k
   has_ends k low = by_slot (laid.forward k low)
@@ -163,7 +180,8 @@ module _
           }
 
           by_other : ((v : Slot) × IsOtherSlot l w.0 v) ⊎ ((v : Slot) → IsOtherSlot l w.0 v → ⊥)
-              → ((v : Slot) × IsSlot l v × (use_of l v ≡ use_of_arc k false)) ⊎ ((v : Slot) → IsSlot l v → use_of l v ≡ use_of_arc k false → ⊥)
+              → ((v : Slot) × IsSlot l v × (use_of l v ≡ use_of_arc k false))
+              ⊎ ((v : Slot) → IsSlot l v → use_of l v ≡ use_of_arc k false → ⊥)
           by_other (inl v) = inl (
             v.0,
             v.1.0,
@@ -185,41 +203,65 @@ module _
               (is.left h.ahead h.ahead_is (ap (λ (u : SideArc). u.forward) h.ahead_use))
 
           ahead : cond (is_on_side (node_of p s) (is_plus s) (arc_at net.arcs k).left) (x k) (pos 0) ≡ hits p s k true
-          ahead = ap (λ (e : End). cond (is_on_side (node_of p s) (is_plus s) e) (x k) (pos 0)) left ∙ sym (hits_at p s k true h.ahead low h.ahead_is h.ahead_use)
+          ahead = ap (λ (e : End). cond (is_on_side (node_of p s) (is_plus s) e) (x k) (pos 0)) left
+              ∙ sym (hits_at p s k true h.ahead low h.ahead_is h.ahead_use)
 
           with_right : (right : Option End) → (arc_at net.arcs k).right ≡ right
-              → put_at (node_of p s) (is_plus s) k ≡ cond (is_on_side (node_of p s) (is_plus s) (arc_at net.arcs k).left) (x k) (pos 0) +ℤ
+              → put_at (node_of p s) (is_plus s) k
+              ≡ cond (is_on_side (node_of p s) (is_plus s) (arc_at net.arcs k).left) (x k) (pos 0) +ℤ
               total (λ e. cond (is_on_side (node_of p s) (is_plus s) e) (x k) (pos 0)) (option_to_list right)
-          with_right right e = ap (λ (r : Option End). cond (is_on_side (node_of p s) (is_plus s) (arc_at net.arcs k).left) (x k) (pos 0) +ℤ
+          with_right right e = ap (λ (r : Option End). cond
+              (is_on_side (node_of p s) (is_plus s) (arc_at net.arcs k).left) (x k) (pos 0) +ℤ
               total (λ e. cond (is_on_side (node_of p s) (is_plus s) e) (x k) (pos 0)) (option_to_list r)) e
 
-          by_right : ((v : Slot) × IsSlot l v × (use_of l v ≡ use_of_arc k false)) ⊎ ((v : Slot) → IsSlot l v → use_of l v ≡ use_of_arc k false → ⊥)
+          by_right : ((v : Slot) × IsSlot l v × (use_of l v ≡ use_of_arc k false))
+              ⊎ ((v : Slot) → IsSlot l v → use_of l v ≡ use_of_arc k false → ⊥)
               → put_at (node_of p s) (is_plus s) k ≡ hits p s k true +ℤ hits p s k false
           by_right (inl v) =
               let right : (arc_at net.arcs k).right ≡ Some (end_at v.0.patch v.0.side) =
-              subst (λ (u : SideArc). (arc_at net.arcs u.arc).right ≡ Some (end_at v.0.patch v.0.side)) v.2 (is.right v.0 v.1 (ap (λ (u : SideArc). u.forward) v.2)) in
-              omega (arith, ints, with_right (Some (end_at v.0.patch v.0.side)) right, ahead, hits_at p s k false v.0 low v.1 v.2)
+              subst (λ (u : SideArc). (arc_at net.arcs u.arc).right ≡ Some (end_at v.0.patch v.0.side)) v.2
+              (is.right v.0 v.1 (ap (λ (u : SideArc). u.forward) v.2)) in
+              omega (
+                arith,
+                ints,
+                with_right (Some (end_at v.0.patch v.0.side)) right,
+                ahead,
+                hits_at p s k false v.0 low v.1 v.2,
+              )
           by_right (inr none) =
-              let right : (arc_at net.arcs k).right ≡ None = is.alone k k_low (λ w slot e. only w slot e (use_of l w).forward refl) in
-              omega (arith, ints, with_right None right, ahead, hits_none p s k false (λ j less u. none (slot_at p s j) (record { patch_low = low; low = less }) u))
+              let right : (arc_at net.arcs k).right ≡ None =
+              is.alone k k_low (λ w slot e. only w slot e (use_of l w).forward refl) in
+              omega (
+                arith,
+                ints,
+                with_right None right,
+                ahead,
+                hits_none p s k false (λ j less u. none (slot_at p s j) (record { patch_low = low; low = less }) u),
+              )
             where
-              only : (w : Slot) → IsSlot l w → (use_of l w).arc ≡ k → (b : Bool) → (use_of l w).forward ≡ b → (use_of l w).forward ≡ true
+              only : (w : Slot) → IsSlot l w → (use_of l w).arc ≡ k → (b : Bool) → (use_of l w).forward ≡ b
+                  → (use_of l w).forward ≡ true
               only w slot e true f = f
-              only w slot e false f = absurd (none w slot (ap (λ (a : ℕ). use_of_arc a (use_of l w).forward) e ∙ ap (λ (b : Bool). use_of_arc k b) f))
+              only w slot e false f = absurd (none w slot (ap (λ (a : ℕ). use_of_arc a (use_of l w).forward) e
+                  ∙ ap (λ (b : Bool). use_of_arc k b) f))
 
   -- The sum at the node of a side, on its side, is the sum along it.
   pub side_is : (p : ℕ) (s : Way) → p < l.patches → side_sum net.arcs x (is_plus s) (node_of p s) ≡ sum_along l x p s
   side_is p s low =
       ap (total_below (put_at (node_of p s) (is_plus s))) is.long
-      ∙ (total_below_same (put_at (node_of p s) (is_plus s)) (λ k. hits p s k true +ℤ hits p s k false) l.arcs (λ k l_k. put_is p s k low l_k)
-      ∙ sym (along_is x l.arcs (l.many p s) (l.use_at p s) (λ j less. laid.paved.arc_low (slot_at p s j) (record { patch_low = low; low = less }))))
+      ∙ (total_below_same (put_at (node_of p s) (is_plus s)) (λ k. hits p s k true +ℤ hits p s k false) l.arcs
+      (λ k l_k. put_is p s k low l_k)
+      ∙ sym (along_is x l.arcs (l.many p s) (l.use_at p s) (λ j less. laid.paved.arc_low (slot_at p s j)
+      (record { patch_low = low; low = less }))))
 
   -- Past the last node there is no end.
   none_at : (v : ℕ) (plus : Bool) → 2 * l.patches ≤ v → side_sum net.arcs x plus v ≡ pos 0
-  none_at v plus high = total_below_none (put_at v plus) (length net.arcs) (λ k l_k. by_ends k (has_ends k (omega (arith, is.long, l_k))) (omega (arith, is.long, l_k)))
+  none_at v plus high = total_below_none (put_at v plus) (length net.arcs)
+      (λ k l_k. by_ends k (has_ends k (omega (arith, is.long, l_k))) (omega (arith, is.long, l_k)))
     where
       off : (q : ℕ) (s : Way) → q < l.patches → is_on_side v plus (end_at q s) ≡ false
-      off q s h = ap (λ (b : Bool). b && cond plus (is_plus s) (not (is_plus s))) (ne_eqb (node_of q s) v (λ e. omega (arith, e, node_low q s l.patches h)))
+      off q s h = ap (λ (b : Bool). b && cond plus (is_plus s) (not (is_plus s)))
+          (ne_eqb (node_of q s) v (λ e. omega (arith, e, node_low q s l.patches h)))
 
       by_ends : (k : ℕ) → HasEnds k → k < l.arcs → put_at v plus k ≡ pos 0
       by_ends k h k_low = by_right h.right
@@ -229,27 +271,35 @@ module _
               (is.left h.ahead h.ahead_is (ap (λ (u : SideArc). u.forward) h.ahead_use))
 
           ahead : cond (is_on_side v plus (arc_at net.arcs k).left) (x k) (pos 0) ≡ pos 0
-          ahead = ap (λ (e : End). cond (is_on_side v plus e) (x k) (pos 0)) left ∙ ap (λ (b : Bool). cond b (x k) (pos 0)) (off h.ahead.patch h.ahead.side h.ahead_is.patch_low)
+          ahead = ap (λ (e : End). cond (is_on_side v plus e) (x k) (pos 0)) left
+              ∙ ap (λ (b : Bool). cond b (x k) (pos 0)) (off h.ahead.patch h.ahead.side h.ahead_is.patch_low)
 
           with_right : (right : Option End) → (arc_at net.arcs k).right ≡ right
               → put_at v plus k ≡ cond (is_on_side v plus (arc_at net.arcs k).left) (x k) (pos 0) +ℤ
               total (λ e. cond (is_on_side v plus e) (x k) (pos 0)) (option_to_list right)
-          with_right right e = ap (λ (r : Option End). cond (is_on_side v plus (arc_at net.arcs k).left) (x k) (pos 0) +ℤ
+          with_right right e = ap (λ (r : Option End). cond (is_on_side v plus (arc_at net.arcs k).left) (x k) (pos 0)
+              +ℤ
               total (λ e. cond (is_on_side v plus e) (x k) (pos 0)) (option_to_list r)) e
 
-          by_right : ((v : Slot) × IsSlot l v × (use_of l v ≡ use_of_arc k false)) ⊎ ((v : Slot) → IsSlot l v → use_of l v ≡ use_of_arc k false → ⊥) → put_at v plus k ≡ pos 0
+          by_right : ((v : Slot) × IsSlot l v × (use_of l v ≡ use_of_arc k false))
+              ⊎ ((v : Slot) → IsSlot l v → use_of l v ≡ use_of_arc k false → ⊥) → put_at v plus k ≡ pos 0
           by_right (inl w) =
               let right : (arc_at net.arcs k).right ≡ Some (end_at w.0.patch w.0.side) =
-              subst (λ (u : SideArc). (arc_at net.arcs u.arc).right ≡ Some (end_at w.0.patch w.0.side)) w.2 (is.right w.0 w.1 (ap (λ (u : SideArc). u.forward) w.2)) in
-              let none : cond (is_on_side v plus (end_at w.0.patch w.0.side)) (x k) (pos 0) ≡ pos 0 = ap (λ (b : Bool). cond b (x k) (pos 0)) (off w.0.patch w.0.side w.1.patch_low) in
+              subst (λ (u : SideArc). (arc_at net.arcs u.arc).right ≡ Some (end_at w.0.patch w.0.side)) w.2
+              (is.right w.0 w.1 (ap (λ (u : SideArc). u.forward) w.2)) in
+              let none : cond (is_on_side v plus (end_at w.0.patch w.0.side)) (x k) (pos 0) ≡ pos 0 =
+              ap (λ (b : Bool). cond b (x k) (pos 0)) (off w.0.patch w.0.side w.1.patch_low) in
               omega (arith, ints, with_right (Some (end_at w.0.patch w.0.side)) right, ahead, none)
           by_right (inr none) =
-              let right : (arc_at net.arcs k).right ≡ None = is.alone k k_low (λ w slot e. only w slot e (use_of l w).forward refl) in
+              let right : (arc_at net.arcs k).right ≡ None =
+              is.alone k k_low (λ w slot e. only w slot e (use_of l w).forward refl) in
               omega (arith, ints, with_right None right, ahead)
             where
-              only : (w : Slot) → IsSlot l w → (use_of l w).arc ≡ k → (b : Bool) → (use_of l w).forward ≡ b → (use_of l w).forward ≡ true
+              only : (w : Slot) → IsSlot l w → (use_of l w).arc ≡ k → (b : Bool) → (use_of l w).forward ≡ b
+                  → (use_of l w).forward ≡ true
               only w slot e true f = f
-              only w slot e false f = absurd (none w slot (ap (λ (a : ℕ). use_of_arc a (use_of l w).forward) e ∙ ap (λ (b : Bool). use_of_arc k b) f))
+              only w slot e false f = absurd (none w slot (ap (λ (a : ℕ). use_of_arc a (use_of l w).forward) e
+                  ∙ ap (λ (b : Bool). use_of_arc k b) f))
 
   opposite : IsBalanced net.arcs x → AreOpposite l x
   opposite balanced = record {
@@ -266,9 +316,13 @@ module _
       halves : (v : ℕ) → (v ≡ 2 * (v / 2)) ⊎ (v ≡ 2 * (v / 2) + 1)
       halves v = elim (cases_eq (v % 2) 0) [ inl e ↦ inl (omega arith) | inr ne ↦ inr (omega arith) ]
 
-      by_half : (p : ℕ) → p < l.patches → (v ≡ 2 * p) ⊎ (v ≡ 2 * p + 1) → side_sum net.arcs x true v ≡ side_sum net.arcs x false v
-      by_half p low (inl e) = subst (λ (u : ℕ). side_sum net.arcs x true u ≡ side_sum net.arcs x false u) (sym e) (side_is p south low ∙ (equal.across p low ∙ sym (side_is p north low)))
-      by_half p low (inr e) = subst (λ (u : ℕ). side_sum net.arcs x true u ≡ side_sum net.arcs x false u) (sym e) (side_is p east low ∙ (equal.upright p low ∙ sym (side_is p west low)))
+      by_half : (p : ℕ) → p < l.patches → (v ≡ 2 * p) ⊎ (v ≡ 2 * p + 1) → side_sum net.arcs x true v
+          ≡ side_sum net.arcs x false v
+      by_half p low (inl e) = subst (λ (u : ℕ). side_sum net.arcs x true u ≡ side_sum net.arcs x false u) (sym e)
+          (side_is p south low ∙ (equal.across p low ∙ sym (side_is p north low)))
+      by_half p low (inr e) = subst (λ (u : ℕ). side_sum net.arcs x true u ≡ side_sum net.arcs x false u) (sym e)
+          (side_is p east low ∙ (equal.upright p low ∙ sym (side_is p west low)))
 
 pub balance_law : BalanceLaw
-balance_law l old wish set net laid is x = (opposite l old wish set net laid is x, balanced l old wish set net laid is x)
+balance_law l old wish set net laid is x =
+    (opposite l old wish set net laid is x, balanced l old wish set net laid is x)

@@ -1,5 +1,6 @@
 -- The network of a layout is even and within bounds.
-use Rattle.std.proofs.Common.{◌≡◌, ◌⊎◌, ℕ, zero, suc, ◌*◌, ◌^◌, ◌<◌, ◌≤◌, Bool, true, false, List, [], ◌∷◌, length, map, Option, Some, pos}
+use Rattle.std.proofs.Common.{◌≡◌, ◌⊎◌, ℕ, zero, suc, ◌*◌, ◌^◌, ◌<◌, ◌≤◌, Bool, true, false, List, [], ◌∷◌, length, map}
+use Rattle.std.proofs.Common.{Option, Some, pos}
 use Rattle.std.proofs.Common.{refl, sym, ap, ◌∙◌, subst, inl, inr, arith, ◌&&◌}
 use Rattle.std.specs.Prelude.{nat_le, nat_lt, option_to_list}
 use Rattle.std.specs.List.{list_all}
@@ -35,12 +36,15 @@ count_at f [] = refl
 count_at f (x ∷ xs) = omega (arith, count_at f xs, count_below_prefix (λ k. f (arc_at (x ∷ xs) k)) (length xs))
 
 -- What each arc passes all pass.
-pub all_pass : (p : Arc → Bool) (xs : List Arc) → ((k : ℕ) → k < length xs → p (arc_at xs k) ≡ true) → list_all p xs ≡ true
+pub all_pass : (p : Arc → Bool) (xs : List Arc) → ((k : ℕ) → k < length xs → p (arc_at xs k) ≡ true)
+    → list_all p xs ≡ true
 all_pass p [] each = refl
-all_pass p (x ∷ xs) each = ap (λ (b : Bool). b && list_all p xs) (each 0 (omega arith)) ∙ all_pass p xs (λ k l. each (suc k) (omega arith))
+all_pass p (x ∷ xs) each = ap (λ (b : Bool). b && list_all p xs) (each 0 (omega arith))
+    ∙ all_pass p xs (λ k l. each (suc k) (omega arith))
 
 -- The arcs before any end is put in.
-open_at : (w : Weight) (runs : List TArc) (a : ℕ) → a < length runs → arc_at (map (open_arc w) runs) a ≡ arc_of w (long_at (map path runs) a)
+open_at : (w : Weight) (runs : List TArc) (a : ℕ) → a < length runs → arc_at (map (open_arc w) runs) a
+    ≡ arc_of w (long_at (map path runs) a)
 open_at w [] a l = absurd (omega arith)
 open_at w (r ∷ rs) zero l = refl
 open_at w (r ∷ rs) (suc a) l = open_at w rs a (omega arith)
@@ -68,7 +72,8 @@ ends_begin l w runs long = record {
     at a low = open_at w runs a (omega (arith, low, long, path_long runs))
 
 -- When all slots are done, these are the arcs of the network.
-pub net_is : (l : Layout) (old : Lengths) (set : Settings) (net : Network) → net.nodes ≡ 2 * l.patches → net.floor ≡ set.floor → net.p ≡ set.p → net.q ≡ set.q
+pub net_is : (l : Layout) (old : Lengths) (set : Settings) (net : Network) → net.nodes ≡ 2 * l.patches
+    → net.floor ≡ set.floor → net.p ≡ set.p → net.q ≡ set.q
     → AreEnds l old set.weight (PatchesBelow l.patches) net.arcs → IsNetOf l old old set net
 net_is l old set net nodes floor p q are = record {
   nodes = nodes;
@@ -83,7 +88,8 @@ net_is l old set net nodes floor p q are = record {
   alone = λ a low only. are.alone a low (λ w slot d e. only w slot e);
 }
 
-module _ (l : Layout) (x : Lengths) (set : Settings) (net : Network) (laid : IsSurface l) (len : AreLengths l x) (few : count_below x l.arcs ≤ 2 ^ 23)
+module _ (l : Layout) (x : Lengths) (set : Settings) (net : Network) (laid : IsSurface l) (len : AreLengths l x)
+    (few : count_below x l.arcs ≤ 2 ^ 23)
     (in_range : AreSettings set) (is : IsNetOf l x x set net) where
   -- The arcs are few.
   arcs_few : l.arcs ≤ 2 ^ 23
@@ -95,14 +101,23 @@ module _ (l : Layout) (x : Lengths) (set : Settings) (net : Network) (laid : IsS
   -- The sum along a side is the size of the side.
   along_is : (p : ℕ) (s : Way) → p < l.patches → sum_along l (λ k. pos (arc_at net.arcs k).old) p s ≡ pos (size l x p s)
   along_is p s low =
-      total_below_same (λ k. pos (arc_at net.arcs (l.use_at p s k).arc).old) (λ k. pos (x (l.use_at p s k).arc)) (l.many p s)
-      (λ k less. ap pos (is.olds (l.use_at p s k).arc (laid.paved.arc_low (record { patch = p; side = s; at = k }) (record { patch_low = low; low = less }))))
+      total_below_same (λ k. pos (arc_at net.arcs (l.use_at p s k).arc).old) (λ k. pos (x (l.use_at p s k).arc))
+      (l.many p s)
+      (λ k less. ap pos (is.olds (l.use_at p s k).arc (laid.paved.arc_low (record { patch = p; side = s; at = k })
+      (record { patch_low = low; low = less }))))
       ∙ sym (size_is l x p s)
 
   pub even : IsEven net
   even = record {
     high = λ k low. omega (arith, old_at k low, len.some k (omega (arith, low, is.long)));
-    small = omega (arith, count_at (λ a. a.old) net.arcs, count_below_same (λ k. (arc_at net.arcs k).old) x (length net.arcs) old_at, ap (count_below x) is.long, few);
+    small = omega (
+      arith,
+      count_at (λ a. a.old) net.arcs,
+      count_below_same (λ k. (arc_at net.arcs k).old) x
+          (length net.arcs) old_at,
+      ap (count_below x) is.long,
+      few,
+    );
     balanced = (balance_law l x x set net laid is (λ k. pos (arc_at net.arcs k).old)).1 (record {
       across = λ p low. along_is p south low ∙ (ap pos (sym (len.across p low)) ∙ sym (along_is p north low));
       upright = λ p low. along_is p east low ∙ (ap pos (len.upright p low) ∙ sym (along_is p west low));
@@ -124,26 +139,37 @@ module _ (l : Layout) (x : Lengths) (set : Settings) (net : Network) (laid : IsS
   ends_low : (k : ℕ) → k < l.arcs → list_all (λ (e : End). nat_lt e.node net.nodes) (ends (arc_at net.arcs k)) ≡ true
   ends_low k low = by_ends (has_ends l x x set net laid is (λ k. pos 0) k low)
     where
-      by_ends : HasEnds l x x set net laid is (λ k. pos 0) k → list_all (λ (e : End). nat_lt e.node net.nodes) (ends (arc_at net.arcs k)) ≡ true
-      by_ends h = ap (λ (b : Bool). b && rest (arc_at net.arcs k).right) (low_at (arc_at net.arcs k).left h.ahead left h.ahead_is) ∙ by_right h.right
+      by_ends : HasEnds l x x set net laid is (λ k. pos 0) k
+          → list_all (λ (e : End). nat_lt e.node net.nodes) (ends (arc_at net.arcs k)) ≡ true
+      by_ends h = ap (λ (b : Bool). b && rest (arc_at net.arcs k).right) (low_at (arc_at net.arcs k).left h.ahead left
+          h.ahead_is) ∙ by_right h.right
         where
           low_at : (e : End) (v : Slot) → e ≡ end_at v.patch v.side → IsSlot l v → nat_lt e.node net.nodes ≡ true
-          low_at e v same slot = lt-ltb e.node net.nodes (omega (arith, ap (λ (f : End). f.node) same, node_low v.patch v.side l.patches slot.patch_low, is.nodes))
+          low_at e v same slot = lt-ltb e.node net.nodes (omega (
+            arith,
+            ap (λ (f : End). f.node) same,
+            node_low v.patch v.side l.patches slot.patch_low,
+            is.nodes,
+          ))
 
           left : (arc_at net.arcs k).left ≡ end_at h.ahead.patch h.ahead.side
           left = subst (λ (u : SideArc). (arc_at net.arcs u.arc).left ≡ end_at h.ahead.patch h.ahead.side) h.ahead_use
               (is.left h.ahead h.ahead_is (ap (λ (u : SideArc). u.forward) h.ahead_use))
 
-          by_right : ((v : Slot) × IsSlot l v × (use_of l v ≡ use_of_arc k false)) ⊎ ((v : Slot) → IsSlot l v → use_of l v ≡ use_of_arc k false → ⊥) → rest (arc_at net.arcs k).right ≡ true
+          by_right : ((v : Slot) × IsSlot l v × (use_of l v ≡ use_of_arc k false))
+              ⊎ ((v : Slot) → IsSlot l v → use_of l v ≡ use_of_arc k false → ⊥) → rest (arc_at net.arcs k).right ≡ true
           by_right (inl v) =
               let right : (arc_at net.arcs k).right ≡ Some (end_at v.0.patch v.0.side) =
-              subst (λ (u : SideArc). (arc_at net.arcs u.arc).right ≡ Some (end_at v.0.patch v.0.side)) v.2 (is.right v.0 v.1 (ap (λ (u : SideArc). u.forward) v.2)) in
+              subst (λ (u : SideArc). (arc_at net.arcs u.arc).right ≡ Some (end_at v.0.patch v.0.side)) v.2
+              (is.right v.0 v.1 (ap (λ (u : SideArc). u.forward) v.2)) in
               ap rest right ∙ ap (λ (b : Bool). b && true) (low_at (end_at v.0.patch v.0.side) v.0 refl v.1)
           by_right (inr none) = ap rest (is.alone k low (λ w slot e. only w slot e (use_of l w).forward refl))
             where
-              only : (w : Slot) → IsSlot l w → (use_of l w).arc ≡ k → (b : Bool) → (use_of l w).forward ≡ b → (use_of l w).forward ≡ true
+              only : (w : Slot) → IsSlot l w → (use_of l w).arc ≡ k → (b : Bool) → (use_of l w).forward ≡ b
+                  → (use_of l w).forward ≡ true
               only w slot e true f = f
-              only w slot e false f = absurd (none w slot (ap (λ (a : ℕ). use_of_arc a (use_of l w).forward) e ∙ ap (λ (b : Bool). use_of_arc k b) f))
+              only w slot e false f = absurd (none w slot (ap (λ (a : ℕ). use_of_arc a (use_of l w).forward) e
+                  ∙ ap (λ (b : Bool). use_of_arc k b) f))
 
   bounded : (k : ℕ) → k < length net.arcs → is_bounded net.nodes (arc_at net.arcs k) ≡ true
   bounded k low =

@@ -1,5 +1,6 @@
 -- The arcs of a network while their ends are put in.
-use Rattle.std.proofs.Common.{◌≡◌, ◌≢◌, ◌⊎◌, ℕ, suc, ◌+◌, ◌<◌, Bool, true, false, cond, List, [], ◌∷◌, length, get_or, Some, None}
+use Rattle.std.proofs.Common.{◌≡◌, ◌≢◌, ◌⊎◌, ℕ, suc, ◌+◌, ◌<◌, Bool, true, false, cond, List, [], ◌∷◌, length, get_or}
+use Rattle.std.proofs.Common.{Some, None}
 use Rattle.std.proofs.Common.{refl, sym, ap, ◌∙◌, subst, inl, inr, arith}
 use Rattle.std.proofs.lemmas.Bool.{cases_eq, false≢true, cases_Bool}
 use Rattle.std.proofs.lemmas.List.{get_or-set_same, get_or-set_other, length-set}
@@ -20,7 +21,8 @@ use Rattle.qm_layoutnet.proofs.Hits.{use_of_arc}
 -- As many arcs are left.
 pub ends_long : (end : End) (us : List SideArc) (arcs : List Arc) → length (with_ends end us arcs) ≡ length arcs
 ends_long end [] arcs = refl
-ends_long end (u ∷ us) arcs = ends_long end us (with_end end u arcs) ∙ length-set arcs u.arc (with_side end u (arc_at arcs u.arc))
+ends_long end (u ∷ us) arcs = ends_long end us (with_end end u arcs)
+    ∙ length-set arcs u.arc (with_side end u (arc_at arcs u.arc))
 
 -- Lengths and weights stay.
 side_old : (end : End) (u : SideArc) (a : Arc) → (with_side end u a).old ≡ a.old
@@ -38,13 +40,15 @@ side_weight end u a = by_way u.forward
     by_way false = refl
 
 -- What a use changes of its arc: the left end where it goes along it, else the right end.
-side_left : (end : End) (u : SideArc) (a : Arc) → u.forward ≡ true → ((with_side end u a).left ≡ end) × ((with_side end u a).right ≡ a.right)
+side_left : (end : End) (u : SideArc) (a : Arc) → u.forward ≡ true → ((with_side end u a).left ≡ end)
+    × ((with_side end u a).right ≡ a.right)
 side_left end u a e = (
   ap (λ (b : Bool). (cond b (record a { left = end }) (record a { right = Some end })).left) e,
   ap (λ (b : Bool). (cond b (record a { left = end }) (record a { right = Some end })).right) e,
 )
 
-side_right : (end : End) (u : SideArc) (a : Arc) → u.forward ≡ false → ((with_side end u a).right ≡ Some end) × ((with_side end u a).left ≡ a.left)
+side_right : (end : End) (u : SideArc) (a : Arc) → u.forward ≡ false → ((with_side end u a).right ≡ Some end)
+    × ((with_side end u a).left ≡ a.left)
 side_right end u a e = (
   ap (λ (b : Bool). (cond b (record a { left = end }) (record a { right = Some end })).right) e,
   ap (λ (b : Bool). (cond b (record a { left = end }) (record a { right = Some end })).left) e,
@@ -60,7 +64,8 @@ same_number _ _ e = absurd (omega arith)
 
 module _ (l : Layout) (old : Lengths) (weight : Weight) (laid : IsSurface l) where
   -- The ends are those of the slots that are done, however that is said.
-  pub same_ends : (done now : Slot → Type 0) (arcs : List Arc) → ((w : Slot) → IsSlot l w → now w → done w) → ((w : Slot) → IsSlot l w → done w → now w)
+  pub same_ends : (done now : Slot → Type 0) (arcs : List Arc) → ((w : Slot) → IsSlot l w → now w → done w)
+      → ((w : Slot) → IsSlot l w → done w → now w)
       → AreEnds l old weight done arcs → AreEnds l old weight now arcs
   same_ends done now arcs back on are = record {
     long = are.long;
@@ -118,50 +123,68 @@ module _ (l : Layout) (old : Lengths) (weight : Weight) (laid : IsSurface l) whe
       ]
 
       -- Slots with one use are one.
-      is_v : (w : Slot) → IsSlot l w → (use_of l w).arc ≡ u.arc → (b : Bool) → (use_of l w).forward ≡ b → u.forward ≡ b → w ≡ v
-      is_v w slot e b f g = laid.once w v slot is_slot (ap (λ (a : ℕ). use_of_arc a (use_of l w).forward) e ∙ ap (λ (c : Bool). use_of_arc u.arc c) (f ∙ sym g))
+      is_v : (w : Slot) → IsSlot l w → (use_of l w).arc ≡ u.arc → (b : Bool) → (use_of l w).forward ≡ b → u.forward ≡ b
+          → w ≡ v
+      is_v w slot e b f g = laid.once w v slot is_slot (ap (λ (a : ℕ). use_of_arc a (use_of l w).forward) e
+          ∙ ap (λ (c : Bool). use_of_arc u.arc c) (f ∙ sym g))
 
-      left : (w : Slot) → IsSlot l w → now w → (use_of l w).forward ≡ true → (arc_at after (use_of l w).arc).left ≡ end_at w.patch w.side
+      left : (w : Slot) → IsSlot l w → now w → (use_of l w).forward ≡ true → (arc_at after (use_of l w).arc).left
+          ≡ end_at w.patch w.side
       left w slot n f = elim (cases_eq (use_of l w).arc u.arc) [
         | inl e ↦ by_way e (cases_Bool u.forward)
         | inr ne ↦ by_done ne (back w slot n)
       ]
         where
-          by_done : (use_of l w).arc ≢ u.arc → done w ⊎ (w ≡ v) → (arc_at after (use_of l w).arc).left ≡ end_at w.patch w.side
+          by_done : (use_of l w).arc ≢ u.arc → done w ⊎ (w ≡ v) → (arc_at after (use_of l w).arc).left
+              ≡ end_at w.patch w.side
           by_done ne (inl d) = ap (λ (x : Arc). x.left) (at_other (use_of l w).arc ne) ∙ are.left w slot d f
           by_done ne (inr e) = absurd (ne (ap (λ (x : Slot). (use_of l x).arc) e))
 
-          by_same : (use_of l w).arc ≡ u.arc → u.forward ≡ false → done w ⊎ (w ≡ v) → (arc_at after (use_of l w).arc).left ≡ end_at w.patch w.side
-          by_same e g (inl d) = ap (λ (x : Arc). x.left) (at_use (use_of l w).arc e) ∙ ((side_right end u (arc_at arcs (use_of l w).arc) g).1 ∙ are.left w slot d f)
-          by_same e g (inr same) = absurd (false≢true (sym g ∙ (sym (ap (λ (x : Slot). (use_of l x).forward) same) ∙ f)))
+          by_same : (use_of l w).arc ≡ u.arc → u.forward ≡ false → done w ⊎ (w ≡ v)
+              → (arc_at after (use_of l w).arc).left ≡ end_at w.patch w.side
+          by_same e g (inl d) = ap (λ (x : Arc). x.left) (at_use (use_of l w).arc e)
+              ∙ ((side_right end u (arc_at arcs (use_of l w).arc) g).1 ∙ are.left w slot d f)
+          by_same e g (inr same) =
+              absurd (false≢true (sym g ∙ (sym (ap (λ (x : Slot). (use_of l x).forward) same) ∙ f)))
 
-          by_way : (use_of l w).arc ≡ u.arc → (u.forward ≡ true) ⊎ (u.forward ≡ false) → (arc_at after (use_of l w).arc).left ≡ end_at w.patch w.side
+          by_way : (use_of l w).arc ≡ u.arc → (u.forward ≡ true) ⊎ (u.forward ≡ false)
+              → (arc_at after (use_of l w).arc).left ≡ end_at w.patch w.side
           by_way e (inl g) = ap (λ (x : Arc). x.left) (at_use (use_of l w).arc e)
-              ∙ ((side_left end u (arc_at arcs (use_of l w).arc) g).0 ∙ sym (ap (λ (x : Slot). end_at x.patch x.side) (is_v w slot e true f g)))
+              ∙ ((side_left end u (arc_at arcs (use_of l w).arc) g).0
+              ∙ sym (ap (λ (x : Slot). end_at x.patch x.side) (is_v w slot e true f g)))
           by_way e (inr g) = by_same e g (back w slot n)
 
-      right : (w : Slot) → IsSlot l w → now w → (use_of l w).forward ≡ false → (arc_at after (use_of l w).arc).right ≡ Some (end_at w.patch w.side)
+      right : (w : Slot) → IsSlot l w → now w → (use_of l w).forward ≡ false → (arc_at after (use_of l w).arc).right
+          ≡ Some (end_at w.patch w.side)
       right w slot n f = elim (cases_eq (use_of l w).arc u.arc) [
         | inl e ↦ by_way e (cases_Bool u.forward)
         | inr ne ↦ by_done ne (back w slot n)
       ]
         where
-          by_done : (use_of l w).arc ≢ u.arc → done w ⊎ (w ≡ v) → (arc_at after (use_of l w).arc).right ≡ Some (end_at w.patch w.side)
+          by_done : (use_of l w).arc ≢ u.arc → done w ⊎ (w ≡ v) → (arc_at after (use_of l w).arc).right
+              ≡ Some (end_at w.patch w.side)
           by_done ne (inl d) = ap (λ (x : Arc). x.right) (at_other (use_of l w).arc ne) ∙ are.right w slot d f
           by_done ne (inr e) = absurd (ne (ap (λ (x : Slot). (use_of l x).arc) e))
 
-          by_same : (use_of l w).arc ≡ u.arc → u.forward ≡ true → done w ⊎ (w ≡ v) → (arc_at after (use_of l w).arc).right ≡ Some (end_at w.patch w.side)
-          by_same e g (inl d) = ap (λ (x : Arc). x.right) (at_use (use_of l w).arc e) ∙ ((side_left end u (arc_at arcs (use_of l w).arc) g).1 ∙ are.right w slot d f)
-          by_same e g (inr same) = absurd (false≢true (sym (sym (ap (λ (x : Slot). (use_of l x).forward) same) ∙ f) ∙ g))
+          by_same : (use_of l w).arc ≡ u.arc → u.forward ≡ true → done w ⊎ (w ≡ v)
+              → (arc_at after (use_of l w).arc).right ≡ Some (end_at w.patch w.side)
+          by_same e g (inl d) = ap (λ (x : Arc). x.right) (at_use (use_of l w).arc e)
+              ∙ ((side_left end u (arc_at arcs (use_of l w).arc) g).1 ∙ are.right w slot d f)
+          by_same e g (inr same) =
+              absurd (false≢true (sym (sym (ap (λ (x : Slot). (use_of l x).forward) same) ∙ f) ∙ g))
 
-          by_way : (use_of l w).arc ≡ u.arc → (u.forward ≡ true) ⊎ (u.forward ≡ false) → (arc_at after (use_of l w).arc).right ≡ Some (end_at w.patch w.side)
+          by_way : (use_of l w).arc ≡ u.arc → (u.forward ≡ true) ⊎ (u.forward ≡ false)
+              → (arc_at after (use_of l w).arc).right ≡ Some (end_at w.patch w.side)
           by_way e (inr g) = ap (λ (x : Arc). x.right) (at_use (use_of l w).arc e)
-              ∙ ((side_right end u (arc_at arcs (use_of l w).arc) g).0 ∙ sym (ap (λ (x : Slot). Some (end_at x.patch x.side)) (is_v w slot e false f g)))
+              ∙ ((side_right end u (arc_at arcs (use_of l w).arc) g).0
+              ∙ sym (ap (λ (x : Slot). Some (end_at x.patch x.side)) (is_v w slot e false f g)))
           by_way e (inl g) = by_same e g (back w slot n)
 
-      alone : (a : ℕ) → a < l.arcs → ((w : Slot) → IsSlot l w → now w → (use_of l w).arc ≡ a → (use_of l w).forward ≡ true) → (arc_at after a).right ≡ None
+      alone : (a : ℕ) → a < l.arcs → ((w : Slot) → IsSlot l w → now w → (use_of l w).arc ≡ a → (use_of l w).forward
+          ≡ true) → (arc_at after a).right ≡ None
       alone a low only = elim (cases_eq a u.arc) [
-        | inl e ↦ ap (λ (x : Arc). x.right) (at_use a e) ∙ ((side_left end u (arc_at arcs a) (only v is_slot here (sym e))).1 ∙ was)
+        | inl e ↦ ap (λ (x : Arc). x.right) (at_use a e)
+            ∙ ((side_left end u (arc_at arcs a) (only v is_slot here (sym e))).1 ∙ was)
         | inr ne ↦ ap (λ (x : Arc). x.right) (at_other a ne) ∙ was
       ]
         where
@@ -173,12 +196,16 @@ module _ (l : Layout) (old : Lengths) (weight : Weight) (laid : IsSurface l) whe
       → ((j : ℕ) (d : SideArc) → j < length us → get_or us j d ≡ l.use_at p s (k + j)) → k + length us ≡ l.many p s
       → AreEnds l old weight (SlotsBelow p (way_number s) k) arcs
       → AreEnds l old weight (SlotsBelow p (way_number s) (l.many p s)) (with_ends (end_at p s) us arcs)
-  side_from p s [] k arcs low same many are = subst (λ (m : ℕ). AreEnds l old weight (SlotsBelow p (way_number s) m) arcs) (omega (arith, many)) are
+  side_from p s [] k arcs low same many are =
+      subst (λ (m : ℕ). AreEnds l old weight (SlotsBelow p (way_number s) m) arcs) (omega (arith, many)) are
   side_from p s (u ∷ us) k arcs low same many are =
       side_from p s us (k + 1) (with_end (end_at p s) u arcs) low
-      (λ j d h. same (suc j) d (omega arith) ∙ ap (l.use_at p s) (let n : k + suc j ≡ k + 1 + j = omega arith in n)) (omega (arith, many))
-      (subst (λ (x : SideArc). AreEnds l old weight (SlotsBelow p (way_number s) (k + 1)) (with_end (end_at p s) x arcs)) (sym here)
-      (end_more (SlotsBelow p (way_number s) k) (SlotsBelow p (way_number s) (k + 1)) arcs v (record { patch_low = low; low = omega (arith, many) }) back on (inr (refl, inr (refl, omega arith))) are))
+      (λ j d h. same (suc j) d (omega arith) ∙ ap (l.use_at p s) (let n : k + suc j ≡ k + 1 + j = omega arith in n))
+      (omega (arith, many))
+      (subst (λ (x : SideArc). AreEnds l old weight (SlotsBelow p (way_number s) (k + 1))
+      (with_end (end_at p s) x arcs)) (sym here)
+      (end_more (SlotsBelow p (way_number s) k) (SlotsBelow p (way_number s) (k + 1)) arcs v
+      (record { patch_low = low; low = omega (arith, many) }) back on (inr (refl, inr (refl, omega arith))) are))
     where
       v : Slot
       v = record { patch = p; side = s; at = k }
@@ -196,7 +223,8 @@ module _ (l : Layout) (old : Lengths) (weight : Weight) (laid : IsSurface l) whe
         where
           same_slot : (w : Slot) → w.patch ≡ p → w.side ≡ s → w.at ≡ k → w ≡ v
           same_slot w e f g = ap (λ (q : ℕ). record { patch = q; side = w.side; at = w.at }) e
-              ∙ (ap (λ (q : Way). record { patch = p; side = q; at = w.at }) f ∙ ap (λ (q : ℕ). record { patch = p; side = s; at = q }) g)
+              ∙ (ap (λ (q : Way). record { patch = p; side = q; at = w.at }) f
+              ∙ ap (λ (q : ℕ). record { patch = p; side = s; at = q }) g)
 
       on : (w : Slot) → IsSlot l w → SlotsBelow p (way_number s) k w → SlotsBelow p (way_number s) (k + 1) w
       on w slot (inl h) = inl h
@@ -213,7 +241,8 @@ module _ (l : Layout) (old : Lengths) (weight : Weight) (laid : IsSurface l) whe
   -- A side that is done whole, and the next one.
   next_side : (p : ℕ) (s : Way) (arcs : List Arc) → AreEnds l old weight (SlotsBelow p (way_number s) (l.many p s)) arcs
       → AreEnds l old weight (SlotsBelow p (way_number s + 1) 0) arcs
-  next_side p s arcs are = same_ends (SlotsBelow p (way_number s) (l.many p s)) (SlotsBelow p (way_number s + 1) 0) arcs back on are
+  next_side p s arcs are = same_ends (SlotsBelow p (way_number s) (l.many p s)) (SlotsBelow p (way_number s + 1) 0) arcs
+      back on are
     where
       whole : (w : Slot) → IsSlot l w → w.patch ≡ p → w.side ≡ s → w.at < l.many p s
       whole w slot e f = subst (λ (t : Way). w.at < l.many p t) f (subst (λ (q : ℕ). w.at < l.many q w.side) e slot.low)
@@ -233,7 +262,8 @@ module _ (l : Layout) (old : Lengths) (weight : Weight) (laid : IsSurface l) whe
 
   -- A patch is done.
   pub patch_more : (p : ℕ) (side : Way → List SideArc) (arcs : List Arc) → p < l.patches
-      → ((s : Way) (j : ℕ) (d : SideArc) → j < length (side s) → get_or (side s) j d ≡ l.use_at p s j) → ((s : Way) → length (side s) ≡ l.many p s)
+      → ((s : Way) (j : ℕ) (d : SideArc) → j < length (side s) → get_or (side s) j d ≡ l.use_at p s j)
+      → ((s : Way) → length (side s) ≡ l.many p s)
       → AreEnds l old weight (PatchesBelow p) arcs → AreEnds l old weight (PatchesBelow (p + 1)) (with_four p side arcs)
   patch_more p side arcs low same many are =
       same_ends (SlotsBelow p 3 (l.many p west)) (PatchesBelow (p + 1)) (with_four p side arcs) last_back last_on
@@ -257,7 +287,8 @@ module _ (l : Layout) (old : Lengths) (weight : Weight) (laid : IsSurface l) whe
       first_back w slot (inr (e, inl h)) = absurd (omega (arith, h))
       first_back w slot (inr (e, inr (n, h))) = absurd (omega (arith, h))
 
-      in_patch : (w : Slot) → w.patch ≡ p → (s : Way) → w.side ≡ s → w.at < l.many p s → SlotsBelow p 3 (l.many p west) w
+      in_patch : (w : Slot) → w.patch ≡ p → (s : Way) → w.side ≡ s → w.at < l.many p s
+          → SlotsBelow p 3 (l.many p west) w
       in_patch w e south f h = inr (e, inl (omega (arith, ap way_number f)))
       in_patch w e east f h = inr (e, inl (omega (arith, ap way_number f)))
       in_patch w e north f h = inr (e, inl (omega (arith, ap way_number f)))
@@ -274,11 +305,14 @@ module _ (l : Layout) (old : Lengths) (weight : Weight) (laid : IsSurface l) whe
       last_on w slot (inr (e, h)) = omega arith
 
 -- Uses of arcs that are there, read from a table.
-pub low_among : (us vs : List SideArc) (n m : ℕ) → vs ≡ us → m ≡ n → All (λ (u : SideArc). u.arc < n) us → All (λ (u : SideArc). u.arc < m) vs
-low_among us vs n m e long low = subst (λ (xs : List SideArc). All (λ (u : SideArc). u.arc < m) xs) (sym e) (λ k d h. omega (arith, low k d h, long))
+pub low_among : (us vs : List SideArc) (n m : ℕ) → vs ≡ us → m ≡ n → All (λ (u : SideArc). u.arc < n) us
+    → All (λ (u : SideArc). u.arc < m) vs
+low_among us vs n m e long low = subst (λ (xs : List SideArc). All (λ (u : SideArc). u.arc < m) xs) (sym e)
+    (λ k d h. omega (arith, low k d h, long))
 
 -- As many arcs are left.
 pub four_long : (p : ℕ) (side : Way → List SideArc) (arcs : List Arc) → length (with_four p side arcs) ≡ length arcs
 four_long p side arcs =
     ends_long (end_at p west) (side west) _
-    ∙ (ends_long (end_at p north) (side north) _ ∙ (ends_long (end_at p east) (side east) _ ∙ ends_long (end_at p south) (side south) arcs))
+    ∙ (ends_long (end_at p north) (side north) _
+    ∙ (ends_long (end_at p east) (side east) _ ∙ ends_long (end_at p south) (side south) arcs))

@@ -8,7 +8,8 @@ use Rattle.sum_laws.proofs.Sums.{total_below_none, total_below_one, total_below_
 use Rattle.def_layout.specs.declared.tmesh.SideArc.{SideArc}
 
 -- Two sums may be taken in either order.
-pub swapped : (f : ℕ → ℕ → ℤ) (n m : ℕ) → total_below (λ j. total_below (λ k. f k j) n) m ≡ total_below (λ k. total_below (f k) m) n
+pub swapped : (f : ℕ → ℕ → ℤ) (n m : ℕ) → total_below (λ j. total_below (λ k. f k j) n) m
+    ≡ total_below (λ k. total_below (f k) m) n
 swapped f n zero = sym (total_below_none (λ k. pos 0) n (λ k l. refl))
 swapped f n (suc m) = omega (arith, ints, swapped f n m, total_below_sum (λ k. total_below (f k) m) (λ k. f k m) n)
 
@@ -35,14 +36,17 @@ same_way false false e = refl
 pub hit_is : (k : ℕ) (forward : Bool) (used : SideArc) → is_hit k forward used ≡ true → used ≡ use_of_arc k forward
 hit_is k forward used e = by_parts (and_parts (used.arc == k) (cond forward used.forward (not used.forward)) e)
   where
-    by_parts : (((used.arc == k) ≡ true) × (cond forward used.forward (not used.forward) ≡ true)) → used ≡ use_of_arc k forward
+    by_parts : (((used.arc == k) ≡ true) × (cond forward used.forward (not used.forward) ≡ true))
+        → used ≡ use_of_arc k forward
     by_parts p = elim (cases_eq used.arc k) [
-      | inl same ↦ ap (λ (b : Bool). use_of_arc used.arc b) (same_way forward used.forward p.1) ∙ ap (λ (a : ℕ). use_of_arc a forward) same
+      | inl same ↦ ap (λ (b : Bool). use_of_arc used.arc b) (same_way forward used.forward p.1)
+          ∙ ap (λ (a : ℕ). use_of_arc a forward) same
       | inr other ↦ absurd (false≢true (sym (ne_eqb used.arc k other) ∙ p.0))
     ]
 
 -- Any other use of it is none.
-pub no_hit : (k : ℕ) (forward : Bool) (used : SideArc) → (used ≡ use_of_arc k forward → ⊥) → is_hit k forward used ≡ false
+pub no_hit : (k : ℕ) (forward : Bool) (used : SideArc) → (used ≡ use_of_arc k forward → ⊥) → is_hit k forward used
+    ≡ false
 no_hit k forward used never = by_test (is_hit k forward used) refl
   where
     by_test : (b : Bool) → is_hit k forward used ≡ b → is_hit k forward used ≡ false
@@ -67,10 +71,14 @@ put_once x n used low = total_below_one (put x used) n used.arc low other ∙ he
 -- The sum along some uses is the sum over all arcs of what they put there.
 pub along_is : (x : ℕ → ℤ) (n m : ℕ) (use_at : ℕ → SideArc) → ((j : ℕ) → j < m → (use_at j).arc < n)
     → total_below (λ j. x (use_at j).arc) m
-    ≡ total_below (λ k. total_below (λ j. cond (is_hit k true (use_at j)) (x k) (pos 0)) m +ℤ total_below (λ j. cond (is_hit k false (use_at j)) (x k) (pos 0)) m) n
+    ≡ total_below (λ k. total_below (λ j. cond (is_hit k true (use_at j)) (x k) (pos 0)) m +ℤ total_below
+    (λ j. cond (is_hit k false (use_at j)) (x k) (pos 0)) m) n
 along_is x n m use_at low =
-    total_below_same (λ j. x (use_at j).arc) (λ j. total_below (put x (use_at j)) n) m (λ j l. sym (put_once x n (use_at j) (low j l)))
+    total_below_same (λ j. x (use_at j).arc) (λ j. total_below (put x (use_at j)) n) m
+    (λ j l. sym (put_once x n (use_at j) (low j l)))
     ∙ (swapped (λ k j. put x (use_at j) k) n m
     ∙ total_below_same (λ k. total_below (λ j. put x (use_at j) k) m)
-    (λ k. total_below (λ j. cond (is_hit k true (use_at j)) (x k) (pos 0)) m +ℤ total_below (λ j. cond (is_hit k false (use_at j)) (x k) (pos 0)) m) n
-    (λ k l. total_below_sum (λ j. cond (is_hit k true (use_at j)) (x k) (pos 0)) (λ j. cond (is_hit k false (use_at j)) (x k) (pos 0)) m))
+    (λ k. total_below (λ j. cond (is_hit k true (use_at j)) (x k) (pos 0)) m +ℤ total_below
+    (λ j. cond (is_hit k false (use_at j)) (x k) (pos 0)) m) n
+    (λ k l. total_below_sum (λ j. cond (is_hit k true (use_at j)) (x k) (pos 0))
+    (λ j. cond (is_hit k false (use_at j)) (x k) (pos 0)) m))

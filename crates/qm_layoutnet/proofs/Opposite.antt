@@ -11,10 +11,12 @@ module _ (l : Layout) (x : Lengths) (p : ℕ) where
   pub size_is : (s : Way) → pos (size l x p s) ≡ sum_along l (λ arc. pos (x arc)) p s
   size_is s = count_below_total (λ k. x (l.use_at p s k).arc) (l.many p s)
 
-  same_sum : (s t : Way) → size l x p s ≡ size l x p t → sum_along l (λ arc. pos (x arc)) p s ≡ sum_along l (λ arc. pos (x arc)) p t
+  same_sum : (s t : Way) → size l x p s ≡ size l x p t → sum_along l (λ arc. pos (x arc)) p s
+      ≡ sum_along l (λ arc. pos (x arc)) p t
   same_sum s t same = sym (size_is s) ∙ (ap pos same ∙ size_is t)
 
-  same_size : (s t : Way) → sum_along l (λ arc. pos (x arc)) p s ≡ sum_along l (λ arc. pos (x arc)) p t → size l x p s ≡ size l x p t
+  same_size : (s t : Way) → sum_along l (λ arc. pos (x arc)) p s ≡ sum_along l (λ arc. pos (x arc)) p t
+      → size l x p s ≡ size l x p t
   same_size s t same = omega (arith, ints, size_is s, size_is t, same)
 
 pub opposite_law : OppositeLaw

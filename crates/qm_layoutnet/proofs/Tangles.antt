@@ -1,5 +1,6 @@
 -- The tangle number of few arcs is below 2^64.
-use Rattle.std.proofs.Common.{◌≡◌, ℕ, zero, suc, ◌+◌, ◌*◌, ◌^◌, ◌<◌, ◌≤◌, Bool, cond, ◌==◌, List, [], ◌∷◌, length, Option, Some, None, refl, ap, inl, inr, arith}
+use Rattle.std.proofs.Common.{◌≡◌, ℕ, zero, suc, ◌+◌, ◌*◌, ◌^◌, ◌<◌, ◌≤◌, Bool, cond, ◌==◌, List, [], ◌∷◌, length}
+use Rattle.std.proofs.Common.{Option, Some, None, refl, ap, inl, inr, arith}
 use Rattle.std.proofs.Math.Nat.{mul-le-mul_right}
 use Rattle.std.specs.Prelude.{option_to_list}
 use Rattle.std.proofs.lemmas.Bool.{cases_eq, eq-eqb, ne_eqb}
@@ -24,17 +25,21 @@ one_below u zero = omega arith
 one_below u (suc n) = elim (cases_eq u n) [
   | inl e ↦
       let none : count_below (λ v. cond (u == v) 1 0) n ≡ 0 =
-      count_below_none (λ v. cond (u == v) 1 0) n (λ v l. ap (λ (b : Bool). cond b 1 0) (ne_eqb u v (λ s. omega (arith, s, e)))) in
+      count_below_none (λ v. cond (u == v) 1 0) n
+      (λ v l. ap (λ (b : Bool). cond b 1 0) (ne_eqb u v (λ s. omega (arith, s, e)))) in
       let here : ◌≡◌ {A = ℕ} (cond (u == n) 1 0) 1 = ap (λ (b : Bool). cond b 1 0) (eq-eqb u n e) in
       omega (arith, none, here)
-  | inr ne ↦ let off : ◌≡◌ {A = ℕ} (cond (u == n) 1 0) 0 = ap (λ (b : Bool). cond b 1 0) (ne_eqb u n ne) in omega (arith, one_below u n, off)
+  | inr ne ↦ let off : ◌≡◌ {A = ℕ} (cond (u == n) 1 0) 0 = ap (λ (b : Bool). cond b 1 0) (ne_eqb u n ne) in
+      omega (arith, one_below u n, off)
 ]
 
 -- The ends at the nodes below a bound, of an arc and of all arcs.
 arc_ends : (a : Arc) (n : ℕ) → count_below (λ v. count (λ e. cond (e.node == v) 1 0) (ends a)) n ≤ 2
 arc_ends a n = by_right a.right
   where
-    by_right : (right : Option End) → count_below (λ v. cond (a.left.node == v) 1 0 + count (λ (e : End). cond (e.node == v) 1 0) (option_to_list right)) n ≤ 2
+    by_right : (right : Option End)
+        → count_below (λ v. cond (a.left.node == v) 1 0 + count (λ (e : End). cond (e.node == v) 1 0)
+        (option_to_list right)) n ≤ 2
     by_right None =
         let sum = count_below_sum (λ v. cond (a.left.node == v) 1 0) (λ v. 0) n in
         omega (arith, sum, one_below a.left.node n, count_below_none (λ v. 0) n (λ v l. refl))
@@ -56,7 +61,8 @@ degrees_few (a ∷ arcs) n = omega (
 arc_degree : (a : Arc) (v : ℕ) → count (λ e. cond (e.node == v) 1 0) (ends a) ≤ 2
 arc_degree a v = by_right a.right
   where
-    by_right : (right : Option End) → cond (a.left.node == v) 1 0 + count (λ (e : End). cond (e.node == v) 1 0) (option_to_list right) ≤ 2
+    by_right : (right : Option End) → cond (a.left.node == v) 1 0 + count (λ (e : End). cond (e.node == v) 1 0)
+        (option_to_list right) ≤ 2
     by_right None = omega (arith, once_at_most (a.left.node == v))
     by_right (Some r) = omega (arith, once_at_most (a.left.node == v), once_at_most (r.node == v))
 
@@ -71,7 +77,8 @@ tangle_small net few = omega (arith, each, times, degrees_few net.arcs net.nodes
     square d l = omega (arith, mul-le-mul_right {m = d} {n = 2 ^ 24} d l)
 
     each : tangle_number net ≤ count_below (λ v. 2 ^ 28 * degree net.arcs v) net.nodes
-    each = count_below_le (λ v. 16 * (degree net.arcs v * degree net.arcs v)) (λ v. 2 ^ 28 * degree net.arcs v) net.nodes
+    each = count_below_le (λ v. 16 * (degree net.arcs v * degree net.arcs v)) (λ v. 2 ^ 28 * degree net.arcs v)
+        net.nodes
         (λ v l. square (degree net.arcs v) (omega (arith, degree_few net.arcs v)))
 
     times : count_below (λ v. 2 ^ 28 * degree net.arcs v) net.nodes ≡ 2 ^ 28 * count_below (degree net.arcs) net.nodes

@@ -27,7 +27,8 @@ pub fn net_of(alloc: Global, t: &TMesh, set: &Settings) -> Result<Net, NetFail>
     requires layout { IsSomeLayout (plan t.now) }
     requires settings { AreSettings set.now }
     ensures net { IfOk result (λ net.
-        IsNetOf (layout_of (plan t.now)) (long_at (plan t.now).arcs) (long_at (plan t.now).arcs) set.now (network net)) }
+        IsNetOf (layout_of (plan t.now)) (long_at (plan t.now).arcs) (long_at (plan t.now).arcs) set.now
+        (network net)) }
     ensures even { IfOk result (λ net. IsEven (network net)) }
     ensures bounds { IfOk result (λ net. IsWithinBounds (network net)) }
     ensures small { IfOk result (λ net. tangle_number (network net) ≤ MAX_TANGLE) }
@@ -49,7 +50,8 @@ fn any_net_of(alloc: Global, t: &TMesh, set: &Settings) -> Result<Net, AllocErro
     requires layout { IsSomeLayout (plan t.now) }
     requires settings { AreSettings set.now }
     ensures net { IfOk result (λ net.
-        IsNetOf (layout_of (plan t.now)) (long_at (plan t.now).arcs) (long_at (plan t.now).arcs) set.now (network net)) }
+        IsNetOf (layout_of (plan t.now)) (long_at (plan t.now).arcs) (long_at (plan t.now).arcs) set.now
+        (network net)) }
     ensures even { IfOk result (λ net. IsEven (network net)) }
     ensures bounds { IfOk result (λ net. IsWithinBounds (network net)) }
     ensures small { IfOk result (λ net. tangle_number (network net) < 2 ^ 64) }

@@ -1,5 +1,6 @@
 -- The marks along chains of edges are those of inner edges, equal at twins.
-use Rattle.std.proofs.Common.{◌≡◌, ℕ, ◌+◌, ◌<◌, Bool, false, eqb, ◌&&◌, ◌||◌, List, Option, Some, is_some, sym, ap, ◌∙◌, arith}
+use Rattle.std.proofs.Common.{◌≡◌, ℕ, ◌+◌, ◌<◌, Bool, false, eqb, ◌&&◌, ◌||◌, List, Option, Some, is_some, sym, ap, ◌∙◌}
+use Rattle.std.proofs.Common.{arith}
 use Rattle.std.specs.List.{list_any}
 use Rattle.std.proofs.lemmas.List.{length-map}
 use Rattle.std.proofs.lemmas.List.FromFn.{length-range_with_len, get_or-map-range_with_len}
@@ -12,8 +13,10 @@ use Rattle.def_feature.specs.Marks.{AreMarks}
 use Rattle.mesh_laws.proofs.Twins.{twin_found, twin_is}
 
 -- The mark of a dart.
-pub mark_along : (faces : Faces) (chains : List (List ℕ)) (d : ℕ) → d < darts faces → is_on (marks_along faces chains) d ≡ is_along_chains faces chains d
-mark_along faces chains d l = get_or-map-range_with_len (is_along_chains faces chains) 0 (darts faces) d d false l (omega arith)
+pub mark_along : (faces : Faces) (chains : List (List ℕ)) (d : ℕ) → d < darts faces → is_on (marks_along faces chains) d
+    ≡ is_along_chains faces chains d
+mark_along faces chains d l = get_or-map-range_with_len (is_along_chains faces chains) 0 (darts faces) d d false l
+    (omega arith)
 
 turned : (a b c e : Bool) → ((e && c) || (b && a)) ≡ ((a && b) || (c && e))
 turned a b c e = grind (arith)
@@ -32,7 +35,8 @@ module _ (faces : Faces) (d e : ℕ) (twin : twin_of faces d ≡ Some e) where
   along_twins : (chain : List ℕ) → runs_along faces chain e ≡ runs_along faces chain d
   along_twins chain = λ i. list_any (λ k. between_twins (link_at chain k) (link_at chain (k + 1)) i) (step_places chain)
 
-  marked_twins : (chains : List (List ℕ)) → IsManifold faces → d < darts faces → is_along_chains faces chains e ≡ is_along_chains faces chains d
+  marked_twins : (chains : List (List ℕ)) → IsManifold faces → d < darts faces → is_along_chains faces chains e
+      ≡ is_along_chains faces chains d
   marked_twins chains m l =
       let back : twin_of faces e ≡ Some d = twin_found faces m.edges_once e d (l, sym is.2, sym is.1) in
       ap (λ (o : Option ℕ). is_some o && list_any (λ chain. runs_along faces chain e) chains) back
@@ -42,6 +46,8 @@ module _ (faces : Faces) (d e : ℕ) (twin : twin_of faces d ≡ Some e) where
 pub marks_are : (faces : Faces) (chains : List (List ℕ)) → IsManifold faces → AreMarks faces (marks_along faces chains)
 marks_are faces chains m = record {
   long = length-map (all_darts faces) (is_along_chains faces chains) ∙ length-range_with_len 0 (darts faces);
-  alike = λ d e l t. mark_along faces chains e (twin_is faces d e t).0 ∙ (marked_twins faces d e t chains m l ∙ sym (mark_along faces chains d l));
-  inner = λ d l t. mark_along faces chains d l ∙ ap (λ (o : Option ℕ). is_some o && list_any (λ chain. runs_along faces chain d) chains) t;
+  alike = λ d e l t. mark_along faces chains e (twin_is faces d e t).0
+      ∙ (marked_twins faces d e t chains m l ∙ sym (mark_along faces chains d l));
+  inner = λ d l t. mark_along faces chains d l
+      ∙ ap (λ (o : Option ℕ). is_some o && list_any (λ chain. runs_along faces chain d) chains) t;
 }

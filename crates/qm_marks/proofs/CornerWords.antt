@@ -1,5 +1,6 @@
 -- The corners of a line, word by word.
-use Rattle.std.proofs.Common.{◌≡◌, ℕ, suc, ◌+◌, Bool, true, false, cond, not, eqb, ◌&&◌, List, [], ◌∷◌, ◌++◌, length, take, drop, map, refl, sym, ap, ◌∙◌, arith, None, Some}
+use Rattle.std.proofs.Common.{◌≡◌, ℕ, suc, ◌+◌, Bool, true, false, cond, not, eqb, ◌&&◌, List, [], ◌∷◌, ◌++◌, length}
+use Rattle.std.proofs.Common.{take, drop, map, refl, sym, ap, ◌∙◌, arith, None, Some}
 use Rattle.std.specs.List.{after_first, list_all, position_or_len}
 use Rattle.std.proofs.lemmas.List.{append_assoc, append-nil}
 use Rattle.def_text.specs.Corner.{is_optional, is_slash, used_index}
@@ -15,18 +16,23 @@ pub record IsReadTo (all before : ℕ) (text rest : List ℕ) (indices : List In
   pub items : indices ++ map (corner_index all before) (words rest) ≡ map (corner_index all before) (words text)
 
 -- The next word, where there is one.
-pub next_word : (rest after : List ℕ) (word : Word) → words rest ≡ cond (eqb (length word) 0) [] (word ∷ words after) → eqb (length word) 0 ≡ false → words rest ≡ word ∷ words after
+pub next_word : (rest after : List ℕ) (word : Word) → words rest ≡ cond (eqb (length word) 0) [] (word ∷ words after)
+    → eqb (length word) 0 ≡ false → words rest ≡ word ∷ words after
 next_word rest after word first some = first ∙ ap (λ (b : Bool). cond b [] (word ∷ words after)) some
 
-pub no_word : (rest after : List ℕ) (word : Word) → words rest ≡ cond (eqb (length word) 0) [] (word ∷ words after) → eqb (length word) 0 ≡ true → words rest ≡ []
+pub no_word : (rest after : List ℕ) (word : Word) → words rest ≡ cond (eqb (length word) 0) [] (word ∷ words after)
+    → eqb (length word) 0 ≡ true → words rest ≡ []
 no_word rest after word first none = first ∙ ap (λ (b : Bool). cond b [] (word ∷ words after)) none
 
-module _ (all before : ℕ) (text rest after : List ℕ) (word : Word) (indices : List Index) (to : IsReadTo all before text rest indices) where
+module _ (all before : ℕ) (text rest after : List ℕ) (word : Word) (indices : List Index)
+    (to : IsReadTo all before text rest indices) where
   module _ (next : words rest ≡ word ∷ words after) where
     -- One corner more.
-    pub read_more : (index : Index) → (is_line_corner word ≡ true) × (index ≡ corner_index all before word) → IsReadTo all before text after (indices ++ index ∷ [])
+    pub read_more : (index : Index) → (is_line_corner word ≡ true) × (index ≡ corner_index all before word)
+        → IsReadTo all before text after (indices ++ index ∷ [])
     read_more index is = record {
-      passed = sym (ap (list_all is_line_corner) next ∙ ap (λ b. b && list_all is_line_corner (words after)) is.0) ∙ to.passed;
+      passed = sym (ap (list_all is_line_corner) next ∙ ap (λ b. b && list_all is_line_corner (words after)) is.0)
+          ∙ to.passed;
       items = append_assoc indices (index ∷ []) (map (corner_index all before) (words after))
           ∙ (ap (λ i. indices ++ i ∷ map (corner_index all before) (words after)) is.1
           ∙ (ap (λ ws. indices ++ map (corner_index all before) ws) (sym next) ∙ to.items));
@@ -34,14 +40,16 @@ module _ (all before : ℕ) (text rest after : List ℕ) (word : Word) (indices 
 
     -- A word that is none.
     pub read_bad : is_line_corner word ≡ false → false ≡ list_all is_line_corner (words text)
-    read_bad off = sym (ap (list_all is_line_corner) next ∙ ap (λ b. b && list_all is_line_corner (words after)) off) ∙ to.passed
+    read_bad off = sym (ap (list_all is_line_corner) next ∙ ap (λ b. b && list_all is_line_corner (words after)) off)
+        ∙ to.passed
 
   -- No word is left.
   pub read_all : words rest ≡ [] → true ≡ list_all is_line_corner (words text)
   read_all none = sym (ap (list_all is_line_corner) none) ∙ to.passed
 
   pub read_items : words rest ≡ [] → indices ≡ map (corner_index all before) (words text)
-  read_items none = sym (append-nil indices) ∙ (ap (λ ws. indices ++ map (corner_index all before) ws) (sym none) ∙ to.items)
+  read_items none = sym (append-nil indices) ∙ (ap (λ ws. indices ++ map (corner_index all before) ws) (sym none)
+      ∙ to.items)
 
 -- The parts of a word before and behind its first slash.
 pub behind_slash : (p : ℕ → Bool) (word : Word) → drop 1 (drop (position_or_len p word) word) ≡ after_first p word
@@ -49,18 +57,24 @@ behind_slash p [] = refl
 behind_slash p (b ∷ bs) = by_first (p b) (behind_slash p bs)
   where
     by_first : (t : Bool) → drop 1 (drop (position_or_len p bs) bs) ≡ after_first p bs
-        → drop 1 (drop (cond (not t) (1 + position_or_len p bs) 0) (b ∷ bs)) ≡ drop (cond (not t) (1 + position_or_len p bs) 0 + 1) (b ∷ bs)
+        → drop 1 (drop (cond (not t) (1 + position_or_len p bs) 0) (b ∷ bs))
+        ≡ drop (cond (not t) (1 + position_or_len p bs) 0 + 1) (b ∷ bs)
     by_first true again = refl
     by_first false again = let e : 1 + position_or_len p bs ≡ suc (position_or_len p bs) = omega arith in
         let f : suc (position_or_len p bs) + 1 ≡ suc (position_or_len p bs + 1) = omega arith in rw (e, f) again
 
 -- A word by these parts.
-pub corner_found : (word first tail : List ℕ) (p : ℕ) → p ≡ position_or_len is_slash word → first ≡ take p word → tail ≡ drop p word
+pub corner_found : (word first tail : List ℕ) (p : ℕ) → p ≡ position_or_len is_slash word → first ≡ take p word
+    → tail ≡ drop p word
     → (is_line_corner word ≡ (is_signed first && is_optional (drop 1 tail))) × (used_index word ≡ first)
 corner_found word first tail p at front back =
     let head : used_index word ≡ first = sym (front ∙ ap (λ n. take n word) at) in
-    let rest : drop 1 tail ≡ after_first is_slash word = ap (drop 1) (back ∙ ap (λ n. drop n word) at) ∙ behind_slash is_slash word in
-    (ap (λ xs. is_signed xs && is_optional (after_first is_slash word)) head ∙ ap (λ xs. is_signed first && is_optional xs) (sym rest), head)
+    let rest : drop 1 tail ≡ after_first is_slash word = ap (drop 1) (back ∙ ap (λ n. drop n word) at)
+    ∙ behind_slash is_slash word in (
+      ap (λ xs. is_signed xs && is_optional (after_first is_slash word)) head
+          ∙ ap (λ xs. is_signed first && is_optional xs) (sym rest),
+      head,
+    )
 
 -- What was found.
 pub found_corner : {X : Type 0} (t : Bool) (x y : X) → cond t (Some x) None ≡ Some y → (t ≡ true) × (y ≡ x)

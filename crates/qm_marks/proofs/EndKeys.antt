@@ -1,5 +1,6 @@
 -- Darts in a table of keys by their ends.
-use Rattle.std.proofs.Common.{◌≡◌, ◌≢◌, ℕ, ◌+◌, ◌-◌, ◌*◌, ◌/◌, ◌%◌, ◌^◌, ◌<◌, ◌≤◌, Bool, true, false, List, [], ◌∷◌, ◌++◌, cond, length, map, get_or, sym, subst, ap, ◌∙◌, arith}
+use Rattle.std.proofs.Common.{◌≡◌, ◌≢◌, ℕ, ◌+◌, ◌-◌, ◌*◌, ◌/◌, ◌%◌, ◌^◌, ◌<◌, ◌≤◌, Bool, true, false, List, [], ◌∷◌}
+use Rattle.std.proofs.Common.{◌++◌, cond, length, map, get_or, sym, subst, ap, ◌∙◌, arith}
 use Rattle.std.specs.Prelude.{filter}
 use Rattle.std.specs.List.{Contains, range_with_len}
 use Rattle.std.specs.List.Sorted.{IsNonDecreasing, IsPermutation}
@@ -16,7 +17,8 @@ use Rattle.mesh_laws.proofs.Vertices.{all_below}
 use Rattle.qm_marks.specs.Keys.{AreEnds, IsBetween, IsLeastPlace, IsNoneBetween, dart_key, is_busy, key_of}
 
 -- The keys of the busy darts, in any order that rises, are a table of ends.
-pub sorted_are : (faces : Faces) (few : ℕ) (old keys : List ℕ) → old ≡ map (dart_key faces) (filter (is_busy faces few) (all_darts faces))
+pub sorted_are : (faces : Faces) (few : ℕ) (old keys : List ℕ)
+    → old ≡ map (dart_key faces) (filter (is_busy faces few) (all_darts faces))
     → IsPermutation old keys → IsNonDecreasing keys → AreEnds faces few keys
 sorted_are faces few old keys are moved rising = record { rising = rising; each = each; has = has }
   where
@@ -25,21 +27,41 @@ sorted_are faces few old keys are moved rising = record { rising = rising; each 
 
     each : (k : ℕ) → k < length keys → (d : ℕ) × (d < darts faces) × (get_or keys k 0 ≡ dart_key faces d)
     each k l =
-        let c : Contains old (get_or keys k 0) = Contains-permutation keys old (get_or keys k 0) (IsPermutation-sym old keys moved) (Contains-get_or keys k 0 l) in
-        let at = at_from_Contains (map (dart_key faces) busy) (get_or keys k 0) (subst (λ (xs : List ℕ). Contains xs (get_or keys k 0)) are c) in
+        let c : Contains old (get_or keys k 0) =
+        Contains-permutation keys old (get_or keys k 0) (IsPermutation-sym old keys moved)
+        (Contains-get_or keys k 0 l) in
+        let at = at_from_Contains (map (dart_key faces) busy) (get_or keys k 0)
+        (subst (λ (xs : List ℕ). Contains xs (get_or keys k 0)) are c) in
         by_place at.0 (omega (arith, at.1, length-map busy (dart_key faces))) (at.2 0)
       where
-        by_place : (t : ℕ) → t < length busy → get_or (map (dart_key faces) busy) t 0 ≡ get_or keys k 0 → (d : ℕ) × (d < darts faces) × (get_or keys k 0 ≡ dart_key faces d)
-        by_place t m is = (get_or busy t 0, omega (arith, (kept_at (is_busy faces few) 0 (darts faces) t m).high), sym is ∙ get_or-map (dart_key faces) busy t 0 0 m)
+        by_place : (t : ℕ) → t < length busy → get_or (map (dart_key faces) busy) t 0 ≡ get_or keys k 0
+            → (d : ℕ) × (d < darts faces) × (get_or keys k 0 ≡ dart_key faces d)
+        by_place t m is = (
+          get_or busy t 0,
+          omega (arith, (kept_at (is_busy faces few) 0 (darts faces) t m).high),
+          sym is ∙ get_or-map (dart_key faces) busy t 0 0 m,
+        )
 
-    has : (d : ℕ) → d < darts faces → is_busy faces few d ≡ true → (k : ℕ) × (k < length keys) × (get_or keys k 0 ≡ dart_key faces d)
-    has d l on = by_place (place_of (is_busy faces few) 0 (darts faces) d (record { low = omega arith; high = omega arith; passes = on }))
+    has : (d : ℕ) → d < darts faces → is_busy faces few d ≡ true → (k : ℕ) × (k < length keys)
+        × (get_or keys k 0 ≡ dart_key faces d)
+    has d l on = by_place (place_of (is_busy faces few) 0 (darts faces) d (record {
+      low = omega arith;
+      high =
+          omega arith;
+      passes = on;
+    }))
       where
-        by_place : (t : ℕ) × (t < length busy) × (get_or busy t 0 ≡ d) → (k : ℕ) × (k < length keys) × (get_or keys k 0 ≡ dart_key faces d)
+        by_place : (t : ℕ) × (t < length busy) × (get_or busy t 0 ≡ d) → (k : ℕ) × (k < length keys)
+            × (get_or keys k 0 ≡ dart_key faces d)
         by_place (t, m, is) =
-            let here : get_or (map (dart_key faces) busy) t 0 ≡ dart_key faces d = get_or-map (dart_key faces) busy t 0 0 m ∙ ap (dart_key faces) is in
-            let c : Contains old (dart_key faces d) = subst (λ (xs : List ℕ). Contains xs (dart_key faces d)) (sym are) (subst (λ (x : ℕ). Contains (map (dart_key faces) busy) x) here (Contains-get_or (map (dart_key faces) busy) t 0 (omega (arith, m, length-map busy (dart_key faces))))) in
-            let at = at_from_Contains keys (dart_key faces d) (Contains-permutation old keys (dart_key faces d) moved c) in
+            let here : get_or (map (dart_key faces) busy) t 0 ≡ dart_key faces d =
+            get_or-map (dart_key faces) busy t 0 0 m ∙ ap (dart_key faces) is in
+            let c : Contains old (dart_key faces d) = subst (λ (xs : List ℕ). Contains xs (dart_key faces d)) (sym are)
+            (subst (λ (x : ℕ). Contains (map (dart_key faces) busy) x) here
+            (Contains-get_or (map (dart_key faces) busy) t 0
+            (omega (arith, m, length-map busy (dart_key faces))))) in
+            let at = at_from_Contains keys (dart_key faces d) (Contains-permutation old keys (dart_key faces d) moved
+            c) in
             (at.0, at.1, at.2 0)
 
 -- The ends in a key.
@@ -57,41 +79,55 @@ between a x l h =
     let e : x ≡ a * 2 ^ 32 + (x - a * 2 ^ 32) = omega (arith, l) in
     ap (λ y. y / 2 ^ 32) e ∙ div-mul-add a (2 ^ 32) (x - a * 2 ^ 32) (omega (arith, l, h))
 
-module _ (faces : Faces) (few : ℕ) (keys : List ℕ) (are : AreEnds faces few keys) (small : vertex_count faces < 2 ^ 32) (short : darts faces < 2 ^ 32) (u v : ℕ) (low : v < 2 ^ 32) (place : ℕ) where
+module _ (faces : Faces) (few : ℕ) (keys : List ℕ) (are : AreEnds faces few keys) (small : vertex_count faces < 2 ^ 32)
+    (short : darts faces < 2 ^ 32) (u v : ℕ) (low : v < 2 ^ 32) (place : ℕ) where
   to_low : (d : ℕ) → d < darts faces → to_of faces d < 2 ^ 32
   to_low d l = omega (arith, all_below faces (next_of d) (next_of_low faces d l))
 
   -- A key with these ends is that of a dart between them.
-  pub in_table : place < length keys → get_or keys place 0 / 2 ^ 32 ≡ key_of u v 0 / 2 ^ 32 → IsBetween faces u v (get_or keys place 0 % 2 ^ 32)
+  pub in_table : place < length keys → get_or keys place 0 / 2 ^ 32 ≡ key_of u v 0 / 2 ^ 32
+      → IsBetween faces u v (get_or keys place 0 % 2 ^ 32)
   in_table l same = by_dart (are.each place l)
     where
-      by_dart : (d : ℕ) × (d < darts faces) × (get_or keys place 0 ≡ dart_key faces d) → IsBetween faces u v (get_or keys place 0 % 2 ^ 32)
+      by_dart : (d : ℕ) × (d < darts faces) × (get_or keys place 0 ≡ dart_key faces d)
+          → IsBetween faces u v (get_or keys place 0 % 2 ^ 32)
       by_dart (d, ld, is) =
           let ends : (from_of faces d ≡ u) × (to_of faces d ≡ v) =
           same_ends u v (from_of faces d) (to_of faces d) low (to_low d ld)
-          (sym (key_ends (from_of faces d) (to_of faces d) d (omega arith)) ∙ (sym (ap (λ x. x / 2 ^ 32) is) ∙ (same ∙ key_ends u v 0 (omega arith)))) in
-          let dart : get_or keys place 0 % 2 ^ 32 ≡ d = ap (λ x. x % 2 ^ 32) is ∙ mod-mul-add (from_of faces d * 2 ^ 32 + to_of faces d) (2 ^ 32) d (omega arith) in
+          (sym (key_ends (from_of faces d) (to_of faces d) d (omega arith))
+          ∙ (sym (ap (λ x. x / 2 ^ 32) is) ∙ (same ∙ key_ends u v 0 (omega arith)))) in
+          let dart : get_or keys place 0 % 2 ^ 32 ≡ d = ap (λ x. x % 2 ^ 32) is
+          ∙ mod-mul-add (from_of faces d * 2 ^ 32 + to_of faces d) (2 ^ 32) d (omega arith) in
           subst (λ (x : ℕ). IsBetween faces u v x) (sym dart) (record { low = ld; from = ends.0; to = ends.1 })
 
   -- Where none of these ends is at the least place, no busy dart runs between them.
-  pub not_in_table : IsLeastPlace keys (key_of u v 0) place → ((l : place < length keys) → get_or keys place 0 / 2 ^ 32 ≢ key_of u v 0 / 2 ^ 32)
+  pub not_in_table : IsLeastPlace keys (key_of u v 0) place
+      → ((l : place < length keys) → get_or keys place 0 / 2 ^ 32 ≢ key_of u v 0 / 2 ^ 32)
       → ((d : ℕ) → d < darts faces → from_of faces d ≡ u → is_busy faces few d ≡ true) → IsNoneBetween faces u v
   not_in_table least other busy d ld f t = by_place (are.has d ld (busy d ld f))
     where
       by_place : (k : ℕ) × (k < length keys) × (get_or keys k 0 ≡ dart_key faces d) → ⊥
       by_place (k, lk, is) =
           let key : get_or keys k 0 ≡ (u * 2 ^ 32 + v) * 2 ^ 32 + d = is ∙ (λ i. (f i * 2 ^ 32 + t i) * 2 ^ 32 + d) in
-          let at : (place < length keys) × (key_of u v 0 ≤ get_or keys place 0) × (get_or keys place 0 ≤ get_or keys k 0) = least k lk (omega (arith, key)) in
-          other at.0 (between (u * 2 ^ 32 + v) (get_or keys place 0) (omega (arith, at.1)) (omega (arith, at.2, key, ld, short)) ∙ sym (key_ends u v 0 (omega arith)))
+          let at : (place < length keys) × (key_of u v 0 ≤ get_or keys place 0)
+          × (get_or keys place 0 ≤ get_or keys k 0) = least k lk (omega (arith, key)) in
+          other at.0 (between (u * 2 ^ 32 + v) (get_or keys place 0) (omega (arith, at.1))
+          (omega (arith, at.2, key, ld, short)) ∙ sym (key_ends u v 0 (omega arith)))
 
 -- One dart more is busy, or is not.
 pub keys_on : (faces : Faces) (few d key : ℕ) → is_busy faces few d ≡ true → key ≡ dart_key faces d
-    → map (dart_key faces) (filter (is_busy faces few) (range_with_len 0 (d + 1))) ≡ map (dart_key faces) (filter (is_busy faces few) (range_with_len 0 d)) ++ key ∷ []
+    → map (dart_key faces) (filter (is_busy faces few) (range_with_len 0 (d + 1)))
+    ≡ map (dart_key faces) (filter (is_busy faces few) (range_with_len 0 d)) ++ key ∷ []
 keys_on faces few d key on is =
-    ap (map (dart_key faces)) (filter_range_more (is_busy faces few) d ∙ ap (λ (b : Bool). filter (is_busy faces few) (range_with_len 0 d) ++ cond b (d ∷ []) []) on)
-    ∙ (map-append (dart_key faces) (filter (is_busy faces few) (range_with_len 0 d)) (d ∷ []) ∙ ap (λ k. map (dart_key faces) (filter (is_busy faces few) (range_with_len 0 d)) ++ k ∷ []) (sym is))
+    ap (map (dart_key faces)) (filter_range_more (is_busy faces few) d
+    ∙ ap (λ (b : Bool). filter (is_busy faces few) (range_with_len 0 d) ++ cond b (d ∷ []) []) on)
+    ∙ (map-append (dart_key faces) (filter (is_busy faces few) (range_with_len 0 d)) (d ∷ [])
+    ∙ ap (λ k. map (dart_key faces) (filter (is_busy faces few) (range_with_len 0 d)) ++ k ∷ []) (sym is))
 
 pub keys_off : (faces : Faces) (few d : ℕ) → is_busy faces few d ≡ false
-    → map (dart_key faces) (filter (is_busy faces few) (range_with_len 0 (d + 1))) ≡ map (dart_key faces) (filter (is_busy faces few) (range_with_len 0 d))
+    → map (dart_key faces) (filter (is_busy faces few) (range_with_len 0 (d + 1)))
+    ≡ map (dart_key faces) (filter (is_busy faces few) (range_with_len 0 d))
 keys_off faces few d off =
-    ap (map (dart_key faces)) (filter_range_more (is_busy faces few) d ∙ (ap (λ (b : Bool). filter (is_busy faces few) (range_with_len 0 d) ++ cond b (d ∷ []) []) off ∙ append-nil (filter (is_busy faces few) (range_with_len 0 d))))
+    ap (map (dart_key faces)) (filter_range_more (is_busy faces few) d
+    ∙ (ap (λ (b : Bool). filter (is_busy faces few) (range_with_len 0 d) ++ cond b (d ∷ []) []) off
+    ∙ append-nil (filter (is_busy faces few) (range_with_len 0 d))))

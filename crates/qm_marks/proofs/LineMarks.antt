@@ -1,5 +1,6 @@
 -- Marks line by line: what is known after some lines of a text.
-use Rattle.std.proofs.Common.{◌≡◌, ℕ, ◌+◌, ◌<◌, ◌≤◌, Bool, true, false, cond, ◌&&◌, ◌||◌, List, [], ◌∷◌, ◌++◌, length, map, is_some, sym, subst, ap, ◌∙◌, refl, arith, Ok, Err}
+use Rattle.std.proofs.Common.{◌≡◌, ℕ, ◌+◌, ◌<◌, ◌≤◌, Bool, true, false, cond, ◌&&◌, ◌||◌, List, [], ◌∷◌, ◌++◌, length}
+use Rattle.std.proofs.Common.{map, is_some, sym, subst, ap, ◌∙◌, refl, arith, Ok, Err}
 use Rattle.std.specs.Prelude.{slice_range}
 use Rattle.std.specs.List.{count_by, flat_map, list_any}
 use Rattle.std.proofs.lemmas.List.{get_or_default, length-map, same_lists}
@@ -16,7 +17,8 @@ use Rattle.def_text.specs.Logical.{Logical, logical_lines}
 use Rattle.def_text.specs.Reading.{is_vertex_line}
 use Rattle.def_text.specs.declared.limits.TheConstants.{MAX_V_LINES}
 use Rattle.def_marks.specs.Chains.{is_along_chains, marks_along, runs_along}
-use Rattle.def_marks.specs.Lines.{first_fail, line_chain, line_fails, marks_of, Placed, placed_lines, text_lines, vertex_lines_in}
+use Rattle.def_marks.specs.Lines.{first_fail, line_chain, line_fails, marks_of, Placed, placed_lines, text_lines}
+use Rattle.def_marks.specs.Lines.{vertex_lines_in}
 use Rattle.def_marks.specs.declared.fail.MarkFail.{MarkFail}
 use Rattle.qm_marks.proofs.AlongChains.{mark_along, marks_are}
 use Rattle.qm_obj.specs.Ahead.{span}
@@ -32,15 +34,18 @@ abbrev pub is_said : (soup : FaceSet) (placed : List Placed) (d : ℕ) → Bool
 is_said soup placed d = list_any (λ chain. runs_along soup.faces chain d) (map (line_chain soup) placed)
 
 -- The lines that are left say what all lines say beside the marks so far.
-pub record IsLeft (soup : FaceSet) (mesh : Faces) (all : List Placed) (rest : List Logical) (reader : MarkReader) : Type 0 where
+pub record IsLeft (soup : FaceSet) (mesh : Faces) (all : List Placed) (rest : List Logical) (reader : MarkReader) : Type
+    0 where
   pub reads : IsReading soup mesh reader
   pub left : reader.before + count_by is_vertex_line rest ≡ reader.all
   pub fails : flat_map (line_fails soup) (placed_lines reader.all reader.before rest) ≡ flat_map (line_fails soup) all
   pub marks : (d : ℕ) → d < darts soup.faces
-      → (is_on reader.marks.items d || (is_some (twin_of soup.faces d) && is_said soup (placed_lines reader.all reader.before rest) d))
+      → (is_on reader.marks.items d
+      || (is_some (twin_of soup.faces d) && is_said soup (placed_lines reader.all reader.before rest) d))
       ≡ is_along_chains soup.faces (map (line_chain soup) all) d
 
-count_cons : (line : Logical) (rest : List Logical) → count_by is_vertex_line (line ∷ rest) ≡ vertex_lines_in line + count_by is_vertex_line rest
+count_cons : (line : Logical) (rest : List Logical) → count_by is_vertex_line (line ∷ rest)
+    ≡ vertex_lines_in line + count_by is_vertex_line rest
 count_cons line rest = sum_by-cons (λ l. cond (is_vertex_line l) 1 0) line rest
 
 pub one_vertex : (line : Logical) → vertex_lines_in line ≤ 1
@@ -53,16 +58,20 @@ merged false false a b = refl
 
 module _ (soup : FaceSet) (mesh : Faces) where
   -- Before the first line.
-  pub left_begun : (lines : List Logical) (reader : MarkReader) → mesh ≡ soup.faces → length soup.names ≤ MAX_V_LINES → IsBegun mesh (count_by is_vertex_line lines) reader → IsLeft soup mesh (text_lines lines) lines reader
+  pub left_begun : (lines : List Logical) (reader : MarkReader) → mesh ≡ soup.faces → length soup.names ≤ MAX_V_LINES
+      → IsBegun mesh (count_by is_vertex_line lines) reader → IsLeft soup mesh (text_lines lines) lines reader
   left_begun lines reader same few begun = record {
     reads = record { same = same; ends = begun.ends; long = begun.long; within = omega (arith, begun.none); few = few };
     left = omega (arith, begun.none, begun.all_is);
     fails = λ i. flat_map (line_fails soup) (placed_lines (begun.all_is i) (begun.none i) lines);
-    marks = λ d l. ap (λ b. b || (is_some (twin_of soup.faces d) && is_said soup (placed_lines reader.all reader.before lines) d)) (begun.off d)
+    marks = λ d l. ap (λ b. b
+        || (is_some (twin_of soup.faces d) && is_said soup (placed_lines reader.all reader.before lines) d))
+        (begun.off d)
         ∙ (λ i. is_some (twin_of soup.faces d) && is_said soup (placed_lines (begun.all_is i) (begun.none i) lines) d);
   }
 
-  module _ (all : List Placed) (line : Logical) (rest : List Logical) (old : MarkReader) (known : IsLeft soup mesh all (line ∷ rest) old) where
+  module _ (all : List Placed) (line : Logical) (rest : List Logical) (old : MarkReader)
+      (known : IsLeft soup mesh all (line ∷ rest) old) where
     pub room : old.before + vertex_lines_in line ≤ old.all
     room = omega (arith, known.left, count_cons line rest)
 
@@ -78,18 +87,27 @@ module _ (soup : FaceSet) (mesh : Faces) where
       };
       left = omega (arith, known.left, count_cons line rest, took.before, took.same.all);
       fails = (λ i. flat_map (line_fails soup) (placed_lines (took.same.all i) (took.before i) rest))
-          ∙ (sym (ap (λ fails. fails ++ flat_map (line_fails soup) (placed_lines old.all (old.before + vertex_lines_in line) rest)) took.accepted) ∙ known.fails);
-      marks = λ d l. (λ i. is_on new.marks.items d || (is_some (twin_of soup.faces d) && is_said soup (placed_lines (took.same.all i) (took.before i) rest) d))
-          ∙ (ap (λ b. b || (is_some (twin_of soup.faces d) && is_said soup (placed_lines old.all (old.before + vertex_lines_in line) rest) d)) (took.marked d l)
-          ∙ (merged (is_on old.marks.items d) (is_some (twin_of soup.faces d)) (runs_along soup.faces (line_chain soup (placed_at old.all old.before line)) d) (is_said soup (placed_lines old.all (old.before + vertex_lines_in line) rest) d)
+          ∙ (sym (ap (λ fails. fails ++ flat_map (line_fails soup)
+          (placed_lines old.all (old.before + vertex_lines_in line) rest)) took.accepted) ∙ known.fails);
+      marks = λ d l. (λ i. is_on new.marks.items d
+          || (is_some (twin_of soup.faces d) && is_said soup (placed_lines (took.same.all i) (took.before i) rest) d))
+          ∙ (ap (λ b. b || (is_some (twin_of soup.faces d)
+          && is_said soup (placed_lines old.all (old.before + vertex_lines_in line) rest) d))
+          (took.marked d l)
+          ∙ (merged (is_on old.marks.items d) (is_some (twin_of soup.faces d))
+          (runs_along soup.faces (line_chain soup (placed_at old.all old.before line)) d)
+          (is_said soup (placed_lines old.all (old.before + vertex_lines_in line) rest) d)
           ∙ known.marks d l));
     }
 
     -- A line that is refused is the first one.
-    pub left_refused : (fail : MarkFail) → line_fails soup (placed_at old.all old.before line) ≡ fail ∷ [] → marks_of soup all ≡ Err fail
+    pub left_refused : (fail : MarkFail) → line_fails soup (placed_at old.all old.before line) ≡ fail ∷ []
+        → marks_of soup all ≡ Err fail
     left_refused fail is =
-        let some : flat_map (line_fails soup) all ≡ fail ∷ flat_map (line_fails soup) (placed_lines old.all (old.before + vertex_lines_in line) rest) =
-        sym known.fails ∙ ap (λ fails. fails ++ flat_map (line_fails soup) (placed_lines old.all (old.before + vertex_lines_in line) rest)) is in
+        let some : flat_map (line_fails soup) all
+        ≡ fail ∷ flat_map (line_fails soup) (placed_lines old.all (old.before + vertex_lines_in line) rest) =
+        sym known.fails ∙ ap (λ fails. fails
+        ++ flat_map (line_fails soup) (placed_lines old.all (old.before + vertex_lines_in line) rest)) is in
         ap (λ fails. first_fail fails (marks_along soup.faces (map (line_chain soup) all))) some
 
   module _ (all : List Placed) (reader : MarkReader) (known : IsLeft soup mesh all [] reader) where
@@ -97,46 +115,61 @@ module _ (soup : FaceSet) (mesh : Faces) where
     long = known.reads.long ∙ ap darts known.reads.same
 
     long_all : length (marks_along soup.faces (map (line_chain soup) all)) ≡ darts soup.faces
-    long_all = length-map (all_darts soup.faces) (is_along_chains soup.faces (map (line_chain soup) all)) ∙ length-range_with_len 0 (darts soup.faces)
+    long_all = length-map (all_darts soup.faces) (is_along_chains soup.faces (map (line_chain soup) all))
+        ∙ length-range_with_len 0 (darts soup.faces)
 
     nothing : (o s : Bool) → o ≡ (o || (s && false))
     nothing true s = refl
     nothing false true = refl
     nothing false false = refl
 
-    at : (d : ℕ) → d < darts soup.faces → is_on reader.marks.items d ≡ is_on (marks_along soup.faces (map (line_chain soup) all)) d
-    at d l = nothing (is_on reader.marks.items d) (is_some (twin_of soup.faces d)) ∙ (known.marks d l ∙ sym (mark_along soup.faces (map (line_chain soup) all) d l))
+    at : (d : ℕ) → d < darts soup.faces → is_on reader.marks.items d
+        ≡ is_on (marks_along soup.faces (map (line_chain soup) all)) d
+    at d l = nothing (is_on reader.marks.items d) (is_some (twin_of soup.faces d))
+        ∙ (known.marks d l ∙ sym (mark_along soup.faces (map (line_chain soup) all) d l))
 
     -- Behind the last line.
     pub left_same : reader.marks.items ≡ marks_along soup.faces (map (line_chain soup) all)
     left_same = same_lists reader.marks.items (marks_along soup.faces (map (line_chain soup) all)) (long ∙ sym long_all)
-        (λ d x l. get_or_default reader.marks.items d x false l ∙ (at d (omega (arith, l, long)) ∙ get_or_default (marks_along soup.faces (map (line_chain soup) all)) d false x (omega (arith, l, long, long_all))))
+        (λ d x l. get_or_default reader.marks.items d x false l
+        ∙ (at d (omega (arith, l, long)) ∙ get_or_default (marks_along soup.faces (map (line_chain soup) all)) d
+        false x (omega (arith, l, long, long_all))))
 
     pub left_none : marks_of soup all ≡ Ok reader.marks.items
-    left_none = ap (λ fails. first_fail fails (marks_along soup.faces (map (line_chain soup) all))) (sym known.fails) ∙ ap Ok (sym left_same)
+    left_none = ap (λ fails. first_fail fails (marks_along soup.faces (map (line_chain soup) all))) (sym known.fails)
+        ∙ ap Ok (sym left_same)
 
 -- What is read of a line is its number and its text.
-pub took_line : (soup : FaceSet) (old new : MarkReader) (line : Logical) (text : List ℕ) → text ≡ line.text → TookLine soup old new (line_at line.number text) → TookLine soup old new line
+pub took_line : (soup : FaceSet) (old new : MarkReader) (line : Logical) (text : List ℕ) → text ≡ line.text
+    → TookLine soup old new (line_at line.number text) → TookLine soup old new line
 took_line soup old new line text is took =
-    let t : TookLine soup old new (line_at line.number line.text) = subst (λ (xs : List ℕ). TookLine soup old new (line_at line.number xs)) is took in
+    let t : TookLine soup old new (line_at line.number line.text) =
+    subst (λ (xs : List ℕ). TookLine soup old new (line_at line.number xs)) is took in
     record { accepted = t.accepted; same = t.same; before = t.before; marked = t.marked }
 
-pub fails_line : (soup : FaceSet) (all before : ℕ) (line : Logical) (text : List ℕ) → text ≡ line.text → line_fails soup (placed_at all before (line_at line.number text)) ≡ line_fails soup (placed_at all before line)
+pub fails_line : (soup : FaceSet) (all before : ℕ) (line : Logical) (text : List ℕ) → text ≡ line.text
+    → line_fails soup (placed_at all before (line_at line.number text)) ≡ line_fails soup (placed_at all before line)
 fails_line soup all before line text is = ap (λ xs. line_fails soup (placed_at all before (line_at line.number xs))) is
 
 -- The first physical lines, up to line i, are read; those from i up to `after` are left.
-pub record IsAtLine (soup : FaceSet) (mesh : Faces) (all : Lines) (first i after : ℕ) (reader : MarkReader) : Type 0 where
+pub record IsAtLine (soup : FaceSet) (mesh : Faces) (all : Lines) (first i after : ℕ) (reader : MarkReader) : Type
+    0 where
   pub within : i ≤ after
-  pub left : IsLeft soup mesh (text_lines (logical_lines (first + 1) (slice_range all first after))) (logical_lines (i + 1) (slice_range all i after)) reader
+  pub left : IsLeft soup mesh (text_lines (logical_lines (first + 1) (slice_range all first after)))
+      (logical_lines (i + 1) (slice_range all i after)) reader
 
-module _ (soup : FaceSet) (mesh : Faces) (all : Lines) (first i after : ℕ) (reader : MarkReader) (at : IsAtLine soup mesh all first i after reader) where
+module _ (soup : FaceSet) (mesh : Faces) (all : Lines) (first i after : ℕ) (reader : MarkReader)
+    (at : IsAtLine soup mesh all first i after reader) where
   module _ (lt : i < after) (within : after ≤ length all) where
     abbrev pub line : Logical
     line = first_logical (i + 1) (slice_range all i after)
 
     ahead : IsLeft soup mesh (text_lines (logical_lines (first + 1) (slice_range all first after)))
-        (line ∷ logical_lines (i + span (slice_range all i after) + 1) (slice_range all (i + span (slice_range all i after)) after)) reader
-    ahead = subst (λ (ls : List Logical). IsLeft soup mesh (text_lines (logical_lines (first + 1) (slice_range all first after))) ls reader) (next_lines all i after lt within) at.left
+        (line ∷ logical_lines (i + span (slice_range all i after) + 1)
+        (slice_range all (i + span (slice_range all i after)) after)) reader
+    ahead = subst (λ (ls : List Logical). IsLeft soup mesh
+        (text_lines (logical_lines (first + 1) (slice_range all first after))) ls reader)
+        (next_lines all i after lt within) at.left
 
     pub at_room : reader.before + vertex_lines_in line ≤ reader.all
     at_room = room soup mesh _ line _ reader ahead
@@ -145,7 +178,8 @@ module _ (soup : FaceSet) (mesh : Faces) (all : Lines) (first i after : ℕ) (re
         → marks_of soup (text_lines (logical_lines (first + 1) (slice_range all first after))) ≡ Err fail
     at_refused fail is = left_refused soup mesh _ line _ reader ahead fail is
 
-    pub at_next : (next : ℕ) (new : MarkReader) → next ≡ i + span (slice_range all i after) → TookLine soup reader new line → IsAtLine soup mesh all first next after new
+    pub at_next : (next : ℕ) (new : MarkReader) → next ≡ i + span (slice_range all i after)
+        → TookLine soup reader new line → IsAtLine soup mesh all first next after new
     at_next next new is took = subst (λ (n : ℕ). IsAtLine soup mesh all first n after new) (sym is) (record {
       within = (span_within all i after lt within).1;
       left = left_more soup mesh _ line _ reader ahead new took;
@@ -155,37 +189,50 @@ module _ (soup : FaceSet) (mesh : Faces) (all : Lines) (first i after : ℕ) (re
   ends past =
       let end : i ≡ after = omega (arith, at.within, past) in
       let none : slice_range all i after ≡ [] = ap (λ n. slice_range all n after) end ∙ range_none all after in
-      subst (λ (ls : Lines). IsLeft soup mesh (text_lines (logical_lines (first + 1) (slice_range all first after))) (logical_lines (i + 1) ls) reader) none at.left
+      subst (λ (ls : Lines). IsLeft soup mesh (text_lines (logical_lines (first + 1) (slice_range all first after)))
+      (logical_lines (i + 1) ls) reader) none at.left
 
-  pub at_end : after ≤ i → marks_of soup (text_lines (logical_lines (first + 1) (slice_range all first after))) ≡ Ok reader.marks.items
+  pub at_end : after ≤ i → marks_of soup (text_lines (logical_lines (first + 1) (slice_range all first after)))
+      ≡ Ok reader.marks.items
   at_end past = left_none soup mesh _ reader (ends past)
 
   pub at_inner : after ≤ i → IsManifold mesh → AreMarks mesh reader.marks.items
   at_inner past m =
       let same = (ends past).reads.same in
-      subst (λ (marks : List Bool). AreMarks mesh marks) (ap (λ (faces : Faces). marks_along faces (map (line_chain soup) (text_lines (logical_lines (first + 1) (slice_range all first after))))) same ∙ sym (left_same soup mesh _ reader (ends past)))
+      subst (λ (marks : List Bool). AreMarks mesh marks)
+      (ap (λ (faces : Faces). marks_along faces
+      (map (line_chain soup) (text_lines (logical_lines (first + 1) (slice_range all first after))))) same
+      ∙ sym (left_same soup mesh _ reader (ends past)))
       (marks_are mesh (map (line_chain soup) (text_lines (logical_lines (first + 1) (slice_range all first after)))) m)
 
 -- Before the first line.
-pub at_first : (soup : FaceSet) (mesh : Faces) (all : Lines) (first after count : ℕ) (reader : MarkReader) → first ≤ after → mesh ≡ soup.faces → length soup.names ≤ MAX_V_LINES
-    → count ≡ count_by is_vertex_line (logical_lines (first + 1) (slice_range all first after)) → IsBegun mesh count reader → IsAtLine soup mesh all first first after reader
+pub at_first : (soup : FaceSet) (mesh : Faces) (all : Lines) (first after count : ℕ) (reader : MarkReader)
+    → first ≤ after → mesh ≡ soup.faces → length soup.names ≤ MAX_V_LINES
+    → count ≡ count_by is_vertex_line (logical_lines (first + 1) (slice_range all first after))
+    → IsBegun mesh count reader → IsAtLine soup mesh all first first after reader
 at_first soup mesh all first after count reader order same few is begun = record {
   within = order;
-  left = left_begun soup mesh (logical_lines (first + 1) (slice_range all first after)) reader same few (subst (λ (n : ℕ). IsBegun mesh n reader) is begun);
+  left = left_begun soup mesh (logical_lines (first + 1) (slice_range all first after)) reader same few
+      (subst (λ (n : ℕ). IsBegun mesh n reader) is begun);
 }
 
 -- The `v` lines before line i are counted.
 pub record IsCounted (all : Lines) (first i after count : ℕ) : Type 0 where
   pub within : i ≤ after
   pub few : count + first ≤ i
-  pub left : count + count_by is_vertex_line (logical_lines (i + 1) (slice_range all i after)) ≡ count_by is_vertex_line (logical_lines (first + 1) (slice_range all first after))
+  pub left : count + count_by is_vertex_line (logical_lines (i + 1) (slice_range all i after))
+      ≡ count_by is_vertex_line (logical_lines (first + 1) (slice_range all first after))
 
-pub counted_next : (all : Lines) (first i after count next more : ℕ) → i < after → after ≤ length all → IsCounted all first i after count → next ≡ i + span (slice_range all i after)
-    → more ≡ vertex_lines_in (first_logical (i + 1) (slice_range all i after)) → IsCounted all first next after (count + more)
+pub counted_next : (all : Lines) (first i after count next more : ℕ) → i < after → after ≤ length all
+    → IsCounted all first i after count → next ≡ i + span (slice_range all i after)
+    → more ≡ vertex_lines_in (first_logical (i + 1) (slice_range all i after))
+    → IsCounted all first next after (count + more)
 counted_next all first i after count next more lt within at is are =
     let line = first_logical (i + 1) (slice_range all i after) in
-    let rest : logical_lines (i + 1) (slice_range all i after) ≡ line ∷ logical_lines (next + 1) (slice_range all next after) = rw is (next_lines all i after lt within) in
-    let cut : count_by is_vertex_line (logical_lines (i + 1) (slice_range all i after)) ≡ vertex_lines_in line + count_by is_vertex_line (logical_lines (next + 1) (slice_range all next after)) =
+    let rest : logical_lines (i + 1) (slice_range all i after)
+    ≡ line ∷ logical_lines (next + 1) (slice_range all next after) = rw is (next_lines all i after lt within) in
+    let cut : count_by is_vertex_line (logical_lines (i + 1) (slice_range all i after))
+    ≡ vertex_lines_in line + count_by is_vertex_line (logical_lines (next + 1) (slice_range all next after)) =
     ap (count_by is_vertex_line) rest ∙ count_cons line (logical_lines (next + 1) (slice_range all next after)) in
     record {
       within = omega (arith, is, (span_within all i after lt within).1);
@@ -193,7 +240,8 @@ counted_next all first i after count next more lt within at is are =
       left = omega (arith, cut, are, at.left);
     }
 
-pub counted_end : (all : Lines) (first i after count : ℕ) → after ≤ i → IsCounted all first i after count → count ≡ count_by is_vertex_line (logical_lines (first + 1) (slice_range all first after))
+pub counted_end : (all : Lines) (first i after count : ℕ) → after ≤ i → IsCounted all first i after count
+    → count ≡ count_by is_vertex_line (logical_lines (first + 1) (slice_range all first after))
 counted_end all first i after count past at =
     let end : i ≡ after = omega (arith, at.within, past) in
     let none : slice_range all i after ≡ [] = ap (λ n. slice_range all n after) end ∙ range_none all after in

@@ -1,5 +1,6 @@
 -- The places of numbers in a list that rises.
-use Rattle.std.proofs.Common.{◌≡◌, ◌≢◌, ℕ, zero, suc, ◌+◌, ◌-◌, ◌<◌, ◌≤◌, eqb, List, length, get_or, subst, ap, inl, inr, arith}
+use Rattle.std.proofs.Common.{◌≡◌, ◌≢◌, ℕ, zero, suc, ◌+◌, ◌-◌, ◌<◌, ◌≤◌, eqb, List, length, get_or, subst, ap, inl}
+use Rattle.std.proofs.Common.{inr, arith}
 use Rattle.std.specs.List.{position_or_len}
 use Rattle.std.specs.List.Sorted.{IsStrictlyIncreasing}
 use Rattle.std.proofs.lemmas.Bool.{cases_eq, eq-eqb, ne_eqb}
@@ -18,14 +19,20 @@ module _ (xs : List ℕ) (up : IsStrictlyIncreasing xs) where
       subst (λ (k : ℕ). get_or xs i 0 < get_or xs k 0) e (far i (j - suc i) (omega (arith, m, l)))
 
   pub rising : (i j : ℕ) → i ≤ j → j < length xs → get_or xs i 0 ≤ get_or xs j 0
-  rising i j m l = elim (cases_eq i j) [ inl e ↦ omega (arith, ap (λ k. get_or xs k 0) e) | inr ne ↦ omega (arith, less i j (omega (arith, m, ne)) l) ]
+  rising i j m l = elim (cases_eq i j) [
+    | inl e ↦ omega (arith, ap (λ k. get_or xs k 0) e)
+    | inr ne ↦ omega (arith, less i j (omega (arith, m, ne)) l)
+  ]
 
   -- A number that stands in the list has one place,
   pub place_found : (k i : ℕ) → i < length xs → get_or xs i 0 ≡ k → position_or_len (λ name. eqb name k) xs ≡ i
   place_found k i l at = position_or_len_is (λ name. eqb name k) xs i 0 (omega (arith, l))
-      (λ j m. ne_eqb (get_or xs j 0) k (λ (e : get_or xs j 0 ≡ k). let h : get_or xs j 0 ≡ k = e in omega (arith, h, at, less j i m l)))
+      (λ j m. ne_eqb (get_or xs j 0) k (λ (e : get_or xs j 0 ≡ k). let h : get_or xs j 0 ≡ k = e in
+      omega (arith, h, at, less j i m l)))
       (λ _. eq-eqb (get_or xs i 0) k at)
 
 -- and any other has none.
-pub place_missing : (xs : List ℕ) (k : ℕ) → ((j : ℕ) → j < length xs → get_or xs j 0 ≢ k) → position_or_len (λ name. eqb name k) xs ≡ length xs
-place_missing xs k none = position_or_len_is (λ name. eqb name k) xs (length xs) 0 (omega arith) (λ j m. ne_eqb (get_or xs j 0) k (none j m)) (λ l. absurd (omega (arith, l)))
+pub place_missing : (xs : List ℕ) (k : ℕ) → ((j : ℕ) → j < length xs → get_or xs j 0 ≢ k)
+    → position_or_len (λ name. eqb name k) xs ≡ length xs
+place_missing xs k none = position_or_len_is (λ name. eqb name k) xs (length xs) 0 (omega arith)
+    (λ j m. ne_eqb (get_or xs j 0) k (none j m)) (λ l. absurd (omega (arith, l)))

@@ -1,8 +1,11 @@
 -- What one line wishes, and the wishes at the darts of one edge.
-use Rattle.std.proofs.Common.{◌≡◌, ◌≢◌, ◌⊎◌, ℕ, ◌+◌, ◌-◌, ◌^◌, ◌<◌, ◌≤◌, Bool, true, false, eqb, ◌&&◌, ◌||◌, cond, List, [], ◌∷◌, length, get_or, set, Option, Some, None, is_some, refl, sym, ap, subst, ◌∙◌, inl, inr, arith}
+use Rattle.std.proofs.Common.{◌≡◌, ◌≢◌, ◌⊎◌, ℕ, ◌+◌, ◌-◌, ◌^◌, ◌<◌, ◌≤◌, Bool, true, false, eqb, ◌&&◌, ◌||◌, cond, List}
+use Rattle.std.proofs.Common.{[], ◌∷◌, length, get_or, set, Option, Some, None, is_some, refl, sym, ap, subst, ◌∙◌, inl}
+use Rattle.std.proofs.Common.{inr, arith}
 use Rattle.std.specs.Prelude.{min, nat_lt}
 use Rattle.std.specs.List.{position_or_len}
-use Rattle.std.proofs.lemmas.Bool.{and_from, cases_eq, cases_lt, eq-eqb, false_from_ne_true, le-ltb, lt-ltb, or_cases, or_left, or_right, true≢false}
+use Rattle.std.proofs.lemmas.Bool.{and_from, cases_eq, cases_lt, eq-eqb, false_from_ne_true, le-ltb, lt-ltb, or_cases}
+use Rattle.std.proofs.lemmas.Bool.{or_left, or_right, true≢false}
 use Rattle.std.proofs.lemmas.List.{get_or-set_other, get_or-set_same, length-set}
 use Rattle.std.proofs.lemmas.Option.{none-some}
 use Rattle.def_fit.specs.WishLines.{is_out_of_range, said_fails, vertex_named, wish_or, wished_by, wishes_said, Wished}
@@ -50,15 +53,18 @@ module _ (soup : FaceSet) (all number : ℕ) (words : Words) (low : all < 2 ^ 32
     far_same : (nat_lt all said.u || nat_lt all said.v || nat_lt MAX_WISH said.wish) ≡ is_out_of_range all is.wished
     far_same =
         (λ i. nat_lt all (is.u i) || nat_lt all (is.v i) || nat_lt MAX_WISH (is.wish i))
-        ∙ (λ i. clamped_lt all is.wished.u (omega arith) i || clamped_lt all is.wished.v (omega arith) i || clamped_lt MAX_WISH is.wished.wish (omega arith) i)
+        ∙ (λ i. clamped_lt all is.wished.u (omega arith) i || clamped_lt all is.wished.v (omega arith) i
+        || clamped_lt MAX_WISH is.wished.wish (omega arith) i)
 
     -- A number that is out of range.
-    pub takes_far : (nat_lt all said.u || nat_lt all said.v || nat_lt MAX_WISH said.wish) ≡ true → said_fails soup all number (wished_by words) ≡ Range number ∷ []
+    pub takes_far : (nat_lt all said.u || nat_lt all said.v || nat_lt MAX_WISH said.wish) ≡ true
+        → said_fails soup all number (wished_by words) ≡ Range number ∷ []
     takes_far far =
         ap (said_fails soup all number) is.told
         ∙ ap
         (λ (b : Bool). cond b (Range number ∷ [])
-        (cond (is_edge soup.faces (vertex_named soup.names is.wished.u) (vertex_named soup.names is.wished.v)) [] (NotEdge number ∷ [])))
+        (cond (is_edge soup.faces (vertex_named soup.names is.wished.u) (vertex_named soup.names is.wished.v)) []
+        (NotEdge number ∷ [])))
         (sym far_same ∙ far)
 
     module _ (near : (nat_lt all said.u || nat_lt all said.v || nat_lt MAX_WISH said.wish) ≡ false) where
@@ -76,38 +82,53 @@ module _ (soup : FaceSet) (all number : ℕ) (words : Words) (low : all < 2 ^ 32
 
       -- Numbers in range fit their types.
       low_of : (n most : ℕ) → nat_lt most n ≡ false → n ≤ most
-      low_of n most within = elim (cases_lt most n) [ inl less ↦ absurd (true≢false (sym (lt-ltb most n less) ∙ within)) | inr more ↦ more ]
+      low_of n most within = elim (cases_lt most n) [
+        | inl less ↦ absurd (true≢false (sym (lt-ltb most n less) ∙ within))
+        | inr more ↦ more
+      ]
 
       pub fits : (said.u < 2 ^ 32) × (said.v < 2 ^ 32) × (said.wish < 2 ^ 32)
-      fits = (omega (arith, low_of said.u all off.0, low), omega (arith, low_of said.v all off.1, low), omega (arith, low_of said.wish MAX_WISH off.2))
+      fits = (
+        omega (arith, low_of said.u all off.0, low),
+        omega (arith, low_of said.v all off.1, low),
+        omega (arith, low_of said.wish MAX_WISH off.2),
+      )
 
       -- Whether the edge is one.
       by_edge : said_fails soup all number (wished_by words)
-          ≡ cond (is_edge soup.faces (vertex_named soup.names said.u) (vertex_named soup.names said.v)) [] (NotEdge number ∷ [])
+          ≡ cond (is_edge soup.faces (vertex_named soup.names said.u) (vertex_named soup.names said.v)) []
+          (NotEdge number ∷ [])
       by_edge =
           ap (said_fails soup all number) is.told
           ∙ ap
           (λ (b : Bool). cond b (Range number ∷ [])
-          (cond (is_edge soup.faces (vertex_named soup.names is.wished.u) (vertex_named soup.names is.wished.v)) [] (NotEdge number ∷ [])))
+          (cond (is_edge soup.faces (vertex_named soup.names is.wished.u) (vertex_named soup.names is.wished.v)) []
+          (NotEdge number ∷ [])))
           (sym far_same ∙ near)
-          ∙ (λ i. cond (is_edge soup.faces (vertex_named soup.names (sym u_is i)) (vertex_named soup.names (sym v_is i))) [] (NotEdge number ∷ []))
+          ∙ (λ i. cond (is_edge soup.faces (vertex_named soup.names (sym u_is i))
+          (vertex_named soup.names (sym v_is i))) [] (NotEdge number ∷ []))
 
       pub takes_no_edge : is_edge soup.faces (vertex_named soup.names said.u) (vertex_named soup.names said.v) ≡ false
           → said_fails soup all number (wished_by words) ≡ NotEdge number ∷ []
       takes_no_edge none = by_edge ∙ ap (λ (b : Bool). cond b [] (NotEdge number ∷ [])) none
 
       -- The wish is put at the darts of the edge.
-      pub takes_wish : (old new : List ℕ) → is_edge soup.faces (vertex_named soup.names said.u) (vertex_named soup.names said.v) ≡ true
+      pub takes_wish : (old new : List ℕ)
+          → is_edge soup.faces (vertex_named soup.names said.u) (vertex_named soup.names said.v) ≡ true
           → ((d : ℕ) → d < darts soup.faces → get_or new d 0
-          ≡ cond (runs_between soup.faces (vertex_named soup.names said.u) (vertex_named soup.names said.v) d) said.wish (get_or old d 0))
+          ≡ cond (runs_between soup.faces (vertex_named soup.names said.u) (vertex_named soup.names said.v) d) said.wish
+          (get_or old d 0))
           → TakesWish soup all number words old new
       takes_wish old new edge put = record {
         accepted = by_edge ∙ ap (λ (b : Bool). cond b [] (NotEdge number ∷ [])) edge;
         wishes = λ d l.
             put d l
-            ∙ (λ i. cond (runs_between soup.faces (vertex_named soup.names (u_is i)) (vertex_named soup.names (v_is i)) d) (wish_is i) (get_or old d 0))
-            ∙ ap (λ (o : Option Wished). wish_or soup.faces d (get_or old d 0) (wishes_said soup.names o)) (sym is.told);
-        small = λ d l few. subst (λ (n : ℕ). n ≤ MAX_WISH) (sym (put d l)) (by_test (runs_between soup.faces _ _ d) (get_or old d 0) few);
+            ∙ (λ i. cond (runs_between soup.faces (vertex_named soup.names (u_is i)) (vertex_named soup.names (v_is i))
+            d) (wish_is i) (get_or old d 0))
+            ∙ ap (λ (o : Option Wished). wish_or soup.faces d (get_or old d 0) (wishes_said soup.names o))
+            (sym is.told);
+        small = λ d l few. subst (λ (n : ℕ). n ≤ MAX_WISH) (sym (put d l))
+            (by_test (runs_between soup.faces _ _ d) (get_or old d 0) few);
       }
         where
           by_test : (b : Bool) (before : ℕ) → before ≤ MAX_WISH → cond b said.wish before ≤ MAX_WISH
@@ -115,25 +136,31 @@ module _ (soup : FaceSet) (all number : ℕ) (words : Words) (low : all < 2 ^ 32
           by_test false before few = few
 
 -- The darts of an edge, and all others.
-module _ (faces : Faces) (m : IsManifold faces) (wishes : List ℕ) (wish d : ℕ) (ld : d < darts faces) (long : length wishes ≡ darts faces) where
+module _ (faces : Faces) (m : IsManifold faces) (wishes : List ℕ) (wish d : ℕ) (ld : d < darts faces)
+    (long : length wishes ≡ darts faces) where
   runs_self : runs_between faces (from_of faces d) (to_of faces d) d ≡ true
-  runs_self = or_left _ _ (and_from _ _ (eq-eqb (from_of faces d) (from_of faces d) refl) (eq-eqb (to_of faces d) (to_of faces d) refl))
+  runs_self = or_left _ _ (and_from _ _ (eq-eqb (from_of faces d) (from_of faces d) refl)
+      (eq-eqb (to_of faces d) (to_of faces d) refl))
 
-  at_dart : (list : List ℕ) (x : ℕ) → runs_between faces (from_of faces d) (to_of faces d) x ≡ true → get_or list x 0 ≡ wish
+  at_dart : (list : List ℕ) (x : ℕ) → runs_between faces (from_of faces d) (to_of faces d) x ≡ true
+      → get_or list x 0 ≡ wish
       → get_or list x 0 ≡ cond (runs_between faces (from_of faces d) (to_of faces d) x) wish (get_or wishes x 0)
   at_dart list x on is = is ∙ ap (λ (b : Bool). cond b wish (get_or wishes x 0)) (sym on)
 
-  at_rest : (list : List ℕ) (x : ℕ) → runs_between faces (from_of faces d) (to_of faces d) x ≡ false → get_or list x 0 ≡ get_or wishes x 0
+  at_rest : (list : List ℕ) (x : ℕ) → runs_between faces (from_of faces d) (to_of faces d) x ≡ false
+      → get_or list x 0 ≡ get_or wishes x 0
       → get_or list x 0 ≡ cond (runs_between faces (from_of faces d) (to_of faces d) x) wish (get_or wishes x 0)
   at_rest list x off is = is ∙ ap (λ (b : Bool). cond b wish (get_or wishes x 0)) (sym off)
 
   -- An edge of one dart.
   pub put_one : twin_of faces d ≡ None → (x : ℕ) → x < darts faces
-      → get_or (set wishes d wish) x 0 ≡ cond (runs_between faces (from_of faces d) (to_of faces d) x) wish (get_or wishes x 0)
+      → get_or (set wishes d wish) x 0 ≡ cond (runs_between faces (from_of faces d) (to_of faces d) x) wish
+      (get_or wishes x 0)
   put_one none x lx = elim (cases_eq x d) [
     | inl e ↦ at_dart (set wishes d wish) x (ap (runs_between faces (from_of faces d) (to_of faces d)) e ∙ runs_self)
         (ap (λ (k : ℕ). get_or (set wishes d wish) k 0) e ∙ get_or-set_same wishes d wish 0 (omega (arith, ld, long)))
-    | inr ne ↦ at_rest (set wishes d wish) x (false_from_ne_true _ (λ on. refuted ne (on_edge faces m d x ld lx on))) (get_or-set_other wishes d x wish 0 ne)
+    | inr ne ↦ at_rest (set wishes d wish) x (false_from_ne_true _ (λ on. refuted ne (on_edge faces m d x ld lx on)))
+        (get_or-set_other wishes d x wish 0 ne)
   ]
     where
       refuted : x ≢ d → (x ≡ d) ⊎ IsTwin faces d x → ⊥
@@ -142,17 +169,22 @@ module _ (faces : Faces) (m : IsManifold faces) (wishes : List ℕ) (wish d : �
 
   -- An edge of two.
   pub put_two : (t : ℕ) → twin_of faces d ≡ Some t → (x : ℕ) → x < darts faces
-      → get_or (set (set wishes d wish) t wish) x 0 ≡ cond (runs_between faces (from_of faces d) (to_of faces d) x) wish (get_or wishes x 0)
+      → get_or (set (set wishes d wish) t wish) x 0 ≡ cond (runs_between faces (from_of faces d) (to_of faces d) x) wish
+      (get_or wishes x 0)
   put_two t twin x lx = elim (cases_eq x t) [
     | inl e ↦ at_dart (set (set wishes d wish) t wish) x
-        (or_right _ _ (and_from _ _ (eq-eqb _ _ (ap (from_of faces) e ∙ is.1)) (eq-eqb _ _ (ap (to_of faces) e ∙ is.2))))
+        (or_right _ _ (and_from _ _ (eq-eqb _ _ (ap (from_of faces) e ∙ is.1))
+        (eq-eqb _ _ (ap (to_of faces) e ∙ is.2))))
         (ap (λ (k : ℕ). get_or (set (set wishes d wish) t wish) k 0) e
         ∙ get_or-set_same (set wishes d wish) t wish 0 (omega (arith, is.0, long, length-set wishes d wish)))
     | inr ne ↦ elim (cases_eq x d) [
-      | inl e ↦ at_dart (set (set wishes d wish) t wish) x (ap (runs_between faces (from_of faces d) (to_of faces d)) e ∙ runs_self)
+      | inl e ↦ at_dart (set (set wishes d wish) t wish) x (ap (runs_between faces (from_of faces d) (to_of faces d)) e
+          ∙ runs_self)
           (get_or-set_other (set wishes d wish) t x wish 0 ne
-          ∙ (ap (λ (k : ℕ). get_or (set wishes d wish) k 0) e ∙ get_or-set_same wishes d wish 0 (omega (arith, ld, long))))
-      | inr other ↦ at_rest (set (set wishes d wish) t wish) x (false_from_ne_true _ (λ on. refuted ne other (on_edge faces m d x ld lx on)))
+          ∙ (ap (λ (k : ℕ). get_or (set wishes d wish) k 0) e
+          ∙ get_or-set_same wishes d wish 0 (omega (arith, ld, long))))
+      | inr other ↦ at_rest (set (set wishes d wish) t wish) x
+          (false_from_ne_true _ (λ on. refuted ne other (on_edge faces m d x ld lx on)))
           (get_or-set_other (set wishes d wish) t x wish 0 ne ∙ get_or-set_other wishes d x wish 0 other)
     ]
   ]

@@ -1,5 +1,7 @@
 -- Pieces of a text that are divided by one blank each, and the numbers that they write.
-use Rattle.std.proofs.Common.{◌≡◌, ℕ, ◌+◌, ◌-◌, ◌^◌, ◌<◌, ◌≤◌, Bool, true, false, eqb, ◌&&◌, ◌||◌, not, cond, [], ◌∷◌, length, take, drop, get_or, Option, Some, None, is_some, MatchOption, refl, sym, ap, ◌∙◌, arith, length-drop}
+use Rattle.std.proofs.Common.{◌≡◌, ℕ, ◌+◌, ◌-◌, ◌^◌, ◌<◌, ◌≤◌, Bool, true, false, eqb, ◌&&◌, ◌||◌, not, cond, [], ◌∷◌}
+use Rattle.std.proofs.Common.{length, take, drop, get_or, Option, Some, None, is_some, MatchOption, refl, sym, ap, ◌∙◌}
+use Rattle.std.proofs.Common.{arith, length-drop}
 use Rattle.std.specs.Prelude.{min}
 use Rattle.std.specs.List.{All, position_or_len}
 use Rattle.std.proofs.lemmas.List.{drop-drop, take_all}
@@ -14,21 +16,25 @@ use Rattle.def_text.specs.Types.{Word, Words}
 use Rattle.qm_marks.specs.Wishing.{pieces_of, IsSaid}
 use Rattle.qm_marks.specs.declared.said.Said.{Said}
 
-module _ (text front behind : Bytes) (i : ℕ) (at : i ≡ position_or_len (λ b. eqb b 32) text) (before : front ≡ take i text) (back : behind ≡ drop i text) where
+module _ (text front behind : Bytes) (i : ℕ) (at : i ≡ position_or_len (λ b. eqb b 32) text) (before : front
+    ≡ take i text) (back : behind ≡ drop i text) where
   -- A text without a blank is one piece.
   pub one_piece : length behind < 1 → pieces_of text ≡ text ∷ []
   one_piece none =
       let long : length text ≤ i = omega (arith, length-drop i text, ap length back, none) in
-      slice_split_none (λ b. eqb b 32) text (λ k d l. fails_before_first (λ b. eqb b 32) text k d (omega (arith, l, long, at)))
+      slice_split_none (λ b. eqb b 32) text (λ k d l. fails_before_first (λ b. eqb b 32) text k d
+      (omega (arith, l, long, at)))
 
   -- And else its first piece ends at the first.
   pub first_piece : 1 ≤ length behind → pieces_of text ≡ front ∷ pieces_of (take (length behind - 1) (drop 1 behind))
   first_piece some =
-      let inside : position_or_len (λ b. eqb b 32) text < length text = omega (arith, at, length-drop i text, ap length back, some) in
+      let inside : position_or_len (λ b. eqb b 32) text < length text =
+      omega (arith, at, length-drop i text, ap length back, some) in
       let tail : drop (position_or_len (λ b. eqb b 32) text + 1) text ≡ take (length behind - 1) (drop 1 behind) =
       ap (λ (k : ℕ). drop (k + 1) text) (sym at) ∙ sym (drop-drop 1 i text) ∙ ap (drop 1) (sym back)
       ∙ sym (take_all (length behind - 1) (drop 1 behind) (omega (arith, length-drop 1 behind))) in
-      slice_split_first (λ b. eqb b 32) text 0 inside ∙ (λ j. (ap (λ (k : ℕ). take k text) (sym at) ∙ sym before) j ∷ pieces_of (tail j))
+      slice_split_first (λ b. eqb b 32) text 0 inside
+      ∙ (λ j. (ap (λ (k : ℕ). take k text) (sym at) ∙ sym before) j ∷ pieces_of (tail j))
 
 -- There is one piece at least.
 some_piece : (text : Bytes) → (word : Word) × (more : Words) × (pieces_of text ≡ word ∷ more)
@@ -39,7 +45,8 @@ some_piece text = by_list (pieces_of text) (omega (arith, length-slice_split (λ
     by_list (word ∷ more) low = (word, more, refl)
 
 -- Four pieces or more wish for nothing.
-pub too_many : (text behind last rest u v w : Bytes) → pieces_of text ≡ u ∷ pieces_of behind → pieces_of behind ≡ v ∷ pieces_of last → pieces_of last ≡ w ∷ pieces_of rest
+pub too_many : (text behind last rest u v w : Bytes) → pieces_of text ≡ u ∷ pieces_of behind
+    → pieces_of behind ≡ v ∷ pieces_of last → pieces_of last ≡ w ∷ pieces_of rest
     → wished_by (pieces_of text) ≡ None
 too_many text behind last rest u v w one two three =
     let four = some_piece rest in
@@ -51,7 +58,8 @@ tested true n m is = (refl, sym (same_Some n m is))
 tested false n m is = absurd (none-some m is)
 
 -- Three pieces with numbers say what they wish.
-pub three_said : (text behind last u v : Bytes) (said : Said) → pieces_of text ≡ u ∷ pieces_of behind → pieces_of behind ≡ v ∷ pieces_of last → pieces_of last ≡ last ∷ []
+pub three_said : (text behind last u v : Bytes) (said : Said) → pieces_of text ≡ u ∷ pieces_of behind
+    → pieces_of behind ≡ v ∷ pieces_of last → pieces_of last ≡ last ∷ []
     → ◌≡◌ {A = Option ℕ} (cond (is_counting u) (Some (min (number_written u) (2 ^ 64 - 1))) None) (Some said.u)
     → ◌≡◌ {A = Option ℕ} (cond (is_counting v) (Some (min (number_written v) (2 ^ 64 - 1))) None) (Some said.v)
     → ◌≡◌ {A = Option ℕ} (cond (is_whole last) (Some (min (number_written last) (2 ^ 64 - 1))) None) (Some said.wish)
@@ -60,7 +68,8 @@ three_said text behind last u v said one two three first second third = record {
   wished = record { u = number_written u; v = number_written v; wish = number_written last };
   told =
       ap wished_by (one ∙ (λ i. u ∷ two i) ∙ (λ i. u ∷ v ∷ three i))
-      ∙ (λ i. cond (firsts.0 i && seconds.0 i && thirds.0 i) (Some (record { u = number_written u; v = number_written v; wish = number_written last })) None);
+      ∙ (λ i. cond (firsts.0 i && seconds.0 i && thirds.0 i)
+      (Some (record { u = number_written u; v = number_written v; wish = number_written last })) None);
   u = firsts.1;
   v = seconds.1;
   wish = thirds.1;
@@ -76,7 +85,8 @@ three_said text behind last u v said one two three first second third = record {
     thirds = tested (is_whole last) _ _ third
 
 -- What holds of an option that is there, or is not.
-pub some_of : {T : Type 0} (o : Option T) (N : Type 0) (P : T → Type 0) → MatchOption o N P → is_some o ≡ true → (x : T) × P x
+pub some_of : {T : Type 0} (o : Option T) (N : Type 0) (P : T → Type 0) → MatchOption o N P → is_some o ≡ true
+    → (x : T) × P x
 some_of None N P holds is = absurd (true≢false (sym is))
 some_of (Some x) N P holds is = (x, holds)
 

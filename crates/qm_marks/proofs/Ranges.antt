@@ -1,5 +1,6 @@
 -- The logical line with which a range of physical lines begins.
-use Rattle.std.proofs.Common.{◌≡◌, ℕ, suc, ◌+◌, ◌-◌, ◌<◌, ◌≤◌, false, List, [], ◌∷◌, length, drop, get_or, refl, sym, ap, ◌∙◌, arith}
+use Rattle.std.proofs.Common.{◌≡◌, ℕ, suc, ◌+◌, ◌-◌, ◌<◌, ◌≤◌, false, List, [], ◌∷◌, length, drop, get_or, refl, sym}
+use Rattle.std.proofs.Common.{ap, ◌∙◌, arith}
 use Rattle.std.specs.Prelude.{slice_range}
 use Rattle.std.specs.List.{before_first}
 use Rattle.std.proofs.lemmas.List.{drop_more}
@@ -11,7 +12,8 @@ use Rattle.qm_obj.proofs.Groups.{logical_step}
 use Rattle.qm_obj.proofs.ListLemmas.{length-range, range_drop}
 
 -- A range by its first line.
-range_cons : (xs : Lines) (i b : ℕ) → i < b → b ≤ length xs → slice_range xs i b ≡ get_or xs i [] ∷ slice_range xs (i + 1) b
+range_cons : (xs : Lines) (i b : ℕ) → i < b → b ≤ length xs → slice_range xs i b
+    ≡ get_or xs i [] ∷ slice_range xs (i + 1) b
 range_cons xs i b lt within =
     let there : i < length xs = omega arith in
     let e : b - i ≡ suc (b - (i + 1)) = omega arith in
@@ -33,17 +35,25 @@ module _ (all : Lines) (i after : ℕ) (lt : i < after) (within : after ≤ leng
 
   -- The next logical line begins behind this one, and within the range.
   pub span_within : (1 ≤ span (slice_range all i after)) × (i + span (slice_range all i after) ≤ after)
-  span_within = (rw cut (span_some (get_or all i []) (slice_range all (i + 1) after)), omega (arith, span_few (slice_range all i after), length-range all i after (omega arith) within))
+  span_within = (
+    rw cut (span_some (get_or all i []) (slice_range all (i + 1) after)),
+    omega (arith, span_few (slice_range all i after), length-range all i after (omega arith) within),
+  )
 
   -- The next logical line, and those behind it.
   pub next_lines : logical_lines (i + 1) (slice_range all i after)
-      ≡ first_logical (i + 1) (slice_range all i after) ∷ logical_lines (i + span (slice_range all i after) + 1) (slice_range all (i + span (slice_range all i after)) after)
+      ≡ first_logical (i + 1) (slice_range all i after) ∷ logical_lines (i + span (slice_range all i after) + 1)
+      (slice_range all (i + span (slice_range all i after)) after)
   next_lines =
-      let step : logical_lines (i + 1) (slice_range all i after) ≡ first_logical (i + 1) (slice_range all i after) ∷ logical_lines (i + 1 + span (slice_range all i after)) (drop (span (slice_range all i after)) (slice_range all i after)) =
+      let step : logical_lines (i + 1) (slice_range all i after) ≡ first_logical (i + 1) (slice_range all i after)
+      ∷ logical_lines (i + 1 + span (slice_range all i after))
+      (drop (span (slice_range all i after)) (slice_range all i after)) =
       rw cut (logical_step (i + 1) (get_or all i []) (slice_range all (i + 1) after)) in
       let n : i + 1 + span (slice_range all i after) ≡ i + span (slice_range all i after) + 1 = omega arith in
       step ∙ ap (λ rest. first_logical (i + 1) (slice_range all i after) ∷ rest)
-      (ap (λ ls. logical_lines (i + 1 + span (slice_range all i after)) ls) (range_drop all i (span (slice_range all i after)) after span_within.1) ∙ ap (λ k. logical_lines k (slice_range all (i + span (slice_range all i after)) after)) n)
+      (ap (λ ls. logical_lines (i + 1 + span (slice_range all i after)) ls)
+      (range_drop all i (span (slice_range all i after)) after span_within.1)
+      ∙ ap (λ k. logical_lines k (slice_range all (i + span (slice_range all i after)) after)) n)
 
   module _ (line : List ℕ) (is : line ≡ get_or all i []) (off : continues line ≡ false) where
     here : slice_range all i after ≡ line ∷ slice_range all (i + 1) after

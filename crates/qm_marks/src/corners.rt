@@ -1,6 +1,7 @@
 //! The corners of an `l` line, and the vertices that they name.
 
-ghost use Rattle.std.specs.Prelude.{◌≡◌, ◌≤◌, ◌&&◌, ◌-◌, ◌==◌, [], Ok, Some, None, IfOk, drop, if◌then◌else◌, length, map, slice_index_or, true};
+ghost use Rattle.std.specs.Prelude.{◌≡◌, ◌≤◌, ◌&&◌, ◌-◌, ◌==◌, [], Ok, Some, None, IfOk};
+ghost use Rattle.std.specs.Prelude.{drop, if◌then◌else◌, length, map, slice_index_or, true};
 ghost use Rattle.std.specs.List.{list_all, list_any, position_or_len};
 ghost use Rattle.std.specs.List.Sorted.{IsStrictlyIncreasing};
 ghost use Rattle.def_marks.specs.Lines.{corner_index, is_line_corner, is_nothing, named_vertex as vertex_of};

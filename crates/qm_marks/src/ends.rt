@@ -1,12 +1,14 @@
 //! The dart that runs between two vertices. Where few faces meet at a vertex, its darts are looked at one after
 //! another, and elsewhere it is found in a table of ends that is sorted once.
 
-ghost use Rattle.std.specs.Prelude.{◌≡◌, ◌≢◌, ◌<◌, ◌+◌, ◌*◌, ◌^◌, None, ℕ, IfOk, IfSome, filter, false, length, map, nat_lt, true};
+ghost use Rattle.std.specs.Prelude.{◌≡◌, ◌≢◌, ◌<◌, ◌+◌, ◌*◌, ◌^◌, None, ℕ, IfOk, IfSome};
+ghost use Rattle.std.specs.Prelude.{filter, false, length, map, nat_lt, true};
 ghost use Rattle.std.specs.List.Sorted.{IsNonDecreasing, IsPermutation};
 ghost use Rattle.def_marks.specs.Chains.{is_edge, runs_between};
 ghost use Rattle.def_mesh.specs.Darts.{all_darts, darts, from_of, to_of};
 ghost use Rattle.def_mesh.specs.Vertices.{faces_at, vertex_count};
-ghost use Rattle.qm_marks.specs.Keys.{AreEnds, IsBetween, IsLeastPlace, IsNoneBetween, dart_key, is_busy as is_busy_at, key_of};
+ghost use Rattle.qm_marks.specs.Keys.{AreEnds, IsBetween, IsLeastPlace, IsNoneBetween};
+ghost use Rattle.qm_marks.specs.Keys.{dart_key, is_busy as is_busy_at, key_of};
 
 use crate::Memory;
 use qm_mesh::Mesh;

@@ -1,6 +1,7 @@
 //! The edges that the `l` lines of a text mark.
 
-ghost use Rattle.std.specs.Prelude.{◌≡◌, ◌≢◌, ◌≤◌, ◌<◌, ◌+◌, ◌∷◌, ◌||◌, [], false, nat_lt, not, Ok, Err, IfOk, IfErr, OnOk, cond, length, slice_range};
+ghost use Rattle.std.specs.Prelude.{◌≡◌, ◌≢◌, ◌≤◌, ◌<◌, ◌+◌, ◌∷◌, ◌||◌, [], false, nat_lt, not, Ok};
+ghost use Rattle.std.specs.Prelude.{Err, IfOk, IfErr, OnOk, cond, length, slice_range};
 ghost use Rattle.std.specs.List.{before_first, count_by};
 ghost use Rattle.def_marks.specs.Lines.{corner_fails, line_fails, marks_of, text_lines, vertex_lines_in};
 ghost use Rattle.def_feature.specs.Marks.{AreMarks};
@@ -26,8 +27,8 @@ use qm_scan::find_byte;
 use std::alloc::Global;
 
 /// A mark for each dart: whether it has a twin, and the lines from `first` up to but not including `after` mark its
-/// edge. Else the first refusal of these lines, which count from the first of `lines`. They are those of the soup, whose
-/// faces are the mesh. Linear but for searches, which are logarithmic.
+/// edge. Else the first refusal of these lines, which count from the first of `lines`. They are those of the soup,
+/// whose faces are the mesh. Linear but for searches, which are logarithmic.
 pub fn read_marks(
     alloc: Global,
     lines: &Lines,
@@ -77,7 +78,8 @@ fn take_logical(
     requires within { after ≤ length (lines_of given.now.lines.now) }
     requires reads { IsReading given.now.soup.now given.now.mesh.now reader.old }
     requires room { reader.old.before
-        + vertex_lines_in (first_logical (i + 1) (slice_range (lines_of given.now.lines.now) i after)) ≤ reader.old.all }
+        + vertex_lines_in (first_logical (i + 1) (slice_range (lines_of given.now.lines.now) i after))
+        ≤ reader.old.all }
     ensures next { IfOk result (λ next. next ≡ i + span (slice_range (lines_of given.now.lines.now) i after)) }
     ensures took { OnOk result (TookLine given.now.soup.now reader.old reader.new
         (first_logical (i + 1) (slice_range (lines_of given.now.lines.now) i after))) }

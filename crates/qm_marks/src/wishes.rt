@@ -1,6 +1,7 @@
 //! The lengths that the `#w` lines of a text wish for the edges of its mesh.
 
-ghost use Rattle.std.specs.Prelude.{◌≡◌, ◌≢◌, ◌≤◌, ◌<◌, ◌^◌, ◌||◌, ◌∷◌, [], nat_lt, true, Ok, Err, IfOk, IfErr, OnOk, ℕ};
+ghost use Rattle.std.specs.Prelude.{◌≡◌, ◌≢◌, ◌≤◌, ◌<◌, ◌^◌, ◌||◌, ◌∷◌, [], nat_lt, true};
+ghost use Rattle.std.specs.Prelude.{Ok, Err, IfOk, IfErr, OnOk, ℕ};
 ghost use Rattle.std.specs.Prelude.{if◌then◌else◌, length, slice_index_or, take};
 ghost use Rattle.std.specs.List.{All};
 ghost use Rattle.def_fit.specs.WishLines.{said_fails, wished_by, wishes_of};

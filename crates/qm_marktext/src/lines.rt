@@ -15,8 +15,8 @@ use def_marks::LINE;
 use qm_print::push_spaced;
 use std::alloc::Global;
 
-/// An `l` line for each marked arc of a layout, in order of arcs, over the vertices of the mesh at these lengths. Linear
-/// in the arcs and in the lengths of those that are marked.
+/// An `l` line for each marked arc of a layout, in order of arcs, over the vertices of the mesh at these lengths.
+/// Linear in the arcs and in the lengths of those that are marked.
 pub fn marked_lines(alloc: Global, marks: &[bool], t: &TMesh, x: &[u64]) -> Result<Vec<u8>, Memory>
     requires long { length x.now ≡ length t.now.arcs.items }
     requires some { (a : ℕ) → a < length x.now → 0 < lengths_in x.now a }

@@ -1,5 +1,6 @@
 -- Chains of darts.
-use Rattle.std.proofs.Common.{◌≡◌, ◌≢◌, ℕ, zero, suc, ◌+◌, ◌*◌, ◌<◌, ◌≤◌, ◌||◌, Bool, true, false, eqb, List, length, get_or, ◌⊎◌, refl, sym, ◌∙◌, ap, subst, inl, inr, arith}
+use Rattle.std.proofs.Common.{◌≡◌, ◌≢◌, ℕ, zero, suc, ◌+◌, ◌*◌, ◌<◌, ◌≤◌, ◌||◌, Bool, true, false, eqb, List, length}
+use Rattle.std.proofs.Common.{get_or, ◌⊎◌, refl, sym, ◌∙◌, ap, subst, inl, inr, arith}
 use Rattle.std.proofs.Math.ListN.{set}
 use Rattle.std.proofs.lemmas.List.{length-set, get_or-set_same, get_or-set_other}
 use Rattle.std.proofs.lemmas.Bool.{cases_eq, eq-eqb, eqb-true}
@@ -25,7 +26,8 @@ on_rest next here d w = by_most w.0 w.1
   where
     by_most : (most : ℕ) → passes next most (suc here) d ≡ true → (here ≡ d) ⊎ IsOn next (get_or next here 0) d
     by_most zero e = absurd (cc e)
-    by_most (suc k) e = elim (or_parts (eqb here d) (passes next k (get_or next here 0) d) e) [ inl on ↦ inl (eqb-true here d on) | inr on ↦ inr (k, on) ]
+    by_most (suc k) e = elim (or_parts (eqb here d) (passes next k (get_or next here 0) d) e)
+        [ inl on ↦ inl (eqb-true here d on) | inr on ↦ inr (k, on) ]
 
 -- Nothing is on an empty chain.
 pub on_none : (next : List ℕ) (d : ℕ) → IsOn next 0 d → ⊥
@@ -36,32 +38,51 @@ on_none next d w = by_most w.0 w.1
     by_most (suc k) e = cc e
 
 -- A write past a chain does not change it.
-passes_same : (old new : List ℕ) (bound : ℕ) → ((i : ℕ) → i < bound → get_or new i 0 ≡ get_or old i 0) → ((i : ℕ) → get_or old i 0 ≤ i) → (most entry d : ℕ) → entry ≤ bound → passes new most entry d ≡ passes old most entry d
+passes_same : (old new : List ℕ) (bound : ℕ) → ((i : ℕ) → i < bound → get_or new i 0 ≡ get_or old i 0)
+    → ((i : ℕ) → get_or old i 0 ≤ i) → (most entry d : ℕ) → entry ≤ bound → passes new most entry d
+    ≡ passes old most entry d
 passes_same old new bound same falls zero entry d l = refl
 passes_same old new bound same falls (suc k) zero d l = refl
 passes_same old new bound same falls (suc k) (suc here) d l =
-    let rest : passes new k (get_or new here 0) d ≡ passes old k (get_or new here 0) d = passes_same old new bound same falls k (get_or new here 0) d (omega (arith, same here (omega (arith, l)), falls here, l)) in
+    let rest : passes new k (get_or new here 0) d ≡ passes old k (get_or new here 0) d =
+    passes_same old new bound same falls k (get_or new here 0) d (omega (
+      arith,
+      same here (omega (arith, l)),
+      falls here,
+      l,
+    )) in
     ap (λ (q : Bool). eqb here d || q) (rest ∙ ap (λ x. passes old k x d) (same here (omega (arith, l))))
 
-module _ (g : WeightedGraph) (bound : ℕ) (first next first2 next2 : List ℕ) (fans : AreFansOf g bound first next) (v : ℕ) (lv : v < g.n) (low : bound < 2 * length g.edges) (near : (darts_of g).near bound ≡ v)
+module _ (g : WeightedGraph) (bound : ℕ) (first next first2 next2 : List ℕ) (fans : AreFansOf g bound first next)
+    (v : ℕ) (lv : v < g.n) (low : bound < 2 * length g.edges) (near : (darts_of g).near bound ≡ v)
     (is_next : next2 ≡ set next bound (get_or first v 0)) (is_first : first2 ≡ set first v (bound + 1)) where
   next_here : get_or next2 bound 0 ≡ get_or first v 0
-  next_here = ap (λ xs. get_or xs bound 0) is_next ∙ get_or-set_same next bound (get_or first v 0) 0 (omega (arith, low, fans.darts))
+  next_here = ap (λ xs. get_or xs bound 0) is_next ∙ get_or-set_same next bound (get_or first v 0) 0
+      (omega (arith, low, fans.darts))
 
   next_other : (i : ℕ) → i ≢ bound → get_or next2 i 0 ≡ get_or next i 0
   next_other i ne = ap (λ xs. get_or xs i 0) is_next ∙ get_or-set_other next bound i (get_or first v 0) 0 ne
 
   first_here : get_or first2 v 0 ≡ bound + 1
-  first_here = ap (λ xs. get_or xs v 0) is_first ∙ get_or-set_same first v (bound + 1) 0 (omega (arith, lv, fans.vertices))
+  first_here = ap (λ xs. get_or xs v 0) is_first
+      ∙ get_or-set_same first v (bound + 1) 0 (omega (arith, lv, fans.vertices))
 
   first_other : (w : ℕ) → w ≢ v → get_or first2 w 0 ≡ get_or first w 0
   first_other w ne = ap (λ xs. get_or xs w 0) is_first ∙ get_or-set_other first v w (bound + 1) 0 ne
 
   on_still : (entry d : ℕ) → entry ≤ bound → IsOn next entry d → IsOn next2 entry d
-  on_still entry d l w = (w.0, passes_same next next2 bound (λ i li. next_other i (λ e. absurd (omega (arith, e, li)))) fans.nexts w.0 entry d l ∙ w.1)
+  on_still entry d l w = (
+    w.0,
+    passes_same next next2 bound (λ i li. next_other i (λ e. absurd (omega (arith, e, li))))
+        fans.nexts w.0 entry d l ∙ w.1,
+  )
 
   on_front : (d : ℕ) → IsOn next2 (get_or first v 0) d → IsOn next2 (get_or first2 v 0) d
-  on_front d w = subst (λ x. IsOn next2 x d) (sym entry_is) (suc w.0, or_right (eqb bound d) (passes next2 w.0 (get_or next2 bound 0) d) (ap (λ x. passes next2 w.0 x d) next_here ∙ w.1))
+  on_front d w = subst (λ x. IsOn next2 x d) (sym entry_is) (
+    suc w.0,
+    or_right (eqb bound d) (passes next2 w.0 (get_or next2 bound 0) d) (ap (λ x. passes next2 w.0 x d) next_here
+        ∙ w.1),
+  )
     where
       entry_is : get_or first2 v 0 ≡ suc bound
       entry_is = first_here ∙ (let e : bound + 1 ≡ suc bound = omega arith in e)
@@ -83,17 +104,24 @@ module _ (g : WeightedGraph) (bound : ℕ) (first next first2 next2 : List ℕ) 
   }
     where
       first_low : (w : ℕ) → (w ≡ v) ⊎ (w ≢ v) → get_or first2 w 0 ≤ bound + 1
-      first_low w (inl e) = let h : get_or first2 w 0 ≡ bound + 1 = ap (λ x. get_or first2 x 0) e ∙ first_here in omega (arith, h)
+      first_low w (inl e) = let h : get_or first2 w 0 ≡ bound + 1 = ap (λ x. get_or first2 x 0) e ∙ first_here in
+          omega (arith, h)
       first_low w (inr ne) = omega (arith, first_other w ne, fans.firsts w)
 
       next_low : (d : ℕ) → (d ≡ bound) ⊎ (d ≢ bound) → get_or next2 d 0 ≤ d
-      next_low d (inl e) = let h : get_or next2 d 0 ≡ get_or first v 0 = ap (λ x. get_or next2 x 0) e ∙ next_here in omega (arith, h, fans.firsts v, e)
+      next_low d (inl e) = let h : get_or next2 d 0 ≡ get_or first v 0 = ap (λ x. get_or next2 x 0) e ∙ next_here in
+          omega (arith, h, fans.firsts v, e)
       next_low d (inr ne) = omega (arith, next_other d ne, fans.nexts d)
 
-      by_near : (d : ℕ) → d < bound → ((darts_of g).near d ≡ v) ⊎ ((darts_of g).near d ≢ v) → IsOn next2 (get_or first2 ((darts_of g).near d) 0) d
-      by_near d l (inl e) = subst (λ x. IsOn next2 (get_or first2 x 0) d) (sym e) (on_front d (on_still (get_or first v 0) d (fans.firsts v) (subst (λ x. IsOn next (get_or first x 0) d) e (fans.all d l))))
-      by_near d l (inr ne) = subst (λ x. IsOn next2 x d) (sym (first_other ((darts_of g).near d) ne)) (on_still (get_or first ((darts_of g).near d) 0) d (fans.firsts ((darts_of g).near d)) (fans.all d l))
+      by_near : (d : ℕ) → d < bound → ((darts_of g).near d ≡ v) ⊎ ((darts_of g).near d ≢ v)
+          → IsOn next2 (get_or first2 ((darts_of g).near d) 0) d
+      by_near d l (inl e) = subst (λ x. IsOn next2 (get_or first2 x 0) d) (sym e)
+          (on_front d (on_still (get_or first v 0) d (fans.firsts v) (subst (λ x. IsOn next (get_or first x 0) d) e
+          (fans.all d l))))
+      by_near d l (inr ne) = subst (λ x. IsOn next2 x d) (sym (first_other ((darts_of g).near d) ne))
+          (on_still (get_or first ((darts_of g).near d) 0) d (fans.firsts ((darts_of g).near d)) (fans.all d l))
 
       all : (d : ℕ) → d < bound + 1 → (d ≡ bound) ⊎ (d ≢ bound) → IsOn next2 (get_or first2 ((darts_of g).near d) 0) d
-      all d l (inl e) = subst (λ x. IsOn next2 (get_or first2 ((darts_of g).near x) 0) x) (sym e) (subst (λ x. IsOn next2 (get_or first2 x 0) bound) (sym near) on_new)
+      all d l (inl e) = subst (λ x. IsOn next2 (get_or first2 ((darts_of g).near x) 0) x) (sym e)
+          (subst (λ x. IsOn next2 (get_or first2 x 0) bound) (sym near) on_new)
       all d l (inr ne) = by_near d (omega (arith, l, ne)) (cases_eq ((darts_of g).near d) v)

@@ -1,5 +1,6 @@
 -- What mending leaves.
-use Rattle.std.proofs.Common.{◌≡◌, ◌≢◌, ℕ, suc, ◌+◌, ◌*◌, ◌/◌, ◌<◌, Bool, true, eqb, List, length, get_or, ◌⊎◌, refl, sym, ◌∙◌, ap, subst, inl, inr, arith}
+use Rattle.std.proofs.Common.{◌≡◌, ◌≢◌, ℕ, suc, ◌+◌, ◌*◌, ◌/◌, ◌<◌, Bool, true, eqb, List, length, get_or, ◌⊎◌, refl}
+use Rattle.std.proofs.Common.{sym, ◌∙◌, ap, subst, inl, inr, arith}
 use Rattle.std.proofs.Math.ListN.{set}
 use Rattle.std.proofs.lemmas.Bool.{cases_eq, eqb-true}
 use Rattle.std.proofs.lemmas.List.{length-set, get_or-set_same, get_or-set_other}
@@ -19,31 +20,45 @@ module _ (g : WeightedGraph) (f : Forest) (risen : ℕ) where
   mended_none keys = record { size = refl; each = λ k. inr refl }
 
   -- One leaf is.
-  pub mended_one : (keys new : List ℕ) (leaf : ℕ) → leaf < length keys → new ≡ set keys leaf (true_key g f risen leaf) → IsMended g f risen keys new
-  mended_one keys new leaf l is = record { size = ap length is ∙ length-set keys leaf (true_key g f risen leaf); each = λ k. by_place k (cases_eq k leaf) }
+  pub mended_one : (keys new : List ℕ) (leaf : ℕ) → leaf < length keys → new ≡ set keys leaf (true_key g f risen leaf)
+      → IsMended g f risen keys new
+  mended_one keys new leaf l is = record {
+    size = ap length is ∙ length-set keys leaf (true_key g f risen leaf);
+    each =
+        λ k. by_place k (cases_eq k leaf);
+  }
     where
-      by_place : (k : ℕ) → (k ≡ leaf) ⊎ (k ≢ leaf) → (get_or new k 0 ≡ true_key g f risen k) ⊎ (get_or new k 0 ≡ get_or keys k 0)
-      by_place k (inl e) = inl (ap (λ xs. get_or xs k 0) is ∙ (ap (λ j. get_or (set keys leaf (true_key g f risen leaf)) j 0) e ∙ (get_or-set_same keys leaf (true_key g f risen leaf) 0 l ∙ sym (ap (true_key g f risen) e))))
-      by_place k (inr ne) = inr (ap (λ xs. get_or xs k 0) is ∙ get_or-set_other keys leaf k (true_key g f risen leaf) 0 ne)
+      by_place : (k : ℕ) → (k ≡ leaf) ⊎ (k ≢ leaf) → (get_or new k 0 ≡ true_key g f risen k)
+          ⊎ (get_or new k 0 ≡ get_or keys k 0)
+      by_place k (inl e) = inl (ap (λ xs. get_or xs k 0) is
+          ∙ (ap (λ j. get_or (set keys leaf (true_key g f risen leaf)) j 0) e
+          ∙ (get_or-set_same keys leaf (true_key g f risen leaf) 0 l ∙ sym (ap (true_key g f risen) e))))
+      by_place k (inr ne) = inr (ap (λ xs. get_or xs k 0) is ∙ get_or-set_other keys leaf k (true_key g f risen leaf) 0
+          ne)
 
   -- More and more are.
   pub mended_on : (a b c : List ℕ) → IsMended g f risen a b → IsMended g f risen b c → IsMended g f risen a c
   mended_on a b c p q = record { size = q.size ∙ p.size; each = λ k. by_last k (q.each k) (p.each k) }
     where
-      by_last : (k : ℕ) → (get_or c k 0 ≡ true_key g f risen k) ⊎ (get_or c k 0 ≡ get_or b k 0) → (get_or b k 0 ≡ true_key g f risen k) ⊎ (get_or b k 0 ≡ get_or a k 0) → (get_or c k 0 ≡ true_key g f risen k) ⊎ (get_or c k 0 ≡ get_or a k 0)
+      by_last : (k : ℕ) → (get_or c k 0 ≡ true_key g f risen k) ⊎ (get_or c k 0 ≡ get_or b k 0)
+          → (get_or b k 0 ≡ true_key g f risen k) ⊎ (get_or b k 0 ≡ get_or a k 0)
+          → (get_or c k 0 ≡ true_key g f risen k) ⊎ (get_or c k 0 ≡ get_or a k 0)
       by_last k (inl e) y = inl e
       by_last k (inr e) (inl e') = inl (e ∙ e')
       by_last k (inr e) (inr e') = inr (e ∙ e')
 
   -- What is right stays right.
-  pub stays_right : (a b : List ℕ) (k : ℕ) → IsMended g f risen a b → get_or a k 0 ≡ true_key g f risen k → get_or b k 0 ≡ true_key g f risen k
+  pub stays_right : (a b : List ℕ) (k : ℕ) → IsMended g f risen a b → get_or a k 0 ≡ true_key g f risen k
+      → get_or b k 0 ≡ true_key g f risen k
   stays_right a b k p right = elim (p.each k) [ inl e ↦ e | inr e ↦ e ∙ right ]
 
-  pub stay_right : (a b : List ℕ) (of : ℕ → Bool) → IsMended g f risen a b → AreRightAt g f risen a of → AreRightAt g f risen b of
+  pub stay_right : (a b : List ℕ) (of : ℕ → Bool) → IsMended g f risen a b → AreRightAt g f risen a of
+      → AreRightAt g f risen b of
   stay_right a b of p right e l at = stays_right a b e p (right e l at)
 
   -- A dart of a chain is passed, and its edge mended.
-  pub chain_mended : (next keys new : List ℕ) (entry d from : ℕ) → entry ≡ suc d → d / 2 < length keys → new ≡ set keys (d / 2) (true_key g f risen (d / 2))
+  pub chain_mended : (next keys new : List ℕ) (entry d from : ℕ) → entry ≡ suc d → d / 2 < length keys
+      → new ≡ set keys (d / 2) (true_key g f risen (d / 2))
       → ((x : ℕ) → IsOn next from x → (get_or keys (x / 2) 0 ≡ true_key g f risen (x / 2)) ⊎ IsOn next entry x)
       → (x : ℕ) → IsOn next from x → (get_or new (x / 2) 0 ≡ true_key g f risen (x / 2)) ⊎ IsOn next (get_or next d 0) x
   chain_mended next keys new entry d from is l new_is done x on = by_done (done x on)
@@ -54,33 +69,56 @@ module _ (g : WeightedGraph) (f : Forest) (risen : ℕ) where
       here : get_or new (d / 2) 0 ≡ true_key g f risen (d / 2)
       here = ap (λ xs. get_or xs (d / 2) 0) new_is ∙ get_or-set_same keys (d / 2) (true_key g f risen (d / 2)) 0 l
 
-      by_rest : (d ≡ x) ⊎ IsOn next (get_or next d 0) x → (get_or new (x / 2) 0 ≡ true_key g f risen (x / 2)) ⊎ IsOn next (get_or next d 0) x
+      by_rest : (d ≡ x) ⊎ IsOn next (get_or next d 0) x → (get_or new (x / 2) 0 ≡ true_key g f risen (x / 2))
+          ⊎ IsOn next (get_or next d 0) x
       by_rest (inl e) = inl (subst (λ y. get_or new (y / 2) 0 ≡ true_key g f risen (y / 2)) e here)
       by_rest (inr rest) = inr rest
 
-      by_done : (get_or keys (x / 2) 0 ≡ true_key g f risen (x / 2)) ⊎ IsOn next entry x → (get_or new (x / 2) 0 ≡ true_key g f risen (x / 2)) ⊎ IsOn next (get_or next d 0) x
+      by_done : (get_or keys (x / 2) 0 ≡ true_key g f risen (x / 2)) ⊎ IsOn next entry x
+          → (get_or new (x / 2) 0 ≡ true_key g f risen (x / 2)) ⊎ IsOn next (get_or next d 0) x
       by_done (inl right) = inl (stays_right keys new (x / 2) mended right)
       by_done (inr rest) = by_rest (on_rest next d x (subst (λ y. IsOn next y x) is rest))
 
   -- The whole chain of a vertex is.
-  pub vertex_right : (first next keys : List ℕ) (v : ℕ) → AreFans g first next → ((x : ℕ) → IsOn next (get_or first v 0) x → (get_or keys (x / 2) 0 ≡ true_key g f risen (x / 2)) ⊎ IsOn next 0 x) → AreRightAt g f risen keys (λ w. eqb w v)
+  pub vertex_right : (first next keys : List ℕ) (v : ℕ) → AreFans g first next
+      → ((x : ℕ) → IsOn next (get_or first v 0) x → (get_or keys (x / 2) 0 ≡ true_key g f risen (x / 2))
+      ⊎ IsOn next 0 x) → AreRightAt g f risen keys (λ w. eqb w v)
   vertex_right first next keys v fans done e l at = by_end at
     where
-      by_done : (x : ℕ) → x / 2 ≡ e → (get_or keys (x / 2) 0 ≡ true_key g f risen (x / 2)) ⊎ IsOn next 0 x → get_or keys e 0 ≡ true_key g f risen e
+      by_done : (x : ℕ) → x / 2 ≡ e → (get_or keys (x / 2) 0 ≡ true_key g f risen (x / 2)) ⊎ IsOn next 0 x
+          → get_or keys e 0 ≡ true_key g f risen e
       by_done x half (inl right) = subst (λ y. get_or keys y 0 ≡ true_key g f risen y) half right
       by_done x half (inr rest) = absurd (on_none next x rest)
 
-      by_dart : (x : ℕ) → x < 2 * length g.edges → x / 2 ≡ e → (darts_of g).near x ≡ v → get_or keys e 0 ≡ true_key g f risen e
-      by_dart x lx half near = by_done x half (done x (subst (λ w. IsOn next (get_or first w 0) x) near (fans.all x lx)))
+      by_dart : (x : ℕ) → x < 2 * length g.edges → x / 2 ≡ e → (darts_of g).near x ≡ v
+          → get_or keys e 0 ≡ true_key g f risen e
+      by_dart x lx half near =
+          by_done x half (done x (subst (λ w. IsOn next (get_or first w 0) x) near (fans.all x lx)))
 
       by_end : (eqb (edge_at g e).u v ≡ true) ⊎ (eqb (edge_at g e).v v ≡ true) → get_or keys e 0 ≡ true_key g f risen e
       by_end (inl on) = by_dart (2 * e) (omega (arith, l)) (omega arith) (dart_near g e ∙ eqb-true (edge_at g e).u v on)
-      by_end (inr on) = by_dart (2 * e + 1) (omega (arith, l)) (omega arith) (near_odd g (2 * e + 1) e refl ∙ eqb-true (edge_at g e).v v on)
+      by_end (inr on) = by_dart (2 * e + 1) (omega (arith, l)) (omega arith) (near_odd g (2 * e + 1) e refl
+          ∙ eqb-true (edge_at g e).v v on)
 
 -- Other keys are as many.
-pub made_with : (g : WeightedGraph) (s : Search) (keys : List ℕ) → IsMade g s → length keys ≡ length s.tour → IsMade g (record s { tour = keys })
-made_with g s keys made size = record { small = made.small; cheap = made.cheap; fans = made.fans; size = made.size; first = made.first; low = made.low; leaves = size ∙ made.leaves; marks = made.marks; members = made.members; parts = made.parts }
+pub made_with : (g : WeightedGraph) (s : Search) (keys : List ℕ) → IsMade g s → length keys ≡ length s.tour
+    → IsMade g (record s { tour = keys })
+made_with g s keys made size = record {
+  small = made.small;
+  cheap = made.cheap;
+  fans = made.fans;
+  size = made.size;
+  first = made.first;
+  low = made.low;
+  leaves = size ∙ made.leaves;
+  marks = made.marks;
+  members = made.members;
+  parts = made.parts;
+}
 
 -- Only keys differ, twice.
-pub keys_twice : (a b d : Search) (keys : List ℕ) → b ≡ record a { tour = b.tour } → d ≡ record b { tour = keys } → d ≡ record a { tour = d.tour }
-keys_twice a b d keys e1 e2 = e2 ∙ (ap (λ (s : Search). record s { tour = keys }) e1 ∙ ap (λ (t : List ℕ). record a { tour = t }) (sym (ap (λ (s : Search). s.tour) e2)))
+pub keys_twice : (a b d : Search) (keys : List ℕ) → b ≡ record a { tour = b.tour } → d ≡ record b { tour = keys }
+    → d ≡ record a { tour = d.tour }
+keys_twice a b d keys e1 e2 =
+    e2 ∙ (ap (λ (s : Search). record s { tour = keys }) e1 ∙ ap (λ (t : List ℕ). record a { tour = t })
+    (sym (ap (λ (s : Search). s.tour) e2)))

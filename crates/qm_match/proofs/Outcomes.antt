@@ -1,5 +1,6 @@
 -- What a match begins with, and what has come of it.
-use Rattle.std.proofs.Common.{◌≡◌, ℕ, zero, suc, ◌+◌, ◌*◌, ◌/◌, ◌<◌, ◌≤◌, ◌^◌, List, [], ◌∷◌, length, get_or, None, ℤ, pos, ◌+ℤ◌, ◌*ℤ◌, ◌≤ℤ◌, ◌⊎◌, sym, ◌∙◌, ap, subst, inl, inr, arith}
+use Rattle.std.proofs.Common.{◌≡◌, ℕ, zero, suc, ◌+◌, ◌*◌, ◌/◌, ◌<◌, ◌≤◌, ◌^◌, List, [], ◌∷◌, length, get_or, None, ℤ}
+use Rattle.std.proofs.Common.{pos, ◌+ℤ◌, ◌*ℤ◌, ◌≤ℤ◌, ◌⊎◌, sym, ◌∙◌, ap, subst, inl, inr, arith}
 use Rattle.std.specs.Int.RustNames.{unsigned_abs}
 use Rattle.std.proofs.lemmas.Int.{ints}
 use Rattle.std.proofs.lemmas.Bool.{cases_lt}
@@ -21,10 +22,12 @@ use Rattle.qm_match.specs.Weights.{HaveRoom, HasRoom}
 use Rattle.qm_match.specs.declared.search.Search.{Search}
 
 -- The numbers of an increasing list are below its bound.
-pub increasing_low : (low bound : ℕ) (xs : List ℕ) → IsIncreasing low bound xs → (k : ℕ) → k < length xs → get_or xs k 0 < bound
+pub increasing_low : (low bound : ℕ) (xs : List ℕ) → IsIncreasing low bound xs → (k : ℕ) → k < length xs
+    → get_or xs k 0 < bound
 increasing_low low bound [] increasing k l = absurd (omega (arith, l))
 increasing_low low bound (x ∷ xs) increasing zero l = increasing.1
-increasing_low low bound (x ∷ xs) increasing (suc k) l = increasing_low (x + 1) bound xs increasing.2 k (omega (arith, l))
+increasing_low low bound (x ∷ xs) increasing (suc k) l =
+    increasing_low (x + 1) bound xs increasing.2 k (omega (arith, l))
 
 times_low : (n x y : ℕ) → x ≤ y → n * x ≤ n * y
 times_low zero x y l = omega arith
@@ -40,24 +43,34 @@ one_of (suc n) x l = omega arith
 
 -- Costs that are cheap are small.
 pub cheap_costs : (g : WeightedGraph) → IsGraph g → IsCheap g → AreCostsBelow g (2 ^ 60)
-cheap_costs g lawful cheap e l = omega (arith, one_of g.n (unsigned_abs (edge_at g e).cost) (omega (arith, lawful.left e l)), cheap e l)
+cheap_costs g lawful cheap e l =
+    omega (arith, one_of g.n (unsigned_abs (edge_at g e).cost) (omega (arith, lawful.left e l)), cheap e l)
 
 -- A forest whose weights are no greater than the costs.
-pub made_least : (g : WeightedGraph) (t u : ForestTables) → u ≡ t → IsValidFor g t → t.root ≡ None → length t.up ≡ g.n + g.n / 2 → ((b : ℕ) → g.n ≤ b → (forest_of t).weight b ≡ pos 0)
-    → ((c : ℕ) → ((e : ℕ) → e < length g.edges → unsigned_abs (edge_at g e).cost ≤ c) → (b : ℕ) → unsigned_abs ((forest_of t).weight b) ≤ c) → IsMadeFor g u
+pub made_least : (g : WeightedGraph) (t u : ForestTables) → u ≡ t → IsValidFor g t → t.root ≡ None
+    → length t.up ≡ g.n + g.n / 2 → ((b : ℕ) → g.n ≤ b → (forest_of t).weight b ≡ pos 0)
+    → ((c : ℕ) → ((e : ℕ) → e < length g.edges → unsigned_abs (edge_at g e).cost ≤ c) → (b : ℕ)
+    → unsigned_abs ((forest_of t).weight b) ≤ c) → IsMadeFor g u
 made_least g t u same valid none size sets small = subst (λ (s : ForestTables). IsMadeFor g s) (sym same) (record {
   valid = valid;
   no_tree = none;
   size = size;
   sets = sets;
-  small = λ cheap b. (let w : (most : ℕ) × ((e : ℕ) → e < length g.edges → unsigned_abs (edge_at g e).cost ≤ most) × (g.n * most ≤ MAX_PRODUCT) = greatest g cheap in
+  small = λ cheap b. (let w : (most : ℕ) × ((e : ℕ) → e < length g.edges → unsigned_abs (edge_at g e).cost ≤ most)
+      × (g.n * most ≤ MAX_PRODUCT) = greatest g cheap in
       omega (arith, times_low g.n (unsigned_abs ((forest_of t).weight b)) w.0 (small w.0 w.1 b), w.2));
 })
 
 -- A forest whose weights are the raised costs.
-pub made_raised : (g : WeightedGraph) (y : List ℤ) (t u : ForestTables) → AreCostsBelow g (2 ^ 60) → ((most : ℕ) → AreCostsBelow g most → HaveRoom g most y) → u ≡ t → IsValidFor g t → t.root ≡ None → length t.up ≡ g.n + g.n / 2 → ((b : ℕ) → (forest_of t).weight b ≡ get_or y b (pos 0))
+pub made_raised : (g : WeightedGraph) (y : List ℤ) (t u : ForestTables) → AreCostsBelow g (2 ^ 60)
+    → ((most : ℕ) → AreCostsBelow g most → HaveRoom g most y) → u ≡ t → IsValidFor g t → t.root ≡ None
+    → length t.up ≡ g.n + g.n / 2 → ((b : ℕ) → (forest_of t).weight b ≡ get_or y b (pos 0))
     → IsMadeFor g u × ((most : ℕ) → AreCostsBelow g most → (b : ℕ) → unsigned_abs ((forest_of u).weight b) ≤ most)
-made_raised g y t u costs have same valid none size weights = (made_least g t u same valid none size sets small, subst (λ (s : ForestTables). (most : ℕ) → AreCostsBelow g most → (b : ℕ) → unsigned_abs ((forest_of s).weight b) ≤ most) (sym same) small)
+made_raised g y t u costs have same valid none size weights = (
+  made_least g t u same valid none size sets small,
+  subst (λ (s : ForestTables). (most : ℕ) → AreCostsBelow g most
+      → (b : ℕ) → unsigned_abs ((forest_of s).weight b) ≤ most) (sym same) small,
+)
   where
     sets : (b : ℕ) → g.n ≤ b → (forest_of t).weight b ≡ pos 0
     sets b high = weights b ∙ get_or_past y b (pos 0) (omega (arith, high, (have (2 ^ 60) costs).long))
@@ -66,7 +79,9 @@ made_raised g y t u costs have same valid none size weights = (made_least g t u 
     small most below b = subst (λ (w : ℤ). unsigned_abs w ≤ most) (sym (weights b)) ((have most below).small b)
 
 -- A forest whose weights were given.
-pub made_first : (g : WeightedGraph) (y : List ℤ) (t u : ForestTables) → AreFirst g y → u ≡ t → IsValidFor g t → t.root ≡ None → length t.up ≡ g.n + g.n / 2 → ((b : ℕ) → (forest_of t).weight b ≡ get_or y b (pos 0)) → IsMadeFor g u
+pub made_first : (g : WeightedGraph) (y : List ℤ) (t u : ForestTables) → AreFirst g y → u ≡ t → IsValidFor g t
+    → t.root ≡ None → length t.up ≡ g.n + g.n / 2 → ((b : ℕ) → (forest_of t).weight b ≡ get_or y b (pos 0))
+    → IsMadeFor g u
 made_first g y t u first same valid none size weights = subst (λ (s : ForestTables). IsMadeFor g s) (sym same) (record {
   valid = valid;
   no_tree = none;
@@ -76,7 +91,8 @@ made_first g y t u first same valid none size weights = subst (λ (s : ForestTab
 })
 
 -- The usual first weights may be the first.
-pub raised_first : (g : WeightedGraph) (y : List ℤ) → IsCheap g → ((most : ℕ) → AreCostsBelow g most → HaveRoom g most y) → AreFirst g y
+pub raised_first : (g : WeightedGraph) (y : List ℤ) → IsCheap g
+    → ((most : ℕ) → AreCostsBelow g most → HaveRoom g most y) → AreFirst g y
 raised_first g y cheap have = by_most (greatest g cheap)
   where
     by_most : (w : (most : ℕ) × AreCostsBelow g most × (g.n * most ≤ MAX_PRODUCT)) → AreFirst g y
@@ -87,8 +103,11 @@ raised_first g y cheap have = by_most (greatest g cheap)
     }
 
 -- An edge was read, and the numbers at its ends.
-pub room_read : (g : WeightedGraph) (y : List ℤ) (e : ℕ) (edge : WEdge) (a b : ℤ) → edge ≡ edge_at g e → a ≡ get_or y edge.u (pos 0) → b ≡ get_or y edge.v (pos 0) → (a +ℤ b) ≤ℤ (pos 2 *ℤ edge.cost) → HasRoom g y e
-room_read g y e edge a b is left right le = subst (λ (x : WEdge). (get_or y x.u (pos 0) +ℤ get_or y x.v (pos 0)) ≤ℤ (pos 2 *ℤ x.cost)) is (omega (arith, ints, left, right, le))
+pub room_read : (g : WeightedGraph) (y : List ℤ) (e : ℕ) (edge : WEdge) (a b : ℤ) → edge ≡ edge_at g e
+    → a ≡ get_or y edge.u (pos 0) → b ≡ get_or y edge.v (pos 0) → (a +ℤ b) ≤ℤ (pos 2 *ℤ edge.cost) → HasRoom g y e
+room_read g y e edge a b is left right le =
+    subst (λ (x : WEdge). (get_or y x.u (pos 0) +ℤ get_or y x.v (pos 0)) ≤ℤ (pos 2 *ℤ x.cost)) is
+    (omega (arith, ints, left, right, le))
 
 -- First weights are small.
 pub first_small : (g : WeightedGraph) (y : List ℤ) → AreFirst g y → (v : ℕ) → unsigned_abs (get_or y v (pos 0)) ≤ 2 ^ 60
@@ -96,16 +115,26 @@ first_small g y first v = by_size (cases_lt v g.n)
   where
     by_size : (v < g.n) ⊎ (g.n ≤ v) → unsigned_abs (get_or y v (pos 0)) ≤ 2 ^ 60
     by_size (inl l) = omega (arith, one_of g.n (unsigned_abs (get_or y v (pos 0))) (omega (arith, l)), first.range v)
-    by_size (inr h) = (let z : get_or y v (pos 0) ≡ pos 0 = get_or_past y v (pos 0) (omega (arith, h, first.long)) in omega (arith, ints, z))
+    by_size (inr h) = (let z : get_or y v (pos 0) ≡ pos 0 = get_or_past y v (pos 0) (omega (arith, h, first.long)) in
+        omega (arith, ints, z))
 
 -- Numbers near wished ones may be the first.
 pub wished_first : (g : WeightedGraph) (ys y : List ℤ) → y ≡ ys → IsSmallGraph g → IsCheap g → length ys ≡ g.n
-    → ((most : ℕ) → ((e : ℕ) → e < length g.edges → unsigned_abs (edge_at g e).cost ≤ most) → (v : ℕ) → unsigned_abs (get_or ys v (pos 0)) ≤ 2 * most + MAX_WISH)
-    → ((e : ℕ) → e < length g.edges → (get_or ys (edge_at g e).u (pos 0) +ℤ get_or ys (edge_at g e).v (pos 0)) ≤ℤ (pos 2 *ℤ (edge_at g e).cost)) → AreFirst g y
+    → ((most : ℕ) → ((e : ℕ) → e < length g.edges → unsigned_abs (edge_at g e).cost ≤ most) → (v : ℕ)
+    → unsigned_abs (get_or ys v (pos 0)) ≤ 2 * most + MAX_WISH)
+    → ((e : ℕ) → e < length g.edges → (get_or ys (edge_at g e).u (pos 0) +ℤ get_or ys (edge_at g e).v (pos 0)) ≤ℤ
+    (pos 2 *ℤ (edge_at g e).cost)) → AreFirst g y
 wished_first g ys y same small cheap long near feasible = subst (λ (zs : List ℤ). AreFirst g zs) (sym same) (record {
   long = long;
-  range = λ v. (let w : (most : ℕ) × ((e : ℕ) → e < length g.edges → unsigned_abs (edge_at g e).cost ≤ most) × (g.n * most ≤ MAX_PRODUCT) = greatest g cheap in
-      omega (arith, times_low g.n (unsigned_abs (get_or ys v (pos 0))) (2 * w.0 + MAX_WISH) (near w.0 w.1 v), times_sum g.n w.0, w.2, small.vertices));
+  range = λ v. (let w : (most : ℕ) × ((e : ℕ) → e < length g.edges → unsigned_abs (edge_at g e).cost ≤ most)
+      × (g.n * most ≤ MAX_PRODUCT) = greatest g cheap in
+      omega (
+        arith,
+        times_low g.n (unsigned_abs (get_or ys v (pos 0))) (2 * w.0 + MAX_WISH) (near w.0 w.1 v),
+        times_sum g.n w.0,
+        w.2,
+        small.vertices,
+      ));
   feasible = feasible;
 })
 
@@ -118,26 +147,40 @@ wished_small g ys y same cheap long near = subst (λ (zs : List ℤ). AreSmall z
     omega (arith, near w.0 w.1 v, w.2, one_of g.n w.0 (omega (arith, l, long)))))
 
 -- The dual of a forest in range is small.
-pub small_dual : (g : WeightedGraph) (s : Search) (d : DualLists) → IsIdle g s → HasPerfect g → IsDualOf (length s.forest.hand) (forest_of s.forest) d → 2 * length d.z ≤ length s.forest.hand → IsSmallDual d
+pub small_dual : (g : WeightedGraph) (s : Search) (d : DualLists) → IsIdle g s → HasPerfect g
+    → IsDualOf (length s.forest.hand) (forest_of s.forest) d → 2 * length d.z ≤ length s.forest.hand → IsSmallDual d
 small_dual g s d idle known is few = record {
   sets = omega (arith, few, idle.valid.vertices, idle.made.small.vertices);
-  small_y = λ k l. (let w : get_or d.y k (pos 0) ≡ (forest_of s.forest).weight k = is.y k (omega (arith, l, is.vertices)) in omega (arith, ints, w, weight_low k));
-  small_z = λ k l. (let w : get_or d.z k (pos 0) ≡ (forest_of s.forest).weight (is.sets k l).0 = (is.sets k l).3 in omega (arith, ints, w, weight_low (is.sets k l).0));
+  small_y = λ k l. (let w : get_or d.y k (pos 0) ≡ (forest_of s.forest).weight k =
+      is.y k (omega (arith, l, is.vertices)) in omega (arith, ints, w, weight_low k));
+  small_z = λ k l. (let w : get_or d.z k (pos 0) ≡ (forest_of s.forest).weight (is.sets k l).0 = (is.sets k l).3 in
+      omega (arith, ints, w, weight_low (is.sets k l).0));
 }
   where
     weight_low : (b : ℕ) → unsigned_abs ((forest_of s.forest).weight b) ≤ 6 * MAX_PRODUCT
-    weight_low b = small_weights g idle.made.small.lawful idle.made.cheap known.0 known.1 g.n s.first idle.made.first idle.made.low (forest_of s.forest) s.risen idle.range s.forest.root idle.valid.valid b
+    weight_low b = small_weights g idle.made.small.lawful idle.made.cheap known.0 known.1 g.n s.first idle.made.first
+        idle.made.low (forest_of s.forest) s.risen idle.range s.forest.root idle.valid.valid b
 
 -- And no number is far above the first weights and the costs.
-pub bounded_dual : (g : WeightedGraph) (s : Search) (d : DualLists) → IsIdle g s → HasPerfect g → IsDualOf (length s.forest.hand) (forest_of s.forest) d → 2 * length d.z ≤ length s.forest.hand
+pub bounded_dual : (g : WeightedGraph) (s : Search) (d : DualLists) → IsIdle g s → HasPerfect g
+    → IsDualOf (length s.forest.hand) (forest_of s.forest) d → 2 * length d.z ≤ length s.forest.hand
     → (most : ℕ) → AreCostsBelow g most → AreAtMost (2 * (g.n * s.first) + g.n * most) d
 bounded_dual g s d idle known is few most each = record {
-  vertices = λ k l. (let w : get_or d.y k (pos 0) ≡ (forest_of s.forest).weight k = is.y k (omega (arith, l, is.vertices)) in omega (arith, ints, w, weight_low k (omega (arith, l, is.vertices, idle.valid.vertices))));
-  sets = λ k l. (let w : get_or d.z k (pos 0) ≡ (forest_of s.forest).weight (is.sets k l).0 = (is.sets k l).3 in omega (arith, ints, w, weight_low (is.sets k l).0 (omega (arith, l, few, idle.valid.vertices))));
+  vertices = λ k l. (let w : get_or d.y k (pos 0) ≡ (forest_of s.forest).weight k =
+      is.y k (omega (arith, l, is.vertices)) in
+      omega (arith, ints, w, weight_low k (omega (arith, l, is.vertices, idle.valid.vertices))));
+  sets = λ k l. (let w : get_or d.z k (pos 0) ≡ (forest_of s.forest).weight (is.sets k l).0 = (is.sets k l).3 in
+      omega (arith, ints, w, weight_low (is.sets k l).0 (omega (arith, l, few, idle.valid.vertices))));
 }
   where
     weight_low : (b : ℕ) → 1 ≤ g.n → unsigned_abs ((forest_of s.forest).weight b) ≤ 2 * (g.n * s.first) + g.n * most
-    weight_low b some = omega (arith, one_of g.n s.first some, weights_most g idle.made.small.lawful idle.made.cheap known.0 known.1 g.n s.first idle.made.first idle.made.low (forest_of s.forest) s.risen idle.range s.forest.root idle.valid.valid most each b)
+    weight_low b some = omega (
+      arith,
+      one_of g.n s.first some,
+      weights_most g idle.made.small.lawful idle.made.cheap
+          known.0 known.1 g.n s.first idle.made.first idle.made.low (forest_of s.forest) s.risen idle.range
+          s.forest.root idle.valid.valid most each b,
+    )
 
 -- Greater bounds hold too.
 pub at_most_more : (d : DualLists) (x y : ℕ) → x ≤ y → AreAtMost x d → AreAtMost y d
@@ -147,8 +190,12 @@ at_most_more d x y le are = record {
 }
 
 -- What the run of a matcher comes to is bounded by its first weights.
-pub run_bounded : (g : WeightedGraph) (s end : Search) (d : DualLists) → IsReady s → end.first ≡ s.first → (first most : ℕ) → ((b : ℕ) → unsigned_abs ((forest_of s.forest).weight b) ≤ first) → AreAtMost (2 * (g.n * end.first) + g.n * most) d → AreAtMost (2 * (g.n * first) + g.n * most) d
-run_bounded g s end d ready same first most each are = at_most_more d (2 * (g.n * end.first) + g.n * most) (2 * (g.n * first) + g.n * most) (omega (arith, times_low g.n end.first first low)) are
+pub run_bounded : (g : WeightedGraph) (s end : Search) (d : DualLists) → IsReady s → end.first ≡ s.first
+    → (first most : ℕ) → ((b : ℕ) → unsigned_abs ((forest_of s.forest).weight b) ≤ first)
+    → AreAtMost (2 * (g.n * end.first) + g.n * most) d → AreAtMost (2 * (g.n * first) + g.n * most) d
+run_bounded g s end d ready same first most each are =
+    at_most_more d (2 * (g.n * end.first) + g.n * most) (2 * (g.n * first) + g.n * most)
+    (omega (arith, times_low g.n end.first first low)) are
   where
     by_weight : (s.first ≡ 0) ⊎ ((b : ℕ) × (unsigned_abs ((forest_of s.forest).weight b) ≡ s.first)) → end.first ≤ first
     by_weight (inl none) = omega (arith, none, same)
@@ -163,12 +210,15 @@ best_bounded n most d are = at_most_more d (2 * (n * most) + n * most) (4 * n * 
   where
     four : (k x : ℕ) → 4 * k * x ≡ 4 * (k * x)
     four zero x = omega arith
-    four (suc k) x = (let e : 4 * suc k * x ≡ (4 * k + 4) * x = (let f : 4 * suc k ≡ 4 * k + 4 = omega arith in ap (λ m. m * x) f) in let h : (4 * k + 4) * x ≡ 4 * k * x + 4 * x = sum (4 * k) 4 x in omega (arith, e, h, four k x))
+    four (suc k) x = (let e : 4 * suc k * x ≡ (4 * k + 4) * x = (let f : 4 * suc k ≡ 4 * k + 4 = omega arith in
+        ap (λ m. m * x) f) in let h : (4 * k + 4) * x ≡ 4 * k * x + 4 * x = sum (4 * k) 4 x in
+        omega (arith, e, h, four k x))
       where
         sum : (a c y : ℕ) → (a + c) * y ≡ a * y + c * y
         sum a c zero = omega arith
         sum a c (suc y) = omega (arith, sum a c y)
 
 -- The verdict on a dual that says yes.
-pub met_verdict : (g : WeightedGraph) (d : DualLists) (cost : ℤ) → SaysYes g d → dual_sum d ≡ cost → verdict g d ≡ Yes cost
+pub met_verdict : (g : WeightedGraph) (d : DualLists) (cost : ℤ) → SaysYes g d → dual_sum d ≡ cost
+    → verdict g d ≡ Yes cost
 met_verdict g d cost says sum = says_yes g d says ∙ ap (λ (x : ℤ). Yes x) sum

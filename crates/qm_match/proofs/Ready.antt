@@ -1,5 +1,6 @@
 -- Searches that are about to begin, and edges that are matched before.
-use Rattle.std.proofs.Common.{◌≡◌, ℕ, zero, suc, ◌⊎◌, inl, inr, ◌≤◌, ◌+◌, ◌*◌, ◌/◌, ◌<◌, ◌≤◌, List, length, get_or, Option, Some, None, Bool, false, ℤ, pos, refl, sym, ◌∙◌, ap, subst, arith}
+use Rattle.std.proofs.Common.{◌≡◌, ℕ, zero, suc, ◌⊎◌, inl, inr, ◌≤◌, ◌+◌, ◌*◌, ◌/◌, ◌<◌, ◌≤◌, List, length, get_or}
+use Rattle.std.proofs.Common.{Option, Some, None, Bool, false, ℤ, pos, refl, sym, ◌∙◌, ap, subst, arith}
 use Rattle.std.specs.Prelude.{int_lt, unsigned_abs}
 use Rattle.std.proofs.lemmas.Int.{ints}
 use Rattle.std.proofs.lemmas.Bool.{cases_lt, cond-false}
@@ -23,7 +24,8 @@ use Rattle.qm_match.specs.declared.search.Search.{Search}
 use Rattle.qm_match.proofs.Taken.{made_after}
 
 -- The tables that are ready fit the graph for which the matcher is made.
-pub ready_idle : (g : WeightedGraph) (s : Search) → IsSmallGraph g → IsCheap g → IsReady s → IsMadeFor g s.forest → IsIdle g s
+pub ready_idle : (g : WeightedGraph) (s : Search) → IsSmallGraph g → IsCheap g → IsReady s → IsMadeFor g s.forest
+    → IsIdle g s
 ready_idle g s small cheap ready for = record {
   made = record {
     small = small;
@@ -33,7 +35,8 @@ ready_idle g s small cheap ready for = record {
       darts = ready.darts ∙ for.valid.darts;
       firsts = λ v. subst (λ n. get_or s.fans.first.items v 0 ≤ n) for.valid.darts (ready.firsts v);
       nexts = ready.nexts;
-      all = λ d l. subst (λ w. IsOn s.fans.next.items (get_or s.fans.first.items w 0) d) (for.valid.ends d l) (ready.all d (subst (λ n. d < n) (sym for.valid.darts) l));
+      all = λ d l. subst (λ w. IsOn s.fans.next.items (get_or s.fans.first.items w 0) d) (for.valid.ends d l)
+          (ready.all d (subst (λ n. d < n) (sym for.valid.darts) l));
     };
     size = for.size;
     first = limit;
@@ -46,20 +49,24 @@ ready_idle g s small cheap ready for = record {
   valid = for.valid;
   no_tree = for.no_tree;
   few = ready.few;
-  range = subst (λ r. IsInRange g.n s.first (forest_of s.forest) r) (sym ready.risen) (range_begun g.n s.first (forest_of s.forest) for.size for.sets (λ b. above b (cases_lt b (length s.forest.up))));
+  range = subst (λ r. IsInRange g.n s.first (forest_of s.forest) r) (sym ready.risen)
+      (range_begun g.n s.first (forest_of s.forest) for.size for.sets (λ b. above b (cases_lt b (length s.forest.up))));
 }
   where
     halves : length s.forest.hand / 2 ≡ g.n / 2
     halves = ap (λ n. n / 2) for.valid.vertices
 
-    above : (b : ℕ) → (b < length s.forest.up) ⊎ (length s.forest.up ≤ b) → unsigned_abs ((forest_of s.forest).weight b) ≤ s.first
+    above : (b : ℕ) → (b < length s.forest.up) ⊎ (length s.forest.up ≤ b) → unsigned_abs ((forest_of s.forest).weight b)
+        ≤ s.first
     above b (inl l) = ready.above b l
-    above b (inr h) = (let z : (forest_of s.forest).weight b ≡ pos 0 = for.sets b (omega (arith, h, for.size)) in omega (arith, ints, z))
+    above b (inr h) = (let z : (forest_of s.forest).weight b ≡ pos 0 = for.sets b (omega (arith, h, for.size)) in
+        omega (arith, ints, z))
 
     limit : g.n * s.first ≤ first_limit
     limit = by_weight ready.attained
       where
-        by_weight : (s.first ≡ 0) ⊎ ((b : ℕ) × (unsigned_abs ((forest_of s.forest).weight b) ≡ s.first)) → g.n * s.first ≤ first_limit
+        by_weight : (s.first ≡ 0) ⊎ ((b : ℕ) × (unsigned_abs ((forest_of s.forest).weight b) ≡ s.first))
+            → g.n * s.first ≤ first_limit
         by_weight (inl none) = subst (λ x. g.n * x ≤ first_limit) (sym none) (omega arith)
         by_weight (inr w) = subst (λ x. g.n * x ≤ first_limit) w.1 (for.small cheap w.0)
 
@@ -70,21 +77,25 @@ ready_idle g s small cheap ready for = record {
         one_of zero x l = absurd (omega (arith, l))
         one_of (suc n) x l = omega arith
 
-        by_size : (b : ℕ) → unsigned_abs ((forest_of s.forest).weight b) ≡ s.first → (b < g.n) ⊎ (g.n ≤ b) → s.first ≤ first_limit
+        by_size : (b : ℕ) → unsigned_abs ((forest_of s.forest).weight b) ≡ s.first → (b < g.n) ⊎ (g.n ≤ b)
+            → s.first ≤ first_limit
         by_size b e (inl l) = omega (arith, one_of g.n s.first (omega (arith, l)), limit)
         by_size b e (inr h) = omega (arith, ints, e, for.sets b h)
 
-        by_weight : (s.first ≡ 0) ⊎ ((b : ℕ) × (unsigned_abs ((forest_of s.forest).weight b) ≡ s.first)) → s.first ≤ first_limit
+        by_weight : (s.first ≡ 0) ⊎ ((b : ℕ) × (unsigned_abs ((forest_of s.forest).weight b) ≡ s.first))
+            → s.first ≤ first_limit
         by_weight (inl none) = omega (arith, none)
         by_weight (inr w) = by_size w.0 w.1 (cases_lt w.0 g.n)
 
 -- Chains that fit a graph fit the forest's table of darts.
-pub chains_ready : (g : WeightedGraph) (t : ForestTables) (first next : List ℕ) → AreFans g first next → IsValidFor g t → (d : ℕ) → d < length t.near → IsOn next (get_or first (get_or t.near d 0) 0) d
+pub chains_ready : (g : WeightedGraph) (t : ForestTables) (first next : List ℕ) → AreFans g first next → IsValidFor g t
+    → (d : ℕ) → d < length t.near → IsOn next (get_or first (get_or t.near d 0) 0) d
 chains_ready g t first next fans valid d l =
     let low : d < 2 * length g.edges = subst (λ n. d < n) valid.darts l in
     subst (λ w. IsOn next (get_or first w 0) d) (sym (valid.ends d low)) (fans.all d low)
 
-by_kind : (a b : Label) (ma mb : Option ℕ) (same : Bool) → a ≡ Outer → b ≡ Outside → mb ≡ None → kind_by a b ma mb same ≡ Augment
+by_kind : (a b : Label) (ma mb : Option ℕ) (same : Bool) → a ≡ Outer → b ≡ Outside → mb ≡ None → kind_by a b ma mb same
+    ≡ Augment
 by_kind Outer Outside ma None same ea eb em = refl
 by_kind Outer Outside ma (Some m) same ea eb em = absurd (cc em)
 by_kind Inner b ma mb same ea eb em = absurd (cc ea)
@@ -95,19 +106,26 @@ no_slack : (x : ℤ) → x ≡ pos 0 → int_lt (pos 0) x ≡ false
 no_slack x e = subst (λ y. int_lt (pos 0) y ≡ false) (sym e) refl
 
 -- A free edge may be matched once its one end is the root.
-pub free_augments : (g : WeightedGraph) (f : Forest) (e : ℕ) → IsValid (darts_of g) f None → IsFreeEdge g f e → edge_kind g (rooted f (f.out (edge_at g e).u)) e ≡ Augment
-free_augments g f e valid free = cond-false (int_lt (pos 0) (slack_of g f e)) Loose _ (no_slack (slack_of g f e) (omega (arith, ints, free.tight)))
-    ∙ by_kind _ _ (f.mate (f.out (edge_at g e).u)) (f.mate (f.out (edge_at g e).v)) _ (set_here f.label (f.out (edge_at g e).u) Outer)
-    (set_there f.label (f.out (edge_at g e).u) (f.out (edge_at g e).v) Outer (λ same. free.apart (sym same)) ∙ valid.no_tree refl (f.out (edge_at g e).v)) free.right
+pub free_augments : (g : WeightedGraph) (f : Forest) (e : ℕ) → IsValid (darts_of g) f None → IsFreeEdge g f e
+    → edge_kind g (rooted f (f.out (edge_at g e).u)) e ≡ Augment
+free_augments g f e valid free =
+    cond-false (int_lt (pos 0) (slack_of g f e)) Loose _ (no_slack (slack_of g f e) (omega (arith, ints, free.tight)))
+    ∙ by_kind _ _ (f.mate (f.out (edge_at g e).u)) (f.mate (f.out (edge_at g e).v)) _
+    (set_here f.label (f.out (edge_at g e).u) Outer)
+    (set_there f.label (f.out (edge_at g e).u) (f.out (edge_at g e).v) Outer (λ same. free.apart (sym same))
+    ∙ valid.no_tree refl (f.out (edge_at g e).v)) free.right
 
 -- Then no search goes on.
-pub matched_idle : (g : WeightedGraph) (old : Search) (t u : ForestTables) (b d : ℕ) → IsIdle g old → forest_of t ≡ rooted (forest_of old.forest) b → IsValidFor g u → u.root ≡ None → (r : ℕ) × (t.root ≡ Some r) × IsAugmented (darts_of g) (forest_of t) (forest_of u) r d → IsIdle g (record old { forest = u })
+pub matched_idle : (g : WeightedGraph) (old : Search) (t u : ForestTables) (b d : ℕ) → IsIdle g old
+    → forest_of t ≡ rooted (forest_of old.forest) b → IsValidFor g u → u.root ≡ None → (r : ℕ) × (t.root ≡ Some r)
+    × IsAugmented (darts_of g) (forest_of t) (forest_of u) r d → IsIdle g (record old { forest = u })
 matched_idle g old t u b d idle rooted_is valid root w = record {
   made = made_after g old u idle.made size;
   valid = valid;
   no_tree = root;
   few = idle.few;
-  range = range_same g.n old.first (forest_of old.forest) (forest_of u) old.risen size (λ x. ap (λ (f : Forest). f.weight x) w.2.changed ∙ ap (λ (f : Forest). f.weight x) rooted_is) idle.range;
+  range = range_same g.n old.first (forest_of old.forest) (forest_of u) old.risen size
+      (λ x. ap (λ (f : Forest). f.weight x) w.2.changed ∙ ap (λ (f : Forest). f.weight x) rooted_is) idle.range;
 }
   where
     size : (forest_of u).size ≡ (forest_of old.forest).size

@@ -73,7 +73,8 @@ impl Matcher {
     }
 
     /// Takes all memory of a match. The first weights are those of a least fractional matching, which is found from
-    /// given ones, a feasible dual; one perfect matching is known. Where they would be out of range, the given ones stay.
+    /// given ones, a feasible dual; one perfect matching is known. Where they would be out of range, the given ones
+    /// stay.
     pub fn new_led(alloc: Global, g: &WGraph, known: &[u32], y: Vec<i64>) -> Result<Matcher, Memory>
         requires graph { IsSmallGraph (graph g.now) }
         requires first { AreFirst (graph g.now) y.items }

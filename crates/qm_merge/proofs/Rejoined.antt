@@ -199,10 +199,12 @@ module _ (mesh : HalfEdges) (laws : IsQuadManifold mesh) (cut rest : Cut) (full 
             (subst (λ (x : ℕ). IsNextCorner mesh cut x s) e near_closes)
 
     pub far_third_off : IsOnArc mesh s t n far.third → ⊥
-    far_third_off o = elim (on_start far.third (next_is_corner mesh laws cut full far.second far.third others.third) o) [
-      | inl e ↦ foreign far.third (near_in far.third (inl e)) (far_in far.third (inr (inr (inl refl))))
-      | inr e ↦ opposite mesh laws cut full t far.second far.third far.fourth others.second others.third others.fourth e
-    ]
+    far_third_off o =
+        elim (on_start far.third (next_is_corner mesh laws cut full far.second far.third others.third) o) [
+          | inl e ↦ foreign far.third (near_in far.third (inl e)) (far_in far.third (inr (inr (inl refl))))
+          | inr e ↦ opposite mesh laws cut full t far.second far.third far.fourth others.second others.third
+              others.fourth e
+        ]
 
     -- The side before s, as it goes on.
     pub near_side : (a b : ℕ) → IsWholeSide mesh cut near.fourth a → IsWholeSide mesh cut far.second b

@@ -1,5 +1,6 @@
 -- The pass over the vertices that pairs darts: each step keeps what the loops know.
-use Rattle.std.proofs.Common.{◌≡◌, ◌≢◌, ◌⊎◌, ℕ, ◌+◌, ◌<◌, ◌≤◌, List, length, get_or, set, Option, Some, None, sym, subst, ap, ◌∙◌, refl, inl, inr, arith}
+use Rattle.std.proofs.Common.{◌≡◌, ◌≢◌, ◌⊎◌, ℕ, ◌+◌, ◌<◌, ◌≤◌, List, length, get_or, set, Option, Some, None, sym}
+use Rattle.std.proofs.Common.{subst, ap, ◌∙◌, refl, inl, inr, arith}
 use Rattle.std.proofs.lemmas.Bool.{cases_eq, cases_lt, cases_order}
 use Rattle.std.proofs.lemmas.List.{get_or-set_same, get_or-set_other, set_past}
 use Rattle.std.specs.Option.{option_or}
@@ -9,7 +10,8 @@ use Rattle.def_mesh.specs.Manifold.{IsSameEdge, HasEdgesOnce}
 use Rattle.def_mesh.specs.Faults.{IsFirstTwice}
 use Rattle.qm_mesh.specs.declared.twins.Doubled.{Doubled}
 use Rattle.qm_mesh.specs.Tables.{NamesBelow}
-use Rattle.qm_mesh.specs.Pairs.{IsPartner, Runs, AreDarts, AreMarked, IsTwice, NoneTwice, IsFirstAt, IsFirstBelow, MarksOne, IsEarlier}
+use Rattle.qm_mesh.specs.Pairs.{IsPartner, Runs, AreDarts, AreMarked, IsTwice, NoneTwice, IsFirstAt, IsFirstBelow}
+use Rattle.qm_mesh.specs.Pairs.{MarksOne, IsEarlier}
 use Rattle.list_laws.proofs.Filters.{last_or}
 use Rattle.mesh_laws.proofs.Fans.{IsFan, earlier_place}
 use Rattle.mesh_laws.proofs.Darts.{next_of_low, prev_of-next_of}
@@ -21,17 +23,20 @@ pub record IsMark (faces : Faces) (v : ℕ) (by_end : List ℕ) (d : ℕ) : Type
 
 -- The first two darts along one edge among the first i of the fan.
 abbrev pub FirstBefore : Faces → ℕ → List ℕ → ℕ → Option Doubled → Type 0
-FirstBefore faces v fan i None = (j t : ℕ) → t < i → j < get_or fan t 0 → from_of faces j ≡ v → ¬ IsSameEdge faces j (get_or fan t 0)
+FirstBefore faces v fan i None = (j t : ℕ) → t < i → j < get_or fan t 0 → from_of faces j ≡ v
+    → ¬ IsSameEdge faces j (get_or fan t 0)
 FirstBefore faces v fan i (Some p) = IsTwice faces p.earlier p.later × NoneTwice faces v p.later
 
 -- The first i darts of the fan of v have been taken.
-pub record AreMarkedBefore (faces : Faces) (v : ℕ) (fan : List ℕ) (i : ℕ) (by_end : List ℕ) (twice : Option Doubled) : Type 0 where
+pub record AreMarkedBefore (faces : Faces) (v : ℕ) (fan : List ℕ) (i : ℕ) (by_end : List ℕ)
+    (twice : Option Doubled) : Type 0 where
   pub darts : AreDarts faces by_end
   pub marks : (t : ℕ) → t < i → IsMark faces v by_end (get_or fan t 0)
   pub first : FirstBefore faces v fan i twice
 
 -- Dart d stands at its end, or a lesser dart that runs as it does: the table where d had none.
-put_darts : (faces : Faces) (old : List ℕ) (at d : ℕ) → AreDarts faces old → d < darts faces → AreDarts faces (set old at d)
+put_darts : (faces : Faces) (old : List ℕ) (at d : ℕ) → AreDarts faces old → d < darts faces
+    → AreDarts faces (set old at d)
 put_darts faces old at d all low u p = elim (cases_eq u at) [
   | inl s ↦ elim (cases_lt at (length old)) [
     | inl l ↦ rw (s, get_or-set_same old at d 0 l) low
@@ -40,58 +45,101 @@ put_darts faces old at d all low u p = elim (cases_eq u at) [
   | inr ne ↦ rw (get_or-set_other old at u d 0 ne) (all u p)
 ]
 
-put_marks : (faces : Faces) (v : ℕ) (fan : List ℕ) → IsFan faces v fan → (i : ℕ) (old : List ℕ) → i < length fan → to_of faces (get_or fan i 0) < length old → ((t : ℕ) → t < i → IsMark faces v old (get_or fan t 0)) → (get_or old (to_of faces (get_or fan i 0)) 0 < get_or fan i 0 → ¬ Runs faces (get_or old (to_of faces (get_or fan i 0)) 0) v (to_of faces (get_or fan i 0))) → (t : ℕ) → t < i + 1 → IsMark faces v (set old (to_of faces (get_or fan i 0)) (get_or fan i 0)) (get_or fan t 0)
+put_marks : (faces : Faces) (v : ℕ) (fan : List ℕ) → IsFan faces v fan → (i : ℕ) (old : List ℕ) → i < length fan
+    → to_of faces (get_or fan i 0) < length old → ((t : ℕ) → t < i → IsMark faces v old (get_or fan t 0))
+    → (get_or old (to_of faces (get_or fan i 0)) 0 < get_or fan i 0
+    → ¬ Runs faces (get_or old (to_of faces (get_or fan i 0)) 0) v (to_of faces (get_or fan i 0))) → (t : ℕ)
+    → t < i + 1 → IsMark faces v (set old (to_of faces (get_or fan i 0)) (get_or fan i 0)) (get_or fan t 0)
 put_marks faces v fan h i old l low marks new t k = by_place t k (last_or i t k)
   where
-    by_place : (t : ℕ) → t < i + 1 → (t < i) ⊎ (t ≡ i) → IsMark faces v (set old (to_of faces (get_or fan i 0)) (get_or fan i 0)) (get_or fan t 0)
-    by_place t k (inr s) = subst (λ (x : ℕ). IsMark faces v (set old (to_of faces (get_or fan i 0)) (get_or fan i 0)) (get_or fan x 0)) (sym s)
-        (let g : get_or (set old (to_of faces (get_or fan i 0)) (get_or fan i 0)) (to_of faces (get_or fan i 0)) 0 ≡ get_or fan i 0 = get_or-set_same old _ _ 0 low in
+    by_place : (t : ℕ) → t < i + 1 → (t < i) ⊎ (t ≡ i)
+        → IsMark faces v (set old (to_of faces (get_or fan i 0)) (get_or fan i 0)) (get_or fan t 0)
+    by_place t k (inr s) = subst (λ (x : ℕ). IsMark faces v (set old (to_of faces (get_or fan i 0)) (get_or fan i 0))
+        (get_or fan x 0)) (sym s)
+        (let g : get_or (set old (to_of faces (get_or fan i 0)) (get_or fan i 0)) (to_of faces (get_or fan i 0)) 0
+        ≡ get_or fan i 0 = get_or-set_same old _ _ 0 low in
         record { runs = (ap (from_of faces) g ∙ h.leaves i l, ap (to_of faces) g); least = omega (arith, g) })
     by_place t k (inl b) = elim (cases_eq (to_of faces (get_or fan t 0)) (to_of faces (get_or fan i 0))) [
       | inl s ↦ absurd (new
           (omega (arith, ap (λ x. get_or old x 0) s, (marks t b).least, h.increasing t i b l))
           (subst (λ (x : ℕ). Runs faces (get_or old x 0) v x) s (marks t b).runs))
-      | inr ne ↦ let g : get_or (set old (to_of faces (get_or fan i 0)) (get_or fan i 0)) (to_of faces (get_or fan t 0)) 0 ≡ get_or old (to_of faces (get_or fan t 0)) 0 = get_or-set_other old _ _ _ 0 ne in
-          record { runs = subst (λ (x : ℕ). Runs faces x v (to_of faces (get_or fan t 0))) (sym g) (marks t b).runs; least = omega (arith, g, (marks t b).least) }
+      | inr ne ↦ let g : get_or (set old (to_of faces (get_or fan i 0)) (get_or fan i 0)) (to_of faces (get_or fan t 0))
+          0 ≡ get_or old (to_of faces (get_or fan t 0)) 0 = get_or-set_other old _ _ _ 0 ne in
+          record {
+            runs = subst (λ (x : ℕ). Runs faces x v (to_of faces (get_or fan t 0))) (sym g) (marks t b).runs;
+            least = omega (arith, g, (marks t b).least);
+          }
     ]
 
 -- No dart before d runs as it does.
-put_none : (faces : Faces) (v : ℕ) (fan : List ℕ) → IsFan faces v fan → (i : ℕ) (old : List ℕ) → i < length fan → ((t : ℕ) → t < i → IsMark faces v old (get_or fan t 0)) → (get_or old (to_of faces (get_or fan i 0)) 0 < get_or fan i 0 → ¬ Runs faces (get_or old (to_of faces (get_or fan i 0)) 0) v (to_of faces (get_or fan i 0))) → (j : ℕ) → j < get_or fan i 0 → from_of faces j ≡ v → ¬ IsSameEdge faces j (get_or fan i 0)
+put_none : (faces : Faces) (v : ℕ) (fan : List ℕ) → IsFan faces v fan → (i : ℕ) (old : List ℕ) → i < length fan
+    → ((t : ℕ) → t < i → IsMark faces v old (get_or fan t 0))
+    → (get_or old (to_of faces (get_or fan i 0)) 0 < get_or fan i 0
+    → ¬ Runs faces (get_or old (to_of faces (get_or fan i 0)) 0) v (to_of faces (get_or fan i 0))) → (j : ℕ)
+    → j < get_or fan i 0 → from_of faces j ≡ v → ¬ IsSameEdge faces j (get_or fan i 0)
 put_none faces v fan h i old l marks new j low start same =
-    let p : (r : ℕ) × (r < i) × (get_or fan r 0 ≡ j) = earlier_place faces v fan h i j l low start in at_mark p.0 p.1 p.2
+    let p : (r : ℕ) × (r < i) × (get_or fan r 0 ≡ j) = earlier_place faces v fan h i j l low start in
+    at_mark p.0 p.1 p.2
   where
     at_mark : (s : ℕ) → s < i → get_or fan s 0 ≡ j → ⊥
     at_mark s b e = new
         (omega (arith, ap (λ x. get_or old x 0) (ap (to_of faces) e ∙ same.1), (marks s b).least))
         (subst (λ (x : ℕ). Runs faces (get_or old x 0) v x) (ap (to_of faces) e ∙ same.1) (marks s b).runs)
 
-put_first : (faces : Faces) (v : ℕ) (fan : List ℕ) (i : ℕ) → ((j : ℕ) → j < get_or fan i 0 → from_of faces j ≡ v → ¬ IsSameEdge faces j (get_or fan i 0)) → (o : Option Doubled) → FirstBefore faces v fan i o → FirstBefore faces v fan (i + 1) (option_or o None)
+put_first : (faces : Faces) (v : ℕ) (fan : List ℕ) (i : ℕ) → ((j : ℕ) → j < get_or fan i 0 → from_of faces j ≡ v
+    → ¬ IsSameEdge faces j (get_or fan i 0)) → (o : Option Doubled) → FirstBefore faces v fan i o
+    → FirstBefore faces v fan (i + 1) (option_or o None)
 put_first faces v fan i here (Some p) is = is
 put_first faces v fan i here None none = λ j t k. by_place j t (last_or i t k)
   where
-    by_place : (j t : ℕ) → (t < i) ⊎ (t ≡ i) → j < get_or fan t 0 → from_of faces j ≡ v → ¬ IsSameEdge faces j (get_or fan t 0)
+    by_place : (j t : ℕ) → (t < i) ⊎ (t ≡ i) → j < get_or fan t 0 → from_of faces j ≡ v
+        → ¬ IsSameEdge faces j (get_or fan t 0)
     by_place j t (inl b) = none j t b
-    by_place j t (inr s) = subst (λ (x : ℕ). j < get_or fan x 0 → from_of faces j ≡ v → ¬ IsSameEdge faces j (get_or fan x 0)) (sym s) (here j)
+    by_place j t (inr s) = subst (λ (x : ℕ). j < get_or fan x 0 → from_of faces j ≡ v
+        → ¬ IsSameEdge faces j (get_or fan x 0)) (sym s) (here j)
 
 -- A lesser dart that runs as d does, at its end.
-kept_marks : (faces : Faces) (v : ℕ) (fan old : List ℕ) (i m : ℕ) → ((t : ℕ) → t < i → IsMark faces v old (get_or fan t 0)) → m ≡ get_or old (to_of faces (get_or fan i 0)) 0 → m < get_or fan i 0 → Runs faces m v (to_of faces (get_or fan i 0)) → (t : ℕ) → t < i + 1 → IsMark faces v old (get_or fan t 0)
+kept_marks : (faces : Faces) (v : ℕ) (fan old : List ℕ) (i m : ℕ)
+    → ((t : ℕ) → t < i → IsMark faces v old (get_or fan t 0)) → m ≡ get_or old (to_of faces (get_or fan i 0)) 0
+    → m < get_or fan i 0 → Runs faces m v (to_of faces (get_or fan i 0)) → (t : ℕ) → t < i + 1
+    → IsMark faces v old (get_or fan t 0)
 kept_marks faces v fan old i m marks e low runs t k = by_place t (last_or i t k)
   where
     by_place : (t : ℕ) → (t < i) ⊎ (t ≡ i) → IsMark faces v old (get_or fan t 0)
     by_place t (inl b) = marks t b
-    by_place t (inr s) = subst (λ (x : ℕ). IsMark faces v old (get_or fan x 0)) (sym s) (record { runs = subst (λ (x : ℕ). Runs faces x v (to_of faces (get_or fan i 0))) e runs; least = omega (arith, e) })
+    by_place t (inr s) = subst (λ (x : ℕ). IsMark faces v old (get_or fan x 0)) (sym s)
+        (record {
+          runs = subst (λ (x : ℕ). Runs faces x v (to_of faces (get_or fan i 0))) e runs;
+          least =
+              omega (arith, e);
+        })
 
-found_first : (faces : Faces) (v : ℕ) (fan : List ℕ) → IsFan faces v fan → (i m d : ℕ) → i < length fan → d ≡ get_or fan i 0 → m < get_or fan i 0 → Runs faces m v (to_of faces (get_or fan i 0)) → (o : Option Doubled) → FirstBefore faces v fan i o → FirstBefore faces v fan (i + 1) (option_or o (Some (record { earlier = m; later = d })))
+found_first : (faces : Faces) (v : ℕ) (fan : List ℕ) → IsFan faces v fan → (i m d : ℕ) → i < length fan
+    → d ≡ get_or fan i 0 → m < get_or fan i 0 → Runs faces m v (to_of faces (get_or fan i 0)) → (o : Option Doubled)
+    → FirstBefore faces v fan i o
+    → FirstBefore faces v fan (i + 1) (option_or o (Some (record { earlier = m; later = d })))
 found_first faces v fan h i m d l e low runs (Some p) is = is
-found_first faces v fan h i m d l e low runs None none = (record { before = omega (arith, e); is_dart = omega (arith, e, h.dart i l); same = (runs.0 ∙ sym (h.leaves i l) ∙ ap (from_of faces) (sym e), runs.1 ∙ ap (to_of faces) (sym e)) }, nothing)
+found_first faces v fan h i m d l e low runs None none = (
+  record {
+    before = omega (arith, e);
+    is_dart = omega (arith, e, h.dart i l);
+    same =
+        (runs.0 ∙ sym (h.leaves i l) ∙ ap (from_of faces) (sym e), runs.1 ∙ ap (to_of faces) (sym e));
+  },
+  nothing,
+)
   where
     nothing : NoneTwice faces v d
     nothing j k less below start same =
-        let p : (r : ℕ) × (r < i) × (get_or fan r 0 ≡ k) = earlier_place faces v fan h i k l (omega (arith, e)) (sym same.0 ∙ start) in
+        let p : (r : ℕ) × (r < i) × (get_or fan r 0 ≡ k) =
+        earlier_place faces v fan h i k l (omega (arith, e)) (sym same.0 ∙ start) in
         none j p.0 p.1 (omega (arith, p.2)) start (subst (λ (x : ℕ). IsSameEdge faces j x) (sym p.2) same)
 
 -- One dart more of the fan.
-pub mark_more : (faces : Faces) (v : ℕ) (fan : List ℕ) → IsFan faces v fan → (i : ℕ) (old new : List ℕ) (twice found : Option Doubled) → i < length fan → to_of faces (get_or fan i 0) < length old → AreMarkedBefore faces v fan i old twice → MarksOne faces v (get_or fan i 0) old new found → AreMarkedBefore faces v fan (i + 1) new (option_or twice found)
+pub mark_more : (faces : Faces) (v : ℕ) (fan : List ℕ) → IsFan faces v fan
+    → (i : ℕ) (old new : List ℕ) (twice found : Option Doubled) → i < length fan → to_of faces (get_or fan i 0)
+    < length old → AreMarkedBefore faces v fan i old twice → MarksOne faces v (get_or fan i 0) old new found
+    → AreMarkedBefore faces v fan (i + 1) new (option_or twice found)
 mark_more faces v fan h i old new twice None l low b m = rw m.0 (record {
   darts = put_darts faces old _ _ b.darts (h.dart i l);
   marks = put_marks faces v fan h i old l low b.marks m.1;
@@ -104,16 +152,22 @@ mark_more faces v fan h i old new twice (Some q) l low b m = rw m.0 (record {
 })
 
 -- The whole fan has been taken.
-pub marked_all : (faces : Faces) (v : ℕ) (fan : List ℕ) → IsFan faces v fan → (i : ℕ) (by_end : List ℕ) (twice : Option Doubled) → length fan ≤ i → AreMarkedBefore faces v fan i by_end twice → AreMarked faces v by_end
+pub marked_all : (faces : Faces) (v : ℕ) (fan : List ℕ) → IsFan faces v fan
+    → (i : ℕ) (by_end : List ℕ) (twice : Option Doubled) → length fan ≤ i → AreMarkedBefore faces v fan i by_end twice
+    → AreMarked faces v by_end
 marked_all faces v fan h i by_end twice l b d low e =
     let p : (t : ℕ) × (t < length fan) × (get_or fan t 0 ≡ d) = h.place d low e in
-    subst (λ (x : ℕ). Runs faces (get_or by_end (to_of faces x) 0) v (to_of faces x)) p.2 (b.marks p.0 (omega (arith, p.1))).runs
+    subst (λ (x : ℕ). Runs faces (get_or by_end (to_of faces x) 0) v (to_of faces x)) p.2
+    (b.marks p.0 (omega (arith, p.1))).runs
 
-pub first_of_all : (faces : Faces) (v : ℕ) (fan : List ℕ) → IsFan faces v fan → (i : ℕ) (by_end : List ℕ) (twice : Option Doubled) → length fan ≤ i → AreMarkedBefore faces v fan i by_end twice → IsFirstAt faces v twice
+pub first_of_all : (faces : Faces) (v : ℕ) (fan : List ℕ) → IsFan faces v fan
+    → (i : ℕ) (by_end : List ℕ) (twice : Option Doubled) → length fan ≤ i → AreMarkedBefore faces v fan i by_end twice
+    → IsFirstAt faces v twice
 first_of_all faces v fan h i by_end (Some p) l b = b.first
 first_of_all faces v fan h i by_end None l b = λ j k less below start same.
     let p : (r : ℕ) × (r < length fan) × (get_or fan r 0 ≡ k) = h.place k below (sym same.0 ∙ start) in
-    b.first j p.0 (omega (arith, p.1)) (omega (arith, p.2)) start (subst (λ (x : ℕ). IsSameEdge faces j x) (sym p.2) same)
+    b.first j p.0 (omega (arith, p.1)) (omega (arith, p.2)) start (subst (λ (x : ℕ). IsSameEdge faces j x) (sym p.2)
+    same)
 
 -- The darts that arrive before the first i corners of v have their partners, and no dart that ends elsewhere changed.
 pub record ArePairedBefore (faces : Faces) (v : ℕ) (fan : List ℕ) (i : ℕ) (old new : List ℕ) : Type 0 where
@@ -121,13 +175,20 @@ pub record ArePairedBefore (faces : Faces) (v : ℕ) (fan : List ℕ) (i : ℕ) 
   pub others : (e : ℕ) → to_of faces e ≢ v → get_or new e 0 ≡ get_or old e 0
 
 -- The partner of the dart before the corner at place i is written.
-pub pair_more : (faces : Faces) (v : ℕ) (fan : List ℕ) (i : ℕ) (old now : List ℕ) (e t : ℕ) → e ≡ prev_of (get_or fan i 0) → e < length now → to_of faces e ≡ v → IsPartner faces e t → ArePairedBefore faces v fan i old now → ArePairedBefore faces v fan (i + 1) old (set now e t)
-pair_more faces v fan i old now e t is_prev low ends is b = record { each = λ s k. at s (last_or i s k); others = others }
+pub pair_more : (faces : Faces) (v : ℕ) (fan : List ℕ) (i : ℕ) (old now : List ℕ) (e t : ℕ)
+    → e ≡ prev_of (get_or fan i 0) → e < length now → to_of faces e ≡ v → IsPartner faces e t
+    → ArePairedBefore faces v fan i old now → ArePairedBefore faces v fan (i + 1) old (set now e t)
+pair_more faces v fan i old now e t is_prev low ends is b = record {
+  each = λ s k. at s (last_or i s k);
+  others =
+      others;
+}
   where
     here : (d : ℕ) → d ≡ e → IsPartner faces d (get_or (set now e t) d 0)
     here d s = rw (s, get_or-set_same now e t 0 low) is
 
-    at : (s : ℕ) → (s < i) ⊎ (s ≡ i) → IsPartner faces (prev_of (get_or fan s 0)) (get_or (set now e t) (prev_of (get_or fan s 0)) 0)
+    at : (s : ℕ) → (s < i) ⊎ (s ≡ i)
+        → IsPartner faces (prev_of (get_or fan s 0)) (get_or (set now e t) (prev_of (get_or fan s 0)) 0)
     at s (inr q) = here _ (ap (λ x. prev_of (get_or fan x 0)) q ∙ sym is_prev)
     at s (inl l) = elim (cases_eq (prev_of (get_or fan s 0)) e) [
       | inl q ↦ here _ q
@@ -137,39 +198,61 @@ pair_more faces v fan i old now e t is_prev low ends is b = record { each = λ s
     others : (d : ℕ) → to_of faces d ≢ v → get_or (set now e t) d 0 ≡ get_or old d 0
     others d ne = get_or-set_other now e d t 0 (λ s. ne (ap (to_of faces) s ∙ ends)) ∙ b.others d ne
 
-pub paired_all : (faces : Faces) (v : ℕ) (fan : List ℕ) → IsFan faces v fan → (i : ℕ) (old now : List ℕ) → length fan ≤ i → ArePairedBefore faces v fan i old now → (e : ℕ) → e < darts faces → to_of faces e ≡ v → IsPartner faces e (get_or now e 0)
+pub paired_all : (faces : Faces) (v : ℕ) (fan : List ℕ) → IsFan faces v fan → (i : ℕ) (old now : List ℕ)
+    → length fan ≤ i → ArePairedBefore faces v fan i old now → (e : ℕ) → e < darts faces → to_of faces e ≡ v
+    → IsPartner faces e (get_or now e 0)
 paired_all faces v fan h i old now l b e low ends =
-    let p : (t : ℕ) × (t < length fan) × (get_or fan t 0 ≡ next_of e) = h.place (next_of e) (next_of_low faces e low) ends in
-    subst (λ (x : ℕ). IsPartner faces x (get_or now x 0)) (ap prev_of p.2 ∙ prev_of-next_of e) (b.each p.0 (omega (arith, p.1)))
+    let p : (t : ℕ) × (t < length fan) × (get_or fan t 0 ≡ next_of e) =
+    h.place (next_of e) (next_of_low faces e low) ends in
+    subst (λ (x : ℕ). IsPartner faces x (get_or now x 0)) (ap prev_of p.2 ∙ prev_of-next_of e)
+    (b.each p.0 (omega (arith, p.1)))
 
 -- Fewer darts, fewer that follow another.
 fewer : (faces : Faces) (v m n : ℕ) → n ≤ m → NoneTwice faces v m → NoneTwice faces v n
 fewer faces v m n l none j k less below start same = none j k less (omega arith) start same
 
 -- One vertex more.
-one_more : (faces : Faces) (v top : ℕ) → ((u : ℕ) → u < v → NoneTwice faces u top) → NoneTwice faces v top → (u : ℕ) → u < v + 1 → NoneTwice faces u top
-one_more faces v top before here u l = elim (last_or v u l) [ inl b ↦ before u b | inr s ↦ subst (λ (x : ℕ). NoneTwice faces x top) (sym s) here ]
+one_more : (faces : Faces) (v top : ℕ) → ((u : ℕ) → u < v → NoneTwice faces u top) → NoneTwice faces v top → (u : ℕ)
+    → u < v + 1 → NoneTwice faces u top
+one_more faces v top before here u l =
+    elim (last_or v u l) [ inl b ↦ before u b | inr s ↦ subst (λ (x : ℕ). NoneTwice faces x top) (sym s) here ]
 
-pub lesser_first : (faces : Faces) (v : ℕ) (a b c : Option Doubled) → IsFirstBelow faces v a → IsFirstAt faces v b → IsEarlier a b c → IsFirstBelow faces (v + 1) c
-lesser_first faces v None None c below here e = subst (λ (x : Option Doubled). IsFirstBelow faces (v + 1) x) (sym e) (one_more faces v (darts faces) below here)
-lesser_first faces v None (Some q) c below here e = subst (λ (x : Option Doubled). IsFirstBelow faces (v + 1) x) (sym e)
-    (here.0, one_more faces v q.later (λ u l. fewer faces u (darts faces) q.later (omega (arith, here.0.is_dart)) (below u l)) here.1)
-lesser_first faces v (Some p) None c below here e = subst (λ (x : Option Doubled). IsFirstBelow faces (v + 1) x) (sym e)
-    (below.0, one_more faces v p.later below.1 (fewer faces v (darts faces) p.later (omega (arith, below.0.is_dart)) here))
-lesser_first faces v (Some p) (Some q) c below here (inl e) = subst (λ (x : Option Doubled). IsFirstBelow faces (v + 1) x) (sym e.1)
+pub lesser_first : (faces : Faces) (v : ℕ) (a b c : Option Doubled) → IsFirstBelow faces v a → IsFirstAt faces v b
+    → IsEarlier a b c → IsFirstBelow faces (v + 1) c
+lesser_first faces v None None c below here e = subst (λ (x : Option Doubled). IsFirstBelow faces (v + 1) x) (sym e)
+    (one_more faces v (darts faces) below here)
+lesser_first faces v None (Some q) c below here e =
+    subst (λ (x : Option Doubled). IsFirstBelow faces (v + 1) x) (sym e) (
+      here.0,
+      one_more faces v q.later (λ u l. fewer faces u (darts faces) q.later (omega (arith, here.0.is_dart))
+          (below u l)) here.1,
+    )
+lesser_first faces v (Some p) None c below here e =
+    subst (λ (x : Option Doubled). IsFirstBelow faces (v + 1) x) (sym e) (
+      below.0,
+      one_more faces v p.later below.1 (fewer faces v (darts faces) p.later (omega (arith, below.0.is_dart))
+          here),
+    )
+lesser_first faces v (Some p) (Some q) c below here (inl e) =
+    subst (λ (x : Option Doubled). IsFirstBelow faces (v + 1) x) (sym e.1)
     (here.0, one_more faces v q.later (λ u l. fewer faces u p.later q.later (omega (arith, e.0)) (below.1 u l)) here.1)
-lesser_first faces v (Some p) (Some q) c below here (inr e) = subst (λ (x : Option Doubled). IsFirstBelow faces (v + 1) x) (sym e.1)
+lesser_first faces v (Some p) (Some q) c below here (inr e) =
+    subst (λ (x : Option Doubled). IsFirstBelow faces (v + 1) x) (sym e.1)
     (below.0, one_more faces v p.later below.1 (fewer faces v q.later p.later (omega (arith, e.0)) here.1))
 
 -- Partners of the darts that arrive at the vertices below v, and at v.
-pub each_more : (faces : Faces) (v : ℕ) (old new : List ℕ) → ((e : ℕ) → e < darts faces → to_of faces e < v → IsPartner faces e (get_or old e 0)) → ((e : ℕ) → e < darts faces → to_of faces e ≡ v → IsPartner faces e (get_or new e 0)) → ((e : ℕ) → to_of faces e ≢ v → get_or new e 0 ≡ get_or old e 0) → (e : ℕ) → e < darts faces → to_of faces e < v + 1 → IsPartner faces e (get_or new e 0)
+pub each_more : (faces : Faces) (v : ℕ) (old new : List ℕ) → ((e : ℕ) → e < darts faces → to_of faces e < v
+    → IsPartner faces e (get_or old e 0)) → ((e : ℕ) → e < darts faces → to_of faces e ≡ v
+    → IsPartner faces e (get_or new e 0)) → ((e : ℕ) → to_of faces e ≢ v → get_or new e 0 ≡ get_or old e 0) → (e : ℕ)
+    → e < darts faces → to_of faces e < v + 1 → IsPartner faces e (get_or new e 0)
 each_more faces v old new before here others e low ends = elim (last_or v (to_of faces e) ends) [
   | inl b ↦ rw (others e (λ s. absurd (omega arith))) (before e low b)
   | inr s ↦ here e low s
 ]
 
 -- All vertices have been taken, and no edge was met twice.
-pub edges_once_from : (faces : Faces) (n : ℕ) → NamesBelow n faces → ((u : ℕ) → u < n → NoneTwice faces u (darts faces)) → HasEdgesOnce faces
+pub edges_once_from : (faces : Faces) (n : ℕ) → NamesBelow n faces → ((u : ℕ) → u < n → NoneTwice faces u (darts faces))
+    → HasEdgesOnce faces
 edges_once_from faces n within none d e low high same = elim (cases_order d e) [
   | inl s ↦ s
   | inr r ↦ elim r [
@@ -179,7 +262,8 @@ edges_once_from faces n within none d e low high same = elim (cases_order d e) [
 ]
 
 -- Or they were met first at d and e.
-pub first_twice_from : (faces : Faces) (n d e : ℕ) → NamesBelow n faces → IsTwice faces d e → ((u : ℕ) → u < n → NoneTwice faces u e) → IsFirstTwice faces d e
+pub first_twice_from : (faces : Faces) (n d e : ℕ) → NamesBelow n faces → IsTwice faces d e
+    → ((u : ℕ) → u < n → NoneTwice faces u e) → IsFirstTwice faces d e
 first_twice_from faces n d e within is none = record {
   is_dart = is.is_dart;
   before = is.before;

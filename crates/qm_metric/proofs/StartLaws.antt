@@ -1,5 +1,6 @@
 -- The old lengths times the floor start the descent whatever lengths are wished for.
-use Rattle.std.proofs.Common.{◌≡◌, ℕ, ◌+◌, ◌*◌, ◌^◌, ◌<◌, ◌≤◌, List, [], length, pos, ◌-ℤ◌, ◌*ℤ◌, ◌≤ℤ◌, sym, ap, ◌∙◌, mul-one, arith}
+use Rattle.std.proofs.Common.{◌≡◌, ℕ, ◌+◌, ◌*◌, ◌^◌, ◌<◌, ◌≤◌, List, [], length, pos, ◌-ℤ◌, ◌*ℤ◌, ◌≤ℤ◌, sym, ap, ◌∙◌}
+use Rattle.std.proofs.Common.{mul-one, arith}
 use Rattle.std.specs.Prelude.{unsigned_abs}
 use Rattle.std.proofs.Math.Nat.{mul-le-mul_left, mul-le-mul_right}
 use Rattle.std.proofs.lemmas.Nat.{mul-le}
@@ -56,20 +57,25 @@ module _
   len = lengths_of plan is.mesh
 
   entry : (a : ℕ) → a < length plan.arcs → entries xs a ≡ pos (settings.floor * x a)
-  entry a low = ap pos (get_or-map (λ (run : Path). settings.floor * length run.darts) plan.arcs a (record { first = 0; last = 0; darts = [] }) 0 low)
+  entry a low = ap pos (get_or-map (λ (run : Path). settings.floor * length run.darts) plan.arcs a
+      (record { first = 0; last = 0; darts = [] }) 0 low)
 
   -- Opposite sides are equal.
   along : (p : ℕ) (s : Way) → p < l.patches → sum_along l (entries xs) p s ≡ pos (settings.floor * size l x p s)
   along p s low =
-      total_below_same (λ k. entries xs (l.use_at p s k).arc) (λ k. pos (settings.floor * x (l.use_at p s k).arc)) (l.many p s)
-      (λ k less. entry (l.use_at p s k).arc (laid.paved.arc_low (record { patch = p; side = s; at = k }) (record { patch_low = low; low = less })))
+      total_below_same (λ k. entries xs (l.use_at p s k).arc) (λ k. pos (settings.floor * x (l.use_at p s k).arc))
+      (l.many p s)
+      (λ k less. entry (l.use_at p s k).arc (laid.paved.arc_low (record { patch = p; side = s; at = k })
+      (record { patch_low = low; low = less })))
       ∙ sym (count_below_total (λ k. settings.floor * x (l.use_at p s k).arc) (l.many p s))
       ∙ ap pos (count_below_times settings.floor (λ k. x (l.use_at p s k).arc) (l.many p s))
 
   balanced : IsBalanced net.arcs (entries xs)
   balanced = (balance_law l (long_at plan.arcs) (wish plan) settings net laid is.is (entries xs)).1 (record {
-    across = λ p low. along p south low ∙ (ap (λ n. pos (settings.floor * n)) (sym (len.across p low)) ∙ sym (along p north low));
-    upright = λ p low. along p east low ∙ (ap (λ n. pos (settings.floor * n)) (len.upright p low) ∙ sym (along p west low));
+    across = λ p low. along p south low ∙ (ap (λ n. pos (settings.floor * n)) (sym (len.across p low))
+        ∙ sym (along p north low));
+    upright = λ p low. along p east low ∙ (ap (λ n. pos (settings.floor * n)) (len.upright p low)
+        ∙ sym (along p west low));
   })
 
   arc_low : (k : ℕ) → k < length net.arcs → k < length plan.arcs
@@ -78,36 +84,47 @@ module _
   -- No length is below the floor.
   tall : (k : ℕ) → k < length net.arcs → pos net.floor ≤ℤ entries xs k
   tall k low =
-      let some : settings.floor * 1 ≤ settings.floor * x k = mul-le-mul_left settings.floor (len.some k (arc_low k low)) in
+      let some : settings.floor * 1 ≤ settings.floor * x k =
+      mul-le-mul_left settings.floor (len.some k (arc_low k low)) in
       rw (entry k (arc_low k low)) (omega (arith, ints, some, mul-one settings.floor, is.is.floor))
 
   -- How far an arc is from its wish.
-  far : (k : ℕ) → k < length net.arcs → arc_deviation net (arc_at net.arcs k) (entries xs k) ≤ 1000 * (3000 * x k + wish plan k)
+  far : (k : ℕ) → k < length net.arcs → arc_deviation net (arc_at net.arcs k) (entries xs k)
+      ≤ 1000 * (3000 * x k + wish plan k)
   far k low =
       let inner : k < length plan.arcs = arc_low k low in
       let same : arc_deviation net (arc_at net.arcs k) (entries xs k)
-      ≡ weight_of settings.weight (x k) * unsigned_abs (pos 1000 *ℤ pos (settings.floor * x k) -ℤ pos (1 * wish plan k)) =
-      (λ i. is.is.weights k inner i * unsigned_abs (pos ((is.is.q ∙ parts) i) *ℤ entry k inner i -ℤ pos ((is.is.p ∙ unit) i * is.is.olds k inner i))) in
-      let high : settings.floor * x k ≤ 3 * x k = mul-le-mul_right (x k) (omega (arith, is.is.floor, is.bounds.floor_high)) in
-      let few : unsigned_abs (pos 1000 *ℤ pos (settings.floor * x k) -ℤ pos (1 * wish plan k)) ≤ 3000 * x k + wish plan k = omega (arith, ints, high) in
-      let both = mul-le (weight_of settings.weight (x k)) (unsigned_abs (pos 1000 *ℤ pos (settings.floor * x k) -ℤ pos (1 * wish plan k)))
+      ≡ weight_of settings.weight (x k) * unsigned_abs (pos 1000 *ℤ pos (settings.floor * x k) -ℤ pos
+      (1 * wish plan k)) =
+      (λ i. is.is.weights k inner i * unsigned_abs (pos ((is.is.q ∙ parts) i) *ℤ entry k inner i -ℤ pos
+      ((is.is.p ∙ unit) i * is.is.olds k inner i))) in
+      let high : settings.floor * x k ≤ 3 * x k =
+      mul-le-mul_right (x k) (omega (arith, is.is.floor, is.bounds.floor_high)) in
+      let few : unsigned_abs (pos 1000 *ℤ pos (settings.floor * x k) -ℤ pos (1 * wish plan k))
+      ≤ 3000 * x k + wish plan k = omega (arith, ints, high) in
+      let both = mul-le (weight_of settings.weight (x k))
+      (unsigned_abs (pos 1000 *ℤ pos (settings.floor * x k) -ℤ pos (1 * wish plan k)))
       1000 (3000 * x k + wish plan k) (weight_low settings.weight (x k)) few in
       omega (arith, same, both)
 
   all_far : deviation net (entries xs) ≤ 1000 * (3000 * 2 ^ 23 + MAX_TARGETS)
   all_far =
-      let each = count_below_le (λ k. arc_deviation net (arc_at net.arcs k) (entries xs k)) (λ k. 1000 * (3000 * x k + wish plan k)) (length net.arcs) far in
+      let each = count_below_le (λ k. arc_deviation net (arc_at net.arcs k) (entries xs k))
+      (λ k. 1000 * (3000 * x k + wish plan k)) (length net.arcs) far in
       let heavy = count_below_times 1000 (λ k. 3000 * x k + wish plan k) (length net.arcs) in
       let sum = count_below_sum (λ k. 3000 * x k) (wish plan) (length net.arcs) in
       let times = count_below_times 3000 x (length net.arcs) in
-      let lengths : count_below x (length net.arcs) ≡ count_below x (length plan.arcs) = ap (count_below x) is.is.long in
-      let wishes : count_below (wish plan) (length net.arcs) ≡ wish_sum wish plan = ap (count_below (wish plan)) is.is.long in
+      let lengths : count_below x (length net.arcs) ≡ count_below x (length plan.arcs) =
+      ap (count_below x) is.is.long in
+      let wishes : count_below (wish plan) (length net.arcs) ≡ wish_sum wish plan =
+      ap (count_below (wish plan)) is.is.long in
       omega (arith, each, heavy, sum, times, lengths, wishes, near, lengths_few plan is.mesh, is.mesh.mesh.few)
 
   close : (k : ℕ) → k < length net.arcs → net.p * (arc_at net.arcs k).old + deviation net (entries xs) ≤ 10 ^ 12 * net.q
   close k low =
       let inner : k < length plan.arcs = arc_low k low in
-      let wanted : net.p * (arc_at net.arcs k).old ≡ 1 * wish plan k = (λ i. (is.is.p ∙ unit) i * is.is.olds k inner i) in
+      let wanted : net.p * (arc_at net.arcs k).old ≡ 1 * wish plan k =
+      (λ i. (is.is.p ∙ unit) i * is.is.olds k inner i) in
       let part : wish plan k ≤ wish_sum wish plan = omega (arith, part_low (wish plan) k (length plan.arcs) inner) in
       omega (arith, wanted, part, near, all_far, is.is.q, parts)
 

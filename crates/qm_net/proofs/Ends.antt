@@ -1,5 +1,6 @@
 -- Counts of ends, one arc at a time.
-use Rattle.std.proofs.Common.{◌≡◌, ℕ, ◌+◌, ◌*◌, ◌^◌, ◌<◌, ◌≤◌, ◌==◌, cond, List, [], ◌∷◌, length, take, Option, Some, None, ◌∙◌, ap, arith}
+use Rattle.std.proofs.Common.{◌≡◌, ℕ, ◌+◌, ◌*◌, ◌^◌, ◌<◌, ◌≤◌, ◌==◌, cond, List, [], ◌∷◌, length, take, Option, Some}
+use Rattle.std.proofs.Common.{None, ◌∙◌, ap, arith}
 use Rattle.std.specs.Prelude.{slice_index, slice_index_or, option_to_list}
 use Rattle.std.proofs.lemmas.List.{length-take-le}
 use Rattle.def_math.specs.Counts.{count, count_below}
@@ -14,8 +15,10 @@ use Rattle.qm_net.specs.Degrees.{ends_at}
 use Rattle.sum_laws.proofs.Tests.{once_at_most}
 
 -- Where one end after the other is counted, all ends of an arc are.
-pub one_end : (a : Arc) (old new : List ℕ) → a.right ≡ None → IsRaised (at_place a.left.node 1) old new → IsRaised (ends_at a) old new
-one_end a old new none raised = raised_as (at_place a.left.node 1) (ends_at a) old new (λ v l. rw none (omega arith)) raised
+pub one_end : (a : Arc) (old new : List ℕ) → a.right ≡ None → IsRaised (at_place a.left.node 1) old new
+    → IsRaised (ends_at a) old new
+one_end a old new none raised = raised_as (at_place a.left.node 1) (ends_at a) old new (λ v l. rw none (omega arith))
+    raised
 
 -- An arc has at most two ends at a node.
 pub ends_low : (v : ℕ) (a : Arc) → ends_at a v ≤ 2
@@ -31,17 +34,31 @@ degree_low [] v = omega arith
 degree_low (a ∷ arcs) v = omega (arith, ends_low v a, degree_low arcs v)
 
 -- Counts of ends are small.
-pub degrees_low : (nodes : ℕ) (arcs : List Arc) (degrees : List ℕ) → IsTally (degree arcs) nodes degrees → length arcs < 2 ^ 32 → (v : ℕ) → slice_index degrees v ≤ 2 ^ 34
-degrees_low nodes arcs degrees are few = tally_low (degree arcs) nodes (2 ^ 34) degrees are (λ v l. omega (arith, degree_low arcs v))
+pub degrees_low : (nodes : ℕ) (arcs : List Arc) (degrees : List ℕ) → IsTally (degree arcs) nodes degrees
+    → length arcs < 2 ^ 32 → (v : ℕ) → slice_index degrees v ≤ 2 ^ 34
+degrees_low nodes arcs degrees are few =
+    tally_low (degree arcs) nodes (2 ^ 34) degrees are (λ v l. omega (arith, degree_low arcs v))
 
 -- One arc more.
-pub degrees_more : (arcs : List Arc) (d : Arc) (k nodes : ℕ) (old new : List ℕ) → k < length arcs → IsTally (degree (take k arcs)) nodes old → IsRaised (ends_at (slice_index_or arcs k d)) old new → IsTally (degree (take (k + 1) arcs)) nodes new
-degrees_more arcs d k nodes old new l are raised = tally_more (degree (take k arcs)) (degree (take (k + 1) arcs)) (ends_at (slice_index_or arcs k d)) nodes old new (λ v lv. count_take (λ a. ends_at a v) d arcs k l) are raised
+pub degrees_more : (arcs : List Arc) (d : Arc) (k nodes : ℕ) (old new : List ℕ) → k < length arcs
+    → IsTally (degree (take k arcs)) nodes old → IsRaised (ends_at (slice_index_or arcs k d)) old new
+    → IsTally (degree (take (k + 1) arcs)) nodes new
+degrees_more arcs d k nodes old new l are raised = tally_more (degree (take k arcs)) (degree (take (k + 1) arcs))
+    (ends_at (slice_index_or arcs k d)) nodes old new (λ v lv. count_take (λ a. ends_at a v) d arcs k l) are raised
 
 -- Before the last arc the counts are smaller still.
-pub degrees_few : (arcs : List Arc) (k nodes : ℕ) (degrees : List ℕ) → k ≤ length arcs → IsTally (degree (take k arcs)) nodes degrees → (v : ℕ) → slice_index degrees v ≤ 2 * k
-degrees_few arcs k nodes degrees le are = tally_low (degree (take k arcs)) nodes (2 * k) degrees are (λ v l. omega (arith, degree_low (take k arcs) v, length-take-le k arcs))
+pub degrees_few : (arcs : List Arc) (k nodes : ℕ) (degrees : List ℕ) → k ≤ length arcs
+    → IsTally (degree (take k arcs)) nodes degrees → (v : ℕ) → slice_index degrees v ≤ 2 * k
+degrees_few arcs k nodes degrees le are =
+    tally_low (degree (take k arcs)) nodes (2 * k) degrees are (λ v l. omega (
+      arith,
+      degree_low (take k arcs) v,
+      length-take-le k arcs,
+    ))
 
 -- The squares of the counts of ends.
-pub squares : (nodes : ℕ) (arcs : List Arc) (degrees : List ℕ) → IsTally (degree arcs) nodes degrees → count_below (λ v. 16 * (slice_index degrees v * slice_index degrees v)) (length degrees) ≡ count_below (λ v. 16 * (degree arcs v * degree arcs v)) nodes
-squares nodes arcs degrees are = ap (count_below (λ v. 16 * (slice_index degrees v * slice_index degrees v))) are.count ∙ count_below_same _ _ nodes (λ v l. ap (λ d. 16 * (d * d)) (are.each v l))
+pub squares : (nodes : ℕ) (arcs : List Arc) (degrees : List ℕ) → IsTally (degree arcs) nodes degrees
+    → count_below (λ v. 16 * (slice_index degrees v * slice_index degrees v)) (length degrees)
+    ≡ count_below (λ v. 16 * (degree arcs v * degree arcs v)) nodes
+squares nodes arcs degrees are = ap (count_below (λ v. 16 * (slice_index degrees v * slice_index degrees v))) are.count
+    ∙ count_below_same _ _ nodes (λ v l. ap (λ d. 16 * (d * d)) (are.each v l))

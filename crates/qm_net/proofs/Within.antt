@@ -9,9 +9,13 @@ use Rattle.def_flow.specs.declared.net.Arc.{Arc}
 use Rattle.def_flow.specs.declared.net.End.{End}
 
 -- Each arc passes the test of its bounds.
-pub arc_bounded : (net : Network) → IsWithinBounds net → (k : ℕ) → k < length net.arcs → is_bounded net.nodes (arc_at net.arcs k) ≡ true
+pub arc_bounded : (net : Network) → IsWithinBounds net → (k : ℕ) → k < length net.arcs
+    → is_bounded net.nodes (arc_at net.arcs k) ≡ true
 arc_bounded net within k l = AllPass-from_list_all (is_bounded net.nodes) net.arcs within.arcs k _ l
 
 -- The ends of a bounded arc are at nodes.
-pub ends_bounded : (nodes : ℕ) (a : Arc) → is_bounded nodes a ≡ true → list_all (λ (e : End). nat_lt e.node nodes) (ends a) ≡ true
-ends_bounded nodes a on = (and_parts (nat_le 1 a.weight && nat_le a.weight 1000 && nat_le a.old 4000000000) (list_all (λ (e : End). nat_lt e.node nodes) (ends a)) on).1
+pub ends_bounded : (nodes : ℕ) (a : Arc) → is_bounded nodes a ≡ true
+    → list_all (λ (e : End). nat_lt e.node nodes) (ends a) ≡ true
+ends_bounded nodes a on =
+    (and_parts (nat_le 1 a.weight && nat_le a.weight 1000 && nat_le a.old 4000000000)
+    (list_all (λ (e : End). nat_lt e.node nodes) (ends a)) on).1

@@ -1,9 +1,11 @@
 -- The first group of physical lines is the logical line ahead.
-use Rattle.std.proofs.Common.{◌≡◌, ℕ, suc, ◌+◌, Bool, true, false, cond, List, [], ◌∷◌, ◌++◌, length, drop, slice_index_or, refl, sym, ap, ◌∙◌, arith}
+use Rattle.std.proofs.Common.{◌≡◌, ℕ, suc, ◌+◌, Bool, true, false, cond, List, [], ◌∷◌, ◌++◌, length, drop}
+use Rattle.std.proofs.Common.{slice_index_or, refl, sym, ap, ◌∙◌, arith}
 use Rattle.std.specs.List.{before_first, flat_map}
 use Rattle.std.proofs.lemmas.List.{append-nil, length-append}
 use Rattle.def_io.specs.Bytes.{Lines}
-use Rattle.def_text.specs.Logical.{continues, first_group, groups_of, is_hash, joined, logical, logical_lines, numbered_groups, part_of, with_line, with_space}
+use Rattle.def_text.specs.Logical.{continues, first_group, groups_of, is_hash, joined, logical, logical_lines}
+use Rattle.def_text.specs.Logical.{numbered_groups, part_of, with_line, with_space}
 use Rattle.qm_obj.specs.Ahead.{size_ahead, span, text_ahead}
 use Rattle.qm_obj.specs.Lines.{first_logical}
 
@@ -19,7 +21,8 @@ groups_step line [] = grind (arith)
 groups_step line (l ∷ ls) = ap (with_line line) (groups_step l ls) ∙ by_more (continues line) (groups_step l ls)
   where
     by_more : (t : Bool) → groups_of (l ∷ ls) ≡ prefix (l ∷ ls) ∷ groups_of (drop (span (l ∷ ls)) (l ∷ ls))
-        → cond t ((line ∷ prefix (l ∷ ls)) ∷ groups_of (drop (span (l ∷ ls)) (l ∷ ls))) ((line ∷ []) ∷ prefix (l ∷ ls) ∷ groups_of (drop (span (l ∷ ls)) (l ∷ ls)))
+        → cond t ((line ∷ prefix (l ∷ ls)) ∷ groups_of (drop (span (l ∷ ls)) (l ∷ ls))) ((line ∷ []) ∷ prefix (l ∷ ls)
+        ∷ groups_of (drop (span (l ∷ ls)) (l ∷ ls)))
         ≡ cond t (line ∷ prefix (l ∷ ls)) (line ∷ []) ∷ groups_of (drop (cond t (1 + span (l ∷ ls)) 1) (line ∷ l ∷ ls))
     by_more true again =
         let e : suc (span (l ∷ ls)) ≡ 1 + span (l ∷ ls) = omega arith in
@@ -35,7 +38,8 @@ prefix_size [] = refl
 prefix_size (line ∷ lines) = by_more (continues line) (prefix_size lines)
   where
     by_more : (t : Bool) → length (flat_map (λ l. l) (prefix lines)) ≡ size_ahead lines
-        → length (flat_map (λ l. l) (cond t (line ∷ prefix lines) (line ∷ []))) ≡ cond t (length line + size_ahead lines) (length line)
+        → length (flat_map (λ l. l) (cond t (line ∷ prefix lines) (line ∷ [])))
+        ≡ cond t (length line + size_ahead lines) (length line)
     by_more true again = omega (arith, again, length-append line (flat_map (λ l. l) (prefix lines)))
     by_more false again = ap length (append-nil line)
 
@@ -44,7 +48,8 @@ prefix_text [] = refl
 prefix_text (line ∷ lines) = by_more (continues line) refl (prefix_text lines)
   where
     by_more : (t : Bool) → continues line ≡ t → flat_map part_of (prefix lines) ≡ text_ahead lines
-        → flat_map part_of (cond t (line ∷ prefix lines) (line ∷ [])) ≡ cond t (with_space line ++ text_ahead lines) (before_first is_hash line)
+        → flat_map part_of (cond t (line ∷ prefix lines) (line ∷ [])) ≡ cond t (with_space line ++ text_ahead lines)
+        (before_first is_hash line)
     by_more true on again = rw (on, again) refl
     by_more false off again = rw off (append-nil (before_first is_hash line))
 
@@ -61,7 +66,8 @@ group_span lines = ap length (first_group_is lines) ∙ prefix_span lines
 
 -- The first logical line, and those behind its physical lines.
 pub logical_step : (number : ℕ) (line : List ℕ) (lines : Lines)
-    → logical_lines number (line ∷ lines) ≡ first_logical number (line ∷ lines) ∷ logical_lines (number + span (line ∷ lines)) (drop (span (line ∷ lines)) (line ∷ lines))
+    → logical_lines number (line ∷ lines) ≡ first_logical number (line ∷ lines)
+    ∷ logical_lines (number + span (line ∷ lines)) (drop (span (line ∷ lines)) (line ∷ lines))
 logical_step number line lines =
     let all = line ∷ lines in
     let rest = groups_of (drop (span all) all) in

@@ -13,13 +13,20 @@ use Rattle.qm_io.proofs.Moved.{gave_more}
 use Rattle.qm_obj.specs.Feeding.{FedPiece, FedTo, FedWhole}
 
 -- A refusal of the text is one of its soup.
-pub refused : (limit : ℕ) (source : Change) (bytes : Bytes) (fail : ObjFail) → ReadWhole limit source.told source.told_now bytes
-    → source.faults_now ≡ source.faults → (fail ≢ Memory → soup_in bytes ≡ Err fail) → IsSoupFail limit source (of_obj fail)
+pub refused : (limit : ℕ) (source : Change) (bytes : Bytes) (fail : ObjFail)
+    → ReadWhole limit source.told source.told_now bytes
+    → source.faults_now ≡ source.faults → (fail ≢ Memory → soup_in bytes ≡ Err fail)
+    → IsSoupFail limit source (of_obj fail)
 refused limit source bytes Memory whole calm said = tt
-refused limit source bytes _ whole calm said = (record { bytes = bytes; whole = whole; said = said (λ e. cc) }, λ e. cc, calm)
+refused limit source bytes _ whole calm said = (
+  record { bytes = bytes; whole = whole; said = said (λ e. cc) },
+  λ e. cc,
+  calm,
+)
 
 -- A source gave one piece more to a feed.
-pub fed_more : (before mid now : Told) (old new : Fed) (count more : ℕ) → FedTo before mid count old → FedPiece mid now old new more → FedTo before now (count + more) new
+pub fed_more : (before mid now : Told) (old new : Fed) (count more : ℕ) → FedTo before mid count old
+    → FedPiece mid now old new more → FedTo before now (count + more) new
 fed_more before mid now old new count more fed piece = record {
   text = fed.text ++ piece.piece;
   given = gave_more before mid now fed.text piece.piece (fed.text ++ piece.piece) refl fed.given piece.moved;
@@ -28,7 +35,8 @@ fed_more before mid now old new count more fed piece = record {
 }
 
 -- It gave its last piece.
-pub fed_whole : (limit count : ℕ) (before now : Told) (fed : Fed) → FedTo before now count fed → count ≤ limit → IsEmptied now → FedWhole limit before now fed
+pub fed_whole : (limit count : ℕ) (before now : Told) (fed : Fed) → FedTo before now count fed → count ≤ limit
+    → IsEmptied now → FedWhole limit before now fed
 fed_whole limit count before now fed to few ended = record {
   text = to.text;
   whole = record { given = to.given; ended = ended; few = omega (arith, to.many) };
@@ -36,7 +44,8 @@ fed_whole limit count before now fed to few ended = record {
 }
 
 -- It gave more than it may.
-pub gave_beyond : (limit room : ℕ) (before mid now : Told) (fed : Fed) → FedTo before mid (limit - room) fed → room ≤ limit → GaveMore room mid now → GaveMore limit before now
+pub gave_beyond : (limit room : ℕ) (before mid now : Told) (fed : Fed) → FedTo before mid (limit - room) fed
+    → room ≤ limit → GaveMore room mid now → GaveMore limit before now
 gave_beyond limit room before mid now fed to few more = record {
   piece = to.text ++ more.piece;
   many = omega (arith, length-append to.text more.piece, to.many, more.many);

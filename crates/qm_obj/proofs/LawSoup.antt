@@ -1,10 +1,14 @@
 -- What the lines of a canonical text say, and the soup that they have.
-use Rattle.std.proofs.Common.{◌≡◌, ℕ, ℤ, pos, zero, suc, ◌+◌, ◌-◌, ◌^◌, ◌<◌, ◌≤◌, Bool, true, false, cond, not, ◌&&◌, List, [], ◌∷◌, ◌++◌, length, take, map, get_or, refl, sym, ap, ◌∙◌, arith, subst, eqb, ltb, add-one, Ok}
+use Rattle.std.proofs.Common.{◌≡◌, ℕ, ℤ, pos, zero, suc, ◌+◌, ◌-◌, ◌^◌, ◌<◌, ◌≤◌, Bool, true, false, cond, not, ◌&&◌}
+use Rattle.std.proofs.Common.{List, [], ◌∷◌, ◌++◌, length, take, map, get_or, refl, sym, ap, ◌∙◌, arith, subst, eqb}
+use Rattle.std.proofs.Common.{ltb, add-one, Ok}
 use Rattle.std.specs.Prelude.{decimal, unsigned_abs}
 use Rattle.std.specs.Char.{is_ascii_digit}
 use Rattle.std.specs.List.{count_by, filter, flat_map, list_all, list_any}
-use Rattle.std.proofs.lemmas.Bool.{and_from, and_parts, cond-false, eqb-true, le-ltb, lt-leb, ltb-false, ltb-true, ne_eqb, not-true, or_from}
-use Rattle.std.proofs.lemmas.List.{append-nil, append_assoc, get_or-map, get_or_default, length-map, same_lists, take_all}
+use Rattle.std.proofs.lemmas.Bool.{and_from, and_parts, cond-false, eqb-true, le-ltb, lt-leb, ltb-false, ltb-true}
+use Rattle.std.proofs.lemmas.Bool.{ne_eqb, not-true, or_from}
+use Rattle.std.proofs.lemmas.List.{append-nil, append_assoc, get_or-map, get_or_default, length-map, same_lists}
+use Rattle.std.proofs.lemmas.List.{take_all}
 use Rattle.std.proofs.lemmas.List.Concat.{flat_map-append}
 use Rattle.std.proofs.lemmas.List.Elements.{filter-append}
 use Rattle.std.proofs.lemmas.List.Folds.{flat_map-map}
@@ -18,7 +22,8 @@ use Rattle.def_mesh.specs.Vertices.{is_used}
 use Rattle.def_text.specs.FaceSet.{FaceSet, IsSoup}
 use Rattle.def_text.specs.Logical.{Logical, logical_lines}
 use Rattle.def_text.specs.Reading.{begins_with, is_face_line, is_position_count, is_vertex_line, reading, words_reading}
-use Rattle.def_text.specs.Text.{face_in, face_set, faces, first_refusal, late_in, numbers_to, position_in, position_of, readings, refusal_in, soup_of, text_soup, used_to, line_vertex}
+use Rattle.def_text.specs.Text.{face_in, face_set, faces, first_refusal, late_in, numbers_to, position_in, position_of}
+use Rattle.def_text.specs.Text.{readings, refusal_in, soup_of, text_soup, used_to, line_vertex}
 use Rattle.def_text.specs.Words.{words}
 use Rattle.def_text.specs.declared.reading.Reading.{Reading}
 use Rattle.def_text.specs.declared.reading.Reading.TheVariants.{Position, Face, Refused}
@@ -29,7 +34,8 @@ use Rattle.def_text.specs.Laws.{ReadsBack, is_position, is_quad}
 use Rattle.qm_obj.proofs.CornerLemmas.{behind_none, digits_index, no_slash, whole_word}
 use Rattle.qm_dec.proofs.ReadBack.{canonical_law}
 use Rattle.qm_dec.proofs.Texts.{decimal_digits, decimal_number}
-use Rattle.qm_obj.proofs.LawText.{IsLine, IsWord, decimal_word, line_tame, line_text, line_words, lines_split, logical_plain, micro_word, plain_lines}
+use Rattle.qm_obj.proofs.LawText.{IsLine, IsWord, decimal_word, line_tame, line_text, line_words, lines_split}
+use Rattle.qm_obj.proofs.LawText.{logical_plain, micro_word, plain_lines}
 use Rattle.qm_obj.proofs.LineLemmas.{face_rest, vertex_rest}
 use Rattle.qm_obj.proofs.ListLemmas.{passes_at}
 use Rattle.qm_obj.proofs.ReadLemmas.{readings_append}
@@ -38,13 +44,16 @@ use Rattle.def_text.specs.Types.{Positions}
 use Rattle.def_mesh.specs.Faces.{Faces}
 use Rattle.def_io.specs.Bytes.{Lines}
 
--- What holds at each position of two lists holds at each position of both together, and of a map what holds of each image.
-pub each_both : {X : Type 0} (P : X → Type 0) (xs ys : List X) (d : X) → ((k : ℕ) → k < length xs → P (get_or xs k d)) → ((k : ℕ) → k < length ys → P (get_or ys k d)) → (k : ℕ) → k < length (xs ++ ys) → P (get_or (xs ++ ys) k d)
+-- What holds at each position of two lists holds at each position of both together, and of a map what holds of each
+-- image.
+pub each_both : {X : Type 0} (P : X → Type 0) (xs ys : List X) (d : X) → ((k : ℕ) → k < length xs → P (get_or xs k d))
+    → ((k : ℕ) → k < length ys → P (get_or ys k d)) → (k : ℕ) → k < length (xs ++ ys) → P (get_or (xs ++ ys) k d)
 each_both P [] ys d a b k l = b k l
 each_both P (x ∷ xs) ys d a b zero l = a 0 (omega arith)
 each_both P (x ∷ xs) ys d a b (suc k) l = each_both P xs ys d (λ j m. a (suc j) (omega arith)) b k (omega arith)
 
-pub each_map : {X Y : Type 0} (P : Y → Type 0) (f : X → Y) (xs : List X) (c : X) (d : Y) → ((k : ℕ) → k < length xs → P (f (get_or xs k c))) → (k : ℕ) → k < length (map f xs) → P (get_or (map f xs) k d)
+pub each_map : {X Y : Type 0} (P : Y → Type 0) (f : X → Y) (xs : List X) (c : X) (d : Y)
+    → ((k : ℕ) → k < length xs → P (f (get_or xs k c))) → (k : ℕ) → k < length (map f xs) → P (get_or (map f xs) k d)
 each_map {X} {Y} P f xs c d each k l =
     let there : k < length xs = omega (arith, length-map xs f) in
     subst (λ (y : Y). P y) (sym (get_or-map f xs k c d there)) (each k there)
@@ -62,53 +71,83 @@ face_line face = line_text 102 (map vertex_word face)
 abbrev pub canonical_lines : FaceSet → Lines
 canonical_lines s = map position_line s.pos ++ map face_line s.faces
 
-ended : {X : Type 0} (text line : X → List ℕ) → ((x : X) → text x ≡ line x ++ 10 ∷ []) → (xs : List X) → flat_map text xs ≡ flat_map (λ l. l ++ 10 ∷ []) (map line xs)
+ended : {X : Type 0} (text line : X → List ℕ) → ((x : X) → text x ≡ line x ++ 10 ∷ []) → (xs : List X)
+    → flat_map text xs ≡ flat_map (λ l. l ++ 10 ∷ []) (map line xs)
 ended text line same [] = refl
 ended text line same (x ∷ xs) = rw (same x, ended text line same xs) refl
 
 pub text_lines : (s : FaceSet) → canonical_text s ≡ flat_map (λ l. l ++ 10 ∷ []) (canonical_lines s)
 text_lines s =
     rw (
-      ended position_text position_line (λ p. ap (λ ws. 118 ∷ ws ++ 10 ∷ []) (sym (flat_map-map (λ w. 32 ∷ w) micro_text p))) s.pos,
-      ended face_text face_line (λ f. ap (λ ws. 102 ∷ ws ++ 10 ∷ []) (sym (flat_map-map (λ w. 32 ∷ w) vertex_word f))) s.faces,
+      ended position_text position_line
+          (λ p. ap (λ ws. 118 ∷ ws ++ 10 ∷ []) (sym (flat_map-map (λ w. 32 ∷ w) micro_text p))) s.pos,
+      ended face_text face_line (λ f. ap (λ ws. 102 ∷ ws ++ 10 ∷ []) (sym (flat_map-map (λ w. 32 ∷ w) vertex_word f)))
+          s.faces,
     )
     (sym (flat_map-append (λ l. l ++ 10 ∷ []) (map position_line s.pos) (map face_line s.faces)))
 
 -- The words of a position.
-near : (position : List ℤ) → is_position position ≡ true → (k : ℕ) (d : ℤ) → k < length position → unsigned_abs (get_or position k d) ≤ 999_999_999_999_999
-near position is k d l = ltb-false _ _ (not-true _ (passes_at (λ z. not (is_far z)) position k d (and_parts _ _ is).1 l))
+near : (position : List ℤ) → is_position position ≡ true → (k : ℕ) (d : ℤ) → k < length position
+    → unsigned_abs (get_or position k d) ≤ 999_999_999_999_999
+near position is k d l =
+    ltb-false _ _ (not-true _ (passes_at (λ z. not (is_far z)) position k d (and_parts _ _ is).1 l))
 
-position_words : (position : List ℤ) → is_position position ≡ true → (k : ℕ) → k < length (map micro_text position) → IsWord (get_or (map micro_text position) k [])
-position_words position is = each_map IsWord micro_text position (pos 0) [] (λ k l. micro_word (get_or position k (pos 0)) (near position is k (pos 0) l))
+position_words : (position : List ℤ) → is_position position ≡ true → (k : ℕ) → k < length (map micro_text position)
+    → IsWord (get_or (map micro_text position) k [])
+position_words position is =
+    each_map IsWord micro_text position (pos 0) [] (λ k l. micro_word (get_or position k (pos 0))
+    (near position is k (pos 0) l))
 
 position_back : (position : List ℤ) → list_all (λ z. not (is_far z)) position ≡ true
-    → (list_all is_decimal (map micro_text position) ≡ true) × (list_any (λ w. is_far (rounded w)) (map micro_text position) ≡ false) × (map rounded (map micro_text position) ≡ position)
+    → (list_all is_decimal (map micro_text position) ≡ true)
+    × (list_any (λ w. is_far (rounded w)) (map micro_text position) ≡ false)
+    × (map rounded (map micro_text position) ≡ position)
 position_back [] all = (refl, refl, refl)
 position_back (z ∷ zs) all =
     let parts : (not (is_far z) ≡ true) × (list_all (λ z. not (is_far z)) zs ≡ true) = and_parts _ _ all in
-    let back : (is_decimal (micro_text z) ≡ true) × (rounded (micro_text z) ≡ z) = canonical_law z (ltb-false _ _ (not-true _ parts.0)) in
-    let again : (list_all is_decimal (map micro_text zs) ≡ true) × (list_any (λ w. is_far (rounded w)) (map micro_text zs) ≡ false) × (map rounded (map micro_text zs) ≡ zs) = position_back zs parts.1 in
-    (and_from _ _ back.0 again.0, or_from _ _ (ap is_far back.1 ∙ not-true _ parts.0) again.1, rw (back.1, again.2) refl)
+    let back : (is_decimal (micro_text z) ≡ true) × (rounded (micro_text z) ≡ z) =
+    canonical_law z (ltb-false _ _ (not-true _ parts.0)) in
+    let again : (list_all is_decimal (map micro_text zs) ≡ true)
+    × (list_any (λ w. is_far (rounded w)) (map micro_text zs) ≡ false) × (map rounded (map micro_text zs) ≡ zs) =
+    position_back zs parts.1 in (
+      and_from _ _ back.0 again.0,
+      or_from _ _ (ap is_far back.1 ∙ not-true _ parts.0) again.1,
+      rw (back.1, again.2) refl,
+    )
 
 pub position_line_is : (position : List ℤ) → is_position position ≡ true → IsLine (position_line position)
 position_line_is position is =
     let three : length position ≡ 3 = eqb-true _ _ (and_parts _ _ is).0 in
-    line_tame 118 (map micro_text position) refl (omega (arith, length-map position micro_text)) (position_words position is)
+    line_tame 118 (map micro_text position) refl (omega (arith, length-map position micro_text))
+    (position_words position is)
 
-position_said : (vertices faces n : ℕ) (position : List ℤ) → vertices < 2 ^ 21 → is_position position ≡ true → reading vertices faces (record { number = n; size = length (position_line position); text = position_line position }) ≡ Position position
+position_said : (vertices faces n : ℕ) (position : List ℤ) → vertices < 2 ^ 21 → is_position position ≡ true
+    → reading vertices faces (record {
+      number = n;
+      size = length (position_line position);
+      text =
+          position_line position;
+    }) ≡ Position position
 position_said vertices faces n position few is =
-    let parts : (eqb (length position) 3 ≡ true) × (list_all (λ z. not (is_far z)) position ≡ true) = and_parts _ _ is in
+    let parts : (eqb (length position) 3 ≡ true) × (list_all (λ z. not (is_far z)) position ≡ true) =
+    and_parts _ _ is in
     let three : length (map micro_text position) ≡ 3 = length-map position micro_text ∙ eqb-true _ _ parts.0 in
-    let back : (list_all is_decimal (map micro_text position) ≡ true) × (list_any (λ w. is_far (rounded w)) (map micro_text position) ≡ false) × (map rounded (map micro_text position) ≡ position) = position_back position parts.1 in
+    let back : (list_all is_decimal (map micro_text position) ≡ true)
+    × (list_any (λ w. is_far (rounded w)) (map micro_text position) ≡ false)
+    × (map rounded (map micro_text position) ≡ position) = position_back position parts.1 in
     let short : ltb 65536 (length (position_line position)) ≡ false = le-ltb _ _ (position_line_is position is).short in
-    let right : (is_position_count (length (map micro_text position)) && list_all is_decimal (map micro_text position)) ≡ true = and_from _ _ (ap is_position_count three) back.0 in
-    let all : take 3 (map micro_text position) ≡ map micro_text position = take_all 3 (map micro_text position) (omega arith) in
+    let right : (is_position_count (length (map micro_text position)) && list_all is_decimal (map micro_text position))
+    ≡ true = and_from _ _ (ap is_position_count three) back.0 in
+    let all : take 3 (map micro_text position) ≡ map micro_text position =
+    take_all 3 (map micro_text position) (omega arith) in
     by_size (ltb 65536 (length (position_line position))) short
     (ap (words_reading n vertices faces) (line_words 118 (map micro_text position) refl (position_words position is))
     ∙ vertex_rest n vertices (map micro_text position) (lt-leb _ _ few) right
     ∙ rw (all, back.1, back.2) refl)
   where
-    by_size : (t : Bool) → t ≡ false → words_reading n vertices faces (words (position_line position)) ≡ Position position → cond t (Refused (Limit Line n)) (words_reading n vertices faces (words (position_line position))) ≡ Position position
+    by_size : (t : Bool) → t ≡ false → words_reading n vertices faces (words (position_line position))
+        ≡ Position position → cond t (Refused (Limit Line n))
+        (words_reading n vertices faces (words (position_line position))) ≡ Position position
     by_size t off said = rw off said
 
 -- The words of a face.
@@ -118,9 +157,11 @@ record NamesVertex (vertices : ℕ) (word : List ℕ) (n : ℕ) : Type 0 where
   names : resolved vertices (used_index word) ≡ n
 
 names_vertex : (vertices n : ℕ) → 0 < n → n < 2 ^ 64 → NamesVertex vertices (decimal n) n
-names_vertex vertices n some small = by_word (decimal n) (decimal_digits n small) (decimal_nonempty n small) (decimal_number n small)
+names_vertex vertices n some small = by_word (decimal n) (decimal_digits n small) (decimal_nonempty n small)
+    (decimal_number n small)
   where
-    by_word : (word : List ℕ) → list_all is_ascii_digit word ≡ true → 0 < length word → number_written word ≡ n → NamesVertex vertices word n
+    by_word : (word : List ℕ) → list_all is_ascii_digit word ≡ true → 0 < length word → number_written word ≡ n
+        → NamesVertex vertices word n
     by_word [] all long value = absurd (omega arith)
     by_word (b ∷ bs) all long value =
         let index : (unsigned (b ∷ bs) ≡ b ∷ bs) × (is_negative (b ∷ bs) ≡ false) = digits_index b bs all in
@@ -128,7 +169,8 @@ names_vertex vertices n some small = by_word (decimal n) (decimal_digits n small
         let used : used_index (b ∷ bs) ≡ b ∷ bs = whole_word (b ∷ bs) none in
         let signed : is_signed (b ∷ bs) ≡ true = ap is_number index.0 ∙ all in
         let value' : number_written (unsigned (b ∷ bs)) ≡ n = ap number_written index.0 ∙ value in
-        let other : eqb (number_written (unsigned (b ∷ bs))) 0 ≡ false = ne_eqb _ _ (λ (e : number_written (unsigned (b ∷ bs)) ≡ 0). omega arith) in
+        let other : eqb (number_written (unsigned (b ∷ bs))) 0 ≡ false =
+        ne_eqb _ _ (λ (e : number_written (unsigned (b ∷ bs)) ≡ 0). omega arith) in
         record {
           form = ap are_indices (behind_none (b ∷ bs) none) ∙ rw signed refl;
           inside = ap (is_out vertices) used ∙ or_from _ _ other (rw index.1 refl);
@@ -136,79 +178,118 @@ names_vertex vertices n some small = by_word (decimal n) (decimal_digits n small
         }
 
 face_back : (vertices : ℕ) (face : List ℕ) → vertices ≤ 2 ^ 21 → are_below vertices face ≡ true
-    → (list_all is_corner_word (map vertex_word face) ≡ true) × (list_any (λ w. is_out vertices (used_index w)) (map vertex_word face) ≡ false) × (map (λ w. resolved vertices (used_index w)) (map vertex_word face) ≡ map (λ v. v + 1) face)
+    → (list_all is_corner_word (map vertex_word face) ≡ true)
+    × (list_any (λ w. is_out vertices (used_index w)) (map vertex_word face) ≡ false)
+    × (map (λ w. resolved vertices (used_index w)) (map vertex_word face) ≡ map (λ v. v + 1) face)
 face_back vertices [] few all = (refl, refl, refl)
 face_back vertices (v ∷ vs) few all =
     let parts : (ltb v vertices ≡ true) × (are_below vertices vs ≡ true) = and_parts _ _ all in
     let low : v < vertices = ltb-true _ _ parts.0 in
-    let first : NamesVertex vertices (vertex_word v) (v + 1) = names_vertex vertices (v + 1) (omega arith) (omega arith) in
-    let again : (list_all is_corner_word (map vertex_word vs) ≡ true) × (list_any (λ w. is_out vertices (used_index w)) (map vertex_word vs) ≡ false) × (map (λ w. resolved vertices (used_index w)) (map vertex_word vs) ≡ map (λ v. v + 1) vs) = face_back vertices vs few parts.1 in
+    let first : NamesVertex vertices (vertex_word v) (v + 1) =
+    names_vertex vertices (v + 1) (omega arith) (omega arith) in
+    let again : (list_all is_corner_word (map vertex_word vs) ≡ true)
+    × (list_any (λ w. is_out vertices (used_index w)) (map vertex_word vs) ≡ false)
+    × (map (λ w. resolved vertices (used_index w)) (map vertex_word vs) ≡ map (λ v. v + 1) vs) =
+    face_back vertices vs few parts.1 in
     (and_from _ _ first.form again.0, or_from _ _ first.inside again.1, rw (first.names, again.2) refl)
 
-face_words : (vertices : ℕ) (face : List ℕ) → vertices ≤ 2 ^ 21 → are_below vertices face ≡ true → (k : ℕ) → k < length (map vertex_word face) → IsWord (get_or (map vertex_word face) k [])
+face_words : (vertices : ℕ) (face : List ℕ) → vertices ≤ 2 ^ 21 → are_below vertices face ≡ true → (k : ℕ)
+    → k < length (map vertex_word face) → IsWord (get_or (map vertex_word face) k [])
 face_words vertices face few all = each_map IsWord vertex_word face 0 [] (λ k l.
     let low : get_or face k 0 < vertices = ltb-true _ _ (passes_at (λ v. ltb v vertices) face k 0 all l) in
     decimal_word (get_or face k 0 + 1) (omega arith))
 
-pub face_line_is : (vertices : ℕ) (face : List ℕ) → vertices ≤ 2 ^ 21 → is_quad face ≡ true → are_below vertices face ≡ true → IsLine (face_line face)
+pub face_line_is : (vertices : ℕ) (face : List ℕ) → vertices ≤ 2 ^ 21 → is_quad face ≡ true → are_below vertices face
+    ≡ true → IsLine (face_line face)
 face_line_is vertices face few is all =
     let four : length face ≡ 4 = eqb-true _ _ is in
-    line_tame 102 (map vertex_word face) refl (omega (arith, length-map face vertex_word)) (face_words vertices face few all)
+    line_tame 102 (map vertex_word face) refl (omega (arith, length-map face vertex_word))
+    (face_words vertices face few all)
 
-face_said : (vertices faces n : ℕ) (face : List ℕ) → vertices ≤ 2 ^ 21 → faces < 2 ^ 20 → is_quad face ≡ true → are_below vertices face ≡ true
-    → reading vertices faces (record { number = n; size = length (face_line face); text = face_line face }) ≡ Face n (map (λ v. v + 1) face)
+face_said : (vertices faces n : ℕ) (face : List ℕ) → vertices ≤ 2 ^ 21 → faces < 2 ^ 20 → is_quad face ≡ true
+    → are_below vertices face ≡ true
+    → reading vertices faces (record { number = n; size = length (face_line face); text = face_line face })
+    ≡ Face n (map (λ v. v + 1) face)
 face_said vertices faces n face few room is all =
     let four : eqb (length (map vertex_word face)) 4 ≡ true = ap (λ m. eqb m 4) (length-map face vertex_word) ∙ is in
-    let back : (list_all is_corner_word (map vertex_word face) ≡ true) × (list_any (λ w. is_out vertices (used_index w)) (map vertex_word face) ≡ false) × (map (λ w. resolved vertices (used_index w)) (map vertex_word face) ≡ map (λ v. v + 1) face) = face_back vertices face few all in
-    let short : ltb 65536 (length (face_line face)) ≡ false = le-ltb _ _ (face_line_is vertices face few is all).short in
+    let back : (list_all is_corner_word (map vertex_word face) ≡ true)
+    × (list_any (λ w. is_out vertices (used_index w)) (map vertex_word face) ≡ false)
+    × (map (λ w. resolved vertices (used_index w)) (map vertex_word face) ≡ map (λ v. v + 1) face) =
+    face_back vertices face few all in
+    let short : ltb 65536 (length (face_line face)) ≡ false =
+    le-ltb _ _ (face_line_is vertices face few is all).short in
     by_size (ltb 65536 (length (face_line face))) short
     (ap (words_reading n vertices faces) (line_words 102 (map vertex_word face) refl (face_words vertices face few all))
     ∙ face_rest n vertices faces (map vertex_word face) (lt-leb _ _ room) back.0 four
     ∙ rw (back.1, back.2) refl)
   where
-    by_size : (t : Bool) → t ≡ false → words_reading n vertices faces (words (face_line face)) ≡ Face n (map (λ v. v + 1) face) → cond t (Refused (Limit Line n)) (words_reading n vertices faces (words (face_line face))) ≡ Face n (map (λ v. v + 1) face)
+    by_size : (t : Bool) → t ≡ false → words_reading n vertices faces (words (face_line face))
+        ≡ Face n (map (λ v. v + 1) face)
+        → cond t (Refused (Limit Line n)) (words_reading n vertices faces (words (face_line face)))
+        ≡ Face n (map (λ v. v + 1) face)
     by_size t off said = rw off said
 
 -- Plain lines one behind the other.
 plain_append : (n : ℕ) (xs ys : Lines) → plain_lines n (xs ++ ys) ≡ plain_lines n xs ++ plain_lines (n + length xs) ys
 plain_append n [] ys = let e : n + 0 ≡ n = omega arith in rw e refl
-plain_append n (x ∷ xs) ys = let e : n + suc (length xs) ≡ n + 1 + length xs = omega arith in rw (e, plain_append (n + 1) xs ys) refl
+plain_append n (x ∷ xs) ys = let e : n + suc (length xs) ≡ n + 1 + length xs = omega arith in
+    rw (e, plain_append (n + 1) xs ys) refl
 
 abbrev plain_line : ℕ → List ℕ → Logical
 plain_line n l = record { number = n; size = length l; text = l }
 
-one_more : (p : Logical → Bool) (before : List Logical) (line : Logical) → count_by p (before ++ line ∷ []) ≡ count_by p before + cond (p line) 1 0
+one_more : (p : Logical → Bool) (before : List Logical) (line : Logical) → count_by p (before ++ line ∷ [])
+    ≡ count_by p before + cond (p line) 1 0
 one_more p before line = sum_by_push (λ l. cond (p l) 1 0) before line
 
-position_kind : (n : ℕ) (position : List ℤ) → is_position position ≡ true → (is_vertex_line (plain_line n (position_line position)) ≡ true) × (is_face_line (plain_line n (position_line position)) ≡ false)
+position_kind : (n : ℕ) (position : List ℤ) → is_position position ≡ true
+    → (is_vertex_line (plain_line n (position_line position)) ≡ true)
+    × (is_face_line (plain_line n (position_line position)) ≡ false)
 position_kind n position is =
-    let ws : words (position_line position) ≡ (118 ∷ []) ∷ map micro_text position = line_words 118 (map micro_text position) refl (position_words position is) in
+    let ws : words (position_line position) ≡ (118 ∷ []) ∷ map micro_text position =
+    line_words 118 (map micro_text position) refl (position_words position is) in
     (ap (begins_with 118) ws, ap (begins_with 102) ws)
 
-face_kind : (vertices n : ℕ) (face : List ℕ) → vertices ≤ 2 ^ 21 → are_below vertices face ≡ true → (is_vertex_line (plain_line n (face_line face)) ≡ false) × (is_face_line (plain_line n (face_line face)) ≡ true)
+face_kind : (vertices n : ℕ) (face : List ℕ) → vertices ≤ 2 ^ 21 → are_below vertices face ≡ true
+    → (is_vertex_line (plain_line n (face_line face)) ≡ false) × (is_face_line (plain_line n (face_line face)) ≡ true)
 face_kind vertices n face few all =
-    let ws : words (face_line face) ≡ (102 ∷ []) ∷ map vertex_word face = line_words 102 (map vertex_word face) refl (face_words vertices face few all) in
+    let ws : words (face_line face) ≡ (102 ∷ []) ∷ map vertex_word face =
+    line_words 102 (map vertex_word face) refl (face_words vertices face few all) in
     (ap (begins_with 118) ws, ap (begins_with 102) ws)
 
 -- What the lines of all positions say, and how many they are.
-positions_said : (before : List Logical) (n : ℕ) (ps : Positions) → list_all is_position ps ≡ true → count_by is_vertex_line before + length ps ≤ 2 ^ 21
+positions_said : (before : List Logical) (n : ℕ) (ps : Positions) → list_all is_position ps ≡ true
+    → count_by is_vertex_line before + length ps ≤ 2 ^ 21
     → (readings before (plain_lines n (map position_line ps)) ≡ map Position ps)
-    × (count_by is_vertex_line (before ++ plain_lines n (map position_line ps)) ≡ count_by is_vertex_line before + length ps)
+    × (count_by is_vertex_line (before ++ plain_lines n (map position_line ps)) ≡ count_by is_vertex_line before
+    + length ps)
     × (count_by is_face_line (before ++ plain_lines n (map position_line ps)) ≡ count_by is_face_line before)
-positions_said before n [] all few =
-    (refl, ap (count_by is_vertex_line) (append-nil before) ∙ omega arith, ap (count_by is_face_line) (append-nil before))
+positions_said before n [] all few = (
+  refl,
+  ap (count_by is_vertex_line) (append-nil before) ∙ omega arith,
+  ap (count_by is_face_line) (append-nil before),
+)
 positions_said before n (p ∷ ps) all few =
     let parts : (is_position p ≡ true) × (list_all is_position ps ≡ true) = and_parts _ _ all in
     let line = plain_line n (position_line p) in
     let kind : (is_vertex_line line ≡ true) × (is_face_line line ≡ false) = position_kind n p parts.0 in
-    let v : count_by is_vertex_line (before ++ line ∷ []) ≡ count_by is_vertex_line before + 1 = one_more is_vertex_line before line ∙ rw kind.0 refl in
-    let f : count_by is_face_line (before ++ line ∷ []) ≡ count_by is_face_line before = one_more is_face_line before line ∙ rw kind.1 (omega arith) in
+    let v : count_by is_vertex_line (before ++ line ∷ []) ≡ count_by is_vertex_line before + 1 =
+    one_more is_vertex_line before line ∙ rw kind.0 refl in
+    let f : count_by is_face_line (before ++ line ∷ []) ≡ count_by is_face_line before =
+    one_more is_face_line before line ∙ rw kind.1 (omega arith) in
     let again : (readings (before ++ line ∷ []) (plain_lines (n + 1) (map position_line ps)) ≡ map Position ps)
-    × (count_by is_vertex_line ((before ++ line ∷ []) ++ plain_lines (n + 1) (map position_line ps)) ≡ count_by is_vertex_line (before ++ line ∷ []) + length ps)
-    × (count_by is_face_line ((before ++ line ∷ []) ++ plain_lines (n + 1) (map position_line ps)) ≡ count_by is_face_line (before ++ line ∷ [])) =
+    × (count_by is_vertex_line ((before ++ line ∷ []) ++ plain_lines (n + 1) (map position_line ps))
+    ≡ count_by is_vertex_line (before ++ line ∷ []) + length ps)
+    × (count_by is_face_line ((before ++ line ∷ []) ++ plain_lines (n + 1) (map position_line ps))
+    ≡ count_by is_face_line (before ++ line ∷ [])) =
     positions_said (before ++ line ∷ []) (n + 1) ps parts.1 (omega arith) in
-    let same : (before ++ line ∷ []) ++ plain_lines (n + 1) (map position_line ps) ≡ before ++ line ∷ plain_lines (n + 1) (map position_line ps) = append_assoc before (line ∷ []) (plain_lines (n + 1) (map position_line ps)) in (
-      rw (position_said (count_by is_vertex_line before) (count_by is_face_line before) n p (omega arith) parts.0, again.0) refl,
+    let same : (before ++ line ∷ []) ++ plain_lines (n + 1) (map position_line ps)
+    ≡ before ++ line ∷ plain_lines (n + 1) (map position_line ps) =
+    append_assoc before (line ∷ []) (plain_lines (n + 1) (map position_line ps)) in (
+      rw (
+        position_said (count_by is_vertex_line before) (count_by is_face_line before) n p (omega arith) parts.0,
+        again.0,
+      ) refl,
       ap (count_by is_vertex_line) (sym same) ∙ again.1 ∙ omega arith,
       ap (count_by is_face_line) (sym same) ∙ again.2 ∙ f,
     )
@@ -218,18 +299,24 @@ abbrev faces_from : ℕ → Faces → List Reading
 faces_from n [] = []
 faces_from n (f ∷ fs) = Face n (map (λ v. v + 1) f) ∷ faces_from (n + 1) fs
 
-faces_said : (vertices : ℕ) (before : List Logical) (n : ℕ) (fs : Faces) → vertices ≤ 2 ^ 21 → count_by is_vertex_line before ≡ vertices → list_all is_quad fs ≡ true → list_all (are_below vertices) fs ≡ true
-    → count_by is_face_line before + length fs ≤ 2 ^ 20 → readings before (plain_lines n (map face_line fs)) ≡ faces_from n fs
+faces_said : (vertices : ℕ) (before : List Logical) (n : ℕ) (fs : Faces) → vertices ≤ 2 ^ 21
+    → count_by is_vertex_line before ≡ vertices → list_all is_quad fs ≡ true → list_all (are_below vertices) fs ≡ true
+    → count_by is_face_line before + length fs ≤ 2 ^ 20 → readings before (plain_lines n (map face_line fs))
+    ≡ faces_from n fs
 faces_said vertices before n [] few many quads below room = refl
 faces_said vertices before n (f ∷ fs) few many quads below room =
     let q : (is_quad f ≡ true) × (list_all is_quad fs ≡ true) = and_parts _ _ quads in
     let b : (are_below vertices f ≡ true) × (list_all (are_below vertices) fs ≡ true) = and_parts _ _ below in
     let line = plain_line n (face_line f) in
     let kind : (is_vertex_line line ≡ false) × (is_face_line line ≡ true) = face_kind vertices n f few b.0 in
-    let v : count_by is_vertex_line (before ++ line ∷ []) ≡ vertices = one_more is_vertex_line before line ∙ rw kind.0 (omega arith) in
-    let g : count_by is_face_line (before ++ line ∷ []) ≡ count_by is_face_line before + 1 = one_more is_face_line before line ∙ rw kind.1 refl in
-    let first : reading (count_by is_vertex_line before) (count_by is_face_line before) line ≡ Face n (map (λ v. v + 1) f) =
-    ap (λ m. reading m (count_by is_face_line before) line) many ∙ face_said vertices (count_by is_face_line before) n f few (omega arith) q.0 b.0 in
+    let v : count_by is_vertex_line (before ++ line ∷ []) ≡ vertices = one_more is_vertex_line before line
+    ∙ rw kind.0 (omega arith) in
+    let g : count_by is_face_line (before ++ line ∷ []) ≡ count_by is_face_line before + 1 =
+    one_more is_face_line before line ∙ rw kind.1 refl in
+    let first : reading (count_by is_vertex_line before) (count_by is_face_line before) line
+    ≡ Face n (map (λ v. v + 1) f) =
+    ap (λ m. reading m (count_by is_face_line before) line) many ∙ face_said vertices (count_by is_face_line before) n f
+    few (omega arith) q.0 b.0 in
     rw (first, faces_said vertices (before ++ line ∷ []) (n + 1) fs few v q.1 b.1 (omega arith)) refl
 
 -- What these readings have.
@@ -261,13 +348,15 @@ refusals_of_faces : (n : ℕ) (fs : Faces) → flat_map refusal_in (faces_from n
 refusals_of_faces n [] = refl
 refusals_of_faces n (f ∷ fs) = refusals_of_faces (n + 1) fs
 
-not_late : (vertices : ℕ) (face : List ℕ) → are_below vertices face ≡ true → list_any (λ corner. ltb vertices corner) (map (λ v. v + 1) face) ≡ false
+not_late : (vertices : ℕ) (face : List ℕ) → are_below vertices face ≡ true
+    → list_any (λ corner. ltb vertices corner) (map (λ v. v + 1) face) ≡ false
 not_late vertices [] all = refl
 not_late vertices (v ∷ vs) all =
     let parts : (ltb v vertices ≡ true) × (are_below vertices vs ≡ true) = and_parts _ _ all in
     or_from _ _ (le-ltb _ _ (omega (arith, ltb-true v vertices parts.0))) (not_late vertices vs parts.1)
 
-late_of_faces : (vertices n : ℕ) (fs : Faces) → list_all (are_below vertices) fs ≡ true → flat_map (late_in vertices) (faces_from n fs) ≡ []
+late_of_faces : (vertices n : ℕ) (fs : Faces) → list_all (are_below vertices) fs ≡ true
+    → flat_map (late_in vertices) (faces_from n fs) ≡ []
 late_of_faces vertices n [] all = refl
 late_of_faces vertices n (f ∷ fs) all =
     let parts : (are_below vertices f ≡ true) × (list_all (are_below vertices) fs ≡ true) = and_parts _ _ all in
@@ -277,11 +366,18 @@ soup_said : (ps : Positions) (fs : Faces) (n : ℕ) → list_all (are_below (len
     → soup_of (map Position ps ++ faces_from n fs) ≡ Ok (face_set ps (map (λ f. map (λ v. v + 1) f) fs))
 soup_said ps fs n below =
     let said = map Position ps ++ faces_from n fs in
-    let p : flat_map position_in said ≡ ps = flat_map-append position_in (map Position ps) (faces_from n fs) ∙ rw (positions_of_positions ps, positions_of_faces n fs) (append-nil ps) in
-    let f : flat_map face_in said ≡ map (λ f. map (λ v. v + 1) f) fs = flat_map-append face_in (map Position ps) (faces_from n fs) ∙ rw (faces_of_positions ps, faces_of_faces n fs) refl in
-    let r : flat_map refusal_in said ≡ [] = flat_map-append refusal_in (map Position ps) (faces_from n fs) ∙ rw (refusals_of_positions ps, refusals_of_faces n fs) refl in
-    let l : flat_map (late_in (length ps)) said ≡ [] = flat_map-append (late_in (length ps)) (map Position ps) (faces_from n fs) ∙ rw (late_of_positions (length ps) ps, late_of_faces (length ps) n fs below) refl in
-    ap (λ fails. first_refusal (fails ++ flat_map (late_in (length (flat_map position_in said))) said) (face_set (flat_map position_in said) (flat_map face_in said))) r
+    let p : flat_map position_in said ≡ ps = flat_map-append position_in (map Position ps) (faces_from n fs)
+    ∙ rw (positions_of_positions ps, positions_of_faces n fs) (append-nil ps) in
+    let f : flat_map face_in said ≡ map (λ f. map (λ v. v + 1) f) fs =
+    flat_map-append face_in (map Position ps) (faces_from n fs) ∙ rw (faces_of_positions ps, faces_of_faces n fs)
+    refl in
+    let r : flat_map refusal_in said ≡ [] = flat_map-append refusal_in (map Position ps) (faces_from n fs)
+    ∙ rw (refusals_of_positions ps, refusals_of_faces n fs) refl in
+    let l : flat_map (late_in (length ps)) said ≡ [] =
+    flat_map-append (late_in (length ps)) (map Position ps) (faces_from n fs)
+    ∙ rw (late_of_positions (length ps) ps, late_of_faces (length ps) n fs below) refl in
+    ap (λ fails. first_refusal (fails ++ flat_map (late_in (length (flat_map position_in said))) said)
+    (face_set (flat_map position_in said) (flat_map face_in said))) r
     ∙ ap (λ xs. first_refusal (flat_map (late_in (length xs)) said) (face_set xs (flat_map face_in said))) p
     ∙ ap (λ fails. first_refusal fails (face_set ps (flat_map face_in said))) l
     ∙ ap (λ xs. Ok (face_set ps xs)) f
@@ -297,26 +393,34 @@ record AllUsed (fs : Faces) (n : ℕ) : Type 0 where
   kept : (k : ℕ) → k ≤ n → used_to fs k ≡ numbers_to k
 
 all_used_to : (s : FaceSet) → IsSoup s → AllUsed (map (λ f. map (λ v. v + 1) f) s.faces) (length s.pos)
-all_used_to s soup = record { kept = λ k le. keeps_all (is_used (map (λ f. map (λ v. v + 1) f) s.faces)) k (λ j l. used_renumbered (λ v. v + 1) j s.faces (soup.used j (omega arith))) }
+all_used_to s soup = record {
+  kept = λ k le. keeps_all (is_used (map (λ f. map (λ v. v + 1) f) s.faces)) k
+      (λ j l. used_renumbered (λ v. v + 1) j s.faces (soup.used j (omega arith)));
+}
 
 positions_back : (ps : Positions) → map (position_of ps) (numbers_to (length ps)) ≡ ps
 positions_back ps =
-    let long : length (map (position_of ps) (numbers_to (length ps))) ≡ length ps = length-map (numbers_to (length ps)) (position_of ps) ∙ length-numbers_to (length ps) in
+    let long : length (map (position_of ps) (numbers_to (length ps))) ≡ length ps =
+    length-map (numbers_to (length ps)) (position_of ps) ∙ length-numbers_to (length ps) in
     same_lists (map (position_of ps) (numbers_to (length ps))) ps long (λ k d l.
     let there : k < length ps = omega arith in
     let e : k + 1 - 1 ≡ k = omega arith in
     get_or-map (position_of ps) (numbers_to (length ps)) k 0 d (omega (arith, length-numbers_to (length ps)))
-    ∙ ap (position_of ps) (numbers_at (length ps) k there) ∙ ap (λ j. get_or ps j []) e ∙ get_or_default ps k [] d there)
+    ∙ ap (position_of ps) (numbers_at (length ps) k there) ∙ ap (λ j. get_or ps j []) e
+    ∙ get_or_default ps k [] d there)
 
-corners_back : (fs : Faces) (n : ℕ) → AllUsed fs n → (face : List ℕ) → are_below n face ≡ true → map (line_vertex fs) (map (λ v. v + 1) face) ≡ face
+corners_back : (fs : Faces) (n : ℕ) → AllUsed fs n → (face : List ℕ) → are_below n face ≡ true
+    → map (line_vertex fs) (map (λ v. v + 1) face) ≡ face
 corners_back fs n used [] all = refl
 corners_back fs n used (v ∷ vs) all =
     let parts : (ltb v n ≡ true) × (are_below n vs ≡ true) = and_parts _ _ all in
     let e : v + 1 - 1 ≡ v = omega arith in
-    let first : line_vertex fs (v + 1) ≡ v = ap (λ k. length (used_to fs k)) e ∙ ap length (used.kept v (omega (arith, ltb-true v n parts.0))) ∙ length-numbers_to v in
+    let first : line_vertex fs (v + 1) ≡ v = ap (λ k. length (used_to fs k)) e
+    ∙ ap length (used.kept v (omega (arith, ltb-true v n parts.0))) ∙ length-numbers_to v in
     rw (first, corners_back fs n used vs parts.1) refl
 
-faces_back : (fs : Faces) (n : ℕ) → AllUsed fs n → (some : Faces) → list_all (are_below n) some ≡ true → map (λ corners. map (line_vertex fs) corners) (map (λ f. map (λ v. v + 1) f) some) ≡ some
+faces_back : (fs : Faces) (n : ℕ) → AllUsed fs n → (some : Faces) → list_all (are_below n) some ≡ true
+    → map (λ corners. map (line_vertex fs) corners) (map (λ f. map (λ v. v + 1) f) some) ≡ some
 faces_back fs n used [] all = refl
 faces_back fs n used (f ∷ rest) all =
     let parts : (are_below n f ≡ true) × (list_all (are_below n) rest ≡ true) = and_parts _ _ all in
@@ -329,23 +433,39 @@ text_back s is =
     let lines = canonical_lines s in
     let each : (k : ℕ) → k < length lines → IsLine (get_or lines k []) =
     each_both IsLine (map position_line s.pos) (map face_line s.faces) []
-    (each_map IsLine position_line s.pos [] [] (λ k l. position_line_is (get_or s.pos k []) (passes_at is_position s.pos k [] is.positions l)))
-    (each_map IsLine face_line s.faces [] [] (λ k l. face_line_is (length s.pos) (get_or s.faces k []) is.few_vertices (passes_at is_quad s.faces k [] is.quads l) (passes_at (are_below (length s.pos)) s.faces k [] soup.in_range l))) in
+    (each_map IsLine position_line s.pos [] []
+    (λ k l. position_line_is (get_or s.pos k []) (passes_at is_position s.pos k [] is.positions l)))
+    (each_map IsLine face_line s.faces [] [] (λ k l. face_line_is (length s.pos) (get_or s.faces k []) is.few_vertices
+    (passes_at is_quad s.faces k [] is.quads l) (passes_at (are_below (length s.pos)) s.faces k [] soup.in_range
+    l))) in
     let cut : lines_of (canonical_text s) ≡ lines = ap lines_of (text_lines s) ∙ lines_split lines each in
-    let logical : logical_lines 1 lines ≡ plain_lines 1 (map position_line s.pos) ++ plain_lines (1 + length (map position_line s.pos)) (map face_line s.faces) =
+    let logical : logical_lines 1 lines ≡ plain_lines 1 (map position_line s.pos)
+    ++ plain_lines (1 + length (map position_line s.pos)) (map face_line s.faces) =
     logical_plain 1 lines each ∙ plain_append 1 (map position_line s.pos) (map face_line s.faces) in
     let prefix : (readings [] (plain_lines 1 (map position_line s.pos)) ≡ map Position s.pos)
-    × (count_by is_vertex_line ([] ++ plain_lines 1 (map position_line s.pos)) ≡ count_by is_vertex_line [] + length s.pos)
+    × (count_by is_vertex_line ([] ++ plain_lines 1 (map position_line s.pos))
+    ≡ count_by is_vertex_line [] + length s.pos)
     × (count_by is_face_line ([] ++ plain_lines 1 (map position_line s.pos)) ≡ count_by is_face_line []) =
     positions_said [] 1 s.pos is.positions (omega arith) in
-    let behind : readings (plain_lines 1 (map position_line s.pos)) (plain_lines (1 + length (map position_line s.pos)) (map face_line s.faces)) ≡ faces_from (1 + length (map position_line s.pos)) s.faces =
-    faces_said (length s.pos) (plain_lines 1 (map position_line s.pos)) (1 + length (map position_line s.pos)) s.faces is.few_vertices (prefix.1 ∙ omega arith) is.quads soup.in_range (omega (arith, prefix.2)) in
-    let said : readings [] (logical_lines 1 lines) ≡ map Position s.pos ++ faces_from (1 + length (map position_line s.pos)) s.faces =
-    ap (readings []) logical ∙ readings_append [] (plain_lines 1 (map position_line s.pos)) (plain_lines (1 + length (map position_line s.pos)) (map face_line s.faces)) ∙ rw (prefix.0, behind) refl in
+    let behind : readings (plain_lines 1 (map position_line s.pos)) (plain_lines (1 + length (map position_line s.pos))
+    (map face_line s.faces)) ≡ faces_from (1 + length (map position_line s.pos)) s.faces =
+    faces_said (length s.pos) (plain_lines 1 (map position_line s.pos)) (1 + length (map position_line s.pos)) s.faces
+    is.few_vertices (prefix.1 ∙ omega arith) is.quads soup.in_range (omega (arith, prefix.2)) in
+    let said : readings [] (logical_lines 1 lines) ≡ map Position s.pos
+    ++ faces_from (1 + length (map position_line s.pos)) s.faces =
+    ap (readings []) logical ∙ readings_append [] (plain_lines 1 (map position_line s.pos))
+    (plain_lines (1 + length (map position_line s.pos)) (map face_line s.faces)) ∙ rw (prefix.0, behind) refl in
     let used : AllUsed (map (λ f. map (λ v. v + 1) f) s.faces) (length s.pos) = all_used_to s soup in
-    let names : used_to (map (λ f. map (λ v. v + 1) f) s.faces) (length s.pos) ≡ numbers_to (length s.pos) = used.kept (length s.pos) (omega arith) in
-    ap (text_soup 1) cut ∙ ap soup_of said ∙ soup_said s.pos s.faces (1 + length (map position_line s.pos)) soup.in_range
-    ∙ ap Ok (same_parts (face_set s.pos (map (λ f. map (λ v. v + 1) f) s.faces)) (record { pos = s.pos; faces = s.faces; names = numbers_to (length s.pos) })
+    let names : used_to (map (λ f. map (λ v. v + 1) f) s.faces) (length s.pos) ≡ numbers_to (length s.pos) =
+    used.kept (length s.pos) (omega arith) in
+    ap (text_soup 1) cut ∙ ap soup_of said ∙ soup_said s.pos s.faces (1 + length (map position_line s.pos))
+    soup.in_range
+    ∙ ap Ok (same_parts (face_set s.pos (map (λ f. map (λ v. v + 1) f) s.faces)) (record {
+      pos = s.pos;
+      faces =
+          s.faces;
+      names = numbers_to (length s.pos);
+    })
     (ap (map (position_of s.pos)) names ∙ positions_back s.pos)
     (faces_back (map (λ f. map (λ v. v + 1) f) s.faces) (length s.pos) used s.faces soup.in_range)
     names)

@@ -1,5 +1,7 @@
 -- The lines and the words of a canonical text.
-use Rattle.std.proofs.Common.{◌≡◌, ℕ, ℤ, zero, suc, ◌+◌, ◌-◌, ◌*◌, ◌/◌, ◌%◌, ◌^◌, ◌<◌, ◌≤◌, Bool, true, false, cond, not, ◌&&◌, List, [], ◌∷◌, ◌++◌, length, take, drop, map, get_or, refl, ap, ◌∙◌, arith, eqb, leb}
+use Rattle.std.proofs.Common.{◌≡◌, ℕ, ℤ, zero, suc, ◌+◌, ◌-◌, ◌*◌, ◌/◌, ◌%◌, ◌^◌, ◌<◌, ◌≤◌, Bool, true, false, cond}
+use Rattle.std.proofs.Common.{not, ◌&&◌, List, [], ◌∷◌, ◌++◌, length, take, drop, map, get_or, refl, ap, ◌∙◌, arith}
+use Rattle.std.proofs.Common.{eqb, leb}
 use Rattle.std.specs.Prelude.{decimal, int_lt, pos, unsigned_abs}
 use Rattle.std.specs.Char.{is_ascii_digit}
 use Rattle.std.specs.List.{before_first, flat_map, list_all, position_or_len, suffix_len}
@@ -28,7 +30,8 @@ abbrev pub is_tame : ℕ → Bool
 is_tame b = (not (eqb b 10) && not (eqb b 13)) && (not (eqb b 35) && not (eqb b 92))
 
 plain_bounds : (b : ℕ) → is_plain b ≡ true → (45 ≤ b) × (b ≤ 57)
-plain_bounds b is = let both : (leb 45 b ≡ true) × (leb b 57 ≡ true) = and_parts _ _ is in (leb-true 45 b both.0, leb-true b 57 both.1)
+plain_bounds b is = let both : (leb 45 b ≡ true) × (leb b 57 ≡ true) = and_parts _ _ is in
+    (leb-true 45 b both.0, leb-true b 57 both.1)
 
 plain_tame : (b : ℕ) → is_plain b ≡ true → is_tame b ≡ true
 plain_tame b is = let h : (45 ≤ b) × (b ≤ 57) = plain_bounds b is in grind (arith, nat_tests)
@@ -37,24 +40,29 @@ plain_word : (b : ℕ) → is_plain b ≡ true → is_blank b ≡ false
 plain_word b is = let h : (45 ≤ b) × (b ≤ 57) = plain_bounds b is in grind (arith, nat_tests)
 
 digit_plain : (b : ℕ) → is_ascii_digit b ≡ true → is_plain b ≡ true
-digit_plain b is = let both : (leb 48 b ≡ true) × (leb b 57 ≡ true) = and_parts _ _ is in and_from _ _ (le-leb 45 b (omega (arith, leb-true 48 b both.0))) both.1
+digit_plain b is = let both : (leb 48 b ≡ true) × (leb b 57 ≡ true) = and_parts _ _ is in
+    and_from _ _ (le-leb 45 b (omega (arith, leb-true 48 b both.0))) both.1
 
 -- A test that follows from another.
-all_from : {X : Type 0} (p q : X → Bool) → ((x : X) → p x ≡ true → q x ≡ true) → (xs : List X) → list_all p xs ≡ true → list_all q xs ≡ true
+all_from : {X : Type 0} (p q : X → Bool) → ((x : X) → p x ≡ true → q x ≡ true) → (xs : List X) → list_all p xs ≡ true
+    → list_all q xs ≡ true
 all_from p q to [] all = refl
-all_from p q to (x ∷ xs) all = let parts : (p x ≡ true) × (list_all p xs ≡ true) = and_parts _ _ all in and_from _ _ (to x parts.0) (all_from p q to xs parts.1)
+all_from p q to (x ∷ xs) all = let parts : (p x ≡ true) × (list_all p xs ≡ true) = and_parts _ _ all in
+    and_from _ _ (to x parts.0) (all_from p q to xs parts.1)
 
 all_take : {X : Type 0} (p : X → Bool) (n : ℕ) (xs : List X) → list_all p xs ≡ true → list_all p (take n xs) ≡ true
 all_take p zero xs all = refl
 all_take p (suc n) [] all = refl
-all_take p (suc n) (x ∷ xs) all = let parts : (p x ≡ true) × (list_all p xs ≡ true) = and_parts _ _ all in and_from _ _ parts.0 (all_take p n xs parts.1)
+all_take p (suc n) (x ∷ xs) all = let parts : (p x ≡ true) × (list_all p xs ≡ true) = and_parts _ _ all in
+    and_from _ _ parts.0 (all_take p n xs parts.1)
 
 all_drop : {X : Type 0} (p : X → Bool) (n : ℕ) (xs : List X) → list_all p xs ≡ true → list_all p (drop n xs) ≡ true
 all_drop p zero xs all = all
 all_drop p (suc n) [] all = refl
 all_drop p (suc n) (x ∷ xs) all = all_drop p n xs (and_parts _ _ all).1
 
-all_both : {X : Type 0} (p : X → Bool) (xs ys : List X) → list_all p xs ≡ true → list_all p ys ≡ true → list_all p (xs ++ ys) ≡ true
+all_both : {X : Type 0} (p : X → Bool) (xs ys : List X) → list_all p xs ≡ true → list_all p ys ≡ true
+    → list_all p (xs ++ ys) ≡ true
 all_both p xs ys a b = list_all-append p xs ys ∙ and_from _ _ a b
 
 -- Words of the canonical text: of plain bytes, not empty, and short.
@@ -77,25 +85,40 @@ fraction_plain n small = by_zero (eqb n 0)
     all = decimal_word (10 ^ 6 + n) (omega arith)
 
     rest : list_all is_plain (without_zeros (six_digits n)) ≡ true
-    rest = all_take is_plain _ (six_digits n) (all_drop is_plain 1 (decimal (10 ^ 6 + n)) (decimal_word (10 ^ 6 + n) (omega arith)).plain)
+    rest = all_take is_plain _ (six_digits n)
+        (all_drop is_plain 1 (decimal (10 ^ 6 + n)) (decimal_word (10 ^ 6 + n) (omega arith)).plain)
 
     long : length (without_zeros (six_digits n)) ≤ 20
-    long = omega (arith, length-take (length (six_digits n) - suffix_len (λ digit. eqb digit 48) (six_digits n)) (six_digits n), length-drop 1 (decimal (10 ^ 6 + n)), length-decimal-le 20 (10 ^ 6 + n) (omega arith) (omega arith) (omega arith))
+    long = omega (
+      arith,
+      length-take (length (six_digits n) - suffix_len (λ digit. eqb digit 48) (six_digits n))
+          (six_digits n),
+      length-drop 1 (decimal (10 ^ 6 + n)),
+      length-decimal-le 20 (10 ^ 6 + n) (omega arith) (omega arith) (omega arith),
+    )
 
-    by_zero : (t : Bool) → (list_all is_plain (cond t [] (46 ∷ without_zeros (six_digits n))) ≡ true) × (length (cond t [] (46 ∷ without_zeros (six_digits n))) ≤ 21)
+    by_zero : (t : Bool) → (list_all is_plain (cond t [] (46 ∷ without_zeros (six_digits n))) ≡ true)
+        × (length (cond t [] (46 ∷ without_zeros (six_digits n))) ≤ 21)
     by_zero true = (refl, omega arith)
     by_zero false = (rest, omega (arith, long))
 
 pub micro_word : (z : ℤ) → unsigned_abs z ≤ 999_999_999_999_999 → IsWord (micro_text z)
 micro_word z near =
     let whole : IsWord (decimal (unsigned_abs z / 10 ^ 6)) = decimal_word (unsigned_abs z / 10 ^ 6) (omega arith) in
-    let twenty : length (decimal (unsigned_abs z / 10 ^ 6)) ≤ 20 = length-decimal-le 20 (unsigned_abs z / 10 ^ 6) (omega arith) (omega arith) (omega arith) in
-    let behind : (list_all is_plain (fraction_text (unsigned_abs z % 10 ^ 6)) ≡ true) × (length (fraction_text (unsigned_abs z % 10 ^ 6)) ≤ 21) = fraction_plain (unsigned_abs z % 10 ^ 6) (omega arith) in
+    let twenty : length (decimal (unsigned_abs z / 10 ^ 6)) ≤ 20 =
+    length-decimal-le 20 (unsigned_abs z / 10 ^ 6) (omega arith) (omega arith) (omega arith) in
+    let behind : (list_all is_plain (fraction_text (unsigned_abs z % 10 ^ 6)) ≡ true)
+    × (length (fraction_text (unsigned_abs z % 10 ^ 6)) ≤ 21) =
+    fraction_plain (unsigned_abs z % 10 ^ 6) (omega arith) in
     let sign : (list_all is_plain (minus_text z) ≡ true) × (length (minus_text z) ≤ 1) = by_sign (int_lt z (pos 0)) in
-    let prefix : length (minus_text z ++ decimal (unsigned_abs z / 10 ^ 6)) ≡ length (minus_text z) + length (decimal (unsigned_abs z / 10 ^ 6)) = length-append (minus_text z) _ in
-    let all : length (micro_text z) ≡ length (minus_text z ++ decimal (unsigned_abs z / 10 ^ 6)) + length (fraction_text (unsigned_abs z % 10 ^ 6)) = length-append (minus_text z ++ decimal (unsigned_abs z / 10 ^ 6)) _ in
+    let prefix : length (minus_text z ++ decimal (unsigned_abs z / 10 ^ 6))
+    ≡ length (minus_text z) + length (decimal (unsigned_abs z / 10 ^ 6)) = length-append (minus_text z) _ in
+    let all : length (micro_text z) ≡ length (minus_text z ++ decimal (unsigned_abs z / 10 ^ 6))
+    + length (fraction_text (unsigned_abs z % 10 ^ 6)) =
+    length-append (minus_text z ++ decimal (unsigned_abs z / 10 ^ 6)) _ in
     record {
-      plain = all_both is_plain (minus_text z ++ decimal (unsigned_abs z / 10 ^ 6)) _ (all_both is_plain (minus_text z) _ sign.0 whole.plain) behind.0;
+      plain = all_both is_plain (minus_text z ++ decimal (unsigned_abs z / 10 ^ 6)) _
+          (all_both is_plain (minus_text z) _ sign.0 whole.plain) behind.0;
       some = omega (arith, whole.some);
       short = omega arith;
     }
@@ -113,8 +136,10 @@ blank_next : (ws : Words) → ends_word (flat_map (λ w. 32 ∷ w) ws) ≡ true
 blank_next [] = refl
 blank_next (w ∷ ws) = refl
 
-word_then : (b : ℕ) (bs rest : List ℕ) → list_all is_plain (b ∷ bs) ≡ true → ends_word rest ≡ true → words (b ∷ bs ++ rest) ≡ (b ∷ bs) ∷ words rest
-word_then b [] rest plain ends = let bare : is_blank b ≡ false = plain_word b (and_parts _ _ plain).0 in rw (bare, ends) refl
+word_then : (b : ℕ) (bs rest : List ℕ) → list_all is_plain (b ∷ bs) ≡ true → ends_word rest ≡ true
+    → words (b ∷ bs ++ rest) ≡ (b ∷ bs) ∷ words rest
+word_then b [] rest plain ends = let bare : is_blank b ≡ false = plain_word b (and_parts _ _ plain).0 in
+    rw (bare, ends) refl
 word_then b (c ∷ cs) rest plain ends =
     let parts : (is_plain b ≡ true) × (list_all is_plain (c ∷ cs) ≡ true) = and_parts _ _ plain in
     let bare : is_blank b ≡ false = plain_word b parts.0 in
@@ -122,48 +147,72 @@ word_then b (c ∷ cs) rest plain ends =
     by_tests (is_blank b) (is_blank c) bare next (word_then c cs rest parts.1 ends)
   where
     by_tests : (t u : Bool) → t ≡ false → u ≡ false → words (c ∷ cs ++ rest) ≡ (c ∷ cs) ∷ words rest
-        → cond t (words (c ∷ cs ++ rest)) (cond u ((b ∷ []) ∷ words (c ∷ cs ++ rest)) (byte_in_front b (words (c ∷ cs ++ rest)))) ≡ (b ∷ c ∷ cs) ∷ words rest
+        → cond t (words (c ∷ cs ++ rest))
+        (cond u ((b ∷ []) ∷ words (c ∷ cs ++ rest)) (byte_in_front b (words (c ∷ cs ++ rest))))
+        ≡ (b ∷ c ∷ cs) ∷ words rest
     by_tests t u off stays again = rw (off, stays, again) refl
 
-words_behind : (ws : Words) → ((k : ℕ) → k < length ws → IsWord (get_or ws k [])) → words (flat_map (λ w. 32 ∷ w) ws) ≡ ws
+words_behind : (ws : Words) → ((k : ℕ) → k < length ws → IsWord (get_or ws k [])) → words (flat_map (λ w. 32 ∷ w) ws)
+    ≡ ws
 words_behind [] each = refl
 words_behind ([] ∷ ws) each = absurd (omega (arith, (each 0 (omega arith)).some))
 words_behind ((b ∷ bs) ∷ ws) each =
-    word_then b bs (flat_map (λ w. 32 ∷ w) ws) (each 0 (omega arith)).plain (blank_next ws) ∙ ap (λ rest. (b ∷ bs) ∷ rest) (words_behind ws (λ k l. each (suc k) (omega arith)))
+    word_then b bs (flat_map (λ w. 32 ∷ w) ws) (each 0 (omega arith)).plain (blank_next ws)
+    ∙ ap (λ rest. (b ∷ bs) ∷ rest) (words_behind ws (λ k l. each (suc k) (omega arith)))
 
-pub line_words : (letter : ℕ) (ws : Words) → is_blank letter ≡ false → ((k : ℕ) → k < length ws → IsWord (get_or ws k [])) → words (line_text letter ws) ≡ (letter ∷ []) ∷ ws
+pub line_words : (letter : ℕ) (ws : Words) → is_blank letter ≡ false
+    → ((k : ℕ) → k < length ws → IsWord (get_or ws k [])) → words (line_text letter ws) ≡ (letter ∷ []) ∷ ws
 line_words letter ws bare each = by_tests (is_blank letter) bare
   where
-    by_tests : (t : Bool) → t ≡ false → cond t (words (flat_map (λ w. 32 ∷ w) ws)) (cond (ends_word (flat_map (λ w. 32 ∷ w) ws)) ((letter ∷ []) ∷ words (flat_map (λ w. 32 ∷ w) ws)) (byte_in_front letter (words (flat_map (λ w. 32 ∷ w) ws)))) ≡ (letter ∷ []) ∷ ws
+    by_tests : (t : Bool) → t ≡ false
+        → cond t (words (flat_map (λ w. 32 ∷ w) ws)) (cond (ends_word (flat_map (λ w. 32 ∷ w) ws))
+        ((letter ∷ []) ∷ words (flat_map (λ w. 32 ∷ w) ws))
+        (byte_in_front letter (words (flat_map (λ w. 32 ∷ w) ws)))) ≡ (letter ∷ []) ∷ ws
     by_tests t off = rw (off, blank_next ws) (ap (λ rest. (letter ∷ []) ∷ rest) (words_behind ws each))
 
 -- Its bytes are tame, and it is short.
-behind_tame : (ws : Words) → ((k : ℕ) → k < length ws → IsWord (get_or ws k [])) → list_all is_tame (flat_map (λ w. 32 ∷ w) ws) ≡ true
+behind_tame : (ws : Words) → ((k : ℕ) → k < length ws → IsWord (get_or ws k []))
+    → list_all is_tame (flat_map (λ w. 32 ∷ w) ws) ≡ true
 behind_tame [] each = refl
 behind_tame (w ∷ ws) each =
-    all_both is_tame (32 ∷ w) (flat_map (λ w. 32 ∷ w) ws) (all_from is_plain is_tame plain_tame w (each 0 (omega arith)).plain) (behind_tame ws (λ k l. each (suc k) (omega arith)))
+    all_both is_tame (32 ∷ w) (flat_map (λ w. 32 ∷ w) ws)
+    (all_from is_plain is_tame plain_tame w (each 0 (omega arith)).plain)
+    (behind_tame ws (λ k l. each (suc k) (omega arith)))
 
-behind_short : (ws : Words) → ((k : ℕ) → k < length ws → IsWord (get_or ws k [])) → length (flat_map (λ w. 32 ∷ w) ws) ≤ length ws * 61
+behind_short : (ws : Words) → ((k : ℕ) → k < length ws → IsWord (get_or ws k [])) → length (flat_map (λ w. 32 ∷ w) ws)
+    ≤ length ws * 61
 behind_short [] each = omega arith
 behind_short (w ∷ ws) each =
-    omega (arith, length-append (32 ∷ w) (flat_map (λ w. 32 ∷ w) ws), (each 0 (omega arith)).short, behind_short ws (λ k l. each (suc k) (omega arith)))
+    omega (
+      arith,
+      length-append (32 ∷ w) (flat_map (λ w. 32 ∷ w) ws),
+      (each 0 (omega arith)).short,
+      behind_short ws (λ k l. each (suc k) (omega arith)),
+    )
 
 pub record IsLine (line : List ℕ) : Type 0 where
   pub tame : list_all is_tame line ≡ true
   pub short : length line ≤ 65536
 
-pub line_tame : (letter : ℕ) (ws : Words) → is_tame letter ≡ true → length ws ≤ 4 → ((k : ℕ) → k < length ws → IsWord (get_or ws k [])) → IsLine (line_text letter ws)
-line_tame letter ws tame few each = record { tame = and_from _ _ tame (behind_tame ws each); short = omega (arith, behind_short ws each) }
+pub line_tame : (letter : ℕ) (ws : Words) → is_tame letter ≡ true → length ws ≤ 4
+    → ((k : ℕ) → k < length ws → IsWord (get_or ws k [])) → IsLine (line_text letter ws)
+line_tame letter ws tame few each = record {
+  tame = and_from _ _ tame (behind_tame ws each);
+  short =
+      omega (arith, behind_short ws each);
+}
 
 -- A byte that ends no line.
 abbrev pub is_inside : ℕ → Bool
 is_inside b = not (eqb b 10) && not (eqb b 13)
 
 pub tame_inside : (line : List ℕ) → list_all is_tame line ≡ true → list_all is_inside line ≡ true
-tame_inside line tame = all_from is_tame is_inside (λ b is. (and_parts (is_inside b) (not (eqb b 35) && not (eqb b 92)) is).0) line tame
+tame_inside line tame = all_from is_tame is_inside
+    (λ b is. (and_parts (is_inside b) (not (eqb b 35) && not (eqb b 92)) is).0) line tame
 
 -- A text is cut after the first LF.
-piece_then : (line rest : List ℕ) → list_all is_inside line ≡ true → pieces (line ++ 10 ∷ rest) ≡ (line ++ 10 ∷ []) ∷ pieces rest
+piece_then : (line rest : List ℕ) → list_all is_inside line ≡ true → pieces (line ++ 10 ∷ rest)
+    ≡ (line ++ 10 ∷ []) ∷ pieces rest
 piece_then [] rest inside = refl
 piece_then (b ∷ bs) rest inside =
     let parts : (is_inside b ≡ true) × (list_all is_inside bs ≡ true) = and_parts _ _ inside in
@@ -182,20 +231,25 @@ bare_line line inside =
     no_return : (line : List ℕ) → list_all is_inside line ≡ true → without_last 13 line ≡ line
     no_return [] inside = refl
     no_return (b ∷ bs) inside =
-        let there : is_inside (get_or (b ∷ bs) (length (b ∷ bs) - 1) 0) ≡ true = passes_at is_inside (b ∷ bs) (length (b ∷ bs) - 1) 0 inside (omega arith) in
-        let other : eqb (get_or (b ∷ bs) (length (b ∷ bs) - 1) 0) 13 ≡ false = not-true _ (and_parts (not (eqb (get_or (b ∷ bs) (length (b ∷ bs) - 1) 0) 10)) _ there).1 in
+        let there : is_inside (get_or (b ∷ bs) (length (b ∷ bs) - 1) 0) ≡ true =
+        passes_at is_inside (b ∷ bs) (length (b ∷ bs) - 1) 0 inside (omega arith) in
+        let other : eqb (get_or (b ∷ bs) (length (b ∷ bs) - 1) 0) 13 ≡ false =
+        not-true _ (and_parts (not (eqb (get_or (b ∷ bs) (length (b ∷ bs) - 1) 0) 10)) _ there).1 in
         rw other refl
 
 -- The lines of a text whose lines have no byte that ends one.
-pub lines_back : (ls : Lines) → ((k : ℕ) → k < length ls → list_all is_inside (get_or ls k []) ≡ true) → lines_of (flat_map (λ l. l ++ 10 ∷ []) ls) ≡ ls
+pub lines_back : (ls : Lines) → ((k : ℕ) → k < length ls → list_all is_inside (get_or ls k []) ≡ true)
+    → lines_of (flat_map (λ l. l ++ 10 ∷ []) ls) ≡ ls
 lines_back [] each = refl
 lines_back (l ∷ ls) each =
     let first : list_all is_inside l ≡ true = each 0 (omega arith) in
-    ap (map line_of) (ap pieces (append_assoc l (10 ∷ []) (flat_map (λ l. l ++ 10 ∷ []) ls)) ∙ piece_then l (flat_map (λ l. l ++ 10 ∷ []) ls) first)
+    ap (map line_of) (ap pieces (append_assoc l (10 ∷ []) (flat_map (λ l. l ++ 10 ∷ []) ls))
+    ∙ piece_then l (flat_map (λ l. l ++ 10 ∷ []) ls) first)
     ∙ rw (bare_line l first, lines_back ls (λ k m. each (suc k) (omega arith))) refl
 
 -- The lines of a text of tame lines.
-pub lines_split : (ls : Lines) → ((k : ℕ) → k < length ls → IsLine (get_or ls k [])) → lines_of (flat_map (λ l. l ++ 10 ∷ []) ls) ≡ ls
+pub lines_split : (ls : Lines) → ((k : ℕ) → k < length ls → IsLine (get_or ls k []))
+    → lines_of (flat_map (λ l. l ++ 10 ∷ []) ls) ≡ ls
 lines_split ls each = lines_back ls (λ k l. tame_inside (get_or ls k []) (each k l).tame)
 
 -- Each of them is a logical line.
@@ -207,7 +261,8 @@ no_comment : (line : List ℕ) → list_all is_tame line ≡ true → before_fir
 no_comment line tame = take_all _ _ (whole line tame)
   where
     other : (b : ℕ) → is_tame b ≡ true → is_hash b ≡ false
-    other b tame = not-true (eqb b 35) (and_parts (not (eqb b 35)) (not (eqb b 92)) (and_parts (not (eqb b 10) && not (eqb b 13)) (not (eqb b 35) && not (eqb b 92)) tame).1).0
+    other b tame = not-true (eqb b 35) (and_parts (not (eqb b 35)) (not (eqb b 92))
+        (and_parts (not (eqb b 10) && not (eqb b 13)) (not (eqb b 35) && not (eqb b 92)) tame).1).0
 
     whole : (line : List ℕ) → list_all is_tame line ≡ true → length line ≤ position_or_len is_hash line
     whole [] tame = omega arith
@@ -218,14 +273,18 @@ no_comment line tame = take_all _ _ (whole line tame)
 pub no_continuation : (line : List ℕ) → list_all is_tame line ≡ true → continues line ≡ false
 no_continuation [] tame = refl
 no_continuation (b ∷ bs) tame =
-    let there : is_tame (get_or (b ∷ bs) (length (b ∷ bs) - 1) 0) ≡ true = passes_at is_tame (b ∷ bs) (length (b ∷ bs) - 1) 0 tame (omega arith) in
-    let other : eqb (get_or (b ∷ bs) (length (b ∷ bs) - 1) 0) 92 ≡ false = not-true _ (and_parts _ _ (and_parts _ _ there).1).1 in
+    let there : is_tame (get_or (b ∷ bs) (length (b ∷ bs) - 1) 0) ≡ true =
+    passes_at is_tame (b ∷ bs) (length (b ∷ bs) - 1) 0 tame (omega arith) in
+    let other : eqb (get_or (b ∷ bs) (length (b ∷ bs) - 1) 0) 92 ≡ false =
+    not-true _ (and_parts _ _ (and_parts _ _ there).1).1 in
     rw other refl
 
-pub logical_plain : (number : ℕ) (ls : Lines) → ((k : ℕ) → k < length ls → IsLine (get_or ls k [])) → logical_lines number ls ≡ plain_lines number ls
+pub logical_plain : (number : ℕ) (ls : Lines) → ((k : ℕ) → k < length ls → IsLine (get_or ls k []))
+    → logical_lines number ls ≡ plain_lines number ls
 logical_plain number [] each = refl
 logical_plain number (l ∷ ls) each =
     let first : IsLine l = each 0 (omega arith) in
     let stays : continues l ≡ false = no_continuation l first.tame in
-    let again : logical_lines (number + 1) ls ≡ plain_lines (number + 1) ls = logical_plain (number + 1) ls (λ k m. each (suc k) (omega arith)) in
+    let again : logical_lines (number + 1) ls ≡ plain_lines (number + 1) ls =
+    logical_plain (number + 1) ls (λ k m. each (suc k) (omega arith)) in
     logical_step number l ls ∙ rw stays (rw (no_comment l first.tame, again) refl)

@@ -1,8 +1,10 @@
 -- Lists that a loop changes position by position.
-use Rattle.std.proofs.Common.{◌≡◌, ℕ, ◌+◌, ◌-◌, ◌<◌, ◌≤◌, Bool, true, List, [], ◌∷◌, ◌++◌, length, take, drop, set, map, get_or, refl, sym, ap, ◌∙◌, arith}
+use Rattle.std.proofs.Common.{◌≡◌, ℕ, ◌+◌, ◌-◌, ◌<◌, ◌≤◌, Bool, true, List, [], ◌∷◌, ◌++◌, length, take, drop, set, map}
+use Rattle.std.proofs.Common.{get_or, refl, sym, ap, ◌∙◌, arith}
 use Rattle.std.specs.Prelude.{slice_range}
 use Rattle.std.specs.List.{list_all}
-use Rattle.std.proofs.lemmas.List.{drop-drop, drop-set-lt, drop-take, get_or-drop, length-drop, length-take, map_more, take_more_set}
+use Rattle.std.proofs.lemmas.List.{drop-drop, drop-set-lt, drop-take, get_or-drop, length-drop, length-take, map_more}
+use Rattle.std.proofs.lemmas.List.{take_more_set}
 use Rattle.std.proofs.lemmas.List.Sums.{AllPass-from_list_all}
 
 -- Lists that agree from k on have one element at k.
@@ -14,21 +16,26 @@ at_back xs ys k d same =
     ap (λ n. get_or xs n d) (sym e) ∙ sym a ∙ ap (λ zs. get_or zs 0 d) same ∙ b ∙ ap (λ n. get_or ys n d) e
 
 -- Lists that agree from k on agree from the next on, also after a write at k or before.
-pub back_more : {X : Type 0} (xs ys : List X) (k i : ℕ) (x : X) → i ≤ k → drop k xs ≡ drop k ys → drop (k + 1) (set xs i x) ≡ drop (k + 1) ys
-back_more xs ys k i x le same = drop-set-lt (k + 1) xs i x (omega arith) ∙ sym (drop-drop 1 k xs) ∙ ap (drop 1) same ∙ drop-drop 1 k ys
+pub back_more : {X : Type 0} (xs ys : List X) (k i : ℕ) (x : X) → i ≤ k → drop k xs ≡ drop k ys
+    → drop (k + 1) (set xs i x) ≡ drop (k + 1) ys
+back_more xs ys k i x le same = drop-set-lt (k + 1) xs i x (omega arith) ∙ sym (drop-drop 1 k xs) ∙ ap (drop 1) same
+    ∙ drop-drop 1 k ys
 
 -- A map in position, one element further.
-pub mapped_more : {X : Type 0} (f : X → X) (old new : List X) (i : ℕ) (d x : X) → i < length old → length new ≡ length old → x ≡ f (get_or old i d)
+pub mapped_more : {X : Type 0} (f : X → X) (old new : List X) (i : ℕ) (d x : X) → i < length old
+    → length new ≡ length old → x ≡ f (get_or old i d)
     → take i new ≡ map f (take i old) → take (i + 1) (set new i x) ≡ map f (take (i + 1) old)
 mapped_more f old new i d x there size is prefix =
     take_more_set new i x (omega arith) ∙ rw (prefix, is) (sym (map_more f old i d there))
 
 -- What each element of a list passes, the one at a position passes.
-pub passes_at : {X : Type 0} (p : X → Bool) (xs : List X) (i : ℕ) (d : X) → list_all p xs ≡ true → i < length xs → p (get_or xs i d) ≡ true
+pub passes_at : {X : Type 0} (p : X → Bool) (xs : List X) (i : ℕ) (d : X) → list_all p xs ≡ true → i < length xs
+    → p (get_or xs i d) ≡ true
 passes_at p xs i d all there = AllPass-from_list_all p xs all i d there
 
 -- What stands behind the prefix of a part of a list.
-pub range_drop : {X : Type 0} (xs : List X) (a k b : ℕ) → a + k ≤ b → drop k (slice_range xs a b) ≡ slice_range xs (a + k) b
+pub range_drop : {X : Type 0} (xs : List X) (a k b : ℕ) → a + k ≤ b → drop k (slice_range xs a b)
+    ≡ slice_range xs (a + k) b
 range_drop xs a k b le =
     let e : b - a ≡ k + (b - (a + k)) = omega arith in
     rw e (drop-take k (b - (a + k)) (drop a xs) ∙ ap (take (b - (a + k))) (drop-drop k a xs))

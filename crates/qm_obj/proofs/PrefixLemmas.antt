@@ -1,12 +1,14 @@
 -- Logical lines of which the first begins with text that is joined.
-use Rattle.std.proofs.Common.{◌≡◌, ℕ, suc, ◌+◌, ◌-◌, ◌<◌, ◌≤◌, Bool, true, false, cond, List, [], ◌∷◌, ◌++◌, length, take, refl, sym, ap, ◌∙◌, arith}
+use Rattle.std.proofs.Common.{◌≡◌, ℕ, suc, ◌+◌, ◌-◌, ◌<◌, ◌≤◌, Bool, true, false, cond, List, [], ◌∷◌, ◌++◌, length}
+use Rattle.std.proofs.Common.{take, refl, sym, ap, ◌∙◌, arith}
 use Rattle.std.specs.List.{before_first, flat_map, list_any}
 use Rattle.std.proofs.lemmas.Bool.{and_parts, not-true, or_from}
 use Rattle.std.proofs.lemmas.List.{append-nil, append_assoc, length-append}
 use Rattle.std.proofs.lemmas.List.Folds.{list_any-append}
 use Rattle.def_feed.specs.Kept.{KeptText, logical_behind, with_front, with_joined}
 use Rattle.def_io.specs.Bytes.{Bytes, Lines}
-use Rattle.def_text.specs.Logical.{Logical, continues, groups_of, is_hash, joined, logical, logical_lines, numbered_groups, part_of, with_line, with_space}
+use Rattle.def_text.specs.Logical.{Logical, continues, groups_of, is_hash, joined, logical, logical_lines}
+use Rattle.def_text.specs.Logical.{numbered_groups, part_of, with_line, with_space}
 use Rattle.qm_obj.specs.Ahead.{size_ahead}
 use Rattle.qm_obj.specs.Feeding.{number_by}
 use Rattle.qm_obj.specs.Lines.{first_logical, uncommented}
@@ -15,17 +17,21 @@ use Rattle.qm_obj.proofs.JoinLemmas.{any_take, cut_none, length-with_space}
 use Rattle.qm_obj.proofs.WordLemmas.{uncommented_is, uncommented_none}
 
 -- Joined text that is there stands in front.
-pub joined_some : (number : ℕ) (prefix : Bytes) (lines : List Logical) → 0 < length prefix → with_joined number prefix lines ≡ with_front number prefix lines
+pub joined_some : (number : ℕ) (prefix : Bytes) (lines : List Logical) → 0 < length prefix
+    → with_joined number prefix lines ≡ with_front number prefix lines
 joined_some number prefix lines some = grind (arith)
 
 -- Text in front of text in front.
-prefix_more : (number other : ℕ) (prefix more : Bytes) (lines : List Logical) → with_front number prefix (with_front other more lines) ≡ with_front number (prefix ++ more) lines
+prefix_more : (number other : ℕ) (prefix more : Bytes) (lines : List Logical)
+    → with_front number prefix (with_front other more lines) ≡ with_front number (prefix ++ more) lines
 prefix_more number other prefix more [] =
     ap (λ n. record { number = number; size = n; text = prefix ++ more } ∷ []) (sym (length-append prefix more))
 prefix_more number other prefix more (line ∷ lines) =
-    let size : length prefix + (length more + line.size) ≡ length (prefix ++ more) + line.size = omega (arith, length-append prefix more) in
+    let size : length prefix + (length more + line.size) ≡ length (prefix ++ more) + line.size =
+    omega (arith, length-append prefix more) in
     ap (λ n. record { number = number; size = n; text = prefix ++ (more ++ line.text) } ∷ lines) size
-    ∙ ap (λ text. record { number = number; size = length (prefix ++ more) + line.size; text = text } ∷ lines) (sym (append_assoc prefix more line.text))
+    ∙ ap (λ text. record { number = number; size = length (prefix ++ more) + line.size; text = text } ∷ lines)
+    (sym (append_assoc prefix more line.text))
 
 -- A line that goes on stands in front of the logical line behind it.
 pub logical_goes_on : (number : ℕ) (line : Bytes) (lines : Lines) → continues line ≡ true
@@ -35,13 +41,25 @@ logical_goes_on number line lines on = by_groups (groups_of lines)
     part : part_of line ≡ with_space line
     part = rw on refl
 
-    first : (group : Lines) → logical number (line ∷ group) ≡ record { number = number; size = length (with_space line) + length (flat_map (λ l. l) group); text = with_space line ++ joined group }
+    first : (group : Lines) → logical number (line ∷ group) ≡ record {
+      number = number;
+      size =
+          length (with_space line) + length (flat_map (λ l. l) group);
+      text = with_space line ++ joined group;
+    }
     first group =
-        let size : length (line ++ flat_map (λ l. l) group) ≡ length (with_space line) + length (flat_map (λ l. l) group) = omega (arith, length-append line (flat_map (λ l. l) group), length-with_space line on) in
+        let size : length (line ++ flat_map (λ l. l) group)
+        ≡ length (with_space line) + length (flat_map (λ l. l) group) =
+        omega (arith, length-append line (flat_map (λ l. l) group), length-with_space line on) in
         ap (λ n. record { number = number; size = n; text = part_of line ++ joined group }) size
-        ∙ ap (λ text. record { number = number; size = length (with_space line) + length (flat_map (λ l. l) group); text = text ++ joined group }) part
+        ∙ ap (λ text. record {
+          number = number;
+          size = length (with_space line) + length (flat_map (λ l. l) group);
+          text = text ++ joined group;
+        }) part
 
-    by_groups : (groups : List Lines) → numbered_groups number (with_line line groups) ≡ with_front number (with_space line) (numbered_groups (number + 1) groups)
+    by_groups : (groups : List Lines) → numbered_groups number (with_line line groups)
+        ≡ with_front number (with_space line) (numbered_groups (number + 1) groups)
     by_groups [] =
         let none : with_space line ++ [] ≡ with_space line = append-nil (with_space line) in
         let size : length (with_space line) + 0 ≡ length (with_space line) = omega arith in
@@ -49,15 +67,27 @@ logical_goes_on number line lines on = by_groups (groups_of lines)
         ∙ ap (λ text. record { number = number; size = length (with_space line); text = text }) none)
     by_groups (group ∷ groups) =
         let n : number + suc (length group) ≡ number + 1 + length group = omega arith in
-        ap (numbered_groups number) (by_more (continues line) on) ∙ ap (λ l. l ∷ numbered_groups (number + suc (length group)) groups) (first group)
-        ∙ ap (λ m. record { number = number; size = length (with_space line) + length (flat_map (λ l. l) group); text = with_space line ++ joined group } ∷ numbered_groups m groups) n
+        ap (numbered_groups number) (by_more (continues line) on)
+        ∙ ap (λ l. l ∷ numbered_groups (number + suc (length group)) groups) (first group)
+        ∙ ap (λ m. record {
+          number = number;
+          size = length (with_space line) + length (flat_map (λ l. l) group);
+          text =
+              with_space line ++ joined group;
+        } ∷ numbered_groups m groups) n
       where
-        by_more : (t : Bool) → t ≡ true → cond t ((line ∷ group) ∷ groups) ((line ∷ []) ∷ group ∷ groups) ≡ (line ∷ group) ∷ groups
+        by_more : (t : Bool) → t ≡ true → cond t ((line ∷ group) ∷ groups) ((line ∷ []) ∷ group ∷ groups)
+            ≡ (line ∷ group) ∷ groups
         by_more t is = grind (arith)
 
 -- A line that does not go on is a logical line.
 pub logical_ends : (number : ℕ) (line : Bytes) (lines : Lines) → continues line ≡ false
-    → logical_lines number (line ∷ lines) ≡ record { number = number; size = length line; text = before_first is_hash line } ∷ logical_lines (number + 1) lines
+    → logical_lines number (line ∷ lines) ≡ record {
+      number = number;
+      size = length line;
+      text =
+          before_first is_hash line;
+    } ∷ logical_lines (number + 1) lines
 logical_ends number line lines off = logical_step number line lines ∙ grind (arith)
 
 -- The first of these lines has this number and at least so many bytes.
@@ -68,7 +98,8 @@ pub record BeginsWith (lines : List Logical) (number least : ℕ) : Type 0 where
   pub number_is : line.number ≡ number
   pub long : least ≤ line.size
 
-begins_line : (number : ℕ) (line : Bytes) (lines : Lines) → BeginsWith (logical_lines number (line ∷ lines)) number (length line)
+begins_line : (number : ℕ) (line : Bytes) (lines : Lines)
+    → BeginsWith (logical_lines number (line ∷ lines)) number (length line)
 begins_line number line lines = record {
   line = first_logical number (line ∷ lines);
   rest = _;
@@ -80,7 +111,8 @@ begins_line number line lines = record {
     by_more : (t : Bool) → length line ≤ cond t (length line + size_ahead lines) (length line)
     by_more t = grind (arith)
 
-begins_prefix : (lines : List Logical) (number other least : ℕ) (prefix : Bytes) → BeginsWith lines other least → BeginsWith (with_front number prefix lines) number (length prefix + least)
+begins_prefix : (lines : List Logical) (number other least : ℕ) (prefix : Bytes) → BeginsWith lines other least
+    → BeginsWith (with_front number prefix lines) number (length prefix + least)
 begins_prefix lines number other least prefix begins = record {
   line = record { number = number; size = length prefix + begins.line.size; text = prefix ++ begins.line.text };
   rest = begins.rest;
@@ -90,23 +122,35 @@ begins_prefix lines number other least prefix begins = record {
 }
 
 -- The logical line to which a physical line belongs is at least as long as what is joined and that line.
-pub begins_behind : (kept : KeptText) (line : Bytes) (lines : Lines) → BeginsWith (logical_behind kept (line ∷ lines)) (number_by kept.joined kept.next kept.begun) (length kept.joined + length line)
+pub begins_behind : (kept : KeptText) (line : Bytes) (lines : Lines)
+    → BeginsWith (logical_behind kept (line ∷ lines)) (number_by kept.joined kept.next kept.begun)
+    (length kept.joined + length line)
 begins_behind kept line lines = by_joined kept.joined
   where
-    by_joined : (prefix : Bytes) → BeginsWith (with_joined kept.begun prefix (logical_lines kept.next (line ∷ lines))) (number_by prefix kept.next kept.begun) (length prefix + length line)
+    by_joined : (prefix : Bytes) → BeginsWith (with_joined kept.begun prefix (logical_lines kept.next (line ∷ lines)))
+        (number_by prefix kept.next kept.begun) (length prefix + length line)
     by_joined [] = let none : 0 + length line ≡ length line = omega arith in rw none (begins_line kept.next line lines)
-    by_joined (b ∷ bs) = begins_prefix (logical_lines kept.next (line ∷ lines)) kept.begun kept.next (length line) (b ∷ bs) (begins_line kept.next line lines)
+    by_joined (b ∷ bs) = begins_prefix (logical_lines kept.next (line ∷ lines)) kept.begun kept.next (length line)
+        (b ∷ bs) (begins_line kept.next line lines)
 
 -- Behind a line that goes on, what is joined is longer.
 pub behind_held : (kept : KeptText) (line : Bytes) (lines : Lines) → continues line ≡ true
-    → logical_behind kept (line ∷ lines) ≡ with_joined (number_by kept.joined kept.next kept.begun) (kept.joined ++ with_space line) (logical_lines (kept.next + 1) lines)
+    → logical_behind kept (line ∷ lines) ≡ with_joined (number_by kept.joined kept.next kept.begun)
+    (kept.joined ++ with_space line) (logical_lines (kept.next + 1) lines)
 behind_held kept line lines on = by_joined kept.joined
   where
     some : (prefix : Bytes) → 0 < length (prefix ++ with_space line)
-    some prefix = omega (arith, length-append prefix (with_space line), length-append (take (length line - 1) line) (32 ∷ []))
+    some prefix = omega (
+      arith,
+      length-append prefix (with_space line),
+      length-append (take (length line - 1) line) (32 ∷ []),
+    )
 
-    by_joined : (prefix : Bytes) → with_joined kept.begun prefix (logical_lines kept.next (line ∷ lines)) ≡ with_joined (number_by prefix kept.next kept.begun) (prefix ++ with_space line) (logical_lines (kept.next + 1) lines)
-    by_joined [] = logical_goes_on kept.next line lines on ∙ sym (joined_some kept.next (with_space line) (logical_lines (kept.next + 1) lines) (some []))
+    by_joined : (prefix : Bytes) → with_joined kept.begun prefix (logical_lines kept.next (line ∷ lines))
+        ≡ with_joined (number_by prefix kept.next kept.begun) (prefix ++ with_space line)
+        (logical_lines (kept.next + 1) lines)
+    by_joined [] = logical_goes_on kept.next line lines on
+        ∙ sym (joined_some kept.next (with_space line) (logical_lines (kept.next + 1) lines) (some []))
     by_joined (b ∷ bs) =
         ap (with_front kept.begun (b ∷ bs)) (logical_goes_on kept.next line lines on)
         ∙ prefix_more kept.begun kept.next (b ∷ bs) (with_space line) (logical_lines (kept.next + 1) lines)
@@ -114,33 +158,47 @@ behind_held kept line lines on = by_joined kept.joined
 
 -- A line that ends, alone and behind what is joined.
 pub behind_alone : (kept : KeptText) (line : Bytes) (lines : Lines) → continues line ≡ false → kept.joined ≡ []
-    → logical_behind kept (line ∷ lines) ≡ record { number = kept.next; size = length line; text = uncommented line } ∷ logical_lines (kept.next + 1) lines
+    → logical_behind kept (line ∷ lines) ≡ record { number = kept.next; size = length line; text = uncommented line }
+    ∷ logical_lines (kept.next + 1) lines
 behind_alone kept line lines off none =
     ap (λ prefix. with_joined kept.begun prefix (logical_lines kept.next (line ∷ lines))) none
     ∙ logical_ends kept.next line lines off
-    ∙ ap (λ text. record { number = kept.next; size = length line; text = text } ∷ logical_lines (kept.next + 1) lines) (sym (uncommented_is line))
+    ∙ ap (λ text. record { number = kept.next; size = length line; text = text } ∷ logical_lines (kept.next + 1) lines)
+    (sym (uncommented_is line))
 
-pub behind_joined : (kept : KeptText) (line : Bytes) (lines : Lines) → continues line ≡ false → 0 < length kept.joined → list_any is_hash kept.joined ≡ false
+pub behind_joined : (kept : KeptText) (line : Bytes) (lines : Lines) → continues line ≡ false → 0 < length kept.joined
+    → list_any is_hash kept.joined ≡ false
     → logical_behind kept (line ∷ lines)
-    ≡ record { number = kept.begun; size = length kept.joined + length line; text = uncommented (kept.joined ++ before_first is_hash line) } ∷ logical_lines (kept.next + 1) lines
+    ≡ record {
+      number = kept.begun;
+      size = length kept.joined + length line;
+      text =
+          uncommented (kept.joined ++ before_first is_hash line);
+    } ∷ logical_lines (kept.next + 1) lines
 behind_joined kept line lines off some bare =
     let behind = before_first is_hash line in
     let cut : list_any is_hash behind ≡ false = sym (ap (list_any is_hash) (uncommented_is line)) ∙ cut_none line in
-    let none : list_any is_hash (kept.joined ++ behind) ≡ false = list_any-append is_hash kept.joined behind ∙ or_from _ _ bare cut in
+    let none : list_any is_hash (kept.joined ++ behind) ≡ false = list_any-append is_hash kept.joined behind
+    ∙ or_from _ _ bare cut in
     joined_some kept.begun kept.joined (logical_lines kept.next (line ∷ lines)) some
     ∙ ap (with_front kept.begun kept.joined) (logical_ends kept.next line lines off)
-    ∙ ap (λ text. record { number = kept.begun; size = length kept.joined + length line; text = text } ∷ logical_lines (kept.next + 1) lines) (sym (uncommented_none (kept.joined ++ behind) none))
+    ∙ ap (λ text. record { number = kept.begun; size = length kept.joined + length line; text = text }
+    ∷ logical_lines (kept.next + 1) lines) (sym (uncommented_none (kept.joined ++ behind) none))
 
 -- What is joined, where no line comes behind.
 pub behind_nothing : (kept : KeptText) → 0 < length kept.joined → list_any is_hash kept.joined ≡ false
-    → logical_behind kept [] ≡ record { number = kept.begun; size = length kept.joined; text = uncommented kept.joined } ∷ []
+    → logical_behind kept [] ≡ record { number = kept.begun; size = length kept.joined; text = uncommented kept.joined }
+    ∷ []
 behind_nothing kept some bare =
     joined_some kept.begun kept.joined [] some
-    ∙ ap (λ text. record { number = kept.begun; size = length kept.joined; text = text } ∷ []) (sym (uncommented_none kept.joined bare))
+    ∙ ap (λ text. record { number = kept.begun; size = length kept.joined; text = text } ∷ [])
+    (sym (uncommented_none kept.joined bare))
 
 -- What is joined has no comment, with a line more that goes on.
-pub bare_more : (prefix line : Bytes) → list_any is_hash prefix ≡ false → continues line ≡ true → list_any is_hash (prefix ++ with_space line) ≡ false
+pub bare_more : (prefix line : Bytes) → list_any is_hash prefix ≡ false → continues line ≡ true
+    → list_any is_hash (prefix ++ with_space line) ≡ false
 bare_more prefix line bare on =
     let none : list_any is_hash line ≡ false = not-true _ (and_parts _ _ on).1 in
     list_any-append is_hash prefix (with_space line)
-    ∙ or_from _ _ bare (list_any-append is_hash (take (length line - 1) line) (32 ∷ []) ∙ or_from _ _ (any_take (length line - 1) line none) refl)
+    ∙ or_from _ _ bare (list_any-append is_hash (take (length line - 1) line) (32 ∷ [])
+    ∙ or_from _ _ (any_take (length line - 1) line none) refl)

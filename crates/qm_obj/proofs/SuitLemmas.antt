@@ -1,12 +1,14 @@
 -- What one line says fits its kind and the limits.
-use Rattle.std.proofs.Common.{◌≡◌, ℕ, ℤ, ◌+◌, ◌^◌, ◌<◌, ◌≤◌, Bool, true, false, cond, List, [], ◌∷◌, length, take, map, refl, sym, ap, ◌∙◌, arith, ltb, leb}
+use Rattle.std.proofs.Common.{◌≡◌, ℕ, ℤ, ◌+◌, ◌^◌, ◌<◌, ◌≤◌, Bool, true, false, cond, List, [], ◌∷◌, length, take, map}
+use Rattle.std.proofs.Common.{refl, sym, ap, ◌∙◌, arith, ltb, leb}
 use Rattle.std.specs.List.{list_all, list_any}
 use Rattle.std.proofs.lemmas.Bool.{and_from, eqb-true, leb-false, ne_eqb, or_parts}
 use Rattle.std.proofs.lemmas.Bool.Decides.{nat_tests}
 use Rattle.def_text.specs.Corner.{is_out, resolved, used_index}
 use Rattle.def_text.specs.Decimal.{rounded}
 use Rattle.def_text.specs.Logical.{Logical}
-use Rattle.def_text.specs.Reading.{begins_with, face_reading, is_face_line, is_letter, is_vertex_line, reading, vertex_reading, words_reading}
+use Rattle.def_text.specs.Reading.{begins_with, face_reading, is_face_line, is_letter, is_vertex_line, reading}
+use Rattle.def_text.specs.Reading.{vertex_reading, words_reading}
 use Rattle.def_text.specs.Text.{face_in, faces, position_in, refusal_in}
 use Rattle.def_text.specs.Words.{words}
 use Rattle.def_text.specs.declared.refusal.ObjFail.{ObjFail}
@@ -33,7 +35,8 @@ suits_refused vertices faces line fail = record {
   positive = refl;
 }
 
-suits_passed : (vertices faces : ℕ) (line : Logical) → is_vertex_line line ≡ false → is_face_line line ≡ false → Suits vertices faces line Passed
+suits_passed : (vertices faces : ℕ) (line : Logical) → is_vertex_line line ≡ false → is_face_line line ≡ false
+    → Suits vertices faces line Passed
 suits_passed vertices faces line no_vertex no_face = record {
   vertex = λ _. rw no_vertex refl;
   face = λ _. rw no_face refl;
@@ -42,7 +45,8 @@ suits_passed vertices faces line no_vertex no_face = record {
   positive = refl;
 }
 
-suits_position : (vertices faces : ℕ) (line : Logical) (position : List ℤ) → is_vertex_line line ≡ true → is_face_line line ≡ false → vertices < 2 ^ 21 → Suits vertices faces line (Position position)
+suits_position : (vertices faces : ℕ) (line : Logical) (position : List ℤ) → is_vertex_line line ≡ true
+    → is_face_line line ≡ false → vertices < 2 ^ 21 → Suits vertices faces line (Position position)
 suits_position vertices faces line position vertex no_face few = record {
   vertex = λ _. rw vertex refl;
   face = λ _. rw no_face refl;
@@ -51,7 +55,8 @@ suits_position vertices faces line position vertex no_face few = record {
   positive = refl;
 }
 
-suits_face : (vertices faces : ℕ) (line : Logical) (n : ℕ) (corners : List ℕ) → is_vertex_line line ≡ false → is_face_line line ≡ true → faces < 2 ^ 20
+suits_face : (vertices faces : ℕ) (line : Logical) (n : ℕ) (corners : List ℕ) → is_vertex_line line ≡ false
+    → is_face_line line ≡ true → faces < 2 ^ 20
     → list_all (λ corner. ltb 0 corner) corners ≡ true → Suits vertices faces line (Face n corners)
 suits_face vertices faces line n corners no_vertex face few positive = record {
   vertex = λ _. rw no_vertex refl;
@@ -68,44 +73,61 @@ one_letter a b ne [] is = refl
 one_letter a b ne (c ∷ d ∷ ds) is = refl
 
 -- An index that is not out names a positive number.
-resolved_positive : (vertices : ℕ) (word : List ℕ) → is_out vertices word ≡ false → ltb 0 (resolved vertices word) ≡ true
+resolved_positive : (vertices : ℕ) (word : List ℕ) → is_out vertices word ≡ false → ltb 0 (resolved vertices word)
+    ≡ true
 resolved_positive vertices word inside = grind (arith, nat_tests)
 
 positive_corners : (vertices : ℕ) (ws : Words) → list_any (λ w. is_out vertices (used_index w)) ws ≡ false
     → list_all (λ corner. ltb 0 corner) (map (λ w. resolved vertices (used_index w)) ws) ≡ true
 positive_corners vertices [] inside = refl
 positive_corners vertices (w ∷ ws) inside =
-    let parts : (is_out vertices (used_index w) ≡ false) × (list_any (λ w. is_out vertices (used_index w)) ws ≡ false) = or_parts _ _ inside in
+    let parts : (is_out vertices (used_index w) ≡ false) × (list_any (λ w. is_out vertices (used_index w)) ws ≡ false) =
+    or_parts _ _ inside in
     and_from _ _ (resolved_positive vertices (used_index w) parts.0) (positive_corners vertices ws parts.1)
 
 pub reading_suits : (vertices faces : ℕ) (line : Logical) → Suits vertices faces line (reading vertices faces line)
 reading_suits vertices faces line = by_size (ltb 65536 line.size)
   where
-    by_vertex : (ws : Words) (many bad far : Bool) → leb (2 ^ 21) vertices ≡ many → is_vertex_line line ≡ true → is_face_line line ≡ false
-        → Suits vertices faces line (cond many (Refused (Limit Vertices line.number)) (cond bad (Refused (Syntax line.number)) (cond far (Refused (Range line.number)) (Position (map rounded (take 3 ws))))))
+    by_vertex : (ws : Words) (many bad far : Bool) → leb (2 ^ 21) vertices ≡ many → is_vertex_line line ≡ true
+        → is_face_line line ≡ false
+        → Suits vertices faces line (cond many (Refused (Limit Vertices line.number))
+        (cond bad (Refused (Syntax line.number))
+        (cond far (Refused (Range line.number)) (Position (map rounded (take 3 ws))))))
     by_vertex ws true bad far many vertex no_face = suits_refused vertices faces line _
     by_vertex ws false true far many vertex no_face = suits_refused vertices faces line _
     by_vertex ws false false true many vertex no_face = suits_refused vertices faces line _
-    by_vertex ws false false false many vertex no_face = suits_position vertices faces line (map rounded (take 3 ws)) vertex no_face (leb-false _ _ many)
+    by_vertex ws false false false many vertex no_face = suits_position vertices faces line (map rounded (take 3 ws))
+        vertex no_face (leb-false _ _ many)
 
-    by_face : (ws : Words) (many bad other out : Bool) → leb (2 ^ 20) faces ≡ many → list_any (λ w. is_out vertices (used_index w)) ws ≡ out → is_vertex_line line ≡ false → is_face_line line ≡ true
-        → Suits vertices faces line (cond many (Refused (Limit Faces line.number)) (cond bad (Refused (Syntax line.number)) (cond other (Refused (NotQuad line.number (length ws)))
+    by_face : (ws : Words) (many bad other out : Bool) → leb (2 ^ 20) faces ≡ many
+        → list_any (λ w. is_out vertices (used_index w)) ws ≡ out → is_vertex_line line ≡ false
+        → is_face_line line ≡ true
+        → Suits vertices faces line (cond many (Refused (Limit Faces line.number))
+        (cond bad (Refused (Syntax line.number)) (cond other (Refused (NotQuad line.number (length ws)))
         (cond out (Refused (Range line.number)) (Face line.number (map (λ w. resolved vertices (used_index w)) ws))))))
     by_face ws false false false false many is no_vertex face =
-        suits_face vertices faces line line.number (map (λ w. resolved vertices (used_index w)) ws) no_vertex face (leb-false _ _ many) (positive_corners vertices ws is)
+        suits_face vertices faces line line.number (map (λ w. resolved vertices (used_index w)) ws) no_vertex face
+        (leb-false _ _ many) (positive_corners vertices ws is)
     by_face ws _ _ _ _ many is no_vertex face = suits_refused vertices faces line _
 
-    by_letter : (word : List ℕ) (ws : Words) (v f : Bool) → words line.text ≡ word ∷ ws → is_letter 118 word ≡ v → is_letter 102 word ≡ f
-        → Suits vertices faces line (cond v (vertex_reading line.number vertices ws) (cond f (face_reading line.number vertices faces ws) Passed))
+    by_letter : (word : List ℕ) (ws : Words) (v f : Bool) → words line.text ≡ word ∷ ws → is_letter 118 word ≡ v
+        → is_letter 102 word ≡ f
+        → Suits vertices faces line (cond v (vertex_reading line.number vertices ws)
+        (cond f (face_reading line.number vertices faces ws) Passed))
     by_letter word ws true f are v-is f-is =
-        by_vertex ws _ _ _ refl (ap (begins_with 118) are ∙ v-is) (ap (begins_with 102) are ∙ one_letter 118 102 (λ (e : ◌≡◌ {A = ℕ} 118 102). omega arith) word v-is)
-    by_letter word ws false true are v-is f-is = by_face ws _ _ _ _ refl refl (ap (begins_with 118) are ∙ v-is) (ap (begins_with 102) are ∙ f-is)
-    by_letter word ws false false are v-is f-is = suits_passed vertices faces line (ap (begins_with 118) are ∙ v-is) (ap (begins_with 102) are ∙ f-is)
+        by_vertex ws _ _ _ refl (ap (begins_with 118) are ∙ v-is) (ap (begins_with 102) are
+        ∙ one_letter 118 102 (λ (e : ◌≡◌ {A = ℕ} 118 102). omega arith) word v-is)
+    by_letter word ws false true are v-is f-is = by_face ws _ _ _ _ refl refl (ap (begins_with 118) are ∙ v-is)
+        (ap (begins_with 102) are ∙ f-is)
+    by_letter word ws false false are v-is f-is = suits_passed vertices faces line (ap (begins_with 118) are ∙ v-is)
+        (ap (begins_with 102) are ∙ f-is)
 
-    by_words : (ws : Words) → words line.text ≡ ws → Suits vertices faces line (words_reading line.number vertices faces ws)
+    by_words : (ws : Words) → words line.text ≡ ws
+        → Suits vertices faces line (words_reading line.number vertices faces ws)
     by_words [] are = suits_passed vertices faces line (ap (begins_with 118) are) (ap (begins_with 102) are)
     by_words (word ∷ ws) are = by_letter word ws _ _ are refl refl
 
-    by_size : (long : Bool) → Suits vertices faces line (cond long (Refused (Limit Line line.number)) (words_reading line.number vertices faces (words line.text)))
+    by_size : (long : Bool) → Suits vertices faces line (cond long (Refused (Limit Line line.number))
+        (words_reading line.number vertices faces (words line.text)))
     by_size true = suits_refused vertices faces line _
     by_size false = by_words (words line.text) refl

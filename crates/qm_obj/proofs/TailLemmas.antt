@@ -1,9 +1,11 @@
 -- Physical lines of a text whose last bytes are not ended.
-use Rattle.std.proofs.Common.{◌≡◌, ℕ, zero, suc, ◌+◌, ◌-◌, ◌<◌, ◌≤◌, Bool, true, false, cond, eqb, [], ◌∷◌, ◌++◌, length, take, drop, map, get_or, refl, sym, ap, ◌∙◌, arith}
+use Rattle.std.proofs.Common.{◌≡◌, ℕ, zero, suc, ◌+◌, ◌-◌, ◌<◌, ◌≤◌, Bool, true, false, cond, eqb, [], ◌∷◌, ◌++◌}
+use Rattle.std.proofs.Common.{length, take, drop, map, get_or, refl, sym, ap, ◌∙◌, arith}
 use Rattle.std.specs.List.{count_by, list_any}
 use Rattle.std.proofs.Math.Seq.{take-add}
 use Rattle.std.proofs.lemmas.Bool.{or_parts}
-use Rattle.std.proofs.lemmas.List.{append-nil, get_or_push, length-append, length-take-le, take-append-drop, take_at, take_more, take_rest}
+use Rattle.std.proofs.lemmas.List.{append-nil, get_or_push, length-append, length-take-le, take-append-drop, take_at}
+use Rattle.std.proofs.lemmas.List.{take_more, take_rest}
 use Rattle.std.proofs.lemmas.List.Sums.{sum_by-append, sum_by-cons}
 use Rattle.def_feed.specs.Feed.{is_line_feed}
 use Rattle.def_io.specs.Bytes.{Bytes, Lines}
@@ -23,7 +25,8 @@ short_last byte piece = grind (arith, length-take-le (length piece - 1) piece (o
 fed_last : (prefix : Bytes) → without_last 10 (prefix ++ 10 ∷ []) ≡ prefix
 fed_last prefix =
     let last : length (prefix ++ 10 ∷ []) - 1 ≡ length prefix = omega (arith, length-append prefix (10 ∷ [])) in
-    let at : eqb (get_or (prefix ++ 10 ∷ []) (length prefix) 0) 10 ≡ true = rw (get_or_push prefix 10 0 (length prefix) refl) refl in
+    let at : eqb (get_or (prefix ++ 10 ∷ []) (length prefix) 0) 10 ≡ true =
+    rw (get_or_push prefix 10 0 (length prefix) refl) refl in
     rw (last, at) (take_at prefix (10 ∷ []) (length prefix) refl)
 
 unfed_last : (prefix : Bytes) → list_any is_line_feed prefix ≡ false → without_last 10 prefix ≡ prefix
@@ -33,15 +36,18 @@ unfed_last (b ∷ bs) none = rw (none_at is_line_feed (b ∷ bs) (length (b ∷ 
 line_of_fed : (prefix : Bytes) → list_any is_line_feed prefix ≡ false → line_of (prefix ++ 10 ∷ []) ≡ line_of prefix
 line_of_fed prefix none = ap (without_last 13) (fed_last prefix ∙ sym (unfed_last prefix none))
 
-pieces_fed : (prefix more : Bytes) → list_any is_line_feed prefix ≡ false → pieces (prefix ++ 10 ∷ more) ≡ (prefix ++ 10 ∷ []) ∷ pieces more
+pieces_fed : (prefix more : Bytes) → list_any is_line_feed prefix ≡ false → pieces (prefix ++ 10 ∷ more)
+    ≡ (prefix ++ 10 ∷ []) ∷ pieces more
 pieces_fed [] more none = refl
 pieces_fed (b ∷ bs) more none =
     let parts : (eqb b 10 ≡ false) × (list_any is_line_feed bs ≡ false) = or_parts _ _ none in
     rw parts.0 (ap (byte_in_front b) (pieces_fed bs more parts.1))
 
 -- A line that ends.
-pub lines_fed : (prefix more : Bytes) → list_any is_line_feed prefix ≡ false → lines_of (prefix ++ 10 ∷ more) ≡ line_of prefix ∷ lines_of more
-lines_fed prefix more none = ap (map line_of) (pieces_fed prefix more none) ∙ ap (λ line. line ∷ lines_of more) (line_of_fed prefix none)
+pub lines_fed : (prefix more : Bytes) → list_any is_line_feed prefix ≡ false → lines_of (prefix ++ 10 ∷ more)
+    ≡ line_of prefix ∷ lines_of more
+lines_fed prefix more none = ap (map line_of) (pieces_fed prefix more none)
+    ∙ ap (λ line. line ∷ lines_of more) (line_of_fed prefix none)
 
 -- The first piece of a text begins with its bytes before the first line feed.
 record Opens (prefix all : Bytes) : Type 0 where
@@ -74,7 +80,8 @@ pub record FirstLine (prefix all : Bytes) : Type 0 where
   pub are : lines_of all ≡ line ∷ rest
   pub long : length prefix ≤ length line + 1
 
-pub first_line : (prefix more : Bytes) → list_any is_line_feed prefix ≡ false → 0 < length prefix → FirstLine prefix (prefix ++ more)
+pub first_line : (prefix more : Bytes) → list_any is_line_feed prefix ≡ false → 0 < length prefix
+    → FirstLine prefix (prefix ++ more)
 first_line prefix more none some = by_opening (opens prefix more none some)
   where
     kept : (behind : Bytes) → length prefix ≤ length (without_last 10 (prefix ++ behind))
@@ -90,10 +97,12 @@ first_line prefix more none some = by_opening (opens prefix more none some)
     }
 
 -- A text without line feed is one line, where it is not empty.
-pub lines_open : (prefix : Bytes) → list_any is_line_feed prefix ≡ false → 0 < length prefix → lines_of prefix ≡ line_of prefix ∷ []
+pub lines_open : (prefix : Bytes) → list_any is_line_feed prefix ≡ false → 0 < length prefix
+    → lines_of prefix ≡ line_of prefix ∷ []
 lines_open prefix none some = ap (map line_of) (one_piece prefix none some)
   where
-    one_piece : (prefix : Bytes) → list_any is_line_feed prefix ≡ false → 0 < length prefix → pieces prefix ≡ prefix ∷ []
+    one_piece : (prefix : Bytes) → list_any is_line_feed prefix ≡ false → 0 < length prefix
+        → pieces prefix ≡ prefix ∷ []
     one_piece [] none some = absurd (omega arith)
     one_piece (b ∷ []) none some = rw (or_parts (eqb b 10) false none).0 refl
     one_piece (b ∷ c ∷ cs) none some =
@@ -108,11 +117,13 @@ count_none (x ∷ xs) none =
     let rest : count_by is_line_feed xs ≡ 0 = count_none xs parts.1 in
     sum_by-cons (λ b. cond (eqb b 10) 1 0) x xs ∙ rw (parts.0, rest) refl
 
-pub count_append : (xs ys : Bytes) → count_by is_line_feed (xs ++ ys) ≡ count_by is_line_feed xs + count_by is_line_feed ys
+pub count_append : (xs ys : Bytes) → count_by is_line_feed (xs ++ ys) ≡ count_by is_line_feed xs + count_by is_line_feed
+    ys
 count_append xs ys = sum_by-append (λ b. cond (eqb b 10) 1 0) xs ys
 
 -- The prefix of what is left of a piece up to a line feed, and the line feed.
-pub prefix_fed : (piece : Bytes) (at end : ℕ) → 0 < end → end ≤ length (take (length piece - at) (drop at piece)) → get_or (take (length piece - at) (drop at piece)) (end - 1) 0 ≡ 10
+pub prefix_fed : (piece : Bytes) (at end : ℕ) → 0 < end → end ≤ length (take (length piece - at) (drop at piece))
+    → get_or (take (length piece - at) (drop at piece)) (end - 1) 0 ≡ 10
     → take (at + end) piece ≡ take at piece ++ (take (at + end - 1 - at) (drop at piece) ++ 10 ∷ [])
 prefix_fed piece at end some within feed =
     let one : end - 1 + 1 ≡ end = omega arith in

@@ -1,5 +1,6 @@
 -- The positions that some face names, and the numbers of the vertices that they become.
-use Rattle.std.proofs.Common.{◌≡◌, ℕ, zero, suc, ◌+◌, ◌-◌, ◌<◌, ◌≤◌, Bool, true, false, cond, ◌&&◌, List, [], ◌∷◌, ◌++◌, length, drop, set, map, get_or, refl, sym, ap, ◌∙◌, arith, ltb, leb, add-one}
+use Rattle.std.proofs.Common.{◌≡◌, ℕ, zero, suc, ◌+◌, ◌-◌, ◌<◌, ◌≤◌, Bool, true, false, cond, ◌&&◌, List, [], ◌∷◌, ◌++◌}
+use Rattle.std.proofs.Common.{length, drop, set, map, get_or, refl, sym, ap, ◌∙◌, arith, ltb, leb, add-one}
 use Rattle.std.specs.Prelude.{IsTrue}
 use Rattle.std.specs.List.{filter, list_all, list_any}
 use Rattle.std.proofs.lemmas.List.{append-nil, take_more_set, map_push, length_push, drop-drop, drop_more, length-set}
@@ -14,10 +15,12 @@ use Rattle.def_text.specs.Types.{Positions}
 use Rattle.def_mesh.specs.Faces.{Faces}
 
 -- A filter and one number more.
-pub filter_numbers : (p : ℕ → Bool) (k : ℕ) → filter p (numbers_to (k + 1)) ≡ filter p (numbers_to k) ++ cond (p (k + 1)) ((k + 1) ∷ []) []
+pub filter_numbers : (p : ℕ → Bool) (k : ℕ) → filter p (numbers_to (k + 1)) ≡ filter p (numbers_to k)
+    ++ cond (p (k + 1)) ((k + 1) ∷ []) []
 filter_numbers p k = rw (add-one k) (filter-append p (numbers_to k) (suc k ∷ []))
 
-pub chosen_yes : (marks : List Bool) (k : ℕ) → get_or marks k false ≡ true → chosen marks (k + 1) ≡ chosen marks k ++ (k + 1) ∷ []
+pub chosen_yes : (marks : List Bool) (k : ℕ) → get_or marks k false ≡ true → chosen marks (k + 1) ≡ chosen marks k
+    ++ (k + 1) ∷ []
 chosen_yes marks k on =
     let e : k + 1 - 1 ≡ k = omega arith in
     let p : get_or marks (k + 1 - 1) false ≡ true = rw e on in
@@ -30,8 +33,10 @@ chosen_no marks k off =
     filter_numbers (λ k. get_or marks (k - 1) false) k ∙ rw p (append-nil _)
 
 -- One position more, that is kept.
-pub kept_mark : (marks : List Bool) (old positions : Positions) (names : List ℕ) (k : ℕ) → k < length marks → get_or marks k false ≡ true
-    → IsKept marks old positions names k → IsKept marks old (set positions (length names) (get_or positions k [])) (names ++ (k + 1) ∷ []) (k + 1)
+pub kept_mark : (marks : List Bool) (old positions : Positions) (names : List ℕ) (k : ℕ) → k < length marks
+    → get_or marks k false ≡ true
+    → IsKept marks old positions names k → IsKept marks old (set positions (length names) (get_or positions k []))
+    (names ++ (k + 1) ∷ []) (k + 1)
 kept_mark marks old positions names k there on kept = record {
   names_are = ap (λ (xs : List ℕ). xs ++ (k + 1) ∷ []) kept.names_are ∙ sym (chosen_yes marks k on);
   few = omega (arith, length_push names (k + 1), kept.few);
@@ -42,7 +47,8 @@ kept_mark marks old positions names k there on kept = record {
       let e : k + 1 - 1 ≡ k = omega arith in
       let same : get_or positions k [] ≡ position_of old (k + 1) = rw e (at_back positions old k [] kept.back) in
       rw n (take_more_set positions (length names) (get_or positions k []) room
-      ∙ rw (kept.prefix, same) (sym (map_push (position_of old) (chosen marks k) (k + 1)) ∙ ap (map (position_of old)) (sym (chosen_yes marks k on))));
+      ∙ rw (kept.prefix, same) (sym (map_push (position_of old) (chosen marks k) (k + 1))
+      ∙ ap (map (position_of old)) (sym (chosen_yes marks k on))));
   back = back_more positions old k (length names) (get_or positions k []) kept.few kept.back;
 }
 
@@ -58,7 +64,8 @@ kept_skip marks old positions names k off kept = record {
 }
 
 -- Marked are the used.
-pub chosen_used : (faces : Faces) (n : ℕ) (marks : List Bool) → IsMarked faces n marks → (k : ℕ) → k ≤ n → chosen marks k ≡ used_to faces k
+pub chosen_used : (faces : Faces) (n : ℕ) (marks : List Bool) → IsMarked faces n marks → (k : ℕ) → k ≤ n
+    → chosen marks k ≡ used_to faces k
 chosen_used faces n marks marked zero le = refl
 chosen_used faces n marks marked (suc k) le =
     let again : chosen marks k ≡ used_to faces k = chosen_used faces n marks marked k (omega arith) in
@@ -68,7 +75,8 @@ chosen_used faces n marks marked (suc k) le =
     ∙ rw (p, again) (sym (filter-append (is_used faces) (numbers_to k) (suc k ∷ [])))
 
 -- Two functions that agree on the numbers from 1 to n.
-pub map_numbers : (f g : ℕ → ℕ) (n : ℕ) → ((k : ℕ) → 0 < k → k ≤ n → f k ≡ g k) → (xs : List ℕ) → IsTrue (are_numbers n xs) → map f xs ≡ map g xs
+pub map_numbers : (f g : ℕ → ℕ) (n : ℕ) → ((k : ℕ) → 0 < k → k ≤ n → f k ≡ g k) → (xs : List ℕ)
+    → IsTrue (are_numbers n xs) → map f xs ≡ map g xs
 map_numbers f g n same [] all = refl
 map_numbers f g n same (x ∷ xs) all =
     let parts : ((ltb 0 x && leb x n) ≡ true) × (are_numbers n xs ≡ true) = and_parts _ _ all in
@@ -76,7 +84,8 @@ map_numbers f g n same (x ∷ xs) all =
     let e : f x ≡ g x = same x (ltb-true 0 x both.0) (leb-true x n both.1) in
     rw (e, map_numbers f g n same xs parts.1) refl
 
-pub map_faces : (f g : ℕ → ℕ) (n : ℕ) → ((k : ℕ) → 0 < k → k ≤ n → f k ≡ g k) → (faces : Faces) → IsTrue (list_all (are_numbers n) faces)
+pub map_faces : (f g : ℕ → ℕ) (n : ℕ) → ((k : ℕ) → 0 < k → k ≤ n → f k ≡ g k) → (faces : Faces)
+    → IsTrue (list_all (are_numbers n) faces)
     → map (λ corners. map f corners) faces ≡ map (λ corners. map g corners) faces
 map_faces f g n same [] all = refl
 map_faces f g n same (x ∷ xs) all =
@@ -87,25 +96,33 @@ map_faces f g n same (x ∷ xs) all =
 pub late_more : (vertices : ℕ) (faces : Faces) (lines : List ℕ) (i : ℕ) → i < length faces → length lines ≡ length faces
     → list_any (λ corner. ltb vertices corner) (get_or faces i []) ≡ false
     → first_late vertices (drop (i + 1) faces) (drop (i + 1) lines) ≡ first_late vertices (drop i faces) (drop i lines)
-late_more vertices faces lines i there size calm = rw (drop_more faces i [] there, drop_more lines i 0 (omega arith), calm) refl
+late_more vertices faces lines i there size calm = rw (
+  drop_more faces i [] there,
+  drop_more lines i 0 (omega arith),
+  calm,
+) refl
 
 -- What was kept, counted and renumbered is the soup.
 pub made_of : (positions : Positions) (faces : Faces) (marks : List Bool) (made : FaceSet) (vertices : List ℕ)
-    → IsMarked faces (length positions) marks → IsTrue (list_all (are_numbers (length positions)) faces) → IsCounted marks vertices
+    → IsMarked faces (length positions) marks → IsTrue (list_all (are_numbers (length positions)) faces)
+    → IsCounted marks vertices
     → made.names ≡ chosen marks (length marks) → made.pos ≡ map (position_of positions) (chosen marks (length marks))
     → made.faces ≡ map (λ corners. map (λ corner. get_or vertices (corner - 1) 0) corners) faces
     → made ≡ face_set positions faces
 made_of positions faces marks made vertices marked known counted names pos renumbered =
     let all : chosen marks (length marks) ≡ used_to faces (length positions) =
-    ap (chosen marks) marked.size ∙ chosen_used faces (length positions) marks marked (length positions) (omega arith) in
+    ap (chosen marks) marked.size ∙ chosen_used faces (length positions) marks marked (length positions)
+    (omega arith) in
     same_parts made (face_set positions faces)
     (pos ∙ ap (map (position_of positions)) all)
-    (renumbered ∙ map_faces (λ corner. get_or vertices (corner - 1) 0) (line_vertex faces) (length positions) each faces known)
+    (renumbered ∙ map_faces (λ corner. get_or vertices (corner - 1) 0) (line_vertex faces) (length positions) each faces
+    known)
     (names ∙ all)
   where
     each : (k : ℕ) → 0 < k → k ≤ length positions → get_or vertices (k - 1) 0 ≡ line_vertex faces k
     each k some le =
-        counted.each (k - 1) (omega (arith, marked.size)) ∙ ap length (chosen_used faces (length positions) marks marked (k - 1) (omega arith))
+        counted.each (k - 1) (omega (arith, marked.size))
+        ∙ ap length (chosen_used faces (length positions) marks marked (k - 1) (omega arith))
 
     same_parts : (s t : FaceSet) → s.pos ≡ t.pos → s.faces ≡ t.faces → s.names ≡ t.names → s ≡ t
     same_parts s t p q r = λ i. record { pos = p i; faces = q i; names = r i }

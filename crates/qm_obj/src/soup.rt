@@ -38,7 +38,8 @@ fn feed_of<S: Source>(alloc: Global, src: &mut S, limit: u32) -> Result<ObjFeed,
     ensures later { (S.state src.old).faults ≤ (S.state src.new).faults }
     ensures fault { IsErrOf result ReadFail.Fault → Rose (S.state src.old).faults (S.state src.new).faults }
     ensures too_long { IsErrOf result ReadFail.TooLong →
-        GaveMore limit (S.state src.old).told (S.state src.new).told × ((S.state src.new).faults ≡ (S.state src.old).faults) }
+        GaveMore limit (S.state src.old).told (S.state src.new).told
+        × ((S.state src.new).faults ≡ (S.state src.old).faults) }
 {
     let mut buffer = read_buffer(alloc)?;
     let mut feed = ObjFeed::new(alloc);
@@ -68,7 +69,8 @@ fn feed_piece<S: Source>(
     ensures later { (S.state src.old).faults ≤ (S.state src.new).faults }
     ensures fault { IsErrOf result ReadFail.Fault → Rose (S.state src.old).faults (S.state src.new).faults }
     ensures too_long { IsErrOf result ReadFail.TooLong →
-        GaveMore room (S.state src.old).told (S.state src.new).told × ((S.state src.new).faults ≡ (S.state src.old).faults) }
+        GaveMore room (S.state src.old).told (S.state src.new).told
+        × ((S.state src.new).faults ≡ (S.state src.old).faults) }
 {
     let count = src.read(buffer)?;
     if count > room as usize {

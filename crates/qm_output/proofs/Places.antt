@@ -1,5 +1,6 @@
 -- Places at which texts differ.
-use Rattle.std.proofs.Common.{◌≡◌, ℕ, suc, ◌+◌, ◌-◌, ◌≤◌, ◌<◌, ◌⊎◌, true, [], ◌++◌, length, take, drop, get_or, slice_index, eqb, sym, ◌∙◌, ap, subst, inl, inr, arith, length-drop, length-take}
+use Rattle.std.proofs.Common.{◌≡◌, ℕ, suc, ◌+◌, ◌-◌, ◌≤◌, ◌<◌, ◌⊎◌, true, [], ◌++◌, length, take, drop, get_or}
+use Rattle.std.proofs.Common.{slice_index, eqb, sym, ◌∙◌, ap, subst, inl, inr, arith, length-drop, length-take}
 use Rattle.std.proofs.lemmas.Bool.{cases_lt, eq-eqb, eqb-true}
 use Rattle.std.proofs.Math.Seq.{drop-cons}
 use Rattle.std.proofs.lemmas.List.{drop-drop, drop_all, take-append-drop}
@@ -11,7 +12,8 @@ pub nothing_left : (given : Bytes) (at : ℕ) → at ≤ length given
     → (eqb at (length given) ≡ true → drop at given ≡ []) × (drop at given ≡ [] → eqb at (length given) ≡ true)
 nothing_left given at within = (
   λ met. let e : at ≡ length given = eqb-true at (length given) met in drop_all at given (omega (arith, e)),
-  λ none. let e : length (drop at given) ≡ 0 = ap length none in eq-eqb at (length given) (omega (arith, e, length-drop at given, within)),
+  λ none. let e : length (drop at given) ≡ 0 = ap length none in
+      eq-eqb at (length given) (omega (arith, e, length-drop at given, within)),
 )
 
 -- A text that is alike up to a place, at which the given bytes end or have another byte.
@@ -35,13 +37,16 @@ differs_at given piece at n fits same most inside = record {
     length_take : length (take n piece) ≡ n
     length_take = omega (arith, length-take n piece, inside)
 
-    by_end : (n < length (drop at given)) ⊎ (length (drop at given) ≤ n) → LacksFirst (get_or piece n 0) (drop n (drop at given))
+    by_end : (n < length (drop at given)) ⊎ (length (drop at given) ≤ n)
+        → LacksFirst (get_or piece n 0) (drop n (drop at given))
     by_end (inl more) =
-        subst (LacksFirst (get_or piece n 0)) (sym (drop-cons (drop at given) n 0 more)) (λ same. most more inside (sym same))
+        subst (LacksFirst (get_or piece n 0)) (sym (drop-cons (drop at given) n 0 more))
+        (λ same. most more inside (sym same))
     by_end (inr over) = subst (LacksFirst (get_or piece n 0)) (sym (drop_all n (drop at given) over)) tt
 
 -- The same of the rest by another name.
-pub differs_behind : (given piece rest : Bytes) (at n : ℕ) → rest ≡ drop at given → n ≤ length rest → take n rest ≡ take n piece
+pub differs_behind : (given piece rest : Bytes) (at n : ℕ) → rest ≡ drop at given → n ≤ length rest
+    → take n rest ≡ take n piece
     → (n < length rest → n < length piece → ¬ (slice_index rest n ≡ slice_index piece n)) → n < length piece
     → Differs (record { at = at; rest = drop at given }) (record { at = at + n; rest = drop (at + n) given }) piece
 differs_behind given piece rest at n is fits same most inside =

@@ -15,7 +15,8 @@ of_error (Ok value) p = tt
 of_error (Err error) p = p
 
 -- It took a prefix of what waited with a text behind it.
-pub prefix_broke : (taken now : Told) (faults faults_now : ℕ) (held text left : Bytes) → TookPrefix taken now (held ++ text)
+pub prefix_broke : (taken now : Told) (faults faults_now : ℕ) (held text left : Bytes)
+    → TookPrefix taken now (held ++ text)
     → Rose faults faults_now → BrokeOff (buffered taken faults held) (buffered now faults_now left) text
 prefix_broke taken now faults faults_now held text left prefix rose = record {
   sent = take prefix.count (held ++ text);
@@ -29,10 +30,12 @@ prefix_broke taken now faults faults_now held text left prefix rose = record {
 pub held_broke : (taken now : Told) (faults faults_now : ℕ) (held left : Bytes) → TookPrefix taken now held
     → Rose faults faults_now → BrokeOff (buffered taken faults held) (buffered now faults_now left) []
 held_broke taken now faults faults_now held left prefix rose =
-    prefix_broke taken now faults faults_now held [] left (subst (TookPrefix taken now) (sym (append-nil held)) prefix) rose
+    prefix_broke taken now faults faults_now held [] left (subst (TookPrefix taken now) (sym (append-nil held)) prefix)
+    rose
 
 -- It took a prefix of a text before which nothing waited.
-pub text_broke : (taken now : Told) (faults faults_now : ℕ) (held text left : Bytes) → held ≡ [] → TookPrefix taken now text
+pub text_broke : (taken now : Told) (faults faults_now : ℕ) (held text left : Bytes) → held ≡ []
+    → TookPrefix taken now text
     → Rose faults faults_now → BrokeOff (buffered taken faults held) (buffered now faults_now left) text
 text_broke taken now faults faults_now held text left none prefix rose =
     prefix_broke taken now faults faults_now held text left
@@ -45,18 +48,21 @@ text_prefix before now text none broke =
     let all : text ≡ broke.sent ++ broke.lost = ap (λ (xs : Bytes). xs ++ text) (sym none) ∙ broke.whole in
     record {
       count = length broke.sent;
-      is = broke.moved ∙ ap (took before.taken) (sym (ap (take (length broke.sent)) all ∙ take-append_seam broke.sent broke.lost));
+      is = broke.moved ∙ ap (took before.taken)
+          (sym (ap (take (length broke.sent)) all ∙ take-append_seam broke.sent broke.lost));
     }
 
 -- So it did where the text was put whole, and what waited of it was not taken.
-pub rest_prefix : (before mid now : Buffered) (text : Bytes) → before.held ≡ [] → PassedOn before mid text → BrokeOff mid now []
+pub rest_prefix : (before mid now : Buffered) (text : Bytes) → before.held ≡ [] → PassedOn before mid text
+    → BrokeOff mid now []
     → TookPrefix before.taken now.taken text
 rest_prefix before mid now text none passed broke =
     subst (TookPrefix before.taken now.taken) (append-nil text)
     (text_prefix before now (text ++ []) none (broke_later before mid now text [] passed broke))
 
 -- Where the text was put whole, and then all that waited was taken, the sink took the text.
-pub text_whole : (before mid now : Buffered) (text : Bytes) → before.held ≡ [] → PassedOn before mid text → PassedOn mid now []
+pub text_whole : (before mid now : Buffered) (text : Bytes) → before.held ≡ [] → PassedOn before mid text
+    → PassedOn mid now []
     → now.held ≡ [] → now.taken ≡ took before.taken text
 text_whole before mid now text none first last empty =
     let all : PassedOn before now (text ++ []) = passed_more before mid now text [] first last in

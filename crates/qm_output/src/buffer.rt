@@ -57,12 +57,16 @@ impl<'a, K: Sink> Buffer<'a, K> {
         ensures same { self.new.sink.ghost_name ≡ self.old.sink.ghost_name }
         ensures empty { OnOk result (take self.new.held self.new.room.now ≡ []) }
         ensures whole { OnOk result (PassedOn
-            (buffered (K.state self.old.sink.now).told (K.state self.old.sink.now).faults (take self.old.held self.old.room.now))
-            (buffered (K.state self.new.sink.now).told (K.state self.new.sink.now).faults (take self.new.held self.new.room.now))
+            (buffered (K.state self.old.sink.now).told (K.state self.old.sink.now).faults
+            (take self.old.held self.old.room.now))
+            (buffered (K.state self.new.sink.now).told (K.state self.new.sink.now).faults
+            (take self.new.held self.new.room.now))
             []) }
         ensures part { OnErr result (BrokeOff
-            (buffered (K.state self.old.sink.now).told (K.state self.old.sink.now).faults (take self.old.held self.old.room.now))
-            (buffered (K.state self.new.sink.now).told (K.state self.new.sink.now).faults (take self.new.held self.new.room.now))
+            (buffered (K.state self.old.sink.now).told (K.state self.old.sink.now).faults
+            (take self.old.held self.old.room.now))
+            (buffered (K.state self.new.sink.now).told (K.state self.new.sink.now).faults
+            (take self.new.held self.new.room.now))
             []) }
     {
         match write_all(self.sink, &self.room[..self.held]) {
@@ -80,12 +84,16 @@ impl<'a, K: Sink> Buffer<'a, K> {
         ensures room { OnOk result ((self.new.held + count ≤ length self.new.room.now)
             ⊎ (take self.new.held self.new.room.now ≡ [])) }
         ensures whole { OnOk result (PassedOn
-            (buffered (K.state self.old.sink.now).told (K.state self.old.sink.now).faults (take self.old.held self.old.room.now))
-            (buffered (K.state self.new.sink.now).told (K.state self.new.sink.now).faults (take self.new.held self.new.room.now))
+            (buffered (K.state self.old.sink.now).told (K.state self.old.sink.now).faults
+            (take self.old.held self.old.room.now))
+            (buffered (K.state self.new.sink.now).told (K.state self.new.sink.now).faults
+            (take self.new.held self.new.room.now))
             []) }
         ensures part { OnErr result (BrokeOff
-            (buffered (K.state self.old.sink.now).told (K.state self.old.sink.now).faults (take self.old.held self.old.room.now))
-            (buffered (K.state self.new.sink.now).told (K.state self.new.sink.now).faults (take self.new.held self.new.room.now))
+            (buffered (K.state self.old.sink.now).told (K.state self.old.sink.now).faults
+            (take self.old.held self.old.room.now))
+            (buffered (K.state self.new.sink.now).told (K.state self.new.sink.now).faults
+            (take self.new.held self.new.room.now))
             []) }
     {
         if count <= self.room.len() - self.held {
@@ -99,12 +107,16 @@ impl<'a, K: Sink> Buffer<'a, K> {
         requires empty { take self.old.held self.old.room.now ≡ [] }
         ensures same { self.new.sink.ghost_name ≡ self.old.sink.ghost_name }
         ensures whole { OnOk result (PassedOn
-            (buffered (K.state self.old.sink.now).told (K.state self.old.sink.now).faults (take self.old.held self.old.room.now))
-            (buffered (K.state self.new.sink.now).told (K.state self.new.sink.now).faults (take self.new.held self.new.room.now))
+            (buffered (K.state self.old.sink.now).told (K.state self.old.sink.now).faults
+            (take self.old.held self.old.room.now))
+            (buffered (K.state self.new.sink.now).told (K.state self.new.sink.now).faults
+            (take self.new.held self.new.room.now))
             piece.now) }
         ensures part { OnErr result (BrokeOff
-            (buffered (K.state self.old.sink.now).told (K.state self.old.sink.now).faults (take self.old.held self.old.room.now))
-            (buffered (K.state self.new.sink.now).told (K.state self.new.sink.now).faults (take self.new.held self.new.room.now))
+            (buffered (K.state self.old.sink.now).told (K.state self.old.sink.now).faults
+            (take self.old.held self.old.room.now))
+            (buffered (K.state self.new.sink.now).told (K.state self.new.sink.now).faults
+            (take self.new.held self.new.room.now))
             piece.now) }
     {
         match write_all(self.sink, piece) {
@@ -118,8 +130,10 @@ impl<'a, K: Sink> Buffer<'a, K> {
         requires room { self.old.held + length piece.now ≤ length self.old.room.now }
         ensures same { self.new.sink.ghost_name ≡ self.old.sink.ghost_name }
         ensures whole { PassedOn
-            (buffered (K.state self.old.sink.now).told (K.state self.old.sink.now).faults (take self.old.held self.old.room.now))
-            (buffered (K.state self.new.sink.now).told (K.state self.new.sink.now).faults (take self.new.held self.new.room.now))
+            (buffered (K.state self.old.sink.now).told (K.state self.old.sink.now).faults
+            (take self.old.held self.old.room.now))
+            (buffered (K.state self.new.sink.now).told (K.state self.new.sink.now).faults
+            (take self.new.held self.new.room.now))
             piece.now }
     {
         fill(self.room, self.held, piece);

@@ -9,14 +9,16 @@ use Rattle.sum_laws.proofs.Counts.{count_below_same}
 use Rattle.written_laws.proofs.Runs.{count_rises, run_from, run_to, run_last}
 
 -- The run that begins at or before a place, and ends behind it, holds it.
-pub spot_between : (f : ℕ → ℕ) (n t k : ℕ) → k < n → (k ≡ 0) ⊎ (count_below f k ≤ t) → (k + 1 ≡ n) ⊎ (t < count_below f (k + 1))
+pub spot_between : (f : ℕ → ℕ) (n t k : ℕ) → k < n → (k ≡ 0) ⊎ (count_below f k ≤ t) → (k + 1 ≡ n)
+    ⊎ (t < count_below f (k + 1))
     → run_at (count_below f) n t ≡ k
 spot_between f zero t k low from to = absurd (omega arith)
 spot_between f (suc n) t k low from to = elim (cases_eq k n) [
   | inl e ↦ at_last e from
   | inr ne ↦
       let before : k < n = omega arith in
-      cond-true (nat_lt t (count_below f n)) _ _ (lt-ltb _ _ (below before to)) ∙ spot_between f n t k before from (onward before to)
+      cond-true (nat_lt t (count_below f n)) _ _ (lt-ltb _ _ (below before to))
+      ∙ spot_between f n t k before from (onward before to)
 ]
   where
     at_last : k ≡ n → (k ≡ 0) ⊎ (count_below f k ≤ t) → run_at (count_below f) (suc n) t ≡ k
@@ -37,7 +39,8 @@ spot_between f (suc n) t k low from to = elim (cases_eq k n) [
 
 -- A place up to the end lies no farther behind the beginning of its run than the run is long.
 pub within_run : (f : ℕ → ℕ) (n t : ℕ) → 0 < n → t ≤ count_below f n
-    → (count_below f (run_at (count_below f) n t) ≤ t) × (t - count_below f (run_at (count_below f) n t) ≤ f (run_at (count_below f) n t))
+    → (count_below f (run_at (count_below f) n t) ≤ t)
+    × (t - count_below f (run_at (count_below f) n t) ≤ f (run_at (count_below f) n t))
 within_run f n t some le = (
   from,
   elim (cases_lt t (count_below f n)) [
@@ -45,7 +48,8 @@ within_run f n t some le = (
     | inr more ↦
         let one : suc (n - 1) ≡ n = omega arith in
         let whole : count_below f (n - 1) + f (n - 1) ≡ count_below f n = ap (count_below f) one in
-        let last : run_at (count_below f) n t ≡ n - 1 = run_last (count_below f) n t some (omega (arith, whole, more)) in
+        let last : run_at (count_below f) n t ≡ n - 1 =
+        run_last (count_below f) n t some (omega (arith, whole, more)) in
         omega (arith, whole, le, ap f last, ap (count_below f) last)
   ],
 )
@@ -61,9 +65,11 @@ pub term_room : (f : ℕ → ℕ) (n k : ℕ) → k < n → count_below f k + f 
 term_room f n k low = count_rises f (suc k) n (omega (arith, low))
 
 -- The end of the last run.
-pub last_is : (f : ℕ → ℕ) (n : ℕ) (starts : List ℕ) → AreRunStarts f n starts → slice_index starts (length starts - 1) ≡ count_below f n
+pub last_is : (f : ℕ → ℕ) (n : ℕ) (starts : List ℕ) → AreRunStarts f n starts → slice_index starts (length starts - 1)
+    ≡ count_below f n
 last_is f n starts are =
-    let last : length starts - 1 ≡ n = omega (arith, are.count) in ap (slice_index starts) last ∙ are.each n (omega arith)
+    let last : length starts - 1 ≡ n = omega (arith, are.count) in ap (slice_index starts) last
+    ∙ are.each n (omega arith)
 
 -- There is room for another run.
 pub next_room : (f : ℕ → ℕ) (n k : ℕ) (starts : List ℕ) → k < n → AreRunStarts f k starts
@@ -71,7 +77,8 @@ pub next_room : (f : ℕ → ℕ) (n k : ℕ) (starts : List ℕ) → k < n → 
 next_room f n k starts low are = omega (arith, last_is f k starts are, term_room f n k low)
 
 -- Starts of other sizes that are the same.
-pub starts_same : (f g : ℕ → ℕ) (n : ℕ) (starts : List ℕ) → ((k : ℕ) → k < n → f k ≡ g k) → AreRunStarts f n starts → AreRunStarts g n starts
+pub starts_same : (f g : ℕ → ℕ) (n : ℕ) (starts : List ℕ) → ((k : ℕ) → k < n → f k ≡ g k) → AreRunStarts f n starts
+    → AreRunStarts g n starts
 starts_same f g n starts same are = record {
   count = are.count;
   each = λ k low. are.each k low ∙ count_below_same f g k (λ j less. same j (omega arith));

@@ -14,15 +14,18 @@ use Rattle.qm_reach.specs.Fours.{AreSides}
 pub use Rattle.plan_laws.proofs.MeshLayouts.{laid_of, lengths_of, lies}
 
 -- The arcs that sides use.
-pub arcs_low : (plan : Plan) → HasWholeSides (layout_of plan) → (patch : ℕ) (side : Way) (n : ℕ) (list : List SideArc) → patch < length plan.patches
+pub arcs_low : (plan : Plan) → HasWholeSides (layout_of plan) → (patch : ℕ) (side : Way) (n : ℕ) (list : List SideArc)
+    → patch < length plan.patches
     → n ≡ length plan.arcs → list ≡ side_at plan patch side → All (λ (used : SideArc). used.arc < n) list
 arcs_low plan paved patch side n list low long same =
     subst (λ (us : List SideArc). All (λ (used : SideArc). used.arc < n) us) (sym same)
-    (λ k d less. let arc = paved.arc_low (record { patch = patch; side = side; at = k }) (record { patch_low = low; low = less }) in
+    (λ k d less. let arc = paved.arc_low (record { patch = patch; side = side; at = k })
+    (record { patch_low = low; low = less }) in
     let read = get_or_default (side_at plan patch side) k d (record { arc = 0; forward = true }) less in
     omega (arith, arc, ap (λ (u : SideArc). u.arc) read, long))
 
-pub uses_low : (plan : Plan) → IsSomeLayout plan → (patch : ℕ) (side : Way) (n : ℕ) (list : List SideArc) → patch < length plan.patches
+pub uses_low : (plan : Plan) → IsSomeLayout plan → (patch : ℕ) (side : Way) (n : ℕ) (list : List SideArc)
+    → patch < length plan.patches
     → n ≡ length plan.arcs → list ≡ side_at plan patch side → All (λ (used : SideArc). used.arc < n) list
 uses_low plan is = arcs_low plan (laid_of plan is).paved
 
@@ -31,14 +34,17 @@ pub sides_of : (plan : Plan) → IsSomeLayout plan → AreSides plan
 sides_of plan is = record { sided = is.laid.sided; four = is.laid.four; paved = (laid_of plan is).paved }
 
 -- A side that is read is as long as its lengths say.
-pub side_long : (plan : Plan) (patch : ℕ) (side : Way) (lengths : Lengths) (list : List SideArc) → list ≡ side_at plan patch side
+pub side_long : (plan : Plan) (patch : ℕ) (side : Way) (lengths : Lengths) (list : List SideArc)
+    → list ≡ side_at plan patch side
     → count_below (sizes_on list lengths) (length list) ≡ size (layout_of plan) lengths patch side
-side_long plan patch side lengths list same = ap (λ (us : List SideArc). count_below (sizes_on us lengths) (length us)) same
+side_long plan patch side lengths list same = ap (λ (us : List SideArc). count_below (sizes_on us lengths) (length us))
+    same
 
 -- What is read of a side.
 pub read_used : (side : List SideArc) (k : ℕ) → k < length side
     → used_at side k ≡ get_or side k (record { arc = 0; forward = false })
-read_used side k low = get_or_default side k (record { arc = 0; forward = true }) (record { arc = 0; forward = false }) low
+read_used side k low = get_or_default side k (record { arc = 0; forward = true }) (record { arc = 0; forward = false })
+    low
 
 pub read_size : (side : List SideArc) (lengths : Lengths) (k : ℕ) → k < length side
     → sizes_on side lengths k ≡ lengths (get_or side k (record { arc = 0; forward = false })).arc

@@ -11,7 +11,8 @@ use Rattle.def_layoutnet.specs.MeshLayouts.{IsSomeLayout}
 use Rattle.def_remesh.specs.Keeping.{IsNetFor}
 use Rattle.def_remesh.specs.Tasks.{old_lengths}
 
-pub net_for : (plan : Plan) (settings : Settings) (auto : Bool) (net : Network) → IsSomeLayout plan → AreInRange settings auto
+pub net_for : (plan : Plan) (settings : Settings) (auto : Bool) (net : Network) → IsSomeLayout plan
+    → AreInRange settings auto
     → IsNetOf (layout_of plan) (long_at plan.arcs) (long_at plan.arcs) settings net → IsWithinBounds net
     → tangle_number net ≤ MAX_TANGLE → IsNetFor old_lengths plan settings net
 net_for plan settings auto net mesh range is bounds small =

@@ -13,7 +13,8 @@ use Rattle.def_metric.specs.Fails.{AreNear}
 use Rattle.def_metric.specs.declared.fail.SizeFail.TheVariants.{Layout}
 
 -- Its least lengths give no new mesh.
-pub no_mesh : (aim : Aim) (wish : Wish) (plan : Plan) (settings : Settings) (fail : LayoutFail) → AreAimedNear aim wish plan
+pub no_mesh : (aim : Aim) (wish : Wish) (plan : Plan) (settings : Settings) (fail : LayoutFail)
+    → AreAimedNear aim wish plan
     → IsLayoutFail wish plan settings false fail → IsFitFail aim wish plan settings (Layout fail)
 no_mesh aim wish plan settings (layouts.Tangled count) near why = why
 no_mesh aim wish plan settings layouts.Memory near why = tt

@@ -1,5 +1,6 @@
 -- The lines of the layout of a chosen cut.
-use Rattle.std.proofs.Common.{◌≡◌, ℕ, ◌+◌, ◌<◌, Bool, List, [], ◌∷◌, ◌++◌, Option, Some, None, length, map, get_or, codes, refl, sym, ap, ◌∙◌, subst, append_assoc, append-nil, arith}
+use Rattle.std.proofs.Common.{◌≡◌, ℕ, ◌+◌, ◌<◌, Bool, List, [], ◌∷◌, ◌++◌, Option, Some, None, length, map, get_or}
+use Rattle.std.proofs.Common.{codes, refl, sym, ap, ◌∙◌, subst, append_assoc, append-nil, arith}
 use Rattle.std.specs.Prelude.{decimal, slice_index, if◌then◌else◌}
 use Rattle.std.specs.List.{flat_map}
 use Rattle.std.proofs.lemmas.Grind.{flat_map-append}
@@ -60,7 +61,8 @@ pub line_behind : (word ns : List ℕ) (x y z : ℕ) (t0 t1 t2 t3 t4 t5 : List �
 line_behind word ns x y z t0 t1 t2 t3 t4 t5 e1 e2 e3 e4 e5 =
     behind t0 (word ++ numbers_text (x ∷ y ∷ (ns ++ z ∷ []))) (LINE_FEED ∷ []) t4 t5
     (behind t0 (word ++ numbers_text (x ∷ y ∷ []) ++ numbers_text ns) (SPACE ∷ decimal z) t3 t4
-    (behind t0 (word ++ numbers_text (x ∷ y ∷ [])) (numbers_text ns) t2 t3 (behind t0 word (numbers_text (x ∷ y ∷ [])) t1 t2 e1 e2) e3)
+    (behind t0 (word ++ numbers_text (x ∷ y ∷ [])) (numbers_text ns) t2 t3
+    (behind t0 word (numbers_text (x ∷ y ∷ [])) t1 t2 e1 e2) e3)
     e4 ∙ ap (λ (text : List ℕ). t0 ++ text) whole)
     e5
   where
@@ -105,5 +107,6 @@ arc_written soup kept here a arc read =
         → numbers_line (word_of kept arc) (path_numbers soup here a (path arc)) ≡ whole_arc_line soup kept here a
     by_kept None = ap (λ (p : Path). numbers_line (codes "arc") (path_numbers soup here a p)) (sym read)
     by_kept (Some marks) =
-        ap (λ (p : Path). numbers_line (if is_on marks (slice_index p.darts 0) then codes "marked" else codes "arc") (path_numbers soup here a p))
+        ap (λ (p : Path). numbers_line (if is_on marks (slice_index p.darts 0) then codes "marked" else codes "arc")
+        (path_numbers soup here a p))
         (sym read)

@@ -27,8 +27,8 @@ use qm_print::push_spaced;
 use qm_sing::sources;
 use std::alloc::Global;
 
-/// The text of a mesh with the layout of the cut that is chosen so, where these marked edges are kept. Vertices have the
-/// numbers of the file. Linear in the darts and in the text.
+/// The text of a mesh with the layout of the cut that is chosen so, where these marked edges are kept. Vertices have
+/// the numbers of the file. Linear in the darts and in the text.
 pub fn layout_text(
     alloc: Global,
     keep: Keep,

@@ -1,5 +1,6 @@
 -- What kinds say of vertices, and the kind that a table has.
-use Rattle.std.proofs.Common.{◌≡◌, ℕ, ◌<◌, Bool, true, false, cond, not, eqb, ltb, ◌&&◌, List, get_or, map, ap, ◌∙◌, refl, inl, inr, arith}
+use Rattle.std.proofs.Common.{◌≡◌, ℕ, ◌<◌, Bool, true, false, cond, not, eqb, ltb, ◌&&◌, List, get_or, map, ap, ◌∙◌}
+use Rattle.std.proofs.Common.{refl, inl, inr, arith}
 use Rattle.std.proofs.lemmas.Bool.{cases_eq, eq-eqb, ne_eqb, lt-ltb, le-ltb}
 use Rattle.std.proofs.lemmas.List.FromFn.{get_or-map-range_with_len}
 use Rattle.def_mesh.specs.Faces.{Faces}
@@ -36,7 +37,9 @@ reflex_is faces v used = at (is_inner faces v) (faces_at faces v) used
     by_test true = refl
     by_test false = refl
 
-    at : (inner : Bool) (n : ℕ) → 0 < n → is_reflex_kind (cond (eqb n (cond inner 4 2)) Regular (cond inner Singular (cond (not inner && eqb n 1) Corner Reflex))) ≡ (not inner && ltb 2 n)
+    at : (inner : Bool) (n : ℕ) → 0 < n
+        → is_reflex_kind (cond (eqb n (cond inner 4 2)) Regular
+        (cond inner Singular (cond (not inner && eqb n 1) Corner Reflex))) ≡ (not inner && ltb 2 n)
     at true n l = by_test (eqb n 4)
     at false n l = elim (cases_eq n 2) [
       | inl e ↦ rw (eq-eqb n 2 e, le-ltb 2 n (omega arith)) refl
@@ -47,5 +50,7 @@ reflex_is faces v used = at (is_inner faces v) (faces_at faces v) used
     ]
 
 -- The kind that was read.
-pub kind_read : (faces : Faces) (kinds : List Kind) (v : ℕ) (k : Kind) → v < vertex_count faces → kinds ≡ map (kind_of faces) (all_vertices faces) → get_or kinds v k ≡ kind_of faces v
-kind_read faces kinds v k l e = ap (λ (xs : List Kind). get_or xs v k) e ∙ get_or-map-range_with_len (kind_of faces) 0 (vertex_count faces) v v k l (omega arith)
+pub kind_read : (faces : Faces) (kinds : List Kind) (v : ℕ) (k : Kind) → v < vertex_count faces
+    → kinds ≡ map (kind_of faces) (all_vertices faces) → get_or kinds v k ≡ kind_of faces v
+kind_read faces kinds v k l e = ap (λ (xs : List Kind). get_or xs v k) e ∙ get_or-map-range_with_len (kind_of faces) 0
+    (vertex_count faces) v v k l (omega arith)

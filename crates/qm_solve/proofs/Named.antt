@@ -1,5 +1,6 @@
 -- The entries of a dual that says yes name its sets.
-use Rattle.std.proofs.Common.{◌≡◌, ◌⊎◌, ℕ, ◌+◌, ◌≤◌, true, eqb, ltb, leb, ◌&&◌, List, length, get_or, ℤ, inl, inr, arith}
+use Rattle.std.proofs.Common.{◌≡◌, ◌⊎◌, ℕ, ◌+◌, ◌≤◌, true, eqb, ltb, leb, ◌&&◌, List, length, get_or, ℤ, inl, inr}
+use Rattle.std.proofs.Common.{arith}
 use Rattle.std.proofs.lemmas.Bool.{or_cases, and_parts, eqb-true, leb-true}
 use Rattle.def_matching.specs.Matching.{WeightedGraph}
 use Rattle.def_matching.specs.Dual.{DualLists, is_up, verdict}
@@ -21,6 +22,7 @@ named_sets g d sum said i low =
     named_at g.n (length d.z) i (get_or d.up i 0) (says.nested.later i (omega (arith, low, says.nested.entries)))
 
 -- The same of the entries as they were read, and of as many sets.
-pub named_read : (g : WeightedGraph) (d : DualLists) (sum : ℤ) (sets : ℕ) (up : List ℕ) → verdict g d ≡ Yes sum → sets ≡ length d.z → up ≡ d.up
+pub named_read : (g : WeightedGraph) (d : DualLists) (sum : ℤ) (sets : ℕ) (up : List ℕ) → verdict g d ≡ Yes sum
+    → sets ≡ length d.z → up ≡ d.up
     → AreNamed sets up
 named_read g d sum sets up said many same = rw (many, same) (named_sets g d sum said)

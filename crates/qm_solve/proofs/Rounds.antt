@@ -1,5 +1,6 @@
 -- What the costs of two matchings tell of the list.
-use Rattle.std.proofs.Common.{◌≡◌, ℕ, ◌≤◌, List, length, map, ℤ, pos, ◌-ℤ◌, ◌*ℤ◌, ◌≤ℤ◌, ◌<ℤ◌, refl, sym, ◌∙◌, ap, subst, arith}
+use Rattle.std.proofs.Common.{◌≡◌, ℕ, ◌≤◌, List, length, map, ℤ, pos, ◌-ℤ◌, ◌*ℤ◌, ◌≤ℤ◌, ◌<ℤ◌, refl, sym, ◌∙◌, ap, subst}
+use Rattle.std.proofs.Common.{arith}
 use Rattle.std.proofs.lemmas.Int.{ints}
 use Rattle.def_matching.specs.Matching.{WeightedGraph, IsGraph, IsPerfect, matching_cost}
 use Rattle.def_matching.specs.Dual.{DualLists, IsSmallDual, SaysYes, dual_sum, verdict}
@@ -19,34 +20,47 @@ use Rattle.qm_solve.specs.Rounds.{IsBetter}
 use Rattle.qm_solve.proofs.Near.{start_lengths}
 
 -- A list is in its own box.
-pub own_inside : (net : Network) (step s : ℕ) (xs ls cs : List ℕ) → s ≡ step → ls ≡ lows net step xs → cs ≡ caps net step xs → IsInBox s ls cs xs
-own_inside net step s xs ls cs steps low cap = rw (steps, low, cap) (raised_in_box net step xs (map (down net step) xs) xs (own_box net step xs))
+pub own_inside : (net : Network) (step s : ℕ) (xs ls cs : List ℕ) → s ≡ step → ls ≡ lows net step xs
+    → cs ≡ caps net step xs → IsInBox s ls cs xs
+own_inside net step s xs ls cs steps low cap =
+    rw (steps, low, cap) (raised_in_box net step xs (map (down net step) xs) xs (own_box net step xs))
 
 -- Where the found matching costs less than that of the list, its list is better.
-pub better : (net : Network) (xs ys : List ℕ) (low : ℕ) (found known : ℤ) → length ys ≡ length net.arcs → IsAdmissible net (entries ys) → found <ℤ known
-    → known ≡ pos (deviation net (entries xs)) -ℤ pos low → (pos (deviation net (entries ys)) -ℤ pos low) ≤ℤ found → IsBetter net xs ys
-better net xs ys low found known count admissible less of_list of_found = record { count = count; admissible = admissible; less = omega (arith, ints, less, of_list, of_found) }
+pub better : (net : Network) (xs ys : List ℕ) (low : ℕ) (found known : ℤ) → length ys ≡ length net.arcs
+    → IsAdmissible net (entries ys) → found <ℤ known
+    → known ≡ pos (deviation net (entries xs)) -ℤ pos low → (pos (deviation net (entries ys)) -ℤ pos low) ≤ℤ found
+    → IsBetter net xs ys
+better net xs ys low found known count admissible less of_list of_found =
+    record { count = count; admissible = admissible; less = omega (arith, ints, less, of_list, of_found) }
 
 -- Where it costs no less, the sum of its dual is twice the cost of the units that are on.
-pub sums_meet : (net : Network) (step : ℕ) (xs : List ℕ) (g : WeightedGraph) (d : DualLists) (m known : List ℕ) → length xs ≡ length net.arcs → g ≡ matching_graph net step xs → IsGraph g → IsPerfect g known
+pub sums_meet : (net : Network) (step : ℕ) (xs : List ℕ) (g : WeightedGraph) (d : DualLists) (m known : List ℕ)
+    → length xs ≡ length net.arcs → g ≡ matching_graph net step xs → IsGraph g → IsPerfect g known
     → matching_cost g known ≡ pos (deviation net (entries xs)) -ℤ pos (deviation net (entries (lows net step xs)))
     → verdict g d ≡ Yes (pos 2 *ℤ matching_cost g m) → matching_cost g known ≤ℤ matching_cost g m
     → verdict (matching_graph net step xs) d ≡ Yes (pos 2 *ℤ on_cost net step xs)
 sums_meet net step xs g d m known count is lawful perfect of_list says no_less =
-    let no_more : (pos 2 *ℤ matching_cost g m) ≤ℤ (pos 2 *ℤ matching_cost g known) = yes_bounds g d (verdict g d) lawful refl (pos 2 *ℤ matching_cost g m) says known perfect in
-    let on : on_cost net step xs ≡ pos (deviation net (entries xs)) -ℤ pos (deviation net (entries (lows net step xs))) = box_deviation net step xs (map (down net step) xs) xs count (own_box net step xs) in
-    let same : pos 2 *ℤ matching_cost g m ≡ pos 2 *ℤ on_cost net step xs = omega (arith, ints, no_more, no_less, of_list, on) in
+    let no_more : (pos 2 *ℤ matching_cost g m) ≤ℤ (pos 2 *ℤ matching_cost g known) =
+    yes_bounds g d (verdict g d) lawful refl (pos 2 *ℤ matching_cost g m) says known perfect in
+    let on : on_cost net step xs ≡ pos (deviation net (entries xs)) -ℤ pos
+    (deviation net (entries (lows net step xs))) =
+    box_deviation net step xs (map (down net step) xs) xs count (own_box net step xs) in
+    let same : pos 2 *ℤ matching_cost g m ≡ pos 2 *ℤ on_cost net step xs =
+    omega (arith, ints, no_more, no_less, of_list, on) in
     ap (λ h. verdict h d) (sym is) ∙ (says ∙ ap Yes same)
 
 -- The last round's dual makes the certificate.
-pub certified : (net : Network) (c : Certificate) → length c.x ≡ length net.arcs → IsAdmissible net (entries c.x) → verdict (matching_graph net 1 c.x) c.dual ≡ Yes (pos 2 *ℤ on_cost net 1 c.x) → IsAccepted net c
+pub certified : (net : Network) (c : Certificate) → length c.x ≡ length net.arcs → IsAdmissible net (entries c.x)
+    → verdict (matching_graph net 1 c.x) c.dual ≡ Yes (pos 2 *ℤ on_cost net 1 c.x) → IsAccepted net c
 certified net c count admissible good =
-    let says : SaysYes (matching_graph net 1 c.x) c.dual × (pos 2 *ℤ on_cost net 1 c.x ≡ dual_sum c.dual) = yes_says (matching_graph net 1 c.x) c.dual (pos 2 *ℤ on_cost net 1 c.x) good in
+    let says : SaysYes (matching_graph net 1 c.x) c.dual × (pos 2 *ℤ on_cost net 1 c.x ≡ dual_sum c.dual) =
+    yes_says (matching_graph net 1 c.x) c.dual (pos 2 *ℤ on_cost net 1 c.x) good in
     record { count = count; admissible = admissible; yes = says.0; sums = sym says.1 }
 
 -- With step 1 and no better list the descent is done.
 pub solved : (net : Network) (xs : List ℕ) (step : ℕ) (d : DualLists) → IsWithinBounds net → IsStartOf net xs → step ≡ 1
-    → (verdict (matching_graph net step xs) d ≡ Yes (pos 2 *ℤ on_cost net step xs)) × IsSmallDual d → IsSolution net (record { x = xs; dual = d })
+    → (verdict (matching_graph net step xs) d ≡ Yes (pos 2 *ℤ on_cost net step xs)) × IsSmallDual d
+    → IsSolution net (record { x = xs; dual = d })
 solved net xs step d bounds from one found = record {
   accepted = certified net (record { x = xs; dual = d }) from.count from.admissible said;
   lengths = start_lengths net xs bounds from;

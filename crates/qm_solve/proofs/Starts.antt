@@ -1,5 +1,7 @@
 -- A multiple of the old lengths is a start of the descent.
-use Rattle.std.proofs.Common.{◌≡◌, ℕ, zero, suc, ◌+◌, ◌*◌, ◌/◌, ◌%◌, ◌^◌, ◌<◌, ◌≤◌, ◌&&◌, Bool, true, false, cond, nat_le, max, List, [], ◌∷◌, length, ℤ, pos, ◌-ℤ◌, ◌*ℤ◌, ◌≤ℤ◌, refl, sym, ◌∙◌, ap, add-mul, mul_assoc, mul-one, inl, inr, ◌⊎◌, leb-true, arith}
+use Rattle.std.proofs.Common.{◌≡◌, ℕ, zero, suc, ◌+◌, ◌*◌, ◌/◌, ◌%◌, ◌^◌, ◌<◌, ◌≤◌, ◌&&◌, Bool, true, false, cond}
+use Rattle.std.proofs.Common.{nat_le, max, List, [], ◌∷◌, length, ℤ, pos, ◌-ℤ◌, ◌*ℤ◌, ◌≤ℤ◌, refl, sym, ◌∙◌, ap, add-mul}
+use Rattle.std.proofs.Common.{mul_assoc, mul-one, inl, inr, ◌⊎◌, leb-true, arith}
 use Rattle.std.specs.Prelude.{slice_index, unsigned_abs}
 use Rattle.std.proofs.Math.Nat.{mul-le-mul_left, mul-le-mul_right, mul-le-mul}
 use Rattle.std.proofs.lemmas.Int.{ints}
@@ -28,51 +30,72 @@ total_below_times c f zero = omega (arith, ints)
 total_below_times c f (suc n) = omega (arith, ints, total_below_times c f n, times_sum c (total_below f n) (f n))
 
 -- The entries of a multiple.
-multiple_at : (c : ℕ) (arcs : List Arc) (k : ℕ) → k < length arcs → slice_index (times_old c arcs) k ≡ c * (arc_at arcs k).old
+multiple_at : (c : ℕ) (arcs : List Arc) (k : ℕ) → k < length arcs → slice_index (times_old c arcs) k
+    ≡ c * (arc_at arcs k).old
 multiple_at c [] k l = absurd (omega arith)
 multiple_at c (a ∷ arcs) zero l = refl
 multiple_at c (a ∷ arcs) (suc k) l = multiple_at c arcs k (omega arith)
 
 -- The sides of a node have a multiple of the old sums.
-side_times : (arcs : List Arc) (c : ℕ) (plus : Bool) (v : ℕ) → side_sum arcs (entries (times_old c arcs)) plus v ≡ pos c *ℤ side_sum arcs (λ k. pos (arc_at arcs k).old) plus v
-side_times arcs c plus v = total_below_same _ _ (length arcs) (λ k l. total_same _ _ (ends (arc_at arcs k)) (one k l) ∙ total_times (pos c) (λ (e : End). cond (is_on_side v plus e) (pos (arc_at arcs k).old) (pos 0)) (ends (arc_at arcs k)))
-    ∙ total_below_times (pos c) (λ k. total (λ (e : End). cond (is_on_side v plus e) (pos (arc_at arcs k).old) (pos 0)) (ends (arc_at arcs k))) (length arcs)
+side_times : (arcs : List Arc) (c : ℕ) (plus : Bool) (v : ℕ) → side_sum arcs (entries (times_old c arcs)) plus v
+    ≡ pos c *ℤ side_sum arcs (λ k. pos (arc_at arcs k).old) plus v
+side_times arcs c plus v = total_below_same _ _ (length arcs) (λ k l. total_same _ _ (ends (arc_at arcs k)) (one k l)
+    ∙ total_times (pos c) (λ (e : End). cond (is_on_side v plus e) (pos (arc_at arcs k).old) (pos 0))
+    (ends (arc_at arcs k)))
+    ∙ total_below_times (pos c) (λ k. total (λ (e : End). cond (is_on_side v plus e) (pos (arc_at arcs k).old) (pos 0))
+    (ends (arc_at arcs k))) (length arcs)
   where
-    one : (k : ℕ) → k < length arcs → (e : End) → cond (is_on_side v plus e) (entries (times_old c arcs) k) (pos 0) ≡ pos c *ℤ cond (is_on_side v plus e) (pos (arc_at arcs k).old) (pos 0)
+    one : (k : ℕ) → k < length arcs → (e : End) → cond (is_on_side v plus e) (entries (times_old c arcs) k) (pos 0)
+        ≡ pos c *ℤ cond (is_on_side v plus e) (pos (arc_at arcs k).old) (pos 0)
     one k l e = by_test (is_on_side v plus e)
       where
-        by_test : (b : Bool) → cond b (entries (times_old c arcs) k) (pos 0) ≡ pos c *ℤ cond b (pos (arc_at arcs k).old) (pos 0)
+        by_test : (b : Bool) → cond b (entries (times_old c arcs) k) (pos 0) ≡ pos c *ℤ cond b (pos (arc_at arcs k).old)
+            (pos 0)
         by_test true = omega (arith, ints, multiple_at c arcs k l)
         by_test false = omega (arith, ints)
 
 -- The sum of the old lengths, by the arcs' numbers.
 old_sum : (arcs : List Arc) → count_below (λ k. (arc_at arcs k).old) (length arcs) ≡ count (λ a. a.old) arcs
 old_sum [] = refl
-old_sum (a ∷ arcs) = count_below_prefix (λ k. (arc_at (a ∷ arcs) k).old) (length arcs) ∙ ap (λ n. a.old + n) (old_sum arcs)
+old_sum (a ∷ arcs) = count_below_prefix (λ k. (arc_at (a ∷ arcs) k).old) (length arcs)
+    ∙ ap (λ n. a.old + n) (old_sum arcs)
 
 -- How far a multiple of one old length is from the scale.
-apart : (q p c old : ℕ) → p ≤ q * c + q → q * c ≤ p + 3 * q → unsigned_abs (pos q *ℤ pos (c * old) -ℤ pos (p * old)) ≤ 3 * q * old
+apart : (q p c old : ℕ) → p ≤ q * c + q → q * c ≤ p + 3 * q → unsigned_abs (pos q *ℤ pos (c * old) -ℤ pos (p * old))
+    ≤ 3 * q * old
 apart q p c old below above =
     let up : p * old ≤ (q * c + q) * old = mul-le-mul_right old below in
     let down : q * c * old ≤ (p + 3 * q) * old = mul-le-mul_right old above in
     omega (arith, ints, up, down, add-mul (q * c) q old, add-mul p (3 * q) old, mul_assoc q c old, mul_assoc 3 q old)
 
 -- The sum of the deviations of a multiple.
-far_sum : (net : Network) (c : ℕ) → IsWithinBounds net → net.p ≤ net.q * c + net.q → net.q * c ≤ net.p + 3 * net.q → deviation net (entries (times_old c net.arcs)) ≤ 1000 * (3 * net.q) * count (λ a. a.old) net.arcs
-far_sum net c bounds below above = omega (arith, count_below_le _ (λ k. 1000 * (3 * net.q) * (arc_at net.arcs k).old) (length net.arcs) each, count_below_times (1000 * (3 * net.q)) (λ k. (arc_at net.arcs k).old) (length net.arcs), ap (λ n. 1000 * (3 * net.q) * n) (old_sum net.arcs))
+far_sum : (net : Network) (c : ℕ) → IsWithinBounds net → net.p ≤ net.q * c + net.q → net.q * c ≤ net.p + 3 * net.q
+    → deviation net (entries (times_old c net.arcs)) ≤ 1000 * (3 * net.q) * count (λ a. a.old) net.arcs
+far_sum net c bounds below above =
+    omega (
+      arith,
+      count_below_le _ (λ k. 1000 * (3 * net.q) * (arc_at net.arcs k).old) (length net.arcs) each,
+      count_below_times (1000 * (3 * net.q)) (λ k. (arc_at net.arcs k).old) (length net.arcs),
+      ap (λ n. 1000 * (3 * net.q) * n) (old_sum net.arcs),
+    )
   where
-    each : (k : ℕ) → k < length net.arcs → arc_deviation net (arc_at net.arcs k) (entries (times_old c net.arcs) k) ≤ 1000 * (3 * net.q) * (arc_at net.arcs k).old
+    each : (k : ℕ) → k < length net.arcs → arc_deviation net (arc_at net.arcs k) (entries (times_old c net.arcs) k)
+        ≤ 1000 * (3 * net.q) * (arc_at net.arcs k).old
     each k l =
         let a : Arc = arc_at net.arcs k in
-        let numbers = and_parts (nat_le 1 a.weight && nat_le a.weight 1000 && nat_le a.old 4000000000) _ (arc_bounded net bounds k l) in
+        let numbers = and_parts (nat_le 1 a.weight && nat_le a.weight 1000 && nat_le a.old 4000000000) _
+        (arc_bounded net bounds k l) in
         let weights = and_parts (nat_le 1 a.weight && nat_le a.weight 1000) _ numbers.0 in
         let light : a.weight ≤ 1000 = leb-true a.weight 1000 (and_parts (nat_le 1 a.weight) _ weights.0).1 in
-        let near : unsigned_abs (pos net.q *ℤ pos (c * a.old) -ℤ pos (net.p * a.old)) ≤ 3 * net.q * a.old = apart net.q net.p c a.old below above in
-        let all : a.weight * unsigned_abs (pos net.q *ℤ pos (c * a.old) -ℤ pos (net.p * a.old)) ≤ 1000 * (3 * net.q * a.old) = mul-le-mul light near in
+        let near : unsigned_abs (pos net.q *ℤ pos (c * a.old) -ℤ pos (net.p * a.old)) ≤ 3 * net.q * a.old =
+        apart net.q net.p c a.old below above in
+        let all : a.weight * unsigned_abs (pos net.q *ℤ pos (c * a.old) -ℤ pos (net.p * a.old))
+        ≤ 1000 * (3 * net.q * a.old) = mul-le-mul light near in
         rw (multiple_at c net.arcs k l) (omega (arith, all, mul_assoc 1000 (3 * net.q) a.old))
 
 -- A multiple by a number near the scale, and no less than the floor.
-multiple_starts : (net : Network) (c : ℕ) → IsWithinBounds net → IsEven net → net.floor ≤ c → c ≤ 1000 → net.p ≤ net.q * c + net.q → net.q * c ≤ net.p + 3 * net.q → IsStartOf net (times_old c net.arcs)
+multiple_starts : (net : Network) (c : ℕ) → IsWithinBounds net → IsEven net → net.floor ≤ c → c ≤ 1000
+    → net.p ≤ net.q * c + net.q → net.q * c ≤ net.p + 3 * net.q → IsStartOf net (times_old c net.arcs)
 multiple_starts net c bounds even high low below above = record {
   count = length-map net.arcs (λ a. c * a.old);
   admissible = record { high = tall; balanced = balanced };
@@ -88,19 +111,33 @@ multiple_starts net c bounds even high low below above = record {
         rw (multiple_at c net.arcs k l) (omega (arith, ints, some, mul-one c))
 
     balanced : IsBalanced net.arcs (entries (times_old c net.arcs))
-    balanced v = side_times net.arcs c true v ∙ (ap (λ z. pos c *ℤ z) (even.balanced v) ∙ sym (side_times net.arcs c false v))
+    balanced v = side_times net.arcs c true v
+        ∙ (ap (λ z. pos c *ℤ z) (even.balanced v) ∙ sym (side_times net.arcs c false v))
 
-    near : (k : ℕ) → k < length net.arcs → net.p * (arc_at net.arcs k).old + deviation net (entries (times_old c net.arcs)) ≤ 10 ^ 12 * net.q
+    near : (k : ℕ) → k < length net.arcs
+        → net.p * (arc_at net.arcs k).old + deviation net (entries (times_old c net.arcs)) ≤ 10 ^ 12 * net.q
     near k l =
-        let part : (arc_at net.arcs k).old ≤ all = omega (arith, part_low (λ j. (arc_at net.arcs j).old) k (length net.arcs) l, old_sum net.arcs) in
+        let part : (arc_at net.arcs k).old ≤ all =
+        omega (arith, part_low (λ j. (arc_at net.arcs j).old) k (length net.arcs) l, old_sum net.arcs) in
         let scale : net.q * c ≤ net.q * 1000 = mul-le-mul_left net.q low in
-        let wanted : net.p * (arc_at net.arcs k).old ≤ (1001 * net.q) * 2 ^ 23 = mul-le-mul (omega arith) (omega (arith, part, even.small)) in
-        let far : 1000 * (3 * net.q) * all ≤ 1000 * (3 * net.q) * 2 ^ 23 = mul-le-mul_left (1000 * (3 * net.q)) even.small in
+        let wanted : net.p * (arc_at net.arcs k).old ≤ (1001 * net.q) * 2 ^ 23 =
+        mul-le-mul (omega arith) (omega (arith, part, even.small)) in
+        let far : 1000 * (3 * net.q) * all ≤ 1000 * (3 * net.q) * 2 ^ 23 =
+        mul-le-mul_left (1000 * (3 * net.q)) even.small in
         omega (arith, wanted, far, far_sum net c bounds below above)
 
 -- The greater of the floor and the whole part of the scale is such a number.
-pub even_start : (net : Network) (c : ℕ) → IsWithinBounds net → IsEven net → c ≡ max net.floor (net.p / net.q) → IsStartOf net (times_old c net.arcs)
-even_start net c bounds even is = multiple_starts net c bounds even (omega (arith, is)) (omega (arith, is, whole, bounds.p_high, bounds.floor_high, some)) (omega (arith, whole, part, up)) (by_case (cases_lt net.floor (net.p / net.q)))
+pub even_start : (net : Network) (c : ℕ) → IsWithinBounds net → IsEven net → c ≡ max net.floor (net.p / net.q)
+    → IsStartOf net (times_old c net.arcs)
+even_start net c bounds even is =
+    multiple_starts net c bounds even (omega (arith, is)) (omega (
+      arith,
+      is,
+      whole,
+      bounds.p_high,
+      bounds.floor_high,
+      some,
+    )) (omega (arith, whole, part, up)) (by_case (cases_lt net.floor (net.p / net.q)))
   where
     whole : net.q * (net.p / net.q) + net.p % net.q ≡ net.p
     whole = omega arith

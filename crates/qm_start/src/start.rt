@@ -34,8 +34,8 @@ pub struct Start {
 }
 
 /// Lengths near what is wanted, mostly admissible and nearly least, with the prices of the nodes in the relaxation; or
-/// nothing, where there are no arcs or they can't be balanced with the fuel that there is. Where it ends in the relaxation,
-/// what there is then is rounded. Who starts from the list has to test it.
+/// nothing, where there are no arcs or they can't be balanced with the fuel that there is. Where it ends in the
+/// relaxation, what there is then is rounded. Who starts from the list has to test it.
 pub fn near_start(alloc: Global, net: &Net) -> Result<Option<Start>, Memory>
     requires { IsWithinBounds (network net.now) }
     ensures lengths { IfOk result (λ found. IfSome found

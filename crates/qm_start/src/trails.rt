@@ -71,7 +71,8 @@ fn halves_of(alloc: Global, cover: &Cover, flow: &Flow) -> Result<Halves, Memory
     })
 }
 
-/// Rounds a chain to its cheaper side, up where both cost the same, and follows the trail that leaves it at a node of the cover.
+/// Rounds a chain to its cheaper side, up where both cost the same, and follows the trail that leaves it at a node of
+/// the cover.
 fn begin(cover: &Cover, flow: &Flow, halves: &mut Halves, chain: u32, node: u32)
     requires cover { IsCover cover.now }
     requires flow { IsOver cover.now flow.now }

@@ -1,4 +1,5 @@
-//! Prices of the nodes: half of what their copies differ in, since costs were doubled, and between the arcs of a chain what these leave.
+//! Prices of the nodes: half of what their copies differ in, since costs were doubled, and between the arcs of a chain
+//! what these leave.
 
 ghost use Rattle.std.specs.Prelude.{◌≡◌, ◌+◌, ◌*◌, ◌^◌, ◌<◌, ◌≤◌, length, IfOk};
 ghost use Rattle.std.specs.List.{All};

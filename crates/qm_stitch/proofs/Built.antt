@@ -21,7 +21,8 @@ use Rattle.qm_stitch.specs.Sizes.{long_by, product_by, table_in, AreRows, IsFine
 use Rattle.plan_laws.proofs.Bounds.{side_few, vertices_few}
 
 -- Starts of other sizes that are the same.
-starts_same : (f g : ℕ → ℕ) (n : ℕ) (starts : List ℕ) → ((k : ℕ) → k < n → f k ≡ g k) → AreRunStarts f n starts → AreRunStarts g n starts
+starts_same : (f g : ℕ → ℕ) (n : ℕ) (starts : List ℕ) → ((k : ℕ) → k < n → f k ≡ g k) → AreRunStarts f n starts
+    → AreRunStarts g n starts
 starts_same f g n starts same are = record {
   count = are.count;
   each = λ k low. are.each k low ∙ count_below_same f g k (λ j less. same j (omega arith));
@@ -29,25 +30,42 @@ starts_same f g n starts same are = record {
 
 module _ (plan : Plan) (list : List ℕ) (fine : IsFine plan list) where
   pub few_points : vertices (layout_of plan) (lengths_in list) ≤ 2 ^ 23
-  few_points = omega (arith, vertices_few (layout_of plan) (lengths_in list) (laid_of plan fine.mesh) fine.lengths, fine.few)
+  few_points = omega (
+    arith,
+    vertices_few (layout_of plan) (lengths_in list) (laid_of plan fine.mesh) fine.lengths,
+    fine.few,
+  )
 
   -- Each length is short, and so are sides and the arcs together.
   pub lengths_short : (arc : ℕ) → arc < length list → slice_index list arc < 2 ^ 32
   lengths_short arc low =
-      omega (arith, few_points, term_room (λ a. lengths_in list a - 1) (length plan.arcs) arc (omega (arith, low, fine.long)))
+      omega (
+        arith,
+        few_points,
+        term_room (λ a. lengths_in list a - 1) (length plan.arcs) arc
+            (omega (arith, low, fine.long)),
+      )
 
   pub sides_short : (p : ℕ) (s : Way) → p < length plan.patches → size (layout_of plan) (lengths_in list) p s < 2 ^ 32
-  sides_short p s low = omega (arith, fine.few, side_few (layout_of plan) (lengths_in list) (laid_of plan fine.mesh) fine.lengths p s low)
+  sides_short p s low = omega (
+    arith,
+    fine.few,
+    side_few (layout_of plan) (lengths_in list) (laid_of plan fine.mesh)
+        fine.lengths p s low,
+  )
 
   pub points_short : count_below (λ arc. lengths_in list arc - 1) (length list) < 2 ^ 32
   points_short = omega (arith, few_points, ap (count_below (λ arc. lengths_in list arc - 1)) fine.long)
 
   module _ (tables : List (List (List ℕ))) (are : AreSideStarts plan (lengths_in list) tables) where
-    long_is : (p : ℕ) (s : Way) → p < length plan.patches → long_by tables p (way_number s) ≡ size (layout_of plan) (lengths_in list) p s
-    long_is p s low = last_is (sizes_on (side_at plan p s) (lengths_in list)) (length (side_at plan p s)) (table_at tables p s) (are.each p s low)
+    long_is : (p : ℕ) (s : Way) → p < length plan.patches → long_by tables p (way_number s)
+        ≡ size (layout_of plan) (lengths_in list) p s
+    long_is p s low = last_is (sizes_on (side_at plan p s) (lengths_in list)) (length (side_at plan p s))
+        (table_at tables p s) (are.each p s low)
 
     pub product_is : (less p : ℕ) → p < length plan.patches
-        → product_by tables less p ≡ (wide (layout_of plan) (lengths_in list) p - less) * (high (layout_of plan) (lengths_in list) p - less)
+        → product_by tables less p ≡ (wide (layout_of plan) (lengths_in list) p - less) *
+        (high (layout_of plan) (lengths_in list) p - less)
     product_is less p low = λ i. (long_is p south low i - less) * (long_is p west low i - less)
 
     pub rows : (less : ℕ) → less ≤ 1 → AreRows tables less
@@ -57,29 +75,38 @@ module _ (plan : Plan) (list : List ℕ) (fine : IsFine plan list) where
       long = λ p s low way. by_long p s (omega (arith, low, are.sided)) (way_for s way);
       small = omega (
         arith,
-        count_below_le (product_by tables less) (λ p. wide (layout_of plan) (lengths_in list) p * high (layout_of plan) (lengths_in list) p) (length tables)
+        count_below_le (product_by tables less) (λ p. wide (layout_of plan) (lengths_in list) p * high (layout_of plan)
+            (lengths_in list) p) (length tables)
             (λ p low. term p (omega (arith, low, are.sided))),
-        ap (count_below (λ p. wide (layout_of plan) (lengths_in list) p * high (layout_of plan) (lengths_in list) p)) are.sided,
+        ap (count_below (λ p. wide (layout_of plan) (lengths_in list) p * high (layout_of plan) (lengths_in list) p))
+            are.sided,
         fine.few,
       );
     }
       where
-        by_some : (p s : ℕ) → p < length plan.patches → (w : Way) × (way_number w ≡ s) → 0 < length (table_in tables p s)
-        by_some p s low w = subst (λ (k : ℕ). 0 < length (table_in tables p k)) w.1 (omega (arith, (are.each p w.0 low).count))
+        by_some : (p s : ℕ) → p < length plan.patches → (w : Way) × (way_number w ≡ s)
+            → 0 < length (table_in tables p s)
+        by_some p s low w = subst (λ (k : ℕ). 0 < length (table_in tables p k)) w.1
+            (omega (arith, (are.each p w.0 low).count))
 
-        by_long : (p s : ℕ) → p < length plan.patches → (w : Way) × (way_number w ≡ s) → (less ≤ long_by tables p s) × (0 < long_by tables p s)
+        by_long : (p s : ℕ) → p < length plan.patches → (w : Way) × (way_number w ≡ s) → (less ≤ long_by tables p s)
+            × (0 < long_by tables p s)
         by_long p s low w =
             subst (λ (k : ℕ). (less ≤ long_by tables p k) × (0 < long_by tables p k)) w.1
-            (let some : 0 < size (layout_of plan) (lengths_in list) p w.0 = size_some (layout_of plan) (lengths_in list) (laid_of plan fine.mesh).paved fine.lengths p w.0 low in
+            (let some : 0 < size (layout_of plan) (lengths_in list) p w.0 =
+            size_some (layout_of plan) (lengths_in list) (laid_of plan fine.mesh).paved fine.lengths p w.0 low in
             (omega (arith, one, some, long_is p w.0 low), omega (arith, some, long_is p w.0 low)))
 
-        term : (p : ℕ) → p < length plan.patches → product_by tables less p ≤ wide (layout_of plan) (lengths_in list) p * high (layout_of plan) (lengths_in list) p
+        term : (p : ℕ) → p < length plan.patches → product_by tables less p ≤ wide (layout_of plan) (lengths_in list) p
+            * high (layout_of plan) (lengths_in list) p
         term p low =
             omega (
               arith,
               product_is less p low,
-              mul-le (wide (layout_of plan) (lengths_in list) p - less) (high (layout_of plan) (lengths_in list) p - less)
-                  (wide (layout_of plan) (lengths_in list) p) (high (layout_of plan) (lengths_in list) p) (omega arith) (omega arith),
+              mul-le (wide (layout_of plan) (lengths_in list) p - less) (high (layout_of plan) (lengths_in list) p -
+                  less)
+                  (wide (layout_of plan) (lengths_in list) p) (high (layout_of plan) (lengths_in list) p) (omega arith)
+                  (omega arith),
             )
 
 no_less : (n : ℕ) → n - 0 ≡ n
@@ -98,11 +125,15 @@ built plan t fine nodes along sides inside cells = record {
   lengths = fine.lengths;
   few = fine.few;
   nodes = nodes;
-  along = subst (λ (n : ℕ). AreRunStarts (λ arc. lengths_in t.lengths.items arc - 1) n t.along.begin.items) fine.long along;
-  inside = starts_same _ _ (length plan.patches) t.inside.begin.items (product_is plan t.lengths.items fine (tables_of t.sides.items) sides 1)
+  along = subst (λ (n : ℕ). AreRunStarts (λ arc. lengths_in t.lengths.items arc - 1) n t.along.begin.items) fine.long
+      along;
+  inside = starts_same _ _ (length plan.patches) t.inside.begin.items
+      (product_is plan t.lengths.items fine (tables_of t.sides.items) sides 1)
       (subst (λ (n : ℕ). AreRunStarts (product_by (tables_of t.sides.items) 1) n t.inside.begin.items) many inside);
-  cells = starts_same _ _ (length plan.patches) t.cells.begin.items (λ p low. product_is plan t.lengths.items fine (tables_of t.sides.items) sides 0 p low
-      ∙ (λ i. no_less (wide (layout_of plan) (lengths_in t.lengths.items) p) i * no_less (high (layout_of plan) (lengths_in t.lengths.items) p) i))
+  cells = starts_same _ _ (length plan.patches) t.cells.begin.items (λ p low. product_is plan t.lengths.items fine
+      (tables_of t.sides.items) sides 0 p low
+      ∙ (λ i. no_less (wide (layout_of plan) (lengths_in t.lengths.items) p) i * no_less
+      (high (layout_of plan) (lengths_in t.lengths.items) p) i))
       (subst (λ (n : ℕ). AreRunStarts (product_by (tables_of t.sides.items) 0) n t.cells.begin.items) many cells);
   sides = sides;
 }

@@ -1,5 +1,6 @@
 -- What repeats among the keys of the listed edges are the doubled pairs.
-use Rattle.std.proofs.Common.{◌≡◌, ◌≢◌, ◌⊎◌, ℕ, ◌+◌, ◌*◌, ◌/◌, ◌%◌, ◌^◌, ◌<◌, ◌≤◌, List, length, get_or, refl, sym, ◌∙◌, ap, subst, inl, inr, arith}
+use Rattle.std.proofs.Common.{◌≡◌, ◌≢◌, ◌⊎◌, ℕ, ◌+◌, ◌*◌, ◌/◌, ◌%◌, ◌^◌, ◌<◌, ◌≤◌, List, length, get_or, refl, sym, ◌∙◌}
+use Rattle.std.proofs.Common.{ap, subst, inl, inr, arith}
 use Rattle.std.specs.Prelude.{min, max}
 use Rattle.std.specs.List.{Contains}
 use Rattle.std.proofs.lemmas.Bool.{cases_lt}
@@ -9,17 +10,20 @@ use Rattle.def_layout.specs.Surfaces.{IsSurface}
 use Rattle.def_layout.specs.Lengths.{Lengths, AreLengths}
 use Rattle.def_written.specs.Points.{inside}
 use Rattle.def_written.specs.Numbers.{vertex_number, vertices}
-use Rattle.def_written.specs.Edges.{Edge, on_arc, flat, steep, IsEdge, edge_start, edge_end, HasEnds, IsDoubledAt, IsUndoubled, IsFirstDoubled}
+use Rattle.def_written.specs.Edges.{Edge, on_arc, flat, steep, IsEdge, edge_start, edge_end, HasEnds, IsDoubledAt}
+use Rattle.def_written.specs.Edges.{IsUndoubled, IsFirstDoubled}
 use Rattle.written_laws.proofs.Grid.{point_inside}
 use Rattle.written_laws.proofs.Numbers.{number_low, number_same}
 use Rattle.written_laws.proofs.EdgeDarts.{edge_points}
-use Rattle.written_laws.proofs.Spokes.{spoke, tip, tip_column, tip_row, tip_low, one_way, hub_edge, loop_at, point_sort, spoke_joins, Inner, Joins}
+use Rattle.written_laws.proofs.Spokes.{spoke, tip, tip_column, tip_row, tip_low, one_way, hub_edge, loop_at, point_sort}
+use Rattle.written_laws.proofs.Spokes.{spoke_joins, Inner, Joins}
 use Rattle.qm_stitch.specs.Rims.{key_of, keys_of, pair_key, rim_edges, IsLeastRepeat, IsRepeat}
 use Rattle.qm_stitch.proofs.RimEdges.{all_edges, deep_or_listed, fresh_rim, IsDeep}
 
 -- The two vertices of a key.
 split_key : (a b key : ℕ) → a < 2 ^ 32 → b < 2 ^ 32 → key ≡ pair_key a b
-    → (key / 2 ^ 32 ≤ key % 2 ^ 32) × (((a ≡ key / 2 ^ 32) × (b ≡ key % 2 ^ 32)) ⊎ ((a ≡ key % 2 ^ 32) × (b ≡ key / 2 ^ 32)))
+    → (key / 2 ^ 32 ≤ key % 2 ^ 32)
+    × (((a ≡ key / 2 ^ 32) × (b ≡ key % 2 ^ 32)) ⊎ ((a ≡ key % 2 ^ 32) × (b ≡ key / 2 ^ 32)))
 split_key a b key a_low b_low is =
     let high : key / 2 ^ 32 ≡ min a b = omega arith in
     let rest : key % 2 ^ 32 ≡ max a b = omega arith in
@@ -68,26 +72,37 @@ module _ (l : Layout) (x : Lengths) (laid : IsSurface l) (len : AreLengths l x) 
       by_way : (w : Way) × (f ≡ spoke h.p h.i h.j w) × (tip l x h.p h.i h.j h.way ≡ tip l x h.p h.i h.j w) → e ≡ f
       by_way s =
           let at : (h.p ≡ h.p) × (tip_column h.i s.0 ≡ tip_column h.i h.way) × (tip_row h.j s.0 ≡ tip_row h.j h.way) =
-          point_sort l x laid len h.p (tip_column h.i s.0) (tip_row h.j s.0) h.p (tip_column h.i h.way) (tip_row h.j h.way) h.inner.0
-          (tip_low l x laid len h.p h.i h.j s.0 h.inner).0 (tip_low l x laid len h.p h.i h.j s.0 h.inner).1 (sym s.2 ∙ h.other) in
+          point_sort l x laid len h.p (tip_column h.i s.0) (tip_row h.j s.0) h.p (tip_column h.i h.way)
+          (tip_row h.j h.way) h.inner.0
+          (tip_low l x laid len h.p h.i h.j s.0 h.inner).0 (tip_low l x laid len h.p h.i h.j s.0 h.inner).1 (sym s.2
+          ∙ h.other) in
           let same : s.0 ≡ h.way = one_way h.i h.j s.0 h.way h.inner.1.a_some h.inner.1.b_some at.1 at.2 in
           h.is ∙ ap (spoke h.p h.i h.j) (sym same) ∙ sym s.1
 
   -- Edges with the same numbers at their ends join the same points.
-  joins_same : (e f : Edge) (u v : ℕ) → IsEdge l x e → IsEdge l x f → HasEnds l x e u v → HasEnds l x f u v → Joins l x f (edge_start l x e) (edge_end l x e)
+  joins_same : (e f : Edge) (u v : ℕ) → IsEdge l x e → IsEdge l x f → HasEnds l x e u v → HasEnds l x f u v
+      → Joins l x f (edge_start l x e) (edge_end l x e)
   joins_same e f u v is_e is_f e_ends f_ends = by_order e_ends f_ends
     where
-      low_low : vertex_number l x (edge_start l x f) ≡ vertex_number l x (edge_start l x e) → edge_start l x f ≡ edge_start l x e
-      low_low = number_same l x (edge_start l x f) (edge_start l x e) (edge_points l x laid len f is_f).0 (edge_points l x laid len e is_e).0
+      low_low : vertex_number l x (edge_start l x f) ≡ vertex_number l x (edge_start l x e)
+          → edge_start l x f ≡ edge_start l x e
+      low_low = number_same l x (edge_start l x f) (edge_start l x e) (edge_points l x laid len f is_f).0
+          (edge_points l x laid len e is_e).0
 
-      top_top : vertex_number l x (edge_end l x f) ≡ vertex_number l x (edge_end l x e) → edge_end l x f ≡ edge_end l x e
-      top_top = number_same l x (edge_end l x f) (edge_end l x e) (edge_points l x laid len f is_f).1 (edge_points l x laid len e is_e).1
+      top_top : vertex_number l x (edge_end l x f) ≡ vertex_number l x (edge_end l x e)
+          → edge_end l x f ≡ edge_end l x e
+      top_top = number_same l x (edge_end l x f) (edge_end l x e) (edge_points l x laid len f is_f).1
+          (edge_points l x laid len e is_e).1
 
-      low_top : vertex_number l x (edge_start l x f) ≡ vertex_number l x (edge_end l x e) → edge_start l x f ≡ edge_end l x e
-      low_top = number_same l x (edge_start l x f) (edge_end l x e) (edge_points l x laid len f is_f).0 (edge_points l x laid len e is_e).1
+      low_top : vertex_number l x (edge_start l x f) ≡ vertex_number l x (edge_end l x e)
+          → edge_start l x f ≡ edge_end l x e
+      low_top = number_same l x (edge_start l x f) (edge_end l x e) (edge_points l x laid len f is_f).0
+          (edge_points l x laid len e is_e).1
 
-      top_low : vertex_number l x (edge_end l x f) ≡ vertex_number l x (edge_start l x e) → edge_end l x f ≡ edge_start l x e
-      top_low = number_same l x (edge_end l x f) (edge_start l x e) (edge_points l x laid len f is_f).1 (edge_points l x laid len e is_e).0
+      top_low : vertex_number l x (edge_end l x f) ≡ vertex_number l x (edge_start l x e)
+          → edge_end l x f ≡ edge_start l x e
+      top_low = number_same l x (edge_end l x f) (edge_start l x e) (edge_points l x laid len f is_f).1
+          (edge_points l x laid len e is_e).0
 
       by_order : HasEnds l x e u v → HasEnds l x f u v → Joins l x f (edge_start l x e) (edge_end l x e)
       by_order (inl s) (inl t) = inl (low_low (t.0 ∙ sym s.0), top_top (t.1 ∙ sym s.1))
@@ -95,17 +110,22 @@ module _ (l : Layout) (x : Lengths) (laid : IsSurface l) (len : AreLengths l x) 
       by_order (inr s) (inl t) = inr (low_top (t.0 ∙ sym s.1), top_low (t.1 ∙ sym s.0))
       by_order (inr s) (inr t) = inl (low_low (t.0 ∙ sym s.0), top_top (t.1 ∙ sym s.1))
 
-  hub_joins : (e f : Edge) (h : IsHub e) → Joins l x f (edge_start l x e) (edge_end l x e) → Joins l x f (inside h.p h.i h.j) (tip l x h.p h.i h.j h.way)
-  hub_joins e f h joins = by_spoke (subst (λ (g : Edge). Joins l x g (inside h.p h.i h.j) (tip l x h.p h.i h.j h.way)) (sym h.is) (spoke_joins l x laid len h.p h.i h.j h.way h.inner)) joins
+  hub_joins : (e f : Edge) (h : IsHub e) → Joins l x f (edge_start l x e) (edge_end l x e)
+      → Joins l x f (inside h.p h.i h.j) (tip l x h.p h.i h.j h.way)
+  hub_joins e f h joins = by_spoke (subst (λ (g : Edge). Joins l x g (inside h.p h.i h.j) (tip l x h.p h.i h.j h.way))
+      (sym h.is) (spoke_joins l x laid len h.p h.i h.j h.way h.inner)) joins
     where
-      by_spoke : Joins l x e (inside h.p h.i h.j) (tip l x h.p h.i h.j h.way) → Joins l x f (edge_start l x e) (edge_end l x e) → Joins l x f (inside h.p h.i h.j) (tip l x h.p h.i h.j h.way)
+      by_spoke : Joins l x e (inside h.p h.i h.j) (tip l x h.p h.i h.j h.way)
+          → Joins l x f (edge_start l x e) (edge_end l x e)
+          → Joins l x f (inside h.p h.i h.j) (tip l x h.p h.i h.j h.way)
       by_spoke (inl s) (inl t) = inl (t.0 ∙ s.0, t.1 ∙ s.1)
       by_spoke (inl s) (inr t) = inr (t.0 ∙ s.1, t.1 ∙ s.0)
       by_spoke (inr s) (inl t) = inr (t.0 ∙ s.0, t.1 ∙ s.1)
       by_spoke (inr s) (inr t) = inl (t.0 ∙ s.1, t.1 ∙ s.0)
 
   -- An edge that is doubled is listed.
-  listed : (e f : Edge) (u v : ℕ) → IsEdge l x e → IsEdge l x f → HasEnds l x e u v → HasEnds l x f u v → e ≢ f → Contains (rim_edges l x) e
+  listed : (e f : Edge) (u v : ℕ) → IsEdge l x e → IsEdge l x f → HasEnds l x e u v → HasEnds l x f u v → e ≢ f
+      → Contains (rim_edges l x) e
   listed e f u v is_e is_f e_ends f_ends apart = elim (deep_or_listed l x e is_e) [
     | inl deep ↦
         let h : IsHub e = deep_hub e is_e deep in
@@ -121,15 +141,18 @@ module _ (l : Layout) (x : Lengths) (laid : IsSurface l) (len : AreLengths l x) 
     | inr has ↦ has
   ]
     where
-      same : vertex_number l x (edge_start l x e) ≡ vertex_number l x (edge_end l x e) → edge_start l x e ≡ edge_end l x e
-      same = number_same l x (edge_start l x e) (edge_end l x e) (edge_points l x laid len e is).0 (edge_points l x laid len e is).1
+      same : vertex_number l x (edge_start l x e) ≡ vertex_number l x (edge_end l x e)
+          → edge_start l x e ≡ edge_end l x e
+      same = number_same l x (edge_start l x e) (edge_end l x e) (edge_points l x laid len e is).0
+          (edge_points l x laid len e is).1
 
       equal : HasEnds l x e u u → edge_start l x e ≡ edge_end l x e
       equal (inl s) = same (s.0 ∙ sym s.1)
       equal (inr s) = same (s.0 ∙ sym s.1)
 
   module _ (few : vertices l x ≤ 2 ^ 23) where
-    ends_low : (e : Edge) → IsEdge l x e → (vertex_number l x (edge_start l x e) < 2 ^ 32) × (vertex_number l x (edge_end l x e) < 2 ^ 32)
+    ends_low : (e : Edge) → IsEdge l x e → (vertex_number l x (edge_start l x e) < 2 ^ 32)
+        × (vertex_number l x (edge_end l x e) < 2 ^ 32)
     ends_low e is = (
       omega (arith, few, number_low l x (edge_start l x e) (edge_points l x laid len e is).0),
       omega (arith, few, number_low l x (edge_end l x e) (edge_points l x laid len e is).1),
@@ -137,9 +160,11 @@ module _ (l : Layout) (x : Lengths) (laid : IsSurface l) (len : AreLengths l x) 
 
     key_ends : (e : Edge) (key : ℕ) → IsEdge l x e → key ≡ key_of l x e
         → (key / 2 ^ 32 ≤ key % 2 ^ 32) × HasEnds l x e (key / 2 ^ 32) (key % 2 ^ 32)
-    key_ends e key is same = split_key (vertex_number l x (edge_start l x e)) (vertex_number l x (edge_end l x e)) key (ends_low e is).0 (ends_low e is).1 same
+    key_ends e key is same = split_key (vertex_number l x (edge_start l x e)) (vertex_number l x (edge_end l x e)) key
+        (ends_low e is).0 (ends_low e is).1 same
 
-    ends_key : (e : Edge) (u v : ℕ) → IsEdge l x e → u ≤ v → HasEnds l x e u v → (key_of l x e ≡ u * 2 ^ 32 + v) × (v < 2 ^ 32)
+    ends_key : (e : Edge) (u v : ℕ) → IsEdge l x e → u ≤ v → HasEnds l x e u v → (key_of l x e ≡ u * 2 ^ 32 + v)
+        × (v < 2 ^ 32)
     ends_key e u v is le (inl s) = (omega (arith, le, s.0, s.1), omega (arith, (ends_low e is).1, s.1))
     ends_key e u v is le (inr s) = (omega (arith, le, s.0, s.1), omega (arith, (ends_low e is).0, s.0))
 
@@ -164,12 +189,25 @@ module _ (l : Layout) (x : Lengths) (laid : IsSurface l) (len : AreLengths l x) 
     -- What repeats is doubled.
     repeat_doubled : (key : ℕ) → IsRepeat keys key → IsDoubledAt l x (key / 2 ^ 32) (key % 2 ^ 32)
     repeat_doubled key (inl (same, (k, k_low, at))) =
-        let ends : (key / 2 ^ 32 ≤ key % 2 ^ 32) × HasEnds l x (edge_at k) (key / 2 ^ 32) (key % 2 ^ 32) = key_ends (edge_at k) key (edge_is k k_low) (sym at ∙ key_at k key k_low) in
-        (ends.0, inl (same, (edge_at k, edge_is k k_low, subst (λ v. HasEnds l x (edge_at k) (key / 2 ^ 32) v) (sym same) ends.1)))
+        let ends : (key / 2 ^ 32 ≤ key % 2 ^ 32) × HasEnds l x (edge_at k) (key / 2 ^ 32) (key % 2 ^ 32) =
+        key_ends (edge_at k) key (edge_is k k_low) (sym at ∙ key_at k key k_low) in (
+          ends.0,
+          inl (
+            same,
+            (
+              edge_at k,
+              edge_is k k_low,
+              subst (λ v. HasEnds l x (edge_at k) (key / 2 ^ 32) v)
+                  (sym same) ends.1,
+            ),
+          ),
+        )
     repeat_doubled key (inr (i, j, less, j_low, at_i, at_j)) =
         let i_low : i < length keys = omega (arith, less, j_low) in
-        let i_ends : (key / 2 ^ 32 ≤ key % 2 ^ 32) × HasEnds l x (edge_at i) (key / 2 ^ 32) (key % 2 ^ 32) = key_ends (edge_at i) key (edge_is i i_low) (sym at_i ∙ key_at i 0 i_low) in
-        let j_ends : (key / 2 ^ 32 ≤ key % 2 ^ 32) × HasEnds l x (edge_at j) (key / 2 ^ 32) (key % 2 ^ 32) = key_ends (edge_at j) key (edge_is j j_low) (sym at_j ∙ key_at j 0 j_low) in (
+        let i_ends : (key / 2 ^ 32 ≤ key % 2 ^ 32) × HasEnds l x (edge_at i) (key / 2 ^ 32) (key % 2 ^ 32) =
+        key_ends (edge_at i) key (edge_is i i_low) (sym at_i ∙ key_at i 0 i_low) in
+        let j_ends : (key / 2 ^ 32 ≤ key % 2 ^ 32) × HasEnds l x (edge_at j) (key / 2 ^ 32) (key % 2 ^ 32) =
+        key_ends (edge_at j) key (edge_is j j_low) (sym at_j ∙ key_at j 0 j_low) in (
           i_ends.0,
           inr (
             edge_at i,
@@ -195,10 +233,13 @@ module _ (l : Layout) (x : Lengths) (laid : IsSurface l) (len : AreLengths l x) 
 
         at_place : (k : ℕ) × (k < length keys) × (edge_at k ≡ e) → IsRepeat keys (u * 2 ^ 32 + v) × (v < 2 ^ 32)
         at_place (k, less, at) =
-            let key : (key_of l x e ≡ u * 2 ^ 32 + v) × (v < 2 ^ 32) = ends_key e u v is le ends_uv in
-            (inl (omega (arith, same, key.1), (k, less, key_at k (u * 2 ^ 32 + v) less ∙ ap (key_of l x) at ∙ key.0)), key.1)
+            let key : (key_of l x e ≡ u * 2 ^ 32 + v) × (v < 2 ^ 32) = ends_key e u v is le ends_uv in (
+              inl (omega (arith, same, key.1), (k, less, key_at k (u * 2 ^ 32 + v) less ∙ ap (key_of l x) at ∙ key.0)),
+              key.1,
+            )
     doubled_repeats u v (le, inr (e, f, is_e, is_f, apart, e_ends, f_ends)) =
-        at_places (place_of e (listed e f u v is_e is_f e_ends f_ends apart)) (place_of f (listed f e u v is_f is_e f_ends e_ends (λ same. apart (sym same))))
+        at_places (place_of e (listed e f u v is_e is_f e_ends f_ends apart))
+        (place_of f (listed f e u v is_f is_e f_ends e_ends (λ same. apart (sym same))))
       where
         at_places : (k : ℕ) × (k < length keys) × (edge_at k ≡ e) → (m : ℕ) × (m < length keys) × (edge_at m ≡ f)
             → IsRepeat keys (u * 2 ^ 32 + v) × (v < 2 ^ 32)
@@ -230,7 +271,8 @@ module _ (l : Layout) (x : Lengths) (laid : IsSurface l) (len : AreLengths l x) 
           by_order a b r.1 le;
     }
       where
-        by_order : (a b : ℕ) → b < 2 ^ 32 → key ≤ a * 2 ^ 32 + b → (key / 2 ^ 32 < a) ⊎ ((key / 2 ^ 32 ≡ a) × (key % 2 ^ 32 ≤ b))
+        by_order : (a b : ℕ) → b < 2 ^ 32 → key ≤ a * 2 ^ 32 + b → (key / 2 ^ 32 < a)
+            ⊎ ((key / 2 ^ 32 ≡ a) × (key % 2 ^ 32 ≤ b))
         by_order a b b_low le = elim (cases_lt (key / 2 ^ 32) a) [
           | inl less ↦ inl less
           | inr more ↦ inr (omega arith, omega arith)

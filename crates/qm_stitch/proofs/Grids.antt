@@ -1,5 +1,6 @@
 -- What the tables of a numbering say.
-use Rattle.std.proofs.Common.{◌≡◌, ◌≢◌, ℕ, ◌+◌, ◌-◌, ◌*◌, ◌/◌, ◌%◌, ◌^◌, ◌<◌, ◌≤◌, false, List, [], length, get_or, refl, sym, ◌∙◌, ap, subst, arith}
+use Rattle.std.proofs.Common.{◌≡◌, ◌≢◌, ℕ, ◌+◌, ◌-◌, ◌*◌, ◌/◌, ◌%◌, ◌^◌, ◌<◌, ◌≤◌, false, List, [], length, get_or}
+use Rattle.std.proofs.Common.{refl, sym, ◌∙◌, ap, subst, arith}
 use Rattle.std.specs.Prelude.{◌==◌, slice_index}
 use Rattle.std.specs.List.{All}
 use Rattle.std.proofs.lemmas.Bool.{cond-true, cond-false, eq-eqb, ne_eqb}
@@ -32,7 +33,8 @@ use Rattle.std.proofs.Math.Nat.{mul_comm}
 -- Which side a grid point lies on.
 module _ (l : Layout) (x : Lengths) (p i j : ℕ) where
   pub on_north : j ≢ 0 → j ≡ high l x p → point l x p i j ≡ side_point l x p north (wide l x p - i)
-  on_north j_some top = cond-false (j == 0) _ _ (ne_eqb j 0 j_some) ∙ cond-true (j == high l x p) _ _ (eq-eqb j (high l x p) top)
+  on_north j_some top = cond-false (j == 0) _ _ (ne_eqb j 0 j_some)
+      ∙ cond-true (j == high l x p) _ _ (eq-eqb j (high l x p) top)
 
   pub on_west : j ≢ 0 → j ≢ high l x p → i ≡ 0 → point l x p i j ≡ side_point l x p west (high l x p - j)
   on_west j_some j_low none =
@@ -57,8 +59,17 @@ tables_are plan t is = record {
   four = is.mesh.laid.four;
   long = is.long;
   lengths = is.lengths;
-  few = omega (arith, vertices_few (layout_of plan) (lengths_in t.lengths.items) (laid_of plan is.mesh) is.lengths, is.few);
-  short = λ p s low. omega (arith, side_few (layout_of plan) (lengths_in t.lengths.items) (laid_of plan is.mesh) is.lengths p s low, is.few);
+  few = omega (
+    arith,
+    vertices_few (layout_of plan) (lengths_in t.lengths.items) (laid_of plan is.mesh) is.lengths,
+    is.few,
+  );
+  short = λ p s low. omega (
+    arith,
+    side_few (layout_of plan) (lengths_in t.lengths.items) (laid_of plan is.mesh)
+        is.lengths p s low,
+    is.few,
+  );
   nodes = is.nodes;
   along = is.along;
   inside = is.inside;
@@ -76,17 +87,21 @@ module _ (plan : Plan) (t : Tables) (is : AreTables plan t) where
   -- The tables of a side.
   pub long_is : (p : ℕ) (s : Way) → p < length plan.patches
       → long_by (tables_of t.sides.items) p (way_number s) ≡ size (layout_of plan) (lengths_in t.lengths.items) p s
-  long_is p s low = last_is (sizes_on (side_at plan p s) x) (length (side_at plan p s)) (table_at (tables_of t.sides.items) p s) (is.sides.each p s low)
+  long_is p s low = last_is (sizes_on (side_at plan p s) x) (length (side_at plan p s))
+      (table_at (tables_of t.sides.items) p s) (is.sides.each p s low)
 
   pub table_some : (p s : ℕ) → p < length plan.patches → s < 4 → 0 < length (table_in (tables_of t.sides.items) p s)
   table_some p s low way = by_way (way_for s way)
     where
       by_way : (w : Way) × (way_number w ≡ s) → 0 < length (table_in (tables_of t.sides.items) p s)
-      by_way w = subst (λ (k : ℕ). 0 < length (table_in (tables_of t.sides.items) p k)) w.1 (omega (arith, (is.sides.each p w.0 low).count))
+      by_way w = subst (λ (k : ℕ). 0 < length (table_in (tables_of t.sides.items) p k)) w.1
+          (omega (arith, (is.sides.each p w.0 low).count))
 
   -- What is read of the tables.
-  pub along_at : (a v : ℕ) → a < length plan.arcs → v ≡ get_or t.along.begin.items a v → v ≡ before_arc (lengths_in t.lengths.items) a
-  along_at a v low read = get_or_read t.along.begin.items a v (omega (arith, low, is.along.count)) read 0 ∙ is.along.each a (omega (arith, low))
+  pub along_at : (a v : ℕ) → a < length plan.arcs → v ≡ get_or t.along.begin.items a v
+      → v ≡ before_arc (lengths_in t.lengths.items) a
+  along_at a v low read = get_or_read t.along.begin.items a v (omega (arith, low, is.along.count)) read 0
+      ∙ is.along.each a (omega (arith, low))
 
   -- An inner point of an arc.
   pub arc_here : (a k v w : ℕ) → a < length plan.arcs → k ≤ lengths_in t.lengths.items a → k ≢ 0 → k ≢ v
@@ -104,21 +119,27 @@ module _ (plan : Plan) (t : Tables) (is : AreTables plan t) where
   -- A place of a side.
   pub record IsThere (side : List SideArc) (starts : List ℕ) (place at : ℕ) : Type 0 where
     pub from : get_or starts at 0 ≤ place
-    pub upto : place - get_or starts at 0 ≤ lengths_in t.lengths.items (get_or side at (record { arc = 0; forward = false })).arc
-    pub point : use_point (layout_of plan) (lengths_in t.lengths.items) (get_or side at (record { arc = 0; forward = false })) (place - get_or starts at 0)
+    pub upto : place - get_or starts at 0
+        ≤ lengths_in t.lengths.items (get_or side at (record { arc = 0; forward = false })).arc
+    pub point : use_point (layout_of plan) (lengths_in t.lengths.items)
+        (get_or side at (record { arc = 0; forward = false })) (place - get_or starts at 0)
         ≡ point_on (layout_of plan) (lengths_in t.lengths.items) side place
 
   pub there : (side : List SideArc) (starts : List ℕ) (place at : ℕ) → 0 < length side
       → AreRunStarts (sizes_on side (lengths_in t.lengths.items)) (length side) starts
       → place ≤ count_below (sizes_on side (lengths_in t.lengths.items)) (length side)
-      → at ≡ run_at (count_below (sizes_on side (lengths_in t.lengths.items))) (length side) place → IsThere side starts place at
+      → at ≡ run_at (count_below (sizes_on side (lengths_in t.lengths.items))) (length side) place
+      → IsThere side starts place at
   there side starts place at some are upto same =
-      let low : at < length side = omega (arith, same, run_low (count_below (sizes_on side x)) (length side) place some) in
+      let low : at < length side =
+      omega (arith, same, run_low (count_below (sizes_on side x)) (length side) place some) in
       let w = within_run (sizes_on side x) (length side) place some upto in
       let begin : get_or starts at 0 ≡ count_below (sizes_on side x) at = are.each at (omega (arith, low)) in
-      let begins : count_below (sizes_on side x) at ≡ count_below (sizes_on side x) (run_at (count_below (sizes_on side x)) (length side) place) =
+      let begins : count_below (sizes_on side x) at
+      ≡ count_below (sizes_on side x) (run_at (count_below (sizes_on side x)) (length side) place) =
       ap (count_below (sizes_on side x)) same in
-      let size : sizes_on side x at ≡ sizes_on side x (run_at (count_below (sizes_on side x)) (length side) place) = ap (sizes_on side x) same in
+      let size : sizes_on side x at ≡ sizes_on side x (run_at (count_below (sizes_on side x)) (length side) place) =
+      ap (sizes_on side x) same in
       record {
         from = omega (arith, w.0, begin, begins);
         upto = omega (arith, w.1, begin, begins, size, read_size side x at low);
@@ -131,17 +152,22 @@ module _ (plan : Plan) (t : Tables) (is : AreTables plan t) where
     pub some : 0 < length side
     pub low : All (λ (used : SideArc). used.arc < length plan.arcs) side
     pub starts_are : AreRunStarts (sizes_on side (lengths_in t.lengths.items)) (length side) starts
-    pub long : count_below (sizes_on side (lengths_in t.lengths.items)) (length side) ≡ long_by (tables_of t.sides.items) p s
+    pub long : count_below (sizes_on side (lengths_in t.lengths.items)) (length side)
+        ≡ long_by (tables_of t.sides.items) p s
 
   pub border : (p s : ℕ) (side : List SideArc) (starts : List ℕ) → p < length plan.patches → s < 4
-      → side ≡ get_or (get_or plan.sides p []) s [] → starts ≡ table_in (tables_of t.sides.items) p s → IsBorder p s side starts
+      → side ≡ get_or (get_or plan.sides p []) s [] → starts ≡ table_in (tables_of t.sides.items) p s
+      → IsBorder p s side starts
   border p s side starts low way side_is starts_is =
       subst (λ (us : List SideArc). IsBorder p s us starts) (sym side_is)
-      (subst (λ (xs : List ℕ). IsBorder p s (get_or (get_or plan.sides p []) s []) xs) (sym starts_is) (by_way (way_for s way)))
+      (subst (λ (xs : List ℕ). IsBorder p s (get_or (get_or plan.sides p []) s []) xs) (sym starts_is)
+      (by_way (way_for s way)))
     where
-      by_way : (w : Way) × (way_number w ≡ s) → IsBorder p s (get_or (get_or plan.sides p []) s []) (table_in (tables_of t.sides.items) p s)
+      by_way : (w : Way) × (way_number w ≡ s)
+          → IsBorder p s (get_or (get_or plan.sides p []) s []) (table_in (tables_of t.sides.items) p s)
       by_way w =
-          subst (λ (k : ℕ). IsBorder p k (get_or (get_or plan.sides p []) k []) (table_in (tables_of t.sides.items) p k)) w.1
+          subst (λ (k : ℕ). IsBorder p k (get_or (get_or plan.sides p []) k [])
+          (table_in (tables_of t.sides.items) p k)) w.1
           (record {
             some = is.paved.sides_full p w.0 low;
             low = arcs_low plan is.paved p w.0 (length plan.arcs) (side_at plan p w.0) low refl refl;
@@ -150,31 +176,41 @@ module _ (plan : Plan) (t : Tables) (is : AreTables plan t) where
           })
 
   -- The end of a table is the length of its side.
-  pub table_full : (p s : ℕ) (sides : List (List RunStarts)) (table : List ℕ) → p < length plan.patches → s < 4 → sides ≡ t.sides.items
+  pub table_full : (p s : ℕ) (sides : List (List RunStarts)) (table : List ℕ) → p < length plan.patches → s < 4
+      → sides ≡ t.sides.items
       → table ≡ table_in (tables_of sides) p s → 0 < length table
   table_full p s sides table low way same table_is =
-      subst (λ (xs : List ℕ). 0 < length xs) (sym (table_is ∙ ap (λ (ys : List (List RunStarts)). table_in (tables_of ys) p s) same)) (table_some p s low way)
+      subst (λ (xs : List ℕ). 0 < length xs)
+      (sym (table_is ∙ ap (λ (ys : List (List RunStarts)). table_in (tables_of ys) p s) same))
+      (table_some p s low way)
 
-  pub size_read : (p : ℕ) (s : Way) (sides : List (List RunStarts)) (table : List ℕ) (v : ℕ) → p < length plan.patches → sides ≡ t.sides.items
+  pub size_read : (p : ℕ) (s : Way) (sides : List (List RunStarts)) (table : List ℕ) (v : ℕ) → p < length plan.patches
+      → sides ≡ t.sides.items
       → table ≡ table_in (tables_of sides) p (way_number s) → v ≡ slice_index table (length table - 1)
       → v ≡ size (layout_of plan) (lengths_in t.lengths.items) p s
   size_read p s sides table v low same table_is read =
-      read ∙ ap (λ (xs : List ℕ). slice_index xs (length xs - 1)) (table_is ∙ ap (λ (ys : List (List RunStarts)). table_in (tables_of ys) p (way_number s)) same)
+      read ∙ ap (λ (xs : List ℕ). slice_index xs (length xs - 1)) (table_is
+      ∙ ap (λ (ys : List (List RunStarts)). table_in (tables_of ys) p (way_number s)) same)
       ∙ long_is p s low
 
   -- The cell with a number.
   pub record IsCell (f : ℕ) : Type 0 where
     pub patch_low : patch_of (layout_of plan) (lengths_in t.lengths.items) f < length plan.patches
-    pub from : cells_before (layout_of plan) (lengths_in t.lengths.items) (patch_of (layout_of plan) (lengths_in t.lengths.items) f) ≤ f
-    pub some : 0 < wide (layout_of plan) (lengths_in t.lengths.items) (patch_of (layout_of plan) (lengths_in t.lengths.items) f)
-    pub column : cell_in (layout_of plan) (lengths_in t.lengths.items) f % wide (layout_of plan) (lengths_in t.lengths.items) (patch_of (layout_of plan) (lengths_in t.lengths.items) f)
+    pub from : cells_before (layout_of plan) (lengths_in t.lengths.items)
+        (patch_of (layout_of plan) (lengths_in t.lengths.items) f) ≤ f
+    pub some : 0 < wide (layout_of plan) (lengths_in t.lengths.items)
+        (patch_of (layout_of plan) (lengths_in t.lengths.items) f)
+    pub column : cell_in (layout_of plan) (lengths_in t.lengths.items) f % wide (layout_of plan)
+        (lengths_in t.lengths.items) (patch_of (layout_of plan) (lengths_in t.lengths.items) f)
         < wide (layout_of plan) (lengths_in t.lengths.items) (patch_of (layout_of plan) (lengths_in t.lengths.items) f)
-    pub row : cell_in (layout_of plan) (lengths_in t.lengths.items) f / wide (layout_of plan) (lengths_in t.lengths.items) (patch_of (layout_of plan) (lengths_in t.lengths.items) f)
+    pub row : cell_in (layout_of plan) (lengths_in t.lengths.items) f / wide (layout_of plan)
+        (lengths_in t.lengths.items) (patch_of (layout_of plan) (lengths_in t.lengths.items) f)
         < high (layout_of plan) (lengths_in t.lengths.items) (patch_of (layout_of plan) (lengths_in t.lengths.items) f)
 
   pub cell_is : (f : ℕ) → f < face_count (layout_of plan) (lengths_in t.lengths.items) → IsCell f
   cell_is f low =
-      let h : IsInRun (λ p. wide l x p * high l x p) (length plan.patches) f (patch_of l x f) (cell_in l x f) = run_here (λ p. wide l x p * high l x p) (length plan.patches) f low in
+      let h : IsInRun (λ p. wide l x p * high l x p) (length plan.patches) f (patch_of l x f) (cell_in l x f) =
+      run_here (λ p. wide l x p * high l x p) (length plan.patches) f low in
       let less : cell_in l x f < high l x (patch_of l x f) * wide l x (patch_of l x f) =
       subst (λ k. cell_in l x f < k) (mul_comm (wide l x (patch_of l x f)) (high l x (patch_of l x f))) h.inside in
       let r = in_rows (wide l x (patch_of l x f)) (high l x (patch_of l x f)) (cell_in l x f) less in
@@ -183,26 +219,36 @@ module _ (plan : Plan) (t : Tables) (is : AreTables plan t) where
   -- A face that is found: its patch, where the cells of that begin, and how wide it is.
   pub record IsFaceAt (f patch begin columns : ℕ) : Type 0 where
     pub patch_is : patch ≡ patch_of (layout_of plan) (lengths_in t.lengths.items) f
-    pub begin_is : begin ≡ cells_before (layout_of plan) (lengths_in t.lengths.items) (patch_of (layout_of plan) (lengths_in t.lengths.items) f)
-    pub columns_are : columns ≡ wide (layout_of plan) (lengths_in t.lengths.items) (patch_of (layout_of plan) (lengths_in t.lengths.items) f)
+    pub begin_is : begin ≡ cells_before (layout_of plan) (lengths_in t.lengths.items)
+        (patch_of (layout_of plan) (lengths_in t.lengths.items) f)
+    pub columns_are : columns ≡ wide (layout_of plan) (lengths_in t.lengths.items)
+        (patch_of (layout_of plan) (lengths_in t.lengths.items) f)
 
-  pub column_low : (f patch begin columns : ℕ) → f < face_count (layout_of plan) (lengths_in t.lengths.items) → IsFaceAt f patch begin columns
+  pub column_low : (f patch begin columns : ℕ) → f < face_count (layout_of plan) (lengths_in t.lengths.items)
+      → IsFaceAt f patch begin columns
       → (f - begin) % columns < wide (layout_of plan) (lengths_in t.lengths.items) patch
   column_low f patch begin columns low at =
-      let e : (f - begin) % columns ≡ cell_in l x f % wide l x (patch_of l x f) = λ k. (f - at.begin_is k) % at.columns_are k in
+      let e : (f - begin) % columns ≡ cell_in l x f % wide l x (patch_of l x f) =
+      λ k. (f - at.begin_is k) % at.columns_are k in
       omega (arith, e, (cell_is f low).column, ap (wide l x) at.patch_is)
 
-  pub row_low : (f patch begin columns : ℕ) → f < face_count (layout_of plan) (lengths_in t.lengths.items) → IsFaceAt f patch begin columns
+  pub row_low : (f patch begin columns : ℕ) → f < face_count (layout_of plan) (lengths_in t.lengths.items)
+      → IsFaceAt f patch begin columns
       → (f - begin) / columns < high (layout_of plan) (lengths_in t.lengths.items) patch
   row_low f patch begin columns low at =
-      let e : (f - begin) / columns ≡ cell_in l x f / wide l x (patch_of l x f) = λ k. (f - at.begin_is k) / at.columns_are k in
+      let e : (f - begin) / columns ≡ cell_in l x f / wide l x (patch_of l x f) =
+      λ k. (f - at.begin_is k) / at.columns_are k in
       omega (arith, e, (cell_is f low).row, ap (high l x) at.patch_is)
 
-  pub cells_at : (p v : ℕ) → p < length plan.patches → v ≡ get_or t.cells.begin.items p v → v ≡ cells_before (layout_of plan) (lengths_in t.lengths.items) p
-  cells_at p v low read = get_or_read t.cells.begin.items p v (omega (arith, low, is.cells.count)) read 0 ∙ is.cells.each p (omega (arith, low))
+  pub cells_at : (p v : ℕ) → p < length plan.patches → v ≡ get_or t.cells.begin.items p v
+      → v ≡ cells_before (layout_of plan) (lengths_in t.lengths.items) p
+  cells_at p v low read = get_or_read t.cells.begin.items p v (omega (arith, low, is.cells.count)) read 0
+      ∙ is.cells.each p (omega (arith, low))
 
-  pub inside_at : (p v : ℕ) → p < length plan.patches → v ≡ get_or t.inside.begin.items p v → v ≡ before_patch (layout_of plan) (lengths_in t.lengths.items) p
-  inside_at p v low read = get_or_read t.inside.begin.items p v (omega (arith, low, is.inside.count)) read 0 ∙ is.inside.each p (omega (arith, low))
+  pub inside_at : (p v : ℕ) → p < length plan.patches → v ≡ get_or t.inside.begin.items p v
+      → v ≡ before_patch (layout_of plan) (lengths_in t.lengths.items) p
+  inside_at p v low read = get_or_read t.inside.begin.items p v (omega (arith, low, is.inside.count)) read 0
+      ∙ is.inside.each p (omega (arith, low))
 
   -- The end of the arcs' inner points.
   pub along_end : (list : List ℕ) (v : ℕ) → list ≡ t.along.begin.items → v ≡ slice_index list (length list - 1)
@@ -226,10 +272,13 @@ module _ (plan : Plan) (t : Tables) (is : AreTables plan t) where
       ∙ last_is (λ p. wide l x p * high l x p) (length plan.patches) t.cells.begin.items is.cells
 
   -- An inner point of a patch.
-  pub inside_here : (p i j columns begin end : ℕ) → p < length plan.patches → i ≤ wide (layout_of plan) (lengths_in t.lengths.items) p
-      → j ≤ high (layout_of plan) (lengths_in t.lengths.items) p → j ≢ 0 → j ≢ high (layout_of plan) (lengths_in t.lengths.items) p
+  pub inside_here : (p i j columns begin end : ℕ) → p < length plan.patches
+      → i ≤ wide (layout_of plan) (lengths_in t.lengths.items) p
+      → j ≤ high (layout_of plan) (lengths_in t.lengths.items) p → j ≢ 0
+      → j ≢ high (layout_of plan) (lengths_in t.lengths.items) p
       → i ≢ 0 → i ≢ wide (layout_of plan) (lengths_in t.lengths.items) p
-      → columns ≡ wide (layout_of plan) (lengths_in t.lengths.items) p → begin ≡ before_patch (layout_of plan) (lengths_in t.lengths.items) p
+      → columns ≡ wide (layout_of plan) (lengths_in t.lengths.items) p
+      → begin ≡ before_patch (layout_of plan) (lengths_in t.lengths.items) p
       → end ≡ before_arc (lengths_in t.lengths.items) (length plan.arcs)
       → (t.nodes + end + begin + ((j - 1) * (columns - 1) + (i - 1)) ≡ point_name l x (point l x p i j))
       × (t.nodes + end + begin + ((j - 1) * (columns - 1) + (i - 1)) < 2 ^ 23)
@@ -242,7 +291,12 @@ module _ (plan : Plan) (t : Tables) (is : AreTables plan t) where
           arith,
           name,
           is.few,
-          number_low l x (inside p i j)
-              (low, omega (arith, i_some), omega (arith, i_low, i_upto), omega (arith, j_some), omega (arith, j_low, j_upto)),
+          number_low l x (inside p i j) (
+            low,
+            omega (arith, i_some),
+            omega (arith, i_low, i_upto),
+            omega (arith, j_some),
+            omega (arith, j_low, j_upto),
+          ),
         ),
       )

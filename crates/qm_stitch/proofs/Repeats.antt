@@ -1,9 +1,11 @@
 -- Numbers that stand twice in a list.
-use Rattle.std.proofs.Common.{◌≡◌, ◌≢◌, ℕ, suc, ◌+◌, ◌/◌, ◌%◌, ◌^◌, ◌<◌, ◌≤◌, true, false, cond, List, [], ◌∷◌, length, take, drop, get_or, refl, sym, ◌∙◌, ap, inl, inr, arith}
+use Rattle.std.proofs.Common.{◌≡◌, ◌≢◌, ℕ, suc, ◌+◌, ◌/◌, ◌%◌, ◌^◌, ◌<◌, ◌≤◌, true, false, cond, List, [], ◌∷◌, length}
+use Rattle.std.proofs.Common.{take, drop, get_or, refl, sym, ◌∙◌, ap, inl, inr, arith}
 use Rattle.std.specs.Prelude.{◌==◌, ◌&&◌, nat_lt}
 use Rattle.std.specs.List.{sum_by}
 use Rattle.std.specs.List.Sorted.{IsPermutation, IsNonDecreasing}
-use Rattle.std.proofs.lemmas.Bool.{and_from, and_parts, cases_eq, cases_lt, cond-true, cond-false, eq-eqb, eqb-true, false≢true, lt-ltb, ltb-true, ne_eqb, or_cases, or_left, or_right}
+use Rattle.std.proofs.lemmas.Bool.{and_from, and_parts, cases_eq, cases_lt, cond-true, cond-false, eq-eqb, eqb-true}
+use Rattle.std.proofs.lemmas.Bool.{false≢true, lt-ltb, ltb-true, ne_eqb, or_cases, or_left, or_right}
 use Rattle.std.proofs.lemmas.List.{get_or-take, get_or-drop, get_or_default, length-take-le, length-drop}
 use Rattle.std.proofs.lemmas.List.Elements.{Contains-get_or}
 use Rattle.std.proofs.lemmas.List.Sums.{sum_by-cons, sum_by-take-drop, get_or-le-sum_by}
@@ -41,7 +43,8 @@ two_places key (x ∷ xs) two = elim (cases_eq x key) [
       some_place key xs (omega (arith, two, sum_by-cons (hit key) x xs, hit_same key x same)) in
       (0, suc r.0, omega arith, omega (arith, r.1), same, r.2)
   | inr other ↦
-      let r : StandsTwice xs key = two_places key xs (omega (arith, two, sum_by-cons (hit key) x xs, hit_other key x other)) in
+      let r : StandsTwice xs key =
+      two_places key xs (omega (arith, two, sum_by-cons (hit key) x xs, hit_other key x other)) in
       (suc r.0, suc r.1, omega (arith, r.2), omega (arith, r.3), r.4, r.5)
 ]
 
@@ -65,26 +68,49 @@ repeat_moved xs ys key moved (inr two) =
 -- In an increasing list, what stands twice stands at two places in a row.
 pub next_to : (xs : List ℕ) (key : ℕ) → IsNonDecreasing xs → StandsTwice xs key
     → (i : ℕ) × (i + 1 < length xs) × (get_or xs i 0 ≡ key) × (get_or xs (i + 1) 0 ≡ key)
-next_to xs key increasing (i, j, less, low, at_i, at_j) =
-    (i, omega (arith, less, low), at_i, omega (arith, at_i, at_j, increasing i (i + 1) 0 (omega arith) (omega (arith, less, low)), increasing (i + 1) j 0 (omega (arith, less)) low))
+next_to xs key increasing (i, j, less, low, at_i, at_j) = (
+  i,
+  omega (arith, less, low),
+  at_i,
+  omega (
+    arith,
+    at_i,
+    at_j,
+    increasing i (i + 1) 0 (omega arith) (omega (arith, less, low)),
+    increasing (i + 1) j 0 (omega (arith, less)) low,
+  ),
+)
 
 module _ (keys : List ℕ) (increasing : IsNonDecreasing keys) where
   at_repeat : (place : ℕ) → place < length keys → is_repeat_at keys place ≡ true → IsRepeat keys (get_or keys place 0)
   at_repeat place low on = elim (or_cases _ _ on) [
-    | inl loop ↦ inl (eqb-true (get_or keys place 0 / 2 ^ 32) (get_or keys place 0 % 2 ^ 32) loop, Contains-get_or keys place 0 low)
+    | inl loop ↦ inl (
+      eqb-true (get_or keys place 0 / 2 ^ 32) (get_or keys place 0 % 2 ^ 32) loop,
+      Contains-get_or keys place 0 low,
+    )
     | inr next ↦
-        let both = and_parts (nat_lt (place + 1) (length keys)) (get_or keys (place + 1) 0 == get_or keys place 0) next in
-        inr (place, place + 1, omega arith, ltb-true (place + 1) (length keys) both.0, refl, eqb-true (get_or keys (place + 1) 0) (get_or keys place 0) both.1)
+        let both = and_parts (nat_lt (place + 1) (length keys)) (get_or keys (place + 1) 0 == get_or keys place 0)
+        next in
+        inr (
+          place,
+          place + 1,
+          omega arith,
+          ltb-true (place + 1) (length keys) both.0,
+          refl,
+          eqb-true (get_or keys (place + 1) 0) (get_or keys place 0) both.1,
+        )
   ]
 
-  repeat_at : (key : ℕ) → IsRepeat keys key → (k : ℕ) × (k < length keys) × (get_or keys k 0 ≡ key) × (is_repeat_at keys k ≡ true)
+  repeat_at : (key : ℕ) → IsRepeat keys key → (k : ℕ) × (k < length keys) × (get_or keys k 0 ≡ key)
+      × (is_repeat_at keys k ≡ true)
   repeat_at key (inl (loop, (k, low, at))) =
       let here : get_or keys k 0 ≡ key = get_or_default keys k 0 key low ∙ at in (
         k,
         low,
         here,
         or_left (is_loop (get_or keys k 0)) (nat_lt (k + 1) (length keys) && get_or keys (k + 1) 0 == get_or keys k 0)
-            (eq-eqb (get_or keys k 0 / 2 ^ 32) (get_or keys k 0 % 2 ^ 32) (ap (λ n. n / 2 ^ 32) here ∙ loop ∙ ap (λ n. n % 2 ^ 32) (sym here))),
+            (eq-eqb (get_or keys k 0 / 2 ^ 32) (get_or keys k 0 % 2 ^ 32) (ap (λ n. n / 2 ^ 32) here ∙ loop
+            ∙ ap (λ n. n % 2 ^ 32) (sym here))),
       )
   repeat_at key (inr two) = by_next (next_to keys key increasing two)
     where
@@ -95,16 +121,23 @@ module _ (keys : List ℕ) (increasing : IsNonDecreasing keys) where
         omega (arith, low),
         at,
         or_right (is_loop (get_or keys i 0)) (nat_lt (i + 1) (length keys) && get_or keys (i + 1) 0 == get_or keys i 0)
-            (and_from (nat_lt (i + 1) (length keys)) (get_or keys (i + 1) 0 == get_or keys i 0) (lt-ltb (i + 1) (length keys) low)
+            (and_from (nat_lt (i + 1) (length keys)) (get_or keys (i + 1) 0 == get_or keys i 0)
+            (lt-ltb (i + 1) (length keys) low)
             (eq-eqb (get_or keys (i + 1) 0) (get_or keys i 0) (after ∙ sym at))),
       )
 
   -- The first place of a repeat has the least one.
-  pub first_is : (place : ℕ) → place < length keys → ((k : ℕ) → k < place → is_repeat_at keys k ≡ false) → is_repeat_at keys place ≡ true
+  pub first_is : (place : ℕ) → place < length keys → ((k : ℕ) → k < place → is_repeat_at keys k ≡ false)
+      → is_repeat_at keys place ≡ true
       → IsLeastRepeat keys (get_or keys place 0)
-  first_is place low none on = record { is = at_repeat place low on; least = λ other is. by_place other (repeat_at other is) }
+  first_is place low none on = record {
+    is = at_repeat place low on;
+    least =
+        λ other is. by_place other (repeat_at other is);
+  }
     where
-      by_place : (other : ℕ) → (k : ℕ) × (k < length keys) × (get_or keys k 0 ≡ other) × (is_repeat_at keys k ≡ true) → get_or keys place 0 ≤ other
+      by_place : (other : ℕ) → (k : ℕ) × (k < length keys) × (get_or keys k 0 ≡ other) × (is_repeat_at keys k ≡ true)
+          → get_or keys place 0 ≤ other
       by_place other (k, k_low, at, is) = elim (cases_lt k place) [
         | inl less ↦ absurd (false≢true (sym (none k less) ∙ is))
         | inr more ↦ omega (arith, at, increasing place k 0 more k_low)

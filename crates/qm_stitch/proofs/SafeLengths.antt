@@ -1,5 +1,6 @@
 -- Safe lengths double no edge, and lengths that double none keep the shape.
-use Rattle.std.proofs.Common.{◌≡◌, ℕ, zero, suc, ◌*◌, ◌/◌, ◌<◌, Bool, List, length, sym, ◌∙◌, ap, subst, inl, inr, arith}
+use Rattle.std.proofs.Common.{◌≡◌, ℕ, zero, suc, ◌*◌, ◌/◌, ◌<◌, Bool, List, length, sym, ◌∙◌, ap, subst, inl, inr}
+use Rattle.std.proofs.Common.{arith}
 use Rattle.std.specs.Prelude.{◌↔◌, IsTrue}
 use Rattle.std.proofs.lemmas.Bool.{cases_lt}
 use Rattle.std.proofs.lemmas.List.{get_or_past}
@@ -17,17 +18,20 @@ use Rattle.written_laws.proofs.Shape.{keeps_shape_law, multiple_law, three_law}
 
 module _ (plan : Plan) (list : List ℕ) (long : length list ≡ length plan.arcs) where
   -- Beyond the arcs, lengths are 0.
-  same_lengths : (by : ℕ) → ((arc : ℕ) → arc < length plan.arcs → lengths_in list arc ≡ multiple_of by (long_at plan.arcs) arc)
+  same_lengths : (by : ℕ) → ((arc : ℕ) → arc < length plan.arcs → lengths_in list arc
+      ≡ multiple_of by (long_at plan.arcs) arc)
       → (arc : ℕ) → multiple_of by (long_at plan.arcs) arc ≡ lengths_in list arc
   same_lengths by same arc = elim (cases_lt arc (length plan.arcs)) [
     | inl low ↦ sym (same arc low)
     | inr past ↦
-        let none : long_at plan.arcs arc ≡ 0 = ap (λ (path : Path). length path.darts) (get_or_past plan.arcs arc _ past) in
+        let none : long_at plan.arcs arc ≡ 0 =
+        ap (λ (path : Path). length path.darts) (get_or_past plan.arcs arc _ past) in
         let zero : by * long_at plan.arcs arc ≡ by * 0 = ap (λ n. by * n) none in
         omega (arith, zero, get_or_past list arc 0 (omega (arith, past, long)))
   ]
 
-  pub safe_undoubled : IsSomeLayout plan → AreLengths (layout_of plan) (lengths_in list) → AreSafe plan (lengths_in list)
+  pub safe_undoubled : IsSomeLayout plan → AreLengths (layout_of plan) (lengths_in list)
+      → AreSafe plan (lengths_in list)
       → IsUndoubled (layout_of plan) (lengths_in list)
   safe_undoubled is len (inl most) = three_law (layout_of plan) (lengths_in list) (laid_of plan is) len most
   safe_undoubled is len (inr (by, some, same)) =
@@ -35,7 +39,8 @@ module _ (plan : Plan) (list : List ℕ) (long : length list ≡ length plan.arc
       (multiple_law is.faces (layout_of plan) (long_at plan.arcs) (vertex_at plan) (lies plan is) by some).1
 
   -- Where lengths are multiples of the old ones, the first tells how many times.
-  pub times_found : AreLengths (layout_of plan) (lengths_in list) → (result : Bool) (old by : ℕ) → 0 < length list → old ≡ long_at plan.arcs 0 → 0 < old
+  pub times_found : AreLengths (layout_of plan) (lengths_in list) → (result : Bool) (old by : ℕ) → 0 < length list
+      → old ≡ long_at plan.arcs 0 → 0 < old
       → by ≡ lengths_in list 0 / old
       → IsTrue result ↔ ((arc : ℕ) → arc < length list → lengths_in list arc ≡ multiple_of by (long_at plan.arcs) arc)
       → IsTrue result ↔ AreMultiples plan (lengths_in list)
@@ -46,7 +51,8 @@ module _ (plan : Plan) (list : List ℕ) (long : length list ≡ length plan.arc
 
       there : IsTrue result → AreMultiples plan (lengths_in list)
       there on =
-          let each : (arc : ℕ) → arc < length list → lengths_in list arc ≡ multiple_of by (long_at plan.arcs) arc = both.0 on in
+          let each : (arc : ℕ) → arc < length list → lengths_in list arc ≡ multiple_of by (long_at plan.arcs) arc =
+          both.0 on in
           (by, by_some by (each 0 some) (len.some 0 at_first), λ arc low. each arc (omega (arith, low, long)))
         where
           by_some : (n : ℕ) → lengths_in list 0 ≡ multiple_of n (long_at plan.arcs) 0 → 0 < lengths_in list 0 → 0 < n
@@ -56,11 +62,15 @@ module _ (plan : Plan) (list : List ℕ) (long : length list ≡ length plan.arc
       back : AreMultiples plan (lengths_in list) → IsTrue result
       back (times, times_some, each) =
           let first : lengths_in list 0 ≡ times * old = each 0 at_first ∙ ap (λ n. times * n) (sym old_is) in
-          let same : by ≡ times = by_is ∙ ap (λ n. n / old) first ∙ ap (λ n. n / old) (omega arith) ∙ div-mul-add times old 0 old_some in
-          both.1 (λ arc low. each arc (omega (arith, low, long)) ∙ ap (λ n. multiple_of n (long_at plan.arcs) arc) (sym same))
+          let same : by ≡ times = by_is ∙ ap (λ n. n / old) first ∙ ap (λ n. n / old) (omega arith)
+          ∙ div-mul-add times old 0 old_some in
+          both.1 (λ arc low. each arc (omega (arith, low, long)) ∙ ap (λ n. multiple_of n (long_at plan.arcs) arc)
+          (sym same))
 
 -- The new mesh has the shape of each mesh with the layout.
-pub shapes_kept : (plan : Plan) (lengths : Lengths) → AreLengths (layout_of plan) lengths → IsUndoubled (layout_of plan) lengths
+pub shapes_kept : (plan : Plan) (lengths : Lengths) → AreLengths (layout_of plan) lengths
+    → IsUndoubled (layout_of plan) lengths
     → KeepsShapes plan lengths
 shapes_kept plan lengths len undoubled faces marks mesh quads cut laid =
-    keeps_shape_law faces (layout_of plan) (long_at plan.arcs) (vertex_at plan) (plan_law faces marks plan mesh quads cut laid) lengths len undoubled
+    keeps_shape_law faces (layout_of plan) (long_at plan.arcs) (vertex_at plan)
+    (plan_law faces marks plan mesh quads cut laid) lengths len undoubled

@@ -26,9 +26,12 @@ bench_net plan other settings net equal same is =
     subst (λ (s : Settings). IsNetOf (layout_of plan) (long_at plan.arcs) (long_at plan.arcs) s net) same
     (subst (λ (p : Plan). IsNetOf (layout_of p) (long_at p.arcs) (long_at p.arcs) settings net) equal is)
 
-pub bench_kept : (plan : Plan) (settings : Settings) (certificates : Certificates) (tables : Tables) → settings ≡ bench_settings
-    → IsKept old_lengths plan settings false certificates tables → IsKept old_lengths plan bench_settings false certificates tables
-bench_kept plan settings certificates tables same kept = subst (λ (s : Settings). IsKept old_lengths plan s false certificates tables) same kept
+pub bench_kept : (plan : Plan) (settings : Settings) (certificates : Certificates) (tables : Tables)
+    → settings ≡ bench_settings
+    → IsKept old_lengths plan settings false certificates tables
+    → IsKept old_lengths plan bench_settings false certificates tables
+bench_kept plan settings certificates tables same kept =
+    subst (λ (s : Settings). IsKept old_lengths plan s false certificates tables) same kept
 
 module _
     (plan : Plan) (tables : Tables) (net : Network)
@@ -43,12 +46,14 @@ module _
   kept_lengths (raised first cert) kept = absurd (false≢true kept.kept.0)
 
   -- A layout has one network, so their deviation is that of their certificate.
-  pub deviation_kept : (certificates : Certificates) (told : ℤ) → IsSomeLayout plan → IsKept old_lengths plan bench_settings false certificates tables
+  pub deviation_kept : (certificates : Certificates) (told : ℤ) → IsSomeLayout plan
+      → IsKept old_lengths plan bench_settings false certificates tables
       → told ≡ pos (deviation net (entries (used certificates).x)) → IsKeptDeviation plan told
   deviation_kept (raised first cert) told mesh kept says = absurd (false≢true kept.kept.0)
   deviation_kept (alone cert) told mesh kept says =
       let one : net ≡ kept.kept.lengths.net =
-      one_net_law (layout_of plan) (long_at plan.arcs) (long_at plan.arcs) bench_settings (laid_of plan mesh) net kept.kept.lengths.net is kept.kept.lengths.of_layout in
+      one_net_law (layout_of plan) (long_at plan.arcs) (long_at plan.arcs) bench_settings (laid_of plan mesh) net
+      kept.kept.lengths.net is kept.kept.lengths.of_layout in
       record {
         cert = cert;
         certified = kept.kept;

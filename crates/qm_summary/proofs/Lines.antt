@@ -34,7 +34,8 @@ same_line size told faces plan deviation vertices edges many riders patches arcs
     ap (bench_line size) same
 
 -- A layout of a mesh that is that of a size is one of the size.
-pub traced_in : (size : ℕ) (soup : FaceSet) (faces : Faces) (plan : Plan) (cut : CutSoup) → soup ≡ steps_soup size → faces ≡ soup.faces
+pub traced_in : (size : ℕ) (soup : FaceSet) (faces : Faces) (plan : Plan) (cut : CutSoup) → soup ≡ steps_soup size
+    → faces ≡ soup.faces
     → cut ≡ record { soup = soup; plan = plan } → IsTracedLayout faces plan → IsTracedLayout (bench_faces size) cut.plan
 traced_in size soup faces plan cut is same made traced =
     subst (IsTracedLayout (bench_faces size)) (ap (λ (k : CutSoup). k.plan) (sym made))

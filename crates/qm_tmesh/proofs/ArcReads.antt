@@ -17,19 +17,28 @@ use Rattle.qm_tmesh.specs.Tables.{IsMarked, IsNamedRun}
 use Rattle.qm_tmesh.specs.Uses.{AreNamed}
 
 -- The arc that was read.
-pub read_arc : (arcs : List TArc) (a : ℕ) (x : TArc) → a < length arcs → x ≡ get_or arcs a x → path_at (map path arcs) a ≡ path x
+pub read_arc : (arcs : List TArc) (a : ℕ) (x : TArc) → a < length arcs → x ≡ get_or arcs a x → path_at (map path arcs) a
+    ≡ path x
 read_arc arcs a x l is = get_or-map path arcs a x (record { first = 0; last = 0; darts = [] }) l ∙ ap path (sym is)
 
-module _ (faces : Faces) (cut marks : List Bool) (marked : IsMarked faces cut marks) (arcs : List Path) (named : AreNamed faces cut arcs) where
+module _ (faces : Faces) (cut marks : List Bool) (marked : IsMarked faces cut marks) (arcs : List Path)
+    (named : AreNamed faces cut arcs) where
   pub named_some : (a : ℕ) → a < length arcs → 0 < long_at arcs a
   named_some a l = (named.each a l).1.run.some
 
   pub named_low : (a k : ℕ) → a < length arcs → k < long_at arcs a → get_or (path_at arcs a).darts k 0 < darts faces
   named_low a k l lk = by_run (named.each a l)
     where
-      by_run : (s : ℕ) × IsNamedRun faces cut s (long_at arcs a) × ((path_at arcs a).darts ≡ run_list (half_edges faces) s (long_at arcs a)) → get_or (path_at arcs a).darts k 0 < darts faces
-      by_run p = subst (λ (x : ℕ). x < darts faces) (sym (ap (λ (xs : List ℕ). get_or xs k 0) p.2 ∙ run_entry (half_edges faces) p.0 (long_at arcs a) k lk)) (run_low (half_edges faces) marked.laws (is_on cut) marked.full (is_node faces cut) marked.stand p.0 (long_at arcs a) p.1.run k lk)
+      by_run : (s : ℕ) × IsNamedRun faces cut s (long_at arcs a)
+          × ((path_at arcs a).darts ≡ run_list (half_edges faces) s (long_at arcs a))
+          → get_or (path_at arcs a).darts k 0 < darts faces
+      by_run p = subst (λ (x : ℕ). x < darts faces)
+          (sym (ap (λ (xs : List ℕ). get_or xs k 0) p.2 ∙ run_entry (half_edges faces) p.0 (long_at arcs a) k lk))
+          (run_low (half_edges faces) marked.laws (is_on cut) marked.full (is_node faces cut) marked.stand p.0
+          (long_at arcs a) p.1.run k lk)
 
 -- The patch that was read.
-pub read_patch : (patches : List Patch) (p : ℕ) (x : Patch) → p < length patches → x ≡ get_or patches p x → patch_at (map rectangle patches) p ≡ rectangle x
-read_patch patches p x l is = get_or-map rectangle patches p x (record { w = 0; h = 0; cells = [] }) l ∙ ap rectangle (sym is)
+pub read_patch : (patches : List Patch) (p : ℕ) (x : Patch) → p < length patches → x ≡ get_or patches p x
+    → patch_at (map rectangle patches) p ≡ rectangle x
+read_patch patches p x l is = get_or-map rectangle patches p x (record { w = 0; h = 0; cells = [] }) l
+    ∙ ap rectangle (sym is)

@@ -1,5 +1,6 @@
 -- A side as it grows, use by use.
-use Rattle.std.proofs.Common.{◌≡◌, ◌⊎◌, ℕ, suc, ◌+◌, ◌<◌, ◌≤◌, Bool, true, List, [], ◌∷◌, ◌++◌, length, get_or, sym, ◌∙◌, ap, inl, inr, length-append, arith}
+use Rattle.std.proofs.Common.{◌≡◌, ◌⊎◌, ℕ, suc, ◌+◌, ◌<◌, ◌≤◌, Bool, true, List, [], ◌∷◌, ◌++◌, length, get_or, sym}
+use Rattle.std.proofs.Common.{◌∙◌, ap, inl, inr, length-append, arith}
 use Rattle.std.proofs.lemmas.Bool.{cases_lt}
 use Rattle.std.proofs.lemmas.List.{get_or_append_left, get_or-append-add}
 use Rattle.sum_laws.proofs.Counts.{count_below_same}
@@ -12,18 +13,27 @@ use_front : (used : List SideArc) (u : SideArc) (k : ℕ) → k < length used �
 use_front used u k l = get_or_append_left used (u ∷ []) (record { arc = 0; forward = true }) k l
 
 use_end : (used : List SideArc) (u : SideArc) → use_in (used ++ u ∷ []) (length used) ≡ u
-use_end used u = let e : length used ≡ length used + 0 = omega arith in ap (use_in (used ++ u ∷ [])) e ∙ get_or-append-add used (u ∷ []) 0 (record { arc = 0; forward = true })
+use_end used u = let e : length used ≡ length used + 0 = omega arith in ap (use_in (used ++ u ∷ [])) e
+    ∙ get_or-append-add used (u ∷ []) 0 (record { arc = 0; forward = true })
 
-reach_front : (arcs : List Path) (used : List SideArc) (u : SideArc) (k : ℕ) → k ≤ length used → reach_in arcs (used ++ u ∷ []) k ≡ reach_in arcs used k
-reach_front arcs used u k h = count_below_same (λ i. long_at arcs (use_in (used ++ u ∷ []) i).arc) (λ i. long_at arcs (use_in used i).arc) k (λ i l. ap (λ (x : SideArc). long_at arcs x.arc) (use_front used u i (omega arith)))
+reach_front : (arcs : List Path) (used : List SideArc) (u : SideArc) (k : ℕ) → k ≤ length used
+    → reach_in arcs (used ++ u ∷ []) k ≡ reach_in arcs used k
+reach_front arcs used u k h = count_below_same (λ i. long_at arcs (use_in (used ++ u ∷ []) i).arc)
+    (λ i. long_at arcs (use_in used i).arc) k (λ i l. ap (λ (x : SideArc). long_at arcs x.arc)
+    (use_front used u i (omega arith)))
 
-reach_end : (arcs : List Path) (used : List SideArc) (u : SideArc) → reach_in arcs (used ++ u ∷ []) (length (used ++ u ∷ [])) ≡ reach_in arcs used (length used) + long_at arcs u.arc
+reach_end : (arcs : List Path) (used : List SideArc) (u : SideArc)
+    → reach_in arcs (used ++ u ∷ []) (length (used ++ u ∷ [])) ≡ reach_in arcs used (length used) + long_at arcs u.arc
 reach_end arcs used u =
     let n : length (used ++ u ∷ []) ≡ suc (length used) = length-append used (u ∷ []) ∙ omega arith in
-    let last : long_at arcs (use_in (used ++ u ∷ []) (length used)).arc ≡ long_at arcs u.arc = ap (λ (x : SideArc). long_at arcs x.arc) (use_end used u) in
+    let last : long_at arcs (use_in (used ++ u ∷ []) (length used)).arc ≡ long_at arcs u.arc =
+    ap (λ (x : SideArc). long_at arcs x.arc) (use_end used u) in
     ap (reach_in arcs (used ++ u ∷ [])) n ∙ omega (arith, last, reach_front arcs used u (length used) (omega arith))
 
-pub side_more : (arcs : List Path) (uses : List SideArc) (line : List ℕ) (begins : ℕ → Bool) (t next : ℕ) (used : List SideArc) (u : SideArc) → IsSplit arcs uses line begins → IsSideSoFar arcs uses line begins t used → t < length line → u ≡ use_in uses (get_or line t 0) → next ≡ t + long_at arcs u.arc → IsSideSoFar arcs uses line begins next (used ++ u ∷ [])
+pub side_more : (arcs : List Path) (uses : List SideArc) (line : List ℕ) (begins : ℕ → Bool) (t next : ℕ)
+    (used : List SideArc) (u : SideArc) → IsSplit arcs uses line begins → IsSideSoFar arcs uses line begins t used
+    → t < length line → u ≡ use_in uses (get_or line t 0) → next ≡ t + long_at arcs u.arc
+    → IsSideSoFar arcs uses line begins next (used ++ u ∷ [])
 side_more arcs uses line begins t next used u split so l is on = record {
   at = reach_end arcs used u ∙ omega (arith, so.at);
   high = omega (arith, long, at.fits);
@@ -37,15 +47,22 @@ side_more arcs uses line begins t next used u split so l is on = record {
     long : long_at arcs u.arc ≡ long_at arcs (use_in uses (get_or line t 0)).arc
     long = ap (λ (x : SideArc). long_at arcs x.arc) is
 
-    each : (k : ℕ) → k < length (used ++ u ∷ []) → (reach_in arcs (used ++ u ∷ []) k < length line) × (use_in (used ++ u ∷ []) k ≡ use_in uses (get_or line (reach_in arcs (used ++ u ∷ []) k) 0))
+    each : (k : ℕ) → k < length (used ++ u ∷ []) → (reach_in arcs (used ++ u ∷ []) k < length line)
+        × (use_in (used ++ u ∷ []) k ≡ use_in uses (get_or line (reach_in arcs (used ++ u ∷ []) k) 0))
     each k lk = by_place (cases_lt k (length used))
       where
-        by_place : (k < length used) ⊎ (length used ≤ k) → (reach_in arcs (used ++ u ∷ []) k < length line) × (use_in (used ++ u ∷ []) k ≡ use_in uses (get_or line (reach_in arcs (used ++ u ∷ []) k) 0))
+        by_place : (k < length used) ⊎ (length used ≤ k) → (reach_in arcs (used ++ u ∷ []) k < length line)
+            × (use_in (used ++ u ∷ []) k ≡ use_in uses (get_or line (reach_in arcs (used ++ u ∷ []) k) 0))
         by_place (inl b) =
             let r : reach_in arcs (used ++ u ∷ []) k ≡ reach_in arcs used k = reach_front arcs used u k (omega arith) in
-            let e : (reach_in arcs used k < length line) × (use_in used k ≡ use_in uses (get_or line (reach_in arcs used k) 0)) = so.each k b in
+            let e : (reach_in arcs used k < length line)
+            × (use_in used k ≡ use_in uses (get_or line (reach_in arcs used k) 0)) = so.each k b in
             (omega (arith, r, e.0), use_front used u k b ∙ (e.1 ∙ ap (λ x. use_in uses (get_or line x 0)) (sym r)))
         by_place (inr g) =
             let same : k ≡ length used = omega (arith, length-append used (u ∷ [])) in
-            let r : reach_in arcs (used ++ u ∷ []) k ≡ t = ap (reach_in arcs (used ++ u ∷ [])) same ∙ (reach_front arcs used u (length used) (omega arith) ∙ so.at) in
-            (omega (arith, r), ap (use_in (used ++ u ∷ [])) same ∙ (use_end used u ∙ (is ∙ ap (λ x. use_in uses (get_or line x 0)) (sym r))))
+            let r : reach_in arcs (used ++ u ∷ []) k ≡ t = ap (reach_in arcs (used ++ u ∷ [])) same
+            ∙ (reach_front arcs used u (length used) (omega arith) ∙ so.at) in (
+              omega (arith, r),
+              ap (use_in (used ++ u ∷ [])) same
+                  ∙ (use_end used u ∙ (is ∙ ap (λ x. use_in uses (get_or line x 0)) (sym r))),
+            )

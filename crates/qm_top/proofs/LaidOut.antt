@@ -56,7 +56,8 @@ grids_refuse keep patches by bytes (marks.Range line) other has = inr has
 grids_refuse keep patches by bytes (marks.NotEdge line) other has = inr has
 
 -- The cut mesh of bytes with a mesh and lines that are kept.
-module _ (keep : Keep) (patches : Patches) (bytes : Bytes) (read : FaceSet) (kept marks : Option (List Bool)) (cut : CutSoup)
+module _ (keep : Keep) (patches : Patches) (bytes : Bytes) (read : FaceSet) (kept marks : Option (List Bool))
+    (cut : CutSoup)
     (mesh : IsMeshText bytes read) (said : kept_in keep bytes read ≡ Ok kept) (copied : marks ≡ kept)
     (same : cut.soup ≡ read) (chosen : IsChosenLayout cut.soup.faces marks patches cut.plan) where
   abbrev has_kept : HasKept keep bytes
@@ -73,7 +74,8 @@ module _ (keep : Keep) (patches : Patches) (bytes : Bytes) (read : FaceSet) (kep
   module _ (input out : Change) (whole : ReadWhole MAX_BYTES input.told input.told_now bytes)
       (calm : input.faults_now ≡ input.faults) where
     -- What `layout` keeps once its mesh is cut.
-    pub layout_writer : IsWriter (LayOut keep patches) (λ (text : Bytes). text ≡ layout_text keep patches cut.soup marks cut.plan)
+    pub layout_writer : IsWriter (LayOut keep patches) (λ (text : Bytes). text ≡ layout_text keep patches cut.soup marks
+        cut.plan)
         (IsOfLayout FailsNever) input out
     layout_writer = record {
       bytes = bytes;
@@ -105,7 +107,8 @@ module _ (keep : Keep) (patches : Patches) (bytes : Bytes) (read : FaceSet) (kep
     }
 
 -- The text of the grids of a cut mesh.
-pub is_gridded : (chosen : Chosen) (by : ℕ) (cut : CutSoup) (blocks : Blocks) → 0 < by → IsMeshLayout cut.soup.faces cut.plan
+pub is_gridded : (chosen : Chosen) (by : ℕ) (cut : CutSoup) (blocks : Blocks) → 0 < by
+    → IsMeshLayout cut.soup.faces cut.plan
     → AreGridsBy chosen by cut blocks → IsGridded chosen.keep chosen.patches by cut (told_text blocks)
 is_gridded chosen by cut blocks some laid are = record {
   fits = are.fits;

@@ -1,5 +1,6 @@
 -- No line of a text is refused for the number of all bytes.
-use Rattle.std.proofs.Common.{◌≡◌, ℕ, ◌^◌, ◌==◌, ◌&&◌, nat_le, nat_lt, not, Bool, true, false, if◌then◌else◌, Result, Err, List, [], ◌∷◌, ◌++◌, length, take, refl, sym, ◌∙◌, ap}
+use Rattle.std.proofs.Common.{◌≡◌, ℕ, ◌^◌, ◌==◌, ◌&&◌, nat_le, nat_lt, not, Bool, true, false, if◌then◌else◌, Result}
+use Rattle.std.proofs.Common.{Err, List, [], ◌∷◌, ◌++◌, length, take, refl, sym, ◌∙◌, ap}
 use Rattle.std.specs.List.{count_by, flat_map, list_all, list_any}
 use Rattle.std.proofs.lemmas.Bool.{and_parts, false≢true}
 use Rattle.std.proofs.lemmas.List.Folds.{list_all-append}
@@ -7,7 +8,8 @@ use Rattle.def_text.specs.FaceSet.{FaceSet}
 use Rattle.def_text.specs.Corner.{is_corner_word, is_out, used_index}
 use Rattle.def_text.specs.Decimal.{is_decimal, is_far, rounded}
 use Rattle.def_text.specs.Logical.{Logical, logical_lines}
-use Rattle.def_text.specs.Reading.{face_reading, is_face_line, is_letter, is_position_count, is_vertex_line, reading, vertex_reading, words_reading}
+use Rattle.def_text.specs.Reading.{face_reading, is_face_line, is_letter, is_position_count, is_vertex_line, reading}
+use Rattle.def_text.specs.Reading.{vertex_reading, words_reading}
 use Rattle.def_text.specs.Text.{first_refusal, late_in, positions, readings, refusal_in, refusals, text_soup}
 use Rattle.def_text.specs.Words.{words}
 use Rattle.def_text.specs.declared.reading.Reading.{Reading}
@@ -59,7 +61,8 @@ fine_reading : (v f : ℕ) (line : Logical) → IsFine (reading v f line)
 fine_reading v f line = fine_if (nat_lt 65536 line.size) _ _ refl (fine_words line.number v f (words line.text))
 
 -- Two lists of fine refusals make one.
-fine_both : (xs ys : List ObjFail) → list_all is_fine xs ≡ true → list_all is_fine ys ≡ true → list_all is_fine (xs ++ ys) ≡ true
+fine_both : (xs ys : List ObjFail) → list_all is_fine xs ≡ true → list_all is_fine ys ≡ true
+    → list_all is_fine (xs ++ ys) ≡ true
 fine_both xs ys x y = list_all-append is_fine xs ys ∙ rw x y
 
 fine_readings : (before lines : List Logical) → list_all is_fine (flat_map refusal_in (readings before lines)) ≡ true

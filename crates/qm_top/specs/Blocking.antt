@@ -33,7 +33,8 @@ pub record AreBlocksBy (by : ℕ) (soup : FaceSet) (blocks : Blocks) : Type 0 wh
   pub told : blocks.chosen ≡ None
   pub parts : blocks.by ≡ by
   pub points : IsRefinedMesh by soup blocks.points
-  pub links : AreLinks (layout_of blocks.points.plan) (multiple_of by (long_at blocks.points.plan.arcs)) (links_in blocks)
+  pub links : AreLinks (layout_of blocks.points.plan) (multiple_of by (long_at blocks.points.plan.arcs))
+      (links_in blocks)
 
 -- These are the grids of a chosen cut.
 pub record AreGridsBy (chosen : Chosen) (by : ℕ) (cut : CutSoup) (blocks : Blocks) : Type 0 where

@@ -1,12 +1,14 @@
 -- How many riders pass a test with their notes.
-use Rattle.std.proofs.Common.{◌≡◌, ◌≢◌, ◌↔◌, ℕ, zero, suc, ◌+◌, ◌<◌, ◌≤◌, Bool, true, false, cond, eqb, ◌&&◌, List, [], ◌∷◌, map, length, set, replicate, Option, Some, None, sym, subst, ap, ◌∙◌, refl, arith}
+use Rattle.std.proofs.Common.{◌≡◌, ◌≢◌, ◌↔◌, ℕ, zero, suc, ◌+◌, ◌<◌, ◌≤◌, Bool, true, false, cond, eqb, ◌&&◌, List, []}
+use Rattle.std.proofs.Common.{◌∷◌, map, length, set, replicate, Option, Some, None, sym, subst, ap, ◌∙◌, refl, arith}
 use Rattle.std.specs.List.{list_all}
 use Rattle.std.proofs.lemmas.Bool.{eq-eqb, ne_eqb, eqb-true}
 use Rattle.std.proofs.lemmas.List.{set-get_or}
 use Rattle.def_cut.specs.declared.graph.Stop.{Stop}
 use Rattle.def_cut.specs.declared.moving.Moving.{Moving}
 use Rattle.def_cut.specs.Motion.{Terrain, end_of, is_among, begun, stop_of, or_else, straight, after_ride}
-use Rattle.def_cut.specs.Events.{all_told, darts_in, is_waiting, more_if, note_at, rider_at, ridden_once_more, told_at, waiting, with_note}
+use Rattle.def_cut.specs.Events.{all_told, darts_in, is_waiting, more_if, note_at, rider_at, ridden_once_more, told_at}
+use Rattle.def_cut.specs.Events.{waiting, with_note}
 use Rattle.motion_laws.proofs.Among.{among_here, among_later}
 use Rattle.motion_laws.proofs.Shown.{AreShown, IsNoted, shown_by}
 use Rattle.qm_trace.specs.declared.telling.Riders.{Riders}
@@ -14,8 +16,10 @@ use Rattle.qm_trace.specs.Motions.{AreCounted, is_untold, is_untold_by, runs_on,
 use Rattle.qm_trace.specs.Tables.{is_running}
 
 -- One rider and its note changed.
-pub tally_set : (p : Moving → Option ℕ → Bool) (rs : List Moving) (ns : List (Option ℕ)) (r : ℕ) (x : Moving) (n : Option ℕ) → r < length rs → r < length ns
-    → tally p (set rs r x) (set ns r n) + more_if (p (rider_at rs r) (note_at ns r)) 0 ≡ tally p rs ns + more_if (p x n) 0
+pub tally_set : (p : Moving → Option ℕ → Bool) (rs : List Moving) (ns : List (Option ℕ)) (r : ℕ) (x : Moving)
+    (n : Option ℕ) → r < length rs → r < length ns
+    → tally p (set rs r x) (set ns r n) + more_if (p (rider_at rs r) (note_at ns r)) 0
+    ≡ tally p rs ns + more_if (p x n) 0
 tally_set p (q ∷ rs) (k ∷ ns) zero x n l h = exchange (p x n) (p q k) (tally p rs ns)
   where
     exchange : (b c : Bool) (t : ℕ) → more_if b t + more_if c 0 ≡ more_if c t + more_if b 0
@@ -25,24 +29,39 @@ tally_set p (q ∷ rs) (k ∷ ns) zero x n l h = exchange (p x n) (p q k) (tally
     exchange false false t = refl
 tally_set p (q ∷ rs) (k ∷ ns) (suc r) x n l h = behind (p q k) (tally_set p rs ns r x n (omega arith) (omega arith))
   where
-    behind : (b : Bool) → tally p (set rs r x) (set ns r n) + more_if (p (rider_at rs r) (note_at ns r)) 0 ≡ tally p rs ns + more_if (p x n) 0
-        → more_if b (tally p (set rs r x) (set ns r n)) + more_if (p (rider_at rs r) (note_at ns r)) 0 ≡ more_if b (tally p rs ns) + more_if (p x n) 0
+    behind : (b : Bool) → tally p (set rs r x) (set ns r n) + more_if (p (rider_at rs r) (note_at ns r)) 0
+        ≡ tally p rs ns + more_if (p x n) 0
+        → more_if b (tally p (set rs r x) (set ns r n)) + more_if (p (rider_at rs r) (note_at ns r)) 0
+        ≡ more_if b (tally p rs ns) + more_if (p x n) 0
     behind true e = omega (arith, e)
     behind false e = e
 tally_set p _ _ r x n l h = absurd (omega arith)
 
-pub tally_rider : (p : Moving → Option ℕ → Bool) (rs : List Moving) (ns : List (Option ℕ)) (r : ℕ) (x : Moving) → r < length rs → r < length ns
-    → tally p (set rs r x) ns + more_if (p (rider_at rs r) (note_at ns r)) 0 ≡ tally p rs ns + more_if (p x (note_at ns r)) 0
-tally_rider p rs ns r x l h = subst (λ (ms : List (Option ℕ)). tally p (set rs r x) ms + more_if (p (rider_at rs r) (note_at ns r)) 0 ≡ tally p rs ns + more_if (p x (note_at ns r)) 0) (set-get_or ns r None) (tally_set p rs ns r x (note_at ns r) l h)
+pub tally_rider : (p : Moving → Option ℕ → Bool) (rs : List Moving) (ns : List (Option ℕ)) (r : ℕ) (x : Moving)
+    → r < length rs → r < length ns
+    → tally p (set rs r x) ns + more_if (p (rider_at rs r) (note_at ns r)) 0
+    ≡ tally p rs ns + more_if (p x (note_at ns r)) 0
+tally_rider p rs ns r x l h =
+    subst (λ (ms : List (Option ℕ)). tally p (set rs r x) ms + more_if (p (rider_at rs r) (note_at ns r)) 0
+    ≡ tally p rs ns + more_if (p x (note_at ns r)) 0) (set-get_or ns r None)
+    (tally_set p rs ns r x (note_at ns r) l h)
 
 -- Who passes is counted.
-pub tally_some : (p : Moving → Option ℕ → Bool) (rs : List Moving) (ns : List (Option ℕ)) (r : ℕ) → r < length rs → r < length ns → p (rider_at rs r) (note_at ns r) ≡ true → 0 < tally p rs ns
-tally_some p rs ns r l h e = omega (arith, tally_rider p rs ns r (rider_at rs r) l h, one, ap (λ (qs : List Moving). tally p qs ns) (set-get_or rs r (begun 0)), zero_more p rs ns r l h)
+pub tally_some : (p : Moving → Option ℕ → Bool) (rs : List Moving) (ns : List (Option ℕ)) (r : ℕ) → r < length rs
+    → r < length ns → p (rider_at rs r) (note_at ns r) ≡ true → 0 < tally p rs ns
+tally_some p rs ns r l h e = omega (
+  arith,
+  tally_rider p rs ns r (rider_at rs r) l h,
+  one,
+  ap (λ (qs : List Moving). tally p qs ns) (set-get_or rs r (begun 0)),
+  zero_more p rs ns r l h,
+)
   where
     one : more_if (p (rider_at rs r) (note_at ns r)) 0 ≡ 1
     one = ap (λ (b : Bool). more_if b 0) e
 
-    zero_more : (p : Moving → Option ℕ → Bool) (rs : List Moving) (ns : List (Option ℕ)) (r : ℕ) → r < length rs → r < length ns → more_if (p (rider_at rs r) (note_at ns r)) 0 ≤ tally p rs ns
+    zero_more : (p : Moving → Option ℕ → Bool) (rs : List Moving) (ns : List (Option ℕ)) (r : ℕ) → r < length rs
+        → r < length ns → more_if (p (rider_at rs r) (note_at ns r)) 0 ≤ tally p rs ns
     zero_more p (q ∷ rs) (k ∷ ns) zero l h = at (p q k)
       where
         at : (b : Bool) → more_if b 0 ≤ more_if b (tally p rs ns)
@@ -50,15 +69,18 @@ tally_some p rs ns r l h e = omega (arith, tally_rider p rs ns r (rider_at rs r)
         at false = omega arith
     zero_more p (q ∷ rs) (k ∷ ns) (suc r) l h = at (p q k) (zero_more p rs ns r (omega arith) (omega arith))
       where
-        at : (b : Bool) → more_if (p (rider_at rs r) (note_at ns r)) 0 ≤ tally p rs ns → more_if (p (rider_at rs r) (note_at ns r)) 0 ≤ more_if b (tally p rs ns)
+        at : (b : Bool) → more_if (p (rider_at rs r) (note_at ns r)) 0 ≤ tally p rs ns
+            → more_if (p (rider_at rs r) (note_at ns r)) 0 ≤ more_if b (tally p rs ns)
         at true e = omega (arith, e)
         at false e = e
     zero_more p _ _ r l h = absurd (omega arith)
 
-pub tally_none : (p : Moving → Option ℕ → Bool) (rs : List Moving) (ns : List (Option ℕ)) → ((r : ℕ) → r < length rs → p (rider_at rs r) (note_at ns r) ≡ false) → tally p rs ns ≡ 0
+pub tally_none : (p : Moving → Option ℕ → Bool) (rs : List Moving) (ns : List (Option ℕ))
+    → ((r : ℕ) → r < length rs → p (rider_at rs r) (note_at ns r) ≡ false) → tally p rs ns ≡ 0
 tally_none p [] ns none = refl
 tally_none p (q ∷ rs) [] none = refl
-tally_none p (q ∷ rs) (k ∷ ns) none = ap (λ (b : Bool). more_if b (tally p rs ns)) (none 0 (omega arith)) ∙ tally_none p rs ns (λ r l. none (suc r) (omega arith))
+tally_none p (q ∷ rs) (k ∷ ns) none = ap (λ (b : Bool). more_if b (tally p rs ns)) (none 0 (omega arith))
+    ∙ tally_none p rs ns (λ r l. none (suc r) (omega arith))
 
 -- Who waits, by such a test.
 abbrev pub waits_now : (rider : Moving) (note : Option ℕ) → Bool
@@ -75,21 +97,26 @@ none_untold [] k = refl
 none_untold (q ∷ rs) zero = refl
 none_untold (q ∷ rs) (suc k) = at q.stop (none_untold rs k)
   where
-    at : (o : Option Stop) → tally is_untold rs (replicate k None) ≡ 0 → more_if (is_untold_by o q.dart None) (tally is_untold rs (replicate k None)) ≡ 0
+    at : (o : Option Stop) → tally is_untold rs (replicate k None) ≡ 0
+        → more_if (is_untold_by o q.dart None) (tally is_untold rs (replicate k None)) ≡ 0
     at None e = e
     at (Some s) e = e
 
-pub all_wait : (rs : List Moving) (ns : List (Option ℕ)) → length ns ≡ length rs → waiting rs (replicate (length ns) None) ≡ tally runs_on rs ns
+pub all_wait : (rs : List Moving) (ns : List (Option ℕ)) → length ns ≡ length rs
+    → waiting rs (replicate (length ns) None) ≡ tally runs_on rs ns
 all_wait [] ns e = refl
 all_wait (q ∷ rs) [] e = absurd (omega arith)
 all_wait (q ∷ rs) (k ∷ ns) e = at q.stop (all_wait rs ns (omega arith))
   where
-    at : (o : Option Stop) → waiting rs (replicate (length ns) None) ≡ tally runs_on rs ns → more_if (is_waiting o None) (waiting rs (replicate (length ns) None)) ≡ more_if (is_running o) (tally runs_on rs ns)
+    at : (o : Option Stop) → waiting rs (replicate (length ns) None) ≡ tally runs_on rs ns
+        → more_if (is_waiting o None) (waiting rs (replicate (length ns) None))
+        ≡ more_if (is_running o) (tally runs_on rs ns)
     at None e = ap suc e
     at (Some s) e = e
 
 -- Whatever the notes, as many run.
-pub tally_runs : (rs : List Moving) (ns ms : List (Option ℕ)) → length ns ≡ length ms → tally runs_on rs ns ≡ tally runs_on rs ms
+pub tally_runs : (rs : List Moving) (ns ms : List (Option ℕ)) → length ns ≡ length ms → tally runs_on rs ns
+    ≡ tally runs_on rs ms
 tally_runs [] ns ms e = refl
 tally_runs (q ∷ rs) [] [] e = refl
 tally_runs (q ∷ rs) (k ∷ ns) (j ∷ ms) e = ap (more_if (is_running q.stop)) (tally_runs rs ns ms (omega arith))
@@ -101,12 +128,14 @@ all_run [] = refl
 all_run (d ∷ ds) = ap suc (all_run ds)
 
 -- Telling riders with notes changes not who waits.
-pub waiting_told : (g : Terrain) (stood : ℕ → Bool) (ds : List ℕ) (v : ℕ) (rs : List Moving) (ns : List (Option ℕ)) → waiting (all_told g stood ds v rs ns) ns ≡ waiting rs ns
+pub waiting_told : (g : Terrain) (stood : ℕ → Bool) (ds : List ℕ) (v : ℕ) (rs : List Moving) (ns : List (Option ℕ))
+    → waiting (all_told g stood ds v rs ns) ns ≡ waiting rs ns
 waiting_told g stood ds v [] ns = refl
 waiting_told g stood ds v (q ∷ rs) [] = refl
 waiting_told g stood ds v (q ∷ rs) (None ∷ ns) = ap (more_if (is_waiting q.stop None)) (waiting_told g stood ds v rs ns)
 waiting_told g stood ds v (q ∷ rs) (Some d ∷ ns) =
-    ap (λ (b : Bool). more_if b (waiting (all_told g stood ds v rs ns) ns)) (noted (told_at g stood ds v q (Some d)).stop d)
+    ap (λ (b : Bool). more_if b (waiting (all_told g stood ds v rs ns) ns))
+    (noted (told_at g stood ds v q (Some d)).stop d)
     ∙ (waiting_told g stood ds v rs ns ∙ ap (λ (b : Bool). more_if b (waiting rs ns)) (sym (noted q.stop d)))
   where
     noted : (o : Option Stop) (d : ℕ) → is_waiting o (Some d) ≡ false
@@ -114,11 +143,13 @@ waiting_told g stood ds v (q ∷ rs) (Some d ∷ ns) =
     noted (Some s) d = refl
 
 -- Nobody is untold where the ends of all noted darts are settled, and only there.
-pub untold_is : (g : Terrain) (stood : ℕ → Bool) (ds : List ℕ) (V : ℕ → Bool) (bs rs : List Moving) (ns : List (Option ℕ)) → AreShown g stood ds V bs rs ns
+pub untold_is : (g : Terrain) (stood : ℕ → Bool) (ds : List ℕ) (V : ℕ → Bool) (bs rs : List Moving)
+    (ns : List (Option ℕ)) → AreShown g stood ds V bs rs ns
     → ((d : ℕ) → is_among d (darts_in ns) ≡ true → stop_of g stood ds d ≡ None → or_else (straight g d) d ≢ d)
     → eqb (tally is_untold rs ns) 0 ≡ list_all (λ d. V (end_of g d)) (darts_in ns)
 untold_is g stood ds V [] [] [] a onward = refl
-untold_is g stood ds V (b ∷ bs) (r ∷ rs) (n ∷ ns) a onward = at n a.0 a.1 onward (untold_is g stood ds V bs rs ns a.2 (λ d m. onward d (later n d m)))
+untold_is g stood ds V (b ∷ bs) (r ∷ rs) (n ∷ ns) a onward =
+    at n a.0 a.1 onward (untold_is g stood ds V bs rs ns a.2 (λ d m. onward d (later n d m)))
   where
     later : (o : Option ℕ) (d : ℕ) → is_among d (darts_in ns) ≡ true → is_among d (with_note o (darts_in ns)) ≡ true
     later None d m = m
@@ -129,38 +160,58 @@ untold_is g stood ds V (b ∷ bs) (r ∷ rs) (n ∷ ns) a onward = at n a.0 a.1 
     not_noted (Some s) d = refl
 
     -- Who was told is not untold.
-    was_told : (d : ℕ) (o : Option Stop) → (o ≡ None → or_else (straight g d) d ≢ d) → is_untold (after_ride g d b.rides o) (Some d) ≡ false
+    was_told : (d : ℕ) (o : Option Stop) → (o ≡ None → or_else (straight g d) d ≢ d)
+        → is_untold (after_ride g d b.rides o) (Some d) ≡ false
     was_told d (Some s) f = refl
     was_told d None f = ne_eqb (or_else (straight g d) d) d (f refl)
 
-    by_end : (d : ℕ) (t : Bool) → V (end_of g d) ≡ t → (b.stop ≡ None) × (d ≡ b.dart) → r ≡ cond t (after_ride g d b.rides (stop_of g stood ds d)) (ridden_once_more b)
-        → (stop_of g stood ds d ≡ None → or_else (straight g d) d ≢ d) → eqb (tally is_untold rs ns) 0 ≡ list_all (λ e. V (end_of g e)) (darts_in ns)
-        → eqb (more_if (is_untold r (Some d)) (tally is_untold rs ns)) 0 ≡ (t && list_all (λ e. V (end_of g e)) (darts_in ns))
-    by_end d true is i s f rest = ap (λ (q : Bool). eqb (more_if q (tally is_untold rs ns)) 0) (ap (λ (x : Moving). is_untold x (Some d)) s ∙ was_told d (stop_of g stood ds d) f) ∙ rest
+    by_end : (d : ℕ) (t : Bool) → V (end_of g d) ≡ t → (b.stop ≡ None) × (d ≡ b.dart)
+        → r ≡ cond t (after_ride g d b.rides (stop_of g stood ds d)) (ridden_once_more b)
+        → (stop_of g stood ds d ≡ None → or_else (straight g d) d ≢ d) → eqb (tally is_untold rs ns) 0
+        ≡ list_all (λ e. V (end_of g e)) (darts_in ns)
+        → eqb (more_if (is_untold r (Some d)) (tally is_untold rs ns)) 0
+        ≡ (t && list_all (λ e. V (end_of g e)) (darts_in ns))
+    by_end d true is i s f rest = ap (λ (q : Bool). eqb (more_if q (tally is_untold rs ns)) 0)
+        (ap (λ (x : Moving). is_untold x (Some d)) s ∙ was_told d (stop_of g stood ds d) f) ∙ rest
     by_end d false is i s f rest =
-        let e : is_untold r (Some d) ≡ true = ap (λ (x : Moving). is_untold x (Some d)) s ∙ (ap (λ (o : Option Stop). is_untold_by o b.dart (Some d)) i.0 ∙ eq-eqb b.dart d (sym i.1)) in
-        ap (λ (q : Bool). eqb (more_if q (tally is_untold rs ns)) 0) e ∙ ne_eqb (suc (tally is_untold rs ns)) 0 (λ (z : suc (tally is_untold rs ns) ≡ 0). omega (arith, z))
+        let e : is_untold r (Some d) ≡ true = ap (λ (x : Moving). is_untold x (Some d)) s
+        ∙ (ap (λ (o : Option Stop). is_untold_by o b.dart (Some d)) i.0 ∙ eq-eqb b.dart d (sym i.1)) in
+        ap (λ (q : Bool). eqb (more_if q (tally is_untold rs ns)) 0) e ∙ ne_eqb (suc (tally is_untold rs ns)) 0
+        (λ (z : suc (tally is_untold rs ns) ≡ 0). omega (arith, z))
 
-    at : (n : Option ℕ) → IsNoted b n → r ≡ shown_by g stood ds V b n → ((d : ℕ) → is_among d (with_note n (darts_in ns)) ≡ true → stop_of g stood ds d ≡ None → or_else (straight g d) d ≢ d)
+    at : (n : Option ℕ) → IsNoted b n → r ≡ shown_by g stood ds V b n
+        → ((d : ℕ) → is_among d (with_note n (darts_in ns)) ≡ true → stop_of g stood ds d ≡ None
+        → or_else (straight g d) d ≢ d)
         → eqb (tally is_untold rs ns) 0 ≡ list_all (λ d. V (end_of g d)) (darts_in ns)
-        → eqb (more_if (is_untold r n) (tally is_untold rs ns)) 0 ≡ list_all (λ d. V (end_of g d)) (with_note n (darts_in ns))
+        → eqb (more_if (is_untold r n) (tally is_untold rs ns)) 0
+        ≡ list_all (λ d. V (end_of g d)) (with_note n (darts_in ns))
     at None i s f rest = ap (λ (q : Bool). eqb (more_if q (tally is_untold rs ns)) 0) (not_noted r.stop r.dart) ∙ rest
     at (Some d) i s f rest = by_end d (V (end_of g d)) refl i s (f d (among_here d d (darts_in ns) refl)) rest
 untold_is g stood ds V _ _ _ a onward = absurd a
 
 -- Nobody is counted as running where nobody runs, and only there.
-pub over_is : (riders : Riders) (noted : List (Option ℕ)) → AreCounted riders noted → (eqb riders.running 0 ≡ true) ↔ ((r : ℕ) → r < length riders.list.items → ¬ ((rider_at riders.list.items r).stop ≡ None))
+pub over_is : (riders : Riders) (noted : List (Option ℕ)) → AreCounted riders noted
+    → (eqb riders.running 0 ≡ true) ↔ ((r : ℕ) → r < length riders.list.items
+    → ¬ ((rider_at riders.list.items r).stop ≡ None))
 over_is riders noted k = (to, from)
   where
-    to : eqb riders.running 0 ≡ true → (r : ℕ) → r < length riders.list.items → (rider_at riders.list.items r).stop ≡ None → ⊥
-    to e r l runs = absurd (omega (arith, eqb-true riders.running 0 e, k.running, tally_some runs_on riders.list.items noted r l (omega (arith, l, k.long)) (ap is_running runs)))
+    to : eqb riders.running 0 ≡ true → (r : ℕ) → r < length riders.list.items → (rider_at riders.list.items r).stop
+        ≡ None → ⊥
+    to e r l runs = absurd (omega (
+      arith,
+      eqb-true riders.running 0 e,
+      k.running,
+      tally_some runs_on riders.list.items noted r l (omega (arith, l, k.long)) (ap is_running runs),
+    ))
 
     runs_not : (o : Option Stop) → (o ≡ None → ⊥) → is_running o ≡ false
     runs_not None f = absurd (f refl)
     runs_not (Some s) f = refl
 
-    from : ((r : ℕ) → r < length riders.list.items → (rider_at riders.list.items r).stop ≡ None → ⊥) → eqb riders.running 0 ≡ true
-    from none = eq-eqb riders.running 0 (k.running ∙ tally_none runs_on riders.list.items noted (λ r l. runs_not (rider_at riders.list.items r).stop (none r l)))
+    from : ((r : ℕ) → r < length riders.list.items → (rider_at riders.list.items r).stop ≡ None → ⊥)
+        → eqb riders.running 0 ≡ true
+    from none = eq-eqb riders.running 0 (k.running ∙ tally_none runs_on riders.list.items noted
+        (λ r l. runs_not (rider_at riders.list.items r).stop (none r l)))
 
 -- At most all are counted.
 pub tally_few : (p : Moving → Option ℕ → Bool) (rs : List Moving) (ns : List (Option ℕ)) → tally p rs ns ≤ length rs
@@ -173,17 +224,24 @@ tally_few p (q ∷ rs) (k ∷ ns) = at (p q k) (tally_few p rs ns)
     at false e = omega (arith, e)
 
 -- A ride: as many run, one more is untold, and one less waits.
-module _ (rs : List Moving) (ns : List (Option ℕ)) (r : ℕ) (x : Moving) (d : ℕ) (low : r < length rs) (long : length ns ≡ length rs) (runs : (rider_at rs r).stop ≡ None) (fresh : note_at ns r ≡ None) (x_runs : x.stop ≡ None) (x_dart : x.dart ≡ d) where
+module _ (rs : List Moving) (ns : List (Option ℕ)) (r : ℕ) (x : Moving) (d : ℕ) (low : r < length rs) (long : length ns
+    ≡ length rs) (runs : (rider_at rs r).stop ≡ None) (fresh : note_at ns r ≡ None) (x_runs : x.stop ≡ None)
+    (x_dart : x.dart ≡ d) where
   pub ride_runs_on : tally runs_on (set rs r x) (set ns r (Some d)) ≡ tally runs_on rs ns
   ride_runs_on =
-      let a : more_if (runs_on (rider_at rs r) (note_at ns r)) 0 ≡ 1 = ap (λ (o : Option Stop). more_if (is_running o) 0) runs in
+      let a : more_if (runs_on (rider_at rs r) (note_at ns r)) 0 ≡ 1 =
+      ap (λ (o : Option Stop). more_if (is_running o) 0) runs in
       let b : more_if (runs_on x (Some d)) 0 ≡ 1 = ap (λ (o : Option Stop). more_if (is_running o) 0) x_runs in
       omega (arith, a, b, tally_set runs_on rs ns r x (Some d) low (omega (arith, low, long)))
 
   pub ride_untold : tally is_untold (set rs r x) (set ns r (Some d)) ≡ tally is_untold rs ns + 1
   ride_untold =
-      let a : more_if (is_untold (rider_at rs r) (note_at ns r)) 0 ≡ 0 = ap (λ (n : Option ℕ). more_if (is_untold (rider_at rs r) n) 0) fresh ∙ not_noted (rider_at rs r).stop (rider_at rs r).dart in
-      let b : more_if (is_untold x (Some d)) 0 ≡ 1 = ap (λ (q : Bool). more_if q 0) (ap (λ (o : Option Stop). is_untold_by o x.dart (Some d)) x_runs ∙ eq-eqb x.dart d x_dart) in
+      let a : more_if (is_untold (rider_at rs r) (note_at ns r)) 0 ≡ 0 =
+      ap (λ (n : Option ℕ). more_if (is_untold (rider_at rs r) n) 0) fresh
+      ∙ not_noted (rider_at rs r).stop (rider_at rs r).dart in
+      let b : more_if (is_untold x (Some d)) 0 ≡ 1 =
+      ap (λ (q : Bool). more_if q 0) (ap (λ (o : Option Stop). is_untold_by o x.dart (Some d)) x_runs
+      ∙ eq-eqb x.dart d x_dart) in
       omega (arith, a, b, tally_set is_untold rs ns r x (Some d) low (omega (arith, low, long)))
     where
       not_noted : (o : Option Stop) (e : ℕ) → more_if (is_untold_by o e None) 0 ≡ 0
@@ -191,12 +249,20 @@ module _ (rs : List Moving) (ns : List (Option ℕ)) (r : ℕ) (x : Moving) (d :
       not_noted (Some s) e = refl
 
   some_wait : more_if (is_waiting (rider_at rs r).stop (note_at ns r)) 0 ≡ 1
-  some_wait = ap (λ (o : Option Stop). more_if (is_waiting o (note_at ns r)) 0) runs ∙ ap (λ (n : Option ℕ). more_if (is_waiting None n) 0) fresh
+  some_wait = ap (λ (o : Option Stop). more_if (is_waiting o (note_at ns r)) 0) runs
+      ∙ ap (λ (n : Option ℕ). more_if (is_waiting None n) 0) fresh
 
   pub ride_waits : waiting (set rs r x) (set ns r (Some d)) + 1 ≡ waiting rs ns
   ride_waits =
       let b : more_if (is_waiting x.stop (Some d)) 0 ≡ 0 = noted x.stop in
-      omega (arith, some_wait, b, waiting_is rs ns, waiting_is (set rs r x) (set ns r (Some d)), tally_set waits_now rs ns r x (Some d) low (omega (arith, low, long)))
+      omega (
+        arith,
+        some_wait,
+        b,
+        waiting_is rs ns,
+        waiting_is (set rs r x) (set ns r (Some d)),
+        tally_set waits_now rs ns r x (Some d) low (omega (arith, low, long)),
+      )
     where
       noted : (o : Option Stop) → more_if (is_waiting o (Some d)) 0 ≡ 0
       noted None = refl

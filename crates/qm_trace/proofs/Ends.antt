@@ -1,5 +1,6 @@
 -- The queue of the next instant, and the end of the motion.
-use Rattle.std.proofs.Common.{◌≡◌, ℕ, zero, suc, ◌+◌, ◌-◌, ◌<◌, ◌≤◌, Bool, true, false, not, eqb, is_some, ◌||◌, List, [], ◌∷◌, ◌++◌, length, get_or, map, Option, Some, None, sym, ap, ◌∙◌, refl, arith}
+use Rattle.std.proofs.Common.{◌≡◌, ℕ, zero, suc, ◌+◌, ◌-◌, ◌<◌, ◌≤◌, Bool, true, false, not, eqb, is_some, ◌||◌, List}
+use Rattle.std.proofs.Common.{[], ◌∷◌, ◌++◌, length, get_or, map, Option, Some, None, sym, ap, ◌∙◌, refl, arith}
 use Rattle.std.specs.List.{filter}
 use Rattle.std.proofs.lemmas.Bool.{false≢true}
 use Rattle.std.proofs.lemmas.List.{ext_get_or, get_or-map, length-map}
@@ -38,22 +39,29 @@ some_wait zero e = absurd (false≢true (sym e))
 some_wait (suc n) e = omega arith
 
 -- Who runs after a step ran before.
-ran : (g : Terrain) (stood : ℕ → Bool) (ds : List ℕ) (x : Moving) (o : Option Stop) → (ride_on g stood ds x o).stop ≡ None → x.stop ≡ o → x.stop ≡ None
+ran : (g : Terrain) (stood : ℕ → Bool) (ds : List ℕ) (x : Moving) (o : Option Stop) → (ride_on g stood ds x o).stop
+    ≡ None → x.stop ≡ o → x.stop ≡ None
 ran g stood ds x None e is = is
 ran g stood ds x (Some s) e is = e
 
 -- The queue of the riders that still run.
-pub next_queue : (faces : Faces) (marks : List Bool) (k : ℕ) (riders new : List Moving) (queue : List ℕ) → riders ≡ (later (terrain_of faces) (marked_first faces marks) k).riders → new ≡ (later (terrain_of faces) (marked_first faces marks) (suc k)).riders
+pub next_queue : (faces : Faces) (marks : List Bool) (k : ℕ) (riders new : List Moving) (queue : List ℕ)
+    → riders ≡ (later (terrain_of faces) (marked_first faces marks) k).riders
+    → new ≡ (later (terrain_of faces) (marked_first faces marks) (suc k)).riders
     → IsQueue riders queue → IsQueue new (filter (λ r. is_running (rider_at new r).stop) queue)
 next_queue faces marks k riders new queue old now q = record {
-  runs = λ r m. let p : (is_among r queue ≡ true) × (is_running (rider_at new r).stop ≡ true) = from_filter (λ x. is_running (rider_at new x).stop) r queue m in
+  runs = λ r m. let p : (is_among r queue ≡ true) × (is_running (rider_at new r).stop ≡ true) =
+      from_filter (λ x. is_running (rider_at new x).stop) r queue m in
       (omega (arith, (q.runs r p.0).0, long), runs_by (rider_at new r).stop p.1);
-  all = λ r l runs. in_filter (λ x. is_running (rider_at new x).stop) r queue (q.all r (omega (arith, l, long)) (before r l runs)) (ap is_running runs);
-  apart = each_once (filter (λ r. is_running (rider_at new r).stop) queue) (apart_filter (λ r. is_running (rider_at new r).stop) queue (all_apart queue q.apart));
+  all = λ r l runs. in_filter (λ x. is_running (rider_at new x).stop) r queue
+      (q.all r (omega (arith, l, long)) (before r l runs)) (ap is_running runs);
+  apart = each_once (filter (λ r. is_running (rider_at new r).stop) queue)
+      (apart_filter (λ r. is_running (rider_at new r).stop) queue (all_apart queue q.apart));
 }
   where
     f : Moving → Moving
-    f = ride (terrain_of faces) (later (terrain_of faces) (marked_first faces marks) k).stood (ridden (later (terrain_of faces) (marked_first faces marks) k).riders)
+    f = ride (terrain_of faces) (later (terrain_of faces) (marked_first faces marks) k).stood
+        (ridden (later (terrain_of faces) (marked_first faces marks) k).riders)
 
     next : new ≡ map f riders
     next = now ∙ sym (ap (map f) old)
@@ -62,18 +70,26 @@ next_queue faces marks k riders new queue old now q = record {
     long = ap length next ∙ length-map riders f
 
     before : (r : ℕ) → r < length new → (rider_at new r).stop ≡ None → (rider_at riders r).stop ≡ None
-    before r l runs = ran (terrain_of faces) (later (terrain_of faces) (marked_first faces marks) k).stood (ridden (later (terrain_of faces) (marked_first faces marks) k).riders) (rider_at riders r) (rider_at riders r).stop
-        (sym (ap (λ (rs : List Moving). (rider_at rs r).stop) next ∙ ap (λ (x : Moving). x.stop) (get_or-map f riders r (begun 0) (begun 0) (omega (arith, l, long)))) ∙ runs) refl
+    before r l runs = ran (terrain_of faces) (later (terrain_of faces) (marked_first faces marks) k).stood
+        (ridden (later (terrain_of faces) (marked_first faces marks) k).riders) (rider_at riders r)
+        (rider_at riders r).stop
+        (sym (ap (λ (rs : List Moving). (rider_at rs r).stop) next
+        ∙ ap (λ (x : Moving). x.stop) (get_or-map f riders r (begun 0) (begun 0) (omega (arith, l, long))))
+        ∙ runs) refl
 
 -- The riders of the queue are riders after the step too.
-pub queue_low : (faces : Faces) (marks : List Bool) (k : ℕ) (riders new : List Moving) (queue : List ℕ) → riders ≡ (later (terrain_of faces) (marked_first faces marks) k).riders → new ≡ (later (terrain_of faces) (marked_first faces marks) (suc k)).riders
+pub queue_low : (faces : Faces) (marks : List Bool) (k : ℕ) (riders new : List Moving) (queue : List ℕ)
+    → riders ≡ (later (terrain_of faces) (marked_first faces marks) k).riders
+    → new ≡ (later (terrain_of faces) (marked_first faces marks) (suc k)).riders
     → IsQueue riders queue → (r : ℕ) → is_among r queue ≡ true → r < length new
 queue_low faces marks k riders new queue old now q r m = omega (
   arith,
   (q.runs r m).0,
   ap length old,
   ap length now,
-  length-map (later (terrain_of faces) (marked_first faces marks) k).riders (ride (terrain_of faces) (later (terrain_of faces) (marked_first faces marks) k).stood (ridden (later (terrain_of faces) (marked_first faces marks) k).riders)),
+  length-map (later (terrain_of faces) (marked_first faces marks) k).riders
+      (ride (terrain_of faces) (later (terrain_of faces) (marked_first faces marks) k).stood
+      (ridden (later (terrain_of faces) (marked_first faces marks) k).riders)),
 )
 
 -- Nobody waits in the queue, so nobody rides.
@@ -84,63 +100,91 @@ none_ride riders [] q none = at (ridden riders) refl
     at : (ds : List ℕ) → ridden riders ≡ ds → ridden riders ≡ []
     at [] is = is
     at (d ∷ ds) is =
-        let r : (r : ℕ) × (r < length riders) × ((rider_at riders r).stop ≡ None) × ((rider_at riders r).dart ≡ d) = ridden_where riders d (ap (is_among d) is ∙ among_here d d ds refl) in
+        let r : (r : ℕ) × (r < length riders) × ((rider_at riders r).stop ≡ None) × ((rider_at riders r).dart ≡ d) =
+        ridden_where riders d (ap (is_among d) is ∙ among_here d d ds refl) in
         absurd (false≢true (q.all r.0 r.1 r.2))
 
 pub first_on : (faces : Faces) (marks : List Bool) → IsOnItsWay faces marks 0
-first_on faces marks more e = let s : more ≡ suc (vertex_count faces) = omega (arith, e) in ap (λ k. finish (terrain_of faces) k (marked_first faces marks)) s
+first_on faces marks more e = let s : more ≡ suc (vertex_count faces) = omega (arith, e) in
+    ap (λ k. finish (terrain_of faces) k (marked_first faces marks)) s
 
 -- A step further on.
-pub next_on : (faces : Faces) (marks : List Bool) (k : ℕ) (riders : List Moving) (queue : List ℕ) → riders ≡ (later (terrain_of faces) (marked_first faces marks) k).riders → IsQueue riders queue → 0 < length queue → IsOnItsWay faces marks k → IsOnItsWay faces marks (k + 1)
+pub next_on : (faces : Faces) (marks : List Bool) (k : ℕ) (riders : List Moving) (queue : List ℕ)
+    → riders ≡ (later (terrain_of faces) (marked_first faces marks) k).riders → IsQueue riders queue → 0 < length queue
+    → IsOnItsWay faces marks k → IsOnItsWay faces marks (k + 1)
 next_on faces marks k riders [] is q some way more e = absurd (omega arith)
-next_on faces marks k riders (r ∷ queue) is q some way more e = at (ridden (later (terrain_of faces) (marked_first faces marks) k).riders) refl
+next_on faces marks k riders (r ∷ queue) is q some way more e =
+    at (ridden (later (terrain_of faces) (marked_first faces marks) k).riders) refl
   where
-    there : is_among (rider_at riders r).dart (ridden (later (terrain_of faces) (marked_first faces marks) k).riders) ≡ true
+    there : is_among (rider_at riders r).dart (ridden (later (terrain_of faces) (marked_first faces marks) k).riders)
+        ≡ true
     there = let p : (r < length riders) × ((rider_at riders r).stop ≡ None) = q.runs r (among_here r r queue refl) in
         sym (ap (λ (rs : List Moving). is_among (rider_at riders r).dart (ridden rs)) is) ∙ runs_ridden riders r p.0 p.1
 
     plus : k + 1 ≡ suc k
     plus = omega arith
 
-    at : (ds : List ℕ) → ridden (later (terrain_of faces) (marked_first faces marks) k).riders ≡ ds → finish (terrain_of faces) more (later (terrain_of faces) (marked_first faces marks) (k + 1)) ≡ marked_last faces marks
+    at : (ds : List ℕ) → ridden (later (terrain_of faces) (marked_first faces marks) k).riders ≡ ds
+        → finish (terrain_of faces) more (later (terrain_of faces) (marked_first faces marks) (k + 1))
+        ≡ marked_last faces marks
     at [] none = absurd (false≢true (sym (ap (is_among (rider_at riders r).dart) none) ∙ there))
-    at (d ∷ ds) some = ap (λ n. finish (terrain_of faces) more (later (terrain_of faces) (marked_first faces marks) n)) plus
-        ∙ (sym (runs_on (terrain_of faces) more d ds (later (terrain_of faces) (marked_first faces marks) k) some) ∙ way (suc more) (omega (arith, e)))
+    at (d ∷ ds) some = ap (λ n. finish (terrain_of faces) more (later (terrain_of faces) (marked_first faces marks) n))
+        plus
+        ∙ (sym (runs_on (terrain_of faces) more d ds (later (terrain_of faces) (marked_first faces marks) k) some)
+        ∙ way (suc more) (omega (arith, e)))
 
 -- Where nobody rides, the tables are those of the end.
-pub end_at : (faces : Faces) (marks : List Bool) (k : ℕ) (riders : List Moving) (stood covered taken : List Bool) → IsTableAt faces marks k riders stood covered taken → IsOnItsWay faces marks k → k ≤ vertex_count faces → ridden riders ≡ [] → IsEnd faces marks riders covered
+pub end_at : (faces : Faces) (marks : List Bool) (k : ℕ) (riders : List Moving) (stood covered taken : List Bool)
+    → IsTableAt faces marks k riders stood covered taken → IsOnItsWay faces marks k → k ≤ vertex_count faces
+    → ridden riders ≡ [] → IsEnd faces marks riders covered
 end_at faces marks k riders stood covered taken t way low none = record {
   riders_are = t.riders_are ∙ ap (λ (s : State). s.riders) same;
   covered_long = t.covered_long;
   covered_is = λ d l. t.covered_is d l ∙ ap (λ (s : State). s.covered d) same;
 }
   where
-    rest : finish (terrain_of faces) (suc (vertex_count faces) - k) (later (terrain_of faces) (marked_first faces marks) k) ≡ later (terrain_of faces) (marked_first faces marks) k
-    rest = at_rest (terrain_of faces) (suc (vertex_count faces) - k) (later (terrain_of faces) (marked_first faces marks) k) (sym (ap ridden t.riders_are) ∙ none)
+    rest : finish (terrain_of faces) (suc (vertex_count faces) - k) (later (terrain_of faces) (marked_first faces marks)
+        k) ≡ later (terrain_of faces) (marked_first faces marks) k
+    rest = at_rest (terrain_of faces) (suc (vertex_count faces) - k)
+        (later (terrain_of faces) (marked_first faces marks) k) (sym (ap ridden t.riders_are) ∙ none)
 
     same : later (terrain_of faces) (marked_first faces marks) k ≡ marked_last faces marks
     same = sym rest ∙ way (suc (vertex_count faces) - k) (omega (arith, low))
 
 -- After as many steps as there are vertices nobody rides.
-pub all_over : (faces : Faces) → IsManifold faces → (marks : List Bool) → AreMarks faces marks → (riders : List Moving) → riders ≡ (later (terrain_of faces) (marked_first faces marks) (vertex_count faces)).riders → ridden riders ≡ []
-all_over faces m marks marked riders is = ap ridden is ∙ last_rests (terrain_of faces) (terrain faces m) (begins faces marks) (marked_first faces marks) (marked_begin faces m marks marked) (vertex_count faces) (all_below faces)
+pub all_over : (faces : Faces) → IsManifold faces → (marks : List Bool) → AreMarks faces marks → (riders : List Moving)
+    → riders ≡ (later (terrain_of faces) (marked_first faces marks) (vertex_count faces)).riders → ridden riders ≡ []
+all_over faces m marks marked riders is = ap ridden is ∙ last_rests (terrain_of faces) (terrain faces m)
+    (begins faces marks) (marked_first faces marks) (marked_begin faces m marks marked) (vertex_count faces)
+    (all_below faces)
 
 -- The marks of the graph.
-closed_long : (faces : Faces) (covered : List Bool) → length (map (is_closed_at faces covered) (all_darts faces)) ≡ darts faces
-closed_long faces covered = length-map (all_darts faces) (is_closed_at faces covered) ∙ length-range_with_len 0 (darts faces)
+closed_long : (faces : Faces) (covered : List Bool) → length (map (is_closed_at faces covered) (all_darts faces))
+    ≡ darts faces
+closed_long faces covered = length-map (all_darts faces) (is_closed_at faces covered)
+    ∙ length-range_with_len 0 (darts faces)
 
-pub marks_are : (faces : Faces) (covered marks : List Bool) → length marks ≡ darts faces → ((d : ℕ) → d < darts faces → is_on marks d ≡ (is_on covered d || not (is_some (twin_of faces d)))) → marks ≡ map (is_closed_at faces covered) (all_darts faces)
+pub marks_are : (faces : Faces) (covered marks : List Bool) → length marks ≡ darts faces
+    → ((d : ℕ) → d < darts faces → is_on marks d ≡ (is_on covered d || not (is_some (twin_of faces d))))
+    → marks ≡ map (is_closed_at faces covered) (all_darts faces)
 marks_are faces covered marks long each =
     ext_get_or false marks (map (is_closed_at faces covered) (all_darts faces)) (long ∙ sym (closed_long faces covered))
-    (λ d l. each d (omega (arith, l, long)) ∙ sym (get_or-map-range_with_len (is_closed_at faces covered) 0 (darts faces) d d false (omega (arith, l, long)) (omega arith)))
+    (λ d l. each d (omega (arith, l, long))
+    ∙ sym (get_or-map-range_with_len (is_closed_at faces covered) 0 (darts faces) d d false
+    (omega (arith, l, long)) (omega arith)))
 
 -- They are the cut of a state with these covered darts.
-pub cut_is : (faces : Faces) (s : State) (covered : List Bool) → ((d : ℕ) → d < darts faces → is_on covered d ≡ s.covered d) → map (is_closed_at faces covered) (all_darts faces) ≡ map (is_cut (terrain_of faces) s) (all_darts faces)
-cut_is faces s covered same = ext_get_or false (map (is_closed_at faces covered) (all_darts faces)) (map (is_cut (terrain_of faces) s) (all_darts faces))
-    (closed_long faces covered ∙ sym (length-map (all_darts faces) (is_cut (terrain_of faces) s) ∙ length-range_with_len 0 (darts faces)))
+pub cut_is : (faces : Faces) (s : State) (covered : List Bool)
+    → ((d : ℕ) → d < darts faces → is_on covered d ≡ s.covered d) → map (is_closed_at faces covered) (all_darts faces)
+    ≡ map (is_cut (terrain_of faces) s) (all_darts faces)
+cut_is faces s covered same = ext_get_or false (map (is_closed_at faces covered) (all_darts faces))
+    (map (is_cut (terrain_of faces) s) (all_darts faces))
+    (closed_long faces covered ∙ sym (length-map (all_darts faces) (is_cut (terrain_of faces) s)
+    ∙ length-range_with_len 0 (darts faces)))
     (λ d l. at d (omega (arith, l, closed_long faces covered)))
   where
-    at : (d : ℕ) → d < darts faces → get_or (map (is_closed_at faces covered) (all_darts faces)) d false ≡ get_or (map (is_cut (terrain_of faces) s) (all_darts faces)) d false
+    at : (d : ℕ) → d < darts faces → get_or (map (is_closed_at faces covered) (all_darts faces)) d false
+        ≡ get_or (map (is_cut (terrain_of faces) s) (all_darts faces)) d false
     at d l = get_or-map-range_with_len (is_closed_at faces covered) 0 (darts faces) d d false l (omega arith)
         ∙ (ap (λ b. b || not (is_some (twin_of faces d))) (same d l)
         ∙ sym (get_or-map-range_with_len (is_cut (terrain_of faces) s) 0 (darts faces) d d false l (omega arith)))
@@ -150,15 +194,19 @@ finish_long : (g : Terrain) (k : ℕ) (s : State) → length (finish g k s).ride
 finish_long g zero s = refl
 finish_long g (suc k) s = at (ridden s.riders) (finish_long g k (step g s))
   where
-    at : (ds : List ℕ) → length (finish g k (step g s)).riders ≡ length (step g s).riders → length (elim ds as (λ x. State) [ [] ↦ s | d ∷ es ↦ finish g k (step g s) ]).riders ≡ length s.riders
+    at : (ds : List ℕ) → length (finish g k (step g s)).riders ≡ length (step g s).riders
+        → length (elim ds as (λ x. State) [ [] ↦ s | d ∷ es ↦ finish g k (step g s) ]).riders ≡ length s.riders
     at [] e = refl
     at (d ∷ ds) e = e ∙ length-map s.riders (ride g s.stood (ridden s.riders))
 
-pub last_long : (faces : Faces) (marks : List Bool) → length (marked_last faces marks).riders ≡ length (marked_starts faces marks)
-last_long faces marks = finish_long (terrain_of faces) (suc (vertex_count faces)) (marked_first faces marks) ∙ length-map (marked_starts faces marks) begun
+pub last_long : (faces : Faces) (marks : List Bool) → length (marked_last faces marks).riders
+    ≡ length (marked_starts faces marks)
+last_long faces marks = finish_long (terrain_of faces) (suc (vertex_count faces)) (marked_first faces marks)
+    ∙ length-map (marked_starts faces marks) begun
 
 pub traced_long : (faces : Faces) → length (last_state faces).riders ≡ length (start_darts faces)
-traced_long faces = finish_long (terrain_of faces) (suc (vertex_count faces)) (start (terrain_of faces) (start_darts faces)) ∙ length-map (start_darts faces) begun
+traced_long faces = finish_long (terrain_of faces) (suc (vertex_count faces))
+    (start (terrain_of faces) (start_darts faces)) ∙ length-map (start_darts faces) begun
 
 -- Where nobody rides, each rider has stopped.
 pub have_stopped : (riders : List Moving) → ridden riders ≡ [] → HaveStopped riders
@@ -169,7 +217,8 @@ have_stopped riders none r l = at (rider_at riders r).stop refl
     at (Some s) is = ap is_some is
 
 -- One rider more is told.
-pub riders_more : (ms : List Moving) (ds : List ℕ) (rs : List Rider) (m : Moving) (d : ℕ) (r : Rider) → AreRiders ms ds rs → IsRiderOf m d r → AreRiders (ms ++ m ∷ []) (ds ++ d ∷ []) (rs ++ r ∷ [])
+pub riders_more : (ms : List Moving) (ds : List ℕ) (rs : List Rider) (m : Moving) (d : ℕ) (r : Rider)
+    → AreRiders ms ds rs → IsRiderOf m d r → AreRiders (ms ++ m ∷ []) (ds ++ d ∷ []) (rs ++ r ∷ [])
 riders_more [] [] [] m d r a i = (i, tt)
 riders_more (k ∷ ms) (x ∷ ds) (y ∷ rs) m d r a i = (a.0, riders_more ms ds rs m d r a.1 i)
 riders_more _ _ _ m d r a i = absurd a

@@ -1,5 +1,6 @@
 -- Marks at the darts of a list, one after another.
-use Rattle.std.proofs.Common.{◌≡◌, ℕ, ◌+◌, ◌<◌, Bool, true, false, cond, eqb, ◌||◌, List, [], ◌∷◌, ◌++◌, length, get_or, set, take, Option, Some, None, sym, ap, ◌∙◌, refl, inl, inr, arith}
+use Rattle.std.proofs.Common.{◌≡◌, ℕ, ◌+◌, ◌<◌, Bool, true, false, cond, eqb, ◌||◌, List, [], ◌∷◌, ◌++◌, length, get_or}
+use Rattle.std.proofs.Common.{set, take, Option, Some, None, sym, ap, ◌∙◌, refl, inl, inr, arith}
 use Rattle.std.proofs.Math.Bool.{or-false}
 use Rattle.std.specs.List.{list_any, range_with_len}
 use Rattle.list_laws.proofs.Filters.{range_more}
@@ -31,17 +32,27 @@ or_shift true b c = refl
 or_shift false b c = refl
 
 -- One number more in a range.
-pub any_range_more : (p : ℕ → Bool) (n : ℕ) → list_any p (range_with_len 0 (n + 1)) ≡ (list_any p (range_with_len 0 n) || p n)
+pub any_range_more : (p : ℕ → Bool) (n : ℕ) → list_any p (range_with_len 0 (n + 1))
+    ≡ (list_any p (range_with_len 0 n) || p n)
 any_range_more p n = ap (list_any p) (range_more n) ∙ any_snoc p (range_with_len 0 n) n
 
-pub among_more : (ds : List ℕ) (i d : ℕ) → i < length ds → is_among d (take (i + 1) ds) ≡ (is_among d (take i ds) || eqb d (get_or ds i 0))
+pub among_more : (ds : List ℕ) (i d : ℕ) → i < length ds → is_among d (take (i + 1) ds)
+    ≡ (is_among d (take i ds) || eqb d (get_or ds i 0))
 among_more ds i d l = ap (is_among d) (take_more ds i 0 l) ∙ any_snoc (λ e. eqb d e) (take i ds) (get_or ds i 0)
 
 -- One mark set.
-pub marks_more : (ds : List ℕ) (i : ℕ) (value : Bool) (marks old : List Bool) → i < length ds → get_or ds i 0 < length marks → ((d : ℕ) → is_on marks d ≡ cond (is_among d (take i ds)) value (is_on old d)) → (d : ℕ) → is_on (set marks (get_or ds i 0) value) d ≡ cond (is_among d (take (i + 1) ds)) value (is_on old d)
+pub marks_more : (ds : List ℕ) (i : ℕ) (value : Bool) (marks old : List Bool) → i < length ds
+    → get_or ds i 0 < length marks → ((d : ℕ) → is_on marks d ≡ cond (is_among d (take i ds)) value (is_on old d))
+    → (d : ℕ) → is_on (set marks (get_or ds i 0) value) d ≡ cond (is_among d (take (i + 1) ds)) value (is_on old d)
 marks_more ds i value marks old l low each d = elim (cases_eq d (get_or ds i 0)) [
-  | inl e ↦ ap (λ x. get_or (set marks (get_or ds i 0) value) x false) e ∙ (get_or-set_same marks (get_or ds i 0) value false low ∙ sym (ap (λ (b : Bool). cond b value (is_on old d)) (among_more ds i d l ∙ (ap (λ b. is_among d (take i ds) || b) (eq-eqb d (get_or ds i 0) e) ∙ on (is_among d (take i ds))))))
-  | inr ne ↦ get_or-set_other marks (get_or ds i 0) d value false ne ∙ (each d ∙ sym (ap (λ (b : Bool). cond b value (is_on old d)) (among_more ds i d l ∙ (ap (λ b. is_among d (take i ds) || b) (ne_eqb d (get_or ds i 0) ne) ∙ or-false (is_among d (take i ds))))))
+  | inl e ↦ ap (λ x. get_or (set marks (get_or ds i 0) value) x false) e
+      ∙ (get_or-set_same marks (get_or ds i 0) value false low
+      ∙ sym (ap (λ (b : Bool). cond b value (is_on old d)) (among_more ds i d l
+      ∙ (ap (λ b. is_among d (take i ds) || b) (eq-eqb d (get_or ds i 0) e) ∙ on (is_among d (take i ds))))))
+  | inr ne ↦ get_or-set_other marks (get_or ds i 0) d value false ne
+      ∙ (each d ∙ sym (ap (λ (b : Bool). cond b value (is_on old d)) (among_more ds i d l
+      ∙ (ap (λ b. is_among d (take i ds) || b) (ne_eqb d (get_or ds i 0) ne)
+      ∙ or-false (is_among d (take i ds))))))
 ]
   where
     on : (b : Bool) → (b || true) ≡ true
@@ -49,13 +60,16 @@ marks_more ds i value marks old l low each d = elim (cases_eq d (get_or ds i 0))
     on false = refl
 
 -- One edge more.
-twin_test : (faces : Faces) → IsManifold faces → (d e : ℕ) → d < darts faces → e < darts faces → is_found (twin_of faces d) (e ∷ []) ≡ is_found (twin_of faces e) (d ∷ [])
+twin_test : (faces : Faces) → IsManifold faces → (d e : ℕ) → d < darts faces → e < darts faces
+    → is_found (twin_of faces d) (e ∷ []) ≡ is_found (twin_of faces e) (d ∷ [])
 twin_test faces m d e ld le = same_test _ _ (one_way d e ld) (one_way e d le)
   where
-    one_way : (d e : ℕ) → d < darts faces → is_found (twin_of faces d) (e ∷ []) ≡ true → is_found (twin_of faces e) (d ∷ []) ≡ true
+    one_way : (d e : ℕ) → d < darts faces → is_found (twin_of faces d) (e ∷ []) ≡ true
+        → is_found (twin_of faces e) (d ∷ []) ≡ true
     one_way d e ld f = at (twin_of faces d) refl f
       where
-        at : (o : Option ℕ) → twin_of faces d ≡ o → is_found o (e ∷ []) ≡ true → is_found (twin_of faces e) (d ∷ []) ≡ true
+        at : (o : Option ℕ) → twin_of faces d ≡ o → is_found o (e ∷ []) ≡ true → is_found (twin_of faces e) (d ∷ [])
+            ≡ true
         at None is f = absurd (false≢true f)
         at (Some u) is f =
             let same : u ≡ e = eqb-true u e (sym (or-false (eqb u e)) ∙ f) in
@@ -69,15 +83,28 @@ shuffle false false true true b = refl
 shuffle false false true false b = refl
 shuffle false false false a b = refl
 
-pub cover_more : (faces : Faces) → IsManifold faces → (ds : List ℕ) (i : ℕ) (covered old now : List Bool) → i < length ds → get_or ds i 0 < darts faces → length covered ≡ darts faces → now ≡ mark_twin (twin_of faces (get_or ds i 0)) (set covered (get_or ds i 0) true) → ((d : ℕ) → d < darts faces → is_on covered d ≡ (is_on old d || (is_among d (take i ds) || is_found (twin_of faces d) (take i ds)))) → (d : ℕ) → d < darts faces → is_on now d ≡ (is_on old d || (is_among d (take (i + 1) ds) || is_found (twin_of faces d) (take (i + 1) ds)))
+pub cover_more : (faces : Faces) → IsManifold faces → (ds : List ℕ) (i : ℕ) (covered old now : List Bool)
+    → i < length ds → get_or ds i 0 < darts faces → length covered ≡ darts faces
+    → now ≡ mark_twin (twin_of faces (get_or ds i 0)) (set covered (get_or ds i 0) true)
+    → ((d : ℕ) → d < darts faces
+    → is_on covered d ≡ (is_on old d || (is_among d (take i ds) || is_found (twin_of faces d) (take i ds)))) → (d : ℕ)
+    → d < darts faces → is_on now d
+    ≡ (is_on old d || (is_among d (take (i + 1) ds) || is_found (twin_of faces d) (take (i + 1) ds)))
 cover_more faces m ds i covered old now l low long is each d ld =
     ap (λ (b : List Bool). is_on b d) is
-    ∙ (twin_marks (twin_of faces (get_or ds i 0)) covered (get_or ds i 0) d (omega (arith, low, long)) (λ u w. omega (arith, laws.twin_low (get_or ds i 0) u low w, long))
+    ∙ (twin_marks (twin_of faces (get_or ds i 0)) covered (get_or ds i 0) d (omega (arith, low, long))
+    (λ u w. omega (arith, laws.twin_low (get_or ds i 0) u low w, long))
     ∙ (ap (λ b. b || (eqb d (get_or ds i 0) || is_found (twin_of faces (get_or ds i 0)) (d ∷ []))) (each d ld)
-    ∙ (ap (λ b. (is_on old d || (is_among d (take i ds) || is_found (twin_of faces d) (take i ds))) || (eqb d (get_or ds i 0) || b)) (twin_test faces m (get_or ds i 0) d low ld)
-    ∙ (shuffle (is_on old d) (is_among d (take i ds)) (is_found (twin_of faces d) (take i ds)) (eqb d (get_or ds i 0)) (is_found (twin_of faces d) (get_or ds i 0 ∷ []))
-    ∙ (ap (λ b. is_on old d || (b || (is_found (twin_of faces d) (take i ds) || is_found (twin_of faces d) (get_or ds i 0 ∷ [])))) (sym (among_more ds i d l))
-    ∙ ap (λ b. is_on old d || (is_among d (take (i + 1) ds) || b)) (sym (found_more (twin_of faces d) (take i ds) (take (i + 1) ds) (get_or ds i 0) (λ e. among_more ds i e l))))))))
+    ∙ (ap (λ b. (is_on old d || (is_among d (take i ds) || is_found (twin_of faces d) (take i ds)))
+    || (eqb d (get_or ds i 0) || b)) (twin_test faces m (get_or ds i 0) d low ld)
+    ∙ (shuffle (is_on old d) (is_among d (take i ds)) (is_found (twin_of faces d) (take i ds)) (eqb d (get_or ds i 0))
+    (is_found (twin_of faces d) (get_or ds i 0 ∷ []))
+    ∙ (ap (λ b. is_on old d || (b
+    || (is_found (twin_of faces d) (take i ds) || is_found (twin_of faces d) (get_or ds i 0 ∷ []))))
+    (sym (among_more ds i d l))
+    ∙ ap (λ b. is_on old d || (is_among d (take (i + 1) ds) || b))
+    (sym (found_more (twin_of faces d) (take i ds) (take (i + 1) ds) (get_or ds i 0)
+    (λ e. among_more ds i e l))))))))
   where
     laws : IsQuadManifold (half_edges faces)
     laws = manifold_law faces m

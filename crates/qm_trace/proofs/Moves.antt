@@ -49,4 +49,10 @@ settles faces mesh motion seen is on v possible =
     let here : IsMotionOn faces motion = subst (IsMotionOn faces) (sym is) on in
     let may : may_settle (terrain_of faces) motion.state v ≡ true =
     subst (λ (q : MotionView). may_settle (terrain_of faces) q.state v ≡ true) (sym is) possible in
-    record { mesh = mesh; reached = here.reached; may = may; low = settle_low faces mesh motion.state here.reached v may }
+    record {
+      mesh = mesh;
+      reached = here.reached;
+      may = may;
+      low =
+          settle_low faces mesh motion.state here.reached v may;
+    }

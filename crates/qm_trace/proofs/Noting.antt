@@ -1,5 +1,7 @@
 -- Notes that are made, and taken back.
-use Rattle.std.proofs.Common.{◌≡◌, ◌≢◌, ◌⊎◌, ℕ, suc, ◌+◌, ◌<◌, ◌≤◌, Bool, true, false, cond, eqb, ◌||◌, List, [], ◌∷◌, ◌++◌, length, get_or, set, take, replicate, Option, Some, None, sym, subst, ap, ◌∙◌, refl, inl, inr, arith}
+use Rattle.std.proofs.Common.{◌≡◌, ◌≢◌, ◌⊎◌, ℕ, suc, ◌+◌, ◌<◌, ◌≤◌, Bool, true, false, cond, eqb, ◌||◌, List, [], ◌∷◌}
+use Rattle.std.proofs.Common.{◌++◌, length, get_or, set, take, replicate, Option, Some, None, sym, subst, ap, ◌∙◌, refl}
+use Rattle.std.proofs.Common.{inl, inr, arith}
 use Rattle.std.proofs.lemmas.Option.{none-some, same_Some}
 use Rattle.std.proofs.lemmas.Bool.{cases_eq, eq-eqb, ne_eqb, false≢true, false_from_ne_true, or_right}
 use Rattle.std.proofs.lemmas.List.{get_or-set_same, get_or-set_other, length-set, length-replicate}
@@ -28,72 +30,122 @@ all_off [] each = refl
 all_off (b ∷ marks) each = ap (λ c. c ∷ marks) (each 0) ∙ ap (λ bs. false ∷ bs) (all_off marks (λ v. each (suc v)))
 
 -- There is room in the queue for a rider without a note.
-pub has_room : (notes : Notes) (r : ℕ) → AreNotes notes → r < length notes.noted.items → note_at notes.noted.items r ≡ None → length notes.queue.items < vec_capacity notes.queue
-has_room notes r are low fresh = omega (arith, are.room, apart_few (length notes.noted.items) (r ∷ notes.queue.items) (new, all_apart notes.queue.items are.queue_apart) each)
+pub has_room : (notes : Notes) (r : ℕ) → AreNotes notes → r < length notes.noted.items → note_at notes.noted.items r
+    ≡ None → length notes.queue.items < vec_capacity notes.queue
+has_room notes r are low fresh =
+    omega (
+      arith,
+      are.room,
+      apart_few (length notes.noted.items) (r ∷ notes.queue.items) (
+        new,
+        all_apart notes.queue.items are.queue_apart,
+      ) each,
+    )
   where
     new : is_among r notes.queue.items ≡ false
-    new = false_from_ne_true _ (λ a. let d : (d : ℕ) × (note_at notes.noted.items r ≡ Some d) = are.queue_is r a in none-some d.0 (sym fresh ∙ d.1))
+    new = false_from_ne_true _ (λ a. let d : (d : ℕ) × (note_at notes.noted.items r ≡ Some d) = are.queue_is r a in
+        none-some d.0 (sym fresh ∙ d.1))
 
     each : (q : ℕ) → is_among q (r ∷ notes.queue.items) ≡ true → q < length notes.noted.items
     each q a = elim (among_cases q r notes.queue.items a) [
       | inl e ↦ subst (λ (x : ℕ). x < length notes.noted.items) (sym e) low
-      | inr b ↦ let d : (d : ℕ) × (note_at notes.noted.items q ≡ Some d) = are.queue_is q b in noted_short notes.noted.items q d.0 d.1
+      | inr b ↦ let d : (d : ℕ) × (note_at notes.noted.items q ≡ Some d) = are.queue_is q b in
+          noted_short notes.noted.items q d.0 d.1
     ]
 
 among_left : (q : ℕ) (xs ys : List ℕ) → is_among q xs ≡ true → is_among q (xs ++ ys) ≡ true
 among_left q [] ys a = absurd (false≢true a)
-among_left q (x ∷ xs) ys a = elim (among_cases q x xs a) [ inl e ↦ among_here q x (xs ++ ys) e | inr b ↦ among_later q x (xs ++ ys) (among_left q xs ys b) ]
+among_left q (x ∷ xs) ys a = elim (among_cases q x xs a) [
+  | inl e ↦ among_here q x (xs ++ ys) e
+  | inr b ↦ among_later q x (xs ++ ys) (among_left q xs ys b)
+]
 
 among_last : (q : ℕ) (xs : List ℕ) → is_among q (xs ++ q ∷ []) ≡ true
 among_last q [] = among_here q q [] refl
 among_last q (x ∷ xs) = among_later q x (xs ++ q ∷ []) (among_last q xs)
 
 -- One note more.
-pub one_note : (notes new : Notes) (r d : ℕ) → AreNotes notes → r < length notes.noted.items → d < length notes.taken.items → note_at notes.noted.items r ≡ None → is_among d (darts_in notes.noted.items) ≡ false
-    → new.noted.items ≡ set notes.noted.items r (Some d) → new.taken.items ≡ set notes.taken.items d true → new.places.items ≡ set notes.places.items d r → new.queue.items ≡ notes.queue.items ++ r ∷ [] → vec_capacity notes.queue ≤ vec_capacity new.queue → AreNotes new
+pub one_note : (notes new : Notes) (r d : ℕ) → AreNotes notes → r < length notes.noted.items
+    → d < length notes.taken.items → note_at notes.noted.items r ≡ None → is_among d (darts_in notes.noted.items)
+    ≡ false
+    → new.noted.items ≡ set notes.noted.items r (Some d) → new.taken.items ≡ set notes.taken.items d true
+    → new.places.items ≡ set notes.places.items d r → new.queue.items ≡ notes.queue.items ++ r ∷ []
+    → vec_capacity notes.queue ≤ vec_capacity new.queue → AreNotes new
 one_note notes new r d are low d_low fresh alone is_noted is_taken is_places is_queue room = record {
-  places_long = ap length is_places ∙ (length-set notes.places.items d r ∙ (are.places_long ∙ sym (ap length is_taken ∙ length-set notes.taken.items d true)));
-  taken_is = λ e. ap (λ (xs : List Bool). is_on xs e) is_taken ∙ (mark_is notes.taken.items d e d_low ∙ (ap (λ b. b || eqb e d) (are.taken_is e) ∙ sym (ap (λ ns. is_among e (darts_in ns)) is_noted ∙ noted_more notes.noted.items r d e low fresh)));
-  slot = λ q e n. ap (λ (xs : List ℕ). get_or xs e 0) is_places ∙ slot_at q e (sym (ap (λ ns. note_at ns q) is_noted) ∙ n);
+  places_long = ap length is_places
+      ∙ (length-set notes.places.items d r
+      ∙ (are.places_long ∙ sym (ap length is_taken ∙ length-set notes.taken.items d true)));
+  taken_is = λ e. ap (λ (xs : List Bool). is_on xs e) is_taken
+      ∙ (mark_is notes.taken.items d e d_low
+      ∙ (ap (λ b. b || eqb e d) (are.taken_is e) ∙ sym (ap (λ ns. is_among e (darts_in ns)) is_noted
+      ∙ noted_more notes.noted.items r d e low fresh)));
+  slot = λ q e n. ap (λ (xs : List ℕ). get_or xs e 0) is_places ∙ slot_at q e (sym (ap (λ ns. note_at ns q) is_noted)
+      ∙ n);
   queue_has = λ q e n. ap (is_among q) is_queue ∙ has_at q e (sym (ap (λ ns. note_at ns q) is_noted) ∙ n);
-  queue_is = λ q a. let e : (e : ℕ) × (note_at (set notes.noted.items r (Some d)) q ≡ Some e) = is_at q (among_append q notes.queue.items (r ∷ []) (sym (ap (is_among q) is_queue) ∙ a)) in (e.0, ap (λ ns. note_at ns q) is_noted ∙ e.1);
-  queue_apart = subst AreEachOnce (sym is_queue) (each_once (notes.queue.items ++ r ∷ []) (apart_append notes.queue.items (r ∷ []) (all_apart notes.queue.items are.queue_apart) (refl, tt) (λ q a b. apart_at q a b)));
+  queue_is = λ q a. let e : (e : ℕ) × (note_at (set notes.noted.items r (Some d)) q ≡ Some e) =
+      is_at q (among_append q notes.queue.items (r ∷ []) (sym (ap (is_among q) is_queue) ∙ a)) in
+      (e.0, ap (λ ns. note_at ns q) is_noted ∙ e.1);
+  queue_apart = subst AreEachOnce (sym is_queue)
+      (each_once (notes.queue.items ++ r ∷ [])
+      (apart_append notes.queue.items (r ∷ []) (all_apart notes.queue.items are.queue_apart) (
+        refl,
+        tt,
+      ) (λ q a b. apart_at q a b)));
   room = omega (arith, are.room, room, ap length is_noted, length-set notes.noted.items r (Some d));
 }
   where
-    slot_at : (q e : ℕ) → note_at (set notes.noted.items r (Some d)) q ≡ Some e → get_or (set notes.places.items d r) e 0 ≡ q
+    slot_at : (q e : ℕ) → note_at (set notes.noted.items r (Some d)) q ≡ Some e
+        → get_or (set notes.places.items d r) e 0 ≡ q
     slot_at q e n = elim (cases_eq q r) [
-      | inl s ↦ let same : e ≡ d = same_Some e d (sym n ∙ (ap (note_at (set notes.noted.items r (Some d))) s ∙ get_or-set_same notes.noted.items r (Some d) None low)) in
-          ap (λ x. get_or (set notes.places.items d r) x 0) same ∙ (get_or-set_same notes.places.items d r 0 (omega (arith, d_low, are.places_long)) ∙ sym s)
+      | inl s ↦ let same : e ≡ d =
+          same_Some e d (sym n ∙ (ap (note_at (set notes.noted.items r (Some d))) s
+          ∙ get_or-set_same notes.noted.items r (Some d) None low)) in
+          ap (λ x. get_or (set notes.places.items d r) x 0) same
+          ∙ (get_or-set_same notes.places.items d r 0 (omega (arith, d_low, are.places_long)) ∙ sym s)
       | inr ne ↦
-          let old : note_at notes.noted.items q ≡ Some e = sym (get_or-set_other notes.noted.items r q (Some d) None ne) ∙ n in
-          let differ : e ≢ d = λ s. false≢true (sym alone ∙ (ap (λ x. is_among x (darts_in notes.noted.items)) (sym s) ∙ noted_among notes.noted.items q e old)) in
+          let old : note_at notes.noted.items q ≡ Some e = sym (get_or-set_other notes.noted.items r q (Some d) None ne)
+          ∙ n in
+          let differ : e ≢ d = λ s. false≢true (sym alone ∙ (ap (λ x. is_among x (darts_in notes.noted.items)) (sym s)
+          ∙ noted_among notes.noted.items q e old)) in
           get_or-set_other notes.places.items d e r 0 differ ∙ are.slot q e old
     ]
 
-    has_at : (q e : ℕ) → note_at (set notes.noted.items r (Some d)) q ≡ Some e → is_among q (notes.queue.items ++ r ∷ []) ≡ true
+    has_at : (q e : ℕ) → note_at (set notes.noted.items r (Some d)) q ≡ Some e
+        → is_among q (notes.queue.items ++ r ∷ []) ≡ true
     has_at q e n = elim (cases_eq q r) [
       | inl s ↦ ap (λ x. is_among x (notes.queue.items ++ r ∷ [])) s ∙ among_last r notes.queue.items
-      | inr ne ↦ among_left q notes.queue.items (r ∷ []) (are.queue_has q e (sym (get_or-set_other notes.noted.items r q (Some d) None ne) ∙ n))
+      | inr ne ↦ among_left q notes.queue.items (r ∷ [])
+          (are.queue_has q e (sym (get_or-set_other notes.noted.items r q (Some d) None ne) ∙ n))
     ]
 
-    is_at : (q : ℕ) → (is_among q notes.queue.items ≡ true) ⊎ (is_among q (r ∷ []) ≡ true) → (e : ℕ) × (note_at (set notes.noted.items r (Some d)) q ≡ Some e)
+    is_at : (q : ℕ) → (is_among q notes.queue.items ≡ true) ⊎ (is_among q (r ∷ []) ≡ true)
+        → (e : ℕ) × (note_at (set notes.noted.items r (Some d)) q ≡ Some e)
     is_at q (inl a) =
-        let e : (e : ℕ) × (note_at notes.noted.items q ≡ Some e) = are.queue_is q a in
-        (e.0, get_or-set_other notes.noted.items r q (Some d) None (λ s. none-some e.0 (sym fresh ∙ (ap (note_at notes.noted.items) (sym s) ∙ e.1))) ∙ e.1)
+        let e : (e : ℕ) × (note_at notes.noted.items q ≡ Some e) = are.queue_is q a in (
+          e.0,
+          get_or-set_other notes.noted.items r q (Some d) None
+              (λ s. none-some e.0 (sym fresh ∙ (ap (note_at notes.noted.items) (sym s) ∙ e.1))) ∙ e.1,
+        )
     is_at q (inr b) = elim (among_cases q r [] b) [
-      | inl s ↦ (d, ap (note_at (set notes.noted.items r (Some d))) s ∙ get_or-set_same notes.noted.items r (Some d) None low)
+      | inl s ↦ (
+        d,
+        ap (note_at (set notes.noted.items r (Some d))) s ∙ get_or-set_same notes.noted.items r (Some d)
+            None low,
+      )
       | inr c ↦ absurd (false≢true c)
     ]
 
     apart_at : (q : ℕ) → is_among q notes.queue.items ≡ true → is_among q (r ∷ []) ≡ true → ⊥
     apart_at q a b = elim (among_cases q r [] b) [
-      | inl s ↦ let e : (e : ℕ) × (note_at notes.noted.items q ≡ Some e) = are.queue_is q a in none-some e.0 (sym fresh ∙ (ap (note_at notes.noted.items) (sym s) ∙ e.1))
+      | inl s ↦ let e : (e : ℕ) × (note_at notes.noted.items q ≡ Some e) = are.queue_is q a in
+          none-some e.0 (sym fresh ∙ (ap (note_at notes.noted.items) (sym s) ∙ e.1))
       | inr c ↦ false≢true c
     ]
 
 -- No notes.
-pub are_none : (notes : Notes) (ns : List (Option ℕ)) → notes.noted.items ≡ replicate (length ns) None → ((d : ℕ) → is_on notes.taken.items d ≡ false) → length notes.places.items ≡ length notes.taken.items → notes.queue.items ≡ [] → length ns ≤ vec_capacity notes.queue → AreNotes notes
+pub are_none : (notes : Notes) (ns : List (Option ℕ)) → notes.noted.items ≡ replicate (length ns) None
+    → ((d : ℕ) → is_on notes.taken.items d ≡ false) → length notes.places.items ≡ length notes.taken.items
+    → notes.queue.items ≡ [] → length ns ≤ vec_capacity notes.queue → AreNotes notes
 are_none notes ns is off long empty room = record {
   places_long = long;
   taken_is = λ d. off d ∙ sym (ap (is_among d) (ap darts_in is ∙ no_darts (length ns)));
@@ -101,45 +153,75 @@ are_none notes ns is off long empty room = record {
   queue_has = λ r d n. absurd (none d (noted_among notes.noted.items r d n));
   queue_is = λ r a. absurd (false≢true (sym (ap (is_among r) empty) ∙ a));
   queue_apart = subst AreEachOnce (sym empty) tt;
-  room = let e : length notes.noted.items ≡ length ns = ap length is ∙ length-replicate (length ns) None in omega (arith, room, e);
+  room = let e : length notes.noted.items ≡ length ns = ap length is ∙ length-replicate (length ns) None in
+      omega (arith, room, e);
 }
   where
     none : (d : ℕ) → is_among d (darts_in notes.noted.items) ≡ true → ⊥
     none d a = false≢true (sym (ap (is_among d) (ap darts_in is ∙ no_darts (length ns))) ∙ a)
 
 -- One note is taken back.
-module _ (faces : Faces) (queue : List ℕ) (i r d : ℕ) (first noted : List (Option ℕ)) (apart : AreEachOnce queue) (low : i < length queue) (r_is : r ≡ get_or queue i 0) (before : (q : ℕ) → note_at noted q ≡ cond (is_among q (take i queue)) None (note_at first q)) (is : note_at first r ≡ Some d) where
+module _ (faces : Faces) (queue : List ℕ) (i r d : ℕ) (first noted : List (Option ℕ)) (apart : AreEachOnce queue)
+    (low : i < length queue) (r_is : r ≡ get_or queue i 0) (before : (q : ℕ)
+    → note_at noted q ≡ cond (is_among q (take i queue)) None (note_at first q)) (is : note_at first r ≡ Some d) where
   pub still_noted : note_at noted r ≡ Some d
-  still_noted = before r ∙ (ap (λ (b : Bool). cond b None (note_at first r)) (ap (λ x. is_among x (take i queue)) r_is ∙ once queue i apart low) ∙ is)
+  still_noted = before r ∙ (ap (λ (b : Bool). cond b None (note_at first r)) (ap (λ x. is_among x (take i queue)) r_is
+      ∙ once queue i apart low) ∙ is)
 
-  pub taken_back : (q : ℕ) → note_at (set noted r None) q ≡ cond (is_among q (take (i + 1) queue)) None (note_at first q)
+  pub taken_back : (q : ℕ) → note_at (set noted r None) q ≡ cond (is_among q (take (i + 1) queue)) None
+      (note_at first q)
   taken_back q = elim (cases_eq q r) [
-    | inl s ↦ ap (note_at (set noted r None)) s ∙ (get_or-set_same noted r None None (noted_short noted r d still_noted) ∙ sym (ap (λ (b : Bool). cond b None (note_at first q)) (among_more queue i q low ∙ or_right (is_among q (take i queue)) (eqb q (get_or queue i 0)) (eq-eqb q (get_or queue i 0) (s ∙ r_is)))))
-    | inr ne ↦ get_or-set_other noted r q None None ne ∙ (before q ∙ sym (ap (λ (b : Bool). cond b None (note_at first q)) (among_more queue i q low ∙ (ap (λ b. is_among q (take i queue) || b) (ne_eqb q (get_or queue i 0) (λ s. ne (s ∙ sym r_is))) ∙ Rattle.std.proofs.Math.Bool.or-false (is_among q (take i queue))))))
+    | inl s ↦ ap (note_at (set noted r None)) s ∙ (get_or-set_same noted r None None (noted_short noted r d still_noted)
+        ∙ sym (ap (λ (b : Bool). cond b None (note_at first q)) (among_more queue i q low
+        ∙ or_right (is_among q (take i queue)) (eqb q (get_or queue i 0))
+        (eq-eqb q (get_or queue i 0) (s ∙ r_is)))))
+    | inr ne ↦ get_or-set_other noted r q None None ne
+        ∙ (before q ∙ sym (ap (λ (b : Bool). cond b None (note_at first q)) (among_more queue i q low
+        ∙ (ap (λ b. is_among q (take i queue) || b) (ne_eqb q (get_or queue i 0) (λ s. ne (s ∙ sym r_is)))
+        ∙ Rattle.std.proofs.Math.Bool.or-false (is_among q (take i queue))))))
   ]
 
   -- A mark that stays belongs to another note.
-  pub marks_back : (taken : List Bool) → d < length taken → ((e : ℕ) → is_on taken e ≡ true → (q : ℕ) × (note_at noted q ≡ Some e)) → (e : ℕ) → is_on (set taken d false) e ≡ true → (q : ℕ) × (note_at (set noted r None) q ≡ Some e)
+  pub marks_back : (taken : List Bool) → d < length taken
+      → ((e : ℕ) → is_on taken e ≡ true → (q : ℕ) × (note_at noted q ≡ Some e)) → (e : ℕ) → is_on (set taken d false) e
+      ≡ true → (q : ℕ) × (note_at (set noted r None) q ≡ Some e)
   marks_back taken d_low old e on = by_note (old e (sym (get_or-set_other taken d e false false differ) ∙ on))
     where
       differ : e ≢ d
       differ s = false≢true (sym (ap (is_on (set taken d false)) s ∙ get_or-set_same taken d false false d_low) ∙ on)
 
       by_note : (q : ℕ) × (note_at noted q ≡ Some e) → (q : ℕ) × (note_at (set noted r None) q ≡ Some e)
-      by_note (q, n) = (q, get_or-set_other noted r q None None (λ s. differ (same_Some e d (sym n ∙ (ap (note_at noted) s ∙ still_noted)))) ∙ n)
+      by_note (q, n) = (
+        q,
+        get_or-set_other noted r q None None
+            (λ s. differ (same_Some e d (sym n ∙ (ap (note_at noted) s ∙ still_noted)))) ∙ n,
+      )
 
-  pub ends_back : (settled : List Bool) (v : ℕ) → v ≡ to_of faces d → v < length settled → ((u : ℕ) → is_on settled u ≡ true → (q : ℕ) × (e : ℕ) × (note_at noted q ≡ Some e) × (to_of faces e ≡ u))
-      → (u : ℕ) → is_on (set settled v false) u ≡ true → (q : ℕ) × (e : ℕ) × (note_at (set noted r None) q ≡ Some e) × (to_of faces e ≡ u)
+  pub ends_back : (settled : List Bool) (v : ℕ) → v ≡ to_of faces d → v < length settled
+      → ((u : ℕ) → is_on settled u ≡ true → (q : ℕ) × (e : ℕ) × (note_at noted q ≡ Some e) × (to_of faces e ≡ u))
+      → (u : ℕ) → is_on (set settled v false) u ≡ true → (q : ℕ) × (e : ℕ) × (note_at (set noted r None) q ≡ Some e)
+      × (to_of faces e ≡ u)
   ends_back settled v v_is v_low old u on = by_note (old u (sym (get_or-set_other settled v u false false differ) ∙ on))
     where
       differ : u ≢ v
-      differ s = false≢true (sym (ap (is_on (set settled v false)) s ∙ get_or-set_same settled v false false v_low) ∙ on)
+      differ s = false≢true (sym (ap (is_on (set settled v false)) s ∙ get_or-set_same settled v false false v_low)
+          ∙ on)
 
-      by_note : (q : ℕ) × (e : ℕ) × (note_at noted q ≡ Some e) × (to_of faces e ≡ u) → (q : ℕ) × (e : ℕ) × (note_at (set noted r None) q ≡ Some e) × (to_of faces e ≡ u)
-      by_note (q, e, n, t) = (q, e, get_or-set_other noted r q None None (λ s. differ (sym t ∙ (ap (to_of faces) (same_Some e d (sym n ∙ (ap (note_at noted) s ∙ still_noted))) ∙ sym v_is))) ∙ n, t)
+      by_note : (q : ℕ) × (e : ℕ) × (note_at noted q ≡ Some e) × (to_of faces e ≡ u) → (q : ℕ) × (e : ℕ)
+          × (note_at (set noted r None) q ≡ Some e) × (to_of faces e ≡ u)
+      by_note (q, e, n, t) = (
+        q,
+        e,
+        get_or-set_other noted r q None None
+            (λ s. differ (sym t ∙ (ap (to_of faces) (same_Some e d (sym n ∙ (ap (note_at noted) s ∙ still_noted)))
+            ∙ sym v_is))) ∙ n,
+        t,
+      )
 
 -- Where the notes of the riders in the queue are taken back, none is left.
-pub cleared : (notes : Notes) (new : List (Option ℕ)) → AreNotes notes → ((r : ℕ) → note_at new r ≡ cond (is_among r notes.queue.items) None (note_at notes.noted.items r)) → (r : ℕ) → note_at new r ≡ None
+pub cleared : (notes : Notes) (new : List (Option ℕ)) → AreNotes notes
+    → ((r : ℕ) → note_at new r ≡ cond (is_among r notes.queue.items) None (note_at notes.noted.items r)) → (r : ℕ)
+    → note_at new r ≡ None
 cleared notes new are each r = each r ∙ at (note_at notes.noted.items r) refl
   where
     at : (n : Option ℕ) → note_at notes.noted.items r ≡ n → cond (is_among r notes.queue.items) None n ≡ None

@@ -1,5 +1,6 @@
 -- The queue, rider by rider.
-use Rattle.std.proofs.Common.{◌≡◌, ℕ, zero, suc, ◌+◌, ◌<◌, Bool, true, false, cond, eqb, ◌||◌, List, [], ◌∷◌, ◌++◌, length, get_or, set, take, sym, ap, ◌∙◌, refl, inl, inr, arith}
+use Rattle.std.proofs.Common.{◌≡◌, ℕ, zero, suc, ◌+◌, ◌<◌, Bool, true, false, cond, eqb, ◌||◌, List, [], ◌∷◌, ◌++◌}
+use Rattle.std.proofs.Common.{length, get_or, set, take, sym, ap, ◌∙◌, refl, inl, inr, arith}
 use Rattle.std.proofs.Math.Bool.{or-false}
 use Rattle.std.specs.List.{filter}
 use Rattle.std.proofs.lemmas.Bool.{cases_eq, eq-eqb, ne_eqb, false≢true, false_from_ne_true, or_right}
@@ -25,14 +26,28 @@ once (x ∷ xs) (suc i) a l = false_from_ne_true _ (λ m. elim (among_cases (get
 ])
 
 -- A rider of the queue that has not ridden yet.
-pub unmoved : (faces : Faces) (stood now : List Bool) (q : List ℕ) (i : ℕ) (old riders : List Moving) → AreEachOnce q → i < length q → get_or q i 0 < length old → AreRode faces stood now (take i q) old riders → rider_at riders (get_or q i 0) ≡ rider_at old (get_or q i 0)
-unmoved faces stood now q i old riders a l low each = each (get_or q i 0) low ∙ ap (λ (b : Bool). cond b (rode faces stood now (rider_at old (get_or q i 0))) (rider_at old (get_or q i 0))) (once q i a l)
+pub unmoved : (faces : Faces) (stood now : List Bool) (q : List ℕ) (i : ℕ) (old riders : List Moving) → AreEachOnce q
+    → i < length q → get_or q i 0 < length old → AreRode faces stood now (take i q) old riders
+    → rider_at riders (get_or q i 0) ≡ rider_at old (get_or q i 0)
+unmoved faces stood now q i old riders a l low each = each (get_or q i 0) low
+    ∙ ap (λ (b : Bool). cond b (rode faces stood now (rider_at old (get_or q i 0))) (rider_at old (get_or q i 0)))
+    (once q i a l)
 
 -- One rider more has ridden.
-pub rode_more : (faces : Faces) (stood now : List Bool) (q : List ℕ) (i : ℕ) (old riders : List Moving) (rider : Moving) → AreEachOnce q → i < length q → get_or q i 0 < length old → length riders ≡ length old → rider ≡ rode faces stood now (rider_at riders (get_or q i 0)) → AreRode faces stood now (take i q) old riders → AreRode faces stood now (take (i + 1) q) old (set riders (get_or q i 0) rider)
+pub rode_more : (faces : Faces) (stood now : List Bool) (q : List ℕ) (i : ℕ) (old riders : List Moving) (rider : Moving)
+    → AreEachOnce q → i < length q → get_or q i 0 < length old → length riders ≡ length old
+    → rider ≡ rode faces stood now (rider_at riders (get_or q i 0)) → AreRode faces stood now (take i q) old riders
+    → AreRode faces stood now (take (i + 1) q) old (set riders (get_or q i 0) rider)
 rode_more faces stood now q i old riders rider a l low long is each r lr = elim (cases_eq r (get_or q i 0)) [
-  | inl e ↦ ap (λ x. get_or (set riders (get_or q i 0) rider) x (begun 0)) e ∙ (get_or-set_same riders (get_or q i 0) rider (begun 0) (omega (arith, low, long)) ∙ (is ∙ (ap (rode faces stood now) was ∙ sym (ap (λ (b : Bool). cond b (rode faces stood now (rider_at old r)) (rider_at old r)) (on e) ∙ ap (λ x. rode faces stood now (rider_at old x)) e))))
-  | inr ne ↦ get_or-set_other riders (get_or q i 0) r rider (begun 0) ne ∙ (each r lr ∙ sym (ap (λ (b : Bool). cond b (rode faces stood now (rider_at old r)) (rider_at old r)) (among_more q i r l ∙ (ap (λ b. is_among r (take i q) || b) (ne_eqb r (get_or q i 0) ne) ∙ or-false (is_among r (take i q))))))
+  | inl e ↦ ap (λ x. get_or (set riders (get_or q i 0) rider) x (begun 0)) e
+      ∙ (get_or-set_same riders (get_or q i 0) rider (begun 0) (omega (arith, low, long))
+      ∙ (is ∙ (ap (rode faces stood now) was
+      ∙ sym (ap (λ (b : Bool). cond b (rode faces stood now (rider_at old r)) (rider_at old r)) (on e)
+      ∙ ap (λ x. rode faces stood now (rider_at old x)) e))))
+  | inr ne ↦ get_or-set_other riders (get_or q i 0) r rider (begun 0) ne
+      ∙ (each r lr ∙ sym (ap (λ (b : Bool). cond b (rode faces stood now (rider_at old r)) (rider_at old r))
+      (among_more q i r l ∙ (ap (λ b. is_among r (take i q) || b) (ne_eqb r (get_or q i 0) ne)
+      ∙ or-false (is_among r (take i q))))))
 ]
   where
     on : r ≡ get_or q i 0 → is_among r (take (i + 1) q) ≡ true
@@ -41,11 +56,16 @@ rode_more faces stood now q i old riders rider a l low long is each r lr = elim 
     was : rider_at riders (get_or q i 0) ≡ rider_at old (get_or q i 0)
     was = unmoved faces stood now q i old riders a l low each
 
-pub running_more : (p : ℕ → Bool) (q : List ℕ) (i : ℕ) → i < length q → filter p (take (i + 1) q) ≡ filter p (take i q) ++ cond (p (get_or q i 0)) (get_or q i 0 ∷ []) []
+pub running_more : (p : ℕ → Bool) (q : List ℕ) (i : ℕ) → i < length q → filter p (take (i + 1) q) ≡ filter p (take i q)
+    ++ cond (p (get_or q i 0)) (get_or q i 0 ∷ []) []
 running_more p q i l = ap (filter p) (take_more q i 0 l) ∙ filter-append p (take i q) (get_or q i 0 ∷ [])
 
-pub running_on : (p : ℕ → Bool) (q : List ℕ) (i : ℕ) → i < length q → p (get_or q i 0) ≡ true → filter p (take (i + 1) q) ≡ filter p (take i q) ++ get_or q i 0 ∷ []
-running_on p q i l is = running_more p q i l ∙ ap (λ (b : Bool). filter p (take i q) ++ cond b (get_or q i 0 ∷ []) []) is
+pub running_on : (p : ℕ → Bool) (q : List ℕ) (i : ℕ) → i < length q → p (get_or q i 0) ≡ true
+    → filter p (take (i + 1) q) ≡ filter p (take i q) ++ get_or q i 0 ∷ []
+running_on p q i l is = running_more p q i l ∙ ap (λ (b : Bool). filter p (take i q) ++ cond b (get_or q i 0 ∷ []) [])
+    is
 
-pub running_off : (p : ℕ → Bool) (q : List ℕ) (i : ℕ) → i < length q → p (get_or q i 0) ≡ false → filter p (take (i + 1) q) ≡ filter p (take i q)
-running_off p q i l is = running_more p q i l ∙ (ap (λ (b : Bool). filter p (take i q) ++ cond b (get_or q i 0 ∷ []) []) is ∙ append-nil (filter p (take i q)))
+pub running_off : (p : ℕ → Bool) (q : List ℕ) (i : ℕ) → i < length q → p (get_or q i 0) ≡ false
+    → filter p (take (i + 1) q) ≡ filter p (take i q)
+running_off p q i l is = running_more p q i l
+    ∙ (ap (λ (b : Bool). filter p (take i q) ++ cond b (get_or q i 0 ∷ []) []) is ∙ append-nil (filter p (take i q)))

@@ -1,5 +1,6 @@
 -- The command that the loop makes, and clap's answers to it.
-use Rattle.std.proofs.Common.{◌≡◌, ◌<◌, ◌≤◌, ◌+◌, ℕ, zero, suc, true, false, List, [], ◌∷◌, ◌++◌, length, take, take_all, map, slice_index_or, inl, inr, refl, ap, sym, ◌∙◌, subst, arith}
+use Rattle.std.proofs.Common.{◌≡◌, ◌<◌, ◌≤◌, ◌+◌, ℕ, zero, suc, true, false, List, [], ◌∷◌, ◌++◌, length, take}
+use Rattle.std.proofs.Common.{take_all, map, slice_index_or, inl, inr, refl, ap, sym, ◌∙◌, subst, arith}
 use Rattle.std.specs.List.{list_any}
 use Rattle.std.specs.Borrow.{Bor}
 use Rattle.clap.specs.Faults.{fault_of, is_simple_and_free}
@@ -22,7 +23,8 @@ abbrev pub texts : (names : List (Bor Word)) → Words
 texts names = map (λ name. name.now) names
 
 rules_more : (names : List (Bor Word)) (i : ℕ) (d : Bor Word) → i < length names
-    → map option_rule (texts (take i names)) ++ option_rule (slice_index_or names i d).now ∷ [] ≡ map option_rule (texts (take (i + 1) names))
+    → map option_rule (texts (take i names)) ++ option_rule (slice_index_or names i d).now ∷ []
+    ≡ map option_rule (texts (take (i + 1) names))
 rules_more [] i d low = absurd (omega arith)
 rules_more (name ∷ names) zero d low = refl
 rules_more (name ∷ names) (suc i) d low =
@@ -31,14 +33,18 @@ rules_more (name ∷ names) (suc i) d low =
     ∙ sym (ap (λ (k : ℕ). map option_rule (texts (take k (name ∷ names)))) next)
 
 -- One option more.
-pub app_more : (names : List (Bor Word)) (i : ℕ) (d : Bor Word) (before now : App) → i < length names → before ≡ options_app (texts (take i names))
-    → now ≡ with_rule before (option_rule (slice_index_or names i d).now) → now ≡ options_app (texts (take (i + 1) names))
+pub app_more : (names : List (Bor Word)) (i : ℕ) (d : Bor Word) (before now : App) → i < length names
+    → before ≡ options_app (texts (take i names))
+    → now ≡ with_rule before (option_rule (slice_index_or names i d).now)
+    → now ≡ options_app (texts (take (i + 1) names))
 app_more names i d before now low is more =
     more ∙ ap (λ (a : App). with_rule a (option_rule (slice_index_or names i d).now)) is
-    ∙ ap (λ (rs : List Rule). record { top = record (options_app []).top { rules = rs }; subs = [] }) (rules_more names i d low)
+    ∙ ap (λ (rs : List Rule). record { top = record (options_app []).top { rules = rs }; subs = [] })
+    (rules_more names i d low)
 
 -- All of them.
-pub app_all : (names : List (Bor Word)) (i : ℕ) (now : App) → length names ≤ i → now ≡ options_app (texts (take i names)) → now ≡ options_app (texts names)
+pub app_all : (names : List (Bor Word)) (i : ℕ) (now : App) → length names ≤ i
+    → now ≡ options_app (texts (take i names)) → now ≡ options_app (texts names)
 app_all names i now far is = is ∙ ap (λ (ns : List (Bor Word)). options_app (texts ns)) (take_all i names far)
 
 -- clap took the words.
@@ -50,10 +56,13 @@ took names words a m is ends quiet rows =
     ((subst (λ (b : App). HasMatchesOf b words m) is rows) (simple names)).0
 
 -- clap refused them.
-pub refused : (names words : Words) (a : App) (e : Error) (fail : WordsFail) → a ≡ options_app names → is_known names [] ≡ false
-    → (is_simple_and_free a ≡ true → HasKind (fault_of a words) e) → (kind_of e ≡ OutOfMemory → fail ≡ Memory) → fail ≡ Usage → Refuses names words
+pub refused : (names words : Words) (a : App) (e : Error) (fail : WordsFail) → a ≡ options_app names
+    → is_known names [] ≡ false
+    → (is_simple_and_free a ≡ true → HasKind (fault_of a words) e) → (kind_of e ≡ OutOfMemory → fail ≡ Memory)
+    → fail ≡ Usage → Refuses names words
 refused names words a e fail is named kinds memory usage uses line plain =
-    let quiet : fault_of a words ≡ [] = ap (λ (b : App). fault_of b words) is ∙ line_taken names words uses named line plain in
+    let quiet : fault_of a words ≡ [] = ap (λ (b : App). fault_of b words) is ∙ line_taken names words uses named line
+    plain in
     by_kind (subst (λ (k : Kinds). HasKind k e) quiet (kinds (ap is_simple_and_free is ∙ simple_free names)))
   where
     by_kind : HasKind [] e → ⊥

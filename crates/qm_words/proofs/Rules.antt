@@ -1,11 +1,13 @@
 -- The command of options as clap builds it, and the rules that it finds.
-use Rattle.std.proofs.Common.{◌≡◌, ◌&&◌, not, ℕ, true, false, List, [], ◌∷◌, Some, None, codes, map, inl, inr, refl, ap, ap₂, ◌∙◌}
+use Rattle.std.proofs.Common.{◌≡◌, ◌&&◌, not, ℕ, true, false, List, [], ◌∷◌, Some, None, codes, map, inl, inr, refl, ap}
+use Rattle.std.proofs.Common.{ap₂, ◌∙◌}
 use Rattle.std.specs.List.{list_all, list_any}
 use Rattle.std.specs.Str.{bytes_eq}
 use Rattle.std.proofs.lemmas.Bool.{cases_Bool, false≢true, true≢false}
 use Rattle.std.proofs.lemmas.Slice.Eq.{bytes_eq-Decides}
 use Rattle.clap.specs.Faults.{is_free_app, is_simple_and_free}
-use Rattle.clap.specs.Simple.{built, filled_from, is_buildable, is_ready, is_ready_leaf, is_simple, new_shape, App, Shape}
+use Rattle.clap.specs.Simple.{built, filled_from, is_buildable, is_ready, is_ready_leaf, is_simple, new_shape, App}
+use Rattle.clap.specs.Simple.{Shape}
 use Rattle.clap.specs.Walk.{arg_by_id, arg_by_index, arg_by_long, arg_by_short, is_early_multiple, Rule}
 use Rattle.clap.specs.declared.builder.action.ArgAction.TheVariants.{Set}
 use Rattle.clap.specs.declared.builder.value_parser.ValueParser.TheVariants as vp
@@ -38,7 +40,8 @@ filled_is i [] = refl
 filled_is i (name ∷ names) = ap (λ (rs : List Rule). full_rule name ∷ rs) (filled_is i names)
 
 pub built_is : (names : Words) → built (options_app names) ≡ record { top = shape names; subs = [] }
-built_is names = ap (λ (rs : List Rule). record { top = record (shape names) { rules = rs }; subs = [] }) (filled_is 1 names)
+built_is names = ap (λ (rs : List Rule). record { top = record (shape names) { rules = rs }; subs = [] })
+    (filled_is 1 names)
 
 simple_options : (names : Words) → list_all (λ (a : Rule). a.is_simple) (map option_rule names) ≡ true
 simple_options [] = refl
@@ -60,8 +63,10 @@ no_early n (name ∷ names) = no_early n names
 pub simple : (names : Words) → is_simple (options_app names) ≡ true
 simple names =
     let buildable : is_buildable (options_app names) ≡ true = ap (λ b. b && true) (simple_options names) in
-    let ready : (is_ready (shape names) && true) ≡ true = ap₂ (λ b c. (b && not c) && true) (simple_rules names) (no_early _ names) in
-    ap₂ (λ b c. b && c) buildable (ap (λ (a : App). is_ready a.top && list_all is_ready_leaf a.subs) (built_is names) ∙ ready)
+    let ready : (is_ready (shape names) && true) ≡ true =
+    ap₂ (λ b c. (b && not c) && true) (simple_rules names) (no_early _ names) in
+    ap₂ (λ b c. b && c) buildable (ap (λ (a : App). is_ready a.top && list_all is_ready_leaf a.subs) (built_is names)
+    ∙ ready)
 
 pub simple_free : (names : Words) → is_simple_and_free (options_app names) ≡ true
 simple_free names =
@@ -78,10 +83,12 @@ by_id (name ∷ names) id known =
     ]
 
 -- The rule of this long name.
-pub by_long : (names : Words) (long : Word) → is_known names long ≡ true → arg_by_long (rules names) long ≡ Some (full_rule long)
+pub by_long : (names : Words) (long : Word) → is_known names long ≡ true → arg_by_long (rules names) long
+    ≡ Some (full_rule long)
 by_long [] long known = absurd (false≢true known)
 by_long (name ∷ names) long known =
-    let later : is_known names long ≡ true → arg_by_long (rules names) long ≡ Some (full_rule long) = by_long names long in
+    let later : is_known names long ≡ true → arg_by_long (rules names) long ≡ Some (full_rule long) =
+    by_long names long in
     elim (cases_Bool (bytes_eq name long)) [
       | inl is ↦ rw is (ap (λ (n : Word). Some (full_rule n)) ((bytes_eq-Decides name long).0 is))
       | inr other ↦ rw other (later (rw other at known))

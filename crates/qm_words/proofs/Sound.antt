@@ -1,5 +1,6 @@
 -- Words that clap takes are uses of the options.
-use Rattle.std.proofs.Common.{◌≡◌, ℕ, true, false, List, [], ◌∷◌, ◌++◌, Option, Some, None, map, inl, inr, arith, refl, ap, sym, ◌∙◌, subst, append-nil, append_assoc, slice_get}
+use Rattle.std.proofs.Common.{◌≡◌, ℕ, true, false, List, [], ◌∷◌, ◌++◌, Option, Some, None, map, inl, inr, arith, refl}
+use Rattle.std.proofs.Common.{ap, sym, ◌∙◌, subst, append-nil, append_assoc, slice_get}
 use Rattle.std.specs.List.{list_any}
 use Rattle.std.specs.Str.{chars}
 use Rattle.std.proofs.lemmas.Bool.{cases_Bool, or_parts, true≢false}
@@ -12,8 +13,11 @@ use Rattle.def_run.specs.Options.{attached, dashed, use_in_front, is_equals, sep
 use Rattle.def_text.specs.Types.{Word, Words}
 use Rattle.qm_words.specs.Parsing.{is_end, is_known}
 use Rattle.qm_words.proofs.Rules.{by_id, by_long, full_rule, no_long, rules}
-use Rattle.qm_words.proofs.Steps.{fault_at, flag_fault, flag_walk, garbled_fault, garbled_value_walk, pair_fault, pair_walk, settle, short_fault, stands, stray_fault, unknown_fault, value_walk, waits_fault}
-use Rattle.qm_words.proofs.Uses.{all_of, fresh_count, fresh_from, good_more, pending, rows_of, same_name, settled, used_fresh, Good, IsKnown}
+use Rattle.qm_words.proofs.Steps.{fault_at, flag_fault, flag_walk, garbled_fault, garbled_value_walk, pair_fault}
+use Rattle.qm_words.proofs.Steps.{pair_walk, settle, short_fault, stands, stray_fault, unknown_fault, value_walk}
+use Rattle.qm_words.proofs.Steps.{waits_fault}
+use Rattle.qm_words.proofs.Uses.{all_of, fresh_count, fresh_from, good_more, pending, rows_of, same_name, settled}
+use Rattle.qm_words.proofs.Uses.{used_fresh, Good, IsKnown}
 use Rattle.qm_words.proofs.Walks.{both_quiet, end_rows, first_passes, rests, stops, waits, Passes}
 use Rattle.qm_words.proofs.Words.{uses_flag, uses_pair, view, with_hyphens, View}
 use Rattle.qm_words.proofs.Words.View.{plain, short, flag, pair, dashes}
@@ -36,11 +40,13 @@ pub record ReadValue (names words : Words) (before : Uses) (id : Word) (from : W
   pub good : Good names (before ++ record { name = id; value = value } ∷ rest)
 
 abbrev Rests : (names words : Words) → Type 0
-Rests names words = (uses : Uses) (last : Option Use) → Good names uses → IsKnown names last → list_any is_end words ≡ false
+Rests names words = (uses : Uses) (last : Option Use) → Good names uses → IsKnown names last → list_any is_end words
+    ≡ false
     → Passes names words (rests uses last) → Read names words (all_of uses last) (rests uses last)
 
 abbrev Waits : (names words : Words) → Type 0
-Waits names words = (uses : Uses) (id : Word) → Good names uses → is_known names id ≡ true → list_any is_end words ≡ false
+Waits names words = (uses : Uses) (id : Word) → Good names uses → is_known names id ≡ true → list_any is_end words
+    ≡ false
     → Passes names words (waits uses id) → ReadValue names words uses id (waits uses id)
 
 -- No words.
@@ -62,9 +68,12 @@ waits_nil names uses id good known ends passes =
 
 module _ (names : Words) (word : Word) (words : Words) where
   -- A name, and its value behind it.
-  by_flag : Waits names words → (uses : Uses) (last : Option Use) → Good names uses → IsKnown names last → list_any is_end words ≡ false
-      → Passes names (word ∷ words) (rests uses last) → (name : Word) → long_of word ≡ Some (name, None) → is_end word ≡ false → word ≡ dashed name
-      → list_any is_equals word ≡ false → is_known names name ≡ true → Read names (word ∷ words) (all_of uses last) (rests uses last)
+  by_flag : Waits names words → (uses : Uses) (last : Option Use) → Good names uses → IsKnown names last
+      → list_any is_end words ≡ false
+      → Passes names (word ∷ words) (rests uses last) → (name : Word) → long_of word ≡ Some (name, None)
+      → is_end word ≡ false → word ≡ dashed name
+      → list_any is_equals word ≡ false → is_known names name ≡ true
+      → Read names (word ∷ words) (all_of uses last) (rests uses last)
   by_flag later uses last good known ends passes name long other is none there =
       let rule = by_long names name there in
       let first = first_passes names word words (rests uses last) passes in
@@ -86,29 +95,37 @@ module _ (names : Words) (word : Word) (words : Words) where
       }
 
   -- A name with its value.
-  by_pair : Rests names words → (uses : Uses) (last : Option Use) → Good names uses → IsKnown names last → list_any is_end words ≡ false
-      → Passes names (word ∷ words) (rests uses last) → (name value : Word) → long_of word ≡ Some (name, Some value) → is_end word ≡ false
-      → attached word ≡ record { name = dashed name; value = value } → list_any is_equals word ≡ true → is_known names name ≡ true
+  by_pair : Rests names words → (uses : Uses) (last : Option Use) → Good names uses → IsKnown names last
+      → list_any is_end words ≡ false
+      → Passes names (word ∷ words) (rests uses last) → (name value : Word) → long_of word ≡ Some (name, Some value)
+      → is_end word ≡ false
+      → attached word ≡ record { name = dashed name; value = value } → list_any is_equals word ≡ true
+      → is_known names name ≡ true
       → Read names (word ∷ words) (all_of uses last) (rests uses last)
   by_pair later uses last good known ends passes name value long other is some there =
       let one : Use = record { name = name; value = value } in
       let all : Uses = all_of uses last in
       let rule = by_long names name there in
       let first = first_passes names word words (rests uses last) passes in
-      let quiet : or_else (or_else (settle names (rows_of uses) (pending last)) (use_fault false (full_rule name) (value ∷ []) (settled_rows (rules names) (pending last) (rows_of uses)))) [] ≡ [] =
+      let quiet : or_else (or_else (settle names (rows_of uses) (pending last))
+      (use_fault false (full_rule name) (value ∷ []) (settled_rows (rules names) (pending last) (rows_of uses))))
+      [] ≡ [] =
       sym (pair_fault names (rows_of uses) (pending last) idle word name value other long rule) ∙ first.0 in
       let parts = both_quiet (settle names (rows_of uses) (pending last)) _ (both_quiet _ [] quiet).0 in
       let done = settled names uses last good known parts.0 in
-      let fresh = fresh_from name value (rows_of all) (subst (λ (rows : List Row). use_fault false (full_rule name) (value ∷ []) rows ≡ []) done.1 parts.1) in
+      let fresh = fresh_from name value (rows_of all)
+      (subst (λ (rows : List Row). use_fault false (full_rule name) (value ∷ []) rows ≡ []) done.1 parts.1) in
       let goes : walked (rules names) [] (rests uses last) word ≡ rests (all ++ one ∷ []) None =
       pair_walk names (rows_of uses) (pending last) idle word name value other long rule
       ∙ ap (λ (rows : List Row). stands rows None idle) (ap (use_of name value) done.1 ∙ used_fresh one all fresh) in
       let read : Read names words (all ++ one ∷ []) (rests (all ++ one ∷ []) None) =
-      later (all ++ one ∷ []) None (good_more names all one done.0 there (fresh_count name all fresh)) tt ends (subst (Passes names words) goes first.1) in
+      later (all ++ one ∷ []) None (good_more names all one done.0 there (fresh_count name all fresh)) tt ends
+      (subst (Passes names words) goes first.1) in
       let joined : (all ++ one ∷ []) ++ read.rest ≡ all ++ one ∷ read.rest = append_assoc all (one ∷ []) read.rest in
       record {
         rest = one ∷ read.rest;
-        spelled = uses_pair word words some ∙ ap (use_in_front (attached word)) read.spelled ∙ ap (λ (u : Use). Some (u ∷ map with_hyphens read.rest)) is;
+        spelled = uses_pair word words some ∙ ap (use_in_front (attached word)) read.spelled
+            ∙ ap (λ (u : Use). Some (u ∷ map with_hyphens read.rest)) is;
         rows = ap (λ (w : Walk). end_rows names w words) goes ∙ read.rows ∙ ap rows_of joined;
         good = subst (Good names) joined read.good;
       }
@@ -117,13 +134,16 @@ module _ (names : Words) (word : Word) (words : Words) where
       use_of name value rows = used (full_rule name) (value ∷ []) rows
 
   -- The value of the option that waits.
-  by_value : Rests names words → (uses : Uses) (id : Word) → Good names uses → is_known names id ≡ true → list_any is_end words ≡ false
-      → Passes names (word ∷ words) (waits uses id) → walked (rules names) [] (waits uses id) word ≡ rests uses (Some (record { name = id; value = word }))
+  by_value : Rests names words → (uses : Uses) (id : Word) → Good names uses → is_known names id ≡ true
+      → list_any is_end words ≡ false
+      → Passes names (word ∷ words) (waits uses id) → walked (rules names) [] (waits uses id) word
+      ≡ rests uses (Some (record { name = id; value = word }))
       → ReadValue names (word ∷ words) uses id (waits uses id)
   by_value later uses id good known ends passes goes =
       let one : Use = record { name = id; value = word } in
       let first = first_passes names word words (waits uses id) passes in
-      let read : Read names words (uses ++ one ∷ []) (rests uses (Some one)) = later uses (Some one) good known ends (subst (Passes names words) goes first.1) in
+      let read : Read names words (uses ++ one ∷ []) (rests uses (Some one)) =
+      later uses (Some one) good known ends (subst (Passes names words) goes first.1) in
       let joined : (uses ++ one ∷ []) ++ read.rest ≡ uses ++ one ∷ read.rest = append_assoc uses (one ∷ []) read.rest in
       record {
         value = word;
@@ -136,27 +156,37 @@ module _ (names : Words) (word : Word) (words : Words) where
       }
 
   -- A word with a fault.
-  bad : {X : Type 0} (from : Walk) (kind : _) → Passes names (word ∷ words) from → fault_at names from word ≡ kind ∷ [] → X
-  bad from kind passes is = let never : ◌≡◌ {A = Kinds} (kind ∷ []) [] = stops names word words from (kind ∷ []) passes is in absurd cc
+  bad : {X : Type 0} (from : Walk) (kind : _) → Passes names (word ∷ words) from → fault_at names from word ≡ kind ∷ []
+      → X
+  bad from kind passes is = let never : ◌≡◌ {A = Kinds} (kind ∷ []) [] =
+      stops names word words from (kind ∷ []) passes is in absurd cc
 
   rests_word : Rests names words → Waits names words → Rests names (word ∷ words)
   rests_word rest wait uses last good known ends passes =
       by_view (view word) (or_parts (is_end word) (list_any is_end words) ends)
     where
-      by_view : View word → (is_end word ≡ false) × (list_any is_end words ≡ false) → Read names (word ∷ words) (all_of uses last) (rests uses last)
-      by_view (plain l s e) apart = bad (rests uses last) UnknownArgument passes (stray_fault names (rows_of uses) (pending last) word e l s)
+      by_view : View word → (is_end word ≡ false) × (list_any is_end words ≡ false)
+          → Read names (word ∷ words) (all_of uses last) (rests uses last)
+      by_view (plain l s e) apart =
+          bad (rests uses last) UnknownArgument passes (stray_fault names (rows_of uses) (pending last) word e l s)
       by_view (short byte bytes l s e) apart = by_letter (slice_get (chars (byte ∷ bytes)) 0) refl
         where
-          by_letter : (o : Option ℕ) → slice_get (chars (byte ∷ bytes)) 0 ≡ o → Read names (word ∷ words) (all_of uses last) (rests uses last)
-          by_letter None c = bad (rests uses last) UnknownArgument passes (garbled_fault names (rows_of uses) (pending last) word byte bytes e l s c)
-          by_letter (Some letter) c = bad (rests uses last) UnknownArgument passes (short_fault names (rows_of uses) (pending last) idle word byte bytes letter e l s c)
+          by_letter : (o : Option ℕ) → slice_get (chars (byte ∷ bytes)) 0 ≡ o
+              → Read names (word ∷ words) (all_of uses last) (rests uses last)
+          by_letter None c = bad (rests uses last) UnknownArgument passes
+              (garbled_fault names (rows_of uses) (pending last) word byte bytes e l s c)
+          by_letter (Some letter) c =
+              bad (rests uses last) UnknownArgument passes (short_fault names (rows_of uses) (pending last) idle word
+              byte bytes letter e l s c)
       by_view (flag name l e is none) apart = elim (cases_Bool (is_known names name)) [
         | inl there ↦ by_flag wait uses last good known apart.1 passes name l e is none there
-        | inr unknown ↦ bad (rests uses last) UnknownArgument passes (unknown_fault names (rows_of uses) (pending last) idle word name None e l (no_long names name unknown))
+        | inr unknown ↦ bad (rests uses last) UnknownArgument passes (unknown_fault names (rows_of uses) (pending last)
+            idle word name None e l (no_long names name unknown))
       ]
       by_view (pair name value l e is some) apart = elim (cases_Bool (is_known names name)) [
         | inl there ↦ by_pair rest uses last good known apart.1 passes name value l e is some there
-        | inr unknown ↦ bad (rests uses last) UnknownArgument passes (unknown_fault names (rows_of uses) (pending last) idle word name (Some value) e l (no_long names name unknown))
+        | inr unknown ↦ bad (rests uses last) UnknownArgument passes (unknown_fault names (rows_of uses) (pending last)
+            idle word name (Some value) e l (no_long names name unknown))
       ]
       by_view (dashes is) apart = absurd (true≢false (sym is ∙ apart.0))
 
@@ -167,22 +197,35 @@ module _ (names : Words) (word : Word) (words : Words) where
       waiting : settle names (rows_of uses) (Some (id, [])) ≡ InvalidValue ∷ []
       waiting = waits_fault names (rows_of uses) id (by_id names id known) (same_name id)
 
-      by_view : View word → (is_end word ≡ false) × (list_any is_end words ≡ false) → ReadValue names (word ∷ words) uses id (waits uses id)
-      by_view (plain l s e) apart = by_value rest uses id good known apart.1 passes (value_walk names (rows_of uses) id (by_id names id known) (same_name id) word e l s)
+      by_view : View word → (is_end word ≡ false) × (list_any is_end words ≡ false)
+          → ReadValue names (word ∷ words) uses id (waits uses id)
+      by_view (plain l s e) apart =
+          by_value rest uses id good known apart.1 passes (value_walk names (rows_of uses) id (by_id names id known)
+          (same_name id) word e l s)
       by_view (short byte bytes l s e) apart = by_letter (slice_get (chars (byte ∷ bytes)) 0) refl
         where
-          by_letter : (o : Option ℕ) → slice_get (chars (byte ∷ bytes)) 0 ≡ o → ReadValue names (word ∷ words) uses id (waits uses id)
-          by_letter None c = by_value rest uses id good known apart.1 passes (garbled_value_walk names (rows_of uses) id (by_id names id known) (same_name id) word byte bytes e l s c)
-          by_letter (Some letter) c = bad (waits uses id) UnknownArgument passes (short_fault names (rows_of uses) (Some (id, [])) (option id) word byte bytes letter e l s c)
+          by_letter : (o : Option ℕ) → slice_get (chars (byte ∷ bytes)) 0 ≡ o
+              → ReadValue names (word ∷ words) uses id (waits uses id)
+          by_letter None c = by_value rest uses id good known apart.1 passes
+              (garbled_value_walk names (rows_of uses) id (by_id names id known) (same_name id) word byte bytes e l s c)
+          by_letter (Some letter) c =
+              bad (waits uses id) UnknownArgument passes (short_fault names (rows_of uses) (Some (id, [])) (option id)
+              word byte bytes letter e l s c)
       by_view (flag name l e is none) apart = elim (cases_Bool (is_known names name)) [
-        | inl there ↦ bad (waits uses id) InvalidValue passes (flag_fault names (rows_of uses) (Some (id, [])) (option id) word name e l (by_long names name there)
+        | inl there ↦ bad (waits uses id) InvalidValue passes (flag_fault names (rows_of uses) (Some (id, []))
+            (option id) word name e l (by_long names name there)
             ∙ ap (λ (k : Kinds). or_else k []) waiting)
-        | inr unknown ↦ bad (waits uses id) UnknownArgument passes (unknown_fault names (rows_of uses) (Some (id, [])) (option id) word name None e l (no_long names name unknown))
+        | inr unknown ↦ bad (waits uses id) UnknownArgument passes (unknown_fault names (rows_of uses) (Some (id, []))
+            (option id) word name None e l (no_long names name unknown))
       ]
       by_view (pair name value l e is some) apart = elim (cases_Bool (is_known names name)) [
-        | inl there ↦ bad (waits uses id) InvalidValue passes (pair_fault names (rows_of uses) (Some (id, [])) (option id) word name value e l (by_long names name there)
-            ∙ ap (λ (k : Kinds). or_else (or_else k (use_fault false (full_rule name) (value ∷ []) (settled_rows (rules names) (Some (id, [])) (rows_of uses)))) []) waiting)
-        | inr unknown ↦ bad (waits uses id) UnknownArgument passes (unknown_fault names (rows_of uses) (Some (id, [])) (option id) word name (Some value) e l (no_long names name unknown))
+        | inl there ↦ bad (waits uses id) InvalidValue passes (pair_fault names (rows_of uses) (Some (id, []))
+            (option id) word name value e l (by_long names name there)
+            ∙ ap (λ (k : Kinds). or_else
+            (or_else k (use_fault false (full_rule name) (value ∷ [])
+            (settled_rows (rules names) (Some (id, [])) (rows_of uses)))) []) waiting)
+        | inr unknown ↦ bad (waits uses id) UnknownArgument passes (unknown_fault names (rows_of uses) (Some (id, []))
+            (option id) word name (Some value) e l (no_long names name unknown))
       ]
       by_view (dashes is) apart = absurd (true≢false (sym is ∙ apart.0))
 
@@ -193,6 +236,7 @@ sound_both names (word ∷ words) =
     (rests_word names word words later.0 later.1, waits_word names word words later.0)
 
 -- Words without `--` that clap takes from the beginning are uses of known options, none twice.
-pub sound : (names words : Words) → list_any is_end words ≡ false → Passes names words (rests [] None) → Read names words [] (rests [] None)
+pub sound : (names words : Words) → list_any is_end words ≡ false → Passes names words (rests [] None)
+    → Read names words [] (rests [] None)
 sound names words ends passes =
     (sound_both names words).0 [] None (record { once = λ name. omega arith; known = refl }) tt ends passes

@@ -5,7 +5,8 @@ use Rattle.std.specs.Str.{bytes_eq, chars}
 use Rattle.clap.specs.Faults.{flags_fault, settle_fault, turn_fault, use_fault}
 use Rattle.clap.specs.Kinds.{or_else, Kinds}
 use Rattle.clap.specs.Lexer.{long_of, short_of}
-use Rattle.clap.specs.Walk.{arg_by_id, arg_by_long, bundle_met, idle, option, positional, settled_rows, used, walked, Held, Row, Waiting, Walk}
+use Rattle.clap.specs.Walk.{arg_by_id, arg_by_long, bundle_met, idle, option, positional, settled_rows, used, walked}
+use Rattle.clap.specs.Walk.{Held, Row, Waiting, Walk}
 use Rattle.clap.specs.declared.error.kind.ErrorKind.TheVariants.{UnknownArgument, InvalidValue}
 use Rattle.def_text.specs.Types.{Word, Words}
 use Rattle.qm_words.specs.Parsing.{is_end}
@@ -36,29 +37,35 @@ settle names rows pending = settle_fault (rules names) false (held rows pending)
 
 module _ (names : Words) (rows : List Row) (pending : Pending) where
   -- `--name`
-  pub flag_fault : (waiting : Waiting) (word name : Word) → is_end word ≡ false → long_of word ≡ Some (name, None) → arg_by_long (rules names) name ≡ Some (full_rule name)
+  pub flag_fault : (waiting : Waiting) (word name : Word) → is_end word ≡ false → long_of word ≡ Some (name, None)
+      → arg_by_long (rules names) name ≡ Some (full_rule name)
       → fault_at names (stands rows pending waiting) word ≡ or_else (settle names rows pending) []
   flag_fault idle word name e l k = rw (e, l, k) refl
   flag_fault (option id) word name e l k = rw (e, l, k) refl
   flag_fault positional word name e l k = rw (e, l, k) refl
 
-  pub flag_walk : (waiting : Waiting) (word name : Word) → is_end word ≡ false → long_of word ≡ Some (name, None) → arg_by_long (rules names) name ≡ Some (full_rule name)
-      → walked (rules names) [] (stands rows pending waiting) word ≡ stands (settled_rows (rules names) pending rows) (Some (name, [])) (option name)
+  pub flag_walk : (waiting : Waiting) (word name : Word) → is_end word ≡ false → long_of word ≡ Some (name, None)
+      → arg_by_long (rules names) name ≡ Some (full_rule name)
+      → walked (rules names) [] (stands rows pending waiting) word ≡ stands (settled_rows (rules names) pending rows)
+      (Some (name, [])) (option name)
   unfolding walked
   flag_walk idle word name e l k = rw (e, l, k) refl
   flag_walk (option id) word name e l k = rw (e, l, k) refl
   flag_walk positional word name e l k = rw (e, l, k) refl
 
   -- `--name=value`
-  pub pair_fault : (waiting : Waiting) (word name value : Word) → is_end word ≡ false → long_of word ≡ Some (name, Some value)
+  pub pair_fault : (waiting : Waiting) (word name value : Word) → is_end word ≡ false
+      → long_of word ≡ Some (name, Some value)
       → arg_by_long (rules names) name ≡ Some (full_rule name)
       → fault_at names (stands rows pending waiting) word
-      ≡ or_else (or_else (settle names rows pending) (use_fault false (full_rule name) (value ∷ []) (settled_rows (rules names) pending rows))) []
+      ≡ or_else (or_else (settle names rows pending) (use_fault false (full_rule name) (value ∷ [])
+      (settled_rows (rules names) pending rows))) []
   pair_fault idle word name value e l k = rw (e, l, k) refl
   pair_fault (option id) word name value e l k = rw (e, l, k) refl
   pair_fault positional word name value e l k = rw (e, l, k) refl
 
-  pub pair_walk : (waiting : Waiting) (word name value : Word) → is_end word ≡ false → long_of word ≡ Some (name, Some value)
+  pub pair_walk : (waiting : Waiting) (word name value : Word) → is_end word ≡ false
+      → long_of word ≡ Some (name, Some value)
       → arg_by_long (rules names) name ≡ Some (full_rule name)
       → walked (rules names) [] (stands rows pending waiting) word
       ≡ stands (used (full_rule name) (value ∷ []) (settled_rows (rules names) pending rows)) None idle
@@ -68,7 +75,8 @@ module _ (names : Words) (rows : List Row) (pending : Pending) where
   pair_walk positional word name value e l k = rw (e, l, k) refl
 
   -- A name that no option has.
-  pub unknown_fault : (waiting : Waiting) (word name : Word) (value : Option Word) → is_end word ≡ false → long_of word ≡ Some (name, value)
+  pub unknown_fault : (waiting : Waiting) (word name : Word) (value : Option Word) → is_end word ≡ false
+      → long_of word ≡ Some (name, value)
       → arg_by_long (rules names) name ≡ None → fault_at names (stands rows pending waiting) word ≡ UnknownArgument ∷ []
   unknown_fault idle word name value e l k = rw (e, l, k) refl
   unknown_fault (option id) word name value e l k = rw (e, l, k) refl
@@ -80,7 +88,8 @@ module _ (names : Words) (rows : List Row) (pending : Pending) where
   stray_fault word e l s = rw (e, l, s, no_index names 1) refl
 
   -- `-letters`
-  pub short_fault : (waiting : Waiting) (word : Word) (byte : ℕ) (bytes : Word) (letter : ℕ) → is_end word ≡ false → long_of word ≡ None
+  pub short_fault : (waiting : Waiting) (word : Word) (byte : ℕ) (bytes : Word) (letter : ℕ) → is_end word ≡ false
+      → long_of word ≡ None
       → short_of word ≡ Some (byte ∷ bytes) → slice_get (chars (byte ∷ bytes)) 0 ≡ Some letter
       → fault_at names (stands rows pending waiting) word ≡ UnknownArgument ∷ []
   unfolding bundle_met flags_fault
@@ -95,7 +104,8 @@ module _ (names : Words) (rows : List Row) (pending : Pending) where
   unfolding bundle_met flags_fault
   garbled_fault word byte bytes e l s c = rw (e, l, s, c, no_index names 1) refl
 
-module _ (names : Words) (rows : List Row) (id : Word) (rule : arg_by_id (rules names) id ≡ Some (full_rule id)) (same : bytes_eq id id ≡ true) where
+module _ (names : Words) (rows : List Row) (id : Word) (rule : arg_by_id (rules names) id ≡ Some (full_rule id))
+    (same : bytes_eq id id ≡ true) where
   -- A word that is no option is the value of the one that waits.
   pub value_fault : (word : Word) → is_end word ≡ false → long_of word ≡ None → short_of word ≡ None
       → fault_at names (stands rows (Some (id, [])) (option id)) word ≡ []

@@ -1,5 +1,6 @@
 -- Uses counted, and the rows that clap keeps of them.
-use Rattle.std.proofs.Common.{◌≡◌, ◌⊎◌, ◌≤◌, ◌+◌, ℕ, true, false, List, [], ◌∷◌, ◌++◌, Option, Some, None, map, cond, inl, inr, refl, ap, sym, ◌∙◌, subst, arith, append-nil}
+use Rattle.std.proofs.Common.{◌≡◌, ◌⊎◌, ◌≤◌, ◌+◌, ℕ, true, false, List, [], ◌∷◌, ◌++◌, Option, Some, None, map, cond}
+use Rattle.std.proofs.Common.{inl, inr, refl, ap, sym, ◌∙◌, subst, arith, append-nil}
 use Rattle.std.specs.List.{list_all}
 use Rattle.std.specs.Str.{bytes_eq}
 use Rattle.std.proofs.lemmas.Bool.{and_parts, cases_Bool, false≢true, or_parts, true≢false}
@@ -65,7 +66,8 @@ count_append name (one ∷ uses) more = omega (arith, count_append name uses mor
 pub fresh_count : (name : Word) (uses : Uses) → has_row name (rows_of uses) ≡ false → count name uses ≡ 0
 fresh_count name [] none = refl
 fresh_count name (one ∷ uses) none =
-    let parts : (bytes_eq one.name name ≡ false) × (has_row name (rows_of uses) ≡ false) = or_parts (bytes_eq one.name name) (has_row name (rows_of uses)) none in
+    let parts : (bytes_eq one.name name ≡ false) × (has_row name (rows_of uses) ≡ false) =
+    or_parts (bytes_eq one.name name) (has_row name (rows_of uses)) none in
     rw parts.0 (omega (arith, fresh_count name uses parts.1))
 
 pub count_fresh : (name : Word) (uses : Uses) → count name uses ≡ 0 → has_row name (rows_of uses) ≡ false
@@ -105,10 +107,12 @@ count_given name (one ∷ uses) some =
     ]
 
 -- The first row of a name has the value of its first use.
-pub first_value_of : (name : Word) (uses : Uses) → 1 ≤ count name uses → first_of name (rows_of uses) ≡ Some (value_of name (map with_hyphens uses))
+pub first_value_of : (name : Word) (uses : Uses) → 1 ≤ count name uses → first_of name (rows_of uses)
+    ≡ Some (value_of name (map with_hyphens uses))
 first_value_of name [] some = absurd (omega arith)
 first_value_of name (one ∷ uses) some =
-    let later : 1 ≤ count name uses → first_of name (rows_of uses) ≡ Some (value_of name (map with_hyphens uses)) = first_value_of name uses in
+    let later : 1 ≤ count name uses → first_of name (rows_of uses) ≡ Some (value_of name (map with_hyphens uses)) =
+    first_value_of name uses in
     elim (cases_Bool (bytes_eq one.name name)) [
       | inl is ↦ rw is refl
       | inr other ↦
@@ -117,20 +121,24 @@ first_value_of name (one ∷ uses) some =
     ]
 
 -- A row that is not there is put at the end.
-at_row_fresh : (id : Word) (change : Row → List Row) (missing rows : List Row) → has_row id rows ≡ false → at_row id change missing rows ≡ rows ++ missing
+at_row_fresh : (id : Word) (change : Row → List Row) (missing rows : List Row) → has_row id rows ≡ false
+    → at_row id change missing rows ≡ rows ++ missing
 at_row_fresh id change missing [] none = refl
 at_row_fresh id change missing (r ∷ rows) none =
-    let parts : (bytes_eq r.id id ≡ false) × (has_row id rows ≡ false) = or_parts (bytes_eq r.id id) (has_row id rows) none in
+    let parts : (bytes_eq r.id id ≡ false) × (has_row id rows ≡ false) =
+    or_parts (bytes_eq r.id id) (has_row id rows) none in
     rw parts.0 (ap (λ (rs : List Row). r ∷ rs) (at_row_fresh id change missing rows parts.1))
 
 pub used_fresh : (one : Use) (uses : Uses) → has_row one.name (rows_of uses) ≡ false
     → used (full_rule one.name) (one.value ∷ []) (rows_of uses) ≡ rows_of (uses ++ one ∷ [])
 used_fresh one uses none =
     rw (at_row_fresh one.name (λ r. []) [] (rows_of uses) none, append-nil (rows_of uses))
-    (at_row_fresh one.name (more_values CommandLine (one.value ∷ [])) (row_of one ∷ []) (rows_of uses) none ∙ sym (map-append row_of uses (one ∷ [])))
+    (at_row_fresh one.name (more_values CommandLine (one.value ∷ [])) (row_of one ∷ []) (rows_of uses) none
+    ∙ sym (map-append row_of uses (one ∷ [])))
 
 -- A use has no fault exactly where it is the first of its name.
-pub fresh_from : (id value : Word) (rows : List Row) → use_fault false (full_rule id) (value ∷ []) rows ≡ [] → has_row id rows ≡ false
+pub fresh_from : (id value : Word) (rows : List Row) → use_fault false (full_rule id) (value ∷ []) rows ≡ []
+    → has_row id rows ≡ false
 fresh_from id value rows quiet = elim (cases_Bool (has_row id rows)) [
   | inl has ↦
       let bad : ◌≡◌ {A = Kinds} (ArgumentConflict ∷ []) [] = rw has at quiet in
@@ -138,7 +146,8 @@ fresh_from id value rows quiet = elim (cases_Bool (has_row id rows)) [
   | inr none ↦ none
 ]
 
-pub fresh_quiet : (id value : Word) (rows : List Row) → has_row id rows ≡ false → use_fault false (full_rule id) (value ∷ []) rows ≡ []
+pub fresh_quiet : (id value : Word) (rows : List Row) → has_row id rows ≡ false
+    → use_fault false (full_rule id) (value ∷ []) rows ≡ []
 fresh_quiet id value rows none = rw none refl
 
 -- Uses of known options, none of them used twice.
@@ -146,12 +155,14 @@ pub record Good (names : Words) (uses : Uses) : Type 0 where
   pub once : (name : Word) → count name uses ≤ 1
   pub known : list_all (λ (one : Use). is_known names one.name) uses ≡ true
 
-pub good_more : (names : Words) (uses : Uses) (one : Use) → Good names uses → is_known names one.name ≡ true → count one.name uses ≡ 0
+pub good_more : (names : Words) (uses : Uses) (one : Use) → Good names uses → is_known names one.name ≡ true
+    → count one.name uses ≡ 0
     → Good names (uses ++ one ∷ [])
 good_more names uses one good known none = record {
   once = λ name. elim (cases_Bool (bytes_eq one.name name)) [
     | inl is ↦
-        let zero_of : count name uses ≡ 0 = subst (λ (n : Word). count n uses ≡ 0) ((bytes_eq-Decides one.name name).0 is) none in
+        let zero_of : count name uses ≡ 0 =
+        subst (λ (n : Word). count n uses ≡ 0) ((bytes_eq-Decides one.name name).0 is) none in
         let one_of : count name (one ∷ []) ≡ 1 = rw is refl in
         omega (arith, count_append name uses (one ∷ []))
     | inr other ↦
@@ -167,9 +178,11 @@ good_prefix names uses more good = record {
   known = (and_parts _ _ (sym (list_all-append (λ (u : Use). is_known names u.name) uses more) ∙ good.known)).0;
 }
 
-pub good_back : (names : Words) (uses more : Uses) → Good names (uses ++ more) → list_all (λ (one : Use). is_known names one.name) more ≡ true
+pub good_back : (names : Words) (uses more : Uses) → Good names (uses ++ more)
+    → list_all (λ (one : Use). is_known names one.name) more ≡ true
 good_back names uses more good =
-    (and_parts (list_all (λ (u : Use). is_known names u.name) uses) _ (sym (list_all-append (λ (u : Use). is_known names u.name) uses more) ∙ good.known)).1
+    (and_parts (list_all (λ (u : Use). is_known names u.name) uses) _
+    (sym (list_all-append (λ (u : Use). is_known names u.name) uses more) ∙ good.known)).1
 
 -- The last of such uses is the first of its name.
 pub last_fresh : (names : Words) (uses : Uses) (one : Use) → Good names (uses ++ one ∷ []) → count one.name uses ≡ 0
@@ -191,17 +204,21 @@ IsKnown names None = Unit {0}
 IsKnown names (Some one) = is_known names one.name ≡ true
 
 -- Where settling it has no fault, it joins the others.
-pub settled : (names : Words) (uses : Uses) (last : Option Use) → Good names uses → IsKnown names last → settle names (rows_of uses) (pending last) ≡ []
-    → Good names (all_of uses last) × (settled_rows (rules names) (pending last) (rows_of uses) ≡ rows_of (all_of uses last))
+pub settled : (names : Words) (uses : Uses) (last : Option Use) → Good names uses → IsKnown names last
+    → settle names (rows_of uses) (pending last) ≡ []
+    → Good names (all_of uses last) × (settled_rows (rules names) (pending last) (rows_of uses)
+    ≡ rows_of (all_of uses last))
 settled names uses None good known quiet = (good, refl)
 settled names uses (Some one) good known quiet =
     let rule = by_id names one.name known in
-    let none : has_row one.name (rows_of uses) ≡ false = fresh_from one.name one.value (rows_of uses) (rw rule at quiet) in
+    let none : has_row one.name (rows_of uses) ≡ false =
+    fresh_from one.name one.value (rows_of uses) (rw rule at quiet) in
     (good_more names uses one good known (fresh_count one.name uses none), rw rule (used_fresh one uses none))
 
 -- It has none where it is the first of its name.
 pub settles : (names : Words) (uses : Uses) (last : Option Use) → IsKnown names last → Good names (all_of uses last)
-    → (settle names (rows_of uses) (pending last) ≡ []) × (settled_rows (rules names) (pending last) (rows_of uses) ≡ rows_of (all_of uses last))
+    → (settle names (rows_of uses) (pending last) ≡ []) × (settled_rows (rules names) (pending last) (rows_of uses)
+    ≡ rows_of (all_of uses last))
 settles names uses None known good = (refl, refl)
 settles names uses (Some one) known good =
     let rule = by_id names one.name known in

@@ -43,7 +43,8 @@ pub first_passes : (names : Words) (word : Word) (words : Words) (from : Walk) �
     → (fault_at names from word ≡ []) × Passes names words (walked (rules names) [] from word)
 unfolding walk_fault
 first_passes names word words from passes =
-    let both : (turn_fault (shape names) [] from word ≡ []) × (walk_fault (shape names) [] (walked (rules names) [] from word) words ≡ []) =
+    let both : (turn_fault (shape names) [] from word ≡ [])
+    × (walk_fault (shape names) [] (walked (rules names) [] from word) words ≡ []) =
     both_quiet (turn_fault (shape names) [] from word) _ passes.walked in
     (both.0, record { walked = both.1; settled = passes.settled })
 
@@ -56,6 +57,7 @@ passes_first names word words from first passes = record {
 }
 
 -- A word with a fault does not pass.
-pub stops : (names : Words) (word : Word) (words : Words) (from : Walk) (kinds : Kinds) → Passes names (word ∷ words) from
+pub stops : (names : Words) (word : Word) (words : Words) (from : Walk) (kinds : Kinds)
+    → Passes names (word ∷ words) from
     → fault_at names from word ≡ kinds → kinds ≡ []
 stops names word words from kinds passes is = sym is ∙ (first_passes names word words from passes).0

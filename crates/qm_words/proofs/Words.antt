@@ -1,5 +1,6 @@
 -- What a word is to clap, and what it is as the use of an option.
-use Rattle.std.proofs.Common.{◌≡◌, ◌+◌, ◌==◌, not, ℕ, suc, true, false, [], ◌∷◌, Some, None, take, drop, inl, inr, refl, ap, sym, ◌∙◌, subst, arith}
+use Rattle.std.proofs.Common.{◌≡◌, ◌+◌, ◌==◌, not, ℕ, suc, true, false, [], ◌∷◌, Some, None, take, drop, inl, inr, refl}
+use Rattle.std.proofs.Common.{ap, sym, ◌∙◌, subst, arith}
 use Rattle.std.specs.List.{after_first, before_first, list_any, position_or_len}
 use Rattle.std.proofs.lemmas.Bool.{cases_Bool, eqb-true, not-true, or_parts}
 use Rattle.clap.specs.Lexer.{long_of, short_of}
@@ -14,19 +15,23 @@ with_hyphens bare = record { name = dashed bare.name; value = bare.value }
 -- What a word is to clap.
 pub data View (word : Word) : Type 0 where
   plain : long_of word ≡ None → short_of word ≡ None → is_end word ≡ false → View word
-  short : (byte : ℕ) (bytes : Word) → long_of word ≡ None → short_of word ≡ Some (byte ∷ bytes) → is_end word ≡ false → View word
-  flag : (name : Word) → long_of word ≡ Some (name, None) → is_end word ≡ false → word ≡ dashed name → list_any is_equals word ≡ false → View word
+  short : (byte : ℕ) (bytes : Word) → long_of word ≡ None → short_of word ≡ Some (byte ∷ bytes) → is_end word ≡ false
+      → View word
+  flag : (name : Word) → long_of word ≡ Some (name, None) → is_end word ≡ false → word ≡ dashed name
+      → list_any is_equals word ≡ false → View word
   pair : (name value : Word) → long_of word ≡ Some (name, Some value) → is_end word ≡ false
       → attached word ≡ record { name = dashed name; value = value } → list_any is_equals word ≡ true → View word
   dashes : is_end word ≡ true → View word
 
 -- What stands before the first `=`, and behind it, where another byte stands in front.
-pub before_step : (byte : ℕ) (bytes : Word) → is_equals byte ≡ false → before_first is_equals (byte ∷ bytes) ≡ byte ∷ before_first is_equals bytes
+pub before_step : (byte : ℕ) (bytes : Word) → is_equals byte ≡ false → before_first is_equals (byte ∷ bytes)
+    ≡ byte ∷ before_first is_equals bytes
 before_step byte bytes other =
     let next : 1 + position_or_len is_equals bytes ≡ suc (position_or_len is_equals bytes) = omega arith in
     rw other (ap (λ (k : ℕ). take k (byte ∷ bytes)) next)
 
-pub after_step : (byte : ℕ) (bytes : Word) → is_equals byte ≡ false → after_first is_equals (byte ∷ bytes) ≡ after_first is_equals bytes
+pub after_step : (byte : ℕ) (bytes : Word) → is_equals byte ≡ false → after_first is_equals (byte ∷ bytes)
+    ≡ after_first is_equals bytes
 after_step byte bytes other =
     let next : 1 + position_or_len is_equals bytes + 1 ≡ suc (position_or_len is_equals bytes + 1) = omega arith in
     rw other (ap (λ (k : ℕ). drop k (byte ∷ bytes)) next)
@@ -35,20 +40,26 @@ after_step byte bytes other =
 pub before_all : (word : Word) → list_any is_equals word ≡ false → before_first is_equals word ≡ word
 before_all [] none = refl
 before_all (byte ∷ bytes) none =
-    let parts : (is_equals byte ≡ false) × (list_any is_equals bytes ≡ false) = or_parts (is_equals byte) (list_any is_equals bytes) none in
+    let parts : (is_equals byte ≡ false) × (list_any is_equals bytes ≡ false) =
+    or_parts (is_equals byte) (list_any is_equals bytes) none in
     before_step byte bytes parts.0 ∙ ap (λ (bs : Word). byte ∷ bs) (before_all bytes parts.1)
 
 -- The two hyphens stay in front.
-pub attached_dashed : (rest : Word) → attached (dashed rest) ≡ record { name = dashed (before_first is_equals rest); value = after_first is_equals rest }
+pub attached_dashed : (rest : Word) → attached (dashed rest) ≡ record {
+  name = dashed (before_first is_equals rest);
+  value = after_first is_equals rest;
+}
 attached_dashed rest =
     let names : before_first is_equals (dashed rest) ≡ dashed (before_first is_equals rest) =
     before_step 45 (45 ∷ rest) refl ∙ ap (λ (bs : Word). 45 ∷ bs) (before_step 45 rest refl) in
-    let values : after_first is_equals (dashed rest) ≡ after_first is_equals rest = after_step 45 (45 ∷ rest) refl ∙ after_step 45 rest refl in
+    let values : after_first is_equals (dashed rest) ≡ after_first is_equals rest = after_step 45 (45 ∷ rest) refl
+    ∙ after_step 45 rest refl in
     λ i. record { name = names i; value = values i }
 
 long_view : (byte : ℕ) (bytes : Word) → View (dashed (byte ∷ bytes))
 long_view byte bytes = elim (cases_Bool (list_any is_equals (byte ∷ bytes))) [
-  | inl some ↦ pair (before_first is_equals (byte ∷ bytes)) (after_first is_equals (byte ∷ bytes)) (rw some refl) refl (attached_dashed (byte ∷ bytes)) some
+  | inl some ↦ pair (before_first is_equals (byte ∷ bytes)) (after_first is_equals (byte ∷ bytes)) (rw some refl) refl
+      (attached_dashed (byte ∷ bytes)) some
   | inr none ↦
       let whole : before_first is_equals (byte ∷ bytes) ≡ byte ∷ bytes = before_all (byte ∷ bytes) none in
       flag (byte ∷ bytes) (rw none (ap (λ (n : Word). Some (n, None)) whole)) refl refl none
@@ -77,14 +88,16 @@ view (x ∷ y ∷ ys) = elim (cases_Bool (x == 45)) [
 ]
 
 -- A value that may stand in a word of its own has this view.
-pub plain_view : (word : Word) → is_plain word ≡ true → (long_of word ≡ None) × (short_of word ≡ None) × (is_end word ≡ false)
+pub plain_view : (word : Word) → is_plain word ≡ true → (long_of word ≡ None) × (short_of word ≡ None)
+    × (is_end word ≡ false)
 plain_view [] begins = (refl, refl, refl)
 plain_view (x ∷ xs) begins =
     let other : (x == 45) ≡ false = not-true (x == 45) begins in
     (rw other refl, rw other refl, rw other refl)
 
 -- A word with an `=` is one use, whatever stands behind it.
-pub uses_pair : (word : Word) (words : Words) → list_any is_equals word ≡ true → uses_of (word ∷ words) ≡ use_in_front (attached word) (uses_of words)
+pub uses_pair : (word : Word) (words : Words) → list_any is_equals word ≡ true → uses_of (word ∷ words)
+    ≡ use_in_front (attached word) (uses_of words)
 uses_pair word [] some = rw some refl
 uses_pair word (next ∷ words) some = rw some refl
 

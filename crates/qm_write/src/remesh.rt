@@ -12,7 +12,8 @@ use qm_stitch::Numbering;
 pub struct Remesh {
     /// What was asked for.
     pub asked: Asked,
-    /// The certificates: with `auto`, where the lengths of the first double an edge, one for floor 1 and one for floor 3.
+    /// The certificates: with `auto`, where the lengths of the first double an edge, one for floor 1 and one for floor
+    /// 3.
     pub certs: Certs,
     /// The numbers of the points and faces of the new mesh, at the lengths that are used.
     pub numbering: Numbering,

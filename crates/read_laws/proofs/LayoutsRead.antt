@@ -37,21 +37,24 @@ one_traced_law bytes has = record {
   traced = record { soup = has.soup; mesh = has.mesh; cut = one.laid };
   full = (graph_law has.soup.faces has.mesh.manifold).1;
   alone = λ other also.
-      one.alone other (subst (λ (s : FaceSet). IsCutLayout s.faces (traced_marks s.faces) other) (one_soup bytes has.soup also.soup has.mesh also.mesh) also.cut);
+      one.alone other (subst (λ (s : FaceSet). IsCutLayout s.faces (traced_marks s.faces) other)
+      (one_soup bytes has.soup also.soup has.mesh also.mesh) also.cut);
 }
   where
     one : HasOneLayout has.soup.faces (traced_marks has.soup.faces)
     one = traced_layout_law has.soup.faces (mesh_text_law bytes has.soup has.mesh).1
 
 -- A mesh has one layout for each chosen cut.
-one_chosen : (faces : Faces) (kept : Option (List Bool)) (patches : Patches) → IsMesh faces → AreKeptMarks faces kept → HasOneChosen faces kept patches
+one_chosen : (faces : Faces) (kept : Option (List Bool)) (patches : Patches) → IsMesh faces → AreKeptMarks faces kept
+    → HasOneChosen faces kept patches
 one_chosen faces kept patches mesh marks = record {
   plan = one.plan;
   cut = cut.cut;
   chosen = cut.chosen;
   full = full;
   laid = one.laid;
-  alone = λ other laid. one.alone other (subst (λ (c : List Bool). IsCutLayout faces c other) (cut.only laid.0 laid.1) laid.2);
+  alone = λ other laid. one.alone other (subst (λ (c : List Bool). IsCutLayout faces c other) (cut.only laid.0 laid.1)
+      laid.2);
 }
   where
     cut : IsOneCut faces kept patches
@@ -65,27 +68,33 @@ one_chosen faces kept patches mesh marks = record {
 
 pub one_chosen_law : OneChosenLaw
 one_chosen_law fit bytes soup asides is said =
-    one_chosen soup.faces asides.kept fit.patches (mesh_text_law bytes soup is).1 (asides_in_law fit bytes soup asides is said)
+    one_chosen soup.faces asides.kept fit.patches (mesh_text_law bytes soup is).1
+    (asides_in_law fit bytes soup asides is said)
 
 -- The cut that a task asks for is full.
-full_task : (command : Command) (bytes : Bytes) (soup : FaceSet) (task : Task) → IsMeshText bytes soup → asks_of command bytes soup task → IsFullCut soup.faces task.marks
+full_task : (command : Command) (bytes : Bytes) (soup : FaceSet) (task : Task) → IsMeshText bytes soup
+    → asks_of command bytes soup task → IsFullCut soup.faces task.marks
 full_task (Remesh settings auto) bytes soup task is asked =
     subst (λ (t : Task). IsFullCut soup.faces t.marks) (sym asked) (graph_law soup.faces is.manifold).1
 full_task (Crease settings) bytes soup task is asked =
     subst (λ (t : Task). IsFullCut soup.faces t.marks) (sym asked.2)
-    (chosen_cut_law soup.faces (Some asked.0) Traced (marked_cut soup.faces asked.0) is.manifold (marks_in_law bytes soup asked.0 is asked.1) refl)
+    (chosen_cut_law soup.faces (Some asked.0) Traced (marked_cut soup.faces asked.0) is.manifold
+    (marks_in_law bytes soup asked.0 is asked.1) refl)
 full_task (Size edge floor) bytes soup task is asked =
     subst (λ (t : Task). IsFullCut soup.faces t.marks) (sym asked.0) (graph_law soup.faces is.manifold).1
 full_task (Coarse settings) bytes soup task is asked =
-    subst (λ (t : Task). IsFullCut soup.faces t.marks) (sym asked.2) (chosen_cut_law soup.faces None Merged asked.0 is.manifold tt asked.1)
+    subst (λ (t : Task). IsFullCut soup.faces t.marks) (sym asked.2) (chosen_cut_law soup.faces None Merged asked.0
+    is.manifold tt asked.1)
 full_task (Fit fit) bytes soup task is asked =
     by_parts asked.0.0 asked.0.1 asked.0.2 asked.0.3 asked.0.4
   where
-    by_parts : (asides : Asides) (cut : List Bool) → asides_in fit bytes soup ≡ Ok asides → IsChosenCut soup.faces asides.kept fit.patches cut
+    by_parts : (asides : Asides) (cut : List Bool) → asides_in fit bytes soup ≡ Ok asides
+        → IsChosenCut soup.faces asides.kept fit.patches cut
         → task ≡ fit_task fit soup asides cut → IsFullCut soup.faces task.marks
     by_parts asides cut said chosen same =
         subst (λ (t : Task). IsFullCut soup.faces t.marks) (sym same)
-        (chosen_cut_law soup.faces asides.kept fit.patches cut is.manifold (asides_in_law fit bytes soup asides is said) chosen)
+        (chosen_cut_law soup.faces asides.kept fit.patches cut is.manifold (asides_in_law fit bytes soup asides is said)
+        chosen)
 full_task Tidy bytes soup task is asked = absurd asked
 full_task Graph bytes soup task is asked = absurd asked
 full_task (Refine by) bytes soup task is asked = absurd asked

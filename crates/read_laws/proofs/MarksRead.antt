@@ -1,5 +1,6 @@
 -- The marks that the text of a mesh says are marks of the mesh.
-use Rattle.std.proofs.Common.{◌≡◌, ℕ, ◌+◌, ◌<◌, Bool, false, eqb, ◌&&◌, ◌||◌, List, [], ◌∷◌, Option, Some, None, is_some, sym, subst, ap, ◌∙◌, arith, map, refl, Ok, Err, Result}
+use Rattle.std.proofs.Common.{◌≡◌, ℕ, ◌+◌, ◌<◌, Bool, false, eqb, ◌&&◌, ◌||◌, List, [], ◌∷◌, Option, Some, None}
+use Rattle.std.proofs.Common.{is_some, sym, subst, ap, ◌∙◌, arith, map, refl, Ok, Err, Result}
 use Rattle.std.specs.List.{flat_map, list_any}
 use Rattle.std.specs.Result.{result_map_both}
 use Rattle.std.proofs.lemmas.List.{length-map}
@@ -29,12 +30,16 @@ turned : (a b c e : Bool) → ((e && c) || (b && a)) ≡ ((a && b) || (c && e))
 turned a b c e = grind (arith)
 
 -- The mark of a dart.
-mark_along : (faces : Faces) (chains : List (List ℕ)) (d : ℕ) → d < darts faces → is_on (marks_along faces chains) d ≡ is_along_chains faces chains d
-mark_along faces chains d low = get_or-map-range_with_len (is_along_chains faces chains) 0 (darts faces) d d false low (omega arith)
+mark_along : (faces : Faces) (chains : List (List ℕ)) (d : ℕ) → d < darts faces → is_on (marks_along faces chains) d
+    ≡ is_along_chains faces chains d
+mark_along faces chains d low = get_or-map-range_with_len (is_along_chains faces chains) 0 (darts faces) d d false low
+    (omega arith)
 
 -- Twins run along the same chains.
-twins_along : (faces : Faces) (d e : ℕ) → IsTwin faces d e → (chain : List ℕ) → runs_along faces chain e ≡ runs_along faces chain d
-twins_along faces d e is chain = λ i. list_any (λ k. between (link_at chain k) (link_at chain (k + 1)) i) (step_places chain)
+twins_along : (faces : Faces) (d e : ℕ) → IsTwin faces d e → (chain : List ℕ) → runs_along faces chain e
+    ≡ runs_along faces chain d
+twins_along faces d e is chain = λ i. list_any (λ k. between (link_at chain k) (link_at chain (k + 1)) i)
+    (step_places chain)
   where
     between : (u v : ℕ) → runs_between faces u v e ≡ runs_between faces u v d
     between u v =
@@ -43,16 +48,21 @@ twins_along faces d e is chain = λ i. list_any (λ k. between (link_at chain k)
         ∙ turned (eqb (from_of faces d) u) (eqb (to_of faces d) v) (eqb (from_of faces d) v) (eqb (to_of faces d) u))
 
 -- The marks along chains are those of inner edges, equal at twins.
-pub chain_marks : (faces : Faces) (chains : List (List ℕ)) → IsManifold faces → AreMarks faces (marks_along faces chains)
+pub chain_marks : (faces : Faces) (chains : List (List ℕ)) → IsManifold faces
+    → AreMarks faces (marks_along faces chains)
 chain_marks faces chains m = record {
   long = length-map (all_darts faces) (is_along_chains faces chains) ∙ length-range_with_len 0 (darts faces);
-  alike = λ d e low twin. mark_along faces chains e (twin_is faces d e twin).0 ∙ (alike d e low twin (twin_is faces d e twin) ∙ sym (mark_along faces chains d low));
-  inner = λ d low none. mark_along faces chains d low ∙ ap (λ (o : Option ℕ). is_some o && list_any (λ chain. runs_along faces chain d) chains) none;
+  alike = λ d e low twin. mark_along faces chains e (twin_is faces d e twin).0
+      ∙ (alike d e low twin (twin_is faces d e twin) ∙ sym (mark_along faces chains d low));
+  inner = λ d low none. mark_along faces chains d low
+      ∙ ap (λ (o : Option ℕ). is_some o && list_any (λ chain. runs_along faces chain d) chains) none;
 }
   where
-    alike : (d e : ℕ) → d < darts faces → twin_of faces d ≡ Some e → IsTwin faces d e → is_along_chains faces chains e ≡ is_along_chains faces chains d
+    alike : (d e : ℕ) → d < darts faces → twin_of faces d ≡ Some e → IsTwin faces d e → is_along_chains faces chains e
+        ≡ is_along_chains faces chains d
     alike d e low twin is =
-        ap (λ (o : Option ℕ). is_some o && list_any (λ chain. runs_along faces chain e) chains) (twin_found faces m.edges_once e d (low, sym is.2, sym is.1))
+        ap (λ (o : Option ℕ). is_some o && list_any (λ chain. runs_along faces chain e) chains)
+        (twin_found faces m.edges_once e d (low, sym is.2, sym is.1))
         ∙ ((λ i. list_any (λ chain. twins_along faces d e is chain i) chains)
         ∙ sym (ap (λ (o : Option ℕ). is_some o && list_any (λ chain. runs_along faces chain d) chains) twin))
 
@@ -64,23 +74,31 @@ passed (fail ∷ fails) along marks said = cc said
 pub marks_in_law : MarksInLaw
 marks_in_law bytes soup marks is said =
     let lines = text_lines (logical_lines 1 (lines_of bytes)) in
-    subst (AreMarks soup.faces) (passed (flat_map (line_fails soup) lines) (marks_along soup.faces (map (line_chain soup) lines)) marks said)
+    subst (AreMarks soup.faces)
+    (passed (flat_map (line_fails soup) lines) (marks_along soup.faces (map (line_chain soup) lines)) marks said)
     (chain_marks soup.faces (map (line_chain soup) lines) is.manifold)
 
 -- What is kept where both are read.
-kept_of : (kept : Result (Option (List Bool)) MarkFail) (wishes : Result (List ℕ) MarkFail) (asides : Asides) → asides_by kept wishes ≡ Ok asides → kept ≡ Ok asides.kept
+kept_of : (kept : Result (Option (List Bool)) MarkFail) (wishes : Result (List ℕ) MarkFail) (asides : Asides)
+    → asides_by kept wishes ≡ Ok asides → kept ≡ Ok asides.kept
 kept_of (Err fail) wishes asides said = cc said
 kept_of (Ok kept) (Err fail) asides said = cc said
-kept_of (Ok kept) (Ok wishes) asides said = let same : record { kept = kept; wishes = wishes } ≡ asides = cc said in ap (λ (a : Asides). Ok a.kept) same
+kept_of (Ok kept) (Ok wishes) asides said = let same : record { kept = kept; wishes = wishes } ≡ asides = cc said in
+    ap (λ (a : Asides). Ok a.kept) same
 
-kept_marks : (keep : Keep) (bytes : Bytes) (soup : FaceSet) (kept : Option (List Bool)) → IsMeshText bytes soup → kept_in keep bytes soup ≡ Ok kept → AreKeptMarks soup.faces kept
-kept_marks keeps.Nothing bytes soup kept is said = let same : ◌≡◌ {A = Option (List Bool)} None kept = cc said in subst (AreKeptMarks soup.faces) same tt
+kept_marks : (keep : Keep) (bytes : Bytes) (soup : FaceSet) (kept : Option (List Bool)) → IsMeshText bytes soup
+    → kept_in keep bytes soup ≡ Ok kept → AreKeptMarks soup.faces kept
+kept_marks keeps.Nothing bytes soup kept is said = let same : ◌≡◌ {A = Option (List Bool)} None kept = cc said in
+    subst (AreKeptMarks soup.faces) same tt
 kept_marks keeps.Lines bytes soup kept is said = by_marks (marks_in bytes soup) refl said
   where
-    by_marks : (r : Result (List Bool) MarkFail) → marks_in bytes soup ≡ r → result_map_both Some (λ fail. fail) r ≡ Ok kept → AreKeptMarks soup.faces kept
+    by_marks : (r : Result (List Bool) MarkFail) → marks_in bytes soup ≡ r → result_map_both Some (λ fail. fail) r
+        ≡ Ok kept → AreKeptMarks soup.faces kept
     by_marks (Err fail) read said = cc said
-    by_marks (Ok marks) read said = let same : Some marks ≡ kept = cc said in subst (AreKeptMarks soup.faces) same (marks_in_law bytes soup marks is read)
+    by_marks (Ok marks) read said = let same : Some marks ≡ kept = cc said in
+        subst (AreKeptMarks soup.faces) same (marks_in_law bytes soup marks is read)
 
 pub asides_in_law : AsidesInLaw
 asides_in_law fit bytes soup asides is said =
-    kept_marks fit.keep bytes soup asides.kept is (kept_of (kept_in fit.keep bytes soup) (wished_in fit.aim bytes soup) asides said)
+    kept_marks fit.keep bytes soup asides.kept is (kept_of (kept_in fit.keep bytes soup) (wished_in fit.aim bytes soup)
+    asides said)

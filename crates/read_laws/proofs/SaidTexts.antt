@@ -1,5 +1,6 @@
 -- What all lines of a text say, where none is refused.
-use Rattle.std.proofs.Common.{◌≡◌, ℕ, ◌+◌, ◌^◌, ◌≤◌, Bool, true, false, cond, List, [], ◌∷◌, ◌++◌, length, refl, ap, ◌∙◌, arith, ltb, Some, None}
+use Rattle.std.proofs.Common.{◌≡◌, ℕ, ◌+◌, ◌^◌, ◌≤◌, Bool, true, false, cond, List, [], ◌∷◌, ◌++◌, length, refl, ap}
+use Rattle.std.proofs.Common.{◌∙◌, arith, ltb, Some, None}
 use Rattle.std.specs.List.{count_by, flat_map, list_all, list_any}
 use Rattle.std.proofs.lemmas.Bool.{and_from, and_parts}
 use Rattle.std.proofs.lemmas.List.{length-append}
@@ -36,40 +37,59 @@ are_said before [] none = record {
 }
 are_said before (line ∷ lines) none =
     let said = reading (count_by is_vertex_line before) (count_by is_face_line before) line in
-    let nones : (refusal_in said ≡ []) × (flat_map refusal_in (readings (before ++ line ∷ []) lines) ≡ []) = parts_none _ _ none in
-    let one : IsSaid (count_by is_vertex_line before) (count_by is_face_line before) line said = is_said (count_by is_vertex_line before) (count_by is_face_line before) line nones.0 in
-    let rest : AreSaid (count_by is_vertex_line (before ++ line ∷ [])) (count_by is_face_line (before ++ line ∷ [])) (readings (before ++ line ∷ []) lines) =
+    let nones : (refusal_in said ≡ []) × (flat_map refusal_in (readings (before ++ line ∷ []) lines) ≡ []) =
+    parts_none _ _ none in
+    let one : IsSaid (count_by is_vertex_line before) (count_by is_face_line before) line said =
+    is_said (count_by is_vertex_line before) (count_by is_face_line before) line nones.0 in
+    let rest : AreSaid (count_by is_vertex_line (before ++ line ∷ [])) (count_by is_face_line (before ++ line ∷ []))
+    (readings (before ++ line ∷ []) lines) =
     are_said (before ++ line ∷ []) lines nones.1 in
-    let v : count_by is_vertex_line (before ++ line ∷ []) ≡ count_by is_vertex_line before + cond (is_vertex_line line) 1 0 = sum_by_push (λ l. cond (is_vertex_line l) 1 0) before line in
-    let f : count_by is_face_line (before ++ line ∷ []) ≡ count_by is_face_line before + cond (is_face_line line) 1 0 = sum_by_push (λ l. cond (is_face_line l) 1 0) before line in
-    let pv : length (position_in said ++ positions (readings (before ++ line ∷ []) lines)) ≡ length (position_in said) + length (positions (readings (before ++ line ∷ []) lines)) = length-append (position_in said) _ in
-    let pf : length (face_in said ++ faces (readings (before ++ line ∷ []) lines)) ≡ length (face_in said) + length (faces (readings (before ++ line ∷ []) lines)) = length-append (face_in said) _ in
+    let v : count_by is_vertex_line (before ++ line ∷ []) ≡ count_by is_vertex_line before + cond (is_vertex_line line)
+    1 0 = sum_by_push (λ l. cond (is_vertex_line l) 1 0) before line in
+    let f : count_by is_face_line (before ++ line ∷ []) ≡ count_by is_face_line before + cond (is_face_line line) 1 0 =
+    sum_by_push (λ l. cond (is_face_line l) 1 0) before line in
+    let pv : length (position_in said ++ positions (readings (before ++ line ∷ []) lines))
+    ≡ length (position_in said) + length (positions (readings (before ++ line ∷ []) lines)) =
+    length-append (position_in said) _ in
+    let pf : length (face_in said ++ faces (readings (before ++ line ∷ []) lines))
+    ≡ length (face_in said) + length (faces (readings (before ++ line ∷ []) lines)) =
+    length-append (face_in said) _ in
     record {
-      few_vertices = λ few. let more : count_by is_vertex_line (before ++ line ∷ []) + length (positions (readings (before ++ line ∷ []) lines)) ≤ 2 ^ 21 =
+      few_vertices = λ few. let more : count_by is_vertex_line (before ++ line ∷ [])
+          + length (positions (readings (before ++ line ∷ []) lines)) ≤ 2 ^ 21 =
           rest.few_vertices (omega (arith, one.few_vertices few, one.vertex)) in omega (arith, one.vertex);
-      few_faces = λ few. let more : count_by is_face_line (before ++ line ∷ []) + length (faces (readings (before ++ line ∷ []) lines)) ≤ 2 ^ 20 =
+      few_faces = λ few. let more : count_by is_face_line (before ++ line ∷ [])
+          + length (faces (readings (before ++ line ∷ []) lines)) ≤ 2 ^ 20 =
           rest.few_faces (omega (arith, one.few_faces few, one.face)) in omega (arith, one.face);
-      near = list_all-append is_position (position_in said) (positions (readings (before ++ line ∷ []) lines)) ∙ and_from _ _ one.near rest.near;
-      quads = list_all-append is_quad (face_in said) (faces (readings (before ++ line ∷ []) lines)) ∙ and_from _ _ one.quads rest.quads;
-      positive = list_all-append (list_all (λ corner. ltb 0 corner)) (face_in said) (faces (readings (before ++ line ∷ []) lines)) ∙ and_from _ _ one.positive rest.positive;
+      near = list_all-append is_position (position_in said) (positions (readings (before ++ line ∷ []) lines))
+          ∙ and_from _ _ one.near rest.near;
+      quads = list_all-append is_quad (face_in said) (faces (readings (before ++ line ∷ []) lines))
+          ∙ and_from _ _ one.quads rest.quads;
+      positive = list_all-append (list_all (λ corner. ltb 0 corner)) (face_in said)
+          (faces (readings (before ++ line ∷ []) lines)) ∙ and_from _ _ one.positive rest.positive;
     }
 
 -- Positive corners, none of which is late, are numbers of positions.
-pub are_known : (n : ℕ) (said : List Reading) → flat_map (late_in n) said ≡ [] → list_all (list_all (λ corner. ltb 0 corner)) (faces said) ≡ true
+pub are_known : (n : ℕ) (said : List Reading) → flat_map (late_in n) said ≡ []
+    → list_all (list_all (λ corner. ltb 0 corner)) (faces said) ≡ true
     → list_all (are_numbers n) (faces said) ≡ true
 are_known n [] none positive = refl
 are_known n (Passed ∷ said) none positive = are_known n said none positive
 are_known n (Position p ∷ said) none positive = are_known n said none positive
 are_known n (Refused e ∷ said) none positive = are_known n said none positive
 are_known n (Face line corners ∷ said) none positive =
-    let parts : (list_all (λ corner. ltb 0 corner) corners ≡ true) × (list_all (list_all (λ corner. ltb 0 corner)) (faces said) ≡ true) = and_parts _ _ positive in
+    let parts : (list_all (λ corner. ltb 0 corner) corners ≡ true)
+    × (list_all (list_all (λ corner. ltb 0 corner)) (faces said) ≡ true) = and_parts _ _ positive in
     by_late (list_any (λ corner. ltb n corner) corners) refl none parts.0 (λ calm. are_known n said calm parts.1)
   where
-    by_late : (t : Bool) → list_any (λ corner. ltb n corner) corners ≡ t → cond t (Range line ∷ []) [] ++ flat_map (late_in n) said ≡ []
-        → list_all (λ corner. ltb 0 corner) corners ≡ true → (flat_map (late_in n) said ≡ [] → list_all (are_numbers n) (faces said) ≡ true)
+    by_late : (t : Bool) → list_any (λ corner. ltb n corner) corners ≡ t → cond t (Range line ∷ []) []
+        ++ flat_map (late_in n) said ≡ []
+        → list_all (λ corner. ltb 0 corner) corners ≡ true
+        → (flat_map (late_in n) said ≡ [] → list_all (are_numbers n) (faces said) ≡ true)
         → list_all (are_numbers n) (corners ∷ faces said) ≡ true
     by_late true is found some again = cc found
     by_late false is found some again =
         let one : (are_numbers n corners ≡ true) × (true ≡ true) =
-        and_parts _ _ (none_late n (corners ∷ []) (line ∷ []) refl (and_from _ _ some refl) (ap (λ t. cond t (Some line) None) is)) in
+        and_parts _ _ (none_late n (corners ∷ []) (line ∷ []) refl (and_from _ _ some refl)
+        (ap (λ t. cond t (Some line) None) is)) in
         and_from _ _ one.0 (again found)

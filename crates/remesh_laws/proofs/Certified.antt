@@ -11,7 +11,8 @@ use Rattle.def_remesh.specs.Remeshed.{HasLeastLengths}
 use Rattle.def_remesh.specs.Tasks.{Wish}
 use Rattle.qm_layoutnet.proofs.Opposite.{opposite_law}
 
-pub certified_lengths : {wish : Wish} (plan : Plan) (settings : Settings) (cert : Lists) → 1 ≤ settings.floor → HasLeastLengths wish plan settings cert
+pub certified_lengths : {wish : Wish} (plan : Plan) (settings : Settings) (cert : Lists) → 1 ≤ settings.floor
+    → HasLeastLengths wish plan settings cert
     → AreLengths (layout_of plan) (lengths_in cert.x)
 certified_lengths plan settings cert floor is = (opposite_law (layout_of plan) (lengths_in cert.x) some).1 is.opposite
   where

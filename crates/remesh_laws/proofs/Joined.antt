@@ -1,5 +1,6 @@
 -- The lines of two texts behind each other, of which the first ends with a line feed.
-use Rattle.std.proofs.Common.{◌≡◌, ◌<◌, ◌==◌, ℕ, Bool, true, false, if◌then◌else◌, [], ◌∷◌, ◌++◌, length, drop, map, ◌∙◌, ap, refl, arith}
+use Rattle.std.proofs.Common.{◌≡◌, ◌<◌, ◌==◌, ℕ, Bool, true, false, if◌then◌else◌, [], ◌∷◌, ◌++◌, length, drop, map}
+use Rattle.std.proofs.Common.{◌∙◌, ap, refl, arith}
 use Rattle.std.proofs.Math.Seq.{drop-append_seam}
 use Rattle.std.proofs.lemmas.List.{length-map, map-append}
 use Rattle.std.specs.List.{flat_map}
@@ -33,14 +34,17 @@ pieces_append (byte ∷ []) rest ends = by_test (byte == 10) ends
 pieces_append (byte ∷ next ∷ bytes) rest ends = by_test (byte == 10) (pieces_append (next ∷ bytes) rest ends)
   where
     by_test : (t : Bool) → pieces ((next ∷ bytes) ++ rest) ≡ pieces (next ∷ bytes) ++ pieces rest
-        → (if t then (byte ∷ []) ∷ pieces ((next ∷ bytes) ++ rest) else byte_in_front byte (pieces ((next ∷ bytes) ++ rest)))
+        → (if t then (byte ∷ []) ∷ pieces ((next ∷ bytes) ++ rest) else byte_in_front byte
+        (pieces ((next ∷ bytes) ++ rest)))
         ≡ (if t then (byte ∷ []) ∷ pieces (next ∷ bytes) else byte_in_front byte (pieces (next ∷ bytes))) ++ pieces rest
     by_test true is = ap (λ (ps : Lines). (byte ∷ []) ∷ ps) is
-    by_test false is = ap (byte_in_front byte) is ∙ front_append byte (pieces (next ∷ bytes)) (pieces rest) (some_piece next bytes)
+    by_test false is = ap (byte_in_front byte) is ∙ front_append byte (pieces (next ∷ bytes)) (pieces rest)
+        (some_piece next bytes)
 
 -- The lines are those of both.
 pub lines_append : (old text : Bytes) → ends_line old ≡ true → lines_of (old ++ text) ≡ lines_of old ++ lines_of text
-lines_append old text ends = ap (map line_of) (pieces_append old text ends) ∙ map-append line_of (pieces old) (pieces text)
+lines_append old text ends = ap (map line_of) (pieces_append old text ends)
+    ∙ map-append line_of (pieces old) (pieces text)
 
 -- The tail behind the lines of the first is the second.
 pub tail_append : (old text : Bytes) → ends_line old ≡ true → tail_of (length (lines_of old)) (old ++ text) ≡ text

@@ -1,7 +1,8 @@
 -- What least lengths and the numbers of their new mesh make, together, of a layout that is remeshed.
 use Rattle.std.proofs.lemmas.Bool.{cases_lt}
 use Rattle.std.proofs.lemmas.List.{get_or_past}
-use Rattle.std.proofs.Common.{◌≡◌, ◌≤◌, ◌<◌, ◌⊎◌, inl, inr, ℕ, Bool, true, List, length, sym, ◌∙◌, ap, subst, refl, arith}
+use Rattle.std.proofs.Common.{◌≡◌, ◌≤◌, ◌<◌, ◌⊎◌, inl, inr, ℕ, Bool, true, List, length, sym, ◌∙◌, ap, subst, refl}
+use Rattle.std.proofs.Common.{arith}
 use Rattle.std.proofs.lemmas.Int.{ints}
 use Rattle.std.specs.Prelude.{IsErrOf, Result, Err}
 use Rattle.def_certtext.specs.CertLines.{alone, lists_of, raised, used, Certificates}
@@ -39,19 +40,23 @@ use Rattle.remesh_laws.proofs.ReadAgain.{task_read}
 use Rattle.remesh_laws.proofs.Solved.{certified}
 
 -- Its solution is certified.
-pub solved : {wish : Wish} (plan : Plan) (settings : Settings) (net : Network) (cert : Cert) → IsNetFor wish plan settings net → IsSolution net (certificate cert)
+pub solved : {wish : Wish} (plan : Plan) (settings : Settings) (net : Network) (cert : Cert)
+    → IsNetFor wish plan settings net → IsSolution net (certificate cert)
     → IsCertified wish plan settings (lists_of cert)
-solved plan settings net cert for is = certified _ plan settings net (lists_of cert) for.mesh for.is for.bounds for.untangled is
+solved plan settings net cert for is = certified _ plan settings net (lists_of cert) for.mesh for.is for.bounds
+    for.untangled is
 
 -- So its lengths are lengths of the layout, also under another name.
-pub are_lengths : {wish : Wish} (plan : Plan) (settings : Settings) (net : Network) (cert : Cert) (xs : List ℕ) → IsNetFor wish plan settings net
+pub are_lengths : {wish : Wish} (plan : Plan) (settings : Settings) (net : Network) (cert : Cert) (xs : List ℕ)
+    → IsNetFor wish plan settings net
     → IsSolution net (certificate cert) → xs ≡ cert.x.items → AreArcLengths (layout_of plan) (lengths_in xs)
 are_lengths plan settings net cert xs for is same =
     subst (λ (ys : List ℕ). AreArcLengths (layout_of plan) (lengths_in ys)) (sym same)
     (certified_lengths plan settings (lists_of cert) for.floor (solved plan settings net cert for is).lengths)
 
 -- The network with floor 3.
-pub raised_net : {wish : Wish} (plan : Plan) (settings : Settings) (net other : Network) → IsNetFor wish plan settings net → other ≡ record net { floor = 3 }
+pub raised_net : {wish : Wish} (plan : Plan) (settings : Settings) (net other : Network)
+    → IsNetFor wish plan settings net → other ≡ record net { floor = 3 }
     → IsNetFor wish plan (with_floor settings 3) other
 raised_net plan settings net other for same = subst (IsNetFor _ plan (with_floor settings 3)) (sym same) (record {
   mesh = for.mesh;
@@ -82,12 +87,14 @@ raised_net plan settings net other for same = subst (IsNetFor _ plan (with_floor
 })
 
 pub raised_even : (net other : Network) → IsEven net → other ≡ record net { floor = 3 } → IsEven other
-raised_even net other even same = subst IsEven (sym same) (record { high = even.high; small = even.small; balanced = even.balanced })
+raised_even net other even same =
+    subst IsEven (sym same) (record { high = even.high; small = even.small; balanced = even.balanced })
 
 coarse_is : (plan : Plan) (xs : List ℕ) (tables : Tables) → IsNumbered plan xs tables → AreCoarse plan xs
 coarse_is plan xs tables is = subst (AreCoarse plan) is.lengths is.numbering.few
 
-keeps : {wish : Wish} (plan : Plan) (settings : Settings) (auto : Bool) (certificates : Certificates) (tables : Tables) → AreKept wish plan settings auto certificates
+keeps : {wish : Wish} (plan : Plan) (settings : Settings) (auto : Bool) (certificates : Certificates) (tables : Tables)
+    → AreKept wish plan settings auto certificates
     → IsNumbered plan (used certificates).x tables → IsKept wish plan settings auto certificates tables
 keeps plan settings auto certificates tables kept is = record {
   kept = kept;
@@ -98,44 +105,55 @@ keeps plan settings auto certificates tables kept is = record {
   lengths = is.lengths;
 }
 
-pub keeps_first : {wish : Wish} (plan : Plan) (settings : Settings) (auto : Bool) (cert : Cert) (xs : List ℕ) (tables : Tables) → xs ≡ cert.x.items
-    → IsCertified wish plan settings (lists_of cert) → IsNumbered plan xs tables → IsKept wish plan settings auto (alone (lists_of cert)) tables
+pub keeps_first : {wish : Wish} (plan : Plan) (settings : Settings) (auto : Bool) (cert : Cert) (xs : List ℕ)
+    (tables : Tables) → xs ≡ cert.x.items
+    → IsCertified wish plan settings (lists_of cert) → IsNumbered plan xs tables
+    → IsKept wish plan settings auto (alone (lists_of cert)) tables
 keeps_first plan settings auto cert xs tables same certified is =
-    keeps plan settings auto (alone (lists_of cert)) tables certified (subst (λ (ys : List ℕ). IsNumbered plan ys tables) same is)
+    keeps plan settings auto (alone (lists_of cert)) tables certified
+    (subst (λ (ys : List ℕ). IsNumbered plan ys tables) same is)
 
-pub keeps_third : {wish : Wish} (plan : Plan) (settings : Settings) (first third : Cert) (xs : List ℕ) (tables : Tables) → xs ≡ third.x.items
+pub keeps_third : {wish : Wish} (plan : Plan) (settings : Settings) (first third : Cert) (xs : List ℕ) (tables : Tables)
+    → xs ≡ third.x.items
     → AreKept wish plan settings true (raised (lists_of first) (lists_of third)) → IsNumbered plan xs tables
     → IsKept wish plan settings true (raised (lists_of first) (lists_of third)) tables
 keeps_third plan settings first third xs tables same kept is =
-    keeps plan settings true (raised (lists_of first) (lists_of third)) tables kept (subst (λ (ys : List ℕ). IsNumbered plan ys tables) same is)
+    keeps plan settings true (raised (lists_of first) (lists_of third)) tables kept
+    (subst (λ (ys : List ℕ). IsNumbered plan ys tables) same is)
 
 -- A refusal of lengths, of this kind, is one of the same lengths under another name.
 pub too_fine : (plan : Plan) (xs ys : List ℕ) (fail : StitchFail) (faces : ℕ) → xs ≡ ys → fail ≡ fails.TooFine faces
     → IsUnstitched (layout_of plan) (lengths_in xs) fail → AreTooFine plan ys faces
 too_fine plan xs ys fail faces same is refused =
-    let told : IsUnstitched (layout_of plan) (lengths_in xs) (fails.TooFine faces) = subst (IsUnstitched (layout_of plan) (lengths_in xs)) is refused in
+    let told : IsUnstitched (layout_of plan) (lengths_in xs) (fails.TooFine faces) =
+    subst (IsUnstitched (layout_of plan) (lengths_in xs)) is refused in
     subst (λ (zs : List ℕ). AreTooFine plan zs faces) same (told.0, omega (arith, told.0, told.1))
 
 pub doubled_first : (plan : Plan) (xs ys : List ℕ) (fail : StitchFail) (u v : ℕ) → xs ≡ ys → fail ≡ fails.Doubled u v
-    → IsUnstitched (layout_of plan) (lengths_in xs) fail → AreCoarse plan ys × IsFirstDoubled (layout_of plan) (lengths_in ys) u v
+    → IsUnstitched (layout_of plan) (lengths_in xs) fail → AreCoarse plan ys
+    × IsFirstDoubled (layout_of plan) (lengths_in ys) u v
 doubled_first plan xs ys fail u v same is refused =
     subst (λ (zs : List ℕ). AreCoarse plan zs × IsFirstDoubled (layout_of plan) (lengths_in zs) u v) same
     (subst (IsUnstitched (layout_of plan) (lengths_in xs)) is refused)
 
-pub doubled_some : (plan : Plan) (ys : List ℕ) (u v : ℕ) → IsFirstDoubled (layout_of plan) (lengths_in ys) u v → AreDoubled plan ys
+pub doubled_some : (plan : Plan) (ys : List ℕ) (u v : ℕ) → IsFirstDoubled (layout_of plan) (lengths_in ys) u v
+    → AreDoubled plan ys
 doubled_some plan ys u v first = (u, v, first.doubled)
 
 -- No length is too great, also beyond the last arc.
-pub bounded : (net : Network) (cert : Cert) (xs : List ℕ) → IsSolution net (certificate cert) → xs ≡ cert.x.items → (arc : ℕ)
+pub bounded : (net : Network) (cert : Cert) (xs : List ℕ) → IsSolution net (certificate cert) → xs ≡ cert.x.items
+    → (arc : ℕ)
     → lengths_in xs arc ≤ MAX_LENGTH
-bounded net cert xs is same arc = subst (λ (ys : List ℕ). lengths_in ys arc ≤ MAX_LENGTH) (sym same) (by_arc (cases_lt arc (length cert.x.items)))
+bounded net cert xs is same arc = subst (λ (ys : List ℕ). lengths_in ys arc ≤ MAX_LENGTH) (sym same)
+    (by_arc (cases_lt arc (length cert.x.items)))
   where
     by_arc : (arc < length cert.x.items) ⊎ (length cert.x.items ≤ arc) → lengths_in cert.x.items arc ≤ MAX_LENGTH
     by_arc (inl low) = is.lengths.small arc low
     by_arc (inr high) = omega (arith, get_or_past cert.x.items arc 0 high)
 
 -- Lengths for floor 3 double no edge, so lengths that double one are for a lower floor.
-pub low_floor : {T : Type 0} {wish : Wish} (plan : Plan) (settings : Settings) (cert : Cert) (xs : List ℕ) (result : Result T StitchFail) (fail : StitchFail) (u v : ℕ)
+pub low_floor : {T : Type 0} {wish : Wish} (plan : Plan) (settings : Settings) (cert : Cert) (xs : List ℕ)
+    (result : Result T StitchFail) (fail : StitchFail) (u v : ℕ)
     → xs ≡ cert.x.items → IsCertified wish plan settings (lists_of cert)
     → (AreSafe plan (lengths_in xs) → (a b : ℕ) → ¬ IsErrOf result (fails.Doubled a b))
     → result ≡ Err fail → fail ≡ fails.Doubled u v → settings.floor < MAX_FLOOR
@@ -148,11 +166,13 @@ low_floor plan settings cert xs result fail u v same is safe told doubled = by_f
 
     by_floor : (settings.floor < MAX_FLOOR) ⊎ (MAX_FLOOR ≤ settings.floor) → settings.floor < MAX_FLOOR
     by_floor (inl low) = low
-    by_floor (inr high) = absurd (safe (inl (subst (λ (ys : List ℕ). AreLong plan (lengths_in ys)) (sym same) (long high))) u v
+    by_floor (inr high) = absurd
+        (safe (inl (subst (λ (ys : List ℕ). AreLong plan (lengths_in ys)) (sym same) (long high))) u v
         (told ∙ ap Err doubled))
 
 -- The new mesh has the shape of the one that the layout lies in.
-pub kept_shape : (soup : FaceSet) (plan : Plan) (xs : List ℕ) → IsMeshLayout soup.faces plan → KeepsShapes plan (lengths_in xs)
+pub kept_shape : (soup : FaceSet) (plan : Plan) (xs : List ℕ) → IsMeshLayout soup.faces plan
+    → KeepsShapes plan (lengths_in xs)
     → KeepsShape soup.faces (new_faces (layout_of plan) (lengths_in xs)) (layout_of plan).nodes (vertex_at plan)
 kept_shape soup plan xs lies shapes = subst
     (λ (fs : Faces). KeepsShape fs (new_faces (layout_of plan) (lengths_in xs)) (layout_of plan).nodes (vertex_at plan))
@@ -160,13 +180,15 @@ kept_shape soup plan xs lies shapes = subst
     (shapes lies.0.faces lies.0.marks lies.0.mesh lies.0.quads lies.0.cut lies.0.laid)
 
 -- Accepted certificates have least lengths.
-pub least_of : (wish : Wish) (plan : Plan) (settings : Settings) (auto : Bool) (certificates : Certificates) → AreKept wish plan settings auto certificates
+pub least_of : (wish : Wish) (plan : Plan) (settings : Settings) (auto : Bool) (certificates : Certificates)
+    → AreKept wish plan settings auto certificates
     → AreKeptBy (HasLeastLengths wish plan) plan settings auto certificates
 least_of wish plan settings auto (alone cert) kept = kept.lengths
 least_of wish plan settings auto (raised first cert) kept = (kept.0, kept.1.lengths, kept.2, kept.3, kept.4.lengths)
 
 -- What is kept of a layout that a task's cut gives finishes the task, and shows it.
-pub shown : (task : Task) (soup : FaceSet) (plan : Plan) (certificates : Certificates) (tables : Tables) → IsMeshLayout soup.faces plan
+pub shown : (task : Task) (soup : FaceSet) (plan : Plan) (certificates : Certificates) (tables : Tables)
+    → IsMeshLayout soup.faces plan
     → IsCutLayout soup.faces task.marks plan → IsKept task.wish plan task.settings task.auto certificates tables
     → ShowsTask task soup (finished_text task soup plan certificates)
 shown task soup plan certificates tables lies cut kept =
@@ -187,5 +209,6 @@ shown task soup plan certificates tables lies cut kept =
         certified = kept.kept;
       };
       read = task_read task soup plan certificates (laid_of plan kept.numbering.mesh)
-          (subst (λ (xs : List ℕ). AreArcLengths (layout_of plan) (lengths_in xs)) kept.lengths kept.numbering.lengths) lengths;
+          (subst (λ (xs : List ℕ). AreArcLengths (layout_of plan) (lengths_in xs)) kept.lengths kept.numbering.lengths)
+          lengths;
     }

@@ -13,7 +13,8 @@ pub tail_told : (bytes : Bytes) (line : ℕ) (by : Made) → TellsOnly (tail_of 
     → TellHow (slice_index_or (lines_of bytes) line []) (drop (line + 1) (lines_of bytes)) made ↔ (made ≡ by)
 tail_told bytes line by only made =
     subst (λ (head : Bytes). TellHow head (drop (line + 1) (lines_of bytes)) made ↔ (made ≡ by)) head
-    (subst (λ (behind : Lines). TellHow (slice_index_or (lines_of (tail_of line bytes)) 0 []) behind made ↔ (made ≡ by)) behind (only made))
+    (subst (λ (behind : Lines). TellHow (slice_index_or (lines_of (tail_of line bytes)) 0 []) behind made ↔ (made ≡ by))
+    behind (only made))
   where
     head : slice_index_or (lines_of (tail_of line bytes)) 0 [] ≡ slice_index_or (lines_of bytes) line []
     head = ap (λ (ls : Lines). slice_index_or ls 0 []) (lines-tail line bytes) ∙ first-drop line (lines_of bytes)

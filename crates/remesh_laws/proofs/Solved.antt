@@ -1,5 +1,6 @@
 -- An accepted certificate of the network of a layout certifies its lengths, and can be written.
-use Rattle.std.proofs.Common.{◌≡◌, ◌⊎◌, ℕ, zero, suc, ◌^◌, ◌<◌, ◌≤◌, Bool, true, false, ◌&&◌, List, [], ◌∷◌, ◌++◌, length, map, take, drop, refl, sym, ◌∙◌, arith, inl, inr, ℤ}
+use Rattle.std.proofs.Common.{◌≡◌, ◌⊎◌, ℕ, zero, suc, ◌^◌, ◌<◌, ◌≤◌, Bool, true, false, ◌&&◌, List, [], ◌∷◌, ◌++◌}
+use Rattle.std.proofs.Common.{length, map, take, drop, refl, sym, ◌∙◌, arith, inl, inr, ℤ}
 use Rattle.std.specs.Prelude.{nat_lt, slice_index}
 use Rattle.std.specs.List.{list_all}
 use Rattle.std.proofs.lemmas.Bool.{and_from, and_parts, le-leb, leb-true, lt-ltb}
@@ -37,17 +38,21 @@ all_drop p (suc n) [] all = refl
 all_drop p (suc n) (x ∷ xs) all = all_drop p n xs (and_parts _ _ all).1
 
 -- Lines of small numbers may stand.
-numbered_stand : (kind : ℤ → ℕ → CertLine) → ((z : ℤ) (u : ℕ) → may_stand false (kind z u) ≡ is_small z u) → (numbers : List ℤ) (ups : List ℕ)
-    → AreSmall numbers → list_all (λ u. nat_lt u (2 ^ 32)) ups ≡ true → list_all (may_stand false) (dual_lines kind numbers ups) ≡ true
+numbered_stand : (kind : ℤ → ℕ → CertLine) → ((z : ℤ) (u : ℕ) → may_stand false (kind z u) ≡ is_small z u)
+    → (numbers : List ℤ) (ups : List ℕ)
+    → AreSmall numbers → list_all (λ u. nat_lt u (2 ^ 32)) ups ≡ true
+    → list_all (may_stand false) (dual_lines kind numbers ups) ≡ true
 numbered_stand kind same [] ups small low = refl
 numbered_stand kind same (z ∷ zs) [] small low = refl
 numbered_stand kind same (z ∷ zs) (u ∷ us) small low =
     and_from _ _ (same z u ∙ and_from _ _ (lt-ltb _ _ (small 0 (omega arith))) (and_parts _ _ low).0)
     (numbered_stand kind same zs us (λ k l. small (suc k) (omega (arith, l))) (and_parts _ _ low).1)
 
-lengths_stand : (xs : List ℕ) → ((k : ℕ) → k < length xs → slice_index xs k ≤ MAX_LENGTH) → list_all (may_stand false) (map lines.Length xs) ≡ true
+lengths_stand : (xs : List ℕ) → ((k : ℕ) → k < length xs → slice_index xs k ≤ MAX_LENGTH)
+    → list_all (may_stand false) (map lines.Length xs) ≡ true
 lengths_stand [] low = refl
-lengths_stand (x ∷ xs) low = and_from _ _ (le-leb _ _ (low 0 (omega arith))) (lengths_stand xs (λ k l. low (suc k) (omega (arith, l))))
+lengths_stand (x ∷ xs) low =
+    and_from _ _ (le-leb _ _ (low 0 (omega arith))) (lengths_stand xs (λ k l. low (suc k) (omega (arith, l))))
 
 entry_is : (n m i e : ℕ) → is_up n m i e ≡ true → (e ≡ 0) ⊎ (e ≤ m)
 entry_is n m i e on = grind (arith, nat_tests)
@@ -60,12 +65,15 @@ up_low n m i e is = by_entry (entry_is n m i e is)
     by_entry (inl none) = omega (arith, none)
     by_entry (inr some) = some
 
-all_low : (xs : List ℕ) → ((k : ℕ) → k < length xs → slice_index xs k < 2 ^ 32) → list_all (λ u. nat_lt u (2 ^ 32)) xs ≡ true
+all_low : (xs : List ℕ) → ((k : ℕ) → k < length xs → slice_index xs k < 2 ^ 32) → list_all (λ u. nat_lt u (2 ^ 32)) xs
+    ≡ true
 all_low [] low = refl
-all_low (x ∷ xs) low = and_from _ _ (lt-ltb _ _ (low 0 (omega arith))) (all_low xs (λ k l. low (suc k) (omega (arith, l))))
+all_low (x ∷ xs) low = and_from _ _ (lt-ltb _ _ (low 0 (omega arith)))
+    (all_low xs (λ k l. low (suc k) (omega (arith, l))))
 
 pub certified : (wish : Wish) (plan : Plan) (settings : Settings) (net : Network) (cert : Lists) → IsSomeLayout plan
-    → IsNetOf (layout_of plan) (old_lengths plan) (wish plan) settings net → IsWithinBounds net → tangle_number net ≤ MAX_TANGLE
+    → IsNetOf (layout_of plan) (old_lengths plan) (wish plan) settings net → IsWithinBounds net
+    → tangle_number net ≤ MAX_TANGLE
     → IsSolution net (certificate_of cert) → IsCertified wish plan settings cert
 certified wish plan settings net cert is of_layout bounds untangled solved = record {
   lengths = record {
@@ -73,7 +81,8 @@ certified wish plan settings net cert is of_layout bounds untangled solved = rec
     of_layout = of_layout;
     untangled = untangled;
     count = solved.accepted.count;
-    opposite = (balance_law (layout_of plan) (old_lengths plan) (wish plan) settings net (laid_of plan is) of_layout (entries cert.x)).0 solved.accepted.admissible.balanced;
+    opposite = (balance_law (layout_of plan) (old_lengths plan) (wish plan) settings net (laid_of plan is) of_layout
+        (entries cert.x)).0 solved.accepted.admissible.balanced;
     least = sound net (certificate_of cert) bounds solved.accepted;
     writable = record { ups = ups; allowed = allowed };
   };
@@ -87,7 +96,8 @@ certified wish plan settings net cert is of_layout bounds untangled solved = rec
     low = all_low cert.up (λ k l. omega (
       arith,
       solved.small.sets,
-      up_low _ (length cert.z) k (slice_index cert.up k) (solved.accepted.yes.nested.later k (omega (arith, l, solved.accepted.yes.nested.entries))),
+      up_low _ (length cert.z) k (slice_index cert.up k)
+          (solved.accepted.yes.nested.later k (omega (arith, l, solved.accepted.yes.nested.entries))),
     ))
 
     vertices : List CertLine
@@ -102,16 +112,20 @@ certified wish plan settings net cert is of_layout bounds untangled solved = rec
     allowed : list_all (may_stand false) ((arcs ++ vertices) ++ sets) ≡ true
     allowed = list_all-append (may_stand false) (arcs ++ vertices) sets ∙ and_from _ _
         (list_all-append (may_stand false) arcs vertices ∙ and_from _ _ (lengths_stand cert.x solved.lengths.small)
-        (numbered_stand lines.Vertex (λ z u. refl) cert.y (take (length cert.y) cert.up) solved.small.small_y (all_take _ (length cert.y) cert.up low)))
-        (numbered_stand lines.Set (λ z u. refl) cert.z (drop (length cert.y) cert.up) solved.small.small_z (all_drop _ (length cert.y) cert.up low))
+        (numbered_stand lines.Vertex (λ z u. refl) cert.y (take (length cert.y) cert.up) solved.small.small_y
+        (all_take _ (length cert.y) cert.up low)))
+        (numbered_stand lines.Set (λ z u. refl) cert.z (drop (length cert.y) cert.up) solved.small.small_z
+        (all_drop _ (length cert.y) cert.up low))
 
 -- The lengths of a certificate that can be written are not too great.
-standing_short : (xs : List ℕ) → list_all (may_stand false) (map lines.Length xs) ≡ true → (k : ℕ) → k < length xs → slice_index xs k ≤ MAX_LENGTH
+standing_short : (xs : List ℕ) → list_all (may_stand false) (map lines.Length xs) ≡ true → (k : ℕ) → k < length xs
+    → slice_index xs k ≤ MAX_LENGTH
 standing_short [] all k l = absurd (omega (arith, l))
 standing_short (x ∷ xs) all zero l = leb-true x MAX_LENGTH (and_parts _ _ all).0
 standing_short (x ∷ xs) all (suc k) l = standing_short xs (and_parts _ _ all).1 k (omega (arith, l))
 
-pub writable_short : (cert : Lists) → IsWritableCert cert → (k : ℕ) → k < length cert.x → slice_index cert.x k ≤ MAX_LENGTH
+pub writable_short : (cert : Lists) → IsWritableCert cert → (k : ℕ) → k < length cert.x
+    → slice_index cert.x k ≤ MAX_LENGTH
 writable_short cert is = standing_short cert.x (and_parts _ _ both).0
   where
     arcs : List CertLine

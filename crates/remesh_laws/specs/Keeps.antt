@@ -30,8 +30,8 @@ pub record IsNumbered (plan : Plan) (xs : List ℕ) (tables : Tables) : Type 0 w
   pub undoubled : IsUndoubled (layout_of plan) (lengths_in xs)
   pub shape : KeepsShapes plan (lengths_in xs)
 
--- A text that finishes a task of a soup, as accepted certificates show, and is read again as the new mesh where a reader
--- passes over the lines around it.
+-- A text that finishes a task of a soup, as accepted certificates show, and is read again as the new mesh where a
+-- reader passes over the lines around it.
 pub record ShowsTask (task : Task) (soup : FaceSet) (text : Bytes) : Type 0 where
   pub shown : IsShown task soup text
   pub read : IsAside (task.head ++ LINE_FEED ∷ []) → IsAside (lines_between task soup text shown.finished)

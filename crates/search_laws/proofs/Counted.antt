@@ -1,5 +1,6 @@
 -- Each step lessens what is left of a search.
-use Rattle.std.proofs.Common.{◌≡◌, ◌≢◌, ℕ, zero, suc, ◌+◌, ◌*◌, ◌<◌, ◌≤◌, Bool, true, false, cond, eqb, List, length, get_or, Option, Some, ◌⊎◌, refl, sym, ◌∙◌, ap, subst, inl, inr, arith}
+use Rattle.std.proofs.Common.{◌≡◌, ◌≢◌, ℕ, zero, suc, ◌+◌, ◌*◌, ◌<◌, ◌≤◌, Bool, true, false, cond, eqb, List, length}
+use Rattle.std.proofs.Common.{get_or, Option, Some, ◌⊎◌, refl, sym, ◌∙◌, ap, subst, inl, inr, arith}
 use Rattle.std.specs.Prelude.{nat_lt}
 use Rattle.std.proofs.Math.ListN.{set}
 use Rattle.std.proofs.lemmas.List.{length-set, get_or-set_same, get_or-set_other}
@@ -29,7 +30,12 @@ not_outer_low Outside = omega arith
 
 -- No more sets are in use than there are numbers of blossoms.
 sets_low : (n : ℕ) (f : Forest) → sets_of n f ≤ f.size
-sets_low n f = omega (arith, count_below_le (live_at n f.nest.parts) (λ b. 1) f.size (λ b l. one b (nat_lt b n) (eqb (f.nest.parts b) 0)), count_below_ones f.size)
+sets_low n f = omega (
+  arith,
+  count_below_le (live_at n f.nest.parts) (λ b. 1) f.size
+      (λ b l. one b (nat_lt b n) (eqb (f.nest.parts b) 0)),
+  count_below_ones f.size,
+)
   where
     one : (b : ℕ) (p q : Bool) → cond p 0 (cond q 0 1) ≤ 1
     one b true q = omega arith
@@ -46,22 +52,32 @@ times_more w a (suc b) l = by_order (cases_lt a b) (times_more w a b)
 
     by_order : (a < b) ⊎ (b ≤ a) → (a < b → a * w + w ≤ b * w) → a * w + w ≤ suc b * w
     by_order (inl h) more = omega (arith, next, more h)
-    by_order (inr h) more = let e : a ≡ b = omega (arith, h, l) in let same : a * w ≡ b * w = ap (λ x. x * w) e in omega (arith, next, same)
+    by_order (inr h) more = let e : a ≡ b = omega (arith, h, l) in let same : a * w ≡ b * w = ap (λ x. x * w) e in
+        omega (arith, next, same)
 
-fewer_vertices : (n : ℕ) (f new : Forest) → new.size ≡ f.size → vertices_left n new < vertices_left n f → steps_left n new < steps_left n f
+fewer_vertices : (n : ℕ) (f new : Forest) → new.size ≡ f.size → vertices_left n new < vertices_left n f
+    → steps_left n new < steps_left n f
 fewer_vertices n f new size l =
-    let step : vertices_left n new * (f.size + 1) + (f.size + 1) ≤ vertices_left n f * (f.size + 1) = times_more (f.size + 1) (vertices_left n new) (vertices_left n f) l in
+    let step : vertices_left n new * (f.size + 1) + (f.size + 1) ≤ vertices_left n f * (f.size + 1) =
+    times_more (f.size + 1) (vertices_left n new) (vertices_left n f) l in
     let few : sets_of n new ≤ f.size = subst (λ s. sets_of n new ≤ s) size (sets_low n new) in
     subst (λ s. vertices_left n new * (s + 1) + sets_of n new < steps_left n f) (sym size) (omega (arith, step, few))
 
-fewer_sets : (n : ℕ) (f new : Forest) → new.size ≡ f.size → vertices_left n new ≤ vertices_left n f → sets_of n new < sets_of n f → steps_left n new < steps_left n f
-fewer_sets n f new size h l = subst (λ s. vertices_left n new * (s + 1) + sets_of n new < steps_left n f) (sym size) (by_order (cases_lt (vertices_left n new) (vertices_left n f)))
+fewer_sets : (n : ℕ) (f new : Forest) → new.size ≡ f.size → vertices_left n new ≤ vertices_left n f
+    → sets_of n new < sets_of n f → steps_left n new < steps_left n f
+fewer_sets n f new size h l = subst (λ s. vertices_left n new * (s + 1) + sets_of n new < steps_left n f) (sym size)
+    (by_order (cases_lt (vertices_left n new) (vertices_left n f)))
   where
-    by_order : (vertices_left n new < vertices_left n f) ⊎ (vertices_left n f ≤ vertices_left n new) → vertices_left n new * (f.size + 1) + sets_of n new < steps_left n f
+    by_order : (vertices_left n new < vertices_left n f) ⊎ (vertices_left n f ≤ vertices_left n new)
+        → vertices_left n new * (f.size + 1) + sets_of n new < steps_left n f
     by_order (inl lt) = omega (arith, times_more (f.size + 1) (vertices_left n new) (vertices_left n f) lt, l)
-    by_order (inr ge) = let e : vertices_left n new ≡ vertices_left n f = omega (arith, h, ge) in let same : vertices_left n new * (f.size + 1) ≡ vertices_left n f * (f.size + 1) = ap (λ x. x * (f.size + 1)) e in omega (arith, same, l)
+    by_order (inr ge) = let e : vertices_left n new ≡ vertices_left n f = omega (arith, h, ge) in
+        let same : vertices_left n new * (f.size + 1) ≡ vertices_left n f * (f.size + 1) =
+        ap (λ x. x * (f.size + 1)) e in omega (arith, same, l)
 
-module _ (g : WeightedGraph) (is : IsGraph g) (f : Forest) (root : Option ℕ) (valid : IsValid (darts_of g) f root) (d m : ℕ) (off : f.label (f.out (far (darts_of g) d)) ≡ Outside) (mate : f.mate (f.out (far (darts_of g) d)) ≡ Some m) where
+module _ (g : WeightedGraph) (is : IsGraph g) (f : Forest) (root : Option ℕ) (valid : IsValid (darts_of g) f root)
+    (d m : ℕ) (off : f.label (f.out (far (darts_of g) d)) ≡ Outside) (mate : f.mate (f.out (far (darts_of g) d))
+    ≡ Some m) where
   abbrev inn : ℕ
   inn = f.out (far (darts_of g) d)
 
@@ -77,21 +93,31 @@ module _ (g : WeightedGraph) (is : IsGraph g) (f : Forest) (root : Option ℕ) (
   labels : ℕ → Label
   labels = set_at (set_at f.label inn Inner) outer Outer
 
-  now : (w : ℕ) → (f.out w ≡ outer) ⊎ (f.out w ≢ outer) → (f.out w ≡ inn) ⊎ (f.out w ≢ inn) → not_outer (set_at (set_at f.label inn Inner) outer Outer (f.out w)) ≤ not_outer (f.label (f.out w))
-  now w (inl e) y = (let x : not_outer (set_at (set_at f.label inn Inner) outer Outer (f.out w)) ≡ 0 = ap (λ b. not_outer (set_at (set_at f.label inn Inner) outer Outer b)) e ∙ ap not_outer (set_here (set_at f.label inn Inner) outer Outer) in omega (arith, x))
+  now : (w : ℕ) → (f.out w ≡ outer) ⊎ (f.out w ≢ outer) → (f.out w ≡ inn) ⊎ (f.out w ≢ inn)
+      → not_outer (set_at (set_at f.label inn Inner) outer Outer (f.out w)) ≤ not_outer (f.label (f.out w))
+  now w (inl e) y = (let x : not_outer (set_at (set_at f.label inn Inner) outer Outer (f.out w)) ≡ 0 =
+      ap (λ b. not_outer (set_at (set_at f.label inn Inner) outer Outer b)) e
+      ∙ ap not_outer (set_here (set_at f.label inn Inner) outer Outer) in omega (arith, x))
   now w (inr nu) (inl e) =
       let x : not_outer (f.label (f.out w)) ≡ 1 = ap (λ b. not_outer (f.label b)) e ∙ ap not_outer off in
       omega (arith, x, not_outer_low (set_at (set_at f.label inn Inner) outer Outer (f.out w)))
-  now w (inr nu) (inr ni) = let x : not_outer (set_at (set_at f.label inn Inner) outer Outer (f.out w)) ≡ not_outer (f.label (f.out w)) = ap not_outer (set_there (set_at f.label inn Inner) outer (f.out w) Outer nu ∙ set_there f.label inn (f.out w) Inner ni) in omega (arith, x)
+  now w (inr nu) (inr ni) = let x : not_outer (set_at (set_at f.label inn Inner) outer Outer (f.out w))
+      ≡ not_outer (f.label (f.out w)) = ap not_outer (set_there (set_at f.label inn Inner) outer (f.out w) Outer nu
+      ∙ set_there f.label inn (f.out w) Inner ni) in omega (arith, x)
 
   -- A tree that grows.
   pub grown_fewer : steps_left g.n (grown (darts_of g) f d m) < steps_left g.n f
   grown_fewer = fewer_vertices g.n f (grown (darts_of g) f d m) refl
-      (count_below_lt (λ w. not_outer (set_at (set_at f.label inn Inner) outer Outer (f.out w))) (λ w. not_outer (f.label (f.out w))) g.n (far (darts_of g) m) (far_low (darts_of g) (are_darts g is) m pair.tight.low)
+      (count_below_lt (λ w. not_outer (set_at (set_at f.label inn Inner) outer Outer (f.out w)))
+      (λ w. not_outer (f.label (f.out w))) g.n (far (darts_of g) m)
+      (far_low (darts_of g) (are_darts g is) m pair.tight.low)
       (λ w l. now w (cases_eq (f.out w) outer) (cases_eq (f.out w) inn))
-      (let x : not_outer (set_at (set_at f.label inn Inner) outer Outer outer) ≡ 0 = ap not_outer (set_here (set_at f.label inn Inner) outer Outer) in let y : not_outer (f.label outer) ≡ 1 = ap not_outer outer_off in omega (arith, x, y)))
+      (let x : not_outer (set_at (set_at f.label inn Inner) outer Outer outer) ≡ 0 =
+      ap not_outer (set_here (set_at f.label inn Inner) outer Outer) in let y : not_outer (f.label outer) ≡ 1 =
+      ap not_outer outer_off in omega (arith, x, y)))
 
-module _ (g : WeightedGraph) (is : IsGraph g) (f new : Forest) (root after : Option ℕ) (d : ℕ) (valid : IsValid (darts_of g) f root) (s : IsShrinking (darts_of g) f new root after d) where
+module _ (g : WeightedGraph) (is : IsGraph g) (f new : Forest) (root after : Option ℕ) (d : ℕ)
+    (valid : IsValid (darts_of g) f root) (s : IsShrinking (darts_of g) f new root after d) where
   -- Some blossom on the cycle is inner.
   inner_on_cycle : (x : ℕ) × (s.inside x ≡ true) × (f.label x ≡ Inner)
   inner_on_cycle = by_label (on_cycle g is f new root after d valid s second (s.row.marked 1))
@@ -106,38 +132,56 @@ module _ (g : WeightedGraph) (is : IsGraph g) (f new : Forest) (root after : Opt
       by_outer (inl e) = absurd (not_top (e ∙ s.cycle.root_top (ap s.inside (sym e) ∙ s.row.marked 1)))
       by_outer (inr w) = (f.out (far (darts_of g) w.0), s.cycle.mates second w.0 (s.row.marked 1) not_top w.1, w.2)
 
-      by_label : (f.label second ≡ Outer) ⊎ (f.label second ≡ Inner) → (x : ℕ) × (s.inside x ≡ true) × (f.label x ≡ Inner)
+      by_label : (f.label second ≡ Outer) ⊎ (f.label second ≡ Inner) → (x : ℕ) × (s.inside x ≡ true)
+          × (f.label x ≡ Inner)
       by_label (inl outer) = by_outer (s.tree.outer second outer)
       by_label (inr inner) = (second, s.row.marked 1, inner)
 
   now_outer : (w : ℕ) → w < g.n → s.inside (f.out w) ≡ true → not_outer (new.label (new.out w)) ≡ 0
-  now_outer w l on = ap (λ b. not_outer (new.label b)) (shrunk_on g is f new root after d valid s w l on) ∙ ap not_outer (shrunk_set g is f new root after d valid s)
+  now_outer w l on = ap (λ b. not_outer (new.label b)) (shrunk_on g is f new root after d valid s w l on)
+      ∙ ap not_outer (shrunk_set g is f new root after d valid s)
 
-  each : (w : ℕ) → w < g.n → (s.inside (f.out w) ≡ true) ⊎ (s.inside (f.out w) ≡ false) → not_outer (new.label (new.out w)) ≤ not_outer (f.label (f.out w))
+  each : (w : ℕ) → w < g.n → (s.inside (f.out w) ≡ true) ⊎ (s.inside (f.out w) ≡ false)
+      → not_outer (new.label (new.out w)) ≤ not_outer (f.label (f.out w))
   each w l (inl on) = omega (arith, now_outer w l on)
-  each w l (inr off) = let e : not_outer (new.label (new.out w)) ≡ not_outer (f.label (f.out w)) = ap (λ b. not_outer (new.label b)) (shrunk_off g is f new root after d valid s w l off) ∙ ap not_outer (shrunk_label g is f new root after d valid s (f.out w) (s.unused.no_out w l) off) in omega (arith, e)
+  each w l (inr off) = let e : not_outer (new.label (new.out w)) ≡ not_outer (f.label (f.out w)) =
+      ap (λ b. not_outer (new.label b)) (shrunk_off g is f new root after d valid s w l off)
+      ∙ ap not_outer (shrunk_label g is f new root after d valid s (f.out w) (s.unused.no_out w l) off) in
+      omega (arith, e)
 
   -- A cycle that becomes one blossom.
   pub shrunk_fewer : steps_left g.n new < steps_left g.n f
   shrunk_fewer = by_inner inner_on_cycle
     where
-      by_vertex : (x : ℕ) → s.inside x ≡ true → f.label x ≡ Inner → IsOutermost g.n f x → steps_left g.n new < steps_left g.n f
+      by_vertex : (x : ℕ) → s.inside x ≡ true → f.label x ≡ Inner → IsOutermost g.n f x
+          → steps_left g.n new < steps_left g.n f
       by_vertex x on inner w = fewer_vertices g.n f new s.shrunk.size
-          (count_below_lt (λ v. not_outer (new.label (new.out v))) (λ v. not_outer (f.label (f.out v))) g.n w.0 w.1 (λ v l. each v l (cases_Bool (s.inside (f.out v))))
-          (let y : not_outer (f.label (f.out w.0)) ≡ 1 = ap (λ b. not_outer (f.label b)) w.2 ∙ ap not_outer inner in omega (arith, y, now_outer w.0 w.1 (ap s.inside w.2 ∙ on))))
+          (count_below_lt (λ v. not_outer (new.label (new.out v))) (λ v. not_outer (f.label (f.out v))) g.n w.0 w.1
+          (λ v l. each v l (cases_Bool (s.inside (f.out v))))
+          (let y : not_outer (f.label (f.out w.0)) ≡ 1 = ap (λ b. not_outer (f.label b)) w.2 ∙ ap not_outer inner in
+          omega (arith, y, now_outer w.0 w.1 (ap s.inside w.2 ∙ on))))
 
       by_inner : (x : ℕ) × (s.inside x ≡ true) × (f.label x ≡ Inner) → steps_left g.n new < steps_left g.n f
       by_inner p = by_vertex p.0 p.1 p.2 (valid.outermost.named p.0 (inner_named (f.label p.0) p.2))
 
-module _ (g : WeightedGraph) (is : IsGraph g) (f new : Forest) (r : ℕ) (o : Opening) (valid : IsValid (darts_of g) f (Some r)) (opening : IsOpening (darts_of g) f o) (opened : IsOpened (darts_of g) f new o) where
+module _ (g : WeightedGraph) (is : IsGraph g) (f new : Forest) (r : ℕ) (o : Opening)
+    (valid : IsValid (darts_of g) f (Some r)) (opening : IsOpening (darts_of g) f o)
+    (opened : IsOpened (darts_of g) f new o) where
   -- An inner set that is opened.
   pub opened_fewer : steps_left g.n new < steps_left g.n f
-  opened_fewer = fewer_sets g.n f new opened.size (count_below_le (λ w. not_outer (new.label (new.out w))) (λ w. not_outer (f.label (f.out w))) g.n (λ w l. vertex w l (cases_eq (f.out w) o.b)))
-      (subst (λ s. count_below (live_at g.n new.nest.parts) s < sets_of g.n f) (sym opened.size) (count_below_lt (live_at g.n new.nest.parts) (live_at g.n f.nest.parts) f.size o.b b_low (λ x l. set x (cases_eq x o.b)) here))
+  opened_fewer = fewer_sets g.n f new opened.size (count_below_le (λ w. not_outer (new.label (new.out w)))
+      (λ w. not_outer (f.label (f.out w))) g.n (λ w l. vertex w l (cases_eq (f.out w) o.b)))
+      (subst (λ s. count_below (live_at g.n new.nest.parts) s < sets_of g.n f) (sym opened.size)
+      (count_below_lt (live_at g.n new.nest.parts) (live_at g.n f.nest.parts) f.size o.b b_low
+      (λ x l. set x (cases_eq x o.b)) here))
     where
-      vertex : (w : ℕ) → w < g.n → (f.out w ≡ o.b) ⊎ (f.out w ≢ o.b) → not_outer (new.label (new.out w)) ≤ not_outer (f.label (f.out w))
-      vertex w l (inl e) = let x : not_outer (f.label (f.out w)) ≡ 1 = ap (λ b. not_outer (f.label b)) e ∙ ap not_outer opening.label in omega (arith, x, not_outer_low (new.label (new.out w)))
-      vertex w l (inr ne) = let x : not_outer (new.label (new.out w)) ≡ not_outer (f.label (f.out w)) = ap (λ b. not_outer (new.label b)) (opened_old g is f new r o valid opening opened w l ne) ∙ ap not_outer (opened_label g is f new r o valid opening opened w l ne) in omega (arith, x)
+      vertex : (w : ℕ) → w < g.n → (f.out w ≡ o.b) ⊎ (f.out w ≢ o.b) → not_outer (new.label (new.out w))
+          ≤ not_outer (f.label (f.out w))
+      vertex w l (inl e) = let x : not_outer (f.label (f.out w)) ≡ 1 = ap (λ b. not_outer (f.label b)) e
+          ∙ ap not_outer opening.label in omega (arith, x, not_outer_low (new.label (new.out w)))
+      vertex w l (inr ne) = let x : not_outer (new.label (new.out w)) ≡ not_outer (f.label (f.out w)) =
+          ap (λ b. not_outer (new.label b)) (opened_old g is f new r o valid opening opened w l ne)
+          ∙ ap not_outer (opened_label g is f new r o valid opening opened w l ne) in omega (arith, x)
 
       b_low : o.b < f.size
       b_low = by_vertex (valid.outermost.named o.b (inner_named (f.label o.b) opening.label))
@@ -152,48 +196,79 @@ module _ (g : WeightedGraph) (is : IsGraph g) (f new : Forest) (r : ℕ) (o : Op
           λ none. (valid.nested.live (o.q 0) inner).1 (ap f.nest.parts p.0 ∙ none)
 
       live_is : (parts : ℕ → ℕ) (x : ℕ) → g.n ≤ x → parts x ≢ 0 → live_at g.n parts x ≡ 1
-      live_is parts x h ne = cond-false (nat_lt x g.n) 0 (cond (eqb (parts x) 0) 0 1) (le-ltb x g.n h) ∙ cond-false (eqb (parts x) 0) 0 1 (ne_eqb (parts x) 0 ne)
+      live_is parts x h ne = cond-false (nat_lt x g.n) 0 (cond (eqb (parts x) 0) 0 1) (le-ltb x g.n h)
+          ∙ cond-false (eqb (parts x) 0) 0 1 (ne_eqb (parts x) 0 ne)
 
       none_is : (parts : ℕ → ℕ) (x : ℕ) → g.n ≤ x → parts x ≡ 0 → live_at g.n parts x ≡ 0
-      none_is parts x h e = cond-false (nat_lt x g.n) 0 (cond (eqb (parts x) 0) 0 1) (le-ltb x g.n h) ∙ cond-true (eqb (parts x) 0) 0 1 (eq-eqb (parts x) 0 e)
+      none_is parts x h e = cond-false (nat_lt x g.n) 0 (cond (eqb (parts x) 0) 0 1) (le-ltb x g.n h)
+          ∙ cond-true (eqb (parts x) 0) 0 1 (eq-eqb (parts x) 0 e)
 
       here : live_at g.n new.nest.parts o.b < live_at g.n f.nest.parts o.b
-      here = omega (arith, none_is new.nest.parts o.b opening.high opened.no_parts, live_is f.nest.parts o.b opening.high live)
+      here = omega (
+        arith,
+        none_is new.nest.parts o.b opening.high opened.no_parts,
+        live_is f.nest.parts o.b opening.high live,
+      )
 
       set : (x : ℕ) → (x ≡ o.b) ⊎ (x ≢ o.b) → live_at g.n new.nest.parts x ≤ live_at g.n f.nest.parts x
-      set x (inl e) = let z : live_at g.n new.nest.parts x ≡ 0 = ap (live_at g.n new.nest.parts) e ∙ none_is new.nest.parts o.b opening.high opened.no_parts in omega (arith, z)
-      set x (inr ne) = let z : live_at g.n new.nest.parts x ≡ live_at g.n f.nest.parts x = ap (λ (y : ℕ). cond (nat_lt x g.n) 0 (cond (eqb y 0) 0 1)) (opened.sets x ne).many in omega (arith, z)
+      set x (inl e) = let z : live_at g.n new.nest.parts x ≡ 0 = ap (live_at g.n new.nest.parts) e
+          ∙ none_is new.nest.parts o.b opening.high opened.no_parts in omega (arith, z)
+      set x (inr ne) = let z : live_at g.n new.nest.parts x ≡ live_at g.n f.nest.parts x =
+          ap (λ (y : ℕ). cond (nat_lt x g.n) 0 (cond (eqb y 0) 0 1)) (opened.sets x ne).many in omega (arith, z)
 
 -- Where fewer steps are left, or one leaf less is stale, fewer turns are left.
-stale_low : (g : WeightedGraph) (f : Forest) (risen : ℕ) (keys : List ℕ) (n : ℕ) → count_below (is_stale g f risen keys) n ≤ n
-stale_low g f risen keys n = omega (arith, count_below_le (is_stale g f risen keys) (λ k. 1) n (λ k l. one (eqb (get_or keys k 0) (true_key g f risen k))), count_below_ones n)
+stale_low : (g : WeightedGraph) (f : Forest) (risen : ℕ) (keys : List ℕ) (n : ℕ)
+    → count_below (is_stale g f risen keys) n ≤ n
+stale_low g f risen keys n =
+    omega (
+      arith,
+      count_below_le (is_stale g f risen keys) (λ k. 1) n
+          (λ k l. one (eqb (get_or keys k 0) (true_key g f risen k))),
+      count_below_ones n,
+    )
   where
     one : (p : Bool) → cond p 0 1 ≤ 1
     one true = omega arith
     one false = omega arith
 
-pub fewer_turns : (g : WeightedGraph) (f new : Forest) (risen after : ℕ) (old keys : List ℕ) → length keys ≡ length old → steps_left g.n new < steps_left g.n f → turns_left g new after keys < turns_left g f risen old
-fewer_turns g f new risen after old keys size l = subst (λ n. steps_left g.n new * (n + 1) + count_below (is_stale g new after keys) n < turns_left g f risen old) (sym size)
-    (omega (arith, times_more (length old + 1) (steps_left g.n new) (steps_left g.n f) l, stale_low g new after keys (length old)))
+pub fewer_turns : (g : WeightedGraph) (f new : Forest) (risen after : ℕ) (old keys : List ℕ) → length keys ≡ length old
+    → steps_left g.n new < steps_left g.n f → turns_left g new after keys < turns_left g f risen old
+fewer_turns g f new risen after old keys size l =
+    subst (λ n. steps_left g.n new * (n + 1) + count_below (is_stale g new after keys) n < turns_left g f risen old)
+    (sym size)
+    (omega (
+      arith,
+      times_more (length old + 1) (steps_left g.n new) (steps_left g.n f) l,
+      stale_low g new after keys (length old),
+    ))
 
-pub fewer_stale : (g : WeightedGraph) (f : Forest) (risen leaf : ℕ) (keys new : List ℕ) → leaf < length keys → get_or keys leaf 0 ≢ true_key g f risen leaf → new ≡ set keys leaf (true_key g f risen leaf) → turns_left g f risen new < turns_left g f risen keys
+pub fewer_stale : (g : WeightedGraph) (f : Forest) (risen leaf : ℕ) (keys new : List ℕ) → leaf < length keys
+    → get_or keys leaf 0 ≢ true_key g f risen leaf → new ≡ set keys leaf (true_key g f risen leaf)
+    → turns_left g f risen new < turns_left g f risen keys
 fewer_stale g f risen leaf keys new l ne is =
     let size : length new ≡ length keys = ap length is ∙ length-set keys leaf (true_key g f risen leaf) in
-    subst (λ n. steps_left g.n f * (n + 1) + count_below (is_stale g f risen new) n < turns_left g f risen keys) (sym size)
-    (let less : count_below (is_stale g f risen new) (length keys) < count_below (is_stale g f risen keys) (length keys) = count_below_lt (is_stale g f risen new) (is_stale g f risen keys) (length keys) leaf l (λ k lk. each k (cases_eq k leaf)) here in omega (arith, less))
+    subst (λ n. steps_left g.n f * (n + 1) + count_below (is_stale g f risen new) n < turns_left g f risen keys)
+    (sym size)
+    (let less : count_below (is_stale g f risen new) (length keys) < count_below (is_stale g f risen keys)
+    (length keys) = count_below_lt (is_stale g f risen new) (is_stale g f risen keys) (length keys) leaf l
+    (λ k lk. each k (cases_eq k leaf)) here in omega (arith, less))
   where
     right : get_or new leaf 0 ≡ true_key g f risen leaf
     right = ap (λ xs. get_or xs leaf 0) is ∙ get_or-set_same keys leaf (true_key g f risen leaf) 0 l
 
     none : is_stale g f risen new leaf ≡ 0
-    none = cond-true (eqb (get_or new leaf 0) (true_key g f risen leaf)) 0 1 (eq-eqb (get_or new leaf 0) (true_key g f risen leaf) right)
+    none = cond-true (eqb (get_or new leaf 0) (true_key g f risen leaf)) 0 1
+        (eq-eqb (get_or new leaf 0) (true_key g f risen leaf) right)
 
     one : is_stale g f risen keys leaf ≡ 1
-    one = cond-false (eqb (get_or keys leaf 0) (true_key g f risen leaf)) 0 1 (ne_eqb (get_or keys leaf 0) (true_key g f risen leaf) ne)
+    one = cond-false (eqb (get_or keys leaf 0) (true_key g f risen leaf)) 0 1
+        (ne_eqb (get_or keys leaf 0) (true_key g f risen leaf) ne)
 
     here : is_stale g f risen new leaf < is_stale g f risen keys leaf
     here = omega (arith, none, one)
 
     each : (k : ℕ) → (k ≡ leaf) ⊎ (k ≢ leaf) → is_stale g f risen new k ≤ is_stale g f risen keys k
     each k (inl e) = let z : is_stale g f risen new k ≡ 0 = ap (is_stale g f risen new) e ∙ none in omega (arith, z)
-    each k (inr nk) = let same : is_stale g f risen new k ≡ is_stale g f risen keys k = ap (λ x. cond (eqb x (true_key g f risen k)) 0 1) (ap (λ xs. get_or xs k 0) is ∙ get_or-set_other keys leaf k (true_key g f risen leaf) 0 nk) in omega (arith, same)
+    each k (inr nk) = let same : is_stale g f risen new k ≡ is_stale g f risen keys k =
+        ap (λ x. cond (eqb x (true_key g f risen k)) 0 1) (ap (λ xs. get_or xs k 0) is
+        ∙ get_or-set_other keys leaf k (true_key g f risen leaf) 0 nk) in omega (arith, same)

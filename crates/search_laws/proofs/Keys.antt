@@ -1,5 +1,6 @@
 -- Keys do not change with a shift, and what they say is lawful.
-use Rattle.std.proofs.Common.{◌≡◌, ◌≢◌, ℕ, ◌+◌, ◌-◌, ◌*◌, ◌/◌, ◌%◌, ◌<◌, ◌≤◌, Bool, true, false, eqb, length, ℤ, pos, ◌+ℤ◌, ◌-ℤ◌, ◌*ℤ◌, ◌≤ℤ◌, ◌⊎◌, refl, sym, ◌∙◌, ap, subst, inl, inr, arith}
+use Rattle.std.proofs.Common.{◌≡◌, ◌≢◌, ℕ, ◌+◌, ◌-◌, ◌*◌, ◌/◌, ◌%◌, ◌<◌, ◌≤◌, Bool, true, false, eqb, length, ℤ, pos}
+use Rattle.std.proofs.Common.{◌+ℤ◌, ◌-ℤ◌, ◌*ℤ◌, ◌≤ℤ◌, ◌⊎◌, refl, sym, ◌∙◌, ap, subst, inl, inr, arith}
 use Rattle.std.specs.Int.RustNames.{unsigned_abs}
 use Rattle.std.specs.Prelude.{nat_lt}
 use Rattle.std.proofs.lemmas.Int.{ints}
@@ -29,24 +30,34 @@ edge_key_low Outside Inner same slack risen = omega arith
 edge_key_low Outside Outside same slack risen = omega arith
 
 -- The key of an edge, and that of a set.
-pub at_edge : (g : WeightedGraph) (f : Forest) (risen k : ℕ) → k < length g.edges → true_key g f risen k ≡ edge_key g f risen k
-at_edge g f risen k l = cond-true (nat_lt k (length g.edges)) (edge_key g f risen k) (set_key f risen (set_of g k)) (lt-ltb k (length g.edges) l)
+pub at_edge : (g : WeightedGraph) (f : Forest) (risen k : ℕ) → k < length g.edges → true_key g f risen k
+    ≡ edge_key g f risen k
+at_edge g f risen k l = cond-true (nat_lt k (length g.edges)) (edge_key g f risen k) (set_key f risen (set_of g k))
+    (lt-ltb k (length g.edges) l)
 
-pub at_set : (g : WeightedGraph) (f : Forest) (risen k : ℕ) → length g.edges ≤ k → true_key g f risen k ≡ set_key f risen (set_of g k)
-at_set g f risen k h = cond-false (nat_lt k (length g.edges)) (edge_key g f risen k) (set_key f risen (set_of g k)) (le-ltb k (length g.edges) h)
+pub at_set : (g : WeightedGraph) (f : Forest) (risen k : ℕ) → length g.edges ≤ k → true_key g f risen k
+    ≡ set_key f risen (set_of g k)
+at_set g f risen k h = cond-false (nat_lt k (length g.edges)) (edge_key g f risen k) (set_key f risen (set_of g k))
+    (le-ltb k (length g.edges) h)
 
 pub set_leaf : (g : WeightedGraph) (b : ℕ) → g.n ≤ b → set_of g (leaf_of g b) ≡ b
 set_leaf g b h = omega (arith, h)
 
 -- The slack of each edge is at least 0.
-pub slack_high : (g : WeightedGraph) (f : Forest) (e : ℕ) → IsFeasible (darts_of g) f → e < length g.edges → pos 0 ≤ℤ slack_of g f e
+pub slack_high : (g : WeightedGraph) (f : Forest) (e : ℕ) → IsFeasible (darts_of g) f → e < length g.edges
+    → pos 0 ≤ℤ slack_of g f e
 slack_high g f e feasible l =
-    let low_load : weight_between f ((darts_of g).near (2 * e)) (far (darts_of g) (2 * e)) ≤ℤ ((darts_of g).cost (2 * e) +ℤ (darts_of g).cost (2 * e)) = feasible.darts (2 * e) (omega (arith, l)) in
-    let same : weight_between f ((darts_of g).near (2 * e)) (far (darts_of g) (2 * e)) ≡ weight_between f (edge_at g e).u (edge_at g e).v = ap (λ u. weight_between f u (far (darts_of g) (2 * e))) (dart_near g e) ∙ ap (weight_between f (edge_at g e).u) (dart_far g e) in
+    let low_load : weight_between f ((darts_of g).near (2 * e)) (far (darts_of g) (2 * e)) ≤ℤ
+    ((darts_of g).cost (2 * e) +ℤ (darts_of g).cost (2 * e)) = feasible.darts (2 * e) (omega (arith, l)) in
+    let same : weight_between f ((darts_of g).near (2 * e)) (far (darts_of g) (2 * e))
+    ≡ weight_between f (edge_at g e).u (edge_at g e).v =
+    ap (λ u. weight_between f u (far (darts_of g) (2 * e))) (dart_near g e)
+    ∙ ap (weight_between f (edge_at g e).u) (dart_far g e) in
     omega (arith, ints, low_load, same, dart_cost g e)
 
 -- Where no edge's load is above twice its cost, no dart's is.
-pub darts_low : (g : WeightedGraph) (f : Forest) → ((e : ℕ) → e < length g.edges → pos 0 ≤ℤ slack_of g f e) → (d : ℕ) → d < 2 * length g.edges
+pub darts_low : (g : WeightedGraph) (f : Forest) → ((e : ℕ) → e < length g.edges → pos 0 ≤ℤ slack_of g f e) → (d : ℕ)
+    → d < 2 * length g.edges
     → weight_between f ((darts_of g).near d) (far (darts_of g) d) ≤ℤ ((darts_of g).cost d +ℤ (darts_of g).cost d)
 darts_low g f slacks d l = by_parity (cases_eq (d % 2) 0)
   where
@@ -56,22 +67,32 @@ darts_low g f slacks d l = by_parity (cases_eq (d % 2) 0)
     le : d / 2 < length g.edges
     le = omega (arith, l)
 
-    at_u : (darts_of g).near d ≡ (edge_at g (d / 2)).u → far (darts_of g) d ≡ (edge_at g (d / 2)).v → weight_between f ((darts_of g).near d) (far (darts_of g) d) ≤ℤ ((darts_of g).cost d +ℤ (darts_of g).cost d)
+    at_u : (darts_of g).near d ≡ (edge_at g (d / 2)).u → far (darts_of g) d ≡ (edge_at g (d / 2)).v
+        → weight_between f ((darts_of g).near d) (far (darts_of g) d) ≤ℤ ((darts_of g).cost d +ℤ (darts_of g).cost d)
     at_u eu ev =
-        let same : weight_between f ((darts_of g).near d) (far (darts_of g) d) ≡ weight_between f (edge_at g (d / 2)).u (edge_at g (d / 2)).v = ap (λ u. weight_between f u (far (darts_of g) d)) eu ∙ ap (weight_between f (edge_at g (d / 2)).u) ev in
+        let same : weight_between f ((darts_of g).near d) (far (darts_of g) d) ≡ weight_between f (edge_at g (d / 2)).u
+        (edge_at g (d / 2)).v = ap (λ u. weight_between f u (far (darts_of g) d)) eu
+        ∙ ap (weight_between f (edge_at g (d / 2)).u) ev in
         omega (arith, ints, same, slacks (d / 2) le)
 
-    at_v : (darts_of g).near d ≡ (edge_at g (d / 2)).v → far (darts_of g) d ≡ (edge_at g (d / 2)).u → weight_between f ((darts_of g).near d) (far (darts_of g) d) ≤ℤ ((darts_of g).cost d +ℤ (darts_of g).cost d)
+    at_v : (darts_of g).near d ≡ (edge_at g (d / 2)).v → far (darts_of g) d ≡ (edge_at g (d / 2)).u
+        → weight_between f ((darts_of g).near d) (far (darts_of g) d) ≤ℤ ((darts_of g).cost d +ℤ (darts_of g).cost d)
     at_v eu ev =
-        let same : weight_between f ((darts_of g).near d) (far (darts_of g) d) ≡ weight_between f (edge_at g (d / 2)).v (edge_at g (d / 2)).u = ap (λ u. weight_between f u (far (darts_of g) d)) eu ∙ ap (weight_between f (edge_at g (d / 2)).v) ev in
+        let same : weight_between f ((darts_of g).near d) (far (darts_of g) d) ≡ weight_between f (edge_at g (d / 2)).v
+        (edge_at g (d / 2)).u = ap (λ u. weight_between f u (far (darts_of g) d)) eu
+        ∙ ap (weight_between f (edge_at g (d / 2)).v) ev in
         omega (arith, ints, same, load_order f (edge_at g (d / 2)).v (edge_at g (d / 2)).u, slacks (d / 2) le)
 
-    by_parity : (d % 2 ≡ 0) ⊎ (d % 2 ≢ 0) → weight_between f ((darts_of g).near d) (far (darts_of g) d) ≤ℤ ((darts_of g).cost d +ℤ (darts_of g).cost d)
-    by_parity (inl even) = at_u (near_even g d (d / 2) (omega (arith, even))) (ap (darts_of g).near (twin_even d even) ∙ near_odd g (d + 1) (d / 2) (omega (arith, even)))
-    by_parity (inr odd) = at_v (near_odd g d (d / 2) (omega (arith, odd))) (ap (darts_of g).near (twin_odd d odd) ∙ near_even g (d - 1) (d / 2) (omega (arith, odd)))
+    by_parity : (d % 2 ≡ 0) ⊎ (d % 2 ≢ 0) → weight_between f ((darts_of g).near d) (far (darts_of g) d) ≤ℤ
+        ((darts_of g).cost d +ℤ (darts_of g).cost d)
+    by_parity (inl even) = at_u (near_even g d (d / 2) (omega (arith, even))) (ap (darts_of g).near (twin_even d even)
+        ∙ near_odd g (d + 1) (d / 2) (omega (arith, even)))
+    by_parity (inr odd) = at_v (near_odd g d (d / 2) (omega (arith, odd))) (ap (darts_of g).near (twin_odd d odd)
+        ∙ near_even g (d - 1) (d / 2) (omega (arith, odd)))
 
 -- Where the dual may rise by x, the change at both ends of an edge is at most its slack.
-edge_room : (a b : Label) (slack risen x : ℕ) → risen + x ≤ edge_key_by a b false slack risen → (weight_change a (pos x) +ℤ weight_change b (pos x)) ≤ℤ pos slack
+edge_room : (a b : Label) (slack risen x : ℕ) → risen + x ≤ edge_key_by a b false slack risen
+    → (weight_change a (pos x) +ℤ weight_change b (pos x)) ≤ℤ pos slack
 edge_room Outer Outer slack risen x l = omega (arith, ints, l)
 edge_room Outer Outside slack risen x l = omega (arith, ints, l)
 edge_room Outside Outer slack risen x l = omega (arith, ints, l)
@@ -82,25 +103,30 @@ edge_room Inner Outside slack risen x l = omega (arith, ints)
 edge_room Outside Inner slack risen x l = omega (arith, ints)
 edge_room Outside Outside slack risen x l = omega (arith, ints)
 
-set_room : (l : Label) (w : ℤ) (risen x : ℕ) → pos 0 ≤ℤ w → risen + x ≤ set_key_by l w risen → pos 0 ≤ℤ (w +ℤ weight_change l (pos x))
+set_room : (l : Label) (w : ℤ) (risen x : ℕ) → pos 0 ≤ℤ w → risen + x ≤ set_key_by l w risen
+    → pos 0 ≤ℤ (w +ℤ weight_change l (pos x))
 set_room Outer w risen x h l = omega (arith, ints, h)
 set_room Outside w risen x h l = omega (arith, ints, h)
 set_room Inner w risen x h l = omega (arith, ints, h, l)
 
 -- A shift changes no key.
-edge_same : (a b : Label) (slack new risen x : ℕ) → risen + x ≤ edge_key_by a b false slack risen → (pos new ≡ pos slack -ℤ (weight_change a (pos x) +ℤ weight_change b (pos x))) → edge_key_by a b false new (risen + x) ≡ edge_key_by a b false slack risen
+edge_same : (a b : Label) (slack new risen x : ℕ) → risen + x ≤ edge_key_by a b false slack risen
+    → (pos new ≡ pos slack -ℤ (weight_change a (pos x) +ℤ weight_change b (pos x)))
+    → edge_key_by a b false new (risen + x) ≡ edge_key_by a b false slack risen
 edge_same Outer Outer slack new risen x l e = omega (arith, ints, l, e)
 edge_same Outer Outside slack new risen x l e = omega (arith, ints, l, e)
 edge_same Outside Outer slack new risen x l e = omega (arith, ints, l, e)
 edge_same _ _ slack new risen x l e = refl
 
-set_same : (l : Label) (w : ℤ) (risen x : ℕ) → pos 0 ≤ℤ w → risen + x ≤ set_key_by l w risen → set_key_by l (w +ℤ weight_change l (pos x)) (risen + x) ≡ set_key_by l w risen
+set_same : (l : Label) (w : ℤ) (risen x : ℕ) → pos 0 ≤ℤ w → risen + x ≤ set_key_by l w risen
+    → set_key_by l (w +ℤ weight_change l (pos x)) (risen + x) ≡ set_key_by l w risen
 set_same Outer w risen x h l = refl
 set_same Outside w risen x h l = refl
 set_same Inner w risen x h l = omega (arith, ints, h, l)
 
 -- One blossom has one label.
-one_label : (a b : Label) (slack new risen x : ℕ) → a ≡ b → edge_key_by a b true new (risen + x) ≡ edge_key_by a b true slack risen
+one_label : (a b : Label) (slack new risen x : ℕ) → a ≡ b → edge_key_by a b true new (risen + x)
+    ≡ edge_key_by a b true slack risen
 one_label Outer Outer slack new risen x e = refl
 one_label Outer Inner slack new risen x e = refl
 one_label Inner b slack new risen x e = refl
@@ -119,7 +145,8 @@ past_end n f outermost b h = by_label (label_cases (f.label b))
     by_label (inl e) = e
     by_label (inr named) = let w : IsOutermost n f b = outermost.named b named in absurd (low w.0 w.1 w.2)
 
-module _ (g : WeightedGraph) (is : IsGraph g) (f : Forest) (outermost : AreOutermost g.n f) (feasible : IsFeasible (darts_of g) f) (risen x : ℕ) where
+module _ (g : WeightedGraph) (is : IsGraph g) (f : Forest) (outermost : AreOutermost g.n f)
+    (feasible : IsFeasible (darts_of g) f) (risen x : ℕ) where
   module _ (e : ℕ) (le : e < length g.edges) (room : risen + x ≤ true_key g f risen e) where
     u : ℕ
     u = (edge_at g e).u
@@ -127,47 +154,78 @@ module _ (g : WeightedGraph) (is : IsGraph g) (f : Forest) (outermost : AreOuter
     v : ℕ
     v = (edge_at g e).v
 
-    apart_key : f.out (edge_at g e).u ≢ f.out (edge_at g e).v → edge_key g f risen e ≡ edge_key_by (f.label (f.out (edge_at g e).u)) (f.label (f.out (edge_at g e).v)) false (unsigned_abs (slack_of g f e)) risen
-    apart_key ne = ap (λ (s : Bool). edge_key_by (f.label (f.out (edge_at g e).u)) (f.label (f.out (edge_at g e).v)) s (unsigned_abs (slack_of g f e)) risen) (ne_eqb (f.out (edge_at g e).u) (f.out (edge_at g e).v) ne)
+    apart_key : f.out (edge_at g e).u ≢ f.out (edge_at g e).v → edge_key g f risen e
+        ≡ edge_key_by (f.label (f.out (edge_at g e).u)) (f.label (f.out (edge_at g e).v)) false
+        (unsigned_abs (slack_of g f e)) risen
+    apart_key ne = ap (λ (s : Bool). edge_key_by (f.label (f.out (edge_at g e).u)) (f.label (f.out (edge_at g e).v)) s
+        (unsigned_abs (slack_of g f e)) risen) (ne_eqb (f.out (edge_at g e).u) (f.out (edge_at g e).v) ne)
 
     slack_within : f.out (edge_at g e).u ≡ f.out (edge_at g e).v → slack_of g (shifted f (pos x)) e ≡ slack_of g f e
-    slack_within same = ap (λ y. (pos 2 *ℤ (edge_at g e).cost) -ℤ y) (load_within g.n f outermost (pos x) (edge_at g e).u (edge_at g e).v (is.left e le) (is.right e le) same)
+    slack_within same = ap (λ y. (pos 2 *ℤ (edge_at g e).cost) -ℤ y)
+        (load_within g.n f outermost (pos x) (edge_at g e).u (edge_at g e).v (is.left e le) (is.right e le) same)
 
-    slack_apart : f.out (edge_at g e).u ≢ f.out (edge_at g e).v → slack_of g (shifted f (pos x)) e ≡ slack_of g f e -ℤ (weight_change (f.label (f.out (edge_at g e).u)) (pos x) +ℤ weight_change (f.label (f.out (edge_at g e).v)) (pos x))
-    slack_apart ne = omega (arith, ints, load_apart g.n f outermost (pos x) (edge_at g e).u (edge_at g e).v (is.left e le) (is.right e le) ne)
+    slack_apart : f.out (edge_at g e).u ≢ f.out (edge_at g e).v → slack_of g (shifted f (pos x)) e
+        ≡ slack_of g f e -ℤ (weight_change (f.label (f.out (edge_at g e).u)) (pos x) +ℤ weight_change
+        (f.label (f.out (edge_at g e).v)) (pos x))
+    slack_apart ne = omega (
+      arith,
+      ints,
+      load_apart g.n f outermost (pos x) (edge_at g e).u (edge_at g e).v
+          (is.left e le) (is.right e le) ne,
+    )
 
-    room_apart : f.out (edge_at g e).u ≢ f.out (edge_at g e).v → risen + x ≤ edge_key_by (f.label (f.out (edge_at g e).u)) (f.label (f.out (edge_at g e).v)) false (unsigned_abs (slack_of g f e)) risen
+    room_apart : f.out (edge_at g e).u ≢ f.out (edge_at g e).v
+        → risen + x ≤ edge_key_by (f.label (f.out (edge_at g e).u)) (f.label (f.out (edge_at g e).v)) false
+        (unsigned_abs (slack_of g f e)) risen
     room_apart ne = subst (λ y. risen + x ≤ y) (at_edge g f risen e le ∙ apart_key ne) room
 
     edge_lawful : pos 0 ≤ℤ slack_of g (shifted f (pos x)) e
     edge_lawful = by_ends (cases_eq (f.out (edge_at g e).u) (f.out (edge_at g e).v))
       where
-        by_ends : (f.out (edge_at g e).u ≡ f.out (edge_at g e).v) ⊎ (f.out (edge_at g e).u ≢ f.out (edge_at g e).v) → pos 0 ≤ℤ slack_of g (shifted f (pos x)) e
+        by_ends : (f.out (edge_at g e).u ≡ f.out (edge_at g e).v) ⊎ (f.out (edge_at g e).u ≢ f.out (edge_at g e).v)
+            → pos 0 ≤ℤ slack_of g (shifted f (pos x)) e
         by_ends (inl same) = subst (λ y. pos 0 ≤ℤ y) (sym (slack_within same)) (slack_high g f e feasible le)
         by_ends (inr ne) =
-            let more : (weight_change (f.label (f.out (edge_at g e).u)) (pos x) +ℤ weight_change (f.label (f.out (edge_at g e).v)) (pos x)) ≤ℤ pos (unsigned_abs (slack_of g f e)) =
-            edge_room (f.label (f.out (edge_at g e).u)) (f.label (f.out (edge_at g e).v)) (unsigned_abs (slack_of g f e)) risen x (room_apart ne) in
+            let more : (weight_change (f.label (f.out (edge_at g e).u)) (pos x) +ℤ weight_change
+            (f.label (f.out (edge_at g e).v)) (pos x)) ≤ℤ pos (unsigned_abs (slack_of g f e)) =
+            edge_room (f.label (f.out (edge_at g e).u)) (f.label (f.out (edge_at g e).v))
+            (unsigned_abs (slack_of g f e)) risen x (room_apart ne) in
             omega (arith, ints, more, slack_apart ne, slack_high g f e feasible le)
 
     edge_key_same : edge_key g (shifted f (pos x)) (risen + x) e ≡ edge_key g f risen e
     edge_key_same = by_ends (cases_eq (f.out (edge_at g e).u) (f.out (edge_at g e).v))
       where
-        by_ends : (f.out (edge_at g e).u ≡ f.out (edge_at g e).v) ⊎ (f.out (edge_at g e).u ≢ f.out (edge_at g e).v) → edge_key g (shifted f (pos x)) (risen + x) e ≡ edge_key g f risen e
+        by_ends : (f.out (edge_at g e).u ≡ f.out (edge_at g e).v) ⊎ (f.out (edge_at g e).u ≢ f.out (edge_at g e).v)
+            → edge_key g (shifted f (pos x)) (risen + x) e ≡ edge_key g f risen e
         by_ends (inl same) =
-            let on : eqb (f.out (edge_at g e).u) (f.out (edge_at g e).v) ≡ true = eq-eqb (f.out (edge_at g e).u) (f.out (edge_at g e).v) same in
-            ap (λ (s : Bool). edge_key_by (f.label (f.out (edge_at g e).u)) (f.label (f.out (edge_at g e).v)) s (unsigned_abs (slack_of g (shifted f (pos x)) e)) (risen + x)) on
-            ∙ (one_label (f.label (f.out (edge_at g e).u)) (f.label (f.out (edge_at g e).v)) (unsigned_abs (slack_of g f e)) (unsigned_abs (slack_of g (shifted f (pos x)) e)) risen x (ap f.label same)
-            ∙ ap (λ (s : Bool). edge_key_by (f.label (f.out (edge_at g e).u)) (f.label (f.out (edge_at g e).v)) s (unsigned_abs (slack_of g f e)) risen) (sym on))
+            let on : eqb (f.out (edge_at g e).u) (f.out (edge_at g e).v) ≡ true =
+            eq-eqb (f.out (edge_at g e).u) (f.out (edge_at g e).v) same in
+            ap (λ (s : Bool). edge_key_by (f.label (f.out (edge_at g e).u)) (f.label (f.out (edge_at g e).v)) s
+            (unsigned_abs (slack_of g (shifted f (pos x)) e)) (risen + x)) on
+            ∙ (one_label (f.label (f.out (edge_at g e).u)) (f.label (f.out (edge_at g e).v))
+            (unsigned_abs (slack_of g f e)) (unsigned_abs (slack_of g (shifted f (pos x)) e)) risen x
+            (ap f.label same)
+            ∙ ap (λ (s : Bool). edge_key_by (f.label (f.out (edge_at g e).u)) (f.label (f.out (edge_at g e).v)) s
+            (unsigned_abs (slack_of g f e)) risen) (sym on))
         by_ends (inr ne) =
-            let off : eqb (f.out (edge_at g e).u) (f.out (edge_at g e).v) ≡ false = ne_eqb (f.out (edge_at g e).u) (f.out (edge_at g e).v) ne in
-            let moved : pos (unsigned_abs (slack_of g (shifted f (pos x)) e)) ≡ pos (unsigned_abs (slack_of g f e)) -ℤ (weight_change (f.label (f.out (edge_at g e).u)) (pos x) +ℤ weight_change (f.label (f.out (edge_at g e).v)) (pos x)) = omega (arith, ints, slack_apart ne, slack_high g f e feasible le, edge_lawful) in
-            ap (λ (s : Bool). edge_key_by (f.label (f.out (edge_at g e).u)) (f.label (f.out (edge_at g e).v)) s (unsigned_abs (slack_of g (shifted f (pos x)) e)) (risen + x)) off
-            ∙ (edge_same (f.label (f.out (edge_at g e).u)) (f.label (f.out (edge_at g e).v)) (unsigned_abs (slack_of g f e)) (unsigned_abs (slack_of g (shifted f (pos x)) e)) risen x (room_apart ne) moved
+            let off : eqb (f.out (edge_at g e).u) (f.out (edge_at g e).v) ≡ false =
+            ne_eqb (f.out (edge_at g e).u) (f.out (edge_at g e).v) ne in
+            let moved : pos (unsigned_abs (slack_of g (shifted f (pos x)) e)) ≡ pos (unsigned_abs (slack_of g f e)) -ℤ
+            (weight_change (f.label (f.out (edge_at g e).u)) (pos x) +ℤ weight_change
+            (f.label (f.out (edge_at g e).v)) (pos x)) =
+            omega (arith, ints, slack_apart ne, slack_high g f e feasible le, edge_lawful) in
+            ap (λ (s : Bool). edge_key_by (f.label (f.out (edge_at g e).u)) (f.label (f.out (edge_at g e).v)) s
+            (unsigned_abs (slack_of g (shifted f (pos x)) e)) (risen + x)) off
+            ∙ (edge_same (f.label (f.out (edge_at g e).u)) (f.label (f.out (edge_at g e).v))
+            (unsigned_abs (slack_of g f e)) (unsigned_abs (slack_of g (shifted f (pos x)) e)) risen x
+            (room_apart ne) moved
             ∙ sym (apart_key ne))
 
-  module _ (most : ℕ) (sets : length g.edges + (f.size - g.n) ≤ most) (room : (k : ℕ) → k < most → risen + x ≤ true_key g f risen k) where
+  module _ (most : ℕ) (sets : length g.edges + (f.size - g.n) ≤ most) (room : (k : ℕ) → k < most
+      → risen + x ≤ true_key g f risen k) where
     set_room_at : (b : ℕ) → g.n ≤ b → b < f.size → risen + x ≤ set_key f risen b
-    set_room_at b h l = subst (λ y. risen + x ≤ y) (at_set g f risen (leaf_of g b) (omega arith) ∙ ap (set_key f risen) (set_leaf g b h)) (room (leaf_of g b) (omega (arith, h, l, sets)))
+    set_room_at b h l = subst (λ y. risen + x ≤ y) (at_set g f risen (leaf_of g b) (omega arith)
+        ∙ ap (set_key f risen) (set_leaf g b h)) (room (leaf_of g b) (omega (arith, h, l, sets)))
 
     -- The dual may rise up to the least key.
     pub lawful : IsFeasible (darts_of g) (shifted f (pos x))
@@ -180,10 +238,16 @@ module _ (g : WeightedGraph) (is : IsGraph g) (f : Forest) (outermost : AreOuter
     pub keys_same : (k : ℕ) → k < most → true_key g (shifted f (pos x)) (risen + x) k ≡ true_key g f risen k
     keys_same k l = by_leaf (cases_lt k (length g.edges))
       where
-        set_same_at : (b : ℕ) → g.n ≤ b → (b < f.size) ⊎ (f.size ≤ b) → set_key (shifted f (pos x)) (risen + x) b ≡ set_key f risen b
+        set_same_at : (b : ℕ) → g.n ≤ b → (b < f.size) ⊎ (f.size ≤ b) → set_key (shifted f (pos x)) (risen + x) b
+            ≡ set_key f risen b
         set_same_at b h (inl lb) = set_same (f.label b) (f.weight b) risen x (feasible.sets b h lb) (set_room_at b h lb)
-        set_same_at b h (inr hb) = ap (λ (y : Label). set_key_by y (f.weight b +ℤ weight_change y (pos x)) (risen + x)) (past_end g.n f outermost b hb) ∙ ap (λ (y : Label). set_key_by y (f.weight b) risen) (sym (past_end g.n f outermost b hb))
+        set_same_at b h (inr hb) = ap (λ (y : Label). set_key_by y (f.weight b +ℤ weight_change y (pos x)) (risen + x))
+            (past_end g.n f outermost b hb) ∙ ap (λ (y : Label). set_key_by y (f.weight b) risen)
+            (sym (past_end g.n f outermost b hb))
 
-        by_leaf : (k < length g.edges) ⊎ (length g.edges ≤ k) → true_key g (shifted f (pos x)) (risen + x) k ≡ true_key g f risen k
-        by_leaf (inl le) = at_edge g (shifted f (pos x)) (risen + x) k le ∙ (edge_key_same k le (room k l) ∙ sym (at_edge g f risen k le))
-        by_leaf (inr he) = at_set g (shifted f (pos x)) (risen + x) k he ∙ (set_same_at (set_of g k) (omega arith) (cases_lt (set_of g k) f.size) ∙ sym (at_set g f risen k he))
+        by_leaf : (k < length g.edges) ⊎ (length g.edges ≤ k) → true_key g (shifted f (pos x)) (risen + x) k
+            ≡ true_key g f risen k
+        by_leaf (inl le) = at_edge g (shifted f (pos x)) (risen + x) k le
+            ∙ (edge_key_same k le (room k l) ∙ sym (at_edge g f risen k le))
+        by_leaf (inr he) = at_set g (shifted f (pos x)) (risen + x) k he
+            ∙ (set_same_at (set_of g k) (omega arith) (cases_lt (set_of g k) f.size) ∙ sym (at_set g f risen k he))

@@ -1,5 +1,7 @@
 -- How far the sum of the weights rises, and so how large keys and weights are.
-use Rattle.std.proofs.Common.{◌≡◌, ℕ, zero, suc, ◌+◌, ◌-◌, ◌*◌, ◌/◌, ap, ◌∙◌, ◌<◌, ◌≤◌, Bool, false, eqb, List, [], ◌∷◌, length, map, Option, Some, ℤ, pos, ◌+ℤ◌, ◌*ℤ◌, ◌≤ℤ◌, ◌⊎◌, refl, sym, subst, inl, inr, arith}
+use Rattle.std.proofs.Common.{◌≡◌, ℕ, zero, suc, ◌+◌, ◌-◌, ◌*◌, ◌/◌, ap, ◌∙◌, ◌<◌, ◌≤◌, Bool, false, eqb, List, [], ◌∷◌}
+use Rattle.std.proofs.Common.{length, map, Option, Some, ℤ, pos, ◌+ℤ◌, ◌*ℤ◌, ◌≤ℤ◌, ◌⊎◌, refl, sym, subst, inl, inr}
+use Rattle.std.proofs.Common.{arith}
 use Rattle.std.specs.Int.RustNames.{unsigned_abs}
 use Rattle.std.proofs.lemmas.Int.{ints}
 use Rattle.std.proofs.lemmas.Bool.{cases_lt}
@@ -27,27 +29,33 @@ use Rattle.search_laws.specs.Searches.{IsInRange, first_limit, risen_limit}
 use Rattle.search_laws.proofs.Keys.{at_edge, at_set, lawful}
 
 -- The greatest of some numbers, where the product of each with another is small.
-pub greatest_of : (f : ℕ → ℕ) (n limit k : ℕ) → ((i : ℕ) → i < k → n * f i ≤ limit) → (most : ℕ) × ((i : ℕ) → i < k → f i ≤ most) × (n * most ≤ limit)
+pub greatest_of : (f : ℕ → ℕ) (n limit k : ℕ) → ((i : ℕ) → i < k → n * f i ≤ limit) → (most : ℕ)
+    × ((i : ℕ) → i < k → f i ≤ most) × (n * most ≤ limit)
 greatest_of f n limit zero few = (0, (λ i l. absurd (omega (arith, l))), omega arith)
 greatest_of f n limit (suc k) few = by_rest (greatest_of f n limit k (λ i l. few i (omega (arith, l))))
   where
-    by_order : (most : ℕ) → ((i : ℕ) → i < k → f i ≤ most) → n * most ≤ limit → (f k < most) ⊎ (most ≤ f k) → (more : ℕ) × ((i : ℕ) → i < suc k → f i ≤ more) × (n * more ≤ limit)
+    by_order : (most : ℕ) → ((i : ℕ) → i < k → f i ≤ most) → n * most ≤ limit → (f k < most) ⊎ (most ≤ f k) → (more : ℕ)
+        × ((i : ℕ) → i < suc k → f i ≤ more) × (n * more ≤ limit)
     by_order most each small (inl h) = (most, (λ i l. by_place i (cases_lt i k) l), small)
       where
         by_place : (i : ℕ) → (i < k) ⊎ (k ≤ i) → i < suc k → f i ≤ most
         by_place i (inl lt) l = each i lt
-        by_place i (inr ge) l = let same : i ≡ k = omega (arith, ge, l) in subst (λ x. f x ≤ most) (sym same) (omega (arith, h))
+        by_place i (inr ge) l = let same : i ≡ k = omega (arith, ge, l) in
+            subst (λ x. f x ≤ most) (sym same) (omega (arith, h))
     by_order most each small (inr h) = (f k, (λ i l. by_place i (cases_lt i k) l), few k (omega arith))
       where
         by_place : (i : ℕ) → (i < k) ⊎ (k ≤ i) → i < suc k → f i ≤ f k
         by_place i (inl lt) l = omega (arith, each i lt, h)
-        by_place i (inr ge) l = let same : i ≡ k = omega (arith, ge, l) in subst (λ x. f x ≤ f k) (sym same) (omega arith)
+        by_place i (inr ge) l = let same : i ≡ k = omega (arith, ge, l) in
+            subst (λ x. f x ≤ f k) (sym same) (omega arith)
 
-    by_rest : (most : ℕ) × ((i : ℕ) → i < k → f i ≤ most) × (n * most ≤ limit) → (more : ℕ) × ((i : ℕ) → i < suc k → f i ≤ more) × (n * more ≤ limit)
+    by_rest : (most : ℕ) × ((i : ℕ) → i < k → f i ≤ most) × (n * most ≤ limit) → (more : ℕ)
+        × ((i : ℕ) → i < suc k → f i ≤ more) × (n * more ≤ limit)
     by_rest w = by_order w.0 w.1 w.2 (cases_lt (f k) w.0)
 
 -- A number that bounds all costs.
-pub greatest : (g : WeightedGraph) → IsCheap g → (most : ℕ) × ((e : ℕ) → e < length g.edges → unsigned_abs (edge_at g e).cost ≤ most) × (g.n * most ≤ MAX_PRODUCT)
+pub greatest : (g : WeightedGraph) → IsCheap g → (most : ℕ)
+    × ((e : ℕ) → e < length g.edges → unsigned_abs (edge_at g e).cost ≤ most) × (g.n * most ≤ MAX_PRODUCT)
 greatest g cheap = greatest_of (λ e. unsigned_abs (edge_at g e).cost) g.n MAX_PRODUCT (length g.edges) cheap
 
 -- A sum of which only the first terms are not 0.
@@ -55,10 +63,12 @@ first_terms : (f : ℕ → ℤ) (n k : ℕ) → ((b : ℕ) → n ≤ b → f b �
 first_terms f n zero none = let e : n + 0 ≡ n = omega arith in ap (total_below f) e
 first_terms f n (suc k) none =
     let e : n + suc k ≡ suc (n + k) = omega arith in
-    ap (total_below f) e ∙ (let h : total_below f (n + k) ≡ total_below f n = first_terms f n k none in omega (arith, ints, h, none (n + k) (omega arith)))
+    ap (total_below f) e ∙ (let h : total_below f (n + k) ≡ total_below f n = first_terms f n k none in
+    omega (arith, ints, h, none (n + k) (omega arith)))
 
 -- The first weights are in range.
-pub range_begun : (n first : ℕ) (f : Forest) → f.size ≡ n + n / 2 → ((b : ℕ) → n ≤ b → f.weight b ≡ pos 0) → ((b : ℕ) → unsigned_abs (f.weight b) ≤ first) → IsInRange n first f 0
+pub range_begun : (n first : ℕ) (f : Forest) → f.size ≡ n + n / 2 → ((b : ℕ) → n ≤ b → f.weight b ≡ pos 0)
+    → ((b : ℕ) → unsigned_abs (f.weight b) ≤ first) → IsInRange n first f 0
 range_begun n first f size sets small = record {
   start = dual_sum_of f;
   start_high = omega (arith, ints, sum_is, total_below_small f.weight first n (λ b l. small b));
@@ -69,20 +79,30 @@ range_begun n first f size sets small = record {
     sum_is : dual_sum_of f ≡ total_below f.weight n
     sum_is = ap (total_below f.weight) size ∙ first_terms f.weight n (n / 2) sets
 
-costs_low : (g : WeightedGraph) (most low : ℕ) (m : List ℕ) → ((e : ℕ) → e < length g.edges → unsigned_abs (edge_at g e).cost ≤ most) → IsIncreasing low (length g.edges) m → (pos 2 *ℤ matching_cost g m) ≤ℤ total (λ (e : WEdge). pos most +ℤ pos most) (map (edge_at g) m)
+costs_low : (g : WeightedGraph) (most low : ℕ) (m : List ℕ)
+    → ((e : ℕ) → e < length g.edges → unsigned_abs (edge_at g e).cost ≤ most) → IsIncreasing low (length g.edges) m
+    → (pos 2 *ℤ matching_cost g m) ≤ℤ total (λ (e : WEdge). pos most +ℤ pos most) (map (edge_at g) m)
 costs_low g most low [] each increasing = omega (arith, ints)
-costs_low g most low (k ∷ ks) each increasing = omega (arith, ints, each k increasing.1, costs_low g most (k + 1) ks each increasing.2)
+costs_low g most low (k ∷ ks) each increasing =
+    omega (arith, ints, each k increasing.1, costs_low g most (k + 1) ks each increasing.2)
 
 -- Twice the cost of a perfect matching is at most as often a bound of the costs as there are vertices, and small.
-pub known_most : (g : WeightedGraph) → IsGraph g → (most : ℕ) → ((e : ℕ) → e < length g.edges → unsigned_abs (edge_at g e).cost ≤ most) → (m : List ℕ) → IsPerfect g m → (pos 2 *ℤ matching_cost g m) ≤ℤ pos (g.n * most)
+pub known_most : (g : WeightedGraph) → IsGraph g → (most : ℕ)
+    → ((e : ℕ) → e < length g.edges → unsigned_abs (edge_at g e).cost ≤ most) → (m : List ℕ) → IsPerfect g m
+    → (pos 2 *ℤ matching_cost g m) ≤ℤ pos (g.n * most)
 known_most g is most each m perfect =
-    let ends : total (λ (e : WEdge). pos most +ℤ pos most) (map (edge_at g) m) ≡ total_below (λ v. pos most) g.n = ends_once (λ (e : WEdge). e.u) (λ (e : WEdge). e.v) (λ v. pos most) g.n (map (edge_at g) m) (chosen_below g is 0 m perfect.increasing) perfect.once in
-    let small : unsigned_abs (total_below (λ v. pos most) g.n) ≤ g.n * most = total_below_small (λ v. pos most) most g.n (λ v l. omega (arith, ints)) in
+    let ends : total (λ (e : WEdge). pos most +ℤ pos most) (map (edge_at g) m) ≡ total_below (λ v. pos most) g.n =
+    ends_once (λ (e : WEdge). e.u) (λ (e : WEdge). e.v) (λ v. pos most) g.n (map (edge_at g) m)
+    (chosen_below g is 0 m perfect.increasing) perfect.once in
+    let small : unsigned_abs (total_below (λ v. pos most) g.n) ≤ g.n * most =
+    total_below_small (λ v. pos most) most g.n (λ v l. omega (arith, ints)) in
     omega (arith, ints, ends, small, costs_low g most 0 m each perfect.increasing)
 
-pub known_low : (g : WeightedGraph) → IsGraph g → IsCheap g → (m : List ℕ) → IsPerfect g m → (pos 2 *ℤ matching_cost g m) ≤ℤ pos MAX_PRODUCT
+pub known_low : (g : WeightedGraph) → IsGraph g → IsCheap g → (m : List ℕ) → IsPerfect g m
+    → (pos 2 *ℤ matching_cost g m) ≤ℤ pos MAX_PRODUCT
 known_low g is cheap m perfect =
-    let w : (most : ℕ) × ((e : ℕ) → e < length g.edges → unsigned_abs (edge_at g e).cost ≤ most) × (g.n * most ≤ MAX_PRODUCT) = greatest g cheap in
+    let w : (most : ℕ) × ((e : ℕ) → e < length g.edges → unsigned_abs (edge_at g e).cost ≤ most)
+    × (g.n * most ≤ MAX_PRODUCT) = greatest g cheap in
     omega (arith, ints, known_most g is w.0 w.1 m perfect, w.2)
 
 change_low : (l : Label) (w : ℤ) (x : ℕ) → unsigned_abs (w +ℤ weight_change l (pos x)) ≤ unsigned_abs w + x
@@ -106,23 +126,33 @@ pub key_high : (g : WeightedGraph) (f : Forest) (risen k : ℕ) → risen ≤ no
 key_high g f risen k few = by_leaf (cases_lt k (length g.edges))
   where
     by_leaf : (k < length g.edges) ⊎ (length g.edges ≤ k) → risen ≤ true_key g f risen k
-    by_leaf (inl le) = subst (λ x. risen ≤ x) (sym (at_edge g f risen k le)) (edge_key_high (f.label (f.out (edge_at g k).u)) (f.label (f.out (edge_at g k).v)) (eqb (f.out (edge_at g k).u) (f.out (edge_at g k).v)) (unsigned_abs (slack_of g f k)) risen few)
-    by_leaf (inr he) = subst (λ x. risen ≤ x) (sym (at_set g f risen k he)) (set_key_high (f.label (set_of g k)) (f.weight (set_of g k)) risen few)
+    by_leaf (inl le) = subst (λ x. risen ≤ x) (sym (at_edge g f risen k le))
+        (edge_key_high (f.label (f.out (edge_at g k).u)) (f.label (f.out (edge_at g k).v))
+        (eqb (f.out (edge_at g k).u) (f.out (edge_at g k).v)) (unsigned_abs (slack_of g f k)) risen few)
+    by_leaf (inr he) = subst (λ x. risen ≤ x) (sym (at_set g f risen k he))
+        (set_key_high (f.label (set_of g k)) (f.weight (set_of g k)) risen few)
 
-module _ (g : WeightedGraph) (is : IsGraph g) (cheap : IsCheap g) (m : List ℕ) (perfect : IsPerfect g m) (n first : ℕ) (limit : n * first ≤ first_limit) (low : first ≤ first_limit) (f : Forest) (risen : ℕ) (range : IsInRange n first f risen) where
+module _ (g : WeightedGraph) (is : IsGraph g) (cheap : IsCheap g) (m : List ℕ) (perfect : IsPerfect g m) (n first : ℕ)
+    (limit : n * first ≤ first_limit) (low : first ≤ first_limit) (f : Forest) (risen : ℕ)
+    (range : IsInRange n first f risen) where
   -- How far the sum has risen.
   pub risen_low : (root : Option ℕ) → IsValid (darts_of g) f root → risen ≤ risen_limit
   risen_low root valid =
-      let bound : dual_sum_of f ≤ℤ (pos 2 *ℤ matching_cost g m) = sum_bounds g is f valid.outermost.vertices valid.nested valid.feasible m perfect in
+      let bound : dual_sum_of f ≤ℤ (pos 2 *ℤ matching_cost g m) =
+      sum_bounds g is f valid.outermost.vertices valid.nested valid.feasible m perfect in
       omega (arith, ints, bound, range.sum, range.start_high, limit, known_low g is cheap m perfect)
 
   -- What the shifts leave in range.
-  pub small_weights : (root : Option ℕ) → IsValid (darts_of g) f root → (b : ℕ) → unsigned_abs (f.weight b) ≤ 6 * MAX_PRODUCT
+  pub small_weights : (root : Option ℕ) → IsValid (darts_of g) f root → (b : ℕ)
+      → unsigned_abs (f.weight b) ≤ 6 * MAX_PRODUCT
   small_weights root valid b = omega (arith, low, range.weights b, risen_low root valid)
 
-  pub weights_most : (root : Option ℕ) → IsValid (darts_of g) f root → (most : ℕ) → ((e : ℕ) → e < length g.edges → unsigned_abs (edge_at g e).cost ≤ most) → (b : ℕ) → unsigned_abs (f.weight b) ≤ first + (n * first + g.n * most)
+  pub weights_most : (root : Option ℕ) → IsValid (darts_of g) f root → (most : ℕ)
+      → ((e : ℕ) → e < length g.edges → unsigned_abs (edge_at g e).cost ≤ most) → (b : ℕ)
+      → unsigned_abs (f.weight b) ≤ first + (n * first + g.n * most)
   weights_most root valid most each b =
-      let bound : dual_sum_of f ≤ℤ (pos 2 *ℤ matching_cost g m) = sum_bounds g is f valid.outermost.vertices valid.nested valid.feasible m perfect in
+      let bound : dual_sum_of f ≤ℤ (pos 2 *ℤ matching_cost g m) =
+      sum_bounds g is f valid.outermost.vertices valid.nested valid.feasible m perfect in
       omega (arith, ints, bound, range.sum, range.start_high, known_most g is most each m perfect, range.weights b)
 
   module _ (r : ℕ) (valid : IsValid (darts_of g) f (Some r)) where
@@ -131,7 +161,12 @@ module _ (g : WeightedGraph) (is : IsGraph g) (cheap : IsCheap g) (m : List ℕ)
     range_shifted x = record {
       start = range.start;
       start_high = range.start_high;
-      sum = omega (arith, ints, sum_rises (darts_of g) (are_darts g is) f r valid (valid.tree r refl) (pos x), range.sum);
+      sum = omega (
+        arith,
+        ints,
+        sum_rises (darts_of g) (are_darts g is) f r valid (valid.tree r refl) (pos x),
+        range.sum,
+      );
       weights = λ b. omega (arith, change_low (f.label b) (f.weight b) x, range.weights b);
     }
 
@@ -139,9 +174,20 @@ module _ (g : WeightedGraph) (is : IsGraph g) (cheap : IsCheap g) (m : List ℕ)
       -- How far a lawful shift goes.
       pub reach_low : (x : ℕ) → IsFeasible (darts_of g) (shifted f (pos x)) → risen + x ≤ risen_limit
       reach_low x feasible =
-          let then : IsValid (darts_of g) (shifted f (pos x)) (Some r) = shift_valid (darts_of g) (are_darts g is) f (Some r) valid (pos x) feasible in
-          let bound : dual_sum_of (shifted f (pos x)) ≤ℤ (pos 2 *ℤ matching_cost g m) = sum_bounds g is (shifted f (pos x)) then.outermost.vertices then.nested then.feasible m perfect in
-          omega (arith, ints, bound, sum_rises (darts_of g) (are_darts g is) f r valid (valid.tree r refl) (pos x), range.sum, range.start_high, limit, known_low g is cheap m perfect)
+          let then : IsValid (darts_of g) (shifted f (pos x)) (Some r) =
+          shift_valid (darts_of g) (are_darts g is) f (Some r) valid (pos x) feasible in
+          let bound : dual_sum_of (shifted f (pos x)) ≤ℤ (pos 2 *ℤ matching_cost g m) =
+          sum_bounds g is (shifted f (pos x)) then.outermost.vertices then.nested then.feasible m perfect in
+          omega (
+            arith,
+            ints,
+            bound,
+            sum_rises (darts_of g) (are_darts g is) f r valid (valid.tree r refl) (pos x),
+            range.sum,
+            range.start_high,
+            limit,
+            known_low g is cheap m perfect,
+          )
 
       -- Something happens soon: the least key is small.
       pub key_soon : (key : ℕ) → ((k : ℕ) → k < most → key ≤ true_key g f risen k) → key ≤ risen_limit
@@ -149,7 +195,9 @@ module _ (g : WeightedGraph) (is : IsGraph g) (cheap : IsCheap g) (m : List ℕ)
         where
           clash : (x : ℕ) → risen + x ≡ risen_limit + 1 → risen_limit < key → ⊥
           clash x e h =
-              let far : risen + x ≤ risen_limit = reach_low x (lawful g is f valid.outermost valid.feasible risen x most sets (λ k l. omega (arith, e, h, low k l))) in
+              let far : risen + x ≤ risen_limit =
+              reach_low x (lawful g is f valid.outermost valid.feasible risen x most sets
+              (λ k l. omega (arith, e, h, low k l))) in
               omega (arith, e, far)
 
           by_order : (risen_limit < key) ⊎ (key ≤ risen_limit) → key ≤ risen_limit

@@ -1,5 +1,6 @@
 -- The darts round a vertex: with one face both edges are at the boundary, with two or more some edge is not.
-use Rattle.std.proofs.Common.{◌≡◌, ◌≢◌, ◌⊎◌, ℕ, zero, suc, ◌<◌, ◌≤◌, true, false, length, get_or, Option, Some, None, sym, subst, ap, ◌∙◌, refl, inl, inr, arith}
+use Rattle.std.proofs.Common.{◌≡◌, ◌≢◌, ◌⊎◌, ℕ, zero, suc, ◌<◌, ◌≤◌, true, false, length, get_or, Option, Some, None}
+use Rattle.std.proofs.Common.{sym, subst, ap, ◌∙◌, refl, inl, inr, arith}
 use Rattle.std.proofs.lemmas.Option.{same_Some}
 use Rattle.std.proofs.lemmas.Bool.{cases_eq, false≢true}
 use Rattle.def_mesh.specs.Faces.{Faces}
@@ -16,7 +17,8 @@ use Rattle.face_laws.proofs.Fans.{has_fan, inner_from}
 -- Chains of joined darts, one after another, and back.
 pub joins_join : (m : HalfEdges) (d e f i j : ℕ) → Joins m d e i → Joins m e f j → (k : ℕ) × Joins m d f k
 joins_join m d e f i zero a b = (i, subst (λ (x : ℕ). Joins m d x i) b a)
-joins_join m d e f i (suc j) a b = let r : (k : ℕ) × Joins m d b.0 k = joins_join m d e b.0 i j a b.1 in (suc r.0, (b.0, r.1, b.2))
+joins_join m d e f i (suc j) a b = let r : (k : ℕ) × Joins m d b.0 k = joins_join m d e b.0 i j a b.1 in
+    (suc r.0, (b.0, r.1, b.2))
 
 -- Two darts, or three.
 abbrev pair : (x y k : ℕ) → ℕ
@@ -33,7 +35,11 @@ module _ (mesh : HalfEdges) (laws : IsQuadManifold mesh) where
   joins_next d = (d, refl, inl refl)
 
   joins_prev : (d : ℕ) → (k : ℕ) × Joins mesh d (mesh.prev d) k
-  joins_prev d = (3, subst (λ (x : ℕ). Joins mesh d x 3) (sym (Rattle.cut_laws.proofs.Darts.prev_three mesh laws d)) (mesh.next (mesh.next d), (mesh.next d, (d, refl, inl refl), inl refl), inl refl))
+  joins_prev d = (
+    3,
+    subst (λ (x : ℕ). Joins mesh d x 3) (sym (Rattle.cut_laws.proofs.Darts.prev_three mesh laws d))
+        (mesh.next (mesh.next d), (mesh.next d, (d, refl, inl refl), inl refl), inl refl),
+  )
 
   -- Turns join.
   pub joins_turns : (d e n : ℕ) → d < mesh.count → Turns mesh d e n → (k : ℕ) × Joins mesh d e k
@@ -50,30 +56,51 @@ module _ (mesh : HalfEdges) (laws : IsQuadManifold mesh) where
           (suc (suc j.0), (mesh.prev e, (t.0, j.1, inr back), inl (sym (laws.next_prev e))))
 
   -- Of two darts that leave a vertex some has a twin, and so does some dart there.
-  pub twin_there : (d e n : ℕ) → d < mesh.count → d ≢ e → Turns mesh d e n → (x : ℕ) × (t : ℕ) × (x < mesh.count) × (mesh.from x ≡ mesh.from d) × (mesh.twin x ≡ Some t)
+  pub twin_there : (d e n : ℕ) → d < mesh.count → d ≢ e → Turns mesh d e n → (x : ℕ) × (t : ℕ) × (x < mesh.count)
+      × (mesh.from x ≡ mesh.from d) × (mesh.twin x ≡ Some t)
   twin_there d e zero l ne t = absurd (ne t)
   twin_there d e (suc n) l ne t = by_turn t.3 (cases_eq d t.0) (λ other. twin_there d t.0 n l other t.1)
     where
-      by_turn : AreTurned mesh t.0 e → (d ≡ t.0) ⊎ (d ≡ t.0 → ⊥) → (d ≢ t.0 → (x : ℕ) × (s : ℕ) × (x < mesh.count) × (mesh.from x ≡ mesh.from d) × (mesh.twin x ≡ Some s)) → (x : ℕ) × (s : ℕ) × (x < mesh.count) × (mesh.from x ≡ mesh.from d) × (mesh.twin x ≡ Some s)
+      by_turn : AreTurned mesh t.0 e → (d ≡ t.0) ⊎ (d ≡ t.0 → ⊥)
+          → (d ≢ t.0 → (x : ℕ) × (s : ℕ) × (x < mesh.count) × (mesh.from x ≡ mesh.from d) × (mesh.twin x ≡ Some s))
+          → (x : ℕ) × (s : ℕ) × (x < mesh.count) × (mesh.from x ≡ mesh.from d) × (mesh.twin x ≡ Some s)
       by_turn w (inr ne) rest = rest ne
       by_turn (inl w) (inl same) rest =
-          let low : t.0 < mesh.count = subst (λ (x : ℕ). x < mesh.count) same l in
-          (e, mesh.prev t.0, t.2, turn_from mesh laws t.0 e low w ∙ ap mesh.from (sym same), laws.twin_twin (mesh.prev t.0) e (laws.prev_low t.0 low) w)
-      by_turn (inr w) (inl same) rest =
-          (t.0, mesh.prev e, subst (λ (x : ℕ). x < mesh.count) same l, ap mesh.from (sym same), laws.twin_twin (mesh.prev e) t.0 (laws.prev_low e t.2) w)
+          let low : t.0 < mesh.count = subst (λ (x : ℕ). x < mesh.count) same l in (
+            e,
+            mesh.prev t.0,
+            t.2,
+            turn_from mesh laws t.0 e low w ∙ ap mesh.from (sym same),
+            laws.twin_twin (mesh.prev t.0) e (laws.prev_low t.0 low) w,
+          )
+      by_turn (inr w) (inl same) rest = (
+        t.0,
+        mesh.prev e,
+        subst (λ (x : ℕ). x < mesh.count) same l,
+        ap mesh.from (sym same),
+        laws.twin_twin (mesh.prev e) t.0 (laws.prev_low e t.2) w,
+      )
 
 module _ (faces : Faces) (laws : IsQuadManifold (half_edges faces)) where
   -- A dart over the twin of d at the vertex that d leaves.
-  over : (d t : ℕ) → d < darts faces → twin_of faces d ≡ Some t → (next_of t < darts faces) × (from_of faces (next_of t) ≡ from_of faces d) × (next_of t ≢ d)
-  over d t l w = (laws.next_low t (laws.twin_low d t l w), (laws.twin_ends d t l w).1, λ e. no_fix (half_edges faces) laws d l (ap (twin_of faces) (sym (ap prev_of e) ∙ laws.prev_next t) ∙ laws.twin_twin d t l w))
+  over : (d t : ℕ) → d < darts faces → twin_of faces d ≡ Some t → (next_of t < darts faces)
+      × (from_of faces (next_of t) ≡ from_of faces d) × (next_of t ≢ d)
+  over d t l w = (
+    laws.next_low t (laws.twin_low d t l w),
+    (laws.twin_ends d t l w).1,
+    λ e. no_fix (half_edges faces) laws d l (ap (twin_of faces) (sym (ap prev_of e) ∙ laws.prev_next t)
+        ∙ laws.twin_twin d t l w),
+  )
 
   -- With one face at a vertex, both its edges there have one dart.
-  pub lone_face : (d : ℕ) → d < darts faces → faces_at faces (from_of faces d) ≤ 1 → (twin_of faces d ≡ None) × (twin_of faces (prev_of d) ≡ None)
+  pub lone_face : (d : ℕ) → d < darts faces → faces_at faces (from_of faces d) ≤ 1 → (twin_of faces d ≡ None)
+      × (twin_of faces (prev_of d) ≡ None)
   lone_face d l few = (by_twin (twin_of faces d) refl, by_before (twin_of faces (prev_of d)) refl)
     where
       two : (x : ℕ) → x < darts faces → from_of faces x ≡ from_of faces d → x ≢ d → ⊥
       two x lx at ne =
-          let many : 2 ≤ faces_at faces (from_of faces d) = (has_fan faces (from_of faces d)).least 2 (pair d x) (record { each = each; apart = apart }) in
+          let many : 2 ≤ faces_at faces (from_of faces d) =
+          (has_fan faces (from_of faces d)).least 2 (pair d x) (record { each = each; apart = apart }) in
           omega arith
         where
           each : (j : ℕ) → j < 2 → Leaves (half_edges faces) (from_of faces d) (pair d x j)
@@ -88,29 +115,38 @@ module _ (faces : Faces) (laws : IsQuadManifold (half_edges faces)) where
 
       by_twin : (o : Option ℕ) → twin_of faces d ≡ o → o ≡ None
       by_twin None w = refl
-      by_twin (Some t) w = let o : (next_of t < darts faces) × (from_of faces (next_of t) ≡ from_of faces d) × (next_of t ≢ d) = over d t l w in absurd (two (next_of t) o.0 o.1 o.2)
+      by_twin (Some t) w = let o : (next_of t < darts faces) × (from_of faces (next_of t) ≡ from_of faces d)
+          × (next_of t ≢ d) = over d t l w in absurd (two (next_of t) o.0 o.1 o.2)
 
       by_before : (o : Option ℕ) → twin_of faces (prev_of d) ≡ o → o ≡ None
       by_before None w = refl
-      by_before (Some y) w = absurd (two y (turn_low (half_edges faces) laws d y l w) (turn_from (half_edges faces) laws d y l w) (λ e. no_fix (half_edges faces) laws d l (w ∙ ap Some e)))
+      by_before (Some y) w = absurd (two y (turn_low (half_edges faces) laws d y l w)
+          (turn_from (half_edges faces) laws d y l w) (λ e. no_fix (half_edges faces) laws d l (w ∙ ap Some e)))
 
   -- With two faces or more, some dart there has a twin.
-  pub some_twin : (d : ℕ) → d < darts faces → 2 ≤ faces_at faces (from_of faces d) → (x : ℕ) × (t : ℕ) × (x < darts faces) × (from_of faces x ≡ from_of faces d) × (twin_of faces x ≡ Some t)
+  pub some_twin : (d : ℕ) → d < darts faces → 2 ≤ faces_at faces (from_of faces d) → (x : ℕ) × (t : ℕ)
+      × (x < darts faces) × (from_of faces x ≡ from_of faces d) × (twin_of faces x ≡ Some t)
   some_twin d l many = by_other (cases_eq d (get_or (fan_of faces (from_of faces d)) 0 0))
     where
       fan : IsFan faces (from_of faces d) (fan_of faces (from_of faces d))
       fan = is_fan faces (from_of faces d) (fan_of faces (from_of faces d)) refl
 
-      to : (k : ℕ) → k < length (fan_of faces (from_of faces d)) → d ≢ get_or (fan_of faces (from_of faces d)) k 0 → (x : ℕ) × (t : ℕ) × (x < darts faces) × (from_of faces x ≡ from_of faces d) × (twin_of faces x ≡ Some t)
-      to k h ne = let t : (n : ℕ) × Turns (half_edges faces) d (get_or (fan_of faces (from_of faces d)) k 0) n = laws.one_fan d (get_or (fan_of faces (from_of faces d)) k 0) l (fan.dart k h) (sym (fan.leaves k h)) in
+      to : (k : ℕ) → k < length (fan_of faces (from_of faces d)) → d ≢ get_or (fan_of faces (from_of faces d)) k 0
+          → (x : ℕ) × (t : ℕ) × (x < darts faces) × (from_of faces x ≡ from_of faces d) × (twin_of faces x ≡ Some t)
+      to k h ne = let t : (n : ℕ) × Turns (half_edges faces) d (get_or (fan_of faces (from_of faces d)) k 0) n =
+          laws.one_fan d (get_or (fan_of faces (from_of faces d)) k 0) l (fan.dart k h) (sym (fan.leaves k h)) in
           twin_there (half_edges faces) laws d (get_or (fan_of faces (from_of faces d)) k 0) t.0 l ne t.1
 
-      by_other : (d ≡ get_or (fan_of faces (from_of faces d)) 0 0) ⊎ (d ≡ get_or (fan_of faces (from_of faces d)) 0 0 → ⊥) → (x : ℕ) × (t : ℕ) × (x < darts faces) × (from_of faces x ≡ from_of faces d) × (twin_of faces x ≡ Some t)
+      by_other : (d ≡ get_or (fan_of faces (from_of faces d)) 0 0) ⊎ (d ≡ get_or (fan_of faces (from_of faces d)) 0 0
+          → ⊥) → (x : ℕ) × (t : ℕ) × (x < darts faces) × (from_of faces x ≡ from_of faces d)
+          × (twin_of faces x ≡ Some t)
       by_other (inr ne) = to 0 (omega arith) ne
-      by_other (inl e) = to 1 (omega arith) (λ s. absurd (omega (arith, e, s, fan.increasing 0 1 (omega arith) (omega arith))))
+      by_other (inl e) = to 1 (omega arith)
+          (λ s. absurd (omega (arith, e, s, fan.increasing 0 1 (omega arith) (omega arith))))
 
   -- At a boundary vertex with at most two faces, the boundary goes on straight after d or beside it.
-  module _ (d t u : ℕ) (low : d < darts faces) (first : twin_of faces (next_of d) ≡ Some t) (second : twin_of faces (next_of t) ≡ Some u) where
+  module _ (d t u : ℕ) (low : d < darts faces) (first : twin_of faces (next_of d) ≡ Some t)
+      (second : twin_of faces (next_of t) ≡ Some u) where
     nd_low : next_of d < darts faces
     nd_low = laws.next_low d low
 
@@ -140,39 +176,64 @@ module _ (faces : Faces) (laws : IsQuadManifold (half_edges faces)) where
         all x zero s = inl (sym s)
         all x (suc n) s = by_turn s.3 (all s.0 n s.1)
           where
-            by_turn : AreTurned (half_edges faces) s.0 x → (s.0 ≡ next_of d) ⊎ (s.0 ≡ next_of t) → (x ≡ next_of d) ⊎ (x ≡ next_of t)
-            by_turn (inl w) (inl e) = inr (same_Some x (next_of t) (sym w ∙ (ap (λ k. twin_of faces (prev_of k)) e ∙ (ap (twin_of faces) (laws.prev_next d) ∙ d_twin))))
-            by_turn (inl w) (inr e) = inl (same_Some x (next_of d) (sym w ∙ (ap (λ k. twin_of faces (prev_of k)) e ∙ (ap (twin_of faces) (laws.prev_next t) ∙ t_twin))))
+            by_turn : AreTurned (half_edges faces) s.0 x → (s.0 ≡ next_of d) ⊎ (s.0 ≡ next_of t) → (x ≡ next_of d)
+                ⊎ (x ≡ next_of t)
+            by_turn (inl w) (inl e) =
+                inr (same_Some x (next_of t) (sym w
+                ∙ (ap (λ k. twin_of faces (prev_of k)) e ∙ (ap (twin_of faces) (laws.prev_next d) ∙ d_twin))))
+            by_turn (inl w) (inr e) =
+                inl (same_Some x (next_of d) (sym w
+                ∙ (ap (λ k. twin_of faces (prev_of k)) e ∙ (ap (twin_of faces) (laws.prev_next t) ∙ t_twin))))
             by_turn (inr w) (inl e) =
-                let back : twin_of faces (next_of d) ≡ Some (prev_of x) = ap (twin_of faces) (sym e) ∙ laws.twin_twin (prev_of x) s.0 (laws.prev_low x s.2) w in
+                let back : twin_of faces (next_of d) ≡ Some (prev_of x) = ap (twin_of faces) (sym e)
+                ∙ laws.twin_twin (prev_of x) s.0 (laws.prev_low x s.2) w in
                 inr (sym (laws.next_prev x) ∙ ap next_of (same_Some (prev_of x) t (sym back ∙ first)))
             by_turn (inr w) (inr e) =
-                let back : twin_of faces (next_of t) ≡ Some (prev_of x) = ap (twin_of faces) (sym e) ∙ laws.twin_twin (prev_of x) s.0 (laws.prev_low x s.2) w in
+                let back : twin_of faces (next_of t) ≡ Some (prev_of x) = ap (twin_of faces) (sym e)
+                ∙ laws.twin_twin (prev_of x) s.0 (laws.prev_low x s.2) w in
                 inl (sym (laws.next_prev x) ∙ (ap next_of (same_Some (prev_of x) u (sym back ∙ second)) ∙ same))
 
-        leaves : (x : ℕ) → x < darts faces → from_of faces x ≡ from_of faces (next_of d) → (x ≡ next_of d) ⊎ (x ≡ next_of t)
-        leaves x lx at = let s : (n : ℕ) × Turns (half_edges faces) (next_of d) x n = laws.one_fan (next_of d) x nd_low lx (sym at) in all x s.0 s.1
+        leaves : (x : ℕ) → x < darts faces → from_of faces x ≡ from_of faces (next_of d) → (x ≡ next_of d)
+            ⊎ (x ≡ next_of t)
+        leaves x lx at = let s : (n : ℕ) × Turns (half_edges faces) (next_of d) x n =
+            laws.one_fan (next_of d) x nd_low lx (sym at) in all x s.0 s.1
 
-        each : (x : ℕ) → x < darts faces → (from_of faces x ≡ from_of faces (next_of d)) ⊎ (from_of faces (next_of x) ≡ from_of faces (next_of d)) → (y : ℕ) × (twin_of faces x ≡ Some y)
-        each x lx (inl at) = elim (leaves x lx at) [ inl e ↦ (t, ap (twin_of faces) e ∙ first) | inr e ↦ (u, ap (twin_of faces) e ∙ second) ]
+        each : (x : ℕ) → x < darts faces → (from_of faces x ≡ from_of faces (next_of d))
+            ⊎ (from_of faces (next_of x) ≡ from_of faces (next_of d)) → (y : ℕ) × (twin_of faces x ≡ Some y)
+        each x lx (inl at) = elim (leaves x lx at) [
+          | inl e ↦ (t, ap (twin_of faces) e ∙ first)
+          | inr e ↦ (u, ap (twin_of faces) e ∙ second)
+        ]
         each x lx (inr at) = elim (leaves (next_of x) (laws.next_low x lx) at) [
-          | inl e ↦ (next_of t, ap (twin_of faces) (sym (laws.prev_next x) ∙ (ap prev_of e ∙ laws.prev_next d)) ∙ d_twin)
-          | inr e ↦ (next_of d, ap (twin_of faces) (sym (laws.prev_next x) ∙ (ap prev_of e ∙ laws.prev_next t)) ∙ t_twin)
+          | inl e ↦ (
+            next_of t,
+            ap (twin_of faces) (sym (laws.prev_next x) ∙ (ap prev_of e ∙ laws.prev_next d))
+                ∙ d_twin,
+          )
+          | inr e ↦ (
+            next_of d,
+            ap (twin_of faces) (sym (laws.prev_next x) ∙ (ap prev_of e ∙ laws.prev_next t))
+                ∙ t_twin,
+          )
         ]
 
     -- So at the boundary there are three.
-    pub three_faces : is_inner faces (from_of faces (next_of d)) ≡ false → 3 ≤ faces_at faces (from_of faces (next_of d))
-    three_faces off = (has_fan faces (from_of faces (next_of d))).least 3 (triple (next_of d) (next_of t) (next_of u)) (record { each = each; apart = apart })
+    pub three_faces : is_inner faces (from_of faces (next_of d)) ≡ false
+        → 3 ≤ faces_at faces (from_of faces (next_of d))
+    three_faces off = (has_fan faces (from_of faces (next_of d))).least 3 (triple (next_of d) (next_of t) (next_of u))
+        (record { each = each; apart = apart })
       where
         ne : next_of u ≢ next_of d
         ne e = false≢true (sym off ∙ round e)
 
-        each : (j : ℕ) → j < 3 → Leaves (half_edges faces) (from_of faces (next_of d)) (triple (next_of d) (next_of t) (next_of u) j)
+        each : (j : ℕ) → j < 3 → Leaves (half_edges faces) (from_of faces (next_of d))
+            (triple (next_of d) (next_of t) (next_of u) j)
         each zero h = record { low = nd_low; at = refl }
         each (suc zero) h = record { low = nt.0; at = nt.1 }
         each (suc (suc j)) h = record { low = nu.0; at = nu.1 ∙ nt.1 }
 
-        apart : (i j : ℕ) → i < 3 → j < 3 → triple (next_of d) (next_of t) (next_of u) i ≡ triple (next_of d) (next_of t) (next_of u) j → i ≡ j
+        apart : (i j : ℕ) → i < 3 → j < 3 → triple (next_of d) (next_of t) (next_of u) i
+            ≡ triple (next_of d) (next_of t) (next_of u) j → i ≡ j
         apart zero zero a b e = refl
         apart zero (suc zero) a b e = absurd (nt.2 (sym e))
         apart zero (suc (suc j)) a b e = absurd (ne (sym e))

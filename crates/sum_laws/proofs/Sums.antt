@@ -1,5 +1,6 @@
 -- Laws of sums of whole numbers.
-use Rattle.std.proofs.Common.{◌≡◌, ℕ, zero, suc, ◌+◌, ◌<◌, List, [], ◌∷◌, ◌++◌, ℤ, pos, negsuc, ◌+ℤ◌, ◌-ℤ◌, ◌*ℤ◌, ◌≤ℤ◌, ◌<ℤ◌, refl, zero-add, add-zero, add-one, sym, ap, inl, inr, ◌⊎◌, arith}
+use Rattle.std.proofs.Common.{◌≡◌, ℕ, zero, suc, ◌+◌, ◌<◌, List, [], ◌∷◌, ◌++◌, ℤ, pos, negsuc, ◌+ℤ◌, ◌-ℤ◌, ◌*ℤ◌, ◌≤ℤ◌}
+use Rattle.std.proofs.Common.{◌<ℤ◌, refl, zero-add, add-zero, add-one, sym, ap, inl, inr, ◌⊎◌, arith}
 use Rattle.std.proofs.lemmas.Int.{ints}
 use Rattle.std.proofs.lemmas.Bool.{cases_eq}
 use Rattle.def_math.specs.Sums.{total, total_below, span}
@@ -29,12 +30,22 @@ total_sum f g (x ∷ xs) = omega (arith, ints, total_sum f g xs)
 -- Equal terms below the bound have equal sums.
 pub total_below_same : (f g : ℕ → ℤ) (n : ℕ) → ((k : ℕ) → k < n → f k ≡ g k) → total_below f n ≡ total_below g n
 total_below_same f g zero same = refl
-total_below_same f g (suc n) same = omega (arith, ints, total_below_same f g n (λ k l. same k (omega arith)), same n (omega arith))
+total_below_same f g (suc n) same = omega (
+  arith,
+  ints,
+  total_below_same f g n (λ k l. same k (omega arith)),
+  same n (omega arith),
+)
 
 -- No term below the bound is greater, and so no sum.
 pub total_below_le : (f g : ℕ → ℤ) (n : ℕ) → ((k : ℕ) → k < n → f k ≤ℤ g k) → total_below f n ≤ℤ total_below g n
 total_below_le f g zero le = omega (arith, ints)
-total_below_le f g (suc n) le = omega (arith, ints, total_below_le f g n (λ k l. le k (omega arith)), le n (omega arith))
+total_below_le f g (suc n) le = omega (
+  arith,
+  ints,
+  total_below_le f g n (λ k l. le k (omega arith)),
+  le n (omega arith),
+)
 
 -- A sum of sums below a bound.
 pub total_below_sum : (f g : ℕ → ℤ) (n : ℕ) → total_below (λ k. f k +ℤ g k) n ≡ total_below f n +ℤ total_below g n
@@ -49,25 +60,39 @@ total_below_minus f g (suc n) = omega (arith, ints, total_below_minus f g n)
 -- A sum of zeros below a bound.
 pub total_below_none : (f : ℕ → ℤ) (n : ℕ) → ((k : ℕ) → k < n → f k ≡ pos 0) → total_below f n ≡ pos 0
 total_below_none f zero none = refl
-total_below_none f (suc n) none = omega (arith, ints, total_below_none f n (λ k l. none k (omega arith)), none n (omega arith))
+total_below_none f (suc n) none = omega (
+  arith,
+  ints,
+  total_below_none f n (λ k l. none k (omega arith)),
+  none n (omega arith),
+)
 
 -- One term alone counts.
-pub total_below_one : (f : ℕ → ℤ) (n u : ℕ) → u < n → ((k : ℕ) → k < n → (k ≡ u → ⊥) → f k ≡ pos 0) → total_below f n ≡ f u
+pub total_below_one : (f : ℕ → ℤ) (n u : ℕ) → u < n → ((k : ℕ) → k < n → (k ≡ u → ⊥) → f k ≡ pos 0)
+    → total_below f n ≡ f u
 total_below_one f zero u l other = absurd (omega arith)
-total_below_one f (suc n) u l other = elim (cases_eq u n) [ inl e ↦ at_end e | inr ne ↦ before ne (total_below_one f n) ]
+total_below_one f (suc n) u l other =
+    elim (cases_eq u n) [ inl e ↦ at_end e | inr ne ↦ before ne (total_below_one f n) ]
   where
     at_end : u ≡ n → total_below f (suc n) ≡ f u
     at_end e =
         let here : f n ≡ f u = ap f (sym e) in
         omega (arith, ints, total_below_none f n (λ k lk. other k (omega arith) (λ ek. omega arith)), here)
 
-    before : (u ≡ n → ⊥) → ((v : ℕ) → v < n → ((k : ℕ) → k < n → (k ≡ v → ⊥) → f k ≡ pos 0) → total_below f n ≡ f v) → total_below f (suc n) ≡ f u
+    before : (u ≡ n → ⊥) → ((v : ℕ) → v < n → ((k : ℕ) → k < n → (k ≡ v → ⊥) → f k ≡ pos 0) → total_below f n ≡ f v)
+        → total_below f (suc n) ≡ f u
     before ne rest =
         let lower : u < n = omega arith in
-        omega (arith, ints, rest u lower (λ k lk nk. other k (omega arith) nk), other n (omega arith) (λ en. ne (sym en)))
+        omega (
+          arith,
+          ints,
+          rest u lower (λ k lk nk. other k (omega arith) nk),
+          other n (omega arith) (λ en. ne (sym en)),
+        )
 
 -- The sums along a list and below a bound change places.
-pub two_orders : {X : Type 0} (f : ℕ → X → ℤ) (n : ℕ) (xs : List X) → total (λ x. total_below (λ k. f k x) n) xs ≡ total_below (λ k. total (f k) xs) n
+pub two_orders : {X : Type 0} (f : ℕ → X → ℤ) (n : ℕ) (xs : List X) → total (λ x. total_below (λ k. f k x) n) xs
+    ≡ total_below (λ k. total (f k) xs) n
 two_orders f n [] = sym (total_below_none (λ k. pos 0) n (λ k l. refl))
 two_orders f n (x ∷ xs) = omega (arith, ints, two_orders f n xs, total_below_sum (λ k. f k x) (λ k. total (f k) xs) n)
 
@@ -81,9 +106,11 @@ pub some_below : (f : ℕ → ℤ) (n : ℕ) → total_below f n <ℤ pos 0 → 
 some_below f zero low = absurd (omega (arith, ints))
 some_below f (suc n) low = by_sign (cases_neg (f n)) (some_below f n)
   where
-    by_sign : (f n <ℤ pos 0) ⊎ (pos 0 ≤ℤ f n) → (total_below f n <ℤ pos 0 → (k : ℕ) × (k < n) × (f k <ℤ pos 0)) → (k : ℕ) × (k < suc n) × (f k <ℤ pos 0)
+    by_sign : (f n <ℤ pos 0) ⊎ (pos 0 ≤ℤ f n) → (total_below f n <ℤ pos 0 → (k : ℕ) × (k < n) × (f k <ℤ pos 0))
+        → (k : ℕ) × (k < suc n) × (f k <ℤ pos 0)
     by_sign (inl here) rest = (n, omega arith, here)
-    by_sign (inr there) rest = let r : (k : ℕ) × (k < n) × (f k <ℤ pos 0) = rest (omega (arith, ints)) in (r.0, omega (arith, r.1), r.2)
+    by_sign (inr there) rest = let r : (k : ℕ) × (k < n) × (f k <ℤ pos 0) = rest (omega (arith, ints)) in
+        (r.0, omega (arith, r.1), r.2)
 
 -- A run in two parts.
 pub span_sum : (f : ℕ → ℤ) (a m n : ℕ) → span f a (m + n) ≡ span f a m +ℤ span f (a + m) n

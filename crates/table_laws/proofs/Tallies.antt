@@ -1,27 +1,35 @@
 -- Tables that something is added to, one place after the other.
-use Rattle.std.proofs.Common.{◌≡◌, ℕ, ◌+◌, ◌<◌, ◌≤◌, List, length, replicate, refl, sym, ◌∙◌, inl, inr, eq-eqb, ne_eqb, arith}
+use Rattle.std.proofs.Common.{◌≡◌, ℕ, ◌+◌, ◌<◌, ◌≤◌, List, length, replicate, refl, sym, ◌∙◌, inl, inr, eq-eqb, ne_eqb}
+use Rattle.std.proofs.Common.{arith}
 use Rattle.std.specs.Prelude.{slice_index}
 use Rattle.std.proofs.lemmas.Bool.{cases_eq, cases_lt}
-use Rattle.std.proofs.lemmas.List.{length-set, get_or_past, get_or-set_same, get_or-set_other, length-replicate, get_or-replicate}
+use Rattle.std.proofs.lemmas.List.{length-set, get_or_past, get_or-set_same, get_or-set_other, length-replicate}
+use Rattle.std.proofs.lemmas.List.{get_or-replicate}
 use Rattle.def_math.specs.Tables.{add_at, at_place, IsRaised, IsTally}
 
 -- Adding at a place changes the number there and no other.
-pub raised_at : (table : List ℕ) (place more : ℕ) → place < length table → IsRaised (at_place place more) table (add_at table place more)
+pub raised_at : (table : List ℕ) (place more : ℕ) → place < length table
+    → IsRaised (at_place place more) table (add_at table place more)
 raised_at table place more low = record { long = length-set table place (slice_index table place + more); each = each }
   where
-    each : (v : ℕ) → v < length table → slice_index (add_at table place more) v ≡ slice_index table v + at_place place more v
+    each : (v : ℕ) → v < length table → slice_index (add_at table place more) v
+        ≡ slice_index table v + at_place place more v
     each v l = elim (cases_eq place v) [
       | inl is ↦ rw (eq-eqb place v is, ← is) (get_or-set_same table place (slice_index table place + more) 0 low)
-      | inr ne ↦ rw (ne_eqb place v ne) (get_or-set_other table place v (slice_index table place + more) 0 (λ is. ne (sym is)) ∙ omega arith)
+      | inr ne ↦ rw (ne_eqb place v ne) (get_or-set_other table place v (slice_index table place + more) 0
+          (λ is. ne (sym is)) ∙ omega arith)
     ]
 
 -- Nothing is added.
-pub raised_none : (more : ℕ → ℕ) (table : List ℕ) → ((v : ℕ) → v < length table → more v ≡ 0) → IsRaised more table table
+pub raised_none : (more : ℕ → ℕ) (table : List ℕ) → ((v : ℕ) → v < length table → more v ≡ 0)
+    → IsRaised more table table
 raised_none more table none = record { long = refl; each = λ v l. omega (arith, none v l) }
 
 -- An addition, in other words.
-pub raised_as : (f g : ℕ → ℕ) (old new : List ℕ) → ((v : ℕ) → v < length old → f v ≡ g v) → IsRaised f old new → IsRaised g old new
-raised_as f g old new same raised = record { long = raised.long; each = λ v l. omega (arith, raised.each v l, same v l) }
+pub raised_as : (f g : ℕ → ℕ) (old new : List ℕ) → ((v : ℕ) → v < length old → f v ≡ g v) → IsRaised f old new
+    → IsRaised g old new
+raised_as f g old new same raised =
+    record { long = raised.long; each = λ v l. omega (arith, raised.each v l, same v l) }
 
 -- At first all is 0.
 pub tally_none : (f : ℕ → ℕ) (bound : ℕ) → ((v : ℕ) → v < bound → f v ≡ 0) → IsTally f bound (replicate bound 0)
@@ -33,14 +41,16 @@ tally_none f bound none = record { count = length-replicate bound 0; each = each
         omega (arith, start, none v l)
 
 -- One thing more is tallied.
-pub tally_more : (f g more : ℕ → ℕ) (bound : ℕ) (old new : List ℕ) → ((v : ℕ) → v < bound → g v ≡ f v + more v) → IsTally f bound old → IsRaised more old new → IsTally g bound new
+pub tally_more : (f g more : ℕ → ℕ) (bound : ℕ) (old new : List ℕ) → ((v : ℕ) → v < bound → g v ≡ f v + more v)
+    → IsTally f bound old → IsRaised more old new → IsTally g bound new
 tally_more f g more bound old new step are raised = record {
   count = raised.long ∙ are.count;
   each = λ v l. omega (arith, raised.each v (omega (arith, are.count)), are.each v l, step v l);
 }
 
 -- A table of small values is small, also past its end.
-pub tally_low : (f : ℕ → ℕ) (bound most : ℕ) (table : List ℕ) → IsTally f bound table → ((v : ℕ) → v < bound → f v ≤ most) → (v : ℕ) → slice_index table v ≤ most
+pub tally_low : (f : ℕ → ℕ) (bound most : ℕ) (table : List ℕ) → IsTally f bound table
+    → ((v : ℕ) → v < bound → f v ≤ most) → (v : ℕ) → slice_index table v ≤ most
 tally_low f bound most table are small v = elim (cases_lt v bound) [
   | inl l ↦ omega (arith, are.each v l, small v l)
   | inr h ↦ omega (arith, get_or_past table v 0 (omega (arith, are.count)))

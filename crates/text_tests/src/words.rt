@@ -1,6 +1,6 @@
 //! Lines as a shell hands them over.
 
-use def_fit::{Aim, Fit, Keep, Patches};
+use def_fit::{Aim, Fit, Keep, Patches, Spacing};
 use def_flow::{Settings, Weight};
 use def_run::{Command, WordsFail};
 use def_text::Micro;
@@ -22,13 +22,14 @@ const WHOLE: Settings = Settings {
     weight: Weight::Length,
 };
 
-/// The cut that keeps lines, with lengths as the lines wish.
+/// The cut that keeps lines, with lengths as the lines wish, and points where they wish them.
 const LINES: Fit = Fit {
     keep: Keep::Lines,
     patches: Patches::Conforming,
     aim: Aim::Wishes,
     floor: 2,
     weight: Weight::Length,
+    spacing: Spacing::Wished,
 };
 
 /// No command.
@@ -80,7 +81,7 @@ const CASES: [(&str, Result<Command, WordsFail>); 50] = [
     ("blocks --by 7", Ok(Command::Blocks { by: 7 })),
     ("map", Ok(Command::Map)),
     (
-        "fit --keep lines --patches conforming --aim lines --floor 2 --weight length --spacing even",
+        "fit --keep lines --patches conforming --aim lines --floor 2 --weight length --spacing wished",
         Ok(Command::Fit { fit: LINES }),
     ),
     (
@@ -92,6 +93,7 @@ const CASES: [(&str, Result<Command, WordsFail>); 50] = [
                 aim: Aim::Scale { p: 2, q: 4 },
                 floor: 1,
                 weight: Weight::Plain,
+                spacing: Spacing::Even,
             },
         }),
     ),
@@ -106,6 +108,7 @@ const CASES: [(&str, Result<Command, WordsFail>); 50] = [
                 },
                 floor: 3,
                 weight: Weight::Plain,
+                spacing: Spacing::Even,
             },
         }),
     ),
@@ -173,7 +176,7 @@ const CASES: [(&str, Result<Command, WordsFail>); 50] = [
         NONE,
     ),
     (
-        "fit --keep none --patches traced --aim lines --floor 1 --weight plain --spacing wished",
+        "fit --keep none --patches traced --aim lines --floor 1 --weight plain --spacing wishes",
         NONE,
     ),
 ];

@@ -1,5 +1,6 @@
 -- The twin of a new dart is the dart that runs the other way along its edge. There is none where the arc stands once.
-use Rattle.std.proofs.Common.{◌≡◌, ◌⊎◌, ℕ, ◌+◌, ◌-◌, ◌<◌, Bool, true, false, not, cond, Some, None, refl, sym, ◌∙◌, ap, subst, inl, inr, arith}
+use Rattle.std.proofs.Common.{◌≡◌, ◌⊎◌, ℕ, ◌+◌, ◌-◌, ◌<◌, Bool, true, false, not, cond, Some, None, refl, sym, ◌∙◌, ap}
+use Rattle.std.proofs.Common.{subst, inl, inr, arith}
 use Rattle.std.specs.Prelude.{◌==◌}
 use Rattle.std.proofs.lemmas.Bool.{cond-false, ne_eqb, false≢true}
 use Rattle.def_mesh.specs.Darts.{from_of, to_of, twin_of, IsTwin}
@@ -14,7 +15,9 @@ use Rattle.mesh_laws.proofs.Twins.{twin_found, twin_is, twin_none}
 use Rattle.written_laws.proofs.Numbers.{number_same}
 use Rattle.written_laws.proofs.Borders.{from_is, at_is, other_long}
 use Rattle.written_laws.proofs.NewDarts.{dart_number, dart_low, number_from, number_to, next_is, at_number}
-use Rattle.written_laws.proofs.Courses.{Course, course, is_arc, inner_course, start_at, end_at, use_course, course_of, IsWithin, IsOnBorder, IsAcross, sees, at_course, border_is, course_is, course_from, course_to, inner_no_arc}
+use Rattle.written_laws.proofs.Courses.{Course, course, is_arc, inner_course, start_at, end_at, use_course, course_of}
+use Rattle.written_laws.proofs.Courses.{IsWithin, IsOnBorder, IsAcross, sees, at_course, border_is, course_is}
+use Rattle.written_laws.proofs.Courses.{course_from, course_to, inner_no_arc}
 use Rattle.written_laws.proofs.Simple.{IsSimple, reversed}
 use Rattle.written_laws.proofs.Manifold.{edges_once}
 
@@ -35,31 +38,38 @@ module _ (l : Layout) (x : Lengths) (laid : IsSurface l) (len : AreLengths l x) 
       low : x (use_of l w).arc - 1 - o < x (use_of l v).arc
       low = omega (arith, other_long l x laid len w v other)
 
-      there : course_of l x (slot_dart l x v (x (use_of l w).arc - 1 - o)) ≡ use_course l x (use_of l v) (x (use_of l w).arc - 1 - o)
+      there : course_of l x (slot_dart l x v (x (use_of l w).arc - 1 - o))
+          ≡ use_course l x (use_of l v) (x (use_of l w).arc - 1 - o)
       there = at_course l x laid len v (x (use_of l w).arc - 1 - o) other.0 low
 
       here : course_of l x (slot_dart l x w o) ≡ use_course l x (use_of l w) o
       here = at_course l x laid len w o is less
 
       edges : (f g : Bool) → g ≡ not f
-          → on_arc (use_of l v).arc (cond g (x (use_of l w).arc - 1 - o) (x (use_of l v).arc - 1 - (x (use_of l w).arc - 1 - o)))
+          → on_arc (use_of l v).arc
+          (cond g (x (use_of l w).arc - 1 - o) (x (use_of l v).arc - 1 - (x (use_of l w).arc - 1 - o)))
           ≡ on_arc (use_of l w).arc (cond f o (x (use_of l w).arc - 1 - o))
       edges true g e =
-          let p : x (use_of l v).arc - 1 - (x (use_of l w).arc - 1 - o) ≡ o = omega (arith, other_long l x laid len w v other) in
+          let p : x (use_of l v).arc - 1 - (x (use_of l w).arc - 1 - o) ≡ o =
+          omega (arith, other_long l x laid len w v other) in
           (λ t. on_arc (other.1.arc t) (cond (e t) (x (use_of l w).arc - 1 - o) (p t)))
       edges false g e =
-          λ t. on_arc (other.1.arc t) (cond (e t) (x (use_of l w).arc - 1 - o) (x (other.1.arc t) - 1 - (x (use_of l w).arc - 1 - o)))
+          λ t. on_arc (other.1.arc t)
+          (cond (e t) (x (use_of l w).arc - 1 - o) (x (other.1.arc t) - 1 - (x (use_of l w).arc - 1 - o)))
 
   -- The dart over an edge inside a patch leaves the grid point where the other one ends.
   pub across_within : (d : CellDart) → IsWithin l x d → (e : CellDart) × IsAcross l x laid len d e
-      × (e.patch ≡ d.patch) × (column e.i e.way ≡ column d.i (side_after d.way)) × (row e.j e.way ≡ row d.j (side_after d.way))
+      × (e.patch ≡ d.patch) × (column e.i e.way ≡ column d.i (side_after d.way))
+      × (row e.j e.way ≡ row d.j (side_after d.way))
   across_within d i = by_way d.patch d.i d.j d.way i
     where
-      by_way : (p i j : ℕ) (w : Way) → IsWithin l x (dart p i j w) → (e : CellDart) × IsAcross l x laid len (dart p i j w) e
+      by_way : (p i j : ℕ) (w : Way) → IsWithin l x (dart p i j w) → (e : CellDart)
+          × IsAcross l x laid len (dart p i j w) e
           × (e.patch ≡ p) × (column e.i e.way ≡ column i (side_after w)) × (row e.j e.way ≡ row j (side_after w))
       by_way p i j south h =
           let c : course_of l x (dart p i (j - 1) north) ≡ inner_course p i (j - 1) north =
-          cond-false (j - 1 + 1 == high l x p) _ _ (ne_eqb (j - 1 + 1) (high l x p) (λ e. omega (arith, h.is_edge.2, h.is_edge.3))) in
+          cond-false (j - 1 + 1 == high l x p) _ _
+          (ne_eqb (j - 1 + 1) (high l x p) (λ e. omega (arith, h.is_edge.2, h.is_edge.3))) in
           let same : j - 1 + 1 ≡ j = omega (arith, h.is_edge.2) in (
             dart p i (j - 1) north,
             record {
@@ -99,12 +109,14 @@ module _ (l : Layout) (x : Lengths) (laid : IsSurface l) (len : AreLengths l x) 
           )
       by_way p i j west h =
           let c : course_of l x (dart p (i - 1) j east) ≡ inner_course p (i - 1) j east =
-          cond-false (i - 1 + 1 == wide l x p) _ _ (ne_eqb (i - 1 + 1) (wide l x p) (λ e. omega (arith, h.is_edge.1, h.is_edge.2))) in
+          cond-false (i - 1 + 1 == wide l x p) _ _
+          (ne_eqb (i - 1 + 1) (wide l x p) (λ e. omega (arith, h.is_edge.1, h.is_edge.2))) in
           let same : i - 1 + 1 ≡ i = omega (arith, h.is_edge.1) in (
             dart p (i - 1) j east,
             record {
               is_dart = record { patch_low = h.is_edge.0; i_low = omega (arith, h.is_edge.2); j_low = h.is_edge.3 };
-              edge = ap (λ (k : Course). k.edge) c ∙ ap (λ (n : ℕ). steep p n j) same ∙ sym (ap (λ (k : Course). k.edge) h.course);
+              edge = ap (λ (k : Course). k.edge) c ∙ ap (λ (n : ℕ). steep p n j) same
+                  ∙ sym (ap (λ (k : Course). k.edge) h.course);
               turned = ap (λ (k : Course). k.ahead) c ∙ sym (ap (λ (k : Course). not k.ahead) h.course);
             },
             refl,
@@ -124,7 +136,8 @@ module _ (l : Layout) (x : Lengths) (laid : IsSurface l) (len : AreLengths l x) 
     | inr b ↦ elim (laid.other b.0 b.2.is_slot) [
       | inl v ↦ inl (
         slot_dart l x v.0 (x (use_of l b.0).arc - 1 - b.1),
-        subst (λ (e : CellDart). IsAcross l x laid len e (slot_dart l x v.0 (x (use_of l b.0).arc - 1 - b.1))) (sym b.2.dart)
+        subst (λ (e : CellDart). IsAcross l x laid len e (slot_dart l x v.0 (x (use_of l b.0).arc - 1 - b.1)))
+            (sym b.2.dart)
             (across_border b.0 v.0 b.1 b.2.is_slot v.1 b.2.low),
       )
       | inr none ↦ inr (b.0, b.1, record { on_border = b.2; alone = none })
@@ -155,22 +168,28 @@ module _ (l : Layout) (x : Lengths) (laid : IsSurface l) (len : AreLengths l x) 
 
       by_sight : IsWithin l x e ⊎ ((v : Slot) × (k : ℕ) × IsOnBorder l x e v k) → ⊥
       by_sight (inl i) =
-          false≢true (sym (inner_no_arc l x laid len e.patch e.i e.j e.way) ∙ ap (λ (c : Course). is_arc c.edge) (sym i.course)
+          false≢true (sym (inner_no_arc l x laid len e.patch e.i e.j e.way)
+          ∙ ap (λ (c : Course). is_arc c.edge) (sym i.course)
           ∙ ap is_arc across.edge ∙ ap (λ (c : Course). is_arc c.edge) here)
       by_sight (inr b) = by_slot b.0 b.1 b.2
 
   -- A dart across begins where the other one ends.
-  pub across_ends : (d e : CellDart) → IsDart l x d → IsAcross l x laid len d e → (dart_start l x e ≡ dart_end l x d) × (dart_end l x e ≡ dart_start l x d)
+  pub across_ends : (d e : CellDart) → IsDart l x d → IsAcross l x laid len d e → (dart_start l x e ≡ dart_end l x d)
+      × (dart_end l x e ≡ dart_start l x d)
   across_ends d e is a = (
-    course_from l x laid len e a.is_dart ∙ (λ t. start_at l x (course (a.edge t) (a.turned t))) ∙ starts (course_of l x d).ahead ∙ sym (course_to l x laid len d is),
-    course_to l x laid len e a.is_dart ∙ (λ t. end_at l x (course (a.edge t) (a.turned t))) ∙ ends (course_of l x d).ahead ∙ sym (course_from l x laid len d is),
+    course_from l x laid len e a.is_dart ∙ (λ t. start_at l x (course (a.edge t) (a.turned t)))
+        ∙ starts (course_of l x d).ahead ∙ sym (course_to l x laid len d is),
+    course_to l x laid len e a.is_dart ∙ (λ t. end_at l x (course (a.edge t) (a.turned t)))
+        ∙ ends (course_of l x d).ahead ∙ sym (course_from l x laid len d is),
   )
     where
-      starts : (b : Bool) → start_at l x (course (course_of l x d).edge (not b)) ≡ end_at l x (course (course_of l x d).edge b)
+      starts : (b : Bool) → start_at l x (course (course_of l x d).edge (not b))
+          ≡ end_at l x (course (course_of l x d).edge b)
       starts true = refl
       starts false = refl
 
-      ends : (b : Bool) → end_at l x (course (course_of l x d).edge (not b)) ≡ start_at l x (course (course_of l x d).edge b)
+      ends : (b : Bool) → end_at l x (course (course_of l x d).edge (not b))
+          ≡ start_at l x (course (course_of l x d).edge b)
       ends true = refl
       ends false = refl
 
@@ -187,7 +206,8 @@ module _ (l : Layout) (x : Lengths) (laid : IsSurface l) (len : AreLengths l x) 
     pub across_twin : (d e : CellDart) → IsDart l x d → IsAcross l x laid len d e
         → twin_of (new_faces l x) (dart_number l x d) ≡ Some (dart_number l x e)
     across_twin d e is a =
-        twin_found (new_faces l x) (edges_once l x laid len simple) (dart_number l x d) (dart_number l x e) (across_is_twin d e is a)
+        twin_found (new_faces l x) (edges_once l x laid len simple) (dart_number l x d) (dart_number l x e)
+        (across_is_twin d e is a)
 
     pub twin_across : (d : CellDart) (n : ℕ) → IsDart l x d → twin_of (new_faces l x) (dart_number l x d) ≡ Some n
         → (e : CellDart) × IsAcross l x laid len d e × (dart_number l x e ≡ n)
@@ -197,19 +217,25 @@ module _ (l : Layout) (x : Lengths) (laid : IsSurface l) (len : AreLengths l x) 
             → (e : CellDart) × IsAcross l x laid len d e × (dart_number l x e ≡ n)
         by_dart e is_e e_is t =
             let starts : dart_start l x e ≡ dart_end l x d =
-            number_same l x (dart_start l x e) (dart_end l x d) (from_is l x laid len e is_e) (from_is l x laid len (next d) (next_is l x d is))
+            number_same l x (dart_start l x e) (dart_end l x d) (from_is l x laid len e is_e)
+            (from_is l x laid len (next d) (next_is l x d is))
             (sym (number_from l x e is_e) ∙ ap (from_of (new_faces l x)) e_is ∙ t.1 ∙ number_to l x d is) in
             let ends : dart_end l x e ≡ dart_start l x d =
-            number_same l x (dart_end l x e) (dart_start l x d) (from_is l x laid len (next e) (next_is l x e is_e)) (from_is l x laid len d is)
+            number_same l x (dart_end l x e) (dart_start l x d) (from_is l x laid len (next e) (next_is l x e is_e))
+            (from_is l x laid len d is)
             (sym (number_to l x e is_e) ∙ ap (to_of (new_faces l x)) e_is ∙ t.2 ∙ number_from l x d is) in
-            let r : ((course_of l x e).edge ≡ (course_of l x d).edge) × ((course_of l x e).ahead ≡ not (course_of l x d).ahead) =
-            reversed l x simple (course_of l x d) (course_of l x e) (course_is l x laid len d is) (course_is l x laid len e is_e)
+            let r : ((course_of l x e).edge ≡ (course_of l x d).edge)
+            × ((course_of l x e).ahead ≡ not (course_of l x d).ahead) =
+            reversed l x simple (course_of l x d) (course_of l x e) (course_is l x laid len d is)
+            (course_is l x laid len e is_e)
             (sym (course_from l x laid len e is_e) ∙ starts ∙ course_to l x laid len d is)
             (sym (course_to l x laid len e is_e) ∙ ends ∙ course_from l x laid len d is) in
             (e, record { is_dart = is_e; edge = r.0; turned = r.1 }, e_is)
 
-        by_twin : IsTwin (new_faces l x) (dart_number l x d) n → (e : CellDart) × IsAcross l x laid len d e × (dart_number l x e ≡ n)
-        by_twin t = let a : (e : CellDart) × IsDart l x e × (dart_number l x e ≡ n) = at_number l x laid len n t.0 in by_dart a.0 a.1 a.2 t
+        by_twin : IsTwin (new_faces l x) (dart_number l x d) n → (e : CellDart) × IsAcross l x laid len d e
+            × (dart_number l x e ≡ n)
+        by_twin t = let a : (e : CellDart) × IsDart l x e × (dart_number l x e ≡ n) = at_number l x laid len n t.0 in
+            by_dart a.0 a.1 a.2 t
 
     pub alone_no_twin : (d : CellDart) (w : Slot) (o : ℕ) → IsDart l x d → IsAlone d w o
         → twin_of (new_faces l x) (dart_number l x d) ≡ None

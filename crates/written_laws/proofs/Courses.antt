@@ -1,5 +1,6 @@
 -- Each dart of a new cell runs along one edge, in its direction or against it, and no other dart does.
-use Rattle.std.proofs.Common.{◌≡◌, ◌⊎◌, ℕ, ◌+◌, ◌-◌, ◌<◌, Bool, true, false, not, cond, refl, sym, ◌∙◌, ap, subst, inl, inr, arith}
+use Rattle.std.proofs.Common.{◌≡◌, ◌⊎◌, ℕ, ◌+◌, ◌-◌, ◌<◌, Bool, true, false, not, cond, refl, sym, ◌∙◌, ap, subst, inl}
+use Rattle.std.proofs.Common.{inr, arith}
 use Rattle.std.specs.Prelude.{◌==◌}
 use Rattle.std.proofs.lemmas.Bool.{cases_eq, cond-true, cond-false, eq-eqb, ne_eqb, false≢true}
 use Rattle.def_layout.specs.declared.tmesh.SideArc.{SideArc}
@@ -65,7 +66,8 @@ module _ (l : Layout) (x : Lengths) where
   abbrev pub course_by : (p i j : ℕ) (w : Way) → Course
   course_by p i j south = cond (j == 0) (border_course p south i) (inner_course p i j south)
   course_by p i j east = cond (i + 1 == wide l x p) (border_course p east j) (inner_course p i j east)
-  course_by p i j north = cond (j + 1 == high l x p) (border_course p north (wide l x p - 1 - i)) (inner_course p i j north)
+  course_by p i j north = cond (j + 1 == high l x p) (border_course p north (wide l x p - 1 - i))
+      (inner_course p i j north)
   course_by p i j west = cond (i == 0) (border_course p west (high l x p - 1 - j)) (inner_course p i j west)
 
   abbrev pub course_of : (d : CellDart) → Course
@@ -95,7 +97,8 @@ module _ (l : Layout) (x : Lengths) where
     pub sees : (d : CellDart) → IsDart l x d → IsWithin d ⊎ ((w : Slot) × (o : ℕ) × IsOnBorder d w o)
     sees d is = by_way d.patch d.i d.j d.way is
       where
-        by_way : (p i j : ℕ) (w : Way) → IsDart l x (dart p i j w) → IsWithin (dart p i j w) ⊎ ((v : Slot) × (o : ℕ) × IsOnBorder (dart p i j w) v o)
+        by_way : (p i j : ℕ) (w : Way) → IsDart l x (dart p i j w) → IsWithin (dart p i j w)
+            ⊎ ((v : Slot) × (o : ℕ) × IsOnBorder (dart p i j w) v o)
         by_way p i j south d = elim (cases_eq j 0) [
           | inl z ↦ inr (on_border (dart p i j south) p south i d.patch_low d.i_low (λ t. dart p i (z t) south))
           | inr some ↦ inl (record {
@@ -105,7 +108,8 @@ module _ (l : Layout) (x : Lengths) where
         ]
         by_way p i j east d = elim (cases_eq (i + 1) (wide l x p)) [
           | inl z ↦ let e : i ≡ wide l x p - 1 = omega arith in
-              inr (on_border (dart p i j east) p east j d.patch_low (omega (arith, len.upright p d.patch_low, d.j_low)) (λ t. dart p (e t) j east))
+              inr (on_border (dart p i j east) p east j d.patch_low (omega (arith, len.upright p d.patch_low, d.j_low))
+              (λ t. dart p (e t) j east))
           | inr some ↦ inl (record {
             course = cond-false (i + 1 == wide l x p) _ _ (ne_eqb (i + 1) (wide l x p) some);
             is_edge = (d.patch_low, omega arith, omega (arith, d.i_low), d.j_low);
@@ -114,7 +118,8 @@ module _ (l : Layout) (x : Lengths) where
         by_way p i j north d = elim (cases_eq (j + 1) (high l x p)) [
           | inl z ↦ let e : i ≡ wide l x p - 1 - (wide l x p - 1 - i) = omega (arith, d.i_low) in
               let f : j ≡ high l x p - 1 = omega arith in
-              inr (on_border (dart p i j north) p north (wide l x p - 1 - i) d.patch_low (omega (arith, len.across p d.patch_low, d.i_low)) (λ t. dart p (e t) (f t) north))
+              inr (on_border (dart p i j north) p north (wide l x p - 1 - i) d.patch_low
+              (omega (arith, len.across p d.patch_low, d.i_low)) (λ t. dart p (e t) (f t) north))
           | inr some ↦ inl (record {
             course = cond-false (j + 1 == high l x p) _ _ (ne_eqb (j + 1) (high l x p) some);
             is_edge = (d.patch_low, d.i_low, omega arith, omega (arith, d.j_low));
@@ -122,23 +127,27 @@ module _ (l : Layout) (x : Lengths) where
         ]
         by_way p i j west d = elim (cases_eq i 0) [
           | inl z ↦ let f : j ≡ high l x p - 1 - (high l x p - 1 - j) = omega (arith, d.j_low) in
-              inr (on_border (dart p i j west) p west (high l x p - 1 - j) d.patch_low (omega (arith, d.j_low)) (λ t. dart p (z t) (f t) west))
+              inr (on_border (dart p i j west) p west (high l x p - 1 - j) d.patch_low (omega (arith, d.j_low))
+              (λ t. dart p (z t) (f t) west))
           | inr some ↦ inl (record {
             course = cond-false (i == 0) _ _ (ne_eqb i 0 some);
             is_edge = (d.patch_low, omega arith, d.i_low, d.j_low);
           })
         ]
 
-    rim_course : (p : ℕ) (s : Way) (t : ℕ) → p < l.patches → t < size l x p s → course_of (dart_along l x p s t) ≡ border_course p s t
+    rim_course : (p : ℕ) (s : Way) (t : ℕ) → p < l.patches → t < size l x p s → course_of (dart_along l x p s t)
+        ≡ border_course p s t
     rim_course p south t p_low less = refl
     rim_course p east t p_low less =
-        cond-true (wide l x p - 1 + 1 == wide l x p) _ _ (eq-eqb (wide l x p - 1 + 1) (wide l x p) (omega (arith, some)))
+        cond-true (wide l x p - 1 + 1 == wide l x p) _ _
+        (eq-eqb (wide l x p - 1 + 1) (wide l x p) (omega (arith, some)))
       where
         some : 0 < wide l x p
         some = size_some l x laid.paved len p south p_low
     rim_course p north t p_low less =
         let e : wide l x p - 1 - (wide l x p - 1 - t) ≡ t = omega (arith, len.across p p_low, less) in
-        cond-true (high l x p - 1 + 1 == high l x p) _ _ (eq-eqb (high l x p - 1 + 1) (high l x p) (omega (arith, some)))
+        cond-true (high l x p - 1 + 1 == high l x p) _ _
+        (eq-eqb (high l x p - 1 + 1) (high l x p) (omega (arith, some)))
         ∙ ap (border_course p north) e
       where
         some : 0 < high l x p
@@ -146,11 +155,14 @@ module _ (l : Layout) (x : Lengths) where
     rim_course p west t p_low less =
         let e : high l x p - 1 - (high l x p - 1 - t) ≡ t = omega (arith, less) in ap (border_course p west) e
 
-    pub at_course : (w : Slot) (o : ℕ) → IsSlot l w → o < x (use_of l w).arc → course_of (slot_dart l x w o) ≡ use_course (use_of l w) o
+    pub at_course : (w : Slot) (o : ℕ) → IsSlot l w → o < x (use_of l w).arc → course_of (slot_dart l x w o)
+        ≡ use_course (use_of l w) o
     at_course w o is less =
         let e : reach l x w.patch w.side w.at + o - reach l x w.patch w.side w.at ≡ o = omega arith in
-        rim_course w.patch w.side (reach l x w.patch w.side w.at + o) is.patch_low (at_low l x laid.paved len w o is less)
-        ∙ ap (λ m. use_course (l.use_at w.patch w.side m) (reach l x w.patch w.side w.at + o - reach l x w.patch w.side m)) (over_is l x w o is less)
+        rim_course w.patch w.side (reach l x w.patch w.side w.at + o) is.patch_low
+        (at_low l x laid.paved len w o is less)
+        ∙ ap (λ m. use_course (l.use_at w.patch w.side m) (reach l x w.patch w.side w.at + o - reach l x w.patch w.side
+        m)) (over_is l x w o is less)
         ∙ ap (use_course (use_of l w)) e
 
     pub border_is : (d : CellDart) (w : Slot) (o : ℕ) → IsOnBorder d w o → course_of d ≡ use_course (use_of l w) o
@@ -167,7 +179,8 @@ module _ (l : Layout) (x : Lengths) where
     pub course_is : (d : CellDart) → IsDart l x d → IsEdge l x (course_of d).edge
     course_is d is = elim (sees d is) [
       | inl i ↦ subst (λ (c : Course). IsEdge l x c.edge) (sym i.course) i.is_edge
-      | inr b ↦ subst (λ (c : Course). IsEdge l x c.edge) (sym (border_is d b.0 b.1 b.2)) (use_edge b.0 b.1 b.2.is_slot b.2.low)
+      | inr b ↦ subst (λ (c : Course). IsEdge l x c.edge) (sym (border_is d b.0 b.1 b.2))
+          (use_edge b.0 b.1 b.2.is_slot b.2.low)
     ]
 
     -- A dart begins and ends where its course does.
@@ -186,14 +199,16 @@ module _ (l : Layout) (x : Lengths) where
     use_from : (u : SideArc) (o : ℕ) → o < x u.arc → use_point l x u o ≡ start_at (use_course u o)
     use_from u o less = by_way u.arc u.forward less
       where
-        by_way : (a : ℕ) (b : Bool) → o < x a → use_point l x (record { arc = a; forward = b }) o ≡ start_at (use_course (record { arc = a; forward = b }) o)
+        by_way : (a : ℕ) (b : Bool) → o < x a → use_point l x (record { arc = a; forward = b }) o
+            ≡ start_at (use_course (record { arc = a; forward = b }) o)
         by_way a true o_low = refl
         by_way a false o_low = let e : x a - o ≡ x a - 1 - o + 1 = omega arith in ap (arc_point l x a) e
 
     use_to : (u : SideArc) (o : ℕ) → o < x u.arc → use_point l x u (o + 1) ≡ end_at (use_course u o)
     use_to u o less = by_way u.arc u.forward less
       where
-        by_way : (a : ℕ) (b : Bool) → o < x a → use_point l x (record { arc = a; forward = b }) (o + 1) ≡ end_at (use_course (record { arc = a; forward = b }) o)
+        by_way : (a : ℕ) (b : Bool) → o < x a → use_point l x (record { arc = a; forward = b }) (o + 1)
+            ≡ end_at (use_course (record { arc = a; forward = b }) o)
         by_way a true o_low = refl
         by_way a false o_low = let e : x a - (o + 1) ≡ x a - 1 - o = omega arith in ap (arc_point l x a) e
 
@@ -227,7 +242,8 @@ module _ (l : Layout) (x : Lengths) where
     -- A course on an arc tells the slot and the place.
     pub use_once : (v w : Slot) (o k : ℕ) → IsSlot l v → IsSlot l w → o < x (use_of l v).arc → k < x (use_of l w).arc
         → use_course (use_of l v) o ≡ use_course (use_of l w) k → slot_dart l x v o ≡ slot_dart l x w k
-    use_once v w o k is_v is_w o_low k_low same = λ t. slot_dart l x (slots t) (places (use_of l v).forward ways place t)
+    use_once v w o k is_v is_w o_low k_low same =
+        λ t. slot_dart l x (slots t) (places (use_of l v).forward ways place t)
       where
         edges : on_arc (use_of l v).arc (cond (use_of l v).forward o (x (use_of l v).arc - 1 - o))
             ≡ on_arc (use_of l w).arc (cond (use_of l w).forward k (x (use_of l w).arc - 1 - k))
@@ -240,23 +256,27 @@ module _ (l : Layout) (x : Lengths) where
         arcs = let e : on_arc (use_of l v).arc (cond (use_of l v).forward o (x (use_of l v).arc - 1 - o))
             ≡ on_arc (use_of l w).arc (cond (use_of l w).forward k (x (use_of l w).arc - 1 - k)) = edges in cc
 
-        place : cond (use_of l v).forward o (x (use_of l v).arc - 1 - o) ≡ cond (use_of l v).forward k (x (use_of l w).arc - 1 - k)
+        place : cond (use_of l v).forward o (x (use_of l v).arc - 1 - o)
+            ≡ cond (use_of l v).forward k (x (use_of l w).arc - 1 - k)
         place = let e : on_arc (use_of l v).arc (cond (use_of l v).forward o (x (use_of l v).arc - 1 - o))
             ≡ on_arc (use_of l w).arc (cond (use_of l w).forward k (x (use_of l w).arc - 1 - k)) = edges in
-            let f : cond (use_of l v).forward o (x (use_of l v).arc - 1 - o) ≡ cond (use_of l w).forward k (x (use_of l w).arc - 1 - k) = cc in
+            let f : cond (use_of l v).forward o (x (use_of l v).arc - 1 - o)
+            ≡ cond (use_of l w).forward k (x (use_of l w).arc - 1 - k) = cc in
             f ∙ ap (λ (b : Bool). cond b k (x (use_of l w).arc - 1 - k)) (sym ways)
 
         slots : v ≡ w
         slots = laid.once v w is_v is_w (λ t. record { arc = arcs t; forward = ways t })
 
-        places : (b : Bool) → b ≡ (use_of l w).forward → cond b o (x (use_of l v).arc - 1 - o) ≡ cond b k (x (use_of l w).arc - 1 - k) → o ≡ k
+        places : (b : Bool) → b ≡ (use_of l w).forward → cond b o (x (use_of l v).arc - 1 - o)
+            ≡ cond b k (x (use_of l w).arc - 1 - k) → o ≡ k
         places true e at = at
         places false e at = omega (arith, at, ap x arcs)
 
     pub course_once : (d e : CellDart) → IsDart l x d → IsDart l x e → course_of d ≡ course_of e → d ≡ e
     course_once d e is_d is_e same = elim (sees d is_d) [
       | inl i ↦ elim (sees e is_e) [
-        | inl j ↦ sym (inner_back d.patch d.i d.j d.way) ∙ ap inner_dart (sym i.course ∙ same ∙ j.course) ∙ inner_back e.patch e.i e.j e.way
+        | inl j ↦ sym (inner_back d.patch d.i d.j d.way) ∙ ap inner_dart (sym i.course ∙ same ∙ j.course)
+            ∙ inner_back e.patch e.i e.j e.way
         | inr b ↦ absurd (false≢true (sym (inner_no_arc d.patch d.i d.j d.way)
             ∙ ap (λ (c : Course). is_arc c.edge) (sym i.course ∙ same ∙ border_is e b.0 b.1 b.2)))
       ]
@@ -264,7 +284,8 @@ module _ (l : Layout) (x : Lengths) where
         | inl j ↦ absurd (false≢true (sym (inner_no_arc e.patch e.i e.j e.way)
             ∙ ap (λ (c : Course). is_arc c.edge) (sym j.course ∙ sym same ∙ border_is d a.0 a.1 a.2)))
         | inr b ↦ a.2.dart
-            ∙ use_once a.0 b.0 a.1 b.1 a.2.is_slot b.2.is_slot a.2.low b.2.low (sym (border_is d a.0 a.1 a.2) ∙ same ∙ border_is e b.0 b.1 b.2)
+            ∙ use_once a.0 b.0 a.1 b.1 a.2.is_slot b.2.is_slot a.2.low b.2.low (sym (border_is d a.0 a.1 a.2) ∙ same
+            ∙ border_is e b.0 b.1 b.2)
             ∙ sym b.2.dart
       ]
     ]

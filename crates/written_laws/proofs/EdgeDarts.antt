@@ -11,7 +11,8 @@ use Rattle.def_written.specs.Points.{IsPoint}
 use Rattle.def_written.specs.Edges.{Edge, on_arc, flat, steep, IsEdge, edge_start, edge_end}
 use Rattle.written_laws.proofs.Borders.{at_is, from_is}
 use Rattle.written_laws.proofs.NewDarts.{next_is}
-use Rattle.written_laws.proofs.Courses.{Course, course, start_at, end_at, use_course, course_of, at_course, course_from, course_to}
+use Rattle.written_laws.proofs.Courses.{Course, course, start_at, end_at, use_course, course_of, at_course, course_from}
+use Rattle.written_laws.proofs.Courses.{course_to}
 
 module _ (l : Layout) (x : Lengths) (laid : IsSurface l) (len : AreLengths l x) where
   pub edge_dart : (e : Edge) → IsEdge l x e → (d : CellDart) × IsDart l x d × ((course_of l x d).edge ≡ e)
@@ -42,11 +43,17 @@ module _ (l : Layout) (x : Lengths) (laid : IsSurface l) (len : AreLengths l x) 
   pub edge_points : (e : Edge) → IsEdge l x e → IsPoint l x (edge_start l x e) × IsPoint l x (edge_end l x e)
   edge_points e is = by_dart (edge_dart e is)
     where
-      by_dart : (d : CellDart) × IsDart l x d × ((course_of l x d).edge ≡ e) → IsPoint l x (edge_start l x e) × IsPoint l x (edge_end l x e)
+      by_dart : (d : CellDart) × IsDart l x d × ((course_of l x d).edge ≡ e) → IsPoint l x (edge_start l x e)
+          × IsPoint l x (edge_end l x e)
       by_dart f = by_way (course_of l x f.0).ahead
-          (subst (IsPoint l x) (course_from l x laid len f.0 f.1 ∙ ap (λ (g : Edge). start_at l x (course g (course_of l x f.0).ahead)) f.2) (from_is l x laid len f.0 f.1))
-          (subst (IsPoint l x) (course_to l x laid len f.0 f.1 ∙ ap (λ (g : Edge). end_at l x (course g (course_of l x f.0).ahead)) f.2) (from_is l x laid len (next f.0) (next_is l x f.0 f.1)))
+          (subst (IsPoint l x) (course_from l x laid len f.0 f.1
+          ∙ ap (λ (g : Edge). start_at l x (course g (course_of l x f.0).ahead)) f.2)
+          (from_is l x laid len f.0 f.1))
+          (subst (IsPoint l x) (course_to l x laid len f.0 f.1
+          ∙ ap (λ (g : Edge). end_at l x (course g (course_of l x f.0).ahead)) f.2)
+          (from_is l x laid len (next f.0) (next_is l x f.0 f.1)))
         where
-          by_way : (b : Bool) → IsPoint l x (start_at l x (course e b)) → IsPoint l x (end_at l x (course e b)) → IsPoint l x (edge_start l x e) × IsPoint l x (edge_end l x e)
+          by_way : (b : Bool) → IsPoint l x (start_at l x (course e b)) → IsPoint l x (end_at l x (course e b))
+              → IsPoint l x (edge_start l x e) × IsPoint l x (edge_end l x e)
           by_way true s t = (s, t)
           by_way false s t = (t, s)

@@ -1,7 +1,9 @@
 -- Points are the classes of corners under turns: what holds for turns holds for all darts that leave one point.
-use Rattle.std.proofs.Common.{◌≡◌, ◌⊎◌, ℕ, zero, suc, ◌+◌, ◌-◌, ◌<◌, ◌≤◌, Bool, true, false, not, cond, refl, sym, ◌∙◌, ap, subst, inl, inr, arith}
+use Rattle.std.proofs.Common.{◌≡◌, ◌⊎◌, ℕ, zero, suc, ◌+◌, ◌-◌, ◌<◌, ◌≤◌, Bool, true, false, not, cond, refl, sym, ◌∙◌}
+use Rattle.std.proofs.Common.{ap, subst, inl, inr, arith}
 use Rattle.std.proofs.lemmas.Bool.{cases_eq}
-use Rattle.def_layout.specs.Layouts.{Way, south, east, north, west, side_before, Layout, Slot, IsSlot, use_of, use_before, slot_before, start_node}
+use Rattle.def_layout.specs.Layouts.{Way, south, east, north, west, side_before, Layout, Slot, IsSlot, use_of}
+use Rattle.def_layout.specs.Layouts.{use_before, slot_before, start_node}
 use Rattle.def_layout.specs.Surfaces.{HasWholeSides, IsSurface}
 use Rattle.def_layout.specs.Fans.{IsTurn, SlotTurns, HasFans}
 use Rattle.def_layout.specs.Lengths.{Lengths, reach, size, AreLengths}
@@ -10,14 +12,17 @@ use Rattle.def_written.specs.Points.{node, along, inside, use_point}
 use Rattle.def_written.specs.NewFaces.{dart_start}
 use Rattle.written_laws.proofs.Sides.{slot, use_begins, use_inner, reach_low, use_some, last_reach, size_some}
 use Rattle.written_laws.proofs.Turning.{IsTurning}
-use Rattle.written_laws.proofs.Rims.{column_of, row_of, rim_patch, rim_column, rim_row, rim_on, rim_round, darts_related, IsInner}
+use Rattle.written_laws.proofs.Rims.{column_of, row_of, rim_patch, rim_column, rim_row, rim_on, rim_round}
+use Rattle.written_laws.proofs.Rims.{darts_related, IsInner}
 use Rattle.written_laws.proofs.Borders.{at_is, IsAt, sort_dart, inner_from, use_not_inside, before_is}
 
-module _ (l : Layout) (x : Lengths) (paved : HasWholeSides l) (len : AreLengths l x) (R : CellDart → CellDart → Type 0) (turning : IsTurning l x R) where
+module _ (l : Layout) (x : Lengths) (paved : HasWholeSides l) (len : AreLengths l x) (R : CellDart → CellDart
+    → Type 0) (turning : IsTurning l x R) where
   pub next_is : (d : CellDart) → IsDart l x d → IsDart l x (next d)
   next_is d is = record { patch_low = is.patch_low; i_low = is.i_low; j_low = is.j_low }
 
-  pub rim_then : (p : ℕ) (s : Way) (t u : ℕ) → p < l.patches → u ≡ t + 1 → u < size l x p s → R (next (dart_along l x p s t)) (dart_along l x p s u)
+  pub rim_then : (p : ℕ) (s : Way) (t u : ℕ) → p < l.patches → u ≡ t + 1 → u < size l x p s
+      → R (next (dart_along l x p s t)) (dart_along l x p s u)
   rim_then p s t u low e less =
       subst (λ (v : ℕ). R (next (dart_along l x p s t)) (dart_along l x p s v)) (sym e)
       (rim_on l x paved len R turning p s t low (omega arith))
@@ -29,13 +34,18 @@ module _ (l : Layout) (x : Lengths) (paved : HasWholeSides l) (len : AreLengths 
     where
       round : (s : Way) (t : ℕ) → t + 1 ≡ size l x w.patch (side_before s)
           → R (next (dart_along l x w.patch (side_before s) t)) (dart_along l x w.patch s (0 + 0))
-      round south t e = rim_round l x paved len R turning w.patch west t is.patch_low e (size_some l x paved len w.patch south is.patch_low)
-      round east t e = rim_round l x paved len R turning w.patch south t is.patch_low e (size_some l x paved len w.patch east is.patch_low)
-      round north t e = rim_round l x paved len R turning w.patch east t is.patch_low e (size_some l x paved len w.patch north is.patch_low)
-      round west t e = rim_round l x paved len R turning w.patch north t is.patch_low e (size_some l x paved len w.patch west is.patch_low)
+      round south t e = rim_round l x paved len R turning w.patch west t is.patch_low e
+          (size_some l x paved len w.patch south is.patch_low)
+      round east t e = rim_round l x paved len R turning w.patch south t is.patch_low e
+          (size_some l x paved len w.patch east is.patch_low)
+      round north t e = rim_round l x paved len R turning w.patch east t is.patch_low e
+          (size_some l x paved len w.patch north is.patch_low)
+      round west t e = rim_round l x paved len R turning w.patch north t is.patch_low e
+          (size_some l x paved len w.patch west is.patch_low)
 
       by_place : (m : ℕ) → m < l.many w.patch w.side
-          → R (next (slot_dart l x (slot_before l w.patch w.side m) (x (use_of l (slot_before l w.patch w.side m)).arc - 1)))
+          → R (next (slot_dart l x (slot_before l w.patch w.side m) (x (use_of l (slot_before l w.patch w.side m)).arc -
+          1)))
           (slot_dart l x (slot w.patch w.side m) 0)
       by_place zero low =
           round w.side
@@ -44,19 +54,22 @@ module _ (l : Layout) (x : Lengths) (paved : HasWholeSides l) (len : AreLengths 
           (omega (
             arith,
             last_reach l x paved len w.patch (side_before w.side) is.patch_low,
-            use_some l x paved len (slot_before l w.patch w.side zero) (before_is l x paved len (slot w.patch w.side zero) (record { patch_low = is.patch_low; low = low })),
+            use_some l x paved len (slot_before l w.patch w.side zero)
+                (before_is l x paved len (slot w.patch w.side zero) (record { patch_low = is.patch_low; low = low })),
           ))
       by_place (suc m) low =
           let some : 0 < x (l.use_at w.patch w.side m).arc =
           use_some l x paved len (slot w.patch w.side m) (record { patch_low = is.patch_low; low = omega arith }) in
-          let next_low : reach l x w.patch w.side (suc m) + x (l.use_at w.patch w.side (suc m)).arc ≤ size l x w.patch w.side =
+          let next_low : reach l x w.patch w.side (suc m) + x (l.use_at w.patch w.side (suc m)).arc
+          ≤ size l x w.patch w.side =
           reach_low l x (slot w.patch w.side (suc m)) (record { patch_low = is.patch_low; low = low }) in
           let next_some : 0 < x (l.use_at w.patch w.side (suc m)).arc =
           use_some l x paved len (slot w.patch w.side (suc m)) (record { patch_low = is.patch_low; low = low }) in
           rim_then w.patch w.side (reach l x w.patch w.side m + (x (l.use_at w.patch w.side m).arc - 1))
           (reach l x w.patch w.side (suc m) + 0) is.patch_low (omega arith) (omega arith)
 
-module _ (l : Layout) (x : Lengths) (laid : IsSurface l) (len : AreLengths l x) (R : CellDart → CellDart → Type 0) (turning : IsTurning l x R) where
+module _ (l : Layout) (x : Lengths) (laid : IsSurface l) (len : AreLengths l x) (R : CellDart → CellDart
+    → Type 0) (turning : IsTurning l x R) where
   -- A turn of the layout.
   pub turn_related : (v w : Slot) → IsSlot l v → IsTurn l v w → R (slot_dart l x v 0) (slot_dart l x w 0)
   turn_related v w is turn =
@@ -69,11 +82,14 @@ module _ (l : Layout) (x : Lengths) (laid : IsSurface l) (len : AreLengths l x) 
       turning.over b w k is_b (turn.is_slot, turn.reverse) (omega arith) in
       turning.on (slot_dart l x v 0) (next (slot_dart l x b k)) (slot_dart l x w 0)
       (turning.back (next (slot_dart l x b k)) (slot_dart l x v 0)
-      (next_is l x laid.paved len R turning (slot_dart l x b k) (at_is l x laid.paved len b k is_b (omega arith))) (before_related l x laid.paved len R turning v is))
+      (next_is l x laid.paved len R turning (slot_dart l x b k) (at_is l x laid.paved len b k is_b (omega arith)))
+      (before_related l x laid.paved len R turning v is))
       (subst (λ (i : ℕ). R (next (slot_dart l x b k)) (slot_dart l x w i)) zero_is over)
 
-  pub turns_related : (v w : Slot) (n : ℕ) → IsSlot l v → IsSlot l w → SlotTurns l v w n → R (slot_dart l x v 0) (slot_dart l x w 0)
-  turns_related v w zero is_v is_w same = turning.self (slot_dart l x v 0) (slot_dart l x w 0) (ap (λ (u : Slot). slot_dart l x u 0) same)
+  pub turns_related : (v w : Slot) (n : ℕ) → IsSlot l v → IsSlot l w → SlotTurns l v w n
+      → R (slot_dart l x v 0) (slot_dart l x w 0)
+  turns_related v w zero is_v is_w same =
+      turning.self (slot_dart l x v 0) (slot_dart l x w 0) (ap (λ (u : Slot). slot_dart l x u 0) same)
   turns_related v w (suc n) is_v is_w turns =
       turning.on (slot_dart l x v 0) (slot_dart l x turns.0 0) (slot_dart l x w 0)
       (turns_related v turns.0 n is_v turns.1 turns.2) (by_turn turns.3)
@@ -86,14 +102,16 @@ module _ (l : Layout) (x : Lengths) (laid : IsSurface l) (len : AreLengths l x) 
 
   -- It holds for the first darts of arcs that begin at one node.
   abbrev pub AtNodes : Type 0
-  AtNodes = (v w : Slot) → IsSlot l v → IsSlot l w → start_node l (use_of l v) ≡ start_node l (use_of l w) → R (slot_dart l x v 0) (slot_dart l x w 0)
+  AtNodes = (v w : Slot) → IsSlot l v → IsSlot l w → start_node l (use_of l v) ≡ start_node l (use_of l w)
+      → R (slot_dart l x v 0) (slot_dart l x w 0)
 
   pub at_nodes : HasFans l → AtNodes
   at_nodes fans v w is_v is_w same =
       let t : (n : ℕ) × SlotTurns l v w n = fans v w is_v is_w same in turns_related v w t.0 is_v is_w t.1
 
   -- It holds for two border darts that leave one inner point of an arc.
-  along_related : (w v : Slot) (o k : ℕ) → IsSlot l w → IsSlot l v → 0 < o → o < x (use_of l w).arc → 0 < k → k < x (use_of l v).arc
+  along_related : (w v : Slot) (o k : ℕ) → IsSlot l w → IsSlot l v → 0 < o → o < x (use_of l w).arc → 0 < k
+      → k < x (use_of l v).arc
       → use_point l x (use_of l w) o ≡ use_point l x (use_of l v) k → R (slot_dart l x w o) (slot_dart l x v k)
   along_related w v o k is_w is_v o_some o_low k_some k_low same =
       by_ways (use_of l w).forward (use_of l v).forward refl refl place
@@ -106,7 +124,8 @@ module _ (l : Layout) (x : Lengths) (laid : IsSurface l) (len : AreLengths l x) 
       arcs = let e : along (use_of l w).arc (cond (use_of l w).forward o (x (use_of l w).arc - o))
           ≡ along (use_of l v).arc (cond (use_of l v).forward k (x (use_of l v).arc - k)) = points in cc
 
-      place : cond (use_of l w).forward o (x (use_of l w).arc - o) ≡ cond (use_of l v).forward k (x (use_of l v).arc - k)
+      place : cond (use_of l w).forward o (x (use_of l w).arc - o)
+          ≡ cond (use_of l v).forward k (x (use_of l v).arc - k)
       place = let e : along (use_of l w).arc (cond (use_of l w).forward o (x (use_of l w).arc - o))
           ≡ along (use_of l v).arc (cond (use_of l v).forward k (x (use_of l v).arc - k)) = points in cc
 
@@ -115,35 +134,42 @@ module _ (l : Layout) (x : Lengths) (laid : IsSurface l) (len : AreLengths l x) 
           let one : w ≡ v = laid.once w v is_w is_v (λ t. record { arc = arcs t; forward = ways t }) in
           turning.self (slot_dart l x w o) (slot_dart l x v k) (λ t. slot_dart l x (one t) (e t))
 
-      turned : (use_of l v).forward ≡ not (use_of l w).forward → k ≡ x (use_of l w).arc - o → R (slot_dart l x w o) (slot_dart l x v k)
+      turned : (use_of l v).forward ≡ not (use_of l w).forward → k ≡ x (use_of l w).arc - o
+          → R (slot_dart l x w o) (slot_dart l x v k)
       turned ways e =
           let place_is : x (use_of l w).arc - 1 - (o - 1) ≡ k = omega arith in
           let over : R (next (slot_dart l x w (o - 1))) (slot_dart l x v (x (use_of l w).arc - 1 - (o - 1))) =
           turning.over w v (o - 1) is_w (is_v, record { arc = sym arcs; turned = ways }) (omega arith) in
           let on : R (next (slot_dart l x w (o - 1))) (slot_dart l x w o) =
-          rim_then l x laid.paved len R turning w.patch w.side (reach l x w.patch w.side w.at + (o - 1)) (reach l x w.patch w.side w.at + o)
+          rim_then l x laid.paved len R turning w.patch w.side (reach l x w.patch w.side w.at + (o - 1))
+          (reach l x w.patch w.side w.at + o)
           is_w.patch_low (omega arith) (omega (arith, reach_low l x w is_w)) in
           turning.on (slot_dart l x w o) (next (slot_dart l x w (o - 1))) (slot_dart l x v k)
           (turning.back (next (slot_dart l x w (o - 1))) (slot_dart l x w o)
-          (next_is l x laid.paved len R turning (slot_dart l x w (o - 1)) (at_is l x laid.paved len w (o - 1) is_w (omega arith))) on)
+          (next_is l x laid.paved len R turning (slot_dart l x w (o - 1))
+          (at_is l x laid.paved len w (o - 1) is_w (omega arith))) on)
           (subst (λ (i : ℕ). R (next (slot_dart l x w (o - 1))) (slot_dart l x v i)) place_is over)
 
       by_ways : (f g : Bool) → (use_of l w).forward ≡ f → (use_of l v).forward ≡ g
           → cond (use_of l w).forward o (x (use_of l w).arc - o) ≡ cond (use_of l v).forward k (x (use_of l v).arc - k)
           → R (slot_dart l x w o) (slot_dart l x v k)
       by_ways true true f g e =
-          alike (f ∙ sym g) (ap (λ (h : Bool). cond h o (x (use_of l w).arc - o)) (sym f) ∙ e ∙ ap (λ (h : Bool). cond h k (x (use_of l v).arc - k)) g)
+          alike (f ∙ sym g) (ap (λ (h : Bool). cond h o (x (use_of l w).arc - o)) (sym f) ∙ e
+          ∙ ap (λ (h : Bool). cond h k (x (use_of l v).arc - k)) g)
       by_ways false false f g e =
           let q : x (use_of l w).arc - o ≡ x (use_of l v).arc - k =
-          ap (λ (h : Bool). cond h o (x (use_of l w).arc - o)) (sym f) ∙ e ∙ ap (λ (h : Bool). cond h k (x (use_of l v).arc - k)) g in
+          ap (λ (h : Bool). cond h o (x (use_of l w).arc - o)) (sym f) ∙ e
+          ∙ ap (λ (h : Bool). cond h k (x (use_of l v).arc - k)) g in
           alike (f ∙ sym g) (omega (arith, q, ap x arcs))
       by_ways true false f g e =
           let q : o ≡ x (use_of l v).arc - k =
-          ap (λ (h : Bool). cond h o (x (use_of l w).arc - o)) (sym f) ∙ e ∙ ap (λ (h : Bool). cond h k (x (use_of l v).arc - k)) g in
+          ap (λ (h : Bool). cond h o (x (use_of l w).arc - o)) (sym f) ∙ e
+          ∙ ap (λ (h : Bool). cond h k (x (use_of l v).arc - k)) g in
           turned (g ∙ ap not (sym f)) (omega (arith, q, ap x arcs))
       by_ways false true f g e =
           let q : x (use_of l w).arc - o ≡ k =
-          ap (λ (h : Bool). cond h o (x (use_of l w).arc - o)) (sym f) ∙ e ∙ ap (λ (h : Bool). cond h k (x (use_of l v).arc - k)) g in
+          ap (λ (h : Bool). cond h o (x (use_of l w).arc - o)) (sym f) ∙ e
+          ∙ ap (λ (h : Bool). cond h k (x (use_of l v).arc - k)) g in
           turned (g ∙ ap not (sym f)) (sym q)
 
   module _ (nodes : AtNodes) where
@@ -155,7 +181,8 @@ module _ (l : Layout) (x : Lengths) (laid : IsSurface l) (len : AreLengths l x) 
         | inr k_some ↦
             let a : use_point l x (use_of l w) o ≡ node (start_node l (use_of l w)) =
             ap (use_point l x (use_of l w)) o_zero ∙ use_begins l x (use_of l w) (omega arith) in
-            let b : use_point l x (use_of l v) k ≡ along (use_of l v).arc (cond (use_of l v).forward k (x (use_of l v).arc - k)) =
+            let b : use_point l x (use_of l v) k
+            ≡ along (use_of l v).arc (cond (use_of l v).forward k (x (use_of l v).arc - k)) =
             use_inner l x (use_of l v) k (omega arith) k_low in
             absurd cc
       ]
@@ -163,7 +190,8 @@ module _ (l : Layout) (x : Lengths) (laid : IsSurface l) (len : AreLengths l x) 
         | inl k_zero ↦
             let a : use_point l x (use_of l v) k ≡ node (start_node l (use_of l v)) =
             ap (use_point l x (use_of l v)) k_zero ∙ use_begins l x (use_of l v) (omega arith) in
-            let b : use_point l x (use_of l w) o ≡ along (use_of l w).arc (cond (use_of l w).forward o (x (use_of l w).arc - o)) =
+            let b : use_point l x (use_of l w) o
+            ≡ along (use_of l w).arc (cond (use_of l w).forward o (x (use_of l w).arc - o)) =
             use_inner l x (use_of l w) o (omega arith) o_low in
             absurd cc
         | inr k_some ↦ along_related w v o k is_w is_v (omega arith) o_low (omega arith) k_low same
@@ -182,11 +210,15 @@ module _ (l : Layout) (x : Lengths) (laid : IsSurface l) (len : AreLengths l x) 
 
     at_related : (d : CellDart) (w : Slot) (o : ℕ) → IsDart l x d → IsAt l x laid len d w o → R d (slot_dart l x w o)
     at_related d w o is a =
-        let low : reach l x w.patch w.side w.at + o < size l x w.patch w.side = omega (arith, reach_low l x w a.is_slot, a.low) in
-        darts_related l x laid.paved len R turning d (slot_dart l x w o) is (at_is l x laid.paved len w o a.is_slot a.low)
+        let low : reach l x w.patch w.side w.at + o < size l x w.patch w.side =
+        omega (arith, reach_low l x w a.is_slot, a.low) in
+        darts_related l x laid.paved len R turning d (slot_dart l x w o) is
+        (at_is l x laid.paved len w o a.is_slot a.low)
         (a.patch ∙ sym (rim_patch l x laid.paved len w.patch w.side (reach l x w.patch w.side w.at + o)))
-        (a.column ∙ sym (rim_column l x laid.paved len w.patch w.side (reach l x w.patch w.side w.at + o) a.is_slot.patch_low low))
-        (a.row ∙ sym (rim_row l x laid.paved len w.patch w.side (reach l x w.patch w.side w.at + o) a.is_slot.patch_low low))
+        (a.column ∙ sym (rim_column l x laid.paved len w.patch w.side (reach l x w.patch w.side w.at + o)
+        a.is_slot.patch_low low))
+        (a.row ∙ sym (rim_row l x laid.paved len w.patch w.side (reach l x w.patch w.side w.at + o) a.is_slot.patch_low
+        low))
 
     -- It holds for all darts that leave one point.
     pub point_related : (d e : CellDart) → IsDart l x d → IsDart l x e → dart_start l x d ≡ dart_start l x e → R d e
@@ -203,7 +235,8 @@ module _ (l : Layout) (x : Lengths) (laid : IsSurface l) (len : AreLengths l x) 
       ]
     ]
       where
-        both_inner : IsInner l x laid.paved len d.patch (column_of d) (row_of d) → IsInner l x laid.paved len e.patch (column_of e) (row_of e) → R d e
+        both_inner : IsInner l x laid.paved len d.patch (column_of d) (row_of d)
+            → IsInner l x laid.paved len e.patch (column_of e) (row_of e) → R d e
         both_inner i j =
             let a : inside d.patch (column_of d) (row_of d) ≡ inside e.patch (column_of e) (row_of e) =
             sym (inner_from l x laid len d i) ∙ same ∙ inner_from l x laid len e j in
@@ -212,7 +245,8 @@ module _ (l : Layout) (x : Lengths) (laid : IsSurface l) (len : AreLengths l x) 
             let r : row_of d ≡ row_of e = cc in
             darts_related l x laid.paved len R turning d e is_d is_e p c r
 
-        both_border : (w : Slot) (o : ℕ) → IsAt l x laid len d w o → (v : Slot) (k : ℕ) → IsAt l x laid len e v k → R d e
+        both_border : (w : Slot) (o : ℕ) → IsAt l x laid len d w o → (v : Slot) (k : ℕ) → IsAt l x laid len e v k
+            → R d e
         both_border w o a v k b =
             turning.on d (slot_dart l x w o) e (at_related d w o is_d a)
             (turning.on (slot_dart l x w o) (slot_dart l x v k) e

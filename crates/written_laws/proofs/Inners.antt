@@ -26,13 +26,15 @@ abbrev pub AreShared : (l : Layout) (x : Lengths) (a : Point) → Type 0
 AreShared l x a = (w : Slot) (o : ℕ) → IsSlot l w → o < x (use_of l w).arc
     → (use_point l x (use_of l w) o ≡ a) ⊎ (use_point l x (use_of l w) (o + 1) ≡ a) → (v : Slot) × IsOtherSlot l w v
 
-module _ (l : Layout) (x : Lengths) (laid : IsSurface l) (len : AreLengths l x) (F : Faces) (cell : CellDart → ℕ) (model : IsModel F l x laid len cell) where
+module _ (l : Layout) (x : Lengths) (laid : IsSurface l) (len : AreLengths l x) (F : Faces) (cell : CellDart
+    → ℕ) (model : IsModel F l x laid len cell) where
   -- Vertex v of the model is point a.
   pub record IsVertex (a : Point) (v : ℕ) : Type 0 where
     pub there : (d : CellDart) → IsDart l x d → dart_start l x d ≡ a → from_of F (cell d) ≡ v
     pub back : (d : CellDart) → IsDart l x d → from_of F (cell d) ≡ v → dart_start l x d ≡ a
 
-  pub vertex_from : (d : CellDart) (a : Point) (v : ℕ) → IsDart l x d → dart_start l x d ≡ a → from_of F (cell d) ≡ v → IsVertex a v
+  pub vertex_from : (d : CellDart) (a : Point) (v : ℕ) → IsDart l x d → dart_start l x d ≡ a → from_of F (cell d) ≡ v
+      → IsVertex a v
   vertex_from d a v is leaves vertex = record {
     there = λ e is_e s. model.alike e d is_e is (s ∙ sym leaves) ∙ vertex;
     back = λ e is_e s. model.apart e d is_e is (s ∙ sym vertex) ∙ leaves;
@@ -48,16 +50,21 @@ module _ (l : Layout) (x : Lengths) (laid : IsSurface l) (len : AreLengths l x) 
     pub inner_if : AreShared l x a → is_inner F v ≡ true
     inner_if shared = inner_from F v at
       where
-        by_dart : (d : CellDart) → IsDart l x d → (dart_start l x d ≡ a) ⊎ (dart_end l x d ≡ a) → (t : ℕ) × (twin_of F (cell d) ≡ Some t)
+        by_dart : (d : CellDart) → IsDart l x d → (dart_start l x d ≡ a) ⊎ (dart_end l x d ≡ a)
+            → (t : ℕ) × (twin_of F (cell d) ≡ Some t)
         by_dart d is ends = by_case (across_or_alone l x laid len d is)
           where
             alone : (w : Slot) (o : ℕ) → IsAlone l x laid len d w o → ⊥
             alone w o s =
-                let other : (u : Slot) × IsOtherSlot l w u = shared w o s.on_border.is_slot s.on_border.low (at ends) in s.alone other.0 other.1
+                let other : (u : Slot) × IsOtherSlot l w u = shared w o s.on_border.is_slot s.on_border.low (at ends) in
+                s.alone other.0 other.1
               where
-                at : (dart_start l x d ≡ a) ⊎ (dart_end l x d ≡ a) → (use_point l x (use_of l w) o ≡ a) ⊎ (use_point l x (use_of l w) (o + 1) ≡ a)
-                at (inl e) = inl (sym (at_from l x laid len w o s.on_border.is_slot s.on_border.low) ∙ ap (dart_start l x) (sym s.on_border.dart) ∙ e)
-                at (inr e) = inr (sym (at_to l x laid len w o s.on_border.is_slot s.on_border.low) ∙ ap (dart_end l x) (sym s.on_border.dart) ∙ e)
+                at : (dart_start l x d ≡ a) ⊎ (dart_end l x d ≡ a) → (use_point l x (use_of l w) o ≡ a)
+                    ⊎ (use_point l x (use_of l w) (o + 1) ≡ a)
+                at (inl e) = inl (sym (at_from l x laid len w o s.on_border.is_slot s.on_border.low)
+                    ∙ ap (dart_start l x) (sym s.on_border.dart) ∙ e)
+                at (inr e) = inr (sym (at_to l x laid len w o s.on_border.is_slot s.on_border.low)
+                    ∙ ap (dart_end l x) (sym s.on_border.dart) ∙ e)
 
             by_case : ((e : CellDart) × IsAcross l x laid len d e) ⊎ ((w : Slot) × (o : ℕ) × IsAlone l x laid len d w o)
                 → (t : ℕ) × (twin_of F (cell d) ≡ Some t)
@@ -70,7 +77,8 @@ module _ (l : Layout) (x : Lengths) (laid : IsSurface l) (len : AreLengths l x) 
             let t : (t : ℕ) × (twin_of F (cell d.0) ≡ Some t) = by_dart d.0 d.1 (sort d.0 d.1 d.2 ends) in
             (t.0, ap (twin_of F) (sym d.2) ∙ t.1)
           where
-            sort : (d : CellDart) → IsDart l x d → cell d ≡ k → (from_of F k ≡ v) ⊎ (to_of F k ≡ v) → (dart_start l x d ≡ a) ⊎ (dart_end l x d ≡ a)
+            sort : (d : CellDart) → IsDart l x d → cell d ≡ k → (from_of F k ≡ v) ⊎ (to_of F k ≡ v)
+                → (dart_start l x d ≡ a) ⊎ (dart_end l x d ≡ a)
             sort d is s (inl e) = inl (is_v.back d is (ap (from_of F) s ∙ e))
             sort d is s (inr e) = inr (ends_there d is (ap (to_of F) s ∙ e))
 
@@ -85,31 +93,38 @@ module _ (l : Layout) (x : Lengths) (laid : IsSurface l) (len : AreLengths l x) 
         at (inl e) = inl (is_v.there (slot_dart l x w o) is_d (at_from l x laid len w o is less ∙ e))
         at (inr e) = inr (ends_back (slot_dart l x w o) is_d (at_to l x laid len w o is less ∙ e))
 
-        by_other : ((u : Slot) × IsOtherSlot l w u) ⊎ ((u : Slot) → ¬ IsOtherSlot l w u) → (u : Slot) × IsOtherSlot l w u
+        by_other : ((u : Slot) × IsOtherSlot l w u) ⊎ ((u : Slot) → ¬ IsOtherSlot l w u) → (u : Slot)
+            × IsOtherSlot l w u
         by_other (inl u) = u
         by_other (inr none) =
             let t : (t : ℕ) × (twin_of F (cell (slot_dart l x w o)) ≡ Some t) =
             inner_twin F v inner (cell (slot_dart l x w o)) (model.low (slot_dart l x w o) is_d) (at ends) in
             let s : IsAlone l x laid len (slot_dart l x w o) w o =
             record { on_border = record { is_slot = is; low = less; dart = refl }; alone = none } in
-            absurd (none-some t.0 (sym (model.alone (slot_dart l x w o) is_d (λ e. alone_not_across l x laid len (slot_dart l x w o) e w o s)) ∙ t.1))
+            absurd (none-some t.0 (sym
+            (model.alone (slot_dart l x w o) is_d (λ e. alone_not_across l x laid len (slot_dart l x w o) e w o
+            s)) ∙ t.1))
 
     -- So many darts leave the vertex, where they are told by numbers.
     pub fan_most : (n : ℕ) (code : (d : CellDart) → IsDart l x d → dart_start l x d ≡ a → (k : ℕ) × (k < n))
-        → ((d e : CellDart) (b : IsDart l x d) (c : IsDart l x e) (f : dart_start l x d ≡ a) (g : dart_start l x e ≡ a) → (code d b f).0 ≡ (code e c g).0 → d ≡ e)
+        → ((d e : CellDart) (b : IsDart l x d) (c : IsDart l x e) (f : dart_start l x d ≡ a) (g : dart_start l x e ≡ a)
+        → (code d b f).0 ≡ (code e c g).0 → d ≡ e)
         → faces_at F v ≤ n
     fan_most n code once =
         omega (arith, filter_long (λ d. from_of F d == v) (darts F), passing_all n, most)
       where
         leaves : (k : ℕ) (low : k < darts F) → (from_of F k == v) ≡ true → dart_start l x (model.onto k low).0 ≡ a
         leaves k low s =
-            is_v.back (model.onto k low).0 (model.onto k low).1 (ap (from_of F) (model.onto k low).2 ∙ eqb-true (from_of F k) v s)
+            is_v.back (model.onto k low).0 (model.onto k low).1 (ap (from_of F) (model.onto k low).2
+            ∙ eqb-true (from_of F k) v s)
 
         most : passing (λ d. from_of F d == v) (darts F) ≤ passing (λ k. true) n
         most = passing_le (λ d. from_of F d == v) (λ k. true) (darts F) n
-            (λ k low s. let c : (k : ℕ) × (k < n) = code (model.onto k low).0 (model.onto k low).1 (leaves k low s) in (c.0, c.1, refl))
+            (λ k low s. let c : (k : ℕ) × (k < n) = code (model.onto k low).0 (model.onto k low).1 (leaves k low s) in
+            (c.0, c.1, refl))
             (λ k m low s less r same. sym (model.onto k low).2
-            ∙ ap cell (once (model.onto k low).0 (model.onto m less).0 (model.onto k low).1 (model.onto m less).1 (leaves k low s) (leaves m less r) same)
+            ∙ ap cell (once (model.onto k low).0 (model.onto m less).0 (model.onto k low).1 (model.onto m less).1
+            (leaves k low s) (leaves m less r) same)
             ∙ (model.onto m less).2)
 
     pub fan_least : (n : ℕ) (at : (k : ℕ) → k < n → (d : CellDart) × IsDart l x d × (dart_start l x d ≡ a))
@@ -124,4 +139,5 @@ module _ (l : Layout) (x : Lengths) (laid : IsSurface l) (len : AreLengths l x) 
               model.low (at k low).0 (at k low).1,
               eq-eqb (from_of F (cell (at k low).0)) v (is_v.there (at k low).0 (at k low).1 (at k low).2),
             ))
-            (λ k m low on less off same. once k m low less (model.same (at k low).0 (at m less).0 (at k low).1 (at m less).1 same))
+            (λ k m low on less off same. once k m low less (model.same (at k low).0 (at m less).0 (at k low).1
+            (at m less).1 same))

@@ -1,5 +1,6 @@
 -- The darts of the new faces, by number and by cell.
-use Rattle.std.proofs.Common.{◌≡◌, ℕ, zero, suc, ◌+◌, ◌-◌, ◌*◌, ◌/◌, ◌%◌, ◌<◌, [], length, refl, sym, ◌∙◌, ap, subst, arith}
+use Rattle.std.proofs.Common.{◌≡◌, ℕ, zero, suc, ◌+◌, ◌-◌, ◌*◌, ◌/◌, ◌%◌, ◌<◌, [], length, refl, sym, ◌∙◌, ap, subst}
+use Rattle.std.proofs.Common.{arith}
 use Rattle.std.specs.Prelude.{slice_index_or}
 use Rattle.std.proofs.Math.Nat.{mod-lt, div-lt_iff_lt-mul, mul_comm}
 use Rattle.std.proofs.lemmas.Nat.{mul-add-lt, same_from_place, div-add-mod'}
@@ -12,7 +13,8 @@ use Rattle.def_layout.specs.Surfaces.{IsSurface}
 use Rattle.def_layout.specs.Lengths.{Lengths, wide, high, AreLengths}
 use Rattle.def_layout.specs.Cells.{CellDart, IsDart, dart, next, prev}
 use Rattle.def_written.specs.Numbers.{vertex_number}
-use Rattle.def_written.specs.NewFaces.{dart_start, dart_end, cells_before, face_count, patch_of, cell_in, dart_of, cell_vertex, new_face, new_faces}
+use Rattle.def_written.specs.NewFaces.{dart_start, dart_end, cells_before, face_count, patch_of, cell_in, dart_of}
+use Rattle.def_written.specs.NewFaces.{cell_vertex, new_face, new_faces}
 use Rattle.written_laws.proofs.Runs.{run_place, run_here, place_low, IsInRun}
 use Rattle.written_laws.proofs.Grid.{wide_some}
 
@@ -95,7 +97,8 @@ module _ (l : Layout) (x : Lengths) where
   dart_at d w is = ap by_patch patch_is ∙ by_cell
     where
       by_patch : (p : ℕ) → CellDart
-      by_patch p = dart p ((cell_number d - cells_before l x p) % wide l x p) ((cell_number d - cells_before l x p) / wide l x p) w
+      by_patch p = dart p ((cell_number d - cells_before l x p) % wide l x p)
+          ((cell_number d - cells_before l x p) / wide l x p) w
 
       patch_is : patch_of l x (cell_number d) ≡ d.patch
       patch_is = run_place cells l.patches d.patch (d.j * wide l x d.patch + d.i) is.patch_low (cell_in_patch d is)
@@ -103,12 +106,15 @@ module _ (l : Layout) (x : Lengths) where
       o_is : cell_number d - cells_before l x d.patch ≡ d.j * wide l x d.patch + d.i
       o_is = omega arith
 
-      parts : ((cell_number d - cells_before l x d.patch) / wide l x d.patch ≡ d.j) × ((cell_number d - cells_before l x d.patch) % wide l x d.patch ≡ d.i)
-      parts = same_from_place ((cell_number d - cells_before l x d.patch) / wide l x d.patch) ((cell_number d - cells_before l x d.patch) % wide l x d.patch) d.j d.i (wide l x d.patch)
+      parts : ((cell_number d - cells_before l x d.patch) / wide l x d.patch ≡ d.j)
+          × ((cell_number d - cells_before l x d.patch) % wide l x d.patch ≡ d.i)
+      parts = same_from_place ((cell_number d - cells_before l x d.patch) / wide l x d.patch)
+          ((cell_number d - cells_before l x d.patch) % wide l x d.patch) d.j d.i (wide l x d.patch)
           (mod-lt (cell_number d - cells_before l x d.patch) (omega (arith, is.i_low))) is.i_low
           (div-add-mod' (cell_number d - cells_before l x d.patch) (wide l x d.patch) ∙ o_is)
 
-      by_cell : dart d.patch ((cell_number d - cells_before l x d.patch) % wide l x d.patch) ((cell_number d - cells_before l x d.patch) / wide l x d.patch) w ≡ dart d.patch d.i d.j w
+      by_cell : dart d.patch ((cell_number d - cells_before l x d.patch) % wide l x d.patch)
+          ((cell_number d - cells_before l x d.patch) / wide l x d.patch) w ≡ dart d.patch d.i d.j w
       by_cell = λ t. dart d.patch (parts.1 t) (parts.0 t) w
 
   -- Darts with one number are one.
@@ -133,7 +139,8 @@ module _ (l : Layout) (x : Lengths) where
       by_way west = refl
 
   -- A dart's number begins at the number of its point, and ends so.
-  pub number_from : (d : CellDart) → IsDart l x d → from_of (new_faces l x) (dart_number d) ≡ vertex_number l x (dart_start l x d)
+  pub number_from : (d : CellDart) → IsDart l x d → from_of (new_faces l x) (dart_number d)
+      ≡ vertex_number l x (dart_start l x d)
   number_from d is =
       let f : dart_number d / 4 ≡ cell_number d = omega (arith, turn_low d.way) in
       let k : dart_number d % 4 ≡ turn d.way = omega (arith, turn_low d.way) in
@@ -146,7 +153,8 @@ module _ (l : Layout) (x : Lengths) where
   pub prev_is : (d : CellDart) → IsDart l x d → IsDart l x (prev d)
   prev_is d is = record { patch_low = is.patch_low; i_low = is.i_low; j_low = is.j_low }
 
-  pub number_to : (d : CellDart) → IsDart l x d → to_of (new_faces l x) (dart_number d) ≡ vertex_number l x (dart_end l x d)
+  pub number_to : (d : CellDart) → IsDart l x d → to_of (new_faces l x) (dart_number d)
+      ≡ vertex_number l x (dart_end l x d)
   number_to d is = ap (from_of (new_faces l x)) (next_number d) ∙ number_from (next d) (next_is d is)
 
   module _ (laid : IsSurface l) (len : AreLengths l x) where
@@ -156,11 +164,13 @@ module _ (l : Layout) (x : Lengths) where
         let h : IsInRun cells l.patches f (patch_of l x f) (cell_in l x f) = run_here cells l.patches f low in
         let some : 0 < wide l x (patch_of l x f) = wide_some l x laid.paved len (patch_of l x f) h.low in
         let less : cell_in l x f < high l x (patch_of l x f) * wide l x (patch_of l x f) =
-        subst (λ (n : ℕ). cell_in l x f < n) (mul_comm (wide l x (patch_of l x f)) (high l x (patch_of l x f))) h.inside in
+        subst (λ (n : ℕ). cell_in l x f < n) (mul_comm (wide l x (patch_of l x f)) (high l x (patch_of l x f)))
+        h.inside in
         record {
           patch_low = h.low;
           i_low = mod-lt (cell_in l x f) some;
-          j_low = (div-lt_iff_lt-mul {k = wide l x (patch_of l x f)} {x = cell_in l x f} {y = high l x (patch_of l x f)} some).1 less;
+          j_low = (div-lt_iff_lt-mul {k = wide l x (patch_of l x f)} {x = cell_in l x f} {y = high l x (patch_of l x f)}
+              some).1 less;
         }
 
     pub cell_number_is : (f : ℕ) (w : Way) → f < face_count l x → cell_number (dart_of l x f w) ≡ f

@@ -25,7 +25,8 @@ module _ (l : Layout) (x : Lengths) where
 
   pub inside_low : (p i j : ℕ) → IsPoint l x (inside p i j)
       → before_patch l x p + inner_place p i j < before_patch l x l.patches
-  inside_low p i j is = place_low inner_points l.patches p (inner_place p i j) is.0 (inner_low p i j is.1 is.2 is.3 is.4)
+  inside_low p i j is = place_low inner_points l.patches p (inner_place p i j) is.0
+      (inner_low p i j is.1 is.2 is.3 is.4)
 
   pub number_low : (a : Point) → IsPoint l x a → vertex_number l x a < vertices l x
   number_low (node n) is = omega (arith, is)
@@ -48,7 +49,8 @@ module _ (l : Layout) (x : Lengths) where
       let low_a : inner_place p i j < inner_points p = inner_low p i j is_a.1 is_a.2 is_a.3 is_a.4 in
       let low_b : inner_place q a b < inner_points q = inner_low q a b is_b.1 is_b.2 is_b.3 is_b.4 in
       let s : (p ≡ q) × (inner_place p i j ≡ inner_place q a b) =
-      place_same inner_points l.patches p (inner_place p i j) q (inner_place q a b) is_a.0 is_b.0 low_a low_b (omega (arith, e)) in
+      place_same inner_points l.patches p (inner_place p i j) q (inner_place q a b) is_a.0 is_b.0 low_a low_b
+      (omega (arith, e)) in
       by_place s.0 (s.1 ∙ ap (λ r. inner_place r a b) (sym s.0))
     where
       by_place : p ≡ q → inner_place p i j ≡ inner_place p a b → inside p i j ≡ inside q a b

@@ -2,7 +2,8 @@
 use Rattle.std.proofs.Common.{◌≡◌, ◌⊎◌, ℕ, zero, suc, ◌+◌, ◌-◌, ◌<◌, refl, sym, ◌∙◌, ap, subst, inl, inr, arith}
 use Rattle.def_mesh.specs.Darts.{prev_of, from_of}
 use Rattle.def_mesh.specs.Manifold.{AreNeighbours, Chain, HasOneFan}
-use Rattle.def_layout.specs.Layouts.{Way, south, east, north, west, side_after, side_before, Layout, Slot, IsSlot, use_of}
+use Rattle.def_layout.specs.Layouts.{Way, south, east, north, west, side_after, side_before, Layout, Slot, IsSlot}
+use Rattle.def_layout.specs.Layouts.{use_of}
 use Rattle.def_layout.specs.Surfaces.{IsSurface, IsOtherSlot}
 use Rattle.def_layout.specs.Fans.{HasFans}
 use Rattle.def_layout.specs.Lengths.{Lengths, AreLengths}
@@ -15,7 +16,8 @@ use Rattle.written_laws.proofs.Numbers.{number_same}
 use Rattle.written_laws.proofs.Turning.{IsTurning}
 use Rattle.written_laws.proofs.Borders.{at_is, from_is, across_from, across_to, other_long}
 use Rattle.written_laws.proofs.Fans.{at_nodes, point_related}
-use Rattle.written_laws.proofs.NewDarts.{dart_number, dart_low, number_from, number_to, prev_number, prev_is, next_is, at_number}
+use Rattle.written_laws.proofs.NewDarts.{dart_number, dart_low, number_from, number_to, prev_number, prev_is, next_is}
+use Rattle.written_laws.proofs.NewDarts.{at_number}
 
 module _ (l : Layout) (x : Lengths) where
   -- A chain of new darts leads from d to e.
@@ -36,21 +38,28 @@ module _ (l : Layout) (x : Lengths) where
     ),
   )
     where
-      before_from : (c : CellDart) → IsDart l x c → from_of (new_faces l x) (prev_of (dart_number l x c)) ≡ vertex_number l x (dart_start l x (prev c))
+      before_from : (c : CellDart) → IsDart l x c → from_of (new_faces l x) (prev_of (dart_number l x c))
+          ≡ vertex_number l x (dart_start l x (prev c))
       before_from c is = ap (from_of (new_faces l x)) (prev_number l x c) ∙ number_from l x (prev c) (prev_is l x c is)
 
       near : (dart_end l x d ≡ dart_start l x (prev e)) ⊎ (dart_end l x e ≡ dart_start l x (prev d))
           → AreNeighbours (new_faces l x) (dart_number l x d) (dart_number l x e)
-      near (inl s) = meet_from _ _ _ _ (inl (number_to l x d is_d ∙ ap (vertex_number l x) s ∙ sym (before_from e is_e)))
-      near (inr s) = meet_from _ _ _ _ (inr (inl (number_to l x e is_e ∙ ap (vertex_number l x) s ∙ sym (before_from d is_d))))
+      near (inl s) = meet_from _ _ _ _ (inl (number_to l x d is_d ∙ ap (vertex_number l x) s
+          ∙ sym (before_from e is_e)))
+      near (inr s) = meet_from _ _ _ _
+          (inr (inl (number_to l x e is_e ∙ ap (vertex_number l x) s ∙ sym (before_from d is_d))))
 
   -- After a turn to the left, the one dart ends where the one before the other began.
   pub left_shared : (p i j k m : ℕ) (w : Way) → column i w ≡ column k (side_after w) → row j w ≡ row m (side_after w)
       → dart_end l x (dart p k m (side_after w)) ≡ dart_start l x (prev (dart p i j w))
-  left_shared p i j k m south c r = let a : k + 1 ≡ i = sym c in let b : m + 1 ≡ j + 1 = omega arith in λ t. point l x p (a t) (b t)
-  left_shared p i j k m east c r = let a : k ≡ i = omega arith in let b : m + 1 ≡ j = sym r in λ t. point l x p (a t) (b t)
-  left_shared p i j k m north c r = let a : k ≡ i + 1 = sym c in let b : m ≡ j = omega arith in λ t. point l x p (a t) (b t)
-  left_shared p i j k m west c r = let a : k + 1 ≡ i + 1 = omega arith in let b : m ≡ j + 1 = sym r in λ t. point l x p (a t) (b t)
+  left_shared p i j k m south c r = let a : k + 1 ≡ i = sym c in let b : m + 1 ≡ j + 1 = omega arith in
+      λ t. point l x p (a t) (b t)
+  left_shared p i j k m east c r = let a : k ≡ i = omega arith in let b : m + 1 ≡ j = sym r in
+      λ t. point l x p (a t) (b t)
+  left_shared p i j k m north c r = let a : k ≡ i + 1 = sym c in let b : m ≡ j = omega arith in
+      λ t. point l x p (a t) (b t)
+  left_shared p i j k m west c r = let a : k + 1 ≡ i + 1 = omega arith in let b : m ≡ j + 1 = sym r in
+      λ t. point l x p (a t) (b t)
 
   module _ (laid : IsSurface l) (len : AreLengths l x) where
     prev_next : (d : CellDart) → prev (next d) ≡ d
@@ -65,9 +74,11 @@ module _ (l : Layout) (x : Lengths) where
     pub joins : IsTurning l x AreJoined
     joins = record {
       self = λ d e same. (zero, ap (dart_number l x) same);
-      on = λ d c e a b. chain_join (new_faces l x) (dart_number l x d) (dart_number l x c) (dart_number l x e) a.0 b.0 a.1 b.1;
+      on = λ d c e a b. chain_join (new_faces l x) (dart_number l x d) (dart_number l x c) (dart_number l x e) a.0 b.0
+          a.1 b.1;
       back = λ d e is a. chain_back (new_faces l x) (dart_number l x d) (dart_number l x e) a.0 (dart_low l x d is) a.1;
-      left = λ p i j k m w is_d is_e c r. join (dart p i j w) (dart p k m (side_after w)) is_d is_e (λ t. point l x p (c t) (r t)) (inr (left_shared p i j k m w c r));
+      left = λ p i j k m w is_d is_e c r. join (dart p i j w) (dart p k m (side_after w)) is_d is_e
+          (λ t. point l x p (c t) (r t)) (inr (left_shared p i j k m w c r));
       over = over;
     }
       where
@@ -76,15 +87,18 @@ module _ (l : Layout) (x : Lengths) where
         over w v o is other less =
             join (next (slot_dart l x w o)) (slot_dart l x v (x (use_of l w).arc - 1 - o))
             (next_is l x (slot_dart l x w o) (at_is l x laid.paved len w o is less))
-            (at_is l x laid.paved len v (x (use_of l w).arc - 1 - o) other.0 (omega (arith, other_long l x laid len w v other)))
+            (at_is l x laid.paved len v (x (use_of l w).arc - 1 - o) other.0
+            (omega (arith, other_long l x laid len w v other)))
             (sym (across_from l x laid len w v o is other less))
-            (inr (across_to l x laid len w v o is other less ∙ ap (dart_start l x) (sym (prev_next (slot_dart l x w o)))))
+            (inr (across_to l x laid len w v o is other less
+            ∙ ap (dart_start l x) (sym (prev_next (slot_dart l x w o)))))
 
     pub one_fan : HasFans l → (v : ℕ) → HasOneFan (new_faces l x) v
     one_fan fans v d e d_low e_low d_from e_from =
         by_darts (at_number l x laid len d d_low) (at_number l x laid len e e_low)
       where
-        by_darts : (c : CellDart) × IsDart l x c × (dart_number l x c ≡ d) → (c : CellDart) × IsDart l x c × (dart_number l x c ≡ e)
+        by_darts : (c : CellDart) × IsDart l x c × (dart_number l x c ≡ d) → (c : CellDart) × IsDart l x c
+            × (dart_number l x c ≡ e)
             → (n : ℕ) × Chain (new_faces l x) d e n
         by_darts a b =
             let same : vertex_number l x (dart_start l x a.0) ≡ vertex_number l x (dart_start l x b.0) =
@@ -92,7 +106,8 @@ module _ (l : Layout) (x : Lengths) where
             ∙ sym e_from ∙ ap (from_of (new_faces l x)) (sym b.2) ∙ number_from l x b.0 b.1 in
             let joined : AreJoined a.0 b.0 =
             point_related l x laid len AreJoined joins (at_nodes l x laid len AreJoined joins fans) a.0 b.0 a.1 b.1
-            (number_same l x (dart_start l x a.0) (dart_start l x b.0) (from_is l x laid len a.0 a.1) (from_is l x laid len b.0 b.1) same) in (
+            (number_same l x (dart_start l x a.0) (dart_start l x b.0) (from_is l x laid len a.0 a.1)
+            (from_is l x laid len b.0 b.1) same) in (
               joined.0,
               subst (λ (k : ℕ). Chain (new_faces l x) k e joined.0) a.2
                   (subst (λ (k : ℕ). Chain (new_faces l x) (dart_number l x a.0) k joined.0) b.2 joined.1),

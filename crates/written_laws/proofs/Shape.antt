@@ -1,5 +1,6 @@
 -- The new mesh has the shape of the old one, and the old one doubles no edge.
-use Rattle.std.proofs.Common.{◌≡◌, ◌≢◌, ℕ, ◌<◌, ◌≤◌, Bool, true, false, cond, not, ◌&&◌, Some, refl, sym, ◌∙◌, ap, subst, arith}
+use Rattle.std.proofs.Common.{◌≡◌, ◌≢◌, ℕ, ◌<◌, ◌≤◌, Bool, true, false, cond, not, ◌&&◌, Some, refl, sym, ◌∙◌, ap}
+use Rattle.std.proofs.Common.{subst, arith}
 use Rattle.std.specs.Prelude.{◌==◌}
 use Rattle.std.proofs.lemmas.Bool.{false≢true}
 use Rattle.def_mesh.specs.Faces.{Faces}
@@ -21,7 +22,8 @@ use Rattle.def_written.specs.Numbers.{vertex_number, vertices}
 use Rattle.def_written.specs.NewFaces.{dart_start, dart_end, new_faces}
 use Rattle.def_written.specs.Edges.{Edge, IsEdge, edge_start, edge_end, IsUndoubled}
 use Rattle.def_written.specs.Shape.{IsKeptNode, KeepsShape}
-use Rattle.def_written.specs.Laws.{LiesInMesh, LaidLaw, NumbersLaw, NewManifoldLaw, KeepsShapeLaw, ThreeLaw, MultipleLaw}
+use Rattle.def_written.specs.Laws.{LiesInMesh, LaidLaw, NumbersLaw, NewManifoldLaw, KeepsShapeLaw, ThreeLaw}
+use Rattle.def_written.specs.Laws.{MultipleLaw}
 use Rattle.mesh_laws.proofs.HalfEdges.{manifold_law}
 use Rattle.mesh_laws.proofs.Vertices.{count_least}
 use Rattle.written_laws.proofs.Sides.{use_some, use_begins}
@@ -43,8 +45,10 @@ use Rattle.written_laws.proofs.NodeKinds.{node_faces, node_inner}
 use Rattle.written_laws.proofs.Sided.{starts}
 use Rattle.written_laws.proofs.OldModel.{old_laid, old_model, old_fans, twin_is_across}
 
-module _ (faces : Faces) (man : IsManifold faces) (l : Layout) (x : Lengths) (paved : HasWholeSides l) (len : AreLengths l x)
-    (cell : CellDart → ℕ) (vertex : ℕ → ℕ) (arc_dart : ℕ → ℕ → ℕ) (s : IsEmbedding (half_edges faces) l x cell vertex arc_dart) where
+module _ (faces : Faces) (man : IsManifold faces) (l : Layout) (x : Lengths) (paved : HasWholeSides l)
+    (len : AreLengths l x)
+    (cell : CellDart → ℕ) (vertex : ℕ → ℕ) (arc_dart : ℕ → ℕ
+    → ℕ) (s : IsEmbedding (half_edges faces) l x cell vertex arc_dart) where
   module _ (model : IsModel faces l x (old_laid faces man l x paved len cell vertex arc_dart s) len cell) where
     -- A dart that runs along an edge.
     record IsRunner (e : Edge) (d : CellDart) (a : Bool) : Type 0 where
@@ -56,7 +60,8 @@ module _ (faces : Faces) (man : IsManifold faces) (l : Layout) (x : Lengths) (pa
     runner : (e : Edge) → IsEdge l x e → (d : CellDart) × (a : Bool) × IsRunner e d a
     runner e is = by_dart (edge_dart l x (old_laid faces man l x paved len cell vertex arc_dart s) len e is)
       where
-        by_dart : (d : CellDart) × IsDart l x d × ((course_of l x d).edge ≡ e) → (d : CellDart) × (a : Bool) × IsRunner e d a
+        by_dart : (d : CellDart) × IsDart l x d × ((course_of l x d).edge ≡ e) → (d : CellDart) × (a : Bool)
+            × IsRunner e d a
         by_dart d = (
           d.0,
           (course_of l x d.0).ahead,
@@ -70,12 +75,15 @@ module _ (faces : Faces) (man : IsManifold faces) (l : Layout) (x : Lengths) (pa
           },
         )
 
-    to_is : (d e : CellDart) → IsDart l x d → IsDart l x e → dart_end l x d ≡ dart_end l x e → to_of faces (cell d) ≡ to_of faces (cell e)
+    to_is : (d e : CellDart) → IsDart l x d → IsDart l x e → dart_end l x d ≡ dart_end l x e → to_of faces (cell d)
+        ≡ to_of faces (cell e)
     to_is d e is_d is_e same =
-        ap (from_of faces) (sym (model.turned d is_d)) ∙ model.alike (next d) (next e) (next_is l x d is_d) (next_is l x e is_e) same
+        ap (from_of faces) (sym (model.turned d is_d)) ∙ model.alike (next d) (next e) (next_is l x d is_d)
+        (next_is l x e is_e) same
         ∙ ap (from_of faces) (model.turned e is_e)
 
-    same_way : (e f : Edge) (d c : CellDart) → (course_of l x d).edge ≡ e → (course_of l x c).edge ≡ f → IsDart l x d → IsDart l x c
+    same_way : (e f : Edge) (d c : CellDart) → (course_of l x d).edge ≡ e → (course_of l x c).edge ≡ f → IsDart l x d
+        → IsDart l x c
         → dart_start l x d ≡ dart_start l x c → dart_end l x d ≡ dart_end l x c → e ≡ f
     same_way e f d c d_edge c_edge is_d is_c starts_same ends_same =
         let one : d ≡ c =
@@ -83,7 +91,8 @@ module _ (faces : Faces) (man : IsManifold faces) (l : Layout) (x : Lengths) (pa
         (model.alike d c is_d is_c starts_same, to_is d c is_d is_c ends_same)) in
         sym d_edge ∙ ap (λ (q : CellDart). (course_of l x q).edge) one ∙ c_edge
 
-    other_way : (e f : Edge) (d c : CellDart) → (course_of l x d).edge ≡ e → (course_of l x c).edge ≡ f → IsDart l x d → IsDart l x c
+    other_way : (e f : Edge) (d c : CellDart) → (course_of l x d).edge ≡ e → (course_of l x c).edge ≡ f → IsDart l x d
+        → IsDart l x c
         → dart_start l x c ≡ dart_end l x d → dart_end l x c ≡ dart_start l x d → e ≡ f
     other_way e f d c d_edge c_edge is_d is_c there back =
         let laws : IsQuadManifold (half_edges faces) = manifold_law faces man in
@@ -98,23 +107,35 @@ module _ (faces : Faces) (man : IsManifold faces) (l : Layout) (x : Lengths) (pa
     pub old_simple : IsSimple l x
     old_simple = record { same = same; crossed = crossed; no_loop = no_loop }
       where
-        same : (e f : Edge) → IsEdge l x e → IsEdge l x f → edge_start l x e ≡ edge_start l x f → edge_end l x e ≡ edge_end l x f → e ≡ f
-        same e f is_e is_f lows tops = by_runners (runner e is_e).0 (runner f is_f).0 (runner e is_e).1 (runner f is_f).1 (runner e is_e).2 (runner f is_f).2
+        same : (e f : Edge) → IsEdge l x e → IsEdge l x f → edge_start l x e ≡ edge_start l x f
+            → edge_end l x e ≡ edge_end l x f → e ≡ f
+        same e f is_e is_f lows tops = by_runners (runner e is_e).0 (runner f is_f).0 (runner e is_e).1
+            (runner f is_f).1 (runner e is_e).2 (runner f is_f).2
           where
             by_runners : (d c : CellDart) (a b : Bool) → IsRunner e d a → IsRunner f c b → e ≡ f
-            by_runners d c true true r q = same_way e f d c r.edge q.edge r.is_dart q.is_dart (r.start ∙ lows ∙ sym q.start) (r.end ∙ tops ∙ sym q.end)
-            by_runners d c false false r q = same_way e f d c r.edge q.edge r.is_dart q.is_dart (r.start ∙ tops ∙ sym q.start) (r.end ∙ lows ∙ sym q.end)
-            by_runners d c true false r q = other_way e f d c r.edge q.edge r.is_dart q.is_dart (q.start ∙ sym tops ∙ sym r.end) (q.end ∙ sym lows ∙ sym r.start)
-            by_runners d c false true r q = other_way e f d c r.edge q.edge r.is_dart q.is_dart (q.start ∙ sym lows ∙ sym r.end) (q.end ∙ sym tops ∙ sym r.start)
+            by_runners d c true true r q = same_way e f d c r.edge q.edge r.is_dart q.is_dart (r.start ∙ lows
+                ∙ sym q.start) (r.end ∙ tops ∙ sym q.end)
+            by_runners d c false false r q = same_way e f d c r.edge q.edge r.is_dart q.is_dart (r.start ∙ tops
+                ∙ sym q.start) (r.end ∙ lows ∙ sym q.end)
+            by_runners d c true false r q = other_way e f d c r.edge q.edge r.is_dart q.is_dart (q.start ∙ sym tops
+                ∙ sym r.end) (q.end ∙ sym lows ∙ sym r.start)
+            by_runners d c false true r q = other_way e f d c r.edge q.edge r.is_dart q.is_dart (q.start ∙ sym lows
+                ∙ sym r.end) (q.end ∙ sym tops ∙ sym r.start)
 
-        crossed : (e f : Edge) → IsEdge l x e → IsEdge l x f → edge_start l x e ≡ edge_end l x f → edge_end l x e ≡ edge_start l x f → e ≡ f
-        crossed e f is_e is_f lows tops = by_runners (runner e is_e).0 (runner f is_f).0 (runner e is_e).1 (runner f is_f).1 (runner e is_e).2 (runner f is_f).2
+        crossed : (e f : Edge) → IsEdge l x e → IsEdge l x f → edge_start l x e ≡ edge_end l x f
+            → edge_end l x e ≡ edge_start l x f → e ≡ f
+        crossed e f is_e is_f lows tops = by_runners (runner e is_e).0 (runner f is_f).0 (runner e is_e).1
+            (runner f is_f).1 (runner e is_e).2 (runner f is_f).2
           where
             by_runners : (d c : CellDart) (a b : Bool) → IsRunner e d a → IsRunner f c b → e ≡ f
-            by_runners d c true false r q = same_way e f d c r.edge q.edge r.is_dart q.is_dart (r.start ∙ lows ∙ sym q.start) (r.end ∙ tops ∙ sym q.end)
-            by_runners d c false true r q = same_way e f d c r.edge q.edge r.is_dart q.is_dart (r.start ∙ tops ∙ sym q.start) (r.end ∙ lows ∙ sym q.end)
-            by_runners d c true true r q = other_way e f d c r.edge q.edge r.is_dart q.is_dart (q.start ∙ sym tops ∙ sym r.end) (q.end ∙ sym lows ∙ sym r.start)
-            by_runners d c false false r q = other_way e f d c r.edge q.edge r.is_dart q.is_dart (q.start ∙ sym lows ∙ sym r.end) (q.end ∙ sym tops ∙ sym r.start)
+            by_runners d c true false r q = same_way e f d c r.edge q.edge r.is_dart q.is_dart (r.start ∙ lows
+                ∙ sym q.start) (r.end ∙ tops ∙ sym q.end)
+            by_runners d c false true r q = same_way e f d c r.edge q.edge r.is_dart q.is_dart (r.start ∙ tops
+                ∙ sym q.start) (r.end ∙ lows ∙ sym q.end)
+            by_runners d c true true r q = other_way e f d c r.edge q.edge r.is_dart q.is_dart (q.start ∙ sym tops
+                ∙ sym r.end) (q.end ∙ sym lows ∙ sym r.start)
+            by_runners d c false false r q = other_way e f d c r.edge q.edge r.is_dart q.is_dart (q.start ∙ sym lows
+                ∙ sym r.end) (q.end ∙ sym tops ∙ sym r.start)
 
         no_loop : (e : Edge) → IsEdge l x e → edge_start l x e ≢ edge_end l x e
         no_loop e is loop = by_runner (runner e is).0 (runner e is).1 (runner e is).2
@@ -140,13 +161,15 @@ kind_is : (F : Faces) (v : ℕ) → kind_of F v ≡ kind_by (is_inner F v) (face
 unfolding kind_by
 kind_is F v = refl
 
-module _ (l : Layout) (x : Lengths) (laid : IsSurface l) (len : AreLengths l x) (F : Faces) (cell : CellDart → ℕ) (model : IsModel F l x laid len cell) where
+module _ (l : Layout) (x : Lengths) (laid : IsSurface l) (len : AreLengths l x) (F : Faces) (cell : CellDart
+    → ℕ) (model : IsModel F l x laid len cell) where
   -- A vertex of a model that is not regular is that of a node.
   irregular_node : (d : CellDart) → IsDart l x d → is_regular F (from_of F (cell d)) ≡ false
       → (n : ℕ) × (n < l.nodes) × (dart_start l x d ≡ node n)
   irregular_node d is off = by_point (dart_start l x d) refl (from_is l x laid len d is)
     where
-      by_point : (a : Point) → dart_start l x d ≡ a → IsPoint l x a → (n : ℕ) × (n < l.nodes) × (dart_start l x d ≡ node n)
+      by_point : (a : Point) → dart_start l x d ≡ a → IsPoint l x a → (n : ℕ) × (n < l.nodes)
+          × (dart_start l x d ≡ node n)
       by_point (node n) e is_a = (n, is_a, e)
       by_point (along a k) e is_a =
           absurd (false≢true (sym off ∙ along_regular l x laid len F cell model a k (from_of F (cell d)) is_a
@@ -160,7 +183,8 @@ module _ (faces : Faces) (l : Layout) (x : Lengths) (vertex : ℕ → ℕ) (lies
   the_laid = old_laid faces lies.manifold l x lies.paved lies.lengths lies.cell vertex lies.arc_dart lies.sided
 
   the_model : IsModel faces l x the_laid lies.lengths lies.cell
-  the_model = old_model faces lies.manifold l x lies.paved lies.lengths lies.cell vertex lies.arc_dart lies.sided lies.quads
+  the_model = old_model faces lies.manifold l x lies.paved lies.lengths lies.cell vertex lies.arc_dart lies.sided
+      lies.quads
 
   the_fans : HasFans l
   the_fans = old_fans faces lies.manifold l x lies.paved lies.lengths lies.cell vertex lies.arc_dart lies.sided
@@ -169,13 +193,15 @@ module _ (faces : Faces) (l : Layout) (x : Lengths) (vertex : ℕ → ℕ) (lies
   node_vertex : (n : ℕ) → n < l.nodes → IsVertex l x the_laid lies.lengths faces lies.cell the_model (node n) (vertex n)
   node_vertex n low = by_slot (the_laid.reached n low)
     where
-      by_slot : (w : Slot) × IsSlot l w × (start_node l (use_of l w) ≡ n) → IsVertex l x the_laid lies.lengths faces lies.cell the_model (node n) (vertex n)
+      by_slot : (w : Slot) × IsSlot l w × (start_node l (use_of l w) ≡ n)
+          → IsVertex l x the_laid lies.lengths faces lies.cell the_model (node n) (vertex n)
       by_slot w =
           let some : 0 < x (use_of l w.0).arc = use_some l x lies.paved lies.lengths w.0 w.1 in
           vertex_from l x the_laid lies.lengths faces lies.cell the_model (slot_dart l x w.0 0) (node n) (vertex n)
           (at_is l x lies.paved lies.lengths w.0 0 w.1 some)
           (at_from l x the_laid lies.lengths w.0 0 w.1 some ∙ use_begins l x (use_of l w.0) some ∙ ap node w.2)
-          (starts (half_edges faces) (manifold_law faces lies.manifold) l x lies.paved lies.lengths lies.cell vertex lies.arc_dart lies.sided w.0 w.1
+          (starts (half_edges faces) (manifold_law faces lies.manifold) l x lies.paved lies.lengths lies.cell vertex
+          lies.arc_dart lies.sided w.0 w.1
           ∙ ap vertex w.2)
 
   module _ (y : Lengths) (lon : AreLengths l y) (undoubled : IsUndoubled l y) where
@@ -190,22 +216,26 @@ module _ (faces : Faces) (l : Layout) (x : Lengths) (vertex : ℕ → ℕ) (lies
 
     new_node : (n : ℕ) → n < l.nodes → IsVertex l y the_laid lon (new_faces l y) (dart_number l y) new_is (node n) n
     new_node n low =
-        let d : (d : CellDart) × IsDart l y d × (dart_start l y d ≡ node n) = point_dart l y the_laid lon (node n) low in
+        let d : (d : CellDart) × IsDart l y d × (dart_start l y d ≡ node n) =
+        point_dart l y the_laid lon (node n) low in
         new_vertex d.0 (node n) n d.1 d.2 refl
 
     same_faces : (n : ℕ) → n < l.nodes → faces_at (new_faces l y) n ≡ faces_at faces (vertex n)
     same_faces n low =
-        sym (node_faces l the_laid x y lies.lengths lon faces (new_faces l y) lies.cell (dart_number l y) the_model new_is
+        sym (node_faces l the_laid x y lies.lengths lon faces (new_faces l y) lies.cell (dart_number l y) the_model
+        new_is
         n (vertex n) n (node_vertex n low) (new_node n low))
 
     same_inner : (n : ℕ) → n < l.nodes → is_inner (new_faces l y) n ≡ is_inner faces (vertex n)
     same_inner n low =
-        sym (node_inner l the_laid x y lies.lengths lon faces (new_faces l y) lies.cell (dart_number l y) the_model new_is
+        sym (node_inner l the_laid x y lies.lengths lon faces (new_faces l y) lies.cell (dart_number l y) the_model
+        new_is
         n (vertex n) n (node_vertex n low) (new_node n low))
 
     kept : (n : ℕ) → n < l.nodes → IsKeptNode faces (new_faces l y) vertex n
     kept n low = record {
-      kind = kind_is (new_faces l y) n ∙ (λ t. kind_by (same_inner n low t) (same_faces n low t)) ∙ sym (kind_is faces (vertex n));
+      kind = kind_is (new_faces l y) n ∙ (λ t. kind_by (same_inner n low t) (same_faces n low t))
+          ∙ sym (kind_is faces (vertex n));
       faces = same_faces n low;
     }
 
@@ -215,12 +245,15 @@ module _ (faces : Faces) (l : Layout) (x : Lengths) (vertex : ℕ → ℕ) (lies
       where
         by_cell : (d : CellDart) → IsDart l x d → from_of faces (lies.cell d) ≡ v
             → (n : ℕ) × (n < l.nodes) × (vertex n ≡ v) × IsKeptNode faces (new_faces l y) vertex n
-        by_cell d is leaves = by_node (irregular_node l x the_laid lies.lengths faces lies.cell the_model d is (ap (is_regular faces) leaves ∙ off))
+        by_cell d is leaves = by_node (irregular_node l x the_laid lies.lengths faces lies.cell the_model d is
+            (ap (is_regular faces) leaves ∙ off))
           where
-            by_node : (n : ℕ) × (n < l.nodes) × (dart_start l x d ≡ node n) → (n : ℕ) × (n < l.nodes) × (vertex n ≡ v) × IsKeptNode faces (new_faces l y) vertex n
+            by_node : (n : ℕ) × (n < l.nodes) × (dart_start l x d ≡ node n) → (n : ℕ) × (n < l.nodes) × (vertex n ≡ v)
+                × IsKeptNode faces (new_faces l y) vertex n
             by_node n = (n.0, n.1, sym ((node_vertex n.0 n.1).there d is n.2) ∙ leaves, kept n.0 n.1)
 
-        by_dart : (k : ℕ) × (k < darts faces) × (from_of faces k ≡ v) → (n : ℕ) × (n < l.nodes) × (vertex n ≡ v) × IsKeptNode faces (new_faces l y) vertex n
+        by_dart : (k : ℕ) × (k < darts faces) × (from_of faces k ≡ v) → (n : ℕ) × (n < l.nodes) × (vertex n ≡ v)
+            × IsKeptNode faces (new_faces l y) vertex n
         by_dart k =
             let d : (d : CellDart) × IsDart l x d × (lies.cell d ≡ k.0) = the_model.onto k.0 k.1 in
             by_cell d.0 d.1 (ap (from_of faces) d.2 ∙ k.2)
@@ -228,7 +261,8 @@ module _ (faces : Faces) (l : Layout) (x : Lengths) (vertex : ℕ → ℕ) (lies
     below : vertex_count (new_faces l y) ≤ vertices l y
     below = count_least (new_faces l y) (vertices l y) (λ k low. by_dart k (at_number l y the_laid lon k low))
       where
-        by_dart : (k : ℕ) → (d : CellDart) × IsDart l y d × (dart_number l y d ≡ k) → from_of (new_faces l y) k < vertices l y
+        by_dart : (k : ℕ) → (d : CellDart) × IsDart l y d × (dart_number l y d ≡ k)
+            → from_of (new_faces l y) k < vertices l y
         by_dart k d =
             subst (λ (v : ℕ). v < vertices l y) (sym (number_from l y d.0 d.1) ∙ ap (from_of (new_faces l y)) d.2)
             (number_low l y (dart_start l y d.0) (from_is l y the_laid lon d.0 d.1))
@@ -242,17 +276,23 @@ module _ (faces : Faces) (l : Layout) (x : Lengths) (vertex : ℕ → ℕ) (lies
             let v_low : v < l.nodes = omega (arith, n_low, e) in
             (v_low, (λ t. (sym (same_faces v v_low) t) == cond (sym (same_inner v v_low) t) 4 2) ∙ off)
 
-        by_dart : (d : CellDart) (a : Point) → IsDart l y d → dart_start l y d ≡ a → vertex_number l y a ≡ v → (v < l.nodes) × (is_regular faces (vertex v) ≡ false)
+        by_dart : (d : CellDart) (a : Point) → IsDart l y d → dart_start l y d ≡ a → vertex_number l y a ≡ v
+            → (v < l.nodes) × (is_regular faces (vertex v) ≡ false)
         by_dart d a is leaves same =
-            let vertex_is : from_of (new_faces l y) (dart_number l y d) ≡ v = number_from l y d is ∙ ap (vertex_number l y) leaves ∙ same in
-            at (irregular_node l y the_laid lon (new_faces l y) (dart_number l y) new_is d is (ap (is_regular (new_faces l y)) vertex_is ∙ off))
+            let vertex_is : from_of (new_faces l y) (dart_number l y d) ≡ v = number_from l y d is
+            ∙ ap (vertex_number l y) leaves ∙ same in
+            at (irregular_node l y the_laid lon (new_faces l y) (dart_number l y) new_is d is
+            (ap (is_regular (new_faces l y)) vertex_is ∙ off))
           where
-            at : (n : ℕ) × (n < l.nodes) × (dart_start l y d ≡ node n) → (v < l.nodes) × (is_regular faces (vertex v) ≡ false)
+            at : (n : ℕ) × (n < l.nodes) × (dart_start l y d ≡ node n) → (v < l.nodes)
+                × (is_regular faces (vertex v) ≡ false)
             at n = by_node n.0 n.1 (sym (ap (vertex_number l y) n.2) ∙ ap (vertex_number l y) leaves ∙ same)
 
-        by_point : (a : Point) × IsPoint l y a × (vertex_number l y a ≡ v) → (v < l.nodes) × (is_regular faces (vertex v) ≡ false)
+        by_point : (a : Point) × IsPoint l y a × (vertex_number l y a ≡ v) → (v < l.nodes)
+            × (is_regular faces (vertex v) ≡ false)
         by_point a =
-            let d : (d : CellDart) × IsDart l y d × (dart_start l y d ≡ a.0) = point_dart l y the_laid lon a.0 a.1 in by_dart d.0 a.0 d.1 d.2 a.2
+            let d : (d : CellDart) × IsDart l y d × (dart_start l y d ≡ a.0) = point_dart l y the_laid lon a.0 a.1 in
+            by_dart d.0 a.0 d.1 d.2 a.2
 
     keeps : KeepsShape faces (new_faces l y) l.nodes vertex
     keeps = record {
@@ -285,5 +325,6 @@ multiple_law faces l x vertex lies k some =
       lon,
       undoubled_from l (scale k x) (the_laid faces l x vertex lies) lon
           (simple_multiple l x (the_laid faces l x vertex lies) lies.lengths
-          (old_simple faces lies.manifold l x lies.paved lies.lengths lies.cell vertex lies.arc_dart lies.sided (the_model faces l x vertex lies)) k some),
+          (old_simple faces lies.manifold l x lies.paved lies.lengths lies.cell vertex lies.arc_dart lies.sided
+          (the_model faces l x vertex lies)) k some),
     )

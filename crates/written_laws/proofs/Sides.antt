@@ -1,9 +1,11 @@
 -- The points on a side of a patch.
-use Rattle.std.proofs.Common.{◌≡◌, ℕ, suc, ◌+◌, ◌-◌, ◌<◌, ◌≤◌, Bool, true, false, cond, refl, sym, ◌∙◌, ap, inl, inr, arith}
+use Rattle.std.proofs.Common.{◌≡◌, ℕ, suc, ◌+◌, ◌-◌, ◌<◌, ◌≤◌, Bool, true, false, cond, refl, sym, ◌∙◌, ap, inl, inr}
+use Rattle.std.proofs.Common.{arith}
 use Rattle.std.specs.Prelude.{◌==◌}
 use Rattle.std.proofs.lemmas.Bool.{cases_eq, cases_lt, cond-true, cond-false, eq-eqb, ne_eqb}
 use Rattle.def_layout.specs.declared.tmesh.SideArc.{SideArc}
-use Rattle.def_layout.specs.Layouts.{Way, south, east, north, west, side_after, Layout, Slot, IsSlot, use_of, start_node, end_node}
+use Rattle.def_layout.specs.Layouts.{Way, south, east, north, west, side_after, Layout, Slot, IsSlot, use_of}
+use Rattle.def_layout.specs.Layouts.{start_node, end_node}
 use Rattle.def_layout.specs.Surfaces.{HasWholeSides, IsSurface}
 use Rattle.def_layout.specs.Lengths.{Lengths, reach, size, AreLengths}
 use Rattle.def_written.specs.Points.{node, along, arc_point, use_point, use_over, offset_at, side_point}
@@ -21,7 +23,8 @@ module _ (l : Layout) (x : Lengths) where
 
   pub arc_inner : (a k : ℕ) → 0 < k → k < x a → arc_point l x a k ≡ along a k
   arc_inner a k some less =
-      cond-false (k == 0) _ _ (ne_eqb k 0 (λ z. omega arith)) ∙ cond-false (k == x a) _ _ (ne_eqb k (x a) (λ e. omega arith))
+      cond-false (k == 0) _ _ (ne_eqb k 0 (λ z. omega arith))
+      ∙ cond-false (k == x a) _ _ (ne_eqb k (x a) (λ e. omega arith))
 
   -- An arc in use begins and ends at nodes.
   pub use_begins : (u : SideArc) → 0 < x u.arc → use_point l x u 0 ≡ node (start_node l u)
@@ -119,15 +122,18 @@ module _ (l : Layout) (x : Lengths) where
         let over : use_over l x p s t ≡ l.many p s - 1 =
         run_last (reach l x p s) (l.many p s) t (paved.sides_full p s low) (omega (arith, long, e)) in
         ap (λ m. use_point l x (l.use_at p s m) (t - reach l x p s m)) over
-        ∙ use_ends (l.use_at p s (l.many p s - 1)) (t - reach l x p s (l.many p s - 1)) (omega (arith, long, e)) (omega (arith, long, e, some))
+        ∙ use_ends (l.use_at p s (l.many p s - 1)) (t - reach l x p s (l.many p s - 1)) (omega (arith, long, e))
+        (omega (arith, long, e, some))
 
     -- The slot at the beginning of a side is its first one.
     pub first_is : (v : Slot) → IsSlot l v → reach l x v.patch v.side v.at ≡ 0 → v.at ≡ 0
     first_is v is none = elim (cases_eq v.at 0) [
       | inl e ↦ e
       | inr later ↦
-          let first : IsSlot l (slot v.patch v.side 0) = record { patch_low = is.patch_low; low = omega (arith, is.low) } in
-          let le : reach l x v.patch v.side 1 ≤ reach l x v.patch v.side v.at = count_rises (long_at v.patch v.side) 1 v.at (omega arith) in
+          let first : IsSlot l (slot v.patch v.side 0) =
+          record { patch_low = is.patch_low; low = omega (arith, is.low) } in
+          let le : reach l x v.patch v.side 1 ≤ reach l x v.patch v.side v.at =
+          count_rises (long_at v.patch v.side) 1 v.at (omega arith) in
           let some : 0 < long_at v.patch v.side 0 = use_some (slot v.patch v.side 0) first in
           absurd (omega (arith, le, some, none))
     ]
@@ -149,7 +155,8 @@ module _ (l : Layout) (x : Lengths) where
     -- A side ends where the next one begins.
     pub corner_meets : (p : ℕ) (s : Way) (t : ℕ) → p < l.patches → t ≡ size l x p s
         → side_point l x p s t ≡ side_point l x p (side_after s) 0
-    corner_meets p s t low e = side_end laid.paved len p s t low e ∙ ap node (at s) ∙ sym (side_begin laid.paved len p (side_after s) low)
+    corner_meets p s t low e = side_end laid.paved len p s t low e ∙ ap node (at s)
+        ∙ sym (side_begin laid.paved len p (side_after s) low)
       where
         at : (s : Way) → end_node l (l.use_at p s (l.many p s - 1)) ≡ start_node l (l.use_at p (side_after s) 0)
         at south = laid.meet (slot p east 0) (first_slot laid.paved len p east low)
@@ -172,7 +179,8 @@ module _ (l : Layout) (x : Lengths) where
             → side_point l x w.patch w.side t ≡ use_point l x (use_of l w) o
         at_next more next =
             let same : t ≡ reach l x w.patch w.side (suc w.at) + 0 = omega arith in
-            let some : 0 < x (l.use_at w.patch w.side (suc w.at)).arc = use_some laid.paved len (slot w.patch w.side (suc w.at)) next in
+            let some : 0 < x (l.use_at w.patch w.side (suc w.at)).arc =
+            use_some laid.paved len (slot w.patch w.side (suc w.at)) next in
             ap (side_point l x w.patch w.side) same ∙ side_in (slot w.patch w.side (suc w.at)) 0 next some
             ∙ use_begins (l.use_at w.patch w.side (suc w.at)) some
             ∙ ap node (sym (laid.meet (slot w.patch w.side (suc w.at)) next))
@@ -182,7 +190,8 @@ module _ (l : Layout) (x : Lengths) where
             → side_point l x w.patch w.side t ≡ use_point l x (use_of l w) o
         at_end more last =
             let m : w.at ≡ l.many w.patch w.side - 1 = omega (arith, is.low) in
-            let long : reach l x w.patch w.side (l.many w.patch w.side - 1) + long_at w.patch w.side (l.many w.patch w.side - 1) ≡ size l x w.patch w.side =
+            let long : reach l x w.patch w.side (l.many w.patch w.side - 1) + long_at w.patch w.side
+            (l.many w.patch w.side - 1) ≡ size l x w.patch w.side =
             last_reach laid.paved len w.patch w.side is.patch_low in
             let r : reach l x w.patch w.side w.at ≡ reach l x w.patch w.side (l.many w.patch w.side - 1) =
             ap (reach l x w.patch w.side) m in

@@ -7,8 +7,10 @@ use Rattle.written_laws.proofs.Courses.{Course, course, start_at, end_at}
 
 -- No two edges have the same ends, and no edge has equal ends.
 pub record IsSimple (l : Layout) (x : Lengths) : Type 0 where
-  pub same : (e f : Edge) → IsEdge l x e → IsEdge l x f → edge_start l x e ≡ edge_start l x f → edge_end l x e ≡ edge_end l x f → e ≡ f
-  pub crossed : (e f : Edge) → IsEdge l x e → IsEdge l x f → edge_start l x e ≡ edge_end l x f → edge_end l x e ≡ edge_start l x f → e ≡ f
+  pub same : (e f : Edge) → IsEdge l x e → IsEdge l x f → edge_start l x e ≡ edge_start l x f
+      → edge_end l x e ≡ edge_end l x f → e ≡ f
+  pub crossed : (e f : Edge) → IsEdge l x e → IsEdge l x f → edge_start l x e ≡ edge_end l x f
+      → edge_end l x e ≡ edge_start l x f → e ≡ f
   pub no_loop : (e : Edge) → IsEdge l x e → edge_start l x e ≢ edge_end l x e
 
 module _ (l : Layout) (x : Lengths) (simple : IsSimple l x) where

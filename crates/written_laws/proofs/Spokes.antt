@@ -1,5 +1,6 @@
 -- The edges at an inner point of a patch, by the directions in which they leave it.
-use Rattle.std.proofs.Common.{◌≡◌, ◌≢◌, ◌⊎◌, ℕ, ◌+◌, ◌-◌, ◌<◌, ◌≤◌, Bool, true, false, cond, refl, sym, ◌∙◌, ap, subst, inl, inr, arith}
+use Rattle.std.proofs.Common.{◌≡◌, ◌≢◌, ◌⊎◌, ℕ, ◌+◌, ◌-◌, ◌<◌, ◌≤◌, Bool, true, false, cond, refl, sym, ◌∙◌, ap, subst}
+use Rattle.std.proofs.Common.{inl, inr, arith}
 use Rattle.std.specs.Prelude.{◌==◌}
 use Rattle.def_layout.specs.Layouts.{Way, south, east, north, west, Layout}
 use Rattle.def_layout.specs.Surfaces.{IsSurface}
@@ -11,8 +12,8 @@ use Rattle.written_laws.proofs.Grid.{point_inside}
 use Rattle.written_laws.proofs.Rims.{IsInner, IsBorder, border_point, on_rim}
 use Rattle.written_laws.proofs.Borders.{use_not_inside}
 
--- All lengths are at least 2, no arc of length 2 has equal ends, and no two points of a patch that is 2 wide or high are
--- the same across it.
+-- All lengths are at least 2, no arc of length 2 has equal ends, and no two points of a patch that is 2 wide or high
+-- are the same across it.
 pub record IsOpen (l : Layout) (x : Lengths) : Type 0 where
   pub two : (a : ℕ) → a < l.arcs → 2 ≤ x a
   pub arcs_open : (a : ℕ) → a < l.arcs → x a ≡ 2 → l.first a ≢ l.last a
@@ -40,7 +41,8 @@ tip_row j west = j
 tip_row j south = j - 1
 
 -- Directions that lead to one place are one.
-pub one_way : (i j : ℕ) (w v : Way) → 0 < i → 0 < j → tip_column i w ≡ tip_column i v → tip_row j w ≡ tip_row j v → w ≡ v
+pub one_way : (i j : ℕ) (w v : Way) → 0 < i → 0 < j → tip_column i w ≡ tip_column i v → tip_row j w ≡ tip_row j v
+    → w ≡ v
 one_way i j east east i_some j_some c r = refl
 one_way i j north north i_some j_some c r = refl
 one_way i j west west i_some j_some c r = refl
@@ -77,17 +79,20 @@ module _ (l : Layout) (x : Lengths) where
   pub arc_sort : (a k b m : ℕ) → arc_point l x a k ≡ along b m → (a ≡ b) × (k ≡ m)
   arc_sort a k b m e = by_tests (k == 0) (k == x a) e
     where
-      by_tests : (c d : Bool) → cond c (node (l.first a)) (cond d (node (l.last a)) (along a k)) ≡ along b m → (a ≡ b) × (k ≡ m)
+      by_tests : (c d : Bool) → cond c (node (l.first a)) (cond d (node (l.last a)) (along a k)) ≡ along b m
+          → (a ≡ b) × (k ≡ m)
       by_tests false false s = (cc, cc)
       by_tests _ _ s = absurd cc
 
   module _ (laid : IsSurface l) (len : AreLengths l x) where
     -- The grid point that lies inside.
-    pub point_sort : (q k m p i j : ℕ) → q < l.patches → k ≤ wide l x q → m ≤ high l x q → point l x q k m ≡ inside p i j
+    pub point_sort : (q k m p i j : ℕ) → q < l.patches → k ≤ wide l x q → m ≤ high l x q
+        → point l x q k m ≡ inside p i j
         → (q ≡ p) × (k ≡ i) × (m ≡ j)
     point_sort q k m p i j q_low k_le m_le e = elim (on_rim l x laid.paved len q k m q_low k_le m_le) [
       | inl n ↦
-          let s : inside q k m ≡ inside p i j = sym (point_inside l x laid len q k m n.a_some n.a_low n.b_some n.b_low) ∙ e in
+          let s : inside q k m ≡ inside p i j = sym (point_inside l x laid len q k m n.a_some n.a_low n.b_some n.b_low)
+          ∙ e in
           (cc, cc, cc)
       | inr b ↦ absurd (at_border b.0 b.1 b.2)
     ]
@@ -125,17 +130,21 @@ module _ (l : Layout) (x : Lengths) where
     hub_edge (on_arc a k) p i j t is (inl s) = absurd (arc_not_inside a k p i j s.0)
     hub_edge (on_arc a k) p i j t is (inr s) = absurd (arc_not_inside a (k + 1) p i j s.1)
     hub_edge (flat q k m) p i j t is (inl s) =
-        let e : (q ≡ p) × (k ≡ i) × (m ≡ j) = point_sort q k m p i j is.0 (omega (arith, is.1)) (omega (arith, is.3)) s.0 in
+        let e : (q ≡ p) × (k ≡ i) × (m ≡ j) = point_sort q k m p i j is.0 (omega (arith, is.1)) (omega (arith, is.3))
+        s.0 in
         (east, (λ r. flat (e.0 r) (e.1 r) (e.2 r)), sym s.1 ∙ (λ r. point l x (e.0 r) (e.1 r + 1) (e.2 r)))
     hub_edge (flat q k m) p i j t is (inr s) =
-        let e : (q ≡ p) × (k + 1 ≡ i) × (m ≡ j) = point_sort q (k + 1) m p i j is.0 (omega (arith, is.1)) (omega (arith, is.3)) s.1 in
+        let e : (q ≡ p) × (k + 1 ≡ i) × (m ≡ j) =
+        point_sort q (k + 1) m p i j is.0 (omega (arith, is.1)) (omega (arith, is.3)) s.1 in
         let c : k ≡ i - 1 = omega (arith, e.1) in
         (west, (λ r. flat (e.0 r) (c r) (e.2 r)), sym s.0 ∙ (λ r. point l x (e.0 r) (c r) (e.2 r)))
     hub_edge (steep q k m) p i j t is (inl s) =
-        let e : (q ≡ p) × (k ≡ i) × (m ≡ j) = point_sort q k m p i j is.0 (omega (arith, is.2)) (omega (arith, is.3)) s.0 in
+        let e : (q ≡ p) × (k ≡ i) × (m ≡ j) = point_sort q k m p i j is.0 (omega (arith, is.2)) (omega (arith, is.3))
+        s.0 in
         (north, (λ r. steep (e.0 r) (e.1 r) (e.2 r)), sym s.1 ∙ (λ r. point l x (e.0 r) (e.1 r) (e.2 r + 1)))
     hub_edge (steep q k m) p i j t is (inr s) =
-        let e : (q ≡ p) × (k ≡ i) × (m + 1 ≡ j) = point_sort q k (m + 1) p i j is.0 (omega (arith, is.2)) (omega (arith, is.3)) s.1 in
+        let e : (q ≡ p) × (k ≡ i) × (m + 1 ≡ j) =
+        point_sort q k (m + 1) p i j is.0 (omega (arith, is.2)) (omega (arith, is.3)) s.1 in
         let c : m ≡ j - 1 = omega (arith, e.2) in
         (south, (λ r. steep (e.0 r) (e.1 r) (c r)), sym s.0 ∙ (λ r. point l x (e.0 r) (e.1 r) (c r)))
 

@@ -1,5 +1,6 @@
 -- The darts that leave a place of an arc: by slot, and whether they lie on its border or just behind.
-use Rattle.std.proofs.Common.{◌≡◌, ◌≢◌, ◌⊎◌, ℕ, ◌+◌, ◌-◌, ◌<◌, Bool, true, false, refl, sym, ◌∙◌, ap, subst, inl, inr, arith}
+use Rattle.std.proofs.Common.{◌≡◌, ◌≢◌, ◌⊎◌, ℕ, ◌+◌, ◌-◌, ◌<◌, Bool, true, false, refl, sym, ◌∙◌, ap, subst, inl, inr}
+use Rattle.std.proofs.Common.{arith}
 use Rattle.def_layout.specs.Layouts.{Way, south, east, north, west, side_after, Layout, Slot, IsSlot, use_of}
 use Rattle.def_layout.specs.Surfaces.{HasWholeSides, IsSurface}
 use Rattle.def_layout.specs.Lengths.{Lengths, reach, size, wide, high, AreLengths}
@@ -9,7 +10,8 @@ use Rattle.def_written.specs.NewFaces.{column, row}
 use Rattle.written_laws.proofs.Runs.{place_same}
 use Rattle.written_laws.proofs.Sides.{slot, long_at, side_in}
 use Rattle.written_laws.proofs.Grid.{wide_some, high_some}
-use Rattle.written_laws.proofs.Rims.{column_of, row_of, side_column, side_row, border_point, rim_is, rim_column, rim_row, rim_next_column, rim_next_row, rim_patch, rim_way}
+use Rattle.written_laws.proofs.Rims.{column_of, row_of, side_column, side_row, border_point, rim_is, rim_column}
+use Rattle.written_laws.proofs.Rims.{rim_row, rim_next_column, rim_next_row, rim_patch, rim_way}
 use Rattle.written_laws.proofs.Borders.{at_low, at_is, IsAt}
 use Rattle.written_laws.proofs.NewDarts.{next_is}
 
@@ -42,7 +44,9 @@ module _ (l : Layout) (x : Lengths) (paved : HasWholeSides l) (len : AreLengths 
   -- A border dart tells its slot.
   pub rim_slot : (w v : Slot) (o k : ℕ) → IsSlot l w → IsSlot l v → o < x (use_of l w).arc → k < x (use_of l v).arc
       → slot_dart l x w o ≡ slot_dart l x v k → w ≡ v
-  rim_slot w v o k is_w is_v o_low k_low same = by_place (place_once w.patch w.side w.side t u is_w.patch_low (at_low l x paved len w o is_w o_low) u_low columns rows).1
+  rim_slot w v o k is_w is_v o_low k_low same =
+      by_place (place_once w.patch w.side w.side t u is_w.patch_low (at_low l x paved len w o is_w o_low) u_low columns
+      rows).1
     where
       t : ℕ
       t = reach l x w.patch w.side w.at + o
@@ -51,10 +55,12 @@ module _ (l : Layout) (x : Lengths) (paved : HasWholeSides l) (len : AreLengths 
       u = reach l x v.patch v.side v.at + k
 
       patches : v.patch ≡ w.patch
-      patches = sym (rim_patch l x paved len v.patch v.side u) ∙ ap (λ (d : CellDart). d.patch) (sym same) ∙ rim_patch l x paved len w.patch w.side t
+      patches = sym (rim_patch l x paved len v.patch v.side u) ∙ ap (λ (d : CellDart). d.patch) (sym same)
+          ∙ rim_patch l x paved len w.patch w.side t
 
       sides : v.side ≡ w.side
-      sides = sym (rim_way l x paved len v.patch v.side u) ∙ ap (λ (d : CellDart). d.way) (sym same) ∙ rim_way l x paved len w.patch w.side t
+      sides = sym (rim_way l x paved len v.patch v.side u) ∙ ap (λ (d : CellDart). d.way) (sym same)
+          ∙ rim_way l x paved len w.patch w.side t
 
       u_low : u < size l x w.patch w.side
       u_low = subst (λ (n : ℕ). u < n) (λ r. size l x (patches r) (sides r)) (at_low l x paved len v k is_v k_low)
@@ -72,8 +78,10 @@ module _ (l : Layout) (x : Lengths) (paved : HasWholeSides l) (len : AreLengths 
 
       by_place : t ≡ u → w ≡ v
       by_place e =
-          let k_inside : k < long_at l x w.patch w.side v.at = subst (λ (n : ℕ). k < n) (λ r. long_at l x (patches r) (sides r) v.at) k_low in
-          let v_many : v.at < l.many w.patch w.side = subst (λ (n : ℕ). v.at < n) (λ r. l.many (patches r) (sides r)) is_v.low in
+          let k_inside : k < long_at l x w.patch w.side v.at =
+          subst (λ (n : ℕ). k < n) (λ r. long_at l x (patches r) (sides r) v.at) k_low in
+          let v_many : v.at < l.many w.patch w.side = subst (λ (n : ℕ). v.at < n) (λ r. l.many (patches r) (sides r))
+          is_v.low in
           let r : (w.at ≡ v.at) × (o ≡ k) =
           place_same (long_at l x w.patch w.side) (l.many w.patch w.side) w.at o v.at k is_w.low v_many o_low k_inside
           (e ∙ (λ r. reach l x (patches r) (sides r) v.at + k)) in
@@ -125,7 +133,8 @@ spot_dart l x w o true = next (dart_along l x w.patch w.side (place_at l x w o -
 module _ (l : Layout) (x : Lengths) (laid : IsSurface l) (len : AreLengths l x) where
   -- A dart is at a slot's place where it leaves the grid point.
   pub at_place : (d : CellDart) (w : Slot) (o : ℕ) → IsSlot l w → o < x (use_of l w).arc → d.patch ≡ w.patch
-      → column_of d ≡ side_column l x w.patch w.side (place_at l x w o) → row_of d ≡ side_row l x w.patch w.side (place_at l x w o)
+      → column_of d ≡ side_column l x w.patch w.side (place_at l x w o)
+      → row_of d ≡ side_row l x w.patch w.side (place_at l x w o)
       → IsAt l x laid len d w o
   at_place d w o is less patch c r = record {
     is_slot = is;
@@ -134,20 +143,24 @@ module _ (l : Layout) (x : Lengths) (laid : IsSurface l) (len : AreLengths l x) 
     column = c;
     row = r;
     leaves = (λ k. point l x (patch k) (c k) (r k))
-        ∙ border_point l x laid len w.patch w.side (place_at l x w o) is.patch_low (omega (arith, at_low l x laid.paved len w o is less))
+        ∙ border_point l x laid len w.patch w.side (place_at l x w o) is.patch_low
+        (omega (arith, at_low l x laid.paved len w o is less))
         ∙ side_in l x w o is less;
   }
 
   -- It is at one place of one slot.
-  pub at_once : (d : CellDart) (w v : Slot) (o k : ℕ) → IsAt l x laid len d w o → IsAt l x laid len d v k → (w ≡ v) × (o ≡ k)
-  at_once d w v o k a b = by_place (place_once l x laid.paved len w.patch w.side v.side (place_at l x w o) (place_at l x v k)
+  pub at_once : (d : CellDart) (w v : Slot) (o k : ℕ) → IsAt l x laid len d w o → IsAt l x laid len d v k
+      → (w ≡ v) × (o ≡ k)
+  at_once d w v o k a b = by_place (place_once l x laid.paved len w.patch w.side v.side (place_at l x w o)
+      (place_at l x v k)
       a.is_slot.patch_low (at_low l x laid.paved len w o a.is_slot a.low) v_low columns rows)
     where
       patches : v.patch ≡ w.patch
       patches = sym b.patch ∙ a.patch
 
       v_low : place_at l x v k < size l x w.patch v.side
-      v_low = subst (λ (n : ℕ). place_at l x v k < n) (λ t. size l x (patches t) v.side) (at_low l x laid.paved len v k b.is_slot b.low)
+      v_low = subst (λ (n : ℕ). place_at l x v k < n) (λ t. size l x (patches t) v.side)
+          (at_low l x laid.paved len v k b.is_slot b.low)
 
       columns : side_column l x w.patch w.side (place_at l x w o) ≡ side_column l x w.patch v.side (place_at l x v k)
       columns = sym a.column ∙ b.column ∙ (λ t. side_column l x (patches t) v.side (place_at l x v k))
@@ -159,41 +172,52 @@ module _ (l : Layout) (x : Lengths) (laid : IsSurface l) (len : AreLengths l x) 
       by_place s =
           let v_inside : k < long_at l x w.patch w.side v.at =
           subst (λ (n : ℕ). k < n) (λ t. long_at l x (patches t) (sym s.0 t) v.at) b.low in
-          let v_many : v.at < l.many w.patch w.side = subst (λ (n : ℕ). v.at < n) (λ t. l.many (patches t) (sym s.0 t)) b.is_slot.low in
+          let v_many : v.at < l.many w.patch w.side = subst (λ (n : ℕ). v.at < n) (λ t. l.many (patches t) (sym s.0 t))
+          b.is_slot.low in
           let place : reach l x w.patch w.side w.at + o ≡ reach l x w.patch w.side v.at + k =
           s.1 ∙ (λ t. reach l x (patches t) (sym s.0 t) v.at + k) in
           let r : (w.at ≡ v.at) × (o ≡ k) =
-          place_same (long_at l x w.patch w.side) (l.many w.patch w.side) w.at o v.at k a.is_slot.low v_many a.low v_inside place in
+          place_same (long_at l x w.patch w.side) (l.many w.patch w.side) w.at o v.at k a.is_slot.low v_many a.low
+          v_inside place in
           ((λ t. slot (sym patches t) (s.0 t) (r.0 t)), r.1)
 
   -- The darts at a place.
-  pub spot_is : (w : Slot) (o : ℕ) (b : Bool) → IsSlot l w → o < x (use_of l w).arc → (b ≡ true → 0 < place_at l x w o) → IsDart l x (spot_dart l x w o b)
+  pub spot_is : (w : Slot) (o : ℕ) (b : Bool) → IsSlot l w → o < x (use_of l w).arc → (b ≡ true → 0 < place_at l x w o)
+      → IsDart l x (spot_dart l x w o b)
   spot_is w o false is less some = at_is l x laid.paved len w o is less
   spot_is w o true is less some =
       next_is l x (dart_along l x w.patch w.side (place_at l x w o - 1))
-      (rim_is l x laid.paved len w.patch w.side (place_at l x w o - 1) is.patch_low (omega (arith, at_low l x laid.paved len w o is less)))
+      (rim_is l x laid.paved len w.patch w.side (place_at l x w o - 1) is.patch_low
+      (omega (arith, at_low l x laid.paved len w o is less)))
 
   pub rim_is_at : (w : Slot) (o : ℕ) → IsSlot l w → o < x (use_of l w).arc → IsAt l x laid len (slot_dart l x w o) w o
   rim_is_at w o is less =
       at_place (slot_dart l x w o) w o is less (rim_patch l x laid.paved len w.patch w.side (place_at l x w o))
-      (rim_column l x laid.paved len w.patch w.side (place_at l x w o) is.patch_low (at_low l x laid.paved len w o is less))
-      (rim_row l x laid.paved len w.patch w.side (place_at l x w o) is.patch_low (at_low l x laid.paved len w o is less))
+      (rim_column l x laid.paved len w.patch w.side (place_at l x w o) is.patch_low
+      (at_low l x laid.paved len w o is less))
+      (rim_row l x laid.paved len w.patch w.side (place_at l x w o) is.patch_low
+      (at_low l x laid.paved len w o is less))
 
-  pub spot_at : (w : Slot) (o : ℕ) (b : Bool) → IsSlot l w → o < x (use_of l w).arc → (b ≡ true → 0 < place_at l x w o) → IsAt l x laid len (spot_dart l x w o b) w o
+  pub spot_at : (w : Slot) (o : ℕ) (b : Bool) → IsSlot l w → o < x (use_of l w).arc → (b ≡ true → 0 < place_at l x w o)
+      → IsAt l x laid len (spot_dart l x w o b) w o
   spot_at w o false is less some = rim_is_at w o is less
   spot_at w o true is less some =
-      let t_low : place_at l x w o - 1 < size l x w.patch w.side = omega (arith, at_low l x laid.paved len w o is less) in
+      let t_low : place_at l x w o - 1 < size l x w.patch w.side =
+      omega (arith, at_low l x laid.paved len w o is less) in
       let one : place_at l x w o - 1 + 1 ≡ place_at l x w o = omega (arith, some refl) in
       at_place (next (dart_along l x w.patch w.side (place_at l x w o - 1))) w o is less
       (rim_patch l x laid.paved len w.patch w.side (place_at l x w o - 1))
-      (rim_next_column l x laid.paved len w.patch w.side (place_at l x w o - 1) is.patch_low t_low ∙ ap (side_column l x w.patch w.side) one)
-      (rim_next_row l x laid.paved len w.patch w.side (place_at l x w o - 1) is.patch_low t_low ∙ ap (side_row l x w.patch w.side) one)
+      (rim_next_column l x laid.paved len w.patch w.side (place_at l x w o - 1) is.patch_low t_low
+      ∙ ap (side_column l x w.patch w.side) one)
+      (rim_next_row l x laid.paved len w.patch w.side (place_at l x w o - 1) is.patch_low t_low
+      ∙ ap (side_row l x w.patch w.side) one)
 
   -- A dart at a place is one of the two.
   pub sort_spot : (d : CellDart) (w : Slot) (o : ℕ) → IsDart l x d → IsAt l x laid len d w o
       → (b : Bool) × (d ≡ spot_dart l x w o b) × ((b ≡ true) → 0 < place_at l x w o)
   sort_spot d w o is a =
-      by_border (border_dart l x laid.paved len w.patch w.side d.way d.i d.j (place_at l x w o) (at_low l x laid.paved len w o a.is_slot a.low)
+      by_border (border_dart l x laid.paved len w.patch w.side d.way d.i d.j (place_at l x w o)
+      (at_low l x laid.paved len w o a.is_slot a.low)
       (record {
         patch_low = a.is_slot.patch_low;
         i_low = subst (λ (n : ℕ). d.i < n) (ap (wide l x) a.patch) is.i_low;
@@ -205,7 +229,8 @@ module _ (l : Layout) (x : Lengths) (laid : IsSurface l) (len : AreLengths l x) 
       here = λ t. dart (a.patch t) d.i d.j d.way
 
       by_border : (dart w.patch d.i d.j d.way ≡ dart_along l x w.patch w.side (place_at l x w o))
-          ⊎ ((0 < place_at l x w o) × (dart w.patch d.i d.j d.way ≡ next (dart_along l x w.patch w.side (place_at l x w o - 1))))
+          ⊎ ((0 < place_at l x w o)
+          × (dart w.patch d.i d.j d.way ≡ next (dart_along l x w.patch w.side (place_at l x w o - 1))))
           → (b : Bool) × (d ≡ spot_dart l x w o b) × ((b ≡ true) → 0 < place_at l x w o)
       by_border (inl e) = (false, here ∙ e, λ s. absurd cc)
       by_border (inr e) = (true, here ∙ e.1, λ s. e.0)
@@ -215,8 +240,10 @@ module _ (l : Layout) (x : Lengths) (laid : IsSurface l) (len : AreLengths l x) 
   spot_once w o true true e = refl
   spot_once w o false false e = refl
   spot_once w o true false e =
-      absurd (no_turn w.side (sym (ap (λ (d : CellDart). d.way) e ∙ rim_way l x laid.paved len w.patch w.side (place_at l x w o))
+      absurd (no_turn w.side (sym (ap (λ (d : CellDart). d.way) e ∙ rim_way l x laid.paved len w.patch w.side
+      (place_at l x w o))
       ∙ ap side_after (rim_way l x laid.paved len w.patch w.side (place_at l x w o - 1))))
   spot_once w o false true e =
-      absurd (no_turn w.side (sym (rim_way l x laid.paved len w.patch w.side (place_at l x w o)) ∙ ap (λ (d : CellDart). d.way) e
+      absurd (no_turn w.side (sym (rim_way l x laid.paved len w.patch w.side (place_at l x w o))
+      ∙ ap (λ (d : CellDart). d.way) e
       ∙ ap side_after (rim_way l x laid.paved len w.patch w.side (place_at l x w o - 1))))

@@ -12,7 +12,8 @@ pub record IsTurning (l : Layout) (x : Lengths) (R : CellDart → CellDart → T
   pub on : (d c e : CellDart) → R d c → R c e → R d e
   pub back : (d e : CellDart) → IsDart l x d → R d e → R e d
   pub left : (p i j k m : ℕ) (w : Way) → IsDart l x (dart p i j w) → IsDart l x (dart p k m (side_after w))
-      → column i w ≡ column k (side_after w) → row j w ≡ row m (side_after w) → R (dart p i j w) (dart p k m (side_after w))
+      → column i w ≡ column k (side_after w) → row j w ≡ row m (side_after w)
+      → R (dart p i j w) (dart p k m (side_after w))
   pub over : (w v : Slot) (o : ℕ) → IsSlot l w → IsOtherSlot l w v → o < x (use_of l w).arc
       → R (next (slot_dart l x w o)) (slot_dart l x v (x (use_of l w).arc - 1 - o))
 
@@ -25,8 +26,10 @@ module _ (l : Layout) (x : Lengths) (R : CellDart → CellDart → Type 0) (turn
   same_cell p i j k m w a b = turning.self (dart p i j w) (dart p k m w) (λ t. dart p (a t) (b t) w)
 
   twice : (p i j a b k m : ℕ) (w : Way) → IsDart l x (dart p i j w) → IsDart l x (dart p a b (side_after w))
-      → IsDart l x (dart p k m (side_after (side_after w))) → column i w ≡ column a (side_after w) → row j w ≡ row b (side_after w)
-      → column a (side_after w) ≡ column k (side_after (side_after w)) → row b (side_after w) ≡ row m (side_after (side_after w))
+      → IsDart l x (dart p k m (side_after (side_after w))) → column i w ≡ column a (side_after w)
+      → row j w ≡ row b (side_after w)
+      → column a (side_after w) ≡ column k (side_after (side_after w)) → row b (side_after w)
+      ≡ row m (side_after (side_after w))
       → R (dart p i j w) (dart p k m (side_after (side_after w)))
   twice p i j a b k m w d c e i_a j_b a_k b_m =
       turning.on (dart p i j w) (dart p a b (side_after w)) (dart p k m (side_after (side_after w)))

@@ -5,7 +5,8 @@ use Rattle.def_layout.specs.Layouts.{Layout}
 use Rattle.def_layout.specs.Surfaces.{IsSurface}
 use Rattle.def_layout.specs.Lengths.{Lengths, AreLengths}
 use Rattle.def_written.specs.Numbers.{vertex_number}
-use Rattle.def_written.specs.Edges.{Edge, on_arc, flat, steep, IsEdge, edge_start, edge_end, HasEnds, HasLoop, HasPair, IsUndoubled}
+use Rattle.def_written.specs.Edges.{Edge, on_arc, flat, steep, IsEdge, edge_start, edge_end, HasEnds, HasLoop, HasPair}
+use Rattle.def_written.specs.Edges.{IsUndoubled}
 use Rattle.written_laws.proofs.Numbers.{number_same}
 use Rattle.written_laws.proofs.Simple.{IsSimple}
 use Rattle.written_laws.proofs.EdgeDarts.{edge_points}
@@ -52,29 +53,40 @@ module _ (l : Layout) (x : Lengths) where
 
   pub simple_from : IsUndoubled l x → IsSimple l x
   simple_from undoubled = record {
-    same = λ e f is_e is_f s t. one e f is_e is_f (inl (ap (vertex_number l x) (sym s), ap (vertex_number l x) (sym t)));
-    crossed = λ e f is_e is_f s t. one e f is_e is_f (inr (ap (vertex_number l x) (sym t), ap (vertex_number l x) (sym s)));
+    same = λ e f is_e is_f s t. one e f is_e is_f
+        (inl (ap (vertex_number l x) (sym s), ap (vertex_number l x) (sym t)));
+    crossed = λ e f is_e is_f s t. one e f is_e is_f
+        (inr (ap (vertex_number l x) (sym t), ap (vertex_number l x) (sym s)));
     no_loop = λ e is s. undoubled (vertex_number l x (edge_start l x e)) (vertex_number l x (edge_start l x e))
         (omega arith, inl (refl, (e, is, inl (refl, ap (vertex_number l x) (sym s)))));
   }
     where
-      one : (e f : Edge) → IsEdge l x e → IsEdge l x f → HasEnds l x f (vertex_number l x (edge_start l x e)) (vertex_number l x (edge_end l x e)) → e ≡ f
+      one : (e f : Edge) → IsEdge l x e → IsEdge l x f
+          → HasEnds l x f (vertex_number l x (edge_start l x e)) (vertex_number l x (edge_end l x e)) → e ≡ f
       one e f is_e is_f ends = elim (cases_edge e f) [
         | inl s ↦ s
-        | inr apart ↦ absurd (pair_doubles e f (vertex_number l x (edge_start l x e)) (vertex_number l x (edge_end l x e)) is_e is_f apart (inl (refl, refl)) ends undoubled)
+        | inr apart ↦ absurd (pair_doubles e f (vertex_number l x (edge_start l x e))
+            (vertex_number l x (edge_end l x e)) is_e is_f apart (inl (refl, refl)) ends undoubled)
       ]
 
   module _ (laid : IsSurface l) (len : AreLengths l x) where
     point_is : (a b : Edge) → IsEdge l x a → IsEdge l x b
-        → (vertex_number l x (edge_start l x a) ≡ vertex_number l x (edge_start l x b) → edge_start l x a ≡ edge_start l x b)
-        × (vertex_number l x (edge_start l x a) ≡ vertex_number l x (edge_end l x b) → edge_start l x a ≡ edge_end l x b)
-        × (vertex_number l x (edge_end l x a) ≡ vertex_number l x (edge_start l x b) → edge_end l x a ≡ edge_start l x b)
+        → (vertex_number l x (edge_start l x a) ≡ vertex_number l x (edge_start l x b)
+        → edge_start l x a ≡ edge_start l x b)
+        × (vertex_number l x (edge_start l x a) ≡ vertex_number l x (edge_end l x b)
+        → edge_start l x a ≡ edge_end l x b)
+        × (vertex_number l x (edge_end l x a) ≡ vertex_number l x (edge_start l x b)
+        → edge_end l x a ≡ edge_start l x b)
         × (vertex_number l x (edge_end l x a) ≡ vertex_number l x (edge_end l x b) → edge_end l x a ≡ edge_end l x b)
     point_is a b is_a is_b = (
-      number_same l x (edge_start l x a) (edge_start l x b) (edge_points l x laid len a is_a).0 (edge_points l x laid len b is_b).0,
-      number_same l x (edge_start l x a) (edge_end l x b) (edge_points l x laid len a is_a).0 (edge_points l x laid len b is_b).1,
-      number_same l x (edge_end l x a) (edge_start l x b) (edge_points l x laid len a is_a).1 (edge_points l x laid len b is_b).0,
-      number_same l x (edge_end l x a) (edge_end l x b) (edge_points l x laid len a is_a).1 (edge_points l x laid len b is_b).1,
+      number_same l x (edge_start l x a) (edge_start l x b) (edge_points l x laid len a is_a).0
+          (edge_points l x laid len b is_b).0,
+      number_same l x (edge_start l x a) (edge_end l x b) (edge_points l x laid len a is_a).0
+          (edge_points l x laid len b is_b).1,
+      number_same l x (edge_end l x a) (edge_start l x b) (edge_points l x laid len a is_a).1
+          (edge_points l x laid len b is_b).0,
+      number_same l x (edge_end l x a) (edge_end l x b) (edge_points l x laid len a is_a).1
+          (edge_points l x laid len b is_b).1,
     )
 
     pub undoubled_from : IsSimple l x → IsUndoubled l x
@@ -86,13 +98,17 @@ module _ (l : Layout) (x : Lengths) where
 
         paired : (e f : Edge) → IsEdge l x e → IsEdge l x f → HasEnds l x e u v → HasEnds l x f u v → e ≡ f
         paired e f is_e is_f (inl s) (inl t) =
-            simple.same e f is_e is_f ((point_is e f is_e is_f).0 (s.0 ∙ sym t.0)) ((point_is e f is_e is_f).3 (s.1 ∙ sym t.1))
+            simple.same e f is_e is_f ((point_is e f is_e is_f).0 (s.0 ∙ sym t.0))
+            ((point_is e f is_e is_f).3 (s.1 ∙ sym t.1))
         paired e f is_e is_f (inl s) (inr t) =
-            simple.crossed e f is_e is_f ((point_is e f is_e is_f).1 (s.0 ∙ sym t.1)) ((point_is e f is_e is_f).2 (s.1 ∙ sym t.0))
+            simple.crossed e f is_e is_f ((point_is e f is_e is_f).1 (s.0 ∙ sym t.1))
+            ((point_is e f is_e is_f).2 (s.1 ∙ sym t.0))
         paired e f is_e is_f (inr s) (inl t) =
-            simple.crossed e f is_e is_f ((point_is e f is_e is_f).1 (s.0 ∙ sym t.1)) ((point_is e f is_e is_f).2 (s.1 ∙ sym t.0))
+            simple.crossed e f is_e is_f ((point_is e f is_e is_f).1 (s.0 ∙ sym t.1))
+            ((point_is e f is_e is_f).2 (s.1 ∙ sym t.0))
         paired e f is_e is_f (inr s) (inr t) =
-            simple.same e f is_e is_f ((point_is e f is_e is_f).0 (s.0 ∙ sym t.0)) ((point_is e f is_e is_f).3 (s.1 ∙ sym t.1))
+            simple.same e f is_e is_f ((point_is e f is_e is_f).0 (s.0 ∙ sym t.0))
+            ((point_is e f is_e is_f).3 (s.1 ∙ sym t.1))
 
         by_kind : ((u ≡ v) × HasLoop l x u) ⊎ HasPair l x u v → ⊥
         by_kind (inl h) = looped h.1.0 h.1.1 h.1.2

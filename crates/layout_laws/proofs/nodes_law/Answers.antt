@@ -4,4 +4,5 @@ use Rattle.layout_laws.proofs.FaceNodes.{are_nodes}
 use Rattle.layout_laws.proofs.nodes_law.Goals as goal
 
 pub returns : goal.returns
-returns c faces marks manifold full = are_nodes faces (manifold_law faces manifold) marks ((full_cut_law faces marks manifold).0 full).1
+returns c faces marks manifold full =
+    are_nodes faces (manifold_law faces manifold) marks ((full_cut_law faces marks manifold).0 full).1

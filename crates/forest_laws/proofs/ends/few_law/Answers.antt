@@ -2,4 +2,7 @@ use Rattle.forest_laws.proofs.Rooms.{few_sets, no_sets}
 use Rattle.forest_laws.proofs.ends.few_law.Goals as goal
 
 pub returns : goal.returns
-returns c = λ g f are outermost nested. ((λ some. few_sets g are f nested outermost.vertices outermost some), λ none. no_sets g are f nested outermost.vertices none)
+returns c = λ g f are outermost nested. (
+  (λ some. few_sets g are f nested outermost.vertices outermost some),
+  λ none. no_sets g are f nested outermost.vertices none,
+)

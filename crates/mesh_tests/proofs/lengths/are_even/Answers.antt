@@ -23,7 +23,8 @@ loop-patch-preserved c patch low = elim (cases_lt patch c.loop-patch.patch) [
   | inl less ↦ c.loop-patch.invariant patch less
   | inr more ↦
       let same : c.loop-patch.patch ≡ patch = omega arith in
-      subst (AreEven (layout_of c.args.cut.now.plan) (lengths_in c.args.lengths.now)) same (c.is_even.ensures c.if-not-is_even.false)
+      subst (AreEven (layout_of c.args.cut.now.plan) (lengths_in c.args.lengths.now)) same
+      (c.is_even.ensures c.if-not-is_even.false)
 ]
 
 pub returns : goal.returns

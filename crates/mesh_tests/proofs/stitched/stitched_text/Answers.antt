@@ -12,7 +12,8 @@ stitch-requires-clause-layout g c = subst IsSomeLayout (sym c.layout.ensures.pla
 
 pub stitch-requires-clause-long : goal.stitch-requires-clause-long
 stitch-requires-clause-long g c =
-    (c.are_lengths.ensures c.if-not-are_lengths.false).long ∙ ap (λ (p : Plan). length p.arcs) (sym c.layout.ensures.plan)
+    (c.are_lengths.ensures c.if-not-are_lengths.false).long
+    ∙ ap (λ (p : Plan). length p.arcs) (sym c.layout.ensures.plan)
     ∙ length-map c.layout.result.now.arcs.items path
 
 pub stitch-requires-clause-lengths : goal.stitch-requires-clause-lengths

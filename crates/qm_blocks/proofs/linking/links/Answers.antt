@@ -14,8 +14,10 @@ pub loop-block-preserved : goal.loop-block-preserved
 loop-block-preserved c =
     let f = block_links (plan c.args.t.now) (lengths_in c.args.x.now) c.in_ok-table.table.items in
     list_more f c.loop-block.block [] _ _ c.in_ok-here.here.items c.loop-block.invariant
-    (ap (map (λ block. block.items)) c.in_ok-push.ensures.items ∙ map-append (λ block. block.items) c.loop-block.links.items (c.in_ok-here.here ∷ []))
-    (c.in_ok-here.ensures ∙ ap (λ table. block_links (plan c.args.t.now) (lengths_in c.args.x.now) table c.loop-block.block) c.deref.ensures.value)
+    (ap (map (λ block. block.items)) c.in_ok-push.ensures.items
+    ∙ map-append (λ block. block.items) c.loop-block.links.items (c.in_ok-here.here ∷ []))
+    (c.in_ok-here.ensures ∙ ap (λ table. block_links (plan c.args.t.now) (lengths_in c.args.x.now) table
+    c.loop-block.block) c.deref.ensures.value)
 
 pub returns : goal.returns
 returns c =
@@ -30,5 +32,6 @@ returns c =
       c.args.t.now.patches.ok.0,
       length-map c.args.t.now.patches.items rectangle,
     ) in
-    subst (AreLinks (layout_of t) x) (sym (c.loop-block.invariant ∙ ap (λ n. map (block_links t x table) (range_with_len 0 n)) all))
+    subst (AreLinks (layout_of t) x)
+    (sym (c.loop-block.invariant ∙ ap (λ n. map (block_links t x table) (range_with_len 0 n)) all))
     (are_links t x table (laid_of t c.requires.layout) c.in_ok-table.ensures)

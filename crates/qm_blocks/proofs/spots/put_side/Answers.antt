@@ -34,6 +34,7 @@ overflow_cast-block c = omega (
 
 pub returns : goal.returns
 returns c way is =
-    side_put (plan c.args.t.now) (lengths_in c.args.x.now) c.args.block way c.side_of.result.now c.name_of.result c.args.table.now c.put_uses.new.table
+    side_put (plan c.args.t.now) (lengths_in c.args.x.now) c.args.block way c.side_of.result.now c.name_of.result
+    c.args.table.now c.put_uses.new.table
     (c.side_of.ensures ∙ ap (arcs_on (plan c.args.t.now) c.args.block) (sym is)) (c.name_of.ensures way is)
     (omega (arith, c.requires.block, length-map c.args.t.now.patches.items rectangle)) c.put_uses.ensures

@@ -7,8 +7,10 @@ use Rattle.qm_blocktext.proofs.arcs.arc_at.Goals as goal
 pub returns-then-left-len : goal.returns-then-left-len
 returns-then-left-len c =
     let side = c.side-item.result in
-    let less : c.loop-side.left < length side.arcs.items = omega (arith, c.if-left-len.true, c.len.ensures, side.arcs.ok.0) in
-    sym (arc_here c.args.sides.now c.loop-side.side-index c.loop-side.left side c.index.result.now c.loop-side-test.true c.side-item.is less c.index.ensures)
+    let less : c.loop-side.left < length side.arcs.items =
+    omega (arith, c.if-left-len.true, c.len.ensures, side.arcs.ok.0) in
+    sym (arc_here c.args.sides.now c.loop-side.side-index c.loop-side.left side c.index.result.now c.loop-side-test.true
+    c.side-item.is less c.index.ensures)
     ∙ c.loop-side.invariant
 
 pub loop-side-preserved : goal.loop-side-preserved

@@ -24,11 +24,14 @@ links-requires-clause-long c = omega (
 
 pub links-requires-clause-bounded : goal.links-requires-clause-bounded
 links-requires-clause-bounded c =
-    subst (λ (xs : List ℕ). (arc : ℕ) → lengths_in xs arc ≤ MAX_LENGTH) (sym c.deref.ensures.value) c.in_ok-lengths.ensures.bounded
+    subst (λ (xs : List ℕ). (arc : ℕ) → lengths_in xs arc ≤ MAX_LENGTH) (sym c.deref.ensures.value)
+    c.in_ok-lengths.ensures.bounded
 
 pub returns : goal.returns
 returns c =
     let same = ap lengths_in c.deref.ensures.value ∙ c.in_ok-lengths.ensures.multiple in
-    subst (λ (l : Lengths). IfOk c.links.result (λ links. AreLinks (layout_of c.args.cut.now.plan) l (map (λ block. block.items) links.items))) same
-    (subst (λ (p : Plan). IfOk c.links.result (λ links. AreLinks (layout_of p) (lengths_in c.deref.result.now) (map (λ block. block.items) links.items)))
+    subst (λ (l : Lengths). IfOk c.links.result (λ links. AreLinks (layout_of c.args.cut.now.plan) l
+    (map (λ block. block.items) links.items))) same
+    (subst (λ (p : Plan). IfOk c.links.result (λ links. AreLinks (layout_of p) (lengths_in c.deref.result.now)
+    (map (λ block. block.items) links.items)))
     c.layout.ensures.plan c.links.ensures)

@@ -24,7 +24,8 @@ returns-in_err-put_line-clause-part g c =
     let at = c.loop-at.at in
     let has : slice_get arcs at ≡ Some c.in-Some.arc = sym c.arc_at.ensures ∙ c.in-Some.is in
     of_error c.from_residual.result
-    (subst (g.T.Output.stops c.args.out.now c.put_line.new.out) (lines_apart links arcs at _ c.in-Some.arc c.loop-at-test.true has)
+    (subst (g.T.Output.stops c.args.out.now c.put_line.new.out)
+    (lines_apart links arcs at _ c.in-Some.arc c.loop-at-test.true has)
     (laws.stops_before _ _ _ (arc_link_lines (drop (suc at) links) (drop (suc at) arcs))
     (laws.stops_later _ _ _ (arc_link_lines (take at links) arcs) _ c.loop-at.invariant
     (subst (g.T.Output.stops c.loop-at.out c.put_line.new.out) c.arc_link_of.ensures c.in_err-put_line.ensures.part))))
@@ -38,6 +39,7 @@ loop-at-preserved g c =
     let has : slice_get arcs at ≡ Some c.in-Some.arc = sym c.arc_at.ensures ∙ c.in-Some.is in
     let next : at + 1 ≡ suc at = omega arith in
     subst (g.T.Output.takes c.args.out.now c.put_line.new.out)
-    (sym (ap (λ (n : ℕ). arc_link_lines (take n links) arcs) next ∙ lines_more links arcs at _ c.in-Some.arc c.loop-at-test.true has))
+    (sym (ap (λ (n : ℕ). arc_link_lines (take n links) arcs) next ∙ lines_more links arcs at _ c.in-Some.arc
+    c.loop-at-test.true has))
     (laws.takes_more _ _ _ (arc_link_lines (take at links) arcs) _ c.loop-at.invariant
     (subst (g.T.Output.takes c.loop-at.out c.put_line.new.out) c.arc_link_of.ensures c.in_ok-put_line.ensures.whole))

@@ -9,6 +9,8 @@ pub returns-in_err-put_line-clause-part : goal.returns-in_err-put_line-clause-pa
 returns-in_err-put_line-clause-part g c =
     let laws = g.met.T.Output in
     of_error c.from_residual.result
-    (stops_at_item g.T.Output.takes g.T.Output.stops laws.stops_later laws.stops_before link_line c.args.links.now c.loop-link.link-index _ _ _ _
+    (stops_at_item g.T.Output.takes g.T.Output.stops laws.stops_later laws.stops_before link_line c.args.links.now
+    c.loop-link.link-index _ _ _ _
     c.loop-link-test.true c.loop-link.invariant
-    (subst (λ (text : Bytes). g.T.Output.stops c.loop-link.out c.put_line.new.out text) c.link_of.ensures c.in_err-put_line.ensures.part))
+    (subst (λ (text : Bytes). g.T.Output.stops c.loop-link.out c.put_line.new.out text) c.link_of.ensures
+    c.in_err-put_line.ensures.part))

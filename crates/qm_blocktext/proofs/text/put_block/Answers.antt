@@ -26,29 +26,35 @@ abbrev rest_of : (blocks : Blocks) (block : ℕ) → Bytes
 rest_of blocks block = points_in blocks.points block ++ link_lines blocks block
 
 -- A block has its own links.
-own : (blocks : Blocks) (block : ℕ) (all : List (Vec Link Global)) (links : Vec Link Global) → block < length blocks.links.items
+own : (blocks : Blocks) (block : ℕ) (all : List (Vec Link Global)) (links : Vec Link Global)
+    → block < length blocks.links.items
     → all ≡ blocks.links.items → links ≡ get_or all block links → links.items ≡ get_or (links_in blocks) block []
 own blocks block all links low same is =
     ap (λ (v : Vec Link Global). v.items) is
-    ∙ sym (get_or-map (λ (v : Vec Link Global). v.items) all block links [] (omega (arith, low, ap (λ (vs : List (Vec Link Global)). length vs) same)))
+    ∙ sym (get_or-map (λ (v : Vec Link Global). v.items) all block links []
+    (omega (arith, low, ap (λ (vs : List (Vec Link Global)). length vs) same)))
     ∙ ap (λ (vs : List (Vec Link Global)). get_or (map (λ (v : Vec Link Global). v.items) vs) block []) same
 
 pub returns-in_err-put_size-clause-part : goal.returns-in_err-put_size-clause-part
 returns-in_err-put_size-clause-part g c =
     let laws = g.met.T.Output in
     of_error c.from_residual.result
-    (laws.stops_before _ _ (size_in c.args.blocks.now.points c.args.block) (rest_of c.args.blocks.now c.args.block) c.in_err-put_size.ensures.part)
+    (laws.stops_before _ _ (size_in c.args.blocks.now.points c.args.block) (rest_of c.args.blocks.now c.args.block)
+    c.in_err-put_size.ensures.part)
 
 pub returns-in_err-put_points-clause-part : goal.returns-in_err-put_points-clause-part
 returns-in_err-put_points-clause-part g c =
     let laws = g.met.T.Output in
     let blocks = c.args.blocks.now in
     of_error c.from_residual-in_err-put_points.result
-    (laws.stops_later _ _ _ (size_in blocks.points c.args.block) (rest_of blocks c.args.block) c.in_ok-put_size.ensures.whole
-    (laws.stops_before _ _ (points_in blocks.points c.args.block) (link_lines blocks c.args.block) c.in_err-put_points.ensures.part))
+    (laws.stops_later _ _ _ (size_in blocks.points c.args.block) (rest_of blocks c.args.block)
+    c.in_ok-put_size.ensures.whole
+    (laws.stops_before _ _ (points_in blocks.points c.args.block) (link_lines blocks c.args.block)
+    c.in_err-put_points.ensures.part))
 
 -- The arcs around it.
-around : (blocks : Blocks) (block : ℕ) (cut : CutSoup) (t : TMesh) (four : List Side) → block < length blocks.links.items
+around : (blocks : Blocks) (block : ℕ) (cut : CutSoup) (t : TMesh) (four : List Side)
+    → block < length blocks.links.items
     → cut ≡ record { soup = blocks.points.soup; plan = blocks.points.plan } → plan t ≡ cut.plan
     → IsMeshLayout cut.soup.faces cut.plan → four ≡ get_or t.sides.items block four
     → arcs_of four ≡ arcs_around blocks.points.plan block
@@ -70,12 +76,16 @@ pub returns-clause-whole : goal.returns-clause-whole
 returns-clause-whole g c =
     let laws = g.met.T.Output in
     let blocks = c.args.blocks.now in
-    let links = own blocks c.args.block c.as_slice-links.result.now c.index-links-block.result c.requires c.as_slice-links.ensures.value c.index-links-block.is in
-    let arcs = around blocks c.args.block c.cut.result.now c.layout-layout.result.now c.index.result.now c.requires c.cut.ensures
+    let links = own blocks c.args.block c.as_slice-links.result.now c.index-links-block.result c.requires
+    c.as_slice-links.ensures.value c.index-links-block.is in
+    let arcs = around blocks c.args.block c.cut.result.now c.layout-layout.result.now c.index.result.now c.requires
+    c.cut.ensures
     c.layout-layout.ensures.plan c.layout-layout.ensures.laid c.index.ensures in
     on_ok_weaker c.put_links.result
-    (λ last. laws.takes_more _ _ _ (size_in blocks.points c.args.block) (rest_of blocks c.args.block) c.in_ok-put_size.ensures.whole
-    (laws.takes_more _ _ _ (points_in blocks.points c.args.block) (link_lines blocks c.args.block) c.in_ok-put_points.ensures.whole last))
+    (λ last. laws.takes_more _ _ _ (size_in blocks.points c.args.block) (rest_of blocks c.args.block)
+    c.in_ok-put_size.ensures.whole
+    (laws.takes_more _ _ _ (points_in blocks.points c.args.block) (link_lines blocks c.args.block)
+    c.in_ok-put_points.ensures.whole last))
     (subst (λ (text : Bytes). OnOk c.put_links.result (g.T.Output.takes c.put_points.new.out c.put_links.new.out text))
     (λ i. links_text blocks.chosen ((c.deref.ensures.value ∙ links) i) (arcs i)) c.put_links.ensures.whole)
 
@@ -83,11 +93,15 @@ pub returns-clause-part : goal.returns-clause-part
 returns-clause-part g c =
     let laws = g.met.T.Output in
     let blocks = c.args.blocks.now in
-    let links = own blocks c.args.block c.as_slice-links.result.now c.index-links-block.result c.requires c.as_slice-links.ensures.value c.index-links-block.is in
-    let arcs = around blocks c.args.block c.cut.result.now c.layout-layout.result.now c.index.result.now c.requires c.cut.ensures
+    let links = own blocks c.args.block c.as_slice-links.result.now c.index-links-block.result c.requires
+    c.as_slice-links.ensures.value c.index-links-block.is in
+    let arcs = around blocks c.args.block c.cut.result.now c.layout-layout.result.now c.index.result.now c.requires
+    c.cut.ensures
     c.layout-layout.ensures.plan c.layout-layout.ensures.laid c.index.ensures in
     on_err_weaker c.put_links.result
-    (λ last. laws.stops_later _ _ _ (size_in blocks.points c.args.block) (rest_of blocks c.args.block) c.in_ok-put_size.ensures.whole
-    (laws.stops_later _ _ _ (points_in blocks.points c.args.block) (link_lines blocks c.args.block) c.in_ok-put_points.ensures.whole last))
+    (λ last. laws.stops_later _ _ _ (size_in blocks.points c.args.block) (rest_of blocks c.args.block)
+    c.in_ok-put_size.ensures.whole
+    (laws.stops_later _ _ _ (points_in blocks.points c.args.block) (link_lines blocks c.args.block)
+    c.in_ok-put_points.ensures.whole last))
     (subst (λ (text : Bytes). OnErr c.put_links.result (g.T.Output.stops c.put_points.new.out c.put_links.new.out text))
     (λ i. links_text blocks.chosen ((c.deref.ensures.value ∙ links) i) (arcs i)) c.put_links.ensures.part)

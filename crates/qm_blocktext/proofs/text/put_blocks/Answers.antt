@@ -12,7 +12,8 @@ returns-in_err-put_line-clause-part g c =
     let count : c.len.result ≡ length blocks.points.plan.patches = c.len.ensures ∙ blocks.links.ok.0 ∙ blocks.linked in
     of_error c.from_residual.result
     (laws.stops_before _ _ (head_lines blocks.chosen blocks.by (length blocks.points.plan.patches)) (lines_in blocks)
-    (subst (g.T.Output.stops c.args.out.now c.put_line.new.out) (c.head_of.ensures ∙ ap (head_lines blocks.chosen blocks.by) count) c.in_err-put_line.ensures.part))
+    (subst (g.T.Output.stops c.args.out.now c.put_line.new.out) (c.head_of.ensures
+    ∙ ap (head_lines blocks.chosen blocks.by) count) c.in_err-put_line.ensures.part))
 
 pub returns-clause-whole : goal.returns-clause-whole
 returns-clause-whole g c =
@@ -21,7 +22,8 @@ returns-clause-whole g c =
     let count : c.len.result ≡ length blocks.points.plan.patches = c.len.ensures ∙ blocks.links.ok.0 ∙ blocks.linked in
     on_ok_weaker c.put_each.result
     (laws.takes_more _ _ _ (head_lines blocks.chosen blocks.by (length blocks.points.plan.patches)) (lines_in blocks)
-    (subst (g.T.Output.takes c.args.out.now c.put_line.new.out) (c.head_of.ensures ∙ ap (head_lines blocks.chosen blocks.by) count) c.in_ok-put_line.ensures.whole))
+    (subst (g.T.Output.takes c.args.out.now c.put_line.new.out) (c.head_of.ensures
+    ∙ ap (head_lines blocks.chosen blocks.by) count) c.in_ok-put_line.ensures.whole))
     c.put_each.ensures.whole
 
 pub returns-clause-part : goal.returns-clause-part
@@ -31,5 +33,6 @@ returns-clause-part g c =
     let count : c.len.result ≡ length blocks.points.plan.patches = c.len.ensures ∙ blocks.links.ok.0 ∙ blocks.linked in
     on_err_weaker c.put_each.result
     (laws.stops_later _ _ _ (head_lines blocks.chosen blocks.by (length blocks.points.plan.patches)) (lines_in blocks)
-    (subst (g.T.Output.takes c.args.out.now c.put_line.new.out) (c.head_of.ensures ∙ ap (head_lines blocks.chosen blocks.by) count) c.in_ok-put_line.ensures.whole))
+    (subst (g.T.Output.takes c.args.out.now c.put_line.new.out) (c.head_of.ensures
+    ∙ ap (head_lines blocks.chosen blocks.by) count) c.in_ok-put_line.ensures.whole))
     c.put_each.ensures.part

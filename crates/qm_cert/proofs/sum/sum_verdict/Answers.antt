@@ -15,26 +15,41 @@ back : (z : ℤ) → mag z < 2 ^ 127 → to_z w128 (of_z w128 z) ≡ z
 back z small = to_z-of_z w128 z (record { sfits = small })
 
 -- A deviation as the program has it.
-far_is : (net : Network) (given xs : List ℕ) (r : ℤ) → mag r < 2 ^ 127 → r ≡ pos (deviation net (entries given)) → given ≡ xs → to_z w128 (of_z w128 r) ≡ pos (deviation net (entries xs))
+far_is : (net : Network) (given xs : List ℕ) (r : ℤ) → mag r < 2 ^ 127 → r ≡ pos (deviation net (entries given))
+    → given ≡ xs → to_z w128 (of_z w128 r) ≡ pos (deviation net (entries xs))
 far_is net given xs r small is same = back r small ∙ (is ∙ ap (λ l. pos (deviation net (entries l))) same)
 
 pub deviation-requires-clause-lengths : goal.deviation-requires-clause-lengths
-deviation-requires-clause-lengths c = rw c.requires.lows (lows_lengths (network c.args.net.now) c.args.cert.now.x.items c.requires.lengths)
+deviation-requires-clause-lengths c =
+    rw c.requires.lows (lows_lengths (network c.args.net.now) c.args.cert.now.x.items c.requires.lengths)
 
 pub twice_between-requires-clause-near : goal.twice_between-requires-clause-near
-twice_between-requires-clause-near c = rw (far_is (network c.args.net.now) c.args.lows.now _ c.deviation.result c.deviation.type_inv c.deviation.ensures c.requires.lows) (deviation_small (network c.args.net.now) (map (low (network c.args.net.now) 1) c.args.cert.now.x.items) c.requires.bounds (lows_lengths (network c.args.net.now) c.args.cert.now.x.items c.requires.lengths))
+twice_between-requires-clause-near c =
+    rw (far_is (network c.args.net.now) c.args.lows.now _ c.deviation.result c.deviation.type_inv c.deviation.ensures
+    c.requires.lows) (deviation_small (network c.args.net.now)
+    (map (low (network c.args.net.now) 1) c.args.cert.now.x.items) c.requires.bounds
+    (lows_lengths (network c.args.net.now) c.args.cert.now.x.items c.requires.lengths))
 
 pub twice_between-requires-clause-far : goal.twice_between-requires-clause-far
-twice_between-requires-clause-far c = rw (far_is (network c.args.net.now) c.deref.result.now c.args.cert.now.x.items c.deviation-far.result c.deviation-far.type_inv c.deviation-far.ensures c.deref.ensures.value) (deviation_small (network c.args.net.now) c.args.cert.now.x.items c.requires.bounds c.requires.lengths)
+twice_between-requires-clause-far c =
+    rw (far_is (network c.args.net.now) c.deref.result.now c.args.cert.now.x.items c.deviation-far.result
+    c.deviation-far.type_inv c.deviation-far.ensures c.deref.ensures.value)
+    (deviation_small (network c.args.net.now) c.args.cert.now.x.items c.requires.bounds c.requires.lengths)
 
 pub returns : goal.returns
 returns c =
     let net : Network = network c.args.net.now in
     let xs : List ℕ = c.args.cert.now.x.items in
-    let near : to_z w128 (of_z w128 c.deviation.result) ≡ pos (deviation net (entries (map (low net 1) xs))) = far_is net c.args.lows.now (map (low net 1) xs) c.deviation.result c.deviation.type_inv c.deviation.ensures c.requires.lows in
-    let far : to_z w128 (of_z w128 c.deviation-far.result) ≡ pos (deviation net (entries xs)) = far_is net c.deref.result.now xs c.deviation-far.result c.deviation-far.type_inv c.deviation-far.ensures c.deref.ensures.value in
+    let near : to_z w128 (of_z w128 c.deviation.result) ≡ pos (deviation net (entries (map (low net 1) xs))) =
+    far_is net c.args.lows.now (map (low net 1) xs) c.deviation.result c.deviation.type_inv c.deviation.ensures
+    c.requires.lows in
+    let far : to_z w128 (of_z w128 c.deviation-far.result) ≡ pos (deviation net (entries xs)) =
+    far_is net c.deref.result.now xs c.deviation-far.result c.deviation-far.type_inv c.deviation-far.ensures
+    c.deref.ensures.value in
     let sum : to_z w128 (of_z w128 c.args.sum) ≡ c.args.sum = to_z-of_z w128 c.args.sum c.ranges.sum in
-    let twice : pos 2 *ℤ (to_z w128 (of_z w128 c.deviation-far.result) -ℤ to_z w128 (of_z w128 c.deviation.result)) ≡ pos 2 *ℤ on_cost net 1 xs =
+    let twice : pos 2 *ℤ (to_z w128 (of_z w128 c.deviation-far.result) -ℤ to_z w128 (of_z w128 c.deviation.result))
+    ≡ pos 2 *ℤ on_cost net 1 xs =
     rw (far, near) (ap (λ z. pos 2 *ℤ z) (sym (cost_is net xs c.requires.lengths.count))) in
-    let cost : to_z w128 (of_z w128 c.twice_between.result) ≡ pos 2 *ℤ on_cost net 1 xs = back c.twice_between.result c.twice_between.type_inv ∙ (c.twice_between.ensures ∙ twice) in
+    let cost : to_z w128 (of_z w128 c.twice_between.result) ≡ pos 2 *ℤ on_cost net 1 xs =
+    back c.twice_between.result c.twice_between.type_inv ∙ (c.twice_between.ensures ∙ twice) in
     c.verdict_by_sum.ensures ∙ checked_same _ _ _ _ _ _ far (sum ∙ c.requires.sum) cost

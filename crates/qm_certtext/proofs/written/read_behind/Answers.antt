@@ -29,31 +29,41 @@ pub returns-in_err-take_text-clause-fails : goal.returns-in_err-take_text-clause
 returns-in_err-take_text-clause-fails c =
     let k = c.lines.i - c.args.from in
     let line = c.in-Some.line.now in
-    let there = cut_there c.args.text.now c.lines.rest.now k c.lines.invariant.rest line c.in-Some.behind.now c.in-Some.ensures.line c.in-Some.ensures.rest in
-    let is = cut_is c.args.text.now c.lines.rest.now k c.lines.invariant.rest line c.in-Some.behind.now c.in-Some.ensures.line c.in-Some.ensures.rest in
+    let there = cut_there c.args.text.now c.lines.rest.now k c.lines.invariant.rest line c.in-Some.behind.now
+    c.in-Some.ensures.line c.in-Some.ensures.rest in
+    let is = cut_is c.args.text.now c.lines.rest.now k c.lines.invariant.rest line c.in-Some.behind.now
+    c.in-Some.ensures.line c.in-Some.ensures.rest in
     let number : c.lines.i + 1 ≡ c.args.from + 1 + k = omega (arith, c.lines.invariant.order) in
     handed _ _ _ c.from_residual.ensures.1
-    (behind_fail c.args.auto (lines_of c.args.text.now) k line c.lines.found there is (c.args.from + 1) c.in_err-take_text.field-0.0 c.lines.invariant.read
-    (subst (λ (n : ℕ). IsLineFail c.args.auto line n c.in_err-take_text.field-0.0) number c.in_err-take_text.ensures.fails))
+    (behind_fail c.args.auto (lines_of c.args.text.now) k line c.lines.found there is (c.args.from + 1)
+    c.in_err-take_text.field-0.0 c.lines.invariant.read
+    (subst (λ (n : ℕ). IsLineFail c.args.auto line n c.in_err-take_text.field-0.0) number
+    c.in_err-take_text.ensures.fails))
 
 pub lines-preserved : goal.lines-preserved
 lines-preserved c =
     let k = c.lines.i - c.args.from in
     let line = c.in-Some.line.now in
-    let there = cut_there c.args.text.now c.lines.rest.now k c.lines.invariant.rest line c.in-Some.behind.now c.in-Some.ensures.line c.in-Some.ensures.rest in
-    let is = cut_is c.args.text.now c.lines.rest.now k c.lines.invariant.rest line c.in-Some.behind.now c.in-Some.ensures.line c.in-Some.ensures.rest in
+    let there = cut_there c.args.text.now c.lines.rest.now k c.lines.invariant.rest line c.in-Some.behind.now
+    c.in-Some.ensures.line c.in-Some.ensures.rest in
+    let is = cut_is c.args.text.now c.lines.rest.now k c.lines.invariant.rest line c.in-Some.behind.now
+    c.in-Some.ensures.line c.in-Some.ensures.rest in
     let next : c.lines.i + 1 - c.args.from ≡ k + 1 = omega (arith, c.lines.invariant.order) in
     record {
       order = omega (arith, c.lines.invariant.order);
-      rest = cut_behind c.args.text.now c.lines.rest.now k c.lines.invariant.rest line c.in-Some.behind.now c.in-Some.ensures.line c.in-Some.ensures.rest
+      rest = cut_behind c.args.text.now c.lines.rest.now k c.lines.invariant.rest line c.in-Some.behind.now
+          c.in-Some.ensures.line c.in-Some.ensures.rest
           ∙ ap (λ (n : ℕ). tail_of n c.args.text.now) (sym next);
       low = omega (arith, there, next);
-      read = subst (λ (n : ℕ). ReadSome c.args.auto (take n (lines_of c.args.text.now)) c.take_text.new.found) (sym next)
-          (read_next c.args.auto (lines_of c.args.text.now) k line c.lines.found there is c.take_text.new.found c.lines.invariant.read c.in_ok-take_text.ensures.taken);
+      read = subst (λ (n : ℕ). ReadSome c.args.auto (take n (lines_of c.args.text.now)) c.take_text.new.found)
+          (sym next)
+          (read_next c.args.auto (lines_of c.args.text.now) k line c.lines.found there is c.take_text.new.found
+          c.lines.invariant.read c.in_ok-take_text.ensures.taken);
     }
 
 pub returns-clause-reads : goal.returns-clause-reads
 returns-clause-reads c =
     let k = c.lines.i - c.args.from in
     subst (λ (ls : Lines). ReadSome c.args.auto ls c.lines.found)
-    (take_all k (lines_of c.args.text.now) (cut_ended c.args.text.now c.lines.rest.now k c.lines.invariant.rest c.in_default.ensures.line)) c.lines.invariant.read
+    (take_all k (lines_of c.args.text.now) (cut_ended c.args.text.now c.lines.rest.now k c.lines.invariant.rest
+    c.in_default.ensures.line)) c.lines.invariant.read

@@ -12,7 +12,8 @@ pub check_lengths-requires-clause-net : goal.check_lengths-requires-clause-net
 check_lengths-requires-clause-net c = (
   c.requires.net.0,
   with_floor c.args.asked.settings 3,
-  raised_net c.args.cut.now.plan c.args.asked.settings (network c.args.net) (network c.with_floor-higher.result) c.requires.net.1
+  raised_net c.args.cut.now.plan c.args.asked.settings (network c.args.net) (network c.with_floor-higher.result)
+      c.requires.net.1
       c.with_floor-higher.ensures,
 )
 
@@ -22,16 +23,22 @@ check_lengths-requires-clause-cert c = c.requires.reach.1
 pub returns-in_err-numbering-clause-unused : goal.returns-in_err-numbering-clause-unused
 returns-in_err-numbering-clause-unused c wish for =
     let made = made_as c.args.asked (raised (lists_of c.args.pair.first) (lists_of c.args.pair.third)) in
-    handed (IsUnused wish c.args.cut.now.plan c.args.asked.settings made) c.from_residual.result c.in_err-numbering.field-0.0 c.from_residual.ensures.1
-    (unused_third wish c.args.cut.now.plan (network c.with_floor-higher.result) c.args.asked c.args.pair.first c.args.pair.third c.in_err-numbering.field-0.0
+    handed (IsUnused wish c.args.cut.now.plan c.args.asked.settings made) c.from_residual.result
+    c.in_err-numbering.field-0.0 c.from_residual.ensures.1
+    (unused_third wish c.args.cut.now.plan (network c.with_floor-higher.result) c.args.asked c.args.pair.first
+    c.args.pair.third c.in_err-numbering.field-0.0
     (c.requires.doubling wish for)
-    (raised_net c.args.cut.now.plan c.args.asked.settings (network c.args.net) (network c.with_floor-higher.result) for c.with_floor-higher.ensures)
+    (raised_net c.args.cut.now.plan c.args.asked.settings (network c.args.net) (network c.with_floor-higher.result) for
+    c.with_floor-higher.ensures)
     c.in_err-numbering.ensures.refused)
 
 pub returns-clause-checked : goal.returns-clause-checked
 returns-clause-checked c wish for =
-    checked_third wish c.args.cut.now.plan (network c.args.net) (network c.with_floor-higher.result) c.args.asked c.args.pair.first c.args.pair.third
+    checked_third wish c.args.cut.now.plan (network c.args.net) (network c.with_floor-higher.result) c.args.asked
+    c.args.pair.first c.args.pair.third
     c.in-Whole.numbering c.in-Whole.deviation c.requires.reach.2 (c.requires.doubling wish for)
-    (raised_net c.args.cut.now.plan c.args.asked.settings (network c.args.net) (network c.with_floor-higher.result) for c.with_floor-higher.ensures)
+    (raised_net c.args.cut.now.plan c.args.asked.settings (network c.args.net) (network c.with_floor-higher.result) for
+    c.with_floor-higher.ensures)
     c.with_floor-higher.ensures c.in_ok-numbering.ensures.solved
-    (subst (Gives c.args.cut.now.plan (network c.with_floor-higher.result) c.args.pair.third.x.items) c.in-Whole.is c.in_ok-numbering.ensures.gives)
+    (subst (Gives c.args.cut.now.plan (network c.with_floor-higher.result) c.args.pair.third.x.items) c.in-Whole.is
+    c.in_ok-numbering.ensures.gives)

@@ -12,7 +12,8 @@ returns-in-Ok-2-clause-other c =
     let text : Bytes = framed_text c.args.framed c.args.cut.soup c.args.cut.plan in
     subst (IsDifference c.args.given.now text) (sym c.other_from.ensures)
     (subst (λ (n : ℕ). DifferFrom c.args.given.now text (n + 1)) (sym c.at.ensures)
-    (longer_differ c.args.given.now text c.new-comparison.result c.put_framed.new.out c.new-comparison.ensures c.in-Ok-2.ensures.whole
+    (longer_differ c.args.given.now text c.new-comparison.result c.put_framed.new.out c.new-comparison.ensures
+    c.in-Ok-2.ensures.whole
     (λ none. false≢true (sym c.if-is_over.false ∙ c.is_over.ensures.1 none))))
 
 pub returns-in-Err-Stopped-clause-other : goal.returns-in-Err-Stopped-clause-other
@@ -25,6 +26,7 @@ returns-in-Err-Stopped-clause-other c =
 
 pub other_from-requires-in-Err-Stopped : goal.other_from-requires-in-Err-Stopped
 other_from-requires-in-Err-Stopped c =
-    let within = stopped_within c.args.given.now (framed_text c.args.framed c.args.cut.soup c.args.cut.plan) c.new-comparison.result c.put_framed.new.out
+    let within = stopped_within c.args.given.now (framed_text c.args.framed c.args.cut.soup c.args.cut.plan)
+    c.new-comparison.result c.put_framed.new.out
     c.new-comparison.ensures (c.in-Err-Stopped.ensures.part (ap Err c.in-Err-Stopped.field-0-is)) in
     omega (arith, c.at-in-Err-Stopped.ensures, within, c.requires.few)

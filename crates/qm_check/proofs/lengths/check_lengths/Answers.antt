@@ -8,12 +8,14 @@ use Rattle.qm_check.proofs.lengths.check_lengths.Goals as goal
 
 pub returns-in_err-deviation-clause-refused : goal.returns-in_err-deviation-clause-refused
 returns-in_err-deviation-clause-refused c =
-    handed (GivesNone c.args.cut.now.plan (network c.args.net.now) c.args.cert.now) c.from_residual.result c.in_err-deviation.field-0.0
+    handed (GivesNone c.args.cut.now.plan (network c.args.net.now) c.args.cert.now) c.from_residual.result
+    c.in_err-deviation.field-0.0
     c.from_residual.ensures.1 (c.in_err-deviation.ensures.refused c.args.cut.now.plan)
 
 pub plan_over-requires-clause-lengths : goal.plan_over-requires-clause-lengths
 plan_over-requires-clause-lengths c =
-    are_lengths c.args.cut.now.plan c.requires.net.1 (network c.args.net.now) c.args.cert.now _ c.requires.net.2 c.in_ok-deviation.ensures.solved
+    are_lengths c.args.cut.now.plan c.requires.net.1 (network c.args.net.now) c.args.cert.now _ c.requires.net.2
+    c.in_ok-deviation.ensures.solved
     c.deref.ensures.value
 
 pub returns-in-Ok-clause-gives : goal.returns-in-Ok-clause-gives

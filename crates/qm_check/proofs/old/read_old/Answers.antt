@@ -11,4 +11,5 @@ returns-in-Ok-clause-refused c = c.mesh_of.ensures.refused c.args.text.now c.in-
 
 pub returns-in-Err-clause-refused : goal.returns-in-Err-clause-refused
 returns-in-Err-clause-refused c =
-    subst (IsNoOld c.args.text.now) (sym c.refusal_of.ensures) (old_fails c.args.text.now c.in-Err.fail c.in-Err.ensures.refused)
+    subst (IsNoOld c.args.text.now) (sym c.refusal_of.ensures)
+    (old_fails c.args.text.now c.in-Err.fail c.in-Err.ensures.refused)

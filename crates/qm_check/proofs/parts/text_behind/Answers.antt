@@ -7,9 +7,11 @@ use Rattle.qm_check.proofs.parts.text_behind.Goals as goal
 pub returns-in-Some : goal.returns-in-Some
 returns-in-Some c =
     sym (ap (λ (ls : Lines). drop 1 ls) c.in-Some.ensures.line)
-    ∙ (ap (λ (text : Bytes). drop 1 (lines_of text)) c.written_text.ensures ∙ tail_behind c.args.head.line c.args.bytes.now)
+    ∙ (ap (λ (text : Bytes). drop 1 (lines_of text)) c.written_text.ensures
+    ∙ tail_behind c.args.head.line c.args.bytes.now)
 
 pub returns-in-None : goal.returns-in-None
 returns-in-None c =
     sym (ap (λ (text : Bytes). drop 1 (lines_of text)) c.in-None.ensures.line)
-    ∙ (ap (λ (text : Bytes). drop 1 (lines_of text)) c.written_text.ensures ∙ tail_behind c.args.head.line c.args.bytes.now)
+    ∙ (ap (λ (text : Bytes). drop 1 (lines_of text)) c.written_text.ensures
+    ∙ tail_behind c.args.head.line c.args.bytes.now)

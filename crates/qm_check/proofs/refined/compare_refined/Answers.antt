@@ -12,7 +12,8 @@ returns-in-Ok-2-clause-other c =
     let text : Bytes = refined_text c.args.by c.args.new.now.soup c.args.new.now.plan in
     subst (IsDifference c.args.given.now text) (sym c.other_from.ensures)
     (subst (λ (n : ℕ). DifferFrom c.args.given.now text (n + 1)) (sym c.at.ensures)
-    (longer_differ c.args.given.now text c.new-comparison.result c.put_refined.new.out c.new-comparison.ensures c.in-Ok-2.ensures.whole
+    (longer_differ c.args.given.now text c.new-comparison.result c.put_refined.new.out c.new-comparison.ensures
+    c.in-Ok-2.ensures.whole
     (λ none. false≢true (sym c.if-is_over.false ∙ c.is_over.ensures.1 none))))
 
 pub returns-in-Err-clause-other : goal.returns-in-Err-clause-other
@@ -20,4 +21,5 @@ returns-in-Err-clause-other c =
     let text : Bytes = refined_text c.args.by c.args.new.now.soup c.args.new.now.plan in
     subst (IsDifference c.args.given.now text) (sym c.other_from-in-Err.ensures)
     (subst (λ (n : ℕ). DifferFrom c.args.given.now text (n + 1)) (sym c.at-in-Err.ensures)
-    (stopped_differ c.args.given.now text c.new-comparison.result c.put_refined.new.out c.new-comparison.ensures c.in-Err.ensures.part))
+    (stopped_differ c.args.given.now text c.new-comparison.result c.put_refined.new.out c.new-comparison.ensures
+    c.in-Err.ensures.part))

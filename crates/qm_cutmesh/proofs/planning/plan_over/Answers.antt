@@ -16,29 +16,36 @@ plan-requires-clause-layout c = subst IsSomeLayout (sym c.layout.ensures.plan) c
 
 pub plan-requires-clause-long : goal.plan-requires-clause-long
 plan-requires-clause-long c =
-    c.requires.long ∙ ap (λ (p : Plan). length p.arcs) (sym c.layout.ensures.plan) ∙ length-map c.layout.result.now.arcs.items path
+    c.requires.long ∙ ap (λ (p : Plan). length p.arcs) (sym c.layout.ensures.plan)
+    ∙ length-map c.layout.result.now.arcs.items path
 
 pub plan-requires-clause-lengths : goal.plan-requires-clause-lengths
 plan-requires-clause-lengths c =
-    subst (λ (p : Plan). AreLengths (layout_of p) (lengths_in c.args.lengths.now)) (sym c.layout.ensures.plan) c.requires.lengths
+    subst (λ (p : Plan). AreLengths (layout_of p) (lengths_in c.args.lengths.now)) (sym c.layout.ensures.plan)
+    c.requires.lengths
 
 pub returns-clause-numbering : goal.returns-clause-numbering
-returns-clause-numbering c = subst (λ (p : Plan). IfOk c.plan.result (IsNumbering p)) c.layout.ensures.plan c.plan.ensures.numbering
+returns-clause-numbering c = subst (λ (p : Plan). IfOk c.plan.result (IsNumbering p)) c.layout.ensures.plan
+    c.plan.ensures.numbering
 
 pub returns-clause-undoubled : goal.returns-clause-undoubled
 returns-clause-undoubled c =
-    subst (λ (p : Plan). OnOk c.plan.result (IsUndoubled (layout_of p) (lengths_in c.args.lengths.now))) c.layout.ensures.plan
+    subst (λ (p : Plan). OnOk c.plan.result (IsUndoubled (layout_of p) (lengths_in c.args.lengths.now)))
+    c.layout.ensures.plan
     c.plan.ensures.undoubled
 
 pub returns-clause-shape : goal.returns-clause-shape
 returns-clause-shape c =
-    subst (λ (p : Plan). OnOk c.plan.result (KeepsShapes p (lengths_in c.args.lengths.now))) c.layout.ensures.plan c.plan.ensures.shape
+    subst (λ (p : Plan). OnOk c.plan.result (KeepsShapes p (lengths_in c.args.lengths.now))) c.layout.ensures.plan
+    c.plan.ensures.shape
 
 pub returns-clause-refused : goal.returns-clause-refused
 returns-clause-refused c =
-    subst (λ (p : Plan). IfErr c.plan.result (IsUnstitched (layout_of p) (lengths_in c.args.lengths.now))) c.layout.ensures.plan
+    subst (λ (p : Plan). IfErr c.plan.result (IsUnstitched (layout_of p) (lengths_in c.args.lengths.now)))
+    c.layout.ensures.plan
     c.plan.ensures.refused
 
 pub returns-clause-safe : goal.returns-clause-safe
 returns-clause-safe c safe =
-    c.plan.ensures.safe (subst (λ (p : Plan). AreSafe p (lengths_in c.args.lengths.now)) (sym c.layout.ensures.plan) safe)
+    c.plan.ensures.safe (subst (λ (p : Plan). AreSafe p (lengths_in c.args.lengths.now)) (sym c.layout.ensures.plan)
+    safe)

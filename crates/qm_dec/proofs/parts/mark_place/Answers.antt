@@ -4,8 +4,11 @@ use Rattle.def_text.specs.Decimal.{is_mark}
 use Rattle.qm_dec.proofs.parts.mark_place.Goals as goal
 
 pub returns-then-is_mark-clause-exact : goal.returns-then-is_mark-clause-exact
-returns-then-is_mark-clause-exact c = sym (position_or_len_is is_mark c.args.body.now c.loop-i.i 0 (omega arith) c.loop-i.invariant (λ _. sym c.if-is_mark.ensures))
+returns-then-is_mark-clause-exact c =
+    sym (position_or_len_is is_mark c.args.body.now c.loop-i.i 0 (omega arith) c.loop-i.invariant
+    (λ _. sym c.if-is_mark.ensures))
 
 pub returns-clause-exact : goal.returns-clause-exact
 returns-clause-exact c =
-    sym (position_or_len_is is_mark c.args.body.now (length c.args.body.now) 0 (omega arith) (λ k l. c.loop-i.invariant k (omega arith)) (λ l. absurd (omega arith)))
+    sym (position_or_len_is is_mark c.args.body.now (length c.args.body.now) 0 (omega arith)
+    (λ k l. c.loop-i.invariant k (omega arith)) (λ l. absurd (omega arith)))

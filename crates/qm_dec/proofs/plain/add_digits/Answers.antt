@@ -7,13 +7,26 @@ use Rattle.qm_dec.proofs.FewDigits.{after_room}
 use Rattle.qm_dec.proofs.plain.add_digits.Goals as goal
 
 pub overflow_mul-value : goal.overflow_mul-value
-overflow_mul-value c = omega (arith, after_room c.args.value c.args.text.now c.loop-i.i c.requires.small c.loop-i.invariant.digits c.requires.short, c.loop-i.invariant.so_far)
+overflow_mul-value c = omega (
+  arith,
+  after_room c.args.value c.args.text.now c.loop-i.i c.requires.small
+      c.loop-i.invariant.digits c.requires.short,
+  c.loop-i.invariant.so_far,
+)
 
 pub overflow_add-value : goal.overflow_add-value
-overflow_add-value c = omega (arith, after_room c.args.value c.args.text.now c.loop-i.i c.requires.small c.loop-i.invariant.digits c.requires.short, c.loop-i.invariant.so_far, c.from.ensures)
+overflow_add-value c = omega (
+  arith,
+  after_room c.args.value c.args.text.now c.loop-i.i c.requires.small
+      c.loop-i.invariant.digits c.requires.short,
+  c.loop-i.invariant.so_far,
+  c.from.ensures,
+)
 
 pub loop-i-preserved : goal.loop-i-preserved
 loop-i-preserved c = record {
-  digits = list_all_more is_ascii_digit c.args.text.now c.loop-i.i 0 (omega arith) ∙ and_from _ _ c.loop-i.invariant.digits (sym c.is_ascii_digit.ensures.value ∙ c.if-not-is_ascii_digit.false);
-  so_far = rw (after_more c.args.value c.args.text.now c.loop-i.i (omega arith), ← c.loop-i.invariant.so_far) (ap (λ d. c.loop-i.value * 10 + d) c.from.ensures);
+  digits = list_all_more is_ascii_digit c.args.text.now c.loop-i.i 0 (omega arith)
+      ∙ and_from _ _ c.loop-i.invariant.digits (sym c.is_ascii_digit.ensures.value ∙ c.if-not-is_ascii_digit.false);
+  so_far = rw (after_more c.args.value c.args.text.now c.loop-i.i (omega arith), ← c.loop-i.invariant.so_far)
+      (ap (λ d. c.loop-i.value * 10 + d) c.from.ensures);
 }

@@ -12,5 +12,7 @@ number_after-requires-3-clause-digits c = digits_before c.args.fraction.now _ c.
 
 pub returns : goal.returns
 returns c =
-    two_parts c.args.whole.now _ c.number_after-2.result c.number_after-3.result c.number_after-2.ensures c.number_after-3.ensures
-    ∙ ap (λ ds. clamped (number_written ds)) (sym (take_past c.args.whole.now c.args.fraction.now c.args.kept (omega arith)))
+    two_parts c.args.whole.now _ c.number_after-2.result c.number_after-3.result c.number_after-2.ensures
+    c.number_after-3.ensures
+    ∙ ap (λ ds. clamped (number_written ds))
+    (sym (take_past c.args.whole.now c.args.fraction.now c.args.kept (omega arith)))

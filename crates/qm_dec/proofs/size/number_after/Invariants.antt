@@ -5,4 +5,5 @@ use Rattle.qm_dec.proofs.size.number_after.Given as goal
 
 -- the digits so far
 abbrev pub invariant-loop-digit : goal.invariant-loop-digit
-invariant-loop-digit l = l.value ≡ clamped (number_from_digits_after 10 l.fn.value (map (λ d. d - 48) (take l.digit-index l.digits)))
+invariant-loop-digit l =
+    l.value ≡ clamped (number_from_digits_after 10 l.fn.value (map (λ d. d - 48) (take l.digit-index l.digits)))

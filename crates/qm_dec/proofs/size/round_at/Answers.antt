@@ -6,15 +6,22 @@ use Rattle.qm_dec.proofs.size.round_at.Goals as goal
 
 pub returns-then-last-count : goal.returns-then-last-count
 returns-then-last-count c =
-    ap clamped (sym (cut_zero (c.args.whole.now ++ c.args.fraction.now) (c.args.last - 1) (digits_both c.args.whole.now c.args.fraction.now c.requires.whole c.requires.fraction)
+    ap clamped (sym (cut_zero (c.args.whole.now ++ c.args.fraction.now) (c.args.last - 1)
+    (digits_both c.args.whole.now c.args.fraction.now c.requires.whole c.requires.fraction)
     (omega (arith, length-append c.args.whole.now c.args.fraction.now))))
 
 pub returns-then-digit_at-lt53 : goal.returns-then-digit_at-lt53
 returns-then-digit_at-lt53 c =
-    cut_below (c.args.whole.now ++ c.args.fraction.now) (length c.args.whole.now + length c.args.fraction.now - c.args.last) c.args.last _ c.digit_at.result (digits_both c.args.whole.now c.args.fraction.now c.requires.whole c.requires.fraction)
-    c.requires.some (omega (arith, length-append c.args.whole.now c.args.fraction.now)) c.first_digits-value.ensures c.digit_at.ensures c.if-digit_at-lt53.true
+    cut_below (c.args.whole.now ++ c.args.fraction.now) (length c.args.whole.now + length c.args.fraction.now -
+    c.args.last) c.args.last _ c.digit_at.result (digits_both c.args.whole.now c.args.fraction.now
+    c.requires.whole c.requires.fraction)
+    c.requires.some (omega (arith, length-append c.args.whole.now c.args.fraction.now)) c.first_digits-value.ensures
+    c.digit_at.ensures c.if-digit_at-lt53.true
 
 pub returns-else-digit_at-lt53 : goal.returns-else-digit_at-lt53
 returns-else-digit_at-lt53 c =
-    cut_above (c.args.whole.now ++ c.args.fraction.now) (length c.args.whole.now + length c.args.fraction.now - c.args.last) c.args.last c.first_digits-value.result c.digit_at.result _ (digits_both c.args.whole.now c.args.fraction.now c.requires.whole c.requires.fraction)
-    c.requires.some (omega (arith, length-append c.args.whole.now c.args.fraction.now)) c.first_digits-value.ensures c.digit_at.ensures c.if-digit_at-lt53.false c.min.ensures
+    cut_above (c.args.whole.now ++ c.args.fraction.now) (length c.args.whole.now + length c.args.fraction.now -
+    c.args.last) c.args.last c.first_digits-value.result c.digit_at.result _
+    (digits_both c.args.whole.now c.args.fraction.now c.requires.whole c.requires.fraction)
+    c.requires.some (omega (arith, length-append c.args.whole.now c.args.fraction.now)) c.first_digits-value.ensures
+    c.digit_at.ensures c.if-digit_at-lt53.false c.min.ensures

@@ -5,5 +5,13 @@ use Rattle.qm_dec.proofs.write.write_fraction.Goals as goal
 
 pub put-requires : goal.put-requires
 put-requires c =
-    let e : c.strip_zeros.result.now ≡ without_zeros (six_digits c.args.rest) = c.strip_zeros.ensures ∙ ap without_zeros c.six_digits.ensures in
-    omega (arith, ap length e, trimmed_short c.args.rest c.requires.small, c.put-point.ensures.end, c.put-point.auto.out, c.requires.room)
+    let e : c.strip_zeros.result.now ≡ without_zeros (six_digits c.args.rest) = c.strip_zeros.ensures
+    ∙ ap without_zeros c.six_digits.ensures in
+    omega (
+      arith,
+      ap length e,
+      trimmed_short c.args.rest c.requires.small,
+      c.put-point.ensures.end,
+      c.put-point.auto.out,
+      c.requires.room,
+    )

@@ -5,10 +5,29 @@ use Rattle.qm_dec.proofs.write.write_micro.Goals as goal
 
 pub write_fraction-requires-clause-room : goal.write_fraction-requires-clause-room
 write_fraction-requires-clause-room c =
-    let small : c.unsigned_abs-size.result ≤ 999_999_999_999_999 = omega (arith, ints, c.unsigned_abs-size.ensures.value, c.m.invariant) in
-    omega (arith, c.put-whole.ensures.end, ap length (c.as_bytes.ensures.value ∙ c.format.ensures.text), whole_short c.unsigned_abs-size.result small, c.write_sign-sign.ensures.short, c.put-whole.auto.out, c.write_sign-sign.auto.out, c.told-out)
+    let small : c.unsigned_abs-size.result ≤ 999_999_999_999_999 =
+    omega (arith, ints, c.unsigned_abs-size.ensures.value, c.m.invariant) in
+    omega (
+      arith,
+      c.put-whole.ensures.end,
+      ap length (c.as_bytes.ensures.value ∙ c.format.ensures.text),
+      whole_short c.unsigned_abs-size.result small,
+      c.write_sign-sign.ensures.short,
+      c.put-whole.auto.out,
+      c.write_sign-sign.auto.out,
+      c.told-out,
+    )
 
 pub returns-clause-short : goal.returns-clause-short
 returns-clause-short c =
-    let small : c.unsigned_abs-size.result ≤ 999_999_999_999_999 = omega (arith, ints, c.unsigned_abs-size.ensures.value, c.m.invariant) in
-    omega (arith, c.write_fraction.ensures.end, fraction_short (c.unsigned_abs-size.result % 10 ^ 6) (omega arith), c.put-whole.ensures.end, ap length (c.as_bytes.ensures.value ∙ c.format.ensures.text), whole_short c.unsigned_abs-size.result small, c.write_sign-sign.ensures.short)
+    let small : c.unsigned_abs-size.result ≤ 999_999_999_999_999 =
+    omega (arith, ints, c.unsigned_abs-size.ensures.value, c.m.invariant) in
+    omega (
+      arith,
+      c.write_fraction.ensures.end,
+      fraction_short (c.unsigned_abs-size.result % 10 ^ 6) (omega arith),
+      c.put-whole.ensures.end,
+      ap length (c.as_bytes.ensures.value ∙ c.format.ensures.text),
+      whole_short c.unsigned_abs-size.result small,
+      c.write_sign-sign.ensures.short,
+    )

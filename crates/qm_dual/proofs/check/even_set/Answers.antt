@@ -3,7 +3,8 @@ use Rattle.std.proofs.lemmas.Bool.Decides.{nat_tests}
 use Rattle.qm_dual.proofs.Searches.{least_none, least_some}
 use Rattle.def_matching.specs.Dual.{is_odd_size}
 use Rattle.qm_dual.proofs.check.even_set.Goals as goal
-use Rattle.qm_dual.proofs.check.even_set.Goals.{then-size-ne1-via-then-size-ne1, then-size-ne1-via-else-size-ne1+then-size-lt3}
+use Rattle.qm_dual.proofs.check.even_set.Goals.{then-size-ne1-via-then-size-ne1}
+use Rattle.qm_dual.proofs.check.even_set.Goals.{then-size-ne1-via-else-size-ne1+then-size-lt3}
 
 even : (size : ℕ) → (size % 2 ≡ 1 → ⊥) → not (is_odd_size size) ≡ true
 even size ne = grind (arith, nat_tests)
@@ -18,7 +19,10 @@ returns-then-size-ne1-clause-least c =
       | then-size-ne1-via-then-size-ne1 w ↦ even size (λ e. w.if-size-ne1.true e)
       | then-size-ne1-via-else-size-ne1+then-size-lt3 w ↦ low size (omega arith)
     ] in
-    sym (least_some (λ k. not (is_odd_size (slice_index c.args.sizes.now k))) (length c.args.sizes.now) c.loop-k.k c.loop-k-test.true c.loop-k.invariant off)
+    sym (least_some (λ k. not (is_odd_size (slice_index c.args.sizes.now k))) (length c.args.sizes.now) c.loop-k.k
+    c.loop-k-test.true c.loop-k.invariant off)
 
 pub returns-clause-least : goal.returns-clause-least
-returns-clause-least c = sym (least_none (λ k. not (is_odd_size (slice_index c.args.sizes.now k))) (length c.args.sizes.now) (λ k l. c.loop-k.invariant k (omega arith)))
+returns-clause-least c =
+    sym (least_none (λ k. not (is_odd_size (slice_index c.args.sizes.now k))) (length c.args.sizes.now)
+    (λ k l. c.loop-k.invariant k (omega arith)))

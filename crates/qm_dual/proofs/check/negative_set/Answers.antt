@@ -8,7 +8,9 @@ pub returns-then-number-lt0 : goal.returns-then-number-lt0
 returns-then-number-lt0 c =
     let fits : FitsSigned w64 (slice_index_or c.args.z.now c.loop-k.k (pos 0)) = search rules in
     let on : int_lt (slice_index_or c.args.z.now c.loop-k.k (pos 0)) (pos 0) ≡ true = grind (arith, ints) in
-    sym (least_some (λ k. int_lt (slice_index_or c.args.z.now k (pos 0)) (pos 0)) (length c.args.z.now) c.loop-k.k c.loop-k-test.true c.loop-k.invariant on)
+    sym (least_some (λ k. int_lt (slice_index_or c.args.z.now k (pos 0)) (pos 0)) (length c.args.z.now) c.loop-k.k
+    c.loop-k-test.true c.loop-k.invariant on)
 
 pub returns : goal.returns
-returns c = sym (least_none (λ k. int_lt (slice_index_or c.args.z.now k (pos 0)) (pos 0)) (length c.args.z.now) (λ k l. c.loop-k.invariant k (omega arith)))
+returns c = sym (least_none (λ k. int_lt (slice_index_or c.args.z.now k (pos 0)) (pos 0)) (length c.args.z.now)
+    (λ k l. c.loop-k.invariant k (omega arith)))

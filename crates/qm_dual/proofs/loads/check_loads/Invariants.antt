@@ -4,4 +4,5 @@ use Rattle.def_matching.specs.Dual.{dual, load}
 use Rattle.qm_dual.proofs.loads.check_loads.Given as goal
 
 abbrev pub invariant-loop-k : goal.invariant-loop-k
-invariant-loop-k l = (j : ℕ) → j < l.k → int_lt (pos 2 *ℤ (edge_at (graph l.g) j).cost) (load l.g.n (dual l.d) (edge_at (graph l.g) j)) ≡ false
+invariant-loop-k l = (j : ℕ) → j < l.k
+    → int_lt (pos 2 *ℤ (edge_at (graph l.g) j).cost) (load l.g.n (dual l.d) (edge_at (graph l.g) j)) ≡ false

@@ -6,20 +6,34 @@ use Rattle.qm_dual.proofs.Gathered.{named_small, apart_sums, plain_difference, a
 use Rattle.qm_dual.proofs.loads.crossing_sum.Goals as goal
 
 -- The sum of each named set is small.
-small : (c : goal.After-sum_at-2) (entry : ℕ) → entry ≤ length (dual c.args.d.now).z → unsigned_abs (named_sum c.args.tables.now.sums.items entry) ≤ length (dual c.args.d.now).z * 10 ^ 18
-small c = named_small c.args.n (dual c.args.d.now) c.args.tables.now.sums.items c.requires.tables.summed c.requires.small.small_z
+small : (c : goal.After-sum_at-2) (entry : ℕ) → entry ≤ length (dual c.args.d.now).z
+    → unsigned_abs (named_sum c.args.tables.now.sums.items entry) ≤ length (dual c.args.d.now).z * 10 ^ 18
+small c = named_small c.args.n (dual c.args.d.now) c.args.tables.now.sums.items c.requires.tables.summed
+    c.requires.small.small_z
 
 pub overflow_add-result : goal.overflow_add-result
-overflow_add-result c = omega (arith, ints, small c c.args.a c.requires.entries.0, small c c.args.b c.requires.entries.1)
+overflow_add-result c = omega (
+  arith,
+  ints,
+  small c c.args.a c.requires.entries.0,
+  small c c.args.b c.requires.entries.1,
+)
 
 pub overflow_add-result-2 : goal.overflow_add-result-2
 overflow_add-result-2 c = omega (arith, ints, small c c.meeting.result c.meeting.ensures.low)
 
 pub overflow_sub-result : goal.overflow_sub-result
-overflow_sub-result c = omega (arith, ints, small c c.args.a c.requires.entries.0, small c c.args.b c.requires.entries.1, small c c.meeting.result c.meeting.ensures.low)
+overflow_sub-result c = omega (
+  arith,
+  ints,
+  small c c.args.a c.requires.entries.0,
+  small c c.args.b c.requires.entries.1,
+  small c c.meeting.result c.meeting.ensures.low,
+)
 
 -- The sums of both entries and of the set around both are small.
-sums : (c : goal.After-sum_at-2) → (unsigned_abs c.sum_at.result ≤ 2 ^ 30 * 10 ^ 18) × (unsigned_abs c.sum_at-2.result ≤ 2 ^ 30 * 10 ^ 18) × (unsigned_abs c.sum_at-both.result ≤ 2 ^ 30 * 10 ^ 18)
+sums : (c : goal.After-sum_at-2) → (unsigned_abs c.sum_at.result ≤ 2 ^ 30 * 10 ^ 18)
+    × (unsigned_abs c.sum_at-2.result ≤ 2 ^ 30 * 10 ^ 18) × (unsigned_abs c.sum_at-both.result ≤ 2 ^ 30 * 10 ^ 18)
 sums c = (
   omega (arith, small c c.args.a c.requires.entries.0, ap unsigned_abs c.sum_at.ensures),
   omega (arith, small c c.args.b c.requires.entries.1, ap unsigned_abs c.sum_at-2.ensures),
@@ -29,7 +43,16 @@ sums c = (
 pub returns-clause-value : goal.returns-clause-value
 returns-clause-value c =
     plain_difference c.sum_at.result c.sum_at-2.result c.sum_at-both.result (sums c).0 (sums c).1 (sums c).2
-    ∙ omega (arith, ints, c.sum_at.ensures, c.sum_at-2.ensures, c.sum_at-both.ensures, apart_sums c.args.n (dual c.args.d.now) c.args.tables.now.sums.items c.requires.tables.summed c.args.a c.args.b c.meeting.result c.requires.entries.0 c.requires.entries.1 c.meeting.ensures.low c.meeting.ensures.least)
+    ∙ omega (
+      arith,
+      ints,
+      c.sum_at.ensures,
+      c.sum_at-2.ensures,
+      c.sum_at-both.ensures,
+      apart_sums c.args.n (dual c.args.d.now) c.args.tables.now.sums.items c.requires.tables.summed c.args.a
+          c.args.b c.meeting.result c.requires.entries.0 c.requires.entries.1 c.meeting.ensures.low
+          c.meeting.ensures.least,
+    )
 
 pub returns-clause-small : goal.returns-clause-small
 returns-clause-small c =

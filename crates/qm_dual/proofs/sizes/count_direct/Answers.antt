@@ -3,4 +3,9 @@ use Rattle.qm_dual.proofs.Tallies.{tallies_low}
 use Rattle.qm_dual.proofs.sizes.count_direct.Goals as goal
 
 pub tally-requires-clause-fits : goal.tally-requires-clause-fits
-tally-requires-clause-fits c = omega (arith, tallies_low c.args.n (length c.args.d.now.z.items) c.args.d.now.up.items c.loop-v.v (λ k. 0) c.loop-v.sizes c.loop-v.invariant (c.set_around_vertex.result - 1))
+tally-requires-clause-fits c =
+    omega (
+      arith,
+      tallies_low c.args.n (length c.args.d.now.z.items) c.args.d.now.up.items c.loop-v.v (λ k. 0)
+          c.loop-v.sizes c.loop-v.invariant (c.set_around_vertex.result - 1),
+    )

@@ -19,7 +19,8 @@ returns-in_default-cut_word-3 c =
     let one = c.in-Some-cut_word in
     let two = c.in-Some-cut_word-2 in
     no_aim c.args.line.now c.in-Some.rest.now (front (goal.at.returns-in_default-cut_word-3 c).In-Some-cut_word)
-    one.keep.now one.rest.now one.ensures.0 one.ensures.1 two.patches.now two.rest.now two.ensures.0 two.ensures.1 c.in_default-cut_word-3.ensures
+    one.keep.now one.rest.now one.ensures.0 one.ensures.1 two.patches.now two.rest.now two.ensures.0 two.ensures.1
+    c.in_default-cut_word-3.ensures
 
 pub returns-in_default-cut_word-4 : goal.returns-in_default-cut_word-4
 returns-in_default-cut_word-4 c =
@@ -38,7 +39,8 @@ returns-in_default-cut_word-5 c =
     let four = c.in-Some-cut_word-4 in
     no_weight c.args.line.now c.in-Some.rest.now (front (goal.at.returns-in_default-cut_word-5 c).In-Some-cut_word)
     one.keep.now one.rest.now one.ensures.0 one.ensures.1 two.patches.now two.rest.now two.ensures.0 two.ensures.1
-    three.aim.now three.rest.now three.ensures.0 three.ensures.1 four.floor.now four.rest.now four.ensures.0 four.ensures.1
+    three.aim.now three.rest.now three.ensures.0 three.ensures.1 four.floor.now four.rest.now four.ensures.0
+    four.ensures.1
     c.in_default-cut_word-5.ensures
 
 pub returns : goal.returns
@@ -50,5 +52,6 @@ returns c =
     let five = c.in-Some-cut_word-5 in
     cut_whole c.args.line.now c.in-Some.rest.now (front (goal.at.returns c).In-Some-cut_word)
     one.keep.now one.rest.now one.ensures.0 one.ensures.1 two.patches.now two.rest.now two.ensures.0 two.ensures.1
-    three.aim.now three.rest.now three.ensures.0 three.ensures.1 four.floor.now four.rest.now four.ensures.0 four.ensures.1
+    three.aim.now three.rest.now three.ensures.0 three.ensures.1 four.floor.now four.rest.now four.ensures.0
+    four.ensures.1
     five.weight.now five.spacing.now five.ensures.0 five.ensures.1

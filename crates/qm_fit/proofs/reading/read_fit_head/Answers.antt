@@ -15,7 +15,8 @@ returns-in_default-read_fit c fit is head =
 pub returns-then-is_aim_text : goal.returns-then-is_aim_text
 returns-then-is_aim_text c =
     let read = c.in-Some-read_fit in (
-      head_of c.args.line.now _ _ _ _ _ _ c.in-Some.ensures read.fit read.ensures (c.is_aim_text.ensures.0 c.if-is_aim_text.true),
+      head_of c.args.line.now _ _ _ _ _ _ c.in-Some.ensures read.fit read.ensures
+          (c.is_aim_text.ensures.0 c.if-is_aim_text.true),
       read.ensures.in_range,
     )
 

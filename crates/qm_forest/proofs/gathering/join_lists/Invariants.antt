@@ -6,8 +6,10 @@ use Rattle.qm_forest.proofs.gathering.join_lists.Given as goal
 abbrev pub invariant-loop : goal.invariant-loop
 invariant-loop l = record {
   here : l.x ≡ walk (λ k. get_or l.fn.after k 0) l.front l.counter;
-  total : l.total ≡ ring_sum (λ k. get_or l.fn.after k 0) (λ k. get_or l.fn.lists.rank.items k 0) l.front (suc l.counter);
-  following : (λ k. get_or l.lists.following.items k 0) ≡ writes (λ k. get_or l.fn.lists.following.items k 0) (λ k. get_or l.fn.lists.last.items (walk (λ k. get_or l.fn.after k 0) l.front k) 0)
+  total : l.total ≡ ring_sum (λ k. get_or l.fn.after k 0) (λ k. get_or l.fn.lists.rank.items k 0) l.front
+      (suc l.counter);
+  following : (λ k. get_or l.lists.following.items k 0) ≡ writes (λ k. get_or l.fn.lists.following.items k 0)
+      (λ k. get_or l.fn.lists.last.items (walk (λ k. get_or l.fn.after k 0) l.front k) 0)
       (λ k. get_or l.fn.lists.first.items (walk (λ k. get_or l.fn.after k 0) l.front (suc k)) 0) l.counter;
   size : length l.lists.following.items ≡ length l.fn.lists.following.items;
   first : l.lists.first ≡ l.fn.lists.first;

@@ -7,13 +7,22 @@ use Rattle.qm_forest.proofs.members.list_members.Goals as goal
 
 pub loop-preserved : goal.loop-preserved
 loop-preserved c =
-    let end : c.index-end.result.now ≡ get_or c.args.lists.now.rank.items c.args.x 0 = get_or_read c.args.lists.now.rank.items c.args.x _ c.requires.lists.rank c.index-end.ensures 0 in
-    let low : c.loop.v < length c.args.lists.now.following.items = subst (λ v. v < length c.args.lists.now.following.items) (sym c.loop.invariant.here) (c.requires.lists.low c.loop.counter (omega (arith, c.loop-test.true, end))) in
+    let end : c.index-end.result.now ≡ get_or c.args.lists.now.rank.items c.args.x 0 =
+    get_or_read c.args.lists.now.rank.items c.args.x _ c.requires.lists.rank c.index-end.ensures 0 in
+    let low : c.loop.v < length c.args.lists.now.following.items =
+    subst (λ v. v < length c.args.lists.now.following.items) (sym c.loop.invariant.here)
+    (c.requires.lists.low c.loop.counter (omega (arith, c.loop-test.true, end))) in
     let pushed : c.push.new.self.items ≡ c.loop.list.items ++ c.loop.v ∷ [] = grind (arith, common_steps) in
     let one : suc c.loop.counter ≡ c.loop.counter + 1 = omega arith in
     record {
-      here = get_or_read c.args.lists.now.following.items c.loop.v _ low c.index-v-in-loop.ensures 0 ∙ (ap (λ v. get_or c.args.lists.now.following.items v 0) c.loop.invariant.here ∙ ap (walk (λ k. get_or c.args.lists.now.following.items k 0) (get_or c.args.lists.now.first.items c.args.x 0)) one);
-      count = ap length pushed ∙ (length_push c.loop.list.items c.loop.v ∙ (let e : length c.loop.list.items + 1 ≡ c.loop.counter + 1 = omega (arith, c.loop.invariant.count) in e));
-      each = copied_more c.loop.list.items _ _ _ c.loop.counter c.loop.v pushed c.loop.invariant.count c.loop.invariant.here c.loop.invariant.each;
+      here = get_or_read c.args.lists.now.following.items c.loop.v _ low c.index-v-in-loop.ensures 0
+          ∙ (ap (λ v. get_or c.args.lists.now.following.items v 0) c.loop.invariant.here
+          ∙ ap (walk (λ k. get_or c.args.lists.now.following.items k 0) (get_or c.args.lists.now.first.items c.args.x
+          0)) one);
+      count = ap length pushed
+          ∙ (length_push c.loop.list.items c.loop.v ∙ (let e : length c.loop.list.items + 1 ≡ c.loop.counter + 1 =
+          omega (arith, c.loop.invariant.count) in e));
+      each = copied_more c.loop.list.items _ _ _ c.loop.counter c.loop.v pushed c.loop.invariant.count
+          c.loop.invariant.here c.loop.invariant.each;
       room = omega (arith, c.push.ensures.capacity, c.loop.invariant.room);
     }

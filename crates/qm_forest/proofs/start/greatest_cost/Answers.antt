@@ -8,6 +8,9 @@ use Rattle.qm_forest.proofs.start.greatest_cost.Goals as goal
 
 pub loop-e-preserved : goal.loop-e-preserved
 loop-e-preserved c =
-    let bound : unsigned_abs (edge_at (graph c.args.g.now) c.loop-e.e).cost ≤ 2 ^ 60 = c.requires.costs c.loop-e.e (omega (arith, c.loop-e-test.true, c.len-e-end.ensures)) in
-    let cost : c.edge_of.result.cost ≡ (edge_at (graph c.args.g.now) c.loop-e.e).cost = ap (λ (x : WEdge). x.cost) c.edge_of.ensures in
-    one_more_cost (graph c.args.g.now) c.loop-e.e c.loop-e.most _ c.unsigned_abs.result (omega (arith, ints, c.unsigned_abs.ensures.value, cost, bound)) c.greater_of-most.ensures c.loop-e.invariant
+    let bound : unsigned_abs (edge_at (graph c.args.g.now) c.loop-e.e).cost ≤ 2 ^ 60 =
+    c.requires.costs c.loop-e.e (omega (arith, c.loop-e-test.true, c.len-e-end.ensures)) in
+    let cost : c.edge_of.result.cost ≡ (edge_at (graph c.args.g.now) c.loop-e.e).cost =
+    ap (λ (x : WEdge). x.cost) c.edge_of.ensures in
+    one_more_cost (graph c.args.g.now) c.loop-e.e c.loop-e.most _ c.unsigned_abs.result
+    (omega (arith, ints, c.unsigned_abs.ensures.value, cost, bound)) c.greater_of-most.ensures c.loop-e.invariant

@@ -8,7 +8,11 @@ use Rattle.qm_forest.proofs.start.least_costs.Goals as goal
 
 pub loop-e-preserved : goal.loop-e-preserved
 loop-e-preserved c =
-    let bound : unsigned_abs (edge_at (graph c.args.g.now) c.loop-e.e).cost ≤ c.args.most = c.requires.costs c.loop-e.e (omega (arith, c.loop-e-test.true, c.len-e-end.ensures)) in
-    let cost : c.edge_of-edge.result.cost ≡ (edge_at (graph c.args.g.now) c.loop-e.e).cost = ap (λ (x : WEdge). x.cost) c.edge_of-edge.ensures in
-    one_more_edge (graph c.args.g.now) c.args.most c.loop-e.e c.loop-e.lows.items c.lower.new.numbers.items c.lower-in-loop-e.new.numbers.items c.edge_of-edge.result _ _ c.loop-e.invariant c.edge_of-edge.ensures
-    (omega (arith, ints, cost, bound, c.requires.few)) (omega (arith, ints, cost, bound, c.requires.few)) bound c.lower.ensures c.lower-in-loop-e.ensures
+    let bound : unsigned_abs (edge_at (graph c.args.g.now) c.loop-e.e).cost ≤ c.args.most =
+    c.requires.costs c.loop-e.e (omega (arith, c.loop-e-test.true, c.len-e-end.ensures)) in
+    let cost : c.edge_of-edge.result.cost ≡ (edge_at (graph c.args.g.now) c.loop-e.e).cost =
+    ap (λ (x : WEdge). x.cost) c.edge_of-edge.ensures in
+    one_more_edge (graph c.args.g.now) c.args.most c.loop-e.e c.loop-e.lows.items c.lower.new.numbers.items
+    c.lower-in-loop-e.new.numbers.items c.edge_of-edge.result _ _ c.loop-e.invariant c.edge_of-edge.ensures
+    (omega (arith, ints, cost, bound, c.requires.few)) (omega (arith, ints, cost, bound, c.requires.few)) bound
+    c.lower.ensures c.lower-in-loop-e.ensures

@@ -1,4 +1,5 @@
-use Rattle.std.proofs.Common.{◌≡◌, ℕ, ◌+◌, ◌*◌, ◌/◌, length, subst, sym, ◌∙◌, ap, refl, arith, get_or, replicate, pos, List, ℤ, Some}
+use Rattle.std.proofs.Common.{◌≡◌, ℕ, ◌+◌, ◌*◌, ◌/◌, length, subst, sym, ◌∙◌, ap, refl, arith, get_or, replicate, pos}
+use Rattle.std.proofs.Common.{List, ℤ, Some}
 use Rattle.def_matching.specs.Matching.{graph}
 use Rattle.std.proofs.lemmas.Int.{ints}
 use Rattle.def_forest.specs.Steps.{weight_change}
@@ -16,7 +17,12 @@ invariant_of-result c = fresh_tied c.args.g.now.n (c.args.g.now.n + c.args.g.now
   hand = counted_as _ _ c.requires.weights.size c.in_ok-single_handles.ensures.hand;
   top = counted_as _ _ c.requires.weights.size c.in_ok-single_handles.ensures.top;
   up = c.in_ok-no_rings.ensures.up;
-  lists = (c.in_ok-single_lists.ensures.leader, c.in_ok-single_lists.ensures.first, c.in_ok-single_lists.ensures.last, c.in_ok-single_lists.ensures.following);
+  lists = (
+    c.in_ok-single_lists.ensures.leader,
+    c.in_ok-single_lists.ensures.first,
+    c.in_ok-single_lists.ensures.last,
+    c.in_ok-single_lists.ensures.following,
+  );
   size_lows = c.requires.weights.size;
   kept = c.in_ok-single_handles.ensures.q;
   offs = c.in_ok-single_handles.ensures.off ∙ ap (λ k. replicate k (pos 0)) c.requires.weights.size;
@@ -26,7 +32,12 @@ invariant_of-result c = fresh_tied c.args.g.now.n (c.args.g.now.n + c.args.g.now
   mate = c.in_ok-no_tree.ensures.mate;
   parts = c.in_ok-no_rings.ensures.parts;
   rank = c.in_ok-single_lists.ensures.rank;
-  sizes = (c.in_ok-no_tree.ensures.link, c.in_ok-no_rings.ensures.after, c.in_ok-no_rings.ensures.joint, c.in_ok-no_rings.ensures.head);
+  sizes = (
+    c.in_ok-no_tree.ensures.link,
+    c.in_ok-no_rings.ensures.after,
+    c.in_ok-no_rings.ensures.joint,
+    c.in_ok-no_rings.ensures.head,
+  );
   delta = refl;
   root = c.in_ok-no_tree.ensures.root;
   trail = c.in_ok-empty_trail.ensures.vertices;
@@ -36,34 +47,52 @@ invariant_of-result c = fresh_tied c.args.g.now.n (c.args.g.now.n + c.args.g.now
 }) c.requires.weights.small
 
 pub returns-clause-valid : goal.returns-clause-valid
-returns-clause-valid c = fresh_valid c.args.g.now.n (c.args.g.now.n + c.args.g.now.n / 2) c.args.lows.items _ _ (record {
-  size_is = refl;
-  few = omega (arith, c.requires.graph.vertices);
-  hand = counted_as _ _ c.requires.weights.size c.in_ok-single_handles.ensures.hand;
-  top = counted_as _ _ c.requires.weights.size c.in_ok-single_handles.ensures.top;
-  up = c.in_ok-no_rings.ensures.up;
-  lists = (c.in_ok-single_lists.ensures.leader, c.in_ok-single_lists.ensures.first, c.in_ok-single_lists.ensures.last, c.in_ok-single_lists.ensures.following);
-  size_lows = c.requires.weights.size;
-  kept = c.in_ok-single_handles.ensures.q;
-  offs = c.in_ok-single_handles.ensures.off ∙ ap (λ k. replicate k (pos 0)) c.requires.weights.size;
-  size_base = c.in_ok-pad.ensures.size;
-  base = λ k. c.in_ok-pad.ensures.each k ∙ ap (λ (xs : List ℤ). get_or xs k (pos 0)) c.deref.ensures.value;
-  label = c.in_ok-no_tree.ensures.label;
-  mate = c.in_ok-no_tree.ensures.mate;
-  parts = c.in_ok-no_rings.ensures.parts;
-  rank = c.in_ok-single_lists.ensures.rank;
-  sizes = (c.in_ok-no_tree.ensures.link, c.in_ok-no_rings.ensures.after, c.in_ok-no_rings.ensures.joint, c.in_ok-no_rings.ensures.head);
-  delta = refl;
-  root = c.in_ok-no_tree.ensures.root;
-  trail = c.in_ok-empty_trail.ensures.vertices;
-  touched = c.in_ok-empty_trail.ensures.touched;
-  room = c.in_ok-empty_trail.ensures.room;
-  pool = c.in_ok-empty_pool.ensures;
-}) (graph c.args.g.now) c.requires.graph.lawful refl c.requires.weights (subst (λ xs. AreStarts (graph c.args.g.now) (2 * length c.args.g.now.edges.items) xs) (sym c.in_ok-no_tree.ensures.near) c.in_ok-near.ensures) (ap (λ (z : GraphSize). Some z) (c.in_ok-new.ensures ∙ (let e : c.len.result ≡ length c.args.g.now.edges.items = omega (arith, c.len.ensures, c.args.g.now.edges.ok.0) in ap (λ (m : ℕ). record { vertices = c.args.g.now.n; edges = m }) e)))
+returns-clause-valid c = fresh_valid c.args.g.now.n (c.args.g.now.n + c.args.g.now.n / 2) c.args.lows.items _ _
+    (record {
+      size_is = refl;
+      few = omega (arith, c.requires.graph.vertices);
+      hand = counted_as _ _ c.requires.weights.size c.in_ok-single_handles.ensures.hand;
+      top = counted_as _ _ c.requires.weights.size c.in_ok-single_handles.ensures.top;
+      up = c.in_ok-no_rings.ensures.up;
+      lists = (
+        c.in_ok-single_lists.ensures.leader,
+        c.in_ok-single_lists.ensures.first,
+        c.in_ok-single_lists.ensures.last,
+        c.in_ok-single_lists.ensures.following,
+      );
+      size_lows = c.requires.weights.size;
+      kept = c.in_ok-single_handles.ensures.q;
+      offs = c.in_ok-single_handles.ensures.off ∙ ap (λ k. replicate k (pos 0)) c.requires.weights.size;
+      size_base = c.in_ok-pad.ensures.size;
+      base = λ k. c.in_ok-pad.ensures.each k ∙ ap (λ (xs : List ℤ). get_or xs k (pos 0)) c.deref.ensures.value;
+      label = c.in_ok-no_tree.ensures.label;
+      mate = c.in_ok-no_tree.ensures.mate;
+      parts = c.in_ok-no_rings.ensures.parts;
+      rank = c.in_ok-single_lists.ensures.rank;
+      sizes = (
+        c.in_ok-no_tree.ensures.link,
+        c.in_ok-no_rings.ensures.after,
+        c.in_ok-no_rings.ensures.joint,
+        c.in_ok-no_rings.ensures.head,
+      );
+      delta = refl;
+      root = c.in_ok-no_tree.ensures.root;
+      trail = c.in_ok-empty_trail.ensures.vertices;
+      touched = c.in_ok-empty_trail.ensures.touched;
+      room = c.in_ok-empty_trail.ensures.room;
+      pool = c.in_ok-empty_pool.ensures;
+    }) (graph c.args.g.now) c.requires.graph.lawful refl c.requires.weights
+    (subst (λ xs. AreStarts (graph c.args.g.now) (2 * length c.args.g.now.edges.items) xs)
+    (sym c.in_ok-no_tree.ensures.near) c.in_ok-near.ensures) (ap (λ (z : GraphSize). Some z) (c.in_ok-new.ensures
+    ∙ (let e : c.len.result ≡ length c.args.g.now.edges.items = omega (arith, c.len.ensures, c.args.g.now.edges.ok.0) in
+    ap (λ (m : ℕ). record { vertices = c.args.g.now.n; edges = m }) e)))
 
 pub returns-clause-weights : goal.returns-clause-weights
 returns-clause-weights c = λ b. (
-    let label : label_at c.in_ok-no_tree.field-0.label.items b ≡ Outside = same_everywhere c.in_ok-no_tree.field-0.label.items _ Outside c.in_ok-no_tree.ensures.label b in
-    let none : weight_change (label_at c.in_ok-no_tree.field-0.label.items b) (pos 0) ≡ pos 0 = ap (λ (l : Label). weight_change l (pos 0)) label in
-    let base : get_or c.in_ok-pad.field-0.items b (pos 0) ≡ get_or c.args.lows.items b (pos 0) = c.in_ok-pad.ensures.each b ∙ ap (λ (xs : List ℤ). get_or xs b (pos 0)) c.deref.ensures.value in
+    let label : label_at c.in_ok-no_tree.field-0.label.items b ≡ Outside =
+    same_everywhere c.in_ok-no_tree.field-0.label.items _ Outside c.in_ok-no_tree.ensures.label b in
+    let none : weight_change (label_at c.in_ok-no_tree.field-0.label.items b) (pos 0) ≡ pos 0 =
+    ap (λ (l : Label). weight_change l (pos 0)) label in
+    let base : get_or c.in_ok-pad.field-0.items b (pos 0) ≡ get_or c.args.lows.items b (pos 0) =
+    c.in_ok-pad.ensures.each b ∙ ap (λ (xs : List ℤ). get_or xs b (pos 0)) c.deref.ensures.value in
     omega (arith, ints, none, base))

@@ -11,4 +11,6 @@ returns-in-Some-clause-search c = let s = c.requires.search in let n = c.args.ex
 }
 
 pub returns-in-Some-clause-vertex : goal.returns-in-Some-clause-vertex
-returns-in-Some-clause-vertex c = All-head (IsKey c.args.exits.now.vertices) _ _ (All-permutation (IsKey c.args.exits.now.vertices) _ _ c.in-Some.ensures.permutation c.requires.search.beyond)
+returns-in-Some-clause-vertex c =
+    All-head (IsKey c.args.exits.now.vertices) _ _ (All-permutation (IsKey c.args.exits.now.vertices) _ _
+    c.in-Some.ensures.permutation c.requires.search.beyond)

@@ -4,13 +4,24 @@ use Rattle.qm_gadget.proofs.OfList.{plan_graph, plan_at, plan_small}
 use Rattle.qm_gadget.proofs.build.graph_over.Goals as goal
 
 pub new-requires : goal.new-requires
-new-requires c = omega (arith, plan_small (network c.args.net.now) c.args.boxes.now.step c.args.boxes.now.lows.now c.args.boxes.now.caps.now c.in_ok-plan.plan c.requires.ready c.in_ok-plan.ensures c.requires.small)
+new-requires c = omega (
+  arith,
+  plan_small (network c.args.net.now) c.args.boxes.now.step c.args.boxes.now.lows.now
+      c.args.boxes.now.caps.now c.in_ok-plan.plan c.requires.ready c.in_ok-plan.ensures c.requires.small,
+)
 
 pub lay_out-requires-clause-at : goal.lay_out-requires-clause-at
-lay_out-requires-clause-at c = rw (c.in_ok-copies.ensures, c.deref.ensures.value) (plan_at (network c.args.net.now) c.args.boxes.now.step c.args.boxes.now.lows.now c.args.boxes.now.caps.now c.in_ok-plan.plan c.requires.ready c.in_ok-plan.ensures)
+lay_out-requires-clause-at c =
+    rw (c.in_ok-copies.ensures, c.deref.ensures.value) (plan_at (network c.args.net.now) c.args.boxes.now.step
+    c.args.boxes.now.lows.now c.args.boxes.now.caps.now c.in_ok-plan.plan c.requires.ready c.in_ok-plan.ensures)
 
 pub lay_out-requires-clause-small : goal.lay_out-requires-clause-small
-lay_out-requires-clause-small c = rw (c.in_ok-copies.ensures, c.deref.ensures.value) (plan_small (network c.args.net.now) c.args.boxes.now.step c.args.boxes.now.lows.now c.args.boxes.now.caps.now c.in_ok-plan.plan c.requires.ready c.in_ok-plan.ensures c.requires.small)
+lay_out-requires-clause-small c =
+    rw (c.in_ok-copies.ensures, c.deref.ensures.value) (plan_small (network c.args.net.now) c.args.boxes.now.step
+    c.args.boxes.now.lows.now c.args.boxes.now.caps.now c.in_ok-plan.plan c.requires.ready c.in_ok-plan.ensures
+    c.requires.small)
 
 pub returns : goal.returns
-returns c = rw (← plan_graph (network c.args.net.now) c.args.boxes.now.step c.args.boxes.now.lows.now c.args.boxes.now.caps.now c.in_ok-plan.plan c.requires.ready c.in_ok-plan.ensures) (rw (← c.in_ok-copies.ensures, ← c.deref.ensures.value) c.lay_out.ensures)
+returns c = rw (← plan_graph (network c.args.net.now) c.args.boxes.now.step c.args.boxes.now.lows.now
+    c.args.boxes.now.caps.now c.in_ok-plan.plan c.requires.ready c.in_ok-plan.ensures)
+    (rw (← c.in_ok-copies.ensures, ← c.deref.ensures.value) c.lay_out.ensures)

@@ -6,6 +6,7 @@ use Rattle.qm_gadget.proofs.layout.push_units.Given as goal
 
 abbrev pub invariant-loop-unit : goal.invariant-loop-unit
 invariant-loop-unit l = record {
-  edges : l.edges.items ++ units_links (copies_in l.copies.counts.items) l.b (drop l.unit-index l.units) ≡ l.initial.edges.items ++ units_links (copies_in l.copies.counts.items) l.first l.units;
+  edges : l.edges.items ++ units_links (copies_in l.copies.counts.items) l.b (drop l.unit-index l.units)
+      ≡ l.initial.edges.items ++ units_links (copies_in l.copies.counts.items) l.first l.units;
   place : l.b + count unit_size (drop l.unit-index l.units) ≡ l.first + count unit_size l.units;
 }

@@ -3,4 +3,5 @@ use Rattle.qm_gadget.specs.Read.{lengths_by}
 use Rattle.qm_gadget.proofs.lengths.raise.Given as goal
 
 abbrev pub invariant-loop-k : goal.invariant-loop-k
-invariant-loop-k l = l.ys.items ++ lengths_by l.boxes.step (drop l.k l.boxes.lows.now) (drop l.k l.boxes.caps.now) l.rest ≡ lengths_by l.boxes.step l.boxes.lows.now l.boxes.caps.now l.ons
+invariant-loop-k l = l.ys.items ++ lengths_by l.boxes.step (drop l.k l.boxes.lows.now) (drop l.k l.boxes.caps.now)
+    l.rest ≡ lengths_by l.boxes.step l.boxes.lows.now l.boxes.caps.now l.ons

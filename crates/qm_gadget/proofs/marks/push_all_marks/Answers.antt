@@ -1,4 +1,5 @@
-use Rattle.std.proofs.Common.{◌≡◌, ℕ, ◌+◌, ◌++◌, Bool, List, length, drop, slice_index, slice_index_or, false, None, pos, sym, ◌∙◌, ap, length-append, arith}
+use Rattle.std.proofs.Common.{◌≡◌, ℕ, ◌+◌, ◌++◌, Bool, List, length, drop, slice_index, slice_index_or, false, None}
+use Rattle.std.proofs.Common.{pos, sym, ◌∙◌, ap, length-append, arith}
 use Rattle.def_math.specs.Tables.{IsRaised}
 use Rattle.def_flow.specs.declared.units.ArcUnit.{ArcUnit}
 use Rattle.def_flow.specs.Units.{active_at}
@@ -15,17 +16,28 @@ pub loop-i-preserved : goal.loop-i-preserved
 loop-i-preserved c =
     let u : ArcUnit = slice_index_or c.args.units.now c.loop-i.i no_unit in
     let on : Bool = slice_index_or c.args.ons.now c.loop-i.i false in
-    let raised : IsRaised (λ v. active_at v u on) c.loop-i.used c.push_unit_marks.new.used = c.in_ok-push_unit_marks.ensures.used in
-    let read : (v : ℕ) → slice_index c.push_unit_marks.new.used v ≡ slice_index c.loop-i.used v + active_at v u on = λ v. raised_read u on (length c.args.counts.now) c.loop-i.used c.push_unit_marks.new.used c.loop-i.invariant.long (c.requires.at c.loop-i.i no_unit c.loop-i-test.true) raised v in
-    let next : copies_in c.push_unit_marks.new.used ≡ (λ v. slice_index c.loop-i.used v + active_at v u on) = same_everywhere (copies_in c.push_unit_marks.new.used) (λ v. slice_index c.loop-i.used v + active_at v u on) read in
+    let raised : IsRaised (λ v. active_at v u on) c.loop-i.used c.push_unit_marks.new.used =
+    c.in_ok-push_unit_marks.ensures.used in
+    let read : (v : ℕ) → slice_index c.push_unit_marks.new.used v ≡ slice_index c.loop-i.used v + active_at v u on =
+    λ v. raised_read u on (length c.args.counts.now) c.loop-i.used c.push_unit_marks.new.used
+    c.loop-i.invariant.long (c.requires.at c.loop-i.i no_unit c.loop-i-test.true) raised v in
+    let next : copies_in c.push_unit_marks.new.used ≡ (λ v. slice_index c.loop-i.used v + active_at v u on) =
+    same_everywhere (copies_in c.push_unit_marks.new.used) (λ v. slice_index c.loop-i.used v + active_at v u on)
+    read in
     let part : List Bool = marks_by (copies_in c.args.counts.now) (copies_in c.loop-i.used) on u.left u.right in
-    let rest : List Bool = units_marks (copies_in c.args.counts.now) (copies_in c.push_unit_marks.new.used) (drop (c.loop-i.i + 1) c.args.units.now) (drop (c.loop-i.i + 1) c.args.ons.now) in
-    let split : units_marks (copies_in c.args.counts.now) (copies_in c.loop-i.used) (drop c.loop-i.i c.args.units.now) (drop c.loop-i.i c.args.ons.now) ≡ part ++ rest =
-    units_marks_step (copies_in c.args.counts.now) (copies_in c.loop-i.used) c.args.units.now c.args.ons.now c.loop-i.i no_unit false c.loop-i-test.true c.requires.states
-    ∙ ap (λ f. part ++ units_marks (copies_in c.args.counts.now) f (drop (c.loop-i.i + 1) c.args.units.now) (drop (c.loop-i.i + 1) c.args.ons.now)) (sym next) in
-    let width : length part ≡ c.width_of-k.result = marks_width (copies_in c.args.counts.now) (copies_in c.loop-i.used) on u.left u.right ∙ sym c.width_of-k.ensures in
+    let rest : List Bool = units_marks (copies_in c.args.counts.now) (copies_in c.push_unit_marks.new.used)
+    (drop (c.loop-i.i + 1) c.args.units.now) (drop (c.loop-i.i + 1) c.args.ons.now) in
+    let split : units_marks (copies_in c.args.counts.now) (copies_in c.loop-i.used) (drop c.loop-i.i c.args.units.now)
+    (drop c.loop-i.i c.args.ons.now) ≡ part ++ rest =
+    units_marks_step (copies_in c.args.counts.now) (copies_in c.loop-i.used) c.args.units.now c.args.ons.now c.loop-i.i
+    no_unit false c.loop-i-test.true c.requires.states
+    ∙ ap (λ f. part ++ units_marks (copies_in c.args.counts.now) f (drop (c.loop-i.i + 1) c.args.units.now)
+    (drop (c.loop-i.i + 1) c.args.ons.now)) (sym next) in
+    let width : length part ≡ c.width_of-k.result = marks_width (copies_in c.args.counts.now) (copies_in c.loop-i.used)
+    on u.left u.right ∙ sym c.width_of-k.ensures in
     record {
-      marks = marks_step c.loop-i.m.items c.push_unit_marks.new.m.items c.loop-i.k c.width_of-k.result part rest _ split width c.in_ok-push_unit_marks.ensures.marks ∙ c.loop-i.invariant.marks;
+      marks = marks_step c.loop-i.m.items c.push_unit_marks.new.m.items c.loop-i.k c.width_of-k.result part rest _ split
+          width c.in_ok-push_unit_marks.ensures.marks ∙ c.loop-i.invariant.marks;
       place = omega (arith, c.loop-i.invariant.place, ap length split, length-append part rest, width);
       long = raised.long ∙ c.loop-i.invariant.long;
       small = λ v. omega (arith, read v, c.loop-i.invariant.small v, active_at_low v u on);

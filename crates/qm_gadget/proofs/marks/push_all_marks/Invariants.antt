@@ -5,8 +5,11 @@ use Rattle.qm_gadget.proofs.marks.push_all_marks.Given as goal
 
 abbrev pub invariant-loop-i : goal.invariant-loop-i
 invariant-loop-i l = record {
-  marks : l.m.items ++ places l.k (units_marks (copies_in l.counts) (copies_in l.used) (drop l.i l.units) (drop l.i l.ons)) ≡ l.initial.m.items ++ places 0 (units_marks (copies_in l.counts) (copies_in l.initial.used) l.units l.ons);
-  place : l.k + length (units_marks (copies_in l.counts) (copies_in l.used) (drop l.i l.units) (drop l.i l.ons)) ≡ length (units_marks (copies_in l.counts) (copies_in l.initial.used) l.units l.ons);
+  marks : l.m.items ++ places l.k (units_marks (copies_in l.counts) (copies_in l.used) (drop l.i l.units)
+      (drop l.i l.ons)) ≡ l.initial.m.items
+      ++ places 0 (units_marks (copies_in l.counts) (copies_in l.initial.used) l.units l.ons);
+  place : l.k + length (units_marks (copies_in l.counts) (copies_in l.used) (drop l.i l.units) (drop l.i l.ons))
+      ≡ length (units_marks (copies_in l.counts) (copies_in l.initial.used) l.units l.ons);
   long : length l.used ≡ length l.counts;
   small : (v : ℕ) → slice_index l.used v ≤ 2 * l.i;
 }

@@ -8,9 +8,12 @@ use Rattle.qm_gadget.proofs.marks.push_choice.Goals as goal
 pub returns-in_ok-push : goal.returns-in_ok-push
 returns-in_ok-push c =
     let on : (c.args.some && nat_lt c.args.i c.args.n) ≡ true = grind (arith, nat_tests) in
-    c.in_ok-push.ensures.items ∙ ap (λ l. c.args.m.now.items ++ l) (sym (choice_places c.args.k c.args.some c.args.i c.args.n ∙ ap (λ b. cond b ((c.args.k + c.args.i) ∷ []) []) on))
+    c.in_ok-push.ensures.items
+    ∙ ap (λ l. c.args.m.now.items ++ l) (sym (choice_places c.args.k c.args.some c.args.i c.args.n
+    ∙ ap (λ b. cond b ((c.args.k + c.args.i) ∷ []) []) on))
 
 pub returns-else-some : goal.returns-else-some
 returns-else-some c =
     let off : (c.args.some && nat_lt c.args.i c.args.n) ≡ false = grind (arith, nat_tests) in
-    sym (ap (λ l. c.args.m.now.items ++ l) (choice_places c.args.k c.args.some c.args.i c.args.n ∙ ap (λ b. cond b ((c.args.k + c.args.i) ∷ []) []) off) ∙ append-nil c.args.m.now.items)
+    sym (ap (λ l. c.args.m.now.items ++ l) (choice_places c.args.k c.args.some c.args.i c.args.n
+    ∙ ap (λ b. cond b ((c.args.k + c.args.i) ∷ []) []) off) ∙ append-nil c.args.m.now.items)

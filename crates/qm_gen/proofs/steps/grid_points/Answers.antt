@@ -5,4 +5,5 @@ use Rattle.qm_gen.proofs.Ranges.{flat_more}
 use Rattle.qm_gen.proofs.steps.grid_points.Goals as goal
 
 pub loop-y-preserved : goal.loop-y-preserved
-loop-y-preserved c = c.in_ok-push_points.ensures ∙ ap (λ (ps : Positions). ps ++ row_points c.args.n c.loop-y.y) c.loop-y.invariant ∙ sym (flat_more (row_points c.args.n) c.loop-y.y)
+loop-y-preserved c = c.in_ok-push_points.ensures ∙ ap (λ (ps : Positions). ps ++ row_points c.args.n c.loop-y.y)
+    c.loop-y.invariant ∙ sym (flat_more (row_points c.args.n) c.loop-y.y)

@@ -10,13 +10,16 @@ use Rattle.qm_gen.proofs.steps.push_cells.Goals.{then-row-column_height+in_ok-pu
 pub loop-column-preserved : goal.loop-column-preserved
 loop-column-preserved c = elim c.if-row-column_height.branch [
   | then-row-column_height+in_ok-push w ↦
-      taken_push (λ column. cell c.args.n column c.args.row) (λ column. nat_lt c.args.row (column_height c.args.n column)) c.loop-column.column
+      taken_push (λ column. cell c.args.n column c.args.row)
+      (λ column. nat_lt c.args.row (column_height c.args.n column)) c.loop-column.column
       c.args.cells.now.items c.loop-column.cells.items c.if-row-column_height.cells.items c.loop-column.invariant
       (lt-ltb c.args.row _ (subst (λ (h : ℕ). c.args.row < h) c.column_height.ensures w.if-row-column_height.true))
-      (ap (λ v. v.items) w.cells-is ∙ w.in_ok-push.ensures.items ∙ ap (λ (f : Face). c.loop-column.cells.items ++ f ∷ []) w.cell.ensures)
+      (ap (λ v. v.items) w.cells-is ∙ w.in_ok-push.ensures.items
+      ∙ ap (λ (f : Face). c.loop-column.cells.items ++ f ∷ []) w.cell.ensures)
   | else-row-column_height w ↦
       ap (λ v. v.items) w.cells-is
-      ∙ left_push (λ column. cell c.args.n column c.args.row) (λ column. nat_lt c.args.row (column_height c.args.n column)) c.loop-column.column
+      ∙ left_push (λ column. cell c.args.n column c.args.row)
+      (λ column. nat_lt c.args.row (column_height c.args.n column)) c.loop-column.column
       c.args.cells.now.items c.loop-column.cells.items c.loop-column.invariant
       (le-ltb c.args.row _ (subst (λ (h : ℕ). h ≤ c.args.row) c.column_height.ensures w.if-row-column_height.false))
 ]

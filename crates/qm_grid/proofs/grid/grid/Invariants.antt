@@ -14,5 +14,6 @@ invariant-loop-h l = record {
   low : l.start < darts l.mesh;
   west : is_on l.cut (prev_of l.start) ≡ true;
   inside : (k : ℕ) → k < l.h → is_on l.cut (next_of (next_of (norths (half_edges l.mesh) l.corner k))) ≡ false;
-  listed : (w : ℕ) → IsRow (half_edges l.mesh) (is_on l.cut) l.corner w → l.cells.items ≡ grid_list (half_edges l.mesh) l.corner w l.h;
+  listed : (w : ℕ) → IsRow (half_edges l.mesh) (is_on l.cut) l.corner w
+      → l.cells.items ≡ grid_list (half_edges l.mesh) l.corner w l.h;
 }

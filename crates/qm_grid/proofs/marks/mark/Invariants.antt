@@ -4,4 +4,5 @@ use Rattle.qm_grid.proofs.marks.mark.Given as goal
 
 -- the faces of the cells so far are marked
 abbrev pub invariant-loop-c : goal.invariant-loop-c
-invariant-loop-c l = (f : ℕ) → f < length l.seen → get_or l.seen f false ≡ (get_or l.initial.seen f false || lies_in (take l.c-index l.cells) f)
+invariant-loop-c l = (f : ℕ) → f < length l.seen → get_or l.seen f false
+    ≡ (get_or l.initial.seen f false || lies_in (take l.c-index l.cells) f)

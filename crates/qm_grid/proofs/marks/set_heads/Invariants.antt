@@ -4,4 +4,5 @@ use Rattle.qm_grid.proofs.marks.set_heads.Given as goal
 
 -- the faces of the cells so far have the head
 abbrev pub invariant-loop-c : goal.invariant-loop-c
-invariant-loop-c l = (f : ℕ) → f < length l.heads → get_or l.heads f 0 ≡ cond (lies_in (take l.c-index l.cells) f) l.head (get_or l.initial.heads f 0)
+invariant-loop-c l = (f : ℕ) → f < length l.heads → get_or l.heads f 0 ≡ cond (lies_in (take l.c-index l.cells) f)
+    l.head (get_or l.initial.heads f 0)

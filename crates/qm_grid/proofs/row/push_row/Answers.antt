@@ -10,12 +10,14 @@ returns-then-cut-next-clause-row c =
     let i = c.loop-i.invariant in
     let f = c.requires.cutting in
     let e : c.next.result ≡ next_of c.loop-i.d = c.next.ensures.value in
-    row_done (half_edges c.args.mesh.now) f.laws (is_on c.args.cut.now) f.full c.args.start c.loop-i.d c.loop-i.i c.requires.dart i.at i.inside (ap (is_on c.args.cut.now) (sym e) ∙ c.if-cut-next.true)
+    row_done (half_edges c.args.mesh.now) f.laws (is_on c.args.cut.now) f.full c.args.start c.loop-i.d c.loop-i.i
+    c.requires.dart i.at i.inside (ap (is_on c.args.cut.now) (sym e) ∙ c.if-cut-next.true)
 
 pub returns-then-cut-next-clause-cells : goal.returns-then-cut-next-clause-cells
 returns-then-cut-next-clause-cells c =
     let i = c.loop-i.invariant in
-    row_listed (half_edges c.args.mesh.now) c.args.start c.loop-i.d c.loop-i.i c.args.cells.now.items c.loop-i.cells.items c.push.new.self.items i.at i.listed c.in_ok-push.ensures.items
+    row_listed (half_edges c.args.mesh.now) c.args.start c.loop-i.d c.loop-i.i c.args.cells.now.items
+    c.loop-i.cells.items c.push.new.self.items i.at i.listed c.in_ok-push.ensures.items
 
 pub loop-i-preserved : goal.loop-i-preserved
 loop-i-preserved c =
@@ -23,14 +25,18 @@ loop-i-preserved c =
     let f = c.requires.cutting in
     let e : c.next.result ≡ next_of c.loop-i.d = c.next.ensures.value in
     record {
-      at = row_at (half_edges c.args.mesh.now) c.args.start c.loop-i.d c.east-d.result c.loop-i.i i.at c.east-d.ensures.value;
+      at = row_at (half_edges c.args.mesh.now) c.args.start c.loop-i.d c.east-d.result c.loop-i.i i.at
+          c.east-d.ensures.value;
       low = c.east-d.ensures.dart;
-      inside = row_inside (half_edges c.args.mesh.now) f.laws (is_on c.args.cut.now) f.full c.args.start c.loop-i.d c.loop-i.i i.at i.inside (ap (is_on c.args.cut.now) (sym e) ∙ c.if-cut-next.false);
-      listed = row_listed (half_edges c.args.mesh.now) c.args.start c.loop-i.d c.loop-i.i c.args.cells.now.items c.loop-i.cells.items c.push.new.self.items i.at i.listed c.in_ok-push.ensures.items;
+      inside = row_inside (half_edges c.args.mesh.now) f.laws (is_on c.args.cut.now) f.full c.args.start c.loop-i.d
+          c.loop-i.i i.at i.inside (ap (is_on c.args.cut.now) (sym e) ∙ c.if-cut-next.false);
+      listed = row_listed (half_edges c.args.mesh.now) c.args.start c.loop-i.d c.loop-i.i c.args.cells.now.items
+          c.loop-i.cells.items c.push.new.self.items i.at i.listed c.in_ok-push.ensures.items;
     }
 
 pub unreachable-requires : goal.unreachable-requires
 unreachable-requires c =
     let i = c.loop-i.invariant in
     let f = c.requires.cutting in
-    row_never (half_edges c.args.mesh.now) f.laws (is_on c.args.cut.now) f.full c.args.start c.loop-i.i c.requires.dart c.requires.west i.inside (omega (arith, f.long, c.loop-i-test.false))
+    row_never (half_edges c.args.mesh.now) f.laws (is_on c.args.cut.now) f.full c.args.start c.loop-i.i c.requires.dart
+    c.requires.west i.inside (omega (arith, f.long, c.loop-i-test.false))

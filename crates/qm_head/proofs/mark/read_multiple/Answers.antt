@@ -5,7 +5,8 @@ use Rattle.qm_head.proofs.mark.read_multiple.Goals as goal
 pub returns-in-Some : goal.returns-in-Some
 returns-in-Some c =
     multiple_read c.args.line.now c.in-Some.rest.now c.read_count.result
-    (stripped refine_front c.args.line.now c.in-Some.rest.now c.in-Some.ensures.cases.0 c.in-Some.ensures.cases.1) c.read_count.ensures
+    (stripped refine_front c.args.line.now c.in-Some.rest.now c.in-Some.ensures.cases.0 c.in-Some.ensures.cases.1)
+    c.read_count.ensures
 
 pub returns-in-None : goal.returns-in-None
 returns-in-None c by head = not_stripped refine_front c.args.line.now _ c.in-None.ensures.cases head.written

@@ -1,4 +1,5 @@
-use Rattle.std.proofs.Common.{◌≡◌, ℕ, suc, List, ◌+◌, ◌-◌, ◌<◌, ◌∷◌, [], take, drop, length, refl, sym, ◌∙◌, ap, arith, length-drop}
+use Rattle.std.proofs.Common.{◌≡◌, ℕ, suc, List, ◌+◌, ◌-◌, ◌<◌, ◌∷◌, [], take, drop, length, refl, sym, ◌∙◌, ap, arith}
+use Rattle.std.proofs.Common.{length-drop}
 use Rattle.std.proofs.lemmas.List.{take_rest, drop-drop}
 use Rattle.std.proofs.Math.Seq.{drop-length}
 use Rattle.memchr.specs.Find.{Nowhere, NoneBefore, Passes, is_byte}
@@ -17,7 +18,8 @@ ends_behind bs rest start k n is found end =
     ∙ pieces-first rest k found.0.high found.1 (λ j m. found.0.before j (omega arith) m)
     ∙ ap (λ (xs : List ℕ). take (suc k) xs ∷ pieces (drop (suc k) xs)) is
     ∙ ap (λ (m : ℕ). take m (drop start bs) ∷ pieces (drop (suc k) (drop start bs))) (sym many)
-    ∙ ap (λ (xs : List ℕ). take (n - start) (drop start bs) ∷ pieces xs) (drop-drop (suc k) start bs ∙ ap (λ (m : ℕ). drop m bs) place)
+    ∙ ap (λ (xs : List ℕ). take (n - start) (drop start bs) ∷ pieces xs) (drop-drop (suc k) start bs
+    ∙ ap (λ (m : ℕ). drop m bs) place)
 
 -- With no LF the rest is the piece.
 is_whole : (bs rest : List ℕ) (start : ℕ) → rest ≡ drop start bs → start < length bs
@@ -32,7 +34,8 @@ is_whole bs rest start is there none =
 
 pub returns-in-Some-clause-first : goal.returns-in-Some-clause-first
 returns-in-Some-clause-first c =
-    ends_behind c.args.bytes.now _ c.args.start c.in-Some.ahead (c.args.start + c.in-Some.ahead + 1) (take_rest c.args.bytes.now c.args.start) c.in-Some.ensures refl
+    ends_behind c.args.bytes.now _ c.args.start c.in-Some.ahead (c.args.start + c.in-Some.ahead + 1)
+    (take_rest c.args.bytes.now c.args.start) c.in-Some.ensures refl
 
 pub returns-in-None-clause-first : goal.returns-in-None-clause-first
 returns-in-None-clause-first c =

@@ -6,8 +6,15 @@ use Rattle.qm_io.proofs.lines.line_count.Goals as goal
 
 pub overflow_cast-result : goal.overflow_cast-result
 overflow_cast-result c =
-    omega (arith, ap length c.requires.cut, length-ends_from 0 (pieces c.args.bytes.now), length-pieces c.args.bytes.now, c.requires.few)
+    omega (
+      arith,
+      ap length c.requires.cut,
+      length-ends_from 0 (pieces c.args.bytes.now),
+      length-pieces c.args.bytes.now,
+      c.requires.few,
+    )
 
 pub returns : goal.returns
 returns c =
-    ap length c.requires.cut ∙ length-ends_from 0 (pieces c.args.bytes.now) ∙ sym (length-map (pieces c.args.bytes.now) line_of)
+    ap length c.requires.cut ∙ length-ends_from 0 (pieces c.args.bytes.now)
+    ∙ sym (length-map (pieces c.args.bytes.now) line_of)

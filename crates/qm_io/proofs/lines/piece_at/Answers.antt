@@ -1,4 +1,5 @@
-use Rattle.std.proofs.Common.{◌≡◌, ℕ, List, [], ◌∷◌, ◌+◌, ◌-◌, ◌<◌, ◌≤◌, length, take, drop, slice_index, slice_index_or, ap, ◌∙◌, arith}
+use Rattle.std.proofs.Common.{◌≡◌, ℕ, List, [], ◌∷◌, ◌+◌, ◌-◌, ◌<◌, ◌≤◌, length, take, drop, slice_index}
+use Rattle.std.proofs.Common.{slice_index_or, ap, ◌∙◌, arith}
 use Rattle.def_io.specs.Lines.{lines_of, pieces}
 use Rattle.qm_io.specs.Ends.{ends_from}
 use Rattle.qm_io.proofs.Pieces.{end-there, piece-there, end-within, end-begin, begin, piece-cut}
@@ -43,11 +44,13 @@ end_of-requires c =
 
 pub slice_bounds-result-count : goal.slice_bounds-result-count
 slice_bounds-result-count c =
-    in_order c.args.bytes.now c.args.ends.now c.args.i _ _ c.requires.cut c.start_of.ensures c.end_of.ensures c.requires.there
+    in_order c.args.bytes.now c.args.ends.now c.args.i _ _ c.requires.cut c.start_of.ensures c.end_of.ensures
+    c.requires.there
 
 pub slice_bounds-result-start : goal.slice_bounds-result-start
 slice_bounds-result-start c =
-    in_order c.args.bytes.now c.args.ends.now c.args.i _ _ c.requires.cut c.start_of.ensures c.end_of.ensures c.requires.there
+    in_order c.args.bytes.now c.args.ends.now c.args.i _ _ c.requires.cut c.start_of.ensures c.end_of.ensures
+    c.requires.there
 
 pub slice_bounds-result-end : goal.slice_bounds-result-end
 slice_bounds-result-end c =
@@ -55,4 +58,5 @@ slice_bounds-result-end c =
 
 pub returns : goal.returns
 returns c =
-    cut_out c.args.bytes.now c.args.ends.now c.args.i _ _ c.requires.cut c.start_of.ensures c.end_of.ensures c.requires.there
+    cut_out c.args.bytes.now c.args.ends.now c.args.i _ _ c.requires.cut c.start_of.ensures c.end_of.ensures
+    c.requires.there

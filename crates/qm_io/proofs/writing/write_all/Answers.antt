@@ -8,6 +8,7 @@ loop-rest-preserved g c =
     let took_more = c.in_ok-count.ensures in
     record {
       part = rest_more c.args.piece.now c.loop-rest.rest.now c.in_ok-count.count took_more.fits was.part;
-      taken = prefix_more _ _ _ c.args.piece.now c.loop-rest.rest.now c.in_ok-count.count took_more.fits was.part was.taken took_more.takes;
+      taken = prefix_more _ _ _ c.args.piece.now c.loop-rest.rest.now c.in_ok-count.count took_more.fits was.part
+          was.taken took_more.takes;
       calm = took_more.cause.calm ∙ was.calm;
     }

@@ -28,17 +28,29 @@ pub put_all_ends-requires-clause-few : goal.put_all_ends-requires-clause-few
 put_all_ends-requires-clause-few c = few_patches c.args.t.now c.requires.layout
 
 pub overflow_cast-result : goal.overflow_cast-result
-overflow_cast-result c = omega (arith, few_patches c.args.t.now c.requires.layout, c.len.ensures, c.args.t.now.patches.ok.0)
+overflow_cast-result c = omega (
+  arith,
+  few_patches c.args.t.now c.requires.layout,
+  c.len.ensures,
+  c.args.t.now.patches.ok.0,
+)
 
 pub overflow_mul-result : goal.overflow_mul-result
-overflow_mul-result c = omega (arith, few_patches c.args.t.now c.requires.layout, c.len.ensures, c.args.t.now.patches.ok.0)
+overflow_mul-result c = omega (
+  arith,
+  few_patches c.args.t.now c.requires.layout,
+  c.len.ensures,
+  c.args.t.now.patches.ok.0,
+)
 
 -- The arcs with all their ends.
 filled : (c : goal.After-len) → (with_items c.in_ok-arcs.arcs c.put_all_ends.new.arcs).items ≡ c.put_all_ends.new.arcs
 filled c = with_items_is c.in_ok-arcs.arcs c.put_all_ends.new.arcs (c.put_all_ends.auto.arcs ∙ c.deref_mut.ensures.len)
 
-ends_put : (c : goal.After-len) → AreEnds (layout_of (plan c.args.t.now)) (long_at (map path c.args.t.now.arcs.items)) c.args.set.now.weight
-    (PatchesBelow (length (map rectangle c.args.t.now.patches.items))) (with_items c.in_ok-arcs.arcs c.put_all_ends.new.arcs).items
+ends_put : (c : goal.After-len) → AreEnds (layout_of (plan c.args.t.now)) (long_at (map path c.args.t.now.arcs.items))
+    c.args.set.now.weight
+    (PatchesBelow (length (map rectangle c.args.t.now.patches.items)))
+    (with_items c.in_ok-arcs.arcs c.put_all_ends.new.arcs).items
 ends_put c =
     let t = c.args.t.now in
     let l = layout_of (plan t) in
@@ -46,9 +58,12 @@ ends_put c =
     let w = c.args.set.now.weight in
     let opened : c.deref_mut.result.now ≡ map (open_arc w) t.arcs.items =
     c.deref_mut.ensures.value ∙ (c.in_ok-arcs.ensures ∙ ap (map (open_arc w)) c.deref.ensures.value) in
-    let begun = subst (λ (arcs : List Arc). AreEnds l x w (PatchesBelow 0) arcs) (sym opened) (ends_begin l w t.arcs.items refl) in
-    subst (λ (p : ℕ). AreEnds l x w (PatchesBelow p) (with_items c.in_ok-arcs.arcs c.put_all_ends.new.arcs).items) (sym (length-map t.patches.items rectangle))
-    (subst (λ (arcs : List Arc). AreEnds l x w (PatchesBelow (length t.patches.items)) arcs) (sym (filled c)) (c.put_all_ends.ensures w begun))
+    let begun = subst (λ (arcs : List Arc). AreEnds l x w (PatchesBelow 0) arcs) (sym opened)
+    (ends_begin l w t.arcs.items refl) in
+    subst (λ (p : ℕ). AreEnds l x w (PatchesBelow p) (with_items c.in_ok-arcs.arcs c.put_all_ends.new.arcs).items)
+    (sym (length-map t.patches.items rectangle))
+    (subst (λ (arcs : List Arc). AreEnds l x w (PatchesBelow (length t.patches.items)) arcs) (sym (filled c))
+    (c.put_all_ends.ensures w begun))
 
 -- The network.
 abbrev net : (c : goal.After-len) → Network
@@ -63,7 +78,8 @@ net c = record {
 is_net : (c : goal.After-len) → IsNetOf (layout_of (plan c.args.t.now)) (long_at (plan c.args.t.now).arcs)
     (long_at (plan c.args.t.now).arcs) c.args.set.now (net c)
 is_net c = net_is (layout_of (plan c.args.t.now)) (long_at (plan c.args.t.now).arcs) c.args.set.now (net c)
-    (omega (arith, c.len.ensures, c.args.t.now.patches.ok.0, length-map c.args.t.now.patches.items rectangle)) refl refl refl (ends_put c)
+    (omega (arith, c.len.ensures, c.args.t.now.patches.ok.0, length-map c.args.t.now.patches.items rectangle)) refl refl
+    refl (ends_put c)
 
 few : (c : goal.After-len) → count_below (long_at (plan c.args.t.now).arcs) (length (plan c.args.t.now).arcs) ≤ 2 ^ 23
 few c = omega (arith, lengths_few (plan c.args.t.now) c.requires.layout, c.requires.layout.mesh.few)
@@ -74,14 +90,17 @@ returns-clause-net c = is_net c
 pub returns-clause-even : goal.returns-clause-even
 returns-clause-even c =
     let p = plan c.args.t.now in
-    even (layout_of p) (long_at p.arcs) c.args.set.now (net c) (laid_of p c.requires.layout) (lengths_of p c.requires.layout) (few c) c.requires.settings (is_net c)
+    even (layout_of p) (long_at p.arcs) c.args.set.now (net c) (laid_of p c.requires.layout)
+    (lengths_of p c.requires.layout) (few c) c.requires.settings (is_net c)
 
 pub returns-clause-bounds : goal.returns-clause-bounds
 returns-clause-bounds c =
     let p = plan c.args.t.now in
-    within (layout_of p) (long_at p.arcs) c.args.set.now (net c) (laid_of p c.requires.layout) (lengths_of p c.requires.layout) (few c) c.requires.settings (is_net c)
+    within (layout_of p) (long_at p.arcs) c.args.set.now (net c) (laid_of p c.requires.layout)
+    (lengths_of p c.requires.layout) (few c) c.requires.settings (is_net c)
 
 pub returns-clause-small : goal.returns-clause-small
 returns-clause-small c =
     let p = plan c.args.t.now in
-    small (layout_of p) (long_at p.arcs) c.args.set.now (net c) (laid_of p c.requires.layout) (lengths_of p c.requires.layout) (few c) c.requires.settings (is_net c)
+    small (layout_of p) (long_at p.arcs) c.args.set.now (net c) (laid_of p c.requires.layout)
+    (lengths_of p c.requires.layout) (few c) c.requires.settings (is_net c)

@@ -15,21 +15,45 @@ put_four-requires-clause-uses c s k d less =
     let t = c.args.t.now in
     let slot : Slot = record { patch = c.loop-p.p; side = s; at = k } in
     let p_low : c.loop-p.p < length (map rectangle t.patches.items) =
-    omega (arith, c.loop-p-test.true, c.len-p-end.ensures, t.sides.ok.0, c.requires.sided, length-map t.patches.items rectangle) in
+    omega (
+      arith,
+      c.loop-p-test.true,
+      c.len-p-end.ensures,
+      t.sides.ok.0,
+      c.requires.sided,
+      length-map t.patches.items rectangle,
+    ) in
     let low = c.requires.laid.paved.arc_low slot (record { patch_low = p_low; low = less }) in
     let same = get_or_default (side_at (plan t) c.loop-p.p s) k d (record { arc = 0; forward = true }) less in
-    omega (arith, low, ap (λ (u : SideArc). u.arc) same, c.loop-p.invariant.long, c.requires.long, length-map t.arcs.items path)
+    omega (
+      arith,
+      low,
+      ap (λ (u : SideArc). u.arc) same,
+      c.loop-p.invariant.long,
+      c.requires.long,
+      length-map t.arcs.items path,
+    )
 
 pub loop-p-preserved : goal.loop-p-preserved
 loop-p-preserved c =
     let t = c.args.t.now in
     let p_low : c.loop-p.p < length (map rectangle t.patches.items) =
-    omega (arith, c.loop-p-test.true, c.len-p-end.ensures, t.sides.ok.0, c.requires.sided, length-map t.patches.items rectangle) in
+    omega (
+      arith,
+      c.loop-p-test.true,
+      c.len-p-end.ensures,
+      t.sides.ok.0,
+      c.requires.sided,
+      length-map t.patches.items rectangle,
+    ) in
     record {
-      done = λ weight begin. subst (λ (xs : List Arc). AreEnds (layout_of (plan t)) (long_at (map path t.arcs.items)) weight (PatchesBelow (c.loop-p.p + 1)) xs)
+      done = λ weight begin. subst (λ (xs : List Arc). AreEnds (layout_of (plan t)) (long_at (map path t.arcs.items))
+          weight (PatchesBelow (c.loop-p.p + 1)) xs)
           (sym c.put_four.ensures)
-          (patch_more (layout_of (plan t)) (long_at (map path t.arcs.items)) weight c.requires.laid c.loop-p.p (side_at (plan t) c.loop-p.p) c.loop-p.arcs p_low
-          (λ s j d h. get_or_default (side_at (plan t) c.loop-p.p s) j d _ h) (λ s. refl) (c.loop-p.invariant.done weight begin));
+          (patch_more (layout_of (plan t)) (long_at (map path t.arcs.items)) weight c.requires.laid c.loop-p.p
+          (side_at (plan t) c.loop-p.p) c.loop-p.arcs p_low
+          (λ s j d h. get_or_default (side_at (plan t) c.loop-p.p s) j d _ h) (λ s. refl)
+          (c.loop-p.invariant.done weight begin));
       long = omega (arith, c.put_four.auto.arcs, c.loop-p.invariant.long);
     }
 
@@ -38,4 +62,5 @@ returns c weight begin =
     let t = c.args.t.now in
     let all : c.loop-p.p ≡ length t.patches.items =
     omega (arith, c.loop-p-test.false, c.loop-p.auto.p-end, c.len-p-end.ensures, t.sides.ok.0, c.requires.sided) in
-    subst (λ (p : ℕ). AreEnds (layout_of (plan t)) (long_at (map path t.arcs.items)) weight (PatchesBelow p) c.loop-p.arcs) all (c.loop-p.invariant.done weight begin)
+    subst (λ (p : ℕ). AreEnds (layout_of (plan t)) (long_at (map path t.arcs.items)) weight (PatchesBelow p)
+    c.loop-p.arcs) all (c.loop-p.invariant.done weight begin)

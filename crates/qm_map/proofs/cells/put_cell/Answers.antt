@@ -7,7 +7,8 @@ use Rattle.qm_map.proofs.cells.put_cell.Goals as goal
 pub returns-in_err-put_front-clause-part : goal.returns-in_err-put_front-clause-part
 returns-in_err-put_front-clause-part g c =
     let laws = g.met.T.Output in
-    of_error c.from_residual.result (laws.stops_before _ _ (cell_front c.args.home.now.dart) _ c.in_err-put_front.ensures.part)
+    of_error c.from_residual.result (laws.stops_before _ _ (cell_front c.args.home.now.dart) _
+    c.in_err-put_front.ensures.part)
 
 pub returns-in_err-put_corners-clause-part : goal.returns-in_err-put_corners-clause-part
 returns-in_err-put_corners-clause-part g c =

@@ -6,10 +6,14 @@ use Rattle.qm_map.proofs.cells.put_front.Goals as goal
 
 pub returns-clause-whole : goal.returns-clause-whole
 returns-clause-whole g c =
-    let line : c.as_bytes.result.now ≡ cell_front c.args.dart = c.as_bytes.ensures.value ∙ c.as_str.ensures.value ∙ c.cell_front.ensures in
-    subst (λ (text : Bytes). OnOk c.put.result (g.T.Output.takes c.args.out.now c.put.new.self text)) line c.put.ensures.whole
+    let line : c.as_bytes.result.now ≡ cell_front c.args.dart = c.as_bytes.ensures.value ∙ c.as_str.ensures.value
+    ∙ c.cell_front.ensures in
+    subst (λ (text : Bytes). OnOk c.put.result (g.T.Output.takes c.args.out.now c.put.new.self text)) line
+    c.put.ensures.whole
 
 pub returns-clause-part : goal.returns-clause-part
 returns-clause-part g c =
-    let line : c.as_bytes.result.now ≡ cell_front c.args.dart = c.as_bytes.ensures.value ∙ c.as_str.ensures.value ∙ c.cell_front.ensures in
-    subst (λ (text : Bytes). OnErr c.put.result (g.T.Output.stops c.args.out.now c.put.new.self text)) line c.put.ensures.part
+    let line : c.as_bytes.result.now ≡ cell_front c.args.dart = c.as_bytes.ensures.value ∙ c.as_str.ensures.value
+    ∙ c.cell_front.ensures in
+    subst (λ (text : Bytes). OnErr c.put.result (g.T.Output.stops c.args.out.now c.put.new.self text)) line
+    c.put.ensures.part

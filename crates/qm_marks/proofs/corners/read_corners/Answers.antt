@@ -6,6 +6,8 @@ use Rattle.qm_marks.proofs.corners.read_corners.Goals as goal
 pub words-preserved : goal.words-preserved
 words-preserved c =
     let next : words c.words.rest.now ≡ c.first_word.result.0.now ∷ words c.first_word.result.1.now =
-    next_word c.words.rest.now c.first_word.result.1.now c.first_word.result.0.now c.first_word.ensures (sym c.is_empty.ensures ∙ c.if-is_empty.false) in
-    rw c.in_ok-push.ensures.items (read_more c.args.place.all c.args.place.before c.args.text.now c.words.rest.now c.first_word.result.1.now c.first_word.result.0.now _ c.words.invariant next c.in-Some.index
+    next_word c.words.rest.now c.first_word.result.1.now c.first_word.result.0.now c.first_word.ensures
+    (sym c.is_empty.ensures ∙ c.if-is_empty.false) in
+    rw c.in_ok-push.ensures.items (read_more c.args.place.all c.args.place.before c.args.text.now c.words.rest.now
+    c.first_word.result.1.now c.first_word.result.0.now _ c.words.invariant next c.in-Some.index
     (found_corner _ _ _ (sym c.read_corner.ensures ∙ c.in-Some.is)))

@@ -8,6 +8,9 @@ use Rattle.qm_marks.proofs.ends.busy_keys.Goals as goal
 pub loop-d-preserved : goal.loop-d-preserved
 loop-d-preserved c = elim c.if-is_busy.branch [
   | then-is_busy+in_ok-push w ↦ rw (w.keys-is, w.in_ok-push.ensures.items)
-      (ap (λ xs. xs ++ w.key_for.result ∷ []) c.loop-d.invariant ∙ sym (keys_on c.args.mesh.now FEW c.loop-d.d w.key_for.result (sym c.is_busy.ensures ∙ w.if-is_busy.true) (w.key_for.ensures ∙ (λ i. key_of (w.from.ensures.value i) (w.to.ensures.value i) c.loop-d.d))))
-  | else-is_busy w ↦ rw w.keys-is (c.loop-d.invariant ∙ sym (keys_off c.args.mesh.now FEW c.loop-d.d (sym c.is_busy.ensures ∙ w.if-is_busy.false)))
+      (ap (λ xs. xs ++ w.key_for.result ∷ []) c.loop-d.invariant
+      ∙ sym (keys_on c.args.mesh.now FEW c.loop-d.d w.key_for.result (sym c.is_busy.ensures ∙ w.if-is_busy.true)
+      (w.key_for.ensures ∙ (λ i. key_of (w.from.ensures.value i) (w.to.ensures.value i) c.loop-d.d))))
+  | else-is_busy w ↦ rw w.keys-is (c.loop-d.invariant
+      ∙ sym (keys_off c.args.mesh.now FEW c.loop-d.d (sym c.is_busy.ensures ∙ w.if-is_busy.false)))
 ]

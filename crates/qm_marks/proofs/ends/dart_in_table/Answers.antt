@@ -4,27 +4,37 @@ use Rattle.def_mesh.specs.Vertices.{faces_at, vertex_count}
 use Rattle.qm_marks.specs.Keys.{IsLeastPlace, key_of}
 use Rattle.qm_marks.specs.declared.ends.TheConstants.{FEW}
 use Rattle.qm_marks.proofs.EndKeys.{in_table, not_in_table}
-use Rattle.qm_marks.proofs.ends.dart_in_table.Goals.{After-place_of-place, else-place-keys-via-then-place-keys+else-keys-place, else-place-keys-via-else-place-keys}
+use Rattle.qm_marks.proofs.ends.dart_in_table.Goals.{After-place_of-place}
+use Rattle.qm_marks.proofs.ends.dart_in_table.Goals.{else-place-keys-via-then-place-keys+else-keys-place}
+use Rattle.qm_marks.proofs.ends.dart_in_table.Goals.{else-place-keys-via-else-place-keys}
 use Rattle.qm_marks.proofs.ends.dart_in_table.Goals as goal
 
 small : (c : After-place_of-place) → (vertex_count c.args.mesh.now < 2 ^ 32) × (darts c.args.mesh.now < 2 ^ 32)
-small c = (omega (arith, c.vertices-count.ensures.value, c.vertices-count.type_inv), omega (arith, c.faces-known.ensures.mesh.few))
+small c = (
+  omega (arith, c.vertices-count.ensures.value, c.vertices-count.type_inv),
+  omega (arith, c.faces-known.ensures.mesh.few),
+)
 
 pub returns-then-keys-place-clause-some : goal.returns-then-keys-place-clause-some
 returns-then-keys-place-clause-some c =
     let sizes = small (goal.at.returns-then-keys-place-clause-some c).After-place_of-place in
-    in_table c.args.mesh.now FEW c.args.keys.now c.requires.ends sizes.0 sizes.1 c.args.u c.args.v c.ranges.v.fits c.place_of-place.result
+    in_table c.args.mesh.now FEW c.args.keys.now c.requires.ends sizes.0 sizes.1 c.args.u c.args.v c.ranges.v.fits
+    c.place_of-place.result
     c.if-place-keys.true (c.if-keys-place.true ∙ ap (λ x. x / 2 ^ 32) c.key_for-key.ensures)
 
 pub returns-else-place-keys-clause-none : goal.returns-else-place-keys-clause-none
 returns-else-place-keys-clause-none c none =
     let sizes = small (goal.at.returns-else-place-keys-clause-none c).After-place_of-place in
-    not_in_table c.args.mesh.now FEW c.args.keys.now c.requires.ends sizes.0 sizes.1 c.args.u c.args.v c.ranges.v.fits c.place_of-place.result
-    (subst (λ (key : ℕ). IsLeastPlace c.args.keys.now key c.place_of-place.result) c.key_for-key.ensures c.place_of-place.ensures) other
+    not_in_table c.args.mesh.now FEW c.args.keys.now c.requires.ends sizes.0 sizes.1 c.args.u c.args.v c.ranges.v.fits
+    c.place_of-place.result
+    (subst (λ (key : ℕ). IsLeastPlace c.args.keys.now key c.place_of-place.result) c.key_for-key.ensures
+    c.place_of-place.ensures) other
     (λ d l from. ap (λ v. ltb FEW (faces_at c.args.mesh.now v)) from ∙ c.requires.busy)
   where
-    other : (c.place_of-place.result < length c.args.keys.now) → get_or c.args.keys.now c.place_of-place.result 0 / 2 ^ 32 ≡ key_of c.args.u c.args.v 0 / 2 ^ 32 → ⊥
+    other : (c.place_of-place.result < length c.args.keys.now)
+        → get_or c.args.keys.now c.place_of-place.result 0 / 2 ^ 32 ≡ key_of c.args.u c.args.v 0 / 2 ^ 32 → ⊥
     other = elim c.else-place-keys.branch [
-      | else-place-keys-via-then-place-keys+else-keys-place w ↦ λ l e. w.if-keys-place.false (e ∙ sym (ap (λ x. x / 2 ^ 32) c.key_for-key.ensures))
+      | else-place-keys-via-then-place-keys+else-keys-place w ↦
+          λ l e. w.if-keys-place.false (e ∙ sym (ap (λ x. x / 2 ^ 32) c.key_for-key.ensures))
       | else-place-keys-via-else-place-keys w ↦ λ l e. absurd (omega (arith, l, w.if-place-keys.false))
     ]

@@ -7,13 +7,21 @@ use Rattle.qm_marks.proofs.ends.place_of.Goals as goal
 
 pub returns-in-Ok : goal.returns-in-Ok
 returns-in-Ok c k low above =
-    let at = searched c.args.keys.now c.args.key (Ok c.in-Ok.place) (subst (λ (r : Result ℕ ℕ). IsBinarySearchResult (λ y. nat_cmp y c.args.key) c.args.keys.now r) c.in-Ok.is c.binary_search.ensures.position) (λ i j le l. c.requires i j 0 le l) in
+    let at = searched c.args.keys.now c.args.key (Ok c.in-Ok.place)
+    (subst (λ (r : Result ℕ ℕ). IsBinarySearchResult (λ y. nat_cmp y c.args.key) c.args.keys.now r) c.in-Ok.is
+    c.binary_search.ensures.position) (λ i j le l. c.requires i j 0 le l) in
     (at.0, omega (arith, at.1), omega (arith, at.1, above))
 
 pub returns-in-Err : goal.returns-in-Err
 returns-in-Err c k low above =
-    let at = searched c.args.keys.now c.args.key (Err c.in-Err.place) (subst (λ (r : Result ℕ ℕ). IsBinarySearchResult (λ y. nat_cmp y c.args.key) c.args.keys.now r) c.in-Err.is c.binary_search.ensures.position) (λ i j le l. c.requires i j 0 le l) in
+    let at = searched c.args.keys.now c.args.key (Err c.in-Err.place)
+    (subst (λ (r : Result ℕ ℕ). IsBinarySearchResult (λ y. nat_cmp y c.args.key) c.args.keys.now r) c.in-Err.is
+    c.binary_search.ensures.position) (λ i j le l. c.requires i j 0 le l) in
     elim (cases_lt k c.in-Err.place) [
       | inl less ↦ absurd (omega (arith, at.1 k less, above))
-      | inr more ↦ (omega (arith, more, low), omega (arith, at.2 c.in-Err.place (omega arith) (omega (arith, more, low))), c.requires c.in-Err.place k 0 more low)
+      | inr more ↦ (
+        omega (arith, more, low),
+        omega (arith, at.2 c.in-Err.place (omega arith) (omega (arith, more, low))),
+        c.requires c.in-Err.place k 0 more low,
+      )
     ]

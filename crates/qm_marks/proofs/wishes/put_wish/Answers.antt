@@ -7,7 +7,8 @@ use Rattle.qm_marks.proofs.wishes.put_wish.Goals as goal
 
 pub returns-in-Some-clause-edge : goal.returns-in-Some-clause-edge
 returns-in-Some-clause-edge c =
-    sym (any_in_range (runs_between c.args.mesh.now c.args.wish.u c.args.wish.v) 0 (darts c.args.mesh.now) c.in-Some.d (omega arith)
+    sym (any_in_range (runs_between c.args.mesh.now c.args.wish.u c.args.wish.v) 0 (darts c.args.mesh.now) c.in-Some.d
+    (omega arith)
     (omega (arith, c.in-Some.ensures.some.0)) c.in-Some.ensures.some.1)
 
 pub returns-in-Some-clause-wishes : goal.returns-in-Some-clause-wishes

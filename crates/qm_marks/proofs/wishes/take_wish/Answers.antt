@@ -11,27 +11,33 @@ use Rattle.qm_marks.proofs.wishes.take_wish.Goals as goal
 
 -- The vertices of the line.
 u_is : (c : After-put_wish) → c.vertex_at.result ≡ vertex_named c.args.places.now.soup.now.names c.in-Some.said.u
-u_is c = c.vertex_at.ensures ∙ ap (λ (names : List ℕ). vertex_named names c.in-Some.said.u) (c.deref.ensures.value ∙ ap (λ (s : FaceSet). s.names) c.soup.view_is)
+u_is c = c.vertex_at.ensures ∙ ap (λ (names : List ℕ). vertex_named names c.in-Some.said.u) (c.deref.ensures.value
+    ∙ ap (λ (s : FaceSet). s.names) c.soup.view_is)
 
 v_is : (c : After-put_wish) → c.vertex_at-2.result ≡ vertex_named c.args.places.now.soup.now.names c.in-Some.said.v
-v_is c = c.vertex_at-2.ensures ∙ ap (λ (names : List ℕ). vertex_named names c.in-Some.said.v) (c.deref-2.ensures.value ∙ ap (λ (s : FaceSet). s.names) c.soup.view_is)
+v_is c = c.vertex_at-2.ensures ∙ ap (λ (names : List ℕ). vertex_named names c.in-Some.said.v) (c.deref-2.ensures.value
+    ∙ ap (λ (s : FaceSet). s.names) c.soup.view_is)
 
 -- They have an edge where a wish was put.
 edge_is : (c : After-put_wish) → c.put_wish.result ≡ is_edge c.args.places.now.soup.now.faces
-    (vertex_named c.args.places.now.soup.now.names c.in-Some.said.u) (vertex_named c.args.places.now.soup.now.names c.in-Some.said.v)
+    (vertex_named c.args.places.now.soup.now.names c.in-Some.said.u) (vertex_named c.args.places.now.soup.now.names
+    c.in-Some.said.v)
 edge_is c = c.put_wish.ensures.edge ∙ (λ i. is_edge (c.requires.keyed.same i) (u_is c i) (v_is c i))
 
 pub returns-then-put_wish-clause-took : goal.returns-then-put_wish-clause-took
 returns-then-put_wish-clause-took c =
     let at = (goal.at.returns-then-put_wish-clause-took c).After-put_wish in
     let same = c.requires.keyed.same in
-    takes_wish c.args.places.now.soup.now c.args.places.now.all c.args.number (pieces_of c.args.text.now) c.is_far.ensures.few c.in-Some.said
-    c.in-Some.ensures (sym c.is_far.ensures.far ∙ c.if-is_far.false) c.args.wishes.now c.put_wish.new.wishes (sym (edge_is at) ∙ c.if-put_wish.true)
+    takes_wish c.args.places.now.soup.now c.args.places.now.all c.args.number (pieces_of c.args.text.now)
+    c.is_far.ensures.few c.in-Some.said
+    c.in-Some.ensures (sym c.is_far.ensures.far ∙ c.if-is_far.false) c.args.wishes.now c.put_wish.new.wishes
+    (sym (edge_is at) ∙ c.if-put_wish.true)
     (λ d low. c.put_wish.ensures.wishes c.if-put_wish.true d (subst (λ (fs : Faces). d < darts fs) (sym same) low)
     ∙ (λ i. cond (runs_between (same i) (u_is at i) (v_is at i) d) c.in-Some.said.wish (get_or c.args.wishes.now d 0)))
 
 pub returns-else-put_wish-clause-refused : goal.returns-else-put_wish-clause-refused
 returns-else-put_wish-clause-refused c =
-    takes_no_edge c.args.places.now.soup.now c.args.places.now.all c.args.number (pieces_of c.args.text.now) c.is_far.ensures.few c.in-Some.said
+    takes_no_edge c.args.places.now.soup.now c.args.places.now.all c.args.number (pieces_of c.args.text.now)
+    c.is_far.ensures.few c.in-Some.said
     c.in-Some.ensures (sym c.is_far.ensures.far ∙ c.if-is_far.false)
     (sym (edge_is (goal.at.returns-else-put_wish-clause-refused c).After-put_wish) ∙ c.if-put_wish.false)

@@ -10,4 +10,5 @@ returns-then-is_blank-clause-exact c =
 
 pub returns-clause-exact : goal.returns-clause-exact
 returns-clause-exact c =
-    sym (position_or_len_is is_blank c.args.text.now (length c.args.text.now) 0 (omega arith) (λ k l. c.loop-i.invariant k (omega arith)) (λ l. absurd (omega arith)))
+    sym (position_or_len_is is_blank c.args.text.now (length c.args.text.now) 0 (omega arith)
+    (λ k l. c.loop-i.invariant k (omega arith)) (λ l. absurd (omega arith)))

@@ -8,6 +8,7 @@ use Rattle.qm_marktext.proofs.lines.push_arc.Given as goal
 
 abbrev pub invariant-loop-k : goal.invariant-loop-k
 invariant-loop-k l = record {
-  text : l.text.items ≡ (l.fn.text.items ++ LINE ∷ vertex_text l.fn.arc.first) ++ flat_map (λ vertex. SPACE ∷ decimal (vertex + 1)) (map (λ j. l.before + j) (range_with_len 0 (l.k - 1)));
+  text : l.text.items ≡ (l.fn.text.items ++ LINE ∷ vertex_text l.fn.arc.first)
+      ++ flat_map (λ vertex. SPACE ∷ decimal (vertex + 1)) (map (λ j. l.before + j) (range_with_len 0 (l.k - 1)));
   some : 1 ≤ l.k;
 }

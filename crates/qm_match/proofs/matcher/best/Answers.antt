@@ -7,4 +7,5 @@ pub new-requires-clause-costs : goal.new-requires-clause-costs
 new-requires-clause-costs c = cheap_costs (graph c.args.g.now) c.requires.small.lawful c.requires.cheap
 
 pub returns-clause-bounded : goal.returns-clause-bounded
-returns-clause-bounded c = λ most costs. best_bounded c.args.g.now.n most (dual c.run.result.1) (c.run.ensures.bounded most most (c.in_ok-matcher-2.ensures.small most costs) costs)
+returns-clause-bounded c = λ most costs. best_bounded c.args.g.now.n most (dual c.run.result.1)
+    (c.run.ensures.bounded most most (c.in_ok-matcher-2.ensures.small most costs) costs)

@@ -9,4 +9,5 @@ shown_by-requires-clause-small c =
     c.in_ok-y.ensures.long c.in_ok-y.ensures.small
 
 pub new_led-requires-clause-first : goal.new_led-requires-clause-first
-new_led-requires-clause-first c = wished_first (graph c.args.g.now) c.in_ok-y.y.items c.in_ok-y.y.items refl c.requires.small c.requires.cheap c.in_ok-y.ensures.long c.in_ok-y.ensures.small c.in_ok-y.ensures.feasible
+new_led-requires-clause-first c = wished_first (graph c.args.g.now) c.in_ok-y.y.items c.in_ok-y.y.items refl
+    c.requires.small c.requires.cheap c.in_ok-y.ensures.long c.in_ok-y.ensures.small c.in_ok-y.ensures.feasible

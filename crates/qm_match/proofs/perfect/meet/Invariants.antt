@@ -10,5 +10,6 @@ invariant-loop-e l = record {
   size : length l.seen.items ≡ l.g.n;
   low : l.next ≤ length l.g.edges.items;
   increasing : IsIncreasing 0 l.next (take l.e-index l.edges);
-  counts : (v : ℕ) → v < l.g.n → count (ends_at v) (map (edge_at (graph l.g)) (take l.e-index l.edges)) ≡ bool_number (get_or l.seen.items v false);
+  counts : (v : ℕ) → v < l.g.n → count (ends_at v) (map (edge_at (graph l.g)) (take l.e-index l.edges))
+      ≡ bool_number (get_or l.seen.items v false);
 }

@@ -11,20 +11,40 @@ left_by-left-requires-clause-ready c = (c.args.most, c.requires.ready)
 
 pub loop-entry-smaller : goal.loop-entry-smaller
 loop-entry-smaller c =
-    let low : c.loop-entry.entry - 1 < length c.args.fans.now.next.items = omega (arith, c.requires.fans.darts, c.loop-entry.invariant.low, c.loop-entry-test.true) in
-    let read : c.index-entry-in-loop-entry.result.now ≡ get_or c.args.fans.now.next.items (c.loop-entry.entry - 1) 0 = get_or_read c.args.fans.now.next.items (c.loop-entry.entry - 1) _ low c.index-entry-in-loop-entry.ensures 0 in
+    let low : c.loop-entry.entry - 1 < length c.args.fans.now.next.items =
+    omega (arith, c.requires.fans.darts, c.loop-entry.invariant.low, c.loop-entry-test.true) in
+    let read : c.index-entry-in-loop-entry.result.now ≡ get_or c.args.fans.now.next.items (c.loop-entry.entry - 1) 0 =
+    get_or_read c.args.fans.now.next.items (c.loop-entry.entry - 1) _ low c.index-entry-in-loop-entry.ensures 0 in
     omega (arith, read, c.requires.fans.nexts (c.loop-entry.entry - 1), c.loop-entry-test.true)
 
 pub loop-entry-preserved : goal.loop-entry-preserved
 loop-entry-preserved c =
-    let low : c.loop-entry.entry - 1 < length c.args.fans.now.next.items = omega (arith, c.requires.fans.darts, c.loop-entry.invariant.low, c.loop-entry-test.true) in
-    let read : c.index-entry-in-loop-entry.result.now ≡ get_or c.args.fans.now.next.items (c.loop-entry.entry - 1) 0 = get_or_read c.args.fans.now.next.items (c.loop-entry.entry - 1) _ low c.index-entry-in-loop-entry.ensures 0 in
+    let low : c.loop-entry.entry - 1 < length c.args.fans.now.next.items =
+    omega (arith, c.requires.fans.darts, c.loop-entry.invariant.low, c.loop-entry-test.true) in
+    let read : c.index-entry-in-loop-entry.result.now ≡ get_or c.args.fans.now.next.items (c.loop-entry.entry - 1) 0 =
+    get_or_read c.args.fans.now.next.items (c.loop-entry.entry - 1) _ low c.index-entry-in-loop-entry.ensures 0 in
     record {
       few = omega (arith, ints, c.min-room.ensures.self_bound, c.loop-entry.invariant.few);
-      low = omega (arith, read, c.requires.fans.nexts (c.loop-entry.entry - 1), c.loop-entry.invariant.low, c.loop-entry-test.true);
-      done = chain_room c.args.fans.now.next.items (left_to (graph c.args.g.now) c.args.y.now) _ _ c.loop-entry.entry (c.loop-entry.entry - 1) _ _ (omega (arith, c.loop-entry-test.true)) read (omega (arith, ints, c.min-room.ensures.self_bound))
-          (omega (arith, ints, c.min-room.ensures.other_bound, c.left_by-left.ensures.value, c.left_by-left.ensures.small)) c.loop-entry.invariant.done;
+      low = omega (
+        arith,
+        read,
+        c.requires.fans.nexts (c.loop-entry.entry - 1),
+        c.loop-entry.invariant.low,
+        c.loop-entry-test.true,
+      );
+      done = chain_room c.args.fans.now.next.items (left_to (graph c.args.g.now) c.args.y.now) _ _ c.loop-entry.entry
+          (c.loop-entry.entry - 1) _ _ (omega (arith, c.loop-entry-test.true)) read
+          (omega (arith, ints, c.min-room.ensures.self_bound))
+          (omega (
+            arith,
+            ints,
+            c.min-room.ensures.other_bound,
+            c.left_by-left.ensures.value,
+            c.left_by-left.ensures.small,
+          )) c.loop-entry.invariant.done;
     }
 
 pub returns : goal.returns
-returns c = chain_end (graph c.args.g.now) c.args.most c.args.y.now c.args.v _ c.args.fans.now.first.items c.args.fans.now.next.items c.loop-entry.entry c.requires.fans (omega (arith, c.loop-entry-test.false)) c.loop-entry.invariant.few c.loop-entry.invariant.done
+returns c = chain_end (graph c.args.g.now) c.args.most c.args.y.now c.args.v _ c.args.fans.now.first.items
+    c.args.fans.now.next.items c.loop-entry.entry c.requires.fans (omega (arith, c.loop-entry-test.false))
+    c.loop-entry.invariant.few c.loop-entry.invariant.done

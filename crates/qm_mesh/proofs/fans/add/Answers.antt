@@ -7,6 +7,8 @@ use Rattle.qm_mesh.proofs.fans.add.Goals as goal
 
 pub returns : goal.returns
 returns c =
-    let low : c.args.v < length c.args.fans.now.items = omega (arith, c.requires, length-map c.args.fans.now.items (λ (fan : SmallVec ℕ). fan.items)) in
+    let low : c.args.v < length c.args.fans.now.items =
+    omega (arith, c.requires, length-map c.args.fans.now.items (λ (fan : SmallVec ℕ). fan.items)) in
     rw (map-set (λ (fan : SmallVec ℕ). fan.items), c.in_ok-push.ensures.ok)
-    (ap (λ (xs : List ℕ). set (fan_lists c.args.fans.now.items) c.args.v (xs ++ c.args.d ∷ [])) (fan_read c.args.fans.now.items c.args.v _ low c.index_mut-fan.ensures.value))
+    (ap (λ (xs : List ℕ). set (fan_lists c.args.fans.now.items) c.args.v (xs ++ c.args.d ∷ []))
+    (fan_read c.args.fans.now.items c.args.v _ low c.index_mut-fan.ensures.value))

@@ -8,10 +8,16 @@ use Rattle.qm_mesh.proofs.manifold.checked_mesh.Goals as goal
 
 pub from_tables-requires : goal.from_tables-requires
 from_tables-requires c =
-    let e : vertex_count c.args.faces.now ≡ c.args.vertices = count_is c.args.faces.now c.args.vertices (below_from _ c.told-faces _ c.requires.within) (corners_from _ c.told-faces _ c.requires.used) in
+    let e : vertex_count c.args.faces.now ≡ c.args.vertices =
+    count_is c.args.faces.now c.args.vertices (below_from _ c.told-faces _ c.requires.within)
+    (corners_from _ c.told-faces _ c.requires.used) in
     record {
       mesh = record {
-        manifold = record { repeat_free = c.in_ok-check_repeats.ensures.ok; edges_once = c.in_ok-twins.ensures.once; one_fan = c.in_ok-check_fans.ensures.ok };
+        manifold = record {
+          repeat_free = c.in_ok-check_repeats.ensures.ok;
+          edges_once = c.in_ok-twins.ensures.once;
+          one_fan = c.in_ok-check_fans.ensures.ok;
+        };
         few = c.requires.few;
         used = subst (λ (n : ℕ). UsesEach n c.args.faces.now) (sym e) c.requires.used;
       };
@@ -22,7 +28,13 @@ from_tables-requires c =
 
 pub check_fans-requires : goal.check_fans-requires
 check_fans-requires c =
-    let long : length c.deref-2.result.now ≡ c.args.vertices = omega (arith, ap length c.deref-2.ensures.value, c.in_ok-fans.ensures.long, length-map c.in_ok-fans.fans.items (λ (fan : SmallVec ℕ). fan.items)) in
+    let long : length c.deref-2.result.now ≡ c.args.vertices =
+    omega (
+      arith,
+      ap length c.deref-2.ensures.value,
+      c.in_ok-fans.ensures.long,
+      length-map c.in_ok-fans.fans.items (λ (fan : SmallVec ℕ). fan.items),
+    ) in
     record {
       few = c.requires.few;
       repeat_free = c.in_ok-check_repeats.ensures.ok;

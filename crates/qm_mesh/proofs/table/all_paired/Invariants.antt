@@ -5,4 +5,5 @@ use Rattle.qm_mesh.proofs.table.all_paired.Given as goal
 
 -- The corners so far have both twins.
 abbrev pub invariant-loop-d : goal.invariant-loop-d
-invariant-loop-d l = (t : ℕ) → t < l.d-index → IsPaired l.twins (get_or l.fan t 0) × IsPaired l.twins (prev_of (get_or l.fan t 0))
+invariant-loop-d l = (t : ℕ) → t < l.d-index → IsPaired l.twins (get_or l.fan t 0)
+    × IsPaired l.twins (prev_of (get_or l.fan t 0))

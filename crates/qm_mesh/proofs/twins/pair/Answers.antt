@@ -12,16 +12,21 @@ come_back n new old e = sym (ap (λ k. take k (new ++ drop (length new) old)) e)
 
 pub edge_twice-requires-clause-first : goal.edge_twice-requires-clause-first
 edge_twice-requires-clause-first c =
-    let f : IsFirstBelow c.args.faces.now c.args.vertices (Some c.in-Some.doubled) = subst (λ (o : Option Doubled). IsFirstBelow c.args.faces.now c.args.vertices o) c.in-Some.is c.pair_all-twice.ensures.first in
+    let f : IsFirstBelow c.args.faces.now c.args.vertices (Some c.in-Some.doubled) =
+    subst (λ (o : Option Doubled). IsFirstBelow c.args.faces.now c.args.vertices o) c.in-Some.is
+    c.pair_all-twice.ensures.first in
     first_twice_from c.args.faces.now c.args.vertices _ _ c.requires.within f.0 (λ u l. f.1 u (omega arith))
 
 pub returns-clause-ok : goal.returns-clause-ok
 returns-clause-ok c =
     let a = c.pair_all-twice.ensures in
-    subst (λ twins. ArePartners c.args.faces.now twins) (sym (come_back _ c.pair_all-twice.new.twins _ (omega (arith, a.long))))
+    subst (λ twins. ArePartners c.args.faces.now twins)
+    (sym (come_back _ c.pair_all-twice.new.twins _ (omega (arith, a.long))))
     (record { long = a.long; each = λ e l. a.each e l (end_low c.args.faces.now _ _ c.requires.within l) })
 
 pub returns-clause-once : goal.returns-clause-once
 returns-clause-once c =
-    let f : IsFirstBelow c.args.faces.now c.args.vertices None = subst (λ (o : Option Doubled). IsFirstBelow c.args.faces.now c.args.vertices o) c.in-None.is c.pair_all-twice.ensures.first in
+    let f : IsFirstBelow c.args.faces.now c.args.vertices None =
+    subst (λ (o : Option Doubled). IsFirstBelow c.args.faces.now c.args.vertices o) c.in-None.is
+    c.pair_all-twice.ensures.first in
     edges_once_from c.args.faces.now c.args.vertices c.requires.within (λ u l. f u (omega arith))

@@ -3,4 +3,5 @@ use Rattle.def_layout.specs.declared.tmesh.TArc.{TArc}
 use Rattle.qm_metric.proofs.start.times_long.Given as goal
 
 abbrev pub invariant-loop-run : goal.invariant-loop-run
-invariant-loop-run l = l.lengths.items ≡ map (λ (run : TArc). l.times * length run.darts.items) (take l.run-index l.runs)
+invariant-loop-run l = l.lengths.items ≡ map (λ (run : TArc). l.times * length run.darts.items)
+    (take l.run-index l.runs)

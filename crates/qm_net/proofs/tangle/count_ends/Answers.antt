@@ -7,7 +7,13 @@ abbrev no_arc : Arc
 no_arc = record { left = record { node = 0; plus = false }; right = None; old = 0; weight = 0 }
 
 pub count_arc-requires-clause-small : goal.count_arc-requires-clause-small
-count_arc-requires-clause-small c = λ v. omega (arith, degrees_few c.args.arcs.now c.loop-arc.arc-index (length c.args.degrees.now) c.loop-arc.degrees (omega arith) c.loop-arc.invariant v)
+count_arc-requires-clause-small c =
+    λ v. omega (
+      arith,
+      degrees_few c.args.arcs.now c.loop-arc.arc-index (length c.args.degrees.now) c.loop-arc.degrees
+          (omega arith) c.loop-arc.invariant v,
+    )
 
 pub loop-arc-preserved : goal.loop-arc-preserved
-loop-arc-preserved c = degrees_more c.args.arcs.now no_arc c.loop-arc.arc-index (length c.args.degrees.now) c.loop-arc.degrees c.count_arc.new.degrees c.loop-arc-test.true c.loop-arc.invariant c.count_arc.ensures
+loop-arc-preserved c = degrees_more c.args.arcs.now no_arc c.loop-arc.arc-index (length c.args.degrees.now)
+    c.loop-arc.degrees c.count_arc.new.degrees c.loop-arc-test.true c.loop-arc.invariant c.count_arc.ensures

@@ -4,4 +4,5 @@ use Rattle.qm_obj.proofs.JoinLemmas.{no_hash}
 use Rattle.qm_obj.proofs.joining.goes_on.Goals as goal
 
 pub returns-then-last-eq-BACKSLASH : goal.returns-then-last-eq-BACKSLASH
-returns-then-last-eq-BACKSLASH c = rw c.find_byte.ensures.exact (no_hash c.args.line.now ∙ sym (rw (eq-eqb _ _ c.if-last-eq-BACKSLASH.true) refl))
+returns-then-last-eq-BACKSLASH c =
+    rw c.find_byte.ensures.exact (no_hash c.args.line.now ∙ sym (rw (eq-eqb _ _ c.if-last-eq-BACKSLASH.true) refl))

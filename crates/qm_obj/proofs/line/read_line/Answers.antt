@@ -11,4 +11,6 @@ returns-then-is_one c =
     let fits : ltb 65536 c.args.size ≡ false = le-ltb _ _ (omega arith) in
     let vertex : is_letter 118 c.next_word.result.0.now ≡ true = sym c.is_one.ensures ∙ c.if-is_one.true in
     c.read_vertex.ensures
-    ∙ sym (rw fits (by_first_word c.args.line c.args.vertices c.args.faces (words (uncommented c.args.text.now)) (words (uncommented c.next_word.result.1.now)) c.next_word.result.0.now c.next_word.ensures.first ∙ rw vertex refl))
+    ∙ sym (rw fits (by_first_word c.args.line c.args.vertices c.args.faces (words (uncommented c.args.text.now))
+    (words (uncommented c.next_word.result.1.now)) c.next_word.result.0.now c.next_word.ensures.first
+    ∙ rw vertex refl))

@@ -1,6 +1,7 @@
 use Rattle.def_io.specs.Lines.{lines_of}
 use Rattle.error_laws.proofs.Errors.{handed}
-use Rattle.qm_obj.proofs.ReadLemmas.{at_few, at_next, at_positive, at_refused, at_sizes, finished_few, finished_refused, finished_soup}
+use Rattle.qm_obj.proofs.ReadLemmas.{at_few, at_next, at_positive, at_refused, at_sizes, finished_few, finished_refused}
+use Rattle.qm_obj.proofs.ReadLemmas.{finished_soup}
 use Rattle.qm_obj.proofs.read.read_obj.Goals as goal
 
 pub finish-requires-clause-few : goal.finish-requires-clause-few
@@ -28,7 +29,10 @@ pub returns-clause-refused : goal.returns-clause-refused
 returns-clause-refused c = finished_refused _ _ _ _ _ _ _ _ c.loop-i-test.false c.loop-i.invariant c.finish.ensures.late
 
 pub loop-i-preserved : goal.loop-i-preserved
-loop-i-preserved c = at_next (lines_of c.args.lines.now) c.args.first c.loop-i.i _ c.args.after _ _ _ _ _ _ c.loop-i-test.true c.requires.within c.loop-i.invariant c.in_ok-i.ensures.next c.in_ok-i.ensures.kept
+loop-i-preserved c = at_next (lines_of c.args.lines.now) c.args.first c.loop-i.i _ c.args.after _ _ _ _ _ _
+    c.loop-i-test.true c.requires.within c.loop-i.invariant c.in_ok-i.ensures.next c.in_ok-i.ensures.kept
 
 pub returns-in_err-i-clause-refused : goal.returns-in_err-i-clause-refused
-returns-in_err-i-clause-refused c = handed _ _ _ c.from_residual.ensures.1 (λ other. at_refused (lines_of c.args.lines.now) c.args.first c.loop-i.i c.args.after _ _ _ _ c.loop-i-test.true c.requires.within c.loop-i.invariant (c.in_err-i.ensures.refused other))
+returns-in_err-i-clause-refused c =
+    handed _ _ _ c.from_residual.ensures.1 (λ other. at_refused (lines_of c.args.lines.now) c.args.first c.loop-i.i
+    c.args.after _ _ _ _ c.loop-i-test.true c.requires.within c.loop-i.invariant (c.in_err-i.ensures.refused other))

@@ -7,5 +7,6 @@ pub returns-in_err-put_face-clause-part : goal.returns-in_err-put_face-clause-pa
 returns-in_err-put_face-clause-part g c =
     let laws = g.met.T.Output in
     of_error c.from_residual.result
-    (stops_at_item g.T.Output.takes g.T.Output.stops laws.stops_later laws.stops_before face_text c.args.faces.now c.loop-face.face-index _ _ _ _
+    (stops_at_item g.T.Output.takes g.T.Output.stops laws.stops_later laws.stops_before face_text c.args.faces.now
+    c.loop-face.face-index _ _ _ _
     c.loop-face-test.true c.loop-face.invariant c.in_err-put_face.ensures.part)

@@ -9,6 +9,8 @@ pub returns-in_err-put_position-clause-part : goal.returns-in_err-put_position-c
 returns-in_err-put_position-clause-part g c =
     let laws = g.met.T.Output in
     of_error c.from_residual.result
-    (stops_at_item g.T.Output.takes g.T.Output.stops laws.stops_later laws.stops_before position_text c.args.positions.now c.loop-position.position-index
+    (stops_at_item g.T.Output.takes g.T.Output.stops laws.stops_later laws.stops_before position_text
+    c.args.positions.now c.loop-position.position-index
     c.position-item.result _ _ _ c.loop-position-test.true c.loop-position.invariant
-    (subst (λ (p : Position). g.T.Output.stops c.loop-position.out c.put_position.new.out (position_text p)) c.position-item.is c.in_err-put_position.ensures.part))
+    (subst (λ (p : Position). g.T.Output.stops c.loop-position.out c.put_position.new.out (position_text p))
+    c.position-item.is c.in_err-put_position.ensures.part))

@@ -8,18 +8,31 @@ use Rattle.qm_obj.proofs.used.keep_marked.Goals.{then-marks-k+in_ok-keep_positio
 
 pub loop-k-preserved : goal.loop-k-preserved
 loop-k-preserved c =
-    let pushed : c.push.new.self.items ≡ c.loop-k.vertices.items ++ length c.loop-k.names.items ∷ [] = grind (arith, common_steps) in
-    let before : IsKept c.args.marks.now c.args.positions.now.items c.loop-k.positions.items c.loop-k.names.items c.loop-k.k = c.loop-k.invariant.kept in
+    let pushed : c.push.new.self.items ≡ c.loop-k.vertices.items ++ length c.loop-k.names.items ∷ [] =
+    grind (arith, common_steps) in
+    let before : IsKept c.args.marks.now c.args.positions.now.items c.loop-k.positions.items c.loop-k.names.items
+    c.loop-k.k = c.loop-k.invariant.kept in
     let count : length c.loop-k.vertices.items ≡ c.loop-k.k = c.loop-k.invariant.count in
     record {
       kept = elim c.if-marks-k.branch [
-        | then-marks-k+in_ok-keep_position w ↦ rw (w.positions-is, w.names-is, w.in_ok-keep_position.ensures.positions, w.in_ok-keep_position.ensures.names)
-            (kept_mark c.args.marks.now c.args.positions.now.items c.loop-k.positions.items c.loop-k.names.items c.loop-k.k c.loop-k-test.true w.if-marks-k.true before)
+        | then-marks-k+in_ok-keep_position w ↦ rw (
+          w.positions-is,
+          w.names-is,
+          w.in_ok-keep_position.ensures.positions,
+          w.in_ok-keep_position.ensures.names,
+        )
+            (kept_mark c.args.marks.now c.args.positions.now.items c.loop-k.positions.items c.loop-k.names.items
+            c.loop-k.k c.loop-k-test.true w.if-marks-k.true before)
         | else-marks-k w ↦ rw (w.positions-is, w.names-is)
-            (kept_skip c.args.marks.now c.args.positions.now.items c.loop-k.positions.items c.loop-k.names.items c.loop-k.k w.if-marks-k.false before)
+            (kept_skip c.args.marks.now c.args.positions.now.items c.loop-k.positions.items c.loop-k.names.items
+            c.loop-k.k w.if-marks-k.false before)
       ];
-      count = ap length pushed ∙ length_push c.loop-k.vertices.items (length c.loop-k.names.items) ∙ ap (λ n. n + 1) count;
-      vertices = rw pushed (below_more (λ j. get_or (c.loop-k.vertices.items ++ length c.loop-k.names.items ∷ []) j 0 ≡ length (chosen c.args.marks.now j)) c.loop-k.k
-          (λ j l. get_or_append_left c.loop-k.vertices.items (length c.loop-k.names.items ∷ []) 0 j (omega arith) ∙ c.loop-k.invariant.vertices j l)
-          (get_or_push c.loop-k.vertices.items (length c.loop-k.names.items) 0 c.loop-k.k count ∙ ap length before.names_are));
+      count = ap length pushed ∙ length_push c.loop-k.vertices.items (length c.loop-k.names.items)
+          ∙ ap (λ n. n + 1) count;
+      vertices = rw pushed (below_more (λ j. get_or (c.loop-k.vertices.items ++ length c.loop-k.names.items ∷ []) j 0
+          ≡ length (chosen c.args.marks.now j)) c.loop-k.k
+          (λ j l. get_or_append_left c.loop-k.vertices.items (length c.loop-k.names.items ∷ []) 0 j (omega arith)
+          ∙ c.loop-k.invariant.vertices j l)
+          (get_or_push c.loop-k.vertices.items (length c.loop-k.names.items) 0 c.loop-k.k count
+          ∙ ap length before.names_are));
     }

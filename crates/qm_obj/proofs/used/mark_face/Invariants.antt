@@ -4,4 +4,5 @@ use Rattle.std.specs.List.{list_any}
 use Rattle.qm_obj.proofs.used.mark_face.Given as goal
 
 abbrev pub invariant-loop-corner : goal.invariant-loop-corner
-invariant-loop-corner l = (k : ℕ) → k < length l.initial.marks → get_or l.marks k false ≡ (get_or l.initial.marks k false || list_any (λ corner. corner == suc k) (take l.corner-index l.face))
+invariant-loop-corner l = (k : ℕ) → k < length l.initial.marks → get_or l.marks k false
+    ≡ (get_or l.initial.marks k false || list_any (λ corner. corner == suc k) (take l.corner-index l.face))

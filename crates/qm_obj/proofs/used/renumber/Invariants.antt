@@ -4,6 +4,7 @@ use Rattle.qm_obj.proofs.used.renumber.Given as goal
 abbrev pub invariant-loop-f : goal.invariant-loop-f
 invariant-loop-f l = record {
   size : length l.faces.items ≡ length l.initial.faces.items;
-  prefix : take l.f l.faces.items ≡ map (λ corners. map (λ corner. get_or l.vertices (corner - 1) 0) corners) (take l.f l.initial.faces.items);
+  prefix : take l.f l.faces.items ≡ map (λ corners. map (λ corner. get_or l.vertices (corner - 1) 0) corners)
+      (take l.f l.initial.faces.items);
   back : drop l.f l.faces.items ≡ drop l.f l.initial.faces.items;
 }

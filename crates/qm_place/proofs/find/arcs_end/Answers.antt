@@ -15,14 +15,19 @@ pub overflow_add-result : goal.overflow_add-result
 overflow_add-result c =
     let x = lengths_in c.args.placed.now.tables.now.lengths.items in
     let end : c.index.result.now ≡ before_arc x (length (plan c.args.placed.now.t.now).arcs) =
-    end_read (λ b. x b - 1) (length (plan c.args.placed.now.t.now).arcs) c.len-2.result c.index.result.now c.args.placed.now.tables.now.along.begin.items c.args.placed.now.placed.along (c.len-2.ensures ∙ c.args.placed.now.tables.now.along.begin.ok.0) c.index.ensures in
+    end_read (λ b. x b - 1) (length (plan c.args.placed.now.t.now).arcs) c.len-2.result c.index.result.now
+    c.args.placed.now.tables.now.along.begin.items c.args.placed.now.placed.along (c.len-2.ensures
+    ∙ c.args.placed.now.tables.now.along.begin.ok.0) c.index.ensures in
     omega (arith, end, c.args.placed.now.placed.few, c.len.ensures, c.args.placed.now.t.now.nodes.ok.0)
 
 pub returns : goal.returns
 returns c =
     let x = lengths_in c.args.placed.now.tables.now.lengths.items in
     let end : c.index.result.now ≡ before_arc x (length (plan c.args.placed.now.t.now).arcs) =
-    end_read (λ b. x b - 1) (length (plan c.args.placed.now.t.now).arcs) c.len-2.result c.index.result.now c.args.placed.now.tables.now.along.begin.items c.args.placed.now.placed.along (c.len-2.ensures ∙ c.args.placed.now.tables.now.along.begin.ok.0) c.index.ensures in
-    let arcs : before_arc x (length (plan c.args.placed.now.t.now).arcs) ≡ before_arc x (length c.args.placed.now.t.now.arcs.items) =
+    end_read (λ b. x b - 1) (length (plan c.args.placed.now.t.now).arcs) c.len-2.result c.index.result.now
+    c.args.placed.now.tables.now.along.begin.items c.args.placed.now.placed.along (c.len-2.ensures
+    ∙ c.args.placed.now.tables.now.along.begin.ok.0) c.index.ensures in
+    let arcs : before_arc x (length (plan c.args.placed.now.t.now).arcs)
+    ≡ before_arc x (length c.args.placed.now.t.now.arcs.items) =
     ap (before_arc x) (length-map c.args.placed.now.t.now.arcs.items path) in
     omega (arith, end, arcs, c.len.ensures, c.args.placed.now.t.now.nodes.ok.0)

@@ -4,9 +4,12 @@ use Rattle.std.specs.Int.{w128}
 use Rattle.qm_place.proofs.Casts.{weighed_is}
 use Rattle.qm_place.proofs.ways.weigh.Goals as goal
 
-here : (c : goal.After-from-3) → (to_z w128 (of_z w128 (to_z w128 (c.from.result * c.from-2.result) *ℤ to_z w128 (of_z w128 c.from-3.result))) ≡ pos (c.args.a * c.args.b) *ℤ c.args.n)
+here : (c : goal.After-from-3)
+    → (to_z w128 (of_z w128 (to_z w128 (c.from.result * c.from-2.result) *ℤ to_z w128 (of_z w128 c.from-3.result)))
+    ≡ pos (c.args.a * c.args.b) *ℤ c.args.n)
     × (unsigned_abs (pos (c.args.a * c.args.b) *ℤ c.args.n) ≤ 2 ^ 116)
-here c = weighed_is c.args.a c.args.b c.from.result c.from-2.result c.args.n c.from-3.result c.from.ensures c.from-2.ensures c.from-3.ensures
+here c = weighed_is c.args.a c.args.b c.from.result c.from-2.result c.args.n c.from-3.result c.from.ensures
+    c.from-2.ensures c.from-3.ensures
     c.requires.weights.0 c.requires.weights.1 c.requires.short
 
 pub returns-clause-value : goal.returns-clause-value

@@ -6,7 +6,8 @@ use Rattle.qm_reach.proofs.lengths.inner_points.Goals as goal
 
 pub push_start-requires-clause-small : goal.push_start-requires-clause-small
 push_start-requires-clause-small c =
-    let same : slice_index c.args.lengths.now c.loop-length.length-index ≡ get_or c.args.lengths.now c.loop-length.length-index 0 = refl in
+    let same : slice_index c.args.lengths.now c.loop-length.length-index
+    ≡ get_or c.args.lengths.now c.loop-length.length-index 0 = refl in
     omega (
       arith,
       same,

@@ -8,5 +8,6 @@ use Rattle.qm_reach.proofs.sides.side_tables.Given as goal
 abbrev pub invariant-loop-patch : goal.invariant-loop-patch
 invariant-loop-patch l = record {
   count : length l.tables.items ≡ l.patch;
-  each : (p : ℕ) → p < l.patch → AreFourStarts (plan l.t) (lengths_in l.lengths) p (get_or (tables_of l.tables.items) p []);
+  each : (p : ℕ) → p < l.patch
+      → AreFourStarts (plan l.t) (lengths_in l.lengths) p (get_or (tables_of l.tables.items) p []);
 }

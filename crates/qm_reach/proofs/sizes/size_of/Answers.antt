@@ -9,7 +9,8 @@ pub overflow_add-size : goal.overflow_add-size
 overflow_add-size c =
     omega (
       arith,
-      term_room (sizes_on c.args.side.now (lengths_in c.args.lengths.now)) (length c.args.side.now) c.loop-used.used-index c.loop-used-test.true,
+      term_room (sizes_on c.args.side.now (lengths_in c.args.lengths.now)) (length c.args.side.now)
+          c.loop-used.used-index c.loop-used-test.true,
       read_size c.args.side.now (lengths_in c.args.lengths.now) c.loop-used.used-index c.loop-used-test.true,
       c.loop-used.invariant,
       c.requires.small,

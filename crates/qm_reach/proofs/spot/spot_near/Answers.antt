@@ -7,7 +7,8 @@ use Rattle.qm_reach.proofs.Spots.{spot_between}
 use Rattle.qm_reach.proofs.spot.spot_near.Goals as goal
 
 -- A run that holds a place is the run there.
-held : (starts : List ℕ) (run place : ℕ) → (run + 1 < length starts) × (slice_index starts run ≤ place) × (place < slice_index starts (run + 1))
+held : (starts : List ℕ) (run place : ℕ) → (run + 1 < length starts) × (slice_index starts run ≤ place)
+    × (place < slice_index starts (run + 1))
     → (sizes : ℕ → ℕ) (runs : ℕ) → AreRunStarts sizes runs starts → run ≡ run_at (count_below sizes) runs place
 held starts run place holds sizes runs are =
     sym (spot_between sizes runs place run (omega (arith, holds.0, are.count))
@@ -18,4 +19,5 @@ pub returns-then-holds-clause-run : goal.returns-then-holds-clause-run
 returns-then-holds-clause-run c = held c.args.starts.now c.args.near c.args.place (c.holds.ensures c.if-holds.true)
 
 pub returns-then-holds-2-clause-run : goal.returns-then-holds-2-clause-run
-returns-then-holds-2-clause-run c = held c.args.starts.now c.saturating_add-next.result c.args.place (c.holds-2.ensures c.if-holds-2.true)
+returns-then-holds-2-clause-run c = held c.args.starts.now c.saturating_add-next.result c.args.place
+    (c.holds-2.ensures c.if-holds-2.true)

@@ -8,22 +8,27 @@ use Rattle.def_layout.specs.Plans.{layout_of, plan, Plan}
 use Rattle.def_layout.specs.declared.tmesh.TArc.{TArc}
 use Rattle.def_layoutnet.specs.MeshLayouts.{IsSomeLayout}
 use Rattle.def_remesh.specs.NewPoints.{lengths_in, multiple_of}
-use Rattle.qm_refine.proofs.Multiplied.{are_multiples, arcs_short, multiple_few, multiple_is, multiples_of, multiples_told}
+use Rattle.qm_refine.proofs.Multiplied.{are_multiples, arcs_short, multiple_few, multiple_is, multiples_of}
+use Rattle.qm_refine.proofs.Multiplied.{multiples_told}
 use Rattle.qm_refine.proofs.lengths.multiples.Goals as goal
 
 pub overflow_mul-from : goal.overflow_mul-from
 overflow_mul-from c =
     let t = c.layout-layout.result.now in
     let arc = c.arc-item.result in
-    let read : arc ≡ get_or t.arcs.items c.loop-arc.arc-index arc = c.arc-item.is ∙ ap (λ xs. get_or xs c.loop-arc.arc-index arc) c.deref-arc-items.ensures.value in
-    let is : IsSomeLayout (plan t) = subst IsSomeLayout (sym c.layout-layout.ensures.plan) c.layout-layout.ensures.laid.0 in
+    let read : arc ≡ get_or t.arcs.items c.loop-arc.arc-index arc =
+    c.arc-item.is ∙ ap (λ xs. get_or xs c.loop-arc.arc-index arc) c.deref-arc-items.ensures.value in
+    let is : IsSomeLayout (plan t) =
+    subst IsSomeLayout (sym c.layout-layout.ensures.plan) c.layout-layout.ensures.laid.0 in
     let short : length arc.darts.items < 2 ^ 32 =
     subst (λ (run : TArc). length run.darts.items < 2 ^ 32) (sym read)
-    (arcs_short t is c.loop-arc.arc-index arc (omega (arith, c.loop-arc-test.true, ap length c.deref-arc-items.ensures.value))) in
+    (arcs_short t is c.loop-arc.arc-index arc
+    (omega (arith, c.loop-arc-test.true, ap length c.deref-arc-items.ensures.value))) in
     let long : c.len-in-loop-arc.result ≡ length arc.darts.items = c.len-in-loop-arc.ensures ∙ arc.darts.ok.0 in
     omega (
       arith,
-      mul-le c.from.result c.len-in-loop-arc.result 1000 (2 ^ 32) (omega (arith, c.from.ensures, c.requires.few)) (omega (arith, long, short)),
+      mul-le c.from.result c.len-in-loop-arc.result 1000 (2 ^ 32) (omega (arith, c.from.ensures, c.requires.few))
+          (omega (arith, long, short)),
     )
 
 value : (c : goal.After-loop-arc) → c.loop-arc.lengths.items ≡ multiples_of c.args.by c.args.cut.now.plan.arcs
@@ -34,7 +39,8 @@ value c =
     ∙ multiples_told c.args.by c.layout-layout.result.now.arcs.items
     ∙ ap (λ (plan : Plan). multiples_of c.args.by plan.arcs) c.layout-layout.ensures.plan
 
-same : (c : goal.After-loop-arc) → lengths_in c.loop-arc.lengths.items ≡ multiple_of c.args.by (long_at c.args.cut.now.plan.arcs)
+same : (c : goal.After-loop-arc) → lengths_in c.loop-arc.lengths.items
+    ≡ multiple_of c.args.by (long_at c.args.cut.now.plan.arcs)
 same c = multiple_is c.args.by c.args.cut.now.plan.arcs c.loop-arc.lengths.items (value c)
 
 pub returns-clause-value : goal.returns-clause-value

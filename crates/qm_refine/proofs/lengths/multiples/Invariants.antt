@@ -3,4 +3,5 @@ use Rattle.def_layout.specs.declared.tmesh.TArc.{TArc}
 use Rattle.qm_refine.proofs.lengths.multiples.Given as goal
 
 abbrev pub invariant-loop-arc : goal.invariant-loop-arc
-invariant-loop-arc l = l.lengths.items ≡ map (λ (arc : TArc). l.by * length arc.darts.items) (take l.arc-index l.arc-items)
+invariant-loop-arc l = l.lengths.items ≡ map (λ (arc : TArc). l.by * length arc.darts.items)
+    (take l.arc-index l.arc-items)

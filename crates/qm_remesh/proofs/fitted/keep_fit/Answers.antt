@@ -18,19 +18,23 @@ wish c = aimed c.args.fit.now.aim c.args.cut.now.soup c.args.wishes.now
 -- The network of the settings that are kept.
 net : (c : After-fit_settings) → IsNetFor (wish c) c.args.cut.now.plan c.fit_settings.result (network c.in_ok-net.net)
 net c =
-    subst (λ (s : Settings). IsNetFor (wish c) c.args.cut.now.plan s (network c.in_ok-net.net)) (sym c.fit_settings.ensures) c.in_ok-net.ensures.net
+    subst (λ (s : Settings). IsNetFor (wish c) c.args.cut.now.plan s (network c.in_ok-net.net))
+    (sym c.fit_settings.ensures) c.in_ok-net.ensures.net
 
 pub returns-in_err-kept-clause-refused : goal.returns-in_err-kept-clause-refused
 returns-in_err-kept-clause-refused c =
     let at = (goal.at.returns-in_err-kept-clause-refused c).After-fit_settings in
     handed _ _ (Layout c.in_err-kept.field-0.0) c.from_residual-in_err-kept.ensures.1
-    (no_mesh c.args.fit.now.aim (wish at) c.args.cut.now.plan (fit_settings c.args.fit.now) c.in_err-kept.field-0.0 c.in_ok-net.ensures.near
-    (subst (λ (s : Settings). IsLayoutFail (wish at) c.args.cut.now.plan s false c.in_err-kept.field-0.0) c.fit_settings.ensures
+    (no_mesh c.args.fit.now.aim (wish at) c.args.cut.now.plan (fit_settings c.args.fit.now) c.in_err-kept.field-0.0
+    c.in_ok-net.ensures.near
+    (subst (λ (s : Settings). IsLayoutFail (wish at) c.args.cut.now.plan s false c.in_err-kept.field-0.0)
+    c.fit_settings.ensures
     (c.in_err-kept.ensures.refused (wish at) (net at))))
 
 pub returns-clause-kept : goal.returns-clause-kept
 returns-clause-kept c =
     let at = (goal.at.returns-clause-kept c).After-fit_settings in
     subst
-    (λ (s : Settings). IsKept (wish at) c.args.cut.now.plan s false (certificates_of c.in_ok-kept.kept.certs) c.in_ok-kept.kept.numbering)
+    (λ (s : Settings). IsKept (wish at) c.args.cut.now.plan s false (certificates_of c.in_ok-kept.kept.certs)
+    c.in_ok-kept.kept.numbering)
     c.fit_settings.ensures (c.in_ok-kept.ensures.kept (wish at) (net at))

@@ -17,5 +17,6 @@ solve_near-requires c =
       tangle = has.1.untangled;
       start = subst (λ (xs : List ℕ). IsStartOf (network c.args.net.now) xs)
           (sym (c.in_ok-start-in_default.ensures ∙ ap (times_long c.args.fit.now.floor) c.layout.ensures.plan))
-          (start_law has.0 plan (fit_settings c.args.fit.now) (network c.args.net.now) has.1 wishes.0 wishes.1 wishes.2);
+          (start_law has.0 plan (fit_settings c.args.fit.now) (network c.args.net.now) has.1 wishes.0 wishes.1
+          wishes.2);
     }

@@ -9,25 +9,30 @@ use Rattle.qm_remesh.proofs.keeping.keep_solved.Goals as goal
 
 pub plan_over-requires-clause-lengths : goal.plan_over-requires-clause-lengths
 plan_over-requires-clause-lengths c =
-    are_lengths _ c.args.asked.settings (network c.args.net) c.args.first _ c.requires.net.1 c.requires.solved c.deref.ensures.value
+    are_lengths _ c.args.asked.settings (network c.args.net) c.args.first _ c.requires.net.1 c.requires.solved
+    c.deref.ensures.value
 
 pub raise-requires-clause-coarse : goal.raise-requires-clause-coarse
 raise-requires-clause-coarse c =
-    (doubled_first _ _ _ c.in-Err-Doubled.field-0 _ _ c.deref.ensures.value c.in-Err-Doubled.field-0-is c.in-Err-Doubled.ensures.refused).0
+    (doubled_first _ _ _ c.in-Err-Doubled.field-0 _ _ c.deref.ensures.value c.in-Err-Doubled.field-0-is
+    c.in-Err-Doubled.ensures.refused).0
 
 pub raise-requires-clause-doubled : goal.raise-requires-clause-doubled
 raise-requires-clause-doubled c =
-    doubled_some _ _ _ _ (doubled_first _ _ _ c.in-Err-Doubled.field-0 _ _ c.deref.ensures.value c.in-Err-Doubled.field-0-is c.in-Err-Doubled.ensures.refused).1
+    doubled_some _ _ _ _ (doubled_first _ _ _ c.in-Err-Doubled.field-0 _ _ c.deref.ensures.value
+    c.in-Err-Doubled.field-0-is c.in-Err-Doubled.ensures.refused).1
 
 pub returns-in-Err-Doubled-clause-kept : goal.returns-in-Err-Doubled-clause-kept
 returns-in-Err-Doubled-clause-kept c = λ wish for.
     subst
-    (λ (b : Bool). IfOk c.raise.result (λ kept. IsKept wish c.args.cut.now.plan c.args.asked.settings b (certificates_of kept.certs) kept.numbering))
+    (λ (b : Bool). IfOk c.raise.result (λ kept. IsKept wish c.args.cut.now.plan c.args.asked.settings b
+    (certificates_of kept.certs) kept.numbering))
     (sym c.if-asked.true) (c.raise.ensures.kept wish for)
 
 pub returns-in-Err-Doubled-clause-refused : goal.returns-in-Err-Doubled-clause-refused
 returns-in-Err-Doubled-clause-refused c = λ wish for.
-    subst (λ (b : Bool). IfErr c.raise.result (IsLayoutFail wish c.args.cut.now.plan c.args.asked.settings b)) (sym c.if-asked.true)
+    subst (λ (b : Bool). IfErr c.raise.result (IsLayoutFail wish c.args.cut.now.plan c.args.asked.settings b))
+    (sym c.if-asked.true)
     (c.raise.ensures.refused wish for)
 
 pub returns-in-Ok-clause-kept : goal.returns-in-Ok-clause-kept
@@ -44,7 +49,8 @@ returns-in-Ok-clause-kept c = λ wish for.
 pub returns-in-Err-TooFine-clause-refused : goal.returns-in-Err-TooFine-clause-refused
 returns-in-Err-TooFine-clause-refused c = λ wish for. (
   solved _ c.args.asked.settings (network c.args.net) c.args.first for c.requires.solved,
-  too_fine _ _ _ c.in-Err-TooFine.field-0 _ c.deref.ensures.value c.in-Err-TooFine.field-0-is c.in-Err-TooFine.ensures.refused,
+  too_fine _ _ _ c.in-Err-TooFine.field-0 _ c.deref.ensures.value c.in-Err-TooFine.field-0-is
+      c.in-Err-TooFine.ensures.refused,
 )
 
 pub returns-in-Err-Doubled-2-clause-refused : goal.returns-in-Err-Doubled-2-clause-refused
@@ -54,7 +60,8 @@ returns-in-Err-Doubled-2-clause-refused c = λ wish for.
     let certified = solved _ c.args.asked.settings (network c.args.net) c.args.first for c.requires.solved in
     record {
       given = c.if-asked.false;
-      low = low_floor _ c.args.asked.settings c.args.first _ c.plan_over.result c.in-Err-Doubled.field-0 _ _ c.deref.ensures.value
+      low = low_floor _ c.args.asked.settings c.args.first _ c.plan_over.result c.in-Err-Doubled.field-0 _ _
+          c.deref.ensures.value
           certified c.plan_over.ensures.safe c.in-Err-Doubled.is c.in-Err-Doubled.field-0-is;
       certified = certified;
       coarse = both.0;

@@ -11,7 +11,8 @@ solve-requires-clause-even c = raised_even (network c.args.net) _ c.requires.eve
 pub plan_over-requires-clause-lengths : goal.plan_over-requires-clause-lengths
 plan_over-requires-clause-lengths c =
     are_lengths _ (with_floor c.args.settings 3) (network c.with_floor-raised.result) c.in_ok-cert.cert _
-    (raised_net _ c.args.settings (network c.args.net) (network c.with_floor-raised.result) c.requires.net.1 c.with_floor-raised.ensures) c.in_ok-cert.ensures c.deref.ensures.value
+    (raised_net _ c.args.settings (network c.args.net) (network c.with_floor-raised.result) c.requires.net.1
+    c.with_floor-raised.ensures) c.in_ok-cert.ensures c.deref.ensures.value
 
 pub plan_over-requires-clause-bounded : goal.plan_over-requires-clause-bounded
 plan_over-requires-clause-bounded c =
@@ -25,7 +26,8 @@ returns-in-Ok-clause-kept c = λ wish for.
       c.requires.coarse,
       c.requires.doubled,
       solved _ (with_floor c.args.settings 3) (network c.with_floor-raised.result) c.in_ok-cert.cert
-          (raised_net _ c.args.settings (network c.args.net) (network c.with_floor-raised.result) for c.with_floor-raised.ensures) c.in_ok-cert.ensures,
+          (raised_net _ c.args.settings (network c.args.net) (network c.with_floor-raised.result) for
+          c.with_floor-raised.ensures) c.in_ok-cert.ensures,
     )
     (record {
       numbering = c.in-Ok.ensures.numbering;
@@ -42,8 +44,10 @@ returns-in-Err-TooFine-clause-refused c = λ wish for. (
     c.requires.coarse,
     c.requires.doubled,
     solved _ (with_floor c.args.settings 3) (network c.with_floor-raised.result) c.in_ok-cert.cert
-        (raised_net _ c.args.settings (network c.args.net) (network c.with_floor-raised.result) for c.with_floor-raised.ensures) c.in_ok-cert.ensures,
+        (raised_net _ c.args.settings (network c.args.net) (network c.with_floor-raised.result) for
+        c.with_floor-raised.ensures) c.in_ok-cert.ensures,
   ),
   subst (λ (n : ℕ). AreTooFine c.args.cut.now.plan c.in_ok-cert.cert.x.items n) (sym c.in-Err-TooFine.faces-is)
-      (too_fine _ _ _ c.in-Err-TooFine.field-0 _ c.deref.ensures.value c.in-Err-TooFine.field-0-is c.in-Err-TooFine.ensures.refused),
+      (too_fine _ _ _ c.in-Err-TooFine.field-0 _ c.deref.ensures.value c.in-Err-TooFine.field-0-is
+      c.in-Err-TooFine.ensures.refused),
 )

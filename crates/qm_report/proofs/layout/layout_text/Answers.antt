@@ -16,12 +16,17 @@ returns c =
     let kept = option_copied c.args.kept in
     let first = c.mesh.ensures in
     let seeds = c.deref-2.ensures.value ∙ c.in_ok-sources.ensures.seeds_are ∙ ap (λ (fs : Faces). seeds_of fs) first in
-    let head = c.in_ok-push_head.ensures ∙ ap (λ (t : List ℕ). t ++ layout_head c.args.keep c.args.patches) c.new-text.ensures.items in
+    let head = c.in_ok-push_head.ensures ∙ ap (λ (t : List ℕ). t ++ layout_head c.args.keep c.args.patches)
+    c.new-text.ensures.items in
     let counts = c.in_ok-push_counts.ensures ∙ (λ i. head i ++ counts_line (c.mesh-2.ensures i)) in
-    let named = c.in_ok-push_named.ensures ∙ ap (λ (t : List ℕ). t ++ flat_map (named_line soup) (all_vertices faces)) counts in
-    let seeded = c.in_ok-push_seeds.ensures ∙ (λ i. named i ++ flat_map (λ v. seed_line (place_in_file soup.names v)) (seeds i)) in
-    let broken = c.in_ok-push_breaks.ensures ∙ ap (λ (t : List ℕ). t ++ flat_map (break_line soup kept) (all_vertices faces)) seeded in
+    let named = c.in_ok-push_named.ensures ∙ ap (λ (t : List ℕ). t ++ flat_map (named_line soup) (all_vertices faces))
+    counts in
+    let seeded = c.in_ok-push_seeds.ensures
+    ∙ (λ i. named i ++ flat_map (λ v. seed_line (place_in_file soup.names v)) (seeds i)) in
+    let broken = c.in_ok-push_breaks.ensures
+    ∙ ap (λ (t : List ℕ). t ++ flat_map (break_line soup kept) (all_vertices faces)) seeded in
     let arcs = c.in_ok-push_arcs.ensures
     ∙ ap (λ (t : List ℕ). t ++ flat_map (whole_arc_line soup kept here) (range_with_len 0 (length here.arcs))) broken in
     c.in_ok-push_patches.ensures
-    ∙ (λ i. arcs i ++ flat_map (patch_lines (c.layout.ensures.plan i)) (range_with_len 0 (length (c.layout.ensures.plan i).patches)))
+    ∙ (λ i. arcs i ++ flat_map (patch_lines (c.layout.ensures.plan i))
+    (range_with_len 0 (length (c.layout.ensures.plan i).patches)))

@@ -6,4 +6,5 @@ use Rattle.qm_report.proofs.layout.push_along.Given as goal
 
 abbrev pub invariant-loop-dart : goal.invariant-loop-dart
 invariant-loop-dart l = l.text.items ≡ l.fn.text.items
-    ++ numbers_text (map (λ d. place_in_file l.cut.soup.names (from_of l.cut.soup.faces d) + 1) (take l.dart-index l.along))
+    ++ numbers_text (map (λ d. place_in_file l.cut.soup.names (from_of l.cut.soup.faces d) + 1)
+    (take l.dart-index l.along))

@@ -17,7 +17,8 @@ push_along-requires c =
     omega (arith, c.requires, ap (λ (p : Plan). length p.arcs) c.layout-t.ensures.plan, length-map t.arcs.items path) in
     let read : path_at cut.plan.arcs c.args.a ≡ path arc =
     arc_read t cut.plan c.args.a arc c.layout-t.ensures.plan c.requires less c.index-arc.ensures in
-    along_low cut.soup.faces cut.plan c.layout-t.ensures.laid c.args.a arc c.deref.result.now c.requires read c.deref.ensures.value
+    along_low cut.soup.faces cut.plan c.layout-t.ensures.laid c.args.a arc c.deref.result.now c.requires read
+    c.deref.ensures.value
 
 pub index-requires : goal.index-requires
 index-requires c =
@@ -54,7 +55,8 @@ returns c =
     c.from.ensures ∙ c.place_in_file-last.ensures ∙ (λ i. place_in_file (c.names.ensures.value i) (vertex i)) in
     let many : c.len.result ≡ length arc.darts.items = c.len.ensures ∙ arc.darts.ok.0 in
     let t0 = c.args.text.now.items in
-    let line = line_behind c.arc_word-word.result.now (along_numbers cut.soup c.deref.result.now) (c.args.a + 1) c.len.result (c.from.result + 1)
+    let line = line_behind c.arc_word-word.result.now (along_numbers cut.soup c.deref.result.now) (c.args.a + 1)
+    c.len.result (c.from.result + 1)
     t0 _ _ _ _ _
     c.in_ok-extend_from_slice.ensures.items c.in_ok-push_numbers.ensures c.in_ok-push_along.ensures
     c.in_ok-push_spaced.ensures c.in_ok-push.ensures.items in

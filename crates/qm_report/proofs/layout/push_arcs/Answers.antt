@@ -11,7 +11,8 @@ use Rattle.qm_report.proofs.layout.push_arcs.Goals as goal
 pub loop-a-preserved : goal.loop-a-preserved
 loop-a-preserved c =
     let cut = c.args.cut.now in
-    piece_behind (whole_arc_line cut.soup (option_copied c.args.kept) cut.plan) c.loop-a.a c.args.text.now.items c.loop-a.text.items
+    piece_behind (whole_arc_line cut.soup (option_copied c.args.kept) cut.plan) c.loop-a.a c.args.text.now.items
+    c.loop-a.text.items
     c.push_arc.new.text.items c.loop-a.invariant c.in_ok-push_arc.ensures
 
 pub returns : goal.returns
@@ -29,5 +30,6 @@ returns c =
       ap (λ (p : Plan). length p.arcs) c.layout.ensures.plan,
     ) in
     subst
-    (λ (n : ℕ). c.loop-a.text.items ≡ c.args.text.now.items ++ flat_map (whole_arc_line cut.soup (option_copied c.args.kept) cut.plan) (range_with_len 0 n))
+    (λ (n : ℕ). c.loop-a.text.items ≡ c.args.text.now.items
+    ++ flat_map (whole_arc_line cut.soup (option_copied c.args.kept) cut.plan) (range_with_len 0 n))
     all c.loop-a.invariant

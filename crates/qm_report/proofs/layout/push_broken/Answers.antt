@@ -1,4 +1,5 @@
-use Rattle.std.proofs.Common.{◌≡◌, ◌<◌, ◌+◌, ℕ, Bool, true, false, List, [], ◌∷◌, ◌++◌, Some, length, get_or, codes, sym, ap, ◌∙◌, arith}
+use Rattle.std.proofs.Common.{◌≡◌, ◌<◌, ◌+◌, ℕ, Bool, true, false, List, [], ◌∷◌, ◌++◌, Some, length, get_or, codes}
+use Rattle.std.proofs.Common.{sym, ap, ◌∙◌, arith}
 use Rattle.std.specs.List.{range_with_len}
 use Rattle.std.proofs.lemmas.List.{length-map}
 use Rattle.std.proofs.lemmas.List.FromFn.{get_or-map-range_with_len, length-range_with_len}
@@ -41,12 +42,16 @@ loop-v-preserved c =
     elim c.if-index.branch [
       | then-index+in_ok-push_line w ↦
           let is : is_break soup.faces marks v ≡ true = sym broken ∙ w.if-index.true in
-          let line : w.push_line.new.text.items ≡ t ++ numbers_line (codes "break") ((place_in_file soup.names v + 1) ∷ []) =
+          let line : w.push_line.new.text.items ≡ t ++ numbers_line (codes "break") ((place_in_file soup.names v + 1)
+          ∷ []) =
           w.in_ok-push_line.ensures
           ∙ ap (λ (n : ℕ). t ++ numbers_line (codes "break") ((n + 1) ∷ []))
-          (w.from.ensures ∙ w.place_in_file.ensures ∙ ap (λ (names : List ℕ). place_in_file names v) c.names-names.ensures.value) in
-          rw w.text-is (piece_behind (break_line soup (Some marks)) v t0 t w.push_line.new.text.items c.loop-v.invariant (rw is line))
+          (w.from.ensures ∙ w.place_in_file.ensures ∙ ap (λ (names : List ℕ). place_in_file names v)
+          c.names-names.ensures.value) in
+          rw w.text-is (piece_behind (break_line soup (Some marks)) v t0 t w.push_line.new.text.items c.loop-v.invariant
+          (rw is line))
       | else-index w ↦
           let is : is_break soup.faces marks v ≡ false = sym broken ∙ w.if-index.false in
-          rw w.text-is (piece_behind (break_line soup (Some marks)) v t0 t t c.loop-v.invariant (rw is (nothing_behind t)))
+          rw w.text-is (piece_behind (break_line soup (Some marks)) v t0 t t c.loop-v.invariant
+          (rw is (nothing_behind t)))
     ]

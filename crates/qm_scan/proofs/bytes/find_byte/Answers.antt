@@ -5,8 +5,10 @@ use Rattle.qm_scan.proofs.bytes.find_byte.Goals as goal
 
 pub returns-then-byte-wanted-clause-exact : goal.returns-then-byte-wanted-clause-exact
 returns-then-byte-wanted-clause-exact c =
-    sym (position_or_len_is (λ b. eqb b c.args.wanted) c.args.text.now c.loop-i.i 0 (omega arith) c.loop-i.invariant (λ _. eq-eqb _ _ c.if-byte-wanted.true))
+    sym (position_or_len_is (λ b. eqb b c.args.wanted) c.args.text.now c.loop-i.i 0 (omega arith) c.loop-i.invariant
+    (λ _. eq-eqb _ _ c.if-byte-wanted.true))
 
 pub returns-clause-exact : goal.returns-clause-exact
 returns-clause-exact c =
-    sym (position_or_len_is (λ b. eqb b c.args.wanted) c.args.text.now (length c.args.text.now) 0 (omega arith) (λ k l. c.loop-i.invariant k (omega arith)) (λ l. absurd (omega arith)))
+    sym (position_or_len_is (λ b. eqb b c.args.wanted) c.args.text.now (length c.args.text.now) 0 (omega arith)
+    (λ k l. c.loop-i.invariant k (omega arith)) (λ l. absurd (omega arith)))

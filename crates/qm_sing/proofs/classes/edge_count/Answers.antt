@@ -6,10 +6,30 @@ use Rattle.qm_sing.proofs.classes.edge_count.Goals.{then-is_lesser_dart, else-is
 use Rattle.qm_sing.proofs.classes.edge_count.Goals as goal
 
 pub overflow_add-edges : goal.overflow_add-edges
-overflow_add-edges c = omega (arith, c.loop-d.invariant, filter_few (λ d. is_lesser d (twin_of c.args.mesh.now d)) c.loop-d.d, c.loop-d-test.true, c.faces.ensures.mesh.few, ap Rattle.std.proofs.Common.length c.faces.ensures.value)
+overflow_add-edges c = omega (
+  arith,
+  c.loop-d.invariant,
+  filter_few (λ d. is_lesser d (twin_of c.args.mesh.now d))
+      c.loop-d.d,
+  c.loop-d-test.true,
+  c.faces.ensures.mesh.few,
+  ap Rattle.std.proofs.Common.length c.faces.ensures.value,
+)
 
 pub loop-d-preserved : goal.loop-d-preserved
 loop-d-preserved c = elim c.if-is_lesser_dart.branch [
-  | then-is_lesser_dart w ↦ omega (arith, w.edges-is, c.loop-d.invariant, one_more (λ d. is_lesser d (twin_of c.args.mesh.now d)) c.loop-d.d, ap {B = ℕ} (λ (b : Bool). cond b 1 0) w.if-is_lesser_dart.ensures)
-  | else-is_lesser_dart w ↦ omega (arith, w.edges-is, c.loop-d.invariant, one_more (λ d. is_lesser d (twin_of c.args.mesh.now d)) c.loop-d.d, ap {B = ℕ} (λ (b : Bool). cond b 1 0) w.if-is_lesser_dart.ensures)
+  | then-is_lesser_dart w ↦ omega (
+    arith,
+    w.edges-is,
+    c.loop-d.invariant,
+    one_more (λ d. is_lesser d (twin_of c.args.mesh.now d)) c.loop-d.d,
+    ap {B = ℕ} (λ (b : Bool). cond b 1 0) w.if-is_lesser_dart.ensures,
+  )
+  | else-is_lesser_dart w ↦ omega (
+    arith,
+    w.edges-is,
+    c.loop-d.invariant,
+    one_more (λ d. is_lesser d (twin_of c.args.mesh.now d)) c.loop-d.d,
+    ap {B = ℕ} (λ (b : Bool). cond b 1 0) w.if-is_lesser_dart.ensures,
+  )
 ]

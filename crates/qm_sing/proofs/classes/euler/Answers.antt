@@ -4,4 +4,12 @@ use Rattle.qm_sing.proofs.Edges.{used_is}
 use Rattle.qm_sing.proofs.classes.euler.Goals as goal
 
 pub returns : goal.returns
-returns c = ap Ok (omega (arith, ints, c.vertices.ensures.value, c.edge_count.ensures, ap length c.faces.ensures.value, used_is c.args.mesh.now c.faces.ensures.mesh, c.faces.ensures.mesh.few))
+returns c = ap Ok (omega (
+  arith,
+  ints,
+  c.vertices.ensures.value,
+  c.edge_count.ensures,
+  ap length c.faces.ensures.value,
+  used_is c.args.mesh.now c.faces.ensures.mesh,
+  c.faces.ensures.mesh.few,
+))

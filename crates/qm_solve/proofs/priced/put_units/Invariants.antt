@@ -4,4 +4,5 @@ use Rattle.qm_solve.proofs.priced.put_units.Given as goal
 
 -- As many numbers as before, none too far from 0.
 abbrev pub invariant-loop : goal.invariant-loop
-invariant-loop l = (length l.wishes.numbers.items ≡ length l.initial.wishes.numbers.items) × AreNear l.wishes.numbers.items
+invariant-loop l = (length l.wishes.numbers.items ≡ length l.initial.wishes.numbers.items)
+    × AreNear l.wishes.numbers.items

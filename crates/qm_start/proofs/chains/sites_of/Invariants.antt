@@ -5,4 +5,5 @@ use Rattle.qm_start.proofs.chains.sites_of.Given as goal
 
 abbrev pub invariant-loop-end : goal.invariant-loop-end
 invariant-loop-end l = (length l.sites.items ≡ l.net.nodes)
-    × All (λ (site : Site). (site.one < 2 * length l.net.arcs.items) × (site.two < 2 * length l.net.arcs.items)) l.sites.items
+    × All (λ (site : Site). (site.one < 2 * length l.net.arcs.items) × (site.two < 2 * length l.net.arcs.items))
+    l.sites.items

@@ -16,4 +16,6 @@ returns-in-Some-clause-search c = let s = c.requires.search in let nodes = c.arg
 }
 
 pub returns-in-Some-clause-node : goal.returns-in-Some-clause-node
-returns-in-Some-clause-node c = All-head (IsKey c.args.cover.now.nodes) _ _ (All-permutation (IsKey c.args.cover.now.nodes) _ _ c.in-Some.ensures.permutation c.requires.search.beyond)
+returns-in-Some-clause-node c =
+    All-head (IsKey c.args.cover.now.nodes) _ _ (All-permutation (IsKey c.args.cover.now.nodes) _ _
+    c.in-Some.ensures.permutation c.requires.search.beyond)

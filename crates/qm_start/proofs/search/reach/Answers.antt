@@ -11,9 +11,12 @@ returns-in_ok-push-3 c = let s = c.requires.search in let nodes = c.args.cover.n
   distance = length-set _ c.args.node c.args.distance ∙ s.distance;
   by = length-set _ c.args.node c.args.by ∙ s.by;
   done = s.done;
-  steps = All-set (λ (step : Step). step.way < way_count c.args.cover.now) _ c.args.node c.args.by c.requires.by s.steps;
-  reached = All-same (λ node. node < nodes) _ _ c.in_ok-push.ensures.items (All-push (λ node. node < nodes) _ c.args.node s.reached c.requires.node);
+  steps = All-set (λ (step : Step). step.way < way_count c.args.cover.now) _ c.args.node c.args.by c.requires.by
+      s.steps;
+  reached = All-same (λ node. node < nodes) _ _ c.in_ok-push.ensures.items
+      (All-push (λ node. node < nodes) _ c.args.node s.reached c.requires.node);
   settled = s.settled;
   near = s.near;
-  beyond = All-permutation (IsKey nodes) _ _ c.in_ok-push-3.ensures.permutation (All-cons (IsKey nodes) _ _ c.requires.node s.beyond);
+  beyond = All-permutation (IsKey nodes) _ _ c.in_ok-push-3.ensures.permutation
+      (All-cons (IsKey nodes) _ _ c.requires.node s.beyond);
 }

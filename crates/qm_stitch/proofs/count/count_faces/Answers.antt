@@ -16,23 +16,29 @@ use Rattle.qm_reach.proofs.Spots.{count_step}
 use Rattle.qm_stitch.proofs.count.count_faces.Goals as goal
 
 -- All faces are few enough for 128 bits.
-few : (t : TMesh) (x : ℕ → ℕ) (is : IsSomeLayout (plan t)) → ((a : ℕ) → x a ≤ 10 ^ 12) → (p : ℕ) → p < length t.patches.items
+few : (t : TMesh) (x : ℕ → ℕ) (is : IsSomeLayout (plan t)) → ((a : ℕ) → x a ≤ 10 ^ 12) → (p : ℕ)
+    → p < length t.patches.items
     → cells_before (layout_of (plan t)) x p + wide (layout_of (plan t)) x p * high (layout_of (plan t)) x p < 2 ^ 128
 few t x is most p low =
     let l_low : suc p ≤ length (plan t).patches = omega (arith, low, length-map t.patches.items rectangle) in
-    let all : cells_before (layout_of (plan t)) (long_at (plan t).arcs) (suc p) ≤ face_count (layout_of (plan t)) (long_at (plan t).arcs) =
+    let all : cells_before (layout_of (plan t)) (long_at (plan t).arcs) (suc p) ≤ face_count (layout_of (plan t))
+    (long_at (plan t).arcs) =
     count_rises _ (suc p) (length (plan t).patches) l_low in
     omega (
       arith,
-      cells_most (layout_of (plan t)) (long_at (plan t).arcs) x (10 ^ 12) (laid_of (plan t) is) (lengths_of (plan t) is) most (suc p) l_low,
+      cells_most (layout_of (plan t)) (long_at (plan t).arcs) x (10 ^ 12) (laid_of (plan t) is) (lengths_of (plan t) is)
+          most (suc p) l_low,
       all,
       old_faces (plan t) is,
     )
 
 product : (c : goal.After-from-in-loop-patch) → c.from.result * c.from-in-loop-patch.result
-    ≡ wide (layout_of (plan c.args.stretched.now.t.now)) (lengths_in c.args.stretched.now.lengths.now) c.loop-patch.patch * high (layout_of (plan c.args.stretched.now.t.now)) (lengths_in c.args.stretched.now.lengths.now) c.loop-patch.patch
+    ≡ wide (layout_of (plan c.args.stretched.now.t.now)) (lengths_in c.args.stretched.now.lengths.now)
+    c.loop-patch.patch * high (layout_of (plan c.args.stretched.now.t.now))
+    (lengths_in c.args.stretched.now.lengths.now) c.loop-patch.patch
 product c =
-    λ i. (c.from.ensures ∙ c.size_on-wide.ensures south refl) i * (c.from-in-loop-patch.ensures ∙ c.size_on-high.ensures west refl) i
+    λ i. (c.from.ensures ∙ c.size_on-wide.ensures south refl) i * (c.from-in-loop-patch.ensures
+    ∙ c.size_on-high.ensures west refl) i
 
 pub overflow_add-faces : goal.overflow_add-faces
 overflow_add-faces c =
@@ -40,7 +46,8 @@ overflow_add-faces c =
       arith,
       product c,
       c.loop-patch.invariant,
-      few c.args.stretched.now.t.now (lengths_in c.args.stretched.now.lengths.now) c.requires.layout c.args.stretched.now.bounded c.loop-patch.patch
+      few c.args.stretched.now.t.now (lengths_in c.args.stretched.now.lengths.now) c.requires.layout
+          c.args.stretched.now.bounded c.loop-patch.patch
           (omega (arith, c.loop-patch-test.true, c.len-patch-end.ensures, c.args.stretched.now.t.now.patches.ok.0)),
     )
 
@@ -50,5 +57,7 @@ loop-patch-preserved c =
       arith,
       product c,
       c.loop-patch.invariant,
-      count_step (λ q. wide (layout_of (plan c.args.stretched.now.t.now)) (lengths_in c.args.stretched.now.lengths.now) q * high (layout_of (plan c.args.stretched.now.t.now)) (lengths_in c.args.stretched.now.lengths.now) q) c.loop-patch.patch,
+      count_step (λ q. wide (layout_of (plan c.args.stretched.now.t.now)) (lengths_in c.args.stretched.now.lengths.now)
+          q * high (layout_of (plan c.args.stretched.now.t.now)) (lengths_in c.args.stretched.now.lengths.now) q)
+          c.loop-patch.patch,
     )

@@ -14,15 +14,19 @@ invariant_of-numbered c = record { numbers = tables_are (plan c.args.t.now) c.ar
 pub returns-in-Some-clause-refused : goal.returns-in-Some-clause-refused
 returns-in-Some-clause-refused c = (
   c.requires.few,
-  subst (λ (u : ℕ). IsFirstDoubled (layout_of (plan c.args.t.now)) (lengths_in c.args.tables.now.lengths.items) u c.greater.result) (sym c.lesser.ensures)
-      (subst (λ (v : ℕ). IsFirstDoubled (layout_of (plan c.args.t.now)) (lengths_in c.args.tables.now.lengths.items) (c.in-Some.key / 2 ^ 32) v) (sym c.greater.ensures)
-      (first_doubled (layout_of (plan c.args.t.now)) (lengths_in c.args.tables.now.lengths.items) (laid_of (plan c.args.t.now) c.requires.mesh)
+  subst (λ (u : ℕ). IsFirstDoubled (layout_of (plan c.args.t.now)) (lengths_in c.args.tables.now.lengths.items) u
+      c.greater.result) (sym c.lesser.ensures)
+      (subst (λ (v : ℕ). IsFirstDoubled (layout_of (plan c.args.t.now)) (lengths_in c.args.tables.now.lengths.items)
+      (c.in-Some.key / 2 ^ 32) v) (sym c.greater.ensures)
+      (first_doubled (layout_of (plan c.args.t.now)) (lengths_in c.args.tables.now.lengths.items)
+      (laid_of (plan c.args.t.now) c.requires.mesh)
       c.requires.lengths (tables_are (plan c.args.t.now) c.args.tables.now c.requires).few c.in-Some.key
       (subst (λ (keys : List ℕ). IsLeastRepeat keys c.in-Some.key) c.in_ok-rim_keys.ensures c.in-Some.ensures.some))),
 )
 
 pub returns-in-None-clause-undoubled : goal.returns-in-None-clause-undoubled
 returns-in-None-clause-undoubled c =
-    none_doubled (layout_of (plan c.args.t.now)) (lengths_in c.args.tables.now.lengths.items) (laid_of (plan c.args.t.now) c.requires.mesh)
+    none_doubled (layout_of (plan c.args.t.now)) (lengths_in c.args.tables.now.lengths.items)
+    (laid_of (plan c.args.t.now) c.requires.mesh)
     c.requires.lengths (tables_are (plan c.args.t.now) c.args.tables.now c.requires).few
     (subst (λ (keys : List ℕ). (key : ℕ) → ¬ IsRepeat keys key) c.in_ok-rim_keys.ensures (c.in-None.ensures.none refl))

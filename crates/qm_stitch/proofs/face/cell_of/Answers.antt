@@ -15,22 +15,28 @@ use Rattle.qm_stitch.specs.Lengthened.{layout_in, lengths_by}
 use Rattle.qm_stitch.proofs.face.cell_of.Goals as goal
 
 -- The patch that is found.
-patch_found : (t : TMesh) (tables : Tables) (is : AreTables (plan t) tables) (f patch : ℕ) (starts : List ℕ) → starts ≡ tables.cells.begin.items
+patch_found : (t : TMesh) (tables : Tables) (is : AreTables (plan t) tables) (f patch : ℕ) (starts : List ℕ)
+    → starts ≡ tables.cells.begin.items
     → ((sizes : ℕ → ℕ) (runs : ℕ) → AreRunStarts sizes runs starts → patch ≡ run_at (count_below sizes) runs f)
     → patch ≡ patch_of (layout_of (plan t)) (lengths_in tables.lengths.items) f
 patch_found t tables is f patch starts same run =
-    run (λ p. wide (layout_of (plan t)) (lengths_in tables.lengths.items) p * high (layout_of (plan t)) (lengths_in tables.lengths.items) p) (length (plan t).patches)
-    (subst (AreRunStarts (λ p. wide (layout_of (plan t)) (lengths_in tables.lengths.items) p * high (layout_of (plan t)) (lengths_in tables.lengths.items) p) (length (plan t).patches)) (sym same) is.cells)
+    run (λ p. wide (layout_of (plan t)) (lengths_in tables.lengths.items) p * high (layout_of (plan t))
+    (lengths_in tables.lengths.items) p) (length (plan t).patches)
+    (subst (AreRunStarts (λ p. wide (layout_of (plan t)) (lengths_in tables.lengths.items) p * high (layout_of (plan t))
+    (lengths_in tables.lengths.items) p) (length (plan t).patches)) (sym same) is.cells)
 
-patch_low : (t : TMesh) (tables : Tables) (is : AreTables (plan t) tables) (f patch : ℕ) → f < face_count (layout_of (plan t)) (lengths_in tables.lengths.items)
+patch_low : (t : TMesh) (tables : Tables) (is : AreTables (plan t) tables) (f patch : ℕ)
+    → f < face_count (layout_of (plan t)) (lengths_in tables.lengths.items)
     → patch ≡ patch_of (layout_of (plan t)) (lengths_in tables.lengths.items) f → patch < length (plan t).patches
 patch_low t tables is f patch low same = omega (arith, same, (cell_is (plan t) tables is f low).patch_low)
 
 -- What is read of it.
 face_at : (t : TMesh) (tables : Tables) (is : AreTables (plan t) tables) (f patch begin columns : ℕ)
     → f < face_count (layout_of (plan t)) (lengths_in tables.lengths.items)
-    → patch ≡ patch_of (layout_of (plan t)) (lengths_in tables.lengths.items) f → begin ≡ get_or tables.cells.begin.items patch begin
-    → columns ≡ wide (layout_of (plan t)) (lengths_in tables.lengths.items) patch → IsFaceAt (plan t) tables is f patch begin columns
+    → patch ≡ patch_of (layout_of (plan t)) (lengths_in tables.lengths.items) f
+    → begin ≡ get_or tables.cells.begin.items patch begin
+    → columns ≡ wide (layout_of (plan t)) (lengths_in tables.lengths.items) patch
+    → IsFaceAt (plan t) tables is f patch begin columns
 face_at t tables is f patch begin columns low same read columns_are = record {
   patch_is = same;
   begin_is = cells_at (plan t) tables is patch begin (patch_low t tables is f patch low same) read
@@ -38,40 +44,63 @@ face_at t tables is f patch begin columns low same read columns_are = record {
   columns_are = columns_are ∙ ap (wide (layout_of (plan t)) (lengths_in tables.lengths.items)) same;
 }
 
-at_face : (c : goal.After-size_at-wide) → IsFaceAt (plan c.args.numbered.now.t.now) c.args.numbered.now.tables.now c.args.numbered.now.numbers c.args.f c.spot_in-patch.result c.index.result.now c.size_at-wide.result
+at_face : (c : goal.After-size_at-wide) → IsFaceAt (plan c.args.numbered.now.t.now) c.args.numbered.now.tables.now
+    c.args.numbered.now.numbers c.args.f c.spot_in-patch.result c.index.result.now c.size_at-wide.result
 at_face c =
-    face_at c.args.numbered.now.t.now c.args.numbered.now.tables.now c.args.numbered.now.numbers c.args.f c.spot_in-patch.result c.index.result.now c.size_at-wide.result c.requires.face
-    (patch_found c.args.numbered.now.t.now c.args.numbered.now.tables.now c.args.numbered.now.numbers c.args.f c.spot_in-patch.result c.deref.result.now c.deref.ensures.value c.spot_in-patch.ensures.run)
+    face_at c.args.numbered.now.t.now c.args.numbered.now.tables.now c.args.numbered.now.numbers c.args.f
+    c.spot_in-patch.result c.index.result.now c.size_at-wide.result c.requires.face
+    (patch_found c.args.numbered.now.t.now c.args.numbered.now.tables.now c.args.numbered.now.numbers c.args.f
+    c.spot_in-patch.result c.deref.result.now c.deref.ensures.value c.spot_in-patch.ensures.run)
     c.index.ensures (c.size_at-wide.ensures south refl)
 
 pub overflow_sub-cell : goal.overflow_sub-cell
 overflow_sub-cell c =
-    let same : c.spot_in-patch.result ≡ patch_of (layout_in c.args.numbered.now) (lengths_by c.args.numbered.now) c.args.f =
-    patch_found c.args.numbered.now.t.now c.args.numbered.now.tables.now c.args.numbered.now.numbers c.args.f c.spot_in-patch.result c.deref.result.now c.deref.ensures.value c.spot_in-patch.ensures.run in
+    let same : c.spot_in-patch.result ≡ patch_of (layout_in c.args.numbered.now) (lengths_by c.args.numbered.now)
+    c.args.f =
+    patch_found c.args.numbered.now.t.now c.args.numbered.now.tables.now c.args.numbered.now.numbers c.args.f
+    c.spot_in-patch.result c.deref.result.now c.deref.ensures.value c.spot_in-patch.ensures.run in
     omega (
       arith,
       ap (cells_before (layout_in c.args.numbered.now) (lengths_by c.args.numbered.now)) same,
-      cells_at (plan c.args.numbered.now.t.now) c.args.numbered.now.tables.now c.args.numbered.now.numbers c.spot_in-patch.result c.index.result.now
-          (patch_low c.args.numbered.now.t.now c.args.numbered.now.tables.now c.args.numbered.now.numbers c.args.f c.spot_in-patch.result c.requires.face same) c.index.ensures,
-      (cell_is (plan c.args.numbered.now.t.now) c.args.numbered.now.tables.now c.args.numbered.now.numbers c.args.f c.requires.face).from,
+      cells_at (plan c.args.numbered.now.t.now) c.args.numbered.now.tables.now c.args.numbered.now.numbers
+          c.spot_in-patch.result c.index.result.now
+          (patch_low c.args.numbered.now.t.now c.args.numbered.now.tables.now c.args.numbered.now.numbers c.args.f
+          c.spot_in-patch.result c.requires.face same) c.index.ensures,
+      (cell_is (plan c.args.numbered.now.t.now) c.args.numbered.now.tables.now c.args.numbered.now.numbers c.args.f
+          c.requires.face).from,
     )
 
 pub nonzero_rem-result : goal.nonzero_rem-result
 nonzero_rem-result c =
-    omega (arith, (at_face c).columns_are, (cell_is (plan c.args.numbered.now.t.now) c.args.numbered.now.tables.now c.args.numbered.now.numbers c.args.f c.requires.face).some)
+    omega (
+      arith,
+      (at_face c).columns_are,
+      (cell_is (plan c.args.numbered.now.t.now) c.args.numbered.now.tables.now c.args.numbered.now.numbers c.args.f
+          c.requires.face).some,
+    )
 
 pub nonzero_div-result : goal.nonzero_div-result
 nonzero_div-result c =
-    omega (arith, (at_face c).columns_are, (cell_is (plan c.args.numbered.now.t.now) c.args.numbered.now.tables.now c.args.numbered.now.numbers c.args.f c.requires.face).some)
+    omega (
+      arith,
+      (at_face c).columns_are,
+      (cell_is (plan c.args.numbered.now.t.now) c.args.numbered.now.tables.now c.args.numbered.now.numbers c.args.f
+          c.requires.face).some,
+    )
 
 pub returns : goal.returns
 returns c =
-    let at : IsFaceAt (plan c.args.numbered.now.t.now) c.args.numbered.now.tables.now c.args.numbered.now.numbers c.args.f c.spot_in-patch.result c.index.result.now c.size_at-wide.result = at_face c in
+    let at : IsFaceAt (plan c.args.numbered.now.t.now) c.args.numbered.now.tables.now c.args.numbered.now.numbers
+    c.args.f c.spot_in-patch.result c.index.result.now c.size_at-wide.result = at_face c in
     record {
       patch = at.patch_is;
       column = λ k. (c.args.f - at.begin_is k) % at.columns_are k;
       row = λ k. (c.args.f - at.begin_is k) / at.columns_are k;
-      patch_low = patch_low c.args.numbered.now.t.now c.args.numbered.now.tables.now c.args.numbered.now.numbers c.args.f c.spot_in-patch.result c.requires.face at.patch_is;
-      column_low = column_low (plan c.args.numbered.now.t.now) c.args.numbered.now.tables.now c.args.numbered.now.numbers c.args.f c.spot_in-patch.result c.index.result.now c.size_at-wide.result c.requires.face at;
-      row_low = row_low (plan c.args.numbered.now.t.now) c.args.numbered.now.tables.now c.args.numbered.now.numbers c.args.f c.spot_in-patch.result c.index.result.now c.size_at-wide.result c.requires.face at;
+      patch_low = patch_low c.args.numbered.now.t.now c.args.numbered.now.tables.now c.args.numbered.now.numbers
+          c.args.f c.spot_in-patch.result c.requires.face at.patch_is;
+      column_low = column_low (plan c.args.numbered.now.t.now) c.args.numbered.now.tables.now
+          c.args.numbered.now.numbers c.args.f c.spot_in-patch.result c.index.result.now c.size_at-wide.result
+          c.requires.face at;
+      row_low = row_low (plan c.args.numbered.now.t.now) c.args.numbered.now.tables.now c.args.numbered.now.numbers
+          c.args.f c.spot_in-patch.result c.index.result.now c.size_at-wide.result c.requires.face at;
     }

@@ -19,19 +19,27 @@ use Rattle.qm_stitch.proofs.point.border_number.Goals as goal
 -- The arcs of the side.
 read : (t : TMesh) (patch side : ℕ) (sides : List (List Side)) (list : List SideArc) → sides ≡ t.sides.items
     → list ≡ get_or (get_or (uses_in sides) patch []) side [] → list ≡ arcs_on (plan t) patch side
-read t patch side sides list same is = is ∙ ap (λ (xs : List (List Side)). get_or (get_or (uses_in xs) patch []) side []) same
+read t patch side sides list same is =
+    is ∙ ap (λ (xs : List (List Side)). get_or (get_or (uses_in xs) patch []) side []) same
 
-there : (c : goal.After-uses_on) → IsBorder (plan c.args.numbered.now.t.now) c.args.numbered.now.tables.now c.args.numbered.now.numbers c.args.patch c.args.side c.uses_on.result.now c.starts_on-starts.result.now
-there c = border (plan c.args.numbered.now.t.now) c.args.numbered.now.tables.now c.args.numbered.now.numbers c.args.patch c.args.side c.uses_on.result.now c.starts_on-starts.result.now
-    (omega (arith, c.requires.patch, length-map c.args.numbered.now.t.now.patches.items rectangle)) c.requires.side (read c.args.numbered.now.t.now c.args.patch c.args.side c.deref-2.result.now c.uses_on.result.now c.deref-2.ensures.value c.uses_on.ensures)
-    (c.starts_on-starts.ensures ∙ ap (λ (sides : List (List RunStarts)). table_in (tables_of sides) c.args.patch c.args.side) c.deref.ensures.value)
+there : (c : goal.After-uses_on) → IsBorder (plan c.args.numbered.now.t.now) c.args.numbered.now.tables.now
+    c.args.numbered.now.numbers c.args.patch c.args.side c.uses_on.result.now c.starts_on-starts.result.now
+there c = border (plan c.args.numbered.now.t.now) c.args.numbered.now.tables.now c.args.numbered.now.numbers
+    c.args.patch c.args.side c.uses_on.result.now c.starts_on-starts.result.now
+    (omega (arith, c.requires.patch, length-map c.args.numbered.now.t.now.patches.items rectangle)) c.requires.side
+    (read c.args.numbered.now.t.now c.args.patch c.args.side c.deref-2.result.now c.uses_on.result.now
+    c.deref-2.ensures.value c.uses_on.ensures)
+    (c.starts_on-starts.ensures
+    ∙ ap (λ (sides : List (List RunStarts)). table_in (tables_of sides) c.args.patch c.args.side)
+    c.deref.ensures.value)
 
 pub side_number-requires-clause-some : goal.side_number-requires-clause-some
 side_number-requires-clause-some c = (there c).some
 
 pub side_number-requires-clause-low : goal.side_number-requires-clause-low
 side_number-requires-clause-low c =
-    subst (λ (n : ℕ). All (λ (used : SideArc). used.arc < n) c.uses_on.result.now) (length-map c.args.numbered.now.t.now.arcs.items path) (there c).low
+    subst (λ (n : ℕ). All (λ (used : SideArc). used.arc < n) c.uses_on.result.now)
+    (length-map c.args.numbered.now.t.now.arcs.items path) (there c).low
 
 pub side_number-requires-clause-starts : goal.side_number-requires-clause-starts
 side_number-requires-clause-starts c = (there c).starts_are
@@ -41,5 +49,8 @@ side_number-requires-clause-upto c = omega (arith, (there c).long, c.requires.up
 
 pub returns : goal.returns
 returns c =
-    c.side_number.ensures ∙ ap (λ (side : List SideArc). vertex_number (layout_in c.args.numbered.now) (lengths_by c.args.numbered.now)
-    (point_on (layout_in c.args.numbered.now) (lengths_by c.args.numbered.now) side c.args.place)) (read c.args.numbered.now.t.now c.args.patch c.args.side c.deref-2.result.now c.uses_on.result.now c.deref-2.ensures.value c.uses_on.ensures)
+    c.side_number.ensures ∙ ap (λ (side : List SideArc). vertex_number (layout_in c.args.numbered.now)
+    (lengths_by c.args.numbered.now)
+    (point_on (layout_in c.args.numbered.now) (lengths_by c.args.numbered.now) side c.args.place))
+    (read c.args.numbered.now.t.now c.args.patch c.args.side c.deref-2.result.now c.uses_on.result.now
+    c.deref-2.ensures.value c.uses_on.ensures)

@@ -15,7 +15,13 @@ low : (t : TMesh) (patch : ℕ) → patch < length t.patches.items → patch < l
 low t patch less = omega (arith, less, length-map t.patches.items rectangle)
 
 pub border_number-requires-clause-upto : goal.border_number-requires-clause-upto
-border_number-requires-clause-upto c = omega (arith, long_is (plan c.args.numbered.now.t.now) c.args.numbered.now.tables.now c.args.numbered.now.numbers c.args.patch south (low c.args.numbered.now.t.now c.args.patch c.requires.patch), c.requires.column)
+border_number-requires-clause-upto c =
+    omega (
+      arith,
+      long_is (plan c.args.numbered.now.t.now) c.args.numbered.now.tables.now c.args.numbered.now.numbers
+          c.args.patch south (low c.args.numbered.now.t.now c.args.patch c.requires.patch),
+      c.requires.column,
+    )
 
 pub overflow_sub-wide : goal.overflow_sub-wide
 overflow_sub-wide c = omega (arith, c.size_at-wide.ensures south refl, c.requires.column)
@@ -25,17 +31,24 @@ border_number-requires-then-j-high-clause-upto c =
     omega (
       arith,
       c.size_at-wide.ensures south refl,
-      long_is (plan c.args.numbered.now.t.now) c.args.numbered.now.tables.now c.args.numbered.now.numbers c.args.patch north (low c.args.numbered.now.t.now c.args.patch c.requires.patch),
-      c.args.numbered.now.numbers.lengths.across c.args.patch (low c.args.numbered.now.t.now c.args.patch c.requires.patch),
+      long_is (plan c.args.numbered.now.t.now) c.args.numbered.now.tables.now c.args.numbered.now.numbers c.args.patch
+          north (low c.args.numbered.now.t.now c.args.patch c.requires.patch),
+      c.args.numbered.now.numbers.lengths.across c.args.patch
+          (low c.args.numbered.now.t.now c.args.patch c.requires.patch),
     )
 
 pub returns-then-j-high : goal.returns-then-j-high
 returns-then-j-high c =
-    let wide_is : c.size_at-wide.result ≡ wide (layout_in c.args.numbered.now) (lengths_by c.args.numbered.now) c.args.patch = c.size_at-wide.ensures south refl in
-    let high_is : c.size_at-high.result ≡ high (layout_in c.args.numbered.now) (lengths_by c.args.numbered.now) c.args.patch = c.size_at-high.ensures west refl in
-    c.border_number-then-j-high.ensures ∙ ap (vertex_number (layout_in c.args.numbered.now) (lengths_by c.args.numbered.now))
-    (ap (λ n. side_point (layout_in c.args.numbered.now) (lengths_by c.args.numbered.now) c.args.patch north (n - c.args.i)) wide_is
-    ∙ sym (on_north (layout_in c.args.numbered.now) (lengths_by c.args.numbered.now) c.args.patch c.args.i c.args.j c.if-j-eq0.false (c.if-j-high.true ∙ high_is)))
+    let wide_is : c.size_at-wide.result ≡ wide (layout_in c.args.numbered.now) (lengths_by c.args.numbered.now)
+    c.args.patch = c.size_at-wide.ensures south refl in
+    let high_is : c.size_at-high.result ≡ high (layout_in c.args.numbered.now) (lengths_by c.args.numbered.now)
+    c.args.patch = c.size_at-high.ensures west refl in
+    c.border_number-then-j-high.ensures
+    ∙ ap (vertex_number (layout_in c.args.numbered.now) (lengths_by c.args.numbered.now))
+    (ap (λ n. side_point (layout_in c.args.numbered.now) (lengths_by c.args.numbered.now) c.args.patch north
+    (n - c.args.i)) wide_is
+    ∙ sym (on_north (layout_in c.args.numbered.now) (lengths_by c.args.numbered.now) c.args.patch c.args.i c.args.j
+    c.if-j-eq0.false (c.if-j-high.true ∙ high_is)))
 
 pub overflow_sub-high : goal.overflow_sub-high
 overflow_sub-high c = omega (arith, c.size_at-high.ensures west refl, c.requires.row)
@@ -45,52 +58,76 @@ border_number-requires-then-i-eq0-clause-upto c =
     omega (
       arith,
       c.size_at-high.ensures west refl,
-      long_is (plan c.args.numbered.now.t.now) c.args.numbered.now.tables.now c.args.numbered.now.numbers c.args.patch west (low c.args.numbered.now.t.now c.args.patch c.requires.patch),
+      long_is (plan c.args.numbered.now.t.now) c.args.numbered.now.tables.now c.args.numbered.now.numbers c.args.patch
+          west (low c.args.numbered.now.t.now c.args.patch c.requires.patch),
     )
 
 pub returns-then-i-eq0 : goal.returns-then-i-eq0
 returns-then-i-eq0 c =
-    let high_is : c.size_at-high.result ≡ high (layout_in c.args.numbered.now) (lengths_by c.args.numbered.now) c.args.patch = c.size_at-high.ensures west refl in
-    c.border_number-then-i-eq0.ensures ∙ ap (vertex_number (layout_in c.args.numbered.now) (lengths_by c.args.numbered.now))
-    (ap (λ n. side_point (layout_in c.args.numbered.now) (lengths_by c.args.numbered.now) c.args.patch west (n - c.args.j)) high_is
-    ∙ sym (on_west (layout_in c.args.numbered.now) (lengths_by c.args.numbered.now) c.args.patch c.args.i c.args.j c.if-j-eq0.false (λ top. c.if-j-high.false (top ∙ sym high_is)) c.if-i-eq0.true))
+    let high_is : c.size_at-high.result ≡ high (layout_in c.args.numbered.now) (lengths_by c.args.numbered.now)
+    c.args.patch = c.size_at-high.ensures west refl in
+    c.border_number-then-i-eq0.ensures
+    ∙ ap (vertex_number (layout_in c.args.numbered.now) (lengths_by c.args.numbered.now))
+    (ap (λ n. side_point (layout_in c.args.numbered.now) (lengths_by c.args.numbered.now) c.args.patch west
+    (n - c.args.j)) high_is
+    ∙ sym (on_west (layout_in c.args.numbered.now) (lengths_by c.args.numbered.now) c.args.patch c.args.i c.args.j
+    c.if-j-eq0.false (λ top. c.if-j-high.false (top ∙ sym high_is)) c.if-i-eq0.true))
 
 pub border_number-requires-then-i-wide-clause-upto : goal.border_number-requires-then-i-wide-clause-upto
 border_number-requires-then-i-wide-clause-upto c =
     omega (
       arith,
-      long_is (plan c.args.numbered.now.t.now) c.args.numbered.now.tables.now c.args.numbered.now.numbers c.args.patch east (low c.args.numbered.now.t.now c.args.patch c.requires.patch),
-      c.args.numbered.now.numbers.lengths.upright c.args.patch (low c.args.numbered.now.t.now c.args.patch c.requires.patch),
+      long_is (plan c.args.numbered.now.t.now) c.args.numbered.now.tables.now c.args.numbered.now.numbers c.args.patch
+          east (low c.args.numbered.now.t.now c.args.patch c.requires.patch),
+      c.args.numbered.now.numbers.lengths.upright c.args.patch
+          (low c.args.numbered.now.t.now c.args.patch c.requires.patch),
       c.requires.row,
     )
 
 pub returns-then-i-wide : goal.returns-then-i-wide
 returns-then-i-wide c =
-    let wide_is : c.size_at-wide.result ≡ wide (layout_in c.args.numbered.now) (lengths_by c.args.numbered.now) c.args.patch = c.size_at-wide.ensures south refl in
-    let high_is : c.size_at-high.result ≡ high (layout_in c.args.numbered.now) (lengths_by c.args.numbered.now) c.args.patch = c.size_at-high.ensures west refl in
-    c.border_number-then-i-wide.ensures ∙ ap (vertex_number (layout_in c.args.numbered.now) (lengths_by c.args.numbered.now))
-    (sym (on_east (layout_in c.args.numbered.now) (lengths_by c.args.numbered.now) c.args.patch c.args.i c.args.j c.if-j-eq0.false (λ top. c.if-j-high.false (top ∙ sym high_is)) c.if-i-eq0.false (c.if-i-wide.true ∙ wide_is)))
+    let wide_is : c.size_at-wide.result ≡ wide (layout_in c.args.numbered.now) (lengths_by c.args.numbered.now)
+    c.args.patch = c.size_at-wide.ensures south refl in
+    let high_is : c.size_at-high.result ≡ high (layout_in c.args.numbered.now) (lengths_by c.args.numbered.now)
+    c.args.patch = c.size_at-high.ensures west refl in
+    c.border_number-then-i-wide.ensures
+    ∙ ap (vertex_number (layout_in c.args.numbered.now) (lengths_by c.args.numbered.now))
+    (sym (on_east (layout_in c.args.numbered.now) (lengths_by c.args.numbered.now) c.args.patch c.args.i c.args.j
+    c.if-j-eq0.false (λ top. c.if-j-high.false (top ∙ sym high_is)) c.if-i-eq0.false (c.if-i-wide.true
+    ∙ wide_is)))
 
 pub overflow_add-nodes : goal.overflow_add-nodes
 overflow_add-nodes c =
     omega (
       arith,
       c.args.numbered.now.numbers.nodes,
-      along_end (plan c.args.numbered.now.t.now) c.args.numbered.now.tables.now c.args.numbered.now.numbers c.deref.result.now c.last_of.result c.deref.ensures.value c.last_of.ensures,
+      along_end (plan c.args.numbered.now.t.now) c.args.numbered.now.tables.now c.args.numbered.now.numbers
+          c.deref.result.now c.last_of.result c.deref.ensures.value c.last_of.ensures,
       c.args.numbered.now.numbers.few,
     )
 
 -- An inner point of the patch.
-here : (c : goal.After-row_known-1) → (c.args.numbered.now.tables.now.nodes + c.last_of.result + c.index.result.now + ((c.args.j - 1) * (c.size_at-wide.result - 1) + (c.args.i - 1))
-    ≡ vertex_number (layout_in c.args.numbered.now) (lengths_by c.args.numbered.now) (point (layout_in c.args.numbered.now) (lengths_by c.args.numbered.now) c.args.patch c.args.i c.args.j))
-    × (c.args.numbered.now.tables.now.nodes + c.last_of.result + c.index.result.now + ((c.args.j - 1) * (c.size_at-wide.result - 1) + (c.args.i - 1)) < 2 ^ 23)
+here : (c : goal.After-row_known-1)
+    → (c.args.numbered.now.tables.now.nodes + c.last_of.result + c.index.result.now
+    + ((c.args.j - 1) * (c.size_at-wide.result - 1) + (c.args.i - 1))
+    ≡ vertex_number (layout_in c.args.numbered.now) (lengths_by c.args.numbered.now)
+    (point (layout_in c.args.numbered.now) (lengths_by c.args.numbered.now) c.args.patch c.args.i c.args.j))
+    × (c.args.numbered.now.tables.now.nodes + c.last_of.result + c.index.result.now
+    + ((c.args.j - 1) * (c.size_at-wide.result - 1) + (c.args.i - 1)) < 2 ^ 23)
 here c =
-    let wide_is : c.size_at-wide.result ≡ wide (layout_in c.args.numbered.now) (lengths_by c.args.numbered.now) c.args.patch = c.size_at-wide.ensures south refl in
-    let high_is : c.size_at-high.result ≡ high (layout_in c.args.numbered.now) (lengths_by c.args.numbered.now) c.args.patch = c.size_at-high.ensures west refl in
-    inside_here (plan c.args.numbered.now.t.now) c.args.numbered.now.tables.now c.args.numbered.now.numbers c.args.patch c.args.i c.args.j c.size_at-wide.result c.index.result.now c.last_of.result (low c.args.numbered.now.t.now c.args.patch c.requires.patch)
-    c.requires.column c.requires.row c.if-j-eq0.false (λ top. c.if-j-high.false (top ∙ sym high_is)) c.if-i-eq0.false (λ end. c.if-i-wide.false (end ∙ sym wide_is)) wide_is
-    (inside_at (plan c.args.numbered.now.t.now) c.args.numbered.now.tables.now c.args.numbered.now.numbers c.args.patch c.index.result.now (low c.args.numbered.now.t.now c.args.patch c.requires.patch) c.index.ensures)
-    (along_end (plan c.args.numbered.now.t.now) c.args.numbered.now.tables.now c.args.numbered.now.numbers c.deref.result.now c.last_of.result c.deref.ensures.value c.last_of.ensures)
+    let wide_is : c.size_at-wide.result ≡ wide (layout_in c.args.numbered.now) (lengths_by c.args.numbered.now)
+    c.args.patch = c.size_at-wide.ensures south refl in
+    let high_is : c.size_at-high.result ≡ high (layout_in c.args.numbered.now) (lengths_by c.args.numbered.now)
+    c.args.patch = c.size_at-high.ensures west refl in
+    inside_here (plan c.args.numbered.now.t.now) c.args.numbered.now.tables.now c.args.numbered.now.numbers c.args.patch
+    c.args.i c.args.j c.size_at-wide.result c.index.result.now c.last_of.result
+    (low c.args.numbered.now.t.now c.args.patch c.requires.patch)
+    c.requires.column c.requires.row c.if-j-eq0.false (λ top. c.if-j-high.false (top ∙ sym high_is)) c.if-i-eq0.false
+    (λ end. c.if-i-wide.false (end ∙ sym wide_is)) wide_is
+    (inside_at (plan c.args.numbered.now.t.now) c.args.numbered.now.tables.now c.args.numbered.now.numbers c.args.patch
+    c.index.result.now (low c.args.numbered.now.t.now c.args.patch c.requires.patch) c.index.ensures)
+    (along_end (plan c.args.numbered.now.t.now) c.args.numbered.now.tables.now c.args.numbered.now.numbers
+    c.deref.result.now c.last_of.result c.deref.ensures.value c.last_of.ensures)
 
 pub overflow_add-result : goal.overflow_add-result
 overflow_add-result c = omega (arith, (here c).1)

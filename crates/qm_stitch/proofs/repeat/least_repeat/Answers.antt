@@ -13,4 +13,5 @@ returns-clause-some c =
 pub returns-clause-none : goal.returns-clause-none
 returns-clause-none c none key is =
     c.first_repeat.ensures.none none key
-    (subst (λ (keys : List ℕ). IsRepeat keys key) (sym c.deref.ensures.value) (repeat_moved c.args.keys.items c.sort.new.keys.items key c.sort.ensures.moved is))
+    (subst (λ (keys : List ℕ). IsRepeat keys key) (sym c.deref.ensures.value)
+    (repeat_moved c.args.keys.items c.sort.new.keys.items key c.sort.ensures.moved is))

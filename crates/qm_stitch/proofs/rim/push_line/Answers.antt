@@ -10,29 +10,53 @@ use Rattle.qm_stitch.proofs.rim.push_line.Goals as goal
 
 pub key_at-requires-clause-low : goal.key_at-requires-clause-low
 key_at-requires-clause-low c =
-    size_some (layout_in c.args.numbered.now) (lengths_by c.args.numbered.now) c.args.numbered.now.numbers.paved c.args.numbered.now.numbers.lengths c.args.line.patch
+    size_some (layout_in c.args.numbered.now) (lengths_by c.args.numbered.now) c.args.numbered.now.numbers.paved
+    c.args.numbered.now.numbers.lengths c.args.line.patch
     (along_lines c.args.line.upright) c.requires.line.patch
 
 pub key_at-requires-then-long-gt1-clause-low : goal.key_at-requires-then-long-gt1-clause-low
 key_at-requires-then-long-gt1-clause-low c =
-    omega (arith, c.if-long-gt1.true, c.size_at-long.ensures (along_lines c.args.line.upright) c.side_along.ensures.side)
+    omega (
+      arith,
+      c.if-long-gt1.true,
+      c.size_at-long.ensures (along_lines c.args.line.upright)
+          c.side_along.ensures.side,
+    )
 
 pub returns-in_ok-push-2 : goal.returns-in_ok-push-2
 returns-in_ok-push-2 c =
-    let long_is : c.size_at-long.result ≡ size (layout_in c.args.numbered.now) (lengths_by c.args.numbered.now) c.args.line.patch (along_lines c.args.line.upright) =
+    let long_is : c.size_at-long.result ≡ size (layout_in c.args.numbered.now) (lengths_by c.args.numbered.now)
+    c.args.line.patch (along_lines c.args.line.upright) =
     c.size_at-long.ensures (along_lines c.args.line.upright) c.side_along.ensures.side in
-    first_next (key_of (layout_in c.args.numbered.now) (lengths_by c.args.numbered.now)) (line_edge c.args.line.upright c.args.line.patch c.args.line.number 0)
-    (line_edge c.args.line.upright c.args.line.patch c.args.line.number ((size (layout_in c.args.numbered.now) (lengths_by c.args.numbered.now) c.args.line.patch (along_lines c.args.line.upright)) - 1)) (nat_lt 1 (size (layout_in c.args.numbered.now) (lengths_by c.args.numbered.now) c.args.line.patch (along_lines c.args.line.upright)))
-    c.args.keys.now.items c.push.new.self.items c.push-then-long-gt1.new.self.items c.key_at.result c.key_at-then-long-gt1.result
-    (lt-ltb 1 (size (layout_in c.args.numbered.now) (lengths_by c.args.numbered.now) c.args.line.patch (along_lines c.args.line.upright)) (omega (arith, long_is, c.if-long-gt1.true)))
+    first_next (key_of (layout_in c.args.numbered.now) (lengths_by c.args.numbered.now))
+    (line_edge c.args.line.upright c.args.line.patch c.args.line.number 0)
+    (line_edge c.args.line.upright c.args.line.patch c.args.line.number
+    ((size (layout_in c.args.numbered.now) (lengths_by c.args.numbered.now) c.args.line.patch
+    (along_lines c.args.line.upright)) - 1))
+    (nat_lt 1 (size (layout_in c.args.numbered.now) (lengths_by c.args.numbered.now) c.args.line.patch
+    (along_lines c.args.line.upright)))
+    c.args.keys.now.items c.push.new.self.items c.push-then-long-gt1.new.self.items c.key_at.result
+    c.key_at-then-long-gt1.result
+    (lt-ltb 1 (size (layout_in c.args.numbered.now) (lengths_by c.args.numbered.now) c.args.line.patch
+    (along_lines c.args.line.upright)) (omega (arith, long_is, c.if-long-gt1.true)))
     c.in_ok-push.ensures.items c.key_at.ensures c.in_ok-push-2.ensures.items
-    (c.key_at-then-long-gt1.ensures ∙ ap (λ n. key_of (layout_in c.args.numbered.now) (lengths_by c.args.numbered.now) (line_edge c.args.line.upright c.args.line.patch c.args.line.number (n - 1))) long_is)
+    (c.key_at-then-long-gt1.ensures
+    ∙ ap (λ n. key_of (layout_in c.args.numbered.now) (lengths_by c.args.numbered.now)
+    (line_edge c.args.line.upright c.args.line.patch c.args.line.number (n - 1))) long_is)
 
 pub returns-else-long-gt1 : goal.returns-else-long-gt1
 returns-else-long-gt1 c =
-    let long_is : c.size_at-long.result ≡ size (layout_in c.args.numbered.now) (lengths_by c.args.numbered.now) c.args.line.patch (along_lines c.args.line.upright) =
+    let long_is : c.size_at-long.result ≡ size (layout_in c.args.numbered.now) (lengths_by c.args.numbered.now)
+    c.args.line.patch (along_lines c.args.line.upright) =
     c.size_at-long.ensures (along_lines c.args.line.upright) c.side_along.ensures.side in
-    first_alone (key_of (layout_in c.args.numbered.now) (lengths_by c.args.numbered.now)) (line_edge c.args.line.upright c.args.line.patch c.args.line.number 0)
-    (line_edge c.args.line.upright c.args.line.patch c.args.line.number ((size (layout_in c.args.numbered.now) (lengths_by c.args.numbered.now) c.args.line.patch (along_lines c.args.line.upright)) - 1)) (nat_lt 1 (size (layout_in c.args.numbered.now) (lengths_by c.args.numbered.now) c.args.line.patch (along_lines c.args.line.upright)))
+    first_alone (key_of (layout_in c.args.numbered.now) (lengths_by c.args.numbered.now))
+    (line_edge c.args.line.upright c.args.line.patch c.args.line.number 0)
+    (line_edge c.args.line.upright c.args.line.patch c.args.line.number
+    ((size (layout_in c.args.numbered.now) (lengths_by c.args.numbered.now) c.args.line.patch
+    (along_lines c.args.line.upright)) - 1))
+    (nat_lt 1 (size (layout_in c.args.numbered.now) (lengths_by c.args.numbered.now) c.args.line.patch
+    (along_lines c.args.line.upright)))
     c.args.keys.now.items c.push.new.self.items c.key_at.result
-    (le-ltb 1 (size (layout_in c.args.numbered.now) (lengths_by c.args.numbered.now) c.args.line.patch (along_lines c.args.line.upright)) (omega (arith, long_is, c.if-long-gt1.false))) c.in_ok-push.ensures.items c.key_at.ensures
+    (le-ltb 1 (size (layout_in c.args.numbered.now) (lengths_by c.args.numbered.now) c.args.line.patch
+    (along_lines c.args.line.upright)) (omega (arith, long_is, c.if-long-gt1.false))) c.in_ok-push.ensures.items
+    c.key_at.ensures

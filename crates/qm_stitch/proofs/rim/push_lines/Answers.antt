@@ -17,7 +17,8 @@ pub loop-number-init : goal.loop-number-init
 loop-number-init c = record {
   some = omega arith;
   upto = size_some (layout_in c.args.numbered.now) (lengths_by c.args.numbered.now) c.args.numbered.now.numbers.paved
-      c.args.numbered.now.numbers.lengths c.args.patch (along_lines (not c.args.upright)) (low c.args.numbered.now.t.now c.args.patch c.requires.patch);
+      c.args.numbered.now.numbers.lengths c.args.patch (along_lines (not c.args.upright))
+      (low c.args.numbered.now.t.now c.args.patch c.requires.patch);
   items = sym (append-nil c.args.keys.now.items);
 }
 
@@ -25,26 +26,44 @@ pub push_line-requires : goal.push_line-requires
 push_line-requires c = record {
   line = record {
     patch = low c.args.numbered.now.t.now c.args.patch c.requires.patch;
-    inside = omega (arith, c.loop-number-test.true, c.size_at-number-end.ensures (along_lines (not c.args.upright)) c.side_along.ensures.side);
+    inside = omega (
+      arith,
+      c.loop-number-test.true,
+      c.size_at-number-end.ensures (along_lines (not c.args.upright))
+          c.side_along.ensures.side,
+    );
   };
 }
 
 pub loop-number-preserved : goal.loop-number-preserved
 loop-number-preserved c =
-    let back : c.loop-number.number - 1 + 1 ≡ c.loop-number.number + 1 - 1 = omega (arith, c.loop-number.invariant.some) in
+    let back : c.loop-number.number - 1 + 1 ≡ c.loop-number.number + 1 - 1 =
+    omega (arith, c.loop-number.invariant.some) in
     record {
       some = omega arith;
-      upto = omega (arith, c.loop-number-test.true, c.size_at-number-end.ensures (along_lines (not c.args.upright)) c.side_along.ensures.side);
+      upto = omega (
+        arith,
+        c.loop-number-test.true,
+        c.size_at-number-end.ensures (along_lines (not c.args.upright))
+            c.side_along.ensures.side,
+      );
       items = subst (λ (n : ℕ). c.push_line.new.keys.items ≡ c.args.keys.now.items
-          ++ keys_of (layout_in c.args.numbered.now) (lengths_by c.args.numbered.now) (lines_upto (layout_in c.args.numbered.now) (lengths_by c.args.numbered.now) c.args.upright c.args.patch n)) back
-          (parts_next (key_of (layout_in c.args.numbered.now) (lengths_by c.args.numbered.now)) (line_ends c.args.upright c.args.patch (size (layout_in c.args.numbered.now) (lengths_by c.args.numbered.now) c.args.patch (along_lines c.args.upright)))
-          1 (c.loop-number.number - 1) c.loop-number.number c.args.keys.now.items c.loop-number.keys.items c.push_line.new.keys.items
+          ++ keys_of (layout_in c.args.numbered.now) (lengths_by c.args.numbered.now)
+          (lines_upto (layout_in c.args.numbered.now) (lengths_by c.args.numbered.now) c.args.upright c.args.patch
+          n)) back
+          (parts_next (key_of (layout_in c.args.numbered.now) (lengths_by c.args.numbered.now))
+          (line_ends c.args.upright c.args.patch
+          (size (layout_in c.args.numbered.now) (lengths_by c.args.numbered.now) c.args.patch
+          (along_lines c.args.upright)))
+          1 (c.loop-number.number - 1) c.loop-number.number c.args.keys.now.items c.loop-number.keys.items
+          c.push_line.new.keys.items
           (omega (arith, c.loop-number.invariant.some)) c.loop-number.invariant.items c.in_ok-push_line.ensures);
     }
 
 pub returns : goal.returns
 returns c =
-    let end : c.loop-number.number ≡ size (layout_in c.args.numbered.now) (lengths_by c.args.numbered.now) c.args.patch (along_lines (not c.args.upright)) =
+    let end : c.loop-number.number ≡ size (layout_in c.args.numbered.now) (lengths_by c.args.numbered.now) c.args.patch
+    (along_lines (not c.args.upright)) =
     omega (
       arith,
       c.loop-number.invariant.upto,
@@ -52,4 +71,6 @@ returns c =
       c.size_at-number-end.ensures (along_lines (not c.args.upright)) c.side_along.ensures.side,
     ) in
     c.loop-number.invariant.items ∙ ap (λ n. c.args.keys.now.items
-    ++ keys_of (layout_in c.args.numbered.now) (lengths_by c.args.numbered.now) (lines_upto (layout_in c.args.numbered.now) (lengths_by c.args.numbered.now) c.args.upright c.args.patch (n - 1))) end
+    ++ keys_of (layout_in c.args.numbered.now) (lengths_by c.args.numbered.now)
+    (lines_upto (layout_in c.args.numbered.now) (lengths_by c.args.numbered.now) c.args.upright c.args.patch
+    (n - 1))) end

@@ -8,15 +8,25 @@ use Rattle.def_remesh.specs.NewPoints.{lengths_in}
 use Rattle.qm_stitch.proofs.SafeLengths.{times_found}
 use Rattle.qm_stitch.proofs.safe.are_multiples.Goals as goal
 
-first_old : (t : TMesh) (arc : TArc) → 0 < length t.arcs.items → arc ≡ get_or t.arcs.items 0 arc → length arc.darts.items ≡ long_at (plan t).arcs 0
+first_old : (t : TMesh) (arc : TArc) → 0 < length t.arcs.items → arc ≡ get_or t.arcs.items 0 arc
+    → length arc.darts.items ≡ long_at (plan t).arcs 0
 first_old t arc some read =
     ap (λ (a : TArc). length a.darts.items) read
-    ∙ sym (ap (λ (p : Path). length p.darts) (get_or-map path t.arcs.items 0 arc (record { first = 0; last = 0; darts = [] }) some))
+    ∙ sym (ap (λ (p : Path). length p.darts)
+    (get_or-map path t.arcs.items 0 arc (record { first = 0; last = 0; darts = [] }) some))
 
 pub returns-then-old-gt0 : goal.returns-then-old-gt0
 returns-then-old-gt0 c =
     let some : 0 < length c.args.stretched.now.lengths.now = search rules in
-    times_found (plan c.args.stretched.now.t.now) c.args.stretched.now.lengths.now (omega (arith, c.args.stretched.now.long, length-map c.args.stretched.now.t.now.arcs.items path)) c.args.stretched.now.even c.are_times.result
+    times_found (plan c.args.stretched.now.t.now) c.args.stretched.now.lengths.now
+    (omega (arith, c.args.stretched.now.long, length-map c.args.stretched.now.t.now.arcs.items path))
+    c.args.stretched.now.even c.are_times.result
     c.len-old.result (lengths_in c.args.stretched.now.lengths.now 0 / c.len-old.result) some
-    (omega (arith, c.len-old.ensures, c.index.result.now.darts.ok.0, first_old c.args.stretched.now.t.now c.index.result.now (omega (arith, some, c.args.stretched.now.long)) c.index.ensures))
+    (omega (
+      arith,
+      c.len-old.ensures,
+      c.index.result.now.darts.ok.0,
+      first_old c.args.stretched.now.t.now c.index.result.now (omega (arith, some, c.args.stretched.now.long))
+          c.index.ensures,
+    ))
     c.if-old-gt0.true refl c.are_times.ensures

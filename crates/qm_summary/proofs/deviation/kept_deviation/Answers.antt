@@ -16,18 +16,24 @@ pub deviation-requires-clause-lengths : goal.deviation-requires-clause-lengths
 deviation-requires-clause-lengths c =
     let t = c.args.cut.now.plan in
     let told = certificates_of c.in_ok-kept.kept.certs in
-    let is = bench_net t (plan c.layout-t.result.now) c.half-settings.result (network c.in-Ok.net) c.layout-t.ensures.plan c.half-settings.ensures c.in-Ok.ensures.net in
-    let kept = bench_kept t c.half-settings.result told c.in_ok-kept.kept.numbering c.half-settings.ensures c.in_ok-kept.ensures.kept in
-    subst (AreNetLengths c.in-Ok.net.arcs.items) (sym (c.deref.ensures.value ∙ ap (λ (l : Lists). l.x) c.used_cert.ensures))
+    let is = bench_net t (plan c.layout-t.result.now) c.half-settings.result (network c.in-Ok.net)
+    c.layout-t.ensures.plan c.half-settings.ensures c.in-Ok.ensures.net in
+    let kept = bench_kept t c.half-settings.result told c.in_ok-kept.kept.numbering c.half-settings.ensures
+    c.in_ok-kept.ensures.kept in
+    subst (AreNetLengths c.in-Ok.net.arcs.items)
+    (sym (c.deref.ensures.value ∙ ap (λ (l : Lists). l.x) c.used_cert.ensures))
     (kept_lengths t c.in_ok-kept.kept.numbering (network c.in-Ok.net) is told kept)
 
 pub returns-clause-kept : goal.returns-clause-kept
 returns-clause-kept c =
     let t = c.args.cut.now.plan in
     let told = certificates_of c.in_ok-kept.kept.certs in
-    let is = bench_net t (plan c.layout-t.result.now) c.half-settings.result (network c.in-Ok.net) c.layout-t.ensures.plan c.half-settings.ensures c.in-Ok.ensures.net in
-    let kept = bench_kept t c.half-settings.result told c.in_ok-kept.kept.numbering c.half-settings.ensures c.in_ok-kept.ensures.kept in
-    let fits : to_z w128 (of_z w128 c.deviation.result) ≡ c.deviation.result = omega (arith, ints, c.deviation.type_inv) in
+    let is = bench_net t (plan c.layout-t.result.now) c.half-settings.result (network c.in-Ok.net)
+    c.layout-t.ensures.plan c.half-settings.ensures c.in-Ok.ensures.net in
+    let kept = bench_kept t c.half-settings.result told c.in_ok-kept.kept.numbering c.half-settings.ensures
+    c.in_ok-kept.ensures.kept in
+    let fits : to_z w128 (of_z w128 c.deviation.result) ≡ c.deviation.result =
+    omega (arith, ints, c.deviation.type_inv) in
     deviation_kept t c.in_ok-kept.kept.numbering (network c.in-Ok.net) is told _ c.layout-t.ensures.laid.0 kept
     (fits ∙ (c.deviation.ensures ∙ ap (λ (xs : List ℕ). pos (deviation (network c.in-Ok.net) (entries xs)))
     (c.deref.ensures.value ∙ ap (λ (l : Lists). l.x) c.used_cert.ensures)))

@@ -19,12 +19,15 @@ use Rattle.qm_summary.proofs.Lines.{same_line, size_fails, traced_in}
 use Rattle.qm_summary.proofs.summary.summary_of.Goals as goal
 
 pub new-cut-requires : goal.new-cut-requires
-new-cut-requires c = subst (λ (fs : Faces). IsMeshLayout fs (plan c.in_ok-layout.layout)) c.mesh-mesh.ensures c.in_ok-layout.ensures.mesh
+new-cut-requires c = subst (λ (fs : Faces). IsMeshLayout fs (plan c.in_ok-layout.layout)) c.mesh-mesh.ensures
+    c.in_ok-layout.ensures.mesh
 
 pub returns-in_err-deviation-clause-refused : goal.returns-in_err-deviation-clause-refused
 returns-in_err-deviation-clause-refused c =
-    handed (IsBenchFail c.args.size) _ _ c.from_residual-in_err-deviation.ensures.1 (size_fails c.args.size c.new-cut.result.plan c.in_err-deviation.field-0.0
-    (traced_in c.args.size c.args.meshed c.mesh-mesh.result.now (plan c.in_ok-layout.layout) c.new-cut.result c.requires c.mesh-mesh.ensures c.new-cut.ensures
+    handed (IsBenchFail c.args.size) _ _ c.from_residual-in_err-deviation.ensures.1
+    (size_fails c.args.size c.new-cut.result.plan c.in_err-deviation.field-0.0
+    (traced_in c.args.size c.args.meshed c.mesh-mesh.result.now (plan c.in_ok-layout.layout) c.new-cut.result c.requires
+    c.mesh-mesh.ensures c.new-cut.ensures
     c.in_ok-layout.ensures.traced)
     c.in_err-deviation.ensures.refused)
 
@@ -45,19 +48,39 @@ returns-clause-text c =
     let kept = c.in_ok-deviation.ensures.kept in
     let t = c.layout-t.result.now in
     let on = c.new-cut.result.plan in
-    let same : c.mesh-mesh.result.now ≡ bench_faces c.args.size = c.mesh-mesh.ensures ∙ ap (λ (s : FaceSet). s.faces) c.requires in
+    let same : c.mesh-mesh.result.now ≡ bench_faces c.args.size =
+    c.mesh-mesh.ensures ∙ ap (λ (s : FaceSet). s.faces) c.requires in
     let riders : c.len.result ≡ length (start_darts (bench_faces c.args.size)) =
-    omega (arith, c.len.ensures, c.in_ok-sources.sources.starts.ok.0, ap length c.in_ok-sources.ensures.starts, ap (λ (fs : Faces). length (start_darts fs)) same) in
+    omega (
+      arith,
+      c.len.ensures,
+      c.in_ok-sources.sources.starts.ok.0,
+      ap length c.in_ok-sources.ensures.starts,
+      ap (λ (fs : Faces). length (start_darts fs)) same,
+    ) in
     let patches : c.len-2.result ≡ length on.patches =
-    omega (arith, c.len-2.ensures, t.patches.ok.0, length-map t.patches.items rectangle, ap (λ (p : Plan). length p.patches) c.layout-t.ensures.plan) in
+    omega (
+      arith,
+      c.len-2.ensures,
+      t.patches.ok.0,
+      length-map t.patches.items rectangle,
+      ap (λ (p : Plan). length p.patches) c.layout-t.ensures.plan,
+    ) in
     let arcs : c.len-3.result ≡ length on.arcs =
-    omega (arith, c.len-3.ensures, t.arcs.ok.0, length-map t.arcs.items path, ap (λ (p : Plan). length p.arcs) c.layout-t.ensures.plan) in
+    omega (
+      arith,
+      c.len-3.ensures,
+      t.arcs.ok.0,
+      length-map t.arcs.items path,
+      ap (λ (p : Plan). length p.arcs) c.layout-t.ensures.plan,
+    ) in
     let fits : to_z w128 (of_z w128 c.in_ok-deviation.deviation) ≡ c.in_ok-deviation.deviation =
     omega (arith, ints, kept.is, c.in_ok-deviation.ensures.small) in
     record {
       manifold = subst IsManifold same c.faces.ensures.mesh.manifold;
       plan = on;
-      cut = traced_in c.args.size c.args.meshed c.mesh-mesh.result.now (plan c.in_ok-layout.layout) c.new-cut.result c.requires c.mesh-mesh.ensures
+      cut = traced_in c.args.size c.args.meshed c.mesh-mesh.result.now (plan c.in_ok-layout.layout) c.new-cut.result
+          c.requires c.mesh-mesh.ensures
           c.new-cut.ensures c.in_ok-layout.ensures.traced;
       cert = kept.cert;
       certified = kept.certified;

@@ -5,32 +5,44 @@ use Rattle.def_cut.specs.FullCut.{is_on}
 use Rattle.def_cut.specs.Grids.{least_of}
 use Rattle.qm_tmesh.proofs.Walks.{node_from, run_named, run_unnamed, run_darts}
 use Rattle.qm_tmesh.proofs.names.named_run.Goals as goal
-use Rattle.qm_tmesh.proofs.names.named_run.Goals.{then-not-cut-s-via-then-not-cut-s, then-not-cut-s-via-else-not-cut-s+then-not-nodes-from}
+use Rattle.qm_tmesh.proofs.names.named_run.Goals.{then-not-cut-s-via-then-not-cut-s}
+use Rattle.qm_tmesh.proofs.names.named_run.Goals.{then-not-cut-s-via-else-not-cut-s+then-not-nodes-from}
 
 pub returns-then-not-cut-s : goal.returns-then-not-cut-s
 returns-then-not-cut-s c = λ n named. elim c.then-not-cut-s.branch [
   | then-not-cut-s-via-then-not-cut-s w ↦ false≢true (sym w.if-not-cut-s.true ∙ named.run.on 0 named.run.some)
-  | then-not-cut-s-via-else-not-cut-s+then-not-nodes-from w ↦ false≢true (sym w.if-not-nodes-from.true ∙ (ap (is_on c.args.nodes.now) w.from.ensures.value ∙ (node_from c.args.mesh.now c.args.cut.now c.args.nodes.now c.requires.marked c.args.s c.requires.dart ∙ named.run.begins)))
+  | then-not-cut-s-via-else-not-cut-s+then-not-nodes-from w ↦ false≢true (sym w.if-not-nodes-from.true
+      ∙ (ap (is_on c.args.nodes.now) w.from.ensures.value
+      ∙ (node_from c.args.mesh.now c.args.cut.now c.args.nodes.now c.requires.marked c.args.s c.requires.dart
+      ∙ named.run.begins)))
 ]
 
 pub run-requires-clause-begins : goal.run-requires-clause-begins
-run-requires-clause-begins c = sym (node_from c.args.mesh.now c.args.cut.now c.args.nodes.now c.requires.marked c.args.s c.requires.dart) ∙ (ap (is_on c.args.nodes.now) (sym c.from.ensures.value) ∙ c.if-not-nodes-from.false)
+run-requires-clause-begins c =
+    sym (node_from c.args.mesh.now c.args.cut.now c.args.nodes.now c.requires.marked c.args.s c.requires.dart)
+    ∙ (ap (is_on c.args.nodes.now) (sym c.from.ensures.value) ∙ c.if-not-nodes-from.false)
 
 pub is_least-requires : goal.is_least-requires
-is_least-requires c = subst (λ (xs : List ℕ). (k : ℕ) → k < length xs → get_or xs k 0 < darts c.args.mesh.now) (sym c.deref-2.ensures.value) (run_darts c.args.mesh.now c.args.cut.now c.args.nodes.now c.requires.marked c.args.s c.in_ok-darts.darts.items c.in_ok-darts.ensures.run c.in_ok-darts.ensures.darts)
+is_least-requires c = subst (λ (xs : List ℕ). (k : ℕ) → k < length xs → get_or xs k 0 < darts c.args.mesh.now)
+    (sym c.deref-2.ensures.value) (run_darts c.args.mesh.now c.args.cut.now c.args.nodes.now c.requires.marked c.args.s
+    c.in_ok-darts.darts.items c.in_ok-darts.ensures.run c.in_ok-darts.ensures.darts)
 
 pub returns-then-is_least : goal.returns-then-is_least
 returns-then-is_least c =
     let list = c.in_ok-darts.darts.items in
-    let name : c.least-name.result ≡ least_of c.in_ok-darts.darts.items = c.least-name.ensures ∙ ap least_of c.deref.ensures.value in (
+    let name : c.least-name.result ≡ least_of c.in_ok-darts.darts.items = c.least-name.ensures
+    ∙ ap least_of c.deref.ensures.value in (
       length c.in_ok-darts.darts.items,
-      run_named c.args.mesh.now c.args.cut.now c.args.nodes.now c.requires.marked c.args.s c.in_ok-darts.darts.items c.in_ok-darts.ensures.run c.in_ok-darts.ensures.darts
+      run_named c.args.mesh.now c.args.cut.now c.args.nodes.now c.requires.marked c.args.s c.in_ok-darts.darts.items
+          c.in_ok-darts.ensures.run c.in_ok-darts.ensures.darts
           (rw (c.deref-2.ensures.value, name) at c.if-is_least.ensures),
       sym (ap least_of c.in_ok-darts.ensures.darts) ∙ sym name,
     )
 
 pub returns : goal.returns
 returns c =
-    let name : c.least-name.result ≡ least_of c.in_ok-darts.darts.items = c.least-name.ensures ∙ ap least_of c.deref.ensures.value in
-    run_unnamed c.args.mesh.now c.args.cut.now c.args.nodes.now c.requires.marked c.args.s c.in_ok-darts.darts.items c.in_ok-darts.ensures.run c.in_ok-darts.ensures.darts
+    let name : c.least-name.result ≡ least_of c.in_ok-darts.darts.items = c.least-name.ensures
+    ∙ ap least_of c.deref.ensures.value in
+    run_unnamed c.args.mesh.now c.args.cut.now c.args.nodes.now c.requires.marked c.args.s c.in_ok-darts.darts.items
+    c.in_ok-darts.ensures.run c.in_ok-darts.ensures.darts
     (rw (c.deref-2.ensures.value, name) at c.if-is_least.ensures)

@@ -5,4 +5,5 @@ use Rattle.qm_tmesh.proofs.nodes.arriving.Given as goal
 
 -- the lone darts so far are counted
 abbrev pub invariant-loop-d : goal.invariant-loop-d
-invariant-loop-d l = (l.count ≡ length (filter (is_lone_before l.mesh l.cut) (take l.d-index l.fan))) × (l.count ≤ l.d-index)
+invariant-loop-d l = (l.count ≡ length (filter (is_lone_before l.mesh l.cut) (take l.d-index l.fan)))
+    × (l.count ≤ l.d-index)

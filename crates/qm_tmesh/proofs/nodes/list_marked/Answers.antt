@@ -7,14 +7,28 @@ use Rattle.qm_tmesh.proofs.nodes.list_marked.Goals.{then-on+in_ok-push-2, else-o
 pub loop-v-preserved : goal.loop-v-preserved
 loop-v-preserved c =
     let i = c.loop-v.invariant in
-    let put : c.push.new.self.items ≡ c.loop-v.places.items ++ length c.loop-v.list.items ∷ [] = c.in_ok-push.ensures.items ∙ ap (λ x. c.loop-v.places.items ++ x ∷ []) (omega (arith, c.len.ensures, c.loop-v.list.ok.0)) in
-    let long : length c.push.new.self.items ≡ c.loop-v.v + 1 = ap length put ∙ (length-append c.loop-v.places.items (length c.loop-v.list.items ∷ []) ∙ omega (arith, i.long)) in
+    let put : c.push.new.self.items ≡ c.loop-v.places.items ++ length c.loop-v.list.items ∷ [] =
+    c.in_ok-push.ensures.items ∙ ap (λ x. c.loop-v.places.items ++ x ∷ [])
+    (omega (arith, c.len.ensures, c.loop-v.list.ok.0)) in
+    let long : length c.push.new.self.items ≡ c.loop-v.v + 1 =
+    ap length put ∙ (length-append c.loop-v.places.items (length c.loop-v.list.items ∷ [])
+    ∙ omega (arith, i.long)) in
     elim c.if-on.branch [
       | then-on+in_ok-push-2 w ↦
-          let is : w.push-then-on.new.self.items ≡ c.loop-v.list.items ++ c.loop-v.v ∷ [] = w.in_ok-push-2.ensures.items in
-          let both = list_on (is_on c.args.marks.now) c.loop-v.v c.loop-v.list.items c.loop-v.places.items c.push.new.self.items i.listed i.long i.stands put w.push-then-on.new.self.items is w.if-on.true in
-          rw w.list-is (record { listed = both.0; few = omega (arith, ap length is, length-append c.loop-v.list.items (c.loop-v.v ∷ []), i.few); long = long; stands = both.1 })
+          let is : w.push-then-on.new.self.items ≡ c.loop-v.list.items ++ c.loop-v.v ∷ [] =
+          w.in_ok-push-2.ensures.items in
+          let both = list_on (is_on c.args.marks.now) c.loop-v.v c.loop-v.list.items c.loop-v.places.items
+          c.push.new.self.items i.listed i.long i.stands put w.push-then-on.new.self.items is w.if-on.true in
+          rw w.list-is (record {
+            listed = both.0;
+            few =
+                omega (arith, ap length is, length-append c.loop-v.list.items (c.loop-v.v ∷ []), i.few);
+            long =
+                long;
+            stands = both.1;
+          })
       | else-on w ↦
-          let both = list_off (is_on c.args.marks.now) c.loop-v.v c.loop-v.list.items c.loop-v.places.items c.push.new.self.items i.listed i.long i.stands put w.if-on.false in
+          let both = list_off (is_on c.args.marks.now) c.loop-v.v c.loop-v.list.items c.loop-v.places.items
+          c.push.new.self.items i.listed i.long i.stands put w.if-on.false in
           rw w.list-is (record { listed = both.0; few = omega (arith, i.few); long = long; stands = both.1 })
     ]

@@ -9,5 +9,6 @@ invariant-loop-v l = record {
   listed : l.list.items ≡ filter (is_on l.marks) (range_with_len 0 l.v);
   few : length l.list.items ≤ l.v;
   long : length l.places.items ≡ l.v;
-  stands : (u : ℕ) → u < l.v → is_on l.marks u ≡ true → (get_or l.places.items u 0 < length l.list.items) × (get_or l.list.items (get_or l.places.items u 0) 0 ≡ u);
+  stands : (u : ℕ) → u < l.v → is_on l.marks u ≡ true → (get_or l.places.items u 0 < length l.list.items)
+      × (get_or l.list.items (get_or l.places.items u 0) 0 ≡ u);
 }

@@ -5,9 +5,13 @@ use Rattle.def_layout.specs.Nodes.{is_node}
 use Rattle.qm_tmesh.proofs.nodes.node_marks.Goals as goal
 
 pub loop-v-preserved : goal.loop-v-preserved
-loop-v-preserved c = c.in_ok-push.ensures.items ∙ (ap (λ xs. xs ++ c.is_node.result ∷ []) c.loop-v.invariant ∙ (ap (λ b. map (is_node c.args.mesh.now c.args.cut.now) (range_with_len 0 c.loop-v.v) ++ b ∷ []) c.is_node.ensures ∙ sym (map-range_with_len_more (is_node c.args.mesh.now c.args.cut.now) 0 c.loop-v.v c.loop-v.v (omega arith))))
+loop-v-preserved c = c.in_ok-push.ensures.items ∙ (ap (λ xs. xs ++ c.is_node.result ∷ []) c.loop-v.invariant
+    ∙ (ap (λ b. map (is_node c.args.mesh.now c.args.cut.now) (range_with_len 0 c.loop-v.v) ++ b ∷ [])
+    c.is_node.ensures ∙ sym (map-range_with_len_more (is_node c.args.mesh.now c.args.cut.now) 0 c.loop-v.v
+    c.loop-v.v (omega arith))))
 
 pub returns-clause-small : goal.returns-clause-small
 returns-clause-small c =
-    let e : length c.loop-v.marks.items ≡ c.loop-v.v = ap length c.loop-v.invariant ∙ length-map-range_with_len (is_node c.args.mesh.now c.args.cut.now) 0 c.loop-v.v in
+    let e : length c.loop-v.marks.items ≡ c.loop-v.v = ap length c.loop-v.invariant
+    ∙ length-map-range_with_len (is_node c.args.mesh.now c.args.cut.now) 0 c.loop-v.v in
     omega (arith, c.loop-v.auto.v-end, c.vertices-v-end.type_inv)

@@ -12,6 +12,7 @@ abbrev pub invariant-steps : goal.invariant-steps
 invariant-steps l = record {
   at : l.d ≡ easts (half_edges l.mesh) l.start l.counter;
   low : l.d < darts l.mesh;
-  inner : (k : ℕ) → k < l.counter → is_node l.mesh l.cut (end_vertex (half_edges l.mesh) (easts (half_edges l.mesh) l.start k)) ≡ false;
+  inner : (k : ℕ) → k < l.counter
+      → is_node l.mesh l.cut (end_vertex (half_edges l.mesh) (easts (half_edges l.mesh) l.start k)) ≡ false;
   listed : l.darts.items ≡ run_list (half_edges l.mesh) l.start l.counter;
 }

@@ -8,5 +8,6 @@ use Rattle.qm_tmesh.proofs.sides.sides.Given as goal
 abbrev pub invariant-loop-patch : goal.invariant-loop-patch
 invariant-loop-patch l = record {
   count : length l.sides.items ≡ l.patch-index;
-  each : (p : ℕ) → p < l.patch-index → AreFour l.mesh (map path l.runs.arcs.items) l.runs.uses.items (patch_at (map rectangle l.patches) p) (get_or (map four_of l.sides.items) p []);
+  each : (p : ℕ) → p < l.patch-index → AreFour l.mesh (map path l.runs.arcs.items) l.runs.uses.items
+      (patch_at (map rectangle l.patches) p) (get_or (map four_of l.sides.items) p []);
 }

@@ -18,9 +18,11 @@ pub returns-in_err-made : goal.returns-in_err-made
 returns-in_err-made g c state =
     handed_run _ _ _ _ c.in_err-made.field-0.0 c.from_residual-in_err-made.ensures.1
     (made_ended c.args.size (change state state) _ (refl, refl) c.in_err-made.field-0.0
-    (subst (λ (s : FaceSet). IsNoMeshOf s c.in_err-made.field-0.0) c.in_ok-soup.ensures.soup c.in_err-made.ensures.refused)) refl
+    (subst (λ (s : FaceSet). IsNoMeshOf s c.in_err-made.field-0.0) c.in_ok-soup.ensures.soup
+    c.in_err-made.ensures.refused)) refl
 
 pub returns : goal.returns
 returns g c state =
-    writer_runs _ _ _ _ _ (bench_writer c.args.size (change state state) _ (refl, refl)) c.bench_mesh.result c.bench_mesh.ensures.done
+    writer_runs _ _ _ _ _ (bench_writer c.args.size (change state state) _ (refl, refl)) c.bench_mesh.result
+    c.bench_mesh.ensures.done
     c.bench_mesh.ensures.refused

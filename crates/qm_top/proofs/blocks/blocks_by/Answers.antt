@@ -16,6 +16,7 @@ returns-clause-blocks c =
       parts = of.parts;
       points = subst (IsRefinedMesh c.args.by c.args.read) (sym of.points) c.in_ok-points.ensures.new;
       links = subst
-          (λ (k : Regrid). AreLinks (layout_of k.plan) (multiple_of c.args.by (long_at k.plan.arcs)) (links_in c.in_ok-blocks.blocks))
+          (λ (k : Regrid). AreLinks (layout_of k.plan) (multiple_of c.args.by (long_at k.plan.arcs))
+          (links_in c.in_ok-blocks.blocks))
           (sym of.points) of.links;
     }

@@ -5,7 +5,8 @@ use Rattle.qm_top.proofs.Blocked.{is_blocked}
 use Rattle.qm_top.proofs.blocks.blocks_mesh.Goals as goal
 
 pub returns-in_err-blocks-clause-refused : goal.returns-in_err-blocks-clause-refused
-returns-in_err-blocks-clause-refused g c = handed _ _ _ c.from_residual.ensures.1 (refl, c.in_err-blocks.ensures.refused)
+returns-in_err-blocks-clause-refused g c =
+    handed _ _ _ c.from_residual.ensures.1 (refl, c.in_err-blocks.ensures.refused)
 
 pub returns-in_err-write_blocks-clause-refused : goal.returns-in_err-write_blocks-clause-refused
 returns-in_err-write_blocks-clause-refused g c = handed _ _ _ c.from_residual-in_err-write_blocks.ensures.1 (record {

@@ -14,6 +14,9 @@ returns-in_err-read g c =
 pub returns : goal.returns
 returns g c =
     writer_runs _ _ _ _ _
-    (task_writer (Coarse c.args.settings) (AsksToMerge c.args.settings) _ _ c.in_ok-read.read (coarse_needs c.args.settings)
-    (coarse_tasked c.args.settings c.requires) c.in_ok-read.ensures.manifold c.in_ok-read.ensures.soup c.in_ok-read.ensures.calm)
-    c.coarse_mesh.result (c.coarse_mesh.ensures.done c.in_ok-read.ensures.soup.bytes) (c.coarse_mesh.ensures.refused c.in_ok-read.ensures.soup.bytes)
+    (task_writer (Coarse c.args.settings) (AsksToMerge c.args.settings) _ _ c.in_ok-read.read
+    (coarse_needs c.args.settings)
+    (coarse_tasked c.args.settings c.requires) c.in_ok-read.ensures.manifold c.in_ok-read.ensures.soup
+    c.in_ok-read.ensures.calm)
+    c.coarse_mesh.result (c.coarse_mesh.ensures.done c.in_ok-read.ensures.soup.bytes)
+    (c.coarse_mesh.ensures.refused c.in_ok-read.ensures.soup.bytes)

@@ -8,7 +8,8 @@ use Rattle.qm_top.proofs.Writers.{on_cut}
 use Rattle.qm_top.proofs.cuts.traced_cut.Goals as goal
 
 pub new-requires : goal.new-requires
-new-requires c = subst (λ (fs : Faces). IsMeshLayout fs (plan c.in_ok-layout.layout)) c.mesh.ensures c.in_ok-layout.ensures.mesh
+new-requires c = subst (λ (fs : Faces). IsMeshLayout fs (plan c.in_ok-layout.layout)) c.mesh.ensures
+    c.in_ok-layout.ensures.mesh
 
 pub returns-clause-soup : goal.returns-clause-soup
 returns-clause-soup c = ap (λ (k : CutSoup). k.soup) c.new.ensures

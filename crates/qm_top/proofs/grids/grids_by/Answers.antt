@@ -19,6 +19,7 @@ returns-clause-blocks c =
       lengths = ap (λ (k : Regrid). lengths_in k.lengths) of.points ∙ made.new.2;
       fits = made.few;
       links = subst
-          (λ (p : Plan). AreLinks (layout_of p) (multiple_of c.args.by (long_at p.arcs)) (links_in c.in_ok-blocks.blocks))
+          (λ (p : Plan). AreLinks (layout_of p) (multiple_of c.args.by (long_at p.arcs))
+          (links_in c.in_ok-blocks.blocks))
           made.new.1 of.links;
     }

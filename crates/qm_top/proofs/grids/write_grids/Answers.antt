@@ -5,12 +5,14 @@ use Rattle.qm_top.proofs.LaidOut.{is_gridded}
 use Rattle.qm_top.proofs.grids.write_grids.Goals as goal
 
 pub returns-in_err-blocks-clause-refused : goal.returns-in_err-blocks-clause-refused
-returns-in_err-blocks-clause-refused g c = handed _ _ _ c.from_residual.ensures.1 (refl, c.in_err-blocks.ensures.refused)
+returns-in_err-blocks-clause-refused g c =
+    handed _ _ _ c.from_residual.ensures.1 (refl, c.in_err-blocks.ensures.refused)
 
 pub returns-in_err-write_blocks-clause-refused : goal.returns-in_err-write_blocks-clause-refused
 returns-in_err-write_blocks-clause-refused g c = handed _ _ _ c.from_residual-in_err-write_blocks.ensures.1 (record {
   text = told_text c.in_ok-blocks.blocks;
-  said = is_gridded c.args.chosen c.args.by c.args.cut c.in_ok-blocks.blocks c.requires.some c.requires.laid c.in_ok-blocks.ensures.blocks;
+  said = is_gridded c.args.chosen c.args.by c.args.cut c.in_ok-blocks.blocks c.requires.some c.requires.laid
+      c.in_ok-blocks.ensures.blocks;
   prefix = c.in_err-write_blocks.ensures.prefix;
   fault = c.in_err-write_blocks.ensures.fault;
 })
@@ -18,6 +20,7 @@ returns-in_err-write_blocks-clause-refused g c = handed _ _ _ c.from_residual-in
 pub returns-clause-done : goal.returns-clause-done
 returns-clause-done g c = record {
   text = told_text c.in_ok-blocks.blocks;
-  said = is_gridded c.args.chosen c.args.by c.args.cut c.in_ok-blocks.blocks c.requires.some c.requires.laid c.in_ok-blocks.ensures.blocks;
+  said = is_gridded c.args.chosen c.args.by c.args.cut c.in_ok-blocks.blocks c.requires.some c.requires.laid
+      c.in_ok-blocks.ensures.blocks;
   written = c.in_ok-write_blocks.ensures.whole;
 }

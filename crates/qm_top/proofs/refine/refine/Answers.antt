@@ -11,5 +11,6 @@ returns-in_err-read g c =
 
 pub returns : goal.returns
 returns g c =
-    writer_runs _ _ _ _ _ (refine_writer c.args.by _ _ c.in_ok-read.read c.in_ok-read.ensures.manifold c.in_ok-read.ensures.soup c.in_ok-read.ensures.calm)
+    writer_runs _ _ _ _ _ (refine_writer c.args.by _ _ c.in_ok-read.read c.in_ok-read.ensures.manifold
+    c.in_ok-read.ensures.soup c.in_ok-read.ensures.calm)
     c.refine_mesh.result c.refine_mesh.ensures.done c.refine_mesh.ensures.refused

@@ -12,7 +12,8 @@ returns-clause-done g c bytes =
     let soup = c.in_ok-cut.cut.soup in
     asked_done (AsksToRemesh asked.settings asked.auto) bytes soup c.args.read c.in_ok-cut.ensures.soup
     (remesh_task asked.settings asked.auto soup.faces) refl c.finish.result _
-    (c.finish.ensures.done (traced_marks soup.faces) (head_line asked.settings asked.auto) c.in_ok-cut.ensures.traced c.in_ok-head.ensures)
+    (c.finish.ensures.done (traced_marks soup.faces) (head_line asked.settings asked.auto) c.in_ok-cut.ensures.traced
+    c.in_ok-head.ensures)
 
 pub returns-clause-refused : goal.returns-clause-refused
 returns-clause-refused g c bytes =
@@ -20,4 +21,5 @@ returns-clause-refused g c bytes =
     let soup = c.in_ok-cut.cut.soup in
     asked_refused (AsksToRemesh asked.settings asked.auto) bytes soup c.args.read c.in_ok-cut.ensures.soup
     (remesh_task asked.settings asked.auto soup.faces) refl c.finish.result _
-    (c.finish.ensures.refused (traced_marks soup.faces) (head_line asked.settings asked.auto) c.in_ok-cut.ensures.traced c.in_ok-head.ensures)
+    (c.finish.ensures.refused (traced_marks soup.faces) (head_line asked.settings asked.auto) c.in_ok-cut.ensures.traced
+    c.in_ok-head.ensures)

@@ -3,7 +3,11 @@ use Rattle.qm_tour.specs.Trees.{IsTreeBut, HasSameLeaves}
 use Rattle.qm_tour.proofs.tour.settle.Given as goal
 
 abbrev pub invariant-loop-node : goal.invariant-loop-node
-invariant-loop-node l = record { low : l.node < l.room; tree : IsTreeBut l.room l.node l.keys; leaves : HasSameLeaves l.room l.fn.keys l.keys }
+invariant-loop-node l = record {
+  low : l.node < l.room;
+  tree : IsTreeBut l.room l.node l.keys;
+  leaves : HasSameLeaves l.room l.fn.keys l.keys;
+}
 
 abbrev pub decreases-loop-node : goal.decreases-loop-node
 decreases-loop-node l = l.node

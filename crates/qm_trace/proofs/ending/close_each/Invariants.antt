@@ -4,4 +4,5 @@ use Rattle.def_cut.specs.FullCut.{is_on}
 use Rattle.qm_trace.proofs.ending.close_each.Given as goal
 
 abbrev pub invariant-loop-d : goal.invariant-loop-d
-invariant-loop-d l = (d : ℕ) → d < darts l.mesh → is_on l.covered d ≡ (is_on l.initial.covered d || cond (ltb d l.d) (not (is_some (twin_of l.mesh d))) false)
+invariant-loop-d l = (d : ℕ) → d < darts l.mesh
+    → is_on l.covered d ≡ (is_on l.initial.covered d || cond (ltb d l.d) (not (is_some (twin_of l.mesh d))) false)

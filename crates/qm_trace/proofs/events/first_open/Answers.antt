@@ -15,17 +15,20 @@ use Rattle.qm_trace.proofs.events.first_open.Goals as goal
 
 pub bounds-noted-r : goal.bounds-noted-r
 bounds-noted-r c =
-    let q = c.requires.notes (get_or c.args.queue.now c.queue.r-index 0) (among_at c.args.queue.now c.queue.r-index c.queue-test.true) in
+    let q = c.requires.notes (get_or c.args.queue.now c.queue.r-index 0)
+    (among_at c.args.queue.now c.queue.r-index c.queue-test.true) in
     noted_short c.args.noted.now (get_or c.args.queue.now c.queue.r-index 0) q.0 q.1
 
 pub unwrap-d-requires : goal.unwrap-d-requires
 unwrap-d-requires c =
-    let q = c.requires.notes (get_or c.args.queue.now c.queue.r-index 0) (among_at c.args.queue.now c.queue.r-index c.queue-test.true) in
+    let q = c.requires.notes (get_or c.args.queue.now c.queue.r-index 0)
+    (among_at c.args.queue.now c.queue.r-index c.queue-test.true) in
     ap is_some q.1
 
 pub to-vertex-requires : goal.to-vertex-requires
 to-vertex-requires c =
-    let q = c.requires.notes (get_or c.args.queue.now c.queue.r-index 0) (among_at c.args.queue.now c.queue.r-index c.queue-test.true) in
+    let q = c.requires.notes (get_or c.args.queue.now c.queue.r-index 0)
+    (among_at c.args.queue.now c.queue.r-index c.queue-test.true) in
     let dart : c.unwrap-d.result ≡ q.0 = same_Some _ _ (sym c.unwrap-d.ensures ∙ q.1) in
     subst (λ d. d < darts c.args.mesh.now) (sym dart) q.2
 
@@ -38,18 +41,21 @@ returns-then-not-settled-vertex-clause-end c =
 -- The notes of the riders up to this one end at settled vertices.
 up_to : (c : goal.Else-not-settled-vertex) (r d : ℕ) → is_among r (take (c.queue.r-index + 1) c.args.queue.now) ≡ true
     → note_at c.args.noted.now r ≡ Some d → is_on c.args.settled.now (to_of c.args.mesh.now d) ≡ true
-up_to c r d among note = elim (or_cases _ _ (sym (among_more c.args.queue.now c.queue.r-index r c.queue-test.true) ∙ among)) [
-  | inl before ↦ c.queue.invariant.none r d before note
-  | inr now ↦ (
-      let same : r ≡ get_or c.args.queue.now c.queue.r-index 0 = eqb-true _ _ now in
-      let one : d ≡ c.unwrap-d.result = same_Some _ _ (sym note ∙ (ap (note_at c.args.noted.now) same ∙ c.unwrap-d.ensures)) in
-      ap (λ e. is_on c.args.settled.now (to_of c.args.mesh.now e)) one
-      ∙ (ap (is_on c.args.settled.now) (sym c.to-vertex.ensures.value) ∙ c.if-not-settled-vertex.false))
-]
+up_to c r d among note =
+    elim (or_cases _ _ (sym (among_more c.args.queue.now c.queue.r-index r c.queue-test.true) ∙ among)) [
+      | inl before ↦ c.queue.invariant.none r d before note
+      | inr now ↦ (
+          let same : r ≡ get_or c.args.queue.now c.queue.r-index 0 = eqb-true _ _ now in
+          let one : d ≡ c.unwrap-d.result =
+          same_Some _ _ (sym note ∙ (ap (note_at c.args.noted.now) same ∙ c.unwrap-d.ensures)) in
+          ap (λ e. is_on c.args.settled.now (to_of c.args.mesh.now e)) one
+          ∙ (ap (is_on c.args.settled.now) (sym c.to-vertex.ensures.value) ∙ c.if-not-settled-vertex.false))
+    ]
 
 pub queue-preserved : goal.queue-preserved
 queue-preserved c = record { none = up_to c }
 
 pub returns-clause-none : goal.returns-clause-none
 returns-clause-none c r d among note =
-    c.queue.invariant.none r d (ap (is_among r) (take_all c.queue.r-index c.args.queue.now c.queue-test.false) ∙ among) note
+    c.queue.invariant.none r d (ap (is_among r) (take_all c.queue.r-index c.args.queue.now c.queue-test.false) ∙ among)
+    note

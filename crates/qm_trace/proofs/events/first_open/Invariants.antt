@@ -7,5 +7,6 @@ use Rattle.qm_trace.proofs.events.first_open.Given as goal
 
 abbrev pub invariant-queue : goal.invariant-queue
 invariant-queue l = record {
-  none : (r d : ℕ) → is_among r (take l.r-index l.queue) ≡ true → note_at l.noted r ≡ Some d → is_on l.settled (to_of l.mesh d) ≡ true;
+  none : (r d : ℕ) → is_among r (take l.r-index l.queue) ≡ true → note_at l.noted r ≡ Some d
+      → is_on l.settled (to_of l.mesh d) ≡ true;
 }

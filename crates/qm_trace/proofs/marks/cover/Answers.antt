@@ -6,7 +6,13 @@ use Rattle.def_cut.specs.FullCut.{is_on}
 use Rattle.qm_trace.proofs.marks.cover.Goals as goal
 
 pub returns-clause-long : goal.returns-clause-long
-returns-clause-long c = ap length (with_items_is c.args.covered.now c.cover_each.new.covered (c.cover_each.auto.covered ∙ c.deref_mut.ensures.len)) ∙ (c.cover_each.auto.covered ∙ ap length c.deref_mut.ensures.value)
+returns-clause-long c = ap length (with_items_is c.args.covered.now c.cover_each.new.covered (c.cover_each.auto.covered
+    ∙ c.deref_mut.ensures.len)) ∙ (c.cover_each.auto.covered ∙ ap length c.deref_mut.ensures.value)
 
 pub returns-clause-each : goal.returns-clause-each
-returns-clause-each c d l = ap (λ (xs : List Bool). is_on xs d) (with_items_is c.args.covered.now c.cover_each.new.covered (c.cover_each.auto.covered ∙ c.deref_mut.ensures.len)) ∙ (c.cover_each.ensures d l ∙ ap (λ (xs : List Bool). is_on xs d || (is_among d c.args.ridden.now || is_found (twin_of c.args.mesh.now d) c.args.ridden.now)) c.deref_mut.ensures.value)
+returns-clause-each c d l =
+    ap (λ (xs : List Bool). is_on xs d) (with_items_is c.args.covered.now c.cover_each.new.covered
+    (c.cover_each.auto.covered ∙ c.deref_mut.ensures.len))
+    ∙ (c.cover_each.ensures d l ∙ ap (λ (xs : List Bool). is_on xs d
+    || (is_among d c.args.ridden.now || is_found (twin_of c.args.mesh.now d) c.args.ridden.now))
+    c.deref_mut.ensures.value)

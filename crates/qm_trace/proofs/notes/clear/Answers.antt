@@ -10,28 +10,46 @@ use Rattle.qm_trace.proofs.notes.clear.Goals as goal
 
 pub clear_each-requires-clause-notes : goal.clear_each-requires-clause-notes
 clear_each-requires-clause-notes c r a =
-    let d : (d : ℕ) × (note_at c.args.notes.now.noted.items r ≡ Some d) = c.requires.notes.queue_is r (sym (ap (is_among r) c.deref.ensures.value) ∙ a) in
+    let d : (d : ℕ) × (note_at c.args.notes.now.noted.items r ≡ Some d) =
+    c.requires.notes.queue_is r (sym (ap (is_among r) c.deref.ensures.value) ∙ a) in
     (d.0, d.1, c.requires.low d.0 (noted_among c.args.notes.now.noted.items r d.0 d.1))
 
 pub clear_each-requires-clause-taken : goal.clear_each-requires-clause-taken
 clear_each-requires-clause-taken c d on =
-    let r : (r : ℕ) × (r < length c.args.notes.now.noted.items) × (note_at c.args.notes.now.noted.items r ≡ Some d) = noted_where c.args.notes.now.noted.items d (sym (c.requires.notes.taken_is d) ∙ on) in
+    let r : (r : ℕ) × (r < length c.args.notes.now.noted.items) × (note_at c.args.notes.now.noted.items r ≡ Some d) =
+    noted_where c.args.notes.now.noted.items d (sym (c.requires.notes.taken_is d) ∙ on) in
     (r.0, r.2)
 
 pub returns-clause-noted : goal.returns-clause-noted
 returns-clause-noted c =
-    all_none c.clear_each.new.noted.items (cleared c.args.notes.now c.clear_each.new.noted.items c.requires.notes (λ r. c.clear_each.ensures.noted r ∙ ap (λ (b : Bool). cond b None (note_at c.args.notes.now.noted.items r)) (ap (is_among r) c.deref.ensures.value)))
+    all_none c.clear_each.new.noted.items (cleared c.args.notes.now c.clear_each.new.noted.items c.requires.notes
+    (λ r. c.clear_each.ensures.noted r ∙ ap (λ (b : Bool). cond b None (note_at c.args.notes.now.noted.items r))
+    (ap (is_among r) c.deref.ensures.value)))
     ∙ ap (λ n. replicate n None) c.clear_each.ensures.long
 
 pub returns-clause-settled : goal.returns-clause-settled
 returns-clause-settled c =
-    all_off c.clear_each.new.settled.items (λ v. false_from_ne_true _ (λ on. let r : (r : ℕ) × (d : ℕ) × (note_at c.clear_each.new.noted.items r ≡ Some d) × (to_of c.args.mesh.now d ≡ v) = c.clear_each.ensures.settled v on in
-    none-some r.1 (sym (cleared c.args.notes.now c.clear_each.new.noted.items c.requires.notes (λ q. c.clear_each.ensures.noted q ∙ ap (λ (b : Bool). cond b None (note_at c.args.notes.now.noted.items q)) (ap (is_among q) c.deref.ensures.value)) r.0) ∙ r.2)))
+    all_off c.clear_each.new.settled.items (λ v. false_from_ne_true _ (λ on. let r : (r : ℕ) × (d : ℕ)
+    × (note_at c.clear_each.new.noted.items r ≡ Some d) × (to_of c.args.mesh.now d ≡ v) =
+    c.clear_each.ensures.settled v on in
+    none-some r.1 (sym (cleared c.args.notes.now c.clear_each.new.noted.items c.requires.notes
+    (λ q. c.clear_each.ensures.noted q ∙ ap (λ (b : Bool). cond b None (note_at c.args.notes.now.noted.items q))
+    (ap (is_among q) c.deref.ensures.value)) r.0) ∙ r.2)))
     ∙ ap (λ n. replicate n false) c.clear_each.ensures.settled_long
 
 pub returns-clause-notes : goal.returns-clause-notes
 returns-clause-notes c =
-    let none : (r : ℕ) → note_at c.clear_each.new.noted.items r ≡ None = cleared c.args.notes.now c.clear_each.new.noted.items c.requires.notes (λ q. c.clear_each.ensures.noted q ∙ ap (λ (b : Bool). cond b None (note_at c.args.notes.now.noted.items q)) (ap (is_among q) c.deref.ensures.value)) in
-    are_none (record { noted = c.clear_each.new.noted; taken = c.clear_each.new.taken; places = c.args.notes.now.places; queue = c.clear.new.self }) c.clear_each.new.noted.items (all_none c.clear_each.new.noted.items none)
-    (λ d. false_from_ne_true _ (λ on. let r : (r : ℕ) × (note_at c.clear_each.new.noted.items r ≡ Some d) = c.clear_each.ensures.taken d on in none-some d (sym (none r.0) ∙ r.1)))
-    (c.requires.notes.places_long ∙ sym c.clear_each.ensures.taken_long) c.clear.ensures.items (omega (arith, c.clear_each.ensures.long, c.requires.notes.room, c.clear.ensures.capacity))
+    let none : (r : ℕ) → note_at c.clear_each.new.noted.items r ≡ None =
+    cleared c.args.notes.now c.clear_each.new.noted.items c.requires.notes (λ q. c.clear_each.ensures.noted q
+    ∙ ap (λ (b : Bool). cond b None (note_at c.args.notes.now.noted.items q))
+    (ap (is_among q) c.deref.ensures.value)) in
+    are_none (record {
+      noted = c.clear_each.new.noted;
+      taken = c.clear_each.new.taken;
+      places = c.args.notes.now.places;
+      queue = c.clear.new.self;
+    }) c.clear_each.new.noted.items (all_none c.clear_each.new.noted.items none)
+    (λ d. false_from_ne_true _ (λ on. let r : (r : ℕ) × (note_at c.clear_each.new.noted.items r ≡ Some d) =
+    c.clear_each.ensures.taken d on in none-some d (sym (none r.0) ∙ r.1)))
+    (c.requires.notes.places_long ∙ sym c.clear_each.ensures.taken_long) c.clear.ensures.items
+    (omega (arith, c.clear_each.ensures.long, c.requires.notes.room, c.clear.ensures.capacity))

@@ -11,7 +11,9 @@ invariant-loop-r l = record {
   long : length l.noted.items ≡ length l.initial.noted.items;
   taken_long : length l.taken.items ≡ length l.initial.taken.items;
   settled_long : length l.settled.items ≡ length l.initial.settled.items;
-  noted : (r : ℕ) → note_at l.noted.items r ≡ cond (is_among r (take l.r-index l.queue)) None (note_at l.initial.noted.items r);
+  noted : (r : ℕ) → note_at l.noted.items r ≡ cond (is_among r (take l.r-index l.queue)) None
+      (note_at l.initial.noted.items r);
   taken : (d : ℕ) → is_on l.taken.items d ≡ true → (r : ℕ) × (note_at l.noted.items r ≡ Some d);
-  settled : (v : ℕ) → is_on l.settled.items v ≡ true → (r : ℕ) × (d : ℕ) × (note_at l.noted.items r ≡ Some d) × (to_of l.mesh d ≡ v);
+  settled : (v : ℕ) → is_on l.settled.items v ≡ true → (r : ℕ) × (d : ℕ) × (note_at l.noted.items r ≡ Some d)
+      × (to_of l.mesh d ≡ v);
 }

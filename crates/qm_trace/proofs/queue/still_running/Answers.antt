@@ -7,10 +7,16 @@ use Rattle.qm_trace.proofs.queue.still_running.Goals.{then-runs+in_ok-push, else
 use Rattle.qm_trace.proofs.queue.still_running.Goals as goal
 
 pub bounds-riders-r : goal.bounds-riders-r
-bounds-riders-r c = c.requires (get_or c.args.queue.now c.loop-r.r-index 0) (among_at c.args.queue.now c.loop-r.r-index c.loop-r-test.true)
+bounds-riders-r c = c.requires (get_or c.args.queue.now c.loop-r.r-index 0)
+    (among_at c.args.queue.now c.loop-r.r-index c.loop-r-test.true)
 
 pub loop-r-preserved : goal.loop-r-preserved
 loop-r-preserved c = elim c.if-runs.branch [
-  | then-runs+in_ok-push w ↦ rw (w.running-is, w.in_ok-push.ensures.items) (ap (λ xs. xs ++ get_or c.args.queue.now c.loop-r.r-index 0 ∷ []) c.loop-r.invariant ∙ sym (running_on (λ r. is_running (rider_at c.args.riders.now r).stop) c.args.queue.now c.loop-r.r-index c.loop-r-test.true (sym c.runs.ensures ∙ w.if-runs.true)))
-  | else-runs w ↦ rw w.running-is (c.loop-r.invariant ∙ sym (running_off (λ r. is_running (rider_at c.args.riders.now r).stop) c.args.queue.now c.loop-r.r-index c.loop-r-test.true (sym c.runs.ensures ∙ w.if-runs.false)))
+  | then-runs+in_ok-push w ↦ rw (w.running-is, w.in_ok-push.ensures.items)
+      (ap (λ xs. xs ++ get_or c.args.queue.now c.loop-r.r-index 0 ∷ []) c.loop-r.invariant
+      ∙ sym (running_on (λ r. is_running (rider_at c.args.riders.now r).stop) c.args.queue.now c.loop-r.r-index
+      c.loop-r-test.true (sym c.runs.ensures ∙ w.if-runs.true)))
+  | else-runs w ↦ rw w.running-is (c.loop-r.invariant
+      ∙ sym (running_off (λ r. is_running (rider_at c.args.riders.now r).stop) c.args.queue.now c.loop-r.r-index
+      c.loop-r-test.true (sym c.runs.ensures ∙ w.if-runs.false)))
 ]

@@ -4,4 +4,5 @@ use Rattle.qm_trace.proofs.Beginnings.{marked_low}
 use Rattle.qm_trace.proofs.starting.first_tables.Goals as goal
 
 pub leave-left-requires-clause-darts : goal.leave-left-requires-clause-darts
-leave-left-requires-clause-darts c d m = marked_low c.args.mesh.now c.args.marks.now d (sym (ap (is_among d) c.requires.starts) ∙ m)
+leave-left-requires-clause-darts c d m =
+    marked_low c.args.mesh.now c.args.marks.now d (sym (ap (is_among d) c.requires.starts) ∙ m)

@@ -7,7 +7,8 @@ use Rattle.qm_trace.proofs.telling.tell_all.Given as goal
 -- The riders whose noted darts end before these darts are told, and no others.
 abbrev pub invariant-loop-e : goal.invariant-loop-e
 invariant-loop-e l = record {
-  told : (r : ℕ) → rider_at l.riders.list.items r ≡ told_along l.mesh l.site l.notes.taken.items (take l.e-index (fan_of l.mesh l.v)) (note_at l.notes.noted.items r) (rider_at l.initial.riders.list.items r);
+  told : (r : ℕ) → rider_at l.riders.list.items r ≡ told_along l.mesh l.site l.notes.taken.items
+      (take l.e-index (fan_of l.mesh l.v)) (note_at l.notes.noted.items r) (rider_at l.initial.riders.list.items r);
   counted : AreCounted l.riders l.notes.noted.items;
   many : length l.riders.list.items ≡ length l.initial.riders.list.items;
 }

@@ -10,22 +10,31 @@ use Rattle.qm_trace.proofs.Ends.{cut_is, have_stopped, last_long}
 use Rattle.qm_trace.proofs.tracing.graph_from.Goals as goal
 
 pub tell_riders-requires-clause-few : goal.tell_riders-requires-clause-few
-tell_riders-requires-clause-few c = omega (arith, ap length c.requires.starts, marked_few c.args.mesh.now c.args.marks.now)
+tell_riders-requires-clause-few c =
+    omega (arith, ap length c.requires.starts, marked_few c.args.mesh.now c.args.marks.now)
 
 pub tell_riders-requires-clause-each : goal.tell_riders-requires-clause-each
-tell_riders-requires-clause-each c = ap length (c.deref.ensures.value ∙ c.in_ok-end.ensures.riders_are) ∙ (last_long c.args.mesh.now c.args.marks.now ∙ sym (ap length c.requires.starts))
+tell_riders-requires-clause-each c = ap length (c.deref.ensures.value ∙ c.in_ok-end.ensures.riders_are)
+    ∙ (last_long c.args.mesh.now c.args.marks.now ∙ sym (ap length c.requires.starts))
 
 pub tell_riders-requires-clause-stopped : goal.tell_riders-requires-clause-stopped
-tell_riders-requires-clause-stopped c = have_stopped c.deref.result.now (ap ridden (c.deref.ensures.value ∙ c.in_ok-end.ensures.riders_are) ∙ (marked_law c.args.mesh.now c.args.marks.now c.faces-known.ensures.mesh.manifold c.requires.marks).rests)
+tell_riders-requires-clause-stopped c =
+    have_stopped c.deref.result.now (ap ridden (c.deref.ensures.value ∙ c.in_ok-end.ensures.riders_are)
+    ∙ (marked_law c.args.mesh.now c.args.marks.now c.faces-known.ensures.mesh.manifold c.requires.marks).rests)
 
 pub returns-clause-graph : goal.returns-clause-graph
 returns-clause-graph c = record {
-  covered = c.close-covered.ensures ∙ cut_is c.args.mesh.now (marked_last c.args.mesh.now c.args.marks.now) c.in_ok-end.end.covered.items c.in_ok-end.ensures.covered_is;
-  riders = subst (λ (ds : List ℕ). AreRiders (marked_last c.args.mesh.now c.args.marks.now).riders ds c.tell_riders.new.told.items) c.requires.starts
-      (subst (λ (ms : List Moving). AreRiders ms c.args.starts.now c.tell_riders.new.told.items) (c.deref.ensures.value ∙ c.in_ok-end.ensures.riders_are) c.tell_riders.ensures);
+  covered = c.close-covered.ensures ∙ cut_is c.args.mesh.now (marked_last c.args.mesh.now c.args.marks.now)
+      c.in_ok-end.end.covered.items c.in_ok-end.ensures.covered_is;
+  riders = subst (λ (ds : List ℕ). AreRiders (marked_last c.args.mesh.now c.args.marks.now).riders ds
+      c.tell_riders.new.told.items) c.requires.starts
+      (subst (λ (ms : List Moving). AreRiders ms c.args.starts.now c.tell_riders.new.told.items) (c.deref.ensures.value
+      ∙ c.in_ok-end.ensures.riders_are) c.tell_riders.ensures);
 }
 
 pub returns-clause-cut : goal.returns-clause-cut
 returns-clause-cut c =
-    subst (λ (marks : List Bool). IsFullCut c.args.mesh.now marks) (sym (c.close-covered.ensures ∙ cut_is c.args.mesh.now (marked_last c.args.mesh.now c.args.marks.now) c.in_ok-end.end.covered.items c.in_ok-end.ensures.covered_is))
+    subst (λ (marks : List Bool). IsFullCut c.args.mesh.now marks)
+    (sym (c.close-covered.ensures ∙ cut_is c.args.mesh.now (marked_last c.args.mesh.now c.args.marks.now)
+    c.in_ok-end.end.covered.items c.in_ok-end.ensures.covered_is))
     (marked_law c.args.mesh.now c.args.marks.now c.faces-known.ensures.mesh.manifold c.requires.marks).full

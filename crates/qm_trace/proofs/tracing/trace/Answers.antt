@@ -9,10 +9,13 @@ use Rattle.qm_trace.proofs.tracing.trace.Goals as goal
 pub graph_from-requires-clause-starts : goal.graph_from-requires-clause-starts
 graph_from-requires-clause-starts c =
     let items : c.in_ok-marks.marks.items ≡ replicate (darts c.args.mesh.now) false = search rules in
-    c.deref.ensures.value ∙ (c.requires.starts ∙ sym (ap (marked_starts c.args.mesh.now) (c.deref-2.ensures.value ∙ items) ∙ same_starts c.args.mesh.now))
+    c.deref.ensures.value ∙ (c.requires.starts
+    ∙ sym (ap (marked_starts c.args.mesh.now) (c.deref-2.ensures.value ∙ items) ∙ same_starts c.args.mesh.now))
 
 pub returns-clause-graph : goal.returns-clause-graph
 returns-clause-graph c =
     let items : c.in_ok-marks.marks.items ≡ replicate (darts c.args.mesh.now) false = search rules in
     IfOk-weaker c.graph_from.result (IsMarkedGraph c.args.mesh.now c.deref-2.result.now) (IsGraphOf c.args.mesh.now)
-    (λ graph g. same_graph c.args.mesh.now graph (subst (λ (marks : List Bool). IsMarkedGraph c.args.mesh.now marks graph) (c.deref-2.ensures.value ∙ items) g)) c.graph_from.ensures.graph
+    (λ graph g. same_graph c.args.mesh.now graph
+    (subst (λ (marks : List Bool). IsMarkedGraph c.args.mesh.now marks graph) (c.deref-2.ensures.value ∙ items)
+    g)) c.graph_from.ensures.graph

@@ -10,7 +10,8 @@ returns-then-has_end-clause-refuses c usage uses line plain =
 
 pub loop-name-preserved : goal.loop-name-preserved
 loop-name-preserved c =
-    app_more c.args.names.now c.loop-name.name-index _ _ _ c.loop-name-test.true c.loop-name.invariant c.in_ok-command.ensures.shape
+    app_more c.args.names.now c.loop-name.name-index _ _ _ c.loop-name-test.true c.loop-name.invariant
+    c.in_ok-command.ensures.shape
 
 pub returns-in-Ok-clause-reads : goal.returns-in-Ok-clause-reads
 returns-in-Ok-clause-reads c =

@@ -6,4 +6,5 @@ use Rattle.qm_words.proofs.values.edge_of.Goals as goal
 pub returns-in_err-matches-clause-refuses : goal.returns-in_err-matches-clause-refuses
 returns-in_err-matches-clause-refuses c =
     handed _ _ c.in_err-matches.field-0.0 c.from_residual.ensures.1
-    (λ usage edge floor has. no_edge (map string_bytes c.args.words.now) edge floor (c.in_err-matches.ensures.refuses usage) has)
+    (λ usage edge floor has. no_edge (map string_bytes c.args.words.now) edge floor
+    (c.in_err-matches.ensures.refuses usage) has)

@@ -7,7 +7,9 @@ use Rattle.qm_cutmesh.proofs.regridded.Regridded.face.Goals as goal
 pub face-requires : goal.face-requires
 face-requires c =
     subst (λ n. c.args.f < n)
-    (λ i. face_count (layout_of (sym c.numbered.ensures.plan i)) (lengths_in (sym c.numbered.ensures.lengths i))) c.requires.face
+    (λ i. face_count (layout_of (sym c.numbered.ensures.plan i)) (lengths_in (sym c.numbered.ensures.lengths i)))
+    c.requires.face
 
 pub returns : goal.returns
-returns c = c.face.ensures ∙ (λ i. new_face (layout_of (c.numbered.ensures.plan i)) (lengths_in (c.numbered.ensures.lengths i)) c.args.f)
+returns c = c.face.ensures
+    ∙ (λ i. new_face (layout_of (c.numbered.ensures.plan i)) (lengths_in (c.numbered.ensures.lengths i)) c.args.f)

@@ -18,8 +18,10 @@ rim-requires c = record {
 
 pub returns-clause-wide : goal.returns-clause-wide
 returns-clause-wide c =
-    c.rim.ensures.wide ∙ (λ i. wide (layout_of (c.placed.ensures.plan i)) (lengths_in (c.placed.ensures.lengths i)) c.args.patch)
+    c.rim.ensures.wide ∙ (λ i. wide (layout_of (c.placed.ensures.plan i)) (lengths_in (c.placed.ensures.lengths i))
+    c.args.patch)
 
 pub returns-clause-high : goal.returns-clause-high
 returns-clause-high c =
-    c.rim.ensures.high ∙ (λ i. high (layout_of (c.placed.ensures.plan i)) (lengths_in (c.placed.ensures.lengths i)) c.args.patch)
+    c.rim.ensures.high ∙ (λ i. high (layout_of (c.placed.ensures.plan i)) (lengths_in (c.placed.ensures.lengths i))
+    c.args.patch)

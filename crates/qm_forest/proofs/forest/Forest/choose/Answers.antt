@@ -3,13 +3,17 @@ use Rattle.qm_forest.specs.Rounds.{IsRound, matched_by}
 use Rattle.qm_forest.proofs.forest.Forest.choose.Goals as goal
 
 pub match_waiting-requires-clause-begun : goal.match_waiting-requires-clause-begun
-match_waiting-requires-clause-begun c = (λ b. 0, matched_by c.args.self.now (length c.match_mates.new.round.marks.items), c.match_mates.ensures.done)
+match_waiting-requires-clause-begun c =
+    (λ b. 0, matched_by c.args.self.now (length c.match_mates.new.round.marks.items), c.match_mates.ensures.done)
 
 pub returns-clause-chosen : goal.returns-clause-chosen
 returns-clause-chosen c = record {
   room = c.match_waiting.ensures.room;
-  done = (let same : length c.match_mates.new.round.marks.items ≡ length c.match_waiting.new.round.marks.items = omega (arith, c.match_mates.ensures.room.marks, c.match_waiting.ensures.room.marks) in
-      subst (λ m. IsRound c.args.self.now c.match_waiting.new.round.marks.items c.match_waiting.new.round.left_out.items (λ b. 0) (matched_by c.args.self.now m)) same
-      (c.match_waiting.ensures.done (λ b. 0) (matched_by c.args.self.now (length c.match_mates.new.round.marks.items)) c.match_mates.ensures.done));
+  done = (let same : length c.match_mates.new.round.marks.items ≡ length c.match_waiting.new.round.marks.items =
+      omega (arith, c.match_mates.ensures.room.marks, c.match_waiting.ensures.room.marks) in
+      subst (λ m. IsRound c.args.self.now c.match_waiting.new.round.marks.items c.match_waiting.new.round.left_out.items
+      (λ b. 0) (matched_by c.args.self.now m)) same
+      (c.match_waiting.ensures.done (λ b. 0) (matched_by c.args.self.now (length c.match_mates.new.round.marks.items))
+      c.match_mates.ensures.done));
   ended = c.match_waiting.ensures.ended;
 }

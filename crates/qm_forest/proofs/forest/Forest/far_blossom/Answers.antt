@@ -8,4 +8,7 @@ pub near-requires : goal.near-requires
 near-requires c = twin_dart (graph c.args.g.now) c.requires.graph c.args.d c.twin.result c.requires.dart c.twin.ensures
 
 pub outermost-requires : goal.outermost-requires
-outermost-requires c = subst (λ n. c.near.result < n) (sym c.requires.vertices) (subst (λ v. v < c.args.g.now.n) (sym c.near.ensures) ((are_darts (graph c.args.g.now) c.requires.graph.lawful).near_low c.twin.result (twin_dart (graph c.args.g.now) c.requires.graph c.args.d c.twin.result c.requires.dart c.twin.ensures)))
+outermost-requires c = subst (λ n. c.near.result < n) (sym c.requires.vertices)
+    (subst (λ v. v < c.args.g.now.n) (sym c.near.ensures)
+    ((are_darts (graph c.args.g.now) c.requires.graph.lawful).near_low c.twin.result
+    (twin_dart (graph c.args.g.now) c.requires.graph c.args.d c.twin.result c.requires.dart c.twin.ensures)))

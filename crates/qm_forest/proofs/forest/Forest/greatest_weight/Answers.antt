@@ -9,10 +9,18 @@ loop-b-preserved c =
     record {
       above = λ b l. elim (cases_lt b c.loop-b.b) [
         | inl lt ↦ omega (arith, c.greater_of-most.ensures, c.loop-b.invariant.above b lt)
-        | inr ge ↦ (let same : c.loop-b.b ≡ b = omega (arith, l, ge) in subst (λ x. unsigned_abs ((forest_of c.args.self.now).weight x) ≤ c.greater_of-most.result) same (omega (arith, c.greater_of-most.ensures, c.weight_size.ensures)))
+        | inr ge ↦ (let same : c.loop-b.b ≡ b = omega (arith, l, ge) in
+            subst (λ x. unsigned_abs ((forest_of c.args.self.now).weight x) ≤ c.greater_of-most.result) same
+            (omega (arith, c.greater_of-most.ensures, c.weight_size.ensures)))
       ];
       attained = elim (cases_lt c.loop-b.most c.weight_size.result) [
-        | inl lt ↦ inr (c.loop-b.b, (let e : unsigned_abs ((forest_of c.args.self.now).weight c.loop-b.b) ≡ c.greater_of-most.result = omega (arith, c.greater_of-most.ensures, c.weight_size.ensures, lt) in e))
-        | inr ge ↦ (let e : c.loop-b.most ≡ c.greater_of-most.result = omega (arith, c.greater_of-most.ensures, ge) in subst (λ x. (x ≡ 0) ⊎ ((b : ℕ) × (unsigned_abs ((forest_of c.args.self.now).weight b) ≡ x))) e c.loop-b.invariant.attained)
+        | inl lt ↦ inr (
+          c.loop-b.b,
+          (let e : unsigned_abs ((forest_of c.args.self.now).weight c.loop-b.b)
+              ≡ c.greater_of-most.result = omega (arith, c.greater_of-most.ensures, c.weight_size.ensures, lt) in e),
+        )
+        | inr ge ↦ (let e : c.loop-b.most ≡ c.greater_of-most.result = omega (arith, c.greater_of-most.ensures, ge) in
+            subst (λ x. (x ≡ 0) ⊎ ((b : ℕ) × (unsigned_abs ((forest_of c.args.self.now).weight b) ≡ x))) e
+            c.loop-b.invariant.attained)
       ];
     }

@@ -13,5 +13,7 @@ returns-clause-value c = omega (
   c.potential.ensures.small,
   c.potential-2.ensures.value,
   c.potential-2.ensures.small,
-  load_across (graph c.args.g.now).n (forest_of c.args.self.now) c.requires.valid.valid.outermost c.args.u c.args.v (subst (λ n. c.args.u < n) c.requires.valid.vertices c.requires.vertices.0) (subst (λ n. c.args.v < n) c.requires.valid.vertices c.requires.vertices.1) c.requires.apart,
+  load_across (graph c.args.g.now).n (forest_of c.args.self.now) c.requires.valid.valid.outermost c.args.u c.args.v
+      (subst (λ n. c.args.u < n) c.requires.valid.vertices c.requires.vertices.0)
+      (subst (λ n. c.args.v < n) c.requires.valid.vertices c.requires.vertices.1) c.requires.apart,
 )

@@ -7,10 +7,16 @@ use Rattle.qm_forest.proofs.forest.Forest.new_round.Goals as goal
 
 pub returns-clause-room : goal.returns-clause-room
 returns-clause-room c =
-    let near : length c.self.inside.tree.near.items ≡ length c.args.self.now.near = ap (λ (t : ForestTables). length t.near) c.self.view_is in
-    let up : length c.self.inside.rings.up.items ≡ length c.args.self.now.up = ap (λ (t : ForestTables). length t.up) c.self.view_is in
-    room_begins c.args.self.now c.empty_round.result (c.len.result / 2) c.len-2.result (subst (λ (t : ForestTables). IsLaminar t) c.self.view_is (laminar _ _ c.self.invariant))
-    (omega (arith, near, c.requires.2.darts, c.len.ensures, c.self.inside.tree.near.ok.0)) (omega (arith, up, c.len-2.ensures, c.self.inside.rings.up.ok.0)) c.empty_round.ensures.marks c.empty_round.ensures.left_out
+    let near : length c.self.inside.tree.near.items ≡ length c.args.self.now.near =
+    ap (λ (t : ForestTables). length t.near) c.self.view_is in
+    let up : length c.self.inside.rings.up.items ≡ length c.args.self.now.up =
+    ap (λ (t : ForestTables). length t.up) c.self.view_is in
+    room_begins c.args.self.now c.empty_round.result (c.len.result / 2) c.len-2.result
+    (subst (λ (t : ForestTables). IsLaminar t) c.self.view_is (laminar _ _ c.self.invariant))
+    (omega (arith, near, c.requires.2.darts, c.len.ensures, c.self.inside.tree.near.ok.0))
+    (omega (arith, up, c.len-2.ensures, c.self.inside.rings.up.ok.0)) c.empty_round.ensures.marks
+    c.empty_round.ensures.left_out
 
 pub returns-clause-begun : goal.returns-clause-begun
-returns-clause-begun c = rounds_begin c.args.self.now c.empty_round.result (c.len.result / 2) c.len-2.result c.empty_round.ensures.marks c.empty_round.ensures.left_out
+returns-clause-begun c = rounds_begin c.args.self.now c.empty_round.result (c.len.result / 2) c.len-2.result
+    c.empty_round.ensures.marks c.empty_round.ensures.left_out

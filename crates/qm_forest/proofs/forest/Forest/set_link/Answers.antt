@@ -6,5 +6,7 @@ use Rattle.qm_forest.proofs.forest.Forest.set_link.Goals as goal
 
 pub returns-clause-seen : goal.returns-clause-seen
 returns-clause-seen c =
-    let low : c.args.b < length c.self.inside.rings.up.items = subst (λ (t : ForestTables). c.args.b < length t.up) (sym c.self.view_is) c.requires in
-    seen_link _ _ c.self.invariant c.args.b c.args.link low ∙ ap (λ (t : ForestTables). linked (forest_of t) c.args.b c.args.link) c.self.view_is
+    let low : c.args.b < length c.self.inside.rings.up.items =
+    subst (λ (t : ForestTables). c.args.b < length t.up) (sym c.self.view_is) c.requires in
+    seen_link _ _ c.self.invariant c.args.b c.args.link low
+    ∙ ap (λ (t : ForestTables). linked (forest_of t) c.args.b c.args.link) c.self.view_is

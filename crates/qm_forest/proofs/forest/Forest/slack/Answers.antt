@@ -8,6 +8,10 @@ use Rattle.qm_forest.proofs.forest.Forest.slack.Goals as goal
 
 pub returns : goal.returns
 returns c =
-    let cost : c.edge_of-edge.result.cost ≡ (edge_at (graph c.args.g.now) c.args.e).cost = ap (λ (x : WEdge). x.cost) c.edge_of-edge.ensures in
-    let between : weight_between (forest_of c.args.self.now) c.edge_of-edge.result.u c.edge_of-edge.result.v ≡ weight_between (forest_of c.args.self.now) (edge_at (graph c.args.g.now) c.args.e).u (edge_at (graph c.args.g.now) c.args.e).v = ap (λ (x : WEdge). weight_between (forest_of c.args.self.now) x.u x.v) c.edge_of-edge.ensures in
+    let cost : c.edge_of-edge.result.cost ≡ (edge_at (graph c.args.g.now) c.args.e).cost =
+    ap (λ (x : WEdge). x.cost) c.edge_of-edge.ensures in
+    let between : weight_between (forest_of c.args.self.now) c.edge_of-edge.result.u c.edge_of-edge.result.v
+    ≡ weight_between (forest_of c.args.self.now) (edge_at (graph c.args.g.now) c.args.e).u
+    (edge_at (graph c.args.g.now) c.args.e).v =
+    ap (λ (x : WEdge). weight_between (forest_of c.args.self.now) x.u x.v) c.edge_of-edge.ensures in
     omega (arith, ints, c.from.ensures, c.load_between.ensures.value, c.load_between.ensures.small, cost, between)

@@ -9,10 +9,20 @@ weight_from-requires-clause-delta c = omega (arith, ints, delta_small _ _ c.self
 
 pub overflow_cast-result : goal.overflow_cast-result
 overflow_cast-result c =
-    let is : c.weight_from.result ≡ weight_at c.self.inside.weights.base.items c.self.inside.tree.label.items c.self.inside.weights.delta c.args.b = weight_read _ _ _ _ _ _ _ _ c.weight_from.ensures c.deref.ensures.value c.deref-2.ensures.value (kept_in_bits _ (omega (arith, delta_small _ _ c.self.invariant))) in
+    let is : c.weight_from.result ≡ weight_at c.self.inside.weights.base.items c.self.inside.tree.label.items
+    c.self.inside.weights.delta c.args.b = weight_read _ _ _ _ _ _ _ _ c.weight_from.ensures c.deref.ensures.value
+    c.deref-2.ensures.value (kept_in_bits _ (omega (arith, delta_small _ _ c.self.invariant))) in
     omega (arith, ints, is, c.self.invariant.numbers.small c.args.b)
 
 pub returns : goal.returns
 returns c =
-    let is : c.weight_from.result ≡ weight_at c.self.inside.weights.base.items c.self.inside.tree.label.items c.self.inside.weights.delta c.args.b = weight_read _ _ _ _ _ _ _ _ c.weight_from.ensures c.deref.ensures.value c.deref-2.ensures.value (kept_in_bits _ (omega (arith, delta_small _ _ c.self.invariant))) in
-    omega (arith, ints, is, c.self.invariant.numbers.small c.args.b, ap (λ (t : ForestTables). weight_at t.base t.label t.delta c.args.b) c.self.view_is)
+    let is : c.weight_from.result ≡ weight_at c.self.inside.weights.base.items c.self.inside.tree.label.items
+    c.self.inside.weights.delta c.args.b = weight_read _ _ _ _ _ _ _ _ c.weight_from.ensures c.deref.ensures.value
+    c.deref-2.ensures.value (kept_in_bits _ (omega (arith, delta_small _ _ c.self.invariant))) in
+    omega (
+      arith,
+      ints,
+      is,
+      c.self.invariant.numbers.small c.args.b,
+      ap (λ (t : ForestTables). weight_at t.base t.label t.delta c.args.b) c.self.view_is,
+    )

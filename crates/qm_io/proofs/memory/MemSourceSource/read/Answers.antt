@@ -23,5 +23,6 @@ returns-clause-gives c =
     ≡ drop c.self.inside.at c.self.inside.bytes.items =
     take_rest c.deref-2.result.now c.self.inside.at ∙ ap (drop c.self.inside.at) held in
     ap (λ (s : Feed). Some s.left) (sym c.self.view_is)
-    ∙ ap Some (given c.self.inside.bytes.items _ c.copy_from_slice.new.self c.args.buf.now c.self.inside.at c.min-count.result
+    ∙ ap Some (given c.self.inside.bytes.items _ c.copy_from_slice.new.self c.args.buf.now c.self.inside.at
+    c.min-count.result
     c.min.result rest c.min-count.ensures c.copy_from_slice.ensures.after)

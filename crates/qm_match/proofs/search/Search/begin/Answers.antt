@@ -8,17 +8,27 @@ use Rattle.qm_match.proofs.search.Search.begin.Goals as goal
 
 pub refresh-requires : goal.refresh-requires
 refresh-requires c =
-    let valid : IsValidFor (graph c.args.g.now) c.root.new.self = c.root.ensures.valid (graph c.args.g.now) c.requires.idle.made.small.lawful c.requires.idle.valid in
-    may_vertex (graph c.args.g.now) (record c.args.self.now { forest = c.root.new.self }) c.args.v c.outermost-b.result (made_after (graph c.args.g.now) c.args.self.now c.root.new.self c.requires.idle.made (ap (λ (f : Forest). f.size) c.root.ensures.changed)) valid c.requires.vertex
+    let valid : IsValidFor (graph c.args.g.now) c.root.new.self =
+    c.root.ensures.valid (graph c.args.g.now) c.requires.idle.made.small.lawful c.requires.idle.valid in
+    may_vertex (graph c.args.g.now) (record c.args.self.now { forest = c.root.new.self }) c.args.v c.outermost-b.result
+    (made_after (graph c.args.g.now) c.args.self.now c.root.new.self c.requires.idle.made
+    (ap (λ (f : Forest). f.size) c.root.ensures.changed)) valid c.requires.vertex
     (ap (λ (f : Forest). f.out c.args.v) c.root.ensures.changed ∙ sym c.outermost-b.ensures.value)
 
 pub returns-clause-way : goal.returns-clause-way
 returns-clause-way c =
-    let valid : IsValidFor (graph c.args.g.now) c.root.new.self = c.root.ensures.valid (graph c.args.g.now) c.requires.idle.made.small.lawful c.requires.idle.valid in
-    begun_way (graph c.args.g.now) c.args.self.now c.root.new.self c.refresh.new.self c.args.v c.requires.idle valid c.refresh.ensures.refreshed c.root.ensures.changed c.root.ensures.root
-    (right_in (graph c.args.g.now) c.args.self.now c.root.new.self c.refresh.new.self ((forest_of c.args.self.now.forest).out c.args.v) c.refresh.ensures.refreshed (subst (λ x. IsFreshAt (graph c.args.g.now) c.refresh.new.self x) c.outermost-b.ensures.value c.refresh.ensures.here))
+    let valid : IsValidFor (graph c.args.g.now) c.root.new.self =
+    c.root.ensures.valid (graph c.args.g.now) c.requires.idle.made.small.lawful c.requires.idle.valid in
+    begun_way (graph c.args.g.now) c.args.self.now c.root.new.self c.refresh.new.self c.args.v c.requires.idle valid
+    c.refresh.ensures.refreshed c.root.ensures.changed c.root.ensures.root
+    (right_in (graph c.args.g.now) c.args.self.now c.root.new.self c.refresh.new.self
+    ((forest_of c.args.self.now.forest).out c.args.v) c.refresh.ensures.refreshed
+    (subst (λ x. IsFreshAt (graph c.args.g.now) c.refresh.new.self x) c.outermost-b.ensures.value
+    c.refresh.ensures.here))
 
 pub returns-clause-seeking : goal.returns-clause-seeking
 returns-clause-seeking c =
-    let valid : IsValidFor (graph c.args.g.now) c.root.new.self = c.root.ensures.valid (graph c.args.g.now) c.requires.idle.made.small.lawful c.requires.idle.valid in
-    begun_seeking (graph c.args.g.now) c.args.self.now c.root.new.self c.refresh.new.self c.args.v c.requires.idle valid c.refresh.ensures.refreshed c.root.ensures.changed c.requires.vertex c.requires.before c.root.ensures.root
+    let valid : IsValidFor (graph c.args.g.now) c.root.new.self =
+    c.root.ensures.valid (graph c.args.g.now) c.requires.idle.made.small.lawful c.requires.idle.valid in
+    begun_seeking (graph c.args.g.now) c.args.self.now c.root.new.self c.refresh.new.self c.args.v c.requires.idle valid
+    c.refresh.ensures.refreshed c.root.ensures.changed c.requires.vertex c.requires.before c.root.ensures.root

@@ -9,11 +9,23 @@ use Rattle.qm_match.proofs.Taken.{may_part, part_of, parts_few}
 use Rattle.qm_match.proofs.search.Search.list_parts.Goals as goal
 
 pub unwrap-requires : goal.unwrap-requires
-unwrap-requires c = c.push.ensures.succeeds (omega (arith, c.loop.invariant.count, c.loop.invariant.room, c.loop-test.true, c.parts-end.ensures, parts_few (graph c.args.g.now) c.requires.made.small.lawful c.args.self.now.forest c.args.b c.requires.valid c.requires.set c.requires.live, c.loop.self.parts.ok.0))
+unwrap-requires c = c.push.ensures.succeeds (omega (
+  arith,
+  c.loop.invariant.count,
+  c.loop.invariant.room,
+  c.loop-test.true,
+  c.parts-end.ensures,
+  parts_few (graph c.args.g.now) c.requires.made.small.lawful
+      c.args.self.now.forest c.args.b c.requires.valid c.requires.set c.requires.live,
+  c.loop.self.parts.ok.0,
+))
 
 pub next-part-requires : goal.next-part-requires
-next-part-requires c = subst (λ (t : ForestTables). c.loop.part < length t.up) (sym (ap (λ (s : Search). s.forest) c.loop.invariant.same)) (subst (λ p. p < length c.args.self.now.forest.up) (sym c.loop.invariant.here)
-    ((may_part (graph c.args.g.now) c.args.self.now c.args.b c.loop.counter c.requires.made c.requires.valid c.requires.set c.requires.live).low))
+next-part-requires c = subst (λ (t : ForestTables). c.loop.part < length t.up)
+    (sym (ap (λ (s : Search). s.forest) c.loop.invariant.same)) (subst (λ p. p < length c.args.self.now.forest.up)
+    (sym c.loop.invariant.here)
+    ((may_part (graph c.args.g.now) c.args.self.now c.args.b c.loop.counter c.requires.made c.requires.valid
+    c.requires.set c.requires.live).low))
 
 pub loop-preserved : goal.loop-preserved
 loop-preserved c =
@@ -22,7 +34,13 @@ loop-preserved c =
     record {
       same = ap (λ (s : Search). record s { parts = c.push.new.self }) c.loop.invariant.same;
       room = omega (arith, c.push.ensures.capacity, c.loop.invariant.room);
-      here = c.next-part.ensures ∙ (ap (λ (s : Search). get_or s.forest.after c.loop.part 0) c.loop.invariant.same ∙ (ap (λ p. get_or c.args.self.now.forest.after p 0) c.loop.invariant.here ∙ ap (part_of c.args.self.now.forest c.args.b) one));
-      count = ap length pushed ∙ (length_push c.loop.self.parts.items c.loop.part ∙ (let e : length c.loop.self.parts.items + 1 ≡ c.loop.counter + 1 = omega (arith, c.loop.invariant.count) in e));
-      each = copied_more c.loop.self.parts.items _ (λ i. get_or c.args.self.now.forest.after i 0) (get_or c.args.self.now.forest.head c.args.b 0) c.loop.counter c.loop.part pushed c.loop.invariant.count c.loop.invariant.here c.loop.invariant.each;
+      here = c.next-part.ensures ∙ (ap (λ (s : Search). get_or s.forest.after c.loop.part 0) c.loop.invariant.same
+          ∙ (ap (λ p. get_or c.args.self.now.forest.after p 0) c.loop.invariant.here
+          ∙ ap (part_of c.args.self.now.forest c.args.b) one));
+      count = ap length pushed ∙ (length_push c.loop.self.parts.items c.loop.part
+          ∙ (let e : length c.loop.self.parts.items + 1 ≡ c.loop.counter + 1 =
+          omega (arith, c.loop.invariant.count) in e));
+      each = copied_more c.loop.self.parts.items _ (λ i. get_or c.args.self.now.forest.after i 0)
+          (get_or c.args.self.now.forest.head c.args.b 0) c.loop.counter c.loop.part pushed c.loop.invariant.count
+          c.loop.invariant.here c.loop.invariant.each;
     }

@@ -6,4 +6,8 @@ use Rattle.qm_match.specs.States.{IsIdle}
 use Rattle.qm_match.proofs.search.Search.match_all.Given as goal
 
 abbrev pub invariant-loop-v : goal.invariant-loop-v
-invariant-loop-v l = record { idle : IsIdle (graph l.g) l.self; done : AreMatchedBefore (forest_of l.self.forest) l.v; first : l.self.first ≡ l.fn.self.first }
+invariant-loop-v l = record {
+  idle : IsIdle (graph l.g) l.self;
+  done : AreMatchedBefore (forest_of l.self.forest) l.v;
+  first : l.self.first ≡ l.fn.self.first;
+}

@@ -11,14 +11,30 @@ use Rattle.qm_match.proofs.Ready.{free_augments, matched_idle}
 use Rattle.qm_match.proofs.search.Search.match_edge.Goals as goal
 
 pub augment-requires-clause-valid : goal.augment-requires-clause-valid
-augment-requires-clause-valid c = c.root.ensures.valid (graph c.args.g.now) c.requires.idle.made.small.lawful c.requires.idle.valid
+augment-requires-clause-valid c = c.root.ensures.valid (graph c.args.g.now) c.requires.idle.made.small.lawful
+    c.requires.idle.valid
 
 pub augment-requires-clause-kind : goal.augment-requires-clause-kind
 augment-requires-clause-kind c =
-    let edge : c.index.result.now ≡ edge_at (graph c.args.g.now) c.args.e = get_or_read c.args.g.now.edges.items c.args.e _ c.requires.edge c.index.ensures (record { u = 0; v = 0; cost = pos 0 }) in
-    let valid : IsValid (darts_of (graph c.args.g.now)) (forest_of c.args.self.now.forest) None = subst (λ (o : Option ℕ). IsValid (darts_of (graph c.args.g.now)) (forest_of c.args.self.now.forest) o) c.requires.idle.no_tree c.requires.idle.valid.valid in
-    ap (λ (f : Forest). edge_kind (graph c.args.g.now) f c.args.e) (c.root.ensures.changed ∙ ap (λ (x : WEdge). rooted (forest_of c.args.self.now.forest) ((forest_of c.args.self.now.forest).out x.u)) edge)
+    let edge : c.index.result.now ≡ edge_at (graph c.args.g.now) c.args.e =
+    get_or_read c.args.g.now.edges.items c.args.e _ c.requires.edge c.index.ensures (record {
+      u = 0;
+      v = 0;
+      cost =
+          pos 0;
+    }) in
+    let valid : IsValid (darts_of (graph c.args.g.now)) (forest_of c.args.self.now.forest) None =
+    subst (λ (o : Option ℕ). IsValid (darts_of (graph c.args.g.now)) (forest_of c.args.self.now.forest) o)
+    c.requires.idle.no_tree c.requires.idle.valid.valid in
+    ap (λ (f : Forest). edge_kind (graph c.args.g.now) f c.args.e) (c.root.ensures.changed
+    ∙ ap (λ (x : WEdge). rooted (forest_of c.args.self.now.forest) ((forest_of c.args.self.now.forest).out x.u))
+    edge)
     ∙ free_augments (graph c.args.g.now) (forest_of c.args.self.now.forest) c.args.e valid c.requires.free
 
 pub returns : goal.returns
-returns c = record { first = refl; idle = matched_idle (graph c.args.g.now) c.args.self.now c.root.new.self c.augment.new.self _ _ c.requires.idle c.root.ensures.changed c.augment.ensures.valid c.augment.ensures.root c.augment.ensures.changed }
+returns c = record {
+  first = refl;
+  idle = matched_idle (graph c.args.g.now) c.args.self.now c.root.new.self
+      c.augment.new.self _ _ c.requires.idle c.root.ensures.changed c.augment.ensures.valid c.augment.ensures.root
+      c.augment.ensures.changed;
+}

@@ -8,5 +8,6 @@ abbrev pub invariant-loop-k : goal.invariant-loop-k
 invariant-loop-k l = record {
   same : l.self ≡ record l.fn.self { tour = l.self.tour };
   mended : IsMended (graph l.g) (forest_of l.fn.self.forest) l.fn.self.risen l.fn.self.tour l.self.tour;
-  done : (j : ℕ) → j < l.k → AreRightAt (graph l.g) (forest_of l.fn.self.forest) l.fn.self.risen l.self.tour (λ w. eqb w (get_or l.fn.self.members.items j 0));
+  done : (j : ℕ) → j < l.k → AreRightAt (graph l.g) (forest_of l.fn.self.forest) l.fn.self.risen l.self.tour
+      (λ w. eqb w (get_or l.fn.self.members.items j 0));
 }

@@ -13,5 +13,6 @@ invariant-loop l = record {
   here : l.part ≡ part_of l.fn.self.forest l.set l.counter;
   mended : IsMended (graph l.g) (forest_of l.fn.self.forest) l.fn.self.risen l.fn.self.tour l.self.tour;
   right : (k : ℕ) → k < l.counter → get_or l.fn.self.inner.items (part_of l.fn.self.forest l.set k) false ≡ true
-      → AreRightAt (graph l.g) (forest_of l.fn.self.forest) l.fn.self.risen l.self.tour ((forest_of l.fn.self.forest).holds (part_of l.fn.self.forest l.set k));
+      → AreRightAt (graph l.g) (forest_of l.fn.self.forest) l.fn.self.risen l.self.tour
+      ((forest_of l.fn.self.forest).holds (part_of l.fn.self.forest l.set k));
 }

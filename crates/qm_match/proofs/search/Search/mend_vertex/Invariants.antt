@@ -11,7 +11,8 @@ invariant-loop-entry l = record {
   low : l.entry ≤ 2 * length l.g.edges.items;
   mended : IsMended (graph l.g) (forest_of l.fn.self.forest) l.fn.self.risen l.fn.self.tour l.self.tour;
   done : (x : ℕ) → IsOn l.fn.self.fans.next.items (get_or l.fn.self.fans.first.items l.v 0) x
-      → (get_or l.self.tour (x / 2) 0 ≡ true_key (graph l.g) (forest_of l.fn.self.forest) l.fn.self.risen (x / 2)) ⊎ IsOn l.fn.self.fans.next.items l.entry x;
+      → (get_or l.self.tour (x / 2) 0 ≡ true_key (graph l.g) (forest_of l.fn.self.forest) l.fn.self.risen (x / 2))
+      ⊎ IsOn l.fn.self.fans.next.items l.entry x;
 }
 
 abbrev pub decreases-loop-entry : goal.decreases-loop-entry

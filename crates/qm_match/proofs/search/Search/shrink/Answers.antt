@@ -5,52 +5,140 @@ use Rattle.std.proofs.Common.{false}
 use Rattle.def_matching.specs.Matching.{edge_at, graph}
 use Rattle.def_matching.specs.declared.weighted.WEdge.{WEdge}
 use Rattle.qm_match.specs.States.{IsMade, IsRefreshed}
-use Rattle.qm_match.proofs.Taken.{closed_high, closed_live, closed_right, closed_set, made_after, shrunk_goes_on, shrunk_less, shrunk_way, unmarked}
+use Rattle.qm_match.proofs.Taken.{closed_high, closed_live, closed_right, closed_set, made_after, shrunk_goes_on}
+use Rattle.qm_match.proofs.Taken.{shrunk_less, shrunk_way, unmarked}
 use Rattle.qm_match.proofs.search.Search.shrink.Goals as goal
 
 pub outermost-set-requires : goal.outermost-set-requires
 outermost-set-requires c =
-    let edge : c.index.result.now ≡ edge_at (graph c.args.g.now) c.args.e = get_or_read c.args.g.now.edges.items c.args.e _ c.requires.edge c.index.ensures (record { u = 0; v = 0; cost = pos 0 }) in
-    subst (λ n. c.index.result.now.u < n) (sym c.shrink.ensures.valid.vertices) (subst (λ (x : WEdge). x.u < c.args.g.now.n) (sym edge) (c.requires.way.made.small.lawful.left c.args.e c.requires.edge))
+    let edge : c.index.result.now ≡ edge_at (graph c.args.g.now) c.args.e =
+    get_or_read c.args.g.now.edges.items c.args.e _ c.requires.edge c.index.ensures (record {
+      u = 0;
+      v = 0;
+      cost =
+          pos 0;
+    }) in
+    subst (λ n. c.index.result.now.u < n) (sym c.shrink.ensures.valid.vertices)
+    (subst (λ (x : WEdge). x.u < c.args.g.now.n) (sym edge) (c.requires.way.made.small.lawful.left c.args.e
+    c.requires.edge))
 
 pub mend_parts-requires-clause-set : goal.mend_parts-requires-clause-set
 mend_parts-requires-clause-set c =
-    let edge : c.index.result.now ≡ edge_at (graph c.args.g.now) c.args.e = get_or_read c.args.g.now.edges.items c.args.e _ c.requires.edge c.index.ensures (record { u = 0; v = 0; cost = pos 0 }) in
+    let edge : c.index.result.now ≡ edge_at (graph c.args.g.now) c.args.e =
+    get_or_read c.args.g.now.edges.items c.args.e _ c.requires.edge c.index.ensures (record {
+      u = 0;
+      v = 0;
+      cost =
+          pos 0;
+    }) in
     let s = c.shrink.ensures.changed in
-    let set_is : c.outermost-set.result ≡ s.set = closed_set (graph c.args.g.now) c.args.self.now c.shrink.new.self c.args.e c.requires.way s c.requires.edge c.index.result.now.u c.outermost-set.result (ap (λ (x : WEdge). x.u) edge) c.outermost-set.ensures.value in
-    closed_high (graph c.args.g.now) c.args.self.now c.shrink.new.self (2 * c.args.e) c.requires.way s c.outermost-set.result set_is
+    let set_is : c.outermost-set.result ≡ s.set = closed_set (graph c.args.g.now) c.args.self.now c.shrink.new.self
+    c.args.e c.requires.way s c.requires.edge c.index.result.now.u c.outermost-set.result
+    (ap (λ (x : WEdge). x.u) edge) c.outermost-set.ensures.value in
+    closed_high (graph c.args.g.now) c.args.self.now c.shrink.new.self (2 * c.args.e) c.requires.way s
+    c.outermost-set.result set_is
 
 pub mend_parts-requires-clause-live : goal.mend_parts-requires-clause-live
 mend_parts-requires-clause-live c =
-    let edge : c.index.result.now ≡ edge_at (graph c.args.g.now) c.args.e = get_or_read c.args.g.now.edges.items c.args.e _ c.requires.edge c.index.ensures (record { u = 0; v = 0; cost = pos 0 }) in
+    let edge : c.index.result.now ≡ edge_at (graph c.args.g.now) c.args.e =
+    get_or_read c.args.g.now.edges.items c.args.e _ c.requires.edge c.index.ensures (record {
+      u = 0;
+      v = 0;
+      cost =
+          pos 0;
+    }) in
     let s = c.shrink.ensures.changed in
-    let set_is : c.outermost-set.result ≡ s.set = closed_set (graph c.args.g.now) c.args.self.now c.shrink.new.self c.args.e c.requires.way s c.requires.edge c.index.result.now.u c.outermost-set.result (ap (λ (x : WEdge). x.u) edge) c.outermost-set.ensures.value in
-    closed_live (graph c.args.g.now) c.args.self.now c.shrink.new.self (2 * c.args.e) c.requires.way s c.outermost-set.result set_is
+    let set_is : c.outermost-set.result ≡ s.set = closed_set (graph c.args.g.now) c.args.self.now c.shrink.new.self
+    c.args.e c.requires.way s c.requires.edge c.index.result.now.u c.outermost-set.result
+    (ap (λ (x : WEdge). x.u) edge) c.outermost-set.ensures.value in
+    closed_live (graph c.args.g.now) c.args.self.now c.shrink.new.self (2 * c.args.e) c.requires.way s
+    c.outermost-set.result set_is
 
 pub returns-clause-way : goal.returns-clause-way
 returns-clause-way c =
-    let edge : c.index.result.now ≡ edge_at (graph c.args.g.now) c.args.e = get_or_read c.args.g.now.edges.items c.args.e _ c.requires.edge c.index.ensures (record { u = 0; v = 0; cost = pos 0 }) in
+    let edge : c.index.result.now ≡ edge_at (graph c.args.g.now) c.args.e =
+    get_or_read c.args.g.now.edges.items c.args.e _ c.requires.edge c.index.ensures (record {
+      u = 0;
+      v = 0;
+      cost =
+          pos 0;
+    }) in
     let s = c.shrink.ensures.changed in
-    let set_is : c.outermost-set.result ≡ s.set = closed_set (graph c.args.g.now) c.args.self.now c.shrink.new.self c.args.e c.requires.way s c.requires.edge c.index.result.now.u c.outermost-set.result (ap (λ (x : WEdge). x.u) edge) c.outermost-set.ensures.value in
-    let made : IsMade (graph c.args.g.now) (record c.args.self.now { forest = c.shrink.new.self }) = made_after (graph c.args.g.now) c.args.self.now c.shrink.new.self c.requires.way.made s.shrunk.size in
-    let refreshed : IsRefreshed (graph c.args.g.now) (record c.args.self.now { forest = c.shrink.new.self }) (record c.mend_parts.new.self { inner = with_item c.mend_parts.new.self.inner c.outermost-set.result false }) = unmarked (graph c.args.g.now) c.args.self.now c.shrink.new.self (2 * c.args.e) c.requires.way s c.outermost-set.result set_is c.mend_parts.new.self (record c.mend_parts.new.self { inner = with_item c.mend_parts.new.self.inner c.outermost-set.result false }) made c.mend_parts.ensures.same c.mend_parts.ensures.room c.mend_parts.ensures.mended refl refl in
-    shrunk_way (graph c.args.g.now) c.args.self.now c.shrink.new.self (record c.mend_parts.new.self { inner = with_item c.mend_parts.new.self.inner c.outermost-set.result false }) (2 * c.args.e) c.requires.way c.shrink.ensures.valid refreshed s
-    (closed_right (graph c.args.g.now) c.args.self.now c.shrink.new.self (2 * c.args.e) c.requires.way s c.outermost-set.result set_is c.args.self.now.risen c.mend_parts.new.self.tour c.mend_parts.ensures.right)
+    let set_is : c.outermost-set.result ≡ s.set = closed_set (graph c.args.g.now) c.args.self.now c.shrink.new.self
+    c.args.e c.requires.way s c.requires.edge c.index.result.now.u c.outermost-set.result
+    (ap (λ (x : WEdge). x.u) edge) c.outermost-set.ensures.value in
+    let made : IsMade (graph c.args.g.now) (record c.args.self.now { forest = c.shrink.new.self }) =
+    made_after (graph c.args.g.now) c.args.self.now c.shrink.new.self c.requires.way.made s.shrunk.size in
+    let refreshed : IsRefreshed (graph c.args.g.now) (record c.args.self.now { forest = c.shrink.new.self })
+    (record c.mend_parts.new.self { inner = with_item c.mend_parts.new.self.inner c.outermost-set.result false }) =
+    unmarked (graph c.args.g.now) c.args.self.now c.shrink.new.self (2 * c.args.e) c.requires.way s
+    c.outermost-set.result set_is c.mend_parts.new.self (record c.mend_parts.new.self {
+      inner =
+          with_item c.mend_parts.new.self.inner c.outermost-set.result false;
+    }) made c.mend_parts.ensures.same
+    c.mend_parts.ensures.room c.mend_parts.ensures.mended refl refl in
+    shrunk_way (graph c.args.g.now) c.args.self.now c.shrink.new.self (record c.mend_parts.new.self {
+      inner =
+          with_item c.mend_parts.new.self.inner c.outermost-set.result false;
+    }) (2 * c.args.e) c.requires.way
+    c.shrink.ensures.valid refreshed s
+    (closed_right (graph c.args.g.now) c.args.self.now c.shrink.new.self (2 * c.args.e) c.requires.way s
+    c.outermost-set.result set_is c.args.self.now.risen c.mend_parts.new.self.tour c.mend_parts.ensures.right)
 
 pub returns-clause-goes_on : goal.returns-clause-goes_on
 returns-clause-goes_on c =
-    let edge : c.index.result.now ≡ edge_at (graph c.args.g.now) c.args.e = get_or_read c.args.g.now.edges.items c.args.e _ c.requires.edge c.index.ensures (record { u = 0; v = 0; cost = pos 0 }) in
+    let edge : c.index.result.now ≡ edge_at (graph c.args.g.now) c.args.e =
+    get_or_read c.args.g.now.edges.items c.args.e _ c.requires.edge c.index.ensures (record {
+      u = 0;
+      v = 0;
+      cost =
+          pos 0;
+    }) in
     let s = c.shrink.ensures.changed in
-    let set_is : c.outermost-set.result ≡ s.set = closed_set (graph c.args.g.now) c.args.self.now c.shrink.new.self c.args.e c.requires.way s c.requires.edge c.index.result.now.u c.outermost-set.result (ap (λ (x : WEdge). x.u) edge) c.outermost-set.ensures.value in
-    let made : IsMade (graph c.args.g.now) (record c.args.self.now { forest = c.shrink.new.self }) = made_after (graph c.args.g.now) c.args.self.now c.shrink.new.self c.requires.way.made s.shrunk.size in
-    let refreshed : IsRefreshed (graph c.args.g.now) (record c.args.self.now { forest = c.shrink.new.self }) (record c.mend_parts.new.self { inner = with_item c.mend_parts.new.self.inner c.outermost-set.result false }) = unmarked (graph c.args.g.now) c.args.self.now c.shrink.new.self (2 * c.args.e) c.requires.way s c.outermost-set.result set_is c.mend_parts.new.self (record c.mend_parts.new.self { inner = with_item c.mend_parts.new.self.inner c.outermost-set.result false }) made c.mend_parts.ensures.same c.mend_parts.ensures.room c.mend_parts.ensures.mended refl refl in
-    shrunk_goes_on (graph c.args.g.now) c.args.self.now c.shrink.new.self (record c.mend_parts.new.self { inner = with_item c.mend_parts.new.self.inner c.outermost-set.result false }) (2 * c.args.e) c.requires.way c.shrink.ensures.valid refreshed s
+    let set_is : c.outermost-set.result ≡ s.set = closed_set (graph c.args.g.now) c.args.self.now c.shrink.new.self
+    c.args.e c.requires.way s c.requires.edge c.index.result.now.u c.outermost-set.result
+    (ap (λ (x : WEdge). x.u) edge) c.outermost-set.ensures.value in
+    let made : IsMade (graph c.args.g.now) (record c.args.self.now { forest = c.shrink.new.self }) =
+    made_after (graph c.args.g.now) c.args.self.now c.shrink.new.self c.requires.way.made s.shrunk.size in
+    let refreshed : IsRefreshed (graph c.args.g.now) (record c.args.self.now { forest = c.shrink.new.self })
+    (record c.mend_parts.new.self { inner = with_item c.mend_parts.new.self.inner c.outermost-set.result false }) =
+    unmarked (graph c.args.g.now) c.args.self.now c.shrink.new.self (2 * c.args.e) c.requires.way s
+    c.outermost-set.result set_is c.mend_parts.new.self (record c.mend_parts.new.self {
+      inner =
+          with_item c.mend_parts.new.self.inner c.outermost-set.result false;
+    }) made c.mend_parts.ensures.same
+    c.mend_parts.ensures.room c.mend_parts.ensures.mended refl refl in
+    shrunk_goes_on (graph c.args.g.now) c.args.self.now c.shrink.new.self (record c.mend_parts.new.self {
+      inner =
+          with_item c.mend_parts.new.self.inner c.outermost-set.result false;
+    }) (2 * c.args.e) c.requires.way
+    c.shrink.ensures.valid refreshed s
 
 pub returns-clause-fewer : goal.returns-clause-fewer
 returns-clause-fewer c =
-    let edge : c.index.result.now ≡ edge_at (graph c.args.g.now) c.args.e = get_or_read c.args.g.now.edges.items c.args.e _ c.requires.edge c.index.ensures (record { u = 0; v = 0; cost = pos 0 }) in
+    let edge : c.index.result.now ≡ edge_at (graph c.args.g.now) c.args.e =
+    get_or_read c.args.g.now.edges.items c.args.e _ c.requires.edge c.index.ensures (record {
+      u = 0;
+      v = 0;
+      cost =
+          pos 0;
+    }) in
     let s = c.shrink.ensures.changed in
-    let set_is : c.outermost-set.result ≡ s.set = closed_set (graph c.args.g.now) c.args.self.now c.shrink.new.self c.args.e c.requires.way s c.requires.edge c.index.result.now.u c.outermost-set.result (ap (λ (x : WEdge). x.u) edge) c.outermost-set.ensures.value in
-    let made : IsMade (graph c.args.g.now) (record c.args.self.now { forest = c.shrink.new.self }) = made_after (graph c.args.g.now) c.args.self.now c.shrink.new.self c.requires.way.made s.shrunk.size in
-    let refreshed : IsRefreshed (graph c.args.g.now) (record c.args.self.now { forest = c.shrink.new.self }) (record c.mend_parts.new.self { inner = with_item c.mend_parts.new.self.inner c.outermost-set.result false }) = unmarked (graph c.args.g.now) c.args.self.now c.shrink.new.self (2 * c.args.e) c.requires.way s c.outermost-set.result set_is c.mend_parts.new.self (record c.mend_parts.new.self { inner = with_item c.mend_parts.new.self.inner c.outermost-set.result false }) made c.mend_parts.ensures.same c.mend_parts.ensures.room c.mend_parts.ensures.mended refl refl in
-    shrunk_less (graph c.args.g.now) c.args.self.now c.shrink.new.self (record c.mend_parts.new.self { inner = with_item c.mend_parts.new.self.inner c.outermost-set.result false }) (2 * c.args.e) c.requires.way c.shrink.ensures.valid refreshed s
+    let set_is : c.outermost-set.result ≡ s.set = closed_set (graph c.args.g.now) c.args.self.now c.shrink.new.self
+    c.args.e c.requires.way s c.requires.edge c.index.result.now.u c.outermost-set.result
+    (ap (λ (x : WEdge). x.u) edge) c.outermost-set.ensures.value in
+    let made : IsMade (graph c.args.g.now) (record c.args.self.now { forest = c.shrink.new.self }) =
+    made_after (graph c.args.g.now) c.args.self.now c.shrink.new.self c.requires.way.made s.shrunk.size in
+    let refreshed : IsRefreshed (graph c.args.g.now) (record c.args.self.now { forest = c.shrink.new.self })
+    (record c.mend_parts.new.self { inner = with_item c.mend_parts.new.self.inner c.outermost-set.result false }) =
+    unmarked (graph c.args.g.now) c.args.self.now c.shrink.new.self (2 * c.args.e) c.requires.way s
+    c.outermost-set.result set_is c.mend_parts.new.self (record c.mend_parts.new.self {
+      inner =
+          with_item c.mend_parts.new.self.inner c.outermost-set.result false;
+    }) made c.mend_parts.ensures.same
+    c.mend_parts.ensures.room c.mend_parts.ensures.mended refl refl in
+    shrunk_less (graph c.args.g.now) c.args.self.now c.shrink.new.self (record c.mend_parts.new.self {
+      inner =
+          with_item c.mend_parts.new.self.inner c.outermost-set.result false;
+    }) (2 * c.args.e) c.requires.way
+    c.shrink.ensures.valid refreshed s

@@ -5,5 +5,6 @@ use Rattle.qm_mesh.proofs.mesh.Mesh.from.Goals as goal
 
 pub returns-clause-vertex : goal.returns-clause-vertex
 returns-clause-vertex c =
-    let e : c.from.result ≡ from_of c.args.self.now c.args.d = c.from.ensures ∙ ap (λ f. from_of f c.args.d) (c.deref.ensures.value ∙ c.self.view_is) in
+    let e : c.from.result ≡ from_of c.args.self.now c.args.d =
+    c.from.ensures ∙ ap (λ f. from_of f c.args.d) (c.deref.ensures.value ∙ c.self.view_is) in
     omega (arith, e, all_below c.args.self.now c.args.d c.requires)

@@ -7,5 +7,11 @@ use Rattle.qm_mesh.proofs.mesh.Mesh.to.Goals as goal
 
 pub returns-clause-vertex : goal.returns-clause-vertex
 returns-clause-vertex c =
-    let e : c.to.result ≡ to_of c.args.self.now c.args.d = c.to.ensures ∙ ap (λ f. to_of f c.args.d) (c.deref.ensures.value ∙ c.self.view_is) in
-    omega (arith, e, end_low c.args.self.now (vertex_count c.args.self.now) c.args.d (all_below c.args.self.now) c.requires)
+    let e : c.to.result ≡ to_of c.args.self.now c.args.d =
+    c.to.ensures ∙ ap (λ f. to_of f c.args.d) (c.deref.ensures.value ∙ c.self.view_is) in
+    omega (
+      arith,
+      e,
+      end_low c.args.self.now (vertex_count c.args.self.now) c.args.d (all_below c.args.self.now)
+          c.requires,
+    )

@@ -4,4 +4,5 @@ use Rattle.qm_obj.proofs.joiner.Joiner.new.Goals as goal
 
 pub returns-clause-same : goal.returns-clause-same
 returns-clause-same c = λ lines.
-    rw (c.new.ensures.positions, c.new.ensures.faces, c.new.ensures.lines, c.new-2.ensures.items) (nothing_kept (logical_lines 1 lines))
+    rw (c.new.ensures.positions, c.new.ensures.faces, c.new.ensures.lines, c.new-2.ensures.items)
+    (nothing_kept (logical_lines 1 lines))

@@ -14,11 +14,18 @@ returns-then-is_empty-clause-same c = rw (is_nothing _ _ c.if-is_empty.ensures c
 pub returns-clause-same : goal.returns-clause-same
 returns-clause-same c =
     on_ok_weaker c.take.result
-    (λ (took : TookLine (kept_of c.args.self.now.joiner []) (kept_of c.take.new.self []) c.line_of.result.now). ended_tail (kept_at c.args.self.now) c.line_of.result.now c.requires.sound (is_something _ _ c.if-is_empty.ensures c.args.self.now.tail.ok.0) (c.line_of.ensures ∙ ap line_of c.deref.ensures.value) ∙ took.same [])
+    (λ (took : TookLine (kept_of c.args.self.now.joiner []) (kept_of c.take.new.self []) c.line_of.result.now).
+    ended_tail (kept_at c.args.self.now) c.line_of.result.now c.requires.sound
+    (is_something _ _ c.if-is_empty.ensures c.args.self.now.tail.ok.0) (c.line_of.ensures
+    ∙ ap line_of c.deref.ensures.value) ∙ took.same [])
     c.take.ensures.took
 
 pub returns-clause-refused : goal.returns-clause-refused
 returns-clause-refused c =
-    IfErr-weaker c.take.result (λ fail. fail ≢ Memory → RefusesLine (kept_of c.args.self.now.joiner []) c.line_of.result.now fail) (λ fail. fail ≢ Memory → soup_with (kept_at c.args.self.now) [] ≡ Err fail)
-    (λ fail is other. ended_tail (kept_at c.args.self.now) c.line_of.result.now c.requires.sound (is_something _ _ c.if-is_empty.ensures c.args.self.now.tail.ok.0) (c.line_of.ensures ∙ ap line_of c.deref.ensures.value) ∙ is other [])
+    IfErr-weaker c.take.result (λ fail. fail ≢ Memory
+    → RefusesLine (kept_of c.args.self.now.joiner []) c.line_of.result.now fail) (λ fail. fail ≢ Memory
+    → soup_with (kept_at c.args.self.now) [] ≡ Err fail)
+    (λ fail is other. ended_tail (kept_at c.args.self.now) c.line_of.result.now c.requires.sound
+    (is_something _ _ c.if-is_empty.ensures c.args.self.now.tail.ok.0) (c.line_of.ensures
+    ∙ ap line_of c.deref.ensures.value) ∙ is other [])
     c.take.ensures.refused

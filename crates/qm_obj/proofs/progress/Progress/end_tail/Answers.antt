@@ -15,6 +15,7 @@ returns-in_err-take-clause-refused c =
 
 pub returns-clause-took : goal.returns-clause-took
 returns-clause-took c =
-    fed_piece (kept_at c.args.self.now) (kept_of c.take.new.self c.clear.new.self.items) [] c.line_of.result.now c.requires.sound refl
+    fed_piece (kept_at c.args.self.now) (kept_of c.take.new.self c.clear.new.self.items) [] c.line_of.result.now
+    c.requires.sound refl
     (c.line_of.ensures ∙ ap line_of (c.deref.ensures.value ∙ sym (append-nil c.args.self.now.tail.items)))
     c.clear.ensures.items c.in_ok-take.ensures.took

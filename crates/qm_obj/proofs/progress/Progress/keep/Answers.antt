@@ -6,13 +6,15 @@ use Rattle.qm_obj.proofs.progress.Progress.keep.Goals as goal
 
 pub returns-then-bytes-held-clause-refused : goal.returns-then-bytes-held-clause-refused
 returns-then-bytes-held-clause-refused c = λ _.
-    rw c.too_long.ensures (long_piece (kept_at c.args.self.now) c.args.bytes.now c.number.result c.requires.sound c.requires.unended c.number.ensures
+    rw c.too_long.ensures (long_piece (kept_at c.args.self.now) c.args.bytes.now c.number.result c.requires.sound
+    c.requires.unended c.number.ensures
     (omega (arith, c.held.ensures, c.if-bytes-held.true)))
 
 pub returns-clause-took : goal.returns-clause-took
 returns-clause-took c =
     on_ok_weaker c.append.result
     (λ (grown : c.append.new.bytes.items ≡ c.args.self.now.tail.items ++ c.args.bytes.now).
-    kept_piece (kept_at c.args.self.now) c.args.bytes.now c.append.new.bytes.items c.requires.sound c.requires.unended grown
+    kept_piece (kept_at c.args.self.now) c.args.bytes.now c.append.new.bytes.items c.requires.sound c.requires.unended
+    grown
     (omega (arith, c.held.ensures, c.if-bytes-held.false)))
     c.append.ensures.grown

@@ -7,9 +7,11 @@ use Rattle.qm_stitch.proofs.numbering.Numbering.face.Goals as goal
 pub face-requires : goal.face-requires
 face-requires c =
     subst (λ n. c.args.f < n)
-    (λ i. face_count (layout_of (plan (sym c.on.ensures.layout i))) (lengths_in (sym c.on.ensures.tables i).lengths.items)) c.requires.face
+    (λ i. face_count (layout_of (plan (sym c.on.ensures.layout i)))
+    (lengths_in (sym c.on.ensures.tables i).lengths.items)) c.requires.face
 
 pub returns : goal.returns
 returns c =
     c.face.ensures
-    ∙ (λ i. new_face (layout_of (plan (c.on.ensures.layout i))) (lengths_in (c.on.ensures.tables i).lengths.items) c.args.f)
+    ∙ (λ i. new_face (layout_of (plan (c.on.ensures.layout i))) (lengths_in (c.on.ensures.tables i).lengths.items)
+    c.args.f)

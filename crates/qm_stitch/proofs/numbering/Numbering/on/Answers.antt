@@ -6,4 +6,7 @@ use Rattle.qm_stitch.proofs.numbering.Numbering.on.Goals as goal
 
 pub invariant_of-result : goal.invariant_of-result
 invariant_of-result c =
-    record { numbers = tables_are (plan c.args.t.now) c.self.inside.tables (subst (IsNumbering (plan c.args.t.now)) (sym c.self.view_is) c.requires) }
+    record {
+      numbers = tables_are (plan c.args.t.now) c.self.inside.tables
+          (subst (IsNumbering (plan c.args.t.now)) (sym c.self.view_is) c.requires);
+    }

@@ -11,7 +11,8 @@ overflow_add-result c =
       arith,
       are.few,
       are.nodes,
-      along_end plan c.self.inside.tables are c.deref.result.now c.last_of.result c.deref.ensures.value c.last_of.ensures,
+      along_end plan c.self.inside.tables are c.deref.result.now c.last_of.result c.deref.ensures.value
+          c.last_of.ensures,
     )
 
 pub overflow_add-result-2 : goal.overflow_add-result-2
@@ -22,6 +23,8 @@ overflow_add-result-2 c =
       arith,
       are.few,
       are.nodes,
-      along_end plan c.self.inside.tables are c.deref.result.now c.last_of.result c.deref.ensures.value c.last_of.ensures,
-      inside_end plan c.self.inside.tables are c.deref-2.result.now c.last_of-2.result c.deref-2.ensures.value c.last_of-2.ensures,
+      along_end plan c.self.inside.tables are c.deref.result.now c.last_of.result c.deref.ensures.value
+          c.last_of.ensures,
+      inside_end plan c.self.inside.tables are c.deref-2.result.now c.last_of-2.result c.deref-2.ensures.value
+          c.last_of-2.ensures,
     )
