@@ -69,6 +69,13 @@ impl Meshed {
     {
         &self.mesh
     }
+
+    /// The mesh of its faces, without the places and the numbers of its vertices.
+    pub fn into_mesh(self) -> Mesh
+        ensures { result ≡ self.faces }
+    {
+        self.mesh
+    }
 }
 
 /// Faces of four corners are quads.

@@ -8,9 +8,9 @@ ghost use Rattle.def_map.specs.Homes.{home_of};
 ghost use Rattle.def_map.specs.Laws.{IsSpot};
 ghost use Rattle.def_map.specs.Spots.{spot_at};
 ghost use Rattle.def_remesh.specs.NewPoints.{lengths_in};
-ghost use Rattle.def_remesh.specs.NewSoup.{new_place};
+ghost use Rattle.def_remesh.specs.NewSoup.{spaced_place};
 ghost use Rattle.def_remesh.specs.Numberings.{IsNumbering};
-ghost use Rattle.def_remesh.specs.Placings.{IsMeshLayout, LiesBetween};
+ghost use Rattle.def_remesh.specs.Placings.{shares_in, IsMeshLayout, LiesBetween};
 ghost use Rattle.def_remesh.specs.declared.limits.TheConstants.{MAX_NEW_FACES};
 ghost use Rattle.def_written.specs.NewFaces.{face_count, new_face};
 ghost use Rattle.def_written.specs.Numbers.{vertex_number, vertices};
@@ -18,7 +18,7 @@ ghost use Rattle.def_written.specs.Points.{point};
 
 use crate::cut_mesh::CutMesh;
 use def_map::{Home, Spot};
-use def_remesh::Rim;
+use def_remesh::{DartShares, Rim};
 use def_text::Micro;
 use qm_place::{Near, Placed, Places, placer};
 use qm_stitch::{Numbered, Numbering};
@@ -26,7 +26,7 @@ use std::alloc::{AllocError, Global};
 use std::marker::Model;
 
 /// A new mesh over a cut one, at whole lengths of the arcs: the numbers of its points and faces, and their places.
-/// Contracts see the soup, the layout and the lengths.
+/// Contracts see the soup, the layout, the lengths and the shares by which points are spaced.
 #[derive(Drop)]
 pub struct Regridded {
     cut: CutMesh,
@@ -38,30 +38,37 @@ impl Model for Regridded {
     ghost use Rattle.std.specs.Prelude.{◌≡◌};
     ghost use Rattle.def_remesh.specs.CutSoups.{Regrid};
     ghost use Rattle.def_remesh.specs.Numberings.{IsNumbering};
-    ghost use Rattle.def_remesh.specs.Placings.{ArePlaces};
+    ghost use Rattle.def_remesh.specs.Placings.{shares_in, ArePlaces};
 
     ghost Value = { Regrid };
 
-    ghost view = { λ r. record { soup = r.cut.soup; plan = r.cut.plan; lengths = r.numbering.lengths.items } };
+    ghost view = { λ r. record {
+      soup = r.cut.soup;
+      plan = r.cut.plan;
+      lengths = r.numbering.lengths.items;
+      shares = shares_in r.places.spaced;
+    } };
 
     ghost invariant = { λ r. IsNumbering r.cut.plan r.numbering × ArePlaces r.cut.soup.faces r.cut.plan r.places
         × (r.places.lengths.items ≡ r.numbering.lengths.items) };
 }
 
 impl Regridded {
-    /// The new mesh at the lengths that are numbered. Linear in the arcs, the patches and the new vertices on the sides
-    /// of patches.
+    /// The new mesh at the lengths that are numbered, whose points are spaced by shares, or evenly. Linear in the arcs,
+    /// their darts where there are shares, the patches and the new vertices on the sides of patches.
     pub fn new(
         alloc: Global,
         cut: CutMesh,
         numbering: Numbering,
         x: &[u64],
+        shares: Option<DartShares>,
     ) -> Result<Regridded, AllocError>
         requires numbering { IsNumbering cut.plan numbering }
         requires lengths { numbering.lengths.items ≡ x.now }
-        ensures { IfOk result (λ new. new ≡ record { soup = cut.soup; plan = cut.plan; lengths = x.now }) }
+        ensures { IfOk result (λ new.
+            new ≡ record { soup = cut.soup; plan = cut.plan; lengths = x.now; shares = shares }) }
     {
-        let places = placer(alloc, cut.mesh(), cut.layout(), x)?;
+        let places = placer(alloc, cut.mesh(), cut.layout(), x, shares)?;
         Ok(Regridded {
             cut,
             numbering,
@@ -125,7 +132,8 @@ impl Regridded {
     pub fn place_near(&self, v: u32, near: &mut Near) -> [Micro; 3]
         requires vertex { v < vertices (layout_of self.now.plan) (lengths_in self.now.lengths) }
         ensures value { result
-            ≡ new_place self.now.soup.faces self.now.plan self.now.soup.pos (lengths_in self.now.lengths) v }
+            ≡ spaced_place self.now.soup.faces self.now.plan self.now.soup.pos self.now.shares
+            (lengths_in self.now.lengths) v }
         ensures between { LiesBetween self.now.soup.pos result }
     {
         self.placed()
@@ -135,7 +143,7 @@ impl Regridded {
     /// Where vertex v lies in the old mesh. In constant time where it is near the last one, else logarithmic.
     pub fn spot_near(&self, v: u32, near: &mut Near) -> Spot
         requires vertex { v < vertices (layout_of self.now.plan) (lengths_in self.now.lengths) }
-        ensures value { result ≡ spot_at self.now.plan (lengths_in self.now.lengths) v }
+        ensures value { result ≡ spot_at self.now.plan self.now.shares (lengths_in self.now.lengths) v }
         ensures spot { IsSpot self.now.soup.faces result }
     {
         self.placed().spot_near(v, near)
@@ -146,7 +154,7 @@ impl Regridded {
         requires patch { patch < length self.now.plan.patches }
         requires column { i < wide (layout_of self.now.plan) (lengths_in self.now.lengths) patch }
         requires row { j < high (layout_of self.now.plan) (lengths_in self.now.lengths) patch }
-        ensures { result ≡ home_of self.now.plan (lengths_in self.now.lengths) patch i j }
+        ensures { result ≡ home_of self.now.plan self.now.shares (lengths_in self.now.lengths) patch i j }
     {
         self.placed().home(patch, i, j)
     }
@@ -176,8 +184,10 @@ impl Regridded {
     fn placed(&self) -> Placed<'_>
         ensures plan { plan result.t.now ≡ self.now.plan }
         ensures lengths { result.tables.now.lengths.items ≡ self.now.lengths }
+        ensures shares { shares_in result.tables.now.spaced ≡ self.now.shares }
         ensures laid { IsMeshLayout self.now.soup.faces self.now.plan }
         ensures even { AreLengths (layout_of self.now.plan) (lengths_in self.now.lengths) }
+        ensures few { face_count (layout_of self.now.plan) (lengths_in self.now.lengths) ≤ MAX_NEW_FACES }
     {
         self.places.on(self.cut.layout())
     }

@@ -8,9 +8,9 @@ ghost use Rattle.qm_top.specs.Runs.{HasRun};
 use crate::input::read_mesh;
 use crate::refusal::Refusal;
 use def_run::Command;
-use qm_cutmesh::Meshed;
 use qm_grid::patches;
 use qm_io::{Memory, Sink, Source, write_all};
+use qm_mesh::Mesh;
 use qm_report::graph_text;
 use qm_sing::sources;
 use qm_tmesh::layout;
@@ -27,17 +27,16 @@ pub(crate) fn graph<S: Source, O: Sink>(
         (change (S.state input.old) (S.state input.new))
         (stream O.state out.old out.new) result }
 {
-    let read = read_mesh(alloc, input)?;
-    let text = text_of(alloc, &read)?;
+    let mesh = read_mesh(alloc, input)?.into_mesh();
+    let text = text_of(alloc, &mesh)?;
     write_all(out, &text)?;
     Ok(())
 }
 
 /// The graph text of a mesh.
-fn text_of(alloc: Global, read: &Meshed) -> Result<Vec<u8>, Memory>
-    ensures { IfOk result (λ text. IsGraphText read.now.faces text.items) }
+fn text_of(alloc: Global, mesh: &Mesh) -> Result<Vec<u8>, Memory>
+    ensures { IfOk result (λ text. IsGraphText mesh.now text.items) }
 {
-    let mesh = read.mesh();
     let sources = sources(alloc, mesh)?;
     let graph = trace(alloc, mesh, &sources)?;
     let patches = patches(alloc, mesh, &graph)?;

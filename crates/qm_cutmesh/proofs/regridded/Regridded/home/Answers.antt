@@ -9,19 +9,27 @@ use Rattle.qm_cutmesh.proofs.regridded.Regridded.home.Goals as goal
 
 pub home-requires-clause-patch : goal.home-requires-clause-patch
 home-requires-clause-patch c =
-    omega (arith, c.requires.patch, ap (λ (p : Plan). length p.patches) c.placed.ensures.plan, length-map c.placed.result.t.now.patches.items rectangle)
+    omega (
+      arith,
+      c.requires.patch,
+      ap (λ (p : Plan). length p.patches) c.placed.ensures.plan,
+      length-map c.placed.result.t.now.patches.items rectangle,
+    )
 
 pub home-requires-clause-column : goal.home-requires-clause-column
 home-requires-clause-column c =
     subst (λ n. c.args.i < n)
-    (λ i. wide (layout_of (sym c.placed.ensures.plan i)) (lengths_in (sym c.placed.ensures.lengths i)) c.args.patch) c.requires.column
+    (λ i. wide (layout_of (sym c.placed.ensures.plan i)) (lengths_in (sym c.placed.ensures.lengths i)) c.args.patch)
+    c.requires.column
 
 pub home-requires-clause-row : goal.home-requires-clause-row
 home-requires-clause-row c =
     subst (λ n. c.args.j < n)
-    (λ i. high (layout_of (sym c.placed.ensures.plan i)) (lengths_in (sym c.placed.ensures.lengths i)) c.args.patch) c.requires.row
+    (λ i. high (layout_of (sym c.placed.ensures.plan i)) (lengths_in (sym c.placed.ensures.lengths i)) c.args.patch)
+    c.requires.row
 
 pub returns : goal.returns
 returns c =
     c.home.ensures
-    ∙ (λ i. home_of (c.placed.ensures.plan i) (lengths_in (c.placed.ensures.lengths i)) c.args.patch c.args.i c.args.j)
+    ∙ (λ i. home_of (c.placed.ensures.plan i) (c.placed.ensures.shares i) (lengths_in (c.placed.ensures.lengths i))
+    c.args.patch c.args.i c.args.j)

@@ -8,7 +8,12 @@ use Rattle.qm_cutmesh.proofs.regridded.Regridded.side_length.Goals as goal
 
 pub side_length-requires-clause-patch : goal.side_length-requires-clause-patch
 side_length-requires-clause-patch c =
-    omega (arith, c.requires.patch, ap (λ (p : Plan). length p.patches) c.numbered.ensures.plan, length-map c.numbered.result.t.now.patches.items rectangle)
+    omega (
+      arith,
+      c.requires.patch,
+      ap (λ (p : Plan). length p.patches) c.numbered.ensures.plan,
+      length-map c.numbered.result.t.now.patches.items rectangle,
+    )
 
 pub returns : goal.returns
 returns c way is =
