@@ -26,6 +26,11 @@ abbrev quad : Faces
 quad = (0 ∷ 1 ∷ 2 ∷ 3 ∷ []) ∷ []
 
 -- The last wish of an edge counts, whichever way round it is named.
-last_wins : edge_wishes quad (record { u = 0; v = 1; wish = 5 } ∷ record { u = 2; v = 1; wish = 7 } ∷ record { u = 1; v = 0; wish = 9 } ∷ [])
+last_wins : edge_wishes quad (record { u = 0; v = 1; wish = 5 } ∷ record { u = 2; v = 1; wish = 7 } ∷ record {
+  u =
+      1;
+  v = 0;
+  wish = 9;
+} ∷ [])
     ≡ 9 ∷ 7 ∷ 1000 ∷ 1000 ∷ []
 last_wins = refl

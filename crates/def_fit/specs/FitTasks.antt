@@ -13,6 +13,7 @@ use Rattle.def_remesh.specs.Tasks.{Task}
 use Rattle.def_text.specs.FaceSet.{FaceSet}
 use Rattle.def_fit.specs.Aims.{aimed, fit_settings}
 use Rattle.def_fit.specs.FitWords.{fit_head}
+use Rattle.def_fit.specs.Shares.{shares_of}
 use Rattle.def_fit.specs.WishLines.{wishes_in}
 use Rattle.def_fit.specs.declared.fit.Aim.{Aim}
 use Rattle.def_fit.specs.declared.fit.Aim.TheVariants.{Scale, Edge, Wishes}
@@ -59,4 +60,5 @@ fit_task fit soup asides cut = record {
   auto = false;
   head = fit_head fit;
   between = kept_text asides.kept;
+  shares = shares_of fit soup asides.wishes;
 }

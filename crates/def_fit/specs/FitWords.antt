@@ -14,6 +14,8 @@ use Rattle.def_fit.specs.Aims.{IsFit}
 use Rattle.def_fit.specs.declared.fit.Aim.{Aim}
 use Rattle.def_fit.specs.declared.fit.Aim.TheVariants.{Scale, Edge, Wishes}
 use Rattle.def_fit.specs.declared.fit.Fit.{Fit}
+use Rattle.def_fit.specs.declared.fit.Spacing.{Spacing}
+use Rattle.def_fit.specs.declared.fit.Spacing.TheVariants.{Even, Wished}
 
 -- Which lines are kept.
 abbrev pub keep_word : (keep : Keep) → Word
@@ -26,6 +28,11 @@ patches_word Traced = codes "traced"
 patches_word Merged = codes "merged"
 patches_word Conforming = codes "conforming"
 
+-- How new points are spaced.
+abbrev pub spacing_word : (spacing : Spacing) → Word
+spacing_word Even = codes "even"
+spacing_word Wished = codes "wished"
+
 -- An aim as it is written: the scale as it was given, a length as it stands in a canonical text.
 abbrev pub aim_text : (aim : Aim) → Bytes
 aim_text (Scale p q) = codes "scale:" ++ decimal p ++ SLASH ∷ decimal q
@@ -37,7 +44,7 @@ abbrev pub fit_head : (fit : Fit) → Bytes
 fit_head fit =
     codes "#quadq 1 fit keep " ++ keep_word fit.keep ++ codes " patches " ++ patches_word fit.patches
     ++ codes " aim " ++ aim_text fit.aim ++ codes " floor " ++ decimal fit.floor
-    ++ codes " weight " ++ weight_text fit.weight ++ codes " spacing even"
+    ++ codes " weight " ++ weight_text fit.weight ++ codes " spacing " ++ spacing_word fit.spacing
 
 -- The word is a decimal with so many millionths, at least one.
 pub record IsEdgeLength (word : Word) (edge : ℤ) : Type 0 where
@@ -49,12 +56,12 @@ abbrev pub IsAimWord : (word : Word) (aim : Aim) → Type 0
 IsAimWord word (Edge edge) = (length : Word) × (word ≡ codes "edge:" ++ length) × IsEdgeLength length edge
 IsAimWord word aim = word ≡ aim_text aim
 
--- These words ask for this fit. New points stand evenly along the old edges.
+-- These words ask for this fit.
 pub record AreFitWords (keep patches aim floor weight spacing : Word) (fit : Fit) : Type 0 where
   pub kept : keep ≡ keep_word fit.keep
   pub cut : patches ≡ patches_word fit.patches
   pub aimed : IsAimWord aim fit.aim
   pub bounded : floor ≡ decimal fit.floor
   pub weighed : weight ≡ weight_text fit.weight
-  pub spaced : spacing ≡ codes "even"
+  pub spaced : spacing ≡ spacing_word fit.spacing
   pub in_range : IsFit fit

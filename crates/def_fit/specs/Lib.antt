@@ -1,4 +1,5 @@
 pub mod Aims
 pub mod FitTasks
 pub mod FitWords
+pub mod Shares
 pub mod WishLines

@@ -1,4 +1,4 @@
-//! The cut and the aim of a fit.
+//! The cut and the aim of a fit, and how its new points are spaced.
 
 use def_flow::Weight;
 use def_patches::{Keep, Patches};
@@ -18,7 +18,17 @@ pub enum Aim {
     Wishes,
 }
 
-/// A cut, what the lengths of its arcs aim at, the least length of an arc, and how arcs are weighed.
+/// How the new points of an arc are spaced.
+#[derive(Clone, Copy, Debug, PartialEq, Eq)]
+pub enum Spacing {
+    /// Evenly along its old edges.
+    Even,
+    /// So that each new edge gets an equal part of what is wished for the old ones.
+    Wished,
+}
+
+/// A cut, what the lengths of its arcs aim at, the least length of an arc, how arcs are weighed, and how their new
+/// points are spaced.
 #[derive(Clone, Copy, Debug, PartialEq, Eq)]
 pub struct Fit {
     pub keep: Keep,
@@ -26,4 +36,5 @@ pub struct Fit {
     pub aim: Aim,
     pub floor: u32,
     pub weight: Weight,
+    pub spacing: Spacing,
 }

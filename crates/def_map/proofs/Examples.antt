@@ -1,6 +1,6 @@
 -- The text of where new vertices and faces lie, computed on a square and on two squares in a row.
 use Rattle.std.proofs.Common.{◌≡◌, ℕ, true, [], ◌∷◌, ◌++◌, refl}
-use Rattle.std.specs.Prelude.{codes}
+use Rattle.std.specs.Prelude.{codes, None, Some}
 use Rattle.std.specs.Fmt.{digits}
 use Rattle.def_layout.specs.Plans.{Plan}
 use Rattle.def_layout.specs.declared.tmesh.SideArc.{SideArc}
@@ -42,7 +42,7 @@ strip_plan = record {
 }
 
 -- Each edge is divided in two.
-square_doubled : map_text square square_plan (lengths_in (2 ∷ 2 ∷ 2 ∷ 2 ∷ [])) ≡
+square_doubled : map_text square square_plan None (lengths_in (2 ∷ 2 ∷ 2 ∷ 2 ∷ [])) ≡
     codes "quadq map 1\n" ++
     codes "vertices 9 faces 4\n" ++
     codes "vertex 1\n" ++
@@ -62,7 +62,7 @@ unfolding digits
 square_doubled = refl
 
 -- Three faces for two. Parameters and their means are rounded down, so the middle one lies in the face to the west.
-strip_thirds : map_text strip strip_plan (lengths_in (3 ∷ 3 ∷ 1 ∷ 1 ∷ [])) ≡
+strip_thirds : map_text strip strip_plan None (lengths_in (3 ∷ 3 ∷ 1 ∷ 1 ∷ [])) ≡
     codes "quadq map 1\n" ++
     codes "vertices 8 faces 3\n" ++
     codes "vertex 1\n" ++
@@ -80,7 +80,7 @@ unfolding digits
 strip_thirds = refl
 
 -- One face for two. Its middle lies on the edge between them, so it lies in the face to the east, and reaches out.
-strip_whole : map_text strip strip_plan (lengths_in (1 ∷ 1 ∷ 1 ∷ 1 ∷ [])) ≡
+strip_whole : map_text strip strip_plan None (lengths_in (1 ∷ 1 ∷ 1 ∷ 1 ∷ [])) ≡
     codes "quadq map 1\n" ++
     codes "vertices 4 faces 1\n" ++
     codes "vertex 1\n" ++
@@ -92,7 +92,7 @@ unfolding digits
 strip_whole = refl
 
 -- Four columns and two rows: inner points of arcs that lie at old vertices.
-strip_doubled : map_text strip strip_plan (lengths_in (4 ∷ 4 ∷ 2 ∷ 2 ∷ [])) ≡
+strip_doubled : map_text strip strip_plan None (lengths_in (4 ∷ 4 ∷ 2 ∷ 2 ∷ [])) ≡
     codes "quadq map 1\n" ++
     codes "vertices 15 faces 8\n" ++
     codes "vertex 1\n" ++
@@ -120,3 +120,22 @@ strip_doubled : map_text strip strip_plan (lengths_in (4 ∷ 4 ∷ 2 ∷ 2 ∷ [
     codes "cell 2 2 2147483648 2147483648 4294967296 2147483648 4294967296 4294967296 2147483648 4294967296\n"
 unfolding digits
 strip_doubled = refl
+
+-- The same by shares: the second half of the south edge has three quarters of them, and the north edge has none.
+strip_shared : map_text strip strip_plan (Some (1000 ∷ 0 ∷ 0 ∷ 0 ∷ 0 ∷ 3000 ∷ 0 ∷ 0 ∷ []))
+    (lengths_in (3 ∷ 3 ∷ 1 ∷ 1 ∷ [])) ≡
+    codes "quadq map 1\n" ++
+    codes "vertices 8 faces 3\n" ++
+    codes "vertex 1\n" ++
+    codes "vertex 4\n" ++
+    codes "vertex 5\n" ++
+    codes "vertex 8\n" ++
+    codes "share 3 4 477218588\n" ++
+    codes "share 3 4 2386092942\n" ++
+    codes "share 8 6 2863311530\n" ++
+    codes "share 6 5 1431655765\n" ++
+    codes "cell 1 1 0 0 4772185884 0 2863311531 4294967296 0 4294967296\n" ++
+    codes "cell 2 2 477218588 0 2386092942 0 1431655766 4294967296 -1431655765 4294967296\n" ++
+    codes "cell 2 2 2386092942 0 4294967296 0 4294967296 4294967296 1431655766 4294967296\n"
+unfolding digits
+strip_shared = refl

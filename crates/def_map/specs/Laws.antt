@@ -1,15 +1,18 @@
 -- What is proved of where new vertices lie.
-use Rattle.std.specs.Prelude.{◌≡◌, ℕ, ◌<◌}
+use Rattle.std.specs.Prelude.{◌≡◌, ℕ, ◌<◌, List, Option}
+use Rattle.def_layout.specs.Arcs.{long_at}
 use Rattle.def_layout.specs.Lengths.{Lengths, AreLengths}
 use Rattle.def_layout.specs.Plans.{Plan, layout_of}
 use Rattle.def_mesh.specs.Darts.{darts}
 use Rattle.def_mesh.specs.Faces.{Faces}
 use Rattle.def_mesh.specs.Vertices.{vertex_count}
-use Rattle.def_remesh.specs.NewSoup.{new_place}
+use Rattle.def_remesh.specs.NewSoup.{spaced_place}
 use Rattle.def_remesh.specs.Placings.{IsMeshLayout}
+use Rattle.def_remesh.specs.Spaced.{spacing_by}
 use Rattle.def_text.specs.Types.{Positions}
 use Rattle.def_written.specs.Numbers.{vertices}
 use Rattle.def_written.specs.Places.{ONE}
+use Rattle.def_written.specs.Spacings.{IsSpacing}
 use Rattle.def_map.specs.SpotPlaces.{spot_place}
 use Rattle.def_map.specs.Spots.{spot_at}
 use Rattle.def_map.specs.declared.spot.Spot.{Spot}
@@ -24,7 +27,9 @@ IsSpot faces (InFace spot) = (spot.dart < darts faces) × (spot.s < ONE) × (spo
 
 -- Each new vertex lies in the old mesh, and the place that is computed from where it lies is its place.
 abbrev pub SpotLaw : Type 0
-SpotLaw = (faces : Faces) (plan : Plan) (new : Lengths) → IsMeshLayout faces plan → AreLengths (layout_of plan) new
+SpotLaw = (faces : Faces) (plan : Plan) (shares : Option (List ℕ)) (new : Lengths) → IsMeshLayout faces plan
+    → AreLengths (layout_of plan) new → IsSpacing (layout_of plan) (long_at plan.arcs) new (spacing_by plan shares new)
     → (v : ℕ) → v < vertices (layout_of plan) new
-    → IsSpot faces (spot_at plan new v)
-    × ((places : Positions) → spot_place faces places (spot_at plan new v) ≡ new_place faces plan places new v)
+    → IsSpot faces (spot_at plan shares new v)
+    × ((places : Positions)
+    → spot_place faces places (spot_at plan shares new v) ≡ spaced_place faces plan places shares new v)

@@ -1,5 +1,19 @@
 -- The text that says where the vertices and the faces of a new mesh lie in the old one, by the numbers of the file.
-use Rattle.std.specs.Prelude.{ℕ, ◌+◌, ◌/◌, ◌%◌, ◌==◌, if◌then◌else◌, ◌++◌, codes, decimal, List, map, slice_index}
+use Rattle.std.specs.Prelude.{
+  ℕ,
+  ◌+◌,
+  ◌/◌,
+  ◌%◌,
+  ◌==◌,
+  if◌then◌else◌,
+  ◌++◌,
+  codes,
+  decimal,
+  List,
+  map,
+  Option,
+  slice_index,
+}
 use Rattle.std.specs.Fmt.{signed_decimal}
 use Rattle.std.specs.List.{flat_map, range_with_len}
 use Rattle.def_io.specs.Bytes.{Bytes}
@@ -10,6 +24,7 @@ use Rattle.def_mesh.specs.Faces.{Faces}
 use Rattle.def_text.specs.FaceSet.{FaceSet}
 use Rattle.def_written.specs.NewFaces.{face_count}
 use Rattle.def_written.specs.Numbers.{vertices}
+use Rattle.def_written.specs.Places.{ONE}
 use Rattle.def_map.specs.Homes.{home_at}
 use Rattle.def_map.specs.Spots.{spot_at}
 use Rattle.def_map.specs.declared.home.Home.{Home}
@@ -27,10 +42,15 @@ file_number names vertex = slice_index names vertex
 abbrev pub at_vertex_line : (vertex : ℕ) → Bytes
 at_vertex_line vertex = codes "vertex " ++ decimal vertex ++ codes "\n"
 
--- The line of one that lies so far along the way from one old vertex to another.
+-- The line of one that lies so far along the way from one old vertex to another: so many parts of that many, or where
+-- the parts are those of a parameter, so many of these.
 abbrev pub on_edge_line : (from to some parts : ℕ) → Bytes
-on_edge_line from to some parts = codes "edge " ++ decimal from ++ codes " " ++ decimal to
-    ++ codes " " ++ decimal some ++ codes " " ++ decimal parts ++ codes "\n"
+on_edge_line from to some parts =
+    if parts == ONE then
+    codes "share " ++ decimal from ++ codes " " ++ decimal to ++ codes " " ++ decimal some ++ codes "\n"
+    else
+    codes "edge " ++ decimal from ++ codes " " ++ decimal to ++ codes " " ++ decimal some ++ codes " " ++ decimal parts
+    ++ codes "\n"
 
 -- The line of one that lies on an edge. At the beginning of the edge it lies at the old vertex there.
 abbrev pub edge_line : (faces : Faces) (names : List ℕ) (spot : EdgeSpot) → Bytes
@@ -68,16 +88,18 @@ map_head vertices faces =
     codes "quadq map 1\nvertices " ++ decimal vertices ++ codes " faces " ++ decimal faces ++ codes "\n"
 
 -- The lines of all new vertices, by number.
-abbrev pub vertex_lines : (faces : Faces) (names : List ℕ) (plan : Plan) (new : Lengths) → Bytes
-vertex_lines faces names plan new =
-    flat_map (spot_line faces names) (map (spot_at plan new) (range_with_len 0 (vertices (layout_of plan) new)))
+abbrev pub vertex_lines : (faces : Faces) (names : List ℕ) (plan : Plan) (shares : Option (List ℕ)) (new : Lengths)
+    → Bytes
+vertex_lines faces names plan shares new = flat_map (spot_line faces names)
+    (map (spot_at plan shares new) (range_with_len 0 (vertices (layout_of plan) new)))
 
 -- Those of all new faces.
-abbrev pub cell_lines : (plan : Plan) (new : Lengths) → Bytes
-cell_lines plan new = flat_map cell_line (map (home_at plan new) (range_with_len 0 (face_count (layout_of plan) new)))
+abbrev pub cell_lines : (plan : Plan) (shares : Option (List ℕ)) (new : Lengths) → Bytes
+cell_lines plan shares new =
+    flat_map cell_line (map (home_at plan shares new) (range_with_len 0 (face_count (layout_of plan) new)))
 
 -- The whole text.
-abbrev pub map_text : (soup : FaceSet) (plan : Plan) (new : Lengths) → Bytes
-map_text soup plan new =
+abbrev pub map_text : (soup : FaceSet) (plan : Plan) (shares : Option (List ℕ)) (new : Lengths) → Bytes
+map_text soup plan shares new =
     map_head (vertices (layout_of plan) new) (face_count (layout_of plan) new)
-    ++ (vertex_lines soup.faces soup.names plan new ++ cell_lines plan new)
+    ++ (vertex_lines soup.faces soup.names plan shares new ++ cell_lines plan shares new)

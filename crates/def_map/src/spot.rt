@@ -4,8 +4,8 @@
 #[derive(Clone, Copy, Debug, PartialEq, Eq)]
 pub struct EdgeSpot {
     pub dart: u32,
-    pub some: u32,
-    pub parts: u32,
+    pub some: u64,
+    pub parts: u64,
 }
 
 /// In a face, so much to the east and to the north of the beginning of its south dart, in parts of 4,294,967,296.

@@ -4,7 +4,7 @@ use Rattle.def_certtext.specs.Settings.{AreInRange}
 use Rattle.def_flow.specs.declared.net.Settings.{Settings}
 use Rattle.def_io.specs.Bytes.{Bytes}
 use Rattle.def_remesh.specs.ReadAgain.{ends_line}
-use Rattle.def_run.specs.Check.{WritesAccepted}
+use Rattle.def_run.specs.Checking.{WritesAccepted}
 use Rattle.def_run.specs.Remesh.{AsksToRemesh, WritesFinished}
 
 -- What `remesh` writes for bytes whose last line has its line feed, `check` accepts behind these bytes: it has a line

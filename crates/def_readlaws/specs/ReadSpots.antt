@@ -1,5 +1,5 @@
 -- Where the vertices of a new mesh lie in the mesh of bytes that are read.
-use Rattle.std.specs.Prelude.{◌≡◌, ◌<◌, ℕ, Bool, List, [], slice_index_or}
+use Rattle.std.specs.Prelude.{◌≡◌, ◌<◌, ℕ, Bool, List, [], Option, None, slice_index_or}
 use Rattle.def_certtext.specs.CertLines.{used}
 use Rattle.def_certtext.specs.Settings.{AreInRange}
 use Rattle.def_cut.specs.FullCut.{IsFullCut}
@@ -12,7 +12,8 @@ use Rattle.def_map.specs.Laws.{IsSpot}
 use Rattle.def_map.specs.SpotPlaces.{spot_place}
 use Rattle.def_map.specs.Spots.{spot_at}
 use Rattle.def_remesh.specs.NewPoints.{lengths_in, multiple_of}
-use Rattle.def_remesh.specs.NewSoup.{new_soup}
+use Rattle.def_remesh.specs.NewSoup.{spaced_soup}
+use Rattle.def_remesh.specs.Spaced.{spacing_by}
 use Rattle.def_run.specs.Map.{asks_of}
 use Rattle.def_run.specs.Mesh.{IsMeshText}
 use Rattle.def_run.specs.Refine.{WritesRefined}
@@ -20,26 +21,30 @@ use Rattle.def_run.specs.Remesh.{WritesFinished}
 use Rattle.def_run.specs.declared.command.Command.{Command}
 use Rattle.def_text.specs.FaceSet.{FaceSet}
 use Rattle.def_written.specs.Numbers.{vertices}
+use Rattle.def_written.specs.Spacings.{IsSpacing}
 
 -- Each new vertex lies in the old mesh, and the place that is computed from where it lies is the one of its `v` line.
-abbrev pub AreSpots : (soup : FaceSet) (plan : Plan) (new : Lengths) → Type 0
-AreSpots soup plan new = (v : ℕ) → v < vertices (layout_of plan) new
-    → IsSpot soup.faces (spot_at plan new v)
-    × (spot_place soup.faces soup.pos (spot_at plan new v) ≡ slice_index_or (new_soup soup plan new).pos v [])
+abbrev pub AreSpots : (soup : FaceSet) (plan : Plan) (shares : Option (List ℕ)) (new : Lengths) → Type 0
+AreSpots soup plan shares new = (v : ℕ) → v < vertices (layout_of plan) new
+    → IsSpot soup.faces (spot_at plan shares new v)
+    × (spot_place soup.faces soup.pos (spot_at plan shares new v)
+    ≡ slice_index_or (spaced_soup soup plan shares new).pos v [])
 
--- So it is over each full cut of the mesh of the bytes.
+-- So it is over each full cut of the mesh of the bytes, for each spacing.
 abbrev pub SpotTextLaw : Type 0
-SpotTextLaw = (bytes : Bytes) (soup : FaceSet) (marks : List Bool) (plan : Plan) (new : Lengths)
-    → IsMeshText bytes soup → IsFullCut soup.faces marks → IsCutLayout soup.faces marks plan
-    → AreLengths (layout_of plan) new → AreSpots soup plan new
+SpotTextLaw = (bytes : Bytes) (soup : FaceSet) (marks : List Bool) (plan : Plan) (shares : Option (List ℕ))
+    (new : Lengths) → IsMeshText bytes soup → IsFullCut soup.faces marks → IsCutLayout soup.faces marks plan
+    → AreLengths (layout_of plan) new → IsSpacing (layout_of plan) (long_at plan.arcs) new (spacing_by plan shares new)
+    → AreSpots soup plan shares new
 
 -- So it is in the new mesh that `refine` wrote for them.
 abbrev pub RefinedSpotsLaw : Type 0
 RefinedSpotsLaw = (by : ℕ) (bytes text : Bytes) → 0 < by → (wrote : WritesRefined by bytes text)
-    → AreSpots wrote.soup wrote.refined.plan (multiple_of by (long_at wrote.refined.plan.arcs))
+    → AreSpots wrote.soup wrote.refined.plan None (multiple_of by (long_at wrote.refined.plan.arcs))
 
 -- So it is in the one that a command wrote which finds least lengths.
 abbrev pub FinishedSpotsLaw : Type 0
 FinishedSpotsLaw = (command : Command) (bytes text : Bytes) (wrote : WritesFinished (asks_of command) bytes text)
     → AreInRange wrote.task.settings wrote.task.auto
-    → AreSpots wrote.soup wrote.shown.finished.plan (lengths_in (used wrote.shown.finished.certificates).x)
+    → AreSpots wrote.soup wrote.shown.finished.plan wrote.task.shares
+    (lengths_in (used wrote.shown.finished.certificates).x)

@@ -1,5 +1,5 @@
 -- The definitions of the new soup and of its places, computed on a square and on the stepped cylinder.
-use Rattle.std.proofs.Common.{◌≡◌, ℕ, true, false, [], ◌∷◌, ℤ, pos, refl}
+use Rattle.std.proofs.Common.{◌≡◌, ℕ, true, false, [], ◌∷◌, map, ℤ, pos, None, refl}
 use Rattle.std.specs.Prelude.{neg_ℤ}
 use Rattle.def_layout.specs.declared.tmesh.SideArc.{SideArc}
 use Rattle.def_layout.specs.Plans.{Plan}
@@ -8,6 +8,9 @@ use Rattle.def_text.specs.Types.{Position, Positions}
 use Rattle.def_remesh.specs.NewSoup.{new_places, new_soup}
 use Rattle.def_remesh.specs.NewPoints.{lengths_in, multiple_of}
 use Rattle.def_remesh.specs.Refined.{refined_faces}
+use Rattle.def_remesh.specs.Spaced.{shares_along}
+use Rattle.def_written.specs.Places.{ONE}
+use Rattle.def_written.specs.Spacings.{edge_begin, shared_step}
 use Rattle.def_layout.specs.Arcs.{long_at}
 
 abbrev square : FaceSet
@@ -56,7 +59,7 @@ abbrev large : Positions
 large = at (pos 0) (pos 0) (pos 0) ∷ at (pos 3000000) (pos 0) (pos 0) ∷
     at (pos 3000000) (pos 3000000) (pos 0) ∷ at (pos 0) (pos 3000000) (pos 0) ∷ []
 
-large_places : new_places square.faces plan large (multiple_of 3 (long_at plan.arcs)) ≡
+large_places : new_places square.faces plan large None (multiple_of 3 (long_at plan.arcs)) ≡
     at (pos 0) (pos 0) (pos 0) ∷ at (pos 3000000) (pos 0) (pos 0) ∷ at (pos 3000000) (pos 3000000) (pos 0) ∷
     at (pos 0) (pos 3000000) (pos 0) ∷ at (pos 1000000) (pos 0) (pos 0) ∷ at (pos 2000000) (pos 0) (pos 0) ∷
     at (pos 3000000) (pos 1000000) (pos 0) ∷ at (pos 3000000) (pos 2000000) (pos 0) ∷
@@ -122,7 +125,8 @@ steps = record {
 }
 
 -- Arcs that go round have length 4 or 5, and those that go up 2.
-cylinder_places : new_places cylinder.faces steps cylinder.pos (lengths_in (4 ∷ 2 ∷ 2 ∷ 5 ∷ 4 ∷ 5 ∷ 2 ∷ 2 ∷ 4 ∷ [])) ≡
+cylinder_places : new_places cylinder.faces steps cylinder.pos None
+    (lengths_in (4 ∷ 2 ∷ 2 ∷ 5 ∷ 4 ∷ 5 ∷ 2 ∷ 2 ∷ 4 ∷ [])) ≡
     at (pos 2000000) (pos 0) (pos 0) ∷ at (minus 2000000) (pos 0) (pos 0) ∷
     at (pos 2000000) (pos 0) (pos 3000000) ∷ at (minus 2000000) (pos 0) (pos 3000000) ∷
     at (pos 2000000) (pos 0) (pos 6000000) ∷ at (minus 2000000) (pos 0) (pos 6000000) ∷
@@ -143,3 +147,15 @@ cylinder_places : new_places cylinder.faces steps cylinder.pos (lengths_in (4 �
     at (pos 1250000) (pos 1500000) (pos 4500000) ∷ at (pos 0) (pos 2000000) (pos 4500000) ∷
     at (minus 1250000) (pos 1500000) (pos 4500000) ∷ []
 cylinder_places = refl
+
+-- The steps of the arcs by shares: arc 0 has 1000, 3000 and 0 for the darts 0, 4 and 8.
+shared_steps : map (shared_step (long_at steps.arcs) (lengths_in (2 ∷ 2 ∷ 2 ∷ 5 ∷ 4 ∷ 5 ∷ 2 ∷ 2 ∷ 4 ∷ []))
+    (shares_along steps (1000 ∷ 0 ∷ 0 ∷ 0 ∷ 3000 ∷ 0 ∷ 0 ∷ 0 ∷ 0 ∷ [])) 0) (0 ∷ 1 ∷ 2 ∷ [])
+    ≡ edge_begin 0 ∷ record { edge = 1; some = 1431655765; parts = ONE } ∷ edge_begin 3 ∷ []
+shared_steps = refl
+
+-- Darts behind the end of the list have all the same share.
+alike_steps : map (shared_step (long_at steps.arcs) (lengths_in (2 ∷ 2 ∷ 2 ∷ 5 ∷ 4 ∷ 5 ∷ 2 ∷ 2 ∷ 4 ∷ []))
+    (shares_along steps []) 1) (0 ∷ 1 ∷ 2 ∷ [])
+    ≡ edge_begin 0 ∷ record { edge = 1; some = 2147483648; parts = ONE } ∷ edge_begin 3 ∷ []
+alike_steps = refl

@@ -1,5 +1,5 @@
 -- A mesh with the layout of a full cut of it, as contracts see them.
-use Rattle.std.specs.Prelude.{ℕ, List}
+use Rattle.std.specs.Prelude.{ℕ, List, Option}
 use Rattle.def_layout.specs.Plans.{Plan}
 use Rattle.def_text.specs.FaceSet.{FaceSet}
 
@@ -8,8 +8,9 @@ pub record CutSoup : Type 0 where
   pub soup : FaceSet
   pub plan : Plan
 
--- The same with new lengths of the arcs.
+-- The same with new lengths of the arcs, and the shares by which new points are spaced, evenly without them.
 pub record Regrid : Type 0 where
   pub soup : FaceSet
   pub plan : Plan
   pub lengths : List ℕ
+  pub shares : Option (List ℕ)

@@ -4,6 +4,7 @@ pub mod CutSoups
 pub mod Keeping
 pub mod LayoutLaws
 pub mod NewPoints
+pub mod Spaced
 pub mod NewSoup
 pub mod Numberings
 pub mod Placings

@@ -5,7 +5,7 @@ use Rattle.def_certtext.specs.CertLines.{used}
 use Rattle.def_io.specs.Bytes.{Bytes}
 use Rattle.def_io.specs.declared.TheConstants.{LINE_FEED}
 use Rattle.def_remesh.specs.NewPoints.{lengths_in}
-use Rattle.def_remesh.specs.NewSoup.{new_soup}
+use Rattle.def_remesh.specs.NewSoup.{spaced_soup}
 use Rattle.def_remesh.specs.Remeshed.{IsFinished}
 use Rattle.def_remesh.specs.Tasks.{Task}
 use Rattle.def_text.specs.FaceSet.{FaceSet}
@@ -21,7 +21,7 @@ ends_line (byte ∷ next ∷ bytes) = ends_line (next ∷ bytes)
 
 -- The mesh that a finished task of a soup wrote.
 abbrev pub finished_soup : (task : Task) (soup : FaceSet) (text : Bytes) (is : IsFinished task soup text) → FaceSet
-finished_soup task soup text is = new_soup soup is.plan (lengths_in (used is.certificates).x)
+finished_soup task soup text is = spaced_soup soup is.plan task.shares (lengths_in (used is.certificates).x)
 
 -- Its lines between that mesh and the certificates.
 abbrev pub lines_between : (task : Task) (soup : FaceSet) (text : Bytes) (is : IsFinished task soup text) → Bytes

@@ -1,5 +1,5 @@
 -- What is made of a mesh that is remeshed: the cut, the lengths, the text and the shape.
-use Rattle.std.specs.Prelude.{◌≡◌, ◌≤◌, ◌∷◌, ◌++◌, ℕ, Bool, true, false, List, length}
+use Rattle.std.specs.Prelude.{◌≡◌, ◌≤◌, ◌∷◌, ◌++◌, ℕ, Bool, true, false, List, length, Option}
 use Rattle.def_flow.specs.Admissible.{entries, IsLeast}
 use Rattle.def_flow.specs.Network.{Network, tangle_number}
 use Rattle.def_flow.specs.declared.limits.TheConstants.{MAX_TANGLE}
@@ -19,7 +19,7 @@ use Rattle.def_written.specs.Edges.{IsDoubledAt, IsUndoubled}
 use Rattle.def_written.specs.NewFaces.{face_count, new_faces}
 use Rattle.def_written.specs.Shape.{KeepsShape}
 use Rattle.def_remesh.specs.NewPoints.{lengths_in}
-use Rattle.def_remesh.specs.NewSoup.{new_soup}
+use Rattle.def_remesh.specs.NewSoup.{spaced_soup}
 use Rattle.def_remesh.specs.Tasks.{old_lengths, remesh_task, Task, Wish}
 use Rattle.def_remesh.specs.declared.limits.TheConstants.{MAX_NEW_FACES}
 
@@ -29,8 +29,8 @@ with_floor settings floor =
     record { p = settings.p; q = settings.q; floor = floor; weight = settings.weight }
 
 -- A certificate whose lengths are least for the network of a layout with these wished lengths: one for each arc, at
--- least the floor, equal on opposite sides of each patch, and of the least deviation among all such lengths. The network
--- is not too tangled, and the certificate can be written.
+-- least the floor, equal on opposite sides of each patch, and of the least deviation among all such lengths. The
+-- network is not too tangled, and the certificate can be written.
 pub record HasLeastLengths (wish : Wish) (plan : Plan) (settings : Settings) (cert : Lists) : Type 0 where
   pub net : Network
   pub of_layout : IsNetOf (layout_of plan) (old_lengths plan) (wish plan) settings net
@@ -62,16 +62,16 @@ certificate_lines true certificates = chosen_lines certificates
 certificate_lines false certificates = said_by (used certificates)
 
 -- The mesh at the lengths that are used, these lines behind it, and the lines of the certificates.
-abbrev pub text_behind_head :
-    (between : Bytes) (auto : Bool) (soup : FaceSet) (plan : Plan) (certificates : Certificates) → Bytes
-text_behind_head between auto soup plan certificates =
-    canonical_text (new_soup soup plan (lengths_in (used certificates).x))
+abbrev pub text_behind_head : (between : Bytes) (auto : Bool) (soup : FaceSet) (plan : Plan)
+    (shares : Option (List ℕ)) (certificates : Certificates) → Bytes
+text_behind_head between auto soup plan shares certificates =
+    canonical_text (spaced_soup soup plan shares (lengths_in (used certificates).x))
     ++ (between ++ text_of (certificate_lines auto certificates))
 
 -- The whole text of a task.
 abbrev pub finished_text : (task : Task) (soup : FaceSet) (plan : Plan) (certificates : Certificates) → Bytes
 finished_text task soup plan certificates = task.head ++ LINE_FEED ∷
-    text_behind_head (task.between plan (lengths_in (used certificates).x)) task.auto soup plan certificates
+    text_behind_head (task.between plan (lengths_in (used certificates).x)) task.auto soup plan task.shares certificates
 
 -- A task that is finished for a soup: a layout cuts its mesh into rectangular grids of the cut, each face once; the
 -- lengths are least; the text is that of the mesh with these lengths; and that mesh has the shape of the old one.

@@ -1,5 +1,5 @@
 -- What is asked of a mesh that is remeshed: its cut, the lengths that are wished for, and the frame of the text.
-use Rattle.std.specs.Prelude.{Bool, List, []}
+use Rattle.std.specs.Prelude.{ℕ, Bool, List, [], Option, None}
 use Rattle.def_certtext.specs.HeadLine.{head_line}
 use Rattle.def_cut.specs.Traced.{traced_marks}
 use Rattle.def_flow.specs.declared.net.Settings.{Settings}
@@ -17,23 +17,26 @@ Wish = (plan : Plan) → Lengths
 abbrev pub old_lengths : Wish
 old_lengths plan = long_at plan.arcs
 
--- The cut of the mesh, the wished lengths with their settings, the head line of the text, and the lines of the text
--- between the new mesh and the certificates, for a layout with its new lengths.
+-- The cut of the mesh, the wished lengths with their settings, the shares of the darts by which new points are spaced,
+-- the head line of the text, and the lines of the text between the new mesh and the certificates, for a layout with its
+-- new lengths.
 pub record Task : Type 0 where
   pub marks : List Bool
   pub wish : Wish
   pub settings : Settings
   pub auto : Bool
+  pub shares : Option (List ℕ)
   pub head : Bytes
   pub between : (plan : Plan) (new : Lengths) → Bytes
 
--- A remesh of these faces over their motorcycle graph.
+-- A remesh of these faces over their motorcycle graph, with even spacing.
 abbrev pub remesh_task : (settings : Settings) (auto : Bool) (faces : Faces) → Task
 remesh_task settings auto faces = record {
   marks = traced_marks faces;
   wish = old_lengths;
   settings = settings;
   auto = auto;
+  shares = None;
   head = head_line settings auto;
   between = λ plan new. [];
 }

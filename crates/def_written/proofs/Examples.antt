@@ -1,6 +1,7 @@
 -- The definitions of the new mesh, computed on layouts with known answers.
-use Rattle.std.proofs.Common.{◌≡◌, ℕ, true, false, List, [], ◌∷◌, length, map, pos, negsuc, cond, nat_lt, refl, inl, inr, arith}
-use Rattle.std.specs.Prelude.{slice_index_or, ◌==◌, ◌||◌}
+use Rattle.std.proofs.Common.{◌≡◌, ℕ, true, false, List, [], ◌∷◌, length, map, pos, negsuc, cond, nat_lt, refl, inl}
+use Rattle.std.proofs.Common.{inr, arith}
+use Rattle.std.specs.Prelude.{slice_index_or, ◌-◌, ◌*◌, ◌/◌, ◌==◌, ◌||◌}
 use Rattle.def_layout.specs.declared.tmesh.SideArc.{SideArc}
 use Rattle.def_layout.specs.Layouts.{Way, south, east, north, west, Layout}
 use Rattle.def_layout.specs.Lengths.{Lengths}
@@ -8,7 +9,8 @@ use Rattle.def_written.specs.Points.{node, along, inside}
 use Rattle.def_written.specs.Numbers.{vertices}
 use Rattle.def_written.specs.NewFaces.{new_faces}
 use Rattle.def_written.specs.Edges.{on_arc, IsDoubledAt}
-use Rattle.def_written.specs.Places.{Coordinate, place_of}
+use Rattle.def_written.specs.Places.{Coordinate, even, ONE, parameter, parameter_back, place_of, Step}
+use Rattle.def_written.specs.Spacings.{shared, shared_step, Shares}
 
 abbrev turn : (side : Way) → ℕ
 turn south = 0
@@ -114,7 +116,13 @@ square_x (node n) = cond (n == 1 || n == 2) (pos 2000000) (pos 0)
 square_x (along a k) = pos 0
 square_x (inside p i j) = pos 0
 
-square_places : map (place_of quad (lengths (1 ∷ 1 ∷ 1 ∷ 1 ∷ [])) (lengths (3 ∷ 2 ∷ 3 ∷ 2 ∷ [])) square_x)
+abbrev ones : Lengths
+ones = lengths (1 ∷ 1 ∷ 1 ∷ 1 ∷ [])
+
+abbrev threes : Lengths
+threes = lengths (3 ∷ 2 ∷ 3 ∷ 2 ∷ [])
+
+square_places : map (place_of quad ones threes (even ones threes) square_x)
     (node 0 ∷ node 1 ∷ node 2 ∷ node 3 ∷ along 0 1 ∷ along 0 2 ∷ along 1 1 ∷ along 2 1 ∷ along 2 2 ∷ along 3 1
     ∷ inside 0 1 1 ∷ inside 0 2 1 ∷ [])
     ≡ pos 0 ∷ pos 2000000 ∷ pos 2000000 ∷ pos 0 ∷ pos 666667 ∷ pos 1333333
@@ -127,9 +135,50 @@ pillow_z (node n) = pos 0
 pillow_z (along a k) = pos 0
 pillow_z (inside p i j) = cond (nat_lt i 3) (pos 1000000) (cond (nat_lt 3 i) (negsuc 999999) (pos 0))
 
-pillow_places : map (place_of pillow (lengths (3 ∷ 3 ∷ 3 ∷ [])) (lengths (4 ∷ 4 ∷ 4 ∷ [])) pillow_z)
+abbrev old : Lengths
+old = lengths (3 ∷ 3 ∷ 3 ∷ [])
+
+abbrev fours : Lengths
+fours = lengths (4 ∷ 4 ∷ 4 ∷ [])
+
+pillow_places : map (place_of pillow old fours (even old fours) pillow_z)
     (inside 0 1 1 ∷ inside 0 2 1 ∷ inside 0 3 1 ∷ inside 0 4 1 ∷ inside 0 5 1 ∷ inside 0 6 1 ∷ inside 0 7 1
     ∷ inside 0 5 2 ∷ inside 0 7 3 ∷ [])
     ≡ pos 562500 ∷ pos 750000 ∷ pos 562500 ∷ pos 0 ∷ negsuc 562499 ∷ negsuc 749999 ∷ negsuc 562499
     ∷ negsuc 749999 ∷ negsuc 562499 ∷ []
 pillow_places = refl
+
+-- Arc 0 has the shares 1000, 3000 and 0; all others have none.
+abbrev some_shares : Shares
+some_shares arc edge = cond (arc == 0) (slice_index_or (1000 ∷ 3000 ∷ 0 ∷ []) edge 0) 0
+
+abbrev step : (edge some : ℕ) → Step
+step edge some = record { edge = edge; some = some; parts = ONE }
+
+abbrev twos : Lengths
+twos = lengths (2 ∷ 2 ∷ 2 ∷ [])
+
+-- The middle is a third of the second edge; without shares it is half of it.
+middle_shared : map (shared_step old twos some_shares 0) (0 ∷ 1 ∷ 2 ∷ []) ≡ step 0 0 ∷ step 1 (ONE / 3) ∷ step 3 0 ∷ []
+middle_shared = refl
+
+middle_alike : map (shared_step old twos some_shares 1) (0 ∷ 1 ∷ 2 ∷ []) ≡ step 0 0 ∷ step 1 (ONE / 2) ∷ step 3 0 ∷ []
+middle_alike = refl
+
+-- With four new edges the first point lies at the end of the first old edge: the last edge gets none.
+quarters_shared : map (shared_step old fours some_shares 0) (1 ∷ 2 ∷ 3 ∷ [])
+    ≡ step 1 0 ∷ step 1 (ONE / 3) ∷ step 1 (2 * ONE / 3) ∷ []
+quarters_shared = refl
+
+-- The south side of the pillow uses the arc twice, the second time against its direction: its points lie as far from
+-- the end of the side as from its beginning.
+pillow_south : map (parameter pillow old fours (shared old fours some_shares) 0 south)
+    (0 ∷ 1 ∷ 2 ∷ 3 ∷ 4 ∷ 5 ∷ 6 ∷ 7 ∷ [])
+    ≡ 0 ∷ ONE ∷ 5726623061 ∷ 7158278826 ∷ (3 * ONE) ∷ (6 * ONE - 7158278826) ∷ (6 * ONE - 5726623061) ∷ (5 * ONE) ∷ []
+pillow_south = refl
+
+-- So it is from the other end.
+pillow_turned : map (parameter_back pillow old fours (shared old fours some_shares) 0 south)
+    (1 ∷ 2 ∷ 3 ∷ 4 ∷ 5 ∷ 6 ∷ 7 ∷ 8 ∷ [])
+    ≡ (5 * ONE) ∷ (6 * ONE - 5726623061) ∷ (6 * ONE - 7158278826) ∷ (3 * ONE) ∷ 7158278826 ∷ 5726623061 ∷ ONE ∷ 0 ∷ []
+pillow_turned = refl

@@ -14,7 +14,8 @@ use Rattle.def_written.specs.Points.{Point, IsPoint}
 use Rattle.def_written.specs.Numbers.{vertex_number, vertices}
 use Rattle.def_written.specs.NewFaces.{new_faces}
 use Rattle.def_written.specs.Edges.{IsUndoubled}
-use Rattle.def_written.specs.Places.{Coordinate, place_of}
+use Rattle.def_written.specs.Places.{Coordinate, even, ONE, place_of, ArcSpacing}
+use Rattle.def_written.specs.Spacings.{IsSpacing, Shares, shared}
 use Rattle.def_written.specs.Shape.{KeepsShape}
 
 -- Each face has four corners.
@@ -69,10 +70,20 @@ abbrev pub MultipleLaw : Type 0
 MultipleLaw = (faces : Faces) (layout : Layout) (old : Lengths) (vertex : ℕ → ℕ) → LiesInMesh faces layout old vertex
     → (k : ℕ) → 0 < k → AreLengths layout (λ a. k * old a) × IsUndoubled layout (λ a. k * old a)
 
+-- Equal parts of the old lengths are a spacing.
+abbrev pub EvenSpacingLaw : Type 0
+EvenSpacingLaw = (layout : Layout) (old new : Lengths) → AreLengths layout old → AreLengths layout new
+    → IsSpacing layout old new (even old new)
+
+-- So are equal parts of shares, where no new edge is shorter than the unit of parameters.
+abbrev pub SharedLaw : Type 0
+SharedLaw = (layout : Layout) (old new : Lengths) (shares : Shares) → AreLengths layout old → AreLengths layout new
+    → ((arc : ℕ) → arc < layout.arcs → new arc ≤ ONE) → IsSpacing layout old new (shared old new shares)
+
 -- Each coordinate of a new point lies between the least and the greatest of the old ones.
 abbrev pub BetweenLaw : Type 0
-BetweenLaw = (layout : Layout) (old new : Lengths) (at : Coordinate) (least greatest : ℤ) → IsSurface layout
-    → AreLengths layout old → AreLengths layout new
+BetweenLaw = (layout : Layout) (old new : Lengths) (spacing : ArcSpacing) (at : Coordinate) (least greatest : ℤ)
+    → IsSurface layout → AreLengths layout old → AreLengths layout new → IsSpacing layout old new spacing
     → ((a : Point) → IsPoint layout old a → (least ≤ℤ at a) × (at a ≤ℤ greatest))
     → (a : Point) → IsPoint layout new a
-    → (least ≤ℤ place_of layout old new at a) × (place_of layout old new at a ≤ℤ greatest)
+    → (least ≤ℤ place_of layout old new spacing at a) × (place_of layout old new spacing at a ≤ℤ greatest)

@@ -4,5 +4,6 @@ pub mod NewFaces
 pub mod Edges
 pub mod Shape
 pub mod Places
+pub mod Spacings
 pub mod Laws
 pub mod PlanLaws

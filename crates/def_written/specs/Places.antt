@@ -1,6 +1,6 @@
 -- Where the new points lie: one coordinate of each, in whole millionths, from that of the old points. Division rounds
 -- down. Parameters along sides are counted in parts of 1 / ONE of an old edge.
-use Rattle.std.specs.Prelude.{ℕ, ◌+◌, ◌-◌, ◌*◌, ◌/◌, ◌%◌, ◌^◌, min, ℤ, pos, ◌+ℤ◌, ◌-ℤ◌, ◌*ℤ◌}
+use Rattle.std.specs.Prelude.{ℕ, ◌+◌, ◌-◌, ◌*◌, ◌/◌, ◌%◌, ◌^◌, min, Bool, not, ℤ, pos, ◌+ℤ◌, ◌-ℤ◌, ◌*ℤ◌}
 use Rattle.std.specs.Int.{int_div_euclid}
 use Rattle.def_layout.specs.Layouts.{Way, south, east, north, west, Layout}
 use Rattle.def_layout.specs.Lengths.{Lengths, reach, size, wide, high}
@@ -14,47 +14,68 @@ Coordinate = Point → ℤ
 abbrev pub on_the_way : (p q : ℤ) (some parts : ℕ) → ℤ
 on_the_way p q r x = p +ℤ int_div_euclid ((pos (2 * r) *ℤ (q -ℤ p)) +ℤ pos x) (pos (2 * x))
 
--- Place k of an arc, between the old points before and after it.
-abbrev pub arc_place : (layout : Layout) (old new : Lengths) (at : Coordinate) (arc k : ℕ) → ℤ
-arc_place layout old new at a k =
-    let i = k * old a / new a in
-    on_the_way (at (arc_point layout old a i)) (at (arc_point layout old a (i + 1))) (k * old a % new a) (new a)
+-- How far along an arc a point lies: behind so many whole old edges, and so many equal parts of the next one.
+pub record Step : Type 0 where
+  pub edge : ℕ
+  pub some : ℕ
+  pub parts : ℕ
 
 -- One old edge, as a parameter.
 abbrev pub ONE : ℕ
 ONE = 2 ^ 32
 
--- The parameter of place k of an arc.
-abbrev pub arc_parameter : (old new : Lengths) (arc k : ℕ) → ℕ
-arc_parameter old new a k = ONE * k * old a / new a
+-- Where the new points of arcs lie: place k of an arc as a step along it, and the parameter of place k, counted from
+-- its beginning, forward, or from its end.
+pub record ArcSpacing : Type 0 where
+  pub step : (arc k : ℕ) → Step
+  pub parameter_of : (arc : ℕ) (forward : Bool) (k : ℕ) → ℕ
+
+-- At equal parts of the old length.
+abbrev pub even : (old new : Lengths) → ArcSpacing
+even old new = record {
+  step = λ a k. record { edge = k * old a / new a; some = k * old a % new a; parts = new a };
+  parameter_of = λ a forward k. ONE * k * old a / new a;
+}
+
+-- Place k of an arc, between the old points before and after it.
+abbrev pub arc_place : (layout : Layout) (old : Lengths) (spacing : ArcSpacing) (at : Coordinate) (arc k : ℕ) → ℤ
+arc_place layout old spacing at a k =
+    let step = spacing.step a k in
+    on_the_way (at (arc_point layout old a step.edge)) (at (arc_point layout old a (step.edge + 1))) step.some
+    step.parts
 
 -- The parameter of a place of a side, counted along the side.
-abbrev pub parameter : (layout : Layout) (old new : Lengths) (patch : ℕ) (side : Way) (place : ℕ) → ℕ
-parameter layout old new p s t =
+abbrev pub parameter :
+    (layout : Layout) (old new : Lengths) (spacing : ArcSpacing) (patch : ℕ) (side : Way) (place : ℕ) → ℕ
+parameter layout old new spacing p s t =
     let m = use_over layout new p s t in
-    ONE * reach layout old p s m + arc_parameter old new (layout.use_at p s m).arc (offset_at layout new p s t)
+    let used = layout.use_at p s m in
+    ONE * reach layout old p s m + spacing.parameter_of used.arc used.forward (offset_at layout new p s t)
 
 -- The parameter of a place of a side, counted from the end of the side, also within its arc.
-abbrev pub parameter_back : (layout : Layout) (old new : Lengths) (patch : ℕ) (side : Way) (place : ℕ) → ℕ
-parameter_back layout old new p s t =
+abbrev pub parameter_back :
+    (layout : Layout) (old new : Lengths) (spacing : ArcSpacing) (patch : ℕ) (side : Way) (place : ℕ) → ℕ
+parameter_back layout old new spacing p s t =
     let m = use_over layout new p s t in
-    let a = (layout.use_at p s m).arc in
+    let used = layout.use_at p s m in
     ONE * (size layout old p s - reach layout old p s (m + 1))
-    + arc_parameter old new a (new a - offset_at layout new p s t)
+    + spacing.parameter_of used.arc (not used.forward) (new used.arc - offset_at layout new p s t)
 
 -- The parameter of grid point (i, j) from west to east: between those of the south and the north side.
-abbrev pub parameter_u : (layout : Layout) (old new : Lengths) (patch i j : ℕ) → ℕ
-parameter_u layout old new p i j =
+abbrev pub parameter_u : (layout : Layout) (old new : Lengths) (spacing : ArcSpacing) (patch i j : ℕ) → ℕ
+parameter_u layout old new spacing p i j =
     let w = wide layout new p in
     let h = high layout new p in
-    (parameter layout old new p south i * (h - j) + parameter_back layout old new p north (w - i) * j) / h
+    (parameter layout old new spacing p south i * (h - j)
+    + parameter_back layout old new spacing p north (w - i) * j) / h
 
 -- The parameter from south to north: between those of the west and the east side.
-abbrev pub parameter_v : (layout : Layout) (old new : Lengths) (patch i j : ℕ) → ℕ
-parameter_v layout old new p i j =
+abbrev pub parameter_v : (layout : Layout) (old new : Lengths) (spacing : ArcSpacing) (patch i j : ℕ) → ℕ
+parameter_v layout old new spacing p i j =
     let w = wide layout new p in
     let h = high layout new p in
-    (parameter_back layout old new p west (h - j) * (w - i) + parameter layout old new p east j * i) / w
+    (parameter_back layout old new spacing p west (h - j) * (w - i)
+    + parameter layout old new spacing p east j * i) / w
 
 -- The old column or row in which a parameter lies, of so many.
 abbrev pub cell_at : (cells parameter : ℕ) → ℕ
@@ -73,10 +94,11 @@ blend s t p00 p10 p01 p11 = int_div_euclid
     (pos (2 ^ 64))
 
 -- Grid point (i, j) of a patch, in the old cell where its parameters lie.
-abbrev pub inside_place : (layout : Layout) (old new : Lengths) (at : Coordinate) (patch i j : ℕ) → ℤ
-inside_place layout old new at p i j =
-    let u = parameter_u layout old new p i j in
-    let v = parameter_v layout old new p i j in
+abbrev pub inside_place : (layout : Layout) (old new : Lengths) (spacing : ArcSpacing) (at : Coordinate) (patch i j : ℕ)
+    → ℤ
+inside_place layout old new spacing at p i j =
+    let u = parameter_u layout old new spacing p i j in
+    let v = parameter_v layout old new spacing p i j in
     let a = cell_at (wide layout old p) u in
     let b = cell_at (high layout old p) v in
     blend (rest_at (wide layout old p) u) (rest_at (high layout old p) v)
@@ -84,7 +106,7 @@ inside_place layout old new at p i j =
     (at (point layout old p a (b + 1))) (at (point layout old p (a + 1) (b + 1)))
 
 -- The place of a new point. A node keeps its own.
-abbrev pub place_of : (layout : Layout) (old new : Lengths) (at : Coordinate) (point : Point) → ℤ
-place_of layout old new at (node n) = at (node n)
-place_of layout old new at (along a k) = arc_place layout old new at a k
-place_of layout old new at (inside p i j) = inside_place layout old new at p i j
+abbrev pub place_of : (layout : Layout) (old new : Lengths) (spacing : ArcSpacing) (at : Coordinate) (point : Point) → ℤ
+place_of layout old new spacing at (node n) = at (node n)
+place_of layout old new spacing at (along a k) = arc_place layout old spacing at a k
+place_of layout old new spacing at (inside p i j) = inside_place layout old new spacing at p i j

@@ -1,5 +1,6 @@
 pub mod OldPoints
 pub mod Parameters
 pub mod Numbered
+pub mod Spaced
 pub mod SpotPlaces
 pub mod Cells

@@ -1,20 +1,18 @@
 -- The parameters of the places of sides and of grid points: at the ends of sides, and how large they are.
-use Rattle.std.proofs.Common.{◌≡◌, ℕ, zero, suc, ◌+◌, ◌-◌, ◌*◌, ◌/◌, ◌<◌, ◌≤◌, ◌∙◌, ap, inl, inr, arith}
-use Rattle.std.proofs.Math.Nat.{div-lt_iff_lt-mul, mul_comm}
+use Rattle.std.proofs.Common.{◌≡◌, ℕ, zero, suc, ◌+◌, ◌-◌, ◌*◌, ◌/◌, ◌<◌, ◌≤◌, Bool, not, ◌∙◌, ap, inl, inr, arith}
 use Rattle.std.proofs.lemmas.Bool.{cases_eq, cases_lt}
-use Rattle.std.proofs.lemmas.Nat.{div-mul-add, mul-le}
+use Rattle.std.proofs.lemmas.Nat.{mul-le}
 use Rattle.def_layout.specs.Surfaces.{IsSurface}
+use Rattle.def_layout.specs.declared.tmesh.SideArc.{SideArc}
 use Rattle.def_layout.specs.Layouts.{Way, south, east, north, west, Layout}
 use Rattle.def_layout.specs.Lengths.{Lengths, reach, size, wide, high, AreLengths}
-use Rattle.def_written.specs.Places.{ONE, arc_parameter, parameter, parameter_back, parameter_u, parameter_v, rest_at}
+use Rattle.def_written.specs.Places.{ONE, parameter, parameter_back, parameter_u, parameter_v, rest_at, ArcSpacing}
+use Rattle.def_written.specs.Spacings.{IsSpacing}
 use Rattle.def_written.specs.Points.{inside, offset_at, use_over, IsPoint}
 use Rattle.written_laws.proofs.Grid.{high_some, wide_some}
 use Rattle.written_laws.proofs.Runs.{count_rises, run_last, run_place}
+use Rattle.written_laws.proofs.Spacings.{div_less}
 use Rattle.written_laws.proofs.Sides.{first_slot, last_reach, long_at, place_on, slot, use_some, IsOn}
-
--- A quotient is below a number whose product is greater.
-div_less : (n k d : ℕ) → 0 < d → n < k * d → n / d < k
-div_less n k d some less = (div-lt_iff_lt-mul {k = d} {x = n} {y = k} some).1 less
 
 -- What is left of a parameter in an old column or row.
 pub rest_less : (n u : ℕ) → 0 < n → u < ONE * n → rest_at n u < ONE
@@ -29,36 +27,12 @@ mean_less a b m h j some le a_low b_low =
     let g : m * (h - j + j) ≡ m * h = ap (λ n. m * n) s in
     div_less (a * (h - j) + b * j) m h some (by_parts (h - j) e f g s)
   where
-    by_parts : (k : ℕ) → (a + 1) * k ≤ m * k → (b + 1) * j ≤ m * j → m * (k + j) ≡ m * h → k + j ≡ h → a * k + b * j < m * h
+    by_parts : (k : ℕ) → (a + 1) * k ≤ m * k → (b + 1) * j ≤ m * j → m * (k + j) ≡ m * h → k + j ≡ h
+        → a * k + b * j < m * h
     by_parts k a_le b_le same whole = omega (arith, a_le, b_le, same, whole, some)
 
-module _ (l : Layout) (old new : Lengths) (laid : IsSurface l) (o_len : AreLengths l old) (n_len : AreLengths l new) where
-  -- At the end of an arc the parameter is its old length.
-  arc_whole : (a : ℕ) → a < l.arcs → arc_parameter old new a (new a) ≡ ONE * old a
-  arc_whole a low =
-      ap (λ n. n / new a) (by_parts (new a) (old a)) ∙ div-mul-add (ONE * old a) (new a) 0 (n_len.some a low)
-    where
-      by_parts : (n m : ℕ) → ONE * n * m ≡ ONE * m * n + 0
-      by_parts n m = omega (arith, mul_comm n m)
-
-  -- At its beginning it is 0.
-  arc_none : (a k : ℕ) → a < l.arcs → k ≡ 0 → arc_parameter old new a k ≡ 0
-  arc_none a k low none =
-      let some : 0 < new a = n_len.some a low in
-      let product : ONE * k * old a ≡ 0 = ap (λ n. ONE * n * old a) none ∙ omega arith in
-      let less : arc_parameter old new a k < 1 = div_less (ONE * k * old a) 1 (new a) some (omega (arith, product, some)) in
-      omega (arith, less)
-
-  -- Before its end it is less.
-  arc_less : (a k : ℕ) → a < l.arcs → k < new a → arc_parameter old new a k < ONE * old a
-  arc_less a k low less =
-      div_less (ONE * k * old a) (ONE * old a) (new a) (n_len.some a low) (by_parts (new a) (old a) less (o_len.some a low))
-    where
-      by_parts : (n m : ℕ) → k < n → 0 < m → ONE * k * m < ONE * m * n
-      by_parts n m k_low some =
-          let e : (k + 1) * m ≤ n * m = mul-le (k + 1) m n m (omega arith) (omega arith) in
-          omega (arith, e, mul_comm n m, some)
-
+module _ (l : Layout) (old new : Lengths) (spacing : ArcSpacing) (laid : IsSurface l) (o_len : AreLengths l old)
+    (n_len : AreLengths l new) (spaced : IsSpacing l old new spacing) where
   -- The last arc of a side lies at its end.
   over_end : (p : ℕ) (s : Way) → p < l.patches → use_over l new p s (size l new p s) ≡ l.many p s - 1
   over_end p s low =
@@ -71,51 +45,66 @@ module _ (l : Layout) (old new : Lengths) (laid : IsSurface l) (o_len : AreLengt
       (record { patch_low = low; low = omega (arith, laid.paved.sides_full p s low) })
 
   -- At the end of a side the parameter is its old length.
-  pub ahead_end : (p : ℕ) (s : Way) → p < l.patches → parameter l old new p s (size l new p s) ≡ ONE * size l old p s
+  pub ahead_end : (p : ℕ) (s : Way) → p < l.patches → parameter l old new spacing p s (size l new p s)
+      ≡ ONE * size l old p s
   ahead_end p s low =
-      let a : ℕ = (l.use_at p s (l.many p s - 1)).arc in
-      let rest : size l new p s - reach l new p s (l.many p s - 1) ≡ new a = omega (arith, last_reach l new laid.paved n_len p s low) in
-      ap (λ m. ONE * reach l old p s m + arc_parameter old new (l.use_at p s m).arc (size l new p s - reach l new p s m)) (over_end p s low)
-      ∙ ap (λ o. ONE * reach l old p s (l.many p s - 1) + arc_parameter old new a o) rest
-      ∙ omega (arith, arc_whole a (last_low p s low), last_reach l old laid.paved o_len p s low)
+      let used : SideArc = l.use_at p s (l.many p s - 1) in
+      let rest : size l new p s - reach l new p s (l.many p s - 1) ≡ new used.arc =
+      omega (arith, last_reach l new laid.paved n_len p s low) in
+      ap (λ m. ONE * reach l old p s m + spacing.parameter_of (l.use_at p s m).arc (l.use_at p s m).forward
+      (size l new p s - reach l new p s m)) (over_end p s low)
+      ∙ ap (λ o. ONE * reach l old p s (l.many p s - 1) + spacing.parameter_of used.arc used.forward o) rest
+      ∙ omega (arith, spaced.ends used.arc used.forward (last_low p s low), last_reach l old laid.paved o_len p s low)
 
   -- Counted from the end of the side it is 0 there,
-  pub back_end : (p : ℕ) (s : Way) → p < l.patches → parameter_back l old new p s (size l new p s) ≡ 0
+  pub back_end : (p : ℕ) (s : Way) → p < l.patches → parameter_back l old new spacing p s (size l new p s) ≡ 0
   back_end p s low =
-      let a : ℕ = (l.use_at p s (l.many p s - 1)).arc in
-      let none : new a - (size l new p s - reach l new p s (l.many p s - 1)) ≡ 0 = omega (arith, last_reach l new laid.paved n_len p s low) in
+      let used : SideArc = l.use_at p s (l.many p s - 1) in
+      let none : new used.arc - (size l new p s - reach l new p s (l.many p s - 1)) ≡ 0 =
+      omega (arith, last_reach l new laid.paved n_len p s low) in
       let e : l.many p s - 1 + 1 ≡ l.many p s = omega (arith, laid.paved.sides_full p s low) in
       let whole : reach l old p s (l.many p s - 1 + 1) ≡ size l old p s = ap (reach l old p s) e in
       ap (λ m. ONE * (size l old p s - reach l old p s (m + 1))
-      + arc_parameter old new (l.use_at p s m).arc (new (l.use_at p s m).arc - (size l new p s - reach l new p s m))) (over_end p s low)
-      ∙ omega (arith, arc_none a _ (last_low p s low) none, whole)
+      + spacing.parameter_of (l.use_at p s m).arc (not (l.use_at p s m).forward)
+      (new (l.use_at p s m).arc - (size l new p s - reach l new p s m))) (over_end p s low)
+      ∙ ap (λ o. ONE * (size l old p s - reach l old p s (l.many p s - 1 + 1))
+      + spacing.parameter_of used.arc (not used.forward) o) none
+      ∙ omega (arith, spaced.begins used.arc (not used.forward) (last_low p s low), whole)
 
   -- and the old length at its beginning.
-  pub back_begin : (p : ℕ) (s : Way) → p < l.patches → parameter_back l old new p s 0 ≡ ONE * size l old p s
+  pub back_begin : (p : ℕ) (s : Way) → p < l.patches → parameter_back l old new spacing p s 0 ≡ ONE * size l old p s
   back_begin p s low =
       let first = first_slot l new laid.paved n_len p s low in
-      let a : ℕ = (l.use_at p s 0).arc in
-      let over : use_over l new p s 0 ≡ 0 = run_place (long_at l new p s) (l.many p s) 0 0 first.low (use_some l new laid.paved n_len (slot p s 0) first) in
-      let upto : reach l old p s 1 ≤ size l old p s = count_rises (long_at l old p s) 1 (l.many p s) (omega (arith, first.low)) in
-      let same : new a - (0 - reach l new p s 0) ≡ new a = omega arith in
+      let used : SideArc = l.use_at p s 0 in
+      let over : use_over l new p s 0 ≡ 0 =
+      run_place (long_at l new p s) (l.many p s) 0 0 first.low (use_some l new laid.paved n_len (slot p s 0)
+      first) in
+      let upto : reach l old p s 1 ≤ size l old p s =
+      count_rises (long_at l old p s) 1 (l.many p s) (omega (arith, first.low)) in
+      let same : new used.arc - (0 - reach l new p s 0) ≡ new used.arc = omega arith in
       ap (λ m. ONE * (size l old p s - reach l old p s (m + 1))
-      + arc_parameter old new (l.use_at p s m).arc (new (l.use_at p s m).arc - (0 - reach l new p s m))) over
-      ∙ ap (λ k. ONE * (size l old p s - reach l old p s 1) + arc_parameter old new a k) same
-      ∙ omega (arith, arc_whole a (laid.paved.arc_low (slot p s 0) first), upto)
+      + spacing.parameter_of (l.use_at p s m).arc (not (l.use_at p s m).forward)
+      (new (l.use_at p s m).arc - (0 - reach l new p s m))) over
+      ∙ ap (λ k. ONE * (size l old p s - reach l old p s 1) + spacing.parameter_of used.arc (not used.forward) k) same
+      ∙ omega (arith, spaced.ends used.arc (not used.forward) (laid.paved.arc_low (slot p s 0) first), upto)
 
   -- Before the end of a side the parameter is below its old length.
-  ahead_less : (p : ℕ) (s : Way) (t : ℕ) → p < l.patches → t < size l new p s → parameter l old new p s t < ONE * size l old p s
+  ahead_less : (p : ℕ) (s : Way) (t : ℕ) → p < l.patches → t < size l new p s
+      → parameter l old new spacing p s t < ONE * size l old p s
   ahead_less p s t low less =
       let on : IsOn l new p s t (use_over l new p s t) (offset_at l new p s t) = place_on l new p s t low less in
       let upto : reach l old p s (suc (use_over l new p s t)) ≤ size l old p s =
       count_rises (long_at l old p s) (suc (use_over l new p s t)) (l.many p s) (omega (arith, on.is_slot.low)) in
-      let part : arc_parameter old new (l.use_at p s (use_over l new p s t)).arc (offset_at l new p s t) < ONE * old (l.use_at p s (use_over l new p s t)).arc =
-      arc_less (l.use_at p s (use_over l new p s t)).arc (offset_at l new p s t)
+      let used : SideArc = l.use_at p s (use_over l new p s t) in
+      let part : spacing.parameter_of used.arc used.forward (offset_at l new p s t) < ONE * old used.arc =
+      spaced.below used.arc used.forward (offset_at l new p s t)
       (laid.paved.arc_low (slot p s (use_over l new p s t)) on.is_slot) on.inside in
       omega (arith, upto, part)
 
   -- So it is behind its beginning, where it is counted from the end.
-  back_less : (p : ℕ) (s : Way) (t : ℕ) → p < l.patches → 0 < t → t < size l new p s → parameter_back l old new p s t < ONE * size l old p s
+  back_less : (p : ℕ) (s : Way) (t : ℕ) → p < l.patches → 0 < t → t < size l new p s
+      → parameter_back l old new spacing p s t
+      < ONE * size l old p s
   back_less p s t low some less =
       by_offset (use_over l new p s t) (offset_at l new p s t) (place_on l new p s t low less)
     where
@@ -123,21 +112,29 @@ module _ (l : Layout) (old new : Lengths) (laid : IsSurface l) (o_len : AreLengt
       first = omega (arith, use_some l old laid.paved o_len (slot p s 0) (first_slot l old laid.paved o_len p s low))
 
       by_offset : (m o : ℕ) → IsOn l new p s t m o
-          → ONE * (size l old p s - reach l old p s (m + 1)) + arc_parameter old new (l.use_at p s m).arc (new (l.use_at p s m).arc - o) < ONE * size l old p s
+          → ONE * (size l old p s - reach l old p s (m + 1))
+          + spacing.parameter_of (l.use_at p s m).arc (not (l.use_at p s m).forward) (new (l.use_at p s m).arc - o)
+          < ONE * size l old p s
       by_offset m o on =
           let a : ℕ = (l.use_at p s m).arc in
+          let turned : Bool = not (l.use_at p s m).forward in
           let a_low : a < l.arcs = laid.paved.arc_low (slot p s m) on.is_slot in
-          let next : reach l old p s (m + 1) ≡ reach l old p s m + old a = (let e : m + 1 ≡ suc m = omega arith in ap (reach l old p s) e) in
-          let upto : reach l old p s (m + 1) ≤ size l old p s = count_rises (long_at l old p s) (m + 1) (l.many p s) (omega (arith, on.is_slot.low)) in
+          let next : reach l old p s (m + 1) ≡ reach l old p s m + old a =
+          (let e : m + 1 ≡ suc m = omega arith in ap (reach l old p s) e) in
+          let upto : reach l old p s (m + 1) ≤ size l old p s =
+          count_rises (long_at l old p s) (m + 1) (l.many p s) (omega (arith, on.is_slot.low)) in
           elim (cases_eq o 0) [
             | inl e ↦
-                let whole : arc_parameter old new a (new a - o) ≡ ONE * old a =
-                (let same : new a - o ≡ new a = omega arith in ap (arc_parameter old new a) same ∙ arc_whole a a_low) in
+                let whole : spacing.parameter_of a turned (new a - o) ≡ ONE * old a =
+                (let same : new a - o ≡ new a = omega arith in
+                ap (spacing.parameter_of a turned) same ∙ spaced.ends a turned a_low) in
                 let later : 0 < m = later_arc m o e on in
-                let before : reach l old p s 1 ≤ reach l old p s m = count_rises (long_at l old p s) 1 m (omega arith) in
+                let before : reach l old p s 1 ≤ reach l old p s m =
+                count_rises (long_at l old p s) 1 m (omega arith) in
                 omega (arith, next, upto, whole, before, first)
             | inr ne ↦
-                let part : arc_parameter old new a (new a - o) < ONE * old a = arc_less a (new a - o) a_low (omega (arith, on.inside)) in
+                let part : spacing.parameter_of a turned (new a - o) < ONE * old a =
+                spaced.below a turned (new a - o) a_low (omega (arith, on.inside)) in
                 omega (arith, next, upto, part)
           ]
         where
@@ -146,47 +143,69 @@ module _ (l : Layout) (old new : Lengths) (laid : IsSurface l) (o_len : AreLengt
           later_arc (suc k) q none here = omega arith
 
   -- Parameters are at most the old length.
-  ahead_most : (p : ℕ) (s : Way) (t : ℕ) → p < l.patches → t ≤ size l new p s → parameter l old new p s t ≤ ONE * size l old p s
+  ahead_most : (p : ℕ) (s : Way) (t : ℕ) → p < l.patches → t ≤ size l new p s
+      → parameter l old new spacing p s t ≤ ONE * size l old p s
   ahead_most p s t low le = elim (cases_lt t (size l new p s)) [
     | inl less ↦ omega (arith, ahead_less p s t low less)
-    | inr more ↦ let e : t ≡ size l new p s = omega arith in omega (arith, ap (parameter l old new p s) e, ahead_end p s low)
+    | inr more ↦ let e : t ≡ size l new p s = omega arith in
+        omega (arith, ap (parameter l old new spacing p s) e, ahead_end p s low)
   ]
 
-  back_most : (p : ℕ) (s : Way) (t : ℕ) → p < l.patches → t ≤ size l new p s → parameter_back l old new p s t ≤ ONE * size l old p s
+  back_most : (p : ℕ) (s : Way) (t : ℕ) → p < l.patches → t ≤ size l new p s → parameter_back l old new spacing p s t
+      ≤ ONE * size l old p s
   back_most p s t low le = elim (cases_eq t 0) [
-    | inl e ↦ omega (arith, ap (parameter_back l old new p s) e, back_begin p s low)
+    | inl e ↦ omega (arith, ap (parameter_back l old new spacing p s) e, back_begin p s low)
     | inr ne ↦ elim (cases_lt t (size l new p s)) [
       | inl less ↦ omega (arith, back_less p s t low (omega arith) less)
-      | inr more ↦ let e : t ≡ size l new p s = omega arith in omega (arith, ap (parameter_back l old new p s) e, back_end p s low)
+      | inr more ↦ let e : t ≡ size l new p s = omega arith in
+          omega (arith, ap (parameter_back l old new spacing p s) e, back_end p s low)
     ]
   ]
 
   -- Those of a grid point inside a patch are below the old size of the patch.
-  pub u_less : (p i j : ℕ) → IsPoint l new (inside p i j) → parameter_u l old new p i j < ONE * wide l old p
+  pub u_less : (p i j : ℕ) → IsPoint l new (inside p i j) → parameter_u l old new spacing p i j < ONE * wide l old p
   u_less p i j is =
-      mean_less (parameter l old new p south i) (parameter_back l old new p north (wide l new p - i)) (ONE * wide l old p) (high l new p) j
+      mean_less (parameter l old new spacing p south i) (parameter_back l old new spacing p north (wide l new p - i))
+      (ONE * wide l old p) (high l new p) j
       (omega (arith, is.3, is.4)) (omega (arith, is.4)) (ahead_less p south i is.0 is.2)
-      (omega (arith, o_len.across p is.0, back_less p north (wide l new p - i) is.0 (omega (arith, is.2)) (omega (arith, is.1, is.2, n_len.across p is.0))))
+      (omega (
+        arith,
+        o_len.across p is.0,
+        back_less p north (wide l new p - i) is.0 (omega (arith, is.2))
+            (omega (arith, is.1, is.2, n_len.across p is.0)),
+      ))
 
-  pub v_less : (p i j : ℕ) → IsPoint l new (inside p i j) → parameter_v l old new p i j < ONE * high l old p
+  pub v_less : (p i j : ℕ) → IsPoint l new (inside p i j) → parameter_v l old new spacing p i j < ONE * high l old p
   v_less p i j is =
-      mean_less (parameter_back l old new p west (high l new p - j)) (parameter l old new p east j) (ONE * high l old p) (wide l new p) i
-      (omega (arith, is.1, is.2)) (omega (arith, is.2)) (back_less p west (high l new p - j) is.0 (omega (arith, is.4)) (omega (arith, is.3, is.4)))
+      mean_less (parameter_back l old new spacing p west (high l new p - j)) (parameter l old new spacing p east j)
+      (ONE * high l old p)
+      (wide l new p) i
+      (omega (arith, is.1, is.2)) (omega (arith, is.2)) (back_less p west (high l new p - j) is.0 (omega (arith, is.4))
+      (omega (arith, is.3, is.4)))
       (omega (arith, o_len.upright p is.0, ahead_less p east j is.0 (omega (arith, is.4, n_len.upright p is.0))))
 
   -- Those of any grid point are at most that.
-  pub u_upto : (p i j : ℕ) → p < l.patches → i ≤ wide l new p → j ≤ high l new p → parameter_u l old new p i j ≤ ONE * wide l old p
+  pub u_upto : (p i j : ℕ) → p < l.patches → i ≤ wide l new p → j ≤ high l new p
+      → parameter_u l old new spacing p i j ≤ ONE * wide l old p
   u_upto p i j low i_le j_le =
-      let less : parameter_u l old new p i j < ONE * wide l old p + 1 =
-      mean_less (parameter l old new p south i) (parameter_back l old new p north (wide l new p - i)) (ONE * wide l old p + 1) (high l new p) j
+      let less : parameter_u l old new spacing p i j < ONE * wide l old p + 1 =
+      mean_less (parameter l old new spacing p south i) (parameter_back l old new spacing p north (wide l new p - i))
+      (ONE * wide l old p + 1) (high l new p) j
       (high_some l new laid.paved n_len p low) j_le (omega (arith, ahead_most p south i low i_le))
-      (omega (arith, o_len.across p low, back_most p north (wide l new p - i) low (omega (arith, n_len.across p low)))) in
+      (omega (
+        arith,
+        o_len.across p low,
+        back_most p north (wide l new p - i) low (omega (arith, n_len.across p low)),
+      )) in
       omega (arith, less)
 
-  pub v_upto : (p i j : ℕ) → p < l.patches → i ≤ wide l new p → j ≤ high l new p → parameter_v l old new p i j ≤ ONE * high l old p
+  pub v_upto : (p i j : ℕ) → p < l.patches → i ≤ wide l new p → j ≤ high l new p
+      → parameter_v l old new spacing p i j ≤ ONE * high l old p
   v_upto p i j low i_le j_le =
-      let less : parameter_v l old new p i j < ONE * high l old p + 1 =
-      mean_less (parameter_back l old new p west (high l new p - j)) (parameter l old new p east j) (ONE * high l old p + 1) (wide l new p) i
-      (wide_some l new laid.paved n_len p low) i_le (omega (arith, back_most p west (high l new p - j) low (omega arith)))
+      let less : parameter_v l old new spacing p i j < ONE * high l old p + 1 =
+      mean_less (parameter_back l old new spacing p west (high l new p - j)) (parameter l old new spacing p east j)
+      (ONE * high l old p + 1) (wide l new p) i
+      (wide_some l new laid.paved n_len p low) i_le
+      (omega (arith, back_most p west (high l new p - j) low (omega arith)))
       (omega (arith, o_len.upright p low, ahead_most p east j low (omega (arith, n_len.upright p low, j_le)))) in
       omega (arith, less)

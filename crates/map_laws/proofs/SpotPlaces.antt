@@ -1,7 +1,5 @@
 -- New vertices lie in the old mesh, and have the places that are computed from there.
-use Rattle.std.proofs.Common.{◌≡◌, ℕ, ◌+◌, ◌*◌, ◌/◌, ◌%◌, ◌<◌, ◌≤◌, length, refl, sym, subst, arith}
-use Rattle.std.proofs.Math.Nat.{div-lt_iff_lt-mul, mod-lt, mul_comm}
-use Rattle.std.proofs.lemmas.Nat.{mul-le}
+use Rattle.std.proofs.Common.{◌≡◌, ℕ, ◌<◌, List, length, Option, refl, sym, subst, arith}
 use Rattle.def_cut.specs.Grids.{cell_of, patch_at}
 use Rattle.def_layout.specs.Arcs.{dart_at, long_at}
 use Rattle.def_layout.specs.Layouts.{Layout}
@@ -10,10 +8,12 @@ use Rattle.def_layout.specs.Plans.{Plan, layout_of}
 use Rattle.def_layoutnet.specs.MeshLayouts.{IsSomeLayout}
 use Rattle.def_mesh.specs.Faces.{Faces}
 use Rattle.def_text.specs.Types.{Positions}
-use Rattle.def_written.specs.Places.{blend, cell_at, on_the_way, parameter_u, parameter_v, rest_at}
+use Rattle.def_written.specs.Places.{blend, cell_at, on_the_way, parameter_u, parameter_v, rest_at, ArcSpacing}
+use Rattle.def_written.specs.Spacings.{IsSpacing}
 use Rattle.def_written.specs.Points.{Point, node, along, inside, IsPoint}
 use Rattle.def_remesh.specs.NewPoints.{point_at}
-use Rattle.def_remesh.specs.NewSoup.{new_coordinate, new_place}
+use Rattle.def_remesh.specs.NewSoup.{new_coordinate, spaced_place}
+use Rattle.def_remesh.specs.Spaced.{spacing_by}
 use Rattle.def_map.specs.Laws.{IsSpot, SpotLaw}
 use Rattle.def_map.specs.SpotPlaces.{coordinate_at, on_axes, spot_place}
 use Rattle.def_map.specs.Spots.{spot_at, spot_of}
@@ -23,50 +23,48 @@ use Rattle.map_laws.proofs.Parameters.{rest_less, u_less, v_less}
 use Rattle.plan_laws.proofs.MeshLayouts.{laid_of, lengths_of}
 use Rattle.written_laws.proofs.Grid.{wide_some, high_some}
 
--- A place before the end of an arc lies on one of its darts.
-pub dart_low : (plan : Plan) → IsSomeLayout plan → (arc k parts : ℕ) → arc < length plan.arcs → k < parts → k * long_at plan.arcs arc / parts < long_at plan.arcs arc
-dart_low plan is arc k parts low less =
-    (div-lt_iff_lt-mul {k = parts} {x = k * long_at plan.arcs arc} {y = long_at plan.arcs arc} (omega (arith, less))).1
-    (by_parts (long_at plan.arcs arc) ((lengths_of plan is).some arc low))
+-- The spot of a point lies in the mesh, and the place that is computed from it is that of the point.
+pub record IsSpotOf (faces : Faces) (plan : Plan) (shares : Option (List ℕ)) (new : Lengths) (point : Point) : Type 0
   where
-    by_parts : (m : ℕ) → 0 < m → k * m < m * parts
-    by_parts m some =
-        let le : (k + 1) * m ≤ m * parts = subst (λ z. (k + 1) * m ≤ z) (mul_comm parts m) (mul-le (k + 1) m parts m (omega arith) (omega arith)) in
-        omega (arith, le)
+    pub within : IsSpot faces (spot_of plan new (spacing_by plan shares new) point)
+    pub place : (places : Positions) → spot_place faces places (spot_of plan new (spacing_by plan shares new) point)
+        ≡ on_axes (new_coordinate faces plan places shares new point)
 
--- A spot lies in the mesh, and the place that is computed from it is that of a point.
-pub record IsSpotOf (faces : Faces) (plan : Plan) (new : Lengths) (point : Point) : Type 0 where
-  pub within : IsSpot faces (spot_of plan new point)
-  pub place : (places : Positions)
-      → spot_place faces places (spot_of plan new point) ≡ on_axes (new_coordinate faces plan places new point)
-
-module _ (plan : Plan) (is : IsSomeLayout plan) (new : Lengths) (len : AreLengths (layout_of plan) new) where
+module _ (plan : Plan) (is : IsSomeLayout plan) (shares : Option (List ℕ)) (new : Lengths)
+    (len : AreLengths (layout_of plan) new)
+    (spaced : IsSpacing (layout_of plan) (long_at plan.arcs) new (spacing_by plan shares new)) where
   abbrev l : Layout
   l = layout_of plan
 
   abbrev old : Lengths
   old = long_at plan.arcs
 
+  abbrev spacing : ArcSpacing
+  spacing = spacing_by plan shares new
+
   -- A point of an arc.
-  on_dart : (arc k : ℕ) → arc < length plan.arcs → k < new arc → IsSpotOf is.faces plan new (along arc k)
+  on_dart : (arc k : ℕ) → arc < length plan.arcs → k < new arc → IsSpotOf is.faces plan shares new (along arc k)
   on_dart arc k low less = record {
-    within = (e.low, mod-lt (k * old arc) (omega (arith, less)));
-    place = λ places t. on_axes (λ axis.
-        on_the_way (coordinate_at places (sym e.first t) axis) (coordinate_at places (sym e.last t) axis) (k * old arc % new arc) (new arc));
+    within = (e.low, spaced.parts arc k low less);
+    place = λ places t. on_axes (λ axis. on_the_way (coordinate_at places (sym e.first t) axis)
+        (coordinate_at places (sym e.last t) axis) (spacing.step arc k).some (spacing.step arc k).parts);
   }
     where
-      e : AreEnds plan is arc (k * old arc / new arc) (dart_at plan.arcs arc (k * old arc / new arc))
-      e = ends plan is arc (k * old arc / new arc) low (dart_low plan is arc k (new arc) low less)
+      e : AreEnds plan is arc (spacing.step arc k).edge (dart_at plan.arcs arc (spacing.step arc k).edge)
+      e = ends plan is arc (spacing.step arc k).edge low (spaced.edges arc k low less)
 
   -- A point of a patch.
-  in_cell : (patch i j : ℕ) → IsPoint l new (inside patch i j) → IsSpotOf is.faces plan new (inside patch i j)
+  in_cell : (patch i j : ℕ) → IsPoint l new (inside patch i j) → IsSpotOf is.faces plan shares new (inside patch i j)
   in_cell patch i j inner = record {
     within = (
       e.low,
-      rest_less (wide l old patch) (parameter_u l old new patch i j) wide_pos (u_less l old new (laid_of plan is) (lengths_of plan is) len patch i j inner),
-      rest_less (high l old patch) (parameter_v l old new patch i j) high_pos (v_less l old new (laid_of plan is) (lengths_of plan is) len patch i j inner),
+      rest_less (wide l old patch) (parameter_u l old new spacing patch i j) wide_pos
+          (u_less l old new spacing (laid_of plan is) (lengths_of plan is) len spaced patch i j inner),
+      rest_less (high l old patch) (parameter_v l old new spacing patch i j) high_pos
+          (v_less l old new spacing (laid_of plan is) (lengths_of plan is) len spaced patch i j inner),
     );
-    place = λ places t. on_axes (λ axis. blend (rest_at (wide l old patch) (parameter_u l old new patch i j)) (rest_at (high l old patch) (parameter_v l old new patch i j))
+    place = λ places t. on_axes (λ axis. blend (rest_at (wide l old patch) (parameter_u l old new spacing patch i j))
+        (rest_at (high l old patch) (parameter_v l old new spacing patch i j))
         (coordinate_at places (sym e.south_west t) axis) (coordinate_at places (sym e.south_east t) axis)
         (coordinate_at places (sym e.north_west t) axis) (coordinate_at places (sym e.north_east t) axis));
   }
@@ -77,23 +75,27 @@ module _ (plan : Plan) (is : IsSomeLayout plan) (new : Lengths) (len : AreLength
       high_pos : 0 < high l old patch
       high_pos = high_some l old (laid_of plan is).paved (lengths_of plan is) patch inner.0
 
-      e : AreCorners plan is patch (cell_at (wide l old patch) (parameter_u l old new patch i j)) (cell_at (high l old patch) (parameter_v l old new patch i j))
-          (cell_of (patch_at plan.patches patch) (cell_at (wide l old patch) (parameter_u l old new patch i j)) (cell_at (high l old patch) (parameter_v l old new patch i j)))
-      e = corners plan is patch (cell_at (wide l old patch) (parameter_u l old new patch i j)) (cell_at (high l old patch) (parameter_v l old new patch i j))
+      e : AreCorners plan is patch (cell_at (wide l old patch) (parameter_u l old new spacing patch i j))
+          (cell_at (high l old patch) (parameter_v l old new spacing patch i j))
+          (cell_of (patch_at plan.patches patch) (cell_at (wide l old patch) (parameter_u l old new spacing patch i j))
+          (cell_at (high l old patch) (parameter_v l old new spacing patch i j)))
+      e = corners plan is patch (cell_at (wide l old patch) (parameter_u l old new spacing patch i j))
+          (cell_at (high l old patch) (parameter_v l old new spacing patch i j))
           inner.0 (omega (arith, wide_pos)) (omega (arith, high_pos))
 
   -- Any point.
-  spot_is : (a : Point) → IsPoint l new a → IsSpotOf is.faces plan new a
+  spot_is : (a : Point) → IsPoint l new a → IsSpotOf is.faces plan shares new a
   spot_is (node n) low = record { within = old_low plan is (node n) low; place = λ places. refl }
   spot_is (along a k) low = on_dart a k low.0 low.2
   spot_is (inside p i j) low = in_cell p i j low
 
 pub spot_law : SpotLaw
-spot_law faces plan new (is, same) len v low =
-    by_point (subst (λ (F : Faces). IsSpotOf F plan new (point_at (layout_of plan) new v)) same
-    (spot_is plan is new len (point_at (layout_of plan) new v) (is_point (layout_of plan) new v low)))
+spot_law faces plan shares new (is, same) len spaced v low =
+    by_point (subst (λ (F : Faces). IsSpotOf F plan shares new (point_at (layout_of plan) new v)) same
+    (spot_is plan is shares new len spaced (point_at (layout_of plan) new v) (is_point (layout_of plan) new v low)))
   where
-    by_point : IsSpotOf faces plan new (point_at (layout_of plan) new v)
-        → IsSpot faces (spot_at plan new v)
-        × ((places : Positions) → spot_place faces places (spot_at plan new v) ≡ new_place faces plan places new v)
+    by_point : IsSpotOf faces plan shares new (point_at (layout_of plan) new v)
+        → IsSpot faces (spot_at plan shares new v)
+        × ((places : Positions) → spot_place faces places (spot_at plan shares new v)
+        ≡ spaced_place faces plan places shares new v)
     by_point at = (at.within, at.place)

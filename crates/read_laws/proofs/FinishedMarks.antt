@@ -1,5 +1,6 @@
 -- The `l` lines that a command wrote are read again as the marks along the chains of its marked arcs.
-use Rattle.std.proofs.Common.{◌≡◌, ◌⊎◌, ◌+◌, ◌-◌, ◌<◌, ◌≤◌, ◌++◌, ℕ, zero, suc, Bool, true, false, cond, List, [], ◌∷◌, length, map, filter, get_or, inl, inr, refl, sym, ap, subst, ◌∙◌, arith}
+use Rattle.std.proofs.Common.{◌≡◌, ◌⊎◌, ◌+◌, ◌-◌, ◌<◌, ◌≤◌, ◌++◌, ℕ, zero, suc, Bool, true, false, cond, List, [], ◌∷◌}
+use Rattle.std.proofs.Common.{length, map, filter, get_or, Option, inl, inr, refl, sym, ap, subst, ◌∙◌, arith}
 use Rattle.std.specs.List.{flat_map, list_all, range_with_len}
 use Rattle.std.proofs.lemmas.Bool.{and_from, cases_lt}
 use Rattle.std.proofs.lemmas.List.{append_assoc}
@@ -18,7 +19,7 @@ use Rattle.def_marks.specs.Lines.{marks_in}
 use Rattle.def_marks.specs.MarkedText.{arc_chain, arc_text, chain_text, is_marked_arc}
 use Rattle.def_readlaws.specs.ReadChains.{AreHashLines, FinishedMarksLaw, IsChainOf, marked_arc_chains}
 use Rattle.def_remesh.specs.NewPoints.{lengths_in}
-use Rattle.def_remesh.specs.NewSoup.{new_place, new_soup}
+use Rattle.def_remesh.specs.NewSoup.{spaced_place, spaced_soup}
 use Rattle.def_remesh.specs.ReadAgain.{ends_line}
 use Rattle.def_remesh.specs.Remeshed.{certificate_lines}
 use Rattle.def_text.specs.Canonical.{canonical_text}
@@ -53,44 +54,56 @@ certs_hash (line ∷ said) = and_from _ _ (cert_hash line) (certs_hash said)
 
 cert_lines : (auto : Bool) (said : List CertLine) → list_all (may_stand auto) said ≡ true → AreHashLines (text_of said)
 cert_lines auto said may =
-    let same : text_of said ≡ flat_map (λ l. l ++ 10 ∷ []) (map line_text said) = sym (flat_map-map (λ l. l ++ 10 ∷ []) line_text said) in
+    let same : text_of said ≡ flat_map (λ l. l ++ 10 ∷ []) (map line_text said) =
+    sym (flat_map-map (λ l. l ++ 10 ∷ []) line_text said) in
     record {
       ended = ap ends_line same ∙ ends_lines (map line_text said);
-      hashes = ap (list_all is_hash_line) (ap lines_of same ∙ lines_back (map line_text said) (lines_inside auto said may)) ∙ certs_hash said;
+      hashes = ap (list_all is_hash_line) (ap lines_of same
+          ∙ lines_back (map line_text said) (lines_inside auto said may)) ∙ certs_hash said;
     }
 
 -- What holds of the image of each element holds along those that pass.
-each_passing : (P : List ℕ → Type 0) (f : ℕ → List ℕ) (p : ℕ → Bool) (xs : List ℕ) → ((k : ℕ) → k < length xs → P (f (get_or xs k 0)))
+each_passing : (P : List ℕ → Type 0) (f : ℕ → List ℕ) (p : ℕ → Bool) (xs : List ℕ)
+    → ((k : ℕ) → k < length xs → P (f (get_or xs k 0)))
     → (k : ℕ) → k < length (map f (filter p xs)) → P (get_or (map f (filter p xs)) k [])
 each_passing P f p [] each k low = absurd (omega (arith, low))
-each_passing P f p (x ∷ xs) each k low = by_test (p x) (each 0 (omega arith)) (each_passing P f p xs (λ j l. each (suc j) (omega (arith, l)))) k low
+each_passing P f p (x ∷ xs) each k low =
+    by_test (p x) (each 0 (omega arith)) (each_passing P f p xs (λ j l. each (suc j) (omega (arith, l)))) k low
   where
-    by_test : (t : Bool) → P (f x) → ((j : ℕ) → j < length (map f (filter p xs)) → P (get_or (map f (filter p xs)) j [])) → (k : ℕ)
-        → k < length (map f (cond t (x ∷ filter p xs) (filter p xs))) → P (get_or (map f (cond t (x ∷ filter p xs) (filter p xs))) k [])
+    by_test : (t : Bool) → P (f x) → ((j : ℕ) → j < length (map f (filter p xs))
+        → P (get_or (map f (filter p xs)) j [])) → (k : ℕ)
+        → k < length (map f (cond t (x ∷ filter p xs) (filter p xs)))
+        → P (get_or (map f (cond t (x ∷ filter p xs) (filter p xs))) k [])
     by_test true first rest zero l = first
     by_test true first rest (suc j) l = rest j (omega (arith, l))
     by_test false first rest j l = rest j l
 
 -- The lines of marked arcs are those of their chains.
 marked_is : (marks : List Bool) (plan : Plan) (new : Lengths) (arcs : List ℕ)
-    → flat_map (arc_text marks plan new) arcs ≡ flat_map chain_text (map (arc_chain (layout_of plan) new) (filter (is_marked_arc marks plan) arcs))
+    → flat_map (arc_text marks plan new) arcs
+    ≡ flat_map chain_text (map (arc_chain (layout_of plan) new) (filter (is_marked_arc marks plan) arcs))
 marked_is marks plan new [] = refl
 marked_is marks plan new (arc ∷ arcs) = by_test (is_marked_arc marks plan arc) (marked_is marks plan new arcs)
   where
     by_test : (t : Bool)
-        → flat_map (arc_text marks plan new) arcs ≡ flat_map chain_text (map (arc_chain (layout_of plan) new) (filter (is_marked_arc marks plan) arcs))
+        → flat_map (arc_text marks plan new) arcs
+        ≡ flat_map chain_text (map (arc_chain (layout_of plan) new) (filter (is_marked_arc marks plan) arcs))
         → cond t (chain_text (arc_chain (layout_of plan) new arc)) [] ++ flat_map (arc_text marks plan new) arcs
-        ≡ flat_map chain_text (map (arc_chain (layout_of plan) new) (cond t (arc ∷ filter (is_marked_arc marks plan) arcs) (filter (is_marked_arc marks plan) arcs)))
+        ≡ flat_map chain_text (map (arc_chain (layout_of plan) new)
+        (cond t (arc ∷ filter (is_marked_arc marks plan) arcs) (filter (is_marked_arc marks plan) arcs)))
     by_test true rest = ap (λ (bytes : Bytes). chain_text (arc_chain (layout_of plan) new arc) ++ bytes) rest
     by_test false rest = rest
 
-module _ (soup : FaceSet) (plan : Plan) (new : Lengths) (is : IsSomeLayout plan) (len : AreLengths (layout_of plan) new) where
-  many : length (new_soup soup plan new).pos ≡ vertices (layout_of plan) new
-  many = length-map-range_with_len (new_place soup.faces plan soup.pos new) 0 (vertices (layout_of plan) new)
+module _ (soup : FaceSet) (plan : Plan) (shares : Option (List ℕ)) (new : Lengths) (is : IsSomeLayout plan)
+    (len : AreLengths (layout_of plan) new) where
+  many : length (spaced_soup soup plan shares new).pos ≡ vertices (layout_of plan) new
+  many = length-map-range_with_len (spaced_place soup.faces plan soup.pos shares new) 0 (vertices (layout_of plan) new)
 
   -- The points of an arc are points.
-  on_arc_low : (a k : ℕ) → a < length plan.arcs → k < new a + 1 → vertex_number (layout_of plan) new (arc_point (layout_of plan) new a k) < vertices (layout_of plan) new
-  on_arc_low a k low less = (numbers_law (layout_of plan) new).low (arc_point (layout_of plan) new a k) (by_place (cases_lt k (new a)))
+  on_arc_low : (a k : ℕ) → a < length plan.arcs → k < new a + 1
+      → vertex_number (layout_of plan) new (arc_point (layout_of plan) new a k) < vertices (layout_of plan) new
+  on_arc_low a k low less = (numbers_law (layout_of plan) new).low (arc_point (layout_of plan) new a k)
+      (by_place (cases_lt k (new a)))
     where
       by_place : (k < new a) ⊎ (new a ≤ k) → IsPoint (layout_of plan) new (arc_point (layout_of plan) new a k)
       by_place (inl inside) = (edge_points (layout_of plan) new (laid_of plan is) len (on_arc a k) (low, inside)).0
@@ -100,10 +113,12 @@ module _ (soup : FaceSet) (plan : Plan) (new : Lengths) (is : IsSomeLayout plan)
           subst (λ j. IsPoint (layout_of plan) new (arc_point (layout_of plan) new a j)) last
           (edge_points (layout_of plan) new (laid_of plan is) len (on_arc a (new a - 1)) (low, omega (arith, some))).1
 
-  chain_of : (a : ℕ) → a < length plan.arcs → IsChainOf (new_soup soup plan new) (arc_chain (layout_of plan) new a)
+  chain_of : (a : ℕ) → a < length plan.arcs
+      → IsChainOf (spaced_soup soup plan shares new) (arc_chain (layout_of plan) new a)
   chain_of a low =
       let long : length (arc_chain (layout_of plan) new a) ≡ new a + 1 =
-      length-map-range_with_len (λ k. vertex_number (layout_of plan) new (arc_point (layout_of plan) new a k)) 0 (new a + 1) in
+      length-map-range_with_len (λ k. vertex_number (layout_of plan) new (arc_point (layout_of plan) new a k)) 0
+      (new a + 1) in
       record {
         long = omega (arith, long, len.some a low);
         low = λ k less.
@@ -112,20 +127,34 @@ module _ (soup : FaceSet) (plan : Plan) (new : Lengths) (is : IsSomeLayout plan)
         edges = chain_is (layout_of plan) new (laid_of plan is) len a low;
       }
 
-  chains_of : (marks : List Bool) (k : ℕ) → k < length (marked_arc_chains marks plan new) → IsChainOf (new_soup soup plan new) (get_or (marked_arc_chains marks plan new) k [])
-  chains_of marks = each_passing (IsChainOf (new_soup soup plan new)) (arc_chain (layout_of plan) new) (is_marked_arc marks plan) (range_with_len 0 (length plan.arcs))
+  chains_of : (marks : List Bool) (k : ℕ) → k < length (marked_arc_chains marks plan new)
+      → IsChainOf (spaced_soup soup plan shares new) (get_or (marked_arc_chains marks plan new) k [])
+  chains_of marks = each_passing (IsChainOf (spaced_soup soup plan shares new)) (arc_chain (layout_of plan) new)
+      (is_marked_arc marks plan) (range_with_len 0 (length plan.arcs))
       (λ k less.
       let inside : k < length plan.arcs = omega (arith, less, length-range_with_len 0 (length plan.arcs)) in
-      chain_of (get_or (range_with_len 0 (length plan.arcs)) k 0) (omega (arith, get_or-range_with_len 0 (length plan.arcs) k 0 inside, inside)))
+      chain_of (get_or (range_with_len 0 (length plan.arcs)) k 0)
+      (omega (arith, get_or-range_with_len 0 (length plan.arcs) k 0 inside, inside)))
 
 pub finished_marks_law : FinishedMarksLaw
 finished_marks_law command bytes text marks wrote range head between read =
-    ap (λ (t : Bytes). marks_in t (new_soup wrote.soup wrote.shown.finished.plan (lengths_in (used wrote.shown.finished.certificates).x))) text_is
-    ∙ marks_again_law (wrote.task.head ++ 10 ∷ []) (text_of (certificate_lines wrote.task.auto wrote.shown.finished.certificates)) (new_soup wrote.soup wrote.shown.finished.plan (lengths_in (used wrote.shown.finished.certificates).x)) (marked_arc_chains marks wrote.shown.finished.plan (lengths_in (used wrote.shown.finished.certificates).x)) head
-    (cert_lines wrote.task.auto (certificate_lines wrote.task.auto wrote.shown.finished.certificates) (kept_allowed wrote.task.wish wrote.shown.finished.plan wrote.task.settings wrote.task.auto wrote.shown.finished.certificates wrote.shown.finished.lengths))
-    (soup_in_law text (new_soup wrote.soup wrote.shown.finished.plan (lengths_in (used wrote.shown.finished.certificates).x)) read)
-    (ap numbers_to (sym (many wrote.soup wrote.shown.finished.plan (lengths_in (used wrote.shown.finished.certificates).x) some len)))
-    (chains_of wrote.soup wrote.shown.finished.plan (lengths_in (used wrote.shown.finished.certificates).x) some len marks)
+    ap (λ (t : Bytes). marks_in t (spaced_soup wrote.soup wrote.shown.finished.plan wrote.task.shares
+    (lengths_in (used wrote.shown.finished.certificates).x))) text_is
+    ∙ marks_again_law (wrote.task.head ++ 10 ∷ [])
+    (text_of (certificate_lines wrote.task.auto wrote.shown.finished.certificates))
+    (spaced_soup wrote.soup wrote.shown.finished.plan wrote.task.shares
+    (lengths_in (used wrote.shown.finished.certificates).x))
+    (marked_arc_chains marks wrote.shown.finished.plan (lengths_in (used wrote.shown.finished.certificates).x)) head
+    (cert_lines wrote.task.auto (certificate_lines wrote.task.auto wrote.shown.finished.certificates)
+    (kept_allowed wrote.task.wish wrote.shown.finished.plan wrote.task.settings wrote.task.auto
+    wrote.shown.finished.certificates wrote.shown.finished.lengths))
+    (soup_in_law text (spaced_soup wrote.soup wrote.shown.finished.plan wrote.task.shares
+    (lengths_in (used wrote.shown.finished.certificates).x)) read)
+    (ap numbers_to (sym (many wrote.soup wrote.shown.finished.plan wrote.task.shares
+    (lengths_in (used wrote.shown.finished.certificates).x) some len)))
+    (chains_of wrote.soup wrote.shown.finished.plan wrote.task.shares
+    (lengths_in (used wrote.shown.finished.certificates).x) some len
+    marks)
   where
     some : IsSomeLayout wrote.shown.finished.plan
     some =
@@ -140,10 +169,28 @@ finished_marks_law command bytes text marks wrote range head between read =
         }
 
     len : AreLengths (layout_of wrote.shown.finished.plan) (lengths_in (used wrote.shown.finished.certificates).x)
-    len = used_lengths wrote.task.wish wrote.shown.finished.plan wrote.task.settings wrote.task.auto wrote.shown.finished.certificates range wrote.shown.finished.lengths
+    len = used_lengths wrote.task.wish wrote.shown.finished.plan wrote.task.settings wrote.task.auto
+        wrote.shown.finished.certificates range wrote.shown.finished.lengths
 
-    text_is : text ≡ (wrote.task.head ++ 10 ∷ []) ++ (canonical_text (new_soup wrote.soup wrote.shown.finished.plan (lengths_in (used wrote.shown.finished.certificates).x)) ++ (flat_map chain_text (marked_arc_chains marks wrote.shown.finished.plan (lengths_in (used wrote.shown.finished.certificates).x)) ++ text_of (certificate_lines wrote.task.auto wrote.shown.finished.certificates)))
+    text_is : text ≡ (wrote.task.head ++ 10 ∷ [])
+        ++ (canonical_text (spaced_soup wrote.soup wrote.shown.finished.plan wrote.task.shares
+        (lengths_in (used wrote.shown.finished.certificates).x))
+        ++ (flat_map chain_text (marked_arc_chains marks wrote.shown.finished.plan
+        (lengths_in (used wrote.shown.finished.certificates).x))
+        ++ text_of (certificate_lines wrote.task.auto wrote.shown.finished.certificates)))
     text_is =
         wrote.shown.finished.written
-        ∙ ((λ i. wrote.task.head ++ 10 ∷ (canonical_text (new_soup wrote.soup wrote.shown.finished.plan (lengths_in (used wrote.shown.finished.certificates).x)) ++ ((ap (λ f. f wrote.shown.finished.plan (lengths_in (used wrote.shown.finished.certificates).x)) between ∙ marked_is marks wrote.shown.finished.plan (lengths_in (used wrote.shown.finished.certificates).x) (range_with_len 0 (length wrote.shown.finished.plan.arcs))) i ++ text_of (certificate_lines wrote.task.auto wrote.shown.finished.certificates))))
-        ∙ sym (append_assoc wrote.task.head (10 ∷ []) (canonical_text (new_soup wrote.soup wrote.shown.finished.plan (lengths_in (used wrote.shown.finished.certificates).x)) ++ (flat_map chain_text (marked_arc_chains marks wrote.shown.finished.plan (lengths_in (used wrote.shown.finished.certificates).x)) ++ text_of (certificate_lines wrote.task.auto wrote.shown.finished.certificates)))))
+        ∙ ((λ i. wrote.task.head
+        ++ 10 ∷ (canonical_text (spaced_soup wrote.soup wrote.shown.finished.plan wrote.task.shares
+        (lengths_in (used wrote.shown.finished.certificates).x))
+        ++ ((ap (λ f. f wrote.shown.finished.plan (lengths_in (used wrote.shown.finished.certificates).x))
+        between ∙ marked_is marks wrote.shown.finished.plan
+        (lengths_in (used wrote.shown.finished.certificates).x)
+        (range_with_len 0 (length wrote.shown.finished.plan.arcs))) i
+        ++ text_of (certificate_lines wrote.task.auto wrote.shown.finished.certificates))))
+        ∙ sym (append_assoc wrote.task.head (10 ∷ [])
+        (canonical_text (spaced_soup wrote.soup wrote.shown.finished.plan wrote.task.shares
+        (lengths_in (used wrote.shown.finished.certificates).x))
+        ++ (flat_map chain_text (marked_arc_chains marks wrote.shown.finished.plan
+        (lengths_in (used wrote.shown.finished.certificates).x))
+        ++ text_of (certificate_lines wrote.task.auto wrote.shown.finished.certificates)))))

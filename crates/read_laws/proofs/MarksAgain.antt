@@ -1,5 +1,6 @@
 -- The lines of chains behind a canonical text are read again as the marks along these chains.
-use Rattle.std.proofs.Common.{◌≡◌, ◌+◌, ◌<◌, ◌≤◌, ◌&&◌, ◌||◌, ◌^◌, ℕ, pos, suc, true, false, cond, not, List, [], ◌∷◌, ◌++◌, length, map, get_or, refl, sym, ap, ◌∙◌, arith, subst, eqb, ltb, is_some, Ok}
+use Rattle.std.proofs.Common.{◌≡◌, ◌+◌, ◌<◌, ◌≤◌, ◌&&◌, ◌||◌, ◌^◌, ℕ, pos, suc, true, false, cond, not, List, [], ◌∷◌}
+use Rattle.std.proofs.Common.{◌++◌, length, map, get_or, refl, sym, ap, ◌∙◌, arith, subst, eqb, ltb, is_some, Ok}
 use Rattle.std.specs.List.{before_first, count_by, flat_map, list_all, list_any}
 use Rattle.std.proofs.lemmas.Bool.{and_parts, and_right, eqb-true, ltb-false, ltb-true, not-true}
 use Rattle.std.proofs.lemmas.List.{append-nil, append_assoc, take_all}
@@ -9,7 +10,8 @@ use Rattle.def_certtext.specs.Reading.{is_hash_line}
 use Rattle.def_io.specs.Bytes.{Bytes, Lines}
 use Rattle.def_io.specs.Lines.{lines_of}
 use Rattle.def_marks.specs.Chains.{marks_along, runs_along}
-use Rattle.def_marks.specs.Lines.{corner_fails, corners_of, first_fail, line_chain, line_fails, marks_in, marks_of, named_chain, Placed, placed_lines, text_lines, vertex_lines_in}
+use Rattle.def_marks.specs.Lines.{corner_fails, corners_of, first_fail, line_chain, line_fails, marks_in, marks_of}
+use Rattle.def_marks.specs.Lines.{named_chain, Placed, placed_lines, text_lines, vertex_lines_in}
 use Rattle.def_marks.specs.MarkedText.{chain_text}
 use Rattle.def_mesh.specs.Darts.{all_darts, twin_of}
 use Rattle.def_readlaws.specs.ReadChains.{AreHashLines, IsChainOf, MarksAgainLaw}
@@ -24,8 +26,10 @@ use Rattle.def_text.specs.Text.{numbers_to}
 use Rattle.def_text.specs.Types.{Position, Positions, Words}
 use Rattle.def_text.specs.Words.{is_blank, words}
 use Rattle.qm_obj.proofs.Groups.{logical_step}
-use Rattle.qm_obj.proofs.LawSoup.{canonical_lines, each_both, each_map, face_line, face_line_is, position_line, position_line_is, text_lines as lines_text, vertex_word}
-use Rattle.qm_obj.proofs.LawText.{decimal_word, is_tame, IsLine, IsWord, line_text, line_words, lines_back, lines_split, micro_word, no_continuation}
+use Rattle.qm_obj.proofs.LawSoup.{canonical_lines, each_both, each_map, face_line, face_line_is, position_line}
+use Rattle.qm_obj.proofs.LawSoup.{position_line_is, text_lines as lines_text, vertex_word}
+use Rattle.qm_obj.proofs.LawText.{decimal_word, is_tame, IsLine, IsWord, line_text, line_words, lines_back, lines_split}
+use Rattle.qm_obj.proofs.LawText.{micro_word, no_continuation}
 use Rattle.qm_obj.proofs.ListLemmas.{passes_at}
 use Rattle.qm_obj.proofs.SoupLemmas.{are_below}
 use Rattle.remesh_laws.proofs.Asides.{canonical_ends, ends_lines}
@@ -36,10 +40,12 @@ use Rattle.read_laws.proofs.Soups.{all_weaker}
 
 -- Tame bytes have no comment.
 tame_whole : (line : Bytes) → list_all is_tame line ≡ true → before_first is_hash line ≡ line
-tame_whole line tame = take_all _ _ (none_passes is_hash line (all_weaker is_tame (λ b. not (is_hash b)) no_hash line tame))
+tame_whole line tame = take_all _ _
+    (none_passes is_hash line (all_weaker is_tame (λ b. not (is_hash b)) no_hash line tame))
   where
     no_hash : (b : ℕ) → is_tame b ≡ true → not (is_hash b) ≡ true
-    no_hash b is = (and_parts (not (eqb b 35)) (not (eqb b 92)) (and_parts (not (eqb b 10) && not (eqb b 13)) (not (eqb b 35) && not (eqb b 92)) is).1).0
+    no_hash b is = (and_parts (not (eqb b 35)) (not (eqb b 92)) (and_parts (not (eqb b 10) && not (eqb b 13))
+        (not (eqb b 35) && not (eqb b 92)) is).1).0
 
 -- The logical line of a line to which the next is not joined, and those of such lines.
 abbrev lone : (number : ℕ) (line : Bytes) → Logical
@@ -49,11 +55,13 @@ abbrev lone_lines : (number : ℕ) (lines : Lines) → List Logical
 lone_lines number [] = []
 lone_lines number (line ∷ lines) = lone number line ∷ lone_lines (number + 1) lines
 
-logical_lone : (number : ℕ) (lines : Lines) → ((k : ℕ) → k < length lines → continues (get_or lines k []) ≡ false) → logical_lines number lines ≡ lone_lines number lines
+logical_lone : (number : ℕ) (lines : Lines) → ((k : ℕ) → k < length lines → continues (get_or lines k []) ≡ false)
+    → logical_lines number lines ≡ lone_lines number lines
 logical_lone number [] whole = refl
 logical_lone number (line ∷ lines) whole =
     let stays : continues line ≡ false = whole 0 (omega arith) in
-    let again : logical_lines (number + 1) lines ≡ lone_lines (number + 1) lines = logical_lone (number + 1) lines (λ k low. whole (suc k) (omega (arith, low))) in
+    let again : logical_lines (number + 1) lines ≡ lone_lines (number + 1) lines =
+    logical_lone (number + 1) lines (λ k low. whole (suc k) (omega (arith, low))) in
     logical_step number line lines ∙ rw stays (rw again refl)
 
 -- A line of its own that is no `l` line.
@@ -63,15 +71,19 @@ record IsOther (line : Bytes) : Type 0 where
 
 hash_other : (line : Bytes) → is_hash_line line ≡ true → IsOther line
 hash_other [] is = cc is
-hash_other (byte ∷ line) is = subst (λ (b : ℕ). IsOther (b ∷ line)) (sym (eqb-true byte 35 is)) (record { whole = and_right _ _ refl; other = refl })
+hash_other (byte ∷ line) is = subst (λ (b : ℕ). IsOther (b ∷ line)) (sym (eqb-true byte 35 is))
+    (record { whole = and_right _ _ refl; other = refl })
 
-letter_other : (letter : ℕ) (ws : Words) → is_blank letter ≡ false → eqb letter 108 ≡ false → IsLine (line_text letter ws) → ((k : ℕ) → k < length ws → IsWord (get_or ws k [])) → IsOther (line_text letter ws)
+letter_other : (letter : ℕ) (ws : Words) → is_blank letter ≡ false → eqb letter 108 ≡ false
+    → IsLine (line_text letter ws) → ((k : ℕ) → k < length ws → IsWord (get_or ws k [])) → IsOther (line_text letter ws)
 letter_other letter ws bare off line each = record {
   whole = no_continuation (line_text letter ws) line.tame;
-  other = ap (λ (t : Bytes). begins_with 108 (words t)) (tame_whole (line_text letter ws) line.tame) ∙ (ap (begins_with 108) (line_words letter ws bare each) ∙ off);
+  other = ap (λ (t : Bytes). begins_with 108 (words t)) (tame_whole (line_text letter ws) line.tame)
+      ∙ (ap (begins_with 108) (line_words letter ws bare each) ∙ off);
 }
 
-position_words : (position : Position) → is_position position ≡ true → (k : ℕ) → k < length (map micro_text position) → IsWord (get_or (map micro_text position) k [])
+position_words : (position : Position) → is_position position ≡ true → (k : ℕ) → k < length (map micro_text position)
+    → IsWord (get_or (map micro_text position) k [])
 position_words position is =
     each_map IsWord micro_text position (pos 0) [] (λ k low. micro_word (get_or position k (pos 0))
     (ltb-false _ _ (not-true _ (passes_at (λ z. not (is_far z)) position k (pos 0) (and_parts _ _ is).1 low))))
@@ -79,50 +91,63 @@ position_words position is =
 -- Lines say chains, and no line of theirs is refused.
 record Gives (soup : FaceSet) (placed : List Placed) (chains : List (List ℕ)) : Type 0 where
   fails : flat_map (line_fails soup) placed ≡ []
-  along : (d : ℕ) → list_any (λ chain. runs_along soup.faces chain d) (map (line_chain soup) placed) ≡ list_any (λ chain. runs_along soup.faces chain d) chains
+  along : (d : ℕ) → list_any (λ chain. runs_along soup.faces chain d) (map (line_chain soup) placed)
+      ≡ list_any (λ chain. runs_along soup.faces chain d) chains
 
 module _ (soup : FaceSet) (all : ℕ) where
-  gives_other : (p : Placed) (rest : List Placed) (chains : List (List ℕ)) → begins_with 108 (words p.line.text) ≡ false → Gives soup rest chains → Gives soup (p ∷ rest) chains
+  gives_other : (p : Placed) (rest : List Placed) (chains : List (List ℕ)) → begins_with 108 (words p.line.text) ≡ false
+      → Gives soup rest chains → Gives soup (p ∷ rest) chains
   gives_other p rest chains off gives = record {
-    fails = ap (λ t. cond t (corner_fails soup p.all p.before p.line.number (corners_of p.line)) [] ++ flat_map (line_fails soup) rest) off ∙ gives.fails;
+    fails = ap (λ t. cond t (corner_fails soup p.all p.before p.line.number (corners_of p.line)) []
+        ++ flat_map (line_fails soup) rest) off ∙ gives.fails;
     along = λ d.
-        ap (λ t. runs_along soup.faces (cond t (named_chain soup.names p.all p.before (corners_of p.line)) []) d || list_any (λ chain. runs_along soup.faces chain d) (map (line_chain soup) rest)) off
+        ap (λ t. runs_along soup.faces (cond t (named_chain soup.names p.all p.before (corners_of p.line)) []) d
+        || list_any (λ chain. runs_along soup.faces chain d) (map (line_chain soup) rest)) off
         ∙ gives.along d;
   }
 
   pass : (chains : List (List ℕ)) (lines rest : Lines) → ((k : ℕ) → k < length lines → IsOther (get_or lines k []))
-      → ((before n : ℕ) → Gives soup (placed_lines all before (lone_lines n rest)) chains) → (before n : ℕ) → Gives soup (placed_lines all before (lone_lines n (lines ++ rest))) chains
+      → ((before n : ℕ) → Gives soup (placed_lines all before (lone_lines n rest)) chains) → (before n : ℕ)
+      → Gives soup (placed_lines all before (lone_lines n (lines ++ rest))) chains
   pass chains [] rest each gives before n = gives before n
   pass chains (line ∷ lines) rest each gives before n =
       gives_other _ _ chains (each 0 (omega arith)).other
-      (pass chains lines rest (λ k low. each (suc k) (omega (arith, low))) gives (before + vertex_lines_in (lone n line)) (n + 1))
+      (pass chains lines rest (λ k low. each (suc k) (omega (arith, low))) gives
+      (before + vertex_lines_in (lone n line)) (n + 1))
 
-  say : (chains : List (List ℕ)) (rest : Lines) → soup.names ≡ numbers_to (length soup.pos) → length soup.pos ≤ 2 ^ 21 → length soup.pos ≤ all
-      → ((k : ℕ) → k < length chains → IsChainOf soup (get_or chains k [])) → ((before n : ℕ) → Gives soup (placed_lines all before (lone_lines n rest)) [])
+  say : (chains : List (List ℕ)) (rest : Lines) → soup.names ≡ numbers_to (length soup.pos) → length soup.pos ≤ 2 ^ 21
+      → length soup.pos ≤ all
+      → ((k : ℕ) → k < length chains → IsChainOf soup (get_or chains k []))
+      → ((before n : ℕ) → Gives soup (placed_lines all before (lone_lines n rest)) [])
       → (before n : ℕ) → Gives soup (placed_lines all before (lone_lines n (map chain_line chains ++ rest))) chains
   say [] rest names few many each gives before n = gives before n
   say (chain ∷ chains) rest names few many each gives before n =
       more _ (each 0 (omega arith)) refl (tame_whole (chain_line chain) (chain_tame chain))
       (say chains rest names few many (λ k low. each (suc k) (omega (arith, low))) gives _ (n + 1))
     where
-      more : (p : Placed) {others : List Placed} → IsChainOf soup chain → p.all ≡ all → p.line.text ≡ chain_line chain → Gives soup others chains → Gives soup (p ∷ others) (chain ∷ chains)
+      more : (p : Placed) {others : List Placed} → IsChainOf soup chain → p.all ≡ all → p.line.text ≡ chain_line chain
+          → Gives soup others chains → Gives soup (p ∷ others) (chain ∷ chains)
       more p {others} is same text behind =
           let said : (line_fails soup p ≡ []) × (line_chain soup p ≡ chain) =
-          chain_said_law soup chain p names few (omega (arith, many, same)) (text ∙ sym (line_is chain)) is.long is.low is.edges in
+          chain_said_law soup chain p names few (omega (arith, many, same)) (text ∙ sym (line_is chain)) is.long is.low
+          is.edges in
           record {
             fails = ap (λ fs. fs ++ flat_map (line_fails soup) others) said.0 ∙ behind.fails;
             along = λ d i. runs_along soup.faces (said.1 i) d || behind.along d i;
           }
 
 -- There are as many `v` lines as positions, or more.
-count_more : (m : ℕ) (lines rest : Lines) → ((n : ℕ) → m ≤ count_by is_vertex_line (lone_lines n rest)) → (n : ℕ) → m ≤ count_by is_vertex_line (lone_lines n (lines ++ rest))
+count_more : (m : ℕ) (lines rest : Lines) → ((n : ℕ) → m ≤ count_by is_vertex_line (lone_lines n rest)) → (n : ℕ)
+    → m ≤ count_by is_vertex_line (lone_lines n (lines ++ rest))
 count_more m [] rest many n = many n
 count_more m (line ∷ lines) rest many n =
-    let one : count_by is_vertex_line (lone_lines n (line ∷ (lines ++ rest))) ≡ vertex_lines_in (lone n line) + count_by is_vertex_line (lone_lines (n + 1) (lines ++ rest)) =
+    let one : count_by is_vertex_line (lone_lines n (line ∷ (lines ++ rest))) ≡ vertex_lines_in (lone n line) + count_by
+    is_vertex_line (lone_lines (n + 1) (lines ++ rest)) =
     sum_by-cons (λ l. cond (is_vertex_line l) 1 0) (lone n line) (lone_lines (n + 1) (lines ++ rest)) in
     omega (arith, one, count_more m lines rest many (n + 1))
 
-count_positions : (ps : Positions) (rest : Lines) (n : ℕ) → list_all is_position ps ≡ true → length ps ≤ count_by is_vertex_line (lone_lines n (map position_line ps ++ rest))
+count_positions : (ps : Positions) (rest : Lines) (n : ℕ) → list_all is_position ps ≡ true
+    → length ps ≤ count_by is_vertex_line (lone_lines n (map position_line ps ++ rest))
 count_positions [] rest n near = omega arith
 count_positions (p ∷ ps) rest n near =
     let parts : (is_position p ≡ true) × (list_all is_position ps ≡ true) = and_parts _ _ near in
@@ -131,12 +156,16 @@ count_positions (p ∷ ps) rest n near =
     ∙ ap (begins_with 118) (line_words 118 (map micro_text p) refl (position_words p parts.0)) in
     let counted : vertex_lines_in (lone n (position_line p)) ≡ 1 = ap (λ t. cond t 1 0) one in
     let all : count_by is_vertex_line (lone_lines n (position_line p ∷ (map position_line ps ++ rest)))
-    ≡ vertex_lines_in (lone n (position_line p)) + count_by is_vertex_line (lone_lines (n + 1) (map position_line ps ++ rest)) =
-    sum_by-cons (λ l. cond (is_vertex_line l) 1 0) (lone n (position_line p)) (lone_lines (n + 1) (map position_line ps ++ rest)) in
+    ≡ vertex_lines_in (lone n (position_line p)) + count_by is_vertex_line
+    (lone_lines (n + 1) (map position_line ps ++ rest)) =
+    sum_by-cons (λ l. cond (is_vertex_line l) 1 0) (lone n (position_line p))
+    (lone_lines (n + 1) (map position_line ps ++ rest)) in
     omega (arith, all, counted, count_positions ps rest (n + 1) parts.1)
 
-module _ (front behind : Bytes) (soup : FaceSet) (chains : List (List ℕ)) (before : AreHashLines front) (after : AreHashLines behind) (fine : IsWritableSoup soup)
-    (names : soup.names ≡ numbers_to (length soup.pos)) (each : (k : ℕ) → k < length chains → IsChainOf soup (get_or chains k [])) where
+module _ (front behind : Bytes) (soup : FaceSet) (chains : List (List ℕ)) (before : AreHashLines front)
+    (after : AreHashLines behind) (fine : IsWritableSoup soup)
+    (names : soup.names ≡ numbers_to (length soup.pos)) (each : (k : ℕ) → k < length chains
+    → IsChainOf soup (get_or chains k [])) where
   abbrev chain_lines : Lines
   chain_lines = map chain_line chains
 
@@ -150,30 +179,44 @@ module _ (front behind : Bytes) (soup : FaceSet) (chains : List (List ℕ)) (bef
   face_below k low = passes_at (are_below (length soup.pos)) soup.faces k [] fine.soup.in_range low
 
   face_is : (k : ℕ) → k < length soup.faces → IsLine (face_line (get_or soup.faces k []))
-  face_is k low = face_line_is (length soup.pos) (get_or soup.faces k []) fine.few_vertices (passes_at is_quad soup.faces k [] fine.quads low) (face_below k low)
+  face_is k low = face_line_is (length soup.pos) (get_or soup.faces k []) fine.few_vertices
+      (passes_at is_quad soup.faces k [] fine.quads low) (face_below k low)
 
-  face_words : (face : List ℕ) → are_below (length soup.pos) face ≡ true → (k : ℕ) → k < length (map vertex_word face) → IsWord (get_or (map vertex_word face) k [])
+  face_words : (face : List ℕ) → are_below (length soup.pos) face ≡ true → (k : ℕ) → k < length (map vertex_word face)
+      → IsWord (get_or (map vertex_word face) k [])
   face_words face below = each_map IsWord vertex_word face 0 [] (λ k low.
-      decimal_word (get_or face k 0 + 1) (omega (arith, fine.few_vertices, ltb-true _ _ (passes_at (λ v. ltb v (length soup.pos)) face k 0 below low))))
+      decimal_word (get_or face k 0 + 1)
+      (omega (
+        arith,
+        fine.few_vertices,
+        ltb-true _ _ (passes_at (λ v. ltb v (length soup.pos)) face k 0 below low),
+      )))
 
   canonical_is : (k : ℕ) → k < length (canonical_lines soup) → IsLine (get_or (canonical_lines soup) k [])
   canonical_is = each_both IsLine (map position_line soup.pos) (map face_line soup.faces) []
-      (each_map IsLine position_line soup.pos [] [] (λ k low. position_line_is (get_or soup.pos k []) (position_is k low)))
+      (each_map IsLine position_line soup.pos [] [] (λ k low. position_line_is (get_or soup.pos k [])
+      (position_is k low)))
       (each_map IsLine face_line soup.faces [] [] face_is)
 
   canonical_other : (k : ℕ) → k < length (canonical_lines soup) → IsOther (get_or (canonical_lines soup) k [])
   canonical_other = each_both IsOther (map position_line soup.pos) (map face_line soup.faces) []
       (each_map IsOther position_line soup.pos [] [] (λ k low.
-      letter_other 118 (map micro_text (get_or soup.pos k [])) refl refl (position_line_is (get_or soup.pos k []) (position_is k low)) (position_words (get_or soup.pos k []) (position_is k low))))
+      letter_other 118 (map micro_text (get_or soup.pos k [])) refl refl
+      (position_line_is (get_or soup.pos k []) (position_is k low))
+      (position_words (get_or soup.pos k []) (position_is k low))))
       (each_map IsOther face_line soup.faces [] [] (λ k low.
-      letter_other 102 (map vertex_word (get_or soup.faces k [])) refl refl (face_is k low) (face_words (get_or soup.faces k []) (face_below k low))))
+      letter_other 102 (map vertex_word (get_or soup.faces k [])) refl refl (face_is k low)
+      (face_words (get_or soup.faces k []) (face_below k low))))
 
-  hashes : (text : Bytes) → AreHashLines text → (k : ℕ) → k < length (lines_of text) → IsOther (get_or (lines_of text) k [])
-  hashes text is k low = hash_other (get_or (lines_of text) k []) (passes_at is_hash_line (lines_of text) k [] is.hashes low)
+  hashes : (text : Bytes) → AreHashLines text → (k : ℕ) → k < length (lines_of text)
+      → IsOther (get_or (lines_of text) k [])
+  hashes text is k low = hash_other (get_or (lines_of text) k []) (passes_at is_hash_line (lines_of text) k [] is.hashes
+      low)
 
   lines : lines_of (front ++ (canonical_text soup ++ (flat_map chain_text chains ++ behind))) ≡ all_lines
   lines =
-      let same : flat_map chain_text chains ≡ flat_map (λ l. l ++ 10 ∷ []) chain_lines = sym (flat_map-map (λ l. l ++ 10 ∷ []) chain_line chains) in
+      let same : flat_map chain_text chains ≡ flat_map (λ l. l ++ 10 ∷ []) chain_lines =
+      sym (flat_map-map (λ l. l ++ 10 ∷ []) chain_line chains) in
       lines_append front _ before.ended
       ∙ ap (λ ls. lines_of front ++ ls)
       (lines_append (canonical_text soup) _ (canonical_ends soup)
@@ -182,31 +225,40 @@ module _ (front behind : Bytes) (soup : FaceSet) (chains : List (List ℕ)) (bef
       ∙ ap (λ ls. ls ++ lines_of behind) (ap lines_of same ∙ lines_back chain_lines (chains_inside chains))) i))
 
   none_joined : (k : ℕ) → k < length all_lines → continues (get_or all_lines k []) ≡ false
-  none_joined = each_both (λ line. continues line ≡ false) (lines_of front) _ [] (λ k low. (hashes front before k low).whole)
+  none_joined = each_both (λ line. continues line ≡ false) (lines_of front) _ []
+      (λ k low. (hashes front before k low).whole)
       (each_both (λ line. continues line ≡ false) (canonical_lines soup) _ [] (λ k low. (canonical_other k low).whole)
       (each_both (λ line. continues line ≡ false) chain_lines (lines_of behind) []
-      (each_map (λ line. continues line ≡ false) chain_line chains [] [] (λ k low. no_continuation (chain_line (get_or chains k [])) (chain_tame (get_or chains k []))))
+      (each_map (λ line. continues line ≡ false) chain_line chains [] []
+      (λ k low. no_continuation (chain_line (get_or chains k [])) (chain_tame (get_or chains k []))))
       (λ k low. (hashes behind after k low).whole)))
 
   many : (n : ℕ) → length soup.pos ≤ count_by is_vertex_line (lone_lines n all_lines)
   many = count_more (length soup.pos) (lines_of front) _ (λ n.
-      subst (λ (ls : Lines). length soup.pos ≤ count_by is_vertex_line (lone_lines n ls)) (sym (append_assoc (map position_line soup.pos) (map face_line soup.faces) (chain_lines ++ lines_of behind)))
+      subst (λ (ls : Lines). length soup.pos ≤ count_by is_vertex_line (lone_lines n ls))
+      (sym (append_assoc (map position_line soup.pos) (map face_line soup.faces) (chain_lines ++ lines_of behind)))
       (count_positions soup.pos _ n fine.positions))
 
   gives : Gives soup (text_lines (lone_lines 1 all_lines)) chains
   gives =
       pass soup (count_by is_vertex_line (lone_lines 1 all_lines)) chains (lines_of front) _ (hashes front before)
       (pass soup (count_by is_vertex_line (lone_lines 1 all_lines)) chains (canonical_lines soup) _ canonical_other
-      (say soup (count_by is_vertex_line (lone_lines 1 all_lines)) chains (lines_of behind) names fine.few_vertices (many 1) each
-      (λ b n. subst (λ (ls : Lines). Gives soup (placed_lines (count_by is_vertex_line (lone_lines 1 all_lines)) b (lone_lines n ls)) []) (append-nil (lines_of behind))
-      (pass soup (count_by is_vertex_line (lone_lines 1 all_lines)) [] (lines_of behind) [] (hashes behind after) (λ c m. record { fails = refl; along = λ d. refl }) b n)))) 0 1
+      (say soup (count_by is_vertex_line (lone_lines 1 all_lines)) chains (lines_of behind) names fine.few_vertices
+      (many 1) each
+      (λ b n. subst (λ (ls : Lines). Gives soup (placed_lines (count_by is_vertex_line (lone_lines 1 all_lines)) b
+      (lone_lines n ls)) []) (append-nil (lines_of behind))
+      (pass soup (count_by is_vertex_line (lone_lines 1 all_lines)) [] (lines_of behind) [] (hashes behind after)
+      (λ c m. record { fails = refl; along = λ d. refl }) b n)))) 0 1
 
-  pub marks_again : marks_in (front ++ (canonical_text soup ++ (flat_map chain_text chains ++ behind))) soup ≡ Ok (marks_along soup.faces chains)
+  pub marks_again : marks_in (front ++ (canonical_text soup ++ (flat_map chain_text chains ++ behind))) soup
+      ≡ Ok (marks_along soup.faces chains)
   marks_again =
       ap (λ ls. marks_of soup (text_lines (logical_lines 1 ls))) lines
       ∙ (ap (λ ls. marks_of soup (text_lines ls)) (logical_lone 1 all_lines none_joined)
-      ∙ (ap (λ fs. first_fail fs (marks_along soup.faces (map (line_chain soup) (text_lines (lone_lines 1 all_lines))))) gives.fails
+      ∙ (ap (λ fs. first_fail fs (marks_along soup.faces (map (line_chain soup) (text_lines (lone_lines 1 all_lines)))))
+      gives.fails
       ∙ (λ i. Ok (map (λ d. is_some (twin_of soup.faces d) && gives.along d i) (all_darts soup.faces)))))
 
 pub marks_again_law : MarksAgainLaw
-marks_again_law front behind soup chains before after fine names each = marks_again front behind soup chains before after fine names each
+marks_again_law front behind soup chains before after fine names each =
+    marks_again front behind soup chains before after fine names each

@@ -1,9 +1,11 @@
 -- The chains of the arcs of a new mesh are chains of its edges, and name each edge once.
-use Rattle.std.proofs.Common.{◌≡◌, ◌⊎◌, ◌+◌, ◌-◌, ◌<◌, ◌&&◌, ℕ, Bool, true, false, eqb, length, map, inl, inr, sym, ap, subst, ◌∙◌, arith}
+use Rattle.std.proofs.Common.{◌≡◌, ◌⊎◌, ◌+◌, ◌-◌, ◌<◌, ◌&&◌, ℕ, Bool, true, false, eqb, length, map, inl, inr, sym, ap}
+use Rattle.std.proofs.Common.{subst, ◌∙◌, arith}
 use Rattle.std.specs.List.{range_with_len}
 use Rattle.std.proofs.lemmas.Bool.{and_from, and_parts, eq-eqb, eqb-true, or_cases, or_left, or_right}
 use Rattle.std.proofs.lemmas.List.Folds.{list_any_at}
-use Rattle.std.proofs.lemmas.List.FromFn.{get_or-map-range_with_len, get_or-range_with_len, length-map-range_with_len, length-range_with_len}
+use Rattle.std.proofs.lemmas.List.FromFn.{get_or-map-range_with_len, get_or-range_with_len, length-map-range_with_len}
+use Rattle.std.proofs.lemmas.List.FromFn.{length-range_with_len}
 use Rattle.std.proofs.lemmas.List.Sums.{list_all-from_AllPass}
 use Rattle.def_certtext.specs.CertLines.{used}
 use Rattle.def_layout.specs.Arcs.{long_at}
@@ -43,7 +45,8 @@ ends_of : (faces : Faces) (u v d : ℕ) → runs_between faces u v d ≡ true
     → ((from_of faces d ≡ u) × (to_of faces d ≡ v)) ⊎ ((from_of faces d ≡ v) × (to_of faces d ≡ u))
 ends_of faces u v d runs = by_way (or_cases _ _ runs)
   where
-    by_way : ((eqb (from_of faces d) u && eqb (to_of faces d) v) ≡ true) ⊎ ((eqb (from_of faces d) v && eqb (to_of faces d) u) ≡ true)
+    by_way : ((eqb (from_of faces d) u && eqb (to_of faces d) v) ≡ true)
+        ⊎ ((eqb (from_of faces d) v && eqb (to_of faces d) u) ≡ true)
         → ((from_of faces d ≡ u) × (to_of faces d ≡ v)) ⊎ ((from_of faces d ≡ v) × (to_of faces d ≡ u))
     by_way (inl both) = inl (eqb-true _ _ (and_parts _ _ both).0, eqb-true _ _ (and_parts _ _ both).1)
     by_way (inr both) = inr (eqb-true _ _ (and_parts _ _ both).0, eqb-true _ _ (and_parts _ _ both).1)
@@ -51,48 +54,69 @@ ends_of faces u v d runs = by_way (or_cases _ _ runs)
 module _ (l : Layout) (x : Lengths) where
   -- The vertex at a place of the chain of an arc.
   pub at_link : (a k : ℕ) → k < x a + 1 → link_at (arc_chain l x a) k ≡ vertex_number l x (arc_point l x a k)
-  at_link a k low = get_or-map-range_with_len (λ k. vertex_number l x (arc_point l x a k)) 0 (x a + 1) k k 0 low (omega arith)
+  at_link a k low = get_or-map-range_with_len (λ k. vertex_number l x (arc_point l x a k)) 0 (x a + 1) k k 0 low
+      (omega arith)
 
   module _ (laid : IsSurface l) (len : AreLengths l x) where
     -- Two successive points of an arc are the ends of an edge.
     step_edge : (a k : ℕ) → a < l.arcs → k < x a
-        → is_edge (new_faces l x) (vertex_number l x (arc_point l x a k)) (vertex_number l x (arc_point l x a (k + 1))) ≡ true
+        → is_edge (new_faces l x) (vertex_number l x (arc_point l x a k)) (vertex_number l x (arc_point l x a (k + 1)))
+        ≡ true
     step_edge a k low less = by_dart (edge_dart l x laid len (on_arc a k) (low, less))
       where
         by_dart : (d : CellDart) × IsDart l x d × ((course_of l x d).edge ≡ on_arc a k)
-            → is_edge (new_faces l x) (vertex_number l x (arc_point l x a k)) (vertex_number l x (arc_point l x a (k + 1))) ≡ true
+            → is_edge (new_faces l x) (vertex_number l x (arc_point l x a k))
+            (vertex_number l x (arc_point l x a (k + 1))) ≡ true
         by_dart (d, is, same) =
-            list_any_at (runs_between (new_faces l x) (vertex_number l x (arc_point l x a k)) (vertex_number l x (arc_point l x a (k + 1))))
-            (range_with_len 0 (darts (new_faces l x))) (dart_number l x d) 0 (omega (arith, length-range_with_len 0 (darts (new_faces l x)), dart_low l x d is))
-            (ap (runs_between (new_faces l x) (vertex_number l x (arc_point l x a k)) (vertex_number l x (arc_point l x a (k + 1))))
+            list_any_at (runs_between (new_faces l x) (vertex_number l x (arc_point l x a k))
+            (vertex_number l x (arc_point l x a (k + 1))))
+            (range_with_len 0 (darts (new_faces l x))) (dart_number l x d) 0
+            (omega (arith, length-range_with_len 0 (darts (new_faces l x)), dart_low l x d is))
+            (ap (runs_between (new_faces l x) (vertex_number l x (arc_point l x a k))
+            (vertex_number l x (arc_point l x a (k + 1))))
             (get_or-range_with_len 0 (darts (new_faces l x)) (dart_number l x d) 0 (dart_low l x d is) ∙ omega arith)
             ∙ by_way (course_of l x d).ahead
-            (number_from l x d is ∙ ap (vertex_number l x) (course_from l x laid len d is ∙ ap (λ (e : Edge). start_at l x (course e (course_of l x d).ahead)) same))
-            (number_to l x d is ∙ ap (vertex_number l x) (course_to l x laid len d is ∙ ap (λ (e : Edge). end_at l x (course e (course_of l x d).ahead)) same)))
+            (number_from l x d is ∙ ap (vertex_number l x) (course_from l x laid len d is
+            ∙ ap (λ (e : Edge). start_at l x (course e (course_of l x d).ahead)) same))
+            (number_to l x d is ∙ ap (vertex_number l x) (course_to l x laid len d is
+            ∙ ap (λ (e : Edge). end_at l x (course e (course_of l x d).ahead)) same)))
           where
-            by_way : (b : Bool) → from_of (new_faces l x) (dart_number l x d) ≡ vertex_number l x (start_at l x (course (on_arc a k) b))
+            by_way : (b : Bool) → from_of (new_faces l x) (dart_number l x d)
+                ≡ vertex_number l x (start_at l x (course (on_arc a k) b))
                 → to_of (new_faces l x) (dart_number l x d) ≡ vertex_number l x (end_at l x (course (on_arc a k) b))
-                → runs_between (new_faces l x) (vertex_number l x (arc_point l x a k)) (vertex_number l x (arc_point l x a (k + 1))) (dart_number l x d) ≡ true
+                → runs_between (new_faces l x) (vertex_number l x (arc_point l x a k))
+                (vertex_number l x (arc_point l x a (k + 1))) (dart_number l x d) ≡ true
             by_way true from to = or_left _ _ (and_from _ _ (eq-eqb _ _ from) (eq-eqb _ _ to))
             by_way false from to = or_right _ _ (and_from _ _ (eq-eqb _ _ from) (eq-eqb _ _ to))
 
     pub chain_is : (a : ℕ) → a < l.arcs → is_chain (new_faces l x) (arc_chain l x a) ≡ true
     chain_is a low =
-        list_all-from_AllPass (λ k. is_edge (new_faces l x) (link_at (arc_chain l x a) k) (link_at (arc_chain l x a) (k + 1))) (step_places (arc_chain l x a))
+        list_all-from_AllPass (λ k. is_edge (new_faces l x) (link_at (arc_chain l x a) k)
+        (link_at (arc_chain l x a) (k + 1))) (step_places (arc_chain l x a))
         (λ i other there.
-        let inside : i < length (arc_chain l x a) - 1 = omega (arith, length-range_with_len 0 (length (arc_chain l x a) - 1)) in
+        let inside : i < length (arc_chain l x a) - 1 =
+        omega (arith, length-range_with_len 0 (length (arc_chain l x a) - 1)) in
         subst (λ k. is_edge (new_faces l x) (link_at (arc_chain l x a) k) (link_at (arc_chain l x a) (k + 1)) ≡ true)
         (sym (get_or-range_with_len 0 (length (arc_chain l x a) - 1) i other inside ∙ omega arith))
-        (step i (omega (arith, inside, length-map-range_with_len (λ k. vertex_number l x (arc_point l x a k)) 0 (x a + 1)))))
+        (step i (omega (
+          arith,
+          inside,
+          length-map-range_with_len (λ k. vertex_number l x (arc_point l x a k)) 0
+              (x a + 1),
+        ))))
       where
-        step : (k : ℕ) → k < x a → is_edge (new_faces l x) (link_at (arc_chain l x a) k) (link_at (arc_chain l x a) (k + 1)) ≡ true
+        step : (k : ℕ) → k < x a
+            → is_edge (new_faces l x) (link_at (arc_chain l x a) k) (link_at (arc_chain l x a) (k + 1)) ≡ true
         step k less =
-            (λ t. is_edge (new_faces l x) (at_link a k (omega arith) t) (at_link a (k + 1) (omega arith) t)) ∙ step_edge a k low less
+            (λ t. is_edge (new_faces l x) (at_link a k (omega arith) t) (at_link a (k + 1) (omega arith) t))
+            ∙ step_edge a k low less
 
     -- Edges with one pair of vertices are one edge.
     one_edge : IsUndoubled l x → (a k b m d : ℕ) → IsEdge l x (on_arc a k) → IsEdge l x (on_arc b m)
-        → runs_between (new_faces l x) (vertex_number l x (arc_point l x a k)) (vertex_number l x (arc_point l x a (k + 1))) d ≡ true
-        → runs_between (new_faces l x) (vertex_number l x (arc_point l x b m)) (vertex_number l x (arc_point l x b (m + 1))) d ≡ true
+        → runs_between (new_faces l x) (vertex_number l x (arc_point l x a k))
+        (vertex_number l x (arc_point l x a (k + 1))) d ≡ true
+        → runs_between (new_faces l x) (vertex_number l x (arc_point l x b m))
+        (vertex_number l x (arc_point l x b (m + 1))) d ≡ true
         → on_arc a k ≡ on_arc b m
     one_edge undoubled a k b m d is also runs and_runs =
         by_ends (ends_of (new_faces l x) _ _ d runs) (ends_of (new_faces l x) _ _ d and_runs)
@@ -100,33 +124,51 @@ module _ (l : Layout) (x : Lengths) where
         simple : IsSimple l x
         simple = simple_from l x undoubled
 
-        by_ends : ((from_of (new_faces l x) d ≡ vertex_number l x (arc_point l x a k)) × (to_of (new_faces l x) d ≡ vertex_number l x (arc_point l x a (k + 1))))
-            ⊎ ((from_of (new_faces l x) d ≡ vertex_number l x (arc_point l x a (k + 1))) × (to_of (new_faces l x) d ≡ vertex_number l x (arc_point l x a k)))
-            → ((from_of (new_faces l x) d ≡ vertex_number l x (arc_point l x b m)) × (to_of (new_faces l x) d ≡ vertex_number l x (arc_point l x b (m + 1))))
-            ⊎ ((from_of (new_faces l x) d ≡ vertex_number l x (arc_point l x b (m + 1))) × (to_of (new_faces l x) d ≡ vertex_number l x (arc_point l x b m)))
+        by_ends : ((from_of (new_faces l x) d ≡ vertex_number l x (arc_point l x a k))
+            × (to_of (new_faces l x) d ≡ vertex_number l x (arc_point l x a (k + 1))))
+            ⊎ ((from_of (new_faces l x) d ≡ vertex_number l x (arc_point l x a (k + 1)))
+            × (to_of (new_faces l x) d ≡ vertex_number l x (arc_point l x a k)))
+            → ((from_of (new_faces l x) d ≡ vertex_number l x (arc_point l x b m))
+            × (to_of (new_faces l x) d ≡ vertex_number l x (arc_point l x b (m + 1))))
+            ⊎ ((from_of (new_faces l x) d ≡ vertex_number l x (arc_point l x b (m + 1)))
+            × (to_of (new_faces l x) d ≡ vertex_number l x (arc_point l x b m)))
             → on_arc a k ≡ on_arc b m
         by_ends (inl s) (inl t) =
             simple.same (on_arc a k) (on_arc b m) is also
-            (number_same l x (arc_point l x a k) (arc_point l x b m) (edge_points l x laid len (on_arc a k) is).0 (edge_points l x laid len (on_arc b m) also).0 (sym s.0 ∙ t.0))
-            (number_same l x (arc_point l x a (k + 1)) (arc_point l x b (m + 1)) (edge_points l x laid len (on_arc a k) is).1 (edge_points l x laid len (on_arc b m) also).1 (sym s.1 ∙ t.1))
+            (number_same l x (arc_point l x a k) (arc_point l x b m) (edge_points l x laid len (on_arc a k) is).0
+            (edge_points l x laid len (on_arc b m) also).0 (sym s.0 ∙ t.0))
+            (number_same l x (arc_point l x a (k + 1)) (arc_point l x b (m + 1))
+            (edge_points l x laid len (on_arc a k) is).1 (edge_points l x laid len (on_arc b m) also).1 (sym s.1
+            ∙ t.1))
         by_ends (inl s) (inr t) =
             simple.crossed (on_arc a k) (on_arc b m) is also
-            (number_same l x (arc_point l x a k) (arc_point l x b (m + 1)) (edge_points l x laid len (on_arc a k) is).0 (edge_points l x laid len (on_arc b m) also).1 (sym s.0 ∙ t.0))
-            (number_same l x (arc_point l x a (k + 1)) (arc_point l x b m) (edge_points l x laid len (on_arc a k) is).1 (edge_points l x laid len (on_arc b m) also).0 (sym s.1 ∙ t.1))
+            (number_same l x (arc_point l x a k) (arc_point l x b (m + 1)) (edge_points l x laid len (on_arc a k) is).0
+            (edge_points l x laid len (on_arc b m) also).1 (sym s.0 ∙ t.0))
+            (number_same l x (arc_point l x a (k + 1)) (arc_point l x b m) (edge_points l x laid len (on_arc a k) is).1
+            (edge_points l x laid len (on_arc b m) also).0 (sym s.1 ∙ t.1))
         by_ends (inr s) (inl t) =
             simple.crossed (on_arc a k) (on_arc b m) is also
-            (number_same l x (arc_point l x a k) (arc_point l x b (m + 1)) (edge_points l x laid len (on_arc a k) is).0 (edge_points l x laid len (on_arc b m) also).1 (sym s.1 ∙ t.1))
-            (number_same l x (arc_point l x a (k + 1)) (arc_point l x b m) (edge_points l x laid len (on_arc a k) is).1 (edge_points l x laid len (on_arc b m) also).0 (sym s.0 ∙ t.0))
+            (number_same l x (arc_point l x a k) (arc_point l x b (m + 1)) (edge_points l x laid len (on_arc a k) is).0
+            (edge_points l x laid len (on_arc b m) also).1 (sym s.1 ∙ t.1))
+            (number_same l x (arc_point l x a (k + 1)) (arc_point l x b m) (edge_points l x laid len (on_arc a k) is).1
+            (edge_points l x laid len (on_arc b m) also).0 (sym s.0 ∙ t.0))
         by_ends (inr s) (inr t) =
             simple.same (on_arc a k) (on_arc b m) is also
-            (number_same l x (arc_point l x a k) (arc_point l x b m) (edge_points l x laid len (on_arc a k) is).0 (edge_points l x laid len (on_arc b m) also).0 (sym s.1 ∙ t.1))
-            (number_same l x (arc_point l x a (k + 1)) (arc_point l x b (m + 1)) (edge_points l x laid len (on_arc a k) is).1 (edge_points l x laid len (on_arc b m) also).1 (sym s.0 ∙ t.0))
+            (number_same l x (arc_point l x a k) (arc_point l x b m) (edge_points l x laid len (on_arc a k) is).0
+            (edge_points l x laid len (on_arc b m) also).0 (sym s.1 ∙ t.1))
+            (number_same l x (arc_point l x a (k + 1)) (arc_point l x b (m + 1))
+            (edge_points l x laid len (on_arc a k) is).1 (edge_points l x laid len (on_arc b m) also).1 (sym s.0
+            ∙ t.0))
 
-new_chains : (plan : Plan) (new : Lengths) → IsSomeLayout plan → AreLengths (layout_of plan) new → IsUndoubled (layout_of plan) new → AreNewChains plan new
+new_chains : (plan : Plan) (new : Lengths) → IsSomeLayout plan → AreLengths (layout_of plan) new
+    → IsUndoubled (layout_of plan) new → AreNewChains plan new
 new_chains plan new is len undoubled = record {
   chain = λ arc low. chain_is (layout_of plan) new (laid_of plan is) len arc low;
   once = λ a k b m d low also less fewer runs and_runs.
-      let same : on_arc a k ≡ on_arc b m = one_edge (layout_of plan) new (laid_of plan is) len undoubled a k b m d (low, less) (also, fewer)
+      let same : on_arc a k ≡ on_arc b m = one_edge (layout_of plan) new (laid_of plan is) len undoubled a k b m d (
+        low,
+        less,
+      ) (also, fewer)
       (along a k d less runs) (along b m d fewer and_runs) in
       let arcs : a ≡ b = cc same in let places : k ≡ m = cc same in (arcs, places);
   marked = λ arcs. chain_marks (new_faces (layout_of plan) new) (map (arc_chain (layout_of plan) new) arcs) manifold;
@@ -134,15 +176,19 @@ new_chains plan new is len undoubled = record {
   where
     manifold : IsManifold (new_faces (layout_of plan) new)
     manifold =
-        let surface : IsSurface (layout_of plan) × HasFans (layout_of plan) = laid_law is.faces (layout_of plan) (long_at plan.arcs) (vertex_at plan) (lies plan is) in
+        let surface : IsSurface (layout_of plan) × HasFans (layout_of plan) =
+        laid_law is.faces (layout_of plan) (long_at plan.arcs) (vertex_at plan) (lies plan is) in
         new_manifold_law (layout_of plan) new surface.0 surface.1 len undoubled
 
     along : (a k d : ℕ) → k < new a
-        → runs_between (new_faces (layout_of plan) new) (link_at (arc_chain (layout_of plan) new a) k) (link_at (arc_chain (layout_of plan) new a) (k + 1)) d ≡ true
-        → runs_between (new_faces (layout_of plan) new) (vertex_number (layout_of plan) new (arc_point (layout_of plan) new a k))
+        → runs_between (new_faces (layout_of plan) new) (link_at (arc_chain (layout_of plan) new a) k)
+        (link_at (arc_chain (layout_of plan) new a) (k + 1)) d ≡ true
+        → runs_between (new_faces (layout_of plan) new)
+        (vertex_number (layout_of plan) new (arc_point (layout_of plan) new a k))
         (vertex_number (layout_of plan) new (arc_point (layout_of plan) new a (k + 1))) d ≡ true
     along a k d less runs =
-        (λ t. runs_between (new_faces (layout_of plan) new) (sym (at_link (layout_of plan) new a k (omega arith)) t) (sym (at_link (layout_of plan) new a (k + 1) (omega arith)) t) d) ∙ runs
+        (λ t. runs_between (new_faces (layout_of plan) new) (sym (at_link (layout_of plan) new a k (omega arith)) t)
+        (sym (at_link (layout_of plan) new a (k + 1) (omega arith)) t) d) ∙ runs
 
 pub finished_chains_law : FinishedChainsLaw
 finished_chains_law command bytes text wrote range =
@@ -156,5 +202,6 @@ finished_chains_law command bytes text wrote range =
       cut = (task_layout_law command bytes wrote.soup wrote.task wrote.mesh wrote.asked).0;
       laid = wrote.shown.finished.cut;
     })
-    (used_lengths wrote.task.wish wrote.shown.finished.plan wrote.task.settings wrote.task.auto wrote.shown.finished.certificates range wrote.shown.finished.lengths)
+    (used_lengths wrote.task.wish wrote.shown.finished.plan wrote.task.settings wrote.task.auto
+    wrote.shown.finished.certificates range wrote.shown.finished.lengths)
     wrote.shown.finished.undoubled

@@ -1,5 +1,6 @@
 -- An `l` line that is written for a chain says that chain, where it is read.
-use Rattle.std.proofs.Common.{◌≡◌, ◌+◌, ◌^◌, ◌<◌, ◌≤◌, ◌&&◌, ℕ, suc, Bool, true, false, cond, not, List, [], ◌∷◌, length, drop, map, get_or, refl, sym, ap, ◌∙◌, arith, eqb, ltb}
+use Rattle.std.proofs.Common.{◌≡◌, ◌+◌, ◌^◌, ◌<◌, ◌≤◌, ◌&&◌, ℕ, suc, Bool, true, false, cond, not, List, [], ◌∷◌}
+use Rattle.std.proofs.Common.{length, drop, map, get_or, refl, sym, ap, ◌∙◌, arith, eqb, ltb}
 use Rattle.std.specs.Char.{is_ascii_digit}
 use Rattle.std.specs.List.{after_first, list_all, list_any, position_or_len}
 use Rattle.std.specs.Prelude.{decimal}
@@ -37,7 +38,8 @@ none_passes p (b ∷ bs) all =
 
 -- No digit is a slash.
 digit_plain : (b : ℕ) → is_ascii_digit b ≡ true → not (is_slash b) ≡ true
-digit_plain b digit = let off : eqb b 47 ≡ false = ne_eqb b 47 (λ (e : b ≡ 47). omega (arith, leb-true 48 b (and_parts _ _ digit).0)) in ap not off
+digit_plain b digit = let off : eqb b 47 ≡ false =
+    ne_eqb b 47 (λ (e : b ≡ 47). omega (arith, leb-true 48 b (and_parts _ _ digit).0)) in ap not off
 
 -- What a number says as a corner of an `l` line.
 record IsCornerOf (word : Bytes) (n : ℕ) : Type 0 where
@@ -45,16 +47,19 @@ record IsCornerOf (word : Bytes) (n : ℕ) : Type 0 where
   index : (all before : ℕ) → n ≤ all → corner_index all before word ≡ Vertex n
 
 number_corner : (n : ℕ) → 0 < n → n < 2 ^ 64 → IsCornerOf (decimal n) n
-number_corner n some small = by_word (decimal n) (decimal_digits n small) (decimal_nonempty n small) (decimal_number n small)
+number_corner n some small = by_word (decimal n) (decimal_digits n small) (decimal_nonempty n small)
+    (decimal_number n small)
   where
-    by_word : (word : Bytes) → list_all is_ascii_digit word ≡ true → 0 < length word → number_written word ≡ n → IsCornerOf word n
+    by_word : (word : Bytes) → list_all is_ascii_digit word ≡ true → 0 < length word → number_written word ≡ n
+        → IsCornerOf word n
     by_word [] all long value = absurd (omega (arith, long))
     by_word (b ∷ bs) all long value = record {
       corner = and_from _ _ (ap is_signed used ∙ signed) (ap is_optional rest);
       index = λ many before low.
           ap (index_of many before) used
           ∙ (cond-false _ _ _ (ap not signed)
-          ∙ (cond-false _ _ _ (or_from _ _ (inside before) (ap (ltb many) (names before) ∙ le-ltb many n low)) ∙ ap Vertex (names before)));
+          ∙ (cond-false _ _ _ (or_from _ _ (inside before) (ap (ltb many) (names before) ∙ le-ltb many n low))
+          ∙ ap Vertex (names before)));
     }
       where
         bare : list_all (λ c. not (is_slash c)) (b ∷ bs) ≡ true
@@ -89,14 +94,20 @@ number_corner n some small = by_word (decimal n) (decimal_digits n small) (decim
 
         inside : (before : ℕ) → is_out before (b ∷ bs) ≡ false
         inside before =
-            or_from _ _ (ne_eqb (number_written (unsigned (b ∷ bs))) 0 (λ (e : number_written (unsigned (b ∷ bs)) ≡ 0). omega (arith, value_is, some)))
+            or_from _ _ (ne_eqb (number_written (unsigned (b ∷ bs))) 0 (λ (e : number_written (unsigned (b ∷ bs)) ≡ 0).
+            omega (arith, value_is, some)))
             (ap (λ t. t && ltb before (number_written (unsigned (b ∷ bs)))) minus)
 
 -- The number of a vertex names it.
 named_is : (n v : ℕ) → v < n → named_vertex (numbers_to n) (Vertex (v + 1)) ≡ v
 named_is n v low =
     position_or_len_is (λ name. eqb name (v + 1)) (numbers_to n) v 0 (omega (arith, low, length-numbers_to n))
-    (λ k less. ne_eqb _ _ (λ (e : get_or (numbers_to n) k 0 ≡ v + 1). omega (arith, e, less, numbers_at n k (omega (arith, less, low)))))
+    (λ k less. ne_eqb _ _ (λ (e : get_or (numbers_to n) k 0 ≡ v + 1). omega (
+      arith,
+      e,
+      less,
+      numbers_at n k (omega (arith, less, low)),
+    )))
     (λ _. eq-eqb _ _ (numbers_at n v low))
 
 -- What the words of a chain say.
@@ -105,13 +116,16 @@ record AreCornersOf (n all before : ℕ) (chain : List ℕ) : Type 0 where
   known : list_any (λ word. is_nothing (corner_index all before word)) (map vertex_word chain) ≡ false
   named : named_chain (numbers_to n) all before (map vertex_word chain) ≡ chain
 
-chain_corners : (n all before : ℕ) → n < 2 ^ 32 → n ≤ all → (chain : List ℕ) → ((k : ℕ) → k < length chain → link_at chain k < n) → AreCornersOf n all before chain
+chain_corners : (n all before : ℕ) → n < 2 ^ 32 → n ≤ all → (chain : List ℕ)
+    → ((k : ℕ) → k < length chain → link_at chain k < n) → AreCornersOf n all before chain
 chain_corners n all before few many [] low = record { corners = refl; known = refl; named = refl }
 chain_corners n all before few many (v ∷ chain) low =
     let here : v < n = low 0 (omega arith) in
     let one : IsCornerOf (decimal (v + 1)) (v + 1) = number_corner (v + 1) (omega arith) (omega (arith, here, few)) in
-    let said : corner_index all before (decimal (v + 1)) ≡ Vertex (v + 1) = one.index all before (omega (arith, here, many)) in
-    let rest : AreCornersOf n all before chain = chain_corners n all before few many chain (λ k less. low (suc k) (omega (arith, less))) in
+    let said : corner_index all before (decimal (v + 1)) ≡ Vertex (v + 1) =
+    one.index all before (omega (arith, here, many)) in
+    let rest : AreCornersOf n all before chain =
+    chain_corners n all before few many chain (λ k less. low (suc k) (omega (arith, less))) in
     record {
       corners = and_from _ _ one.corner rest.corners;
       known = or_from _ _ (ap is_nothing said) rest.known;
@@ -119,21 +133,27 @@ chain_corners n all before few many (v ∷ chain) low =
     }
 
 -- The words of the line.
-chain_words : (n : ℕ) (chain : List ℕ) → n < 2 ^ 32 → ((k : ℕ) → k < length chain → link_at chain k < n) → words (chain_line chain) ≡ (108 ∷ []) ∷ map vertex_word chain
+chain_words : (n : ℕ) (chain : List ℕ) → n < 2 ^ 32 → ((k : ℕ) → k < length chain → link_at chain k < n)
+    → words (chain_line chain) ≡ (108 ∷ []) ∷ map vertex_word chain
 chain_words n chain few low =
     ap (λ (bytes : Bytes). words (108 ∷ bytes)) (sym (flat_map-map (λ w. 32 ∷ w) vertex_word chain))
-    ∙ line_words 108 (map vertex_word chain) refl (each_map IsWord vertex_word chain 0 [] (λ k less. decimal_word (get_or chain k 0 + 1) (omega (arith, low k less, few))))
+    ∙ line_words 108 (map vertex_word chain) refl
+    (each_map IsWord vertex_word chain 0 [] (λ k less. decimal_word (get_or chain k 0 + 1)
+    (omega (arith, low k less, few))))
 
 -- The line of a chain.
 pub line_is : (chain : List ℕ) → get_or (lines_of (chain_text chain)) 0 [] ≡ chain_line chain
 line_is chain =
     ap (λ (ls : Lines). get_or ls 0 [])
-    (ap lines_of (sym (append-nil (chain_text chain))) ∙ lines_back (map chain_line (chain ∷ [])) (chains_inside (chain ∷ [])))
+    (ap lines_of (sym (append-nil (chain_text chain))) ∙ lines_back (map chain_line (chain ∷ []))
+    (chains_inside (chain ∷ [])))
 
 pub chain_said_law : ChainSaidLaw
 chain_said_law soup chain placed names few many line long low edges = (
-  ap (λ (ws : Words). cond (begins_with 108 ws) (corner_fails soup placed.all placed.before placed.line.number (drop 1 ws)) []) read ∙ fails,
-  ap (λ (ws : Words). cond (begins_with 108 ws) (named_chain soup.names placed.all placed.before (drop 1 ws)) []) read ∙ named,
+  ap (λ (ws : Words). cond (begins_with 108 ws) (corner_fails soup placed.all placed.before placed.line.number
+      (drop 1 ws)) []) read ∙ fails,
+  ap (λ (ws : Words). cond (begins_with 108 ws) (named_chain soup.names placed.all placed.before (drop 1 ws)) []) read
+      ∙ named,
 )
   where
     said : AreCornersOf (length soup.pos) placed.all placed.before chain
@@ -144,7 +164,9 @@ chain_said_law soup chain placed names few many line long low edges = (
 
     fails : corner_fails soup placed.all placed.before placed.line.number (map vertex_word chain) ≡ []
     fails =
-        cond-false _ _ _ (or_from _ _ (le-ltb (length (map vertex_word chain)) 2 (omega (arith, long, length-map chain vertex_word))) (ap not said.corners))
+        cond-false _ _ _ (or_from _ _
+        (le-ltb (length (map vertex_word chain)) 2 (omega (arith, long, length-map chain vertex_word)))
+        (ap not said.corners))
         ∙ (cond-false _ _ _ said.known ∙ cond-false _ _ _ (ap not (ap (is_chain soup.faces) named ∙ edges)))
 
     read : words placed.line.text ≡ (108 ∷ []) ∷ map vertex_word chain

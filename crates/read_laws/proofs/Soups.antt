@@ -1,5 +1,6 @@
 -- The soup of a text that is read can be written, and a mesh of it is what all laws of meshes ask for.
-use Rattle.std.proofs.Common.{◌≡◌, ℕ, zero, suc, ◌-◌, ◌^◌, ◌≤◌, Bool, true, false, cond, List, [], ◌∷◌, ◌++◌, length, map, refl, sym, ap, ◌∙◌, arith, subst, ltb, eqb, Ok}
+use Rattle.std.proofs.Common.{◌≡◌, ℕ, zero, suc, ◌-◌, ◌^◌, ◌≤◌, Bool, true, false, cond, List, [], ◌∷◌, ◌++◌, length}
+use Rattle.std.proofs.Common.{map, refl, sym, ap, ◌∙◌, arith, subst, ltb, eqb, Ok}
 use Rattle.std.specs.List.{flat_map, list_all}
 use Rattle.std.proofs.lemmas.Bool.{and_from, and_parts, lt-ltb, ltb-true}
 use Rattle.std.proofs.lemmas.List.{append-nil, length-map, map-append}
@@ -12,7 +13,8 @@ use Rattle.def_readlaws.specs.ReadMeshes.{MeshTextLaw, SoupInLaw}
 use Rattle.def_text.specs.FaceSet.{FaceSet}
 use Rattle.def_text.specs.Laws.{is_position, is_quad, IsWritableSoup}
 use Rattle.def_text.specs.Logical.{logical_lines}
-use Rattle.def_text.specs.Text.{face_set, faces, first_refusal, late_in, line_vertex, position_of, positions, readings, refusal_in, used_to}
+use Rattle.def_text.specs.Text.{face_set, faces, first_refusal, late_in, line_vertex, position_of, positions, readings}
+use Rattle.def_text.specs.Text.{refusal_in, used_to}
 use Rattle.def_text.specs.Types.{Positions}
 use Rattle.def_text.specs.declared.reading.Reading.{Reading}
 use Rattle.def_text.specs.declared.refusal.ObjFail.{ObjFail}
@@ -24,10 +26,12 @@ use Rattle.remesh_laws.proofs.Printable.{quads_of}
 use Rattle.read_laws.proofs.SaidTexts.{are_known, are_said, AreSaid}
 
 -- The used positions of a list can be written where all can.
-used_near : (ps : Positions) (fs : Faces) (n : ℕ) → n ≤ length ps → list_all is_position ps ≡ true → list_all is_position (map (position_of ps) (used_to fs n)) ≡ true
+used_near : (ps : Positions) (fs : Faces) (n : ℕ) → n ≤ length ps → list_all is_position ps ≡ true
+    → list_all is_position (map (position_of ps) (used_to fs n)) ≡ true
 used_near ps fs zero few near = refl
 used_near ps fs (suc n) few near =
-    ap (λ ks. list_all is_position (map (position_of ps) ks)) (used_more fs n) ∙ by_used (is_used fs (suc n)) (used_near ps fs n (omega arith) near)
+    ap (λ ks. list_all is_position (map (position_of ps) ks)) (used_more fs n)
+    ∙ by_used (is_used fs (suc n)) (used_near ps fs n (omega arith) near)
   where
     here : is_position (position_of ps (suc n)) ≡ true
     here = let e : suc n - 1 ≡ n = omega arith in rw e (passes_at is_position ps n [] near (omega arith))
@@ -36,21 +40,26 @@ used_near ps fs (suc n) few near =
         → list_all is_position (map (position_of ps) (used_to fs n ++ cond t (suc n ∷ []) [])) ≡ true
     by_used true before =
         ap (list_all is_position) (map-append (position_of ps) (used_to fs n) (suc n ∷ []))
-        ∙ (list_all-append is_position (map (position_of ps) (used_to fs n)) (position_of ps (suc n) ∷ []) ∙ and_from _ _ before (and_from _ _ here refl))
-    by_used false before = ap (λ ks. list_all is_position (map (position_of ps) ks)) (append-nil (used_to fs n)) ∙ before
+        ∙ (list_all-append is_position (map (position_of ps) (used_to fs n)) (position_of ps (suc n) ∷ [])
+        ∙ and_from _ _ before (and_from _ _ here refl))
+    by_used false before = ap (λ ks. list_all is_position (map (position_of ps) ks)) (append-nil (used_to fs n))
+        ∙ before
 
 -- Faces that are renumbered are quads where they were.
-quads_renumbered : (f : ℕ → ℕ) (fs : Faces) → list_all is_quad fs ≡ true → list_all is_quad (map (λ corners. map f corners) fs) ≡ true
+quads_renumbered : (f : ℕ → ℕ) (fs : Faces) → list_all is_quad fs ≡ true
+    → list_all is_quad (map (λ corners. map f corners) fs) ≡ true
 quads_renumbered f [] quads = refl
 quads_renumbered f (face ∷ fs) quads =
     let parts : (is_quad face ≡ true) × (list_all is_quad fs ≡ true) = and_parts _ _ quads in
     and_from _ _ (ap (λ n. eqb n 4) (length-map face f) ∙ parts.0) (quads_renumbered f fs parts.1)
 
 -- What passes a test passes a weaker one.
-pub all_weaker : {X : Type 0} (p q : X → Bool) → ((x : X) → p x ≡ true → q x ≡ true) → (xs : List X) → list_all p xs ≡ true → list_all q xs ≡ true
+pub all_weaker : {X : Type 0} (p q : X → Bool) → ((x : X) → p x ≡ true → q x ≡ true) → (xs : List X)
+    → list_all p xs ≡ true → list_all q xs ≡ true
 all_weaker p q weaker [] all = refl
 all_weaker p q weaker (x ∷ xs) all =
-    let parts : (p x ≡ true) × (list_all p xs ≡ true) = and_parts _ _ all in and_from _ _ (weaker x parts.0) (all_weaker p q weaker xs parts.1)
+    let parts : (p x ≡ true) × (list_all p xs ≡ true) = and_parts _ _ all in
+    and_from _ _ (weaker x parts.0) (all_weaker p q weaker xs parts.1)
 
 -- An accepted text has no refusal.
 accepted : (fails : List ObjFail) (x soup : FaceSet) → first_refusal fails x ≡ Ok soup → (fails ≡ []) × (x ≡ soup)
@@ -58,7 +67,8 @@ accepted [] x soup said = (refl, cc said)
 accepted (fail ∷ fails) x soup said = cc said
 
 -- The soup of what lines say.
-writable : (said : List Reading) → AreSaid 0 0 said → flat_map (late_in (length (positions said))) said ≡ [] → IsWritableSoup (face_set (positions said) (faces said))
+writable : (said : List Reading) → AreSaid 0 0 said → flat_map (late_in (length (positions said))) said ≡ []
+    → IsWritableSoup (face_set (positions said) (faces said))
 writable said are late = record {
   soup = face_set_is_soup (positions said) (faces said) (are_known (length (positions said)) said late are.positive);
   positions = used_near (positions said) (faces said) (length (positions said)) (omega arith) are.near;
@@ -70,13 +80,19 @@ writable said are late = record {
 pub soup_in_law : SoupInLaw
 soup_in_law bytes soup read =
     let said = readings [] (logical_lines 1 (lines_of bytes)) in
-    let fine : (flat_map refusal_in said ++ flat_map (late_in (length (positions said))) said ≡ []) × (face_set (positions said) (faces said) ≡ soup) =
+    let fine : (flat_map refusal_in said ++ flat_map (late_in (length (positions said))) said ≡ [])
+    × (face_set (positions said) (faces said) ≡ soup) =
     accepted _ (face_set (positions said) (faces said)) soup read in
-    let none : (flat_map refusal_in said ≡ []) × (flat_map (late_in (length (positions said))) said ≡ []) = parts_none _ _ fine.0 in
+    let none : (flat_map refusal_in said ≡ []) × (flat_map (late_in (length (positions said))) said ≡ []) =
+    parts_none _ _ fine.0 in
     subst IsWritableSoup fine.1 (writable said (are_said [] (logical_lines 1 (lines_of bytes)) none.0) none.1)
 
 pub mesh_text_law : MeshTextLaw
-mesh_text_law bytes soup is = (record { mesh = mesh; printable = record { positions = fine.positions; quads = fine.quads; corners = corners } }, mesh, quads)
+mesh_text_law bytes soup is = (
+  record { mesh = mesh; printable = record { positions = fine.positions; quads = fine.quads; corners = corners } },
+  mesh,
+  quads,
+)
   where
     fine : IsWritableSoup soup
     fine = soup_in_law bytes soup is.said

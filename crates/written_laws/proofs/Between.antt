@@ -1,17 +1,38 @@
 -- New points lie between the least and the greatest of the old coordinates.
-use Rattle.std.proofs.Common.{◌≡◌, ℕ, zero, suc, ◌+◌, ◌-◌, ◌*◌, ◌/◌, ◌%◌, ◌^◌, ◌<◌, ◌≤◌, ℤ, pos, negsuc, ◌+ℤ◌, ◌-ℤ◌, ◌*ℤ◌, sym, ◌∙◌, ap, subst, arith}
+use Rattle.std.proofs.Common.{◌≡◌, ℕ, zero, suc, ◌+◌, ◌-◌, ◌*◌, ◌/◌, ◌%◌, ◌^◌, ◌<◌, ◌≤◌, ℤ, pos, negsuc, ◌+ℤ◌, ◌-ℤ◌}
+use Rattle.std.proofs.Common.{◌*ℤ◌, Bool, not, sym, ◌∙◌, ap, subst, inl, inr, arith}
 use Rattle.std.specs.Prelude.{◌≤ℤ◌, ◌<ℤ◌}
 use Rattle.std.specs.Int.{int_div_euclid}
 use Rattle.std.proofs.Math.Nat.{mod-lt, div-add-mod, div-lt_iff_lt-mul, mul_comm}
+use Rattle.std.proofs.lemmas.Bool.{cases_eq}
 use Rattle.std.proofs.lemmas.Int.{ints, by_lt_z}
 use Rattle.std.proofs.lemmas.Nat.{mul-le}
+use Rattle.def_layout.specs.declared.tmesh.SideArc.{SideArc}
 use Rattle.def_layout.specs.Layouts.{Way, south, east, north, west, Layout}
 use Rattle.def_layout.specs.Surfaces.{IsSurface}
 use Rattle.def_layout.specs.Lengths.{Lengths, reach, size, wide, high, AreLengths}
 use Rattle.def_layout.specs.Cells.{IsDart, dart}
 use Rattle.def_written.specs.Points.{Point, node, along, inside, IsPoint, arc_point, use_over, offset_at, point}
 use Rattle.def_written.specs.Edges.{on_arc, edge_start, edge_end}
-use Rattle.def_written.specs.Places.{Coordinate, on_the_way, arc_place, ONE, arc_parameter, parameter, parameter_back, parameter_u, parameter_v, cell_at, rest_at, blend, inside_place, place_of}
+use Rattle.def_written.specs.Places.{
+  Coordinate,
+  on_the_way,
+  arc_place,
+  ONE,
+  parameter,
+  parameter_back,
+  parameter_u,
+  parameter_v,
+  cell_at,
+  rest_at,
+  blend,
+  inside_place,
+  place_of,
+  ArcSpacing,
+  Step,
+}
+use Rattle.def_written.specs.Places.{parameter_u, parameter_v, cell_at, rest_at, blend, inside_place, place_of}
+use Rattle.def_written.specs.Spacings.{IsSpacing}
 use Rattle.def_written.specs.Laws.{BetweenLaw}
 use Rattle.written_laws.proofs.Runs.{count_rises}
 use Rattle.written_laws.proofs.Sides.{IsOn, place_on, long_at}
@@ -60,7 +81,8 @@ quotient_within a lo hi b some above below = by_rest (int_div_euclid a (pos b)) 
     )
 
 -- A part of the way lies between its ends.
-pub way_within : (p q least greatest : ℤ) (r x : ℕ) → r ≤ x → 0 < x → least ≤ℤ p → p ≤ℤ greatest → least ≤ℤ q → q ≤ℤ greatest
+pub way_within : (p q least greatest : ℤ) (r x : ℕ) → r ≤ x → 0 < x → least ≤ℤ p → p ≤ℤ greatest → least ≤ℤ q
+    → q ≤ℤ greatest
     → (least ≤ℤ on_the_way p q r x) × (on_the_way p q r x ≤ℤ greatest)
 way_within p q least greatest r x le some p_low p_high q_low q_high = by_bounds bounds
   where
@@ -69,8 +91,10 @@ way_within p q least greatest r x le some p_low p_high q_low q_high = by_bounds 
 
     lows : (pos (2 * x) *ℤ (least -ℤ p)) ≤ℤ (pos (2 * r) *ℤ (q -ℤ p))
     lows =
-        let a : (pos (2 * r) *ℤ (least -ℤ p)) ≤ℤ (pos (2 * r) *ℤ (q -ℤ p)) = times_le (2 * r) (least -ℤ p) (q -ℤ p) (omega (arith, ints)) in
-        let b : (pos (2 * (x - r)) *ℤ (least -ℤ p)) ≤ℤ (pos (2 * (x - r)) *ℤ pos 0) = times_le (2 * (x - r)) (least -ℤ p) (pos 0) (omega (arith, ints)) in
+        let a : (pos (2 * r) *ℤ (least -ℤ p)) ≤ℤ (pos (2 * r) *ℤ (q -ℤ p)) =
+        times_le (2 * r) (least -ℤ p) (q -ℤ p) (omega (arith, ints)) in
+        let b : (pos (2 * (x - r)) *ℤ (least -ℤ p)) ≤ℤ (pos (2 * (x - r)) *ℤ pos 0) =
+        times_le (2 * (x - r)) (least -ℤ p) (pos 0) (omega (arith, ints)) in
         let z : (2 * (x - r)) * 0 ≡ 0 = omega arith in
         let c : pos (2 * x) *ℤ (least -ℤ p) ≡ (pos (2 * r) *ℤ (least -ℤ p)) +ℤ (pos (2 * (x - r)) *ℤ (least -ℤ p)) =
         ap (λ n. pos n *ℤ (least -ℤ p)) split ∙ sum_times (2 * r) (2 * (x - r)) (least -ℤ p) in
@@ -78,10 +102,13 @@ way_within p q least greatest r x le some p_low p_high q_low q_high = by_bounds 
 
     highs : (pos (2 * r) *ℤ (q -ℤ p)) ≤ℤ (pos (2 * x) *ℤ (greatest -ℤ p))
     highs =
-        let a : (pos (2 * r) *ℤ (q -ℤ p)) ≤ℤ (pos (2 * r) *ℤ (greatest -ℤ p)) = times_le (2 * r) (q -ℤ p) (greatest -ℤ p) (omega (arith, ints)) in
-        let b : (pos (2 * (x - r)) *ℤ pos 0) ≤ℤ (pos (2 * (x - r)) *ℤ (greatest -ℤ p)) = times_le (2 * (x - r)) (pos 0) (greatest -ℤ p) (omega (arith, ints)) in
+        let a : (pos (2 * r) *ℤ (q -ℤ p)) ≤ℤ (pos (2 * r) *ℤ (greatest -ℤ p)) =
+        times_le (2 * r) (q -ℤ p) (greatest -ℤ p) (omega (arith, ints)) in
+        let b : (pos (2 * (x - r)) *ℤ pos 0) ≤ℤ (pos (2 * (x - r)) *ℤ (greatest -ℤ p)) =
+        times_le (2 * (x - r)) (pos 0) (greatest -ℤ p) (omega (arith, ints)) in
         let z : (2 * (x - r)) * 0 ≡ 0 = omega arith in
-        let c : pos (2 * x) *ℤ (greatest -ℤ p) ≡ (pos (2 * r) *ℤ (greatest -ℤ p)) +ℤ (pos (2 * (x - r)) *ℤ (greatest -ℤ p)) =
+        let c : pos (2 * x) *ℤ (greatest -ℤ p)
+        ≡ (pos (2 * r) *ℤ (greatest -ℤ p)) +ℤ (pos (2 * (x - r)) *ℤ (greatest -ℤ p)) =
         ap (λ n. pos n *ℤ (greatest -ℤ p)) split ∙ sum_times (2 * r) (2 * (x - r)) (greatest -ℤ p) in
         omega (arith, ints, a, b, c, z)
 
@@ -98,10 +125,27 @@ pub blend_within : (s t : ℕ) (a b c d least greatest : ℤ) → s ≤ ONE → 
     → least ≤ℤ a → least ≤ℤ b → least ≤ℤ c → least ≤ℤ d → a ≤ℤ greatest → b ≤ℤ greatest → c ≤ℤ greatest → d ≤ℤ greatest
     → (least ≤ℤ blend s t a b c d) × (blend s t a b c d ≤ℤ greatest)
 blend_within s t a b c d least greatest s_le t_le a_low b_low c_low d_low a_high b_high c_high d_high =
-    quotient_within (((((pos ((ONE - s) * (ONE - t)) *ℤ a) +ℤ (pos (s * (ONE - t)) *ℤ b)) +ℤ ((pos ((ONE - s) * t) *ℤ c) +ℤ (pos (s * t) *ℤ d)))) +ℤ pos (2 ^ 63))
+    quotient_within (((((pos ((ONE - s) * (ONE - t)) *ℤ a) +ℤ (pos (s * (ONE - t)) *ℤ b)) +ℤ
+    ((pos ((ONE - s) * t) *ℤ c) +ℤ (pos (s * t) *ℤ d)))) +ℤ pos (2 ^ 63))
     least greatest (2 ^ 64) (omega arith)
-    (omega (arith, ints, total least, times_le ((ONE - s) * (ONE - t)) least a a_low, times_le (s * (ONE - t)) least b b_low, times_le ((ONE - s) * t) least c c_low, times_le (s * t) least d d_low))
-    (omega (arith, ints, total greatest, times_le ((ONE - s) * (ONE - t)) a greatest a_high, times_le (s * (ONE - t)) b greatest b_high, times_le ((ONE - s) * t) c greatest c_high, times_le (s * t) d greatest d_high))
+    (omega (
+      arith,
+      ints,
+      total least,
+      times_le ((ONE - s) * (ONE - t)) least a a_low,
+      times_le (s * (ONE - t)) least b b_low,
+      times_le ((ONE - s) * t) least c c_low,
+      times_le (s * t) least d d_low,
+    ))
+    (omega (
+      arith,
+      ints,
+      total greatest,
+      times_le ((ONE - s) * (ONE - t)) a greatest a_high,
+      times_le (s * (ONE - t)) b greatest b_high,
+      times_le ((ONE - s) * t) c greatest c_high,
+      times_le (s * t) d greatest d_high,
+    ))
   where
     weights : ((ONE - s) * (ONE - t) + s * (ONE - t)) + ((ONE - s) * t + s * t) ≡ 2 ^ 64
     weights =
@@ -113,9 +157,11 @@ blend_within s t a b c d least greatest s_le t_le a_low b_low c_low d_low a_high
         by_parts : (m n j k : ℕ) → (m + n) * (j + k) ≡ ONE * ONE → (m * j + n * j) + (m * k + n * k) ≡ 2 ^ 64
         by_parts m n j k e = omega (arith, e)
 
-    total : (z : ℤ) → ((pos ((ONE - s) * (ONE - t)) *ℤ z) +ℤ (pos (s * (ONE - t)) *ℤ z)) +ℤ ((pos ((ONE - s) * t) *ℤ z) +ℤ (pos (s * t) *ℤ z)) ≡ pos (2 ^ 64) *ℤ z
+    total : (z : ℤ) → ((pos ((ONE - s) * (ONE - t)) *ℤ z) +ℤ (pos (s * (ONE - t)) *ℤ z)) +ℤ
+        ((pos ((ONE - s) * t) *ℤ z) +ℤ (pos (s * t) *ℤ z)) ≡ pos (2 ^ 64) *ℤ z
     total z =
-        (λ k. sym (sum_times ((ONE - s) * (ONE - t)) (s * (ONE - t)) z) k +ℤ sym (sum_times ((ONE - s) * t) (s * t) z) k)
+        (λ k. sym (sum_times ((ONE - s) * (ONE - t)) (s * (ONE - t)) z) k +ℤ sym (sum_times ((ONE - s) * t) (s * t) z)
+        k)
         ∙ sym (sum_times ((ONE - s) * (ONE - t) + s * (ONE - t)) ((ONE - s) * t + s * t) z)
         ∙ ap (λ n. pos n *ℤ z) weights
 
@@ -129,35 +175,41 @@ div_most n k d some le =
 pub rest_most : (n u : ℕ) → 0 < n → u ≤ ONE * n → rest_at n u ≤ ONE
 rest_most n u some le = omega (arith, le)
 
-module _ (l : Layout) (old new : Lengths) (laid : IsSurface l) (o_len : AreLengths l old) (n_len : AreLengths l new) where
-  arc_most : (a k : ℕ) → a < l.arcs → k ≤ new a → arc_parameter old new a k ≤ ONE * old a
-  arc_most a k a_low le =
-      div_most (ONE * k * old a) (ONE * old a) (new a) (n_len.some a a_low) (by_parts k (new a) (old a) le)
-    where
-      by_parts : (i n m : ℕ) → i ≤ n → ONE * i * m ≤ ONE * m * n
-      by_parts i n m less = let e : i * m ≤ m * n = subst (λ z. i * m ≤ z) (mul_comm n m) (mul-le i m n m less (omega arith)) in omega (arith, e)
+module _ (l : Layout) (old new : Lengths) (spacing : ArcSpacing) (laid : IsSurface l) (o_len : AreLengths l old)
+    (n_len : AreLengths l new) (spaced : IsSpacing l old new spacing) where
+  arc_most : (a : ℕ) (forward : Bool) (k : ℕ) → a < l.arcs → k ≤ new a → spacing.parameter_of a forward k ≤ ONE * old a
+  arc_most a forward k a_low le = elim (cases_eq k (new a)) [
+    | inl e ↦ omega (arith, ap (spacing.parameter_of a forward) e, spaced.ends a forward a_low)
+    | inr ne ↦ omega (arith, spaced.below a forward k a_low (omega (arith, le, ne)))
+  ]
 
   -- Parameters of places of a side are at most that of its end.
-  ahead_most : (p : ℕ) (s : Way) (t : ℕ) → p < l.patches → t < size l new p s → parameter l old new p s t ≤ ONE * size l old p s
+  ahead_most : (p : ℕ) (s : Way) (t : ℕ) → p < l.patches → t < size l new p s
+      → parameter l old new spacing p s t ≤ ONE * size l old p s
   ahead_most p s t p_low less =
       let on : IsOn l new p s t (use_over l new p s t) (offset_at l new p s t) = place_on l new p s t p_low less in
       let upto : reach l old p s (suc (use_over l new p s t)) ≤ size l old p s =
       count_rises (long_at l old p s) (suc (use_over l new p s t)) (l.many p s) (omega (arith, on.is_slot.low)) in
-      let part : arc_parameter old new (l.use_at p s (use_over l new p s t)).arc (offset_at l new p s t) ≤ ONE * old (l.use_at p s (use_over l new p s t)).arc =
-      arc_most (l.use_at p s (use_over l new p s t)).arc (offset_at l new p s t)
-      (laid.paved.arc_low (record { patch = p; side = s; at = use_over l new p s t }) on.is_slot) (omega (arith, on.inside)) in
+      let used : SideArc = l.use_at p s (use_over l new p s t) in
+      let part : spacing.parameter_of used.arc used.forward (offset_at l new p s t) ≤ ONE * old used.arc =
+      arc_most used.arc used.forward (offset_at l new p s t)
+      (laid.paved.arc_low (record { patch = p; side = s; at = use_over l new p s t }) on.is_slot)
+      (omega (arith, on.inside)) in
       omega (arith, upto, part)
 
-  back_most : (p : ℕ) (s : Way) (t : ℕ) → p < l.patches → t < size l new p s → parameter_back l old new p s t ≤ ONE * size l old p s
+  back_most : (p : ℕ) (s : Way) (t : ℕ) → p < l.patches → t < size l new p s
+      → parameter_back l old new spacing p s t ≤ ONE * size l old p s
   back_most p s t p_low less =
       let on : IsOn l new p s t (use_over l new p s t) (offset_at l new p s t) = place_on l new p s t p_low less in
       let upto : reach l old p s (suc (use_over l new p s t)) ≤ size l old p s =
       count_rises (long_at l old p s) (suc (use_over l new p s t)) (l.many p s) (omega (arith, on.is_slot.low)) in
       let one : use_over l new p s t + 1 ≡ suc (use_over l new p s t) = omega arith in
-      let reaches : reach l old p s (use_over l new p s t + 1) ≡ reach l old p s (suc (use_over l new p s t)) = ap (reach l old p s) one in
-      let part : arc_parameter old new (l.use_at p s (use_over l new p s t)).arc (new (l.use_at p s (use_over l new p s t)).arc - offset_at l new p s t)
-      ≤ ONE * old (l.use_at p s (use_over l new p s t)).arc =
-      arc_most (l.use_at p s (use_over l new p s t)).arc (new (l.use_at p s (use_over l new p s t)).arc - offset_at l new p s t)
+      let reaches : reach l old p s (use_over l new p s t + 1) ≡ reach l old p s (suc (use_over l new p s t)) =
+      ap (reach l old p s) one in
+      let used : SideArc = l.use_at p s (use_over l new p s t) in
+      let part : spacing.parameter_of used.arc (not used.forward) (new used.arc - offset_at l new p s t)
+      ≤ ONE * old used.arc =
+      arc_most used.arc (not used.forward) (new used.arc - offset_at l new p s t)
       (laid.paved.arc_low (record { patch = p; side = s; at = use_over l new p s t }) on.is_slot) (omega arith) in
       omega (arith, upto, reaches, part)
 
@@ -174,43 +226,52 @@ module _ (l : Layout) (old new : Lengths) (laid : IsSurface l) (o_len : AreLengt
       by_parts c d k c_le d_le same = omega (arith, c_le, d_le, same)
 
   -- The parameters of grid points inside a patch are at most the old sizes.
-  pub u_most : (p i j : ℕ) → IsPoint l new (inside p i j) → parameter_u l old new p i j ≤ ONE * wide l old p
+  pub u_most : (p i j : ℕ) → IsPoint l new (inside p i j) → parameter_u l old new spacing p i j ≤ ONE * wide l old p
   u_most p i j is =
-      mean_most (parameter l old new p south i) (parameter_back l old new p north (wide l new p - i)) (ONE * wide l old p) (high l new p) j
+      mean_most (parameter l old new spacing p south i) (parameter_back l old new spacing p north (wide l new p - i))
+      (ONE * wide l old p) (high l new p) j
       (omega (arith, is.3, is.4)) (omega (arith, is.4)) (ahead_most p south i is.0 is.2)
-      (omega (arith, o_len.across p is.0, back_most p north (wide l new p - i) is.0 (omega (arith, is.1, is.2, n_len.across p is.0))))
+      (omega (
+        arith,
+        o_len.across p is.0,
+        back_most p north (wide l new p - i) is.0 (omega (arith, is.1, is.2, n_len.across p is.0)),
+      ))
 
-  pub v_most : (p i j : ℕ) → IsPoint l new (inside p i j) → parameter_v l old new p i j ≤ ONE * high l old p
+  pub v_most : (p i j : ℕ) → IsPoint l new (inside p i j) → parameter_v l old new spacing p i j ≤ ONE * high l old p
   v_most p i j is =
-      mean_most (parameter_back l old new p west (high l new p - j)) (parameter l old new p east j) (ONE * high l old p) (wide l new p) i
-      (omega (arith, is.1, is.2)) (omega (arith, is.2)) (back_most p west (high l new p - j) is.0 (omega (arith, is.3, is.4)))
+      mean_most (parameter_back l old new spacing p west (high l new p - j)) (parameter l old new spacing p east j)
+      (ONE * high l old p)
+      (wide l new p) i
+      (omega (arith, is.1, is.2)) (omega (arith, is.2))
+      (back_most p west (high l new p - j) is.0 (omega (arith, is.3, is.4)))
       (omega (arith, o_len.upright p is.0, ahead_most p east j is.0 (omega (arith, is.4, n_len.upright p is.0))))
 
-  module _ (at : Coordinate) (least greatest : ℤ) (bound : (a : Point) → IsPoint l old a → (least ≤ℤ at a) × (at a ≤ℤ greatest)) where
-    arc_within : (a k : ℕ) → IsPoint l new (along a k) → (least ≤ℤ arc_place l old new at a k) × (arc_place l old new at a k ≤ℤ greatest)
+  module _ (at : Coordinate) (least greatest : ℤ) (bound : (a : Point) → IsPoint l old a → (least ≤ℤ at a)
+      × (at a ≤ℤ greatest)) where
+    arc_within : (a k : ℕ) → IsPoint l new (along a k) → (least ≤ℤ arc_place l old spacing at a k)
+        × (arc_place l old spacing at a k ≤ℤ greatest)
     arc_within a k is =
-        let some : 0 < new a = n_len.some a is.0 in
-        let less : k * old a < old a * new a = by_parts (old a) (new a) (o_len.some a is.0) is.2 in
-        let i_low : k * old a / new a < old a = (div-lt_iff_lt-mul {k = new a} {x = k * old a} {y = old a} some).1 less in
-        let ends : IsPoint l old (edge_start l old (on_arc a (k * old a / new a))) × IsPoint l old (edge_end l old (on_arc a (k * old a / new a))) =
-        edge_points l old laid o_len (on_arc a (k * old a / new a)) (is.0, i_low) in
-        let p : (least ≤ℤ at (arc_point l old a (k * old a / new a))) × (at (arc_point l old a (k * old a / new a)) ≤ℤ greatest) =
-        bound (arc_point l old a (k * old a / new a)) ends.0 in
-        let q : (least ≤ℤ at (arc_point l old a (k * old a / new a + 1))) × (at (arc_point l old a (k * old a / new a + 1)) ≤ℤ greatest) =
-        bound (arc_point l old a (k * old a / new a + 1)) ends.1 in
-        way_within (at (arc_point l old a (k * old a / new a))) (at (arc_point l old a (k * old a / new a + 1))) least greatest
-        (k * old a % new a) (new a) (omega (arith, mod-lt (k * old a) some)) some p.0 p.1 q.0 q.1
-      where
-        by_parts : (m n : ℕ) → 0 < m → k < n → k * m < m * n
-        by_parts m n m_some k_low =
-            let e : (k + 1) * m ≤ m * n = subst (λ z. (k + 1) * m ≤ z) (mul_comm n m) (mul-le (k + 1) m n m (omega arith) (omega arith)) in
-            omega (arith, e)
+        let step : Step = spacing.step a k in
+        let ends : IsPoint l old (edge_start l old (on_arc a step.edge))
+        × IsPoint l old (edge_end l old (on_arc a step.edge)) =
+        edge_points l old laid o_len (on_arc a step.edge) (is.0, spaced.edges a k is.0 is.2) in
+        let part : step.some < step.parts = spaced.parts a k is.0 is.2 in
+        let p : (least ≤ℤ at (arc_point l old a step.edge)) × (at (arc_point l old a step.edge) ≤ℤ greatest) =
+        bound (arc_point l old a step.edge) ends.0 in
+        let q : (least ≤ℤ at (arc_point l old a (step.edge + 1)))
+        × (at (arc_point l old a (step.edge + 1)) ≤ℤ greatest) =
+        bound (arc_point l old a (step.edge + 1)) ends.1 in
+        way_within (at (arc_point l old a step.edge)) (at (arc_point l old a (step.edge + 1))) least greatest step.some
+        step.parts (omega (arith, part)) (omega (arith, part)) p.0 p.1 q.0 q.1
 
     grid_within : (p a b : ℕ) (s t : ℕ) → p < l.patches → a < wide l old p → b < high l old p → s ≤ ONE → t ≤ ONE
-        → (least ≤ℤ blend s t (at (point l old p a b)) (at (point l old p (a + 1) b)) (at (point l old p a (b + 1))) (at (point l old p (a + 1) (b + 1))))
-        × (blend s t (at (point l old p a b)) (at (point l old p (a + 1) b)) (at (point l old p a (b + 1))) (at (point l old p (a + 1) (b + 1))) ≤ℤ greatest)
+        → (least ≤ℤ blend s t (at (point l old p a b)) (at (point l old p (a + 1) b)) (at (point l old p a (b + 1)))
+        (at (point l old p (a + 1) (b + 1))))
+        × (blend s t (at (point l old p a b)) (at (point l old p (a + 1) b)) (at (point l old p a (b + 1)))
+        (at (point l old p (a + 1) (b + 1))) ≤ℤ greatest)
     grid_within p a b s t p_low a_low b_low s_le t_le =
-        blend_within s t (at (point l old p a b)) (at (point l old p (a + 1) b)) (at (point l old p a (b + 1))) (at (point l old p (a + 1) (b + 1)))
+        blend_within s t (at (point l old p a b)) (at (point l old p (a + 1) b)) (at (point l old p a (b + 1)))
+        (at (point l old p (a + 1) (b + 1)))
         least greatest s_le t_le (sw.0) (se.0) (nw.0) (ne.0) (sw.1) (se.1) (nw.1) (ne.1)
       where
         is : (w : Way) → IsDart l old (dart p a b w)
@@ -228,18 +289,27 @@ module _ (l : Layout) (old new : Lengths) (laid : IsSurface l) (o_len : AreLengt
         ne : (least ≤ℤ at (point l old p (a + 1) (b + 1))) × (at (point l old p (a + 1) (b + 1)) ≤ℤ greatest)
         ne = bound (point l old p (a + 1) (b + 1)) (from_is l old laid o_len (dart p a b north) (is north))
 
-    inside_within : (p i j : ℕ) → IsPoint l new (inside p i j) → (least ≤ℤ inside_place l old new at p i j) × (inside_place l old new at p i j ≤ℤ greatest)
+    inside_within : (p i j : ℕ) → IsPoint l new (inside p i j) → (least ≤ℤ inside_place l old new spacing at p i j)
+        × (inside_place l old new spacing at p i j ≤ℤ greatest)
     inside_within p i j is =
-        grid_within p (cell_at (wide l old p) (parameter_u l old new p i j)) (cell_at (high l old p) (parameter_v l old new p i j))
-        (rest_at (wide l old p) (parameter_u l old new p i j)) (rest_at (high l old p) (parameter_v l old new p i j)) is.0
-        (omega (arith, wide_some l old laid.paved o_len p is.0)) (omega (arith, high_some l old laid.paved o_len p is.0))
-        (rest_most (wide l old p) (parameter_u l old new p i j) (wide_some l old laid.paved o_len p is.0) (u_most p i j is))
-        (rest_most (high l old p) (parameter_v l old new p i j) (high_some l old laid.paved o_len p is.0) (v_most p i j is))
+        grid_within p (cell_at (wide l old p) (parameter_u l old new spacing p i j))
+        (cell_at (high l old p) (parameter_v l old new spacing p i j))
+        (rest_at (wide l old p) (parameter_u l old new spacing p i j))
+        (rest_at (high l old p) (parameter_v l old new spacing p i j))
+        is.0
+        (omega (arith, wide_some l old laid.paved o_len p is.0))
+        (omega (arith, high_some l old laid.paved o_len p is.0))
+        (rest_most (wide l old p) (parameter_u l old new spacing p i j) (wide_some l old laid.paved o_len p is.0)
+        (u_most p i j is))
+        (rest_most (high l old p) (parameter_v l old new spacing p i j) (high_some l old laid.paved o_len p is.0)
+        (v_most p i j is))
 
-    place_within : (a : Point) → IsPoint l new a → (least ≤ℤ place_of l old new at a) × (place_of l old new at a ≤ℤ greatest)
+    place_within : (a : Point) → IsPoint l new a → (least ≤ℤ place_of l old new spacing at a)
+        × (place_of l old new spacing at a ≤ℤ greatest)
     place_within (node n) is = bound (node n) is
     place_within (along a k) is = arc_within a k is
     place_within (inside p i j) is = inside_within p i j is
 
 pub between_law : BetweenLaw
-between_law l old new at least greatest laid o_len n_len bound = place_within l old new laid o_len n_len at least greatest bound
+between_law l old new spacing at least greatest laid o_len n_len spaced bound =
+    place_within l old new spacing laid o_len n_len spaced at least greatest bound

@@ -1,27 +1,33 @@
 -- Border darts by the slots whose arcs they lie on.
-use Rattle.std.proofs.Common.{◌≡◌, ◌≢◌, ◌⊎◌, ℕ, zero, suc, ◌+◌, ◌-◌, ◌<◌, ◌≤◌, Bool, true, false, not, cond, refl, sym, ◌∙◌, ap, subst, inl, inr, arith}
+use Rattle.std.proofs.Common.{◌≡◌, ◌≢◌, ◌⊎◌, ℕ, zero, suc, ◌+◌, ◌-◌, ◌<◌, ◌≤◌, Bool, true, false, not, cond, refl, sym}
+use Rattle.std.proofs.Common.{◌∙◌, ap, subst, inl, inr, arith}
 use Rattle.std.proofs.lemmas.Bool.{cases_eq}
 use Rattle.def_layout.specs.declared.tmesh.SideArc.{SideArc}
-use Rattle.def_layout.specs.Layouts.{Way, side_before, Layout, Slot, IsSlot, AreReverse, use_of, slot_before, start_node}
+use Rattle.def_layout.specs.Layouts.{Way, side_before, Layout, Slot, IsSlot, AreReverse, use_of, slot_before}
+use Rattle.def_layout.specs.Layouts.{start_node}
 use Rattle.def_layout.specs.Surfaces.{HasWholeSides, IsSurface, IsOtherSlot}
 use Rattle.def_layout.specs.Lengths.{Lengths, reach, size, AreLengths}
 use Rattle.def_layout.specs.Cells.{CellDart, IsDart, slot_dart}
-use Rattle.def_written.specs.Points.{node, along, inside, IsPoint, arc_point, use_point, use_over, offset_at, side_point, point}
+use Rattle.def_written.specs.Points.{node, along, inside, IsPoint, arc_point, use_point, use_over, offset_at}
+use Rattle.def_written.specs.Points.{side_point, point}
 use Rattle.def_written.specs.NewFaces.{dart_start, dart_end}
 use Rattle.written_laws.proofs.Sides.{slot, use_begins, use_inner, IsOn, place_on, side_in, side_upto, reach_low}
 use Rattle.written_laws.proofs.Grid.{point_inside}
-use Rattle.written_laws.proofs.Rims.{column_of, row_of, side_column, side_row, border_point, rim_is, rim_from, rim_to, IsInner, IsBorder, dart_on_rim}
+use Rattle.written_laws.proofs.Rims.{column_of, row_of, side_column, side_row, border_point, rim_is, rim_from, rim_to}
+use Rattle.written_laws.proofs.Rims.{IsInner, IsBorder, dart_on_rim}
 
 module _ (l : Layout) (x : Lengths) where
   -- The points of an arc that is used the other way round.
-  pub use_back : (u v : SideArc) → AreReverse u v → (k : ℕ) → k ≤ x u.arc → use_point l x v k ≡ use_point l x u (x u.arc - k)
+  pub use_back : (u v : SideArc) → AreReverse u v → (k : ℕ) → k ≤ x u.arc
+      → use_point l x v k ≡ use_point l x u (x u.arc - k)
   use_back u v rev k le = ap (λ (w : SideArc). use_point l x w k) same ∙ by_way u.arc u.forward le
     where
       same : v ≡ record { arc = u.arc; forward = not u.forward }
       same = λ t. record { arc = rev.arc t; forward = rev.turned t }
 
       by_way : (a : ℕ) (b : Bool) → k ≤ x a
-          → use_point l x (record { arc = a; forward = not b }) k ≡ use_point l x (record { arc = a; forward = b }) (x a - k)
+          → use_point l x (record { arc = a; forward = not b }) k ≡ use_point l x (record { arc = a; forward = b })
+          (x a - k)
       by_way a true low = refl
       by_way a false low = let e : k ≡ x a - (x a - k) = omega arith in ap (arc_point l x a) e
 
@@ -32,7 +38,8 @@ module _ (l : Layout) (x : Lengths) where
         let b : use_point l x u o ≡ node (start_node l u) = ap (use_point l x u) z ∙ use_begins l x u (omega arith) in
         absurd cc
     | inr some ↦
-        let b : use_point l x u o ≡ along u.arc (cond u.forward o (x u.arc - o)) = use_inner l x u o (omega arith) less in
+        let b : use_point l x u o ≡ along u.arc (cond u.forward o (x u.arc - o)) =
+        use_inner l x u o (omega arith) less in
         absurd cc
   ]
 
@@ -43,7 +50,8 @@ module _ (l : Layout) (x : Lengths) where
     at_low w o is less = omega (arith, reach_low l x w is)
 
     pub at_is : (w : Slot) (o : ℕ) → IsSlot l w → o < x (use_of l w).arc → IsDart l x (slot_dart l x w o)
-    at_is w o is less = rim_is l x paved len w.patch w.side (reach l x w.patch w.side w.at + o) is.patch_low (at_low w o is less)
+    at_is w o is less = rim_is l x paved len w.patch w.side (reach l x w.patch w.side w.at + o) is.patch_low
+        (at_low w o is less)
 
     -- The slot before another one.
     pub before_is : (w : Slot) → IsSlot l w → IsSlot l (slot_before l w.patch w.side w.at)
@@ -51,7 +59,11 @@ module _ (l : Layout) (x : Lengths) where
       where
         by_place : (m : ℕ) → m < l.many w.patch w.side → IsSlot l (slot_before l w.patch w.side m)
         by_place zero low =
-            record { patch_low = is.patch_low; low = omega (arith, paved.sides_full w.patch (side_before w.side) is.patch_low) }
+            record {
+              patch_low = is.patch_low;
+              low =
+                  omega (arith, paved.sides_full w.patch (side_before w.side) is.patch_low);
+            }
         by_place (suc m) low = record { patch_low = is.patch_low; low = omega arith }
 
   module _ (laid : IsSurface l) (len : AreLengths l x) where
@@ -62,9 +74,11 @@ module _ (l : Layout) (x : Lengths) where
         by_way a true less = laid.paved.first_low a less
         by_way a false less = laid.paved.last_low a less
 
-    pub use_is_point : (w : Slot) (o : ℕ) → IsSlot l w → o < x (use_of l w).arc → IsPoint l x (use_point l x (use_of l w) o)
+    pub use_is_point : (w : Slot) (o : ℕ) → IsSlot l w → o < x (use_of l w).arc
+        → IsPoint l x (use_point l x (use_of l w) o)
     use_is_point w o is less = elim (cases_eq o 0) [
-      | inl z ↦ subst (IsPoint l x) (sym (ap (use_point l x (use_of l w)) z ∙ use_begins l x (use_of l w) (omega arith)))
+      | inl z ↦ subst (IsPoint l x)
+          (sym (ap (use_point l x (use_of l w)) z ∙ use_begins l x (use_of l w) (omega arith)))
           (start_low (use_of l w) (laid.paved.arc_low w is))
       | inr some ↦ subst (IsPoint l x) (sym (use_inner l x (use_of l w) o (omega arith) less))
           (by_way (use_of l w).arc (use_of l w).forward (laid.paved.arc_low w is) (omega arith) less)
@@ -77,13 +91,15 @@ module _ (l : Layout) (x : Lengths) where
     pub at_from : (w : Slot) (o : ℕ) → IsSlot l w → o < x (use_of l w).arc
         → dart_start l x (slot_dart l x w o) ≡ use_point l x (use_of l w) o
     at_from w o is less =
-        rim_from l x laid len w.patch w.side (reach l x w.patch w.side w.at + o) is.patch_low (at_low laid.paved len w o is less)
+        rim_from l x laid len w.patch w.side (reach l x w.patch w.side w.at + o) is.patch_low
+        (at_low laid.paved len w o is less)
         ∙ side_in l x w o is less
 
     pub at_to : (w : Slot) (o : ℕ) → IsSlot l w → o < x (use_of l w).arc
         → dart_end l x (slot_dart l x w o) ≡ use_point l x (use_of l w) (o + 1)
     at_to w o is less =
-        rim_to l x laid len w.patch w.side (reach l x w.patch w.side w.at + o) is.patch_low (at_low laid.paved len w o is less)
+        rim_to l x laid len w.patch w.side (reach l x w.patch w.side w.at + o) is.patch_low
+        (at_low laid.paved len w o is less)
         ∙ side_upto l x laid len w (o + 1) (reach l x w.patch w.side w.at + o + 1) is (omega arith) (omega arith)
 
     -- Over the border the dart runs the other way round.
@@ -120,7 +136,8 @@ module _ (l : Layout) (x : Lengths) where
         → IsInner l x laid.paved len d.patch (column_of d) (row_of d) ⊎ ((w : Slot) × (o : ℕ) × IsAt d w o)
     sort_dart d is = elim (dart_on_rim l x laid.paved len d is) [ inl i ↦ inl i | inr b ↦ inr (on_border b.0 b.1 b.2) ]
       where
-        on_border : (s : Way) (t : ℕ) → IsBorder l x laid.paved len d.patch (column_of d) (row_of d) s t → (w : Slot) × (o : ℕ) × IsAt d w o
+        on_border : (s : Way) (t : ℕ) → IsBorder l x laid.paved len d.patch (column_of d) (row_of d) s t → (w : Slot)
+            × (o : ℕ) × IsAt d w o
         on_border s t b =
             let on : IsOn l x d.patch s t (use_over l x d.patch s t) (offset_at l x d.patch s t) =
             place_on l x d.patch s t is.patch_low b.low in
@@ -135,7 +152,8 @@ module _ (l : Layout) (x : Lengths) where
                 row = b.row ∙ ap (side_row l x d.patch s) on.place;
                 leaves = (λ k. point l x d.patch (b.column k) (b.row k))
                     ∙ border_point l x laid len d.patch s t is.patch_low (omega (arith, b.low))
-                    ∙ ap (side_point l x d.patch s) on.place ∙ side_in l x w (offset_at l x d.patch s t) on.is_slot on.inside;
+                    ∙ ap (side_point l x d.patch s) on.place ∙ side_in l x w (offset_at l x d.patch s t) on.is_slot
+                    on.inside;
               },
             )
 

@@ -1,5 +1,6 @@
 -- Multiples of lengths that double no edge double none, and no lengths of at least 3 do.
-use Rattle.std.proofs.Common.{◌≡◌, ◌≢◌, ℕ, zero, suc, ◌+◌, ◌-◌, ◌*◌, ◌/◌, ◌%◌, ◌<◌, ◌≤◌, Bool, true, false, not, cond, refl, sym, ◌∙◌, ap, subst, inl, inr, arith}
+use Rattle.std.proofs.Common.{◌≡◌, ◌≢◌, ℕ, zero, suc, ◌+◌, ◌-◌, ◌*◌, ◌/◌, ◌%◌, ◌<◌, ◌≤◌, Bool, true, false, not, cond}
+use Rattle.std.proofs.Common.{refl, sym, ◌∙◌, ap, subst, inl, inr, arith}
 use Rattle.std.specs.Prelude.{◌==◌}
 use Rattle.std.proofs.Math.Nat.{mul-le-mul_left}
 use Rattle.std.proofs.lemmas.Bool.{cases_eq, cond-true, cond-false, eq-eqb, ne_eqb}
@@ -8,7 +9,8 @@ use Rattle.def_layout.specs.Layouts.{Way, south, east, north, west, Layout, IsSl
 use Rattle.def_layout.specs.Surfaces.{IsSurface}
 use Rattle.def_layout.specs.Lengths.{Lengths, reach, size, wide, high, AreLengths}
 use Rattle.def_layout.specs.Cells.{CellDart, IsDart, dart}
-use Rattle.def_written.specs.Points.{Point, node, along, inside, arc_point, use_point, use_over, offset_at, side_point, point}
+use Rattle.def_written.specs.Points.{Point, node, along, inside, arc_point, use_point, use_over, offset_at, side_point}
+use Rattle.def_written.specs.Points.{point}
 use Rattle.def_written.specs.NewFaces.{dart_start, dart_end}
 use Rattle.def_written.specs.Edges.{Edge, on_arc, flat, steep}
 use Rattle.sum_laws.proofs.Counts.{count_below_times}
@@ -34,10 +36,12 @@ double (inside p i j) = inside p (2 * i) (2 * j)
 double_same : (a b : Point) → double a ≡ double b → a ≡ b
 double_same (node m) (node n) e = e
 double_same (along a k) (along b m) e =
-    let arc : a ≡ b = cc in let place : 2 * k ≡ 2 * m = cc in let same : k ≡ m = omega (arith, place) in λ t. along (arc t) (same t)
+    let arc : a ≡ b = cc in let place : 2 * k ≡ 2 * m = cc in let same : k ≡ m = omega (arith, place) in
+    λ t. along (arc t) (same t)
 double_same (inside p i j) (inside q k m) e =
     let patch : p ≡ q = cc in let c : 2 * i ≡ 2 * k = cc in let r : 2 * j ≡ 2 * m = cc in
-    let column : i ≡ k = omega (arith, c) in let row : j ≡ m = omega (arith, r) in λ t. inside (patch t) (column t) (row t)
+    let column : i ≡ k = omega (arith, c) in let row : j ≡ m = omega (arith, r) in
+    λ t. inside (patch t) (column t) (row t)
 double_same _ _ e = absurd cc
 
 -- The point in the middle of an edge of an arc, where the lengths are doubled.
@@ -63,7 +67,8 @@ module _ (l : Layout) (y : Lengths) where
   arc_double : (a k : ℕ) → arc_point l (scale 2 y) a (2 * k) ≡ double (arc_point l y a k)
   arc_double a k = elim (cases_eq k 0) [
     | inl e ↦ cond-true (2 * k == 0) _ _ (eq-eqb (2 * k) 0 (omega arith))
-        ∙ ap double (sym (cond-true (k == 0) (node (l.first a)) (cond (k == y a) (node (l.last a)) (along a k)) (eq-eqb k 0 e)))
+        ∙ ap double (sym (cond-true (k == 0) (node (l.first a)) (cond (k == y a) (node (l.last a)) (along a k))
+        (eq-eqb k 0 e)))
     | inr some ↦ cond-false (2 * k == 0) _ _ (ne_eqb (2 * k) 0 (λ z. some (omega arith)))
         ∙ elim (cases_eq k (y a)) [
           | inl e ↦ cond-true (2 * k == 2 * y a) _ _ (eq-eqb (2 * k) (2 * y a) (ap (λ n. 2 * n) e))
@@ -71,14 +76,16 @@ module _ (l : Layout) (y : Lengths) where
           | inr less ↦ cond-false (2 * k == 2 * y a) _ _ (ne_eqb (2 * k) (2 * y a) (λ z. less (omega (arith, z))))
               ∙ ap double (sym (cond-false (k == y a) (node (l.last a)) (along a k) (ne_eqb k (y a) less)))
         ]
-        ∙ ap double (sym (cond-false (k == 0) (node (l.first a)) (cond (k == y a) (node (l.last a)) (along a k)) (ne_eqb k 0 some)))
+        ∙ ap double (sym (cond-false (k == 0) (node (l.first a)) (cond (k == y a) (node (l.last a)) (along a k))
+        (ne_eqb k 0 some)))
   ]
 
   use_double : (u : SideArc) (o : ℕ) → o ≤ y u.arc → use_point l (scale 2 y) u (2 * o) ≡ double (use_point l y u o)
   use_double u o le = by_way u.arc u.forward le
     where
       by_way : (a : ℕ) (b : Bool) → o ≤ y a
-          → use_point l (scale 2 y) (record { arc = a; forward = b }) (2 * o) ≡ double (use_point l y (record { arc = a; forward = b }) o)
+          → use_point l (scale 2 y) (record { arc = a; forward = b }) (2 * o)
+          ≡ double (use_point l y (record { arc = a; forward = b }) o)
       by_way a true low = arc_double a o
       by_way a false low =
           let e : 2 * y a - 2 * o ≡ 2 * (y a - o) = omega (arith, low) in
@@ -91,7 +98,8 @@ module _ (l : Layout) (y : Lengths) where
       let e : 2 * t ≡ reach l (scale 2 y) p s (use_over l y p s t) + 2 * offset_at l y p s t =
       omega (arith, on.place, reach_scale 2 p s (use_over l y p s t)) in
       ap (side_point l (scale 2 y) p s) e
-      ∙ side_in l (scale 2 y) (slot p s (use_over l y p s t)) (2 * offset_at l y p s t) on.is_slot (omega (arith, on.inside))
+      ∙ side_in l (scale 2 y) (slot p s (use_over l y p s t)) (2 * offset_at l y p s t) on.is_slot
+      (omega (arith, on.inside))
       ∙ use_double (l.use_at p s (use_over l y p s t)) (offset_at l y p s t) (omega (arith, on.inside))
 
   side_odd : (p : ℕ) (s : Way) (t : ℕ) → p < l.patches → t < size l y p s
@@ -101,21 +109,28 @@ module _ (l : Layout) (y : Lengths) where
       let e : 2 * t + 1 ≡ reach l (scale 2 y) p s (use_over l y p s t) + (2 * offset_at l y p s t + 1) =
       omega (arith, on.place, reach_scale 2 p s (use_over l y p s t)) in
       ap (side_point l (scale 2 y) p s) e
-      ∙ side_in l (scale 2 y) (slot p s (use_over l y p s t)) (2 * offset_at l y p s t + 1) on.is_slot (omega (arith, on.inside))
-      ∙ use_inner l (scale 2 y) (l.use_at p s (use_over l y p s t)) (2 * offset_at l y p s t + 1) (omega arith) (omega (arith, on.inside))
-      ∙ by_way (l.use_at p s (use_over l y p s t)).arc (l.use_at p s (use_over l y p s t)).forward (offset_at l y p s t) on.inside
+      ∙ side_in l (scale 2 y) (slot p s (use_over l y p s t)) (2 * offset_at l y p s t + 1) on.is_slot
+      (omega (arith, on.inside))
+      ∙ use_inner l (scale 2 y) (l.use_at p s (use_over l y p s t)) (2 * offset_at l y p s t + 1) (omega arith)
+      (omega (arith, on.inside))
+      ∙ by_way (l.use_at p s (use_over l y p s t)).arc (l.use_at p s (use_over l y p s t)).forward (offset_at l y p s t)
+      on.inside
     where
-      by_way : (a : ℕ) (b : Bool) (o : ℕ) → o < y a → along a (cond b (2 * o + 1) (2 * y a - (2 * o + 1))) ≡ along a (2 * cond b o (y a - 1 - o) + 1)
+      by_way : (a : ℕ) (b : Bool) (o : ℕ) → o < y a → along a (cond b (2 * o + 1) (2 * y a - (2 * o + 1)))
+          ≡ along a (2 * cond b o (y a - 1 - o) + 1)
       by_way a true o inner = refl
-      by_way a false o inner = let e : 2 * y a - (2 * o + 1) ≡ 2 * (y a - 1 - o) + 1 = omega (arith, inner) in ap (along a) e
+      by_way a false o inner = let e : 2 * y a - (2 * o + 1) ≡ 2 * (y a - 1 - o) + 1 = omega (arith, inner) in
+          ap (along a) e
 
   middle_same : (p q : ℕ) (s r : Way) (t u : ℕ)
-      → middle (border_course l y p s t).edge ≡ middle (border_course l y q r u).edge → (border_course l y p s t).edge ≡ (border_course l y q r u).edge
+      → middle (border_course l y p s t).edge ≡ middle (border_course l y q r u).edge → (border_course l y p s t).edge
+      ≡ (border_course l y q r u).edge
   middle_same p q s r t u e =
       by_arcs (l.use_at p s (use_over l y p s t)).arc _ (l.use_at q r (use_over l y q r u)).arc _ e
     where
       by_arcs : (a k b m : ℕ) → along a (2 * k + 1) ≡ along b (2 * m + 1) → on_arc a k ≡ on_arc b m
-      by_arcs a k b m s = let arc : a ≡ b = cc in let place : 2 * k + 1 ≡ 2 * m + 1 = cc in let same : k ≡ m = omega (arith, place) in λ t. on_arc (arc t) (same t)
+      by_arcs a k b m s = let arc : a ≡ b = cc in let place : 2 * k + 1 ≡ 2 * m + 1 = cc in let same : k ≡ m =
+          omega (arith, place) in λ t. on_arc (arc t) (same t)
 
   module _ (laid : IsSurface l) (len : AreLengths l y) (simple : IsSimple l y) where
     z_len : AreLengths l (scale 2 y)
@@ -127,10 +142,19 @@ module _ (l : Layout) (y : Lengths) where
     no_shared_edge d e is_d is_e apart ends edges = by_ways (course_of l y d).ahead (course_of l y e).ahead refl refl
       where
         alike : (course_of l y e).ahead ≡ (course_of l y d).ahead → ⊥
-        alike ways = apart (course_once l y laid len d e is_d is_e (λ t. record { edge = sym edges t; ahead = sym ways t }))
+        alike ways = apart (course_once l y laid len d e is_d is_e (λ t. record {
+          edge = sym edges t;
+          ahead =
+              sym ways t;
+        }))
 
         turned : (course_of l y e).ahead ≡ not (course_of l y d).ahead → ⊥
-        turned ways = ends (across_ends l y laid len d e is_d (record { is_dart = is_e; edge = edges; turned = ways })).0
+        turned ways = ends (across_ends l y laid len d e is_d (record {
+          is_dart = is_e;
+          edge = edges;
+          turned =
+              ways;
+        })).0
 
         by_ways : (a b : Bool) → (course_of l y d).ahead ≡ a → (course_of l y e).ahead ≡ b → ⊥
         by_ways true true a b = alike (b ∙ sym a)
@@ -169,7 +193,8 @@ module _ (l : Layout) (y : Lengths) where
         odd e =
             let half : j ≡ 2 * (j / 2) + 1 = omega arith in
             let rest : high l (scale 2 y) p - j ≡ 2 * (high l y p - 1 - j / 2) + 1 = omega (arith, rows) in
-            let edges : (border_course l y p east (j / 2)).edge ≡ (border_course l y p west (high l y p - 1 - j / 2)).edge =
+            let edges : (border_course l y p east (j / 2)).edge
+            ≡ (border_course l y p west (high l y p - 1 - j / 2)).edge =
             middle_same p p east west (j / 2) (high l y p - 1 - j / 2)
             (sym (side_odd p east (j / 2) low (omega (arith, rows, len.upright p low)))
             ∙ ap (side_point l (scale 2 y) p east) (sym half) ∙ sym sides ∙ ap (side_point l (scale 2 y) p west) rest
@@ -179,7 +204,8 @@ module _ (l : Layout) (y : Lengths) where
             no_shared_edge (dart p 0 (j / 2) west) (dart p 0 (j / 2) east) (is west) (is east)
             (λ s. let w : west ≡ east = ap (λ (d : CellDart). d.way) s in cc)
             (λ s. ends_differ l y laid len simple (dart p 0 (j / 2) south) (is south) (sym s))
-            (ap (λ (c : Course). c.edge) (cond-true (1 == wide l y p) (border_course l y p east (j / 2)) _ (eq-eqb 1 (wide l y p) (sym one))) ∙ edges)
+            (ap (λ (c : Course). c.edge) (cond-true (1 == wide l y p) (border_course l y p east (j / 2)) _
+            (eq-eqb 1 (wide l y p) (sym one))) ∙ edges)
 
     upright_open : (p i : ℕ) → p < l.patches → high l (scale 2 y) p ≡ 2 → 0 < i → i < wide l (scale 2 y) p
         → point l (scale 2 y) p i 0 ≢ point l (scale 2 y) p i 2
@@ -198,7 +224,8 @@ module _ (l : Layout) (y : Lengths) where
         even e =
             let half : i ≡ 2 * (i / 2) = omega arith in
             let rest : wide l (scale 2 y) p - i ≡ 2 * (wide l y p - i / 2) = omega (arith, columns) in
-            let points : double (side_point l y p south (i / 2)) ≡ double (side_point l y p north (wide l y p - i / 2)) =
+            let points : double (side_point l y p south (i / 2))
+            ≡ double (side_point l y p north (wide l y p - i / 2)) =
             sym (side_double p south (i / 2) low (omega (arith, columns)))
             ∙ ap (side_point l (scale 2 y) p south) (sym half) ∙ sides ∙ ap (side_point l (scale 2 y) p north) rest
             ∙ side_double p north (wide l y p - i / 2) low (omega (arith, columns, len.across p low)) in
@@ -210,7 +237,8 @@ module _ (l : Layout) (y : Lengths) where
         odd e =
             let half : i ≡ 2 * (i / 2) + 1 = omega arith in
             let rest : wide l (scale 2 y) p - i ≡ 2 * (wide l y p - 1 - i / 2) + 1 = omega (arith, columns) in
-            let edges : (border_course l y p north (wide l y p - 1 - i / 2)).edge ≡ (border_course l y p south (i / 2)).edge =
+            let edges : (border_course l y p north (wide l y p - 1 - i / 2)).edge
+            ≡ (border_course l y p south (i / 2)).edge =
             middle_same p p north south (wide l y p - 1 - i / 2) (i / 2)
             (sym (side_odd p north (wide l y p - 1 - i / 2) low (omega (arith, columns, len.across p low)))
             ∙ ap (side_point l (scale 2 y) p north) (sym rest) ∙ sym sides ∙ ap (side_point l (scale 2 y) p south) half
@@ -220,7 +248,9 @@ module _ (l : Layout) (y : Lengths) where
             no_shared_edge (dart p (i / 2) 0 south) (dart p (i / 2) 0 north) (is south) (is north)
             (λ s. let w : south ≡ north = ap (λ (d : CellDart). d.way) s in cc)
             (λ s. ends_differ l y laid len simple (dart p (i / 2) 0 east) (is east) (sym s))
-            (ap (λ (c : Course). c.edge) (cond-true (1 == high l y p) (border_course l y p north (wide l y p - 1 - i / 2)) _ (eq-eqb 1 (high l y p) (sym one))) ∙ edges)
+            (ap (λ (c : Course). c.edge)
+            (cond-true (1 == high l y p) (border_course l y p north (wide l y p - 1 - i / 2)) _
+            (eq-eqb 1 (high l y p) (sym one))) ∙ edges)
 
     twice_open : IsOpen l (scale 2 y)
     twice_open = record {
@@ -251,7 +281,8 @@ module _ (l : Layout) (x : Lengths) (laid : IsSurface l) (len : AreLengths l x) 
           omega (arith, le, three (l.use_at p s 0).arc (laid.paved.arc_low (slot p s 0) first))
 
 -- Multiples of lengths that double no edge.
-pub simple_multiple : (l : Layout) (y : Lengths) → IsSurface l → AreLengths l y → IsSimple l y → (k : ℕ) → 0 < k → IsSimple l (scale k y)
+pub simple_multiple : (l : Layout) (y : Lengths) → IsSurface l → AreLengths l y → IsSimple l y → (k : ℕ) → 0 < k
+    → IsSimple l (scale k y)
 simple_multiple l y laid len simple zero some = absurd (omega arith)
 simple_multiple l y laid len simple (suc zero) some =
     let one : (a : ℕ) → y a ≡ 1 * y a = λ a. omega arith in subst (IsSimple l) (λ t a. one a t) simple

@@ -53,10 +53,12 @@ module _ (l : Layout) (x : Lengths) where
   arc_place : (a k : ℕ) → IsEdge l x (on_arc a k) → count_below x a + k < count_below x l.arcs
   arc_place a k is = place_low x l.arcs a k is.0 is.1
 
-  flat_low : (p i j : ℕ) → IsEdge l x (flat p i j) → count_below flats p + ((j - 1) * wide l x p + i) < count_below flats l.patches
+  flat_low : (p i j : ℕ) → IsEdge l x (flat p i j) → count_below flats p + ((j - 1) * wide l x p + i)
+      < count_below flats l.patches
   flat_low p i j is = place_low flats l.patches p ((j - 1) * wide l x p + i) is.0 (flat_place p i j is)
 
-  steep_low : (p i j : ℕ) → IsEdge l x (steep p i j) → count_below steeps p + (j * (wide l x p - 1) + (i - 1)) < count_below steeps l.patches
+  steep_low : (p i j : ℕ) → IsEdge l x (steep p i j) → count_below steeps p + (j * (wide l x p - 1) + (i - 1))
+      < count_below steeps l.patches
   steep_low p i j is = place_low steeps l.patches p (j * (wide l x p - 1) + (i - 1)) is.0 (steep_place p i j is)
 
   pub edge_low : (e : Edge) → IsEdge l x e → edge_number e < edge_total
@@ -66,7 +68,8 @@ module _ (l : Layout) (x : Lengths) where
 
   pub edge_same : (e f : Edge) → IsEdge l x e → IsEdge l x f → edge_number e ≡ edge_number f → e ≡ f
   edge_same (on_arc a k) (on_arc b m) is_e is_f same =
-      let s : (a ≡ b) × (k ≡ m) = place_same x l.arcs a k b m is_e.0 is_f.0 is_e.1 is_f.1 same in λ t. on_arc (s.0 t) (s.1 t)
+      let s : (a ≡ b) × (k ≡ m) = place_same x l.arcs a k b m is_e.0 is_f.0 is_e.1 is_f.1 same in
+      λ t. on_arc (s.0 t) (s.1 t)
   edge_same (flat p i j) (on_arc b m) is_e is_f same = absurd (omega (arith, arc_place b m is_f, same))
   edge_same (flat p i j) (flat q c d) is_e is_f same =
       let s : (p ≡ q) × ((j - 1) * wide l x p + i ≡ (d - 1) * wide l x q + c) =
@@ -77,7 +80,8 @@ module _ (l : Layout) (x : Lengths) where
       by_place : p ≡ q → (j - 1) * wide l x p + i ≡ (d - 1) * wide l x p + c → flat p i j ≡ flat q c d
       by_place patch place =
           let w : wide l x q ≡ wide l x p = ap (wide l x) (sym patch) in
-          let s : (j - 1 ≡ d - 1) × (i ≡ c) = same_from_place (j - 1) i (d - 1) c (wide l x p) is_e.1 (omega (arith, is_f.1, w)) place in
+          let s : (j - 1 ≡ d - 1) × (i ≡ c) =
+          same_from_place (j - 1) i (d - 1) c (wide l x p) is_e.1 (omega (arith, is_f.1, w)) place in
           let rows : j ≡ d = omega (arith, s.0, is_e.2, is_f.2) in
           λ t. flat (patch t) (s.1 t) (rows t)
   edge_same (flat p i j) (steep q c d) is_e is_f same = absurd (omega (arith, flat_low p i j is_e, same))
@@ -93,7 +97,8 @@ module _ (l : Layout) (x : Lengths) where
       by_place patch place =
           let w : wide l x q ≡ wide l x p = ap (wide l x) (sym patch) in
           let s : (j ≡ d) × (i - 1 ≡ c - 1) =
-          same_from_place j (i - 1) d (c - 1) (wide l x p - 1) (omega (arith, is_e.1, is_e.2)) (omega (arith, is_f.1, is_f.2, w)) place in
+          same_from_place j (i - 1) d (c - 1) (wide l x p - 1) (omega (arith, is_e.1, is_e.2))
+          (omega (arith, is_f.1, is_f.2, w)) place in
           let columns : i ≡ c = omega (arith, s.1, is_e.1, is_f.1) in
           λ t. steep (patch t) (columns t) (s.0 t)
   edge_same (on_arc a k) _ is_e is_f same = absurd (omega (arith, arc_place a k is_e, same))
@@ -110,50 +115,75 @@ module _ (l : Layout) (x : Lengths) where
     where
       on_arcs : n < count_below x l.arcs → (e : Edge) × IsEdge l x e × (edge_number e ≡ n)
       on_arcs less =
-          let h : IsInRun x l.arcs n (run_at (count_below x) l.arcs n) (n - count_below x (run_at (count_below x) l.arcs n)) = run_here x l.arcs n less in
-          (on_arc (run_at (count_below x) l.arcs n) (n - count_below x (run_at (count_below x) l.arcs n)), (h.low, h.inside), sym h.place)
+          let h : IsInRun x l.arcs n (run_at (count_below x) l.arcs n)
+          (n - count_below x (run_at (count_below x) l.arcs n)) = run_here x l.arcs n less in (
+            on_arc (run_at (count_below x) l.arcs n) (n - count_below x (run_at (count_below x) l.arcs n)),
+            (h.low, h.inside),
+            sym h.place,
+          )
 
-      by_flat : (m p o : ℕ) → n ≡ count_below x l.arcs + m → IsInRun flats l.patches m p o → (e : Edge) × IsEdge l x e × (edge_number e ≡ n)
+      by_flat : (m p o : ℕ) → n ≡ count_below x l.arcs + m → IsInRun flats l.patches m p o → (e : Edge) × IsEdge l x e
+          × (edge_number e ≡ n)
       by_flat m p o is h =
-          let r : (o % wide l x p < wide l x p) × (o / wide l x p < high l x p - 1) × (o / wide l x p * wide l x p + o % wide l x p ≡ o) =
+          let r : (o % wide l x p < wide l x p) × (o / wide l x p < high l x p - 1)
+          × (o / wide l x p * wide l x p + o % wide l x p ≡ o) =
           in_rows (wide l x p) (high l x p - 1) o h.inside in
           let row : o / wide l x p + 1 - 1 ≡ o / wide l x p = omega arith in
-          let place : (o / wide l x p + 1 - 1) * wide l x p ≡ o / wide l x p * wide l x p = ap (λ k. k * wide l x p) row in
-          (flat p (o % wide l x p) (o / wide l x p + 1), (h.low, r.0, omega arith, omega (arith, r.1)), omega (arith, is, h.place, r.2, place))
+          let place : (o / wide l x p + 1 - 1) * wide l x p ≡ o / wide l x p * wide l x p =
+          ap (λ k. k * wide l x p) row in (
+            flat p (o % wide l x p) (o / wide l x p + 1),
+            (h.low, r.0, omega arith, omega (arith, r.1)),
+            omega (arith, is, h.place, r.2, place),
+          )
 
-      on_flats : count_below x l.arcs ≤ n → n < count_below x l.arcs + count_below flats l.patches → (e : Edge) × IsEdge l x e × (edge_number e ≡ n)
+      on_flats : count_below x l.arcs ≤ n → n < count_below x l.arcs + count_below flats l.patches → (e : Edge)
+          × IsEdge l x e × (edge_number e ≡ n)
       on_flats more less =
           by_flat (n - count_below x l.arcs) (run_at (count_below flats) l.patches (n - count_below x l.arcs))
-          (n - count_below x l.arcs - count_below flats (run_at (count_below flats) l.patches (n - count_below x l.arcs)))
+          (n - count_below x l.arcs - count_below flats
+          (run_at (count_below flats) l.patches (n - count_below x l.arcs)))
           (omega (arith, more)) (run_here flats l.patches (n - count_below x l.arcs) (omega (arith, more, less)))
 
-      by_steep : (m p o : ℕ) → n ≡ count_below x l.arcs + count_below flats l.patches + m → IsInRun steeps l.patches m p o
+      by_steep : (m p o : ℕ) → n ≡ count_below x l.arcs + count_below flats l.patches + m
+          → IsInRun steeps l.patches m p o
           → (e : Edge) × IsEdge l x e × (edge_number e ≡ n)
       by_steep m p o is h =
-          let r : (o % (wide l x p - 1) < wide l x p - 1) × (o / (wide l x p - 1) < high l x p) × (o / (wide l x p - 1) * (wide l x p - 1) + o % (wide l x p - 1) ≡ o) =
+          let r : (o % (wide l x p - 1) < wide l x p - 1) × (o / (wide l x p - 1) < high l x p)
+          × (o / (wide l x p - 1) * (wide l x p - 1) + o % (wide l x p - 1) ≡ o) =
           in_rows (wide l x p - 1) (high l x p) o h.inside in
-          let column : o % (wide l x p - 1) + 1 - 1 ≡ o % (wide l x p - 1) = omega arith in
-          (steep p (o % (wide l x p - 1) + 1) (o / (wide l x p - 1)), (h.low, omega arith, omega (arith, r.0), r.1), omega (arith, is, h.place, r.2, column))
+          let column : o % (wide l x p - 1) + 1 - 1 ≡ o % (wide l x p - 1) = omega arith in (
+            steep p (o % (wide l x p - 1) + 1) (o / (wide l x p - 1)),
+            (h.low, omega arith, omega (arith, r.0), r.1),
+            omega (arith, is, h.place, r.2, column),
+          )
 
-      on_steeps : count_below x l.arcs + count_below flats l.patches ≤ n → (e : Edge) × IsEdge l x e × (edge_number e ≡ n)
+      on_steeps : count_below x l.arcs + count_below flats l.patches ≤ n → (e : Edge) × IsEdge l x e
+          × (edge_number e ≡ n)
       on_steeps most =
           by_steep (n - (count_below x l.arcs + count_below flats l.patches))
           (run_at (count_below steeps) l.patches (n - (count_below x l.arcs + count_below flats l.patches)))
           (n - (count_below x l.arcs + count_below flats l.patches)
-          - count_below steeps (run_at (count_below steeps) l.patches (n - (count_below x l.arcs + count_below flats l.patches))))
-          (omega (arith, most)) (run_here steeps l.patches (n - (count_below x l.arcs + count_below flats l.patches)) (omega (arith, most, low)))
+          - count_below steeps (run_at (count_below steeps) l.patches
+          (n - (count_below x l.arcs + count_below flats l.patches))))
+          (omega (arith, most)) (run_here steeps l.patches (n - (count_below x l.arcs + count_below flats l.patches))
+          (omega (arith, most, low)))
 
   -- Each number below that of the vertices is that of a point.
   pub point_onto : (n : ℕ) → n < vertices l x → (a : Point) × IsPoint l x a × (vertex_number l x a ≡ n)
   point_onto n low = elim (cases_lt n l.nodes) [
     | inl less ↦ (node n, less, refl)
-    | inr more ↦ elim (cases_lt n (l.nodes + before_arc x l.arcs)) [ inl less ↦ on_arcs more less | inr most ↦ on_patches most ]
+    | inr more ↦ elim (cases_lt n (l.nodes + before_arc x l.arcs)) [
+      | inl less ↦ on_arcs more less
+      | inr most ↦ on_patches most
+    ]
   ]
     where
-      by_arc : (m a o : ℕ) → n ≡ l.nodes + m → IsInRun (λ b. x b - 1) l.arcs m a o → (a : Point) × IsPoint l x a × (vertex_number l x a ≡ n)
+      by_arc : (m a o : ℕ) → n ≡ l.nodes + m → IsInRun (λ b. x b - 1) l.arcs m a o → (a : Point) × IsPoint l x a
+          × (vertex_number l x a ≡ n)
       by_arc m a o is h = (along a (o + 1), (h.low, omega arith, omega (arith, h.inside)), omega (arith, is, h.place))
 
-      on_arcs : l.nodes ≤ n → n < l.nodes + before_arc x l.arcs → (a : Point) × IsPoint l x a × (vertex_number l x a ≡ n)
+      on_arcs : l.nodes ≤ n → n < l.nodes + before_arc x l.arcs → (a : Point) × IsPoint l x a
+          × (vertex_number l x a ≡ n)
       on_arcs more less =
           by_arc (n - l.nodes) (run_at (count_below (λ b. x b - 1)) l.arcs (n - l.nodes))
           (n - l.nodes - count_below (λ b. x b - 1) (run_at (count_below (λ b. x b - 1)) l.arcs (n - l.nodes)))
@@ -164,10 +194,12 @@ module _ (l : Layout) (x : Lengths) where
       by_patch m p o is h =
           let less : o < (high l x p - 1) * (wide l x p - 1) =
           subst (λ k. o < k) (mul_comm (wide l x p - 1) (high l x p - 1)) h.inside in
-          let r : (o % (wide l x p - 1) < wide l x p - 1) × (o / (wide l x p - 1) < high l x p - 1) × (o / (wide l x p - 1) * (wide l x p - 1) + o % (wide l x p - 1) ≡ o) =
+          let r : (o % (wide l x p - 1) < wide l x p - 1) × (o / (wide l x p - 1) < high l x p - 1)
+          × (o / (wide l x p - 1) * (wide l x p - 1) + o % (wide l x p - 1) ≡ o) =
           in_rows (wide l x p - 1) (high l x p - 1) o less in
           let row : o / (wide l x p - 1) + 1 - 1 ≡ o / (wide l x p - 1) = omega arith in
-          let place : (o / (wide l x p - 1) + 1 - 1) * (wide l x p - 1) ≡ o / (wide l x p - 1) * (wide l x p - 1) = ap (λ k. k * (wide l x p - 1)) row in (
+          let place : (o / (wide l x p - 1) + 1 - 1) * (wide l x p - 1) ≡ o / (wide l x p - 1) * (wide l x p - 1) =
+          ap (λ k. k * (wide l x p - 1)) row in (
             inside p (o % (wide l x p - 1) + 1) (o / (wide l x p - 1) + 1),
             (h.low, omega arith, omega (arith, r.0), omega arith, omega (arith, r.1)),
             omega (arith, is, h.place, r.2, place),
@@ -178,5 +210,7 @@ module _ (l : Layout) (x : Lengths) where
           by_patch (n - (l.nodes + before_arc x l.arcs))
           (run_at (count_below (inner_points l x)) l.patches (n - (l.nodes + before_arc x l.arcs)))
           (n - (l.nodes + before_arc x l.arcs)
-          - count_below (inner_points l x) (run_at (count_below (inner_points l x)) l.patches (n - (l.nodes + before_arc x l.arcs))))
-          (omega (arith, most)) (run_here (inner_points l x) l.patches (n - (l.nodes + before_arc x l.arcs)) (omega (arith, most, low)))
+          - count_below (inner_points l x) (run_at (count_below (inner_points l x)) l.patches
+          (n - (l.nodes + before_arc x l.arcs))))
+          (omega (arith, most)) (run_here (inner_points l x) l.patches (n - (l.nodes + before_arc x l.arcs))
+          (omega (arith, most, low)))

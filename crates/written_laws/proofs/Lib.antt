@@ -28,4 +28,5 @@ pub mod NodeKinds
 pub mod Sided
 pub mod OldModel
 pub mod Shape
+pub mod Spacings
 pub mod Between

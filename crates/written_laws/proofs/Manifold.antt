@@ -1,10 +1,12 @@
 -- Where no edge is doubled, the new faces are a manifold.
-use Rattle.std.proofs.Common.{◌≡◌, ◌≢◌, ◌⊎◌, ℕ, zero, suc, ◌+◌, ◌-◌, ◌<◌, not, cond, refl, sym, ◌∙◌, ap, subst, inl, inr, arith}
+use Rattle.std.proofs.Common.{◌≡◌, ◌≢◌, ◌⊎◌, ℕ, zero, suc, ◌+◌, ◌-◌, ◌<◌, not, cond, refl, sym, ◌∙◌, ap, subst, inl}
+use Rattle.std.proofs.Common.{inr, arith}
 use Rattle.std.proofs.lemmas.Bool.{false≢true}
 use Rattle.def_mesh.specs.Faces.{corner}
 use Rattle.def_mesh.specs.Darts.{from_of, to_of}
 use Rattle.def_mesh.specs.Manifold.{IsManifold, IsRepeatFree, HasEdgesOnce}
-use Rattle.def_layout.specs.Layouts.{Way, south, east, north, west, side_after, side_before, Layout, Slot, AreReverse, use_of, slot_before}
+use Rattle.def_layout.specs.Layouts.{Way, south, east, north, west, side_after, side_before, Layout, Slot, AreReverse}
+use Rattle.def_layout.specs.Layouts.{use_of, slot_before}
 use Rattle.def_layout.specs.Surfaces.{IsSurface}
 use Rattle.def_layout.specs.Fans.{HasFans}
 use Rattle.def_layout.specs.Lengths.{Lengths, reach, size, AreLengths}
@@ -16,9 +18,11 @@ use Rattle.written_laws.proofs.Sides.{slot, first_is, last_is}
 use Rattle.written_laws.proofs.Rims.{corner_cell, rim_way, rim_patch}
 use Rattle.written_laws.proofs.Numbers.{number_same}
 use Rattle.written_laws.proofs.Borders.{from_is, at_low}
-use Rattle.written_laws.proofs.NewDarts.{turn, way_of, turn_way, dart_number, corner_is, cell_is, number_from, number_to, next_is, at_number, faces_long}
+use Rattle.written_laws.proofs.NewDarts.{turn, way_of, turn_way, dart_number, corner_is, cell_is, number_from}
+use Rattle.written_laws.proofs.NewDarts.{number_to, next_is, at_number, faces_long}
 use Rattle.written_laws.proofs.OneFan.{one_fan}
-use Rattle.written_laws.proofs.Courses.{Course, is_arc, inner_course, course_of, IsWithin, IsOnBorder, sees, border_is, course_is, course_from, course_to, inner_no_arc, course_once}
+use Rattle.written_laws.proofs.Courses.{Course, is_arc, inner_course, course_of, IsWithin, IsOnBorder, sees, border_is}
+use Rattle.written_laws.proofs.Courses.{course_is, course_from, course_to, inner_no_arc, course_once}
 use Rattle.written_laws.proofs.Simple.{IsSimple, one_course, reversed, ends_apart}
 
 -- Darts that follow each other round a cell inside a patch run along different edges.
@@ -41,27 +45,36 @@ module _ (l : Layout) (x : Lengths) (laid : IsSurface l) (len : AreLengths l x) 
   corner_slots d w v o k at_w at_v = (v_first, by_paths)
     where
       patches : v.patch ≡ w.patch
-      patches = sym (rim_patch l x laid.paved len v.patch v.side (reach l x v.patch v.side v.at + k)) ∙ ap (λ (e : CellDart). e.patch) (sym at_v.dart)
-          ∙ ap (λ (e : CellDart). e.patch) at_w.dart ∙ rim_patch l x laid.paved len w.patch w.side (reach l x w.patch w.side w.at + o)
+      patches = sym (rim_patch l x laid.paved len v.patch v.side (reach l x v.patch v.side v.at + k))
+          ∙ ap (λ (e : CellDart). e.patch) (sym at_v.dart)
+          ∙ ap (λ (e : CellDart). e.patch) at_w.dart ∙ rim_patch l x laid.paved len w.patch w.side
+          (reach l x w.patch w.side w.at + o)
 
       sides : v.side ≡ side_after w.side
-      sides = sym (rim_way l x laid.paved len v.patch v.side (reach l x v.patch v.side v.at + k)) ∙ ap (λ (e : CellDart). e.way) (sym at_v.dart)
-          ∙ ap (λ (e : CellDart). side_after e.way) at_w.dart ∙ ap side_after (rim_way l x laid.paved len w.patch w.side (reach l x w.patch w.side w.at + o))
+      sides = sym (rim_way l x laid.paved len v.patch v.side (reach l x v.patch v.side v.at + k))
+          ∙ ap (λ (e : CellDart). e.way) (sym at_v.dart)
+          ∙ ap (λ (e : CellDart). side_after e.way) at_w.dart
+          ∙ ap side_after (rim_way l x laid.paved len w.patch w.side (reach l x w.patch w.side w.at + o))
 
       same_rim : slot_dart l x v k ≡ dart_along l x w.patch (side_after w.side) (reach l x v.patch v.side v.at + k)
       same_rim = λ r. dart_along l x (patches r) (sides r) (reach l x v.patch v.side v.at + k)
 
-      columns : (slot_dart l x w o).i ≡ (dart_along l x w.patch (side_after w.side) (reach l x v.patch v.side v.at + k)).i
-      columns = ap (λ (e : CellDart). e.i) (sym at_w.dart) ∙ ap (λ (e : CellDart). e.i) at_v.dart ∙ ap (λ (e : CellDart). e.i) same_rim
+      columns : (slot_dart l x w o).i
+          ≡ (dart_along l x w.patch (side_after w.side) (reach l x v.patch v.side v.at + k)).i
+      columns = ap (λ (e : CellDart). e.i) (sym at_w.dart) ∙ ap (λ (e : CellDart). e.i) at_v.dart
+          ∙ ap (λ (e : CellDart). e.i) same_rim
 
       rows : (slot_dart l x w o).j ≡ (dart_along l x w.patch (side_after w.side) (reach l x v.patch v.side v.at + k)).j
-      rows = ap (λ (e : CellDart). e.j) (sym at_w.dart) ∙ ap (λ (e : CellDart). e.j) at_v.dart ∙ ap (λ (e : CellDart). e.j) same_rim
+      rows = ap (λ (e : CellDart). e.j) (sym at_w.dart) ∙ ap (λ (e : CellDart). e.j) at_v.dart
+          ∙ ap (λ (e : CellDart). e.j) same_rim
 
       v_less : reach l x v.patch v.side v.at + k < size l x w.patch (side_after w.side)
-      v_less = subst (λ (n : ℕ). reach l x v.patch v.side v.at + k < n) (λ r. size l x (patches r) (sides r)) (at_low l x laid.paved len v k at_v.is_slot at_v.low)
+      v_less = subst (λ (n : ℕ). reach l x v.patch v.side v.at + k < n) (λ r. size l x (patches r) (sides r))
+          (at_low l x laid.paved len v k at_v.is_slot at_v.low)
 
       both : (reach l x w.patch w.side w.at + o + 1 ≡ size l x w.patch w.side) × (reach l x v.patch v.side v.at + k ≡ 0)
-      both = corner_cell l x laid.paved len w.patch w.side (reach l x w.patch w.side w.at + o) (reach l x v.patch v.side v.at + k) at_w.is_slot.patch_low
+      both = corner_cell l x laid.paved len w.patch w.side (reach l x w.patch w.side w.at + o)
+          (reach l x v.patch v.side v.at + k) at_w.is_slot.patch_low
           (at_low l x laid.paved len w o at_w.is_slot at_w.low) v_less columns rows
 
       v_first : v.at ≡ 0
@@ -87,8 +100,10 @@ module _ (l : Layout) (x : Lengths) (laid : IsSurface l) (len : AreLengths l x) 
         is_next : IsDart l x (next d)
         is_next = next_is l x d is
 
-        turned : ((course_of l x (next d)).edge ≡ (course_of l x d).edge) × ((course_of l x (next d)).ahead ≡ not (course_of l x d).ahead)
-        turned = reversed l x simple (course_of l x d) (course_of l x (next d)) (course_is l x laid len d is) (course_is l x laid len (next d) is_next)
+        turned : ((course_of l x (next d)).edge ≡ (course_of l x d).edge)
+            × ((course_of l x (next d)).ahead ≡ not (course_of l x d).ahead)
+        turned = reversed l x simple (course_of l x d) (course_of l x (next d)) (course_is l x laid len d is)
+            (course_is l x laid len (next d) is_next)
             (sym (course_from l x laid len (next d) is_next) ∙ course_to l x laid len d is)
             (sym (course_to l x laid len (next d) is_next) ∙ sym same ∙ course_from l x laid len d is)
 
@@ -104,7 +119,11 @@ module _ (l : Layout) (x : Lengths) (laid : IsSurface l) (len : AreLengths l x) 
             ap (λ (g : Course). g.ahead) (sym (border_is l x laid len (next d) v k at_v)) ∙ turned.1
             ∙ ap (λ (g : Course). not g.ahead) (border_is l x laid len d w o at_w) in
             laid.no_fold v at_v.is_slot c.0
-            (subst (λ (u : Slot). AreReverse (use_of l u) (use_of l v)) (sym c.1) (record { arc = arcs; turned = ways }))
+            (subst (λ (u : Slot). AreReverse (use_of l u) (use_of l v)) (sym c.1) (record {
+              arc = arcs;
+              turned =
+                  ways;
+            }))
 
         by_sight : IsWithin l x d ⊎ ((w : Slot) × (o : ℕ) × IsOnBorder l x d w o)
             → IsWithin l x (next d) ⊎ ((w : Slot) × (o : ℕ) × IsOnBorder l x (next d) w o) → ⊥
@@ -112,34 +131,43 @@ module _ (l : Layout) (x : Lengths) (laid : IsSurface l) (len : AreLengths l x) 
             flat_or_steep d.patch d.i d.j d.way
             (ap (λ (g : Course). g.edge) (sym j.course) ∙ turned.0 ∙ ap (λ (g : Course). g.edge) i.course)
         by_sight (inl i) (inr b) =
-            false≢true (sym (inner_no_arc l x laid len d.patch d.i d.j d.way) ∙ ap (λ (g : Course). is_arc g.edge) (sym i.course)
-            ∙ ap is_arc (sym turned.0) ∙ ap (λ (g : Course). is_arc g.edge) (border_is l x laid len (next d) b.0 b.1 b.2))
+            false≢true (sym (inner_no_arc l x laid len d.patch d.i d.j d.way)
+            ∙ ap (λ (g : Course). is_arc g.edge) (sym i.course)
+            ∙ ap is_arc (sym turned.0)
+            ∙ ap (λ (g : Course). is_arc g.edge) (border_is l x laid len (next d) b.0 b.1 b.2))
         by_sight (inr a) (inl j) =
-            false≢true (sym (inner_no_arc l x laid len d.patch d.i d.j (side_after d.way)) ∙ ap (λ (g : Course). is_arc g.edge) (sym j.course)
+            false≢true (sym (inner_no_arc l x laid len d.patch d.i d.j (side_after d.way))
+            ∙ ap (λ (g : Course). is_arc g.edge) (sym j.course)
             ∙ ap is_arc turned.0 ∙ ap (λ (g : Course). is_arc g.edge) (border_is l x laid len d a.0 a.1 a.2))
         by_sight (inr a) (inr b) = by_corner a.0 b.0 a.1 b.1 a.2 b.2
 
     -- Points apart have numbers apart.
-    numbers_differ : (d e : CellDart) → IsDart l x d → IsDart l x e → dart_start l x d ≢ dart_start l x e → vertex_number l x (dart_start l x d) ≢ vertex_number l x (dart_start l x e)
+    numbers_differ : (d e : CellDart) → IsDart l x d → IsDart l x e → dart_start l x d ≢ dart_start l x e
+        → vertex_number l x (dart_start l x d) ≢ vertex_number l x (dart_start l x e)
     numbers_differ d e is_d is_e apart same =
-        apart (number_same l x (dart_start l x d) (dart_start l x e) (from_is l x laid len d is_d) (from_is l x laid len e is_e) same)
+        apart (number_same l x (dart_start l x d) (dart_start l x e) (from_is l x laid len d is_d)
+        (from_is l x laid len e is_e) same)
 
-    corners_differ : (f : ℕ) → f < face_count l x → (i j : ℕ) → i < j → j < 4 → cell_vertex l x f (way_of i) ≢ cell_vertex l x f (way_of j)
+    corners_differ : (f : ℕ) → f < face_count l x → (i j : ℕ) → i < j → j < 4
+        → cell_vertex l x f (way_of i) ≢ cell_vertex l x f (way_of j)
     corners_differ f low = at
       where
         is : (w : Way) → IsDart l x (dart_of l x f w)
         is w = cell_is l x laid len f w low
 
-        side : (w v : Way) → dart_start l x (dart_of l x f w) ≢ dart_start l x (dart_of l x f v) → cell_vertex l x f w ≢ cell_vertex l x f v
+        side : (w v : Way) → dart_start l x (dart_of l x f w) ≢ dart_start l x (dart_of l x f v)
+            → cell_vertex l x f w ≢ cell_vertex l x f v
         side w v apart = numbers_differ (dart_of l x f w) (dart_of l x f v) (is w) (is v) apart
 
         at : (i j : ℕ) → i < j → j < 4 → cell_vertex l x f (way_of i) ≢ cell_vertex l x f (way_of j)
         at zero (suc zero) less four = side south east (ends_differ (dart_of l x f south) (is south))
         at zero (suc (suc zero)) less four = side south north (opposite_differ (dart_of l x f south) (is south))
-        at zero (suc (suc (suc j))) less four = side south west (λ e. ends_differ (dart_of l x f west) (is west) (sym e))
+        at zero (suc (suc (suc j))) less four =
+            side south west (λ e. ends_differ (dart_of l x f west) (is west) (sym e))
         at (suc zero) (suc (suc zero)) less four = side east north (ends_differ (dart_of l x f east) (is east))
         at (suc zero) (suc (suc (suc j))) less four = side east west (opposite_differ (dart_of l x f east) (is east))
-        at (suc (suc zero)) (suc (suc (suc j))) less four = side north west (ends_differ (dart_of l x f north) (is north))
+        at (suc (suc zero)) (suc (suc (suc j))) less four =
+            side north west (ends_differ (dart_of l x f north) (is north))
         at _ _ less four = absurd (omega arith)
 
     pub repeat_free : IsRepeatFree (new_faces l x)
@@ -154,19 +182,23 @@ module _ (l : Layout) (x : Lengths) (laid : IsSurface l) (len : AreLengths l x) 
     pub edges_once : HasEdgesOnce (new_faces l x)
     edges_once d e d_low e_low same = by_darts (at_number l x laid len d d_low) (at_number l x laid len e e_low)
       where
-        by_darts : (c : CellDart) × IsDart l x c × (dart_number l x c ≡ d) → (c : CellDart) × IsDart l x c × (dart_number l x c ≡ e) → d ≡ e
+        by_darts : (c : CellDart) × IsDart l x c × (dart_number l x c ≡ d) → (c : CellDart) × IsDart l x c
+            × (dart_number l x c ≡ e) → d ≡ e
         by_darts a b =
             let starts : dart_start l x a.0 ≡ dart_start l x b.0 =
-            number_same l x (dart_start l x a.0) (dart_start l x b.0) (from_is l x laid len a.0 a.1) (from_is l x laid len b.0 b.1)
+            number_same l x (dart_start l x a.0) (dart_start l x b.0) (from_is l x laid len a.0 a.1)
+            (from_is l x laid len b.0 b.1)
             (sym (number_from l x a.0 a.1) ∙ ap (from_of (new_faces l x)) a.2 ∙ same.0
             ∙ ap (from_of (new_faces l x)) (sym b.2) ∙ number_from l x b.0 b.1) in
             let ends : dart_end l x a.0 ≡ dart_end l x b.0 =
             number_same l x (dart_end l x a.0) (dart_end l x b.0)
-            (from_is l x laid len (next a.0) (next_is l x a.0 a.1)) (from_is l x laid len (next b.0) (next_is l x b.0 b.1))
+            (from_is l x laid len (next a.0) (next_is l x a.0 a.1))
+            (from_is l x laid len (next b.0) (next_is l x b.0 b.1))
             (sym (number_to l x a.0 a.1) ∙ ap (to_of (new_faces l x)) a.2 ∙ same.1
             ∙ ap (to_of (new_faces l x)) (sym b.2) ∙ number_to l x b.0 b.1) in
             let one : course_of l x a.0 ≡ course_of l x b.0 =
-            one_course l x simple (course_of l x a.0) (course_of l x b.0) (course_is l x laid len a.0 a.1) (course_is l x laid len b.0 b.1)
+            one_course l x simple (course_of l x a.0) (course_of l x b.0) (course_is l x laid len a.0 a.1)
+            (course_is l x laid len b.0 b.1)
             (sym (course_from l x laid len a.0 a.1) ∙ starts ∙ course_from l x laid len b.0 b.1)
             (sym (course_to l x laid len a.0 a.1) ∙ ends ∙ course_to l x laid len b.0 b.1) in
             sym a.2 ∙ ap (dart_number l x) (course_once l x laid len a.0 b.0 a.1 b.1 one) ∙ b.2

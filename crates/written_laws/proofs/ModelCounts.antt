@@ -1,5 +1,6 @@
 -- How many vertices, edges and faces a model has, and Euler's number.
-use Rattle.std.proofs.Common.{◌≡◌, ◌≢◌, ◌⊎◌, ℕ, zero, suc, ◌+◌, ◌-◌, ◌*◌, ◌<◌, ◌≤◌, Bool, true, false, not, length, Option, Some, pos, ◌+ℤ◌, ◌-ℤ◌, refl, sym, ◌∙◌, ap, subst, inl, inr, arith}
+use Rattle.std.proofs.Common.{◌≡◌, ◌≢◌, ◌⊎◌, ℕ, zero, suc, ◌+◌, ◌-◌, ◌*◌, ◌<◌, ◌≤◌, Bool, true, false, not, length}
+use Rattle.std.proofs.Common.{Option, Some, pos, ◌+ℤ◌, ◌-ℤ◌, refl, sym, ◌∙◌, ap, subst, inl, inr, arith}
 use Rattle.std.proofs.lemmas.Int.{ints}
 use Rattle.std.proofs.lemmas.Bool.{cases_order, ltb-true, lt-ltb}
 use Rattle.def_math.specs.Counts.{count_below}
@@ -24,19 +25,29 @@ use Rattle.written_laws.proofs.NewDarts.{dart_number, dart_low, dart_same, at_nu
 use Rattle.written_laws.proofs.Courses.{course, course_of, course_is, course_once, IsAcross}
 use Rattle.written_laws.proofs.Across.{across_or_alone, IsAlone, alone_not_across}
 use Rattle.written_laws.proofs.EdgeDarts.{edge_dart}
-use Rattle.written_laws.proofs.EdgeNumbers.{flats, steeps, edge_number, edge_total, edge_low, edge_same, edge_onto, point_onto}
+use Rattle.written_laws.proofs.EdgeNumbers.{flats, steeps, edge_number, edge_total, edge_low, edge_same, edge_onto}
+use Rattle.written_laws.proofs.EdgeNumbers.{point_onto}
 use Rattle.written_laws.proofs.Models.{IsModel, used_dart, dart_used, point_dart}
 
 -- Counts whose terms have equal sums, but for one.
 count_sums : (f g h k : ℕ → ℕ) (n : ℕ) → ((p : ℕ) → p < n → f p + g p ≡ h p + k p + 1)
     → count_below f n + count_below g n ≡ count_below h n + count_below k n + n
 count_sums f g h k zero same = refl
-count_sums f g h k (suc n) same = omega (arith, count_sums f g h k n (λ p l. same p (omega arith)), same n (omega arith))
+count_sums f g h k (suc n) same = omega (
+  arith,
+  count_sums f g h k n (λ p l. same p (omega arith)),
+  same n (omega arith),
+)
 
 module _ (l : Layout) (x : Lengths) (laid : IsSurface l) (len : AreLengths l x) where
   -- The dart across is across the other way round.
   across_back : (d e : CellDart) → IsDart l x d → IsAcross l x laid len d e → IsAcross l x laid len e d
-  across_back d e is a = record { is_dart = is; edge = sym a.edge; turned = by_way (course_of l x d).ahead (course_of l x e).ahead a.turned }
+  across_back d e is a = record {
+    is_dart = is;
+    edge = sym a.edge;
+    turned =
+        by_way (course_of l x d).ahead (course_of l x e).ahead a.turned;
+  }
     where
       by_way : (b c : Bool) → c ≡ not b → b ≡ not c
       by_way true c s = ap not (sym s)
@@ -53,9 +64,12 @@ module _ (l : Layout) (x : Lengths) (laid : IsSurface l) (len : AreLengths l x) 
   sums : vertices l x + face_count l x + l.arcs ≡ edge_total l x + l.nodes + l.patches
   sums =
       let arcs : count_below (λ a. x a - 1) l.arcs + l.arcs ≡ count_below x l.arcs = arc_sum l.arcs (λ a low. low) in
-      let cells : before_patch l x l.patches + cells_before l x l.patches ≡ count_below (flats l x) l.patches + count_below (steeps l x) l.patches + l.patches =
-      count_sums (λ p. (wide l x p - 1) * (high l x p - 1)) (λ p. wide l x p * high l x p) (flats l x) (steeps l x) l.patches
-      (λ p low. rectangle (wide l x p) (high l x p) (wide_some l x laid.paved len p low) (high_some l x laid.paved len p low)) in
+      let cells : before_patch l x l.patches + cells_before l x l.patches ≡ count_below (flats l x) l.patches
+      + count_below (steeps l x) l.patches + l.patches =
+      count_sums (λ p. (wide l x p - 1) * (high l x p - 1)) (λ p. wide l x p * high l x p) (flats l x) (steeps l x)
+      l.patches
+      (λ p low. rectangle (wide l x p) (high l x p) (wide_some l x laid.paved len p low)
+      (high_some l x laid.paved len p low)) in
       omega (arith, arcs, cells)
     where
       arc_sum : (n : ℕ) → ((a : ℕ) → a < n → a < l.arcs) → count_below (λ a. x a - 1) n + n ≡ count_below x n
@@ -76,7 +90,8 @@ module _ (l : Layout) (x : Lengths) (laid : IsSurface l) (len : AreLengths l x) 
         let d : (d : CellDart) × IsDart l x d × (cell d ≡ k.0) = model.onto k.0 k.1 in
         (d.0, d.1, ap (from_of F) d.2 ∙ k.2)
 
-    number_dart : (n : ℕ) → n < vertices l x → (d : CellDart) × IsDart l x d × (vertex_number l x (dart_start l x d) ≡ n)
+    number_dart : (n : ℕ) → n < vertices l x → (d : CellDart) × IsDart l x d
+        × (vertex_number l x (dart_start l x d) ≡ n)
     number_dart n low =
         let a : (a : Point) × IsPoint l x a × (vertex_number l x a ≡ n) = point_onto l x n low in
         let d : (d : CellDart) × IsDart l x d × (dart_start l x d ≡ a.0) = point_dart l x laid len a.0 a.1 in
@@ -90,23 +105,33 @@ module _ (l : Layout) (x : Lengths) (laid : IsSurface l) (len : AreLengths l x) 
       where
         most : passing (is_used F) (vertex_count F) ≤ passing (λ k. true) (vertices l x)
         most = passing_le (is_used F) (λ k. true) (vertex_count F) (vertices l x)
-            (λ v low used. let d : (d : CellDart) × IsDart l x d × (from_of F (cell d) ≡ v) = vertex_dart v used in
-            (vertex_number l x (dart_start l x d.0), number_low l x (dart_start l x d.0) (from_is l x laid len d.0 d.1), refl))
+            (λ v low used. let d : (d : CellDart) × IsDart l x d × (from_of F (cell d) ≡ v) = vertex_dart v used in (
+              vertex_number l x (dart_start l x d.0),
+              number_low l x (dart_start l x d.0) (from_is l x laid len d.0 d.1),
+              refl,
+            ))
             (λ v w a used b too same. by_darts v w (vertex_dart v used) (vertex_dart w too) same)
           where
-            by_darts : (v w : ℕ) → (d : (d : CellDart) × IsDart l x d × (from_of F (cell d) ≡ v)) → (e : (d : CellDart) × IsDart l x d × (from_of F (cell d) ≡ w))
+            by_darts : (v w : ℕ) → (d : (d : CellDart) × IsDart l x d × (from_of F (cell d) ≡ v))
+                → (e : (d : CellDart) × IsDart l x d × (from_of F (cell d) ≡ w))
                 → vertex_number l x (dart_start l x d.0) ≡ vertex_number l x (dart_start l x e.0) → v ≡ w
             by_darts v w d e same =
                 sym d.2 ∙ model.alike d.0 e.0 d.1 e.1
-                (number_same l x (dart_start l x d.0) (dart_start l x e.0) (from_is l x laid len d.0 d.1) (from_is l x laid len e.0 e.1) same) ∙ e.2
+                (number_same l x (dart_start l x d.0) (dart_start l x e.0) (from_is l x laid len d.0 d.1)
+                (from_is l x laid len e.0 e.1) same) ∙ e.2
 
         least : passing (λ k. true) (vertices l x) ≤ passing (is_used F) (vertex_count F)
         least = passing_le (λ k. true) (is_used F) (vertices l x) (vertex_count F)
-            (λ n low on. let d : (d : CellDart) × IsDart l x d × (vertex_number l x (dart_start l x d) ≡ n) = number_dart n low in
-            (from_of F (cell d.0), all_below F (cell d.0) (model.low d.0 d.1), dart_used F (cell d.0) model.quads (model.low d.0 d.1)))
+            (λ n low on. let d : (d : CellDart) × IsDart l x d × (vertex_number l x (dart_start l x d) ≡ n) =
+            number_dart n low in (
+              from_of F (cell d.0),
+              all_below F (cell d.0) (model.low d.0 d.1),
+              dart_used F (cell d.0) model.quads (model.low d.0 d.1),
+            ))
             (λ n m a on b too same. by_darts n m (number_dart n a) (number_dart m b) same)
           where
-            by_darts : (n m : ℕ) → (d : (d : CellDart) × IsDart l x d × (vertex_number l x (dart_start l x d) ≡ n)) → (e : (d : CellDart) × IsDart l x d × (vertex_number l x (dart_start l x d) ≡ m))
+            by_darts : (n m : ℕ) → (d : (d : CellDart) × IsDart l x d × (vertex_number l x (dart_start l x d) ≡ n))
+                → (e : (d : CellDart) × IsDart l x d × (vertex_number l x (dart_start l x d) ≡ m))
                 → from_of F (cell d.0) ≡ from_of F (cell e.0) → n ≡ m
             by_darts n m d e same = sym d.2 ∙ ap (vertex_number l x) (model.apart d.0 e.0 d.1 e.1 same) ∙ e.2
 
@@ -121,20 +146,29 @@ module _ (l : Layout) (x : Lengths) (laid : IsSurface l) (len : AreLengths l x) 
     lesser_less k t n is on = ltb-true k n (ap (is_lesser k) (sym is) ∙ on)
 
     lesser_dart : (e : Edge) → IsEdge l x e → (d : CellDart) × IsDart l x d × IsLesser d × ((course_of l x d).edge ≡ e)
-    lesser_dart e is = by_dart (edge_dart l x laid len e is).0 (edge_dart l x laid len e is).1 (edge_dart l x laid len e is).2
+    lesser_dart e is = by_dart (edge_dart l x laid len e is).0 (edge_dart l x laid len e is).1
+        (edge_dart l x laid len e is).2
       where
-        by_dart : (d : CellDart) → IsDart l x d → (course_of l x d).edge ≡ e → (d : CellDart) × IsDart l x d × IsLesser d × ((course_of l x d).edge ≡ e)
+        by_dart : (d : CellDart) → IsDart l x d → (course_of l x d).edge ≡ e → (d : CellDart) × IsDart l x d
+            × IsLesser d × ((course_of l x d).edge ≡ e)
         by_dart d is_d edge = by_case (across_or_alone l x laid len d is_d)
           where
-            by_order : (c : CellDart) → IsAcross l x laid len d c → (d : CellDart) × IsDart l x d × IsLesser d × ((course_of l x d).edge ≡ e)
+            by_order : (c : CellDart) → IsAcross l x laid len d c → (d : CellDart) × IsDart l x d × IsLesser d
+                × ((course_of l x d).edge ≡ e)
             by_order c a = elim (cases_order (cell d) (cell c)) [
               | inl s ↦ absurd (no_self d (subst (IsAcross l x laid len d) (sym (model.same d c is_d a.is_dart s)) a))
               | inr o ↦ elim o [
-                | inl less ↦ (d, is_d, lesser_by (cell d) (twin_of F (cell d)) (cell c) (model.across d c is_d a) less, edge)
+                | inl less ↦ (
+                  d,
+                  is_d,
+                  lesser_by (cell d) (twin_of F (cell d)) (cell c) (model.across d c is_d a) less,
+                  edge,
+                )
                 | inr more ↦ (
                   c,
                   a.is_dart,
-                  lesser_by (cell c) (twin_of F (cell c)) (cell d) (model.across c d a.is_dart (across_back d c is_d a)) more,
+                  lesser_by (cell c) (twin_of F (cell c)) (cell d) (model.across c d a.is_dart (across_back d c is_d a))
+                      more,
                   a.edge ∙ edge,
                 )
               ]
@@ -143,11 +177,17 @@ module _ (l : Layout) (x : Lengths) (laid : IsSurface l) (len : AreLengths l x) 
             by_case : ((c : CellDart) × IsAcross l x laid len d c) ⊎ ((w : Slot) × (o : ℕ) × IsAlone l x laid len d w o)
                 → (d : CellDart) × IsDart l x d × IsLesser d × ((course_of l x d).edge ≡ e)
             by_case (inl a) = by_order a.0 a.1
-            by_case (inr a) =
-                (d, is_d, ap (is_lesser (cell d)) (model.alone d is_d (λ c. alone_not_across l x laid len d c a.0 a.1 a.2)), edge)
+            by_case (inr a) = (
+              d,
+              is_d,
+              ap (is_lesser (cell d))
+                  (model.alone d is_d (λ c. alone_not_across l x laid len d c a.0 a.1 a.2)),
+              edge,
+            )
 
     -- Lesser darts of one edge are one.
-    lesser_once : (d e : CellDart) → IsDart l x d → IsDart l x e → IsLesser d → IsLesser e → (course_of l x d).edge ≡ (course_of l x e).edge → d ≡ e
+    lesser_once : (d e : CellDart) → IsDart l x d → IsDart l x e → IsLesser d → IsLesser e → (course_of l x d).edge
+        ≡ (course_of l x e).edge → d ≡ e
     lesser_once d e is_d is_e d_less e_less edges = by_ways (course_of l x d).ahead (course_of l x e).ahead refl refl
       where
         alike : (course_of l x d).ahead ≡ (course_of l x e).ahead → d ≡ e
@@ -156,8 +196,11 @@ module _ (l : Layout) (x : Lengths) (laid : IsSurface l) (len : AreLengths l x) 
         turned : (course_of l x e).ahead ≡ not (course_of l x d).ahead → d ≡ e
         turned ways =
             let a : IsAcross l x laid len d e = record { is_dart = is_e; edge = sym edges; turned = ways } in
-            let one : cell d < cell e = lesser_less (cell d) (twin_of F (cell d)) (cell e) (model.across d e is_d a) d_less in
-            let other : cell e < cell d = lesser_less (cell e) (twin_of F (cell e)) (cell d) (model.across e d is_e (across_back d e is_d a)) e_less in
+            let one : cell d < cell e = lesser_less (cell d) (twin_of F (cell d)) (cell e) (model.across d e is_d a)
+            d_less in
+            let other : cell e < cell d =
+            lesser_less (cell e) (twin_of F (cell e)) (cell d) (model.across e d is_e (across_back d e is_d a))
+            e_less in
             absurd (omega (arith, one, other))
 
         by_ways : (a b : Bool) → (course_of l x d).ahead ≡ a → (course_of l x e).ahead ≡ b → d ≡ e
@@ -166,7 +209,8 @@ module _ (l : Layout) (x : Lengths) (laid : IsSurface l) (len : AreLengths l x) 
         by_ways true false a b = turned (b ∙ ap not (sym a))
         by_ways false true a b = turned (b ∙ ap not (sym a))
 
-    number_edge : (n : ℕ) → n < edge_total l x → (d : CellDart) × IsDart l x d × IsLesser d × (edge_number l x (course_of l x d).edge ≡ n)
+    number_edge : (n : ℕ) → n < edge_total l x → (d : CellDart) × IsDart l x d × IsLesser d
+        × (edge_number l x (course_of l x d).edge ≡ n)
     number_edge n low =
         let e : (e : Edge) × IsEdge l x e × (edge_number l x e ≡ n) = edge_onto l x n low in
         let d : (d : CellDart) × IsDart l x d × IsLesser d × ((course_of l x d).edge ≡ e.0) = lesser_dart e.0 e.1 in
@@ -174,33 +218,44 @@ module _ (l : Layout) (x : Lengths) (laid : IsSurface l) (len : AreLengths l x) 
 
     pub edges_are : edge_count F ≡ edge_total l x
     edges_are =
-        let long : edge_count F ≡ passing (λ d. is_lesser d (twin_of F d)) (darts F) = filter_long (λ d. is_lesser d (twin_of F d)) (darts F) in
+        let long : edge_count F ≡ passing (λ d. is_lesser d (twin_of F d)) (darts F) =
+        filter_long (λ d. is_lesser d (twin_of F d)) (darts F) in
         let all : passing (λ k. true) (edge_total l x) ≡ edge_total l x = passing_all (edge_total l x) in
         omega (arith, long, all, most, least)
       where
         most : passing (λ d. is_lesser d (twin_of F d)) (darts F) ≤ passing (λ k. true) (edge_total l x)
         most = passing_le (λ d. is_lesser d (twin_of F d)) (λ k. true) (darts F) (edge_total l x)
-            (λ k low less. let d : (d : CellDart) × IsDart l x d × (cell d ≡ k) = model.onto k low in
-            (edge_number l x (course_of l x d.0).edge, edge_low l x (course_of l x d.0).edge (course_is l x laid len d.0 d.1), refl))
+            (λ k low less. let d : (d : CellDart) × IsDart l x d × (cell d ≡ k) = model.onto k low in (
+              edge_number l x (course_of l x d.0).edge,
+              edge_low l x (course_of l x d.0).edge (course_is l x laid len d.0 d.1),
+              refl,
+            ))
             (λ k m a less b too same. by_darts k m less too (model.onto k a) (model.onto m b) same)
           where
             by_darts : (k m : ℕ) → is_lesser k (twin_of F k) ≡ true → is_lesser m (twin_of F m) ≡ true
-                → (d : (d : CellDart) × IsDart l x d × (cell d ≡ k)) → (e : (d : CellDart) × IsDart l x d × (cell d ≡ m))
+                → (d : (d : CellDart) × IsDart l x d × (cell d ≡ k))
+                → (e : (d : CellDart) × IsDart l x d × (cell d ≡ m))
                 → edge_number l x (course_of l x d.0).edge ≡ edge_number l x (course_of l x e.0).edge → k ≡ m
             by_darts k m less too d e same =
                 sym d.2 ∙ ap cell (lesser_once d.0 e.0 d.1 e.1
-                (subst (λ (j : ℕ). is_lesser j (twin_of F j) ≡ true) (sym d.2) less) (subst (λ (j : ℕ). is_lesser j (twin_of F j) ≡ true) (sym e.2) too)
-                (edge_same l x (course_of l x d.0).edge (course_of l x e.0).edge (course_is l x laid len d.0 d.1) (course_is l x laid len e.0 e.1) same)) ∙ e.2
+                (subst (λ (j : ℕ). is_lesser j (twin_of F j) ≡ true) (sym d.2) less)
+                (subst (λ (j : ℕ). is_lesser j (twin_of F j) ≡ true) (sym e.2) too)
+                (edge_same l x (course_of l x d.0).edge (course_of l x e.0).edge (course_is l x laid len d.0 d.1)
+                (course_is l x laid len e.0 e.1) same)) ∙ e.2
 
         least : passing (λ k. true) (edge_total l x) ≤ passing (λ d. is_lesser d (twin_of F d)) (darts F)
         least = passing_le (λ k. true) (λ d. is_lesser d (twin_of F d)) (edge_total l x) (darts F)
-            (λ n low on. let d : (d : CellDart) × IsDart l x d × IsLesser d × (edge_number l x (course_of l x d).edge ≡ n) = number_edge n low in
+            (λ n low on. let d : (d : CellDart) × IsDart l x d × IsLesser d
+            × (edge_number l x (course_of l x d).edge ≡ n) = number_edge n low in
             (cell d.0, model.low d.0 d.1, d.2))
             (λ n m a on b too same. by_darts n m (number_edge n a) (number_edge m b) same)
           where
-            by_darts : (n m : ℕ) → (d : (d : CellDart) × IsDart l x d × IsLesser d × (edge_number l x (course_of l x d).edge ≡ n))
-                → (e : (d : CellDart) × IsDart l x d × IsLesser d × (edge_number l x (course_of l x d).edge ≡ m)) → cell d.0 ≡ cell e.0 → n ≡ m
-            by_darts n m d e same = sym d.3 ∙ ap (λ (c : CellDart). edge_number l x (course_of l x c).edge) (model.same d.0 e.0 d.1 e.1 same) ∙ e.3
+            by_darts : (n m : ℕ) → (d : (d : CellDart) × IsDart l x d × IsLesser d
+                × (edge_number l x (course_of l x d).edge ≡ n))
+                → (e : (d : CellDart) × IsDart l x d × IsLesser d × (edge_number l x (course_of l x d).edge ≡ m))
+                → cell d.0 ≡ cell e.0 → n ≡ m
+            by_darts n m d e same = sym d.3 ∙ ap (λ (c : CellDart). edge_number l x (course_of l x c).edge)
+                (model.same d.0 e.0 d.1 e.1 same) ∙ e.3
 
     pub faces_are : length F ≡ face_count l x
     faces_are =
@@ -216,15 +271,21 @@ module _ (l : Layout) (x : Lengths) (laid : IsSurface l) (len : AreLengths l x) 
 
         most : passing (λ k. true) (darts F) ≤ passing (λ k. true) (4 * face_count l x)
         most = passing_le (λ k. true) (λ k. true) (darts F) (4 * face_count l x)
-            (λ k low on. (dart_number l x (model.onto k low).0, number_of (model.onto k low).0 (model.onto k low).1, refl))
+            (λ k low on. (
+              dart_number l x (model.onto k low).0,
+              number_of (model.onto k low).0 (model.onto k low).1,
+              refl,
+            ))
             (λ k m a on b too same. sym (model.onto k a).2
-            ∙ ap cell (dart_same l x (model.onto k a).0 (model.onto m b).0 (model.onto k a).1 (model.onto m b).1 same) ∙ (model.onto m b).2)
+            ∙ ap cell (dart_same l x (model.onto k a).0 (model.onto m b).0 (model.onto k a).1 (model.onto m b).1 same)
+            ∙ (model.onto m b).2)
 
         least : passing (λ k. true) (4 * face_count l x) ≤ passing (λ k. true) (darts F)
         least = passing_le (λ k. true) (λ k. true) (4 * face_count l x) (darts F)
             (λ n low on. (cell (dart_by n low).0, model.low (dart_by n low).0 (dart_by n low).1, refl))
             (λ n m a on b too same. sym (dart_by n a).2
-            ∙ ap (dart_number l x) (model.same (dart_by n a).0 (dart_by m b).0 (dart_by n a).1 (dart_by m b).1 same) ∙ (dart_by m b).2)
+            ∙ ap (dart_number l x) (model.same (dart_by n a).0 (dart_by m b).0 (dart_by n a).1 (dart_by m b).1 same)
+            ∙ (dart_by m b).2)
 
     -- Euler's number is that of nodes, arcs and patches.
     pub euler_is : euler F ≡ (pos l.nodes -ℤ pos l.arcs) +ℤ pos l.patches

@@ -1,5 +1,6 @@
 -- Lists of faces whose darts are those of the cells of a layout: the new faces, and the old ones at the old lengths.
-use Rattle.std.proofs.Common.{◌≡◌, ◌⊎◌, ℕ, ◌+◌, ◌*◌, ◌/◌, ◌%◌, ◌<◌, true, [], length, get_or, Some, None, refl, sym, ◌∙◌, ap, subst, inl, inr, arith}
+use Rattle.std.proofs.Common.{◌≡◌, ◌⊎◌, ℕ, ◌+◌, ◌*◌, ◌/◌, ◌%◌, ◌<◌, true, [], length, get_or, Some, None, refl, sym}
+use Rattle.std.proofs.Common.{◌∙◌, ap, subst, inl, inr, arith}
 use Rattle.std.specs.Prelude.{◌==◌}
 use Rattle.std.specs.List.{list_any, Any}
 use Rattle.std.proofs.lemmas.Bool.{eqb-true, eq-eqb}
@@ -21,21 +22,25 @@ use Rattle.written_laws.proofs.Sides.{use_begins, arc_inner, use_some}
 use Rattle.written_laws.proofs.Grid.{point_inside}
 use Rattle.written_laws.proofs.Numbers.{number_same}
 use Rattle.written_laws.proofs.Borders.{at_is, at_from, from_is}
-use Rattle.written_laws.proofs.NewDarts.{dart_number, dart_low, dart_same, at_number, next_number, number_from, faces_long}
+use Rattle.written_laws.proofs.NewDarts.{dart_number, dart_low, dart_same, at_number, next_number, number_from}
+use Rattle.written_laws.proofs.NewDarts.{faces_long}
 use Rattle.written_laws.proofs.Courses.{IsAcross}
 use Rattle.written_laws.proofs.Simple.{IsSimple}
 use Rattle.written_laws.proofs.Across.{across_or_alone, across_twin, alone_no_twin, IsAlone}
 
 -- Dart `cell d` is that of d. Darts leave one vertex where those of the cells leave one point, and have as twin that of
 -- the dart across.
-pub record IsModel (F : Faces) (l : Layout) (x : Lengths) (laid : IsSurface l) (len : AreLengths l x) (cell : CellDart → ℕ) : Type 0 where
+pub record IsModel (F : Faces) (l : Layout) (x : Lengths) (laid : IsSurface l) (len : AreLengths l x) (cell : CellDart
+    → ℕ) : Type 0 where
   pub quads : (f : ℕ) → f < length F → length (face_at F f) ≡ 4
   pub low : (d : CellDart) → IsDart l x d → cell d < darts F
   pub same : (d e : CellDart) → IsDart l x d → IsDart l x e → cell d ≡ cell e → d ≡ e
   pub onto : (k : ℕ) → k < darts F → (d : CellDart) × IsDart l x d × (cell d ≡ k)
   pub turned : (d : CellDart) → IsDart l x d → cell (next d) ≡ next_of (cell d)
-  pub alike : (d e : CellDart) → IsDart l x d → IsDart l x e → dart_start l x d ≡ dart_start l x e → from_of F (cell d) ≡ from_of F (cell e)
-  pub apart : (d e : CellDart) → IsDart l x d → IsDart l x e → from_of F (cell d) ≡ from_of F (cell e) → dart_start l x d ≡ dart_start l x e
+  pub alike : (d e : CellDart) → IsDart l x d → IsDart l x e → dart_start l x d ≡ dart_start l x e → from_of F (cell d)
+      ≡ from_of F (cell e)
+  pub apart : (d e : CellDart) → IsDart l x d → IsDart l x e → from_of F (cell d) ≡ from_of F (cell e)
+      → dart_start l x d ≡ dart_start l x e
   pub across : (d e : CellDart) → IsDart l x d → IsAcross l x laid len d e → twin_of F (cell d) ≡ Some (cell e)
   pub alone : (d : CellDart) → IsDart l x d → ((e : CellDart) → ¬ IsAcross l x laid len d e) → twin_of F (cell d) ≡ None
 
@@ -44,7 +49,8 @@ pub used_dart : (F : Faces) (v : ℕ) → ((f : ℕ) → f < length F → length
     → (d : ℕ) × (d < darts F) × (from_of F d ≡ v)
 used_dart F v quads used = by_face (Any-from_list_any (λ face. list_any (λ u. u == v) face) F used)
   where
-    by_corner : (f : ℕ) → f < length F → Any (λ u. (u == v) ≡ true) (get_or F f []) → (d : ℕ) × (d < darts F) × (from_of F d ≡ v)
+    by_corner : (f : ℕ) → f < length F → Any (λ u. (u == v) ≡ true) (get_or F f []) → (d : ℕ) × (d < darts F)
+        × (from_of F d ≡ v)
     by_corner f low (i, u, m, is, t) =
         let four : length (get_or F f []) ≡ 4 = quads f low in
         let face : (4 * f + i) / 4 ≡ f = omega arith in
@@ -65,7 +71,8 @@ pub dart_used : (F : Faces) (d : ℕ) → ((f : ℕ) → f < length F → length
 dart_used F d quads low =
     let f_low : d / 4 < length F = omega arith in
     list_any_at (λ face. list_any (λ u. u == from_of F d) face) F (d / 4) [] f_low
-    (list_any_at (λ u. u == from_of F d) (face_at F (d / 4)) (d % 4) 0 (omega (arith, quads (d / 4) f_low)) (eq-eqb (from_of F d) (from_of F d) refl))
+    (list_any_at (λ u. u == from_of F d) (face_at F (d / 4)) (d % 4) 0 (omega (arith, quads (d / 4) f_low))
+    (eq-eqb (from_of F d) (from_of F d) refl))
 
 module _ (l : Layout) (x : Lengths) (laid : IsSurface l) (len : AreLengths l x) where
   -- Each point is left by a dart.
@@ -85,8 +92,11 @@ module _ (l : Layout) (x : Lengths) (laid : IsSurface l) (len : AreLengths l x) 
         at_is l x laid.paved len f.0 k f.1 less,
         at_from l x laid len f.0 k f.1 less ∙ ap (λ (u : SideArc). use_point l x u k) f.2 ∙ arc_inner l x a k is.1 is.2,
       )
-  point_dart (inside p i j) is =
-      (dart p i j south, record { patch_low = is.0; i_low = is.2; j_low = is.4 }, point_inside l x laid len p i j is.1 is.2 is.3 is.4)
+  point_dart (inside p i j) is = (
+    dart p i j south,
+    record { patch_low = is.0; i_low = is.2; j_low = is.4 },
+    point_inside l x laid len p i j is.1 is.2 is.3 is.4,
+  )
 
   -- The new faces are a model.
   pub new_quads : (f : ℕ) → f < length (new_faces l x) → length (face_at (new_faces l x) f) ≡ 4
@@ -102,13 +112,15 @@ module _ (l : Layout) (x : Lengths) (laid : IsSurface l) (len : AreLengths l x) 
     onto = at_number l x laid len;
     turned = λ d is. sym (next_number l x d);
     alike = λ d e is_d is_e s. number_from l x d is_d ∙ ap (vertex_number l x) s ∙ sym (number_from l x e is_e);
-    apart = λ d e is_d is_e s. number_same l x (dart_start l x d) (dart_start l x e) (from_is l x laid len d is_d) (from_is l x laid len e is_e)
+    apart = λ d e is_d is_e s. number_same l x (dart_start l x d) (dart_start l x e) (from_is l x laid len d is_d)
+        (from_is l x laid len e is_e)
         (sym (number_from l x d is_d) ∙ s ∙ number_from l x e is_e);
     across = across_twin l x laid len simple;
     alone = alone;
   }
     where
-      alone : (d : CellDart) → IsDart l x d → ((e : CellDart) → ¬ IsAcross l x laid len d e) → twin_of (new_faces l x) (dart_number l x d) ≡ None
+      alone : (d : CellDart) → IsDart l x d → ((e : CellDart) → ¬ IsAcross l x laid len d e)
+          → twin_of (new_faces l x) (dart_number l x d) ≡ None
       alone d is none = by_case (across_or_alone l x laid len d is)
         where
           by_case : ((e : CellDart) × IsAcross l x laid len d e) ⊎ ((w : Slot) × (o : ℕ) × IsAlone l x laid len d w o)

@@ -1,5 +1,6 @@
 -- The vertex of a node has the same kind and as many faces in each model, whatever the lengths.
-use Rattle.std.proofs.Common.{◌≡◌, ◌⊎◌, ℕ, zero, suc, ◌+◌, ◌-◌, ◌<◌, ◌≤◌, Bool, true, cond, refl, sym, ◌∙◌, ap, subst, inl, inr, arith}
+use Rattle.std.proofs.Common.{◌≡◌, ◌⊎◌, ℕ, zero, suc, ◌+◌, ◌-◌, ◌<◌, ◌≤◌, Bool, true, cond, refl, sym, ◌∙◌, ap, subst}
+use Rattle.std.proofs.Common.{inl, inr, arith}
 use Rattle.std.specs.Prelude.{◌==◌}
 use Rattle.std.proofs.lemmas.Bool.{cases_eq, eqb-true, eq-eqb}
 use Rattle.sum_laws.proofs.Tests.{same_test}
@@ -36,7 +37,8 @@ module _ (l : Layout) (x : Lengths) (laid : IsSurface l) (len : AreLengths l x) 
           let b : use_point l x u o ≡ node (end_node l u) = use_ends l x u o last (omega arith) in
           let s : end_node l u ≡ n = cc in inr (last, s)
       | inr less ↦
-          let b : use_point l x u o ≡ along u.arc (cond u.forward o (x u.arc - o)) = use_inner l x u o (omega arith) (omega arith) in
+          let b : use_point l x u o ≡ along u.arc (cond u.forward o (x u.arc - o)) =
+          use_inner l x u o (omega arith) (omega arith) in
           absurd cc
     ]
   ]
@@ -48,25 +50,33 @@ module _ (l : Layout) (x : Lengths) (laid : IsSurface l) (len : AreLengths l x) 
     pub dart : d ≡ spot_dart l x w 0 b
     pub later : b ≡ true → 0 < w.at
 
-  pub node_sort : (n : ℕ) (d : CellDart) → IsDart l x d → dart_start l x d ≡ node n → (w : Slot) × (b : Bool) × IsAtNode n d w b
+  pub node_sort : (n : ℕ) (d : CellDart) → IsDart l x d → dart_start l x d ≡ node n → (w : Slot) × (b : Bool)
+      × IsAtNode n d w b
   node_sort n d is leaves = by_case (sort_dart l x laid len d is)
     where
-      at_slot : (w : Slot) (o : ℕ) → IsAt l x laid len d w o → o ≡ 0 → start_node l (use_of l w) ≡ n → (w : Slot) × (b : Bool) × IsAtNode n d w b
+      at_slot : (w : Slot) (o : ℕ) → IsAt l x laid len d w o → o ≡ 0 → start_node l (use_of l w) ≡ n → (w : Slot)
+          × (b : Bool) × IsAtNode n d w b
       at_slot w o at z start =
           let first : IsAt l x laid len d w 0 = subst (λ (m : ℕ). IsAt l x laid len d w m) z at in
-          let b : (b : Bool) × (d ≡ spot_dart l x w 0 b) × ((b ≡ true) → 0 < place_at l x w 0) = sort_spot l x laid len d w 0 is first in
+          let b : (b : Bool) × (d ≡ spot_dart l x w 0 b) × ((b ≡ true) → 0 < place_at l x w 0) =
+          sort_spot l x laid len d w 0 is first in
           (w, b.0, record { at = first; start = start; dart = b.1; later = λ e. by_at w.at refl (b.2 e) })
         where
           by_at : (m : ℕ) → w.at ≡ m → 0 < place_at l x w 0 → 0 < w.at
-          by_at zero e some = let none : reach l x w.patch w.side w.at ≡ 0 = ap (reach l x w.patch w.side) e in absurd (omega (arith, none, some))
+          by_at zero e some = let none : reach l x w.patch w.side w.at ≡ 0 = ap (reach l x w.patch w.side) e in
+              absurd (omega (arith, none, some))
           by_at (suc m) e some = omega (arith, e)
 
-      by_case : IsInner l x laid.paved len d.patch (column_of d) (row_of d) ⊎ ((w : Slot) × (o : ℕ) × IsAt l x laid len d w o)
+      by_case : IsInner l x laid.paved len d.patch (column_of d) (row_of d)
+          ⊎ ((w : Slot) × (o : ℕ) × IsAt l x laid len d w o)
           → (w : Slot) × (b : Bool) × IsAtNode n d w b
-      by_case (inl i) = let b : dart_start l x d ≡ inside d.patch (column_of d) (row_of d) = inner_from l x laid len d i in absurd cc
-      by_case (inr s) = by_end s.0 s.1 s.2 (node_end (use_of l s.0) s.1 n (omega (arith, s.2.low)) (omega (arith, s.2.low)) (sym s.2.leaves ∙ leaves))
+      by_case (inl i) = let b : dart_start l x d ≡ inside d.patch (column_of d) (row_of d) =
+          inner_from l x laid len d i in absurd cc
+      by_case (inr s) = by_end s.0 s.1 s.2 (node_end (use_of l s.0) s.1 n (omega (arith, s.2.low))
+          (omega (arith, s.2.low)) (sym s.2.leaves ∙ leaves))
         where
-          by_end : (w : Slot) (o : ℕ) → IsAt l x laid len d w o → ((o ≡ 0) × (start_node l (use_of l w) ≡ n)) ⊎ ((o ≡ x (use_of l w).arc) × (end_node l (use_of l w) ≡ n))
+          by_end : (w : Slot) (o : ℕ) → IsAt l x laid len d w o → ((o ≡ 0) × (start_node l (use_of l w) ≡ n))
+              ⊎ ((o ≡ x (use_of l w).arc) × (end_node l (use_of l w) ≡ n))
               → (w : Slot) × (b : Bool) × IsAtNode n d w b
           by_end w o at (inl e) = at_slot w o at e.0 e.1
           by_end w o at (inr e) = absurd (omega (arith, at.low, e.0))
@@ -75,7 +85,8 @@ module _ (l : Layout) (x : Lengths) (laid : IsSurface l) (len : AreLengths l x) 
   pub later_place : (w : Slot) (b : Bool) → IsSlot l w → (b ≡ true → 0 < w.at) → b ≡ true → 0 < place_at l x w 0
   later_place w b is later e =
       let first : IsSlot l (slot w.patch w.side 0) = record { patch_low = is.patch_low; low = omega (arith, is.low) } in
-      let le : reach l x w.patch w.side 1 ≤ reach l x w.patch w.side w.at = count_rises (long_at l x w.patch w.side) 1 w.at (later e) in
+      let le : reach l x w.patch w.side 1 ≤ reach l x w.patch w.side w.at =
+      count_rises (long_at l x w.patch w.side) 1 w.at (later e) in
       let some : 0 < long_at l x w.patch w.side 0 = use_some l x laid.paved len (slot w.patch w.side 0) first in
       omega (arith, le, some)
 
@@ -95,49 +106,69 @@ module _ (l : Layout) (laid : IsSurface l) (x y : Lengths) (len : AreLengths l x
           shared w (x (use_of l w).arc - 1) is (omega (arith, some))
           (inr (use_ends l x (use_of l w) (x (use_of l w).arc - 1 + 1) (omega (arith, some)) (omega arith) ∙ ap node e))
 
-      by_end : (m : ℕ) → ((m ≡ 0) × (start_node l (use_of l w) ≡ n)) ⊎ ((m ≡ y (use_of l w).arc) × (end_node l (use_of l w) ≡ n)) → (v : Slot) × IsOtherSlot l w v
+      by_end : (m : ℕ) → ((m ≡ 0) × (start_node l (use_of l w) ≡ n))
+          ⊎ ((m ≡ y (use_of l w).arc) × (end_node l (use_of l w) ≡ n)) → (v : Slot) × IsOtherSlot l w v
       by_end m (inl e) = starts e.1
       by_end m (inr e) = ends e.1
 
-      at : (use_point l y (use_of l w) o ≡ node n) ⊎ (use_point l y (use_of l w) (o + 1) ≡ node n) → (v : Slot) × IsOtherSlot l w v
+      at : (use_point l y (use_of l w) o ≡ node n) ⊎ (use_point l y (use_of l w) (o + 1) ≡ node n) → (v : Slot)
+          × IsOtherSlot l w v
       at (inl e) = by_end o (node_end l y laid lon (use_of l w) o n (omega arith) (omega arith) e)
       at (inr e) = by_end (o + 1) (node_end l y laid lon (use_of l w) (o + 1) n (omega arith) (omega arith) e)
 
   module _ (F G : Faces) (cell new : CellDart → ℕ) (f : IsModel F l x laid len cell) (g : IsModel G l y laid lon new)
-      (n u v : ℕ) (is_u : IsVertex l x laid len F cell f (node n) u) (is_v : IsVertex l y laid lon G new g (node n) v) where
+      (n u v : ℕ) (is_u : IsVertex l x laid len F cell f (node n) u) (is_v : IsVertex l y laid lon G new g (node n)
+      v) where
     pub inner_to : is_inner F u ≡ true → is_inner G v ≡ true
-    inner_to inner = inner_if l y laid lon G new g (node n) v is_v (node_shared n (inner_only l x laid len F cell f (node n) u is_u inner))
+    inner_to inner = inner_if l y laid lon G new g (node n) v is_v
+        (node_shared n (inner_only l x laid len F cell f (node n) u is_u inner))
 
     pub faces_le : faces_at F u ≤ faces_at G v
-    faces_le = omega (arith, filter_long (λ d. from_of F d == u) (darts F), filter_long (λ d. from_of G d == v) (darts G), most)
+    faces_le = omega (
+      arith,
+      filter_long (λ d. from_of F d == u) (darts F),
+      filter_long (λ d. from_of G d == v) (darts G),
+      most,
+    )
       where
-        sorted : (k : ℕ) (low : k < darts F) → (from_of F k == u) ≡ true → (w : Slot) × (b : Bool) × IsAtNode l x laid len n (f.onto k low).0 w b
+        sorted : (k : ℕ) (low : k < darts F) → (from_of F k == u) ≡ true → (w : Slot) × (b : Bool)
+            × IsAtNode l x laid len n (f.onto k low).0 w b
         sorted k low s =
             node_sort l x laid len n (f.onto k low).0 (f.onto k low).1
             (is_u.back (f.onto k low).0 (f.onto k low).1 (ap (from_of F) (f.onto k low).2 ∙ eqb-true (from_of F k) u s))
 
         image : (d : CellDart) (w : Slot) (b : Bool) → IsAtNode l x laid len n d w b
-            → IsDart l y (spot_dart l y w 0 b) × IsAt l y laid lon (spot_dart l y w 0 b) w 0 × (dart_start l y (spot_dart l y w 0 b) ≡ node n)
+            → IsDart l y (spot_dart l y w 0 b) × IsAt l y laid lon (spot_dart l y w 0 b) w 0
+            × (dart_start l y (spot_dart l y w 0 b) ≡ node n)
         image d w b s =
             let some : 0 < y (use_of l w).arc = use_some l y laid.paved lon w s.at.is_slot in
             let later : b ≡ true → 0 < place_at l y w 0 = later_place l y laid lon w b s.at.is_slot s.later in
-            let at : IsAt l y laid lon (spot_dart l y w 0 b) w 0 = spot_at l y laid lon w 0 b s.at.is_slot some later in
-            (spot_is l y laid lon w 0 b s.at.is_slot some later, at, at.leaves ∙ use_begins l y (use_of l w) some ∙ ap node s.start)
+            let at : IsAt l y laid lon (spot_dart l y w 0 b) w 0
+            = spot_at l y laid lon w 0 b s.at.is_slot some later in (
+              spot_is l y laid lon w 0 b s.at.is_slot some later,
+              at,
+              at.leaves ∙ use_begins l y (use_of l w) some
+                  ∙ ap node s.start,
+            )
 
-        once : (d e : CellDart) (s : (w : Slot) × (b : Bool) × IsAtNode l x laid len n d w b) (r : (w : Slot) × (b : Bool) × IsAtNode l x laid len n e w b)
+        once : (d e : CellDart) (s : (w : Slot) × (b : Bool) × IsAtNode l x laid len n d w b) (r : (w : Slot)
+            × (b : Bool) × IsAtNode l x laid len n e w b)
             → spot_dart l y s.0 0 s.1 ≡ spot_dart l y r.0 0 r.1 → d ≡ e
         once d e s r same =
             let slots : s.0 ≡ r.0 =
             (at_once l y laid lon (spot_dart l y r.0 0 r.1) s.0 r.0 0 0
-            (subst (λ (c : CellDart). IsAt l y laid lon c s.0 0) same (image d s.0 s.1 s.2).1) (image e r.0 r.1 r.2).1).0 in
+            (subst (λ (c : CellDart). IsAt l y laid lon c s.0 0) same (image d s.0 s.1 s.2).1)
+            (image e r.0 r.1 r.2).1).0 in
             let ways : s.1 ≡ r.1 =
             spot_once l y laid lon r.0 0 s.1 r.1 ((λ t. spot_dart l y (sym slots t) 0 s.1) ∙ same) in
             s.2.dart ∙ (λ t. spot_dart l x (slots t) 0 (ways t)) ∙ sym r.2.dart
 
-        to : (k : ℕ) (low : k < darts F) → (from_of F k == u) ≡ true → (m : ℕ) × (m < darts G) × ((from_of G m == v) ≡ true)
+        to : (k : ℕ) (low : k < darts F) → (from_of F k == u) ≡ true → (m : ℕ) × (m < darts G)
+            × ((from_of G m == v) ≡ true)
         to k low s =
             let r : (w : Slot) × (b : Bool) × IsAtNode l x laid len n (f.onto k low).0 w b = sorted k low s in
-            let i : IsDart l y (spot_dart l y r.0 0 r.1) × IsAt l y laid lon (spot_dart l y r.0 0 r.1) r.0 0 × (dart_start l y (spot_dart l y r.0 0 r.1) ≡ node n) =
+            let i : IsDart l y (spot_dart l y r.0 0 r.1) × IsAt l y laid lon (spot_dart l y r.0 0 r.1) r.0 0
+            × (dart_start l y (spot_dart l y r.0 0 r.1) ≡ node n) =
             image (f.onto k low).0 r.0 r.1 r.2 in (
               new (spot_dart l y r.0 0 r.1),
               g.low (spot_dart l y r.0 0 r.1) i.0,
@@ -148,17 +179,24 @@ module _ (l : Layout) (laid : IsSurface l) (x y : Lengths) (len : AreLengths l x
         most = passing_le (λ d. from_of F d == u) (λ d. from_of G d == v) (darts F) (darts G) to
             (λ k m low s less r same. sym (f.onto k low).2
             ∙ ap cell (once (f.onto k low).0 (f.onto m less).0 (sorted k low s) (sorted m less r)
-            (g.same (spot_dart l y (sorted k low s).0 0 (sorted k low s).1) (spot_dart l y (sorted m less r).0 0 (sorted m less r).1)
+            (g.same (spot_dart l y (sorted k low s).0 0 (sorted k low s).1)
+            (spot_dart l y (sorted m less r).0 0 (sorted m less r).1)
             (image (f.onto k low).0 (sorted k low s).0 (sorted k low s).1 (sorted k low s).2).0
             (image (f.onto m less).0 (sorted m less r).0 (sorted m less r).1 (sorted m less r).2).0 same))
             ∙ (f.onto m less).2)
 
 module _ (l : Layout) (laid : IsSurface l) (x y : Lengths) (len : AreLengths l x) (lon : AreLengths l y)
     (F G : Faces) (cell new : CellDart → ℕ) (f : IsModel F l x laid len cell) (g : IsModel G l y laid lon new)
-    (n u v : ℕ) (is_u : IsVertex l x laid len F cell f (node n) u) (is_v : IsVertex l y laid lon G new g (node n) v) where
+    (n u v : ℕ) (is_u : IsVertex l x laid len F cell f (node n) u) (is_v : IsVertex l y laid lon G new g (node n)
+    v) where
   pub node_faces : faces_at F u ≡ faces_at G v
-  node_faces = omega (arith, faces_le l laid x y len lon F G cell new f g n u v is_u is_v, faces_le l laid y x lon len G F new cell g f n v u is_v is_u)
+  node_faces = omega (
+    arith,
+    faces_le l laid x y len lon F G cell new f g n u v is_u is_v,
+    faces_le l laid y x lon len G F new cell g f n v u is_v is_u,
+  )
 
   pub node_inner : is_inner F u ≡ is_inner G v
   node_inner = same_test (is_inner F u) (is_inner G v)
-      (inner_to l laid x y len lon F G cell new f g n u v is_u is_v) (inner_to l laid y x lon len G F new cell g f n v u is_v is_u)
+      (inner_to l laid x y len lon F G cell new f g n u v is_u is_v) (inner_to l laid y x lon len G F new cell g f n v u
+      is_v is_u)

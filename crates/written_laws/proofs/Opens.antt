@@ -1,17 +1,21 @@
 -- Lengths that are open double no edge.
-use Rattle.std.proofs.Common.{◌≡◌, ◌≢◌, ◌⊎◌, ℕ, ◌+◌, ◌-◌, ◌<◌, ◌≤◌, Bool, true, false, not, cond, refl, sym, ◌∙◌, ap, subst, inl, inr, arith}
+use Rattle.std.proofs.Common.{◌≡◌, ◌≢◌, ◌⊎◌, ℕ, ◌+◌, ◌-◌, ◌<◌, ◌≤◌, Bool, true, false, not, cond, refl, sym, ◌∙◌, ap}
+use Rattle.std.proofs.Common.{subst, inl, inr, arith}
 use Rattle.std.proofs.lemmas.Bool.{cases_eq}
-use Rattle.def_layout.specs.Layouts.{Way, south, east, north, west, side_after, Layout, Slot, IsSlot, AreReverse, use_of}
+use Rattle.def_layout.specs.Layouts.{Way, south, east, north, west, side_after, Layout, Slot, IsSlot, AreReverse}
+use Rattle.def_layout.specs.Layouts.{use_of}
 use Rattle.def_layout.specs.Surfaces.{IsSurface}
 use Rattle.def_layout.specs.Lengths.{Lengths, reach, size, wide, high, AreLengths}
 use Rattle.def_written.specs.Points.{Point, node, along, inside, arc_point, side_point, point}
 use Rattle.def_written.specs.Edges.{Edge, on_arc, flat, steep, IsEdge, edge_start, edge_end}
-use Rattle.written_laws.proofs.Sides.{slot, arc_last, arc_inner, use_inner, side_in, reach_low, first_slot, last_slot, last_reach}
+use Rattle.written_laws.proofs.Sides.{slot, arc_last, arc_inner, use_inner, side_in, reach_low, first_slot, last_slot}
+use Rattle.written_laws.proofs.Sides.{last_reach}
 use Rattle.written_laws.proofs.Grid.{point_north, point_west, point_east}
 use Rattle.written_laws.proofs.Courses.{is_arc}
 use Rattle.written_laws.proofs.Simple.{IsSimple}
 use Rattle.written_laws.proofs.Manifold.{before_after}
-use Rattle.written_laws.proofs.Spokes.{IsOpen, spoke, tip_column, tip_row, one_way, tip, Joins, joins_swap, arc_sort, point_sort, Inner, hub, tip_low, spoke_joins, hub_edge, loop_at}
+use Rattle.written_laws.proofs.Spokes.{IsOpen, spoke, tip_column, tip_row, one_way, tip, Joins, joins_swap, arc_sort}
+use Rattle.written_laws.proofs.Spokes.{point_sort, Inner, hub, tip_low, spoke_joins, hub_edge, loop_at}
 
 module _ (l : Layout) (x : Lengths) (laid : IsSurface l) (len : AreLengths l x) (open_l : IsOpen l x) where
   side_two : (p : ℕ) (s : Way) → p < l.patches → 2 ≤ size l x p s
@@ -38,7 +42,8 @@ module _ (l : Layout) (x : Lengths) (laid : IsSurface l) (len : AreLengths l x) 
       is_v = first_slot l x laid.paved len p (side_after s) p_low
 
       w_two : 2 ≤ x (use_of l (slot p s (l.many p s - 1))).arc
-      w_two = open_l.two (use_of l (slot p s (l.many p s - 1))).arc (laid.paved.arc_low (slot p s (l.many p s - 1)) is_w)
+      w_two = open_l.two (use_of l (slot p s (l.many p s - 1))).arc (laid.paved.arc_low (slot p s (l.many p s - 1))
+          is_w)
 
       v_two : 2 ≤ x (use_of l (slot p (side_after s) 0)).arc
       v_two = open_l.two (use_of l (slot p (side_after s) 0)).arc (laid.paved.arc_low (slot p (side_after s) 0) is_v)
@@ -50,8 +55,10 @@ module _ (l : Layout) (x : Lengths) (laid : IsSurface l) (len : AreLengths l x) 
           (cond (use_of l (slot p s (l.many p s - 1))).forward (x (use_of l (slot p s (l.many p s - 1))).arc - 1)
           (x (use_of l (slot p s (l.many p s - 1))).arc - (x (use_of l (slot p s (l.many p s - 1))).arc - 1)))
       w_point = ap (side_point l x p s) place
-          ∙ side_in l x (slot p s (l.many p s - 1)) (x (use_of l (slot p s (l.many p s - 1))).arc - 1) is_w (omega (arith, w_two))
-          ∙ use_inner l x (use_of l (slot p s (l.many p s - 1))) (x (use_of l (slot p s (l.many p s - 1))).arc - 1) (omega (arith, w_two)) (omega (arith, w_two))
+          ∙ side_in l x (slot p s (l.many p s - 1)) (x (use_of l (slot p s (l.many p s - 1))).arc - 1) is_w
+          (omega (arith, w_two))
+          ∙ use_inner l x (use_of l (slot p s (l.many p s - 1))) (x (use_of l (slot p s (l.many p s - 1))).arc - 1)
+          (omega (arith, w_two)) (omega (arith, w_two))
 
       v_point : side_point l x p (side_after s) 1 ≡ along (use_of l (slot p (side_after s) 0)).arc
           (cond (use_of l (slot p (side_after s) 0)).forward 1 (x (use_of l (slot p (side_after s) 0)).arc - 1))
@@ -75,15 +82,18 @@ module _ (l : Layout) (x : Lengths) (laid : IsSurface l) (len : AreLengths l x) 
       alike : (use_of l (slot p s (l.many p s - 1))).forward ≡ (use_of l (slot p (side_after s) 0)).forward → ⊥
       alike ways =
           no_turn s (ap (λ (u : Slot). u.side)
-          (laid.once (slot p s (l.many p s - 1)) (slot p (side_after s) 0) is_w is_v (λ r. record { arc = arcs r; forward = ways r })))
+          (laid.once (slot p s (l.many p s - 1)) (slot p (side_after s) 0) is_w is_v
+          (λ r. record { arc = arcs r; forward = ways r })))
 
       turned : (use_of l (slot p (side_after s) 0)).forward ≡ not (use_of l (slot p s (l.many p s - 1))).forward → ⊥
       turned ways =
           laid.no_fold (slot p (side_after s) 0) is_v refl
-          (subst (λ (q : Way). AreReverse (l.use_at p q (l.many p q - 1)) (l.use_at p (side_after s) 0)) (sym (before_after s))
+          (subst (λ (q : Way). AreReverse (l.use_at p q (l.many p q - 1)) (l.use_at p (side_after s) 0))
+          (sym (before_after s))
           (record { arc = sym arcs; turned = ways }))
 
-      by_ways : (f g : Bool) → (use_of l (slot p s (l.many p s - 1))).forward ≡ f → (use_of l (slot p (side_after s) 0)).forward ≡ g → ⊥
+      by_ways : (f g : Bool) → (use_of l (slot p s (l.many p s - 1))).forward ≡ f
+          → (use_of l (slot p (side_after s) 0)).forward ≡ g → ⊥
       by_ways true true f g = alike (f ∙ sym g)
       by_ways false false f g = alike (f ∙ sym g)
       by_ways true false f g = turned (g ∙ ap not (sym f))
@@ -96,47 +106,90 @@ module _ (l : Layout) (x : Lengths) (laid : IsSurface l) (len : AreLengths l x) 
   Far p i j west = i ≡ 1
   Far p i j south = j ≡ 1
 
-  tip_case : (p i j : ℕ) (w : Way) → Inner l x laid len p i j → Inner l x laid len p (tip_column i w) (tip_row j w) ⊎ Far p i j w
+  tip_case : (p i j : ℕ) (w : Way) → Inner l x laid len p i j → Inner l x laid len p (tip_column i w) (tip_row j w)
+      ⊎ Far p i j w
   tip_case p i j east n = elim (cases_eq (i + 1) (wide l x p)) [
     | inl e ↦ inr e
-    | inr less ↦ inl (n.0, record { a_some = omega arith; a_low = omega (arith, n.1.a_low); b_some = n.1.b_some; b_low = n.1.b_low })
+    | inr less ↦ inl (
+      n.0,
+      record {
+        a_some = omega arith;
+        a_low = omega (arith, n.1.a_low);
+        b_some = n.1.b_some;
+        b_low =
+            n.1.b_low;
+      },
+    )
   ]
   tip_case p i j north n = elim (cases_eq (j + 1) (high l x p)) [
     | inl e ↦ inr e
-    | inr less ↦ inl (n.0, record { a_some = n.1.a_some; a_low = n.1.a_low; b_some = omega arith; b_low = omega (arith, n.1.b_low) })
+    | inr less ↦ inl (
+      n.0,
+      record {
+        a_some = n.1.a_some;
+        a_low = n.1.a_low;
+        b_some = omega arith;
+        b_low =
+            omega (arith, n.1.b_low);
+      },
+    )
   ]
   tip_case p i j west n = elim (cases_eq i 1) [
     | inl e ↦ inr e
-    | inr more ↦ inl (n.0, record { a_some = omega (arith, n.1.a_some); a_low = omega (arith, n.1.a_low); b_some = n.1.b_some; b_low = n.1.b_low })
+    | inr more ↦ inl (
+      n.0,
+      record {
+        a_some = omega (arith, n.1.a_some);
+        a_low = omega (arith, n.1.a_low);
+        b_some =
+            n.1.b_some;
+        b_low = n.1.b_low;
+      },
+    )
   ]
   tip_case p i j south n = elim (cases_eq j 1) [
     | inl e ↦ inr e
-    | inr more ↦ inl (n.0, record { a_some = n.1.a_some; a_low = n.1.a_low; b_some = omega (arith, n.1.b_some); b_low = omega (arith, n.1.b_low) })
+    | inr more ↦ inl (
+      n.0,
+      record {
+        a_some = n.1.a_some;
+        a_low = n.1.a_low;
+        b_some = omega (arith, n.1.b_some);
+        b_low =
+            omega (arith, n.1.b_low);
+      },
+    )
   ]
 
-  near_tips : (p i j : ℕ) (w v : Way) → Inner l x laid len p i j → Inner l x laid len p (tip_column i w) (tip_row j w) → tip l x p i j w ≡ tip l x p i j v → w ≡ v
+  near_tips : (p i j : ℕ) (w v : Way) → Inner l x laid len p i j → Inner l x laid len p (tip_column i w) (tip_row j w)
+      → tip l x p i j w ≡ tip l x p i j v → w ≡ v
   near_tips p i j w v n near same =
       let e : (p ≡ p) × (tip_column i v ≡ tip_column i w) × (tip_row j v ≡ tip_row j w) =
-      point_sort l x laid len p (tip_column i v) (tip_row j v) p (tip_column i w) (tip_row j w) n.0 (tip_low l x laid len p i j v n).0 (tip_low l x laid len p i j v n).1
+      point_sort l x laid len p (tip_column i v) (tip_row j v) p (tip_column i w) (tip_row j w) n.0
+      (tip_low l x laid len p i j v n).0 (tip_low l x laid len p i j v n).1
       (sym same ∙ hub l x laid len p (tip_column i w) (tip_row j w) near) in
       one_way i j w v n.1.a_some n.1.b_some (sym e.1) (sym e.2)
 
-  east_north : (p i j : ℕ) → Inner l x laid len p i j → Far p i j east → Far p i j north → tip l x p i j east ≢ tip l x p i j north
+  east_north : (p i j : ℕ) → Inner l x laid len p i j → Far p i j east → Far p i j north
+      → tip l x p i j east ≢ tip l x p i j north
   east_north p i j n e f same =
       let one : wide l x p - i ≡ 1 = omega arith in
       beside_corner p east j n.0 (omega (arith, len.upright p n.0))
       (sym (point_east l x laid len p (i + 1) j n.0 e (omega arith)) ∙ same
       ∙ point_north l x laid len p i (j + 1) n.0 f ∙ ap (side_point l x p north) one)
 
-  north_west : (p i j : ℕ) → Inner l x laid len p i j → Far p i j north → Far p i j west → tip l x p i j north ≢ tip l x p i j west
+  north_west : (p i j : ℕ) → Inner l x laid len p i j → Far p i j north → Far p i j west
+      → tip l x p i j north ≢ tip l x p i j west
   north_west p i j n e f same =
       let first : i - 1 ≡ 0 = omega arith in
       let one : high l x p - j ≡ 1 = omega arith in
       beside_corner p north (wide l x p - i) n.0 (omega (arith, n.1.a_low, len.across p n.0))
       (sym (point_north l x laid len p i (j + 1) n.0 e) ∙ same
-      ∙ ap (λ k. point l x p k j) first ∙ point_west l x laid len p j n.0 (omega arith) ∙ ap (side_point l x p west) one)
+      ∙ ap (λ k. point l x p k j) first ∙ point_west l x laid len p j n.0 (omega arith)
+      ∙ ap (side_point l x p west) one)
 
-  west_south : (p i j : ℕ) → Inner l x laid len p i j → Far p i j west → Far p i j south → tip l x p i j west ≢ tip l x p i j south
+  west_south : (p i j : ℕ) → Inner l x laid len p i j → Far p i j west → Far p i j south
+      → tip l x p i j west ≢ tip l x p i j south
   west_south p i j n e f same =
       let first : i - 1 ≡ 0 = omega arith in
       let bottom : j - 1 ≡ 0 = omega arith in
@@ -147,28 +200,32 @@ module _ (l : Layout) (x : Lengths) (laid : IsSurface l) (len : AreLengths l x) 
       e' : i ≡ 1
       e' = e
 
-  south_east : (p i j : ℕ) → Inner l x laid len p i j → Far p i j south → Far p i j east → tip l x p i j south ≢ tip l x p i j east
+  south_east : (p i j : ℕ) → Inner l x laid len p i j → Far p i j south → Far p i j east
+      → tip l x p i j south ≢ tip l x p i j east
   south_east p i j n e f same =
       let bottom : j - 1 ≡ 0 = omega arith in
       beside_corner p south i n.0 f
       (ap (point l x p i) (sym bottom) ∙ same
       ∙ point_east l x laid len p (i + 1) j n.0 f (omega (arith, n.1.b_low)) ∙ ap (side_point l x p east) e)
 
-  east_west : (p i j : ℕ) → Inner l x laid len p i j → Far p i j east → Far p i j west → tip l x p i j east ≢ tip l x p i j west
+  east_west : (p i j : ℕ) → Inner l x laid len p i j → Far p i j east → Far p i j west
+      → tip l x p i j east ≢ tip l x p i j west
   east_west p i j n e f same =
       let first : i - 1 ≡ 0 = omega arith in
       let two : i + 1 ≡ 2 = omega arith in
       open_l.across p j n.0 (omega arith) n.1.b_some n.1.b_low
       (ap (λ k. point l x p k j) (sym first) ∙ sym same ∙ ap (λ k. point l x p k j) two)
 
-  north_south : (p i j : ℕ) → Inner l x laid len p i j → Far p i j north → Far p i j south → tip l x p i j north ≢ tip l x p i j south
+  north_south : (p i j : ℕ) → Inner l x laid len p i j → Far p i j north → Far p i j south
+      → tip l x p i j north ≢ tip l x p i j south
   north_south p i j n e f same =
       let first : j - 1 ≡ 0 = omega arith in
       let two : j + 1 ≡ 2 = omega arith in
       open_l.upright p i n.0 (omega arith) n.1.a_some n.1.a_low
       (ap (point l x p i) (sym first) ∙ sym same ∙ ap (point l x p i) two)
 
-  far_tips : (p i j : ℕ) (w v : Way) → Inner l x laid len p i j → Far p i j w → Far p i j v → tip l x p i j w ≡ tip l x p i j v → w ≡ v
+  far_tips : (p i j : ℕ) (w v : Way) → Inner l x laid len p i j → Far p i j w → Far p i j v
+      → tip l x p i j w ≡ tip l x p i j v → w ≡ v
   far_tips p i j east east n e f same = refl
   far_tips p i j east north n e f same = absurd (east_north p i j n e f same)
   far_tips p i j east west n e f same = absurd (east_west p i j n e f same)
@@ -205,10 +262,26 @@ module _ (l : Layout) (x : Lengths) (laid : IsSurface l) (len : AreLengths l x) 
       1,
       j,
       west,
-      (is.0, record { a_some = omega arith; a_low = omega (arith, side_two p south is.0); b_some = is.2; b_low = is.3 }),
+      (
+        is.0,
+        record {
+          a_some = omega arith;
+          a_low = omega (arith, side_two p south is.0);
+          b_some = is.2;
+          b_low =
+              is.3;
+        },
+      ),
       ap (λ k. flat p k j) z,
     )
-    | inr some ↦ (p, i, j, east, (is.0, record { a_some = omega arith; a_low = is.1; b_some = is.2; b_low = is.3 }), refl)
+    | inr some ↦ (
+      p,
+      i,
+      j,
+      east,
+      (is.0, record { a_some = omega arith; a_low = is.1; b_some = is.2; b_low = is.3 }),
+      refl,
+    )
   ]
   edge_spoke (steep p i j) is off = elim (cases_eq j 0) [
     | inl z ↦ (
@@ -219,13 +292,22 @@ module _ (l : Layout) (x : Lengths) (laid : IsSurface l) (len : AreLengths l x) 
       (is.0, record { a_some = is.1; a_low = is.2; b_some = omega arith; b_low = omega (arith, side_two p west is.0) }),
       ap (steep p i) z,
     )
-    | inr some ↦ (p, i, j, north, (is.0, record { a_some = is.1; a_low = is.2; b_some = omega arith; b_low = is.3 }), refl)
+    | inr some ↦ (
+      p,
+      i,
+      j,
+      north,
+      (is.0, record { a_some = is.1; a_low = is.2; b_some = omega arith; b_low = is.3 }),
+      refl,
+    )
   ]
 
   -- An edge with the ends of a spoke is that spoke.
-  spoke_once : (e : Edge) (p i j : ℕ) (w : Way) → IsEdge l x e → Inner l x laid len p i j → Joins l x e (inside p i j) (tip l x p i j w) → e ≡ spoke p i j w
+  spoke_once : (e : Edge) (p i j : ℕ) (w : Way) → IsEdge l x e → Inner l x laid len p i j
+      → Joins l x e (inside p i j) (tip l x p i j w) → e ≡ spoke p i j w
   spoke_once e p i j w is n joins =
-      let h : (v : Way) × (e ≡ spoke p i j v) × (tip l x p i j w ≡ tip l x p i j v) = hub_edge l x laid len e p i j (tip l x p i j w) is joins in
+      let h : (v : Way) × (e ≡ spoke p i j v) × (tip l x p i j w ≡ tip l x p i j v) =
+      hub_edge l x laid len e p i j (tip l x p i j w) is joins in
       h.1 ∙ ap (spoke p i j) (sym (tips_differ p i j w h.0 n h.2))
 
   -- The points on both sides of an inner point of an arc differ.
@@ -239,24 +321,30 @@ module _ (l : Layout) (x : Lengths) (laid : IsSurface l) (len : AreLengths l x) 
           let s : l.first a ≡ l.last a = cc in
           open_l.arcs_open a a_low (omega arith) s
       | inr more ↦
-          let s : (a ≡ a) × (k + 1 ≡ k - 1) = arc_sort l x a (k + 1) a (k - 1) (same ∙ arc_inner l x a (k - 1) (omega arith) (omega arith)) in
+          let s : (a ≡ a) × (k + 1 ≡ k - 1) =
+          arc_sort l x a (k + 1) a (k - 1) (same ∙ arc_inner l x a (k - 1) (omega arith) (omega arith)) in
           omega (arith, s.1)
     ]
     | inr inner ↦
-        let s : (a ≡ a) × (k - 1 ≡ k + 1) = arc_sort l x a (k - 1) a (k + 1) (sym same ∙ arc_inner l x a (k + 1) (omega arith) (omega arith)) in
+        let s : (a ≡ a) × (k - 1 ≡ k + 1) =
+        arc_sort l x a (k - 1) a (k + 1) (sym same ∙ arc_inner l x a (k + 1) (omega arith) (omega arith)) in
         omega (arith, s.1)
   ]
 
   arcs_once : (a k b m : ℕ) → IsEdge l x (on_arc a k) → IsEdge l x (on_arc b m)
       → Joins l x (on_arc a k) (arc_point l x b m) (arc_point l x b (m + 1)) → on_arc a k ≡ on_arc b m
-  arcs_once a k b m is_a is_b joins = elim (cases_eq m 0) [ inl z ↦ at_first z joins | inr some ↦ at_inner (omega arith) joins ]
+  arcs_once a k b m is_a is_b joins = elim (cases_eq m 0) [
+    | inl z ↦ at_first z joins
+    | inr some ↦ at_inner (omega arith) joins
+  ]
     where
       two : 2 ≤ x b
       two = open_l.two b is_b.0
 
       at_inner : 0 < m → Joins l x (on_arc a k) (arc_point l x b m) (arc_point l x b (m + 1)) → on_arc a k ≡ on_arc b m
       at_inner some (inl s) =
-          let e : (a ≡ b) × (k ≡ m) = arc_sort l x a k b m (s.0 ∙ arc_inner l x b m some is_b.1) in λ r. on_arc (e.0 r) (e.1 r)
+          let e : (a ≡ b) × (k ≡ m) = arc_sort l x a k b m (s.0 ∙ arc_inner l x b m some is_b.1) in
+          λ r. on_arc (e.0 r) (e.1 r)
       at_inner some (inr s) =
           let e : (a ≡ b) × (k + 1 ≡ m) = arc_sort l x a (k + 1) b m (s.1 ∙ arc_inner l x b m some is_b.1) in
           let c : k ≡ m - 1 = omega (arith, e.1) in
@@ -264,11 +352,13 @@ module _ (l : Layout) (x : Lengths) (laid : IsSurface l) (len : AreLengths l x) 
 
       at_first : m ≡ 0 → Joins l x (on_arc a k) (arc_point l x b m) (arc_point l x b (m + 1)) → on_arc a k ≡ on_arc b m
       at_first z (inl s) =
-          let e : (a ≡ b) × (k + 1 ≡ m + 1) = arc_sort l x a (k + 1) b (m + 1) (s.1 ∙ arc_inner l x b (m + 1) (omega arith) (omega (arith, two))) in
+          let e : (a ≡ b) × (k + 1 ≡ m + 1) =
+          arc_sort l x a (k + 1) b (m + 1) (s.1 ∙ arc_inner l x b (m + 1) (omega arith) (omega (arith, two))) in
           let c : k ≡ m = omega (arith, e.1) in
           λ r. on_arc (e.0 r) (c r)
       at_first z (inr s) =
-          let e : (a ≡ b) × (k ≡ m + 1) = arc_sort l x a k b (m + 1) (s.0 ∙ arc_inner l x b (m + 1) (omega arith) (omega (arith, two))) in
+          let e : (a ≡ b) × (k ≡ m + 1) =
+          arc_sort l x a k b (m + 1) (s.0 ∙ arc_inner l x b (m + 1) (omega arith) (omega (arith, two))) in
           let c : k + 1 ≡ m + 1 + 1 = omega (arith, e.1) in
           let d : m ≡ m + 1 - 1 = omega arith in
           absurd (arc_tips b (m + 1) is_b.0 (omega arith) (omega (arith, two))
@@ -289,18 +379,22 @@ module _ (l : Layout) (x : Lengths) (laid : IsSurface l) (len : AreLengths l x) 
           on_spoke : Joins l x g (edge_start l x (spoke p i j w)) (edge_end l x (spoke p i j w))
           on_spoke = subst (λ (k : Edge). Joins l x g (edge_start l x k) (edge_end l x k)) is both
 
-          by_order : Joins l x (spoke p i j w) (inside p i j) (tip l x p i j w) → Joins l x g (inside p i j) (tip l x p i j w)
+          by_order : Joins l x (spoke p i j w) (inside p i j) (tip l x p i j w)
+              → Joins l x g (inside p i j) (tip l x p i j w)
           by_order (inl s) =
-              subst (λ (q : Point). Joins l x g q (tip l x p i j w)) s.0 (subst (λ (q : Point). Joins l x g (edge_start l x (spoke p i j w)) q) s.1 on_spoke)
+              subst (λ (q : Point). Joins l x g q (tip l x p i j w)) s.0
+              (subst (λ (q : Point). Joins l x g (edge_start l x (spoke p i j w)) q) s.1 on_spoke)
           by_order (inr s) =
               joins_swap l x g (tip l x p i j w) (inside p i j)
-              (subst (λ (q : Point). Joins l x g q (inside p i j)) s.0 (subst (λ (q : Point). Joins l x g (edge_start l x (spoke p i j w)) q) s.1 on_spoke))
+              (subst (λ (q : Point). Joins l x g q (inside p i j)) s.0
+              (subst (λ (q : Point). Joins l x g (edge_start l x (spoke p i j w)) q) s.1 on_spoke))
 
       flip : Joins l x e (edge_start l x f) (edge_end l x f) → Joins l x f (edge_start l x e) (edge_end l x e)
       flip (inl s) = inl (sym s.0, sym s.1)
       flip (inr s) = inr (sym s.1, sym s.0)
 
-      both_arcs : (g h : Edge) → IsEdge l x g → IsEdge l x h → is_arc g ≡ true → is_arc h ≡ true → Joins l x g (edge_start l x h) (edge_end l x h) → g ≡ h
+      both_arcs : (g h : Edge) → IsEdge l x g → IsEdge l x h → is_arc g ≡ true → is_arc h ≡ true
+          → Joins l x g (edge_start l x h) (edge_end l x h) → g ≡ h
       both_arcs (on_arc a k) (on_arc b m) is_g is_h g_on h_on both = arcs_once a k b m is_g is_h both
       both_arcs _ _ is_g is_h g_on h_on both = absurd cc
 
@@ -318,10 +412,13 @@ module _ (l : Layout) (x : Lengths) (laid : IsSurface l) (len : AreLengths l x) 
   no_loop : (e : Edge) → IsEdge l x e → edge_start l x e ≢ edge_end l x e
   no_loop (on_arc a k) is same = elim (cases_eq k 0) [
     | inl z ↦
-        let s : (a ≡ a) × (k ≡ k + 1) = arc_sort l x a k a (k + 1) (same ∙ arc_inner l x a (k + 1) (omega arith) (omega (arith, open_l.two a is.0))) in
+        let s : (a ≡ a) × (k ≡ k + 1) =
+        arc_sort l x a k a (k + 1) (same
+        ∙ arc_inner l x a (k + 1) (omega arith) (omega (arith, open_l.two a is.0))) in
         omega (arith, s.1)
     | inr some ↦
-        let s : (a ≡ a) × (k + 1 ≡ k) = arc_sort l x a (k + 1) a k (sym same ∙ arc_inner l x a k (omega arith) is.1) in omega (arith, s.1)
+        let s : (a ≡ a) × (k + 1 ≡ k) = arc_sort l x a (k + 1) a k (sym same ∙ arc_inner l x a k (omega arith) is.1) in
+        omega (arith, s.1)
   ]
   no_loop (flat p i j) is same = at_spoke (edge_spoke (flat p i j) is refl)
     where

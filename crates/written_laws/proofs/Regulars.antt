@@ -1,5 +1,6 @@
 -- The points inside patches and along arcs are regular.
-use Rattle.std.proofs.Common.{◌≡◌, ◌≢◌, ◌⊎◌, ℕ, zero, suc, ◌+◌, ◌-◌, ◌<◌, ◌≤◌, Bool, true, false, not, cond, refl, sym, ◌∙◌, ap, subst, inl, inr, arith}
+use Rattle.std.proofs.Common.{◌≡◌, ◌≢◌, ◌⊎◌, ℕ, zero, suc, ◌+◌, ◌-◌, ◌<◌, ◌≤◌, Bool, true, false, not, cond, refl, sym}
+use Rattle.std.proofs.Common.{◌∙◌, ap, subst, inl, inr, arith}
 use Rattle.std.proofs.lemmas.Bool.{cases_eq, eq-eqb, false_from_ne_true}
 use Rattle.def_mesh.specs.Faces.{Faces}
 use Rattle.def_mesh.specs.Vertices.{faces_at}
@@ -110,11 +111,13 @@ module _ (l : Layout) (x : Lengths) (laid : IsSurface l) (len : AreLengths l x) 
   arc_of : (u : SideArc) (o a k : ℕ) → o ≤ x u.arc → 0 < x u.arc → use_point l x u o ≡ along a k
       → (u.arc ≡ a) × (0 < o) × (o < x u.arc) × (cond u.forward o (x u.arc - o) ≡ k)
   arc_of u o a k le some e = elim (cases_eq o 0) [
-    | inl z ↦ let b : use_point l x u o ≡ node (start_node l u) = ap (use_point l x u) z ∙ use_begins l x u some in absurd cc
+    | inl z ↦ let b : use_point l x u o ≡ node (start_node l u) = ap (use_point l x u) z ∙ use_begins l x u some in
+        absurd cc
     | inr more ↦ elim (cases_eq o (x u.arc)) [
       | inl last ↦ let b : use_point l x u o ≡ node (end_node l u) = use_ends l x u o last (omega arith) in absurd cc
       | inr less ↦
-          let b : use_point l x u o ≡ along u.arc (cond u.forward o (x u.arc - o)) = use_inner l x u o (omega arith) (omega arith) in
+          let b : use_point l x u o ≡ along u.arc (cond u.forward o (x u.arc - o)) =
+          use_inner l x u o (omega arith) (omega arith) in
           let arc : u.arc ≡ a = cc in
           let place : cond u.forward o (x u.arc - o) ≡ k = cc in
           (arc, omega arith, omega arith, place)
@@ -124,9 +127,11 @@ module _ (l : Layout) (x : Lengths) (laid : IsSurface l) (len : AreLengths l x) 
   module _ (F : Faces) (cell : CellDart → ℕ) (model : IsModel F l x laid len cell) where
     -- A vertex with four faces and only shared arcs, or with two faces and an arc that is not shared, is regular.
     regular_by : (v n : ℕ) (b : Bool) → faces_at F v ≡ n → is_inner F v ≡ b → n ≡ cond b 4 2 → is_regular F v ≡ true
-    regular_by v n b many inner is = eq-eqb (faces_at F v) (cond (is_inner F v) 4 2) (many ∙ is ∙ ap (λ (c : Bool). cond c 4 2) (sym inner))
+    regular_by v n b many inner is =
+        eq-eqb (faces_at F v) (cond (is_inner F v) 4 2) (many ∙ is ∙ ap (λ (c : Bool). cond c 4 2) (sym inner))
 
-    pub inside_regular : (p i j v : ℕ) → IsPoint l x (inside p i j) → IsVertex l x laid len F cell model (inside p i j) v → is_regular F v ≡ true
+    pub inside_regular : (p i j v : ℕ) → IsPoint l x (inside p i j)
+        → IsVertex l x laid len F cell model (inside p i j) v → is_regular F v ≡ true
     inside_regular p i j v is is_v =
         regular_by v 4 true four (inner_if l x laid len F cell model (inside p i j) v is_v shared) refl
       where
@@ -134,12 +139,14 @@ module _ (l : Layout) (x : Lengths) (laid : IsSurface l) (len : AreLengths l x) 
         shared w o is_w less (inl e) = absurd (upto_not_inside (use_of l w) o p i j (omega arith) (omega arith) e)
         shared w o is_w less (inr e) = absurd (upto_not_inside (use_of l w) (o + 1) p i j (omega arith) (omega arith) e)
 
-        place : (d : CellDart) → IsDart l x d → dart_start l x d ≡ inside p i j → (d.patch ≡ p) × (column_of d ≡ i) × (row_of d ≡ j)
+        place : (d : CellDart) → IsDart l x d → dart_start l x d ≡ inside p i j → (d.patch ≡ p) × (column_of d ≡ i)
+            × (row_of d ≡ j)
         place d is_d leaves =
             point_sort l x laid len d.patch (column_of d) (row_of d) p i j is_d.patch_low
             (corner_low l x laid.paved len d is_d).0 (corner_low l x laid.paved len d is_d).1 leaves
 
-        once : (d e : CellDart) (b : IsDart l x d) (c : IsDart l x e) (f : dart_start l x d ≡ inside p i j) (g : dart_start l x e ≡ inside p i j)
+        once : (d e : CellDart) (b : IsDart l x d) (c : IsDart l x e) (f : dart_start l x d ≡ inside p i j)
+            (g : dart_start l x e ≡ inside p i j)
             → turn d.way ≡ turn e.way → d ≡ e
         once d e is_d is_e f g turns =
             let a : (d.patch ≡ p) × (column_of d ≡ i) × (row_of d ≡ j) = place d is_d f in
@@ -160,8 +167,10 @@ module _ (l : Layout) (x : Lengths) (laid : IsSurface l) (len : AreLengths l x) 
             (record { patch_low = is.0; i_low = omega (arith, is.2); j_low = is.4 }, ap (λ k. point l x p k j) c ∙ hub)
         at_hub north =
             let c : i - 1 + 1 ≡ i = omega (arith, is.1) in
-            let r : j - 1 + 1 ≡ j = omega (arith, is.3) in
-            (record { patch_low = is.0; i_low = omega (arith, is.2); j_low = omega (arith, is.4) }, (λ t. point l x p (c t) (r t)) ∙ hub)
+            let r : j - 1 + 1 ≡ j = omega (arith, is.3) in (
+              record { patch_low = is.0; i_low = omega (arith, is.2); j_low = omega (arith, is.4) },
+              (λ t. point l x p (c t) (r t)) ∙ hub,
+            )
         at_hub west =
             let r : j - 1 + 1 ≡ j = omega (arith, is.3) in
             (record { patch_low = is.0; i_low = is.2; j_low = omega (arith, is.4) }, ap (point l x p i) r ∙ hub)
@@ -170,13 +179,15 @@ module _ (l : Layout) (x : Lengths) (laid : IsSurface l) (len : AreLengths l x) 
         four = omega (arith, most, least)
           where
             most : faces_at F v ≤ 4
-            most = fan_most l x laid len F cell model (inside p i j) v is_v 4 (λ d is_d f. (turn d.way, turn_low d.way)) once
+            most = fan_most l x laid len F cell model (inside p i j) v is_v 4 (λ d is_d f. (turn d.way, turn_low d.way))
+                once
 
             least : 4 ≤ faces_at F v
             least = fan_least l x laid len F cell model (inside p i j) v is_v 4
                 (λ k low. (hub_dart p i j (way_of k), (at_hub (way_of k)).0, (at_hub (way_of k)).1))
                 (λ k m low less same. sym (turn_way k low)
-                ∙ ap turn (sym (hub_way p i j (way_of k)) ∙ ap (λ (d : CellDart). d.way) same ∙ hub_way p i j (way_of m)) ∙ turn_way m less)
+                ∙ ap turn (sym (hub_way p i j (way_of k)) ∙ ap (λ (d : CellDart). d.way) same
+                ∙ hub_way p i j (way_of m)) ∙ turn_way m less)
 
     module _ (a k v : ℕ) (is : IsPoint l x (along a k)) (is_v : IsVertex l x laid len F cell model (along a k) v) where
       -- A dart at the point, by slot.
@@ -186,29 +197,39 @@ module _ (l : Layout) (x : Lengths) (laid : IsSurface l) (len : AreLengths l x) 
         pub place : cond (use_of l w).forward o (x (use_of l w).arc - o) ≡ k
         pub dart : d ≡ spot_dart l x w o b
 
-      along_sort : (d : CellDart) → IsDart l x d → dart_start l x d ≡ along a k → (w : Slot) × (o : ℕ) × (b : Bool) × IsAlong d w o b
+      along_sort : (d : CellDart) → IsDart l x d → dart_start l x d ≡ along a k → (w : Slot) × (o : ℕ) × (b : Bool)
+          × IsAlong d w o b
       along_sort d is_d leaves = by_case (sort_dart l x laid len d is_d)
         where
           at_slot : (w : Slot) (o : ℕ) → IsAt l x laid len d w o → (w : Slot) × (o : ℕ) × (b : Bool) × IsAlong d w o b
           at_slot w o at =
-              let s : ((use_of l w).arc ≡ a) × (0 < o) × (o < x (use_of l w).arc) × (cond (use_of l w).forward o (x (use_of l w).arc - o) ≡ k) =
+              let s : ((use_of l w).arc ≡ a) × (0 < o) × (o < x (use_of l w).arc)
+              × (cond (use_of l w).forward o (x (use_of l w).arc - o) ≡ k) =
               arc_of (use_of l w) o a k (omega (arith, at.low)) (omega (arith, at.low)) (sym at.leaves ∙ leaves) in
-              let b : (b : Bool) × (d ≡ spot_dart l x w o b) × ((b ≡ true) → 0 < place_at l x w o) = sort_spot l x laid len d w o is_d at in
+              let b : (b : Bool) × (d ≡ spot_dart l x w o b) × ((b ≡ true) → 0 < place_at l x w o) =
+              sort_spot l x laid len d w o is_d at in
               (w, o, b.0, record { at = at; arc = s.0; place = s.3; dart = b.1 })
 
-          by_case : IsInner l x laid.paved len d.patch (column_of d) (row_of d) ⊎ ((w : Slot) × (o : ℕ) × IsAt l x laid len d w o)
+          by_case : IsInner l x laid.paved len d.patch (column_of d) (row_of d)
+              ⊎ ((w : Slot) × (o : ℕ) × IsAt l x laid len d w o)
               → (w : Slot) × (o : ℕ) × (b : Bool) × IsAlong d w o b
-          by_case (inl i) = let b : dart_start l x d ≡ inside d.patch (column_of d) (row_of d) = inner_from l x laid len d i in absurd cc
+          by_case (inl i) = let b : dart_start l x d ≡ inside d.patch (column_of d) (row_of d) =
+              inner_from l x laid len d i in absurd cc
           by_case (inr s) = at_slot s.0 s.1 s.2
 
       along_once : (d e : CellDart) (w u : Slot) (o m : ℕ) (b c : Bool) → IsAlong d w o b → IsAlong e u m c
           → (use_of l w).forward ≡ (use_of l u).forward → b ≡ c → d ≡ e
       along_once d e w u o m b c s r ways same =
-          let slots : w ≡ u = laid.once w u s.at.is_slot r.at.is_slot (λ t. record { arc = (s.arc ∙ sym r.arc) t; forward = ways t }) in
+          let slots : w ≡ u = laid.once w u s.at.is_slot r.at.is_slot (λ t. record {
+            arc = (s.arc ∙ sym r.arc) t;
+            forward = ways t;
+          }) in
           let long : x (use_of l u).arc ≡ x (use_of l w).arc = ap x (r.arc ∙ sym s.arc) in
-          let places : cond (use_of l w).forward o (x (use_of l w).arc - o) ≡ cond (use_of l w).forward m (x (use_of l w).arc - m) =
+          let places : cond (use_of l w).forward o (x (use_of l w).arc - o)
+          ≡ cond (use_of l w).forward m (x (use_of l w).arc - m) =
           s.place ∙ sym r.place ∙ (λ t. cond (sym ways t) m (long t - m)) in
-          let offsets : o ≡ m = by_way (use_of l w).forward (x (use_of l w).arc) s.at.low (omega (arith, long, r.at.low)) places in
+          let offsets : o ≡ m = by_way (use_of l w).forward (x (use_of l w).arc) s.at.low
+          (omega (arith, long, r.at.low)) places in
           s.dart ∙ (λ t. spot_dart l x (slots t) (offsets t) (same t)) ∙ sym r.dart
         where
           by_way : (f : Bool) (n : ℕ) → o < n → m < n → cond f o (n - o) ≡ cond f m (n - m) → o ≡ m
@@ -225,10 +246,12 @@ module _ (l : Layout) (x : Lengths) (laid : IsSurface l) (len : AreLengths l x) 
       first_leaves : use_point l x (use_of l first.0) k ≡ along a k
       first_leaves = ap (λ (u : SideArc). use_point l x u k) first.2 ∙ arc_inner l x a k is.1 is.2
 
-      first_dart : (b : Bool) → IsDart l x (spot_dart l x first.0 k b) × (dart_start l x (spot_dart l x first.0 k b) ≡ along a k)
+      first_dart : (b : Bool) → IsDart l x (spot_dart l x first.0 k b)
+          × (dart_start l x (spot_dart l x first.0 k b) ≡ along a k)
       first_dart b = (
         spot_is l x laid len first.0 k b first.1 (omega (arith, first_long, is.2)) (λ e. omega (arith, is.1)),
-        (spot_at l x laid len first.0 k b first.1 (omega (arith, first_long, is.2)) (λ e. omega (arith, is.1))).leaves ∙ first_leaves,
+        (spot_at l x laid len first.0 k b first.1 (omega (arith, first_long, is.2)) (λ e. omega (arith, is.1))).leaves
+            ∙ first_leaves,
       )
 
       along_alone : ((u : Slot) → ¬ IsOtherSlot l first.0 u) → is_regular F v ≡ true
@@ -237,7 +260,8 @@ module _ (l : Layout) (x : Lengths) (laid : IsSurface l) (len : AreLengths l x) 
           boundary : is_inner F v ≡ false
           boundary = false_from_ne_true (is_inner F v) (λ inner.
               let u : (u : Slot) × IsOtherSlot l first.0 u =
-              inner_only l x laid len F cell model (along a k) v is_v inner first.0 k first.1 (omega (arith, first_long, is.2)) (inl first_leaves) in
+              inner_only l x laid len F cell model (along a k) v is_v inner first.0 k first.1
+              (omega (arith, first_long, is.2)) (inl first_leaves) in
               none u.0 u.1)
 
           forward : (w : Slot) → IsSlot l w → (use_of l w).arc ≡ a → (use_of l w).forward ≡ true
@@ -259,11 +283,13 @@ module _ (l : Layout) (x : Lengths) (laid : IsSurface l) (len : AreLengths l x) 
               coded : (d : CellDart) → IsDart l x d → dart_start l x d ≡ along a k → (c : ℕ) × (c < 2)
               coded d is_d leaves = (code true (along_sort d is_d leaves).2, code_first (along_sort d is_d leaves).2)
 
-              once : (d e : CellDart) (b : IsDart l x d) (c : IsDart l x e) (f : dart_start l x d ≡ along a k) (g : dart_start l x e ≡ along a k)
+              once : (d e : CellDart) (b : IsDart l x d) (c : IsDart l x e) (f : dart_start l x d ≡ along a k)
+                  (g : dart_start l x e ≡ along a k)
                   → (coded d b f).0 ≡ (coded e c g).0 → d ≡ e
               once d e b c f g same = by_sort (along_sort d b f) (along_sort e c g) same
                 where
-                  by_sort : (s : (w : Slot) × (o : ℕ) × (b : Bool) × IsAlong d w o b) → (r : (w : Slot) × (o : ℕ) × (b : Bool) × IsAlong e w o b)
+                  by_sort : (s : (w : Slot) × (o : ℕ) × (b : Bool) × IsAlong d w o b)
+                      → (r : (w : Slot) × (o : ℕ) × (b : Bool) × IsAlong e w o b)
                       → code true s.2 ≡ code true r.2 → d ≡ e
                   by_sort s r same =
                       along_once d e s.0 r.0 s.1 r.1 s.2 r.2 s.3 r.3
@@ -275,12 +301,18 @@ module _ (l : Layout) (x : Lengths) (laid : IsSurface l) (len : AreLengths l x) 
 
               least : 2 ≤ faces_at F v
               least = fan_least l x laid len F cell model (along a k) v is_v 2
-                  (λ c low. (spot_dart l x first.0 k (behind_of c), (first_dart (behind_of c)).0, (first_dart (behind_of c)).1))
+                  (λ c low. (
+                    spot_dart l x first.0 k (behind_of c),
+                    (first_dart (behind_of c)).0,
+                    (first_dart (behind_of c)).1,
+                  ))
                   (λ c m low less same. sym (code_back_first c low)
-                  ∙ ap (code true) (spot_once l x laid len first.0 k (behind_of c) (behind_of m) same) ∙ code_back_first m less)
+                  ∙ ap (code true) (spot_once l x laid len first.0 k (behind_of c) (behind_of m) same)
+                  ∙ code_back_first m less)
 
       along_shared : (u : Slot) → IsOtherSlot l first.0 u → is_regular F v ≡ true
-      along_shared u other = regular_by v 4 true four (inner_if l x laid len F cell model (along a k) v is_v shared) refl
+      along_shared u other = regular_by v 4 true four (inner_if l x laid len F cell model (along a k) v is_v shared)
+          refl
         where
           long : x (use_of l u).arc ≡ x a
           long = ap x other.1.arc ∙ first_long
@@ -296,9 +328,15 @@ module _ (l : Layout) (x : Lengths) (laid : IsSurface l) (len : AreLengths l x) 
 
               by_way : (f : Bool) → (use_of l w).forward ≡ f → (z : Slot) × IsOtherSlot l w z
               by_way true e =
-                  let one : first.0 ≡ w = laid.once first.0 w first.1 is_w (λ t. record { arc = (same_arc ∙ sym arc) t; forward = (same_way ∙ sym e) t }) in
+                  let one : first.0 ≡ w = laid.once first.0 w first.1 is_w (λ t. record {
+                    arc = (same_arc ∙ sym arc) t;
+                    forward = (same_way ∙ sym e) t;
+                  }) in
                   (u, subst (λ (z : Slot). IsOtherSlot l z u) one other)
-              by_way false e = (first.0, (first.1, record { arc = same_arc ∙ sym arc; turned = same_way ∙ ap not (sym e) }))
+              by_way false e = (
+                first.0,
+                (first.1, record { arc = same_arc ∙ sym arc; turned = same_way ∙ ap not (sym e) }),
+              )
 
           shared : AreShared l x (along a k)
           shared w o is_w less (inl e) = by_arc w is_w (arc_of (use_of l w) o a k (omega arith) (omega arith) e).0
@@ -308,7 +346,8 @@ module _ (l : Layout) (x : Lengths) (laid : IsSurface l) (len : AreLengths l x) 
           other_leaves =
               let le : x a - k ≤ x (use_of l first.0).arc = omega (arith, first_long) in
               let e : x (use_of l first.0).arc - (x a - k) ≡ k = omega (arith, first_long, is.2) in
-              use_back l x (use_of l first.0) (use_of l u) other.1 (x a - k) le ∙ ap (use_point l x (use_of l first.0)) e ∙ first_leaves
+              use_back l x (use_of l first.0) (use_of l u) other.1 (x a - k) le
+              ∙ ap (use_point l x (use_of l first.0)) e ∙ first_leaves
 
           both : (f b : Bool) → CellDart
           both true b = spot_dart l x first.0 k b
@@ -318,11 +357,13 @@ module _ (l : Layout) (x : Lengths) (laid : IsSurface l) (len : AreLengths l x) 
           both_is true b = first_dart b
           both_is false b = (
             spot_is l x laid len u (x a - k) b other.0 (omega (arith, long, is.1, is.2)) (λ e. omega (arith, is.2)),
-            (spot_at l x laid len u (x a - k) b other.0 (omega (arith, long, is.1, is.2)) (λ e. omega (arith, is.2))).leaves ∙ other_leaves,
+            (spot_at l x laid len u (x a - k) b other.0 (omega (arith, long, is.1, is.2))
+                (λ e. omega (arith, is.2))).leaves ∙ other_leaves,
           )
 
           apart : first.0 ≢ u
-          apart e = by_way (use_of l first.0).forward (use_of l u).forward other.1.turned (ap (λ (z : Slot). (use_of l z).forward) e)
+          apart e = by_way (use_of l first.0).forward (use_of l u).forward other.1.turned
+              (ap (λ (z : Slot). (use_of l z).forward) e)
             where
               by_way : (f g : Bool) → g ≡ not f → f ≡ g → ⊥
               by_way true g s r = absurd cc
@@ -335,12 +376,14 @@ module _ (l : Layout) (x : Lengths) (laid : IsSurface l) (len : AreLengths l x) 
               absurd (apart (at_once l x laid len (both true b) first.0 u k (x a - k)
               (spot_at l x laid len first.0 k b first.1 (omega (arith, first_long, is.2)) (λ s. omega (arith, is.1)))
               (subst (λ (d : CellDart). IsAt l x laid len d u (x a - k)) (sym e)
-              (spot_at l x laid len u (x a - k) c other.0 (omega (arith, long, is.1, is.2)) (λ s. omega (arith, is.2))))).0)
+              (spot_at l x laid len u (x a - k) c other.0 (omega (arith, long, is.1, is.2))
+              (λ s. omega (arith, is.2))))).0)
           both_once false true b c e =
               absurd (apart (at_once l x laid len (both true c) first.0 u k (x a - k)
               (spot_at l x laid len first.0 k c first.1 (omega (arith, first_long, is.2)) (λ s. omega (arith, is.1)))
               (subst (λ (d : CellDart). IsAt l x laid len d u (x a - k)) e
-              (spot_at l x laid len u (x a - k) b other.0 (omega (arith, long, is.1, is.2)) (λ s. omega (arith, is.2))))).0)
+              (spot_at l x laid len u (x a - k) b other.0 (omega (arith, long, is.1, is.2))
+              (λ s. omega (arith, is.2))))).0)
 
           four : faces_at F v ≡ 4
           four = omega (arith, most, least)
@@ -351,23 +394,31 @@ module _ (l : Layout) (x : Lengths) (laid : IsSurface l) (len : AreLengths l x) 
                 code_low (use_of l (along_sort d is_d leaves).0).forward (along_sort d is_d leaves).2,
               )
 
-              once : (d e : CellDart) (b : IsDart l x d) (c : IsDart l x e) (f : dart_start l x d ≡ along a k) (g : dart_start l x e ≡ along a k)
+              once : (d e : CellDart) (b : IsDart l x d) (c : IsDart l x e) (f : dart_start l x d ≡ along a k)
+                  (g : dart_start l x e ≡ along a k)
                   → (coded d b f).0 ≡ (coded e c g).0 → d ≡ e
               once d e b c f g same = by_sort (along_sort d b f) (along_sort e c g) same
                 where
-                  by_sort : (s : (w : Slot) × (o : ℕ) × (b : Bool) × IsAlong d w o b) → (r : (w : Slot) × (o : ℕ) × (b : Bool) × IsAlong e w o b)
+                  by_sort : (s : (w : Slot) × (o : ℕ) × (b : Bool) × IsAlong d w o b)
+                      → (r : (w : Slot) × (o : ℕ) × (b : Bool) × IsAlong e w o b)
                       → code (use_of l s.0).forward s.2 ≡ code (use_of l r.0).forward r.2 → d ≡ e
                   by_sort s r same =
                       along_once d e s.0 r.0 s.1 r.1 s.2 r.2 s.3 r.3
-                      (sym (code_forward (use_of l s.0).forward s.2) ∙ ap forward_of same ∙ code_forward (use_of l r.0).forward r.2)
-                      (sym (code_behind (use_of l s.0).forward s.2) ∙ ap behind_of same ∙ code_behind (use_of l r.0).forward r.2)
+                      (sym (code_forward (use_of l s.0).forward s.2) ∙ ap forward_of same
+                      ∙ code_forward (use_of l r.0).forward r.2)
+                      (sym (code_behind (use_of l s.0).forward s.2) ∙ ap behind_of same
+                      ∙ code_behind (use_of l r.0).forward r.2)
 
               most : faces_at F v ≤ 4
               most = fan_most l x laid len F cell model (along a k) v is_v 4 coded once
 
               least : 4 ≤ faces_at F v
               least = fan_least l x laid len F cell model (along a k) v is_v 4
-                  (λ c low. (both (forward_of c) (behind_of c), (both_is (forward_of c) (behind_of c)).0, (both_is (forward_of c) (behind_of c)).1))
+                  (λ c low. (
+                    both (forward_of c) (behind_of c),
+                    (both_is (forward_of c) (behind_of c)).0,
+                    (both_is (forward_of c) (behind_of c)).1,
+                  ))
                   (λ c m low less same. sym (code_back c low)
                   ∙ both_once (forward_of c) (forward_of m) (behind_of c) (behind_of m) same ∙ code_back m less)
 

@@ -34,14 +34,24 @@ module _ (l : Layout) (x : Lengths) (paved : HasWholeSides l) (len : AreLengths 
   pub rim_is : (p : ℕ) (s : Way) (t : ℕ) → p < l.patches → t < size l x p s → IsDart l x (dart_along l x p s t)
   rim_is p south t low less = record { patch_low = low; i_low = less; j_low = high_some l x paved len p low }
   rim_is p east t low less =
-      record { patch_low = low; i_low = omega (arith, wide_some l x paved len p low); j_low = omega (arith, len.upright p low) }
+      record {
+        patch_low = low;
+        i_low = omega (arith, wide_some l x paved len p low);
+        j_low =
+            omega (arith, len.upright p low);
+      }
   rim_is p north t low less = record {
     patch_low = low;
     i_low = omega (arith, wide_some l x paved len p low);
     j_low = omega (arith, high_some l x paved len p low);
   }
   rim_is p west t low less =
-      record { patch_low = low; i_low = wide_some l x paved len p low; j_low = omega (arith, high_some l x paved len p low) }
+      record {
+        patch_low = low;
+        i_low = wide_some l x paved len p low;
+        j_low =
+            omega (arith, high_some l x paved len p low);
+      }
 
   -- A border dart begins at its place of the side, and ends at the next one.
   pub rim_column : (p : ℕ) (s : Way) (t : ℕ) → p < l.patches → t < size l x p s
@@ -94,7 +104,8 @@ module _ (l : Layout) (x : Lengths) (paved : HasWholeSides l) (len : AreLengths 
   corner_row p west t low e = omega arith
 
   -- The border dart next to the last one of a side is the first one of the next side.
-  pub corner_next : (p : ℕ) (s : Way) (t : ℕ) → p < l.patches → t + 1 ≡ size l x p s → next (dart_along l x p s t) ≡ dart_along l x p (side_after s) 0
+  pub corner_next : (p : ℕ) (s : Way) (t : ℕ) → p < l.patches → t + 1 ≡ size l x p s → next (dart_along l x p s t)
+      ≡ dart_along l x p (side_after s) 0
   corner_next p south t low e =
       let a : t ≡ wide l x p - 1 = omega arith in λ k. dart p (a k) 0 east
   corner_next p east t low e =
@@ -109,7 +120,8 @@ module _ (l : Layout) (x : Lengths) (paved : HasWholeSides l) (len : AreLengths 
 
   -- A cell with two border darts in a row lies at the corner of its patch.
   pub corner_cell : (p : ℕ) (s : Way) (t u : ℕ) → p < l.patches → t < size l x p s → u < size l x p (side_after s)
-      → (dart_along l x p s t).i ≡ (dart_along l x p (side_after s) u).i → (dart_along l x p s t).j ≡ (dart_along l x p (side_after s) u).j
+      → (dart_along l x p s t).i ≡ (dart_along l x p (side_after s) u).i → (dart_along l x p s t).j
+      ≡ (dart_along l x p (side_after s) u).j
       → (t + 1 ≡ size l x p s) × (u ≡ 0)
   corner_cell p south t u low t_low u_low i j = (omega (arith, i), sym j)
   corner_cell p east t u low t_low u_low i j = (omega (arith, j, len.upright p low), omega (arith, i, len.across p low))
@@ -166,7 +178,13 @@ module _ (l : Layout) (x : Lengths) (paved : HasWholeSides l) (len : AreLengths 
         | inl first ↦ inr (west, high l x p - b, record { low = omega arith; column = first; row = omega arith })
         | inr later ↦ elim (cases_eq a (wide l x p)) [
           | inl far ↦ inr (east, b, record { low = omega (arith, len.upright p low); column = far; row = refl })
-          | inr near ↦ inl (record { a_some = omega arith; a_low = omega arith; b_some = omega arith; b_low = omega arith })
+          | inr near ↦ inl (record {
+            a_some = omega arith;
+            a_low = omega arith;
+            b_some = omega arith;
+            b_low =
+                omega arith;
+          })
         ]
       ]
     ]
@@ -221,8 +239,10 @@ module _ (l : Layout) (x : Lengths) (paved : HasWholeSides l) (len : AreLengths 
         darts_related (next (dart_along l x p s t)) (dart_along l x p (side_after s) 0)
         (next_is (rim_is p s t low (omega arith))) (rim_is p (side_after s) 0 low some)
         (rim_patch p s t ∙ sym (rim_patch p (side_after s) 0))
-        (rim_next_column p s t low (omega arith) ∙ corner_column p s (t + 1) low e ∙ sym (rim_column p (side_after s) 0 low some))
-        (rim_next_row p s t low (omega arith) ∙ corner_row p s (t + 1) low e ∙ sym (rim_row p (side_after s) 0 low some))
+        (rim_next_column p s t low (omega arith) ∙ corner_column p s (t + 1) low e
+        ∙ sym (rim_column p (side_after s) 0 low some))
+        (rim_next_row p s t low (omega arith) ∙ corner_row p s (t + 1) low e
+        ∙ sym (rim_row p (side_after s) 0 low some))
       where
         next_is : IsDart l x (dart_along l x p s t) → IsDart l x (next (dart_along l x p s t))
         next_is d = record { patch_low = d.patch_low; i_low = d.i_low; j_low = d.j_low }
@@ -241,11 +261,13 @@ module _ (l : Layout) (x : Lengths) (laid : IsSurface l) (len : AreLengths l x) 
   pub rim_from : (p : ℕ) (s : Way) (t : ℕ) → p < l.patches → t < size l x p s
       → dart_start l x (dart_along l x p s t) ≡ side_point l x p s t
   rim_from p s t low less =
-      (λ k. point l x (rim_patch l x laid.paved len p s t k) (rim_column l x laid.paved len p s t low less k) (rim_row l x laid.paved len p s t low less k))
+      (λ k. point l x (rim_patch l x laid.paved len p s t k) (rim_column l x laid.paved len p s t low less k)
+      (rim_row l x laid.paved len p s t low less k))
       ∙ border_point p s t low (omega arith)
 
   pub rim_to : (p : ℕ) (s : Way) (t : ℕ) → p < l.patches → t < size l x p s
       → dart_end l x (dart_along l x p s t) ≡ side_point l x p s (t + 1)
   rim_to p s t low less =
-      (λ k. point l x (rim_patch l x laid.paved len p s t k) (rim_next_column l x laid.paved len p s t low less k) (rim_next_row l x laid.paved len p s t low less k))
+      (λ k. point l x (rim_patch l x laid.paved len p s t k) (rim_next_column l x laid.paved len p s t low less k)
+      (rim_next_row l x laid.paved len p s t low less k))
       ∙ border_point p s (t + 1) low (omega arith)

@@ -17,7 +17,8 @@ count_rises f a (suc b) le = elim (cases_eq a (suc b)) [
 pub run_low : (start : ℕ → ℕ) (n t : ℕ) → 0 < n → run_at start n t < n
 run_low start zero t l = absurd (omega arith)
 run_low start (suc zero) t l =
-    cond_both (nat_lt t (start zero)) (run_at start zero t) zero (λ k. k < suc zero) (λ e. omega arith) (λ e. omega arith)
+    cond_both (nat_lt t (start zero)) (run_at start zero t) zero (λ k. k < suc zero) (λ e. omega arith)
+    (λ e. omega arith)
 run_low start (suc (suc n)) t l =
     cond_both (nat_lt t (start (suc n))) (run_at start (suc n) t) (suc n) (λ k. k < suc (suc n))
     (λ e. omega (arith, run_low start (suc n) t (omega arith))) (λ e. omega arith)
@@ -54,7 +55,8 @@ run_place f (suc n) k o l in_run = elim (cases_eq k n) [
       cond-false (nat_lt (count_below f k + o) (count_below f n)) _ _
       (le-ltb _ _ (omega (arith, ap (count_below f) e))) ∙ sym e
   | inr ne ↦
-      cond-true (nat_lt (count_below f k + o) (count_below f n)) _ _ (lt-ltb _ _ (omega (arith, count_rises f (suc k) n (omega arith))))
+      cond-true (nat_lt (count_below f k + o) (count_below f n)) _ _
+      (lt-ltb _ _ (omega (arith, count_rises f (suc k) n (omega arith))))
       ∙ run_place f n k o (omega arith) in_run
 ]
 
@@ -69,8 +71,14 @@ pub run_here : (f : ℕ → ℕ) (n t : ℕ) → t < count_below f n
     → IsInRun f n t (run_at (count_below f) n t) (t - count_below f (run_at (count_below f) n t))
 run_here f zero t l = absurd (omega arith)
 run_here f (suc n) t l =
-    let from : count_below f (run_at (count_below f) (suc n) t) ≤ t = run_from (count_below f) (suc n) t (omega arith) in
-    record { low = run_low (count_below f) (suc n) t (omega arith); inside = omega (arith, from, run_to (count_below f) (suc n) t (omega arith) l); place = omega (arith, from) }
+    let from : count_below f (run_at (count_below f) (suc n) t) ≤ t =
+    run_from (count_below f) (suc n) t (omega arith) in
+    record {
+      low = run_low (count_below f) (suc n) t (omega arith);
+      inside =
+          omega (arith, from, run_to (count_below f) (suc n) t (omega arith) l);
+      place = omega (arith, from);
+    }
 
 -- Places of runs are below the end.
 pub place_low : (f : ℕ → ℕ) (n k o : ℕ) → k < n → o < f k → count_below f k + o < count_below f n

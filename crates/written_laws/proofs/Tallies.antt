@@ -1,5 +1,6 @@
 -- How many numbers below a bound pass a test, compared by one-to-one maps.
-use Rattle.std.proofs.Common.{◌≡◌, ◌≢◌, ℕ, zero, suc, ◌+◌, ◌<◌, ◌≤◌, Bool, true, false, cond, [], ◌∷◌, length, refl, sym, ◌∙◌, ap, inl, inr, arith}
+use Rattle.std.proofs.Common.{◌≡◌, ◌≢◌, ℕ, zero, suc, ◌+◌, ◌<◌, ◌≤◌, Bool, true, false, cond, [], ◌∷◌, length, refl}
+use Rattle.std.proofs.Common.{sym, ◌∙◌, ap, inl, inr, arith}
 use Rattle.std.specs.Prelude.{◌==◌}
 use Rattle.std.specs.List.{filter, range_with_len}
 use Rattle.std.proofs.lemmas.Bool.{cases_eq, cases_Bool, cond-true, cond-false, eq-eqb, ne_eqb}
@@ -71,11 +72,17 @@ passing_le p q (suc m) n to once = elim (cases_Bool (p m)) [
         up_last : (m : ℕ) → m < suc m
         up_last m = omega arith
 
-        by_image : (u : ℕ) → u < n → q u ≡ true → ((i : ℕ) (l : i < m) (s : p i ≡ true) → (to i (up i l) s).0 ≢ u) → passing p (suc m) ≤ passing q n
+        by_image : (u : ℕ) → u < n → q u ≡ true → ((i : ℕ) (l : i < m) (s : p i ≡ true) → (to i (up i l) s).0 ≢ u)
+            → passing p (suc m) ≤ passing q n
         by_image u u_low u_on apart =
             let less : passing p m ≤ passing (but q u) n =
             rest (but q u)
-            (λ i l s. ((to i (up i l) s).0, (to i (up i l) s).1, but_same q u (to i (up i l) s).0 (apart i l s) ∙ (to i (up i l) s).2))
+            (λ i l s. (
+              (to i (up i l) s).0,
+              (to i (up i l) s).1,
+              but_same q u (to i (up i l) s).0 (apart i l s)
+                  ∙ (to i (up i l) s).2,
+            ))
             (λ i j a b c d e. once i j (up i a) b (up j c) d e) in
             let one : one_if (p m) ≡ 1 = ap one_if on in
             omega (arith, less, one, passing_but q n u u_low u_on)
