@@ -1,5 +1,5 @@
-//! Tests of meshes, of the networks of edge lengths, of the wishes of lines, and of new meshes at given lengths, on meshes
-//! that are worked out by hand.
+//! Tests of meshes, of the networks of edge lengths, of the wishes of lines, and of new meshes at given lengths, on
+//! meshes that are worked out by hand.
 #![tactic(auto)]
 
 #[cfg(test)]

@@ -15,7 +15,8 @@ use Rattle.qm_blocks.specs.Spots.{all_links, block_links, link_on, side_links, H
 use Rattle.qm_blocks.proofs.Tables.{no_spot, other_spot}
 
 -- One item more of a list in the making.
-pub list_more : {X : Type 0} (f : ℕ → X) (n : ℕ) (before old new : List X) (item : X) → old ≡ before ++ map f (range_with_len 0 n)
+pub list_more : {X : Type 0} (f : ℕ → X) (n : ℕ) (before old new : List X) (item : X)
+    → old ≡ before ++ map f (range_with_len 0 n)
     → new ≡ old ++ item ∷ [] → item ≡ f n → new ≡ before ++ map f (range_with_len 0 (n + 1))
 list_more f n before old new item is grown same =
     grown ∙ (λ i. is i ++ same i ∷ []) ∙ append_assoc before (map f (range_with_len 0 n)) (f n ∷ [])
@@ -37,14 +38,20 @@ module _ {X : Type 0} (a b c d : List X) (missing : X) where
 
   in_second : (k : ℕ) → k < length b → get_or joined (length a + k) missing ≡ get_or b k missing
   in_second k low =
-      get_or_append_left ((a ++ b) ++ c) d missing (length a + k) (omega (arith, low, length-append (a ++ b) c, length-append a b))
+      get_or_append_left ((a ++ b) ++ c) d missing (length a + k) (omega (
+        arith,
+        low,
+        length-append (a ++ b) c,
+        length-append a b,
+      ))
       ∙ get_or_append_left (a ++ b) c missing (length a + k) (omega (arith, low, length-append a b))
       ∙ get_or-append-add a b k missing
 
   in_third : (k : ℕ) → k < length c → get_or joined (length a + length b + k) missing ≡ get_or c k missing
   in_third k low =
       let e : length a + length b + k ≡ length (a ++ b) + k = omega (arith, length-append a b) in
-      get_or_append_left ((a ++ b) ++ c) d missing (length a + length b + k) (omega (arith, low, length-append (a ++ b) c, length-append a b))
+      get_or_append_left ((a ++ b) ++ c) d missing (length a + length b + k)
+      (omega (arith, low, length-append (a ++ b) c, length-append a b))
       ∙ ap (λ i. get_or ((a ++ b) ++ c) i missing) e ∙ get_or-append-add (a ++ b) c k missing
 
   in_fourth : (k : ℕ) → get_or joined (length a + length b + length c + k) missing ≡ get_or d k missing
@@ -56,18 +63,21 @@ module _ {X : Type 0} (a b c d : List X) (missing : X) where
 module _ (plan : Plan) (x : Lengths) (table : List (Option Spot)) where
   -- A side has as many links as arcs, each at its place.
   side_long : (p : ℕ) (s : Way) → length (side_links plan x table p s) ≡ length (side_at plan p s)
-  side_long p s = length-map-range_with_len (link_on table x (side_name s) (side_at plan p s)) 0 (length (side_at plan p s))
+  side_long p s = length-map-range_with_len (link_on table x (side_name s) (side_at plan p s)) 0
+      (length (side_at plan p s))
 
   side_reads : (p : ℕ) (s : Way) (at : ℕ) (missing : Link) → at < length (side_at plan p s)
       → get_or (side_links plan x table p s) at missing ≡ link_on table x (side_name s) (side_at plan p s) at
   side_reads p s at missing low =
-      get_or-map-range_with_len (link_on table x (side_name s) (side_at plan p s)) 0 (length (side_at plan p s)) at at missing low (omega arith)
+      get_or-map-range_with_len (link_on table x (side_name s) (side_at plan p s)) 0 (length (side_at plan p s)) at at
+      missing low (omega arith)
 
   -- So has a block.
   block_long : (p : ℕ) → length (block_links plan x table p)
       ≡ arcs_before (layout_of plan) p west + length (side_at plan p west)
   block_long p =
-      let all : length (block_links plan x table p) ≡ length (side_links plan x table p south) + length (side_links plan x table p east)
+      let all : length (block_links plan x table p) ≡ length (side_links plan x table p south)
+      + length (side_links plan x table p east)
       + length (side_links plan x table p north) + length (side_links plan x table p west)
       = joined_long (side_links plan x table p south) (side_links plan x table p east) (side_links plan x table p north)
       (side_links plan x table p west) (link_on table x (side_name south) [] 0) in
@@ -108,7 +118,8 @@ module _ (plan : Plan) (x : Lengths) (table : List (Option Spot)) where
           ∙ in_third a b c d missing at (omega (arith, side_long p north, low)) ∙ side_reads p north at missing low
       by_side west low =
           let e : length (side_at plan p south) + length (side_at plan p east) + length (side_at plan p north) + at
-          ≡ length a + length b + length c + at = omega (arith, side_long p south, side_long p east, side_long p north) in
+          ≡ length a + length b + length c + at =
+          omega (arith, side_long p south, side_long p east, side_long p north) in
           ap (λ i. get_or (block_links plan x table p) i missing) e
           ∙ in_fourth a b c d missing at ∙ side_reads p west at missing low
 
@@ -121,7 +132,8 @@ module _ (plan : Plan) (x : Lengths) (table : List (Option Spot)) where
   }
     where
       block_at : (p : ℕ) → p < length plan.patches → get_or (all_links plan x table) p [] ≡ block_links plan x table p
-      block_at p low = get_or-map-range_with_len (block_links plan x table) 0 (length plan.patches) p p [] low (omega arith)
+      block_at p low = get_or-map-range_with_len (block_links plan x table) 0 (length plan.patches) p p [] low
+          (omega arith)
 
       each : (w : Slot) → IsSlot (layout_of plan) w → (link : Link)
           × (slice_get (get_or (all_links plan x table) w.patch []) (place_in (layout_of plan) w) ≡ Some link)
@@ -129,7 +141,8 @@ module _ (plan : Plan) (x : Lengths) (table : List (Option Spot)) where
       each w slot = (
         link_on table x (side_name w.side) (side_at plan w.patch w.side) w.at,
         ap (λ ls. slice_get ls (place_in (layout_of plan) w)) (block_at w.patch slot.patch_low)
-            ∙ slice_get-get_or (block_links plan x table w.patch) (place_in (layout_of plan) w) missing (in_block w.side slot.low)
+            ∙ slice_get-get_or (block_links plan x table w.patch) (place_in (layout_of plan) w) missing
+            (in_block w.side slot.low)
             ∙ ap Some (block_reads w.patch w.side w.at missing slot.low),
         record {
           side = refl;

@@ -1,5 +1,6 @@
 -- A link of a block leads to another link, which leads back.
-use Rattle.std.proofs.Common.{◌≡◌, ℕ, ◌+◌, ◌-◌, ◌<◌, Bool, true, false, List, [], length, slice_get, slice_index_or, Some, None, Option}
+use Rattle.std.proofs.Common.{◌≡◌, ℕ, ◌+◌, ◌-◌, ◌<◌, Bool, true, false, List, [], length, slice_get, slice_index_or}
+use Rattle.std.proofs.Common.{Some, None, Option}
 use Rattle.std.proofs.Common.{refl, sym, ◌∙◌, ap, subst, inl, inr, arith}
 use Rattle.std.proofs.lemmas.Bool.{false≢true}
 use Rattle.std.proofs.lemmas.Bool.Decides.{leb_tells}
@@ -28,7 +29,8 @@ slot_at l p k low = elim (leb_tells (l.many p south) k) [
     | inl past' ↦ elim (leb_tells (l.many p south + l.many p east + l.many p north) k) [
       | inr less ↦
           let a : k - (l.many p south + l.many p east) < l.many p north = omega (arith, past'.1, less.1) in
-          let e : l.many p south + l.many p east + (k - (l.many p south + l.many p east)) ≡ k = omega (arith, past'.1) in
+          let e : l.many p south + l.many p east + (k - (l.many p south + l.many p east)) ≡ k =
+          omega (arith, past'.1) in
           (north, k - (l.many p south + l.many p east), a, e)
       | inl past'' ↦
           let before : ℕ = l.many p south + l.many p east + l.many p north in
@@ -41,7 +43,13 @@ slot_at l p k low = elim (leb_tells (l.many p south) k) [
 
 -- A link over so many points, to a point of another block's side.
 abbrev pub link_to : (side : SideName) (from len other : ℕ) (side' : SideName) (from' : ℕ) → Link
-link_to side from len other side' from' = record { side = side; from = from; len = len; other = Some (other, side', from') }
+link_to side from len other side' from' = record {
+  side = side;
+  from = from;
+  len = len;
+  other =
+      Some (other, side', from');
+}
 
 -- What an option holds, whether it holds a point of a block's side, and the parts of that.
 abbrev link_in : (missing : Link) (o : Option Link) → Link
@@ -84,7 +92,8 @@ module _ (l : Layout) (x : Lengths) (laid : IsSurface l) (links : List (List Lin
       → IsLinkOf l x w (link_to side from len other side' from')
       → HasLink links other side' from' len w.patch side from
   back w v side side' from from' len other is across is_link =
-      let told : Some (other, side', from') ≡ Some (v.patch, side_name v.side, first_point l x v) = is_link.linked v across in
+      let told : Some (other, side', from') ≡ Some (v.patch, side_name v.side, first_point l x v) =
+      is_link.linked v across in
       let got = are.each v across.0 in
       let there : IsLinkOf l x v got.0 = got.2 in
       let over : got.0.other ≡ Some (w.patch, side_name w.side, first_point l x w) =
@@ -103,7 +112,8 @@ module _ (l : Layout) (x : Lengths) (laid : IsSurface l) (links : List (List Lin
         slice_get_within xs (place_in l v) got.0 got.1,
         get_or_from_slice_get xs (place_in l v) got.0 (link_to side' from' len w.patch side from) got.1 ∙ same,
       ) in
-      subst (λ q. Contains (slice_index_or links q []) (link_to side' from' len w.patch side from)) (sym (ap block_part told)) has
+      subst (λ q. Contains (slice_index_or links q []) (link_to side' from' len w.patch side from))
+      (sym (ap block_part told)) has
 
   forth : (one other : ℕ) → one < l.patches → (side side' : SideName) (from from' len : ℕ)
       → HasLink links one side from len other side' from' → HasLink links other side' from' len one side from

@@ -15,7 +15,11 @@ turned_back one other rev = record { arc = sym rev.arc; turned = twice one.forwa
 
 -- Two arcs that are both the reverse of one are the same.
 one_reverse : (one other next : SideArc) → AreReverse one other → AreReverse one next → next ≡ other
-one_reverse one other next rev rev' = λ t. record { arc = (rev'.arc ∙ sym rev.arc) t; forward = (rev'.turned ∙ sym rev.turned) t }
+one_reverse one other next rev rev' = λ t. record {
+  arc = (rev'.arc ∙ sym rev.arc) t;
+  forward =
+      (rev'.turned ∙ sym rev.turned) t;
+}
 
 pub symmetric : SymmetricLaw
 symmetric l laid one other is across = (
@@ -25,7 +29,8 @@ symmetric l laid one other is across = (
 )
 
 -- A slot that uses the arc of another slot is that slot, or the other slot of it.
-same_or_other : (l : Layout) → IsSurface l → (w v : Slot) → IsSlot l w → IsSlot l v → (use_of l w).arc ≡ (use_of l v).arc
+same_or_other : (l : Layout) → IsSurface l → (w v : Slot) → IsSlot l w → IsSlot l v
+    → (use_of l w).arc ≡ (use_of l v).arc
     → (w ≡ v) ⊎ IsOtherSlot l v w
 same_or_other l laid w v is is' same = by_way (use_of l w).forward (use_of l v).forward refl refl
   where

@@ -1,13 +1,13 @@
 //! The blocks of a mesh.
 
-ghost use Rattle.std.specs.Prelude.{◌≡◌, length};
+ghost use Rattle.std.specs.Prelude.{◌≡◌, length, None};
 
 use def_blocks::Link;
 use def_cuttext::Chosen;
 use qm_cutmesh::Regridded;
 
 /// The blocks of a mesh: how its cut was chosen, if it was, how many parts each old edge has, the new mesh of their
-/// points, and the links of each block.
+/// points, which are evenly spaced, and the links of each block.
 #[derive(Drop)]
 pub struct Blocks {
     pub chosen: Option<Chosen>,
@@ -15,4 +15,5 @@ pub struct Blocks {
     pub points: Regridded,
     pub links: Vec<Vec<Link>>,
     pub ghost linked: { length links.items ≡ length points.plan.patches },
+    pub ghost even: { points.shares ≡ None },
 }

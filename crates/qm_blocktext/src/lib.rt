@@ -1,5 +1,5 @@
-//! Puts the text of the blocks of a mesh, or of the grids of a chosen cut: of each its size, its points and its links. It
-//! goes out line by line, wherever the text goes.
+//! Puts the text of the blocks of a mesh, or of the grids of a chosen cut: of each its size, its points and its links.
+//! It goes out line by line, wherever the text goes.
 #![tactic(auto)]
 
 mod arcs;

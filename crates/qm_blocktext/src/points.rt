@@ -1,6 +1,6 @@
 //! The lines of the points of blocks.
 
-ghost use Rattle.std.specs.Prelude.{◌≡◌, ◌≤◌, ◌<◌, ◌+◌, ◌++◌, ◌∷◌, [], length, OnOk, OnErr};
+ghost use Rattle.std.specs.Prelude.{◌≡◌, ◌≤◌, ◌<◌, ◌+◌, ◌++◌, ◌∷◌, [], length, None, OnOk, OnErr};
 ghost use Rattle.std.specs.List.{flat_map};
 ghost use Rattle.arrayvec.specs.ArrayVec.{array_vec_len};
 ghost use Rattle.def_text.specs.Canonical.{micro_text};
@@ -22,7 +22,8 @@ pub(crate) fn put_points<T: Output>(
     new: &Regridded,
     block: usize,
 ) -> Result<(), Stopped>
-    requires { block < length new.now.plan.patches }
+    requires block { block < length new.now.plan.patches }
+    requires even { new.now.shares ≡ None }
     ensures whole { OnOk result (T.takes out.old out.new (points_in new.now block)) }
     ensures part { OnErr result (T.stops out.old out.new (points_in new.now block)) }
 {
@@ -44,6 +45,7 @@ fn put_row<T: Output>(
 ) -> Result<(), Stopped>
     requires block { block < length new.now.plan.patches }
     requires row { j ≤ height_in new.now block }
+    requires even { new.now.shares ≡ None }
     ensures whole { OnOk result (T.takes out.old out.new (row_text (row_in new.now block j))) }
     ensures part { OnErr result (T.stops out.old out.new (row_text (row_in new.now block j))) }
 {

@@ -1,5 +1,5 @@
 -- The cells of a patch, and the lines of all patches.
-use Rattle.std.proofs.Common.{◌≡◌, ℕ, ◌*◌, ◌/◌, ◌%◌, ◌<◌, length, map, subst, arith}
+use Rattle.std.proofs.Common.{◌≡◌, ℕ, ◌*◌, ◌/◌, ◌%◌, ◌<◌, List, Option, length, map, subst, arith}
 use Rattle.std.specs.List.{flat_map, range_with_len}
 use Rattle.std.proofs.Math.Nat.{mul_comm}
 use Rattle.def_layout.specs.Lengths.{Lengths}
@@ -11,9 +11,11 @@ use Rattle.qm_map.specs.PatchLines.{patch_lines}
 use Rattle.written_laws.proofs.EdgeNumbers.{in_rows}
 
 -- The lines of all patches are those of all cells.
-pub all_lines : (plan : Plan) (new : Lengths)
-    → flat_map (patch_lines plan new) (map (λ p. p) (range_with_len 0 (length plan.patches))) ≡ cell_lines plan new
-all_lines plan new = by_patches (layout_of plan) new (dart_home plan new) cell_line (length plan.patches) (omega arith)
+pub all_lines : (plan : Plan) (shares : Option (List ℕ)) (new : Lengths)
+    → flat_map (patch_lines plan shares new) (map (λ p. p) (range_with_len 0 (length plan.patches)))
+    ≡ cell_lines plan shares new
+all_lines plan shares new = by_patches (layout_of plan) new (dart_home plan shares new) cell_line (length plan.patches)
+    (omega arith)
 
 -- Cell k lies in a column and a row.
 pub in_grid : (w h k : ℕ) → k < w * h → (k % w < w) × (k / w < h) × (0 < w)

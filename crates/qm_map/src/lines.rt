@@ -5,9 +5,11 @@ ghost use Rattle.def_map.specs.Laws.{IsSpot};
 ghost use Rattle.def_map.specs.MapText.{at_vertex_line, cell_front, edge_line, face_line, map_head, on_edge_line};
 ghost use Rattle.def_map.specs.MapText.{seen_text, spot_line};
 ghost use Rattle.def_mesh.specs.Darts.{darts};
+ghost use Rattle.def_written.specs.Places.{ONE};
 
 use def_map::{EdgeSpot, FaceSpot, Seen, Spot};
 use qm_cutmesh::CutMesh;
+use qm_place::EDGE;
 use qm_print::{Line, line_of, numbered_line, push_integer, push_numbered};
 
 /// The first two lines.
@@ -58,13 +60,26 @@ fn at_vertex_line(vertex: u32) -> Line
 }
 
 /// The line of one that lies so far along the way from one old vertex to another.
-fn on_edge_line(from: u32, to: u32, some: u32, parts: u32) -> Line
+fn on_edge_line(from: u32, to: u32, some: u64, parts: u64) -> Line
     ensures { result.bytes ≡ on_edge_line from to some parts }
 {
+    if parts == EDGE {
+        return share_line(from, to, some);
+    }
     let mut line = numbered_line("edge ", u64::from(from), " ");
     push_numbered(&mut line, u64::from(to), " ");
-    push_numbered(&mut line, u64::from(some), " ");
-    push_numbered(&mut line, u64::from(parts), "\n");
+    push_numbered(&mut line, some, " ");
+    push_numbered(&mut line, parts, "\n");
+    line
+}
+
+/// The same in parts of a parameter.
+fn share_line(from: u32, to: u32, some: u64) -> Line
+    ensures { result.bytes ≡ on_edge_line from to some ONE }
+{
+    let mut line = numbered_line("share ", u64::from(from), " ");
+    push_numbered(&mut line, u64::from(to), " ");
+    push_numbered(&mut line, some, "\n");
     line
 }
 

@@ -18,9 +18,9 @@ use qm_output::Output;
 /// then one for each face, in the order of the text of the new mesh. Linear; without memory.
 pub fn put_map<T: Output>(out: &mut T, new: &Regridded) -> Result<(), Stopped>
     ensures whole { OnOk result (T.takes out.old out.new
-        (map_text new.now.soup new.now.plan (lengths_in new.now.lengths))) }
+        (map_text new.now.soup new.now.plan new.now.shares (lengths_in new.now.lengths))) }
     ensures part { OnErr result (T.stops out.old out.new
-        (map_text new.now.soup new.now.plan (lengths_in new.now.lengths))) }
+        (map_text new.now.soup new.now.plan new.now.shares (lengths_in new.now.lengths))) }
 {
     put_head(out, new)?;
     put_vertices(out, new)?;

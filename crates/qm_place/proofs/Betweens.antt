@@ -1,5 +1,5 @@
 -- New vertices lie between the old ones.
-use Rattle.std.proofs.Common.{◌≡◌, ℕ, zero, suc, ◌<◌, length, refl, sym, ap, subst, arith}
+use Rattle.std.proofs.Common.{◌≡◌, ℕ, zero, suc, ◌<◌, List, length, Option, refl, sym, ap, subst, arith}
 use Rattle.std.specs.Prelude.{◌≤ℤ◌}
 use Rattle.def_mesh.specs.Faces.{Faces}
 use Rattle.def_mesh.specs.Vertices.{vertex_count}
@@ -9,29 +9,37 @@ use Rattle.def_layout.specs.Plans.{Plan, layout_of}
 use Rattle.def_text.specs.Types.{Positions}
 use Rattle.def_written.specs.Numbers.{vertices}
 use Rattle.def_remesh.specs.NewPoints.{point_at}
-use Rattle.def_remesh.specs.NewSoup.{coordinate, new_coordinate, new_place}
+use Rattle.def_remesh.specs.NewSoup.{coordinate, new_coordinate, spaced_place}
 use Rattle.def_remesh.specs.Placings.{coordinate_in, IsMeshLayout, LiesBetween}
+use Rattle.def_remesh.specs.Spaced.{spacing_by}
+use Rattle.def_written.specs.Spacings.{IsSpacing}
 use Rattle.map_laws.proofs.Numbered.{is_point}
 use Rattle.map_laws.proofs.OldPoints.{old_low}
 use Rattle.qm_reach.proofs.Whole.{laid_of, lengths_of}
 use Rattle.written_laws.proofs.Between.{between_law}
 
 -- One of the three coordinates of a new vertex.
-axis_of : (faces : Faces) (plan : Plan) (places : Positions) (new : ℕ → ℕ) (v axis : ℕ) → axis < 3
-    → coordinate_in (new_place faces plan places new v) axis ≡ new_coordinate faces plan places new (point_at (layout_of plan) new v) axis
-axis_of faces plan places new v zero low = refl
-axis_of faces plan places new v (suc zero) low = refl
-axis_of faces plan places new v (suc (suc zero)) low = refl
-axis_of faces plan places new v (suc (suc (suc axis))) low = absurd (omega arith)
+axis_of : (faces : Faces) (plan : Plan) (places : Positions) (shares : Option (List ℕ)) (new : ℕ → ℕ) (v axis : ℕ)
+    → axis < 3
+    → coordinate_in (spaced_place faces plan places shares new v) axis
+    ≡ new_coordinate faces plan places shares new (point_at (layout_of plan) new v) axis
+axis_of faces plan places shares new v zero low = refl
+axis_of faces plan places shares new v (suc zero) low = refl
+axis_of faces plan places shares new v (suc (suc zero)) low = refl
+axis_of faces plan places shares new v (suc (suc (suc axis))) low = absurd (omega arith)
 
-module _ (faces : Faces) (plan : Plan) (new : Lengths) (layout : IsMeshLayout faces plan) (lengths : AreLengths (layout_of plan) new) where
-  pub lies_between : (places : Positions) (v : ℕ) → length places ≡ vertex_count faces → v < vertices (layout_of plan) new
-      → LiesBetween places (new_place faces plan places new v)
+module _ (faces : Faces) (plan : Plan) (shares : Option (List ℕ)) (new : Lengths) (layout : IsMeshLayout faces plan)
+    (lengths : AreLengths (layout_of plan) new)
+    (spaced : IsSpacing (layout_of plan) (long_at plan.arcs) new (spacing_by plan shares new)) where
+  pub lies_between : (places : Positions) (v : ℕ) → length places ≡ vertex_count faces
+      → v < vertices (layout_of plan) new
+      → LiesBetween places (spaced_place faces plan places shares new v)
   lies_between places v all low axis axis_low least greatest bound =
-      subst (λ z. (least ≤ℤ z) × (z ≤ℤ greatest)) (sym (axis_of faces plan places new v axis axis_low))
-      (subst (λ (F : Faces). (least ≤ℤ new_coordinate F plan places new (point_at (layout_of plan) new v) axis)
-      × (new_coordinate F plan places new (point_at (layout_of plan) new v) axis ≤ℤ greatest)) layout.1
-      (between_law (layout_of plan) (long_at plan.arcs) new (coordinate layout.0.faces plan places axis) least greatest
-      (laid_of plan layout.0) (lengths_of plan layout.0) lengths
+      subst (λ z. (least ≤ℤ z) × (z ≤ℤ greatest)) (sym (axis_of faces plan places shares new v axis axis_low))
+      (subst (λ (F : Faces). (least ≤ℤ new_coordinate F plan places shares new (point_at (layout_of plan) new v) axis)
+      × (new_coordinate F plan places shares new (point_at (layout_of plan) new v) axis ≤ℤ greatest)) layout.1
+      (between_law (layout_of plan) (long_at plan.arcs) new (spacing_by plan shares new)
+      (coordinate layout.0.faces plan places axis) least greatest
+      (laid_of plan layout.0) (lengths_of plan layout.0) lengths spaced
       (λ a is. bound _ (omega (arith, old_low plan layout.0 a is, all, ap vertex_count layout.1)))
       (point_at (layout_of plan) new v) (is_point (layout_of plan) new v low)))

@@ -1,5 +1,6 @@
 -- Numbers that fit their type, and products of such.
-use Rattle.std.proofs.Common.{◌≡◌, ℕ, zero, suc, ◌-◌, ◌*◌, ◌^◌, ◌<◌, ◌≤◌, ℤ, pos, negsuc, ◌+ℤ◌, ◌-ℤ◌, ◌*ℤ◌, to_z, of_z, ◌∙◌, ap, arith}
+use Rattle.std.proofs.Common.{◌≡◌, ℕ, zero, suc, ◌-◌, ◌*◌, ◌^◌, ◌<◌, ◌≤◌, ℤ, pos, negsuc, ◌+ℤ◌, ◌-ℤ◌, ◌*ℤ◌, to_z, of_z}
+use Rattle.std.proofs.Common.{◌∙◌, ap, arith}
 use Rattle.std.specs.Prelude.{◌≤ℤ◌, unsigned_abs, neg_ℤ}
 use Rattle.std.specs.Int.{int_div_euclid, w64, w128}
 use Rattle.std.proofs.lemmas.Int.{ints}
@@ -24,7 +25,8 @@ negated (suc n) = omega arith
 
 pub times_few : (k m : ℕ) (z : ℤ) (b : ℕ) → k ≤ m → unsigned_abs z ≤ b → unsigned_abs (pos k *ℤ z) ≤ m * b
 times_few k m (pos n) b k_le z_le = mul-le k n m b k_le z_le
-times_few k m (negsuc n) b k_le z_le = omega (arith, negated (k * suc n), mul-le k (suc n) m b k_le (omega (arith, z_le)))
+times_few k m (negsuc n) b k_le z_le =
+    omega (arith, negated (k * suc n), mul-le k (suc n) m b k_le (omega (arith, z_le)))
 
 -- A part of the way is no longer than the way may be.
 pub part_few : (way : ℤ) (some parts : ℕ) → some < parts → unsigned_abs way ≤ 2 ^ 52
@@ -36,38 +38,49 @@ part_few way some parts less small =
     same : way -ℤ pos 0 ≡ way
     same = omega (arith, ints)
 
-    by_bounds : (neg_ℤ (pos (2 ^ 52)) ≤ℤ on_the_way (pos 0) way some parts) × (on_the_way (pos 0) way some parts ≤ℤ pos (2 ^ 52))
+    by_bounds : (neg_ℤ (pos (2 ^ 52)) ≤ℤ on_the_way (pos 0) way some parts)
+        × (on_the_way (pos 0) way some parts ≤ℤ pos (2 ^ 52))
         → unsigned_abs (int_div_euclid ((pos (2 * some) *ℤ way) +ℤ pos parts) (pos (2 * parts))) ≤ 2 ^ 52
     by_bounds b =
-        let e : int_div_euclid ((pos (2 * some) *ℤ (way -ℤ pos 0)) +ℤ pos parts) (pos (2 * parts)) ≡ int_div_euclid ((pos (2 * some) *ℤ way) +ℤ pos parts) (pos (2 * parts)) =
+        let e : int_div_euclid ((pos (2 * some) *ℤ (way -ℤ pos 0)) +ℤ pos parts) (pos (2 * parts))
+        ≡ int_div_euclid ((pos (2 * some) *ℤ way) +ℤ pos parts) (pos (2 * parts)) =
         ap (λ z. int_div_euclid ((pos (2 * some) *ℤ z) +ℤ pos parts) (pos (2 * parts))) same in
         omega (arith, ints, b.0, b.1, e)
 
 -- Between coordinates lies a coordinate.
-pub way_micro : (p q : ℤ) (some parts : ℕ) → some < parts → unsigned_abs p ≤ 999999999999999 → unsigned_abs q ≤ 999999999999999
+pub way_micro : (p q : ℤ) (some parts : ℕ) → some < parts → unsigned_abs p ≤ 999999999999999
+    → unsigned_abs q ≤ 999999999999999
     → unsigned_abs (on_the_way p q some parts) ≤ 999999999999999
 way_micro p q some parts less p_small q_small =
     by_bounds (way_within p q (neg_ℤ (pos 999999999999999)) (pos 999999999999999) some parts (omega arith) (omega arith)
-    (omega (arith, ints, p_small)) (omega (arith, ints, p_small)) (omega (arith, ints, q_small)) (omega (arith, ints, q_small)))
+    (omega (arith, ints, p_small)) (omega (arith, ints, p_small)) (omega (arith, ints, q_small))
+    (omega (arith, ints, q_small)))
   where
-    by_bounds : (neg_ℤ (pos 999999999999999) ≤ℤ on_the_way p q some parts) × (on_the_way p q some parts ≤ℤ pos 999999999999999)
+    by_bounds : (neg_ℤ (pos 999999999999999) ≤ℤ on_the_way p q some parts)
+        × (on_the_way p q some parts ≤ℤ pos 999999999999999)
         → unsigned_abs (on_the_way p q some parts) ≤ 999999999999999
     by_bounds b = omega (arith, ints, b.0, b.1)
 
-pub blend_micro : (s t : ℕ) (a b c d : ℤ) → s ≤ ONE → t ≤ ONE → unsigned_abs a ≤ 999999999999999 → unsigned_abs b ≤ 999999999999999
-    → unsigned_abs c ≤ 999999999999999 → unsigned_abs d ≤ 999999999999999 → unsigned_abs (blend s t a b c d) ≤ 999999999999999
+pub blend_micro : (s t : ℕ) (a b c d : ℤ) → s ≤ ONE → t ≤ ONE → unsigned_abs a ≤ 999999999999999
+    → unsigned_abs b ≤ 999999999999999
+    → unsigned_abs c ≤ 999999999999999 → unsigned_abs d ≤ 999999999999999 → unsigned_abs (blend s t a b c d)
+    ≤ 999999999999999
 blend_micro s t a b c d s_le t_le a_small b_small c_small d_small =
     by_bounds (blend_within s t a b c d (neg_ℤ (pos 999999999999999)) (pos 999999999999999) s_le t_le
-    (omega (arith, ints, a_small)) (omega (arith, ints, b_small)) (omega (arith, ints, c_small)) (omega (arith, ints, d_small))
-    (omega (arith, ints, a_small)) (omega (arith, ints, b_small)) (omega (arith, ints, c_small)) (omega (arith, ints, d_small)))
+    (omega (arith, ints, a_small)) (omega (arith, ints, b_small)) (omega (arith, ints, c_small))
+    (omega (arith, ints, d_small))
+    (omega (arith, ints, a_small)) (omega (arith, ints, b_small)) (omega (arith, ints, c_small))
+    (omega (arith, ints, d_small)))
   where
     by_bounds : (neg_ℤ (pos 999999999999999) ≤ℤ blend s t a b c d) × (blend s t a b c d ≤ℤ pos 999999999999999)
         → unsigned_abs (blend s t a b c d) ≤ 999999999999999
     by_bounds e = omega (arith, ints, e.0, e.1)
 
 -- What the calls of `weighed`, `part_of` and `blend` compute.
-pub weighed_is : (a b f g : ℕ) (n m : ℤ) → f ≡ a → g ≡ b → m ≡ to_z w64 (of_z w64 n) → a ≤ ONE → b ≤ ONE → unsigned_abs n < 2 ^ 52
-    → (to_z w128 (of_z w128 (to_z w128 (f * g) *ℤ to_z w128 (of_z w128 m))) ≡ pos (a * b) *ℤ n) × (unsigned_abs (pos (a * b) *ℤ n) ≤ 2 ^ 116)
+pub weighed_is : (a b f g : ℕ) (n m : ℤ) → f ≡ a → g ≡ b → m ≡ to_z w64 (of_z w64 n) → a ≤ ONE → b ≤ ONE
+    → unsigned_abs n < 2 ^ 52
+    → (to_z w128 (of_z w128 (to_z w128 (f * g) *ℤ to_z w128 (of_z w128 m))) ≡ pos (a * b) *ℤ n)
+    × (unsigned_abs (pos (a * b) *ℤ n) ≤ 2 ^ 116)
 weighed_is a b f g n m f_is g_is m_is a_le b_le small =
     ((λ i. to_z w128 (of_z w128 (weight i *ℤ number i))) ∙ kept (pos (a * b) *ℤ n) (omega (arith, few)), few)
   where
@@ -75,38 +88,45 @@ weighed_is a b f g n m f_is g_is m_is a_le b_le small =
     product = mul-le a b ONE ONE a_le b_le
 
     few : unsigned_abs (pos (a * b) *ℤ n) ≤ 2 ^ 116
-    few = let e : unsigned_abs (pos (a * b) *ℤ n) ≤ (ONE * ONE) * 2 ^ 52 = times_few (a * b) (ONE * ONE) n (2 ^ 52) product (omega (arith, small)) in omega (arith, e)
+    few = let e : unsigned_abs (pos (a * b) *ℤ n) ≤ (ONE * ONE) * 2 ^ 52 =
+        times_few (a * b) (ONE * ONE) n (2 ^ 52) product (omega (arith, small)) in omega (arith, e)
 
     weight : to_z w128 (f * g) ≡ pos (a * b)
     weight = (λ i. to_z w128 (f_is i * g_is i)) ∙ natural (a * b) (omega (arith, product))
 
     number : to_z w128 (of_z w128 m) ≡ n
-    number = ap (λ z. to_z w128 (of_z w128 z)) (m_is ∙ kept_half n (omega (arith, small))) ∙ kept n (omega (arith, small))
+    number = ap (λ z. to_z w128 (of_z w128 z)) (m_is ∙ kept_half n (omega (arith, small)))
+        ∙ kept n (omega (arith, small))
 
-pub part_is : (way q twice one double : ℤ) (some parts s d : ℕ) → (some < parts) → parts ≤ 2 ^ 31 → unsigned_abs way < 2 ^ 52
-    → s ≡ some → twice ≡ pos (2 * s * 1) *ℤ to_z w64 (of_z w64 way) → one ≡ pos parts → d ≡ parts → double ≡ pos (2 * d)
-    → q ≡ int_div_euclid (to_z w128 (of_z w128 (to_z w128 (of_z w128 twice) +ℤ to_z w128 (of_z w128 one)))) (to_z w128 (of_z w128 double))
-    → (to_z w64 (of_z w64 (to_z w128 (of_z w128 q))) ≡ int_div_euclid ((pos (2 * some) *ℤ way) +ℤ pos parts) (pos (2 * parts)))
+pub part_is : (way q twice one double : ℤ) (some parts : ℕ) → (some < parts) → parts ≤ ONE
+    → unsigned_abs way < 2 ^ 52
+    → twice ≡ pos (some * 2) *ℤ to_z w64 (of_z w64 way) → one ≡ pos parts → double ≡ pos (2 * parts)
+    → q ≡ int_div_euclid (to_z w128 (of_z w128 (to_z w128 (of_z w128 twice) +ℤ to_z w128 (of_z w128 one))))
+    (to_z w128 (of_z w128 double))
+    → (to_z w64 (of_z w64 (to_z w128 (of_z w128 q))) ≡ int_div_euclid ((pos (2 * some) *ℤ way) +ℤ pos parts)
+    (pos (2 * parts)))
     × (unsigned_abs q ≤ 2 ^ 52)
-part_is way q twice one double some parts s d less le small s_is twice_is one_is d_is double_is q_is =
+part_is way q twice one double some parts less le small twice_is one_is double_is q_is =
     (ap (λ z. to_z w64 (of_z w64 z)) (kept q (omega (arith, few))) ∙ kept_half q (omega (arith, few)) ∙ quotient, few)
   where
     plain : twice ≡ pos (2 * some) *ℤ way
     plain =
-        let e : 2 * s * 1 ≡ 2 * some = omega (arith, s_is) in
+        let e : some * 2 ≡ 2 * some = omega arith in
         twice_is ∙ (λ i. pos (e i) *ℤ kept_half way (omega (arith, small)) i)
 
-    twice_few : unsigned_abs (pos (2 * some) *ℤ way) ≤ 2 ^ 32 * 2 ^ 52
-    twice_few = times_few (2 * some) (2 ^ 32) way (2 ^ 52) (omega (arith, less, le)) (omega (arith, small))
+    twice_few : unsigned_abs (pos (2 * some) *ℤ way) ≤ 2 ^ 33 * 2 ^ 52
+    twice_few = times_few (2 * some) (2 ^ 33) way (2 ^ 52) (omega (arith, less, le)) (omega (arith, small))
 
-    sum : to_z w128 (of_z w128 (to_z w128 (of_z w128 twice) +ℤ to_z w128 (of_z w128 one))) ≡ (pos (2 * some) *ℤ way) +ℤ pos parts
+    sum : to_z w128 (of_z w128 (to_z w128 (of_z w128 twice) +ℤ to_z w128 (of_z w128 one)))
+        ≡ (pos (2 * some) *ℤ way) +ℤ pos parts
     sum =
         (λ i. to_z w128 (of_z w128 (to_z w128 (of_z w128 (plain i)) +ℤ to_z w128 (of_z w128 (one_is i)))))
-        ∙ (λ i. to_z w128 (of_z w128 (kept (pos (2 * some) *ℤ way) (omega (arith, twice_few)) i +ℤ kept (pos parts) (omega (arith, ints, le)) i)))
+        ∙ (λ i. to_z w128 (of_z w128 (kept (pos (2 * some) *ℤ way) (omega (arith, twice_few)) i +ℤ kept (pos parts)
+        (omega (arith, ints, le)) i)))
         ∙ kept ((pos (2 * some) *ℤ way) +ℤ pos parts) (omega (arith, ints, twice_few, le))
 
     bottom : to_z w128 (of_z w128 double) ≡ pos (2 * parts)
-    bottom = ap (λ z. to_z w128 (of_z w128 z)) (double_is ∙ ap (λ n. pos (2 * n)) d_is) ∙ kept (pos (2 * parts)) (omega (arith, ints, le))
+    bottom = ap (λ z. to_z w128 (of_z w128 z)) double_is ∙ kept (pos (2 * parts)) (omega (arith, ints, le))
 
     quotient : q ≡ int_div_euclid ((pos (2 * some) *ℤ way) +ℤ pos parts) (pos (2 * parts))
     quotient = q_is ∙ (λ i. int_div_euclid (sum i) (bottom i))
@@ -114,21 +134,26 @@ part_is way q twice one double some parts s d less le small s_is twice_is one_is
     few : unsigned_abs q ≤ 2 ^ 52
     few = omega (arith, part_few way some parts less (omega (arith, small)), ap unsigned_abs quotient)
 
-pub way_is : (p q r : ℤ) (some parts : ℕ) → some < parts → unsigned_abs p ≤ 999999999999999 → unsigned_abs q ≤ 999999999999999
-    → r ≡ int_div_euclid ((pos (2 * some) *ℤ to_z w64 (of_z w64 (to_z w64 (of_z w64 q) -ℤ to_z w64 (of_z w64 p)))) +ℤ pos parts) (pos (2 * parts))
+pub way_is : (p q r : ℤ) (some parts : ℕ) → some < parts → unsigned_abs p ≤ 999999999999999
+    → unsigned_abs q ≤ 999999999999999
+    → r ≡ int_div_euclid ((pos (2 * some) *ℤ to_z w64 (of_z w64 (to_z w64 (of_z w64 q) -ℤ to_z w64 (of_z w64 p)))) +ℤ
+    pos parts) (pos (2 * parts))
     → unsigned_abs r ≤ 2 ^ 52
     → to_z w64 (of_z w64 (to_z w64 (of_z w64 p) +ℤ to_z w64 (of_z w64 r))) ≡ on_the_way p q some parts
 way_is p q r some parts less p_small q_small r_is r_small =
     (λ i. to_z w64 (of_z w64 (kept_half p (omega (arith, p_small)) i +ℤ kept_half r (omega (arith, r_small)) i)))
-    ∙ kept_half (p +ℤ r) (omega (arith, ints, p_small, r_small)) ∙ ap (λ z. p +ℤ z) (r_is ∙ ap (λ z. int_div_euclid ((pos (2 * some) *ℤ z) +ℤ pos parts) (pos (2 * parts))) gap)
+    ∙ kept_half (p +ℤ r) (omega (arith, ints, p_small, r_small))
+    ∙ ap (λ z. p +ℤ z) (r_is ∙ ap (λ z. int_div_euclid ((pos (2 * some) *ℤ z) +ℤ pos parts) (pos (2 * parts))) gap)
   where
     gap : to_z w64 (of_z w64 (to_z w64 (of_z w64 q) -ℤ to_z w64 (of_z w64 p))) ≡ q -ℤ p
     gap =
         (λ i. to_z w64 (of_z w64 (kept_half q (omega (arith, q_small)) i -ℤ kept_half p (omega (arith, p_small)) i)))
         ∙ kept_half (q -ℤ p) (omega (arith, ints, p_small, q_small))
 
-pub sum_is : (a b c d : ℤ) → unsigned_abs a ≤ 2 ^ 116 → unsigned_abs b ≤ 2 ^ 116 → unsigned_abs c ≤ 2 ^ 116 → unsigned_abs d ≤ 2 ^ 116
-    → to_z w128 (of_z w128 (to_z w128 (of_z w128 (to_z w128 (of_z w128 a) +ℤ to_z w128 (of_z w128 b))) +ℤ to_z w128 (of_z w128 (to_z w128 (of_z w128 c) +ℤ to_z w128 (of_z w128 d)))))
+pub sum_is : (a b c d : ℤ) → unsigned_abs a ≤ 2 ^ 116 → unsigned_abs b ≤ 2 ^ 116 → unsigned_abs c ≤ 2 ^ 116
+    → unsigned_abs d ≤ 2 ^ 116
+    → to_z w128 (of_z w128 (to_z w128 (of_z w128 (to_z w128 (of_z w128 a) +ℤ to_z w128 (of_z w128 b))) +ℤ to_z w128
+    (of_z w128 (to_z w128 (of_z w128 c) +ℤ to_z w128 (of_z w128 d)))))
     ≡ (a +ℤ b) +ℤ (c +ℤ d)
 sum_is a b c d a_small b_small c_small d_small =
     (λ i. to_z w128 (of_z w128 (two a b a_small b_small i +ℤ two c d c_small d_small i)))
@@ -140,7 +165,8 @@ sum_is a b c d a_small b_small c_small d_small =
         (λ i. to_z w128 (of_z w128 (kept y (omega (arith, y_small)) i +ℤ kept z (omega (arith, z_small)) i)))
         ∙ kept (y +ℤ z) (omega (arith, ints, y_small, z_small))
 
-pub sum_fits : (a b c d : ℤ) → unsigned_abs a ≤ 2 ^ 116 → unsigned_abs b ≤ 2 ^ 116 → unsigned_abs c ≤ 2 ^ 116 → unsigned_abs d ≤ 2 ^ 116
+pub sum_fits : (a b c d : ℤ) → unsigned_abs a ≤ 2 ^ 116 → unsigned_abs b ≤ 2 ^ 116 → unsigned_abs c ≤ 2 ^ 116
+    → unsigned_abs d ≤ 2 ^ 116
     → unsigned_abs ((a +ℤ b) +ℤ (c +ℤ d)) ≤ 2 ^ 118
 sum_fits a b c d a_small b_small c_small d_small = omega (arith, ints, a_small, b_small, c_small, d_small)
 
@@ -162,18 +188,25 @@ pub record AreWeighed (s t : ℕ) (a b c d wa wb wc wd : ℤ) : Type 0 where
   pub d_short : unsigned_abs wd ≤ 2 ^ 116
 
 pub mean_is : (s t : ℕ) (a b c d wa wb wc wd mean : ℤ) → AreWeighed s t a b c d wa wb wc wd
-    → mean ≡ int_div_euclid (to_z w128 (of_z w128 (to_z w128 (of_z w128 (to_z w128 (of_z w128 (to_z w128 (of_z w128 wa) +ℤ to_z w128 (of_z w128 wb)))
+    → mean ≡ int_div_euclid (to_z w128
+    (of_z w128 (to_z w128 (of_z w128 (to_z w128 (of_z w128 (to_z w128 (of_z w128 wa) +ℤ to_z w128 (of_z w128 wb)))
     +ℤ to_z w128 (of_z w128 (to_z w128 (of_z w128 wc) +ℤ to_z w128 (of_z w128 wd))))) +ℤ pos (2 ^ 63)))) (pos (2 ^ 64))
     → mean ≡ blend s t a b c d
 mean_is s t a b c d wa wb wc wd mean are is =
-    is ∙ (λ i. int_div_euclid (to_z w128 (of_z w128 (sum_is wa wb wc wd are.a_short are.b_short are.c_short are.d_short i +ℤ pos (2 ^ 63)))) (pos (2 ^ 64)))
-    ∙ ap (λ z. int_div_euclid z (pos (2 ^ 64))) (kept (((wa +ℤ wb) +ℤ (wc +ℤ wd)) +ℤ pos (2 ^ 63)) (omega (arith, ints, sum_fits wa wb wc wd are.a_short are.b_short are.c_short are.d_short)))
-    ∙ (λ i. int_div_euclid (((term a wa ((ONE - s) * (ONE - t)) are.a_small are.a_is i +ℤ term b wb (s * (ONE - t)) are.b_small are.b_is i)
-    +ℤ (term c wc ((ONE - s) * t) are.c_small are.c_is i +ℤ term d wd (s * t) are.d_small are.d_is i)) +ℤ pos (2 ^ 63)) (pos (2 ^ 64)))
+    is ∙ (λ i. int_div_euclid
+    (to_z w128 (of_z w128 (sum_is wa wb wc wd are.a_short are.b_short are.c_short are.d_short i +ℤ pos (2 ^ 63))))
+    (pos (2 ^ 64)))
+    ∙ ap (λ z. int_div_euclid z (pos (2 ^ 64))) (kept (((wa +ℤ wb) +ℤ (wc +ℤ wd)) +ℤ pos (2 ^ 63))
+    (omega (arith, ints, sum_fits wa wb wc wd are.a_short are.b_short are.c_short are.d_short)))
+    ∙ (λ i. int_div_euclid (((term a wa ((ONE - s) * (ONE - t)) are.a_small are.a_is i +ℤ term b wb (s * (ONE - t))
+    are.b_small are.b_is i)
+    +ℤ (term c wc ((ONE - s) * t) are.c_small are.c_is i +ℤ term d wd (s * t) are.d_small are.d_is i)) +ℤ pos (2 ^ 63))
+    (pos (2 ^ 64)))
   where
     term : (z w : ℤ) (k : ℕ) → unsigned_abs z ≤ 999999999999999 → w ≡ pos k *ℤ to_z w64 (of_z w64 z) → w ≡ pos k *ℤ z
     term z w k small same = same ∙ ap (λ n. pos k *ℤ n) (kept_half z (omega (arith, small)))
 
 -- A coordinate that is cast.
 pub cast_micro : (z : ℤ) → unsigned_abs z ≤ 999999999999999 → to_z w64 (of_z w64 (to_z w128 (of_z w128 z))) ≡ z
-cast_micro z small = ap (λ n. to_z w64 (of_z w64 n)) (kept z (omega (arith, small))) ∙ kept_half z (omega (arith, small))
+cast_micro z small = ap (λ n. to_z w64 (of_z w64 n)) (kept z (omega (arith, small)))
+    ∙ kept_half z (omega (arith, small))

@@ -1,26 +1,50 @@
 -- Where the vertices of the new mesh lie, as the tables tell.
-use Rattle.std.proofs.Common.{◌≡◌, ℕ, ◌+◌, ◌-◌, ◌*◌, ◌/◌, ◌%◌, ◌^◌, ◌<◌, ◌≤◌, length, sym, ◌∙◌, ap, subst, arith}
+use Rattle.std.proofs.Common.{
+  ◌≡◌,
+  ℕ,
+  ◌+◌,
+  ◌-◌,
+  ◌*◌,
+  ◌/◌,
+  ◌%◌,
+  ◌^◌,
+  ◌<◌,
+  ◌≤◌,
+  List,
+  length,
+  Option,
+  None,
+  Some,
+  sym,
+  ◌∙◌,
+  ap,
+  subst,
+  arith,
+}
 use Rattle.std.proofs.Math.Nat.{mul_comm}
 use Rattle.def_math.specs.Runs.{run_at}
 use Rattle.def_mesh.specs.Faces.{Faces}
 use Rattle.def_layout.specs.Arcs.{long_at}
 use Rattle.def_layout.specs.Layouts.{Layout, south, east, north, west}
-use Rattle.def_layout.specs.Lengths.{Lengths, wide, high}
+use Rattle.def_layout.specs.Lengths.{Lengths, wide, high, AreLengths}
 use Rattle.def_layout.specs.Plans.{Plan, layout_of, vertex_at}
 use Rattle.def_layoutnet.specs.MeshLayouts.{IsSomeLayout}
 use Rattle.def_written.specs.Numbers.{before_arc, before_patch, vertices}
-use Rattle.def_written.specs.Places.{parameter, parameter_back}
+use Rattle.def_written.specs.Places.{ONE, parameter, parameter_back, ArcSpacing}
+use Rattle.def_written.specs.Spacings.{IsSpacing}
 use Rattle.def_written.specs.Points.{Point, node, along, inside, IsPoint}
 use Rattle.def_map.specs.Spots.{edge_spot, face_spot, spot_at, spot_of}
 use Rattle.def_map.specs.declared.spot.EdgeSpot.{EdgeSpot}
 use Rattle.def_map.specs.declared.spot.FaceSpot.{FaceSpot}
 use Rattle.def_map.specs.declared.spot.Spot.TheVariants.{AtVertex, InFace, OnEdge}
 use Rattle.def_remesh.specs.NewPoints.{along_arcs, inside_patches, lengths_in, point_at}
-use Rattle.def_remesh.specs.Placings.{ArePlaces}
+use Rattle.def_remesh.specs.Placings.{shares_in, spacing_in, ArePlaces}
+use Rattle.def_remesh.specs.Spaced.{shares_along, spacing_by}
 use Rattle.def_remesh.specs.declared.places.PlaceTables.{PlaceTables}
 use Rattle.map_laws.proofs.Numbered.{at_arc, at_node, at_patch, is_point}
 use Rattle.map_laws.proofs.Parameters.{ahead_end, back_end, u_upto, v_upto}
-use Rattle.map_laws.proofs.SpotPlaces.{dart_low}
+use Rattle.map_laws.proofs.Spaced.{spacing_is}
+use Rattle.written_laws.proofs.Spacings.{even_edge, step_is}
 use Rattle.written_laws.proofs.Runs.{run_here, IsInRun}
 use Rattle.qm_place.proofs.Rims.{old_few, old_short}
 use Rattle.qm_place.specs.Placed.{ArePlaced, IsSized}
@@ -31,7 +55,7 @@ use Rattle.qm_reach.proofs.Whole.{laid_of, lengths_of}
 use Rattle.written_laws.proofs.EdgeNumbers.{in_rows}
 use Rattle.written_laws.proofs.Grid.{wide_some, high_some}
 
-module _ (plan : Plan) (new : Lengths) where
+module _ (plan : Plan) (shares : Option (List ℕ)) (new : Lengths) where
   -- Where a number of a vertex leads.
   pub on_arc : (place arc : ℕ) → place < before_arc new (length plan.arcs)
       → arc ≡ run_at (before_arc new) (length plan.arcs) place → IsAlong plan new arc place
@@ -41,20 +65,25 @@ module _ (plan : Plan) (new : Lengths) where
     upto = omega (arith, here.inside);
   })
     where
-      here : IsInRun (λ b. new b - 1) (length plan.arcs) place (run_at (before_arc new) (length plan.arcs) place) (place - before_arc new (run_at (before_arc new) (length plan.arcs) place))
+      here : IsInRun (λ b. new b - 1) (length plan.arcs) place (run_at (before_arc new) (length plan.arcs) place)
+          (place - before_arc new (run_at (before_arc new) (length plan.arcs) place))
       here = run_here (λ b. new b - 1) (length plan.arcs) place low
 
   pub in_patch : (place patch : ℕ) → place < before_patch (layout_of plan) new (length plan.patches)
       → patch ≡ run_at (before_patch (layout_of plan) new) (length plan.patches) place
       → IsInside plan new patch place
   in_patch place patch low same =
-      subst (λ p. IsInside plan new p place) (sym same) (by_run _ _ (run_here (λ q. (wide (layout_of plan) new q - 1) * (high (layout_of plan) new q - 1)) (length plan.patches) place low))
+      subst (λ p. IsInside plan new p place) (sym same)
+      (by_run _ _ (run_here (λ q. (wide (layout_of plan) new q - 1) * (high (layout_of plan) new q - 1))
+      (length plan.patches) place low))
     where
-      by_run : (p o : ℕ) → IsInRun (λ q. (wide (layout_of plan) new q - 1) * (high (layout_of plan) new q - 1)) (length plan.patches) place p o → IsInside plan new p place
+      by_run : (p o : ℕ) → IsInRun (λ q. (wide (layout_of plan) new q - 1) * (high (layout_of plan) new q - 1))
+          (length plan.patches) place p o → IsInside plan new p place
       by_run p o here =
           let offset : place - before_patch (layout_of plan) new p ≡ o = omega (arith, here.place) in
           let less : o < (high (layout_of plan) new p - 1) * (wide (layout_of plan) new p - 1) =
-          subst (λ n. o < n) (mul_comm (wide (layout_of plan) new p - 1) (high (layout_of plan) new p - 1)) here.inside in
+          subst (λ n. o < n) (mul_comm (wide (layout_of plan) new p - 1) (high (layout_of plan) new p - 1))
+          here.inside in
           let rows = in_rows (wide (layout_of plan) new p - 1) (high (layout_of plan) new p - 1) o less in
           record {
             low = here.low;
@@ -65,43 +94,60 @@ module _ (plan : Plan) (new : Lengths) where
           }
 
   -- A node, by its number.
-  pub found_at : (v u : ℕ) → v < length plan.nodes → u ≡ vertex_at plan v → AtVertex u ≡ spot_at plan new v
-  found_at v u low same = ap AtVertex same ∙ ap (spot_of plan new) (sym (at_node (layout_of plan) new v low))
+  pub found_at : (v u : ℕ) → v < length plan.nodes → u ≡ vertex_at plan v → AtVertex u ≡ spot_at plan shares new v
+  found_at v u low same = ap AtVertex same ∙ ap (spot_of plan new (spacing_by plan shares new))
+      (sym (at_node (layout_of plan) new v low))
 
   -- A vertex on an arc.
   pub found_on : (v place arc : ℕ) (spot : EdgeSpot) → length plan.nodes ≤ v → place ≡ v - length plan.nodes
       → place < before_arc new (length plan.arcs) → arc ≡ run_at (before_arc new) (length plan.arcs) place
-      → spot ≡ edge_spot plan arc (place - before_arc new arc + 1) (new arc) → OnEdge spot ≡ spot_at plan new v
+      → spot ≡ edge_spot plan (spacing_by plan shares new) arc (place - before_arc new arc + 1)
+      → OnEdge spot ≡ spot_at plan shares new v
   found_on v place arc spot from place_is low same spot_is =
       ap OnEdge spot_is
-      ∙ (λ t. spot_of plan new (along (same t) (place - before_arc new (same t) + 1)))
-      ∙ ap (λ k. spot_of plan new (along_arcs (layout_of plan) new k)) place_is
-      ∙ ap (spot_of plan new) (sym (at_arc (layout_of plan) new v from (omega (arith, from, low, place_is))))
+      ∙ (λ t. spot_of plan new (spacing_by plan shares new) (along (same t) (place - before_arc new (same t) + 1)))
+      ∙ ap (λ k. spot_of plan new (spacing_by plan shares new) (along_arcs (layout_of plan) new k)) place_is
+      ∙ ap (spot_of plan new (spacing_by plan shares new))
+      (sym (at_arc (layout_of plan) new v from (omega (arith, from, low, place_is))))
 
   -- A vertex inside a patch.
   pub found_in : (v place patch : ℕ) (spot : FaceSpot) → length plan.nodes + before_arc new (length plan.arcs) ≤ v
       → place ≡ v - (length plan.nodes + before_arc new (length plan.arcs))
       → patch ≡ run_at (before_patch (layout_of plan) new) (length plan.patches) place
-      → spot ≡ face_spot plan new patch
+      → spot ≡ face_spot plan new (spacing_by plan shares new) patch
       ((place - before_patch (layout_of plan) new patch) % (wide (layout_of plan) new patch - 1) + 1)
       ((place - before_patch (layout_of plan) new patch) / (wide (layout_of plan) new patch - 1) + 1)
-      → InFace spot ≡ spot_at plan new v
+      → InFace spot ≡ spot_at plan shares new v
   found_in v place patch spot from place_is same spot_is =
       ap InFace spot_is
-      ∙ (λ t. spot_of plan new (inside (same t)
+      ∙ (λ t. spot_of plan new (spacing_by plan shares new) (inside (same t)
       ((place - before_patch (layout_of plan) new (same t)) % (wide (layout_of plan) new (same t) - 1) + 1)
       ((place - before_patch (layout_of plan) new (same t)) / (wide (layout_of plan) new (same t) - 1) + 1)))
-      ∙ ap (λ k. spot_of plan new (inside_patches (layout_of plan) new k)) place_is
-      ∙ ap (spot_of plan new) (sym (at_patch (layout_of plan) new v from))
+      ∙ ap (λ k. spot_of plan new (spacing_by plan shares new) (inside_patches (layout_of plan) new k)) place_is
+      ∙ ap (spot_of plan new (spacing_by plan shares new)) (sym (at_patch (layout_of plan) new v from))
 
-  -- Edges are divided in few parts.
-  pub short_spot : ((arc : ℕ) → arc < length plan.arcs → new arc ≤ 2 ^ 24) → (v : ℕ) → v < vertices (layout_of plan) new → IsShort (spot_at plan new v)
-  short_spot short v low = by_point (point_at (layout_of plan) new v) (is_point (layout_of plan) new v low)
-    where
-      by_point : (a : Point) → IsPoint (layout_of plan) new a → IsShort (spot_of plan new a)
-      by_point (node n) is_a = tt
-      by_point (along arc k) is_a = omega (arith, short arc is_a.0)
-      by_point (inside p i j) is_a = tt
+-- Edges are divided in few parts.
+pub short_step : (plan : Plan) (shares : Option (List ℕ)) (new : Lengths) → IsSomeLayout plan
+    → AreLengths (layout_of plan) new → ((arc : ℕ) → arc < length plan.arcs → new arc ≤ 2 ^ 24)
+    → (arc k : ℕ) → arc < length plan.arcs → k < new arc → ((spacing_by plan shares new).step arc k).parts ≤ ONE
+short_step plan None new is len short arc k low less = omega (arith, short arc low)
+short_step plan (Some shares) new is len short arc k low less =
+    omega (
+      arith,
+      (step_is (layout_of plan) (long_at plan.arcs) new (shares_along plan shares) (lengths_of plan is) len
+          arc k low less).parts,
+    )
+
+pub short_spot : (plan : Plan) (shares : Option (List ℕ)) (new : Lengths) → IsSomeLayout plan
+    → AreLengths (layout_of plan) new → ((arc : ℕ) → arc < length plan.arcs → new arc ≤ 2 ^ 24) → (v : ℕ)
+    → v < vertices (layout_of plan) new → IsShort (spot_at plan shares new v)
+short_spot plan shares new is len short v low =
+    by_point (point_at (layout_of plan) new v) (is_point (layout_of plan) new v low)
+  where
+    by_point : (a : Point) → IsPoint (layout_of plan) new a → IsShort (spot_of plan new (spacing_by plan shares new) a)
+    by_point (node n) is_a = tt
+    by_point (along arc k) is_a = short_step plan shares new is len short arc k is_a.0 is_a.2
+    by_point (inside p i j) is_a = tt
 
 module _ (faces : Faces) (plan : Plan) (tables : PlaceTables) (are : ArePlaces faces plan tables) where
   abbrev l : Layout
@@ -113,6 +159,9 @@ module _ (faces : Faces) (plan : Plan) (tables : PlaceTables) (are : ArePlaces f
   abbrev new : Lengths
   new = lengths_in tables.lengths.items
 
+  abbrev spacing : ArcSpacing
+  spacing = spacing_in plan tables
+
   abbrev is : IsSomeLayout plan
   is = are.layout.0
 
@@ -123,6 +172,9 @@ module _ (faces : Faces) (plan : Plan) (tables : PlaceTables) (are : ArePlaces f
   -- Lengths are short.
   new_short : (arc : ℕ) → arc < length plan.arcs → lengths_in tables.lengths.items arc ≤ 2 ^ 24
   new_short arc low = omega (arith, term_room (λ b. new b - 1) (length plan.arcs) arc low, few_points)
+
+  spaced : IsSpacing (layout_of plan) (long_at plan.arcs) (lengths_in tables.lengths.items) (spacing_in plan tables)
+  spaced = spacing_is plan is new are.lengths are.few (shares_in tables.spaced)
 
   patch_narrow : (p : ℕ) → p < length plan.patches → wide (layout_of plan) (lengths_in tables.lengths.items) p ≤ 2 ^ 21
   patch_narrow p low = omega (arith, side_few l new (laid_of plan is) are.lengths p south low, are.few)
@@ -143,27 +195,36 @@ module _ (faces : Faces) (plan : Plan) (tables : PlaceTables) (are : ArePlaces f
   }
 
   -- What stands in no table.
-  ends_of : (p : ℕ) → p < length plan.patches → HasEnds plan new p
+  ends_of : (p : ℕ) → p < length plan.patches → HasEnds plan new spacing p
   ends_of p low = record {
-    south = ahead_end l old new (laid_of plan is) (lengths_of plan is) are.lengths p south low;
-    east = ap (parameter l old new p east) (sym (are.lengths.upright p low))
-        ∙ ahead_end l old new (laid_of plan is) (lengths_of plan is) are.lengths p east low
+    south = ahead_end l old new spacing (laid_of plan is) (lengths_of plan is) are.lengths spaced p south low;
+    east = ap (parameter l old new spacing p east) (sym (are.lengths.upright p low))
+        ∙ ahead_end l old new spacing (laid_of plan is) (lengths_of plan is) are.lengths spaced p east low
         ∙ omega (arith, (lengths_of plan is).upright p low);
-    north = ap (parameter_back l old new p north) (sym (are.lengths.across p low))
-        ∙ back_end l old new (laid_of plan is) (lengths_of plan is) are.lengths p north low;
-    west = back_end l old new (laid_of plan is) (lengths_of plan is) are.lengths p west low;
+    north = ap (parameter_back l old new spacing p north) (sym (are.lengths.across p low))
+        ∙ back_end l old new spacing (laid_of plan is) (lengths_of plan is) are.lengths spaced p north low;
+    west = back_end l old new spacing (laid_of plan is) (lengths_of plan is) are.lengths spaced p west low;
   }
 
-  small_of : (p i j : ℕ) → p < length plan.patches → i ≤ wide l new p → j ≤ high l new p → IsSmall (grid_point plan new p i j)
+  small_of : (p i j : ℕ) → p < length plan.patches → i ≤ wide l new p → j ≤ high l new p
+      → IsSmall (grid_point plan new spacing p i j)
   small_of p i j low i_le j_le = (
-    omega (arith, u_upto l old new (laid_of plan is) (lengths_of plan is) are.lengths p i j low i_le j_le, old_few plan is p south low),
-    omega (arith, v_upto l old new (laid_of plan is) (lengths_of plan is) are.lengths p i j low i_le j_le, old_few plan is p west low),
+    omega (
+      arith,
+      u_upto l old new spacing (laid_of plan is) (lengths_of plan is) are.lengths spaced p i j low i_le j_le,
+      old_few plan is p south low,
+    ),
+    omega (
+      arith,
+      v_upto l old new spacing (laid_of plan is) (lengths_of plan is) are.lengths spaced p i j low i_le j_le,
+      old_few plan is p west low,
+    ),
   )
 
   pub placed_of : ArePlaced plan tables
   placed_of = record {
     arcs = old_short plan is;
-    darts = dart_low plan is;
+    darts = even_edge l old new (lengths_of plan is) are.lengths;
     patches = sized;
     long = are.long;
     lengths = are.lengths;
@@ -174,6 +235,8 @@ module _ (faces : Faces) (plan : Plan) (tables : PlaceTables) (are : ArePlaces f
     low = patch_short;
     along = are.along;
     inside = are.inside;
+    spaced = are.spaced;
+    spacing = spaced;
     rimmed = are.rimmed;
     rims = are.rims;
     ends = ends_of;

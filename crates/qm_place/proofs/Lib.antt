@@ -1,7 +1,9 @@
+mod ArcPoints
 mod Betweens
 mod Built
 mod Casts
 mod Entries
 mod Found
+mod Paths
 mod Pushes
 mod Rims

@@ -1,14 +1,17 @@
 -- Lists that grow at their end, and the parameters of a side that are put there arc by arc.
-use Rattle.std.proofs.Common.{◌≡◌, ℕ, ◌+◌, ◌-◌, ◌*◌, ◌/◌, ◌<◌, ◌≤◌, Bool, true, false, cond, List, length, sym, ◌∙◌, ap, subst, inl, inr, arith}
+use Rattle.std.proofs.Common.{◌≡◌, ℕ, ◌+◌, ◌-◌, ◌*◌, ◌/◌, ◌<◌, ◌≤◌, Bool, true, false, cond, not, List, [], ◌∷◌}
+use Rattle.std.proofs.Common.{◌++◌, length, length-append, sym, ◌∙◌, ap, subst, inl, inr, arith}
 use Rattle.std.specs.Prelude.{slice_index}
 use Rattle.std.proofs.lemmas.Bool.{cases_lt}
+use Rattle.std.proofs.lemmas.List.{get_or_append_left, get_or_push}
 use Rattle.std.proofs.lemmas.Nat.{mul-le}
 use Rattle.std.proofs.Math.Nat.{mul_comm}
 use Rattle.def_layout.specs.Arcs.{long_at}
+use Rattle.def_layout.specs.declared.tmesh.SideArc.{SideArc}
 use Rattle.def_layout.specs.Layouts.{Way, south, east, north, west, Layout, IsSlot}
 use Rattle.def_layout.specs.Lengths.{Lengths, reach, size}
 use Rattle.def_layout.specs.Plans.{Plan, layout_of, plan}
-use Rattle.def_written.specs.Places.{ONE, arc_parameter, parameter, parameter_back}
+use Rattle.def_written.specs.Places.{ONE, parameter, parameter_back, ArcSpacing}
 use Rattle.def_written.specs.Points.{use_over}
 use Rattle.def_remesh.specs.Placings.{side_parameter, AreParameters}
 use Rattle.qm_place.specs.Pushed.{on_arc, ArePushed, IsKept}
@@ -26,15 +29,30 @@ pushed_join a b c n m f g p q same = record {
     | inr more ↦
         let place : length a + k ≡ length b + (k - n) = omega (arith, p.long, more) in
         let there : n + (k - n) ≡ k = omega (arith, more) in
-        ap (slice_index c) place ∙ q.each (k - n) (omega (arith, low, more)) ∙ same (k - n) (omega (arith, low, more)) ∙ ap f there
+        ap (slice_index c) place ∙ q.each (k - n) (omega (arith, low, more)) ∙ same (k - n) (omega (arith, low, more))
+        ∙ ap f there
   ];
 }
+
+-- Another number behind them.
+pub pushed_more : (z a b : List ℕ) (n x : ℕ) (f : ℕ → ℕ) → ArePushed z a n f → b ≡ a ++ x ∷ [] → x ≡ f n
+    → ArePushed z b (n + 1) f
+pushed_more z a b n x f p same value = pushed_join z a b n 1 f (λ k. x) p (record {
+  long = ap length same ∙ length-append a (x ∷ []);
+  kept = λ k low. ap (λ (xs : List ℕ). slice_index xs k) same ∙ get_or_append_left a (x ∷ []) 0 k low;
+  each = λ k low. ap (λ (xs : List ℕ). slice_index xs (length a + k)) same
+      ∙ get_or_push a x 0 (length a + k) (omega (arith, low));
+}) (λ k low. let none : n ≡ n + k = omega (arith, low) in value ∙ ap f none)
 
 pub pushed_kept : (a b : List ℕ) (n : ℕ) (f : ℕ → ℕ) → ArePushed a b n f → IsKept a b
 pushed_kept a b n f p = record { long = omega (arith, p.long); kept = p.kept }
 
 pub kept_on : (a b c : List ℕ) → IsKept a b → IsKept b c → IsKept a c
-kept_on a b c p q = record { long = omega (arith, p.long, q.long); kept = λ k low. q.kept k (omega (arith, low, p.long)) ∙ p.kept k low }
+kept_on a b c p q = record {
+  long = omega (arith, p.long, q.long);
+  kept = λ k low. q.kept k (omega (arith, low, p.long))
+      ∙ p.kept k low;
+}
 
 -- A parameter is at most that of the end of the arc.
 pub part_most : (k old new : ℕ) → k ≤ new → 0 < new → ONE * k * old / new ≤ ONE * old
@@ -42,22 +60,26 @@ part_most k old new le some =
     div_most (ONE * k * old) (ONE * old) new some (by_parts k old new le)
   where
     by_parts : (i m n : ℕ) → i ≤ n → ONE * i * m ≤ ONE * m * n
-    by_parts i m n less = let e : i * m ≤ m * n = subst (λ z. i * m ≤ z) (mul_comm n m) (mul-le i m n m less (omega arith)) in omega (arith, e)
+    by_parts i m n less = let e : i * m ≤ m * n =
+        subst (λ z. i * m ≤ z) (mul_comm n m) (mul-le i m n m less (omega arith)) in omega (arith, e)
 
 -- Parameters that were put behind others, and stay there.
-pub parameters_in : (plan : Plan) (new : Lengths) (p : ℕ) (s : Way) (begin : ℕ) (a b c : List ℕ) → begin ≡ length a
-    → ArePushed a b (size (layout_of plan) new p s) (side_parameter (layout_of plan) (long_at plan.arcs) new p s) → IsKept b c
-    → AreParameters plan new p s begin c
-parameters_in plan new p s begin a b c here p_ed kept = record {
+pub parameters_in : (plan : Plan) (new : Lengths) (spacing : ArcSpacing) (p : ℕ) (s : Way) (begin : ℕ) (a b c : List ℕ)
+    → begin ≡ length a
+    → ArePushed a b (size (layout_of plan) new p s) (side_parameter plan new spacing p s)
+    → IsKept b c
+    → AreParameters plan new spacing p s begin c
+parameters_in plan new spacing p s begin a b c here p_ed kept = record {
   room = omega (arith, here, p_ed.long, kept.long);
   each = λ k low.
       let place : begin + k ≡ length a + k = omega (arith, here) in
       ap (slice_index c) place ∙ kept.kept (length a + k) (omega (arith, low, p_ed.long)) ∙ p_ed.each k low;
 }
 
-pub parameters_kept : (plan : Plan) (new : Lengths) (p : ℕ) (s : Way) (begin : ℕ) (a b : List ℕ) → IsKept a b
-    → AreParameters plan new p s begin a → AreParameters plan new p s begin b
-parameters_kept plan new p s begin a b kept are = record {
+pub parameters_kept : (plan : Plan) (new : Lengths) (spacing : ArcSpacing) (p : ℕ) (s : Way) (begin : ℕ) (a b : List ℕ)
+    → IsKept a b
+    → AreParameters plan new spacing p s begin a → AreParameters plan new spacing p s begin b
+parameters_kept plan new spacing p s begin a b kept are = record {
   room = omega (arith, are.room, kept.long);
   each = λ k low. kept.kept (begin + k) (omega (arith, low, are.room)) ∙ are.each k low;
 }
@@ -69,44 +91,63 @@ is_back east = false
 is_back north = true
 is_back west = true
 
-module _ (l : Layout) (old new : Lengths) (p i : ℕ) (s : Way) (is : IsSlot l (slot p s i)) (o : ℕ) (low : o < new (l.use_at p s i).arc) where
+module _ (l : Layout) (old new : Lengths) (spacing : ArcSpacing) (p i : ℕ) (s : Way) (is : IsSlot l (slot p s i))
+    (o : ℕ)
+    (low : o < new (l.use_at p s i).arc) where
   over : use_over l new p s (reach l new p s i + o) ≡ i
   over = over_is l new (slot p s i) o is low
 
   rest : reach l new p s i + o - reach l new p s i ≡ o
   rest = omega arith
 
-  ahead : parameter l old new p s (reach l new p s i + o) ≡ on_arc (reach l old p s i) (old (l.use_at p s i).arc) (new (l.use_at p s i).arc) false o
-  ahead =
-      ap (λ m. ONE * reach l old p s m + arc_parameter old new (l.use_at p s m).arc (reach l new p s i + o - reach l new p s m)) over
-      ∙ ap (λ k. ONE * reach l old p s i + arc_parameter old new (l.use_at p s i).arc k) rest
+  abbrev used : SideArc
+  used = l.use_at p s i
 
-  behind : parameter_back l old new p s (reach l new p s i + o)
-      ≡ on_arc (size l old p s - reach l old p s i - old (l.use_at p s i).arc) (old (l.use_at p s i).arc) (new (l.use_at p s i).arc) true o
+  ahead : parameter l old new spacing p s (reach l new p s i + o)
+      ≡ on_arc spacing (reach l old p s i) (new used.arc) used false o
+  ahead =
+      ap (λ m. ONE * reach l old p s m + spacing.parameter_of (l.use_at p s m).arc (l.use_at p s m).forward
+      (reach l new p s i + o - reach l new p s m)) over
+      ∙ ap (λ k. ONE * reach l old p s i + spacing.parameter_of used.arc used.forward k) rest
+
+  behind : parameter_back l old new spacing p s (reach l new p s i + o)
+      ≡ on_arc spacing (size l old p s - reach l old p s i - old used.arc) (new used.arc) used true o
   behind =
-      let next : reach l old p s (i + 1) ≡ reach l old p s i + old (l.use_at p s i).arc = count_step (λ k. old (l.use_at p s k).arc) i in
-      let left : size l old p s - reach l old p s (i + 1) ≡ size l old p s - reach l old p s i - old (l.use_at p s i).arc = omega (arith, next) in
+      let next : reach l old p s (i + 1) ≡ reach l old p s i + old used.arc =
+      count_step (λ k. old (l.use_at p s k).arc) i in
+      let left : size l old p s - reach l old p s (i + 1) ≡ size l old p s - reach l old p s i - old used.arc =
+      omega (arith, next) in
       ap (λ m. ONE * (size l old p s - reach l old p s (m + 1))
-      + arc_parameter old new (l.use_at p s m).arc (new (l.use_at p s m).arc - (reach l new p s i + o - reach l new p s m))) over
-      ∙ (λ t. ONE * left t + arc_parameter old new (l.use_at p s i).arc (new (l.use_at p s i).arc - rest t))
+      + spacing.parameter_of (l.use_at p s m).arc (not (l.use_at p s m).forward)
+      (new (l.use_at p s m).arc - (reach l new p s i + o - reach l new p s m))) over
+      ∙ (λ t. ONE * left t + spacing.parameter_of used.arc (not used.forward) (new used.arc - rest t))
 
   -- The parameter of a place of the arc at a slot, counted along the side or against it.
   pub along_slot : (start : ℕ) → start ≡ reach l old p s i
-      → on_arc start (old (l.use_at p s i).arc) (new (l.use_at p s i).arc) false o ≡ parameter l old new p s (reach l new p s i + o)
-  along_slot start e = ap (λ n. on_arc n (old (l.use_at p s i).arc) (new (l.use_at p s i).arc) false o) e ∙ sym ahead
+      → on_arc spacing start (new used.arc) used false o ≡ parameter l old new spacing p s (reach l new p s i + o)
+  along_slot start e = ap (λ n. on_arc spacing n (new used.arc) used false o) e ∙ sym ahead
 
-  pub against_slot : (start : ℕ) → start ≡ size l old p s - reach l old p s i - old (l.use_at p s i).arc
-      → on_arc start (old (l.use_at p s i).arc) (new (l.use_at p s i).arc) true o ≡ parameter_back l old new p s (reach l new p s i + o)
-  against_slot start e = ap (λ n. on_arc n (old (l.use_at p s i).arc) (new (l.use_at p s i).arc) true o) e ∙ sym behind
+  pub against_slot : (start : ℕ) → start ≡ size l old p s - reach l old p s i - old used.arc
+      → on_arc spacing start (new used.arc) used true o ≡ parameter_back l old new spacing p s (reach l new p s i + o)
+  against_slot start e = ap (λ n. on_arc spacing n (new used.arc) used true o) e ∙ sym behind
 
 -- Where the parameters of the arc at a slot begin: so much of the side lies before the arc, counted from the same end.
 abbrev pub start_by : (l : Layout) (old : Lengths) (p i : ℕ) (s : Way) → ℕ
-start_by l old p i s = cond (is_back s) (size l old p s - reach l old p s i - old (l.use_at p s i).arc) (reach l old p s i)
+start_by l old p i s = cond (is_back s) (size l old p s - reach l old p s i - old (l.use_at p s i).arc)
+    (reach l old p s i)
 
-pub slot_parameter : (l : Layout) (old new : Lengths) (p i : ℕ) (s : Way) → IsSlot l (slot p s i) → (o start : ℕ) → o < new (l.use_at p s i).arc
-    → start ≡ start_by l old p i s
-    → on_arc start (old (l.use_at p s i).arc) (new (l.use_at p s i).arc) (is_back s) o ≡ side_parameter l old new p s (reach l new p s i + o)
-slot_parameter l old new p i south is o start low e = along_slot l old new p i south is o low start e
-slot_parameter l old new p i east is o start low e = along_slot l old new p i east is o low start e
-slot_parameter l old new p i north is o start low e = against_slot l old new p i north is o low start e
-slot_parameter l old new p i west is o start low e = against_slot l old new p i west is o low start e
+module _ (plan : Plan) (new : Lengths) (spacing : ArcSpacing) (p i : ℕ) where
+  abbrev l : Layout
+  l = layout_of plan
+
+  abbrev old : Lengths
+  old = long_at plan.arcs
+
+  pub slot_parameter : (s : Way) → IsSlot l (slot p s i) → (o start : ℕ) → o < new (l.use_at p s i).arc
+      → start ≡ start_by l old p i s
+      → on_arc spacing start (new (l.use_at p s i).arc) (l.use_at p s i) (is_back s) o
+      ≡ side_parameter plan new spacing p s (reach l new p s i + o)
+  slot_parameter south is o start low e = along_slot l old new spacing p i south is o low start e
+  slot_parameter east is o start low e = along_slot l old new spacing p i east is o low start e
+  slot_parameter north is o start low e = against_slot l old new spacing p i north is o low start e
+  slot_parameter west is o start low e = against_slot l old new spacing p i west is o low start e

@@ -1,5 +1,6 @@
 -- The parameters of all sides, as they are put one after the other.
-use Rattle.std.proofs.Common.{◌≡◌, ℕ, ◌+◌, ◌-◌, ◌^◌, ◌<◌, ◌≤◌, Bool, true, false, cond, List, [], length, get_or, refl, sym, ◌∙◌, ap, subst, arith}
+use Rattle.std.proofs.Common.{◌≡◌, ℕ, ◌+◌, ◌-◌, ◌^◌, ◌<◌, ◌≤◌, Bool, true, false, cond, List, [], length, get_or, refl}
+use Rattle.std.proofs.Common.{sym, ◌∙◌, ap, subst, arith}
 use Rattle.std.specs.Prelude.{nat_le}
 use Rattle.std.proofs.lemmas.List.{get_or_default, get_or-map, length-map}
 use Rattle.def_cut.specs.Grids.{rectangle}
@@ -11,11 +12,14 @@ use Rattle.def_layout.specs.declared.tmesh.SideArc.{SideArc}
 use Rattle.def_layout.specs.declared.tmesh.TArc.{TArc}
 use Rattle.def_layout.specs.declared.tmesh.TMesh.{TMesh}
 use Rattle.def_layoutnet.specs.MeshLayouts.{IsSomeLayout}
+use Rattle.def_written.specs.Places.{ArcSpacing}
 use Rattle.def_remesh.specs.NewPoints.{lengths_in}
 use Rattle.def_remesh.specs.Placings.{parameters_from, side_parameter, AreParameters, IsRim}
 use Rattle.def_remesh.specs.declared.places.Rim.{Rim}
-use Rattle.qm_place.specs.Pushed.{on_arc, AreFine, ArePushed, IsKept}
-use Rattle.qm_place.proofs.Pushes.{is_back, kept_on, parameters_in, parameters_kept, pushed_join, pushed_kept, slot_parameter, start_by}
+use Rattle.qm_place.specs.ArcTables.{AreFine}
+use Rattle.qm_place.specs.Pushed.{on_arc, ArePushed, IsKept}
+use Rattle.qm_place.proofs.Pushes.{is_back, kept_on, parameters_in, parameters_kept, pushed_join, pushed_kept}
+use Rattle.qm_place.proofs.Pushes.{slot_parameter, start_by}
 use Rattle.plan_laws.proofs.Bounds.{old_faces, side_few}
 use Rattle.qm_reach.proofs.Spots.{count_step}
 use Rattle.qm_reach.proofs.Whole.{laid_of, lengths_of}
@@ -25,7 +29,11 @@ use Rattle.written_laws.proofs.Sides.{reach_low, slot}
 pub old_few : (plan : Plan) → IsSomeLayout plan → (p : ℕ) (s : Way) → p < length plan.patches
     → size (layout_of plan) (long_at plan.arcs) p s ≤ 2 ^ 21
 old_few plan is p s low =
-    omega (arith, side_few (layout_of plan) (long_at plan.arcs) (laid_of plan is) (lengths_of plan is) p s low, old_faces plan is)
+    omega (
+      arith,
+      side_few (layout_of plan) (long_at plan.arcs) (laid_of plan is) (lengths_of plan is) p s low,
+      old_faces plan is,
+    )
 
 pub new_few : (plan : Plan) (list : List ℕ) → AreFine plan list → (p : ℕ) (s : Way) → p < length plan.patches
     → size (layout_of plan) (lengths_in list) p s ≤ 2 ^ 21
@@ -36,7 +44,8 @@ new_few plan list fine p s low =
 pub old_short : (plan : Plan) → IsSomeLayout plan → (arc : ℕ) → arc < length plan.arcs → long_at plan.arcs arc ≤ 2 ^ 21
 old_short plan is arc low = by_slot ((laid_of plan is).forward arc low)
   where
-    by_slot : (w : Slot) × IsSlot (layout_of plan) w × (use_of (layout_of plan) w ≡ record { arc = arc; forward = true }) → long_at plan.arcs arc ≤ 2 ^ 21
+    by_slot : (w : Slot) × IsSlot (layout_of plan) w
+        × (use_of (layout_of plan) w ≡ record { arc = arc; forward = true }) → long_at plan.arcs arc ≤ 2 ^ 21
     by_slot f =
         omega (
           arith,
@@ -50,14 +59,15 @@ pub old_read : (t : TMesh) (a : ℕ) (arc : TArc) → a < length t.arcs.items �
     → length arc.darts.items ≡ long_at (plan t).arcs a
 old_read t a arc low same =
     ap (λ (z : TArc). length z.darts.items) same
-    ∙ sym (ap (λ (q : Path). length q.darts) (get_or-map path t.arcs.items a arc (record { first = 0; last = 0; darts = [] }) low))
+    ∙ sym (ap (λ (q : Path). length q.darts)
+    (get_or-map path t.arcs.items a arc (record { first = 0; last = 0; darts = [] }) low))
 
 -- The arc at a place of a side, as it is read.
 pub record IsRead (t : TMesh) (list : List ℕ) (p i : ℕ) (s : Way) (used : SideArc) : Type 0 where
   pub is_slot : IsSlot (layout_of (plan t)) (slot p s i)
   pub arc_low : used.arc < length t.arcs.items
   pub listed : used.arc < length list
-  pub arc : used.arc ≡ ((layout_of (plan t)).use_at p s i).arc
+  pub same : used ≡ (layout_of (plan t)).use_at p s i
   pub old_upto : reach (layout_of (plan t)) (long_at (plan t).arcs) p s i + long_at (plan t).arcs used.arc
       ≤ size (layout_of (plan t)) (long_at (plan t).arcs) p s
   pub old_short : size (layout_of (plan t)) (long_at (plan t).arcs) p s ≤ 2 ^ 21
@@ -66,18 +76,25 @@ pub record IsRead (t : TMesh) (list : List ℕ) (p i : ℕ) (s : Way) (used : Si
   pub new_next : reach (layout_of (plan t)) (lengths_in list) p s (i + 1)
       ≡ reach (layout_of (plan t)) (lengths_in list) p s i + lengths_in list used.arc
 
-pub read : (t : TMesh) (list : List ℕ) (p i side : ℕ) (s : Way) (us : List SideArc) → AreFine (plan t) list → p < length t.patches.items
+pub read : (t : TMesh) (list : List ℕ) (p i side : ℕ) (s : Way) (us : List SideArc) → AreFine (plan t) list
+    → p < length t.patches.items
     → us ≡ get_or (get_or (plan t).sides p []) side [] → i < length us → way_number s ≡ side
     → IsRead t list p i s (get_or us i (record { arc = 0; forward = false }))
 read t list p i side s us fine low us_is i_low way = record {
   is_slot = is_slot;
   arc_low = omega (arith, arc, arc_less, length-map t.arcs.items path);
   listed = omega (arith, arc, arc_less, fine.long);
-  arc = arc;
-  old_upto = omega (arith, reach_low (layout_of (plan t)) (long_at (plan t).arcs) (slot p s i) is_slot, ap (long_at (plan t).arcs) arc);
+  same = used_is;
+  old_upto = omega (
+    arith,
+    reach_low (layout_of (plan t)) (long_at (plan t).arcs) (slot p s i) is_slot,
+    ap (long_at (plan t).arcs) arc,
+  );
   old_short = old_few (plan t) fine.mesh p s p_low;
-  old_next = count_step (λ k. long_at (plan t).arcs ((layout_of (plan t)).use_at p s k).arc) i ∙ ap (λ a. reach (layout_of (plan t)) (long_at (plan t).arcs) p s i + long_at (plan t).arcs a) (sym arc);
-  new_next = count_step (λ k. lengths_in list ((layout_of (plan t)).use_at p s k).arc) i ∙ ap (λ a. reach (layout_of (plan t)) (lengths_in list) p s i + lengths_in list a) (sym arc);
+  old_next = count_step (λ k. long_at (plan t).arcs ((layout_of (plan t)).use_at p s k).arc) i
+      ∙ ap (λ a. reach (layout_of (plan t)) (long_at (plan t).arcs) p s i + long_at (plan t).arcs a) (sym arc);
+  new_next = count_step (λ k. lengths_in list ((layout_of (plan t)).use_at p s k).arc) i
+      ∙ ap (λ a. reach (layout_of (plan t)) (lengths_in list) p s i + lengths_in list a) (sym arc);
 }
   where
     p_low : p < length (plan t).patches
@@ -89,10 +106,13 @@ read t list p i side s us fine low us_is i_low way = record {
     is_slot : IsSlot (layout_of (plan t)) (slot p s i)
     is_slot = record { patch_low = p_low; low = omega (arith, i_low, ap (λ (xs : List SideArc). length xs) same) }
 
+    used_is : get_or us i (record { arc = 0; forward = false }) ≡ (layout_of (plan t)).use_at p s i
+    used_is =
+        get_or_default us i (record { arc = 0; forward = false }) (record { arc = 0; forward = true }) i_low
+        ∙ ap (λ (xs : List SideArc). get_or xs i (record { arc = 0; forward = true })) same
+
     arc : (get_or us i (record { arc = 0; forward = false })).arc ≡ ((layout_of (plan t)).use_at p s i).arc
-    arc =
-        ap (λ (u : SideArc). u.arc) (get_or_default us i (record { arc = 0; forward = false }) (record { arc = 0; forward = true }) i_low)
-        ∙ ap (λ (xs : List SideArc). (get_or xs i (record { arc = 0; forward = true })).arc) same
+    arc = ap (λ (u : SideArc). u.arc) used_is
 
     arc_less : ((layout_of (plan t)).use_at p s i).arc < length (plan t).arcs
     arc_less = (laid_of (plan t) fine.mesh).paved.arc_low (slot p s i) is_slot
@@ -108,41 +128,48 @@ back_by s side way = ap (λ k. nat_le 2 k) (sym way) ∙ by_way s
     by_way west = refl
 
 -- Another arc of a side is put there.
-pub side_more : (t : TMesh) (list : List ℕ) (p i : ℕ) (s : Way) (used : SideArc) (z a b : List ℕ) (start old : ℕ) (back : Bool)
-    → IsRead t list p i s used → back ≡ is_back s → old ≡ long_at (plan t).arcs used.arc
+pub side_more : (t : TMesh) (list : List ℕ) (spacing : ArcSpacing) (p i : ℕ) (s : Way) (used : SideArc) (z a b : List ℕ)
+    (start : ℕ) (back : Bool)
+    → IsRead t list p i s used → back ≡ is_back s
     → start ≡ start_by (layout_of (plan t)) (long_at (plan t).arcs) p i s
     → ArePushed z a (reach (layout_of (plan t)) (lengths_in list) p s i)
-    (side_parameter (layout_of (plan t)) (long_at (plan t).arcs) (lengths_in list) p s)
-    → ArePushed a b (lengths_in list used.arc) (on_arc start old (lengths_in list used.arc) back)
+    (side_parameter (plan t) (lengths_in list) spacing p s)
+    → ArePushed a b (lengths_in list used.arc) (on_arc spacing start (lengths_in list used.arc) used back)
     → ArePushed z b (reach (layout_of (plan t)) (lengths_in list) p s (i + 1))
-    (side_parameter (layout_of (plan t)) (long_at (plan t).arcs) (lengths_in list) p s)
-side_more t list p i s used z a b start old back is back_is old_is start_is before more =
-    subst (λ n. ArePushed z b n (side_parameter (layout_of (plan t)) (long_at (plan t).arcs) (lengths_in list) p s)) (sym is.new_next)
+    (side_parameter (plan t) (lengths_in list) spacing p s)
+side_more t list spacing p i s used z a b start back is back_is start_is before more =
+    subst (λ n. ArePushed z b n (side_parameter (plan t) (lengths_in list) spacing p s)) (sym is.new_next)
     (pushed_join z a b (reach (layout_of (plan t)) (lengths_in list) p s i) (lengths_in list used.arc)
-    (side_parameter (layout_of (plan t)) (long_at (plan t).arcs) (lengths_in list) p s)
-    (on_arc start old (lengths_in list used.arc) back) before more same)
+    (side_parameter (plan t) (lengths_in list) spacing p s)
+    (on_arc spacing start (lengths_in list used.arc) used back) before more same)
   where
     same : (o : ℕ) → o < lengths_in list used.arc
-        → on_arc start old (lengths_in list used.arc) back o
-        ≡ side_parameter (layout_of (plan t)) (long_at (plan t).arcs) (lengths_in list) p s (reach (layout_of (plan t)) (lengths_in list) p s i + o)
+        → on_arc spacing start (lengths_in list used.arc) used back o
+        ≡ side_parameter (plan t) (lengths_in list) spacing p s (reach (layout_of (plan t)) (lengths_in list) p s i + o)
     same o low =
-        (λ k. on_arc start ((old_is ∙ ap (long_at (plan t).arcs) is.arc) k) (lengths_in list (is.arc k)) (back_is k) o)
-        ∙ slot_parameter (layout_of (plan t)) (long_at (plan t).arcs) (lengths_in list) p i s is.is_slot o start
-        (omega (arith, low, ap (lengths_in list) is.arc)) start_is
+        (λ k. on_arc spacing start (lengths_in list (is.same k).arc) (is.same k) (back_is k) o)
+        ∙ slot_parameter (plan t) (lengths_in list) spacing p i s is.is_slot o start
+        (omega (arith, low, ap (λ (u : SideArc). lengths_in list u.arc) is.same)) start_is
 
 pub start_few : (w b o : ℕ) (back : Bool) → b + o ≤ w → w ≤ 2 ^ 21 → cond back (w - b - o) b ≤ 2 ^ 21
 start_few w b o true le few = omega arith
 start_few w b o false le few = omega arith
 
 -- The four sides of a patch.
-pub rim_built : (plan : Plan) (list : List ℕ) → AreFine plan list → (p : ℕ) → p < length plan.patches → (z a b c d : List ℕ) (begin w h : ℕ)
-    → ArePushed z a (size (layout_of plan) (lengths_in list) p south) (side_parameter (layout_of plan) (long_at plan.arcs) (lengths_in list) p south)
-    → ArePushed a b (size (layout_of plan) (lengths_in list) p east) (side_parameter (layout_of plan) (long_at plan.arcs) (lengths_in list) p east)
-    → ArePushed b c (size (layout_of plan) (lengths_in list) p north) (side_parameter (layout_of plan) (long_at plan.arcs) (lengths_in list) p north)
-    → ArePushed c d (size (layout_of plan) (lengths_in list) p west) (side_parameter (layout_of plan) (long_at plan.arcs) (lengths_in list) p west)
+pub rim_built : (plan : Plan) (list : List ℕ) (spacing : ArcSpacing) → AreFine plan list → (p : ℕ)
+    → p < length plan.patches
+    → (z a b c d : List ℕ) (begin w h : ℕ)
+    → ArePushed z a (size (layout_of plan) (lengths_in list) p south)
+    (side_parameter plan (lengths_in list) spacing p south)
+    → ArePushed a b (size (layout_of plan) (lengths_in list) p east)
+    (side_parameter plan (lengths_in list) spacing p east)
+    → ArePushed b c (size (layout_of plan) (lengths_in list) p north)
+    (side_parameter plan (lengths_in list) spacing p north)
+    → ArePushed c d (size (layout_of plan) (lengths_in list) p west)
+    (side_parameter plan (lengths_in list) spacing p west)
     → begin ≡ length z → w ≡ length a - begin → h ≡ length b - begin - w
-    → IsRim plan (lengths_in list) p (record { wide = w; high = h; begin = begin }) d
-rim_built plan list fine p low z a b c d begin w h first second third fourth begin_is w_is h_is = record {
+    → IsRim plan (lengths_in list) spacing p (record { wide = w; high = h; begin = begin }) d
+rim_built plan list spacing fine p low z a b c d begin w h first second third fourth begin_is w_is h_is = record {
   wide = omega (arith, first.long, begin_is, w_is);
   high = omega (arith, first.long, second.long, begin_is, w_is, h_is, fine.lengths.upright p low);
   sides = sides;
@@ -160,13 +187,19 @@ rim_built plan list fine p low z a b c d begin w h first second third fourth beg
     itself : IsKept d d
     itself = record { long = omega arith; kept = λ k less. refl }
 
-    sides : (s : Way) → AreParameters plan (lengths_in list) p s (parameters_from (record { wide = w; high = h; begin = begin }) s) d
-    sides south = parameters_in plan (lengths_in list) p south begin z a d begin_is first from_a
-    sides east = parameters_in plan (lengths_in list) p east (begin + w) a b d (omega (arith, first.long, begin_is, w_is)) second from_b
-    sides north = parameters_in plan (lengths_in list) p north (begin + w + h) b c d (omega (arith, first.long, second.long, begin_is, w_is, h_is)) third from_c
-    sides west = parameters_in plan (lengths_in list) p west (begin + w + h + w) c d d
-        (omega (arith, first.long, second.long, third.long, begin_is, w_is, h_is, fine.lengths.across p low)) fourth itself
+    sides : (s : Way) → AreParameters plan (lengths_in list) spacing p s
+        (parameters_from (record { wide = w; high = h; begin = begin }) s) d
+    sides south = parameters_in plan (lengths_in list) spacing p south begin z a d begin_is first from_a
+    sides east = parameters_in plan (lengths_in list) spacing p east (begin + w) a b d
+        (omega (arith, first.long, begin_is, w_is)) second from_b
+    sides north = parameters_in plan (lengths_in list) spacing p north (begin + w + h) b c d
+        (omega (arith, first.long, second.long, begin_is, w_is, h_is)) third from_c
+    sides west = parameters_in plan (lengths_in list) spacing p west (begin + w + h + w) c d d
+        (omega (arith, first.long, second.long, third.long, begin_is, w_is, h_is, fine.lengths.across p low)) fourth
+        itself
 
-pub rim_kept : (plan : Plan) (new : Lengths) (p : ℕ) (rim : Rim) (a b : List ℕ) → IsKept a b → IsRim plan new p rim a → IsRim plan new p rim b
-rim_kept plan new p rim a b kept is =
-    record { wide = is.wide; high = is.high; sides = λ s. parameters_kept plan new p s _ a b kept (is.sides s) }
+pub rim_kept : (plan : Plan) (new : Lengths) (spacing : ArcSpacing) (p : ℕ) (rim : Rim) (a b : List ℕ) → IsKept a b
+    → IsRim plan new spacing p rim a
+    → IsRim plan new spacing p rim b
+rim_kept plan new spacing p rim a b kept is =
+    record { wide = is.wide; high = is.high; sides = λ s. parameters_kept plan new spacing p s _ a b kept (is.sides s) }

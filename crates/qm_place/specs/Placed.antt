@@ -6,11 +6,12 @@ use Rattle.def_layout.specs.Lengths.{wide, high, AreLengths}
 use Rattle.def_layout.specs.Plans.{Plan, layout_of}
 use Rattle.def_remesh.specs.NewPoints.{lengths_in}
 use Rattle.def_remesh.specs.Numberings.{AreRunStarts}
-use Rattle.def_remesh.specs.Placings.{rim_at, IsRim}
+use Rattle.def_remesh.specs.Placings.{rim_at, spacing_in, IsRim, IsSpaced}
 use Rattle.def_remesh.specs.declared.limits.TheConstants.{MAX_NEW_FACES}
 use Rattle.def_remesh.specs.declared.places.PlaceTables.{PlaceTables}
 use Rattle.def_written.specs.NewFaces.{face_count}
 use Rattle.def_written.specs.Numbers.{vertices}
+use Rattle.def_written.specs.Spacings.{IsSpacing}
 use Rattle.qm_place.specs.Spots.{grid_point, HasEnds, IsSmall}
 
 -- A patch has the size of its sides, and a cell for each place.
@@ -28,8 +29,8 @@ pub record IsSized (plan : Plan) (patch : ℕ) : Type 0 where
 -- before the end of one lies on one of its darts.
 pub record ArePlaced (plan : Plan) (tables : PlaceTables) : Type 0 where
   pub arcs : (arc : ℕ) → arc < length plan.arcs → long_at plan.arcs arc ≤ 2 ^ 21
-  pub darts : (arc k parts : ℕ) → arc < length plan.arcs → k < parts
-      → k * long_at plan.arcs arc / parts < long_at plan.arcs arc
+  pub darts : (arc k : ℕ) → arc < length plan.arcs → k < lengths_in tables.lengths.items arc
+      → k * long_at plan.arcs arc / lengths_in tables.lengths.items arc < long_at plan.arcs arc
   pub patches : (patch : ℕ) → patch < length plan.patches → IsSized plan patch
   pub long : length tables.lengths.items ≡ length plan.arcs
   pub lengths : AreLengths (layout_of plan) (lengths_in tables.lengths.items)
@@ -45,11 +46,16 @@ pub record ArePlaced (plan : Plan) (tables : PlaceTables) : Type 0 where
       (λ p. (wide (layout_of plan) (lengths_in tables.lengths.items) p - 1)
       * (high (layout_of plan) (lengths_in tables.lengths.items) p - 1))
       (length plan.patches) tables.inside.begin.items
+  pub spaced : IsSpaced plan (lengths_in tables.lengths.items) tables.spaced
+  pub spacing : IsSpacing (layout_of plan) (long_at plan.arcs) (lengths_in tables.lengths.items)
+      (spacing_in plan tables)
   pub rimmed : length tables.rims.items ≡ length plan.patches
   pub rims : (patch : ℕ) → patch < length plan.patches
-      → IsRim plan (lengths_in tables.lengths.items) patch (rim_at tables.rims.items patch) tables.parameters.items
-  pub ends : (patch : ℕ) → patch < length plan.patches → HasEnds plan (lengths_in tables.lengths.items) patch
+      → IsRim plan (lengths_in tables.lengths.items) (spacing_in plan tables) patch (rim_at tables.rims.items patch)
+      tables.parameters.items
+  pub ends : (patch : ℕ) → patch < length plan.patches
+      → HasEnds plan (lengths_in tables.lengths.items) (spacing_in plan tables) patch
   pub small : (patch i j : ℕ) → patch < length plan.patches
       → i ≤ wide (layout_of plan) (lengths_in tables.lengths.items) patch
       → j ≤ high (layout_of plan) (lengths_in tables.lengths.items) patch
-      → IsSmall (grid_point plan (lengths_in tables.lengths.items) patch i j)
+      → IsSmall (grid_point plan (lengths_in tables.lengths.items) (spacing_in plan tables) patch i j)

@@ -8,8 +8,8 @@ use Rattle.def_map.specs.declared.home.Seen.{Seen}
 use Rattle.def_map.specs.declared.spot.Spot.{Spot}
 use Rattle.def_map.specs.declared.spot.Spot.TheVariants.{AtVertex, InFace, OnEdge}
 use Rattle.def_written.specs.Numbers.{before_arc, before_patch}
-use Rattle.def_written.specs.Places.{ONE, parameter, parameter_back, parameter_u, parameter_v}
-use Rattle.def_remesh.specs.Placings.{rim_at}
+use Rattle.def_written.specs.Places.{ONE, parameter_u, parameter_v, ArcSpacing}
+use Rattle.def_remesh.specs.Placings.{rim_at, side_parameter}
 use Rattle.def_remesh.specs.declared.places.Rim.{Rim}
 use Rattle.qm_place.specs.declared.spots.GridPoint.{GridPoint}
 
@@ -22,23 +22,23 @@ abbrev pub HasRoom : (rim : Rim) (parameters : List ℕ) → Type 0
 HasRoom rim parameters = rim.begin + 2 * (rim.wide + rim.high) ≤ length parameters
 
 -- The parameters at the ends of the sides of a patch, which stand in no list.
-pub record HasEnds (plan : Plan) (new : Lengths) (patch : ℕ) : Type 0 where
-  pub south : parameter (layout_of plan) (long_at plan.arcs) new patch south (wide (layout_of plan) new patch)
+pub record HasEnds (plan : Plan) (new : Lengths) (spacing : ArcSpacing) (patch : ℕ) : Type 0 where
+  pub south : side_parameter plan new spacing patch south (wide (layout_of plan) new patch)
       ≡ ONE * wide (layout_of plan) (long_at plan.arcs) patch
-  pub east : parameter (layout_of plan) (long_at plan.arcs) new patch east (high (layout_of plan) new patch)
+  pub east : side_parameter plan new spacing patch east (high (layout_of plan) new patch)
       ≡ ONE * high (layout_of plan) (long_at plan.arcs) patch
-  pub north : parameter_back (layout_of plan) (long_at plan.arcs) new patch north (wide (layout_of plan) new patch) ≡ 0
-  pub west : parameter_back (layout_of plan) (long_at plan.arcs) new patch west (high (layout_of plan) new patch) ≡ 0
+  pub north : side_parameter plan new spacing patch north (wide (layout_of plan) new patch) ≡ 0
+  pub west : side_parameter plan new spacing patch west (high (layout_of plan) new patch) ≡ 0
 
 -- How many points lie inside a patch.
 abbrev pub inner_of : (rims : List Rim) (patch : ℕ) → ℕ
 inner_of rims patch = ((rim_at rims patch).wide - 1) * ((rim_at rims patch).high - 1)
 
 -- The parameters of a grid point of a patch.
-abbrev pub grid_point : (plan : Plan) (new : Lengths) (patch i j : ℕ) → GridPoint
-grid_point plan new patch i j = record {
-  u = parameter_u (layout_of plan) (long_at plan.arcs) new patch i j;
-  v = parameter_v (layout_of plan) (long_at plan.arcs) new patch i j;
+abbrev pub grid_point : (plan : Plan) (new : Lengths) (spacing : ArcSpacing) (patch i j : ℕ) → GridPoint
+grid_point plan new spacing patch i j = record {
+  u = parameter_u (layout_of plan) (long_at plan.arcs) new spacing patch i j;
+  v = parameter_v (layout_of plan) (long_at plan.arcs) new spacing patch i j;
 }
 
 -- They are small.
@@ -69,5 +69,5 @@ pub record IsInside (plan : Plan) (new : Lengths) (patch place : ℕ) : Type 0 w
 -- The way along an edge has no more parts than places are computed for.
 abbrev pub IsShort : (spot : Spot) → Type 0
 IsShort (AtVertex u) = ⊤
-IsShort (OnEdge spot) = spot.parts ≤ 2 ^ 31
+IsShort (OnEdge spot) = spot.parts ≤ ONE
 IsShort (InFace spot) = ⊤

@@ -1,6 +1,6 @@
 //! Places between old vertices, axis by axis.
 
-ghost use Rattle.std.specs.Prelude.{◌≡◌, ◌<◌, ◌≤◌, ◌^◌, length};
+ghost use Rattle.std.specs.Prelude.{◌≡◌, ◌<◌, ◌≤◌, length};
 ghost use Rattle.def_mesh.specs.Darts.{darts};
 ghost use Rattle.def_written.specs.Places.{ONE};
 ghost use Rattle.def_map.specs.Laws.{IsSpot};
@@ -37,7 +37,7 @@ fn vertex_place(pos: &[[Micro; 3]], v: u32) -> [Micro; 3]
 /// A place between the ends of a dart.
 fn way_place(old: &OldMesh, spot: EdgeSpot) -> [Micro; 3]
     requires dart { spot.dart < darts old.now.mesh.now }
-    requires parts { (spot.some < spot.parts) × (spot.parts ≤ 2 ^ 31) }
+    requires parts { (spot.some < spot.parts) × (spot.parts ≤ ONE) }
     ensures { result ≡ on_axes (between_ends old.now.mesh.now old.now.pos.now spot) }
 {
     let (mesh, pos) = (old.mesh, old.pos);

@@ -4,7 +4,7 @@ ghost use Rattle.std.specs.Prelude.{◌≡◌, ◌<◌, ◌+◌, length};
 ghost use Rattle.def_layout.specs.Plans.{layout_of};
 ghost use Rattle.def_map.specs.Spots.{spot_at};
 ghost use Rattle.def_written.specs.Numbers.{before_arc, vertices};
-ghost use Rattle.qm_place.specs.Lengthened.{lengths_by, plan_in};
+ghost use Rattle.qm_place.specs.Lengthened.{lengths_by, plan_in, shares_by};
 
 use crate::placed::Placed;
 use crate::spots::{along_spot, inside_spot};
@@ -28,7 +28,7 @@ impl Near {
 /// Where vertex v lies. In constant time where it is near the last one, else logarithmic.
 pub(crate) fn find(placed: &Placed, v: u32, near: &mut Near) -> Spot
     requires vertex { v < vertices (layout_of (plan_in placed.now)) (lengths_by placed.now) }
-    ensures { result ≡ spot_at (plan_in placed.now) (lengths_by placed.now) v }
+    ensures { result ≡ spot_at (plan_in placed.now) (shares_by placed.now) (lengths_by placed.now) v }
 {
     let nodes = placed.t.nodes.len() as u32;
     if v < nodes {
@@ -50,12 +50,4 @@ fn arcs_end(placed: &Placed) -> u32
 {
     let along = &placed.tables.along.begin;
     placed.t.nodes.len() as u32 + along[along.len() - 1]
-}
-
-/// How many vertices there are.
-pub(crate) fn vertices(placed: &Placed) -> u32
-    ensures { result ≡ vertices (layout_of (plan_in placed.now)) (lengths_by placed.now) }
-{
-    let inside = &placed.tables.inside.begin;
-    arcs_end(placed) + inside[inside.len() - 1]
 }

@@ -4,7 +4,7 @@ ghost use Rattle.std.specs.Prelude.{◌≡◌, ◌<◌, ◌≤◌, ◌+◌, ◌-
 ghost use Rattle.def_layout.specs.Arcs.{long_at};
 ghost use Rattle.def_layout.specs.Lengths.{wide, high, AreLengths, Lengths};
 ghost use Rattle.def_layout.specs.Plans.{layout_of, Plan};
-ghost use Rattle.def_written.specs.Places.{cell_at, parameter_u, parameter_v};
+ghost use Rattle.def_written.specs.Places.{cell_at, parameter_u, parameter_v, ArcSpacing};
 ghost use Rattle.def_remesh.specs.Placings.{IsRim};
 ghost use Rattle.qm_place.specs.Spots.{HasEnds, HasRoom, IsOnGrid};
 
@@ -16,10 +16,11 @@ use def_remesh::Rim;
 pub(crate) fn across(parameters: &[u64], rim: Rim, columns: u32, i: u32, j: u32) -> u64
     requires room { HasRoom rim parameters.now }
     requires grid { IsOnGrid rim i j }
-    ensures { (plan : Plan) (new : Lengths) (patch : ℕ) → patch < (layout_of plan).patches
-        → AreLengths (layout_of plan) new → IsRim plan new patch rim parameters.now → HasEnds plan new patch
+    ensures { (plan : Plan) (new : Lengths) (spacing : ArcSpacing) (patch : ℕ) → patch < (layout_of plan).patches
+        → AreLengths (layout_of plan) new → IsRim plan new spacing patch rim parameters.now
+        → HasEnds plan new spacing patch
         → columns ≡ wide (layout_of plan) (long_at plan.arcs) patch
-        → result ≡ parameter_u (layout_of plan) (long_at plan.arcs) new patch i j }
+        → result ≡ parameter_u (layout_of plan) (long_at plan.arcs) new spacing patch i j }
 {
     let south = at_place(
         parameters,
@@ -37,10 +38,11 @@ pub(crate) fn across(parameters: &[u64], rim: Rim, columns: u32, i: u32, j: u32)
 pub(crate) fn upright(parameters: &[u64], rim: Rim, rows: u32, i: u32, j: u32) -> u64
     requires room { HasRoom rim parameters.now }
     requires grid { IsOnGrid rim i j }
-    ensures { (plan : Plan) (new : Lengths) (patch : ℕ) → patch < (layout_of plan).patches
-        → AreLengths (layout_of plan) new → IsRim plan new patch rim parameters.now → HasEnds plan new patch
+    ensures { (plan : Plan) (new : Lengths) (spacing : ArcSpacing) (patch : ℕ) → patch < (layout_of plan).patches
+        → AreLengths (layout_of plan) new → IsRim plan new spacing patch rim parameters.now
+        → HasEnds plan new spacing patch
         → rows ≡ high (layout_of plan) (long_at plan.arcs) patch
-        → result ≡ parameter_v (layout_of plan) (long_at plan.arcs) new patch i j }
+        → result ≡ parameter_v (layout_of plan) (long_at plan.arcs) new spacing patch i j }
 {
     let east_begin = rim.begin + rim.wide as usize;
     let east = at_place(parameters, east_begin, rim.high, j, EDGE * u64::from(rows));
@@ -62,11 +64,15 @@ fn at_place(parameters: &[u64], begin: usize, places: u32, place: u32, end: u64)
     }
 }
 
-/// Some of so many equal parts of the way from one parameter to another.
+/// Some of so many equal parts of the way from one parameter to another. Both are often the same, as at all points of a
+/// refined mesh, and then nothing is divided.
 fn mean(near: u64, far: u64, some: u32, parts: u32) -> u64
     requires { (some ≤ parts) × (0 < parts) }
     ensures { result ≡ (near * (parts - some) + far * some) / parts }
 {
+    if near == far {
+        return near;
+    }
     let sum = u128::from(near) * u128::from(parts - some) + u128::from(far) * u128::from(some);
     (sum / u128::from(parts)) as u64
 }

@@ -5,7 +5,7 @@ ghost use Rattle.def_layout.specs.Lengths.{wide, high};
 ghost use Rattle.def_layout.specs.Plans.{layout_of};
 ghost use Rattle.def_map.specs.Homes.{home_of};
 ghost use Rattle.def_written.specs.Places.{ONE};
-ghost use Rattle.qm_place.specs.Lengthened.{lengths_by, plan_in};
+ghost use Rattle.qm_place.specs.Lengthened.{lengths_by, plan_in, shares_by};
 ghost use Rattle.qm_place.specs.Spots.{seen_from, IsSmall};
 
 use crate::grid::cell_at;
@@ -19,7 +19,7 @@ pub(crate) fn cell_home(placed: &Placed, patch: usize, i: u32, j: u32) -> Home
     requires patch { patch < length placed.now.t.now.patches.items }
     requires column { i < wide (layout_of (plan_in placed.now)) (lengths_by placed.now) patch }
     requires row { j < high (layout_of (plan_in placed.now)) (lengths_by placed.now) patch }
-    ensures { result ≡ home_of (plan_in placed.now) (lengths_by placed.now) patch i j }
+    ensures { result ≡ home_of (plan_in placed.now) (shares_by placed.now) (lengths_by placed.now) patch i j }
 {
     let south_west = grid_point(placed, patch, i, j);
     let south_east = grid_point(placed, patch, i + 1, j);

@@ -11,21 +11,25 @@ ghost use Rattle.def_map.specs.Spots.{spot_at};
 ghost use Rattle.def_written.specs.NewFaces.{face_count};
 ghost use Rattle.def_written.specs.Numbers.{vertices};
 ghost use Rattle.def_remesh.specs.NewPoints.{lengths_in};
-ghost use Rattle.def_remesh.specs.NewSoup.{new_place, new_places};
+ghost use Rattle.def_remesh.specs.NewSoup.{spaced_place};
 ghost use Rattle.def_remesh.specs.Numberings.{AreRunStarts};
-ghost use Rattle.def_remesh.specs.Placings.{rim_at, ArePlaces, IsMeshLayout, LiesBetween};
+ghost use Rattle.def_remesh.specs.Placings.{rim_at, shares_in, ArePlaces, IsMeshLayout, IsSpaced};
+ghost use Rattle.def_remesh.specs.Placings.{LiesBetween};
 ghost use Rattle.def_remesh.specs.declared.limits.TheConstants.{MAX_NEW_FACES};
+ghost use Rattle.qm_place.specs.ArcTables.{AreFine};
 ghost use Rattle.qm_place.specs.Spots.{inner_of};
 
+use crate::arcs::ArcPlaces;
 use crate::axes::place_there;
-use crate::find::{Near, find, vertices};
+use crate::find::{Near, find};
 use crate::homes::cell_home;
 use crate::old::OldMesh;
 use crate::placed::Placed;
 use crate::sides::sides_of;
+use crate::spacing::shared_parameters;
 use def_layout::TMesh;
 use def_map::{Home, Spot};
-use def_remesh::{PlaceTables, Rim, RunStarts};
+use def_remesh::{DartShares, PlaceTables, Rim, RunStarts, Spaced};
 use def_text::Micro;
 use qm_mesh::Mesh;
 use qm_reach::{inner_points, no_starts, push_start, short_lengths};
@@ -48,58 +52,65 @@ impl Model for Places {
     ghost invariant = { λ p. Unit {0} };
 }
 
-/// What tells the places of the vertices of a layout with these lengths. Linear in the arcs, the patches and the new
-/// vertices on the sides of patches.
-pub fn placer(alloc: Global, mesh: &Mesh, t: &TMesh, x: &[u64]) -> Result<Places, AllocError>
+/// What tells the places of the vertices of a layout with these lengths, where the points of arcs are spaced by shares,
+/// or evenly. Linear in the arcs, their darts where there are shares, the patches and the new vertices on the sides of
+/// patches.
+pub fn placer(
+    alloc: Global,
+    mesh: &Mesh,
+    t: &TMesh,
+    x: &[u64],
+    shares: Option<DartShares>,
+) -> Result<Places, AllocError>
     requires layout { IsMeshLayout mesh.now (plan t.now) }
     requires long { length x.now ≡ length t.now.arcs.items }
     requires lengths { AreLengths (layout_of (plan t.now)) (lengths_in x.now) }
     requires few { face_count (layout_of (plan t.now)) (lengths_in x.now) ≤ MAX_NEW_FACES }
     ensures places { IfOk result (λ places. ArePlaces mesh.now (plan t.now) places) }
     ensures lengths { IfOk result (λ places. places.lengths.items ≡ x.now) }
+    ensures shares { IfOk result (λ places. shares_in places.spaced ≡ shares) }
 {
     let lengths = short_lengths(alloc, x)?;
     let along = inner_points(alloc, &lengths)?;
-    let sides = sides_of(alloc, t, &lengths)?;
+    let spaced = spaced_by(alloc, t, &lengths, shares)?;
+    let arcs = ArcPlaces {
+        t,
+        lengths: &lengths,
+        along: &along,
+        spaced: &spaced,
+    };
+    let sides = sides_of(alloc, &arcs)?;
     let inside = inner_starts(alloc, &sides.rims)?;
     Ok(Places {
         tables: PlaceTables {
             lengths,
             along,
             inside,
+            spaced,
             rims: sides.rims,
             parameters: sides.parameters,
         },
     })
 }
 
-/// The places of all vertices of a layout with these lengths, in the order of their numbers. Linear in them.
-pub fn place(
+/// The spacing by shares, where there are some.
+fn spaced_by(
     alloc: Global,
-    mesh: &Mesh,
     t: &TMesh,
-    pos: &[[Micro; 3]],
-    x: &[u64],
-) -> Result<Vec<[Micro; 3]>, AllocError>
-    requires layout { IsMeshLayout mesh.now (plan t.now) }
-    requires positions { length pos.now ≡ vertex_count mesh.now }
-    requires long { length x.now ≡ length t.now.arcs.items }
-    requires lengths { AreLengths (layout_of (plan t.now)) (lengths_in x.now) }
-    requires few { face_count (layout_of (plan t.now)) (lengths_in x.now) ≤ MAX_NEW_FACES }
-    ensures value { IfOk result (λ places.
-        places.items ≡ new_places mesh.now (plan t.now) pos.now (lengths_in x.now)) }
-    ensures between { IfOk result (λ places.
-        (v : ℕ) → v < length places.items → LiesBetween pos.now (slice_index_or places.items v [])) }
+    lengths: &[u32],
+    shares: Option<DartShares>,
+) -> Result<Option<Spaced>, AllocError>
+    requires fine { AreFine (plan t.now) lengths.now }
+    ensures spaced { IfOk result (λ spaced. IsSpaced (plan t.now) (lengths_in lengths.now) spaced) }
+    ensures shares { IfOk result (λ spaced. shares_in spaced ≡ shares) }
 {
-    let placer = placer(alloc, mesh, t, x)?;
-    let placed = placer.on(t);
-    let count = vertices(&placed);
-    let mut near = Near::new();
-    let mut places = Vec::with_capacity(alloc, count as usize)?;
-    for v in 0..count {
-        places.push(placed.place_near(mesh, pos, v, &mut near))?;
+    match shares {
+        None => Ok(None),
+        Some(shares) => {
+            let parameters = shared_parameters(alloc, t, lengths, &shares)?;
+            Ok(Some(Spaced { shares, parameters }))
+        }
     }
-    Ok(places)
 }
 
 /// Where the inner points of patches begin.
@@ -117,18 +128,6 @@ fn inner_starts(alloc: Global, rims: &[Rim]) -> Result<RunStarts, AllocError>
 }
 
 impl Places {
-    /// The place of the new vertex v. Logarithmic.
-    pub fn place_at(&self, mesh: &Mesh, t: &TMesh, pos: &[[Micro; 3]], v: u32) -> [Micro; 3]
-        requires places { ArePlaces mesh.now (plan t.now) self.now }
-        requires positions { length pos.now ≡ vertex_count mesh.now }
-        requires vertex { v < vertices (layout_of (plan t.now)) (lengths_in self.now.lengths.items) }
-        ensures value { result ≡ new_place mesh.now (plan t.now) pos.now (lengths_in self.now.lengths.items) v }
-        ensures between { LiesBetween pos.now result }
-    {
-        let mut near = Near::new();
-        self.on(t).place_near(mesh, pos, v, &mut near)
-    }
-
     /// The places with the layout of which they are.
     pub fn on<'a>(&'a self, t: &'a TMesh) -> Placed<'a>
         requires { (faces : Faces) × ArePlaces faces (plan t.now) self.now }
@@ -146,9 +145,11 @@ impl Placed<'_> {
     pub fn place_near(&self, mesh: &Mesh, pos: &[[Micro; 3]], v: u32, near: &mut Near) -> [Micro; 3]
         requires layout { IsMeshLayout mesh.now (plan self.now.t.now) }
         requires positions { length pos.now ≡ vertex_count mesh.now }
-        requires vertex { v < vertices (layout_of (plan self.now.t.now)) (lengths_in self.now.tables.now.lengths.items) }
+        requires vertex { v < vertices (layout_of (plan self.now.t.now))
+            (lengths_in self.now.tables.now.lengths.items) }
         ensures value { result
-            ≡ new_place mesh.now (plan self.now.t.now) pos.now (lengths_in self.now.tables.now.lengths.items) v }
+            ≡ spaced_place mesh.now (plan self.now.t.now) pos.now (shares_in self.now.tables.now.spaced)
+            (lengths_in self.now.tables.now.lengths.items) v }
         ensures between { LiesBetween pos.now result }
     {
         let old = OldMesh { mesh, pos };
@@ -157,8 +158,10 @@ impl Placed<'_> {
 
     /// Where the new vertex v lies in the old mesh. In constant time where it is near the last one, else logarithmic.
     pub fn spot_near(&self, v: u32, near: &mut Near) -> Spot
-        requires vertex { v < vertices (layout_of (plan self.now.t.now)) (lengths_in self.now.tables.now.lengths.items) }
-        ensures { result ≡ spot_at (plan self.now.t.now) (lengths_in self.now.tables.now.lengths.items) v }
+        requires vertex { v < vertices (layout_of (plan self.now.t.now))
+            (lengths_in self.now.tables.now.lengths.items) }
+        ensures { result ≡ spot_at (plan self.now.t.now) (shares_in self.now.tables.now.spaced)
+            (lengths_in self.now.tables.now.lengths.items) v }
     {
         find(self, v, near)
     }
@@ -171,7 +174,8 @@ impl Placed<'_> {
         requires row { j < high (layout_of (plan self.now.t.now))
             (lengths_in self.now.tables.now.lengths.items) patch }
         ensures { result
-            ≡ home_of (plan self.now.t.now) (lengths_in self.now.tables.now.lengths.items) patch i j }
+            ≡ home_of (plan self.now.t.now) (shares_in self.now.tables.now.spaced)
+            (lengths_in self.now.tables.now.lengths.items) patch i j }
     {
         cell_home(self, patch, i, j)
     }

@@ -1,12 +1,14 @@
 //! Where new points lie in the old mesh: on a dart of an arc, or in a cell of a patch.
 
-ghost use Rattle.std.specs.Prelude.{◌≡◌, ◌<◌, ◌≤◌, ◌+◌, ◌-◌, ◌/◌, ◌%◌, ◌^◌, ℕ, length};
+ghost use Rattle.std.specs.Prelude.{◌≡◌, ◌<◌, ◌≤◌, ◌+◌, ◌-◌, ◌*◌, ◌/◌, ◌%◌, ◌^◌, ℕ, length};
+ghost use Rattle.def_layout.specs.Arcs.{dart_at, long_at};
 ghost use Rattle.def_layout.specs.Lengths.{wide};
 ghost use Rattle.def_layout.specs.Plans.{layout_of};
 ghost use Rattle.def_map.specs.Spots.{edge_spot, face_spot};
 ghost use Rattle.def_written.specs.Numbers.{before_arc, before_patch};
+ghost use Rattle.def_written.specs.Places.{ONE};
 ghost use Rattle.def_remesh.specs.Placings.{rim_at};
-ghost use Rattle.qm_place.specs.Lengthened.{lengths_by, plan_in};
+ghost use Rattle.qm_place.specs.Lengthened.{lengths_by, plan_in, spacing_at};
 ghost use Rattle.qm_place.specs.Spots.{grid_point, IsAlong, IsInside, IsOnGrid, IsSmall};
 
 use crate::grid::{across, cell_at, upright};
@@ -17,32 +19,60 @@ use def_map::{EdgeSpot, FaceSpot};
 /// An inner point of the arcs, counted from the first one, which lies on this arc.
 pub(crate) fn along_spot(placed: &Placed, arc: usize, place: u32) -> EdgeSpot
     requires along { IsAlong (plan_in placed.now) (lengths_by placed.now) arc place }
-    ensures { result ≡ edge_spot (plan_in placed.now) arc (place - before_arc (lengths_by placed.now) arc + 1)
-        (lengths_by placed.now arc) }
+    ensures { result ≡ edge_spot (plan_in placed.now) (spacing_at placed.now) arc
+        (place - before_arc (lengths_by placed.now) arc + 1) }
 {
-    let k = place - placed.tables.along.begin[arc] + 1;
-    arc_spot(placed, arc, k, placed.tables.lengths[arc])
+    match &placed.tables.spaced {
+        Some(spaced) => shared_spot(placed, arc, spaced.parameters[place as usize]),
+        None => {
+            let k = place - placed.tables.along.begin[arc] + 1;
+            even_spot(placed, arc, k, placed.tables.lengths[arc])
+        }
+    }
 }
 
-/// Place k of so many of an arc.
-fn arc_spot(placed: &Placed, arc: usize, k: u32, parts: u32) -> EdgeSpot
+/// Place k of so many equal parts of an arc.
+fn even_spot(placed: &Placed, arc: usize, k: u32, parts: u32) -> EdgeSpot
     requires arc { arc < length placed.now.t.now.arcs.items }
     requires place { (k < parts) × (parts ≤ 2 ^ 24) }
-    ensures { result ≡ edge_spot (plan_in placed.now) arc k parts }
+    requires low { k * long_at (plan_in placed.now).arcs arc / parts < long_at (plan_in placed.now).arcs arc }
+    ensures dart { result.dart ≡ dart_at (plan_in placed.now).arcs arc
+        (k * long_at (plan_in placed.now).arcs arc / parts) }
+    ensures some { result.some ≡ k * long_at (plan_in placed.now).arcs arc % parts }
+    ensures parts { result.parts ≡ parts }
 {
     let darts = &placed.t.arcs[arc].darts;
     let way = u64::from(k) * darts.len() as u64;
+    let parts = u64::from(parts);
     EdgeSpot {
-        dart: darts[(way / u64::from(parts)) as usize],
-        some: (way % u64::from(parts)) as u32,
+        dart: darts[(way / parts) as usize],
+        some: way % parts,
         parts,
+    }
+}
+
+/// The place of an arc with this parameter.
+fn shared_spot(placed: &Placed, arc: usize, parameter: u64) -> EdgeSpot
+    requires arc { arc < length placed.now.t.now.arcs.items }
+    requires low { parameter < ONE * long_at (plan_in placed.now).arcs arc }
+    ensures { result ≡ record {
+      dart = dart_at (plan_in placed.now).arcs arc (parameter / ONE);
+      some = parameter % ONE;
+      parts = ONE;
+    } }
+{
+    let darts = &placed.t.arcs[arc].darts;
+    EdgeSpot {
+        dart: darts[(parameter / EDGE) as usize],
+        some: parameter % EDGE,
+        parts: EDGE,
     }
 }
 
 /// An inner point of the patches, counted from the first one, which lies in this patch.
 pub(crate) fn inside_spot(placed: &Placed, patch: usize, place: u32) -> FaceSpot
     requires inside { IsInside (plan_in placed.now) (lengths_by placed.now) patch place }
-    ensures { result ≡ face_spot (plan_in placed.now) (lengths_by placed.now) patch
+    ensures { result ≡ face_spot (plan_in placed.now) (lengths_by placed.now) (spacing_at placed.now) patch
         ((place - before_patch (layout_of (plan_in placed.now)) (lengths_by placed.now) patch)
         % (wide (layout_of (plan_in placed.now)) (lengths_by placed.now) patch - 1) + 1)
         ((place - before_patch (layout_of (plan_in placed.now)) (lengths_by placed.now) patch)
@@ -57,7 +87,7 @@ pub(crate) fn inside_spot(placed: &Placed, patch: usize, place: u32) -> FaceSpot
 fn cell_spot(placed: &Placed, patch: usize, i: u32, j: u32) -> FaceSpot
     requires patch { patch < length placed.now.t.now.patches.items }
     requires grid { IsOnGrid (rim_at placed.now.tables.now.rims.items patch) i j }
-    ensures { result ≡ face_spot (plan_in placed.now) (lengths_by placed.now) patch i j }
+    ensures { result ≡ face_spot (plan_in placed.now) (lengths_by placed.now) (spacing_at placed.now) patch i j }
 {
     let point = grid_point(placed, patch, i, j);
     let old = &placed.t.patches[patch];
@@ -81,7 +111,7 @@ pub(crate) struct GridPoint {
 pub(crate) fn grid_point(placed: &Placed, patch: usize, i: u32, j: u32) -> GridPoint
     requires patch { patch < length placed.now.t.now.patches.items }
     requires grid { IsOnGrid (rim_at placed.now.tables.now.rims.items patch) i j }
-    ensures value { result ≡ grid_point (plan_in placed.now) (lengths_by placed.now) patch i j }
+    ensures value { result ≡ grid_point (plan_in placed.now) (lengths_by placed.now) (spacing_at placed.now) patch i j }
     ensures small { IsSmall result }
 {
     let rim = placed.tables.rims[patch];

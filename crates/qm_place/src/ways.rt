@@ -8,11 +8,11 @@ ghost use Rattle.def_written.specs.Places.{blend, on_the_way, ONE};
 use def_text::Micro;
 
 /// One old edge, as a parameter.
-pub(crate) const EDGE: u64 = 1 << 32;
+pub const EDGE: u64 = 1 << 32;
 
 /// So many of the equal parts of the way from p to q, rounded, halves up.
-pub(crate) fn on_the_way(p: Micro, q: Micro, some: u32, parts: u32) -> Micro
-    requires { (some < parts) × (parts ≤ 2 ^ 31) }
+pub(crate) fn on_the_way(p: Micro, q: Micro, some: u64, parts: u64) -> Micro
+    requires { (some < parts) × (parts ≤ ONE) }
     ensures { result ≡ on_the_way p q some parts }
 {
     let part = part_of(q.n - p.n, some, parts);
@@ -20,14 +20,14 @@ pub(crate) fn on_the_way(p: Micro, q: Micro, some: u32, parts: u32) -> Micro
 }
 
 /// So many of the equal parts of a way, rounded, halves up.
-fn part_of(way: i64, some: u32, parts: u32) -> i64
-    requires some { (some < parts) × (parts ≤ 2 ^ 31) }
+fn part_of(way: i64, some: u64, parts: u64) -> i64
+    requires some { (some < parts) × (parts ≤ ONE) }
     requires short { unsigned_abs way < 2 ^ 52 }
     ensures value { result ≡ int_div_euclid ((pos (2 * some) *ℤ way) +ℤ pos parts) (pos (2 * parts)) }
     ensures short { unsigned_abs result ≤ 2 ^ 52 }
 {
-    let twice = weigh(2 * u64::from(some), 1, way);
-    let part = (twice + i128::from(parts)).div_euclid(i128::from(2 * u64::from(parts)));
+    let twice = weigh(some, 2, way);
+    let part = (twice + i128::from(parts)).div_euclid(i128::from(2 * parts));
     part as i64
 }
 

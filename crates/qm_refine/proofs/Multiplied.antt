@@ -1,5 +1,6 @@
 -- Multiples of the old lengths as lengths of a layout.
-use Rattle.std.proofs.Common.{◌≡◌, ℕ, ◌*◌, ◌^◌, ◌<◌, ◌≤◌, ◌⊎◌, List, [], ◌∷◌, length, map, get_or, inl, inr, refl, ap, ◌∙◌, arith}
+use Rattle.std.proofs.Common.{◌≡◌, ℕ, ◌*◌, ◌^◌, ◌<◌, ◌≤◌, ◌⊎◌, List, [], ◌∷◌, length, map, get_or, inl, inr, refl, ap}
+use Rattle.std.proofs.Common.{◌∙◌, arith}
 use Rattle.std.specs.List.{All}
 use Rattle.std.proofs.lemmas.Bool.{cases_lt}
 use Rattle.std.proofs.Math.ListN.{get_or-eq_default, get_or-map}
@@ -56,8 +57,14 @@ module _ (plan : Plan) (is : IsSomeLayout plan) where
   arc_few : (a : ℕ) → a < length plan.arcs → long_at plan.arcs a ≤ darts is.faces
   arc_few a low =
       no_more (long_at plan.arcs a) (darts is.faces) (dart_at plan.arcs a) (λ d. d)
-      (λ i j li lj e. (same_dart (half_edges is.faces) laws (is_on is.marks) cut (is_node is.faces is.marks) nodes plan.arcs is.laid.arcs a a i j low low li lj e).1)
-      (λ k l. (dart_at plan.arcs a k, dart_low (half_edges is.faces) laws (is_on is.marks) cut (is_node is.faces is.marks) nodes plan.arcs is.laid.arcs a k low l, refl))
+      (λ i j li lj e. (same_dart (half_edges is.faces) laws (is_on is.marks) cut (is_node is.faces is.marks) nodes
+      plan.arcs is.laid.arcs a a i j low low li lj e).1)
+      (λ k l. (
+        dart_at plan.arcs a k,
+        dart_low (half_edges is.faces) laws (is_on is.marks) cut
+            (is_node is.faces is.marks) nodes plan.arcs is.laid.arcs a k low l,
+        refl,
+      ))
 
   -- So no length is great.
   long_few : (a : ℕ) → long_at plan.arcs a ≤ 2 ^ 23
@@ -67,7 +74,8 @@ module _ (plan : Plan) (is : IsSomeLayout plan) where
       by_place (inl low) = omega (arith, arc_few a low, is.mesh.few)
       by_place (inr high) =
           let none : long_at plan.arcs a ≡ 0 =
-          ap (λ (p : Path). length p.darts) (get_or-eq_default plan.arcs (record { first = 0; last = 0; darts = [] }) high) in
+          ap (λ (p : Path). length p.darts) (get_or-eq_default plan.arcs (record { first = 0; last = 0; darts = [] })
+          high) in
           omega (arith, none)
 
   -- Nor is a multiple.
@@ -83,13 +91,20 @@ module _ (plan : Plan) (is : IsSomeLayout plan) where
       (plan_law is.faces is.marks plan is.mesh is.quads is.cut is.laid) by some).0
 
 -- Each arc is short.
-pub arcs_short : (t : TMesh) → IsSomeLayout (plan t) → All (λ (run : TArc). length run.darts.items < 2 ^ 32) t.arcs.items
+pub arcs_short : (t : TMesh) → IsSomeLayout (plan t)
+    → All (λ (run : TArc). length run.darts.items < 2 ^ 32) t.arcs.items
 arcs_short t is k d l =
     let long : long_at (plan t).arcs k ≡ length (get_or t.arcs.items k d).darts.items =
-    ap (λ (p : Path). length p.darts) (lists.get_or-map path t.arcs.items k d (record { first = 0; last = 0; darts = [] }) l) in
+    ap (λ (p : Path). length p.darts) (lists.get_or-map path t.arcs.items k d (record {
+      first = 0;
+      last = 0;
+      darts =
+          [];
+    }) l) in
     omega (arith, long, long_few (plan t) is k)
 
 -- The multiples of a layout's arcs.
-pub multiples_told : (by : ℕ) (arcs : List TArc) → map (λ (arc : TArc). by * length arc.darts.items) arcs ≡ multiples_of by (map path arcs)
+pub multiples_told : (by : ℕ) (arcs : List TArc) → map (λ (arc : TArc). by * length arc.darts.items) arcs
+    ≡ multiples_of by (map path arcs)
 multiples_told by [] = refl
 multiples_told by (arc ∷ arcs) = ap (λ (xs : List ℕ). (by * length arc.darts.items) ∷ xs) (multiples_told by arcs)

@@ -1,6 +1,6 @@
 //! The points of a refined mesh.
 
-ghost use Rattle.std.specs.Prelude.{◌≡◌, ◌≤◌, ℕ, length, IfOk, IfErr, IsErrOf, OnOk};
+ghost use Rattle.std.specs.Prelude.{◌≡◌, ◌≤◌, ℕ, length, None, IfOk, IfErr, IsErrOf, OnOk};
 ghost use Rattle.def_flow.specs.declared.limits.TheConstants.{MAX_LENGTH};
 ghost use Rattle.def_layout.specs.Arcs.{long_at};
 ghost use Rattle.def_layout.specs.Lengths.{AreLengths};
@@ -17,14 +17,14 @@ use def_remesh::StitchFail;
 use qm_cutmesh::{CutMesh, Regridded, plan_over};
 use std::alloc::Global;
 
-/// The numbers and the places of the points of the mesh with `by` times the old lengths. Linear in the old mesh and in
-/// the new lengths of the sides of patches. It is refused as `TooFine` exactly where there are more faces than a new
-/// mesh may have; no edge is ever doubled.
+/// The numbers and the places of the points of the mesh with `by` times the old lengths, evenly spaced. Linear in the
+/// old mesh and in the new lengths of the sides of patches. It is refused as `TooFine` exactly where there are more
+/// faces than a new mesh may have; no edge is ever doubled.
 pub fn refined_points(alloc: Global, cut: CutMesh, by: u32) -> Result<Regridded, StitchFail>
     requires some { 1 ≤ by }
     requires few { by ≤ MAX_MULTIPLE }
     ensures new { IfOk result (λ new. (new.soup ≡ cut.soup) × (new.plan ≡ cut.plan)
-        × (lengths_in new.lengths ≡ multiple_of by (long_at cut.plan.arcs))) }
+        × (lengths_in new.lengths ≡ multiple_of by (long_at cut.plan.arcs)) × (new.shares ≡ None)) }
     ensures few { OnOk result (refined_faces by cut.plan ≤ MAX_NEW_FACES) }
     ensures shape { OnOk result (KeepsShapes cut.plan (multiple_of by (long_at cut.plan.arcs))) }
     ensures refused { IfErr result (IsUnstitched (layout_of cut.plan) (multiple_of by (long_at cut.plan.arcs))) }
@@ -43,6 +43,7 @@ fn points_of(alloc: Global, cut: CutMesh, lengths: &[u64]) -> Result<Regridded, 
       soup = cut.soup;
       plan = cut.plan;
       lengths = lengths.now;
+      shares = None;
     }) }
     ensures few { OnOk result (face_count (layout_of cut.plan) (lengths_in lengths.now) ≤ MAX_NEW_FACES) }
     ensures shape { OnOk result (KeepsShapes cut.plan (lengths_in lengths.now)) }
@@ -51,6 +52,6 @@ fn points_of(alloc: Global, cut: CutMesh, lengths: &[u64]) -> Result<Regridded, 
         → (u v : ℕ) → ¬ IsErrOf result (StitchFail.Doubled u v) }
 {
     let numbering = plan_over(alloc, &cut, lengths)?;
-    let new = Regridded::new(alloc, cut, numbering, lengths)?;
+    let new = Regridded::new(alloc, cut, numbering, lengths, None)?;
     Ok(new)
 }

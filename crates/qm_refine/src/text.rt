@@ -1,6 +1,6 @@
 //! The text of a refined mesh.
 
-ghost use Rattle.std.specs.Prelude.{◌≡◌, OnOk, OnErr};
+ghost use Rattle.std.specs.Prelude.{◌≡◌, None, OnOk, OnErr};
 ghost use Rattle.def_layout.specs.Arcs.{long_at};
 ghost use Rattle.def_remesh.specs.NewPoints.{lengths_in, multiple_of};
 ghost use Rattle.def_remesh.specs.Refined.{refine_head, refined_text};
@@ -14,6 +14,7 @@ use qm_write::put_new_mesh;
 /// Puts the head line and the text of the mesh with `by` times the old lengths. Its cost is that of `put_new_mesh`.
 pub fn put_refined<T: Output>(out: &mut T, by: u32, new: &Regridded) -> Result<(), Stopped>
     requires lengths { lengths_in new.now.lengths ≡ multiple_of by (long_at new.now.plan.arcs) }
+    requires even { new.now.shares ≡ None }
     ensures whole { OnOk result (T.takes out.old out.new (refined_text by new.now.soup new.now.plan)) }
     ensures part { OnErr result (T.stops out.old out.new (refined_text by new.now.soup new.now.plan)) }
 {

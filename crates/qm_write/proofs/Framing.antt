@@ -18,18 +18,21 @@ module _ (task : Task) (framed : Framed) (soup : FaceSet) (plan : Plan) (is : Is
   framed_kept = (
     task.wish,
     subst
-        (λ (s : Settings). IsKept task.wish plan s framed.remesh.asked.auto (certificates_of framed.remesh.certs) framed.remesh.numbering)
+        (λ (s : Settings). IsKept task.wish plan s framed.remesh.asked.auto (certificates_of framed.remesh.certs)
+        framed.remesh.numbering)
         (sym is.settings)
         (subst
-        (λ (b : Bool). IsKept task.wish plan task.settings b (certificates_of framed.remesh.certs) framed.remesh.numbering)
+        (λ (b : Bool). IsKept task.wish plan task.settings b (certificates_of framed.remesh.certs)
+        framed.remesh.numbering)
         (sym is.auto) is.kept),
   )
 
   pieces_are : framed_text framed soup plan
       ≡ (task.head ++ 10 ∷ [])
-      ++ text_behind_head (task.between plan (lengths_in (used (certificates_of framed.remesh.certs)).x)) task.auto soup plan
+      ++ text_behind_head (task.between plan (lengths_in (used (certificates_of framed.remesh.certs)).x)) task.auto soup
+      plan task.shares (certificates_of framed.remesh.certs)
+  pieces_are = λ i. is.head i ++ text_behind_head (is.between i) (is.auto i) soup plan (is.shares i)
       (certificates_of framed.remesh.certs)
-  pieces_are = λ i. is.head i ++ text_behind_head (is.between i) (is.auto i) soup plan (certificates_of framed.remesh.certs)
 
   -- Its text is that of the task.
   pub text_is : framed_text framed soup plan ≡ finished_text task soup plan (certificates_of framed.remesh.certs)

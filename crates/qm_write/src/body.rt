@@ -2,7 +2,7 @@
 
 ghost use Rattle.std.specs.Prelude.{OnOk, OnErr};
 ghost use Rattle.def_remesh.specs.NewPoints.{lengths_in};
-ghost use Rattle.def_remesh.specs.NewSoup.{new_soup};
+ghost use Rattle.def_remesh.specs.NewSoup.{spaced_soup};
 ghost use Rattle.def_text.specs.Canonical.{canonical_text};
 
 use crate::faces::put_faces;
@@ -15,9 +15,9 @@ use qm_output::Output;
 /// of faces' corners on borders, which are logarithmic; without memory.
 pub fn put_new_mesh<T: Output>(out: &mut T, new: &Regridded) -> Result<(), Stopped>
     ensures whole { OnOk result (T.takes out.old out.new
-        (canonical_text (new_soup new.now.soup new.now.plan (lengths_in new.now.lengths)))) }
+        (canonical_text (spaced_soup new.now.soup new.now.plan new.now.shares (lengths_in new.now.lengths)))) }
     ensures part { OnErr result (T.stops out.old out.new
-        (canonical_text (new_soup new.now.soup new.now.plan (lengths_in new.now.lengths)))) }
+        (canonical_text (spaced_soup new.now.soup new.now.plan new.now.shares (lengths_in new.now.lengths)))) }
 {
     put_vertices(out, new)?;
     put_faces(out, new)

@@ -1,5 +1,5 @@
-//! Puts the text of a new mesh, and the text of a remesh: the head line, the new mesh and the lines of the certificates.
-//! Both go out line by line, wherever the text goes.
+//! Puts the text of a new mesh, and the text of a remesh: the head line, the new mesh and the lines of the
+//! certificates. Both go out line by line, wherever the text goes.
 #![tactic(auto)]
 
 mod body;

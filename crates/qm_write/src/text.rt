@@ -4,7 +4,7 @@ ghost use Rattle.std.specs.Prelude.{◌≡◌, ◌++◌, IfOk, IsErrOf, OnOk, On
 ghost use Rattle.def_certtext.specs.CertLines.{certificates_of};
 ghost use Rattle.def_remesh.specs.Keeping.{IsKept};
 ghost use Rattle.def_remesh.specs.NewPoints.{lengths_in};
-ghost use Rattle.def_remesh.specs.NewSoup.{new_soup};
+ghost use Rattle.def_remesh.specs.NewSoup.{spaced_soup};
 ghost use Rattle.def_remesh.specs.Remeshed.{text_behind_head};
 ghost use Rattle.def_remesh.specs.Tasks.{Wish};
 ghost use Rattle.def_text.specs.Canonical.{canonical_text};
@@ -14,6 +14,7 @@ use crate::body::put_new_mesh;
 use crate::certs::{CertTexts, cert_texts, put_certs};
 use crate::remesh::{Remesh, used_of};
 use def_output::Stopped;
+use def_remesh::DartShares;
 use qm_cutmesh::{CutMesh, Regridded};
 use qm_output::Output;
 use std::alloc::{AllocError, Global};
@@ -50,12 +51,13 @@ impl From<Stopped> for PutFail {
     }
 }
 
-/// A finished remesh, and what else stands in its text: the head line, with its end, and the lines between the new mesh
-/// and the certificates.
+/// A finished remesh with the shares by which its points are spaced, and what else stands in its text: the head line,
+/// with its end, and the lines between the new mesh and the certificates.
 #[derive(Debug, Drop)]
 pub struct Framed {
     pub head: Vec<u8>,
     pub between: Vec<u8>,
+    pub shares: Option<DartShares>,
     pub remesh: Remesh,
 }
 
@@ -72,20 +74,22 @@ pub fn put_framed<T: Output>(
         (certificates_of framed.remesh.certs) framed.remesh.numbering }
     ensures whole { OnOk result (T.takes out.old out.new (framed.head.items
         ++ text_behind_head framed.between.items framed.remesh.asked.auto cut.soup cut.plan
-        (certificates_of framed.remesh.certs))) }
+        framed.shares (certificates_of framed.remesh.certs))) }
     ensures part { IsErrOf result PutFail.Stopped → T.stops out.old out.new (framed.head.items
         ++ text_behind_head framed.between.items framed.remesh.asked.auto cut.soup cut.plan
-        (certificates_of framed.remesh.certs)) }
+        framed.shares (certificates_of framed.remesh.certs)) }
     ensures untouched { IsErrOf result PutFail.Memory → out.new ≡ out.old }
     ensures new { IfOk result (λ new. new ≡ record {
       soup = cut.soup;
       plan = cut.plan;
       lengths = framed.remesh.numbering.lengths.items;
+      shares = framed.shares;
     }) }
 {
     let Framed {
         head,
         between,
+        shares,
         remesh,
     } = framed;
     let Remesh {
@@ -94,7 +98,7 @@ pub fn put_framed<T: Output>(
         numbering,
     } = remesh;
     let texts = cert_texts(alloc, &certs)?;
-    let new = Regridded::new(alloc, cut, numbering, &used_of(&certs).x)?;
+    let new = Regridded::new(alloc, cut, numbering, &used_of(&certs).x, shares)?;
     let frame = Frame {
         head,
         between,
@@ -117,10 +121,10 @@ struct Frame {
 /// Puts the head line, the lines of the new mesh, those behind it, and those of the certificates.
 fn put_parts<T: Output>(out: &mut T, frame: &Frame, new: &Regridded) -> Result<(), Stopped>
     ensures whole { OnOk result (T.takes out.old out.new (frame.now.head.items
-        ++ (canonical_text (new_soup new.now.soup new.now.plan (lengths_in new.now.lengths))
+        ++ (canonical_text (spaced_soup new.now.soup new.now.plan new.now.shares (lengths_in new.now.lengths))
         ++ (frame.now.between.items ++ joined frame.now.auto frame.now.texts)))) }
     ensures part { OnErr result (T.stops out.old out.new (frame.now.head.items
-        ++ (canonical_text (new_soup new.now.soup new.now.plan (lengths_in new.now.lengths))
+        ++ (canonical_text (spaced_soup new.now.soup new.now.plan new.now.shares (lengths_in new.now.lengths))
         ++ (frame.now.between.items ++ joined frame.now.auto frame.now.texts)))) }
 {
     out.put(&frame.head)?;

@@ -13,12 +13,19 @@ size_on-requires-clause-layout c = subst IsSomeLayout (sym c.layout.ensures.plan
 
 pub size_on-requires-clause-patch : goal.size_on-requires-clause-patch
 size_on-requires-clause-patch c =
-    omega (arith, c.requires.patch, ap (λ (p : Plan). length p.patches) c.layout.ensures.plan, length-map c.layout.result.now.patches.items rectangle)
+    omega (
+      arith,
+      c.requires.patch,
+      ap (λ (p : Plan). length p.patches) c.layout.ensures.plan,
+      length-map c.layout.result.now.patches.items rectangle,
+    )
 
 pub size_on-requires-clause-long : goal.size_on-requires-clause-long
 size_on-requires-clause-long c =
-    c.requires.long ∙ ap (λ (p : Plan). length p.arcs) (sym c.layout.ensures.plan) ∙ length-map c.layout.result.now.arcs.items path
+    c.requires.long ∙ ap (λ (p : Plan). length p.arcs) (sym c.layout.ensures.plan)
+    ∙ length-map c.layout.result.now.arcs.items path
 
 pub returns : goal.returns
 returns c way is =
-    c.size_on.ensures way is ∙ ap (λ (p : Plan). size (layout_of p) (lengths_in c.args.lengths.now) c.args.patch way) c.layout.ensures.plan
+    c.size_on.ensures way is ∙ ap (λ (p : Plan). size (layout_of p) (lengths_in c.args.lengths.now) c.args.patch way)
+    c.layout.ensures.plan

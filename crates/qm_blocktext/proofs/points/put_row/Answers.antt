@@ -1,8 +1,8 @@
-use Rattle.std.proofs.Common.{◌≡◌, ◌+◌, ℕ, map, ap, ◌∙◌, subst, arith}
+use Rattle.std.proofs.Common.{◌≡◌, ◌+◌, ℕ, map, ◌∙◌, subst, arith}
 use Rattle.std.specs.List.{flat_map, range_with_len}
 use Rattle.def_blocks.specs.BlockTexts.{point_line}
 use Rattle.def_remesh.specs.NewPoints.{lengths_in}
-use Rattle.def_remesh.specs.NewSoup.{new_place}
+use Rattle.def_remesh.specs.NewSoup.{spaced_place}
 use Rattle.def_text.specs.Types.{Position}
 use Rattle.qm_output.proofs.Prefixes.{of_error}
 use Rattle.qm_output.proofs.Lists.{stops_at_number, takes_number}
@@ -17,20 +17,29 @@ returns-in_err-put_point-clause-part g c =
     let laws = g.met.T.Output in
     let new = c.args.new.now in
     let here : c.place_near.result ≡ place_in new c.args.block c.args.j c.loop-i.i =
-    c.place_near.ensures.value ∙ ap (new_place new.soup.faces new.plan new.soup.pos (lengths_in new.lengths)) c.point-v.ensures.number in
+    c.place_near.ensures.value
+    ∙ (λ i. spaced_place new.soup.faces new.plan new.soup.pos (c.requires.even i) (lengths_in new.lengths)
+    (c.point-v.ensures.number i)) in
     of_error c.from_residual.result
-    (stops_at_number g.T.Output.takes g.T.Output.stops laws.stops_later laws.stops_before point_line (place_in new c.args.block c.args.j)
-    (width_in new c.args.block + 1) c.loop-i.i _ _ _ (omega (arith, c.loop-i-test.true, c.rim-points.ensures.wide)) c.loop-i.invariant
-    (subst (λ (p : Position). g.T.Output.stops c.loop-i.out c.put_point.new.out (point_line p)) here c.in_err-put_point.ensures.part))
+    (stops_at_number g.T.Output.takes g.T.Output.stops laws.stops_later laws.stops_before point_line
+    (place_in new c.args.block c.args.j)
+    (width_in new c.args.block + 1) c.loop-i.i _ _ _ (omega (arith, c.loop-i-test.true, c.rim-points.ensures.wide))
+    c.loop-i.invariant
+    (subst (λ (p : Position). g.T.Output.stops c.loop-i.out c.put_point.new.out (point_line p)) here
+    c.in_err-put_point.ensures.part))
 
 pub loop-i-preserved : goal.loop-i-preserved
 loop-i-preserved g c =
     let laws = g.met.T.Output in
     let new = c.args.new.now in
     let here : c.place_near.result ≡ place_in new c.args.block c.args.j c.loop-i.i =
-    c.place_near.ensures.value ∙ ap (new_place new.soup.faces new.plan new.soup.pos (lengths_in new.lengths)) c.point-v.ensures.number in
-    takes_number g.T.Output.takes laws.takes_more point_line (place_in new c.args.block c.args.j) c.loop-i.i _ _ _ c.loop-i.invariant
-    (subst (λ (p : Position). g.T.Output.takes c.loop-i.out c.put_point.new.out (point_line p)) here c.in_ok-put_point.ensures.whole)
+    c.place_near.ensures.value
+    ∙ (λ i. spaced_place new.soup.faces new.plan new.soup.pos (c.requires.even i) (lengths_in new.lengths)
+    (c.point-v.ensures.number i)) in
+    takes_number g.T.Output.takes laws.takes_more point_line (place_in new c.args.block c.args.j) c.loop-i.i _ _ _
+    c.loop-i.invariant
+    (subst (λ (p : Position). g.T.Output.takes c.loop-i.out c.put_point.new.out (point_line p)) here
+    c.in_ok-put_point.ensures.whole)
 
 pub returns-clause-whole : goal.returns-clause-whole
 returns-clause-whole g c =

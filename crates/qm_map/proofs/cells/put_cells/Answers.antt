@@ -27,6 +27,7 @@ pub returns-in_err-put_patch-clause-part : goal.returns-in_err-put_patch-clause-
 returns-in_err-put_patch-clause-part g c =
     let laws = g.met.T.Output in
     let t = c.args.new.now.plan in
+    let shares = c.args.new.now.shares in
     let x = lengths_in c.args.new.now.lengths in
     let low : c.loop-patch.patch < length t.patches = omega (
       arith,
@@ -38,19 +39,23 @@ returns-in_err-put_patch-clause-part g c =
       ap (λ (k : CutSoup). length k.plan.patches) c.cut.ensures,
     ) in
     of_error c.from_residual.result
-    (subst (λ (text : Bytes). g.T.Output.stops c.args.out.now c.put_patch.new.out text) (all_lines t x)
-    (stops_at_number g.T.Output.takes g.T.Output.stops laws.stops_later laws.stops_before (patch_lines t x) (λ p. p)
+    (subst (λ (text : Bytes). g.T.Output.stops c.args.out.now c.put_patch.new.out text) (all_lines t shares x)
+    (stops_at_number g.T.Output.takes g.T.Output.stops laws.stops_later laws.stops_before (patch_lines t shares x)
+    (λ p. p)
     (length t.patches) c.loop-patch.patch _ _ _ low c.loop-patch.invariant c.in_err-put_patch.ensures.part))
 
 pub loop-patch-preserved : goal.loop-patch-preserved
 loop-patch-preserved g c =
     let laws = g.met.T.Output in
-    takes_number g.T.Output.takes laws.takes_more (patch_lines c.args.new.now.plan (lengths_in c.args.new.now.lengths)) (λ p. p)
+    takes_number g.T.Output.takes laws.takes_more (patch_lines c.args.new.now.plan c.args.new.now.shares
+    (lengths_in c.args.new.now.lengths))
+    (λ p. p)
     c.loop-patch.patch _ _ _ c.loop-patch.invariant c.in_ok-put_patch.ensures.whole
 
 pub returns-clause-whole : goal.returns-clause-whole
 returns-clause-whole g c =
     let t = c.args.new.now.plan in
+    let shares = c.args.new.now.shares in
     let x = lengths_in c.args.new.now.lengths in
     let all : c.loop-patch.patch ≡ length t.patches = omega (
       arith,
@@ -62,6 +67,7 @@ returns-clause-whole g c =
       ap (λ (p : Plan). length p.patches) c.layout.ensures.plan,
       ap (λ (k : CutSoup). length k.plan.patches) c.cut.ensures,
     ) in
-    subst (λ (text : Bytes). g.T.Output.takes c.args.out.now c.loop-patch.out text) (all_lines t x)
-    (subst (λ (n : ℕ). g.T.Output.takes c.args.out.now c.loop-patch.out (flat_map (patch_lines t x) (map (λ p. p) (range_with_len 0 n))))
+    subst (λ (text : Bytes). g.T.Output.takes c.args.out.now c.loop-patch.out text) (all_lines t shares x)
+    (subst (λ (n : ℕ). g.T.Output.takes c.args.out.now c.loop-patch.out
+    (flat_map (patch_lines t shares x) (map (λ p. p) (range_with_len 0 n))))
     all c.loop-patch.invariant)

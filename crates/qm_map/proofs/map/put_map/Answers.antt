@@ -11,10 +11,11 @@ use Rattle.qm_map.proofs.map.put_map.Goals as goal
 
 -- The first two lines, and those of the vertices.
 abbrev head_of : (new : Regrid) → Bytes
-head_of new = map_head (vertices (layout_of new.plan) (lengths_in new.lengths)) (face_count (layout_of new.plan) (lengths_in new.lengths))
+head_of new = map_head (vertices (layout_of new.plan) (lengths_in new.lengths))
+    (face_count (layout_of new.plan) (lengths_in new.lengths))
 
 abbrev spots_of : (new : Regrid) → Bytes
-spots_of new = vertex_lines new.soup.faces new.soup.names new.plan (lengths_in new.lengths)
+spots_of new = vertex_lines new.soup.faces new.soup.names new.plan new.shares (lengths_in new.lengths)
 
 pub returns-in_err-put_head-clause-part : goal.returns-in_err-put_head-clause-part
 returns-in_err-put_head-clause-part g c =

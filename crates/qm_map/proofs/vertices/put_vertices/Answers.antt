@@ -15,19 +15,24 @@ pub spot_near-spot-requires : goal.spot_near-spot-requires
 spot_near-spot-requires g c = record { vertex = omega (arith, c.loop-v-test.true, c.vertices-v-end.ensures) }
 
 pub put_spot-requires : goal.put_spot-requires
-put_spot-requires g c = subst (λ (k : CutSoup). IsSpot k.soup.faces c.spot_near-spot.result) (sym c.cut.ensures) c.spot_near-spot.ensures.spot
+put_spot-requires g c = subst (λ (k : CutSoup). IsSpot k.soup.faces c.spot_near-spot.result) (sym c.cut.ensures)
+    c.spot_near-spot.ensures.spot
 
 pub returns-in_err-put_spot-clause-part : goal.returns-in_err-put_spot-clause-part
 returns-in_err-put_spot-clause-part g c =
     let laws = g.met.T.Output in
     let soup = c.args.new.now.soup in
     let t = c.args.new.now.plan in
+    let shares = c.args.new.now.shares in
     let x = lengths_in c.args.new.now.lengths in
-    let line : spot_line c.cut.result.now.soup.faces c.cut.result.now.soup.names c.spot_near-spot.result ≡ spot_line soup.faces soup.names (spot_at t x c.loop-v.v) =
+    let line : spot_line c.cut.result.now.soup.faces c.cut.result.now.soup.names c.spot_near-spot.result
+    ≡ spot_line soup.faces soup.names (spot_at t shares x c.loop-v.v) =
     λ k. spot_line (c.cut.ensures k).soup.faces (c.cut.ensures k).soup.names (c.spot_near-spot.ensures.value k) in
     of_error c.from_residual.result
-    (stops_at_number g.T.Output.takes g.T.Output.stops laws.stops_later laws.stops_before (spot_line soup.faces soup.names) (spot_at t x)
-    (vertices (layout_of t) x) c.loop-v.v _ _ _ (omega (arith, c.loop-v-test.true, c.vertices-v-end.ensures)) c.loop-v.invariant
+    (stops_at_number g.T.Output.takes g.T.Output.stops laws.stops_later laws.stops_before
+    (spot_line soup.faces soup.names) (spot_at t shares x)
+    (vertices (layout_of t) x) c.loop-v.v _ _ _ (omega (arith, c.loop-v-test.true, c.vertices-v-end.ensures))
+    c.loop-v.invariant
     (subst (g.T.Output.stops c.loop-v.out c.put_spot.new.out) line c.in_err-put_spot.ensures.part))
 
 pub loop-v-preserved : goal.loop-v-preserved
@@ -35,17 +40,28 @@ loop-v-preserved g c =
     let laws = g.met.T.Output in
     let soup = c.args.new.now.soup in
     let t = c.args.new.now.plan in
+    let shares = c.args.new.now.shares in
     let x = lengths_in c.args.new.now.lengths in
-    let line : spot_line c.cut.result.now.soup.faces c.cut.result.now.soup.names c.spot_near-spot.result ≡ spot_line soup.faces soup.names (spot_at t x c.loop-v.v) =
+    let line : spot_line c.cut.result.now.soup.faces c.cut.result.now.soup.names c.spot_near-spot.result
+    ≡ spot_line soup.faces soup.names (spot_at t shares x c.loop-v.v) =
     λ k. spot_line (c.cut.ensures k).soup.faces (c.cut.ensures k).soup.names (c.spot_near-spot.ensures.value k) in
-    takes_number g.T.Output.takes laws.takes_more (spot_line soup.faces soup.names) (spot_at t x) c.loop-v.v _ _ _ c.loop-v.invariant
+    takes_number g.T.Output.takes laws.takes_more (spot_line soup.faces soup.names) (spot_at t shares x) c.loop-v.v _ _
+    _
+    c.loop-v.invariant
     (subst (g.T.Output.takes c.loop-v.out c.put_spot.new.out) line c.in_ok-put_spot.ensures.whole)
 
 pub returns-clause-whole : goal.returns-clause-whole
 returns-clause-whole g c =
     let soup = c.args.new.now.soup in
     let t = c.args.new.now.plan in
+    let shares = c.args.new.now.shares in
     let x = lengths_in c.args.new.now.lengths in
-    let all : c.loop-v.v ≡ vertices (layout_of t) x = omega (arith, c.vertices-v-end.ensures, c.loop-v-test.false, c.loop-v.auto.v-end) in
-    subst (λ (n : ℕ). g.T.Output.takes c.args.out.now c.loop-v.out (flat_map (spot_line soup.faces soup.names) (map (spot_at t x) (range_with_len 0 n))))
+    let all : c.loop-v.v ≡ vertices (layout_of t) x = omega (
+      arith,
+      c.vertices-v-end.ensures,
+      c.loop-v-test.false,
+      c.loop-v.auto.v-end,
+    ) in
+    subst (λ (n : ℕ). g.T.Output.takes c.args.out.now c.loop-v.out
+    (flat_map (spot_line soup.faces soup.names) (map (spot_at t shares x) (range_with_len 0 n))))
     all c.loop-v.invariant

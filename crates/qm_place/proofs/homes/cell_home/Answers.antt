@@ -11,6 +11,7 @@ use Rattle.def_remesh.specs.NewPoints.{lengths_in}
 use Rattle.def_remesh.specs.Placings.{rim_at}
 use Rattle.def_remesh.specs.declared.places.PlaceTables.{PlaceTables}
 use Rattle.def_written.specs.Places.{cell_at}
+use Rattle.qm_place.specs.Lengthened.{shares_by}
 use Rattle.qm_place.specs.Placed.{ArePlaced}
 use Rattle.qm_place.specs.Spots.{seen_from, IsOnGrid}
 use Rattle.qm_place.proofs.Entries.{cell_low, cell_read, patch_read}
@@ -18,7 +19,8 @@ use Rattle.qm_place.proofs.homes.cell_home.Goals as goal
 
 -- A corner of the cell is one of the patch's grid points.
 on_grid : (t : TMesh) (tables : PlaceTables) (p i j a b : ℕ) → ArePlaced (plan t) tables → p < length t.patches.items
-    → i < wide (layout_of (plan t)) (lengths_in tables.lengths.items) p → j < high (layout_of (plan t)) (lengths_in tables.lengths.items) p
+    → i < wide (layout_of (plan t)) (lengths_in tables.lengths.items) p
+    → j < high (layout_of (plan t)) (lengths_in tables.lengths.items) p
     → a ≤ i + 1 → b ≤ j + 1 → IsOnGrid (rim_at tables.rims.items p) a b
 on_grid t tables p i j a b are low i_low j_low a_le b_le =
     let p_low : p < length (plan t).patches = omega (arith, low, length-map t.patches.items rectangle) in
@@ -30,7 +32,8 @@ on_grid t tables p i j a b are low i_low j_low a_le b_le =
     )
 
 -- A patch has few columns and rows.
-cell_few : (t : TMesh) (tables : PlaceTables) (p : ℕ) (patch : Patch) → ArePlaced (plan t) tables → p < length t.patches.items
+cell_few : (t : TMesh) (tables : PlaceTables) (p : ℕ) (patch : Patch) → ArePlaced (plan t) tables
+    → p < length t.patches.items
     → patch ≡ get_or t.patches.items p patch → (patch.w ≤ 2 ^ 21) × (patch.h ≤ 2 ^ 21)
 cell_few t tables p patch are low read =
     let old = patch_read t tables p patch are low read in
@@ -39,82 +42,110 @@ cell_few t tables p patch are low read =
 
 pub overflow_add-j-2 : goal.overflow_add-j-2
 overflow_add-j-2 c =
-    omega (arith, c.args.placed.now.placed.low c.args.patch (omega (arith, c.requires.patch, length-map c.args.placed.now.t.now.patches.items rectangle)), c.requires.row)
+    omega (
+      arith,
+      c.args.placed.now.placed.low c.args.patch
+          (omega (arith, c.requires.patch, length-map c.args.placed.now.t.now.patches.items rectangle)),
+      c.requires.row,
+    )
 
 pub grid_point-south_west-requires-clause-grid : goal.grid_point-south_west-requires-clause-grid
 grid_point-south_west-requires-clause-grid c =
-    on_grid c.args.placed.now.t.now c.args.placed.now.tables.now c.args.patch c.args.i c.args.j c.args.i c.args.j c.args.placed.now.placed c.requires.patch c.requires.column c.requires.row (omega arith) (omega arith)
+    on_grid c.args.placed.now.t.now c.args.placed.now.tables.now c.args.patch c.args.i c.args.j c.args.i c.args.j
+    c.args.placed.now.placed c.requires.patch c.requires.column c.requires.row (omega arith) (omega arith)
 
 pub grid_point-south_east-requires-clause-grid : goal.grid_point-south_east-requires-clause-grid
 grid_point-south_east-requires-clause-grid c =
-    on_grid c.args.placed.now.t.now c.args.placed.now.tables.now c.args.patch c.args.i c.args.j (c.args.i + 1) c.args.j c.args.placed.now.placed c.requires.patch c.requires.column c.requires.row (omega arith) (omega arith)
+    on_grid c.args.placed.now.t.now c.args.placed.now.tables.now c.args.patch c.args.i c.args.j (c.args.i + 1) c.args.j
+    c.args.placed.now.placed c.requires.patch c.requires.column c.requires.row (omega arith) (omega arith)
 
 pub grid_point-north_east-requires-clause-grid : goal.grid_point-north_east-requires-clause-grid
 grid_point-north_east-requires-clause-grid c =
-    on_grid c.args.placed.now.t.now c.args.placed.now.tables.now c.args.patch c.args.i c.args.j (c.args.i + 1) (c.args.j + 1) c.args.placed.now.placed c.requires.patch c.requires.column c.requires.row (omega arith) (omega arith)
+    on_grid c.args.placed.now.t.now c.args.placed.now.tables.now c.args.patch c.args.i c.args.j (c.args.i + 1)
+    (c.args.j + 1) c.args.placed.now.placed c.requires.patch c.requires.column c.requires.row (omega arith)
+    (omega arith)
 
 pub grid_point-north_west-requires-clause-grid : goal.grid_point-north_west-requires-clause-grid
 grid_point-north_west-requires-clause-grid c =
-    on_grid c.args.placed.now.t.now c.args.placed.now.tables.now c.args.patch c.args.i c.args.j c.args.i (c.args.j + 1) c.args.placed.now.placed c.requires.patch c.requires.column c.requires.row (omega arith) (omega arith)
+    on_grid c.args.placed.now.t.now c.args.placed.now.tables.now c.args.patch c.args.i c.args.j c.args.i (c.args.j + 1)
+    c.args.placed.now.placed c.requires.patch c.requires.column c.requires.row (omega arith) (omega arith)
 
 pub cell_at-a-requires : goal.cell_at-a-requires
 cell_at-a-requires c =
-    let old = patch_read c.args.placed.now.t.now c.args.placed.now.tables.now c.args.patch c.index-old.result.now c.args.placed.now.placed c.requires.patch c.index-old.ensures in
+    let old = patch_read c.args.placed.now.t.now c.args.placed.now.tables.now c.args.patch c.index-old.result.now
+    c.args.placed.now.placed c.requires.patch c.index-old.ensures in
     old.some
 
 pub cell_at-b-requires : goal.cell_at-b-requires
 cell_at-b-requires c =
-    let old = patch_read c.args.placed.now.t.now c.args.placed.now.tables.now c.args.patch c.index-old.result.now c.args.placed.now.placed c.requires.patch c.index-old.ensures in
+    let old = patch_read c.args.placed.now.t.now c.args.placed.now.tables.now c.args.patch c.index-old.result.now
+    c.args.placed.now.placed c.requires.patch c.index-old.ensures in
     old.tall
 
 pub index-requires : goal.index-requires
 index-requires c =
-    let old = patch_read c.args.placed.now.t.now c.args.placed.now.tables.now c.args.patch c.index-old.result.now c.args.placed.now.placed c.requires.patch c.index-old.ensures in
+    let old = patch_read c.args.placed.now.t.now c.args.placed.now.tables.now c.args.patch c.index-old.result.now
+    c.args.placed.now.placed c.requires.patch c.index-old.ensures in
     omega (
       arith,
-      cell_low c.args.placed.now.t.now c.args.patch c.cell_at-a.result c.cell_at-b.result c.index-old.result.now old c.cell_at-a.ensures.low c.cell_at-b.ensures.low,
+      cell_low c.args.placed.now.t.now c.args.patch c.cell_at-a.result c.cell_at-b.result c.index-old.result.now old
+          c.cell_at-a.ensures.low c.cell_at-b.ensures.low,
       c.index-old.result.now.cells.ok.0,
     )
 
 pub seen_from-requires-clause-cell : goal.seen_from-requires-clause-cell
 seen_from-requires-clause-cell c =
-    let few = cell_few c.args.placed.now.t.now c.args.placed.now.tables.now c.args.patch c.index-old.result.now c.args.placed.now.placed c.requires.patch c.index-old.ensures in
+    let few = cell_few c.args.placed.now.t.now c.args.placed.now.tables.now c.args.patch c.index-old.result.now
+    c.args.placed.now.placed c.requires.patch c.index-old.ensures in
     (omega (arith, few.0, c.cell_at-a.ensures.low), omega (arith, few.1, c.cell_at-b.ensures.low))
 
 pub seen_from-requires-2-clause-cell : goal.seen_from-requires-2-clause-cell
 seen_from-requires-2-clause-cell c =
-    let few = cell_few c.args.placed.now.t.now c.args.placed.now.tables.now c.args.patch c.index-old.result.now c.args.placed.now.placed c.requires.patch c.index-old.ensures in
+    let few = cell_few c.args.placed.now.t.now c.args.placed.now.tables.now c.args.patch c.index-old.result.now
+    c.args.placed.now.placed c.requires.patch c.index-old.ensures in
     (omega (arith, few.0, c.cell_at-a.ensures.low), omega (arith, few.1, c.cell_at-b.ensures.low))
 
 pub seen_from-requires-3-clause-cell : goal.seen_from-requires-3-clause-cell
 seen_from-requires-3-clause-cell c =
-    let few = cell_few c.args.placed.now.t.now c.args.placed.now.tables.now c.args.patch c.index-old.result.now c.args.placed.now.placed c.requires.patch c.index-old.ensures in
+    let few = cell_few c.args.placed.now.t.now c.args.placed.now.tables.now c.args.patch c.index-old.result.now
+    c.args.placed.now.placed c.requires.patch c.index-old.ensures in
     (omega (arith, few.0, c.cell_at-a.ensures.low), omega (arith, few.1, c.cell_at-b.ensures.low))
 
 pub seen_from-requires-4-clause-cell : goal.seen_from-requires-4-clause-cell
 seen_from-requires-4-clause-cell c =
-    let few = cell_few c.args.placed.now.t.now c.args.placed.now.tables.now c.args.patch c.index-old.result.now c.args.placed.now.placed c.requires.patch c.index-old.ensures in
+    let few = cell_few c.args.placed.now.t.now c.args.placed.now.tables.now c.args.patch c.index-old.result.now
+    c.args.placed.now.placed c.requires.patch c.index-old.ensures in
     (omega (arith, few.0, c.cell_at-a.ensures.low), omega (arith, few.1, c.cell_at-b.ensures.low))
 
 pub returns : goal.returns
 returns c =
     let x = lengths_in c.args.placed.now.tables.now.lengths.items in
     let t = plan c.args.placed.now.t.now in
-    let old = patch_read c.args.placed.now.t.now c.args.placed.now.tables.now c.args.patch c.index-old.result.now c.args.placed.now.placed c.requires.patch c.index-old.ensures in
+    let shares = shares_by c.args.placed.now in
+    let old = patch_read c.args.placed.now.t.now c.args.placed.now.tables.now c.args.patch c.index-old.result.now
+    c.args.placed.now.placed c.requires.patch c.index-old.ensures in
     let sw = c.grid_point-south_west.ensures.value in
     let se = c.grid_point-south_east.ensures.value in
     let ne = c.grid_point-north_east.ensures.value in
     let nw = c.grid_point-north_west.ensures.value in
-    let u : c.mean_of-u.result ≡ mean_corner (corner_u t x c.args.patch c.args.i c.args.j) =
+    let u : c.mean_of-u.result ≡ mean_corner (corner_u t shares x c.args.patch c.args.i c.args.j) =
     c.mean_of-u.ensures ∙ (λ k. ((sw k).u + (se k).u + (ne k).u + (nw k).u) / 4) in
-    let v : c.mean_of-v.result ≡ mean_corner (corner_v t x c.args.patch c.args.i c.args.j) =
+    let v : c.mean_of-v.result ≡ mean_corner (corner_v t shares x c.args.patch c.args.i c.args.j) =
     c.mean_of-v.ensures ∙ (λ k. ((sw k).v + (se k).v + (ne k).v + (nw k).v) / 4) in
-    let a : c.cell_at-a.result ≡ home_column t x c.args.patch c.args.i c.args.j = c.cell_at-a.ensures.value ∙ (λ k. cell_at (old.wide k) (u k)) in
-    let b : c.cell_at-b.result ≡ home_row t x c.args.patch c.args.i c.args.j = c.cell_at-b.ensures.value ∙ (λ k. cell_at (old.high k) (v k)) in
-    let dart = cell_read c.args.placed.now.t.now c.args.patch c.cell_at-a.result c.cell_at-b.result c.index.result.now c.index-old.result.now old
-    c.cell_at-a.ensures.low c.cell_at-b.ensures.low c.index.ensures ∙ (λ k. cell_of (patch_at t.patches c.args.patch) (a k) (b k)) in
-    let s0 : c.seen_from.result ≡ seen_corner t x c.args.patch c.args.i c.args.j south = c.seen_from.ensures ∙ (λ k. seen_from (sw k) (a k) (b k)) in
-    let s1 : c.seen_from-2.result ≡ seen_corner t x c.args.patch c.args.i c.args.j east = c.seen_from-2.ensures ∙ (λ k. seen_from (se k) (a k) (b k)) in
-    let s2 : c.seen_from-3.result ≡ seen_corner t x c.args.patch c.args.i c.args.j north = c.seen_from-3.ensures ∙ (λ k. seen_from (ne k) (a k) (b k)) in
-    let s3 : c.seen_from-4.result ≡ seen_corner t x c.args.patch c.args.i c.args.j west = c.seen_from-4.ensures ∙ (λ k. seen_from (nw k) (a k) (b k)) in
+    let a : c.cell_at-a.result ≡ home_column t shares x c.args.patch c.args.i c.args.j = c.cell_at-a.ensures.value
+    ∙ (λ k. cell_at (old.wide k) (u k)) in
+    let b : c.cell_at-b.result ≡ home_row t shares x c.args.patch c.args.i c.args.j = c.cell_at-b.ensures.value
+    ∙ (λ k. cell_at (old.high k) (v k)) in
+    let dart = cell_read c.args.placed.now.t.now c.args.patch c.cell_at-a.result c.cell_at-b.result c.index.result.now
+    c.index-old.result.now old
+    c.cell_at-a.ensures.low c.cell_at-b.ensures.low c.index.ensures
+    ∙ (λ k. cell_of (patch_at t.patches c.args.patch) (a k) (b k)) in
+    let s0 : c.seen_from.result ≡ seen_corner t shares x c.args.patch c.args.i c.args.j south =
+    c.seen_from.ensures ∙ (λ k. seen_from (sw k) (a k) (b k)) in
+    let s1 : c.seen_from-2.result ≡ seen_corner t shares x c.args.patch c.args.i c.args.j east = c.seen_from-2.ensures
+    ∙ (λ k. seen_from (se k) (a k) (b k)) in
+    let s2 : c.seen_from-3.result ≡ seen_corner t shares x c.args.patch c.args.i c.args.j north = c.seen_from-3.ensures
+    ∙ (λ k. seen_from (ne k) (a k) (b k)) in
+    let s3 : c.seen_from-4.result ≡ seen_corner t shares x c.args.patch c.args.i c.args.j west = c.seen_from-4.ensures
+    ∙ (λ k. seen_from (nw k) (a k) (b k)) in
     λ k. record { dart = dart k; corners = s0 k ∷ s1 k ∷ s2 k ∷ s3 k ∷ [] }

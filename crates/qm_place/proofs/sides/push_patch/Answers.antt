@@ -3,19 +3,45 @@ use Rattle.std.proofs.lemmas.List.{length-map}
 use Rattle.def_cut.specs.Grids.{rectangle}
 use Rattle.def_layout.specs.Layouts.{south, east, north, west}
 use Rattle.def_layout.specs.Plans.{plan}
+use Rattle.qm_place.specs.OnArcs.{spacing_on}
 use Rattle.qm_place.proofs.Pushes.{kept_on, pushed_kept}
 use Rattle.qm_place.proofs.Rims.{new_few, rim_built}
 use Rattle.qm_place.proofs.sides.push_patch.Goals as goal
 
 pub overflow_sub-wide : goal.overflow_sub-wide
-overflow_sub-wide c = omega (arith, c.len-begin.ensures, c.args.parameters.now.ok.0, c.len.ensures, c.push_side.new.parameters.ok.0, (c.in_ok-push_side.ensures south refl).long)
+overflow_sub-wide c = omega (
+  arith,
+  c.len-begin.ensures,
+  c.args.parameters.now.ok.0,
+  c.len.ensures,
+  c.push_side.new.parameters.ok.0,
+  (c.in_ok-push_side.ensures south refl).long,
+)
 
 pub overflow_sub-high : goal.overflow_sub-high
-overflow_sub-high c = omega (arith, c.len-begin.ensures, c.args.parameters.now.ok.0, c.len-2.ensures, c.push_side-2.new.parameters.ok.0, (c.in_ok-push_side.ensures south refl).long, (c.in_ok-push_side-2.ensures east refl).long)
+overflow_sub-high c = omega (
+  arith,
+  c.len-begin.ensures,
+  c.args.parameters.now.ok.0,
+  c.len-2.ensures,
+  c.push_side-2.new.parameters.ok.0,
+  (c.in_ok-push_side.ensures south refl).long,
+  (c.in_ok-push_side-2.ensures east refl).long,
+)
 
 pub overflow_sub-high-2 : goal.overflow_sub-high-2
 overflow_sub-high-2 c =
-    omega (arith, c.len-begin.ensures, c.args.parameters.now.ok.0, c.len.ensures, c.push_side.new.parameters.ok.0, c.len-2.ensures, c.push_side-2.new.parameters.ok.0, (c.in_ok-push_side.ensures south refl).long, (c.in_ok-push_side-2.ensures east refl).long)
+    omega (
+      arith,
+      c.len-begin.ensures,
+      c.args.parameters.now.ok.0,
+      c.len.ensures,
+      c.push_side.new.parameters.ok.0,
+      c.len-2.ensures,
+      c.push_side-2.new.parameters.ok.0,
+      (c.in_ok-push_side.ensures south refl).long,
+      (c.in_ok-push_side-2.ensures east refl).long,
+    )
 
 pub overflow_cast-result : goal.overflow_cast-result
 overflow_cast-result c =
@@ -26,7 +52,8 @@ overflow_cast-result c =
       c.len.ensures,
       c.push_side.new.parameters.ok.0,
       (c.in_ok-push_side.ensures south refl).long,
-      new_few (plan c.args.t.now) c.args.lengths.now c.requires.fine c.args.patch south (omega (arith, c.requires.low, length-map c.args.t.now.patches.items rectangle)),
+      new_few (plan c.args.places.now.t.now) c.args.places.now.lengths.now c.requires.are.fine c.args.patch south
+          (omega (arith, c.requires.low, length-map c.args.places.now.t.now.patches.items rectangle)),
     )
 
 pub overflow_cast-result-2 : goal.overflow_cast-result-2
@@ -41,20 +68,29 @@ overflow_cast-result-2 c =
       c.push_side-2.new.parameters.ok.0,
       (c.in_ok-push_side.ensures south refl).long,
       (c.in_ok-push_side-2.ensures east refl).long,
-      new_few (plan c.args.t.now) c.args.lengths.now c.requires.fine c.args.patch east (omega (arith, c.requires.low, length-map c.args.t.now.patches.items rectangle)),
+      new_few (plan c.args.places.now.t.now) c.args.places.now.lengths.now c.requires.are.fine c.args.patch east
+          (omega (arith, c.requires.low, length-map c.args.places.now.t.now.patches.items rectangle)),
     )
 
 pub returns-clause-rim : goal.returns-clause-rim
 returns-clause-rim c =
-    rim_built (plan c.args.t.now) c.args.lengths.now c.requires.fine c.args.patch (omega (arith, c.requires.low, length-map c.args.t.now.patches.items rectangle))
-    c.args.parameters.now.items c.push_side.new.parameters.items c.push_side-2.new.parameters.items c.push_side-3.new.parameters.items c.push_side-4.new.parameters.items
-    c.len-begin.result (c.len.result - c.len-begin.result) (c.len-2.result - c.len-begin.result - (c.len.result - c.len-begin.result))
-    (c.in_ok-push_side.ensures south refl) (c.in_ok-push_side-2.ensures east refl) (c.in_ok-push_side-3.ensures north refl) (c.in_ok-push_side-4.ensures west refl)
-    (c.len-begin.ensures ∙ c.args.parameters.now.ok.0) (ap (λ n. n - c.len-begin.result) (c.len.ensures ∙ c.push_side.new.parameters.ok.0))
-    (ap (λ n. n - c.len-begin.result - (c.len.result - c.len-begin.result)) (c.len-2.ensures ∙ c.push_side-2.new.parameters.ok.0))
+    rim_built (plan c.args.places.now.t.now) c.args.places.now.lengths.now (spacing_on c.args.places.now)
+    c.requires.are.fine c.args.patch
+    (omega (arith, c.requires.low, length-map c.args.places.now.t.now.patches.items rectangle))
+    c.args.parameters.now.items c.push_side.new.parameters.items c.push_side-2.new.parameters.items
+    c.push_side-3.new.parameters.items c.push_side-4.new.parameters.items
+    c.len-begin.result (c.len.result - c.len-begin.result)
+    (c.len-2.result - c.len-begin.result - (c.len.result - c.len-begin.result))
+    (c.in_ok-push_side.ensures south refl) (c.in_ok-push_side-2.ensures east refl)
+    (c.in_ok-push_side-3.ensures north refl) (c.in_ok-push_side-4.ensures west refl)
+    (c.len-begin.ensures ∙ c.args.parameters.now.ok.0)
+    (ap (λ n. n - c.len-begin.result) (c.len.ensures ∙ c.push_side.new.parameters.ok.0))
+    (ap (λ n. n - c.len-begin.result - (c.len.result - c.len-begin.result)) (c.len-2.ensures
+    ∙ c.push_side-2.new.parameters.ok.0))
 
 pub returns-clause-kept : goal.returns-clause-kept
 returns-clause-kept c =
     kept_on _ _ _ (pushed_kept _ _ _ _ (c.in_ok-push_side.ensures south refl))
     (kept_on _ _ _ (pushed_kept _ _ _ _ (c.in_ok-push_side-2.ensures east refl))
-    (kept_on _ _ _ (pushed_kept _ _ _ _ (c.in_ok-push_side-3.ensures north refl)) (pushed_kept _ _ _ _ (c.in_ok-push_side-4.ensures west refl))))
+    (kept_on _ _ _ (pushed_kept _ _ _ _ (c.in_ok-push_side-3.ensures north refl))
+    (pushed_kept _ _ _ _ (c.in_ok-push_side-4.ensures west refl))))

@@ -5,47 +5,68 @@ use Rattle.def_remesh.specs.NewPoints.{lengths_in}
 use Rattle.def_remesh.specs.Placings.{IsRim}
 use Rattle.def_remesh.specs.declared.places.Rim.{Rim}
 use Rattle.def_written.specs.Places.{parameter_u, parameter_v}
+use Rattle.qm_place.specs.Lengthened.{spacing_at}
 use Rattle.qm_place.specs.Spots.{IsOnGrid}
 use Rattle.qm_place.proofs.Entries.{patch_read, rim_here, rim_room}
 use Rattle.qm_place.proofs.spots.grid_point.Goals as goal
 
 pub across-u-requires-clause-room : goal.across-u-requires-clause-room
 across-u-requires-clause-room c =
-    let rim = rim_here c.args.placed.now.t.now c.args.placed.now.tables.now c.args.patch c.index-rim.result.now c.args.placed.now.placed c.requires.patch c.index-rim.ensures in
-    rim_room (plan c.args.placed.now.t.now) c.args.placed.now.tables.now c.args.patch c.index-rim.result.now c.deref.result.now rim.low rim.is c.deref.ensures.value
+    let rim = rim_here c.args.placed.now.t.now c.args.placed.now.tables.now c.args.patch c.index-rim.result.now
+    c.args.placed.now.placed c.requires.patch c.index-rim.ensures in
+    rim_room (plan c.args.placed.now.t.now) c.args.placed.now.tables.now c.args.patch c.index-rim.result.now
+    c.deref.result.now rim.low rim.is c.deref.ensures.value
 
 pub across-u-requires-clause-grid : goal.across-u-requires-clause-grid
 across-u-requires-clause-grid c =
-    let rim = rim_here c.args.placed.now.t.now c.args.placed.now.tables.now c.args.patch c.index-rim.result.now c.args.placed.now.placed c.requires.patch c.index-rim.ensures in
+    let rim = rim_here c.args.placed.now.t.now c.args.placed.now.tables.now c.args.patch c.index-rim.result.now
+    c.args.placed.now.placed c.requires.patch c.index-rim.ensures in
     subst (λ (r : Rim). IsOnGrid r c.args.i c.args.j) (sym rim.same) c.requires.grid
 
 pub upright-v-requires-clause-room : goal.upright-v-requires-clause-room
 upright-v-requires-clause-room c =
-    let rim = rim_here c.args.placed.now.t.now c.args.placed.now.tables.now c.args.patch c.index-rim.result.now c.args.placed.now.placed c.requires.patch c.index-rim.ensures in
-    rim_room (plan c.args.placed.now.t.now) c.args.placed.now.tables.now c.args.patch c.index-rim.result.now c.deref-2.result.now rim.low rim.is c.deref-2.ensures.value
+    let rim = rim_here c.args.placed.now.t.now c.args.placed.now.tables.now c.args.patch c.index-rim.result.now
+    c.args.placed.now.placed c.requires.patch c.index-rim.ensures in
+    rim_room (plan c.args.placed.now.t.now) c.args.placed.now.tables.now c.args.patch c.index-rim.result.now
+    c.deref-2.result.now rim.low rim.is c.deref-2.ensures.value
 
 pub upright-v-requires-clause-grid : goal.upright-v-requires-clause-grid
 upright-v-requires-clause-grid c =
-    let rim = rim_here c.args.placed.now.t.now c.args.placed.now.tables.now c.args.patch c.index-rim.result.now c.args.placed.now.placed c.requires.patch c.index-rim.ensures in
+    let rim = rim_here c.args.placed.now.t.now c.args.placed.now.tables.now c.args.patch c.index-rim.result.now
+    c.args.placed.now.placed c.requires.patch c.index-rim.ensures in
     subst (λ (r : Rim). IsOnGrid r c.args.i c.args.j) (sym rim.same) c.requires.grid
 
 u_is : (c : goal.After-upright-v) → c.across-u.result
-    ≡ parameter_u (layout_of (plan c.args.placed.now.t.now)) (long_at (plan c.args.placed.now.t.now).arcs) (lengths_in c.args.placed.now.tables.now.lengths.items) c.args.patch c.args.i c.args.j
+    ≡ parameter_u (layout_of (plan c.args.placed.now.t.now)) (long_at (plan c.args.placed.now.t.now).arcs)
+    (lengths_in c.args.placed.now.tables.now.lengths.items) (spacing_at c.args.placed.now) c.args.patch c.args.i
+    c.args.j
 u_is c =
-    let rim = rim_here c.args.placed.now.t.now c.args.placed.now.tables.now c.args.patch c.index-rim.result.now c.args.placed.now.placed c.requires.patch c.index-rim.ensures in
-    let old = patch_read c.args.placed.now.t.now c.args.placed.now.tables.now c.args.patch c.index-old.result.now c.args.placed.now.placed c.requires.patch c.index-old.ensures in
-    c.across-u.ensures (plan c.args.placed.now.t.now) (lengths_in c.args.placed.now.tables.now.lengths.items) c.args.patch rim.low c.args.placed.now.placed.lengths
-    (subst (λ (xs : List ℕ). IsRim (plan c.args.placed.now.t.now) (lengths_in c.args.placed.now.tables.now.lengths.items) c.args.patch c.index-rim.result.now xs)
+    let rim = rim_here c.args.placed.now.t.now c.args.placed.now.tables.now c.args.patch c.index-rim.result.now
+    c.args.placed.now.placed c.requires.patch c.index-rim.ensures in
+    let old = patch_read c.args.placed.now.t.now c.args.placed.now.tables.now c.args.patch c.index-old.result.now
+    c.args.placed.now.placed c.requires.patch c.index-old.ensures in
+    c.across-u.ensures (plan c.args.placed.now.t.now) (lengths_in c.args.placed.now.tables.now.lengths.items)
+    (spacing_at c.args.placed.now) c.args.patch rim.low c.args.placed.now.placed.lengths
+    (subst (λ (xs : List ℕ). IsRim (plan c.args.placed.now.t.now)
+    (lengths_in c.args.placed.now.tables.now.lengths.items) (spacing_at c.args.placed.now) c.args.patch
+    c.index-rim.result.now xs)
     (sym c.deref.ensures.value) rim.is)
     (c.args.placed.now.placed.ends c.args.patch rim.low) old.wide
 
 v_is : (c : goal.After-upright-v) → c.upright-v.result
-    ≡ parameter_v (layout_of (plan c.args.placed.now.t.now)) (long_at (plan c.args.placed.now.t.now).arcs) (lengths_in c.args.placed.now.tables.now.lengths.items) c.args.patch c.args.i c.args.j
+    ≡ parameter_v (layout_of (plan c.args.placed.now.t.now)) (long_at (plan c.args.placed.now.t.now).arcs)
+    (lengths_in c.args.placed.now.tables.now.lengths.items) (spacing_at c.args.placed.now) c.args.patch c.args.i
+    c.args.j
 v_is c =
-    let rim = rim_here c.args.placed.now.t.now c.args.placed.now.tables.now c.args.patch c.index-rim.result.now c.args.placed.now.placed c.requires.patch c.index-rim.ensures in
-    let old = patch_read c.args.placed.now.t.now c.args.placed.now.tables.now c.args.patch c.index-old.result.now c.args.placed.now.placed c.requires.patch c.index-old.ensures in
-    c.upright-v.ensures (plan c.args.placed.now.t.now) (lengths_in c.args.placed.now.tables.now.lengths.items) c.args.patch rim.low c.args.placed.now.placed.lengths
-    (subst (λ (xs : List ℕ). IsRim (plan c.args.placed.now.t.now) (lengths_in c.args.placed.now.tables.now.lengths.items) c.args.patch c.index-rim.result.now xs)
+    let rim = rim_here c.args.placed.now.t.now c.args.placed.now.tables.now c.args.patch c.index-rim.result.now
+    c.args.placed.now.placed c.requires.patch c.index-rim.ensures in
+    let old = patch_read c.args.placed.now.t.now c.args.placed.now.tables.now c.args.patch c.index-old.result.now
+    c.args.placed.now.placed c.requires.patch c.index-old.ensures in
+    c.upright-v.ensures (plan c.args.placed.now.t.now) (lengths_in c.args.placed.now.tables.now.lengths.items)
+    (spacing_at c.args.placed.now) c.args.patch rim.low c.args.placed.now.placed.lengths
+    (subst (λ (xs : List ℕ). IsRim (plan c.args.placed.now.t.now)
+    (lengths_in c.args.placed.now.tables.now.lengths.items) (spacing_at c.args.placed.now) c.args.patch
+    c.index-rim.result.now xs)
     (sym c.deref-2.ensures.value) rim.is)
     (c.args.placed.now.placed.ends c.args.patch rim.low) old.high
 
@@ -54,7 +75,9 @@ returns-clause-value c = λ k. record { u = u_is c k; v = v_is c k }
 
 pub returns-clause-small : goal.returns-clause-small
 returns-clause-small c =
-    let rim = rim_here c.args.placed.now.t.now c.args.placed.now.tables.now c.args.patch c.index-rim.result.now c.args.placed.now.placed c.requires.patch c.index-rim.ensures in
+    let rim = rim_here c.args.placed.now.t.now c.args.placed.now.tables.now c.args.patch c.index-rim.result.now
+    c.args.placed.now.placed c.requires.patch c.index-rim.ensures in
     let small = c.args.placed.now.placed.small c.args.patch c.args.i c.args.j rim.low
-    (omega (arith, c.requires.grid.0, ap (λ (r : Rim). r.wide) rim.same, rim.is.wide)) (omega (arith, c.requires.grid.1, ap (λ (r : Rim). r.high) rim.same, rim.is.high)) in
+    (omega (arith, c.requires.grid.0, ap (λ (r : Rim). r.wide) rim.same, rim.is.wide))
+    (omega (arith, c.requires.grid.1, ap (λ (r : Rim). r.high) rim.same, rim.is.high)) in
     (omega (arith, u_is c, small.0), omega (arith, v_is c, small.1))

@@ -4,6 +4,7 @@ use Rattle.def_layout.specs.Plans.{layout_of, plan}
 use Rattle.def_map.specs.Spots.{face_spot}
 use Rattle.def_written.specs.Numbers.{before_patch}
 use Rattle.def_remesh.specs.NewPoints.{lengths_in}
+use Rattle.qm_place.specs.Lengthened.{spacing_at}
 use Rattle.qm_place.proofs.Entries.{offset_read}
 use Rattle.qm_place.proofs.spots.inside_spot.Goals as goal
 
@@ -12,8 +13,10 @@ overflow_add-offset-2 c =
     let are = c.args.placed.now.placed in
     let x = lengths_in c.args.placed.now.tables.now.lengths.items in
     let l = layout_of (plan c.args.placed.now.t.now) in
-    let at = offset_read (plan c.args.placed.now.t.now) c.args.placed.now.tables.now are c.args.patch c.index.result.now c.index-2.result.now c.requires.inside.low c.index.ensures c.index-2.ensures in
-    let row : (c.args.place - c.index.result.now) / (c.index-2.result.now.wide - 1) ≡ (c.args.place - before_patch l x c.args.patch) / (wide l x c.args.patch - 1) =
+    let at = offset_read (plan c.args.placed.now.t.now) c.args.placed.now.tables.now are c.args.patch c.index.result.now
+    c.index-2.result.now c.requires.inside.low c.index.ensures c.index-2.ensures in
+    let row : (c.args.place - c.index.result.now) / (c.index-2.result.now.wide - 1)
+    ≡ (c.args.place - before_patch l x c.args.patch) / (wide l x c.args.patch - 1) =
     λ k. (c.args.place - at.begin_is k) / (at.columns_are k - 1) in
     omega (arith, row, c.requires.inside.row, are.low c.args.patch c.requires.inside.low)
 
@@ -22,10 +25,13 @@ cell_spot-requires-clause-grid c =
     let are = c.args.placed.now.placed in
     let x = lengths_in c.args.placed.now.tables.now.lengths.items in
     let l = layout_of (plan c.args.placed.now.t.now) in
-    let at = offset_read (plan c.args.placed.now.t.now) c.args.placed.now.tables.now are c.args.patch c.index.result.now c.index-2.result.now c.requires.inside.low c.index.ensures c.index-2.ensures in
-    let column : (c.args.place - c.index.result.now) % (c.index-2.result.now.wide - 1) ≡ (c.args.place - before_patch l x c.args.patch) % (wide l x c.args.patch - 1) =
+    let at = offset_read (plan c.args.placed.now.t.now) c.args.placed.now.tables.now are c.args.patch c.index.result.now
+    c.index-2.result.now c.requires.inside.low c.index.ensures c.index-2.ensures in
+    let column : (c.args.place - c.index.result.now) % (c.index-2.result.now.wide - 1)
+    ≡ (c.args.place - before_patch l x c.args.patch) % (wide l x c.args.patch - 1) =
     λ k. (c.args.place - at.begin_is k) % (at.columns_are k - 1) in
-    let row : (c.args.place - c.index.result.now) / (c.index-2.result.now.wide - 1) ≡ (c.args.place - before_patch l x c.args.patch) / (wide l x c.args.patch - 1) =
+    let row : (c.args.place - c.index.result.now) / (c.index-2.result.now.wide - 1)
+    ≡ (c.args.place - before_patch l x c.args.patch) / (wide l x c.args.patch - 1) =
     λ k. (c.args.place - at.begin_is k) / (at.columns_are k - 1) in
     let is = are.rims c.args.patch c.requires.inside.low in (
       omega (arith, column, c.requires.inside.column, is.wide),
@@ -39,6 +45,9 @@ returns c =
     let are = c.args.placed.now.placed in
     let x = lengths_in c.args.placed.now.tables.now.lengths.items in
     let l = layout_of (plan c.args.placed.now.t.now) in
-    let at = offset_read (plan c.args.placed.now.t.now) c.args.placed.now.tables.now are c.args.patch c.index.result.now c.index-2.result.now c.requires.inside.low c.index.ensures c.index-2.ensures in
+    let at = offset_read (plan c.args.placed.now.t.now) c.args.placed.now.tables.now are c.args.patch c.index.result.now
+    c.index-2.result.now c.requires.inside.low c.index.ensures c.index-2.ensures in
     c.cell_spot.ensures
-    ∙ (λ k. face_spot (plan c.args.placed.now.t.now) x c.args.patch ((c.args.place - at.begin_is k) % (at.columns_are k - 1) + 1) ((c.args.place - at.begin_is k) / (at.columns_are k - 1) + 1))
+    ∙ (λ k. face_spot (plan c.args.placed.now.t.now) x (spacing_at c.args.placed.now) c.args.patch
+    ((c.args.place - at.begin_is k) % (at.columns_are k - 1) + 1)
+    ((c.args.place - at.begin_is k) / (at.columns_are k - 1) + 1))

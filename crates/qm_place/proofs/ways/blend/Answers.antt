@@ -7,18 +7,28 @@ use Rattle.def_written.specs.Places.{blend}
 use Rattle.qm_place.proofs.Casts.{blend_micro, sum_is, sum_fits, mean_is, cast_micro}
 use Rattle.qm_place.proofs.ways.blend.Goals as goal
 
-sum : (c : goal.After-weigh-4) → to_z w128 (of_z w128 (to_z w128 (of_z w128 (to_z w128 (of_z w128 c.weigh.result) +ℤ to_z w128 (of_z w128 c.weigh-2.result)))
+sum : (c : goal.After-weigh-4)
+    → to_z w128 (of_z w128 (to_z w128
+    (of_z w128 (to_z w128 (of_z w128 c.weigh.result) +ℤ to_z w128 (of_z w128 c.weigh-2.result)))
     +ℤ to_z w128 (of_z w128 (to_z w128 (of_z w128 c.weigh-3.result) +ℤ to_z w128 (of_z w128 c.weigh-4.result)))))
     ≡ (c.weigh.result +ℤ c.weigh-2.result) +ℤ (c.weigh-3.result +ℤ c.weigh-4.result)
 sum c = sum_is c.weigh.result c.weigh-2.result c.weigh-3.result c.weigh-4.result
     c.weigh.ensures.short c.weigh-2.ensures.short c.weigh-3.ensures.short c.weigh-4.ensures.short
 
-few : (c : goal.After-weigh-4) → unsigned_abs ((c.weigh.result +ℤ c.weigh-2.result) +ℤ (c.weigh-3.result +ℤ c.weigh-4.result)) ≤ 2 ^ 118
+few : (c : goal.After-weigh-4)
+    → unsigned_abs ((c.weigh.result +ℤ c.weigh-2.result) +ℤ (c.weigh-3.result +ℤ c.weigh-4.result)) ≤ 2 ^ 118
 few c = sum_fits c.weigh.result c.weigh-2.result c.weigh-3.result c.weigh-4.result
     c.weigh.ensures.short c.weigh-2.ensures.short c.weigh-3.ensures.short c.weigh-4.ensures.short
 
 pub overflow_add-south-2 : goal.overflow_add-south-2
-overflow_add-south-2 c = omega (arith, ints, c.weigh.ensures.short, c.weigh-2.ensures.short, c.weigh-3.ensures.short, c.weigh-4.ensures.short)
+overflow_add-south-2 c = omega (
+  arith,
+  ints,
+  c.weigh.ensures.short,
+  c.weigh-2.ensures.short,
+  c.weigh-3.ensures.short,
+  c.weigh-4.ensures.short,
+)
 
 pub overflow_add-south-3 : goal.overflow_add-south-3
 overflow_add-south-3 c = fits _ _ (sum c) (few c)
@@ -26,7 +36,8 @@ overflow_add-south-3 c = fits _ _ (sum c) (few c)
     fits : (y z : ℤ) → y ≡ z → unsigned_abs z ≤ 2 ^ 118 → FitsSigned w128 (y +ℤ pos 9223372036854775808)
     fits y z same small = omega (arith, ints, same, small)
 
-is : (c : goal.After-div_euclid-mean) → c.div_euclid-mean.result ≡ blend c.args.s c.args.t c.p00.inside.n c.p10.inside.n c.p01.inside.n c.p11.inside.n
+is : (c : goal.After-div_euclid-mean) → c.div_euclid-mean.result ≡ blend c.args.s c.args.t c.p00.inside.n c.p10.inside.n
+    c.p01.inside.n c.p11.inside.n
 is c = mean_is c.args.s c.args.t c.p00.inside.n c.p10.inside.n c.p01.inside.n c.p11.inside.n
     c.weigh.result c.weigh-2.result c.weigh-3.result c.weigh-4.result c.div_euclid-mean.result
     (record {

@@ -23,24 +23,33 @@ returns-clause-new c =
       ap (λ (n : Regrid). n.soup) is,
       ap (λ (n : Regrid). n.plan) is,
       ap (λ (n : Regrid). lengths_in n.lengths) is ∙ same (goal.at.returns-clause-new c).After-deref,
+      ap (λ (n : Regrid). n.shares) is,
     ))
     c.points_of.ensures.new
 
 pub returns-clause-few : goal.returns-clause-few
 returns-clause-few c =
-    subst (λ (l : Lengths). OnOk c.points_of.result (face_count (layout_of c.args.cut.plan) l ≤ MAX_NEW_FACES)) (same (goal.at.returns-clause-few c).After-deref)
+    subst (λ (l : Lengths). OnOk c.points_of.result (face_count (layout_of c.args.cut.plan) l ≤ MAX_NEW_FACES))
+    (same (goal.at.returns-clause-few c).After-deref)
     c.points_of.ensures.few
 
 pub returns-clause-refused : goal.returns-clause-refused
 returns-clause-refused c =
-    subst (λ (l : Lengths). IfErr c.points_of.result (IsUnstitched (layout_of c.args.cut.plan) l)) (same (goal.at.returns-clause-refused c).After-deref)
+    subst (λ (l : Lengths). IfErr c.points_of.result (IsUnstitched (layout_of c.args.cut.plan) l))
+    (same (goal.at.returns-clause-refused c).After-deref)
     c.points_of.ensures.refused
 
 pub returns-clause-shape : goal.returns-clause-shape
 returns-clause-shape c =
-    subst (λ (l : Lengths). OnOk c.points_of.result (KeepsShapes c.args.cut.plan l)) (same (goal.at.returns-clause-shape c).After-deref)
+    subst (λ (l : Lengths). OnOk c.points_of.result (KeepsShapes c.args.cut.plan l))
+    (same (goal.at.returns-clause-shape c).After-deref)
     c.points_of.ensures.shape
 
 pub returns-clause-undoubled : goal.returns-clause-undoubled
 returns-clause-undoubled c =
-    c.points_of.ensures.safe (inr (c.args.by, c.requires.some, λ arc low. ap (λ (l : Lengths). l arc) (same (goal.at.returns-clause-undoubled c).After-deref)))
+    c.points_of.ensures.safe
+    (inr (
+      c.args.by,
+      c.requires.some,
+      λ arc low. ap (λ (l : Lengths). l arc) (same (goal.at.returns-clause-undoubled c).After-deref),
+    ))

@@ -12,17 +12,23 @@ new-requires-clause-lengths g c =
 
 pub returns-clause-whole : goal.returns-clause-whole
 returns-clause-whole g c =
-    let lengths : c.deref.result.now ≡ (used (certificates_of c.args.framed.remesh.certs)).x = c.deref.ensures.value ∙ ap (λ (lists : Lists). lists.x) c.used_of.ensures in
+    let lengths : c.deref.result.now ≡ (used (certificates_of c.args.framed.remesh.certs)).x = c.deref.ensures.value
+    ∙ ap (λ (lists : Lists). lists.x) c.used_of.ensures in
     subst (g.T.Output.takes c.args.out.now c.put_parts.new.out)
-    (pieces_are _ _ _ _ _ _ _ _ _ c.in_ok-new.ensures lengths (c.in_ok-texts.ensures _)) c.in_ok-put_parts.ensures.whole
+    (pieces_are _ _ _ _ _ _ _ _ _ _ c.in_ok-new.ensures lengths (c.in_ok-texts.ensures _))
+    c.in_ok-put_parts.ensures.whole
 
 pub returns-in_err-put_parts-clause-part : goal.returns-in_err-put_parts-clause-part
 returns-in_err-put_parts-clause-part g c is =
-    let lengths : c.deref.result.now ≡ (used (certificates_of c.args.framed.remesh.certs)).x = c.deref.ensures.value ∙ ap (λ (lists : Lists). lists.x) c.used_of.ensures in
+    let lengths : c.deref.result.now ≡ (used (certificates_of c.args.framed.remesh.certs)).x = c.deref.ensures.value
+    ∙ ap (λ (lists : Lists). lists.x) c.used_of.ensures in
     subst (g.T.Output.stops c.args.out.now c.put_parts.new.out)
-    (pieces_are _ _ _ _ _ _ _ _ _ c.in_ok-new.ensures lengths (c.in_ok-texts.ensures _)) c.in_err-put_parts.ensures.part
+    (pieces_are _ _ _ _ _ _ _ _ _ _ c.in_ok-new.ensures lengths (c.in_ok-texts.ensures _))
+    c.in_err-put_parts.ensures.part
 
 pub returns-clause-new : goal.returns-clause-new
 returns-clause-new g c =
-    let lengths : c.deref.result.now ≡ (used (certificates_of c.args.framed.remesh.certs)).x = c.deref.ensures.value ∙ ap (λ (lists : Lists). lists.x) c.used_of.ensures in
-    c.in_ok-new.ensures ∙ ap (with_lengths c.args.cut.soup c.args.cut.plan) (lengths ∙ sym c.requires.kept.1.lengths)
+    let lengths : c.deref.result.now ≡ (used (certificates_of c.args.framed.remesh.certs)).x = c.deref.ensures.value
+    ∙ ap (λ (lists : Lists). lists.x) c.used_of.ensures in
+    c.in_ok-new.ensures ∙ ap (with_lengths c.args.cut.soup c.args.cut.plan c.args.framed.shares) (lengths
+    ∙ sym c.requires.kept.1.lengths)

@@ -2,7 +2,7 @@ use Rattle.std.proofs.Common.{◌≡◌, ℕ, ◌<◌, map, subst, arith}
 use Rattle.std.specs.List.{flat_map, range_with_len}
 use Rattle.def_layout.specs.Plans.{layout_of}
 use Rattle.def_remesh.specs.NewPoints.{lengths_in}
-use Rattle.def_remesh.specs.NewSoup.{new_place}
+use Rattle.def_remesh.specs.NewSoup.{spaced_place}
 use Rattle.def_text.specs.Canonical.{position_text}
 use Rattle.def_text.specs.Types.{Position}
 use Rattle.def_written.specs.Numbers.{vertices}
@@ -16,22 +16,31 @@ returns-in_err-put_position-clause-part g c =
     let new = c.args.new.now in
     let lengths = lengths_in new.lengths in
     of_error c.from_residual.result
-    (stops_at_number g.T.Output.takes g.T.Output.stops laws.stops_later laws.stops_before position_text (new_place new.soup.faces new.plan new.soup.pos lengths)
-    (vertices (layout_of new.plan) lengths) c.loop-v.v _ _ _ (subst (λ (n : ℕ). c.loop-v.v < n) c.vertices-v-end.ensures c.loop-v-test.true) c.loop-v.invariant
-    (subst (λ (p : Position). g.T.Output.stops c.loop-v.out c.put_position.new.out (position_text p)) c.place_near-place.ensures.value c.in_err-put_position.ensures.part))
+    (stops_at_number g.T.Output.takes g.T.Output.stops laws.stops_later laws.stops_before position_text
+    (spaced_place new.soup.faces new.plan new.soup.pos new.shares lengths)
+    (vertices (layout_of new.plan) lengths) c.loop-v.v _ _ _ (subst (λ (n : ℕ). c.loop-v.v < n) c.vertices-v-end.ensures
+    c.loop-v-test.true) c.loop-v.invariant
+    (subst (λ (p : Position). g.T.Output.stops c.loop-v.out c.put_position.new.out (position_text p))
+    c.place_near-place.ensures.value c.in_err-put_position.ensures.part))
 
 pub loop-v-preserved : goal.loop-v-preserved
 loop-v-preserved g c =
     let laws = g.met.T.Output in
     let new = c.args.new.now in
     let lengths = lengths_in new.lengths in
-    takes_number g.T.Output.takes laws.takes_more position_text (new_place new.soup.faces new.plan new.soup.pos lengths) c.loop-v.v _ _ _ c.loop-v.invariant
-    (subst (λ (p : Position). g.T.Output.takes c.loop-v.out c.put_position.new.out (position_text p)) c.place_near-place.ensures.value c.in_ok-put_position.ensures.whole)
+    takes_number g.T.Output.takes laws.takes_more position_text (spaced_place new.soup.faces new.plan new.soup.pos
+    new.shares lengths)
+    c.loop-v.v _ _ _ c.loop-v.invariant
+    (subst (λ (p : Position). g.T.Output.takes c.loop-v.out c.put_position.new.out (position_text p))
+    c.place_near-place.ensures.value c.in_ok-put_position.ensures.whole)
 
 pub returns-clause-whole : goal.returns-clause-whole
 returns-clause-whole g c =
     let new = c.args.new.now in
     let lengths = lengths_in new.lengths in
-    let all : c.loop-v.v ≡ vertices (layout_of new.plan) lengths = omega (arith, c.vertices-v-end.ensures, c.loop-v-test.false, c.loop-v.auto.v-end) in
-    subst (λ (n : ℕ). g.T.Output.takes c.args.out.now c.loop-v.out (flat_map position_text (map (new_place new.soup.faces new.plan new.soup.pos lengths) (range_with_len 0 n))))
+    let all : c.loop-v.v ≡ vertices (layout_of new.plan) lengths =
+    omega (arith, c.vertices-v-end.ensures, c.loop-v-test.false, c.loop-v.auto.v-end) in
+    subst (λ (n : ℕ). g.T.Output.takes c.args.out.now c.loop-v.out
+    (flat_map position_text (map (spaced_place new.soup.faces new.plan new.soup.pos new.shares lengths)
+    (range_with_len 0 n))))
     all c.loop-v.invariant

@@ -10,7 +10,8 @@ use Rattle.qm_place.proofs.placed.Placed.rim.Goals as goal
 read : (c : After-index) → IsRimRead c.args.self.now.t.now c.args.self.now.tables.now c.args.patch c.index.result.now
 read c =
     let placed = c.args.self.now in
-    rim_here placed.t.now placed.tables.now c.args.patch c.index.result.now placed.placed c.requires.patch c.index.ensures
+    rim_here placed.t.now placed.tables.now c.args.patch c.index.result.now placed.placed c.requires.patch
+    c.index.ensures
 
 pub returns-clause-few : goal.returns-clause-few
 returns-clause-few c =
@@ -18,11 +19,20 @@ returns-clause-few c =
     let l = layout_of (plan placed.t.now) in
     let x = lengths_in placed.tables.now.lengths.items in
     let at = read (goal.at.returns-clause-few c).After-index in
-    let product : c.index.result.now.wide * c.index.result.now.high ≡ wide l x c.args.patch * high l x c.args.patch = λ i. at.is.wide i * at.is.high i in
-    omega (arith, product, term_room (λ p. wide l x p * high l x p) (length (plan placed.t.now).patches) c.args.patch at.low, placed.placed.few_faces)
+    let product : c.index.result.now.wide * c.index.result.now.high ≡ wide l x c.args.patch * high l x c.args.patch =
+    λ i. at.is.wide i * at.is.high i in
+    omega (
+      arith,
+      product,
+      term_room (λ p. wide l x p * high l x p) (length (plan placed.t.now).patches) c.args.patch
+          at.low,
+      placed.placed.few_faces,
+    )
 
 pub returns-clause-short : goal.returns-clause-short
 returns-clause-short c =
     let placed = c.args.self.now.placed in
-    let at = read (goal.at.returns-clause-short c).After-index in
-    (omega (arith, at.is.wide, placed.narrow c.args.patch at.low), omega (arith, at.is.high, placed.low c.args.patch at.low))
+    let at = read (goal.at.returns-clause-short c).After-index in (
+      omega (arith, at.is.wide, placed.narrow c.args.patch at.low),
+      omega (arith, at.is.high, placed.low c.args.patch at.low),
+    )

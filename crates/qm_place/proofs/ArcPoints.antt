@@ -1,0 +1,138 @@
+-- The points of arcs by shares, as their table tells them.
+use Rattle.std.proofs.Common.{
+  ◌≡◌,
+  ℕ,
+  ◌+◌,
+  ◌-◌,
+  ◌*◌,
+  ◌/◌,
+  ◌%◌,
+  ◌^◌,
+  ◌<◌,
+  ◌≤◌,
+  List,
+  length,
+  get_or,
+  true,
+  Option,
+  Some,
+  refl,
+  sym,
+  ◌∙◌,
+  ap,
+  subst,
+  arith,
+}
+use Rattle.std.specs.Prelude.{◌==◌, slice_index}
+use Rattle.std.proofs.lemmas.Bool.{cond_both}
+use Rattle.std.proofs.lemmas.List.{get_or_read, length-map}
+use Rattle.def_layout.specs.Arcs.{dart_at, long_at, path}
+use Rattle.def_layout.specs.Lengths.{Lengths}
+use Rattle.def_layout.specs.Plans.{Plan, layout_of, plan}
+use Rattle.def_layout.specs.declared.tmesh.TArc.{TArc}
+use Rattle.def_layout.specs.declared.tmesh.TMesh.{TMesh}
+use Rattle.def_layoutnet.specs.MeshLayouts.{IsSomeLayout}
+use Rattle.def_map.specs.Spots.{edge_spot}
+use Rattle.def_map.specs.declared.spot.EdgeSpot.{EdgeSpot}
+use Rattle.def_written.specs.Numbers.{before_arc}
+use Rattle.def_written.specs.Places.{ONE, Step}
+use Rattle.def_written.specs.Spacings.{edge_begin, shared_step, step_parameter, IsSpacing, Shares}
+use Rattle.def_remesh.specs.Placings.{shares_in, IsSpaced}
+use Rattle.def_remesh.specs.Spaced.{shares_along, spacing_by}
+use Rattle.def_remesh.specs.declared.places.Spaced.{Spaced}
+use Rattle.def_remesh.specs.NewPoints.{lengths_in}
+use Rattle.plan_laws.proofs.Bounds.{vertices_few}
+use Rattle.plan_laws.proofs.MeshLayouts.{laid_of}
+use Rattle.qm_place.specs.ArcTables.{AreFine}
+use Rattle.qm_place.proofs.Rims.{old_read, old_short}
+use Rattle.written_laws.proofs.Runs.{place_low}
+
+-- An arc that is read is short.
+pub read_short : (t : TMesh) (a : ℕ) (arc : TArc) → IsSomeLayout (plan t) → a < length t.arcs.items
+    → arc ≡ get_or t.arcs.items a arc → length arc.darts.items ≤ 2 ^ 21
+read_short t a arc is low read =
+    omega (
+      arith,
+      old_read t a arc low read,
+      old_short (plan t) is a (omega (arith, low, length-map t.arcs.items path)),
+    )
+
+-- Inner points of arcs are few.
+pub points_few : (plan : Plan) (list : List ℕ) → AreFine plan list → (arc place : ℕ) → arc < length plan.arcs
+    → place < lengths_in list arc - 1 → before_arc (lengths_in list) arc + place < 2 ^ 23
+points_few plan list fine arc place low less =
+    omega (
+      arith,
+      place_low (λ b. lengths_in list b - 1) (length plan.arcs) arc place low less,
+      vertices_few (layout_of plan) (lengths_in list) (laid_of plan fine.mesh) fine.lengths,
+      fine.few,
+    )
+
+module _ (plan : Plan) (new : Lengths) (o : Option Spaced) (told : IsSpaced plan new o) (spaced : Spaced)
+    (is : o ≡ Some spaced) (arc k : ℕ) (low : arc < length plan.arcs) (some : 0 < k) (less : k < new arc) where
+  pub inner_low : before_arc new arc + k - 1 < length spaced.parameters.items
+  inner_low = omega (
+    arith,
+    (told spaced is).long,
+    place_low (λ b. new b - 1) (length plan.arcs) arc (k - 1) low (omega (arith, some, less)),
+    some,
+  )
+
+  inner_value : slice_index spaced.parameters.items (before_arc new arc + k - 1)
+      ≡ (spacing_by plan (shares_in o) new).parameter_of arc true k
+  inner_value =
+      (told spaced is).each arc k low some less
+      ∙ ap (λ (p : Option Spaced). (spacing_by plan (shares_in p) new).parameter_of arc true k) (sym is)
+
+  -- What is read there.
+  pub read_inner : (index read : ℕ) → index ≡ before_arc new arc + k - 1
+      → read ≡ get_or spaced.parameters.items index read
+      → read ≡ (spacing_by plan (shares_in o) new).parameter_of arc true k
+  read_inner index read place same =
+      get_or_read spaced.parameters.items index read (omega (arith, place, inner_low)) same 0
+      ∙ ap (slice_index spaced.parameters.items) place ∙ inner_value
+
+-- The parts of a step by shares are those of a parameter.
+parts_are : (old new : Lengths) (shares : Shares) (arc k : ℕ) → (shared_step old new shares arc k).parts ≡ ONE
+parts_are old new shares arc k =
+    cond_both (k == 0) (edge_begin 0) _ (λ (s : Step). s.parts ≡ ONE) (λ e. refl)
+    (λ e. cond_both (k == new arc) (edge_begin (old arc)) _ (λ (s : Step). s.parts ≡ ONE) (λ f. refl) (λ f. refl))
+
+-- A parameter tells its step.
+edge_told : (step : Step) → step.some < ONE → step_parameter step / ONE ≡ step.edge
+edge_told step less = omega (arith, less)
+
+some_told : (step : Step) → step.some < ONE → step_parameter step % ONE ≡ step.some
+some_told step less = omega (arith, less)
+
+-- Where a point of an arc lies, by its parameter.
+pub spot_told : (plan : Plan) (new : Lengths) (o : Option Spaced) (spaced : Spaced) → o ≡ Some spaced
+    → IsSpacing (layout_of plan) (long_at plan.arcs) new (spacing_by plan (shares_in o) new) → (arc k parameter : ℕ)
+    → arc < length plan.arcs → k < new arc
+    → parameter ≡ (spacing_by plan (shares_in o) new).parameter_of arc true k → (spot : EdgeSpot)
+    → spot ≡ record { dart = dart_at plan.arcs arc (parameter / ONE); some = parameter % ONE; parts = ONE }
+    → spot ≡ edge_spot plan (spacing_by plan (shares_in o) new) arc k
+spot_told plan new o spaced is spacing arc k parameter low less told spot spot_is =
+    spot_is
+    ∙ (λ i. record {
+      dart = dart_at plan.arcs arc ((ap (λ n. n / ONE) here ∙ edge_told step some) i);
+      some = (ap (λ n. n % ONE) here ∙ some_told step some) i;
+      parts = sym parts i;
+    })
+    ∙ ap (λ (p : Option Spaced). edge_spot plan (spacing_by plan (shares_in p) new) arc k) (sym is)
+  where
+    step : Step
+    step = shared_step (long_at plan.arcs) new (shares_along plan spaced.shares) arc k
+
+    parts : (shared_step (long_at plan.arcs) new (shares_along plan spaced.shares) arc k).parts ≡ ONE
+    parts = parts_are (long_at plan.arcs) new (shares_along plan spaced.shares) arc k
+
+    spacing_here : IsSpacing (layout_of plan) (long_at plan.arcs) new (spacing_by plan (Some spaced.shares) new)
+    spacing_here = subst (λ (p : Option Spaced). IsSpacing (layout_of plan) (long_at plan.arcs) new
+        (spacing_by plan (shares_in p) new)) is spacing
+
+    some : (shared_step (long_at plan.arcs) new (shares_along plan spaced.shares) arc k).some < ONE
+    some = omega (arith, spacing_here.parts arc k low less, parts)
+
+    here : parameter ≡ step_parameter (shared_step (long_at plan.arcs) new (shares_along plan spaced.shares) arc k)
+    here = told ∙ ap (λ (p : Option Spaced). (spacing_by plan (shares_in p) new).parameter_of arc true k) is

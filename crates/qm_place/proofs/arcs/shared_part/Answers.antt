@@ -1,0 +1,88 @@
+use Rattle.std.proofs.Common.{◌≡◌, ◌+◌, ◌-◌, ◌<◌, true, length, ◌∙◌, ap, arith}
+use Rattle.std.proofs.lemmas.List.{length-map}
+use Rattle.def_layout.specs.Arcs.{path}
+use Rattle.def_layout.specs.Plans.{plan}
+use Rattle.def_remesh.specs.NewPoints.{lengths_in}
+use Rattle.def_remesh.specs.Placings.{shares_in}
+use Rattle.def_written.specs.Numbers.{before_arc}
+use Rattle.map_laws.proofs.Spaced.{spacing_is}
+use Rattle.qm_place.proofs.ArcPoints.{inner_low, points_few, read_inner, read_short}
+use Rattle.qm_place.proofs.Entries.{start_read}
+use Rattle.qm_place.proofs.arcs.shared_part.Goals.{Else-k-places, After-index-2}
+use Rattle.qm_place.proofs.arcs.shared_part.Goals as goal
+
+-- The arc is one of the layout, and the place is inside.
+low : (c : Else-k-places) → c.args.arc < length (plan c.args.places.now.t.now).arcs
+low c = omega (arith, c.requires.arc, length-map c.args.places.now.t.now.arcs.items path)
+
+less : (c : Else-k-places) → c.args.k < lengths_in c.args.places.now.lengths.now c.args.arc
+less c = omega (arith, c.requires.place, c.if-k-places.false)
+
+some : (c : Else-k-places) → 0 < c.args.k
+some c = omega (arith, c.if-k-eq0.false)
+
+-- The place in the table.
+index : (c : After-index-2) → c.index-2.result.now + c.args.k - 1
+    ≡ before_arc (lengths_in c.args.places.now.lengths.now) c.args.arc + c.args.k - 1
+index c =
+    let low : c.args.arc < length (plan c.args.places.now.t.now).arcs =
+    omega (arith, c.requires.arc, length-map c.args.places.now.t.now.arcs.items path) in
+    let begin : c.index-2.result.now ≡ before_arc (lengths_in c.args.places.now.lengths.now) c.args.arc =
+    start_read (λ b. lengths_in c.args.places.now.lengths.now b - 1)
+    (length (plan c.args.places.now.t.now).arcs) c.args.arc c.index-2.result.now
+    c.args.places.now.along.now.begin.items c.requires.are.along low c.index-2.ensures in
+    ap (λ n. n + c.args.k - 1) begin
+
+pub overflow_mul-result : goal.overflow_mul-result
+overflow_mul-result c =
+    omega (
+      arith,
+      c.len.ensures ∙ c.index.result.now.darts.ok.0,
+      read_short c.args.places.now.t.now c.args.arc c.index.result.now c.requires.are.fine.mesh c.requires.arc
+          c.index.ensures,
+    )
+
+pub overflow_add-index : goal.overflow_add-index
+overflow_add-index c =
+    let at = (goal.at.overflow_add-index c).Else-k-places in
+    omega (
+      arith,
+      index (goal.at.overflow_add-index c).After-index-2,
+      some at,
+      points_few (plan c.args.places.now.t.now) c.args.places.now.lengths.now c.requires.are.fine c.args.arc
+          (c.args.k - 1) (low at) (omega (arith, some at, less at)),
+    )
+
+pub index-requires-3 : goal.index-requires-3
+index-requires-3 c =
+    let at = (goal.at.index-requires-3 c).Else-k-places in
+    omega (
+      arith,
+      index (goal.at.index-requires-3 c).After-index-2,
+      inner_low (plan c.args.places.now.t.now) (lengths_in c.args.places.now.lengths.now) c.args.places.now.spaced.now
+          c.requires.are.inner c.args.spaced.now c.requires.spaced c.args.arc c.args.k (low at) (some at) (less at),
+      c.args.spaced.now.parameters.ok.0,
+    )
+
+pub returns-clause-value : goal.returns-clause-value
+returns-clause-value c =
+    let at = (goal.at.returns-clause-value c).Else-k-places in
+    read_inner (plan c.args.places.now.t.now) (lengths_in c.args.places.now.lengths.now) c.args.places.now.spaced.now
+    c.requires.are.inner c.args.spaced.now c.requires.spaced c.args.arc c.args.k (low at) (some at) (less at)
+    (c.index-2.result.now + c.args.k - 1) c.index-3.result.now
+    (index (goal.at.returns-clause-value c).After-index-2) c.index-3.ensures
+
+pub returns-clause-low : goal.returns-clause-low
+returns-clause-low c =
+    let at = (goal.at.returns-clause-low c).Else-k-places in
+    let fine = c.requires.are.fine in
+    let value = read_inner (plan c.args.places.now.t.now) (lengths_in c.args.places.now.lengths.now)
+    c.args.places.now.spaced.now c.requires.are.inner c.args.spaced.now c.requires.spaced c.args.arc c.args.k (low at)
+    (some at) (less at) (c.index-2.result.now + c.args.k - 1) c.index-3.result.now
+    (index (goal.at.returns-clause-low c).After-index-2) c.index-3.ensures in
+    omega (
+      arith,
+      value,
+      (spacing_is (plan c.args.places.now.t.now) fine.mesh (lengths_in c.args.places.now.lengths.now) fine.lengths
+          fine.few (shares_in c.args.places.now.spaced.now)).below c.args.arc true c.args.k (low at) (less at),
+    )

@@ -1,0 +1,13 @@
+use Rattle.std.proofs.Common.{◌+◌, ◌-◌, false, length}
+use Rattle.def_written.specs.Spacings.{counted, inner_step, step_parameter}
+use Rattle.qm_place.specs.Paths.{share_by}
+use Rattle.qm_place.specs.Pushed.{ArePushed}
+use Rattle.qm_place.specs.Walks.{HasReached}
+use Rattle.qm_place.proofs.spacing.push_shared.Given as goal
+
+abbrev pub invariant-loop-k : goal.invariant-loop-k
+invariant-loop-k l = record {
+  pushed : ArePushed l.fn.parameters.items l.parameters.items (l.k - 1) (λ i. step_parameter (inner_step
+      (counted (share_by l.darts l.shares false) (length l.darts)) (length l.darts) l.new (i + 1)));
+  reached : HasReached l.path l.at l.k l.new;
+}

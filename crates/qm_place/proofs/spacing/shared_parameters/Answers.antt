@@ -1,0 +1,111 @@
+use Rattle.std.proofs.Common.{◌≡◌, ◌+◌, ◌-◌, ◌<◌, ◌≤◌, ℕ, suc, List, [], length, sym, ◌∙◌, ap, subst, inl, inr, arith}
+use Rattle.std.specs.Prelude.{slice_index}
+use Rattle.std.proofs.lemmas.Bool.{cases_lt}
+use Rattle.std.proofs.lemmas.List.{get_or-map, length-map}
+use Rattle.def_layout.specs.Arcs.{long_at, path, path_at, Path}
+use Rattle.def_layout.specs.Plans.{plan}
+use Rattle.def_layout.specs.declared.tmesh.TArc.{TArc}
+use Rattle.def_remesh.specs.NewPoints.{lengths_in}
+use Rattle.def_remesh.specs.Spaced.{shares_along}
+use Rattle.def_written.specs.Numbers.{before_arc}
+use Rattle.def_written.specs.Spacings.{shared_step, step_parameter}
+use Rattle.plan_laws.proofs.MeshLayouts.{lengths_of}
+use Rattle.written_laws.proofs.Runs.{place_low}
+use Rattle.qm_place.proofs.ArcPoints.{read_short}
+use Rattle.qm_place.proofs.Paths.{arc_parameter}
+use Rattle.qm_place.proofs.Rims.{old_read}
+use Rattle.qm_place.proofs.spacing.shared_parameters.Goals.{After-deref}
+use Rattle.qm_place.proofs.spacing.shared_parameters.Goals as goal
+
+-- The arc is one of the layout, and the darts are its own.
+arc_low : (c : After-deref) → c.loop-arc.arc < length c.args.t.now.arcs.items
+arc_low c = omega (arith, c.loop-arc-test.true, c.len-arc-end.ensures, c.args.t.now.arcs.ok.0)
+
+darts : (c : After-deref) → c.deref.result.now ≡ (path_at (plan c.args.t.now).arcs c.loop-arc.arc).darts
+darts c =
+    c.deref.ensures.value ∙ ap (λ (z : TArc). z.darts.items) c.index.ensures
+    ∙ sym (ap (λ (q : Path). q.darts) (get_or-map path c.args.t.now.arcs.items c.loop-arc.arc c.index.result.now
+    (record { first = 0; last = 0; darts = [] }) (arc_low c)))
+
+pub push_shared-requires-clause-some : goal.push_shared-requires-clause-some
+push_shared-requires-clause-some c =
+    let at = (goal.at.push_shared-requires-clause-some c).After-deref in
+    omega (
+      arith,
+      ap (λ (ds : List ℕ). length ds) (darts at),
+      (lengths_of (plan c.args.t.now) c.requires.fine.mesh).some c.loop-arc.arc
+          (omega (arith, arc_low at, length-map c.args.t.now.arcs.items path)),
+    )
+
+pub push_shared-requires-clause-few : goal.push_shared-requires-clause-few
+push_shared-requires-clause-few c =
+    let at = (goal.at.push_shared-requires-clause-few c).After-deref in
+    omega (
+      arith,
+      ap (λ (ds : List ℕ). length ds) c.deref.ensures.value,
+      read_short c.args.t.now c.loop-arc.arc c.index.result.now c.requires.fine.mesh (arc_low at) c.index.ensures,
+    )
+
+pub push_shared-requires-clause-new : goal.push_shared-requires-clause-new
+push_shared-requires-clause-new c =
+    let at = (goal.at.push_shared-requires-clause-new c).After-deref in
+    c.requires.fine.lengths.some c.loop-arc.arc (omega (arith, arc_low at, length-map c.args.t.now.arcs.items path))
+
+pub loop-arc-preserved : goal.loop-arc-preserved
+loop-arc-preserved c = record {
+  long = omega (
+    arith,
+    c.in_ok-push_shared.ensures.long,
+    c.loop-arc.invariant.long,
+    (let one : c.loop-arc.arc + 1 ≡ suc c.loop-arc.arc = omega arith in
+        ap (before_arc (lengths_in c.args.lengths.now)) one),
+  );
+  each = λ arc k low some less. elim (cases_lt arc c.loop-arc.arc) [
+    | inl before ↦
+        c.in_ok-push_shared.ensures.kept (before_arc (lengths_in c.args.lengths.now) arc + k - 1)
+        (omega (
+          arith,
+          c.loop-arc.invariant.long,
+          some,
+          place_low (λ b. lengths_in c.args.lengths.now b - 1) c.loop-arc.arc arc (k - 1) before
+              (omega (arith, some, less)),
+        ))
+        ∙ c.loop-arc.invariant.each arc k before some less
+    | inr more ↦
+        let same : c.loop-arc.arc ≡ arc = omega (arith, low, more) in
+        subst (λ a. slice_index c.push_shared.new.parameters.items (before_arc (lengths_in c.args.lengths.now) a
+        + k - 1)
+        ≡ step_parameter (shared_step (long_at (plan c.args.t.now).arcs) (lengths_in c.args.lengths.now)
+        (shares_along (plan c.args.t.now) c.args.shares.now) a k)) same
+        (here k some (subst (λ a. k < lengths_in c.args.lengths.now a) (sym same) less))
+  ];
+}
+  where
+    here : (k : ℕ) → 0 < k → k < lengths_in c.args.lengths.now c.loop-arc.arc
+        → slice_index c.push_shared.new.parameters.items
+        (before_arc (lengths_in c.args.lengths.now) c.loop-arc.arc + k - 1)
+        ≡ step_parameter (shared_step (long_at (plan c.args.t.now).arcs) (lengths_in c.args.lengths.now)
+        (shares_along (plan c.args.t.now) c.args.shares.now) c.loop-arc.arc k)
+    here k some less =
+        let place : before_arc (lengths_in c.args.lengths.now) c.loop-arc.arc + k - 1
+        ≡ length c.loop-arc.parameters.items + (k - 1) = omega (arith, c.loop-arc.invariant.long, some) in
+        ap (slice_index c.push_shared.new.parameters.items) place
+        ∙ c.in_ok-push_shared.ensures.each (k - 1) (omega (arith, some, less))
+        ∙ arc_parameter (plan c.args.t.now) (lengths_in c.args.lengths.now) c.args.shares.now c.loop-arc.arc k
+        c.deref.result.now (darts (goal.at.loop-arc-preserved c).After-deref) some less
+
+pub returns : goal.returns
+returns c = record {
+  long = c.loop-arc.invariant.long ∙ ap (before_arc (lengths_in c.args.lengths.now)) all;
+  each = λ arc k low some less. c.loop-arc.invariant.each arc k (omega (arith, low, all)) some less;
+}
+  where
+    all : c.loop-arc.arc ≡ length (plan c.args.t.now).arcs
+    all = omega (
+      arith,
+      c.loop-arc-test.false,
+      c.loop-arc.auto.arc-end,
+      c.len-arc-end.ensures,
+      c.args.t.now.arcs.ok.0,
+      length-map c.args.t.now.arcs.items path,
+    )

@@ -1,0 +1,70 @@
+use Rattle.std.proofs.Common.{◌≡◌, ◌-◌, ◌*◌, ◌/◌, ◌^◌, ◌<◌, ◌≤◌, length, ◌∙◌, arith}
+use Rattle.std.proofs.lemmas.Nat.{mul-le}
+use Rattle.def_written.specs.Places.{ONE}
+use Rattle.qm_place.specs.Walks.{share_in}
+use Rattle.qm_place.proofs.Paths.{part_low, rest_low}
+use Rattle.qm_place.proofs.walk.parameter_at.Goals.{After-from-5}
+use Rattle.qm_place.proofs.walk.parameter_at.Goals as goal
+
+-- The rest of the place, and the share of the edge, as they are computed.
+rest : (c : After-from-5) → c.from.result * c.args.path.now.all - c.from-2.result * c.args.at.before
+    ≡ c.args.k * c.args.path.now.all - c.args.new * c.args.at.before
+rest c = λ i. c.from.ensures i * c.args.path.now.all - c.from-2.ensures i * c.args.at.before
+
+share : (c : After-from-5) → c.from-3.result * c.from-4.result ≡ c.args.new * share_in c.args.path.now
+    c.args.at.edge
+share c = λ i. c.from-3.ensures i * (c.from-4.ensures ∙ c.share_at.ensures.value) i
+
+less : (c : After-from-5) → c.args.k * c.args.path.now.all - c.args.new * c.args.at.before
+    < c.args.new * share_in c.args.path.now c.args.at.edge
+less c =
+    let path = c.args.path.now in
+    rest_low (share_in path) (length path.darts.now) c.args.new c.args.k path.all path.whole path.some c.requires.place
+    c.args.at.edge c.args.at.before c.requires.reached.edge c.requires.reached.before c.requires.reached.upto
+    c.requires.edge
+
+few : (c : After-from-5) → c.args.new * share_in c.args.path.now c.args.at.edge ≤ 2 ^ 32 * 2 ^ 62
+few c =
+    mul-le c.args.new (share_in c.args.path.now c.args.at.edge) (2 ^ 32) (2 ^ 62) (omega (arith, c.ranges.new.fits))
+    (omega (arith, c.share_at.ensures.small, c.share_at.ensures.value))
+
+part : (c : After-from-5)
+    → c.from-5.result * (c.from.result * c.args.path.now.all - c.from-2.result * c.args.at.before)
+    / (c.from-3.result * c.from-4.result) < ONE
+part c =
+    let path = c.args.path.now in
+    let same : c.from-5.result * (c.from.result * path.all - c.from-2.result * c.args.at.before)
+    / (c.from-3.result * c.from-4.result)
+    ≡ ONE * (c.args.k * path.all - c.args.new * c.args.at.before) / (c.args.new * share_in path c.args.at.edge) =
+    λ i. c.from-5.ensures i * rest c i / share c i in
+    omega (
+      arith,
+      same,
+      part_low (share_in path) (length path.darts.now) c.args.new c.args.k path.all path.whole path.some
+          c.requires.place c.args.at.edge c.args.at.before c.requires.reached.edge c.requires.reached.before
+          c.requires.reached.upto c.requires.edge,
+    )
+
+pub overflow_mul-result-2 : goal.overflow_mul-result-2
+overflow_mul-result-2 c =
+    let at = (goal.at.overflow_mul-result-2 c).After-from-5 in
+    let same : c.from-5.result * (c.from.result * c.args.path.now.all - c.from-2.result * c.args.at.before)
+    ≡ ONE * (c.args.k * c.args.path.now.all - c.args.new * c.args.at.before) =
+    λ i. c.from-5.ensures i * rest at i in
+    omega (arith, same, less at, few at)
+
+pub nonzero_div-result : goal.nonzero_div-result
+nonzero_div-result c =
+    let at = (goal.at.nonzero_div-result c).After-from-5 in omega (arith, share at, less at)
+
+pub overflow_cast-result : goal.overflow_cast-result
+overflow_cast-result c = omega (arith, part (goal.at.overflow_cast-result c).After-from-5)
+
+pub overflow_add-result : goal.overflow_add-result
+overflow_add-result c =
+    omega (
+      arith,
+      part (goal.at.overflow_add-result c).After-from-5,
+      c.requires.reached.edge,
+      c.args.path.now.long,
+    )
