@@ -3,14 +3,13 @@ use Rattle.std.specs.Prelude.{◌≡◌, ◌≤◌, [], length, Some, ⊤}
 use Rattle.def_io.specs.Bytes.{Bytes, Told}
 use Rattle.def_io.specs.Faults.{Rose}
 use Rattle.def_io.specs.Moves.{Change, took, GaveMore, TookPrefix}
-use Rattle.def_remesh.specs.Checked.{IsCheckedPair}
 use Rattle.def_text.specs.Input.{ReadWhole}
 use Rattle.def_text.specs.Types.{Words}
 use Rattle.def_text.specs.declared.limits.TheConstants.{MAX_BYTES}
 use Rattle.def_text.specs.declared.refusal.Which.TheVariants.{Bytes as AllBytes}
 use Rattle.def_run.specs.Bench.{HasBench, RefusesToBench, WritesBench}
 use Rattle.def_run.specs.Blocks.{WritesBlocks}
-use Rattle.def_run.specs.Check.{RefusesToCheck, WritesAccepted}
+use Rattle.def_run.specs.Checking.{IsAcceptedText, RefusesToCheck, WritesAccepted}
 use Rattle.def_run.specs.Coarse.{AsksToMerge}
 use Rattle.def_run.specs.CommandLines.{IsCommand}
 use Rattle.def_run.specs.Crease.{AsksToCrease, HasCreased, RefusesToCrease}
@@ -27,7 +26,8 @@ use Rattle.def_run.specs.Tidy.{RefusesToTidy, WritesTidied}
 use Rattle.def_run.specs.declared.answer.Answer.{Answer}
 use Rattle.def_run.specs.declared.answer.Answer.TheVariants.{Done, Usage, Limit, ReadFault, WriteFault, Memory}
 use Rattle.def_run.specs.declared.command.Command.{Command}
-use Rattle.def_run.specs.declared.command.Command.TheVariants.{Tidy, Graph, Refine, Remesh, Check, Bench, Crease, Size, Coarse}
+use Rattle.def_run.specs.declared.command.Command.TheVariants.{Tidy, Graph, Refine, Remesh, Check, Bench, Crease, Size}
+use Rattle.def_run.specs.declared.command.Command.TheVariants.{Coarse}
 use Rattle.def_run.specs.declared.command.Command.TheVariants.{Blocks, Map, Fit, LayOut, Grids}
 
 -- The text that a command writes for the bytes that it read.
@@ -70,7 +70,7 @@ Takes Tidy bytes = HasMesh bytes
 Takes Graph bytes = HasMesh bytes
 Takes (Refine by) bytes = HasRefined by bytes
 Takes (Remesh settings auto) bytes = HasFinished (AsksToRemesh settings auto) bytes
-Takes Check bytes = IsCheckedPair bytes
+Takes Check bytes = IsAcceptedText bytes
 Takes (Bench size) bytes = HasBench size
 Takes (Crease settings) bytes = HasCreased settings bytes
 Takes (Size edge floor) bytes = HasSize edge floor bytes

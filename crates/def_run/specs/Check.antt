@@ -1,4 +1,4 @@
--- What `check` means: it checks an input whose last head line divides it into an old text and the text of a remesh.
+-- What `check` means for a remesh: the last head line divides its input into an old text and the text of a remesh.
 use Rattle.std.specs.Prelude.{◌≡◌, ℕ, Bool, Ok, Err, [], length, take, slice_index_or}
 use Rattle.def_certtext.specs.CertLines.{used}
 use Rattle.def_certtext.specs.HeadLine.{HasNoHead, IsLastHead}
@@ -13,7 +13,7 @@ use Rattle.def_layoutnet.specs.LayoutNet.{IsNetOf}
 use Rattle.def_mesh.specs.Faults.{IsFirstFault}
 use Rattle.def_mesh.specs.Manifold.{IsManifold}
 use Rattle.def_mesh.specs.declared.Place.{Place}
-use Rattle.def_remesh.specs.Checked.{accepted_line, IsCheckedPair}
+use Rattle.def_remesh.specs.Checked.{IsCheckedPair}
 use Rattle.def_remesh.specs.NewPoints.{lengths_in}
 use Rattle.def_remesh.specs.Refusals.{IsTangledAt}
 use Rattle.def_remesh.specs.Tasks.{old_lengths, remesh_task}
@@ -39,15 +39,6 @@ pub record IsCountedPair (bytes : Bytes) (arcs faces deviates : ℕ) : Type 0 wh
   pub of_layout : IsNetOf (layout_of pair.remeshed.plan) (old_lengths pair.remeshed.plan)
       (old_lengths pair.remeshed.plan) pair.settings net
   pub deviation_told : deviates ≡ deviation net (entries (used pair.remeshed.certificates).x)
-
--- For these bytes it writes this text: the line that accepts them, with the numbers of arcs and of new faces and the
--- deviation of the used lengths.
-pub record WritesAccepted (bytes text : Bytes) : Type 0 where
-  pub arcs : ℕ
-  pub faces : ℕ
-  pub deviates : ℕ
-  pub counted : IsCountedPair bytes arcs faces deviates
-  pub said : text ≡ accepted_line arcs faces deviates
 
 -- The last line that begins as a head line does.
 abbrev pub head_of : (bytes : Bytes) (line : ℕ) → Bytes
@@ -123,12 +114,12 @@ pub record IsTangledOld (bytes : Bytes) (count : ℕ) : Type 0 where
   pub refuted : ¬ IsCheckedPair bytes
 
 -- It refuses these bytes with this answer.
-abbrev pub RefusesToCheck : (bytes : Bytes) (answer : Answer) → Type 0
-RefusesToCheck bytes (NotAccepted why) = IsNotAccepted bytes why
-RefusesToCheck bytes (Syntax line) = RefusesOldText bytes (obj_fail.Syntax line)
-RefusesToCheck bytes (NotQuad line corners) = RefusesOldText bytes (obj_fail.NotQuad line corners)
-RefusesToCheck bytes (Range line) = RefusesOldText bytes (obj_fail.Range line)
-RefusesToCheck bytes (Limit which line) = RefusesOldText bytes (obj_fail.Limit which line)
-RefusesToCheck bytes (NotManifold place) = IsNoOldManifold bytes place
-RefusesToCheck bytes (Tangled count) = IsTangledOld bytes count
-RefusesToCheck bytes _ = ⊥
+abbrev pub RefusesPair : (bytes : Bytes) (answer : Answer) → Type 0
+RefusesPair bytes (NotAccepted why) = IsNotAccepted bytes why
+RefusesPair bytes (Syntax line) = RefusesOldText bytes (obj_fail.Syntax line)
+RefusesPair bytes (NotQuad line corners) = RefusesOldText bytes (obj_fail.NotQuad line corners)
+RefusesPair bytes (Range line) = RefusesOldText bytes (obj_fail.Range line)
+RefusesPair bytes (Limit which line) = RefusesOldText bytes (obj_fail.Limit which line)
+RefusesPair bytes (NotManifold place) = IsNoOldManifold bytes place
+RefusesPair bytes (Tangled count) = IsTangledOld bytes count
+RefusesPair bytes _ = ⊥

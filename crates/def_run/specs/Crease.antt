@@ -1,5 +1,5 @@
 -- What `crease` means: a remesh that keeps the edges which the `l` lines of a text mark.
-use Rattle.std.specs.Prelude.{◌≡◌, ◌⊎◌, false, List, Bool, Ok, Err, codes}
+use Rattle.std.specs.Prelude.{◌≡◌, ◌⊎◌, false, List, Bool, None, Ok, Err, codes}
 use Rattle.def_marks.specs.MarkedText.{marked_text}
 use Rattle.def_marks.specs.Lines.{marks_in}
 use Rattle.def_feature.specs.Marked.{marked_cut}
@@ -25,6 +25,7 @@ creased_task settings faces marks = record {
   auto = false;
   head = named_head (codes "crease") settings;
   between = marked_text marks;
+  shares = None;
 }
 
 -- `crease` asks for the edges that the text marks.

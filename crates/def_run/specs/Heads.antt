@@ -1,5 +1,5 @@
 -- The head lines of commands that remesh over another cut than `remesh` does.
-use Rattle.std.specs.Prelude.{false, List, Bool, [], ◌++◌, codes}
+use Rattle.std.specs.Prelude.{false, List, Bool, None, [], ◌++◌, codes}
 use Rattle.def_certtext.specs.Settings.{floor_text, scale_text, weight_text}
 use Rattle.def_flow.specs.declared.net.Settings.{Settings}
 use Rattle.def_io.specs.Bytes.{Bytes}
@@ -22,4 +22,5 @@ named_task name settings marks = record {
   auto = false;
   head = named_head name settings;
   between = λ plan new. [];
+  shares = None;
 }

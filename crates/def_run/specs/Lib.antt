@@ -3,6 +3,7 @@ pub mod Blocks
 pub mod Causes
 pub mod Check
 pub mod CheckFails
+pub mod Checking
 pub mod Coarse
 pub mod CommandLines
 pub mod Crease

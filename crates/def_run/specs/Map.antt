@@ -1,5 +1,5 @@
 -- What `map` means: it says where each vertex and face of a new mesh lies in the mesh in front of it.
-use Rattle.std.specs.Prelude.{◌≡◌, ◌⊎◌, ◌≤◌, ◌<◌, ℕ}
+use Rattle.std.specs.Prelude.{◌≡◌, ◌⊎◌, ◌≤◌, ◌<◌, ℕ, None}
 use Rattle.def_certtext.specs.CertLines.{used}
 use Rattle.def_io.specs.Bytes.{Bytes}
 use Rattle.def_io.specs.Lines.{lines_of, tail_of}
@@ -46,14 +46,14 @@ WritesNew command front text = WritesFinished (asks_of command) front text
 -- The map of a text that `refine` wrote.
 abbrev pub refined_map : (by : ℕ) (front text : Bytes) (said : WritesRefined by front text) → Bytes
 refined_map by front text said =
-    map_text said.soup said.refined.plan (multiple_of by (long_at said.refined.plan.arcs))
+    map_text said.soup said.refined.plan None (multiple_of by (long_at said.refined.plan.arcs))
 
 -- The map of the text of a finished task.
 abbrev pub finished_map : (asks : Asks) (front text : Bytes) (said : WritesFinished asks front text) → Bytes
 finished_map asks front text said =
-    map_text said.soup said.shown.finished.plan (lengths_in (used said.shown.finished.certificates).x)
+    map_text said.soup said.shown.finished.plan said.task.shares (lengths_in (used said.shown.finished.certificates).x)
 
--- A command wrote the text of a new mesh, and this is its map: of the same layout with the same lengths.
+-- A command wrote the text of a new mesh, and this is its map: of the same layout with the same lengths and spacing.
 abbrev pub IsMapOf : (command : Command) (front text : Bytes) (said : WritesNew command front text) (map : Bytes)
     → Type 0
 IsMapOf (Refine by) front text said map = map ≡ refined_map by front text said
@@ -64,8 +64,8 @@ IsMapOf (Coarse settings) front text said map = map ≡ finished_map (AsksToMerg
 IsMapOf (Fit fit) front text said map = map ≡ finished_map (AsksForNearFit fit) front text said
 IsMapOf _ front text said map = ⊥
 
--- For these bytes it writes this text. The last line that begins as a head line does is that of a command; from it on the
--- bytes are a text which this command writes for the bytes before it; and the text is the map of that new mesh.
+-- For these bytes it writes this text. The last line that begins as a head line does is that of a command; from it on
+-- the bytes are a text which this command writes for the bytes before it; and the text is the map of that new mesh.
 pub record WritesMap (bytes text : Bytes) : Type 0 where
   pub line : ℕ
   pub divided : IsLastMark (lines_of bytes) line
@@ -156,7 +156,8 @@ IsNoNewText bytes why.NoHead = HasNoMark (lines_of bytes)
 IsNoNewText bytes why.Head = HasNoMarkLine bytes
 IsNoNewText bytes why = HasOtherText bytes why
 
--- What the answer says of the bytes. Lengths are judged and not found, so what they show is told as what is not accepted.
+-- What the answer says of the bytes. Lengths are judged and not found, so what they show is told as what is not
+-- accepted.
 abbrev pub IsNoMap : (bytes : Bytes) (answer : Answer) → Type 0
 IsNoMap bytes (NotAccepted why) = IsNoNewText bytes why
 IsNoMap bytes (TooFine faces kept) = ⊥

@@ -11,6 +11,7 @@ use Rattle.def_text.specs.Text.{soup_in}
 use Rattle.def_text.specs.Types.{Words}
 use Rattle.def_run.specs.Causes.{Reads}
 use Rattle.def_run.specs.Check.{HasOldSoup}
+use Rattle.def_run.specs.Checking.{ByText}
 use Rattle.def_run.specs.CommandLines.{IsCommand}
 use Rattle.def_run.specs.ErrorLines.{error_line}
 use Rattle.def_run.specs.MarkLines.{front_of, IsLastMark}
@@ -24,11 +25,15 @@ abbrev pub Said : (line : Bytes) (err : Change) → Type 0
 Said line err = (err.told_now ≡ took err.told line)
     ⊎ (Rose err.faults err.faults_now × TookPrefix err.told err.told_now line)
 
+-- The soup of the text in front of the last line that begins as a head line does.
+abbrev pub HasFrontSoup : (bytes : Bytes) (soup : FaceSet) → Type 0
+HasFrontSoup bytes soup = (line : ℕ) × IsLastMark (lines_of bytes) line × (soup_in (front_of line bytes) ≡ Ok soup)
+
 -- The soup whose mesh a command looks at: that of the bytes, of the old text in front of a head line, or the made one.
 abbrev pub LooksAt : (command : Command) (bytes : Bytes) (soup : FaceSet) → Type 0
-LooksAt Check bytes soup = (line : ℕ) × HasOldSoup bytes line soup
+LooksAt Check bytes soup = ByText bytes (HasFrontSoup bytes soup) ((line : ℕ) × HasOldSoup bytes line soup)
 LooksAt (Bench size) bytes soup = soup ≡ steps_soup size
-LooksAt Map bytes soup = (line : ℕ) × IsLastMark (lines_of bytes) line × (soup_in (front_of line bytes) ≡ Ok soup)
+LooksAt Map bytes soup = HasFrontSoup bytes soup
 LooksAt command bytes soup = soup_in bytes ≡ Ok soup
 
 -- A command read these numbers of vertices with its soup.

@@ -1,5 +1,5 @@
 -- What `size` means: a remesh whose edges are to have a given length.
-use Rattle.std.specs.Prelude.{◌≡◌, ℕ, ◌++◌, [], codes, decimal, false, ℤ, unsigned_abs}
+use Rattle.std.specs.Prelude.{◌≡◌, ℕ, ◌++◌, [], codes, decimal, false, None, ℤ, unsigned_abs}
 use Rattle.def_cut.specs.Traced.{traced_marks}
 use Rattle.def_io.specs.Bytes.{Bytes, Told}
 use Rattle.def_layout.specs.Plans.{Plan}
@@ -30,6 +30,7 @@ size_task edge floor soup = record {
   auto = false;
   head = size_head edge floor;
   between = λ plan new. [];
+  shares = None;
 }
 
 abbrev pub AsksForSize : (edge : ℤ) (floor : ℕ) → Asks

@@ -6,10 +6,12 @@ use Rattle.std.specs.Prelude.{decimal, unsigned_abs}
 use Rattle.std.proofs.lemmas.List.{append-nil}
 use Rattle.def_certtext.specs.Settings.{weight_text, AreInRange, IsFloor}
 use Rattle.def_fit.specs.Aims.{fit_settings, IsAim, IsFit}
-use Rattle.def_fit.specs.FitWords.{aim_text, fit_head, keep_word, patches_word}
+use Rattle.def_fit.specs.FitWords.{aim_text, fit_head, keep_word, patches_word, spacing_word}
 use Rattle.def_fit.specs.declared.fit.Aim.{Aim}
 use Rattle.def_fit.specs.declared.fit.Aim.TheVariants.{Scale, Edge, Wishes}
 use Rattle.def_fit.specs.declared.fit.Fit.{Fit}
+use Rattle.def_fit.specs.declared.fit.Spacing.{Spacing}
+use Rattle.def_fit.specs.declared.fit.Spacing.TheVariants.{Even, Wished}
 use Rattle.def_flow.specs.declared.net.Settings.{Settings}
 use Rattle.def_flow.specs.declared.net.Weight.{Weight}
 use Rattle.def_flow.specs.declared.net.Weight.TheVariants as weights
@@ -74,6 +76,10 @@ aim_inside (Scale p q) is =
 aim_inside (Edge edge) is = both_inside (codes "edge:") (micro_text edge) refl (micro_inside edge is.1)
 aim_inside Wishes is = refl
 
+spacing_inside : (spacing : Spacing) → list_all is_inside (spacing_word spacing) ≡ true
+spacing_inside Even = refl
+spacing_inside Wished = refl
+
 -- A word and a mark behind a text.
 two_inside : (front word mark : Word) → list_all is_inside front ≡ true → list_all is_inside word ≡ true
     → list_all is_inside mark ≡ true
@@ -86,30 +92,41 @@ fit_inside fit is =
     let patches = keep ++ patches_word fit.patches ++ codes " aim " in
     let aim = patches ++ aim_text fit.aim ++ codes " floor " in
     let floor = aim ++ decimal fit.floor ++ codes " weight " in
-    two_inside floor (weight_text fit.weight) (codes " spacing even")
+    let weight = floor ++ weight_text fit.weight ++ codes " spacing " in
+    both_inside weight (spacing_word fit.spacing)
+    (two_inside floor (weight_text fit.weight) (codes " spacing ")
     (two_inside aim (decimal fit.floor) (codes " weight ")
     (two_inside patches (aim_text fit.aim) (codes " floor ")
     (two_inside keep (patches_word fit.patches) (codes " aim ")
     (two_inside (codes "#quadq 1 fit keep ") (keep_word fit.keep) (codes " patches ") refl (keep_inside fit.keep) refl)
     (patches_inside fit.patches) refl) (aim_inside fit.aim is.aim) refl)
     (number_inside fit.floor (omega (arith, is.high))) refl)
-    (weight_inside fit.weight) refl
+    (weight_inside fit.weight) refl)
+    (spacing_inside fit.spacing)
 
 -- ---- Settings that may be asked for.
 
-range_of : (keep : Keep) (patches : Patches) (aim : Aim) (floor : ℕ) (weight : Weight) → IsAim aim → IsFloor floor false
-    → AreInRange (fit_settings (record { keep = keep; patches = patches; aim = aim; floor = floor; weight = weight }))
+range_of : (keep : Keep) (patches : Patches) (aim : Aim) (floor : ℕ) (weight : Weight) (spacing : Spacing)
+    → IsAim aim → IsFloor floor false
+    → AreInRange (fit_settings (record {
+      keep = keep;
+      patches = patches;
+      aim = aim;
+      floor = floor;
+      weight = weight;
+      spacing = spacing;
+    }))
     false
-range_of keep patches (Scale p q) floor weight is at =
+range_of keep patches (Scale p q) floor weight spacing is at =
     record { p_low = is.0; p_high = is.1; q_low = is.2; q_high = is.3; floor = at }
-range_of keep patches (Edge edge) floor weight is at =
+range_of keep patches (Edge edge) floor weight spacing is at =
     record { p_low = omega arith; p_high = omega arith; q_low = omega arith; q_high = omega arith; floor = at }
-range_of keep patches Wishes floor weight is at =
+range_of keep patches Wishes floor weight spacing is at =
     record { p_low = omega arith; p_high = omega arith; q_low = omega arith; q_high = omega arith; floor = at }
 
 pub fit_range : (fit : Fit) → IsFit fit → AreInRange (fit_settings fit) false
 fit_range fit is =
-    range_of fit.keep fit.patches fit.aim fit.floor fit.weight is.aim
+    range_of fit.keep fit.patches fit.aim fit.floor fit.weight fit.spacing is.aim
     (record { low = is.low; high = is.high; at_first = λ e. cc })
 
 -- A fit near the old lengths.

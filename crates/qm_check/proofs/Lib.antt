@@ -1,6 +1,7 @@
 mod Aligned
 mod Differences
 mod Fronts
+mod Fits
 pub mod Heads
 mod Kept
 mod Maps

@@ -12,35 +12,38 @@ use Rattle.def_map.specs.MapText.{map_text}
 use Rattle.def_mesh.specs.Manifold.{IsManifold}
 use Rattle.def_remesh.specs.Certified.{IsShown}
 use Rattle.def_remesh.specs.CutSoups.{CutSoup, Regrid}
+use Rattle.def_remesh.specs.Keeping.{IsNetFor}
 use Rattle.def_remesh.specs.NewPoints.{lengths_in, multiple_of}
 use Rattle.def_remesh.specs.Refined.{refined_faces, refined_text}
 use Rattle.def_remesh.specs.Tasks.{Task}
 use Rattle.def_remesh.specs.declared.limits.TheConstants.{MAX_NEW_FACES}
 use Rattle.def_run.specs.Check.{head_of}
 use Rattle.def_run.specs.Judging.{IsReason}
-use Rattle.def_run.specs.Map.{asks_of, HasMap, HasOtherText, IsHeadedBy, IsMapOf, IsNotRefined, IsUnfinished, IsUnlike, WritesMap, WritesNew}
+use Rattle.def_run.specs.Map.{asks_of, HasMap, HasOtherText, IsHeadedBy, IsMapOf, IsNotRefined, IsUnfinished, IsUnlike}
+use Rattle.def_run.specs.Map.{WritesMap, WritesNew}
 use Rattle.def_run.specs.MapFails.{IsMapFail}
 use Rattle.def_run.specs.MarkLines.{begins_mark, front_of, HasNoMark, IsMarkLine}
 use Rattle.def_run.specs.Mesh.{IsMeshText}
 use Rattle.def_run.specs.Refine.{WritesRefined}
-use Rattle.def_run.specs.Remesh.{IsTracedLayout}
+use Rattle.def_run.specs.Remesh.{IsTracedLayout, WritesFinished}
 use Rattle.def_run.specs.declared.answer.Why.{Why}
 use Rattle.def_run.specs.declared.answer.Why.TheVariants as why
 use Rattle.def_run.specs.declared.check_fail.CheckFail.{CheckFail}
-use Rattle.def_run.specs.declared.check_fail.CheckFail.TheVariants.{NotAccepted, Old, NotManifold, Marks, Tangled, Far, Memory}
+use Rattle.def_run.specs.declared.check_fail.CheckFail.TheVariants.{NotAccepted, Old, NotManifold, Marks, Tangled, Far}
+use Rattle.def_run.specs.declared.check_fail.CheckFail.TheVariants.{Memory}
 use Rattle.def_run.specs.declared.command.Command.{Command}
 use Rattle.def_run.specs.declared.command.Command.TheVariants.{Refine, Remesh, Crease, Size, Coarse, Fit}
 use Rattle.def_text.specs.FaceSet.{FaceSet}
 use Rattle.plan_laws.proofs.OnePlan.{one_layout_law}
 use Rattle.site_laws.proofs.Laws.{graph_law}
 use Rattle.qm_certtext.specs.declared.last.HeadAt.{HeadAt}
-use Rattle.qm_check.proofs.Pairs.{one_last}
+use Rattle.remesh_laws.proofs.LastLines.{one_last}
 use Rattle.qm_check.proofs.Results.{ok_or_err, one_ok}
 use Rattle.qm_check.proofs.Tasks.{shown_by}
 use Rattle.qm_check.proofs.Verdicts.{shape_of, untangled}
 use Rattle.qm_check.specs.Checked.{IsDifference}
 use Rattle.qm_check.specs.Judged.{judged_by, Finishes, IsTextFail}
-use Rattle.qm_check.specs.Making.{HasMapOf, IsGivenTo, IsMarkedAt, IsReadyFor, IsUnmade}
+use Rattle.qm_check.specs.Making.{HasMapOf, IsFound, IsGivenTo, IsMarkedAt, IsReadyFor, IsUnmade}
 use Rattle.qm_check.specs.Multiples.{HasNoPoints, IsRefinedBy}
 use Rattle.qm_check.specs.Ready.{IsNoOld, IsOld}
 use Rattle.qm_check.specs.declared.judging.Finished.{Finished}
@@ -48,10 +51,12 @@ use Rattle.qm_check.specs.declared.ready.Ready.{Ready}
 
 -- Without such a line there is no map.
 pub unmarked_bytes : (bytes : Bytes) → HasNoMark (lines_of bytes) → IsMapFail bytes (NotAccepted why.NoHead)
-unmarked_bytes bytes none = (none, λ (has : HasMap bytes). false≢true (sym (none has.1.line has.1.divided.there) ∙ has.1.divided.begins))
+unmarked_bytes bytes none =
+    (none, λ (has : HasMap bytes). false≢true (sym (none has.1.line has.1.divided.there) ∙ has.1.divided.begins))
 
 -- Where a new mesh is written there is an old one.
-new_mesh : (command : Command) (front text : Bytes) → WritesNew command front text → (soup : FaceSet) × IsMeshText front soup
+new_mesh : (command : Command) (front text : Bytes) → WritesNew command front text → (soup : FaceSet)
+    × IsMeshText front soup
 new_mesh (Refine by) front text wrote = (wrote.soup, wrote.mesh)
 new_mesh _ front text wrote = (wrote.soup, wrote.mesh)
 
@@ -82,34 +87,41 @@ module _ (bytes : Bytes) (mark : HeadAt) (marked : IsMarkedAt bytes mark) where
   no_front _ none = absurd none
 
   -- The line is that of no command.
-  pub no_command : (old : FaceSet) → IsOld (front_of mark.line bytes) old → ((command : Command) → ¬ IsMarkLine (head_of bytes mark.line) command)
+  pub no_command : (old : FaceSet) → IsOld (front_of mark.line bytes) old
+      → ((command : Command) → ¬ IsMarkLine (head_of bytes mark.line) command)
       → IsMapFail bytes (NotAccepted why.Head)
   no_command old is none = (
     record { line = mark.line; soup = old; front = record { divided = marked.last; mesh = is.mesh }; none = none },
     λ (has : HasMap bytes).
-        none has.1.command (subst (λ (n : ℕ). IsMarkLine (head_of bytes n) has.1.command) (line_is has.0 has.1) has.1.mark),
+        none has.1.command (subst (λ (n : ℕ). IsMarkLine (head_of bytes n) has.1.command) (line_is has.0 has.1)
+        has.1.mark),
   )
 
-unlike_of : (command : Command) (bytes : Bytes) (line : ℕ) (why : Why) → IsUnfinished (asks_of command) bytes line why → IsUnlike command bytes line why
+unlike_of : (command : Command) (bytes : Bytes) (line : ℕ) (why : Why) → IsUnfinished (asks_of command) bytes line why
+    → IsUnlike command bytes line why
 unlike_of (Refine by) bytes line why none = absurd none.mesh.asked
 unlike_of _ bytes line why none = none
 
--- A text that is shown to finish the task of its command has its map.
-module _ (front text : Bytes) (soup : FaceSet) (mesh : IsMeshText front soup) (task : Task) (shown : IsShown task soup text) where
-  abbrev written_by : (command : Command) → asks_of command front soup task → WritesNew command front text
-  written_by (Refine by) asked = absurd asked
-  written_by _ asked = record { soup = soup; mesh = mesh; task = task; asked = asked; shown = shown }
+-- The text of a finished task is that of its command, and has its map.
+written_by : (command : Command) (front text : Bytes) → WritesFinished (asks_of command) front text
+    → WritesNew command front text
+written_by (Refine by) front text wrote = absurd wrote.asked
+written_by _ front text wrote = wrote
 
-  map_is : (command : Command) (asked : asks_of command front soup task)
-      → IsMapOf command front text (written_by command asked) (map_text soup shown.finished.plan (lengths_in (used shown.finished.certificates).x))
-  map_is (Remesh settings auto) asked = refl
-  map_is (Crease settings) asked = refl
-  map_is (Size edge floor) asked = refl
-  map_is (Coarse settings) asked = refl
-  map_is (Fit fit) asked = refl
-  map_is _ asked = absurd asked
+map_is : (command : Command) (front text : Bytes) (wrote : WritesFinished (asks_of command) front text)
+    → IsMapOf command front text (written_by command front text wrote) (map_text wrote.soup wrote.shown.finished.plan
+    wrote.task.shares (lengths_in (used wrote.shown.finished.certificates).x))
+unfolding written_by
+map_is (Refine by) front text wrote = absurd wrote.asked
+map_is (Remesh settings auto) front text wrote = refl
+map_is (Crease settings) front text wrote = refl
+map_is (Size edge floor) front text wrote = refl
+map_is (Coarse settings) front text wrote = refl
+map_is (Fit fit) front text wrote = refl
+map_is _ front text wrote = absurd wrote.asked
 
-module _ (bytes : Bytes) (mark : HeadAt) (old : FaceSet) (command : Command) (given : IsGivenTo bytes mark old command) where
+module _ (bytes : Bytes) (mark : HeadAt) (old : FaceSet) (command : Command)
+    (given : IsGivenTo bytes mark old command) where
   abbrev front : Bytes
   front = front_of mark.line bytes
 
@@ -117,7 +129,12 @@ module _ (bytes : Bytes) (mark : HeadAt) (old : FaceSet) (command : Command) (gi
   text = tail_of mark.line bytes
 
   headed : IsHeadedBy bytes mark.line command
-  headed = record { soup = old; front = record { divided = given.marked.last; mesh = given.read.mesh }; mark = given.is }
+  headed = record {
+    soup = old;
+    front = record { divided = given.marked.last; mesh = given.read.mesh };
+    mark =
+        given.is;
+  }
 
   -- Bytes that have a map are written by this command.
   given_writes : HasMap bytes → WritesNew command front text
@@ -131,10 +148,14 @@ module _ (bytes : Bytes) (mark : HeadAt) (old : FaceSet) (command : Command) (gi
 
   -- Nothing is made ready for the command.
   pub unmade_fails : (fail : CheckFail) → IsUnmade command front fail → IsMapFail bytes fail
-  unmade_fails (Tangled count) (why, never) =
-      (inr (record { line = mark.line; command = command; headed = headed; said = why }), λ (has : HasMap bytes). never text (given_writes has))
-  unmade_fails (Far sum) (why, never) =
-      (inr (record { line = mark.line; command = command; headed = headed; said = why }), λ (has : HasMap bytes). never text (given_writes has))
+  unmade_fails (Tangled count) (why, never) = (
+    inr (record { line = mark.line; command = command; headed = headed; said = why }),
+    λ (has : HasMap bytes). never text (given_writes has),
+  )
+  unmade_fails (Far sum) (why, never) = (
+    inr (record { line = mark.line; command = command; headed = headed; said = why }),
+    λ (has : HasMap bytes). never text (given_writes has),
+  )
   unmade_fails (Marks fail) (said, other, never) = (
     record { line = mark.line; command = command; headed = headed; said = said },
     other,
@@ -148,7 +169,8 @@ module _ (bytes : Bytes) (mark : HeadAt) (old : FaceSet) (command : Command) (gi
     ready_mesh = subst (IsMeshText front) (sym same) given.read.mesh
 
     -- The text is not that of the task.
-    other : (why : Why) → IsReason (judged_by bytes mark.line ready.cut for.task) why × (¬ IsShown for.task ready.cut.soup text)
+    other : (why : Why) → IsReason (judged_by bytes mark.line ready.cut for.task) why
+        × (¬ IsShown for.task ready.cut.soup text)
         → HasOtherText bytes why × (¬ HasMap bytes)
     other why (reason, none) = (
       record {
@@ -158,15 +180,23 @@ module _ (bytes : Bytes) (mark : HeadAt) (old : FaceSet) (command : Command) (gi
         unlike = unlike_of command bytes mark.line why (record {
           task = for.task;
           plan = ready.cut.plan;
-          mesh = record { soup = ready.cut.soup; mesh = ready_mesh; asked = for.only.asked; cut = for.holds.laid_out.laid };
+          mesh = record {
+            soup = ready.cut.soup;
+            mesh = ready_mesh;
+            asked = for.only.asked;
+            cut =
+                for.holds.laid_out.laid;
+          };
           untangled = untangled for.task.wish ready.cut.plan for.task.settings (network ready.net) for.holds.net;
           reason = reason;
         });
       },
-      λ (has : HasMap bytes). none (shown_by command front text ready.cut.soup for.task ready_mesh for.only (given_writes has)),
+      λ (has : HasMap bytes). none (shown_by command front text ready.cut.soup for.task ready_mesh for.only
+          (given_writes has)),
     )
 
-    pub text_fails : (fail : CheckFail) → IsTextFail (judged_by bytes mark.line ready.cut for.task) fail → IsMapFail bytes fail
+    pub text_fails : (fail : CheckFail) → IsTextFail (judged_by bytes mark.line ready.cut for.task) fail
+        → IsMapFail bytes fail
     text_fails (NotAccepted (why.CertLine bad)) both = other (why.CertLine bad) both
     text_fails (NotAccepted (why.Verdict verdict)) both = other (why.Verdict verdict) both
     text_fails (NotAccepted (why.TooFine faces)) both = other (why.TooFine faces) both
@@ -176,33 +206,59 @@ module _ (bytes : Bytes) (mark : HeadAt) (old : FaceSet) (command : Command) (gi
     text_fails _ none = absurd none
 
     -- It is.
-    pub mapped : (finished : Finished) → Finishes for.task ready text finished → HasMapOf bytes finished.new
-    mapped finished by = subst (HasMapOf bytes) (sym by.new) (record {
-      line = mark.line;
-      divided = given.marked.last;
-      command = command;
-      mark = given.is;
-      written = written_by front text ready.cut.soup ready_mesh for.task by.shown command for.only.asked;
-      said = map_is front text ready.cut.soup ready_mesh for.task by.shown command for.only.asked;
-    })
+    pub found : (finished : Finished) → Finishes for.task ready text finished → IsFound command front text finished
+    found finished by = record {
+      written = record {
+        soup = ready.cut.soup;
+        mesh = ready_mesh;
+        task = for.task;
+        asked = for.only.asked;
+        shown = by.shown;
+      };
+      new = by.new;
+      net = network ready.net;
+      of_layout = subst (λ (p : Plan). IsNetFor for.task.wish p for.task.settings (network ready.net))
+          (sym by.plan_is) for.holds.net;
+      deviates = by.deviates;
+    }
+
+  -- A text that the command wrote has its map.
+  pub mapped : (finished : Finished) → IsFound command front text finished → HasMapOf bytes finished.new
+  mapped finished by = subst (HasMapOf bytes) (sym by.new) (record {
+    line = mark.line;
+    divided = given.marked.last;
+    command = command;
+    mark = given.is;
+    written = written_by command front text by.written;
+    said = map_is command front text by.written;
+  })
 
 -- ---- A refined mesh.
 
-module _ (bytes : Bytes) (mark : HeadAt) (cut : CutSoup) (by : ℕ) (given : IsGivenTo bytes mark cut.soup (Refine by)) (laid : IsTracedLayout cut.soup.faces cut.plan) where
+module _ (bytes : Bytes) (mark : HeadAt) (cut : CutSoup) (by : ℕ) (given : IsGivenTo bytes mark cut.soup (Refine by))
+    (laid : IsTracedLayout cut.soup.faces cut.plan) where
   refined_other : (why : Why) → IsNotRefined by cut.soup cut.plan (tail_of mark.line bytes) why → HasOtherText bytes why
   refined_other why reason = record {
     line = mark.line;
     command = Refine by;
     headed = headed bytes mark cut.soup (Refine by) given;
-    unlike = record { plan = cut.plan; mesh = record { soup = cut.soup; mesh = given.read.mesh; cut = laid }; reason = reason };
+    unlike = record {
+      plan = cut.plan;
+      mesh = record { soup = cut.soup; mesh = given.read.mesh; cut = laid };
+      reason =
+          reason;
+    };
   }
 
   -- What is written for these bytes is written over this layout.
-  one_plan : (wrote : WritesRefined by (front_of mark.line bytes) (tail_of mark.line bytes)) → (wrote.soup ≡ cut.soup) × (wrote.refined.plan ≡ cut.plan)
+  one_plan : (wrote : WritesRefined by (front_of mark.line bytes) (tail_of mark.line bytes)) → (wrote.soup ≡ cut.soup)
+      × (wrote.refined.plan ≡ cut.plan)
   one_plan wrote = (
     same,
-    one_layout_law cut.soup.faces (traced_marks cut.soup.faces) given.read.mesh.manifold (graph_law cut.soup.faces given.read.mesh.manifold).1
-        wrote.refined.plan cut.plan (subst (λ (s : FaceSet). IsTracedLayout s.faces wrote.refined.plan) same wrote.refined.cut) laid,
+    one_layout_law cut.soup.faces (traced_marks cut.soup.faces) given.read.mesh.manifold
+        (graph_law cut.soup.faces given.read.mesh.manifold).1
+        wrote.refined.plan cut.plan (subst (λ (s : FaceSet). IsTracedLayout s.faces wrote.refined.plan) same
+        wrote.refined.cut) laid,
   )
     where
       same : wrote.soup ≡ cut.soup
@@ -223,7 +279,8 @@ module _ (bytes : Bytes) (mark : HeadAt) (cut : CutSoup) (by : ℕ) (given : IsG
 
   module _ (new : Regrid) (are : IsRefinedBy by cut new) where
     -- The text is another one.
-    pub other_refined : (fail : CheckFail) → IsDifference (tail_of mark.line bytes) (refined_text by new.soup new.plan) fail → IsMapFail bytes fail
+    pub other_refined : (fail : CheckFail) → IsDifference (tail_of mark.line bytes) (refined_text by new.soup new.plan)
+        fail → IsMapFail bytes fail
     other_refined (NotAccepted (why.Byte at)) differ =
         let moved = subst (λ (t : Bytes). IsDifference (tail_of mark.line bytes) t (NotAccepted (why.Byte at)))
         (λ i. refined_text by (are.soup i) (are.plan i)) differ in (
@@ -251,9 +308,10 @@ module _ (bytes : Bytes) (mark : HeadAt) (cut : CutSoup) (by : ℕ) (given : IsG
           cut = laid;
           fits = are.few;
           written = written ∙ (λ i. refined_text by (are.soup i) (are.plan i));
-          shape = shape_of cut.soup (traced_marks cut.soup.faces) cut.plan (multiple_of by (long_at cut.plan.arcs)) given.read.solid
+          shape = shape_of cut.soup (traced_marks cut.soup.faces) cut.plan (multiple_of by (long_at cut.plan.arcs))
+              given.read.solid
               (graph_law cut.soup.faces given.read.mesh.manifold).1 laid are.shape;
         };
       };
-      said = λ i. map_text (are.soup i) (are.plan i) (are.lengths i);
+      said = λ i. map_text (are.soup i) (are.plan i) (are.shares i) (are.lengths i);
     }

@@ -1,5 +1,6 @@
 -- What check says of a pair, from what is judged of its text.
-use Rattle.std.proofs.Common.{◌≡◌, ◌⊎◌, ◌<◌, ◌≤◌, ◌^◌, ℕ, Bool, true, false, Result, Ok, Err, length, take, inl, inr, refl, ap, sym, ◌∙◌, subst, arith}
+use Rattle.std.proofs.Common.{◌≡◌, ◌⊎◌, ◌<◌, ◌≤◌, ◌^◌, ℕ, Bool, true, false, Result, Ok, Err, length, take, inl, inr}
+use Rattle.std.proofs.Common.{refl, ap, sym, ◌∙◌, subst, arith}
 use Rattle.std.proofs.lemmas.Bool.{cases_eq, cases_lt, false≢true}
 use Rattle.def_certtext.specs.CertLines.{Certificates}
 use Rattle.def_certtext.specs.HeadLine.{begins_head, HasNoHead, IsLastHead, IsLastLine}
@@ -20,7 +21,7 @@ use Rattle.def_remesh.specs.Refusals.{IsTangledAt}
 use Rattle.def_remesh.specs.Tasks.{old_lengths, remesh_task, Task}
 use Rattle.def_remesh.specs.TextLaws.{made_by, IsSolid}
 use Rattle.def_run.specs.Check.{head_of, HasOldSoup, IsAsked, IsCountedPair, IsNoPair, RefusesOldText}
-use Rattle.def_run.specs.CheckFails.{IsCheckFail}
+use Rattle.def_run.specs.CheckFails.{IsPairFail}
 use Rattle.def_run.specs.Judging.{IsReason}
 use Rattle.def_run.specs.Map.{WritesNew}
 use Rattle.def_run.specs.Mesh.{IsMeshText}
@@ -28,7 +29,8 @@ use Rattle.def_run.specs.Remesh.{IsTracedLayout}
 use Rattle.def_run.specs.declared.answer.Why.{Why}
 use Rattle.def_run.specs.declared.answer.Why.TheVariants as why
 use Rattle.def_run.specs.declared.check_fail.CheckFail.{CheckFail}
-use Rattle.def_run.specs.declared.check_fail.CheckFail.TheVariants.{NotAccepted, Old, NotManifold, Marks, Tangled, Far, Memory}
+use Rattle.def_run.specs.declared.check_fail.CheckFail.TheVariants.{NotAccepted, Old, NotManifold, Marks, Tangled, Far}
+use Rattle.def_run.specs.declared.check_fail.CheckFail.TheVariants.{Memory}
 use Rattle.def_run.specs.declared.command.Command.TheVariants.{Remesh}
 use Rattle.def_text.specs.FaceSet.{FaceSet}
 use Rattle.def_text.specs.Text.{soup_in, text_soup}
@@ -43,26 +45,16 @@ use Rattle.qm_check.specs.Making.{IsReadyFor, IsUnmade}
 use Rattle.qm_check.specs.Ready.{IsNoOld, IsOld, IsReady}
 use Rattle.qm_check.specs.declared.judging.Finished.{Finished}
 use Rattle.qm_check.specs.declared.ready.Ready.{Ready}
+use Rattle.remesh_laws.proofs.LastLines.{one_last}
 use Rattle.remesh_laws.proofs.Pairs.{pair_law}
 
 -- A text without a head line is no pair.
 pub headless : (bytes : Bytes) → HasNoHead (lines_of bytes) → ¬ IsCheckedPair bytes
 headless bytes none pair = false≢true (sym (none pair.line pair.divided.there) ∙ pair.divided.begins)
 
--- One line is the last that begins in some way.
-pub one_last : (begins_so : Bytes → Bool) (lines : Lines) (i k : ℕ) → IsLastLine begins_so lines i → IsLastLine begins_so lines k → i ≡ k
-one_last begins_so lines i k one two = by_order (cases_eq i k)
-  where
-    by_order : (i ≡ k) ⊎ (i ≡ k → ⊥) → i ≡ k
-    by_order (inl e) = e
-    by_order (inr ne) = by_place (cases_lt i k)
-      where
-        by_place : (i < k) ⊎ (k ≤ i) → i ≡ k
-        by_place (inl lt) = absurd (false≢true (sym (one.last k lt two.there) ∙ two.begins))
-        by_place (inr ge) = absurd (false≢true (sym (two.last i (omega (arith, ge, ne)) one.there) ∙ one.begins))
-
 -- What the lines in front of a pair say is said of those in front of the last head line.
-pair_said : (bytes : Bytes) (line : ℕ) (pair : IsCheckedPair bytes) → IsLastHead (lines_of bytes) line → text_soup 1 (take line (lines_of bytes)) ≡ Ok pair.soup
+pair_said : (bytes : Bytes) (line : ℕ) (pair : IsCheckedPair bytes) → IsLastHead (lines_of bytes) line
+    → text_soup 1 (take line (lines_of bytes)) ≡ Ok pair.soup
 pair_said bytes line pair divided =
     subst (λ (n : ℕ). text_soup 1 (take n (lines_of bytes)) ≡ Ok pair.soup)
     (one_last begins_head (lines_of bytes) pair.line line pair.divided divided) pair.said
@@ -72,16 +64,20 @@ pub old_refused : (bytes : Bytes) (fail : ObjFail) → RefusesOldText bytes fail
 old_refused bytes fail bad pair = ok_or_err _ pair.soup fail (pair_said bytes bad.line pair bad.divided) bad.said
 
 -- Nor one whose old text has faces that are no manifold.
-pub old_faulty : (bytes : Bytes) (line : ℕ) (soup : FaceSet) → HasOldSoup bytes line soup → ¬ IsManifold soup.faces → ¬ IsCheckedPair bytes
+pub old_faulty : (bytes : Bytes) (line : ℕ) (soup : FaceSet) → HasOldSoup bytes line soup → ¬ IsManifold soup.faces
+    → ¬ IsCheckedPair bytes
 old_faulty bytes line soup old bad pair =
-    bad (subst (λ (s : FaceSet). IsManifold s.faces) (one_ok _ pair.soup soup (pair_said bytes line pair old.divided) old.said) pair.manifold)
+    bad (subst (λ (s : FaceSet). IsManifold s.faces) (one_ok _ pair.soup soup (pair_said bytes line pair old.divided)
+    old.said) pair.manifold)
 
 made_head : (line : Bytes) (settings : Settings) (auto : Bool) (certificates : Certificates)
-    → IsHead line (made_by settings auto certificates).settings (made_by settings auto certificates).auto → IsHead line settings auto
+    → IsHead line (made_by settings auto certificates).settings (made_by settings auto certificates).auto
+    → IsHead line settings auto
 made_head line settings true certificates is = is
 made_head line settings false certificates is = is
 
-module _ (bytes front : Bytes) (line : ℕ) (divided : IsLastHead (lines_of bytes) line) (lines : lines_of front ≡ take line (lines_of bytes)) where
+module _ (bytes front : Bytes) (line : ℕ) (divided : IsLastHead (lines_of bytes) line) (lines : lines_of front
+    ≡ take line (lines_of bytes)) where
   -- What is said of the text in front is said of the lines before the head line.
   front_said : (said : Result FaceSet ObjFail) → soup_in front ≡ said → text_soup 1 (take line (lines_of bytes)) ≡ said
   front_said said is = ap (text_soup 1) (sym lines) ∙ is
@@ -89,9 +85,14 @@ module _ (bytes front : Bytes) (line : ℕ) (divided : IsLastHead (lines_of byte
   has_soup : (soup : FaceSet) → IsMeshText front soup → HasOldSoup bytes line soup
   has_soup soup mesh = record { divided = divided; said = front_said (Ok soup) mesh.said }
 
-  pub no_old : (fail : CheckFail) → IsNoOld front fail → IsCheckFail bytes fail
+  pub no_old : (fail : CheckFail) → IsNoOld front fail → IsPairFail bytes fail
   no_old (Old fail) (other, says) =
-      let refused : RefusesOldText bytes fail = record { line = line; divided = divided; said = front_said (Err fail) says } in
+      let refused : RefusesOldText bytes fail = record {
+        line = line;
+        divided = divided;
+        said =
+            front_said (Err fail) says;
+      } in
       (refused, other, old_refused bytes fail refused)
   no_old (NotManifold place soup) (says, fault, refuted) =
       let has : HasOldSoup bytes line soup = record { divided = divided; said = front_said (Ok soup) says } in
@@ -111,24 +112,36 @@ module _ (bytes front : Bytes) (line : ℕ) (divided : IsLastHead (lines_of byte
     pair_head pair =
         subst (λ (n : ℕ). IsHead (head_of bytes n) pair.settings pair.auto) (line_is pair)
         (made_head (head_of bytes pair.line) pair.settings pair.auto pair.remeshed.certificates
-        ((pair_law bytes pair (subst IsSolid (sym (soup_is pair)) is.solid) (made_by pair.settings pair.auto pair.remeshed.certificates)).1 refl).settings)
+        ((pair_law bytes pair (subst IsSolid (sym (soup_is pair)) is.solid)
+        (made_by pair.settings pair.auto pair.remeshed.certificates)).1 refl).settings)
 
     -- The line behind the old text is no head line.
-    pub no_head : ((settings : Settings) (auto : Bool) → ¬ IsHead (head_of bytes line) settings auto) → IsCheckFail bytes (NotAccepted why.Head)
+    pub no_head : ((settings : Settings) (auto : Bool) → ¬ IsHead (head_of bytes line) settings auto)
+        → IsPairFail bytes (NotAccepted why.Head)
     no_head none =
         let refuted : IsCheckedPair bytes → ⊥ = λ pair. none pair.settings pair.auto (pair_head pair) in (
-          record { line = line; soup = soup; old = has_soup soup is.mesh; manifold = is.mesh.manifold; headless = none; refuted = refuted },
+          record {
+            line = line;
+            soup = soup;
+            old = has_soup soup is.mesh;
+            manifold = is.mesh.manifold;
+            headless =
+                none;
+            refuted = refuted;
+          },
           refuted,
         )
 
 -- The last head line divides the bytes, those in front have this soup, and the line has these settings.
-pub record IsAskedAt (bytes front : Bytes) (line : ℕ) (soup : FaceSet) (settings : Settings) (auto : Bool) : Type 0 where
+pub record IsAskedAt (bytes front : Bytes) (line : ℕ) (soup : FaceSet) (settings : Settings) (auto : Bool) : Type
+    0 where
   pub divided : IsLastHead (lines_of bytes) line
   pub lines : lines_of front ≡ take line (lines_of bytes)
   pub read : IsOld front soup
   pub head : IsHead (head_of bytes line) settings auto
 
-module _ (bytes front : Bytes) (line : ℕ) (soup : FaceSet) (settings : Settings) (auto : Bool) (given : IsAskedAt bytes front line soup settings auto) where
+module _ (bytes front : Bytes) (line : ℕ) (soup : FaceSet) (settings : Settings) (auto : Bool)
+    (given : IsAskedAt bytes front line soup settings auto) where
   abbrev text : Bytes
   text = tail_of line bytes
 
@@ -139,10 +152,12 @@ module _ (bytes front : Bytes) (line : ℕ) (soup : FaceSet) (settings : Setting
     mesh = given.read.mesh;
     task = remesh_task settings auto soup.faces;
     asked = refl;
-    shown = subst (λ (n : ℕ). IsShown (remesh_task settings auto soup.faces) soup (tail_of n bytes)) (line_is bytes front line given.divided given.lines soup given.read pair)
+    shown = subst (λ (n : ℕ). IsShown (remesh_task settings auto soup.faces) soup (tail_of n bytes))
+        (line_is bytes front line given.divided given.lines soup given.read pair)
         (subst (λ (s : FaceSet). IsShown (remesh_task settings auto s.faces) s (tail_of pair.line bytes))
         (soup_is bytes front line given.divided given.lines soup given.read pair)
-        (subst (λ (t : Task). IsShown t pair.soup (tail_of pair.line bytes)) (λ i. remesh_task (heads.0 i) (heads.1 i) pair.soup.faces)
+        (subst (λ (t : Task). IsShown t pair.soup (tail_of pair.line bytes))
+        (λ i. remesh_task (heads.0 i) (heads.1 i) pair.soup.faces)
         (record { finished = pair.remeshed; certified = pair.certified })));
   }
     where
@@ -150,7 +165,8 @@ module _ (bytes front : Bytes) (line : ℕ) (soup : FaceSet) (settings : Setting
       heads = same_head (head_of bytes line) pair.settings settings pair.auto auto
           (pair_head bytes front line given.divided given.lines soup given.read pair) given.head
 
-  abbrev asked_with : (old : FaceSet) (mesh : IsMeshText front old) (plan : Plan) (cut : IsTracedLayout old.faces plan) → IsAsked bytes
+  abbrev asked_with : (old : FaceSet) (mesh : IsMeshText front old) (plan : Plan) (cut : IsTracedLayout old.faces plan)
+      → IsAsked bytes
   asked_with old mesh plan cut = record {
     line = line;
     soup = old;
@@ -164,12 +180,13 @@ module _ (bytes front : Bytes) (line : ℕ) (soup : FaceSet) (settings : Setting
   }
 
   -- Nothing is made ready to judge it by.
-  pub unmade_fails : (fail : CheckFail) → IsUnmade (Remesh settings auto) front fail → IsCheckFail bytes fail
+  pub unmade_fails : (fail : CheckFail) → IsUnmade (Remesh settings auto) front fail → IsPairFail bytes fail
   unmade_fails (Tangled count) (inl none, never) = absurd none
   unmade_fails (Tangled count) (inr (task, plan, has, tangled), never) =
       let refuted : IsCheckedPair bytes → ⊥ = λ pair. never text (pair_writes pair) in (
         record {
-          asked = asked_with has.soup has.mesh plan (subst (λ (t : Task). IsCutLayout has.soup.faces t.marks plan) has.asked has.cut);
+          asked = asked_with has.soup has.mesh plan (subst (λ (t : Task). IsCutLayout has.soup.faces t.marks plan)
+              has.asked has.cut);
           tangled = subst (λ (t : Task). IsTangledAt t.wish plan t.settings count) has.asked tangled;
           refuted = refuted;
         },
@@ -193,10 +210,13 @@ module _ (bytes front : Bytes) (line : ℕ) (soup : FaceSet) (settings : Setting
     ready_mesh = subst (IsMeshText front) (sym same) given.read.mesh
 
     -- The text is another one.
-    other : (why : Why) → IsReason (judged_by bytes line ready.cut task) why × (¬ IsShown task ready.cut.soup text) → IsNoPair bytes why × (¬ IsCheckedPair bytes)
+    other : (why : Why) → IsReason (judged_by bytes line ready.cut task) why × (¬ IsShown task ready.cut.soup text)
+        → IsNoPair bytes why × (¬ IsCheckedPair bytes)
     other why (reason, none) =
-        let refuted : IsCheckedPair bytes → ⊥ = λ pair. none (subst (λ (t : Task). IsShown t ready.cut.soup text) for.only.asked
-        (shown_by (Remesh settings auto) front text ready.cut.soup for.task ready_mesh for.only (pair_writes pair))) in (
+        let refuted : IsCheckedPair bytes → ⊥ =
+        λ pair. none (subst (λ (t : Task). IsShown t ready.cut.soup text) for.only.asked
+        (shown_by (Remesh settings auto) front text ready.cut.soup for.task ready_mesh
+        for.only (pair_writes pair))) in (
           record {
             asked = asked_with ready.cut.soup ready_mesh ready.cut.plan is.laid_out.laid;
             untangled = untangled old_lengths ready.cut.plan settings (network ready.net) is.net;
@@ -206,7 +226,7 @@ module _ (bytes front : Bytes) (line : ℕ) (soup : FaceSet) (settings : Setting
           refuted,
         )
 
-    remesh_fails : (fail : CheckFail) → IsTextFail (judged_by bytes line ready.cut task) fail → IsCheckFail bytes fail
+    remesh_fails : (fail : CheckFail) → IsTextFail (judged_by bytes line ready.cut task) fail → IsPairFail bytes fail
     remesh_fails (NotAccepted (why.CertLine bad)) both = other (why.CertLine bad) both
     remesh_fails (NotAccepted (why.Verdict verdict)) both = other (why.Verdict verdict) both
     remesh_fails (NotAccepted (why.TooFine faces)) both = other (why.TooFine faces) both
@@ -215,8 +235,11 @@ module _ (bytes front : Bytes) (line : ℕ) (soup : FaceSet) (settings : Setting
     remesh_fails Memory none = tt
     remesh_fails _ none = absurd none
 
-    pub text_fails : (fail : CheckFail) → IsTextFail (judged_by bytes line ready.cut for.task) fail → IsCheckFail bytes fail
-    text_fails fail failed = remesh_fails fail (subst (λ (t : Task). IsTextFail (judged_by bytes line ready.cut t) fail) for.only.asked failed)
+    pub text_fails : (fail : CheckFail) → IsTextFail (judged_by bytes line ready.cut for.task) fail
+        → IsPairFail bytes fail
+    text_fails fail failed =
+        remesh_fails fail (subst (λ (t : Task). IsTextFail (judged_by bytes line ready.cut t) fail) for.only.asked
+        failed)
 
     module _ (finished : Finished) (finishes : Finishes for.task ready text finished) where
       by : Finishes task ready text finished
@@ -233,7 +256,8 @@ module _ (bytes front : Bytes) (line : ℕ) (soup : FaceSet) (settings : Setting
 
       -- It is that of a remesh, with these numbers.
       pub counted : (arcs faces deviates : ℕ) → arcs ≡ length finished.new.plan.arcs
-          → faces ≡ face_count (layout_of finished.new.plan) (lengths_in finished.new.lengths) → deviates ≡ finished.deviation
+          → faces ≡ face_count (layout_of finished.new.plan) (lengths_in finished.new.lengths)
+          → deviates ≡ finished.deviation
           → IsCountedPair bytes arcs faces deviates
       counted arcs faces deviates arcs_told faces_told deviates_told = record {
         pair = record {
@@ -249,8 +273,10 @@ module _ (bytes front : Bytes) (line : ℕ) (soup : FaceSet) (settings : Setting
           certified = by.shown.certified;
         };
         arcs_told = arcs_told ∙ ap (λ (p : Plan). length p.arcs) plan_is;
-        faces_told = faces_told ∙ ap (λ (new : Regrid). face_count (layout_of new.plan) (lengths_in new.lengths)) by.new;
+        faces_told = faces_told ∙ ap (λ (new : Regrid). face_count (layout_of new.plan) (lengths_in new.lengths))
+            by.new;
         net = network ready.net;
-        of_layout = subst (λ (p : Plan). IsNetOf (layout_of p) (old_lengths p) (old_lengths p) settings (network ready.net)) (sym by.plan_is) is.net.is;
+        of_layout = subst (λ (p : Plan). IsNetOf (layout_of p) (old_lengths p) (old_lengths p) settings
+            (network ready.net)) (sym by.plan_is) is.net.is;
         deviation_told = deviates_told ∙ by.deviates;
       }

@@ -14,6 +14,7 @@ use Rattle.def_fit.specs.FitTasks.{asides_by, asides_in, Asides}
 use Rattle.def_fit.specs.FitWords.{fit_head}
 use Rattle.def_fit.specs.declared.fit.Aim.TheVariants.{Edge}
 use Rattle.def_fit.specs.declared.fit.Fit.{Fit as AnyFit}
+use Rattle.def_fit.specs.declared.fit.Spacing.TheVariants.{Even}
 use Rattle.def_flow.specs.declared.net.Settings.{Settings}
 use Rattle.def_flow.specs.declared.net.Weight.TheVariants as weights
 use Rattle.def_io.specs.Bytes.{Bytes}
@@ -250,7 +251,14 @@ module _ (settings : Settings) where
 
 module _ (edge : ℤ) (floor : ℕ) where
   abbrev sized : Least
-  sized = fixed (record { keep = Nothing; patches = Traced; aim = Edge edge; floor = floor; weight = weights.Plain })
+  sized = fixed (record {
+    keep = Nothing;
+    patches = Traced;
+    aim = Edge edge;
+    floor = floor;
+    weight = weights.Plain;
+    spacing = Even;
+  })
 
   size_gives : (bytes : Bytes) (soup : FaceSet) (task : Task) → AsksToFind sized (size_head edge floor) bytes soup task
       → task ≡ size_task edge floor soup

@@ -159,9 +159,9 @@ module _ (command : Command) (line text : Bytes) (least : Least) (point : IsPoin
 
     -- The mesh is laid out for the task.
     pub laid_for : (frame : Frame) → frame.asked ≡ asked_of least → frame.head.items ≡ line ++ 10 ∷ []
-        → marks_of frame ≡ asides.kept
+        → marks_of frame ≡ asides.kept → frame.shares ≡ task.shares
         → IsLaidOut task cut frame
-    laid_for frame is ended marks = record {
+    laid_for frame is ended marks shares = record {
       solid = old.solid;
       full = full;
       laid = by.laid;
@@ -170,4 +170,5 @@ module _ (command : Command) (line text : Bytes) (least : Least) (point : IsPoin
       head = ended;
       inside = point.head.inside;
       between = λ plan new. λ i. kept_text (sym marks i) plan new;
+      shares = sym shares;
     }

@@ -22,8 +22,12 @@ judged_by bytes line cut task = record { bytes = bytes; line = line; soup = cut.
 pub record Finishes (task : Task) (ready : Ready) (text : Bytes) (finished : Finished) : Type 0 where
   pub shown : IsShown task ready.cut.soup text
   pub plan_is : shown.finished.plan ≡ ready.cut.plan
-  pub new : finished.new
-      ≡ record { soup = ready.cut.soup; plan = shown.finished.plan; lengths = (used shown.finished.certificates).x }
+  pub new : finished.new ≡ record {
+    soup = ready.cut.soup;
+    plan = shown.finished.plan;
+    lengths = (used shown.finished.certificates).x;
+    shares = task.shares;
+  }
   pub deviates : finished.deviation ≡ deviation (network ready.net) (entries (used shown.finished.certificates).x)
 
 -- Why a text finishes no task, where there is memory: what is told of it is so, and it does not. It is never that there

@@ -3,9 +3,11 @@ use Rattle.std.specs.Prelude.{◌≡◌, Bool, false, List, Option, Some, None, 
 use Rattle.def_certtext.specs.declared.Asked.{Asked}
 use Rattle.def_fit.specs.Aims.{aimed, fit_settings, AreAimedNear}
 use Rattle.def_fit.specs.FitTasks.{Asides, asides_in, kept_text}
+use Rattle.def_fit.specs.Shares.{shares_of}
 use Rattle.def_fit.specs.declared.fit.Aim.{Aim}
 use Rattle.def_fit.specs.declared.fit.Aim.TheVariants.{Scale, Edge}
 use Rattle.def_fit.specs.declared.fit.Fit.{Fit}
+use Rattle.def_fit.specs.declared.fit.Spacing.TheVariants.{Even}
 use Rattle.def_flow.specs.declared.net.Settings.{Settings}
 use Rattle.def_flow.specs.declared.net.Weight.TheVariants.{Plain}
 use Rattle.def_io.specs.Bytes.{Bytes}
@@ -36,6 +38,7 @@ scaled keep patches settings = record {
   aim = Scale settings.p settings.q;
   floor = settings.floor;
   weight = settings.weight;
+  spacing = Even;
 }
 
 -- What `remesh` asks for.
@@ -56,6 +59,7 @@ least_of (commands.Size edge floor) = Some (fixed (record {
   aim = Edge edge;
   floor = floor;
   weight = Plain;
+  spacing = Even;
 }))
 least_of (commands.Coarse settings) = Some (fixed (scaled Nothing Merged settings))
 least_of (commands.Fit fit) = Some (fixed fit)
@@ -79,6 +83,7 @@ least_task least head soup asides cut = record {
   auto = least.auto;
   head = head;
   between = kept_text asides.kept;
+  shares = shares_of least.fit soup asides.wishes;
 }
 
 -- It asks for the chosen cut of the mesh.

@@ -1,16 +1,22 @@
 -- What the text of a command is judged by, and why there is nothing to judge it by.
-use Rattle.std.specs.Prelude.{◌≡◌, ◌≢◌, ⊤}
+use Rattle.std.specs.Prelude.{◌≡◌, ◌≢◌, true, ⊤}
+use Rattle.def_certtext.specs.CertLines.{used}
+use Rattle.def_flow.specs.Admissible.{deviation, entries}
+use Rattle.def_flow.specs.Network.{Network}
 use Rattle.def_io.specs.Bytes.{Bytes}
 use Rattle.def_io.specs.Lines.{lines_of}
 use Rattle.def_map.specs.MapText.{map_text}
 use Rattle.def_marks.specs.declared.fail.MarkFail.TheVariants as mark_fail
 use Rattle.def_remesh.specs.CutSoups.{Regrid}
+use Rattle.def_remesh.specs.Keeping.{IsNetFor}
 use Rattle.def_remesh.specs.NewPoints.{lengths_in}
 use Rattle.def_remesh.specs.Tasks.{Task}
 use Rattle.def_run.specs.Check.{head_of}
+use Rattle.def_run.specs.Checking.{begins_fit}
 use Rattle.def_run.specs.Map.{asks_of, RefusesNew, WritesMap, WritesNew}
 use Rattle.def_run.specs.MapFails.{HasLineFail}
 use Rattle.def_run.specs.MarkLines.{front_of, IsLastMark, IsMarkLine}
+use Rattle.def_run.specs.Remesh.{WritesFinished}
 use Rattle.def_run.specs.declared.answer.Answer.TheVariants as answers
 use Rattle.def_run.specs.declared.check_fail.CheckFail.{CheckFail}
 use Rattle.def_run.specs.declared.check_fail.CheckFail.TheVariants.{Marks, Tangled, Far, Memory}
@@ -18,6 +24,7 @@ use Rattle.def_run.specs.declared.command.Command.{Command}
 use Rattle.def_text.specs.FaceSet.{FaceSet}
 use Rattle.qm_certtext.specs.declared.last.HeadAt.{HeadAt}
 use Rattle.qm_check.specs.Ready.{CutsAt, IsOld, IsReady}
+use Rattle.qm_check.specs.declared.judging.Finished.{Finished}
 use Rattle.qm_check.specs.declared.ready.Ready.{Ready}
 
 -- A task that a command asks of a soup, and the only one.
@@ -56,6 +63,24 @@ pub record IsGivenTo (bytes : Bytes) (mark : HeadAt) (old : FaceSet) (command : 
   pub is : IsMarkLine (head_of bytes mark.line) command
   pub alone : (other : Command) → IsMarkLine (head_of bytes mark.line) other → other ≡ command
 
+-- A command that finds least lengths wrote this text behind that of a mesh, with this new mesh and this deviation.
+pub record IsFound (command : Command) (front text : Bytes) (finished : Finished) : Type 0 where
+  pub written : WritesFinished (asks_of command) front text
+  pub new : finished.new ≡ record {
+    soup = written.soup;
+    plan = written.shown.finished.plan;
+    lengths = (used written.shown.finished.certificates).x;
+    shares = written.task.shares;
+  }
+  pub net : Network
+  pub of_layout : IsNetFor written.task.wish written.shown.finished.plan written.task.settings net
+  pub deviates : finished.deviation ≡ deviation net (entries (used written.shown.finished.certificates).x)
+
+-- The last line that begins as a head line does stands there, and begins as that of `fit`.
+pub record IsFitAt (bytes : Bytes) (mark : HeadAt) : Type 0 where
+  pub marked : IsMarkedAt bytes mark
+  pub begins : begins_fit (head_of bytes mark.line) ≡ true
+
 -- The bytes have the map of this new mesh.
 abbrev pub HasMapOf : (bytes : Bytes) (new : Regrid) → Type 0
-HasMapOf bytes new = WritesMap bytes (map_text new.soup new.plan (lengths_in new.lengths))
+HasMapOf bytes new = WritesMap bytes (map_text new.soup new.plan new.shares (lengths_in new.lengths))

@@ -1,5 +1,5 @@
 -- A refined mesh.
-use Rattle.std.specs.Prelude.{◌≡◌, ◌<◌, ◌≤◌, ℕ, ⊤}
+use Rattle.std.specs.Prelude.{◌≡◌, ◌<◌, ◌≤◌, ℕ, None, ⊤}
 use Rattle.def_layout.specs.Arcs.{long_at}
 use Rattle.def_layout.specs.Plans.{Plan}
 use Rattle.def_remesh.specs.CutSoups.{CutSoup, Regrid}
@@ -16,6 +16,7 @@ pub record IsRefinedBy (by : ℕ) (cut : CutSoup) (new : Regrid) : Type 0 where
   pub soup : new.soup ≡ cut.soup
   pub plan : new.plan ≡ cut.plan
   pub lengths : lengths_in new.lengths ≡ multiple_of by (long_at cut.plan.arcs)
+  pub shares : new.shares ≡ None
   pub shape : KeepsShapes cut.plan (multiple_of by (long_at cut.plan.arcs))
   pub few : refined_faces by cut.plan ≤ MAX_NEW_FACES
 

@@ -76,6 +76,7 @@ pub record IsLaidOut (task : Task) (cut : CutSoup) (frame : Frame) : Type 0 wher
   pub head : frame.head.items ≡ task.head ++ LINE_FEED ∷ []
   pub inside : list_all is_inside task.head ≡ true
   pub between : (plan : Plan) (new : Lengths) → task.between plan new ≡ kept_text (marks_of frame) plan new
+  pub shares : task.shares ≡ frame.shares
 
 -- The same with the network of the task.
 pub record IsReady (task : Task) (ready : Ready) : Type 0 where

@@ -26,8 +26,12 @@ pub(crate) fn compare(
     requires kept { (wish : Wish) × IsKept wish cut.plan framed.remesh.asked.settings framed.remesh.asked.auto
         (certificates_of framed.remesh.certs) framed.remesh.numbering }
     ensures same { OnOk result (given.now ≡ framed_text framed cut.soup cut.plan) }
-    ensures new { IfOk result (λ new. new
-        ≡ record { soup = cut.soup; plan = cut.plan; lengths = framed.remesh.numbering.lengths.items }) }
+    ensures new { IfOk result (λ new. new ≡ record {
+      soup = cut.soup;
+      plan = cut.plan;
+      lengths = framed.remesh.numbering.lengths.items;
+      shares = framed.shares;
+    }) }
     ensures other { IfErr result (IsDifference given.now (framed_text framed cut.soup cut.plan)) }
 {
     let mut comparison = Comparison::new(given);

@@ -54,6 +54,7 @@ pub(crate) fn judge_text(
         head: frame.head,
         between,
         remesh: checked.remesh,
+        shares: frame.shares,
     };
     let new = compare(alloc, written_text(bytes, head), cut, framed)?;
     Ok(Finished {

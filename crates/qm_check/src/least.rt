@@ -4,7 +4,7 @@ ghost use Rattle.std.specs.Prelude.{◌≡◌, false};
 ghost use Rattle.qm_check.specs.Least.{asked_of, least_of, remeshed, scaled};
 
 use def_certtext::Asked;
-use def_fit::{Aim, Fit};
+use def_fit::{Aim, Fit, Spacing};
 use def_flow::Settings;
 use def_patches::{Keep, Patches};
 use def_run::Command;
@@ -55,6 +55,7 @@ fn scaled(keep: Keep, patches: Patches, settings: Settings) -> Fit
         },
         floor: settings.floor,
         weight: settings.weight,
+        spacing: Spacing::Even,
     }
 }
 

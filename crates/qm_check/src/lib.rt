@@ -1,5 +1,5 @@
-//! The judge of texts: whether a text is one with a mesh and, behind it, a text that is written for this mesh: that of a
-//! finished remesh, or of any command that writes a new mesh.
+//! The judge of texts: whether a text is one with a mesh and, behind it, a text that is written for this mesh: that of
+//! a finished remesh, or of any command that writes a new mesh.
 #![tactic(auto)]
 
 mod asides;

@@ -20,7 +20,7 @@ use def_metric::MetricFail;
 use def_run::CheckFail;
 use qm_cut::chosen_layout;
 use qm_cutmesh::{CutMesh, Meshed};
-use qm_metric::net_for;
+use qm_metric::{net_for, shares_of};
 use std::alloc::Global;
 
 /// What the text of a command with this head line is judged by, behind the text of a mesh: the cut, the head line and
@@ -46,11 +46,13 @@ pub(crate) fn ready_for(
     let layout = chosen_layout(alloc, old.mesh(), kept, least.fit.patches)?;
     let cut = CutMesh::new(old, layout);
     let net = net_near(alloc, &cut, &least.fit, &asides.wishes)?;
+    let shares = shares_of(alloc, &cut, &least.fit, &asides.wishes)?;
     let head = ended(alloc, line)?;
     let frame = Frame {
         asked: asked_of(least),
         head,
         marks: asides.kept,
+        shares,
     };
     Ok(Ready { cut, frame, net })
 }

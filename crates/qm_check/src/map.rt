@@ -1,16 +1,18 @@
 //! The text of a new mesh behind that of the mesh it was made of, from its bytes to what its map is written from.
 
 ghost use Rattle.std.specs.Prelude.{◌≡◌, ◌≤◌, length, Some, IfErr, IfOk};
+ghost use Rattle.def_io.specs.Lines.{tail_of};
 ghost use Rattle.def_map.specs.MapText.{map_text};
 ghost use Rattle.def_remesh.specs.NewPoints.{lengths_in};
 ghost use Rattle.def_run.specs.Map.{WritesMap};
 ghost use Rattle.def_run.specs.MapFails.{IsMapFail};
+ghost use Rattle.def_run.specs.MarkLines.{front_of};
 ghost use Rattle.def_run.specs.declared.command.Command.{Command as AnyCommand};
 ghost use Rattle.def_text.specs.declared.limits.TheConstants.{MAX_BYTES};
 ghost use Rattle.qm_check.specs.Least.{least_of};
-ghost use Rattle.qm_check.specs.Making.{HasMapOf, IsGivenTo, IsMarkedAt};
+ghost use Rattle.qm_check.specs.Making.{HasMapOf, IsFound, IsGivenTo, IsMarkedAt};
 
-use crate::judging::judge_text;
+use crate::judging::{Finished, judge_text};
 use crate::least::{Least, least_of};
 use crate::making::ready_for;
 use crate::old::read_old;
@@ -26,7 +28,8 @@ use std::alloc::Global;
 /// this line is to write for it: its certificates are checked, and it is compared with the text as it is made anew.
 pub fn judge(alloc: Global, bytes: &[u8]) -> Result<Regridded, CheckFail>
     requires { length bytes.now ≤ MAX_BYTES }
-    ensures map { IfOk result (λ new. WritesMap bytes.now (map_text new.soup new.plan (lengths_in new.lengths))) }
+    ensures map { IfOk result (λ new. WritesMap bytes.now
+        (map_text new.soup new.plan new.shares (lengths_in new.lengths))) }
     ensures refused { IfErr result (IsMapFail bytes.now) }
 {
     match find_mark(bytes) {
@@ -63,7 +66,8 @@ fn judge_command(
     ensures refused { IfErr result (IsMapFail bytes.now) }
 {
     if let Some(least) = least_of(&command) {
-        return judge_least(alloc, bytes, mark, old, &least);
+        let finished = judge_least(alloc, bytes, mark, old, &least)?;
+        return Ok(finished.new);
     }
     match command {
         Command::Refine { by } => judge_refined(alloc, bytes, mark, old, by),
@@ -72,21 +76,21 @@ fn judge_command(
 }
 
 /// Judges what a command is to have written that finds least lengths.
-fn judge_least(
+pub(crate) fn judge_least(
     alloc: Global,
     bytes: &[u8],
     mark: HeadAt,
     old: Meshed,
     least: &Least,
-) -> Result<Regridded, CheckFail>
+) -> Result<Finished, CheckFail>
     requires few { length bytes.now ≤ MAX_BYTES }
     requires given { (command : AnyCommand) × IsGivenTo bytes.now mark old command
         × (least_of command ≡ Some least.now) }
-    ensures mapped { IfOk result (HasMapOf bytes.now) }
+    ensures found { (command : AnyCommand) → IsGivenTo bytes.now mark old command → least_of command ≡ Some least.now
+        → IfOk result (IsFound command (front_of mark.line bytes.now) (tail_of mark.line bytes.now)) }
     ensures refused { IfErr result (IsMapFail bytes.now) }
 {
     let text = old_text(bytes, mark);
     let ready = ready_for(alloc, text, head_line(bytes, mark), old, least)?;
-    let finished = judge_text(alloc, bytes, mark, ready)?;
-    Ok(finished.new)
+    judge_text(alloc, bytes, mark, ready)
 }

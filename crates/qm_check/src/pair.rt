@@ -1,21 +1,26 @@
 //! One text of a pair, from its bytes to the verdict.
 
-ghost use Rattle.std.specs.Prelude.{◌≡◌, ◌≤◌, ◌<◌, ◌^◌, length, IfErr, IfOk};
+ghost use Rattle.std.specs.Prelude.{◌≡◌, ◌≤◌, ◌<◌, ◌^◌, length, IfErr, IfOk, MatchOption};
 ghost use Rattle.def_layout.specs.Plans.{layout_of};
 ghost use Rattle.def_remesh.specs.NewPoints.{lengths_in};
 ghost use Rattle.def_run.specs.Check.{IsCountedPair};
-ghost use Rattle.def_run.specs.CheckFails.{IsCheckFail};
+ghost use Rattle.def_run.specs.CheckFails.{IsCheckFail, IsPairFail};
+ghost use Rattle.def_run.specs.Checking.{HasFitText, IsCounted, IsCountedFit};
+ghost use Rattle.def_run.specs.MapFails.{IsMapFail};
 ghost use Rattle.def_text.specs.declared.limits.TheConstants.{MAX_BYTES};
 ghost use Rattle.def_written.specs.NewFaces.{face_count};
+ghost use Rattle.qm_check.specs.Making.{IsFitAt};
 ghost use Rattle.qm_check.specs.Ready.{DividesAt};
 
 use crate::judging::{Finished, judge_text};
-use crate::least::remeshed;
+use crate::least::{least_of, remeshed};
 use crate::making::ready_for;
+use crate::map::judge_least;
 use crate::old::read_old;
 use crate::parts::{head_line, old_text};
 use def_run::{CheckFail, Why};
 use qm_certtext::{HeadAt, find_head, read_head};
+use qm_head::{find_mark, read_mark};
 use std::alloc::Global;
 
 /// What is told of a pair: its arcs, the faces of the new mesh, and how far the lengths are from what is wanted.
@@ -26,12 +31,57 @@ pub struct Accepted {
     pub deviation: u128,
 }
 
-/// Checks a text. The last line that begins as a head line does divides it into an old text and the text of a remesh.
-/// Of the latter only the certificates are kept; it is compared with the text as it is made anew.
+/// Checks a text. The last line that begins as a head line does divides it into an old text and the text of a remesh,
+/// or of a fit. Of the latter only the certificates are kept; it is compared with the text as it is made anew.
 pub fn check_pair(alloc: Global, bytes: &[u8]) -> Result<Accepted, CheckFail>
     requires { length bytes.now ≤ MAX_BYTES }
-    ensures accepted { IfOk result (λ told. IsCountedPair bytes.now told.arcs told.faces told.deviation) }
+    ensures accepted { IfOk result (λ told. IsCounted bytes.now told.arcs told.faces told.deviation) }
     ensures refused { IfErr result (IsCheckFail bytes.now) }
+{
+    match find_fit(bytes) {
+        Some(mark) => check_fit(alloc, bytes, mark),
+        None => check_remesh(alloc, bytes),
+    }
+}
+
+/// The last line that begins as a head line does, where it begins as that of `fit`.
+fn find_fit(bytes: &[u8]) -> Option<HeadAt>
+    requires { length bytes.now ≤ MAX_BYTES }
+    ensures { MatchOption result (¬ HasFitText bytes.now) (IsFitAt bytes.now) }
+{
+    let Some(mark) = find_mark(bytes) else {
+        return None;
+    };
+    if head_line(bytes, mark).starts_with(b"#quadq 1 fit ") {
+        Some(mark)
+    } else {
+        None
+    }
+}
+
+/// Checks the text of a fit behind that of a mesh.
+fn check_fit(alloc: Global, bytes: &[u8], mark: HeadAt) -> Result<Accepted, CheckFail>
+    requires few { length bytes.now ≤ MAX_BYTES }
+    requires fit { IsFitAt bytes.now mark }
+    ensures accepted { IfOk result (λ told. IsCountedFit bytes.now told.arcs told.faces told.deviation) }
+    ensures refused { IfErr result (IsMapFail bytes.now) }
+{
+    let old = read_old(alloc, old_text(bytes, mark))?;
+    let Some(command) = read_mark(head_line(bytes, mark)) else {
+        return Err(CheckFail::NotAccepted { why: Why::Head });
+    };
+    let Some(least) = least_of(&command) else {
+        unreachable!()
+    };
+    let finished = judge_least(alloc, bytes, mark, old, &least)?;
+    Ok(told_of(&finished))
+}
+
+/// Checks the text of a remesh behind that of a mesh.
+fn check_remesh(alloc: Global, bytes: &[u8]) -> Result<Accepted, CheckFail>
+    requires { length bytes.now ≤ MAX_BYTES }
+    ensures accepted { IfOk result (λ told. IsCountedPair bytes.now told.arcs told.faces told.deviation) }
+    ensures refused { IfErr result (IsPairFail bytes.now) }
 {
     match find_head(bytes) {
         Some(head) => check_parts(alloc, bytes, head),
@@ -44,7 +94,7 @@ fn check_parts(alloc: Global, bytes: &[u8], head: HeadAt) -> Result<Accepted, Ch
     requires few { length bytes.now ≤ MAX_BYTES }
     requires head { DividesAt bytes.now head }
     ensures accepted { IfOk result (λ told. IsCountedPair bytes.now told.arcs told.faces told.deviation) }
-    ensures refused { IfErr result (IsCheckFail bytes.now) }
+    ensures refused { IfErr result (IsPairFail bytes.now) }
 {
     let text = old_text(bytes, head);
     let line = head_line(bytes, head);

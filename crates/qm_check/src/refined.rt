@@ -1,6 +1,6 @@
 //! A text of a refined mesh.
 
-ghost use Rattle.std.specs.Prelude.{◌≡◌, ◌≤◌, length, IfErr, IfOk, OnOk};
+ghost use Rattle.std.specs.Prelude.{◌≡◌, ◌≤◌, length, None, IfErr, IfOk, OnOk};
 ghost use Rattle.def_layout.specs.Arcs.{long_at};
 ghost use Rattle.def_remesh.specs.NewPoints.{lengths_in, multiple_of};
 ghost use Rattle.def_remesh.specs.Refined.{refined_text};
@@ -63,6 +63,7 @@ fn points_by(alloc: Global, by: u32, cut: CutMesh) -> Result<Regridded, CheckFai
 fn compare_refined(given: &[u8], by: u32, new: &Regridded) -> Result<(), CheckFail>
     requires few { length given.now ≤ MAX_BYTES }
     requires lengths { lengths_in new.now.lengths ≡ multiple_of by (long_at new.now.plan.arcs) }
+    requires even { new.now.shares ≡ None }
     ensures same { OnOk result (given.now ≡ refined_text by new.now.soup new.now.plan) }
     ensures other { IfErr result (IsDifference given.now (refined_text by new.now.soup new.now.plan)) }
 {

@@ -1,5 +1,6 @@
 -- The lines of a text around its mesh: whole lines, and those that begin with `#` are passed over.
-use Rattle.std.proofs.Common.{◌≡◌, ◌<◌, ◌≤◌, ◌^◌, ℕ, zero, suc, ℤ, pos, negsuc, Bool, true, false, List, [], ◌∷◌, ◌++◌, codes, length, map, get_or, refl, sym, ◌∙◌, ap, subst, arith, length-append}
+use Rattle.std.proofs.Common.{◌≡◌, ◌<◌, ◌≤◌, ◌^◌, ℕ, zero, suc, ℤ, pos, negsuc, Bool, true, false, List, [], ◌∷◌, ◌++◌}
+use Rattle.std.proofs.Common.{codes, length, map, get_or, refl, sym, ◌∙◌, ap, subst, arith, length-append}
 use Rattle.std.specs.Prelude.{◌&&◌, ◌==◌, ◌-◌, if◌then◌else◌, decimal, slice_index, unsigned_abs}
 use Rattle.std.specs.Fmt.{signed_decimal}
 use Rattle.std.specs.List.{before_first, flat_map, list_all}
@@ -29,7 +30,8 @@ use Rattle.def_remesh.specs.Refined.{refine_head}
 use Rattle.qm_certtext.proofs.Counts.{small_parts}
 use Rattle.qm_certtext.proofs.Telling.{floor_low}
 use Rattle.qm_certtext.proofs.Texts.{both_inside, lines_inside, number_inside, settings_inside, settings_line}
-use Rattle.qm_obj.proofs.LawSoup.{canonical_lines, each_both, each_map, face_line, face_line_is, position_line, position_line_is, text_lines}
+use Rattle.qm_obj.proofs.LawSoup.{canonical_lines, each_both, each_map, face_line, face_line_is, position_line}
+use Rattle.qm_obj.proofs.LawSoup.{position_line_is, text_lines}
 use Rattle.qm_obj.proofs.LawText.{is_inside, lines_back, lines_split, no_continuation, IsLine}
 use Rattle.qm_obj.proofs.ListLemmas.{passes_at}
 use Rattle.qm_obj.proofs.SoupLemmas.{are_below}
@@ -38,7 +40,8 @@ use Rattle.remesh_laws.specs.Asides.{IsAside, IsPassedOver}
 -- ---- Whole lines.
 
 -- A text is ended where its second part is, or where that is empty and the first part is ended.
-ends_append : (front behind : Bytes) → ends_line front ≡ true → ends_line behind ≡ true → ends_line (front ++ behind) ≡ true
+ends_append : (front behind : Bytes) → ends_line front ≡ true → ends_line behind ≡ true → ends_line (front ++ behind)
+    ≡ true
 ends_append [] behind one two = two
 ends_append (byte ∷ []) [] one two = one
 ends_append (byte ∷ []) (next ∷ behind) one two = two
@@ -51,7 +54,8 @@ ends_last (byte ∷ next ∷ line) = ends_last (next ∷ line)
 
 pub ends_lines : (lines : Lines) → ends_line (flat_map (λ l. l ++ 10 ∷ []) lines) ≡ true
 ends_lines [] = refl
-ends_lines (line ∷ lines) = ends_append (line ++ 10 ∷ []) (flat_map (λ l. l ++ 10 ∷ []) lines) (ends_last line) (ends_lines lines)
+ends_lines (line ∷ lines) = ends_append (line ++ 10 ∷ []) (flat_map (λ l. l ++ 10 ∷ []) lines) (ends_last line)
+    (ends_lines lines)
 
 -- ---- The lines of the mesh.
 
@@ -62,13 +66,16 @@ module _ (soup : FaceSet) (is : IsWritableSoup soup) where
   lines_are : (k : ℕ) → k < length (canonical_lines soup) → IsLine (get_or (canonical_lines soup) k [])
   lines_are =
       each_both IsLine (map position_line soup.pos) (map face_line soup.faces) []
-      (each_map IsLine position_line soup.pos [] [] (λ k l. position_line_is (get_or soup.pos k []) (passes_at is_position soup.pos k [] is.positions l)))
+      (each_map IsLine position_line soup.pos [] [] (λ k l. position_line_is (get_or soup.pos k [])
+      (passes_at is_position soup.pos k [] is.positions l)))
       (each_map IsLine face_line soup.faces [] [] (λ k l.
-      face_line_is (length soup.pos) (get_or soup.faces k []) is.few_vertices (passes_at is_quad soup.faces k [] is.quads l)
+      face_line_is (length soup.pos) (get_or soup.faces k []) is.few_vertices
+      (passes_at is_quad soup.faces k [] is.quads l)
       (passes_at (are_below (length soup.pos)) soup.faces k [] is.soup.in_range l)))
 
   -- No line is joined to one of them.
-  pub canonical_whole : (k : ℕ) → k < length (lines_of (canonical_text soup)) → continues (get_or (lines_of (canonical_text soup)) k []) ≡ false
+  pub canonical_whole : (k : ℕ) → k < length (lines_of (canonical_text soup))
+      → continues (get_or (lines_of (canonical_text soup)) k []) ≡ false
   canonical_whole = subst (λ (ls : Lines). (k : ℕ) → k < length ls → continues (get_or ls k []) ≡ false)
       (sym (ap lines_of (text_lines soup) ∙ lines_split (canonical_lines soup) lines_are))
       (λ k l. no_continuation (get_or (canonical_lines soup) k []) (lines_are k l).tame)
@@ -96,11 +103,18 @@ marked_passed line short = record {
 
 pub hash_passed : (line : Bytes) → get_or line 0 0 ≡ 35 → length line ≤ 65536 → IsPassedOver line
 hash_passed [] begins short = absurd (omega (arith, begins))
-hash_passed (byte ∷ line) begins short = subst (λ (b : ℕ). IsPassedOver (b ∷ line)) (sym begins) (marked_passed line short)
+hash_passed (byte ∷ line) begins short =
+    subst (λ (b : ℕ). IsPassedOver (b ∷ line)) (sym begins) (marked_passed line short)
 
 -- A text of one such line.
-pub line_aside : (line : Bytes) → get_or line 0 0 ≡ 35 → list_all is_inside line ≡ true → length line ≤ 65536 → IsAside (line ++ 10 ∷ [])
-line_aside line begins inside short = record { ended = ends_last line; each = subst (λ (ls : Lines). (k : ℕ) → k < length ls → IsPassedOver (get_or ls k [])) (sym lines) one }
+pub line_aside : (line : Bytes) → get_or line 0 0 ≡ 35 → list_all is_inside line ≡ true → length line ≤ 65536
+    → IsAside (line ++ 10 ∷ [])
+line_aside line begins inside short =
+    record {
+      ended = ends_last line;
+      each = subst (λ (ls : Lines). (k : ℕ) → k < length ls
+          → IsPassedOver (get_or ls k [])) (sym lines) one;
+    }
   where
     at : (k : ℕ) → k < 1 → list_all is_inside (get_or (line ∷ []) k []) ≡ true
     at zero l = inside
@@ -129,26 +143,41 @@ signed_short (negsuc n) low = omega (arith, number_short (suc n) (omega (arith, 
 dual_short : (letter : ℕ) (z : ℤ) (up : ℕ) → is_small z up ≡ true → length (dual_line letter z up) ≤ 65536
 dual_short letter z up may =
     let parts = small_parts z up may in
-    omega (arith, length-append (signed_decimal z) (32 ∷ decimal up), signed_short z parts.0, number_short up (omega (arith, parts.1)))
+    omega (
+      arith,
+      length-append (signed_decimal z) (32 ∷ decimal up),
+      signed_short z parts.0,
+      number_short up (omega (arith, parts.1)),
+    )
 
 cert_passed : (auto : Bool) (line : CertLine) → may_stand auto line ≡ true → IsPassedOver (line_text line)
-cert_passed auto (Length n) may = hash_passed (line_text (Length n)) refl (omega (arith, number_short n (omega (arith, leb-true n (10 ^ 12) may))))
+cert_passed auto (Length n) may =
+    hash_passed (line_text (Length n)) refl (omega (arith, number_short n (omega (arith, leb-true n (10 ^ 12) may))))
 cert_passed auto (Vertex z up) may = hash_passed (line_text (Vertex z up)) refl (dual_short 121 z up may)
 cert_passed auto (Set z up) may = hash_passed (line_text (Set z up)) refl (dual_short 115 z up may)
-cert_passed auto (Floor floor) may = hash_passed (line_text (Floor floor)) refl (omega (arith, number_short floor (omega (arith, floor_low auto floor may))))
+cert_passed auto (Floor floor) may =
+    hash_passed (line_text (Floor floor)) refl
+    (omega (arith, number_short floor (omega (arith, floor_low auto floor may))))
 
-certs_passed : (auto : Bool) (said : List CertLine) → list_all (may_stand auto) said ≡ true → (k : ℕ) → k < length (map line_text said)
+certs_passed : (auto : Bool) (said : List CertLine) → list_all (may_stand auto) said ≡ true → (k : ℕ)
+    → k < length (map line_text said)
     → IsPassedOver (get_or (map line_text said) k [])
 certs_passed auto [] all k low = absurd (omega (arith, low))
-certs_passed auto (line ∷ said) all zero low = cert_passed auto line (and_parts (may_stand auto line) (list_all (may_stand auto) said) all).0
-certs_passed auto (line ∷ said) all (suc k) low = certs_passed auto said (and_parts (may_stand auto line) (list_all (may_stand auto) said) all).1 k (omega (arith, low))
+certs_passed auto (line ∷ said) all zero low =
+    cert_passed auto line (and_parts (may_stand auto line) (list_all (may_stand auto) said) all).0
+certs_passed auto (line ∷ said) all (suc k) low =
+    certs_passed auto said (and_parts (may_stand auto line) (list_all (may_stand auto) said) all).1 k
+    (omega (arith, low))
 
-pub cert_lines_passed : (auto : Bool) (said : List CertLine) → list_all (may_stand auto) said ≡ true → (k : ℕ) → k < length (lines_of (text_of said))
+pub cert_lines_passed : (auto : Bool) (said : List CertLine) → list_all (may_stand auto) said ≡ true → (k : ℕ)
+    → k < length (lines_of (text_of said))
     → IsPassedOver (get_or (lines_of (text_of said)) k [])
-cert_lines_passed auto said all = subst (λ (ls : Lines). (k : ℕ) → k < length ls → IsPassedOver (get_or ls k [])) (sym lines) (certs_passed auto said all)
+cert_lines_passed auto said all = subst (λ (ls : Lines). (k : ℕ) → k < length ls → IsPassedOver (get_or ls k []))
+    (sym lines) (certs_passed auto said all)
   where
     lines : lines_of (text_of said) ≡ map line_text said
-    lines = ap lines_of (sym (flat_map-map (λ l. l ++ 10 ∷ []) line_text said)) ∙ lines_back (map line_text said) (lines_inside auto said all)
+    lines = ap lines_of (sym (flat_map-map (λ l. l ++ 10 ∷ []) line_text said))
+        ∙ lines_back (map line_text said) (lines_inside auto said all)
 
 -- ---- Head lines.
 
@@ -161,7 +190,8 @@ weight_short Plain = omega arith
 weight_short ByLength = omega arith
 
 -- A text of a line that ends with settings.
-pub settings_aside : (front : Bytes) (settings : Settings) (auto : Bool) → get_or (settings_line front settings auto) 0 0 ≡ 35 → list_all is_inside front ≡ true
+pub settings_aside : (front : Bytes) (settings : Settings) (auto : Bool)
+    → get_or (settings_line front settings auto) 0 0 ≡ 35 → list_all is_inside front ≡ true
     → length front ≤ 64 → AreInRange settings auto → IsAside (settings_line front settings auto ++ 10 ∷ [])
 settings_aside front settings auto begins inside few range =
     line_aside (settings_line front settings auto) begins (settings_inside front settings auto inside range) short
@@ -194,8 +224,10 @@ settings_aside front settings auto begins inside few range =
       weight_short settings.weight,
     )
 
-pub head_aside : (settings : Settings) (auto : Bool) → AreInRange settings auto → IsAside (head_line settings auto ++ 10 ∷ [])
-head_aside settings auto range = settings_aside (codes "#quadq 1 remesh scale ") settings auto refl refl (omega arith) range
+pub head_aside : (settings : Settings) (auto : Bool) → AreInRange settings auto
+    → IsAside (head_line settings auto ++ 10 ∷ [])
+head_aside settings auto range = settings_aside (codes "#quadq 1 remesh scale ") settings auto refl refl (omega arith)
+    range
 
 pub refine_aside : (by : ℕ) → by < 2 ^ 64 → IsAside (refine_head by)
 refine_aside by low = line_aside (codes "#quadq 1 refine by " ++ decimal by) refl inside short

@@ -12,23 +12,36 @@ use Rattle.def_remesh.specs.declared.kept.Kept.{Kept}
 use Rattle.def_remesh.specs.declared.kept.Kept.TheVariants.{Multiple, Least, Raised}
 
 -- Certified lengths are a least list.
-least_for : {wish : Wish} (plan : Plan) (settings : Settings) (cert : Lists) → IsCertified wish plan settings cert → IsLeastFor wish plan settings cert.x
+least_for : {wish : Wish} (plan : Plan) (settings : Settings) (cert : Lists) → IsCertified wish plan settings cert
+    → IsLeastFor wish plan settings cert.x
 least_for plan settings cert is =
-    record { net = is.lengths.net; of_layout = is.lengths.of_layout; count = is.lengths.count ∙ is.lengths.of_layout.long; least = is.lengths.least }
+    record {
+      net = is.lengths.net;
+      of_layout = is.lengths.of_layout;
+      count =
+          is.lengths.count ∙ is.lengths.of_layout.long;
+      least = is.lengths.least;
+    }
 
 -- So they give too many faces only where some least list does.
-not_fine : (wish : Wish) (plan : Plan) (settings : Settings) (cert : Lists) (faces : ℕ) → AreAllCoarse wish plan settings → IsCertified wish plan settings cert
+not_fine : (wish : Wish) (plan : Plan) (settings : Settings) (cert : Lists) (faces : ℕ)
+    → AreAllCoarse wish plan settings → IsCertified wish plan settings cert
     → AreTooFine plan cert.x faces → ⊥
-not_fine wish plan settings cert faces coarse is fine = absurd (omega (arith, fine.0, fine.1, coarse cert.x (least_for plan settings cert is)))
+not_fine wish plan settings cert faces coarse is fine =
+    absurd (omega (arith, fine.0, fine.1, coarse cert.x (least_for plan settings cert is)))
 
-pub fits_not_fine : (wish : Wish) (plan : Plan) (settings : Settings) (auto : Bool) (faces : ℕ) (kept : Kept) → IsRemeshable wish plan settings auto
+pub fits_not_fine : (wish : Wish) (plan : Plan) (settings : Settings) (auto : Bool) (faces : ℕ) (kept : Kept)
+    → IsRemeshable wish plan settings auto
     → IsFineBy wish plan settings auto faces kept → ⊥
 fits_not_fine wish plan settings auto faces (Multiple by) fits fine = absurd fine
-fits_not_fine wish plan settings auto faces (Least cert) fits fine = not_fine wish plan settings (lists_of cert) faces fits.coarse fine.0 fine.1
+fits_not_fine wish plan settings auto faces (Least cert) fits fine =
+    not_fine wish plan settings (lists_of cert) faces fits.coarse fine.0 fine.1
 fits_not_fine wish plan settings auto faces (Raised first cert) fits fine =
     not_fine wish plan (with_floor settings 3) (lists_of cert) faces (fits.raised fine.0.0) fine.0.4 fine.1
 
-pub fits_not_doubled : (wish : Wish) (plan : Plan) (settings : Settings) (auto : Bool) (u v : ℕ) (cert : Cert) → IsRemeshable wish plan settings auto
+pub fits_not_doubled : (wish : Wish) (plan : Plan) (settings : Settings) (auto : Bool) (u v : ℕ) (cert : Cert)
+    → IsRemeshable wish plan settings auto
     → IsDoubledBy wish plan settings auto u v cert → ⊥
 fits_not_doubled wish plan settings auto u v cert fits by =
-    fits.undoubled by.given by.low cert.x.items (least_for plan settings (lists_of cert) by.certified) u v by.pair.doubled
+    fits.undoubled by.given by.low cert.x.items (least_for plan settings (lists_of cert) by.certified) u v
+    by.pair.doubled

@@ -3,6 +3,7 @@ pub mod Certified
 pub mod Fits
 pub mod Joined
 pub mod Keeps
+pub mod LastLines
 pub mod MarkedLines
 mod NewSoups
 pub mod Pairs

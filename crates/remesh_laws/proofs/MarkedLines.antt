@@ -1,5 +1,6 @@
 -- The lines of marked arcs: whole lines, of which none begins with `#`.
-use Rattle.std.proofs.Common.{◌≡◌, ◌+◌, ◌/◌, ◌%◌, ◌<◌, ◌≤◌, ℕ, zero, suc, Bool, true, false, List, [], ◌∷◌, ◌++◌, length, map, filter, get_or, ◌∙◌, ap, refl, arith}
+use Rattle.std.proofs.Common.{◌≡◌, ◌+◌, ◌/◌, ◌%◌, ◌<◌, ◌≤◌, ℕ, zero, suc, Bool, true, false, List, [], ◌∷◌, ◌++◌}
+use Rattle.std.proofs.Common.{length, map, filter, get_or, ◌∙◌, ap, refl, arith}
 use Rattle.std.proofs.lemmas.Bool.{and_from, cond-true, lt-ltb}
 use Rattle.std.proofs.lemmas.Bool.Decides.{nat_tests}
 use Rattle.std.proofs.lemmas.List.Folds.{list_all-append}
@@ -22,18 +23,23 @@ digit_tame : (b : ℕ) → 48 ≤ b → b ≤ 57 → is_tame b ≡ true
 digit_tame b low high = grind (arith, nat_tests)
 
 glyph_tame : (d : ℕ) → d < 10 → is_tame (digit_glyph false d) ≡ true
-glyph_tame d low = ap is_tame (cond-true (nat_lt d 10) (48 + d) (87 + d) (lt-ltb d 10 low)) ∙ digit_tame (48 + d) (omega arith) (omega (arith, low))
+glyph_tame d low = ap is_tame (cond-true (nat_lt d 10) (48 + d) (87 + d) (lt-ltb d 10 low))
+    ∙ digit_tame (48 + d) (omega arith) (omega (arith, low))
 
-digits_tame : (k n : ℕ) (behind : Bytes) → list_all is_tame behind ≡ true → list_all is_tame (digits_onto k 10 false n behind) ≡ true
+digits_tame : (k n : ℕ) (behind : Bytes) → list_all is_tame behind ≡ true
+    → list_all is_tame (digits_onto k 10 false n behind) ≡ true
 digits_tame zero n behind all = all
-digits_tame (suc k) n behind all = by_test (n / 10 == 0) more (digits_tame k (n / 10) (digit_glyph false (n % 10) ∷ behind) more)
+digits_tame (suc k) n behind all =
+    by_test (n / 10 == 0) more (digits_tame k (n / 10) (digit_glyph false (n % 10) ∷ behind) more)
   where
     more : list_all is_tame (digit_glyph false (n % 10) ∷ behind) ≡ true
-    more = and_from (is_tame (digit_glyph false (n % 10))) (list_all is_tame behind) (glyph_tame (n % 10) (omega arith)) all
+    more = and_from (is_tame (digit_glyph false (n % 10))) (list_all is_tame behind) (glyph_tame (n % 10) (omega arith))
+        all
 
     by_test : (t : Bool) → list_all is_tame (digit_glyph false (n % 10) ∷ behind) ≡ true
         → list_all is_tame (digits_onto k 10 false (n / 10) (digit_glyph false (n % 10) ∷ behind)) ≡ true
-        → list_all is_tame (if t then digit_glyph false (n % 10) ∷ behind else digits_onto k 10 false (n / 10) (digit_glyph false (n % 10) ∷ behind)) ≡ true
+        → list_all is_tame (if t then digit_glyph false (n % 10) ∷ behind else digits_onto k 10 false (n / 10)
+        (digit_glyph false (n % 10) ∷ behind)) ≡ true
     by_test true last next = last
     by_test false last next = next
 
@@ -54,7 +60,8 @@ words_tame (vertex ∷ chain) =
 pub chain_tame : (chain : List ℕ) → list_all is_tame (chain_line chain) ≡ true
 chain_tame chain = words_tame chain
 
-pub chains_inside : (chains : List (List ℕ)) (k : ℕ) → k < length (map chain_line chains) → list_all is_inside (get_or (map chain_line chains) k []) ≡ true
+pub chains_inside : (chains : List (List ℕ)) (k : ℕ) → k < length (map chain_line chains)
+    → list_all is_inside (get_or (map chain_line chains) k []) ≡ true
 chains_inside [] k low = absurd (omega (arith, low))
 chains_inside (chain ∷ chains) zero low = tame_inside (chain_line chain) (chain_tame chain)
 chains_inside (chain ∷ chains) (suc k) low = chains_inside chains k (omega (arith, low))
@@ -71,13 +78,17 @@ module _ (marks : List Bool) (plan : Plan) (new : Lengths) where
   chains_in (arc ∷ arcs) =
       if is_marked_arc marks plan arc then arc_chain (layout_of plan) new arc ∷ chains_in arcs else chains_in arcs
 
-  text_is : (arcs : List ℕ) → flat_map (arc_text marks plan new) arcs ≡ flat_map (λ l. l ++ 10 ∷ []) (map chain_line (chains_in arcs))
+  text_is : (arcs : List ℕ) → flat_map (arc_text marks plan new) arcs
+      ≡ flat_map (λ l. l ++ 10 ∷ []) (map chain_line (chains_in arcs))
   text_is [] = refl
   text_is (arc ∷ arcs) = by_test (is_marked_arc marks plan arc) (text_is arcs)
     where
-      by_test : (t : Bool) → flat_map (arc_text marks plan new) arcs ≡ flat_map (λ l. l ++ 10 ∷ []) (map chain_line (chains_in arcs))
-          → (if t then chain_text (arc_chain (layout_of plan) new arc) else []) ++ flat_map (arc_text marks plan new) arcs
-          ≡ flat_map (λ l. l ++ 10 ∷ []) (map chain_line (if t then arc_chain (layout_of plan) new arc ∷ chains_in arcs else chains_in arcs))
+      by_test : (t : Bool) → flat_map (arc_text marks plan new) arcs
+          ≡ flat_map (λ l. l ++ 10 ∷ []) (map chain_line (chains_in arcs))
+          → (if t then chain_text (arc_chain (layout_of plan) new arc) else []) ++ flat_map (arc_text marks plan new)
+          arcs
+          ≡ flat_map (λ l. l ++ 10 ∷ [])
+          (map chain_line (if t then arc_chain (layout_of plan) new arc ∷ chains_in arcs else chains_in arcs))
       by_test true same = ap (λ (t : Bytes). chain_text (arc_chain (layout_of plan) new arc) ++ t) same
       by_test false same = same
 
@@ -95,4 +106,8 @@ module _ (marks : List Bool) (plan : Plan) (new : Lengths) where
   marked_ended = ap ends_line chains_text ∙ ends_lines (map chain_line marked_chains)
 
   pub marked_silent : IsSilent (marked_text marks plan new)
-  marked_silent = record { ended = marked_ended; plain = ap (filter is_hash_line) marked_lines ∙ chains_plain marked_chains }
+  marked_silent = record {
+    ended = marked_ended;
+    plain = ap (filter is_hash_line) marked_lines
+        ∙ chains_plain marked_chains;
+  }

@@ -1,5 +1,6 @@
 -- The soup of a new mesh can be written: its coordinates are in range, and its faces are quads over few vertices.
-use Rattle.std.proofs.Common.{◌≡◌, ◌⊎◌, ℕ, zero, suc, ◌+◌, ◌-◌, ◌*◌, ◌^◌, ◌<◌, ◌≤◌, Bool, true, not, List, [], ◌∷◌, length, refl, sym, ◌∙◌, ap, subst, inl, inr, arith, pos, negsuc, neg_ℤ, ℤ, ◌≤ℤ◌}
+use Rattle.std.proofs.Common.{◌≡◌, ◌⊎◌, ℕ, zero, suc, ◌+◌, ◌-◌, ◌*◌, ◌^◌, ◌<◌, ◌≤◌, Bool, true, not, List, [], ◌∷◌}
+use Rattle.std.proofs.Common.{Option, length, refl, sym, ◌∙◌, ap, subst, inl, inr, arith, pos, negsuc, neg_ℤ, ℤ, ◌≤ℤ◌}
 use Rattle.std.specs.Prelude.{nat_lt, unsigned_abs, slice_index_or}
 use Rattle.std.specs.List.{list_all, range_with_len}
 use Rattle.std.proofs.lemmas.Bool.{and_from, and_parts, cases_lt, cond-false, cond-true, false≢true, le-ltb, lt-ltb}
@@ -32,6 +33,7 @@ use Rattle.def_text.specs.declared.limits.TheConstants.{MAX_MICRO}
 use Rattle.def_written.specs.Laws.{AreQuads}
 use Rattle.def_remesh.specs.TextLaws.{IsSolid}
 use Rattle.def_remesh.specs.declared.limits.TheConstants.{MAX_NEW_FACES}
+use Rattle.map_laws.proofs.Spaced.{spacing_is}
 use Rattle.plan_laws.proofs.Bounds.{vertices_few}
 use Rattle.plan_laws.proofs.MeshLayouts.{laid_of, lengths_of}
 use Rattle.site_laws.proofs.Laws.{graph_law}
@@ -40,7 +42,8 @@ use Rattle.written_laws.proofs.Borders.{from_is}
 use Rattle.written_laws.proofs.Numbers.{number_low}
 use Rattle.written_laws.proofs.NewDarts.{cell_is}
 use Rattle.def_remesh.specs.NewPoints.{along_arcs, inside_patches, old_vertex, point_at}
-use Rattle.def_remesh.specs.NewSoup.{coordinate, new_coordinate, new_place, new_soup}
+use Rattle.def_remesh.specs.NewSoup.{coordinate, new_coordinate, spaced_place, spaced_soup}
+use Rattle.def_remesh.specs.Spaced.{spacing_by}
 
 -- What holds at each number of a range passes.
 pub passes_range : (p : ℕ → Bool) (n : ℕ) → ((k : ℕ) → k < n → p k ≡ true) → list_all p (range_with_len 0 n) ≡ true
@@ -69,9 +72,11 @@ point_is l x v low = by_node (cases_lt v l.nodes)
 
     by_arc : l.nodes ≤ v → (v < ends) ⊎ (ends ≤ v) → IsPoint l x (point_at l x v)
     by_arc le (inl lt) =
-        subst (IsPoint l x) (sym (cond-false _ _ _ (le-ltb v l.nodes le) ∙ cond-true _ _ _ (lt-ltb v ends lt))) (on_arc (v - l.nodes) (omega (arith, le, lt)))
+        subst (IsPoint l x) (sym (cond-false _ _ _ (le-ltb v l.nodes le) ∙ cond-true _ _ _ (lt-ltb v ends lt)))
+        (on_arc (v - l.nodes) (omega (arith, le, lt)))
     by_arc le (inr ge) =
-        subst (IsPoint l x) (sym (cond-false _ _ _ (le-ltb v l.nodes le) ∙ cond-false _ _ _ (le-ltb v ends ge))) (in_patch (v - ends) (omega (arith, ge, low)))
+        subst (IsPoint l x) (sym (cond-false _ _ _ (le-ltb v l.nodes le) ∙ cond-false _ _ _ (le-ltb v ends ge)))
+        (in_patch (v - ends) (omega (arith, ge, low)))
 
     by_node : (v < l.nodes) ⊎ (l.nodes ≤ v) → IsPoint l x (point_at l x v)
     by_node (inl lt) = subst (IsPoint l x) (sym (cond-true _ _ _ (lt-ltb v l.nodes lt))) lt
@@ -89,7 +94,8 @@ by_size (negsuc a) fine = (omega (arith, ints, fine), omega (arith, ints))
 within : (z : ℤ) → not (is_far z) ≡ true → (neg_ℤ (pos MAX_MICRO) ≤ℤ z) × (z ≤ℤ pos MAX_MICRO)
 within z is = by_test (cases_lt MAX_MICRO (unsigned_abs z))
   where
-    by_test : (MAX_MICRO < unsigned_abs z) ⊎ (unsigned_abs z ≤ MAX_MICRO) → (neg_ℤ (pos MAX_MICRO) ≤ℤ z) × (z ≤ℤ pos MAX_MICRO)
+    by_test : (MAX_MICRO < unsigned_abs z) ⊎ (unsigned_abs z ≤ MAX_MICRO) → (neg_ℤ (pos MAX_MICRO) ≤ℤ z)
+        × (z ≤ℤ pos MAX_MICRO)
     by_test (inl far) = absurd (false≢true (sym (ap not (lt-ltb MAX_MICRO (unsigned_abs z) far)) ∙ is))
     by_test (inr fine) = by_size z fine
 
@@ -115,7 +121,8 @@ quads_of (face ∷ faces) all zero low = (Decides-eqb (length face) 4).0 (and_pa
 quads_of (face ∷ faces) all (suc f) low = quads_of faces (and_parts _ _ all).1 f (omega (arith, low))
 
 -- The layout of a full cut is the layout of a mesh.
-pub cut_layout : (soup : FaceSet) (marks : List Bool) (plan : Plan) → IsSolid soup → IsFullCut soup.faces marks → IsCutLayout soup.faces marks plan → IsSomeLayout plan
+pub cut_layout : (soup : FaceSet) (marks : List Bool) (plan : Plan) → IsSolid soup → IsFullCut soup.faces marks
+    → IsCutLayout soup.faces marks plan → IsSomeLayout plan
 cut_layout soup marks plan solid full cut = record {
   faces = soup.faces;
   mesh = solid.mesh;
@@ -126,39 +133,50 @@ cut_layout soup marks plan solid full cut = record {
 }
 
 -- So is the one that a traced graph cuts.
-pub mesh_layout : (soup : FaceSet) (plan : Plan) → IsSolid soup → IsCutLayout soup.faces (traced_marks soup.faces) plan → IsSomeLayout plan
-mesh_layout soup plan solid cut = cut_layout soup (traced_marks soup.faces) plan solid (graph_law soup.faces solid.mesh.manifold).1 cut
+pub mesh_layout : (soup : FaceSet) (plan : Plan) → IsSolid soup → IsCutLayout soup.faces (traced_marks soup.faces) plan
+    → IsSomeLayout plan
+mesh_layout soup plan solid cut =
+    cut_layout soup (traced_marks soup.faces) plan solid (graph_law soup.faces solid.mesh.manifold).1 cut
 
-module _ (soup : FaceSet) (solid : IsSolid soup) (plan : Plan) (is : IsSomeLayout plan) (x : Lengths) (len : AreLengths (layout_of plan) x)
+module _ (soup : FaceSet) (solid : IsSolid soup) (plan : Plan) (is : IsSomeLayout plan) (shares : Option (List ℕ))
+    (x : Lengths) (len : AreLengths (layout_of plan) x)
     (few : face_count (layout_of plan) x ≤ MAX_NEW_FACES) where
-  place_fine : (v : ℕ) → v < vertices (layout_of plan) x → is_position (new_place soup.faces plan soup.pos x v) ≡ true
+  place_fine : (v : ℕ) → v < vertices (layout_of plan) x
+      → is_position (spaced_place soup.faces plan soup.pos shares x v) ≡ true
   place_fine v low = and_from _ _ (fine 0) (and_from _ _ (fine 1) (and_from _ _ (fine 2) refl))
     where
-      fine : (axis : ℕ) → not (is_far (new_coordinate soup.faces plan soup.pos x (point_at (layout_of plan) x v) axis)) ≡ true
+      fine : (axis : ℕ) → not (is_far (new_coordinate soup.faces plan soup.pos shares x
+          (point_at (layout_of plan) x v) axis)) ≡ true
       fine axis =
-          let both = between_law (layout_of plan) (long_at plan.arcs) x (coordinate soup.faces plan soup.pos axis) (neg_ℤ (pos MAX_MICRO)) (pos MAX_MICRO)
-          (laid_of plan is) (lengths_of plan is) len
+          let both = between_law (layout_of plan) (long_at plan.arcs) x (spacing_by plan shares x)
+          (coordinate soup.faces plan soup.pos axis) (neg_ℤ (pos MAX_MICRO)) (pos MAX_MICRO)
+          (laid_of plan is) (lengths_of plan is) len (spacing_is plan is x len few shares)
           (λ a at. coordinate_within soup.pos (old_vertex soup.faces plan a) axis solid.printable.positions)
           (point_at (layout_of plan) x v) (point_is (layout_of plan) x v low) in
           near _ both.0 both.1
 
-  corner_fine : (f : ℕ) (w : Way) → f < face_count (layout_of plan) x → nat_lt (cell_vertex (layout_of plan) x f w) (2 ^ 32) ≡ true
+  corner_fine : (f : ℕ) (w : Way) → f < face_count (layout_of plan) x
+      → nat_lt (cell_vertex (layout_of plan) x f w) (2 ^ 32) ≡ true
   corner_fine f w low =
       let at : cell_vertex (layout_of plan) x f w < vertices (layout_of plan) x =
       number_low (layout_of plan) x (dart_start (layout_of plan) x (dart_of (layout_of plan) x f w))
-      (from_is (layout_of plan) x (laid_of plan is) len (dart_of (layout_of plan) x f w) (cell_is (layout_of plan) x (laid_of plan is) len f w low)) in
+      (from_is (layout_of plan) x (laid_of plan is) len (dart_of (layout_of plan) x f w)
+      (cell_is (layout_of plan) x (laid_of plan is) len f w low)) in
       lt-ltb _ _ (omega (arith, at, few, vertices_few (layout_of plan) x (laid_of plan is) len))
 
-  face_fine : (f : ℕ) → f < face_count (layout_of plan) x → list_all (λ v. nat_lt v (2 ^ 32)) (new_face (layout_of plan) x f) ≡ true
+  face_fine : (f : ℕ) → f < face_count (layout_of plan) x
+      → list_all (λ v. nat_lt v (2 ^ 32)) (new_face (layout_of plan) x f) ≡ true
   face_fine f low = and_from _ _ (corner_fine f south low) (and_from _ _ (corner_fine f east low)
       (and_from _ _ (corner_fine f north low) (and_from _ _ (corner_fine f west low) refl)))
 
-  pub printable : IsPrintable (new_soup soup plan x)
+  pub printable : IsPrintable (spaced_soup soup plan shares x)
   printable = record {
-    positions = list_all-map is_position (new_place soup.faces plan soup.pos x) (range_with_len 0 (vertices (layout_of plan) x))
+    positions = list_all-map is_position (spaced_place soup.faces plan soup.pos shares x)
+        (range_with_len 0 (vertices (layout_of plan) x))
         ∙ passes_range _ (vertices (layout_of plan) x) place_fine;
     quads = list_all-map is_quad (new_face (layout_of plan) x) (range_with_len 0 (face_count (layout_of plan) x))
         ∙ passes_range _ (face_count (layout_of plan) x) (λ f low. refl);
-    corners = list_all-map (λ face. list_all (λ v. nat_lt v (2 ^ 32)) face) (new_face (layout_of plan) x) (range_with_len 0 (face_count (layout_of plan) x))
+    corners = list_all-map (λ face. list_all (λ v. nat_lt v (2 ^ 32)) face) (new_face (layout_of plan) x)
+        (range_with_len 0 (face_count (layout_of plan) x))
         ∙ passes_range _ (face_count (layout_of plan) x) face_fine;
   }

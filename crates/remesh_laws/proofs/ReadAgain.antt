@@ -1,5 +1,7 @@
 -- What is written for a task, or for a refined mesh, is read again as the new mesh.
-use Rattle.std.proofs.Common.{◌≡◌, ◌<◌, ◌^◌, ℕ, Bool, true, false, [], ◌∷◌, ◌++◌, length, get_or, Ok, sym, ◌∙◌, ap, subst, arith, append_assoc}
+use Rattle.std.proofs.Common.{◌≡◌, ◌<◌, ◌^◌, ℕ, Bool, true, false, None, [], ◌∷◌, ◌++◌, length, get_or, Ok, sym, ◌∙◌}
+use Rattle.std.proofs.Common.{ap}
+use Rattle.std.proofs.Common.{subst, arith, append_assoc}
 use Rattle.std.specs.List.{list_all}
 use Rattle.std.proofs.lemmas.List.{append-nil}
 use Rattle.std.proofs.lemmas.Bool.{false≢true}
@@ -18,7 +20,7 @@ use Rattle.def_text.specs.FaceSet.{FaceSet}
 use Rattle.def_text.specs.Laws.{IsWritableSoup}
 use Rattle.def_text.specs.Text.{numbers_to, soup_in, text_soup}
 use Rattle.def_remesh.specs.NewPoints.{lengths_in, multiple_of}
-use Rattle.def_remesh.specs.NewSoup.{new_soup}
+use Rattle.def_remesh.specs.NewSoup.{new_soup, spaced_soup}
 use Rattle.def_remesh.specs.ReadAgain.{IsReadAgain}
 use Rattle.def_remesh.specs.Refined.{refine_head, refined_text}
 use Rattle.def_remesh.specs.Remeshed.{certificate_lines, finished_text, AreKeptBy, HasLeastLengths}
@@ -26,7 +28,8 @@ use Rattle.def_remesh.specs.Tasks.{remesh_task, Task, Wish}
 use Rattle.def_remesh.specs.TextLaws.{ReadAgainLaw}
 use Rattle.qm_certtext.proofs.Telling.{chosen_allowed}
 use Rattle.qm_obj.proofs.LawSoup.{each_both, text_back}
-use Rattle.remesh_laws.proofs.Asides.{canonical_ends, canonical_whole, cert_lines_passed, head_aside, none_aside, refine_aside}
+use Rattle.remesh_laws.proofs.Asides.{canonical_ends, canonical_whole, cert_lines_passed, head_aside, none_aside}
+use Rattle.remesh_laws.proofs.Asides.{refine_aside}
 use Rattle.remesh_laws.proofs.Joined.{lines_append}
 use Rattle.remesh_laws.proofs.NewSoups.{new_names, writable}
 use Rattle.remesh_laws.proofs.PassedOver.{passed_over}
@@ -37,47 +40,60 @@ use Rattle.plan_laws.proofs.MeshLayouts.{laid_of, lies}
 use Rattle.written_laws.proofs.Shape.{multiple_law}
 
 -- The canonical text of a soup whose vertices are numbered from 1 in order, between lines that are passed over.
-framed : (front behind : Bytes) (soup : FaceSet) → IsWritableSoup soup → soup.names ≡ numbers_to (length soup.pos) → IsAside front
+framed : (front behind : Bytes) (soup : FaceSet) → IsWritableSoup soup → soup.names ≡ numbers_to (length soup.pos)
+    → IsAside front
     → ((k : ℕ) → k < length (lines_of behind) → IsPassedOver (get_or (lines_of behind) k []))
     → soup_in (front ++ (canonical_text soup ++ behind)) ≡ Ok soup
 framed front behind soup is names before after =
     ap (text_soup 1) lines
-    ∙ passed_over (lines_of front) (lines_of (canonical_text soup)) (lines_of behind) soup before.each (canonical_whole soup is) after
+    ∙ passed_over (lines_of front) (lines_of (canonical_text soup)) (lines_of behind) soup before.each
+    (canonical_whole soup is) after
     (text_back soup is ∙ ap Ok (λ i. record { pos = soup.pos; faces = soup.faces; names = sym names i }))
   where
-    lines : lines_of (front ++ (canonical_text soup ++ behind)) ≡ lines_of front ++ (lines_of (canonical_text soup) ++ lines_of behind)
+    lines : lines_of (front ++ (canonical_text soup ++ behind)) ≡ lines_of front
+        ++ (lines_of (canonical_text soup) ++ lines_of behind)
     lines = lines_append front (canonical_text soup ++ behind) before.ended
         ∙ ap (λ (ls : Lines). lines_of front ++ ls) (lines_append (canonical_text soup) behind (canonical_ends soup))
 
 -- The lines of certificates that can be written may stand.
 pub kept_allowed : (wish : Wish) (plan : Plan) (settings : Settings) (auto : Bool) (certificates : Certificates)
-    → AreKeptBy (HasLeastLengths wish plan) plan settings auto certificates → list_all (may_stand auto) (certificate_lines auto certificates) ≡ true
-kept_allowed wish plan settings true certificates kept = chosen_allowed certificates (kept_writable wish plan settings true certificates kept)
+    → AreKeptBy (HasLeastLengths wish plan) plan settings auto certificates
+    → list_all (may_stand auto) (certificate_lines auto certificates) ≡ true
+kept_allowed wish plan settings true certificates kept =
+    chosen_allowed certificates (kept_writable wish plan settings true certificates kept)
 kept_allowed wish plan settings false (alone cert) kept = kept.writable.allowed
 kept_allowed wish plan settings false (raised first cert) kept = absurd (false≢true kept.0)
 
-module _ (soup : FaceSet) (plan : Plan) (x : Lengths) (laid : IsSurface (layout_of plan)) (len : AreLengths (layout_of plan) x) where
+module _ (soup : FaceSet) (plan : Plan) (x : Lengths) (laid : IsSurface (layout_of plan))
+    (len : AreLengths (layout_of plan) x) where
   -- The new mesh behind lines that are passed over, as that of a refined mesh.
-  pub mesh_read : (front : Bytes) → IsAside front → IsReadAgain (front ++ canonical_text (new_soup soup plan x)) (new_soup soup plan x)
+  pub mesh_read : (front : Bytes) → IsAside front → IsReadAgain (front ++ canonical_text (new_soup soup plan x))
+      (new_soup soup plan x)
   mesh_read front before is =
       ap (λ (t : Bytes). soup_in (front ++ t)) (sym (append-nil (canonical_text (new_soup soup plan x))))
-      ∙ framed front [] (new_soup soup plan x) (writable soup plan x laid len is) (new_names soup plan x laid len) before (λ k l. absurd (omega (arith, l)))
+      ∙ framed front [] (new_soup soup plan x) (writable soup plan None x laid len is)
+      (new_names soup plan None x laid len)
+      before (λ k l. absurd (omega (arith, l)))
 
 -- The text of a refined mesh.
 pub refined_read : (by : ℕ) (soup : FaceSet) (plan : Plan) → IsSomeLayout plan → 0 < by → by < 2 ^ 64
     → IsReadAgain (refined_text by soup plan) (new_soup soup plan (multiple_of by (long_at plan.arcs)))
 refined_read by soup plan is some low =
     mesh_read soup plan (multiple_of by (long_at plan.arcs)) (laid_of plan is)
-    (multiple_law is.faces (layout_of plan) (long_at plan.arcs) (vertex_at plan) (lies plan is) by some).0 (refine_head by) (refine_aside by low)
+    (multiple_law is.faces (layout_of plan) (long_at plan.arcs) (vertex_at plan) (lies plan is) by some).0
+    (refine_head by) (refine_aside by low)
 
 -- The text of a task.
 pub task_read : (task : Task) (soup : FaceSet) (plan : Plan) (certificates : Certificates) → IsSurface (layout_of plan)
-    → AreLengths (layout_of plan) (lengths_in (used certificates).x) → AreKeptBy (HasLeastLengths task.wish plan) plan task.settings task.auto certificates
+    → AreLengths (layout_of plan) (lengths_in (used certificates).x)
+    → AreKeptBy (HasLeastLengths task.wish plan) plan task.settings task.auto certificates
     → IsAside (task.head ++ 10 ∷ []) → IsAside (task.between plan (lengths_in (used certificates).x))
-    → IsReadAgain (finished_text task soup plan certificates) (new_soup soup plan (lengths_in (used certificates).x))
+    → IsReadAgain (finished_text task soup plan certificates)
+    (spaced_soup soup plan task.shares (lengths_in (used certificates).x))
 task_read task soup plan certificates laid len kept head between is =
     ap soup_in (sym (append_assoc task.head (10 ∷ []) _))
-    ∙ framed (task.head ++ 10 ∷ []) (task.between plan new ++ certs) (new_soup soup plan new) (writable soup plan new laid len is) (new_names soup plan new laid len)
+    ∙ framed (task.head ++ 10 ∷ []) (task.between plan new ++ certs) (spaced_soup soup plan task.shares new)
+    (writable soup plan task.shares new laid len is) (new_names soup plan task.shares new laid len)
     head behind
   where
     new : Lengths
@@ -86,17 +102,21 @@ task_read task soup plan certificates laid len kept head between is =
     certs : Bytes
     certs = text_of (certificate_lines task.auto certificates)
 
-    behind : (k : ℕ) → k < length (lines_of (task.between plan new ++ certs)) → IsPassedOver (get_or (lines_of (task.between plan new ++ certs)) k [])
-    behind = subst (λ (ls : Lines). (k : ℕ) → k < length ls → IsPassedOver (get_or ls k [])) (sym (lines_append (task.between plan new) certs between.ended))
+    behind : (k : ℕ) → k < length (lines_of (task.between plan new ++ certs))
+        → IsPassedOver (get_or (lines_of (task.between plan new ++ certs)) k [])
+    behind = subst (λ (ls : Lines). (k : ℕ) → k < length ls → IsPassedOver (get_or ls k []))
+        (sym (lines_append (task.between plan new) certs between.ended))
         (each_both IsPassedOver (lines_of (task.between plan new)) (lines_of certs) [] between.each
-        (cert_lines_passed task.auto (certificate_lines task.auto certificates) (kept_allowed task.wish plan task.settings task.auto certificates kept)))
+        (cert_lines_passed task.auto (certificate_lines task.auto certificates)
+        (kept_allowed task.wish plan task.settings task.auto certificates kept)))
 
 pub read_again_law : ReadAgainLaw
 read_again_law settings auto soup text range solid is few_vertices few_faces =
     ap soup_in is.written
-    ∙ task_read (remesh_task settings auto soup.faces) soup is.plan is.certificates (laid_of is.plan mesh) lengths is.lengths (head_aside settings auto range)
+    ∙ task_read (remesh_task settings auto soup.faces) soup is.plan is.certificates (laid_of is.plan mesh) lengths
+    is.lengths (head_aside settings auto range)
     none_aside (record {
-      near = (printable soup solid is.plan mesh (lengths_in (used is.certificates).x) lengths is.coarse).positions;
+      near = (printable soup solid is.plan mesh None (lengths_in (used is.certificates).x) lengths is.coarse).positions;
       few_vertices = few_vertices;
       few_faces = few_faces;
     })

@@ -1,5 +1,7 @@
 -- The text of a finished task tells its certificates, and no others.
-use Rattle.std.proofs.Common.{◌≡◌, ◌↔◌, ◌<◌, ℕ, zero, suc, Bool, true, [], ◌∷◌, ◌++◌, drop, filter, get_or, slice_index_or, refl, sym, ◌∙◌, ap, subst, arith, append_assoc}
+use Rattle.std.proofs.Common.{◌≡◌, ◌↔◌, ◌<◌, ℕ, zero, suc, Bool, true, List, Option, [], ◌∷◌, ◌++◌, drop, filter}
+use Rattle.std.proofs.Common.{get_or}
+use Rattle.std.proofs.Common.{slice_index_or, refl, sym, ◌∙◌, ap, subst, arith, append_assoc}
 use Rattle.std.specs.List.{list_all}
 use Rattle.std.proofs.lemmas.List.{append-nil}
 use Rattle.def_certtext.specs.CertLines.{text_of, used, Certificates}
@@ -12,9 +14,10 @@ use Rattle.def_io.specs.Lines.{lines_of}
 use Rattle.def_layout.specs.Plans.{Plan}
 use Rattle.def_layoutnet.specs.MeshLayouts.{IsSomeLayout}
 use Rattle.def_remesh.specs.NewPoints.{lengths_in}
-use Rattle.def_remesh.specs.NewSoup.{new_soup}
+use Rattle.def_remesh.specs.NewSoup.{spaced_soup}
 use Rattle.def_remesh.specs.ReadAgain.{ends_line}
-use Rattle.def_remesh.specs.Remeshed.{certificate_lines, finished_text, remeshed_text, text_behind_head, AreCoarse, AreKeptBy, HasLeastLengths}
+use Rattle.def_remesh.specs.Remeshed.{certificate_lines, finished_text, text_behind_head, AreCoarse}
+use Rattle.def_remesh.specs.Remeshed.{AreKeptBy, HasLeastLengths}
 use Rattle.def_remesh.specs.Tasks.{Task}
 use Rattle.def_remesh.specs.TextLaws.{made_by, IsSolid}
 use Rattle.def_text.specs.Canonical.{canonical_text}
@@ -25,11 +28,12 @@ use Rattle.qm_obj.proofs.LawText.{is_inside, lines_back}
 use Rattle.remesh_laws.proofs.Asides.{canonical_ends, ends_last}
 use Rattle.remesh_laws.proofs.Joined.{lines_append}
 use Rattle.remesh_laws.proofs.Printable.{printable}
-use Rattle.remesh_laws.proofs.Told.{kept_told, used_lengths}
+use Rattle.remesh_laws.proofs.Told.{kept_told, spaced_text, used_lengths}
 use Rattle.remesh_laws.specs.Asides.{IsSilent}
 
 -- The first line of a text.
-pub first_line : (head rest : Bytes) → list_all is_inside head ≡ true → lines_of (head ++ 10 ∷ rest) ≡ head ∷ lines_of rest
+pub first_line : (head rest : Bytes) → list_all is_inside head ≡ true → lines_of (head ++ 10 ∷ rest)
+    ≡ head ∷ lines_of rest
 first_line head rest inside =
     ap lines_of (sym (append_assoc head (10 ∷ []) rest))
     ∙ (lines_append (head ++ 10 ∷ []) rest (ends_last head) ∙ ap (λ (ls : Lines). ls ++ lines_of rest) one)
@@ -43,30 +47,39 @@ first_line head rest inside =
 
 -- Silent lines add no marked one.
 marked_around : (mesh between certs : Bytes) → ends_line mesh ≡ true → IsSilent between
-    → filter is_hash_line (lines_of (mesh ++ (between ++ certs))) ≡ filter is_hash_line (lines_of mesh) ++ filter is_hash_line (lines_of certs)
+    → filter is_hash_line (lines_of (mesh ++ (between ++ certs))) ≡ filter is_hash_line (lines_of mesh)
+    ++ filter is_hash_line (lines_of certs)
 marked_around mesh between certs ends silent =
     ap (filter is_hash_line)
-    (lines_append mesh (between ++ certs) ends ∙ ap (λ (ls : Lines). lines_of mesh ++ ls) (lines_append between certs silent.ended))
+    (lines_append mesh (between ++ certs) ends ∙ ap (λ (ls : Lines). lines_of mesh ++ ls)
+    (lines_append between certs silent.ended))
     ∙ (filter_append is_hash_line (lines_of mesh) (lines_of between ++ lines_of certs)
     ∙ ap (λ (ls : Lines). filter is_hash_line (lines_of mesh) ++ ls)
-    (filter_append is_hash_line (lines_of between) (lines_of certs) ∙ ap (λ (ls : Lines). ls ++ filter is_hash_line (lines_of certs)) silent.plain))
+    (filter_append is_hash_line (lines_of between) (lines_of certs)
+    ∙ ap (λ (ls : Lines). ls ++ filter is_hash_line (lines_of certs)) silent.plain))
 
 pub none_silent : IsSilent []
 none_silent = record { ended = refl; plain = refl }
 
-module _ (auto : Bool) (soup : FaceSet) (plan : Plan) (certificates : Certificates) where
+module _ (auto : Bool) (soup : FaceSet) (plan : Plan) (shares : Option (List ℕ)) (certificates : Certificates) where
+  abbrev mesh_text : Bytes
+  mesh_text = canonical_text (spaced_soup soup plan shares (lengths_in (used certificates).x))
+
   -- The marked lines behind a head line are those of the mesh and of the certificates.
   marked_behind : (head between : Bytes) → list_all is_inside head ≡ true → IsSilent between
-      → filter is_hash_line (drop 1 (lines_of (head ++ 10 ∷ text_behind_head between auto soup plan certificates)))
-      ≡ filter is_hash_line (lines_of (canonical_text (new_soup soup plan (lengths_in (used certificates).x))))
+      → filter is_hash_line (drop 1
+      (lines_of (head ++ 10 ∷ text_behind_head between auto soup plan shares certificates)))
+      ≡ filter is_hash_line (lines_of mesh_text)
       ++ filter is_hash_line (lines_of (text_of (certificate_lines auto certificates)))
   marked_behind head between inside silent =
-      ap (λ (ls : Lines). filter is_hash_line (drop 1 ls)) (first_line head (text_behind_head between auto soup plan certificates) inside)
-      ∙ marked_around (canonical_text (new_soup soup plan (lengths_in (used certificates).x))) between (text_of (certificate_lines auto certificates))
-      (canonical_ends (new_soup soup plan (lengths_in (used certificates).x))) silent
+      ap (λ (ls : Lines). filter is_hash_line (drop 1 ls))
+      (first_line head (text_behind_head between auto soup plan shares certificates) inside)
+      ∙ marked_around mesh_text between (text_of (certificate_lines auto certificates))
+      (canonical_ends (spaced_soup soup plan shares (lengths_in (used certificates).x))) silent
 
 -- What is told depends on the marked lines alone.
-tells_same : (head other : Bytes) (behind others : Lines) (made : Made) → head ≡ other → filter is_hash_line behind ≡ filter is_hash_line others
+tells_same : (head other : Bytes) (behind others : Lines) (made : Made) → head ≡ other → filter is_hash_line behind
+    ≡ filter is_hash_line others
     → TellHow head behind made → TellHow other others made
 tells_same head other behind others made same marked tells = record {
   settings = subst (λ (h : Bytes). IsHead h made.settings made.auto) same tells.settings;
@@ -76,25 +89,33 @@ tells_same head other behind others made same marked tells = record {
   certificates = tells.certificates;
 }
 
-module _ (task : Task) (soup : FaceSet) (plan : Plan) (certificates : Certificates) (range : AreInRange task.settings task.auto)
-    (solid : IsSolid soup) (mesh : IsSomeLayout plan) (kept : AreKeptBy (HasLeastLengths task.wish plan) plan task.settings task.auto certificates)
+module _ (task : Task) (soup : FaceSet) (plan : Plan) (certificates : Certificates)
+    (range : AreInRange task.settings task.auto)
+    (solid : IsSolid soup) (mesh : IsSomeLayout plan) (kept : AreKeptBy (HasLeastLengths task.wish plan) plan
+    task.settings task.auto certificates)
     (coarse : AreCoarse plan (used certificates).x) (inside : list_all is_inside task.head ≡ true)
     (silent : IsSilent (task.between plan (lengths_in (used certificates).x))) where
   -- A remesh with these certificates.
   abbrev like : Bytes
-  like = remeshed_text task.settings task.auto soup plan certificates
+  like = spaced_text task.settings task.auto soup plan task.shares certificates
 
-  fine : IsPrintable (new_soup soup plan (lengths_in (used certificates).x))
-  fine = printable soup solid plan mesh (lengths_in (used certificates).x) (used_lengths task.wish plan task.settings task.auto certificates range kept) coarse
+  fine : IsPrintable (spaced_soup soup plan task.shares (lengths_in (used certificates).x))
+  fine = printable soup solid plan mesh task.shares (lengths_in (used certificates).x)
+      (used_lengths task.wish plan task.settings task.auto certificates range kept) coarse
 
   head_is : slice_index_or (lines_of like) 0 [] ≡ head_line task.settings task.auto
   head_is = ap (λ (ls : Lines). slice_index_or ls 0 [])
-      (first_line (head_line task.settings task.auto) (text_behind_head [] task.auto soup plan certificates) (head_inside task.settings task.auto range))
+      (first_line (head_line task.settings task.auto) (text_behind_head [] task.auto soup plan task.shares certificates)
+      (head_inside task.settings task.auto range))
 
-  marked : filter is_hash_line (drop 1 (lines_of (finished_text task soup plan certificates))) ≡ filter is_hash_line (drop 1 (lines_of like))
+  marked : filter is_hash_line (drop 1 (lines_of (finished_text task soup plan certificates)))
+      ≡ filter is_hash_line (drop 1 (lines_of like))
   marked =
-      marked_behind task.auto soup plan certificates task.head (task.between plan (lengths_in (used certificates).x)) inside silent
-      ∙ sym (marked_behind task.auto soup plan certificates (head_line task.settings task.auto) [] (head_inside task.settings task.auto range) none_silent)
+      marked_behind task.auto soup plan task.shares certificates task.head
+      (task.between plan (lengths_in (used certificates).x))
+      inside silent
+      ∙ sym (marked_behind task.auto soup plan task.shares certificates (head_line task.settings task.auto) []
+      (head_inside task.settings task.auto range) none_silent)
 
   pub task_told : (made : Made)
       → TellHow (head_line task.settings task.auto) (drop 1 (lines_of (finished_text task soup plan certificates))) made
@@ -104,5 +125,6 @@ module _ (task : Task) (soup : FaceSet) (plan : Plan) (certificates : Certificat
     λ same. tells_same _ _ _ _ made head_is (sym marked) (told.1 same),
   )
     where
-      told : TellHow (slice_index_or (lines_of like) 0 []) (drop 1 (lines_of like)) made ↔ (made ≡ made_by task.settings task.auto certificates)
-      told = kept_told task.wish plan task.settings task.auto soup certificates range fine kept made
+      told : TellHow (slice_index_or (lines_of like) 0 []) (drop 1 (lines_of like)) made ↔ (made
+          ≡ made_by task.settings task.auto certificates)
+      told = kept_told task.wish plan task.settings task.auto soup task.shares certificates range fine kept made

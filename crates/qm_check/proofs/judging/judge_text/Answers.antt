@@ -91,6 +91,7 @@ returns-in_err-new-clause-refused c task is =
       head = c.args.ready.frame.head;
       between = c.in_ok-between.between;
       remesh = c.in_ok-checked.checked.remesh;
+      shares = c.args.ready.frame.shares;
     } in
     handed (IsTextFail (judged_by c.args.bytes.now c.args.head.line c.args.ready.cut task))
     c.from_residual-in_err-new.result
@@ -98,7 +99,7 @@ returns-in_err-new-clause-refused c task is =
     (other c.args.bytes.now c.args.head.line task c.args.ready is made told framed c.in_ok-checked.checked.deviation
     (c.in_ok-checked.ensures.checked task.wish
     (net_is c.args.bytes.now c.args.head.line task c.args.ready is made told)) refl
-    (between_is (goal.at.returns-in_err-new-clause-refused c).In_ok-between)
+    (between_is (goal.at.returns-in_err-new-clause-refused c).In_ok-between) refl
     c.in_err-new.field-0.0
     (subst (λ (given : Bytes). IsDifference given
     (framed_text framed c.args.ready.cut.soup c.args.ready.cut.plan) c.in_err-new.field-0.0)
@@ -113,9 +114,10 @@ returns-clause-finished c task is =
       head = c.args.ready.frame.head;
       between = c.in_ok-between.between;
       remesh = c.in_ok-checked.checked.remesh;
+      shares = c.args.ready.frame.shares;
     })
     c.in_ok-checked.checked.deviation
     (c.in_ok-checked.ensures.checked task.wish
     (net_is c.args.bytes.now c.args.head.line task c.args.ready is made told)) refl
-    (between_is (goal.at.returns-clause-finished c).In_ok-between)
+    (between_is (goal.at.returns-clause-finished c).In_ok-between) refl
     c.in_ok-new.new c.in_ok-new.ensures.new (sym c.written_text.ensures ∙ c.in_ok-new.ensures.same)

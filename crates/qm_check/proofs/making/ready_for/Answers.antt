@@ -1,6 +1,7 @@
-use Rattle.std.proofs.Common.{List, Bool, ℕ, Option, refl, sym, ◌∙◌, subst}
+use Rattle.std.proofs.Common.{List, Bool, ℕ, Option, refl, sym, ◌∙◌, ap, subst}
 use Rattle.error_laws.proofs.Errors.{handed}
 use Rattle.def_fit.specs.Aims.{aimed, fit_settings, AreAimedNear}
+use Rattle.def_fit.specs.Shares.{shares_of}
 use Rattle.def_flow.specs.Network.{network}
 use Rattle.def_layout.specs.Plans.{plan}
 use Rattle.def_mesh.specs.Faces.{Faces}
@@ -75,8 +76,14 @@ returns-clause-ready c command is =
       holds = record {
         laid_out =
             laid_for command c.args.line.now c.args.text.now c.args.least.now point cut asides (old_is at) (cut_is at)
-            (record { asked = c.asked_of.result; head = c.in_ok-head.head; marks = c.in_ok-asides.asides.kept })
-            c.asked_of.ensures c.in_ok-head.ensures refl;
+            (record {
+              asked = c.asked_of.result;
+              head = c.in_ok-head.head;
+              marks = c.in_ok-asides.asides.kept;
+              shares = c.in_ok-shares.shares;
+            })
+            c.asked_of.ensures c.in_ok-head.ensures refl
+            (c.in_ok-shares.ensures ∙ ap (shares_of fit cut.soup) c.deref-2.ensures.value);
         net =
             subst (λ (ws : List ℕ). IsNetFor (aimed fit.aim cut.soup ws) cut.plan (fit_settings fit)
             (network c.in_ok-net.net)) c.deref.ensures.value

@@ -1,21 +1,27 @@
-use Rattle.std.proofs.Common.{sym, subst, arith}
+use Rattle.std.proofs.Common.{◌≡◌, Some, sym, subst, arith}
+use Rattle.std.proofs.lemmas.Result.{IfErr-weaker, IfOk-weaker}
 use Rattle.error_laws.proofs.Errors.{handed}
 use Rattle.def_io.specs.Bytes.{Bytes}
 use Rattle.def_run.specs.MapFails.{IsMapFail}
 use Rattle.def_run.specs.MarkLines.{front_of, IsMarkLine}
-use Rattle.qm_check.proofs.Maps.{mapped, text_fails, unmade_fails}
-use Rattle.qm_check.specs.Least.{IsLeastLine}
-use Rattle.qm_check.specs.Making.{IsReadyFor, IsUnmade}
+use Rattle.def_run.specs.declared.command.Command.{Command}
+use Rattle.qm_check.proofs.Maps.{found, text_fails, unmade_fails}
+use Rattle.qm_check.specs.Least.{least_of, IsLeastLine}
+use Rattle.qm_check.specs.Making.{IsGivenTo, IsReadyFor, IsUnmade}
 use Rattle.qm_check.specs.Ready.{IsOld}
 use Rattle.qm_check.proofs.map.judge_least.Goals.{After-head_line, In_ok-ready}
 use Rattle.qm_check.proofs.map.judge_least.Goals as goal
 
--- The line is that of the command.
-told : (c : After-head_line) → IsLeastLine c.requires.given.0 c.head_line.result.now c.args.least.now
-told c = record {
-  mark = subst (λ (line : Bytes). IsMarkLine line c.requires.given.0) (sym c.head_line.ensures) c.requires.given.1.is;
-  finds = c.requires.given.2;
+-- The line is that of a command to which the bytes are given.
+told_by : (c : After-head_line) (command : Command) → IsGivenTo c.args.bytes.now c.args.mark c.args.old command
+    → least_of command ≡ Some c.args.least.now → IsLeastLine command c.head_line.result.now c.args.least.now
+told_by c command given finds = record {
+  mark = subst (λ (line : Bytes). IsMarkLine line command) (sym c.head_line.ensures) given.is;
+  finds = finds;
 }
+
+told : (c : After-head_line) → IsLeastLine c.requires.given.0 c.head_line.result.now c.args.least.now
+told c = told_by c c.requires.given.0 c.requires.given.1 c.requires.given.2
 
 ready_is : (c : In_ok-ready) → IsLeastLine c.requires.given.0 c.head_line.result.now c.args.least.now
     → IsReadyFor c.requires.given.0 (front_of c.args.mark.line c.args.bytes.now) c.in_ok-ready.ready
@@ -46,20 +52,22 @@ judge_text-requires-clause-ready c =
     let for = ready_is (goal.at.judge_text-requires-clause-ready c).In_ok-ready
     (told (goal.at.judge_text-requires-clause-ready c).After-head_line) in (for.task, for.holds)
 
-pub returns-in_err-finished-clause-refused : goal.returns-in_err-finished-clause-refused
-returns-in_err-finished-clause-refused c =
-    let for = ready_is (goal.at.returns-in_err-finished-clause-refused c).In_ok-ready
-    (told (goal.at.returns-in_err-finished-clause-refused c).After-head_line) in
-    handed (IsMapFail c.args.bytes.now) c.from_residual-in_err-finished.result c.in_err-finished.field-0.0
-    c.from_residual-in_err-finished.ensures.1
-    (text_fails c.args.bytes.now c.args.mark c.args.old c.requires.given.0 c.requires.given.1 c.in_ok-ready.ready for
-    c.in_ok-ready.ensures.soup
-    c.in_err-finished.field-0.0 (c.in_err-finished.ensures.refused for.task for.holds))
+pub returns-clause-found : goal.returns-clause-found
+returns-clause-found c command given finds =
+    let for = c.in_ok-ready.ensures.ready command (told_by (goal.at.returns-clause-found c).After-head_line command
+    given finds) in
+    let for_front = subst (λ (text : Bytes). IsReadyFor command text c.in_ok-ready.ready)
+    c.old_text-text.ensures.front for in
+    IfOk-weaker c.judge_text.result _ _
+    (λ finished by. found c.args.bytes.now c.args.mark c.args.old command given c.in_ok-ready.ready for_front
+    c.in_ok-ready.ensures.soup finished by)
+    (c.judge_text.ensures.finished for_front.task for_front.holds)
 
-pub returns-clause-mapped : goal.returns-clause-mapped
-returns-clause-mapped c =
-    let for = ready_is (goal.at.returns-clause-mapped c).In_ok-ready
-    (told (goal.at.returns-clause-mapped c).After-head_line) in
-    mapped c.args.bytes.now c.args.mark c.args.old c.requires.given.0 c.requires.given.1 c.in_ok-ready.ready for
-    c.in_ok-ready.ensures.soup
-    c.in_ok-finished.finished (c.in_ok-finished.ensures.finished for.task for.holds)
+pub returns-clause-refused : goal.returns-clause-refused
+returns-clause-refused c =
+    let for = ready_is (goal.at.returns-clause-refused c).In_ok-ready
+    (told (goal.at.returns-clause-refused c).After-head_line) in
+    IfErr-weaker c.judge_text.result _ _
+    (λ fail failed. text_fails c.args.bytes.now c.args.mark c.args.old c.requires.given.0 c.requires.given.1
+    c.in_ok-ready.ready for c.in_ok-ready.ensures.soup fail failed)
+    (c.judge_text.ensures.refused for.task for.holds)

@@ -3,7 +3,7 @@ use Rattle.error_laws.proofs.Errors.{handed}
 use Rattle.def_certtext.specs.Reading.{IsHead}
 use Rattle.def_flow.specs.declared.net.Settings.{Settings}
 use Rattle.def_io.specs.Bytes.{Bytes}
-use Rattle.def_run.specs.CheckFails.{IsCheckFail}
+use Rattle.def_run.specs.CheckFails.{IsPairFail}
 use Rattle.qm_check.proofs.Points.{remesh_line}
 use Rattle.qm_check.proofs.Pairs.{counted, few_arcs, no_head, no_old, text_fails, unmade_fails, IsAskedAt}
 use Rattle.def_run.specs.declared.command.Command.TheVariants.{Remesh}
@@ -26,7 +26,7 @@ asked c = record {
 
 pub returns-in_err-old-clause-refused : goal.returns-in_err-old-clause-refused
 returns-in_err-old-clause-refused c =
-    handed (IsCheckFail c.args.bytes.now) c.from_residual.result c.in_err-old.field-0.0 c.from_residual.ensures.1
+    handed (IsPairFail c.args.bytes.now) c.from_residual.result c.in_err-old.field-0.0 c.from_residual.ensures.1
     (no_old c.args.bytes.now c.old_text-text.result.now c.args.head.line c.requires.head.last
     c.old_text-text.ensures.lines c.in_err-old.field-0.0
     c.in_err-old.ensures.refused)
@@ -51,7 +51,7 @@ ready_for-requires-clause-few c = omega (arith, c.requires.few, c.old_text-text.
 
 pub returns-in_err-ready-clause-refused : goal.returns-in_err-ready-clause-refused
 returns-in_err-ready-clause-refused c =
-    handed (IsCheckFail c.args.bytes.now) c.from_residual-in_err-ready.result c.in_err-ready.field-0.0
+    handed (IsPairFail c.args.bytes.now) c.from_residual-in_err-ready.result c.in_err-ready.field-0.0
     c.from_residual-in_err-ready.ensures.1
     (unmade_fails _ _ _ _ _ _ (asked (goal.at.returns-in_err-ready-clause-refused c).In-Some) c.in_err-ready.field-0.0
     (c.in_err-ready.ensures.unmade (Remesh c.in-Some.asked.settings c.in-Some.asked.auto)
@@ -69,7 +69,7 @@ judge_text-requires-clause-ready c =
 pub returns-in_err-finished-clause-refused : goal.returns-in_err-finished-clause-refused
 returns-in_err-finished-clause-refused c =
     let for = ready_is (goal.at.returns-in_err-finished-clause-refused c).In_ok-ready in
-    handed (IsCheckFail c.args.bytes.now) c.from_residual-in_err-finished.result c.in_err-finished.field-0.0
+    handed (IsPairFail c.args.bytes.now) c.from_residual-in_err-finished.result c.in_err-finished.field-0.0
     c.from_residual-in_err-finished.ensures.1
     (text_fails _ _ _ _ _ _
     (asked (goal.at.returns-in_err-finished-clause-refused c).In-Some) c.in_ok-ready.ready for

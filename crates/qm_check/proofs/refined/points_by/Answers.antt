@@ -10,6 +10,7 @@ returns-in-Ok-clause-refined c = record {
   soup = c.in-Ok.ensures.new.0;
   plan = c.in-Ok.ensures.new.1;
   lengths = c.in-Ok.ensures.new.2;
+  shares = c.in-Ok.ensures.new.3;
   shape = c.in-Ok.ensures.shape;
   few = c.in-Ok.ensures.few;
 }
@@ -17,5 +18,6 @@ returns-in-Ok-clause-refined c = record {
 pub returns-in-Err-TooFine-clause-refused : goal.returns-in-Err-TooFine-clause-refused
 returns-in-Err-TooFine-clause-refused c =
     let t = c.args.cut.plan in
-    let told = subst (IsUnstitched (layout_of t) (multiple_of c.args.by (long_at t.arcs))) c.in-Err-TooFine.field-0-is c.in-Err-TooFine.ensures.refused in
+    let told = subst (IsUnstitched (layout_of t) (multiple_of c.args.by (long_at t.arcs))) c.in-Err-TooFine.field-0-is
+    c.in-Err-TooFine.ensures.refused in
     (told.0, omega (arith, told.0, told.1))

@@ -1,0 +1,77 @@
+-- The text of a fit: where it stands, and what is told of it.
+use Rattle.std.proofs.Common.{◌≡◌, ◌<◌, ◌^◌, ℕ, true, length, refl, sym, ◌∙◌, ap, arith}
+use Rattle.std.proofs.lemmas.Bool.{false≢true}
+use Rattle.def_flow.specs.Network.{Network}
+use Rattle.def_fit.specs.declared.fit.Fit.{Fit as AnyFit}
+use Rattle.def_io.specs.Bytes.{Bytes}
+use Rattle.def_io.specs.Lines.{lines_of, tail_of}
+use Rattle.def_layout.specs.Plans.{layout_of, Plan}
+use Rattle.def_remesh.specs.CutSoups.{Regrid}
+use Rattle.def_remesh.specs.NewPoints.{lengths_in}
+use Rattle.def_run.specs.Check.{head_of}
+use Rattle.def_run.specs.Checking.{begins_fit, HasFitText, IsCountedFit}
+use Rattle.def_run.specs.MarkLines.{begins_mark, front_of, HasNoMark, IsMarkLine}
+use Rattle.def_run.specs.declared.command.Command.{Command}
+use Rattle.def_run.specs.declared.command.Command.TheVariants.{Refine, Remesh, Crease, Size, Coarse, Fit}
+use Rattle.def_text.specs.FaceSet.{FaceSet}
+use Rattle.def_written.specs.NewFaces.{face_count}
+use Rattle.qm_certtext.specs.declared.last.HeadAt.{HeadAt}
+use Rattle.remesh_laws.proofs.LastLines.{one_last}
+use Rattle.qm_check.specs.Making.{IsFitAt, IsFound, IsGivenTo, IsMarkedAt}
+use Rattle.qm_check.specs.declared.judging.Finished.{Finished}
+
+-- Without a line that begins as a head line does there is no text of a fit.
+pub none_fits : (bytes : Bytes) → HasNoMark (lines_of bytes) → ¬ HasFitText bytes
+none_fits bytes none fit = false≢true (sym (none fit.line fit.divided.there) ∙ fit.divided.begins)
+
+-- Nor is there one where the last such line begins otherwise.
+pub other_fits : (bytes : Bytes) (mark : HeadAt) → IsMarkedAt bytes mark
+    → (begins_fit (head_of bytes mark.line) ≡ true → ⊥) → ¬ HasFitText bytes
+other_fits bytes mark marked other fit = other
+    (ap (λ n. begins_fit (head_of bytes n))
+    (one_last begins_mark (lines_of bytes) mark.line fit.line marked.last fit.divided) ∙ fit.begins)
+
+pub has_fit : (bytes : Bytes) (mark : HeadAt) → IsFitAt bytes mark → HasFitText bytes
+has_fit bytes mark is = record { line = mark.line; divided = is.marked.last; begins = is.begins }
+
+-- A line that begins as a head line of `fit` is that of no other command.
+pub only_fit : (line : Bytes) (command : Command) → begins_fit line ≡ true → IsMarkLine line command
+    → (fit : AnyFit) × (command ≡ Fit fit)
+only_fit line (Refine by) begins is = absurd (false≢true (sym (ap begins_fit is.written) ∙ begins))
+only_fit line (Remesh settings auto) begins is = absurd (false≢true (sym (ap begins_fit is.written) ∙ begins))
+only_fit line (Crease settings) begins is = absurd (false≢true (sym (ap begins_fit is.written) ∙ begins))
+only_fit line (Size edge floor) begins is = absurd (false≢true (sym (ap begins_fit is.written) ∙ begins))
+only_fit line (Coarse settings) begins is = absurd (false≢true (sym (ap begins_fit is.written) ∙ begins))
+only_fit line (Fit fit) begins is = (fit, refl)
+only_fit line _ begins is = absurd is
+
+module _ (bytes : Bytes) (mark : HeadAt) (fit : AnyFit) (finished : Finished)
+    (is : IsFound (Fit fit) (front_of mark.line bytes) (tail_of mark.line bytes) finished) where
+  plan_is : finished.new.plan ≡ is.written.shown.finished.plan
+  plan_is = ap (λ (new : Regrid). new.plan) is.new
+
+  -- Its arcs are those of the network.
+  pub few_found : length finished.new.plan.arcs < 2 ^ 32
+  few_found =
+      let long : length is.net.arcs ≡ length is.written.shown.finished.plan.arcs = is.of_layout.is.long in
+      omega (arith, ap (λ (p : Plan). length p.arcs) plan_is, long, is.of_layout.bounds.few)
+
+  -- These numbers are told of it.
+  pub counted_fit : (old : FaceSet) → IsGivenTo bytes mark old (Fit fit) → (arcs faces deviates : ℕ)
+      → arcs ≡ length finished.new.plan.arcs
+      → faces ≡ face_count (layout_of finished.new.plan) (lengths_in finished.new.lengths)
+      → deviates ≡ finished.deviation
+      → IsCountedFit bytes arcs faces deviates
+  counted_fit old given arcs faces deviates arcs_told faces_told deviates_told = record {
+    line = mark.line;
+    divided = given.marked.last;
+    fit = fit;
+    mark = given.is;
+    written = is.written;
+    arcs_told = arcs_told ∙ ap (λ (p : Plan). length p.arcs) plan_is;
+    faces_told = faces_told
+        ∙ ap (λ (new : Regrid). face_count (layout_of new.plan) (lengths_in new.lengths)) is.new;
+    net = is.net;
+    of_layout = is.of_layout.is;
+    deviation_told = deviates_told ∙ is.deviates;
+  }
