@@ -54,7 +54,7 @@ class Spot:
         """Whether what it names is among so many old vertices and faces."""
         if self.kind == "face":
             return 0 < self.numbers[0] <= faces
-        return all(0 < it <= vertices for it in self.numbers[:2 if self.kind == "edge" else 1])
+        return all(0 < it <= vertices for it in self.numbers[:1 if self.kind == "vertex" else 2])
 
 
 @dataclass(frozen=True)
@@ -65,7 +65,7 @@ class Map:
     cells: list[Cell]
 
 
-NUMBERS = {"vertex": 1, "edge": 4, "face": 4, "cell": 10}
+NUMBERS = {"vertex": 1, "edge": 4, "share": 3, "face": 4, "cell": 10}
 """How many numbers stand behind the words of a map."""
 
 
@@ -193,7 +193,9 @@ def value_at(spot: Spot, at_vertices: Layer) -> Value:
     if spot.kind == "face":
         face, corner, east, north = spot.numbers
         return at_vertices.at(4 * (face - 1) + corner - 1, east / ONE, north / ONE) or ()
-    first, last, some, parts = spot.numbers if spot.kind == "edge" else (spot.numbers[0], spot.numbers[0], 0, 1)
+    # A vertex is as far as nothing along an edge from itself; the places of a share are told in parts of `ONE`.
+    first, last, some, parts = {"vertex": (*spot.numbers * 2, 0, 1), "share": (*spot.numbers, ONE)}.get(
+        spot.kind, spot.numbers)
     return mixed((at_vertices.values[first - 1], at_vertices.values[last - 1]), (1 - some / parts, some / parts))
 
 

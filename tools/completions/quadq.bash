@@ -23,7 +23,7 @@ _quadq() {
             --keep) words="none lines" ;;
             --patches) words="traced merged conforming" ;;
             --aim) words="scale: edge: lines" ;;
-            --spacing) words="even" ;;
+            --spacing) words="even wished" ;;
             --*) words= ;;
         esac
     fi

@@ -1,5 +1,6 @@
 """The maps of small meshes, worked by hand, and what is no pair of meshes."""
 
+import os
 import pathlib
 import re
 import subprocess
@@ -11,9 +12,11 @@ from test_carry import GRID_MAP, GRID_NEW, STRIP, STRIP_MAP, STRIP_NEW, grid
 
 ROOT = pathlib.Path(__file__).resolve().parents[2]
 sys.path.insert(0, str(ROOT / "tools"))
+from layout_text import cut_options  # noqa: E402
 from make_map import map_of  # noqa: E402
 
 SCRIPT = ROOT / "tools/make_map.py"
+PROGRAM = os.environ.get("QUADQ", str(ROOT / "dist/quadq"))
 HEAD = "#quadq 1 remesh scale 2/3 floor 1 weight plain\n"
 ONE = 1 << 32
 
@@ -76,11 +79,17 @@ cell 2 1 2147483648 1431655765 4294967296 1431655765 4294967296 4294967296 21474
 """
 
 
-def mapped(old, new, status=0):
+def layout(old, new):
+    """The cut over which a command made the new mesh."""
+    words = [PROGRAM, "layout", *cut_options(new)]
+    return subprocess.run(words, input=old, capture_output=True, text=True, check=True).stdout
+
+
+def mapped(old, cut, new, status=0):
     """What the script writes, or what it says."""
     with tempfile.TemporaryDirectory() as folder:
-        paths = [pathlib.Path(folder) / name for name in ("in.obj", "out.obj")]
-        for path, text in zip(paths, (old, new)):
+        paths = [pathlib.Path(folder) / name for name in ("in.obj", "layout.txt", "out.obj")]
+        for path, text in zip(paths, (old, cut, new)):
             path.write_text(text)
         ran = subprocess.run([sys.executable, SCRIPT, *paths], capture_output=True, text=True)
     assert ran.returncode == status, ran.stderr
@@ -101,29 +110,34 @@ def places_in(text):
 
 
 class MakeMap(unittest.TestCase):
+    def setUp(self):
+        if not os.access(PROGRAM, os.X_OK):
+            self.skipTest("the program is not there")
+
     def test_a_strip_and_a_grid(self):
-        self.assertEqual(mapped(STRIP, STRIP_NEW), STRIP_MAP)
-        lengths = "#x 2\n" * 4
-        self.assertEqual(mapped(grid(), HEAD + GRID_NEW + lengths), GRID_MAP)
+        self.assertEqual(mapped(STRIP, layout(STRIP, STRIP_NEW), STRIP_NEW), STRIP_MAP)
+        new = HEAD + GRID_NEW + "#x 2\n" * 4
+        self.assertEqual(mapped(grid(), layout(grid(), new), new), GRID_MAP)
 
     def test_faces_that_are_turned(self):
-        self.assertEqual(mapped(TURNED, TURNED_NEW), TURNED_MAP)
+        self.assertEqual(mapped(TURNED, layout(TURNED, TURNED_NEW), TURNED_NEW), TURNED_MAP)
 
     def test_the_worked_rows(self):
         worked = list(rows())
-        self.assertEqual(len(worked), 10)
+        self.assertEqual(len(worked), 11)
         for name, old, new, wanted in worked:
-            self.assertEqual(map_of(old, new), wanted, name)
+            self.assertEqual(map_of(old, layout(old, new), new), wanted, name)
 
-    def test_marked_edges_are_arcs_of_crease_alone(self):
+    def test_marked_edges_are_arcs_of_a_cut_that_keeps_lines(self):
         old = "".join(f"v {x} {y} 0\n" for y in (0, 1, 2) for x in (0, 1, 2)) + (
             "f 1 2 5 4\nf 2 3 6 5\nf 4 5 8 7\nf 5 6 9 8\nl 4 5 6\n")
         new = "".join(f"v {x} {y} 0\n" for x, y in ((0, 0), (2, 0), (0, 1), (2, 1), (0, 2), (2, 2)))
         new += "f 1 2 4 3\nf 3 4 6 5\n"
-        told = mapped(old, "#quadq 1 crease scale 1/2 floor 1 weight plain\n" + new + "#x 1\n" * 7)
+        new = "#quadq 1 crease scale 1/2 floor 1 weight plain\n" + new + "#x 1\n" * 7
+        told = mapped(old, layout(old, new), new)
         self.assertIn("vertices 6 faces 2\nvertex 1\nvertex 3\nvertex 4\nvertex 6\n", told)
         self.assertIn(f"cell 2 1 -{ONE} 0 {ONE} 0 {ONE} {ONE} -{ONE} {ONE}\n", told)
-        self.assertIn("has 4 arcs, and the new one lengths for 7", mapped(old, HEAD + new + "#x 1\n" * 7, 1))
+        self.assertIn("has 4 arcs, and the new one lengths for 7", mapped(old, layout(old, HEAD), new, 1))
 
     def test_the_weights_of_the_page(self):
         code = re.search(r"^```\n(def weights.*?)^```$", (ROOT / "docs/MAP.md").read_text(), re.M | re.S)
@@ -142,7 +156,8 @@ class MakeMap(unittest.TestCase):
             (STRIP_NEW.replace("#x 1\n", "", 1), "has 4 arcs, and the new one lengths for 3"),
             (STRIP_NEW.partition("\n")[2], "does not begin with the line of a command"),
         ):
-            self.assertIn(told, mapped(STRIP, new, 1))
+            self.assertIn(told, mapped(STRIP, layout(STRIP, STRIP_NEW), new, 1))
+        self.assertIn("begins with `quadq layout 1`", mapped(STRIP, "quadq graph 1\n", STRIP_NEW, 1))
 
 
 if __name__ == "__main__":

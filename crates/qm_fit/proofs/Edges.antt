@@ -26,7 +26,12 @@ pub micro_bare : (edge : ℤ) → unsigned_abs edge ≤ 999_999_999_999_999 → 
 micro_bare edge near = plain_bare (micro_text edge) (micro_word edge near).plain
 
 -- It is a decimal with that value.
-pub written_edge : (edge : ℤ) → pos 1 ≤ℤ edge → unsigned_abs edge ≤ 999_999_999_999_999 → IsEdgeLength (micro_text edge) edge
+pub written_edge : (edge : ℤ) → pos 1 ≤ℤ edge → unsigned_abs edge ≤ 999_999_999_999_999
+    → IsEdgeLength (micro_text edge) edge
 written_edge edge low near =
     let law = canonical_law edge near in
-    record { value = (law.0, ap is_far law.1 ∙ le-ltb 999_999_999_999_999 (unsigned_abs edge) near, sym law.1); low = low }
+    record {
+      value = (law.0, ap is_far law.1 ∙ le-ltb 999_999_999_999_999 (unsigned_abs edge) near, sym law.1);
+      low =
+          low;
+    }

@@ -1,12 +1,21 @@
 -- The head line of a fit is cut into its words in one way.
-use Rattle.std.proofs.Common.{◌≡◌, ◌≤◌, ◌-◌, ℕ, true, false, List, [], ◌∷◌, ◌++◌, codes, length, length-append, take, drop, refl, ap, sym, subst, ◌∙◌, append_assoc, arith}
+use Rattle.std.proofs.Common.{◌≡◌, ◌≤◌, ◌-◌, ℕ, true, false, List, [], ◌∷◌, ◌++◌, codes, length, length-append, take}
+use Rattle.std.proofs.Common.{drop, refl, ap, sym, subst, ◌∙◌, append_assoc, arith}
 use Rattle.std.specs.Prelude.{decimal}
 use Rattle.std.proofs.lemmas.List.{append-nil, append_cancel_left, take_at}
 use Rattle.std.proofs.lemmas.Fmt.{decimal_digit}
 use Rattle.def_certtext.specs.HeadLine.{head_line}
 use Rattle.def_certtext.specs.Settings.{weight_text}
 use Rattle.def_fit.specs.Aims.{IsAim, IsFit}
-use Rattle.def_fit.specs.FitWords.{aim_text, fit_head, keep_word, patches_word, AreFitWords, IsAimWord}
+use Rattle.def_fit.specs.FitWords.{
+  aim_text,
+  fit_head,
+  keep_word,
+  patches_word,
+  spacing_word,
+  AreFitWords,
+  IsAimWord,
+}
 use Rattle.def_fit.specs.declared.fit.Aim.{Aim}
 use Rattle.def_fit.specs.declared.fit.Aim.TheVariants.{Scale, Edge, Wishes}
 use Rattle.def_fit.specs.declared.fit.Fit.{Fit}
@@ -34,7 +43,8 @@ patches_bare Merged = refl
 patches_bare Conforming = refl
 
 aim_bare : (aim : Aim) → IsAim aim → is_bare (aim_text aim) ≡ true
-aim_bare (Scale p q) is = (asked_cut [] (asked_line [] (scaled p q) false) (scaled p q) false (scale_range p q is) refl).scale_bare
+aim_bare (Scale p q) is =
+    (asked_cut [] (asked_line [] (scaled p q) false) (scaled p q) false (scale_range p q is) refl).scale_bare
 aim_bare (Edge edge) is = micro_bare edge is.1
 aim_bare Wishes is = refl
 
@@ -61,20 +71,25 @@ from_left front (part ∷ parts) = from_left (front ++ part) parts
 
 abbrev from_right : (parts : List Word) → Word
 from_right [] = []
-from_right (part ∷ parts) = part ++ from_right parts
+from_right (part ∷ []) = part
+from_right (part ∷ next ∷ parts) = part ++ from_right (next ∷ parts)
 
 regrouped : (front : Word) (parts : List Word) → from_left front parts ≡ front ++ from_right parts
 regrouped front [] = sym (append-nil front)
-regrouped front (part ∷ parts) = regrouped (front ++ part) parts ∙ append_assoc front part (from_right parts)
+regrouped front (part ∷ []) = refl
+regrouped front (part ∷ next ∷ parts) =
+    regrouped (front ++ part) (next ∷ parts) ∙ append_assoc front part (from_right (next ∷ parts))
 
 -- The head line is cut into the words of its fit.
-head_cut : (fit : Fit) → IsFit fit → IsFitCut (fit_head fit) (keep_word fit.keep) (patches_word fit.patches) (aim_text fit.aim) (decimal fit.floor)
-    (weight_text fit.weight) (codes "even")
+head_cut : (fit : Fit) → IsFit fit → IsFitCut (fit_head fit) (keep_word fit.keep) (patches_word fit.patches)
+    (aim_text fit.aim) (decimal fit.floor)
+    (weight_text fit.weight) (spacing_word fit.spacing)
 head_cut fit is = record {
   written =
       regrouped (codes "#quadq 1 fit keep ")
-      (keep_word fit.keep ∷ codes " patches " ∷ patches_word fit.patches ∷ codes " aim " ∷ aim_text fit.aim ∷ codes " floor " ∷ decimal fit.floor
-      ∷ codes " weight " ∷ weight_text fit.weight ∷ codes " spacing even" ∷ []);
+      (keep_word fit.keep ∷ codes " patches " ∷ patches_word fit.patches ∷ codes " aim " ∷ aim_text fit.aim
+      ∷ codes " floor " ∷ decimal fit.floor
+      ∷ codes " weight " ∷ weight_text fit.weight ∷ codes " spacing " ∷ spacing_word fit.spacing ∷ []);
   keep_bare = keep_bare fit.keep;
   patches_bare = patches_bare fit.patches;
   aim_bare = aim_bare fit.aim is.aim;
@@ -82,11 +97,13 @@ head_cut fit is = record {
   weight_bare = weight_bare fit.weight;
 }
 
-pub line_cut : (line : Word) (fit : Fit) → IsFit fit → line ≡ fit_head fit → IsFitCut line (keep_word fit.keep) (patches_word fit.patches) (aim_text fit.aim)
-    (decimal fit.floor) (weight_text fit.weight) (codes "even")
+pub line_cut : (line : Word) (fit : Fit) → IsFit fit → line ≡ fit_head fit
+    → IsFitCut line (keep_word fit.keep) (patches_word fit.patches) (aim_text fit.aim)
+    (decimal fit.floor) (weight_text fit.weight) (spacing_word fit.spacing)
 line_cut line fit is head =
     subst
-    (λ (l : Word). IsFitCut l (keep_word fit.keep) (patches_word fit.patches) (aim_text fit.aim) (decimal fit.floor) (weight_text fit.weight) (codes "even"))
+    (λ (l : Word). IsFitCut l (keep_word fit.keep) (patches_word fit.patches) (aim_text fit.aim) (decimal fit.floor)
+    (weight_text fit.weight) (spacing_word fit.spacing))
     (sym head) (head_cut fit is)
 
 -- What stands behind each word.
@@ -107,46 +124,62 @@ fit_front = codes "#quadq 1 fit keep "
 
 -- A line that is cut so far has these words first in each cut.
 module _ (line r0 : Word) (is : line ≡ fit_front ++ r0) where
-  behind_front : (k p a f w s : Word) → IsFitCut line k p a f w s → r0 ≡ k ++ (codes " patches " ++ (p ++ behind_patches a f w s))
+  behind_front : (k p a f w s : Word) → IsFitCut line k p a f w s
+      → r0 ≡ k ++ (codes " patches " ++ (p ++ behind_patches a f w s))
   behind_front k p a f w s cut = append_cancel_left fit_front _ _ (sym is ∙ cut.written)
 
   module _ (keep r1 : Word) (bare1 : is_bare keep ≡ true) (split1 : r0 ≡ keep ++ (codes " patches " ++ r1)) where
     at_patches : (k p a f w s : Word) → IsFitCut line k p a f w s → (keep ≡ k) × (r1 ≡ p ++ behind_patches a f w s)
-    at_patches k p a f w s cut = one_word keep k r1 _ (codes " patches ") bare1 cut.keep_bare refl (sym split1 ∙ behind_front k p a f w s cut)
+    at_patches k p a f w s cut = one_word keep k r1 _ (codes " patches ") bare1 cut.keep_bare refl (sym split1
+        ∙ behind_front k p a f w s cut)
 
-    pub no_patches : ((word rest : Word) → is_bare word ≡ true → r1 ≡ word ++ (codes " aim " ++ rest) → ⊥) → (k p a f w s : Word) → IsFitCut line k p a f w s → ⊥
+    pub no_patches : ((word rest : Word) → is_bare word ≡ true → r1 ≡ word ++ (codes " aim " ++ rest) → ⊥)
+        → (k p a f w s : Word) → IsFitCut line k p a f w s → ⊥
     no_patches none k p a f w s cut = none p _ cut.patches_bare (at_patches k p a f w s cut).1
 
     module _ (patches r2 : Word) (bare2 : is_bare patches ≡ true) (split2 : r1 ≡ patches ++ (codes " aim " ++ r2)) where
       at_aim : (k p a f w s : Word) → IsFitCut line k p a f w s → (patches ≡ p) × (r2 ≡ a ++ behind_aim f w s)
-      at_aim k p a f w s cut = one_word patches p r2 _ (codes " aim ") bare2 cut.patches_bare refl (sym split2 ∙ (at_patches k p a f w s cut).1)
+      at_aim k p a f w s cut = one_word patches p r2 _ (codes " aim ") bare2 cut.patches_bare refl (sym split2
+          ∙ (at_patches k p a f w s cut).1)
 
-      pub no_aim : ((word rest : Word) → is_bare word ≡ true → r2 ≡ word ++ (codes " floor " ++ rest) → ⊥) → (k p a f w s : Word) → IsFitCut line k p a f w s → ⊥
+      pub no_aim : ((word rest : Word) → is_bare word ≡ true → r2 ≡ word ++ (codes " floor " ++ rest) → ⊥)
+          → (k p a f w s : Word) → IsFitCut line k p a f w s → ⊥
       no_aim none k p a f w s cut = none a _ cut.aim_bare (at_aim k p a f w s cut).1
 
       module _ (aim r3 : Word) (bare3 : is_bare aim ≡ true) (split3 : r2 ≡ aim ++ (codes " floor " ++ r3)) where
         at_floor : (k p a f w s : Word) → IsFitCut line k p a f w s → (aim ≡ a) × (r3 ≡ f ++ behind_floor w s)
-        at_floor k p a f w s cut = one_word aim a r3 _ (codes " floor ") bare3 cut.aim_bare refl (sym split3 ∙ (at_aim k p a f w s cut).1)
+        at_floor k p a f w s cut = one_word aim a r3 _ (codes " floor ") bare3 cut.aim_bare refl (sym split3
+            ∙ (at_aim k p a f w s cut).1)
 
-        pub no_floor : ((word rest : Word) → is_bare word ≡ true → r3 ≡ word ++ (codes " weight " ++ rest) → ⊥) → (k p a f w s : Word) → IsFitCut line k p a f w s → ⊥
+        pub no_floor : ((word rest : Word) → is_bare word ≡ true → r3 ≡ word ++ (codes " weight " ++ rest) → ⊥)
+            → (k p a f w s : Word) → IsFitCut line k p a f w s → ⊥
         no_floor none k p a f w s cut = none f _ cut.floor_bare (at_floor k p a f w s cut).1
 
-        module _ (floor r4 : Word) (bare4 : is_bare floor ≡ true) (split4 : r3 ≡ floor ++ (codes " weight " ++ r4)) where
+        module _ (floor r4 : Word) (bare4 : is_bare floor ≡ true) (split4 : r3
+            ≡ floor ++ (codes " weight " ++ r4)) where
           at_weight : (k p a f w s : Word) → IsFitCut line k p a f w s → (floor ≡ f) × (r4 ≡ w ++ behind_weight s)
-          at_weight k p a f w s cut = one_word floor f r4 _ (codes " weight ") bare4 cut.floor_bare refl (sym split4 ∙ (at_floor k p a f w s cut).1)
+          at_weight k p a f w s cut = one_word floor f r4 _ (codes " weight ") bare4 cut.floor_bare refl (sym split4
+              ∙ (at_floor k p a f w s cut).1)
 
-          pub no_weight : ((word rest : Word) → is_bare word ≡ true → r4 ≡ word ++ (codes " spacing " ++ rest) → ⊥) → (k p a f w s : Word)
+          pub no_weight : ((word rest : Word) → is_bare word ≡ true → r4 ≡ word ++ (codes " spacing " ++ rest) → ⊥)
+              → (k p a f w s : Word)
               → IsFitCut line k p a f w s → ⊥
           no_weight none k p a f w s cut = none w _ cut.weight_bare (at_weight k p a f w s cut).1
 
-          pub cut_whole : (weight spacing : Word) → is_bare weight ≡ true → r4 ≡ weight ++ (codes " spacing " ++ spacing)
+          pub cut_whole : (weight spacing : Word) → is_bare weight ≡ true
+              → r4 ≡ weight ++ (codes " spacing " ++ spacing)
               → IsFitCut line keep patches aim floor weight spacing
           cut_whole weight spacing bare5 split5 = record {
             written =
                 is ∙ (λ i. fit_front ++ split1 i) ∙ (λ i. fit_front ++ (keep ++ (codes " patches " ++ split2 i)))
                 ∙ (λ i. fit_front ++ (keep ++ (codes " patches " ++ (patches ++ (codes " aim " ++ split3 i)))))
-                ∙ (λ i. fit_front ++ (keep ++ (codes " patches " ++ (patches ++ (codes " aim " ++ (aim ++ (codes " floor " ++ split4 i)))))))
-                ∙ (λ i. fit_front ++ (keep ++ (codes " patches " ++ (patches ++ (codes " aim " ++ (aim ++ (codes " floor " ++ (floor ++ (codes " weight " ++ split5 i)))))))));
+                ∙ (λ i. fit_front ++ (keep
+                ++ (codes " patches " ++ (patches
+                ++ (codes " aim " ++ (aim ++ (codes " floor " ++ split4 i)))))))
+                ∙ (λ i. fit_front ++ (keep
+                ++ (codes " patches " ++ (patches
+                ++ (codes " aim " ++ (aim
+                ++ (codes " floor " ++ (floor ++ (codes " weight " ++ split5 i)))))))));
             keep_bare = bare1;
             patches_bare = bare2;
             aim_bare = bare3;
@@ -155,7 +188,8 @@ module _ (line r0 : Word) (is : line ≡ fit_front ++ r0) where
           }
 
 -- A line has one cut.
-module _ (line keep patches aim floor weight spacing : Word) (one : IsFitCut line keep patches aim floor weight spacing) where
+module _ (line keep patches aim floor weight spacing : Word) (one : IsFitCut line keep patches aim floor weight
+    spacing) where
   only_words : (k p a f w s : Word) → IsFitCut line k p a f w s
       → (keep ≡ k) × (patches ≡ p) × (aim ≡ a) × (floor ≡ f) × (weight ≡ w) × (spacing ≡ s)
   only_words k p a f w s cut =
@@ -167,7 +201,8 @@ module _ (line keep patches aim floor weight spacing : Word) (one : IsFitCut lin
       (keeps.0, cuts.0, aims.0, floors.0, weights.0, weights.1)
 
   -- So the words of a head line are those of its fit, and its aim is written.
-  pub words_of : (fit : Fit) → IsFit fit → line ≡ fit_head fit → AreFitWords keep patches aim floor weight spacing fit × (aim ≡ aim_text fit.aim)
+  pub words_of : (fit : Fit) → IsFit fit → line ≡ fit_head fit → AreFitWords keep patches aim floor weight spacing fit
+      × (aim ≡ aim_text fit.aim)
   words_of fit is head =
       let same = only_words _ _ _ _ _ _ (line_cut line fit is head) in (
         record {
@@ -188,34 +223,53 @@ module _ (line keep patches aim floor weight spacing : Word) (one : IsFitCut lin
       written_aim Wishes is = refl
 
   -- And such words make its head line.
-  pub head_of : (fit : Fit) → AreFitWords keep patches aim floor weight spacing fit → aim ≡ aim_text fit.aim → line ≡ fit_head fit
+  pub head_of : (fit : Fit) → AreFitWords keep patches aim floor weight spacing fit → aim ≡ aim_text fit.aim
+      → line ≡ fit_head fit
   head_of fit words written =
       one.written
-      ∙ (λ i. fit_front ++ (words.kept i ++ (codes " patches " ++ (words.cut i ++ (codes " aim " ++ (written i ++ (codes " floor " ++ (words.bounded i
+      ∙ (λ i. fit_front ++ (words.kept i
+      ++ (codes " patches " ++ (words.cut i
+      ++ (codes " aim " ++ (written i ++ (codes " floor " ++ (words.bounded i
       ++ (codes " weight " ++ (words.weighed i ++ (codes " spacing " ++ words.spaced i)))))))))))
       ∙ sym (head_cut fit words.in_range).written
 
 -- The head line of a remesh by no scale has the least length and the weights behind its first 25 bytes, and ends.
-least_behind : (floor : ℕ) (weight : Weight) → head_line (record { p = 1; q = 1; floor = floor; weight = weight }) false ++ 10 ∷ []
-    ≡ codes "#quadq 1 remesh scale 1/1" ++ ((codes " floor " ++ decimal floor ++ codes " weight " ++ weight_text weight) ++ 10 ∷ [])
+least_behind : (floor : ℕ) (weight : Weight) → head_line (record { p = 1; q = 1; floor = floor; weight = weight }) false
+    ++ 10 ∷ []
+    ≡ codes "#quadq 1 remesh scale 1/1" ++ ((codes " floor " ++ decimal floor ++ codes " weight " ++ weight_text weight)
+    ++ 10 ∷ [])
 least_behind floor weight =
-    λ i. (codes "#quadq 1 remesh scale " ++ (decimal_digit 1 (omega arith) i ++ 47 ∷ decimal_digit 1 (omega arith) i) ++ codes " floor " ++ decimal floor
+    λ i. (codes "#quadq 1 remesh scale " ++ (decimal_digit 1 (omega arith) i ++ 47 ∷ decimal_digit 1 (omega arith) i)
+    ++ codes " floor " ++ decimal floor
     ++ codes " weight " ++ weight_text weight) ++ 10 ∷ []
 
-pub least_cut : (old head : Word) (long floor : ℕ) (weight : Weight) → head ≡ head_line (record { p = 1; q = 1; floor = floor; weight = weight }) false ++ 10 ∷ []
-    → long ≡ length head → old ++ take (long - 1 - 25) (drop 25 head) ≡ old ++ codes " floor " ++ decimal floor ++ codes " weight " ++ weight_text weight
+pub least_cut : (old head : Word) (long floor : ℕ) (weight : Weight)
+    → head ≡ head_line (record { p = 1; q = 1; floor = floor; weight = weight }) false ++ 10 ∷ []
+    → long ≡ length head → old ++ take (long - 1 - 25) (drop 25 head) ≡ old ++ codes " floor " ++ decimal floor
+    ++ codes " weight " ++ weight_text weight
 least_cut old head long floor weight is told =
     let text : Word = codes " floor " ++ decimal floor ++ codes " weight " ++ weight_text weight in
-    let same : head ≡ codes "#quadq 1 remesh scale 1/1" ++ ((codes " floor " ++ decimal floor ++ codes " weight " ++ weight_text weight) ++ 10 ∷ []) =
+    let same : head ≡ codes "#quadq 1 remesh scale 1/1"
+    ++ ((codes " floor " ++ decimal floor ++ codes " weight " ++ weight_text weight) ++ 10 ∷ []) =
     is ∙ least_behind floor weight in
     let size : long - 1 - 25 ≡ length (codes " floor " ++ decimal floor ++ codes " weight " ++ weight_text weight) =
-    omega (arith, told, ap length same, length-append (codes " floor " ++ decimal floor ++ codes " weight " ++ weight_text weight) (10 ∷ [])) in
-    ap (λ (t : Word). old ++ t) (ap (λ (t : Word). take (long - 1 - 25) (drop 25 t)) same ∙ take_at text (10 ∷ []) (long - 1 - 25) (sym size))
-    ∙ ap (λ (t : Word). old ++ t) (regrouped (codes " floor ") (decimal floor ∷ codes " weight " ∷ weight_text weight ∷ []))
+    omega (
+      arith,
+      told,
+      ap length same,
+      length-append (codes " floor " ++ decimal floor ++ codes " weight "
+          ++ weight_text weight) (10 ∷ []),
+    ) in
+    ap (λ (t : Word). old ++ t) (ap (λ (t : Word). take (long - 1 - 25) (drop 25 t)) same
+    ∙ take_at text (10 ∷ []) (long - 1 - 25) (sym size))
+    ∙ ap (λ (t : Word). old ++ t) (regrouped (codes " floor ") (decimal floor ∷ codes " weight " ∷ weight_text weight
+    ∷ []))
     ∙ sym (regrouped old (codes " floor " ∷ decimal floor ∷ codes " weight " ∷ weight_text weight ∷ []))
 
 -- A line is the head line of one fit.
-pub one_fit : (line : Word) (one two : Fit) → IsFit one → line ≡ fit_head one → IsFit two → line ≡ fit_head two → one ≡ two
+pub one_fit : (line : Word) (one two : Fit) → IsFit one → line ≡ fit_head one → IsFit two → line ≡ fit_head two
+    → one ≡ two
 one_fit line one two is first also second =
     let cut = head_cut one is in
-    same_fit _ _ _ _ _ _ one two (words_of _ _ _ _ _ _ _ cut one is refl).0 (words_of _ _ _ _ _ _ _ cut two also (sym first ∙ second)).0
+    same_fit _ _ _ _ _ _ one two (words_of _ _ _ _ _ _ _ cut one is refl).0
+    (words_of _ _ _ _ _ _ _ cut two also (sym first ∙ second)).0

@@ -4,10 +4,12 @@ use Rattle.std.specs.Prelude.{decimal}
 use Rattle.std.proofs.lemmas.Fmt.{decimal_digit}
 use Rattle.def_certtext.specs.Settings.{scale_text, AreInRange, AreWordsOf}
 use Rattle.def_fit.specs.Aims.{IsAim}
-use Rattle.def_fit.specs.FitWords.{keep_word, patches_word, AreFitWords, IsAimWord, IsEdgeLength}
+use Rattle.def_fit.specs.FitWords.{keep_word, patches_word, spacing_word, AreFitWords, IsAimWord, IsEdgeLength}
 use Rattle.def_fit.specs.declared.fit.Aim.{Aim}
 use Rattle.def_fit.specs.declared.fit.Aim.TheVariants.{Scale, Edge, Wishes}
 use Rattle.def_fit.specs.declared.fit.Fit.{Fit}
+use Rattle.def_fit.specs.declared.fit.Spacing.{Spacing}
+use Rattle.def_fit.specs.declared.fit.Spacing.TheVariants.{Even, Wished}
 use Rattle.def_flow.specs.declared.net.Settings.{Settings}
 use Rattle.def_flow.specs.declared.net.Weight.TheVariants.{Plain}
 use Rattle.def_patches.specs.declared.Keep.{Keep}
@@ -21,7 +23,7 @@ use Rattle.qm_certtext.proofs.Unique.{same_settings}
 apart : (a b : Word) → a ≡ b → get_or a 0 0 ≡ get_or b 0 0
 apart a b same = ap (λ (w : Word). get_or w 0 0) same
 
--- A word keeps one thing, and is of one kind of patches.
+-- A word keeps one thing, is of one kind of patches, and of one spacing.
 pub same_keep : (one two : Keep) → keep_word one ≡ keep_word two → one ≡ two
 same_keep Nothing Nothing same = refl
 same_keep Nothing Lines same = absurd (omega (arith, apart _ _ same))
@@ -39,6 +41,12 @@ same_patches Conforming Traced same = absurd (omega (arith, apart _ _ same))
 same_patches Conforming Merged same = absurd (omega (arith, apart _ _ same))
 same_patches Conforming Conforming same = refl
 
+pub same_spacing : (one two : Spacing) → spacing_word one ≡ spacing_word two → one ≡ two
+same_spacing Even Even same = refl
+same_spacing Even Wished same = absurd (omega (arith, apart _ _ same))
+same_spacing Wished Even same = absurd (omega (arith, apart _ _ same))
+same_spacing Wished Wished same = refl
+
 -- The settings of a scale alone, in their words.
 abbrev pub scaled : (p q : ℕ) → Settings
 scaled p q = record { p = p; q = q; floor = 1; weight = Plain }
@@ -52,11 +60,19 @@ scale_range p q is = record {
   floor = record { low = omega arith; high = omega arith; at_first = λ auto. refl };
 }
 
-scale_words : (word : Word) (p q : ℕ) → word ≡ scale_text (scaled p q) → IsAim (Scale p q) → AreWordsOf word (decimal 1) (codes "plain") (scaled p q) false
-scale_words word p q written is = record { scaled = written; bounded = refl; weighed = refl; in_range = scale_range p q is }
+scale_words : (word : Word) (p q : ℕ) → word ≡ scale_text (scaled p q) → IsAim (Scale p q)
+    → AreWordsOf word (decimal 1) (codes "plain") (scaled p q) false
+scale_words word p q written is = record {
+  scaled = written;
+  bounded = refl;
+  weighed = refl;
+  in_range =
+      scale_range p q is;
+}
 
 -- A word asks for one aim.
-pub same_aim : (word : Word) (one two : Aim) → IsAim one → IsAimWord word one → IsAim two → IsAimWord word two → one ≡ two
+pub same_aim : (word : Word) (one two : Aim) → IsAim one → IsAimWord word one → IsAim two → IsAimWord word two
+    → one ≡ two
 same_aim word (Scale a b) (Scale p q) one first two second =
     let both : scaled a b ≡ scaled p q =
     (same_settings (scale_text (scaled a b)) _ _ (scaled a b) (scaled p q) false false (scale_words _ a b refl one)
@@ -78,7 +94,8 @@ same_aim word Wishes Wishes one first two second = refl
 abbrev pub least : (fit : Fit) → Settings
 least fit = record { p = 1; q = 1; floor = fit.floor; weight = fit.weight }
 
-pub least_words : (fit : Fit) (keep patches aim floor weight spacing : Word) → AreFitWords keep patches aim floor weight spacing fit
+pub least_words : (fit : Fit) (keep patches aim floor weight spacing : Word)
+    → AreFitWords keep patches aim floor weight spacing fit
     → AreWordsOf (codes "1/1") floor weight (least fit) false
 least_words fit keep patches aim floor weight spacing words = record {
   scaled = λ i. sym (decimal_digit 1 (omega arith)) i ++ 47 ∷ sym (decimal_digit 1 (omega arith)) i;
@@ -94,12 +111,23 @@ least_words fit keep patches aim floor weight spacing words = record {
 }
 
 -- Six words ask for one fit.
-pub same_fit : (keep patches aim floor weight spacing : Word) (one two : Fit) → AreFitWords keep patches aim floor weight spacing one
+pub same_fit : (keep patches aim floor weight spacing : Word) (one two : Fit)
+    → AreFitWords keep patches aim floor weight spacing one
     → AreFitWords keep patches aim floor weight spacing two → one ≡ two
 same_fit keep patches aim floor weight spacing one two first second =
     let keeps : one.keep ≡ two.keep = same_keep _ _ (sym first.kept ∙ second.kept) in
     let cuts : one.patches ≡ two.patches = same_patches _ _ (sym first.cut ∙ second.cut) in
-    let aims : one.aim ≡ two.aim = same_aim aim one.aim two.aim first.in_range.aim first.aimed second.in_range.aim second.aimed in
+    let aims : one.aim ≡ two.aim = same_aim aim one.aim two.aim first.in_range.aim first.aimed second.in_range.aim
+    second.aimed in
     let leasts : least one ≡ least two =
-    (same_settings _ _ _ (least one) (least two) false false (least_words one _ _ _ _ _ _ first) (least_words two _ _ _ _ _ _ second)).0 in
-    λ i. record { keep = keeps i; patches = cuts i; aim = aims i; floor = (leasts i).floor; weight = (leasts i).weight }
+    (same_settings _ _ _ (least one) (least two) false false (least_words one _ _ _ _ _ _ first)
+    (least_words two _ _ _ _ _ _ second)).0 in
+    let spacings : one.spacing ≡ two.spacing = same_spacing _ _ (sym first.spaced ∙ second.spaced) in
+    λ i. record {
+      keep = keeps i;
+      patches = cuts i;
+      aim = aims i;
+      floor = (leasts i).floor;
+      weight = (leasts i).weight;
+      spacing = spacings i;
+    }

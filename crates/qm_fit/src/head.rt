@@ -2,13 +2,13 @@
 
 ghost use Rattle.std.specs.Prelude.{◌≡◌, ◌≤◌, ◌++◌, ◌∷◌, [], codes, decimal, length, IfOk, OnOk};
 ghost use Rattle.def_certtext.specs.Settings.{weight_text};
-ghost use Rattle.def_fit.specs.FitWords.{aim_text, fit_head, keep_word, patches_word};
+ghost use Rattle.def_fit.specs.FitWords.{aim_text, fit_head, keep_word, patches_word, spacing_word};
 ghost use Rattle.def_flow.specs.declared.net.Weight.{Weight as AnyWeight};
-ghost use Rattle.def_io.specs.declared.TheConstants.{LINE_FEED};
 
 use crate::Memory;
-use def_fit::{Aim, Fit, Keep, Patches};
+use def_fit::{Aim, Fit, Keep, Patches, Spacing};
 use def_flow::{Settings, Weight};
+use def_io::LINE_FEED;
 use def_text::SLASH;
 use qm_certtext::head_text;
 use qm_dec::write_micro;
@@ -27,7 +27,8 @@ pub fn fit_head(alloc: Global, fit: &Fit) -> Result<Vec<u8>, Memory>
     text.extend_from_slice(b" aim ")?;
     push_aim(&mut text, &fit.aim)?;
     push_least(alloc, &mut text, fit.floor, fit.weight)?;
-    text.extend_from_slice(b" spacing even\n")?;
+    push_spacing(&mut text, fit.spacing)?;
+    text.push(LINE_FEED)?;
     Ok(text)
 }
 
@@ -52,6 +53,24 @@ pub fn patches_word(patches: Patches) -> &'static str
         Patches::Merged => "merged",
         Patches::Conforming => "conforming",
     }
+}
+
+/// The word of how new points are spaced.
+fn spacing_word(spacing: Spacing) -> &'static str
+    ensures { result.now ≡ spacing_word spacing }
+{
+    match spacing {
+        Spacing::Even => "even",
+        Spacing::Wished => "wished",
+    }
+}
+
+/// Puts how new points are spaced at the end of a text.
+fn push_spacing(text: &mut Vec<u8>, spacing: Spacing) -> Result<(), Memory>
+    ensures { OnOk result (text.new.items ≡ text.old.items ++ codes " spacing " ++ spacing_word spacing) }
+{
+    text.extend_from_slice(b" spacing ")?;
+    text.extend_from_slice(spacing_word(spacing).as_bytes())
 }
 
 /// Puts an aim at the end of a text.

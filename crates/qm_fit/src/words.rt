@@ -3,15 +3,16 @@
 ghost use Rattle.std.specs.Prelude.{◌≡◌, ◌++◌, false, codes, MatchOption};
 ghost use Rattle.def_certtext.specs.Settings.{AreWordsOf};
 ghost use Rattle.def_fit.specs.Aims.{IsAim};
-ghost use Rattle.def_fit.specs.FitWords.{keep_word, patches_word, AreFitWords, IsAimWord};
+ghost use Rattle.def_fit.specs.FitWords.{keep_word, patches_word, spacing_word, AreFitWords, IsAimWord};
 ghost use Rattle.def_fit.specs.declared.fit.Aim.{Aim as AnyAim};
 ghost use Rattle.def_fit.specs.declared.fit.Fit.{Fit as AnyFit};
+ghost use Rattle.def_fit.specs.declared.fit.Spacing.{Spacing as AnySpacing};
 ghost use Rattle.def_flow.specs.declared.net.Settings.{Settings as AnySettings};
 ghost use Rattle.def_patches.specs.declared.Keep.{Keep as AnyKeep};
 ghost use Rattle.def_patches.specs.declared.Patches.{Patches as AnyPatches};
 
 use crate::edge::read_edge;
-use def_fit::{Aim, Fit, Keep, Patches};
+use def_fit::{Aim, Fit, Keep, Patches, Spacing};
 use def_flow::Settings;
 use qm_certtext::read_settings;
 use qm_dec::read_ratio;
@@ -35,9 +36,6 @@ pub fn read_fit(words: &FitWords) -> Option<Fit>
         (AreFitWords words.now.keep.now words.now.patches.now words.now.aim.now words.now.floor.now
         words.now.weight.now words.now.spacing.now) }
 {
-    if words.spacing != b"even".as_slice() {
-        return None;
-    }
     let Some(keep) = read_keep(words.keep) else {
         return None;
     };
@@ -50,12 +48,16 @@ pub fn read_fit(words: &FitWords) -> Option<Fit>
     let Some(settings) = read_least(words.floor, words.weight) else {
         return None;
     };
+    let Some(spacing) = read_spacing(words.spacing) else {
+        return None;
+    };
     Some(Fit {
         keep,
         patches,
         aim,
         floor: settings.floor,
         weight: settings.weight,
+        spacing,
     })
 }
 
@@ -80,6 +82,18 @@ pub fn read_patches(word: &[u8]) -> Option<Patches>
         b"traced" => Some(Patches::Traced),
         b"merged" => Some(Patches::Merged),
         b"conforming" => Some(Patches::Conforming),
+        _ => None,
+    }
+}
+
+/// How new points are spaced.
+fn read_spacing(word: &[u8]) -> Option<Spacing>
+    ensures { MatchOption result ((spacing : AnySpacing) → ¬ (word.now ≡ spacing_word spacing))
+        (λ spacing. word.now ≡ spacing_word spacing) }
+{
+    match word {
+        b"even" => Some(Spacing::Even),
+        b"wished" => Some(Spacing::Wished),
         _ => None,
     }
 }

@@ -52,9 +52,18 @@ few_arcs t is = omega (
 pub settings_fit : (fit : Fit) → IsFit fit → AreSettings (fit_settings fit)
 settings_fit fit is =
     let scale = by_aim fit.aim is.aim in
-    record { p_low = scale.0; p_high = scale.1; q_low = scale.2; q_high = scale.3; floor_low = is.low; floor_high = is.high }
+    record {
+      p_low = scale.0;
+      p_high = scale.1;
+      q_low = scale.2;
+      q_high = scale.3;
+      floor_low = is.low;
+      floor_high =
+          is.high;
+    }
   where
-    by_aim : (aim : Aim) → IsAim aim → (1 ≤ numerator aim) × (numerator aim ≤ 1000) × (1 ≤ denominator aim) × (denominator aim ≤ 1000)
+    by_aim : (aim : Aim) → IsAim aim → (1 ≤ numerator aim) × (numerator aim ≤ 1000) × (1 ≤ denominator aim)
+        × (denominator aim ≤ 1000)
     by_aim (Scale p q) range = range
     by_aim (Edge edge) range = (omega arith, omega arith, omega arith, omega arith)
     by_aim Wishes range = (omega arith, omega arith, omega arith, omega arith)
@@ -63,7 +72,8 @@ settings_fit fit is =
 abbrev along : (f : List ℕ → ℕ) → Wish
 along f p arc = f (path_at p.arcs arc).darts
 
-aimed_along : (aim : Aim) (soup : FaceSet) (wishes : List ℕ) → along (wish_along aim soup wishes) ≡ aimed aim soup wishes
+aimed_along : (aim : Aim) (soup : FaceSet) (wishes : List ℕ) → along (wish_along aim soup wishes)
+    ≡ aimed aim soup wishes
 aimed_along (Scale p q) soup wishes = refl
 aimed_along (Edge edge) soup wishes = refl
 aimed_along Wishes soup wishes = refl
@@ -72,11 +82,14 @@ module _ (t : TMesh) (f : List ℕ → ℕ) (settings : Settings) (lies : IsSome
   laid : IsSurface (layout_of (plan t))
   laid = laid_of (plan t) lies
 
-  module _ (net : Network) (is : IsNetOf (layout_of (plan t)) (long_at (plan t).arcs) (long_at (plan t).arcs) settings net) (small : tangle_number net ≤ MAX_TANGLE) where
+  module _ (net : Network) (is : IsNetOf (layout_of (plan t)) (long_at (plan t).arcs) (long_at (plan t).arcs) settings
+      net) (small : tangle_number net ≤ MAX_TANGLE) where
     -- It is not too tangled, and the wishes are too great.
-    too_far : (sum : ℕ) → sum ≡ count (λ (run : TArc). f run.darts.items) t.arcs.items → MAX_TARGETS < sum → IsFar (along f) (plan t) settings sum
+    too_far : (sum : ℕ) → sum ≡ count (λ (run : TArc). f run.darts.items) t.arcs.items → MAX_TARGETS < sum
+        → IsFar (along f) (plan t) settings sum
     too_far sum told high = record {
-      untangled = untangled_for (layout_of (plan t)) (long_at (plan t).arcs) (along f (plan t)) settings net laid is small;
+      untangled = untangled_for (layout_of (plan t)) (long_at (plan t).arcs) (along f (plan t)) settings net laid is
+          small;
       told = told ∙ sum_is f t.arcs.items;
       high = high;
     }
@@ -102,7 +115,8 @@ module _ (t : TMesh) (f : List ℕ → ℕ) (settings : Settings) (lies : IsSome
 
         entry : (k : ℕ) → k < length net.arcs → slice_index wishes k ≡ along f (plan t) k
         entry k l =
-            ap (λ (ws : List ℕ). slice_index ws k) are ∙ whole_entry f (2 ^ 32 - 1) t.arcs.items k (inner k l) (omega (arith, few))
+            ap (λ (ws : List ℕ). slice_index ws k) are ∙ whole_entry f (2 ^ 32 - 1) t.arcs.items k (inner k l)
+            (omega (arith, few))
 
         exact : HasWishes net (along f (plan t)) new
         exact = record {
@@ -115,18 +129,21 @@ module _ (t : TMesh) (f : List ℕ → ℕ) (settings : Settings) (lies : IsSome
         }
 
 -- Old lengths are few, and other wishes are near where their sum is.
-near_aims : (aim : Aim) (soup : FaceSet) (wishes : List ℕ) (p : Plan) → wish_sum (aimed aim soup wishes) p ≤ MAX_TARGETS → AreAimedNear aim (aimed aim soup wishes) p
+near_aims : (aim : Aim) (soup : FaceSet) (wishes : List ℕ) (p : Plan) → wish_sum (aimed aim soup wishes) p ≤ MAX_TARGETS
+    → AreAimedNear aim (aimed aim soup wishes) p
 near_aims (Scale a b) soup wishes p few = tt
 near_aims (Edge edge) soup wishes p few = few
 near_aims Wishes soup wishes p few = few
 
-far_aims : (aim : Aim) (soup : FaceSet) (wishes : List ℕ) (p : Plan) → IsSomeLayout p → MAX_TARGETS < wish_sum (aimed aim soup wishes) p
+far_aims : (aim : Aim) (soup : FaceSet) (wishes : List ℕ) (p : Plan) → IsSomeLayout p
+    → MAX_TARGETS < wish_sum (aimed aim soup wishes) p
     → AreAimedNear aim (aimed aim soup wishes) p → ⊥
 far_aims (Scale a b) soup wishes p lies high near = omega (arith, high, lengths_few p lies, lies.mesh.few)
 far_aims (Edge edge) soup wishes p lies high near = omega (arith, high, near)
 far_aims Wishes soup wishes p lies high near = omega (arith, high, near)
 
-module _ (aim : Aim) (soup : FaceSet) (wishes : List ℕ) (t : TMesh) (p : Plan) (same : plan t ≡ p) (settings : Settings) (lies : IsSomeLayout p) where
+module _ (aim : Aim) (soup : FaceSet) (wishes : List ℕ) (t : TMesh) (p : Plan) (same : plan t ≡ p) (settings : Settings)
+    (lies : IsSomeLayout p) where
   abbrev f : List ℕ → ℕ
   f = wish_along aim soup wishes
 
@@ -135,20 +152,25 @@ module _ (aim : Aim) (soup : FaceSet) (wishes : List ℕ) (t : TMesh) (p : Plan)
 
   -- What holds of the wishes arc by arc and of the layout holds of what is aimed at.
   moved : (P : Wish → Plan → Type 0) → P (along f) (plan t) → P (aimed aim soup wishes) p
-  moved P holds = subst (λ (q : Plan). P (aimed aim soup wishes) q) same (subst (λ (w : Wish). P w (plan t)) (aimed_along aim soup wishes) holds)
+  moved P holds = subst (λ (q : Plan). P (aimed aim soup wishes) q) same
+      (subst (λ (w : Wish). P w (plan t)) (aimed_along aim soup wishes) holds)
 
-  sum_of : (sum : ℕ) → sum ≡ count (λ (run : TArc). f run.darts.items) t.arcs.items → sum ≡ wish_sum (aimed aim soup wishes) p
+  sum_of : (sum : ℕ) → sum ≡ count (λ (run : TArc). f run.darts.items) t.arcs.items
+      → sum ≡ wish_sum (aimed aim soup wishes) p
   sum_of sum told = moved (λ w q. sum ≡ wish_sum w q) (told ∙ sum_is f t.arcs.items)
 
   -- It has no network.
-  pub no_net : (fail : NetFail) → HasNoNet (layout_of (plan t)) (long_at (plan t).arcs) (long_at (plan t).arcs) settings fail
+  pub no_net : (fail : NetFail) → HasNoNet (layout_of (plan t)) (long_at (plan t).arcs) (long_at (plan t).arcs) settings
+      fail
       → IsFitFail aim (aimed aim soup wishes) p settings (size_fail_of (metric_fail_of fail))
   no_net (nets.Tangled number) is =
       moved (λ w q. IsTangledAt w q settings number)
-      (tangled_for (layout_of (plan t)) (long_at (plan t).arcs) (along f (plan t)) settings number (laid_of (plan t) there) is)
+      (tangled_for (layout_of (plan t)) (long_at (plan t).arcs) (along f (plan t)) settings number
+      (laid_of (plan t) there) is)
   no_net nets.Memory is = tt
 
-  module _ (net : Network) (is : IsNetOf (layout_of (plan t)) (long_at (plan t).arcs) (long_at (plan t).arcs) settings net) (small : tangle_number net ≤ MAX_TANGLE) where
+  module _ (net : Network) (is : IsNetOf (layout_of (plan t)) (long_at (plan t).arcs) (long_at (plan t).arcs) settings
+      net) (small : tangle_number net ≤ MAX_TANGLE) where
     pub far : (sum : ℕ) → sum ≡ count (λ (run : TArc). f run.darts.items) t.arcs.items → MAX_TARGETS < sum
         → IsFitFail aim (aimed aim soup wishes) p settings (size_fail_of (Far sum))
     far sum told high = (
@@ -156,7 +178,8 @@ module _ (aim : Aim) (soup : FaceSet) (wishes : List ℕ) (t : TMesh) (p : Plan)
       moved (λ w q. IsFar w q settings sum) (too_far t f settings there net is small sum told high),
     )
 
-    module _ (sum : ℕ) (told : sum ≡ count (λ (run : TArc). f run.darts.items) t.arcs.items) (low : sum ≤ MAX_TARGETS) where
+    module _ (sum : ℕ) (told : sum ≡ count (λ (run : TArc). f run.darts.items) t.arcs.items)
+        (low : sum ≤ MAX_TARGETS) where
       pub near : AreAimedNear aim (aimed aim soup wishes) p
       near = near_aims aim soup wishes p (omega (arith, low, sum_of sum told))
 
@@ -165,13 +188,17 @@ module _ (aim : Aim) (soup : FaceSet) (wishes : List ℕ) (t : TMesh) (p : Plan)
           → HasWishes net (slice_index found) new → IsNetFor (aimed aim soup wishes) p settings new
       net_is new found floor bounds are has =
           moved (λ w q. IsNetFor w q settings new)
-          (wished_net t f settings there net is small new found floor bounds are (omega (arith, low, told, sum_is f t.arcs.items)) has)
+          (wished_net t f settings there net is small new found floor bounds are
+          (omega (arith, low, told, sum_is f t.arcs.items)) has)
 
     -- The network near the old lengths is the one that it was.
-    pub even_is : (new : Network) (a b : ℕ) → aim ≡ Scale a b → IsNetFor (aimed aim soup wishes) p settings new → IsEven net → IsEven new
+    pub even_is : (new : Network) (a b : ℕ) → aim ≡ Scale a b → IsNetFor (aimed aim soup wishes) p settings new
+        → IsEven net → IsEven new
     even_is new a b scale for even =
         let old : IsNetOf (layout_of p) (long_at p.arcs) (long_at p.arcs) settings new =
-        subst (λ (aim : Aim). IsNetOf (layout_of p) (long_at p.arcs) (aimed aim soup wishes p) settings new) scale for.is in
+        subst (λ (aim : Aim). IsNetOf (layout_of p) (long_at p.arcs) (aimed aim soup wishes p) settings new) scale
+        for.is in
         let here : IsNetOf (layout_of p) (long_at p.arcs) (long_at p.arcs) settings net =
         subst (λ (q : Plan). IsNetOf (layout_of q) (long_at q.arcs) (long_at q.arcs) settings net) same is in
-        subst IsEven (one_net_law (layout_of p) (long_at p.arcs) (long_at p.arcs) settings (laid_of p lies) net new here old) even
+        subst IsEven (one_net_law (layout_of p) (long_at p.arcs) (long_at p.arcs) settings (laid_of p lies) net new here
+        old) even

@@ -1,5 +1,6 @@
 -- What is read of the arcs of a layout: their darts, and the sum and the entries of a list of targets.
-use Rattle.std.proofs.Common.{◌≡◌, ℕ, zero, suc, ◌+◌, ◌*◌, ◌<◌, ◌≤◌, List, [], ◌∷◌, ◌++◌, take, length, map, get_or, refl, sym, ap, ◌∙◌, subst, arith}
+use Rattle.std.proofs.Common.{◌≡◌, ℕ, zero, suc, ◌+◌, ◌*◌, ◌<◌, ◌≤◌, List, [], ◌∷◌, ◌++◌, take, length, map, get_or}
+use Rattle.std.proofs.Common.{refl, sym, ap, ◌∙◌, subst, arith}
 use Rattle.std.specs.Prelude.{min, slice_index}
 use Rattle.std.specs.List.{All}
 use Rattle.std.proofs.lemmas.List.{get_or_default, get_or-map, length-map, map-append, take_more}
@@ -15,29 +16,40 @@ use Rattle.table_laws.proofs.Ranges.{part_low}
 use Rattle.qm_layoutnet.proofs.Whole.{arc_inside}
 
 -- The darts of all arcs are darts of the mesh.
-pub runs_inside : (t : TMesh) (is : IsSomeLayout (plan t)) → All (λ (run : TArc). All (λ (d : ℕ). d < darts is.faces) run.darts.items) t.arcs.items
+pub runs_inside : (t : TMesh) (is : IsSomeLayout (plan t))
+    → All (λ (run : TArc). All (λ (d : ℕ). d < darts is.faces) run.darts.items) t.arcs.items
 runs_inside t is k run low j d less =
     let none : Path = record { first = 0; last = 0; darts = [] } in
-    let same : path_at (plan t).arcs k ≡ path (get_or t.arcs.items k run) = get_or-map path t.arcs.items k run none low in
-    let here : dart_at (plan t).arcs k j ≡ get_or (get_or t.arcs.items k run).darts.items j 0 = ap (λ (p : Path). slice_index p.darts j) same in
-    let long : long_at (plan t).arcs k ≡ length (get_or t.arcs.items k run).darts.items = ap (λ (p : Path). length p.darts) same in
+    let same : path_at (plan t).arcs k ≡ path (get_or t.arcs.items k run) =
+    get_or-map path t.arcs.items k run none low in
+    let here : dart_at (plan t).arcs k j ≡ get_or (get_or t.arcs.items k run).darts.items j 0 =
+    ap (λ (p : Path). slice_index p.darts j) same in
+    let long : long_at (plan t).arcs k ≡ length (get_or t.arcs.items k run).darts.items =
+    ap (λ (p : Path). length p.darts) same in
     subst (λ (e : ℕ). e < darts is.faces) (here ∙ get_or_default (get_or t.arcs.items k run).darts.items j 0 d less)
     (arc_inside (plan t) is k j (omega (arith, low, length-map t.arcs.items path)) (omega (arith, less, long)))
 
 -- A sum along the arcs is one over their numbers.
-pub sum_is : (f : List ℕ → ℕ) (runs : List TArc) → count (λ (run : TArc). f run.darts.items) runs ≡ count_below (λ a. f (path_at (map path runs) a).darts) (length (map path runs))
+pub sum_is : (f : List ℕ → ℕ) (runs : List TArc) → count (λ (run : TArc). f run.darts.items) runs
+    ≡ count_below (λ a. f (path_at (map path runs) a).darts) (length (map path runs))
 sum_is f [] = refl
-sum_is f (run ∷ runs) = omega (arith, sum_is f runs, count_below_prefix (λ a. f (path_at (map path (run ∷ runs)) a).darts) (length (map path runs)))
+sum_is f (run ∷ runs) = omega (
+  arith,
+  sum_is f runs,
+  count_below_prefix (λ a. f (path_at (map path (run ∷ runs)) a).darts) (length (map path runs)),
+)
 
 -- An entry of a list of numbers that are cut off at a bound.
 entry_is : (f : List ℕ → ℕ) (most : ℕ) (runs : List TArc) (a : ℕ) → a < length runs
-    → slice_index (map (λ (run : TArc). min (f run.darts.items) most) runs) a ≡ min (f (path_at (map path runs) a).darts) most
+    → slice_index (map (λ (run : TArc). min (f run.darts.items) most) runs) a
+    ≡ min (f (path_at (map path runs) a).darts) most
 entry_is f most [] a low = absurd (omega arith)
 entry_is f most (run ∷ runs) zero low = refl
 entry_is f most (run ∷ runs) (suc a) low = entry_is f most runs a (omega arith)
 
 -- None is cut off where the sum is small.
-pub whole_entry : (f : List ℕ → ℕ) (most : ℕ) (runs : List TArc) (a : ℕ) → a < length (map path runs) → count_below (λ b. f (path_at (map path runs) b).darts) (length (map path runs)) ≤ most
+pub whole_entry : (f : List ℕ → ℕ) (most : ℕ) (runs : List TArc) (a : ℕ) → a < length (map path runs)
+    → count_below (λ b. f (path_at (map path runs) b).darts) (length (map path runs)) ≤ most
     → slice_index (map (λ (run : TArc). min (f run.darts.items) most) runs) a ≡ f (path_at (map path runs) a).darts
 whole_entry f most runs a low small =
     omega (
@@ -48,12 +60,15 @@ whole_entry f most runs a low small =
     )
 
 -- Lengths of arcs, so many times.
-pub times_same : (times : ℕ) (runs : List TArc) → map (λ (run : TArc). times * length run.darts.items) runs ≡ map (λ (p : Path). times * length p.darts) (map path runs)
+pub times_same : (times : ℕ) (runs : List TArc) → map (λ (run : TArc). times * length run.darts.items) runs
+    ≡ map (λ (p : Path). times * length p.darts) (map path runs)
 times_same times [] = refl
 times_same times (run ∷ runs) = ap (λ (ns : List ℕ). times * length run.darts.items ∷ ns) (times_same times runs)
 
 -- One entry more of a list that follows the arcs.
-pub entry_more : (g : TArc → ℕ) (runs : List TArc) (i : ℕ) (d : TArc) (xs new : List ℕ) (n : ℕ) → i < length runs → xs ≡ map g (take i runs) → n ≡ g (get_or runs i d)
+pub entry_more : (g : TArc → ℕ) (runs : List TArc) (i : ℕ) (d : TArc) (xs new : List ℕ) (n : ℕ) → i < length runs
+    → xs ≡ map g (take i runs) → n ≡ g (get_or runs i d)
     → new ≡ xs ++ n ∷ [] → new ≡ map g (take (i + 1) runs)
 entry_more g runs i d xs new n low before here pushed =
-    pushed ∙ (λ j. before j ++ here j ∷ []) ∙ sym (map-append g (take i runs) (get_or runs i d ∷ [])) ∙ sym (ap (map g) (take_more runs i d low))
+    pushed ∙ (λ j. before j ++ here j ∷ []) ∙ sym (map-append g (take i runs) (get_or runs i d ∷ []))
+    ∙ sym (ap (map g) (take_more runs i d low))

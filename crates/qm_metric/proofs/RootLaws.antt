@@ -10,7 +10,12 @@ use Rattle.def_metric.specs.Roots.{doubled_root, root_of, root_within, IsRoot, W
 upto : (n r s : ℕ) → r * r ≤ n → n < (s + 1) * (s + 1) → r ≤ s
 upto n r s low high = elim (leb_tells r s) [
   | inl le ↦ le.1
-  | inr more ↦ absurd (omega (arith, mul-le (s + 1) (s + 1) r r (omega (arith, more.1)) (omega (arith, more.1)), low, high))
+  | inr more ↦ absurd (omega (
+    arith,
+    mul-le (s + 1) (s + 1) r r (omega (arith, more.1)) (omega (arith, more.1)),
+    low,
+    high,
+  ))
 ]
 
 -- Roots are equal.
@@ -32,7 +37,9 @@ more n r is = by_test (nat_le ((2 * r + 1) * (2 * r + 1)) n) refl (leb_tells ((2
 
 within : (digits n : ℕ) → n < 4 ^ digits → IsRoot n (root_within digits n)
 within zero n low = record { low = omega arith; high = omega arith }
-within (suc digits) n low = more n (root_within digits (n / 4)) (within digits (n / 4) (quarter (4 ^ digits) (subst (λ m. n < m) (pow-succ' 4 digits) low)))
+within (suc digits) n low =
+    more n (root_within digits (n / 4))
+    (within digits (n / 4) (quarter (4 ^ digits) (subst (λ m. n < m) (pow-succ' 4 digits) low)))
   where
     quarter : (m : ℕ) → n < 4 * m → n / 4 < m
     quarter m less = omega arith

@@ -1,5 +1,6 @@
 -- The network of a layout with other wishes is within bounds, and as tangled as it was.
-use Rattle.std.proofs.Common.{◌≡◌, ℕ, zero, suc, ◌*◌, ◌<◌, ◌≤◌, ◌==◌, Bool, true, ◌&&◌, cond, List, [], ◌∷◌, length, nat_le}
+use Rattle.std.proofs.Common.{◌≡◌, ℕ, zero, suc, ◌*◌, ◌<◌, ◌≤◌, ◌==◌, Bool, true, ◌&&◌, cond, List, [], ◌∷◌, length}
+use Rattle.std.proofs.Common.{nat_le}
 use Rattle.std.proofs.Common.{refl, sym, ap, ◌∙◌, arith}
 use Rattle.std.specs.Prelude.{nat_lt}
 use Rattle.std.specs.List.{list_all}
@@ -25,7 +26,8 @@ module _ (net : Network) (wish : Lengths) (new : Network) (has : HasWishes net w
   degree_same : (v : ℕ) → degree new.arcs v ≡ degree net.arcs v
   degree_same v =
       count_at at_v new.arcs ∙ ap (count_below (λ k. at_v (arc_at new.arcs k))) has.long
-      ∙ count_below_same (λ k. at_v (arc_at new.arcs k)) (λ k. at_v (arc_at net.arcs k)) (length net.arcs) (λ k l. ap at_v (has.arcs k l))
+      ∙ count_below_same (λ k. at_v (arc_at new.arcs k)) (λ k. at_v (arc_at net.arcs k)) (length net.arcs)
+      (λ k l. ap at_v (has.arcs k l))
       ∙ sym (count_at at_v net.arcs)
     where
       at_v : Arc → ℕ
@@ -34,7 +36,8 @@ module _ (net : Network) (wish : Lengths) (new : Network) (has : HasWishes net w
   pub tangle_same : tangle_number new ≡ tangle_number net
   tangle_same =
       ap (count_below (λ v. 16 * (degree new.arcs v * degree new.arcs v))) has.nodes
-      ∙ count_below_same (λ v. 16 * (degree new.arcs v * degree new.arcs v)) (λ v. 16 * (degree net.arcs v * degree net.arcs v)) net.nodes
+      ∙ count_below_same (λ v. 16 * (degree new.arcs v * degree new.arcs v))
+      (λ v. 16 * (degree net.arcs v * degree net.arcs v)) net.nodes
       (λ v l. ap (λ (d : ℕ). 16 * (d * d)) (degree_same v))
 
   -- Wishes within the bound leave the network within bounds.
@@ -51,7 +54,8 @@ module _ (net : Network) (wish : Lengths) (new : Network) (has : HasWishes net w
   }
     where
       bounded : (k : ℕ) → k < length net.arcs → is_bounded new.nodes (arc_at new.arcs k) ≡ true
-      bounded k l = ap (is_bounded new.nodes) (has.arcs k l) ∙ ap (λ (n : ℕ). is_bounded n (with_wish (wish k) a)) has.nodes ∙ kept
+      bounded k l = ap (is_bounded new.nodes) (has.arcs k l) ∙ ap (λ (n : ℕ). is_bounded n (with_wish (wish k) a))
+          has.nodes ∙ kept
         where
           a : Arc
           a = arc_at net.arcs k
@@ -60,13 +64,16 @@ module _ (net : Network) (wish : Lengths) (new : Network) (has : HasWishes net w
           kept =
               let a : Arc = arc_at net.arcs k in
               let all : Bool = list_all (λ (e : End). nat_lt e.node net.nodes) (ends a) in
-              let parts = and_parts (nat_le 1 a.weight && nat_le a.weight MAX_WEIGHT && nat_le a.old MAX_OLD) all (arc_bounded net b k l) in
-              let weights = and_parts (nat_le 1 a.weight && nat_le a.weight MAX_WEIGHT) (nat_le a.old MAX_OLD) parts.0 in
+              let parts = and_parts (nat_le 1 a.weight && nat_le a.weight MAX_WEIGHT && nat_le a.old MAX_OLD) all
+              (arc_bounded net b k l) in
+              let weights = and_parts (nat_le 1 a.weight && nat_le a.weight MAX_WEIGHT) (nat_le a.old MAX_OLD)
+              parts.0 in
               ap (λ (t : Bool). t && nat_le (wish k) MAX_OLD && all) weights.0
               ∙ (ap (λ (t : Bool). t && all) (le-leb (wish k) MAX_OLD (low k l)) ∙ parts.1)
 
 -- It is the network of the layout for these wishes.
-pub wished : (l : Layout) (old wish : Lengths) (settings : Settings) (net new : Network) → IsSurface l → IsNetOf l old old settings net → HasWishes net wish new
+pub wished : (l : Layout) (old wish : Lengths) (settings : Settings) (net new : Network) → IsSurface l
+    → IsNetOf l old old settings net → HasWishes net wish new
     → IsNetOf l old wish settings new
 wished l old wish settings net new laid is has = record {
   nodes = has.nodes ∙ is.nodes;
@@ -93,7 +100,8 @@ rewished_long : (wish : Lengths) (arcs : List Arc) → length (rewished wish arc
 rewished_long wish [] = refl
 rewished_long wish (a ∷ arcs) = omega (arith, rewished_long (λ k. wish (suc k)) arcs)
 
-rewished_at : (wish : Lengths) (arcs : List Arc) (k : ℕ) → k < length arcs → arc_at (rewished wish arcs) k ≡ with_wish (wish k) (arc_at arcs k)
+rewished_at : (wish : Lengths) (arcs : List Arc) (k : ℕ) → k < length arcs → arc_at (rewished wish arcs) k
+    ≡ with_wish (wish k) (arc_at arcs k)
 rewished_at wish [] k l = absurd (omega arith)
 rewished_at wish (a ∷ arcs) zero l = refl
 rewished_at wish (a ∷ arcs) (suc k) l = rewished_at (λ j. wish (suc j)) arcs k (omega arith)
@@ -112,7 +120,8 @@ has_wishes wish net = record {
 }
 
 -- A layout is too tangled for other wishes where it is for some.
-pub tangled_for : (l : Layout) (old wish : Lengths) (settings : Settings) (count : ℕ) → IsSurface l → IsTangled l old old settings count → IsTangled l old wish settings count
+pub tangled_for : (l : Layout) (old wish : Lengths) (settings : Settings) (count : ℕ) → IsSurface l
+    → IsTangled l old old settings count → IsTangled l old wish settings count
 tangled_for l old wish settings count laid is = record {
   net = rewished_net wish is.net;
   is = wished l old wish settings is.net (rewished_net wish is.net) laid is.is (has_wishes wish is.net);
@@ -121,10 +130,18 @@ tangled_for l old wish settings count laid is = record {
 }
 
 -- And it is not where it is not.
-pub untangled_for : (l : Layout) (old wish : Lengths) (settings : Settings) (net : Network) → IsSurface l → IsNetOf l old old settings net → tangle_number net ≤ MAX_TANGLE
+pub untangled_for : (l : Layout) (old wish : Lengths) (settings : Settings) (net : Network) → IsSurface l
+    → IsNetOf l old old settings net → tangle_number net ≤ MAX_TANGLE
     → (count : ℕ) → IsTangled l old wish settings count → ⊥
 untangled_for l old wish settings net laid is low count tangled =
     let same : tangle_number tangled.net ≡ tangle_number (rewished_net wish net) =
     ap tangle_number (one_net_law l old wish settings laid tangled.net (rewished_net wish net) tangled.is
     (wished l old wish settings net (rewished_net wish net) laid is (has_wishes wish net))) in
-    omega (arith, same, tangle_same net wish (rewished_net wish net) (has_wishes wish net), tangled.told, tangled.high, low)
+    omega (
+      arith,
+      same,
+      tangle_same net wish (rewished_net wish net) (has_wishes wish net),
+      tangled.told,
+      tangled.high,
+      low,
+    )

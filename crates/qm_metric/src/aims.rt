@@ -3,7 +3,7 @@
 ghost use Rattle.std.specs.Prelude.{◌≡◌};
 ghost use Rattle.def_fit.specs.Aims.{fit_settings};
 
-use def_fit::{Aim, Fit, Keep, Patches};
+use def_fit::{Aim, Fit, Keep, Patches, Spacing};
 use def_flow::{Settings, Weight};
 use def_metric::EDGE_PARTS;
 use def_text::Micro;
@@ -24,7 +24,7 @@ pub fn fit_settings(fit: &Fit) -> Settings
     }
 }
 
-/// New edges of this length over the motorcycle graph, all arcs alike.
+/// New edges of this length over the motorcycle graph, all arcs alike, with points evenly along the old edges.
 pub fn edge_fit(edge: Micro, floor: u32) -> Fit
     ensures { result ≡ record {
       keep = Keep.Nothing;
@@ -32,6 +32,7 @@ pub fn edge_fit(edge: Micro, floor: u32) -> Fit
       aim = Aim.Edge edge;
       floor = floor;
       weight = Weight.Plain;
+      spacing = Spacing.Even;
     } }
 {
     Fit {
@@ -40,5 +41,6 @@ pub fn edge_fit(edge: Micro, floor: u32) -> Fit
         aim: Aim::Edge { edge },
         floor,
         weight: Weight::Plain,
+        spacing: Spacing::Even,
     }
 }

@@ -43,19 +43,19 @@ fn measure_of(ruler: &Ruler, path: &[u32]) -> u128
 {
     let mut sum = 0u128;
     for dart in path {
-        sum += u128::from(edge_length(ruler, *dart));
+        sum += u128::from(edge_length(ruler.mesh, ruler.pos, *dart));
     }
     sum
 }
 
 /// How long the edge of a dart is, in millionths.
-fn edge_length(ruler: &Ruler, dart: u32) -> u64
-    requires positions { length ruler.now.pos.now ≡ vertex_count ruler.now.mesh.now }
-    requires dart { dart < darts ruler.now.mesh.now }
-    ensures value { result ≡ edge_length ruler.now.mesh.now ruler.now.pos.now dart }
+pub(crate) fn edge_length(mesh: &Mesh, pos: &[[Micro; 3]], dart: u32) -> u64
+    requires positions { length pos.now ≡ vertex_count mesh.now }
+    requires dart { dart < darts mesh.now }
+    ensures value { result ≡ edge_length mesh.now pos.now dart }
     ensures small { result < 2 ^ 62 }
 {
-    root(squared_length(ruler.mesh, ruler.pos, dart))
+    root(squared_length(mesh, pos, dart))
 }
 
 /// The square of that length.

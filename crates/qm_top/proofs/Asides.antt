@@ -7,10 +7,12 @@ use Rattle.std.specs.List.{before_first, list_all}
 use Rattle.std.specs.Prelude.{◌==◌, ◌&&◌, decimal, if◌then◌else◌, unsigned_abs}
 use Rattle.def_certtext.specs.Settings.{weight_text, AreInRange}
 use Rattle.def_fit.specs.Aims.{IsAim, IsFit}
-use Rattle.def_fit.specs.FitWords.{aim_text, fit_head, keep_word, patches_word}
+use Rattle.def_fit.specs.FitWords.{aim_text, fit_head, keep_word, patches_word, spacing_word}
 use Rattle.def_fit.specs.declared.fit.Aim.{Aim}
 use Rattle.def_fit.specs.declared.fit.Aim.TheVariants.{Scale, Edge, Wishes}
 use Rattle.def_fit.specs.declared.fit.Fit.{Fit}
+use Rattle.def_fit.specs.declared.fit.Spacing.{Spacing}
+use Rattle.def_fit.specs.declared.fit.Spacing.TheVariants.{Even, Wished}
 use Rattle.def_flow.specs.declared.net.Settings.{Settings}
 use Rattle.def_flow.specs.declared.net.Weight.{Weight}
 use Rattle.def_flow.specs.declared.net.Weight.TheVariants as weights
@@ -89,6 +91,10 @@ weight_short : (weight : Weight) → length (weight_text weight) ≤ 20
 weight_short weights.Plain = omega arith
 weight_short weights.Length = omega arith
 
+spacing_short : (spacing : Spacing) → length (spacing_word spacing) ≤ 20
+spacing_short Even = omega arith
+spacing_short Wished = omega arith
+
 -- A mark and a word behind a text.
 behind : (front mark word : Bytes) (m n k : ℕ) → length front ≤ m → length mark ≤ n → length word ≤ k
     → length (front ++ mark ++ word) ≤ m + n + k
@@ -101,17 +107,19 @@ fit_aside fit is =
     let cut = kept ++ codes " patches " ++ patches_word fit.patches in
     let aimed = cut ++ codes " aim " ++ aim_text fit.aim in
     let bounded = aimed ++ codes " floor " ++ decimal fit.floor in
+    let weighed = bounded ++ codes " weight " ++ weight_text fit.weight in
     line_aside (fit_head fit) refl (fit_inside fit is) (omega (
       arith,
-      length-append (bounded ++ codes " weight " ++ weight_text fit.weight) (codes " spacing even"),
-      behind bounded (codes " weight ") (weight_text fit.weight) 260 20 20
+      behind weighed (codes " spacing ") (spacing_word fit.spacing) 300 20 20
+          (behind bounded (codes " weight ") (weight_text fit.weight) 260 20 20
           (behind aimed (codes " floor ") (decimal fit.floor) 220 20 20
           (behind cut (codes " aim ") (aim_text fit.aim) 100 20 100
           (behind kept (codes " patches ") (patches_word fit.patches) 60 20 20
           (behind [] (codes "#quadq 1 fit keep ") (keep_word fit.keep) 0 40 20 (omega arith) (omega arith)
           (keep_short fit.keep))
           (omega arith) (patches_short fit.patches)) (omega arith) (aim_short fit.aim is.aim)) (omega arith)
-          (number_short fit.floor (omega (arith, is.high)))) (omega arith) (weight_short fit.weight),
+          (number_short fit.floor (omega (arith, is.high)))) (omega arith) (weight_short fit.weight)) (omega arith)
+          (spacing_short fit.spacing),
     ))
 
 -- ---- The lines of marked arcs.

@@ -34,7 +34,14 @@ module _ (size : ℕ) (input out : Change) (unread : IsUnread input) where
   pub made_ended : (r : Refusal) → IsNoMeshOf (steps_soup size) r → Ended (Bench size) input out r
   made_ended (NotManifold named) none = record {
     cause = record { bytes = []; whole = (unread, refl); said = (none.0, none.1) };
-    names = λ p is. record { bytes = []; whole = (unread, refl); soup = steps_soup size; looks = refl; numbers = none.2 };
+    names = λ p is. record {
+      bytes = [];
+      whole = (unread, refl);
+      soup = steps_soup size;
+      looks = refl;
+      numbers =
+          none.2;
+    };
     calm = λ f m. unread.1;
   }
   made_ended refusals.Memory none = memory_ended (Bench size) input out

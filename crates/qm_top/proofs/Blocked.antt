@@ -25,7 +25,8 @@ use Rattle.qm_top.proofs.Refined.{fails_as}
 use Rattle.qm_top.proofs.Writers.{layout_ends, IsWriter}
 
 -- The text of the blocks of a mesh with each edge divided in so many.
-pub is_blocked : (by : ℕ) (soup : FaceSet) (blocks : Blocks) → 0 < by → AreBlocksBy by soup blocks → IsBlocked by soup (told_text blocks)
+pub is_blocked : (by : ℕ) (soup : FaceSet) (blocks : Blocks) → 0 < by → AreBlocksBy by soup blocks
+    → IsBlocked by soup (told_text blocks)
 is_blocked by soup blocks some are = record {
   plan = plan;
   cut = are.points.cut;
@@ -35,7 +36,8 @@ is_blocked by soup blocks some are = record {
     linked = are.links;
     back = lead_back (layout_of plan) new laid (links_in blocks) are.links;
     joined = linked_points (layout_of plan) new laid lengths (links_in blocks) are.links;
-    written = λ k. chosen_text (are.told k) (are.parts k) (are.points.same k) plan (are.points.lengths k) (links_in blocks);
+    written = λ k. chosen_text (are.told k) (are.parts k) (are.points.same k) plan (are.points.lengths k)
+        (links_in blocks);
   };
 }
   where
@@ -59,7 +61,12 @@ blocks_writer by input out soup manifold read calm = record {
   bytes = read.bytes;
   whole = read.whole;
   calm = calm;
-  writes = λ text blocked. record { soup = soup; mesh = record { said = read.said; manifold = manifold }; blocked = blocked };
+  writes = λ text blocked. record {
+    soup = soup;
+    mesh = record { said = read.said; manifold = manifold };
+    blocked =
+        blocked;
+  };
   read = λ text blocked. tt;
   ends = layout_ends (commands.Blocks by) (FailsToRefine by soup) input out calm
       (fails_as (commands.Blocks by) by input out soup manifold read read.whole (λ answer why. why));

@@ -43,7 +43,7 @@ use Rattle.def_run.specs.declared.words.WordsFail.TheVariants as words_fail
 use Rattle.def_run.specs.CommandLines.{IsAcceptedLine, IsCommand}
 use Rattle.def_text.specs.Types.{Words}
 use Rattle.remesh_laws.proofs.Fits.{fits_not_doubled, fits_not_fine}
-use Rattle.qm_top.proofs.Checked.{pair_not_refused}
+use Rattle.qm_top.proofs.Checked.{accepted_not_refused}
 use Rattle.qm_top.proofs.Creased.{marks_not_refused}
 use Rattle.qm_top.specs.Refusals.{answer_of_words}
 use Rattle.def_remesh.specs.Tasks.{old_lengths, Task, Wish}
@@ -182,13 +182,15 @@ kept_fails keep bytes fail has none =
     sym has.said ∙ (ap (kept_in keep bytes) same ∙ none.said) in
     cc
 
-kept_not_refused : (keep : Keep) (bytes : Bytes) (answer : Answer) → HasKept keep bytes → RefusesKept keep bytes answer → ⊥
+kept_not_refused : (keep : Keep) (bytes : Bytes) (answer : Answer) → HasKept keep bytes → RefusesKept keep bytes answer
+    → ⊥
 kept_not_refused keep bytes (Syntax line) has none = kept_fails keep bytes (marks.Syntax line) has none
 kept_not_refused keep bytes (Range line) has none = kept_fails keep bytes (marks.Range line) has none
 kept_not_refused keep bytes (NotEdge line) has none = kept_fails keep bytes (marks.NotEdge line) has none
 kept_not_refused keep bytes _ has none = absurd none
 
-lay_out_not_both : (keep : Keep) (bytes : Bytes) (answer : Answer) → HasKept keep bytes → RefusesToLayOut keep bytes answer
+lay_out_not_both : (keep : Keep) (bytes : Bytes) (answer : Answer) → HasKept keep bytes
+    → RefusesToLayOut keep bytes answer
     → ⊥
 lay_out_not_both keep bytes answer takes (inl none) = mesh_not_refused bytes takes.soup answer takes.mesh none
 lay_out_not_both keep bytes answer takes (inr why) = kept_not_refused keep bytes answer takes why
@@ -207,7 +209,7 @@ not_both Graph bytes answer takes refuses = mesh_not_refused bytes takes.soup an
 not_both (Refine by) bytes answer takes refuses = refine_not_both by bytes answer takes refuses
 not_both (Remesh settings auto) bytes answer takes refuses =
     task_not_both (AsksToRemesh settings auto) bytes answer takes refuses
-not_both Check bytes answer takes refuses = pair_not_refused bytes answer takes refuses
+not_both Check bytes answer takes refuses = accepted_not_refused bytes answer takes refuses
 not_both (Bench size) bytes answer takes refuses = bench_not_both size answer takes refuses
 not_both (Crease settings) bytes answer takes refuses = crease_not_both settings bytes answer takes refuses
 not_both (Size edge floor) bytes answer takes refuses = size_not_both edge floor bytes answer takes refuses

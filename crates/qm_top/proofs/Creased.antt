@@ -1,6 +1,7 @@
 -- What `crease` keeps: bytes whose `l` lines are refused end it, and bytes that it takes are not refused.
 use Rattle.std.specs.Prelude.{codes}
-use Rattle.std.proofs.Common.{◌≡◌, false, Result, Ok, Err, List, Bool, Some, [], ◌∷◌, ◌++◌, sym, ◌∙◌, ap, subst, refl}
+use Rattle.std.proofs.Common.{◌≡◌, false, Result, Ok, Err, List, Bool, Some, None, [], ◌∷◌, ◌++◌, sym, ◌∙◌, ap, subst}
+use Rattle.std.proofs.Common.{refl}
 use Rattle.std.proofs.Common.{inl}
 use Rattle.def_certtext.specs.CertLines.{certificates_of, used}
 use Rattle.def_feature.specs.Marked.{marked_cut}
@@ -80,13 +81,14 @@ module _ (settings : Settings) (bytes : Bytes) (read : FaceSet) (cut : CutSoup) 
       → IsKept old_lengths cut.plan settings false (certificates_of framed.remesh.certs) framed.remesh.numbering
       → framed.head.items ≡ named_head (codes "crease") settings ++ LINE_FEED ∷ []
       → framed.between.items ≡ marked_text marks cut.plan (lengths_in (used (certificates_of framed.remesh.certs)).x)
+      → framed.shares ≡ None
       → ShowsAsked (AsksToCrease settings) bytes read (framed_text framed cut.soup cut.plan)
-  creased_shown framed laid is kept head between =
+  creased_shown framed laid is kept head between even =
       subst (λ (s : FaceSet). ShowsAsked (AsksToCrease settings) bytes s (framed_text framed cut.soup cut.plan)) same (
         creased_task settings cut.soup.faces marks,
         asked,
         framed_shown (creased_task settings cut.soup.faces marks) framed _ cut.soup cut.plan laid on is refl refl kept
-            head between,
+            head between even,
       )
 
   -- Where its layout is refused its task fails.

@@ -6,6 +6,7 @@ use Rattle.def_cut.specs.FullCut.{IsFullCut}
 use Rattle.def_fit.specs.Aims.{aimed, fit_settings, AreAimedNear, IsFit, IsFitFail}
 use Rattle.def_fit.specs.FitTasks.{asides_in, fit_task, kept_text, Asides}
 use Rattle.def_fit.specs.FitWords.{fit_head}
+use Rattle.def_fit.specs.Shares.{shares_of}
 use Rattle.def_fit.specs.declared.fit.Fit.{Fit as AnyFit}
 use Rattle.def_io.specs.Bytes.{Bytes}
 use Rattle.def_io.specs.Moves.{IsStill, Stream}
@@ -135,10 +136,11 @@ module _ (fit : AnyFit) (bytes : Bytes) (read : FaceSet) (cut : CutSoup) (asides
       → framed.head.items ≡ fit_head fit ++ 10 ∷ []
       → framed.between.items ≡ kept_text asides.kept cut.plan
       (lengths_in (used (certificates_of framed.remesh.certs)).x)
+      → framed.shares ≡ shares_of fit cut.soup asides.wishes
       → ShowsAsked (AsksForNearFit fit) bytes read (framed_text framed cut.soup cut.plan)
-  fit_shown framed near is kept head between =
+  fit_shown framed near is kept head between shares =
       aimed_shown fit.aim (AsksToFit fit) (AsksForNearFit fit) bytes read cut same task asked chosen.2 nearly framed
-      laid near is kept head between
+      laid near is kept head between shares
 
   -- It is not written where there is no network for its wishes, or where least lengths give no new mesh.
   pub fit_fails : {O : Type 0} (says : Bytes → Type 0) (out : Stream O) → IsStill out → (fail : SizeFail)

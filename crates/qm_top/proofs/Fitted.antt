@@ -132,10 +132,15 @@ module _ (aim : Aim) (asks near : Asks) (bytes : Bytes) (read : FaceSet) (cut : 
       → IsKept task.wish cut.plan task.settings task.auto (certificates_of framed.remesh.certs) framed.remesh.numbering
       → framed.head.items ≡ task.head ++ 10 ∷ []
       → framed.between.items ≡ task.between cut.plan (lengths_in (used (certificates_of framed.remesh.certs)).x)
+      → framed.shares ≡ task.shares
       → ShowsAsked near bytes read (framed_text framed cut.soup cut.plan)
-  aimed_shown framed laid close is kept head between =
-      subst (λ (s : FaceSet). ShowsAsked near bytes s (framed_text framed cut.soup cut.plan)) same
-      (task, nearly close, framed_shown task framed _ cut.soup cut.plan laid on is refl refl kept head between)
+  aimed_shown framed laid close is kept head between shares =
+      subst (λ (s : FaceSet). ShowsAsked near bytes s (framed_text framed cut.soup cut.plan)) same (
+        task,
+        nearly close,
+        framed_shown task framed _ cut.soup cut.plan laid on is refl refl kept head between
+            shares,
+      )
 
   module _ (fixed : task.auto ≡ false) where
     fails_for : {O : Type 0} (says : Bytes → Type 0) (out : Stream O) → IsStill out → (fail : SizeFail)

@@ -31,17 +31,23 @@ use Rattle.remesh_laws.specs.Keeps.{ShowsTask}
 pub kept_for : (wish : Wish) (plan : Plan) (remesh : Remesh) (asked : Asked) → remesh.asked ≡ asked
     → IsKept wish plan asked.settings asked.auto (certificates_of remesh.certs) remesh.numbering
     → (w : Wish) × IsKept w plan remesh.asked.settings remesh.asked.auto (certificates_of remesh.certs) remesh.numbering
-kept_for wish plan remesh asked same kept =
-    (wish, subst (λ (a : Asked). IsKept wish plan a.settings a.auto (certificates_of remesh.certs) remesh.numbering) (sym same) kept)
+kept_for wish plan remesh asked same kept = (
+  wish,
+  subst (λ (a : Asked). IsKept wish plan a.settings a.auto (certificates_of remesh.certs) remesh.numbering)
+      (sym same) kept,
+)
 
 -- Its text is that of the task for which it is kept.
-pub framed_shown : (task : Task) (framed : Framed) (asked : Asked) (soup : FaceSet) (plan : Plan) → IsMeshLayout soup.faces plan
-    → IsCutLayout soup.faces task.marks plan → framed.remesh.asked ≡ asked → asked.settings ≡ task.settings → asked.auto ≡ task.auto
+pub framed_shown : (task : Task) (framed : Framed) (asked : Asked) (soup : FaceSet) (plan : Plan)
+    → IsMeshLayout soup.faces plan
+    → IsCutLayout soup.faces task.marks plan → framed.remesh.asked ≡ asked → asked.settings ≡ task.settings
+    → asked.auto ≡ task.auto
     → IsKept task.wish plan task.settings task.auto (certificates_of framed.remesh.certs) framed.remesh.numbering
     → framed.head.items ≡ task.head ++ 10 ∷ []
     → framed.between.items ≡ task.between plan (lengths_in (used (certificates_of framed.remesh.certs)).x)
+    → framed.shares ≡ task.shares
     → ShowsTask task soup (framed_text framed soup plan)
-framed_shown task framed asked soup plan laid on same settings auto kept head between =
+framed_shown task framed asked soup plan laid on same settings auto kept head between shares =
     subst (ShowsTask task soup)
     (sym (text_is task framed soup plan (record {
       cut = on;
@@ -50,20 +56,26 @@ framed_shown task framed asked soup plan laid on same settings auto kept head be
       kept = kept;
       head = head;
       between = between;
+      shares = shares;
     })))
     (shown task soup plan (certificates_of framed.remesh.certs) framed.remesh.numbering laid on kept)
 
 -- A text that was not put whole was not written whole.
-pub put_refused : {O : Type 0} (says : Bytes → Type 0) (why : Refusal → Type 0) (out : Stream O) (text : Bytes) (fail : PutFail)
-    → says text → why refusals.Memory → (IsErrOf {T = Unit {0}} (Err fail) puts.Stopped → TookPrefix out.change.told out.change.told_now text)
+pub put_refused : {O : Type 0} (says : Bytes → Type 0) (why : Refusal → Type 0) (out : Stream O) (text : Bytes)
+    (fail : PutFail)
+    → says text → why refusals.Memory → (IsErrOf {T = Unit {0}} (Err fail) puts.Stopped
+    → TookPrefix out.change.told out.change.told_now text)
     → (IsErrOf {T = Unit {0}} (Err fail) puts.Stopped → Rose out.change.faults out.change.faults_now)
     → (IsErrOf {T = Unit {0}} (Err fail) puts.Memory → IsStill out) → IsUnwritten says why out (refusal_of_put fail)
-put_refused says why out text puts.Stopped said memory prefix rose same = record { text = text; said = said; prefix = prefix refl; fault = rose refl }
+put_refused says why out text puts.Stopped said memory prefix rose same =
+    record { text = text; said = said; prefix = prefix refl; fault = rose refl }
 put_refused says why out text puts.Memory said memory prefix rose same = (same refl, memory)
 
 -- A text that was not written is not, whatever it says besides, and whatever layouts are refused besides.
-pub unwritten_weaker : {O : Type 0} (says more : Bytes → Type 0) (fails others : LayoutFail → Type 0) (out : Stream O) → ((text : Bytes) → says text → more text)
-    → ((fail : LayoutFail) → fails fail → others fail) → (r : Refusal) → IsUnwritten says (IsOfLayout fails) out r → IsUnwritten more (IsOfLayout others) out r
+pub unwritten_weaker : {O : Type 0} (says more : Bytes → Type 0) (fails others : LayoutFail → Type 0) (out : Stream O)
+    → ((text : Bytes) → says text → more text)
+    → ((fail : LayoutFail) → fails fail → others fail) → (r : Refusal) → IsUnwritten says (IsOfLayout fails) out r
+    → IsUnwritten more (IsOfLayout others) out r
 unwritten_weaker says more fails others out weaker besides (Layout fail) none = (none.0, besides fail none.1)
 unwritten_weaker says more fails others out weaker besides (Write fail) broke =
     record { text = broke.text; said = weaker broke.text broke.said; prefix = broke.prefix; fault = broke.fault }

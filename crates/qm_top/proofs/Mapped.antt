@@ -7,15 +7,18 @@ use Rattle.def_marks.specs.declared.fail.MarkFail.{MarkFail}
 use Rattle.def_marks.specs.declared.fail.MarkFail.TheVariants as marks
 use Rattle.def_mesh.specs.declared.Place.{Place}
 use Rattle.def_remesh.specs.declared.kept.LayoutFail.TheVariants as layouts
-use Rattle.def_run.specs.Causes.{Cause}
-use Rattle.def_run.specs.Map.{HasMap, RefusesNew, WritesMap}
+use Rattle.def_run.specs.Causes.{Cause, Reads, Refused, Refuses}
+use Rattle.def_run.specs.Map.{HasMap, RefusesNew, RefusesToMap, WritesMap}
 use Rattle.def_run.specs.MapFails.{HasLineFail, IsMapFail, RefusesFrontMarks, RefusesFrontText}
 use Rattle.def_run.specs.MarkLines.{front_of}
+use Rattle.def_run.specs.Messages.{HasFrontSoup, LooksAt}
+use Rattle.def_run.specs.declared.answer.Answer.{Answer}
 use Rattle.def_run.specs.declared.answer.Answer.TheVariants as answers
 use Rattle.def_run.specs.declared.check_fail.CheckFail.{CheckFail}
 use Rattle.def_run.specs.declared.check_fail.CheckFail.TheVariants as check_fail
 use Rattle.def_run.specs.declared.command.Command.{Command}
 use Rattle.def_run.specs.declared.command.Command.TheVariants.{Crease, Fit, Map}
+use Rattle.def_text.specs.FaceSet.{FaceSet}
 use Rattle.def_text.specs.Input.{ReadWhole}
 use Rattle.def_text.specs.declared.limits.TheConstants.{MAX_BYTES}
 use Rattle.def_text.specs.declared.refusal.ObjFail.{ObjFail}
@@ -52,42 +55,45 @@ lines_refuse (Crease settings) front fail other has = marks_refuse settings fron
 lines_refuse (Fit fit) front fail other has = asides_refuse fit front fail other has
 lines_refuse _ front fail other has = absurd has
 
-module _ (input out : Change) (bytes : Bytes) (whole : ReadWhole MAX_BYTES input.told input.told_now bytes)
+-- A command that read these bytes refuses them as `map` does, and looks at the mesh in front of the same line.
+pub record RefusesAsMap (command : Command) (input : Change) (bytes : Bytes) : Type 0 where
+  pub whole : Reads command input bytes
+  pub refuses : (answer : Answer) → RefusesToMap bytes answer → Refuses command bytes answer
+  pub looks : (soup : FaceSet) → HasFrontSoup bytes soup → LooksAt command bytes soup
+
+module _ (command : Command) (input out : Change) (bytes : Bytes) (like : RefusesAsMap command input bytes)
     (calm : input.faults_now ≡ input.faults) where
+  -- It refuses them with this answer.
+  refused : (answer : Answer) → RefusesToMap bytes answer → Refused command input answer
+  refused answer none = record { bytes = bytes; whole = like.whole; said = like.refuses answer none }
+
   -- The refusal of the text in front has its cause.
   front_cause : (fail : ObjFail) → RefusesFrontText bytes fail → (¬ HasMap bytes)
-      → Cause Map input out (answer_of_obj fail)
+      → Cause command input out (answer_of_obj fail)
   front_cause (obj.Limit AllBytes line) none never =
       absurd (never_bytes 1 (lines_of (front_of none.line bytes)) line none.said)
   front_cause obj.Memory none never = tt
-  front_cause _ none never = record {
-    bytes = bytes;
-    whole = whole;
-    said = (inl (record { line = none.line; divided = none.divided; none = none.said }), never);
-  }
+  front_cause _ none never =
+      refused _ (inl (record { line = none.line; divided = none.divided; none = none.said }), never)
 
   -- So has that of the lines beside its mesh.
   marks_cause : (fail : MarkFail) → RefusesFrontMarks bytes fail → fail ≢ marks.Memory → (¬ HasMap bytes)
-      → Cause Map input out (answer_of_marks fail)
+      → Cause command input out (answer_of_marks fail)
   marks_cause marks.Memory none other never = tt
-  marks_cause fail none other never = record {
-    bytes = bytes;
-    whole = whole;
-    said = (
-      inr (record {
-        line = none.line;
-        command = none.command;
-        headed = none.headed;
-        said = lines_refuse none.command (front_of none.line bytes) fail other none.said;
-      }),
-      never,
-    );
-  }
+  marks_cause fail none other never = refused _ (
+    inr (record {
+      line = none.line;
+      command = none.command;
+      headed = none.headed;
+      said = lines_refuse none.command (front_of none.line bytes) fail other none.said;
+    }),
+    never,
+  )
 
   -- Bytes that have no map end the command.
-  unmapped_ends : (r : Refusal) → IsNoMapFor bytes r → Ended Map input out r
+  pub unmapped_ends : (r : Refusal) → IsNoMapFor bytes r → Ended command input out r
   unmapped_ends (NotAccepted why) none =
-      record { cause = record { bytes = bytes; whole = whole; said = none }; names = λ p is. cc; calm = λ f m. calm }
+      record { cause = refused _ none; names = λ p is. cc; calm = λ f m. calm }
   unmapped_ends (Soup (soup.Obj fail)) none =
       record {
         cause = front_cause fail none.0 none.2;
@@ -97,23 +103,19 @@ module _ (input out : Change) (bytes : Bytes) (whole : ReadWhole MAX_BYTES input
       }
   unmapped_ends (NotManifold named) none =
       let fault = none.0.fault in record {
-        cause = record {
-          bytes = bytes;
-          whole = whole;
-          said = (
-            inl (record {
-              line = fault.line;
-              divided = fault.divided;
-              none = record { soup = none.0.front; said = fault.said; fault = fault.fault; refuted = fault.refuted };
-            }),
-            none.1,
-          );
-        };
+        cause = refused _ (
+          inl (record {
+            line = fault.line;
+            divided = fault.divided;
+            none = record { soup = none.0.front; said = fault.said; fault = fault.fault; refuted = fault.refuted };
+          }),
+          none.1,
+        );
         names = λ p is. record {
           bytes = bytes;
-          whole = whole;
+          whole = like.whole;
           soup = none.0.front;
-          looks = (fault.line, fault.divided, fault.said);
+          looks = like.looks none.0.front (fault.line, fault.divided, fault.said);
           numbers = none.0.numbers;
         };
         calm = λ f m. calm;
@@ -126,20 +128,21 @@ module _ (input out : Change) (bytes : Bytes) (whole : ReadWhole MAX_BYTES input
             λ f m. calm;
       }
   unmapped_ends (Layout (layouts.Tangled count)) none =
-      record { cause = record { bytes = bytes; whole = whole; said = none }; names = λ p is. cc; calm = λ f m. calm }
+      record { cause = refused _ none; names = λ p is. cc; calm = λ f m. calm }
   unmapped_ends (Far sum) none =
-      record { cause = record { bytes = bytes; whole = whole; said = none }; names = λ p is. cc; calm = λ f m. calm }
+      record { cause = refused _ none; names = λ p is. cc; calm = λ f m. calm }
   unmapped_ends refusals.Memory none = record { cause = tt; names = λ p is. cc; calm = λ f m. calm }
   unmapped_ends _ none = absurd none
 
+module _ (input out : Change) (bytes : Bytes) (whole : ReadWhole MAX_BYTES input.told input.told_now bytes)
+    (calm : input.faults_now ≡ input.faults) where
   pub map_writer : IsWriter Map (WritesMap bytes) (IsNoMapFor bytes) input out
-  map_writer =
-      record {
-        bytes = bytes;
-        whole = whole;
-        calm = calm;
-        writes = λ text said. said;
-        read = λ text said. tt;
-        ends =
-            unmapped_ends;
-      }
+  map_writer = record {
+    bytes = bytes;
+    whole = whole;
+    calm = calm;
+    writes = λ text said. said;
+    read = λ text said. tt;
+    ends = unmapped_ends Map input out bytes
+        (record { whole = whole; refuses = λ answer none. none; looks = λ soup has. has }) calm;
+  }

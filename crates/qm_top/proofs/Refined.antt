@@ -1,6 +1,6 @@
 -- The text of a refined mesh, and what `refine` keeps.
 use Rattle.std.specs.Prelude.{IfErr, IfOk, OnOk}
-use Rattle.std.proofs.Common.{◌≡◌, ℕ, ◌≤◌, Result, Ok, Err, sym, ap, ◌∙◌, subst, refl, arith}
+use Rattle.std.proofs.Common.{◌≡◌, ℕ, ◌≤◌, None, Result, Ok, Err, sym, ap, ◌∙◌, subst, refl, arith}
 use Rattle.def_io.specs.Moves.{Change}
 use Rattle.def_layout.specs.Arcs.{long_at}
 use Rattle.def_layout.specs.Plans.{Plan, layout_of, vertex_at}
@@ -34,11 +34,14 @@ use Rattle.qm_top.proofs.Writers.{layout_ends, IsWriter}
 use Rattle.remesh_laws.proofs.ReadAgain.{refined_read}
 
 -- What is refined of a cut mesh is refined of the soup that it was made of.
-pub refined_of : (by : ℕ) (soup : FaceSet) (cut : CutSoup) (new : Regrid) → cut.soup ≡ soup → IsMeshLayout cut.soup.faces cut.plan
+pub refined_of : (by : ℕ) (soup : FaceSet) (cut : CutSoup) (new : Regrid) → cut.soup ≡ soup
+    → IsMeshLayout cut.soup.faces cut.plan
     → IsTracedLayout cut.soup.faces cut.plan
-    → (new.soup ≡ cut.soup) × (new.plan ≡ cut.plan) × (lengths_in new.lengths ≡ multiple_of by (long_at cut.plan.arcs))
-    → refined_faces by cut.plan ≤ MAX_NEW_FACES → KeepsShapes cut.plan (multiple_of by (long_at cut.plan.arcs)) → IsRefinedMesh by soup new
-refined_of by soup cut new is laid traced (same, on, lengths) fits shape =
+    → (new.soup ≡ cut.soup) × (new.plan ≡ cut.plan)
+    × (lengths_in new.lengths ≡ multiple_of by (long_at cut.plan.arcs)) × (new.shares ≡ None)
+    → refined_faces by cut.plan ≤ MAX_NEW_FACES → KeepsShapes cut.plan (multiple_of by (long_at cut.plan.arcs))
+    → IsRefinedMesh by soup new
+refined_of by soup cut new is laid traced (same, on, lengths, even) fits shape =
     let lies : IsMeshLayout soup.faces new.plan × IsTracedLayout soup.faces new.plan =
     subst (λ (s : FaceSet). IsMeshLayout s.faces new.plan × IsTracedLayout s.faces new.plan) is
     (subst (λ (p : Plan). IsMeshLayout cut.soup.faces p × IsTracedLayout cut.soup.faces p) (sym on) (laid, traced)) in
@@ -47,16 +50,20 @@ refined_of by soup cut new is laid traced (same, on, lengths) fits shape =
       laid = lies.0;
       cut = lies.1;
       lengths = lengths ∙ ap (λ (p : Plan). multiple_of by (long_at p.arcs)) (sym on);
+      even = even;
       fits = subst (λ (p : Plan). refined_faces by p ≤ MAX_NEW_FACES) (sym on) fits;
       shape = subst (λ (p : Plan). KeepsShapes p (multiple_of by (long_at p.arcs))) (sym on) shape;
     }
 
 pub all_refined : (by : ℕ) (soup : FaceSet) (cut : CutSoup) (result : Result Regrid LayoutFail) → cut.soup ≡ soup
     → IsMeshLayout cut.soup.faces cut.plan → IsTracedLayout cut.soup.faces cut.plan
-    → IfOk result (λ new. (new.soup ≡ cut.soup) × (new.plan ≡ cut.plan) × (lengths_in new.lengths ≡ multiple_of by (long_at cut.plan.arcs)))
-    → OnOk result (refined_faces by cut.plan ≤ MAX_NEW_FACES) → OnOk result (KeepsShapes cut.plan (multiple_of by (long_at cut.plan.arcs)))
+    → IfOk result (λ new. (new.soup ≡ cut.soup) × (new.plan ≡ cut.plan)
+    × (lengths_in new.lengths ≡ multiple_of by (long_at cut.plan.arcs)) × (new.shares ≡ None))
+    → OnOk result (refined_faces by cut.plan ≤ MAX_NEW_FACES)
+    → OnOk result (KeepsShapes cut.plan (multiple_of by (long_at cut.plan.arcs)))
     → IfOk result (IsRefinedMesh by soup)
-all_refined by soup cut (Ok new) is laid traced made few shape = refined_of by soup cut new is laid traced made few shape
+all_refined by soup cut (Ok new) is laid traced made few shape =
+    refined_of by soup cut new is laid traced made few shape
 all_refined by soup cut (Err fail) is laid traced made few shape = tt
 
 -- What is refused of a cut mesh is refused of that soup.
@@ -66,22 +73,26 @@ all_refused by soup cut (Ok new) is traced why = tt
 all_refused by soup cut (Err fail) is traced why = by_fail fail why
   where
     by_fail : (fail : LayoutFail) → FailsBy by cut.plan fail → FailsToRefine by soup fail
-    by_fail (layouts.TooFine faces kept) why = (cut.plan, subst (λ (s : FaceSet). IsTracedLayout s.faces cut.plan) is traced, why)
+    by_fail (layouts.TooFine faces kept) why =
+        (cut.plan, subst (λ (s : FaceSet). IsTracedLayout s.faces cut.plan) is traced, why)
     by_fail layouts.Memory why = tt
     by_fail _ why = absurd why
 
 -- Its text is one of a refined mesh.
 pub is_refined : (by : ℕ) (soup : FaceSet) (new : Regrid) → 1 ≤ by → by ≤ MAX_MULTIPLE → IsRefinedMesh by soup new
     → ShowsRefined by soup (refined_text by new.soup new.plan)
-is_refined by soup new some few are = subst (λ (s : FaceSet). ShowsRefined by soup (refined_text by s new.plan)) (sym are.same) (record {
-  refined = record { plan = new.plan; cut = are.cut; fits = are.fits; written = refl; shape = shape are.laid };
-  read = refined_read by soup new.plan are.laid.0 (omega (arith, some)) (omega (arith, few));
-})
+is_refined by soup new some few are = subst (λ (s : FaceSet). ShowsRefined by soup (refined_text by s new.plan))
+    (sym are.same) (record {
+      refined = record { plan = new.plan; cut = are.cut; fits = are.fits; written = refl; shape = shape are.laid };
+      read = refined_read by soup new.plan are.laid.0 (omega (arith, some)) (omega (arith, few));
+    })
   where
     shape : IsMeshLayout soup.faces new.plan
-        → KeepsShape soup.faces (new_faces (layout_of new.plan) (multiple_of by (long_at new.plan.arcs))) (layout_of new.plan).nodes (vertex_at new.plan)
+        → KeepsShape soup.faces (new_faces (layout_of new.plan) (multiple_of by (long_at new.plan.arcs)))
+        (layout_of new.plan).nodes (vertex_at new.plan)
     shape (is, same) = subst
-        (λ (fs : Faces). KeepsShape fs (new_faces (layout_of new.plan) (multiple_of by (long_at new.plan.arcs))) (layout_of new.plan).nodes (vertex_at new.plan))
+        (λ (fs : Faces). KeepsShape fs (new_faces (layout_of new.plan) (multiple_of by (long_at new.plan.arcs)))
+        (layout_of new.plan).nodes (vertex_at new.plan))
         same
         (are.shape is.faces is.marks is.mesh is.quads is.cut is.laid)
 
@@ -107,7 +118,12 @@ refine_writer by input out soup manifold read calm = record {
   bytes = read.bytes;
   whole = read.whole;
   calm = calm;
-  writes = λ text shows. record { soup = soup; mesh = record { said = read.said; manifold = manifold }; refined = shows.refined };
+  writes = λ text shows. record {
+    soup = soup;
+    mesh = record { said = read.said; manifold = manifold };
+    refined =
+        shows.refined;
+  };
   read = λ text shows. shows.read;
   ends = layout_ends (Refine by) (FailsToRefine by soup) input out calm
       (fails_as (Refine by) by input out soup manifold read read.whole (λ answer why. why));

@@ -22,7 +22,8 @@ use Rattle.def_run.specs.Mesh.{IsNoMesh}
 use Rattle.def_run.specs.declared.answer.Answer.{Answer}
 use Rattle.def_run.specs.declared.answer.Answer.TheVariants as answers
 use Rattle.def_run.specs.declared.command.Command.{Command}
-use Rattle.def_run.specs.declared.command.Command.TheVariants.{Tidy, Graph, Refine, Remesh, Crease, Size, Coarse, Blocks}
+use Rattle.def_run.specs.declared.command.Command.TheVariants.{Tidy, Graph, Refine, Remesh, Crease, Size, Coarse}
+use Rattle.def_run.specs.declared.command.Command.TheVariants.{Blocks}
 use Rattle.def_run.specs.declared.command.Command.TheVariants.{LayOut, Grids}
 use Rattle.def_patches.specs.declared.Keep.{Keep}
 use Rattle.def_patches.specs.declared.Patches.{Patches}
@@ -40,7 +41,8 @@ use Rattle.qm_top.proofs.NeverBytes.{never_bytes}
 -- A command that reads its input whole, and refuses what has no mesh.
 pub record NeedsMesh (command : Command) : Type 0 where
   pub refuses : (bytes : Bytes) (answer : Answer) → IsNoMesh bytes answer → Refuses command bytes answer
-  pub reads : (input : Change) (bytes : Bytes) → ReadWhole MAX_BYTES input.told input.told_now bytes → Reads command input bytes
+  pub reads : (input : Change) (bytes : Bytes) → ReadWhole MAX_BYTES input.told input.told_now bytes
+      → Reads command input bytes
   pub looks : (bytes : Bytes) (soup : FaceSet) → soup_in bytes ≡ Ok soup → LooksAt command bytes soup
   pub too_many : (input : Change) → GaveMore MAX_BYTES input.told input.told_now → ReadsTooMany command input
   pub fails : (input : Change) → Rose input.faults input.faults_now → FailsToRead command input
@@ -151,7 +153,8 @@ grids_needs keep patches by = record {
 -- The refusal of a text has its cause.
 text_cause : (command : Command) (input out : Change) (fail : ObjFail) → NeedsMesh command
     → ReadRefused MAX_BYTES input.told input.told_now fail → Cause command input out (answer_of_obj fail)
-text_cause command input out (obj.Limit AllBytes line) needs read = absurd (never_bytes 1 (lines_of read.bytes) line read.said)
+text_cause command input out (obj.Limit AllBytes line) needs read =
+    absurd (never_bytes 1 (lines_of read.bytes) line read.said)
 text_cause command input out obj.Memory needs read = tt
 text_cause command input out fail needs read = record {
   bytes = read.bytes;
@@ -165,20 +168,37 @@ obj_place obj.Memory p is = cc
 obj_place _ p is = cc
 
 -- A refusal of the input ends a command that needs a mesh.
-pub input_ended : (command : Command) (input out : Change) (r : Refusal) → NeedsMesh command → IsInputRefusal input r → Ended command input out r
-input_ended command input out (Soup soup.Fault) needs why = record { cause = needs.fails input why; names = λ p is. cc; calm = λ f m. absurd (f refl) }
-input_ended command input out (Soup soup.TooLong) needs why = record { cause = (refl, needs.too_many input why.0); names = λ p is. cc; calm = λ f m. why.1 }
+pub input_ended : (command : Command) (input out : Change) (r : Refusal) → NeedsMesh command → IsInputRefusal input r
+    → Ended command input out r
+input_ended command input out (Soup soup.Fault) needs why = record {
+  cause = needs.fails input why;
+  names = λ p is. cc;
+  calm = λ f m. absurd (f refl);
+}
+input_ended command input out (Soup soup.TooLong) needs why =
+    record { cause = (refl, needs.too_many input why.0); names = λ p is. cc; calm = λ f m. why.1 }
 input_ended command input out (Soup (soup.Obj fail)) needs why = record {
   cause = text_cause command input out fail needs why.0;
   names = λ p is. absurd (obj_place fail p is);
   calm = λ f m. why.2;
 }
-input_ended command input out (Soup soup.Memory) needs why = record { cause = tt; names = λ p is. cc; calm = λ f m. absurd (m refl) }
+input_ended command input out (Soup soup.Memory) needs why = record {
+  cause = tt;
+  names = λ p is. cc;
+  calm =
+      λ f m. absurd (m refl);
+}
 input_ended command input out (NotManifold named) needs why = record {
   cause = record {
     bytes = why.read.bytes;
     whole = needs.reads input why.read.bytes why.read.whole;
-    said = needs.refuses why.read.bytes (answers.NotManifold named.place) (record { soup = why.soup; said = why.read.said; fault = why.fault; refuted = why.refuted });
+    said = needs.refuses why.read.bytes (answers.NotManifold named.place) (record {
+      soup = why.soup;
+      said =
+          why.read.said;
+      fault = why.fault;
+      refuted = why.refuted;
+    });
   };
   names = λ p is. record {
     bytes = why.read.bytes;
@@ -189,7 +209,12 @@ input_ended command input out (NotManifold named) needs why = record {
   };
   calm = λ f m. why.calm;
 }
-input_ended command input out refusals.Memory needs why = record { cause = tt; names = λ p is. cc; calm = λ f m. absurd (m refl) }
+input_ended command input out refusals.Memory needs why = record {
+  cause = tt;
+  names = λ p is. cc;
+  calm =
+      λ f m. absurd (m refl);
+}
 input_ended command input out _ needs why = absurd why
 
 -- So does want of memory.
@@ -197,8 +222,10 @@ pub memory_ended : (command : Command) (input out : Change) → Ended command in
 memory_ended command input out = record { cause = tt; names = λ p is. cc; calm = λ f m. absurd (m refl) }
 
 -- The line that was said has the answer of the refusal and the numbers that it keeps.
-pub says_why : (words : Words) (command : Command) (input err : Change) (r : Refusal) (answer : Answer) (names : List ℕ) (line : Bytes)
-    → IsCommand words command → answer ≡ answer_of r → names ≡ names_of r → AreNames command input (answer_of r) (names_of r)
+pub says_why : (words : Words) (command : Command) (input err : Change) (r : Refusal) (answer : Answer) (names : List ℕ)
+    (line : Bytes)
+    → IsCommand words command → answer ≡ answer_of r → names ≡ names_of r
+    → AreNames command input (answer_of r) (names_of r)
     → line ≡ error_line names answer → Said line err → SaidWhy words input err answer
 says_why words command input err r answer names line accepted is named of_file says said = record {
   names = names;
@@ -212,7 +239,8 @@ says_why words command input err r answer names line accepted is named of_file s
 }
 
 -- A refusal that is handed on ends the command as it was, where nothing was written.
-pub handed_run : {O : Type 0} (command : Command) (input : Change) (out : Stream O) (result : Result (Unit {0}) Refusal) (r : Refusal)
+pub handed_run : {O : Type 0} (command : Command) (input : Change) (out : Stream O) (result : Result (Unit {0}) Refusal)
+    (r : Refusal)
     → IsErrAnd result (λ e. e ≡ r) → Ended command input out.change r → IsStill out → HasRun command input out result
 handed_run command input out (Ok x) r is ended same = absurd is
 handed_run command input out (Err e) r is ended same =

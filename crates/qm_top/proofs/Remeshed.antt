@@ -42,16 +42,20 @@ use Rattle.remesh_laws.specs.Keeps.{ShowsTask}
 
 -- Where a reader passes over the lines around the new mesh, it is read again.
 abbrev pub IsReadAside : (asks : Asks) (bytes text : Bytes) (said : WritesFinished asks bytes text) → Type 0
-IsReadAside asks bytes text said = IsAside (said.task.head ++ 10 ∷ []) → IsAside (lines_between said.task said.soup text said.shown.finished)
+IsReadAside asks bytes text said = IsAside (said.task.head ++ 10 ∷ [])
+    → IsAside (lines_between said.task said.soup text said.shown.finished)
     → RereadsTask asks bytes text said
 
 -- It does where the lines of the task that was asked are such.
-pub task_reread : (asks : Asks) (bytes text : Bytes) (said : WritesFinished asks bytes text) (task : Task) → said.task ≡ task → IsAside (task.head ++ 10 ∷ [])
+pub task_reread : (asks : Asks) (bytes text : Bytes) (said : WritesFinished asks bytes text) (task : Task)
+    → said.task ≡ task → IsAside (task.head ++ 10 ∷ [])
     → IsAside (task.between said.shown.finished.plan (lengths_in (used said.shown.finished.certificates).x))
     → IsReadAside asks bytes text said → RereadsTask asks bytes text said
 task_reread asks bytes text said task is head between read =
     read (subst (λ (t : Task). IsAside (t.head ++ 10 ∷ [])) (sym is) head)
-    (subst (λ (t : Task). IsAside (t.between said.shown.finished.plan (lengths_in (used said.shown.finished.certificates).x))) (sym is) between)
+    (subst (λ (t : Task). IsAside
+    (t.between said.shown.finished.plan (lengths_in (used said.shown.finished.certificates).x))) (sym is)
+    between)
 
 -- What a command does that asks for a task: it writes it finished, so that it is read again, or refuses it.
 pub record IsTasked (command : Command) (asks : Asks) : Type 0 where
@@ -61,8 +65,10 @@ pub record IsTasked (command : Command) (asks : Asks) : Type 0 where
   pub refuses : (bytes : Bytes) (answer : Answer) → RefusesTask asks bytes answer → Refuses command bytes answer
 
 -- What such a command keeps that has read a mesh.
-pub task_writer : (command : Command) (asks : Asks) (input out : Change) (soup : FaceSet) → NeedsMesh command → IsTasked command asks
-    → IsManifold soup.faces → (read : ReadSoup MAX_BYTES input.told input.told_now soup) → input.faults_now ≡ input.faults
+pub task_writer : (command : Command) (asks : Asks) (input out : Change) (soup : FaceSet) → NeedsMesh command
+    → IsTasked command asks
+    → IsManifold soup.faces → (read : ReadSoup MAX_BYTES input.told input.told_now soup)
+    → input.faults_now ≡ input.faults
     → IsWriter command (ShowsAsked asks read.bytes soup) (IsOfLayout (FailsAsked asks read.bytes soup)) input out
 task_writer command asks input out soup needs tasked manifold read calm = record {
   bytes = read.bytes;
@@ -78,7 +84,8 @@ task_writer command asks input out soup needs tasked manifold read calm = record
     mesh : IsMeshText read.bytes soup
     mesh = record { said = read.said; manifold = manifold }
 
-    refused : (answer : Answer) (task : Task) (plan : Plan) → asks read.bytes soup task → IsCutLayout soup.faces task.marks plan
+    refused : (answer : Answer) (task : Task) (plan : Plan) → asks read.bytes soup task
+        → IsCutLayout soup.faces task.marks plan
         → RefusesLayout task.wish plan task.settings task.auto answer → Refused command input answer
     refused answer task plan asked cut why = record {
       bytes = read.bytes;
@@ -87,54 +94,75 @@ task_writer command asks input out soup needs tasked manifold read calm = record
           (inr (task, plan, record { soup = soup; mesh = mesh; asked = asked; cut = cut }, why));
     }
 
-    refuses : (fail : LayoutFail) → FailsAsked asks read.bytes soup fail → Cause command input out (answer_of_layout fail)
+    refuses : (fail : LayoutFail) → FailsAsked asks read.bytes soup fail
+        → Cause command input out (answer_of_layout fail)
     refuses layouts.Memory why = tt
-    refuses (layouts.Tangled count) (task, asked, (plan, cut, why)) = refused (answers.Tangled count) task plan asked cut why
-    refuses (layouts.TooFine faces kept) (task, asked, (plan, cut, why)) = refused (answers.TooFine faces kept) task plan asked cut why
-    refuses (layouts.Doubled u v cert) (task, asked, (plan, cut, why)) = refused (answers.Doubled u v cert) task plan asked cut why
+    refuses (layouts.Tangled count) (task, asked, (plan, cut, why)) =
+        refused (answers.Tangled count) task plan asked cut why
+    refuses (layouts.TooFine faces kept) (task, asked, (plan, cut, why)) =
+        refused (answers.TooFine faces kept) task plan asked cut why
+    refuses (layouts.Doubled u v cert) (task, asked, (plan, cut, why)) =
+        refused (answers.Doubled u v cert) task plan asked cut why
 
 -- The commands that do so.
-pub remesh_tasked : (settings : Settings) (auto : Bool) → AreInRange settings auto → IsTasked (commands.Remesh settings auto) (AsksToRemesh settings auto)
+pub remesh_tasked : (settings : Settings) (auto : Bool) → AreInRange settings auto
+    → IsTasked (commands.Remesh settings auto) (AsksToRemesh settings auto)
 remesh_tasked settings auto range = record {
   writes = λ bytes text said. said;
   read = λ bytes text said read.
-      task_reread (AsksToRemesh settings auto) bytes text said (remesh_task settings auto said.soup.faces) said.asked (head_aside settings auto range) none_aside read;
+      task_reread (AsksToRemesh settings auto) bytes text said (remesh_task settings auto said.soup.faces) said.asked
+      (head_aside settings auto range) none_aside read;
   refuses = λ bytes answer why. why;
 }
 
-pub crease_tasked : (settings : Settings) → AreInRange settings false → IsTasked (commands.Crease settings) (AsksToCrease settings)
+pub crease_tasked : (settings : Settings) → AreInRange settings false
+    → IsTasked (commands.Crease settings) (AsksToCrease settings)
 crease_tasked settings range = record {
   writes = λ bytes text said. said;
   read = λ bytes text said read short.
-      task_reread (AsksToCrease settings) bytes text said (creased_task settings said.soup.faces said.asked.0) said.asked.2 (crease_aside settings range)
+      task_reread (AsksToCrease settings) bytes text said (creased_task settings said.soup.faces said.asked.0)
+      said.asked.2 (crease_aside settings range)
       (marked_aside said.asked.0 said.shown.finished.plan (lengths_in (used said.shown.finished.certificates).x)
-      (subst (λ (t : Task). HasShortLines (t.between said.shown.finished.plan (lengths_in (used said.shown.finished.certificates).x)))
+      (subst (λ (t : Task). HasShortLines
+      (t.between said.shown.finished.plan (lengths_in (used said.shown.finished.certificates).x)))
       said.asked.2 short))
       read;
   refuses = λ bytes answer why. inr why;
 }
 
-pub coarse_tasked : (settings : Settings) → AreInRange settings false → IsTasked (commands.Coarse settings) (AsksToMerge settings)
+pub coarse_tasked : (settings : Settings) → AreInRange settings false
+    → IsTasked (commands.Coarse settings) (AsksToMerge settings)
 coarse_tasked settings range = record {
   writes = λ bytes text said. said;
   read = λ bytes text said read.
-      task_reread (AsksToMerge settings) bytes text said (named_task (codes "coarse") settings said.asked.0) said.asked.2 (coarse_aside settings range) none_aside read;
+      task_reread (AsksToMerge settings) bytes text said (named_task (codes "coarse") settings said.asked.0)
+      said.asked.2 (coarse_aside settings range) none_aside read;
   refuses = λ bytes answer why. why;
 }
 
-module _ (asks : Asks) (bytes : Bytes) (soup read : FaceSet) (same : soup ≡ read) (task : Task) (asked : asks bytes soup task) (result : Result (Unit {0}) Refusal) where
+module _ (asks : Asks) (bytes : Bytes) (soup read : FaceSet) (same : soup ≡ read) (task : Task)
+    (asked : asks bytes soup task) (result : Result (Unit {0}) Refusal) where
   -- What is done for a task is done for whoever asks for it.
-  pub asked_done : (out : Change) → OnOk result (WroteText (ShowsTask task soup) out) → OnOk result (WroteText (ShowsAsked asks bytes read) out)
+  pub asked_done : (out : Change) → OnOk result (WroteText (ShowsTask task soup) out)
+      → OnOk result (WroteText (ShowsAsked asks bytes read) out)
   asked_done out done =
       subst (λ (s : FaceSet). OnOk result (WroteText (ShowsAsked asks bytes s) out)) same
-      (on_ok_weaker result (λ (wrote : WroteText (ShowsTask task soup) out). record { text = wrote.text; said = (task, asked, wrote.said); written = wrote.written }) done)
+      (on_ok_weaker result (λ (wrote : WroteText (ShowsTask task soup) out). record {
+        text = wrote.text;
+        said =
+            (task, asked, wrote.said);
+        written = wrote.written;
+      }) done)
 
   -- So is what is refused.
-  pub asked_refused : {O : Type 0} (out : Stream O) → IfErr result (IsUnwritten (ShowsTask task soup) (IsOfLayout (FailsTask task soup)) out)
+  pub asked_refused : {O : Type 0} (out : Stream O)
+      → IfErr result (IsUnwritten (ShowsTask task soup) (IsOfLayout (FailsTask task soup)) out)
       → IfErr result (IsUnwritten (ShowsAsked asks bytes read) (IsOfLayout (FailsAsked asks bytes read)) out)
   asked_refused out refused =
-      subst (λ (s : FaceSet). IfErr result (IsUnwritten (ShowsAsked asks bytes s) (IsOfLayout (FailsAsked asks bytes s)) out)) same
+      subst (λ (s : FaceSet). IfErr result (IsUnwritten (ShowsAsked asks bytes s) (IsOfLayout (FailsAsked asks bytes s))
+      out)) same
       (IfErr-weaker result _ _
-      (unwritten_weaker (ShowsTask task soup) (ShowsAsked asks bytes soup) (FailsTask task soup) (FailsAsked asks bytes soup) out
+      (unwritten_weaker (ShowsTask task soup) (ShowsAsked asks bytes soup) (FailsTask task soup)
+      (FailsAsked asks bytes soup) out
       (λ text shown. (task, asked, shown)) (λ fail fails. (task, asked, fails)))
       refused)

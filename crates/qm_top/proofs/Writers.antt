@@ -23,7 +23,8 @@ use Rattle.qm_top.specs.declared.refusal.Refusal.TheVariants.{Layout, Write}
 use Rattle.qm_top.specs.declared.refusal.Refusal.TheVariants as refusals
 
 -- What holds of a mesh and a layout holds of the cut mesh that is made of both.
-pub on_cut : (P : Faces → Plan → Type 0) (faces : Faces) (soup : FaceSet) (plan : Plan) (cut : CutSoup) → faces ≡ soup.faces
+pub on_cut : (P : Faces → Plan → Type 0) (faces : Faces) (soup : FaceSet) (plan : Plan) (cut : CutSoup)
+    → faces ≡ soup.faces
     → cut ≡ record { soup = soup; plan = plan } → P faces plan → P cut.soup.faces cut.plan
 on_cut P faces soup plan cut same made holds =
     subst (λ (k : CutSoup). P k.soup.faces k.plan) (sym made) (subst (λ (fs : Faces). P fs plan) same holds)
@@ -34,7 +35,8 @@ layout_place layouts.Memory p is = cc
 layout_place _ p is = cc
 
 -- What is known of a command that has read its bytes: what it writes for them, and how a refusal ends it.
-pub record IsWriter (command : Command) (says : Bytes → Type 0) (why : Refusal → Type 0) (input out : Change) : Type 0 where
+pub record IsWriter (command : Command) (says : Bytes → Type 0) (why : Refusal → Type 0) (input out : Change) : Type
+    0 where
   pub bytes : Bytes
   pub whole : Reads command input bytes
   pub calm : input.faults_now ≡ input.faults
@@ -42,7 +44,8 @@ pub record IsWriter (command : Command) (says : Bytes → Type 0) (why : Refusal
   pub read : (text : Bytes) (said : says text) → Rereads command bytes text (writes text said)
   pub ends : (r : Refusal) → why r → Ended command input out r
 
-module _ {O : Type 0} (command : Command) (says : Bytes → Type 0) (why : Refusal → Type 0) (input : Change) (out : Stream O)
+module _ {O : Type 0} (command : Command) (says : Bytes → Type 0) (why : Refusal → Type 0) (input : Change)
+    (out : Stream O)
     (is : IsWriter command says why input out.change) where
   -- A text that was not written whole ends the command.
   unwritten_ends : (r : Refusal) → IsUnwritten says why out r → Ended command input out.change r
@@ -66,7 +69,8 @@ module _ {O : Type 0} (command : Command) (says : Bytes → Type 0) (why : Refus
   same_sink _ none other = none.0
 
   pub writer_runs : (result : Result (Unit {0}) Refusal)
-      → OnOk result (WroteText says out.change) → IfErr result (IsUnwritten says why out) → HasRun command input out result
+      → OnOk result (WroteText says out.change) → IfErr result (IsUnwritten says why out)
+      → HasRun command input out result
   writer_runs (Ok x) wrote none = record {
     done = record {
       wrote = record {
@@ -86,21 +90,29 @@ module _ {O : Type 0} (command : Command) (says : Bytes → Type 0) (why : Refus
       record { done = tt; refused = unwritten_ends r none; untouched = same_sink r none }
 
 -- A layout that is refused, or want of memory, ends a command that refuses such layouts.
-pub layout_ends : (command : Command) (fails : LayoutFail → Type 0) (input out : Change) → input.faults_now ≡ input.faults
+pub layout_ends : (command : Command) (fails : LayoutFail → Type 0) (input out : Change)
+    → input.faults_now ≡ input.faults
     → ((fail : LayoutFail) → fails fail → Cause command input out (answer_of_layout fail))
     → (r : Refusal) → IsOfLayout fails r → Ended command input out r
 layout_ends command fails input out calm refuses (Layout fail) why =
     record { cause = refuses fail why; names = λ p same. absurd (layout_place fail p same); calm = λ _ _. calm }
-layout_ends command fails input out calm refuses refusals.Memory why = record { cause = tt; names = λ p same. cc; calm = λ _ _. calm }
+layout_ends command fails input out calm refuses refusals.Memory why = record {
+  cause = tt;
+  names = λ p same. cc;
+  calm =
+      λ _ _. calm;
+}
 layout_ends command fails input out calm refuses _ why = absurd why
 
 -- Where no text is begun the sink is as it was.
-pub not_begun : {O : Type 0} (says : Bytes → Type 0) (why : Refusal → Type 0) (out : Stream O) → ((fail : WriteFail) → why (Write fail) → ⊥)
+pub not_begun : {O : Type 0} (says : Bytes → Type 0) (why : Refusal → Type 0) (out : Stream O)
+    → ((fail : WriteFail) → why (Write fail) → ⊥)
     → out.now ≡ out.before → (r : Refusal) → why r → IsUnwritten says why out r
 not_begun says why out never same (Write fail) none = absurd (never fail none)
 not_begun says why out never same r none = (same, none)
 
 -- Two facts of a value are one.
-pub on_ok_both : {T E : Type 0} (P Q : Type 0) (result : Result T E) → OnOk result P → OnOk result Q → OnOk result (P × Q)
+pub on_ok_both : {T E : Type 0} (P Q : Type 0) (result : Result T E) → OnOk result P → OnOk result Q
+    → OnOk result (P × Q)
 on_ok_both P Q (Ok value) p q = (p, q)
 on_ok_both P Q (Err error) p q = tt

@@ -1,5 +1,5 @@
 -- What `refine` does with a mesh.
-use Rattle.std.specs.Prelude.{◌≡◌, ◌≤◌, ℕ, ⊤}
+use Rattle.std.specs.Prelude.{◌≡◌, ◌≤◌, ℕ, None, ⊤}
 use Rattle.def_io.specs.Bytes.{Bytes}
 use Rattle.def_layout.specs.Arcs.{long_at}
 use Rattle.def_layout.specs.Plans.{Plan}
@@ -29,6 +29,7 @@ pub record IsRefinedMesh (by : ℕ) (soup : FaceSet) (new : Regrid) : Type 0 whe
   pub laid : IsMeshLayout soup.faces new.plan
   pub cut : IsTracedLayout soup.faces new.plan
   pub lengths : lengths_in new.lengths ≡ multiple_of by (long_at new.plan.arcs)
+  pub even : new.shares ≡ None
   pub fits : refined_faces by new.plan ≤ MAX_NEW_FACES
   pub shape : KeepsShapes new.plan (multiple_of by (long_at new.plan.arcs))
 

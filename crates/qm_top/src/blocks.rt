@@ -1,6 +1,6 @@
 //! `blocks`: a mesh is read, and its patches are written as blocks with each edge divided in so many.
 
-ghost use Rattle.std.specs.Prelude.{◌≡◌, ◌≤◌, IfOk, IfErr, OnOk, OnErr};
+ghost use Rattle.std.specs.Prelude.{◌≡◌, ◌≤◌, None, IfOk, IfErr, OnOk, OnErr};
 ghost use Rattle.def_io.specs.Faults.{Rose};
 ghost use Rattle.def_io.specs.Moves.{change, stream, took, TookPrefix};
 ghost use Rattle.def_run.specs.Blocks.{IsBlocked};
@@ -73,7 +73,8 @@ pub(crate) fn blocks_of(
     by: u32,
     points: Regridded,
 ) -> Result<Blocks, Memory>
-    requires { by ≤ MAX_MULTIPLE }
+    requires few { by ≤ MAX_MULTIPLE }
+    requires even { points.shares ≡ None }
     ensures { IfOk result (AreBlocksOf chosen by points) }
 {
     let links = links_by(alloc, points.cut(), by)?;

@@ -1,10 +1,10 @@
-//! `check`: an old text and the text of a remesh of its mesh are checked.
+//! `check`: an old text and the text of a remesh or of a fit of its mesh are checked.
 
 ghost use Rattle.std.specs.Prelude.{◌≡◌, ◌≤◌, length, IfErr, OnOk};
 ghost use Rattle.def_io.specs.Moves.{change, stream};
 ghost use Rattle.def_remesh.specs.Checked.{accepted_line};
-ghost use Rattle.def_run.specs.Check.{WritesAccepted};
-ghost use Rattle.qm_top.specs.Checking.{IsNoPairFor};
+ghost use Rattle.def_run.specs.Checking.{WritesAccepted};
+ghost use Rattle.qm_top.specs.Checking.{IsUnaccepted};
 ghost use Rattle.qm_top.specs.Runs.{HasRun};
 ghost use Rattle.qm_top.specs.Writing.{IsUnwritten, WroteText};
 
@@ -17,7 +17,7 @@ use qm_io::{Sink, Source, read_bytes, write_all};
 use qm_print::{Line, numbered_line, push_integer, push_numbered};
 use std::alloc::Global;
 
-/// Reads an old text and the text of a remesh behind it, and writes the line that accepts them.
+/// Reads an old text and the text of a remesh or of a fit behind it, and writes the line that accepts them.
 pub(crate) fn check<S: Source, O: Sink>(
     alloc: Global,
     input: &mut S,
@@ -36,7 +36,7 @@ fn check_bytes<O: Sink>(alloc: Global, bytes: &[u8], out: &mut O) -> Result<(), 
     requires { length bytes.now ≤ MAX_BYTES }
     ensures done { OnOk result (WroteText (WritesAccepted bytes.now)
         (change (O.state out.old) (O.state out.new))) }
-    ensures refused { IfErr result (IsUnwritten (WritesAccepted bytes.now) (IsNoPairFor bytes.now)
+    ensures refused { IfErr result (IsUnwritten (WritesAccepted bytes.now) (IsUnaccepted bytes.now)
         (stream O.state out.old out.new)) }
 {
     match check_pair(alloc, bytes) {

@@ -28,8 +28,8 @@ use qm_remesh::keep;
 use qm_write::Framed;
 use std::alloc::Global;
 
-/// Reads a mesh and its marked edges, and writes the new mesh with least lengths, with the lines of these edges and with
-/// the certificate.
+/// Reads a mesh and its marked edges, and writes the new mesh with least lengths, with the lines of these edges and
+/// with the certificate.
 pub(crate) fn crease<S: Source, O: Sink>(
     alloc: Global,
     settings: Settings,
@@ -78,6 +78,7 @@ fn crease_mesh<O: Sink>(
         head,
         between,
         remesh,
+        shares: None,
     };
     write_framed(alloc, cut, framed, out)?;
     Ok(())

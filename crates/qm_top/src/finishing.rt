@@ -53,6 +53,7 @@ pub(crate) fn finish<O: Sink>(
         head: headed.head,
         between: Vec::new(alloc),
         remesh,
+        shares: None,
     };
     write_framed(alloc, cut, framed, out)?;
     Ok(())

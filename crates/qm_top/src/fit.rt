@@ -1,5 +1,5 @@
-//! `fit`: a mesh is read with what the lines beside it say, and remeshed over the cut and near the lengths that are
-//! chosen.
+//! `fit`: a mesh is read with what the lines beside it say, and remeshed over the cut, near the lengths and with the
+//! spacing that are chosen.
 
 ghost use Rattle.std.specs.Prelude.{◌≡◌, Ok, length, IfErr, OnOk};
 ghost use Rattle.def_fit.specs.Aims.{IsFit};
@@ -26,6 +26,7 @@ use qm_cutmesh::Meshed;
 use qm_fit::fit_head;
 use qm_io::{Sink, Source, read_lines};
 use qm_marktext::lines_between;
+use qm_metric::shares_of;
 use qm_remesh::keep_fit;
 use qm_write::Framed;
 use std::alloc::Global;
@@ -72,12 +73,14 @@ fn fit_mesh<O: Sink>(
     let kept = asides.kept.as_deref();
     let cut = chosen_cut(alloc, read, kept, fit.patches)?;
     let remesh = keep_fit(alloc, &cut, fit, &asides.wishes)?;
+    let shares = shares_of(alloc, &cut, fit, &asides.wishes)?;
     let head = fit_head(alloc, fit)?;
     let between = lines_between(alloc, kept, &cut, &remesh)?;
     let framed = Framed {
         head,
         between,
         remesh,
+        shares,
     };
     write_framed(alloc, cut, framed, out)?;
     Ok(())

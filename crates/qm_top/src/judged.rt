@@ -1,7 +1,7 @@
 //! Why a text that was judged is refused.
 
 ghost use Rattle.def_io.specs.Bytes.{Bytes};
-ghost use Rattle.def_run.specs.CheckFails.{IsCheckFail};
+ghost use Rattle.def_run.specs.CheckFails.{IsPairFail};
 ghost use Rattle.def_run.specs.MapFails.{IsMapFail};
 ghost use Rattle.qm_top.specs.Checking.{IsNoPairFor, IsPlaced};
 ghost use Rattle.qm_top.specs.Mapping.{IsNoMapFor};
@@ -15,7 +15,7 @@ use qm_check::CheckFail;
 /// The refusal of a text that is no pair, or has no map.
 pub(crate) fn judged_refusal(fail: CheckFail) -> Refusal
     requires { IsPlaced fail }
-    ensures pair { (bytes : Bytes) → IsCheckFail bytes fail → IsNoPairFor bytes result }
+    ensures pair { (bytes : Bytes) → IsPairFail bytes fail → IsNoPairFor bytes result }
     ensures mapped { (bytes : Bytes) → IsMapFail bytes fail → IsNoMapFor bytes result }
 {
     match fail {

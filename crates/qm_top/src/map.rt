@@ -1,5 +1,5 @@
-//! `map`: the text of a mesh and the text of a new mesh behind it are judged, and where the new mesh lies in the old one
-//! is written.
+//! `map`: the text of a mesh and the text of a new mesh behind it are judged, and where the new mesh lies in the old
+//! one is written.
 
 ghost use Rattle.std.specs.Prelude.{◌≡◌, ◌≤◌, length, IfErr, OnOk, OnErr};
 ghost use Rattle.def_io.specs.Faults.{Rose};

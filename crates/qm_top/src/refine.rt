@@ -1,6 +1,6 @@
 //! `refine`: a mesh is read, and written with each edge divided in so many.
 
-ghost use Rattle.std.specs.Prelude.{◌≡◌, ◌≤◌, IfOk, IfErr, OnOk, OnErr};
+ghost use Rattle.std.specs.Prelude.{◌≡◌, ◌≤◌, None, IfOk, IfErr, OnOk, OnErr};
 ghost use Rattle.def_io.specs.Faults.{Rose};
 ghost use Rattle.def_io.specs.Moves.{change, stream, took, TookPrefix};
 ghost use Rattle.def_layout.specs.Arcs.{long_at};
@@ -73,7 +73,7 @@ pub(crate) fn refined_cut(alloc: Global, by: u32, cut: CutMesh) -> Result<Regrid
     requires some { 1 ≤ by }
     requires few { by ≤ MAX_MULTIPLE }
     ensures new { IfOk result (λ new. (new.soup ≡ cut.soup) × (new.plan ≡ cut.plan)
-        × (lengths_in new.lengths ≡ multiple_of by (long_at cut.plan.arcs))) }
+        × (lengths_in new.lengths ≡ multiple_of by (long_at cut.plan.arcs)) × (new.shares ≡ None)) }
     ensures few { OnOk result (refined_faces by cut.plan ≤ MAX_NEW_FACES) }
     ensures shape { OnOk result (KeepsShapes cut.plan (multiple_of by (long_at cut.plan.arcs))) }
     ensures refused { IfErr result (FailsBy by cut.plan) }
@@ -96,7 +96,8 @@ fn write_refined<O: Sink>(
     out: &mut O,
     room: &mut Room,
 ) -> Result<(), Stopped>
-    requires { lengths_in new.now.lengths ≡ multiple_of by (long_at new.now.plan.arcs) }
+    requires lengths { lengths_in new.now.lengths ≡ multiple_of by (long_at new.now.plan.arcs) }
+    requires even { new.now.shares ≡ None }
     ensures whole { OnOk result ((O.state out.new).told
         ≡ took (O.state out.old).told (refined_text by new.now.soup new.now.plan)) }
     ensures prefix { OnErr result (TookPrefix (O.state out.old).told (O.state out.new).told

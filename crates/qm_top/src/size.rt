@@ -69,6 +69,7 @@ fn size_mesh<O: Sink>(
         head,
         between: Vec::new(alloc),
         remesh,
+        shares: None,
     };
     write_framed(alloc, cut, framed, out)?;
     Ok(())

@@ -217,6 +217,49 @@ fn other_commands_refuse_as_fit_does(rt: HostRuntime) -> Result<(), Fail> {
     Ok(())
 }
 
+/// Texts, the options of `fit` for them, and the places of the new points that these wish, worked by hand.
+const SPACED: [(&[u8], &str, &[u8]); 3] = [
+    // An arc with the shares 500, 1500 and 0, and one without any, in two new edges each.
+    (
+        b"v 0 0 0\nv 1 0 0\nv 2 0 0\nv 3 0 0\nv 0 1 0\nv 1 1 0\nv 2 1 0\nv 3 1 0\n\
+        f 1 2 6 5\nf 2 3 7 6\nf 3 4 8 7\n\
+        #w 1 2 500\n#w 2 3 1500\n#w 3 4 0\n#w 5 6 0\n#w 6 7 0\n#w 8 7 0\n",
+        "--keep none --aim lines --floor 2",
+        b"v 0 0 0\nv 3 0 0\nv 0 1 0\nv 3 1 0\nv 1.333333 0 0\nv 1.5 1 0\nv 0 0.5 0\nv 3 0.5 0\n\
+        v 1.416667 0.5 0\nf 1 5 9 7\n",
+    ),
+    // An arc with the shares 1500 and 500 between two patches, one of which uses it against its direction.
+    (
+        b"v 0 0 0\nv 1 0 0\nv 2 0 0\nv 0 1 0\nv 1 1 0\nv 2 1 0\nv 0 2 0\nv 1 2 0\nv 2 2 0\n\
+        f 1 2 5 4\nf 2 3 6 5\nf 4 5 8 7\nf 5 6 9 8\nl 4 5 6\n#w 4 5 500\n#w 6 5 1500\n",
+        "--keep lines --aim lines --floor 2",
+        b"v 0 0 0\nv 2 0 0\nv 0 1 0\nv 2 1 0\nv 0 2 0\nv 2 2 0\nv 1 0 0\nv 1.333333 1 0\n\
+        v 0 0.5 0\nv 2 0.5 0\nv 1 2 0\nv 0 1.5 0\nv 2 1.5 0\nv 1.166667 0.5 0\nv 1.166667 1.5 0\n\
+        f 1 7 14 9\n",
+    ),
+    // Edges of one length in space, where old edges have the lengths 1 and 2.
+    (
+        b"v 0 0 0\nv 1 0 0\nv 3 0 0\nv 0 1 0\nv 1 1 0\nv 3 1 0\nf 1 2 5 4\nf 2 3 6 5\n",
+        "--keep none --aim edge:1 --floor 1",
+        b"v 0 0 0\nv 3 0 0\nv 0 1 0\nv 3 1 0\nv 1 0 0\nv 2 0 0\nv 2 1 0\nv 1 1 0\nf 1 5 8 3\n",
+    ),
+];
+
+#[test]
+fn points_stand_where_they_are_wished(rt: HostRuntime) -> Result<(), Fail> {
+    let alloc = rt.alloc();
+    for (text, options, wanted) in SPACED {
+        let line = format!(in alloc;
+            "fit {options} --patches traced --weight plain --spacing wished"
+        )?;
+        let (answer, out, err) = ran(alloc, &line, text, ALL_WELL)?;
+        assert!(rt; matches!(answer, Answer::Done));
+        assert!(rt; behind_head(out.taken()).starts_with(wanted));
+        assert_eq!(rt; err.taken(), b"".as_slice());
+    }
+    Ok(())
+}
+
 /// An environment in memory, with the program's name first.
 #[derive(Drop)]
 struct Given<'a> {

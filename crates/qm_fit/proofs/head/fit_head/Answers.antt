@@ -1,23 +1,24 @@
-use Rattle.std.proofs.Common.{◌++◌, ◌∷◌, [], codes, sym, ap, ◌∙◌, append_assoc}
+use Rattle.std.proofs.Common.{◌++◌, ◌∷◌, [], codes, ap, ◌∙◌}
 use Rattle.std.specs.Prelude.{decimal}
 use Rattle.def_certtext.specs.Settings.{weight_text}
-use Rattle.def_fit.specs.FitWords.{aim_text, keep_word, patches_word}
+use Rattle.def_fit.specs.FitWords.{aim_text, keep_word, patches_word, spacing_word}
 use Rattle.def_text.specs.Types.{Word}
 use Rattle.qm_fit.proofs.head.fit_head.Goals as goal
 
 pub returns : goal.returns
 returns c =
     let fit = c.args.fit.now in
-    let first = c.in_ok-extend_from_slice.ensures.items ∙ ap (λ (t : Word). t ++ codes "#quadq 1 fit keep ") c.new-text.ensures.items in
-    let keep = c.in_ok-extend_from_slice-2.ensures.items ∙ (λ i. first i ++ (c.as_bytes.ensures.value ∙ c.keep_word.ensures.word) i) in
+    let first = c.in_ok-extend_from_slice.ensures.items ∙ ap (λ (t : Word). t ++ codes "#quadq 1 fit keep ")
+    c.new-text.ensures.items in
+    let keep = c.in_ok-extend_from_slice-2.ensures.items
+    ∙ (λ i. first i ++ (c.as_bytes.ensures.value ∙ c.keep_word.ensures.word) i) in
     let second = c.in_ok-extend_from_slice-3.ensures.items ∙ ap (λ (t : Word). t ++ codes " patches ") keep in
-    let cut = c.in_ok-extend_from_slice-4.ensures.items ∙ (λ i. second i ++ (c.as_bytes-2.ensures.value ∙ c.patches_word.ensures.word) i) in
+    let cut = c.in_ok-extend_from_slice-4.ensures.items
+    ∙ (λ i. second i ++ (c.as_bytes-2.ensures.value ∙ c.patches_word.ensures.word) i) in
     let third = c.in_ok-extend_from_slice-5.ensures.items ∙ ap (λ (t : Word). t ++ codes " aim ") cut in
     let aim = c.in_ok-push_aim.ensures ∙ ap (λ (t : Word). t ++ aim_text fit.aim) third in
     let least = c.in_ok-push_least.ensures
     ∙ ap (λ (t : Word). t ++ codes " floor " ++ decimal fit.floor ++ codes " weight " ++ weight_text fit.weight) aim in
-    c.in_ok-extend_from_slice-6.ensures.items ∙ ap (λ (t : Word). t ++ codes " spacing even\n") least
-    ∙ sym (append_assoc
-    (codes "#quadq 1 fit keep " ++ keep_word fit.keep ++ codes " patches " ++ patches_word fit.patches ++ codes " aim " ++ aim_text fit.aim ++ codes " floor "
-    ++ decimal fit.floor ++ codes " weight " ++ weight_text fit.weight)
-    (codes " spacing even") (10 ∷ []))
+    let spacing = c.in_ok-push_spacing.ensures
+    ∙ ap (λ (t : Word). t ++ codes " spacing " ++ spacing_word fit.spacing) least in
+    c.in_ok-push.ensures.items ∙ ap (λ (t : Word). t ++ 10 ∷ []) spacing

@@ -3,4 +3,9 @@ use Rattle.qm_metric.proofs.RootLaws.{root_law}
 use Rattle.qm_metric.proofs.roots.root.Goals as goal
 
 pub returns-clause-value : goal.returns-clause-value
-returns-clause-value c = (root_law c.args.n c.ranges.n.fits).1 _ (record { low = c.isqrt.ensures.square_le; high = c.isqrt.ensures.next_square_gt })
+returns-clause-value c =
+    (root_law c.args.n c.ranges.n.fits).1 _ (record {
+      low = c.isqrt.ensures.square_le;
+      high =
+          c.isqrt.ensures.next_square_gt;
+    })

@@ -7,8 +7,15 @@ pub loop-dart-preserved : goal.loop-dart-preserved
 loop-dart-preserved c =
     let dart : ℕ = get_or c.args.path.now c.loop-dart.dart-index 0 in
     let value : c.from-sum.result ≡ get_or c.args.wishes.now dart 1000 =
-    c.from-sum.ensures ∙ get_or_default c.args.wishes.now dart 0 1000 (c.requires.inside c.loop-dart.dart-index 0 c.loop-dart-test.true) in
+    c.from-sum.ensures ∙ get_or_default c.args.wishes.now dart 0 1000
+    (c.requires.inside c.loop-dart.dart-index 0 c.loop-dart-test.true) in
     record {
-      sum = omega (arith, c.loop-dart.invariant.sum, value, count_take (λ d. get_or c.args.wishes.now d 1000) 0 c.args.path.now c.loop-dart.dart-index c.loop-dart-test.true);
+      sum = omega (
+        arith,
+        c.loop-dart.invariant.sum,
+        value,
+        count_take (λ d. get_or c.args.wishes.now d 1000) 0
+            c.args.path.now c.loop-dart.dart-index c.loop-dart-test.true,
+      );
       small = omega (arith, c.loop-dart.invariant.small, c.from-sum.ensures, c.type_inv.wishes dart);
     }

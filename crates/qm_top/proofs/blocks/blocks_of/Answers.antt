@@ -10,9 +10,13 @@ use Rattle.qm_top.proofs.blocks.blocks_of.Goals as goal
 pub invariant_of-result : goal.invariant_of-result
 invariant_of-result c =
     let links = subst
-    (λ (k : CutSoup). AreLinks (layout_of k.plan) (multiple_of c.args.by (long_at k.plan.arcs)) (map (λ links. links.items) c.in_ok-links.links.items))
+    (λ (k : CutSoup). AreLinks (layout_of k.plan) (multiple_of c.args.by (long_at k.plan.arcs))
+    (map (λ links. links.items) c.in_ok-links.links.items))
     c.cut.ensures c.in_ok-links.ensures in
-    record { linked = sym (length-map c.in_ok-links.links.items (λ links. links.items)) ∙ links.blocks }
+    record {
+      linked = sym (length-map c.in_ok-links.links.items (λ links. links.items)) ∙ links.blocks;
+      even = c.requires.even;
+    }
 
 pub returns : goal.returns
 returns c = record {
@@ -20,6 +24,7 @@ returns c = record {
   parts = refl;
   points = refl;
   links = subst
-      (λ (k : CutSoup). AreLinks (layout_of k.plan) (multiple_of c.args.by (long_at k.plan.arcs)) (map (λ links. links.items) c.in_ok-links.links.items))
+      (λ (k : CutSoup). AreLinks (layout_of k.plan) (multiple_of c.args.by (long_at k.plan.arcs))
+      (map (λ links. links.items) c.in_ok-links.links.items))
       c.cut.ensures c.in_ok-links.ensures;
 }

@@ -10,5 +10,10 @@ returns g c =
     let read = c.in_ok-bytes.ensures in
     writer_runs _ _ _ _ _
     (check_writer _ _ c.deref.result.now
-    (subst (ReadWhole MAX_BYTES _ _) (sym c.deref.ensures.value) (record { given = read.bytes; ended = read.whole; few = read.short })) read.calm)
+    (subst (ReadWhole MAX_BYTES _ _) (sym c.deref.ensures.value) (record {
+      given = read.bytes;
+      ended = read.whole;
+      few =
+          read.short;
+    })) read.calm)
     c.check_bytes.result c.check_bytes.ensures.done c.check_bytes.ensures.refused

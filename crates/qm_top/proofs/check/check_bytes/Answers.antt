@@ -1,9 +1,9 @@
 use Rattle.std.proofs.Common.{rules, refl}
 use Rattle.def_io.specs.Moves.{stream}
-use Rattle.def_run.specs.Check.{WritesAccepted}
+use Rattle.def_run.specs.Checking.{WritesAccepted}
 use Rattle.error_laws.proofs.Errors.{handed}
-use Rattle.qm_top.specs.Checking.{IsNoPairFor}
-use Rattle.qm_top.proofs.Checked.{pair_placed}
+use Rattle.qm_top.specs.Checking.{IsUnaccepted}
+use Rattle.qm_top.proofs.Checked.{check_placed, unaccepted, unwritable}
 use Rattle.qm_top.proofs.Writers.{not_begun}
 use Rattle.qm_top.proofs.check.check_bytes.Goals as goal
 
@@ -16,10 +16,11 @@ returns-in_err-write_all-in-Ok-clause-refused g c = handed _ _ _ c.from_residual
 })
 
 pub judged_refusal-requires : goal.judged_refusal-requires
-judged_refusal-requires g c = pair_placed c.args.bytes.now _ c.in-Err.ensures.refused
+judged_refusal-requires g c = check_placed c.args.bytes.now _ c.in-Err.ensures.refused
 
 pub returns-in-Err-clause-refused : goal.returns-in-Err-clause-refused
 returns-in-Err-clause-refused g c =
-    not_begun (WritesAccepted c.args.bytes.now) (IsNoPairFor c.args.bytes.now)
-    (stream g.O.Sink.state c.args.out.now c.args.out.now) (λ fail none. none) refl c.judged_refusal.result
-    (c.judged_refusal.ensures.pair c.args.bytes.now c.in-Err.ensures.refused)
+    not_begun (WritesAccepted c.args.bytes.now) (IsUnaccepted c.args.bytes.now)
+    (stream g.O.Sink.state c.args.out.now c.args.out.now) (unwritable c.args.bytes.now) refl c.judged_refusal.result
+    (unaccepted c.args.bytes.now _ c.judged_refusal.result c.in-Err.ensures.refused
+    (c.judged_refusal.ensures.mapped c.args.bytes.now) (c.judged_refusal.ensures.pair c.args.bytes.now))

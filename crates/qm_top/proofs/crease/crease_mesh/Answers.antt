@@ -1,4 +1,4 @@
-use Rattle.std.proofs.Common.{Ok, false, ap, sym, ◌∙◌, refl, subst}
+use Rattle.std.proofs.Common.{None, Ok, false, ap, sym, ◌∙◌, refl, subst}
 use Rattle.error_laws.proofs.Errors.{handed}
 use Rattle.def_feature.specs.Marks.{AreMarks}
 use Rattle.def_remesh.specs.Tasks.{old_lengths}
@@ -46,8 +46,8 @@ returns-in_err-write_framed-clause-refused g c bytes said =
     let framed : Framed = record {
       head = c.in_ok-head.head;
       between = c.in_ok-between.between;
-      remesh =
-          c.in_ok-remesh.remesh;
+      remesh = c.in_ok-remesh.remesh;
+      shares = None;
     } in
     let cut = c.in_ok-cut.cut in
     let kept = c.in_ok-remesh.ensures in
@@ -59,7 +59,7 @@ returns-in_err-write_framed-clause-refused g c bytes said =
     (creased_shown c.args.settings bytes c.args.read cut c.as_slice.result.now c.in_ok-cut.ensures.soup
     (said ∙ ap Ok (sym c.as_slice.ensures.value))
     (chosen_marked c.in_ok-cut.cut.soup.faces c.as_slice.result.now c.in_ok-cut.cut.plan c.in_ok-cut.ensures.chosen)
-    framed kept.laid kept.asked kept.kept c.in_ok-head.ensures c.in_ok-between.ensures)
+    framed kept.laid kept.asked kept.kept c.in_ok-head.ensures c.in_ok-between.ensures refl)
     tt failed.ensures.prefix failed.ensures.fault failed.ensures.untouched)
 
 pub returns-clause-done : goal.returns-clause-done
@@ -67,8 +67,8 @@ returns-clause-done g c bytes said =
     let framed : Framed = record {
       head = c.in_ok-head.head;
       between = c.in_ok-between.between;
-      remesh =
-          c.in_ok-remesh.remesh;
+      remesh = c.in_ok-remesh.remesh;
+      shares = None;
     } in
     let cut = c.in_ok-cut.cut in
     let kept = c.in_ok-remesh.ensures in
@@ -78,6 +78,6 @@ returns-clause-done g c bytes said =
           (said ∙ ap Ok (sym c.as_slice.ensures.value))
           (chosen_marked c.in_ok-cut.cut.soup.faces c.as_slice.result.now c.in_ok-cut.cut.plan
           c.in_ok-cut.ensures.chosen) framed kept.laid kept.asked kept.kept c.in_ok-head.ensures
-          c.in_ok-between.ensures;
+          c.in_ok-between.ensures refl;
       written = c.in_ok-write_framed.ensures.whole;
     }

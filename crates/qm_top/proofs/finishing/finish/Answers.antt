@@ -1,4 +1,4 @@
-use Rattle.std.proofs.Common.{refl}
+use Rattle.std.proofs.Common.{None, refl}
 use Rattle.error_laws.proofs.Errors.{handed}
 use Rattle.def_remesh.specs.Tasks.{old_lengths}
 use Rattle.remesh_laws.specs.Keeps.{ShowsTask}
@@ -11,7 +11,8 @@ use Rattle.qm_top.proofs.finishing.finish.Goals as goal
 
 pub write_framed-requires : goal.write_framed-requires
 write_framed-requires g c =
-    kept_for old_lengths c.args.cut.plan c.in_ok-remesh.remesh c.args.headed.asked c.in_ok-remesh.ensures.asked c.in_ok-remesh.ensures.kept
+    kept_for old_lengths c.args.cut.plan c.in_ok-remesh.remesh c.args.headed.asked c.in_ok-remesh.ensures.asked
+    c.in_ok-remesh.ensures.kept
 
 pub returns-in_err-remesh-clause-refused : goal.returns-in_err-remesh-clause-refused
 returns-in_err-remesh-clause-refused g c = λ marks head on is.
@@ -19,22 +20,34 @@ returns-in_err-remesh-clause-refused g c = λ marks head on is.
 
 pub returns-in_err-write_framed-clause-refused : goal.returns-in_err-write_framed-clause-refused
 returns-in_err-write_framed-clause-refused g c = λ marks head on is.
-    let framed : Framed = record { head = c.args.headed.head; between = c.new.result; remesh = c.in_ok-remesh.remesh } in
+    let framed : Framed = record {
+      head = c.args.headed.head;
+      between = c.new.result;
+      remesh = c.in_ok-remesh.remesh;
+      shares = None;
+    } in
     let task = headed_task c.args.headed.asked marks head in
     let failed = c.in_err-write_framed in
     handed _ _ (refusal_of_put failed.field-0.0) c.from_residual-in_err-write_framed.ensures.1
-    (put_refused (ShowsTask task c.args.cut.soup) (IsOfLayout (FailsTask task c.args.cut.soup)) _ (framed_text framed c.args.cut.soup c.args.cut.plan)
+    (put_refused (ShowsTask task c.args.cut.soup) (IsOfLayout (FailsTask task c.args.cut.soup)) _
+    (framed_text framed c.args.cut.soup c.args.cut.plan)
     failed.field-0.0
     (framed_shown task framed c.args.headed.asked c.args.cut.soup c.args.cut.plan c.in_ok-remesh.ensures.laid on
-    c.in_ok-remesh.ensures.asked refl refl c.in_ok-remesh.ensures.kept is c.new.ensures.items)
+    c.in_ok-remesh.ensures.asked refl refl c.in_ok-remesh.ensures.kept is c.new.ensures.items refl)
     tt failed.ensures.prefix failed.ensures.fault failed.ensures.untouched)
 
 pub returns-clause-done : goal.returns-clause-done
 returns-clause-done g c = λ marks head on is.
-    let framed : Framed = record { head = c.args.headed.head; between = c.new.result; remesh = c.in_ok-remesh.remesh } in
+    let framed : Framed = record {
+      head = c.args.headed.head;
+      between = c.new.result;
+      remesh = c.in_ok-remesh.remesh;
+      shares = None;
+    } in
     record {
       text = framed_text framed c.args.cut.soup c.args.cut.plan;
-      said = framed_shown (headed_task c.args.headed.asked marks head) framed c.args.headed.asked c.args.cut.soup c.args.cut.plan c.in_ok-remesh.ensures.laid on
-          c.in_ok-remesh.ensures.asked refl refl c.in_ok-remesh.ensures.kept is c.new.ensures.items;
+      said = framed_shown (headed_task c.args.headed.asked marks head) framed c.args.headed.asked c.args.cut.soup
+          c.args.cut.plan c.in_ok-remesh.ensures.laid on
+          c.in_ok-remesh.ensures.asked refl refl c.in_ok-remesh.ensures.kept is c.new.ensures.items refl;
       written = c.in_ok-write_framed.ensures.whole;
     }

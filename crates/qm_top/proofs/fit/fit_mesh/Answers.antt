@@ -3,6 +3,7 @@ use Rattle.std.specs.Prelude.{option_copied}
 use Rattle.error_laws.proofs.Errors.{handed}
 use Rattle.def_fit.specs.Aims.{aimed, fit_settings}
 use Rattle.def_fit.specs.FitTasks.{asides_in, Asides}
+use Rattle.def_fit.specs.Shares.{shares_of}
 use Rattle.def_io.specs.Bytes.{Bytes}
 use Rattle.def_mesh.specs.Darts.{darts}
 use Rattle.def_patches.specs.Chosen.{AreKeptMarks}
@@ -46,6 +47,9 @@ returns-in_err-remesh-clause-refused g c bytes said =
     _ _ refl
     c.in_err-remesh.field-0.0 c.in_err-remesh.ensures.refused)
 
+pub returns-in_err-shares-clause-refused : goal.returns-in_err-shares-clause-refused
+returns-in_err-shares-clause-refused g c bytes said = handed _ _ _ c.from_residual-in_err-shares.ensures.1 (refl, tt)
+
 pub returns-in_err-head-clause-refused : goal.returns-in_err-head-clause-refused
 returns-in_err-head-clause-refused g c bytes said = handed _ _ _ c.from_residual-in_err-head.ensures.1 (refl, tt)
 
@@ -57,8 +61,8 @@ returns-in_err-write_framed-clause-refused g c bytes said =
     let framed : Framed = record {
       head = c.in_ok-head.head;
       between = c.in_ok-between.between;
-      remesh =
-          c.in_ok-remesh.remesh;
+      remesh = c.in_ok-remesh.remesh;
+      shares = c.in_ok-shares.shares;
     } in
     let fit = c.args.fit.now in
     let cut = c.in_ok-cut.cut in
@@ -67,17 +71,20 @@ returns-in_err-write_framed-clause-refused g c bytes said =
     let asides : Asides = record { kept = option_copied c.as_deref-kept.result; wishes = c.deref.result.now } in
     let parts = asides_by_parts (asides_of c.args.asides) asides.kept asides.wishes c.as_deref-kept.ensures.value
     c.deref.ensures.value in
+    let shares = c.in_ok-shares.ensures
+    ∙ ap (shares_of fit cut.soup) (c.deref-2.ensures.value ∙ sym c.deref.ensures.value) in
     let near = AsksForNearFit fit in
     let failed = c.in_err-write_framed in
     handed _ _ (refusal_of_put failed.field-0.0) c.from_residual-in_err-write_framed.ensures.1
     (put_refused (ShowsAsked near bytes c.args.read)
-    (IsOfWishes (FailsNear (AsksToFit fit) near bytes c.args.read) (IsFarTask fit.aim (AsksToFit fit) bytes c.args.read))
+    (IsOfWishes (FailsNear (AsksToFit fit) near bytes c.args.read)
+    (IsFarTask fit.aim (AsksToFit fit) bytes c.args.read))
     _
     (framed_text framed cut.soup cut.plan) failed.field-0.0
     (fit_shown fit bytes c.args.read cut asides made.soup (said ∙ ap Ok parts)
     (subst (AreKeptMarks c.args.read.faces) (sym c.as_deref-kept.ensures.value) c.requires.marks) made.laid made.chosen
     framed kept.near
-    kept.asked kept.kept c.in_ok-head.ensures c.in_ok-between.ensures)
+    kept.asked kept.kept c.in_ok-head.ensures c.in_ok-between.ensures shares)
     tt failed.ensures.prefix failed.ensures.fault failed.ensures.untouched)
 
 pub returns-clause-done : goal.returns-clause-done
@@ -85,8 +92,8 @@ returns-clause-done g c bytes said =
     let framed : Framed = record {
       head = c.in_ok-head.head;
       between = c.in_ok-between.between;
-      remesh =
-          c.in_ok-remesh.remesh;
+      remesh = c.in_ok-remesh.remesh;
+      shares = c.in_ok-shares.shares;
     } in
     let fit = c.args.fit.now in
     let cut = c.in_ok-cut.cut in
@@ -95,11 +102,13 @@ returns-clause-done g c bytes said =
     let asides : Asides = record { kept = option_copied c.as_deref-kept.result; wishes = c.deref.result.now } in
     let parts = asides_by_parts (asides_of c.args.asides) asides.kept asides.wishes c.as_deref-kept.ensures.value
     c.deref.ensures.value in
+    let shares = c.in_ok-shares.ensures
+    ∙ ap (shares_of fit cut.soup) (c.deref-2.ensures.value ∙ sym c.deref.ensures.value) in
     record {
       text = framed_text framed cut.soup cut.plan;
       said = fit_shown fit bytes c.args.read cut asides made.soup (said ∙ ap Ok parts)
           (subst (AreKeptMarks c.args.read.faces) (sym c.as_deref-kept.ensures.value) c.requires.marks) made.laid
           made.chosen framed kept.near
-          kept.asked kept.kept c.in_ok-head.ensures c.in_ok-between.ensures;
+          kept.asked kept.kept c.in_ok-head.ensures c.in_ok-between.ensures shares;
       written = c.in_ok-write_framed.ensures.whole;
     }

@@ -1,26 +1,24 @@
-use Rattle.std.specs.Prelude.{IfOk}
 use Rattle.std.proofs.Common.{◌≡◌, Bool, List, subst}
 use Rattle.std.proofs.lemmas.Result.{IfOk-weaker}
 use Rattle.def_layout.specs.FaceLayouts.{IsCutLayout}
 use Rattle.def_layout.specs.Plans.{plan}
-use Rattle.def_mesh.specs.Faces.{Faces}
 use Rattle.def_report.specs.GraphText.{graph_text}
 use Rattle.def_run.specs.Graph.{IsGraphText}
 use Rattle.qm_top.proofs.graph.text_of.Goals as goal
 
 pub returns : goal.returns
 returns c =
-    let faces = c.mesh-mesh.result.now in
+    let faces = c.args.mesh.now in
     let graph = c.in_ok-graph.graph in
     let layout = plan c.in_ok-layout.layout in
-    subst (λ (fs : Faces). IfOk c.graph_text.result (λ text. IsGraphText fs text.items)) c.mesh-mesh.ensures
-    (IfOk-weaker c.graph_text.result (λ text. text.items ≡ graph_text faces graph.riders.items layout)
+    IfOk-weaker c.graph_text.result (λ text. text.items ≡ graph_text faces graph.riders.items layout)
     (λ text. IsGraphText faces text.items)
     (λ text said. record {
       riders = graph.riders.items;
       rode = c.in_ok-graph.ensures.graph.riders;
       layout = layout;
-      laid = subst (λ (marks : List Bool). IsCutLayout faces marks layout) c.in_ok-graph.ensures.graph.covered c.in_ok-layout.ensures;
+      laid = subst (λ (marks : List Bool). IsCutLayout faces marks layout) c.in_ok-graph.ensures.graph.covered
+          c.in_ok-layout.ensures;
       said = said;
     })
-    c.graph_text.ensures)
+    c.graph_text.ensures

@@ -14,7 +14,8 @@ returns-in_err-read g c =
     let given = c.in_ok-lines.ensures in
     let chosen = c.args.chosen in
     handed_run _ _ _ _ c.in_err-read.field-0.0 c.from_residual-in_err-read.ensures.1
-    (meshless_ended (Grids chosen.keep chosen.patches c.args.by) (grids_needs chosen.keep chosen.patches c.args.by) _ _ c.in_ok-lines.lines
+    (meshless_ended (Grids chosen.keep chosen.patches c.args.by) (grids_needs chosen.keep chosen.patches c.args.by) _ _
+    c.in_ok-lines.lines
     (record { given = given.bytes; ended = given.whole; few = given.short }) given.calm
     c.in_err-read.field-0.0 c.in_err-read.ensures.refused) refl
 
@@ -24,10 +25,16 @@ returns-in_err-kept g c =
     let chosen = c.args.chosen in
     let fail = c.in_err-kept.field-0.0 in
     handed_run _ _ _ _ (Marks fail) c.from_residual-in_err-kept.ensures.1
-    (marks_ended (Grids chosen.keep chosen.patches c.args.by) (grids_needs chosen.keep chosen.patches c.args.by) _ _ c.in_ok-lines.lines
+    (marks_ended (Grids chosen.keep chosen.patches c.args.by) (grids_needs chosen.keep chosen.patches c.args.by) _ _
+    c.in_ok-lines.lines
     (record { given = given.bytes; ended = given.whole; few = given.short }) given.calm fail
     (λ other. grids_refuse chosen.keep chosen.patches c.args.by c.in_ok-lines.lines fail other
-    (record { soup = c.in_ok-read.read; mesh = c.in_ok-read.ensures.mesh; said = c.in_err-kept.ensures.refused other }))) refl
+    (record {
+      soup = c.in_ok-read.read;
+      mesh = c.in_ok-read.ensures.mesh;
+      said =
+          c.in_err-kept.ensures.refused other;
+    }))) refl
 
 pub chosen_cut-requires : goal.chosen_cut-requires
 chosen_cut-requires g c =

@@ -15,7 +15,8 @@ returns-in_err-read g c =
     let given = c.in_ok-lines.ensures in
     let chosen = c.args.chosen in
     handed_run _ _ _ _ c.in_err-read.field-0.0 c.from_residual-in_err-read.ensures.1
-    (meshless_ended (LayOut chosen.keep chosen.patches) (layout_needs chosen.keep chosen.patches) _ _ c.in_ok-lines.lines
+    (meshless_ended (LayOut chosen.keep chosen.patches) (layout_needs chosen.keep chosen.patches) _ _
+    c.in_ok-lines.lines
     (record { given = given.bytes; ended = given.whole; few = given.short }) given.calm
     c.in_err-read.field-0.0 c.in_err-read.ensures.refused) refl
 
@@ -28,7 +29,12 @@ returns-in_err-kept g c =
     (marks_ended (LayOut chosen.keep chosen.patches) (layout_needs chosen.keep chosen.patches) _ _ c.in_ok-lines.lines
     (record { given = given.bytes; ended = given.whole; few = given.short }) given.calm fail
     (λ other. kept_refuses chosen.keep chosen.patches c.in_ok-lines.lines fail other
-    (record { soup = c.in_ok-read.read; mesh = c.in_ok-read.ensures.mesh; said = c.in_err-kept.ensures.refused other }))) refl
+    (record {
+      soup = c.in_ok-read.read;
+      mesh = c.in_ok-read.ensures.mesh;
+      said =
+          c.in_err-kept.ensures.refused other;
+    }))) refl
 
 pub chosen_cut-requires : goal.chosen_cut-requires
 chosen_cut-requires g c =
@@ -44,7 +50,8 @@ returns g c =
     let given = c.in_ok-lines.ensures in
     let chosen = c.args.chosen in
     writer_runs _ _ _ _ _
-    (layout_writer chosen.keep chosen.patches c.in_ok-lines.lines c.in_ok-read.read _ (option_copied c.as_deref-marks.result)
+    (layout_writer chosen.keep chosen.patches c.in_ok-lines.lines c.in_ok-read.read _
+    (option_copied c.as_deref-marks.result)
     c.in_ok-cut.cut c.in_ok-read.ensures.mesh c.in_ok-kept.ensures.kept c.as_deref-marks.ensures.value
     c.in_ok-cut.ensures.soup c.in_ok-cut.ensures.chosen _ _
     (record { given = given.bytes; ended = given.whole; few = given.short }) given.calm)

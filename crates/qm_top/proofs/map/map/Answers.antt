@@ -10,5 +10,10 @@ returns g c =
     let read = c.in_ok-bytes.ensures in
     writer_runs _ _ _ _ _
     (map_writer _ _ c.deref.result.now
-    (subst (ReadWhole MAX_BYTES _ _) (sym c.deref.ensures.value) (record { given = read.bytes; ended = read.whole; few = read.short })) read.calm)
+    (subst (ReadWhole MAX_BYTES _ _) (sym c.deref.ensures.value) (record {
+      given = read.bytes;
+      ended = read.whole;
+      few =
+          read.short;
+    })) read.calm)
     c.map_bytes.result c.map_bytes.ensures.done c.map_bytes.ensures.refused

@@ -8,16 +8,22 @@ use Rattle.qm_top.proofs.Writers.{not_begun}
 use Rattle.qm_top.proofs.map.map_bytes.Goals as goal
 
 pub returns-in_err-write_map-in-Ok-clause-refused : goal.returns-in_err-write_map-in-Ok-clause-refused
-returns-in_err-write_map-in-Ok-clause-refused g c = handed _ _ _ c.from_residual-in_err-write_map-in-Ok.ensures.1 (record {
-  text = mapped_text c.in-Ok.new;
-  said = c.in-Ok.ensures.map;
-  prefix = c.in_err-write_map-in-Ok.ensures.prefix;
-  fault = c.in_err-write_map-in-Ok.ensures.fault;
-})
+returns-in_err-write_map-in-Ok-clause-refused g c = handed _ _ _ c.from_residual-in_err-write_map-in-Ok.ensures.1
+    (record {
+      text = mapped_text c.in-Ok.new;
+      said = c.in-Ok.ensures.map;
+      prefix = c.in_err-write_map-in-Ok.ensures.prefix;
+      fault = c.in_err-write_map-in-Ok.ensures.fault;
+    })
 
 pub returns-in_ok-write_map-in-Ok-clause-done : goal.returns-in_ok-write_map-in-Ok-clause-done
 returns-in_ok-write_map-in-Ok-clause-done g c =
-    record { text = mapped_text c.in-Ok.new; said = c.in-Ok.ensures.map; written = c.in_ok-write_map-in-Ok.ensures.whole }
+    record {
+      text = mapped_text c.in-Ok.new;
+      said = c.in-Ok.ensures.map;
+      written =
+          c.in_ok-write_map-in-Ok.ensures.whole;
+    }
 
 pub judged_refusal-requires : goal.judged_refusal-requires
 judged_refusal-requires g c = map_placed c.args.bytes.now _ c.in-Err.ensures.refused

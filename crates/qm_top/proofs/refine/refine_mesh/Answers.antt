@@ -7,8 +7,11 @@ use Rattle.qm_top.proofs.refine.refine_mesh.Goals as goal
 pub returns-in_err-new-clause-refused : goal.returns-in_err-new-clause-refused
 returns-in_err-new-clause-refused g c = handed _ _ _ c.from_residual.ensures.1 (refl, c.in_err-new.ensures.refused)
 
-pub write_refined-requires : goal.write_refined-requires
-write_refined-requires g c = c.in_ok-new.ensures.new.lengths
+pub write_refined-requires-clause-lengths : goal.write_refined-requires-clause-lengths
+write_refined-requires-clause-lengths g c = c.in_ok-new.ensures.new.lengths
+
+pub write_refined-requires-clause-even : goal.write_refined-requires-clause-even
+write_refined-requires-clause-even g c = c.in_ok-new.ensures.new.even
 
 pub returns-in_err-write_refined-clause-refused : goal.returns-in_err-write_refined-clause-refused
 returns-in_err-write_refined-clause-refused g c = handed _ _ _ c.from_residual-in_err-write_refined.ensures.1 (record {

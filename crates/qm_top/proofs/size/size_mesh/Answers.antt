@@ -1,4 +1,4 @@
-use Rattle.std.proofs.Common.{false, refl}
+use Rattle.std.proofs.Common.{None, false, refl}
 use Rattle.error_laws.proofs.Errors.{handed}
 use Rattle.def_fit.specs.declared.fit.Aim.TheVariants.{Edge}
 use Rattle.def_metric.specs.Targets.{edge_settings}
@@ -37,7 +37,12 @@ returns-in_err-head-clause-refused g c bytes = handed _ _ _ c.from_residual-in_e
 
 pub returns-in_err-write_framed-clause-refused : goal.returns-in_err-write_framed-clause-refused
 returns-in_err-write_framed-clause-refused g c bytes =
-    let framed : Framed = record { head = c.in_ok-head.head; between = c.new.result; remesh = c.in_ok-remesh.remesh } in
+    let framed : Framed = record {
+      head = c.in_ok-head.head;
+      between = c.new.result;
+      remesh = c.in_ok-remesh.remesh;
+      shares = None;
+    } in
     let asks = AsksForSize c.args.edge c.args.floor in
     let near = AsksForNearSize c.args.edge c.args.floor in
     let cut = c.in_ok-cut.cut in
@@ -51,12 +56,17 @@ returns-in_err-write_framed-clause-refused g c bytes =
     (aimed_shown (Edge c.args.edge) asks near bytes c.args.read cut made.soup
     (size_task c.args.edge c.args.floor cut.soup) refl made.traced
     (size_near c.args.edge c.args.floor bytes cut made.laid made.traced) framed made.laid kept.near kept.asked kept.kept
-    c.in_ok-head.ensures c.new.ensures.items)
+    c.in_ok-head.ensures c.new.ensures.items refl)
     tt failed.ensures.prefix failed.ensures.fault failed.ensures.untouched)
 
 pub returns-clause-done : goal.returns-clause-done
 returns-clause-done g c bytes =
-    let framed : Framed = record { head = c.in_ok-head.head; between = c.new.result; remesh = c.in_ok-remesh.remesh } in
+    let framed : Framed = record {
+      head = c.in_ok-head.head;
+      between = c.new.result;
+      remesh = c.in_ok-remesh.remesh;
+      shares = None;
+    } in
     let cut = c.in_ok-cut.cut in
     let made = c.in_ok-cut.ensures in
     let kept = c.in_ok-remesh.ensures in
@@ -66,6 +76,6 @@ returns-clause-done g c bytes =
           (AsksForNearSize c.args.edge c.args.floor) bytes c.args.read cut made.soup
           (size_task c.args.edge c.args.floor cut.soup) refl made.traced
           (size_near c.args.edge c.args.floor bytes cut made.laid made.traced) framed made.laid
-          kept.near kept.asked kept.kept c.in_ok-head.ensures c.new.ensures.items;
+          kept.near kept.asked kept.kept c.in_ok-head.ensures c.new.ensures.items refl;
       written = c.in_ok-write_framed.ensures.whole;
     }
