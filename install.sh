@@ -56,7 +56,7 @@ put() {
 put "$root/docs/quadq.1" "$prefix/share/man/man1/quadq.1" 644
 put "$root/tools/completions/quadq.bash" "$prefix/share/bash-completion/completions/quadq" 644
 put "$root/tools/completions/_quadq" "$prefix/share/zsh/site-functions/_quadq" 644
-put "$root/tools/cuts.py" "$prefix/share/quadq/cuts.py" 644
+put "$root/tools/layout_text.py" "$prefix/share/quadq/layout_text.py" 644
 put "$root/tools/obj_text.py" "$prefix/share/quadq/obj_text.py" 644
 put "$root/tools/draw_graph.py" "$drawing" 755
 put "$root/$program" "$target" 755

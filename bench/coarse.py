@@ -17,8 +17,7 @@ import tempfile
 from measuring import ROOT, count_lines, name_of, program, run, taken
 
 sys.path.insert(0, f"{ROOT}/tools")
-import cuts  # noqa: E402
-import draw_graph  # noqa: E402
+from draw_graph import read_cut, read_lengths  # noqa: E402
 
 ROUNDS = 5
 COLUMNS = 258
@@ -31,30 +30,28 @@ TIMES_HEAD = "| mesh | faces | `graph` s | MB | `remesh` 1/2 s | MB | `coarse` 1
              "| `coarse` 1/1 s | MB | by `graph` |"
 
 
-def told(cut, command, mesh, out):
-    """Cells: patches, arcs, and, where a mesh was written, its faces and the deviation of its lengths."""
-    patches = len(cuts.patches_of(cut.faces, cut.edges())[1])
-    old = [len(arc) for arc in cut.arcs()[1]]
+def told(command, patches, mesh, room):
+    """Cells: patches, arcs, and, where a mesh was written, its faces and the deviation of its lengths; or None for a
+    mesh that quadq does not take."""
+    layout, out = room / "layout.txt", room / "out.obj"
+    if run([program(), "layout", "--keep", "none", "--patches", patches], mesh, layout)[2] != 0:
+        return None
+    cut = read_cut(layout)
+    old = cut.old_lengths()
     status = run([program(), command, *OPTIONS], mesh, out)[2]
     if status != 0:
-        return [patches, len(old), f"status {status}", f"status {status}"]
-    lengths = draw_graph.read_lengths(out)[1]
-    deviation = sum(abs(2 * new - length) for new, length in zip(lengths, old, strict=True))
-    return [patches, len(old), count_lines(out, b"f "), deviation]
+        return [len(cut.sides), len(old), f"status {status}", f"status {status}"]
+    deviation = sum(abs(2 * new - length) for new, length in zip(read_lengths(out), old, strict=True))
+    return [len(cut.sides), len(old), count_lines(out, b"f "), deviation]
 
 
 def row(mesh, room):
     """What merging changes, or None for a mesh that quadq does not take."""
-    graph, out = room / "graph.txt", room / "out.obj"
-    if run([program(), "graph"], mesh, graph)[2] != 0:
+    before, after = told("remesh", "traced", mesh, room), told("coarse", "merged", mesh, room)
+    if before is None or after is None:
         return None
-    faces = draw_graph.read_mesh(mesh)[1]
-    cut = cuts.Cut(faces, cuts.edges_of_graph(faces, draw_graph.read_graph(graph)[1]))
-    before = told(cut, "remesh", mesh, out)
-    cut.merge()
-    after = told(cut, "coarse", mesh, out)
     pairs = zip(before, after)
-    return [name_of(mesh), len(faces), *(f"{one} to {other}" if one != other else one for one, other in pairs)]
+    return [name_of(mesh), count_lines(mesh, b"f "), *(f"{a} to {b}" if a != b else a for a, b in pairs)]
 
 
 def timed(name, mesh, room):

@@ -1,4 +1,5 @@
-// What the peers of `quadq graph` and `quadq refine` share: a mesh is traced by riders, and cut into patches and arcs.
+// What the peers of `quadq graph` and `quadq refine` share, which do all that these do: a mesh is traced by riders, and
+// cut into patches and arcs. Nothing else uses it.
 #pragma once
 #include "soup.hpp"
 

@@ -20,14 +20,14 @@ import numpy as np
 from measuring import ROOT, name_of, program
 
 sys.path.insert(0, f"{ROOT}/tools")
-import cuts  # noqa: E402
-import draw_graph  # noqa: E402
 import mark_features  # noqa: E402
+from layout_text import read_layout  # noqa: E402
 
 PLACES = np.linspace(0, 1, 5)
 AT_A_TIME = 400
 """How many places are looked up together: it bounds the memory."""
 DOUBLED = 11
+LAYOUT = ["layout", "--keep", "lines", "--patches", "traced"]
 HEAD = "| mesh | faces | angle | scale | `remesh`: faces | mean | greatest | `crease`: faces | mean | greatest |"
 COST_HEAD = "| mesh | angle | marks | patches | with marks | with corners | arcs | with marks | with corners |"
 
@@ -107,11 +107,11 @@ def costs(mesh, angle, room):
     cells, marks = [], []
     for words in (["180", "--no-corners"], [angle, "--no-corners"], [angle]):
         marked(mesh, room / "marked.obj", *words)
-        _, faces, lines = draw_graph.read_marked(room / "marked.obj")
-        cut = cuts.Cut(faces, lines)
-        cut.trace()
-        cells.append((len(cuts.patches_of(faces, cut.edges())[1]), len(cut.arcs()[1])))
-        marks.append(len(lines))
+        text = (room / "marked.obj").read_bytes()
+        ran = subprocess.run([program(), *LAYOUT], input=text, capture_output=True, check=True)
+        cut = read_layout(ran.stdout.decode())
+        cells.append((len(cut.sides), len(cut.arcs)))
+        marks.append(text.count(b"\nl "))
     patches, arcs = zip(*cells)
     return [name_of(mesh), angle, f"{marks[1]} + {marks[2] - marks[1]}", *patches, *arcs]
 

@@ -26,7 +26,7 @@ CARRIED = HERE / "carried"
 AROUND = CARRIED if CARRIED.is_dir() else HERE.parent
 """Where the files come from that the package carries: the folder beside this file in a source archive, else the
 checkout."""
-SCRIPTS = ("obj_text", "mark_features", "cuts")
+SCRIPTS = ("obj_text", "mark_features")
 INSIDE = {
     "dist/quadq": "bin/quadq", "VERSION": "VERSION", "THIRD_PARTY.md": "THIRD_PARTY.md",
     **{f"tools/{it}.py": f"{it}.py" for it in SCRIPTS},

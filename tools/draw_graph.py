@@ -1,17 +1,17 @@
 #!/usr/bin/env python3
-"""Draws a quad mesh with its motorcycle graph as an SVG on standard output.
+"""Draws a quad mesh with its cut into patches as an SVG on standard output.
 
-usage: tools/draw_graph.py MESH.obj GRAPH.txt [--merged | --creased] [--written OUT.obj] [--from X,Y,Z] [--up y|z]
+usage: tools/draw_graph.py MESH.obj LAYOUT.txt [--before LAYOUT.txt | --written OUT.obj] [--from X,Y,Z] [--up y|z]
        [--wide PIXELS]
 
-GRAPH.txt is what `quadq graph` writes for the mesh. Patches have colours that differ between neighbours, the edges of
-the graph are thick, those of `l` lines are red, and irregular vertices are marked: singular ones red, corners blue,
-reflex ones orange. The mesh is seen from the direction that is given, with z upward, or y. It is taken to be a mesh
-that quadq accepts.
+LAYOUT.txt is what `quadq layout` writes for the mesh: with `--keep none --patches traced` its motorcycle graph. Patches
+have colours that differ between neighbours, the edges of the cut are thick, those of `l` lines are red, and irregular
+vertices are marked: singular ones red, corners blue, reflex ones orange. The mesh is seen from the direction that is
+given, with z upward, or y. It is taken to be a mesh that quadq accepts.
 
-With --merged the patches are merged as `quadq coarse` merges them, and the edges that left the graph are dashed. With
---creased they are those that `quadq crease` makes beside the edges of `l` lines. With --written the picture is that of
-OUT.obj, which `remesh`, `size`, `coarse` or `crease` wrote for the mesh, with the patches that it has.
+With --before the edges of another layout of the mesh that are not in this one are dashed, as those that left when
+patches were merged. With --written the picture is that of OUT.obj, which quadq wrote for the mesh over this cut, with
+the patches that it has.
 """
 
 import argparse
@@ -22,7 +22,7 @@ import sys
 
 HERE = pathlib.Path(__file__).resolve().parent
 sys.path[:0] = [str(HERE), str(HERE.parent / "share/quadq")]
-from cuts import Cut, edge_of, edges_of_graph, patches_of, sizes_of  # noqa: E402
+from layout_text import edge_of, edges_along, patches_of, read_layout  # noqa: E402
 from obj_text import read_obj  # noqa: E402
 
 COLOURS = ["#bcd7ee", "#f9d9b4", "#c9e6c3", "#f3c4c9", "#dccbe8", "#f5eeb0", "#bfe3e0", "#e3d3c3"]
@@ -31,50 +31,35 @@ FEATURE = "#d62728"
 MARGIN = 12
 
 
-def read_marked(path):
-    """The places of used vertices, the faces over them, as quadq numbers them, and the edges that `l` lines name. Exits
-    where the program refuses the lines."""
+def read_mesh(path):
+    """The places of vertices, the faces over them, and the edges that `l` lines name. Exits where the program refuses
+    the lines."""
     try:
         obj = read_obj(pathlib.Path(path).read_bytes())
     except (ValueError, OSError) as error:
         sys.exit(f"draw_graph: {error}")
-    corners = [[it.vertex for it in face] for face in obj.faces]
-    used = sorted({vertex for face in corners for vertex in face})
-    number = {vertex: at for at, vertex in enumerate(used)}
-    faces = [[number[it] for it in face] for face in corners]
-    lines = [[number.get(it, -1) for it in line] for line in obj.lines]
-    named = {edge_of(*pair) for line in lines for pair in zip(line, line[1:]) if -1 not in pair}
-    return [obj.place(it) for it in used], faces, named
+    faces = [[it.vertex for it in face] for face in obj.faces]
+    lines = {edge for line in obj.lines for edge in edges_along(line)}
+    return [obj.place(it) for it in range(len(obj.points))], faces, lines
 
 
-def read_mesh(path):
-    """The places of used vertices, and the faces over them, as quadq numbers them."""
-    return read_marked(path)[:2]
-
-
-def read_graph(path):
-    """The marks of irregular vertices, and the riders as start vertex, next vertex and rides."""
-    marks, riders = {}, []
-    for line in pathlib.Path(path).read_text(encoding="utf-8").splitlines():
-        words = line.split()
-        if words[0] in MARKS:
-            marks[int(words[1]) - 1] = MARKS[words[0]]
-        elif words[0] == "rider":
-            riders.append((int(words[1]) - 1, int(words[2]) - 1, int(words[3])))
-    return marks, riders
+def read_cut(path):
+    """The cut of a layout text."""
+    try:
+        return read_layout(pathlib.Path(path).read_text(encoding="utf-8"))
+    except (ValueError, OSError) as error:
+        sys.exit(f"draw_graph: {error}")
 
 
 def read_lengths(path):
-    """The command that wrote the text, and the lengths of the arcs of the last certificate in it."""
-    command, lengths = "", []
+    """The lengths of the arcs of the last certificate in a text that the program wrote."""
+    lengths = []
     for line in pathlib.Path(path).read_text(encoding="utf-8").splitlines():
-        if line.startswith("#quadq 1 "):
-            command = line.split()[2]
-        elif line.startswith("#f "):
+        if line.startswith("#f "):
             lengths = []
         elif line.startswith("#x "):
             lengths.append(int(line[3:]))
-    return command, lengths
+    return lengths
 
 
 def patches_written(faces, sizes):
@@ -133,8 +118,9 @@ def draw(mesh, marks, graph, colours, wide, gone=frozenset(), lines=frozenset())
     edges that are gone from it and of those that `l` lines name. Faces of a closed mesh that are turned away are left
     out."""
     places, faces = mesh
-    left, low = (min(it[i] for it in places) for i in (0, 1))
-    spans = [max(it[i] for it in places) - least for i, least in ((0, left), (1, low))]
+    used = [places[it] for it in {vertex for face in faces for vertex in face}]
+    left, low = (min(it[i] for it in used) for i in (0, 1))
+    spans = [max(it[i] for it in used) - least for i, least in ((0, left), (1, low))]
     scale = (wide - 2 * MARGIN) / (spans[0] or 1)
     high = round(spans[1] * scale) + 2 * MARGIN
     at = [(MARGIN + (x - left) * scale, high - MARGIN - (y - low) * scale) for x, y, _ in places]
@@ -175,11 +161,10 @@ def head_of(wide, high, lines_of):
 def parse():
     parser = argparse.ArgumentParser(description=__doc__, formatter_class=argparse.RawDescriptionHelpFormatter)
     parser.add_argument("mesh")
-    parser.add_argument("graph")
-    cut = parser.add_mutually_exclusive_group()
-    cut.add_argument("--merged", action="store_true", help="with the patches merged as `quadq coarse` merges them")
-    cut.add_argument("--creased", action="store_true", help="with the patches that `quadq crease` makes")
-    parser.add_argument("--written", help="draws what quadq wrote for the mesh, with its patches")
+    parser.add_argument("layout")
+    more = parser.add_mutually_exclusive_group()
+    more.add_argument("--before", help="another layout, whose edges are dashed where this one does not have them")
+    more.add_argument("--written", help="draws what quadq wrote for the mesh, with its patches")
     parser.add_argument("--from", dest="direction", default="1,-2,1.4", help="the direction that it is seen from")
     parser.add_argument("--up", choices="yz", default="z", help="the coordinate that points upward")
     parser.add_argument("--wide", type=int, default=640)
@@ -188,29 +173,21 @@ def parse():
 
 def main():
     words = parse()
-    places, faces, lines = read_marked(words.mesh)
+    places, faces, lines = read_mesh(words.mesh)
     if not faces:
         sys.exit("draw_graph: the mesh has no faces")
-    marks, riders = read_graph(words.graph)
-    command, lengths = read_lengths(words.written) if words.written else ("", [])
-    graph = edges_of_graph(faces, riders)
-    cut, gone = Cut(faces, graph), set()
-    if words.merged or command == "coarse":
-        cut.merge()
-        gone = graph - cut.edges()
-    elif words.creased or command == "crease":
-        cut = Cut(faces, lines)
-        cut.trace()
-    graph = cut.edges()
+    cut = read_cut(words.layout)
+    graph, marks = cut.edges(), {vertex: MARKS[word] for vertex, word in cut.irregular.items()}
+    gone = read_cut(words.before).edges() - graph if words.before else set()
     patch, neighbours = patches_of(faces, graph)
     colours = colours_of(neighbours)
     if words.written:
         try:
-            sizes = sizes_of(cut, patch, lengths)
+            sizes = cut.sizes(read_lengths(words.written))
         except ValueError as error:
             sys.exit(f"draw_graph: {error}")
-        places, faces, lines = read_marked(words.written)
-        marks, gone = marks_of(faces), set()
+        places, faces, lines = read_mesh(words.written)
+        marks = marks_of(faces)
         patch, graph = patches_written(faces, sizes)
     direction = tuple(map(float, words.direction.split(",")))
     if words.up == "y":

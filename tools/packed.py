@@ -8,7 +8,7 @@ import subprocess
 from typing import Iterator
 
 ROOT = pathlib.Path(__file__).resolve().parent.parent
-SCRIPTS = ("obj_text", "mark_features", "cuts")
+SCRIPTS = ("obj_text", "mark_features")
 EPOCH = 315532800
 """The beginning of 1980, the first time that a zip file can have."""
 

@@ -15,32 +15,26 @@ import sys
 import tempfile
 
 ROOT = pathlib.Path(__file__).resolve().parent.parent.parent
-sys.path.insert(0, str(ROOT / "tools"))
-import draw_graph  # noqa: E402
-
+PROGRAM = ROOT / "build/quadq"
+LAYOUT = ["layout", "--keep", "none", "--patches", "traced"]
 WIDE, GAP = 420, 20
-DIRECTION = (0.5, -1.6, 1.3)
+DIRECTION = "0.5,-1.6,1.3"
 
 
 def drawn(text, room):
     """The lines of the SVG of a mesh with its graph, and its height."""
-    mesh, graph = room / "mesh.obj", room / "graph.txt"
+    mesh, layout = room / "mesh.obj", room / "layout.txt"
     mesh.write_bytes(text)
-    graph.write_bytes(subprocess.run([ROOT / "build/quadq", "graph"], input=text, capture_output=True, check=True).stdout)
-    places, faces = draw_graph.read_mesh(mesh)
-    marks, riders = draw_graph.read_graph(graph)
-    edges = draw_graph.edges_of_graph(faces, riders)
-    patch, neighbours = draw_graph.patches_of(faces, edges)
-    colours = draw_graph.colours_of(neighbours)
-    seen = draw_graph.seen_from(places, DIRECTION)
-    svg = draw_graph.draw((seen, faces), marks, edges, [colours[it] for it in patch], WIDE)
+    layout.write_bytes(subprocess.run([PROGRAM, *LAYOUT], input=text, capture_output=True, check=True).stdout)
+    words = [sys.executable, ROOT / "tools/draw_graph.py", mesh, layout, "--from", DIRECTION, "--wide", WIDE]
+    svg = subprocess.run(list(map(str, words)), capture_output=True, text=True, check=True).stdout
     return svg, int(re.search(r'height="(\d+)"', svg)[1])
 
 
 def main():
     mesh, *command = sys.argv[1:]
     old = pathlib.Path(mesh).read_bytes()
-    new = subprocess.run([ROOT / "build/quadq", *command], input=old, capture_output=True, check=True).stdout
+    new = subprocess.run([PROGRAM, *command], input=old, capture_output=True, check=True).stdout
     with tempfile.TemporaryDirectory() as room:
         both = [drawn(text, pathlib.Path(room)) for text in (old, new)]
     wide, high = 2 * WIDE + GAP, max(height for _, height in both)

@@ -34,15 +34,17 @@ def tool(name, *words):
 
 def panels(words, options, room):
     """The SVGs, from left to right."""
-    mesh, graph, marked, svg = words.mesh, room / "graph.txt", room / "marked.obj", room / "out.svg"
+    mesh, marked, svg = words.mesh, room / "marked.obj", room / "out.svg"
+    traced, creased = room / "traced.txt", room / "creased.txt"
     asked = ["--scale", words.scale, "--floor", words.floor, "--weight", "plain"]
-    ran([PROGRAM, "graph"], graph, mesh)
     ran(tool("mark_features.py", "--angle", words.angle, mesh), marked)
+    for kept, cut, source in (("none", traced, mesh), ("lines", creased, marked)):
+        ran([PROGRAM, "layout", "--keep", kept, "--patches", "traced"], cut, source)
     ran([PROGRAM, "remesh", *asked], room / "remesh.obj", mesh)
     ran([PROGRAM, "crease", *asked], room / "crease.obj", marked)
     ran(tool("mark_features.py", "--angle", words.angle, "--no-corners", room / "remesh.obj"), room / "shown.obj")
-    pictures = [[marked, graph]] if words.three else []
-    pictures += [[mesh, graph, "--written", room / "shown.obj"], [marked, graph, "--written", room / "crease.obj"]]
+    pictures = [[marked, traced]] if words.three else []
+    pictures += [[mesh, traced, "--written", room / "shown.obj"], [marked, creased, "--written", room / "crease.obj"]]
     for picture in pictures:
         ran(tool("draw_graph.py", *picture, *options), svg)
         yield svg.read_text()

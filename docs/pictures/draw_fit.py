@@ -33,14 +33,15 @@ def main():
     parser.add_argument("length")
     parser.add_argument("--angle", default="30", metavar="DEGREES")
     words, options = parser.parse_known_args()
-    asked = ["--keep", "lines", "--patches", "merged", "--aim", f"edge:{words.length}", "--floor", "1", "--weight", "length"]
+    asked = ["--keep", "lines", "--patches", "merged", "--aim", f"edge:{words.length}", "--floor", "1"]
+    asked += ["--weight", "length"]
     marked = ran(tool("mark_features.py", "--angle", words.angle, words.mesh))
     made = ran([PROGRAM, "fit", *asked, "--spacing", "even"], marked)
     with tempfile.TemporaryDirectory() as room:
-        new, graph = pathlib.Path(room) / "new.obj", pathlib.Path(room) / "graph.txt"
+        new, layout = pathlib.Path(room) / "new.obj", pathlib.Path(room) / "layout.txt"
         new.write_bytes(b"".join(line for line in made.splitlines(True) if not line.startswith(b"#")))
-        graph.write_bytes(ran([PROGRAM, "graph"], new.read_bytes()))
-        sys.stdout.buffer.write(ran(tool("draw_graph.py", new, graph, *options)))
+        layout.write_bytes(ran([PROGRAM, "layout", "--keep", "none", "--patches", "traced"], new.read_bytes()))
+        sys.stdout.buffer.write(ran(tool("draw_graph.py", new, layout, *options)))
 
 
 main()

@@ -54,7 +54,7 @@ def panel(mesh: Mesh, frame: np.ndarray) -> np.ndarray:
     bad = quadq.scaled_jacobians(mesh) < 0
     colours = np.where(bad[:, None], [208.0, 32.0, 32.0], np.tile(PLAIN, (mesh.face_count, 1)))
     canvas = draw(mesh, Look(colours), View.of(frame), SIZE, frame)
-    return canvas.colours.reshape(canvas.high, canvas.wide, 3)
+    return canvas.pixels()
 
 
 def row(mesh: Mesh, wished: int) -> np.ndarray:
@@ -74,7 +74,7 @@ def main(words: list[str]) -> int:
     rows += [row(quadq.read(path), int(faces)) for path, faces in zip(words[1::2], words[2::2])]
     whole = np.concatenate(rows)
     canvas = Canvas(3 * SIZE[0], len(rows) * SIZE[1])
-    canvas.colours[:] = whole.reshape(-1, 3)
+    canvas.show(whole)
     pathlib.Path(words[0]).write_bytes(canvas.png())
     return 0
 

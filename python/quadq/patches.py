@@ -1,4 +1,4 @@
-"""Which patch of the motorcycle graph each face lies in, before and after a remesh."""
+"""Which patch of the cut each face lies in, before and after a remesh."""
 
 from __future__ import annotations
 
@@ -8,10 +8,10 @@ from typing import Sequence
 import numpy as np
 
 from .arrays import Array
-from .mesh import NONE, Mesh
+from .layout import layout_of
+from .mesh import Mesh
 from .parts import Part, Written
 from .program import Program
-from .surface import darts_between, least_in_class, number_in_order, twins_of
 
 
 @dataclass(frozen=True)
@@ -60,83 +60,16 @@ class Patches:
 
 
 def patches_under(part: Part, written: Written, program: Program) -> Patches:
-    """The patches of a part: those of its graph; of the cut beside its marks; merged where that was wished."""
-    if written.command == "remesh":
-        graph = program.graph(part.text)
-        return Patches(old_patches(part.mesh, graph), new_sizes(graph, written.lengths), node_count(graph))
-    layout = program.layout(part.text, len(part.marks) > 0, written.is_merged)
-    arcs = arcs_of(layout)
-    ends = {int(end) for it in arcs for end in (it[0], it[-1])}
-    return Patches(patches_between(part.mesh, arcs), new_sizes(layout, written.lengths), len(ends))
-
-
-def arcs_of(layout: str) -> list[Array]:
-    """Of each arc of the text of a layout the points along it, which count from 0."""
-    lines = [line for line in layout.splitlines() if line.startswith(("arc ", "marked "))]
-    return [np.array(line.split()[3:], dtype=np.int64) - 1 for line in lines]
-
-
-def patches_between(mesh: Mesh, arcs: Sequence[Array]) -> Array:
-    """(faces,) int64: the patch of each face between these arcs. Patches count from 0, in the order of their first
-    faces."""
-    pairs = np.concatenate([np.zeros((0, 2), dtype=np.int64), *(np.column_stack([it[:-1], it[1:]]) for it in arcs)])
-    inner = mesh.edges.uses == 2
-    inner[mesh.edges.numbers_of(np.sort(pairs, axis=1))] = False
-    one, other = mesh.edges.rising[inner] // 4, mesh.edges.falling[inner] // 4
-    return number_in_order(least_in_class(mesh.face_count, one, other))
+    """The patches of a part: those of its cut, beside its marks, and merged where that was wished."""
+    layout = layout_of(part, program, written.is_merged)
+    return Patches(layout.cut.patches_of(part.mesh), layout.widths(written.lengths).prod(axis=1).astype(np.int64),
+                   len(layout.cut.nodes))
 
 
 def borders(mesh: Mesh, patches: Array) -> Array:
     """(edges, 2): the edges between patches (faces,) and at the boundary, as pairs of points in rising order."""
     edges = mesh.edges
     return np.asarray(edges.ends[(edges.uses == 1) | (patches[edges.rising // 4] != patches[edges.falling // 4])])
-
-
-def old_patches(mesh: Mesh, graph: str) -> Array:
-    """(faces,) int64: the patch of each face of a mesh whose graph text this is. Patches count from 0, as in the text,
-    which lists them in the order of their first faces."""
-    inner = mesh.edges.uses == 2
-    inner[_ridden(mesh, graph)] = False
-    one, other = mesh.edges.rising[inner] // 4, mesh.edges.falling[inner] // 4
-    return number_in_order(least_in_class(mesh.face_count, one, other))
-
-
-def _ridden(mesh: Mesh, graph: str) -> Array:
-    """The edges that riders have ridden. All of them ride at once, an edge a turn."""
-    rides = [tuple(map(int, line.split()[1:4])) for line in graph.splitlines() if line.startswith("rider ")]
-    heads, tails, left = np.array(rides, dtype=np.int64).reshape(-1, 3).T
-    used = np.unique(mesh.corners)
-    darts = darts_between(mesh, used[heads - 1], used[tails - 1])
-    darts, left = darts[darts != NONE], left[darts != NONE]
-    twins = twins_of(mesh)
-    ridden = []
-    while len(darts):
-        ridden.append(mesh.edges.of_corner[darts])
-        across = twins[_after(darts)]
-        goes_on = (left > 1) & (across >= 0)
-        darts, left = _after(across[goes_on]), left[goes_on] - 1
-    return np.concatenate([np.zeros(0, dtype=np.int64), *ridden])
-
-
-def _after(darts: Array) -> Array:
-    """The next side of the same quad."""
-    return np.asarray(darts - darts % 4 + (darts + 1) % 4)
-
-
-def new_sizes(graph: str, lengths: Array) -> Array:
-    """(patches,) int64: how many faces the program writes for each patch, where arcs have these lengths."""
-    sides: dict[str, list[int]] = {"south": [], "west": []}
-    for line in graph.splitlines():
-        word, _, arcs = line.partition(" ")
-        if word in sides:
-            sides[word].append(sum(int(lengths[int(it) - 1]) for it in arcs.split()))
-    return np.array(sides["south"], dtype=np.int64) * np.array(sides["west"], dtype=np.int64)
-
-
-def node_count(graph: str) -> int:
-    """How many nodes the graph has: the ends of its arcs."""
-    ends = [line.split()[2:4] for line in graph.splitlines() if line.startswith("arc ")]
-    return len({end for pair in ends for end in pair})
 
 
 def colours_of(mesh: Mesh, patches: Array, colours: int) -> Array:

@@ -17,6 +17,7 @@ ROOT = pathlib.Path(__file__).resolve().parents[2]
 sys.path.insert(0, str(ROOT / "tools"))
 from carry import BORDERS, read_old  # noqa: E402
 from carrying import Surface, side  # noqa: E402
+from layout_text import cut_options  # noqa: E402
 from make_map import map_of, read_places  # noqa: E402
 
 PROGRAM = os.environ.get("QUADQ", str(ROOT / "dist/quadq"))
@@ -25,6 +26,7 @@ TEXTS = [
     "remesh --scale 1/2 --floor auto --weight plain", "remesh --scale 3/2 --floor 2 --weight length", "refine --by 3",
     "crease --scale 2/3 --floor 3 --weight plain", "coarse --scale 1/2 --floor 3 --weight plain",
     "size --edge 0.3 --floor 3",
+    "fit --keep lines --patches conforming --aim scale:1/2 --floor 1 --weight plain --spacing even",
 ]
 CREASE = "crease --scale 1/2 --floor 1 --weight plain"
 REMESH = "remesh --scale 1/2 --floor 1 --weight plain"
@@ -74,7 +76,7 @@ def marked(old: str) -> str:
 
 def seams_of(text: str) -> tuple[int, float]:
     """How many edges are seams of the texture, and how long they are together."""
-    old, (places, _) = read_old(text), read_places(text)
+    old, places = read_old(text), read_places(text)
     surface = Surface(old.corners)
     marks = old.texture.seams(surface)
     ends = [(old.corners[dart], old.corners[side(dart, 1)]) for dart, twin in enumerate(surface.twins)
@@ -117,7 +119,8 @@ class WholeWay(unittest.TestCase):
                 new = ran(words.split(), old, check=False)
                 if new.returncode == 0:
                     told = ran(["map"], f"{old}\n{new.stdout}")
-                    self.assertEqual(told.stdout, map_of(old, new.stdout), f"{path.name}, {words}")
+                    cut = ran(["layout", *cut_options(new.stdout)], old)
+                    self.assertEqual(told.stdout, map_of(old, cut.stdout, new.stdout), f"{path.name}, {words}")
                     count += 1
         self.assertGreater(count, 40)
 
