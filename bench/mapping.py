@@ -4,7 +4,7 @@
 usage: bench/mapping.py [--random N] [--seed S] [MESH.obj..]
        bench/mapping.py --times [MESH.obj..]
 
-Of each mesh, and of N that are made by chance, the maps of texts of all five commands that remesh are judged:
+Of each mesh, and of N that are made by chance, the maps of texts of all commands that remesh are judged:
 
   the place that is computed from each `vertex`, `edge` and `face` line is the `v` line, digit by digit;
   each corner of a `cell` line, walked to from its old face over the sides of faces, lies where the vertex of its `f`
@@ -31,8 +31,9 @@ from measuring import ROOT, count_lines, name_of, program, taken
 from random_meshes import random_text
 
 sys.path.insert(0, f"{ROOT}/tools")
-from obj_text import read_obj  # noqa: E402
+from layout_text import cut_options  # noqa: E402
 from make_map import map_of  # noqa: E402
+from obj_text import read_obj  # noqa: E402
 
 ONE = 1 << 32
 REFUSED = {3, 5, 9, 10, 11, 16, 17}
@@ -47,6 +48,8 @@ SETTINGS = [
     ("coarse", "--scale 3/2 --floor 3 --weight length"),
     ("size", "--edge {edge} --floor 1"),
     ("size", "--edge {edge} --floor 3"),
+    ("fit", "--keep lines --patches merged --aim scale:1/2 --floor 1 --weight plain --spacing even"),
+    ("fit", "--keep none --patches conforming --aim scale:2/3 --floor 2 --weight length --spacing even"),
     ("refine", "--by 2"),
 ]
 HEAD = "| mesh | scale | faces | new faces | `check` s | MB | `map` s | MB | time ratio | MB written | ns a byte |"
@@ -191,7 +194,8 @@ def run(words, text):
 def mapped(old_text, new_text):
     """The map of a pair, which has to be the script's."""
     status, given, said = run(["map"], old_text + "\n" + new_text)
-    if status != 0 or given != map_of(old_text, new_text):
+    cut = run(["layout", *cut_options(new_text)], old_text)[1]
+    if status != 0 or given != map_of(old_text, cut, new_text):
         raise Fault(f"quadq map ends with {status} and does not write what make_map.py does: {said}")
     return given
 

@@ -5,24 +5,25 @@ from __future__ import annotations
 from typing import Sequence
 
 from .carrier import Carrier
-from .carry_map import CarryMap, joined, read_map
+from .maps import Map, joined, read_map
 from .mesh import Mesh
 from .parts import Part, Workshop, Written
 
 
-def map_of(parts: Sequence[Part], written: Sequence[Written], meshes: Sequence[Mesh], shop: Workshop) -> CarryMap:
+def maps_of(parts: Sequence[Part], written: Sequence[Written], shop: Workshop) -> list[Map]:
+    """The map of the remesh of each part. They are judged anew."""
+    text_of = {id(part): it.text for part, it in zip(parts, written)}
+    return shop.each(parts, lambda part: read_map(shop.program.map(part.text, text_of[id(part)]), part.mesh.quads))
+
+
+def map_of(parts: Sequence[Part], written: Sequence[Written], shop: Workshop) -> Map:
     """The map of the remeshes of parts side by side, into the mesh of which they are parts."""
-    text_of = {id(part): (it.text, mesh) for part, it, mesh in zip(parts, written, meshes)}
-
-    def one(part: Part) -> CarryMap:
-        text, mesh = text_of[id(part)]
-        return read_map(shop.program.map(part.text, text), part.mesh, mesh).moved(part.points, part.faces)
-
-    return joined(shop.each(parts, one))
+    maps = maps_of(parts, written, shop)
+    return joined([it.moved(part.points, part.faces) for it, part in zip(maps, parts)])
 
 
-def dressed_as(old: Mesh, new: Mesh, text: str) -> tuple[Mesh, int]:
+def dressed_as(old: Mesh, new: Mesh, text: bytes) -> tuple[Mesh, int]:
     """A new mesh of quads with what the old mesh carries, by the text of its map; and how many faces lie over a seam of
     the texture or a border of names."""
-    mesh, over = Carrier(old, old, new, read_map(text, old, new)).dressed()
+    mesh, over = Carrier(old, old, new, read_map(text, old.quads)).dressed()
     return mesh, int(over.sum())

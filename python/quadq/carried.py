@@ -11,7 +11,7 @@ from types import ModuleType
 
 _HERE = Path(__file__).resolve().parent
 _FOLDERS = (_HERE, _HERE.parents[1] / "tools")
-_SCRIPTS = ("obj_text", "mark_features", "cuts")
+_SCRIPTS = ("obj_text", "mark_features")
 _OURS = f"{__name__}."
 """Before the name of a script: so it is a module of this package, and no other has that name."""
 _one_at_a_time = Lock()

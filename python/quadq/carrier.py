@@ -12,7 +12,7 @@ from .arrays import Array
 from .carry_boxes import Boxes
 from .carry_edges import Followed, followed
 from .carry_layers import DIGITS, carried_layer, each_once
-from .carry_map import CarryMap
+from .maps import Map
 from .mesh import NONE, Layer, Mesh
 from .subdivision import refined
 from .surface import twins_of
@@ -30,7 +30,7 @@ class Carrier:
     ready: Mesh
     """The mesh of quads that was remeshed: the old one, or what became of it where it was divided first."""
     new: Mesh
-    map: CarryMap
+    map: Map
 
     @property
     def is_divided(self) -> bool:
@@ -43,7 +43,7 @@ class Carrier:
     @cached_property
     def faces(self) -> Array:
         """(new faces,) int64: the old face in which the middle of each lies."""
-        homes = self.map.homes // 4
+        homes = self.map.homes
         return np.asarray(self.old.face_of_corner()[homes] if self.is_divided else homes)
 
     @cached_property
@@ -75,21 +75,22 @@ class Carrier:
     def mixed(self, values: Array) -> Array:
         """(new points, width) float64: values at old points (old points, width), mixed at each new one from those
         between which it lies."""
-        return self.map.mixed(refined(self.old, values) if self.is_divided else values)
+        return self.map.at_points(refined(self.old, values) if self.is_divided else values)
 
     def dressed(self) -> tuple[Mesh, Array]:
         """The new mesh with the layers, names and further numbers of points of the old one; and (new faces,) bool,
         which faces lie over a seam of the texture or a border of names."""
-        ready, homes = self.ready, self.map.homes // 4
+        ready, homes = self.ready, self.map.homes
         texture, over = self._layer(ready.texture)
         normal, _ = self._layer(ready.normal, are_directions=True)
-        layers = {name: self._layer(it)[0] for name, it in ready.layers.items()}
-        mesh = replace(
-            self.new,
-            texture=None if texture is None else each_once(texture),
+        # The texture may be one of the layers, and then is carried once, as these are.
+        is_shared = any(it is ready.texture for it in ready.layers.values())
+        layers = {name: texture if it is ready.texture else self._layer(it)[0] for name, it in ready.layers.items()}
+        mesh = self.new.changed(
+            texture=texture if texture is None or is_shared else each_once(texture),
             normal=None if normal is None else each_once(normal),
             groups={word: replace(it, of_face=it.of_face[homes]) for word, it in ready.groups.items()},
-            extra=None if ready.extra is None else self.map.mixed(ready.extra).round(DIGITS),
+            extra=None if ready.extra is None else self.map.at_points(ready.extra).round(DIGITS),
             libraries=ready.libraries,
             layers={name: it for name, it in layers.items() if it is not None},
         )
@@ -106,6 +107,6 @@ class Carrier:
         boxes = self.boxes
         for names in (self.ready.groups[word].of_face for word in BORDERS if word in self.ready.groups):
             if np.any(names != names[:1]):
-                differ = names[boxes.darts // 4] != names[self.map.homes // 4][boxes.face]
+                differ = names[boxes.darts // 4] != names[self.map.homes][boxes.face]
                 found[boxes.face[differ]] = True
         return found

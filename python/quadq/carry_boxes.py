@@ -8,17 +8,17 @@ from typing import Optional
 import numpy as np
 
 from .arrays import Array
-from .carry_map import EAST, NORTH, ONE, SOUTH, WEST, CarryMap, along, beyond
+from .maps import EAST, NORTH, ONE, SOUTH, WEST, Map, along, beyond
 
 
 class Boxes:
     """The boxes of a map. A place in one is a column and a row, counted from the home: to the east and to the north of
     it they are above 0. The places of a box stand together, column by column."""
 
-    def __init__(self, given: CarryMap, twins: Array) -> None:
+    def __init__(self, given: Map, twins: Array) -> None:
         """`twins` has for each dart of the old mesh the one back along its edge. Raises a `MeshError` where the map
         leads over the boundary."""
-        corners = given.corners
+        corners = given.places
         self.map, self.twins = given, twins
         self.low = np.minimum(corners.min(axis=1) // ONE, 0)
         """(faces, 2): the least column and row of each box."""
@@ -46,7 +46,7 @@ class Boxes:
 
     def _walk(self) -> None:
         every, zero = np.arange(len(self.sizes)), np.zeros(len(self.sizes), dtype=np.int64)
-        self.darts[self.at(every, zero, zero)] = self.map.homes
+        self.darts[self.at(every, zero, zero)] = self.map.souths
         for way, step, ends in ((EAST, 1, self.high[:, 0] - 1), (WEST, -1, -self.low[:, 0])):
             for count in range(1, int(ends.max(initial=0)) + 1):
                 some = np.flatnonzero(ends >= count)
@@ -78,7 +78,7 @@ class Boxes:
     @cached_property
     def corner_places(self) -> Array:
         """(4 * faces,): the place of its face's box in which each corner lies, the nearest to the home of several."""
-        at = self.map.corners.reshape(-1, 2)
+        at = self.map.places.reshape(-1, 2)
         columns, rows = np.where(at < 0, at // ONE, np.maximum(at - 1, 0) // ONE).T
         return self.at(np.repeat(np.arange(len(self.sizes)), 4), columns, rows)
 
@@ -94,7 +94,7 @@ class Boxes:
         return self._between(np.arange(4 * len(self.sizes)), self.corner_places)
 
     def _between(self, corners: Array, places: Array) -> tuple[Array, Array]:
-        at = self.map.corners.reshape(-1, 2)[corners] - self.places[places] * ONE
+        at = self.map.places.reshape(-1, 2)[corners] - self.places[places] * ONE
         east, north = (at / float(ONE)).T
         darts = np.stack([along(self.darts[places], way) for way in range(4)])
         return darts, np.stack([(1 - east) * (1 - north), east * (1 - north), east * north, (1 - east) * north])

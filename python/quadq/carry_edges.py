@@ -8,7 +8,7 @@ import numpy as np
 
 from .arrays import Array
 from .carry_boxes import Boxes
-from .carry_map import EAST, NORTH, ONE, SOUTH, WEST, along
+from .maps import EAST, NORTH, ONE, SOUTH, WEST, along
 from .mesh import NONE, Mesh
 
 
@@ -40,7 +40,7 @@ class Followed:
 def followed(boxes: Boxes, old: Mesh, new: Mesh) -> Followed:
     """The old edges along which new ones lie. A side of a new face lies along old edges where both of its ends are on
     the same line of old edges, as seen from the face's home."""
-    starts = boxes.map.corners
+    starts = boxes.map.places
     ends = np.roll(starts, -1, axis=1)
     of_new = np.full(len(new.edges.ends), NONE)
     pairs = [np.zeros((0, 2), dtype=np.int64)]

@@ -7,9 +7,9 @@ import numpy as np
 
 from .arrays import Array
 from .carry_boxes import Boxes
-from .carry_map import EAST, ONE, along
 from .carry_settling import settle, unite
 from .features import name_others
+from .maps import EAST, ONE, along
 from .mesh import NONE, Layer
 
 DIGITS = 6
@@ -57,7 +57,7 @@ def _taken_instead(boxes: Boxes, reached: Array) -> tuple[Array, Array, Array]:
     at = np.arange(len(who)) - np.repeat(np.cumsum(counts) - counts, counts) + boxes.firsts[who // 4]
     who, at = who[reached[at]], at[reached[at]]
     low = boxes.places[at] * ONE
-    corner = boxes.map.corners.reshape(-1, 2)[who]
+    corner = boxes.map.places.reshape(-1, 2)[who]
     far = np.maximum(np.maximum(low - corner, corner - low - ONE), 0)
     columns, rows = boxes.places[at].T
     order = np.lexsort((rows, columns, boxes.steps[at], *_squares(far), who))

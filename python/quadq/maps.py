@@ -4,27 +4,29 @@ have."""
 from __future__ import annotations
 
 from dataclasses import dataclass
+from typing import Sequence, Union
 
 import numpy as np
 
 from .arrays import Array
+from .errors import MeshError
+from .mesh import NONE
 from .plain import strange
-from .surface import sides_beside
 
 ONE = 1 << 32
 """The side of an old face, in the parts in which a map counts."""
-AT_VERTEX, ON_EDGE, IN_FACE, CELL = range(4)
-"""What a line of a map tells."""
-NUMBERS = np.array([1, 4, 4, 10])
-"""How many numbers stand in each such line."""
-LETTERS = np.zeros(256, dtype=np.int64) - 1
-LETTERS[list(b"vefc")] = AT_VERTEX, ON_EDGE, IN_FACE, CELL
-TINY = 1e-12
-"""So small a part of an old face is none: the places of a map are rounded to 2^-32 of a face."""
-FLAT = 1e-6
-"""Numbers that differ by less are one where the mean between them is taken."""
 SOUTH, EAST, NORTH, WEST = range(4)
 """The sides of an old face as its patch sees it, counterclockwise."""
+AT_VERTEX, ON_EDGE, IN_FACE = range(3)
+"""Where a new point lies."""
+HEAD = b"quadq map 1"
+VERTEX, EDGE, SHARE, FACE, CELL = range(5)
+"""What a line of a map tells, by its first letter: a share is a place on an old edge, in parts of `ONE`."""
+WORDS = b"vesfc"
+NUMBERS = np.array([1, 4, 3, 4, 10])
+"""How many numbers stand in each such line."""
+KIND = np.array([AT_VERTEX, ON_EDGE, ON_EDGE, IN_FACE])
+LETTERS = bytes(range(ord("a"), ord("z") + 1))
 
 
 @dataclass(frozen=True)
@@ -37,6 +39,9 @@ class Map:
     """(new points, 4) int64: the old points between which each lies."""
     weights: Array
     """(new points, 4) float64: how much of each it is; they sum to 1."""
+    darts: Array
+    """(new points,) int64: of one in a face, the corner from which its place is told: four times the face and the
+    corner, whose point is the first of its four. Else NONE."""
     homes: Array
     """(new faces,) int64: the old face in which the middle of each lies."""
     turns: Array
@@ -45,180 +50,125 @@ class Map:
     """(new faces, 4, 2) int64: how far to the east and to the north of that corner its corners lie, in parts of `ONE`,
     in the order of its corners."""
 
+    @property
+    def souths(self) -> Array:
+        """(new faces,) int64: the south side of each home, as a dart: four times the face and a corner."""
+        return np.asarray(4 * self.homes + self.turns)
+
     def at_points(self, values: Array) -> Array:
         """(new points, ..): values of old points (old points, ..) at the new ones. What has no weight does not count,
         even where it is no number."""
         weights = self.weights.reshape(len(self.points), 4, *(1,) * (values.ndim - 1))
-        return np.asarray((np.where(weights == 0, 0, values[self.points]) * weights).sum(axis=1))
+        return np.asarray(sum(np.where(weights[:, at] == 0, 0, values[self.points[:, at]]) * weights[:, at]
+                              for at in range(4)))
+
+    def nearest_points(self) -> Array:
+        """(new points,) int64: the old point that counts most for each, the first of several."""
+        return np.asarray(self.points[np.arange(len(self.points)), self.weights.argmax(axis=1)])
+
+    def nearest_corners(self) -> Array:
+        """(4 * new faces,) int64: the corner of its face's home that is nearest to each corner, as a dart."""
+        east, north = (2 * self.places > ONE).transpose(2, 0, 1)
+        ways = np.where(north, np.where(east, NORTH, WEST), np.where(east, EAST, SOUTH))
+        return along(np.repeat(self.souths, 4), ways.ravel())
+
+    def moved(self, points: Array, faces: Array) -> Map:
+        """The same, where the old mesh is a part of another, in which its points and faces have these numbers."""
+        darts = np.where(self.darts == NONE, NONE, 4 * faces[self.darts // 4] + self.darts % 4)
+        return Map(self.kinds, points[self.points], self.weights, darts, faces[self.homes], self.turns, self.places)
+
+    def with_image(self, points: Array, darts: Array, is_own: Array) -> Map:
+        """The map of a new mesh with its mirror image behind it. The image lies in the mirror image of the old mesh:
+        `points` (old points,) has the one for each old point, and `darts` (darts,) the way back along each edge there.
+        Those of the new points that `is_own` (new points,) names have no image of their own."""
+        inside = (self.kinds == IN_FACE)[~is_own]
+        # Seen from a corner of the image, what lay to the east lies to the north.
+        order = np.where(inside[:, None], [0, 3, 2, 1], np.arange(4))
+        corners = np.where(inside, along(darts[self.darts[~is_own]], EAST), NONE)
+        south = darts[self.souths]
+        places = self.places[:, ::-1].copy()
+        places[:, :, 0] = ONE - places[:, :, 0]
+        return joined([self, Map(
+            self.kinds[~is_own], np.take_along_axis(points[self.points[~is_own]], order, axis=1),
+            np.take_along_axis(self.weights[~is_own], order, axis=1), corners, south // 4, south % 4, places)])
+
+    def with_copy(self, is_own: Array) -> Map:
+        """The same, where the image lies where its half does."""
+        return joined([self, Map(self.kinds[~is_own], self.points[~is_own], self.weights[~is_own], self.darts[~is_own],
+                                 self.homes, self.turns, self.places[:, ::-1])])
 
 
-@dataclass(frozen=True)
-class Overlaps:
-    """Which old faces each new face lies over, a row for each pair."""
-
-    new: Array
-    """(pairs,) int64."""
-    old: Array
-    """(pairs,) int64."""
-    parts: Array
-    """(pairs,) float64: how much of the old face lies under the new one, along the parameters of the map."""
-    darts: Array
-    """(sides,) int64: four times a new face and a corner: a side of a new face that lies along old edges."""
-    under: Array
-    """(sides,) int64: four times an old face and a corner: the old side under it."""
-    spans: Array
-    """(sides, 2) float64: from where to where on that old side, in parts of it."""
-
-    def followed_by(self, other: Overlaps, new: int, old: int) -> Overlaps:
-        """These, and others of meshes that stand behind so many new and old faces."""
-        return Overlaps(
-            np.concatenate([self.new, other.new + new]), np.concatenate([self.old, other.old + old]),
-            np.concatenate([self.parts, other.parts]), np.concatenate([self.darts, other.darts + 4 * new]),
-            np.concatenate([self.under, other.under + 4 * old]), np.concatenate([self.spans, other.spans]))
+def along(darts: Array, ways: Union[int, Array]) -> Array:
+    """Other sides of the faces that have these darts to the south."""
+    return np.asarray(darts - darts % 4 + (darts + ways) % 4)
 
 
-def read_map(text: str, quads: Array) -> Map:
-    """The map of a text, over the quads (old faces, 4) of the old mesh. Raises a `Refusal` where the text is no map."""
-    head, _, body = text.encode().partition(b"\n")
-    counts, _, lines = body.partition(b"\n")
-    words = counts.split()
-    if head != b"quadq map 1" or words[::2] != [b"vertices", b"faces"] or not all(it.isdigit() for it in words[1::2]):
-        raise strange("the map does not begin as maps do")
+def beyond(darts: Array, way: int, twins: Array) -> Array:
+    """The south darts of the next faces over a side of the faces with these south darts. `twins` has for each dart the
+    one back along its edge. Raises a `MeshError` at the boundary."""
+    back = twins[along(darts, way)]
+    if np.any(back == NONE):
+        raise MeshError("the map leads over the boundary of the old mesh")
+    return along(back, -way - 2)
+
+
+def joined(maps: Sequence[Map]) -> Map:
+    """Maps into one old mesh, of new meshes that are put side by side."""
+    if len(maps) == 1:
+        return maps[0]
+    tables = zip(*((it.kinds, it.points, it.weights, it.darts, it.homes, it.turns, it.places) for it in maps))
+    return Map(*(np.concatenate(it) for it in tables))
+
+
+def read_map(text: bytes, quads: Array) -> Map:
+    """The map that a text tells, into a mesh of these quads (faces, 4). Raises a `Refusal` where it is none, and a
+    `MeshError` where it is of another mesh. Linear in the text."""
+    head, counts, rest = (text.split(b"\n", 2) + [b""] * 3)[:3]
+    words = counts.split(b" ")
+    if head != HEAD or words[::2] != [b"vertices", b"faces"] or len(words) != 4:
+        raise strange("what the program wrote is no map")
     points, faces = int(words[1]), int(words[3])
-    letters = np.frombuffer(lines, dtype=np.uint8)
+    letters = np.frombuffer(rest, dtype=np.uint8)
     begins = np.concatenate([[0], np.flatnonzero(letters == ord("\n")) + 1])[:-1]
-    kinds = LETTERS[letters[begins]]
-    numbers: Array = np.fromstring(lines.translate(None, b"abcdefghijklmnopqrstuvwxyz"), dtype=np.int64, sep=" ")
-    is_map = len(kinds) == points + faces and np.all(kinds >= 0) and np.all((kinds == CELL)[points:]) and not np.any(
-        (kinds == CELL)[:points]) and len(numbers) == NUMBERS[kinds].sum()
-    if not is_map:
+    of_letter = np.full(256, NONE)
+    of_letter[list(WORDS)] = range(len(WORDS))
+    lines = of_letter[letters[begins]]
+    numbers: Array = np.fromstring(rest.translate(None, LETTERS), dtype=np.int64, sep=" ")
+    is_cell = lines == CELL
+    if len(lines) != points + faces or np.any(lines == NONE) or np.any(is_cell[:points]) or not np.all(
+            is_cell[points:]) or len(numbers) != NUMBERS[lines].sum():
         raise strange("the map has other lines than maps have")
-    split = int(NUMBERS[kinds[:points]].sum())
-    corners, weights = _spots(kinds[:points], numbers[:split], quads)
-    cells = numbers[split:].reshape(-1, 10)
-    return Map(kinds[:points], corners, weights, cells[:, 0] - 1, cells[:, 1] - 1, cells[:, 2:].reshape(-1, 4, 2))
+    split = int(NUMBERS[lines[:points]].sum())
+    cells = numbers[split:].reshape(-1, NUMBERS[CELL])
+    _refuse_beyond(cells[:, 0], len(quads))
+    return Map(KIND[lines[:points]], *_spots(lines[:points], numbers[:split], quads), cells[:, 0] - 1, cells[:, 1] - 1,
+               cells[:, 2:].reshape(-1, 4, 2))
 
 
-def _spots(kinds: Array, numbers: Array, quads: Array) -> tuple[Array, Array]:
-    """The old points (new points, 4) of each spot and their weights."""
-    begins = np.concatenate([[0], np.cumsum(NUMBERS[kinds])])[:-1]
-    points = np.repeat(numbers[begins][:, None] - 1, 4, axis=1)
-    weights = np.zeros((len(kinds), 4))
+def _refuse_beyond(numbers: Array, count: int) -> None:
+    if np.any((numbers < 1) | (numbers > count)):
+        raise MeshError("the map names what the old mesh does not have")
+
+
+def _spots(lines: Array, numbers: Array, quads: Array) -> tuple[Array, Array, Array]:
+    """The old points (new points, 4) of each new point, their weights, and the corner from which one in a face is told.
+    """
+    begins = np.cumsum(NUMBERS[lines]) - NUMBERS[lines]
+    points, darts = np.repeat(numbers[begins][:, None], 4, axis=1), np.full(len(lines), NONE)
+    weights = np.zeros((len(lines), 4))
     weights[:, 0] = 1
-    edges = np.flatnonzero(kinds == ON_EDGE)
-    first, last, step, steps = (numbers[begins[edges] + at] for at in range(4))
-    points[edges] = np.column_stack([first, last, first, last]) - 1
-    weights[edges, 1] = step / steps
-    weights[edges, 0] = 1 - weights[edges, 1]
-    inside = np.flatnonzero(kinds == IN_FACE)
-    face, turn, *ways = (numbers[begins[inside] + at] for at in range(4))
+    for word in (EDGE, SHARE):
+        some = np.flatnonzero(lines == word)
+        points[some[:, None], [1, 3]] = numbers[begins[some] + 1][:, None]
+        steps = numbers[begins[some] + 3] if word == EDGE else ONE
+        weights[some, 1] = numbers[begins[some] + 2] / steps
+        weights[some, 0] = 1 - weights[some, 1]
+    some = np.flatnonzero(lines == FACE)
+    face, corner, *ways = (numbers[begins[some] + at] for at in range(4))
+    _refuse_beyond(face, len(quads))
+    darts[some] = 4 * (face - 1) + corner - 1
+    points[some] = quads[(face - 1)[:, None], (corner[:, None] - 1 + np.arange(4)) % 4] + 1
     east, north = (it / float(ONE) for it in ways)
-    points[inside] = quads[(face - 1)[:, None], (turn[:, None] - 1 + np.arange(4)) % 4]
-    weights[inside] = np.column_stack([(1 - east) * (1 - north), east * (1 - north), east * north, (1 - east) * north])
-    return points, weights
-
-
-class _Walk:
-    """The old faces under new ones, as they are seen from the home of each: their columns and rows."""
-
-    def __init__(self, given: Map, twins: Array) -> None:
-        self.twins = twins
-        self.low, self.high = given.places.min(axis=1), given.places.max(axis=1)
-        # From the column or row of the home as far as the face reaches, and at least that itself.
-        self.first = np.minimum(self.low // ONE, 0)
-        self.last = np.maximum(-(-self.high // ONE), 1)
-        self.new = np.arange(len(given.homes))
-        self.dart = 4 * given.homes + given.turns
-        """The south side of the old face at hand."""
-        self.place = np.zeros((len(self.new), 2), dtype=np.int64)
-
-    def spread(self, axis: int, ahead: int, back: int) -> None:
-        """From each old face at hand over its sides, along an axis, as far as its new face reaches."""
-        found = [(self.new, self.dart, self.place)]
-        for way, step in ((ahead, 1), (back, -1)):
-            new, dart, place = self.new, self.dart, self.place
-            while len(new):
-                to = place[:, axis] + step
-                goes = (to < self.last[new, axis]) if step > 0 else (to >= self.first[new, axis])
-                new, place, dart = new[goes], place[goes].copy(), dart[goes]
-                across = self.twins[sides_beside(dart, way)]
-                if np.any(across < 0):
-                    raise strange("the map leads over the boundary of the old mesh")
-                dart = sides_beside(across, -way - 2)
-                place[:, axis] += step
-                found.append((new, dart, place))
-        self.new, self.dart, self.place = (np.concatenate(it) for it in zip(*found))
-
-
-def overlaps_of(given: Map, twins: Array) -> Overlaps:
-    """What lies under each new face, by the twins (darts,) of the old mesh. Linear in the pairs."""
-    walk = _Walk(given, twins)
-    walk.spread(0, EAST, WEST)
-    walk.spread(1, NORTH, SOUTH)
-    parts = np.empty(len(walk.new))
-    # Where the arcs of a side are not in proportion to those across, new faces are no rectangles to the map.
-    is_slanted = _is_slanted(given)[walk.new]
-    low, high = (np.clip(it[walk.new] - walk.place * ONE, 0, ONE) / float(ONE) for it in (walk.low, walk.high))
-    parts[:] = np.prod(high - low, axis=1)
-    some = np.flatnonzero(is_slanted)
-    corners = (given.places[walk.new[some]] - walk.place[some, None, :] * ONE) / float(ONE)
-    parts[some] = areas_in_square(corners)
-    some = np.flatnonzero(parts > TINY)
-    return Overlaps(walk.new[some], walk.dart[some] // 4, _in_whole(walk.dart[some] // 4, parts[some], len(twins) // 4),
-                    *_sides_of(given, walk))
-
-
-def _is_slanted(given: Map) -> Array:
-    """(new faces,) bool: whether a face is no upright rectangle, as its home sees it."""
-    steps = np.roll(given.places, -1, axis=1) - given.places
-    return np.asarray(~np.all(np.any(steps == 0, axis=2), axis=1))
-
-
-def _in_whole(old: Array, parts: Array, count: int) -> Array:
-    """The parts (pairs,) of old faces, so that those of each face that lies under new ones are 1 in all."""
-    sums = np.bincount(old, weights=parts, minlength=count)
-    return np.asarray(parts / sums[old])
-
-
-def areas_in_square(corners: Array) -> Array:
-    """(n,): how much of the square from (0, 0) to (1, 1) polygons (n, corners, 2) cover that run counterclockwise."""
-    one, other = corners, np.roll(corners, -1, axis=1)
-    wide = other[..., 0] - one[..., 0]
-    steep = np.divide(other[..., 1] - one[..., 1], wide, out=np.zeros_like(wide), where=wide != 0)
-    begin, end = (np.clip(it[..., 0], 0, 1) for it in (one, other))
-    first, last = (one[..., 1] + steep * (it - one[..., 0]) for it in (begin, end))
-    return np.asarray(-((end - begin) * _mean_within(first, last)).sum(axis=1))
-
-
-def _mean_within(first: Array, last: Array) -> Array:
-    """The means of numbers that go evenly from first to last, where those below 0 are 0 and those above 1 are 1."""
-
-    def integral(at: Array) -> Array:
-        inside = np.clip(at, 0, 1)
-        return np.asarray(inside * inside / 2 + np.maximum(at - 1, 0))
-
-    rise = last - first
-    is_steep = np.abs(rise) > FLAT
-    steep = (integral(last) - integral(first)) / np.where(is_steep, rise, 1)
-    return np.where(is_steep, steep, np.clip((first + last) / 2, 0, 1))
-
-
-def _sides_of(given: Map, walk: _Walk) -> tuple[Array, Array, Array]:
-    """The sides of new faces that lie along sides of the old faces at hand: the new darts, the old ones, and from where
-    to where."""
-    found = []
-    for corner in range(4):
-        begin, end = given.places[:, corner], given.places[:, (corner + 1) % 4]
-        east, north = (end - begin).T
-        for way, is_it, axis in ((SOUTH, (north == 0) & (east > 0), 0), (EAST, (east == 0) & (north > 0), 1),
-                                 (NORTH, (north == 0) & (east < 0), 0), (WEST, (east == 0) & (north < 0), 1)):
-            border = (walk.place[:, 1 - axis] + (way in (EAST, NORTH))) * ONE
-            some = np.flatnonzero(is_it[walk.new] & (begin[walk.new, 1 - axis] == border))
-            spans = np.column_stack([it[walk.new[some], axis] - walk.place[some, axis] * ONE for it in (begin, end)])
-            spans = np.clip(spans / float(ONE), 0, 1)
-            # Counterclockwise the north side runs to the west, and the west side to the south.
-            spans = 1 - spans if way in (NORTH, WEST) else spans
-            some, spans = some[spans[:, 1] > spans[:, 0]], spans[spans[:, 1] > spans[:, 0]]
-            found.append((4 * walk.new[some] + corner, sides_beside(walk.dart[some], way), spans))
-    darts, under, spans = (np.concatenate(it) for it in zip(*found))
-    return darts, under, spans
+    weights[some] = np.column_stack([(1 - east) * (1 - north), east * (1 - north), east * north, (1 - east) * north])
+    _refuse_beyond(points, int(quads.max(initial=-1)) + 1)
+    return points - 1, weights, darts

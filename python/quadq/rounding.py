@@ -13,9 +13,8 @@ from typing import Optional
 import numpy as np
 
 from .arrays import Array
+from .maps import IN_FACE, ON_EDGE, Map
 from .mesh import NONE, Layer, Mesh
-from .parts import Part
-from .spots import Spots, spots_of
 from .surface import least_in_class
 
 ANGLE = 30.0
@@ -51,18 +50,21 @@ class Curved:
         parts = (1 - u) ** 3, 3 * (1 - u) ** 2 * u, 3 * (1 - u) * u ** 2, u ** 3
         return np.asarray(sum(part * it for part, it in zip(parts, (start, first, last, end))))
 
-    def places(self, spots: Spots) -> Array:
-        """(spots, 3): where the spots of a map lie on the curved surface."""
+    def places(self, given: Map) -> Array:
+        """(new points, 3): where the points of a map lie on the curved surface."""
         mesh = self.mesh
-        found = np.zeros((len(spots.kinds), 3))
-        found[spots.at_vertices] = mesh.points[spots.vertices]
-        edges = mesh.edges.numbers_of(np.sort(spots.ends, axis=1))
-        rises = spots.ends[:, 0] < spots.ends[:, 1]
+        found = mesh.points[given.points[:, 0]]
+        some = np.flatnonzero(given.kinds == ON_EDGE)
+        ends, along = given.points[some, :2], given.weights[some, 1]
+        edges = mesh.edges.numbers_of(np.sort(ends, axis=1))
+        rises = ends[:, 0] < ends[:, 1]
         darts = np.where(mesh.edges.rising[edges] != NONE, mesh.edges.rising[edges], mesh.edges.falling[edges])
         is_back = rises != (mesh.edges.rising[edges] != NONE)
-        found[spots.on_edges] = self.along(darts, np.where(is_back, 1 - spots.along, spots.along))
-        found[spots.in_faces] = self.at(spots.darts, spots.s, spots.t)
-        return found
+        found[some] = self.along(darts, np.where(is_back, 1 - along, along))
+        some = np.flatnonzero(given.kinds == IN_FACE)
+        _, east, both, north = given.weights[some].T
+        found[some] = self.at(given.darts[some], east + both, both + north)
+        return np.asarray(found)
 
 
 def curved(mesh: Mesh, marks: Array, angle: Optional[float] = None) -> Curved:
@@ -103,10 +105,10 @@ def _as_of_a_circle(tangents: Array, chords: Array) -> Array:
     return np.asarray(np.where(is_one[:, None], long[:, None] * unit, chords / 3))
 
 
-def rounded(new: Mesh, surface: Curved, part: Part, text: str, axis: Optional[int] = None) -> Mesh:
-    """A new mesh of a part with its points on the curved surface of the whole, by the text of its map. What lay in the
+def rounded(new: Mesh, surface: Curved, given: Map, axis: Optional[int] = None) -> Mesh:
+    """A new mesh of a part with its points on the curved surface of the whole, by its map into that. What lay in the
     mirror plane across an axis stays there."""
-    places = surface.places(spots_of(text, len(new.points)).moved(part.faces, part.points))
+    places = surface.places(given)
     if axis is not None:
         places[new.points[:, axis] == 0.0, axis] = 0.0
     return replace(new, points=places)

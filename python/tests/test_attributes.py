@@ -15,7 +15,7 @@ from .shapes import grid, moved
 
 # What `remesh --scale 2/3` makes of three squares in a row, and the map of it.
 NEW = "v 0 0 0\nv 3 0 0\nv 0 1 0\nv 3 1 0\nv 1.5 0 0\nv 1.5 1 0\nf 1 5 6 3\nf 5 2 4 6\n"
-MAP = """quadq map 1
+MAP = b"""quadq map 1
 vertices 6 faces 2
 vertex 1
 vertex 4
@@ -74,7 +74,7 @@ class Attributes(unittest.TestCase):
 
     def test_scripts_leave_no_traces(self):
         path = sys.path[:]
-        for name in ("cuts", "mark_features"):
+        for name in ("obj_text", "mark_features"):
             self.assertIs(carried(name), sys.modules[f"quadq.carried.{name}"])
             self.assertNotIn(name, sys.modules)
         self.assertEqual(sys.path, path)

@@ -49,7 +49,8 @@ def by_the_tool(mesh: Mesh, new: Mesh, text: str):
     layers = [TOOL.Layer(list(map(tuple, it.values.tolist())), [None if at == NONE else at for at in it.rows.tolist()])
               for it in mesh.layers.values()]
     names = mesh.groups["usemtl"].of_face.tolist()
-    return TOOL.carry(TOOL.Surface(mesh.corners.tolist()), layers, names, TOOL.read_map(text), new.corners.tolist())
+    return TOOL.carry(TOOL.Surface(mesh.corners.tolist()), layers, names, TOOL.read_map(text.decode()),
+                      new.corners.tolist())
 
 
 def remeshed(mesh: Mesh, scale: str):
@@ -132,6 +133,25 @@ class CarriedNumbers(unittest.TestCase):
         for scale, kept in (("1/2", 0), ("1/3", 6), ("1", 6), ("2", 6)):
             carrier = remesh(old, scale=scale, carry=True).carrier
             self.assertEqual(carrier.followed.kept(marked).sum(), kept, scale)
+
+
+class Once(unittest.TestCase):
+    def test_a_texture_that_is_a_layer_is_carried_once(self):
+        mesh = plate()
+        layer = Layer(mesh.points[mesh.corners][:, :2], np.arange(len(mesh.corners)))
+        both = remesh(replace(mesh, texture=layer, layers={"uv": layer}), scale="1/2", carry=True).mesh
+        alone = remesh(replace(mesh, texture=layer), scale="1/2", carry=True).mesh
+        self.assertIs(both.texture, both.layers["uv"])
+        np.testing.assert_array_equal(both.texture.values[both.texture.rows], alone.texture.values[alone.texture.rows])
+
+    def test_edges_are_found_once_for_the_same_faces(self):
+        mesh = plate()
+        edges = mesh.edges
+        moved = mesh.changed(points=mesh.points * 2)
+        self.assertIs(moved.edges, edges)
+        np.testing.assert_array_equal(moved.points, mesh.points * 2)
+        fewer = mesh.changed(corners=mesh.corners[4:], starts=mesh.starts[:-1])
+        self.assertLess(len(fewer.edges.ends), len(edges.ends))
 
 
 if __name__ == "__main__":

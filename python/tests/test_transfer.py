@@ -6,7 +6,7 @@ from dataclasses import replace
 import numpy as np
 
 from quadq import MeshError, WishError, areas, areas_under, edges_under, remesh, transfer
-from quadq.maps import areas_in_square
+from quadq.overlaps import areas_in_square
 
 from .shapes import drum, grid, moved, plate
 

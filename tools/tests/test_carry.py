@@ -163,6 +163,12 @@ class Carry(unittest.TestCase):
         self.assertEqual(text, STRIP_CARRIED)
         self.assertEqual(said, f"carry: of 2 faces, 1 over a border of names: {REMEDY}\n")
 
+    def test_places_on_edges_may_be_told_by_shares(self):
+        told = re.compile(r"^edge (\d+) (\d+) (\d+) (\d+)$", re.M)
+        shared = told.sub(lambda it: f"share {it[1]} {it[2]} {int(it[3]) * carrying.ONE // int(it[4])}", STRIP_MAP)
+        self.assertIn("share 2 3 2147483648\n", shared)
+        self.assertEqual(carried(STRIP, STRIP_NEW, shared)[0], STRIP_CARRIED)
+
     def test_spellings_of_the_old_text(self):
         corner = re.compile(r"(\d+)/(\d+)/1")
         old = corner.sub(lambda it: f"{int(it[1]) - 9}/{int(it[2]) - 11}/-1", STRIP)
