@@ -13,6 +13,10 @@ FINE = 2
 """Each pixel is drawn as so many by so many, and their mean is shown."""
 AT_A_TIME = 1 << 22
 """How many pixels are filled together: it bounds the memory."""
+SPACING = 0.9
+"""So far apart samples of a surface lie at most, in fine pixels, both ways, so that each of its pixels has one."""
+MOST_SAMPLES = 4
+"""Of quads that would need more along a side triangles are filled."""
 
 
 class Canvas:
@@ -21,17 +25,23 @@ class Canvas:
 
     def __init__(self, wide: int, high: int) -> None:
         self.wide, self.high = wide * FINE, high * FINE
-        self.colours = np.full((self.wide * self.high, 3), 255.0)
+        self.colours = np.full(self.wide * self.high, 0xffffff)
+        """(pixels,) int64: red, green and blue, a byte each."""
         self.depths = np.full(self.wide * self.high, -np.inf)
+
+    def show(self, colours: Array) -> None:
+        """Colours all fine pixels (high, wide, 3), from 0 to 255."""
+        self.colours = _packed(colours.reshape(-1, 3))
 
     def triangles(self, places: Array, colours: Array) -> None:
         """Fills triangles (n, 3, 3) with colours (n, 3) from 0 to 255."""
         places = places * [FINE, FINE, 1]
         size = _over_corners(np.maximum, places)[:, :2] - _over_corners(np.minimum, places)[:, :2]
+        packed = _packed(colours)
         batch = (np.cumsum((size[:, 0] + 2) * (size[:, 1] + 2)) / AT_A_TIME).astype(np.int64)
         for now in np.unique(batch):
             some = batch == now
-            self._fill(places[some], colours[some])
+            self._fill(places[some], packed[some])
 
     def _fill(self, places: Array, colours: Array) -> None:
         """Fills triangles, whose first two numbers are in fine pixels, row by row."""
@@ -48,11 +58,50 @@ class Canvas:
         down = ((cz - az) * (bx - ax) - (bz - az) * (cx - ax)) / whole
         depths = az[who] + right[who] * (x + 0.5 - ax[who]) + down[who] * (y + 0.5 - ay[who])
         pixels = y * self.wide + x
+        self._put(pixels, depths, colours, who)
+
+    def _put(self, pixels: Array, depths: Array, colours: Array, who: Array) -> None:
+        """Colours pixels (n,), where these depths (n,) are nearer, with those of the colours that `who` (n,) names."""
         near = np.flatnonzero(depths >= self.depths[pixels])
-        near = near[np.argsort(depths[near])]
-        # Of pixels that are there twice, the last one stays, which is the nearest.
-        self.depths[pixels[near]] = depths[near]
-        self.colours[pixels[near]] = colours[who[near]]
+        while len(near):
+            # Of pixels that are there several times the last one stays; those that are nearer come again.
+            self.depths[pixels[near]] = depths[near]
+            self.colours[pixels[near]] = colours[who[near]]
+            near = near[depths[near] > self.depths[pixels[near]]]
+
+    def quads(self, places: Array, quads: Array, colours: Array) -> None:
+        """Fills quads (n, 4) over places (points, 3) with colours (n, 3): small ones by samples, others as the
+        triangles between their sides and their middle."""
+        corners = [(places[:, at] * scale)[quads.T] for at, scale in enumerate((FINE, FINE, 1))]
+        lengths = np.maximum(*(np.max(it, axis=0) - np.min(it, axis=0) for it in corners[:2]))
+        steps, packed = np.maximum(np.ceil(lengths / SPACING), 1), _packed(colours)
+        for count in range(1, MOST_SAMPLES + 1):
+            some = np.flatnonzero(steps == count)
+            self._sample([it[:, some] for it in corners], packed[some], count)
+        large = np.flatnonzero(steps > MOST_SAMPLES)
+        sides = places[quads[large]]
+        middles = np.broadcast_to(sides.mean(axis=1, keepdims=True), sides.shape)
+        triangles = np.stack([sides, np.roll(sides, -1, axis=1), middles], axis=2).reshape(-1, 3, 3)
+        self.triangles(triangles, np.repeat(colours[large], 4, axis=0))
+
+    def _sample(self, corners: list[Array], colours: Array, count: int) -> None:
+        """Colours the pixels in which so many times so many samples of quads lie. The corners (4, n) are to the right
+        and downward, in fine pixels, and how near."""
+        for at in range(count):
+            t = (at + 0.5) / count
+            ends = [(west + t * (north - west), east + t * (corner - east)) for west, east, corner, north in corners]
+            steps = [(last - first) / count for first, last in ends]
+            x, y, depth = (first + step / 2 for (first, _), step in zip(ends, steps))
+            for _ in range(count):
+                self._put_inside(x, y, depth, colours)
+                x, y, depth = (it + step for it, step in zip((x, y, depth), steps))
+
+    def _put_inside(self, x: Array, y: Array, depths: Array, colours: Array) -> None:
+        """Colours the pixels of places (n,) that are in the picture."""
+        who = np.arange(len(x))
+        if len(x) and (min(x.min(), y.min()) < 0 or x.max() >= self.wide or y.max() >= self.high):
+            who = np.flatnonzero((x >= 0) & (x < self.wide) & (y >= 0) & (y < self.high))
+        self._put(y[who].astype(np.int64) * self.wide + x[who].astype(np.int64), depths[who], colours, who)
 
     def _spans(self, places: Array, turn: Array, y: Array) -> tuple[Array, Array]:
         """The first and the last pixel of each triangle in its row: between the sides that go up and that go down."""
@@ -91,17 +140,34 @@ class Canvas:
                 inside = (x + right >= 0) & (x + right < self.wide) & (y + down >= 0) & (y + down < self.high)
                 pixels = (y[inside] + down) * self.wide + x[inside] + right
                 marked[pixels[spots[inside, 2] >= self.depths[pixels]]] = True
-        self.colours[marked] += strength * (np.array(colour) - self.colours[marked])
+        below = _unpacked(self.colours[marked])
+        self.colours[marked] = _packed(below + strength * (np.array(colour) - below))
 
-    def png(self, parts: int = 1) -> bytes:
-        """The picture as a PNG file; on wish with so many pixels as one, both ways, which have to divide it."""
+    def pixels(self) -> Array:
+        """(high, wide, 3) float64: the colours of the fine pixels, from 0 to 255."""
+        return _unpacked(self.colours).reshape(self.high, self.wide, 3)
+
+    def png(self, parts: int = 1, step: int = 1) -> bytes:
+        """The picture as a PNG file; on wish with so many pixels as one, both ways, which have to divide it, and with
+        colours that are multiples of a step, a part of 255, which makes it smaller."""
         fine = FINE * parts
         high, wide = self.high // fine, self.wide // fine
-        means = self.colours.reshape(high, fine, wide, fine, 3).mean(axis=(1, 3)).round().astype(np.uint8)
+        colours = self.pixels().reshape(high, fine, wide, fine, 3)
+        means = ((colours.mean(axis=(1, 3)) / step).round() * step).astype(np.uint8)
         rows = np.concatenate([np.zeros((high, 1), dtype=np.uint8), means.reshape(high, -1)], axis=1)
         head = struct.pack(">IIBBBBB", wide, high, 8, 2, 0, 0, 0)
         return b"\x89PNG\r\n\x1a\n" + b"".join(
             _chunk(*it) for it in ((b"IHDR", head), (b"IDAT", zlib.compress(rows.tobytes(), 9)), (b"IEND", b"")))
+
+
+def _packed(colours: Array) -> Array:
+    """(n,) int64: colours (n, 3) from 0 to 255, a byte each."""
+    return np.asarray(np.rint(colours).astype(np.int64) @ [1 << 16, 1 << 8, 1])
+
+
+def _unpacked(colours: Array) -> Array:
+    """(n, 3) float64: the colours that were packed."""
+    return np.asarray(np.stack([colours >> 16, colours >> 8 & 255, colours & 255], axis=-1).astype(float))
 
 
 def _over_corners(function: np.ufunc, places: Array) -> Array:

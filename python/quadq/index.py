@@ -122,7 +122,8 @@ def _cell(text: str, value: Optional[str]) -> str:
 
 def _wish(settings: dict[str, Any]) -> str:
     """What was wished, in a word."""
-    for name, form in (("faces", "{} faces"), ("scale", "scale {}"), ("edge", "edges of {}")):
+    for name, form in (("faces", "{} faces"), ("scale", "scale {}"), ("edge", "edges of {}"),
+                       ("size", "edges as {} says"), ("within", "within {}")):
         if settings.get(name) is not None:
             return form.format(settings[name])
     return ""

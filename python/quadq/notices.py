@@ -12,6 +12,8 @@ UNCHANGED = 0.05
 """A part of the faces: where no more came or went, the mesh is about as it was."""
 UNLIKE = 0.2
 """A part of the wished length of edges: where their mean is off by more, it is said."""
+FEW_SIZED = 0.5
+"""A part of the edges: where no more are about as long as is wished at their place, it is said."""
 FAR = 0.01
 """A part of the diagonal: a greater distance is said."""
 LESS_MEAN, LESS_LEAST = 0.1, 0.3
@@ -57,9 +59,16 @@ def _of_faces(report: Report) -> Iterator[Notice]:
                      f"voxels and in quads made of triangles; {report.arcs_at_floor} of {report.arcs} arcs are as "
                      "short as the floor")
     edge, mean = report.edge, report.after.mean_edge
-    if edge is not None and abs(mean / float(edge) - 1) > UNLIKE:
+    if edge is not None and report.beyond is None and abs(mean / float(edge) - 1) > UNLIKE:
         yield Notice("edges", f"edges are {mean:.4g} long on average, and not {float(edge):.4g}: opposite sides of a "
                      "patch have as many, and none has fewer than the floor")
+    if report.beyond is not None and report.beyond[0]:
+        changed, count = report.beyond
+        yield Notice("region", f"{changed} of {count} lines of edges outside of the region have another number of "
+                     "edges than before: rows of faces run on there", changed)
+    if report.sized is not None and report.sized < FEW_SIZED:
+        yield Notice("edges", f"{report.sized:.0%} of the edges are as long as is wished at their place, within a "
+                     "fifth: opposite sides of a patch have as many edges, and none has fewer than the floor")
 
 
 def _of_quality(report: Report) -> Iterator[Notice]:

@@ -13,7 +13,7 @@ from typing import Any, Optional, Sequence
 from .scene import in_script
 
 FOLDER = Path(__file__).resolve().parent / "page"
-TURNING = ("turning.js", "drawing.js", "viewing.js")
+TURNING = ("turning.js", "models.js", "drawing.js", "viewing.js")
 """The scripts of a page with meshes that can be turned, in their order."""
 
 

@@ -83,6 +83,11 @@ def draw(mesh: Mesh, look: Look, view: View, size: tuple[int, int], frame: Optio
 
 def _draw_faces(canvas: Canvas, mesh: Mesh, look: Look, turned: Array) -> None:
     """Each face as the triangles between its sides and its middle."""
+    if mesh.is_quads():
+        for some in np.array_split(np.arange(mesh.face_count), -(-mesh.face_count // AT_A_TIME)):
+            a, b, c, d = turned[mesh.quads[some].T]
+            canvas.quads(turned, mesh.quads[some], look.colours[some] * _light(np.cross(c - a, d - b))[:, None])
+        return
     for first in range(0, mesh.face_count, AT_A_TIME):
         some = np.arange(first, min(first + AT_A_TIME, mesh.face_count))
         starts = mesh.starts[some] - mesh.starts[first]
@@ -92,13 +97,13 @@ def _draw_faces(canvas: Canvas, mesh: Mesh, look: Look, turned: Array) -> None:
         after[np.append(starts[1:], len(corners)) - 1] = starts
         middles = np.add.reduceat(corners, starts) / mesh.sides[some, None]
         triangles = np.stack([corners, corners[after], middles[own]], axis=1)
-        canvas.triangles(triangles, (look.colours[some] * _light(triangles, starts)[:, None])[own])
+        normals = np.add.reduceat(
+            np.cross(triangles[:, 1] - triangles[:, 0], triangles[:, 2] - triangles[:, 0]), starts)
+        canvas.triangles(triangles, (look.colours[some] * _light(normals)[:, None])[own])
 
 
-def _light(triangles: Array, starts: Array) -> Array:
-    """(faces,): how bright each face is, from its direction, where its triangles begin there; backs are darker."""
-    normals = np.add.reduceat(
-        np.cross(triangles[:, 1] - triangles[:, 0], triangles[:, 2] - triangles[:, 0]), starts)
+def _light(normals: Array) -> Array:
+    """(faces,): how bright each face is, from its direction (faces, 3); backs are darker."""
     lengths = np.linalg.norm(normals, axis=1)
     # The picture's second axis points downward, so that fronts have normals away from the eye.
     facing = -np.divide(normals[:, 2], lengths, out=np.zeros(len(normals)), where=lengths > 0)

@@ -24,8 +24,9 @@ from .results import Report, Result
 from .scene import MOST_FACES, Shown, scene_of, step_of
 
 SIZE = (720, 620)
-SHRUNK = 5
-"""So many pixels of a picture are one in the index of a batch."""
+SHRUNK, COARSE = 5, 17
+"""So many pixels of a picture are one in the index of a batch, and colours are multiples of this there: a picture has
+about 4 KB."""
 MOST_ROWS = 100
 ZOOMED = 12
 """Where more faces are at fault, the picture shows the whole mesh."""
@@ -43,6 +44,17 @@ GRAVE = ("faces", "more-faces", "inverted", "distance")
 """Of such kinds are warnings that stand before all else."""
 
 
+WHOLE = "of the whole mesh: there is no one place"
+NO_PLACE = {
+    "asymmetric": WHOLE, "faces": WHOLE, "mirror": WHOLE, "more-faces": WHOLE, "not-carried": WHOLE, "relaxed": WHOLE,
+    "round": WHOLE, "scaled": WHOLE, "unchanged": WHOLE,
+    "loose": "not shown: no face has them", "mirror-half": "not shown: these faces are gone",
+    "unread": "not shown: it was not read",
+}
+"""Why a warning leads nowhere, by its kind."""
+OTHERS = "not shown: it is not in these meshes"
+
+
 def result_page(title: str, result: Result, program: Program, up: str = "y") -> str:
     """The page of a remesh that was accepted."""
     looks = Looks.of(result, program)
@@ -50,7 +62,7 @@ def result_page(title: str, result: Result, program: Program, up: str = "y") -> 
     view, scene, places = _turned(result, looks, program, up, MOST_FACES)
     labels = (f"before: {report.before.faces} faces", f"after: {report.after.faces} faces")
     body = [
-        *_verdict(report, _warnings(report, places)),
+        *_verdict(report, _warnings(report, places, scene is not None)),
         *view,
         '<div class="pair">', *(figure(drawn.png(), SIZE, it) for drawn, it in zip(pictures, labels)), "</div>",
         LEGEND,
@@ -72,7 +84,8 @@ def notebook_view(result: Result, program: Optional[Program] = None) -> str:
     size = (SIZE[0] // 2, SIZE[1] // 2)
     pictures = zip(_pictures(looks, "y", size), labels)
     still = ['<div class="pair">', *(figure(drawn.png(), size, it) for drawn, it in pictures), "</div>"]
-    body = [f"<p>{words(result.report.summary())}</p>", *_warnings(result.report, places), *(view if scene else still)]
+    body = [f"<p>{words(result.report.summary())}</p>", *_warnings(result.report, places, scene is not None),
+            *(view if scene else still)]
     page = page_of("quadq", body, scene)
     return (f'<iframe srcdoc="{escape(page)}" sandbox="allow-scripts" width="100%" height="780" '
             'title="Both meshes of a remesh"></iframe>')
@@ -143,14 +156,17 @@ def _turned(
 
 
 def _too_many(count: int, most: int = MOST_FACES) -> str:
-    return f"<p>{count} faces are too many to be turned here, which goes up to {most}: the pictures are still.</p>"
+    return (f"<p>{count} faces are too many to be turned here, which goes up to {most}: the pictures are still, "
+            "and warnings lead to no place.</p>")
 
 
-def _warnings(report: Report, places: dict[str, Place]) -> list[str]:
-    """Each warning; where it has a place, as a link that turns the view to it."""
+def _warnings(report: Report, places: dict[str, Place], is_turned: bool) -> list[str]:
+    """Each warning as a link that turns the view to its place, or with the reason why there is none."""
     if not report.notices:
         return []
-    told = [(_link(places[it.kind], it.words) if it.kind in places else words(it.words)) for it in report.notices]
+    told = [
+        _link(places[it.kind], it.words) if it.kind in places else
+        words(f"{it.words} ({NO_PLACE.get(it.kind, OTHERS)})" if is_turned else it.words) for it in report.notices]
     return ['<ul class="warnings">', *(f'<li class="warning">{it}</li>' for it in told), "</ul>"]
 
 
@@ -161,7 +177,7 @@ def _link(place: Place, text: str) -> str:
 
 def _small_pictures(pictures: Sequence[Canvas]) -> str:
     """The pictures for the index of a batch, which reads them from the head of the page."""
-    small = " ".join(base64.b64encode(it.png(SHRUNK)).decode() for it in pictures)
+    small = " ".join(base64.b64encode(it.png(SHRUNK, COARSE)).decode() for it in pictures)
     return f'<meta name="quadq-small" content="{small}">\n'
 
 

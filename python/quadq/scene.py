@@ -1,4 +1,4 @@
-"""What the part of a page that can be turned has of meshes: arrays in base64, as the script `page/drawing.js` reads.
+"""What the part of a page that can be turned has of meshes: arrays in base64, as the script `page/models.js` reads.
 """
 
 from __future__ import annotations
@@ -158,11 +158,18 @@ def _dots(it: Shown) -> Array:
     mesh = it.mesh
     if len(it.dots) or len(it.at_fault) or not mesh.is_quads():
         return np.array([(point, AT_FAULT) for point in it.dots], dtype=np.int64).reshape(-1, 2)
+    found, is_fewer = irregular_points(mesh)
+    return np.column_stack([found, np.where(is_fewer, FEWER, MORE)])
+
+
+def irregular_points(mesh: Mesh) -> tuple[Array, Array]:
+    """The points of a mesh of quads with another number of faces than a regular point has, and whether each has fewer.
+    """
     faces = np.bincount(mesh.corners, minlength=len(mesh.points))
     regular = np.full(len(faces), 4)
     regular[mesh.edges.ends[mesh.edges.uses == 1]] = 2
     found = np.flatnonzero((faces > 0) & (faces != regular))
-    return np.column_stack([found, np.where(faces[found] < regular[found], FEWER, MORE)])
+    return found, faces[found] < regular[found]
 
 
 def distances_of_faces(one: Mesh, other: Mesh) -> Array:

@@ -18,7 +18,9 @@ import numpy as np
 from quadq import (
     Books, Mesh, Program, Refusal, Result, Settings, read_obj, refusal_page, remesh, remesh_files, result_page)
 from quadq.mesh import join
+from quadq.pages import page_of, viewer
 from quadq.pictures import View
+from quadq.scene import Shown, scene_of
 
 from .browser import Browser
 from .shapes import EXAMPLES, drum, grid, moved, plate
@@ -67,6 +69,8 @@ class Pages(unittest.TestCase):
 
     def shot(self, name: str) -> None:
         if SHOTS:
+            self.browser.wait_for("typeof viewer === 'undefined' || !viewer.isQuick || viewer.fingers.size > 0")
+            self.browser.settle()
             Path(SHOTS, f"{name}.png").write_bytes(self.browser.picture())
 
     def view(self) -> Any:
@@ -153,6 +157,67 @@ class Pages(unittest.TestCase):
         self.shot("folded")
         self.quiet()
 
+    def test_a_hundred_thousand_faces_are_turned_at_the_price_of_few(self) -> None:
+        """While they move, few faces are drawn, and a quarter of the pixels; then all of them. What a picture takes is
+        measured as the work of the browser's processes, beside that of an empty picture."""
+        balls = [drum(316, 158, is_round=True)] * 2
+        patches = np.arange(balls[0].face_count) // 1_000
+        shown = [Shown(label, it, None, patches, np.arange(50) % 8) for label, it in zip(("before", "after"), balls)]
+        page = page_of("balls", [viewer(("before", "after"), "irregular points", "")], scene_of(shown, "y"))
+        self.shown("balls", page)
+        count, width = sum(it.face_count for it in balls), self.browser.value("viewer.canvas.clientWidth")
+        drawn = f"viewer.pieces === {count} && viewer.canvas.width === {width}"
+        self.browser.wait_for(drawn)
+        box, before = self.browser.box("canvas"), self.view()
+        self.browser.mouse("mousePressed", box["x"] + 300, box["y"] + 300, button="left", buttons=1, clickCount=1)
+        for step in range(1, 6):
+            self.browser.mouse("mouseMoved", box["x"] + 300 + 20 * step, box["y"] + 300, button="left", buttons=1)
+        self.browser.settle()
+        self.assertAlmostEqual(self.view()["az"], before["az"] - 40, places=3)
+        self.assertLess(self.browser.value("viewer.pieces"), 8_001)
+        self.assertLess(self.browser.value("viewer.canvas.width"), 0.51 * width)
+        self.shot("balls_turned")
+        empty, quick, whole = (self.work(it, times) for it, times in (
+            ("viewer.painter.clear()", 10), ("viewer.turn(3, 0)", 10), ("viewer.change()", 3)))
+        self.assertLess(quick - empty, (whole - empty) / 4, (empty, quick, whole))
+        # Near by, the few are smaller.
+        far = self.browser.value(NEAR_BY)
+        self.browser.value("viewer.view = { ...viewer.view, at: viewer.models[1].place(30000, 0), zoom: 8 }, 1")
+        self.browser.value("viewer.turn(3, 0)")
+        self.browser.settle()
+        self.assertLess(self.browser.value("viewer.pieces"), 8_001)
+        self.assertGreater(self.browser.value(NEAR_BY), 4 * far)
+        self.shot("balls_near")
+        self.browser.mouse("mouseReleased", box["x"] + 400, box["y"] + 300, button="left", clickCount=1)
+        self.browser.value("viewer.turn(3, 0)")
+        self.browser.wait_for(drawn)
+        self.shot("balls")
+        self.quiet()
+
+    def work(self, what: str, times: int) -> float:
+        """Seconds of a processor for a picture, on average."""
+        before = self.browser.seconds()
+        self.browser.value(f"(async () => {{ for (let at = 0; at < {times}; at++) {{ {what};"
+                           " for (let it = 0; it < 2; it++) await new Promise(requestAnimationFrame);"
+                           " await new Promise((done) => viewer.painter.finished(done)); } })()")
+        return (self.browser.seconds() - before) / times
+
+    def test_each_warning_turns_the_view_to_its_place(self) -> None:
+        torus = read_obj((EXAMPLES / "torus.obj").read_text())
+        self.shown("warnings", result_page("torus", remesh(torus, edge=3.0), Program()))
+        links = self.browser.value("document.querySelectorAll('.warnings a').length")
+        self.assertGreaterEqual(links, 3)
+        for at in range(links):
+            self.browser.value("viewer.look('first')")
+            place = self.browser.value(
+                f"(() => {{ const it = document.querySelectorAll('.warnings a')[{at}]; it.click();"
+                " return [+it.dataset.mesh, +it.dataset.face]; })()")
+            self.browser.settle()
+            self.assertEqual(self.browser.value("viewer.picked"), place)
+            self.assertEqual(self.view()["at"], self.browser.value(
+                f"viewer.models[{place[0]}].spot(viewer.models[{place[0]}].piece({place[1]})).middle"))
+        self.quiet()
+
     def test_a_refusal_shows_its_place(self) -> None:
         mesh = join([moved(grid(9, 7), -12), read_obj((EXAMPLES / "two_fans.obj").read_text())])
         with self.assertRaises(Refusal) as caught:
@@ -211,6 +276,12 @@ class Pages(unittest.TestCase):
         return [it.rpartition("/")[2] for it in self.browser.value(named)]
 
 
+NEAR_BY = """(() => {
+  const { model, few } = viewer.drawn[1];
+  const near = [...few.pieces].filter((it) => Math.hypot(...sum(model.place(it, 0), model.place(30000, 0), -1)) < 0.1);
+  return near.length;
+})()"""
+"""How many of the few faces that are drawn lie near the face 30,000."""
 SPOT = """(() => {
   const face = %d, spot = viewer.models[1].spot(viewer.models[1].piece(face)), frame = viewer.panes()[1];
   const m = matrixOf(viewer.view, frame.wide / frame.high), p = [...spot.middle, 1];

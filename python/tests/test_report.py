@@ -3,19 +3,28 @@
 import base64
 import re
 import struct
+import tempfile
 import unittest
 import zlib
+from dataclasses import replace
+from fractions import Fraction
+from pathlib import Path
 
 import numpy as np
 
 from quadq import Program, Refusal, find_features, read_obj, refusal_page, remesh, result_page
 from quadq.canvas import Canvas
-from quadq.looks import Looks, shown_of
+from quadq.graphs import cut_of
+from quadq.index import Index
+from quadq.layout import Layout
+from quadq.looks import Looks, places_of, shown_of
 from quadq.mesh import join
-from quadq.patches import colours_of, new_sizes, old_patches, paint
 from quadq.parts import certified_lengths
+from quadq.patches import colours_of, paint
 from quadq.program import Wish
-from quadq.scene import in_script, scene_of
+from quadq.rows import Row, facts_of, settings_in_words
+from quadq.scene import in_script, irregular_points, scene_of
+from quadq.settings import Settings
 
 from .shapes import EXAMPLES, grid, moved
 
@@ -47,7 +56,7 @@ class Pictures(unittest.TestCase):
             corners = np.column_stack([rng.uniform(-3, 23, (3, 2)), [0, 0, 0]])
             canvas = Canvas(20, 20)
             canvas.triangles(corners[None], np.zeros((1, 3)))
-            drawn = (canvas.colours[:, 0] == 0).reshape(40, 40)
+            drawn = (canvas.colours == 0).reshape(40, 40)
             x, y = np.meshgrid((np.arange(40) + 0.5) / 2, (np.arange(40) + 0.5) / 2)
             turns = [
                 (q[0] - p[0]) * (y - p[1]) - (q[1] - p[1]) * (x - p[0])
@@ -55,6 +64,23 @@ class Pictures(unittest.TestCase):
             ]
             inside = np.all(np.array(turns) > 0, axis=0) | np.all(np.array(turns) < 0, axis=0)
             self.assertEqual(int(np.sum(inside != drawn)), 0)
+
+    def test_quads_of_all_sizes_leave_no_holes_and_hide_what_is_behind(self):
+        for count in (3, 20, 45, 90, 200):
+            mesh = grid(count, count)
+            turn = np.radians(count)
+            axes = [[np.cos(turn), np.sin(turn), 0], [-np.sin(turn), np.cos(turn), 0], [0, 0, 1]]
+            places = (mesh.points * 30 / count - [15, 15, 0]) @ axes + [20, 20, 0]
+            for order in (1, -1):
+                canvas = Canvas(40, 40)
+                for depth, colour in ((0.0, 90.0), (1.0, 200.0))[::order]:
+                    canvas.quads(places + [0, 0, depth], mesh.quads, np.full((len(mesh.quads), 3), colour))
+                seen = pixels_of(canvas.png())[:, :, 0]
+                x, y = np.meshgrid(np.arange(40) - 19.5, np.arange(40) - 19.5)
+                u, v = np.abs(np.cos(turn) * x + np.sin(turn) * y), np.abs(np.cos(turn) * y - np.sin(turn) * x)
+                inside = np.maximum(u, v)
+                self.assertTrue(np.all(seen[inside < 14] == 200), count)
+                self.assertTrue(np.all(seen[inside > 16.5] == 255), count)
 
     def test_lines_and_dots(self):
         canvas = Canvas(10, 10)
@@ -77,12 +103,11 @@ class Pages(unittest.TestCase):
         program = Program()
         for name in ("letter_q", "notched_square", "torus", "cylinder"):
             text = (EXAMPLES / f"{name}.obj").read_bytes()
-            mesh, graph = read_obj(text.decode()), program.graph(text)
-            of_face = old_patches(mesh, graph)
-            sizes = [int(a) * int(b) for a, b in re.findall(r"^patch \d+ (\d+) (\d+)$", graph, re.M)]
-            self.assertEqual(np.bincount(of_face).tolist(), sizes, name)
+            mesh, cut = read_obj(text.decode()), cut_of(program, text)
+            of_face = cut.patches_of(mesh)
+            self.assertEqual(np.bincount(of_face).tolist(), cut.sizes.prod(axis=1).tolist(), name)
             wanted = program.remesh(text, Wish())
-            self.assertEqual(new_sizes(graph, certified_lengths(wanted)[1]).sum(), wanted.count(b"\nf "))
+            self.assertEqual(Layout(mesh, cut).faces(certified_lengths(wanted)[1]), wanted.count(b"\nf "))
             tints = colours_of(mesh, of_face, 8)
             self.assertLess(tints.max(initial=0), 8)
 
@@ -131,6 +156,60 @@ class Pages(unittest.TestCase):
         numbers = shown_of(divided, Looks.of(divided, program), program)[0].numbers
         self.assertEqual(numbers.tolist(), np.repeat(np.arange(960), 4).tolist())
         self.assertNotIn("<", in_script({"</script>": "&"}))
+
+    def test_an_index_of_a_thousand_files_is_small(self):
+        """Of a mesh with many lines, which is drawn again and again."""
+        result = remesh(read_obj((EXAMPLES / "letter_q.obj").read_text()), scale="1/2")
+        settings = settings_in_words(Settings(scale=Fraction(1, 2)))
+        warnings = tuple({"kind": "sharp", "count": it, "words": 20 * "a warning "} for it in range(3))
+        with tempfile.TemporaryDirectory() as folder:
+            page = Path(folder) / "letter_q.html"
+            page.write_text(result_page("letter_q", result, Program(), "z"))
+            index = Index(Path(folder) / "pages", "a batch")
+            facts = facts_of(result.report)
+            rows = [(Row(f"scans/{it}.obj", "", 0, "", settings, facts=facts, warnings=warnings), page)
+                    for it in range(1_000)]
+            for row in rows:
+                index.add(*row)
+            sizes = [index.path.stat().st_size]
+            index.close(rows, is_hasty=True)
+            sizes.append(index.path.stat().st_size)
+            self.assertEqual(index.path.read_text().count("data:image/png"), 2_000)
+        self.assertLess(max(sizes), 15_000_000)
+
+    def test_each_warning_leads_to_its_place_or_says_why_not(self):
+        """Of all kinds that a remesh tells, and of those that only a file or its settings have."""
+        program, letter = Program(), read_obj((EXAMPLES / "letter_q.obj").read_text())
+        torus, lines = (read_obj((EXAMPLES / f"{it}.obj").read_text()) for it in ("torus", "marked_grid"))
+        kinds = ("distance", "edges", "inverted", "irregular", "least-quality", "lines", "loose", "mirror",
+                 "not-written", "over-seams", "relaxed", "rounded", "scaled", "sharp", "unread")
+        for mesh, wishes in ((letter, {"scale": "1/2"}), (torus, {"edge": 3.0}), (lines, {"faces": 1})):
+            told = remesh(mesh, **wishes)
+            for kind in kinds:
+                told = told.with_words(kind, [f"of the kind {kind}"])
+            shown = shown_of(told, Looks.of(told, program), program)
+            places = places_of(told, shown)
+            for it in places.values():
+                self.assertLess(it.face, shown[it.mesh].mesh.face_count)
+            warnings = re.findall('<li class="warning">(.*?)</li>', result_page("all", told, program))
+            self.assertEqual(len(warnings), len(told.report.notices))
+            for notice, warning in zip(told.report.notices, warnings):
+                is_link = warning.startswith('<a href="#viewer" data-mesh=')
+                self.assertEqual(is_link, notice.kind in places)
+                self.assertTrue(is_link or re.search(r"\((of the whole mesh|not shown): .*\)$", warning), warning)
+
+    def test_a_warning_leads_to_the_place_that_it_means(self):
+        program, mesh = Program(), read_obj((EXAMPLES / "marked_grid.obj").read_text())
+        result = remesh(mesh, scale="1/2")
+        places = places_of(result, shown_of(result, Looks.of(result, program), program))
+        self.assertTrue(set(mesh.quads[places["lines"].face]) & set(np.concatenate(mesh.lines)))
+        torn = remesh(read_obj((EXAMPLES / "letter_q.obj").read_text()), scale="1/2")
+        moved_away = replace(torn, mesh=replace(torn.mesh, points=torn.mesh.points.copy()))
+        point = int(irregular_points(torn.mesh)[0][3])
+        moved_away.mesh.points[point] += [0, 0, 99]
+        told = moved_away.with_words("irregular", ["irregular points were lost or made"])
+        place = places_of(told, shown_of(told, Looks.of(told, program), program))["irregular"]
+        self.assertIn(point, torn.mesh.quads[place.face])
 
     def test_a_notebook_has_a_small_page(self):
         shown = remesh(grid(4, 4), scale="1/2")._repr_html_()

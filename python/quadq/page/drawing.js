@@ -1,18 +1,10 @@
-// Meshes drawn with WebGL: what a page has of them, and the programs that draw it.
+// Meshes drawn with WebGL: what the graphics card has of them, and the programs that draw it.
 "use strict";
 
-/** A colour as one number, whose last byte says whether it is striped. */
-const packed = ([red, green, blue], striped = false) =>
-  (red | green << 8 | blue << 16 | (striped ? 128 : 255) << 24) >>> 0;
-
-const PLAIN = packed([222, 226, 230]);
-const INVERTED = packed([208, 32, 32], true);
-const POOR = packed([240, 140, 40]);
-const CHOSEN = packed([20, 70, 200]);
-/** A mesh of more faces is drawn in a plainer way while it moves, and with jagged borders. */
+/** With more faces in all, borders are jagged. */
 const MANY = 20000;
-const VIRIDIS = [[68, 1, 84], [71, 44, 122], [59, 81, 139], [44, 113, 142], [33, 144, 141], [39, 173, 129],
-  [92, 200, 99], [170, 220, 50], [253, 231, 37]];
+/** A mesh with more dots has none of them while it moves. */
+const FEW_DOTS = 500;
 
 const FACE_VERTICES = `#version 300 es
 layout(location = 0) in vec4 place;
@@ -90,22 +82,6 @@ void main() {
   pixel = vec4(paint, 1.0);
 }`;
 
-const LINE_VERTICES = `#version 300 es
-layout(location = 0) in vec4 place;
-uniform mat4 matrix;
-void main() {
-  gl_Position = matrix * vec4(place.xyz, 1.0);
-  gl_Position.z -= 0.002 * gl_Position.w;
-}`;
-
-const LINE_PIXELS = `#version 300 es
-precision mediump float;
-uniform float size;
-out vec4 pixel;
-void main() {
-  pixel = vec4(size > 0.5 ? vec3(0.08, 0.27, 0.85) : vec3(0.13), 1.0);
-}`;
-
 const DOT_VERTICES = `#version 300 es
 layout(location = 0) in vec4 place;
 uniform mat4 matrix;
@@ -131,114 +107,6 @@ void main() {
   vec3 ink = kind < 0.5 ? vec3(0.90, 0.38, 0.0) : kind < 1.5 ? vec3(0.37, 0.24, 0.60) : vec3(0.82, 0.13, 0.13);
   pixel = vec4(inside < 0.16 ? vec3(1.0) : ink, 1.0);
 }`;
-
-/** The numbers that stand in base64. */
-function numbersIn(text, Kind) {
-  if (Uint8Array.fromBase64) return new Kind(Uint8Array.fromBase64(text).buffer);
-  const letters = atob(text);
-  const bytes = new Uint8Array(letters.length);
-  for (let at = 0; at < letters.length; at++) bytes[at] = letters.charCodeAt(at);
-  return new Kind(bytes.buffer);
-}
-
-/** The colours of values from 0 to 1, in so many steps. */
-const STEPS = 255;
-const SCALE = Uint32Array.from({ length: STEPS + 1 }, (_, step) => {
-  const at = step / STEPS * (VIRIDIS.length - 1);
-  const [low, high] = [VIRIDIS[Math.floor(at)], VIRIDIS[Math.ceil(at)]];
-  return packed(low.map((it, part) => Math.round(it + (high[part] - it) * (at % 1))));
-});
-const viridis = (value) => SCALE[Math.round(STEPS * Math.max(0, Math.min(1, value)))];
-
-/** A mesh as the page has it. Its faces are drawn as pieces of four corners, mostly one a face. */
-class Model {
-  constructor(told, palette) {
-    this.label = told.label;
-    this.faces = told.faces;
-    this.palette = palette.map((it) => packed(it));
-    const raw = numbersIn(told.points, told.bits === 16 ? Uint16Array : Float32Array);
-    this.places = told.bits === 16 ? Float32Array.from(raw, (it) => it / 65535) : raw;
-    this.corners = numbersIn(told.corners, Uint32Array);
-    this.kinds = numbersIn(told.kinds, Uint8Array);
-    this.count = this.corners.length / 4;
-    this.faceOf = told.face_of ? numbersIn(told.face_of, Uint32Array) : null;
-    this.numbers = told.numbers ? numbersIn(told.numbers, Uint32Array) : null;
-    this.tints = told.tints ? numbersIn(told.tints, Uint8Array) : null;
-    this.patches = told.patches ? numbersIn(told.patches, Uint32Array) : null;
-    this.jacobians = told.jacobians ? numbersIn(told.jacobians, Float32Array) : null;
-    this.distances = told.distances ? numbersIn(told.distances, Float32Array) : null;
-    this.homes = told.homes ? numbersIn(told.homes, Uint32Array) : null;
-    this.dots = numbersIn(told.dots, Uint32Array);
-    this.atFault = new Set(told.at_fault);
-  }
-
-  /** The face of a piece, from 0. */
-  face(piece) {
-    return this.faceOf ? this.faceOf[piece] : piece;
-  }
-
-  /** The first piece of a face. */
-  piece(face) {
-    return this.faceOf ? this.faceOf.indexOf(face) : face;
-  }
-
-  /** The number that a face has in its file, from 1. */
-  number(face) {
-    return (this.numbers ? this.numbers[face] : face) + 1;
-  }
-
-  /** The colour of a face. */
-  colourOf(face, mode, greatest) {
-    const bad = this.jacobians ? this.jacobians[face] : 1;
-    if (this.atFault.size && this.atFault.has(face)) return INVERTED;
-    if (mode === "distance" && this.distances) return viridis(this.distances[face] / (greatest || 1));
-    if (bad < 0) return INVERTED;
-    if (mode === "jacobian" && this.jacobians) return viridis(bad);
-    if (mode === "patches" && this.tints) return bad < 0.2 ? POOR : this.palette[this.tints[face]];
-    return PLAIN;
-  }
-
-  /** The colours of all corners. */
-  colours(mode, greatest, chosen) {
-    const words = new Uint32Array(4 * this.count);
-    for (let piece = 0; piece < this.count; piece++) {
-      const face = this.face(piece);
-      const colour = chosen.size && chosen.has(face) ? CHOSEN : this.colourOf(face, mode, greatest);
-      for (let at = 4 * piece; at < 4 * piece + 4; at++) words[at] = colour;
-    }
-    return new Uint8Array(words.buffer);
-  }
-
-  /** (x, y, z) of a corner of a piece. */
-  place(piece, corner) {
-    const at = 3 * this.corners[4 * piece + corner];
-    return [this.places[at], this.places[at + 1], this.places[at + 2]];
-  }
-
-  /** The middle of a piece, its normal of length 1, and how large it is. */
-  spot(piece) {
-    const [a, b, c, d] = [0, 1, 2, 3].map((it) => this.place(piece, it));
-    const [one, other] = [sum(c, a, -1), sum(d, b, -1)];
-    const normal = cross(one, other);
-    const size = Math.hypot(...normal);
-    return { middle: a.map((it, at) => (it + b[at] + c[at] + d[at]) / 4),
-      normal: size > 0 ? normal.map((it) => it / size) : [0, 0, 1],
-      size: Math.max(Math.hypot(...one), Math.hypot(...other)) };
-  }
-
-  /** The face that a ray meets first, or -1. */
-  hit(ray) {
-    let [found, nearest] = [-1, Infinity];
-    for (let piece = 0; piece < this.count; piece++) {
-      const at = 4 * piece;
-      const [a, c] = [this.corners[at], this.corners[at + 2]];
-      const away = Math.min(meets(ray, this.places, a, this.corners[at + 1], c),
-        meets(ray, this.places, a, c, this.corners[at + 3]));
-      if (away < nearest) [found, nearest] = [piece, away];
-    }
-    return found < 0 ? -1 : this.face(found);
-  }
-}
 
 function programOf(gl, vertices, pixels) {
   const program = gl.createProgram();
@@ -266,9 +134,15 @@ function attribute(gl, at, data, parts, kind, isPart) {
 
 /** The normal of a piece whose corners stand at a place of a table, as bytes at the same place of another. */
 function normalInto(normals, places, at) {
-  const [ax, ay, az] = [places[at + 8] - places[at], places[at + 9] - places[at + 1], places[at + 10] - places[at + 2]];
-  const [bx, by, bz] = [12, 13, 14].map((it) => places[at + it] - places[at + it - 8]);
-  const [x, y, z] = [ay * bz - az * by, az * bx - ax * bz, ax * by - ay * bx];
+  const ax = places[at + 8] - places[at];
+  const ay = places[at + 9] - places[at + 1];
+  const az = places[at + 10] - places[at + 2];
+  const bx = places[at + 12] - places[at + 4];
+  const by = places[at + 13] - places[at + 5];
+  const bz = places[at + 14] - places[at + 6];
+  const x = ay * bz - az * by;
+  const y = az * bx - ax * bz;
+  const z = ax * by - ay * bx;
   const size = 127 / (Math.sqrt(x * x + y * y + z * z) || 1);
   for (let corner = 0; corner < 16; corner += 4) {
     normals[at + corner] = x * size;
@@ -277,68 +151,106 @@ function normalInto(normals, places, at) {
   }
 }
 
-/** A model in the memory of the graphics card. */
+const BENDS = [0, 1, 2, 0, 2, 3];
+
+/** Pieces in the memory of the graphics card. */
+class Pieces {
+  /** `kinds` has what each side is; `pieces` has which of a model's pieces these are, if they are not all. */
+  constructor(gl, places, corners, kinds, pieces = null) {
+    this.gl = gl;
+    this.count = corners.length / 4;
+    this.pieces = pieces;
+    this.array = gl.createVertexArray();
+    gl.bindVertexArray(this.array);
+    const spread = new Float32Array(4 * corners.length);
+    const sides = new Uint32Array(corners.length);
+    const normals = new Int8Array(4 * corners.length);
+    const order = new Uint32Array(6 * this.count);
+    for (let at = 0; at < corners.length; at++) {
+      const from = 3 * corners[at];
+      for (let axis = 0; axis < 3; axis++) spread[4 * at + axis] = places[from + axis];
+      spread[4 * at + 3] = at % 4;
+      sides[at] = kinds ? kinds[at >> 2] : 0;
+    }
+    for (let piece = 0; piece < this.count; piece++) {
+      normalInto(normals, spread, 16 * piece);
+      for (let at = 0; at < 6; at++) order[6 * piece + at] = 4 * piece + BENDS[at];
+    }
+    this.rest = [attribute(gl, 0, spread, 4, gl.FLOAT, false), attribute(gl, 1, sides, 4, gl.UNSIGNED_BYTE, false),
+      attribute(gl, 2, normals, 4, gl.BYTE, true)];
+    this.paint = attribute(gl, 3, sides, 4, gl.UNSIGNED_BYTE, true);
+    this.colours = null;
+    this.order = gl.createBuffer();
+    gl.bindBuffer(gl.ELEMENT_ARRAY_BUFFER, this.order);
+    gl.bufferData(gl.ELEMENT_ARRAY_BUFFER, order, gl.STATIC_DRAW);
+  }
+
+  /** Gives each the colour that its piece of the model has, if it has another. */
+  colour(colours) {
+    if (this.colours === colours) return;
+    this.colours = colours;
+    const words = new Uint32Array(4 * this.count);
+    for (let at = 0; at < words.length; at++) words[at] = colours[this.pieces ? this.pieces[at >> 2] : at >> 2];
+    this.gl.bindBuffer(this.gl.ARRAY_BUFFER, this.paint);
+    this.gl.bufferSubData(this.gl.ARRAY_BUFFER, 0, words);
+  }
+
+  /** Gives the memory back. */
+  free() {
+    for (const it of [...this.rest, this.paint, this.order]) this.gl.deleteBuffer(it);
+    this.gl.deleteVertexArray(this.array);
+  }
+
+  draw() {
+    this.gl.bindVertexArray(this.array);
+    this.gl.drawElements(this.gl.TRIANGLES, 6 * this.count, this.gl.UNSIGNED_INT, 0);
+  }
+}
+
+/** Where so many times more or less is seen, or the place that is looked at has moved by such a part of what is seen,
+ * other pieces are the few. */
+const NEARER = 1.5;
+const ASIDE = 0.3;
+
+/** A model as it is drawn: as it is, or with few pieces. Each is made when it is drawn. */
 class Drawn {
   constructor(gl, model) {
     this.gl = gl;
     this.model = model;
-    this.faces = gl.createVertexArray();
-    gl.bindVertexArray(this.faces);
-    this.fill();
+    this.whole = this.few = null;
+    /** For what the few pieces were made. */
+    this.seen = { at: [0, 0, 0], reach: 0 };
+    this.colours = new Uint32Array(model.count);
     this.points = gl.createVertexArray();
     gl.bindVertexArray(this.points);
-    const dots = new Float32Array(2 * model.dots.length);
-    for (let at = 0; at < model.dots.length / 2; at++) {
-      const point = model.dots[2 * at];
-      dots.set([...model.places.subarray(3 * point, 3 * point + 3), model.dots[2 * at + 1]], 4 * at);
+    this.dots = model.dots.length / 2;
+    const dots = new Float32Array(4 * this.dots);
+    for (let at = 0; at < this.dots; at++) {
+      const from = 3 * model.dots[2 * at];
+      for (let axis = 0; axis < 3; axis++) dots[4 * at + axis] = model.places[from + axis];
+      dots[4 * at + 3] = model.dots[2 * at + 1];
     }
     attribute(gl, 0, dots, 4, gl.FLOAT, false);
-    // Borders of patches and edges that stay, as lines of their own.
-    this.lines = [1, 2].map((kind) => {
-      const ends = [];
-      for (let at = 0; at < model.kinds.length; at++) {
-        if (model.kinds[at] !== kind) continue;
-        for (const corner of [at, at - at % 4 + (at + 1) % 4]) {
-          const from = 3 * model.corners[corner];
-          ends.push(model.places[from], model.places[from + 1], model.places[from + 2], 0);
-        }
-      }
-      const array = gl.createVertexArray();
-      gl.bindVertexArray(array);
-      attribute(gl, 0, new Float32Array(ends), 4, gl.FLOAT, false);
-      return { array, count: ends.length / 4 };
-    });
   }
 
-  fill() {
-    const { gl, model } = this;
-    const places = new Float32Array(16 * model.count);
-    const sides = new Uint32Array(4 * model.count);
-    const normals = new Int8Array(16 * model.count);
-    const order = new Uint32Array(6 * model.count);
-    const kinds = new Uint32Array(model.kinds.buffer);
-    const bends = [0, 1, 2, 0, 2, 3];
-    for (let piece = 0; piece < model.count; piece++) {
-      for (let corner = 0; corner < 4; corner++) {
-        const [at, from] = [16 * piece + 4 * corner, 3 * model.corners[4 * piece + corner]];
-        for (let axis = 0; axis < 3; axis++) places[at + axis] = model.places[from + axis];
-        places[at + 3] = corner;
-        sides[4 * piece + corner] = kinds[piece];
-      }
-      normalInto(normals, places, 16 * piece);
-      for (let at = 0; at < 6; at++) order[6 * piece + at] = 4 * piece + bends[at];
+  /** What is drawn, in its colours, where a place is looked at and so much is seen around it. */
+  faces(isQuick, at, reach) {
+    const { gl, model, seen } = this;
+    const isFew = isQuick && model.count > FEW;
+    const isOther = reach > NEARER * seen.reach || NEARER * reach < seen.reach ||
+      Math.hypot(...sum(at, seen.at, -1)) > ASIDE * reach;
+    if (isFew && isOther) {
+      const few = fewOf(model, at, reach);
+      if (this.few) this.few.free();
+      this.few = new Pieces(gl, few.places, few.corners, null, few.pieces);
+      this.seen = { at, reach };
     }
-    attribute(gl, 0, places, 4, gl.FLOAT, false);
-    attribute(gl, 1, sides, 4, gl.UNSIGNED_BYTE, false);
-    attribute(gl, 2, normals, 4, gl.BYTE, true);
-    this.paint = attribute(gl, 3, new Uint8Array(16 * model.count), 4, gl.UNSIGNED_BYTE, true);
-    gl.bindBuffer(gl.ELEMENT_ARRAY_BUFFER, gl.createBuffer());
-    gl.bufferData(gl.ELEMENT_ARRAY_BUFFER, order, gl.STATIC_DRAW);
-  }
-
-  colour(bytes) {
-    this.gl.bindBuffer(this.gl.ARRAY_BUFFER, this.paint);
-    this.gl.bufferSubData(this.gl.ARRAY_BUFFER, 0, bytes);
+    if (!isFew && !this.whole) {
+      this.whole = new Pieces(gl, model.places, model.corners, new Uint32Array(model.kinds.buffer));
+    }
+    const faces = isFew ? this.few : this.whole;
+    faces.colour(this.colours);
+    return faces;
   }
 }
 
@@ -347,11 +259,14 @@ class Painter {
   constructor(canvas, isLarge) {
     this.gl = canvas.getContext("webgl2", { antialias: !isLarge, alpha: true });
     if (!this.gl) throw new Error("no WebGL 2 here");
-    this.faces = programOf(this.gl, FACE_VERTICES, FACE_PIXELS);
-    this.quick = programOf(this.gl, QUICK_VERTICES, QUICK_PIXELS);
-    this.inks = programOf(this.gl, LINE_VERTICES, LINE_PIXELS);
-    this.dots = programOf(this.gl, DOT_VERTICES, DOT_PIXELS);
+    this.programs = new Map();
     this.gl.enable(this.gl.DEPTH_TEST);
+  }
+
+  /** The program of two texts, which is made when it is first used. */
+  program(vertices, pixels) {
+    if (!this.programs.has(vertices)) this.programs.set(vertices, programOf(this.gl, vertices, pixels));
+    return this.programs.get(vertices);
   }
 
   clear() {
@@ -360,40 +275,46 @@ class Painter {
     this.gl.clear(this.gl.COLOR_BUFFER_BIT | this.gl.DEPTH_BUFFER_BIT);
   }
 
+  /** Calls when all is drawn that was asked for. */
+  finished(call) {
+    const { gl } = this;
+    const end = gl.fenceSync(gl.SYNC_GPU_COMMANDS_COMPLETE, 0);
+    gl.flush();
+    const look = () => {
+      if (gl.isContextLost()) return;
+      if (gl.getSyncParameter(end, gl.SYNC_STATUS) !== gl.SIGNALED) {
+        setTimeout(look, 5);
+        return;
+      }
+      gl.deleteSync(end);
+      call();
+    };
+    setTimeout(look);
+  }
+
   /** Draws into a frame {x, y, wide, high}, of which what is cut off by `from` and `to`, from 0 to 1, stays empty; on
-   * wish the quick way, without thin edges. */
+   * wish the quick way, with few faces and without edges. */
   draw(drawn, view, frame, [from, to], shown, wide, isQuick = false) {
-    const { gl, dots } = this;
-    const faces = isQuick ? this.quick : this.faces;
+    const { gl } = this;
+    const program = isQuick ? this.program(QUICK_VERTICES, QUICK_PIXELS) : this.program(FACE_VERTICES, FACE_PIXELS);
+    const faces = drawn.faces(isQuick, view.at, reachOf(view, frame.wide / frame.high));
     gl.viewport(frame.x, frame.y, frame.wide, frame.high);
     gl.enable(gl.SCISSOR_TEST);
     const [left, right] = [from, to].map((it) => Math.round(frame.x + it * frame.wide));
     gl.scissor(left, frame.y, right - left, frame.high);
     const matrix = matrixOf(view, frame.wide / frame.high);
-    gl.useProgram(faces.program);
-    gl.uniformMatrix4fv(faces.matrix, false, matrix);
-    gl.uniform3fv(faces.toward, axesOf(view)[2]);
-    gl.uniform4f(faces.shown, +shown.wire, +shown.borders, +shown.stay, wide);
-    gl.bindVertexArray(drawn.faces);
-    gl.drawElements(gl.TRIANGLES, 6 * drawn.model.count, gl.UNSIGNED_INT, 0);
-    if (isQuick) this.drawLines(drawn, matrix, shown);
-    if (!shown.points || !drawn.model.dots.length) return;
+    gl.useProgram(program.program);
+    gl.uniformMatrix4fv(program.matrix, false, matrix);
+    gl.uniform3fv(program.toward, axesOf(view)[2]);
+    gl.uniform4f(program.shown, +shown.wire, +shown.borders, +shown.stay, wide);
+    faces.draw();
+    if (!shown.points || !drawn.dots || (isQuick && drawn.dots > FEW_DOTS)) return faces.count;
+    const dots = this.program(DOT_VERTICES, DOT_PIXELS);
     gl.useProgram(dots.program);
     gl.uniformMatrix4fv(dots.matrix, false, matrix);
     gl.uniform1f(dots.size, 11 * wide);
     gl.bindVertexArray(drawn.points);
-    gl.drawArrays(gl.POINTS, 0, drawn.model.dots.length / 2);
-  }
-
-  drawLines(drawn, matrix, shown) {
-    const { gl, inks } = this;
-    gl.useProgram(inks.program);
-    gl.uniformMatrix4fv(inks.matrix, false, matrix);
-    drawn.lines.forEach(({ array, count }, kind) => {
-      if (!count || !(kind ? shown.stay : shown.borders)) return;
-      gl.uniform1f(inks.size, kind);
-      gl.bindVertexArray(array);
-      gl.drawArrays(gl.LINES, 0, count);
-    });
+    gl.drawArrays(gl.POINTS, 0, drawn.dots);
+    return faces.count;
   }
 }

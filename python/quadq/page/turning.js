@@ -59,21 +59,21 @@ function rayOf(view, wide, x, y) {
 }
 
 /** How far along a ray it meets a triangle of a table of places, or infinity. */
-function meets(ray, places, a, b, c) {
-  const at = (point, axis) => places[3 * point + axis];
-  const [ax, ay, az] = [at(a, 0), at(a, 1), at(a, 2)];
-  const one = [at(b, 0) - ax, at(b, 1) - ay, at(b, 2) - az];
-  const other = [at(c, 0) - ax, at(c, 1) - ay, at(c, 2) - az];
-  const normal = cross(ray.way, other);
-  const size = dot(one, normal);
+function meets({ start, way }, places, a, b, c) {
+  const [from, first, second] = [3 * a, 3 * b, 3 * c];
+  const [ax, ay, az] = [places[from], places[from + 1], places[from + 2]];
+  const [ux, uy, uz] = [places[first] - ax, places[first + 1] - ay, places[first + 2] - az];
+  const [vx, vy, vz] = [places[second] - ax, places[second + 1] - ay, places[second + 2] - az];
+  const [nx, ny, nz] = [way[1] * vz - way[2] * vy, way[2] * vx - way[0] * vz, way[0] * vy - way[1] * vx];
+  const size = ux * nx + uy * ny + uz * nz;
   if (size === 0) return Infinity;
-  const from = [ray.start[0] - ax, ray.start[1] - ay, ray.start[2] - az];
-  const u = dot(from, normal) / size;
+  const [sx, sy, sz] = [start[0] - ax, start[1] - ay, start[2] - az];
+  const u = (sx * nx + sy * ny + sz * nz) / size;
   if (u < 0 || u > 1) return Infinity;
-  const across = cross(from, one);
-  const v = dot(ray.way, across) / size;
+  const [qx, qy, qz] = [sy * uz - sz * uy, sz * ux - sx * uz, sx * uy - sy * ux];
+  const v = (way[0] * qx + way[1] * qy + way[2] * qz) / size;
   if (v < 0 || u + v > 1) return Infinity;
-  const found = dot(other, across) / size;
+  const found = (vx * qx + vy * qy + vz * qz) / size;
   return found > 0 ? found : Infinity;
 }
 

@@ -3,6 +3,11 @@
 
 const FLAGS = ["wire", "borders", "stay", "points"];
 const STEP = 7.5;
+/** Where a picture takes more milliseconds, what moves is drawn in the quick way: few faces, no edges, and so many
+ * pixels for each of the screen along a side. After so many milliseconds of rest it is drawn well. */
+const BUDGET = 60;
+const COARSE = 0.5;
+const REST = 300;
 
 class Viewer {
   constructor(told, root) {
@@ -10,8 +15,11 @@ class Viewer {
     this.root = root;
     this.canvas = root.querySelector("canvas");
     this.models = told.meshes.map((it) => new Model(it, told.palette));
-    this.isLarge = this.models.reduce((count, it) => count + it.count, 0) > MANY;
-    this.painter = new Painter(this.canvas, this.isLarge);
+    const isLarge = this.models.reduce((count, it) => count + it.count, 0) > MANY;
+    this.painter = new Painter(this.canvas, isLarge);
+    /** How many milliseconds the last picture took that was drawn well; of a large mesh it is thought to be long. */
+    this.cost = isLarge ? Infinity : 0;
+    this.painted = "";
     this.drawn = this.models.map((it) => new Drawn(this.painter.gl, it));
     this.first = { ...told.view, zoom: 1, at: told.view.centre, straight: false };
     this.view = this.first;
@@ -22,7 +30,10 @@ class Viewer {
     this.picked = null;
     this.waiting = false;
     this.fingers = new Map();
-    this.pictures = 0;
+    /** How many pictures were drawn, how many pieces the last has, and how many pixels for each of the screen along a
+     * side. */
+    this.pictures = this.pieces = 0;
+    this.scale = 1;
     this.controls();
     this.events();
     this.readAddress();
@@ -40,8 +51,8 @@ class Viewer {
     }
     for (const pair of this.root.querySelectorAll("[data-pair]")) pair.hidden = this.models.length < 2;
     this.root.querySelector("[data-tick]").textContent = this.told.greatest ? this.told.greatest.toPrecision(3) : "0";
-    this.root.addEventListener("input", (event) => this.asked(event.target));
-    this.root.addEventListener("change", (event) => this.asked(event.target));
+    this.root.addEventListener("input", (event) => this.asked(event.target, event.target.name === "over"));
+    this.root.addEventListener("change", (event) => this.asked(event.target, false));
     this.root.addEventListener("submit", (event) => {
       event.preventDefault();
       const model = this.models.length > 1 ? +this.control("which").value : 0;
@@ -68,13 +79,13 @@ class Viewer {
     return number >= 1 && number <= this.models[model].faces ? number - 1 : -1;
   }
 
-  asked(control) {
+  asked(control, isMoving) {
     if (control.name === "colours") this.colours = control.value;
     if (FLAGS.includes(control.name)) this.shown[control.name] = control.checked;
     if (control.name === "straight") this.view = { ...this.view, straight: control.checked };
     if (control.name === "together") this.over = control.checked ? 0.5 : null;
     if (control.name === "over") this.over = +control.value;
-    this.change();
+    this.change(isMoving);
   }
 
   look(from) {
@@ -88,16 +99,17 @@ class Viewer {
     this.change();
   }
 
-  /** Draws anew, and writes down how things are, when the page next shows a picture. */
+  /** Draws anew when the page next shows a picture, and writes down how things are, if nothing moves. */
   change(isMoving = false) {
     if (!isMoving) this.settle();
     clearTimeout(this.rest);
-    this.isQuick = isMoving && this.isLarge;
+    // A page opens with a quick picture too.
+    this.isQuick = (isMoving || !this.pictures) && this.cost > BUDGET;
     if (this.waiting) return;
     this.waiting = true;
     requestAnimationFrame(() => {
       this.waiting = false;
-      this.draw();
+      this.draw(this.isQuick);
     });
   }
 
@@ -111,8 +123,13 @@ class Viewer {
       if (this.over !== null) this.control("over").value = this.over;
     }
     for (const scale of this.root.querySelectorAll("[data-scale]")) scale.hidden = scale.dataset.scale !== this.colours;
-    this.models.forEach((model, at) =>
-      this.drawn[at].colour(model.colours(this.colours, this.told.greatest, this.chosen[at])));
+    const wanted = [this.colours, ...this.chosen.map((it) => [...it])].join(";");
+    if (this.painted !== wanted) {
+      this.models.forEach((model, at) => {
+        this.drawn[at].colours = model.colours(this.colours, this.told.greatest, this.chosen[at]);
+      });
+    }
+    this.painted = wanted;
     this.writeAddress();
   }
 
@@ -131,23 +148,31 @@ class Viewer {
     return [{ x: 0, y: 0, wide: half, high, part: [0, 1] }, { x: wide - half, y: 0, wide: half, high, part: [0, 1] }];
   }
 
-  draw() {
-    const sharp = Math.min(2, window.devicePixelRatio || 1);
+  draw(isQuick = false) {
+    clearTimeout(this.rest);
+    this.scale = isQuick ? COARSE : Math.min(2, window.devicePixelRatio || 1);
     const box = this.canvas.getBoundingClientRect();
-    const [wide, high] = [box.width, box.height].map((it) => Math.max(2, Math.round(it * sharp)));
+    const [wide, high] = [box.width, box.height].map((it) => Math.max(2, Math.round(it * this.scale)));
     if (this.canvas.width !== wide || this.canvas.height !== high) {
       this.canvas.width = wide;
       this.canvas.height = high;
     }
     this.painter.clear();
-    this.panes().forEach((frame, at) =>
-      this.painter.draw(this.drawn[at], this.view, frame, frame.part, this.shown, sharp, this.isQuick));
+    this.pieces = 0;
+    this.panes().forEach((frame, at) => {
+      this.pieces += this.painter.draw(this.drawn[at], this.view, frame, frame.part, this.shown, this.scale, isQuick);
+    });
     const line = this.root.querySelector("[data-line]");
     line.hidden = this.over === null;
     if (this.over !== null) line.style.left = `${100 * this.over}%`;
     this.pictures += 1;
-    // What was drawn in the quick way is drawn well when it rests.
-    if (this.isQuick) this.rest = setTimeout(() => { this.change(this.fingers.size > 0); }, 600);
+    // What is made when it is first drawn is made by now.
+    const { pictures } = this;
+    const begun = performance.now();
+    this.painter.finished(() => {
+      if (!isQuick) this.cost = performance.now() - begun;
+      else if (this.pictures === pictures) this.rest = setTimeout(() => this.fingers.size || this.change(), REST);
+    });
   }
 
   /** The mesh below a place of the picture, and the ray through it. */
@@ -228,6 +253,7 @@ class Viewer {
         this.pick(at, ray ? this.models[at].hit(ray) : -1, false);
       }
       this.writeAddress();
+      if (this.isQuick) this.change(true);
     };
     canvas.addEventListener("pointerup", end);
     canvas.addEventListener("pointercancel", end);
@@ -256,8 +282,7 @@ class Viewer {
   /** Moves what is seen by so many pixels of the screen. */
   push(x, y) {
     const frame = this.panes()[0];
-    const sharp = Math.min(2, window.devicePixelRatio || 1);
-    const size = 2 * reachOf(this.view, frame.wide / frame.high) * sharp / frame.high;
+    const size = 2 * reachOf(this.view, frame.wide / frame.high) * this.scale / frame.high;
     const [right, upward] = axesOf(this.view);
     this.view = { ...this.view, at: sum(sum(this.view.at, right, -x * size), upward, y * size) };
     this.change(true);
