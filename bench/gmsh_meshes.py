@@ -4,11 +4,13 @@
 usage: bench/gmsh_meshes.py [FOLDER]
 
 Makes the meshes with gmsh (Debian: gmsh, python3-meshio), in FOLDER where it is given, and prints a table in Markdown.
-Each mesh is remeshed at twice and at half the scale, and to edges of 1.5 times its mean length.
+Each mesh is remeshed at twice and at half the scale, to edges of 1.5 and of a third times its mean length, and to a
+field of sizes, from a fifth of the mean length at the least x to three fifths at the greatest.
 
 - groups: how many groups of faces and edges come back: those of edges with the same ends and, within a thousandth, the
   same length, those of faces with the same area within a thousandth.
-- sizes: the share of edges within 20% of the wished length.
+- sizes: the share of edges within 20% of the wished length, with edges of 1.5 times the mean, of a third, and with the
+  field; in brackets that of the old mesh with each edge divided in three, which has about as many edges.
 - points: the greatest error of a smooth field at the new points, in parts of its range; what a linear field has is that
   of rounding to millionths.
 - integral: by how much the integral of a field of faces differs, in parts of it.
@@ -181,15 +183,30 @@ def row(name: str, mesh: quadq.Mesh) -> str:
     """A row of the table."""
     is_odd = not mesh.is_quads()
     results = [quadq.remesh(mesh, scale=scale, subdivide=is_odd) for scale in ("2/1", "1/2")]
-    wished = 1.5 * float(lengths(results[0].ready).mean())
-    sized = quadq.remesh(mesh, edge=round(wished, 6), subdivide=is_odd)
-    met = float(np.mean(np.abs(lengths(sized.mesh) / wished - 1) <= NEAR))
+    ready = results[0].ready
+    mean = float(lengths(ready).mean())
+    sized = [met(quadq.remesh(mesh, edge=round(times * mean, 6), subdivide=is_odd).mesh, times * mean)
+             for times in (1.5, 1 / 3)]
+    low, wide = mesh.points[:, 0].min(), np.ptp(mesh.points[:, 0])
+
+    def field(points: np.ndarray) -> np.ndarray:
+        return np.asarray(mean * (0.2 + 0.4 * (points[:, 0] - low) / wide))
+
+    fine = quadq.refine(ready, 3)
+    sized += [met(it, field(it.points)[it.edges.ends].mean(axis=1))
+              for it in (quadq.remesh(mesh, size=field, subdivide=is_odd).mesh, fine)]
     cells = [name + (", divided" if is_odd else ""), f"{mesh.face_count:,}"]
     for result in results:
         kept, count = groups_kept(mesh, result.mesh)
         at_points, of_faces = errors(result)
         cells += [f"{result.mesh.face_count:,}", f"{kept} of {count}", f"{at_points:.1e}", f"{of_faces:.0e}"]
-    return "| " + " | ".join([*cells, f"{100 * met:.0f}%"]) + " |"
+    told = [f"{100 * it:.0f}%" for it in sized]
+    return "| " + " | ".join([*cells, *told[:2], f"{told[2]} ({told[3]})"]) + " |"
+
+
+def met(mesh: quadq.Mesh, wished: np.ndarray | float) -> float:
+    """The share of edges that have their wished length."""
+    return float(np.mean(np.abs(lengths(mesh) / wished - 1) <= NEAR))
 
 
 def main(words: list[str]) -> int:
@@ -199,8 +216,9 @@ def main(words: list[str]) -> int:
     with tempfile.TemporaryDirectory() as room:
         folder = pathlib.Path(words[0] if words else room)
         folder.mkdir(parents=True, exist_ok=True)
-        print("| mesh | faces | at 2/1 | groups | points | integral | at 1/2 | groups | points | integral | sizes |")
-        print("|---|---|---|---|---|---|---|---|---|---|---|")
+        print("| mesh | faces | at 2/1 | groups | points | integral | at 1/2 | groups | points | integral "
+              "| edges 3/2 | edges 1/3 | a field |")
+        print("|---|---|---|---|---|---|---|---|---|---|---|---|---|")
         for name, text in MESHES.items():
             print(row(name, made(name, text, folder)), flush=True)
     return 0

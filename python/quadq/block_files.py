@@ -16,7 +16,7 @@ from .errors import WishError
 from .files import make_folder, write_whole
 from .foam import NAME as FOAM
 from .foam import foam_text
-from .thickness import extruded
+from .thickness import extruded, folded_in
 
 VTK, PLOT3D, CGNS = ".vtm", ".xyz", ".cgns"
 FACES = {SOUTH: 5, EAST: 4, NORTH: 6, WEST: 3}
@@ -71,7 +71,7 @@ def write_blocks(
         return said
     if target.suffix.lower() not in writers:
         raise WishError(f"{target.name} is no file of blocks: take .vtm, .xyz, .cgns, or the name {FOAM}")
-    return writers[target.suffix.lower()](target, blocks, thickness)
+    return (*writers[target.suffix.lower()](target, blocks, thickness), *folded_in(blocks, thickness))
 
 
 def _numbers(table: Array) -> str:

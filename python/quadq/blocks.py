@@ -10,16 +10,14 @@ import numpy as np
 from .arrays import Array
 from .conversions import MeshLike, as_mesh
 from .errors import WishError
-from .graphs import Cut, answer_of_cut, graph, layout, text_with_lines, words_of_cut
+from .graphs import SIDES, Cut, answer_of_cut, cut_of, text_with_lines, words_of_cut
 from .groups import edges_by_group
 from .mesh import NONE, Mesh
-from .obj_writing import plain_text
 from .plain import strange
 from .program import LARGEST, Program
 from .scaling import factor_of
 from .surface import twins_of
 
-SIDES = ("south", "east", "north", "west")
 SOUTH, EAST, NORTH, WEST = range(4)
 WALL = "wall"
 """The name of a wall whose edges are in no group."""
@@ -127,31 +125,23 @@ def blocks(
     mesh: MeshLike, by: int = 1, *, keep: str = "none", patches: str = "traced", program: Optional[Program] = None
 ) -> Blocks:
     """The patches of a mesh of quads as blocks, each edge of the mesh divided in so many. Walls have the names of the
-    groups of their edges. What is kept, and other patches than traced ones, need the program's command `grids`. Raises
-    a `WishError` and a `Refusal`."""
+    groups of their edges. Raises a `WishError`, also where the program has no command `grids`, and a `Refusal`."""
     if not 1 <= by <= LARGEST:
         raise WishError(f"edges are divided in 1 to {LARGEST}, and not in {by}")
     mesh = as_mesh(mesh)
     mesh.refuse_strange()
     runner = Program() if program is None else program
     factor = factor_of(mesh)
-    scaled = replace(mesh, points=mesh.points * factor)
-    if (keep, patches) == ("none", "traced"):
-        cut = graph(mesh, program=runner)
-        text = runner.answer(["blocks", "--by", str(by)], plain_text(scaled)).decode()
-        head = f"quadq blocks 1 by {by}"
-    else:
-        words = [*words_of_cut("grids", keep, patches), "--by", str(by)]
-        cut = layout(mesh, keep=keep, patches=patches, program=runner)
-        text = answer_of_cut(runner, words, text_with_lines(scaled))
-        head = f"quadq grids 1 keep {keep} patches {patches} by {by}"
-    found = read_blocks(text, head, by)
-    named = _named(found, cut, mesh)
+    text = text_with_lines(replace(mesh, points=mesh.points * factor))
+    words = [*words_of_cut("grids", keep, patches), "--by", str(by)]
+    told = answer_of_cut(runner, words, text).decode()
+    found = read_blocks(told, f"quadq grids 1 keep {keep} patches {patches} by {by}", by)
+    named = _named(found, cut_of(runner, text, keep, patches), mesh)
     return Blocks(tuple(replace(it, points=it.points / factor) for it in named), by)
 
 
 def read_blocks(text: str, head: str, by: int) -> Blocks:
-    """The blocks of a text of `blocks` or `grids` with this head line; walls have no names yet."""
+    """The blocks of a text of `grids` with this head line; walls have no names yet."""
     lines = text.splitlines()
     count = lines[1].split()[1:] if len(lines) > 1 and lines[0] == head else []
     if len(count) != 1:

@@ -7,8 +7,9 @@ from typing import Iterator
 import numpy as np
 
 from .arrays import Array
-from .blocks import EAST, NORTH, SIDES, SOUTH, WEST, Block, Blocks, Link, along
+from .blocks import EAST, NORTH, SOUTH, WEST, Block, Blocks, Link, along
 from .errors import WishError
+from .graphs import SIDES
 from .thickness import normals_of, points_as_one
 
 BENT = 0.2

@@ -8,9 +8,10 @@ from typing import Iterable, Iterator, Optional
 import numpy as np
 
 from .arrays import Array
-from .blocks import SIDES, WALL, Block, Blocks, along
+from .blocks import WALL, Block, Blocks, along
 from .conforming import told_by_corners
-from .thickness import extruded, is_plane, points_as_one
+from .graphs import SIDES
+from .thickness import extruded, folded_in, is_plane, points_as_one
 
 NAME = "blockMeshDict"
 EVEN = 1e-9
@@ -47,7 +48,7 @@ def foam_text(given: Blocks, thickness: Optional[float]) -> tuple[str, tuple[str
     parts += _list("edges", _edges(whole, grids, numbers, place))
     parts += _list("boundary", _patches(whole, numbers, place, names))
     parts += _list("mergePatchPairs", ())
-    return "\n".join([*parts, ""]), said
+    return "\n".join([*parts, ""]), (*said, *folded_in(whole, deep))
 
 
 def _list(name: str, lines: Iterable[str]) -> list[str]:

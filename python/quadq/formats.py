@@ -13,6 +13,7 @@ import numpy as np
 
 from .errors import WishError
 from .files import read_whole
+from .gmsh_entities import by_entities
 from .incoming import mesh_of
 from .mesh import Mesh
 from .obj_writing import write_obj
@@ -23,7 +24,11 @@ from .reading import read_judged
 from .refusal import READ_FAULT, SYNTAX, WRITE_FAULT, Refusal
 
 FORMATS = {".msh": "gmsh22"}
-"""What is written under a name of several formats."""
+"""What is written under a name of several formats, if nothing is said."""
+BY_ENTITIES = "gmsh"
+"""Version 4.1 of gmsh's format, by the name that meshio has for it."""
+FORMS = {"gmsh22": (".msh",), BY_ENTITIES: (".msh",)}
+"""The formats that may be named besides the file, and the names that such files have."""
 OWN = ("", ".obj", ".off")
 """The formats for which meshio is not needed."""
 
@@ -54,17 +59,22 @@ def _refuse_closed(path: Path) -> None:
 
 
 def _read_other(path: Path) -> Mesh:
+    read = read_raw(path)
+    if path.suffix.lower() == ".vtk":
+        read.point_data = {unquote(name): it for name, it in read.point_data.items()}
+        read.cell_data = {unquote(name): it for name, it in read.cell_data.items()}
+    return mesh_of(read, path.name)
+
+
+def read_raw(path: Path) -> Any:
+    """What meshio reads from a file. Raises a `Refusal`."""
     tool = meshio()
     if tool is None:
         raise Refusal(SYNTAX, f"{path.name} is no .obj file; meshio, which reads others, is not installed")
     gmsh = getattr(getattr(tool, "gmsh", None), "_gmsh22", None)
     if hasattr(gmsh, "cell_data_from_raw"):
         setattr(gmsh, "cell_data_from_raw", _divided_by_blocks)
-    read = _quietly(lambda: tool.read(path), SYNTAX, f"{path.name} cannot be read by meshio")
-    if path.suffix.lower() == ".vtk":
-        read.point_data = {unquote(name): it for name, it in read.point_data.items()}
-        read.cell_data = {unquote(name): it for name, it in read.cell_data.items()}
-    return mesh_of(read, path.name)
+    return _quietly(lambda: tool.read(path), SYNTAX, f"{path.name} cannot be read by meshio")
 
 
 def _divided_by_blocks(cells: Any, fields: dict[str, Any]) -> dict[str, Any]:
@@ -89,10 +99,12 @@ def _quietly(work: Callable[[], Any], status: int, words: str) -> Any:
         raise Refusal(status, f"{words}: {why}") from error
 
 
-def refuse_format(path: Path) -> None:
-    """Raises a `WishError` where a file of this name is of no format that is written."""
+def refuse_format(path: Path, form: Optional[str] = None) -> None:
+    """Raises a `WishError` where a file of this name is of no format that is written, or not of one that is named."""
     suffix = path.suffix.lower()
     if suffix in OWN:
+        if form is not None:
+            raise WishError(f"{path.name} has one format, and is not written as {form}")
         return
     tool = meshio()
     if tool is None:
@@ -100,16 +112,20 @@ def refuse_format(path: Path) -> None:
     if not set(tool.extension_to_filetypes.get(suffix, ())).intersection(tool._helpers._writer_map):
         raise WishError(f"{path.name} is of no format that is written: take .obj, .msh, .vtk, .vtu, .inp, .ply, .off "
                         "or .stl")
+    known = [it for it, suffixes in FORMS.items() if suffix in suffixes]
+    if form is not None and form not in known:
+        raise WishError(f"{path.name} is not written as {form}" + (f": take {' or '.join(known)}" if known else ""))
 
 
-def bytes_of(path: Path, mesh: Mesh, text: Optional[bytes] = None) -> bytes:
-    """What stands in a file of a mesh, in the format that its name says; `text` is that of OBJ, if it is at hand.
-    Raises a `Refusal` where that fails."""
+def bytes_of(path: Path, mesh: Mesh, text: Optional[bytes] = None, form: Optional[str] = None) -> bytes:
+    """What stands in a file of a mesh, in the format that its name says; `text` is that of OBJ, if it is at hand, and
+    `form` is one of `FORMS`. Raises a `Refusal` where that fails."""
     suffix = path.suffix.lower()
+    refuse_format(path, form)
     if suffix == ".off":
         return write_off(mesh)
     if suffix not in OWN:
-        return _other_text(path, mesh)
+        return _other_text(path, mesh, form)
     return write_obj(mesh).encode("utf-8", "surrogateescape") if text is None else text
 
 
@@ -118,26 +134,27 @@ def left_out(path: Path, mesh: Mesh) -> tuple[str, ...]:
     return tuple(lost_in(mesh, path.suffix.lower()))
 
 
-def _other_text(path: Path, mesh: Mesh) -> bytes:
+def _other_text(path: Path, mesh: Mesh, form: Optional[str]) -> bytes:
     """A mesh as meshio writes it in the format of this name."""
     tool, suffix = meshio(), path.suffix.lower()
-    refuse_format(path)
     assert tool is not None
-    it = pieces_of(mesh, suffix)
+    pieces = pieces_of(mesh, suffix)
     with tempfile.TemporaryDirectory() as folder:
         place = Path(folder) / f"mesh{suffix}"
 
         def write() -> str:
-            made = tool.Mesh(mesh.points, it.cells, point_data=it.point_data, cell_data=it.cell_data,
+            every = np.arange(len(mesh.points))
+            it, order = by_entities(pieces, len(every)) if form == BY_ENTITIES else (pieces, every)
+            made = tool.Mesh(mesh.points[order], it.cells, point_data=it.point_data, cell_data=it.cell_data,
                              field_data=it.field_data, cell_sets=it.cell_sets)
-            made.write(place, FORMATS.get(suffix))
+            made.write(place, form or FORMATS.get(suffix))
             return fault_of(tool, place, mesh)
 
         words = f"write fault: {path.name} cannot be written by meshio"
         fault = _quietly(write, WRITE_FAULT, words)
         if fault:
             raise Refusal(WRITE_FAULT, f"{words}: {fault}")
-        return with_plain_elements(place.read_bytes(), it) if suffix == ".inp" else place.read_bytes()
+        return with_plain_elements(place.read_bytes(), pieces) if suffix == ".inp" else place.read_bytes()
 
 
 def meshio() -> Any:

@@ -12,6 +12,8 @@ from .arrays import Array
 from .features import MEETINGS, Marks, edges_in, mark_features
 from .mesh import NONE, Mesh, Names
 from .notices import counted
+from .program import Program
+from .settings import Settings
 from .under import Under
 
 HALF = 0.5
@@ -99,6 +101,17 @@ def _edges_across(mesh: Mesh, points: Array, is_on: Array) -> Array:
     at = at[chosen[at[:, 0]]]
     _, first = np.unique(at[:, 0], return_index=True)
     return np.asarray(at[first, 1:])
+
+
+def keeping_groups(settings: Settings, mesh: Mesh, program: Program) -> Settings:
+    """The settings, with what has to stay so that the groups of a mesh come back, where the command can keep edges."""
+    if not mesh.is_grouped or settings.free_groups:
+        return settings
+    if (settings.coarse or settings.edge is not None) and not program.has_fit():
+        return settings
+    if not settings.is_creased and not len(marks_of_groups(mesh, settings.corners).edges):
+        return settings
+    return replace(settings, keep=tuple(dict.fromkeys((*settings.keep, "groups", "lines"))))
 
 
 class Returned(NamedTuple):

@@ -5,6 +5,7 @@ A refusal has the status and the words of the program, and names lines, faces an
 
 from __future__ import annotations
 
+import contextlib
 import re
 from dataclasses import replace
 from typing import Optional
@@ -15,7 +16,7 @@ from .arrays import Array
 from .carried import carried
 from .errors import FormatError, MeshError
 from .mesh import Mesh
-from .obj import Unlike, read_obj, scan
+from .obj import Scan, Unlike, read_obj, scan, scanned_mesh, word_by_word
 from .obj_writing import plain_text
 from .plain import canonical, strange
 from .program import Program
@@ -88,15 +89,14 @@ def _with_places(said: Refusal, text: bytes) -> Refusal:
 def _compared(text: bytes, tidied: bytes) -> Mesh:
     points, quads = canonical(tidied)
     rough = Mesh(points, quads.reshape(-1), np.arange(0, quads.size + 1, 4))
-    try:
+    found: Optional[Scan] = None
+    with contextlib.suppress(Unlike):
         found = scan(text)
-        is_told = found.is_plain and (found.counts["v"], found.counts["f"]) == (len(points), len(quads))
-    except Unlike:
-        is_told = False
-    if is_told and not is_short(rough):
+    if found is not None and found.is_plain and not is_short(rough) and (
+            (found.counts["v"], found.counts["f"]) == (len(points), len(quads))):
         return rough
     try:
-        mesh = read_obj(text)
+        mesh = word_by_word(text) if found is None else scanned_mesh(found, text)
     except FormatError as error:
         raise strange(f"{error.line}, and the program has read the text") from error
     return _with_places_of(mesh, points, quads)
@@ -203,3 +203,11 @@ def divided(mesh: Mesh, program: Program) -> Mesh:
         return judge_divided(subdivide(mesh), program)
     except Refusal as said:
         raise told_of_old(Refusal.told(said.status, said.line, lambda it: it, lambda it: it), mesh) from said
+
+
+def refuse_polygons(mesh: Mesh) -> None:
+    """Raises a `Refusal` where a face is no quad."""
+    wrong = np.flatnonzero(mesh.sides != 4)
+    if len(wrong):
+        others = f", and {len(wrong) - 1} more are no quads" if len(wrong) > 1 else ""
+        raise Refusal(NOT_QUAD, f"face {wrong[0] + 1}: {mesh.sides[wrong[0]]} corners{others}", wrong.tolist())

@@ -15,9 +15,10 @@ import numpy as np
 import quadq
 from quadq import Refusal, WishError, conforming, read, write_blocks
 from quadq.__main__ import main
-from quadq.blocks import SIDES, read_blocks
+from quadq.blocks import read_blocks
 from quadq.cgns_file import library
 from quadq.conforming import told_by_corners
+from quadq.graphs import SIDES
 
 from .shapes import EXAMPLES, drum, grid, plate
 from .test_groups import grouped, sides_of
@@ -224,6 +225,14 @@ class Files(unittest.TestCase):
         self.assertRegex(text, r"frontAndBack\n +\{\n +type empty;")
         self.assertIn("outlet_2", said[0])
         self.assertRegex(self.foam(drum())[0], r"front\n +\{\n +type patch;")
+
+    def test_cells_that_a_thickness_turns_inside_out_are_said(self):
+        narrow = quadq.Mesh.of_quads(drum(24, 2).points[:, [0, 2, 1]], drum(24, 2).quads)
+        for name in ("a.vtm", "a.xyz", "system/blockMeshDict"):
+            for mesh, thickness, count in ((drum(), 0.5, 0), (narrow, 2.0, 48)):
+                said = write_blocks(self.room / name, quadq.blocks(mesh), thickness)
+                self.assertEqual([it for it in said if it.startswith("48 cells would be inside out")],
+                                 [] if not count else list(said), name)
 
     def test_openfoam_takes_them(self):
         if shutil.which("blockMesh") is None:

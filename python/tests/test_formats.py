@@ -91,6 +91,32 @@ class Through(Room):
                 np.testing.assert_allclose(again.point_fields["shift"], mesh.point_fields["shift"])
                 np.testing.assert_allclose(again.face_fields["flux"], mesh.face_fields["flux"])
 
+    def test_both_versions_of_gmsh_are_written_where_that_is_asked(self):
+        mesh = full()
+        for form, version in ((None, b"2.2"), ("gmsh22", b"2.2"), ("gmsh", b"4.1")):
+            self.assertEqual(write(self.room / "a.msh", mesh, format=form), ())
+            self.assertEqual((self.room / "a.msh").read_bytes().split()[1], version)
+            again = read(self.room / "a.msh")
+            self.assertEqual(groups_of(again), groups_of(mesh))
+            np.testing.assert_allclose(again.point_fields["T"], again.points[:, 0])
+            self.assertEqual(sorted(again.face_fields["flux"]), sorted(mesh.face_fields["flux"]))
+        write(self.room / "in.msh", mesh)
+        out = str(self.room / "out.msh")
+        with contextlib.redirect_stdout(io.StringIO()):
+            self.assertEqual(main([str(self.room / "in.msh"), out, "--scale", "1/2", "--format", "gmsh"]), 0)
+        self.assertEqual(pathlib.Path(out).read_bytes().split()[1], b"4.1")
+        for name in ("a.obj", "a.vtu"):
+            with self.assertRaises(WishError):
+                write(self.room / name, mesh, format="gmsh")
+
+    def test_a_group_of_edges_without_a_point_of_its_own_is_refused_in_version_4(self):
+        mesh = grid(1, 1)
+        edge = mesh.edges.ends[0]
+        named = replace(mesh, lines=(edge,) * 3, line_names=("a", "b", "c"))
+        self.assertEqual(write(self.room / "a.msh", named), ())
+        with self.assertRaisesRegex(Refusal, "no point that is in no other group"):
+            write(self.room / "a.msh", named, format="gmsh")
+
     def test_they_are_there_after_a_remesh(self):
         for name in ("a.msh", "a.vtk", "a.vtu", "a.inp"):
             write(self.room / name, full())
