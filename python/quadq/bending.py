@@ -7,8 +7,9 @@ from dataclasses import dataclass
 import numpy as np
 
 from .arrays import Array
+from .darts import Darts
 from .layout import Layout
-from .tracing import Trace
+from .mesh import NONE, Mesh
 
 MOST = 0.9
 """Of what stands beside an arc, this part is no greater than what counts."""
@@ -26,50 +27,56 @@ class Rows:
     """The mean of a value of points, over the ends of these edges."""
 
 
-def sags(trace: Trace, kept: Array) -> Array:
+def sags(darts: Darts, kept: Array) -> Array:
     """(edges,) float64: for each edge the height of a bow over it, from the turn of the straight run of edges through
     it. A run does not go across edges that are kept (edges,) bool; where none goes on, the turn of the normals counts.
     """
-    mesh = trace.mesh
+    mesh = darts.mesh
     ends = mesh.edges.ends
     lengths = np.linalg.norm(mesh.points[ends[:, 1]] - mesh.points[ends[:, 0]], axis=1)
-    turns, counts = _turns_of_runs(trace, kept, lengths)
+    turns, counts = _turns_of_runs(darts, kept, lengths)
     alone = counts == 0
     turns[~alone] /= counts[~alone, None]
-    normals = normals_at_points(trace)
+    normals = normals_at_points(mesh)
     bent = np.linalg.norm(normals[ends[alone, 1]] - normals[ends[alone, 0]], axis=1)
     by_length = np.linalg.norm(turns, axis=1)
     by_length[alone] = np.divide(bent, lengths[alone], out=np.zeros(len(bent)), where=lengths[alone] > 0)
     return np.asarray(by_length * lengths ** 2 / 8)
 
 
-def _turns_of_runs(trace: Trace, kept: Array, lengths: Array) -> tuple[Array, Array]:
+def _turns_of_runs(darts: Darts, kept: Array, lengths: Array) -> tuple[Array, Array]:
     """(edges, 3) the sum of how much the unit tangent changes at both ends of each edge, by the mean length of the two
     edges there; and of how many ends that is."""
-    mesh, of_edge = trace.mesh, trace.of_edge
-    darts = np.flatnonzero(trace.straight != -1)
-    after = trace.straight[darts]
-    is_rim = (trace.twin[darts] == -1) & (trace.twin[after] == -1)
-    faces = np.bincount(trace.start, minlength=len(mesh.points))[trace.end[darts]]
-    goes_on = trace.is_passed[trace.end[darts]] | (is_rim & (faces == 2))
-    holds = np.zeros(len(mesh.points), dtype=bool)
-    holds[mesh.edges.ends[kept].ravel()] = True
-    goes_on &= ~holds[trace.end[darts]] | (kept[of_edge[darts]] & kept[of_edge[after]])
-    darts, after = darts[goes_on], after[goes_on]
-    units = _units(mesh.points[trace.end] - mesh.points[trace.start])
-    means = (lengths[of_edge[darts]] + lengths[of_edge[after]]) / 2
-    turn = (units[after] - units[darts]) / np.where(means > 0, means, np.inf)[:, None]
+    mesh, of_edge = darts.mesh, darts.of_edge
+    before = np.flatnonzero(darts.straight != NONE)
+    after = darts.straight[before]
+    before, after = (it[_goes_on(darts, kept, before, after)] for it in (before, after))
+    units = _units(mesh.points[darts.end] - mesh.points[darts.start])
+    means = (lengths[of_edge[before]] + lengths[of_edge[after]]) / 2
+    turn = (units[after] - units[before]) / np.where(means > 0, means, np.inf)[:, None]
     turns, counts = np.zeros((len(lengths), 3)), np.zeros(len(lengths))
-    for some in (of_edge[darts], of_edge[after]):
+    for some in (of_edge[before], of_edge[after]):
         counts += np.bincount(some, minlength=len(lengths))
         for axis in range(3):
             turns[:, axis] += np.bincount(some, weights=turn[:, axis], minlength=len(lengths))
     return turns, counts
 
 
-def normals_at_points(trace: Trace) -> Array:
+def _goes_on(darts: Darts, kept: Array, before: Array, after: Array) -> Array:
+    """(n,) bool: whether a run goes on from darts (n,) straight to those after them: over a regular point inside or
+    along the boundary, and not across kept lines."""
+    mesh, at = darts.mesh, darts.end[before]
+    faces = np.bincount(mesh.corners, minlength=len(mesh.points))[at]
+    on_rim, holds = np.zeros(len(mesh.points), dtype=bool), np.zeros(len(mesh.points), dtype=bool)
+    on_rim[mesh.edges.ends[mesh.edges.uses == 1]] = True
+    holds[mesh.edges.ends[kept].ravel()] = True
+    along_rim = (darts.twin[before] == NONE) & (darts.twin[after] == NONE)
+    is_regular = ((faces == 4) & ~on_rim[at]) | ((faces == 2) & along_rim)
+    return np.asarray(is_regular & (~holds[at] | (kept[darts.of_edge[before]] & kept[darts.of_edge[after]])))
+
+
+def normals_at_points(mesh: Mesh) -> Array:
     """(points, 3): the mean direction of the faces around each point, each by its area."""
-    mesh = trace.mesh
     a, b, c, d = mesh.points[mesh.quads].transpose(1, 0, 2)
     facing = np.cross(c - a, d - b)
     summed = np.zeros((len(mesh.points), 3))
@@ -80,15 +87,15 @@ def normals_at_points(trace: Trace) -> Array:
 
 def rows_of(layout: Layout, kept: Array, density: Array) -> Rows:
     """What lies beside each arc, with a value of points (points,). n log n in the faces."""
-    trace, count = layout.trace, len(layout.old)
-    ends = trace.mesh.edges.ends
-    points = trace.mesh.points
+    darts, count = layout.darts, len(layout.old)
+    ends, points = layout.mesh.edges.ends, layout.mesh.points
     lengths = np.linalg.norm(points[ends[:, 1]] - points[ends[:, 0]], axis=1)
-    height, weights = sags(trace, kept), density[ends].mean(axis=1)
+    height, weights = sags(darts, kept), density[ends].mean(axis=1)
     arcs, found, dense = [], [], np.zeros((2, count))
     squares, rows = np.zeros(count), np.zeros(count)
     for step in layout.strips():
-        of_arc, edges = layout.of_dart[step[:, 0]], trace.of_edge[step[:, 1]]
+        edges = darts.of_edge[step[:, 1]]
+        of_arc = layout.arc_of_edge[darts.of_edge[step[:, 0]]]
         arcs.append(of_arc)
         found.append(height[edges])
         dense += np.stack([np.bincount(of_arc, it, minlength=count) for it in (weights[edges], np.ones(len(edges)))])
@@ -99,6 +106,18 @@ def rows_of(layout: Layout, kept: Array, density: Array) -> Rows:
         rows[of_arc[row]] += share
     return Rows(_high_of(np.concatenate(arcs), np.concatenate(found), count), np.sqrt(squares / np.maximum(rows, 1)),
                 dense[0] / np.maximum(dense[1], 1))
+
+
+def row_means(layout: Layout, of_edge: Array) -> Array:
+    """(arcs,) float64: for each arc the mean over its rows of the sum of a value of edges (edges,). Rows are the runs
+    of edges parallel to all of it, in the patches on both of its sides."""
+    count, edge_of = len(layout.old), layout.darts.of_edge
+    sums, edges = np.zeros(count), np.zeros(count)
+    for step in layout.strips():
+        of_arc = layout.arc_of_edge[edge_of[step[:, 0]]]
+        sums += np.bincount(of_arc, of_edge[edge_of[step[:, 1]]], minlength=count)
+        edges += np.bincount(of_arc, minlength=count)
+    return np.asarray(sums * layout.old / np.maximum(edges, 1))
 
 
 def _high_of(arcs: Array, values: Array, count: int) -> Array:

@@ -5,16 +5,19 @@ from __future__ import annotations
 from dataclasses import dataclass, replace
 from fractions import Fraction
 from itertools import count
-from typing import Callable, Optional, Sequence
+from typing import Callable, Sequence
 
 import numpy as np
 
 from .arrays import Array
+from .layout import layout_of
+from .local import NOWHERE, Local
 from .mesh import Mesh, join
 from .multiplying import Multiplying, met
 from .nearing import coarsest_within
 from .parts import Part, Workshop, certified_lengths
 from .program import FIT, RAISED, Wish
+from .quality import quality_of
 from .refusal import Refusal
 from .settings import Settings
 from .targets import MOST_FACES, MOST_TRIES, TOO_FINE, Counted, Reached, nearest_scale
@@ -27,8 +30,11 @@ Begin = Callable[[str, int], None]
 """Is told the step that begins, and how many things there are to do."""
 FARTHER, LATER = 1.5, 2
 """Where merged patches are so much farther from the old mesh, a number is taken to be off by so many steps more."""
+MANY = 50_000
+"""Of more faces, where still more are wished, one scale is taken: new points lie on the old surface, so that what is
+tried by shape brings little, and takes long."""
 SLOW = 300_000
-"""Of more faces patches are not merged where that was not wished: it takes long."""
+"""Of more faces merged patches are not tried where they were not wished: each try takes seconds."""
 
 
 @dataclass(frozen=True)
@@ -45,10 +51,12 @@ class Chooser:
     """Finds what does best what settings wish of parts."""
 
     def __init__(self, parts: list[Part], settings: Settings, shop: Workshop, begin: Begin,
-                 density: Optional[Array] = None, halves: int = 1) -> None:
+                 local: Local = NOWHERE, halves: int = 1) -> None:
         self.parts, self.settings, self.shop, self.begin = parts, settings, shop, begin
-        self.density, self.halves = density, halves
+        self.local, self.halves = local, halves
         self.tries = count(1)
+        self.shapes: dict[bool, list[Shape]] = {}
+        """By whether patches are merged."""
         self.old = join([it.mesh for it in parts])
 
     def chosen(self) -> Chosen:
@@ -57,17 +65,18 @@ class Chooser:
             return self._within(settings.within)
         if settings.faces is not None:
             self._refuse_more_than(self.halves * sum(it.count for it in self.parts) * MOST_FACES, settings.faces)
-            is_by_scale = settings.mode == "scale" and self.density is None
-            if is_by_scale or not self.shop.program.has_fit():
+            is_fine = self.old.face_count > MANY and self.halves * self.old.face_count < settings.faces
+            is_by_scale = settings.mode == "scale" or (is_fine and settings.mode == "shape")
+            if (is_by_scale and self.local.is_nowhere) or not self.shop.program.has_fit():
                 return self._by_scale(settings.faces)
             return self._by_shape(settings.faces)
         reached = Reached(settings.scale, 0, 0, "")
-        if self.density is None and (settings.mode != "even" or settings.edge is not None):
+        if self.local.is_nowhere and (settings.mode != "even" or settings.edge is not None):
             return self._written(settings.wish(settings.scale), reached)
         shapes, lengths = self._absolute()
         self.begin("remeshing", len(self.parts))
         tried = Trials(self.shop, shapes, self._wish(False)).at(lengths)
-        return _chosen(tried, replace(reached, strayed=tried.strayed()))
+        return _chosen(tried, reached)
 
     def _refuse_more_than(self, most: int, wished: int) -> None:
         if wished > most:
@@ -85,17 +94,25 @@ class Chooser:
                     is_merged=settings.coarse or is_merged, has_lines=True)
 
     def _shapes(self, is_merged: bool = False) -> list[Shape]:
-        self.begin("measuring the shape", 1)
-        return [Shape(it, self.settings.coarse or is_merged, None if self.density is None else self.density[it.points])
-                for it in self.parts]
+        """The parts with their layouts, which are made once."""
+        is_merged = is_merged or self.settings.coarse
+        if is_merged not in self.shapes:
+            self.begin("measuring the shape", len(self.parts))
+            self.shapes[is_merged] = self.shop.each(self.parts, lambda it: Shape(
+                it, layout_of(it, self.shop.program, is_merged), self.local.of(it.points, it.faces)))
+        return self.shapes[is_merged]
 
     def _absolute(self) -> tuple[list[Shape], list[Array]]:
-        """Wished lengths where a scale or a length of edges says how long they are."""
+        """Wished lengths where a scale, a length of edges or one at each point says how long they are."""
         settings, shapes = self.settings, self._shapes()
-        if settings.edge is not None:
-            return shapes, [it.measures() / float(settings.edge) for it in shapes]
-        share = EVEN if settings.mode == "even" else AS_BEFORE
-        return shapes, [float(settings.scale or 1) * it.lengths(share) for it in shapes]
+        if settings.size is not None:
+            found = [it.sizes() for it in shapes]
+        elif settings.edge is not None:
+            found = [it.measures() / float(settings.edge) for it in shapes]
+        else:
+            share = EVEN if settings.mode == "even" else AS_BEFORE
+            found = [float(settings.scale or 1) * it.lengths(share) for it in shapes]
+        return shapes, [shape.changed(it) for shape, it in zip(shapes, found)]
 
     def _begin_try(self) -> None:
         self.begin(f"bisecting, try {next(self.tries)}", len(self.parts))
@@ -116,9 +133,8 @@ class Chooser:
 
     def _by_shape(self, wished: int) -> Chosen:
         """Lengths by shape, or one scale for all, whichever comes out better."""
-        share = max(1, round(wished / self.halves))
-        found = Options(self.old, share)
-        if self.settings.mode == "shape" and self.density is None:
+        found = Options(self.old, max(1.0, wished / self.halves))
+        if self.settings.mode == "shape" and self.local.is_nowhere:
             self._offer_scale(found, wished)
         shapes = self._shapes()
         shares, flat = self._shares(shapes), [FLAT] * len(shapes)
@@ -131,8 +147,7 @@ class Chooser:
         _, tried, reached = found.best()
         self.begin("remeshing", len(self.parts))
         return _chosen(tried, replace(
-            reached, faces=self.halves * tried.faces, tries=next(self.tries) - 1, strayed=tried.strayed(),
-            because=found.reason(self.halves)))
+            reached, faces=self.halves * tried.faces, tries=next(self.tries) - 1, because=found.reason(self.halves)))
 
     def _offer_scale(self, found: Options, wished: int) -> None:
         """One scale, as the program takes it, and with single chords changed where that misses the number."""
@@ -144,9 +159,9 @@ class Chooser:
         shapes = self._shapes()
         tried = replace(tried, shapes=tuple(shapes), wished=tuple(
             float(reached.scale) * it.layout.old for it in shapes))
-        nearer = met(Trials(self.shop, shapes, self._wish(False)), tried, found.wished)
+        nearer = met(Trials(self.shop, shapes, self._wish(False)), tried, found.wished, found.is_good)
         if nearer is not tried:
-            found.offer(nearer, replace(reached, scale=None, way="one scale, with single rows of faces more or less"))
+            found.offer(nearer, replace(reached, scale=None, way="one scale, with some rows of faces more or less"))
 
     def _shares(self, shapes: Sequence[Shape]) -> list[Shares]:
         if self.settings.mode == "even":
@@ -159,31 +174,34 @@ class Chooser:
         self, found: Options, shapes: list[Shape], shares: list[Shares], is_merged: bool = False
     ) -> None:
         """Lengths by shape, as they come nearest by one multiplier, and with single chords changed."""
-        is_capped = self.density is None and found.wished <= self.old.face_count
+        is_capped = self.local.density is None and found.wished <= self.old.face_count
         trials = Trials(self.shop, shapes, self._wish(is_merged), is_capped)
         lengths = [it.lengths(share) for it, share in zip(shapes, shares)]
         first = Multiplying(trials, lengths, found.wished, self._begin_try).nearest()
         found.offer(first, MERGED if is_merged else BY_SHAPE)
-        nearer = met(trials, first, found.wished)
+        nearer = met(trials, first, found.wished, found.is_good)
         if nearer is not first:
             found.offer(nearer, MERGED if is_merged else BY_SHAPE)
 
     def _within(self, distance: float) -> Chosen:
         """The coarsest mesh that is about within a distance of the old surface, and the old one within that of it."""
         shapes = self._shapes()
-        trials = Trials(self.shop, shapes, self._wish(False), self.density is None)
+        trials = Trials(self.shop, shapes, self._wish(False), self.local.density is None)
         lengths = [it.lengths(share) for it, share in zip(shapes, self._shares(shapes))]
         tried, because = coarsest_within(trials, lengths, self.old, distance, self._begin_try)
-        return _chosen(tried, Reached(None, self.halves * tried.faces, next(self.tries) - 1, because, BY_SHAPE.way,
-                                      tried.strayed()))
+        return _chosen(tried, Reached(None, self.halves * tried.faces, next(self.tries) - 1, because, BY_SHAPE.way))
 
 
 class Options:
     """Remeshes that were tried for a number of faces, and what each is worth."""
 
-    def __init__(self, old: Mesh, wished: int) -> None:
+    def __init__(self, old: Mesh, wished: float) -> None:
         self.old, self.wished = old, wished
         self.found: list[tuple[Worth, Tried, Reached]] = []
+
+    def is_good(self, tried: Tried) -> bool:
+        """Whether a remesh has no more inverted faces than the first."""
+        return not self.found or quality_of(tried.mesh()).inverted <= self.found[0][0].inverted
 
     def offer(self, tried: Tried, reached: Reached) -> None:
         """With merged patches that are much farther a number is hardly nearer."""
@@ -224,4 +242,5 @@ class Options:
 
 
 def _chosen(tried: Tried, reached: Reached) -> Chosen:
+    reached = replace(reached, strayed=tried.strayed(), beyond=tried.beyond())
     return Chosen(tried.parts, tried.texts, tried.wish, reached)

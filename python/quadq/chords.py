@@ -13,7 +13,7 @@ from typing import Iterator, Optional
 import numpy as np
 
 from .arrays import Array
-from .layout import SIDES, Layout
+from .layout import Layout
 
 START = 0.02
 """What each arc of a chord costs, besides how much farther from its wish it comes."""
@@ -39,15 +39,9 @@ class Chords:
 
     def __init__(self, layout: Layout, lengths: Array, wished: Array, floor: int) -> None:
         self.lengths, self.wished, self.floor = lengths, np.maximum(wished, 1e-9), floor
-        sides = int(layout.sides.max(initial=-1)) + 1
-        order = np.argsort(layout.side_of, kind="stable")
-        self.arc_of_use = layout.arc_of[order].tolist()
-        side_of_use = layout.side_of[order]
-        self.side_of_use = side_of_use.tolist()
-        self.first = np.searchsorted(side_of_use, np.arange(sides + 1)).tolist()
-        across = np.zeros(sides, dtype=np.int64)
-        across[layout.sides] = np.roll(layout.sides, SIDES // 2, axis=1)
-        self.across = across.tolist()
+        self.arc_of_use = layout.cut.uses.tolist()
+        self.side_of_use = layout.side_of_use.tolist()
+        self.first = np.concatenate([[0], np.cumsum(layout.cut.uses_of_sides)]).tolist()
         uses: list[list[int]] = [[] for _ in range(len(lengths))]
         for use, arc in enumerate(self.arc_of_use):
             uses[arc].append(use)
@@ -122,7 +116,8 @@ class Chords:
         if use == BOUNDARY:
             return
         side = self.side_of_use[use]
-        across = self.across[side]
+        # Of the four sides of a patch the second behind or before.
+        across = side ^ 2
         for it in range(self.first[across], self.first[across + 1]):
             yield it, sign
         for it in range(self.first[side], self.first[side + 1]):

@@ -3,7 +3,7 @@
 from __future__ import annotations
 
 import math
-from itertools import combinations
+from itertools import combinations_with_replacement
 from typing import Callable, Iterator, Optional, Sequence
 
 import numpy as np
@@ -23,16 +23,18 @@ FAR = 0.2
 """A part of the wished number: where it is off by more, no single chords bring it near."""
 ROUNDS = 3
 """How often chords are looked for, one time after the other."""
-SINGLE = 40
-"""How many chords are tried in pairs."""
-RUNS = 5
-"""How many lists of lengths are tried at most, where an edge would be there twice."""
+TOGETHER = (1 << 20, 40, 16, 8)
+"""How many chords are tried alone, in pairs, by three and by four: those that cost least."""
+AT_A_TIME = 256
+"""How many combinations of chords are looked at together: it bounds the memory."""
+RUNS = 8
+"""How many lists of lengths are tried at most, where an edge would be there twice or faces be inverted."""
 
 
 class Multiplying:
     """The multipliers that were tried so far. Texts are kept of the nearest alone."""
 
-    def __init__(self, trials: Trials, lengths: Sequence[Array], wished: int, begin: Callable[[], None]) -> None:
+    def __init__(self, trials: Trials, lengths: Sequence[Array], wished: float, begin: Callable[[], None]) -> None:
         self.trials, self.lengths, self.wished, self.begin = trials, list(lengths), wished, begin
         self.counts: dict[float, float] = {}
         self.best: Optional[Tried] = None
@@ -113,44 +115,61 @@ class Multiplying:
                 high = middle
 
 
-def met(trials: Trials, found: Tried, wished: int) -> Tried:
-    """A remesh with single chords longer or shorter, until the number of faces is met within a hundredth, or no chord
-    brings it nearer: those that come least far from the first wishes."""
+def met(trials: Trials, found: Tried, wished: float, is_good: Callable[[Tried], bool] = lambda it: True) -> Tried:
+    """A remesh with some chords longer or shorter, until the number of faces is met within a hundredth, or no chords
+    bring it nearer: those that come least far from the first wishes, and are good if any are that were tried."""
     for _ in range(ROUNDS):
         if not found.fits_shapes or not NEAR * wished < abs(found.faces - wished) <= FAR * wished:
             break
-        nearer = _nearer(trials, found, wished)
+        nearer = _nearer(trials, found, wished, is_good)
         if nearer is None:
             break
         found = nearer
     return found
 
 
-def _nearer(trials: Trials, found: Tried, wished: int) -> Optional[Tried]:
+def _nearer(trials: Trials, found: Tried, wished: float, is_good: Callable[[Tried], bool]) -> Optional[Tried]:
+    first: Optional[Tried] = None
     for _, lengths in zip(range(RUNS), _changes(found, wished)):
         tried = trials.at([it.astype(float) for it in lengths], found.wished)
         if all(np.array_equal(one, other) for one, other in zip(tried.lengths, lengths)):
-            return tried
-    return None
+            if is_good(tried):
+                return tried
+            first = tried if first is None else first
+    return first
 
 
-def _changes(found: Tried, wished: int) -> Iterator[list[Array]]:
-    """Lengths of all parts with one chord changed, or two: those that meet the number by least cost, then those that
-    come nearer, the nearest first."""
-    every = [chords_of(shape.layout, now, first, floor) for shape, now, first, floor
-             in zip(found.shapes, found.lengths, found.wished, found.floors)]
-    options: list[tuple[int, float, float, int, tuple[int, ...]]] = []
+def _changes(found: Tried, wished: float) -> Iterator[list[Array]]:
+    """Lengths of all parts with some chords of one part changed: those that meet the number by how many chords these
+    are and how far they come from the wishes, then those that come nearer, the nearest first."""
+    options: list[tuple[bool, float, float, int, Array]] = []
     gap = abs(found.faces - wished)
-    for place, chords in enumerate(every):
-        layout, now = found.shapes[place].layout, found.lengths[place]
-        faces, floor = layout.faces(now), np.minimum(now, found.floors[place])
-        singles: list[tuple[int, ...]] = [(it,) for it in range(len(chords))]
-        for some in singles + list(combinations(range(min(len(chords), SINGLE)), 2)):
-            after = now + sum(chords[it].change for it in some)
-            off = abs(found.faces - faces + layout.faces(after) - wished)
-            if off < gap and np.all(after >= floor):
-                cost, is_met = sum(chords[it].cost for it in some), off <= NEAR * wished
-                options.append((len(some) if is_met else 3, cost if is_met else off, cost, place, some))
-    for _, _, _, place, some in sorted(options):
-        change = sum(every[place][it].change for it in some)
+    for place, (shape, now, first, floor) in enumerate(zip(found.shapes, found.lengths, found.wished, found.floors)):
+        chords = chords_of(shape.layout, now, first, floor)
+        changes = np.array([it.change for it in chords], dtype=np.int64).reshape(-1, len(now))
+        costs = np.array([it.cost for it in chords])
+        wide = shape.layout.widths(changes.T).transpose(2, 0, 1) if len(chords) else np.zeros((0, 0, 2))
+        before = shape.layout.widths(now)
+        for some in _combinations(len(chords)):
+            after = found.faces + (before + wide[some].sum(axis=1)).prod(axis=2).sum(axis=1) - before.prod(axis=1).sum()
+            off = np.abs(after - wished)
+            for at in np.flatnonzero((off < gap) & _are_above(now, changes, some, floor)):
+                is_met, cost = bool(off[at] <= NEAR * wished), float(costs[some[at]].sum())
+                rank = float(some.shape[1]) if is_met else float(off[at])
+                options.append((not is_met, rank, cost, place, changes[some[at]].sum(axis=0)))
+    for _, _, _, place, change in sorted(options, key=lambda it: it[:4]):
         yield [it + change if at == place else it for at, it in enumerate(found.lengths)]
+
+
+def _are_above(now: Array, changes: Array, some: Array, floor: int) -> Array:
+    """(combinations,) bool: with which changes together no length falls below the floor, or below what it is."""
+    return np.asarray(np.all(now + changes[some].sum(axis=1) >= np.minimum(now, floor), axis=1))
+
+
+def _combinations(count: int) -> Iterator[Array]:
+    """(n, k) int64 each: the chords that are changed together, some maybe twice: single ones, then pairs, then three
+    and four of the first. What is bounded is how many there are."""
+    for together, first in enumerate(TOGETHER, 1):
+        among = combinations_with_replacement(range(min(count, first)), together)
+        table = np.array(list(among), dtype=np.int64).reshape(-1, together)
+        yield from (it for it in np.array_split(table, -(-len(table) // AT_A_TIME) or 1) if len(it))

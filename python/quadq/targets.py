@@ -46,6 +46,8 @@ class Reached:
     """How lengths were wished, where more than one way was tried."""
     strayed: Optional[float] = None
     """By how many edges all arcs differ from what was wished at first, where lengths were wished arc by arc."""
+    beyond: Optional[tuple[int, int]] = None
+    """How many arcs outside a region have another number of edges, and how many there are, where there is a region."""
 
 
 def nearest_scale(wished: int, faces: int, count_at: Callable[[Fraction], Counted]) -> Reached:

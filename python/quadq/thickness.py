@@ -9,6 +9,7 @@ import numpy as np
 from .arrays import Array
 from .blocks import Blocks, along
 from .errors import WishError
+from .notices import counted
 from .surface import least_in_class, number_in_order
 
 FLAT = 1e-6
@@ -39,6 +40,21 @@ def extruded(blocks: Blocks, thickness: Optional[float]) -> list[Array]:
     names = points_as_one(blocks)
     normals = normals_of(blocks, names)
     return [np.concatenate([it, it + thickness * normals[name]]) for it, name in zip(layers, names)]
+
+
+def folded_in(blocks: Blocks, thickness: Optional[float]) -> tuple[str, ...]:
+    """How many cells are turned inside out where blocks are made so deep, in words, if any are."""
+    count = 0
+    for low, high in extruded(blocks, thickness) if thickness is not None else ():
+        away = high - low
+        up = away[1:, 1:] + away[:-1, :-1] + away[1:, :-1] + away[:-1, 1:]
+        sides = [np.cross(it[1:, 1:] - it[:-1, :-1], it[1:, :-1] - it[:-1, 1:]) for it in (low, high)]
+        is_folded = np.any([np.sum(it * up, axis=2) <= 0 for it in sides], axis=0)
+        count += int(is_folded.sum())
+    if not count:
+        return ()
+    return (f"{counted(count, 'cell')} would be inside out with the thickness {thickness:.4g}, where the surface "
+            "bends: take a smaller one",)
 
 
 def is_plane(blocks: Blocks) -> bool:

@@ -61,6 +61,14 @@ class Tried:
         return float(sum(np.abs(it - np.rint(UNIT * wished) / UNIT).sum()
                          for it, wished in zip(self.lengths, self.wished)))
 
+    def beyond(self) -> Optional[tuple[int, int]]:
+        """How many arcs outside a region have another number of edges, and how many there are; None without a region.
+        """
+        if not self.fits_shapes or all(it.local.region is None for it in self.shapes):
+            return None
+        pairs = [(it != shape.layout.old)[shape.inside == 0] for it, shape in zip(self.lengths, self.shapes)]
+        return sum(int(it.sum()) for it in pairs), sum(map(len, pairs))
+
     def mesh(self) -> Mesh:
         return join([written_mesh(it) for it in self.texts])
 
@@ -76,7 +84,7 @@ class Worth:
     mean: float
 
 
-def worth_of(tried: Tried, old: Mesh, wished: Optional[int]) -> Worth:
+def worth_of(tried: Tried, old: Mesh, wished: Optional[float]) -> Worth:
     """How good a remesh of the mesh is, where so many faces are wished."""
     new = tried.mesh()
     ways = distance_between(new, old), distance_between(old, new)
@@ -94,11 +102,11 @@ class Trials:
         self.shop, self.shapes, self.wish, self.is_capped = shop, tuple(shapes), wish, is_capped
 
     def times(self, lengths: Sequence[Array], factor: float) -> list[Array]:
-        """Lengths for the arcs of each part, so many times as great."""
+        """Lengths for the arcs of each part, so many times as great where they change."""
         longer = [factor * it for it in lengths]
-        if not self.is_capped:
-            return longer
-        return [np.minimum(it, shape.layout.old) for it, shape in zip(longer, self.shapes)]
+        if self.is_capped:
+            longer = [np.minimum(it, shape.layout.old) for it, shape in zip(longer, self.shapes)]
+        return [shape.changed(it) for it, shape in zip(longer, self.shapes)]
 
     def at(self, lengths: Sequence[Array], first: Optional[Sequence[Array]] = None) -> Tried:
         """With these lengths wished for the arcs of each part, in place of those that were wished at first."""

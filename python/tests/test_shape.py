@@ -5,6 +5,7 @@ import io
 import pathlib
 import tempfile
 import unittest
+from unittest import mock
 
 import numpy as np
 
@@ -12,11 +13,10 @@ import quadq
 from quadq import Mesh, Program, Settings, WishError, read_obj, remesh, write_obj
 from quadq.__main__ import main
 from quadq.features import mark_features
-from quadq.layout import layout_of
-from quadq.parts import split
 from quadq.mesh import join
 
 from .shapes import EXAMPLES, drum, grid, moved, plate
+from .test_layout import one_layout
 
 HAS_FIT = Program().has_fit()
 WITH_FIT = unittest.skipUnless(HAS_FIT, "this program has no command `fit`")
@@ -91,7 +91,7 @@ class Together(unittest.TestCase):
             result = remesh(mesh, sharp=30, coarse=True, **wishes)
             self.assertEqual(result.report.command, "fit")
             self.assertLess(result.mesh.face_count, mesh.face_count)
-            layout = layout_of(split(mesh, None, marks)[0].mesh, marks, True)
+            layout = one_layout(mesh, marks, True)
             self.assertEqual(result.report.arcs, len(layout.old))
             self.assertEqual(result.report.sharp[0], 0)
 
@@ -101,7 +101,7 @@ class Together(unittest.TestCase):
             for is_merged in (False, True):
                 for sharp in (None, 30.0):
                     result = remesh(mesh, scale=1, sharp=sharp, coarse=is_merged)
-                    layout = layout_of(mesh, marks if sharp else marks[:0], is_merged)
+                    layout = one_layout(mesh, marks if sharp else marks[:0], is_merged)
                     np.testing.assert_array_equal(result.written[0].lengths, layout.old)
 
     def test_even_edges(self):
@@ -114,6 +114,15 @@ class Together(unittest.TestCase):
             return float(long.std() / long.mean())
 
         self.assertLess(spread(edges), spread(before))
+
+    def test_of_many_faces_one_scale_is_taken_where_still_more_are_wished(self):
+        for many, is_one in ((100, True), (100_000, False)):
+            with mock.patch("quadq.choosing.MANY", many):
+                report = remesh(drum(24, 12), faces=1000).report
+            self.assertEqual(report.way == "", is_one)
+            self.assertAlmostEqual(report.after.faces, 1000, delta=60)
+        with mock.patch("quadq.choosing.MANY", 100):
+            self.assertNotEqual(remesh(drum(24, 12), faces=200).report.way, "")
 
     def test_within_a_distance(self):
         mesh = bent_sheet(40)
