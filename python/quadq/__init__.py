@@ -67,9 +67,10 @@ def read(path: Union[str, os.PathLike[str]], *, polygons: bool = False, program:
     return read_file(Path(path), Program() if program is None else program, polygons)[0]
 
 
-def write(path: Union[str, os.PathLike[str]], mesh: MeshLike) -> tuple[str, ...]:
+def write(path: Union[str, os.PathLike[str]], mesh: MeshLike, *, format: Optional[str] = None) -> tuple[str, ...]:
     """Writes a mesh as a whole file, in the format that its name says, and returns what the format has no word for, in
-    words. Raises a `Refusal` where that fails, and a `WishError` for a format that is not written."""
+    words. A `.msh` file is of version 2.2, and with the format `gmsh` of version 4.1. Raises a `Refusal` where that
+    fails, and a `WishError` for a format that is not written."""
     made = as_mesh(mesh)
-    write_whole(Path(path), bytes_of(Path(path), made))
+    write_whole(Path(path), bytes_of(Path(path), made, form=format))
     return left_out(Path(path), made)

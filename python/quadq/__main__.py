@@ -15,7 +15,7 @@ from .check_command import check_asked, parser_of_check
 from .errors import WishError
 from .features import KINDS
 from .files import remove_stale, write_whole
-from .formats import refuse_format
+from .formats import FORMS, refuse_format
 from .jobs import one_file
 from .levels import level_files, path_of, shares_of
 from .program import Program, find_program
@@ -44,7 +44,7 @@ COMMANDS = {"blocks": Command(parser_of_blocks, write_asked), "check": Command(p
 def parser_of_words() -> argparse.ArgumentParser:
     parser = argparse.ArgumentParser(
         prog=NAME, description="Remeshes quad meshes with the proved program quadq, and checks each part.",
-        usage=f"{NAME} IN.obj OUT.obj (--faces N | --scale P/Q | --edge D | --within E | --lods ..) [..]\n"
+        usage=f"{NAME} IN.obj OUT.obj (--faces N | --scale P/Q | --edge D | --size NAME | --within E | --lods ..) ..\n"
               f"       {NAME} FILES AND FOLDERS.. --out FOLDER (..) [..]")
     parser.add_argument("paths", nargs="+", metavar="FILE", help="IN and OUT; with --out files and folders")
     wish = parser.add_mutually_exclusive_group(required=True)
@@ -54,12 +54,16 @@ def parser_of_words() -> argparse.ArgumentParser:
     wish.add_argument("--lods", metavar="P/Q,P/Q", help="a file for each part of the faces: OUT.lod1.obj and so on")
     wish.add_argument("--within", type=float, metavar="E",
                       help="how far the mesh may be from the old one, about, in the unit of the file")
+    wish.add_argument("--size", metavar="NAME|FILE", help="how long edges are to be at each point: a field of the "
+                      "points, a view of gmsh in .pos or .msh, or a file with a number for each point")
     parser.add_argument("--mode", default="shape", choices=MODES,
                         help="where faces go: where the surface bends, unless one scale for all is better; by one "
                         "scale for all; or so that edges are as long as each other")
     parser.add_argument("--even", dest="mode", action="store_const", const="even", help="the same as --mode even")
-    parser.add_argument("--density", metavar="NAME|FILE", help="how many times denser faces are to be: red, green or "
-                        "blue of the points' colours, or a file with a number for each point")
+    parser.add_argument("--density", metavar="NAME|FILE", help="how many times denser faces are to be: a field of the "
+                        "points, red, green or blue of their colours, or a file with a number for each point")
+    parser.add_argument("--region", metavar="GROUP", help="remesh the faces of this group alone, as far as their rows "
+                        "allow; --faces, --lods, --scale, --edge and --size are for these")
     parser.add_argument("--floor", default="auto", choices=["1", "2", "3", "auto"], help="the least length of an arc")
     parser.add_argument("--weight", default="plain", choices=["plain", "length"], help="how deviations count")
     stay = parser.add_argument_group("edges that stay lines of the new mesh")
@@ -82,6 +86,8 @@ def parser_of_words() -> argparse.ArgumentParser:
                         help="a page with both meshes, to be turned; with --out a folder of pages with an index")
     parser.add_argument("--up", choices=["y", "z"], default="y", help="the axis that points upward in pictures")
     parser.add_argument("--carry", action="store_true", help="keep texture coordinates, normals, names and colours")
+    parser.add_argument("--format", choices=[*FORMS], help="how .msh is written: gmsh22 is version 2.2, which is taken "
+                        "if nothing is said, and gmsh version 4.1")
     parser.add_argument("--out", type=Path, metavar="FOLDER", help="where the remeshed files go, by the same names")
     parser.add_argument("--table", type=Path, metavar="FILE.csv", help="a table of all files")
     parser.add_argument("--log", type=Path, metavar="FILE.jsonl", help="a line of JSON for each file as it ends")
@@ -160,10 +166,10 @@ def settings_of(asked: argparse.Namespace) -> Settings:
     return Settings(
         scale=asked.scale, faces=asked.faces, share=shares_of(asked.lods)[0] if asked.lods else None,
         edge=None if asked.edge is None else as_length(asked.edge), within=asked.within, mode=asked.mode,
-        density=asked.density, floor=asked.floor, weight=asked.weight, sharp=asked.sharp,
-        keep=tuple(asked.keep_edges or ()), corners=asked.corners, coarse=asked.coarse, subdivide=asked.subdivide,
-        mirror=asked.mirror, symmetry=asked.symmetry, round=asked.round, relax=asked.relax, jobs=asked.jobs,
-        folder=asked.keep, carry=asked.carry, free_groups=asked.free_groups)
+        size=asked.size, density=asked.density, region=asked.region, floor=asked.floor, weight=asked.weight,
+        sharp=asked.sharp, keep=tuple(asked.keep_edges or ()), corners=asked.corners, coarse=asked.coarse,
+        subdivide=asked.subdivide, mirror=asked.mirror, symmetry=asked.symmetry, round=asked.round, relax=asked.relax,
+        jobs=asked.jobs, folder=asked.keep, carry=asked.carry, free_groups=asked.free_groups, form=asked.format)
 
 
 def refuse_missing(settings: Settings, program: Program) -> None:
@@ -176,7 +182,7 @@ def refuse_missing(settings: Settings, program: Program) -> None:
 
 def _single(asked: argparse.Namespace, settings: Settings, program: Program) -> int:
     source, out = map(Path, asked.paths)
-    refuse_format(out)
+    refuse_format(out, settings.form)
     progress = Progress(is_quiet=asked.quiet)
     told: list[tuple[Path, Report]] = []
     try:

@@ -66,6 +66,7 @@ class Surface:
 
     def __init__(self, mesh: Mesh) -> None:
         order = np.argsort(_curve(_middles(mesh.points[mesh.quads])), kind="stable")
+        self.order = order
         corners = mesh.points[mesh.quads[order]]
         self.corners = corners
         a, b, c, d = corners.transpose(1, 0, 2)
@@ -83,10 +84,15 @@ class Surface:
 
     def nearest(self, probes: Array) -> Array:
         """(probes, 3) float64: the place of the surface that is nearest to each of (probes, 3) points."""
-        rounds = [self._nearest(probes[at:at + ROUND]) for at in range(0, len(probes), ROUND)]
-        return np.concatenate([np.zeros((0, 3)), *rounds])
+        return self.nearest_faces(probes)[0]
 
-    def _nearest(self, probes: Array) -> Array:
+    def nearest_faces(self, probes: Array) -> tuple[Array, Array]:
+        """The same places, and (probes,) int64 the face in which each lies."""
+        rounds = [self._nearest(probes[at:at + ROUND]) for at in range(0, len(probes), ROUND)]
+        return (np.concatenate([np.zeros((0, 3)), *(places for places, _ in rounds)]),
+                np.concatenate([np.zeros(0, dtype=np.int64), *(faces for _, faces in rounds)]))
+
+    def _nearest(self, probes: Array) -> tuple[Array, Array]:
         who, box = np.arange(len(probes)), np.zeros(len(probes), dtype=np.int64)
         bound = np.full(len(probes), np.inf)
         for at, (low, high, within) in reversed(list(enumerate(self.levels))):
@@ -103,7 +109,8 @@ class Surface:
             who, box = who[kept], box[kept]
         places = _on_quads(probes[who], self.corners[box])
         order = np.lexsort((np.linalg.norm(places - probes[who], axis=1), who))
-        return np.asarray(places[order[np.searchsorted(who[order], np.arange(len(probes)))]])
+        first = order[np.searchsorted(who[order], np.arange(len(probes)))]
+        return places[first], self.order[box[first]]
 
 
 def _middles(corners: Array) -> Array:

@@ -26,12 +26,12 @@ KINDS = {
 }
 """What may tell that an edge is a feature, besides an angle."""
 REASONS = (
-    "by angle", "between groups", "at seams", "by normals", "by lines", "at corners of the boundary",
-    "at turns of lines", "where groups of edges meet",
+    "by angle", "between groups", "at seams", "by normals", "by lines", "around the region",
+    "at corners of the boundary", "at turns of lines", "where groups of edges meet",
 )
 """Why an edge is marked, in the order in which edges are marked: the first reason counts. The last is that of
 `groups.py`."""
-ANGLE, GROUPS, SEAMS, NORMALS, LINES, CORNERS, TURNS, MEETINGS = range(len(REASONS))
+ANGLE, GROUPS, SEAMS, NORMALS, LINES, RIM, CORNERS, TURNS, MEETINGS = range(len(REASONS))
 TURN = 30.0
 """Degrees: where lines turn by more they have a corner, if no angle is given."""
 NEAR = 1e-9
@@ -69,9 +69,10 @@ def find_features(
 
 
 def mark_features(
-    mesh: Mesh, angle: Optional[float] = 30.0, *, kinds: Collection[str] = (), corners: bool = True
+    mesh: Mesh, angle: Optional[float] = 30.0, *, kinds: Collection[str] = (), corners: bool = True,
+    rim: Optional[Array] = None
 ) -> Marks:
-    """The same edges as tables."""
+    """The same edges as tables; with those of a table (edges,) bool besides."""
     marking = _Marking(mesh)
     if angle is not None:
         marking.mark_angles(angle)
@@ -83,6 +84,8 @@ def mark_features(
         marking.mark_normals(mesh.normal)
     if "lines" in kinds:
         marking.mark_lines()
+    if rim is not None:
+        marking.mark(np.flatnonzero(rim), np.flatnonzero(rim), RIM)
     if corners:
         turn = TURN if angle is None else angle
         marking.mark_boundary_corners(turn)

@@ -66,7 +66,7 @@ def one_file(
         mesh, text = read_file(source, program, settings.subdivide)
         result = run(mesh, settings, program, text, tell)
         tell("writing", 0, 1)
-        data = bytes_of(target, result.mesh, result.text)
+        data = bytes_of(target, result.mesh, result.text, settings.form)
         result = result.with_words("not-written", left_out(target, result.mesh))
         if makes_folder:
             make_folder(target.parent)

@@ -43,7 +43,7 @@ def level_files(
         for path, share in zip(paths, shares):
             result = run(mesh, replace(settings, share=share), program, text, tell)
             tell("writing", 0, 1)
-            write_whole(path, bytes_of(path, result.mesh, result.text))
+            write_whole(path, bytes_of(path, result.mesh, result.text, settings.form))
             left.remove(path)
             yield path, result
     except Refusal:

@@ -4,7 +4,7 @@ from __future__ import annotations
 
 from dataclasses import dataclass, field, replace
 from functools import cached_property
-from typing import Optional, Sequence
+from typing import Any, Optional, Sequence
 
 import numpy as np
 from numpy.typing import ArrayLike
@@ -169,6 +169,13 @@ class Mesh:
         ends = self.starts[1:][self.sides > 0] - 1
         after[ends] = self.starts[:-1][self.sides > 0]
         return after
+
+    def changed(self, **changes: Any) -> Mesh:
+        """The same with other values, as `dataclasses.replace` has it. Of the same faces edges are not found again."""
+        made = replace(self, **changes)
+        if "edges" in self.__dict__ and made.corners is self.corners and made.starts is self.starts:
+            made.__dict__["edges"] = self.edges
+        return made
 
     @cached_property
     def edges(self) -> Edges:

@@ -51,9 +51,17 @@ def read_obj(text: Union[str, bytes]) -> Mesh:
             raise MeshError(f"{text!r} is the name of a file, and no text: quadq.read takes names")
         text = text.encode("utf-8", "surrogateescape")
     try:
-        return scan(text).mesh()
+        return scanned_mesh(scan(text), text)
     except Unlike:
-        return _word_by_word(text)
+        return word_by_word(text)
+
+
+def scanned_mesh(found: Scan, text: bytes) -> Mesh:
+    """The mesh of a text whose lines were looked at. Raises a `FormatError` as `read_obj` does."""
+    try:
+        return found.mesh()
+    except Unlike:
+        return word_by_word(text)
 
 
 def scan(text: bytes) -> Scan:
@@ -286,7 +294,8 @@ def numbers_of(text: bytes, letters: bytes, kind: type = np.float64) -> Array:
     return np.asarray(numbers)
 
 
-def _word_by_word(text: bytes) -> Mesh:
+def word_by_word(text: bytes) -> Mesh:
+    """The mesh of a text of any form. Raises a `FormatError` as `read_obj` does."""
     tool = carried("obj_text")
     try:
         obj = tool.read_obj(text, polygons=True)

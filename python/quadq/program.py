@@ -130,18 +130,9 @@ class Program:
             raise Refusal(STRANGE, f"check said: {said.strip()[:80]}")
         return Verdict(*map(int, found.groups()))
 
-    def layout(self, text: bytes, keeps: bool, is_merged: bool) -> str:
-        """The cut over which a mesh is remeshed, beside the lines of the text or without them."""
-        words = ["--keep", "lines" if keeps else "none", "--patches", "merged" if is_merged else "traced"]
-        return self._run(["layout", *words], text).decode(errors="replace")
-
-    def map(self, old: bytes, new: bytes) -> str:
+    def map(self, old: bytes, new: bytes) -> bytes:
         """Where the vertices and faces lie of what a command wrote for a text. It is judged anew."""
-        return self._run(["map"], b"\n".join([old, new])).decode(errors="replace")
-
-    def graph(self, text: bytes) -> str:
-        """The motorcycle graph and its patches."""
-        return self._run(["graph"], text).decode(errors="replace")
+        return self._run(["map"], b"\n".join([old, new]))
 
     def tidy(self, text: bytes) -> bytes:
         """The mesh in the plain form."""

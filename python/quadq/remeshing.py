@@ -13,16 +13,17 @@ import numpy as np
 
 from . import mirror as mirroring
 from .arrays import Array
-from .attributes import map_of
+from .attributes import map_of, maps_of
 from .bringing import brought_over
 from .carrier import Carrier
 from .choosing import Chooser, Chosen
 from .conversions import MeshLike, as_mesh
-from .density import GIVEN, density_of
+from .density import for_region, local_of, with_sizes
 from .distance import distance_between
 from .errors import WishError
 from .features import ANGLE, mark_features
-from .groups import marks_of_groups, with_meetings
+from .groups import keeping_groups, with_meetings
+from .local import NOWHERE, Local
 from .losses import SHARP, dropped_of, lost_edges, lost_mirrors
 from .mesh import NONE, Mesh
 from .notices import counted
@@ -31,122 +32,107 @@ from .parts import NO_MARKS, Part, Workshop, Written, keep, put_together, split
 from .patches import patches_under
 from .plain import written_mesh
 from .program import FIT, RAISED, Program
-from .reading import divided, refuse_other, told_of_old
+from .reading import divided, refuse_other, refuse_polygons, told_of_old
 from .refusal import NOT_QUAD, SYNTAX, Refusal
 from .relaxing import relax
 from .results import Counts, Report, Result
 from .rounding import curved, rounded
 from .scaling import factor_of
-from .settings import Settings, as_length, as_scale_wish
-from .subdivision import at_divided, in_quads
+from .settings import GIVEN, Settings, as_length, as_scale_wish
+from .subdivision import in_quads
 from .symmetry import Image, SeamOpens, image_of, named_as_image, refuse_open_seam, refuse_worse, why_none
 
 Tell = Callable[[str, int, int], None]
 """Is told the step, how many things are done, and how many there are."""
 
 
+Share = Union[Fraction, float, str, None]
+"""A part of something: `1/2`, or its value."""
+AtPlaces = Union[Array, str, None]
+"""What is wished at points or faces, or where that stands."""
+
+
 def remesh(
-    mesh: MeshLike,
-    *,
-    scale: Union[Fraction, float, str, None] = None,
-    faces: Optional[int] = None,
-    share: Union[Fraction, float, str, None] = None,
-    edge: Union[Decimal, float, str, None] = None,
-    within: Optional[float] = None,
-    mode: str = "shape",
-    density: Union[Array, str, None] = None,
-    floor: Union[int, str] = "auto",
-    weight: str = "plain",
-    sharp: Optional[float] = None,
-    keep: Iterable[str] = (),
-    corners: bool = True,
-    coarse: bool = False,
-    subdivide: bool = False,
-    mirror: Optional[str] = None,
-    symmetry: Optional[str] = None,
-    round: bool = False,
-    relax: int = 0,
-    carry: bool = False,
-    free_groups: bool = False,
-    rescale: bool = False,
-    jobs: int = 0,
-    folder: Optional[Path] = None,
-    timeout: Optional[float] = None,
-    program: Optional[Program] = None,
-    text: Optional[bytes] = None,
-    tell: Tell = lambda step, done, total: None,
+    mesh: MeshLike, *, scale: Share = None, faces: Optional[int] = None, share: Share = None,
+    edge: Union[Decimal, float, str, None] = None, within: Optional[float] = None,
+    size: Union[Callable[[Array], Array], AtPlaces] = None, mode: str = "shape", density: AtPlaces = None,
+    region: AtPlaces = None, floor: Union[int, str] = "auto", weight: str = "plain", sharp: Optional[float] = None,
+    keep: Iterable[str] = (), corners: bool = True, coarse: bool = False, subdivide: bool = False,
+    mirror: Optional[str] = None, symmetry: Optional[str] = None, round: bool = False, relax: int = 0,
+    carry: bool = False, free_groups: bool = False, rescale: bool = False, jobs: int = 0,
+    folder: Optional[Path] = None, timeout: Optional[float] = None, program: Optional[Program] = None,
+    text: Optional[bytes] = None, tell: Tell = lambda step, done, total: None,
 ) -> Result:
     """The mesh remeshed part by part: a `Mesh`, a pair of points and faces, or one of another package. Each part was
     accepted by `check`, or by `map` where another command wrote it.
 
     `scale` is how long each edge of the patches is to be, as a part of its old length; or `faces` is how many faces the
-    mesh is to have, `share` which part of those that it has, `edge` how long edges are to be, or `within` how far the
-    new mesh may be from the old one, in the unit of the mesh. `sharp` and `keep` tell which edges stay. `density` is
-    how many times denser faces are to be at each point (points,), or where that stands. The other wishes are those of
-    `Settings`. `text` is the OBJ text that the mesh was read from, if it is at hand: then the certificate is of it.
-    `timeout` is how many seconds the program may take. Raises a `Refusal` that names the place, a `WishError` for wrong
-    wishes, and a `MeshError` for arrays that are no mesh, or a text of another one.
+    mesh is to have, `share` which part of those that it has, `edge` how long edges are to be, `size` how long they are
+    to be at each point, or `within` how far the new mesh may be from the old one, in the unit of the mesh. A size is an
+    array (points,), a function of places (points, 3), or where it stands. `sharp` and `keep` tell which edges stay.
+    `density` is how many times denser faces are to be at each point (points,), or where that stands. `region` has the
+    faces that alone are to change: (faces,) bool, their numbers, or a group; then a number of faces, a share, a scale
+    or a length is wished of them. The other wishes are those of `Settings`. `text` is the OBJ text that the mesh was
+    read from, if it is at hand: then the certificate is of it. `timeout` is how many seconds the program may take.
+    Raises a `Refusal` that names the place, a `WishError` for wrong wishes, and a `MeshError` for arrays that are no
+    mesh, or a text of another one.
     """
     settings = Settings(
-        scale=None if scale is None else as_scale_wish(scale), faces=faces,
-        share=None if share is None else as_scale_wish(share), edge=None if edge is None else as_length(edge),
-        within=within, mode=mode,
-        density=density if density is None or isinstance(density, str) else GIVEN, floor=floor, weight=weight,
-        sharp=sharp, keep=tuple(keep), corners=corners, coarse=coarse, subdivide=subdivide, mirror=mirror,
-        symmetry=symmetry, round=round, relax=relax, jobs=jobs, folder=folder, carry=carry, free_groups=free_groups,
-        rescale=rescale)
+        scale=_part(scale), faces=faces, share=_part(share), edge=None if edge is None else as_length(edge),
+        within=within, size=_where(size), mode=mode, density=_where(density), region=_where(region), floor=floor,
+        weight=weight, sharp=sharp, keep=tuple(keep), corners=corners, coarse=coarse, subdivide=subdivide,
+        mirror=mirror, symmetry=symmetry, round=round, relax=relax, jobs=jobs, folder=folder, carry=carry,
+        free_groups=free_groups, rescale=rescale)
     runner = (Program() if program is None else program).within(timeout)
     mesh = as_mesh(mesh)
     mesh.refuse_strange()
     if text is not None:
         refuse_other(mesh, text, runner)
-    given = None if density is None or isinstance(density, str) else np.asarray(density, dtype=float)
-    return run(mesh, settings, runner, text, tell, given)
+    at_points = size(mesh.points) if callable(size) else size
+    at_places = (None if it is None or isinstance(it, str) else np.asarray(it) for it in (density, at_points, region))
+    return run(mesh, settings, runner, text, tell, Local(*at_places))
+
+
+def _part(wish: Share) -> Optional[Fraction]:
+    return None if wish is None else as_scale_wish(wish)
+
+
+def _where(wish: object) -> Optional[str]:
+    """What stands in settings for a wish at places that may be given."""
+    return wish if wish is None or isinstance(wish, str) else GIVEN
 
 
 def run(
-    mesh: Mesh, settings: Settings, program: Program, text: Optional[bytes], tell: Tell, density: Optional[Array] = None
+    mesh: Mesh, settings: Settings, program: Program, text: Optional[bytes], tell: Tell, given: Local = NOWHERE
 ) -> Result:
     """`remesh` with settings that are made already, of a mesh that was read from the text. Meshes of small or great
     units are scaled for the program, and back."""
-    settings = settings.for_faces(mesh.face_count)
     if settings.needs_fit and not program.has_fit():
         raise WishError(f"{settings.in_words} want the command `{FIT}`, which this program does not have")
-    if settings.density is not None:
-        density = density_of(mesh, settings.density, density)
+    local = local_of(mesh, settings, given)
+    settings = settings.for_faces(mesh.face_count) if local.region is None else for_region(settings, mesh, local.region)
     if not mesh.face_count:
         raise Refusal(NOT_QUAD, "no faces")
     wrong = np.flatnonzero(~np.isfinite(mesh.points).all(axis=1))
     if len(wrong):
         raise Refusal(SYNTAX, f"vertex {wrong[0] + 1}: a coordinate is no number", (), wrong.tolist())
-    settings = _with_groups(mesh, settings, program)
+    settings = keeping_groups(settings, mesh, program)
     factor = factor_of(mesh, settings.rescale)
     if factor == 1:
-        return _Work(mesh, settings.times(1.0), program, tell, density).result(text)
-    scaled = replace(mesh, points=mesh.points * factor)
-    return _Work(scaled, settings.times(factor), program, tell, density).result(None).times(1 / factor)
-
-
-def _with_groups(mesh: Mesh, settings: Settings, program: Program) -> Settings:
-    """The settings, with what has to stay so that the groups of a mesh come back, where the command can keep edges."""
-    if not mesh.is_grouped or settings.free_groups:
-        return settings
-    if (settings.coarse or settings.edge is not None) and not program.has_fit():
-        return settings
-    if not settings.is_creased and not len(marks_of_groups(mesh, settings.corners).edges):
-        return settings
-    return replace(settings, keep=tuple(dict.fromkeys((*settings.keep, "groups", "lines"))))
+        return _Work(mesh, settings.times(1.0), program, tell, local).result(text)
+    scaled = mesh.changed(points=mesh.points * factor)
+    return _Work(scaled, settings.times(factor), program, tell, local.times(factor)).result(None).times(1 / factor)
 
 
 class _Work:
     """One mesh on its way."""
 
     def __init__(
-        self, mesh: Mesh, settings: Settings, program: Program, tell: Tell, density: Optional[Array] = None
+        self, mesh: Mesh, settings: Settings, program: Program, tell: Tell, local: Local = NOWHERE
     ) -> None:
         self.mesh = mesh
         self.settings = settings
-        self.given = self.density = density
+        self.given = self.local = local
         self.program = program
         self.tell = tell
         self.step = ""
@@ -185,7 +171,7 @@ class _Work:
     def _result(self, text: Optional[bytes]) -> Result:
         self._begin("cutting into parts")
         parts = self._parts(text)
-        chosen = Chooser(parts, self.settings, self.shop, self._begin, self.density, self._halves()).chosen()
+        chosen = Chooser(parts, self.settings, self.shop, self._begin, self.local, self._halves()).chosen()
         parts = chosen.parts
         if self.image is not None and self.settings.symmetry is None and chosen.reached.because:
             raise SeamOpens(f"two halves would have {chosen.reached.faces} faces: {chosen.reached.because}")
@@ -205,15 +191,15 @@ class _Work:
         text = written[0].text if is_as_written else None
         done = Result(new, report, text, tuple(parts), tuple(written), self.mesh, self.ready, self.program, owners,
                       carrier, over, self.image)
-        return brought_over(done)
+        return with_sizes(brought_over(done), self.given.size)
 
     def _parts(self, text: Optional[bytes]) -> list[Part]:
         mesh = self.mesh
         if self.settings.subdivide:
             ready, text = divided(mesh, self.program), None
             mesh = self.ready = ready
-            self.density = None if self.given is None else at_divided(self.mesh, self.given)
-        _refuse_polygons(mesh)
+            self.local = self.given.divided(self.mesh)
+        refuse_polygons(mesh)
         self._find_image(mesh)
         marks, axis = self._marks(mesh), self._axis()
         if axis is None:
@@ -228,7 +214,7 @@ class _Work:
     def _refuse_worse_halves(self, new: Mesh) -> None:
         """Raises `SeamOpens` where no symmetry was wished and two halves are worse than the whole by one scale."""
         settings = self.settings
-        if self.image is None or settings.symmetry is not None or settings.faces is None:
+        if self.image is None or settings.symmetry is not None or settings.faces is None or settings.region is not None:
             return
         parts = split(self.ready, None, self._marks(self.ready))
         by_scale = replace(settings, mode="scale", density=None)
@@ -242,7 +228,7 @@ class _Work:
         is_wished = settings.symmetry is not None or (settings.is_by_shape and self.program.has_fit())
         if is_wished and settings.symmetry != "off" and settings.mirror is None:
             wished = settings.symmetry or "auto"
-            self.image = image_of(mesh, wished)
+            self.image = image_of(mesh, wished, self.local)
             self.said = why_none(mesh, wished) if self.image is None else ""
 
     def _marks(self, mesh: Mesh) -> Array:
@@ -250,7 +236,8 @@ class _Work:
         settings = self.settings
         if not settings.is_creased:
             return NO_MARKS
-        found = mark_features(mesh, settings.sharp, kinds=settings.keep, corners=settings.corners)
+        found = mark_features(mesh, settings.sharp, kinds=settings.keep, corners=settings.corners,
+                              rim=self.local.rim(mesh))
         if mesh.is_grouped and not settings.free_groups:
             found = with_meetings(mesh, found)
         self.marks = found.in_words()
@@ -286,10 +273,9 @@ class _Work:
         """The new meshes with their points on the curved surface behind the old mesh, and no moves."""
         self._begin("rounding", len(parts))
         surface = curved(self.ready, self._marks(self.ready), self.settings.sharp)
-        text_of = {id(part): it.text for part, it in zip(parts, written)}
-        maps = self.shop.each(parts, lambda part: self.program.map(part.text, text_of[id(part)]))
-        return [rounded(it.mesh(), surface, part, text, self._axis())
-                for part, it, text in zip(parts, written, maps)], 0
+        maps = maps_of(parts, written, self.shop)
+        return [rounded(it.mesh(), surface, given.moved(part.points, part.faces), self._axis())
+                for part, it, given in zip(parts, written, maps)], 0
 
     def _put_together(
         self, parts: list[Part], written: list[Written], meshes: list[Mesh]
@@ -300,7 +286,7 @@ class _Work:
         if not self.settings.carry:
             return self._with_names(self._whole(new), new, parts, meshes), None, None
         self._begin("carrying over", len(parts))
-        given, axis = map_of(parts, written, meshes, self.shop), self._axis()
+        given, axis = map_of(parts, written, self.shop), self._axis()
         if self.image is not None:
             given = given.with_image(self.image.points, self.image.darts, mirroring.sewn(new, self.image.axis))
             carrier = Carrier(self.mesh, self.ready, self._whole(new), given)
@@ -365,6 +351,7 @@ class _Work:
             within=self.settings.within,
             way=chosen.reached.way,
             strayed=chosen.reached.strayed,
+            beyond=chosen.reached.beyond,
             marks=self.marks,
             floor=self.settings.floor,
             weight=self.settings.weight,
@@ -378,7 +365,7 @@ class _Work:
                        and str(self.settings.floor) == "auto"),
             diagonal=float(np.linalg.norm(np.ptp(self.mesh.points[self.mesh.used], axis=0))),
             sharp=lost_edges(old, new, after.mean_edge, self.sharp),
-            mirrors=lost_mirrors(old, new),
+            mirrors=lost_mirrors(old, new) if self.local.is_nowhere or self.image is not None else "",
             dropped=self._dropped(parts),
             is_round=self.settings.round,
         )
@@ -388,10 +375,3 @@ def _sum(deviations: list[Optional[int]]) -> Optional[int]:
     """Of all parts together, where each is known."""
     known = [it for it in deviations if it is not None]
     return sum(known) if len(known) == len(deviations) else None
-
-
-def _refuse_polygons(mesh: Mesh) -> None:
-    wrong = np.flatnonzero(mesh.sides != 4)
-    if len(wrong):
-        others = f", and {len(wrong) - 1} more are no quads" if len(wrong) > 1 else ""
-        raise Refusal(4, f"face {wrong[0] + 1}: {mesh.sides[wrong[0]]} corners{others}", wrong.tolist())

@@ -2,6 +2,7 @@
 
 from __future__ import annotations
 
+import os
 from dataclasses import dataclass, replace
 from decimal import Decimal
 from fractions import Fraction
@@ -9,18 +10,19 @@ from functools import cached_property
 from typing import Optional, Sequence, Union
 
 from .arrays import Array
+from .attributes import map_of
 from .carrier import Carrier
 from .distance import Distance
 from .mesh import Mesh
 from .notices import Notice, notices_of
-from .parts import Part, Written
+from .parts import Part, Workshop, Written
 from .program import Program
 from .quality import Quality, quality_of
 from .scaling import mean_edge
 from .subdivision import in_quads
 from .surface import irregular_counts
 from .symmetry import Image
-from .under import Made, map_of_part, under_of
+from .under import Made, under_of
 
 
 @dataclass(frozen=True)
@@ -96,10 +98,16 @@ class Report:
     """The fields of the old mesh that came over, or nothing."""
     within: Optional[float] = None
     """The distance that was asked for, if it was."""
+    sized: Optional[float] = None
+    """Where lengths of edges were asked for point by point: how many of the edges have that length within a fifth, as a
+    part of them."""
     way: str = ""
     """How lengths were wished, where more than one way was tried."""
     strayed: Optional[float] = None
     """By how many edges all arcs differ from what was wished at first, where lengths were wished arc by arc."""
+    beyond: Optional[tuple[int, int]] = None
+    """Where a region was to change alone: how many arcs outside have another number of edges, and how many there are.
+    """
     factor: float = 1.0
     """How many times as large the mesh was made for the program, which rounds to millionths."""
 
@@ -159,6 +167,7 @@ class Report:
             ("wished faces", None if self.wished is None else str(self.wished)),
             ("wished length of edges", None if self.edge is None else f"{self.edge:f}"),
             ("wished distance", None if self.within is None else f"{self.within:.6g}"),
+            ("edges within a fifth of their wish", None if self.sized is None else f"{self.sized:.0%}"),
             ("lengths", self.way or None),
             ("scale", None if self.scale is None else f"{self.scale.numerator}/{self.scale.denominator}"),
             ("command", self.command if self.command != "remesh" else None),
@@ -217,8 +226,8 @@ class Result:
     @cached_property
     def made(self) -> Made:
         """Both meshes, and where the new one lies in the old one, by the maps of its parts."""
-        maps = [map_of_part(part, it, self.program) for part, it in zip(self.parts, self.written)]
-        return Made(self.mesh, self.old, self.ready, self.owners, under_of(self.parts, maps, self.mesh, self.image))
+        given = map_of(self.parts, self.written, Workshop(self.program, os.cpu_count() or 1))
+        return Made(self.mesh, self.old, self.ready, self.owners, under_of(given, self.mesh, self.ready, self.image))
 
     def __repr__(self) -> str:
         return f"<quadq.Result: {self.report.summary()}>"
@@ -239,7 +248,7 @@ class Result:
             return self
 
         def longer(mesh: Mesh) -> Mesh:
-            return replace(mesh, points=mesh.points * factor)
+            return mesh.changed(points=mesh.points * factor)
 
         return replace(self, mesh=longer(self.mesh), report=self.report.times(factor), text=None,
                        parts=tuple(replace(it, mesh=longer(it.mesh)) for it in self.parts), old=longer(self.old),

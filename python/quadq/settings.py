@@ -17,13 +17,15 @@ FAR = Decimal(10) ** 9
 """Edges are shorter than this."""
 SYMMETRIES = (*mirroring.AXES, "auto", "off")
 MODES = ("shape", "scale", "even")
+GIVEN = "given"
+"""Stands in settings for an array."""
 LEAST = Decimal("0.000001")
 """The shortest length of edges that the program takes."""
 
 
 @dataclass(frozen=True)
 class Settings:
-    """How a mesh is to be remeshed. One of `scale`, `faces`, `share`, `edge` and `within` is given."""
+    """How a mesh is to be remeshed. One of `scale`, `faces`, `share`, `edge`, `within` and `size` is given."""
 
     scale: Optional[Fraction] = None
     faces: Optional[int] = None
@@ -36,8 +38,14 @@ class Settings:
     mode: str = "shape"
     """Of a number of faces or a distance: `shape`, more faces where the surface bends, if the program takes such
     wishes, and one scale for all where that is better; `scale`, one scale for all; `even`, edges of one length."""
+    size: Optional[str] = None
+    """How long edges are to be at each point, in the unit of the mesh: a field of the points, or a file."""
     density: Optional[str] = None
-    """How many times denser faces are to be at each point: a colour of the points, or a file with a number for each."""
+    """How many times denser faces are to be at each point: a field or a colour of the points, or a file with a number
+    for each."""
+    region: Optional[str] = None
+    """The group of the faces that alone are to change. A number of faces, a part of them, a scale or a length is wished
+    of these; all other edges wish to stay as long as they are, and those between stay lines of the new mesh."""
     floor: Union[int, str] = "auto"
     weight: str = "plain"
     sharp: Optional[float] = None
@@ -69,6 +77,8 @@ class Settings:
     free_groups: bool = False
     """Whether the borders of groups, which a mesh has as those of gmsh, may move; else they stay, where the command can
     keep edges."""
+    form: Optional[str] = None
+    """How files are written whose name may stand for several formats: `gmsh22` or `gmsh`, versions 2.2 and 4.1."""
     rescale: bool = False
     """Whether the mesh is brought to one size for the program, which rounds to millionths, and back, whatever its unit
     is; else that is done only where the unit is too small or too great."""
@@ -80,8 +90,12 @@ class Settings:
             object.__setattr__(self, "edge", as_length(self.edge))
         if self.share is not None and not isinstance(self.share, Fraction):
             object.__setattr__(self, "share", as_scale_wish(self.share))
-        if [self.scale, self.faces, self.share, self.edge, self.within].count(None) != 4:
-            raise WishError("one of scale, faces, share, edge and within has to be given")
+        if [self.scale, self.faces, self.share, self.edge, self.within, self.size].count(None) != 5:
+            raise WishError("one of scale, faces, share, edge, within and size has to be given")
+        if self.size is not None and self.density is not None:
+            raise WishError("a size of edges or a density is wished at points, and not both")
+        if self.region is not None and self.mirror is not None:
+            raise WishError("a region changes alone, or the mesh is mirrored, and not both")
         if self.share is not None and not 0 < self.share <= LARGEST:
             raise WishError(f"a level of detail has to be a part of the faces above 0, and is {self.share}")
         if self.mode not in MODES:
@@ -122,8 +136,8 @@ class Settings:
 
     @property
     def is_creased(self) -> bool:
-        """Whether edges stay: those at an angle, or of a kind."""
-        return self.sharp is not None or bool(self.keep)
+        """Whether edges stay: those at an angle, of a kind, or around a region."""
+        return self.sharp is not None or bool(self.keep) or self.region is not None
 
     @property
     def command(self) -> str:
@@ -139,7 +153,7 @@ class Settings:
         """Whether wishes go together, or lengths are wished arc by arc."""
         is_even = self.mode == "even" and self.edge is None
         return [self.is_creased, self.coarse, self.edge is not None].count(True) > 1 or is_even or (
-            self.within is not None or self.density is not None)
+            [self.within, self.size, self.density, self.region].count(None) < 4)
 
     @property
     def is_by_shape(self) -> bool:
@@ -150,7 +164,8 @@ class Settings:
     def in_words(self) -> str:
         """What of it wants the command `fit`."""
         told = [("edges that stay", self.is_creased), ("merged patches", self.coarse), ("a length of edges", self.edge),
-                ("a distance", self.within), ("a density", self.density), ("even edges", self.mode == "even")]
+                ("a distance", self.within), ("a size of edges", self.size), ("a density", self.density),
+                ("a region", self.region), ("even edges", self.mode == "even")]
         return " and ".join(name for name, is_asked in told if is_asked)
 
     def for_faces(self, count: int) -> Settings:

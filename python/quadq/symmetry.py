@@ -9,6 +9,7 @@ import numpy as np
 
 from .arrays import Array
 from .distance import distance_between
+from .local import NOWHERE, Local
 from .losses import keys_of
 from .mesh import NONE, Mesh
 from .mirror import AXES, crossing
@@ -39,14 +40,16 @@ class Image:
     """
 
 
-def image_of(mesh: Mesh, wished: str) -> Optional[Image]:
+def image_of(mesh: Mesh, wished: str, local: Local = NOWHERE) -> Optional[Image]:
     """The image of a mesh about the plane through the origin across an axis, x, y or z, or across the first that there
-    is for `auto`; None where the mesh is not its own image there, or where faces cross the plane."""
+    is for `auto`; None where the mesh is not its own image there, where faces cross the plane, or where other things
+    are wished on both sides."""
     for axis in range(3) if wished == "auto" else [AXES.index(wished)]:
         points = _image_points(mesh, axis)
         darts = None if points is None else _image_darts(mesh, points)
         if points is not None and darts is not None and not len(crossing(mesh, axis)):
-            return Image(axis, points, darts)
+            if local.is_symmetric(points, darts[::4] // 4):
+                return Image(axis, points, darts)
     return None
 
 
@@ -55,7 +58,11 @@ def why_none(mesh: Mesh, wished: str) -> str:
     for axis in range(3) if wished == "auto" else [AXES.index(wished)]:
         points = _image_points(mesh, axis)
         if points is not None and _image_darts(mesh, points) is not None:
-            return f"{len(crossing(mesh, axis))} faces cross the mirror plane {AXES[axis]} = 0"
+            count = len(crossing(mesh, axis))
+            if count:
+                return f"{counted(count, 'face')} cross the mirror plane {AXES[axis]} = 0"
+            if wished != "auto":
+                return "what is wished at places is not the same on both sides"
     return "" if wished == "auto" else f"the mesh is not its own mirror image about {wished} = 0"
 
 

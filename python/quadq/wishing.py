@@ -4,13 +4,13 @@ from __future__ import annotations
 
 from dataclasses import dataclass
 from functools import cached_property
-from typing import Optional
 
 import numpy as np
 
 from .arrays import Array
-from .bending import Rows, rows_of
-from .layout import Layout, layout_of
+from .bending import Rows, row_means, rows_of
+from .layout import Layout
+from .local import NOWHERE, Local
 from .mesh import NONE
 from .parts import Part, with_wishes
 
@@ -18,7 +18,6 @@ UNIT = 1000
 """A wish for one new edge."""
 MOST = 1_000_000
 """The greatest wish for an edge."""
-LEAST_DENSITY = 1e-3
 
 
 @dataclass(frozen=True)
@@ -42,21 +41,16 @@ class Shape:
     """A part with its layout, and what each of its arcs would have."""
 
     part: Part
-    is_merged: bool = False
-    density: Optional[Array] = None
-    """(points of the part,) float64: how many times denser faces are to be."""
-
-    @cached_property
-    def layout(self) -> Layout:
-        return layout_of(self.part.mesh, self.part.marks, self.is_merged)
+    layout: Layout
+    local: Local = NOWHERE
+    """What is wished of its single points and faces."""
 
     @cached_property
     def rows(self) -> Rows:
         mesh = self.part.mesh
         kept = np.zeros(len(mesh.edges.ends), dtype=bool)
         kept[mesh.edges.numbers_of(self.part.marks)] = True
-        dense = np.ones(len(mesh.points)) if self.density is None else np.maximum(self.density, LEAST_DENSITY)
-        return rows_of(self.layout, kept, dense)
+        return rows_of(self.layout, kept, self.local.weights(len(mesh.points)))
 
     @cached_property
     def _ways(self) -> tuple[Array, Array, Array]:
@@ -70,11 +64,29 @@ class Shape:
         is to be denser."""
         squares = zip((shares.bent, shares.even, shares.old), self._ways)
         summed = sum((share * it ** 2 for share, it in squares), np.zeros(len(self.layout.old)))
-        return np.asarray(np.sqrt(summed) * (1.0 if self.density is None else self.rows.weight))
+        return np.asarray(np.sqrt(summed) * (1.0 if self.local.density is None else self.rows.weight))
+
+    def sizes(self) -> Array:
+        """(arcs,) float64: how many of the lengths that are wished at points they are long."""
+        return row_means(self.layout, self.local.measures(self.part.mesh))
+
+    @cached_property
+    def inside(self) -> Array:
+        """(arcs,) float64: which part of each changes."""
+        arcs, count = self.layout.arc_of_edge, len(self.layout.old)
+        on = arcs != NONE
+        inside = np.bincount(arcs[on], self.local.is_inside(self.part.mesh)[on], count)
+        return np.asarray(inside / np.bincount(arcs[on], minlength=count))
+
+    def changed(self, lengths: Array) -> Array:
+        """(arcs,) float64: these lengths for what of arcs changes; the rest is as long as it was."""
+        if self.local.region is None:
+            return lengths
+        return self.inside * lengths + (1 - self.inside) * self.layout.old
 
     def measures(self) -> Array:
         """(arcs,) float64: how long they are in the unit of the mesh, times how much denser they are to be."""
-        return self.rows.length if self.density is None else self.rows.length * self.rows.weight
+        return self.rows.length if self.local.density is None else self.rows.length * self.rows.weight
 
     @property
     def is_flat(self) -> bool:
@@ -84,11 +96,10 @@ class Shape:
 
     def wished(self, lengths: Array) -> Part:
         """The part with lines that wish these lengths (arcs,)."""
-        layout, trace = self.layout, self.layout.trace
-        edges, first = np.unique(trace.of_edge[trace.on], return_index=True)
-        arcs = layout.of_dart[trace.on][first]
-        wishes = np.full(len(self.part.mesh.edges.ends), NONE)
-        wishes[edges] = _spread(np.rint(UNIT * lengths).astype(np.int64), layout.old, arcs)
+        arcs = self.layout.arc_of_edge
+        edges = np.flatnonzero(arcs != NONE)
+        wishes = np.full(len(arcs), NONE)
+        wishes[edges] = _spread(np.rint(UNIT * lengths).astype(np.int64), self.layout.old, arcs[edges])
         return with_wishes(self.part, wishes)
 
 

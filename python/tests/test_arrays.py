@@ -7,13 +7,14 @@ from dataclasses import replace
 import numpy as np
 
 import quadq
-from quadq import Refusal, WishError, read, remesh
+from quadq import MeshError, Refusal, WishError, read, remesh
 from quadq.graphs import read_cut
+from quadq.maps import AT_VERTEX, IN_FACE, ON_EDGE, read_map
 from quadq.quality import quality_of
 
 from .shapes import EXAMPLES, drum, grid, plate
 
-LAYOUT = """quadq layout 1 keep lines patches merged
+LAYOUT = b"""quadq layout 1 keep lines patches merged
 vertices 12 edges 17 faces 6 euler 1 components 1
 corner 1 1
 corner 4 1
@@ -53,12 +54,14 @@ class Graphs(unittest.TestCase):
         self.assertEqual((found.seeds.tolist(), found.sizes.tolist()), ([0], [[4, 4]]))
 
     def test_a_layout(self):
-        found = read_cut(LAYOUT, "quadq layout 1 keep lines patches merged", np.arange(12))
+        found = read_cut(LAYOUT, "quadq layout 1 keep lines patches merged")
         self.assertEqual([it.tolist() for it in found.arc_points][1], [0, 4, 8])
         self.assertEqual(found.arcs[1].tolist(), [0, 8, 2])
         self.assertEqual((found.is_marked.tolist(), found.breaks.tolist()), ([False, True, False, False], [5]))
         with self.assertRaises(Refusal):
-            read_cut(LAYOUT, "quadq graph 1", np.arange(12))
+            read_cut(LAYOUT, "quadq layout 1 keep none patches merged")
+        with self.assertRaises(Refusal):
+            read_cut(LAYOUT.replace(b"break 6", b"halt 6"), "quadq layout 1 keep lines patches merged")
 
     def test_a_layout_that_the_program_has_or_has_not(self):
         found = quadq.layout(plate(), patches="conforming")
@@ -88,6 +91,21 @@ class Maps(unittest.TestCase):
         homes = result.old.points[result.old.quads[found.homes]].mean(axis=1)
         self.assertLess(np.linalg.norm(middles - homes, axis=1).max(), 2)
 
+    def test_places_on_edges_are_told_by_steps_or_by_shares(self):
+        mesh = grid(2, 1)
+        spots = b"vertex 1\nedge 1 2 1 4\nshare 1 2 1073741824\nface 2 2 1073741824 2147483648\n"
+        cells = b"cell 2 1 0 0 4294967296 0 4294967296 4294967296 0 4294967296\n"
+        found = read_map(b"quadq map 1\nvertices 4 faces 1\n" + spots + cells, mesh.quads)
+        self.assertEqual(found.kinds.tolist(), [AT_VERTEX, ON_EDGE, ON_EDGE, IN_FACE])
+        np.testing.assert_array_equal(found.at_points(mesh.points)[:, :2], [[0, 0], [0.25, 0], [0.25, 0], [1.5, 0.25]])
+        self.assertEqual(found.darts.tolist(), [-1, -1, -1, 5])
+        for wrong in (spots, spots + cells.replace(b"cell", b"hall"), cells + spots):
+            with self.assertRaises(Refusal):
+                read_map(b"quadq map 1\nvertices 4 faces 1\n" + wrong, mesh.quads)
+        for wrong in (b"share 1 9 1", b"vertex 0", b"face 3 1 0 0"):
+            with self.assertRaises(MeshError):
+                read_map(b"quadq map 1\nvertices 1 faces 1\n" + wrong + b"\n" + cells, mesh.quads)
+
 
 class Refining(unittest.TestCase):
     def test_faces_and_fields(self):
@@ -100,6 +118,12 @@ class Refining(unittest.TestCase):
 
     def test_small_units_and_wrong_wishes(self):
         mesh = drum()
+        for by in (2, 4):
+            off = [float(np.abs(np.hypot(*it.points[:, [0, 2]].T) - 1).max())
+                   for it in (quadq.refine(drum(), by), quadq.refine(drum(), by, round=True))]
+            self.assertLess(off[1] * 50, off[0])
+        self.assertGreater(float(np.abs(np.hypot(*quadq.refine(drum(), 2, round=True, sharp=1).points[:, [0, 2]].T)
+                                        - 1).max()), 0.008)
         fine = quadq.refine(replace(mesh, points=mesh.points * 1e-7), 2)
         self.assertAlmostEqual(fine.points.max() / 1e-7, 1, 4)
         for by in (0, 1001):

@@ -12,6 +12,7 @@ import time
 import unittest
 import warnings
 from concurrent.futures import ThreadPoolExecutor
+from unittest import mock
 
 from quadq import Books, Program, Settings, WishError, remesh_files
 from quadq.inputs import inputs_of
@@ -131,6 +132,28 @@ class Batch(BatchRoom):
         hangs.path.write_text("#!/bin/sh\ncase $PPID in *) kill -KILL $PPID; sleep 9;; esac\n")
         rows = remesh_files([self.inward / "a.obj", self.inward / "a1.obj"], self.out, HALF, program=hangs)
         self.assertEqual([it.status for it in rows], [137, 137])
+
+    def test_want_of_memory_and_an_overflow_are_rows(self):
+        log, table = self.room / "log.jsonl", self.room / "table.csv"
+        for error, status in ((MemoryError(), 14), (OverflowError("too large"), 70)):
+            self.out.mkdir(exist_ok=True)
+            (self.out / "a.obj").write_text("old")
+            with mock.patch("quadq.jobs.one_file", side_effect=error), ThreadPoolExecutor(1) as pool:
+                rows = remesh_files(self.inward, self.out, HALF, books=Books(log, table), executor=pool)
+            self.assertEqual([it.status for it in rows], [status] * 4)
+            self.assertEqual([json.loads(it)["status"] for it in log.read_text().splitlines()], [status] * 4)
+            self.assertEqual([it["status"] for it in csv.DictReader(table.read_text().splitlines())], [str(status)] * 4)
+            self.assertEqual(os.listdir(self.out), [])
+
+    def test_a_file_of_another_format_that_is_none_is_one_row(self):
+        try:
+            import meshio  # noqa: F401
+        except ImportError:
+            self.skipTest("meshio is not here")
+        (self.inward / "broken.msh").write_text("$MeshFormat\nnonsense\n")
+        (self.inward / "b.fbx").write_bytes(b"Kaydara FBX Binary")
+        files = [self.inward / it for it in ("broken.msh", "a.obj", "b.fbx", "no.msh", "a1.obj")]
+        self.assertEqual([it.status for it in remesh_files(files, self.out, HALF)], [3, 0, 3, 12, 0])
 
     def test_a_log_that_cannot_be_written(self):
         log = Log(self.room / "log", is_new=True)

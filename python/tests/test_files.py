@@ -76,10 +76,11 @@ class Files(Room):
         out.write_text("old")
         limit = "import resource; resource.setrlimit(resource.RLIMIT_FSIZE, (8, 8)); " \
                 "import signal; signal.signal(signal.SIGXFSZ, signal.SIG_IGN); " \
-                "from quadq.files import write_whole; from pathlib import Path; import sys; " \
-                "write_whole(Path(sys.argv[1]), b'much too long')"
-        self.assertNotEqual(run_python(limit, str(out)), 0)
-        self.assertEqual((out.read_text(), self.names()), ("old", ["out.obj"]))
+                "from quadq.files import write_whole, write_within; from pathlib import Path; import sys; "
+        for call in ("write_whole(Path(sys.argv[1]), b'much too long')",
+                     "write_within(Path(sys.argv[1]).parent, 'out.obj', b'much too long')"):
+            self.assertNotEqual(run_python(limit + call, str(out)), 0)
+            self.assertEqual((out.read_text(), self.names()), ("old", ["out.obj"]))
 
     def test_texts_that_are_kept_go_nowhere_else(self):
         outside, kept = self.room / "outside", self.room / "kept"

@@ -4,16 +4,18 @@ import unittest
 
 import numpy as np
 
-from quadq import Mesh, WishError, read_obj
+from quadq import Mesh, Program, WishError, read_obj
 from quadq.bending import sags
 from quadq.chords import chords_of
+from quadq.darts import Darts
 from quadq.density import density_of
 from quadq.layout import layout_of
+from quadq.local import Local
 from quadq.parts import split
-from quadq.tracing import Trace
 from quadq.wishing import BENT, EVEN, UNIT, Shape
 
 from .shapes import EXAMPLES, drum, grid
+from .test_layout import one_layout
 
 
 def rolled(wide: int = 12, high: int = 4, radius: float = 5.0) -> Mesh:
@@ -28,12 +30,12 @@ class Bending(unittest.TestCase):
     def test_a_flat_sheet_does_not_bend(self):
         mesh = grid(6, 4)
         none = np.zeros(len(mesh.edges.ends), dtype=bool)
-        self.assertLess(sags(Trace(mesh, mesh.edges.ends[:0]), none).max(), 1e-12)
+        self.assertLess(sags(Darts(mesh), none).max(), 1e-12)
 
     def test_edges_round_an_axis_have_the_height_of_their_bow(self):
         mesh = rolled()
         edges = mesh.edges.ends
-        found = sags(Trace(mesh, edges[:0]), np.zeros(len(edges), dtype=bool))
+        found = sags(Darts(mesh), np.zeros(len(edges), dtype=bool))
         along = mesh.points[edges[:, 0], 1] == mesh.points[edges[:, 1], 1]
         bow = 5.0 * (1 - np.cos(0.5 / 5.0))
         np.testing.assert_allclose(found[along], bow, rtol=2e-2)
@@ -45,14 +47,14 @@ class Bending(unittest.TestCase):
         mesh = Mesh.of_quads(mesh.points + folded, mesh.quads)
         edges = mesh.edges.ends
         fold = np.all(mesh.points[edges][:, :, 0] == 4, axis=1)
-        trace = Trace(mesh, edges[fold])
-        self.assertGreater(sags(trace, np.zeros(len(edges), dtype=bool)).max(), 0.05)
-        self.assertLess(sags(trace, fold).max(), 1e-9)
+        self.assertGreater(sags(Darts(mesh), np.zeros(len(edges), dtype=bool)).max(), 0.05)
+        self.assertLess(sags(Darts(mesh), fold).max(), 1e-9)
 
 
 class Wishes(unittest.TestCase):
     def shape(self, mesh: Mesh, **more) -> Shape:
-        return Shape(split(mesh)[0], **more)
+        part, = split(mesh)
+        return Shape(part, layout_of(part, Program()), **more)
 
     def test_all_ways_have_as_many_faces_as_there_are(self):
         for mesh in (drum(is_round=True), rolled(), read_obj((EXAMPLES / "letter_q.obj").read_text())):
@@ -63,11 +65,9 @@ class Wishes(unittest.TestCase):
     def test_more_is_wished_where_it_bends(self):
         shape = self.shape(rolled(12, 12))
         lengths = shape.lengths(BENT)
-        edges = shape.part.mesh.edges.ends
         points = shape.part.mesh.points
-        trace = shape.layout.trace
-        first = edges[trace.of_edge[np.unique(shape.layout.of_dart, return_index=True)[1][1:]]]
-        is_round = points[first[:, 0], 1] == points[first[:, 1], 1]
+        ends = points[shape.layout.cut.arcs[:, :2]]
+        is_round = ends[:, 0, 1] == ends[:, 1, 1]
         self.assertGreater(lengths[is_round].min(), 1.3 * lengths[~is_round].max())
 
     def test_lines_of_a_text_add_up_to_what_is_wished(self):
@@ -77,15 +77,14 @@ class Wishes(unittest.TestCase):
         edges = part.mesh.edges
         told = [list(map(int, it.split()[1:])) for it in part.text.decode().splitlines() if it.startswith("#w ")]
         wishes = {(one - 1, other - 1): wish for one, other, wish in told}
-        trace = shape.layout.trace
         for arc in range(len(lengths)):
-            some = np.unique(trace.of_edge[shape.layout.of_dart == arc])
+            some = np.flatnonzero(shape.layout.arc_of_edge == arc)
             total = sum(wishes[tuple(it)] for it in edges.ends[some].tolist())
             self.assertEqual(total, round(UNIT * lengths[arc]))
 
     def test_what_is_denser_wishes_more(self):
         mesh = grid(8, 8)
-        dense = self.shape(mesh, density=np.where(mesh.points[:, 0] > 4, 3.0, 1.0))
+        dense = self.shape(mesh, local=Local(density=np.where(mesh.points[:, 0] > 4, 3.0, 1.0)))
         plain = self.shape(mesh)
         self.assertTrue(np.all(dense.lengths(BENT) > plain.lengths(BENT) * 1.2))
 
@@ -101,18 +100,18 @@ class Wishes(unittest.TestCase):
 class ChordsOfLayouts(unittest.TestCase):
     def test_sides_fit_each_other_when_a_chord_is_changed(self):
         for mesh in (drum(10, 7), grid(5, 6), *(read_obj((EXAMPLES / f"{name}.obj").read_text())
-                                                for name in ("letter_q", "cube", "torus", "two_fans"))):
-            layout = layout_of(mesh, mesh.edges.ends[:0])
-            lengths = layout.old + 1
+                                                for name in ("letter_q", "cube", "torus", "notched_square"))):
+            layout = one_layout(mesh, mesh.edges.ends[:0])
+            lengths = 2 * layout.old
             found = chords_of(layout, lengths, lengths.astype(float), 1)
             self.assertGreater(len(found), 0)
             for it in found:
-                long = np.bincount(layout.side_of, weights=(lengths + it.change)[layout.arc_of])[layout.sides]
+                long = layout.cut.side_lengths(lengths + it.change)
                 np.testing.assert_array_equal(long[:, :2], long[:, 2:])
                 self.assertGreaterEqual((lengths + it.change).min(), 1)
 
     def test_an_arc_at_the_floor_gets_no_shorter(self):
-        layout = layout_of(grid(1, 4), np.zeros((0, 2), dtype=np.int64))
+        layout = one_layout(grid(1, 4), np.zeros((0, 2), dtype=np.int64))
         changes = [it.change for it in chords_of(layout, layout.old, layout.old.astype(float), 1)]
         self.assertTrue(all(np.all(layout.old + it >= 1) for it in changes))
         self.assertTrue(any(it.min() < 0 for it in changes))

@@ -8,8 +8,10 @@ _quadq_remesh() {
         --edge) return ;;
         --lods) return ;;
         --within) return ;;
+        --size) return ;;
         --mode) mapfile -t COMPREPLY < <(compgen -W "shape scale even" -- "$word"); return ;;
         --density) return ;;
+        --region) return ;;
         --floor) mapfile -t COMPREPLY < <(compgen -W "1 2 3 auto" -- "$word"); return ;;
         --weight) mapfile -t COMPREPLY < <(compgen -W "plain length" -- "$word"); return ;;
         --sharp) return ;;
@@ -19,6 +21,7 @@ _quadq_remesh() {
         --keep) return ;;
         --report) return ;;
         --up) mapfile -t COMPREPLY < <(compgen -W "y z" -- "$word"); return ;;
+        --format) mapfile -t COMPREPLY < <(compgen -W "gmsh22 gmsh" -- "$word"); return ;;
         --out) return ;;
         --table) return ;;
         --log) return ;;
@@ -27,7 +30,7 @@ _quadq_remesh() {
         --jobs) return ;;
     esac
     case $word in
-        -*) mapfile -t COMPREPLY < <(compgen -W "-h --help --scale --faces --edge --lods --within --mode --even --density --floor --weight --sharp --materials --groups --seams --normals --lines --no-corners --free-groups --coarse --subdivide --mirror --symmetry --round --relax --keep --report --up --carry --out --table --log --resume --recursive --pattern --timeout --jobs --quiet --version" -- "$word") ;;
+        -*) mapfile -t COMPREPLY < <(compgen -W "-h --help --scale --faces --edge --lods --within --size --mode --even --density --region --floor --weight --sharp --materials --groups --seams --normals --lines --no-corners --free-groups --coarse --subdivide --mirror --symmetry --round --relax --keep --report --up --carry --format --out --table --log --resume --recursive --pattern --timeout --jobs --quiet --version" -- "$word") ;;
     esac
 }
 complete -o bashdefault -o default -F _quadq_remesh quadq-remesh
