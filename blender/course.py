@@ -15,7 +15,9 @@ from . import faults, objects
 from .arrays import name_of
 from .meshes import Made, Taken, built, taken
 from .objects import Target
+from .painted import painted
 from .quadq import Result
+from .quadq.arrays import Array
 from .quadq.program import Program
 from .wishes import Wishes
 from .words import Message, fault_message, made_messages
@@ -44,6 +46,8 @@ class Course:
     messages: list[Message] = field(default_factory=list)
     results: list[tuple[str, Result]] = field(default_factory=list)
     work: Optional[Work] = None
+    is_selection: bool = False
+    """Whether selected faces alone are remeshed."""
     is_ended: bool = False
     """Whether it came to no end of its own, so that nothing is changed."""
 
@@ -57,7 +61,7 @@ class Course:
                 self.messages.append(Message("ERROR", "Write Proof needs a saved file: save the .blend file first"))
                 return
             editing = objects.leave_edit_mode(context)
-            targets = objects.targets_of(objects.chosen(context), self.wishes.look == "LOOK")
+            targets = self._targets(context, editing)
             yield
             yield from self._worked(targets)
             for target, outcome in zip(targets, self.work.outcomes if self.work else ()):
@@ -74,12 +78,28 @@ class Course:
                 self.work.halt.now()
             self._end(context, targets, finished, editing)
 
+    def _targets(self, context: Any, editing: list[Any]) -> list[Target]:
+        """The meshes that are to be remeshed. Where selected faces alone are, those in edit mode that have some."""
+        chosen = objects.chosen(context)
+        self.is_selection = self.wishes.selected and bool(editing)
+        if not self.is_selection:
+            return objects.targets_of(chosen, self.wishes.look == "LOOK")
+        found = [it for it in chosen if it in editing and objects.selected_faces(it.data).any()]
+        if not found:
+            self.messages.append(Message("ERROR", "no face is selected: select some, or turn off Selected Faces Alone"))
+        if self.wishes.look == "LOOK" and any(map(objects.has_modifiers, found)):
+            self.messages.append(Message("WARNING", "selected faces are those of the mesh as it is: modifiers are "
+                                         "left, and work on the new mesh"))
+        return objects.targets_of(found, False)
+
     def _worked(self, targets: list[Target]) -> Iterator[None]:
         """Reads the meshes and has the work done."""
         tasks: list[tuple[Taken, Wishes]] = []
         for it in targets:
             data = it.data if it.look is None else it.look
             one = taken(it.source, data, self.wishes.carry, it.look is not None)
+            one = replace(one, painted=self._painted(it, data),
+                          selected=objects.selected_faces(data) if self.is_selection else None)
             tasks.append((one.with_lines(self.wishes.kinds()), self._wishes_for(it, data)))
             yield
         try:
@@ -93,6 +113,15 @@ class Course:
         self.work.start()
         while self.work.is_alive():
             yield
+
+    def _painted(self, target: Target, data: Any) -> Optional[Array]:
+        """What is painted under the name that is wished, if one is."""
+        name = self.wishes.density
+        found = painted(target.source, data, name) if name else None
+        if name and found is None:
+            self.messages.append(Message("WARNING", f"{target.name}: there is no vertex group or colour attribute "
+                                         f"{name}, so nothing says where faces are to be denser"))
+        return found
 
     def _wishes_for(self, target: Target, data: Any) -> Wishes:
         size = abs(target.source.matrix_world.determinant()) ** (1 / 3)

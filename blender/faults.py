@@ -3,13 +3,13 @@
 from __future__ import annotations
 
 from dataclasses import dataclass
-from typing import Any, Sequence
+from typing import Any, Optional, Sequence
 
 import bpy
 import numpy as np
 
-from .arrays import put_column
-from .objects import select
+from .arrays import name_of, put_column
+from .objects import select, selected_faces
 from .quadq.arrays import Array
 
 
@@ -36,6 +36,21 @@ def place_of(name: str, faces: Sequence[int], vertices: Sequence[int]) -> list[P
     return [Place(name, "vertices", tuple(vertices))] if len(vertices) else []
 
 
+class Shown:
+    """What was selected last."""
+
+    place: Optional[Place] = None
+
+
+def is_shown(context: Any) -> bool:
+    """Whether the faces that are selected in edit mode are those that were shown last."""
+    place, source = Shown.place, context.view_layer.objects.active
+    if place is None or place.kind != "faces" or source is None or place.name != name_of(source):
+        return False
+    source.update_from_editmode()
+    return np.array_equal(np.flatnonzero(selected_faces(source.data)), np.unique(place.numbers))
+
+
 def show(context: Any, place: Place) -> bool:
     """Selects a place in edit mode. Whether its object is there."""
     source = bpy.data.objects.get(place.name)
@@ -49,6 +64,7 @@ def show(context: Any, place: Place) -> bool:
         put_column(items, "select", _marks(len(items), place.numbers if kind == place.kind else ()))
     context.tool_settings.mesh_select_mode = tuple(it == place.kind for it in ("vertices", "edges", "faces"))
     bpy.ops.object.mode_set(mode="EDIT")
+    Shown.place = place
     return True
 
 

@@ -14,7 +14,7 @@ from .quadq import Layer, Mesh, Names, Result
 from .quadq.arrays import Array
 from .quadq.carrier import Carrier
 from .rig import Groups, ShapeKeys, copy_animation
-from .tables import ALWAYS, SKIPPED, Table, attribute_tables, built_in_tables, ends_of, uv_tables
+from .tables import ALWAYS, SKIPPED, UV_MAP, Table, attribute_tables, built_in_tables, ends_of, uv_tables
 from .versions import can_set, corner_normals, has, smooth_by_angle
 
 MATERIAL = "usemtl"
@@ -35,6 +35,10 @@ class Taken:
     keys: Optional[ShapeKeys] = None
     lost: list[str] = field(default_factory=list)
     """What cannot come over."""
+    selected: Optional[Array] = None
+    """(faces,) bool: those that alone are to be remeshed."""
+    painted: Optional[Array] = None
+    """(vertices,) float64: how densely faces are painted, from 0 to 1."""
 
     def marked(self, kind: str) -> Array:
         """(edges,) bool: the edges of the package's mesh that have a mark of this kind."""
@@ -49,7 +53,7 @@ class Taken:
         marked = np.zeros(len(self.mesh.edges.ends), dtype=bool)
         for kind in kinds:
             marked |= self.marked(kind)
-        return replace(self, mesh=replace(self.mesh, lines=tuple(self.mesh.edges.ends[marked])))
+        return replace(self, mesh=self.mesh.changed(lines=tuple(self.mesh.edges.ends[marked])))
 
 
 @dataclass(frozen=True)
@@ -73,11 +77,13 @@ def taken(source: Any, data: Any, is_carried: bool = True, is_look: bool = False
     if not is_carried:
         lost = _worn(source, data)
         kept = [it for it in built_in if it.words in ALWAYS or it.domain == "EDGE"]
-        return Taken(_with_texture(mesh, data, uv_tables(data), loops), kept, lost=lost + _strays(data))
+        told = [it.layer(loops, mesh) for it in uv_tables(data) if it.words == _active(data)]
+        return Taken(mesh.changed(texture=told[0] if told else None), kept, lost=lost + _strays(data))
     attributes, strange = attribute_tables(data, mesh)
     uvs = uv_tables(data)
-    layers = {it.words: it.layer(loops) for it in [*uvs, *attributes] if it.domain == "CORNER" and it.is_mixed}
-    mesh = replace(_with_texture(mesh, data, uvs, loops), layers=layers, normal=_normals_of(data, loops))
+    layers = {it.words: it.layer(loops, mesh) for it in [*uvs, *attributes] if it.domain == "CORNER" and it.is_mixed}
+    texture = layers.get(_active(data))
+    mesh = mesh.changed(texture=texture, layers=layers, normal=_normals_of(data, loops))
     keys = None if is_look else ShapeKeys.of(data)
     lost = [f"attribute {it} (of a type that is not known)" for it in strange] + _strays(data)
     if is_look and source.data.shape_keys is not None:
@@ -99,11 +105,10 @@ def _shape_of(data: Any) -> tuple[Mesh, Array]:
     return Mesh(points, corners, starts, groups={MATERIAL: names}), loops
 
 
-def _with_texture(mesh: Mesh, data: Any, uvs: list[Table], loops: Array) -> Mesh:
-    """The mesh with its active UV map as texture, which tells where islands end."""
+def _active(data: Any) -> str:
+    """The words of the active UV map, which tells where islands end."""
     active = data.uv_layers.active
-    layers = [it.layer(loops) for it in uvs if active is not None and it.words == f"UV map {name_of(active)}"]
-    return replace(mesh, texture=layers[0]) if layers else mesh
+    return "" if active is None else UV_MAP + name_of(active)
 
 
 def _normals_of(data: Any, loops: Array) -> Optional[Layer]:
@@ -177,6 +182,9 @@ def built(source: Any, it: Made) -> Generator[Any, None, None]:
         if data.shape_keys is not None:
             target.shape_key_clear()
         copy_animation(source, data)
+        data.vertices.add(len(it.result.mesh.points))
+        if it.groups is not None:
+            yield from it.groups.put_weights(data)
         _put_shape(data, it.result.mesh)
         yield None
         for table in it.tables:
@@ -202,10 +210,10 @@ def built(source: Any, it: Made) -> Generator[Any, None, None]:
 
 
 def _put_shape(data: Any, mesh: Mesh) -> None:
-    """Gives an empty mesh of Blender the places and faces; its edges are those of the package, in their order."""
+    """Gives a mesh of Blender, which has its vertices, the places and faces; its edges are those of the package, in
+    their order."""
     ends = mesh.edges.ends
-    for items, count in (("vertices", len(mesh.points)), ("edges", len(ends)), ("loops", len(mesh.corners)),
-                         ("polygons", mesh.face_count)):
+    for items, count in (("edges", len(ends)), ("loops", len(mesh.corners)), ("polygons", mesh.face_count)):
         getattr(data, items).add(count)
     put_column(data.vertices, "co", mesh.points.astype(np.float32))
     put_column(data.edges, "vertices", ends.astype(np.int32))

@@ -7,7 +7,8 @@ from typing import Any, Iterable, Optional
 
 import bpy
 
-from .arrays import name_of
+from .arrays import column, name_of
+from .quadq.arrays import Array
 
 BOUND = ("SURFACE_DEFORM", "MESH_DEFORM", "LAPLACIANDEFORM", "CORRECTIVE_SMOOTH", "HOOK", "CLOTH", "SOFT_BODY",
          "MESH_CACHE", "MESH_SEQUENCE_CACHE", "MULTIRES", "PARTICLE_SYSTEM", "DYNAMIC_PAINT", "EXPLODE")
@@ -56,6 +57,11 @@ def chosen(context: Any) -> list[Any]:
     found = [it for it in dict.fromkeys([*context.selected_objects, *editing]) if it.type == "MESH"]
     active = context.view_layer.objects.active
     return [it for it in found if it == active] + [it for it in found if it != active]
+
+
+def selected_faces(data: Any) -> Array:
+    """(faces,) bool: which faces of a mesh are selected."""
+    return column(data.polygons, "select", bool)
 
 
 def has_modifiers(source: Any) -> bool:

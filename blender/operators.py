@@ -64,12 +64,16 @@ class OBJECT_OT_quadq_remesh(bpy.types.Operator):
         if not self.asks:
             return self.execute(context)
         kept = context.scene.quadq
+        self.given = {it for it in PROPERTIES if self.properties.is_property_set(it)}
         for name in PROPERTIES:
             if not self.properties.is_property_set(name) and kept.is_property_set(name):
                 setattr(self, name, getattr(kept, name))
         self.seen = Seen.of(context)
         if not self.properties.is_property_set("faces"):
             self.faces = self.seen.half
+        if "selected" not in self.given:
+            # What a refusal has selected is no wish.
+            self.selected = self.seen.selected is not None and not faults.is_shown(context)
         return set(context.window_manager.invoke_props_dialog(self, width=340))
 
     def draw(self, context: Any) -> None:
@@ -78,6 +82,8 @@ class OBJECT_OT_quadq_remesh(bpy.types.Operator):
         layout.use_property_decorate = False
         seen = getattr(self, "seen", None) or Seen.of(context)
         layout.label(text=seen.words(Wishes.of(self)), icon="MESH_GRID")
+        if seen.selected is not None:
+            layout.prop(self, "selected")
         draw_wish(layout, self)
         draw_keep(layout, self)
         if seen.others and not self.subdivide:

@@ -37,7 +37,9 @@ class VIEW3D_PT_quadq(bpy.types.Panel):
         meshes = chosen(context)
         count = sum(len(it.polygons) for it in {one.data for one in meshes})
         layout.label(text=f"Faces: {count:,}" if meshes else "Select a mesh object", icon="MESH_GRID")
-        draw_wish(layout, kept)
+        if context.mode == "EDIT_MESH":
+            layout.prop(kept, "selected")
+        draw_wish(layout, kept, 2)
         draw_keep(layout, kept)
         if any(map(has_modifiers, meshes)):
             layout.prop(kept, "look")

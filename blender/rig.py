@@ -3,8 +3,10 @@
 from __future__ import annotations
 
 from dataclasses import dataclass
+from itertools import islice
 from typing import Any, Iterator, Optional
 
+import bmesh
 import bpy
 import numpy as np
 
@@ -14,7 +16,7 @@ from .quadq.carrier import Carrier
 
 LEAST = 1e-6
 """A vertex with a smaller weight is not in the group."""
-AT_A_TIME = 20_000
+AT_A_TIME = 50_000
 """How many weights are set before the window gets a turn."""
 SETTINGS = ("interpolation", "mute", "slider_min", "slider_max", "value", "vertex_group")
 """What a shape key has besides its places. The range comes before the value."""
@@ -61,20 +63,28 @@ class Groups:
         values[self.members[group], 0] = self.weights[group]
         return carrier.mixed(values)[:, 0] if values.any() else np.zeros(len(carrier.new.points))
 
-    def put(self, target: Any) -> Iterator[None]:
-        """Gives an object whose mesh has none yet these groups, some weights at a time."""
-        for name, is_locked, members, weights in zip(self.names, self.locked, self.members, self.weights):
-            group = target.vertex_groups.new(name=name)
-            order = np.argsort(weights, kind="stable")
-            members, weights = members[order], weights[order]
-            firsts = np.flatnonzero(np.concatenate([[True], np.diff(weights) > 0])) if len(weights) else order
-            ends = np.append(firsts[1:], len(weights))
-            values, alike = weights[firsts].tolist(), members.tolist()
-            for count, (first, end, value) in enumerate(zip(firsts.tolist(), ends.tolist(), values), 1):
-                group.add(alike[first:end], value, "REPLACE")
-                if count % AT_A_TIME == 0:
+    def put_weights(self, data: Any) -> Iterator[None]:
+        """Gives a mesh that has vertices and nothing else their weights, some at a time. Blender has no table of them,
+        and this way is the fastest."""
+        work = bmesh.new(use_operators=False)
+        try:
+            work.from_mesh(data)
+            work.verts.ensure_lookup_table()
+            vertices, layer = work.verts, work.verts.layers.deform.verify()
+            for group, (members, weights) in enumerate(zip(self.members, self.weights)):
+                pairs = zip(members.tolist(), weights.tolist())
+                while some := list(islice(pairs, AT_A_TIME)):
+                    for vertex, weight in some:
+                        vertices[vertex][layer][group] = weight
                     yield
-            group.lock_weight = is_locked
+            work.to_mesh(data)
+        finally:
+            work.free()
+
+    def put(self, target: Any) -> Iterator[None]:
+        """Gives an object, whose mesh has the weights, the groups."""
+        for name, is_locked in zip(self.names, self.locked):
+            target.vertex_groups.new(name=name).lock_weight = is_locked
             yield
         if self.names:
             target.vertex_groups.active_index = min(self.active, len(self.names) - 1)

@@ -13,6 +13,7 @@ from .quadq import Layer, Mesh
 from .quadq.arrays import Array
 from .quadq.carrier import Carrier
 from .quadq.mesh import NONE
+from .quadq.surface import least_in_class
 from .versions import has
 
 ITEMS = {"POINT": "vertices", "EDGE": "edges", "FACE": "polygons", "CORNER": "loops"}
@@ -52,6 +53,10 @@ FREESTYLE = {"freestyle_edge": "MeshEdge", "freestyle_face": "MeshPolygon"}
 """Those that have one before 5.0, by the type that has it."""
 INNER = (".sculpt_mask", ".sculpt_face_set")
 """Of the attributes that Blender hides, those that somebody made by hand."""
+UV_MAP = "UV map "
+"""How the words of a UV map begin."""
+SAME = 1e-5
+"""Places in a UV map that differ by no more are one. Blender's own tools take a tenth of a thousandth."""
 ALWAYS = ("materials", "smoothing")
 """What comes over also where nothing else is carried."""
 
@@ -95,9 +100,12 @@ class Table:
         """How many of its marked edges a new edge follows."""
         return int(carrier.followed.kept(self.is_marked).sum())
 
-    def layer(self, loops: Array) -> Layer:
-        """Its values at corners, which are these loops."""
-        return Layer(flat(self.values)[loops].astype(float), np.arange(len(loops)))
+    def layer(self, loops: Array, mesh: Mesh) -> Layer:
+        """Its values at the corners of a mesh, which are these loops. Those of a UV map that differ by rounding alone
+        in faces beside each other are one."""
+        values = flat(self.values)[loops].astype(float)
+        rows = np.arange(len(loops))
+        return Layer(values, _united(values, mesh) if self.words.startswith(UV_MAP) else rows)
 
 
 def built_in_tables(data: Any, mesh: Mesh) -> list[Table]:
@@ -145,8 +153,24 @@ def attribute_tables(data: Any, mesh: Mesh) -> tuple[list[Table], list[str]]:
 
 def uv_tables(data: Any) -> list[Table]:
     """The UV maps of a mesh of Blender."""
-    return [Table(f"UV map {name}", "CORNER", column(it.data, "uv", np.float32, 2), _uv_putter(name), True)
+    return [Table(UV_MAP + name, "CORNER", column(it.data, "uv", np.float32, 2), _uv_putter(name), True)
             for name, it in zip(map(name_of, data.uv_layers), data.uv_layers)]
+
+
+def _united(values: Array, mesh: Mesh) -> Array:
+    """(corners,) int64: the row of each corner, where those of two faces beside each other that have about the same
+    value at a vertex have one."""
+    edges, after = mesh.edges, mesh.next_corners()
+    inner = edges.uses == 2
+    inner &= (edges.rising != NONE) & (edges.falling != NONE)
+    rising, falling = edges.rising[inner], edges.falling[inner]
+    one, other = np.concatenate([rising, after[rising]]), np.concatenate([after[falling], falling])
+    apart = np.abs(values[one] - values[other]).max(axis=1, initial=0.0)
+    near = apart <= SAME
+    if not np.any(apart[near]):
+        # Equal values need no common row.
+        return np.arange(len(values))
+    return least_in_class(len(values), one[near], other[near])
 
 
 def _in_order(table: Table, data: Any, mesh: Mesh) -> Table:

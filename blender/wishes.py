@@ -7,11 +7,21 @@ import pathlib
 from dataclasses import dataclass
 from typing import Any, Optional
 
-from bpy.props import BoolProperty, EnumProperty, FloatProperty, IntProperty
+import numpy as np
+from bpy.props import BoolProperty, EnumProperty, FloatProperty, IntProperty, StringProperty
 
 from .meshes import KEPT, Taken
+from .objects import chosen
+from .painted import names_of
 from .quadq.features import mark_features
 from .quadq.targets import as_scale
+
+
+def names_painted(context: Any, typed: str) -> list[str]:
+    """The names of what is painted on the selected meshes that have such letters."""
+    found = dict.fromkeys(name for it in chosen(context) for name in names_of(it))
+    return [it for it in found if typed.lower() in it.lower()]
+
 
 PROPERTIES: dict[str, Any] = {
     "wish": EnumProperty(
@@ -19,6 +29,7 @@ PROPERTIES: dict[str, Any] = {
             ("FACES", "Faces", "How many faces each object is to have"),
             ("RATIO", "Ratio", "How many faces there are to be, as a part of those that there are"),
             ("EDGE", "Edge Length", "How long edges are to be"),
+            ("WITHIN", "Distance", "How far the new mesh may be from the old one: the coarsest is looked for"),
             ("SCALE", "Scale", "How long edges of patches are to be, in faces, as a part of what they are")]),
     "faces": IntProperty(name="Faces", default=5000, min=1, description="How many faces each object is to have"),
     "ratio": FloatProperty(
@@ -26,10 +37,23 @@ PROPERTIES: dict[str, Any] = {
         description="How many faces there are to be, as a part of those that there are now"),
     "edge": FloatProperty(
         name="Edge Length", default=0.1, min=1e-6, subtype="DISTANCE", description="How long edges are to be"),
+    "within": FloatProperty(
+        name="Distance", default=0.01, min=1e-6, subtype="DISTANCE",
+        description="How far the new mesh may be from the old one, and the old one from it"),
     "scale": FloatProperty(
         name="Scale", default=0.5, min=0.001, max=1000.0, soft_min=0.1, soft_max=4.0,
         description="How long edges of patches are to be, in faces, as a part of what they are: 1/2 gives about a "
                     "quarter of the faces"),
+    "selected": BoolProperty(
+        name="Selected Faces Alone",
+        description="Of an object in edit mode remesh the selected faces alone, as far as their rows allow. The number "
+                    "of faces or the length of edges is for these, and their border stays a line of edges"),
+    "density": StringProperty(
+        name="Density", search=lambda _it, context, typed: names_painted(context, typed),
+        description="A vertex group or a colour attribute: where it is painted faces are denser"),
+    "times": FloatProperty(
+        name="Times as Dense", default=4.0, min=0.01, max=100.0, soft_min=0.25, soft_max=16.0,
+        description="How many times as dense faces are where the vertex group or the colour is at its full"),
     "keep_sharp": BoolProperty(
         name="Sharp Edges", default=True,
         description="Keep the edges that are marked sharp; where none is, those whose faces meet at an angle"),
@@ -64,7 +88,7 @@ PROPERTIES: dict[str, Any] = {
         name="Replace", description="Change the object's mesh, for all objects that share it, instead of making a new "
                                     "object and hiding the old one"),
     "coarse": BoolProperty(
-        name="Merge Patches", description="Remesh over fewer and larger patches; it goes with no kept edges"),
+        name="Merge Patches", description="Remesh over fewer and larger patches"),
     "floor": EnumProperty(
         name="Floor", default="auto", description="The least number of faces along an edge of a patch",
         items=[(it, it.title(), "") for it in ("auto", "1", "2", "3")]),
@@ -95,7 +119,11 @@ class Wishes:
     faces: int
     ratio: float
     edge: float
+    within: float
     scale: float
+    selected: bool
+    density: str
+    times: float
     keep_sharp: bool
     keep_islands: bool
     keep_materials: bool
@@ -130,52 +158,52 @@ class Wishes:
         """The axis across which the half above 0 is mirrored with what it carries."""
         return "XYZ".index(self.mirror) if self.mirror in ("X", "Y", "Z") else None
 
-    @property
-    def keeps(self) -> bool:
-        """Whether edges can be kept: the program has no command for that with merged patches or a length of edges."""
-        return not self.coarse and self.wish != "EDGE"
-
     def wished_faces(self, now: int) -> Optional[int]:
         """How many faces an object of so many is to have, where that is wished."""
         return {"FACES": self.faces, "RATIO": max(1, round(self.ratio * now))}.get(self.wish)
 
     def kinds(self) -> list[str]:
         """The kinds of marked edges that are kept."""
-        return [it for it in KEPT if self.keeps and getattr(self, f"keep_{it}")]
+        return [it for it in KEPT if getattr(self, f"keep_{it}")]
 
     def for_package(self, old: Taken) -> dict[str, Any]:
         """The same for the package, of a mesh whose marked edges of these kinds are its lines."""
         mesh = old.mesh
-        wish: dict[str, Any] = {"edge": f"{self.edge / self.size:.9g}"} if self.wish == "EDGE" else (
-            {"scale": as_scale(self.scale)} if self.wish == "SCALE" else {"faces": self.wished_faces(mesh.face_count)})
+        region = None if old.selected is None else np.flatnonzero(old.selected)
+        wishes: dict[str, dict[str, Any]] = {
+            "EDGE": {"edge": f"{self.edge / self.size:.9g}"}, "WITHIN": {"within": self.within / self.size},
+            "SCALE": {"scale": as_scale(self.scale)}}
+        faces = self.wished_faces(mesh.face_count if region is None else len(region))
         by_angle = self.keep_angle or (self.keep_sharp and not old.marked("sharp").any())
         kinds = {"lines": bool(mesh.lines), "materials": self.keep_materials, "seams": self.keep_islands}
-        keep = [kind for kind, is_asked in kinds.items() if is_asked and self.keeps]
-        sharp = math.degrees(self.angle) if by_angle and self.keeps else None
+        keep = [kind for kind, is_asked in kinds.items() if is_asked]
+        sharp = math.degrees(self.angle) if by_angle else None
         if (keep or sharp) and not len(mark_features(mesh, sharp, kinds=keep, corners=self.corners).edges):
-            # With nothing to keep `remesh` does the same, which `check` judges.
+            # With nothing to keep `remesh` may do the same, which `check` judges.
             keep, sharp = [], None
         return dict(
-            wish, floor=self.floor, subdivide=self.subdivide, relax=self.relax, corners=self.corners, keep=keep,
-            sharp=sharp,
-            coarse=self.coarse and self.wish != "EDGE", folder=self.folder,
+            wishes.get(self.wish, {"faces": faces}), floor=self.floor, subdivide=self.subdivide, relax=self.relax,
+            corners=self.corners, keep=keep, sharp=sharp, coarse=self.coarse, folder=self.folder, region=region,
+            density=None if old.painted is None else 1 + (self.times - 1) * np.clip(old.painted, 0, 1),
             mirror=None if self.axis is None else self.mirror.lower(),
             symmetry="auto" if self.mirror == "AUTO" else "off")
 
 
-def draw_wish(layout: Any, it: Any) -> None:
-    """How fine it is to be."""
-    row = layout.row(align=True)
-    row.use_property_split = False
-    for name in ("FACES", "RATIO", "EDGE"):
-        row.prop_enum(it, "wish", name)
+def draw_wish(layout: Any, it: Any, columns: int = 4) -> None:
+    """How fine it is to be, with the ways to say that in so many columns."""
+    flow = layout.grid_flow(row_major=True, columns=columns, even_columns=True, align=True)
+    flow.use_property_split = False
+    for name in ("FACES", "RATIO", "EDGE", "WITHIN"):
+        flow.prop_enum(it, "wish", name)
     layout.prop(it, it.wish.lower())
+    layout.prop(it, "density")
+    if it.density:
+        layout.prop(it, "times")
 
 
 def draw_keep(layout: Any, it: Any) -> None:
     """What is kept, of what is often used."""
     column = layout.column(heading="Keep")
-    column.enabled = not it.coarse and it.wish != "EDGE"
     for name in KEEP_FIRST:
         column.prop(it, f"keep_{name}")
     layout.prop(it, "carry")
@@ -188,7 +216,6 @@ def draw_more(layout: Any, it: Any) -> None:
     row.use_property_split = False
     row.prop_enum(it, "wish", "SCALE")
     column = layout.column(heading="Keep")
-    column.enabled = not it.coarse and it.wish != "EDGE"
     for name in KEEP_MORE:
         column.prop(it, f"keep_{name}")
     column.prop(it, "angle")

@@ -38,6 +38,7 @@ SIGNS = (("plane", "mirror plane"), ("polygons", "corners"), ("edge", "edge "), 
 MEANINGS = (
     ("over a seam of the texture or a border of names",
      "over the border of a UV island or a material: Keep > UV Islands and Materials leave none"),
+    ("outside of the region", "outside of the selected faces"),
     ("--sharp 30 keeps them", "Keep > All by Angle keeps them"),
     ("--sharp 30 or more faces bring them nearer", "Keep > All by Angle or more faces bring them nearer"),
     ("try --sharp 30 or more faces", "try Keep > All by Angle, or more faces"),

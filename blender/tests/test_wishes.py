@@ -4,6 +4,7 @@ import unittest
 
 import bpy
 import numpy as np
+import quadq_remesh.wishes as wishes
 import shapes
 from shapes import area, chosen, folded, grid, mark, marked, shape, suzanne
 
@@ -109,7 +110,7 @@ class Wishes(unittest.TestCase):
         counts = []
         for coarse in (False, True):
             chosen(source)
-            remesh(**{**PLAIN, "keep_sharp": coarse}, scale=0.5, coarse=coarse, seams=True)
+            remesh(**PLAIN, scale=0.5, coarse=coarse, seams=True)
             new = bpy.context.object
             self.assertEqual(shape(new.data), shape(source.data))
             counts.append(len(marked(new.data, "seams")))
@@ -145,6 +146,109 @@ class Wishes(unittest.TestCase):
         places = {tuple(round(it, 4) + 0.0 for it in point.co) for point in whole.data.vertices}
         self.assertEqual({(0.0 - x, y, z) for x, y, z in places}, places)
 
+    def test_a_distance_is_one_of_the_scene(self):
+        for scale in (1, 10):
+            bpy.ops.mesh.primitive_torus_add(major_segments=48, minor_segments=24)
+            it = bpy.context.object
+            it.scale = (scale,) * 3
+            bpy.context.view_layer.update()
+            counts = []
+            for distance in (0.02 * scale, 0.1 * scale):
+                chosen(it)
+                remesh(wish="WITHIN", within=distance)
+                counts.append(len(bpy.context.object.data.polygons))
+                self.assertLess(shapes.distance(bpy.context.object.data, it.data) * scale, distance * 1.001)
+            self.assertLess(counts[1], counts[0])
+            self.assertLess(counts[0], 1152)
+
+    def test_faces_are_denser_where_a_group_or_a_colour_is_painted(self):
+        for kind in ("group", "POINT", "CORNER"):
+            shapes.empty_scene()
+            it = suzanne(2)
+            left = [v.index for v in it.data.vertices if v.co.x < 0]
+            if kind == "group":
+                it.vertex_groups.new(name="dense").add(left, 1.0, "REPLACE")
+            else:
+                colours = it.data.color_attributes.new("dense", "FLOAT_COLOR", kind)
+                at = range(len(it.data.vertices)) if kind == "POINT" else [it.vertex_index for it in it.data.loops]
+                for row, vertex in zip(colours.data, at):
+                    row.color = (1, 1, 1, 1) if vertex in set(left) else (0, 0, 0, 1)
+            self.assertEqual(wishes.names_painted(bpy.context, "d"), ["dense"])
+            wish = dict(wish="FACES", faces=6000) if kind == "group" else dict(wish="SCALE", scale=0.7)
+            remesh(**{**PLAIN, **wish}, density="dense", times=6.0, replace=True)
+            xs = [face.center.x for face in it.data.polygons]
+            if kind == "group":
+                self.assertAlmostEqual(len(xs), 6000, delta=600)
+            self.assertGreater(sum(x < 0 for x in xs), 1.5 * sum(x > 0 for x in xs), kind)
+            self.assertIn("dense", [*it.vertex_groups.keys(), *it.data.color_attributes.keys()])
+        remesh(**PLAIN, scale=0.5, density="none", replace=True)
+        self.assertTrue(any("no vertex group or colour attribute none" in it for it in shapes.messages()))
+
+    def selected_torus(self, is_selected):
+        """A torus in edit mode with these faces selected."""
+        bpy.ops.mesh.primitive_torus_add(major_segments=48, minor_segments=24)
+        it = bpy.context.object
+        bpy.ops.object.mode_set(mode="EDIT")
+        bpy.ops.mesh.select_all(action="DESELECT")
+        bpy.ops.object.mode_set(mode="OBJECT")
+        for face in it.data.polygons:
+            face.select = is_selected(face.center)
+        bpy.ops.object.mode_set(mode="EDIT")
+        bpy.context.tool_settings.mesh_select_mode = (False, False, True)
+        return it
+
+    def test_selected_faces_alone_are_remeshed(self):
+        for wished in (dict(wish="RATIO", ratio=2.0), dict(faces=288), dict(wish="SCALE", scale=2.0),
+                       dict(wish="EDGE", edge=0.1)):
+            shapes.empty_scene()
+            it = self.selected_torus(lambda at: at.x > 0)
+            before = {tuple(round(x, 4) for x in v.co) for v in it.data.vertices if v.co.x < -0.01}
+            remesh(selected=True, replace=True, **{**PLAIN, "wish": "FACES", **wished})
+            self.assertEqual((bpy.context.mode, bpy.context.object), ("EDIT_MESH", it))
+            bpy.ops.object.mode_set(mode="OBJECT")
+            inside = sum(face.center.x > 0 for face in it.data.polygons)
+            self.assertEqual(len(it.data.polygons) - inside, 576, shapes.messages())
+            self.assertEqual({tuple(round(x, 4) for x in v.co) for v in it.data.vertices if v.co.x < -0.01}, before)
+            if "edge" not in wished:
+                self.assertEqual(inside, 288 if "faces" in wished else 1152, wished)
+            self.assertGreater(inside, 576 if "faces" not in wished else 0)
+
+    def test_selected_faces_are_offered_in_edit_mode(self):
+        import quadq_remesh.faults as faults
+        import quadq_remesh.seen as seen
+        self.selected_torus(lambda at: at.x > 0)
+        found = seen.Seen.of(bpy.context)
+        kept = bpy.context.scene.quadq
+        for name in ("wish", "ratio", "selected"):
+            self.addCleanup(kept.property_unset, name)
+        kept.wish, kept.ratio, kept.selected = "RATIO", 2.0, True
+        self.assertEqual(found.words(wishes.Wishes.of(kept)), "Selected faces: 576 → 1,152")
+        self.assertEqual((found.selected, found.half), ([576], 1152))
+        self.assertFalse(faults.is_shown(bpy.context))
+        bpy.ops.mesh.select_all(action="SELECT")
+        self.assertIsNone(seen.Seen.of(bpy.context).selected)
+        bpy.ops.mesh.select_all(action="DESELECT")
+        with self.assertRaisesRegex(RuntimeError, "no face is selected"):
+            remesh(selected=True)
+        self.assertEqual(bpy.context.mode, "EDIT_MESH")
+
+    def test_edges_stay_with_merged_patches_and_a_length_too(self):
+        for more in (dict(wish="EDGE", edge=3.0), dict(wish="SCALE", scale=1 / 3, coarse=True)):
+            roof, ridge = folded()
+            for edge in ridge:
+                mark(roof.data, edge, "sharp")
+            remesh(replace=True, **more)
+            self.assertTrue(marked(roof.data, "sharp"))
+            self.assertEqual({roof.data.vertices[end].co.x for at in marked(roof.data, "sharp")
+                              for end in roof.data.edges[at].vertices}, {4})
+
+    def test_islands_that_differ_by_rounding_alone_are_one(self):
+        bpy.ops.mesh.primitive_grid_add(x_subdivisions=16, y_subdivisions=24, size=2)
+        grid_of_blender = bpy.context.object
+        remesh(wish="SCALE", scale=0.5, mirror="NONE", replace=True)
+        self.assertEqual(len(grid_of_blender.data.polygons), 96)
+        self.assertEqual(shapes.last().report.marks, "")
+
     def test_wishes_are_kept_with_the_scene(self):
         kept = bpy.context.scene.quadq
         kept.faces = 77
@@ -159,7 +263,6 @@ class Wishes(unittest.TestCase):
 
     def test_what_the_dialog_says(self):
         import quadq_remesh.seen as seen
-        import quadq_remesh.wishes as wishes
         bpy.ops.mesh.primitive_monkey_add()
         found = seen.Seen.of(bpy.context)
         self.assertEqual((found.faces, found.others, found.has_modifiers), ([500], 32, False))
