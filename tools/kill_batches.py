@@ -206,6 +206,8 @@ def main() -> int:
     parser.add_argument("--disk", type=pathlib.Path)
     parser.add_argument("--no-stubs", action="store_true")
     asked = parser.parse_args()
+    # A shell ignores it for what it starts behind it, and so would all runs until they have their own handlers.
+    signal.signal(signal.SIGINT, signal.default_int_handler)
     with tempfile.TemporaryDirectory() as folder:
         batch = Batch(pathlib.Path(folder), asked.files, asked.jobs, random.Random(asked.seed))
         begun = time.monotonic()
