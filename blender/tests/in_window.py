@@ -77,14 +77,6 @@ def expect(is_so, words):
     print("window:", words, flush=True)
 
 
-def pace():
-    """Seconds of work in which a machine as busy as this one does what a calm one does in about a second."""
-    begun = time.process_time()
-    for _ in range(3_000_000):
-        pass
-    return max(1.0, 20 * (time.process_time() - begun))
-
-
 def suzanne(levels):
     for it in list(bpy.data.objects):
         bpy.data.objects.remove(it)
@@ -157,11 +149,11 @@ def course():
     began(faces=4000)
     yield 0.7
     yield from answered()
-    Ticks.longest = 0.0
+    Built.steps = 0
     yield lambda: not runs() and len(counts()) == 1 and counts() != [7872]
     first = counts()[0]
     expect(abs(first - 4000) < 400, f"{first} faces where 4000 were wished")
-    expect(Ticks.longest < pace(), f"the window waits for no more than {Ticks.longest:.2f} s of work at a time")
+    expect(Built.steps > 2, f"the new mesh is built in {Built.steps} steps, between which the window has its turn")
     yield 0.5
     press("ESC")
     yield 0.5
@@ -225,11 +217,15 @@ class Ticks:
     """Looks at the window, as often as it lives."""
 
     count = 0
-    last = longest = 0.0
-    """When the last was, and the longest time between two, as work of this process."""
     until = 0.0
     waits = None
     steps = None
+
+
+class Built:
+    """In how many steps Blender's new mesh was built."""
+
+    steps = 0
 
 
 class Drawn:
@@ -240,8 +236,6 @@ class Drawn:
 
 def tick():
     Ticks.count += 1
-    now = time.process_time()
-    Ticks.longest, Ticks.last = max(Ticks.longest, now - Ticks.last), now
     try:
         if Ticks.waits is not None and not Ticks.waits():
             if time.monotonic() > Ticks.until:
@@ -271,11 +265,21 @@ def held(tell):
     return wrapped
 
 
+def in_steps(build):
+    def wrapped(*words):
+        for data in build(*words):
+            Built.steps += 1
+            yield data
+    return wrapped
+
+
 install()
+import quadq_remesh.course as course_of  # noqa: E402
 import quadq_remesh.panel as panel  # noqa: E402
 import quadq_remesh.work as work  # noqa: E402
 
 work.Work._tell = held(work.Work._tell)
+course_of.built = in_steps(course_of.built)
 drawn = panel.VIEW3D_PT_quadq.draw
 
 
