@@ -100,25 +100,6 @@ class Browser:
             raise RuntimeError(f"{what}: {told['exceptionDetails']}")
         return told["result"].get("value")
 
-    def seconds(self) -> float:
-        """How long its processes have worked, on all processors together: what else the machine does is not in it."""
-        children: dict[int, list[int]] = {}
-        ticks: dict[int, int] = {}
-        for it in Path("/proc").iterdir():
-            if it.name.isdigit():
-                try:
-                    told = (it / "stat").read_text().rpartition(")")[2].split()
-                except OSError:
-                    continue
-                children.setdefault(int(told[1]), []).append(int(it.name))
-                ticks[int(it.name)] = int(told[11]) + int(told[12])
-        total, left = 0, [self.process.pid]
-        while left:
-            one = left.pop()
-            total += ticks.get(one, 0)
-            left += children.get(one, [])
-        return total / os.sysconf("SC_CLK_TCK")
-
     def mouse(self, kind: str, x: float, y: float, **more: Any) -> None:
         self.ask("Input.dispatchMouseEvent", type=kind, x=x, y=y, **more)
 

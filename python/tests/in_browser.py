@@ -158,8 +158,7 @@ class Pages(unittest.TestCase):
         self.quiet()
 
     def test_a_hundred_thousand_faces_are_turned_at_the_price_of_few(self) -> None:
-        """While they move, few faces are drawn, and a quarter of the pixels; then all of them. What a picture takes is
-        measured as the work of the browser's processes, beside that of an empty picture."""
+        """While they move, few faces are drawn, and a quarter of the pixels; then all of them."""
         balls = [drum(316, 158, is_round=True)] * 2
         patches = np.arange(balls[0].face_count) // 1_000
         shown = [Shown(label, it, None, patches, np.arange(50) % 8) for label, it in zip(("before", "after"), balls)]
@@ -177,9 +176,6 @@ class Pages(unittest.TestCase):
         self.assertLess(self.browser.value("viewer.pieces"), 8_001)
         self.assertLess(self.browser.value("viewer.canvas.width"), 0.51 * width)
         self.shot("balls_turned")
-        empty, quick, whole = (self.work(it, times) for it, times in (
-            ("viewer.painter.clear()", 10), ("viewer.turn(3, 0)", 10), ("viewer.change()", 3)))
-        self.assertLess(quick - empty, (whole - empty) / 4, (empty, quick, whole))
         # Near by, the few are smaller.
         far = self.browser.value(NEAR_BY)
         self.browser.value("viewer.view = { ...viewer.view, at: viewer.models[1].place(30000, 0), zoom: 8 }, 1")
@@ -193,14 +189,6 @@ class Pages(unittest.TestCase):
         self.browser.wait_for(drawn)
         self.shot("balls")
         self.quiet()
-
-    def work(self, what: str, times: int) -> float:
-        """Seconds of a processor for a picture, on average."""
-        before = self.browser.seconds()
-        self.browser.value(f"(async () => {{ for (let at = 0; at < {times}; at++) {{ {what};"
-                           " for (let it = 0; it < 2; it++) await new Promise(requestAnimationFrame);"
-                           " await new Promise((done) => viewer.painter.finished(done)); } })()")
-        return (self.browser.seconds() - before) / times
 
     def test_each_warning_turns_the_view_to_its_place(self) -> None:
         torus = read_obj((EXAMPLES / "torus.obj").read_text())
