@@ -45,6 +45,8 @@ STUBS = {
 """What is done in place of the program, once in twenty runs."""
 SECOND = 1.5
 """How long an end by a signal may take, on a machine that does much else."""
+PATIENCE = 30.0
+"""How long a worker may live that was still beginning when its batch was killed: it ends when it first reads."""
 MOST_TOLD = 100
 MOMENTS = 4.0
 """The moments lie in so many seconds: as files are taken away, there is always something to do."""
@@ -89,12 +91,11 @@ class Batch:
 
     def faults(self, out: pathlib.Path, whole: dict[str, bytes]) -> Iterator[str]:
         """What is not true or not whole."""
-        for _ in range(60):
-            if not self.left():
-                break
+        until = time.monotonic() + PATIENCE
+        while self.left() and time.monotonic() < until:
             time.sleep(0.05)
-        else:
-            yield f"processes are left: {self.left()}"
+        if left := self.left():
+            yield f"processes are left: {left}"
         there = {it.name: it.read_bytes() for it in out.iterdir()} if out.is_dir() else {}
         for name, data in there.items():
             if whole.get(name) != data:
