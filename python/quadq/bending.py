@@ -104,7 +104,7 @@ def rows_of(layout: Layout, kept: Array, density: Array) -> Rows:
         share = np.diff(np.append(row, len(of_arc))) / layout.old[of_arc[row]]
         squares[of_arc[row]] += share * (np.add.reduceat(lengths[edges], row) / share) ** 2
         rows[of_arc[row]] += share
-    return Rows(_high_of(np.concatenate(arcs), np.concatenate(found), count), np.sqrt(squares / np.maximum(rows, 1)),
+    return Rows(high_of(np.concatenate(arcs), np.concatenate(found), count), np.sqrt(squares / np.maximum(rows, 1)),
                 dense[0] / np.maximum(dense[1], 1))
 
 
@@ -120,13 +120,15 @@ def row_means(layout: Layout, of_edge: Array) -> Array:
     return np.asarray(sums * layout.old / np.maximum(edges, 1))
 
 
-def _high_of(arcs: Array, values: Array, count: int) -> Array:
-    """(arcs,): for each arc the value that nine of ten do not exceed."""
-    order = np.lexsort((values, arcs))
-    last = np.cumsum(np.bincount(arcs, minlength=count))
-    first = last - np.bincount(arcs, minlength=count)
-    at = first + np.floor(MOST * np.maximum(last - first - 1, 0)).astype(np.int64)
-    return np.asarray(values[order][at])
+def high_of(groups: Array, values: Array, count: int) -> Array:
+    """(count,) float64: for each group the value that nine of ten of its values do not exceed; 0 where it has none."""
+    order = np.lexsort((values, groups))
+    sizes = np.bincount(groups, minlength=count)
+    at = np.cumsum(sizes) - sizes + np.floor(MOST * np.maximum(sizes - 1, 0)).astype(np.int64)
+    some = np.flatnonzero(sizes)
+    found = np.zeros(count)
+    found[some] = values[order][at[some]]
+    return found
 
 
 def _units(vectors: Array) -> Array:

@@ -21,8 +21,9 @@ from .quality import quality_of
 from .refusal import Refusal
 from .settings import Settings
 from .targets import MOST_FACES, MOST_TRIES, TOO_FINE, Counted, Reached, nearest_scale
-from .trying import Trials, Tried, Worth, worth_of
-from .wishing import AS_BEFORE, BENT, EVEN, FLAT, Shape, Shares
+from .trying import Trials, Tried, Worth
+from .wishing import (
+    AS_BEFORE, BENT, EVEN, FLAT, Along, Shape, Shares, by_bends, by_density, by_length, by_old_points)
 
 BY_SHAPE = Reached(None, 0, 0, "", "by shape")
 MERGED = replace(BY_SHAPE, way="by shape, with merged patches")
@@ -72,11 +73,32 @@ class Chooser:
             return self._by_shape(settings.faces)
         reached = Reached(settings.scale, 0, 0, "")
         if self.local.is_nowhere and (settings.mode != "even" or settings.edge is not None):
-            return self._written(settings.wish(settings.scale), reached)
+            return self._written(self._as_is(), reached)
         shapes, lengths = self._absolute()
         self.begin("remeshing", len(self.parts))
-        tried = Trials(self.shop, shapes, self._wish(False)).at(lengths)
+        tried = self._trials(shapes).at(lengths)
         return _chosen(tried, reached)
+
+    def _as_is(self) -> Wish:
+        """What settings wish of all arcs alike. Edges of one length are that along each arc, where the program can."""
+        wish = self.settings.wish(self.settings.scale)
+        if wish.edge is None or not self.shop.program.has_spacing():
+            return wish
+        return replace(wish, command=FIT, is_merged=self.settings.coarse, is_spaced=True)
+
+    @property
+    def _is_told(self) -> bool:
+        """Whether the user says where faces are: then points stand there, and no other places are tried."""
+        return self.settings.mode == "even" or self.settings.edge is not None or not self.local.is_nowhere
+
+    def _trials(self, shapes: list[Shape], is_merged: bool = False, is_capped: bool = False) -> Trials:
+        """Trials with points where they are wished, if that is told, or else tried in both ways."""
+        wish, along = self._wish(is_merged), _along(self.settings, self.local)
+        if not self.shop.program.has_spacing():
+            return Trials(self.shop, shapes, wish, is_capped)
+        if self._is_told:
+            return Trials(self.shop, shapes, wish, is_capped, along)
+        return Trials(self.shop, shapes, wish, is_capped, None, (along, by_old_points))
 
     def _refuse_more_than(self, most: int, wished: int) -> None:
         if wished > most:
@@ -154,14 +176,18 @@ class Chooser:
         scale = self._by_scale(wished)
         tried, reached = Tried(scale.parts, scale.texts, scale.wish), replace(scale.reached, way="one scale")
         found.offer(tried, reached)
-        if not reached.because or reached.scale is None or len(tried.texts) != len(self.parts):
+        if reached.scale is None or len(tried.texts) != len(self.parts):
             return
         shapes = self._shapes()
+        trials = self._trials(shapes)
         tried = replace(tried, shapes=tuple(shapes), wished=tuple(
             float(reached.scale) * it.layout.old for it in shapes))
-        nearer = met(Trials(self.shop, shapes, self._wish(False)), tried, found.wished, found.is_good)
+        found.offer_others(trials, tried, replace(reached, scale=None))
+        nearer = met(trials, tried, found.wished, found.is_good) if reached.because else tried
         if nearer is not tried:
-            found.offer(nearer, replace(reached, scale=None, way="one scale, with some rows of faces more or less"))
+            reached = replace(reached, scale=None, way="one scale, with some rows of faces more or less")
+            found.offer(nearer, reached)
+            found.offer_others(trials, nearer, reached)
 
     def _shares(self, shapes: Sequence[Shape]) -> list[Shares]:
         if self.settings.mode == "even":
@@ -175,18 +201,18 @@ class Chooser:
     ) -> None:
         """Lengths by shape, as they come nearest by one multiplier, and with single chords changed."""
         is_capped = self.local.density is None and found.wished <= self.old.face_count
-        trials = Trials(self.shop, shapes, self._wish(is_merged), is_capped)
+        trials = self._trials(shapes, is_merged, is_capped)
         lengths = [it.lengths(share) for it, share in zip(shapes, shares)]
         first = Multiplying(trials, lengths, found.wished, self._begin_try).nearest()
-        found.offer(first, MERGED if is_merged else BY_SHAPE)
         nearer = met(trials, first, found.wished, found.is_good)
-        if nearer is not first:
-            found.offer(nearer, MERGED if is_merged else BY_SHAPE)
+        for tried in (first, nearer) if nearer is not first else (first,):
+            found.offer(tried, MERGED if is_merged else BY_SHAPE)
+            found.offer_others(trials, tried, MERGED if is_merged else BY_SHAPE)
 
     def _within(self, distance: float) -> Chosen:
         """The coarsest mesh that is about within a distance of the old surface, and the old one within that of it."""
         shapes = self._shapes()
-        trials = Trials(self.shop, shapes, self._wish(False), self.local.density is None)
+        trials = self._trials(shapes, False, self.local.density is None)
         lengths = [it.lengths(share) for it, share in zip(shapes, self._shares(shapes))]
         tried, because = coarsest_within(trials, lengths, self.old, distance, self._begin_try)
         return _chosen(tried, Reached(None, self.halves * tried.faces, next(self.tries) - 1, because, BY_SHAPE.way))
@@ -205,22 +231,30 @@ class Options:
 
     def offer(self, tried: Tried, reached: Reached) -> None:
         """With merged patches that are much farther a number is hardly nearer."""
-        worth = worth_of(tried, self.old, self.wished)
-        if reached.way == MERGED.way and worth.greatest > FARTHER * self.best()[0].greatest:
-            worth = replace(worth, missed=worth.missed + LATER)
+        worth = Worth(tried, self.old, self.wished)
+        if reached.way == MERGED.way and worth.distances[0] > FARTHER * self.best()[0].distances[0]:
+            worth.missed += LATER
         self.found.append((worth, tried, reached))
+
+    def offer_others(self, trials: Trials, tried: Tried, reached: Reached) -> None:
+        """The same lengths, with points where others wish them, if none that was found is nearer to the number."""
+        for it in trials.spaced(tried) if Worth(tried, self.old, self.wished).missed <= self.best()[0].missed else ():
+            self.offer(it, reached)
 
     def best(self) -> tuple[Worth, Tried, Reached]:
         """The best of those that have no more inverted faces than the first; where no more faces are wished than there
         are, of those with no more, if any."""
         good = [it for it in self.found if it[0].inverted <= self.found[0][0].inverted]
         fewer = [it for it in good if it[1].faces <= self.old.face_count]
-        return min(fewer if fewer and self.wished <= self.old.face_count else good, key=lambda it: it[0])
+        some = fewer if fewer and self.wished <= self.old.face_count else good
+        first = min((it[0].missed, it[0].inverted) for it in some)
+        some = [it for it in some if (it[0].missed, it[0].inverted) == first]
+        return some[0] if len(some) == 1 else min(some, key=lambda it: it[0].distances)
 
     @property
     def is_worse_by_shape(self) -> bool:
         """Whether all that were made by shape have more inverted faces than the first."""
-        return all(it[0].inverted > self.found[0][0].inverted for it in self.found if it[2].scale is None)
+        return all(it[0].inverted > self.found[0][0].inverted for it in self.found if it[2].way == BY_SHAPE.way)
 
     def reason(self, halves: int) -> str:
         """Why the best has not about as many faces as wished, or nothing."""
@@ -229,7 +263,7 @@ class Options:
             return ""
         nearer = [it for it in self.found if it[0].missed < worth.missed]
         if nearer:
-            there = min(nearer, key=lambda it: it[0])
+            there = min(nearer, key=lambda it: (it[0].missed, it[0].inverted))
             return (f"a mesh of {halves * there[1].faces} would have {halves * there[0].inverted} inverted faces, and "
                     f"this one has {halves * worth.inverted}")
         lengths = np.concatenate(tried.lengths)
@@ -239,6 +273,13 @@ class Options:
             twice = ", and with a lower one an edge would be there twice" if int(floors.max()) > 1 else ""
             return f"{short} of {len(lengths)} arcs are as short as the floor {int(floors.max())}{twice}"
         return "no row of faces more or less brings it nearer"
+
+
+def _along(settings: Settings, local: Local) -> Along:
+    """Where along arcs new points are wished: as edges are long, where their length is told, or else by shape."""
+    if settings.mode == "even" or settings.edge is not None or local.size is not None:
+        return by_length
+    return by_bends if settings.is_by_shape else by_density
 
 
 def _chosen(tried: Tried, reached: Reached) -> Chosen:

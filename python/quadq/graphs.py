@@ -92,16 +92,25 @@ class Cut:
         long = np.add.reduceat(lengths[self.uses], starts) if len(starts) else lengths[:0]
         return np.asarray(long.reshape(-1, len(SIDES), *lengths.shape[1:]))
 
-    def arc_of_edge(self, mesh: Mesh) -> Array:
-        """(edges,) int64: the arc on which each edge of the mesh lies, or NONE."""
+    @cached_property
+    def steps(self) -> Array:
+        """(edges of arcs, 2) int64: the points between which arcs go, edge by edge, one arc after the other."""
         is_step = np.ones(len(self.along), dtype=bool)
         is_step[self._lasts] = False
         first = np.flatnonzero(is_step)
-        edges = mesh.edges.numbers_of(np.sort(np.column_stack([self.along[first], self.along[first + 1]]), axis=1))
+        return np.column_stack([self.along[first], self.along[first + 1]])
+
+    def edges_along(self, mesh: Mesh) -> Array:
+        """(edges of arcs,) int64: the edges of the mesh along the arcs, one arc after the other."""
+        edges = mesh.edges.numbers_of(np.sort(self.steps, axis=1))
         if np.any(edges == NONE):
             raise strange("an arc goes where the mesh has no edge")
+        return edges
+
+    def arc_of_edge(self, mesh: Mesh) -> Array:
+        """(edges,) int64: the arc on which each edge of the mesh lies, or NONE."""
         found = np.full(len(mesh.edges.ends), NONE)
-        found[edges] = np.repeat(np.arange(len(self.lengths)), self.lengths)
+        found[self.edges_along(mesh)] = np.repeat(np.arange(len(self.lengths)), self.lengths)
         return found
 
     def patches_of(self, mesh: Mesh) -> Array:

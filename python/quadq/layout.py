@@ -44,6 +44,16 @@ class Layout:
         return self.cut.arc_of_edge(self.mesh)
 
     @cached_property
+    def edges_along(self) -> Array:
+        """(edges of arcs,) int64: the edges along the arcs, one arc after the other."""
+        return self.cut.edges_along(self.mesh)
+
+    @cached_property
+    def arc_along(self) -> Array:
+        """(edges of arcs,) int64: the arc of each of these."""
+        return np.repeat(np.arange(len(self.old)), self.old)
+
+    @cached_property
     def side_of_use(self) -> Array:
         """(uses,) int64: the side of each use of an arc by the cut: four times a patch, and the place of the side."""
         return np.repeat(np.arange(self.cut.uses_of_sides.size), self.cut.uses_of_sides.ravel())

@@ -10,6 +10,7 @@ from .distance import Surface, distance_between
 from .features import mark_features
 from .mesh import Mesh
 from .refusal import Refusal
+from .quality import quality_of
 from .targets import TOO_FINE
 from .trying import Trials, Tried
 
@@ -54,14 +55,18 @@ def coarsest_within(
 
 
 def _tried(trials: Trials, lengths: Sequence[Array], old: Mesh) -> tuple[Optional[Tried], float]:
-    """A remesh and its distance; none where it is too fine."""
+    """The nearest remesh with these lengths that has no more inverted faces than the first, and its distance; none
+    where it is too fine."""
     try:
         tried = trials.at(lengths)
     except Refusal as refusal:
         if refusal.status != TOO_FINE:
             raise
         return None, math.inf
-    return tried, greatest_between(tried.mesh(), old)
+    inverted = quality_of(tried.mesh()).inverted
+    others = [it for it in trials.spaced(tried) if quality_of(it.mesh()).inverted <= inverted]
+    far = [greatest_between(it.mesh(), old) for it in (tried, *others)]
+    return (tried, *others)[far.index(min(far))], min(far)
 
 
 def _between(low: float, high: float) -> float:

@@ -234,7 +234,7 @@ class Workshop:
             except Refusal as said:
                 if said.status not in DIVIDES:
                     raise
-                kinds = part.kinds(wish.command == "size") if kinds is None else kinds
+                kinds = part.kinds(wish.edge is not None) if kinds is None else kinds
                 if said.status == DOUBLED and wish.floor == AUTO and not floors and not kinds.max():
                     wish, floors = wish.at_floor(RAISED), [RAISED]
         assert kinds is not None

@@ -31,7 +31,8 @@ DOUBLED = 11
 
 
 SQUARE = b"v 0 0 0\nv 1 0 0\nv 1 1 0\nv 0 1 0\nf 1 2 3 4\n"
-_HAS_FIT: dict[Path, bool] = {}
+_TAKES: dict[tuple[Path, tuple[str, ...]], bool] = {}
+"""Whether the program at a path takes a command with these words, and judges what comes of it."""
 
 
 @dataclass(frozen=True)
@@ -51,6 +52,13 @@ class Wish:
     """Of `fit`: whether patches are merged."""
     has_lines: bool = False
     """Of `fit`: whether lengths are wished edge by edge, by `#w` lines of the text."""
+    is_spaced: bool = False
+    """Of `fit`: whether new points stand where they are wished, and not at equal parts of the old edges."""
+
+    @property
+    def spacing(self) -> str:
+        """How new points stand along the arcs: `even` or `wished`."""
+        return "wished" if self.is_spaced and self.command == FIT else "even"
 
     def at_floor(self, floor: int) -> Wish:
         return replace(self, floor=floor)
@@ -70,7 +78,7 @@ class Wish:
         elif self.edge is not None:
             aim = f"edge:{self.edge:.6f}"
         return [FIT, "--keep", "lines" if self.keeps else "none", "--patches", "merged" if self.is_merged else "traced",
-                "--aim", aim, "--floor", str(floor), "--weight", self.weight, "--spacing", "even"]
+                "--aim", aim, "--floor", str(floor), "--weight", self.weight, "--spacing", self.spacing]
 
     def floors(self) -> list[int]:
         """The floors that are tried in place of `auto`, one after the other, where an edge would be there twice."""
@@ -153,12 +161,21 @@ class Program:
 
     def has_fit(self) -> bool:
         """Whether it takes all wishes together, and judges what comes of that. It is asked once."""
-        if self.path not in _HAS_FIT:
-            status, out, _ = run_program(self.path, Wish(command=FIT).words(1), SQUARE, self.until)
+        return self._takes(Wish(command=FIT))
+
+    def has_spacing(self) -> bool:
+        """Whether it puts new points where they are wished, and judges what comes of that. It is asked once."""
+        return self._takes(Wish(command=FIT, is_spaced=True))
+
+    def _takes(self, wish: Wish) -> bool:
+        words = wish.words(1)
+        key = self.path, tuple(words)
+        if key not in _TAKES:
+            status, out, _ = run_program(self.path, words, SQUARE, self.until)
             if status == 0:
                 status, _, _ = run_program(self.path, ["map"], b"\n".join([SQUARE, out]), self.until)
-            _HAS_FIT[self.path] = status == 0
-        return _HAS_FIT[self.path]
+            _TAKES[key] = status == 0
+        return _TAKES[key]
 
     def _run(self, words: list[str], text: bytes) -> bytes:
         status, out, said = run_program(self.path, words, text, self.until, self.halt)

@@ -348,6 +348,7 @@ class _Work:
             scale=chosen.reached.scale,
             edge=self.settings.edge,
             command=chosen.wish.command,
+            spacing=chosen.wish.spacing,
             within=self.settings.within,
             way=chosen.reached.way,
             strayed=chosen.reached.strayed,

@@ -108,6 +108,8 @@ class Report:
     beyond: Optional[tuple[int, int]] = None
     """Where a region was to change alone: how many arcs outside have another number of edges, and how many there are.
     """
+    spacing: str = "even"
+    """How new points stand along arcs: at equal parts of their old edges, or where they are `wished`."""
     factor: float = 1.0
     """How many times as large the mesh was made for the program, which rounds to millionths."""
 
@@ -171,6 +173,7 @@ class Report:
             ("lengths", self.way or None),
             ("scale", None if self.scale is None else f"{self.scale.numerator}/{self.scale.denominator}"),
             ("command", self.command if self.command != "remesh" else None),
+            ("spacing", self.spacing),
             ("edges that stay", self.marks or None),
             ("symmetric along", self.symmetry or None),
             ("floor", str(self.floor)),

@@ -16,12 +16,12 @@ from .settings import Settings
 APART = ("jobs", "folder")
 """The settings that change no result."""
 FACTS = (
-    "faces_before", "faces_after", "command", "scale", "edge", "parts", "arcs", "arcs_at_floor", "deviation",
+    "faces_before", "faces_after", "command", "spacing", "scale", "edge", "parts", "arcs", "arcs_at_floor", "deviation",
     "inverted_before", "inverted_after", "least_before", "least_after", "greatest_distance",
 )
 """What is told of a remesh, in the order of the table."""
 COLUMNS = (
-    "file", "output", "status", "faces before", "faces after", "command", "scale", "edge", "parts", "arcs",
+    "file", "output", "status", "faces before", "faces after", "command", "spacing", "scale", "edge", "parts", "arcs",
     "arcs at the floor", "deviation", "inverted before", "inverted after", "least scaled Jacobian before",
     "least scaled Jacobian after", "greatest distance", "seconds", "said",
 )
@@ -98,8 +98,9 @@ def _plain(value: Any) -> Any:
 def facts_of(report: Report) -> dict[str, Any]:
     """The figures of a remesh, by the names of `FACTS`."""
     before, after = report.before, report.after
-    values = (before.faces, after.faces, report.command, _plain(report.scale), _plain(report.edge), report.parts,
-              report.arcs, report.arcs_at_floor, report.deviation, before.quality.inverted, after.quality.inverted,
+    values = (before.faces, after.faces, report.command, report.spacing, _plain(report.scale), _plain(report.edge),
+              report.parts, report.arcs, report.arcs_at_floor, report.deviation, before.quality.inverted,
+              after.quality.inverted,
               round(before.quality.least, 4), round(after.quality.least, 4), float(f"{report.greatest_distance:.6g}"))
     return dict(zip(FACTS, values))
 

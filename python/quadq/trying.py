@@ -3,9 +3,9 @@
 from __future__ import annotations
 
 import math
-from dataclasses import dataclass
+from dataclasses import dataclass, replace
 from functools import cached_property
-from typing import Optional, Sequence
+from typing import Iterator, Optional, Sequence
 
 import numpy as np
 
@@ -16,7 +16,7 @@ from .parts import Part, Workshop, certified_lengths
 from .plain import written_mesh
 from .program import Wish
 from .quality import quality_of
-from .wishing import UNIT, Shape
+from .wishing import UNIT, Along, Shape
 
 NEAR = 0.01
 """A part of the wished number: so near is near enough."""
@@ -73,33 +73,36 @@ class Tried:
         return join([written_mesh(it) for it in self.texts])
 
 
-@dataclass(frozen=True, order=True)
 class Worth:
-    """What counts of a remesh, the most important first. Less is better."""
+    """What counts of a remesh of a mesh, where so many faces are wished. Distances are measured when they are asked
+    for: of those that miss the number as little, with as few inverted faces."""
 
-    missed: int
-    """How far its number of faces is off: 0 up to a hundredth, 1 up to two, 2 up to four, and so on."""
-    inverted: int
-    greatest: float
-    mean: float
+    def __init__(self, tried: Tried, old: Mesh, wished: float) -> None:
+        self.tried, self.old = tried, old
+        off = abs(tried.faces - wished) / wished
+        self.missed = math.ceil(math.log2(off / NEAR)) if off > NEAR else 0
+        """How far its number of faces is off: 0 up to a hundredth, 1 up to two, 2 up to four, and so on."""
+        self.inverted = quality_of(tried.mesh()).inverted
 
-
-def worth_of(tried: Tried, old: Mesh, wished: Optional[float]) -> Worth:
-    """How good a remesh of the mesh is, where so many faces are wished."""
-    new = tried.mesh()
-    ways = distance_between(new, old), distance_between(old, new)
-    off = 0.0 if wished is None else abs(tried.faces - wished) / wished
-    missed = math.ceil(math.log2(off / NEAR)) if off > NEAR else 0
-    return Worth(missed, quality_of(new).inverted, max(it.greatest for it in ways), sum(it.mean for it in ways) / 2)
+    @cached_property
+    def distances(self) -> tuple[float, float]:
+        """The greatest and the mean one, over both ways."""
+        new = self.tried.mesh()
+        ways = distance_between(new, self.old), distance_between(self.old, new)
+        return max(it.greatest for it in ways), sum(it.mean for it in ways) / 2
 
 
 class Trials:
     """Runs the program over all parts with wishes that are made from their shapes."""
 
-    def __init__(self, shop: Workshop, shapes: Sequence[Shape], wish: Wish, is_capped: bool = False) -> None:
+    def __init__(self, shop: Workshop, shapes: Sequence[Shape], wish: Wish, is_capped: bool = False,
+                 along: Optional[Along] = None, others: Sequence[Along] = ()) -> None:
         """Where it is capped, no arc wishes more edges than it had: new points lie on the old surface, and more of them
-        bring nothing nearer."""
-        self.shop, self.shapes, self.wish, self.is_capped = shop, tuple(shapes), wish, is_capped
+        bring nothing nearer. `along` says where along arcs new points are wished; None for equal parts of old edges.
+        `others` are tried beside it, for lengths that were found."""
+        self.shop, self.shapes, self.is_capped = shop, tuple(shapes), is_capped
+        self.along, self.others = along, tuple(others)
+        self.wish = replace(wish, is_spaced=along is not None)
 
     def times(self, lengths: Sequence[Array], factor: float) -> list[Array]:
         """Lengths for the arcs of each part, so many times as great where they change."""
@@ -110,6 +113,14 @@ class Trials:
 
     def at(self, lengths: Sequence[Array], first: Optional[Sequence[Array]] = None) -> Tried:
         """With these lengths wished for the arcs of each part, in place of those that were wished at first."""
-        asked = [shape.wished(it) for shape, it in zip(self.shapes, lengths)]
+        asked = [shape.wished(it, self.along and self.along(shape, it)) for shape, it in zip(self.shapes, lengths)]
         parts, texts = self.shop.remesh(asked, self.wish)
         return Tried(parts, texts, self.wish, self.shapes, tuple(lengths if first is None else first))
+
+    def spaced(self, tried: Tried) -> Iterator[Tried]:
+        """A remesh with the same lengths and its points where others wish them."""
+        lengths = [it.astype(float) for it in tried.lengths] if self.others and tried.fits_shapes else []
+        for along in self.others if lengths else ():
+            other = Trials(self.shop, self.shapes, self.wish, along=along).at(lengths, tried.wished)
+            if all(np.array_equal(*it) for it in zip(other.lengths, tried.lengths)):
+                yield other

@@ -4,6 +4,7 @@ from __future__ import annotations
 
 from dataclasses import dataclass
 from functools import cached_property
+from typing import Callable, Optional
 
 import numpy as np
 
@@ -13,11 +14,11 @@ from .layout import Layout
 from .local import NOWHERE, Local
 from .mesh import NONE
 from .parts import Part, with_wishes
+from .spacing import Columns, columns_of, divided, to_mean
+from .thinning import Bands, bands_of, kept_points
 
 UNIT = 1000
 """A wish for one new edge."""
-MOST = 1_000_000
-"""The greatest wish for an edge."""
 
 
 @dataclass(frozen=True)
@@ -46,11 +47,16 @@ class Shape:
     """What is wished of its single points and faces."""
 
     @cached_property
+    def _kept(self) -> Array:
+        """(edges,) bool: which edges are to stay."""
+        edges = self.part.mesh.edges
+        kept = np.zeros(len(edges.ends), dtype=bool)
+        kept[edges.numbers_of(self.part.marks)] = True
+        return kept
+
+    @cached_property
     def rows(self) -> Rows:
-        mesh = self.part.mesh
-        kept = np.zeros(len(mesh.edges.ends), dtype=bool)
-        kept[mesh.edges.numbers_of(self.part.marks)] = True
-        return rows_of(self.layout, kept, self.local.weights(len(mesh.points)))
+        return rows_of(self.layout, self._kept, self.local.weights(len(self.part.mesh.points)))
 
     @cached_property
     def _ways(self) -> tuple[Array, Array, Array]:
@@ -94,18 +100,61 @@ class Shape:
         sag, length = self.rows.sag, self.rows.length / self.layout.old
         return float(np.mean(sag <= 1e-3 * length)) > 0.5
 
-    def wished(self, lengths: Array) -> Part:
-        """The part with lines that wish these lengths (arcs,)."""
-        arcs = self.layout.arc_of_edge
-        edges = np.flatnonzero(arcs != NONE)
-        wishes = np.full(len(arcs), NONE)
-        wishes[edges] = _spread(np.rint(UNIT * lengths).astype(np.int64), self.layout.old, arcs[edges])
+    @cached_property
+    def columns(self) -> Columns:
+        return columns_of(self.layout, self._kept, self.local.weights(len(self.part.mesh.points))[
+            self.part.mesh.edges.ends].mean(axis=1))
+
+    @cached_property
+    def bands(self) -> Bands:
+        return bands_of(self.layout)
+
+    def wished(self, lengths: Array, along: Optional[Array] = None) -> Part:
+        """The part with lines that wish these lengths (arcs,), in equal parts or in shares (edges of arcs,) of the
+        edges along each. Edges outside a region wish to stay as they are, as far as that leaves something."""
+        layout, edges = self.layout, self.layout.edges_along
+        totals = np.rint(UNIT * lengths).astype(np.int64)
+        shares = np.ones(len(edges)) if along is None else along
+        if along is not None and self.local.region is not None:
+            shares = self._of_inside(totals / UNIT, shares)
+        wishes = np.full(len(layout.arc_of_edge), NONE)
+        wishes[edges] = divided(layout, totals, shares)
         return with_wishes(self.part, wishes)
 
+    def _of_inside(self, lengths: Array, shares: Array) -> Array:
+        """(edges of arcs,) float64: shares with which edges outside a region have the length 1 where that leaves some
+        for those inside."""
+        arcs, count = self.layout.arc_along, len(lengths)
+        is_inside = self.local.is_inside(self.part.mesh)[self.layout.edges_along]
+        many, summed = (np.bincount(arcs, it, minlength=count) for it in (~is_inside, shares * is_inside))
+        rest = lengths - many
+        by_inside = np.where(is_inside, shares * (rest / np.maximum(summed, 1e-9))[arcs], 1.0)
+        return np.asarray(np.where(((rest > 0) & (summed > 0))[arcs], by_inside, 1.0))
 
-def _spread(totals: Array, counts: Array, arcs: Array) -> Array:
-    """(edges,) int64: for edges of these arcs (edges,) equal parts of the totals of these, which add up to them."""
-    order = np.argsort(arcs, kind="stable")
-    rank = np.empty(len(arcs), dtype=np.int64)
-    rank[order] = np.arange(len(arcs)) - np.searchsorted(arcs[order], arcs[order])
-    return np.asarray(np.minimum(totals[arcs] // counts[arcs] + (rank < totals[arcs] % counts[arcs]), MOST))
+
+Along = Callable[[Shape, Array], Array]
+"""The shares (edges of arcs,) that edges have of the wishes of their arcs, for lengths (arcs,)."""
+
+
+def by_bends(shape: Shape, lengths: Array) -> Array:
+    """More where the rows beside an arc bend, or are to be denser."""
+    shares, sides = FLAT if shape.is_flat else BENT, shape.columns
+    bent, even = (to_mean(shape.layout, it) for it in (np.sqrt(sides.sag), sides.length))
+    return np.asarray(np.sqrt(shares.bent * bent ** 2 + shares.even * even ** 2 + shares.old) * sides.weight)
+
+
+def by_density(shape: Shape, lengths: Array) -> Array:
+    """More where the rows beside an arc are to be denser."""
+    return shape.columns.weight
+
+
+def by_length(shape: Shape, lengths: Array) -> Array:
+    """As much as edges are long, in the unit of the mesh or in what is wished there, or are to be denser."""
+    mesh = shape.part.mesh
+    dense = shape.local.weights(len(mesh.points))[mesh.edges.ends].mean(axis=1)
+    return np.asarray((shape.local.measures(mesh) * dense)[shape.layout.edges_along])
+
+
+def by_old_points(shape: Shape, lengths: Array) -> Array:
+    """As if new points are old ones, where there are no more: those that leave new edges near the rows."""
+    return kept_points(shape.layout, shape.bands, np.rint(lengths).astype(np.int64))

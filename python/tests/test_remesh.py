@@ -80,7 +80,7 @@ class Remesh(unittest.TestCase):
 
     def test_edges_of_one_length(self):
         report = remesh(grid(40, 30), edge=2.5).report
-        self.assertEqual((report.after.faces, report.after.mean_edge, report.command), (16 * 12, 2.5, "size"))
+        self.assertEqual((report.after.faces, report.after.mean_edge, report.command), (16 * 12, 2.5, "fit"))
         self.assertEqual((report.warnings, report.deviation), ((), None))
         uneven = remesh(grid(3, 40), edge=7).report
         self.assertIn("edges are 5.", uneven.warnings[0])
@@ -199,7 +199,8 @@ class CommandLine(unittest.TestCase):
         for words, head in (
             (["--scale", "2", "--lines"], "#quadq 1 crease scale 2/1 floor 1"),
             (["--faces", "16", "--sharp", "30", "--materials", "--no-corners"], "#quadq 1 crease"),
-            (["--scale", "2", "--coarse"], "#quadq 1 coarse"), (["--edge", ".25"], "#quadq 1 size edge 0.25 floor 1"),
+            (["--scale", "2", "--coarse"], "#quadq 1 coarse"),
+            (["--edge", ".25"], "#quadq 1 fit keep none patches traced aim edge:0.25 floor 1 weight"),
         ):
             page = self.room / "page.html"
             status, said, errors = self.run_words(marked, out, *words, "--report", page)
