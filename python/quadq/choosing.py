@@ -34,6 +34,8 @@ FARTHER, LATER = 1.5, 2
 MANY = 50_000
 """Of more faces, where still more are wished, one scale is taken: new points lie on the old surface, so that what is
 tried by shape brings little, and takes long."""
+CLOSE = 50_000
+"""Of more faces points are not tried at old points alone: to look which of them are best takes long."""
 SLOW = 300_000
 """Of more faces merged patches are not tried where they were not wished: each try takes seconds."""
 
@@ -98,7 +100,8 @@ class Chooser:
             return Trials(self.shop, shapes, wish, is_capped)
         if self._is_told:
             return Trials(self.shop, shapes, wish, is_capped, along)
-        return Trials(self.shop, shapes, wish, is_capped, None, (along, by_old_points))
+        others = (along, by_old_points) if self.old.face_count <= CLOSE else (along,)
+        return Trials(self.shop, shapes, wish, is_capped, None, others)
 
     def _refuse_more_than(self, most: int, wished: int) -> None:
         if wished > most:

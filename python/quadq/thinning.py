@@ -12,6 +12,8 @@ from .mesh import NONE
 
 REACH, MORE = 4, 2
 """A new edge goes over at most so many times as many old edges as are there for each, and so many more."""
+LONGEST = 40
+"""Where a new edge could go over more, points are not chosen: all pairs of them would be looked at."""
 EVENNESS = 0.01
 """A part of how much longer or shorter than the mean a new edge is: it counts as a distance from the rows."""
 
@@ -74,13 +76,14 @@ def bands_of(layout: Layout) -> Bands:
 
 def kept_points(layout: Layout, bands: Bands, lengths: Array) -> Array:
     """(edges of arcs,) float64: shares with which new points are old ones, on each arc that gets fewer edges (arcs,)
-    than it had: those with the least sum of squares of how far the rows beside it go from new edges. On others all
-    shares are alike."""
+    than it had: those with the least sum of squares of how far the rows beside it go from new edges. On others, and
+    where new edges would go over very many, all shares are alike. Linear in the faces, and in the square of how many
+    old edges a new one may go over."""
     old, shares = layout.old, np.ones(len(layout.edges_along))
-    shorter = np.flatnonzero(lengths < old)
+    reaches = np.minimum(old, REACH * -(-old // np.maximum(lengths, 1)) + MORE)
+    shorter = np.flatnonzero((lengths > 1) & (lengths < old) & (reaches <= LONGEST))
     if not len(shorter):
         return shares
-    reaches = np.minimum(old, REACH * -(-old // lengths) + MORE)
     far = bands.farthest(len(shares), int(reaches[shorter].max()))
     sizes = np.bincount(bands.place, np.linalg.norm(bands.ends - bands.starts, axis=1)) / np.bincount(bands.place)
     begins = np.cumsum(old) - old

@@ -84,8 +84,9 @@ class Dividing(unittest.TestCase):
             steps = layout.cut.steps[layout.arc_along == arc]
             ends = np.cumsum(shares[layout.arc_along == arc])
             is_fold = np.all(folded.points[steps[:, 1]][:, ::2] == [5, 0], axis=1)
-            self.assertAlmostEqual(float(ends[is_fold][0] % 1), 0.0)
-            self.assertAlmostEqual(float(ends[-1]), 4.0)
+            fold, = ends[is_fold]
+            self.assertAlmostEqual(fold, round(fold))
+            self.assertAlmostEqual(ends[-1], 4.0)
 
 
 @WITH_SPACING
@@ -196,7 +197,7 @@ class Told(unittest.TestCase):
             with contextlib.redirect_stdout(io.StringIO()), contextlib.redirect_stderr(io.StringIO()):
                 self.assertEqual(main(words), 0)
             self.assertEqual(json.loads((folder / "log").read_text().splitlines()[0])["spacing"], "wished")
-            row, = csv.DictReader((folder / "table.csv").open())
+            row, = csv.DictReader((folder / "table.csv").read_text().splitlines())
             self.assertEqual((row["spacing"], row["command"]), ("wished", "fit"))
         result = remesh(bent_sheet(12), edge=0.2)
         self.assertIn(("spacing", "wished"), result.report.facts())
