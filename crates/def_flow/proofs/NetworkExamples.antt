@@ -15,13 +15,12 @@ abbrev pub end : ℕ → Bool → End
 end v s = record { node = v; plus = s }
 
 abbrev pub arc : End → Option End → ℕ → ℕ → Arc
-arc left right old weight = record { left = left; right = right; old = old; weight = weight }
+arc left right old weight = record { left = left; right = right; old = old; weight = weight; floor = 1 }
 
 -- The network of one quad: four arcs with one end each.
 abbrev pub unit_quad : Network
 unit_quad = record {
   nodes = 2;
-  floor = 1;
   p = 1;
   q = 1;
   arcs = arc (end 0 true) None 1 1 ∷ arc (end 1 true) None 1 1
@@ -115,7 +114,6 @@ quad_sums = refl
 abbrev pub five_shapes : Network
 five_shapes = record {
   nodes = 3;
-  floor = 1;
   p = 2;
   q = 3;
   arcs = arc (end 0 true) (Some (end 1 false)) 5 2

@@ -6,7 +6,7 @@ use Rattle.def_math.specs.Searches.{least}
 use Rattle.def_matching.specs.Dual.{DualLists, SaysYes, dual, dual_sum, refuse, verdict}
 use Rattle.def_matching.specs.declared.weighted.Verdict.{Verdict}
 use Rattle.def_matching.specs.declared.weighted.Verdict.TheVariants.{Yes}
-use Rattle.def_flow.specs.Network.{Network, Node, ArcNumber}
+use Rattle.def_flow.specs.Network.{Network, Node, ArcNumber, arc_at}
 use Rattle.def_flow.specs.Admissible.{IsAdmissible, deviation, entries, side_sum}
 use Rattle.def_flow.specs.Units.{on_cost}
 use Rattle.def_flow.specs.MatchingGraph.{matching_graph}
@@ -37,9 +37,9 @@ abbrev pub refuse_dual : (verdict : Verdict) (after : CertVerdict) → CertVerdi
 refuse_dual (Yes sum) after = after
 refuse_dual fault after = Dual fault
 
--- The least arc that is shorter than the floor.
+-- The least arc that is shorter than its floor.
 abbrev pub below_fault : (net : Network) (xs : List ℕ) → Option ArcNumber
-below_fault net xs = least (λ k. nat_lt (slice_index xs k) net.floor) (length net.arcs)
+below_fault net xs = least (λ k. nat_lt (slice_index xs k) (arc_at net.arcs k).floor) (length net.arcs)
 
 -- The least node whose two sides have unequal sums.
 abbrev pub unequal_fault : (net : Network) (xs : List ℕ) → Option Node
@@ -60,7 +60,7 @@ sums_verdict net c =
     else Sums (dual_sum c.dual) (pos 2 *ℤ on_cost net 1 c.x)
 
 -- The verdict on a certificate: the first of these that holds. Lengths are missing or too many; an arc is
--- shorter than the floor; the sides of a node have unequal sums; the dual has a fault; its sum is not twice the
+-- shorter than its floor; the sides of a node have unequal sums; the dual has a fault; its sum is not twice the
 -- cost; or the certificate is accepted.
 abbrev pub cert_verdict : (net : Network) (c : Certificate) → CertVerdict
 cert_verdict net c =

@@ -34,9 +34,9 @@ side_sum arcs x plus v =
 abbrev pub IsBalanced : (arcs : List Arc) (x : WholeLengths) → Type 0
 IsBalanced arcs x = (v : Node) → side_sum arcs x true v ≡ side_sum arcs x false v
 
--- An admissible list: each entry is at least the floor, and both sides of each node have equal sums.
+-- An admissible list: each entry is at least its arc's floor, and both sides of each node have equal sums.
 pub record IsAdmissible (net : Network) (x : WholeLengths) : Type 0 where
-  pub high : (k : ArcNumber) → k < length net.arcs → pos net.floor ≤ℤ x k
+  pub high : (k : ArcNumber) → k < length net.arcs → pos (arc_at net.arcs k).floor ≤ℤ x k
   pub balanced : IsBalanced net.arcs x
 
 -- How far an arc of length y is from what is wanted.

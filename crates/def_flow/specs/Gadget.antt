@@ -1,9 +1,9 @@
 -- Gadgets, and the lists that their matchings tell.
-use Rattle.std.specs.Prelude.{◌≡◌, ℕ, ◌+◌, ◌*◌, ◌<◌, ◌≤◌, List, length, map, slice_index}
+use Rattle.std.specs.Prelude.{◌≡◌, ℕ, ◌+◌, ◌*◌, ◌<◌, ◌≤◌, List, length, slice_index}
 use Rattle.def_matching.specs.Matching.{graph}
 use Rattle.def_flow.specs.Network.{Network, tangle_number}
 use Rattle.def_flow.specs.Admissible.{AreNetLengths, IsAdmissible, entries}
-use Rattle.def_flow.specs.Units.{low, cap}
+use Rattle.def_flow.specs.Units.{arcwise, low, cap}
 use Rattle.def_flow.specs.MatchingGraph.{matching_graph}
 use Rattle.def_flow.specs.declared.gadget.Gadget.{Gadget}
 use Rattle.def_flow.specs.declared.limits.TheConstants.{MAX_STEP, MAX_TANGLE}
@@ -21,10 +21,10 @@ pub record IsInBox (step : ℕ) (lows caps ys : List ℕ) : Type 0 where
 
 -- The least list of the box of xs, and the numbers of units of its arcs.
 abbrev pub lows : (net : Network) (step : ℕ) (xs : List ℕ) → List ℕ
-lows net step xs = map (low net step) xs
+lows net step xs = arcwise (low step) net.arcs xs
 
 abbrev pub caps : (net : Network) (step : ℕ) (xs : List ℕ) → List ℕ
-caps net step xs = map (cap net step) xs
+caps net step xs = arcwise (cap step) net.arcs xs
 
 -- A gadget is the matching graph of some admissible list, with the lows and caps of its arcs.
 pub record IsGadgetOf (net : Network) (g : Gadget) : Type 0 where

@@ -15,18 +15,17 @@ Node = ℕ
 abbrev pub ArcNumber : Type 0
 ArcNumber = ℕ
 
--- A network. Its nodes are the numbers below a bound; wanted are lengths of at least the floor, and as near to
--- p / q times the old ones as can be.
+-- A network. Its nodes are the numbers below a bound; wanted are lengths of at least the floors of the arcs, and as
+-- near to p / q times the old ones as can be.
 pub record Network : Type 0 where
   pub nodes : ℕ
   pub arcs : List Arc
-  pub floor : ℕ
   pub p : ℕ
   pub q : ℕ
 
 -- The network that the program keeps.
 abbrev pub network : (net : Net) → Network
-network net = record { nodes = net.nodes; arcs = net.arcs.items; floor = net.floor; p = net.p; q = net.q }
+network net = record { nodes = net.nodes; arcs = net.arcs.items; p = net.p; q = net.q }
 
 -- The ends of an arc, one or two.
 abbrev pub ends : (a : Arc) → List End
@@ -40,18 +39,17 @@ EndsBelow nodes left (Some right) = (left.node < nodes) × (right.node < nodes)
 -- The arc with number k; past the last one, an arc that nothing asks for.
 abbrev pub arc_at : (arcs : List Arc) (k : ArcNumber) → Arc
 arc_at arcs k =
-    slice_index_or arcs k (record { left = record { node = 0; plus = true }; right = None; old = 0; weight = 0 })
+    slice_index_or arcs k
+    (record { left = record { node = 0; plus = true }; right = None; old = 0; weight = 0; floor = 0 })
 
 -- An arc within bounds.
 abbrev pub is_bounded : (nodes : ℕ) (a : Arc) → Bool
 is_bounded nodes a =
     nat_le 1 a.weight && nat_le a.weight MAX_WEIGHT && nat_le a.old MAX_OLD
-    && list_all (λ e. nat_lt e.node nodes) (ends a)
+    && nat_le 1 a.floor && nat_le a.floor MAX_FLOOR && list_all (λ e. nat_lt e.node nodes) (ends a)
 
 -- A network within bounds.
 pub record IsWithinBounds (net : Network) : Type 0 where
-  pub floor_low : 1 ≤ net.floor
-  pub floor_high : net.floor ≤ MAX_FLOOR
   pub p_low : 1 ≤ net.p
   pub p_high : net.p ≤ MAX_SCALE
   pub q_low : 1 ≤ net.q

@@ -1,6 +1,6 @@
 -- Units: stretches of an arc's length, a step long, that are on up to the arc's length and off from there.
 use Rattle.std.specs.Prelude.{ℕ, zero, suc, ◌+◌, ◌-◌, ◌*◌, ◌/◌, min, Bool, true, false, cond, not, ◌&&◌, ◌==◌}
-use Rattle.std.specs.Prelude.{List, [], ◌∷◌, ◌++◌, map, option_to_list, Option, Some, None, ℤ, pos, ◌+ℤ◌, ◌-ℤ◌}
+use Rattle.std.specs.Prelude.{List, [], ◌∷◌, ◌++◌, option_to_list, Option, Some, None, ℤ, pos, ◌+ℤ◌, ◌-ℤ◌}
 use Rattle.def_math.specs.Counts.{count}
 use Rattle.def_flow.specs.Network.{Network, Node}
 use Rattle.def_flow.specs.Admissible.{arc_deviation}
@@ -9,16 +9,21 @@ use Rattle.def_flow.specs.declared.net.End.{End}
 use Rattle.def_flow.specs.declared.units.ArcUnit.{ArcUnit}
 
 -- How many steps an arc of length x can give up, at most 2 of them.
-abbrev pub down : (net : Network) (step x : ℕ) → ℕ
-down net step x = min 2 ((x - net.floor) / step)
+abbrev pub down : (step : ℕ) (a : Arc) (x : ℕ) → ℕ
+down step a x = min 2 ((x - a.floor) / step)
 
 -- The least length that the units of an arc of length x can give.
-abbrev pub low : (net : Network) (step x : ℕ) → ℕ
-low net step x = x - down net step x * step
+abbrev pub low : (step : ℕ) (a : Arc) (x : ℕ) → ℕ
+low step a x = x - down step a x * step
 
 -- The number of units of an arc of length x: those that it can give up, and 2 to gain.
-abbrev pub cap : (net : Network) (step x : ℕ) → ℕ
-cap net step x = down net step x + 2
+abbrev pub cap : (step : ℕ) (a : Arc) (x : ℕ) → ℕ
+cap step a x = down step a x + 2
+
+-- What f makes of each arc and its entry of a list.
+abbrev pub arcwise : (f : Arc → ℕ → ℕ) (arcs : List Arc) (xs : List ℕ) → List ℕ
+arcwise f (a ∷ arcs) (x ∷ xs) = f a x ∷ arcwise f arcs xs
+arcwise f _ _ = []
 
 -- Unit k of an arc from this low on: it costs the arc's deviation at its upper end less that at its lower end.
 abbrev pub unit_at : (net : Network) (step : ℕ) (a : Arc) (low k : ℕ) → ArcUnit
@@ -40,7 +45,7 @@ units_over net step _ _ _ = []
 
 -- The units at the list xs.
 abbrev pub units : (net : Network) (step : ℕ) (arcs : List Arc) (xs : List ℕ) → List ArcUnit
-units net step arcs xs = units_over net step arcs (map (low net step) xs) (map (cap net step) xs)
+units net step arcs xs = units_over net step arcs (arcwise (low step) arcs xs) (arcwise (cap step) arcs xs)
 
 -- The states of so many units, of which the first are on.
 abbrev pub run : (on many : ℕ) → List Bool
@@ -54,12 +59,12 @@ states_over (c ∷ cs) (j ∷ js) = run j c ++ states_over cs js
 states_over _ _ = []
 
 -- The states of all units at the list xs, where of each arc as many are on as js says.
-abbrev pub states : (net : Network) (step : ℕ) (xs js : List ℕ) → List Bool
-states net step xs js = states_over (map (cap net step) xs) js
+abbrev pub states : (step : ℕ) (arcs : List Arc) (xs js : List ℕ) → List Bool
+states step arcs xs js = states_over (arcwise (cap step) arcs xs) js
 
 -- The states of all units at the list xs itself.
 abbrev pub states_at : (net : Network) (step : ℕ) (xs : List ℕ) → List Bool
-states_at net step xs = states net step xs (map (down net step) xs)
+states_at net step xs = states step net.arcs xs (arcwise (down step) net.arcs xs)
 
 -- An end with sign plus is active at a unit that is on, one with sign minus at a unit that is off.
 abbrev pub is_active : (on : Bool) (e : End) → Bool

@@ -23,22 +23,22 @@ pub struct End {
     pub plus: bool,
 }
 
-/// An arc with one or two ends, its old length, and the weight of its deviation.
+/// An arc with one or two ends, its old length, the weight of its deviation, and the least length wanted of it.
 #[derive(Clone, Copy, Debug, PartialEq, Eq)]
 pub struct Arc {
     pub left: End,
     pub right: Option<End>,
     pub old: u32,
     pub weight: u32,
+    pub floor: u32,
 }
 
-/// A bidirected network: whole lengths of at least `floor` are wanted, with equal sums on both sides of each
-/// node, and as near to `p / q` times the old lengths as can be.
+/// A bidirected network: whole lengths of at least the floors of the arcs are wanted, with equal sums on both sides
+/// of each node, and as near to `p / q` times the old lengths as can be.
 #[derive(Debug, Drop)]
 pub struct Net {
     pub nodes: u32,
     pub arcs: Vec<Arc>,
-    pub floor: u32,
     pub p: u32,
     pub q: u32,
 }

@@ -43,17 +43,19 @@ pub record AreSettings (settings : Settings) : Type 0 where
   pub floor_low : 1 ≤ settings.floor
   pub floor_high : settings.floor ≤ MAX_FLOOR
 
--- The network of a layout with these old lengths, by which arcs are weighed, and these wishes, from which lengths
--- deviate. Its arcs are those of the layout. The left end of an arc is on the side that uses it in its own direction,
--- the right end on the side that uses it in the other, if there is one.
-pub record IsNetOf (layout : Layout) (old wish : Lengths) (settings : Settings) (net : Network) : Type 0 where
+-- The network of a layout with these old lengths, by which arcs are weighed, these wishes, from which lengths
+-- deviate, and these floors. Its arcs are those of the layout. The left end of an arc is on the side that uses it in
+-- its own direction, the right end on the side that uses it in the other, if there is one.
+pub record IsNetOf
+    (layout : Layout) (old wish : Lengths) (settings : Settings) (floor : Lengths) (net : Network)
+    : Type 0 where
   pub nodes : net.nodes ≡ 2 * layout.patches
-  pub floor : net.floor ≡ settings.floor
   pub p : net.p ≡ settings.p
   pub q : net.q ≡ settings.q
   pub long : length net.arcs ≡ layout.arcs
   pub olds : (a : ℕ) → a < layout.arcs → (arc_at net.arcs a).old ≡ wish a
   pub weights : (a : ℕ) → a < layout.arcs → (arc_at net.arcs a).weight ≡ weight_of settings.weight (old a)
+  pub floors : (a : ℕ) → a < layout.arcs → (arc_at net.arcs a).floor ≡ floor a
   pub left : (w : Slot) → IsSlot layout w → (use_of layout w).forward ≡ true
       → (arc_at net.arcs (use_of layout w).arc).left ≡ end_at w.patch w.side
   pub right : (w : Slot) → IsSlot layout w → (use_of layout w).forward ≡ false
@@ -65,7 +67,7 @@ pub record IsNetOf (layout : Layout) (old wish : Lengths) (settings : Settings) 
 -- A network of the layout, with a tangle number that is too great.
 pub record IsTangled (layout : Layout) (old wish : Lengths) (settings : Settings) (count : ℕ) : Type 0 where
   pub net : Network
-  pub is : IsNetOf layout old wish settings net
+  pub is : IsNetOf layout old wish settings (λ a. settings.floor) net
   pub told : count ≡ tangle_number net
   pub high : MAX_TANGLE < count
 

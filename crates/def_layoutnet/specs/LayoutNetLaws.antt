@@ -29,11 +29,13 @@ OppositeLaw = (layout : Layout) (lengths : Lengths) → ((arc : ℕ) → arc < l
 
 -- Whole numbers are balanced at the nodes of the network exactly where opposite sides are equal.
 abbrev pub BalanceLaw : Type 0
-BalanceLaw = (layout : Layout) (old wish : Lengths) (settings : Settings) (net : Network) → IsSurface layout
-    → IsNetOf layout old wish settings net → (lengths : ℕ → ℤ)
+BalanceLaw = (layout : Layout) (old wish : Lengths) (settings : Settings) (floors : Lengths) (net : Network)
+    → IsSurface layout
+    → IsNetOf layout old wish settings floors net → (lengths : ℕ → ℤ)
     → IsBalanced net.arcs lengths ↔ AreOpposite layout lengths
 
 -- A layout has one network.
 abbrev pub OneNetLaw : Type 0
-OneNetLaw = (layout : Layout) (old wish : Lengths) (settings : Settings) → IsSurface layout → (one other : Network)
-    → IsNetOf layout old wish settings one → IsNetOf layout old wish settings other → one ≡ other
+OneNetLaw = (layout : Layout) (old wish : Lengths) (settings : Settings) (floors : Lengths) → IsSurface layout
+    → (one other : Network)
+    → IsNetOf layout old wish settings floors one → IsNetOf layout old wish settings floors other → one ≡ other

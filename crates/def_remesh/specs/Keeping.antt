@@ -20,7 +20,7 @@ use Rattle.def_remesh.specs.declared.tables.Tables.{Tables}
 pub record IsNetFor (wish : Wish) (plan : Plan) (settings : Settings) (net : Network) : Type 0 where
   pub mesh : IsSomeLayout plan
   pub floor : 1 ≤ settings.floor
-  pub is : IsNetOf (layout_of plan) (old_lengths plan) (wish plan) settings net
+  pub is : IsNetOf (layout_of plan) (old_lengths plan) (wish plan) settings (λ a. settings.floor) net
   pub bounds : IsWithinBounds net
   pub untangled : tangle_number net ≤ MAX_TANGLE
 

@@ -56,7 +56,7 @@ IsLayoutFail wish plan settings auto fail.Memory = ⊤
 -- A least list for a layout with these settings: one length for each arc.
 pub record IsLeastFor (wish : Wish) (plan : Plan) (settings : Settings) (lengths : List ℕ) : Type 0 where
   pub net : Network
-  pub of_layout : IsNetOf (layout_of plan) (old_lengths plan) (wish plan) settings net
+  pub of_layout : IsNetOf (layout_of plan) (old_lengths plan) (wish plan) settings (λ a. settings.floor) net
   pub count : length lengths ≡ length plan.arcs
   pub least : IsLeast net (entries lengths)
 

@@ -33,7 +33,7 @@ with_floor settings floor =
 -- network is not too tangled, and the certificate can be written.
 pub record HasLeastLengths (wish : Wish) (plan : Plan) (settings : Settings) (cert : Lists) : Type 0 where
   pub net : Network
-  pub of_layout : IsNetOf (layout_of plan) (old_lengths plan) (wish plan) settings net
+  pub of_layout : IsNetOf (layout_of plan) (old_lengths plan) (wish plan) settings (λ a. settings.floor) net
   pub untangled : tangle_number net ≤ MAX_TANGLE
   pub count : length cert.x ≡ length net.arcs
   pub opposite : AreOpposite (layout_of plan) (entries cert.x)

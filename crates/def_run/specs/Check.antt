@@ -37,7 +37,7 @@ pub record IsCountedPair (bytes : Bytes) (arcs faces deviates : ℕ) : Type 0 wh
   pub faces_told : faces ≡ face_count (layout_of pair.remeshed.plan) (lengths_in (used pair.remeshed.certificates).x)
   pub net : Network
   pub of_layout : IsNetOf (layout_of pair.remeshed.plan) (old_lengths pair.remeshed.plan)
-      (old_lengths pair.remeshed.plan) pair.settings net
+      (old_lengths pair.remeshed.plan) pair.settings (λ a. pair.settings.floor) net
   pub deviation_told : deviates ≡ deviation net (entries (used pair.remeshed.certificates).x)
 
 -- The last line that begins as a head line does.

@@ -46,7 +46,7 @@ pub record IsCountedFit (bytes : Bytes) (arcs faces deviates : ℕ) : Type 0 whe
       (lengths_in (used written.shown.finished.certificates).x)
   pub net : Network
   pub of_layout : IsNetOf (layout_of written.shown.finished.plan) (old_lengths written.shown.finished.plan)
-      (written.task.wish written.shown.finished.plan) written.task.settings net
+      (written.task.wish written.shown.finished.plan) written.task.settings (λ a. written.task.settings.floor) net
   pub deviation_told : deviates ≡ deviation net (entries (used written.shown.finished.certificates).x)
 
 -- What is judged is accepted, with these numbers.

@@ -48,7 +48,7 @@ TellsMade judged made = TellHow (head_line judged.task.settings judged.task.auto
 pub record HasVerdict (wish : Wish) (plan : Plan) (settings : Settings) (cert : Lists) (verdict : CertVerdict) : Type
     0 where
   pub net : Network
-  pub of_layout : IsNetOf (layout_of plan) (old_lengths plan) (wish plan) settings net
+  pub of_layout : IsNetOf (layout_of plan) (old_lengths plan) (wish plan) settings (λ a. settings.floor) net
   pub told : verdict ≡ cert_verdict net (certificate_of cert)
   pub refuted : (d : ℤ) → verdict ≢ certs.Yes d
 

@@ -50,6 +50,17 @@ fn known_networks(rt: HostRuntime) -> Result<(), Fail> {
     Ok(())
 }
 
+#[test]
+fn floors_of_single_arcs(rt: HostRuntime) -> Result<(), Fail> {
+    for (at, floor, least) in [(0, 2, 2), (0, 3, 4), (3, 3, 4)] {
+        let mut net = read_net(rt.alloc(), QUAD)?;
+        assert_eq!(rt; net.arcs.len(), 4);
+        net.arcs[at].floor = floor;
+        assert_eq!(rt; least_of(rt.alloc(), &net)?, Some((least, least)), "{at}");
+    }
+    Ok(())
+}
+
 /// The deviations of the lists that are found from a start near what is wanted and from a multiple of the old lengths,
 /// if both may be started from.
 fn least_of(alloc: Global, net: &Net) -> Result<Option<(i128, i128)>, Memory> {
@@ -66,12 +77,15 @@ fn least_of(alloc: Global, net: &Net) -> Result<Option<(i128, i128)>, Memory> {
     Ok(Some((deviation(net, &near.x), deviation(net, &far.x))))
 }
 
-/// The old lengths, as often as the scale and the floor ask.
+/// The old lengths, as often as the scale and the floors ask.
 fn old_multiple(alloc: Global, net: &Net) -> Result<Vec<u64>, Memory> {
-    let times = u64::from(net.floor.max(net.p / net.q.max(1)));
+    let mut times = net.p / net.q.max(1);
+    for arc in &net.arcs {
+        times = times.max(arc.floor);
+    }
     let mut lengths = Vec::new(alloc);
     for arc in &net.arcs {
-        lengths.push(u64::from(arc.old).saturating_mul(times))?;
+        lengths.push(u64::from(arc.old).saturating_mul(u64::from(times)))?;
     }
     Ok(lengths)
 }

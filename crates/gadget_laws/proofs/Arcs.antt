@@ -1,15 +1,15 @@
 -- Any states of the units tell a list of the box: the cost of the units that are on is at least its deviation.
 use Rattle.std.proofs.Common.{◌≡◌, ℕ, zero, suc, ◌+◌, ◌-◌, ◌*◌, ◌%◌, ◌/◌, ◌<◌, ◌≤◌, Bool, true, false, ◌==◌, List, []}
-use Rattle.std.proofs.Common.{◌∷◌, ◌++◌, length, map, take, drop, Option, ℤ, pos, ◌+ℤ◌, ◌-ℤ◌, ◌≤ℤ◌, refl, sym, ◌∙◌, ap}
+use Rattle.std.proofs.Common.{◌∷◌, ◌++◌, length, take, drop, Option, ℤ, pos, ◌+ℤ◌, ◌-ℤ◌, ◌≤ℤ◌, refl, sym, ◌∙◌, ap}
 use Rattle.std.proofs.Common.{inl, inr, ◌⊎◌, add-mul, mul-add, one-mul, zero-mul, zero-add, add-zero, div-mul-le_self}
 use Rattle.std.proofs.Common.{mul-le-mul_right, length-append, arith}
 use Rattle.std.proofs.lemmas.Int.{ints}
 use Rattle.std.proofs.lemmas.Bool.{cases_lt}
-use Rattle.std.proofs.lemmas.List.{length-take-le, length-drop, length-map}
-use Rattle.def_flow.specs.Network.{EndsBelow, Network, IsWithinBounds}
+use Rattle.std.proofs.lemmas.List.{length-take-le, length-drop}
+use Rattle.def_flow.specs.Network.{EndsBelow, Network, IsWithinBounds, arc_at}
 use Rattle.def_flow.specs.Admissible.{IsAdmissible, IsBalanced, arc_deviation, deviation, entries}
 use Rattle.def_matching.specs.Matching.{IsPerfect, matching_cost}
-use Rattle.def_flow.specs.Units.{down, low, cap, units_from, units, states_at, active, rim_active, cost_on}
+use Rattle.def_flow.specs.Units.{arcwise, down, low, cap, units_from, units, states_at, active, rim_active, cost_on}
 use Rattle.def_flow.specs.MatchingGraph.{matching_graph}
 use Rattle.def_flow.specs.declared.net.Arc.{Arc}
 use Rattle.def_flow.specs.declared.net.End.{End}
@@ -22,7 +22,8 @@ use Rattle.gadget_laws.specs.Box.{IsRaised}
 use Rattle.gadget_laws.specs.Told.{marks_from, states_told, steps_told, lengths_on, lengths_told}
 use Rattle.gadget_laws.proofs.Unit.{ends_active}
 use Rattle.gadget_laws.proofs.Units.{UnitsAt}
-use Rattle.gadget_laws.proofs.Box.{own_box, box_length, arc_active, weighted_ends, units_length, box_active, box_ends}
+use Rattle.gadget_laws.proofs.Box.{own_box, arcwise_length, box_length, arc_active, weighted_ends, units_length}
+use Rattle.gadget_laws.proofs.Box.{box_active, box_ends}
 use Rattle.gadget_laws.proofs.Box.{side_list, balanced_list, deviations, deviation_list}
 use Rattle.gadget_laws.proofs.Law.{arcs_at, units_at}
 use Rattle.gadget_laws.proofs.Steps.{raised_in_box}
@@ -30,7 +31,7 @@ use Rattle.gadget_laws.proofs.Reading.{told_length, told_fills, told_cost}
 
 -- The active ends of an arc with any states of its units.
 any_active : (net : Network) (step v : ℕ) (a : Arc) (x k n : ℕ) (os : List Bool) → length os ≡ n
-    → active v (units_from net step a (low net step x) k n) os + trues os * arc_active v false a
+    → active v (units_from net step a (low step a x) k n) os + trues os * arc_active v false a
     ≡ trues os * arc_active v true a + n * arc_active v false a
 any_active net step v a x k zero [] l = omega arith
 any_active net step v a x k (suc n) (true ∷ os) l = omega (
@@ -44,7 +45,7 @@ any_active net step v a x k _ _ l = absurd (omega arith)
 
 -- The deviation of an arc with so many steps above its low.
 abbrev at_step : Network → ℕ → Arc → ℕ → ℕ → ℕ
-at_step net step a x k = arc_deviation net a (pos (low net step x + k * step))
+at_step net step a x k = arc_deviation net a (pos (low step a x + k * step))
 
 -- A step costs no less further up.
 increments : (net : Network) (step : ℕ) (a : Arc) (x k t : ℕ)
@@ -58,10 +59,10 @@ increments net step a x k t = omega (
 )
   where
     here : ℤ
-    here = pos (low net step x + k * step)
+    here = pos (low step a x + k * step)
 
     there : ℤ
-    there = pos (low net step x + (k + 1 + t) * step)
+    there = pos (low step a x + (k + 1 + t) * step)
 
     spread : (k + 1 + t) * step ≡ k * step + step + t * step
     spread = omega (arith, add-mul (k + 1) t step, add-mul k 1 step, one-mul step)
@@ -69,15 +70,15 @@ increments net step a x k t = omega (
     part : IsPart (pos step) (there -ℤ here)
     part = inl (omega (arith, ints), omega (arith, ints, spread))
 
-    up : here +ℤ pos step ≡ pos (low net step x + (k + 1) * step)
+    up : here +ℤ pos step ≡ pos (low step a x + (k + 1) * step)
     up = omega (arith, ints, add-mul k 1 step, one-mul step)
 
-    less : there -ℤ pos step ≡ pos (low net step x + (k + t) * step)
+    less : there -ℤ pos step ≡ pos (low step a x + (k + t) * step)
     less = omega (arith, ints, spread, add-mul k t step)
 
 -- Any units of an arc that are on cost no less than the first ones.
 any_cost : (net : Network) (step : ℕ) (a : Arc) (x k n : ℕ) (os : List Bool) → length os ≡ n
-    → pos (at_step net step a x (k + trues os)) ≤ℤ (cost_on (units_from net step a (low net step x) k n) os +ℤ pos
+    → pos (at_step net step a x (k + trues os)) ≤ℤ (cost_on (units_from net step a (low step a x) k n) os +ℤ pos
     (at_step net step a x k))
 any_cost net step a x k zero [] l = rw (add-zero k) (omega (arith, ints))
 any_cost net step a x k (suc n) (true ∷ os) l =
@@ -120,49 +121,51 @@ trues_take (suc n) (true ∷ ms) = omega (arith, trues_take n ms)
 trues_take (suc n) (false ∷ ms) = omega (arith, trues_take n ms)
 
 -- The list that states tell is in the box.
-pub told_box : (net : Network) (step : ℕ) (xs : List ℕ) (ons : List Bool)
-    → IsRaised net step xs (steps_told net step xs ons) (lengths_on net step xs (steps_told net step xs ons))
-told_box net step [] ons = tt
-told_box net step (x ∷ xs) ons =
-    (trues_take (cap net step x) ons, refl, told_box net step xs (drop (cap net step x) ons))
+pub told_box : (step : ℕ) (arcs : List Arc) (xs : List ℕ) (ons : List Bool)
+    → length xs ≡ length arcs → IsRaised step arcs xs (steps_told step arcs xs ons)
+    (lengths_on step arcs xs (steps_told step arcs xs ons))
+told_box step [] [] ons l = tt
+told_box step (a ∷ arcs) (x ∷ xs) ons l =
+    (trues_take (cap step a x) ons, refl, told_box step arcs xs (drop (cap step a x) ons) (omega arith))
+told_box step _ _ ons l = absurd (omega arith)
 
 -- The units and states of the first arc, and those of the others.
 first_length : (net : Network) (step : ℕ) (a : Arc) (arcs : List Arc) (x : ℕ) (xs : List ℕ) (ons : List Bool)
-    → length ons ≡ length (units net step (a ∷ arcs) (x ∷ xs)) → (length (take (cap net step x) ons) ≡ cap net step x)
-    × (length (drop (cap net step x) ons) ≡ length (units net step arcs xs))
+    → length ons ≡ length (units net step (a ∷ arcs) (x ∷ xs)) → (length (take (cap step a x) ons) ≡ cap step a x)
+    × (length (drop (cap step a x) ons) ≡ length (units net step arcs xs))
 first_length net step a arcs x xs ons l =
-    let whole : length ons ≡ cap net step x + length (units net step arcs xs) =
+    let whole : length ons ≡ cap step a x + length (units net step arcs xs) =
     omega (
       arith,
       l,
-      length-append (units_from net step a (low net step x) 0 (cap net step x))
+      length-append (units_from net step a (low step a x) 0 (cap step a x))
           (units net step arcs xs),
-      units_length net step a x 0 (cap net step x),
+      units_length net step a x 0 (cap step a x),
     ) in
-    (length-take-le (cap net step x) ons (omega (arith, whole)), omega (arith, whole, length-drop (cap net step x) ons))
+    (length-take-le (cap step a x) ons (omega (arith, whole)), omega (arith, whole, length-drop (cap step a x) ons))
 
 told_active : (net : Network) (step v : ℕ) (arcs : List Arc) (xs : List ℕ) (ons : List Bool) → length xs ≡ length arcs
     → length ons ≡ length (units net step arcs xs) → active v (units net step arcs xs) ons + weighted_ends v false arcs
-    (steps_told net step xs ons) ≡ weighted_ends v true arcs (steps_told net step xs ons) + weighted_ends v false arcs
-    (map (cap net step) xs)
+    (steps_told step arcs xs ons) ≡ weighted_ends v true arcs (steps_told step arcs xs ons) + weighted_ends v false arcs
+    (arcwise (cap step) arcs xs)
 told_active net step v [] [] ons l m = refl
 told_active net step v (a ∷ arcs) (x ∷ xs) ons l m =
-    let n : ℕ = cap net step x in
+    let n : ℕ = cap step a x in
     let ls : (length (take n ons) ≡ n) × (length (drop n ons) ≡ length (units net step arcs xs)) =
     first_length net step a arcs x xs ons m in
-    let len : length (units_from net step a (low net step x) 0 n) ≡ n = units_length net step a x 0 n in
-    let first : active v (units_from net step a (low net step x) 0 n)
-    (take (length (units_from net step a (low net step x) 0 n)) ons)
-    ≡ active v (units_from net step a (low net step x) 0 n) (take n ons) =
-    ap (λ k. active v (units_from net step a (low net step x) 0 n) (take k ons)) len in
-    let others : active v (units net step arcs xs) (drop (length (units_from net step a (low net step x) 0 n)) ons)
+    let len : length (units_from net step a (low step a x) 0 n) ≡ n = units_length net step a x 0 n in
+    let first : active v (units_from net step a (low step a x) 0 n)
+    (take (length (units_from net step a (low step a x) 0 n)) ons)
+    ≡ active v (units_from net step a (low step a x) 0 n) (take n ons) =
+    ap (λ k. active v (units_from net step a (low step a x) 0 n) (take k ons)) len in
+    let others : active v (units net step arcs xs) (drop (length (units_from net step a (low step a x) 0 n)) ons)
     ≡ active v (units net step arcs xs) (drop n ons) =
     ap (λ k. active v (units net step arcs xs) (drop k ons)) len in
     omega (
       arith,
       first,
       others,
-      active_split v (units_from net step a (low net step x) 0 n) (units net step arcs xs) ons,
+      active_split v (units_from net step a (low step a x) 0 n) (units net step arcs xs) ons,
       any_active net step v a x 0 n (take n ons) ls.0,
       told_active net step v arcs xs (drop n ons) (omega arith) ls.1,
     )
@@ -170,26 +173,26 @@ told_active net step v _ _ ons l m = absurd (omega arith)
 
 told_dear : (net : Network) (step : ℕ) (arcs : List Arc) (xs : List ℕ) (ons : List Bool) → length xs ≡ length arcs
     → length ons ≡ length (units net step arcs xs)
-    → pos (deviations net arcs (lengths_on net step xs (steps_told net step xs ons))) ≤ℤ
-    (cost_on (units net step arcs xs) ons +ℤ pos (deviations net arcs (lows net step xs)))
+    → pos (deviations net arcs (lengths_on step arcs xs (steps_told step arcs xs ons))) ≤ℤ
+    (cost_on (units net step arcs xs) ons +ℤ pos (deviations net arcs (arcwise (low step) arcs xs)))
 told_dear net step [] [] ons l m = omega (arith, ints, none ons)
   where
     none : (os : List Bool) → cost_on [] os ≡ pos 0
     none os = refl
 told_dear net step (a ∷ arcs) (x ∷ xs) ons l m =
-    let n : ℕ = cap net step x in
+    let n : ℕ = cap step a x in
     let t : ℕ = trues (take n ons) in
     let ls : (length (take n ons) ≡ n) × (length (drop n ons) ≡ length (units net step arcs xs)) =
     first_length net step a arcs x xs ons m in
-    let len : length (units_from net step a (low net step x) 0 n) ≡ n = units_length net step a x 0 n in
-    let first : cost_on (units_from net step a (low net step x) 0 n)
-    (take (length (units_from net step a (low net step x) 0 n)) ons)
-    ≡ cost_on (units_from net step a (low net step x) 0 n) (take n ons) =
-    ap (λ k. cost_on (units_from net step a (low net step x) 0 n) (take k ons)) len in
-    let others : cost_on (units net step arcs xs) (drop (length (units_from net step a (low net step x) 0 n)) ons)
+    let len : length (units_from net step a (low step a x) 0 n) ≡ n = units_length net step a x 0 n in
+    let first : cost_on (units_from net step a (low step a x) 0 n)
+    (take (length (units_from net step a (low step a x) 0 n)) ons)
+    ≡ cost_on (units_from net step a (low step a x) 0 n) (take n ons) =
+    ap (λ k. cost_on (units_from net step a (low step a x) 0 n) (take k ons)) len in
+    let others : cost_on (units net step arcs xs) (drop (length (units_from net step a (low step a x) 0 n)) ons)
     ≡ cost_on (units net step arcs xs) (drop n ons) = ap (λ k. cost_on (units net step arcs xs) (drop k ons)) len in
-    let begin : low net step x + 0 * step ≡ low net step x = omega (arith, zero-mul step) in
-    let bottom : at_step net step a x 0 ≡ arc_deviation net a (pos (low net step x)) =
+    let begin : low step a x + 0 * step ≡ low step a x = omega (arith, zero-mul step) in
+    let bottom : at_step net step a x 0 ≡ arc_deviation net a (pos (low step a x)) =
     ap (λ k. arc_deviation net a (pos k)) begin in
     let top : at_step net step a x (0 + t) ≡ at_step net step a x t = ap (at_step net step a x) (zero-add t) in
     omega (
@@ -199,7 +202,7 @@ told_dear net step (a ∷ arcs) (x ∷ xs) ons l m =
       others,
       bottom,
       top,
-      cost_split (units_from net step a (low net step x) 0 n) (units net step arcs xs) ons,
+      cost_split (units_from net step a (low step a x) 0 n) (units net step arcs xs) ons,
       any_cost net step a x 0 n (take n ons) ls.0,
       told_dear net step arcs xs (drop n ons) (omega arith) ls.1,
     )
@@ -219,31 +222,33 @@ active_past nodes v (u ∷ us) (on ∷ ons) le at = omega (
   active_past nodes v us ons le at.1,
 )
 
--- The lows are as high as the floor, and so is each list of the box.
-low_high : (net : Network) (step x : ℕ) → net.floor ≤ x → net.floor ≤ low net step x
-low_high net step x le =
-    let h : down net step x * step ≤ ((x - net.floor) / step) * step = mul-le-mul_right step (omega arith) in
-    let g : ((x - net.floor) / step) * step ≤ x - net.floor = div-mul-le_self (x - net.floor) step in
+-- The lows are as high as the floors, and so is each list of the box.
+low_high : (step : ℕ) (a : Arc) (x : ℕ) → a.floor ≤ x → a.floor ≤ low step a x
+low_high step a x le =
+    let h : down step a x * step ≤ ((x - a.floor) / step) * step = mul-le-mul_right step (omega arith) in
+    let g : ((x - a.floor) / step) * step ≤ x - a.floor = div-mul-le_self (x - a.floor) step in
     omega (arith, h, g)
 
-box_high : (net : Network) (step : ℕ) (xs js ys : List ℕ) → IsRaised net step xs js ys
-    → ((k : ℕ) → k < length xs → pos net.floor ≤ℤ entries xs k) → (k : ℕ) → k < length xs
-    → pos net.floor ≤ℤ entries ys k
-box_high net step [] js ys box high k l = absurd (omega arith)
-box_high net step (x ∷ xs) (j ∷ js) (y ∷ ys) box high zero l =
-    omega (arith, ints, box.1, low_high net step x (omega (arith, ints, high 0 (omega arith))))
-box_high net step (x ∷ xs) (j ∷ js) (y ∷ ys) box high (suc k) l =
-    box_high net step xs js ys box.2 (λ i li. high (suc i) (omega arith)) k (omega arith)
-box_high net step (x ∷ xs) _ _ box high k l = absurd box
+box_high : (step : ℕ) (arcs : List Arc) (xs js ys : List ℕ) → IsRaised step arcs xs js ys
+    → ((k : ℕ) → k < length arcs → pos (arc_at arcs k).floor ≤ℤ entries xs k) → (k : ℕ) → k < length arcs
+    → pos (arc_at arcs k).floor ≤ℤ entries ys k
+box_high step [] [] [] [] box high k l = absurd (omega arith)
+box_high step (a ∷ arcs) (x ∷ xs) (j ∷ js) (y ∷ ys) box high zero l =
+    let first : pos a.floor ≤ℤ pos x = high 0 (omega arith) in
+    omega (arith, ints, box.1, low_high step a x (omega (arith, ints, first)))
+box_high step (a ∷ arcs) (x ∷ xs) (j ∷ js) (y ∷ ys) box high (suc k) l =
+    box_high step arcs xs js ys box.2 (λ i li. high (suc i) (omega arith)) k (omega arith)
+box_high step _ _ _ _ box high k l = absurd box
 
 -- The list that a matching tells is in the box.
 pub told_in_box : (net : Network) (step : ℕ) (xs m : List ℕ)
-    → IsInBox step (lows net step xs) (caps net step xs) (lengths_told net step xs m)
-told_in_box net step xs m =
+    → length xs ≡ length net.arcs → IsInBox step (lows net step xs) (caps net step xs) (lengths_told net step xs m)
+told_in_box net step xs m l =
     let us : List ArcUnit = units net step net.arcs xs in
     let ons : List Bool = states_told (λ v. active v us (states_at net step xs)) us
     (marks_from 0 (length (matching_graph net step xs).edges) m) in
-    raised_in_box net step xs (steps_told net step xs ons) (lengths_told net step xs m) (told_box net step xs ons)
+    raised_in_box step net.arcs xs (steps_told step net.arcs xs ons) (lengths_told net step xs m) l
+    (told_box step net.arcs xs ons l)
 
 -- The lengths law.
 pub lengths_law : (net : Network) (step : ℕ) (xs m : List ℕ) → IsWithinBounds net → 1 ≤ step
@@ -254,8 +259,7 @@ pub lengths_law : (net : Network) (step : ℕ) (xs m : List ℕ) → IsWithinBou
 lengths_law net step xs m bounds positive l ax perfect = (
   count,
   record {
-    high = λ k lk. box_high net step xs js ys box (λ i li. ax.high i (omega (arith, l))) k
-        (omega (arith, l));
+    high = box_high step net.arcs xs js ys box ax.high;
     balanced = balanced;
   },
   dear,
@@ -271,16 +275,16 @@ lengths_law net step xs m bounds positive l ax perfect = (
     ons = states_told copies_at us (marks_from 0 (length (matching_graph net step xs).edges) m)
 
     js : List ℕ
-    js = steps_told net step xs ons
+    js = steps_told step net.arcs xs ons
 
     ys : List ℕ
     ys = lengths_told net step xs m
 
-    box : IsRaised net step xs js ys
-    box = told_box net step xs ons
+    box : IsRaised step net.arcs xs js ys
+    box = told_box step net.arcs xs ons l
 
     count : length ys ≡ length net.arcs
-    count = box_length net step xs js ys box ∙ l
+    count = box_length step net.arcs xs js ys box
 
     at : UnitsAt net.nodes us
     at = units_at net step net.arcs xs (arcs_at net.nodes net.arcs bounds.arcs)
@@ -297,8 +301,8 @@ lengths_law net step xs m bounds positive l ax perfect = (
         by_node (inr past) = active_past net.nodes v us ons past at
             ∙ sym (active_past net.nodes v us (states_at net step xs) past at)
 
-    own : IsRaised net step xs (map (down net step) xs) xs
-    own = own_box net step xs
+    own : IsRaised step net.arcs xs (arcwise (down step) net.arcs xs) xs
+    own = own_box step net.arcs xs l
 
     side : (v : ℕ) → weighted_ends v true net.arcs ys ≡ weighted_ends v false net.arcs ys
     side v = omega (
@@ -306,15 +310,15 @@ lengths_law net step xs m bounds positive l ax perfect = (
       scaled,
       mul-add step (plus js) (minus ds),
       mul-add step (minus js) (plus ds),
-      box_ends net step v true net.arcs xs js ys l box,
-      box_ends net step v false net.arcs xs js ys l box,
-      box_ends net step v true net.arcs xs ds xs l own,
-      box_ends net step v false net.arcs xs ds xs l own,
+      box_ends net step v true net.arcs xs js ys box,
+      box_ends net step v false net.arcs xs js ys box,
+      box_ends net step v true net.arcs xs ds xs own,
+      box_ends net step v false net.arcs xs ds xs own,
       balanced_list net.arcs xs l ax.balanced v,
     )
       where
         ds : List ℕ
-        ds = map (down net step) xs
+        ds = arcwise (down step) net.arcs xs
 
         plus : List ℕ → ℕ
         plus ks = weighted_ends v true net.arcs ks
@@ -327,7 +331,7 @@ lengths_law net step xs m bounds positive l ax perfect = (
           arith,
           fills v,
           told_active net step v net.arcs xs ons l ons_count,
-          box_active net step v net.arcs xs ds xs l own,
+          box_active net step v net.arcs xs ds xs own,
         )
 
         scaled : step * (plus js + minus ds) ≡ step * (minus js + plus ds)
@@ -344,5 +348,5 @@ lengths_law net step xs m bounds positive l ax perfect = (
       told_cost net.nodes copies_at (rim_active us (states_at net step xs) % 2 == 1) us at m perfect,
       told_dear net step net.arcs xs ons l ons_count,
       deviation_list net net.arcs ys count,
-      deviation_list net net.arcs (lows net step xs) (length-map xs (low net step) ∙ l),
+      deviation_list net net.arcs (lows net step xs) (arcwise_length (low step) net.arcs xs l),
     )

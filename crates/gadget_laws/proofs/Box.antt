@@ -1,6 +1,6 @@
 -- Lists in the box, as states of the units: the active ends at a node, and the cost.
 use Rattle.std.proofs.Common.{◌≡◌, ℕ, zero, suc, ◌+◌, ◌-◌, ◌*◌, ◌/◌, ◌≤◌, Bool, true, false, cond, ◌&&◌, ◌==◌, List, []}
-use Rattle.std.proofs.Common.{◌∷◌, ◌++◌, length, map, pos, ◌+ℤ◌, refl, sym, ◌∙◌, ap, add-mul, mul-add, mul_comm}
+use Rattle.std.proofs.Common.{◌∷◌, ◌++◌, length, pos, ◌+ℤ◌, refl, sym, ◌∙◌, ap, add-mul, mul-add, mul_comm}
 use Rattle.std.proofs.Common.{mul_assoc, div-mul-le_self, mul-le-mul_right, zero-mul, zero-add, add-zero, length-append}
 use Rattle.std.proofs.Common.{arith}
 use Rattle.std.proofs.lemmas.Int.{ints}
@@ -11,30 +11,37 @@ use Rattle.qm_dual.proofs.Entries.{total_below_prefix}
 use Rattle.sum_laws.proofs.Counts.{count_below_prefix}
 use Rattle.def_flow.specs.Network.{Network, ends, arc_at}
 use Rattle.def_flow.specs.Admissible.{IsBalanced, is_on_side, side_sum, arc_deviation, entries}
-use Rattle.def_flow.specs.Units.{down, low, cap, units_from, units, run, states, is_active, active, cost_on}
+use Rattle.def_flow.specs.Units.{arcwise, down, low, cap, units_from, units, run, states, is_active, active, cost_on}
 use Rattle.def_flow.specs.declared.net.Arc.{Arc}
 use Rattle.def_flow.specs.declared.net.End.{End}
 use Rattle.def_flow.specs.declared.units.ArcUnit.{ArcUnit}
-use Rattle.def_flow.specs.Gadget.{lows}
 use Rattle.gadget_laws.specs.Box.{IsRaised}
 
 -- A list is its lows and as many steps as it can give up.
-pub low_is : (net : Network) (step x : ℕ) → low net step x + down net step x * step ≡ x
-low_is net step x =
-    let h : down net step x * step ≤ ((x - net.floor) / step) * step = mul-le-mul_right step (omega arith) in
-    let g : ((x - net.floor) / step) * step ≤ x - net.floor = div-mul-le_self (x - net.floor) step in
+pub low_is : (step : ℕ) (a : Arc) (x : ℕ) → low step a x + down step a x * step ≡ x
+low_is step a x =
+    let h : down step a x * step ≤ ((x - a.floor) / step) * step = mul-le-mul_right step (omega arith) in
+    let g : ((x - a.floor) / step) * step ≤ x - a.floor = div-mul-le_self (x - a.floor) step in
     omega (arith, h, g)
 
-pub own_box : (net : Network) (step : ℕ) (xs : List ℕ) → IsRaised net step xs (map (down net step) xs) xs
-own_box net step [] = tt
-own_box net step (x ∷ xs) = (omega arith, sym (low_is net step x), own_box net step xs)
+pub own_box : (step : ℕ) (arcs : List Arc) (xs : List ℕ) → length xs ≡ length arcs
+    → IsRaised step arcs xs (arcwise (down step) arcs xs) xs
+own_box step [] [] l = tt
+own_box step (a ∷ arcs) (x ∷ xs) l = (omega arith, sym (low_is step a x), own_box step arcs xs (omega arith))
+own_box step _ _ l = absurd (omega arith)
+
+pub arcwise_length : (f : Arc → ℕ → ℕ) (arcs : List Arc) (xs : List ℕ) → length xs ≡ length arcs
+    → length (arcwise f arcs xs) ≡ length arcs
+arcwise_length f [] [] l = refl
+arcwise_length f (a ∷ arcs) (x ∷ xs) l = omega (arith, arcwise_length f arcs xs (omega arith))
+arcwise_length f _ _ l = absurd (omega arith)
 
 -- How many ends of an arc are active at a node where its unit is on, or off.
 abbrev pub arc_active : ℕ → Bool → Arc → ℕ
 arc_active v on a = count (λ e. cond ((e.node == v) && is_active on e) 1 0) (ends a)
 
 pub units_length : (net : Network) (step : ℕ) (a : Arc) (x k n : ℕ)
-    → length (units_from net step a (low net step x) k n) ≡ n
+    → length (units_from net step a (low step a x) k n) ≡ n
 units_length net step a x k zero = refl
 units_length net step a x k (suc n) = omega (arith, units_length net step a x (k + 1) n)
 
@@ -44,27 +51,25 @@ run_length zero (suc n) = omega (arith, run_length zero n)
 run_length (suc j) (suc n) = omega (arith, run_length j n)
 
 -- What holds of no arcs, and of one arc more, holds of all arcs with the lists of one box.
-by_raised : (net : Network) (step : ℕ) (P : List Arc → List ℕ → List ℕ → List ℕ → Type 0) → P [] [] [] []
-    → ((a : Arc) (arcs : List Arc) (x j y : ℕ) (xs js ys : List ℕ) → IsRaised net step (x ∷ xs) (j ∷ js) (y ∷ ys)
+by_raised : (step : ℕ) (P : List Arc → List ℕ → List ℕ → List ℕ → Type 0) → P [] [] [] []
+    → ((a : Arc) (arcs : List Arc) (x j y : ℕ) (xs js ys : List ℕ) → IsRaised step (a ∷ arcs) (x ∷ xs) (j ∷ js) (y ∷ ys)
     → P arcs xs js ys → P (a ∷ arcs) (x ∷ xs) (j ∷ js) (y ∷ ys))
-    → (arcs : List Arc) (xs js ys : List ℕ) → length xs ≡ length arcs → IsRaised net step xs js ys → P arcs xs js ys
-by_raised net step P none more [] [] [] [] l box = none
-by_raised net step P none more (a ∷ arcs) [] js ys l box = absurd (omega arith)
-by_raised net step P none more [] (x ∷ xs) js ys l box = absurd (omega arith)
-by_raised net step P none more (a ∷ arcs) (x ∷ xs) (j ∷ js) (y ∷ ys) l box =
-    more a arcs x j y xs js ys box (by_raised net step P none more arcs xs js ys (omega arith) box.2)
-by_raised net step P none more _ _ _ _ l box = absurd box
+    → (arcs : List Arc) (xs js ys : List ℕ) → IsRaised step arcs xs js ys → P arcs xs js ys
+by_raised step P none more [] [] [] [] box = none
+by_raised step P none more (a ∷ arcs) (x ∷ xs) (j ∷ js) (y ∷ ys) box =
+    more a arcs x j y xs js ys box (by_raised step P none more arcs xs js ys box.2)
+by_raised step P none more _ _ _ _ box = absurd box
 
 -- There are as many states as units.
-pub states_count : (net : Network) (step : ℕ) (arcs : List Arc) (xs js ys : List ℕ) → length xs ≡ length arcs
-    → IsRaised net step xs js ys → length (units net step arcs xs) ≡ length (states net step xs js)
-states_count net step = by_raised net step (λ arcs xs js ys. length (units net step arcs xs)
-    ≡ length (states net step xs js)) refl (λ a arcs x j y xs js ys box again. omega (
+pub states_count : (net : Network) (step : ℕ) (arcs : List Arc) (xs js ys : List ℕ) → IsRaised step arcs xs js ys
+    → length (units net step arcs xs) ≡ length (states step arcs xs js)
+states_count net step = by_raised step (λ arcs xs js ys. length (units net step arcs xs)
+    ≡ length (states step arcs xs js)) refl (λ a arcs x j y xs js ys box again. omega (
       arith,
-      length-append (units_from net step a (low net step x) 0 (cap net step x)) (units net step arcs xs),
-      length-append (run j (cap net step x)) (states net step xs js),
-      units_length net step a x 0 (cap net step x),
-      run_length j (cap net step x),
+      length-append (units_from net step a (low step a x) 0 (cap step a x)) (units net step arcs xs),
+      length-append (run j (cap step a x)) (states step arcs xs js),
+      units_length net step a x 0 (cap step a x),
+      run_length j (cap step a x),
       again,
     ))
 
@@ -82,7 +87,7 @@ cost_append _ vs _ os l = absurd (omega arith)
 
 -- The active ends of an arc with j units on.
 run_active : (net : Network) (step v : ℕ) (a : Arc) (x k j n : ℕ) → j ≤ n
-    → active v (units_from net step a (low net step x) k n) (run j n) + j * arc_active v false a
+    → active v (units_from net step a (low step a x) k n) (run j n) + j * arc_active v false a
     ≡ j * arc_active v true a + n * arc_active v false a
 run_active net step v a x k zero zero le = omega arith
 run_active net step v a x k (suc j) zero le = absurd (omega arith)
@@ -94,19 +99,19 @@ abbrev pub weighted_ends : ℕ → Bool → List Arc → List ℕ → ℕ
 weighted_ends v on (a ∷ arcs) (j ∷ js) = j * arc_active v on a + weighted_ends v on arcs js
 weighted_ends v on _ _ = 0
 
-pub box_active : (net : Network) (step v : ℕ) (arcs : List Arc) (xs js ys : List ℕ) → length xs ≡ length arcs
-    → IsRaised net step xs js ys → active v (units net step arcs xs) (states net step xs js) + weighted_ends v false
-    arcs js ≡ weighted_ends v true arcs js + weighted_ends v false arcs (map (cap net step) xs)
-box_active net step v = by_raised net step (λ arcs xs js ys. active v (units net step arcs xs) (states net step xs js)
+pub box_active : (net : Network) (step v : ℕ) (arcs : List Arc) (xs js ys : List ℕ) → IsRaised step arcs xs js ys
+    → active v (units net step arcs xs) (states step arcs xs js) + weighted_ends v false
+    arcs js ≡ weighted_ends v true arcs js + weighted_ends v false arcs (arcwise (cap step) arcs xs)
+box_active net step v = by_raised step (λ arcs xs js ys. active v (units net step arcs xs) (states step arcs xs js)
     + weighted_ends v false arcs js ≡ weighted_ends v true arcs js + weighted_ends v false arcs
-    (map (cap net step) xs)) refl (λ a arcs x j y xs js ys box again.
-    let same : length (units_from net step a (low net step x) 0 (cap net step x)) ≡ length (run j (cap net step x)) =
-    omega (arith, units_length net step a x 0 (cap net step x), run_length j (cap net step x)) in
+    (arcwise (cap step) arcs xs)) refl (λ a arcs x j y xs js ys box again.
+    let same : length (units_from net step a (low step a x) 0 (cap step a x)) ≡ length (run j (cap step a x)) =
+    omega (arith, units_length net step a x 0 (cap step a x), run_length j (cap step a x)) in
     omega (
       arith,
-      active_append v (units_from net step a (low net step x) 0 (cap net step x)) (units net step arcs xs)
-          (run j (cap net step x)) (states net step xs js) same,
-      run_active net step v a x 0 j (cap net step x) box.0,
+      active_append v (units_from net step a (low step a x) 0 (cap step a x)) (units net step arcs xs)
+          (run j (cap step a x)) (states step arcs xs js) same,
+      run_active net step v a x 0 j (cap step a x) box.0,
       again,
     ))
 
@@ -116,15 +121,15 @@ scaled l j s a =
     let turned : j * s * a ≡ s * (j * a) = ap (λ n. n * a) (mul_comm j s) ∙ mul_assoc s j a in
     omega (arith, add-mul l (j * s) a, turned)
 
-pub box_ends : (net : Network) (step v : ℕ) (on : Bool) (arcs : List Arc) (xs js ys : List ℕ) → length xs ≡ length arcs
-    → IsRaised net step xs js ys → weighted_ends v on arcs ys ≡ weighted_ends v on arcs (lows net step xs)
+pub box_ends : (net : Network) (step v : ℕ) (on : Bool) (arcs : List Arc) (xs js ys : List ℕ)
+    → IsRaised step arcs xs js ys → weighted_ends v on arcs ys ≡ weighted_ends v on arcs (arcwise (low step) arcs xs)
     + step * weighted_ends v on arcs js
 box_ends net step v on =
-    by_raised net step (λ arcs xs js ys. weighted_ends v on arcs ys ≡ weighted_ends v on arcs (lows net step xs)
+    by_raised step (λ arcs xs js ys. weighted_ends v on arcs ys ≡ weighted_ends v on arcs (arcwise (low step) arcs xs)
     + step * weighted_ends v on arcs js) (omega (arith, mul_comm step 0, zero-mul step))
     (λ a arcs x j y xs js ys box again.
-    let here : y * arc_active v on a ≡ low net step x * arc_active v on a + step * (j * arc_active v on a) =
-    ap (λ n. n * arc_active v on a) box.1 ∙ scaled (low net step x) j step (arc_active v on a) in
+    let here : y * arc_active v on a ≡ low step a x * arc_active v on a + step * (j * arc_active v on a) =
+    ap (λ n. n * arc_active v on a) box.1 ∙ scaled (low step a x) j step (arc_active v on a) in
     omega (arith, here, mul-add step (j * arc_active v on a) (weighted_ends v on arcs js), again))
 
 -- The sum on one side of a node, along the list.
@@ -168,18 +173,19 @@ balanced_list arcs ys l balanced v = omega (
   side_list v false arcs ys l,
 )
 
-pub box_length : (net : Network) (step : ℕ) (xs js ys : List ℕ) → IsRaised net step xs js ys → length ys ≡ length xs
-box_length net step [] [] [] box = refl
-box_length net step (x ∷ xs) (j ∷ js) (y ∷ ys) box = omega (arith, box_length net step xs js ys box.2)
-box_length net step _ _ _ box = absurd box
+pub box_length : (step : ℕ) (arcs : List Arc) (xs js ys : List ℕ) → IsRaised step arcs xs js ys
+    → length ys ≡ length arcs
+box_length step [] [] [] [] box = refl
+box_length step (a ∷ arcs) (x ∷ xs) (j ∷ js) (y ∷ ys) box = omega (arith, box_length step arcs xs js ys box.2)
+box_length step _ _ _ _ box = absurd box
 
 -- Two balanced lists of one box have the same number of active ends at each node.
-pub same_active : (net : Network) (step : ℕ) (xs js ys is zs : List ℕ) → 1 ≤ step → length xs ≡ length net.arcs
-    → IsRaised net step xs js ys → IsRaised net step xs is zs → IsBalanced net.arcs (entries ys)
-    → IsBalanced net.arcs (entries zs) → (v : ℕ) → active v (units net step net.arcs xs) (states net step xs js)
-    ≡ active v (units net step net.arcs xs) (states net step xs is)
-same_active net step xs js ys is zs positive l box other by bz v =
-    omega (arith, box_active net step v net.arcs xs js ys l box, box_active net step v net.arcs xs is zs l other, equal)
+pub same_active : (net : Network) (step : ℕ) (xs js ys is zs : List ℕ) → 1 ≤ step → IsRaised step net.arcs xs js ys
+    → IsRaised step net.arcs xs is zs → IsBalanced net.arcs (entries ys)
+    → IsBalanced net.arcs (entries zs) → (v : ℕ) → active v (units net step net.arcs xs) (states step net.arcs xs js)
+    ≡ active v (units net step net.arcs xs) (states step net.arcs xs is)
+same_active net step xs js ys is zs positive box other by bz v =
+    omega (arith, box_active net step v net.arcs xs js ys box, box_active net step v net.arcs xs is zs other, equal)
   where
     plus : List ℕ → ℕ
     plus ks = weighted_ends v true net.arcs ks
@@ -192,12 +198,12 @@ same_active net step xs js ys is zs positive l box other by bz v =
       arith,
       mul-add step (plus js) (minus is),
       mul-add step (minus js) (plus is),
-      box_ends net step v true net.arcs xs js ys l box,
-      box_ends net step v false net.arcs xs js ys l box,
-      box_ends net step v true net.arcs xs is zs l other,
-      box_ends net step v false net.arcs xs is zs l other,
-      balanced_list net.arcs ys (box_length net step xs js ys box ∙ l) by v,
-      balanced_list net.arcs zs (box_length net step xs is zs other ∙ l) bz v,
+      box_ends net step v true net.arcs xs js ys box,
+      box_ends net step v false net.arcs xs js ys box,
+      box_ends net step v true net.arcs xs is zs other,
+      box_ends net step v false net.arcs xs is zs other,
+      balanced_list net.arcs ys (box_length step net.arcs xs js ys box) by v,
+      balanced_list net.arcs zs (box_length step net.arcs xs is zs other) bz v,
     )
 
     equal : plus js + minus is ≡ minus js + plus is
@@ -221,15 +227,15 @@ deviation_list net (a ∷ arcs) (y ∷ ys) l =
 deviation_list net _ _ l = absurd (omega arith)
 
 none_cost : (net : Network) (step : ℕ) (a : Arc) (x k n : ℕ)
-    → cost_on (units_from net step a (low net step x) k n) (run 0 n) ≡ pos 0
+    → cost_on (units_from net step a (low step a x) k n) (run 0 n) ≡ pos 0
 none_cost net step a x k zero = refl
 none_cost net step a x k (suc n) = omega (arith, ints, none_cost net step a x (k + 1) n)
 
 -- The units of an arc that are on cost the change of its deviation.
 run_cost : (net : Network) (step : ℕ) (a : Arc) (x k j n : ℕ) → j ≤ n
-    → cost_on (units_from net step a (low net step x) k n) (run j n) +ℤ pos
-    (arc_deviation net a (pos (low net step x + k * step)))
-    ≡ pos (arc_deviation net a (pos (low net step x + (k + j) * step)))
+    → cost_on (units_from net step a (low step a x) k n) (run j n) +ℤ pos
+    (arc_deviation net a (pos (low step a x + k * step)))
+    ≡ pos (arc_deviation net a (pos (low step a x + (k + j) * step)))
 run_cost net step a x k zero zero le = rw (add-zero k) (omega (arith, ints))
 run_cost net step a x k (suc j) zero le = absurd (omega arith)
 run_cost net step a x k zero (suc n) le = rw (add-zero k) (omega (arith, ints, none_cost net step a x (k + 1) n))
@@ -237,25 +243,26 @@ run_cost net step a x k (suc j) (suc n) le =
     let past : k + suc j ≡ k + 1 + j = omega arith in
     rw past (omega (arith, ints, run_cost net step a x (k + 1) j n (omega arith)))
 
-pub box_cost : (net : Network) (step : ℕ) (arcs : List Arc) (xs js ys : List ℕ) → length xs ≡ length arcs
-    → IsRaised net step xs js ys → cost_on (units net step arcs xs) (states net step xs js) +ℤ pos
-    (deviations net arcs (lows net step xs)) ≡ pos (deviations net arcs ys)
-box_cost net step = by_raised net step (λ arcs xs js ys. cost_on (units net step arcs xs) (states net step xs js) +ℤ pos
-    (deviations net arcs (lows net step xs)) ≡ pos (deviations net arcs ys)) refl (λ a arcs x j y xs js ys box again.
-    let same : length (units_from net step a (low net step x) 0 (cap net step x)) ≡ length (run j (cap net step x)) =
-    omega (arith, units_length net step a x 0 (cap net step x), run_length j (cap net step x)) in
-    let begin : low net step x + 0 * step ≡ low net step x = omega (arith, zero-mul step) in
-    let end : low net step x + (0 + j) * step ≡ y = ap (λ n. low net step x + n * step) (zero-add j) ∙ sym box.1 in
-    let first : arc_deviation net a (pos (low net step x + 0 * step)) ≡ arc_deviation net a (pos (low net step x)) =
+pub box_cost : (net : Network) (step : ℕ) (arcs : List Arc) (xs js ys : List ℕ) → IsRaised step arcs xs js ys
+    → cost_on (units net step arcs xs) (states step arcs xs js) +ℤ pos
+    (deviations net arcs (arcwise (low step) arcs xs)) ≡ pos (deviations net arcs ys)
+box_cost net step = by_raised step (λ arcs xs js ys. cost_on (units net step arcs xs) (states step arcs xs js) +ℤ pos
+    (deviations net arcs (arcwise (low step) arcs xs)) ≡ pos (deviations net arcs ys)) refl
+    (λ a arcs x j y xs js ys box again.
+    let same : length (units_from net step a (low step a x) 0 (cap step a x)) ≡ length (run j (cap step a x)) =
+    omega (arith, units_length net step a x 0 (cap step a x), run_length j (cap step a x)) in
+    let begin : low step a x + 0 * step ≡ low step a x = omega (arith, zero-mul step) in
+    let end : low step a x + (0 + j) * step ≡ y = ap (λ n. low step a x + n * step) (zero-add j) ∙ sym box.1 in
+    let first : arc_deviation net a (pos (low step a x + 0 * step)) ≡ arc_deviation net a (pos (low step a x)) =
     ap (λ n. arc_deviation net a (pos n)) begin in
-    let last : arc_deviation net a (pos (low net step x + (0 + j) * step)) ≡ arc_deviation net a (pos y) =
+    let last : arc_deviation net a (pos (low step a x + (0 + j) * step)) ≡ arc_deviation net a (pos y) =
     ap (λ n. arc_deviation net a (pos n)) end in
     omega (
       arith,
       ints,
-      cost_append (units_from net step a (low net step x) 0 (cap net step x)) (units net step arcs xs)
-          (run j (cap net step x)) (states net step xs js) same,
-      run_cost net step a x 0 j (cap net step x) box.0,
+      cost_append (units_from net step a (low step a x) 0 (cap step a x)) (units net step arcs xs)
+          (run j (cap step a x)) (states step arcs xs js) same,
+      run_cost net step a x 0 j (cap step a x) box.0,
       first,
       last,
       again,

@@ -43,11 +43,11 @@ deviation_change net a l d small light =
     omega (arith, ints, up, down, mul-add a.weight near (net.q * d), mul-add a.weight far (net.q * d), copies_at)
 
 from_cheap : (net : Network) (step : ℕ) (a : Arc) (x k n : ℕ) → net.q ≤ 1000 → a.weight ≤ 1000
-    → AreCheapUnits (1000 * (1000 * step)) (units_from net step a (low net step x) k n)
+    → AreCheapUnits (1000 * (1000 * step)) (units_from net step a (low step a x) k n)
 from_cheap net step a x k zero small light = tt
 from_cheap net step a x k (suc n) small light =
-    let next : low net step x + (k + 1) * step ≡ low net step x + k * step + step = omega (arith, add-mul k 1 step) in (
-      rw next (deviation_change net a (low net step x + k * step) step small light),
+    let next : low step a x + (k + 1) * step ≡ low step a x + k * step + step = omega (arith, add-mul k 1 step) in (
+      rw next (deviation_change net a (low step a x + k * step) step small light),
       from_cheap net step a x (k + 1) n small light,
     )
 
@@ -63,11 +63,15 @@ units_cheap net step nodes [] xs small bounded = tt
 units_cheap net step nodes (a ∷ arcs) [] small bounded = tt
 units_cheap net step nodes (a ∷ arcs) (x ∷ xs) small bounded =
     let both = and_parts (is_bounded nodes a) (list_all (is_bounded nodes) arcs) bounded in
-    let numbers = and_parts (nat_le 1 a.weight && nat_le a.weight 1000 && nat_le a.old 4000000000) _ both.0 in
+    let bounds = and_parts (nat_le 1 a.weight && nat_le a.weight 1000 && nat_le a.old 4000000000 && nat_le 1 a.floor
+    && nat_le a.floor 3) _ both.0 in
+    let floors = and_parts (nat_le 1 a.weight && nat_le a.weight 1000 && nat_le a.old 4000000000 && nat_le 1 a.floor) _
+    bounds.0 in
+    let numbers = and_parts (nat_le 1 a.weight && nat_le a.weight 1000 && nat_le a.old 4000000000) _ floors.0 in
     let weights = and_parts (nat_le 1 a.weight && nat_le a.weight 1000) _ numbers.0 in
     let light : a.weight ≤ 1000 = leb-true a.weight 1000 (and_parts (nat_le 1 a.weight) _ weights.0).1 in
-    cheap_units_append _ (units_from net step a (low net step x) 0 (cap net step x)) (units net step arcs xs)
-    (from_cheap net step a x 0 (cap net step x) small light) (units_cheap net step nodes arcs xs small both.1)
+    cheap_units_append _ (units_from net step a (low step a x) 0 (cap step a x)) (units net step arcs xs)
+    (from_cheap net step a x 0 (cap step a x) small light) (units_cheap net step nodes arcs xs small both.1)
 
 cheap_append : (c : ℕ) (es fs : List WEdge) → AreCheap c es → AreCheap c fs → AreCheap c (es ++ fs)
 cheap_append c [] fs a b = b

@@ -17,11 +17,16 @@ pub matchings : (net : Network) (step : ℕ) (xs ys : List ℕ) → IsStart net 
 matchings net step xs ys start admissible inside =
     let js : List ℕ = ups step (lows net step xs) ys in
     let law = matching_law net step xs js ys start.bounds start.positive start.count start.admissible admissible
-    (in_box net step xs ys start.positive inside) in
+    (in_box step net.arcs xs ys start.positive start.count inside) in
     record { matching = matching_told net step xs js; perfect = law.0; cost = law.1 }
 
 pub lists : (net : Network) (step : ℕ) (xs m : List ℕ) → IsStart net step xs → IsPerfect (matching_graph net step xs) m
     → HasLengths net step xs m
 lists net step xs m start perfect =
     let law = lengths_law net step xs m start.bounds start.positive start.count start.admissible perfect in
-    record { ys = lengths_told net step xs m; admissible = law.1; inside = told_in_box net step xs m; cost = law.2 }
+    record {
+      ys = lengths_told net step xs m;
+      admissible = law.1;
+      inside = told_in_box net step xs m start.count;
+      cost = law.2;
+    }

@@ -1,16 +1,17 @@
 -- The matching graph has at most 9/16 of the tangle number of vertices, and at most 9/8 of it of edges.
 use Rattle.std.proofs.Common.{◌≡◌, ◌≢◌, ℕ, zero, suc, ◌+◌, ◌-◌, ◌*◌, ◌%◌, ◌<◌, ◌≤◌, Bool, true, false, cond, ◌&&◌, ◌==◌}
-use Rattle.std.proofs.Common.{List, [], ◌∷◌, length, map, Option, Some, None, option_to_list, pos, ◌≤ℤ◌, refl, sym, ◌∙◌}
+use Rattle.std.proofs.Common.{List, [], ◌∷◌, length, Option, Some, None, option_to_list, pos, ◌≤ℤ◌, refl, sym, ◌∙◌}
 use Rattle.std.proofs.Common.{ap, inl, inr, ◌⊎◌, add-mul, mul-add, mul_comm, mul_left_comm, zero-mul, mul-le-mul_left}
-use Rattle.std.proofs.Common.{mul-le-mul_right, length-append, eq-eqb, ne_eqb, arith}
+use Rattle.std.proofs.Common.{mul-le-mul_right, length-append, eq-eqb, ne_eqb, leb-true, nat_le, IsTrue, arith}
+use Rattle.std.specs.List.{list_all}
 use Rattle.std.proofs.lemmas.Int.{ints}
-use Rattle.std.proofs.lemmas.Bool.{cases_eq}
+use Rattle.std.proofs.lemmas.Bool.{and_parts, cases_eq}
 use Rattle.def_math.specs.Counts.{count, count_below}
 use Rattle.sum_laws.proofs.Counts.{count_append, count_sum, count_below_sum, count_below_le, count_below_same}
 use Rattle.sum_laws.proofs.Counts.{count_below_one, count_below_none, count_below_times}
-use Rattle.def_flow.specs.Network.{EndsBelow, Network, IsWithinBounds, ends, degree, tangle_number}
+use Rattle.def_flow.specs.Network.{EndsBelow, Network, IsWithinBounds, is_bounded, arc_at, ends, degree, tangle_number}
 use Rattle.def_flow.specs.Admissible.{IsAdmissible, entries}
-use Rattle.def_flow.specs.Units.{down, low, cap, units_from, units, states_at, is_active, active, alone_active}
+use Rattle.def_flow.specs.Units.{arcwise, down, low, cap, units_from, units, states_at, is_active, active, alone_active}
 use Rattle.def_flow.specs.Units.{rim_active}
 use Rattle.def_flow.specs.MatchingGraph.{link_from, rung, rim_links, rim, size_by, unit_size, unit_links, units_links}
 use Rattle.def_flow.specs.MatchingGraph.{first_fresh, lone_vertex, matching_graph}
@@ -58,13 +59,28 @@ weighted_none v on (a ∷ arcs) (x ∷ xs) none =
     let product : x * arc_active v on a ≡ x * 0 = ap (λ n. x * n) here in
     omega (arith, product, mul_comm x 0, zero-mul x, weighted_none v on arcs xs (omega (arith, none)))
 
+-- The floors of bounded arcs are from 1 on.
+floor_low : (nodes : ℕ) (arcs : List Arc) → IsTrue (list_all (is_bounded nodes) arcs) → (k : ℕ) → k < length arcs
+    → 1 ≤ (arc_at arcs k).floor
+floor_low nodes [] h k l = absurd (omega arith)
+floor_low nodes (a ∷ arcs) h zero l =
+    let both = and_parts (is_bounded nodes a) (list_all (is_bounded nodes) arcs) h in
+    let numbers = and_parts (nat_le 1 a.weight && nat_le a.weight 1000 && nat_le a.old 4000000000 && nat_le 1 a.floor
+    && nat_le a.floor 3) _ both.0 in
+    let floors = and_parts (nat_le 1 a.weight && nat_le a.weight 1000 && nat_le a.old 4000000000 && nat_le 1 a.floor) _
+    numbers.0 in
+    leb-true 1 a.floor (and_parts (nat_le 1 a.weight && nat_le a.weight 1000 && nat_le a.old 4000000000) _ floors.0).1
+floor_low nodes (a ∷ arcs) h (suc k) l = floor_low nodes arcs
+    (and_parts (is_bounded nodes a) (list_all (is_bounded nodes) arcs) h).1 k (omega arith)
+
 -- No node has a single end: the other side would have the sum 0.
 no_single : (net : Network) (xs : List ℕ) → IsWithinBounds net → length xs ≡ length net.arcs
     → IsAdmissible net (entries xs) → (v : ℕ) → degree net.arcs v ≢ 1
 no_single net xs bounds l a v single = by_side (cases_eq (ends_on v true net.arcs) 0)
   where
     high : (k : ℕ) → k < length xs → pos 1 ≤ℤ entries xs k
-    high k lk = omega (arith, ints, bounds.floor_low, a.high k (omega (arith, l)))
+    high k lk = (let at : k < length net.arcs = omega (arith, l) in
+        omega (arith, ints, floor_low net.nodes net.arcs bounds.arcs k at, a.high k at))
 
     equal : weighted_ends v true net.arcs xs ≡ weighted_ends v false net.arcs xs
     equal = balanced_list net.arcs xs l a.balanced v
@@ -84,22 +100,22 @@ no_single net xs bounds l a v single = by_side (cases_eq (ends_on v true net.arc
 
 -- A node has at most two copies for each of its ends.
 caps_ends : (net : Network) (step v : ℕ) (arcs : List Arc) (xs : List ℕ) → length xs ≡ length arcs
-    → weighted_ends v false arcs (map (cap net step) xs) ≡ weighted_ends v false arcs (map (down net step) xs)
+    → weighted_ends v false arcs (arcwise (cap step) arcs xs) ≡ weighted_ends v false arcs (arcwise (down step) arcs xs)
     + 2 * ends_on v false arcs
 caps_ends net step v [] [] l = refl
 caps_ends net step v (a ∷ arcs) (x ∷ xs) l = omega (
   arith,
-  add-mul (down net step x) 2 (arc_active v false a),
+  add-mul (down step a x) 2 (arc_active v false a),
   caps_ends net step v arcs xs (omega arith),
 )
 caps_ends net step v _ _ l = absurd (omega arith)
 
 downs_ends : (net : Network) (step v : ℕ) (arcs : List Arc) (xs : List ℕ)
-    → weighted_ends v true arcs (map (down net step) xs) ≤ 2 * ends_on v true arcs
+    → weighted_ends v true arcs (arcwise (down step) arcs xs) ≤ 2 * ends_on v true arcs
 downs_ends net step v [] xs = omega arith
 downs_ends net step v (a ∷ arcs) [] = omega arith
 downs_ends net step v (a ∷ arcs) (x ∷ xs) =
-    let low : down net step x ≤ 2 = omega arith in
+    let low : down step a x ≤ 2 = omega arith in
     omega (arith, mul-le-mul_right (arc_active v true a) low, downs_ends net step v arcs xs)
 
 pub count_low : (net : Network) (step : ℕ) (xs : List ℕ) → length xs ≡ length net.arcs → (v : ℕ)
@@ -108,8 +124,8 @@ count_low net step xs l v =
     omega (
       arith,
       degree_sides v net.arcs,
-      box_active net step v net.arcs xs (map (down net step) xs) xs l
-          (own_box net step xs),
+      box_active net step v net.arcs xs (arcwise (down step) net.arcs xs) xs
+          (own_box step net.arcs xs l),
       caps_ends net step v net.arcs xs l,
       downs_ends net step v net.arcs xs,
     )
@@ -238,7 +254,7 @@ rim_low before fresh (r ∷ s ∷ rs) =
 
 -- Of each arc there are at most four units, all of its shape.
 shape_count : (g : End → Option End → ℕ) (net : Network) (step : ℕ) (a : Arc) (x k n : ℕ)
-    → count (λ u. g u.left u.right) (units_from net step a (low net step x) k n) ≡ n * g a.left a.right
+    → count (λ u. g u.left u.right) (units_from net step a (low step a x) k n) ≡ n * g a.left a.right
 shape_count g net step a x k zero = omega (arith, zero-mul (g a.left a.right))
 shape_count g net step a x k (suc n) =
     omega (arith, add-mul 1 n (g a.left a.right), shape_count g net step a x (k + 1) n)
@@ -249,14 +265,14 @@ units_few : (g : End → Option End → ℕ) (f : ℕ → ℕ) (net : Network) (
 units_few g f net step [] xs le = omega arith
 units_few g f net step (a ∷ arcs) [] le = omega arith
 units_few g f net step (a ∷ arcs) (x ∷ xs) le =
-    let four : cap net step x ≤ 4 = omega arith in
+    let four : cap step a x ≤ 4 = omega arith in
     omega (
       arith,
       mul-le-mul_right (g a.left a.right) four,
       le a.left a.right,
-      count_append (λ (u : ArcUnit). g u.left u.right) (units_from net step a (low net step x) 0 (cap net step x))
+      count_append (λ (u : ArcUnit). g u.left u.right) (units_from net step a (low step a x) 0 (cap step a x))
           (units net step arcs xs),
-      shape_count g net step a x 0 (cap net step x),
+      shape_count g net step a x 0 (cap step a x),
       units_few g f net step arcs xs le,
     )
 

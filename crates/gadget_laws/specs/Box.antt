@@ -2,14 +2,15 @@
 use Rattle.std.specs.Prelude.{◌≡◌, ℕ, ◌+◌, ◌-◌, ◌*◌, ◌/◌, ◌%◌, ◌≤◌, ◌==◌, List, [], ◌∷◌}
 use Rattle.def_flow.specs.Network.{Network}
 use Rattle.def_flow.specs.Units.{low, cap, units, states, states_at, active, rim_active}
+use Rattle.def_flow.specs.declared.net.Arc.{Arc}
 use Rattle.gadget_laws.specs.Marks.{places, states_marks}
 
 -- Each entry of ys is the low and j steps, with j at most the number of units.
-abbrev pub IsRaised : (net : Network) (step : ℕ) (xs js ys : List ℕ) → Type 0
-IsRaised net step [] [] [] = Unit {0}
-IsRaised net step (x ∷ xs) (j ∷ js) (y ∷ ys) =
-    (j ≤ cap net step x) × (y ≡ low net step x + j * step) × IsRaised net step xs js ys
-IsRaised net step _ _ _ = ⊥
+abbrev pub IsRaised : (step : ℕ) (arcs : List Arc) (xs js ys : List ℕ) → Type 0
+IsRaised step [] [] [] [] = Unit {0}
+IsRaised step (a ∷ arcs) (x ∷ xs) (j ∷ js) (y ∷ ys) =
+    (j ≤ cap step a x) × (y ≡ low step a x + j * step) × IsRaised step arcs xs js ys
+IsRaised step _ _ _ _ = ⊥
 
 -- How many steps each entry of a list is above its low.
 abbrev pub ups : (step : ℕ) (lows ys : List ℕ) → List ℕ
@@ -22,4 +23,4 @@ matching_told net step xs js =
     let us = units net step net.arcs xs in
     places 0
     (states_marks net.nodes (λ v. active v us (states_at net step xs))
-    (rim_active us (states_at net step xs) % 2 == 1) us (states net step xs js))
+    (rim_active us (states_at net step xs) % 2 == 1) us (states step net.arcs xs js))

@@ -4,6 +4,7 @@ use Rattle.std.specs.Prelude.{take, drop, Option, Some, None}
 use Rattle.def_flow.specs.Network.{Network}
 use Rattle.def_flow.specs.Units.{low, cap, units, states_at, active}
 use Rattle.def_flow.specs.MatchingGraph.{are_alike, matching_graph}
+use Rattle.def_flow.specs.declared.net.Arc.{Arc}
 use Rattle.def_flow.specs.declared.net.End.{End}
 use Rattle.def_flow.specs.declared.units.ArcUnit.{ArcUnit}
 use Rattle.gadget_laws.specs.Marks.{trues}
@@ -39,21 +40,21 @@ states_told copies_at (u ∷ us) ms =
     state_told copies_at ms u.left ∷ states_told copies_at us (drop (width_by copies_at u.left u.right) ms)
 
 -- The number of units of each arc that are on.
-abbrev pub steps_told : Network → ℕ → List ℕ → List Bool → List ℕ
-steps_told net step [] ons = []
-steps_told net step (x ∷ xs) ons =
-    trues (take (cap net step x) ons) ∷ steps_told net step xs (drop (cap net step x) ons)
+abbrev pub steps_told : ℕ → List Arc → List ℕ → List Bool → List ℕ
+steps_told step (a ∷ arcs) (x ∷ xs) ons =
+    trues (take (cap step a x) ons) ∷ steps_told step arcs xs (drop (cap step a x) ons)
+steps_told step _ _ ons = []
 
 -- The lengths with so many units on.
-abbrev pub lengths_on : Network → ℕ → List ℕ → List ℕ → List ℕ
-lengths_on net step (x ∷ xs) (j ∷ js) = (low net step x + j * step) ∷ lengths_on net step xs js
-lengths_on net step _ _ = []
+abbrev pub lengths_on : ℕ → List Arc → List ℕ → List ℕ → List ℕ
+lengths_on step (a ∷ arcs) (x ∷ xs) (j ∷ js) = (low step a x + j * step) ∷ lengths_on step arcs xs js
+lengths_on step _ _ _ = []
 
 -- The list that a matching of the matching graph of xs tells.
 abbrev pub lengths_told : Network → ℕ → List ℕ → List ℕ → List ℕ
 lengths_told net step xs m =
     let us = units net step net.arcs xs in
-    lengths_on net step xs
-    (steps_told net step xs
+    lengths_on step net.arcs xs
+    (steps_told step net.arcs xs
     (states_told (λ v. active v us (states_at net step xs)) us
     (marks_from 0 (length (matching_graph net step xs).edges) m)))

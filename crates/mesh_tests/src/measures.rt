@@ -25,41 +25,41 @@ const TARGETS: [(&[u8], i64, u32, &str); 9] = [
         QUAD,
         1_000_000,
         1,
-        "1/1000 floor 1: 3000 4000 5000 8000, from 1 1 1 1",
+        "1/1000, at least 1 1 1 1: 3000 4000 5000 8000, from 1 1 1 1",
     ),
     (
         QUAD,
         3_000_000,
         2,
-        "1/1000 floor 2: 1000 1333 1666 2666, from 2 2 2 2",
+        "1/1000, at least 2 2 2 2: 1000 1333 1666 2666, from 2 2 2 2",
     ),
     (
         QUAD,
         8_000_000_001,
         3,
-        "1/1000 floor 3: 0 0 0 0, from 3 3 3 3",
+        "1/1000, at least 3 3 3 3: 0 0 0 0, from 3 3 3 3",
     ),
     (
         QUAD,
         999_999_999_999_999,
         1,
-        "1/1000 floor 1: 0 0 0 0, from 1 1 1 1",
+        "1/1000, at least 1 1 1 1: 0 0 0 0, from 1 1 1 1",
     ),
     (
         ROW,
         500_000,
         2,
-        "1/1000 floor 2: 8000 8000 2000 2000, from 6 6 2 2",
+        "1/1000, at least 2 2 2 2: 8000 8000 2000 2000, from 6 6 2 2",
     ),
     (
         UNIT,
         1,
         1,
-        "1/1000 floor 1: 1000000000 1000000000 1000000000 1000000000, from 1 1 1 1",
+        "1/1000, at least 1 1 1 1: 1000000000 1000000000 1000000000 1000000000, from 1 1 1 1",
     ),
     (WIDER, 1, 1, "far 4000002000"),
     (QUAD, 1, 1, "far 20000000000"),
-    (b"", 1, 1, "1/1000 floor 1:, from"),
+    (b"", 1, 1, "1/1000, at least:, from"),
 ];
 
 #[test]
@@ -101,9 +101,13 @@ fn network_text<S: Source>(
     }
 }
 
-/// The scale and the floor, the wishes and a start.
+/// The scale and the floors, the wishes and a start.
 fn told(alloc: Global, net: &Net, start: &[u64]) -> Result<String, AllocError> {
-    let mut text = format!(in alloc; "{}/{} floor {}:", net.p, net.q, net.floor)?;
+    let mut text = format!(in alloc; "{}/{}, at least", net.p, net.q)?;
+    for arc in &net.arcs {
+        text.push_str(&format!(in alloc; " {}", arc.floor)?)?;
+    }
+    text.push_str(":")?;
     for arc in &net.arcs {
         text.push_str(&format!(in alloc; " {}", arc.old)?)?;
     }

@@ -143,7 +143,8 @@ nearer net x other ax ao better on = by_differ (differ_or_not x other (length ne
       λ k. x k +ℤ c k,
       record {
         high =
-            λ k l. (part_high (pos net.floor) (x k) (other k) (c k) (ax.high k l) (ao.high k l) (p.part k l)).0;
+            λ k l. (part_high (pos (arc_at net.arcs k).floor) (x k) (other k) (c k) (ax.high k l) (ao.high k l)
+            (p.part k l)).0;
         balanced = balanced_sum net.arcs x c ax.balanced p.balanced;
       },
       λ k l. (let e : (x k +ℤ c k) -ℤ x k ≡ c k =
@@ -153,7 +154,7 @@ nearer net x other ax ao better on = by_differ (differ_or_not x other (length ne
     by_part c p (inr not_here) =
         on (λ k. other k -ℤ c k)
         (record {
-          high = λ k l. (part_high (pos net.floor) (x k) (other k) (c k) (ax.high k l) (ao.high k l)
+          high = λ k l. (part_high (pos (arc_at net.arcs k).floor) (x k) (other k) (c k) (ax.high k l) (ao.high k l)
               (p.part k l)).1;
           balanced = balanced_minus net.arcs other c ao.balanced p.balanced;
         })

@@ -77,12 +77,15 @@ pub(crate) fn write_graph(alloc: Global, text: &str) -> Result<Option<String>, A
     Ok(Some(task_text(alloc, &gadget.graph, &known)?))
 }
 
-/// The old lengths, as often as the scale and the floor ask.
+/// The old lengths, as often as the scale and the floors ask.
 pub(crate) fn multiple(alloc: Global, net: &Net) -> Result<Vec<u64>, AllocError> {
-    let times = u64::from(net.floor.max(net.p / net.q.max(1)));
+    let mut times = net.p / net.q.max(1);
+    for arc in &net.arcs {
+        times = times.max(arc.floor);
+    }
     let mut x = Vec::new(alloc);
     for arc in &net.arcs {
-        x.push(u64::from(arc.old).saturating_mul(times))?;
+        x.push(u64::from(arc.old).saturating_mul(u64::from(times)))?;
     }
     Ok(x)
 }

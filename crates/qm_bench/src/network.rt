@@ -18,7 +18,6 @@ pub(crate) fn network(alloc: Global) -> Result<Net, AllocError> {
     Ok(Net {
         nodes: PAIRS,
         arcs,
-        floor: 1,
         p: 1,
         q: 1,
     })
@@ -47,6 +46,7 @@ fn arc(j: u32, second: bool) -> Arc
         right,
         old: 1 + j * 13 % 9,
         weight: 1 + j % 7,
+        floor: 1,
     }
 }
 

@@ -1,5 +1,5 @@
 -- The verdict yes is that the certificate is accepted.
-use Rattle.std.proofs.Common.{◌≡◌, ◌≢◌, ℕ, ℤ, ◌<◌, ◌≤◌, ◌==◌, nat_lt, not, length, List, map, Option, Some, None}
+use Rattle.std.proofs.Common.{◌≡◌, ◌≢◌, ℕ, ℤ, ◌<◌, ◌≤◌, ◌==◌, nat_lt, not, length, List, Option, Some, None}
 use Rattle.std.proofs.Common.{option_map, pos, unsigned_abs, ◌-ℤ◌, ◌*ℤ◌, ◌≤ℤ◌, true, false, cond, Bool, ◌↔◌, Result, Ok}
 use Rattle.std.proofs.Common.{Err, IfOk, refl, sym, ◌∙◌, ap, inl, inr, ◌⊎◌, ltb-false, le-ltb, eq-eqb, eqb-true, arith}
 use Rattle.std.specs.Prelude.{slice_index, if◌then◌else◌}
@@ -8,9 +8,10 @@ use Rattle.std.proofs.lemmas.Int.{ints}
 use Rattle.std.proofs.lemmas.Bool.{cases_lt, not-false}
 use Rattle.std.proofs.lemmas.Bool.Decides.{Decides-int_eq}
 use Rattle.qm_dual.proofs.Searches.{least_none, none_below}
-use Rattle.def_flow.specs.Network.{Network, IsWithinBounds}
+use Rattle.def_flow.specs.Gadget.{lows}
+use Rattle.def_flow.specs.Network.{Network, IsWithinBounds, arc_at}
 use Rattle.def_flow.specs.Admissible.{IsAdmissible, IsLeast, deviation, entries, side_sum}
-use Rattle.def_flow.specs.Units.{low, down, on_cost}
+use Rattle.def_flow.specs.Units.{arcwise, down, on_cost}
 use Rattle.def_flow.specs.MatchingGraph.{matching_graph}
 use Rattle.def_matching.specs.Dual.{dual_sum, refuse, verdict}
 use Rattle.def_flow.specs.Accepted.{Certificate, IsAccepted, below_fault, unequal_fault, refuse_dual, sums_verdict}
@@ -38,8 +39,8 @@ checked_same far near sum other cost price e f g = ap (λ z. checked z sum cost)
 
 -- The cost of the units that are on is the deviation less that of the lows.
 pub cost_is : (net : Network) (xs : List ℕ) → length xs ≡ length net.arcs
-    → on_cost net 1 xs ≡ pos (deviation net (entries xs)) -ℤ pos (deviation net (entries (map (low net 1) xs)))
-cost_is net xs l = box_deviation net 1 xs (map (down net 1) xs) xs l (own_box net 1 xs)
+    → on_cost net 1 xs ≡ pos (deviation net (entries xs)) -ℤ pos (deviation net (entries (lows net 1 xs)))
+cost_is net xs l = box_deviation net 1 xs (arcwise (down 1) net.arcs xs) xs l (own_box 1 net.arcs xs l)
 
 -- A refusal, as a verdict that may be missing.
 refuse_is : (o : Option ℕ) (at : ℕ → CertVerdict) (after : CertVerdict)
@@ -94,9 +95,10 @@ no_fault net xs bounds none = by_count (length xs == length net.arcs) refl none
         unequal : unequal_fault net xs ≡ None
         unequal = none_of _ (unequal_fault net xs) parts.1
 
-        high : (k : ℕ) → k < length net.arcs → pos net.floor ≤ℤ entries xs k
-        high k l = (let h : net.floor ≤ slice_index xs k =
-            ltb-false (slice_index xs k) net.floor (none_below (λ j. nat_lt (slice_index xs j) net.floor)
+        high : (k : ℕ) → k < length net.arcs → pos (arc_at net.arcs k).floor ≤ℤ entries xs k
+        high k l = (let h : (arc_at net.arcs k).floor ≤ slice_index xs k =
+            ltb-false (slice_index xs k) (arc_at net.arcs k).floor
+            (none_below (λ j. nat_lt (slice_index xs j) (arc_at net.arcs j).floor)
             (length net.arcs) below k l) in omega (arith, ints, h))
 
         balanced : (v : ℕ) → (v < net.nodes) ⊎ (net.nodes ≤ v) → side_sum net.arcs (entries xs) true v
@@ -121,8 +123,9 @@ admissible_none : (net : Network) (xs : List ℕ) → length xs ≡ length net.a
     → list_verdict net xs ≡ None
 admissible_none net xs count a =
     let same : (length xs == length net.arcs) ≡ true = eq-eqb (length xs) (length net.arcs) count in
-    let below : below_fault net xs ≡ None = least_none (λ j. nat_lt (slice_index xs j) net.floor) (length net.arcs)
-    (λ k l. le-ltb (slice_index xs k) net.floor (omega (arith, ints, a.high k l))) in
+    let below : below_fault net xs ≡ None = least_none (λ j. nat_lt (slice_index xs j) (arc_at net.arcs j).floor)
+    (length net.arcs)
+    (λ k l. le-ltb (slice_index xs k) (arc_at net.arcs k).floor (omega (arith, ints, a.high k l))) in
     let unequal : unequal_fault net xs ≡ None =
     least_none (λ u. not (int_eq (side_sum net.arcs (entries xs) true u) (side_sum net.arcs (entries xs) false u)))
     net.nodes (λ v l. ap not

@@ -1,11 +1,10 @@
 -- Deviations are far from the ends of their type.
-use Rattle.std.proofs.Common.{◌≡◌, ℕ, ◌*◌, ◌^◌, ◌<◌, ◌≤◌, List, length, map, pos, unsigned_abs, ◌-ℤ◌, ◌*ℤ◌, ◌&&◌}
+use Rattle.std.proofs.Common.{◌≡◌, ℕ, ◌*◌, ◌^◌, ◌<◌, ◌≤◌, List, length, pos, unsigned_abs, ◌-ℤ◌, ◌*ℤ◌, ◌&&◌}
 use Rattle.std.proofs.Common.{nat_le, true, ◌∙◌, ap, mul-le-mul, leb-true, arith}
 use Rattle.std.specs.Prelude.{slice_index, nat_lt}
 use Rattle.std.specs.List.{list_all}
 use Rattle.std.proofs.lemmas.Int.{ints}
 use Rattle.std.proofs.lemmas.Bool.{and_parts}
-use Rattle.std.proofs.lemmas.List.{length-map, get_or-map}
 use Rattle.def_math.specs.Counts.{count_below}
 use Rattle.sum_laws.proofs.Counts.{count_below_le, count_below_ones, count_below_times}
 use Rattle.def_flow.specs.Network.{Network, IsWithinBounds, arc_at, ends}
@@ -13,6 +12,9 @@ use Rattle.def_flow.specs.Admissible.{arc_deviation, deviation, entries}
 use Rattle.def_flow.specs.Units.{low}
 use Rattle.def_flow.specs.declared.net.Arc.{Arc}
 use Rattle.def_flow.specs.Admissible.{AreNetLengths}
+use Rattle.def_flow.specs.Gadget.{lows}
+use Rattle.gadget_laws.proofs.Box.{arcwise_length}
+use Rattle.qm_gadget.proofs.Arcwise.{arcwise_at}
 use Rattle.qm_net.proofs.Within.{arc_bounded}
 
 -- The deviation of an arc of a network within bounds.
@@ -23,13 +25,20 @@ arc_small net k y bounds l short = omega (arith, heavy, apart)
     a : Arc
     a = arc_at net.arcs k
 
-    tests : ((nat_le 1 a.weight && nat_le a.weight 1000 && nat_le a.old 4000000000) ≡ true)
+    tests : ((nat_le 1 a.weight && nat_le a.weight 1000 && nat_le a.old 4000000000 && nat_le 1 a.floor
+        && nat_le a.floor 3) ≡ true)
         × (list_all (λ e. nat_lt e.node net.nodes) (ends a) ≡ true)
-    tests = and_parts (nat_le 1 a.weight && nat_le a.weight 1000 && nat_le a.old 4000000000) _
+    tests = and_parts (nat_le 1 a.weight && nat_le a.weight 1000 && nat_le a.old 4000000000 && nat_le 1 a.floor
+        && nat_le a.floor 3) _
         (arc_bounded net bounds k l)
 
+    above : ((nat_le 1 a.weight && nat_le a.weight 1000 && nat_le a.old 4000000000) ≡ true) × (nat_le 1 a.floor ≡ true)
+    above = and_parts (nat_le 1 a.weight && nat_le a.weight 1000 && nat_le a.old 4000000000) (nat_le 1 a.floor)
+        (and_parts (nat_le 1 a.weight && nat_le a.weight 1000 && nat_le a.old 4000000000 && nat_le 1 a.floor)
+        (nat_le a.floor 3) tests.0).0
+
     numbers : ((nat_le 1 a.weight && nat_le a.weight 1000) ≡ true) × (nat_le a.old 4000000000 ≡ true)
-    numbers = and_parts (nat_le 1 a.weight && nat_le a.weight 1000) (nat_le a.old 4000000000) tests.0
+    numbers = and_parts (nat_le 1 a.weight && nat_le a.weight 1000) (nat_le a.old 4000000000) above.0
 
     old : a.old ≤ 4000000000
     old = leb-true a.old 4000000000 numbers.1
@@ -64,10 +73,10 @@ deviation_small net xs bounds are = omega (arith, each, whole, bounds.few)
 
 -- The lows are lengths too.
 pub lows_lengths : (net : Network) (xs : List ℕ) → AreNetLengths net.arcs xs
-    → AreNetLengths net.arcs (map (low net 1) xs)
+    → AreNetLengths net.arcs (lows net 1 xs)
 lows_lengths net xs are = record {
-  count = length-map xs (low net 1) ∙ are.count;
-  small = λ k l. (let lk : k < length xs = omega (arith, length-map xs (low net 1)) in
-      let e : slice_index (map (low net 1) xs) k ≡ low net 1 (slice_index xs k) =
-      get_or-map (low net 1) xs k 0 0 lk in omega (arith, e, are.small k lk));
+  count = arcwise_length (low 1) net.arcs xs are.count;
+  small = λ k l. (let lk : k < length net.arcs = omega (arith, arcwise_length (low 1) net.arcs xs are.count) in
+      let e : slice_index (lows net 1 xs) k ≡ low 1 (arc_at net.arcs k) (slice_index xs k) =
+      arcwise_at (low 1) net.arcs xs k are.count lk in omega (arith, e, are.small k (omega (arith, are.count, lk))));
 }

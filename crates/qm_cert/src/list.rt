@@ -9,7 +9,7 @@ use crate::sides::{first_below, first_difference, side_sums};
 use def_flow::{CertVerdict, MAX_LENGTH, Net};
 use std::alloc::{AllocError, Global};
 
-/// The first fault of a list: lengths are missing or too many, an arc is shorter than the floor, or the sides of a
+/// The first fault of a list: lengths are missing or too many, an arc is shorter than its floor, or the sides of a
 /// node have unequal sums. Linear.
 pub(crate) fn list_fault(
     alloc: Global,
@@ -27,7 +27,7 @@ pub(crate) fn list_fault(
             given: x.len() as u32,
         }));
     }
-    if let Some(k) = first_below(net.floor, x) {
+    if let Some(k) = first_below(net, x) {
         return Ok(Some(CertVerdict::Below {
             arc: k as u32,
             length: x[k],

@@ -1,10 +1,11 @@
 //! The sums on the sides of the nodes, and searches.
 
 ghost use Rattle.std.specs.Prelude.{◌≡◌, ◌+◌, ◌*◌, ◌^◌, ◌<◌, ◌≤◌, ◌==◌, ℕ, not, length, replicate, slice_index};
-ghost use Rattle.std.specs.Prelude.{nat_lt, IfOk, IfSome};
+ghost use Rattle.std.specs.Prelude.{IfOk, IfSome};
 ghost use Rattle.def_math.specs.Searches.{least};
 ghost use Rattle.def_math.specs.Tables.{IsRaised};
 ghost use Rattle.def_flow.specs.Network.{network, IsWithinBounds};
+ghost use Rattle.def_flow.specs.Accepted.{below_fault};
 ghost use Rattle.def_flow.specs.Admissible.{AreNetLengths};
 ghost use Rattle.qm_cert.specs.Sides.{arc_put, end_put, AreSides};
 
@@ -81,13 +82,14 @@ pub(crate) fn first_difference(plus: &[u128], minus: &[u128]) -> Option<usize>
     None
 }
 
-/// The least arc that is shorter than the floor.
-pub(crate) fn first_below(floor: u32, x: &[u64]) -> Option<usize>
-    ensures least { result ≡ least (λ k. nat_lt (slice_index x.now k) floor) (length x.now) }
+/// The least arc that is shorter than its floor.
+pub(crate) fn first_below(net: &Net, x: &[u64]) -> Option<usize>
+    requires same { length x.now ≡ length net.now.arcs.items }
+    ensures least { result ≡ below_fault (network net.now) x.now }
     ensures low { IfSome result (λ k. k < length x.now) }
 {
     for (k, entry) in x.iter().enumerate() {
-        if *entry < u64::from(floor) {
+        if *entry < u64::from(net.arcs[k].floor) {
             return Some(k);
         }
     }

@@ -1,9 +1,9 @@
 //! The sum of a dual against twice the cost.
 
-ghost use Rattle.std.specs.Prelude.{◌≡◌, ◌^◌, ◌≤◌, pos, ◌-ℤ◌, ◌*ℤ◌, if◌then◌else◌, map, unsigned_abs};
+ghost use Rattle.std.specs.Prelude.{◌≡◌, ◌^◌, ◌≤◌, pos, ◌-ℤ◌, ◌*ℤ◌, if◌then◌else◌, unsigned_abs};
 ghost use Rattle.std.specs.Ordering.{int_eq};
 ghost use Rattle.def_flow.specs.Network.{network, IsWithinBounds};
-ghost use Rattle.def_flow.specs.Units.{low};
+ghost use Rattle.def_flow.specs.Gadget.{lows as lows_of_list};
 ghost use Rattle.def_matching.specs.Dual.{dual_sum};
 ghost use Rattle.def_flow.specs.Accepted.{certificate, sums_verdict};
 ghost use Rattle.def_flow.specs.Admissible.{AreNetLengths};
@@ -16,7 +16,7 @@ use qm_net::deviation;
 pub(crate) fn sum_verdict(net: &Net, cert: &Cert, lows: &[u64], sum: i128) -> CertVerdict
     requires bounds { IsWithinBounds (network net.now) }
     requires lengths { AreNetLengths net.now.arcs.items cert.now.x.items }
-    requires lows { lows.now ≡ map (low (network net.now) 1) cert.now.x.items }
+    requires lows { lows.now ≡ lows_of_list (network net.now) 1 cert.now.x.items }
     requires sum { sum ≡ dual_sum (certificate cert.now).dual }
     ensures { result ≡ sums_verdict (network net.now) (certificate cert.now) }
 {

@@ -22,6 +22,8 @@ use Rattle.def_run.specs.declared.check_fail.CheckFail.{CheckFail}
 use Rattle.def_run.specs.declared.check_fail.CheckFail.TheVariants.{NotAccepted, Memory}
 use Rattle.qm_check.specs.Checked.{made_as, Gives, GivesNone, HasWrongCert, IsChecked, IsUnused}
 use Rattle.qm_check.specs.declared.lengths.Lengths.TheVariants.{Whole, Doubled}
+use Rattle.qm_layoutnet.proofs.Floors.{floors_deviation}
+use Rattle.qm_layoutnet.specs.Floors.{HasFloors}
 use Rattle.remesh_laws.proofs.Keeps.{keeps_first, keeps_third, solved}
 use Rattle.remesh_laws.specs.Keeps.{IsDoubling}
 
@@ -116,7 +118,7 @@ module _ (wish : Wish) (plan : Plan) (net : Network) where
   pub checked_third : (higher : Network) (asked : Asked) (first third : Cert) (tables : Tables) (deviates : ℕ)
       → asked.auto ≡ true
       → IsDoubling wish plan asked.settings (lists_of first) → IsNetFor wish plan (with_floor asked.settings 3) higher
-      → higher ≡ record net { floor = 3 }
+      → HasFloors net (λ a. 3) higher
       → IsSolution higher (certificate third) → Gives plan higher third.x.items (Whole tables deviates)
       → IsChecked wish plan net (made_as asked (raised (lists_of first) (lists_of third)))
       (record {
@@ -124,7 +126,7 @@ module _ (wish : Wish) (plan : Plan) (net : Network) where
         deviation =
             deviates;
       })
-  checked_third higher asked first third tables deviates auto doubling for same is gives = record {
+  checked_third higher asked first third tables deviates auto doubling for has is gives = record {
     kept = subst (λ (b : Bool). IsKept wish plan asked.settings b (raised (lists_of first) (lists_of third)) tables)
         (sym auto)
         (keeps_third plan asked.settings first third third.x.items tables refl (
@@ -136,5 +138,5 @@ module _ (wish : Wish) (plan : Plan) (net : Network) where
         ) gives.0);
     asked = refl;
     chosen = inr refl;
-    deviates = gives.1 ∙ ap (λ (n : Network). deviation n (entries third.x.items)) same;
+    deviates = gives.1 ∙ floors_deviation net (λ a. 3) higher has (entries third.x.items);
   }

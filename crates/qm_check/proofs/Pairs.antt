@@ -277,6 +277,6 @@ module _ (bytes front : Bytes) (line : ℕ) (soup : FaceSet) (settings : Setting
             by.new;
         net = network ready.net;
         of_layout = subst (λ (p : Plan). IsNetOf (layout_of p) (old_lengths p) (old_lengths p) settings
-            (network ready.net)) (sym by.plan_is) is.net.is;
+            (λ a. settings.floor) (network ready.net)) (sym by.plan_is) is.net.is;
         deviation_told = deviates_told ∙ by.deviates;
       }

@@ -71,10 +71,10 @@ module _ (wish : Wish) (plan : Plan) (settings : Settings) (auto : Bool) where
 module _ (wish : Wish) (plan : Plan) (mesh : IsSomeLayout plan) where
   -- A layout has one network.
   pub one_net : (settings : Settings) (net other : Network)
-      → IsNetOf (layout_of plan) (old_lengths plan) (wish plan) settings net
-      → IsNetOf (layout_of plan) (old_lengths plan) (wish plan) settings other → net ≡ other
+      → IsNetOf (layout_of plan) (old_lengths plan) (wish plan) settings (λ a. settings.floor) net
+      → IsNetOf (layout_of plan) (old_lengths plan) (wish plan) settings (λ a. settings.floor) other → net ≡ other
   one_net settings net other is also = one_net_law (layout_of plan) (old_lengths plan) (wish plan) settings
-      (laid_of plan mesh) net other is also
+      (λ a. settings.floor) (laid_of plan mesh) net other is also
 
   -- A certified list is not refused.
   not_wrong : (settings : Settings) (cert : Lists) (why : Why) → IsCertified wish plan settings cert

@@ -6,7 +6,7 @@ use Rattle.def_certtext.specs.declared.Asked.{Asked}
 use Rattle.def_flow.specs.Accepted.{certificate, cert_verdict}
 use Rattle.def_flow.specs.Admissible.{deviation, entries}
 use Rattle.def_flow.specs.Descent.{IsSolution}
-use Rattle.def_flow.specs.Network.{Network}
+use Rattle.def_flow.specs.Network.{arc_at, Network}
 use Rattle.def_flow.specs.declared.cert.Cert.{Cert}
 use Rattle.def_flow.specs.declared.cert.CertVerdict.TheVariants.{Yes}
 use Rattle.def_flow.specs.declared.limits.TheConstants.{MAX_FLOOR, MAX_LENGTH}
@@ -42,11 +42,15 @@ abbrev pub AreInReach : (auto : Bool) (certificates : Certificates) → Type 0
 AreInReach auto (alone cert) = IsInReach cert
 AreInReach auto (raised first cert) = IsInReach first × IsInReach cert × (auto ≡ true)
 
--- What lengths give: a new mesh, or a doubled edge, which comes only below the greatest floor.
+-- Each arc has the greatest floor.
+abbrev pub AreHighest : (net : Network) → Type 0
+AreHighest net = (k : ℕ) → k < length net.arcs → MAX_FLOOR ≤ (arc_at net.arcs k).floor
+
+-- What lengths give: a new mesh, or a doubled edge, which comes only where some floor is below the greatest.
 abbrev pub Gives : (plan : Plan) (net : Network) (xs : List ℕ) (lengths : Lengths) → Type 0
 Gives plan net xs (Whole numbering deviates) = IsNumbered plan xs numbering × (deviates ≡ deviation net (entries xs))
 Gives plan net xs (Doubled u v) =
-    AreCoarse plan xs × IsFirstDoubled (layout_of plan) (lengths_in xs) u v × (net.floor < MAX_FLOOR)
+    AreCoarse plan xs × IsFirstDoubled (layout_of plan) (lengths_in xs) u v × (¬ AreHighest net)
 
 -- Why a certificate gives no lengths: its verdict, or that it is accepted and its lengths give too many faces.
 abbrev pub GivesNone : (plan : Plan) (net : Network) (cert : Cert) (fail : CheckFail) → Type 0

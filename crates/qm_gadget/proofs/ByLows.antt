@@ -5,8 +5,9 @@ use Rattle.std.specs.Prelude.{nat_lt}
 use Rattle.std.proofs.lemmas.Bool.Decides.{nat_tests}
 use Rattle.std.proofs.lemmas.List.{length-append}
 use Rattle.def_flow.specs.Network.{Network}
-use Rattle.def_flow.specs.Units.{down, cap, run, units_from, states, states_at}
+use Rattle.def_flow.specs.Units.{arcwise, down, cap, run, units_from, states, states_at}
 use Rattle.def_flow.specs.declared.net.Arc.{Arc}
+use Rattle.def_flow.specs.Gadget.{caps}
 use Rattle.def_flow.specs.Units.{unit_at, units_from, units_over, states_over}
 
 run_suc : (j n : ℕ) → run j (suc n) ≡ run j n ++ nat_lt n j ∷ []
@@ -36,15 +37,18 @@ from_more net step a l n =
     ap (units_from net step a l 0) (add-one n)
     ∙ (from_suc net step a l 0 n ∙ ap (λ k. units_from net step a l 0 n ++ unit_at net step a l k ∷ []) here)
 
-downs : (net : Network) (step : ℕ) (xs : List ℕ) → map (λ c. c - 2) (map (cap net step) xs) ≡ map (down net step) xs
-downs net step [] = refl
-downs net step (x ∷ xs) = let here : down net step x + 2 - 2 ≡ down net step x = omega arith in
-    ap (λ d. d ∷ map (λ c. c - 2) (map (cap net step) xs)) here ∙ ap (λ ds. down net step x ∷ ds) (downs net step xs)
+downs : (step : ℕ) (arcs : List Arc) (xs : List ℕ) → map (λ c. c - 2) (arcwise (cap step) arcs xs)
+    ≡ arcwise (down step) arcs xs
+downs step [] xs = refl
+downs step (a ∷ arcs) [] = refl
+downs step (a ∷ arcs) (x ∷ xs) = let here : down step a x + 2 - 2 ≡ down step a x = omega arith in
+    ap (λ d. d ∷ map (λ c. c - 2) (arcwise (cap step) arcs xs)) here
+    ∙ ap (λ ds. down step a x ∷ ds) (downs step arcs xs)
 
 -- The states at the list itself.
 pub own_states : (net : Network) (step : ℕ) (xs : List ℕ)
-    → states_over (map (cap net step) xs) (map (λ c. c - 2) (map (cap net step) xs)) ≡ states_at net step xs
-own_states net step xs = ap (states net step xs) (downs net step xs)
+    → states_over (caps net step xs) (map (λ c. c - 2) (caps net step xs)) ≡ states_at net step xs
+own_states net step xs = ap (states step net.arcs xs) (downs step net.arcs xs)
 
 run_long : (j n : ℕ) → length (run j n) ≡ n
 run_long j zero = refl

@@ -1,3 +1,4 @@
+pub mod Arcwise
 mod ByLows
 mod Rows
 mod Fans

@@ -1,10 +1,10 @@
 -- The lows and caps of an admissible list are ready for a plan, and its plan gives its matching graph.
 use Rattle.std.proofs.Common.{◌≡◌, ℕ, zero, suc, ◌+◌, ◌-◌, ◌*◌, ◌%◌, ◌^◌, ◌<◌, ◌≤◌, ◌==◌, Bool, cond, List, [], ◌∷◌}
-use Rattle.std.proofs.Common.{length, map, Option, Some, None, sym, ◌∙◌, ap, inl, inr, arith}
+use Rattle.std.proofs.Common.{length, Option, Some, None, sym, ◌∙◌, ap, inl, inr, arith}
 use Rattle.std.specs.Prelude.{unsigned_abs}
 use Rattle.std.proofs.Math.Nat.{mul-le-mul}
 use Rattle.std.proofs.lemmas.Bool.{cases_lt}
-use Rattle.std.proofs.lemmas.List.{length-map, get_or-map, get_or_past}
+use Rattle.std.proofs.lemmas.List.{get_or_past}
 use Rattle.def_math.specs.Counts.{count, count_below}
 use Rattle.def_flow.specs.Network.{Network, IsWithinBounds, tangle_number}
 use Rattle.def_flow.specs.Admissible.{IsAdmissible, entries}
@@ -16,6 +16,8 @@ use Rattle.def_flow.specs.declared.net.End.{End}
 use Rattle.def_flow.specs.declared.units.ArcUnit.{ArcUnit}
 use Rattle.def_flow.specs.Admissible.{AreNetLengths}
 use Rattle.gadget_laws.proofs.Units.{UnitsAt}
+use Rattle.def_flow.specs.Gadget.{caps, lows}
+use Rattle.gadget_laws.proofs.Box.{arcwise_length}
 use Rattle.gadget_laws.proofs.Costs.{costs}
 use Rattle.gadget_laws.proofs.Law.{arcs_at, units_at, graph_law}
 use Rattle.gadget_laws.proofs.Size.{size_law}
@@ -24,6 +26,7 @@ use Rattle.def_flow.specs.Units.{units_over}
 use Rattle.qm_gadget.specs.Ready.{graph_by_lows, IsReady, IsPlan}
 use Rattle.qm_gadget.specs.Ready.{own_states as states_of_caps}
 use Rattle.qm_gadget.specs.declared.plan.Plan.{Plan}
+use Rattle.qm_gadget.proofs.Arcwise.{arcwise_at}
 use Rattle.qm_gadget.proofs.ByLows.{own_states}
 use Rattle.qm_gadget.proofs.NodeCounts.{same_everywhere, none_past}
 
@@ -79,18 +82,18 @@ graph_cheap net step xs bounds count admissible tangle short k l =
 -- The lows and caps of an admissible list.
 pub list_ready : (net : Network) (step : ℕ) (xs : List ℕ) → IsWithinBounds net → AreNetLengths net.arcs xs
     → IsAdmissible net (entries xs) → tangle_number net ≤ 2 ^ 25
-    → IsReady net step (map (low net step) xs) (map (cap net step) xs)
+    → IsReady net step (lows net step xs) (caps net step xs)
 list_ready net step xs bounds lengths admissible tangle = record {
   boxes = record {
-    lows_count = length-map xs (low net step) ∙ lengths.count;
-    caps_count = length-map xs (cap net step) ∙ lengths.count;
+    lows_count = arcwise_length (low step) net.arcs xs lengths.count;
+    caps_count = arcwise_length (cap step) net.arcs xs lengths.count;
     low = λ k l. omega (
       arith,
-      get_or-map (low net step) xs k 0 0 (omega (arith, lengths.count)),
+      arcwise_at (low step) net.arcs xs k lengths.count l,
       lengths.small k (omega (arith, lengths.count)),
     );
-    least = λ k l. omega (arith, get_or-map (cap net step) xs k 0 0 (omega (arith, lengths.count)));
-    most = λ k l. omega (arith, get_or-map (cap net step) xs k 0 0 (omega (arith, lengths.count)));
+    least = λ k l. omega (arith, arcwise_at (cap step) net.arcs xs k lengths.count l);
+    most = λ k l. omega (arith, arcwise_at (cap step) net.arcs xs k lengths.count l);
   };
   few = omega (
     arith,
@@ -116,7 +119,7 @@ plan_counts net step ls cs p ready plan =
 
 -- The graph of units by lows and caps is the matching graph of the list.
 pub graph_over : (net : Network) (step : ℕ) (xs : List ℕ)
-    → graph_by_lows net step (map (low net step) xs) (map (cap net step) xs) ≡ matching_graph net step xs
+    → graph_by_lows net step (lows net step xs) (caps net step xs) ≡ matching_graph net step xs
 graph_over net step xs = ap (graph_of_units net.nodes (units net step net.arcs xs)) (own_states net step xs)
 
 -- The graph of a plan.

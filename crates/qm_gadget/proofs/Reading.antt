@@ -1,6 +1,6 @@
 -- Reading an increasing list of edges unit by unit.
 use Rattle.std.proofs.Common.{◌≡◌, ℕ, zero, suc, ◌+◌, ◌*◌, ◌<◌, ◌≤◌, ◌==◌, Bool, true, false, not, cond, List, [], ◌∷◌}
-use Rattle.std.proofs.Common.{length, take, drop, map, Option, refl, sym, ◌∙◌, ap, subst, inl, inr, ◌⊎◌, add-zero}
+use Rattle.std.proofs.Common.{length, take, drop, Option, refl, sym, ◌∙◌, ap, subst, inl, inr, ◌⊎◌, add-zero}
 use Rattle.std.proofs.Common.{length-append, arith}
 use Rattle.std.specs.Prelude.{nat_lt, slice_index_or}
 use Rattle.std.specs.Bool.{beq}
@@ -8,11 +8,11 @@ use Rattle.std.proofs.lemmas.Bool.{cases_eq, cases_lt, eq-eqb, ne_eqb, lt-ltb}
 use Rattle.std.proofs.lemmas.Bool.Decides.{nat_tests}
 use Rattle.std.proofs.lemmas.List.{drop_more}
 use Rattle.def_math.specs.Counts.{count}
-use Rattle.def_flow.specs.Network.{Network}
 use Rattle.def_math.specs.Increasing.{IsIncreasing}
-use Rattle.def_flow.specs.Units.{low, cap, active_at}
+use Rattle.def_flow.specs.Units.{arcwise, low, cap, active_at}
 use Rattle.def_flow.specs.MatchingGraph.{graph_by, units_links, rim_links, lone_vertex, first_fresh, rim}
 use Rattle.def_math.specs.Counts.{count_below}
+use Rattle.def_flow.specs.declared.net.Arc.{Arc}
 use Rattle.def_flow.specs.declared.net.End.{End}
 use Rattle.def_flow.specs.declared.units.ArcUnit.{ArcUnit}
 use Rattle.gadget_laws.specs.Marks.{trues, units_marks, marks_by}
@@ -178,9 +178,10 @@ widths_low nodes copies_at lone us ons same = omega (
 )
 
 -- The lengths by lows and caps are those with so many units on.
-pub lengths_is : (net : Network) (step : ℕ) (xs : List ℕ) (ons : List Bool)
-    → lengths_by step (map (low net step) xs) (map (cap net step) xs) ons
-    ≡ lengths_on net step xs (steps_told net step xs ons)
-lengths_is net step [] ons = refl
-lengths_is net step (x ∷ xs) ons = ap (λ ys. (low net step x + trues (take (cap net step x) ons) * step) ∷ ys)
-    (lengths_is net step xs (drop (cap net step x) ons))
+pub lengths_is : (step : ℕ) (arcs : List Arc) (xs : List ℕ) (ons : List Bool)
+    → lengths_by step (arcwise (low step) arcs xs) (arcwise (cap step) arcs xs) ons
+    ≡ lengths_on step arcs xs (steps_told step arcs xs ons)
+lengths_is step [] xs ons = refl
+lengths_is step (a ∷ arcs) [] ons = refl
+lengths_is step (a ∷ arcs) (x ∷ xs) ons = ap (λ ys. (low step a x + trues (take (cap step a x) ons) * step) ∷ ys)
+    (lengths_is step arcs xs (drop (cap step a x) ons))

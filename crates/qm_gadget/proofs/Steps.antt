@@ -1,15 +1,15 @@
 -- Lists in the box, by the steps that their entries are above the lows.
 use Rattle.std.proofs.Common.{◌≡◌, ℕ, suc, ◌-◌, ◌*◌, ◌/◌, ◌%◌, ◌^◌, ◌<◌, ◌≤◌, ◌==◌, Bool, true, false, List, [], ◌∷◌}
-use Rattle.std.proofs.Common.{length, map, refl, sym, ◌∙◌, ap, inl, inr, ◌⊎◌, length-append, arith}
+use Rattle.std.proofs.Common.{length, refl, sym, ◌∙◌, ap, inl, inr, ◌⊎◌, length-append, arith}
 use Rattle.std.specs.Prelude.{slice_index}
 use Rattle.std.proofs.lemmas.Bool.{cases_lt}
 use Rattle.std.proofs.lemmas.List.{get_or_past}
 use Rattle.def_math.specs.Counts.{count_below}
 use Rattle.def_flow.specs.Network.{Network}
-use Rattle.def_flow.specs.Units.{low, cap, units_over, units, states_over, states, active, rim_active}
+use Rattle.def_flow.specs.Units.{units_over, units, states_over, states, active, rim_active}
 use Rattle.def_flow.specs.MatchingGraph.{graph_by, lone_vertex, first_fresh, rim, units_links, rim_links}
 use Rattle.def_flow.specs.declared.units.ArcUnit.{ArcUnit}
-use Rattle.def_flow.specs.Gadget.{IsStepUp, IsInBox}
+use Rattle.def_flow.specs.Gadget.{IsStepUp, IsInBox, caps, lows}
 use Rattle.gadget_laws.specs.Box.{ups, matching_told}
 use Rattle.gadget_laws.proofs.Steps.{quotient, step_up}
 use Rattle.gadget_laws.specs.Marks.{places, states_marks, units_marks, rim_marks, rim_states}
@@ -56,16 +56,16 @@ ups_length step (l ∷ ls) (y ∷ ys) same = ap suc (ups_length step ls ys (omeg
 
 -- Marks by lows and caps are those of the matching that is told.
 pub marks_over_is : (net : Network) (step : ℕ) (xs js : List ℕ)
-    → places 0 (marks_over net step (map (low net step) xs) (map (cap net step) xs) js) ≡ matching_told net step xs js
+    → places 0 (marks_over net step (lows net step xs) (caps net step xs) js) ≡ matching_told net step xs js
 marks_over_is net step xs js =
     ap (λ os. places 0 (states_marks net.nodes (λ v. active v us os) (rim_active us os % 2 == 1) us
-    (states net step xs js))) (own_states net step xs)
+    (states step net.arcs xs js))) (own_states net step xs)
   where
     us : List ArcUnit
     us = units net step net.arcs xs
 
     ons : List Bool
-    ons = states_of_caps (map (cap net step) xs)
+    ons = states_of_caps (caps net step xs)
 
 -- There are as many marks as edges.
 pub marks_long : (nodes : ℕ) (copies_at : ℕ → ℕ) (lone : Bool) (us : List ArcUnit) (ons : List Bool)

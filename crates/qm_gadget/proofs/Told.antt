@@ -81,19 +81,19 @@ pub gadget_matching : (net : Network) (g : Gadget) (ys : List ℕ) → IsWithinB
 gadget_matching net g ys bounds of admissible inside m is = rw (of.graphs, told, of.lows) law
   where
     js : List ℕ
-    js = ups g.step (map (low net g.step) of.x) ys
+    js = ups g.step (lows net g.step of.x) ys
 
     told : m ≡ matching_told net g.step of.x js
     told = is
         ∙ (ap (λ ls. places 0 (marks_over net g.step ls g.cap.items (ups g.step ls ys))) of.lows
-        ∙ (ap (λ cs. places 0 (marks_over net g.step (map (low net g.step) of.x) cs js)) of.caps
+        ∙ (ap (λ cs. places 0 (marks_over net g.step (lows net g.step of.x) cs js)) of.caps
         ∙ marks_over_is net g.step of.x js))
 
     law : IsPerfect (matching_graph net g.step of.x) (matching_told net g.step of.x js)
         × (matching_cost (matching_graph net g.step of.x) (matching_told net g.step of.x js)
         ≡ pos (deviation net (entries ys)) -ℤ pos (deviation net (entries (lows net g.step of.x))))
     law = matching_law net g.step of.x js ys bounds of.steps.0 of.lengths.count of.admissible admissible
-        (in_box net g.step of.x ys of.steps.0 (rw (← of.lows, ← of.caps) inside))
+        (in_box g.step net.arcs of.x ys of.steps.0 of.lengths.count (rw (← of.lows, ← of.caps) inside))
 
 -- A gadget's graph has few edges.
 pub gadget_edges : (net : Network) (g : Gadget) → IsWithinBounds net → IsGadgetOf net g
@@ -155,7 +155,7 @@ gadget_lengths net g m bounds of perfect edges long ys is = record {
   inside = subst (λ (ls : List ℕ). IsInBox g.step ls g.cap.items ys) (sym of.lows)
       (subst (λ (cs : List ℕ). IsInBox g.step (lows net g.step xs) cs ys) (sym of.caps)
       (subst (λ (zs : List ℕ). IsInBox g.step (lows net g.step xs) (caps net g.step xs) zs) (sym told)
-      (told_in_box net g.step xs m)));
+      (told_in_box net g.step xs m of.lengths.count)));
 }
   where
     xs : List ℕ
@@ -167,13 +167,13 @@ gadget_lengths net g m bounds of perfect edges long ys is = record {
     told : ys ≡ lengths_told net g.step xs m
     told = is
         ∙ (ap (λ ls. lengths_read net g.step ls g.cap.items edges m) of.lows
-        ∙ (ap (λ cs. lengths_read net g.step (map (low net g.step) xs) cs edges m) of.caps
-        ∙ (ap (λ n. lengths_read net g.step (map (low net g.step) xs) (map (cap net g.step) xs) n m) (long
+        ∙ (ap (λ cs. lengths_read net g.step (lows net g.step xs) cs edges m) of.caps
+        ∙ (ap (λ n. lengths_read net g.step (lows net g.step xs) (caps net g.step xs) n m) (long
         ∙ ap (λ (h : WeightedGraph). length h.edges) of.graphs)
-        ∙ (ap (λ os. lengths_by g.step (map (low net g.step) xs) (map (cap net g.step) xs)
+        ∙ (ap (λ os. lengths_by g.step (lows net g.step xs) (caps net g.step xs)
         (states_told (λ v. active v us os) us (marks_from 0 (length (matching_graph net g.step xs).edges) m)))
         (own_states net g.step xs)
-        ∙ lengths_is net g.step xs (states_told (λ v. active v us (states_at net g.step xs)) us
+        ∙ lengths_is g.step net.arcs xs (states_told (λ v. active v us (states_at net g.step xs)) us
         (marks_from 0 (length (matching_graph net g.step xs).edges) m))))))
 
     law : (length (lengths_told net g.step xs m) ≡ length net.arcs)

@@ -1,10 +1,10 @@
 //! The lows of arcs, and their numbers of units.
 
-ghost use Rattle.std.specs.Prelude.{◌≡◌, ◌+◌, ◌*◌, ◌<◌, ◌≤◌, ℕ, length, map, slice_index, IfOk};
-ghost use Rattle.def_flow.specs.Network.{network};
-ghost use Rattle.def_flow.specs.Units.{down, low, cap};
+ghost use Rattle.std.specs.Prelude.{◌≡◌, ◌+◌, ◌*◌, ◌≤◌, length, IfOk};
+ghost use Rattle.def_flow.specs.Units.{arcwise, down, low, cap};
+ghost use Rattle.qm_net.specs.Balance.{AreHigh};
 
-use def_flow::{MAX_STEP, Net};
+use def_flow::{Arc, MAX_STEP, Net};
 use std::alloc::{AllocError, Global};
 
 /// The lengths that the units of all arcs can give: the least length of each arc, its number of units, and the step.
@@ -24,22 +24,22 @@ pub(crate) struct OwnBox {
 }
 
 /// How many steps an arc of this length can give up, at most 2 of them.
-fn steps_down(net: &Net, step: u64, length: u64) -> u64
+fn steps_down(arc: &Arc, step: u64, length: u64) -> u64
     requires step { 1 ≤ step }
-    requires high { net.now.floor ≤ length }
-    ensures value { result ≡ down (network net.now) step length }
+    requires high { arc.now.floor ≤ length }
+    ensures value { result ≡ down step arc.now length }
     ensures small { result ≤ 2 }
 {
-    ((length - u64::from(net.floor)) / step).min(2)
+    ((length - u64::from(arc.floor)) / step).min(2)
 }
 
 /// The least length that the units of an arc of this length can give.
-fn low_of(net: &Net, step: u64, length: u64) -> u64
+fn low_of(arc: &Arc, step: u64, length: u64) -> u64
     requires step { (1 ≤ step) × (step ≤ MAX_STEP) }
-    requires high { net.now.floor ≤ length }
-    ensures value { result ≡ low (network net.now) step length }
+    requires high { arc.now.floor ≤ length }
+    ensures value { result ≡ low step arc.now length }
 {
-    length - steps_down(net, step, length) * step
+    length - steps_down(arc, step, length) * step
 }
 
 /// The least length of each arc that the units can give.
@@ -50,12 +50,13 @@ pub(crate) fn lows_of(
     x: &[u64],
 ) -> Result<Vec<u64>, AllocError>
     requires step { (1 ≤ step) × (step ≤ MAX_STEP) }
-    requires high { (k : ℕ) → k < length x.now → net.now.floor ≤ slice_index x.now k }
-    ensures { IfOk result (λ lows. lows.items ≡ map (low (network net.now) step) x.now) }
+    requires same { length x.now ≡ length net.now.arcs.items }
+    requires high { AreHigh net.now.arcs.items x.now }
+    ensures { IfOk result (λ lows. lows.items ≡ arcwise (low step) net.now.arcs.items x.now) }
 {
     let mut lows = Vec::with_capacity(alloc, x.len())?;
-    for length in x {
-        lows.push(low_of(net, step, *length))?;
+    for (k, length) in x.iter().enumerate() {
+        lows.push(low_of(&net.arcs[k], step, *length))?;
     }
     Ok(lows)
 }
@@ -68,12 +69,13 @@ pub(crate) fn caps_of(
     x: &[u64],
 ) -> Result<Vec<u32>, AllocError>
     requires step { 1 ≤ step }
-    requires high { (k : ℕ) → k < length x.now → net.now.floor ≤ slice_index x.now k }
-    ensures { IfOk result (λ caps. caps.items ≡ map (cap (network net.now) step) x.now) }
+    requires same { length x.now ≡ length net.now.arcs.items }
+    requires high { AreHigh net.now.arcs.items x.now }
+    ensures { IfOk result (λ caps. caps.items ≡ arcwise (cap step) net.now.arcs.items x.now) }
 {
     let mut caps = Vec::with_capacity(alloc, x.len())?;
-    for length in x {
-        caps.push(steps_down(net, step, *length) as u32 + 2)?;
+    for (k, length) in x.iter().enumerate() {
+        caps.push(steps_down(&net.arcs[k], step, *length) as u32 + 2)?;
     }
     Ok(caps)
 }

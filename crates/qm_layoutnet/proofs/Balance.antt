@@ -90,8 +90,8 @@ node_low q north n h = omega arith
 node_low q west n h = omega arith
 
 module _
-    (l : Layout) (old wish : Lengths) (set : Settings) (net : Network) (laid : IsSurface l)
-    (is : IsNetOf l old wish set net)
+    (l : Layout) (old wish : Lengths) (set : Settings) (floor : Lengths) (net : Network) (laid : IsSurface l)
+    (is : IsNetOf l old wish set floor net)
     (x : ℕ → ℤ) where
   -- The slot with number j on a side of a patch.
   abbrev slot_at : (p : ℕ) (s : Way) (j : ℕ) → Slot
@@ -324,5 +324,5 @@ module _
           (side_is p east low ∙ (equal.upright p low ∙ sym (side_is p west low)))
 
 pub balance_law : BalanceLaw
-balance_law l old wish set net laid is x =
-    (opposite l old wish set net laid is x, balanced l old wish set net laid is x)
+balance_law l old wish set floor net laid is x =
+    (opposite l old wish set floor net laid is x, balanced l old wish set floor net laid is x)

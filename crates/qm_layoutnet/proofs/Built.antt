@@ -10,7 +10,7 @@ use Rattle.sum_laws.proofs.Counts.{count_below_prefix, count_below_le, count_bel
 use Rattle.sum_laws.proofs.Sums.{total_below_same}
 use Rattle.def_flow.specs.Admissible.{IsEven}
 use Rattle.def_flow.specs.Network.{Network, arc_at, ends, is_bounded, tangle_number, IsWithinBounds}
-use Rattle.def_flow.specs.declared.limits.TheConstants.{MAX_OLD, MAX_WEIGHT}
+use Rattle.def_flow.specs.declared.limits.TheConstants.{MAX_FLOOR, MAX_OLD, MAX_WEIGHT}
 use Rattle.def_flow.specs.declared.net.Arc.{Arc}
 use Rattle.def_flow.specs.declared.net.End.{End}
 use Rattle.def_flow.specs.declared.net.Settings.{Settings}
@@ -43,46 +43,47 @@ all_pass p (x ∷ xs) each = ap (λ (b : Bool). b && list_all p xs) (each 0 (ome
     ∙ all_pass p xs (λ k l. each (suc k) (omega arith))
 
 -- The arcs before any end is put in.
-open_at : (w : Weight) (runs : List TArc) (a : ℕ) → a < length runs → arc_at (map (open_arc w) runs) a
-    ≡ arc_of w (long_at (map path runs) a)
-open_at w [] a l = absurd (omega arith)
-open_at w (r ∷ rs) zero l = refl
-open_at w (r ∷ rs) (suc a) l = open_at w rs a (omega arith)
+open_at : (set : Settings) (runs : List TArc) (a : ℕ) → a < length runs → arc_at (map (open_arc set) runs) a
+    ≡ arc_of set (long_at (map path runs) a)
+open_at set [] a l = absurd (omega arith)
+open_at set (r ∷ rs) zero l = refl
+open_at set (r ∷ rs) (suc a) l = open_at set rs a (omega arith)
 
-open_long : (w : Weight) (runs : List TArc) → length (map (open_arc w) runs) ≡ length (map path runs)
-open_long w [] = refl
-open_long w (r ∷ rs) = omega (arith, open_long w rs)
+open_long : (set : Settings) (runs : List TArc) → length (map (open_arc set) runs) ≡ length (map path runs)
+open_long set [] = refl
+open_long set (r ∷ rs) = omega (arith, open_long set rs)
 
 path_long : (runs : List TArc) → length (map path runs) ≡ length runs
 path_long [] = refl
 path_long (r ∷ rs) = omega (arith, path_long rs)
 
-pub ends_begin : (l : Layout) (w : Weight) (runs : List TArc) → length (map path runs) ≡ l.arcs
-    → AreEnds l (long_at (map path runs)) w (PatchesBelow 0) (map (open_arc w) runs)
-ends_begin l w runs long = record {
-  long = open_long w runs ∙ long;
+pub ends_begin : (l : Layout) (set : Settings) (runs : List TArc) → length (map path runs) ≡ l.arcs
+    → AreEnds l (long_at (map path runs)) set (PatchesBelow 0) (map (open_arc set) runs)
+ends_begin l set runs long = record {
+  long = open_long set runs ∙ long;
   olds = λ a low. ap (λ (x : Arc). x.old) (at a low);
   weights = λ a low. ap (λ (x : Arc). x.weight) (at a low);
+  floors = λ a low. ap (λ (x : Arc). x.floor) (at a low);
   left = λ v slot none f. absurd (omega (arith, none));
   right = λ v slot none f. absurd (omega (arith, none));
   alone = λ a low only. ap (λ (x : Arc). x.right) (at a low);
 }
   where
-    at : (a : ℕ) → a < l.arcs → arc_at (map (open_arc w) runs) a ≡ arc_of w (long_at (map path runs) a)
-    at a low = open_at w runs a (omega (arith, low, long, path_long runs))
+    at : (a : ℕ) → a < l.arcs → arc_at (map (open_arc set) runs) a ≡ arc_of set (long_at (map path runs) a)
+    at a low = open_at set runs a (omega (arith, low, long, path_long runs))
 
 -- When all slots are done, these are the arcs of the network.
 pub net_is : (l : Layout) (old : Lengths) (set : Settings) (net : Network) → net.nodes ≡ 2 * l.patches
-    → net.floor ≡ set.floor → net.p ≡ set.p → net.q ≡ set.q
-    → AreEnds l old set.weight (PatchesBelow l.patches) net.arcs → IsNetOf l old old set net
-net_is l old set net nodes floor p q are = record {
+    → net.p ≡ set.p → net.q ≡ set.q
+    → AreEnds l old set (PatchesBelow l.patches) net.arcs → IsNetOf l old old set (λ a. set.floor) net
+net_is l old set net nodes p q are = record {
   nodes = nodes;
-  floor = floor;
   p = p;
   q = q;
   long = are.long;
   olds = are.olds;
   weights = are.weights;
+  floors = are.floors;
   left = λ w slot f. are.left w slot slot.patch_low f;
   right = λ w slot f. are.right w slot slot.patch_low f;
   alone = λ a low only. are.alone a low (λ w slot d e. only w slot e);
@@ -90,7 +91,8 @@ net_is l old set net nodes floor p q are = record {
 
 module _ (l : Layout) (x : Lengths) (set : Settings) (net : Network) (laid : IsSurface l) (len : AreLengths l x)
     (few : count_below x l.arcs ≤ 2 ^ 23)
-    (in_range : AreSettings set) (is : IsNetOf l x x set net) where
+    (in_range : AreSettings set) (floor : Lengths) (floors : (a : ℕ) → a < l.arcs → (1 ≤ floor a)
+    × (floor a ≤ MAX_FLOOR)) (is : IsNetOf l x x set floor net) where
   -- The arcs are few.
   arcs_few : l.arcs ≤ 2 ^ 23
   arcs_few = omega (arith, few, count_below_ones l.arcs, count_below_le (λ k. 1) x l.arcs (λ k low. len.some k low))
@@ -118,7 +120,7 @@ module _ (l : Layout) (x : Lengths) (set : Settings) (net : Network) (laid : IsS
       ap (count_below x) is.long,
       few,
     );
-    balanced = (balance_law l x x set net laid is (λ k. pos (arc_at net.arcs k).old)).1 (record {
+    balanced = (balance_law l x x set floor net laid is (λ k. pos (arc_at net.arcs k).old)).1 (record {
       across = λ p low. along_is p south low ∙ (ap pos (sym (len.across p low)) ∙ sym (along_is p north low));
       upright = λ p low. along_is p east low ∙ (ap pos (len.upright p low) ∙ sym (along_is p west low));
     });
@@ -137,9 +139,9 @@ module _ (l : Layout) (x : Lengths) (set : Settings) (net : Network) (laid : IsS
   rest right = list_all (λ (e : End). nat_lt e.node net.nodes) (option_to_list right)
 
   ends_low : (k : ℕ) → k < l.arcs → list_all (λ (e : End). nat_lt e.node net.nodes) (ends (arc_at net.arcs k)) ≡ true
-  ends_low k low = by_ends (has_ends l x x set net laid is (λ k. pos 0) k low)
+  ends_low k low = by_ends (has_ends l x x set floor net laid is (λ k. pos 0) k low)
     where
-      by_ends : HasEnds l x x set net laid is (λ k. pos 0) k
+      by_ends : HasEnds l x x set floor net laid is (λ k. pos 0) k
           → list_all (λ (e : End). nat_lt e.node net.nodes) (ends (arc_at net.arcs k)) ≡ true
       by_ends h = ap (λ (b : Bool). b && rest (arc_at net.arcs k).right) (low_at (arc_at net.arcs k).left h.ahead left
           h.ahead_is) ∙ by_right h.right
@@ -178,15 +180,19 @@ module _ (l : Layout) (x : Lengths) (set : Settings) (net : Network) (laid : IsS
       let o : a.old ≤ 2 ^ 23 = omega (arith, old_at k low, term_low x l.arcs k k_low, few) in
       let w1 : 1 ≤ a.weight = omega (arith, is.weights k k_low, weight_low set.weight (x k) (len.some k k_low)) in
       let w2 : a.weight ≤ MAX_WEIGHT = omega (arith, is.weights k k_low, weight_high set.weight (x k)) in
+      let f1 : 1 ≤ a.floor = omega (arith, is.floors k k_low, (floors k k_low).0) in
+      let f2 : a.floor ≤ MAX_FLOOR = omega (arith, is.floors k k_low, (floors k k_low).1) in
       let all = list_all (λ (e : End). nat_lt e.node net.nodes) (ends a) in
-      ap (λ (b : Bool). b && nat_le a.weight MAX_WEIGHT && nat_le a.old MAX_OLD && all) (le-leb 1 a.weight w1)
-      ∙ (ap (λ (b : Bool). b && nat_le a.old MAX_OLD && all) (le-leb a.weight MAX_WEIGHT w2)
-      ∙ (ap (λ (b : Bool). b && all) (le-leb a.old MAX_OLD (omega (arith, o))) ∙ ends_low k k_low))
+      ap (λ (b : Bool). b && nat_le a.weight MAX_WEIGHT && nat_le a.old MAX_OLD && nat_le 1 a.floor
+      && nat_le a.floor MAX_FLOOR && all) (le-leb 1 a.weight w1)
+      ∙ (ap (λ (b : Bool). b && nat_le a.old MAX_OLD && nat_le 1 a.floor && nat_le a.floor MAX_FLOOR && all) (le-leb
+      a.weight MAX_WEIGHT w2)
+      ∙ (ap (λ (b : Bool). b && nat_le 1 a.floor && nat_le a.floor MAX_FLOOR && all) (le-leb a.old MAX_OLD
+      (omega (arith, o))) ∙ (ap (λ (b : Bool). b && nat_le a.floor MAX_FLOOR && all) (le-leb 1 a.floor f1)
+      ∙ (ap (λ (b : Bool). b && all) (le-leb a.floor MAX_FLOOR f2) ∙ ends_low k k_low))))
 
   pub within : IsWithinBounds net
   within = record {
-    floor_low = omega (arith, is.floor, in_range.floor_low);
-    floor_high = omega (arith, is.floor, in_range.floor_high);
     p_low = omega (arith, is.p, in_range.p_low);
     p_high = omega (arith, is.p, in_range.p_high);
     q_low = omega (arith, is.q, in_range.q_low);

@@ -8,7 +8,7 @@ use Rattle.std.specs.List.{All}
 use Rattle.def_flow.specs.Network.{arc_at}
 use Rattle.def_flow.specs.declared.net.Arc.{Arc}
 use Rattle.def_flow.specs.declared.net.End.{End}
-use Rattle.def_flow.specs.declared.net.Weight.{Weight}
+use Rattle.def_flow.specs.declared.net.Settings.{Settings}
 use Rattle.def_layout.specs.declared.tmesh.SideArc.{SideArc}
 use Rattle.def_layout.specs.Layouts.{Way, south, east, north, west, Layout, Slot, IsSlot, use_of}
 use Rattle.def_layout.specs.Surfaces.{IsSurface}
@@ -39,6 +39,13 @@ side_weight end u a = by_way u.forward
     by_way true = refl
     by_way false = refl
 
+side_floor : (end : End) (u : SideArc) (a : Arc) → (with_side end u a).floor ≡ a.floor
+side_floor end u a = by_way u.forward
+  where
+    by_way : (b : Bool) → (cond b (record a { left = end }) (record a { right = Some end })).floor ≡ a.floor
+    by_way true = refl
+    by_way false = refl
+
 -- What a use changes of its arc: the left end where it goes along it, else the right end.
 side_left : (end : End) (u : SideArc) (a : Arc) → u.forward ≡ true → ((with_side end u a).left ≡ end)
     × ((with_side end u a).right ≡ a.right)
@@ -62,15 +69,16 @@ same_number north north e = refl
 same_number west west e = refl
 same_number _ _ e = absurd (omega arith)
 
-module _ (l : Layout) (old : Lengths) (weight : Weight) (laid : IsSurface l) where
+module _ (l : Layout) (old : Lengths) (set : Settings) (laid : IsSurface l) where
   -- The ends are those of the slots that are done, however that is said.
   pub same_ends : (done now : Slot → Type 0) (arcs : List Arc) → ((w : Slot) → IsSlot l w → now w → done w)
       → ((w : Slot) → IsSlot l w → done w → now w)
-      → AreEnds l old weight done arcs → AreEnds l old weight now arcs
+      → AreEnds l old set done arcs → AreEnds l old set now arcs
   same_ends done now arcs back on are = record {
     long = are.long;
     olds = are.olds;
     weights = are.weights;
+    floors = are.floors;
     left = λ w slot n f. are.left w slot (back w slot n) f;
     right = λ w slot n f. are.right w slot (back w slot n) f;
     alone = λ a low only. are.alone a low (λ w slot d e. only w slot (on w slot d) e);
@@ -79,11 +87,12 @@ module _ (l : Layout) (old : Lengths) (weight : Weight) (laid : IsSurface l) whe
   -- One slot more is done.
   pub end_more : (done now : Slot → Type 0) (arcs : List Arc) (v : Slot) → IsSlot l v
       → ((w : Slot) → IsSlot l w → now w → done w ⊎ (w ≡ v)) → ((w : Slot) → IsSlot l w → done w → now w) → now v
-      → AreEnds l old weight done arcs → AreEnds l old weight now (with_end (end_at v.patch v.side) (use_of l v) arcs)
+      → AreEnds l old set done arcs → AreEnds l old set now (with_end (end_at v.patch v.side) (use_of l v) arcs)
   end_more done now arcs v is_slot back on here are = record {
     long = length-set arcs u.arc new ∙ are.long;
     olds = olds;
     weights = weights;
+    floors = floors;
     left = left;
     right = right;
     alone = alone;
@@ -116,7 +125,13 @@ module _ (l : Layout) (old : Lengths) (weight : Weight) (laid : IsSurface l) whe
         | inr ne ↦ ap (λ (x : Arc). x.old) (at_other a ne) ∙ are.olds a low
       ]
 
-      weights : (a : ℕ) → a < l.arcs → (arc_at after a).weight ≡ weight_of weight (old a)
+      floors : (a : ℕ) → a < l.arcs → (arc_at after a).floor ≡ set.floor
+      floors a low = elim (cases_eq a u.arc) [
+        | inl e ↦ ap (λ (x : Arc). x.floor) (at_use a e) ∙ (side_floor end u (arc_at arcs a) ∙ are.floors a low)
+        | inr ne ↦ ap (λ (x : Arc). x.floor) (at_other a ne) ∙ are.floors a low
+      ]
+
+      weights : (a : ℕ) → a < l.arcs → (arc_at after a).weight ≡ weight_of set.weight (old a)
       weights a low = elim (cases_eq a u.arc) [
         | inl e ↦ ap (λ (x : Arc). x.weight) (at_use a e) ∙ (side_weight end u (arc_at arcs a) ∙ are.weights a low)
         | inr ne ↦ ap (λ (x : Arc). x.weight) (at_other a ne) ∙ are.weights a low
@@ -194,15 +209,15 @@ module _ (l : Layout) (old : Lengths) (weight : Weight) (laid : IsSurface l) whe
   -- Side s of patch p is done from its k-th use on.
   side_from : (p : ℕ) (s : Way) (us : List SideArc) (k : ℕ) (arcs : List Arc) → p < l.patches
       → ((j : ℕ) (d : SideArc) → j < length us → get_or us j d ≡ l.use_at p s (k + j)) → k + length us ≡ l.many p s
-      → AreEnds l old weight (SlotsBelow p (way_number s) k) arcs
-      → AreEnds l old weight (SlotsBelow p (way_number s) (l.many p s)) (with_ends (end_at p s) us arcs)
+      → AreEnds l old set (SlotsBelow p (way_number s) k) arcs
+      → AreEnds l old set (SlotsBelow p (way_number s) (l.many p s)) (with_ends (end_at p s) us arcs)
   side_from p s [] k arcs low same many are =
-      subst (λ (m : ℕ). AreEnds l old weight (SlotsBelow p (way_number s) m) arcs) (omega (arith, many)) are
+      subst (λ (m : ℕ). AreEnds l old set (SlotsBelow p (way_number s) m) arcs) (omega (arith, many)) are
   side_from p s (u ∷ us) k arcs low same many are =
       side_from p s us (k + 1) (with_end (end_at p s) u arcs) low
       (λ j d h. same (suc j) d (omega arith) ∙ ap (l.use_at p s) (let n : k + suc j ≡ k + 1 + j = omega arith in n))
       (omega (arith, many))
-      (subst (λ (x : SideArc). AreEnds l old weight (SlotsBelow p (way_number s) (k + 1))
+      (subst (λ (x : SideArc). AreEnds l old set (SlotsBelow p (way_number s) (k + 1))
       (with_end (end_at p s) x arcs)) (sym here)
       (end_more (SlotsBelow p (way_number s) k) (SlotsBelow p (way_number s) (k + 1)) arcs v
       (record { patch_low = low; low = omega (arith, many) }) back on (inr (refl, inr (refl, omega arith))) are))
@@ -233,14 +248,14 @@ module _ (l : Layout) (old : Lengths) (weight : Weight) (laid : IsSurface l) whe
 
   side_whole : (p : ℕ) (s : Way) (us : List SideArc) (arcs : List Arc) → p < l.patches
       → ((j : ℕ) (d : SideArc) → j < length us → get_or us j d ≡ l.use_at p s j) → length us ≡ l.many p s
-      → AreEnds l old weight (SlotsBelow p (way_number s) 0) arcs
-      → AreEnds l old weight (SlotsBelow p (way_number s) (l.many p s)) (with_ends (end_at p s) us arcs)
+      → AreEnds l old set (SlotsBelow p (way_number s) 0) arcs
+      → AreEnds l old set (SlotsBelow p (way_number s) (l.many p s)) (with_ends (end_at p s) us arcs)
   side_whole p s us arcs low same many are =
       side_from p s us 0 arcs low (λ j d h. same j d h ∙ ap (l.use_at p s) (omega arith)) (omega (arith, many)) are
 
   -- A side that is done whole, and the next one.
-  next_side : (p : ℕ) (s : Way) (arcs : List Arc) → AreEnds l old weight (SlotsBelow p (way_number s) (l.many p s)) arcs
-      → AreEnds l old weight (SlotsBelow p (way_number s + 1) 0) arcs
+  next_side : (p : ℕ) (s : Way) (arcs : List Arc) → AreEnds l old set (SlotsBelow p (way_number s) (l.many p s)) arcs
+      → AreEnds l old set (SlotsBelow p (way_number s + 1) 0) arcs
   next_side p s arcs are = same_ends (SlotsBelow p (way_number s) (l.many p s)) (SlotsBelow p (way_number s + 1) 0) arcs
       back on are
     where
@@ -264,7 +279,7 @@ module _ (l : Layout) (old : Lengths) (weight : Weight) (laid : IsSurface l) whe
   pub patch_more : (p : ℕ) (side : Way → List SideArc) (arcs : List Arc) → p < l.patches
       → ((s : Way) (j : ℕ) (d : SideArc) → j < length (side s) → get_or (side s) j d ≡ l.use_at p s j)
       → ((s : Way) → length (side s) ≡ l.many p s)
-      → AreEnds l old weight (PatchesBelow p) arcs → AreEnds l old weight (PatchesBelow (p + 1)) (with_four p side arcs)
+      → AreEnds l old set (PatchesBelow p) arcs → AreEnds l old set (PatchesBelow (p + 1)) (with_four p side arcs)
   patch_more p side arcs low same many are =
       same_ends (SlotsBelow p 3 (l.many p west)) (PatchesBelow (p + 1)) (with_four p side arcs) last_back last_on
       (side_whole p west (side west) norths low (same west) (many west) (next_side p north norths

@@ -4,5 +4,7 @@ mod EndTables
 pub mod Whole
 mod Tangles
 pub mod Built
+pub mod SameEnds
+pub mod Floors
 pub mod OneNet
 pub mod Opposite

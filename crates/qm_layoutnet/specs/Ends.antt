@@ -3,7 +3,7 @@ use Rattle.std.specs.Prelude.{◌≡◌, ◌⊎◌, ℕ, ◌<◌, true, false, c
 use Rattle.def_flow.specs.Network.{arc_at}
 use Rattle.def_flow.specs.declared.net.Arc.{Arc}
 use Rattle.def_flow.specs.declared.net.End.{End}
-use Rattle.def_flow.specs.declared.net.Weight.{Weight}
+use Rattle.def_flow.specs.declared.net.Settings.{Settings}
 use Rattle.def_layout.specs.declared.tmesh.SideArc.{SideArc}
 use Rattle.def_layout.specs.declared.tmesh.TArc.{TArc}
 use Rattle.def_layout.specs.Layouts.{Way, south, east, north, west, Layout, Slot, IsSlot, use_of}
@@ -32,11 +32,12 @@ with_four patch side arcs = with_ends (end_at patch west) (side west)
 
 -- The arcs of a layout have the ends of the slots that are done.
 pub record AreEnds
-    (layout : Layout) (old : Lengths) (weight : Weight) (done : Slot → Type 0) (arcs : List Arc)
+    (layout : Layout) (old : Lengths) (set : Settings) (done : Slot → Type 0) (arcs : List Arc)
     : Type 0 where
   pub long : length arcs ≡ layout.arcs
   pub olds : (a : ℕ) → a < layout.arcs → (arc_at arcs a).old ≡ old a
-  pub weights : (a : ℕ) → a < layout.arcs → (arc_at arcs a).weight ≡ weight_of weight (old a)
+  pub weights : (a : ℕ) → a < layout.arcs → (arc_at arcs a).weight ≡ weight_of set.weight (old a)
+  pub floors : (a : ℕ) → a < layout.arcs → (arc_at arcs a).floor ≡ set.floor
   pub left : (w : Slot) → IsSlot layout w → done w → (use_of layout w).forward ≡ true
       → (arc_at arcs (use_of layout w).arc).left ≡ end_at w.patch w.side
   pub right : (w : Slot) → IsSlot layout w → done w → (use_of layout w).forward ≡ false
@@ -55,10 +56,16 @@ SlotsBelow p n k slot =
     (slot.patch < p) ⊎ ((slot.patch ≡ p) × ((way_number slot.side < n) ⊎ ((way_number slot.side ≡ n) × (slot.at < k))))
 
 -- An arc of this length whose ends are not known.
-abbrev pub arc_of : (weight : Weight) (old : ℕ) → Arc
-arc_of weight old =
-    record { left = record { node = 0; plus = true }; right = None; old = old; weight = weight_of weight old }
+abbrev pub arc_of : (set : Settings) (old : ℕ) → Arc
+arc_of set old =
+    record {
+      left = record { node = 0; plus = true };
+      right = None;
+      old = old;
+      weight = weight_of set.weight old;
+      floor = set.floor;
+    }
 
 -- The arc of a run.
-abbrev pub open_arc : (weight : Weight) (run : TArc) → Arc
-open_arc weight run = arc_of weight (length run.darts.items)
+abbrev pub open_arc : (set : Settings) (run : TArc) → Arc
+open_arc set run = arc_of set (length run.darts.items)

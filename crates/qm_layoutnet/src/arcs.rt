@@ -1,12 +1,12 @@
 //! The arcs of a network before their ends are known.
 
-ghost use Rattle.std.specs.Prelude.{◌≡◌, ◌<◌, ◌^◌, ℕ, length, map, IfOk};
+ghost use Rattle.std.specs.Prelude.{◌≡◌, ◌<◌, ◌^◌, length, map, IfOk};
 ghost use Rattle.std.specs.List.{All};
 ghost use Rattle.def_layout.specs.declared.tmesh.TArc.{TArc as Run};
 ghost use Rattle.def_layoutnet.specs.LayoutNet.{weight_of};
 ghost use Rattle.qm_layoutnet.specs.Ends.{arc_of, open_arc};
 
-use def_flow::{Arc, End, MAX_WEIGHT, Weight};
+use def_flow::{Arc, End, MAX_WEIGHT, Settings, Weight};
 use def_layout::TArc;
 use std::alloc::{AllocError, Global};
 
@@ -14,21 +14,21 @@ use std::alloc::{AllocError, Global};
 pub(crate) fn open_arcs(
     alloc: Global,
     runs: &[TArc],
-    weight: Weight,
+    set: &Settings,
 ) -> Result<Vec<Arc>, AllocError>
     requires { All (λ (run : Run). length run.darts.items < 2 ^ 32) runs.now }
-    ensures { IfOk result (λ arcs. arcs.items ≡ map (open_arc weight) runs.now) }
+    ensures { IfOk result (λ arcs. arcs.items ≡ map (open_arc set.now) runs.now) }
 {
     let mut arcs = Vec::with_capacity(alloc, runs.len())?;
     for run in runs {
-        arcs.push(open_arc(run.darts.len() as u32, weight))?;
+        arcs.push(open_arc(run.darts.len() as u32, set))?;
     }
     Ok(arcs)
 }
 
 /// An arc of this length.
-fn open_arc(old: u32, weight: Weight) -> Arc
-    ensures { result ≡ arc_of weight old }
+fn open_arc(old: u32, set: &Settings) -> Arc
+    ensures { result ≡ arc_of set.now old }
 {
     let none = End {
         node: 0,
@@ -38,7 +38,8 @@ fn open_arc(old: u32, weight: Weight) -> Arc
         left: none,
         right: None,
         old,
-        weight: weight_of(weight, old),
+        weight: weight_of(set.weight, old),
+        floor: set.floor,
     }
 }
 

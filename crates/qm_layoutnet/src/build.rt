@@ -8,7 +8,7 @@ ghost use Rattle.def_layout.specs.Arcs.{long_at};
 ghost use Rattle.def_layout.specs.Plans.{layout_of, plan, side_at};
 ghost use Rattle.def_layout.specs.Surfaces.{IsSurface};
 ghost use Rattle.def_layout.specs.Layouts.{Way};
-ghost use Rattle.def_flow.specs.declared.net.Weight.{Weight};
+ghost use Rattle.def_flow.specs.declared.net.Settings.{Settings as Asked};
 ghost use Rattle.def_layout.specs.declared.tmesh.SideArc.{SideArc};
 ghost use Rattle.def_layoutnet.specs.LayoutNet.{AreSettings, HasNoNet, IsNetOf};
 ghost use Rattle.def_layoutnet.specs.MeshLayouts.{IsSomeLayout};
@@ -28,6 +28,7 @@ pub fn net_of(alloc: Global, t: &TMesh, set: &Settings) -> Result<Net, NetFail>
     requires settings { AreSettings set.now }
     ensures net { IfOk result (λ net.
         IsNetOf (layout_of (plan t.now)) (long_at (plan t.now).arcs) (long_at (plan t.now).arcs) set.now
+        (λ a. set.now.floor)
         (network net)) }
     ensures even { IfOk result (λ net. IsEven (network net)) }
     ensures bounds { IfOk result (λ net. IsWithinBounds (network net)) }
@@ -51,17 +52,16 @@ fn any_net_of(alloc: Global, t: &TMesh, set: &Settings) -> Result<Net, AllocErro
     requires settings { AreSettings set.now }
     ensures net { IfOk result (λ net.
         IsNetOf (layout_of (plan t.now)) (long_at (plan t.now).arcs) (long_at (plan t.now).arcs) set.now
-        (network net)) }
+        (λ a. set.now.floor) (network net)) }
     ensures even { IfOk result (λ net. IsEven (network net)) }
     ensures bounds { IfOk result (λ net. IsWithinBounds (network net)) }
     ensures small { IfOk result (λ net. tangle_number (network net) < 2 ^ 64) }
 {
-    let mut arcs = open_arcs(alloc, &t.arcs, set.weight)?;
+    let mut arcs = open_arcs(alloc, &t.arcs, set)?;
     put_all_ends(&mut arcs, t);
     Ok(Net {
         nodes: 2 * t.patches.len() as u32,
         arcs,
-        floor: set.floor,
         p: set.p,
         q: set.q,
     })
@@ -74,9 +74,9 @@ fn put_all_ends(arcs: &mut [Arc], t: &TMesh)
     requires few { length t.now.patches.items ≤ 2 ^ 23 }
     requires four { (p : ℕ) → p < length t.now.patches.items → length (slice_index_or (plan t.now).sides p []) ≡ 4 }
     requires long { length arcs.old ≡ length t.now.arcs.items }
-    ensures { (weight : Weight)
-        → AreEnds (layout_of (plan t.now)) (long_at (plan t.now).arcs) weight (PatchesBelow 0) arcs.old
-        → AreEnds (layout_of (plan t.now)) (long_at (plan t.now).arcs) weight
+    ensures { (set : Asked)
+        → AreEnds (layout_of (plan t.now)) (long_at (plan t.now).arcs) set (PatchesBelow 0) arcs.old
+        → AreEnds (layout_of (plan t.now)) (long_at (plan t.now).arcs) set
         (PatchesBelow (length t.now.patches.items)) arcs.new }
 {
     for p in 0..t.sides.len() {

@@ -35,7 +35,7 @@ use Rattle.qm_layoutnet.proofs.OneNet.{one_net_law}
 use Rattle.qm_layoutnet.proofs.Whole.{lengths_few}
 use Rattle.qm_metric.specs.Wishes.{wish_along, with_wish, HasWishes}
 use Rattle.qm_metric.proofs.Reading.{sum_is, whole_entry}
-use Rattle.qm_metric.proofs.Wished.{tangle_same, tangled_for, untangled_for, wished, within}
+use Rattle.qm_metric.proofs.Wished.{wishes_tangle, tangled_for, untangled_for, wished, within}
 
 -- The arcs of a layout are few.
 pub few_arcs : (t : TMesh) → IsSomeLayout (plan t) → length t.arcs.items ≤ 2 ^ 23
@@ -83,7 +83,7 @@ module _ (t : TMesh) (f : List ℕ → ℕ) (settings : Settings) (lies : IsSome
   laid = laid_of (plan t) lies
 
   module _ (net : Network) (is : IsNetOf (layout_of (plan t)) (long_at (plan t).arcs) (long_at (plan t).arcs) settings
-      net) (small : tangle_number net ≤ MAX_TANGLE) where
+      (λ a. settings.floor) net) (small : tangle_number net ≤ MAX_TANGLE) where
     -- It is not too tangled, and the wishes are too great.
     too_far : (sum : ℕ) → sum ≡ count (λ (run : TArc). f run.darts.items) t.arcs.items → MAX_TARGETS < sum
         → IsFar (along f) (plan t) settings sum
@@ -104,7 +104,7 @@ module _ (t : TMesh) (f : List ℕ → ℕ) (settings : Settings) (lies : IsSome
       floor = low;
       is = wished (layout_of (plan t)) (long_at (plan t).arcs) (along f (plan t)) settings net new laid is exact;
       bounds = within net (along f (plan t)) new exact bounds (λ k l. omega (arith, part k l, few));
-      untangled = omega (arith, tangle_same net (along f (plan t)) new exact, small);
+      untangled = omega (arith, wishes_tangle net (along f (plan t)) new exact, small);
     }
       where
         inner : (k : ℕ) → k < length net.arcs → k < length (plan t).arcs
@@ -121,7 +121,6 @@ module _ (t : TMesh) (f : List ℕ → ℕ) (settings : Settings) (lies : IsSome
         exact : HasWishes net (along f (plan t)) new
         exact = record {
           nodes = has.nodes;
-          floor = has.floor;
           p = has.p;
           q = has.q;
           long = has.long;
@@ -170,7 +169,7 @@ module _ (aim : Aim) (soup : FaceSet) (wishes : List ℕ) (t : TMesh) (p : Plan)
   no_net nets.Memory is = tt
 
   module _ (net : Network) (is : IsNetOf (layout_of (plan t)) (long_at (plan t).arcs) (long_at (plan t).arcs) settings
-      net) (small : tangle_number net ≤ MAX_TANGLE) where
+      (λ a. settings.floor) net) (small : tangle_number net ≤ MAX_TANGLE) where
     pub far : (sum : ℕ) → sum ≡ count (λ (run : TArc). f run.darts.items) t.arcs.items → MAX_TARGETS < sum
         → IsFitFail aim (aimed aim soup wishes) p settings (size_fail_of (Far sum))
     far sum told high = (
@@ -195,10 +194,13 @@ module _ (aim : Aim) (soup : FaceSet) (wishes : List ℕ) (t : TMesh) (p : Plan)
     pub even_is : (new : Network) (a b : ℕ) → aim ≡ Scale a b → IsNetFor (aimed aim soup wishes) p settings new
         → IsEven net → IsEven new
     even_is new a b scale for even =
-        let old : IsNetOf (layout_of p) (long_at p.arcs) (long_at p.arcs) settings new =
-        subst (λ (aim : Aim). IsNetOf (layout_of p) (long_at p.arcs) (aimed aim soup wishes p) settings new) scale
+        let old : IsNetOf (layout_of p) (long_at p.arcs) (long_at p.arcs) settings (λ a. settings.floor) new =
+        subst (λ (aim : Aim). IsNetOf (layout_of p) (long_at p.arcs) (aimed aim soup wishes p) settings
+        (λ a. settings.floor) new) scale
         for.is in
-        let here : IsNetOf (layout_of p) (long_at p.arcs) (long_at p.arcs) settings net =
-        subst (λ (q : Plan). IsNetOf (layout_of q) (long_at q.arcs) (long_at q.arcs) settings net) same is in
-        subst IsEven (one_net_law (layout_of p) (long_at p.arcs) (long_at p.arcs) settings (laid_of p lies) net new here
+        let here : IsNetOf (layout_of p) (long_at p.arcs) (long_at p.arcs) settings (λ a. settings.floor) net =
+        subst (λ (q : Plan). IsNetOf (layout_of q) (long_at q.arcs) (long_at q.arcs) settings
+        (λ a. settings.floor) net) same is in
+        subst IsEven (one_net_law (layout_of p) (long_at p.arcs) (long_at p.arcs) settings (λ a. settings.floor)
+        (laid_of p lies) net new here
         old) even

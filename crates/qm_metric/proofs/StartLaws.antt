@@ -31,6 +31,7 @@ use Rattle.sum_laws.proofs.Sums.{total_below_same}
 use Rattle.table_laws.proofs.Ranges.{part_low}
 use Rattle.plan_laws.proofs.MeshLayouts.{laid_of, lengths_of}
 use Rattle.qm_layoutnet.proofs.Balance.{balance_law}
+use Rattle.qm_layoutnet.proofs.Floors.{floor_high}
 use Rattle.qm_layoutnet.proofs.Whole.{lengths_few}
 
 -- No weight is above 1000.
@@ -71,22 +72,23 @@ module _
       ∙ ap pos (count_below_times settings.floor (λ k. x (l.use_at p s k).arc) (l.many p s))
 
   balanced : IsBalanced net.arcs (entries xs)
-  balanced = (balance_law l (long_at plan.arcs) (wish plan) settings net laid is.is (entries xs)).1 (record {
-    across = λ p low. along p south low ∙ (ap (λ n. pos (settings.floor * n)) (sym (len.across p low))
-        ∙ sym (along p north low));
-    upright = λ p low. along p east low ∙ (ap (λ n. pos (settings.floor * n)) (len.upright p low)
-        ∙ sym (along p west low));
-  })
+  balanced = (balance_law l (long_at plan.arcs) (wish plan) settings (λ a. settings.floor) net laid is.is
+      (entries xs)).1 (record {
+        across = λ p low. along p south low ∙ (ap (λ n. pos (settings.floor * n)) (sym (len.across p low))
+            ∙ sym (along p north low));
+        upright = λ p low. along p east low ∙ (ap (λ n. pos (settings.floor * n)) (len.upright p low)
+            ∙ sym (along p west low));
+      })
 
   arc_low : (k : ℕ) → k < length net.arcs → k < length plan.arcs
   arc_low k low = omega (arith, low, is.is.long)
 
-  -- No length is below the floor.
-  tall : (k : ℕ) → k < length net.arcs → pos net.floor ≤ℤ entries xs k
+  -- No length is below the floor of its arc.
+  tall : (k : ℕ) → k < length net.arcs → pos (arc_at net.arcs k).floor ≤ℤ entries xs k
   tall k low =
       let some : settings.floor * 1 ≤ settings.floor * x k =
       mul-le-mul_left settings.floor (len.some k (arc_low k low)) in
-      rw (entry k (arc_low k low)) (omega (arith, ints, some, mul-one settings.floor, is.is.floor))
+      rw (entry k (arc_low k low)) (omega (arith, ints, some, mul-one settings.floor, is.is.floors k (arc_low k low)))
 
   -- How far an arc is from its wish.
   far : (k : ℕ) → k < length net.arcs → arc_deviation net (arc_at net.arcs k) (entries xs k)
@@ -99,7 +101,7 @@ module _
       (λ i. is.is.weights k inner i * unsigned_abs (pos ((is.is.q ∙ parts) i) *ℤ entry k inner i -ℤ pos
       ((is.is.p ∙ unit) i * is.is.olds k inner i))) in
       let high : settings.floor * x k ≤ 3 * x k =
-      mul-le-mul_right (x k) (omega (arith, is.is.floor, is.bounds.floor_high)) in
+      mul-le-mul_right (x k) (omega (arith, is.is.floors k inner, floor_high net is.bounds k low)) in
       let few : unsigned_abs (pos 1000 *ℤ pos (settings.floor * x k) -ℤ pos (1 * wish plan k))
       ≤ 3000 * x k + wish plan k = omega (arith, ints, high) in
       let both = mul-le (weight_of settings.weight (x k))

@@ -1,13 +1,12 @@
 -- The network of a layout with other wishes is within bounds, and as tangled as it was.
-use Rattle.std.proofs.Common.{◌≡◌, ℕ, zero, suc, ◌*◌, ◌<◌, ◌≤◌, ◌==◌, Bool, true, ◌&&◌, cond, List, [], ◌∷◌, length}
+use Rattle.std.proofs.Common.{◌≡◌, ℕ, zero, suc, ◌<◌, ◌≤◌, Bool, true, ◌&&◌, List, [], ◌∷◌, length}
 use Rattle.std.proofs.Common.{nat_le}
 use Rattle.std.proofs.Common.{refl, sym, ap, ◌∙◌, arith}
 use Rattle.std.specs.Prelude.{nat_lt}
 use Rattle.std.specs.List.{list_all}
 use Rattle.std.proofs.lemmas.Bool.{and_parts, le-leb}
-use Rattle.def_math.specs.Counts.{count, count_below}
-use Rattle.def_flow.specs.Network.{Network, arc_at, degree, ends, is_bounded, tangle_number, IsWithinBounds}
-use Rattle.def_flow.specs.declared.limits.TheConstants.{MAX_OLD, MAX_TANGLE, MAX_WEIGHT}
+use Rattle.def_flow.specs.Network.{Network, arc_at, ends, is_bounded, tangle_number, IsWithinBounds}
+use Rattle.def_flow.specs.declared.limits.TheConstants.{MAX_FLOOR, MAX_OLD, MAX_TANGLE, MAX_WEIGHT}
 use Rattle.def_flow.specs.declared.net.Arc.{Arc}
 use Rattle.def_flow.specs.declared.net.End.{End}
 use Rattle.def_flow.specs.declared.net.Settings.{Settings}
@@ -15,36 +14,20 @@ use Rattle.def_layout.specs.Surfaces.{IsSurface}
 use Rattle.def_layout.specs.Layouts.{Layout, use_of}
 use Rattle.def_layout.specs.Lengths.{Lengths}
 use Rattle.def_layoutnet.specs.LayoutNet.{IsNetOf, IsTangled}
-use Rattle.sum_laws.proofs.Counts.{count_below_same}
-use Rattle.qm_layoutnet.proofs.Built.{all_pass, count_at}
+use Rattle.qm_layoutnet.proofs.Built.{all_pass}
 use Rattle.qm_layoutnet.proofs.OneNet.{one_net_law}
+use Rattle.qm_layoutnet.proofs.SameEnds.{tangle_same}
 use Rattle.qm_net.proofs.Within.{arc_bounded}
 use Rattle.qm_metric.specs.Wishes.{with_wish, HasWishes}
 
 module _ (net : Network) (wish : Lengths) (new : Network) (has : HasWishes net wish new) where
-  -- The ends stay, and so do the degrees.
-  degree_same : (v : ℕ) → degree new.arcs v ≡ degree net.arcs v
-  degree_same v =
-      count_at at_v new.arcs ∙ ap (count_below (λ k. at_v (arc_at new.arcs k))) has.long
-      ∙ count_below_same (λ k. at_v (arc_at new.arcs k)) (λ k. at_v (arc_at net.arcs k)) (length net.arcs)
-      (λ k l. ap at_v (has.arcs k l))
-      ∙ sym (count_at at_v net.arcs)
-    where
-      at_v : Arc → ℕ
-      at_v a = count (λ (e : End). cond (e.node == v) 1 0) (ends a)
-
-  pub tangle_same : tangle_number new ≡ tangle_number net
-  tangle_same =
-      ap (count_below (λ v. 16 * (degree new.arcs v * degree new.arcs v))) has.nodes
-      ∙ count_below_same (λ v. 16 * (degree new.arcs v * degree new.arcs v))
-      (λ v. 16 * (degree net.arcs v * degree net.arcs v)) net.nodes
-      (λ v l. ap (λ (d : ℕ). 16 * (d * d)) (degree_same v))
+  -- The ends stay, and so does the tangle number.
+  pub wishes_tangle : tangle_number new ≡ tangle_number net
+  wishes_tangle = tangle_same net new has.nodes has.long (λ k l. ap ends (has.arcs k l))
 
   -- Wishes within the bound leave the network within bounds.
   pub within : IsWithinBounds net → ((k : ℕ) → k < length net.arcs → wish k ≤ MAX_OLD) → IsWithinBounds new
   within b low = record {
-    floor_low = omega (arith, has.floor, b.floor_low);
-    floor_high = omega (arith, has.floor, b.floor_high);
     p_low = omega (arith, has.p, b.p_low);
     p_high = omega (arith, has.p, b.p_high);
     q_low = omega (arith, has.q, b.q_low);
@@ -64,25 +47,32 @@ module _ (net : Network) (wish : Lengths) (new : Network) (has : HasWishes net w
           kept =
               let a : Arc = arc_at net.arcs k in
               let all : Bool = list_all (λ (e : End). nat_lt e.node net.nodes) (ends a) in
-              let parts = and_parts (nat_le 1 a.weight && nat_le a.weight MAX_WEIGHT && nat_le a.old MAX_OLD) all
+              let heavy : Bool = nat_le 1 a.weight && nat_le a.weight MAX_WEIGHT in
+              let parts = and_parts (heavy && nat_le a.old MAX_OLD && nat_le 1 a.floor && nat_le a.floor MAX_FLOOR) all
               (arc_bounded net b k l) in
-              let weights = and_parts (nat_le 1 a.weight && nat_le a.weight MAX_WEIGHT) (nat_le a.old MAX_OLD)
+              let high = and_parts (heavy && nat_le a.old MAX_OLD && nat_le 1 a.floor) (nat_le a.floor MAX_FLOOR)
               parts.0 in
-              ap (λ (t : Bool). t && nat_le (wish k) MAX_OLD && all) weights.0
-              ∙ (ap (λ (t : Bool). t && all) (le-leb (wish k) MAX_OLD (low k l)) ∙ parts.1)
+              let floors = and_parts (heavy && nat_le a.old MAX_OLD) (nat_le 1 a.floor) high.0 in
+              let weights = and_parts heavy (nat_le a.old MAX_OLD) floors.0 in
+              ap (λ (t : Bool). t && nat_le (wish k) MAX_OLD && nat_le 1 a.floor && nat_le a.floor MAX_FLOOR && all)
+              weights.0
+              ∙ (ap (λ (t : Bool). t && nat_le 1 a.floor && nat_le a.floor MAX_FLOOR && all)
+              (le-leb (wish k) MAX_OLD (low k l))
+              ∙ (ap (λ (t : Bool). t && nat_le a.floor MAX_FLOOR && all) floors.1
+              ∙ (ap (λ (t : Bool). t && all) high.1 ∙ parts.1)))
 
 -- It is the network of the layout for these wishes.
 pub wished : (l : Layout) (old wish : Lengths) (settings : Settings) (net new : Network) → IsSurface l
-    → IsNetOf l old old settings net → HasWishes net wish new
-    → IsNetOf l old wish settings new
+    → IsNetOf l old old settings (λ a. settings.floor) net → HasWishes net wish new
+    → IsNetOf l old wish settings (λ a. settings.floor) new
 wished l old wish settings net new laid is has = record {
   nodes = has.nodes ∙ is.nodes;
-  floor = has.floor ∙ is.floor;
   p = has.p ∙ is.p;
   q = has.q ∙ is.q;
   long = has.long ∙ is.long;
   olds = λ a low. ap (λ (x : Arc). x.old) (at a low);
   weights = λ a low. ap (λ (x : Arc). x.weight) (at a low) ∙ is.weights a low;
+  floors = λ a low. ap (λ (x : Arc). x.floor) (at a low) ∙ is.floors a low;
   left = λ w slot f. ap (λ (x : Arc). x.left) (at (use_of l w).arc (laid.paved.arc_low w slot)) ∙ is.left w slot f;
   right = λ w slot f. ap (λ (x : Arc). x.right) (at (use_of l w).arc (laid.paved.arc_low w slot)) ∙ is.right w slot f;
   alone = λ a low only. ap (λ (x : Arc). x.right) (at a low) ∙ is.alone a low only;
@@ -112,7 +102,6 @@ rewished_net wish net = record net { arcs = rewished wish net.arcs }
 has_wishes : (wish : Lengths) (net : Network) → HasWishes net wish (rewished_net wish net)
 has_wishes wish net = record {
   nodes = refl;
-  floor = refl;
   p = refl;
   q = refl;
   long = rewished_long wish net.arcs;
@@ -125,22 +114,23 @@ pub tangled_for : (l : Layout) (old wish : Lengths) (settings : Settings) (count
 tangled_for l old wish settings count laid is = record {
   net = rewished_net wish is.net;
   is = wished l old wish settings is.net (rewished_net wish is.net) laid is.is (has_wishes wish is.net);
-  told = is.told ∙ sym (tangle_same is.net wish (rewished_net wish is.net) (has_wishes wish is.net));
+  told = is.told ∙ sym (wishes_tangle is.net wish (rewished_net wish is.net) (has_wishes wish is.net));
   high = is.high;
 }
 
 -- And it is not where it is not.
 pub untangled_for : (l : Layout) (old wish : Lengths) (settings : Settings) (net : Network) → IsSurface l
-    → IsNetOf l old old settings net → tangle_number net ≤ MAX_TANGLE
+    → IsNetOf l old old settings (λ a. settings.floor) net → tangle_number net ≤ MAX_TANGLE
     → (count : ℕ) → IsTangled l old wish settings count → ⊥
 untangled_for l old wish settings net laid is low count tangled =
     let same : tangle_number tangled.net ≡ tangle_number (rewished_net wish net) =
-    ap tangle_number (one_net_law l old wish settings laid tangled.net (rewished_net wish net) tangled.is
+    ap tangle_number (one_net_law l old wish settings (λ a. settings.floor) laid tangled.net (rewished_net wish net)
+    tangled.is
     (wished l old wish settings net (rewished_net wish net) laid is (has_wishes wish net))) in
     omega (
       arith,
       same,
-      tangle_same net wish (rewished_net wish net) (has_wishes wish net),
+      wishes_tangle net wish (rewished_net wish net) (has_wishes wish net),
       tangled.told,
       tangled.high,
       low,

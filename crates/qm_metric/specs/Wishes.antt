@@ -29,7 +29,6 @@ pub record AreWished (n : ℕ) (wish : Lengths) (arcs new : List Arc) : Type 0 w
 -- All arcs have these wishes, and nothing else is different.
 pub record HasWishes (net : Network) (wish : Lengths) (new : Network) : Type 0 where
   pub nodes : new.nodes ≡ net.nodes
-  pub floor : new.floor ≡ net.floor
   pub p : new.p ≡ net.p
   pub q : new.q ≡ net.q
   pub long : length new.arcs ≡ length net.arcs

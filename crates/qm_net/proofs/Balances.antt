@@ -1,6 +1,6 @@
 -- Balances of the nodes of a block, one arc at a time.
 use Rattle.std.proofs.Common.{◌≡◌, ℕ, ◌+◌, ◌-◌, ◌*◌, ◌^◌, ◌<◌, ◌≤◌, ◌==◌, Bool, true, false, not, ◌&&◌, cond, nat_le}
-use Rattle.std.proofs.Common.{List, [], ◌∷◌, length, get_or, replicate, Option, Some, None, ℤ, pos, ◌+ℤ◌, ◌-ℤ◌, ◌≤ℤ◌}
+use Rattle.std.proofs.Common.{List, [], ◌∷◌, length, get_or, replicate, Option, Some, None, ℤ, pos, ◌+ℤ◌, ◌-ℤ◌}
 use Rattle.std.proofs.Common.{refl, sym, ◌∙◌, ap, inl, inr, ◌⊎◌, add-one, arith}
 use Rattle.std.specs.Prelude.{slice_index, slice_index_or, slice_set, unsigned_abs, nat_lt, option_to_list}
 use Rattle.std.specs.List.{list_all}
@@ -242,11 +242,3 @@ zeros_by_balanced arcs xs first bs are balanced = list_all-from_AllPass (λ z. i
         balanced (first + j) (omega arith) (omega arith) in
         let zero_there : get_or bs j d ≡ pos 0 = omega (arith, ints, same, even, are.each j inner) in
         (Decides-int_eq (get_or bs j d) (pos 0)).1 zero_there
-
-pub test_by_high : (net : Network) (xs : List ℕ) → length xs ≡ length net.arcs
-    → ((k : ℕ) → k < length net.arcs → pos net.floor ≤ℤ entries xs k) → list_all (λ l. nat_le net.floor l) xs ≡ true
-test_by_high net xs count high = list_all-from_AllPass (λ l. nat_le net.floor l) xs (λ j d l.
-    let same : get_or xs j d ≡ get_or xs j 0 = get_or_default xs j d 0 l in
-    let there : pos net.floor ≤ℤ entries xs j = high j (omega arith) in
-    let low : net.floor ≤ get_or xs j d = omega (arith, ints) in
-    grind (arith, nat_tests))

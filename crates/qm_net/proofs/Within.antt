@@ -17,5 +17,5 @@ arc_bounded net within k l = AllPass-from_list_all (is_bounded net.nodes) net.ar
 pub ends_bounded : (nodes : ℕ) (a : Arc) → is_bounded nodes a ≡ true
     → list_all (λ (e : End). nat_lt e.node nodes) (ends a) ≡ true
 ends_bounded nodes a on =
-    (and_parts (nat_le 1 a.weight && nat_le a.weight 1000 && nat_le a.old 4000000000)
-    (list_all (λ (e : End). nat_lt e.node nodes) (ends a)) on).1
+    (and_parts (nat_le 1 a.weight && nat_le a.weight 1000 && nat_le a.old 4000000000 && nat_le 1 a.floor
+    && nat_le a.floor 3) (list_all (λ (e : End). nat_lt e.node nodes) (ends a)) on).1

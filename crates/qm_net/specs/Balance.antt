@@ -1,7 +1,7 @@
 -- Balances of the nodes of a block: what counts on the plus side less what counts on the minus side.
 use Rattle.std.specs.Prelude.{◌≡◌, ℕ, ◌+◌, ◌-◌, ◌*◌, ◌^◌, ◌<◌, ◌≤◌, Bool, true, false, ◌&&◌, nat_le, nat_lt}
 use Rattle.std.specs.Prelude.{if◌then◌else◌, List, length, Option, Some, None, ℤ, pos, ◌+ℤ◌, ◌-ℤ◌, neg_ℤ, cond}
-use Rattle.std.specs.Prelude.{unsigned_abs, slice_index_or, slice_set}
+use Rattle.std.specs.Prelude.{unsigned_abs, slice_index, slice_index_or, slice_set}
 use Rattle.def_math.specs.Sums.{total, total_below}
 use Rattle.def_flow.specs.Network.{arc_at, ends}
 use Rattle.def_flow.specs.Admissible.{entries, is_on_side, side_sum}
@@ -44,3 +44,7 @@ pub record AreBalances (arcs : List Arc) (xs : List ℕ) (first k : ℕ) (bs : L
 abbrev pub IsBlockBalanced : List Arc → List ℕ → ℕ → ℕ → Type 0
 IsBlockBalanced arcs xs first end =
     (v : ℕ) → first ≤ v → v < end → side_sum arcs (entries xs) true v ≡ side_sum arcs (entries xs) false v
+
+-- Each length is at least the floor of its arc.
+abbrev pub AreHigh : (arcs : List Arc) (xs : List ℕ) → Type 0
+AreHigh arcs xs = (k : ℕ) → k < length arcs → (arc_at arcs k).floor ≤ slice_index xs k

@@ -1,12 +1,12 @@
 //! Whether a list is admissible.
 
 ghost use Rattle.std.specs.Prelude.{◌≡◌, ◌+◌, ◌*◌, ◌^◌, ◌<◌, ◌≤◌, ◌↔◌, IsTrue, ℕ, pos, length, slice_index_or};
-ghost use Rattle.std.specs.Prelude.{unsigned_abs, nat_le, replicate};
+ghost use Rattle.std.specs.Prelude.{unsigned_abs, replicate};
 ghost use Rattle.std.specs.Ordering.{int_eq};
 ghost use Rattle.std.specs.List.{list_all};
 ghost use Rattle.def_flow.specs.Network.{network, IsWithinBounds};
 ghost use Rattle.def_flow.specs.Admissible.{entries, IsAdmissible, IsBalanced};
-ghost use Rattle.qm_net.specs.Balance.{signed, weighed, weighed_arc, AreBalances, IsBlockBalanced};
+ghost use Rattle.qm_net.specs.Balance.{signed, weighed, weighed_arc, AreBalances, AreHigh, IsBlockBalanced};
 ghost use Rattle.def_flow.specs.Admissible.{AreNetLengths};
 
 use def_flow::{Arc, End, MAX_LENGTH, Net};
@@ -14,7 +14,7 @@ use def_flow::{Arc, End, MAX_LENGTH, Net};
 /// How many nodes are looked at in one pass over the arcs.
 const BLOCK: usize = 2048;
 
-/// Whether each length is at least the floor, and both sides of each node have equal sums.
+/// Whether each length is at least the floor of its arc, and both sides of each node have equal sums.
 ///
 /// It takes no memory, so it goes over the arcs once for each block of 2048 nodes.
 pub fn admissible(net: &Net, x: &[u64]) -> bool
@@ -22,14 +22,20 @@ pub fn admissible(net: &Net, x: &[u64]) -> bool
     requires lengths { AreNetLengths net.now.arcs.items x.now }
     ensures { IsTrue result ↔ IsAdmissible (network net.now) (entries x.now) }
 {
-    are_high(net.floor, x) && are_balanced(net, x)
+    are_high(&net.arcs, x) && are_balanced(net, x)
 }
 
-/// Whether each length is at least the floor.
-fn are_high(floor: u32, x: &[u64]) -> bool
-    ensures { result ≡ list_all (λ l. nat_le floor l) x.now }
+/// Whether each length is at least the floor of its arc.
+fn are_high(arcs: &[Arc], x: &[u64]) -> bool
+    requires same { length x.now ≡ length arcs.now }
+    ensures { IsTrue result ↔ AreHigh arcs.now x.now }
 {
-    x.iter().all(|length| u64::from(floor) <= *length)
+    for (k, entry) in x.iter().enumerate() {
+        if *entry < u64::from(arcs[k].floor) {
+            return false;
+        }
+    }
+    true
 }
 
 /// Whether both sides of each node have equal sums.

@@ -11,10 +11,10 @@ use def_flow::{Arc, MAX_FLOOR, MAX_LENGTH, MAX_OLD, MAX_SCALE, MAX_WEIGHT, Net};
 pub fn is_within_bounds(net: &Net) -> bool
     ensures { IsTrue result ↔ IsWithinBounds (network net.now) }
 {
-    let numbers = is_from_one(net.floor, MAX_FLOOR)
-        && is_from_one(net.p, MAX_SCALE)
-        && is_from_one(net.q, MAX_SCALE);
-    numbers && net.arcs.len() < 4_294_967_296 && are_bounded(net.nodes, &net.arcs)
+    is_from_one(net.p, MAX_SCALE)
+        && is_from_one(net.q, MAX_SCALE)
+        && net.arcs.len() < 4_294_967_296
+        && are_bounded(net.nodes, &net.arcs)
 }
 
 /// Whether a number is from 1 to the most.
@@ -35,7 +35,10 @@ fn are_bounded(nodes: u32, arcs: &[Arc]) -> bool
 fn is_bounded_arc(nodes: u32, arc: &Arc) -> bool
     ensures { result ≡ is_bounded nodes arc.now }
 {
-    let bounded = arc.weight >= 1 && arc.weight <= MAX_WEIGHT && arc.old <= MAX_OLD;
+    let bounded = arc.weight >= 1
+        && arc.weight <= MAX_WEIGHT
+        && arc.old <= MAX_OLD
+        && is_from_one(arc.floor, MAX_FLOOR);
     match &arc.right {
         None => bounded && arc.left.node < nodes,
         Some(right) => bounded && (arc.left.node < nodes && right.node < nodes),

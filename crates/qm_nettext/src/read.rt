@@ -1,5 +1,5 @@
-//! The text of a network: a line `net nodes N arcs A floor F scale P/Q`, and for each arc a line
-//! `arc OLD WEIGHT NODE SIGN NODE SIGN`, with `rim` in place of the second end at the boundary.
+//! The text of a network: a line `net nodes N arcs A floor F scale P/Q`, where each arc has the floor `F`, and for each
+//! arc a line `arc OLD WEIGHT NODE SIGN NODE SIGN`, with `rim` in place of the second end at the boundary.
 
 use crate::fail::NetFail;
 use def_flow::{Arc, End, Net};
@@ -22,7 +22,7 @@ pub fn read_net(alloc: Global, text: &str) -> Result<Net, NetFail> {
     let head = read_head(&mut words).ok_or(NetFail::NoNetwork)?;
     let mut arcs = Vec::new(alloc);
     for _ in 0..head.arcs {
-        let arc = read_arc(&mut words).ok_or(NetFail::NoNetwork)?;
+        let arc = read_arc(&mut words, head.floor).ok_or(NetFail::NoNetwork)?;
         arcs.push(arc).map_err(AllocError::from)?;
     }
     if words.next().is_some() {
@@ -31,7 +31,6 @@ pub fn read_net(alloc: Global, text: &str) -> Result<Net, NetFail> {
     Ok(Net {
         nodes: head.nodes,
         arcs,
-        floor: head.floor,
         p: head.p,
         q: head.q,
     })
@@ -54,8 +53,8 @@ fn read_head(words: &mut SplitWhitespace) -> Option<Head> {
     })
 }
 
-/// The line of an arc.
-fn read_arc(words: &mut SplitWhitespace) -> Option<Arc> {
+/// The line of an arc with this floor.
+fn read_arc(words: &mut SplitWhitespace, floor: u32) -> Option<Arc> {
     let old = read_field(words, "arc")?;
     let weight = read_number(words)?;
     let left = read_end(read_number(words)?, words)?;
@@ -70,6 +69,7 @@ fn read_arc(words: &mut SplitWhitespace) -> Option<Arc> {
         right,
         old,
         weight,
+        floor,
     })
 }
 

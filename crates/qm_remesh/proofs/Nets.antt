@@ -13,7 +13,8 @@ use Rattle.def_remesh.specs.Tasks.{old_lengths}
 
 pub net_for : (plan : Plan) (settings : Settings) (auto : Bool) (net : Network) → IsSomeLayout plan
     → AreInRange settings auto
-    → IsNetOf (layout_of plan) (long_at plan.arcs) (long_at plan.arcs) settings net → IsWithinBounds net
+    → IsNetOf (layout_of plan) (long_at plan.arcs) (long_at plan.arcs) settings (λ a. settings.floor) net
+    → IsWithinBounds net
     → tangle_number net ≤ MAX_TANGLE → IsNetFor old_lengths plan settings net
 net_for plan settings auto net mesh range is bounds small =
     record { mesh = mesh; floor = range.floor.low; is = is; bounds = bounds; untangled = small }

@@ -40,8 +40,11 @@ lengths_near net start xs bounds from count nearer = record { count = count; sma
         let a : Arc = arc_at net.arcs k in
         let inner : k < length net.arcs = omega (arith, count) in
         let far : ℕ = unsigned_abs (pos net.q *ℤ pos (slice_index xs k) -ℤ pos (net.p * a.old)) in
-        let numbers = and_parts (nat_le 1 a.weight && nat_le a.weight 1000 && nat_le a.old 4000000000) _
-        (arc_bounded net bounds k inner) in
+        let bounded = and_parts (nat_le 1 a.weight && nat_le a.weight 1000 && nat_le a.old 4000000000
+        && nat_le 1 a.floor && nat_le a.floor 3) _ (arc_bounded net bounds k inner) in
+        let floors = and_parts (nat_le 1 a.weight && nat_le a.weight 1000 && nat_le a.old 4000000000
+        && nat_le 1 a.floor) _ bounded.0 in
+        let numbers = and_parts (nat_le 1 a.weight && nat_le a.weight 1000 && nat_le a.old 4000000000) _ floors.0 in
         let weights = and_parts (nat_le 1 a.weight && nat_le a.weight 1000) _ numbers.0 in
         let heavy : 1 ≤ a.weight = leb-true 1 a.weight (and_parts (nat_le 1 a.weight) _ weights.0).0 in
         let part : a.weight * far ≤ deviation net (entries xs) =
@@ -69,7 +72,7 @@ test_is net d a = (λ on. there on, λ le. back le)
         grind (arith, ints) in ap not off
 
 abbrev no_arc : Arc
-no_arc = record { left = record { node = 0; plus = true }; right = None; old = 0; weight = 0 }
+no_arc = record { left = record { node = 0; plus = true }; right = None; old = 0; weight = 0; floor = 0 }
 
 pub near_is : (net : Network) (xs : List ℕ) → IsWithinBounds net → AreNetLengths net.arcs xs
     → IsAdmissible net (entries xs) → (list_all (is_near_arc net (pos (deviation net (entries xs)))) net.arcs ≡ true) ↔

@@ -1,5 +1,5 @@
 -- What the costs of two matchings tell of the list.
-use Rattle.std.proofs.Common.{◌≡◌, ℕ, ◌≤◌, List, length, map, ℤ, pos, ◌-ℤ◌, ◌*ℤ◌, ◌≤ℤ◌, ◌<ℤ◌, refl, sym, ◌∙◌, ap, subst}
+use Rattle.std.proofs.Common.{◌≡◌, ℕ, ◌≤◌, List, length, ℤ, pos, ◌-ℤ◌, ◌*ℤ◌, ◌≤ℤ◌, ◌<ℤ◌, refl, sym, ◌∙◌, ap, subst}
 use Rattle.std.proofs.Common.{arith}
 use Rattle.std.proofs.lemmas.Int.{ints}
 use Rattle.def_matching.specs.Matching.{WeightedGraph, IsGraph, IsPerfect, matching_cost}
@@ -9,7 +9,7 @@ use Rattle.def_flow.specs.Network.{Network, IsWithinBounds}
 use Rattle.def_flow.specs.Admissible.{IsAdmissible, deviation, entries}
 use Rattle.def_flow.specs.Accepted.{Certificate, IsAccepted}
 use Rattle.def_flow.specs.MatchingGraph.{matching_graph}
-use Rattle.def_flow.specs.Units.{down, on_cost}
+use Rattle.def_flow.specs.Units.{arcwise, down, on_cost}
 use Rattle.def_flow.specs.Descent.{IsSolution, IsStartOf}
 use Rattle.def_flow.specs.Gadget.{IsInBox, lows, caps}
 use Rattle.qm_dual.proofs.Verdicts.{yes_says, yes_bounds}
@@ -20,10 +20,12 @@ use Rattle.qm_solve.specs.Rounds.{IsBetter}
 use Rattle.qm_solve.proofs.Near.{start_lengths}
 
 -- A list is in its own box.
-pub own_inside : (net : Network) (step s : ℕ) (xs ls cs : List ℕ) → s ≡ step → ls ≡ lows net step xs
+pub own_inside : (net : Network) (step s : ℕ) (xs ls cs : List ℕ) → length xs ≡ length net.arcs → s ≡ step
+    → ls ≡ lows net step xs
     → cs ≡ caps net step xs → IsInBox s ls cs xs
-own_inside net step s xs ls cs steps low cap =
-    rw (steps, low, cap) (raised_in_box net step xs (map (down net step) xs) xs (own_box net step xs))
+own_inside net step s xs ls cs count steps low cap =
+    rw (steps, low, cap) (raised_in_box step net.arcs xs (arcwise (down step) net.arcs xs) xs count
+    (own_box step net.arcs xs count))
 
 -- Where the found matching costs less than that of the list, its list is better.
 pub better : (net : Network) (xs ys : List ℕ) (low : ℕ) (found known : ℤ) → length ys ≡ length net.arcs
@@ -44,7 +46,7 @@ sums_meet net step xs g d m known count is lawful perfect of_list says no_less =
     yes_bounds g d (verdict g d) lawful refl (pos 2 *ℤ matching_cost g m) says known perfect in
     let on : on_cost net step xs ≡ pos (deviation net (entries xs)) -ℤ pos
     (deviation net (entries (lows net step xs))) =
-    box_deviation net step xs (map (down net step) xs) xs count (own_box net step xs) in
+    box_deviation net step xs (arcwise (down step) net.arcs xs) xs count (own_box step net.arcs xs count) in
     let same : pos 2 *ℤ matching_cost g m ≡ pos 2 *ℤ on_cost net step xs =
     omega (arith, ints, no_more, no_less, of_list, on) in
     ap (λ h. verdict h d) (sym is) ∙ (says ∙ ap Yes same)

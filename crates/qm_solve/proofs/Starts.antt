@@ -3,6 +3,7 @@ use Rattle.std.proofs.Common.{◌≡◌, ℕ, zero, suc, ◌+◌, ◌*◌, ◌/�
 use Rattle.std.proofs.Common.{nat_le, max, List, [], ◌∷◌, length, ℤ, pos, ◌-ℤ◌, ◌*ℤ◌, ◌≤ℤ◌, refl, sym, ◌∙◌, ap, add-mul}
 use Rattle.std.proofs.Common.{mul_assoc, mul-one, inl, inr, ◌⊎◌, leb-true, arith}
 use Rattle.std.specs.Prelude.{slice_index, unsigned_abs}
+use Rattle.std.specs.List.{list_all}
 use Rattle.std.proofs.Math.Nat.{mul-le-mul_left, mul-le-mul_right, mul-le-mul}
 use Rattle.std.proofs.lemmas.Int.{ints}
 use Rattle.std.proofs.lemmas.List.{length-map}
@@ -12,9 +13,9 @@ use Rattle.def_math.specs.Sums.{total, total_below}
 use Rattle.sum_laws.proofs.Counts.{count_below_prefix, count_below_le, count_below_times}
 use Rattle.sum_laws.proofs.Sums.{times_sum, total_below_same, total_same}
 use Rattle.table_laws.proofs.Ranges.{part_low}
-use Rattle.def_flow.specs.Network.{Network, IsWithinBounds, arc_at, ends}
+use Rattle.def_flow.specs.Network.{Network, IsWithinBounds, is_bounded, arc_at, ends}
 use Rattle.def_flow.specs.Admissible.{IsBalanced, IsEven, arc_deviation, deviation, entries, is_on_side, side_sum}
-use Rattle.def_flow.specs.Descent.{IsStartOf}
+use Rattle.def_flow.specs.Descent.{IsStartOf, greatest_floor}
 use Rattle.def_flow.specs.declared.net.Arc.{Arc}
 use Rattle.def_flow.specs.declared.net.End.{End}
 use Rattle.qm_net.proofs.Within.{arc_bounded}
@@ -83,8 +84,11 @@ far_sum net c bounds below above =
         ≤ 1000 * (3 * net.q) * (arc_at net.arcs k).old
     each k l =
         let a : Arc = arc_at net.arcs k in
-        let numbers = and_parts (nat_le 1 a.weight && nat_le a.weight 1000 && nat_le a.old 4000000000) _
-        (arc_bounded net bounds k l) in
+        let bounded = and_parts (nat_le 1 a.weight && nat_le a.weight 1000 && nat_le a.old 4000000000
+        && nat_le 1 a.floor && nat_le a.floor 3) _ (arc_bounded net bounds k l) in
+        let floors = and_parts (nat_le 1 a.weight && nat_le a.weight 1000 && nat_le a.old 4000000000
+        && nat_le 1 a.floor) _ bounded.0 in
+        let numbers = and_parts (nat_le 1 a.weight && nat_le a.weight 1000 && nat_le a.old 4000000000) _ floors.0 in
         let weights = and_parts (nat_le 1 a.weight && nat_le a.weight 1000) _ numbers.0 in
         let light : a.weight ≤ 1000 = leb-true a.weight 1000 (and_parts (nat_le 1 a.weight) _ weights.0).1 in
         let near : unsigned_abs (pos net.q *ℤ pos (c * a.old) -ℤ pos (net.p * a.old)) ≤ 3 * net.q * a.old =
@@ -93,8 +97,9 @@ far_sum net c bounds below above =
         ≤ 1000 * (3 * net.q * a.old) = mul-le-mul light near in
         rw (multiple_at c net.arcs k l) (omega (arith, all, mul_assoc 1000 (3 * net.q) a.old))
 
--- A multiple by a number near the scale, and no less than the floor.
-multiple_starts : (net : Network) (c : ℕ) → IsWithinBounds net → IsEven net → net.floor ≤ c → c ≤ 1000
+-- A multiple by a number near the scale, and no less than any floor.
+multiple_starts : (net : Network) (c : ℕ) → IsWithinBounds net → IsEven net
+    → ((k : ℕ) → k < length net.arcs → (arc_at net.arcs k).floor ≤ c) → c ≤ 1000
     → net.p ≤ net.q * c + net.q → net.q * c ≤ net.p + 3 * net.q → IsStartOf net (times_old c net.arcs)
 multiple_starts net c bounds even high low below above = record {
   count = length-map net.arcs (λ a. c * a.old);
@@ -105,10 +110,10 @@ multiple_starts net c bounds even high low below above = record {
     all : ℕ
     all = count (λ a. a.old) net.arcs
 
-    tall : (k : ℕ) → k < length net.arcs → pos net.floor ≤ℤ entries (times_old c net.arcs) k
+    tall : (k : ℕ) → k < length net.arcs → pos (arc_at net.arcs k).floor ≤ℤ entries (times_old c net.arcs) k
     tall k l =
         let some : c * 1 ≤ c * (arc_at net.arcs k).old = mul-le-mul_left c (even.high k l) in
-        rw (multiple_at c net.arcs k l) (omega (arith, ints, some, mul-one c))
+        rw (multiple_at c net.arcs k l) (omega (arith, ints, some, mul-one c, high k l))
 
     balanced : IsBalanced net.arcs (entries (times_old c net.arcs))
     balanced v = side_times net.arcs c true v
@@ -126,19 +131,42 @@ multiple_starts net c bounds even high low below above = record {
         mul-le-mul_left (1000 * (3 * net.q)) even.small in
         omega (arith, wanted, far, far_sum net c bounds below above)
 
--- The greater of the floor and the whole part of the scale is such a number.
-pub even_start : (net : Network) (c : ℕ) → IsWithinBounds net → IsEven net → c ≡ max net.floor (net.p / net.q)
+-- The greatest floor is as high as each, and no higher than the bound.
+greatest_high : (arcs : List Arc) (k : ℕ) → k < length arcs → (arc_at arcs k).floor ≤ greatest_floor arcs
+greatest_high [] k l = absurd (omega arith)
+greatest_high (a ∷ arcs) zero l = omega arith
+greatest_high (a ∷ arcs) (suc k) l = omega (arith, greatest_high arcs k (omega arith))
+
+pub greatest_low : (nodes : ℕ) (arcs : List Arc) → list_all (is_bounded nodes) arcs ≡ true → greatest_floor arcs ≤ 3
+greatest_low nodes [] on = omega arith
+greatest_low nodes (a ∷ arcs) on =
+    let both = and_parts (is_bounded nodes a) (list_all (is_bounded nodes) arcs) on in
+    let numbers = and_parts (nat_le 1 a.weight && nat_le a.weight 1000 && nat_le a.old 4000000000 && nat_le 1 a.floor
+    && nat_le a.floor 3) _ both.0 in
+    let floor : a.floor ≤ 3 = leb-true a.floor 3 (and_parts (nat_le 1 a.weight && nat_le a.weight 1000
+    && nat_le a.old 4000000000 && nat_le 1 a.floor) _ numbers.0).1 in
+    omega (arith, floor, greatest_low nodes arcs both.1)
+
+-- The greater of the greatest floor and the whole part of the scale is such a number.
+pub even_start : (net : Network) (c : ℕ) → IsWithinBounds net → IsEven net
+    → c ≡ max (greatest_floor net.arcs) (net.p / net.q)
     → IsStartOf net (times_old c net.arcs)
 even_start net c bounds even is =
-    multiple_starts net c bounds even (omega (arith, is)) (omega (
+    multiple_starts net c bounds even (λ k l. omega (arith, is, greatest_high net.arcs k l)) (omega (
       arith,
       is,
       whole,
       bounds.p_high,
-      bounds.floor_high,
+      low,
       some,
-    )) (omega (arith, whole, part, up)) (by_case (cases_lt net.floor (net.p / net.q)))
+    )) (omega (arith, whole, part, up)) (by_case (cases_lt floor (net.p / net.q)))
   where
+    floor : ℕ
+    floor = greatest_floor net.arcs
+
+    low : floor ≤ 3
+    low = greatest_low net.nodes net.arcs bounds.arcs
+
     whole : net.q * (net.p / net.q) + net.p % net.q ≡ net.p
     whole = omega arith
 
@@ -151,9 +179,9 @@ even_start net c bounds even is =
     up : net.q * (net.p / net.q) ≤ net.q * c
     up = mul-le-mul_left net.q (omega (arith, is))
 
-    by_case : (net.floor < net.p / net.q) ⊎ (net.p / net.q ≤ net.floor) → net.q * c ≤ net.p + 3 * net.q
+    by_case : (floor < net.p / net.q) ⊎ (net.p / net.q ≤ floor) → net.q * c ≤ net.p + 3 * net.q
     by_case (inl l) = let same : c ≡ net.p / net.q = omega (arith, is) in omega (arith, ap (λ n. net.q * n) same, whole)
     by_case (inr h) =
-        let same : c ≡ net.floor = omega (arith, is) in
-        let few : net.q * net.floor ≤ net.q * 3 = mul-le-mul_left net.q bounds.floor_high in
+        let same : c ≡ floor = omega (arith, is) in
+        let few : net.q * floor ≤ net.q * 3 = mul-le-mul_left net.q low in
         omega (arith, ap (λ n. net.q * n) same, few)

@@ -6,6 +6,7 @@ ghost use Rattle.def_flow.specs.Network.{network, tangle_number, IsWithinBounds}
 ghost use Rattle.def_flow.specs.Accepted.{certificate};
 ghost use Rattle.def_flow.specs.Admissible.{IsEven};
 ghost use Rattle.def_flow.specs.Descent.{IsSolution, IsStartOf, times_old, old_multiple};
+ghost use Rattle.def_flow.specs.Descent.{greatest_floor as greatest_floor_of};
 ghost use Rattle.qm_solve.specs.Rounds.{is_near_arc};
 
 use crate::Memory;
@@ -67,13 +68,28 @@ fn near_or(alloc: Global, net: &Net, start: Vec<u64>) -> Result<Start, Memory>
     })
 }
 
-/// The old lengths, so many times that each is at least the floor and near what is wanted. The list is admissible where
+/// The old lengths, so many times that each is at least its floor and near what is wanted. The list is admissible where
 /// the old lengths are. Linear.
 pub(crate) fn old_multiple(alloc: Global, net: &Net) -> Result<Vec<u64>, Memory>
     requires { IsWithinBounds (network net.now) }
     ensures { IfOk result (λ lengths. lengths.items ≡ old_multiple (network net.now)) }
 {
-    multiple(alloc, &net.arcs, u64::from(net.floor.max(net.p / net.q)))
+    multiple(
+        alloc,
+        &net.arcs,
+        u64::from(greatest_floor(&net.arcs).max(net.p / net.q)),
+    )
+}
+
+/// The greatest floor of the arcs. Linear.
+fn greatest_floor(arcs: &[Arc]) -> u32
+    ensures { result ≡ greatest_floor_of arcs.now }
+{
+    let mut most = 0;
+    for arc in arcs {
+        most = most.max(arc.floor);
+    }
+    most
 }
 
 /// The old lengths, so many times. Linear.

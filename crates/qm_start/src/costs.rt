@@ -65,6 +65,8 @@ pub(crate) struct Turn {
 /// to the next.
 #[derive(Debug, Drop)]
 pub(crate) struct Slope {
+    /// The least length, the greatest floor of the arcs.
+    pub(crate) floor: u64,
     before: i64,
     turns: Vec<Turn>,
 }
@@ -82,10 +84,10 @@ impl Slope {
     }
 
     /// The length of least cost that is at least the floor, and the longest of these.
-    pub(crate) fn least(&self, floor: u64) -> u64
-        ensures { floor ≤ result }
+    pub(crate) fn least(&self) -> u64
+        ensures { self.now.floor ≤ result }
     {
-        floor.max(self.first_from(1).unwrap_or(floor))
+        self.floor.max(self.first_from(1).unwrap_or(self.floor))
     }
 
     /// The first length at which one more costs at least so much, if there is one. Logarithmic in the turns.
@@ -111,7 +113,9 @@ pub(crate) fn slope_of(alloc: Global, net: &Net, chain: &[u32]) -> Result<Slope,
 {
     let mut bends = Vec::with_capacity(alloc, chain.len().saturating_mul(2))?;
     let mut before = 0i64;
+    let mut floor = 1u64;
     for end in chain {
+        floor = floor.max(u64::from(net.arcs[*end as usize / 2].floor));
         let cost = cost_of(net, *end / 2);
         let most = i64::from(cost.weight) * i64::from(cost.q);
         // One more costs least up to what is wanted, most beyond it, and something between on the step across.
@@ -123,7 +127,11 @@ pub(crate) fn slope_of(alloc: Global, net: &Net, chain: &[u32]) -> Result<Slope,
     }
     bends.sort_unstable();
     let turns = turns_of(alloc, before, &bends)?;
-    Ok(Slope { before, turns })
+    Ok(Slope {
+        floor,
+        before,
+        turns,
+    })
 }
 
 /// The turns where what one more costs grows so much at each bend, given in order of their lengths.

@@ -51,9 +51,8 @@ pub(crate) struct Cover {
     pub(crate) firsts: Vec<u32>,
     /// For each way its place among the exits.
     pub(crate) places: Vec<Place>,
-    /// What the chains cost, and the least length.
+    /// What the chains cost, and their least lengths.
     pub(crate) slopes: Vec<Slope>,
-    pub(crate) floor: u64,
 }
 
 impl Cover {
@@ -172,7 +171,6 @@ pub(crate) fn cover_of(alloc: Global, net: &Net, chains: &[Chain]) -> Result<Cov
         firsts,
         places,
         slopes: slopes_of(alloc, net, chains)?,
-        floor: u64::from(net.floor),
     })
 }
 

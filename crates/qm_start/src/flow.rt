@@ -40,7 +40,7 @@ pub(crate) fn first_flow(alloc: Global, cover: &Cover) -> Result<Flow, Memory>
 {
     let mut lengths = vec![in alloc; 0u64; cover.ways.len()]?;
     for (chain, slope) in cover.slopes.iter().enumerate() {
-        lengths[2 * chain] = slope.least(cover.floor).min(MAX_LENGTH).saturating_mul(2);
+        lengths[2 * chain] = slope.least().min(MAX_LENGTH).saturating_mul(2);
     }
     let mut flow = Flow {
         mirrored: true,
@@ -178,7 +178,7 @@ fn charge(cover: &Cover, flow: &mut Flow, way: u32)
     } else {
         BARRED
     };
-    flow.costs[less as usize] = if length > cover.floor.saturating_mul(fold) {
+    flow.costs[less as usize] = if length > slope.floor.saturating_mul(fold) {
         flow.rise(slope, length - 1).saturating_mul(-2)
     } else {
         BARRED
@@ -198,7 +198,7 @@ pub(crate) fn is_even(cover: &Cover, flow: &Flow, step: Step, times: u64) -> boo
             && times <= fold * MAX_LENGTH - length
             && flow.rise(slope, length) == flow.rise(slope, length + times - 1)
     } else {
-        let least = cover.floor.saturating_mul(fold);
+        let least = slope.floor.saturating_mul(fold);
         length > least
             && times <= length - least
             && flow.rise(slope, length - 1) == flow.rise(slope, length - times)

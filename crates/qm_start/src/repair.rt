@@ -147,7 +147,7 @@ fn is_last(cover: &Cover, flow: &Flow, step: Step) -> bool
     requires flow { IsOver cover.now flow.now }
     requires way { step.way < way_count cover.now }
 {
-    !step.more && flow.lengths[step.way as usize] <= cover.floor.saturating_add(1)
+    !step.more && flow.lengths[step.way as usize] <= cover.slope(step.way).floor.saturating_add(1)
 }
 
 /// Whether the path to a node has gone the same step along the other way of its chain. Each step back along the path

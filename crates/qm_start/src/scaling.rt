@@ -75,6 +75,7 @@ fn first_at(cover: &Cover, flow: &Flow, chain: usize, rise: i64) -> u64
     requires chain { 2 * chain < way_count cover.now }
     ensures { result ≤ MAX_LENGTH }
 {
-    let first = cover.slopes[chain].first_from(rise.saturating_mul(unit(flow.scale)));
-    first.unwrap_or(MAX_LENGTH).max(cover.floor).min(MAX_LENGTH)
+    let slope = &cover.slopes[chain];
+    let first = slope.first_from(rise.saturating_mul(unit(flow.scale)));
+    first.unwrap_or(MAX_LENGTH).max(slope.floor).min(MAX_LENGTH)
 }

@@ -20,11 +20,12 @@ use Rattle.def_remesh.specs.Tasks.{old_lengths}
 
 -- A network and what is kept, of the same layout, where the settings are those of a benchmark.
 pub bench_net : (plan other : Plan) (settings : Settings) (net : Network) → other ≡ plan → settings ≡ bench_settings
-    → IsNetOf (layout_of other) (long_at other.arcs) (long_at other.arcs) settings net
-    → IsNetOf (layout_of plan) (long_at plan.arcs) (long_at plan.arcs) bench_settings net
+    → IsNetOf (layout_of other) (long_at other.arcs) (long_at other.arcs) settings (λ a. settings.floor) net
+    → IsNetOf (layout_of plan) (long_at plan.arcs) (long_at plan.arcs) bench_settings (λ a. 1) net
 bench_net plan other settings net equal same is =
-    subst (λ (s : Settings). IsNetOf (layout_of plan) (long_at plan.arcs) (long_at plan.arcs) s net) same
-    (subst (λ (p : Plan). IsNetOf (layout_of p) (long_at p.arcs) (long_at p.arcs) settings net) equal is)
+    subst (λ (s : Settings). IsNetOf (layout_of plan) (long_at plan.arcs) (long_at plan.arcs) s (λ a. s.floor) net) same
+    (subst (λ (p : Plan). IsNetOf (layout_of p) (long_at p.arcs) (long_at p.arcs) settings (λ a. settings.floor) net)
+    equal is)
 
 pub bench_kept : (plan : Plan) (settings : Settings) (certificates : Certificates) (tables : Tables)
     → settings ≡ bench_settings
@@ -35,7 +36,7 @@ bench_kept plan settings certificates tables same kept =
 
 module _
     (plan : Plan) (tables : Tables) (net : Network)
-    (is : IsNetOf (layout_of plan) (long_at plan.arcs) (long_at plan.arcs) bench_settings net) where
+    (is : IsNetOf (layout_of plan) (long_at plan.arcs) (long_at plan.arcs) bench_settings (λ a. 1) net) where
   -- The kept lengths are lengths of the layout's network.
   pub kept_lengths : (certificates : Certificates) → IsKept old_lengths plan bench_settings false certificates tables
       → AreNetLengths net.arcs (used certificates).x
@@ -52,7 +53,8 @@ module _
   deviation_kept (raised first cert) told mesh kept says = absurd (false≢true kept.kept.0)
   deviation_kept (alone cert) told mesh kept says =
       let one : net ≡ kept.kept.lengths.net =
-      one_net_law (layout_of plan) (long_at plan.arcs) (long_at plan.arcs) bench_settings (laid_of plan mesh) net
+      one_net_law (layout_of plan) (long_at plan.arcs) (long_at plan.arcs) bench_settings (λ a. 1) (laid_of plan mesh)
+      net
       kept.kept.lengths.net is kept.kept.lengths.of_layout in
       record {
         cert = cert;

@@ -47,7 +47,8 @@ use Rattle.read_laws.proofs.Soups.{mesh_text_law}
 -- Kept certificates have the network of their layout.
 net_of : (plan : Plan) (settings : Settings) (auto : Bool) (certificates : Certificates)
     → AreKeptBy (HasLeastLengths old_lengths plan) plan settings auto certificates
-    → (net : Network) × IsNetOf (layout_of plan) (old_lengths plan) (old_lengths plan) settings net
+    → (net : Network) × IsNetOf (layout_of plan) (old_lengths plan) (old_lengths plan) settings (λ a. settings.floor)
+    net
 net_of plan settings auto (alone cert) kept = (kept.net, kept.of_layout)
 net_of plan settings auto (raised first cert) kept = (kept.1.net, kept.1.of_layout)
 
@@ -57,7 +58,7 @@ told_pair bytes other pair = by_net (net_of pair.remeshed.plan pair.settings pai
     pair.remeshed.lengths)
   where
     by_net : (net : Network) × IsNetOf (layout_of pair.remeshed.plan) (old_lengths pair.remeshed.plan)
-        (old_lengths pair.remeshed.plan) pair.settings net
+        (old_lengths pair.remeshed.plan) pair.settings (λ a. pair.settings.floor) net
         → (line : Bytes) × WritesAccepted bytes line
     by_net of = (
       accepted_line _ _ _,

@@ -19,4 +19,4 @@ certified_lengths plan settings cert floor is = (opposite_law (layout_of plan) (
     some : (a : ℕ) → a < length plan.arcs → 0 < slice_index cert.x a
     some a low =
         let high = is.least.admissible.high a (omega (arith, low, is.of_layout.long)) in
-        omega (arith, ints, high, floor, is.of_layout.floor)
+        omega (arith, ints, high, floor, is.of_layout.floors a low)

@@ -7,15 +7,15 @@ use Rattle.std.proofs.lemmas.Int.{ints}
 use Rattle.std.specs.Prelude.{IsErrOf, Result, Err}
 use Rattle.def_certtext.specs.CertLines.{alone, lists_of, raised, used, Certificates}
 use Rattle.def_flow.specs.Accepted.{certificate}
-use Rattle.def_flow.specs.Admissible.{IsEven}
 use Rattle.def_flow.specs.Descent.{IsSolution}
-use Rattle.def_flow.specs.Network.{Network}
+use Rattle.def_flow.specs.Network.{arc_at, Network}
 use Rattle.def_flow.specs.declared.cert.Cert.{Cert}
 use Rattle.def_flow.specs.declared.limits.TheConstants.{MAX_FLOOR, MAX_LENGTH}
 use Rattle.def_flow.specs.declared.net.Settings.{Settings}
 use Rattle.def_layout.specs.FaceLayouts.{IsCutLayout}
 use Rattle.def_layout.specs.Lengths.{AreLengths as AreArcLengths}
 use Rattle.def_layout.specs.Plans.{Plan, layout_of, vertex_at}
+use Rattle.def_layoutnet.specs.LayoutNet.{IsNetOf}
 use Rattle.def_mesh.specs.Faces.{Faces}
 use Rattle.def_remesh.specs.Placings.{IsMeshLayout}
 use Rattle.def_text.specs.FaceSet.{FaceSet}
@@ -28,13 +28,15 @@ use Rattle.def_remesh.specs.Refusals.{AreTooFine}
 use Rattle.def_remesh.specs.Certified.{AreKept, IsCertified}
 use Rattle.def_remesh.specs.Remeshed.{AreKeptBy, HasLeastLengths, AreCoarse, AreDoubled, finished_text, with_floor}
 use Rattle.def_remesh.specs.Stitched.{AreLong, AreSafe, IsUnstitched, KeepsShapes}
-use Rattle.def_remesh.specs.Tasks.{Task, Wish}
+use Rattle.def_remesh.specs.Tasks.{old_lengths, Task, Wish}
 use Rattle.def_remesh.specs.declared.fail.StitchFail.{StitchFail}
 use Rattle.def_remesh.specs.declared.fail.StitchFail.TheVariants as fails
 use Rattle.def_remesh.specs.declared.tables.Tables.{Tables}
 use Rattle.def_remesh.specs.Keeping.{IsNetFor}
 use Rattle.remesh_laws.specs.Keeps.{IsNumbered, ShowsTask}
 use Rattle.plan_laws.proofs.MeshLayouts.{laid_of}
+use Rattle.qm_layoutnet.proofs.Floors.{floored, floors_tangle, floors_within}
+use Rattle.qm_layoutnet.specs.Floors.{HasFloors}
 use Rattle.remesh_laws.proofs.Certified.{certified_lengths}
 use Rattle.remesh_laws.proofs.ReadAgain.{task_read}
 use Rattle.remesh_laws.proofs.Solved.{certified}
@@ -56,39 +58,30 @@ are_lengths plan settings net cert xs for is same =
 
 -- The network with floor 3.
 pub raised_net : {wish : Wish} (plan : Plan) (settings : Settings) (net other : Network)
-    → IsNetFor wish plan settings net → other ≡ record net { floor = 3 }
+    → IsNetFor wish plan settings net → HasFloors net (λ a. 3) other
     → IsNetFor wish plan (with_floor settings 3) other
-raised_net plan settings net other for same = subst (IsNetFor _ plan (with_floor settings 3)) (sym same) (record {
+raised_net {wish} plan settings net other for has = record {
   mesh = for.mesh;
   floor = omega arith;
   is = record {
-    nodes = for.is.nodes;
-    floor = refl;
-    p = for.is.p;
-    q = for.is.q;
-    long = for.is.long;
-    olds = for.is.olds;
-    weights = for.is.weights;
-    left = for.is.left;
-    right = for.is.right;
-    alone = for.is.alone;
+    nodes = there.nodes;
+    p = there.p;
+    q = there.q;
+    long = there.long;
+    olds = there.olds;
+    weights = there.weights;
+    floors = there.floors;
+    left = there.left;
+    right = there.right;
+    alone = there.alone;
   };
-  bounds = record {
-    floor_low = omega arith;
-    floor_high = omega arith;
-    p_low = for.bounds.p_low;
-    p_high = for.bounds.p_high;
-    q_low = for.bounds.q_low;
-    q_high = for.bounds.q_high;
-    arcs = for.bounds.arcs;
-    few = for.bounds.few;
-  };
-  untangled = for.untangled;
-})
-
-pub raised_even : (net other : Network) → IsEven net → other ≡ record net { floor = 3 } → IsEven other
-raised_even net other even same =
-    subst IsEven (sym same) (record { high = even.high; small = even.small; balanced = even.balanced })
+  bounds = floors_within net (λ a. 3) other has for.bounds (λ k l. (omega arith, omega arith));
+  untangled = omega (arith, for.untangled, floors_tangle net (λ a. 3) other has);
+}
+  where
+    there : IsNetOf (layout_of plan) (old_lengths plan) (wish plan) settings (λ a. 3) other
+    there = floored (layout_of plan) (old_lengths plan) (wish plan) settings (λ a. settings.floor) (λ a. 3) net other
+        (laid_of plan for.mesh) for.is has
 
 coarse_is : (plan : Plan) (xs : List ℕ) (tables : Tables) → IsNumbered plan xs tables → AreCoarse plan xs
 coarse_is plan xs tables is = subst (AreCoarse plan) is.lengths is.numbering.few
@@ -151,7 +144,24 @@ bounded net cert xs is same arc = subst (λ (ys : List ℕ). lengths_in ys arc �
     by_arc (inl low) = is.lengths.small arc low
     by_arc (inr high) = omega (arith, get_or_past cert.x.items arc 0 high)
 
--- Lengths for floor 3 double no edge, so lengths that double one are for a lower floor.
+-- Lengths for the greatest floors are long.
+pub long_lengths : {wish : Wish} (plan : Plan) (settings : Settings) (net : Network) (cert : Cert)
+    → IsNetFor wish plan settings net → IsSolution net (certificate cert)
+    → ((k : ℕ) → k < length net.arcs → MAX_FLOOR ≤ (arc_at net.arcs k).floor)
+    → AreLong plan (lengths_in cert.x.items)
+long_lengths plan settings net cert for is high a low =
+    let inner : a < length net.arcs = omega (arith, low, for.is.long) in
+    omega (arith, ints, is.accepted.admissible.high a inner, high a inner)
+
+-- Long lengths double no edge.
+pub none_doubled : {T : Type 0} (plan : Plan) (xs ys : List ℕ) (result : Result T StitchFail) (fail : StitchFail)
+    (u v : ℕ) → xs ≡ ys → AreLong plan (lengths_in ys)
+    → (AreSafe plan (lengths_in xs) → (a b : ℕ) → ¬ IsErrOf result (fails.Doubled a b))
+    → result ≡ Err fail → fail ≡ fails.Doubled u v → ⊥
+none_doubled plan xs ys result fail u v same long safe told doubled =
+    safe (inl (subst (λ (zs : List ℕ). AreLong plan (lengths_in zs)) (sym same) long)) u v (told ∙ ap Err doubled)
+
+-- So lengths that double one are for a lower floor.
 pub low_floor : {T : Type 0} {wish : Wish} (plan : Plan) (settings : Settings) (cert : Cert) (xs : List ℕ)
     (result : Result T StitchFail) (fail : StitchFail) (u v : ℕ)
     → xs ≡ cert.x.items → IsCertified wish plan settings (lists_of cert)
@@ -162,13 +172,12 @@ low_floor plan settings cert xs result fail u v same is safe told doubled = by_f
     long : MAX_FLOOR ≤ settings.floor → AreLong plan (lengths_in cert.x.items)
     long high a low =
         let above = is.lengths.least.admissible.high a (omega (arith, low, is.lengths.of_layout.long)) in
-        omega (arith, ints, above, high, is.lengths.of_layout.floor)
+        omega (arith, ints, above, high, is.lengths.of_layout.floors a low)
 
     by_floor : (settings.floor < MAX_FLOOR) ⊎ (MAX_FLOOR ≤ settings.floor) → settings.floor < MAX_FLOOR
     by_floor (inl low) = low
-    by_floor (inr high) = absurd
-        (safe (inl (subst (λ (ys : List ℕ). AreLong plan (lengths_in ys)) (sym same) (long high))) u v
-        (told ∙ ap Err doubled))
+    by_floor (inr high) =
+        absurd (none_doubled plan xs cert.x.items result fail u v same (long high) safe told doubled)
 
 -- The new mesh has the shape of the one that the layout lies in.
 pub kept_shape : (soup : FaceSet) (plan : Plan) (xs : List ℕ) → IsMeshLayout soup.faces plan

@@ -72,7 +72,7 @@ all_low (x ∷ xs) low = and_from _ _ (lt-ltb _ _ (low 0 (omega arith)))
     (all_low xs (λ k l. low (suc k) (omega (arith, l))))
 
 pub certified : (wish : Wish) (plan : Plan) (settings : Settings) (net : Network) (cert : Lists) → IsSomeLayout plan
-    → IsNetOf (layout_of plan) (old_lengths plan) (wish plan) settings net → IsWithinBounds net
+    → IsNetOf (layout_of plan) (old_lengths plan) (wish plan) settings (λ a. settings.floor) net → IsWithinBounds net
     → tangle_number net ≤ MAX_TANGLE
     → IsSolution net (certificate_of cert) → IsCertified wish plan settings cert
 certified wish plan settings net cert is of_layout bounds untangled solved = record {
@@ -81,8 +81,8 @@ certified wish plan settings net cert is of_layout bounds untangled solved = rec
     of_layout = of_layout;
     untangled = untangled;
     count = solved.accepted.count;
-    opposite = (balance_law (layout_of plan) (old_lengths plan) (wish plan) settings net (laid_of plan is) of_layout
-        (entries cert.x)).0 solved.accepted.admissible.balanced;
+    opposite = (balance_law (layout_of plan) (old_lengths plan) (wish plan) settings (λ a. settings.floor) net
+        (laid_of plan is) of_layout (entries cert.x)).0 solved.accepted.admissible.balanced;
     least = sound net (certificate_of cert) bounds solved.accepted;
     writable = record { ups = ups; allowed = allowed };
   };

@@ -14,6 +14,6 @@ pub matching_of-requires-clause-inside : goal.matching_of-requires-clause-inside
 matching_of-requires-clause-inside c =
     rw c.deref-2.ensures.value (own_inside (network c.args.net.now) c.args.descent.now.step c.in_ok-gadget.gadget.step
     c.args.descent.now.x.items c.in_ok-gadget.gadget.low.items c.in_ok-gadget.gadget.cap.items
-    c.in_ok-gadget.ensures.step (c.in_ok-gadget.ensures.low
+    c.requires.start.count c.in_ok-gadget.ensures.step (c.in_ok-gadget.ensures.low
     ∙ ap (lows (network c.args.net.now) c.args.descent.now.step) c.deref.ensures.value) (c.in_ok-gadget.ensures.cap
     ∙ ap (caps (network c.args.net.now) c.args.descent.now.step) c.deref.ensures.value))

@@ -8,7 +8,7 @@ use Rattle.qm_cert.proofs.SideSums.{sides_low, sides_more}
 use Rattle.qm_cert.proofs.sides.add_arcs.Goals as goal
 
 abbrev no_arc : Arc
-no_arc = record { left = record { node = 0; plus = false }; right = None; old = 0; weight = 0 }
+no_arc = record { left = record { node = 0; plus = false }; right = None; old = 0; weight = 0; floor = 0 }
 
 pub add_arc-requires-clause-small : goal.add_arc-requires-clause-small
 add_arc-requires-clause-small c =

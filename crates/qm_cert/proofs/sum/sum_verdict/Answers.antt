@@ -1,11 +1,12 @@
-use Rattle.std.proofs.Common.{◌≡◌, ℕ, ℤ, ◌<◌, ◌^◌, List, pos, ◌-ℤ◌, ◌*ℤ◌, map, sym, ◌∙◌, ap}
+use Rattle.std.proofs.Common.{◌≡◌, ℕ, ℤ, ◌<◌, ◌^◌, List, pos, ◌-ℤ◌, ◌*ℤ◌, sym, ◌∙◌, ap}
 use Rattle.std.proofs.lemmas.Int.{to_z-of_z}
 use lib.Signed.{mag}
 use mir.Syntax.{w128}
 use mir.Val.{to_z, of_z}
 use Rattle.def_flow.specs.Network.{Network, network}
 use Rattle.def_flow.specs.Admissible.{deviation, entries}
-use Rattle.def_flow.specs.Units.{low, on_cost}
+use Rattle.def_flow.specs.Units.{on_cost}
+use Rattle.def_flow.specs.Gadget.{lows}
 use Rattle.qm_cert.proofs.Checked.{cost_is, checked_same}
 use Rattle.qm_cert.proofs.Range.{deviation_small, lows_lengths}
 use Rattle.qm_cert.proofs.sum.sum_verdict.Goals as goal
@@ -27,7 +28,7 @@ pub twice_between-requires-clause-near : goal.twice_between-requires-clause-near
 twice_between-requires-clause-near c =
     rw (far_is (network c.args.net.now) c.args.lows.now _ c.deviation.result c.deviation.type_inv c.deviation.ensures
     c.requires.lows) (deviation_small (network c.args.net.now)
-    (map (low (network c.args.net.now) 1) c.args.cert.now.x.items) c.requires.bounds
+    (lows (network c.args.net.now) 1 c.args.cert.now.x.items) c.requires.bounds
     (lows_lengths (network c.args.net.now) c.args.cert.now.x.items c.requires.lengths))
 
 pub twice_between-requires-clause-far : goal.twice_between-requires-clause-far
@@ -40,8 +41,8 @@ pub returns : goal.returns
 returns c =
     let net : Network = network c.args.net.now in
     let xs : List ℕ = c.args.cert.now.x.items in
-    let near : to_z w128 (of_z w128 c.deviation.result) ≡ pos (deviation net (entries (map (low net 1) xs))) =
-    far_is net c.args.lows.now (map (low net 1) xs) c.deviation.result c.deviation.type_inv c.deviation.ensures
+    let near : to_z w128 (of_z w128 c.deviation.result) ≡ pos (deviation net (entries (lows net 1 xs))) =
+    far_is net c.args.lows.now (lows net 1 xs) c.deviation.result c.deviation.type_inv c.deviation.ensures
     c.requires.lows in
     let far : to_z w128 (of_z w128 c.deviation-far.result) ≡ pos (deviation net (entries xs)) =
     far_is net c.deref.result.now xs c.deviation-far.result c.deviation-far.type_inv c.deviation-far.ensures

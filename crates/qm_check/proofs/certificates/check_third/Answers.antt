@@ -1,10 +1,11 @@
-use Rattle.std.proofs.Common.{subst}
+use Rattle.std.proofs.Common.{subst, arith}
 use Rattle.def_certtext.specs.CertLines.{lists_of, raised}
 use Rattle.def_flow.specs.Network.{network}
 use Rattle.def_remesh.specs.Remeshed.{with_floor}
 use Rattle.error_laws.proofs.Errors.{handed}
 use Rattle.qm_check.proofs.Kept.{checked_third, unused_third}
 use Rattle.qm_check.specs.Checked.{made_as, Gives, IsUnused}
+use Rattle.qm_layoutnet.proofs.Floors.{floors_at, has_floors}
 use Rattle.remesh_laws.proofs.Keeps.{raised_net}
 use Rattle.qm_check.proofs.certificates.check_third.Goals as goal
 
@@ -14,7 +15,7 @@ check_lengths-requires-clause-net c = (
   with_floor c.args.asked.settings 3,
   raised_net c.args.cut.now.plan c.args.asked.settings (network c.args.net) (network c.with_floor-higher.result)
       c.requires.net.1
-      c.with_floor-higher.ensures,
+      (has_floors (network c.args.net) 3 (network c.with_floor-higher.result) c.with_floor-higher.ensures),
 )
 
 pub check_lengths-requires-clause-cert : goal.check_lengths-requires-clause-cert
@@ -29,7 +30,7 @@ returns-in_err-numbering-clause-unused c wish for =
     c.args.pair.third c.in_err-numbering.field-0.0
     (c.requires.doubling wish for)
     (raised_net c.args.cut.now.plan c.args.asked.settings (network c.args.net) (network c.with_floor-higher.result) for
-    c.with_floor-higher.ensures)
+    (has_floors (network c.args.net) 3 (network c.with_floor-higher.result) c.with_floor-higher.ensures))
     c.in_err-numbering.ensures.refused)
 
 pub returns-clause-checked : goal.returns-clause-checked
@@ -38,7 +39,16 @@ returns-clause-checked c wish for =
     c.args.pair.first c.args.pair.third
     c.in-Whole.numbering c.in-Whole.deviation c.requires.reach.2 (c.requires.doubling wish for)
     (raised_net c.args.cut.now.plan c.args.asked.settings (network c.args.net) (network c.with_floor-higher.result) for
-    c.with_floor-higher.ensures)
-    c.with_floor-higher.ensures c.in_ok-numbering.ensures.solved
+    (has_floors (network c.args.net) 3 (network c.with_floor-higher.result) c.with_floor-higher.ensures))
+    (has_floors (network c.args.net) 3 (network c.with_floor-higher.result) c.with_floor-higher.ensures)
+    c.in_ok-numbering.ensures.solved
     (subst (Gives c.args.cut.now.plan (network c.with_floor-higher.result) c.args.pair.third.x.items) c.in-Whole.is
     c.in_ok-numbering.ensures.gives)
+
+pub unreachable-requires : goal.unreachable-requires
+unreachable-requires c =
+    let gives = subst (Gives c.args.cut.now.plan (network c.with_floor-higher.result) c.args.pair.third.x.items)
+    c.in-Doubled.is c.in_ok-numbering.ensures.gives in
+    let has = has_floors (network c.args.net) 3 (network c.with_floor-higher.result) c.with_floor-higher.ensures in
+    gives.2
+    (λ k l. omega (arith, floors_at (network c.args.net) (λ a. 3) (network c.with_floor-higher.result) has k l))

@@ -2,7 +2,7 @@ use Rattle.std.proofs.Common.{ℕ, List, subst}
 use Rattle.def_flow.specs.Network.{network}
 use Rattle.error_laws.proofs.Errors.{handed}
 use Rattle.qm_check.specs.Checked.{GivesNone}
-use Rattle.remesh_laws.proofs.Keeps.{are_lengths}
+use Rattle.remesh_laws.proofs.Keeps.{are_lengths, doubled_first, long_lengths, none_doubled}
 use Rattle.remesh_laws.specs.Keeps.{IsNumbered}
 use Rattle.qm_check.proofs.lengths.check_lengths.Goals as goal
 
@@ -28,3 +28,17 @@ returns-in-Ok-clause-gives c = (
   }),
   c.in_ok-deviation.ensures.told,
 )
+
+pub returns-in-Err-Doubled-clause-gives : goal.returns-in-Err-Doubled-clause-gives
+returns-in-Err-Doubled-clause-gives c =
+    let plan = c.args.cut.now.plan in
+    let both = doubled_first plan _ c.args.cert.now.x.items c.in-Err-Doubled.field-0 _ _ c.deref.ensures.value
+    c.in-Err-Doubled.field-0-is c.in-Err-Doubled.ensures.refused in (
+      both.0,
+      both.1,
+      λ highest. none_doubled plan _ c.args.cert.now.x.items c.plan_over.result c.in-Err-Doubled.field-0 _ _
+          c.deref.ensures.value
+          (long_lengths plan c.requires.net.1 (network c.args.net.now) c.args.cert.now c.requires.net.2
+          c.in_ok-deviation.ensures.solved highest)
+          c.plan_over.ensures.safe c.in-Err-Doubled.is c.in-Err-Doubled.field-0-is,
+    )

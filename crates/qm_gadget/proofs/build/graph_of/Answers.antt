@@ -1,8 +1,8 @@
-use Rattle.std.proofs.Common.{◌≡◌, length, map, sym, ◌∙◌, ap, subst, arith}
+use Rattle.std.proofs.Common.{◌≡◌, length, sym, ◌∙◌, ap, subst, arith}
 use Rattle.def_flow.specs.Network.{network}
 use Rattle.def_matching.specs.Matching.{WeightedGraph, IsCheap}
 use Rattle.def_flow.specs.MatchingGraph.{matching_graph}
-use Rattle.def_flow.specs.Units.{low}
+use Rattle.def_flow.specs.Gadget.{lows}
 use Rattle.qm_gadget.specs.Ready.{graph_by_lows}
 use Rattle.gadget_laws.proofs.Size.{size_law}
 use Rattle.qm_gadget.proofs.OfList.{list_ready, graph_small, graph_lawful, graph_cheap, graph_over}
@@ -20,7 +20,7 @@ graph_over-requires-clause-small c =
     ≡ matching_graph (network c.args.net.now) c.args.step c.args.x.now =
     ap (λ ls. graph_by_lows (network c.args.net.now) c.args.step ls c.deref-2.result.now) (c.deref.ensures.value
     ∙ c.in_ok-low.ensures)
-    ∙ (ap (graph_by_lows (network c.args.net.now) c.args.step (map (low (network c.args.net.now) c.args.step)
+    ∙ (ap (graph_by_lows (network c.args.net.now) c.args.step (lows (network c.args.net.now) c.args.step
     c.args.x.now)) (c.deref-2.ensures.value ∙ c.in_ok-cap.ensures)
     ∙ graph_over (network c.args.net.now) c.args.step c.args.x.now) in
     omega (
@@ -35,7 +35,7 @@ returns-clause-graph c =
     c.in_ok-graph.ensures
     ∙ (ap (λ ls. graph_by_lows (network c.args.net.now) c.args.step ls c.deref-2.result.now) (c.deref.ensures.value
     ∙ c.in_ok-low.ensures)
-    ∙ (ap (graph_by_lows (network c.args.net.now) c.args.step (map (low (network c.args.net.now) c.args.step)
+    ∙ (ap (graph_by_lows (network c.args.net.now) c.args.step (lows (network c.args.net.now) c.args.step
     c.args.x.now)) (c.deref-2.ensures.value ∙ c.in_ok-cap.ensures)
     ∙ graph_over (network c.args.net.now) c.args.step c.args.x.now))
 

@@ -3,4 +3,4 @@ use Rattle.qm_layoutnet.specs.Ends.{open_arc}
 use Rattle.qm_layoutnet.proofs.arcs.open_arcs.Given as goal
 
 abbrev pub invariant-loop-run : goal.invariant-loop-run
-invariant-loop-run l = l.arcs.items ≡ map (open_arc l.weight) (take l.run-index l.runs)
+invariant-loop-run l = l.arcs.items ≡ map (open_arc l.set) (take l.run-index l.runs)

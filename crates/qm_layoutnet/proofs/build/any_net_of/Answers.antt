@@ -48,14 +48,14 @@ filled : (c : goal.After-len) → (with_items c.in_ok-arcs.arcs c.put_all_ends.n
 filled c = with_items_is c.in_ok-arcs.arcs c.put_all_ends.new.arcs (c.put_all_ends.auto.arcs ∙ c.deref_mut.ensures.len)
 
 ends_put : (c : goal.After-len) → AreEnds (layout_of (plan c.args.t.now)) (long_at (map path c.args.t.now.arcs.items))
-    c.args.set.now.weight
+    c.args.set.now
     (PatchesBelow (length (map rectangle c.args.t.now.patches.items)))
     (with_items c.in_ok-arcs.arcs c.put_all_ends.new.arcs).items
 ends_put c =
     let t = c.args.t.now in
     let l = layout_of (plan t) in
     let x = long_at (map path t.arcs.items) in
-    let w = c.args.set.now.weight in
+    let w = c.args.set.now in
     let opened : c.deref_mut.result.now ≡ map (open_arc w) t.arcs.items =
     c.deref_mut.ensures.value ∙ (c.in_ok-arcs.ensures ∙ ap (map (open_arc w)) c.deref.ensures.value) in
     let begun = subst (λ (arcs : List Arc). AreEnds l x w (PatchesBelow 0) arcs) (sym opened)
@@ -70,15 +70,14 @@ abbrev net : (c : goal.After-len) → Network
 net c = record {
   nodes = 2 * c.len.result;
   arcs = (with_items c.in_ok-arcs.arcs c.put_all_ends.new.arcs).items;
-  floor = c.args.set.now.floor;
   p = c.args.set.now.p;
   q = c.args.set.now.q;
 }
 
 is_net : (c : goal.After-len) → IsNetOf (layout_of (plan c.args.t.now)) (long_at (plan c.args.t.now).arcs)
-    (long_at (plan c.args.t.now).arcs) c.args.set.now (net c)
+    (long_at (plan c.args.t.now).arcs) c.args.set.now (λ a. c.args.set.now.floor) (net c)
 is_net c = net_is (layout_of (plan c.args.t.now)) (long_at (plan c.args.t.now).arcs) c.args.set.now (net c)
-    (omega (arith, c.len.ensures, c.args.t.now.patches.ok.0, length-map c.args.t.now.patches.items rectangle)) refl refl
+    (omega (arith, c.len.ensures, c.args.t.now.patches.ok.0, length-map c.args.t.now.patches.items rectangle)) refl
     refl (ends_put c)
 
 few : (c : goal.After-len) → count_below (long_at (plan c.args.t.now).arcs) (length (plan c.args.t.now).arcs) ≤ 2 ^ 23
@@ -91,16 +90,19 @@ pub returns-clause-even : goal.returns-clause-even
 returns-clause-even c =
     let p = plan c.args.t.now in
     even (layout_of p) (long_at p.arcs) c.args.set.now (net c) (laid_of p c.requires.layout)
-    (lengths_of p c.requires.layout) (few c) c.requires.settings (is_net c)
+    (lengths_of p c.requires.layout) (few c) c.requires.settings (λ a. c.args.set.now.floor)
+    (λ a low. (c.requires.settings.floor_low, c.requires.settings.floor_high)) (is_net c)
 
 pub returns-clause-bounds : goal.returns-clause-bounds
 returns-clause-bounds c =
     let p = plan c.args.t.now in
     within (layout_of p) (long_at p.arcs) c.args.set.now (net c) (laid_of p c.requires.layout)
-    (lengths_of p c.requires.layout) (few c) c.requires.settings (is_net c)
+    (lengths_of p c.requires.layout) (few c) c.requires.settings (λ a. c.args.set.now.floor)
+    (λ a low. (c.requires.settings.floor_low, c.requires.settings.floor_high)) (is_net c)
 
 pub returns-clause-small : goal.returns-clause-small
 returns-clause-small c =
     let p = plan c.args.t.now in
     small (layout_of p) (long_at p.arcs) c.args.set.now (net c) (laid_of p c.requires.layout)
-    (lengths_of p c.requires.layout) (few c) c.requires.settings (is_net c)
+    (lengths_of p c.requires.layout) (few c) c.requires.settings (λ a. c.args.set.now.floor)
+    (λ a low. (c.requires.settings.floor_low, c.requires.settings.floor_high)) (is_net c)

@@ -47,20 +47,20 @@ loop-p-preserved c =
       length-map t.patches.items rectangle,
     ) in
     record {
-      done = λ weight begin. subst (λ (xs : List Arc). AreEnds (layout_of (plan t)) (long_at (map path t.arcs.items))
-          weight (PatchesBelow (c.loop-p.p + 1)) xs)
+      done = λ set begin. subst (λ (xs : List Arc). AreEnds (layout_of (plan t)) (long_at (map path t.arcs.items))
+          set (PatchesBelow (c.loop-p.p + 1)) xs)
           (sym c.put_four.ensures)
-          (patch_more (layout_of (plan t)) (long_at (map path t.arcs.items)) weight c.requires.laid c.loop-p.p
+          (patch_more (layout_of (plan t)) (long_at (map path t.arcs.items)) set c.requires.laid c.loop-p.p
           (side_at (plan t) c.loop-p.p) c.loop-p.arcs p_low
           (λ s j d h. get_or_default (side_at (plan t) c.loop-p.p s) j d _ h) (λ s. refl)
-          (c.loop-p.invariant.done weight begin));
+          (c.loop-p.invariant.done set begin));
       long = omega (arith, c.put_four.auto.arcs, c.loop-p.invariant.long);
     }
 
 pub returns : goal.returns
-returns c weight begin =
+returns c set begin =
     let t = c.args.t.now in
     let all : c.loop-p.p ≡ length t.patches.items =
     omega (arith, c.loop-p-test.false, c.loop-p.auto.p-end, c.len-p-end.ensures, t.sides.ok.0, c.requires.sided) in
-    subst (λ (p : ℕ). AreEnds (layout_of (plan t)) (long_at (map path t.arcs.items)) weight (PatchesBelow p)
-    c.loop-p.arcs) all (c.loop-p.invariant.done weight begin)
+    subst (λ (p : ℕ). AreEnds (layout_of (plan t)) (long_at (map path t.arcs.items)) set (PatchesBelow p)
+    c.loop-p.arcs) all (c.loop-p.invariant.done set begin)

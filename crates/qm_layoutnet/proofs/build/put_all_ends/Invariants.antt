@@ -1,5 +1,5 @@
 use Rattle.std.proofs.Common.{◌≡◌, length}
-use Rattle.def_flow.specs.declared.net.Weight.{Weight}
+use Rattle.def_flow.specs.declared.net.Settings.{Settings}
 use Rattle.def_layout.specs.Arcs.{long_at}
 use Rattle.def_layout.specs.Plans.{layout_of, plan}
 use Rattle.qm_layoutnet.specs.Ends.{AreEnds, PatchesBelow}
@@ -8,8 +8,8 @@ use Rattle.qm_layoutnet.proofs.build.put_all_ends.Given as goal
 -- the slots of the patches below p are done
 abbrev pub invariant-loop-p : goal.invariant-loop-p
 invariant-loop-p l = record {
-  done : (weight : Weight) → AreEnds (layout_of (plan l.t)) (long_at (plan l.t).arcs) weight (PatchesBelow 0)
+  done : (set : Settings) → AreEnds (layout_of (plan l.t)) (long_at (plan l.t).arcs) set (PatchesBelow 0)
       l.initial.arcs
-      → AreEnds (layout_of (plan l.t)) (long_at (plan l.t).arcs) weight (PatchesBelow l.p) l.arcs;
+      → AreEnds (layout_of (plan l.t)) (long_at (plan l.t).arcs) set (PatchesBelow l.p) l.arcs;
   long : length l.arcs ≡ length l.initial.arcs;
 }

@@ -66,12 +66,13 @@ sums_of-requires-clause-inside c =
 -- The network near the old lengths, and the sum of the wishes.
 old_net : (c : In_ok-sums)
     → IsNetOf (layout_of (plan c.layout-layout.result.now)) (long_at (plan c.layout-layout.result.now).arcs)
-    (long_at (plan c.layout-layout.result.now).arcs) (fit_settings c.args.fit.now) (network c.in_ok-net.net)
+    (long_at (plan c.layout-layout.result.now).arcs) (fit_settings c.args.fit.now)
+    (λ a. (fit_settings c.args.fit.now).floor) (network c.in_ok-net.net)
 old_net c =
     subst
     (λ (s : Settings). IsNetOf (layout_of (plan c.layout-layout.result.now))
     (long_at (plan c.layout-layout.result.now).arcs)
-    (long_at (plan c.layout-layout.result.now).arcs) s (network c.in_ok-net.net))
+    (long_at (plan c.layout-layout.result.now).arcs) s (λ a. s.floor) (network c.in_ok-net.net))
     c.fit_settings.ensures c.in_ok-net.ensures.net
 
 told : (c : In_ok-sums) → c.in_ok-sums.sums.sum

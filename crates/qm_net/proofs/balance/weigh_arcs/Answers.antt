@@ -7,7 +7,7 @@ use Rattle.qm_net.proofs.Balances.{balances_more, balances_none}
 use Rattle.qm_net.proofs.balance.weigh_arcs.Goals as goal
 
 abbrev no_arc : Arc
-no_arc = record { left = record { node = 0; plus = false }; right = None; old = 0; weight = 0 }
+no_arc = record { left = record { node = 0; plus = false }; right = None; old = 0; weight = 0; floor = 0 }
 
 pub loop-k-init : goal.loop-k-init
 loop-k-init c = balances_none c.args.net.now.arcs.items c.args.x.now c.args.first c.args.balances.now c.requires.start

@@ -4,7 +4,7 @@ use Rattle.qm_net.proofs.Ends.{degrees_few, degrees_more}
 use Rattle.qm_net.proofs.tangle.count_ends.Goals as goal
 
 abbrev no_arc : Arc
-no_arc = record { left = record { node = 0; plus = false }; right = None; old = 0; weight = 0 }
+no_arc = record { left = record { node = 0; plus = false }; right = None; old = 0; weight = 0; floor = 0 }
 
 pub count_arc-requires-clause-small : goal.count_arc-requires-clause-small
 count_arc-requires-clause-small c =

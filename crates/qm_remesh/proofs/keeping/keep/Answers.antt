@@ -27,7 +27,7 @@ net : (c : In-Ok) → IsNetFor old_lengths c.args.cut.now.plan c.args.asked.sett
 net c =
     net_for _ _ _ _ c.layout.ensures.laid.0 c.requires.settings
     (subst (λ (p : Plan). IsNetOf (layout_of p) (long_at p.arcs) (long_at p.arcs) c.args.asked.settings
-    (network c.in-Ok.net)) c.layout.ensures.plan c.in-Ok.ensures.net)
+    (λ a. c.args.asked.settings.floor) (network c.in-Ok.net)) c.layout.ensures.plan c.in-Ok.ensures.net)
     c.in-Ok.ensures.bounds c.in-Ok.ensures.small
 
 pub keep_solved-requires-clause-net : goal.keep_solved-requires-clause-net

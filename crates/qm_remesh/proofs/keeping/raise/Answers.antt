@@ -1,18 +1,34 @@
 use Rattle.def_flow.specs.Network.{network}
-use Rattle.std.proofs.Common.{ℕ, refl, sym, subst}
+use Rattle.std.proofs.Common.{ℕ, refl, sym, subst, arith}
 use Rattle.def_remesh.specs.Refusals.{AreTooFine}
 use Rattle.def_remesh.specs.Remeshed.{with_floor}
-use Rattle.remesh_laws.proofs.Keeps.{are_lengths, bounded, keeps_third, raised_even, raised_net, solved, too_fine}
+use Rattle.qm_layoutnet.proofs.Floors.{floors_at, floors_even, has_floors}
+use Rattle.remesh_laws.proofs.Keeps.{are_lengths, bounded, keeps_third, long_lengths, none_doubled, raised_net, solved}
+use Rattle.remesh_laws.proofs.Keeps.{too_fine}
 use Rattle.qm_remesh.proofs.keeping.raise.Goals as goal
 
+pub solve-requires-clause-bounds : goal.solve-requires-clause-bounds
+solve-requires-clause-bounds c =
+    (raised_net _ c.args.settings (network c.args.net) (network c.with_floor-raised.result) c.requires.net.1
+    (has_floors (network c.args.net) 3 (network c.with_floor-raised.result) c.with_floor-raised.ensures)).bounds
+
+pub solve-requires-clause-tangle : goal.solve-requires-clause-tangle
+solve-requires-clause-tangle c =
+    (raised_net _ c.args.settings (network c.args.net) (network c.with_floor-raised.result) c.requires.net.1
+    (has_floors (network c.args.net) 3 (network c.with_floor-raised.result) c.with_floor-raised.ensures)).untangled
+
 pub solve-requires-clause-even : goal.solve-requires-clause-even
-solve-requires-clause-even c = raised_even (network c.args.net) _ c.requires.even c.with_floor-raised.ensures
+solve-requires-clause-even c =
+    floors_even (network c.args.net) (λ a. 3) (network c.with_floor-raised.result)
+    (has_floors (network c.args.net) 3 (network c.with_floor-raised.result) c.with_floor-raised.ensures)
+    c.requires.even
 
 pub plan_over-requires-clause-lengths : goal.plan_over-requires-clause-lengths
 plan_over-requires-clause-lengths c =
     are_lengths _ (with_floor c.args.settings 3) (network c.with_floor-raised.result) c.in_ok-cert.cert _
     (raised_net _ c.args.settings (network c.args.net) (network c.with_floor-raised.result) c.requires.net.1
-    c.with_floor-raised.ensures) c.in_ok-cert.ensures c.deref.ensures.value
+    (has_floors (network c.args.net) 3 (network c.with_floor-raised.result) c.with_floor-raised.ensures))
+    c.in_ok-cert.ensures c.deref.ensures.value
 
 pub plan_over-requires-clause-bounded : goal.plan_over-requires-clause-bounded
 plan_over-requires-clause-bounded c =
@@ -27,7 +43,8 @@ returns-in-Ok-clause-kept c = λ wish for.
       c.requires.doubled,
       solved _ (with_floor c.args.settings 3) (network c.with_floor-raised.result) c.in_ok-cert.cert
           (raised_net _ c.args.settings (network c.args.net) (network c.with_floor-raised.result) for
-          c.with_floor-raised.ensures) c.in_ok-cert.ensures,
+          (has_floors (network c.args.net) 3 (network c.with_floor-raised.result) c.with_floor-raised.ensures))
+          c.in_ok-cert.ensures,
     )
     (record {
       numbering = c.in-Ok.ensures.numbering;
@@ -45,9 +62,22 @@ returns-in-Err-TooFine-clause-refused c = λ wish for. (
     c.requires.doubled,
     solved _ (with_floor c.args.settings 3) (network c.with_floor-raised.result) c.in_ok-cert.cert
         (raised_net _ c.args.settings (network c.args.net) (network c.with_floor-raised.result) for
-        c.with_floor-raised.ensures) c.in_ok-cert.ensures,
+        (has_floors (network c.args.net) 3 (network c.with_floor-raised.result) c.with_floor-raised.ensures))
+        c.in_ok-cert.ensures,
   ),
   subst (λ (n : ℕ). AreTooFine c.args.cut.now.plan c.in_ok-cert.cert.x.items n) (sym c.in-Err-TooFine.faces-is)
       (too_fine _ _ _ c.in-Err-TooFine.field-0 _ c.deref.ensures.value c.in-Err-TooFine.field-0-is
       c.in-Err-TooFine.ensures.refused),
 )
+
+pub unreachable-requires : goal.unreachable-requires
+unreachable-requires c =
+    let has = has_floors (network c.args.net) 3 (network c.with_floor-raised.result) c.with_floor-raised.ensures in
+    none_doubled c.args.cut.now.plan _ c.in_ok-cert.cert.x.items c.plan_over.result c.in-Err-Doubled.field-0 _ _
+    c.deref.ensures.value
+    (long_lengths c.args.cut.now.plan (with_floor c.args.settings 3) (network c.with_floor-raised.result)
+    c.in_ok-cert.cert
+    (raised_net _ c.args.settings (network c.args.net) (network c.with_floor-raised.result) c.requires.net.1 has)
+    c.in_ok-cert.ensures
+    (λ k l. omega (arith, floors_at (network c.args.net) (λ a. 3) (network c.with_floor-raised.result) has k l)))
+    c.plan_over.ensures.safe c.in-Err-Doubled.is c.in-Err-Doubled.field-0-is

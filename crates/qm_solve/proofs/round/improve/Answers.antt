@@ -10,7 +10,8 @@ use Rattle.qm_solve.proofs.round.improve.Goals as goal
 
 pub matching_of-requires-clause-inside : goal.matching_of-requires-clause-inside
 matching_of-requires-clause-inside c = own_inside (network c.args.net.now) c.args.step c.in_ok-gadget.gadget.step
-    c.args.x.now c.in_ok-gadget.gadget.low.items c.in_ok-gadget.gadget.cap.items c.in_ok-gadget.ensures.step
+    c.args.x.now c.in_ok-gadget.gadget.low.items c.in_ok-gadget.gadget.cap.items c.requires.lengths.count
+    c.in_ok-gadget.ensures.step
     c.in_ok-gadget.ensures.low c.in_ok-gadget.ensures.cap
 
 pub returns-then-cost_of : goal.returns-then-cost_of

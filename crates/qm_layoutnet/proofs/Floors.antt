@@ -1,0 +1,149 @@
+-- A network with other floors is as even and as tangled as it was, and it is the network of the same layout.
+use Rattle.std.proofs.Common.{◌≡◌, ℕ, ◌*◌, ◌<◌, ◌≤◌, Bool, true, false, ◌&&◌, length, ℤ, pos, ◌-ℤ◌, ◌*ℤ◌, sym, ap, ◌∙◌}
+use Rattle.std.proofs.Common.{List, None, map, refl, subst, leb-true, arith}
+use Rattle.std.specs.Prelude.{nat_le, nat_lt, unsigned_abs}
+use Rattle.std.specs.List.{list_all}
+use Rattle.std.proofs.lemmas.Bool.{and_parts, le-leb}
+use Rattle.std.proofs.lemmas.List.{ext_get_or, get_or-map, length-map}
+use Rattle.def_math.specs.Counts.{count, count_below}
+use Rattle.sum_laws.proofs.Counts.{count_below_same}
+use Rattle.def_flow.specs.Admissible.{arc_deviation, deviation, side_sum, IsEven}
+use Rattle.def_flow.specs.Network.{Network, arc_at, ends, is_bounded, tangle_number, IsWithinBounds}
+use Rattle.def_flow.specs.declared.limits.TheConstants.{MAX_FLOOR, MAX_OLD, MAX_WEIGHT}
+use Rattle.def_flow.specs.declared.net.Arc.{Arc}
+use Rattle.def_flow.specs.declared.net.End.{End}
+use Rattle.def_flow.specs.declared.net.Settings.{Settings}
+use Rattle.def_layout.specs.Layouts.{Layout, use_of}
+use Rattle.def_layout.specs.Lengths.{Lengths}
+use Rattle.def_layout.specs.Surfaces.{IsSurface}
+use Rattle.def_layoutnet.specs.LayoutNet.{IsNetOf}
+use Rattle.qm_net.proofs.Within.{arc_bounded}
+use Rattle.qm_layoutnet.specs.Floors.{at_floor, AreFloored, HasFloors}
+use Rattle.qm_layoutnet.proofs.Built.{all_pass, count_at}
+use Rattle.qm_layoutnet.proofs.SameEnds.{sums_same, tangle_same}
+
+-- The arc past the last one.
+abbrev no_arc : Arc
+no_arc = record { left = record { node = 0; plus = true }; right = None; old = 0; weight = 0; floor = 0 }
+
+-- Where each arc has a floor, the list is that of the arcs with that floor.
+pub all_floored : (floor : ℕ) (arcs new : List Arc) → AreFloored (length arcs) floor arcs new
+    → new ≡ map (at_floor floor) arcs
+all_floored floor arcs new are =
+    ext_get_or no_arc new (map (at_floor floor) arcs) (are.long ∙ sym (length-map arcs (at_floor floor)))
+    (λ k l. (let low : k < length arcs = omega (arith, l, are.long) in
+    are.done k low low ∙ sym (get_or-map (at_floor floor) arcs k no_arc no_arc low)))
+
+-- A network with these arcs has this floor everywhere.
+pub has_floors : (net : Network) (floor : ℕ) (new : Network)
+    → new ≡ record net { arcs = map (at_floor floor) net.arcs } → HasFloors net (λ a. floor) new
+has_floors net floor new same = subst (HasFloors net (λ a. floor)) (sym same) (record {
+  nodes = refl;
+  p = refl;
+  q = refl;
+  long = length-map net.arcs (at_floor floor);
+  arcs = λ k l. get_or-map (at_floor floor) net.arcs k no_arc no_arc l;
+})
+
+-- No floor of a network within bounds is above the greatest.
+pub floor_high : (net : Network) → IsWithinBounds net → (k : ℕ) → k < length net.arcs
+    → (arc_at net.arcs k).floor ≤ MAX_FLOOR
+floor_high net b k l =
+    let a : Arc = arc_at net.arcs k in
+    let low : Bool =
+    nat_le 1 a.weight && nat_le a.weight MAX_WEIGHT && nat_le a.old MAX_OLD && nat_le 1 a.floor in
+    let parts = and_parts (low && nat_le a.floor MAX_FLOOR) _ (arc_bounded net b k l) in
+    leb-true a.floor MAX_FLOOR (and_parts low _ parts.0).1
+
+module _ (net : Network) (floor : Lengths) (new : Network) (has : HasFloors net floor new) where
+  pub floors_at : (k : ℕ) → k < length new.arcs → (arc_at new.arcs k).floor ≡ floor k
+  floors_at k l = ap (λ (a : Arc). a.floor) (has.arcs k (omega (arith, l, has.long)))
+
+  same_ends : (k : ℕ) → k < length net.arcs → ends (arc_at new.arcs k) ≡ ends (arc_at net.arcs k)
+  same_ends k l = ap ends (has.arcs k l)
+
+  old_at : (k : ℕ) → k < length net.arcs → (arc_at new.arcs k).old ≡ (arc_at net.arcs k).old
+  old_at k l = ap (λ (a : Arc). a.old) (has.arcs k l)
+
+  pub floors_tangle : tangle_number new ≡ tangle_number net
+  floors_tangle = tangle_same net new has.nodes has.long same_ends
+
+  pub floors_even : IsEven net → IsEven new
+  floors_even even = record {
+    high = λ k l. (let low : k < length net.arcs = omega (arith, l, has.long) in
+        omega (arith, old_at k low, even.high k low));
+    small = omega (arith, olds, even.small);
+    balanced = λ v. sums true v ∙ (even.balanced v ∙ sym (sums false v));
+  }
+    where
+      olds : count (λ (a : Arc). a.old) new.arcs ≡ count (λ (a : Arc). a.old) net.arcs
+      olds =
+          count_at (λ a. a.old) new.arcs ∙ ap (count_below (λ k. (arc_at new.arcs k).old)) has.long
+          ∙ count_below_same (λ k. (arc_at new.arcs k).old) (λ k. (arc_at net.arcs k).old) (length net.arcs) old_at
+          ∙ sym (count_at (λ a. a.old) net.arcs)
+
+      sums : (plus : Bool) (v : ℕ) → side_sum new.arcs (λ k. pos (arc_at new.arcs k).old) plus v
+          ≡ side_sum net.arcs (λ k. pos (arc_at net.arcs k).old) plus v
+      sums plus v = sums_same net new has.nodes has.long same_ends (λ k. pos (arc_at new.arcs k).old)
+          (λ k. pos (arc_at net.arcs k).old) plus v (λ k l. ap pos (old_at k l))
+
+  -- Lists deviate as much from what is wanted.
+  pub floors_deviation : (x : ℕ → ℤ) → deviation new x ≡ deviation net x
+  floors_deviation x =
+      ap (count_below (λ k. arc_deviation new (arc_at new.arcs k) (x k))) has.long
+      ∙ count_below_same (λ k. arc_deviation new (arc_at new.arcs k) (x k))
+      (λ k. arc_deviation net (arc_at net.arcs k) (x k)) (length net.arcs)
+      (λ k l. ap (λ (a : Arc). arc_deviation new a (x k)) (has.arcs k l) ∙ scale (arc_at net.arcs k) (x k))
+    where
+      scale : (a : Arc) (y : ℤ) → arc_deviation new a y ≡ arc_deviation net a y
+      scale a y = λ i. a.weight * unsigned_abs (pos (has.q i) *ℤ y -ℤ pos (has.p i * a.old))
+
+  -- Floors within their bounds leave the network within bounds.
+  pub floors_within : IsWithinBounds net → ((k : ℕ) → k < length net.arcs → (1 ≤ floor k) × (floor k ≤ MAX_FLOOR))
+      → IsWithinBounds new
+  floors_within b within = record {
+    p_low = omega (arith, has.p, b.p_low);
+    p_high = omega (arith, has.p, b.p_high);
+    q_low = omega (arith, has.q, b.q_low);
+    q_high = omega (arith, has.q, b.q_high);
+    arcs = all_pass (is_bounded new.nodes) new.arcs (λ k l. bounded k (omega (arith, l, has.long)));
+    few = omega (arith, has.long, b.few);
+  }
+    where
+      bounded : (k : ℕ) → k < length net.arcs → is_bounded new.nodes (arc_at new.arcs k) ≡ true
+      bounded k l =
+          ap (is_bounded new.nodes) (has.arcs k l)
+          ∙ ap (λ (n : ℕ). is_bounded n (at_floor (floor k) (arc_at net.arcs k))) has.nodes ∙ kept
+        where
+          kept : is_bounded net.nodes (at_floor (floor k) (arc_at net.arcs k)) ≡ true
+          kept =
+              let a : Arc = arc_at net.arcs k in
+              let all : Bool = list_all (λ (e : End). nat_lt e.node net.nodes) (ends a) in
+              let numbers : Bool = nat_le 1 a.weight && nat_le a.weight MAX_WEIGHT && nat_le a.old MAX_OLD in
+              let parts = and_parts (numbers && nat_le 1 a.floor && nat_le a.floor MAX_FLOOR) all
+              (arc_bounded net b k l) in
+              let floors = and_parts (numbers && nat_le 1 a.floor) (nat_le a.floor MAX_FLOOR) parts.0 in
+              let first = and_parts numbers (nat_le 1 a.floor) floors.0 in
+              ap (λ (t : Bool). t && nat_le 1 (floor k) && nat_le (floor k) MAX_FLOOR && all) first.0
+              ∙ (ap (λ (t : Bool). t && nat_le (floor k) MAX_FLOOR && all) (le-leb 1 (floor k) (within k l).0)
+              ∙ (ap (λ (t : Bool). t && all) (le-leb (floor k) MAX_FLOOR (within k l).1) ∙ parts.1))
+
+-- It is the network of the layout for these floors.
+pub floored : (l : Layout) (old wish : Lengths) (settings : Settings) (before floor : Lengths) (net new : Network)
+    → IsSurface l → IsNetOf l old wish settings before net → HasFloors net floor new
+    → IsNetOf l old wish settings floor new
+floored l old wish settings before floor net new laid is has = record {
+  nodes = has.nodes ∙ is.nodes;
+  p = has.p ∙ is.p;
+  q = has.q ∙ is.q;
+  long = has.long ∙ is.long;
+  olds = λ a low. ap (λ (x : Arc). x.old) (at a low) ∙ is.olds a low;
+  weights = λ a low. ap (λ (x : Arc). x.weight) (at a low) ∙ is.weights a low;
+  floors = λ a low. ap (λ (x : Arc). x.floor) (at a low);
+  left = λ w slot f. ap (λ (x : Arc). x.left) (at (use_of l w).arc (laid.paved.arc_low w slot)) ∙ is.left w slot f;
+  right = λ w slot f. ap (λ (x : Arc). x.right) (at (use_of l w).arc (laid.paved.arc_low w slot)) ∙ is.right w slot f;
+  alone = λ a low only. ap (λ (x : Arc). x.right) (at a low) ∙ is.alone a low only;
+}
+  where
+    at : (a : ℕ) → a < l.arcs → arc_at new.arcs a ≡ at_floor (floor a) (arc_at net.arcs a)
+    at a low = has.arcs a (omega (arith, low, is.long))

@@ -1,0 +1,46 @@
+-- Two networks whose arcs have the same ends have the same sums at their nodes, and are equally tangled.
+use Rattle.std.proofs.Common.{◌≡◌, ℕ, ◌*◌, ◌<◌, ◌==◌, Bool, cond, List, length, ℤ, pos, sym, ap, ◌∙◌}
+use Rattle.def_math.specs.Counts.{count, count_below}
+use Rattle.def_math.specs.Sums.{total, total_below}
+use Rattle.sum_laws.proofs.Counts.{count_below_same}
+use Rattle.sum_laws.proofs.Sums.{total_below_same}
+use Rattle.def_flow.specs.Admissible.{is_on_side, side_sum}
+use Rattle.def_flow.specs.Network.{Network, arc_at, degree, ends, tangle_number}
+use Rattle.def_flow.specs.declared.net.Arc.{Arc}
+use Rattle.def_flow.specs.declared.net.End.{End}
+use Rattle.qm_layoutnet.proofs.Built.{count_at}
+
+module _
+    (net new : Network) (nodes : new.nodes ≡ net.nodes) (long : length new.arcs ≡ length net.arcs)
+    (same : (k : ℕ) → k < length net.arcs → ends (arc_at new.arcs k) ≡ ends (arc_at net.arcs k)) where
+  degree_same : (v : ℕ) → degree new.arcs v ≡ degree net.arcs v
+  degree_same v =
+      count_at at_v new.arcs ∙ ap (count_below (λ k. at_v (arc_at new.arcs k))) long
+      ∙ count_below_same (λ k. at_v (arc_at new.arcs k)) (λ k. at_v (arc_at net.arcs k)) (length net.arcs)
+      (λ k l. ap there (same k l))
+      ∙ sym (count_at at_v net.arcs)
+    where
+      there : List End → ℕ
+      there es = count (λ (e : End). cond (e.node == v) 1 0) es
+
+      at_v : Arc → ℕ
+      at_v a = count (λ (e : End). cond (e.node == v) 1 0) (ends a)
+
+  pub tangle_same : tangle_number new ≡ tangle_number net
+  tangle_same =
+      ap (count_below (λ v. 16 * (degree new.arcs v * degree new.arcs v))) nodes
+      ∙ count_below_same (λ v. 16 * (degree new.arcs v * degree new.arcs v))
+      (λ v. 16 * (degree net.arcs v * degree net.arcs v)) net.nodes
+      (λ v l. ap (λ (d : ℕ). 16 * (d * d)) (degree_same v))
+
+  -- Equal entries have equal sums.
+  pub sums_same : (x y : ℕ → ℤ) (plus : Bool) (v : ℕ) → ((k : ℕ) → k < length net.arcs → x k ≡ y k)
+      → side_sum new.arcs x plus v ≡ side_sum net.arcs y plus v
+  sums_same x y plus v equal =
+      ap (total_below (λ k. put (x k) (ends (arc_at new.arcs k)))) long
+      ∙ total_below_same (λ k. put (x k) (ends (arc_at new.arcs k))) (λ k. put (y k) (ends (arc_at net.arcs k)))
+      (length net.arcs)
+      (λ k l. ap (λ z. put z (ends (arc_at new.arcs k))) (equal k l) ∙ ap (put (y k)) (same k l))
+    where
+      put : (z : ℤ) (es : List End) → ℤ
+      put z es = total (λ (e : End). cond (is_on_side v plus e) z (pos 0)) es

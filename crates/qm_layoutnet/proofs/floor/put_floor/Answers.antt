@@ -1,0 +1,11 @@
+use Rattle.std.proofs.Common.{◌≡◌, ℕ, length, subst, arith}
+use Rattle.qm_layoutnet.specs.Floors.{AreFloored}
+use Rattle.qm_layoutnet.proofs.Floors.{all_floored}
+use Rattle.qm_layoutnet.proofs.floor.put_floor.Goals as goal
+
+pub returns : goal.returns
+returns c =
+    let all : c.loop-k.k ≡ length c.args.arcs.now =
+    omega (arith, c.loop-k-test.false, c.loop-k.auto.k-end, c.loop-k.invariant.long) in
+    all_floored c.args.floor c.args.arcs.now c.loop-k.arcs
+    (subst (λ (n : ℕ). AreFloored n c.args.floor c.args.arcs.now c.loop-k.arcs) all c.loop-k.invariant)

@@ -1,0 +1,6 @@
+use Rattle.std.proofs.Common.{ℕ, ◌<◌, ◌≤◌, slice_index}
+use Rattle.def_flow.specs.Network.{arc_at}
+use Rattle.qm_net.proofs.balance.are_high.Given as goal
+
+abbrev pub invariant-loop-k : goal.invariant-loop-k
+invariant-loop-k l = (j : ℕ) → j < l.k → (arc_at l.arcs j).floor ≤ slice_index l.x j
