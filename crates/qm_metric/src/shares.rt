@@ -1,8 +1,8 @@
 //! The shares of a fit: what is divided equally among the new edges of an arc.
 
-ghost use Rattle.std.specs.Prelude.{◌≡◌, length, map, IfOk};
+ghost use Rattle.std.specs.Prelude.{◌≡◌, map, IfOk};
 ghost use Rattle.def_fit.specs.Shares.{aimed_shares, shares_of};
-ghost use Rattle.def_mesh.specs.Darts.{all_darts, darts};
+ghost use Rattle.def_mesh.specs.Darts.{all_darts};
 ghost use Rattle.def_metric.specs.Targets.{edge_length};
 
 use crate::measures::edge_length;
