@@ -24,12 +24,6 @@ pub record IsFar (wish : Wish) (plan : Plan) (settings : Settings) (sum : ℕ) :
   pub told : sum ≡ wish_sum wish plan
   pub high : MAX_TARGETS < sum
 
--- Why a layout has no network for these targets. Want of memory says nothing of them.
-abbrev pub HasNoTargets : (wish : Wish) (plan : Plan) (settings : Settings) (fail : MetricFail) → Type 0
-HasNoTargets wish plan settings (Tangled count) = IsTangledAt wish plan settings count
-HasNoTargets wish plan settings (Far sum) = IsFar wish plan settings sum
-HasNoTargets wish plan settings Memory = ⊤
-
 -- A layout that has no network at all has none for them.
 abbrev pub metric_fail_of : (fail : NetFail) → MetricFail
 metric_fail_of (nets.Tangled count) = Tangled count

@@ -1,38 +1,21 @@
--- The text of a fit: where it stands, and what is told of it.
+-- The text of a fit, and what is told of it.
 use Rattle.std.proofs.Common.{◌≡◌, ◌<◌, ◌^◌, ℕ, true, length, refl, sym, ◌∙◌, ap, arith}
 use Rattle.std.proofs.lemmas.Bool.{false≢true}
-use Rattle.def_flow.specs.Network.{Network}
 use Rattle.def_fit.specs.declared.fit.Fit.{Fit as AnyFit}
 use Rattle.def_io.specs.Bytes.{Bytes}
-use Rattle.def_io.specs.Lines.{lines_of, tail_of}
+use Rattle.def_io.specs.Lines.{tail_of}
 use Rattle.def_layout.specs.Plans.{layout_of, Plan}
 use Rattle.def_remesh.specs.CutSoups.{Regrid}
 use Rattle.def_remesh.specs.NewPoints.{lengths_in}
-use Rattle.def_run.specs.Check.{head_of}
-use Rattle.def_run.specs.Checking.{begins_fit, HasFitText, IsCountedFit}
-use Rattle.def_run.specs.MarkLines.{begins_mark, front_of, HasNoMark, IsMarkLine}
+use Rattle.def_run.specs.Checking.{begins_fit, IsCountedFit}
+use Rattle.def_run.specs.MarkLines.{front_of, IsMarkLine}
 use Rattle.def_run.specs.declared.command.Command.{Command}
 use Rattle.def_run.specs.declared.command.Command.TheVariants.{Refine, Remesh, Crease, Size, Coarse, Fit}
 use Rattle.def_text.specs.FaceSet.{FaceSet}
 use Rattle.def_written.specs.NewFaces.{face_count}
 use Rattle.qm_certtext.specs.declared.last.HeadAt.{HeadAt}
-use Rattle.remesh_laws.proofs.LastLines.{one_last}
-use Rattle.qm_check.specs.Making.{IsFitAt, IsFound, IsGivenTo, IsMarkedAt}
+use Rattle.qm_check.specs.Making.{IsFound, IsGivenTo}
 use Rattle.qm_check.specs.declared.judging.Finished.{Finished}
-
--- Without a line that begins as a head line does there is no text of a fit.
-pub none_fits : (bytes : Bytes) → HasNoMark (lines_of bytes) → ¬ HasFitText bytes
-none_fits bytes none fit = false≢true (sym (none fit.line fit.divided.there) ∙ fit.divided.begins)
-
--- Nor is there one where the last such line begins otherwise.
-pub other_fits : (bytes : Bytes) (mark : HeadAt) → IsMarkedAt bytes mark
-    → (begins_fit (head_of bytes mark.line) ≡ true → ⊥) → ¬ HasFitText bytes
-other_fits bytes mark marked other fit = other
-    (ap (λ n. begins_fit (head_of bytes n))
-    (one_last begins_mark (lines_of bytes) mark.line fit.line marked.last fit.divided) ∙ fit.begins)
-
-pub has_fit : (bytes : Bytes) (mark : HeadAt) → IsFitAt bytes mark → HasFitText bytes
-has_fit bytes mark is = record { line = mark.line; divided = is.marked.last; begins = is.begins }
 
 -- A line that begins as a head line of `fit` is that of no other command.
 pub only_fit : (line : Bytes) (command : Command) → begins_fit line ≡ true → IsMarkLine line command

@@ -1,32 +1,15 @@
 -- A remesh in the frame of its text has the text of its task.
-use Rattle.std.proofs.Common.{◌≡◌, Bool, [], ◌∷◌, ◌++◌, append_assoc, sym, ◌∙◌, subst}
+use Rattle.std.proofs.Common.{◌≡◌, [], ◌∷◌, ◌++◌, append_assoc, ◌∙◌}
 use Rattle.def_certtext.specs.CertLines.{certificates_of, used}
-use Rattle.def_flow.specs.declared.net.Settings.{Settings}
 use Rattle.def_layout.specs.Plans.{Plan}
-use Rattle.def_remesh.specs.Keeping.{IsKept}
 use Rattle.def_remesh.specs.NewPoints.{lengths_in}
 use Rattle.def_remesh.specs.Remeshed.{finished_text, text_behind_head}
-use Rattle.def_remesh.specs.Tasks.{Task, Wish}
+use Rattle.def_remesh.specs.Tasks.{Task}
 use Rattle.def_text.specs.FaceSet.{FaceSet}
 use Rattle.qm_write.specs.Framing.{framed_text, IsFramed}
 use Rattle.qm_write.specs.declared.text.Framed.{Framed}
 
 module _ (task : Task) (framed : Framed) (soup : FaceSet) (plan : Plan) (is : IsFramed task framed soup plan) where
-  -- It is kept for the settings that it tells.
-  pub framed_kept : (wish : Wish) × IsKept wish plan framed.remesh.asked.settings framed.remesh.asked.auto
-      (certificates_of framed.remesh.certs) framed.remesh.numbering
-  framed_kept = (
-    task.wish,
-    subst
-        (λ (s : Settings). IsKept task.wish plan s framed.remesh.asked.auto (certificates_of framed.remesh.certs)
-        framed.remesh.numbering)
-        (sym is.settings)
-        (subst
-        (λ (b : Bool). IsKept task.wish plan task.settings b (certificates_of framed.remesh.certs)
-        framed.remesh.numbering)
-        (sym is.auto) is.kept),
-  )
-
   pieces_are : framed_text framed soup plan
       ≡ (task.head ++ 10 ∷ [])
       ++ text_behind_head (task.between plan (lengths_in (used (certificates_of framed.remesh.certs)).x)) task.auto soup
