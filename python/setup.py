@@ -28,7 +28,7 @@ AROUND = CARRIED if CARRIED.is_dir() else HERE.parent
 checkout."""
 SCRIPTS = ("obj_text", "mark_features")
 INSIDE = {
-    "dist/quadq": "bin/quadq", "VERSION": "VERSION", "THIRD_PARTY.md": "THIRD_PARTY.md",
+    "dist/quadq": "bin/quadq", **{it: it for it in ("VERSION", "THIRD_PARTY.md", "CHANGELOG.md")},
     **{f"tools/{it}.py": f"{it}.py" for it in SCRIPTS},
 }
 """Each file that is carried, and where it stands in the package."""

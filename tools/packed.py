@@ -34,5 +34,5 @@ def package_files() -> Iterator[tuple[str, pathlib.Path]]:
     yield "py.typed", ROOT / "python/quadq/py.typed"
     for name in SCRIPTS:
         yield f"{name}.py", ROOT / f"tools/{name}.py"
-    for name in ("VERSION", "THIRD_PARTY.md"):
+    for name in ("VERSION", "THIRD_PARTY.md", "CHANGELOG.md"):
         yield name, ROOT / name
