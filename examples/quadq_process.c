@@ -1,6 +1,7 @@
-/* The call of quadq.h by the program itself, for who has no libquadq.a: link this file in its place. It runs the program
- * that the environment variable QUADQ names, or else `quadq` on the PATH, over files without names. The status is 127
- * where the program cannot be run or such a file cannot be written, and 128 and its number where a signal ends it. */
+/* The call of quadq.h by the program itself, for who has no libquadq.a: link this file in its place. It runs the
+ * program that the environment variable QUADQ names, or else `quadq` on the PATH, over files without names. The status
+ * is 127 where the program cannot be run or such a file cannot be written, and 128 and the number of a signal that ends
+ * it. */
 #define _POSIX_C_SOURCE 200809L
 #include "quadq.h"
 #include <spawn.h>

@@ -1,5 +1,5 @@
 /* Runs quadq over standard input: the words of a command, or by default a remesh to half the scale.
- * cc -Iinclude examples/remesh.c examples/quadq_process.c -o remesh && ./remesh <in.obj >out.obj */
+ * cc -Iinclude examples/remesh.c libquadq.a -o remesh && ./remesh <in.obj >out.obj */
 #include "quadq.h"
 #include <stdio.h>
 #include <stdlib.h>

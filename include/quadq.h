@@ -1,5 +1,9 @@
-/* quadq for programs in C: one call, from bytes in memory to bytes in memory. README.md says under "From C" what to link
- * with. The call keeps nothing from one to the next, and frees what it allocates, so there is nothing to free.
+/* quadq for programs in C: one call, from bytes in memory to bytes in memory. README.md says under "From C" what to
+ * link with. The call keeps nothing from one to the next, and frees what it allocates, so there is nothing to free.
+ *
+ * Over libquadq.a its contract is proved to be that of the program, with memory in place of its streams. It then needs
+ * nothing but the `malloc`, `realloc` and `free` of the program that it is linked into, all three of one allocator,
+ * which align as those of the C library do.
  *
  * Threads may be in it at the same time, each with buffers of its own. It must not be called from a signal handler, nor
  * in the child of a `fork` of a process that had threads.
@@ -34,7 +38,7 @@ typedef struct quadq_ran {
  *
  * No pointer is null, not even one with a length or a room of 0. `out` and `err` overlap with nothing, and their bytes
  * have been written to before (`calloc`). Statuses are those of the README; with 13, a failed write, `out` may have the
- * front of an output.
+ * front of an output. Over libquadq.a 13 says, as 14 does, that memory was wanting, and 12, a failed read, never comes.
  */
 quadq_ran quadq_run(const char *words, size_t words_length, const void *input, size_t input_length, void *out,
                     size_t out_room, char *err, size_t err_room);

@@ -167,10 +167,10 @@ def crates_below(name: str, uses: dict[str, list[str]]) -> list[str]:
 class Progress:
     """Tells what the prover is at: each crate when it is done, and at least every few seconds something."""
 
-    def __init__(self) -> None:
+    def __init__(self, top: str) -> None:
         self.started = self.told = time.monotonic()
         self.uses = uses_of_crates()
-        self.crates = crates_below("qm_prog", self.uses)
+        self.crates = crates_below(top, self.uses)
         self.done: set[str] = set()
         self.counted = ""
         self.waits = False
@@ -231,15 +231,13 @@ def stop(tool: subprocess.Popen[bytes]) -> None:
             continue
 
 
-def make() -> bool:
-    """Runs the prover and the compiler over the sources, and returns whether the program was made and answers."""
-    # The empty text is the empty mesh, so this run of the program ends well and prints nothing.
-    words = ["rt", "run", "--jobs", str(jobs()), "--", "tidy"]
-    progress = Progress()
-    with open(LOG, "wb") as log:
+def ran_by_rt(crate: str, verb: str, words: list[str], kept: pathlib.Path) -> bool:
+    """Runs the prover and the compiler over a crate and those below it, and returns whether that went well."""
+    progress = Progress(crate)
+    with open(kept, "wb") as log:
         tool = subprocess.Popen(
-            words,
-            cwd=ROOT / "crates/qm_prog",
+            ["rt", verb, "--jobs", str(jobs()), *words],
+            cwd=ROOT / "crates" / crate,
             stdin=subprocess.DEVNULL,
             stdout=subprocess.PIPE,
             stderr=subprocess.STDOUT,
@@ -262,6 +260,12 @@ def make() -> bool:
             return tool.wait() == 0
         finally:
             stop(tool)
+
+
+def make() -> bool:
+    """Makes the program of the sources, and returns whether it was made and answers."""
+    # The empty text is the empty mesh, so this run of the program ends well and prints nothing.
+    return ran_by_rt("qm_prog", "run", ["--", "tidy"], LOG)
 
 
 def show_error() -> None:

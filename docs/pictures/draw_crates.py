@@ -41,9 +41,10 @@ def bands_and_uses() -> tuple[list[Band], dict[str, list[str]]]:
         if line.startswith("# ") and "docs/" not in line:
             bands.append(Band(line[2:], []))
         elif ":" in words:
-            name, _, used = words.partition(":")
-            bands[-1].crates.append(name.strip())
-            uses[name.strip()] = used.split()
+            kind, _, used = words.partition(":")
+            name = kind.split()[0]
+            bands[-1].crates.append(name)
+            uses[name] = used.split()
     uses = {name: [it for it in used if it in uses] for name, used in uses.items()}
     return [Band(it.title, sorted(it.crates, key=lambda name: depth(name, uses))) for it in bands], uses
 

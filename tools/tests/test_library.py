@@ -1,4 +1,5 @@
-"""Programs in C that call quadq: the example, compared with the program; small buffers, and threads."""
+"""Programs in C that call quadq: the example over the program itself and over libquadq.a, where that is built, both
+compared with the program; small buffers, and threads."""
 
 import concurrent.futures
 import contextlib
@@ -7,11 +8,16 @@ import os
 import pathlib
 import shutil
 import subprocess
+import sys
 import tempfile
 import unittest
 import unittest.mock
 
 ROOT = pathlib.Path(__file__).resolve().parents[2]
+sys.path.insert(0, str(ROOT / "tools"))
+
+import build_library  # noqa: E402
+
 PROGRAM = os.environ.get("QUADQ", str(ROOT / "quadq"))
 EXAMPLES = sorted(ROOT.glob("examples/*.obj"))
 LETTER = (ROOT / "examples/letter_q.obj").read_bytes()
@@ -49,7 +55,7 @@ def by_process(words, text):
 
 
 class OverTheProcess(unittest.TestCase):
-    """The example, and the call, over the program itself."""
+    """The example, and the call, where examples/quadq_process.c stands for the library."""
 
     @classmethod
     def linked(cls):
@@ -123,6 +129,24 @@ class OverTheProcess(unittest.TestCase):
         for (words, text), (told, out, err) in zip(tasks, found):
             status, whole, line = by_process(words, text)
             self.assertEqual((told, out[:len(whole)], err[:len(line)]), ((status, len(whole), len(line)), whole, line))
+
+
+class OverTheLibrary(OverTheProcess):
+    """The same over the proved library."""
+
+    @classmethod
+    def linked(cls):
+        return build_library.ARCHIVE
+
+    @classmethod
+    def shared(cls):
+        return ["-shared", "-Wl,--whole-archive", cls.linked(), "-Wl,--no-whole-archive"]
+
+    @classmethod
+    def setUpClass(cls):
+        if not build_library.is_current():
+            raise unittest.SkipTest("build/libquadq.a is not of these sources: tools/build_library.py builds it")
+        super().setUpClass()
 
 
 class WithoutAProgram(unittest.TestCase):

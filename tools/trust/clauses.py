@@ -5,7 +5,7 @@ from dataclasses import dataclass
 from functools import cache
 
 # A function's head, with its visibility and its name, or a sign that begins or ends something.
-STEP = re.compile(r"(?:\bpub(\([^)]*\))?\s+)?(?:(?:const|unsafe)\s+)*\bfn\s+(\w+)|[{};]")
+STEP = re.compile(r"(?:\bpub(\([^)]*\))?\s+)?(?:(?:const|unsafe|extern)\s+)*\bfn\s+(\w+)|[{};]")
 SIGN = re.compile(r"[()\[\]{;]")
 CLAUSE = re.compile(r"\b(?:requires|ensures)\*?(?:\s+(\w+))?\s*$")
 MEMBER = re.compile(r"\bghost\s+(\w+)\s*(?::[^=]*)?=\s*$|\bghost\s+(\w+)\s*:\s*$")

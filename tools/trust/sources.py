@@ -84,7 +84,7 @@ def read(root: Path, file: Path) -> Source:
 def crates_of(root: Path) -> list[str]:
     """The crates of crates.txt, in its order."""
     lines = (root / "crates.txt").read_text().splitlines()
-    return [it.partition(":")[0].strip() for it in (line.partition("#")[0] for line in lines) if ":" in it]
+    return [it.split(":")[0].split()[0] for it in (line.partition("#")[0] for line in lines) if ":" in it]
 
 
 def is_trusted(crate: str) -> bool:

@@ -1,0 +1,2 @@
+//! What a call of the library does: the bytes that it takes and those that it hands over.
+#![tactic(auto)]
