@@ -62,7 +62,8 @@ def main(words: list[str]) -> int:
     made = both(old)
     for name, it in zip(("even", "wished"), made):
         ways = quadq.distance_between(it, old), quadq.distance_between(old, it)
-        print(f"{name}: {it.face_count} of {old.face_count} faces, mean distance {sum(at.mean for at in ways) / 2:.2g}, "
+        mean = sum(at.mean for at in ways) / 2
+        print(f"{name}: {it.face_count} of {old.face_count} faces, mean distance {mean:.2g}, "
               f"greatest {max(at.greatest for at in ways):.2g}")
     canvas = Canvas(3 * SIZE[0], SIZE[1])
     canvas.show(np.concatenate([panel(it, old.points) for it in (old, *made)], axis=1))

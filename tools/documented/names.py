@@ -16,7 +16,8 @@ NAME = re.compile(r"`(?:\w+::)*(\w+)`")
 # What an item of a list rests on stands before its call, and what a paragraph does in brackets of its own.
 IN_ITEMS = re.compile(r"((?:`\w+`(?:, | with )?)+), (?:in|by) \[|\(((?:`\w+`(?:, )?)+)\)")
 DEFINITION = re.compile(r"^(?:abbrev )?pub (?:record |data )?(\w+)\b", re.M)
-CODE = re.compile(r"^ *(?:ghost |pub )*(?:const |unsafe |extern \S+ )*(?:fn|struct|enum|trait|const|type|mod) (\w+)", re.M)
+CODE = re.compile(
+    r"^ *(?:ghost |pub )*(?:const |unsafe |extern \S+ )*(?:fn|struct|enum|trait|const|type|mod) (\w+)", re.M)
 OF_STD = re.compile(r"Rattle\.std\w*\.[\w.]+\.\{([^}]*)\}")
 
 

@@ -16,7 +16,8 @@ struct Head {
     q: u32,
 }
 
-/// The network of a text. Linear. The network may have any numbers: who goes on with it tests it.
+/// The network of a text. Linear. The network may have any numbers: who goes on with it tests it. No clause says which
+/// network it is, since benchmarks and tests alone read this text: a wrong one shows in the lengths that they compare.
 pub fn read_net(alloc: Global, text: &str) -> Result<Net, NetFail> {
     let mut words = text.split_whitespace();
     let head = read_head(&mut words).ok_or(NetFail::NoNetwork)?;
