@@ -15,6 +15,7 @@ class Picture:
     def __init__(self, title, width, height, scale=60):
         self.title, self.width, self.height, self.scale = title, width, height, scale
         self.parts = []
+        self.heads = {INK: "ink", RED: "red", BLUE: "blue"}
 
     def at(self, point):
         return f"{point[0] * self.scale:.1f},{(self.height - point[1]) * self.scale:.1f}"
@@ -26,9 +27,13 @@ class Picture:
     def line(self, points, ink=INK, thick=1.5, dashed=False, arrow=False):
         where = " ".join(map(self.at, points))
         more = ' stroke-dasharray="5 4"' if dashed else ""
-        more += f' marker-end="url(#{"red" if ink == RED else "blue" if ink == BLUE else "ink"})"' if arrow else ""
+        more += f' marker-end="url(#{self.head(ink)})"' if arrow else ""
         head = f'<polyline points="{where}" fill="none" stroke="{ink}" stroke-width="{thick}"'
         self.parts.append(f"{head}{more}/>")
+
+    def head(self, ink):
+        """The name of the arrow head of a colour, which the picture then has."""
+        return self.heads.setdefault(ink, f"head{len(self.heads)}")
 
     def arc(self, middle, radius, first, last, ink=BLUE):
         """An arrow round the middle, from one angle to another, in degrees."""
@@ -43,9 +48,10 @@ class Picture:
         if name:
             self.text((point[0], point[1] - 0.07), name, 13, ink)
 
-    def text(self, point, words, size=15, ink=INK, anchor="middle", bold=False):
+    def text(self, point, words, size=15, ink=INK, anchor="middle", bold=False, halo=False):
         x, y = self.at(point).split(",")
         more = ' font-weight="bold"' if bold else ""
+        more += ' paint-order="stroke" stroke="white" stroke-width="3"' if halo else ""
         where = f'<text x="{x}" y="{y}" font-size="{size}" fill="{ink}" text-anchor="{anchor}"{more}>'
         self.parts.append(f"{where}{words}</text>")
 
@@ -53,7 +59,7 @@ class Picture:
         wide, high = round(self.width * self.scale), round(self.height * self.scale)
         lines = [f'<svg xmlns="http://www.w3.org/2000/svg" viewBox="0 0 {wide} {high}" width="{wide}" height="{high}"']
         lines += [f' font-family="DejaVu Sans, Helvetica, sans-serif" role="img"><title>{self.title}</title>', "<defs>"]
-        for key, ink in [("ink", INK), ("red", RED), ("blue", BLUE)]:
+        for ink, key in self.heads.items():
             lines.append(f'<marker id="{key}" viewBox="0 0 10 10" refX="8" refY="5" markerWidth="7" markerHeight="7"')
             lines.append(f' orient="auto"><path d="M0,1 L9,5 L0,9 z" fill="{ink}"/></marker>')
         lines += ["</defs>", f'<rect width="{wide}" height="{high}" fill="white"/>', *self.parts, "</svg>"]
