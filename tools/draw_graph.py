@@ -6,8 +6,8 @@ usage: tools/draw_graph.py MESH.obj LAYOUT.txt [--before LAYOUT.txt | --written 
 
 LAYOUT.txt is what `quadq layout` writes for the mesh: with `--keep none --patches traced` its motorcycle graph. Patches
 have colours that differ between neighbours, the edges of the cut are thick, those of `l` lines are red, and irregular
-vertices are marked: singular ones red, corners blue, reflex ones orange. The mesh is seen from the direction that is
-given, with z upward, or y. It is taken to be a mesh that quadq accepts.
+vertices are marked: singular ones violet, corners blue, reflex ones orange. The mesh is seen from the direction that is
+given, with z upward, or y, and has an outline where it turns away. It is taken to be a mesh that quadq accepts.
 
 With --before the edges of another layout of the mesh that are not in this one are dashed, as those that left when
 patches were merged. With --written the picture is that of OUT.obj, which quadq wrote for the mesh over this cut, with
@@ -26,9 +26,12 @@ from layout_text import edge_of, edges_along, patches_of, read_layout  # noqa: E
 from obj_text import read_obj  # noqa: E402
 
 COLOURS = ["#bcd7ee", "#f9d9b4", "#c9e6c3", "#f3c4c9", "#dccbe8", "#f5eeb0", "#bfe3e0", "#e3d3c3"]
-MARKS = {"singular": "#c0392b", "corner": "#1f5fa8", "reflex": "#e67e22"}
+MARKS = {"singular": "#7b2d8b", "corner": "#1f5fa8", "reflex": "#e67e22"}
 FEATURE = "#d62728"
 MARGIN = 12
+# An edge of the cut is thick where each of its faces is turned to the eye by so much: nearer to the outline it would be
+# a stub.
+SLIM = 0.22
 
 
 def read_mesh(path):
@@ -107,48 +110,72 @@ def seen_from(places, direction):
     return [tuple(sum(a * b for a, b in zip(axis, place)) for axis in axes) for place in places]
 
 
-def is_turned_away(corners, at):
-    """Whether the face is seen from its back: its corners go clockwise in the picture, where y grows downward."""
-    turns = zip(corners, corners[1:] + corners[:1])
-    return sum(at[one][0] * at[other][1] - at[other][0] * at[one][1] for one, other in turns) > 0
+def facing(corners):
+    """The cosine between a face's normal and the direction to the eye: below 0 it is seen from its back."""
+    first, second, third, fourth = corners
+    one, other = ([b - a for a, b in zip(*ends)] for ends in ((first, third), (second, fourth)))
+    normal = [one[i - 2] * other[i - 1] - one[i - 1] * other[i - 2] for i in range(3)]
+    return normal[2] / (math.hypot(*normal) or 1)
+
+
+def kinds_of(faces, turns, lines_of):
+    """How each edge that is no thin one is drawn: as one of an `l` line; of the cut, or gone from it, where its faces
+    are turned to the eye; or of the outline."""
+    beside = collections.defaultdict(list)
+    for corners, turn in zip(faces, turns):
+        for ends in zip(corners, corners[1:] + corners[:1]):
+            beside[edge_of(*ends)].append(turn)
+    kinds = {}
+    for edge, around in beside.items():
+        kind = next((it for it, edges in lines_of.items() if edge in edges), None)
+        is_outline = len(around) == 2 and min(around) <= 0 < max(around)
+        is_clear = len(around) == 1 or not is_outline and min(map(abs, around)) > SLIM
+        if kind and (kind == "l" or is_clear):
+            kinds[edge] = kind
+        elif is_outline:
+            kinds[edge] = "o"
+    return kinds
 
 
 def draw(mesh, marks, graph, colours, wide, gone=frozenset(), lines=frozenset()):
-    """The SVG of the faces from the farthest to the nearest, each with its part of the graph and of the marks, of the
-    edges that are gone from it and of those that `l` lines name. Faces of a closed mesh that are turned away are left
-    out."""
+    """The SVG of the faces from the farthest to the nearest, each with its edges that are no thin ones and its marks.
+    Faces of a closed mesh that are turned away are left out."""
     places, faces = mesh
     used = [places[it] for it in {vertex for face in faces for vertex in face}]
     left, low = (min(it[i] for it in used) for i in (0, 1))
     spans = [max(it[i] for it in used) - least for i, least in ((0, left), (1, low))]
     scale = (wide - 2 * MARGIN) / (spans[0] or 1)
     high = round(spans[1] * scale) + 2 * MARGIN
-    at = [(MARGIN + (x - left) * scale, high - MARGIN - (y - low) * scale) for x, y, _ in places]
-    where = [f"{x:.1f},{y:.1f}" for x, y in at]
+    where = [f"{MARGIN + (x - left) * scale:.1f},{high - MARGIN - (y - low) * scale:.1f}" for x, y, _ in places]
     darts = {dart for face in faces for dart in zip(face, face[1:] + face[:1])}
     is_closed = all(dart[::-1] in darts for dart in darts)
+    turns = [facing([places[it] for it in face]) for face in faces]
     lines_of = {"l": lines, "g": graph, "d": gone}
-    drawn = head_of(wide, high, lines_of)
+    kinds, drawn = kinds_of(faces, turns, lines_of), head_of(wide, high, lines_of)
     for face in sorted(range(len(faces)), key=lambda it: sum(places[v][2] for v in faces[it])):
-        corners = faces[face]
-        if is_closed and is_turned_away(corners, at):
-            continue
-        drawn.append(f'<path class="c{colours[face]}" d="M{" ".join(where[it] for it in corners)}z"/>')
-        for one, other in zip(corners, corners[1:] + corners[:1]):
-            kind = next((it for it, edges in lines_of.items() if edge_of(one, other) in edges), None)
-            if kind:
-                drawn.append(f'<path class="{kind}" d="M{where[one]} {where[other]}"/>')
-        for vertex in corners:
-            if vertex in marks:
-                x, y = where[vertex].split(",")
-                drawn.append(f'<circle cx="{x}" cy="{y}" r="{max(2.2, wide / 160):.1f}" fill="{marks[vertex]}"/>')
+        if not is_closed or turns[face] > 0:
+            drawn += face_lines(faces[face], colours[face], where, kinds)
+            drawn += [dot(where[it], marks[it], wide) for it in faces[face] if it in marks]
     return "\n".join([*drawn, "</svg>"])
+
+
+def face_lines(corners, colour, where, kinds):
+    """A face and its edges that are no thin ones."""
+    ends = zip(corners, corners[1:] + corners[:1])
+    edges = [(kinds.get(edge_of(*it)), *it) for it in ends]
+    face = f'<path class="c{colour}" d="M{" ".join(where[it] for it in corners)}z"/>'
+    return [face, *(f'<path class="{kind}" d="M{where[a]} {where[b]}"/>' for kind, a, b in edges if kind)]
+
+
+def dot(place, colour, wide):
+    x, y = place.split(",")
+    return f'<circle cx="{x}" cy="{y}" r="{max(2.2, wide / 160):.1f}" fill="{colour}"/>'
 
 
 def head_of(wide, high, lines_of):
     """The first lines of the SVG, with a style for each kind of line that there is."""
     styles = [f".c{at}{{fill:{colour};stroke:#8a8a8a;stroke-width:.5}}" for at, colour in enumerate(COLOURS)]
-    styles.append(f".g{{stroke:#222;stroke-width:{max(1.4, wide / 280):.1f}}}")
+    styles.append(f".g{{stroke:#222;stroke-width:{max(1.4, wide / 280):.1f}}}.o{{stroke:#555;stroke-width:.9}}")
     if lines_of["d"]:
         styles.append(f".d{{stroke:#222;stroke-width:1;stroke-dasharray:{wide / 160:.1f}}}")
     if lines_of["l"]:
