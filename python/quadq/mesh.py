@@ -9,15 +9,15 @@ from typing import Any, Optional, Sequence
 import numpy as np
 from numpy.typing import ArrayLike
 
-from .arrays import Array
+from .arrays import Array, Kept
 from .errors import MeshError
 
 NONE = -1
 """Stands in an index for "names nothing"."""
 
 
-@dataclass(frozen=True)
-class Layer:
+@dataclass(frozen=True, eq=False)
+class Layer(Kept):
     """Values, and for each corner of the mesh the row that it names, or NONE."""
 
     values: Array
@@ -26,8 +26,8 @@ class Layer:
     """(corners,) int64."""
 
 
-@dataclass(frozen=True)
-class Names:
+@dataclass(frozen=True, eq=False)
+class Names(Kept):
     """What groups faces: a list of names, and for each face the place of its name there."""
 
     names: tuple[str, ...]
@@ -35,8 +35,8 @@ class Names:
     """(faces,) int64."""
 
 
-@dataclass(frozen=True)
-class Edges:
+@dataclass(frozen=True, eq=False)
+class Edges(Kept):
     """The edges of a mesh, each once. A dart is a side of a face: it has the number of the corner where it begins."""
 
     ends: Array
@@ -60,9 +60,10 @@ class Edges:
         return np.where(keys[at] == wanted, at, NONE)
 
 
-@dataclass(frozen=True)
-class Mesh:
-    """A mesh of polygons. Lengths are in the unit of its file; indices count from 0.
+@dataclass(frozen=True, eq=False)
+class Mesh(Kept):
+    """A mesh of polygons. Lengths are in the unit of its file; indices count from 0. Its arrays cannot be written to:
+    `changed` makes another mesh, and `mesh.points.copy()` an array to work on.
 
     The corners of all faces stand in one table, face by face: face `f` has those from `starts[f]` on, before
     `starts[f + 1]`.

@@ -3,7 +3,7 @@
 from __future__ import annotations
 
 import re
-from typing import Callable, Sequence
+from typing import Any, Callable, Sequence
 
 from .errors import QuadqError
 
@@ -52,6 +52,11 @@ class Refusal(QuadqError):
 
     def __reduce__(self) -> tuple[type[Refusal], tuple[int, str, tuple[int, ...], tuple[int, ...]]]:
         return type(self), (self.status, self.line, self.faces, self.vertices)
+
+    def as_json(self) -> dict[str, Any]:
+        """The same for `json.dumps`: faces and vertices count from 1, as in the words."""
+        return {"status": self.status, "line": self.line, "words": str(self),
+                "faces": [it + 1 for it in self.faces], "vertices": [it + 1 for it in self.vertices]}
 
     @staticmethod
     def told(status: int, line: str, face: Callable[[int], int], vertex: Callable[[int], int]) -> Refusal:

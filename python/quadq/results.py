@@ -2,12 +2,15 @@
 
 from __future__ import annotations
 
+import math
 import os
-from dataclasses import dataclass, replace
+from dataclasses import asdict, dataclass, replace
 from decimal import Decimal
 from fractions import Fraction
 from functools import cached_property
-from typing import Optional, Sequence, Union
+from typing import Any, Optional, Sequence, Union
+
+import numpy as np
 
 from .arrays import Array
 from .attributes import map_of
@@ -147,6 +150,10 @@ class Report:
         """The same in words."""
         return tuple(it.words for it in self.notices)
 
+    def as_json(self) -> dict[str, Any]:
+        """All of it for `json.dumps`, by the names of its values, with the warnings; fractions and decimals as texts."""
+        return {**plain_of(asdict(self)), "warnings": [asdict(it) for it in self.notices]}
+
     def table(self) -> list[tuple[str, str, str]]:
         """Rows of a label, the old mesh's value and the new one's."""
         before, after = self.before, self.after
@@ -198,6 +205,19 @@ class Report:
             f"parts {self.parts} by {self.command}")
         return (f"faces {self.before.faces} -> {self.after.faces}, {wish}, {done}, "
                 f"least scaled Jacobian {quality.least:.3f}, distance {self.greatest_distance:.3g}")
+
+
+def plain_of(value: Any) -> Any:
+    """What JSON has a word for, in place of values that it has none for; nothing in place of what is no number."""
+    if isinstance(value, dict):
+        return {name: plain_of(it) for name, it in value.items()}
+    if isinstance(value, (tuple, list)):
+        return [plain_of(it) for it in value]
+    if isinstance(value, np.generic):
+        value = value.item()
+    if isinstance(value, float) and not math.isfinite(value):
+        return None
+    return str(value) if isinstance(value, (Fraction, Decimal)) else value
 
 
 @dataclass(frozen=True)

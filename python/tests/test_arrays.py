@@ -1,5 +1,6 @@
 """What the program writes, as arrays: graphs, layouts, maps, and finer meshes."""
 
+import json
 import unittest
 import unittest.mock
 from dataclasses import replace
@@ -29,6 +30,29 @@ east 3
 north 4
 west 2
 """
+
+
+class Values(unittest.TestCase):
+    def test_a_mesh_cannot_be_written_to(self):
+        points = grid(2, 2).points.copy()
+        mesh = quadq.Mesh.of_quads(points, grid(2, 2).quads)
+        mesh = replace(mesh, lines=(np.array([0, 1]),), point_fields={"heat": np.zeros(len(points))})
+        tables = mesh.points, mesh.corners, mesh.starts, mesh.lines[0], mesh.point_fields["heat"], mesh.edges.ends
+        for table in tables:
+            with self.assertRaises(ValueError):
+                table[0] = 1
+        points[0] = 1
+        self.assertEqual((mesh == mesh, mesh == mesh.changed(), len({mesh, mesh.changed()})), (True, False, 2))
+        self.assertIs(mesh.changed(notes=("new",)).edges, mesh.edges)
+
+    def test_refusals_and_reports_as_json(self):
+        told = json.loads(json.dumps(Refusal(7, "edge 1 2: faces 3 and 4", [2, 3], [0, 1]).as_json()))
+        self.assertEqual((told["status"], told["faces"], told["vertices"]), (7, [3, 4], [1, 2]))
+        self.assertIn("mend it", told["words"])
+        report = remesh(read(EXAMPLES / "letter_q.obj"), scale="1/2").report
+        told = json.loads(json.dumps(report.as_json(), allow_nan=False))
+        self.assertEqual((told["before"]["faces"], told["after"]["faces"], told["scale"]), (960, 240, "1/2"))
+        self.assertEqual([it["words"] for it in told["warnings"]], list(report.warnings))
 
 
 class Graphs(unittest.TestCase):

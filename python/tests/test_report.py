@@ -204,9 +204,9 @@ class Pages(unittest.TestCase):
         places = places_of(result, shown_of(result, Looks.of(result, program), program))
         self.assertTrue(set(mesh.quads[places["lines"].face]) & set(np.concatenate(mesh.lines)))
         torn = remesh(read_obj((EXAMPLES / "letter_q.obj").read_text()), scale="1/2")
-        moved_away = replace(torn, mesh=replace(torn.mesh, points=torn.mesh.points.copy()))
-        point = int(irregular_points(torn.mesh)[0][3])
-        moved_away.mesh.points[point] += [0, 0, 99]
+        point, points = int(irregular_points(torn.mesh)[0][3]), torn.mesh.points.copy()
+        points[point] += [0, 0, 99]
+        moved_away = replace(torn, mesh=replace(torn.mesh, points=points))
         told = moved_away.with_words("irregular", ["irregular points were lost or made"])
         place = places_of(told, shown_of(told, Looks.of(told, program), program))["irregular"]
         self.assertIn(point, torn.mesh.quads[place.face])
