@@ -17,14 +17,18 @@ NAME = re.compile(r"`(?:\w+::)*(\w+)`")
 IN_ITEMS = re.compile(r"((?:`\w+`(?:, | with )?)+), (?:in|by) \[|\(((?:`\w+`(?:, )?)+)\)")
 DEFINITION = re.compile(r"^(?:abbrev )?pub (?:record |data )?(\w+)\b", re.M)
 CODE = re.compile(
-    r"^ *(?:ghost |pub )*(?:const |unsafe |extern \S+ )*(?:fn|struct|enum|trait|const|type|mod) (\w+)", re.M)
+    r"^ *(?:ghost |pub(?:\(crate\))? )*(?:const |unsafe |extern \S+ )*(?:fn|struct|enum|trait|const|type|mod) (\w+)",
+    re.M,
+)
+LEMMA = re.compile(r"^ *pub (\w+) :", re.M)
 OF_STD = re.compile(r"Rattle\.std\w*\.[\w.]+\.\{([^}]*)\}")
 
 
 @functools.cache
 def names_of(file: pathlib.Path) -> set[str]:
-    """What a file of definitions or of code defines."""
-    return set((DEFINITION if file.suffix == ".antt" else CODE).findall(file.read_text()))
+    """What a file of definitions, of proofs or of code defines."""
+    kind = CODE if file.suffix == ".rt" else LEMMA if "proofs" in file.parts else DEFINITION
+    return set(kind.findall(file.read_text()))
 
 
 @functools.cache
