@@ -1,9 +1,8 @@
 //! A new mesh over a cut one, without its text.
 
 ghost use Rattle.std.specs.Prelude.{◌≡◌, ◌<◌, ◌≤◌, ◌*◌, ◌^◌, length, IfOk};
-ghost use Rattle.def_layout.specs.Layouts.{Way};
-ghost use Rattle.def_layout.specs.Lengths.{size, wide, high, AreLengths};
-ghost use Rattle.def_layout.specs.Plans.{layout_of, plan, way_number};
+ghost use Rattle.def_layout.specs.Lengths.{wide, high, AreLengths};
+ghost use Rattle.def_layout.specs.Plans.{layout_of, plan};
 ghost use Rattle.def_map.specs.Homes.{home_of};
 ghost use Rattle.def_map.specs.Laws.{IsSpot};
 ghost use Rattle.def_map.specs.Spots.{spot_at};
@@ -103,16 +102,6 @@ impl Regridded {
         ensures { result ≡ new_face (layout_of self.now.plan) (lengths_in self.now.lengths) f }
     {
         self.numbered().face(f)
-    }
-
-    /// The length of a side of a patch: 0 is south, 1 east, 2 north and 3 west.
-    pub fn side_length(&self, patch: usize, side: usize) -> u32
-        requires patch { patch < length self.now.plan.patches }
-        requires side { side < 4 }
-        ensures { (way : Way) → way_number way ≡ side
-            → result ≡ size (layout_of self.now.plan) (lengths_in self.now.lengths) patch way }
-    {
-        self.numbered().side_length(patch, side)
     }
 
     /// The number of grid point (i, j) of a patch. In constant time inside the patch, and logarithmic in the arcs of a

@@ -1,9 +1,8 @@
 //! A numbering of the points and faces of a layout with lengths.
 
 ghost use Rattle.std.specs.Prelude.{◌≡◌, ◌<◌, ◌≤◌, length};
-ghost use Rattle.def_layout.specs.Layouts.{Way};
-ghost use Rattle.def_layout.specs.Lengths.{size, wide, high};
-ghost use Rattle.def_layout.specs.Plans.{layout_of, plan, way_number, Plan};
+ghost use Rattle.def_layout.specs.Lengths.{wide, high};
+ghost use Rattle.def_layout.specs.Plans.{layout_of, plan, Plan};
 ghost use Rattle.def_written.specs.NewFaces.{face_count, new_face};
 ghost use Rattle.def_written.specs.Numbers.{vertex_number, vertices};
 ghost use Rattle.def_written.specs.Points.{point};
@@ -13,7 +12,7 @@ ghost use Rattle.def_remesh.specs.Numberings.{IsNumbering};
 use crate::face::face_of;
 use crate::numbered::Numbered;
 use crate::point::point_number;
-use crate::size::{last_of, size_at};
+use crate::size::last_of;
 use def_layout::TMesh;
 use def_remesh::Tables;
 use std::marker::Model;
@@ -80,16 +79,6 @@ impl Numbered<'_> {
             (lengths_in self.now.tables.now.lengths.items) f }
     {
         face_of(self, f)
-    }
-
-    /// The length of a side of a patch: 0 is south, 1 east, 2 north and 3 west.
-    pub fn side_length(&self, patch: usize, side: usize) -> u32
-        requires patch { patch < length self.now.t.now.patches.items }
-        requires side { side < 4 }
-        ensures { (way : Way) → way_number way ≡ side → result
-            ≡ size (layout_of (plan self.now.t.now)) (lengths_in self.now.tables.now.lengths.items) patch way }
-    {
-        size_at(self, patch, side)
     }
 
     /// The number of grid point (i, j) of a patch. In constant time inside the patch, and logarithmic in the arcs of a
