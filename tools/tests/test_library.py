@@ -125,7 +125,7 @@ class OverTheProcess(unittest.TestCase):
     def test_threads_do_not_disturb_each_other(self):
         tasks = [(words, file.read_bytes()) for words in LINES for file in EXAMPLES] * 2
         with concurrent.futures.ThreadPoolExecutor(8) as pool:
-            found = list(pool.map(lambda it: self.ran(*it, 1 << 20), tasks))
+            found = list(pool.map(lambda it: self.ran(*it, 1 << 21), tasks))
         for (words, text), (told, out, err) in zip(tasks, found):
             status, whole, line = by_process(words, text)
             self.assertEqual((told, out[:len(whole)], err[:len(line)]), ((status, len(whole), len(line)), whole, line))
