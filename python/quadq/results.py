@@ -151,7 +151,7 @@ class Report:
         return tuple(it.words for it in self.notices)
 
     def as_json(self) -> dict[str, Any]:
-        """All of it for `json.dumps`, by the names of its values, with the warnings; fractions and decimals as texts."""
+        """All of it for `json.dumps`, by the names of its values, with the warnings; fractions are texts."""
         return {**plain_of(asdict(self)), "warnings": [asdict(it) for it in self.notices]}
 
     def table(self) -> list[tuple[str, str, str]]:
