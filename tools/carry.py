@@ -27,8 +27,10 @@ from dataclasses import dataclass, field
 from typing import Iterator, Optional, Sequence, Union
 
 from carrying import DIGITS, Carried, Layer, Map, Surface, Value, carry, read_map, value_at
-from obj_text import NAMES, logical_lines, read_obj
+from obj_text import NAMES, logical_lines, name_line, read_obj
 
+LONG = 1e16
+"""Greater numbers have no digits behind the point."""
 BORDERS = slice(0, 3)
 """Those at whose borders `mark_features.py --groups` marks edges."""
 
@@ -94,13 +96,14 @@ def carried_over(old: Old, new: New, given: Map) -> Carried:
 
 
 def words_of(value: Value) -> str:
-    """Without zeros at the end of what is behind the point."""
-    return " ".join(f"{it:.{DIGITS}f}".rstrip("0").rstrip(".") if round(it, DIGITS) else "0" for it in value)
+    """Without zeros at the end of what is behind the point, and never longer than a decimal may be."""
+    return " ".join(repr(it) if abs(it) > LONG else
+                    f"{it:.{DIGITS}f}".rstrip("0").rstrip(".") if round(it, DIGITS) else "0" for it in value)
 
 
 def new_lines(old: Old, new: New, given: Map, carried: Carried) -> Iterator[str]:
     """The lines of the new mesh."""
-    yield from (f"mtllib {it}" for it in old.libraries)
+    yield from (name_line("mtllib", it) for it in old.libraries)
     extras = Layer(old.extras, list(old.corners))
     for place, spot in zip(new.places, given.spots):
         yield f"v {place} {words_of(value_at(spot, extras))}".rstrip()
@@ -118,7 +121,7 @@ def face_lines(old: Old, new: New, carried: Carried) -> Iterator[str]:
         for kind, name in zip(NAMES, old.names[home]):
             if now[kind] != name:
                 now[kind] = name
-                yield f"{kind} {name or ('off' if kind == 's' else '')}".rstrip()
+                yield name_line(kind, name or ("off" if kind == "s" else ""))
         yield "f " + " ".join(corners[4 * face:4 * face + 4])
 
 

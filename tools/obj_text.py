@@ -21,6 +21,8 @@ MAX_WORD = 64
 """The longest decimal."""
 FARTHEST = 999_999_999_999_999
 """The largest coordinate, in millionths."""
+LARGEST = 1e300
+"""The largest number that is kept of what the program passes over."""
 FAR = 1 << 64
 """Stands for any index that is larger."""
 NAMES = ("o", "g", "usemtl", "s")
@@ -104,6 +106,15 @@ def name_in(line: bytes) -> str:
     return b" ".join(words[:end]).decode("utf-8", "surrogateescape")
 
 
+def name_line(word: str, name: str) -> str:
+    """A line from which a name is read again. Where no line of OBJ has such a name, one that is like it."""
+    words = name.replace("\n", " ").replace("\t", " ").strip(" \r").split(" ")
+    words = [f"_{it}" if it == "#" or (at and it.startswith("#")) else it for at, it in enumerate(filter(None, words))]
+    line = " ".join([word, *words])
+    # A backslash at the end would join the next line to this one; a comment goes on nowhere.
+    return f"{line} #" if line.endswith("\\") and "#" not in line else line
+
+
 def end_of(text: bytes) -> bytes:
     """What has to stand behind a text so that what follows is a line of its own."""
     last = text[text.rfind(b"\n", 0, len(text) - 1) + 1:].rstrip(b"\n")
@@ -123,6 +134,11 @@ def is_decimal(word: bytes) -> bool:
     """Whether a word has the form of a decimal."""
     found = DECIMAL.fullmatch(word) if len(word) <= MAX_WORD else None
     return found is not None and bool(found[2] or found[3])
+
+
+def is_beyond(word: bytes) -> bool:
+    """Whether a decimal is larger than what is kept."""
+    return not abs(float(word)) <= LARGEST
 
 
 def millionths(word: bytes) -> int:
@@ -228,7 +244,7 @@ class _Reader:
         self.corners: list[list[Corner]] = []
         """As they stand in the text, but that indices below 0 are counted from the first line."""
         self.face_lines: list[int] = []
-        self.wrong_lines = 0
+        self.wrong_lines = self.wrong_numbers = 0
 
     def take(self, line: Line) -> None:
         if line.size > MAX_LINE:
@@ -240,8 +256,9 @@ class _Reader:
         elif kind == b"f":
             self.take_face(line.number, words[1:])
         elif kind in (b"vt", b"vn"):
-            is_told = 0 < len(words) <= 4 and all(map(is_decimal, words[1:]))
-            self.places[kind.decode()].append(tuple(map(float, words[1:])) if is_told and len(words) > 1 else None)
+            is_told = 1 < len(words) <= 4 and all(map(is_decimal, words[1:]))
+            self.places[kind.decode()].append(
+                tuple(map(float, words[1:])) if is_told and not any(map(is_beyond, words[1:])) else None)
         elif kind.decode("latin-1") in self.now:
             self.now[kind.decode()] = line.name
         elif kind == b"mtllib":
@@ -256,7 +273,8 @@ class _Reader:
             raise ObjError(SYNTAX, f"line {number}: not an OBJ line of this profile")
         if any(abs(millionths(it)) > FARTHEST for it in words[:3]):
             raise ObjError(RANGE, f"line {number}: number out of range")
-        self.obj.points.append(words)
+        self.wrong_numbers += sum(map(is_beyond, words[3:]))
+        self.obj.points.append(words[:3] + [b"0" if is_beyond(it) else it for it in words[3:]])
 
     def take_face(self, number: int, words: list[bytes]) -> None:
         if len(self.corners) == MAX_FACES:
@@ -300,8 +318,9 @@ class _Reader:
         errors = [ObjError(RANGE, f"line {self.face_lines[at]}: number out of range")
                   for at in sorted(set(range(len(self.corners))) - set(kept))]
         if errors:
-            self.corners, self.face_lines, self.obj.names = (
-                [some[at] for at in kept] for some in (self.corners, self.face_lines, self.obj.names))
+            self.corners = [self.corners[at] for at in kept]
+            self.face_lines = [self.face_lines[at] for at in kept]
+            self.obj.names = [self.obj.names[at] for at in kept]
         return errors
 
     def result(self) -> Obj:
@@ -316,7 +335,7 @@ class _Reader:
         known = [it for it in obj.lines if max(it) < len(obj.points)]
         self.wrong_lines += len(obj.lines) - len(known)
         obj.lines = known
-        obj.notes = notes_of(texture.missing, normal.missing, self.wrong_lines)
+        obj.notes = notes_of(texture.missing, normal.missing, self.wrong_lines, self.wrong_numbers)
         return obj
 
 
@@ -341,9 +360,11 @@ class Table:
         return found
 
 
-def notes_of(textures: int, normals: int, lines: int) -> list[str]:
-    """What was left out: corners that name no `vt` or `vn` line that could be read, and `l` lines."""
+def notes_of(textures: int, normals: int, lines: int, numbers: int = 0) -> list[str]:
+    """What was left out: corners that name no `vt` or `vn` line that could be read, `l` lines, and numbers behind the
+    places of points."""
     said = [(textures, "corners name vt lines that are not there, and have no texture coordinates"),
             (normals, "corners name vn lines that are not there, and have no normal"),
-            (lines, "l lines name no vertices that are there, and were left out")]
+            (lines, "l lines name no vertices that are there, and were left out"),
+            (numbers, "numbers behind the places of vertices are too large, and are 0")]
     return [f"{count} {words}" for count, words in said if count]

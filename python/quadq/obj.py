@@ -206,7 +206,8 @@ class Scan:
         if len(table) != count * (width + 1):
             raise Unlike
         table = table.reshape(count, width + 1)
-        if not np.all(np.isnan(table[:, width])) or not np.all(np.isfinite(table[:, :width])):
+        largest = carried("obj_text").LARGEST
+        if not np.all(np.isnan(table[:, width])) or not np.all(np.abs(table[:, :width]) <= largest):
             raise Unlike
         return table[:, :width]
 
@@ -314,7 +315,7 @@ def word_by_word(text: bytes) -> Mesh:
         _layer(obj.textures, table[:, 1]),
         _layer(obj.normals, table[:, 2]),
         {word: _names(column) for word, column in zip(tool.NAMES, columns) if any(column)},
-        np.nan_to_num(points[:, 3:]) if width > 3 else None,
+        points[:, 3:] if width > 3 else None,
         tuple(np.array(it, dtype=np.int64) for it in obj.lines),
         tuple(obj.libraries),
         notes=tuple(obj.notes),

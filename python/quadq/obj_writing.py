@@ -7,6 +7,7 @@ from typing import Iterator
 import numpy as np
 
 from .arrays import Array
+from .carried import carried
 from .mesh import NONE, Mesh
 
 AT_A_TIME = 4096
@@ -15,7 +16,7 @@ AT_A_TIME = 4096
 
 def write_obj(mesh: Mesh) -> str:
     """The mesh as OBJ text, in the order of its points and faces. What OBJ has no word for is left out."""
-    pieces = [f"mtllib {it}\n" for it in mesh.libraries]
+    pieces = [_name_line("mtllib", it) for it in mesh.libraries]
     pieces.append(number_lines("v", mesh.points if mesh.extra is None else np.hstack([mesh.points, mesh.extra])))
     if mesh.texture is not None:
         pieces.append(number_lines("vt", mesh.texture.values))
@@ -26,13 +27,24 @@ def write_obj(mesh: Mesh) -> str:
     return "".join(pieces)
 
 
+def _name_line(word: str, name: str) -> str:
+    return f"{carried('obj_text').name_line(word, name)}\n"
+
+
+def changed_names(mesh: Mesh) -> list[str]:
+    """The names that OBJ cannot have, and that are written as ones that are like them."""
+    tool = carried("obj_text")
+    names = {*mesh.libraries, *mesh.line_names, *(name for it in mesh.groups.values() for name in it.names)}
+    return sorted(it for it in names if tool.name_in(_name_line("g", it).encode("utf-8", "surrogateescape")[:-1]) != it)
+
+
 def _line_lines(mesh: Mesh) -> Iterator[str]:
     """The lines, and before those of each group its name."""
     now = ""
     for line, name in zip(mesh.lines, mesh.line_names or ("",) * len(mesh.lines)):
         if name != now:
             now = name
-            yield f"g {name}".rstrip() + "\n"
+            yield _name_line("g", name)
         yield "l " + " ".join(map(str, (line + 1).tolist())) + "\n"
 
 
@@ -72,7 +84,7 @@ def _face_lines(mesh: Mesh) -> Iterator[str]:
             name = it.names[it.of_face[first]]
             if now.get(word, "") != name:
                 now[word] = name
-                yield f"{word} {name}".rstrip() + "\n"
+                yield _name_line(word, name)
         if form:
             yield from _lines_of(form, table[first:last])
         else:

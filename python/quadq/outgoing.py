@@ -13,6 +13,7 @@ import numpy as np
 from .arrays import Array
 from .incoming import GEOMETRICAL, GROUP, PHYSICAL
 from .mesh import NONE, Mesh
+from .obj_writing import changed_names
 
 TYPES = {3: "triangle", 4: "quad"}
 ABAQUS = {"line": b"T3D2", "triangle": b"S3", "quad": b"S4"}
@@ -98,6 +99,9 @@ def lost_in(mesh: Mesh, suffix: str) -> Iterator[str]:
         yield f"{suffix} has no quads: each is written as two triangles"
     if suffix not in TAKES and mesh.groups:
         yield f"the names of groups are written as numbers in {suffix} files"
+    changed = changed_names(mesh) if suffix in ("", ".obj") else []
+    if changed:
+        yield f"names that OBJ cannot have are written as others that are like them: {', '.join(map(repr, changed))}"
     both = sorted(set(names) & set(_face_names(mesh))) if suffix == ".msh" else []
     if both:
         yield f"groups of edges with the name of one of faces are written with `.edges` behind it: {', '.join(both)}"

@@ -1,10 +1,13 @@
 """Reading and writing OBJ."""
 
+import pathlib
 import unittest
+from dataclasses import replace
 
 import numpy as np
 
-from quadq import FormatError, read_obj, write_obj
+from quadq import FormatError, Names, left_out, read_obj, write_obj
+from quadq.obj_writing import changed_names
 
 TEXT = """mtllib wood.mtl
 o board
@@ -70,6 +73,31 @@ class Obj(unittest.TestCase):
         self.assertEqual([mesh.groups["g"].names[it] for it in mesh.groups["g"].of_face], ["row 1", "row 0", "row 0"])
         self.assertEqual(mesh.extra.tolist(), [[0.0]] * 8 + [[1.0]])
         self.assertEqual(write_obj(mesh).count("g row"), 2)
+
+    def test_names_are_written_so_that_the_same_are_read(self):
+        square = "v 0 0 0\nv 1 0 0\nv 1 1 0\nv 0 1 0\nv 2 0 0\nv 2 1 0\n"
+        text = square + "mtllib a\\ # b\nusemtl a\\ # b\nf 1 2 3 4\ng a#b\\ #c\nf 2 5 6 3\n"
+        mesh = read_obj(text)
+        self.assertEqual((mesh.groups["usemtl"].names[1], mesh.groups["g"].names[1]), ("a\\", "a#b\\"))
+        again = read_obj(write_obj(mesh))
+        self.assertEqual((again.face_count, again.libraries), (2, ("a\\",)))
+        self.assertEqual({word: it.names for word, it in again.groups.items()},
+                         {word: it.names for word, it in mesh.groups.items()})
+        self.assertEqual(changed_names(mesh), [])
+        for name, written in (("a\nv 9 9 9", "a v 9 9 9"), ("x #y", "x _#y"), ("#", "_#"), ("a  b\t", "a b"),
+                              ("a\r", "a")):
+            other = replace(mesh, groups={"usemtl": Names(("", name), np.array([1, 1]))}, libraries=())
+            again = read_obj(write_obj(other))
+            self.assertEqual((again.groups["usemtl"].names[1], again.face_count, len(again.points)), (written, 2, 6))
+            self.assertEqual(changed_names(other), [name])
+            self.assertIn(repr(name), left_out(pathlib.Path("a.obj"), other)[0])
+
+    def test_numbers_that_are_too_large(self):
+        mesh = read_obj("v 0 0 0 1e400\nv 1 0 0 1e305\nv 1 1 0 1e200\nv 0 1 0 7\nvt 1e400 0\nvt 0 1\nvn 0 0 1e301\n"
+                        "f 1/1/1 2/2/1 3/2/1 4/2/1\n")
+        self.assertEqual((mesh.extra.tolist(), mesh.normal), ([[0.0], [0.0], [1e200], [7.0]], None))
+        self.assertEqual(mesh.texture.rows.tolist(), [-1, 0, 0, 0])
+        self.assertEqual([it.split()[0] for it in mesh.notes], ["1", "4", "2"])
 
     def test_nothing(self):
         mesh = read_obj("# an empty file\n")

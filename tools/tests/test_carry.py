@@ -9,7 +9,9 @@ import unittest
 
 ROOT = pathlib.Path(__file__).resolve().parents[2]
 sys.path.insert(0, str(ROOT / "tools"))
+import carry  # noqa: E402
 import carrying  # noqa: E402
+from obj_text import read_obj  # noqa: E402
 
 SCRIPT = ROOT / "tools/carry.py"
 REMEDY = "`mark_features.py --seams --groups` and `quadq crease` leave none"
@@ -235,6 +237,14 @@ class Carry(unittest.TestCase):
         text = carried(old, STRIP_NEW, STRIP_MAP)[0]
         names = [line for line in text.splitlines() if line.partition(" ")[0] in ("usemtl", "s")]
         self.assertEqual(names, ["usemtl left", "s 2", "usemtl right", "s off"])
+
+    def test_a_name_that_ends_in_a_backslash_swallows_no_line(self):
+        text = carried(STRIP.replace("usemtl left\n", "usemtl C:\\left\\ # here\n"), STRIP_NEW, STRIP_MAP)[0]
+        self.assertIn("\nusemtl C:\\left\\ #\n", text)
+        self.assertEqual(len(read_obj(text).faces), STRIP_NEW.count("\nf "))
+
+    def test_numbers_are_never_longer_than_decimals_may_be(self):
+        self.assertEqual(carry.words_of((1e100, -1e16, 0.5, 1e-9)), "1e+100 -10000000000000000 0.5 0")
 
     def test_files_that_do_not_belong_together(self):
         for there, wrong, told in (
