@@ -6,8 +6,12 @@ usage: tools/fuzz_texts.py [--count N] [--seed S] [--keep FOLDER] [MESH.obj..]
 The texts are those of python/tests/seeds and examples, or those that are named. Of each spoilt text
 
   the package has the vertices and faces that `quadq tidy` writes, or its status and its words, with the same line;
-  the readers of `obj_text.py` and of the package say the same, word by word and by tables;
-  a mesh of any polygons is read or refused, with --subdivide, and so are marked features and what is carried over;
+  the readers of `obj_text.py` and of the package say the same, word by word and by tables, and the reader that goes on
+  behind a line that is refused says the same first;
+  a mesh of any polygons is the one that stands there, or is refused at the line at which `obj_text.py` refuses it;
+  `quadq-check` has the program's status and words before any other;
+  what was read is written as a text in which the same stands, names and all;
+  marked features and what is carried over are read or refused;
   of one in ten the whole way ends with a mesh or a refusal.
 
 Anything else is named on standard error, with the text, which --keep writes into a folder; then the status is 1. It
@@ -33,20 +37,12 @@ import carry  # noqa: E402
 import mark_features  # noqa: E402
 import obj_text  # noqa: E402
 import quadq  # noqa: E402
-from quadq.obj import Unlike, scan  # noqa: E402
+from spoiling import spoilt  # noqa: E402
+from quadq.checking import check_text  # noqa: E402
+from quadq.obj import SURE, Unlike, scan  # noqa: E402
 from quadq.plain import canonical  # noqa: E402
 from quadq.reading import read_judged  # noqa: E402
 
-PIECES = [
-    b"#", b"\\\n", b"\\\r\n", b"\r\n", b"\r", b"\n", b"\t", b" ", b"/", b"//", b"/0", b"+", b"-", b".", b"e", b"E5",
-    b"1_0", b"nan", b"inf", b"\x0b", b"\x0c", b"\x1c", b"\x85", b"\xc2\xa0", b"\xd9\xa1", b"\xe2\x80\xa8", b"\0", b"0",
-    b"1", b"9", b"-1", b"18446744073709551615", b"-9223372036854775809", b"4294967297", b"1e400", b"1e-400",
-    b"0e999999",
-    b"999999999.9999995", b"-999999999.9999994", b"0.0000005", b"v ", b"f ", b"vt 0 0\n", b"vn 0 0 1\n", b"l 1 2\n",
-    b"v 1 1\n", b"v 1 1 1\n", b"f 1 2 3\n", b"f 1/1 2/2 3/3 4/4\n", b"f -4 -3 -2 -1\n", b"usemtl a#b\n", b"g\n",
-    b"s off\n", b"# C:\\models\\\n", b"\xef\xbb\xbf", b"\xff\xfe", b"x" * 70, b"0" * 65, b" " * 65_536,
-    b"#" * 65_530,
-]
 WHOLE_WAY = 10
 """Of so many texts one goes the whole way."""
 STARTS = (b"\xef\xbb\xbf", b"\xff\xfe", b"\xfe\xff", b"\0")
@@ -70,26 +66,6 @@ class Remembering(quadq.Program):
         if isinstance(found, quadq.Refusal):
             raise quadq.Refusal(found.status, found.line)
         return found
-
-
-def spoilt(text: bytes, rng: random.Random) -> bytes:
-    """A text with one to four changes."""
-    data = bytearray(text)
-    for _ in range(rng.randint(1, 4)):
-        at, way = rng.randrange(len(data) + 1), rng.random()
-        if way < 0.5:
-            data[at:at] = rng.choice(PIECES)
-        elif way < 0.7:
-            data[at:at + rng.randint(1, 5)] = rng.choice(PIECES)
-        elif way < 0.85:
-            del data[at:at + rng.randint(1, 8)]
-        elif way < 0.93 and data:
-            data[at % len(data)] = rng.randrange(256)
-        else:
-            lines = bytes(data).split(b"\n")
-            lines.insert(rng.randrange(len(lines)), rng.choice(lines))
-            data = bytearray(b"\n".join(lines))
-    return bytes(data)
 
 
 def of_program(text: bytes, program: quadq.Program) -> Answer:
@@ -126,7 +102,54 @@ def faults_of(text: bytes, program: quadq.Program) -> Iterator[str]:
     own = of_script(text, polygons=False)
     if isinstance(own, tuple) != (wanted[0] not in (0, 7)) or (isinstance(own, tuple) and own != wanted):
         yield f"the program answers {str(wanted)[:200]}, and obj_text.py {str(own)[:200]}"
-    yield from differences(of_script(text, polygons=True), text)
+    every = of_script(text, polygons=True)
+    yield from differences(every, text)
+    yield from of_survey(every, text)
+    yield from of_polygons(every, text, program)
+    yield from of_check(wanted, text, program)
+
+
+def of_survey(own: Union[tuple[int, str], obj_text.Obj], text: bytes) -> Iterator[str]:
+    """Where the reader that goes on behind a line that is refused differs from the one that does not."""
+    found = obj_text.survey(text)
+    said = [(it.status, it.line) for it in found.errors]
+    if said[:1] != ([own] if isinstance(own, tuple) else []):
+        yield f"obj_text.py says {str(own)[:200]}, and its survey {said[:1]}"
+    if len(found.obj.faces) != len(found.face_lines):
+        yield "the survey has other faces than lines of faces"
+
+
+def of_polygons(own: Union[tuple[int, str], obj_text.Obj], text: bytes, program: quadq.Program) -> Iterator[str]:
+    """Where a mesh of polygons is another than the one that stands there, or refused at another place."""
+    try:
+        mesh = read_judged(text, program, polygons=True)
+    except quadq.Refusal as said:
+        is_of_lines = said.status in (3, 5, 6) and not text.startswith(STARTS)
+        if is_of_lines and own != (said.status, said.line):
+            yield f"obj_text.py says {str(own)[:200]}, and of polygons the package {said.status} {said.line}"
+        return
+    if isinstance(own, tuple):
+        yield f"obj_text.py says {str(own)[:200]}, and of polygons the package nothing"
+    elif mesh.face_count:
+        used = np.unique([it.vertex for face in own.faces for it in face])
+        number = {int(it): at for at, it in enumerate(used)}
+        faces = [[number[it.vertex] for it in face] for face in own.faces]
+        numbers = np.searchsorted(mesh.used, mesh.corners)
+        if faces != [it.tolist() for it in np.split(numbers, mesh.starts[1:-1])]:
+            yield "of polygons the package has other faces than obj_text.py"
+
+
+def of_check(wanted: Answer, text: bytes, program: quadq.Program) -> Iterator[str]:
+    """Where `quadq-check` says another thing than the program."""
+    try:
+        found = check_text(pathlib.Path("text.obj"), text, program)
+    except quadq.Refusal as said:
+        if said.line != "no faces" and not text.startswith(STARTS):
+            yield f"quadq-check refuses: {said.status} {said.line}"
+        return
+    first = (found.faults[0].status, found.faults[0].words) if found.faults else 0
+    if first != (wanted[:2] if wanted[0] else 0) or (not first and found.faces != len(wanted[-1])):
+        yield f"the program answers {str(wanted)[:200]}, and quadq-check {str(first)[:200]}"
 
 
 def near(wanted: Answer, found: Answer) -> bool:
@@ -154,6 +177,10 @@ def differences(own: Union[tuple[int, str], obj_text.Obj], text: bytes) -> Itera
     for name, it in meshes:
         if told(it) != told_of(own):
             yield f"{name} and obj_text.py differ: {told(it)} and {told_of(own)}"
+    # A place at the border of what is in range may be beyond it as a floating-point number.
+    again = quadq.read_obj(quadq.write_obj(mesh)) if np.all(np.abs(mesh.points) < SURE) else mesh
+    if told(again)[:-1] != told(mesh)[:-1]:
+        yield f"what is written again differs: {told(again)} and {told(mesh)}"
 
 
 def told(mesh: quadq.Mesh) -> list[object]:

@@ -147,12 +147,13 @@ def check_file(path: Path, program: Program) -> Checked:
             return Checked(path, mesh.face_count, tuple(faults[:MOST]), max(len(faults) - MOST, 0))
         if not path.is_file():
             raise Refusal(READ_FAULT, f"read fault: {path}: " + ("no such file" if not path.exists() else "no file"))
-        return _check_text(path, read_whole(path), program)
+        return check_text(path, read_whole(path, carried("obj_text").MAX_BYTES), program)
     except Refusal as said:
         return Checked(path, 0, (Fault(said.status, said.line, _line_in(said.line), said.faces, said.vertices),))
 
 
-def _check_text(path: Path, text: bytes, program: Program) -> Checked:
+def check_text(path: Path, text: bytes, program: Program) -> Checked:
+    """What is found of the text of a file. Raises a `Refusal` where it is no text, or has no faces."""
     refuse_other_texts(text)
     try:
         tidied = program.tidy(text)

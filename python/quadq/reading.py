@@ -152,7 +152,8 @@ def in_fours(text: bytes) -> tuple[bytes, list[int]]:
         if line.size > tool.MAX_LINE:
             some = [b"#" * line.size]
         elif words[:1] == [b"f"] and len(words) > 3 and len(words) != 5:
-            corners = words[1:] + [words[-1]] * (-(len(words) - 1) % 4)
+            # The first point is there where any is, and a long word again would make the line too long.
+            corners = words[1:] + [b"1"] * (-(len(words) - 1) % 4)
             some = [b"f " + b" ".join(corners[at:at + 4]) for at in range(0, len(corners), 4)]
         lines += some
         numbers += [line.number] * len(some)

@@ -145,6 +145,12 @@ class Polygons(unittest.TestCase):
         fours, numbers = in_fours(b"v 0 0 0\n\nf 1 2 3 4 5 6 7\\\n 8 9\nf 1 2 3 4\n")
         self.assertEqual((fours.count(b"f "), numbers), (4, [1, 2, 3, 3, 3, 5]))
 
+    def test_a_corner_that_is_a_long_word(self):
+        text = self.BOOK + "f 1 2 3 4 " + "0" * 60_000 + "5\n"
+        self.assertEqual(read_judged(text.encode(), Program(), polygons=True).sides.tolist(), [5])
+        said = refusal_of(self.BOOK + "f 1 2 3 4 " + "9" * 60_000 + "\n", polygons=True)
+        self.assertEqual((said.status, said.line), (5, "line 8: number out of range"))
+
     def test_refusals_name_old_faces(self):
         turned = self.BOOK + "f 1 2 3 4\nf 2 3 6 5\nf 4 3 7\n"
         for text, words, faces in (
