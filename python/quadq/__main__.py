@@ -3,9 +3,10 @@
 from __future__ import annotations
 
 import argparse
+import contextlib
 import os
 import sys
-from fractions import Fraction
+import traceback
 from pathlib import Path
 from typing import Callable, Iterator, NamedTuple, Optional, Sequence
 
@@ -14,18 +15,22 @@ from .blocks_command import parser_of_blocks, write_asked
 from .check_command import check_asked, parser_of_check
 from .errors import WishError
 from .features import KINDS
-from .files import remove_stale, write_whole
+from .files import nothing_stale, refuse_closed, write_whole
 from .formats import FORMS, refuse_format
+from .inputs import refuse_kept_clashes, refuse_overwriting
 from .jobs import one_file
 from .levels import level_files, path_of, shares_of
 from .program import Program, find_program
 from .progress import NAME, Progress
-from .refusal import READ_FAULT, WRITE_FAULT, Refusal
+from .refusal import MEMORY, READ_FAULT, STRANGE, WRITE_FAULT, Refusal
 from .report import refused_page, result_page
 from .results import Report, Result
 from .rows import Row, summary_of
+from .running import refuse_time
 from .settings import MODES, SYMMETRIES, Settings, as_length
+
 from .stopping import Stopped, stopped_by_signals
+from .streams import beside, close_output, open_streams
 from .version import VERSION, version_lines
 
 USAGE = 2
@@ -48,7 +53,7 @@ def parser_of_words() -> argparse.ArgumentParser:
               f"       {NAME} FILES AND FOLDERS.. --out FOLDER (..) [..]")
     parser.add_argument("paths", nargs="+", metavar="FILE", help="IN and OUT; with --out files and folders")
     wish = parser.add_mutually_exclusive_group(required=True)
-    wish.add_argument("--scale", type=Fraction, metavar="P/Q", help="how long edges of patches are to be, of the old")
+    wish.add_argument("--scale", metavar="P/Q", help="how long edges of patches are to be, of the old")
     wish.add_argument("--faces", type=int, metavar="N", help="how many faces the mesh is to have")
     wish.add_argument("--edge", metavar="D", help="how long edges are to be, in the unit of the file")
     wish.add_argument("--lods", metavar="P/Q,P/Q", help="a file for each part of the faces: OUT.lod1.obj and so on")
@@ -119,46 +124,66 @@ class TellVersion(argparse.Action):
 
 def main(words: Optional[Sequence[str]] = None) -> int:
     """Does what the words of a command line ask, and returns the exit status."""
+    open_streams()
     given = sys.argv[1:] if words is None else [*words]
     command = COMMANDS.get(given[0]) if given and not os.path.exists(given[0]) else None
     asked = parser_of_words().parse_args(given) if command is None else command.parser().parse_args(given[1:])
     try:
+        status, said = _ended(asked, command)
+        if said:
+            print(f"{NAME}: {said}", file=sys.stderr)
+        return status
+    except OSError as error:
+        # Files are read and written through `files`: this is what is said.
+        close_output()
+        if not isinstance(error, BrokenPipeError):
+            with contextlib.suppress(OSError):
+                print(f"{NAME}: write fault: standard output: {error.strerror}", file=sys.stderr)
+        return WRITE_FAULT
+
+
+def _ended(asked: argparse.Namespace, command: Optional[Command]) -> tuple[int, str]:
+    """The exit status, and why it is not that of success, as far as that was not said."""
+    try:
+        if command is None:
+            refuse_time(asked.timeout)
         with stopped_by_signals(None if command is not None or asked.out else asked.timeout):
             status = _done(asked) if command is None else command.done(asked)
             sys.stdout.flush()
-            return status
+            return status, ""
     except Stopped as stopped:
-        print(f"{NAME}: {stopped.words}", file=sys.stderr)
-        return stopped.status
+        return stopped.status, stopped.words
     except Refusal as said:
-        print(f"{NAME}: {said}", file=sys.stderr)
-        return said.status
-    except BrokenPipeError:
-        # Nobody reads what is said any more. What is left of it would fail again at the end.
-        os.dup2(os.open(os.devnull, os.O_WRONLY), sys.stdout.fileno())
-        return WRITE_FAULT
+        return said.status, str(said)
+    except MemoryError:
+        return MEMORY, "out of memory"
     except (ValueError, FileNotFoundError) as error:
-        print(f"{NAME}: {error}", file=sys.stderr)
-        return USAGE
+        return USAGE, str(error)
+    except OSError:
+        raise
+    except Exception as error:
+        last = traceback.extract_tb(error.__traceback__)[-1]
+        place = f"{os.path.basename(last.filename)}, line {last.lineno}"
+        return STRANGE, f"this package failed: {type(error).__name__}: {error} ({place}): please report this file"
 
 
 def _done(asked: argparse.Namespace) -> int:
     program = Program()
     settings = settings_of(asked)
     refuse_missing(settings, program)
-    if asked.timeout is not None and not asked.timeout > 0:
-        raise WishError("the time is a number of seconds above 0")
     if asked.out is None:
         if len(asked.paths) != 2:
             raise WishError("two files are needed, IN and OUT, or --out FOLDER")
         if asked.log or asked.resume or asked.table or asked.recursive or asked.pattern:
             raise WishError("--log, --resume, --table, --recursive and --pattern go with --out FOLDER")
-        return _single(asked, settings, program)
+        with beside([Path(asked.paths[1]), asked.report]):
+            return _single(asked, settings, program)
     if asked.lods:
         raise WishError("--lods goes with two files, IN and OUT")
     if asked.report is not None and asked.report.suffix.lower() in (".html", ".htm"):
         raise WishError("with --out the reports are a page for each file: --report FOLDER")
-    return _batch(asked, settings, program)
+    with beside([asked.log, asked.table]):
+        return _batch(asked, settings, program)
 
 
 def settings_of(asked: argparse.Namespace) -> Settings:
@@ -183,28 +208,43 @@ def refuse_missing(settings: Settings, program: Program) -> None:
 def _single(asked: argparse.Namespace, settings: Settings, program: Program) -> int:
     source, out = map(Path, asked.paths)
     refuse_format(out, settings.form)
+    pages = _refuse_clashes(asked, source, out, settings)
     progress = Progress(is_quiet=asked.quiet)
     told: list[tuple[Path, Report]] = []
     try:
-        for level, (path, result) in enumerate(_results(asked, source, out, settings, program, progress), 1):
-            told.append((path, result.report))
-            if asked.report is not None:
-                progress.tell("drawing pictures", 0, 1)
-                page = path_of(asked.report, level) if asked.lods else asked.report
-                write_whole(page, result_page(source.name, result, program, asked.up).encode())
+        with nothing_stale(pages, source):
+            for path, result in _results(asked, source, out, settings, program, progress):
+                told.append((path, result.report))
+                if pages:
+                    progress.tell("drawing pictures", 0, 1)
+                    write_whole(pages[0], result_page(source.name, result, program, asked.up).encode())
+                    pages.pop(0)
     except Refusal as said:
-        if asked.report is not None:
-            _report_refusal(asked, source, said)
-        raise
-    except Stopped:
-        if not asked.lods:
-            remove_stale(out, source)
+        # Of files that cannot be read or written there is no page.
+        if asked.report is not None and said.status not in (READ_FAULT, WRITE_FAULT):
+            write_whole(asked.report, refused_page(source, said, asked.up).encode())
         raise
     finally:
         progress.end()
         for path, report in told:
             _say(path if asked.lods else None, report, asked.quiet)
     return 0
+
+
+def _refuse_clashes(asked: argparse.Namespace, source: Path, out: Path, settings: Settings) -> list[Path]:
+    """Refuses what would be written over something else, or in vain; a file may be replaced by its remesh. Returns
+    where pages go."""
+    levels = range(1, len(shares_of(asked.lods)) + 1) if asked.lods else range(0)
+    outs = [path_of(out, it) for it in levels] or [out]
+    pages = [] if asked.report is None else [path_of(asked.report, it) for it in levels] or [asked.report]
+    is_in_place = outs == [out] and os.path.realpath(out) == os.path.realpath(source)
+    read = [*([] if is_in_place else [source]), *settings.files]
+    refuse_overwriting(read, [*(("OUT", it) for it in outs), *(("--report", it) for it in pages)])
+    if settings.folder is not None:
+        refuse_kept_clashes([settings.folder], [source, *settings.files, *outs, *pages])
+    for it in (*outs, *pages):
+        refuse_closed(it)
+    return pages
 
 
 def _results(
@@ -228,14 +268,6 @@ def _say(path: Optional[Path], report: Report, is_quiet: bool) -> None:
             print(f"{label:<34}{before:>12}{after:>14}")
     for warning in report.warnings:
         print(f"{NAME}: warning: {warning}", file=sys.stderr)
-
-
-def _report_refusal(asked: argparse.Namespace, source: Path, said: Refusal) -> None:
-    """Writes the page of a refusal; of files that cannot be read or written there is none, not even an old one."""
-    if said.status in (READ_FAULT, WRITE_FAULT):
-        remove_stale(asked.report, source)
-    else:
-        write_whole(asked.report, refused_page(source, said, asked.up).encode())
 
 
 def _batch(asked: argparse.Namespace, settings: Settings, program: Program) -> int:

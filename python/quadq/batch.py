@@ -11,15 +11,15 @@ from pathlib import Path
 from typing import Callable, Generator, Iterable, Optional, Sequence, Union
 
 from .errors import WishError
-from .files import read_whole, remove_stale, write_whole
+from .files import checksum_of, refuse_closed, remove_stale, write_whole
 from .index import Index, page_for
-from .inputs import Input, inputs_of, refuse_clashes, refuse_page_clashes
-from .jobs import Job, checksum, done
+from .inputs import Input, inputs_of, refuse_clashes, refuse_kept_clashes, refuse_overwriting, refuse_page_clashes
+from .jobs import Job, done
 from .logs import Log, read_log
 from .program import Program
 from .refusal import STRANGE, Refusal
-from .rows import Row, settings_in_words, table_of, unreached
-from .running import stop_all
+from .rows import Row, table_of, unreached
+from .running import refuse_time, stop_all
 from .settings import Settings
 from .stopping import Stopped
 from .workers import Workers
@@ -66,23 +66,41 @@ def remesh_files(
     """
     given = [files] if isinstance(files, (str, os.PathLike)) else list(files)
     folder = Path(out)
-    inputs = inputs_of([Path(it) for it in given], pattern, recursive)
-    refuse_clashes(inputs, folder)
-    if books.resume and books.log is None:
-        raise WishError("to go on where an earlier run has stopped, its log is needed")
+    inputs = inputs_of([Path(it) for it in given], pattern, recursive, folder)
+    refuse_time(timeout)
+    _refuse_clashes(inputs, folder, settings, books)
     runner = Program() if program is None else program
-    digest = checksum(read_whole(runner.path))
-    jobs = [_job_of(it, folder, settings, runner, digest, timeout) for it in inputs]
+    digest = checksum_of(runner.path)
+    named = tuple((str(it), checksum_of(it)) for it in settings.files)
+    jobs = [replace(_job_of(it, folder, settings, runner, digest, timeout), files=named) for it in inputs]
     if books.report is not None:
         refuse_page_clashes([it.path for it in inputs], books.report, folder)
         jobs = [replace(it, page=page_for(it.target, folder, books.report), up=books.up) for it in jobs]
     return _Batch(jobs, books, executor, say).rows()
 
 
+def _refuse_clashes(inputs: Sequence[Input], folder: Path, settings: Settings, books: Books) -> None:
+    """Refuses what would be written over something else, or in vain."""
+    refuse_clashes(inputs, folder)
+    if books.resume and (books.log is None or (books.log.exists() and not books.log.is_file())):
+        raise WishError("to go on where an earlier run has stopped, its log is needed, as a file")
+    named = [(name, path) for name, path in (("--log", books.log), ("--table", books.table)) if path is not None]
+    read, targets = [*(it.path for it in inputs), *settings.files], [it.target(folder) for it in inputs]
+    refuse_overwriting([*read, *targets], named)
+    refuse_kept_clashes([kept for it in inputs if (kept := _kept_in(settings, it)) is not None],
+                        [*read, *targets, *(path for _, path in named)])
+    if books.table is not None:
+        refuse_closed(books.table)
+
+
+def _kept_in(settings: Settings, it: Input) -> Optional[Path]:
+    return None if settings.folder is None else settings.folder / it.below
+
+
 def _job_of(
     it: Input, folder: Path, settings: Settings, program: Program, digest: str, timeout: Optional[float]
 ) -> Job:
-    own = settings if settings.folder is None else replace(settings, folder=settings.folder / it.below)
+    own = replace(settings, folder=_kept_in(settings, it))
     return Job(it.path, it.target(folder), own, program.path, digest, timeout)
 
 
@@ -102,8 +120,8 @@ class _Batch:
         log, is_whole = None, False
         index = self.index = None if self.books.report is None else Index(self.books.report, "A batch of quadq")
         try:
-            self._take_over()
             log = Log(self.books.log, is_new=not self.books.resume) if self.books.log is not None else None
+            self._take_over()
             waiting = [it for it in self.jobs if it.source not in self.found]
             with contextlib.closing(self._ended(waiting)) as ended:
                 for job, row in ended:
@@ -173,16 +191,17 @@ def _by_executor(executor: Executor, jobs: Sequence[Job]) -> Generator[tuple[Job
 
 def _still_holds(row: Row, job: Job) -> bool:
     """Whether a row is of the same file, settings and program, and what it says to be there is there."""
-    if (row.settings, row.program, row.target) != (settings_in_words(job.settings), job.digest, str(job.target)):
+    if (row.settings, row.program, row.target) != (job.settings_in_words(), job.digest, str(job.target)):
         return False
     if job.page is not None and not job.page.exists():
         return False
     try:
-        if row.read != checksum(read_whole(job.source)):
+        if row.read != checksum_of(job.source):
             return False
         is_there = job.target.exists()
         if row.is_good:
-            return is_there and row.written == checksum(read_whole(job.target))
+            are_kept = job.settings.folder is None or (job.settings.folder / "part-1.remeshed.obj").exists()
+            return is_there and are_kept and row.written == checksum_of(job.target)
     except Refusal:
         return False
     return row.status in FINAL and not is_there

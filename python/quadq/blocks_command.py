@@ -8,11 +8,11 @@ from pathlib import Path
 
 from .block_files import write_blocks
 from .blocks import blocks
-from .files import remove_stale
+from .files import nothing_stale
 from .formats import read_file
 from .graphs import CUTS, KEPT
+from .inputs import refuse_overwriting
 from .program import Program
-from .refusal import Refusal
 
 NAME = "quadq blocks"
 
@@ -32,16 +32,13 @@ def parser_of_blocks() -> argparse.ArgumentParser:
 
 
 def write_asked(asked: argparse.Namespace) -> int:
-    """Does what the words ask, and returns the exit status. Raises a `Refusal`; then no file of an earlier run is left.
-    """
+    """Does what the words ask, and returns the exit status. Where that fails, no file of an earlier run is left."""
     program = Program()
-    try:
+    refuse_overwriting([asked.source], [("OUT", asked.target)])
+    with nothing_stale([asked.target], asked.source):
         mesh, _ = read_file(asked.source, program)
         found = blocks(mesh, asked.by, keep=asked.keep, patches=asked.patches, program=program)
         said = write_blocks(asked.target, found, asked.thickness)
-    except Refusal:
-        remove_stale(asked.target, asked.source)
-        raise
     if not asked.quiet:
         print(f"{len(found)} blocks, {sum(it.wide * it.high for it in found)} faces, "
               f"{sum(1 for _ in found.joins())} joins; walls: {', '.join(found.names) or 'none'}")

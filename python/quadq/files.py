@@ -3,32 +3,69 @@
 A file is written under no name first, or under another one where the folder knows no such files, and takes its name
 when it is whole and on the disk: at any moment there is the old file or the new one, and nothing else. Links are
 resolved, and the file that is replaced keeps its mode. What is no regular file, such as a device or a pipe, is written
-through.
+through; what is open already, as `/dev/stdout`, is written where it stands.
 """
 
 from __future__ import annotations
 
+import contextlib
 import errno
+import hashlib
 import os
+import re
 import stat
+from io import FileIO
 from pathlib import Path
-from typing import Callable, Optional
+from typing import Callable, Iterator, Optional, Sequence
 
-from .refusal import READ_FAULT, WRITE_FAULT, Refusal
+from .refusal import LIMIT, READ_FAULT, WRITE_FAULT, Refusal
 
 STREAMS = ("/dev/fd/", "/proc/")
 """What lies there is open already, and is written through even where it is a file."""
-HELD = {"/dev/stdout", "/dev/stderr", "/dev/stdin"}
+HELD = {"/dev/stdin": 0, "/dev/stdout": 1, "/dev/stderr": 2}
+OWN = re.compile(r"/(?:dev|proc/self)/fd/(\d{1,9})")
+"""What this process holds open, by its number."""
+PIECE = 1 << 24
+"""So many bytes are read at a time of what may have no end."""
 NO_SUCH_FILES = (errno.EOPNOTSUPP, errno.EISDIR, errno.EINVAL, errno.ENOENT, errno.ENOSYS)
 """What a folder answers that knows no files without a name."""
 
 
-def read_whole(path: Path) -> bytes:
-    """What stands in a file. Raises a `Refusal` where it cannot be read."""
+def read_whole(path: Path, most: Optional[int] = None) -> bytes:
+    """What stands in a file. Raises a `Refusal` where it cannot be read, and that of the program where it has more than
+    so many bytes: a device may have no end."""
     try:
-        return path.read_bytes()
+        with open(path, "rb", buffering=0) as file:
+            found = os.fstat(file.fileno())
+            if most is None or (stat.S_ISREG(found.st_mode) and found.st_size <= most):
+                text = file.readall()
+            elif stat.S_ISREG(found.st_mode):
+                raise Refusal(LIMIT, "limit: bytes")
+            else:
+                text = b"".join(_pieces(file, most + 1))
     except OSError as error:
         raise Refusal(READ_FAULT, f"read fault: {path}: {error.strerror}") from error
+    if most is not None and len(text) > most:
+        raise Refusal(LIMIT, "limit: bytes")
+    return text
+
+
+def _pieces(file: FileIO, most: int) -> Iterator[bytes]:
+    while most > 0 and (some := file.read(min(PIECE, most))):
+        most -= len(some)
+        yield some
+
+
+def checksum_of(path: Path) -> str:
+    """The SHA-256 of what stands in a file. Raises a `Refusal` where it cannot be read."""
+    found = hashlib.sha256()
+    try:
+        with open(path, "rb", buffering=0) as file:
+            while some := file.read(PIECE):
+                found.update(some)
+    except OSError as error:
+        raise Refusal(READ_FAULT, f"read fault: {path}: {error.strerror}") from error
+    return found.hexdigest()
 
 
 def write_whole(path: Path, data: bytes, is_hasty: bool = False) -> None:
@@ -38,9 +75,34 @@ def write_whole(path: Path, data: bytes, is_hasty: bool = False) -> None:
         if is_through(path):
             _write_through(path, data)
         else:
-            _replace(Path(os.path.realpath(path)), data, is_hasty)
+            _replace(_behind_links(path), data, is_hasty)
     except OSError as error:
         raise Refusal(WRITE_FAULT, f"write fault: {path}: {error.strerror}") from error
+
+
+def refuse_closed(path: Path) -> None:
+    """Raises a `Refusal` where it is plain before the work that a file cannot be written there."""
+    try:
+        number = 0
+        if path.is_dir():
+            number = errno.EISDIR
+        elif not is_through(path):
+            folder = _behind_links(path).parent
+            os.close(os.open(folder, os.O_RDONLY | os.O_DIRECTORY))
+            if not os.access(folder, os.W_OK | os.X_OK):
+                number = errno.EROFS if os.statvfs(folder).f_flag & os.ST_RDONLY else errno.EACCES
+        if number:
+            raise OSError(number, os.strerror(number))
+    except OSError as error:
+        raise Refusal(WRITE_FAULT, f"write fault: {path}: {error.strerror}") from error
+
+
+def _behind_links(path: Path) -> Path:
+    """The path of what is written, where a path may be a link. Raises an `OSError` where links lead in a circle."""
+    place = os.path.realpath(path)
+    if os.path.islink(place):
+        raise OSError(errno.ELOOP, os.strerror(errno.ELOOP))
+    return Path(place)
 
 
 def make_folder(path: Path) -> None:
@@ -71,6 +133,23 @@ def remove_stale(path: Path, source: Optional[Path] = None) -> None:
         raise Refusal(WRITE_FAULT, f"write fault: {path} is of an earlier run: {error.strerror}") from error
 
 
+@contextlib.contextmanager
+def nothing_stale(paths: Sequence[Path], source: Path) -> Iterator[None]:
+    """Where what is done within fails, no file of an earlier run is left at those of these paths that are there then.
+    """
+    try:
+        yield
+    except BaseException as error:
+        for path in [*paths]:
+            try:
+                remove_stale(path, source)
+            except Refusal as other:
+                if isinstance(error, Refusal):
+                    raise Refusal(error.status, f"{error.line} ({other.line})", error.faces, error.vertices) from other
+                raise other from error
+        raise
+
+
 def is_same(one: Path, other: Path) -> bool:
     """Whether two paths lead to one file."""
     try:
@@ -90,7 +169,19 @@ def is_through(path: Path) -> bool:
         return False
 
 
+def held_number(path: Path) -> Optional[int]:
+    """By which number this process holds open what a path names, if the path says so."""
+    text = os.fspath(path)
+    found = OWN.fullmatch(text)
+    return HELD[text] if text in HELD else int(found[1]) if found is not None else None
+
+
 def _write_through(path: Path, data: bytes) -> None:
+    number = held_number(path)
+    if number is not None:
+        # To open it again would begin at its first byte, and cut off what others have written.
+        _write_all(number, data)
+        return
     with open(path, "wb", buffering=0) as file:
         _write_all(file.fileno(), data)
 

@@ -11,6 +11,7 @@ from urllib.parse import unquote
 
 import numpy as np
 
+from .carried import carried
 from .errors import WishError
 from .files import read_whole
 from .gmsh_entities import by_entities
@@ -41,7 +42,7 @@ def read_file(path: Path, program: Program, polygons: bool = False) -> tuple[Mes
     """
     suffix = path.suffix.lower()
     if suffix in ("", ".obj"):
-        text = read_whole(path)
+        text = read_whole(path, carried("obj_text").MAX_BYTES)
         return read_judged(text, program, polygons), text
     if suffix == ".off":
         return read_off(read_whole(path), path.name), None
@@ -50,8 +51,11 @@ def read_file(path: Path, program: Program, polygons: bool = False) -> tuple[Mes
 
 
 def _refuse_closed(path: Path) -> None:
-    """Raises a `Refusal` where a file cannot be opened, of which meshio would say something else."""
+    """Raises a `Refusal` where a file cannot be opened, of which meshio would say something else, or cannot be read
+    twice."""
     try:
+        if path.exists() and not path.is_file():
+            raise OSError(0, "no regular file")
         with open(path, "rb"):
             pass
     except OSError as error:

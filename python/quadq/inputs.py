@@ -1,13 +1,15 @@
-"""The files of a batch, and where each remesh goes."""
+"""The files of a batch, where each remesh goes, and what would be written over something else."""
 
 from __future__ import annotations
 
 import fnmatch
 import os
 from pathlib import Path
-from typing import Iterator, NamedTuple, Optional, Sequence
+from typing import Iterable, Iterator, NamedTuple, Optional, Sequence
 
 from .errors import WishError
+from .files import is_through
+from .parts import KEPT
 
 
 class Input(NamedTuple):
@@ -23,25 +25,28 @@ class Input(NamedTuple):
         return out / self.below.parent / f"{stem}.obj"
 
 
-def inputs_of(paths: Sequence[Path], pattern: Optional[str] = None, is_recursive: bool = False) -> list[Input]:
+def inputs_of(
+    paths: Sequence[Path], pattern: Optional[str] = None, is_recursive: bool = False, out: Optional[Path] = None
+) -> list[Input]:
     """The files that these paths are, and those of folders among them, each once. Names are taken as they are.
 
     Of a folder come the regular files whose names a pattern matches, or which end in `.obj`, in the order of their
-    names.
+    names; of the folders below it not `out`, which has what an earlier run wrote.
     """
     found: dict[Path, Input] = {}
     for path in paths:
-        if path.is_dir():
-            for it in _files_in(path, pattern, is_recursive):
+        if os.path.isdir(path):
+            for it in _files_in(path, pattern, is_recursive, out):
                 found.setdefault(it, Input(it, it.relative_to(path)))
         else:
             found.setdefault(path, Input(path, Path(path.name)))
     return list(found.values())
 
 
-def _files_in(folder: Path, pattern: Optional[str], is_recursive: bool) -> Iterator[Path]:
+def _files_in(folder: Path, pattern: Optional[str], is_recursive: bool, out: Optional[Path]) -> Iterator[Path]:
+    apart = None if out is None else os.path.realpath(out)
     for place, folders, names in os.walk(folder, onerror=_refuse):
-        folders.sort()
+        folders[:] = sorted(it for it in folders if os.path.realpath(os.path.join(place, it)) != apart)
         for name in sorted(names):
             is_asked = fnmatch.fnmatchcase(name, pattern) if pattern else name.lower().endswith(".obj")
             if is_asked and (Path(place) / name).is_file():
@@ -65,6 +70,28 @@ def refuse_clashes(inputs: Sequence[Input], out: Path) -> None:
         if target in sources:
             raise WishError(f"the folder --out has files that would be read: {it.target(out)}")
         targets[target] = it.path
+
+
+def refuse_overwriting(read: Iterable[Path], written: Iterable[tuple[str, Path]]) -> None:
+    """Raises a `WishError` where something that is written, and named in words, would take the place of what is read,
+    or of what is written besides."""
+    taken = {os.path.realpath(it): f"{it}, which is read" for it in read}
+    for name, path in written:
+        if is_through(path):
+            continue
+        place = os.path.realpath(path)
+        if place in taken:
+            raise WishError(f"{name} would be written over {taken[place]}")
+        taken[place] = f"{name}, {path}"
+
+
+def refuse_kept_clashes(folders: Iterable[Path], files: Iterable[Path]) -> None:
+    """Raises a `WishError` where a file has a name by which the texts of parts are kept in a folder."""
+    places = {os.path.realpath(it) for it in folders}
+    for it in files:
+        above, name = os.path.split(os.path.realpath(it))
+        if above in places and KEPT.fullmatch(name):
+            raise WishError(f"the texts that --keep writes would take the place of {it}")
 
 
 def refuse_page_clashes(sources: Sequence[Path], pages: Path, out: Path) -> None:

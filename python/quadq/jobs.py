@@ -8,10 +8,10 @@ import stat
 import time
 from dataclasses import dataclass, replace
 from pathlib import Path
-from typing import Optional
+from typing import Any, Optional
 
 from .errors import WishError
-from .files import make_folder, read_whole, remove_stale, write_whole
+from .files import checksum_of, make_folder, nothing_stale, remove_stale, write_whole
 from .formats import bytes_of, left_out, read_file
 from .program import USAGE, Program
 from .refusal import MEMORY, READ_FAULT, STRANGE, WRITE_FAULT, Refusal
@@ -38,10 +38,15 @@ class Job:
     """Where its report goes, if there is to be one."""
     up: str = "y"
     """The axis that points upward in the report's pictures."""
+    files: tuple[tuple[str, str], ...] = ()
+    """The files that the settings name, each with its checksum."""
+
+    def settings_in_words(self) -> dict[str, Any]:
+        return settings_in_words(self.settings, dict(self.files))
 
     def row(self, status: Optional[int], words: str, seconds: float = 0.0) -> Row:
         """What is told of it where there is no remesh."""
-        return Row(str(self.source), str(self.target), status, words, settings_in_words(self.settings), self.digest,
+        return Row(str(self.source), str(self.target), status, words, self.settings_in_words(), self.digest,
                    seconds=seconds)
 
     def row_without(self, status: int, words: str, seconds: float = 0.0) -> Row:
@@ -59,9 +64,9 @@ class Job:
 def one_file(
     source: Path, target: Path, settings: Settings, program: Program, tell: Tell, makes_folder: bool = False
 ) -> tuple[Result, bytes]:
-    """Remeshes one file into another, and says what was written. Raises a `Refusal`; then no file of an earlier run
-    stands there any more, unless it is the source."""
-    try:
+    """Remeshes one file into another, and says what was written. Where that fails, no file of an earlier run stands
+    there any more, unless it is the source."""
+    with nothing_stale([target], source):
         tell("reading", 0, 1)
         mesh, text = read_file(source, program, settings.subdivide)
         result = run(mesh, settings, program, text, tell)
@@ -71,9 +76,6 @@ def one_file(
         if makes_folder:
             make_folder(target.parent)
         write_whole(target, data)
-    except Refusal:
-        remove_stale(target, source)
-        raise
     return result, data
 
 
@@ -83,9 +85,10 @@ def done(job: Job) -> Row:
     read = ""
     try:
         _refuse_irregular(job.source)
-        read = checksum(read_whole(job.source))
+        read = checksum_of(job.source)
         program = Program(job.program).within(job.timeout)
         result, data = one_file(job.source, job.target, job.settings, program, lambda step, done, total: None, True)
+        _refuse_change(job, read)
         if job.page is not None:
             _write_page(job.page, result_page(job.source.name, result, program, job.up))
     except Refusal as said:
@@ -113,6 +116,12 @@ def _refused(job: Job, said: Refusal) -> Row:
         except Refusal as other:
             return replace(row, words=f"{row.words} ({other})")
     return row
+
+
+def _refuse_change(job: Job, read: str) -> None:
+    """Refuses a file that was changed while it was read: the row would tell another one."""
+    if checksum_of(job.source) != read:
+        raise Refusal(READ_FAULT, f"read fault: {job.source} was changed while it was remeshed")
 
 
 def _write_page(path: Path, page: str) -> None:

@@ -8,10 +8,9 @@ from pathlib import Path
 from typing import Iterator, Sequence
 
 from .errors import WishError
-from .files import remove_stale, write_whole
+from .files import nothing_stale, write_whole
 from .formats import bytes_of, read_file
 from .program import Program
-from .refusal import Refusal
 from .remeshing import Tell, run
 from .results import Result
 from .settings import Settings, as_scale_wish
@@ -33,11 +32,11 @@ def path_of(target: Path, level: int) -> Path:
 def level_files(
     source: Path, target: Path, shares: Sequence[Fraction], settings: Settings, program: Program, tell: Tell
 ) -> Iterator[tuple[Path, Result]]:
-    """Remeshes a file into one for each part of its faces, and tells each as it is written. Raises a `Refusal`; then
-    none of an earlier run stands at its place and those behind it."""
+    """Remeshes a file into one for each part of its faces, and tells each as it is written. Where that fails, none of
+    an earlier run stands at its place and those behind it."""
     paths = [path_of(target, level) for level in range(1, len(shares) + 1)]
     left = list(paths)
-    try:
+    with nothing_stale(left, source):
         tell("reading", 0, 1)
         mesh, text = read_file(source, program, settings.subdivide)
         for path, share in zip(paths, shares):
@@ -46,7 +45,3 @@ def level_files(
             write_whole(path, bytes_of(path, result.mesh, result.text, settings.form))
             left.remove(path)
             yield path, result
-    except Refusal:
-        for path in left:
-            remove_stale(path, source)
-        raise

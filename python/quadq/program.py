@@ -13,7 +13,7 @@ from pathlib import Path
 from typing import Optional, Sequence, Union
 
 from .refusal import STRANGE, Refusal
-from .running import Halt, run_program
+from .running import Halt, refuse_time, run_program
 
 LARGEST = 1000
 """The largest numerator and denominator of a scale."""
@@ -106,7 +106,8 @@ class Program:
     """What ends its runs from another thread."""
 
     def within(self, seconds: Optional[float]) -> Program:
-        """The same program, whose runs have so much time together from now on."""
+        """The same program, whose runs have so much time together from now on. Raises a `WishError` for no time."""
+        refuse_time(seconds)
         return self if seconds is None else replace(self, until=time.monotonic() + seconds)
 
     def remesh(self, text: bytes, wish: Wish) -> bytes:

@@ -7,9 +7,9 @@ from typing import Any, Callable, Sequence
 
 from .errors import QuadqError
 
-SYNTAX, NOT_QUAD, READ_FAULT, WRITE_FAULT, MEMORY = 3, 4, 12, 13, 14
-"""The program's statuses for a text that is no OBJ text, for a mesh that has no quads, for a file that cannot be read
-and one that cannot be written, and for want of memory."""
+SYNTAX, NOT_QUAD, LIMIT, READ_FAULT, WRITE_FAULT, MEMORY = 3, 4, 6, 12, 13, 14
+"""The program's statuses for a text that is no OBJ text, for a mesh that has no quads, for one that is too large, for a
+file that cannot be read and one that cannot be written, and for want of memory."""
 STRANGE, TIMEOUT, CANNOT_RUN = 70, 124, 126
 """Those of this package: what the program wrote, or a worker did, is nothing that it may; the time is over; the program
 cannot be run."""

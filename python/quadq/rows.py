@@ -8,7 +8,7 @@ import json
 from dataclasses import dataclass, field, fields
 from fractions import Fraction
 from pathlib import Path
-from typing import Any, Optional, Sequence
+from typing import Any, Mapping, Optional, Sequence
 
 from .results import Report
 from .settings import Settings
@@ -65,13 +65,19 @@ class Row:
     @staticmethod
     def of_line(line: bytes) -> Row:
         """The row of a line. Raises a `ValueError` where it is none."""
-        told = json.loads(line)
         try:
-            return Row(told["input"], told["output"], int(told["status"]), told["words"], told["settings"],
-                       told["program_sha256"], told["input_sha256"], told["output_sha256"], float(told["seconds"]),
-                       {name: told[name] for name in FACTS if name in told}, tuple(told["warnings"]), True)
-        except (KeyError, TypeError) as error:
+            told = json.loads(line)
+            row = Row(told["input"], told["output"], int(told["status"]), told["words"], told["settings"],
+                      told["program_sha256"], told["input_sha256"], told["output_sha256"], float(told["seconds"]),
+                      {name: told[name] for name in FACTS if name in told}, tuple(told["warnings"]), True)
+        except (KeyError, TypeError, RecursionError) as error:
             raise ValueError("this is no line of a log") from error
+        texts = [row.source, row.target, row.words, row.program, row.read, row.written]
+        counts = [row.facts.get(name, 0) for name in ("faces_before", "faces_after")]
+        is_told = all(isinstance(it, dict) and "words" in it for it in row.warnings) and isinstance(row.settings, dict)
+        if not (is_told and all(isinstance(it, str) for it in texts) and all(isinstance(it, int) for it in counts)):
+            raise ValueError("this is no line of a log")
+        return row
 
     def cells(self) -> list[str]:
         """The row of the table."""
@@ -81,10 +87,10 @@ class Row:
                 *("" if it is None else str(it) for it in values), f"{self.seconds:.2f}", said]
 
 
-def settings_in_words(settings: Settings) -> dict[str, Any]:
-    """The settings on which a result depends, as JSON has them."""
+def settings_in_words(settings: Settings, files: Mapping[str, str] = {}) -> dict[str, Any]:
+    """The settings on which a result depends, as JSON has them, with the checksums of the files that they name."""
     values = {it.name: getattr(settings, it.name) for it in fields(settings) if it.name not in APART}
-    return {name: _plain(it) for name, it in values.items()}
+    return {**{name: _plain(it) for name, it in values.items()}, **({"files": dict(files)} if files else {})}
 
 
 def _plain(value: Any) -> Any:

@@ -9,13 +9,23 @@ import time
 from pathlib import Path
 from typing import Optional, Sequence
 
+from .errors import WishError
 from .refusal import CANNOT_RUN, TIMEOUT, Refusal
 
 SIGNAL = 128
 """The status of a program that a signal has ended is this and the signal's number, as in a shell."""
 
+LONGEST = 2_000_000.0
+"""Seconds: 23 days. The system counts no longer times in one wait."""
+
 _runs: set[_Run] = set()
 _is_over = False
+
+
+def refuse_time(seconds: Optional[float]) -> None:
+    """Raises a `WishError` for a time that is none, or too long."""
+    if seconds is not None and not 0 < seconds <= LONGEST:
+        raise WishError(f"the time is a number of seconds above 0 and up to {LONGEST:.0f}, and is {seconds}")
 
 
 class Halt:

@@ -2,6 +2,8 @@
 
 from __future__ import annotations
 
+import os
+import re
 from dataclasses import dataclass, replace
 from decimal import Decimal, InvalidOperation
 from fractions import Fraction
@@ -19,6 +21,8 @@ SYMMETRIES = (*mirroring.AXES, "auto", "off")
 MODES = ("shape", "scale", "even")
 GIVEN = "given"
 """Stands in settings for an array."""
+PART = re.compile(r"[+-]?[0-9]{0,20}(?:/[0-9]{1,20}|(?:\.[0-9]{0,20})?(?:[eE][+-]?[0-9]{1,2})?)")
+"""The words for a part of something: `1/2` or `0.5`."""
 LEAST = Decimal("0.000001")
 """The shortest length of edges that the program takes."""
 
@@ -86,7 +90,7 @@ class Settings:
     def __post_init__(self) -> None:
         if self.scale is not None and not isinstance(self.scale, Fraction):
             object.__setattr__(self, "scale", as_scale_wish(self.scale))
-        if self.edge is not None and not isinstance(self.edge, Decimal):
+        if self.edge is not None:
             object.__setattr__(self, "edge", as_length(self.edge))
         if self.share is not None and not isinstance(self.share, Fraction):
             object.__setattr__(self, "share", as_scale_wish(self.share))
@@ -133,6 +137,12 @@ class Settings:
             raise WishError(f"the angle of sharp edges has to be from 0 to 180 degrees, and is {self.sharp}")
         if self.edge is not None and self.weight != "plain" and self.command == "size":
             raise WishError("with a length of edges the weight is plain")
+
+    @property
+    def files(self) -> tuple[Path, ...]:
+        """The files that it may name, beside the mesh."""
+        named = [it for it in (self.size, self.density) if it is not None and it != GIVEN]
+        return tuple(Path(it) for it in named if os.path.isfile(it))
 
     @property
     def is_creased(self) -> bool:
@@ -194,14 +204,19 @@ class Settings:
 def as_length(value: Union[Decimal, float, str]) -> Decimal:
     """A length as a decimal. Raises a `WishError` where it is none."""
     try:
-        return Decimal(str(value))
+        found = Decimal(str(value))
     except InvalidOperation as error:
         raise WishError(f"the length of an edge has to be a number, and is {value}") from error
+    if found.is_nan():
+        raise WishError(f"the length of an edge has to be a number, and is {value}")
+    return found
 
 
 def as_scale_wish(value: Union[Fraction, float, str]) -> Fraction:
     """A scale as a fraction. Raises a `WishError` where it is none."""
     try:
-        return Fraction(value).limit_denominator(10**6)
+        if isinstance(value, str) and not PART.fullmatch(value.strip()):
+            raise ValueError(value)
+        return Fraction(value) if isinstance(value, str) else Fraction(value).limit_denominator(10**6)
     except (ValueError, ZeroDivisionError, OverflowError) as error:
         raise WishError(f"the scale has to be P/Q, with whole numbers from 1 to {LARGEST}, and is {value}") from error
