@@ -108,11 +108,12 @@ def name_in(line: bytes) -> str:
 
 def name_line(word: str, name: str) -> str:
     """A line from which a name is read again. Where no line of OBJ has such a name, one that is like it."""
-    words = name.replace("\n", " ").replace("\t", " ").strip(" \r").split(" ")
-    words = [f"_{it}" if it == "#" or (at and it.startswith("#")) else it for at, it in enumerate(filter(None, words))]
+    words = list(filter(None, name.replace("\n", " ").replace("\t", " ").split(" ")))
+    words = [f"_{it}" if it == "#" or (at and it.startswith("#")) else it for at, it in enumerate(words)]
     line = " ".join([word, *words])
-    # A backslash at the end would join the next line to this one; a comment goes on nowhere.
-    return f"{line} #" if line.endswith("\\") and "#" not in line else line
+    # A backslash at the end would join the next line to this one, and a CR would belong to the end of this one.
+    is_open = line.endswith("\r") or (line.endswith("\\") and "#" not in line)
+    return f"{line} #" if is_open else line
 
 
 def end_of(text: bytes) -> bytes:

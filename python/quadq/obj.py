@@ -218,9 +218,10 @@ class Scan:
         starts = np.concatenate([[0], np.cumsum(sides)])
         for first, last, counts in self.relative:
             rows = table[starts[first]:starts[last]]
-            rows += (rows < 0) * (np.array(counts) + 1)
+            is_relative = rows < 0
+            rows += is_relative * (np.array(counts) + 1)
             # An index that reaches back before the first line is none of those that stand for nothing.
-            if np.any(rows[:, 0] <= 0) or np.any(rows[:, 1:] < 0):
+            if np.any(is_relative & (rows <= 0)):
                 raise Unlike
         return starts, table - 1
 

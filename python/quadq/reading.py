@@ -152,12 +152,20 @@ def in_fours(text: bytes) -> tuple[bytes, list[int]]:
         if line.size > tool.MAX_LINE:
             some = [b"#" * line.size]
         elif words[:1] == [b"f"] and len(words) > 3 and len(words) != 5:
-            # The first point is there where any is, and a long word again would make the line too long.
-            corners = words[1:] + [b"1"] * (-(len(words) - 1) % 4)
+            # The first point is there where any is.
+            corners = [_short(it) for it in words[1:]] + [b"1"] * (-(len(words) - 1) % 4)
             some = [b"f " + b" ".join(corners[at:at + 4]) for at in range(0, len(corners), 4)]
         lines += some
         numbers += [line.number] * len(some)
-    return b"".join(it + b"\n" for it in lines), numbers
+    # No backslash of a word stands at the end of a line.
+    return b"".join(it + (b" \n" if it.endswith(b"\\") else b"\n") for it in lines), numbers
+
+
+def _short(corner: bytes) -> bytes:
+    """A corner of the same vertex that makes no line longer, or a word that is none."""
+    tool = carried("obj_text")
+    found = tool.CORNER.fullmatch(corner)
+    return b"%d" % tool.whole_number(found[1]) if found is not None else b"x"
 
 
 def told_of_old(said: Refusal, old: Mesh) -> Refusal:

@@ -76,21 +76,27 @@ class Obj(unittest.TestCase):
 
     def test_names_are_written_so_that_the_same_are_read(self):
         square = "v 0 0 0\nv 1 0 0\nv 1 1 0\nv 0 1 0\nv 2 0 0\nv 2 1 0\n"
-        text = square + "mtllib a\\ # b\nusemtl a\\ # b\nf 1 2 3 4\ng a#b\\ #c\nf 2 5 6 3\n"
+        text = square + "mtllib a\\ # b\nusemtl a\\ # b\ns \ra\r #\nf 1 2 3 4\ng a#b\\ #c\nf 2 5 6 3\n"
         mesh = read_obj(text)
         self.assertEqual((mesh.groups["usemtl"].names[1], mesh.groups["g"].names[1]), ("a\\", "a#b\\"))
+        self.assertEqual(mesh.groups["s"].names[1], "\ra\r")
         again = read_obj(write_obj(mesh))
         self.assertEqual((again.face_count, again.libraries), (2, ("a\\",)))
         self.assertEqual({word: it.names for word, it in again.groups.items()},
                          {word: it.names for word, it in mesh.groups.items()})
         self.assertEqual(changed_names(mesh), [])
-        for name, written in (("a\nv 9 9 9", "a v 9 9 9"), ("x #y", "x _#y"), ("#", "_#"), ("a  b\t", "a b"),
-                              ("a\r", "a")):
+        for name, written in (("a\nv 9 9 9", "a v 9 9 9"), ("x #y", "x _#y"), ("#", "_#"), ("a  b\t", "a b")):
             other = replace(mesh, groups={"usemtl": Names(("", name), np.array([1, 1]))}, libraries=())
             again = read_obj(write_obj(other))
             self.assertEqual((again.groups["usemtl"].names[1], again.face_count, len(again.points)), (written, 2, 6))
             self.assertEqual(changed_names(other), [name])
             self.assertIn(repr(name), left_out(pathlib.Path("a.obj"), other)[0])
+
+    def test_an_index_that_reaches_back_before_the_first_line_is_said(self):
+        square = "v 0 0 0\nv 1 0 0\nv 1 1 0\nv 0 1 0\n"
+        for faces in ("f -4/-1 -3/-1 -2/-1 -1/-1\nvt 0 0\n", "vt 0 0\nf 1/-2 2/-2 3/-2 4/-2\n"):
+            mesh = read_obj(square + faces)
+            self.assertEqual([it.split()[0] for it in mesh.notes], ["4"], faces)
 
     def test_numbers_that_are_too_large(self):
         mesh = read_obj("v 0 0 0 1e400\nv 1 0 0 1e305\nv 1 1 0 1e200\nv 0 1 0 7\nvt 1e400 0\nvt 0 1\nvn 0 0 1e301\n"

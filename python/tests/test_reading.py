@@ -148,8 +148,18 @@ class Polygons(unittest.TestCase):
     def test_a_corner_that_is_a_long_word(self):
         text = self.BOOK + "f 1 2 3 4 " + "0" * 60_000 + "5\n"
         self.assertEqual(read_judged(text.encode(), Program(), polygons=True).sides.tolist(), [5])
+        near = "f 1 2 " + "0" * (65_536 - 7) + "3\n"
+        self.assertEqual(read_judged((self.BOOK + near).encode(), Program(), polygons=True).sides.tolist(), [3])
+        said = refusal_of(self.BOOK + near.replace("f ", "f  "), polygons=True)
+        self.assertEqual((said.status, said.line), (6, "line 8: limit: line"))
         said = refusal_of(self.BOOK + "f 1 2 3 4 " + "9" * 60_000 + "\n", polygons=True)
         self.assertEqual((said.status, said.line), (5, "line 8: number out of range"))
+
+    def test_a_backslash_before_a_blank_joins_no_lines(self):
+        for line in ("v 0 0 0 \\ ", "v 0 0 0\\ ", "f 1 2 3\\ ", "f 1 2 3 4 5 \\ ", "f 1 2 3 \\ 4 5 6"):
+            for after in ("f 1 2 3\n", "\nf 1 2 3\n", "# one\nf 1 2 3\n"):
+                said = refusal_of(f"{self.BOOK}{line}\n{after}", polygons=True)
+                self.assertEqual((said.status, said.line), (3, "line 8: not an OBJ line of this profile"), line)
 
     def test_refusals_name_old_faces(self):
         turned = self.BOOK + "f 1 2 3 4\nf 2 3 6 5\nf 4 3 7\n"
