@@ -6,15 +6,15 @@ usage: tools/kill_batches.py [--files N] [--times N] [--seed S] [--jobs N] [--di
 A batch is of so many files (1,000), of which a fifth are bad. It is killed at a random moment so many times (50) by
 each of SIGINT, SIGTERM, SIGHUP and SIGKILL, each time with what is left of the last one, and --resume. Each time
 
-  the process ends in time, by SIGKILL or with 128 and the signal's number, and leaves no process behind;
+  the process ends in time, by the signal or with 128 and its number, without a traceback, and leaves no process behind;
   each line of the log is true: what was read and written is as it says, and nothing is there where it was refused;
   each file that is there is whole: it has the bytes that a run that was never stopped writes;
   the table, where there is one, has the same.
 
-When all files are done, the last --resume has all that a run that was never stopped has. Then the same over programs
-that hang, crash, write rubbish and want memory, and on a full disk: --disk names a folder on one of a few megabytes, as
-`mount -t tmpfs -o size=8m none FOLDER` makes it. The status is 1 where something else is found. QUADQ may name the
-program.
+When all files are done, the last --resume has all that a run that was never stopped has. Then the same over a program
+that sometimes hangs, crashes, writes rubbish or wants memory, with a fifth of the kills, and over each of these to its
+end; and on a full disk: --disk names a folder on one of a few megabytes, as `mount -t tmpfs -o size=8m none FOLDER`
+makes it. The status is 1 where something else is found. QUADQ may name the program.
 """
 
 from __future__ import annotations
@@ -31,7 +31,7 @@ import subprocess
 import sys
 import tempfile
 import time
-from typing import Iterator, Optional
+from typing import Iterator, NamedTuple, Optional, Sequence
 
 ROOT = pathlib.Path(__file__).resolve().parent.parent
 EXAMPLES = [ROOT / f"examples/{it}.obj" for it in ("cube", "corner", "torus", "notched_square", "cylinder")]
@@ -58,6 +58,7 @@ class Batch:
     def __init__(self, room: pathlib.Path, files: int, jobs: int, rng: random.Random) -> None:
         self.room, self.jobs, self.rng = room, jobs, rng
         self.inward, self.log, self.table = room / "in", room / "log.jsonl", room / "table.csv"
+        self.said = room / "said"
         self.inward.mkdir()
         for number in range(files):
             text = rng.choice(EXAMPLES).read_text() if number % 5 else rng.choice(BAD)
@@ -65,10 +66,11 @@ class Batch:
 
     def begin(self, out: pathlib.Path, *words: str, program: Optional[pathlib.Path] = None) -> subprocess.Popen[bytes]:
         room = {"KILL_BATCHES": str(self.room), "QUADQ": str(program or os.environ.get("QUADQ", ROOT / "dist/quadq"))}
-        return subprocess.Popen(
-            [sys.executable, "-m", "quadq", str(self.inward), "--out", str(out), "--scale", "1/2", "--quiet", "--jobs",
-             str(self.jobs), *words],
-            cwd=ROOT / "python", env={**os.environ, **room}, stdout=subprocess.DEVNULL, stderr=subprocess.DEVNULL)
+        with open(self.said, "wb") as said:
+            return subprocess.Popen(
+                [sys.executable, "-m", "quadq", str(self.inward), "--out", str(out), "--scale", "1/2", "--quiet",
+                 "--jobs", str(self.jobs), *words],
+                cwd=ROOT / "python", env={**os.environ, **room}, stdout=subprocess.DEVNULL, stderr=said)
 
     def books(self) -> tuple[str, ...]:
         return "--log", str(self.log), "--table", str(self.table), "--resume"
@@ -96,6 +98,8 @@ class Batch:
             time.sleep(0.05)
         if left := self.left():
             yield f"processes are left: {left}"
+        if b"Traceback" in self.said.read_bytes():
+            yield f"there is a traceback: {self.said.read_text(errors='replace').splitlines()[-1]}"
         there = {it.name: it.read_bytes() for it in out.iterdir()} if out.is_dir() else {}
         for name, data in there.items():
             if whole.get(name) != data:
@@ -121,34 +125,55 @@ class Batch:
 
 
 def killed(batch: Batch, times: int, whole: dict[str, bytes], seconds: float) -> Iterator[str]:
-    """Kills runs at random moments, and the last one goes to its end."""
+    """Kills runs at random moments by each signal, and the last one goes to its end."""
     for number in SIGNALS:
         batch.forget()
         out = batch.room / f"out-{number.name}"
-        for time_of in range(times):
-            # So that each has something to do, whatever was done before.
-            if out.is_dir():
-                for it in out.iterdir():
-                    if batch.rng.random() < 0.3:
-                        it.unlink()
-            ran = batch.begin(out, *batch.books())
-            time.sleep(batch.rng.uniform(0.0, min(seconds, MOMENTS)))
-            ran.send_signal(number)
-            sent = time.monotonic()
-            status = ran.wait(60)
-            took = time.monotonic() - sent
-            wanted = {-number} if number == signal.SIGKILL else {128 + number, -number, 0, 1}
-            told = f"{number.name} {time_of + 1}"
-            if status not in wanted:
-                yield f"{told}: the status is {status}"
-            if took > SECOND:
-                yield f"{told}: the end took {took:.2f} s"
-            yield from (f"{told}: {it}" for it in lost_again(batch, out, whole))
-        batch.begin(out, *batch.books()).wait()
-        yield from (f"{number.name}, at the end: {it}" for it in batch.faults(out, whole))
-        if {it.name for it in out.iterdir()} != set(whole):
-            yield f"{number.name}, at the end: files are missing"
+        yield from killed_by(batch, number, times, Ran(out, whole, min(seconds, MOMENTS)))
+        yield from finished(batch, out, number.name, whole)
         print(f"{number.name}: {times} times", flush=True)
+
+
+class Ran(NamedTuple):
+    """What is killed."""
+
+    out: pathlib.Path
+    whole: dict[str, bytes]
+    seconds: float
+    """The moments lie within these."""
+    program: Optional[pathlib.Path] = None
+    statuses: tuple[int, ...] = (0, 1)
+    """Those of a run that ends before it is killed."""
+    words: tuple[str, ...] = ()
+
+
+def killed_by(batch: Batch, number: signal.Signals, times: int, of: Ran) -> Iterator[str]:
+    """Kills runs at random moments by a signal, each with what is left of the last one."""
+    for time_of in range(times):
+        # So that each has something to do, whatever was done before.
+        for it in [*of.out.iterdir()] if of.out.is_dir() else ():
+            if batch.rng.random() < 0.3:
+                it.unlink()
+        ran = batch.begin(of.out, *batch.books(), *of.words, program=of.program)
+        time.sleep(batch.rng.uniform(0.0, of.seconds))
+        ran.send_signal(number)
+        sent = time.monotonic()
+        status = ran.wait(60)
+        took = time.monotonic() - sent
+        told = f"{number.name} {time_of + 1}"
+        if status not in ({-number} if number == signal.SIGKILL else {128 + number, -number, *of.statuses}):
+            yield f"{told}: the status is {status}"
+        if took > SECOND:
+            yield f"{told}: the end took {took:.2f} s"
+        yield from (f"{told}: {it}" for it in lost_again(batch, of.out, of.whole))
+
+
+def finished(batch: Batch, out: pathlib.Path, name: str, whole: dict[str, bytes]) -> Iterator[str]:
+    """Goes on to the end, where all has to be there."""
+    batch.begin(out, *batch.books()).wait()
+    yield from (f"{name}, at the end: {it}" for it in batch.faults(out, whole))
+    if {it.name for it in out.iterdir()} != set(whole):
+        yield f"{name}, at the end: files are missing"
 
 
 def lost_again(batch: Batch, out: pathlib.Path, whole: dict[str, bytes]) -> Iterator[str]:
@@ -158,29 +183,44 @@ def lost_again(batch: Batch, out: pathlib.Path, whole: dict[str, bytes]) -> Iter
             yield it
 
 
+def stub_of(batch: Batch, cases: Sequence[str], seldom: int, words: str) -> pathlib.Path:
+    """A program that does one of these things instead, once in so many runs, where the shell says so of its words."""
+    stub, real = batch.room / "stub.sh", os.environ.get("QUADQ", str(ROOT / "dist/quadq"))
+    done = "\n".join(f"{at}) {it.replace('dist/quadq', real)};;" for at, it in enumerate(cases))
+    stub.write_text(f'#!/bin/bash\nif {words} && [ $((RANDOM % {seldom})) = 0 ]; then\n'
+                    f'case $((RANDOM % {len(cases)})) in\n{done}\nesac\nelse\nexec {real} "$@"\nfi\n')
+    stub.chmod(0o755)
+    return stub
+
+
 def over_stubs(batch: Batch, whole: dict[str, bytes]) -> Iterator[str]:
     """Batches over programs that sometimes do something else."""
     for name, script in STUBS.items():
         batch.forget()
-        out, stub = batch.room / f"out-{name.replace(' ', '-')}", batch.room / "stub.sh"
-        real = os.environ.get("QUADQ", str(ROOT / "dist/quadq"))
-        sometimes = script.replace("dist/quadq", real)
-        stub.write_text(f'#!/bin/bash\nif [ $# -gt 0 ] && [ $((RANDOM % 20)) = 0 ]; then\n{sometimes}\nelse\n'
-                        f'exec {real} "$@"\nfi\n')
-        stub.chmod(0o755)
+        out = batch.room / f"out-{name.replace(' ', '-')}"
+        stub = stub_of(batch, [script], 20, "[ $# -gt 0 ]")
         status = batch.begin(out, *batch.books(), "--timeout", "2", program=stub).wait()
         if status not in (0, 1, 2):
             yield f"a program that {name}: the status is {status}"
         if status != 2:
             yield from (f"a program that {name}: {it}" for it in batch.faults(out, whole))
-        batch.begin(out, *batch.books()).wait()
-        yield from (f"a program that {name}, at the end: {it}" for it in batch.faults(out, whole))
-        if {it.name for it in out.iterdir()} != set(whole):
-            yield f"a program that {name}, at the end: files are missing"
+        yield from finished(batch, out, f"a program that {name}", whole)
         print(f"a program that {name}: status {status}", flush=True)
 
 
-def on_full_disk(batch: Batch, disk: pathlib.Path, whole: dict[str, bytes]) -> Iterator[str]:
+def killed_over_stub(batch: Batch, times: int, whole: dict[str, bytes]) -> Iterator[str]:
+    """Kills runs over a program that sometimes does any of these things."""
+    for number in SIGNALS:
+        batch.forget()
+        out = batch.room / f"out-stub-{number.name}"
+        # What a batch asks before its work is answered: else there would be none.
+        stub = stub_of(batch, [*STUBS.values()], 40, '[ "$1" = tidy -o "$1" = remesh -o "$1" = check ]')
+        yield from killed_by(batch, number, times, Ran(out, whole, MOMENTS, stub, (0, 1), ("--timeout", "2")))
+        yield from finished(batch, out, f"{number.name} over stubs", whole)
+        print(f"{number.name} over a program that does any of these: {times} times", flush=True)
+
+
+def on_full_disk(batch: Batch, disk: pathlib.Path, times: int, whole: dict[str, bytes]) -> Iterator[str]:
     """A batch whose meshes, log and table go to a disk that is full before the end, and goes on with more room."""
     out = disk / "out"
     batch.log, batch.table = disk / "log.jsonl", disk / "table.csv"
@@ -194,6 +234,10 @@ def on_full_disk(batch: Batch, disk: pathlib.Path, whole: dict[str, bytes]) -> I
         if status not in (1, 13):
             yield f"on a full disk the status is {status}"
         yield from (f"on a full disk: {it}" for it in batch.faults(out, whole))
+        if part == 0.5:
+            for number in SIGNALS:
+                yield from killed_by(batch, number, times, Ran(out, whole, MOMENTS, None, (0, 1, 13)))
+                print(f"{number.name} on a full disk: {times} times", flush=True)
     if {it.name for it in out.iterdir()} != set(whole):
         yield "on a full disk, at the end: files are missing"
 
@@ -218,8 +262,9 @@ def main() -> int:
         print(f"{asked.files} files, {len(whole)} of them good, in {seconds:.1f} s", flush=True)
         found = 0
         tries = [killed(batch, asked.times, whole, seconds)]
-        tries += [] if asked.no_stubs else [over_stubs(batch, whole)]
-        tries += [on_full_disk(batch, asked.disk, whole)] if asked.disk else []
+        fewer = -(-asked.times // 5)
+        tries += [] if asked.no_stubs else [killed_over_stub(batch, fewer, whole), over_stubs(batch, whole)]
+        tries += [on_full_disk(batch, asked.disk, fewer, whole)] if asked.disk else []
         for it in (fault for some in tries for fault in some):
             found += 1
             if found <= MOST_TOLD:
