@@ -8,6 +8,7 @@
 
 from __future__ import annotations
 
+from . import early  # noqa: F401
 from .distance import Distance, distance_between
 from .features import find_features
 from .mesh import Layer, Mesh, Names

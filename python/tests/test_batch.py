@@ -253,6 +253,20 @@ class Ends(BatchRoom):
         ran.communicate(timeout=60)
         self.assertEqual(ran.returncode, 124)
 
+    def test_an_interrupt_while_modules_are_loaded_has_no_traceback(self):
+        for at in range(6):
+            ran = subprocess.Popen([sys.executable, "-m", "quadq", str(self.inward), "--out", str(self.out), "--scale",
+                                    "1/2"], cwd=ROOT, stdout=subprocess.DEVNULL, stderr=subprocess.PIPE, text=True)
+            modules = pathlib.Path(f"/proc/{ran.pid}/maps")
+            while at and "multiarray" not in modules.read_text():
+                time.sleep(0.002)
+            time.sleep(0.02 * at)
+            ran.send_signal(signal.SIGINT)
+            said = ran.communicate(timeout=60)[1]
+            if at:
+                self.assertNotIn("Traceback", said)
+            self.assertIn(ran.returncode, (130, -signal.SIGINT))
+
     def tearDown(self):
         # What a stub has begun is no part of what is tried.
         for it in self.processes():
