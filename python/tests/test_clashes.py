@@ -180,6 +180,22 @@ class Many(BatchRoom):
             row = jobs.done(jobs.Job(self.inward / "a.obj", self.out / "a.obj", HALF, Program().path, ""))
         self.assertEqual((row.status, "was changed" in row.words, os.listdir(self.out)), (12, True, []))
 
+    def test_processors_go_to_files_and_then_to_parts(self):
+        given = []
+
+        def rows(self, some, share):
+            given.extend((many, share(some[0], many).settings.jobs) for many in (1, 2, 4))
+            return ((it, it.row(0, "")) for it in some)
+
+        with mock.patch("quadq.batch.Workers.rows", rows):
+            remesh_files(self.inward, self.out, Settings(scale="1/2", jobs=4))
+        self.assertEqual(given, [(1, 4), (2, 2), (4, 1)])
+
+    def test_the_text_of_a_file_goes_through_the_program_once(self):
+        with mock.patch.object(Program, "tidy", autospec=True, side_effect=Program.tidy) as tidy:
+            self.assertEqual(self.run_words(CUBE, self.room / "out.obj", "--scale", "1/2")[0], 0)
+        self.assertEqual(tidy.call_count, 1)
+
     def test_names_that_are_too_long(self):
         (row,) = remesh_files(self.room / ("a" * 300 + ".obj"), self.out, HALF)
         self.assertEqual((row.status, "too long" in row.words), (12, True))

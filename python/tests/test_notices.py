@@ -1,13 +1,16 @@
 """What a user is told of a remesh, and that fewer faces never become more."""
 
 import unittest
+from concurrent.futures import ThreadPoolExecutor
 from dataclasses import replace
+from unittest import mock
 
 import numpy as np
 
 from quadq import Layer, Mesh, Names, Refusal, distance_between, read_obj, remesh
 from quadq.losses import lost_mirrors
 from quadq.mesh import join
+from quadq.running import run_program
 
 from .shapes import EXAMPLES, grid, moved
 
@@ -119,6 +122,22 @@ class Parts(unittest.TestCase):
         given = result.mesh.groups["o"]
         at_ten = (result.mesh.points[result.mesh.quads[:, 0], 0] + 5) // 10
         self.assertEqual([given.names[it] for it in given.of_face], [f"part {int(it)}" for it in at_ten])
+
+    def test_a_thousand_small_parts_take_a_few_runs_of_the_program(self):
+        whole = join([moved(grid(3, 2), 10 * at) for at in range(1_000)])
+        with mock.patch("quadq.program.run_program", wraps=run_program) as ran:
+            result = remesh(whole, scale="1/2")
+        self.assertEqual((result.report.parts, result.mesh.face_count), (1_000, 2_000))
+        self.assertLess(ran.call_count, 6)
+
+    def test_parts_of_one_file_are_divided_among_jobs(self):
+        whole = join([moved(band(40, 30), 10 * at) for at in range(4)])
+        alone, together = (remesh(whole, scale="1/2", jobs=jobs) for jobs in (1, 4))
+        self.assertEqual([it.text for it in alone.written], [it.text for it in together.written])
+        np.testing.assert_array_equal(alone.mesh.points, together.mesh.points)
+        with mock.patch("quadq.parts.ThreadPoolExecutor", wraps=ThreadPoolExecutor) as pool:
+            remesh(whole, scale="1/2", jobs=4)
+        self.assertEqual({it.args for it in pool.call_args_list}, {(4,)})
 
     def test_a_bad_one_among_many_is_named(self):
         fans = read_obj((EXAMPLES / "two_fans.obj").read_text())

@@ -23,6 +23,7 @@ from .test_groups import grouped, sides_of
 
 PACKAGE = pathlib.Path(__file__).resolve().parents[1]
 PAGE = PACKAGE.parent / "docs/RECIPES.md"
+README = PACKAGE.parent / "README.md"
 RECIPE = re.compile(r"^## ([^\n]+)\n(.*?)(?=^## |\Z)", re.M | re.S)
 CODE = re.compile(r"^```(python|sh)\n(.*?)^```$", re.M | re.S)
 MOST = 10
@@ -38,6 +39,21 @@ Physical Curve("wall") = Curve In BoundingBox {-0.1, -0.1, -1, 0.1, 4.1, 1};
 
 def recipes():
     return {title: CODE.findall(body) for title, body in RECIPE.findall(PAGE.read_text())}
+
+
+class OfTheReadme(unittest.TestCase):
+    def test_the_command_for_gnu_parallel_ends_with_the_status_of_the_program(self):
+        (words,) = re.findall(r"^parallel --tag '(quadq remesh [^']*)' ::: \*\.obj$", README.read_text(), re.M)
+        with tempfile.TemporaryDirectory() as folder:
+            room = pathlib.Path(folder)
+            (room / "half").mkdir()
+            for name, status in (("cube", 0), ("two_fans", 7)):
+                shutil.copy(PACKAGE.parent / f"examples/{name}.obj", room)
+                command = words.replace("{/}", f"{name}.obj").replace("{}", f"{name}.obj")
+                ran = subprocess.run(["sh", "-c", command.replace("quadq ", f"{find_program()} ", 1)], cwd=room,
+                                     capture_output=True, check=False)
+                self.assertEqual(ran.returncode, status, ran.stderr)
+            self.assertEqual(os.listdir(room / "half"), ["cube.obj"])
 
 
 class Recipes(unittest.TestCase):
