@@ -127,18 +127,20 @@ def main(words: Optional[Sequence[str]] = None) -> int:
     open_streams()
     given = sys.argv[1:] if words is None else [*words]
     command = COMMANDS.get(given[0]) if given and not os.path.exists(given[0]) else None
-    asked = parser_of_words().parse_args(given) if command is None else command.parser().parse_args(given[1:])
+    parser = parser_of_words() if command is None else command.parser()
+    asked = parser.parse_args(given if command is None else given[1:])
     try:
         status, said = _ended(asked, command)
         if said:
-            print(f"{NAME}: {said}", file=sys.stderr)
+            print(f"{parser.prog}: {said}", file=sys.stderr)
         return status
     except OSError as error:
         # Files are read and written through `files`: this is what is said.
         close_output()
         if not isinstance(error, BrokenPipeError):
             with contextlib.suppress(OSError):
-                print(f"{NAME}: write fault: standard output: {error.strerror}", file=sys.stderr)
+                print(f"{parser.prog}: write fault: {error.filename or 'standard output'}: {error.strerror}",
+                      file=sys.stderr)
         return WRITE_FAULT
 
 

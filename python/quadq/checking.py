@@ -93,7 +93,7 @@ def check(
     given = [files] if isinstance(files, (str, os.PathLike)) else list(files)
     runner = Program() if program is None else program
     done: list[Checked] = []
-    with ThreadPoolExecutor(jobs or os.cpu_count() or 1) as pool:
+    with ThreadPoolExecutor(max(1, jobs or os.cpu_count() or 1)) as pool:
         waiting = [pool.submit(check_file, it, runner) for it in files_of(given, pattern)]
         try:
             for future in waiting:
@@ -117,9 +117,9 @@ def files_of(given: Sequence[PathLike], pattern: Optional[str]) -> list[Path]:
     """The files that these paths are, lie below or match, each once."""
     found: dict[Path, None] = {}
     for it in map(Path, given):
-        if it.is_dir():
+        if os.path.isdir(it):
             some = list(_files_below(it, pattern))
-        elif glob.has_magic(str(it)) and not it.exists():
+        elif glob.has_magic(str(it)) and not os.path.exists(it):
             some = [Path(name) for name in sorted(glob.glob(str(it), recursive=True)) if os.path.isfile(name)]
         else:
             some = [it]
@@ -145,8 +145,9 @@ def check_file(path: Path, program: Program) -> Checked:
             mesh, _ = read_file(path, program, polygons=True)
             faults = list(_faults_of_mesh(mesh, program, None))
             return Checked(path, mesh.face_count, tuple(faults[:MOST]), max(len(faults) - MOST, 0))
-        if not path.is_file():
-            raise Refusal(READ_FAULT, f"read fault: {path}: " + ("no such file" if not path.exists() else "no file"))
+        if not os.path.isfile(path):
+            words = "no such file" if not os.path.exists(path) else "no regular file"
+            raise Refusal(READ_FAULT, f"read fault: {path}: {words}")
         return check_text(path, read_whole(path, carried("obj_text").MAX_BYTES), program)
     except Refusal as said:
         return Checked(path, 0, (Fault(said.status, said.line, _line_in(said.line), said.faces, said.vertices),))

@@ -2,6 +2,7 @@
 
 from __future__ import annotations
 
+import warnings
 from dataclasses import replace
 from pathlib import Path
 from typing import Optional
@@ -131,8 +132,10 @@ def _colour(mesh: Mesh, name: str, what: str) -> Array:
 
 def _numbers(mesh: Mesh, path: Path, what: str) -> Array:
     try:
-        return np.asarray(np.load(path) if path.suffix == ".npy" else np.loadtxt(path), dtype=float).ravel()
-    except (OSError, ValueError) as error:
+        with warnings.catch_warnings():
+            warnings.simplefilter("ignore", UserWarning)
+            return np.asarray(np.load(path) if path.suffix == ".npy" else np.loadtxt(path), dtype=float).ravel()
+    except (OSError, ValueError, EOFError) as error:
         fields = ", ".join(mesh.point_fields)
         has = f"; the fields of its points are {fields}" if fields else ""
         raise WishError(f"the {what} cannot be read from {path}: it is no field of the mesh, and no file with a number "

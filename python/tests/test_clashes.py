@@ -197,8 +197,19 @@ class Many(BatchRoom):
         self.assertEqual(tidy.call_count, 1)
 
     def test_names_that_are_too_long(self):
-        (row,) = remesh_files(self.room / ("a" * 300 + ".obj"), self.out, HALF)
+        name = self.room / ("a" * 300 + ".obj")
+        (row,) = remesh_files(name, self.out, HALF)
         self.assertEqual((row.status, "too long" in row.words), (12, True))
+        self.assertEqual(self.run_words("check", name, "--jobs", "-1")[0], 12)
+        status, _, said = self.run_words("check", self.room / "*.off")
+        self.assertEqual((status, said.partition(": ")[0]), (2, "quadq-check"))
+
+    def test_files_of_numbers_that_are_none(self):
+        for name, data in (("empty.npy", b""), ("cut.npy", b"\x93NUMPY\x01"), ("empty.txt", b""),
+                           ("words.txt", b"1\nx\n"), ("few.txt", b"1\n2\n"), ("none.txt", b"nan\n" * 8)):
+            (self.room / name).write_bytes(data)
+            status, _, said = self.run_words(CUBE, self.room / "out.obj", "--size", self.room / name)
+            self.assertEqual((status, len(said.splitlines())), (2, 1), name)
 
     def test_a_pipe_of_another_format_is_no_file(self):
         os.mkfifo(self.room / "pipe.msh")
