@@ -81,6 +81,8 @@ def remesh_files(
 
 def _refuse_clashes(inputs: Sequence[Input], folder: Path, settings: Settings, books: Books) -> None:
     """Refuses what would be written over something else, or in vain."""
+    if os.path.lexists(folder) and not folder.is_dir():
+        raise WishError(f"many files are remeshed into a folder, and {folder} is none")
     refuse_clashes(inputs, folder)
     if books.resume and (books.log is None or (books.log.exists() and not books.log.is_file())):
         raise WishError("to go on where an earlier run has stopped, its log is needed, as a file")

@@ -113,6 +113,9 @@ class Many(BatchRoom):
                       Books(log=self.room, resume=True)):
             with self.assertRaises(WishError, msg=str(books)):
                 remesh_files(self.inward, self.out, HALF, books=books)
+        for folder in (source, "/dev/null"):
+            with self.assertRaisesRegex(WishError, "into a folder"):
+                remesh_files(self.inward, folder, HALF)
         (self.inward / "part-1.obj").write_bytes(CUBE.read_bytes())
         with self.assertRaises(WishError):
             remesh_files(self.room / "in/part-1.obj", self.out, Settings(scale="1/2", folder=self.room), books=Books(
