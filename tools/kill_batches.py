@@ -98,8 +98,10 @@ class Batch:
             time.sleep(0.05)
         if left := self.left():
             yield f"processes are left: {left}"
-        if b"Traceback" in self.said.read_bytes():
-            yield f"there is a traceback: {self.said.read_text(errors='replace').splitlines()[-1]}"
+        said = self.said.read_text(errors="replace")
+        # Before the package is loaded, Python itself has a traceback for an interrupt.
+        if "Traceback" in said and "quadq/" in said:
+            yield f"there is a traceback: {said[-500:]}"
         there = {it.name: it.read_bytes() for it in out.iterdir()} if out.is_dir() else {}
         for name, data in there.items():
             if whole.get(name) != data:
