@@ -15,7 +15,7 @@ from .blocks_command import parser_of_blocks, write_asked
 from .check_command import check_asked, parser_of_check
 from .errors import WishError
 from .features import KINDS
-from .files import nothing_stale, refuse_closed, write_whole
+from .files import is_through, nothing_stale, refuse_closed, write_whole
 from .formats import FORMS, refuse_format
 from .inputs import refuse_kept_clashes, refuse_overwriting
 from .jobs import one_file
@@ -237,6 +237,9 @@ def _refuse_clashes(asked: argparse.Namespace, source: Path, out: Path, settings
     """Refuses what would be written over something else, or in vain; a file may be replaced by its remesh. Returns
     where pages go."""
     levels = range(1, len(shares_of(asked.lods)) + 1) if asked.lods else range(0)
+    through = [it for it in (out, asked.report) if it is not None and is_through(it)]
+    if levels and through:
+        raise WishError(f"levels of detail are files beside each other, and {through[0]} is none")
     outs = [path_of(out, it) for it in levels] or [out]
     pages = [] if asked.report is None else [path_of(asked.report, it) for it in levels] or [asked.report]
     is_in_place = outs == [out] and os.path.realpath(out) == os.path.realpath(source)

@@ -47,6 +47,8 @@ class OneFile(Room):
         level = self.room / "a.lod1.obj"
         level.write_bytes(CUBE.read_bytes())
         self.assertEqual(self.run_words(level, self.room / "a.obj", "--lods", "1/2")[0], 2)
+        self.assertEqual(self.run_words(self.source, "/dev/null", "--lods", "1/2")[0], 2)
+        self.assertFalse(os.path.exists("/dev/null.lod1"))
 
     def test_a_file_may_be_replaced_by_its_remesh(self):
         self.assertEqual(self.run_words(self.source, self.source, "--scale", "1/2")[0], 0)
