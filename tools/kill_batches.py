@@ -163,7 +163,8 @@ def killed_by(batch: Batch, number: signal.Signals, times: int, of: Ran) -> Iter
         status = ran.wait(60)
         took = time.monotonic() - sent
         told = f"{number.name} {time_of + 1}"
-        if status not in ({-number} if number == signal.SIGKILL else {128 + number, -number, *of.statuses}):
+        by_signal = {-number} if number == signal.SIGKILL else {128 + number, -number}
+        if status not in (*by_signal, *of.statuses):
             yield f"{told}: the status is {status}"
         if took > SECOND:
             yield f"{told}: the end took {took:.2f} s"
@@ -236,7 +237,7 @@ def on_full_disk(batch: Batch, disk: pathlib.Path, times: int, whole: dict[str, 
         if status not in (1, 13):
             yield f"on a full disk the status is {status}"
         yield from (f"on a full disk: {it}" for it in batch.faults(out, whole))
-        if part == 0.5:
+        if part == 0.99:
             for number in SIGNALS:
                 yield from killed_by(batch, number, times, Ran(out, whole, MOMENTS, None, (0, 1, 13)))
                 print(f"{number.name} on a full disk: {times} times", flush=True)
