@@ -1,7 +1,8 @@
 #!/usr/bin/env python3
 """Measures `quadq fit` beside `remesh`, `crease`, `coarse` and `size`, which are points of it, by turns in one run, and
-`layout` beside `graph` and `grids` beside `blocks`: seconds of the processor, the least of some runs, and their ratio.
-`fit` has to write what the other command writes, but for the head line; else the script ends with an error.
+`layout` beside `graph`, `grids` beside `blocks`, and `fit` with wished spacing beside even: seconds of the processor,
+the least of some runs, and their ratio. `fit` has to write what the other command writes, but for the head line; else
+the script ends with an error.
 
 usage: bench/fit.py [FILE.obj..]
 
@@ -24,9 +25,9 @@ MESHES = {
 SCALED = ["--scale", "1/2", "--floor", "1", "--weight", "plain"]
 
 
-def fit(keep, patches, aim):
+def fit(keep, patches, aim, spacing="even"):
     """The words of a point of `fit`."""
-    return ["fit", "--keep", keep, "--patches", patches, "--aim", aim, *SCALED[2:], "--spacing", "even"]
+    return ["fit", "--keep", keep, "--patches", patches, "--aim", aim, *SCALED[2:], "--spacing", spacing]
 
 
 TRACED = ["--keep", "none", "--patches", "traced"]
@@ -37,7 +38,9 @@ PAIRS = {
     "size": (["size", "--edge", "2.5", "--floor", "1"], fit("none", "traced", "edge:2.5")),
     "layout": (["graph"], ["layout", *TRACED]),
     "grids": (["blocks", "--by", "1"], ["grids", *TRACED, "--by", "1"]),
+    "spacing": (fit("none", "traced", "edge:2.5"), fit("none", "traced", "edge:2.5", "wished")),
 }
+OTHER_TEXTS = {"layout", "grids", "spacing"}
 
 
 def body(path):
@@ -53,7 +56,7 @@ def cell(name, mesh, room):
     first = rounds[0]
     if {run[3] for run in first} != {0}:
         return f"status {first[0][3]}, {first[1][3]}"
-    if name not in ("layout", "grids") and body(outs[0]) != body(outs[1]):
+    if name not in OTHER_TEXTS and body(outs[0]) != body(outs[1]):
         sys.exit(f"{mesh}: {name} and fit differ")
     one, other = (min(run[1] for run in runs) for runs in zip(*rounds, strict=True))
     return f"{one:.3f}, {other:.3f}; {other / max(one, 1e-9):.2f}"

@@ -60,5 +60,5 @@ fit_task fit soup asides cut = record {
   auto = false;
   head = fit_head fit;
   between = kept_text asides.kept;
-  shares = shares_of fit soup asides.wishes;
+  shares = shares_of fit soup asides.wishes cut;
 }

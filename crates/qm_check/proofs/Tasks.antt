@@ -3,6 +3,7 @@ use Rattle.std.proofs.Common.{◌≡◌, Bool, List, ◌∷◌, ◌++◌, [], Ok
 use Rattle.def_cut.specs.FullCut.{IsFullCut}
 use Rattle.def_fit.specs.Aims.{AreAimedNear}
 use Rattle.def_fit.specs.FitTasks.{asides_in, kept_text, Asides}
+use Rattle.def_fit.specs.Shares.{shares_of}
 use Rattle.def_io.specs.Bytes.{Bytes}
 use Rattle.def_layout.specs.FaceLayouts.{IsCutLayout}
 use Rattle.def_layout.specs.Plans.{Plan}
@@ -159,7 +160,9 @@ module _ (command : Command) (line text : Bytes) (least : Least) (point : IsPoin
 
     -- The mesh is laid out for the task.
     pub laid_for : (frame : Frame) → frame.asked ≡ asked_of least → frame.head.items ≡ line ++ 10 ∷ []
-        → marks_of frame ≡ asides.kept → frame.shares ≡ task.shares
+        → marks_of frame ≡ asides.kept
+        → ((marks : List Bool) → IsFullCut cut.soup.faces marks → IsCutLayout cut.soup.faces marks cut.plan
+        → frame.shares ≡ shares_of least.fit cut.soup asides.wishes marks)
         → IsLaidOut task cut frame
     laid_for frame is ended marks shares = record {
       solid = old.solid;
@@ -170,5 +173,5 @@ module _ (command : Command) (line text : Bytes) (least : Least) (point : IsPoin
       head = ended;
       inside = point.head.inside;
       between = λ plan new. λ i. kept_text (sym marks i) plan new;
-      shares = sym shares;
+      shares = sym (shares by.edges full by.laid);
     }

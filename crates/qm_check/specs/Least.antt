@@ -83,7 +83,7 @@ least_task least head soup asides cut = record {
   auto = least.auto;
   head = head;
   between = kept_text asides.kept;
-  shares = shares_of least.fit soup asides.wishes;
+  shares = shares_of least.fit soup asides.wishes cut;
 }
 
 -- It asks for the chosen cut of the mesh.

@@ -4,6 +4,7 @@
 
 mod aims;
 mod law;
+mod lengths;
 mod measures;
 mod network;
 mod roots;

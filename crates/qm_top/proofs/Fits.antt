@@ -10,6 +10,7 @@ use Rattle.def_fit.specs.Shares.{shares_of}
 use Rattle.def_fit.specs.declared.fit.Fit.{Fit as AnyFit}
 use Rattle.def_io.specs.Bytes.{Bytes}
 use Rattle.def_io.specs.Moves.{IsStill, Stream}
+use Rattle.def_layout.specs.FaceLayouts.{IsCutLayout}
 use Rattle.def_layout.specs.Lengths.{Lengths}
 use Rattle.def_layout.specs.Plans.{Plan}
 use Rattle.def_marks.specs.declared.fail.MarkFail.{MarkFail}
@@ -136,11 +137,12 @@ module _ (fit : AnyFit) (bytes : Bytes) (read : FaceSet) (cut : CutSoup) (asides
       → framed.head.items ≡ fit_head fit ++ 10 ∷ []
       → framed.between.items ≡ kept_text asides.kept cut.plan
       (lengths_in (used (certificates_of framed.remesh.certs)).x)
-      → framed.shares ≡ shares_of fit cut.soup asides.wishes
+      → ((marks : List Bool) → IsFullCut cut.soup.faces marks → IsCutLayout cut.soup.faces marks cut.plan
+      → framed.shares ≡ shares_of fit cut.soup asides.wishes marks)
       → ShowsAsked (AsksForNearFit fit) bytes read (framed_text framed cut.soup cut.plan)
   fit_shown framed near is kept head between shares =
       aimed_shown fit.aim (AsksToFit fit) (AsksForNearFit fit) bytes read cut same task asked chosen.2 nearly framed
-      laid near is kept head between shares
+      laid near is kept head between (shares chosen.0 full chosen.2)
 
   -- It is not written where there is no network for its wishes, or where least lengths give no new mesh.
   pub fit_fails : {O : Type 0} (says : Bytes → Type 0) (out : Stream O) → IsStill out → (fail : SizeFail)

@@ -83,7 +83,8 @@ returns-clause-ready c command is =
               shares = c.in_ok-shares.shares;
             })
             c.asked_of.ensures c.in_ok-head.ensures refl
-            (c.in_ok-shares.ensures ∙ ap (shares_of fit cut.soup) c.deref-2.ensures.value);
+            (λ marks full laid. c.in_ok-shares.ensures marks full laid
+            ∙ ap (λ ws. shares_of fit cut.soup ws marks) c.deref-2.ensures.value);
         net =
             subst (λ (ws : List ℕ). IsNetFor (aimed fit.aim cut.soup ws) cut.plan (fit_settings fit)
             (network c.in_ok-net.net)) c.deref.ensures.value

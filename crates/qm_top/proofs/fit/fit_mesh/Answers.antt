@@ -1,10 +1,12 @@
-use Rattle.std.proofs.Common.{◌≡◌, Ok, false, List, ap, sym, ◌∙◌, refl, subst, length}
+use Rattle.std.proofs.Common.{◌≡◌, Ok, false, Bool, List, ap, sym, ◌∙◌, refl, subst, length}
 use Rattle.std.specs.Prelude.{option_copied}
 use Rattle.error_laws.proofs.Errors.{handed}
+use Rattle.def_cut.specs.FullCut.{IsFullCut}
 use Rattle.def_fit.specs.Aims.{aimed, fit_settings}
 use Rattle.def_fit.specs.FitTasks.{asides_in, Asides}
 use Rattle.def_fit.specs.Shares.{shares_of}
 use Rattle.def_io.specs.Bytes.{Bytes}
+use Rattle.def_layout.specs.FaceLayouts.{IsCutLayout}
 use Rattle.def_mesh.specs.Darts.{darts}
 use Rattle.def_patches.specs.Chosen.{AreKeptMarks}
 use Rattle.def_run.specs.Fit.{AsksForNearFit, AsksToFit}
@@ -71,8 +73,9 @@ returns-in_err-write_framed-clause-refused g c bytes said =
     let asides : Asides = record { kept = option_copied c.as_deref-kept.result; wishes = c.deref.result.now } in
     let parts = asides_by_parts (asides_of c.args.asides) asides.kept asides.wishes c.as_deref-kept.ensures.value
     c.deref.ensures.value in
-    let shares = c.in_ok-shares.ensures
-    ∙ ap (shares_of fit cut.soup) (c.deref-2.ensures.value ∙ sym c.deref.ensures.value) in
+    let shares = λ (marks : List Bool) (full : IsFullCut cut.soup.faces marks)
+    (laid : IsCutLayout cut.soup.faces marks cut.plan). c.in_ok-shares.ensures marks full laid
+    ∙ ap (λ ws. shares_of fit cut.soup ws marks) (c.deref-2.ensures.value ∙ sym c.deref.ensures.value) in
     let near = AsksForNearFit fit in
     let failed = c.in_err-write_framed in
     handed _ _ (refusal_of_put failed.field-0.0) c.from_residual-in_err-write_framed.ensures.1
@@ -102,8 +105,9 @@ returns-clause-done g c bytes said =
     let asides : Asides = record { kept = option_copied c.as_deref-kept.result; wishes = c.deref.result.now } in
     let parts = asides_by_parts (asides_of c.args.asides) asides.kept asides.wishes c.as_deref-kept.ensures.value
     c.deref.ensures.value in
-    let shares = c.in_ok-shares.ensures
-    ∙ ap (shares_of fit cut.soup) (c.deref-2.ensures.value ∙ sym c.deref.ensures.value) in
+    let shares = λ (marks : List Bool) (full : IsFullCut cut.soup.faces marks)
+    (laid : IsCutLayout cut.soup.faces marks cut.plan). c.in_ok-shares.ensures marks full laid
+    ∙ ap (λ ws. shares_of fit cut.soup ws marks) (c.deref-2.ensures.value ∙ sym c.deref.ensures.value) in
     record {
       text = framed_text framed cut.soup cut.plan;
       said = fit_shown fit bytes c.args.read cut asides made.soup (said ∙ ap Ok parts)

@@ -1,0 +1,76 @@
+//! The lengths in space of the edges of a cut, at their darts.
+
+ghost use Rattle.std.specs.Prelude.{◌≡◌, ◌<◌, ◌^◌, List, Bool, length, map, IfOk};
+ghost use Rattle.std.specs.List.{All};
+ghost use Rattle.def_cut.specs.FullCut.{IsFullCut};
+ghost use Rattle.def_fit.specs.Shares.{cut_length};
+ghost use Rattle.def_layout.specs.FaceLayouts.{IsCutLayout};
+ghost use Rattle.def_layout.specs.declared.tmesh.TArc.{TArc as Run};
+ghost use Rattle.def_mesh.specs.Darts.{all_darts, darts};
+ghost use Rattle.def_mesh.specs.Vertices.{vertex_count};
+ghost use Rattle.qm_metric.specs.Lengths.{with_arcs, with_edge, with_path};
+
+use crate::measures::edge_length;
+use def_layout::TArc;
+use def_remesh::DartShares;
+use def_text::Micro;
+use qm_cutmesh::CutMesh;
+use qm_mesh::Mesh;
+use std::alloc::{AllocError, Global};
+
+/// The lengths of the edges of the cut, in millionths, and 0 at all other darts. Linear in the darts, and near linear
+/// in those of the cut, as a root takes at most 64 steps.
+pub(crate) fn cut_lengths(alloc: Global, cut: &CutMesh) -> Result<DartShares, AllocError>
+    ensures { (marks : List Bool) → IsFullCut cut.now.soup.faces marks
+        → IsCutLayout cut.now.soup.faces marks cut.now.plan
+        → IfOk result (λ shares. shares ≡ map (cut_length cut.now.soup marks) (all_darts cut.now.soup.faces)) }
+{
+    let mesh = cut.mesh();
+    let layout = cut.layout();
+    let mut lengths = vec![in alloc; 0u64; 4 * mesh.faces().len()]?;
+    put_arcs(&mut lengths, mesh, cut.pos(), &layout.arcs);
+    Ok(DartShares { shares: lengths })
+}
+
+/// Puts the lengths of the edges along these arcs at their darts.
+fn put_arcs(lengths: &mut [u64], mesh: &Mesh, pos: &[[Micro; 3]], arcs: &[TArc])
+    requires table { length lengths.old ≡ darts mesh.now }
+    requires positions { length pos.now ≡ vertex_count mesh.now }
+    requires inside { All (λ (arc : Run). All (λ d. d < darts mesh.now) arc.darts.items) arcs.now }
+    requires small { All (λ share. share < 2 ^ 62) lengths.old }
+    ensures value { lengths.new ≡ with_arcs mesh.now pos.now lengths.old arcs.now }
+    ensures small { All (λ share. share < 2 ^ 62) lengths.new }
+{
+    for arc in arcs {
+        put_path(lengths, mesh, pos, &arc.darts);
+    }
+}
+
+/// Puts the lengths of the edges along a path at their darts.
+fn put_path(lengths: &mut [u64], mesh: &Mesh, pos: &[[Micro; 3]], path: &[u32])
+    requires table { length lengths.old ≡ darts mesh.now }
+    requires positions { length pos.now ≡ vertex_count mesh.now }
+    requires inside { All (λ d. d < darts mesh.now) path.now }
+    requires small { All (λ share. share < 2 ^ 62) lengths.old }
+    ensures value { lengths.new ≡ with_path mesh.now pos.now lengths.old path.now }
+    ensures small { All (λ share. share < 2 ^ 62) lengths.new }
+{
+    for dart in path {
+        put_edge(lengths, mesh, pos, *dart);
+    }
+}
+
+/// Puts the length of the edge of a dart at each of its darts.
+fn put_edge(lengths: &mut [u64], mesh: &Mesh, pos: &[[Micro; 3]], dart: u32)
+    requires table { length lengths.old ≡ darts mesh.now }
+    requires positions { length pos.now ≡ vertex_count mesh.now }
+    requires dart { dart < darts mesh.now }
+    requires small { All (λ share. share < 2 ^ 62) lengths.old }
+    ensures value { lengths.new ≡ with_edge mesh.now pos.now lengths.old dart }
+    ensures small { All (λ share. share < 2 ^ 62) lengths.new }
+{
+    lengths[dart as usize] = edge_length(mesh, pos, dart);
+    if let Some(twin) = mesh.twin(dart) {
+        lengths[twin as usize] = edge_length(mesh, pos, twin);
+    }
+}
