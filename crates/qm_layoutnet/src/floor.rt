@@ -22,7 +22,7 @@ pub fn with_floor(net: Net, floor: u32) -> Net
 fn put_floor(arcs: &mut [Arc], floor: u32)
     ensures { arcs.new ≡ map (at_floor floor) arcs.old }
 {
-    for k in 0..arcs.len() {
-        arcs[k].floor = floor;
+    for arc in arcs.iter_mut() {
+        arc.floor = floor;
     }
 }

@@ -5,7 +5,7 @@ use Rattle.qm_layoutnet.proofs.floor.put_floor.Goals as goal
 
 pub returns : goal.returns
 returns c =
-    let all : c.loop-k.k ≡ length c.args.arcs.now =
-    omega (arith, c.loop-k-test.false, c.loop-k.auto.k-end, c.loop-k.invariant.long) in
-    all_floored c.args.floor c.args.arcs.now c.loop-k.arcs
-    (subst (λ (n : ℕ). AreFloored n c.args.floor c.args.arcs.now c.loop-k.arcs) all c.loop-k.invariant)
+    let all : c.loop-arc.arc-index ≡ length c.args.arcs.now =
+    omega (arith, c.loop-arc-test.false, c.loop-arc.auto, c.loop-arc.invariant.long) in
+    all_floored c.args.floor c.args.arcs.now c.loop-arc.arcs
+    (subst (λ (n : ℕ). AreFloored n c.args.floor c.args.arcs.now c.loop-arc.arcs) all c.loop-arc.invariant)
