@@ -21,8 +21,7 @@ use Rattle.forest_laws.proofs.Odds.{odd_blossom}
 pub eqb_order : (a b : ℕ) → eqb a b ≡ eqb b a
 eqb_order a b = elim (cases_eq a b) [
   | inl e ↦ eq-eqb a b e ∙ sym (eq-eqb b a (sym e))
-  | inr ne ↦ ne_eqb a b ne
-      ∙ sym (ne_eqb b a (λ e. ne (sym e)))
+  | inr ne ↦ ne_eqb a b ne ∙ sym (ne_eqb b a (λ e. ne (sym e)))
 ]
 
 -- One of two that are not both.
@@ -60,18 +59,17 @@ just_once s z (e ∷ es) one = by_test (crosses s e) one (just_once s z es) (onc
     by_test false one' rest none = let h : total (λ (x : WEdge). cond (crosses s x) z (pos 0)) es ≡ z =
         rest (omega arith) in omega (arith, ints)
 
-module _ (g : WeightedGraph) (is : IsGraph g) (f : Forest) (vertices : g.n ≤ f.size)
+module _ {g : WeightedGraph} (is : IsGraph g) {f : Forest} (vertices : g.n ≤ f.size)
     (nested : IsNested (darts_of g) f) where
   -- An edge that leaves a vertex ends there.
   pub leaves_vertex : (v k : ℕ) → v < g.n → k < length g.edges
       → ◌≡◌ {A = ℕ} (cond (crosses (f.holds v) (edge_at g k)) 1 0) (ends_at v (edge_at g k))
-  leaves_vertex v k lv lk =
-      ap (λ (s : Bool). cond (cond s (not (f.holds v (edge_at g k).v)) (f.holds v (edge_at g k).v)) 1 0)
-      (nested.alone v (edge_at g k).u lv (is.left k lk) ∙ eqb_order v (edge_at g k).u)
+  leaves_vertex v k lv lk = ap (λ (s : Bool). cond (cond s (not (f.holds v (edge_at g k).v))
+      (f.holds v (edge_at g k).v)) 1 0) (nested.alone v (edge_at g k).u lv (is.left k lk) ∙ eqb_order v (edge_at g k).u)
       ∙ (ap (λ (s : Bool). cond (cond (eqb (edge_at g k).u v) (not s) s) 1 0)
       (nested.alone v (edge_at g k).v lv (is.right k lk) ∙ eqb_order v (edge_at g k).v)
-      ∙ one_of (eqb (edge_at g k).u v) (eqb (edge_at g k).v v) (λ p q. is.apart k lk (eqb-true (edge_at g k).u v p
-      ∙ sym (eqb-true (edge_at g k).v v q))))
+      ∙ one_of (eqb (edge_at g k).u v) (eqb (edge_at g k).v v) (λ p q. is.apart k lk
+      (eqb-true (edge_at g k).u v p ∙ sym (eqb-true (edge_at g k).v v q))))
 
   pub counts_vertex : (v low : ℕ) (m : List ℕ) → v < g.n → IsIncreasing low (length g.edges) m
       → count (λ (e : WEdge). cond (crosses (f.holds v) e) 1 0) (map (edge_at g) m)
@@ -87,12 +85,11 @@ module _ (g : WeightedGraph) (is : IsGraph g) (f : Forest) (vertices : g.n ≤ f
   module _ (feasible : IsFeasible (darts_of g) f) where
     edge_low : (k : ℕ) → k < length g.edges
         → weight_between f (edge_at g k).u (edge_at g k).v ≤ℤ ((edge_at g k).cost +ℤ (edge_at g k).cost)
-    edge_low k l =
-        subst (λ c. weight_between f (edge_at g k).u (edge_at g k).v ≤ℤ (c +ℤ c)) (dart_cost g k)
+    edge_low k l = subst (λ c. weight_between f (edge_at g k).u (edge_at g k).v ≤ℤ (c +ℤ c)) (dart_cost g k)
         (subst (λ v. weight_between f (edge_at g k).u v ≤ℤ ((darts_of g).cost (2 * k) +ℤ (darts_of g).cost (2 * k)))
-        (dart_far g k)
-        (subst (λ u. weight_between f u (far (darts_of g) (2 * k)) ≤ℤ ((darts_of g).cost (2 * k) +ℤ (darts_of g).cost
-        (2 * k))) (dart_near g k) (feasible.darts (2 * k) (omega arith))))
+        (dart_far g k) (subst (λ u. weight_between f u (far (darts_of g) (2 * k)) ≤ℤ
+        ((darts_of g).cost (2 * k) +ℤ (darts_of g).cost (2 * k))) (dart_near g k)
+        (feasible.darts (2 * k) (omega arith))))
 
     loads_low : (low : ℕ) (m : List ℕ) → IsIncreasing low (length g.edges) m
         → total (λ (e : WEdge). weight_between f e.u e.v) (map (edge_at g) m) ≤ℤ (pos 2 *ℤ matching_cost g m)
@@ -100,8 +97,8 @@ module _ (g : WeightedGraph) (is : IsGraph g) (f : Forest) (vertices : g.n ≤ f
     loads_low low (k ∷ ks) increasing = omega (arith, ints, edge_low k increasing.1, loads_low (k + 1) ks increasing.2)
 
     -- Twice the cost of a perfect matching is at least the sum.
-    pub sum_bounds : (m : List ℕ) → IsPerfect g m → dual_sum_of f ≤ℤ (pos 2 *ℤ matching_cost g m)
-    sum_bounds m perfect =
+    pub sum_bounds : {m : List ℕ} → IsPerfect g m → dual_sum_of f ≤ℤ (pos 2 *ℤ matching_cost g m)
+    sum_bounds {m} perfect =
         let swap : total (λ (e : WEdge). total_below (λ b. adds b e) f.size) es
         ≡ total_below (λ b. total (adds b) es) f.size = two_orders adds f.size es in
         let each : total_below f.weight f.size ≤ℤ total_below (λ b. total (adds b) es) f.size =
@@ -123,7 +120,7 @@ module _ (g : WeightedGraph) (is : IsGraph g) (f : Forest) (vertices : g.n ≤ f
             → f.weight b ≤ℤ total (λ (e : WEdge). cond (crosses (f.holds b) e) (f.weight b) (pos 0)) (map (edge_at g) m)
         used b high l live = at_least_once (f.holds b) (f.weight b) (map (edge_at g) m) (feasible.sets b high l)
             (odd_leaves (f.holds b) g.n (map (edge_at g) m) (chosen_below g is 0 m perfect.increasing) perfect.once
-            (odd_blossom (darts_of g) (are_darts g is) f nested b (inr (high, live))))
+            (odd_blossom (are_darts is) nested b (inr (high, live))))
 
         unused : (b : ℕ) → g.n ≤ b → f.weight b ≡ pos 0 → (es : List WEdge)
             → f.weight b ≤ℤ total (λ (e : WEdge). cond (crosses (f.holds b) e) (f.weight b) (pos 0)) es
@@ -131,9 +128,8 @@ module _ (g : WeightedGraph) (is : IsGraph g) (f : Forest) (vertices : g.n ≤ f
         unused b high z (e ∷ es) = by_test (crosses (f.holds b) e) (unused b high z es)
           where
             by_test : (c : Bool) → f.weight b ≤ℤ total (λ (x : WEdge). cond (crosses (f.holds b) x) (f.weight b)
-                (pos 0)) es → f.weight b ≤ℤ
-                (cond c (f.weight b) (pos 0) +ℤ total (λ (x : WEdge). cond (crosses (f.holds b) x) (f.weight b) (pos 0))
-                es)
+                (pos 0)) es → f.weight b ≤ℤ (cond c (f.weight b) (pos 0) +ℤ total
+                (λ (x : WEdge). cond (crosses (f.holds b) x) (f.weight b) (pos 0)) es)
             by_test true rest = omega (arith, ints)
             by_test false rest = omega (arith, ints)
 

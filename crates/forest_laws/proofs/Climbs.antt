@@ -13,14 +13,14 @@ use Rattle.def_forest.specs.Ways.{dart_or, inner_of, parent_of, steps_by, steps}
 use Rattle.forest_laws.proofs.Writes.{some_is}
 use Rattle.forest_laws.proofs.Facts.{far_twin, outer_mate}
 
-module _ (g : Darts) (are : AreDarts g) (f : Forest) (r : ℕ) (valid : IsValid g f (Some r)) (tree : IsTree g f r) where
+module _ {g : Darts} (are : AreDarts g) {f : Forest} {r : ℕ} (valid : IsValid g f (Some r)) (tree : IsTree g f r) where
   module _ (a d : ℕ) (outer : f.label a ≡ Outer) (mate : f.mate a ≡ Some d) where
     -- The inner blossom that an outer one is matched to.
     pub inner_is : inner_of g f a ≡ f.out (far g d)
     inner_is = ap (λ o. f.out (far g (dart_or o))) mate
 
     pub inner_label : f.label (inner_of g f a) ≡ Inner
-    inner_label = ap f.label inner_is ∙ outer_mate g are f (Some r) valid a d outer mate
+    inner_label = ap f.label inner_is ∙ outer_mate are valid a d outer mate
 
     pub inner_back : f.mate (inner_of g f a) ≡ Some (g.twin d)
     inner_back = ap f.mate inner_is ∙ (valid.matched a d mate).back
@@ -29,11 +29,9 @@ module _ (g : Darts) (are : AreDarts g) (f : Forest) (r : ℕ) (valid : IsValid 
     inner_tree = tree.inner (inner_of g f a) inner_label
 
     pub inner_depth : tree.depth (inner_of g f a) ≡ tree.depth a
-    inner_depth =
-        sym inner_tree.same
-        ∙ ap tree.depth (ap (λ x. f.out (far g x)) (some_is inner_tree.dart (g.twin d) (sym inner_tree.mate
-        ∙ inner_back))
-        ∙ (ap f.out (far_twin g are d) ∙ (valid.matched a d mate).here))
+    inner_depth = sym inner_tree.same ∙ ap tree.depth (ap (λ x. f.out (far g x))
+        (some_is inner_tree.dart (g.twin d) (sym inner_tree.mate ∙ inner_back))
+        ∙ (ap f.out (far_twin are d) ∙ (valid.matched a d mate).here))
 
     pub parent_outer : f.label (parent_of g f a) ≡ Outer
     parent_outer = inner_tree.above

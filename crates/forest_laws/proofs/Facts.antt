@@ -12,18 +12,18 @@ pub far_low : (g : Darts) → AreDarts g → (d : ℕ) → d < g.count → far g
 far_low g are d low = are.near_low (g.twin d) (are.twin_low d low)
 
 -- The twin of a dart ends where the dart begins.
-pub far_twin : (g : Darts) → AreDarts g → (d : ℕ) → far g (g.twin d) ≡ g.near d
-far_twin g are d = ap g.near (are.twin_twin d)
+pub far_twin : {g : Darts} → AreDarts g → (d : ℕ) → far g (g.twin d) ≡ g.near d
+far_twin {g} are d = ap g.near (are.twin_twin d)
 
 -- The twin of a tight dart is tight.
-pub tight_twin : (g : Darts) → AreDarts g → (f : Forest) (d : ℕ) → IsTight g f d → IsTight g f (g.twin d)
-tight_twin g are f d tight = record {
+pub tight_twin : {g : Darts} → AreDarts g → {f : Forest} {d : ℕ} → IsTight g f d → IsTight g f (g.twin d)
+tight_twin {g} are {f} {d} tight = record {
   low = are.twin_low d tight.low;
-  exact = ap (weight_between f (far g d)) (far_twin g are d)
+  exact = ap (weight_between f (far g d)) (far_twin are d)
       ∙ (load_order f (far g d) (g.near d) ∙ (tight.exact ∙ sym (ap (λ x. x +ℤ x) (are.cost_twin d))));
 }
 
-module _ (g : Darts) (are : AreDarts g) (f : Forest) (root : Option ℕ) (valid : IsValid g f root) where
+module _ {g : Darts} (are : AreDarts g) {f : Forest} {root : Option ℕ} (valid : IsValid g f root) where
   -- Where a blossom has a place in the tree there is one.
   pub tree_of : (b : ℕ) → f.label b ≢ Outside → (r : ℕ) × (root ≡ Some r) × IsTree g f r
   tree_of b named = by_root root refl

@@ -19,18 +19,17 @@ use Rattle.forest_laws.proofs.Levels.{way_differs, come_from, outer_even, outer_
 use Rattle.forest_laws.proofs.Walks.{walk_sum, listed_at, listed_place, listed_off, listed_closed, listed_sum}
 
 -- The two climbers may change places.
-pub swapped : (g : Darts) (f : Forest) (a c x y i j : ℕ) → IsClimbing g f a c x y i j → IsClimbing g f c a y x j i
-swapped g f a c x y i j is = record {
+pub swapped : {g : Darts} {f : Forest} {a c x y i j : ℕ} → IsClimbing g f a c x y i j → IsClimbing g f c a y x j i
+swapped is = record {
   x_is = is.y_is;
   y_is = is.x_is;
   x_low = is.y_low;
   y_low = is.x_low;
-  left =
-      λ k m lk lm e. is.right m k lm lk (sym e);
+  left = λ k m lk lm e. is.right m k lm lk (sym e);
   right = λ k m lk lm e. is.left m k lm lk (sym e);
 }
 
-module _ (g : Darts) (are : AreDarts g) (f : Forest) (r : ℕ) (valid : IsValid g f (Some r)) (tree : IsTree g f r)
+module _ {g : Darts} (are : AreDarts g) {f : Forest} {r : ℕ} (valid : IsValid g f (Some r)) (tree : IsTree g f r)
     (a c : ℕ) (named_a : f.label a ≢ Outside) (named_c : f.label c ≢ Outside) where
   abbrev level : ℕ → ℕ
   level = level_of g f
@@ -38,39 +37,28 @@ module _ (g : Darts) (are : AreDarts g) (f : Forest) (r : ℕ) (valid : IsValid 
   abbrev way : ℕ → ℕ → ℕ
   way = way_of g f
 
-  pub begin_climb : IsClimbing g f a c a c 0 0
-  begin_climb = record {
-    x_is = refl;
-    y_is = refl;
-    x_low = omega arith;
-    y_low = omega arith;
-    left =
-        λ k m lk lm e. omega arith;
-    right = λ k m lk lm e. omega arith;
-  }
-
   -- The higher one, or either where they are level, is not at the root, and climbs.
-  pub can_climb : (x y i j : ℕ) → IsClimbing g f a c x y i j → x ≢ y → level c - j ≤ level a - i → i < level a
-  can_climb x y i j is ne high = by_level (cases_lt i (level a))
+  pub can_climb : {x y i j : ℕ} → IsClimbing g f a c x y i j → x ≢ y → level c - j ≤ level a - i → i < level a
+  can_climb {i} {j} is ne high = by_level (cases_lt i (level a))
     where
       by_level : (i < level a) ⊎ (level a ≤ i) → i < level a
       by_level (inl l) = l
       by_level (inr h) =
           let wx : (f.label (way a i) ≢ Outside) × (level (way a i) + i ≡ level a) =
-          on_way g are f r valid tree a i named_a is.x_low in
+          on_way are valid tree a i named_a is.x_low in
           let wy : (f.label (way c j) ≢ Outside) × (level (way c j) + j ≡ level c) =
-          on_way g are f r valid tree c j named_c is.y_low in
-          let rx : way a i ≡ r = level_zero g are f r valid tree (way a i) wx.0 (omega (arith, wx.1, h)) in
-          let ry : way c j ≡ r = level_zero g are f r valid tree (way c j) wy.0
+          on_way are valid tree c j named_c is.y_low in
+          let rx : way a i ≡ r = level_zero are valid tree (way a i) wx.0 (omega (arith, wx.1, h)) in
+          let ry : way c j ≡ r = level_zero are valid tree (way c j) wy.0
           (omega (arith, wy.1, h, high, is.x_low, is.y_low)) in
           absurd (ne (is.x_is ∙ (rx ∙ (sym ry ∙ sym is.y_is))))
 
-  pub climb_on : (x y x2 i j : ℕ) → IsClimbing g f a c x y i j → x ≢ y → level c - j ≤ level a - i → x2 ≡ above_of g f x
-      → IsClimbing g f a c x2 y (suc i) j
-  climb_on x y x2 i j is ne high x2_is = record {
+  pub climb_on : {x y : ℕ} {x2 : ℕ} {i j : ℕ} → IsClimbing g f a c x y i j → x ≢ y → level c - j ≤ level a - i → x2
+      ≡ above_of g f x → IsClimbing g f a c x2 y (suc i) j
+  climb_on {i} {j} is ne high x2_is = record {
     x_is = x2_is ∙ ap (above_of g f) is.x_is;
     y_is = is.y_is;
-    x_low = can_climb x y i j is ne high;
+    x_low = can_climb is ne high;
     y_low = is.y_low;
     left = λ k m lk lm e. passed k m lk lm e (cases_eq k i);
     right = is.right;
@@ -80,9 +68,9 @@ module _ (g : Darts) (are : AreDarts g) (f : Forest) (r : ℕ) (valid : IsValid 
       passed k m lk lm e (inr nk) = (let h : i ≤ k = is.left k m lk lm e in omega (arith, h, nk))
       passed k m lk lm e (inl at) =
           let wx : (f.label (way a k) ≢ Outside) × (level (way a k) + k ≡ level a) =
-          on_way g are f r valid tree a k named_a lk in
+          on_way are valid tree a k named_a lk in
           let wy : (f.label (way c m) ≢ Outside) × (level (way c m) + m ≡ level c) =
-          on_way g are f r valid tree c m named_c lm in
+          on_way are valid tree c m named_c lm in
           let s : level (way a k) ≡ level (way c m) = ap level e in
           let late : j ≤ m = is.right k m lk lm e in
           let same : m ≡ j = omega (arith, wx.1, wy.1, s, late, high, at, lm, is.y_low, lk) in
@@ -97,7 +85,7 @@ module _ (g : Darts) (are : AreDarts g) (f : Forest) (r : ℕ) (valid : IsValid 
     at_top_too = sym met.y_is
 
     top_named : f.label top ≢ Outside
-    top_named = subst (λ x. f.label x ≢ Outside) at_top (on_way g are f r valid tree a left named_a met.x_low).0
+    top_named = subst (λ x. f.label x ≢ Outside) at_top (on_way are valid tree a left named_a met.x_low).0
 
     -- They meet in an outer blossom.
     pub top_outer : f.label top ≡ Outer
@@ -113,8 +101,8 @@ module _ (g : Darts) (are : AreDarts g) (f : Forest) (r : ℕ) (valid : IsValid 
             → f.mate top ≡ Some e → f.out (far g e) ≡ way b k
         from_child b k e named l at inner mate =
             let on : (f.label (way b k) ≢ Outside) × (level (way b k) + k ≡ level b) =
-            on_way g are f r valid tree b k named (omega (arith, l)) in
-            come_from g are f r valid tree (way b k) e on.0 (omega (arith, on.1, l)) (ap f.label at ∙ inner)
+            on_way are valid tree b k named (omega (arith, l)) in
+            come_from are valid tree (way b k) e on.0 (omega (arith, on.1, l)) (ap f.label at ∙ inner)
             (ap f.mate at ∙ mate)
 
         by_before : f.label top ≡ Inner → (i : ℕ) × (left ≡ suc i) → (j : ℕ) × (right ≡ suc j) → ⊥
@@ -136,13 +124,13 @@ module _ (g : Darts) (are : AreDarts g) (f : Forest) (r : ℕ) (valid : IsValid 
     -- The ring has an odd number of places.
     pub ring_half : a ≢ c → (h : ℕ) × (1 ≤ h) × (left + right + 1 ≡ 2 * h + 1)
     ring_half ne =
-        let ea : (k : ℕ) × (level a ≡ 2 * k) = outer_even g are f r valid tree a outer_a in
-        let ec : (k : ℕ) × (level c ≡ 2 * k) = outer_even g are f r valid tree c outer_c in
-        let et : (k : ℕ) × (level top ≡ 2 * k) = outer_even g are f r valid tree top top_outer in
+        let ea : (k : ℕ) × (level a ≡ 2 * k) = outer_even are valid tree a outer_a in
+        let ec : (k : ℕ) × (level c ≡ 2 * k) = outer_even are valid tree c outer_c in
+        let et : (k : ℕ) × (level top ≡ 2 * k) = outer_even are valid tree top top_outer in
         let wa : (f.label (way a left) ≢ Outside) × (level (way a left) + left ≡ level a) =
-        on_way g are f r valid tree a left named_a met.x_low in
+        on_way are valid tree a left named_a met.x_low in
         let wc : (f.label (way c right) ≢ Outside) × (level (way c right) + right ≡ level c) =
-        on_way g are f r valid tree c right named_c met.y_low in
+        on_way are valid tree c right named_c met.y_low in
         let sa : level (way a left) ≡ level top = ap level at_top in
         let sc : level (way c right) ≡ level top = ap level at_top_too in (
           (left + right) / 2,
@@ -186,30 +174,30 @@ module _ (g : Darts) (are : AreDarts g) (f : Forest) (r : ℕ) (valid : IsValid 
       where
         by_side : Side k → f.label (at k) ≢ Outside
         by_side (inl lk) = subst (λ x. f.label x ≢ Outside) (sym (at_left k lk))
-            (on_way g are f r valid tree a (left - k) named_a (omega (arith, met.x_low))).0
+            (on_way are valid tree a (left - k) named_a (omega (arith, met.x_low))).0
         by_side (inr w) = subst (λ x. f.label x ≢ Outside) (sym (at_right k w.0 w.1))
-            (on_way g are f r valid tree c w.0 named_c (omega (arith, w.1, l, met.y_low))).0
+            (on_way are valid tree c w.0 named_c (omega (arith, w.1, l, met.y_low))).0
 
     -- No place on the ring is nearer to the root than the top.
     pub at_level : (k : ℕ) → k < left + right + 1 → level top ≤ level (at k)
     at_level k l = by_side (side k)
       where
         wa : (f.label (way a left) ≢ Outside) × (level (way a left) + left ≡ level a)
-        wa = on_way g are f r valid tree a left named_a met.x_low
+        wa = on_way are valid tree a left named_a met.x_low
 
         wc : (f.label (way c right) ≢ Outside) × (level (way c right) + right ≡ level c)
-        wc = on_way g are f r valid tree c right named_c met.y_low
+        wc = on_way are valid tree c right named_c met.y_low
 
         by_side : Side k → level top ≤ level (at k)
         by_side (inl lk) =
             let on : (f.label (way a (left - k)) ≢ Outside) × (level (way a (left - k)) + (left - k) ≡ level a) =
-            on_way g are f r valid tree a (left - k) named_a (omega (arith, met.x_low)) in
+            on_way are valid tree a (left - k) named_a (omega (arith, met.x_low)) in
             let s : level (at k) ≡ level (way a (left - k)) = ap level (at_left k lk) in
             let t : level (way a left) ≡ level top = ap level at_top in
             omega (arith, on.1, s, t, wa.1)
         by_side (inr w) =
             let on : (f.label (way c w.0) ≢ Outside) × (level (way c w.0) + w.0 ≡ level c) =
-            on_way g are f r valid tree c w.0 named_c (omega (arith, w.1, l, met.y_low)) in
+            on_way are valid tree c w.0 named_c (omega (arith, w.1, l, met.y_low)) in
             let s : level (at k) ≡ level (way c w.0) = ap level (at_right k w.0 w.1) in
             let t : level (way c right) ≡ level top = ap level at_top_too in
             omega (arith, on.1, s, t, wc.1, w.1, l)
@@ -221,11 +209,11 @@ module _ (g : Darts) (are : AreDarts g) (f : Forest) (r : ℕ) (valid : IsValid 
             → tree.depth top ≤ tree.depth (way b i)
         climb b i n named li ln e =
             let on : (f.label (way b i) ≢ Outside) × (level (way b i) + i ≡ level b) =
-            on_way g are f r valid tree b i named (omega (arith, li, ln)) in
+            on_way are valid tree b i named (omega (arith, li, ln)) in
             let more : n ≡ i + (n - i) = omega (arith, li) in
             let last : way (way b i) (n - i) ≡ top = sym (walk_sum (above_of g f) b i (n - i))
             ∙ (ap (way b) (sym more) ∙ e) in
-            subst (λ x. tree.depth x ≤ tree.depth (way b i)) last (way_depth g are f r valid tree (way b i) (n - i) on.0
+            subst (λ x. tree.depth x ≤ tree.depth (way b i)) last (way_depth are valid tree (way b i) (n - i) on.0
             (omega (arith, on.1, ln)))
 
         by_side : Side k → tree.depth top ≤ tree.depth (at k)
@@ -240,7 +228,7 @@ module _ (g : Darts) (are : AreDarts g) (f : Forest) (r : ℕ) (valid : IsValid 
       where
         by_sides : Side i → Side j → ⊥
         by_sides (inl li) (inl lj') =
-            let s : left - i ≡ left - j = way_differs g are f r valid tree a (left - i) (left - j) named_a
+            let s : left - i ≡ left - j = way_differs are valid tree a (left - i) (left - j) named_a
             (omega (arith, met.x_low)) (omega (arith, met.x_low)) (sym (at_left i li) ∙ (e ∙ at_left j lj')) in
             omega (arith, s, lij, lj')
         by_sides (inl li) (inr wj) =
@@ -249,13 +237,13 @@ module _ (g : Darts) (are : AreDarts g) (f : Forest) (r : ℕ) (valid : IsValid 
             omega (arith, h, wj.1, lj)
         by_sides (inr wi) (inl lj') = omega (arith, wi.1, lij, lj')
         by_sides (inr wi) (inr wj) =
-            let s : wi.0 ≡ wj.0 = way_differs g are f r valid tree c wi.0 wj.0 named_c
+            let s : wi.0 ≡ wj.0 = way_differs are valid tree c wi.0 wj.0 named_c
             (omega (arith, met.y_low, wi.1, lij, lj)) (omega (arith, met.y_low, wj.1, lj))
             (sym (at_right i wi.0 wi.1) ∙ (e ∙ at_right j wj.0 wj.1)) in
             omega (arith, s, wi.1, wj.1, lij)
 
     -- The darts between them.
-    module _ (start : ℕ) (tight : IsTight g f start) (begins : f.out (g.near start) ≡ a) (ends : f.out (far g start)
+    module _ {start : ℕ} (tight : IsTight g f start) (begins : f.out (g.near start) ≡ a) (ends : f.out (far g start)
         ≡ c) where
       abbrev dart : ℕ → ℕ
       dart = ring_dart g f a c left start
@@ -264,14 +252,13 @@ module _ (g : Darts) (are : AreDarts g) (f : Forest) (r : ℕ) (valid : IsValid 
       dart_left k l = cond-true (nat_lt k left) (g.twin (dart_or (rise_of f (way a (left - k - 1)))))
           (cond (eqb k left) start (dart_or (rise_of f (way c (k - left - 1))))) (lt-ltb k left l)
 
-      pub dart_over : (k : ℕ) → k ≡ left → dart k ≡ start
-      dart_over k e =
-          cond-false (nat_lt k left) (g.twin (dart_or (rise_of f (way a (left - k - 1)))))
+      pub dart_over : {k : ℕ} → k ≡ left → dart k ≡ start
+      dart_over {k} e = cond-false (nat_lt k left) (g.twin (dart_or (rise_of f (way a (left - k - 1)))))
           (cond (eqb k left) start (dart_or (rise_of f (way c (k - left - 1))))) (le-ltb k left (omega (arith, e)))
           ∙ cond-true (eqb k left) start (dart_or (rise_of f (way c (k - left - 1)))) (eq-eqb k left e)
 
-      pub dart_right : (k m : ℕ) → k ≡ left + 1 + m → dart k ≡ dart_or (rise_of f (way c m))
-      dart_right k m e =
+      pub dart_right : {k : ℕ} (m : ℕ) → k ≡ left + 1 + m → dart k ≡ dart_or (rise_of f (way c m))
+      dart_right {k} m e =
           cond-false (nat_lt k left) (g.twin (dart_or (rise_of f (way a (left - k - 1)))))
           (cond (eqb k left) start (dart_or (rise_of f (way c (k - left - 1))))) (le-ltb k left (omega (arith, e)))
           ∙ (cond-false (eqb k left) start (dart_or (rise_of f (way c (k - left - 1))))
@@ -287,24 +274,23 @@ module _ (g : Darts) (are : AreDarts g) (f : Forest) (r : ℕ) (valid : IsValid 
           down : k < left → Joins (dart k) (at k) (at (suc k))
           down lk =
               let d : ℕ = dart_or (rise_of f (way a (left - k - 1))) in
-              let step : IsStep g are f r valid tree (way a (left - k - 1))
-              (dart_or (rise_of f (way a (left - k - 1)))) =
-              way_step g are f r valid tree a (left - k - 1) named_a (omega (arith, met.x_low, lk)) in
+              let step : IsStep are valid tree (way a (left - k - 1)) (dart_or (rise_of f (way a (left - k - 1)))) =
+              way_step are valid tree a (left - k - 1) named_a (omega (arith, met.x_low, lk)) in
               let same : suc (left - k - 1) ≡ left - k = omega (arith, lk) in
               let here : at k ≡ above_of g f (way a (left - k - 1)) = at_left k (omega (arith, lk))
               ∙ ap (way a) (sym same) in
               let next : left - suc k ≡ left - k - 1 = omega (arith, lk) in
               let there : at (suc k) ≡ way a (left - k - 1) = at_left (suc k) (omega (arith, lk)) ∙ ap (way a) next in
               subst (λ x. Joins x (at k) (at (suc k))) (sym (dart_left k lk)) (
-                tight_twin g are f (dart_or (rise_of f (way a (left - k - 1)))) step.tight,
+                tight_twin are step.tight,
                 step.there ∙ sym here,
-                ap f.out (far_twin g are (dart_or (rise_of f (way a (left - k - 1))))) ∙ (step.here ∙ sym there),
+                ap f.out (far_twin are (dart_or (rise_of f (way a (left - k - 1))))) ∙ (step.here ∙ sym there),
               )
 
           over : k ≡ left → Joins (dart k) (at k) (at (suc k))
           over e =
               let z : left - k ≡ 0 = omega (arith, e) in
-              subst (λ x. Joins x (at k) (at (suc k))) (sym (dart_over k e)) (
+              subst (λ x. Joins x (at k) (at (suc k))) (sym (dart_over e)) (
                 tight,
                 begins ∙ sym (at_left k (omega (arith, e)) ∙ ap (way a) z),
                 ends ∙ sym (at_right (suc k) 0 (omega (arith, e))),
@@ -312,13 +298,12 @@ module _ (g : Darts) (are : AreDarts g) (f : Forest) (r : ℕ) (valid : IsValid 
 
           up : (m : ℕ) → k ≡ left + 1 + m → Joins (dart k) (at k) (at (suc k))
           up m e =
-              let step : IsStep g are f r valid tree (way c m) (dart_or (rise_of f (way c m))) =
-              way_step g are f r valid tree c m named_c (omega (arith, met.y_low, e, l)) in
-              subst (λ x. Joins x (at k) (at (suc k))) (sym (dart_right k m e)) (
+              let step : IsStep are valid tree (way c m) (dart_or (rise_of f (way c m))) =
+              way_step are valid tree c m named_c (omega (arith, met.y_low, e, l)) in
+              subst (λ x. Joins x (at k) (at (suc k))) (sym (dart_right m e)) (
                 step.tight,
                 step.here ∙ sym (at_right k m e),
-                step.there
-                    ∙ sym (at_right (suc k) (suc m) (omega (arith, e))),
+                step.there ∙ sym (at_right (suc k) (suc m) (omega (arith, e))),
               )
 
           by_place : (k < left) ⊎ (left ≤ k) → (k ≡ left) ⊎ (k ≢ left) → Joins (dart k) (at k) (at (suc k))
@@ -329,9 +314,6 @@ module _ (g : Darts) (are : AreDarts g) (f : Forest) (r : ℕ) (valid : IsValid 
       -- Tables that have the ring.
       module _ (after joint : ℕ → ℕ) (afters : (k : ℕ) → k < left + right + 1 → after (at k) ≡ at (suc k))
           (joints : (k : ℕ) → k < left + right + 1 → joint (at k) ≡ dart k) (apart : a ≢ c) where
-        abbrev many : ℕ
-        many = left + right + 1
-
         pub walks : (k : ℕ) → k ≤ left + right + 1 → walk after top k ≡ at k
         walks zero l = sym at_first
         walks (suc k) l = ap after (walks k (omega (arith, l))) ∙ afters k (omega (arith, l))
@@ -375,7 +357,7 @@ module _ (g : Darts) (are : AreDarts g) (f : Forest) (r : ℕ) (valid : IsValid 
           some = (ring_half apart).1;
           odd = (ring_half apart).2;
           closed = closed;
-          marked = listed_closed after top (left + right + 1) (omega arith) closed;
+          marked = listed_closed after (left + right + 1) (omega arith) closed;
           shared = λ v l. listed_sum after top (left + right + 1) (f.out v) walk_distinct;
           distinct = walk_distinct;
           all = λ x on. listed_place after top (left + right + 1) x on;
@@ -393,19 +375,19 @@ module _ (g : Darts) (are : AreDarts g) (f : Forest) (r : ℕ) (valid : IsValid 
           where
             one_up : (b k : ℕ) → f.label b ≢ Outside → k < level b → f.label (way b k) ≡ Outer → way b k ≡ x
                 → f.out (far g d) ≡ way b (suc k)
-            one_up b k named l outer e = (outer_above g are f r valid tree (way b k) d outer (ap f.mate e ∙ mate)).0
+            one_up b k named l outer e = (outer_above are valid tree (way b k) d outer (ap f.mate e ∙ mate)).0
 
             one_down : (b k : ℕ) → f.label b ≢ Outside → suc k ≤ level b → f.label (way b (suc k)) ≡ Inner
                 → way b (suc k) ≡ x → f.out (far g d) ≡ way b k
             one_down b k named l inner e =
                 let w : (f.label (way b k) ≢ Outside) × (level (way b k) + k ≡ level b) =
-                on_way g are f r valid tree b k named (omega (arith, l)) in
-                come_from g are f r valid tree (way b k) d w.0 (omega (arith, w.1, l)) inner (ap f.mate e ∙ mate)
+                on_way are valid tree b k named (omega (arith, l)) in
+                come_from are valid tree (way b k) d w.0 (omega (arith, w.1, l)) inner (ap f.mate e ∙ mate)
 
             left_way : (i : ℕ) → i < left → way a i ≡ x → inside (f.out (far g d)) ≡ true
             left_way i l e = by_label
                 (tree_cases (f.label (way a i))
-                (on_way g are f r valid tree a i named_a (omega (arith, l, met.x_low))).0) i l e
+                (on_way are valid tree a i named_a (omega (arith, l, met.x_low))).0) i l e
               where
                 place : (i k : ℕ) → i ≤ left → k ≡ left - i → way a i ≡ at k
                 place i k li ke = (let s : i ≡ left - k = omega (arith, ke, li) in
@@ -424,7 +406,7 @@ module _ (g : Darts) (are : AreDarts g) (f : Forest) (r : ℕ) (valid : IsValid 
             right_way : (i : ℕ) → i < right → way c i ≡ x → inside (f.out (far g d)) ≡ true
             right_way i l e = by_label
                 (tree_cases (f.label (way c i))
-                (on_way g are f r valid tree c i named_c (omega (arith, l, met.y_low))).0) i l e
+                (on_way are valid tree c i named_c (omega (arith, l, met.y_low))).0) i l e
               where
                 next : inside (way c (suc i)) ≡ true
                 next = ap inside (sym (at_right (left + 1 + suc i) (suc i) refl))
@@ -465,13 +447,13 @@ module _ (g : Darts) (are : AreDarts g) (f : Forest) (r : ℕ) (valid : IsValid 
           top_mate = λ d mate. listed_off after top (left + right + 1) (f.out (far g d))
               (λ k l e. outside_ring d mate k l (sym (walks k (omega (arith, l))) ∙ e));
           root_top = λ on. (let w : (k : ℕ) × (k < left + right + 1) × (at k ≡ r) = marked_at r on in
-              let s : level (at w.0) ≡ 0 = ap level w.2 ∙ root_level g are f r valid tree in
-              sym (level_zero g are f r valid tree top top_named (omega (arith, s, at_level w.0 w.1))));
+              let s : level (at w.0) ≡ 0 = ap level w.2 ∙ root_level are valid tree in
+              sym (level_zero are valid tree top top_named (omega (arith, s, at_level w.0 w.1))));
         }
           where
             outside_ring : (d : ℕ) → f.mate top ≡ Some d → (k : ℕ) → k < left + right + 1 → at k ≡ f.out (far g d) → ⊥
             outside_ring d mate k l e =
                 let up : (f.out (far g d) ≡ above_of g f top) × (level top ≡ suc (level (above_of g f top))) =
-                outer_above g are f r valid tree top d top_outer mate in
+                outer_above are valid tree top d top_outer mate in
                 let s : level (at k) ≡ level (above_of g f top) = ap level (e ∙ up.0) in
                 omega (arith, s, up.1, at_level k l)

@@ -34,8 +34,8 @@ dart_far g k = ap (darts_of g).near (twin_even (2 * k) (omega arith)) ∙ near_o
 pub dart_cost : (g : WeightedGraph) (k : ℕ) → (darts_of g).cost (2 * k) ≡ (edge_at g k).cost
 dart_cost g k = let half : (2 * k) / 2 ≡ k = omega arith in ap (λ j. (edge_at g j).cost) half
 
-pub are_darts : (g : WeightedGraph) → IsGraph g → AreDarts (darts_of g)
-are_darts g is = record {
+pub are_darts : {g : WeightedGraph} → IsGraph g → AreDarts (darts_of g)
+are_darts {g} is = record {
   near_low = λ d l. near_low d l (cases_eq (d % 2) 0);
   twin_low = λ d l. twin_low d l (cases_eq (d % 2) 0);
   twin_twin = λ d. twin_twin d (cases_eq (d % 2) 0);

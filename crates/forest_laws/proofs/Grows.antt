@@ -18,8 +18,8 @@ abbrev pub replaced : (f : Forest) (label : ℕ → Label) (mate : ℕ → Optio
 replaced f label mate link = record f { label = label; mate = mate; link = link }
 
 module _ (g : Darts) (f : Forest) (label : ℕ → Label) (mate : ℕ → Option ℕ) (link : ℕ → ℕ) where
-  pub same_tight : (d : ℕ) → IsTight g f d → IsTight g (replaced f label mate link) d
-  same_tight d is = record { low = is.low; exact = is.exact }
+  pub same_tight : {d : ℕ} → IsTight g f d → IsTight g (replaced f label mate link) d
+  same_tight is = record { low = is.low; exact = is.exact }
 
   pub same_feasible : IsFeasible g f → IsFeasible g (replaced f label mate link)
   same_feasible is = record { sets = is.sets; darts = is.darts }
@@ -41,8 +41,7 @@ module _ (g : Darts) (f : Forest) (label : ℕ → Label) (mate : ℕ → Option
         odd = is.odd;
         closed = is.closed;
         inside = is.inside;
-        lower =
-            is.lower;
+        lower = is.lower;
         below = is.below;
         distinct = is.distinct;
         all = is.all;
@@ -51,37 +50,23 @@ module _ (g : Darts) (f : Forest) (label : ℕ → Label) (mate : ℕ → Option
 
       joint : (p : ℕ) → IsJoint g f p → IsJoint g (replaced f label mate link) p
       joint p is = record {
-        tight = same_tight (f.nest.joint p) is.tight;
+        tight = same_tight is.tight;
         begins = is.begins;
         ends = is.ends;
-        same =
-            is.same;
+        same = is.same;
       }
 
-  pub same_outermost : (n : ℕ) → AreOutermost n f → ((b : ℕ) → label b ≢ Outside → IsOutermost n f b)
+  pub same_outermost : {n : ℕ} → AreOutermost n f → ((b : ℕ) → label b ≢ Outside → IsOutermost n f b)
       → AreOutermost n (replaced f label mate link)
-  same_outermost n top named = record {
+  same_outermost top named = record {
     vertices = top.vertices;
     out_low = top.out_low;
     held = top.held;
-    tops =
-        top.tops;
+    tops = top.tops;
     together = top.together;
     named = named;
   }
-
   -- The mates are the same.
-  pub same_matched : (m : ℕ → Option ℕ) → m ≡ mate → IsMatched g (record f { mate = m })
-      → IsMatched g (replaced f label mate link)
-  same_matched m e matched b d is = let x : IsMate g (record f { mate = m }) b d =
-      matched b d (ap (λ (h : ℕ → Option ℕ). h b) e ∙ is) in
-      record {
-        tight = record { low = x.tight.low; exact = x.tight.exact };
-        here = x.here;
-        other = x.other;
-        back =
-            sym (ap (λ (h : ℕ → Option ℕ). h (f.out (far g d))) e) ∙ x.back;
-      }
 
 -- The mates of a forest as they are.
 pub own_matched : (g : Darts) (f : Forest) (label : ℕ → Label) (link : ℕ → ℕ) → IsMatched g f
@@ -91,11 +76,10 @@ own_matched g f label link matched b d is = let x : IsMate g f b d = matched b d
       tight = record { low = x.tight.low; exact = x.tight.exact };
       here = x.here;
       other = x.other;
-      back =
-          x.back;
+      back = x.back;
     }
 
-module _ (g : Darts) (are : AreDarts g) (f : Forest) (valid : IsValid g f None) (b : ℕ)
+module _ {g : Darts} (are : AreDarts g) {f : Forest} (valid : IsValid g f None) (b : ℕ)
     (outermost : IsOutermost g.n f b) (free : f.mate b ≡ None) where
   root_label : (x : ℕ) → x ≢ b → set_at f.label b Outer x ≡ Outside
   root_label x ne = set_there f.label b x Outer ne ∙ valid.no_tree refl x
@@ -103,7 +87,7 @@ module _ (g : Darts) (are : AreDarts g) (f : Forest) (valid : IsValid g f None) 
   -- Where no tree stands, a blossom that is not matched may become the root.
   pub rooted_valid : IsValid g (rooted f b) (Some b)
   rooted_valid = record {
-    outermost = same_outermost g f (set_at f.label b Outer) f.mate f.link g.n valid.outermost
+    outermost = same_outermost g f (set_at f.label b Outer) f.mate f.link valid.outermost
         (λ x named. by_place x named (cases_eq x b));
     nested = same_nested g f (set_at f.label b Outer) f.mate f.link valid.nested;
     feasible = same_feasible g f (set_at f.label b Outer) f.mate f.link valid.feasible;
@@ -220,7 +204,7 @@ module _ (g : Darts) (are : AreDarts g) (f : Forest) (r : ℕ) (valid : IsValid 
       by_other ni nu (inr (inl at)) =
           let same : g.twin e ≡ m =
           some_is (g.twin e) m (sym ((valid.matched x e mine).back) ∙ (ap f.mate at ∙ mate)) in
-          absurd (nu (sym ((valid.matched x e mine).here) ∙ ap f.out (sym (far_twin g are e) ∙ ap (far g) same)))
+          absurd (nu (sym ((valid.matched x e mine).here) ∙ ap f.out (sym (far_twin are e) ∙ ap (far g) same)))
       by_other ni nu (inl at) =
           let same : g.twin e ≡ g.twin m = some_is (g.twin e) (g.twin m) (sym ((valid.matched x e mine).back)
           ∙ (ap f.mate at ∙ pair.back)) in
@@ -256,8 +240,8 @@ module _ (g : Darts) (are : AreDarts g) (f : Forest) (r : ℕ) (valid : IsValid 
 
     new_inner : IsInner g (grown g f d m) depths inn
     new_inner = record {
-      tight = subst (λ x. IsTight g (grown g f d m) x) (sym link_is) (same_tight g f labels f.mate links (g.twin d)
-          (tight_twin g are f d reach.tight));
+      tight = subst (λ x. IsTight g (grown g f d m) x) (sym link_is) (same_tight g f labels f.mate links
+          (tight_twin are reach.tight));
       here = ap (λ x. f.out (g.near x)) link_is;
       above = ap labels goes ∙ (named_other on (outer_is on reach.outer) ∙ reach.outer);
       nearer = subst (λ x. depths x < depths inn) (sym goes) (let a : depths on ≡ tree.depth on =
@@ -273,12 +257,11 @@ module _ (g : Darts) (are : AreDarts g) (f : Forest) (r : ℕ) (valid : IsValid 
         link_is = set_here f.link inn (g.twin d)
 
         goes : f.out (far g (links inn)) ≡ on
-        goes = ap (λ x. f.out (far g x)) link_is ∙ ap f.out (far_twin g are d)
+        goes = ap (λ x. f.out (far g x)) link_is ∙ ap f.out (far_twin are d)
 
-    old_inner : (x : ℕ) → f.label x ≡ Inner → IsInner g f tree.depth x → IsInner g (grown g f d m) depths x
-    old_inner x l is = record {
-      tight = subst (λ y. IsTight g (grown g f d m) y) (sym link_is) (same_tight g f labels f.mate links (f.link x)
-          is.tight);
+    old_inner : {x : ℕ} → f.label x ≡ Inner → IsInner g f tree.depth x → IsInner g (grown g f d m) depths x
+    old_inner {x} l is = record {
+      tight = subst (λ y. IsTight g (grown g f d m) y) (sym link_is) (same_tight g f labels f.mate links is.tight);
       here = ap (λ y. f.out (g.near y)) link_is ∙ is.here;
       above = ap labels goes ∙ (named_other up (outer_is up is.above) ∙ is.above);
       nearer = subst (λ y. depths y < depths x) (sym goes) (let a : depths up ≡ tree.depth up =
@@ -313,22 +296,21 @@ module _ (g : Darts) (are : AreDarts g) (f : Forest) (r : ℕ) (valid : IsValid 
         inner x l (inl at) = let h : Outer ≡ Inner = sym label_outer ∙ (ap labels (sym at) ∙ l) in absurd (cc h)
         inner x l (inr (inl at)) = subst (λ y. IsInner g (grown g f d m) depths y) (sym at) new_inner
         inner x l (inr (inr ne)) =
-            old_inner x (sym (label_other x ne.0 ne.1) ∙ l) (tree.inner x (sym (label_other x ne.0 ne.1) ∙ l))
+            old_inner (sym (label_other x ne.0 ne.1) ∙ l) (tree.inner x (sym (label_other x ne.0 ne.1) ∙ l))
 
         by_old : (x : ℕ) → IsOuter g f r x → IsOuter g (grown g f d m) r x
         by_old x (inl e) = inl e
         by_old x (inr is) = inr (
           is.0,
           is.1,
-          named_other (f.out (far g is.0)) (inner_is (f.out (far g is.0)) is.2)
-              ∙ is.2,
+          named_other (f.out (far g is.0)) (inner_is (f.out (far g is.0)) is.2) ∙ is.2,
         )
 
         outers : (x : ℕ) → labels x ≡ Outer → Place x → IsOuter g (grown g f d m) r x
         outers x l (inl at) = inr (
           g.twin m,
           ap f.mate at ∙ pair.back,
-          ap labels (ap f.out (far_twin g are m) ∙ pair.here) ∙ label_inner,
+          ap labels (ap f.out (far_twin are m) ∙ pair.here) ∙ label_inner,
         )
         outers x l (inr (inl at)) = let h : Inner ≡ Outer = sym label_inner ∙ (ap labels (sym at) ∙ l) in absurd (cc h)
         outers x l (inr (inr ne)) = by_old x (tree.outer x (sym (label_other x ne.0 ne.1) ∙ l))
@@ -336,7 +318,7 @@ module _ (g : Darts) (are : AreDarts g) (f : Forest) (r : ℕ) (valid : IsValid 
   -- A tree that grows along a tight dart to a matched blossom outside keeps the forest valid.
   pub grown_valid : IsValid g (grown g f d m) (Some r)
   grown_valid = record {
-    outermost = same_outermost g f labels f.mate links g.n valid.outermost named;
+    outermost = same_outermost g f labels f.mate links valid.outermost named;
     nested = same_nested g f labels f.mate links valid.nested;
     feasible = same_feasible g f labels f.mate links valid.feasible;
     matched = own_matched g f labels links valid.matched;

@@ -23,7 +23,7 @@ option_cases : (o : Option ℕ) → (o ≡ None) ⊎ ((d : ℕ) × (o ≡ Some d
 option_cases None = inl refl
 option_cases (Some d) = inr (d, refl)
 
-module _ (g : Darts) (are : AreDarts g) (f : Forest) (r : ℕ) (valid : IsValid g f (Some r)) (tree : IsTree g f r) where
+module _ {g : Darts} (are : AreDarts g) {f : Forest} {r : ℕ} (valid : IsValid g f (Some r)) (tree : IsTree g f r) where
   abbrev level : ℕ → ℕ
   level = level_of g f
 
@@ -62,24 +62,22 @@ module _ (g : Darts) (are : AreDarts g) (f : Forest) (r : ℕ) (valid : IsValid 
   step_outer : (b d : ℕ) → f.label b ≡ Outer → f.mate b ≡ Some d → IsStep b d
   step_outer b d outer mate =
       let up : above b ≡ inner_of g f b = above_is b d (outer_rise b outer ∙ mate)
-      ∙ sym (inner_is g are f r valid tree b d outer mate) in
-      let label : f.label (inner_of g f b) ≡ Inner = inner_label g are f r valid tree b d outer mate in
+      ∙ sym (inner_is are valid tree b d outer mate) in
+      let label : f.label (inner_of g f b) ≡ Inner = inner_label are valid tree b d outer mate in
       let pair : IsMate g f b d = valid.matched b d mate in
-      let back : inner_of g f (inner_of g f b) ≡ b =
-      ap (λ o. f.out (far g (dart_or o))) (inner_back g are f r valid tree b d outer mate)
-      ∙ (ap f.out (far_twin g are d) ∙ pair.here) in
+      let back : inner_of g f (inner_of g f b) ≡ b = ap (λ o. f.out (far g (dart_or o)))
+      (inner_back are valid tree b d outer mate) ∙ (ap f.out (far_twin are d) ∙ pair.here) in
       let one : steps g f (f.size + 1) b ≡ suc (steps g f (f.size + 1) (parent_of g f b)) =
-      fewer_steps g are f r valid tree b d outer mate in
+      fewer_steps are valid tree b d outer mate in
       let higher : level (inner_of g f b) ≡ 2 * steps g f (f.size + 1) b - 1 = inner_level (inner_of g f b) label
       ∙ ap (λ x. 2 * steps g f (f.size + 1) x - 1) back in
       let up_level : level (above b) ≡ level (inner_of g f b) = ap level up in
-      let deep : tree.depth (above b) ≡ tree.depth b = ap tree.depth up ∙ inner_depth g are f r valid tree b d outer
-      mate in
+      let deep : tree.depth (above b) ≡ tree.depth b = ap tree.depth up ∙ inner_depth are valid tree b d outer mate in
       record {
         tight = pair.tight;
         here = pair.here;
         there = sym (above_is b d (outer_rise b outer ∙ mate));
-        named = inner_named (f.label (above b)) (ap f.label up ∙ label);
+        named = inner_named (ap f.label up ∙ label);
         lower = omega (arith, outer_level b outer, one, higher, up_level);
         depth = omega (arith, deep);
       }
@@ -94,8 +92,7 @@ module _ (g : Darts) (are : AreDarts g) (f : Forest) (r : ℕ) (valid : IsValid 
         g.twin is.dart,
         ap f.label same ∙ is.child,
         ap f.mate same ∙ pair.back,
-        ap f.out (far_twin g are is.dart)
-            ∙ pair.here,
+        ap f.out (far_twin are is.dart) ∙ pair.here,
       )
 
   step_inner : (b : ℕ) → f.label b ≡ Inner → IsStep b (f.link b)
@@ -106,9 +103,8 @@ module _ (g : Darts) (are : AreDarts g) (f : Forest) (r : ℕ) (valid : IsValid 
       let up : above b ≡ f.out (far g (f.link b)) = above_is b (f.link b) (inner_rise b label) in
       let back : inner_of g f (inner_of g f b) ≡ b = ap (λ o. f.out (far g (dart_or o))) c.2 ∙ c.3 in
       let parent : parent_of g f (inner_of g f b) ≡ above b = ap (λ x. f.out (far g (f.link x))) back ∙ sym up in
-      let one : steps g f (f.size + 1) (inner_of g f b)
-      ≡ suc (steps g f (f.size + 1) (parent_of g f (inner_of g f b))) =
-      fewer_steps g are f r valid tree (inner_of g f b) c.0 c.1 c.2 in
+      let one : steps g f (f.size + 1) (inner_of g f b) ≡ suc (steps g f (f.size + 1) (parent_of g f (inner_of g f b)))
+      = fewer_steps are valid tree (inner_of g f b) c.0 c.1 c.2 in
       let same : steps g f (f.size + 1) (parent_of g f (inner_of g f b)) ≡ steps g f (f.size + 1) (above b) =
       ap (steps g f (f.size + 1)) parent in
       let outer : f.label (above b) ≡ Outer = ap f.label up ∙ is.above in
@@ -117,7 +113,7 @@ module _ (g : Darts) (are : AreDarts g) (f : Forest) (r : ℕ) (valid : IsValid 
         tight = is.tight;
         here = is.here;
         there = sym up;
-        named = outer_named (f.label (above b)) outer;
+        named = outer_named outer;
         lower = omega (arith, inner_level b label, one, same, outer_level (above b) outer);
         depth = omega (arith, deep, is.nearer);
       }
@@ -163,7 +159,7 @@ module _ (g : Darts) (are : AreDarts g) (f : Forest) (r : ℕ) (valid : IsValid 
       by_rise (inr w) = w
 
   pub root_level : level r ≡ 0
-  root_level = (at_root r (outer_named (f.label r) tree.root_outer) (outer_rise r tree.root_outer ∙ tree.root_free)).1
+  root_level = (at_root r (outer_named tree.root_outer) (outer_rise r tree.root_outer ∙ tree.root_free)).1
 
   -- Along a way the levels fall one by one, and one stays in the tree.
   pub on_way : (a m : ℕ) → f.label a ≢ Outside → m ≤ level a → (f.label (way a m) ≢ Outside)
@@ -209,7 +205,7 @@ module _ (g : Darts) (are : AreDarts g) (f : Forest) (r : ℕ) (valid : IsValid 
           let pair : IsMate g f b d.0 = valid.matched b d.0 was in
           let back : f.mate (above b) ≡ Some (g.twin d.0) = ap f.mate (above_is b d.0 d.1) ∙ pair.back in
           ap (λ x. f.out (far g x)) (some_is e (g.twin d.0) (sym mate ∙ back))
-          ∙ (ap f.out (far_twin g are d.0) ∙ pair.here)
+          ∙ (ap f.out (far_twin are d.0) ∙ pair.here)
 
   -- Levels of outer blossoms are even.
   pub outer_even : (b : ℕ) → f.label b ≡ Outer → (k : ℕ) × (level b ≡ 2 * k)

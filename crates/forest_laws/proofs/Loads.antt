@@ -21,18 +21,17 @@ load_order f u v = total_below_same (λ b. cond (splits (f.holds b) u v) (f.weig
 -- A load with more weight.
 pub load_sum : (f : Forest) (more : ℕ → ℤ) (u v : ℕ) → weight_between (record f { weight = λ b. f.weight b +ℤ more b })
     u v ≡ weight_between f u v +ℤ total_below (λ b. cond (splits (f.holds b) u v) (more b) (pos 0)) f.size
-load_sum f more u v =
-    total_below_same (λ b. cond (splits (f.holds b) u v) (f.weight b +ℤ more b) (pos 0))
-    (λ b. cond (splits (f.holds b) u v) (f.weight b) (pos 0) +ℤ cond (splits (f.holds b) u v) (more b) (pos 0))
-    f.size (λ b l. by_sum (splits (f.holds b) u v) (f.weight b) (more b))
-    ∙ total_below_sum (λ b. cond (splits (f.holds b) u v) (f.weight b) (pos 0))
-    (λ b. cond (splits (f.holds b) u v) (more b) (pos 0)) f.size
+load_sum f more u v = total_below_same (λ b. cond (splits (f.holds b) u v) (f.weight b +ℤ more b) (pos 0))
+    (λ b. cond (splits (f.holds b) u v) (f.weight b) (pos 0) +ℤ cond (splits (f.holds b) u v) (more b) (pos 0)) f.size
+    (λ b l. by_sum (splits (f.holds b) u v) (f.weight b) (more b)) ∙ total_below_sum
+    (λ b. cond (splits (f.holds b) u v) (f.weight b) (pos 0)) (λ b. cond (splits (f.holds b) u v) (more b) (pos 0))
+    f.size
 
 -- The sum of the weights of the blossoms around a vertex.
 abbrev pub potential : (f : Forest) (v : ℕ) → ℤ
 potential f v = total_below (λ b. cond (f.holds b v) (f.weight b) (pos 0)) f.size
 
-module _ (n : ℕ) (f : Forest) (top : AreOutermost n f) where
+module _ {n : ℕ} {f : Forest} (top : AreOutermost n f) where
   -- A blossom with a place in the tree holds the vertices whose outermost blossom it is.
   pub named_holds : (b v : ℕ) → v < n → f.label b ≢ Outside → f.holds b v ≡ eqb (f.out v) b
   named_holds b v low named = let w : IsOutermost n f b = top.named b named in by_vertex w.0 w.1 w.2
@@ -49,12 +48,10 @@ module _ (n : ℕ) (f : Forest) (top : AreOutermost n f) where
   at_end t u b = cond (eqb (f.out u) b) (weight_change (f.label b) t) (pos 0)
 
   -- The tests of a blossom with a place in the tree.
-  tested : (t : ℤ) (u v b : ℕ) → u < n → v < n → f.label b ≢ Outside
-      → moved t u v b ≡ cond (cond (eqb (f.out u) b) (not (eqb (f.out v) b)) (eqb (f.out v) b))
-      (weight_change (f.label b) t) (pos 0)
-  tested t u v b lu lv named =
-      ap (λ (s : Bool). cond (cond s (not (f.holds b v)) (f.holds b v)) (weight_change (f.label b) t) (pos 0))
-      (named_holds b u lu named)
+  tested : (t : ℤ) (u v b : ℕ) → u < n → v < n → f.label b ≢ Outside → moved t u v b
+      ≡ cond (cond (eqb (f.out u) b) (not (eqb (f.out v) b)) (eqb (f.out v) b)) (weight_change (f.label b) t) (pos 0)
+  tested t u v b lu lv named = ap (λ (s : Bool). cond (cond s (not (f.holds b v)) (f.holds b v))
+      (weight_change (f.label b) t) (pos 0)) (named_holds b u lu named)
       ∙ ap (λ (s : Bool). cond (cond (eqb (f.out u) b) (not s) s) (weight_change (f.label b) t) (pos 0))
       (named_holds b v lv named)
 
@@ -82,20 +79,17 @@ module _ (n : ℕ) (f : Forest) (top : AreOutermost n f) where
           (weight_change (f.label b) t) (ap (λ x. eqb x b) same)
 
   ends_sum : (t : ℤ) (u : ℕ) → u < n → total_below (at_end t u) f.size ≡ weight_change (f.label (f.out u)) t
-  ends_sum t u lu =
-      total_below_one (at_end t u) f.size (f.out u) (top.out_low u lu)
+  ends_sum t u lu = total_below_one (at_end t u) f.size (f.out u) (top.out_low u lu)
       (λ k l ne. cond-false (eqb (f.out u) k) (weight_change (f.label k) t) (pos 0)
-      (ne_eqb (f.out u) k (λ e. ne (sym e))))
-      ∙ cond-true (eqb (f.out u) (f.out u)) (weight_change (f.label (f.out u)) t) (pos 0)
-      (eq-eqb (f.out u) (f.out u) refl)
+      (ne_eqb (f.out u) k (λ e. ne (sym e)))) ∙ cond-true (eqb (f.out u) (f.out u))
+      (weight_change (f.label (f.out u)) t) (pos 0) (eq-eqb (f.out u) (f.out u) refl)
 
   -- A shift changes the load across two outermost blossoms by what it changes of both.
   pub load_apart : (t : ℤ) (u v : ℕ) → u < n → v < n → f.out u ≢ f.out v → weight_between (shifted f t) u v
       ≡ weight_between f u v +ℤ (weight_change (f.label (f.out u)) t +ℤ weight_change (f.label (f.out v)) t)
   load_apart t u v lu lv ne =
       let parted : total_below (moved t u v) f.size ≡ total_below (λ b. at_end t u b +ℤ at_end t v b) f.size =
-      total_below_same (moved t u v) (λ b. at_end t u b +ℤ at_end t v b) f.size
-      (λ b l. moved_apart t u v lu lv ne b) in
+      total_below_same (moved t u v) (λ b. at_end t u b +ℤ at_end t v b) f.size (λ b l. moved_apart t u v lu lv ne b) in
       omega (
         arith,
         ints,
@@ -109,19 +103,17 @@ module _ (n : ℕ) (f : Forest) (top : AreOutermost n f) where
   -- A shift changes no load inside an outermost blossom.
   pub load_within : (t : ℤ) (u v : ℕ) → u < n → v < n → f.out u ≡ f.out v → weight_between (shifted f t) u v
       ≡ weight_between f u v
-  load_within t u v lu lv same =
-      omega (
-        arith,
-        ints,
-        load_sum f (λ b. weight_change (f.label b) t) u v,
-        total_below_none (moved t u v) f.size (λ b l. moved_within t u v lu lv same b),
-      )
+  load_within t u v lu lv same = omega (
+    arith,
+    ints,
+    load_sum f (λ b. weight_change (f.label b) t) u v,
+    total_below_none (moved t u v) f.size (λ b l. moved_within t u v lu lv same b),
+  )
 
   -- The load across two outermost blossoms is the sum of the potentials of both ends.
   pub load_across : (u v : ℕ) → u < n → v < n → f.out u ≢ f.out v → weight_between f u v
       ≡ potential f u +ℤ potential f v
-  load_across u v lu lv ne =
-      total_below_same (λ b. cond (splits (f.holds b) u v) (f.weight b) (pos 0))
+  load_across u v lu lv ne = total_below_same (λ b. cond (splits (f.holds b) u v) (f.weight b) (pos 0))
       (λ b. cond (f.holds b u) (f.weight b) (pos 0) +ℤ cond (f.holds b v) (f.weight b) (pos 0)) f.size
       (λ b l. by_two (f.holds b u) (f.holds b v) (f.weight b) (λ p q. ne (top.together b u v lu lv p q)))
       ∙ total_below_sum (λ b. cond (f.holds b u) (f.weight b) (pos 0)) (λ b. cond (f.holds b v) (f.weight b) (pos 0))
@@ -131,16 +123,14 @@ module _ (n : ℕ) (f : Forest) (top : AreOutermost n f) where
   pub potential_shifted : (t : ℤ) (v : ℕ) → v < n → potential (shifted f t) v
       ≡ potential f v +ℤ weight_change (f.label (f.out v)) t
   potential_shifted t v l =
-      let split : potential (shifted f t) v
-      ≡ total_below (λ b. cond (f.holds b v) (f.weight b) (pos 0) +ℤ cond (f.holds b v)
-      (weight_change (f.label b) t) (pos 0)) f.size =
-      total_below_same (λ b. cond (f.holds b v) (f.weight b +ℤ weight_change (f.label b) t) (pos 0))
-      (λ b. cond (f.holds b v) (f.weight b) (pos 0) +ℤ cond (f.holds b v) (weight_change (f.label b) t) (pos 0))
-      f.size (λ b lb. by_sum (f.holds b v) (f.weight b) (weight_change (f.label b) t)) in
+      let split : potential (shifted f t) v ≡ total_below (λ b. cond (f.holds b v) (f.weight b) (pos 0) +ℤ cond
+      (f.holds b v) (weight_change (f.label b) t) (pos 0)) f.size = total_below_same
+      (λ b. cond (f.holds b v) (f.weight b +ℤ weight_change (f.label b) t) (pos 0))
+      (λ b. cond (f.holds b v) (f.weight b) (pos 0) +ℤ cond (f.holds b v) (weight_change (f.label b) t) (pos 0)) f.size
+      (λ b lb. by_sum (f.holds b v) (f.weight b) (weight_change (f.label b) t)) in
       let ends : total_below (λ b. cond (f.holds b v) (weight_change (f.label b) t) (pos 0)) f.size
-      ≡ total_below (at_end t v) f.size =
-      total_below_same (λ b. cond (f.holds b v) (weight_change (f.label b) t) (pos 0)) (at_end t v) f.size
-      (λ b lb. by_label b (label_cases (f.label b))) in
+      ≡ total_below (at_end t v) f.size = total_below_same (λ b. cond (f.holds b v) (weight_change (f.label b) t)
+      (pos 0)) (at_end t v) f.size (λ b lb. by_label b (label_cases (f.label b))) in
       omega (
         arith,
         ints,

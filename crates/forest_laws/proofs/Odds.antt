@@ -30,16 +30,15 @@ odd_sum next f front (suc k) odd =
 abbrev pub IsBlossom : (g : Darts) (f : Forest) (b : ℕ) → Type 0
 IsBlossom g f b = (b < g.n) ⊎ ((g.n ≤ b) × (f.nest.parts b ≢ 0))
 
-module _ (g : Darts) (are : AreDarts g) (f : Forest) (nested : IsNested g f) where
+module _ {g : Darts} (are : AreDarts g) {f : Forest} (nested : IsNested g f) where
   vertex_odd : (b : ℕ) → b < g.n → blossom_size g.n f b ≡ 1
-  vertex_odd b l =
-      count_below_one (λ v. bool_number (f.holds b v)) g.n b l (λ k lk ne. ap bool_number (nested.alone b k l lk
-      ∙ ne_eqb b k (λ e. ne (sym e))))
+  vertex_odd b l = count_below_one (λ v. bool_number (f.holds b v)) g.n b l
+      (λ k lk ne. ap bool_number (nested.alone b k l lk ∙ ne_eqb b k (λ e. ne (sym e))))
       ∙ ap bool_number (nested.alone b b l l ∙ eq-eqb b b refl)
 
   -- A part is in use.
-  pub part_used : (b : ℕ) → IsRing g f b → (k : ℕ) → IsBlossom g f (walk f.nest.after (f.nest.head b) k)
-  part_used b ring k = by_size (cases_lt p g.n)
+  pub part_used : {b : ℕ} → IsRing g f b → (k : ℕ) → IsBlossom g f (walk f.nest.after (f.nest.head b) k)
+  part_used {b} ring k = by_size (cases_lt p g.n)
     where
       p : ℕ
       p = walk f.nest.after (f.nest.head b) k
@@ -58,24 +57,22 @@ module _ (g : Darts) (are : AreDarts g) (f : Forest) (nested : IsNested g f) whe
       by_size (inl l) = inl l
       by_size (inr h) = inr (
         h,
-        λ none. true_false (f.holds p (g.near (f.nest.joint p))) joint.begins
-            (nested.empty p (g.near (f.nest.joint p)) h near_low none),
+        λ none. true_false joint.begins (nested.empty p (g.near (f.nest.joint p)) h near_low none),
       )
 
   -- A set has the vertices of its parts.
-  set_sum : (b : ℕ) → IsRing g f b → blossom_size g.n f b ≡ ring_sum f.nest.after (blossom_size g.n f) (f.nest.head b)
+  set_sum : {b : ℕ} → IsRing g f b → blossom_size g.n f b ≡ ring_sum f.nest.after (blossom_size g.n f) (f.nest.head b)
       (f.nest.parts b)
-  set_sum b ring =
-      count_below_same (λ v. bool_number (f.holds b v)) (λ v. ring_sum f.nest.after (λ p. bool_number (f.holds p v))
-      (f.nest.head b) (f.nest.parts b)) g.n ring.shared
+  set_sum {b} ring = count_below_same (λ v. bool_number (f.holds b v))
+      (λ v. ring_sum f.nest.after (λ p. bool_number (f.holds p v)) (f.nest.head b) (f.nest.parts b)) g.n ring.shared
       ∙ counts_exchanged f.nest.after (λ p v. bool_number (f.holds p v)) (f.nest.head b) g.n (f.nest.parts b)
 
-  set_odd : (b : ℕ) → IsRing g f b → ((k : ℕ) → blossom_size g.n f (walk f.nest.after (f.nest.head b) k) % 2 ≡ 1)
+  set_odd : {b : ℕ} → IsRing g f b → ((k : ℕ) → blossom_size g.n f (walk f.nest.after (f.nest.head b) k) % 2 ≡ 1)
       → blossom_size g.n f b % 2 ≡ 1
-  set_odd b ring odd =
+  set_odd {b} ring odd =
       let parity : ring_sum f.nest.after (blossom_size g.n f) (f.nest.head b) (f.nest.parts b) % 2
       ≡ f.nest.parts b % 2 = odd_sum f.nest.after (blossom_size g.n f) (f.nest.head b) (f.nest.parts b) odd in
-      let whole : blossom_size g.n f b % 2 ≡ f.nest.parts b % 2 = ap (λ x. x % 2) (set_sum b ring) ∙ parity in
+      let whole : blossom_size g.n f b % 2 ≡ f.nest.parts b % 2 = ap (λ x. x % 2) (set_sum ring) ∙ parity in
       omega (arith, whole, ring.odd)
 
   odd_below : (fuel b : ℕ) → f.nest.rank b < fuel → IsBlossom g f b → blossom_size g.n f b % 2 ≡ 1
@@ -86,9 +83,9 @@ module _ (g : Darts) (are : AreDarts g) (f : Forest) (nested : IsNested g f) whe
     where
       by_ring : IsRing g f b → ((p : ℕ) → f.nest.rank p < fuel → IsBlossom g f p → blossom_size g.n f p % 2 ≡ 1)
           → blossom_size g.n f b % 2 ≡ 1
-      by_ring ring more = set_odd b ring (λ k. more (walk f.nest.after (f.nest.head b) k)
+      by_ring ring more = set_odd ring (λ k. more (walk f.nest.after (f.nest.head b) k)
           (let h : f.nest.rank (walk f.nest.after (f.nest.head b) k) < f.nest.rank b = ring.lower k in
-          omega arith) (part_used b ring k))
+          omega arith) (part_used ring k))
 
   -- A blossom holds an odd number of vertices.
   pub odd_blossom : (b : ℕ) → IsBlossom g f b → blossom_size g.n f b % 2 ≡ 1
@@ -100,9 +97,9 @@ module _ (g : Darts) (are : AreDarts g) (f : Forest) (nested : IsNested g f) whe
     where
       by_ring : IsRing g f b → 3 ≤ blossom_size g.n f b
       by_ring ring = (let sum : blossom_size g.n f b ≡ ring_sum f.nest.after (blossom_size g.n f) (f.nest.head b)
-          (f.nest.parts b) = set_sum b ring in omega (arith, sum, each (f.nest.parts b), ring.odd, ring.some))
+          (f.nest.parts b) = set_sum ring in omega (arith, sum, each (f.nest.parts b), ring.odd, ring.some))
         where
           each : (k : ℕ) → k ≤ ring_sum f.nest.after (blossom_size g.n f) (f.nest.head b) k
           each zero = omega arith
           each (suc k) = (let one : blossom_size g.n f (walk f.nest.after (f.nest.head b) k) % 2 ≡ 1 =
-              odd_blossom (walk f.nest.after (f.nest.head b) k) (part_used b ring k) in omega (arith, each k, one))
+              odd_blossom (walk f.nest.after (f.nest.head b) k) (part_used ring k) in omega (arith, each k, one))

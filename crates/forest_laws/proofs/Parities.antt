@@ -42,9 +42,8 @@ by_both false true x = omega (arith, ints)
 by_both false false x = omega (arith, ints)
 
 sums_both : (f : Forest) (u v m : ℕ) → total_below (λ b. cond (f.holds b u) (f.weight b) (pos 0)) m +ℤ total_below
-    (λ b. cond (f.holds b v) (f.weight b) (pos 0)) m
-    ≡ total_below (λ b. cond (splits (f.holds b) u v) (f.weight b) (pos 0)) m +ℤ
-    (total_below (around_both f u v) m +ℤ total_below (around_both f u v) m)
+    (λ b. cond (f.holds b v) (f.weight b) (pos 0)) m ≡ total_below (λ b. cond (splits (f.holds b) u v) (f.weight b)
+    (pos 0)) m +ℤ (total_below (around_both f u v) m +ℤ total_below (around_both f u v) m)
 sums_both f u v zero = omega (arith, ints)
 sums_both f u v (suc m) = omega (arith, ints, sums_both f u v m, by_both (f.holds m u) (f.holds m v) (f.weight m))
 
@@ -66,10 +65,10 @@ ring_found next f front (suc n) l = by_last (cases_lt 0 (f (walk next front n)))
     by_last (inr h) more = let w : (k : ℕ) × (k < n) × (1 ≤ f (walk next front k)) = more (omega (arith, l, h)) in
         (w.0, omega (arith, w.1), w.2)
 
-module _ (g : Darts) (are : AreDarts g) (f : Forest) where
+module _ {g : Darts} (are : AreDarts g) (f : Forest) where
   -- The ends of a tight dart.
-  pub tight_alike : (d : ℕ) → IsTight g f d → AreAlike (potential f (g.near d)) (potential f (far g d))
-  tight_alike d tight =
+  pub tight_alike : {d : ℕ} → IsTight g f d → AreAlike (potential f (g.near d)) (potential f (far g d))
+  tight_alike {d} tight =
       let both : ℤ = total_below (around_both f (g.near d) (far g d)) f.size in
       let sum : potential f (g.near d) +ℤ potential f (far g d) ≡ weight_between f (g.near d) (far g d) +ℤ
       (both +ℤ both) = potentials_both f (g.near d) (far g d) in
@@ -87,7 +86,7 @@ module _ (g : Darts) (are : AreDarts g) (f : Forest) where
     Within b = (u v : ℕ) → u < g.n → v < g.n → f.holds b u ≡ true → f.holds b v ≡ true
         → AreAlike (potential f u) (potential f v)
 
-    module _ (b : ℕ) (ring : IsRing g f b) (more : (k : ℕ) → Within (part b k)) where
+    module _ {b : ℕ} (ring : IsRing g f b) (more : (k : ℕ) → Within (part b k)) where
       not_top : (k : ℕ) → f.nest.up (part b k) ≢ part b k
       not_top k e = let h : f.nest.rank (part b k) < f.nest.rank b = ring.lower k in let same : f.nest.rank b
           ≡ f.nest.rank (part b k) = ap f.nest.rank (sym (ring.inside k) ∙ e) in omega (arith, h, same)
@@ -100,7 +99,7 @@ module _ (g : Darts) (are : AreDarts g) (f : Forest) where
 
       starts_alike : (k : ℕ) → AreAlike (potential f (start b 0)) (potential f (start b k))
       starts_alike zero = alike_self (potential f (start b 0))
-      starts_alike (suc k) = alike_on (starts_alike k) (alike_on (tight_alike (f.nest.joint (part b k)) (joint k).tight)
+      starts_alike (suc k) = alike_on (starts_alike k) (alike_on (tight_alike (joint k).tight)
           (more (suc k) (far g (f.nest.joint (part b k))) (start b (suc k))
           (far_low g are (f.nest.joint (part b k)) (joint k).tight.low) (start_low (suc k)) (joint k).ends
           (joint (suc k)).begins))
@@ -131,25 +130,25 @@ module _ (g : Darts) (are : AreDarts g) (f : Forest) where
             let bv : b ≡ v = eqb-true b v (sym (nested.alone b v low lv) ∙ hv) in
             subst (λ x. AreAlike (potential f u) (potential f x)) (sym bu ∙ bv) (alike_self (potential f u))
         by_size (inr high) more u v lu lv hu hv =
-            by_ring (nested.rings b high (λ none. true_false (f.holds b u) hu (nested.empty b u high lu none)))
+            by_ring (nested.rings b high (λ none. true_false hu (nested.empty b u high lu none)))
           where
             by_ring : IsRing g f b → AreAlike (potential f u) (potential f v)
-            by_ring ring = ring_alike b ring (λ k. more (part b k) (let h : f.nest.rank (part b k) < f.nest.rank b =
+            by_ring ring = ring_alike ring (λ k. more (part b k) (let h : f.nest.rank (part b k) < f.nest.rank b =
                 ring.lower k in omega (arith, h, l))) u v lu lv hu hv
 
-  module _ (root : Option ℕ) (valid : IsValid g f root) where
+  module _ {root : Option ℕ} (valid : IsValid g f root) where
     -- Two vertices with one outermost blossom.
     pub together_alike : (u v : ℕ) → u < g.n → v < g.n → f.out u ≡ f.out v → AreAlike (potential f u) (potential f v)
     together_alike u v lu lv e = within valid.nested (suc (f.nest.rank (f.out u))) (f.out u) (omega arith) u v lu lv
         (valid.outermost.held u u lu lu ∙ eq-eqb (f.out u) (f.out u) refl) (valid.outermost.held u v lu lv
         ∙ eq-eqb (f.out v) (f.out u) (sym e))
 
-    module _ (r : ℕ) (tree : IsTree g f r) (w : ℕ) (lw : w < g.n) (at_root : f.out w ≡ r) where
+    module _ {r : ℕ} (tree : IsTree g f r) (w : ℕ) (lw : w < g.n) (at_root : f.out w ≡ r) where
       -- The two ends of a dart, and what lies with them.
-      over : (d u v : ℕ) → IsTight g f d → u < g.n → v < g.n → f.out u ≡ f.out (g.near d) → f.out (far g d) ≡ f.out v
-          → AreAlike (potential f u) (potential f v)
-      over d u v tight lu lv eu ev = alike_on (together_alike u (g.near d) lu (are.near_low d tight.low) eu)
-          (alike_on (tight_alike d tight) (together_alike (far g d) v (far_low g are d tight.low) lv ev))
+      over : {d : ℕ} (u v : ℕ) → IsTight g f d → u < g.n → v < g.n → f.out u ≡ f.out (g.near d) → f.out (far g d)
+          ≡ f.out v → AreAlike (potential f u) (potential f v)
+      over {d} u v tight lu lv eu ev = alike_on (together_alike u (g.near d) lu (are.near_low d tight.low) eu)
+          (alike_on (tight_alike tight) (together_alike (far g d) v (far_low g are d tight.low) lv ev))
 
       outer_alike : (fuel u : ℕ) → u < g.n → f.label (f.out u) ≡ Outer → tree.depth (f.out u) < fuel
           → AreAlike (potential f u) (potential f w)
@@ -169,15 +168,14 @@ module _ (g : Darts) (are : AreDarts g) (f : Forest) where
                   let lup : up < g.n = far_low g are (f.link (f.out (far g d))) is.tight.low in
                   let twin_is : is.dart ≡ g.twin d = some_is is.dart (g.twin d) (sym is.mate ∙ pair.back) in
                   let here : f.out (far g is.dart) ≡ f.out u = ap (λ x. f.out (far g x)) twin_is
-                  ∙ (ap f.out (far_twin g are d) ∙ pair.here) in
+                  ∙ (ap f.out (far_twin are d) ∙ pair.here) in
                   let level : tree.depth (f.out u) ≡ tree.depth (f.out (far g d)) = ap tree.depth (sym here)
                   ∙ is.same in
                   let nearer : tree.depth (f.out up) < tree.depth (f.out (far g d)) = is.nearer in
                   let near_link : ℕ = g.near (f.link (f.out (far g d))) in
                   let lnear : near_link < g.n = are.near_low (f.link (f.out (far g d))) is.tight.low in
-                  alike_on (over d u near_link pair.tight lu lnear (sym pair.here) (sym is.here))
-                  (alike_on (tight_alike (f.link (f.out (far g d))) is.tight)
-                  (more up lup is.above (omega (arith, l, level, nearer))))
+                  alike_on (over u near_link pair.tight lu lnear (sym pair.here) (sym is.here))
+                  (alike_on (tight_alike is.tight) (more up lup is.above (omega (arith, l, level, nearer))))
 
       pub to_root : (u : ℕ) → u < g.n → f.label (f.out u) ≡ Outer → AreAlike (potential f u) (potential f w)
       to_root u lu label = outer_alike (suc (tree.depth (f.out u))) u lu label (omega arith)
@@ -185,24 +183,21 @@ module _ (g : Darts) (are : AreDarts g) (f : Forest) where
     -- Two vertices in outer blossoms.
     pub outers_alike : (u v : ℕ) → u < g.n → v < g.n → f.label (f.out u) ≡ Outer → f.label (f.out v) ≡ Outer
         → AreAlike (potential f u) (potential f v)
-    outers_alike u v lu lv on_u on_v =
-        by_tree (tree_of g are f root valid (f.out u) (outer_named (f.label (f.out u)) on_u))
+    outers_alike u v lu lv on_u on_v = by_tree (tree_of are valid (f.out u) (outer_named on_u))
       where
         by_root : (r : ℕ) → IsTree g f r → IsOutermost g.n f r → AreAlike (potential f u) (potential f v)
-        by_root r tree x = alike_on (to_root r tree x.0 x.1 x.2 u lu on_u)
-            (alike_back (to_root r tree x.0 x.1 x.2 v lv on_v))
+        by_root r tree x = alike_on (to_root tree x.0 x.1 x.2 u lu on_u)
+            (alike_back (to_root tree x.0 x.1 x.2 v lv on_v))
 
         by_tree : (r : ℕ) × (root ≡ Some r) × IsTree g f r → AreAlike (potential f u) (potential f v)
-        by_tree t = by_root t.0 t.2 (valid.outermost.named t.0 (outer_named (f.label t.0) t.2.root_outer))
+        by_tree t = by_root t.0 t.2 (valid.outermost.named t.0 (outer_named t.2.root_outer))
 
 -- The slack between two outer blossoms is even.
 pub slack_even : (g : WeightedGraph) (f : Forest) (root : Option ℕ) (e : ℕ) → IsGraph g → IsValid (darts_of g) f root
-    → e < length g.edges
-    → f.label (f.out (edge_at g e).u) ≡ Outer → f.label (f.out (edge_at g e).v) ≡ Outer → (half : ℤ)
-    × (slack_of g f e ≡ half +ℤ half)
-slack_even g f root e is valid low on_u on_v =
-    by_alike (outers_alike (darts_of g) (are_darts g is) f root valid (edge_at g e).u (edge_at g e).v (is.left e low)
-    (is.right e low) on_u on_v)
+    → e < length g.edges → f.label (f.out (edge_at g e).u) ≡ Outer → f.label (f.out (edge_at g e).v) ≡ Outer
+    → (half : ℤ) × (slack_of g f e ≡ half +ℤ half)
+slack_even g f root e is valid low on_u on_v = by_alike (outers_alike (are_darts is) f valid (edge_at g e).u
+    (edge_at g e).v (is.left e low) (is.right e low) on_u on_v)
   where
     both : ℤ
     both = total_below (around_both f (edge_at g e).u (edge_at g e).v) f.size

@@ -37,7 +37,7 @@ inner_off Inner ne = absurd (ne refl)
 inner_off Outer ne = refl
 inner_off Outside ne = refl
 
-module _ (g : Darts) (are : AreDarts g) (f : Forest) (r : ℕ) (valid : IsValid g f (Some r)) (tree : IsTree g f r)
+module _ {g : Darts} (are : AreDarts g) {f : Forest} {r : ℕ} (valid : IsValid g f (Some r)) (tree : IsTree g f r)
     (t : ℤ) where
   -- What an inner blossom and the outer one that it is matched to count for at a place.
   abbrev pair_at : ℕ → ℕ → ℤ
@@ -53,8 +53,7 @@ module _ (g : Darts) (are : AreDarts g) (f : Forest) (r : ℕ) (valid : IsValid 
   child c l = let is : IsInner g f tree.depth c = tree.inner c l in
       let there : inner_of g f c ≡ f.out (far g is.dart) = ap (λ o. f.out (far g (dart_or o))) is.mate in (
         ap f.label there ∙ is.child,
-        some_none (f.mate (inner_of g f c)) (g.twin is.dart) (ap f.mate there
-            ∙ (valid.matched c is.dart is.mate).back),
+        some_none (f.mate (inner_of g f c)) (g.twin is.dart) (ap f.mate there ∙ (valid.matched c is.dart is.mate).back),
       )
 
   pair_none : (b c : ℕ) → (f.label c ≡ Inner → inner_of g f c ≢ b) → (f.label c ≡ Inner → c ≢ b) → pair_at b c ≡ pos 0
@@ -85,8 +84,7 @@ module _ (g : Darts) (are : AreDarts g) (f : Forest) (r : ℕ) (valid : IsValid 
 
       own : f.label b ≡ Inner → pair_at b b ≡ pos 0 -ℤ t
       own l =
-          let x : cond (eqb (inner_of g f b) b) t (pos 0) ≡ pos 0 =
-          cond-false (eqb (inner_of g f b) b) t (pos 0)
+          let x : cond (eqb (inner_of g f b) b) t (pos 0) ≡ pos 0 = cond-false (eqb (inner_of g f b) b) t (pos 0)
           (ne_eqb (inner_of g f b) b (λ e. clash (sym (child b l).0 ∙ (ap f.label e ∙ l)))) in
           let y : cond (eqb b b) t (pos 0) ≡ t = cond-true (eqb b b) t (pos 0) (eq-eqb b b refl) in
           cond-true (is_inner (f.label b)) (cond (eqb (inner_of g f b) b) t (pos 0) -ℤ cond (eqb b b) t (pos 0)) (pos 0)
@@ -122,7 +120,7 @@ module _ (g : Darts) (are : AreDarts g) (f : Forest) (r : ℕ) (valid : IsValid 
           c0 = f.out (far g d)
 
           back : inner_of g f c0 ≡ b
-          back = ap (λ o. f.out (far g (dart_or o))) pair.back ∙ (ap f.out (far_twin g are d) ∙ pair.here)
+          back = ap (λ o. f.out (far g (dart_or o))) pair.back ∙ (ap f.out (far_twin are d) ∙ pair.here)
 
           only : (c : ℕ) → f.label c ≡ Inner → inner_of g f c ≡ b → c ≡ c0
           only c lc at =
@@ -130,7 +128,7 @@ module _ (g : Darts) (are : AreDarts g) (f : Forest) (r : ℕ) (valid : IsValid 
               let pc : IsMate g f c is.dart = valid.matched c is.dart is.mate in
               let there : f.out (far g is.dart) ≡ b = sym (ap (λ o. f.out (far g (dart_or o))) is.mate) ∙ at in
               let same : g.twin is.dart ≡ d = some_is (g.twin is.dart) d (sym pc.back ∙ (ap f.mate there ∙ mate)) in
-              sym pc.here ∙ (ap f.out (sym (far_twin g are is.dart)) ∙ ap (λ x. f.out (far g x)) same)
+              sym pc.here ∙ (ap f.out (sym (far_twin are is.dart)) ∙ ap (λ x. f.out (far g x)) same)
 
           at_c0 : pair_at b c0 ≡ t
           at_c0 =
@@ -146,8 +144,7 @@ module _ (g : Darts) (are : AreDarts g) (f : Forest) (r : ℕ) (valid : IsValid 
       by_outer l (inl e) = let x : cond (eqb b r) t (pos 0) ≡ t = cond-true (eqb b r) t (pos 0) (eq-eqb b r e) in
           omega (arith, ints, root_case l e, label_is Outer l, x)
       by_outer l (inr w) =
-          let x : cond (eqb b r) t (pos 0) ≡ pos 0 =
-          cond-false (eqb b r) t (pos 0)
+          let x : cond (eqb b r) t (pos 0) ≡ pos 0 = cond-false (eqb b r) t (pos 0)
           (ne_eqb b r (λ e. some_none (f.mate b) w.0 w.1 (ap f.mate e ∙ tree.root_free))) in
           omega (arith, ints, mate_case l w.0 w.1 w.2, label_is Outer l, x)
 
@@ -155,17 +152,14 @@ module _ (g : Darts) (are : AreDarts g) (f : Forest) (r : ℕ) (valid : IsValid 
           ≡ weight_change (f.label b) t -ℤ cond (eqb b r) t (pos 0)
       by_label Outer l = by_outer l (tree.outer b l)
       by_label Inner l =
-          let one : total_below (pair_at b) f.size ≡ pair_at b b =
-          total_below_one (pair_at b) f.size b lb
-          (λ c lc ne. pair_none b c (λ lc' at. clash (sym (child c lc').0 ∙ (ap f.label at ∙ l)))
-          (λ lc' at. ne at)) in
+          let one : total_below (pair_at b) f.size ≡ pair_at b b = total_below_one (pair_at b) f.size b lb
+          (λ c lc ne. pair_none b c (λ lc' at. clash (sym (child c lc').0 ∙ (ap f.label at ∙ l))) (λ lc' at. ne at)) in
           omega (arith, ints, one, own l, label_is Inner l, not_root (λ x. clash (sym x ∙ l)))
         where
           clash : Outer ≡ Inner → ⊥
           clash e = cc
       by_label Outside l =
-          let none : total_below (pair_at b) f.size ≡ pos 0 =
-          total_below_none (pair_at b) f.size
+          let none : total_below (pair_at b) f.size ≡ pos 0 = total_below_none (pair_at b) f.size
           (λ c lc. pair_none b c (λ lc' at. clash (sym (child c lc').0 ∙ (ap f.label at ∙ l)))
           (λ lc' at. clash' (sym lc' ∙ (ap f.label at ∙ l)))) in
           omega (arith, ints, none, label_is Outside l, not_root (λ x. clash (sym x ∙ l)))
@@ -186,9 +180,8 @@ module _ (g : Darts) (are : AreDarts g) (f : Forest) (r : ℕ) (valid : IsValid 
           ∙ cond-true (eqb x x) t (pos 0) (eq-eqb x x refl)
 
       off : f.label c ≢ Inner → total_below (λ b. pair_at b c) f.size ≡ pos 0
-      off ne = total_below_none (λ b. pair_at b c) f.size
-          (λ b l. cond-false (is_inner (f.label c)) (cond (eqb (inner_of g f c) b) t (pos 0) -ℤ cond (eqb c b) t
-          (pos 0)) (pos 0) (inner_off (f.label c) ne))
+      off ne = total_below_none (λ b. pair_at b c) f.size (λ b l. cond-false (is_inner (f.label c))
+          (cond (eqb (inner_of g f c) b) t (pos 0) -ℤ cond (eqb c b) t (pos 0)) (pos 0) (inner_off (f.label c) ne))
 
       by_label : (l : Label) → f.label c ≡ l → total_below (λ b. pair_at b c) f.size ≡ pos 0
       by_label Outer l = off (λ e. clash (sym l ∙ e))
@@ -209,8 +202,7 @@ module _ (g : Darts) (are : AreDarts g) (f : Forest) (r : ℕ) (valid : IsValid 
             arith,
             ints,
             same,
-            total_below_minus (λ b. cond (eqb (inner_of g f c) b) t (pos 0))
-                (λ b. cond (eqb c b) t (pos 0)) f.size,
+            total_below_minus (λ b. cond (eqb (inner_of g f c) b) t (pos 0)) (λ b. cond (eqb c b) t (pos 0)) f.size,
             hit (inner_of g f c) (low (inner_of g f c) (λ e. clash (sym (child c l).0 ∙ e))),
             hit c lc,
           )
@@ -227,10 +219,9 @@ module _ (g : Darts) (are : AreDarts g) (f : Forest) (r : ℕ) (valid : IsValid 
       (pos 0)) f.size at_place in
       let none : total_below (λ c. total_below (λ b. pair_at b c) f.size) f.size ≡ pos 0 =
       total_below_none (λ c. total_below (λ b. pair_at b c) f.size) f.size pairs_none in
-      let root : total_below (λ b. cond (eqb b r) t (pos 0)) f.size ≡ t =
-      total_below_one (λ b. cond (eqb b r) t (pos 0)) f.size r (low r (λ e. clash (sym tree.root_outer ∙ e)))
-      (λ k l ne. cond-false (eqb k r) t (pos 0) (ne_eqb k r ne))
-      ∙ cond-true (eqb r r) t (pos 0) (eq-eqb r r refl) in
+      let root : total_below (λ b. cond (eqb b r) t (pos 0)) f.size ≡ t = total_below_one
+      (λ b. cond (eqb b r) t (pos 0)) f.size r (low r (λ e. clash (sym tree.root_outer ∙ e)))
+      (λ k l ne. cond-false (eqb k r) t (pos 0) (ne_eqb k r ne)) ∙ cond-true (eqb r r) t (pos 0) (eq-eqb r r refl) in
       omega (
         arith,
         ints,

@@ -80,12 +80,11 @@ three_none a b c k off =
 
 three_below : (f : ℕ → ℕ) (a b c m : ℕ) → a < m → b < m → c < m → a ≢ b → a ≢ c → b ≢ c → 1 ≤ f a → 1 ≤ f b → 1 ≤ f c
     → 3 ≤ count_below f m
-three_below f a b c m la lb lc ab ac bc fa fb fc =
-    omega (
-      arith,
-      three_count a b c m la lb lc,
-      count_below_le (three a b c) f m (λ k lk. each k (three_at a b c k ab ac bc)),
-    )
+three_below f a b c m la lb lc ab ac bc fa fb fc = omega (
+  arith,
+  three_count a b c m la lb lc,
+  count_below_le (three a b c) f m (λ k lk. each k (three_at a b c k ab ac bc)),
+)
   where
     there : (k : ℕ) → (k ≡ a) ⊎ ((k ≡ b) ⊎ (k ≡ c)) → 1 ≤ f k
     there k (inl e) = subst (λ x. 1 ≤ f x) (sym e) fa
@@ -105,9 +104,8 @@ count_low n (suc m) l = by_size (cases_lt m n) (λ h. count_low n m h)
     by_size : (m < n) ⊎ (n ≤ m) → (n ≤ m → count_below (λ p. bool_number (nat_lt p n)) m ≡ n)
         → count_below (λ p. bool_number (nat_lt p n)) m + bool_number (nat_lt m n) ≡ n
     by_size (inl h) more =
-        let all : count_below (λ p. bool_number (nat_lt p n)) m ≡ count_below (λ p. 1) m =
-        count_below_same (λ p. bool_number (nat_lt p n)) (λ p. 1) m
-        (λ k lk. ap bool_number (lt-ltb k n (omega (arith, lk, h)))) in
+        let all : count_below (λ p. bool_number (nat_lt p n)) m ≡ count_below (λ p. 1) m = count_below_same
+        (λ p. bool_number (nat_lt p n)) (λ p. 1) m (λ k lk. ap bool_number (lt-ltb k n (omega (arith, lk, h)))) in
         let here : bool_number (nat_lt m n) ≡ 1 = ap bool_number (lt-ltb m n h) in
         omega (arith, all, here, count_below_ones m, l, h)
     by_size (inr h) more =
@@ -140,9 +138,8 @@ module _ (g : Darts) (are : AreDarts g) (f : Forest) (nested : IsNested g f) (ve
       at k = walk f.nest.after (f.nest.head b) k
 
       one : (k : ℕ) → 1 ≤ part (walk f.nest.after (f.nest.head b) k) b
-      one k = (let is : part (walk f.nest.after (f.nest.head b) k) b ≡ 1 =
-          is_part (walk f.nest.after (f.nest.head b) k) b (ring.inside k)
-          (λ e. lower (ap f.nest.rank e) (ring.lower k)) in omega (arith, is))
+      one k = (let is : part (walk f.nest.after (f.nest.head b) k) b ≡ 1 = is_part (walk f.nest.after (f.nest.head b) k)
+          b (ring.inside k) (λ e. lower (ap f.nest.rank e) (ring.lower k)) in omega (arith, is))
         where
           lower : {x y : ℕ} → x ≡ y → x < y → ⊥
           lower e l = omega (arith, e, l)
@@ -214,7 +211,7 @@ module _ (g : Darts) (are : AreDarts g) (f : Forest) (nested : IsNested g f) (ve
       by_size (inl l) = inl l
       by_size (inr h) = inr (
         h,
-        λ none. true_false (f.holds p (g.near (f.nest.joint p))) joint.begins
+        λ none. true_false joint.begins
             (nested.empty p (g.near (f.nest.joint p)) h (are.near_low (f.nest.joint p) joint.tight.low) none),
       )
 
@@ -224,10 +221,9 @@ module _ (g : Darts) (are : AreDarts g) (f : Forest) (nested : IsNested g f) (ve
   sets_beside tops each =
       let triple : count_below (λ x. 3 * live_at g.n f.nest.parts x) f.size ≡ 3 * sets_of g.n f =
       count_below_times 3 (live_at g.n f.nest.parts) f.size in
-      let below : count_below (λ x. 3 * live_at g.n f.nest.parts x) f.size
-      ≤ count_below (λ x. count_below (λ p. part p x) f.size) f.size =
-      count_below_le (λ x. 3 * live_at g.n f.nest.parts x) (λ x. count_below (λ p. part p x) f.size) f.size
-      (λ x l. live_parts x) in
+      let below : count_below (λ x. 3 * live_at g.n f.nest.parts x) f.size ≤ count_below
+      (λ x. count_below (λ p. part p x) f.size) f.size = count_below_le (λ x. 3 * live_at g.n f.nest.parts x)
+      (λ x. count_below (λ p. part p x) f.size) f.size (λ x l. live_parts x) in
       let swap : count_below (λ x. count_below (λ p. part p x) f.size) f.size
       ≡ count_below (λ p. count_below (part p) f.size) f.size = counts_swapped (λ x p. part p x) f.size f.size in
       let inners : count_below (λ p. count_below (part p) f.size) f.size ≤ count_below inner f.size =
@@ -268,7 +264,7 @@ module _ (g : Darts) (are : AreDarts g) (f : Forest) (nested : IsNested g f) (ve
 
       in_use : (top < g.n) ⊎ (g.n ≤ top) → IsBlossom g f top
       in_use (inl l) = inl l
-      in_use (inr h) = inr (h, λ none. true_false (f.holds top 0) held (nested.empty top 0 h some none))
+      in_use (inr h) = inr (h, λ none. true_false held (nested.empty top 0 h some none))
 
       each : (p : ℕ) → p < f.size → inner p + bool_number (eqb p top) ≤ used p
       each p l = by_place (cases_eq p top)

@@ -23,8 +23,7 @@ module _ (n : ℕ) (f new : Forest) (b : ℕ) (size : new.size ≡ f.size) (weig
           ap (λ (z : ℤ). cond (splits (new.holds x) u v) z (pos 0)) w'
           ∙ (by_none (splits (new.holds x) u v) ∙ sym (ap (λ (z : ℤ). cond (splits (f.holds x) u v) z (pos 0)) w
           ∙ by_none (splits (f.holds x) u v)))
-      each x (inr ne) =
-          ap (λ (z : ℤ). cond (splits (new.holds x) u v) z (pos 0)) (weight x)
+      each x (inr ne) = ap (λ (z : ℤ). cond (splits (new.holds x) u v) z (pos 0)) (weight x)
           ∙ (ap (λ (s : Bool). cond (cond s (not (new.holds x v)) (new.holds x v)) (f.weight x) (pos 0))
-          (holds x u ne lu)
-          ∙ ap (λ (s : Bool). cond (cond (f.holds x u) (not s) s) (f.weight x) (pos 0)) (holds x v ne lv))
+          (holds x u ne lu) ∙ ap (λ (s : Bool). cond (cond (f.holds x u) (not s) s) (f.weight x) (pos 0))
+          (holds x v ne lv))

@@ -13,42 +13,43 @@ use Rattle.forest_laws.proofs.Loads.{load_apart, load_within}
 use Rattle.forest_laws.proofs.Writes.{label_cases, true_false}
 use Rattle.forest_laws.proofs.Facts.{far_low, inner_mate, outer_mate}
 
-module _ (g : Darts) (are : AreDarts g) (f : Forest) (root : Option ℕ) (valid : IsValid g f root) (t : ℤ) where
+module _ {g : Darts} (are : AreDarts g) {f : Forest} {root : Option ℕ} (valid : IsValid g f root) (t : ℤ) where
   -- A tight dart whose ends move against each other, or lie in one blossom, stays tight.
-  still_tight : (d : ℕ) → IsTight g f d
+  still_tight : {d : ℕ} → IsTight g f d
       → (f.out (g.near d) ≢ f.out (far g d) → weight_change (f.label (f.out (g.near d))) t +ℤ weight_change
       (f.label (f.out (far g d))) t ≡ pos 0) → IsTight g (shifted f t) d
-  still_tight d tight none = record { low = tight.low; exact = by_ends (cases_eq (f.out (g.near d)) (f.out (far g d))) }
+  still_tight {d} tight none = record {
+    low = tight.low;
+    exact = by_ends (cases_eq (f.out (g.near d)) (f.out (far g d)));
+  }
     where
       by_ends : (f.out (g.near d) ≡ f.out (far g d)) ⊎ (f.out (g.near d) ≢ f.out (far g d))
           → weight_between (shifted f t) (g.near d) (far g d) ≡ g.cost d +ℤ g.cost d
-      by_ends (inl e) = load_within g.n f valid.outermost t (g.near d) (far g d) (are.near_low d tight.low)
+      by_ends (inl e) = load_within valid.outermost t (g.near d) (far g d) (are.near_low d tight.low)
           (far_low g are d tight.low) e ∙ tight.exact
       by_ends (inr ne) = omega (
         arith,
         ints,
-        load_apart g.n f valid.outermost t (g.near d) (far g d)
-            (are.near_low d tight.low) (far_low g are d tight.low) ne,
+        load_apart valid.outermost t (g.near d) (far g d) (are.near_low d tight.low) (far_low g are d tight.low) ne,
         none ne,
         tight.exact,
       )
 
   -- Changes at an outer and an inner blossom cancel out.
-  against : (a b : Label) → a ≡ Outer → b ≡ Inner → weight_change a t +ℤ weight_change b t ≡ pos 0
-  against a b ea eb = let x : weight_change a t ≡ t = ap (λ (l : Label). weight_change l t) ea in
+  against : {a b : Label} → a ≡ Outer → b ≡ Inner → weight_change a t +ℤ weight_change b t ≡ pos 0
+  against {a} {b} ea eb = let x : weight_change a t ≡ t = ap (λ (l : Label). weight_change l t) ea in
       let y : weight_change b t ≡ pos 0 -ℤ t = ap (λ (l : Label). weight_change l t) eb in omega (arith, ints)
 
   -- A matched dart stays tight.
-  mate_still : (b d : ℕ) → f.mate b ≡ Some d → IsMate g f b d → IsTight g (shifted f t) d
-  mate_still b d mate is =
-      still_tight d is.tight (λ ne. subst (λ x. weight_change (f.label x) t +ℤ weight_change (f.label (f.out (far g d)))
-      t ≡ pos 0) (sym is.here) (by_label (f.label b) refl))
+  mate_still : {b d : ℕ} → f.mate b ≡ Some d → IsMate g f b d → IsTight g (shifted f t) d
+  mate_still {b} {d} mate is = still_tight is.tight (λ ne. subst (λ x. weight_change (f.label x) t +ℤ weight_change
+      (f.label (f.out (far g d))) t ≡ pos 0) (sym is.here) (by_label (f.label b) refl))
     where
       by_label : (l : Label) → f.label b ≡ l → weight_change (f.label b) t +ℤ weight_change (f.label (f.out (far g d)))
           t ≡ pos 0
-      by_label Outer e = against (f.label b) (f.label (f.out (far g d))) e (outer_mate g are f root valid b d e mate)
+      by_label Outer e = against e (outer_mate are valid b d e mate)
       by_label Inner e = let h : weight_change (f.label (f.out (far g d))) t +ℤ weight_change (f.label b) t ≡ pos 0 =
-          against (f.label (f.out (far g d))) (f.label b) (inner_mate g are f root valid b d e mate) e in
+          against (inner_mate are valid b d e mate) e in
           omega (arith, ints)
       by_label Outside e =
           let x : weight_change (f.label b) t ≡ pos 0 = ap (λ (l : Label). weight_change l t) e in
@@ -56,8 +57,8 @@ module _ (g : Darts) (are : AreDarts g) (f : Forest) (root : Option ℕ) (valid 
           ap (λ (l : Label). weight_change l t) (valid.outside b d e mate) in
           omega (arith, ints)
 
-  shifted_tree : (r : ℕ) → IsTree g f r → IsTree g (shifted f t) r
-  shifted_tree r tree = record {
+  shifted_tree : {r : ℕ} → IsTree g f r → IsTree g (shifted f t) r
+  shifted_tree tree = record {
     depth = tree.depth;
     root_outer = tree.root_outer;
     root_free = tree.root_free;
@@ -67,11 +68,9 @@ module _ (g : Darts) (are : AreDarts g) (f : Forest) (root : Option ℕ) (valid 
     where
       inner : (b : ℕ) → f.label b ≡ Inner → IsInner g f tree.depth b → IsInner g (shifted f t) tree.depth b
       inner b l is = record {
-        tight = still_tight (f.link b) is.tight
-            (λ ne. (let h : weight_change (f.label (f.out (far g (f.link b)))) t +ℤ weight_change
-            (f.label (f.out (g.near (f.link b)))) t ≡ pos 0 =
-            against (f.label (f.out (far g (f.link b)))) (f.label (f.out (g.near (f.link b)))) is.above
-            (ap f.label is.here ∙ l) in omega (arith, ints)));
+        tight = still_tight is.tight (λ ne. (let h : weight_change (f.label (f.out (far g (f.link b)))) t +ℤ
+            weight_change (f.label (f.out (g.near (f.link b)))) t ≡ pos 0 = against is.above (ap f.label is.here ∙ l) in
+            omega (arith, ints)));
         here = is.here;
         above = is.above;
         nearer = is.nearer;
@@ -99,7 +98,7 @@ module _ (g : Darts) (are : AreDarts g) (f : Forest) (root : Option ℕ) (valid 
           let w : IsOutermost g.n f b = valid.outermost.named b named in
           let on : f.holds b w.0 ≡ true = subst (λ x. f.holds x w.0 ≡ true) w.2 (valid.outermost.held w.0 w.0 w.1 w.1
           ∙ eq-eqb (f.out w.0) (f.out w.0) refl) in
-          absurd (true_false (f.holds b w.0) on (valid.nested.empty b w.0 high w.1 none))
+          absurd (true_false on (valid.nested.empty b w.0 high w.1 none))
 
       ring : (b : ℕ) → IsRing g f b → IsRing g (shifted f t) b
       ring b is = record {
@@ -108,8 +107,7 @@ module _ (g : Darts) (are : AreDarts g) (f : Forest) (root : Option ℕ) (valid 
         odd = is.odd;
         closed = is.closed;
         inside = is.inside;
-        lower =
-            is.lower;
+        lower = is.lower;
         below = is.below;
         distinct = is.distinct;
         all = is.all;
@@ -118,9 +116,8 @@ module _ (g : Darts) (are : AreDarts g) (f : Forest) (root : Option ℕ) (valid 
 
       joint : (p : ℕ) → IsJoint g f p → IsJoint g (shifted f t) p
       joint p is = record {
-        tight = still_tight (f.nest.joint p) is.tight (λ ne. absurd (ne is.same));
-        begins =
-            is.begins;
+        tight = still_tight is.tight (λ ne. absurd (ne is.same));
+        begins = is.begins;
         ends = is.ends;
         same = is.same;
       }
@@ -131,18 +128,16 @@ module _ (g : Darts) (are : AreDarts g) (f : Forest) (root : Option ℕ) (valid 
     outermost = record {
       vertices = valid.outermost.vertices;
       out_low = valid.outermost.out_low;
-      held =
-          valid.outermost.held;
+      held = valid.outermost.held;
       tops = valid.outermost.tops;
       together = valid.outermost.together;
-      named =
-          valid.outermost.named;
+      named = valid.outermost.named;
     };
     nested = shifted_nest;
     feasible = feasible;
     matched = λ b d mate. (let is : IsMate g f b d = valid.matched b d mate in
-        record { tight = mate_still b d mate is; here = is.here; other = is.other; back = is.back });
-    tree = λ r e. shifted_tree r (valid.tree r e);
+        record { tight = mate_still mate is; here = is.here; other = is.other; back = is.back });
+    tree = λ r e. shifted_tree (valid.tree r e);
     no_tree = valid.no_tree;
     outside = valid.outside;
   }

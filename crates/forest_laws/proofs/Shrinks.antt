@@ -25,10 +25,9 @@ ring_sum_same f h p q a b (suc n) walks terms =
     let t : p (walk f a n) ≡ q (walk h b n) = terms n ∙ ap q (sym (walks n)) in
     omega (arith, ring_sum_same f h p q a b n walks terms)
 
-module _ (g : Darts) (are : AreDarts g) (f : Forest) (r : ℕ) (valid : IsValid g f (Some r)) (tree : IsTree g f r)
-    (new : Forest) (inside : ℕ → Bool) (top b front many : ℕ)
-    (cycle : IsCycle g f r tree.depth inside top) (unused : IsUnused g.n f b)
-    (row : IsClosedRow g f new.nest.after new.nest.joint inside front many)
+module _ {g : Darts} (are : AreDarts g) {f : Forest} {r : ℕ} (valid : IsValid g f (Some r)) (tree : IsTree g f r)
+    {new : Forest} {inside : ℕ → Bool} {top b front many : ℕ} (cycle : IsCycle g f r tree.depth inside top)
+    (unused : IsUnused g.n f b) (row : IsClosedRow g f new.nest.after new.nest.joint inside front many)
     (is : IsShrunk g.n f new inside top b front many) where
   -- Each blossom is the new one, on the cycle, or neither.
   abbrev pub Place : ℕ → Type 0
@@ -45,9 +44,6 @@ module _ (g : Darts) (are : AreDarts g) (f : Forest) (r : ℕ) (valid : IsValid 
 
   marked_old : (x : ℕ) → inside x ≡ true → x ≢ b
   marked_old x on e = cycle.in_tree x on (ap f.label e ∙ unused.outside)
-
-  b_unmarked : inside b ≡ false
-  b_unmarked = elim (cases_Bool (inside b)) [ inl on ↦ absurd (marked_old b on refl) | inr off ↦ off ]
 
   -- The outermost blossoms of vertices.
   pub out_on : (v : ℕ) → v < g.n → inside (f.out v) ≡ true → new.out v ≡ b
@@ -101,8 +97,7 @@ module _ (g : Darts) (are : AreDarts g) (f : Forest) (r : ℕ) (valid : IsValid 
   pub same_tight : (d : ℕ) → IsTight g f d → IsTight g new d
   same_tight d tight = record {
     low = tight.low;
-    exact =
-        same_load (g.near d) (far g d) (are.near_low d tight.low) (far_low g are d tight.low) ∙ tight.exact;
+    exact = same_load (g.near d) (far g d) (are.near_low d tight.low) (far_low g are d tight.low) ∙ tight.exact;
   }
 
   pub new_outermost : AreOutermost g.n new
@@ -125,20 +120,18 @@ module _ (g : Darts) (are : AreDarts g) (f : Forest) (r : ℕ) (valid : IsValid 
       held u v lu lv (inl on) (inl too) = ap (λ x. new.holds x v) (out_on u lu on)
           ∙ (is.holds_new v lv ∙ (too ∙ sym (eq-eqb (new.out v) (new.out u) (out_on v lv too ∙ sym (out_on u lu on)))))
       held u v lu lv (inl on) (inr off) = ap (λ x. new.holds x v) (out_on u lu on)
-          ∙ (is.holds_new v lv ∙ (off
-          ∙ sym (ne_eqb (new.out v) (new.out u)
+          ∙ (is.holds_new v lv ∙ (off ∙ sym (ne_eqb (new.out v) (new.out u)
           (λ e. unused.no_out v lv (sym (out_off v lv off) ∙ (e ∙ out_on u lu on))))))
       held u v lu lv (inr off) (inl on) =
           ap (λ x. new.holds x v) (out_off u lu off) ∙ (is.holds_old (f.out u) v (unused.no_out u lu) lv
           ∙ (valid.outermost.held u v lu lv
-          ∙ (ne_eqb (f.out v) (f.out u) (λ e. true_false (inside (f.out u)) (ap inside (sym e) ∙ on) off)
+          ∙ (ne_eqb (f.out v) (f.out u) (λ e. true_false (ap inside (sym e) ∙ on) off)
           ∙ sym (ne_eqb (new.out v) (new.out u)
           (λ e. unused.no_out u lu (sym (out_off u lu off) ∙ (sym e ∙ out_on v lv on)))))))
-      held u v lu lv (inr off) (inr too) =
-          ap (λ x. new.holds x v) (out_off u lu off) ∙ (is.holds_old (f.out u) v (unused.no_out u lu) lv
-          ∙ (valid.outermost.held u v lu lv
-          ∙ (ap (λ x. eqb x (f.out u)) (sym (out_off v lv too))
-          ∙ ap (λ x. eqb (new.out v) x) (sym (out_off u lu off)))))
+      held u v lu lv (inr off) (inr too) = ap (λ x. new.holds x v) (out_off u lu off)
+          ∙ (is.holds_old (f.out u) v (unused.no_out u lu) lv ∙ (valid.outermost.held u v lu lv
+          ∙ (ap (λ x. eqb x (f.out u)) (sym (out_off v lv too)) ∙ ap (λ x. eqb (new.out v) x)
+          (sym (out_off u lu off)))))
 
       tops : (v : ℕ) → v < g.n → (inside (f.out v) ≡ true) ⊎ (inside (f.out v) ≡ false) → new.nest.up (new.out v)
           ≡ new.out v
@@ -151,10 +144,9 @@ module _ (g : Darts) (are : AreDarts g) (f : Forest) (r : ℕ) (valid : IsValid 
       together x u v lu lv hu hv (inl e) =
           out_on u lu (sym (is.holds_new u lu) ∙ (ap (λ y. new.holds y u) (sym e) ∙ hu))
           ∙ sym (out_on v lv (sym (is.holds_new v lv) ∙ (ap (λ y. new.holds y v) (sym e) ∙ hv)))
-      together x u v lu lv hu hv (inr ne) =
-          is.out u lu ∙ (ap (λ y. cond (inside y) b y)
-          (valid.outermost.together x u v lu lv (sym (is.holds_old x u ne lu) ∙ hu) (sym (is.holds_old x v ne lv)
-          ∙ hv)) ∙ sym (is.out v lv))
+      together x u v lu lv hu hv (inr ne) = is.out u lu ∙ (ap (λ y. cond (inside y) b y)
+          (valid.outermost.together x u v lu lv (sym (is.holds_old x u ne lu) ∙ hu) (sym (is.holds_old x v ne lv) ∙ hv))
+          ∙ sym (is.out v lv))
 
       named : (x : ℕ) → new.label x ≢ Outside → Place x → IsOutermost g.n new x
       named x n (inl e) = let w : IsOutermost g.n f top = valid.outermost.named top (cycle.in_tree top cycle.top_in) in
@@ -165,14 +157,14 @@ module _ (g : Darts) (are : AreDarts g) (f : Forest) (r : ℕ) (valid : IsValid 
           (w.0, w.1, out_off w.0 w.1 (ap inside w.2 ∙ off.1) ∙ w.2)
 
   -- The parts of other sets stay.
-  part_old : (c x : ℕ) → c ≢ b → f.nest.up x ≡ c → x ≢ c → (x ≢ b) × (inside x ≡ false)
-  part_old c x ne up inner = (
+  part_old : {c : ℕ} (x : ℕ) → c ≢ b → f.nest.up x ≡ c → x ≢ c → (x ≢ b) × (inside x ≡ false)
+  part_old x ne up inner = (
     (λ e. ne (sym up ∙ (ap f.nest.up e ∙ unused.alone))),
     elim (cases_Bool (inside x)) [ inl on ↦ absurd (inner (sym (marked_top x on) ∙ up)) | inr off ↦ off ],
   )
 
-  ring_old : (c : ℕ) → c ≢ b → IsRing g f c → IsRing g new c
-  ring_old c ne ring = record {
+  ring_old : {c : ℕ} → c ≢ b → IsRing g f c → IsRing g new c
+  ring_old {c} ne ring = record {
     half = ring.half;
     some = ring.some;
     odd = many_is ∙ ring.odd;
@@ -206,7 +198,7 @@ module _ (g : Darts) (are : AreDarts g) (f : Forest) (r : ℕ) (valid : IsValid 
           subst (λ x. f.nest.rank x < f.nest.rank c) e (ring.lower k) in omega arith
 
       old : (k : ℕ) → (at k ≢ b) × (inside (at k) ≡ false)
-      old k = part_old c (walk f.nest.after (f.nest.head c) k) ne (ring.inside k) (lower_ne k)
+      old k = part_old (walk f.nest.after (f.nest.head c) k) ne (ring.inside k) (lower_ne k)
 
       walks : (k : ℕ) → walk new.nest.after (new.nest.head c) k ≡ at k
       walks k = ap (λ x. walk new.nest.after x k) head_is ∙ walk_same f.nest.after new.nest.after (f.nest.head c)
@@ -277,9 +269,8 @@ module _ (g : Darts) (are : AreDarts g) (f : Forest) (r : ℕ) (valid : IsValid 
     ends = holds (new.nest.after p) (far g (new.nest.joint p)) (far_low g are (new.nest.joint p) (row.tight p on).low)
         next (row.ends p on);
     same = out_on (g.near (new.nest.joint p)) (are.near_low (new.nest.joint p) (row.tight p on).low)
-        (ap inside (row.begins p on) ∙ on)
-        ∙ sym (out_on (far g (new.nest.joint p)) (far_low g are (new.nest.joint p) (row.tight p on).low)
-        (ap inside (row.ends p on) ∙ next));
+        (ap inside (row.begins p on) ∙ on) ∙ sym (out_on (far g (new.nest.joint p))
+        (far_low g are (new.nest.joint p) (row.tight p on).low) (ap inside (row.ends p on) ∙ next));
   }
     where
       next : inside (new.nest.after p) ≡ true
@@ -299,8 +290,7 @@ module _ (g : Darts) (are : AreDarts g) (f : Forest) (r : ℕ) (valid : IsValid 
     ends = ap (λ d. new.holds (new.nest.after p) (far g d)) joint_is
         ∙ (ap (λ x. new.holds x (far g (f.nest.joint p))) (is.after p off)
         ∙ (is.holds_old (f.nest.after p) (far g (f.nest.joint p)) next far_low' ∙ old.ends));
-    same = ap (λ d. new.out (g.near d)) joint_is
-        ∙ (is.out (g.near (f.nest.joint p)) near_low
+    same = ap (λ d. new.out (g.near d)) joint_is ∙ (is.out (g.near (f.nest.joint p)) near_low
         ∙ (ap (λ x. cond (inside x) b x) old.same ∙ (sym (is.out (far g (f.nest.joint p)) far_low')
         ∙ ap (λ d. new.out (far g d)) (sym joint_is))));
   }
@@ -318,7 +308,7 @@ module _ (g : Darts) (are : AreDarts g) (f : Forest) (r : ℕ) (valid : IsValid 
       far_low' = far_low g are (f.nest.joint p) old.tight.low
 
       next : f.nest.after p ≢ b
-      next e = true_false (f.holds b (far g (f.nest.joint p))) (ap (λ x. f.holds x (far g (f.nest.joint p))) (sym e)
+      next e = true_false (ap (λ x. f.holds x (far g (f.nest.joint p))) (sym e)
           ∙ old.ends) (valid.nested.empty b (far g (f.nest.joint p)) unused.high far_low' unused.no_parts)
 
   pub new_nested : IsNested g new
@@ -334,8 +324,7 @@ module _ (g : Darts) (are : AreDarts g) (f : Forest) (r : ℕ) (valid : IsValid 
     where
       rings : (c : ℕ) → g.n ≤ c → new.nest.parts c ≢ 0 → (c ≡ b) ⊎ (c ≢ b) → IsRing g new c
       rings c high live (inl e) = subst (λ x. IsRing g new x) (sym e) ring_new
-      rings c high live (inr ne) =
-          ring_old c ne (valid.nested.rings c high
+      rings c high live (inr ne) = ring_old ne (valid.nested.rings c high
           (λ none. live (is.parts c ∙ (set_there f.nest.parts b c many ne ∙ none))))
 
       empty : (c v : ℕ) → g.n ≤ c → v < g.n → new.nest.parts c ≡ 0 → (c ≡ b) ⊎ (c ≢ b) → new.holds c v ≡ false
@@ -346,9 +335,8 @@ module _ (g : Darts) (are : AreDarts g) (f : Forest) (r : ℕ) (valid : IsValid 
 
       weightless : (c : ℕ) → g.n ≤ c → new.nest.parts c ≡ 0 → (c ≡ b) ⊎ (c ≢ b) → new.weight c ≡ pos 0
       weightless c high none (inl e) = is.weight c ∙ (ap f.weight e ∙ unused.weightless)
-      weightless c high none (inr ne) =
-          is.weight c ∙ valid.nested.weightless c high (sym (set_there f.nest.parts b c many ne)
-          ∙ (sym (is.parts c) ∙ none))
+      weightless c high none (inr ne) = is.weight c ∙ valid.nested.weightless c high
+          (sym (set_there f.nest.parts b c many ne) ∙ (sym (is.parts c) ∙ none))
 
       live : (p : ℕ) → new.nest.up p ≢ p → Place p → (g.n ≤ new.nest.up p) × (new.nest.parts (new.nest.up p) ≢ 0)
       live p inner (inl e) = absurd (inner (ap new.nest.up e ∙ (up_b ∙ sym e)))
@@ -389,7 +377,7 @@ module _ (g : Darts) (are : AreDarts g) (f : Forest) (r : ℕ) (valid : IsValid 
 
       by_top : (f.out (far g d) ≡ top) ⊎ (f.out (far g d) ≢ top) → f.out (far g d) ≡ top
       by_top (inl e) = e
-      by_top (inr ne) = absurd (true_false (inside c) (ap inside (sym (ap f.out (far_twin g are d) ∙ pair.here))
+      by_top (inr ne) = absurd (true_false (ap inside (sym (ap f.out (far_twin are d) ∙ pair.here))
           ∙ cycle.mates (f.out (far g d)) (g.twin d) on ne pair.back) off)
 
   pub new_matched : IsMatched g new

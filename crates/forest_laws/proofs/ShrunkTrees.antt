@@ -19,58 +19,57 @@ use Rattle.forest_laws.proofs.Shrinks.{new_outermost as the_new_outermost, new_n
 use Rattle.forest_laws.proofs.Shrinks.{new_feasible as the_new_feasible, only_top as the_only_top}
 use Rattle.forest_laws.proofs.Shrinks.{new_matched as the_new_matched}
 
-module _ (g : Darts) (are : AreDarts g) (f : Forest) (r : ℕ) (valid : IsValid g f (Some r)) (tree : IsTree g f r)
-    (new : Forest) (inside : ℕ → Bool) (top b front many : ℕ)
-    (cycle : IsCycle g f r tree.depth inside top) (unused : IsUnused g.n f b)
-    (row : IsClosedRow g f new.nest.after new.nest.joint inside front many)
+module _ {g : Darts} (are : AreDarts g) {f : Forest} {r : ℕ} (valid : IsValid g f (Some r)) (tree : IsTree g f r)
+    {new : Forest} {inside : ℕ → Bool} {top b front many : ℕ} (cycle : IsCycle g f r tree.depth inside top)
+    (unused : IsUnused g.n f b) (row : IsClosedRow g f new.nest.after new.nest.joint inside front many)
     (is : IsShrunk g.n f new inside top b front many) where
   abbrev Place : ℕ → Type 0
-  Place = the_Place g are f r valid tree new inside top b front many cycle unused row is
+  Place = the_Place are valid tree cycle unused row is
 
   place : (x : ℕ) → Place x
-  place = the_place g are f r valid tree new inside top b front many cycle unused row is
+  place = the_place are valid tree cycle unused row is
 
   out_on : (v : ℕ) → v < g.n → inside (f.out v) ≡ true → new.out v ≡ b
-  out_on = the_out_on g are f r valid tree new inside top b front many cycle unused row is
+  out_on = the_out_on are valid tree cycle unused row is
 
   out_off : (v : ℕ) → v < g.n → inside (f.out v) ≡ false → new.out v ≡ f.out v
-  out_off = the_out_off g are f r valid tree new inside top b front many cycle unused row is
+  out_off = the_out_off are valid tree cycle unused row is
 
   label_b : new.label b ≡ Outer
-  label_b = the_label_b g are f r valid tree new inside top b front many cycle unused row is
+  label_b = the_label_b are valid tree cycle unused row is
 
   label_on : (x : ℕ) → inside x ≡ true → new.label x ≡ Outside
-  label_on = the_label_on g are f r valid tree new inside top b front many cycle unused row is
+  label_on = the_label_on are valid tree cycle unused row is
 
   label_off : (x : ℕ) → x ≢ b → inside x ≡ false → new.label x ≡ f.label x
-  label_off = the_label_off g are f r valid tree new inside top b front many cycle unused row is
+  label_off = the_label_off are valid tree cycle unused row is
 
   mate_b : new.mate b ≡ f.mate top
-  mate_b = the_mate_b g are f r valid tree new inside top b front many cycle unused row is
+  mate_b = the_mate_b are valid tree cycle unused row is
 
   mate_on : (x : ℕ) → inside x ≡ true → new.mate x ≡ None
-  mate_on = the_mate_on g are f r valid tree new inside top b front many cycle unused row is
+  mate_on = the_mate_on are valid tree cycle unused row is
 
   mate_off : (x : ℕ) → x ≢ b → inside x ≡ false → new.mate x ≡ f.mate x
-  mate_off = the_mate_off g are f r valid tree new inside top b front many cycle unused row is
+  mate_off = the_mate_off are valid tree cycle unused row is
 
   same_tight : (d : ℕ) → IsTight g f d → IsTight g new d
-  same_tight = the_same_tight g are f r valid tree new inside top b front many cycle unused row is
+  same_tight = the_same_tight are valid tree cycle unused row is
 
   new_outermost : AreOutermost g.n new
-  new_outermost = the_new_outermost g are f r valid tree new inside top b front many cycle unused row is
+  new_outermost = the_new_outermost are valid tree cycle unused row is
 
   new_nested : IsNested g new
-  new_nested = the_new_nested g are f r valid tree new inside top b front many cycle unused row is
+  new_nested = the_new_nested are valid tree cycle unused row is
 
   new_feasible : IsFeasible g new
-  new_feasible = the_new_feasible g are f r valid tree new inside top b front many cycle unused row is
+  new_feasible = the_new_feasible are valid tree cycle unused row is
 
   only_top : (c d : ℕ) → inside c ≡ false → f.mate c ≡ Some d → inside (f.out (far g d)) ≡ true → f.out (far g d) ≡ top
-  only_top = the_only_top g are f r valid tree new inside top b front many cycle unused row is
+  only_top = the_only_top are valid tree cycle unused row is
 
   new_matched : IsMatched g new
-  new_matched = the_new_matched g are f r valid tree new inside top b front many cycle unused row is
+  new_matched = the_new_matched are valid tree cycle unused row is
 
   -- The new root.
   abbrev pub root_after : ℕ
@@ -103,8 +102,8 @@ module _ (g : Darts) (are : AreDarts g) (f : Forest) (r : ℕ) (valid : IsValid 
             ≡ tree.depth (f.out v) = depth_old (f.out v) (unused.no_out v l) in omega arith),
       )
 
-  new_inner : (c : ℕ) → c ≢ b → inside c ≡ false → f.label c ≡ Inner → IsInner g f tree.depth c → IsInner g new depths c
-  new_inner c ne off label old = record {
+  new_inner : {c : ℕ} → c ≢ b → inside c ≡ false → f.label c ≡ Inner → IsInner g f tree.depth c → IsInner g new depths c
+  new_inner {c} ne off label old = record {
     tight = subst (λ d. IsTight g new d) (sym (is.link c)) (same_tight (f.link c) old.tight);
     here = ap (λ d. new.out (g.near d)) (is.link c) ∙ (out_off (g.near (f.link c)) near_low (ap inside old.here ∙ off)
         ∙ old.here);
@@ -160,7 +159,7 @@ module _ (g : Darts) (are : AreDarts g) (f : Forest) (r : ℕ) (valid : IsValid 
       inner : (c : ℕ) → new.label c ≡ Inner → Place c → IsInner g new depths c
       inner c l (inl e) = let h : Outer ≡ Inner = sym label_b ∙ (ap new.label (sym e) ∙ l) in absurd (cc h)
       inner c l (inr (inl on)) = let h : Outside ≡ Inner = sym (label_on c on.1) ∙ l in absurd (cc h)
-      inner c l (inr (inr off)) = new_inner c off.0 off.1 (sym (label_off c off.0 off.1) ∙ l)
+      inner c l (inr (inr off)) = new_inner off.0 off.1 (sym (label_off c off.0 off.1) ∙ l)
           (tree.inner c (sym (label_off c off.0 off.1) ∙ l))
 
       top_is : IsOuter g f r top → IsOuter g new root_after b
@@ -180,8 +179,7 @@ module _ (g : Darts) (are : AreDarts g) (f : Forest) (r : ℕ) (valid : IsValid 
       old_is c ne off (inl e) = inl (e ∙ sym (cond-false (inside r) b r (ap inside (sym e) ∙ off)))
       old_is c ne off (inr w) =
           let far_low' : far g w.0 < g.n = far_low g are w.0 (valid.matched c w.0 w.1).tight.low in
-          let too : inside (f.out (far g w.0)) ≡ false =
-          elim (cases_Bool (inside (f.out (far g w.0))))
+          let too : inside (f.out (far g w.0)) ≡ false = elim (cases_Bool (inside (f.out (far g w.0))))
           [ inl on ↦ absurd (clash (f.out (far g w.0)) (only_top c w.0 off w.1 on) w.2) | inr out ↦ out ] in
           inr (
             w.0,
@@ -203,8 +201,7 @@ module _ (g : Darts) (are : AreDarts g) (f : Forest) (r : ℕ) (valid : IsValid 
       by_old ne off out was =
           let far_low' : far g d < g.n = far_low g are d (valid.matched c d was).tight.low in
           let gone : f.label (f.out (far g d)) ≡ Outside = valid.outside c d out was in
-          let too : inside (f.out (far g d)) ≡ false =
-          elim (cases_Bool (inside (f.out (far g d)))) [
+          let too : inside (f.out (far g d)) ≡ false = elim (cases_Bool (inside (f.out (far g d)))) [
             | inl on ↦ absurd (cycle.in_tree (f.out (far g d)) on gone)
             | inr x ↦ x
           ] in

@@ -22,9 +22,8 @@ listed_at next from (suc many) k l = by_place (cases_eq k many) (listed_at next 
     by_place (inl e) more = or_right (listed next from many (walk next from k))
         (eqb (walk next from many) (walk next from k)) (eq-eqb (walk next from many) (walk next from k)
         (ap (walk next from) (sym e)))
-    by_place (inr ne) more =
-        or_left (listed next from many (walk next from k)) (eqb (walk next from many) (walk next from k))
-        (more (omega arith))
+    by_place (inr ne) more = or_left (listed next from many (walk next from k))
+        (eqb (walk next from many) (walk next from k)) (more (omega arith))
 
 -- And past no other.
 pub listed_place : (next : ℕ → ℕ) (from many x : ℕ) → listed next from many x ≡ true → (k : ℕ) × (k < many)
@@ -47,9 +46,9 @@ listed_off next from (suc many) x off = or_from (listed next from many x) (eqb (
     (listed_off next from many x (λ k l. off k (omega arith))) (ne_eqb (walk next from many) x (off many (omega arith)))
 
 -- A walk that is closed stays among its places.
-pub listed_closed : (next : ℕ → ℕ) (from many : ℕ) → 1 ≤ many → walk next from many ≡ from → (k : ℕ)
+pub listed_closed : (next : ℕ → ℕ) {from : ℕ} (many : ℕ) → 1 ≤ many → walk next from many ≡ from → (k : ℕ)
     → listed next from many (walk next from k) ≡ true
-listed_closed next from many some closed k = let w : (j : ℕ) × (j < many) × (walk next from j ≡ walk next from k) =
+listed_closed next {from} many some closed k = let w : (j : ℕ) × (j < many) × (walk next from j ≡ walk next from k) =
     at k in subst (λ x. listed next from many x ≡ true) w.2 (listed_at next from many w.0 w.1)
   where
     one_more : (k : ℕ) → (j : ℕ) × (j < many) × (walk next from j ≡ walk next from k) → (j : ℕ) × (j < many)
@@ -70,8 +69,7 @@ listed_closed next from many some closed k = let w : (j : ℕ) × (j < many) × 
 pub listed_sum : (next : ℕ → ℕ) (from many y : ℕ) → ((i j : ℕ) → i < j → j < many → walk next from i ≢ walk next from j)
     → bool_number (listed next from many y) ≡ ring_sum next (λ p. bool_number (eqb y p)) from many
 listed_sum next from zero y distinct = refl
-listed_sum next from (suc many) y distinct =
-    by_place (cases_eq y (walk next from many))
+listed_sum next from (suc many) y distinct = by_place (cases_eq y (walk next from many))
     (listed_sum next from many y (λ i j lij lj. distinct i j lij (omega arith)))
   where
     by_place : (y ≡ walk next from many) ⊎ (y ≢ walk next from many) → bool_number (listed next from many y)
@@ -89,9 +87,8 @@ listed_sum next from (suc many) y distinct =
         omega (arith, left, none, right, more)
     by_place (inr ne) more =
         let left : bool_number (listed next from many y || eqb (walk next from many) y)
-        ≡ bool_number (listed next from many y) =
-        ap bool_number (or_off (listed next from many y) (eqb (walk next from many) y)
-        (ne_eqb (walk next from many) y (λ e. ne (sym e)))) in
+        ≡ bool_number (listed next from many y) = ap bool_number (or_off (listed next from many y)
+        (eqb (walk next from many) y) (ne_eqb (walk next from many) y (λ e. ne (sym e)))) in
         let right : bool_number (eqb y (walk next from many)) ≡ 0 =
         ap bool_number (ne_eqb y (walk next from many) ne) in
         omega (arith, left, right, more)
@@ -125,9 +122,9 @@ pub walk_front : (f : ℕ → ℕ) (a k : ℕ) → walk f a (suc k) ≡ walk f (
 walk_front f a zero = refl
 walk_front f a (suc k) = ap f (walk_front f a k)
 
-pub walk_fixed : (f : ℕ → ℕ) (a k : ℕ) → f a ≡ a → walk f a k ≡ a
-walk_fixed f a zero e = refl
-walk_fixed f a (suc k) e = ap f (walk_fixed f a k e) ∙ e
+pub walk_fixed : (f : ℕ → ℕ) {a : ℕ} (k : ℕ) → f a ≡ a → walk f a k ≡ a
+walk_fixed f zero e = refl
+walk_fixed f (suc k) e = ap f (walk_fixed f k e) ∙ e
 
 -- What one comes past in two parts of a walk.
 pub listed_parts : (next : ℕ → ℕ) (from m k x : ℕ) → listed next from (m + k) x
@@ -138,8 +135,7 @@ listed_parts next from m zero x = (let e : m + 0 ≡ m = omega arith in ap (λ j
     or_no : (a : Bool) → (a || false) ≡ a
     or_no true = refl
     or_no false = refl
-listed_parts next from m (suc k) x =
-    (let e : m + suc k ≡ suc (m + k) = omega arith in ap (λ j. listed next from j x) e)
+listed_parts next from m (suc k) x = (let e : m + suc k ≡ suc (m + k) = omega arith in ap (λ j. listed next from j x) e)
     ∙ (ap (λ (s : Bool). s || eqb (walk next from (m + k)) x) (listed_parts next from m k x)
     ∙ (ap (λ y. (listed next from m x || listed next (walk next from m) k x) || eqb y x) (walk_sum next from m k)
     ∙ or_three (listed next from m x) (listed next (walk next from m) k x) (eqb (walk next (walk next from m) k) x)))
@@ -161,13 +157,10 @@ writes_all f next from (suc k) y x = by_place (cases_eq x (walk next from k)) (w
     by_place : (x ≡ walk next from k) ⊎ (x ≢ walk next from k) → writes f (walk next from) (λ j. y) k x
         ≡ cond (listed next from k x) y (f x) → set_at (writes f (walk next from) (λ j. y) k) (walk next from k) y x
         ≡ cond (listed next from k x || eqb (walk next from k) x) y (f x)
-    by_place (inl e) more =
-        ap (set_at (writes f (walk next from) (λ j. y) k) (walk next from k) y) e
+    by_place (inl e) more = ap (set_at (writes f (walk next from) (λ j. y) k) (walk next from k) y) e
         ∙ (set_here (writes f (walk next from) (λ j. y) k) (walk next from k) y
         ∙ sym (cond-true (listed next from k x || eqb (walk next from k) x) y (f x)
         (or_right (listed next from k x) (eqb (walk next from k) x) (eq-eqb (walk next from k) x (sym e)))))
-    by_place (inr ne) more =
-        set_there (writes f (walk next from) (λ j. y) k) (walk next from k) x y ne ∙ (more
-        ∙ ap (λ (s : Bool). cond s y (f x))
-        (sym (or_off (listed next from k x) (eqb (walk next from k) x)
+    by_place (inr ne) more = set_there (writes f (walk next from) (λ j. y) k) (walk next from k) x y ne
+        ∙ (more ∙ ap (λ (s : Bool). cond s y (f x)) (sym (or_off (listed next from k x) (eqb (walk next from k) x)
         (ne_eqb (walk next from k) x (λ e. ne (sym e))))))

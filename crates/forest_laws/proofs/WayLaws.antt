@@ -16,7 +16,7 @@ use Rattle.forest_laws.proofs.Grows.{same_outermost, same_nested, same_feasible}
 pub some_none : (o : Option ℕ) (d : ℕ) → o ≡ Some d → o ≢ None
 some_none o d is off = let h : ◌≡◌ {A = Option ℕ} (Some d) None = sym is ∙ off in cc
 
-module _ (g : Darts) (are : AreDarts g) (f : Forest) (r : ℕ) (valid : IsValid g f (Some r)) (tree : IsTree g f r)
+module _ {g : Darts} (are : AreDarts g) {f : Forest} {r : ℕ} (valid : IsValid g f (Some r)) (tree : IsTree g f r)
     (start : ℕ) where
   outer_is : (x : ℕ) → f.label x ≡ Outer → f.label x ≢ Outside
   outer_is x l off = cc
@@ -54,10 +54,10 @@ module _ (g : Darts) (are : AreDarts g) (f : Forest) (r : ℕ) (valid : IsValid 
       each b d ne mate (inl e) =
           let d_is : g.twin start ≡ d = some_is (g.twin start) d (sym at_there ∙ (ap mates (sym e) ∙ mate)) in
           subst (λ x. IsHalf g f mates (f.out (g.near start)) start b x) d_is (record {
-            tight = tight_twin g are f start reach.tight;
+            tight = tight_twin are reach.tight;
             here = sym e;
-            other = λ x. ne (sym x ∙ ap f.out (far_twin g are start));
-            back = inr (ap f.out (far_twin g are start), inl refl);
+            other = λ x. ne (sym x ∙ ap f.out (far_twin are start));
+            back = inr (ap f.out (far_twin are start), inl refl);
           })
       each b d ne mate (inr off) =
           let was : f.mate b ≡ Some d = sym (set_there f.mate there b (Some (g.twin start)) off) ∙ mate in
@@ -74,7 +74,7 @@ module _ (g : Darts) (are : AreDarts g) (f : Forest) (r : ℕ) (valid : IsValid 
       more b mate (inl e) = absurd (some_none (mates b) (g.twin start) (ap mates e ∙ at_there) mate)
       more b mate (inr off) = sym (set_there f.mate there b (Some (g.twin start)) off) ∙ mate
 
-  module _ (mate : ℕ → Option ℕ) (a e : ℕ) (almost : IsAlmost g f tree.depth start mate a e) where
+  module _ {mate : ℕ → Option ℕ} {a e : ℕ} (almost : IsAlmost g f tree.depth start mate a e) where
     not_back : f.out (far g e) ≢ a
     not_back at = by_above almost.above
       where
@@ -100,9 +100,8 @@ module _ (g : Darts) (are : AreDarts g) (f : Forest) (r : ℕ) (valid : IsValid 
         by_back : (x : ℕ) → IsHalf g f mate a e b x → mates (f.out (far g x)) ≡ Some (g.twin x)
         by_back x half = by_case half.back
           where
-            by_case : (mate (f.out (far g x)) ≡ Some (g.twin x))
-                ⊎ ((f.out (far g x) ≡ a) × ((x ≡ g.twin e) ⊎ (f.mate a ≡ Some (g.twin x)))) → mates (f.out (far g x))
-                ≡ Some (g.twin x)
+            by_case : (mate (f.out (far g x)) ≡ Some (g.twin x)) ⊎ ((f.out (far g x) ≡ a)
+                × ((x ≡ g.twin e) ⊎ (f.mate a ≡ Some (g.twin x)))) → mates (f.out (far g x)) ≡ Some (g.twin x)
             by_case (inl back) = set_there mate a (f.out (far g x)) (Some e)
                 (λ at. some_none (mate a) (g.twin x) (ap mate (sym at) ∙ back) (own ∙ free)) ∙ back
             by_case (inr (at, inl twin)) =
@@ -123,15 +122,14 @@ module _ (g : Darts) (are : AreDarts g) (f : Forest) (r : ℕ) (valid : IsValid 
             record {
               tight = record { low = half.tight.low; exact = half.tight.exact };
               here = half.here;
-              other =
-                  half.other;
+              other = half.other;
               back = by_back d half;
             }
 
     -- The forest is valid then, and no tree stands.
     pub end_valid : f.mate a ≡ None → IsValid g (with_mates f (set_at mate a (Some e))) None
     end_valid free = record {
-      outermost = same_outermost g f (λ b. Outside) (set_at mate a (Some e)) f.link g.n valid.outermost
+      outermost = same_outermost g f (λ b. Outside) (set_at mate a (Some e)) f.link valid.outermost
           (λ b named. absurd (named refl));
       nested = same_nested g f (λ b. Outside) (set_at mate a (Some e)) f.link valid.nested;
       feasible = same_feasible g f (λ b. Outside) (set_at mate a (Some e)) f.link valid.feasible;
@@ -182,15 +180,14 @@ module _ (g : Darts) (are : AreDarts g) (f : Forest) (r : ℕ) (valid : IsValid 
       pair = valid.matched a old was
 
       inn_inner : f.label inn ≡ Inner
-      inn_inner = outer_mate g are f (Some r) valid a old almost.outer was
+      inn_inner = outer_mate are valid a old almost.outer was
 
       inn_is : IsInner g f tree.depth inn
       inn_is = tree.inner inn inn_inner
 
       inn_depth : tree.depth inn ≡ tree.depth a
-      inn_depth = sym inn_is.same
-          ∙ ap tree.depth (ap (λ x. f.out (far g x)) (some_is inn_is.dart (g.twin old) (sym inn_is.mate ∙ pair.back))
-          ∙ (ap f.out (far_twin g are old) ∙ pair.here))
+      inn_depth = sym inn_is.same ∙ ap tree.depth (ap (λ x. f.out (far g x))
+          (some_is inn_is.dart (g.twin old) (sym inn_is.mate ∙ pair.back)) ∙ (ap f.out (far_twin are old) ∙ pair.here))
 
       abbrev up : ℕ
       up = f.link inn
@@ -230,12 +227,12 @@ module _ (g : Darts) (are : AreDarts g) (f : Forest) (r : ℕ) (valid : IsValid 
       ]
 
       -- Only the old partner is matched to what it was matched to.
-      old_partner : (b d : ℕ) → f.out (g.near d) ≡ b → Some (g.twin d) ≡ Some old → b ≡ inn
-      old_partner b d here same =
-          sym here ∙ (ap f.out (sym (far_twin g are d)) ∙ ap (λ x. f.out (far g x)) (some_is (g.twin d) old same))
+      old_partner : {b : ℕ} (d : ℕ) → f.out (g.near d) ≡ b → Some (g.twin d) ≡ Some old → b ≡ inn
+      old_partner d here same =
+          sym here ∙ (ap f.out (sym (far_twin are d)) ∙ ap (λ x. f.out (far g x)) (some_is (g.twin d) old same))
 
-      old_owner : (b d : ℕ) → f.out (g.near d) ≡ b → Some (g.twin d) ≡ Some (g.twin old) → b ≡ a
-      old_owner b d here same =
+      old_owner : {b : ℕ} (d : ℕ) → f.out (g.near d) ≡ b → Some (g.twin d) ≡ Some (g.twin old) → b ≡ a
+      old_owner d here same =
           let d_is : d ≡ old = sym (are.twin_twin d) ∙ (ap g.twin (some_is (g.twin d) (g.twin old) same)
           ∙ are.twin_twin old) in
           sym here ∙ (ap (λ x. f.out (g.near x)) d_is ∙ pair.here)
@@ -252,9 +249,9 @@ module _ (g : Darts) (are : AreDarts g) (f : Forest) (r : ℕ) (valid : IsValid 
       Waits x = (turned (f.out (far g x)) ≡ Some (g.twin x))
           ⊎ ((f.out (far g x) ≡ next) × ((x ≡ g.twin (g.twin up)) ⊎ (f.mate next ≡ Some (g.twin x))))
 
-      by_old : (b x : ℕ) → b ≢ a → b ≢ inn → IsHalf g f mate a e b x → Waits x
+      by_old : {b x : ℕ} → b ≢ a → b ≢ inn → IsHalf g f mate a e b x → Waits x
       unfolding Place Waits
-      by_old b x na ni half = by_case half.back (place (f.out (far g x)))
+      by_old {b} {x} na ni half = by_case half.back (place (f.out (far g x)))
         where
           by_case : (mate (f.out (far g x)) ≡ Some (g.twin x))
               ⊎ ((f.out (far g x) ≡ a) × ((x ≡ g.twin e) ⊎ (f.mate a ≡ Some (g.twin x)))) → Place (f.out (far g x))
@@ -262,24 +259,24 @@ module _ (g : Darts) (are : AreDarts g) (f : Forest) (r : ℕ) (valid : IsValid 
               ⊎ ((f.out (far g x) ≡ next) × ((x ≡ g.twin (g.twin up)) ⊎ (f.mate next ≡ Some (g.twin x))))
           by_case (inl back) (inl at) =
               let kept : mate inn ≡ f.mate inn = almost.kept inn (inner_is inn inn_inner) (omega (arith, inn_depth)) in
-              absurd (na (old_owner b x half.here (sym (ap mate (sym at) ∙ back) ∙ (kept ∙ pair.back))))
+              absurd (na (old_owner x half.here (sym (ap mate (sym at) ∙ back) ∙ (kept ∙ pair.back))))
           by_case (inl back) (inr (inl at)) =
-              absurd (ni (old_partner b x half.here (sym (ap mate (sym at) ∙ back) ∙ (own ∙ was))))
+              absurd (ni (old_partner x half.here (sym (ap mate (sym at) ∙ back) ∙ (own ∙ was))))
           by_case (inl back) (inr (inr ne)) = inl (at_other (f.out (far g x)) ne.0 ne.1 ∙ back)
           by_case (inr (at, inl twin)) other =
               inl (ap turned at ∙ (at_a ∙ ap (λ (y : ℕ). Some y) (sym (ap g.twin twin ∙ are.twin_twin e))))
-          by_case (inr (at, inr is)) other = absurd (ni (old_partner b x half.here (sym is ∙ was)))
+          by_case (inr (at, inr is)) other = absurd (ni (old_partner x half.here (sym is ∙ was)))
 
       -- It goes on past a blossom that is matched.
       pub turn : IsAlmost g f tree.depth start turned next (g.twin up)
       unfolding Place Waits
       turn = record {
         outer = inn_is.above;
-        tight = tight_twin g are f up inn_is.tight;
+        tight = tight_twin are inn_is.tight;
         here = refl;
-        reached = ap turned (ap f.out (far_twin g are up) ∙ inn_is.here)
+        reached = ap turned (ap f.out (far_twin are up) ∙ inn_is.here)
             ∙ (at_inn ∙ ap (λ (x : ℕ). Some x) (sym (are.twin_twin up)));
-        above = inr (subst (λ x. tree.depth next < tree.depth x) (sym (ap f.out (far_twin g are up) ∙ inn_is.here))
+        above = inr (subst (λ x. tree.depth next < tree.depth x) (sym (ap f.out (far_twin are up) ∙ inn_is.here))
             inn_is.nearer);
         kept = λ b named low. kept b named low (place b);
         each = λ b d ne is. each b d is (place b);
@@ -314,7 +311,7 @@ module _ (g : Darts) (are : AreDarts g) (f : Forest) (r : ℕ) (valid : IsValid 
               })
           each b d is (inr (inr ne)) =
               let half : IsHalf g f mate a e b d = almost.each b d ne.0 (sym (at_other b ne.0 ne.1) ∙ is) in
-              record { tight = half.tight; here = half.here; other = half.other; back = by_old b d ne.0 ne.1 half }
+              record { tight = half.tight; here = half.here; other = half.other; back = by_old ne.0 ne.1 half }
 
           more : (b : ℕ) → turned b ≡ None → Place b → f.mate b ≡ None
           more b is (inl at) = absurd (some_none (turned b) up (ap turned at ∙ at_inn) is)

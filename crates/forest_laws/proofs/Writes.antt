@@ -26,11 +26,11 @@ label_cases Outer = inr (λ e. cc e)
 label_cases Inner = inr (λ e. cc e)
 
 -- The labels differ.
-pub outer_named : (l : Label) → l ≡ Outer → l ≢ Outside
-outer_named l e off = cc
+pub outer_named : {l : Label} → l ≡ Outer → l ≢ Outside
+outer_named e off = cc
 
-pub inner_named : (l : Label) → l ≡ Inner → l ≢ Outside
-inner_named l e off = cc
+pub inner_named : {l : Label} → l ≡ Inner → l ≢ Outside
+inner_named e off = cc
 
 -- Two sets that have nothing in common: what lies in just one of them.
 pub by_two : (p q : Bool) (x : ℤ) → (p ≡ true → q ≡ true → ⊥) → cond (cond p (not q) q) x (pos 0)
@@ -64,5 +64,5 @@ by_order false true = refl
 by_order false false = refl
 
 -- True is not false.
-pub true_false : (b : Bool) → b ≡ true → b ≡ false → ⊥
-true_false b on off = let h : true ≡ false = sym on ∙ off in cc
+pub true_false : {b : Bool} → b ≡ true → b ≡ false → ⊥
+true_false on off = let h : true ≡ false = sym on ∙ off in cc

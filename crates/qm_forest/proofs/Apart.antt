@@ -19,9 +19,9 @@ walk_sum f a i zero = let e : i + 0 ≡ i = omega arith in ap (walk f a) e
 walk_sum f a i (suc j) = let e : i + suc j ≡ suc (i + j) = omega arith in ap (walk f a) e ∙ ap f (walk_sum f a i j)
 
 -- Where one stays, one stays.
-pub walk_stays : (f : ℕ → ℕ) (a k : ℕ) → f a ≡ a → walk f a k ≡ a
-walk_stays f a zero e = refl
-walk_stays f a (suc k) e = ap f (walk_stays f a k e) ∙ e
+pub walk_stays : (f : ℕ → ℕ) {a : ℕ} (k : ℕ) → f a ≡ a → walk f a k ≡ a
+walk_stays f zero e = refl
+walk_stays f (suc k) e = ap f (walk_stays f k e) ∙ e
 
 -- What is passed from where one is, or further on.
 or_first : (a b : Bool) → a ≡ false → (a || b) ≡ b
@@ -45,7 +45,7 @@ climbs_last up (suc m) b y e =
     shifted y zero = refl
     shifted y (suc k) = ap up (shifted y k)
 
-module _ (n : ℕ) (up rank out : ℕ → ℕ) (climb : IsClimb n up out) (rises : (x : ℕ) → up x ≢ x
+module _ {n : ℕ} {up : ℕ → ℕ} (rank : ℕ → ℕ) {out : ℕ → ℕ} (climb : IsClimb n up out) (rises : (x : ℕ) → up x ≢ x
     → rank x < rank (up x)) where
   -- One comes past a blossom only from below.
   passed_rank : (k b from : ℕ) → climbs up k b from ≡ true → from ≢ b → rank from < rank b
@@ -86,17 +86,15 @@ module _ (n : ℕ) (up rank out : ℕ → ℕ) (climb : IsClimb n up out) (rises
   pub comes_out : (v x : ℕ) → v < n → OnWayFrom v x → walk up x n ≡ out v
   comes_out v x l w =
       let order : w.0 + n ≡ n + w.0 = omega arith in
-      ap (λ y. walk up y n) (sym w.1)
-      ∙ (sym (walk_sum up v w.0 n)
-      ∙ (ap (walk up v) order ∙ (walk_sum up v n w.0
-      ∙ (ap (λ y. walk up y w.0) (climb.ends v l) ∙ walk_stays up (out v) w.0 (climb.tops v l)))))
+      ap (λ y. walk up y n) (sym w.1) ∙ (sym (walk_sum up v w.0 n) ∙ (ap (walk up v) order
+      ∙ (walk_sum up v n w.0 ∙ (ap (λ y. walk up y w.0) (climb.ends v l) ∙ walk_stays up w.0 (climb.tops v l)))))
 
   pub rank_low : (v x : ℕ) → v < n → OnWayFrom v x → rank x ≤ rank (out v)
   rank_low v x l w = subst (λ y. rank x ≤ rank y) (comes_out v x l w) (rank_walk x n)
 
   -- Where one stays is the outermost blossom.
-  pub fixed_top : (v x : ℕ) → v < n → OnWayFrom v x → up x ≡ x → x ≡ out v
-  fixed_top v x l w e = sym (walk_stays up x n e) ∙ comes_out v x l w
+  pub fixed_top : (v : ℕ) {x : ℕ} → v < n → OnWayFrom v x → up x ≡ x → x ≡ out v
+  fixed_top v {x} l w e = sym (walk_stays up n e) ∙ comes_out v x l w
 
   pub goes_on : (v x : ℕ) → OnWayFrom v x → OnWayFrom v (up x)
   goes_on v x w = (suc w.0, ap up w.1)
@@ -107,10 +105,10 @@ module _ (n : ℕ) (up rank out : ℕ → ℕ) (climb : IsClimb n up out) (rises
   can_climb u v x y lu lv same wx wy ne le fixed = by_top (cases_eq (up y) y)
     where
       x_top : x ≡ out u
-      x_top = fixed_top u x lu wx fixed
+      x_top = fixed_top u lu wx fixed
 
       by_top : (up y ≡ y) ⊎ (up y ≢ y) → ⊥
-      by_top (inl fy) = ne (x_top ∙ (same ∙ sym (fixed_top v y lv wy fy)))
+      by_top (inl fy) = ne (x_top ∙ (same ∙ sym (fixed_top v lv wy fy)))
       by_top (inr ny) =
           let h : rank y < rank (up y) = rises y ny in
           let top : rank (up y) ≤ rank (out v) = rank_low v (up y) lv (goes_on v y wy) in
@@ -139,8 +137,7 @@ module _ (n : ℕ) (up rank out : ℕ → ℕ) (climb : IsClimb n up out) (rises
       (le : rank x ≤ rank y) (inner : up x ≢ x) (low : x < size) where
     not_from_y : climbs up n x y ≡ false
     not_from_y = elim (cases_Bool (climbs up n x y)) [
-      | inl on ↦ (let h : rank y < rank x =
-          passed_rank n x y on (λ e. ne (sym e)) in absurd (omega arith))
+      | inl on ↦ (let h : rank y < rank x = passed_rank n x y on (λ e. ne (sym e)) in absurd (omega arith))
       | inr off ↦ off
     ]
 
@@ -160,11 +157,10 @@ module _ (n : ℕ) (up rank out : ℕ → ℕ) (climb : IsClimb n up out) (rises
       where
         by_place : (b ≡ x) ⊎ (b ≢ x) → cond (splits (climbs up n b) x y) (weight b) (pos 0)
             ≡ cond (splits (climbs up n b) (up x) y) (weight b) (pos 0) +ℤ cond (eqb b x) (weight x) (pos 0)
-        by_place (inl e) =
-            subst (λ k. cond (splits (climbs up n k) x y) (weight k) (pos 0) ≡ cond (splits (climbs up n k) (up x) y)
-            (weight k) (pos 0) +ℤ cond (eqb k x) (weight x) (pos 0)) (sym e)
-            (let left : cond (splits (climbs up n x) x y) (weight x) (pos 0) ≡ weight x =
-            ap (λ (s : Bool). cond (cond s (not (climbs up n x y)) (climbs up n x y)) (weight x) (pos 0))
+        by_place (inl e) = subst (λ k. cond (splits (climbs up n k) x y) (weight k) (pos 0)
+            ≡ cond (splits (climbs up n k) (up x) y) (weight k) (pos 0) +ℤ cond (eqb k x) (weight x) (pos 0)) (sym e)
+            (let left : cond (splits (climbs up n x) x y) (weight x) (pos 0)
+            ≡ weight x = ap (λ (s : Bool). cond (cond s (not (climbs up n x y)) (climbs up n x y)) (weight x) (pos 0))
             here_true ∙ ap (λ (s : Bool). cond (not s) (weight x) (pos 0)) not_from_y in
             let right : cond (splits (climbs up n x) (up x) y) (weight x) (pos 0) ≡ pos 0 =
             ap (λ (s : Bool). cond (cond s (not (climbs up n x y)) (climbs up n x y)) (weight x) (pos 0))
@@ -185,11 +181,10 @@ module _ (n : ℕ) (up rank out : ℕ → ℕ) (climb : IsClimb n up out) (rises
     -- The lower climbs: its weight is passed.
     pub apart_step : apart n up weight size x y ≡ apart n up weight size (up x) y +ℤ weight x
     apart_step =
-        let same : apart n up weight size x y
-        ≡ total_below (λ b. cond (splits (climbs up n b) (up x) y) (weight b) (pos 0) +ℤ cond (eqb b x) (weight x)
-        (pos 0)) size = total_below_same (λ b. cond (splits (climbs up n b) x y) (weight b) (pos 0))
-        (λ b. cond (splits (climbs up n b) (up x) y) (weight b) (pos 0) +ℤ cond (eqb b x) (weight x) (pos 0)) size
-        (λ b l. term b) in
+        let same : apart n up weight size x y ≡ total_below (λ b. cond (splits (climbs up n b) (up x) y) (weight b)
+        (pos 0) +ℤ cond (eqb b x) (weight x) (pos 0)) size = total_below_same
+        (λ b. cond (splits (climbs up n b) x y) (weight b) (pos 0)) (λ b. cond (splits (climbs up n b) (up x) y)
+        (weight b) (pos 0) +ℤ cond (eqb b x) (weight x) (pos 0)) size (λ b l. term b) in
         let one : total_below (λ b. cond (eqb b x) (weight x) (pos 0)) size ≡ weight x =
         total_below_one (λ b. cond (eqb b x) (weight x) (pos 0)) size x low
         (λ k l nk. cond-false (eqb k x) (weight x) (pos 0) (ne_eqb k x nk)) ∙ cond-true (eqb x x) (weight x) (pos 0)
@@ -210,8 +205,8 @@ apart_order n up weight size x y = total_below_same (λ b. cond (splits (climbs 
     (λ b. cond (splits (climbs up n b) y x) (weight b) (pos 0)) size
     (λ b l. ap (λ (p : Bool). cond p (weight b) (pos 0)) (by_order (climbs up n b x) (climbs up n b y)))
 
-pub apart_met : (n : ℕ) (up : ℕ → ℕ) (weight : ℕ → ℤ) (size x y : ℕ) → x ≡ y → apart n up weight size x y ≡ pos 0
-apart_met n up weight size x y e = total_below_none (λ b. cond (splits (climbs up n b) x y) (weight b) (pos 0)) size
+pub apart_met : (n : ℕ) (up : ℕ → ℕ) (weight : ℕ → ℤ) (size : ℕ) {x y : ℕ} → x ≡ y → apart n up weight size x y ≡ pos 0
+apart_met n up weight size {x} {y} e = total_below_none (λ b. cond (splits (climbs up n b) x y) (weight b) (pos 0)) size
     (λ b l. by_same (climbs up n b x) (climbs up n b y) (weight b) (ap (climbs up n b) e))
 
 pub apart_small : (n : ℕ) (up : ℕ → ℕ) (weight : ℕ → ℤ) (size x y : ℕ) → ((b : ℕ) → unsigned_abs (weight b) ≤ 2 ^ 62)

@@ -25,8 +25,7 @@ increasing_more low bound [] le increasing = (le, omega arith, tt)
 increasing_more low bound (x ∷ xs) le increasing = (
   increasing.0,
   omega (arith, increasing.1),
-  increasing_more (x + 1) bound xs (omega (arith, increasing.1))
-      increasing.2,
+  increasing_more (x + 1) bound xs (omega (arith, increasing.1)) increasing.2,
 )
 
 pub increasing_higher : (low bound : ℕ) (xs : List ℕ) → IsIncreasing low bound xs → IsIncreasing low (bound + 1) xs
@@ -35,9 +34,9 @@ increasing_higher low bound (x ∷ xs) increasing =
     (increasing.0, omega (arith, increasing.1), increasing_higher (x + 1) bound xs increasing.2)
 
 -- One place more, with a mark or without.
-pub marked_more : (marks : List Bool) (e : ℕ) (xs : List ℕ) → get_or marks e false ≡ true → AreMarked marks e xs
+pub marked_more : {marks : List Bool} {e : ℕ} {xs : List ℕ} → get_or marks e false ≡ true → AreMarked marks e xs
     → AreMarked marks (e + 1) (xs ++ e ∷ [])
-marked_more marks e xs on are = record {
+marked_more {marks} {e} {xs} on are = record {
   increasing = increasing_more 0 e xs (omega arith) are.increasing;
   each = λ k l. each k l (cases_lt k (length xs));
   counts = λ f. (let s : count f (xs ++ e ∷ []) ≡ count f xs + count f (e ∷ []) = count_append f xs (e ∷ []) in
@@ -57,9 +56,9 @@ marked_more marks e xs on are = record {
         ap (λ x. get_or marks x false) (get_or-append_right xs (e ∷ []) (length xs) k 0 refl high
         ∙ ap (λ j. get_or (e ∷ []) j 0) last) ∙ on
 
-pub marked_same : (marks : List Bool) (e : ℕ) (xs : List ℕ) → get_or marks e false ≡ false → AreMarked marks e xs
+pub marked_same : {marks : List Bool} {e : ℕ} {xs : List ℕ} → get_or marks e false ≡ false → AreMarked marks e xs
     → AreMarked marks (e + 1) xs
-marked_same marks e xs off are = record {
+marked_same {marks} {e} {xs} off are = record {
   increasing = increasing_higher 0 e xs are.increasing;
   each = are.each;
   counts = λ f. (let none : cond (get_or marks e false) (f e) 0 ≡ 0 = cond-false (get_or marks e false) (f e) 0 off in
@@ -70,50 +69,48 @@ marked_same marks e xs off are = record {
 }
 
 -- Nothing is chosen, and nothing waits.
-pub round_begins : (t : ForestTables) (marks : List Bool) (left : List (Option ℕ)) (m size : ℕ) (rest : ℕ → ℕ)
+pub round_begins : (t : ForestTables) {marks : List Bool} {left : List (Option ℕ)} (m size : ℕ) (rest : ℕ → ℕ)
     → marks ≡ replicate m false → left ≡ replicate size None → ((v : ℕ) → v < length t.hand → rest v ≤ 1)
     → IsRound t marks left rest rest
-round_begins t marks left m size rest marks_is left_is once = record {
+round_begins t {marks} {left} m size rest marks_is left_is once = record {
   each = λ b l. (let none : leaving t marks b ≡ 0 =
       count_below_none (λ e. bool_number (get_or marks e false && splits ((forest_of t).holds b) (near_at t (2 * e))
       (near_at t (2 * e + 1)))) (length marks)
       (λ e le. ap (λ (s : Bool). bool_number (s && splits ((forest_of t).holds b) (near_at t (2 * e))
-      (near_at t (2 * e + 1)))) (same_everywhere marks m false marks_is e)) in
+      (near_at t (2 * e + 1)))) (same_everywhere m false marks_is e)) in
       let calm : waiting t left b ≡ 0 = count_below_none (λ c. waits_for t b c (get_or left c None)) (length left)
-      (λ c lc. ap (waits_for t b c) (same_everywhere left size None left_is c)) in
+      (λ c lc. ap (waits_for t b c) (same_everywhere size None left_is c)) in
       omega (arith, none, calm));
-  entry = λ c v is. (let clash : ◌≡◌ {A = Option ℕ} None (Some v) = sym (same_everywhere left size None left_is c)
+  entry = λ c v is. (let clash : ◌≡◌ {A = Option ℕ} None (Some v) = sym (same_everywhere size None left_is c)
       ∙ is in absurd (cc clash));
   once = once;
-  tight = λ g is valid e on. (let clash : false ≡ true = sym (same_everywhere marks m false marks_is e) ∙ on in
+  tight = λ g is valid e on. (let clash : false ≡ true = sym (same_everywhere m false marks_is e) ∙ on in
       absurd (cc clash));
 }
 
-pub room_begins : {E : Type 0} (t : ForestTables) (r : Result Round E) (m size : ℕ) → IsLaminar t
+pub room_begins : {E : Type 0} {t : ForestTables} (r : Result Round E) (m size : ℕ) → IsLaminar t
     → length t.near ≡ 2 * m → size ≡ length t.up → IfOk r (λ round. round.marks.items ≡ replicate m false)
     → IfOk r (λ round. round.left_out.items ≡ replicate size None) → IfOk r (λ round. HasRoom t round)
-room_begins t (Ok round) m size known near up marks left = record {
+room_begins (Ok round) m size known near up marks left = record {
   laminar = known;
   marks = (let s : length round.marks.items ≡ length (replicate m false) = ap length marks in
       omega (arith, s, length-replicate m false, near));
   left_out = ap length left ∙ (length-replicate size None ∙ up);
 }
-room_begins t (Err e) m size known near up marks left = tt
+room_begins (Err e) m size known near up marks left = tt
 
 pub rounds_begin : {E : Type 0} (t : ForestTables) (r : Result Round E) (m size : ℕ)
-    → IfOk r (λ round. round.marks.items ≡ replicate m false)
-    → IfOk r (λ round. round.left_out.items ≡ replicate size None)
-    → IfOk r (λ round. (rest : ℕ → ℕ) → ((v : ℕ) → v < length t.hand → rest v ≤ 1)
-    → IsRound t round.marks.items round.left_out.items rest rest)
-rounds_begin t (Ok round) m size marks left = λ rest once. round_begins t round.marks.items round.left_out.items m size
-    rest marks left once
+    → IfOk r (λ round. round.marks.items ≡ replicate m false) → IfOk r
+    (λ round. round.left_out.items ≡ replicate size None) → IfOk r (λ round. (rest : ℕ → ℕ)
+    → ((v : ℕ) → v < length t.hand → rest v ≤ 1) → IsRound t round.marks.items round.left_out.items rest rest)
+rounds_begin t (Ok round) m size marks left = λ rest once. round_begins t m size rest marks left once
 rounds_begin t (Err e) m size marks left = tt
 
 -- Where nothing waits, each blossom is left as often as is due.
-pub round_ends : (t : ForestTables) (marks : List Bool) (left : List (Option ℕ)) (due : ℕ → ℕ)
+pub round_ends : {t : ForestTables} {marks : List Bool} {left : List (Option ℕ)} {due : ℕ → ℕ}
     → IsRound t marks left (λ b. 0) due → ((c : ℕ) → get_or left c None ≡ None) → (b : ℕ) → b < length t.up
     → leaving t marks b ≡ due b
-round_ends t marks left due round ended b l =
+round_ends {t} {left} round ended b l =
     let calm : waiting t left b ≡ 0 = count_below_none (λ c. waits_for t b c (get_or left c None)) (length left)
     (λ c lc. ap (waits_for t b c) (ended c)) in
     omega (arith, calm, round.each b l)
@@ -131,8 +128,8 @@ pub count_map : {X : Type 0} (f : X → ℕ) (h : ℕ → X) (xs : List ℕ) →
 count_map f h [] = refl
 count_map f h (x ∷ xs) = ap (λ m. f (h x) + m) (count_map f h xs)
 
-module _ (t : ForestTables) (known : IsLaminar t) (g : WeightedGraph) (is : IsSmallGraph g) (valid : IsSoundFor g t)
-    (marks : List Bool) (size : length t.near ≡ 2 * length marks) (list : List ℕ)
+module _ {t : ForestTables} (known : IsLaminar t) {g : WeightedGraph} (is : IsSmallGraph g) (valid : IsSoundFor g t)
+    {marks : List Bool} (size : length t.near ≡ 2 * length marks) {list : List ℕ}
     (are : AreMarked marks (length marks) list) where
   pub edges_is : length marks ≡ length g.edges
   edges_is = omega (arith, size, valid.darts)
@@ -144,16 +141,13 @@ module _ (t : ForestTables) (known : IsLaminar t) (g : WeightedGraph) (is : IsSm
   )
 
   -- Edges that leave a blossom, along the list.
-  pub leaving_listed : (b : ℕ)
-      → leaving t marks b ≡ count (λ e. bool_number (splits ((forest_of t).holds b) (edge_at g e).u (edge_at g e).v))
-      list
-  leaving_listed b =
-      count_below_same (λ e. bool_number (get_or marks e false && splits ((forest_of t).holds b) (near_at t (2 * e))
-      (near_at t (2 * e + 1))))
-      (λ e. cond (get_or marks e false)
+  pub leaving_listed : (b : ℕ) → leaving t marks b ≡ count (λ e. bool_number
+      (splits ((forest_of t).holds b) (edge_at g e).u (edge_at g e).v)) list
+  leaving_listed b = count_below_same (λ e. bool_number (get_or marks e false && splits ((forest_of t).holds b)
+      (near_at t (2 * e)) (near_at t (2 * e + 1)))) (λ e. cond (get_or marks e false)
       (bool_number (splits ((forest_of t).holds b) (edge_at g e).u (edge_at g e).v)) 0) (length marks)
-      (λ e l. each e l (get_or marks e false))
-      ∙ sym (are.counts (λ e. bool_number (splits ((forest_of t).holds b) (edge_at g e).u (edge_at g e).v)))
+      (λ e l. each e l (get_or marks e false)) ∙ sym (are.counts (λ e. bool_number
+      (splits ((forest_of t).holds b) (edge_at g e).u (edge_at g e).v)))
     where
       each : (e : ℕ) → e < length marks → (s : Bool)
           → bool_number (s && splits ((forest_of t).holds b) (near_at t (2 * e)) (near_at t (2 * e + 1)))
@@ -175,25 +169,23 @@ module _ (t : ForestTables) (known : IsLaminar t) (g : WeightedGraph) (is : IsSm
       counted low [] r = refl
       counted low (x ∷ xs) r =
           let here : bool_number (splits ((forest_of t).holds w) (edge_at g x).u (edge_at g x).v)
-          ≡ ends_at w (edge_at g x) =
-          leaves_vertex g is.lawful (forest_of t) (subst (λ m. m ≤ length t.up) valid.vertices known.vertices)
-          valid.valid.nested w x (subst (λ m. w < m) valid.vertices lw) r.1 in
+          ≡ ends_at w (edge_at g x) = leaves_vertex is.lawful (subst (λ m. m ≤ length t.up) valid.vertices
+          known.vertices) valid.valid.nested w x (subst (λ m. w < m) valid.vertices lw) r.1 in
           let rest : count (λ e. bool_number (splits ((forest_of t).holds w) (edge_at g e).u (edge_at g e).v)) xs
           ≡ count (λ e. ends_at w (edge_at g e)) xs = counted (x + 1) xs r.2 in
           omega (arith, here, rest)
 
   -- The edges match all vertices of a blossom but one.
-  pub matches_but : (left : List (Option ℕ)) (b v : ℕ) → v < length t.hand
+  pub matches_but : {left : List (Option ℕ)} (b v : ℕ) → v < length t.hand
       → IsRound t marks left (λ c. 0) (λ c. waits_but t c b v + 0) → ((c : ℕ) → get_or left c None ≡ None)
       → MatchesBut g (forest_of t) b v list
-  matches_but left b v lv round ended = record {
+  matches_but b v lv round ended = record {
     increasing = subst (λ m. IsIncreasing 0 m list) edges_is are.increasing;
     tight = λ k l. round.tight g is valid (get_or list k 0) (are.each k l);
     once = λ w lw. (
         let low : w < length t.hand = subst (λ m. w < m) (sym valid.vertices) lw in
         let low_up : w < length t.up = omega (arith, low, known.vertices) in
-        let due : leaving t marks w ≡ waits_but t w b v + 0 =
-        round_ends t marks left (λ c. waits_but t c b v + 0) round ended w low_up in
+        let due : leaving t marks w ≡ waits_but t w b v + 0 = round_ends round ended w low_up in
         let other : waits_but t w b v ≡ cond ((forest_of t).holds b w) (cond (eqb w v) 0 1) 0 =
         ap (λ (s : Bool). cond ((forest_of t).holds b w) (cond s 0 1) 0) (alone t known w v low lv) in
         omega (arith, met_as_left w low, due, other));

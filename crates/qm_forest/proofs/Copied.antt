@@ -12,10 +12,10 @@ use Rattle.qm_forest.specs.declared.tables.Lists.{Lists}
 use Rattle.qm_forest.proofs.JoinedLists.{list_few}
 
 -- One vertex more.
-pub copied_more : (list pushed : List ℕ) (next : ℕ → ℕ) (from k v : ℕ) → pushed ≡ list ++ v ∷ [] → length list ≡ k
-    → v ≡ walk next from k → ((j : ℕ) → j < k → get_or list j 0 ≡ walk next from j) → (j : ℕ) → j < k + 1
-    → get_or pushed j 0 ≡ walk next from j
-copied_more list pushed next from k v is size here each j l = by_place (cases_lt j k)
+pub copied_more : (list : List ℕ) {pushed : List ℕ} (next : ℕ → ℕ) (from : ℕ) {k v : ℕ} → pushed ≡ list ++ v ∷ []
+    → length list ≡ k → v ≡ walk next from k → ((j : ℕ) → j < k → get_or list j 0 ≡ walk next from j) → (j : ℕ)
+    → j < k + 1 → get_or pushed j 0 ≡ walk next from j
+copied_more list {pushed} next from {k} {v} is size here each j l = by_place (cases_lt j k)
   where
     by_place : (j < k) ⊎ (k ≤ j) → get_or pushed j 0 ≡ walk next from j
     by_place (inl lt) = ap (λ xs. get_or xs j 0) is ∙ (get_or_append_left list (v ∷ []) 0 j (omega (arith, lt, size))
@@ -25,14 +25,14 @@ copied_more list pushed next from k v is size here each j l = by_place (cases_lt
         ap (λ xs. get_or xs j 0) is ∙ (get_or_push list v 0 j (size ∙ e) ∙ (here ∙ ap (walk next from) e))
 
 -- The list of a blossom that is in use.
-pub list_at : (t : ForestTables) (hid : HiddenTables) → AreTied t hid → (l : Lists) → hid.first ≡ l.first.items
+pub list_at : {t : ForestTables} {hid : HiddenTables} → AreTied t hid → (l : Lists) → hid.first ≡ l.first.items
     → t.rank ≡ l.rank.items → hid.following ≡ l.following.items → (x : ℕ) → x < length t.up
     → IsInUse (length t.hand) t.parts x → IsListAt (length l.following.items) l x
-list_at t hid tied l first rank following x low used = record {
+list_at {t} {hid} tied l first rank following x low used = record {
   first = subst (λ (xs : List ℕ). x < length xs) first (subst (λ n. x < n) (sym tied.sizes.first) low);
   rank = subst (λ (xs : List ℕ). x < length xs) rank (subst (λ n. x < n) (sym tied.sizes.rank) low);
   many = subst (λ (xs : List ℕ). get_or xs x 0 ≤ length l.following.items) rank
-      (subst (λ n. get_or t.rank x 0 ≤ n) size (list_few (length t.hand) _ _ _ _ _ is));
+      (subst (λ n. get_or t.rank x 0 ≤ n) size (list_few is));
   low = λ k lk. subst (λ n. walk (λ i. get_or l.following.items i 0) (get_or l.first.items x 0) k < n) size
       (subst (λ (xs : List ℕ). walk (λ i. get_or xs i 0) (get_or l.first.items x 0) k < length t.hand) following
       (subst (λ (xs : List ℕ). walk (λ i. get_or hid.following i 0) (get_or xs x 0) k < length t.hand) first
@@ -47,13 +47,12 @@ list_at t hid tied l first rank following x low used = record {
     size = sym tied.sizes.following ∙ ap (λ (xs : List ℕ). length xs) following
 
 -- Each vertex of the blossom is listed.
-pub copied_all : (t : ForestTables) (hid : HiddenTables) → AreTied t hid → (x : ℕ) → x < length t.up
+pub copied_all : {t : ForestTables} {hid : HiddenTables} → AreTied t hid → (x : ℕ) → x < length t.up
     → IsInUse (length t.hand) t.parts x → (list : List ℕ) → length list ≡ get_or t.rank x 0
     → ((k : ℕ) → k < get_or t.rank x 0 → get_or list k 0 ≡ walk (λ i. get_or hid.following i 0) (get_or hid.first x 0)
-    k)
-    → (v : ℕ) → v < length t.hand → climbs (up_at t.up) (length t.hand) x v ≡ true → (k : ℕ) × (k < length list)
+    k) → (v : ℕ) → v < length t.hand → climbs (up_at t.up) (length t.hand) x v ≡ true → (k : ℕ) × (k < length list)
     × (get_or list k 0 ≡ v)
-copied_all t hid tied x low used list count each v l held =
+copied_all {t} {hid} tied x low used list count each v l held =
     let p : (k : ℕ) × (k < get_or t.rank x 0) × (walk (λ i. get_or hid.following i 0) (get_or hid.first x 0) k ≡ v) =
     listed_place (λ i. get_or hid.following i 0) (get_or hid.first x 0) (get_or t.rank x 0) v
     ((tied.nest.members x low used).all v l ∙ held) in

@@ -20,7 +20,7 @@ use Rattle.forest_laws.proofs.Graphs.{are_darts, twin_even, dart_near, dart_far,
 not_loose : (x : ℤ) → int_lt (pos 0) x ≡ false → x ≤ℤ pos 0
 not_loose x e = grind (arith, ints)
 
-module _ (g : WeightedGraph) (is : IsSmallGraph g) (f : Forest) (feasible : IsFeasible (darts_of g) f) (e : ℕ)
+module _ {g : WeightedGraph} (is : IsSmallGraph g) {f : Forest} (feasible : IsFeasible (darts_of g) f) (e : ℕ)
     (low : e < length g.edges) where
   abbrev first : ℕ
   first = 2 * e
@@ -36,25 +36,23 @@ module _ (g : WeightedGraph) (is : IsSmallGraph g) (f : Forest) (feasible : IsFe
       let low_load : weight_between f ((darts_of g).near first) (far (darts_of g) first) ≤ℤ
       ((darts_of g).cost first +ℤ (darts_of g).cost first) = feasible.darts first (omega arith) in
       let same : weight_between f ((darts_of g).near first) (far (darts_of g) first)
-      ≡ weight_between f (edge_at g e).u (edge_at g e).v =
-      ap (λ u. weight_between f u (far (darts_of g) first)) (dart_near g e)
-      ∙ ap (weight_between f (edge_at g e).u) (dart_far g e) in
+      ≡ weight_between f (edge_at g e).u (edge_at g e).v = ap (λ u. weight_between f u (far (darts_of g) first))
+      (dart_near g e) ∙ ap (weight_between f (edge_at g e).u) (dart_far g e) in
       let cost : (darts_of g).cost first ≡ (edge_at g e).cost = dart_cost g e in
       let slack : ((pos 2 *ℤ (edge_at g e).cost) -ℤ weight_between f (edge_at g e).u (edge_at g e).v) ≤ℤ pos 0 =
       not_loose (slack_of g f e) off in
       record { low = omega arith; exact = omega (arith, ints, low_load, same, cost, slack) }
 
   -- A kind other than loose.
-  pub tight_kind : (k : EdgeKind) → k ≢ Loose → edge_kind g f e ≡ k → IsTight (darts_of g) f first × (by_labels ≡ k)
-  tight_kind k ne is_k = by_test (cases_Bool (int_lt (pos 0) (slack_of g f e)))
+  pub tight_kind : {k : EdgeKind} → k ≢ Loose → edge_kind g f e ≡ k → IsTight (darts_of g) f first × (by_labels ≡ k)
+  tight_kind {k} ne is_k = by_test (cases_Bool (int_lt (pos 0) (slack_of g f e)))
     where
       by_test : (int_lt (pos 0) (slack_of g f e) ≡ true) ⊎ (int_lt (pos 0) (slack_of g f e) ≡ false)
           → IsTight (darts_of g) f first × (by_labels ≡ k)
       by_test (inl on) = absurd (ne (sym is_k ∙ cond-true (int_lt (pos 0) (slack_of g f e)) Loose by_labels on))
       by_test (inr off) = (
         not_loose_tight off,
-        sym (cond-false (int_lt (pos 0) (slack_of g f e)) Loose by_labels off)
-            ∙ is_k,
+        sym (cond-false (int_lt (pos 0) (slack_of g f e)) Loose by_labels off) ∙ is_k,
       )
 
   -- The dart from the one end, and from the other.
@@ -63,8 +61,7 @@ module _ (g : WeightedGraph) (is : IsSmallGraph g) (f : Forest) (feasible : IsFe
   from_u tight lu lv = record {
     tight = tight;
     outer = ap (λ v. f.label (f.out v)) (dart_near g e) ∙ lu;
-    off =
-        ap (λ v. f.label (f.out v)) (dart_far g e) ∙ lv;
+    off = ap (λ v. f.label (f.out v)) (dart_far g e) ∙ lv;
   }
 
   from_v : IsTight (darts_of g) f first → f.label (f.out (edge_at g e).u) ≡ Outside → f.label (f.out (edge_at g e).v)
@@ -72,9 +69,9 @@ module _ (g : WeightedGraph) (is : IsSmallGraph g) (f : Forest) (feasible : IsFe
   from_v tight lu lv =
       let d : other_dart (2 * e) ≡ 2 * e + 1 = twin_even (2 * e) (omega arith) in
       subst (λ x. Reaches (darts_of g) f x) d (record {
-        tight = tight_twin (darts_of g) (are_darts g is.lawful) f (2 * e) tight;
+        tight = tight_twin (are_darts is.lawful) tight;
         outer = ap (λ v. f.label (f.out v)) (dart_far g e) ∙ lv;
-        off = ap (λ v. f.label (f.out v)) (far_twin (darts_of g) (are_darts g is.lawful) (2 * e) ∙ dart_near g e) ∙ lu;
+        off = ap (λ v. f.label (f.out v)) (far_twin (are_darts is.lawful) (2 * e) ∙ dart_near g e) ∙ lu;
       })
 
   -- What a dart to a blossom outside the tree reaches: a matched one, or one that is not.
@@ -84,20 +81,20 @@ module _ (g : WeightedGraph) (is : IsSmallGraph g) (f : Forest) (feasible : IsFe
 
   far_second : far (darts_of g) (2 * e + 1) ≡ (edge_at g e).u
   far_second = ap (far (darts_of g)) (sym (twin_even (2 * e) (omega arith)))
-      ∙ (far_twin (darts_of g) (are_darts g is.lawful) (2 * e) ∙ dart_near g e)
+      ∙ (far_twin (are_darts is.lawful) (2 * e) ∙ dart_near g e)
 
-  leads_u : (some : Bool) → IsTight (darts_of g) f first → f.label (f.out (edge_at g e).u) ≡ Outer
+  leads_u : {some : Bool} → IsTight (darts_of g) f first → f.label (f.out (edge_at g e).u) ≡ Outer
       → f.label (f.out (edge_at g e).v) ≡ Outside → is_some (f.mate (f.out (edge_at g e).v)) ≡ some → Leads some
-  leads_u some tight lu lv m =
+  leads_u tight lu lv m =
       let d : outer_dart g f e ≡ 2 * e = ap (λ (l : Label). dart_by l e) lu in (
         subst (λ x. Reaches (darts_of g) f x) (sym d) (from_u tight lu lv),
         ap (λ x. is_some (f.mate (f.out (far (darts_of g) x)))) d
             ∙ (ap (λ v. is_some (f.mate (f.out v))) (dart_far g e) ∙ m),
       )
 
-  leads_v : (some : Bool) → IsTight (darts_of g) f first → f.label (f.out (edge_at g e).u) ≡ Outside
+  leads_v : {some : Bool} → IsTight (darts_of g) f first → f.label (f.out (edge_at g e).u) ≡ Outside
       → f.label (f.out (edge_at g e).v) ≡ Outer → is_some (f.mate (f.out (edge_at g e).u)) ≡ some → Leads some
-  leads_v some tight lu lv m =
+  leads_v tight lu lv m =
       let d : outer_dart g f e ≡ 2 * e + 1 = ap (λ (l : Label). dart_by l e) lu in (
         subst (λ x. Reaches (darts_of g) f x) (sym d) (from_v tight lu lv),
         ap (λ x. is_some (f.mate (f.out (far (darts_of g) x)))) d ∙ (ap (λ v. is_some (f.mate (f.out v))) far_second
@@ -136,15 +133,14 @@ module _ (g : WeightedGraph) (is : IsSmallGraph g) (f : Forest) (feasible : IsFe
 
   -- An edge by which the tree grows.
   pub grows : edge_kind g f e ≡ Grow → Leads true
-  grows k = by_tight (tight_kind Grow (λ x. absurd (cc x)) k)
+  grows k = by_tight (tight_kind (λ x. absurd (cc x)) k)
     where
-      by_case : IsTight (darts_of g) f first
-          → ((f.label (f.out (edge_at g e).u) ≡ Outer) × (f.label (f.out (edge_at g e).v) ≡ Outside)
-          × (is_some (f.mate (f.out (edge_at g e).v)) ≡ true)) ⊎ ((f.label (f.out (edge_at g e).u) ≡ Outside)
-          × (f.label (f.out (edge_at g e).v) ≡ Outer) × (is_some (f.mate (f.out (edge_at g e).u)) ≡ true))
-          → Leads true
-      by_case tight (inl w) = leads_u true tight w.0 w.1 w.2
-      by_case tight (inr w) = leads_v true tight w.0 w.1 w.2
+      by_case : IsTight (darts_of g) f first → ((f.label (f.out (edge_at g e).u) ≡ Outer)
+          × (f.label (f.out (edge_at g e).v) ≡ Outside) × (is_some (f.mate (f.out (edge_at g e).v)) ≡ true))
+          ⊎ ((f.label (f.out (edge_at g e).u) ≡ Outside) × (f.label (f.out (edge_at g e).v) ≡ Outer)
+          × (is_some (f.mate (f.out (edge_at g e).u)) ≡ true)) → Leads true
+      by_case tight (inl w) = leads_u tight w.0 w.1 w.2
+      by_case tight (inr w) = leads_v tight w.0 w.1 w.2
 
       by_tight : IsTight (darts_of g) f first × (by_labels ≡ Grow) → Leads true
       by_tight p = by_case p.0 (grow_labels (f.label (f.out (edge_at g e).u)) (f.label (f.out (edge_at g e).v))
@@ -153,15 +149,14 @@ module _ (g : WeightedGraph) (is : IsSmallGraph g) (f : Forest) (feasible : IsFe
 
   -- An edge by which the matching grows.
   pub augments : edge_kind g f e ≡ Augment → Leads false
-  augments k = by_tight (tight_kind Augment (λ x. absurd (cc x)) k)
+  augments k = by_tight (tight_kind (λ x. absurd (cc x)) k)
     where
-      by_case : IsTight (darts_of g) f first
-          → ((f.label (f.out (edge_at g e).u) ≡ Outer) × (f.label (f.out (edge_at g e).v) ≡ Outside)
-          × (is_some (f.mate (f.out (edge_at g e).v)) ≡ false)) ⊎ ((f.label (f.out (edge_at g e).u) ≡ Outside)
-          × (f.label (f.out (edge_at g e).v) ≡ Outer) × (is_some (f.mate (f.out (edge_at g e).u)) ≡ false))
-          → Leads false
-      by_case tight (inl w) = leads_u false tight w.0 w.1 w.2
-      by_case tight (inr w) = leads_v false tight w.0 w.1 w.2
+      by_case : IsTight (darts_of g) f first → ((f.label (f.out (edge_at g e).u) ≡ Outer)
+          × (f.label (f.out (edge_at g e).v) ≡ Outside) × (is_some (f.mate (f.out (edge_at g e).v)) ≡ false))
+          ⊎ ((f.label (f.out (edge_at g e).u) ≡ Outside) × (f.label (f.out (edge_at g e).v) ≡ Outer)
+          × (is_some (f.mate (f.out (edge_at g e).u)) ≡ false)) → Leads false
+      by_case tight (inl w) = leads_u tight w.0 w.1 w.2
+      by_case tight (inr w) = leads_v tight w.0 w.1 w.2
 
       by_tight : IsTight (darts_of g) f first × (by_labels ≡ Augment) → Leads false
       by_tight p = by_case p.0 (augment_labels (f.label (f.out (edge_at g e).u)) (f.label (f.out (edge_at g e).v))
@@ -195,7 +190,7 @@ module _ (g : WeightedGraph) (is : IsSmallGraph g) (f : Forest) (feasible : IsFe
     pub apart : f.out ((darts_of g).near (2 * e)) ≢ f.out (far (darts_of g) (2 * e))
 
   pub shrinks : edge_kind g f e ≡ Shrink → IsClosing
-  shrinks k = by_tight (tight_kind Shrink (λ x. absurd (cc x)) k)
+  shrinks k = by_tight (tight_kind (λ x. absurd (cc x)) k)
     where
       by_labels_of : IsTight (darts_of g) f first → (f.label (f.out (edge_at g e).u) ≡ Outer)
           × (f.label (f.out (edge_at g e).v) ≡ Outer) × (eqb (f.out (edge_at g e).u) (f.out (edge_at g e).v) ≡ false)

@@ -18,15 +18,15 @@ or_off : (a b : Bool) → a ≡ false → (a || b) ≡ b
 or_off true b e = absurd (cc e)
 or_off false b e = refl
 
-or_none : (a b : Bool) → b ≡ false → (a || b) ≡ a
-or_none true b e = refl
-or_none false b e = e
+or_none : (a : Bool) {b : Bool} → b ≡ false → (a || b) ≡ a
+or_none true e = refl
+or_none false e = e
 
-module _ (n : ℕ) (up rank out : ℕ → ℕ) (climb : IsClimb n up out) (rises : (x : ℕ) → up x ≢ x → rank x < rank (up x))
-    (ones : (v : ℕ) → v < n → 1 ≤ rank v) (few : (v : ℕ) → v < n → rank (out v) ≤ n)
-    (up2 : ℕ → ℕ) (inside : ℕ → Bool) (b : ℕ) (high : n ≤ b) (tops : (x : ℕ) → inside x ≡ true
-    → up x ≡ x) (new : inside b ≡ false) (alone : up b ≡ b) (unused : (x : ℕ) → x ≢ b → up x ≢ b)
-    (ups : (x : ℕ) → up2 x ≡ cond (inside x) b (up x)) where
+module _ {n : ℕ} {up : ℕ → ℕ} (rank : ℕ → ℕ) {out : ℕ → ℕ} (climb : IsClimb n up out)
+    (rises : (x : ℕ) → up x ≢ x → rank x < rank (up x)) (ones : (v : ℕ) → v < n → 1 ≤ rank v)
+    (few : (v : ℕ) → v < n → rank (out v) ≤ n) (up2 : ℕ → ℕ) (inside : ℕ → Bool) {b : ℕ} (high : n ≤ b)
+    (tops : (x : ℕ) → inside x ≡ true → up x ≡ x) (new : inside b ≡ false) (alone : up b ≡ b)
+    (unused : (x : ℕ) → x ≢ b → up x ≢ b) (ups : (x : ℕ) → up2 x ≡ cond (inside x) b (up x)) where
   pub up_b : up2 b ≡ b
   up_b = ups b ∙ (cond-false (inside b) b (up b) new ∙ alone)
 
@@ -45,45 +45,44 @@ module _ (n : ℕ) (up rank out : ℕ → ℕ) (climb : IsClimb n up out) (rises
   not_new v l zero e = absurd (omega (arith, l, high, e))
   not_new v l (suc i) e = unused (walk up v i) (not_new v l i) e
 
-  on_way_ne : (v x : ℕ) → v < n → OnWayFrom n up rank out climb rises v x → x ≢ b
+  on_way_ne : (v x : ℕ) → v < n → OnWayFrom rank climb rises v x → x ≢ b
   on_way_ne v x l w e = not_new v l w.0 (w.1 ∙ e)
 
   abbrev On : ℕ → ℕ → Type 0
-  On = OnWayFrom n up rank out climb rises
+  On = OnWayFrom rank climb rises
 
   abbrev pub fresh : ℕ → ℕ
   fresh v = cond (inside (out v)) b (out v)
 
   climbs_higher : (v x : ℕ) → v < n → On v x → up x ≢ x → rank x < rank (out v)
-  climbs_higher v x l w inner =
-      omega (
-        arith,
-        rises x inner,
-        rank_low n up rank out climb rises v (up x) l (goes_on n up rank out climb rises v x w),
-      )
+  climbs_higher v x l w inner = omega (
+    arith,
+    rises x inner,
+    rank_low rank climb rises v (up x) l (goes_on rank climb rises v x w),
+  )
 
   -- Where one stayed one goes on to the new set, or stays.
-  reach_top : (v x m : ℕ) → v < n → On v x → up x ≡ x → walk up2 x (suc m) ≡ fresh v
-  reach_top v x m l w top = by_test (cases_Bool (inside (out v)))
+  reach_top : (v : ℕ) {x : ℕ} (m : ℕ) → v < n → On v x → up x ≡ x → walk up2 x (suc m) ≡ fresh v
+  reach_top v {x} m l w top = by_test (cases_Bool (inside (out v)))
     where
       x_is : x ≡ out v
-      x_is = fixed_top n up rank out climb rises v x l w top
+      x_is = fixed_top rank climb rises v l w top
 
       by_test : (inside (out v) ≡ true) ⊎ (inside (out v) ≡ false) → walk up2 x (suc m) ≡ fresh v
       by_test (inl on) = walk_front up2 x m ∙ (ap (λ z. walk up2 z m) (up_in x (ap inside x_is ∙ on))
-          ∙ (walk_fixed up2 b m up_b ∙ sym (cond-true (inside (out v)) b (out v) on)))
-      by_test (inr off) = walk_fixed up2 x (suc m) (up_off x (ap inside x_is ∙ off) ∙ top)
+          ∙ (walk_fixed up2 m up_b ∙ sym (cond-true (inside (out v)) b (out v) on)))
+      by_test (inr off) = walk_fixed up2 (suc m) (up_off x (ap inside x_is ∙ off) ∙ top)
           ∙ (x_is ∙ sym (cond-false (inside (out v)) b (out v) off))
 
   reach : (m v x : ℕ) → v < n → On v x → rank (out v) ≤ rank x + m → walk up2 x (suc m) ≡ fresh v
   reach zero v x l w h = elim (cases_eq (up x) x) [
-    | inl top ↦ reach_top v x 0 l w top
+    | inl top ↦ reach_top v 0 l w top
     | inr inner ↦ absurd (omega (arith, h, climbs_higher v x l w inner))
   ]
   reach (suc m) v x l w h = elim (cases_eq (up x) x) [
-    | inl top ↦ reach_top v x (suc m) l w top
+    | inl top ↦ reach_top v (suc m) l w top
     | inr inner ↦ walk_front up2 x (suc m) ∙ (ap (λ z. walk up2 z (suc m)) (up_off x (off_inner x inner))
-        ∙ reach m v (up x) l (goes_on n up rank out climb rises v x w) (omega (arith, h, rises x inner)))
+        ∙ reach m v (up x) l (goes_on rank climb rises v x w) (omega (arith, h, rises x inner)))
   ]
 
   -- One comes to the new set, or to where one came.
@@ -105,31 +104,29 @@ module _ (n : ℕ) (up rank out : ℕ → ℕ) (climb : IsClimb n up out) (rises
   or_twice false = refl
 
   -- One comes past the same old blossoms.
-  past_top : (m v x c : ℕ) → c ≢ b → up x ≡ x → climbs up2 (suc m) c x ≡ climbs up (suc m) c x
-  past_top m v x c ne top = by_test (cases_Bool (inside x))
+  past_top : (m v : ℕ) {x : ℕ} (c : ℕ) → c ≢ b → up x ≡ x → climbs up2 (suc m) c x ≡ climbs up (suc m) c x
+  past_top m v {x} c ne top = by_test (cases_Bool (inside x))
     where
       by_test : (inside x ≡ true) ⊎ (inside x ≡ false) → (eqb x c || climbs up2 m c (up2 x))
           ≡ (eqb x c || climbs up m c (up x))
-      by_test (inl on) =
-          ap (λ y. eqb x c || climbs up2 m c y) (up_in x on)
-          ∙ (or_none (eqb x c) (climbs up2 m c b) (climbs_self up2 m c b up_b ∙ ne_eqb b c (λ e. ne (sym e)))
-          ∙ sym (ap (λ y. eqb x c || climbs up m c y) top ∙ (ap (λ (s : Bool). eqb x c || s) (climbs_self up m c x top)
+      by_test (inl on) = ap (λ y. eqb x c || climbs up2 m c y) (up_in x on)
+          ∙ (or_none (eqb x c) (climbs_self up2 m c up_b ∙ ne_eqb b c (λ e. ne (sym e)))
+          ∙ sym (ap (λ y. eqb x c || climbs up m c y) top ∙ (ap (λ (s : Bool). eqb x c || s) (climbs_self up m c top)
           ∙ or_twice (eqb x c))))
-      by_test (inr off) =
-          ap (λ y. eqb x c || climbs up2 m c y) (up_off x off ∙ top)
-          ∙ (ap (λ (s : Bool). eqb x c || s) (climbs_self up2 m c x (up_off x off ∙ top)
-          ∙ sym (climbs_self up m c x top)) ∙ ap (λ y. eqb x c || climbs up m c y) (sym top))
+      by_test (inr off) = ap (λ y. eqb x c || climbs up2 m c y) (up_off x off ∙ top)
+          ∙ (ap (λ (s : Bool). eqb x c || s) (climbs_self up2 m c (up_off x off ∙ top)
+          ∙ sym (climbs_self up m c top)) ∙ ap (λ y. eqb x c || climbs up m c y) (sym top))
 
   same_past : (m v x c : ℕ) → c ≢ b → v < n → On v x → rank (out v) ≤ rank x + m → climbs up2 (suc m) c x
       ≡ climbs up (suc m) c x
   same_past zero v x c ne l w h = elim (cases_eq (up x) x) [
-    | inl top ↦ past_top 0 v x c ne top
+    | inl top ↦ past_top 0 v c ne top
     | inr inner ↦ absurd (omega (arith, h, climbs_higher v x l w inner))
   ]
   same_past (suc m) v x c ne l w h = elim (cases_eq (up x) x) [
-    | inl top ↦ past_top (suc m) v x c ne top
+    | inl top ↦ past_top (suc m) v c ne top
     | inr inner ↦ ap (λ y. eqb x c || climbs up2 (suc m) c y) (up_off x (off_inner x inner))
-        ∙ ap (λ (s : Bool). eqb x c || s) (same_past m v (up x) c ne l (goes_on n up rank out climb rises v x w)
+        ∙ ap (λ (s : Bool). eqb x c || s) (same_past m v (up x) c ne l (goes_on rank climb rises v x w)
         (omega (arith, h, rises x inner)))
   ]
 
@@ -142,28 +139,28 @@ module _ (n : ℕ) (up rank out : ℕ → ℕ) (climb : IsClimb n up out) (rises
           ∙ (same_past m v v c ne l (0, refl) (omega (arith, few v l, ones v l, e)) ∙ ap (λ k. climbs up k c v) e)
 
   -- And past the new set from the vertices of the row.
-  new_top : (m v x : ℕ) → v < n → On v x → up x ≡ x → climbs up2 (suc m) b x ≡ inside (out v)
-  new_top m v x l w top = or_off (eqb x b) (climbs up2 m b (up2 x)) (ne_eqb x b (on_way_ne v x l w))
+  new_top : (m v : ℕ) {x : ℕ} → v < n → On v x → up x ≡ x → climbs up2 (suc m) b x ≡ inside (out v)
+  new_top m v {x} l w top = or_off (eqb x b) (climbs up2 m b (up2 x)) (ne_eqb x b (on_way_ne v x l w))
       ∙ by_test (cases_Bool (inside (out v)))
     where
       x_is : x ≡ out v
-      x_is = fixed_top n up rank out climb rises v x l w top
+      x_is = fixed_top rank climb rises v l w top
 
       by_test : (inside (out v) ≡ true) ⊎ (inside (out v) ≡ false) → climbs up2 m b (up2 x) ≡ inside (out v)
       by_test (inl on) = ap (climbs up2 m b) (up_in x (ap inside x_is ∙ on)) ∙ (climbs_here up2 m b ∙ sym on)
       by_test (inr off) = ap (climbs up2 m b) (up_off x (ap inside x_is ∙ off) ∙ top)
-          ∙ (climbs_self up2 m b x (up_off x (ap inside x_is ∙ off) ∙ top) ∙ (ne_eqb x b (on_way_ne v x l w) ∙ sym off))
+          ∙ (climbs_self up2 m b (up_off x (ap inside x_is ∙ off) ∙ top) ∙ (ne_eqb x b (on_way_ne v x l w) ∙ sym off))
 
   new_past : (m v x : ℕ) → v < n → On v x → rank (out v) ≤ rank x + m → climbs up2 (suc m) b x ≡ inside (out v)
   new_past zero v x l w h = elim (cases_eq (up x) x) [
-    | inl top ↦ new_top 0 v x l w top
+    | inl top ↦ new_top 0 v l w top
     | inr inner ↦ absurd (omega (arith, h, climbs_higher v x l w inner))
   ]
   new_past (suc m) v x l w h = elim (cases_eq (up x) x) [
-    | inl top ↦ new_top (suc m) v x l w top
+    | inl top ↦ new_top (suc m) v l w top
     | inr inner ↦ or_off (eqb x b) (climbs up2 (suc m) b (up2 x)) (ne_eqb x b (on_way_ne v x l w))
         ∙ (ap (climbs up2 (suc m) b) (up_off x (off_inner x inner))
-        ∙ new_past m v (up x) l (goes_on n up rank out climb rises v x w) (omega (arith, h, rises x inner)))
+        ∙ new_past m v (up x) l (goes_on rank climb rises v x w) (omega (arith, h, rises x inner)))
   ]
 
   pub holds_new : (v : ℕ) → v < n → climbs up2 n b v ≡ inside (out v)

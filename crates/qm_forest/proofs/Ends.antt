@@ -20,10 +20,10 @@ use Rattle.qm_forest.proofs.Laminars.{another}
 use Rattle.qm_forest.proofs.MateRounds.{due_one, due_same}
 
 -- A blossom without weight adds nothing.
-none_added : (s : ℕ → Bool) (z : ℤ) (es : List WEdge) → z ≡ pos 0
+none_added : (s : ℕ → Bool) {z : ℤ} (es : List WEdge) → z ≡ pos 0
     → total (λ (e : WEdge). cond (crosses s e) z (pos 0)) es ≡ pos 0
-none_added s z [] zero' = refl
-none_added s z (e ∷ es) zero' = omega (arith, ints, none_added s z es zero', by_test (crosses s e))
+none_added s [] zero' = refl
+none_added s {z} (e ∷ es) zero' = omega (arith, ints, none_added s es zero', by_test (crosses s e))
   where
     by_test : (b : Bool) → cond b z (pos 0) ≡ pos 0
     by_test true = zero'
@@ -45,31 +45,29 @@ loads_exact g f (x ∷ xs) tight =
 
 module _ (t : ForestTables) (known : IsLaminar t) (g : WeightedGraph) (is : IsSmallGraph g) (valid : IsSoundFor g t)
     (marks : List Bool) (size : length t.near ≡ 2 * length marks) (list : List ℕ)
-    (are : AreMarked marks (length marks) list)
-    (left : List (Option ℕ)) (round : IsRound t marks left (λ b. 0) (matched_by t (length marks))) (ended : (c : ℕ)
-    → get_or left c None ≡ None)
+    (are : AreMarked marks (length marks) list) (left : List (Option ℕ))
+    (round : IsRound t marks left (λ b. 0) (matched_by t (length marks))) (ended : (c : ℕ) → get_or left c None ≡ None)
     (matched : (v : ℕ) → v < g.n → (forest_of t).mate ((forest_of t).out v) ≢ None) where
   abbrev f : Forest
   f = forest_of t
 
   left_once : (w : ℕ) → w < length t.hand → leaving t marks w ≡ 1
-  left_once w l = round_ends t marks left (matched_by t (length marks)) round ended w (omega (arith, l, known.vertices))
-      ∙ due_one t known g is valid w (length marks) l (edges_is t known g is valid marks size list are)
-      (matched w (subst (λ m. w < m) valid.vertices l))
+  left_once w l = round_ends round ended w (omega (arith, l, known.vertices))
+      ∙ due_one known is valid w l (edges_is known is valid size are) (matched w (subst (λ m. w < m) valid.vertices l))
 
   set_once : (b : ℕ) → length t.hand ≤ b → b < length t.up → get_or t.parts b 0 ≢ 0 → leaving t marks b ≡ 1
   set_once b high low live =
       let w : (v : ℕ) × (v < length t.hand) × (v ≢ 0) × (f.holds b v ≡ true) =
       another t known g is valid b 0 high low live in
-      round_ends t marks left (matched_by t (length marks)) round ended b low
-      ∙ (due_same t known g is valid b w.0 (length marks) w.1 w.3 ∙ due_one t known g is valid w.0 (length marks) w.1
-      (edges_is t known g is valid marks size list are) (matched w.0 (subst (λ m. w.0 < m) valid.vertices w.1)))
+      round_ends round ended b low
+      ∙ (due_same known is valid b w.0 (length marks) w.1 w.3 ∙ due_one known is valid w.0 w.1
+      (edges_is known is valid size are) (matched w.0 (subst (λ m. w.0 < m) valid.vertices w.1)))
 
   pub perfect : IsPerfect g list
   perfect = record {
-    increasing = subst (λ m. IsIncreasing 0 m list) (edges_is t known g is valid marks size list are) are.increasing;
+    increasing = subst (λ m. IsIncreasing 0 m list) (edges_is known is valid size are) are.increasing;
     once = λ w l. (let lw : w < length t.hand = subst (λ m. w < m) (sym valid.vertices) l in
-        met_as_left t known g is valid marks size list are w lw ∙ left_once w lw);
+        met_as_left known is valid size are w lw ∙ left_once w lw);
   }
 
   abbrev es : List WEdge
@@ -80,7 +78,7 @@ module _ (t : ForestTables) (known : IsLaminar t) (g : WeightedGraph) (is : IsSm
 
   counted : (b : ℕ) → leaving t marks b ≡ 1 → total (adds b) es ≡ f.weight b
   counted b one = just_once (f.holds b) (f.weight b) es (count_map (λ (e : WEdge). cond (crosses (f.holds b) e) 1 0)
-      (edge_at g) list ∙ (sym (leaving_listed t known g is valid marks size list are b) ∙ one))
+      (edge_at g) list ∙ (sym (leaving_listed known is valid size are b) ∙ one))
 
   each : (b : ℕ) → b < f.size → (b < length t.hand) ⊎ (length t.hand ≤ b) → (get_or t.parts b 0 ≡ 0)
       ⊎ (get_or t.parts b 0 ≢ 0) → f.weight b ≡ total (adds b) es
@@ -88,12 +86,10 @@ module _ (t : ForestTables) (known : IsLaminar t) (g : WeightedGraph) (is : IsSm
   each b l (inr high) (inr live) = sym (counted b (set_once b high l live))
   each b l (inr high) (inl dead) =
       (let z : f.weight b ≡ pos 0 = valid.valid.nested.weightless b (subst (λ m. m ≤ b) valid.vertices high) dead in
-      z ∙ sym (none_added (f.holds b) (f.weight b) es z))
+      z ∙ sym (none_added (f.holds b) es z))
 
   -- The sum of the weights is the sum of the loads.
   pub met : dual_sum_of f ≡ pos 2 *ℤ matching_cost g list
-  met =
-      total_below_same f.weight (λ b. total (adds b) es) f.size (λ b l. each b l (cases_lt b (length t.hand))
-      (cases_eq (get_or t.parts b 0) 0))
-      ∙ (sym (two_orders adds f.size es)
+  met = total_below_same f.weight (λ b. total (adds b) es) f.size (λ b l. each b l (cases_lt b (length t.hand))
+      (cases_eq (get_or t.parts b 0) 0)) ∙ (sym (two_orders adds f.size es)
       ∙ loads_exact g f list (λ k l. round.tight g is valid (get_or list k 0) (are.each k l)))

@@ -21,7 +21,7 @@ use Rattle.qm_forest.proofs.Openeds.{expanding}
 use Rattle.qm_forest.proofs.Openings.{IsJoined, are, inside as the_inside, in_tree, joined, mate_is, part_low}
 use Rattle.qm_forest.proofs.Openings.{ring_from, first_in, last_in, tree_is}
 
-module _ (g : WeightedGraph) (is : IsSmallGraph g) (t0 : ForestTables) (valid : IsValidFor g t0) (b : ℕ)
+module _ {g : WeightedGraph} (is : IsSmallGraph g) {t0 : ForestTables} (valid : IsValidFor g t0) (b : ℕ)
     (high : g.n ≤ b) (inner : (forest_of t0).label b ≡ Inner) (weightless : (forest_of t0).weight b ≡ pos 0) where
   abbrev d : Darts
   d = darts_of g
@@ -37,16 +37,16 @@ module _ (g : WeightedGraph) (is : IsSmallGraph g) (t0 : ForestTables) (valid : 
   matched none = (let clash : ◌≡◌ {A = Option ℕ} (Some m) None =
       sym (in_tree g is t0 valid b high inner weightless).mate ∙ none in absurd (cc clash))
 
-  pub mate_dart_is : (x : ℕ) → x ≡ dart_or (f0.mate b) → x ≡ m
-  mate_dart_is x e = e ∙ ap dart_or (in_tree g is t0 valid b high inner weightless).mate
+  pub mate_dart_is : {x : ℕ} → x ≡ dart_or (f0.mate b) → x ≡ m
+  mate_dart_is e = e ∙ ap dart_or (in_tree g is t0 valid b high inner weightless).mate
 
-  pub mate_low : (x : ℕ) → x ≡ m → x < 2 * length g.edges
-  mate_low x e = subst (λ y. y < 2 * length g.edges) (sym e) (mate_is g is t0 valid b high inner weightless).tight.low
+  pub mate_low : {x : ℕ} → x ≡ m → x < 2 * length g.edges
+  mate_low e = subst (λ y. y < 2 * length g.edges) (sym e) (mate_is g is t0 valid b high inner weightless).tight.low
 
-  pub link_low : (x : ℕ) → x ≡ f0.link b → x < 2 * length g.edges
-  link_low x e = subst (λ y. y < 2 * length g.edges) (sym e) (in_tree g is t0 valid b high inner weightless).tight.low
+  pub link_low : {x : ℕ} → x ≡ f0.link b → x < 2 * length g.edges
+  link_low e = subst (λ y. y < 2 * length g.edges) (sym e) (in_tree g is t0 valid b high inner weightless).tight.low
 
-  module _ (t2 : ForestTables) (opened : HasOpened t0 t2 b) where
+  module _ {t2 : ForestTables} (opened : HasOpened t0 t2 b) where
     abbrev f2 : Forest
     f2 = forest_of t2
 
@@ -72,8 +72,8 @@ module _ (g : WeightedGraph) (is : IsSmallGraph g) (t0 : ForestTables) (valid : 
 
     part_top : (x : ℕ) → inside x ≡ true → IsOutermostIn t2 x
     part_top x on =
-        let j : IsJoined g is t0 valid b high inner weightless f2 parted f2.nest.after f2.nest.joint x =
-        joined g is t0 valid b high inner weightless f2 parted x on in (
+        let j : IsJoined g is t0 valid b high inner weightless parted f2.nest.after f2.nest.joint x =
+        joined g is t0 valid b high inner weightless parted x on in (
           d.near (f2.nest.joint x),
           vertex_low (d.near (f2.nest.joint x)) (f2.nest.joint x) refl j.tight.low,
           j.near_part,
@@ -84,9 +84,9 @@ module _ (g : WeightedGraph) (is : IsSmallGraph g) (t0 : ForestTables) (valid : 
 
     joint_low : (x : ℕ) → inside x ≡ true → f2.nest.joint x < 2 ^ 31
     joint_low x on = (let l : f2.nest.joint x < 2 * length g.edges =
-        (joined g is t0 valid b high inner weightless f2 parted x on).tight.low in omega (arith, l, is.edges))
+        (joined g is t0 valid b high inner weightless parted x on).tight.low in omega (arith, l, is.edges))
 
-    module _ (m' l' first' last' many' v' w' : ℕ) (m_is : m' ≡ m) (l_is : l' ≡ f0.link b) (v_is : v' ≡ d.near m')
+    module _ {m' l' first' last' many' v' w' : ℕ} (m_is : m' ≡ m) (l_is : l' ≡ f0.link b) (v_is : v' ≡ d.near m')
         (w_is : w' ≡ d.near l') (first_at : first' ≡ f2.out v') (last_at : last' ≡ f2.out w') (many_is : many'
         ≡ f0.nest.parts b) where
       first_is : first' ≡ f2.out (d.near m)
@@ -96,13 +96,13 @@ module _ (g : WeightedGraph) (is : IsSmallGraph g) (t0 : ForestTables) (valid : 
       last_is = last_at ∙ (ap f2.out w_is ∙ ap (λ x. f2.out (d.near x)) l_is)
 
       first_marked : inside first' ≡ true
-      first_marked = ap inside first_is ∙ first_in g is t0 valid b high inner weightless f2 parted
+      first_marked = ap inside first_is ∙ first_in g is t0 valid b high inner weightless parted
 
       last_marked : inside last' ≡ true
-      last_marked = ap inside last_is ∙ last_in g is t0 valid b high inner weightless f2 parted
+      last_marked = ap inside last_is ∙ last_in g is t0 valid b high inner weightless parted
 
       circle_at : (x : ℕ) → inside x ≡ true → IsCircle f2.nest.after x (f0.nest.parts b) inside
-      circle_at = ring_from g is t0 valid b high inner weightless f2 parted
+      circle_at = ring_from g is t0 valid b high inner weightless parted
 
       pub some : 1 ≤ many'
       some = subst (λ n. 1 ≤ n) (sym many_is) (circle_at first' first_marked).some
@@ -114,7 +114,7 @@ module _ (g : WeightedGraph) (is : IsSmallGraph g) (t0 : ForestTables) (valid : 
       darts_low k l = joint_low (walk f2.nest.after first' k) ((circle_at first' first_marked).marked k)
 
       -- The parts are matched.
-      module _ (t3 : ForestTables) (seen3 : forest_of t3 ≡ mated (paired f2 first' many') first' (Some m'))
+      module _ {t3 : ForestTables} (seen3 : forest_of t3 ≡ mated (paired f2 first' many') first' (Some m'))
           (same3 : HasSameNest t2 t3) where
         after3 : (forest_of t3).nest.after ≡ f2.nest.after
         after3 = ap (λ (f : Forest). f.nest.after) seen3
@@ -138,20 +138,18 @@ module _ (g : WeightedGraph) (is : IsSmallGraph g) (t0 : ForestTables) (valid : 
         low3 k l = low_from first' first_marked k
 
         -- And hung into the tree.
-        module _ (course : Course) (way : IsCourse (forest_of t3).nest.after first' last' many' course) where
+        module _ {course : Course} (way : IsCourse (forest_of t3).nest.after first' last' many' course) where
           front_marked : inside course.front ≡ true
           front_marked = by_way way.way
             where
               by_way : ((course.forward ≡ true) × (course.front ≡ first') × (course.many ≡ way.steps + 1)
-                  × (way.steps % 2 ≡ 0))
-                  ⊎ ((course.forward ≡ false) × (course.front ≡ last') × (course.many ≡ (many' - way.steps) + 1)
-                  × (way.steps % 2 ≡ 1)) → inside course.front ≡ true
+                  × (way.steps % 2 ≡ 0)) ⊎ ((course.forward ≡ false) × (course.front ≡ last')
+                  × (course.many ≡ (many' - way.steps) + 1) × (way.steps % 2 ≡ 1)) → inside course.front ≡ true
               by_way (inl w) = ap inside w.1 ∙ first_marked
               by_way (inr w) = ap inside w.1 ∙ last_marked
 
           pub tops3 : (k : ℕ) → k < course.many → IsOutermostIn t3 (walk (forest_of t3).nest.after course.front k)
-          tops3 k l = outermost_kept t2 t3 (walk (forest_of t3).nest.after course.front k)
-              (walk f2.nest.after course.front k) same3 (at3 course.front k)
+          tops3 k l = outermost_kept same3 (at3 course.front k)
               (part_top (walk f2.nest.after course.front k) ((circle_at course.front front_marked).marked k))
 
           pub front_low : (k : ℕ) → k < course.many → walk (forest_of t3).nest.after course.front k < length t3.up
@@ -170,26 +168,22 @@ module _ (g : WeightedGraph) (is : IsSmallGraph g) (t0 : ForestTables) (valid : 
               (subst (λ x. IsCourse f2.nest.after x last' many' course) first_is
               (subst (λ (h : ℕ → ℕ). IsCourse h first' last' many' course) after3 way)))
 
-          pub last_low : (t4 : ForestTables) → HasSameNest t3 t4 → last' < length t4.up
-          last_low t4 same4 = subst (λ n. last' < n) (sym (ap length same4.up ∙ up3)) (low2 last' last_marked)
-
-          module _ (f6 : Forest) (t4 : ForestTables) (seen4 : forest_of t4
+          module _ {f6 : Forest} (t4 : ForestTables) (seen4 : forest_of t4
               ≡ hung (forest_of t3) course.front course.many course.forward) (seen6 : f6
               ≡ linked (forest_of t4) last' l') where
             done : f6 ≡ linked (hung (mated (paired f2 (f2.out (d.near m)) (f0.nest.parts b)) (f2.out (d.near m))
                 (Some m)) course.front course.many course.forward) (f2.out (d.near (f0.link b))) (f0.link b)
-            done = seen6
-                ∙ (ap (λ (f : Forest). linked f last' l') seen4
+            done = seen6 ∙ (ap (λ (f : Forest). linked f last' l') seen4
                 ∙ (ap (λ (f : Forest). linked (hung f course.front course.many course.forward) last' l') seen3
                 ∙ (ap (λ x. linked (hung (mated (paired f2 x many') x (Some m')) course.front course.many
-                course.forward) last' l') first_is
-                ∙ (ap (λ n. linked (hung (mated (paired f2 (f2.out (d.near m)) n) (f2.out (d.near m)) (Some m'))
-                course.front course.many course.forward) last' l') many_is
-                ∙ (ap (λ x. linked (hung (mated (paired f2 (f2.out (d.near m)) (f0.nest.parts b)) (f2.out (d.near m))
-                (Some x)) course.front course.many course.forward) last' l') m_is
-                ∙ (ap (λ x. linked (hung (mated (paired f2 (f2.out (d.near m)) (f0.nest.parts b)) (f2.out (d.near m))
-                (Some m)) course.front course.many course.forward) x l') last_is
-                ∙ ap (λ x. linked (hung (mated (paired f2 (f2.out (d.near m)) (f0.nest.parts b)) (f2.out (d.near m))
+                course.forward) last' l') first_is ∙ (ap (λ n. linked (hung
+                (mated (paired f2 (f2.out (d.near m)) n) (f2.out (d.near m)) (Some m')) course.front course.many
+                course.forward) last' l') many_is ∙ (ap (λ x. linked (hung
+                (mated (paired f2 (f2.out (d.near m)) (f0.nest.parts b)) (f2.out (d.near m)) (Some x)) course.front
+                course.many course.forward) last' l') m_is ∙ (ap (λ x. linked
+                (hung (mated (paired f2 (f2.out (d.near m)) (f0.nest.parts b)) (f2.out (d.near m)) (Some m))
+                course.front course.many course.forward) x l') last_is ∙ ap
+                (λ x. linked (hung (mated (paired f2 (f2.out (d.near m)) (f0.nest.parts b)) (f2.out (d.near m))
                 (Some m)) course.front course.many course.forward) (f2.out (d.near (f0.link b))) x) l_is))))))
 
             pub expanded : IsExpanding d f0 f6 b
@@ -201,13 +195,16 @@ module _ (g : WeightedGraph) (is : IsSmallGraph g) (t0 : ForestTables) (valid : 
             pub expanded_valid : (t6 : ForestTables) → forest_of t6 ≡ f6 → length t6.hand ≡ length t2.hand
                 → t6.root ≡ t0.root → fixed_of t6 ≡ fixed_of t2 → IsValidFor g t6
             expanded_valid t6 seen hand root fixed = record {
-              darts = darts_kept g t0 t6 valid (fixed ∙ (opened.fixed ∙ opened.same.fixed));
-              ends = ends_kept g t0 t6 valid (fixed ∙ (opened.fixed ∙ opened.same.fixed));
-              room = room_kept g t0 t6 valid (fixed ∙ (opened.fixed ∙ opened.same.fixed));
+              darts = darts_kept t6 valid (fixed ∙ (opened.fixed ∙ opened.same.fixed));
+              ends = ends_kept t6 valid (fixed ∙ (opened.fixed ∙ opened.same.fixed));
+              room = room_kept t6 valid (fixed ∙ (opened.fixed ∙ opened.same.fixed));
               vertices = hand ∙ hand2;
               valid = subst (λ o. IsValid d (forest_of t6) o) (sym (root ∙ tree.1))
-                  (subst (λ (f : Forest). IsValid d f (Some tree.0)) (sym seen)
-                  (opened_valid d (are g is t0 valid b high inner weightless) f0 tree.0
-                  (subst (λ o. IsValid d f0 o) tree.1 valid.valid) tree.2 f6 expanded.o expanded.opening
-                  expanded.opened));
+                  (subst (λ (f : Forest). IsValid d f (Some tree.0)) (sym seen) (opened_valid (record {
+                    are = are g is t0 valid b high inner weightless;
+                    valid = subst (λ o. IsValid d f0 o) tree.1 valid.valid;
+                    tree = tree.2;
+                    opening = expanded.opening;
+                    is = expanded.opened;
+                  })));
             }

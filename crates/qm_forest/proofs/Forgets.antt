@@ -22,12 +22,11 @@ none_counted (m ∷ ms) none =
     let here : ◌≡◌ {A = ℕ} (cond m 1 0) 0 = ap (λ (b : Bool). cond b 1 0) (none 0) in
     omega (arith, here, sum_by-cons (λ (b : Bool). cond b 1 0) m ms, none_counted ms (λ v. none (suc v)))
 
-module _ (t : ForestTables) (hid : HiddenTables) (tied : AreTied t hid) (outside : (k : ℕ) → k < length t.trail
-    → label_at t.label (out_of t.hand t.top (get_or t.trail k 0)) ≡ Outside)
+module _ {t : ForestTables} {hid : HiddenTables} (tied : AreTied t hid)
+    (outside : (k : ℕ) → k < length t.trail → label_at t.label (out_of t.hand t.top (get_or t.trail k 0)) ≡ Outside)
     (marks : List Bool) (size : length marks ≡ length hid.touched) (old : (v : ℕ) → get_or marks v false ≡ true
-    → get_or hid.touched v false ≡ true) (gone : (k : ℕ) → k < length t.trail
-    → get_or marks (get_or t.trail k 0) false ≡ false)
-    (trail : List ℕ) (empty : length trail ≡ 0) (room : ℕ) (more : hid.room ≤ room) where
+    → get_or hid.touched v false ≡ true) (gone : (k : ℕ) → k < length t.trail → get_or marks (get_or t.trail k 0) false
+    ≡ false) (trail : List ℕ) (empty : length trail ≡ 0) (room : ℕ) (more : hid.room ≤ room) where
   -- All blossoms are outside: those that are not outermost have no place in the tree.
   all_outside : (b : ℕ) → label_at t.label b ≡ Outside
   all_outside b = by_label (label_cases (label_at t.label b))
@@ -80,7 +79,7 @@ module _ (t : ForestTables) (hid : HiddenTables) (tied : AreTied t hid) (outside
 
   pub tied_forgotten : AreTied forgotten (record hid { touched = marks; room = room })
   tied_forgotten = record {
-    sizes = sizes_kept t hid tied.sizes (pos 0) None trail marks room (size ∙ tied.sizes.touched) more;
+    sizes = sizes_kept tied.sizes (pos 0) None trail marks room (size ∙ tied.sizes.touched) more;
     nest = tied.nest;
     numbers = record {
       potentials = λ v l. potential_same v
@@ -95,7 +94,7 @@ module _ (t : ForestTables) (hid : HiddenTables) (tied : AreTied t hid) (outside
     trail = record {
       low = λ k l. absurd (omega (arith, l, empty));
       counted = empty ∙ sym (none_counted marks none_marked);
-      marked = λ v on. absurd (true_false (get_or marks v false) on (none_marked v));
+      marked = λ v on. absurd (true_false on (none_marked v));
       named = λ b named. absurd (named (all_outside b));
     };
     pool = tied.pool;

@@ -30,26 +30,26 @@ use Rattle.qm_forest.proofs.Apart.{walk_stays}
 use Rattle.qm_forest.proofs.Ranges.{sum_small, read_nat}
 
 -- A list of one value has it everywhere, if it stands past the end too.
-pub same_everywhere : {X : Type 0} (xs : List X) (n : ℕ) (x : X) → xs ≡ replicate n x → (k : ℕ) → get_or xs k x ≡ x
-same_everywhere xs n x e k = ap (λ ys. get_or ys k x) e ∙ by_place (cases_lt k n)
+pub same_everywhere : {X : Type 0} {xs : List X} (n : ℕ) (x : X) → xs ≡ replicate n x → (k : ℕ) → get_or xs k x ≡ x
+same_everywhere n x e k = ap (λ ys. get_or ys k x) e ∙ by_place (cases_lt k n)
   where
     by_place : (k < n) ⊎ (n ≤ k) → get_or (replicate n x) k x ≡ x
     by_place (inl l) = get_or-replicate n k x x l
     by_place (inr h) = get_or_past (replicate n x) k x (subst (λ m. m ≤ k) (sym (length-replicate n x)) h)
 
 -- The numbers from 0 on, where the bound is told otherwise.
-pub counted_as : (m n : ℕ) {xs : List ℕ} → m ≡ n → IsCounted m xs → IsCounted n xs
-counted_as m n {xs} e counted = subst (λ k. IsCounted k xs) e counted
+pub counted_as : {m : ℕ} {n : ℕ} {xs : List ℕ} → m ≡ n → IsCounted m xs → IsCounted n xs
+counted_as {xs} e counted = subst (λ k. IsCounted k xs) e counted
 
 or_same : (a : Bool) → (a || a) ≡ a
 or_same true = refl
 or_same false = refl
 
 -- Where each is around itself, one climbs past oneself alone.
-pub climbs_self : (up : ℕ → ℕ) (k b v : ℕ) → up v ≡ v → climbs up k b v ≡ eqb v b
-climbs_self up zero b v e = refl
-climbs_self up (suc k) b v e = ap (λ (x : ℕ). eqb v b || climbs up k b x) e
-    ∙ (ap (λ (x : Bool). eqb v b || x) (climbs_self up k b v e) ∙ or_same (eqb v b))
+pub climbs_self : (up : ℕ → ℕ) (k b : ℕ) {v : ℕ} → up v ≡ v → climbs up k b v ≡ eqb v b
+climbs_self up zero b e = refl
+climbs_self up (suc k) b {v} e = ap (λ (x : ℕ). eqb v b || climbs up k b x) e
+    ∙ (ap (λ (x : Bool). eqb v b || x) (climbs_self up k b e) ∙ or_same (eqb v b))
 
 module _ (n size : ℕ) (lows : List ℤ) (t : ForestTables) (hid : HiddenTables) (fresh : IsFresh n size lows t hid) where
   vertices : n ≤ size
@@ -78,7 +78,7 @@ module _ (n size : ℕ) (lows : List ℤ) (t : ForestTables) (hid : HiddenTables
   in_n v l = subst (λ m. v < m) fresh.hand.size l
 
   label_is : (b : ℕ) → label_at t.label b ≡ Outside
-  label_is b = same_everywhere t.label size Outside fresh.label b
+  label_is b = same_everywhere size Outside fresh.label b
 
   change_none : (b : ℕ) (d : ℤ) → weight_change (label_at t.label b) d ≡ pos 0
   change_none b d = ap (λ (l : Label). weight_change l d) (label_is b)
@@ -87,50 +87,43 @@ module _ (n size : ℕ) (lows : List ℤ) (t : ForestTables) (hid : HiddenTables
   weight_is b = omega (arith, ints, fresh.base b, change_none b t.delta)
 
   holds_is : (b v : ℕ) → (forest_of t).holds b v ≡ eqb v b
-  holds_is b v = climbs_self (up_at t.up) (length t.hand) b v (up_self v)
+  holds_is b v = climbs_self (up_at t.up) (length t.hand) b (up_self v)
 
   potential_is : (v : ℕ) → v < n → potential (forest_of t) v ≡ get_or lows v (pos 0)
-  potential_is v l =
-      total_below_one (λ b. cond ((forest_of t).holds b v) ((forest_of t).weight b) (pos 0)) (length t.up) v
-      (subst (λ m. v < m) (sym size_up) (omega (arith, vertices)))
-      (λ k lk ne. cond-false ((forest_of t).holds k v) ((forest_of t).weight k) (pos 0) (holds_is k v
-      ∙ ne_eqb v k (λ e. ne (sym e))))
-      ∙ (cond-true ((forest_of t).holds v v) ((forest_of t).weight v) (pos 0) (holds_is v v ∙ eq-eqb v v refl)
-      ∙ weight_is v)
+  potential_is v l = total_below_one (λ b. cond ((forest_of t).holds b v) ((forest_of t).weight b) (pos 0))
+      (length t.up) v (subst (λ m. v < m) (sym size_up) (omega (arith, vertices)))
+      (λ k lk ne. cond-false ((forest_of t).holds k v) ((forest_of t).weight k) (pos 0)
+      (holds_is k v ∙ ne_eqb v k (λ e. ne (sym e)))) ∙ (cond-true ((forest_of t).holds v v) ((forest_of t).weight v)
+      (pos 0) (holds_is v v ∙ eq-eqb v v refl) ∙ weight_is v)
 
   added_is : (v : ℕ) → v < n → added t.hand t.top hid.off t.label t.delta v ≡ pos 0
   added_is v l =
       let o : get_or hid.off (get_or t.hand v 0) (pos 0) ≡ pos 0 =
-      same_everywhere hid.off n (pos 0) fresh.offs (get_or t.hand v 0) in
+      same_everywhere n (pos 0) fresh.offs (get_or t.hand v 0) in
       omega (arith, ints, o, change_none (out_of t.hand t.top v) t.delta)
 
   -- Each is the list of itself.
-  list_at : (xs : List ℕ) (x : ℕ) → IsCounted size xs → x < n → get_or xs x 0 ≡ x
-  list_at xs x counted l = counted.each x (omega (arith, vertices))
+  list_at : {xs : List ℕ} (x : ℕ) → IsCounted size xs → x < n → get_or xs x 0 ≡ x
+  list_at x counted l = counted.each x (omega (arith, vertices))
 
   used_low : (x : ℕ) → (x < n) ⊎ (get_or t.parts x 0 ≢ 0) → x < n
   used_low x (inl l) = l
-  used_low x (inr live) = absurd (live (same_everywhere t.parts size 0 fresh.parts x))
+  used_low x (inr live) = absurd (live (same_everywhere size 0 fresh.parts x))
 
   rank_is : (x : ℕ) → x < n → get_or t.rank x 0 ≡ 1
   rank_is x l = ap (λ xs. get_or xs x 0) fresh.rank ∙ get_or-replicate size x 1 0 (omega (arith, vertices))
 
   listed_self : (x : ℕ) → x < n → IsListed n (λ k. get_or hid.following k 0) (get_or hid.first x 0)
       (get_or hid.last x 0) (get_or t.rank x 0) (climbs (up_at t.up) n x)
-  listed_self x l =
-      subst (λ k. IsListed n (λ k. get_or hid.following k 0) (get_or hid.first x 0) (get_or hid.last x 0) k
-      (climbs (up_at t.up) n x)) (sym (rank_is x l))
-      (subst (λ k. IsListed n (λ k. get_or hid.following k 0) (get_or hid.first x 0) k 1 (climbs (up_at t.up) n x))
-      (sym (list_at hid.last x fresh.lists.2 l))
+  listed_self x l = subst (λ k. IsListed n (λ k. get_or hid.following k 0) (get_or hid.first x 0) (get_or hid.last x 0)
+      k (climbs (up_at t.up) n x)) (sym (rank_is x l)) (subst (λ k. IsListed n (λ k. get_or hid.following k 0)
+      (get_or hid.first x 0) k 1 (climbs (up_at t.up) n x)) (sym (list_at x fresh.lists.2 l))
       (subst (λ k. IsListed n (λ k. get_or hid.following k 0) k x 1 (climbs (up_at t.up) n x))
-      (sym (list_at hid.first x fresh.lists.1 l))
-      (record {
-        all = λ v lv. eqb_order x v ∙ sym (climbs_self (up_at t.up) n x v (up_self v));
-        low =
-            λ k lk. first_low k lk;
+      (sym (list_at x fresh.lists.1 l)) (record {
+        all = λ v lv. eqb_order x v ∙ sym (climbs_self (up_at t.up) n x (up_self v));
+        low = λ k lk. first_low k lk;
         distinct = λ i j lij lj. absurd (omega (arith, lij, lj));
-        ends =
-            λ k e. first_is k e;
+        ends = λ k e. first_is k e;
         some = omega arith;
       })))
     where
@@ -143,7 +136,7 @@ module _ (n size : ℕ) (lows : List ℤ) (t : ForestTables) (hid : HiddenTables
       first_is (suc k) e = absurd (omega (arith, e))
 
   none_touched : (v : ℕ) → get_or hid.touched v false ≡ false
-  none_touched v = same_everywhere hid.touched n false fresh.touched v
+  none_touched v = same_everywhere n false fresh.touched v
 
   fresh_sizes : HasSizes t hid
   fresh_sizes = record {
@@ -176,17 +169,14 @@ module _ (n size : ℕ) (lows : List ℤ) (t : ForestTables) (hid : HiddenTables
         subst (λ k. k < size) (sym (fresh.top.each h lh)) (omega (arith, vertices)));
     ups = λ b l. subst (λ k. k < size) (sym (fresh.up.each b l)) l;
     climb = record {
-      ends = λ v l. walk_stays (up_at t.up) v n (up_self v) ∙ sym (out_is v l);
-      tops =
-          λ v l. up_self (out_of t.hand t.top v);
+      ends = λ v l. walk_stays (up_at t.up) n (up_self v) ∙ sym (out_is v l);
+      tops = λ v l. up_self (out_of t.hand t.top v);
     };
-    led = λ v l. hand_is v l ∙ (sym (list_at hid.leader v fresh.lists.0 l)
-        ∙ ap (λ b. get_or hid.leader b 0) (sym (out_is v l)));
+    led = λ v l. hand_is v l ∙ (sym (list_at v fresh.lists.0 l) ∙ ap (λ b. get_or hid.leader b 0) (sym (out_is v l)));
     leaders = λ x lx used. (let l : x < n = used_low x used in let e : get_or hid.leader x 0 ≡ x =
-        list_at hid.leader x fresh.lists.0 l in (
+        list_at x fresh.lists.0 l in (
           subst (λ k. k < n) (sym e) l,
-          climbs_self (up_at t.up) n x (get_or hid.leader x 0)
-              (up_self (get_or hid.leader x 0)) ∙ eq-eqb (get_or hid.leader x 0) x e,
+          climbs_self (up_at t.up) n x (up_self (get_or hid.leader x 0)) ∙ eq-eqb (get_or hid.leader x 0) x e,
         ));
     members = λ x lx used. listed_self x (used_low x used);
     ended = λ x y k lx ly ux uy l e. (let one : get_or t.rank y 0 ≡ 1 = rank_is y (used_low y uy) in
@@ -197,14 +187,13 @@ module _ (n size : ℕ) (lows : List ℤ) (t : ForestTables) (hid : HiddenTables
   }
 
   none_some : count_by is_some hid.pool ≡ 0
-  none_some = ap (count_by is_some) fresh.pool
-      ∙ (sum_by-replicate (λ (o : Option Node). cond (is_some o) 1 0) (n / 2) None ∙ (let e : (n / 2) * 0 ≡ 0 =
-      omega arith in e))
+  none_some = ap (count_by is_some) fresh.pool ∙ (sum_by-replicate (λ (o : Option Node). cond (is_some o) 1 0) (n / 2)
+      None ∙ (let e : (n / 2) * 0 ≡ 0 = omega arith in e))
 
   none_many : count_below (live_at (length t.hand) (λ i. get_or t.parts i 0)) (length t.up) ≡ 0
   none_many = count_below_none (live_at (length t.hand) (λ i. get_or t.parts i 0)) (length t.up)
       (λ x l. ap (λ m. cond (nat_lt x (length t.hand)) 0 (cond (eqb m 0) 0 1))
-      (same_everywhere t.parts size 0 fresh.parts x) ∙ none (nat_lt x (length t.hand)))
+      (same_everywhere size 0 fresh.parts x) ∙ none (nat_lt x (length t.hand)))
     where
       none : (s : Bool) → ◌≡◌ {A = ℕ} (cond s 0 0) 0
       none true = refl
@@ -243,15 +232,15 @@ module _ (n size : ℕ) (lows : List ℤ) (t : ForestTables) (hid : HiddenTables
     trail = record {
       low = λ k l. absurd (omega (arith, l, fresh.trail));
       counted = fresh.trail ∙ sym (none_counted hid.touched none_touched);
-      marked = λ v on. absurd (true_false (get_or hid.touched v false) on (none_touched v));
+      marked = λ v on. absurd (true_false on (none_touched v));
       named = λ b named. absurd (named (label_is b));
     };
     pool = record {
       room = omega (arith, pool_size, fresh.size_is, fresh.hand.size, size_up);
       half = pool_size ∙ ap (λ m. m / 2) (sym fresh.hand.size);
-      free = λ k is. same_everywhere t.parts size 0 fresh.parts (length t.hand + k);
-      live = λ k live. absurd (live (same_everywhere t.parts size 0 fresh.parts (length t.hand + k)));
-      vertices = λ v l. same_everywhere t.parts size 0 fresh.parts v;
+      free = λ k is. same_everywhere size 0 fresh.parts (length t.hand + k);
+      live = λ k live. absurd (live (same_everywhere size 0 fresh.parts (length t.hand + k)));
+      vertices = λ v l. same_everywhere size 0 fresh.parts v;
       counted = none_some ∙ sym none_many;
     };
   }
@@ -277,7 +266,7 @@ module _ (n size : ℕ) (lows : List ℤ) (t : ForestTables) (hid : HiddenTables
     nested : IsNested (darts_of g) (forest_of t)
     nested = record {
       alone = λ v w lv lw. holds_is v w ∙ eqb_order w v;
-      rings = λ b high live. absurd (live (same_everywhere t.parts size 0 fresh.parts b));
+      rings = λ b high live. absurd (live (same_everywhere size 0 fresh.parts b));
       empty = λ b v high low none. holds_is b v ∙ ne_eqb v b (λ e. absurd (omega arith));
       weightless = λ b high none. weight_is b
           ∙ get_or_past lows b (pos 0) (subst (λ m. m ≤ b) (sym (fresh.size_lows ∙ n_is)) high);
@@ -286,18 +275,15 @@ module _ (n size : ℕ) (lows : List ℤ) (t : ForestTables) (hid : HiddenTables
     }
 
     -- No load between two vertices is above twice the cost of an edge between them.
-    feasible_dart : (u v : ℕ) (c : ℤ) → u < g.n → v < g.n → u ≢ v
-        → (get_or lows u (pos 0) +ℤ get_or lows v (pos 0)) ≤ℤ (pos 2 *ℤ c)
-        → weight_between (forest_of t) u v ≤ℤ (c +ℤ c)
-    feasible_dart u v c lu lv ne h =
-        omega (
-          arith,
-          ints,
-          load_across g.n (forest_of t) outermost u v lu lv
-              (λ e. ne (sym (outs u lu) ∙ (e ∙ outs v lv))),
-          potential_is u (up_to u lu),
-          potential_is v (up_to v lv),
-        )
+    feasible_dart : (u v : ℕ) (c : ℤ) → u < g.n → v < g.n → u ≢ v → (get_or lows u (pos 0) +ℤ get_or lows v (pos 0)) ≤ℤ
+        (pos 2 *ℤ c) → weight_between (forest_of t) u v ≤ℤ (c +ℤ c)
+    feasible_dart u v c lu lv ne h = omega (
+      arith,
+      ints,
+      load_across outermost u v lu lv (λ e. ne (sym (outs u lu) ∙ (e ∙ outs v lv))),
+      potential_is u (up_to u lu),
+      potential_is v (up_to v lv),
+    )
 
     feasible : IsFeasible (darts_of g) (forest_of t)
     feasible = record {
@@ -311,8 +297,7 @@ module _ (n size : ℕ) (lows : List ℤ) (t : ForestTables) (hid : HiddenTables
             → u ≢ v → (get_or lows u (pos 0) +ℤ get_or lows v (pos 0)) ≤ℤ (pos 2 *ℤ (edge_at g (d / 2)).cost)
             → weight_between (forest_of t) ((darts_of g).near d) (far (darts_of g) d) ≤ℤ
             ((edge_at g (d / 2)).cost +ℤ (edge_at g (d / 2)).cost)
-        at d u v l eu ev lu lv ne h =
-            subst (λ k. weight_between (forest_of t) k (far (darts_of g) d) ≤ℤ
+        at d u v l eu ev lu lv ne h = subst (λ k. weight_between (forest_of t) k (far (darts_of g) d) ≤ℤ
             ((edge_at g (d / 2)).cost +ℤ (edge_at g (d / 2)).cost)) (sym eu)
             (subst (λ k. weight_between (forest_of t) u k ≤ℤ ((edge_at g (d / 2)).cost +ℤ (edge_at g (d / 2)).cost))
             (sym ev) (feasible_dart u v (edge_at g (d / 2)).cost lu lv ne h))
@@ -351,7 +336,7 @@ module _ (n size : ℕ) (lows : List ℤ) (t : ForestTables) (hid : HiddenTables
       where
         none : (b d : ℕ) → (forest_of t).mate b ≡ Some d → ⊥
         none b d mate = let h : ◌≡◌ {A = Option ℕ} (Some d) None =
-            sym mate ∙ same_everywhere t.mate size None fresh.mate b in cc
+            sym mate ∙ same_everywhere size None fresh.mate b in cc
 
         no_root : (r : ℕ) → t.root ≡ Some r → ⊥
         no_root r e = let h : ◌≡◌ {A = Option ℕ} (Some r) None = sym e ∙ fresh.root in cc

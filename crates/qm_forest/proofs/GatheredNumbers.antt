@@ -14,7 +14,7 @@ use Rattle.def_forest.specs.declared.kinds.Label.TheVariants.{Outside}
 use Rattle.forest_laws.proofs.Writes.{by_none}
 use Rattle.qm_forest.specs.Ties.{AreTied, HiddenTables, HasNumbers, IsTrailed, added, told, weights_around, all_weights}
 
-module _ (t : ForestTables) (hid : HiddenTables) (tied : AreTied t hid) (b handle : ℕ) (inside : ℕ → Bool)
+module _ {t : ForestTables} {hid : HiddenTables} (tied : AreTied t hid) (b : ℕ) {handle : ℕ} (inside : ℕ → Bool)
     (hand2 top2 up2 : List ℕ) (root2 : Option ℕ) (q2 : List ℤ) (low : handle < length t.hand)
     (own : get_or t.hand handle 0 ≡ handle) (handle_in : inside (out_of t.hand t.top handle) ≡ true)
     (outside : (x : ℕ) → inside x ≡ true → label_at t.label x ≡ Outside) (b_outside : label_at t.label b ≡ Outside)
@@ -65,26 +65,22 @@ module _ (t : ForestTables) (hid : HiddenTables) (tied : AreTied t hid) (b handl
           ≡ told hid.q t.hand t.top hid.off t.label t.delta v
       by_test (inl yes') =
           let q_is : get_or q2 v (pos 0) ≡ (get_or hid.q v (pos 0) +ℤ get_or hid.off (get_or t.hand v 0) (pos 0)) -ℤ
-          get_or hid.off handle (pos 0) =
-          qs v l ∙ cond-true (inside (out v))
+          get_or hid.off handle (pos 0) = qs v l ∙ cond-true (inside (out v))
           ((get_or hid.q v (pos 0) +ℤ get_or hid.off (get_or t.hand v 0) (pos 0)) -ℤ get_or hid.off handle (pos 0))
           (get_or hid.q v (pos 0)) yes' in
-          let off_is : get_or hid.off (get_or hand2 v 0) (pos 0) ≡ get_or hid.off handle (pos 0) =
-          ap (λ h. get_or hid.off h (pos 0)) (hands v l ∙ cond-true (inside (out v)) handle (get_or t.hand v 0)
-          yes') in
+          let off_is : get_or hid.off (get_or hand2 v 0) (pos 0) ≡ get_or hid.off handle (pos 0) = ap
+          (λ h. get_or hid.off h (pos 0)) (hands v l ∙ cond-true (inside (out v)) handle (get_or t.hand v 0) yes') in
           let new : weight_change (label_at t.label (out_of hand2 top2 v)) t.delta ≡ pos 0 =
           ap (λ x. weight_change (label_at t.label x) t.delta) (out_in v l yes') ∙ change_none b b_outside in
           let was : weight_change (label_at t.label (out v)) t.delta ≡ pos 0 =
           change_none (out v) (outside (out v) yes') in
           omega (arith, ints, q_is, off_is, new, was)
       by_test (inr off) =
-          let q_is : get_or q2 v (pos 0) ≡ get_or hid.q v (pos 0) =
-          qs v l ∙ cond-false (inside (out v))
-          ((get_or hid.q v (pos 0) +ℤ get_or hid.off (get_or t.hand v 0) (pos 0)) -ℤ get_or hid.off handle (pos 0))
-          (get_or hid.q v (pos 0)) off in
-          let off_is : get_or hid.off (get_or hand2 v 0) (pos 0) ≡ get_or hid.off (get_or t.hand v 0) (pos 0) =
-          ap (λ h. get_or hid.off h (pos 0)) (hands v l ∙ cond-false (inside (out v)) handle (get_or t.hand v 0)
-          off) in
+          let q_is : get_or q2 v (pos 0) ≡ get_or hid.q v (pos 0) = qs v l
+          ∙ cond-false (inside (out v)) ((get_or hid.q v (pos 0) +ℤ get_or hid.off (get_or t.hand v 0) (pos 0)) -ℤ
+          get_or hid.off handle (pos 0)) (get_or hid.q v (pos 0)) off in
+          let off_is : get_or hid.off (get_or hand2 v 0) (pos 0) ≡ get_or hid.off (get_or t.hand v 0) (pos 0) = ap
+          (λ h. get_or hid.off h (pos 0)) (hands v l ∙ cond-false (inside (out v)) handle (get_or t.hand v 0) off) in
           let same : weight_change (label_at t.label (out_of hand2 top2 v)) t.delta
           ≡ weight_change (label_at t.label (out v)) t.delta =
           ap (λ x. weight_change (label_at t.label x) t.delta) (out_off v l off) in
@@ -99,9 +95,8 @@ module _ (t : ForestTables) (hid : HiddenTables) (tied : AreTied t hid) (b handl
           → pos (unsigned_abs (added hand2 top2 hid.off t.label t.delta v)) ≤ℤ
           (all_weights t.up t.base t.label t.delta -ℤ tied.numbers.start)
       by_test (inl yes') =
-          let off_is : get_or hid.off (get_or hand2 v 0) (pos 0) ≡ get_or hid.off handle (pos 0) =
-          ap (λ h. get_or hid.off h (pos 0)) (hands v l ∙ cond-true (inside (out v)) handle (get_or t.hand v 0)
-          yes') in
+          let off_is : get_or hid.off (get_or hand2 v 0) (pos 0) ≡ get_or hid.off handle (pos 0) = ap
+          (λ h. get_or hid.off h (pos 0)) (hands v l ∙ cond-true (inside (out v)) handle (get_or t.hand v 0) yes') in
           let new : weight_change (label_at t.label (out_of hand2 top2 v)) t.delta ≡ pos 0 =
           ap (λ x. weight_change (label_at t.label x) t.delta) (out_in v l yes') ∙ change_none b b_outside in
           let own' : get_or hid.off (get_or t.hand handle 0) (pos 0) ≡ get_or hid.off handle (pos 0) =
@@ -110,9 +105,8 @@ module _ (t : ForestTables) (hid : HiddenTables) (tied : AreTied t hid) (b handl
           change_none (out handle) (outside (out handle) handle_in) in
           omega (arith, ints, off_is, new, own', was, tied.numbers.moved handle low)
       by_test (inr off) =
-          let off_is : get_or hid.off (get_or hand2 v 0) (pos 0) ≡ get_or hid.off (get_or t.hand v 0) (pos 0) =
-          ap (λ h. get_or hid.off h (pos 0)) (hands v l ∙ cond-false (inside (out v)) handle (get_or t.hand v 0)
-          off) in
+          let off_is : get_or hid.off (get_or hand2 v 0) (pos 0) ≡ get_or hid.off (get_or t.hand v 0) (pos 0) = ap
+          (λ h. get_or hid.off h (pos 0)) (hands v l ∙ cond-false (inside (out v)) handle (get_or t.hand v 0) off) in
           let same : weight_change (label_at t.label (out_of hand2 top2 v)) t.delta
           ≡ weight_change (label_at t.label (out v)) t.delta =
           ap (λ x. weight_change (label_at t.label x) t.delta) (out_off v l off) in
@@ -140,8 +134,7 @@ module _ (t : ForestTables) (hid : HiddenTables) (tied : AreTied t hid) (b handl
         (z -ℤ tied.numbers.start)) (sym all_new) (moved_new v (subst (λ m. v < m) hand_size l));
     risen = (
       tied.numbers.risen.0,
-      subst (λ (z : ℤ). t.delta ≤ℤ (z -ℤ tied.numbers.start)) (sym all_new)
-          tied.numbers.risen.1,
+      subst (λ (z : ℤ). t.delta ≤ℤ (z -ℤ tied.numbers.start)) (sym all_new) tied.numbers.risen.1,
     );
     still = λ none. tied.numbers.still (root_is none);
   }
@@ -158,8 +151,7 @@ module _ (t : ForestTables) (hid : HiddenTables) (tied : AreTied t hid) (b handl
   }
     where
       named_off : (x : ℕ) → label_at t.label x ≢ Outside → {y : ℕ} → y ≡ x → inside y ≡ false
-      named_off x named {y} e =
-          elim (cases_Bool (inside y)) [
-            | inl yes' ↦ absurd (named (ap (label_at t.label) (sym e) ∙ outside y yes'))
-            | inr off ↦ off
-          ]
+      named_off x named {y} e = elim (cases_Bool (inside y)) [
+        | inl yes' ↦ absurd (named (ap (label_at t.label) (sym e) ∙ outside y yes'))
+        | inr off ↦ off
+      ]

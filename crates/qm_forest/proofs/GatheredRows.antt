@@ -39,10 +39,9 @@ pub record RowFacts (t : ForestTables) (hid : HiddenTables) (front many b big : 
       ≡ big
   pub held : (k v : ℕ) → k < many → v < length t.hand
       → climbs (up_at t.up) (length t.hand) (row_at t front k) v ≡ eqb (out_of t.hand t.top v) (row_at t front k)
-  pub row_list : (k : ℕ) → k < many
-      → IsListed (length t.hand) (λ i. get_or hid.following i 0) (get_or hid.first (row_at t front k) 0)
-      (get_or hid.last (row_at t front k) 0) (get_or t.rank (row_at t front k) 0)
-      (climbs (up_at t.up) (length t.hand) (row_at t front k))
+  pub row_list : (k : ℕ) → k < many → IsListed (length t.hand) (λ i. get_or hid.following i 0)
+      (get_or hid.first (row_at t front k) 0) (get_or hid.last (row_at t front k) 0)
+      (get_or t.rank (row_at t front k) 0) (climbs (up_at t.up) (length t.hand) (row_at t front k))
   pub row_used : (k : ℕ) → k < many → IsInUse (length t.hand) t.parts (row_at t front k)
   pub row_ended : (k y j : ℕ) → k < many → y < length t.up → IsInUse (length t.hand) t.parts y
       → suc j < get_or t.rank y 0
@@ -53,8 +52,7 @@ pub record RowFacts (t : ForestTables) (hid : HiddenTables) (front many b big : 
       → get_or hid.last (row_at t front i) 0 ≢ get_or hid.last (row_at t front j) 0
 
 module _ (t : ForestTables) (hid : HiddenTables) (tied : AreTied t hid) (front many b big : ℕ)
-    (row : IsRow (length t.up) t.after front many)
-    (tops : (k : ℕ) → k < many → (v : ℕ) × (v < length t.hand)
+    (row : IsRow (length t.up) t.after front many) (tops : (k : ℕ) → k < many → (v : ℕ) × (v < length t.hand)
     × (out_of t.hand t.top v ≡ walk (λ i. get_or t.after i 0) front k))
     (outside : (k : ℕ) → k < many → label_at t.label (walk (λ i. get_or t.after i 0) front k) ≡ Outside)
     (high : length t.hand ≤ b) (low : b < length t.up) (dead : get_or t.parts b 0 ≡ 0)
@@ -76,8 +74,7 @@ module _ (t : ForestTables) (hid : HiddenTables) (tied : AreTied t hid) (front m
 
   -- The new number lies on no way.
   never : (v i : ℕ) → v < n → walk (up_at t.up) v i ≢ b
-  never v i l e = by_use (reached_used n (length t.up) t.hand t.top t.up t.rank t.parts hid.leader hid.first hid.last
-      hid.following tied.nest v i b l e)
+  never v i l e = by_use (reached_used tied.nest v i l e)
     where
       by_use : IsInUse n t.parts b → ⊥
       by_use (inl lb) = omega (arith, lb, high)
@@ -102,9 +99,8 @@ module _ (t : ForestTables) (hid : HiddenTables) (tied : AreTied t hid) (front m
 
   -- What is in the row is the outermost blossom of a vertex.
   in_row_out : (x : ℕ) → inside x ≡ true → (v : ℕ) × (v < n) × (out v ≡ x)
-  in_row_out x yes' = let w : (k : ℕ) × (k < many) × (at k ≡ x) =
-      listed_place (λ i. get_or t.after i 0) front many x yes' in let v : (v : ℕ) × (v < n) × (out v ≡ at w.0) =
-      tops w.0 w.1 in (v.0, v.1, v.2 ∙ w.2)
+  in_row_out x yes' = let w : (k : ℕ) × (k < many) × (at k ≡ x) = listed_place (λ i. get_or t.after i 0) front many x
+      yes' in let v : (v : ℕ) × (v < n) × (out v ≡ at w.0) = tops w.0 w.1 in (v.0, v.1, v.2 ∙ w.2)
 
   row_top : (x : ℕ) → inside x ≡ true → up_at t.up x ≡ x
   row_top x yes' = let w : (v : ℕ) × (v < n) × (out v ≡ x) = in_row_out x yes' in ap (up_at t.up) (sym w.2)
@@ -128,13 +124,11 @@ module _ (t : ForestTables) (hid : HiddenTables) (tied : AreTied t hid) (front m
   big_out = in_row_out big big_in
 
   handle_low : handle < n
-  handle_low = subst (λ x. get_or hid.leader x 0 < n) big_out.2 (leader_low n (length t.up) t.hand t.top t.up t.rank
-      t.parts hid.leader hid.first hid.last hid.following tied.nest big_out.0 big_out.1)
+  handle_low = subst (λ x. get_or hid.leader x 0 < n) big_out.2 (leader_low tied.nest big_out.0 big_out.1)
 
   handle_out : out handle ≡ big
   handle_out = ap (λ x. out (get_or hid.leader x 0)) (sym big_out.2)
-      ∙ (leader_out n (length t.up) t.hand t.top t.up t.rank t.parts hid.leader hid.first hid.last hid.following
-      tied.nest big_out.0 big_out.1 ∙ big_out.2)
+      ∙ (leader_out tied.nest big_out.0 big_out.1 ∙ big_out.2)
 
   handle_top : handle < length t.top
   handle_top = subst (λ m. handle < m) (sym tied.sizes.top) handle_low
@@ -143,8 +137,7 @@ module _ (t : ForestTables) (hid : HiddenTables) (tied : AreTied t hid) (front m
   own_handle : (v : ℕ) → v < n → get_or t.hand v 0 ≡ handle → out v ≡ big
   own_handle v l e =
       let led : get_or t.hand v 0 ≡ get_or hid.leader (out v) 0 = tied.nest.led v l in
-      let same : out (get_or t.hand v 0) ≡ out v = ap out led ∙ leader_out n (length t.up) t.hand t.top t.up t.rank
-      t.parts hid.leader hid.first hid.last hid.following tied.nest v l in
+      let same : out (get_or t.hand v 0) ≡ out v = ap out led ∙ leader_out tied.nest v l in
       sym same ∙ (ap out e ∙ handle_out)
 
   held : (k v : ℕ) → k < many → v < n → climbs (up_at t.up) n (at k) v ≡ eqb (out v) (at k)
@@ -154,9 +147,8 @@ module _ (t : ForestTables) (hid : HiddenTables) (tied : AreTied t hid) (front m
       by_test : (u : ℕ) → u < n → out u ≡ at k → (climbs (up_at t.up) n (at k) v ≡ true)
           ⊎ (climbs (up_at t.up) n (at k) v ≡ false) → (out v ≡ at k) ⊎ (out v ≢ at k) → climbs (up_at t.up) n (at k) v
           ≡ eqb (out v) (at k)
-      by_test u lu e (inl yes') x =
-          yes' ∙ sym (eq-eqb (out v) (at k) (held_out n (length t.up) t.hand t.top t.up t.rank t.parts hid.leader
-          hid.first hid.last hid.following tied.nest u v lu lv (ap (λ y. climbs (up_at t.up) n y v) e ∙ yes') ∙ e))
+      by_test u lu e (inl yes') x = yes' ∙ sym (eq-eqb (out v) (at k)
+          (held_out tied.nest u v lu lv (ap (λ y. climbs (up_at t.up) n y v) e ∙ yes') ∙ e))
       by_test u lu e (inr off) (inr ne) = off ∙ sym (ne_eqb (out v) (at k) ne)
       by_test u lu e (inr off) (inl same) = absurd (clash off (past (tied.nest.climb.ends v lv ∙ same)))
         where
@@ -171,25 +163,21 @@ module _ (t : ForestTables) (hid : HiddenTables) (tied : AreTied t hid) (front m
       (get_or hid.last (at k) 0) (get_or t.rank (at k) 0) (climbs (up_at t.up) n (at k))
   row_list k l = let w : (v : ℕ) × (v < n) × (out v ≡ at k) = tops k l in
       subst (λ x. IsListed n (λ i. get_or hid.following i 0) (get_or hid.first x 0) (get_or hid.last x 0)
-      (get_or t.rank x 0) (climbs (up_at t.up) n x)) w.2 (list_of n (length t.up) t.hand t.top t.up t.rank t.parts
-      hid.leader hid.first hid.last hid.following tied.nest w.0 w.1)
+      (get_or t.rank x 0) (climbs (up_at t.up) n x)) w.2 (list_of tied.nest w.0 w.1)
 
   row_used : (k : ℕ) → k < many → IsInUse n t.parts (at k)
   row_used k l = let w : (v : ℕ) × (v < n) × (out v ≡ at k) = tops k l in
-      subst (IsInUse n t.parts) w.2 (out_used n (length t.up) t.hand t.top t.up t.rank t.parts hid.leader hid.first
-      hid.last hid.following tied.nest w.0 w.1)
+      subst (IsInUse n t.parts) w.2 (out_used tied.nest w.0 w.1)
 
   row_ended : (k y j : ℕ) → k < many → y < length t.up → IsInUse n t.parts y → suc j < get_or t.rank y 0
       → walk (λ i. get_or hid.following i 0) (get_or hid.first y 0) j ≢ get_or hid.last (at k) 0
   row_ended k y j l ly used lj e =
       let w : (v : ℕ) × (v < n) × (out v ≡ at k) = tops k l in
-      last_free n (length t.up) t.hand t.top t.up t.rank t.parts hid.leader hid.first hid.last hid.following tied.nest
-      w.0 y j w.1 ly used lj (e ∙ ap (λ x. get_or hid.last x 0) (sym w.2))
+      last_free tied.nest w.0 y j w.1 ly used lj (e ∙ ap (λ x. get_or hid.last x 0) (sym w.2))
 
   last_in : (k : ℕ) → k < many → (get_or hid.last (at k) 0 < n) × (out (get_or hid.last (at k) 0) ≡ at k)
   last_in k l = let w : (get_or hid.last (at k) 0 < n) × (climbs (up_at t.up) n (at k) (get_or hid.last (at k) 0)
-      ≡ true) = list_has_last n (λ i. get_or hid.following i 0) (get_or hid.first (at k) 0) (get_or hid.last (at k) 0)
-      (get_or t.rank (at k) 0) (climbs (up_at t.up) n (at k)) (row_list k l) in
+      ≡ true) = list_has_last (row_list k l) in
       (w.0, eqb-true (out (get_or hid.last (at k) 0)) (at k) (sym (held k (get_or hid.last (at k) 0) l w.0) ∙ w.1))
 
   lasts_differ : (i j : ℕ) → i < j → j < many → get_or hid.last (at i) 0 ≢ get_or hid.last (at j) 0
@@ -204,20 +192,17 @@ module _ (t : ForestTables) (hid : HiddenTables) (tied : AreTied t hid) (front m
     alone = alone;
     b_outside = b_outside;
     b_off = b_off;
-    at_in =
-        at_in;
+    at_in = at_in;
     in_row_out = in_row_out;
     row_top = row_top;
     row_outside = row_outside;
     big_in = big_in;
-    handle_low =
-        handle_low;
+    handle_low = handle_low;
     handle_top = handle_top;
     handle_out = handle_out;
     own_handle = own_handle;
     held = held;
-    row_list =
-        row_list;
+    row_list = row_list;
     row_used = row_used;
     row_ended = row_ended;
     last_in = last_in;

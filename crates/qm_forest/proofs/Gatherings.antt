@@ -1,5 +1,5 @@
 -- Gathering a ring, step by step: what each of its loops needs, and the tie and the forest after all of them.
-use Rattle.std.proofs.Common.{◌≡◌, ◌≢◌, ℕ, ◌+◌, ◌*◌, ◌<◌, ◌≤◌, ◌^◌, cond, eqb, List, length, get_or, count_by, is_some}
+use Rattle.std.proofs.Common.{◌≡◌, ◌≢◌, ℕ, ◌<◌, ◌≤◌, ◌^◌, cond, eqb, List, length, get_or}
 use Rattle.std.proofs.Common.{pos, ◌+ℤ◌, ◌⊎◌, Option, Some, None, refl, sym, ◌∙◌, ap, subst, inl, inr, arith}
 use Rattle.std.proofs.Math.ListN.{set}
 use Rattle.std.specs.Prelude.{unsigned_abs}
@@ -9,11 +9,11 @@ use Rattle.std.proofs.lemmas.List.{get_or_past}
 use Rattle.std.proofs.lemmas.Option.{slice_get_within}
 use Rattle.def_forest.specs.Forests.{Forest, walk, ring_sum}
 use Rattle.def_forest.specs.Steps.{weight_change}
-use Rattle.def_forest.specs.Tables.{GraphSize, ForestTables, forest_of, climbs, label_at, out_of, up_at, IsOutermostIn}
+use Rattle.def_forest.specs.Tables.{GraphSize, ForestTables, forest_of, label_at, out_of, IsOutermostIn}
 use Rattle.forest_laws.specs.Walks.{listed}
 use Rattle.qm_pool.specs.declared.pool.Node.{Node}
-use Rattle.qm_forest.specs.Gathers.{IsRow, HasListsOf, HasRenamedRow, AreJoinable, AreJoined, AreRings, AreEnclosed}
-use Rattle.qm_forest.specs.Gathers.{TookSet, IsFreeRing, IsGathered, root_around, live_sets}
+use Rattle.qm_forest.specs.Gathers.{HasListsOf, HasRenamedRow, AreJoinable, AreJoined, AreEnclosed}
+use Rattle.qm_forest.specs.Gathers.{TookSet, IsFreeRing, IsGathered, root_around}
 use Rattle.qm_forest.specs.Ties.{AreTied, HiddenTables, added, told}
 use Rattle.qm_forest.specs.Views.{tables_of, hidden_of}
 use Rattle.qm_forest.specs.declared.tables.Handles.{Handles}
@@ -37,14 +37,6 @@ module _ (h : Handles) (l : Lists) (r : Rings) (trail : Trail) (w : Weights) (e 
   hid = hidden_of h l trail pool
 
   -- There is a number that is free.
-  pub pool_room : 2 * live_sets t + 3 ≤ length t.hand → count_by is_some pool < length pool
-  pool_room room = omega (arith, room, tied.pool.counted, tied.pool.half)
-
-  pub pool_few : length t.hand + length pool ≤ 2 ^ 26
-  pool_few = omega (arith, tied.pool.room, tied.sizes.few)
-
-  pub are_rings : AreRings r
-  are_rings = record { after = tied.sizes.after; head = tied.sizes.head; parts = tied.sizes.parts }
 
   off_small : (v : ℕ) → v < length h.hand.items → unsigned_abs (get_or h.off.items (get_or h.hand.items v 0) (pos 0))
       ≤ 2 ^ 97
@@ -55,9 +47,9 @@ module _ (h : Handles) (l : Lists) (r : Rings) (trail : Trail) (w : Weights) (e 
         arith,
         ints,
         is,
-        added_small t hid tied v lv,
+        added_small tied v lv,
         change_small (label_at e.label.items (out_of h.hand.items h.top.items v)) w.delta,
-        delta_small t hid tied,
+        delta_small tied,
       ))
 
   pub q_small : (v : ℕ) → unsigned_abs (get_or h.q.items v (pos 0)) ≤ 2 ^ 97
@@ -67,19 +59,16 @@ module _ (h : Handles) (l : Lists) (r : Rings) (trail : Trail) (w : Weights) (e 
           ≤ 2 ^ 97
       by_size (inl lv) = (let is : told h.q.items h.hand.items h.top.items h.off.items e.label.items w.delta v
           ≡ get_or h.q.items v (pos 0) +ℤ added h.hand.items h.top.items h.off.items e.label.items w.delta v = refl in
-          omega (arith, ints, is, told_small t hid tied v lv, added_small t hid tied v lv))
+          omega (arith, ints, is, told_small tied v lv, added_small tied v lv))
       by_size (inr past) = (let z : get_or h.q.items v (pos 0) ≡ pos 0 =
           get_or_past h.q.items v (pos 0) (subst (λ m. m ≤ v) (sym tied.sizes.q) past) in omega (arith, ints, z))
 
-  module _ (front many : ℕ) (ring : IsFreeRing (tables_of h l r trail w e room) front many) where
+  module _ {front many : ℕ} (ring : IsFreeRing (tables_of h l r trail w e room) front many) where
     abbrev at : ℕ → ℕ
     at k = walk (λ i. get_or r.after.items i 0) front k
 
-    pub ring_row : IsRow (length r.after.items) r.after.items front many
-    ring_row = subst (λ m. IsRow m r.after.items front many) (sym tied.sizes.after) ring.row
-
     pub root_low : (x : ℕ) → e.root ≡ Some x → x < length r.up.items
-    root_low x is = outermost_low t hid tied x (ring.root x is)
+    root_low x is = outermost_low tied x (ring.root x is)
 
     -- A free number and a blossom of the ring, as far as one is needed to speak of the ring.
     module _ (b : ℕ) (high : length h.hand.items ≤ b) (low : b < length r.up.items) (dead : get_or r.parts.items b 0
@@ -98,14 +87,11 @@ module _ (h : Handles) (l : Lists) (r : Rings) (trail : Trail) (w : Weights) (e 
           by_top : IsOutermostIn t (at k) → (get_or l.leader.items (at k) 0 < length h.hand.items)
               × (get_or h.hand.items (get_or l.leader.items (at k) 0) 0 ≡ get_or l.leader.items (at k) 0)
           by_top v =
-              let lv : get_or l.leader.items (at k) 0 < length h.hand.items =
-              subst (λ x. get_or l.leader.items x 0 < length h.hand.items) v.2
-              (leader_low (length t.hand) (length t.up) t.hand t.top t.up t.rank t.parts hid.leader hid.first
-              hid.last hid.following tied.nest v.0 v.1) in
+              let lv : get_or l.leader.items (at k) 0 < length h.hand.items = subst
+              (λ x. get_or l.leader.items x 0 < length h.hand.items) v.2 (leader_low tied.nest v.0 v.1) in
               let own : out_of h.hand.items h.top.items (get_or l.leader.items (at k) 0) ≡ at k =
               ap (λ x. out_of h.hand.items h.top.items (get_or l.leader.items x 0)) (sym v.2)
-              ∙ (leader_out (length t.hand) (length t.up) t.hand t.top t.up t.rank t.parts hid.leader hid.first
-              hid.last hid.following tied.nest v.0 v.1 ∙ v.2) in
+              ∙ (leader_out tied.nest v.0 v.1 ∙ v.2) in
               (lv, tied.nest.led (get_or l.leader.items (at k) 0) lv ∙ ap (λ x. get_or l.leader.items x 0) own)
 
       pub lists_of_row : HasListsOf h l r.after.items front many
@@ -116,9 +102,7 @@ module _ (h : Handles) (l : Lists) (r : Rings) (trail : Trail) (w : Weights) (e 
           q = tied.sizes.q;
           following = tied.sizes.following;
           few = omega (arith, tied.sizes.few, tied.sizes.vertices);
-          many = list_few (length h.hand.items) (λ i. get_or l.following.items i 0) (get_or l.first.items (at k) 0)
-              (get_or l.last.items (at k) 0) (get_or l.rank.items (at k) 0)
-              (climbs (up_at r.up.items) (length h.hand.items) (at k)) (facts.row_list k lk);
+          many = list_few (facts.row_list k lk);
           low = (facts.row_list k lk).low;
           distinct = (facts.row_list k lk).distinct;
         };
@@ -140,20 +124,17 @@ module _ (h : Handles) (l : Lists) (r : Rings) (trail : Trail) (w : Weights) (e 
         last = tied.sizes.last ∙ sym tied.sizes.after;
         rank = tied.sizes.rank ∙ sym tied.sizes.after;
         ends = λ k lk. subst (λ m. get_or l.last.items (at k) 0 < m) (sym tied.sizes.following) (facts.last_in k lk).0;
-        few = (let total : ring_sum (λ i. get_or r.after.items i 0) (λ x. get_or l.rank.items x 0) front many
-            ≤ length h.hand.items = row_few (length h.hand.items) (λ i. get_or l.following.items i 0)
+        few = (let total : ring_sum (λ i. get_or r.after.items i 0) (λ x. get_or l.rank.items x 0) front many ≤ length
+            h.hand.items = row_few (length h.hand.items) (λ i. get_or l.following.items i 0)
             (λ i. get_or r.after.items i 0) (λ x. get_or l.first.items x 0) (λ x. get_or l.last.items x 0)
-            (λ x. get_or l.rank.items x 0) front many
-            (out_of h.hand.items h.top.items) ring.row.distinct
-            (λ k lk. list_renamed (length h.hand.items) (λ i. get_or l.following.items i 0)
-            (get_or l.first.items (at k) 0) (get_or l.last.items (at k) 0) (get_or l.rank.items (at k) 0)
-            (climbs (up_at r.up.items) (length h.hand.items) (at k)) (λ v. eqb (out_of h.hand.items h.top.items v)
-            (at k)) (facts.row_list k lk) (λ v lv. facts.held k v lk lv)) in
+            (λ x. get_or l.rank.items x 0) front many (out_of h.hand.items h.top.items) ring.row.distinct
+            (λ k lk. list_renamed (λ v. eqb (out_of h.hand.items h.top.items v) (at k)) (facts.row_list k lk)
+            (λ v lv. facts.held k v lk lv)) in
             omega (arith, total, tied.sizes.few, tied.sizes.vertices));
       }
 
     -- The number that is taken.
-    module _ (pool2 : List (Option Node)) (b : ℕ) (took : TookSet pool pool2 (length h.hand.items) b) where
+    module _ {pool2 : List (Option Node)} {b : ℕ} (took : TookSet pool pool2 (length h.hand.items) b) where
       pub set_high : length h.hand.items ≤ b
       set_high = omega (arith, took.is)
 
@@ -174,7 +155,7 @@ module _ (h : Handles) (l : Lists) (r : Rings) (trail : Trail) (w : Weights) (e 
         pub big_handle : get_or l.leader.items big 0 < length h.top.items
         big_handle = subst (λ m. get_or l.leader.items big 0 < m) (sym tied.sizes.top) big_facts.handle_low
 
-        module _ (h2 : Handles) (l2 : Lists) (r2 : Rings) (leader : ℕ) (root2 : Option ℕ)
+        module _ {h2 : Handles} {l2 : Lists} {r2 : Rings} {leader : ℕ} {root2 : Option ℕ}
             (renamed : HasRenamedRow h h2 l r.after.items front many big)
             (joined : AreJoined l l2 r.after.items front many b) (enclosed : AreEnclosed r r2 front many b)
             (leader_is : leader ≡ get_or l.leader.items big 0) (root_is : root2
@@ -193,89 +174,71 @@ module _ (h : Handles) (l : Lists) (r : Rings) (trail : Trail) (w : Weights) (e 
               by_root (Some x) n = absurd (cc n)
 
           abbrev after_ring : ForestTables
-          after_ring = gathered t hid tied front many b big ring.row ring.tops ring.outside set_high set_low set_dead
-              (ring.weightless b set_high set_dead) on ring.two h2.hand.items (set h2.top.items leader b) r2.up.items
-              r2.head.items r2.parts.items l2.rank.items root2 h2.q.items (set l2.leader.items b leader) l2.first.items
-              l2.last.items l2.following.items pool2 took.id took.node
-              renamed.hand renamed.hands renamed.q renamed.qs top_new enclosed.up enclosed.size enclosed.head
-              enclosed.parts joined.rank leader_new joined.first joined.last joined.following joined.size took.taken
-              took.is took.free root_kept
+          after_ring = gathered tied b big ring.row ring.tops ring.outside set_high set_low set_dead
+              (ring.weightless b set_high set_dead) on ring.two h2.hand.items r2.up.items root2 h2.q.items
+              l2.following.items took.id took.node renamed.hand renamed.hands renamed.q renamed.qs top_new enclosed.up
+              enclosed.size enclosed.head enclosed.parts joined.rank leader_new joined.first joined.last
+              joined.following joined.size took.taken took.is took.free root_kept
 
           abbrev hidden_ring : HiddenTables
-          hidden_ring = gathered_hidden t hid tied front many b big ring.row ring.tops ring.outside set_high set_low
-              set_dead (ring.weightless b set_high set_dead) on ring.two h2.hand.items (set h2.top.items leader b)
-              r2.up.items r2.head.items r2.parts.items l2.rank.items root2 h2.q.items (set l2.leader.items b leader)
-              l2.first.items l2.last.items l2.following.items pool2 took.id took.node
-              renamed.hand renamed.hands renamed.q renamed.qs top_new enclosed.up enclosed.size enclosed.head
-              enclosed.parts joined.rank leader_new joined.first joined.last joined.following joined.size took.taken
-              took.is took.free root_kept
+          hidden_ring = gathered_hidden tied b big ring.row ring.tops ring.outside set_high set_low set_dead
+              (ring.weightless b set_high set_dead) on ring.two h2.hand.items r2.up.items root2 h2.q.items
+              l2.following.items took.id took.node renamed.hand renamed.hands renamed.q renamed.qs top_new enclosed.up
+              enclosed.size enclosed.head enclosed.parts joined.rank leader_new joined.first joined.last
+              joined.following joined.size took.taken took.is took.free root_kept
 
           -- The tie after the loops.
           pub tied_after : AreTied (record after_ring { after = r2.after.items; joint = r2.joint.items })
               (record hidden_ring { off = h2.off.items })
-          tied_after =
-              subst (λ o. AreTied (record after_ring { after = o.items; joint = r2.joint.items })
+          tied_after = subst (λ o. AreTied (record after_ring { after = o.items; joint = r2.joint.items })
               (record hidden_ring { off = h2.off.items })) (sym enclosed.after)
               (subst (λ o. AreTied (record after_ring { joint = o.items }) (record hidden_ring { off = h2.off.items }))
-              (sym enclosed.joint)
-              (subst (λ o. AreTied after_ring (record hidden_ring { off = o.items })) (sym renamed.off)
-              (tied_gathered t hid tied front many b big ring.row ring.tops ring.outside set_high set_low set_dead
-              (ring.weightless b set_high set_dead) on ring.two h2.hand.items (set h2.top.items leader b)
-              r2.up.items r2.head.items r2.parts.items l2.rank.items root2 h2.q.items
-              (set l2.leader.items b leader) l2.first.items l2.last.items l2.following.items pool2 took.id
-              took.node
-              renamed.hand renamed.hands renamed.q renamed.qs top_new enclosed.up enclosed.size enclosed.head
-              enclosed.parts joined.rank leader_new joined.first joined.last joined.following joined.size took.taken
-              took.is took.free root_kept)))
+              (sym enclosed.joint) (subst (λ o. AreTied after_ring (record hidden_ring { off = o.items }))
+              (sym renamed.off) (tied_gathered tied b big ring.row ring.tops ring.outside set_high set_low set_dead
+              (ring.weightless b set_high set_dead) on ring.two h2.hand.items r2.up.items root2 h2.q.items
+              l2.following.items took.id took.node renamed.hand renamed.hands renamed.q renamed.qs top_new enclosed.up
+              enclosed.size enclosed.head enclosed.parts joined.rank leader_new joined.first joined.last
+              joined.following joined.size took.taken took.is took.free root_kept)))
 
           -- And what the forest sees.
           pub seen_after : IsGathered (length h.hand.items) (forest_of t)
               (forest_of (record after_ring { after = r2.after.items; joint = r2.joint.items }))
               (listed (λ i. get_or r.after.items i 0) front many) front many b
-          seen_after =
-              subst (λ o. IsGathered (length h.hand.items) (forest_of t)
+          seen_after = subst (λ o. IsGathered (length h.hand.items) (forest_of t)
               (forest_of (record after_ring { after = o.items; joint = r2.joint.items }))
               (listed (λ i. get_or r.after.items i 0) front many) front many b) (sym enclosed.after)
               (subst (λ o. IsGathered (length h.hand.items) (forest_of t)
-              (forest_of (record after_ring { joint = o.items })) (listed (λ i. get_or r.after.items i 0) front
-              many) front many b) (sym enclosed.joint)
-              (gathered_is t hid tied front many b big ring.row ring.tops ring.outside set_high set_low set_dead
-              (ring.weightless b set_high set_dead) on ring.two h2.hand.items (set h2.top.items leader b)
-              r2.up.items r2.head.items r2.parts.items l2.rank.items root2 h2.q.items
-              (set l2.leader.items b leader) l2.first.items l2.last.items l2.following.items pool2 took.id
-              took.node
-              renamed.hand renamed.hands renamed.q renamed.qs top_new enclosed.up enclosed.size enclosed.head
-              enclosed.parts joined.rank leader_new joined.first joined.last joined.following joined.size took.taken
-              took.is took.free root_kept))
+              (forest_of (record after_ring { joint = o.items })) (listed (λ i. get_or r.after.items i 0) front many)
+              front many b) (sym enclosed.joint) (gathered_is tied b big ring.row ring.tops ring.outside set_high
+              set_low set_dead (ring.weightless b set_high set_dead) on ring.two h2.hand.items r2.up.items root2
+              h2.q.items l2.following.items took.id took.node renamed.hand renamed.hands renamed.q renamed.qs top_new
+              enclosed.up enclosed.size enclosed.head enclosed.parts joined.rank leader_new joined.first joined.last
+              joined.following joined.size took.taken took.is took.free root_kept))
 
           root_ne : (x : ℕ) → e.root ≡ Some x → x ≢ b
           root_ne x is at_b = (let v : IsOutermostIn t x = ring.root x is in big_facts.no_out v.0 v.1 (v.2 ∙ at_b))
 
           pub root_after : (x : ℕ) → e.root ≡ Some x
               → root2 ≡ Some (cond (listed (λ i. get_or r.after.items i 0) front many x) b x)
-          root_after x is = root_is ∙ (ap (root_around r2.up.items b) is ∙ ap (λ (y : ℕ). Some y)
-              (root_new t hid tied front many b big ring.row ring.tops ring.outside set_high set_low set_dead
-              (ring.weightless b set_high set_dead) on ring.two h2.hand.items (set h2.top.items leader b)
-              r2.up.items r2.head.items r2.parts.items l2.rank.items root2 h2.q.items
-              (set l2.leader.items b leader) l2.first.items l2.last.items l2.following.items pool2 took.id
-              took.node
-              renamed.hand renamed.hands renamed.q renamed.qs top_new enclosed.up enclosed.size enclosed.head
-              enclosed.parts joined.rank leader_new joined.first joined.last joined.following joined.size took.taken
-              took.is took.free root_kept x (root_low x is) (root_ne x is)))
+          root_after x is = root_is ∙ (ap (root_around r2.up.items b) is
+              ∙ ap (λ (y : ℕ). Some y) (root_new tied b big ring.row ring.tops ring.outside set_high set_low set_dead
+              (ring.weightless b set_high set_dead) on ring.two h2.hand.items r2.up.items root2 h2.q.items
+              l2.following.items took.id took.node renamed.hand renamed.hands renamed.q renamed.qs top_new enclosed.up
+              enclosed.size enclosed.head enclosed.parts joined.rank leader_new joined.first joined.last
+              joined.following joined.size took.taken took.is took.free root_kept x (root_low x is) (root_ne x is)))
 
 -- The number of vertices, told otherwise; and the row, read from a slice.
-pub took_as : (pool pool2 : List (Option Node)) (m n b : ℕ) → TookSet pool pool2 m b → m ≡ n → TookSet pool pool2 n b
-took_as pool pool2 m n b took e = subst (λ k. TookSet pool pool2 k b) e took
+pub took_as : {pool pool2 : List (Option Node)} {m : ℕ} (n : ℕ) {b : ℕ} → TookSet pool pool2 m b → m ≡ n
+    → TookSet pool pool2 n b
+took_as {pool} {pool2} n {b} took e = subst (λ k. TookSet pool pool2 k b) e took
 
-pub on_as : (xs ys : List ℕ) (front many big : ℕ) → xs ≡ ys
-    → ((k : ℕ) × (k < many) × (walk (λ i. get_or xs i 0) front k ≡ big)) → (k : ℕ) × (k < many)
-    × (walk (λ i. get_or ys i 0) front k ≡ big)
-on_as xs ys front many big e w = subst (λ zs. (k : ℕ) × (k < many) × (walk (λ i. get_or zs i 0) front k ≡ big)) e w
+pub on_as : {xs ys : List ℕ} (front many big : ℕ) → xs ≡ ys → ((k : ℕ) × (k < many)
+    × (walk (λ i. get_or xs i 0) front k ≡ big)) → (k : ℕ) × (k < many) × (walk (λ i. get_or ys i 0) front k ≡ big)
+on_as front many big e w = subst (λ zs. (k : ℕ) × (k < many) × (walk (λ i. get_or zs i 0) front k ≡ big)) e w
 
 -- What the forest sees, said of the tables as contracts see them.
-pub gathered_as : (t u : ForestTables) (new : Forest) (front many b : ℕ) → t ≡ u
+pub gathered_as : {t u : ForestTables} {new : Forest} {front many b : ℕ} → t ≡ u
     → IsGathered (length t.hand) (forest_of t) new (listed (λ i. get_or t.after i 0) front many) front many b
     → IsGathered (length u.hand) (forest_of u) new (listed (λ i. get_or u.after i 0) front many) front many b
-gathered_as t u new front many b e is =
-    subst (λ (x : ForestTables). IsGathered (length x.hand) (forest_of x) new
-    (listed (λ i. get_or x.after i 0) front many) front many b) e is
+gathered_as {new} {front} {many} {b} e is = subst (λ (x : ForestTables). IsGathered (length x.hand) (forest_of x)
+    new (listed (λ i. get_or x.after i 0) front many) front many b) e is

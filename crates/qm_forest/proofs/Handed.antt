@@ -12,8 +12,8 @@ use Rattle.qm_forest.proofs.Ends.{met, perfect}
 use Rattle.qm_forest.proofs.Outlined.{dual_is, few_is, says_yes}
 
 -- What is in an option.
-pub in_some : {X : Type 0} (o : Option X) (x y : X) → o ≡ Some x → o ≡ Some y → x ≡ y
-in_some {X = X} o x y e f = inside (sym e ∙ f)
+pub in_some : {X : Type 0} {o : Option X} (x y : X) → o ≡ Some x → o ≡ Some y → x ≡ y
+in_some {X = X} x y e f = inside (sym e ∙ f)
   where
     unpack : Option X → X
     unpack (Some z) = z
@@ -22,31 +22,31 @@ in_some {X = X} o x y e f = inside (sym e ∙ f)
     inside : ◌≡◌ {A = Option X} (Some x) (Some y) → x ≡ y
     inside s = ap unpack s
 
-module _ (t u : ForestTables) (room : Option GraphSize) (same : u ≡ record t { room = room }) where
+module _ (t : ForestTables) {u : ForestTables} (room : Option GraphSize) (same : u ≡ record t { room = room }) where
   -- It stays sound.
-  pub sound_still : (g : WeightedGraph) → IsValidFor g t → IsSoundFor g u
-  sound_still g valid = subst (λ (w : ForestTables). IsSoundFor g w) (sym same)
+  pub sound_still : {g : WeightedGraph} → IsValidFor g t → IsSoundFor g u
+  sound_still {g} valid = subst (λ (w : ForestTables). IsSoundFor g w) (sym same)
       (record { vertices = valid.vertices; darts = valid.darts; ends = valid.ends; valid = valid.valid })
 
-  module _ (known : IsLaminar u) (sets : List (ℕ × ℕ)) (d : DualLists) (outline : IsOutline u sets d) where
+  module _ (known : IsLaminar u) {sets : List (ℕ × ℕ)} {d : DualLists} (outline : IsOutline u sets d) where
     pub yes_handed : (g : WeightedGraph) → IsSmallGraph g → IsValidFor g t → SaysYes g d
-    yes_handed g small valid = says_yes u known sets d outline g small (sound_still g valid)
+    yes_handed g small valid = says_yes u known sets d outline small (sound_still valid)
 
-    pub dual_handed : (g : WeightedGraph) → IsSmallGraph g → IsValidFor g t → IsDualOf (length t.hand) (forest_of t) d
-    dual_handed g small valid = subst (λ (w : ForestTables). IsDualOf (length w.hand) (forest_of w) d) same
-        (dual_is u known sets d outline g small (sound_still g valid))
+    pub dual_handed : {g : WeightedGraph} → IsSmallGraph g → IsValidFor g t → IsDualOf (length t.hand) (forest_of t) d
+    dual_handed small valid = subst (λ (w : ForestTables). IsDualOf (length w.hand) (forest_of w) d) same
+        (dual_is u known sets d outline small (sound_still valid))
 
     pub few_handed : 2 * length d.z ≤ length t.hand
     few_handed = subst (λ (w : ForestTables). 2 * length d.z ≤ length w.hand) same (few_is u known sets d outline)
 
-    pub perfect_handed : (round : Round) → IsChosen u round → (list : List ℕ)
+    pub perfect_handed : {round : Round} → IsChosen u round → {list : List ℕ}
         → AreMarked round.marks.items (length round.marks.items) list → (g : WeightedGraph) → IsSmallGraph g
         → IsValidFor g t → ((v : ℕ) → v < g.n → (forest_of t).mate ((forest_of t).out v) ≢ None)
         → IsPerfect g list × (dual_sum d ≡ pos 2 *ℤ matching_cost g list)
-    perfect_handed round chosen list marked g small valid matched = (
-      perfect u known g small (sound_still g valid) round.marks.items chosen.room.marks list marked round.left_out.items
+    perfect_handed {round} chosen {list} marked g small valid matched = (
+      perfect u known g small (sound_still valid) round.marks.items chosen.room.marks list marked round.left_out.items
           chosen.done chosen.ended still,
-      (dual_is u known sets d outline g small (sound_still g valid)).sum ∙ met u known g small (sound_still g valid)
+      (dual_is u known sets d outline small (sound_still valid)).sum ∙ met u known g small (sound_still valid)
           round.marks.items chosen.room.marks list marked round.left_out.items chosen.done chosen.ended still,
     )
       where

@@ -25,9 +25,8 @@ writes_keep f place a (suc k) = by_place (cases_eq a (place k)) (writes_keep f p
     by_place (inr ne) was = set_there (writes f place (λ j. f a) k) (place k) a (f a) ne ∙ was
 
 module _ (h0 h1 : Handles) (lists : Lists) (after : List ℕ) (front many set' k x : ℕ)
-    (has : HasPartLists h0 lists after front many set') (l : k < many)
-    (x_is : x ≡ walk (λ i. get_or after i 0) front k) (done : HasHandedRow h0 h1 lists after front k set')
-    (row : IsRow (length after) after front many) where
+    (has : HasPartLists h0 lists after front many set') (l : k < many) (x_is : x ≡ walk (λ i. get_or after i 0) front k)
+    (done : HasHandedRow h0 h1 lists after front k set') (row : IsRow (length after) after front many) where
   abbrev at : ℕ → ℕ
   at i = walk (λ i. get_or after i 0) front i
 
@@ -69,18 +68,16 @@ module _ (h0 h1 : Handles) (lists : Lists) (after : List ℕ) (front many set' k
   part_small v = subst (λ (z : ℤ). unsigned_abs z ≤ 2 ^ 100) (sym (done.q v)) (has.small v)
 
   -- One part more.
-  pub row_more : (h2 : Handles) (j : ℕ) → j ≡ suc k → HasHandedOver h1 h2 lists x set'
+  pub row_more : {h2 : Handles} {j : ℕ} → j ≡ suc k → HasHandedOver h1 h2 lists x set'
       → HasHandedRow h0 h2 lists after front j set'
-  row_more h2 j j_is one' = subst (λ m. HasHandedRow h0 h2 lists after front m set') (sym j_is) (record {
+  row_more {h2} {j} j_is one' = subst (λ m. HasHandedRow h0 h2 lists after front m set') (sym j_is) (record {
     own = λ i v li on. own i v li on (cases_eq i k);
-    other = λ v off. one.hand v
-        ∙ (cond-false (lists_at lists (at k) v) (get_or lists.leader.items (at k) 0) (get_or h1.hand.items v 0)
-        (off k (omega arith)) ∙ done.other v (λ i li. off i (omega (arith, li))));
+    other = λ v off. one.hand v ∙ (cond-false (lists_at lists (at k) v) (get_or lists.leader.items (at k) 0)
+        (get_or h1.hand.items v 0) (off k (omega arith)) ∙ done.other v (λ i li. off i (omega (arith, li))));
     q = λ v. one.q v ∙ done.q v;
     hands = one.hands ∙ done.hands;
     qs = one.qs ∙ done.qs;
-    top = ap (λ xs i. get_or xs i 0) one.top
-        ∙ (entry_set h1.top.items (get_or lists.leader.items (at k) 0) (at k) 0
+    top = ap (λ xs i. get_or xs i 0) one.top ∙ (entry_set h1.top.items (get_or lists.leader.items (at k) 0) (at k) 0
         (subst (λ n. get_or lists.leader.items (at k) 0 < n) (sym done.tops) (has.tops k l))
         ∙ ap (λ (f : ℕ → ℕ). set_at f (get_or lists.leader.items (at k) 0) (at k)) done.top);
     tops = ap length one.top ∙ (length-set h1.top.items (get_or lists.leader.items (at k) 0) (at k) ∙ done.tops);
@@ -90,8 +87,7 @@ module _ (h0 h1 : Handles) (lists : Lists) (after : List ℕ) (front many set' k
         ∙ (ap (λ (z : ℤ). set_at (λ i. get_or h1.off.items i (pos 0)) (get_or lists.leader.items (at k) 0) z) set_off
         ∙ ap (λ (f : ℕ → ℤ). set_at f (get_or lists.leader.items (at k) 0)
         (get_or h0.off.items (get_or lists.leader.items set' 0) (pos 0))) done.off));
-    offs = ap length one.off
-        ∙ (length-set h1.off.items (get_or lists.leader.items (at k) 0)
+    offs = ap length one.off ∙ (length-set h1.off.items (get_or lists.leader.items (at k) 0)
         (get_or h1.off.items (get_or lists.leader.items set' 0) (pos 0)) ∙ done.offs);
   })
     where
@@ -101,8 +97,7 @@ module _ (h0 h1 : Handles) (lists : Lists) (after : List ℕ) (front many set' k
       read : List ℤ → ℕ → ℤ
       read xs i = get_or xs i (pos 0)
 
-      off_set : read h2.off.items
-          ≡ read (set h1.off.items (get_or lists.leader.items (at k) 0)
+      off_set : read h2.off.items ≡ read (set h1.off.items (get_or lists.leader.items (at k) 0)
           (get_or h1.off.items (get_or lists.leader.items set' 0) (pos 0)))
       off_set = ap read one.off
 
@@ -114,12 +109,10 @@ module _ (h0 h1 : Handles) (lists : Lists) (after : List ℕ) (front many set' k
 
       own : (i v : ℕ) → i < suc k → lists_at lists (at i) v ≡ true → (i ≡ k) ⊎ (i ≢ k) → get_or h2.hand.items v 0
           ≡ get_or lists.leader.items (at i) 0
-      own i v li on (inl e) =
-          one.hand v ∙ (cond-true (lists_at lists (at k) v) (get_or lists.leader.items (at k) 0)
+      own i v li on (inl e) = one.hand v ∙ (cond-true (lists_at lists (at k) v) (get_or lists.leader.items (at k) 0)
           (get_or h1.hand.items v 0) (subst (λ j. lists_at lists (at j) v ≡ true) e on)
           ∙ ap (λ j. get_or lists.leader.items (at j) 0) (sym e))
-      own i v li on (inr ne) =
-          one.hand v ∙ (cond-false (lists_at lists (at k) v) (get_or lists.leader.items (at k) 0)
+      own i v li on (inr ne) = one.hand v ∙ (cond-false (lists_at lists (at k) v) (get_or lists.leader.items (at k) 0)
           (get_or h1.hand.items v 0) (off (cases_Bool (lists_at lists (at k) v)))
           ∙ done.own i v (omega (arith, li, ne)) on)
         where

@@ -11,7 +11,7 @@ use Rattle.def_forest.specs.Valid.{IsValid, IsTree}
 use Rattle.def_forest.specs.Ways.{dart_or}
 use Rattle.def_forest.specs.declared.kinds.Label.TheVariants.{Outside}
 use Rattle.forest_laws.specs.Climbing.{rise_of, above_of, level_of, way_of, IsClimbing}
-use Rattle.forest_laws.proofs.Facts.{far_low, tree_of}
+use Rattle.forest_laws.proofs.Facts.{tree_of}
 use Rattle.forest_laws.proofs.Graphs.{are_darts}
 use Rattle.forest_laws.proofs.Forks.{can_climb, climb_on}
 use Rattle.forest_laws.proofs.Levels.{level_some, level_zero, on_way, step_up, at_root}
@@ -21,11 +21,11 @@ use Rattle.qm_forest.specs.Rings.{AreOnBoth, HasClimbed}
 
 module _ (g : WeightedGraph) (is : IsSmallGraph g) (s : ForestTables) (valid : IsValidFor g s) where
   are : AreDarts (darts_of g)
-  are = are_darts g is.lawful
+  are = are_darts is.lawful
 
   module _ (b : ℕ) (named : (forest_of s).label b ≢ Outside) where
     pub the_tree : (r : ℕ) × (s.root ≡ Some r) × IsTree (darts_of g) (forest_of s) r
-    the_tree = tree_of (darts_of g) are (forest_of s) s.root valid.valid b named
+    the_tree = tree_of are valid.valid b named
 
     pub rooted_here : IsValid (darts_of g) (forest_of s) (Some the_tree.0)
     rooted_here = subst (λ (o : Option ℕ). IsValid (darts_of g) (forest_of s) o) the_tree.1 valid.valid
@@ -37,34 +37,31 @@ module _ (g : WeightedGraph) (is : IsSmallGraph g) (s : ForestTables) (valid : I
 
     -- The dart up is one of the graph, and ends at a vertex.
     pub rise_low : (d : ℕ) → rise_of (forest_of s) b ≡ Some d → d < 2 * length g.edges
-    rise_low d e = (step_up (darts_of g) are (forest_of s) the_tree.0 rooted_here the_tree.2 b d named e).tight.low
-
-    pub rise_ends : (d : ℕ) → rise_of (forest_of s) b ≡ Some d → far (darts_of g) d < length s.hand
-    rise_ends d e = subst (λ n. far (darts_of g) d < n) (sym valid.vertices) (far_low (darts_of g) are d (rise_low d e))
+    rise_low d e = (step_up are rooted_here the_tree.2 b d named e).tight.low
 
     pub rise_named : (d : ℕ) → rise_of (forest_of s) b ≡ Some d
         → (forest_of s).label (above_of (darts_of g) (forest_of s) b) ≢ Outside
-    rise_named d e = (step_up (darts_of g) are (forest_of s) the_tree.0 rooted_here the_tree.2 b d named e).named
+    rise_named d e = (step_up are rooted_here the_tree.2 b d named e).named
 
     pub rise_level : (d : ℕ) → rise_of (forest_of s) b ≡ Some d → level_of (darts_of g) (forest_of s) b
         ≡ suc (level_of (darts_of g) (forest_of s) (above_of (darts_of g) (forest_of s) b))
-    rise_level d e = (step_up (darts_of g) are (forest_of s) the_tree.0 rooted_here the_tree.2 b d named e).lower
+    rise_level d e = (step_up are rooted_here the_tree.2 b d named e).lower
 
     pub root_level : rise_of (forest_of s) b ≡ None → level_of (darts_of g) (forest_of s) b ≡ 0
-    root_level e = (at_root (darts_of g) are (forest_of s) the_tree.0 rooted_here the_tree.2 b named e).1
+    root_level e = (at_root are rooted_here the_tree.2 b named e).1
 
     pub rise_some : 1 ≤ level_of (darts_of g) (forest_of s) b → (d : ℕ) × (rise_of (forest_of s) b ≡ Some d)
-    rise_some l = level_some (darts_of g) are (forest_of s) the_tree.0 rooted_here the_tree.2 b named l
+    rise_some l = level_some are rooted_here the_tree.2 b named l
 
     -- Places on the way from it.
     pub way_named : (i : ℕ) → i ≤ level_of (darts_of g) (forest_of s) b
         → (forest_of s).label (way_of (darts_of g) (forest_of s) b i) ≢ Outside
-    way_named i l = (on_way (darts_of g) are (forest_of s) the_tree.0 rooted_here the_tree.2 b i named l).0
+    way_named i l = (on_way are rooted_here the_tree.2 b i named l).0
 
     pub way_level : (i : ℕ) → i ≤ level_of (darts_of g) (forest_of s) b
         → level_of (darts_of g) (forest_of s) (way_of (darts_of g) (forest_of s) b i) + i
         ≡ level_of (darts_of g) (forest_of s) b
-    way_level i l = (on_way (darts_of g) are (forest_of s) the_tree.0 rooted_here the_tree.2 b i named l).1
+    way_level i l = (on_way are rooted_here the_tree.2 b i named l).1
 
   module _ (a : ℕ) (named : (forest_of s).label a ≢ Outside) (i : ℕ)
       (l : i < level_of (darts_of g) (forest_of s) a) where
@@ -90,14 +87,10 @@ module _ (g : WeightedGraph) (is : IsSmallGraph g) (s : ForestTables) (valid : I
     place_dart = subst (λ x. x < 2 * length g.edges) (sym (ap dart_or place_rise.1))
         (rise_low place place_named place_rise.0 place_rise.1)
 
-    pub place_end : far (darts_of g) (dart_or (rise_of (forest_of s) place)) < length s.hand
-    place_end = subst (λ x. far (darts_of g) x < length s.hand) (sym (ap dart_or place_rise.1))
-        (rise_ends place place_named place_rise.0 place_rise.1)
-
   -- A climber is in the tree, and so many levels nearer to the root.
-  pub climbed_named : (b : ℕ) → (forest_of s).label b ≢ Outside → (at count : ℕ)
+  pub climbed_named : {b : ℕ} → (forest_of s).label b ≢ Outside → {at count : ℕ}
       → HasClimbed (darts_of g) (forest_of s) b at count → (forest_of s).label at ≢ Outside
-  climbed_named b named at count is =
+  climbed_named {b} named {count} is =
       subst (λ z. (forest_of s).label z ≢ Outside) (sym is.way) (way_named b named count is.low)
 
   pub climbed_level : (b : ℕ) → (forest_of s).label b ≢ Outside → (at count : ℕ)
@@ -107,24 +100,23 @@ module _ (g : WeightedGraph) (is : IsSmallGraph g) (s : ForestTables) (valid : I
       ∙ way_level b named count is.low
 
   -- The blossom that the dart up reaches is one level nearer to the root.
-  pub far_level : (b : ℕ) → (forest_of s).label b ≢ Outside → (d : ℕ) → rise_of (forest_of s) b ≡ Some d → (x : ℕ)
+  pub far_level : (b : ℕ) → (forest_of s).label b ≢ Outside → (d : ℕ) → rise_of (forest_of s) b ≡ Some d → {x : ℕ}
       → x ≡ (forest_of s).out (far (darts_of g) d) → ((forest_of s).label x ≢ Outside)
       × (level_of (darts_of g) (forest_of s) b ≡ suc (level_of (darts_of g) (forest_of s) x))
-  far_level b named d rise x x_is =
+  far_level b named d rise {x} x_is =
       let up : x ≡ above_of (darts_of g) (forest_of s) b =
       x_is ∙ sym (ap (λ o. (forest_of s).out (far (darts_of g) (dart_or o))) rise) in (
         subst (λ y. (forest_of s).label y ≢ Outside) (sym up) (rise_named b named d rise),
-        rise_level b named d rise
-            ∙ ap (λ y. suc (level_of (darts_of g) (forest_of s) y)) (sym up),
+        rise_level b named d rise ∙ ap (λ y. suc (level_of (darts_of g) (forest_of s) y)) (sym up),
       )
 
   -- So it is where a climber from below comes to next.
-  pub far_way : (b : ℕ) → (forest_of s).label b ≢ Outside → (at count d x : ℕ)
+  pub far_way : {b : ℕ} → (forest_of s).label b ≢ Outside → {at count : ℕ} (d : ℕ) {x : ℕ}
       → HasClimbed (darts_of g) (forest_of s) b at count → rise_of (forest_of s) at ≡ Some d
       → x ≡ (forest_of s).out (far (darts_of g) d) → HasClimbed (darts_of g) (forest_of s) b x (count + 1)
-  far_way b named at count d x is rise x_is =
+  far_way {b} named {at} {count} d {x} is rise x_is =
       let next : level_of (darts_of g) (forest_of s) at ≡ suc (level_of (darts_of g) (forest_of s) x) =
-      (far_level at (climbed_named b named at count is) d rise x x_is).1 in
+      (far_level at (climbed_named named is) d rise x_is).1 in
       let one : suc count ≡ count + 1 = omega arith in
       subst (λ k. HasClimbed (darts_of g) (forest_of s) b x k) one (record {
         way = x_is ∙ (sym (ap (λ o. (forest_of s).out (far (darts_of g) (dart_or o))) rise)
@@ -134,35 +126,32 @@ module _ (g : WeightedGraph) (is : IsSmallGraph g) (s : ForestTables) (valid : I
 
   module _ (a c : ℕ) (named_a : (forest_of s).label a ≢ Outside) where
     -- A climber is in the tree.
-    pub climb_named : (x y i j : ℕ) → IsClimbing (darts_of g) (forest_of s) a c x y i j
+    pub climb_named : {x y i j : ℕ} → IsClimbing (darts_of g) (forest_of s) a c x y i j
         → (forest_of s).label x ≢ Outside
-    climb_named x y i j is = subst (λ z. (forest_of s).label z ≢ Outside) (sym is.x_is) (way_named a named_a i is.x_low)
+    climb_named {i} is = subst (λ z. (forest_of s).label z ≢ Outside) (sym is.x_is) (way_named a named_a i is.x_low)
 
     module _ (named_c : (forest_of s).label c ≢ Outside) where
-      pub climb_low : (x y i j : ℕ) → IsClimbing (darts_of g) (forest_of s) a c x y i j → x ≢ y
+      pub climb_low : {x y i j : ℕ} → IsClimbing (darts_of g) (forest_of s) a c x y i j → x ≢ y
           → level_of (darts_of g) (forest_of s) c - j ≤ level_of (darts_of g) (forest_of s) a - i
           → i < level_of (darts_of g) (forest_of s) a
-      climb_low x y i j is ne high = can_climb (darts_of g) are (forest_of s) (the_tree a named_a).0
-          (rooted_here a named_a) (the_tree a named_a).2 a c named_a named_c x y i j is ne high
+      climb_low is ne high = can_climb are (rooted_here a named_a) (the_tree a named_a).2 a c named_a named_c is ne high
 
-      pub climb_rises : (x y i j : ℕ) → IsClimbing (darts_of g) (forest_of s) a c x y i j → x ≢ y
+      pub climb_rises : {x y i j : ℕ} → IsClimbing (darts_of g) (forest_of s) a c x y i j → x ≢ y
           → level_of (darts_of g) (forest_of s) c - j ≤ level_of (darts_of g) (forest_of s) a - i
           → rise_of (forest_of s) x ≢ None
-      climb_rises x y i j is ne high =
-          subst (λ z. rise_of (forest_of s) z ≢ None) (sym is.x_is)
-          (place_rises a named_a i (climb_low x y i j is ne high))
+      climb_rises {i} is ne high = subst (λ z. rise_of (forest_of s) z ≢ None) (sym is.x_is)
+          (place_rises a named_a i (climb_low is ne high))
 
-      pub climb_turn : (x y x2 i j : ℕ) → IsClimbing (darts_of g) (forest_of s) a c x y i j → x ≢ y
+      pub climb_turn : {x y : ℕ} {x2 : ℕ} {i j : ℕ} → IsClimbing (darts_of g) (forest_of s) a c x y i j → x ≢ y
           → level_of (darts_of g) (forest_of s) c - j ≤ level_of (darts_of g) (forest_of s) a - i
           → x2 ≡ above_of (darts_of g) (forest_of s) x → IsClimbing (darts_of g) (forest_of s) a c x2 y (i + 1) j
-      climb_turn x y x2 i j is ne high x2_is =
+      climb_turn {y} {x2} {i} {j} is ne high x2_is =
           let one : suc i ≡ i + 1 = omega arith in
           subst (λ k. IsClimbing (darts_of g) (forest_of s) a c x2 y k j) one
-          (climb_on (darts_of g) are (forest_of s) (the_tree a named_a).0 (rooted_here a named_a)
-          (the_tree a named_a).2 a c named_a named_c x y x2 i j is ne high x2_is)
+          (climb_on are (rooted_here a named_a) (the_tree a named_a).2 a c named_a named_c is ne high x2_is)
 
   -- Each climber's level tells how far the other has come, where there is a blossom that both come to.
-  module _ (a c high low : ℕ) (named_a : (forest_of s).label a ≢ Outside) (named_c : (forest_of s).label c ≢ Outside)
+  module _ {a c high low : ℕ} (named_a : (forest_of s).label a ≢ Outside) (named_c : (forest_of s).label c ≢ Outside)
       (both : AreOnBoth (darts_of g) (forest_of s) a c high low) where
     both_level : level_of (darts_of g) (forest_of s) a + low ≡ level_of (darts_of g) (forest_of s) c + high
     both_level =
@@ -172,41 +161,41 @@ module _ (g : WeightedGraph) (is : IsSmallGraph g) (s : ForestTables) (valid : I
         omega (arith, same, way_level a named_a high both.left_low, way_level c named_c low both.right_low)
 
     -- No climber goes past it.
-    pub both_last : (x y i j : ℕ) → IsClimbing (darts_of g) (forest_of s) a c x y i j → (i ≤ high) × (j ≤ low)
-    both_last x y i j is = (
+    pub both_last : {x y i j : ℕ} → IsClimbing (darts_of g) (forest_of s) a c x y i j → (i ≤ high) × (j ≤ low)
+    both_last is = (
       is.left high low both.left_low both.right_low both.met,
       is.right high low both.left_low both.right_low both.met,
     )
 
     -- The higher climber.
-    pub both_order : (x y i j : ℕ) → IsClimbing (darts_of g) (forest_of s) a c x y i j → low - j ≤ high - i
+    pub both_order : {x y i j : ℕ} → IsClimbing (darts_of g) (forest_of s) a c x y i j → low - j ≤ high - i
         → level_of (darts_of g) (forest_of s) c - j ≤ level_of (darts_of g) (forest_of s) a - i
-    both_order x y i j is order = omega (
+    both_order is order = omega (
       arith,
       order,
       both_level,
-      (both_last x y i j is).0,
-      (both_last x y i j is).1,
+      (both_last is).0,
+      (both_last is).1,
       is.x_low,
       is.y_low,
     )
 
   -- One climb after another.
-  pub climbed_on : (b : ℕ) → (forest_of s).label b ≢ Outside → (at first x more : ℕ)
+  pub climbed_on : {b : ℕ} → (forest_of s).label b ≢ Outside → {at first : ℕ} {x : ℕ} (more : ℕ)
       → HasClimbed (darts_of g) (forest_of s) b at first → x ≡ way_of (darts_of g) (forest_of s) at more
       → more ≤ level_of (darts_of g) (forest_of s) at → HasClimbed (darts_of g) (forest_of s) b x (first + more)
-  climbed_on b named at first x more is x_is low = record {
+  climbed_on {b} named {at} {first} more is x_is low = record {
     way = x_is ∙ (ap (λ y. way_of (darts_of g) (forest_of s) y more) is.way
         ∙ sym (walk_sum (above_of (darts_of g) (forest_of s)) b first more));
     low = omega (arith, climbed_level b named at first is, low);
   }
 
   -- Where a climber is not at the root, some steps bring him nearer.
-  pub climbed_nearer : (at next steps reach : ℕ) → (forest_of s).label at ≢ Outside
+  pub climbed_nearer : (at : ℕ) {next steps : ℕ} (reach : ℕ) → (forest_of s).label at ≢ Outside
       → (d : ℕ) × (rise_of (forest_of s) at ≡ Some d) → next ≡ way_of (darts_of g) (forest_of s) at steps
       → steps ≡ min reach (level_of (darts_of g) (forest_of s) at) → 1 ≤ reach
       → level_of (darts_of g) (forest_of s) next < level_of (darts_of g) (forest_of s) at
-  climbed_nearer at next steps reach named up next_is steps_is some =
+  climbed_nearer at {next} {steps} reach named up next_is steps_is some =
       let low : steps ≤ level_of (darts_of g) (forest_of s) at = omega (arith, steps_is) in
       omega (
         arith,
@@ -217,19 +206,19 @@ module _ (g : WeightedGraph) (is : IsSmallGraph g) (s : ForestTables) (valid : I
       )
 
   -- The root is on all ways.
-  pub root_on_both : (a c at left : ℕ) → (forest_of s).label a ≢ Outside → (forest_of s).label c ≢ Outside
+  pub root_on_both : {a : ℕ} (c : ℕ) {at left : ℕ} → (forest_of s).label a ≢ Outside → (forest_of s).label c ≢ Outside
       → HasClimbed (darts_of g) (forest_of s) a at left → rise_of (forest_of s) at ≡ None
       → AreOnBoth (darts_of g) (forest_of s) a c left (level_of (darts_of g) (forest_of s) c)
-  root_on_both a c at left named_a named_c is off =
+  root_on_both {a} c {at} named_a named_c is off =
       let r : ℕ = (the_tree a named_a).0 in
       let on : (forest_of s).label (way_of (darts_of g) (forest_of s) c (level_of (darts_of g) (forest_of s) c)) ≢
       Outside = way_named c named_c (level_of (darts_of g) (forest_of s) c) (omega arith) in
       let end : way_of (darts_of g) (forest_of s) c (level_of (darts_of g) (forest_of s) c) ≡ r =
-      level_zero (darts_of g) are (forest_of s) r (rooted_here a named_a) (the_tree a named_a).2
+      level_zero are (rooted_here a named_a) (the_tree a named_a).2
       (way_of (darts_of g) (forest_of s) c (level_of (darts_of g) (forest_of s) c)) on
       (omega (arith, way_level c named_c (level_of (darts_of g) (forest_of s) c) (omega arith))) in
-      let here : at ≡ r = (at_root (darts_of g) are (forest_of s) r (rooted_here a named_a) (the_tree a named_a).2 at
-      (climbed_named a named_a at left is) off).0 in
+      let here : at ≡ r = (at_root are (rooted_here a named_a) (the_tree a named_a).2 at
+      (climbed_named named_a is) off).0 in
       record { met = sym is.way ∙ (here ∙ sym end); left_low = is.low; right_low = omega arith }
 
 pub some_rise : (o : Option ℕ) → is_some o ≡ true → (d : ℕ) × (o ≡ Some d)
@@ -241,17 +230,16 @@ no_rise None e = refl
 no_rise (Some d) e = absurd (false≢true (sym e))
 
 -- The two may change places.
-pub both_swapped : (g : Darts) (f : Forest) (a c left right : ℕ) → AreOnBoth g f a c left right
+pub both_swapped : {g : Darts} {f : Forest} {a c left right : ℕ} → AreOnBoth g f a c left right
     → AreOnBoth g f c a right left
-both_swapped g f a c left right both = record {
+both_swapped both = record {
   met = sym both.met;
   left_low = both.right_low;
-  right_low =
-      both.left_low;
+  right_low = both.left_low;
 }
 
 -- Where two ways meet, their beginnings told otherwise.
-pub met_at : (d : Darts) (f : Forest) (a c b e top left right : ℕ) → a ≡ b → c ≡ e
+pub met_at : {d : Darts} {f : Forest} {a c : ℕ} {b e : ℕ} {top left right : ℕ} → a ≡ b → c ≡ e
     → IsClimbing d f a c top top left right → IsClimbing d f b e top top left right
-met_at d f a c b e top left right a_is c_is is =
+met_at {d} {f} {a} {e} {top} {left} {right} a_is c_is is =
     subst (λ x. IsClimbing d f x e top top left right) a_is (subst (λ x. IsClimbing d f a x top top left right) c_is is)

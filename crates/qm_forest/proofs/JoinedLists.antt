@@ -11,9 +11,8 @@ use Rattle.forest_laws.proofs.Walks.{walk_sum, listed_at, listed_place, listed_p
 use Rattle.qm_forest.specs.Ties.{IsListed}
 
 -- A list is the same over tables that agree on it.
-pub walk_agrees : (next other : ℕ → ℕ) (from many : ℕ)
-    → ((k : ℕ) → suc k < many → other (walk next from k) ≡ next (walk next from k)) → (k : ℕ) → k < many
-    → walk other from k ≡ walk next from k
+pub walk_agrees : (next other : ℕ → ℕ) (from many : ℕ) → ((k : ℕ) → suc k < many → other (walk next from k)
+    ≡ next (walk next from k)) → (k : ℕ) → k < many → walk other from k ≡ walk next from k
 walk_agrees next other from many same zero l = refl
 walk_agrees next other from many same (suc k) l = ap other (walk_agrees next other from many same k (omega (arith, l)))
     ∙ same k l
@@ -25,9 +24,10 @@ listed_agrees next other from many walks v (suc k) l =
     ap (λ (s : Bool). s || eqb (walk other from k) v) (listed_agrees next other from many walks v k (omega (arith, l)))
     ∙ ap (λ x. listed next from k v || eqb x v) (walks k (omega (arith, l)))
 
-pub list_agrees : (n : ℕ) (next other : ℕ → ℕ) (from to many : ℕ) (set : ℕ → Bool) → IsListed n next from to many set
-    → ((k : ℕ) → suc k < many → other (walk next from k) ≡ next (walk next from k)) → IsListed n other from to many set
-list_agrees n next other from to many set is same = record {
+pub list_agrees : {n : ℕ} {next : ℕ → ℕ} (other : ℕ → ℕ) {from to many : ℕ} {set : ℕ → Bool}
+    → IsListed n next from to many set → ((k : ℕ) → suc k < many → other (walk next from k) ≡ next (walk next from k))
+    → IsListed n other from to many set
+list_agrees {n} {next} other {from} {many} is same = record {
   all = λ v l. listed_agrees next other from many walks v many (omega arith) ∙ is.all v l;
   low = λ k l. subst (λ x. x < n) (sym (walks k l)) (is.low k l);
   distinct = λ i j lij lj e. is.distinct i j lij lj (sym (walks i (omega (arith, lij, lj))) ∙ (e ∙ walks j lj));
@@ -39,43 +39,41 @@ list_agrees n next other from to many set is same = record {
     walks = walk_agrees next other from many same
 
 -- The same list of the same set under another name.
-pub list_renamed : (n : ℕ) (next : ℕ → ℕ) (from to many : ℕ) (set other : ℕ → Bool) → IsListed n next from to many set
-    → ((v : ℕ) → v < n → set v ≡ other v) → IsListed n next from to many other
-list_renamed n next from to many set other is same = record {
+pub list_renamed : {n : ℕ} {next : ℕ → ℕ} {from to many : ℕ} {set : ℕ → Bool} (other : ℕ → Bool)
+    → IsListed n next from to many set → ((v : ℕ) → v < n → set v ≡ other v) → IsListed n next from to many other
+list_renamed other is same = record {
   all = λ v l. is.all v l ∙ same v l;
-  low =
-      is.low;
+  low = is.low;
   distinct = is.distinct;
   ends = is.ends;
   some = is.some;
 }
 
 -- The last of a list, and the members as such.
-pub list_last : (n : ℕ) (next : ℕ → ℕ) (from to many : ℕ) (set : ℕ → Bool) → IsListed n next from to many set
+pub list_last : {n : ℕ} {next : ℕ → ℕ} {from to : ℕ} (many : ℕ) {set : ℕ → Bool} → IsListed n next from to many set
     → (k : ℕ) × (suc k ≡ many) × (walk next from k ≡ to)
-list_last n next from to zero set is = absurd (omega (arith, is.some))
-list_last n next from to (suc k) set is = (k, refl, is.ends k refl)
+list_last zero is = absurd (omega (arith, is.some))
+list_last (suc k) is = (k, refl, is.ends k refl)
 
-pub list_member : (n : ℕ) (next : ℕ → ℕ) (from to many : ℕ) (set : ℕ → Bool) → IsListed n next from to many set
+pub list_member : {n : ℕ} {next : ℕ → ℕ} {from to many : ℕ} {set : ℕ → Bool} → IsListed n next from to many set
     → (k : ℕ) → k < many → set (walk next from k) ≡ true
-list_member n next from to many set is k l = sym (is.all (walk next from k) (is.low k l)) ∙ listed_at next from many k l
+list_member {next} {from} {many} is k l = sym (is.all (walk next from k) (is.low k l)) ∙ listed_at next from many k l
 
-pub list_has_last : (n : ℕ) (next : ℕ → ℕ) (from to many : ℕ) (set : ℕ → Bool) → IsListed n next from to many set
+pub list_has_last : {n : ℕ} {next : ℕ → ℕ} {from to many : ℕ} {set : ℕ → Bool} → IsListed n next from to many set
     → (to < n) × (set to ≡ true)
-list_has_last n next from to many set is =
-    let w : (k : ℕ) × (suc k ≡ many) × (walk next from k ≡ to) = list_last n next from to many set is in (
+list_has_last {n} {next} {from} {to} {many} {set} is =
+    let w : (k : ℕ) × (suc k ≡ many) × (walk next from k ≡ to) = list_last many is in (
       subst (λ x. x < n) w.2 (is.low w.0 (omega (arith, w.1))),
-      subst (λ x. set x ≡ true) w.2 (list_member n next from to many set is w.0 (omega (arith, w.1))),
+      subst (λ x. set x ≡ true) w.2 (list_member is w.0 (omega (arith, w.1))),
     )
 
 -- A list as many members as it counts.
-pub list_count : (n : ℕ) (next : ℕ → ℕ) (from to many : ℕ) (set : ℕ → Bool) → IsListed n next from to many set
+pub list_count : {n : ℕ} {next : ℕ → ℕ} {from to many : ℕ} {set : ℕ → Bool} → IsListed n next from to many set
     → count_below (λ v. bool_number (set v)) n ≡ many
-list_count n next from to many set is =
-    count_below_same (λ v. bool_number (set v)) (λ v. bool_number (listed next from many v)) n
-    (λ v l. ap bool_number (sym (is.all v l)))
-    ∙ (count_below_same (λ v. bool_number (listed next from many v)) (λ v. ring_sum next (λ p. bool_number (eqb v p))
-    from many) n (λ v l. listed_sum next from many v is.distinct)
+list_count {n} {next} {from} {many} {set} is = count_below_same (λ v. bool_number (set v))
+    (λ v. bool_number (listed next from many v)) n (λ v l. ap bool_number (sym (is.all v l)))
+    ∙ (count_below_same (λ v. bool_number (listed next from many v))
+    (λ v. ring_sum next (λ p. bool_number (eqb v p)) from many) n (λ v l. listed_sum next from many v is.distinct)
     ∙ (counts_exchanged next (λ p v. bool_number (eqb v p)) from n many ∙ ones many (omega arith)))
   where
     one : (p : ℕ) → p < n → count_below (λ v. bool_number (eqb v p)) n ≡ 1
@@ -88,21 +86,21 @@ list_count n next from to many set is =
         ones k (omega (arith, l)) in let o : count_below (λ v. bool_number (eqb v (walk next from k))) n ≡ 1 =
         one (walk next from k) (is.low k (omega (arith, l))) in omega (arith, h, o))
 
-pub list_few : (n : ℕ) (next : ℕ → ℕ) (from to many : ℕ) (set : ℕ → Bool) → IsListed n next from to many set → many ≤ n
-list_few n next from to many set is =
+pub list_few : {n : ℕ} {next : ℕ → ℕ} {from to many : ℕ} {set : ℕ → Bool} → IsListed n next from to many set → many ≤ n
+list_few {n} {set} is =
     let below : count_below (λ v. bool_number (set v)) n ≤ count_below (λ v. 1) n =
     count_below_le (λ v. bool_number (set v)) (λ v. 1) n (λ k l. by_test (set k)) in
-    omega (arith, list_count n next from to many set is, below, count_below_ones n)
+    omega (arith, list_count is, below, count_below_ones n)
   where
     by_test : (s : Bool) → bool_number s ≤ 1
     by_test true = omega arith
     by_test false = omega arith
 
 -- Two lists, of which the second begins where the first ends.
-pub list_joined : (n : ℕ) (next : ℕ → ℕ) (a b m c d k : ℕ) (s t : ℕ → Bool) → IsListed n next a b m s
+pub list_joined : {n : ℕ} {next : ℕ → ℕ} {a b m c d k : ℕ} {s t : ℕ → Bool} → IsListed n next a b m s
     → IsListed n next c d k t → next b ≡ c → ((v : ℕ) → s v ≡ true → t v ≡ true → ⊥)
     → IsListed n next a d (m + k) (λ v. s v || t v)
-list_joined n next a b m c d k s t one two seam apart = record {
+list_joined {n} {next} {a} {b} {m} {c} {d} {k} {s} {t} one two seam apart = record {
   all = λ v l. listed_parts next a m k v ∙ (ap (λ (p : Bool). p || listed next (walk next a m) k v) (one.all v l)
       ∙ (ap (λ x. s v || listed next x k v) turn ∙ ap (λ (p : Bool). s v || p) (two.all v l)));
   low = λ i l. by_place (λ x. x < n) i l (λ j lj. one.low j lj) (λ j lj. two.low j lj);
@@ -112,7 +110,7 @@ list_joined n next a b m c d k s t one two seam apart = record {
 }
   where
     turn : walk next a m ≡ c
-    turn = let w : (j : ℕ) × (suc j ≡ m) × (walk next a j ≡ b) = list_last n next a b m s one in
+    turn = let w : (j : ℕ) × (suc j ≡ m) × (walk next a j ≡ b) = list_last m one in
         ap (walk next a) (sym w.1) ∙ (ap next w.2 ∙ seam)
 
     second : (j : ℕ) → walk next a (m + j) ≡ walk next c j
@@ -132,8 +130,7 @@ list_joined n next a b m c d k s t one two seam apart = record {
     differ i j lij lj e (inl li) (inr hj) =
         let at : m + (j - m) ≡ j = omega (arith, hj) in
         let same : walk next a i ≡ walk next c (j - m) = e ∙ (ap (walk next a) (sym at) ∙ second (j - m)) in
-        apart (walk next a i) (list_member n next a b m s one i li) (ap t same ∙ list_member n next c d k t two (j - m)
-        (omega (arith, hj, lj)))
+        apart (walk next a i) (list_member one i li) (ap t same ∙ list_member two (j - m) (omega (arith, hj, lj)))
     differ i j lij lj e (inr hi) (inl lj') = absurd (omega (arith, lij, hi, lj'))
     differ i j lij lj e (inr hi) (inr hj) =
         let ai : m + (i - m) ≡ i = omega (arith, hi) in
@@ -143,7 +140,7 @@ list_joined n next a b m c d k s t one two seam apart = record {
 
     at_end : (j : ℕ) → suc j ≡ m + k → walk next a j ≡ d
     at_end j e =
-        let w : (i : ℕ) × (suc i ≡ k) × (walk next c i ≡ d) = list_last n next c d k t two in
+        let w : (i : ℕ) × (suc i ≡ k) × (walk next c i ≡ d) = list_last k two in
         let at : j ≡ m + w.0 = omega (arith, e, w.1) in
         ap (walk next a) at ∙ (second w.0 ∙ w.2)
 
@@ -157,31 +154,23 @@ module _ (n : ℕ) (next after first last rank : ℕ → ℕ) (front many : ℕ)
       (ring_sum after rank front (suc k)) (λ v. listed after front (suc k) (out v))
   row_joined zero l = (let one : rank front ≡ 0 + rank front = omega arith in
       subst (λ m. IsListed n next (first front) (last front) m (λ v. listed after front 1 (out v))) one
-      (list_renamed n next (first front) (last front) (rank front) (λ v. eqb (out v) front) (λ v. false
+      (list_renamed (λ v. false
       || eqb front (out v)) (each 0 l) (λ v lv. turned (out v) front)))
     where
       turned : (a b : ℕ) → eqb a b ≡ (false || eqb b a)
       turned a b = elim (cases_eq a b) [
         | inl e ↦ eq-eqb a b e ∙ sym (eq-eqb b a (sym e))
-        | inr ne ↦ ne_eqb a b ne
-            ∙ sym (ne_eqb b a (λ e. ne (sym e)))
+        | inr ne ↦ ne_eqb a b ne ∙ sym (ne_eqb b a (λ e. ne (sym e)))
       ]
-  row_joined (suc k) l =
-      list_renamed n next (first front) (last (walk after front (suc k)))
-      (ring_sum after rank front (suc k) + rank (walk after front (suc k))) (λ v. listed after front (suc k) (out v)
-      || eqb (out v) (walk after front (suc k))) (λ v. listed after front (suc k) (out v)
-      || eqb (walk after front (suc k)) (out v))
-      (list_joined n next (first front) (last (walk after front k)) (ring_sum after rank front (suc k))
-      (first (walk after front (suc k))) (last (walk after front (suc k))) (rank (walk after front (suc k)))
-      (λ v. listed after front (suc k) (out v)) (λ v. eqb (out v) (walk after front (suc k)))
-      (row_joined k (omega (arith, l))) (each (suc k) l) (seams k l) (λ v on too. apart v on too))
-      (λ v lv. ap (λ (s : Bool). listed after front (suc k) (out v) || s) (turned (out v) (walk after front (suc k))))
+  row_joined (suc k) l = list_renamed (λ v. listed after front (suc k) (out v)
+      || eqb (walk after front (suc k)) (out v)) (list_joined (row_joined k (omega (arith, l))) (each (suc k) l)
+      (seams k l) (λ v on too. apart v on too)) (λ v lv. ap (λ (s : Bool). listed after front (suc k) (out v) || s)
+      (turned (out v) (walk after front (suc k))))
     where
       turned : (a b : ℕ) → eqb a b ≡ eqb b a
       turned a b = elim (cases_eq a b) [
         | inl e ↦ eq-eqb a b e ∙ sym (eq-eqb b a (sym e))
-        | inr ne ↦ ne_eqb a b ne
-            ∙ sym (ne_eqb b a (λ e. ne (sym e)))
+        | inr ne ↦ ne_eqb a b ne ∙ sym (ne_eqb b a (λ e. ne (sym e)))
       ]
 
       apart : (v : ℕ) → listed after front (suc k) (out v) ≡ true → eqb (out v) (walk after front (suc k)) ≡ true → ⊥
@@ -199,8 +188,7 @@ module _ (n : ℕ) (next after first last rank : ℕ → ℕ) (front many : ℕ)
   counts zero l = refl
   counts (suc k) l =
       let here : count_below (λ v. bool_number (eqb (out v) (walk after front k))) n ≡ rank (walk after front k) =
-      list_count n next (first (walk after front k)) (last (walk after front k)) (rank (walk after front k))
-      (λ v. eqb (out v) (walk after front k)) (each k (omega (arith, l))) in
+      list_count (each k (omega (arith, l))) in
       omega (arith, here, counts k (omega (arith, l)))
 
   pub row_few : ring_sum after rank front many ≤ n

@@ -41,11 +41,10 @@ ring_sum_above next f from many two some k l = by_first (cases_eq k 0)
     )
 
 -- One entry more is written.
-pub written_more : (xs ys : List ℕ) (place value : ℕ → ℕ) (k j p v : ℕ) → p < length xs → (λ i. get_or xs i 0)
+pub written_more : (xs ys : List ℕ) (place value : ℕ → ℕ) (k : ℕ) {j p v : ℕ} → p < length xs → (λ i. get_or xs i 0)
     ≡ writes (λ i. get_or ys i 0) place value k → p ≡ place k → v ≡ value k → j ≡ suc k → (λ i. get_or (set xs p v) i 0)
     ≡ writes (λ i. get_or ys i 0) place value j
-written_more xs ys place value k j p v low was p_is v_is j_is =
-    entry_set xs p v 0 low ∙ (ap (λ (f : ℕ → ℕ). set_at f p v) was
-    ∙ (ap (λ e. set_at (writes (λ i. get_or ys i 0) place value k) e v) p_is
+written_more xs ys place value k {p} {v} low was p_is v_is j_is = entry_set xs p v 0 low
+    ∙ (ap (λ (f : ℕ → ℕ). set_at f p v) was ∙ (ap (λ e. set_at (writes (λ i. get_or ys i 0) place value k) e v) p_is
     ∙ (ap (set_at (writes (λ i. get_or ys i 0) place value k) (place k)) v_is
     ∙ ap (writes (λ i. get_or ys i 0) place value) (sym j_is))))

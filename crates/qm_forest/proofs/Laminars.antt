@@ -17,22 +17,18 @@ use Rattle.qm_forest.proofs.JoinedLists.{list_few, list_member}
 use Rattle.qm_forest.proofs.Nests.{climbs_place, comes_by, rank_few, rank_passed}
 use Rattle.qm_forest.proofs.Withins.{none_in_both, off_where, pair_law}
 
-pub laminar : (t : ForestTables) (hid : HiddenTables) → AreTied t hid → IsLaminar t
-laminar t hid tied = record {
+pub laminar : {t : ForestTables} {hid : HiddenTables} → AreTied t hid → IsLaminar t
+laminar {t} {hid} tied = record {
   vertices = tied.sizes.vertices;
   few = tied.sizes.few;
   rises = tied.nest.rises;
-  low = λ x l used. list_few (length t.hand) (λ k. get_or hid.following k 0) (get_or hid.first x 0)
-      (get_or hid.last x 0) (get_or t.rank x 0) (climbs (up_at t.up) (length t.hand) x) (tied.nest.members x l used);
+  low = λ x l used. list_few (tied.nest.members x l used);
   passed = λ b v l on. (
-      let low : get_or t.rank b 0 ≤ get_or t.rank (out_of t.hand t.top v) 0 =
-      rank_passed (length t.hand) (length t.up) t.hand t.top t.up t.rank t.parts hid.leader hid.first hid.last
-      hid.following tied.nest v b l on in
+      let low : get_or t.rank b 0 ≤ get_or t.rank (out_of t.hand t.top v) 0 = rank_passed tied.nest v b l on in
       omega (
         arith,
         low,
-        rank_few (length t.hand) (length t.up) t.hand t.top t.up t.rank t.parts hid.leader hid.first
-            hid.last hid.following tied.nest v l,
+        rank_few tied.nest v l,
       ));
   own = λ b x l on. own b x l (climbs_place (up_at t.up) (length t.hand) x b on) (cases_eq b x);
   two = λ x l used more. two x more (tied.nest.members x l used);
@@ -42,15 +38,14 @@ laminar t hid tied = record {
     own : (b x : ℕ) → x < length t.hand → (i : ℕ) × (walk (up_at t.up) b i ≡ x) → (b ≡ x) ⊎ (b ≢ x) → b ≡ x
     own b x l w (inl e) = e
     own b x l w (inr ne) =
-        let y : (y : ℕ) × (up_at t.up y ≡ x) × (y ≢ x) = comes_by (up_at t.up) b w.0 x w.1 ne in
+        let y : (y : ℕ) × (up_at t.up y ≡ x) × (y ≢ x) = comes_by (up_at t.up) b w.0 w.1 ne in
         let around : (length t.hand ≤ up_at t.up y.0) × (get_or t.parts (up_at t.up y.0) 0 ≢ 0) =
         tied.nest.around y.0 (λ s. y.2 (sym s ∙ y.1)) in
         let high : length t.hand ≤ x = subst (λ z. length t.hand ≤ z) y.1 around.0 in
         absurd (omega (arith, l, high))
 
-    two : (x : ℕ) → 2 ≤ get_or t.rank x 0
-        → IsListed (length t.hand) (λ k. get_or hid.following k 0) (get_or hid.first x 0) (get_or hid.last x 0)
-        (get_or t.rank x 0) (climbs (up_at t.up) (length t.hand) x)
+    two : (x : ℕ) → 2 ≤ get_or t.rank x 0 → IsListed (length t.hand) (λ k. get_or hid.following k 0)
+        (get_or hid.first x 0) (get_or hid.last x 0) (get_or t.rank x 0) (climbs (up_at t.up) (length t.hand) x)
         → (u : ℕ) × (v : ℕ) × (u < length t.hand) × (v < length t.hand) × (u ≢ v) × (within t u x ≡ true)
         × (within t v x ≡ true)
     two x more list = (
@@ -59,15 +54,13 @@ laminar t hid tied = record {
       list.low 0 (omega (arith, more)),
       list.low 1 (omega (arith, more)),
       list.distinct 0 1 (omega arith) (omega (arith, more)),
-      list_member (length t.hand) (λ k. get_or hid.following k 0) (get_or hid.first x 0) (get_or hid.last x 0)
-          (get_or t.rank x 0) (climbs (up_at t.up) (length t.hand) x) list 0 (omega (arith, more)),
-      list_member (length t.hand) (λ k. get_or hid.following k 0) (get_or hid.first x 0) (get_or hid.last x 0)
-          (get_or t.rank x 0) (climbs (up_at t.up) (length t.hand) x) list 1 (omega (arith, more)),
+      list_member list 0 (omega (arith, more)),
+      list_member list 1 (omega (arith, more)),
     )
 
 -- A valid forest is sound.
-pub sound : (g : WeightedGraph) (t : ForestTables) → IsValidFor g t → IsSoundFor g t
-sound g t valid = record { vertices = valid.vertices; darts = valid.darts; ends = valid.ends; valid = valid.valid }
+pub sound : {g : WeightedGraph} {t : ForestTables} → IsValidFor g t → IsSoundFor g t
+sound valid = record { vertices = valid.vertices; darts = valid.darts; ends = valid.ends; valid = valid.valid }
 
 module _ (t : ForestTables) (known : IsLaminar t) where
   abbrev n : ℕ
@@ -85,19 +78,16 @@ module _ (t : ForestTables) (known : IsLaminar t) where
 
   module _ (g : WeightedGraph) (is : IsSmallGraph g) (valid : IsSoundFor g t) where
     abbrev are : AreDarts (darts_of g)
-    are = are_darts g is.lawful
+    are = are_darts is.lawful
 
     -- A set has another vertex than any one.
     pub another : (x w : ℕ) → length t.hand ≤ x → x < length t.up → get_or t.parts x 0 ≢ 0
         → (v : ℕ) × (v < length t.hand) × (v ≢ w) × ((forest_of t).holds x v ≡ true)
-    another x w high low live =
-        by_two (known.two x low (inr live)
-        (omega (
-          arith,
-          ring.lower 0,
-          known.some (walk (forest_of t).nest.after ((forest_of t).nest.head x) 0)
-              (ring.below 0) part_used,
-        )))
+    another x w high low live = by_two (known.two x low (inr live) (omega (
+      arith,
+      ring.lower 0,
+      known.some (walk (forest_of t).nest.after ((forest_of t).nest.head x) 0) (ring.below 0) part_used,
+    )))
       where
         ring : IsRing (darts_of g) (forest_of t) x
         ring = valid.valid.nested.rings x (subst (λ m. m ≤ x) valid.vertices high) live
@@ -117,7 +107,6 @@ module _ (t : ForestTables) (known : IsLaminar t) where
                 → IsInUse (length t.hand) t.parts (get_or t.head x 0)
             by_size (inl l) = inl l
             by_size (inr h) = inr (λ none. true_false
-                ((forest_of t).holds (get_or t.head x 0) ((darts_of g).near (get_or t.joint (get_or t.head x 0) 0)))
                 joint.begins
                 (valid.valid.nested.empty (get_or t.head x 0) ((darts_of g).near (get_or t.joint (get_or t.head x 0) 0))
                 (subst (λ m. m ≤ get_or t.head x 0) valid.vertices h)
@@ -156,15 +145,15 @@ module _ (t : ForestTables) (known : IsLaminar t) where
       pub next_around : up_at t.up y ≡ q
       next_around = ap (λ z. up_at t.up (get_or t.after z 0)) (sym x_place.2) ∙ ring_around.inside (suc x_place.0)
 
-      part_other : (z : ℕ) → up_at t.up z ≡ q → (k : ℕ) → walk (λ i. get_or t.after i 0) (get_or t.head q 0) k ≡ z
+      part_other : {z : ℕ} → up_at t.up z ≡ q → (k : ℕ) → walk (λ i. get_or t.after i 0) (get_or t.head q 0) k ≡ z
           → z ≢ q
-      part_other z e k at s = (let r : get_or t.rank (walk (λ i. get_or t.after i 0) (get_or t.head q 0) k) 0
+      part_other e k at s = (let r : get_or t.rank (walk (λ i. get_or t.after i 0) (get_or t.head q 0) k) 0
           < get_or t.rank q 0 = ring_around.lower k in
           let same : get_or t.rank (walk (λ i. get_or t.after i 0) (get_or t.head q 0) k) 0 ≡ get_or t.rank q 0 =
           ap (λ w. get_or t.rank w 0) (at ∙ s) in absurd (omega (arith, r, same)))
 
       pub next_other : y ≢ q
-      next_other = part_other y next_around (suc x_place.0) (ap (λ z. get_or t.after z 0) x_place.2)
+      next_other = part_other next_around (suc x_place.0) (ap (λ z. get_or t.after z 0) x_place.2)
 
       pub x_low : x < length t.up
       x_low = subst (λ z. z < length t.up) x_place.2 (ring_around.below x_place.0)
@@ -210,12 +199,8 @@ module _ (t : ForestTables) (known : IsLaminar t) where
       far_in = subst (λ v. (forest_of t).holds y v ≡ true) (sym far_is) joint_is.ends
 
       used : (z v : ℕ) → v < length t.hand → within t v z ≡ true → length t.hand ≤ z → get_or t.parts z 0 ≢ 0
-      used z v l on high none =
-          true_false ((forest_of t).holds z v) on (valid.valid.nested.empty z v (subst (λ m. m ≤ z) valid.vertices high)
+      used z v l on high none = true_false on (valid.valid.nested.empty z v (subst (λ m. m ≤ z) valid.vertices high)
           (subst (λ m. v < m) valid.vertices l) none)
-
-      pub part_rank : (z v : ℕ) → v < length t.hand → within t v z ≡ true → get_or t.rank z 0 ≤ length t.hand
-      part_rank z v l on = known.passed z v l on
 
       -- The two are a pair.
       pub ring_pairing : IsPairing t x y d
@@ -225,7 +210,7 @@ module _ (t : ForestTables) (known : IsLaminar t) where
         low_x = x_low;
         low_y = y_low;
         other = differ;
-        apart = λ e. none_in_both (length t.hand) (up_at t.up) (λ z. get_or t.rank z 0) known.rises (near_at t d) x y q
+        apart = λ e. none_in_both (length t.hand) (up_at t.up) (λ z. get_or t.rank z 0) known.rises (near_at t d) x y
             refl next_around (λ s. inner (sym s)) next_other differ near_in
             (subst (λ v. within t v y ≡ true) (sym e) far_in);
         near_low = near_ok;
@@ -234,7 +219,7 @@ module _ (t : ForestTables) (known : IsLaminar t) where
         far_held = far_in;
         live_x = used x (near_at t d) near_ok near_in;
         live_y = used y (far_at t d) far_ok far_in;
-        law = λ b l. pair_law (length t.hand) (up_at t.up) (λ z. get_or t.rank z 0) known.rises x y q (near_at t d)
+        law = λ b l. pair_law (length t.hand) (up_at t.up) (λ z. get_or t.rank z 0) known.rises x y (near_at t d)
             (far_at t d) refl next_around (λ s. inner (sym s)) next_other differ near_in far_in
             (known.passed x (near_at t d) near_ok near_in) (known.passed y (far_at t d) far_ok far_in) b
             (λ on. known.passed b (near_at t d) near_ok on) (λ on. known.passed b (far_at t d) far_ok on);

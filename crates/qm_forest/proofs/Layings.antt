@@ -28,10 +28,10 @@ pub record IsLaidPlace (g : WeightedGraph) (t0 t : ForestTables) (a i x : ℕ) :
   pub next_low : way_of (darts_of g) (forest_of t0) a (suc i) < length t.up
   pub same : rise_of (forest_of t) x ≡ rise_of (forest_of t0) (way_of (darts_of g) (forest_of t0) a i)
 
-pub laid_place : (g : WeightedGraph) → IsSmallGraph g → (t0 : ForestTables) (a steps : ℕ) → MayClimb g t0 a steps
-    → (i : ℕ) → i < steps → (x : ℕ) → x ≡ way_of (darts_of g) (forest_of t0) a i → (t : ForestTables)
+pub laid_place : {g : WeightedGraph} → IsSmallGraph g → (t0 : ForestTables) (a steps : ℕ) → MayClimb g t0 a steps
+    → (i : ℕ) → i < steps → {x : ℕ} → x ≡ way_of (darts_of g) (forest_of t0) a i → (t : ForestTables)
     → IsRingedAlike t0 t → IsLaidPlace g t0 t a i x
-laid_place g is t0 a steps may i l x x_is t alike = by_first may.0 may.1 may.2 may.3 may.4
+laid_place {g} is t0 a steps may i l {x} x_is t alike = by_first may.0 may.1 may.2 may.3 may.4
   where
     by_first : (s : ForestTables) → IsValidFor g s → IsRingedAlike s t0 → (forest_of s).label a ≢ Outside
         → steps ≤ level_of (darts_of g) (forest_of s) a → IsLaidPlace g t0 t a i x
@@ -60,38 +60,33 @@ laid_place g is t0 a steps may i l x x_is t alike = by_first may.0 may.1 may.2 m
         }
 
 -- One step more is laid.
-pub laid_more_down : (g : Darts) (f0 f1 f2 : Forest) (a i x y d e : ℕ) → f1 ≡ laid_down g f0 a i
-    → f2 ≡ ringed f1 (set_at f1.nest.after y x) (set_at f1.nest.joint y e) → x ≡ way_of g f0 a i
-    → y ≡ way_of g f0 a (suc i)
+pub laid_more_down : (g : Darts) (f0 : Forest) {f1 f2 : Forest} (a i : ℕ) {x y d e : ℕ} → f1 ≡ laid_down g f0 a i → f2
+    ≡ ringed f1 (set_at f1.nest.after y x) (set_at f1.nest.joint y e) → x ≡ way_of g f0 a i → y ≡ way_of g f0 a (suc i)
     → e ≡ g.twin d → d ≡ dart_or (rise_of f0 (way_of g f0 a i)) → f2 ≡ laid_down g f0 a (suc i)
-laid_more_down g f0 f1 f2 a i x y d e e1 e2 x_is y_is e_is d_is =
-    e2 ∙ (ap (λ (f : Forest). ringed f (set_at f.nest.after y x) (set_at f.nest.joint y e)) e1
+laid_more_down g f0 a i {x} {y} {e} e1 e2 x_is y_is e_is d_is = e2
+    ∙ (ap (λ (f : Forest). ringed f (set_at f.nest.after y x) (set_at f.nest.joint y e)) e1
     ∙ (ap (λ z. ringed (laid_down g f0 a i) (set_at (laid_down g f0 a i).nest.after z x)
-    (set_at (laid_down g f0 a i).nest.joint z e)) y_is
-    ∙ (ap (λ z. ringed (laid_down g f0 a i) (set_at (laid_down g f0 a i).nest.after (way_of g f0 a (suc i)) z)
+    (set_at (laid_down g f0 a i).nest.joint z e)) y_is ∙ (ap (λ z. ringed (laid_down g f0 a i)
+    (set_at (laid_down g f0 a i).nest.after (way_of g f0 a (suc i)) z)
     (set_at (laid_down g f0 a i).nest.joint (way_of g f0 a (suc i)) e)) x_is
     ∙ ap (λ z. ringed (laid_down g f0 a i) (set_at (laid_down g f0 a i).nest.after (way_of g f0 a (suc i))
-    (way_of g f0 a i)) (set_at (laid_down g f0 a i).nest.joint (way_of g f0 a (suc i)) z)) (e_is
-    ∙ ap g.twin d_is))))
+    (way_of g f0 a i)) (set_at (laid_down g f0 a i).nest.joint (way_of g f0 a (suc i)) z)) (e_is ∙ ap g.twin d_is))))
 
-pub laid_more_up : (g : Darts) (f0 f1 f2 : Forest) (c i x y d : ℕ) → f1 ≡ laid_up g f0 c i
-    → f2 ≡ ringed f1 (set_at f1.nest.after x y) (set_at f1.nest.joint x d) → x ≡ way_of g f0 c i
-    → y ≡ way_of g f0 c (suc i)
+pub laid_more_up : (g : Darts) (f0 : Forest) {f1 f2 : Forest} (c i : ℕ) {x y d : ℕ} → f1 ≡ laid_up g f0 c i → f2
+    ≡ ringed f1 (set_at f1.nest.after x y) (set_at f1.nest.joint x d) → x ≡ way_of g f0 c i → y ≡ way_of g f0 c (suc i)
     → d ≡ dart_or (rise_of f0 (way_of g f0 c i)) → f2 ≡ laid_up g f0 c (suc i)
-laid_more_up g f0 f1 f2 c i x y d e1 e2 x_is y_is d_is =
-    e2 ∙ (ap (λ (f : Forest). ringed f (set_at f.nest.after x y) (set_at f.nest.joint x d)) e1
-    ∙ (ap (λ z. ringed (laid_up g f0 c i) (set_at (laid_up g f0 c i).nest.after z y)
-    (set_at (laid_up g f0 c i).nest.joint z d)) x_is
-    ∙ (ap (λ z. ringed (laid_up g f0 c i) (set_at (laid_up g f0 c i).nest.after (way_of g f0 c i) z)
-    (set_at (laid_up g f0 c i).nest.joint (way_of g f0 c i) d)) y_is
-    ∙ ap (λ z. ringed (laid_up g f0 c i) (set_at (laid_up g f0 c i).nest.after (way_of g f0 c i)
+laid_more_up g f0 c i {x} {y} {d} e1 e2 x_is y_is d_is = e2 ∙ (ap (λ (f : Forest). ringed f (set_at f.nest.after x y)
+    (set_at f.nest.joint x d)) e1 ∙ (ap (λ z. ringed (laid_up g f0 c i) (set_at (laid_up g f0 c i).nest.after z y)
+    (set_at (laid_up g f0 c i).nest.joint z d)) x_is ∙ (ap (λ z. ringed (laid_up g f0 c i)
+    (set_at (laid_up g f0 c i).nest.after (way_of g f0 c i) z) (set_at (laid_up g f0 c i).nest.joint (way_of g f0 c i)
+    d)) y_is ∙ ap (λ z. ringed (laid_up g f0 c i) (set_at (laid_up g f0 c i).nest.after (way_of g f0 c i)
     (way_of g f0 c (suc i))) (set_at (laid_up g f0 c i).nest.joint (way_of g f0 c i) z)) d_is)))
 
 -- The forest sees what is laid.
-pub seen_lay : (t : ForestTables) (hid : HiddenTables) → AreTied t hid → (x next dart : ℕ) → x < length t.up
+pub seen_lay : {t : ForestTables} {hid : HiddenTables} → AreTied t hid → (x next dart : ℕ) → x < length t.up
     → forest_of (record t { after = set t.after x next; joint = set t.joint x dart })
     ≡ ringed (forest_of t) (set_at (forest_of t).nest.after x next) (set_at (forest_of t).nest.joint x dart)
-seen_lay t hid tied x next dart low i = record {
+seen_lay {t} tied x next dart low i = record {
   size = (forest_of t).size;
   holds = (forest_of t).holds;
   out = (forest_of t).out;
@@ -110,16 +105,15 @@ seen_lay t hid tied x next dart low i = record {
 }
 
 -- The whole ring is laid: one way down, the edge over, the other way up.
-pub laid_whole : (g : Darts) (f0 f1 f2 f3 : Forest) (start a c left right : ℕ) → a ≡ f0.out (g.near start)
-    → c ≡ f0.out (far g start) → f1 ≡ laid_down g f0 a left
-    → f2 ≡ ringed f1 (set_at f1.nest.after a c) (set_at f1.nest.joint a start) → f3 ≡ laid_up g f2 c right
-    → f3 ≡ laid_ring g f0 start left right
-laid_whole g f0 f1 f2 f3 start a c left right a_is c_is e1 e2 e3 =
+pub laid_whole : (g : Darts) (f0 : Forest) {f1 f2 f3 : Forest} (start : ℕ) {a c : ℕ} (left right : ℕ) → a
+    ≡ f0.out (g.near start) → c ≡ f0.out (far g start) → f1 ≡ laid_down g f0 a left → f2
+    ≡ ringed f1 (set_at f1.nest.after a c) (set_at f1.nest.joint a start) → f3 ≡ laid_up g f2 c right → f3
+    ≡ laid_ring g f0 start left right
+laid_whole g f0 {f1} {f2} start {c} left right a_is c_is e1 e2 e3 =
     let at_a : f1 ≡ laid_down g f0 (f0.out (g.near start)) left = e1 ∙ ap (λ x. laid_down g f0 x left) a_is in
     let over : f2 ≡ ringed f1 (set_at f1.nest.after (f0.out (g.near start)) (f0.out (far g start)))
-    (set_at f1.nest.joint (f0.out (g.near start)) start) =
-    e2 ∙ (ap (λ x. ringed f1 (set_at f1.nest.after x c) (set_at f1.nest.joint x start)) a_is
-    ∙ ap (λ x. ringed f1 (set_at f1.nest.after (f0.out (g.near start)) x)
+    (set_at f1.nest.joint (f0.out (g.near start)) start) = e2 ∙ (ap (λ x. ringed f1 (set_at f1.nest.after x c)
+    (set_at f1.nest.joint x start)) a_is ∙ ap (λ x. ringed f1 (set_at f1.nest.after (f0.out (g.near start)) x)
     (set_at f1.nest.joint (f0.out (g.near start)) start)) c_is) in
     let whole : f2 ≡ ringed (laid_down g f0 (f0.out (g.near start)) left)
     (set_at (laid_down g f0 (f0.out (g.near start)) left).nest.after (f0.out (g.near start)) (f0.out (far g start)))

@@ -13,45 +13,42 @@ use Rattle.qm_forest.proofs.Ranges.{outermost_low}
 use Rattle.qm_forest.specs.Ties.{AreTied, HiddenTables, HasSameNest, labelled, mated, left_alone}
 
 -- A blossom stays outermost where the handles are the same.
-pub outermost_kept : (t u : ForestTables) (x y : ℕ) → HasSameNest t u → x ≡ y → IsOutermostIn t y → IsOutermostIn u x
-outermost_kept t u x y same e w = (
+pub outermost_kept : {t u : ForestTables} {x y : ℕ} → HasSameNest t u → x ≡ y → IsOutermostIn t y → IsOutermostIn u x
+outermost_kept {t} {u} same e w = (
   w.0,
   subst (λ xs. w.0 < length xs) (sym same.hand) w.1,
   ap (λ h. out_of h u.top w.0) same.hand ∙ (ap (λ o. out_of t.hand o w.0) same.top ∙ (w.2 ∙ sym e)),
 )
 
 -- One blossom more leaves.
-pub left_more : (f0 f1 f2 : Forest) (front k j x v : ℕ) → f1 ≡ left_alone f0 front k
+pub left_more : (f0 : Forest) {f1 f2 : Forest} (front k : ℕ) {j x : ℕ} (v : ℕ) → f1 ≡ left_alone f0 front k
     → f2 ≡ mated (labelled f1 (f1.out v) Outside) x None → f1.out v ≡ x → x ≡ walk f0.nest.after front k → j ≡ suc k
     → f2 ≡ left_alone f0 front j
-left_more f0 f1 f2 front k j x v e1 e2 v_is x_is j_is =
+left_more f0 {f1} front k {x} v e1 e2 v_is x_is j_is =
     e2 ∙ (ap (λ y. mated (labelled f1 y Outside) x None) v_is ∙ (ap (λ y. mated (labelled f1 y Outside) y None) x_is
     ∙ (ap (λ (f : Forest). mated (labelled f (walk f0.nest.after front k) Outside) (walk f0.nest.after front k) None) e1
     ∙ ap (left_alone f0 front) (sym j_is))))
 
 -- The set that was gathered is outermost.
-pub gathered_outermost : (t u : ForestTables) (front many b : ℕ) → IsFreeRing t front many
+pub gathered_outermost : {t : ForestTables} (u : ForestTables) {front many b : ℕ} → IsFreeRing t front many
     → IsGathered (length t.hand) (forest_of t) (forest_of u) (listed (λ i. get_or t.after i 0) front many) front many b
     → length u.hand ≡ length t.hand → IsOutermostIn u b
-gathered_outermost t u front many b ring is size = by_first (ring.tops 0 ring.row.some)
+gathered_outermost {t} u {front} {many} {b} ring is size = by_first (ring.tops 0 ring.row.some)
   where
     by_first : IsOutermostIn t front → IsOutermostIn u b
     by_first w = (
       w.0,
       subst (λ n. w.0 < n) (sym size) w.1,
-      is.out w.0 w.1
-          ∙ cond-true (listed (λ i. get_or t.after i 0) front many ((forest_of t).out w.0)) b ((forest_of t).out w.0)
-          (ap (listed (λ i. get_or t.after i 0) front many) w.2 ∙ listed_at (λ i. get_or t.after i 0) front many 0
-          ring.row.some),
+      is.out w.0 w.1 ∙ cond-true (listed (λ i. get_or t.after i 0) front many ((forest_of t).out w.0)) b
+          ((forest_of t).out w.0) (ap (listed (λ i. get_or t.after i 0) front many) w.2
+          ∙ listed_at (λ i. get_or t.after i 0) front many 0 ring.row.some),
     )
 
 -- The leader of an outermost blossom is a vertex of it.
-pub leader_of : (t : ForestTables) (hid : HiddenTables) → AreTied t hid → (b v : ℕ) (u : ForestTables) → t ≡ u
+pub leader_of : {t : ForestTables} {hid : HiddenTables} → AreTied t hid → (b : ℕ) {v : ℕ} {u : ForestTables} → t ≡ u
     → IsOutermostIn t b → v ≡ get_or hid.leader b v → out_of u.hand u.top v ≡ b
-leader_of t hid tied b v u e w read =
-    let low : b < length hid.leader = subst (λ n. b < n) (sym tied.sizes.leader) (outermost_low t hid tied b w) in
+leader_of {t} {hid} tied b {v} e w read =
+    let low : b < length hid.leader = subst (λ n. b < n) (sym tied.sizes.leader) (outermost_low tied b w) in
     let v_is : v ≡ get_or hid.leader b 0 = get_or_read hid.leader b v low read 0 in
     subst (λ (x : ForestTables). out_of x.hand x.top v ≡ b) e (ap (out_of t.hand t.top) v_is
-    ∙ (ap (λ x. out_of t.hand t.top (get_or hid.leader x 0)) (sym w.2)
-    ∙ (leader_out (length t.hand) (length t.up) t.hand t.top t.up t.rank t.parts hid.leader hid.first hid.last
-    hid.following tied.nest w.0 w.1 ∙ w.2)))
+    ∙ (ap (λ x. out_of t.hand t.top (get_or hid.leader x 0)) (sym w.2) ∙ (leader_out tied.nest w.0 w.1 ∙ w.2)))

@@ -8,10 +8,10 @@ use Rattle.def_matching.specs.Matching.{WeightedGraph, edge_at}
 use Rattle.def_matching.specs.declared.weighted.WEdge.{WEdge}
 use Rattle.qm_forest.specs.Ties.{HasLowCosts, IsGreatestTo, IsLowered}
 
-pub one_more_edge : (g : WeightedGraph) (most e : ℕ) (a b d : List ℤ) (x : WEdge) (c1 c2 : ℤ) → HasLowCosts g most e a
+pub one_more_edge : {g : WeightedGraph} {most e : ℕ} {a b d : List ℤ} {x : WEdge} {c1 c2 : ℤ} → HasLowCosts g most e a
     → x ≡ edge_at g e → c1 ≡ x.cost → c2 ≡ x.cost → unsigned_abs (edge_at g e).cost ≤ most → IsLowered a b x.u c1
     → IsLowered b d x.v c2 → HasLowCosts g most (e + 1) d
-one_more_edge g most e a b d x c1 c2 has x_is e1 e2 bound l1 l2 = record {
+one_more_edge {g} {most} {e} {a} {b} {d} {x} {c1} {c2} has x_is e1 e2 bound l1 l2 = record {
   size = l2.size ∙ (l1.size ∙ has.size);
   small = λ v. by_from v (l2.from v) (l1.from v);
   first = λ k l. first k l (cases_eq k e);
@@ -54,9 +54,9 @@ one_more_edge g most e a b d x c1 c2 has x_is e1 e2 bound l1 l2 = record {
         omega (arith, ints, l2.least, same, cost)
 
 -- The greatest of one cost more.
-pub one_more_cost : (g : WeightedGraph) (e most new cost : ℕ) → cost ≡ unsigned_abs (edge_at g e).cost
+pub one_more_cost : {g : WeightedGraph} {e most : ℕ} {new : ℕ} (cost : ℕ) → cost ≡ unsigned_abs (edge_at g e).cost
     → new ≡ max most cost → IsGreatestTo g e most → IsGreatestTo g (e + 1) new
-one_more_cost g e most new cost cost_is new_is was = record {
+one_more_cost {g} {e} {most} {new} cost cost_is new_is was = record {
   above = λ k l. by_place k l (cases_eq k e);
   least = λ c low. (let h : most ≤ c = was.least c (λ k l. low k (omega (arith, l))) in
       let s : unsigned_abs (edge_at g e).cost ≤ c = low e (omega arith) in omega (arith, h, s, new_is, cost_is));

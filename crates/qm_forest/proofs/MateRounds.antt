@@ -19,13 +19,13 @@ use Rattle.qm_forest.proofs.Laminars.{alone, another}
 use Rattle.qm_forest.proofs.Pairings.{option_cases, paired_round}
 use Rattle.qm_forest.proofs.Withins.{by_pair, in_line, in_where, off_where, where_in}
 
-module _ (t : ForestTables) (known : IsLaminar t) (g : WeightedGraph) (is : IsSmallGraph g)
+module _ {t : ForestTables} (known : IsLaminar t) {g : WeightedGraph} (is : IsSmallGraph g)
     (valid : IsSoundFor g t) where
   abbrev f : Forest
   f = forest_of t
 
   abbrev are : AreDarts (darts_of g)
-  are = are_darts g is.lawful
+  are = are_darts is.lawful
 
   low_in : (v : ℕ) → v < length t.hand → v < g.n
   low_in v l = subst (λ m. v < m) valid.vertices l
@@ -48,12 +48,10 @@ module _ (t : ForestTables) (known : IsLaminar t) (g : WeightedGraph) (is : IsSm
       let wo : (j : ℕ) × (walk (up_at t.up) u j ≡ f.out u) =
       where_in (length t.hand) (up_at t.up) (λ z. get_or t.rank z 0) known.rises u (f.out u) (within_out u u lu lu
       ∙ eq-eqb (f.out u) (f.out u) refl) in
-      elim (in_line (length t.hand) (up_at t.up) (λ z. get_or t.rank z 0)
-      known.rises u b (f.out u) wb.0 wo.0 wb.1 wo.1) [
-        | inl m ↦ in_where (length t.hand) (up_at t.up) (λ z. get_or t.rank z 0) known.rises b (f.out u) m.0
-            (top_rank u lu) m.1
-        | inr m ↦ in_where (length t.hand) (up_at t.up) (λ z. get_or t.rank z 0) known.rises b (f.out u) 0
-            (top_rank u lu) (sym m.1 ∙ walk_stays (up_at t.up) (f.out u) m.0 (top_stays u lu))
+      elim (in_line (length t.hand) (up_at t.up) (λ z. get_or t.rank z 0) known.rises u wb.0 wo.0 wb.1 wo.1) [
+        | inl m ↦ in_where (length t.hand) (up_at t.up) (λ z. get_or t.rank z 0) known.rises b m.0 (top_rank u lu) m.1
+        | inr m ↦ in_where (length t.hand) (up_at t.up) (λ z. get_or t.rank z 0) known.rises b 0
+            (top_rank u lu) (sym m.1 ∙ walk_stays (up_at t.up) m.0 (top_stays u lu))
       ]
 
   through : (b u w : ℕ) → u < length t.hand → within t w b ≡ true → within t b (f.out u) ≡ true → within t w (f.out u)
@@ -63,7 +61,7 @@ module _ (t : ForestTables) (known : IsLaminar t) (g : WeightedGraph) (is : IsSm
       known.rises w b first in
       let wo : (j : ℕ) × (walk (up_at t.up) b j ≡ f.out u) =
       where_in (length t.hand) (up_at t.up) (λ z. get_or t.rank z 0) known.rises b (f.out u) second in
-      in_where (length t.hand) (up_at t.up) (λ z. get_or t.rank z 0) known.rises w (f.out u) (wb.0 + wo.0)
+      in_where (length t.hand) (up_at t.up) (λ z. get_or t.rank z 0) known.rises w (wb.0 + wo.0)
       (top_rank u lu) (walk_sum (up_at t.up) w wb.0 wo.0 ∙ (ap (λ x. walk (up_at t.up) x wo.0) wb.1 ∙ wo.1))
 
   -- No blossom lies in two outermost ones.
@@ -74,10 +72,9 @@ module _ (t : ForestTables) (known : IsLaminar t) (g : WeightedGraph) (is : IsSm
       where_in (length t.hand) (up_at t.up) (λ z. get_or t.rank z 0) known.rises b (f.out u) on in
       let wv : (j : ℕ) × (walk (up_at t.up) b j ≡ f.out v) =
       where_in (length t.hand) (up_at t.up) (λ z. get_or t.rank z 0) known.rises b (f.out v) other in
-      elim (in_line (length t.hand) (up_at t.up) (λ z. get_or t.rank z 0) known.rises b (f.out u) (f.out v) wu.0 wv.0
-      wu.1 wv.1) [
-        | inl m ↦ ne (sym (walk_stays (up_at t.up) (f.out u) m.0 (top_stays u lu)) ∙ m.1)
-        | inr m ↦ ne (sym m.1 ∙ walk_stays (up_at t.up) (f.out v) m.0 (top_stays v lv))
+      elim (in_line (length t.hand) (up_at t.up) (λ z. get_or t.rank z 0) known.rises b wu.0 wv.0 wu.1 wv.1) [
+        | inl m ↦ ne (sym (walk_stays (up_at t.up) m.0 (top_stays u lu)) ∙ m.1)
+        | inr m ↦ ne (sym m.1 ∙ walk_stays (up_at t.up) m.0 (top_stays v lv))
       ]
 
   -- Two outermost blossoms are a pair.
@@ -85,17 +82,14 @@ module _ (t : ForestTables) (known : IsLaminar t) (g : WeightedGraph) (is : IsSm
       → bool_number (splits (f.holds b) u v) + (waits_but t b (f.out u) u + waits_but t b (f.out v) v)
       ≡ bool_number (within t b (f.out u)) + bool_number (within t b (f.out v))
   tops_law u v b lu lv ne = by_pair (length t.hand) (up_at t.up) (λ z. get_or t.rank z 0) known.rises
-      (within t b (f.out u)) (within t b (f.out v)) (f.holds b u) (f.holds b v)
-      (λ on. (
+      (within t b (f.out u)) (within t b (f.out v)) (f.holds b u) (f.holds b v) (λ on. (
         off_where (within t b (f.out v)) (λ o. not_both b u v lu lv ne on o),
         off_where (f.holds b v) (λ o. not_both b u v lu lv ne on (around_in b v lv o)),
-      ))
-      (λ on. (
+      )) (λ on. (
         off_where (within t b (f.out u)) (λ o. not_both b u v lu lv ne o on),
         off_where (f.holds b u) (λ o. not_both b u v lu lv ne (around_in b u lu o) on),
-      ))
-      (λ ou ov. off_where (f.holds b u) (λ o. true_false (within t b (f.out u)) (around_in b u lu o) ou)
-      ∙ sym (off_where (f.holds b v) (λ o. true_false (within t b (f.out v)) (around_in b v lv o) ov)))
+      )) (λ ou ov. off_where (f.holds b u) (λ o. true_false (around_in b u lu o) ou)
+      ∙ sym (off_where (f.holds b v) (λ o. true_false (around_in b v lv o) ov)))
 
   -- What an edge that matches says.
   pub record IsMateEdge (e : ℕ) : Type 0 where
@@ -115,7 +109,7 @@ module _ (t : ForestTables) (known : IsLaminar t) (g : WeightedGraph) (is : IsSm
       (subst (λ v. v < g.n) (sym (valid.ends d l)) (are.near_low d l))
 
   used_at : (u : ℕ) → u < length t.hand → length t.hand ≤ f.out u → get_or t.parts (f.out u) 0 ≢ 0
-  used_at u lu high none = true_false (f.holds (f.out u) u) (within_out u u lu lu ∙ eq-eqb (f.out u) (f.out u) refl)
+  used_at u lu high none = true_false (within_out u u lu lu ∙ eq-eqb (f.out u) (f.out u) refl)
       (valid.valid.nested.empty (f.out u) u (subst (λ m. m ≤ f.out u) valid.vertices high) (low_in u lu) none)
 
   pub mate_edge : (e : ℕ) → f.mate (f.out (near_at t (2 * e))) ≡ Some (2 * e) → IsMateEdge e
@@ -173,8 +167,8 @@ module _ (t : ForestTables) (known : IsLaminar t) (g : WeightedGraph) (is : IsSm
   dart_true None d on = absurd (cc on)
   dart_true (Some x) d on = ap (λ (k : ℕ). Some k) (eqb-true x d on)
 
-  pub dart_is : (o : Option ℕ) (d : ℕ) → o ≡ Some d → is_dart o d ≡ true
-  dart_is o d e = ap (λ (x : Option ℕ). is_dart x d) e ∙ eq-eqb d d refl
+  pub dart_is : {o : Option ℕ} (d : ℕ) → o ≡ Some d → is_dart o d ≡ true
+  dart_is d e = ap (λ (x : Option ℕ). is_dart x d) e ∙ eq-eqb d d refl
 
   pub matches_is : (e : ℕ) → matches t e ≡ true → IsMateEdge e
   matches_is e on = mate_edge e (dart_true (f.mate (f.out (near_at t (2 * e)))) (2 * e) on)
@@ -249,8 +243,7 @@ module _ (t : ForestTables) (known : IsLaminar t) (g : WeightedGraph) (is : IsSm
       by_side (inl z) =
           let s : d ≡ 2 * (d / 2) = omega (arith, z) in
           let here : f.out w ≡ f.out (near_at t (2 * (d / 2))) = sym near_is ∙ ap (λ k. f.out (near_at t k)) s in (
-            value (d / 2) (dart_is (f.mate (f.out (near_at t (2 * (d / 2))))) (2 * (d / 2)) (ap f.mate (sym here)
-                ∙ (mate ∙ ap (λ (k : ℕ). Some k) s))) (inl here),
+            value (d / 2) (dart_is (2 * (d / 2)) (ap f.mate (sym here) ∙ (mate ∙ ap (λ (k : ℕ). Some k) s))) (inl here),
             omega (arith, d_low),
           )
       by_side (inr nz) =
@@ -258,7 +251,7 @@ module _ (t : ForestTables) (known : IsLaminar t) (g : WeightedGraph) (is : IsSm
           let up : d ≡ 2 * (d / 2) + 1 = omega (arith, nz) in
           let far_is : far (darts_of g) d ≡ near_at t (2 * (d / 2)) =
           sym (valid.ends (other_dart d) (are.twin_low d d_low)) ∙ ap (near_at t) s in (
-            value (d / 2) (dart_is (f.mate (f.out (near_at t (2 * (d / 2))))) (2 * (d / 2))
+            value (d / 2) (dart_is (2 * (d / 2))
                 (ap (λ v. f.mate (f.out v)) (sym far_is) ∙ (m.back ∙ ap (λ (k : ℕ). Some k) s)))
                 (inr (sym near_is ∙ ap (λ k. f.out (near_at t k)) up)),
             omega (arith, d_low),
@@ -288,9 +281,9 @@ module _ (t : ForestTables) (known : IsLaminar t) (g : WeightedGraph) (is : IsSm
               count_below_none (term w) edges (λ k l. others k (λ e. absurd (omega (arith, l, h, e)))) in
               omega (arith, z))
 
-  pub due_one : (w edges : ℕ) → w < length t.hand → edges ≡ length g.edges → f.mate (f.out w) ≢ None
+  pub due_one : (w : ℕ) {edges : ℕ} → w < length t.hand → edges ≡ length g.edges → f.mate (f.out w) ≢ None
       → matched_by t edges w ≡ 1
-  due_one w edges lw all matched = by_mate (option_cases (f.mate (f.out w)))
+  due_one w {edges} lw all matched = by_mate (option_cases (f.mate (f.out w)))
     where
       by_mate : (f.mate (f.out w) ≡ None) ⊎ ((d : ℕ) × (f.mate (f.out w) ≡ Some d)) → matched_by t edges w ≡ 1
       by_mate (inl none) = absurd (matched none)
@@ -312,7 +305,7 @@ module _ (t : ForestTables) (known : IsLaminar t) (g : WeightedGraph) (is : IsSm
           by_test (inr off) (inr free) = off ∙ sym free
           by_test (inr off) (inl on) =
               let here : f.out w ≡ f.out u = eqb-true (f.out w) (f.out u) (sym (within_out w u lw lu) ∙ on) in
-              absurd (true_false (within t b (f.out u)) (ap (within t b) (sym here) ∙ around_in b w lw held) off)
+              absurd (true_false (ap (within t b) (sym here) ∙ around_in b w lw held) off)
 
       each : (e : ℕ) → (matches t e ≡ true) ⊎ (matches t e ≡ false) → term b e ≡ term w e
       each e (inr off) = cond-false (matches t e) (bool_number (within t b (f.out (near_at t (2 * e)))) + bool_number
@@ -328,13 +321,13 @@ module _ (t : ForestTables) (known : IsLaminar t) (g : WeightedGraph) (is : IsSm
           0) (same (near_at t (2 * e + 1)) m.far_low)
 
   -- One edge more.
-  pub edge_more : (marks marks2 : List Bool) (left left2 : List (Option ℕ)) (e j : ℕ) → j ≡ e + 1
-      → length t.near ≡ 2 * length marks → length left ≡ length t.up → f.mate (f.out (near_at t (2 * e))) ≡ Some (2 * e)
-      → marks2 ≡ set marks (2 * e / 2) true
-      → left2 ≡ entered (length t.hand) (entered (length t.hand) left (f.out (near_at t (2 * e))) (near_at t (2 * e)))
-      (f.out (near_at t (2 * e + 1))) (far_at t (2 * e))
-      → IsRound t marks left (λ b. 0) (matched_by t e) → IsRound t marks2 left2 (λ b. 0) (matched_by t j)
-  edge_more marks marks2 left left2 e j j_is size_marks size_left mate marks_is left_is round =
+  pub edge_more : {marks : List Bool} {marks2 : List Bool} {left : List (Option ℕ)} {left2 : List (Option ℕ)} (e j : ℕ)
+      → j ≡ e + 1 → length t.near ≡ 2 * length marks → length left ≡ length t.up → f.mate (f.out (near_at t (2 * e)))
+      ≡ Some (2 * e) → marks2 ≡ set marks (2 * e / 2) true → left2 ≡ entered (length t.hand)
+      (entered (length t.hand) left (f.out (near_at t (2 * e))) (near_at t (2 * e))) (f.out (near_at t (2 * e + 1)))
+      (far_at t (2 * e)) → IsRound t marks left (λ b. 0) (matched_by t e)
+      → IsRound t marks2 left2 (λ b. 0) (matched_by t j)
+  edge_more {marks} {left} {left2} e j j_is size_marks size_left mate marks_is left_is round =
       subst (λ ms. IsRound t ms left2 (λ b. 0) (matched_by t j)) (sym marks_is)
       (subst (λ ls. IsRound t (set marks (2 * e / 2) true) ls (λ b. 0) (matched_by t j)) (sym left_is)
       (paired_round t known.vertices (alone t known) known.own (another t known g is valid) marks left
@@ -346,19 +339,17 @@ module _ (t : ForestTables) (known : IsLaminar t) (g : WeightedGraph) (is : IsSm
         tight = round.tight;
       }) (mate_edge e mate).pairing))
     where
-      step : (b : ℕ) → matched_by t j b
-          ≡ matched_by t e b + (bool_number (within t b (f.out (near_at t (2 * e)))) + bool_number
-          (within t b (f.out (near_at t (2 * e + 1)))))
+      step : (b : ℕ) → matched_by t j b ≡ matched_by t e b + (bool_number (within t b (f.out (near_at t (2 * e)))) +
+          bool_number (within t b (f.out (near_at t (2 * e + 1)))))
       step b = ap (λ k. matched_by t k b) (j_is ∙ (let o : e + 1 ≡ suc e = omega arith in o))
-          ∙ ap (λ m. matched_by t e b + m)
-          (cond-true (matches t e) (bool_number (within t b (f.out (near_at t (2 * e)))) + bool_number
-          (within t b (f.out (near_at t (2 * e + 1))))) 0 (dart_is (f.mate (f.out (near_at t (2 * e)))) (2 * e)
-          mate))
+          ∙ ap (λ m. matched_by t e b + m) (cond-true (matches t e) (bool_number
+          (within t b (f.out (near_at t (2 * e)))) + bool_number (within t b (f.out (near_at t (2 * e + 1))))) 0
+          (dart_is (2 * e) mate))
 
-  pub edge_same : (marks : List Bool) (left : List (Option ℕ)) (e j : ℕ) → j ≡ e + 1
+  pub edge_same : {marks : List Bool} {left : List (Option ℕ)} (e j : ℕ) → j ≡ e + 1
       → f.mate (f.out (near_at t (2 * e))) ≢ Some (2 * e) → IsRound t marks left (λ b. 0) (matched_by t e)
       → IsRound t marks left (λ b. 0) (matched_by t j)
-  edge_same marks left e j j_is off round = record {
+  edge_same e j j_is off round = record {
     each = λ b l. omega (arith, round.each b l, step b);
     entry = round.entry;
     once = λ v l. due_low v j l;
@@ -367,8 +358,7 @@ module _ (t : ForestTables) (known : IsLaminar t) (g : WeightedGraph) (is : IsSm
     where
       step : (b : ℕ) → matched_by t j b ≡ matched_by t e b
       step b = ap (λ k. matched_by t k b) (j_is ∙ (let o : e + 1 ≡ suc e = omega arith in o))
-          ∙ (ap (λ m. matched_by t e b + m)
-          (cond-false (matches t e) (bool_number (within t b (f.out (near_at t (2 * e)))) + bool_number
-          (within t b (f.out (near_at t (2 * e + 1))))) 0
+          ∙ (ap (λ m. matched_by t e b + m) (cond-false (matches t e) (bool_number
+          (within t b (f.out (near_at t (2 * e)))) + bool_number (within t b (f.out (near_at t (2 * e + 1))))) 0
           (off_where (matches t e) (λ on. off (dart_true (f.mate (f.out (near_at t (2 * e)))) (2 * e) on))))
           ∙ (let o : matched_by t e b + 0 ≡ matched_by t e b = omega arith in o))

@@ -15,7 +15,7 @@ use Rattle.forest_laws.proofs.Writes.{label_cases}
 use Rattle.qm_forest.specs.Ties.{IsClimb, IsWithin, IsMeeting, apart}
 use Rattle.qm_forest.proofs.Apart.{can_climb, rank_low, apart_step, apart_order, apart_met, apart_small}
 
-module _ (g : WeightedGraph) (t : ForestTables) (valid : IsValidFor g t) (climb : IsClimb (length t.hand) (up_at t.up)
+module _ {g : WeightedGraph} {t : ForestTables} (valid : IsValidFor g t) (climb : IsClimb (length t.hand) (up_at t.up)
     (forest_of t).out) (few : length t.up ≤ 2 ^ 26) (small : (b : ℕ) → unsigned_abs ((forest_of t).weight b)
     ≤ 2 ^ 62) where
   abbrev up : ℕ → ℕ
@@ -52,39 +52,36 @@ module _ (g : WeightedGraph) (t : ForestTables) (valid : IsValidFor g t) (climb 
   passing x y = apart (length t.hand) up (forest_of t).weight (length t.up) x y
 
   -- One is within where one is.
-  pub begins_within : (b v : ℕ) → v < length t.hand → (forest_of t).out v ≡ b → IsWithin t b v
-  begins_within b v l e = (v, l, e, 0, refl)
 
   within_up : (b x : ℕ) → IsWithin t b x → IsWithin t b (up x)
   within_up b x w = (w.0, w.1, w.2, suc w.3, ap up w.4)
 
   within_rank : (b x : ℕ) → IsWithin t b x → rank x ≤ rank b
-  within_rank b x w = subst (λ k. rank x ≤ rank k) w.2 (rank_low (length t.hand) up rank (forest_of t).out climb rises
-      w.0 x w.1 (w.3, w.4))
+  within_rank b x w = subst (λ k. rank x ≤ rank k) w.2 (rank_low rank climb rises w.0 x w.1 (w.3, w.4))
 
   within_climbs : (b x y : ℕ) → IsWithin t b x → IsWithin t b y → x ≢ y → rank x ≤ rank y → up x ≢ x
-  within_climbs b x y wx wy ne le = can_climb (length t.hand) up rank (forest_of t).out climb rises wx.0 wy.0 x y wx.1
+  within_climbs b x y wx wy ne le = can_climb rank climb rises wx.0 wy.0 x y wx.1
       wy.1 (wx.2 ∙ sym wy.2) (wx.3, wx.4) (wy.3, wy.4) ne le
 
   within_step : (b x y : ℕ) → IsWithin t b x → IsWithin t b y → x ≢ y → rank x ≤ rank y → x < length t.up
       → passing x y ≡ passing (up x) y +ℤ get_or t.base x (pos 0)
   within_step b x y wx wy ne le low =
       let inner : up x ≢ x = within_climbs b x y wx wy ne le in
-      apart_step (length t.hand) up rank (forest_of t).out climb rises (forest_of t).weight (length t.up) wx.0 wx.0 x y
+      apart_step rank climb rises (forest_of t).weight (length t.up) wx.0 wx.0 x y
       wx.1 (wx.3, wx.4) ne le inner low ∙ ap (λ z. passing (up x) y +ℤ z) (sym (base_is x inner))
 
   all_small : (x y : ℕ) → unsigned_abs (passing x y) ≤ 2 ^ 88
   all_small x y = omega (arith, apart_small (length t.hand) up (forest_of t).weight (length t.up) x y small, few)
 
-  module _ (u v x y : ℕ) (load : ℤ) (meet : IsMeeting t u v x y load) (ne : x ≢ y) where
+  module _ {u v x y : ℕ} {load : ℤ} (meet : IsMeeting t u v x y load) (ne : x ≢ y) where
     abbrev top : ℕ
     top = (forest_of t).out u
 
     -- A turn: the lower one climbs, and what it was at is passed.
-    pub turn_meets : (low high x2 : ℕ) (load2 : ℤ) → ((low ≡ x) × (high ≡ y)) ⊎ ((low ≡ y) × (high ≡ x))
+    pub turn_meets : (low high : ℕ) {x2 : ℕ} (load2 : ℤ) → ((low ≡ x) × (high ≡ y)) ⊎ ((low ≡ y) × (high ≡ x))
         → rank low ≤ rank high → x2 ≡ up low → x2 < length t.up → load2 ≡ load +ℤ get_or t.base low (pos 0)
         → IsMeeting t u v x2 high load2
-    turn_meets low high x2 load2 either order x2_is x2_low load_is = by_side either
+    turn_meets low high {x2} load2 either order x2_is x2_low load_is = by_side either
       where
         build : IsWithin t top low → IsWithin t top high → low ≢ high → low < length t.up → high < length t.up
             → passing x y ≡ passing low high → IsMeeting t u v x2 high load2
@@ -115,9 +112,10 @@ module _ (g : WeightedGraph) (t : ForestTables) (valid : IsValidFor g t) (climb 
             ∙ (ap (λ k. passing k x) (sym e.0) ∙ ap (passing low) (sym e.1)))
 
     -- And they come nearer.
-    pub turn_nearer : (low high x2 : ℕ) → ((low ≡ x) × (high ≡ y)) ⊎ ((low ≡ y) × (high ≡ x)) → rank low ≤ rank high
-        → x2 ≡ up low → (rank top + rank top) - (rank x2 + rank high) < (rank top + rank top) - (rank x + rank y)
-    turn_nearer low high x2 either order x2_is = by_side either
+    pub turn_nearer : (low high : ℕ) {x2 : ℕ} → ((low ≡ x) × (high ≡ y)) ⊎ ((low ≡ y) × (high ≡ x))
+        → rank low ≤ rank high → x2 ≡ up low → (rank top + rank top) - (rank x2 + rank high) < (rank top + rank top) -
+        (rank x + rank y)
+    turn_nearer low high {x2} either order x2_is = by_side either
       where
         increasing : IsWithin t top low → IsWithin t top high → low ≢ high → (rank low < rank x2) × (rank x2 ≤ rank top)
             × (rank high ≤ rank top)
@@ -145,9 +143,9 @@ module _ (g : WeightedGraph) (t : ForestTables) (valid : IsValidFor g t) (climb 
             omega (arith, r.0, r.1, r.2)
 
 -- Where they have met, the load is found.
-pub met_load : (t : ForestTables) (u v x y : ℕ) (sum : ℤ) → IsMeeting t u v x y sum → x ≡ y
+pub met_load : {t : ForestTables} {u v x y : ℕ} {sum : ℤ} → IsMeeting t u v x y sum → x ≡ y
     → sum ≡ weight_between (forest_of t) u v
-met_load t u v x y sum meet e = let none : apart (length t.hand) (up_at t.up) (forest_of t).weight (length t.up) x y
-    ≡ pos 0 = apart_met (length t.hand) (up_at t.up) (forest_of t).weight (length t.up) x y e in
+met_load {t} {u} {v} {x} {y} {sum} meet e = let none : apart (length t.hand) (up_at t.up) (forest_of t).weight
+    (length t.up) x y ≡ pos 0 = apart_met (length t.hand) (up_at t.up) (forest_of t).weight (length t.up) e in
     let all : sum ≡ apart (length t.hand) (up_at t.up) (forest_of t).weight (length t.up) u v =
     omega (arith, ints, none, meet.sum) in all

@@ -25,29 +25,29 @@ climbs_place up (suc k) b from on =
     by_or (inr e) more = let w : (i : ℕ) × (walk up (up from) i ≡ b) = more e in (suc w.0, walk_front up from w.0 ∙ w.1)
 
 -- Where one comes to from elsewhere one comes by a step.
-pub comes_by : (up : ℕ → ℕ) (v i x : ℕ) → walk up v i ≡ x → v ≢ x → (y : ℕ) × (up y ≡ x) × (y ≢ x)
-comes_by up v zero x e ne = absurd (ne e)
-comes_by up v (suc i) x e ne = elim (cases_eq (walk up v i) x) [
-  | inl at ↦ comes_by up v i x at ne
+pub comes_by : (up : ℕ → ℕ) (v i : ℕ) {x : ℕ} → walk up v i ≡ x → v ≢ x → (y : ℕ) × (up y ≡ x) × (y ≢ x)
+comes_by up v zero e ne = absurd (ne e)
+comes_by up v (suc i) {x} e ne = elim (cases_eq (walk up v i) x) [
+  | inl at ↦ comes_by up v i at ne
   | inr off ↦ (walk up v i, e, off)
 ]
 
-module _ (n size : ℕ) (hand top up rank parts leader first last following : List ℕ)
+module _ {n size : ℕ} {hand top up rank parts leader first last following : List ℕ}
     (nest : IsLaidOut n size hand top up rank parts leader first last following) where
   abbrev out : ℕ → ℕ
   out = out_of hand top
 
   -- What one comes to is in use.
-  pub reached_used : (v i x : ℕ) → v < n → walk (up_at up) v i ≡ x → IsInUse n parts x
-  reached_used v i x l e = by_place (cases_eq v x)
+  pub reached_used : (v i : ℕ) {x : ℕ} → v < n → walk (up_at up) v i ≡ x → IsInUse n parts x
+  reached_used v i {x} l e = by_place (cases_eq v x)
     where
       by_place : (v ≡ x) ⊎ (v ≢ x) → IsInUse n parts x
       by_place (inl at) = inl (subst (λ y. y < n) at l)
-      by_place (inr ne) = (let w : (y : ℕ) × (up_at up y ≡ x) × (y ≢ x) = comes_by (up_at up) v i x e ne in
+      by_place (inr ne) = (let w : (y : ℕ) × (up_at up y ≡ x) × (y ≢ x) = comes_by (up_at up) v i e ne in
           inr (subst (λ y. get_or parts y 0 ≢ 0) w.1 (nest.around w.0 (λ s. w.2 (sym s ∙ w.1))).1))
 
   pub out_used : (v : ℕ) → v < n → IsInUse n parts (out v)
-  out_used v l = reached_used v n (out v) l (nest.climb.ends v l)
+  out_used v l = reached_used v n l (nest.climb.ends v l)
 
   pub out_size : (v : ℕ) → v < n → out v < size
   out_size v l = nest.outs (get_or hand v 0) (nest.hands v l)
@@ -57,15 +57,14 @@ module _ (n size : ℕ) (hand top up rank parts leader first last following : Li
   list_of v l = nest.members (out v) (out_size v l) (out_used v l)
 
   pub rank_few : (v : ℕ) → v < n → get_or rank (out v) 0 ≤ n
-  rank_few v l = list_few n (λ k. get_or following k 0) (get_or first (out v) 0) (get_or last (out v) 0)
-      (get_or rank (out v) 0) (climbs (up_at up) n (out v)) (list_of v l)
+  rank_few v l = list_few (list_of v l)
 
   pub rank_some : (v : ℕ) → v < n → n ≤ size → 1 ≤ get_or rank v 0
   rank_some v l le = (nest.members v (omega (arith, l, le)) (inl l)).some
 
   -- A vertex in an outermost blossom has it as its own.
   pub held_out : (v w : ℕ) → v < n → w < n → climbs (up_at up) n (out v) w ≡ true → out w ≡ out v
-  held_out v w lv lw on = sym (fixed_top n (up_at up) (λ x. get_or rank x 0) out nest.climb nest.rises w (out v) lw
+  held_out v w lv lw on = sym (fixed_top (λ x. get_or rank x 0) nest.climb nest.rises w lw
       (climbs_place (up_at up) n (out v) w on) (nest.climb.tops v lv))
 
   -- The leader of an outermost blossom is one of its vertices.
@@ -78,8 +77,7 @@ module _ (n size : ℕ) (hand top up rank parts leader first last following : Li
 
   -- What one comes past has no more vertices than the outermost.
   pub rank_passed : (v y : ℕ) → v < n → climbs (up_at up) n y v ≡ true → get_or rank y 0 ≤ get_or rank (out v) 0
-  rank_passed v y l on = rank_low n (up_at up) (λ x. get_or rank x 0) out nest.climb nest.rises v y l
-      (climbs_place (up_at up) n y v on)
+  rank_passed v y l on = rank_low (λ x. get_or rank x 0) nest.climb nest.rises v y l (climbs_place (up_at up) n y v on)
 
   -- The last vertex of an outermost blossom is the last of each list that it is on.
   pub last_free : (v y j : ℕ) → v < n → y < size → IsInUse n parts y → suc j < get_or rank y 0
@@ -88,12 +86,10 @@ module _ (n size : ℕ) (hand top up rank parts leader first last following : Li
       let more : get_or rank (out v) 0 < get_or rank y 0 =
       nest.ended (out v) y j (out_size v lv) ly (out_used v lv) used l e in
       let mine : (get_or last (out v) 0 < n) × (climbs (up_at up) n (out v) (get_or last (out v) 0) ≡ true) =
-      list_has_last n (λ k. get_or following k 0) (get_or first (out v) 0) (get_or last (out v) 0)
-      (get_or rank (out v) 0) (climbs (up_at up) n (out v)) (list_of v lv) in
+      list_has_last (list_of v lv) in
       let low : get_or rank y 0 ≤ get_or rank (out (get_or last (out v) 0)) 0 =
       rank_passed (get_or last (out v) 0) y mine.0 (subst (λ w. climbs (up_at up) n y w ≡ true) e
-      (list_member n (λ k. get_or following k 0) (get_or first y 0) (get_or last y 0) (get_or rank y 0)
-      (climbs (up_at up) n y) (nest.members y ly used) j (omega (arith, l)))) in
+      (list_member (nest.members y ly used) j (omega (arith, l)))) in
       let same : get_or rank (out (get_or last (out v) 0)) 0 ≡ get_or rank (out v) 0 =
       ap (λ x. get_or rank x 0) (held_out v (get_or last (out v) 0) lv mine.0 mine.1) in
       omega (arith, more, low, same)

@@ -20,9 +20,9 @@ use Rattle.std.proofs.lemmas.Bool.{cases_eq}
 use Rattle.forest_laws.proofs.Writes.{set_here, set_there}
 
 -- A mate is a dart of the graph.
-pub mate_low : (g : WeightedGraph) (t : ForestTables) → IsSmallGraph g → IsValidFor g t → (b m : ℕ)
+pub mate_low : {g : WeightedGraph} {t : ForestTables} → IsSmallGraph g → IsValidFor g t → (b m : ℕ)
     → (forest_of t).mate b ≡ Some m → m < 2 * length g.edges
-mate_low g t is valid b m mate = (valid.valid.matched b m mate).tight.low
+mate_low is valid b m mate = (valid.valid.matched b m mate).tight.low
 
 -- What is not empty.
 pub is_some_ne : (o : Option ℕ) → is_some o ≡ true → o ≢ None
@@ -34,29 +34,29 @@ none_is None e = refl
 none_is (Some x) e = absurd (cc e)
 
 -- Darts begin where they did.
-pub ends_kept : (g : WeightedGraph) (t u : ForestTables) → IsValidFor g t → fixed_of u ≡ fixed_of t → (d : ℕ)
-    → d < 2 * length g.edges → get_or u.near d 0 ≡ (darts_of g).near d
-ends_kept g t u valid fixed d l = ap (λ (p : List ℕ × Option GraphSize). get_or p.0 d 0) fixed ∙ valid.ends d l
+pub ends_kept : {g : WeightedGraph} {t : ForestTables} (u : ForestTables) → IsValidFor g t → fixed_of u ≡ fixed_of t
+    → (d : ℕ) → d < 2 * length g.edges → get_or u.near d 0 ≡ (darts_of g).near d
+ends_kept u valid fixed d l = ap (λ (p : List ℕ × Option GraphSize). get_or p.0 d 0) fixed ∙ valid.ends d l
 
-pub darts_kept : (g : WeightedGraph) (t u : ForestTables) → IsValidFor g t → fixed_of u ≡ fixed_of t
+pub darts_kept : {g : WeightedGraph} {t : ForestTables} (u : ForestTables) → IsValidFor g t → fixed_of u ≡ fixed_of t
     → length u.near ≡ 2 * length g.edges
-darts_kept g t u valid fixed = ap (λ (p : List ℕ × Option GraphSize). length p.0) fixed ∙ valid.darts
+darts_kept u valid fixed = ap (λ (p : List ℕ × Option GraphSize). length p.0) fixed ∙ valid.darts
 
-pub room_kept : (g : WeightedGraph) (t u : ForestTables) → IsValidFor g t → fixed_of u ≡ fixed_of t
+pub room_kept : {g : WeightedGraph} {t : ForestTables} (u : ForestTables) → IsValidFor g t → fixed_of u ≡ fixed_of t
     → u.room ≡ Some (size_of g)
-room_kept g t u valid fixed = ap (λ (p : List ℕ × Option GraphSize). p.1) fixed ∙ valid.room
+room_kept u valid fixed = ap (λ (p : List ℕ × Option GraphSize). p.1) fixed ∙ valid.room
 
 -- The forest is valid after the tree has grown.
-pub valid_grown : (t u : ForestTables) (g : WeightedGraph) → IsSmallGraph g → IsValidFor g t → (d m : ℕ)
-    → Reaches (darts_of g) (forest_of t) d → (forest_of t).mate ((forest_of t).out (far (darts_of g) d)) ≡ Some m
-    → forest_of u ≡ grown (darts_of g) (forest_of t) d m → u.hand ≡ t.hand → u.root ≡ t.root → fixed_of u ≡ fixed_of t
-    → IsValidFor g u
-valid_grown t u g is valid d m reach mate seen hand root fixed = record {
+pub valid_grown : {t : ForestTables} (u : ForestTables) {g : WeightedGraph} → IsSmallGraph g → IsValidFor g t
+    → {d : ℕ} (m : ℕ) → Reaches (darts_of g) (forest_of t) d → (forest_of t).mate
+    ((forest_of t).out (far (darts_of g) d)) ≡ Some m → forest_of u ≡ grown (darts_of g) (forest_of t) d m → u.hand
+    ≡ t.hand → u.root ≡ t.root → fixed_of u ≡ fixed_of t → IsValidFor g u
+valid_grown {t} u {g} is valid {d} m reach mate seen hand root fixed = record {
   vertices = ap length hand ∙ valid.vertices;
-  darts = darts_kept g t u valid fixed;
-  ends = ends_kept g t u valid fixed;
-  room = room_kept g t u valid fixed;
-  valid = by_tree (tree_of (darts_of g) (are_darts g is.lawful) (forest_of t) t.root valid.valid
+  darts = darts_kept u valid fixed;
+  ends = ends_kept u valid fixed;
+  room = room_kept u valid fixed;
+  valid = by_tree (tree_of (are_darts is.lawful) valid.valid
       ((forest_of t).out ((darts_of g).near d)) (λ off. outer off reach.outer));
 }
   where
@@ -67,29 +67,28 @@ valid_grown t u g is valid d m reach mate seen hand root fixed = record {
         → IsValid (darts_of g) (forest_of u) u.root
     by_tree w = subst (λ (f : Forest). IsValid (darts_of g) f u.root) (sym seen)
         (subst (λ (o : Option ℕ). IsValid (darts_of g) (grown (darts_of g) (forest_of t) d m) o) (sym (root ∙ w.1))
-        (grown_valid (darts_of g) (are_darts g is.lawful) (forest_of t) w.0
+        (grown_valid (darts_of g) (are_darts is.lawful) (forest_of t) w.0
         (subst (λ (o : Option ℕ). IsValid (darts_of g) (forest_of t) o) w.1 valid.valid) d m reach mate))
 
 -- Another mate, seen in a forest whose mates were changed.
-pub remated_more : (f0 f1 f2 : Forest) (mate : ℕ → Option ℕ) (b : ℕ) (m : Option ℕ) → f1 ≡ remated f0 mate
+pub remated_more : (f0 : Forest) {f1 f2 : Forest} (mate : ℕ → Option ℕ) (b : ℕ) (m : Option ℕ) → f1 ≡ remated f0 mate
     → f2 ≡ mated f1 b m → f2 ≡ remated f0 (set_at mate b m)
-remated_more f0 f1 f2 mate b m e1 e2 = e2 ∙ ap (λ (f : Forest). mated f b m) e1
+remated_more f0 mate b m e1 e2 = e2 ∙ ap (λ (f : Forest). mated f b m) e1
 
 -- The outermost blossoms and the links are those of the first forest.
-pub out_same : (f0 f1 : Forest) (mate : ℕ → Option ℕ) (v : ℕ) → f1 ≡ remated f0 mate → f1.out v ≡ f0.out v
-out_same f0 f1 mate v e = ap (λ (f : Forest). f.out v) e
+pub out_same : (f0 : Forest) {f1 : Forest} (mate : ℕ → Option ℕ) (v : ℕ) → f1 ≡ remated f0 mate → f1.out v ≡ f0.out v
+out_same f0 mate v e = ap (λ (f : Forest). f.out v) e
 
-pub link_same : (f0 f1 : Forest) (mate : ℕ → Option ℕ) (b : ℕ) → f1 ≡ remated f0 mate → f1.link b ≡ f0.link b
-link_same f0 f1 mate b e = ap (λ (f : Forest). f.link b) e
+pub link_same : (f0 : Forest) {f1 : Forest} (mate : ℕ → Option ℕ) (b : ℕ) → f1 ≡ remated f0 mate → f1.link b ≡ f0.link b
+link_same f0 mate b e = ap (λ (f : Forest). f.link b) e
 
 -- The way begins.
-pub way_begins : (g : WeightedGraph) (t : ForestTables) → IsSmallGraph g → IsValidFor g t → (start : ℕ)
+pub way_begins : {g : WeightedGraph} {t : ForestTables} → IsSmallGraph g → IsValidFor g t → {start : ℕ}
     → Reaches (darts_of g) (forest_of t) start → (forest_of t).mate ((forest_of t).out (far (darts_of g) start)) ≡ None
-    → (mate : ℕ → Option ℕ) (a : ℕ) → mate ≡ set_at (forest_of t).mate ((forest_of t).out (far (darts_of g) start))
-    (Some ((darts_of g).twin start)) → a ≡ (forest_of t).out ((darts_of g).near start)
-    → IsOnWay g t start mate a start
-way_begins g t is valid start reach free mate a mate_is a_is =
-    by_tree (tree_of (darts_of g) (are_darts g is.lawful) (forest_of t) t.root valid.valid
+    → {mate : ℕ → Option ℕ} {a : ℕ} → mate ≡ set_at (forest_of t).mate ((forest_of t).out (far (darts_of g) start))
+    (Some ((darts_of g).twin start)) → a ≡ (forest_of t).out ((darts_of g).near start) → IsOnWay g t start mate a start
+way_begins {g} {t} is valid {start} reach free {mate} {a} mate_is a_is =
+    by_tree (tree_of (are_darts is.lawful) valid.valid
     ((forest_of t).out ((darts_of g).near start)) (λ off. outer off reach.outer))
   where
     outer : {l : Label} → l ≡ Outside → l ≡ Outer → ⊥
@@ -105,11 +104,11 @@ way_begins g t is valid start reach free mate a mate_is a_is =
       almost = subst (λ x. IsAlmost (darts_of g) (forest_of t) w.2.depth start mate x start) (sym a_is)
           (subst (λ (x : ℕ → Option ℕ). IsAlmost (darts_of g) (forest_of t) w.2.depth start x
           ((forest_of t).out ((darts_of g).near start)) start) (sym mate_is)
-          (begin (darts_of g) (are_darts g is.lawful) (forest_of t) w.0
+          (begin (are_darts is.lawful)
           (subst (λ (o : Option ℕ). IsValid (darts_of g) (forest_of t) o) w.1 valid.valid) w.2 start reach free));
     }
 
-module _ (g : WeightedGraph) (t : ForestTables) (start : ℕ) (mate : ℕ → Option ℕ) (a e : ℕ)
+module _ {g : WeightedGraph} {t : ForestTables} {start : ℕ} {mate : ℕ → Option ℕ} {a e : ℕ}
     (way : IsOnWay g t start mate a e) where
   valid_top : IsValid (darts_of g) (forest_of t) (Some way.top)
   valid_top = subst (λ (o : Option ℕ). IsValid (darts_of g) (forest_of t) o) way.root way.valid.valid
@@ -122,12 +121,11 @@ module _ (g : WeightedGraph) (t : ForestTables) (start : ℕ) (mate : ℕ → Op
       named x y = let h : Outer ≡ Outside = sym x ∙ y in cc
 
   -- The way goes on, past a blossom that is matched.
-  pub way_goes_on : (old inner up a2 e2 : ℕ) (mate2 : ℕ → Option ℕ) → mate a ≡ Some old
-      → inner ≡ (forest_of t).out (far (darts_of g) old) → up ≡ (forest_of t).link inner
-      → a2 ≡ (forest_of t).out (far (darts_of g) up)
-      → e2 ≡ (darts_of g).twin up → mate2 ≡ set_at (set_at mate a (Some e)) inner (Some up)
-      → IsOnWay g t start mate2 a2 e2
-  way_goes_on old inner up a2 e2 mate2 was inner_is' up_is a_is e_is mate_is = record {
+  pub way_goes_on : (old : ℕ) {inner up a2 e2 : ℕ} {mate2 : ℕ → Option ℕ} → mate a ≡ Some old → inner
+      ≡ (forest_of t).out (far (darts_of g) old) → up ≡ (forest_of t).link inner → a2
+      ≡ (forest_of t).out (far (darts_of g) up) → e2 ≡ (darts_of g).twin up → mate2
+      ≡ set_at (set_at mate a (Some e)) inner (Some up) → IsOnWay g t start mate2 a2 e2
+  way_goes_on old {up} {a2} {e2} was inner_is' up_is a_is e_is mate_is = record {
     is = way.is;
     valid = way.valid;
     top = way.top;
@@ -139,10 +137,8 @@ module _ (g : WeightedGraph) (t : ForestTables) (start : ℕ) (mate : ℕ → Op
         (subst (λ x. IsAlmost (darts_of g) (forest_of t) way.tree.depth start next x e2)
         (sym (a_is ∙ ap (λ x. (forest_of t).out (far (darts_of g) x)) link_is))
         (subst (λ x. IsAlmost (darts_of g) (forest_of t) way.tree.depth start next
-        ((forest_of t).out (far (darts_of g) ((forest_of t).link inn))) x)
-        (sym (e_is ∙ ap (darts_of g).twin link_is))
-        (turn (darts_of g) (are_darts g way.is.lawful) (forest_of t) way.top valid_top way.tree start mate a e
-        way.almost old (sym own_mate ∙ was))));
+        ((forest_of t).out (far (darts_of g) ((forest_of t).link inn))) x) (sym (e_is ∙ ap (darts_of g).twin link_is))
+        (turn (are_darts way.is.lawful) valid_top way.tree start way.almost old (sym own_mate ∙ was))));
   }
     where
       inn : ℕ
@@ -156,21 +152,18 @@ module _ (g : WeightedGraph) (t : ForestTables) (start : ℕ) (mate : ℕ → Op
       link_is = up_is ∙ ap (forest_of t).link inner_is'
 
   -- And gets shorter.
-  pub way_shorter : (old inner up a2 : ℕ) → mate a ≡ Some old → inner ≡ (forest_of t).out (far (darts_of g) old)
+  pub way_shorter : (old : ℕ) {inner up a2 : ℕ} → mate a ≡ Some old → inner ≡ (forest_of t).out (far (darts_of g) old)
       → up ≡ (forest_of t).link inner → a2 ≡ (forest_of t).out (far (darts_of g) up)
       → steps (darts_of g) (forest_of t) ((forest_of t).size + 1) a2 < steps (darts_of g) (forest_of t)
       ((forest_of t).size + 1) a
-  way_shorter old inner up a2 was inner_is' up_is a_is =
+  way_shorter old {a2} was inner_is' up_is a_is =
       let own : (forest_of t).mate a ≡ Some old = sym own_mate ∙ was in
-      let parent : a2 ≡ parent_of (darts_of g) (forest_of t) a =
-      a_is ∙ ap (λ x. (forest_of t).out (far (darts_of g) x)) (up_is
-      ∙ ap (forest_of t).link (inner_is'
-      ∙ sym (inner_is (darts_of g) (are_darts g way.is.lawful) (forest_of t) way.top valid_top way.tree a old
-      way.almost.outer own))) in
+      let parent : a2 ≡ parent_of (darts_of g) (forest_of t) a = a_is
+      ∙ ap (λ x. (forest_of t).out (far (darts_of g) x)) (up_is ∙ ap (forest_of t).link
+      (inner_is' ∙ sym (inner_is (are_darts way.is.lawful) valid_top way.tree a old way.almost.outer own))) in
       let less : steps (darts_of g) (forest_of t) ((forest_of t).size + 1) a
       ≡ suc (steps (darts_of g) (forest_of t) ((forest_of t).size + 1) (parent_of (darts_of g) (forest_of t) a)) =
-      fewer_steps (darts_of g) (are_darts g way.is.lawful) (forest_of t) way.top valid_top way.tree a old
-      way.almost.outer own in
+      fewer_steps (are_darts way.is.lawful) valid_top way.tree a old way.almost.outer own in
       let same : steps (darts_of g) (forest_of t) ((forest_of t).size + 1) a2
       ≡ steps (darts_of g) (forest_of t) ((forest_of t).size + 1) (parent_of (darts_of g) (forest_of t) a) =
       ap (steps (darts_of g) (forest_of t) ((forest_of t).size + 1)) parent in
@@ -185,52 +178,46 @@ module _ (g : WeightedGraph) (t : ForestTables) (start : ℕ) (mate : ℕ → Op
       named : {l : Label} → l ≡ Outer → l ≢ Outside
       named x y = let h : Outer ≡ Outside = sym x ∙ y in cc
 
-  pub dart_low : e < 2 * length g.edges
-  dart_low = way.almost.tight.low
-
   -- Darts met on the way are darts of the graph.
   pub old_low : (old : ℕ) → mate a ≡ Some old → old < 2 * length g.edges
   old_low old was = (way.valid.valid.matched a old (sym own_mate ∙ was)).tight.low
 
-  pub up_low : (old inner up : ℕ) → mate a ≡ Some old → inner ≡ (forest_of t).out (far (darts_of g) old)
+  pub up_low : (old : ℕ) {inner up : ℕ} → mate a ≡ Some old → inner ≡ (forest_of t).out (far (darts_of g) old)
       → up ≡ (forest_of t).link inner → up < 2 * length g.edges
-  up_low old inner up was inner_is' up_is =
-      subst (λ x. x < 2 * length g.edges) (sym (up_is ∙ ap (forest_of t).link inner_is'))
-      (way.tree.inner ((forest_of t).out (far (darts_of g) old)) (outer_mate (darts_of g) (are_darts g way.is.lawful)
-      (forest_of t) (Some way.top) valid_top a old way.almost.outer (sym own_mate ∙ was))).tight.low
+  up_low old was inner_is' up_is = subst (λ x. x < 2 * length g.edges)
+      (sym (up_is ∙ ap (forest_of t).link inner_is')) (way.tree.inner ((forest_of t).out (far (darts_of g) old))
+      (outer_mate (are_darts way.is.lawful) valid_top a old way.almost.outer (sym own_mate ∙ was))).tight.low
 
   -- It ends where the blossom at hand is not matched.
-  pub way_ends : mate a ≡ None → (r : ℕ) → t.root ≡ Some r → (mate2 : ℕ → Option ℕ) → mate2 ≡ set_at mate a (Some e)
+  pub way_ends : mate a ≡ None → (r : ℕ) → t.root ≡ Some r → {mate2 : ℕ → Option ℕ} → mate2 ≡ set_at mate a (Some e)
       → IsValid (darts_of g) (with_mates (forest_of t) mate2) None
       × IsAugmented (darts_of g) (forest_of t) (with_mates (forest_of t) mate2) r start
-  way_ends free r root mate2 is_mate =
+  way_ends free r root is_mate =
       let own : (forest_of t).mate a ≡ None = sym own_mate ∙ free in
       let r_is : way.top ≡ r = same (sym way.root ∙ root) in
       subst (λ (x : ℕ → Option ℕ). IsValid (darts_of g) (with_mates (forest_of t) x) None
       × IsAugmented (darts_of g) (forest_of t) (with_mates (forest_of t) x) r start) (sym is_mate) (
-        end_valid (darts_of g) (are_darts g way.is.lawful) (forest_of t) way.top valid_top way.tree start mate a e
-            way.almost own,
+        end_valid (are_darts way.is.lawful) valid_top way.tree start way.almost own,
         subst (λ x. IsAugmented (darts_of g) (forest_of t) (with_mates (forest_of t) (set_at mate a (Some e))) x start)
-            r_is (end_augmented (darts_of g) (are_darts g way.is.lawful) (forest_of t) way.top valid_top way.tree start
-            mate a e way.almost own),
+            r_is (end_augmented (are_darts way.is.lawful) valid_top way.tree start way.almost own),
       )
     where
       same : {x y : ℕ} → Some x ≡ Some y → x ≡ y
       same p = cc
 
 -- The twin of a dart is one, and what begins a dart is a vertex.
-pub twin_dart : (g : WeightedGraph) → IsSmallGraph g → (d e : ℕ) → d < 2 * length g.edges → e ≡ (darts_of g).twin d
-    → e < 2 * length g.edges
-twin_dart g is d e low e_is = subst (λ x. x < 2 * length g.edges) (sym e_is) ((are_darts g is.lawful).twin_low d low)
+pub twin_dart : {g : WeightedGraph} → IsSmallGraph g → (d : ℕ) {e : ℕ} → d < 2 * length g.edges → e
+    ≡ (darts_of g).twin d → e < 2 * length g.edges
+twin_dart {g} is d low e_is = subst (λ x. x < 2 * length g.edges) (sym e_is) ((are_darts is.lawful).twin_low d low)
 
-pub near_in : (g : WeightedGraph) (t : ForestTables) → IsSmallGraph g → IsValidFor g t → (d v : ℕ)
+pub near_in : {g : WeightedGraph} {t : ForestTables} → IsSmallGraph g → IsValidFor g t → (d : ℕ) {v : ℕ}
     → d < 2 * length g.edges → v ≡ (darts_of g).near d → v < length t.hand
-near_in g t is valid d v low v_is =
-    subst (λ n. v < n) (sym valid.vertices) (subst (λ x. x < g.n) (sym v_is) ((are_darts g is.lawful).near_low d low))
+near_in {g} is valid d {v} low v_is =
+    subst (λ n. v < n) (sym valid.vertices) (subst (λ x. x < g.n) (sym v_is) ((are_darts is.lawful).near_low d low))
 
 -- The same blossoms, over two changes.
-pub same_nest : (a b c : ForestTables) → HasSameNest a b → HasSameNest b c → HasSameNest a c
-same_nest a b c p q = record {
+pub same_nest : {a b c : ForestTables} → HasSameNest a b → HasSameNest b c → HasSameNest a c
+same_nest p q = record {
   hand = q.hand ∙ p.hand;
   top = q.top ∙ p.top;
   up = q.up ∙ p.up;
@@ -250,10 +237,10 @@ pub labels_own : (t0 t1 : ForestTables) (label : ℕ → Label) → forest_of t1
 labels_own t0 t1 label e = e ∙ ap (relabelled (forest_of t0)) (sym (ap (λ (f : Forest). f.label) e))
 
 -- The outermost blossom of one more vertex of a list is put outside.
-pub one_more_outside : (f1 f2 : Forest) (trail : List ℕ) (k v : ℕ) → v ≡ get_or trail k 0
+pub one_more_outside : (f1 : Forest) {f2 : Forest} (trail : List ℕ) (k : ℕ) {v : ℕ} → v ≡ get_or trail k 0
     → f2 ≡ labelled f1 (f1.out v) Outside → ((i : ℕ) → i < k → f1.label (f1.out (get_or trail i 0)) ≡ Outside)
     → (i : ℕ) → i < k + 1 → f2.label (f2.out (get_or trail i 0)) ≡ Outside
-one_more_outside f1 f2 trail k v v_is e2 done i l = ap (λ (f : Forest). f.label (f.out (get_or trail i 0))) e2
+one_more_outside f1 trail k {v} v_is e2 done i l = ap (λ (f : Forest). f.label (f.out (get_or trail i 0))) e2
     ∙ by_place (cases_eq (f1.out (get_or trail i 0)) (f1.out v)) (cases_eq i k)
   where
     by_place : (f1.out (get_or trail i 0) ≡ f1.out v) ⊎ (f1.out (get_or trail i 0) ≢ f1.out v) → (i ≡ k) ⊎ (i ≢ k)
@@ -264,28 +251,28 @@ one_more_outside f1 f2 trail k v v_is e2 done i l = ap (λ (f : Forest). f.label
         ∙ done i (omega arith)
 
 -- The forest is valid after an augmentation.
-pub valid_augmented : (t u : ForestTables) (g : WeightedGraph) → IsValidFor g t → (mate : ℕ → Option ℕ)
+pub valid_augmented : {t : ForestTables} (u : ForestTables) {g : WeightedGraph} → IsValidFor g t → (mate : ℕ → Option ℕ)
     → IsValid (darts_of g) (with_mates (forest_of t) mate) None → forest_of u ≡ with_mates (forest_of t) mate
     → u.hand ≡ t.hand → u.root ≡ None → fixed_of u ≡ fixed_of t → IsValidFor g u
-valid_augmented t u g valid mate whole seen hand root fixed = record {
+valid_augmented {t} u {g} valid mate whole seen hand root fixed = record {
   vertices = ap length hand ∙ valid.vertices;
-  darts = darts_kept g t u valid fixed;
-  ends = ends_kept g t u valid fixed;
-  room = room_kept g t u valid fixed;
+  darts = darts_kept u valid fixed;
+  ends = ends_kept u valid fixed;
+  room = room_kept u valid fixed;
   valid = subst (λ (f : Forest). IsValid (darts_of g) f u.root) (sym seen)
       (subst (λ (o : Option ℕ). IsValid (darts_of g) (with_mates (forest_of t) mate) o) (sym root) whole);
 }
 
 -- What has come of an augmentation.
-pub augmented : (t s u : ForestTables) (g : WeightedGraph) → IsSmallGraph g → IsValidFor g t → (start : ℕ)
-    → Reaches (darts_of g) (forest_of t) start
-    → ((r : ℕ) → t.root ≡ Some r → IsValid (darts_of g) (with_mates (forest_of t) (forest_of s).mate) None
-    × IsAugmented (darts_of g) (forest_of t) (with_mates (forest_of t) (forest_of s).mate) r start)
-    → forest_of s ≡ remated (forest_of t) (forest_of s).mate → forest_of u ≡ with_mates (forest_of s) (forest_of s).mate
-    → u.hand ≡ t.hand → u.root ≡ None → fixed_of u ≡ fixed_of t
-    → ((r : ℕ) × (t.root ≡ Some r) × IsAugmented (darts_of g) (forest_of t) (forest_of u) r start) × IsValidFor g u
-augmented t s u g is valid start reach done seen ended hand root fixed =
-    by_tree (tree_of (darts_of g) (are_darts g is.lawful) (forest_of t) t.root valid.valid
+pub augmented : {t : ForestTables} (s u : ForestTables) {g : WeightedGraph} → IsSmallGraph g → IsValidFor g t
+    → {start : ℕ} → Reaches (darts_of g) (forest_of t) start → ((r : ℕ) → t.root ≡ Some r
+    → IsValid (darts_of g) (with_mates (forest_of t) (forest_of s).mate) None
+    × IsAugmented (darts_of g) (forest_of t) (with_mates (forest_of t) (forest_of s).mate) r start) → forest_of s
+    ≡ remated (forest_of t) (forest_of s).mate → forest_of u ≡ with_mates (forest_of s) (forest_of s).mate → u.hand
+    ≡ t.hand → u.root ≡ None → fixed_of u ≡ fixed_of t → ((r : ℕ) × (t.root ≡ Some r)
+    × IsAugmented (darts_of g) (forest_of t) (forest_of u) r start) × IsValidFor g u
+augmented {t} s u {g} is valid {start} reach done seen ended hand root fixed =
+    by_tree (tree_of (are_darts is.lawful) valid.valid
     ((forest_of t).out ((darts_of g).near start)) (λ off. outer off reach.outer))
   where
     outer : {l : Label} → l ≡ Outside → l ≡ Outer → ⊥
@@ -300,8 +287,7 @@ augmented t s u g is valid start reach done seen ended hand root fixed =
       (
         w.0,
         w.1,
-        subst (λ (f : Forest). IsAugmented (darts_of g) (forest_of t) f w.0 start) (sym whole)
-            (done w.0 w.1).1,
+        subst (λ (f : Forest). IsAugmented (darts_of g) (forest_of t) f w.0 start) (sym whole) (done w.0 w.1).1,
       ),
-      valid_augmented t u g valid (forest_of s).mate (done w.0 w.1).0 whole hand root fixed,
+      valid_augmented u valid (forest_of s).mate (done w.0 w.1).0 whole hand root fixed,
     )

@@ -69,14 +69,14 @@ module _ (g : WeightedGraph) (is : IsSmallGraph g) (t0 : ForestTables) (valid : 
   at k = walk next first k
 
   circle : IsCircle next first many inside
-  circle = the_ring_from g is t0 valid b high inner weightless f2 parted first
-      (first_in g is t0 valid b high inner weightless f2 parted)
+  circle = the_ring_from g is t0 valid b high inner weightless parted first
+      (first_in g is t0 valid b high inner weightless parted)
 
-  joined : (k : ℕ) → IsJoined g is t0 valid b high inner weightless f2 parted next joint (at k)
-  joined k = the_joined g is t0 valid b high inner weightless f2 parted (at k) (circle.marked k)
+  joined : (k : ℕ) → IsJoined g is t0 valid b high inner weightless parted next joint (at k)
+  joined k = the_joined g is t0 valid b high inner weightless parted (at k) (circle.marked k)
 
   abbrev Route : (q e : ℕ → ℕ) → Type 0
-  Route q e = IsRoute g is t0 valid b high inner weightless f2 parted q e
+  Route q e = IsRoute g is t0 valid b high inner weightless parted q e
 
   -- Along the ring.
   route_on : Route at (λ j. joint (at j))
@@ -97,17 +97,15 @@ module _ (g : WeightedGraph) (is : IsSmallGraph g) (t0 : ForestTables) (valid : 
     marked = λ j. circle.marked (many - j);
     distinct = λ i j lij lj e. differ i j lij lj e (cases_eq i 0);
     all = λ x on. found x (circle.all x on);
-    tight = λ j l. tight_twin d (the_are g is t0 valid b high inner weightless) f0 (joint (at (many - suc j)))
-        (joined (many - suc j)).tight;
+    tight = λ j l. tight_twin (the_are g is t0 valid b high inner weightless) (joined (many - suc j)).tight;
     near = λ j l. (
       (joined (many - suc j)).far_in,
-      (joined (many - suc j)).far_part
-          ∙ (let e : suc (many - suc j) ≡ many - j = omega (arith, odd, l) in ap at e),
+      (joined (many - suc j)).far_part ∙ (let e : suc (many - suc j) ≡ many - j = omega (arith, odd, l) in ap at e),
     );
     far = λ j l. (
-      ap f0.out (far_twin d (the_are g is t0 valid b high inner weightless) (joint (at (many - suc j))))
+      ap f0.out (far_twin (the_are g is t0 valid b high inner weightless) (joint (at (many - suc j))))
           ∙ (joined (many - suc j)).near_in,
-      ap f2.out (far_twin d (the_are g is t0 valid b high inner weightless) (joint (at (many - suc j))))
+      ap f2.out (far_twin (the_are g is t0 valid b high inner weightless) (joint (at (many - suc j))))
           ∙ ((joined (many - suc j)).near_part ∙ (let e : many - suc j ≡ many - (j + 1) = omega arith in ap at e)),
     );
   }
@@ -125,14 +123,12 @@ module _ (g : WeightedGraph) (is : IsSmallGraph g) (t0 : ForestTables) (valid : 
           by_start (inl z) = (
             0,
             omega arith,
-            (let e : many - 0 ≡ many = omega arith in ap at e)
-                ∙ (circle.closed ∙ (ap at (sym z) ∙ w.2)),
+            (let e : many - 0 ≡ many = omega arith in ap at e) ∙ (circle.closed ∙ (ap at (sym z) ∙ w.2)),
           )
           by_start (inr nz) = (
             many - w.0,
             omega (arith, odd, nz),
-            (let e : many - (many - w.0) ≡ w.0 =
-                omega (arith, w.1) in ap at e) ∙ w.2,
+            (let e : many - (many - w.0) ≡ w.0 = omega (arith, w.1) in ap at e) ∙ w.2,
           )
 
   b_off : inside b ≡ false
@@ -155,23 +151,20 @@ module _ (g : WeightedGraph) (is : IsSmallGraph g) (t0 : ForestTables) (valid : 
       ap f0.nest.up (sym w.2) ∙ (valid.valid.outermost.tops w.0 l ∙ w.2))
 
   part_label : (x : ℕ) → inside x ≡ true → f2.label x ≡ Outside
-  part_label x on = ap (λ (h : ℕ → Label). h x) parted.label
-      ∙ (set_there f0.label b x Outside (part_other g is t0 valid b high inner weightless x on)
-      ∙ part_outside g is t0 valid b high inner weightless x on)
+  part_label x on = ap (λ (h : ℕ → Label). h x) parted.label ∙ (set_there f0.label b x Outside
+      (part_other g is t0 valid b high inner weightless x on) ∙ part_outside g is t0 valid b high inner weightless x on)
 
   module _ (course : Course) (way : IsCourse next first last many course) (f6 : Forest)
       (done : f6 ≡ linked (hung (mated (paired f2 first many) first (Some m)) course.front course.many course.forward)
       last (f0.link b)) where
     mate_at : (k : ℕ) → 1 ≤ k → k < many → f6.mate (at k) ≡ Some (side_dart f2 (at (k - 1)) (at k) (eqb (k % 2) 1))
-    mate_at k some l =
-        ap (λ (f : Forest). f.mate (at k)) done
-        ∙ (set_there (paired f2 first many).mate first (at k) (Some m) (λ e. circle.distinct 0 k some l (sym e))
-        ∙ writes_at f2.mate at (λ j. Some (side_dart f2 (at (j - 1)) (at j) (eqb (j % 2) 1))) many k l circle.distinct)
+    mate_at k some l = ap (λ (f : Forest). f.mate (at k)) done ∙ (set_there (paired f2 first many).mate first (at k)
+        (Some m) (λ e. circle.distinct 0 k some l (sym e)) ∙ writes_at f2.mate at
+        (λ j. Some (side_dart f2 (at (j - 1)) (at j) (eqb (j % 2) 1))) many k l circle.distinct)
 
     mate_odd : (k i : ℕ) → k ≡ 2 * i + 1 → k < many → f6.mate (at k) ≡ Some (joint (at k))
-    mate_odd k i e l = mate_at k (omega (arith, e)) l
-        ∙ ap (λ (x : ℕ). Some x) (cond-true (eqb (k % 2) 1) (joint (at k)) (d.twin (joint (at (k - 1))))
-        (eq-eqb (k % 2) 1 (omega (arith, e))))
+    mate_odd k i e l = mate_at k (omega (arith, e)) l ∙ ap (λ (x : ℕ). Some x)
+        (cond-true (eqb (k % 2) 1) (joint (at k)) (d.twin (joint (at (k - 1)))) (eq-eqb (k % 2) 1 (omega (arith, e))))
 
     mate_even : (k j i : ℕ) → k ≡ 2 * i + 2 → k ≡ suc j → k < many → f6.mate (at k) ≡ Some (d.twin (joint (at j)))
     mate_even k j i e ej l = mate_at k (omega (arith, e)) l
@@ -183,12 +176,10 @@ module _ (g : WeightedGraph) (is : IsSmallGraph g) (t0 : ForestTables) (valid : 
     mate_first = ap (λ (f : Forest). f.mate first) done ∙ set_here (paired f2 first many).mate first (Some m)
 
     mate_off : (x : ℕ) → inside x ≡ false → f6.mate x ≡ f2.mate x
-    mate_off x off =
-        ap (λ (f : Forest). f.mate x) done
-        ∙ (set_there (paired f2 first many).mate first x (Some m)
-        (λ e. true_false (inside x) (ap inside e ∙ circle.marked 0) off)
+    mate_off x off = ap (λ (f : Forest). f.mate x) done ∙ (set_there (paired f2 first many).mate first x (Some m)
+        (λ e. true_false (ap inside e ∙ circle.marked 0) off)
         ∙ writes_off f2.mate at (λ j. Some (side_dart f2 (at (j - 1)) (at j) (eqb (j % 2) 1))) many x
-        (λ k lk e. true_false (inside x) (ap inside (sym e) ∙ circle.marked k) off))
+        (λ k lk e. true_false (ap inside (sym e) ∙ circle.marked k) off))
 
     -- Where the parts stand, and how they are joined, in the order of a route.
     record HasPlaces (q e : ℕ → ℕ) (turns : ℕ) : Type 0 where
@@ -203,14 +194,14 @@ module _ (g : WeightedGraph) (is : IsSmallGraph g) (t0 : ForestTables) (valid : 
       label_off : (x : ℕ) → inside x ≡ false → f6.label x ≡ f2.label x
       link_off : (x : ℕ) → inside x ≡ false → f6.link x ≡ f2.link x
 
-    opened_is : (q e : ℕ → ℕ) (turns : ℕ) → HasPlaces q e turns
-        → IsOpened d f0 f6 (the_opening_at g is t0 valid b high inner weightless f2 parted q e turns)
-    opened_is q e turns places = record {
+    opened_is : {q e : ℕ → ℕ} {turns : ℕ} → HasPlaces q e turns
+        → IsOpened d f0 f6 (the_opening_at g is t0 valid b high inner weightless parted q e turns)
+    opened_is {e} places = record {
       size = ap (λ (f : Forest). f.size) done ∙ parted.size;
       weight = λ x. ap (λ (f : Forest). f.weight x) done ∙ ap (λ h. h x) parted.weight;
       holds = λ x v ne l. ap (λ (f : Forest). f.holds x v) done ∙ parted.holds x v ne l;
       holds_none = λ v l. ap (λ (f : Forest). f.holds b v) done ∙ parted.holds_none v l;
-      out = λ v l. ap (λ (f : Forest). f.out v) done ∙ out_is g is t0 valid b high inner weightless f2 parted v l;
+      out = λ v l. ap (λ (f : Forest). f.out v) done ∙ out_is g is t0 valid b high inner weightless parted v l;
       inner = places.inners;
       outer = places.outers;
       off = places.off;
@@ -262,8 +253,7 @@ module _ (g : WeightedGraph) (is : IsSmallGraph g) (t0 : ForestTables) (valid : 
       places_on = record {
         inners = λ i l. label_on (2 * i) (omega (arith, l)) ∙ even_is (2 * i) i refl;
         outers = λ i l. label_on (2 * i + 1) (omega (arith, l)) ∙ odd_is (2 * i + 1) i refl;
-        off = λ j more l. ap (λ (f : Forest). f.label (at j)) on
-            ∙ (writes_off f2.label at turn_label (steps + 1) (at j)
+        off = λ j more l. ap (λ (f : Forest). f.label (at j)) on ∙ (writes_off f2.label at turn_label (steps + 1) (at j)
             (λ k lk e. circle.distinct k j (omega (arith, lk, more, even)) (omega (arith, l, odd)) e)
             ∙ part_label (at j) (circle.marked j));
         first_mate = mate_first;
@@ -279,22 +269,21 @@ module _ (g : WeightedGraph) (is : IsSmallGraph g) (t0 : ForestTables) (valid : 
             ∙ set_here (hung (mated (paired f2 first many) first (Some m)) first (steps + 1) true).link last
             (f0.link b));
         label_off = λ x off. ap (λ (f : Forest). f.label x) on ∙ writes_off f2.label at turn_label (steps + 1) x
-            (λ k lk e. true_false (inside x) (ap inside (sym e) ∙ circle.marked k) off);
+            (λ k lk e. true_false (ap inside (sym e) ∙ circle.marked k) off);
         link_off = λ x off. ap (λ (f : Forest). f.link x) on
             ∙ (set_there (hung (mated (paired f2 first many) first (Some m)) first (steps + 1) true).link last x
-            (f0.link b) (λ e. true_false (inside x) (ap inside (e ∙ sym ends) ∙ circle.marked steps) off)
+            (f0.link b) (λ e. true_false (ap inside (e ∙ sym ends) ∙ circle.marked steps) off)
             ∙ writes_off f2.link at (λ k. joint (at k)) (steps + 1) x
-            (λ k lk e. true_false (inside x) (ap inside (sym e) ∙ circle.marked k) off));
+            (λ k lk e. true_false (ap inside (sym e) ∙ circle.marked k) off));
       }
 
       expanding_on : IsExpanding d f0 f6 b
       expanding_on = record {
-        o = the_opening_at g is t0 valid b high inner weightless f2 parted at (λ j. joint (at j)) (steps / 2);
+        o = the_opening_at g is t0 valid b high inner weightless parted at (λ j. joint (at j)) (steps / 2);
         is = refl;
-        opening = the_opening_is g is t0 valid b high inner weightless f2 parted at (λ j. joint (at j)) (steps / 2)
-            route_on (omega (arith, low, odd)) ((let e : 2 * (steps / 2) ≡ steps = omega (arith, even) in ap at e)
-            ∙ ends);
-        opened = opened_is at (λ j. joint (at j)) (steps / 2) places_on;
+        opening = the_opening_is g is t0 valid b high inner weightless parted (steps / 2) route_on
+            (omega (arith, low, odd)) ((let e : 2 * (steps / 2) ≡ steps = omega (arith, even) in ap at e) ∙ ends);
+        opened = opened_is places_on;
       }
 
     -- The tree goes against the ring.
@@ -308,8 +297,8 @@ module _ (g : WeightedGraph) (is : IsSmallGraph g) (t0 : ForestTables) (valid : 
       turns = (many - steps) / 2
 
       circle_back : IsCircle next last many inside
-      circle_back = the_ring_from g is t0 valid b high inner weightless f2 parted last
-          (last_in g is t0 valid b high inner weightless f2 parted)
+      circle_back = the_ring_from g is t0 valid b high inner weightless parted last
+          (last_in g is t0 valid b high inner weightless parted)
 
       bt_at : (k j : ℕ) → steps + k ≡ j → bt k ≡ at j
       bt_at k j e = ap (λ x. walk next x k) (sym ends) ∙ (sym (walk_sum next first steps k) ∙ ap at e)
@@ -349,40 +338,37 @@ module _ (g : WeightedGraph) (is : IsSmallGraph g) (t0 : ForestTables) (valid : 
             (omega (arith, odd, l)) (omega (arith, odd));
         even_mate = λ i l. mate_odd (many - (2 * i + 2)) (half - suc i) (omega (arith, odd, l)) (omega (arith, odd))
             ∙ ap (λ (x : ℕ). Some x) ((let e : many - (2 * i + 2) ≡ many - suc (2 * i + 1) = omega arith in
-            ap (λ k. joint (at k)) e)
-            ∙ sym ((the_are g is t0 valid b high inner weightless).twin_twin
+            ap (λ k. joint (at k)) e) ∙ sym ((the_are g is t0 valid b high inner weightless).twin_twin
             (joint (at (many - suc (2 * i + 1))))));
         links = λ i l. ap f6.link (sym (bt_at (many - steps - 2 * i) (many - 2 * i) (omega (arith, l, twice, low))))
             ∙ (ap (λ (f : Forest). f.link (bt (many - steps - 2 * i))) on
             ∙ (set_there (hung (mated (paired f2 first many) first (Some m)) last (many - steps + 1) false).link last
-            (bt (many - steps - 2 * i)) (f0.link b)
-            (λ e. differ 0 (many - steps - 2 * i) (omega (arith, l, twice)) (omega arith) (sym e))
-            ∙ (writes_at f2.link bt (λ k. d.twin (joint (bt (k - 1)))) (many - steps + 1) (many - steps - 2 * i)
-            (omega arith) differ
-            ∙ ap (λ x. d.twin (joint x)) (bt_at (many - steps - 2 * i - 1) (many - suc (2 * i))
-            (omega (arith, l, twice, low))))));
+            (bt (many - steps - 2 * i)) (f0.link b) (λ e. differ 0 (many - steps - 2 * i) (omega (arith, l, twice))
+            (omega arith) (sym e)) ∙ (writes_at f2.link bt (λ k. d.twin (joint (bt (k - 1)))) (many - steps + 1)
+            (many - steps - 2 * i) (omega arith) differ ∙ ap (λ x. d.twin (joint x))
+            (bt_at (many - steps - 2 * i - 1) (many - suc (2 * i)) (omega (arith, l, twice, low))))));
         last_link = ap f6.link ((let e : many - 2 * turns ≡ steps = omega (arith, twice, low) in ap at e) ∙ ends)
             ∙ (ap (λ (f : Forest). f.link last) on
             ∙ set_here (hung (mated (paired f2 first many) first (Some m)) last (many - steps + 1) false).link last
             (f0.link b));
         label_off = λ x off. ap (λ (f : Forest). f.label x) on ∙ writes_off f2.label bt turn_label (many - steps + 1) x
-            (λ k lk e. true_false (inside x) (ap inside (sym e) ∙ circle_back.marked k) off);
+            (λ k lk e. true_false (ap inside (sym e) ∙ circle_back.marked k) off);
         link_off = λ x off. ap (λ (f : Forest). f.link x) on
             ∙ (set_there (hung (mated (paired f2 first many) first (Some m)) last (many - steps + 1) false).link last x
-            (f0.link b) (λ e. true_false (inside x) (ap inside e ∙ circle_back.marked 0) off)
+            (f0.link b) (λ e. true_false (ap inside e ∙ circle_back.marked 0) off)
             ∙ writes_off f2.link bt (λ k. d.twin (joint (bt (k - 1)))) (many - steps + 1) x
-            (λ k lk e. true_false (inside x) (ap inside (sym e) ∙ circle_back.marked k) off));
+            (λ k lk e. true_false (ap inside (sym e) ∙ circle_back.marked k) off));
       }
 
       expanding_back : IsExpanding d f0 f6 b
       expanding_back = record {
-        o = the_opening_at g is t0 valid b high inner weightless f2 parted (λ j. at (many - j))
+        o = the_opening_at g is t0 valid b high inner weightless parted (λ j. at (many - j))
             (λ j. d.twin (joint (at (many - suc j)))) turns;
         is = refl;
-        opening = the_opening_is g is t0 valid b high inner weightless f2 parted (λ j. at (many - j))
-            (λ j. d.twin (joint (at (many - suc j)))) turns route_back (omega (arith, twice, odd, uneven))
-            ((let e : many - 2 * turns ≡ steps = omega (arith, twice, low) in ap at e) ∙ ends);
-        opened = opened_is (λ j. at (many - j)) (λ j. d.twin (joint (at (many - suc j)))) turns places_back;
+        opening = the_opening_is g is t0 valid b high inner weightless parted turns route_back
+            (omega (arith, twice, odd, uneven)) ((let e : many - 2 * turns
+            ≡ steps = omega (arith, twice, low) in ap at e) ∙ ends);
+        opened = opened_is places_back;
       }
 
     pub expanding : IsExpanding d f0 f6 b
@@ -390,18 +376,15 @@ module _ (g : WeightedGraph) (is : IsSmallGraph g) (t0 : ForestTables) (valid : 
       where
         turned : (front cm : ℕ) (forward : Bool) → course.front ≡ front → course.many ≡ cm → course.forward ≡ forward
             → f6 ≡ linked (hung (mated (paired f2 first many) first (Some m)) front cm forward) last (f0.link b)
-        turned front cm forward ef em eb = done
-            ∙ (ap (λ x. linked (hung (mated (paired f2 first many) first (Some m)) x course.many course.forward) last
-            (f0.link b)) ef
-            ∙ (ap (λ x. linked (hung (mated (paired f2 first many) first (Some m)) front x course.forward) last
-            (f0.link b)) em
+        turned front cm forward ef em eb = done ∙ (ap (λ x. linked (hung (mated (paired f2 first many) first (Some m)) x
+            course.many course.forward) last (f0.link b)) ef ∙ (ap (λ x. linked
+            (hung (mated (paired f2 first many) first (Some m)) front x course.forward) last (f0.link b)) em
             ∙ ap (λ (x : Bool). linked (hung (mated (paired f2 first many) first (Some m)) front cm x) last (f0.link b))
             eb))
 
         by_way : ((course.forward ≡ true) × (course.front ≡ first) × (course.many ≡ way.steps + 1)
-            × (way.steps % 2 ≡ 0))
-            ⊎ ((course.forward ≡ false) × (course.front ≡ last) × (course.many ≡ (many - way.steps) + 1)
-            × (way.steps % 2 ≡ 1)) → IsExpanding d f0 f6 b
+            × (way.steps % 2 ≡ 0)) ⊎ ((course.forward ≡ false) × (course.front ≡ last)
+            × (course.many ≡ (many - way.steps) + 1) × (way.steps % 2 ≡ 1)) → IsExpanding d f0 f6 b
         by_way (inl w) = expanding_on way.steps way.low way.at w.3 (turned first (way.steps + 1) true w.1 w.2 w.0)
         by_way (inr w) = expanding_back way.steps way.low way.at w.3 (turned last (many - way.steps + 1) false w.1 w.2
             w.0)

@@ -36,32 +36,29 @@ module _ (g : WeightedGraph) (is : IsSmallGraph g) (t0 : ForestTables) (valid : 
   inside = listed f0.nest.after (f0.nest.head b) (f0.nest.parts b)
 
   pub are : AreDarts d
-  are = are_darts g is.lawful
+  are = are_darts is.lawful
 
   top_is : IsOutermost g.n f0 b
-  top_is = valid.valid.outermost.named b (inner_named (f0.label b) inner)
+  top_is = valid.valid.outermost.named b (inner_named inner)
 
   pub set_top : IsOutermostIn t0 b
   set_top = (top_is.0, subst (λ n. top_is.0 < n) (sym valid.vertices) top_is.1, top_is.2)
 
   pub set_low : b < length t0.up
-  set_low = named_low g is t0 valid b (inner_named (f0.label b) inner)
-
-  up_b : f0.nest.up b ≡ b
-  up_b = ap f0.nest.up (sym top_is.2) ∙ (valid.valid.outermost.tops top_is.0 top_is.1 ∙ top_is.2)
+  set_low = named_low g is t0 valid b (inner_named inner)
 
   held_b : (v : ℕ) → v < g.n → f0.holds b v ≡ eqb (f0.out v) b
   held_b v l = subst (λ x. f0.holds x v ≡ eqb (f0.out v) x) top_is.2 (valid.valid.outermost.held top_is.0 v top_is.1 l)
 
   pub set_live : many ≢ 0
-  set_live none = true_false (f0.holds b top_is.0) (held_b top_is.0 top_is.1 ∙ eq-eqb (f0.out top_is.0) b top_is.2)
+  set_live none = true_false (held_b top_is.0 top_is.1 ∙ eq-eqb (f0.out top_is.0) b top_is.2)
       (valid.valid.nested.empty b top_is.0 high top_is.1 none)
 
   pub ring_is : IsRing d f0 b
   ring_is = valid.valid.nested.rings b high set_live
 
   pub tree_is : (r : ℕ) × (t0.root ≡ Some r) × IsTree d f0 r
-  tree_is = tree_of d are f0 t0.root valid.valid b (inner_named (f0.label b) inner)
+  tree_is = tree_of are valid.valid b (inner_named inner)
 
   pub in_tree : IsInner d f0 tree_is.2.depth b
   in_tree = tree_is.2.inner b inner
@@ -106,7 +103,7 @@ module _ (g : WeightedGraph) (is : IsSmallGraph g) (t0 : ForestTables) (valid : 
     some = omega (arith, ring_is.odd);
     closed = ring_is.closed;
     distinct = ring_is.distinct;
-    marked = listed_closed f0.nest.after (f0.nest.head b) many (omega (arith, ring_is.odd)) ring_is.closed;
+    marked = listed_closed f0.nest.after many (omega (arith, ring_is.odd)) ring_is.closed;
     all = λ x on. listed_place f0.nest.after (f0.nest.head b) many x on;
   }
 
@@ -117,7 +114,7 @@ module _ (g : WeightedGraph) (is : IsSmallGraph g) (t0 : ForestTables) (valid : 
   -- What a part holds is in the set.
   part_in : (x v : ℕ) → inside x ≡ true → v < g.n → f0.holds x v ≡ true → f0.out v ≡ b
   part_in x v on l held = (let up : f0.holds (f0.nest.up x) v ≡ true =
-      holds_up d f0 valid.valid.nested x v l (part_inner x on) held in
+      holds_up valid.valid.nested x v l (part_inner x on) held in
       eqb-true (f0.out v) b (sym (held_b v l) ∙ subst (λ y. f0.holds y v ≡ true) (part_around x on) up))
 
   -- The tables, once the set has left the tree, can be parted.
@@ -155,7 +152,7 @@ module _ (g : WeightedGraph) (is : IsSmallGraph g) (t0 : ForestTables) (valid : 
       at1 k = ap (λ (f : Forest). walk f.nest.after (f.nest.head b) k) gone
 
   -- The set is parted.
-  module _ (f2 : Forest) (parted : IsParted g.n (mated (labelled f0 b Outside) b None) f2
+  module _ {f2 : Forest} (parted : IsParted g.n (mated (labelled f0 b Outside) b None) f2
       (listed f0.nest.after (f0.nest.head b) (f0.nest.parts b)) b) where
     abbrev pub next : ℕ → ℕ
     next = f2.nest.after
@@ -219,7 +216,7 @@ module _ (g : WeightedGraph) (is : IsSmallGraph g) (t0 : ForestTables) (valid : 
             → f0.holds x v ≡ eqb (part v) x
         by_test (inl held) y = held ∙ sym (eq-eqb (part v) x (parted.own x v on l held))
         by_test (inr free) (inl e) =
-            absurd (true_false (f0.holds x v) (subst (λ y. f0.holds y v ≡ true) e (parted.holds_out v l)) free)
+            absurd (true_false (subst (λ y. f0.holds y v ≡ true) e (parted.holds_out v l)) free)
         by_test (inr free) (inr ne) = free ∙ sym (ne_eqb (part v) x ne)
 
     abbrev pub first : ℕ
@@ -256,13 +253,12 @@ module _ (g : WeightedGraph) (is : IsSmallGraph g) (t0 : ForestTables) (valid : 
       turns = turns;
       q = q;
       e = e;
-      part =
-          part;
+      part = part;
     }
 
-    pub opening_is : (q e : ℕ → ℕ) (turns : ℕ) → IsRoute q e → turns ≤ ring_is.half → q (2 * turns) ≡ last
+    pub opening_is : {q e : ℕ → ℕ} (turns : ℕ) → IsRoute q e → turns ≤ ring_is.half → q (2 * turns) ≡ last
         → IsOpening d f0 (opening_at q e turns)
-    opening_is q e turns route short ends = record {
+    opening_is {q} {e} turns route short ends = record {
       high = high;
       label = inner;
       weightless = weightless;

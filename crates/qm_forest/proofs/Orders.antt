@@ -63,7 +63,7 @@ split_at f n m l =
     each true x = omega (arith, ints)
     each false x = omega (arith, ints)
 
-module _ (t : ForestTables) (sets : List (ℕ × ℕ)) (order : AreInOrder t sets) where
+module _ {t : ForestTables} {sets : List (ℕ × ℕ)} (order : AreInOrder t sets) where
   pub sized : (k : ℕ) → k < length sets → IsSized t (length t.up) (get_or sets k (0, 0))
   sized k l = order.has.each k (0, 0) l
 
@@ -104,17 +104,15 @@ module _ (t : ForestTables) (sets : List (ℕ × ℕ)) (order : AreInOrder t set
           ≤ 1
       one =
           let only : count_below (λ b. live_at (length t.hand) (λ i. get_or t.parts i 0) b * bool_number (eqb b x))
-          (length t.up) ≡ live_at (length t.hand) (λ i. get_or t.parts i 0) x * bool_number (eqb x x) =
-          count_below_one (λ b. live_at (length t.hand) (λ i. get_or t.parts i 0) b * bool_number (eqb b x))
-          (length t.up) x (set_low k l)
-          (λ b lb ne. (let z : live_at (length t.hand) (λ i. get_or t.parts i 0) b * bool_number (eqb b x)
-          ≡ live_at (length t.hand) (λ i. get_or t.parts i 0) b * 0 =
-          ap (λ (m : ℕ). live_at (length t.hand) (λ i. get_or t.parts i 0) b * m)
-          (ap bool_number (ne_eqb b x ne)) in omega (arith, z))) in
+          (length t.up) ≡ live_at (length t.hand) (λ i. get_or t.parts i 0) x * bool_number (eqb x x) = count_below_one
+          (λ b. live_at (length t.hand) (λ i. get_or t.parts i 0) b * bool_number (eqb b x)) (length t.up) x
+          (set_low k l) (λ b lb ne. (let z : live_at (length t.hand) (λ i. get_or t.parts i 0) b * bool_number (eqb b x)
+          ≡ live_at (length t.hand) (λ i. get_or t.parts i 0) b * 0 = ap
+          (λ (m : ℕ). live_at (length t.hand) (λ i. get_or t.parts i 0) b * m) (ap bool_number (ne_eqb b x ne)) in omega
+          (arith, z))) in
           let here : live_at (length t.hand) (λ i. get_or t.parts i 0) x * bool_number (eqb x x)
-          ≡ live_at (length t.hand) (λ i. get_or t.parts i 0) x * 1 =
-          ap (λ (m : ℕ). live_at (length t.hand) (λ i. get_or t.parts i 0) x * m)
-          (ap bool_number (eq-eqb x x refl)) in
+          ≡ live_at (length t.hand) (λ i. get_or t.parts i 0) x * 1 = ap
+          (λ (m : ℕ). live_at (length t.hand) (λ i. get_or t.parts i 0) x * m) (ap bool_number (eq-eqb x x refl)) in
           omega (arith, only, here, live_low x)
 
   -- Each set in use stands somewhere.
@@ -126,8 +124,7 @@ module _ (t : ForestTables) (sets : List (ℕ × ℕ)) (order : AreInOrder t set
       found s = (
         s.0,
         s.1,
-        ap (λ (x : ℕ × ℕ). x.1)
-            (sym (get_or_read sets s.0 (get_or t.rank b 0, b) s.1 (sym s.2) (0, 0))),
+        ap (λ (x : ℕ × ℕ). x.1) (sym (get_or_read sets s.0 (get_or t.rank b 0, b) s.1 (sym s.2) (0, 0))),
       )
 
   -- A sum over vertices and sets is one over all numbers.
@@ -180,11 +177,9 @@ module _ (t : ForestTables) (sets : List (ℕ × ℕ)) (order : AreInOrder t set
       term b l (inl low) y = nothing b (dead (nat_lt b (length t.hand)) (eqb (get_or t.parts b 0) 0)
           (inl (lt-ltb b (length t.hand) low)))
           ∙ sym (cond-true (nat_lt b (length t.hand)) (pos 0) (f b) (lt-ltb b (length t.hand) low))
-      term b l (inr h) (inl off) =
-          nothing b (dead (nat_lt b (length t.hand)) (eqb (get_or t.parts b 0) 0)
-          (inr (eq-eqb (get_or t.parts b 0) 0 off)))
-          ∙ (sym (none b h off) ∙ sym (cond-false (nat_lt b (length t.hand)) (pos 0) (f b)
-          (le-ltb b (length t.hand) h)))
+      term b l (inr h) (inl off) = nothing b (dead (nat_lt b (length t.hand)) (eqb (get_or t.parts b 0) 0)
+          (inr (eq-eqb (get_or t.parts b 0) 0 off))) ∙ (sym (none b h off)
+          ∙ sym (cond-false (nat_lt b (length t.hand)) (pos 0) (f b) (le-ltb b (length t.hand) h)))
       term b l (inr h) (inr live) =
           ap (λ (m : ℕ). pos (m * size b)) (live_one b h live)
           ∙ ((let e : 1 * size b ≡ size b = omega arith in ap (λ (m : ℕ). pos m) e)
@@ -192,28 +187,26 @@ module _ (t : ForestTables) (sets : List (ℕ × ℕ)) (order : AreInOrder t set
           ∙ sym (cond-false (nat_lt b (length t.hand)) (pos 0) (f b) (le-ltb b (length t.hand) h))))
 
 -- A list of entries was made in two parts.
-pub list_made : (up up1 up2 names names1 names2 : List ℕ) (n count many : ℕ) (place : ℕ → ℕ) (old new : List ℕ)
+pub list_made : {up up1 up2 names names1 names2 : List ℕ} {n count : ℕ} (many : ℕ) (place : ℕ → ℕ) (old new : List ℕ)
     → up1 ≡ up → up2 ≡ up → names1 ≡ names → names2 ≡ names → count ≡ n → length old ≡ count
     → AreEntries (up_at up1) names1 (λ v. v) 0 count old
     → length new ≡ length old + many → ((k : ℕ) → k < length old → get_or new k 0 ≡ get_or old k 0)
     → AreEntries (up_at up2) names2 place (length old) many new → IsListOf (up_at up) names n place many new
-list_made up up1 up2 names names1 names2 n count many place old new e1 e2 f1 f2 count_is size_old first size kept
-    second = record {
-      size = omega (arith, size, size_old, count_is);
-      vertices = λ k l. (let z : 0 + k ≡ k = omega arith in ap (λ i. get_or new i 0) z)
-          ∙ (kept k (omega (arith, l, size_old, count_is))
-          ∙ ((let z : k ≡ 0 + k = omega arith in ap (λ i. get_or old i 0) z)
-          ∙ (first k (omega (arith, l, count_is)) ∙ (ap (λ xs. entry_of (up_at xs) names1 k) e1
-          ∙ ap (λ xs. entry_of (up_at up) xs k) f1))));
-      sets = λ k l. (let at : n + k ≡ length old + k = omega (arith, size_old, count_is) in ap (λ i. get_or new i 0) at
-          ∙ (second k l ∙ (ap (λ xs. entry_of (up_at xs) names2 (place k)) e2
-          ∙ ap (λ xs. entry_of (up_at up) xs (place k)) f2)));
-    }
+list_made {up} {names1} {names2} {n} many place old new e1 e2 f1 f2 count_is size_old first size kept second = record {
+  size = omega (arith, size, size_old, count_is);
+  vertices = λ k l. (let z : 0 + k ≡ k = omega arith in ap (λ i. get_or new i 0) z)
+      ∙ (kept k (omega (arith, l, size_old, count_is)) ∙ ((let z : k
+      ≡ 0 + k = omega arith in ap (λ i. get_or old i 0) z) ∙ (first k (omega (arith, l, count_is))
+      ∙ (ap (λ xs. entry_of (up_at xs) names1 k) e1 ∙ ap (λ xs. entry_of (up_at up) xs k) f1))));
+  sets = λ k l. (let at : n + k ≡ length old + k = omega (arith, size_old, count_is) in ap (λ i. get_or new i 0) at
+      ∙ (second k l ∙ (ap (λ xs. entry_of (up_at xs) names2 (place k)) e2
+      ∙ ap (λ xs. entry_of (up_at up) xs (place k)) f2)));
+}
 
 -- One weight more.
-pub weights_more : (weight : ℕ → ℤ) (place : ℕ → ℕ) (k : ℕ) (xs ys : List ℤ) (x : ℤ) → ys ≡ xs ++ x ∷ []
+pub weights_more : {weight : ℕ → ℤ} {place : ℕ → ℕ} {k : ℕ} {xs : List ℤ} {ys : List ℤ} {x : ℤ} → ys ≡ xs ++ x ∷ []
     → x ≡ weight (place k) → AreWeights weight place k xs → AreWeights weight place (k + 1) ys
-weights_more weight place k xs ys x ys_is x_is are = record {
+weights_more {weight} {place} {k} {xs} {x} ys_is x_is are = record {
   size = (let s : length (xs ++ x ∷ []) ≡ length xs + 1 = length-append xs (x ∷ []) in
       ap length ys_is ∙ (s ∙ ap (λ m. m + 1) are.size));
   each = λ j l. ap (λ zs. get_or zs j (pos 0)) ys_is ∙ by_place j l (cases_lt j k);

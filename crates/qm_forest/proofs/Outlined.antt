@@ -30,10 +30,10 @@ use Rattle.qm_forest.proofs.Orders.{place_of, set_low, sized, sum_parts}
 use Rattle.qm_forest.proofs.Withins.{in_where}
 
 -- Where one stays one passes nothing else.
-climbs_still : (up : ℕ → ℕ) (m b y : ℕ) → up y ≡ y → climbs up m b y ≡ eqb y b
-climbs_still up zero b y e = refl
-climbs_still up (suc m) b y e = ap (λ x. eqb y b || climbs up m b x) e
-    ∙ (ap (λ x. eqb y b || x) (climbs_still up m b y e) ∙ twice (eqb y b))
+climbs_still : (up : ℕ → ℕ) (m b : ℕ) {y : ℕ} → up y ≡ y → climbs up m b y ≡ eqb y b
+climbs_still up zero b e = refl
+climbs_still up (suc m) b {y} e = ap (λ x. eqb y b || climbs up m b x) e
+    ∙ (ap (λ x. eqb y b || x) (climbs_still up m b e) ∙ twice (eqb y b))
   where
     twice : (s : Bool) → (s || s) ≡ s
     twice true = refl
@@ -80,10 +80,10 @@ module _ (t : ForestTables) (known : IsLaminar t) (sets : List (ℕ × ℕ)) (d 
 
   -- What is around a blossom is a set of the order.
   around_place : (x : ℕ) → up x ≢ x → (k : ℕ) × (k < m) × (set_in sets k ≡ up x)
-  around_place x ne = place_of t sets is.order (up x) (is.around x ne).0 (is.around x ne).1 (is.around x ne).2
+  around_place x ne = place_of is.order (up x) (is.around x ne).0 (is.around x ne).1 (is.around x ne).2
 
-  entry_none : (x : ℕ) → up x ≡ x → entry x ≡ 0
-  entry_none x e = cond-true (eqb (up x) x) 0 (get_or is.names (up x) 0) (eq-eqb (up x) x e)
+  entry_none : {x : ℕ} → up x ≡ x → entry x ≡ 0
+  entry_none {x} e = cond-true (eqb (up x) x) 0 (get_or is.names (up x) 0) (eq-eqb (up x) x e)
 
   entry_some : (x k : ℕ) → up x ≢ x → k < m → set_in sets k ≡ up x → entry x ≡ suc k
   entry_some x k ne l at = cond-false (eqb (up x) x) 0 (get_or is.names (up x) 0) (ne_eqb (up x) x ne)
@@ -101,7 +101,7 @@ module _ (t : ForestTables) (known : IsLaminar t) (sets : List (ℕ × ℕ)) (d 
 
   name_set : (k : ℕ) → k < m → name (set_in sets k) ≡ suc k
   name_set k l = cond-false (nat_lt (set_in sets k) n) 0 (get_or is.names (set_in sets k) 0)
-      (le-ltb (set_in sets k) n (sized t sets is.order k l).high) ∙ is.named k l
+      (le-ltb (set_in sets k) n (sized is.order k l).high) ∙ is.named k l
 
   later : (j k : ℕ) → j < m → k < m → get_or t.rank (set_in sets j) 0 < get_or t.rank (set_in sets k) 0 → j < k
   later j k lj lk less = by_order (cases_lt j k)
@@ -110,11 +110,10 @@ module _ (t : ForestTables) (known : IsLaminar t) (sets : List (ℕ × ℕ)) (d 
       by_order (inl l) = l
       by_order (inr h) =
           let rise : (get_or sets k (0, 0)).0 ≤ (get_or sets j (0, 0)).0 = is.order.increasing k j (0, 0) h lj in
-          absurd (omega (arith, rise, (sized t sets is.order k lk).rank, (sized t sets is.order j lj).rank, less))
+          absurd (omega (arith, rise, (sized is.order k lk).rank, (sized is.order j lj).rank, less))
 
   inner_later : (j x : ℕ) → j < m → set_in sets j ≡ x → (ne : up x ≢ x) → j < (around_place x ne).0
-  inner_later j x l at ne =
-      later j (around_place x ne).0 l (around_place x ne).1
+  inner_later j x l at ne = later j (around_place x ne).0 l (around_place x ne).1
       (subst (λ b. get_or t.rank b 0 < get_or t.rank (set_in sets (around_place x ne).0) 0) (sym at)
       (subst (λ b. get_or t.rank x 0 < get_or t.rank b 0) (sym (around_place x ne).2) (known.rises x ne)))
 
@@ -126,7 +125,7 @@ module _ (t : ForestTables) (known : IsLaminar t) (sets : List (ℕ × ℕ)) (d 
 
       by_size : (x < n) ⊎ (n ≤ x) → name x < name (up x)
       by_size (inl l) = (let z : name x ≡ 0 = name_vertex x l in omega (arith, outer, z))
-      by_size (inr h) = placed (place_of t sets is.order x h (is.inner x ne) (is.live x ne h))
+      by_size (inr h) = placed (place_of is.order x h (is.inner x ne) (is.live x ne h))
         where
           placed : (j : ℕ) × (j < m) × (set_in sets j ≡ x) → name x < name (up x)
           placed w = (let here : name x ≡ suc w.0 = ap name (sym w.2) ∙ name_set w.0 w.1 in
@@ -151,8 +150,7 @@ module _ (t : ForestTables) (known : IsLaminar t) (sets : List (ℕ × ℕ)) (d 
         placed : (ne : up x ≢ x) → (j : ℕ) × (j < m) × (set_in sets j ≡ up x)
             → list_any here (sets_from n d.up (suc most) (entry x))
             ≡ cond (eqb (up x) x) false (climbs up most b (up x))
-        placed ne w =
-            ap (λ z. list_any here (sets_from n d.up (suc most) z)) (entry_some x w.0 ne w.1 w.2)
+        placed ne w = ap (λ z. list_any here (sets_from n d.up (suc most) z)) (entry_some x w.0 ne w.1 w.2)
             ∙ (ap (λ z. here w.0 || list_any here (sets_from n d.up most z)) (is.entries.sets w.0 w.1 ∙ ap entry w.2)
             ∙ (ap (λ s. s || list_any here (sets_from n d.up most (entry (up x)))) same
             ∙ (rest ∙ sym (cond-false (eqb (up x) x) false (climbs up most b (up x)) (ne_eqb (up x) x ne)))))
@@ -166,7 +164,7 @@ module _ (t : ForestTables) (known : IsLaminar t) (sets : List (ℕ × ℕ)) (d 
 
         by_up : (up x ≡ x) ⊎ (up x ≢ x) → list_any here (sets_from n d.up (suc most) (entry x))
             ≡ cond (eqb (up x) x) false (climbs up most b (up x))
-        by_up (inl e) = ap (λ z. list_any here (sets_from n d.up (suc most) z)) (entry_none x e)
+        by_up (inl e) = ap (λ z. list_any here (sets_from n d.up (suc most) z)) (entry_none e)
             ∙ sym (cond-true (eqb (up x) x) false (climbs up most b (up x)) (eq-eqb (up x) x e))
         by_up (inr ne) = placed ne (around_place x ne)
 
@@ -174,13 +172,11 @@ module _ (t : ForestTables) (known : IsLaminar t) (sets : List (ℕ × ℕ)) (d 
         → (eqb (up x) b || list_any here (sets_from n d.up (suc more) (entry (up x)))) ≡ climbs up (suc more) b (up x)
     any_rest more x further = ap (λ s. eqb (up x) b || s) further ∙ by_next (cases_eq (up (up x)) (up x))
       where
-        by_next : (up (up x) ≡ up x) ⊎ (up (up x) ≢ up x)
-            → (eqb (up x) b || cond (eqb (up (up x)) (up x)) false (climbs up more b (up (up x))))
-            ≡ climbs up (suc more) b (up x)
-        by_next (inl e) =
-            ap (λ s. eqb (up x) b || s) (cond-true (eqb (up (up x)) (up x)) false (climbs up more b (up (up x)))
-            (eq-eqb (up (up x)) (up x) e))
-            ∙ (or_false (eqb (up x) b) ∙ sym (climbs_still up (suc more) b (up x) e))
+        by_next : (up (up x) ≡ up x) ⊎ (up (up x) ≢ up x) → (eqb (up x) b || cond (eqb (up (up x)) (up x)) false
+            (climbs up more b (up (up x)))) ≡ climbs up (suc more) b (up x)
+        by_next (inl e) = ap (λ s. eqb (up x) b || s) (cond-true (eqb (up (up x)) (up x)) false
+            (climbs up more b (up (up x))) (eq-eqb (up (up x)) (up x) e))
+            ∙ (or_false (eqb (up x) b) ∙ sym (climbs_still up (suc more) b e))
         by_next (inr ne) = ap (λ s. eqb (up x) b || s)
             (cond-false (eqb (up (up x)) (up x)) false (climbs up more b (up (up x))) (ne_eqb (up (up x)) (up x) ne))
 
@@ -194,7 +190,7 @@ module _ (t : ForestTables) (known : IsLaminar t) (sets : List (ℕ × ℕ)) (d 
         ∙ (ap (λ z. list_any here (sets_from n d.up z (entry v))) sets_many ∙ (fuel m refl ∙ enough))
       where
         other : v ≢ b
-        other e = omega (arith, e, l, (sized t sets is.order k low).high)
+        other e = omega (arith, e, l, (sized is.order k low).high)
 
         fuel : (z : ℕ) → z ≡ m → list_any here (sets_from n d.up z (entry v)) ≡ climbs up z b v
         fuel zero e = absurd (omega (arith, e, low))
@@ -203,16 +199,16 @@ module _ (t : ForestTables) (known : IsLaminar t) (sets : List (ℕ × ℕ)) (d 
           where
             by_up : (up v ≡ v) ⊎ (up v ≢ v) → cond (eqb (up v) v) false (climbs up z b (up v)) ≡ climbs up z b (up v)
             by_up (inl s) = cond-true (eqb (up v) v) false (climbs up z b (up v)) (eq-eqb (up v) v s)
-                ∙ sym (climbs_still up z b (up v) (ap up s) ∙ ne_eqb (up v) b (λ x. other (sym s ∙ x)))
+                ∙ sym (climbs_still up z b (ap up s) ∙ ne_eqb (up v) b (λ x. other (sym s ∙ x)))
             by_up (inr ne) = cond-false (eqb (up v) v) false (climbs up z b (up v)) (ne_eqb (up v) v ne)
 
         enough : climbs up m b v ≡ climbs up n b v
         enough = same_test (climbs up m b v) (climbs up n b v)
             (λ on. (let w : (i : ℕ) × (walk up v i ≡ b) = climbs_place up m b v on in
-            in_where n up (λ z. get_or t.rank z 0) known.rises v b w.0
-            (known.low b (set_low t sets is.order k low) (inr (sized t sets is.order k low).live)) w.1))
+            in_where n up (λ z. get_or t.rank z 0) known.rises v w.0
+            (known.low b (set_low is.order k low) (inr (sized is.order k low).live)) w.1))
             (λ on. (let w : (i : ℕ) × (walk up v i ≡ b) = climbs_place up n b v on in
-            in_where m up name name_rises v b w.0 (let e : name b ≡ suc k = name_set k low in
+            in_where m up name name_rises v w.0 (let e : name b ≡ suc k = name_set k low in
             omega (arith, e, low)) w.1))
 
     pub z_is : z_at d k ≡ f.weight b
@@ -224,9 +220,9 @@ module _ (t : ForestTables) (known : IsLaminar t) (sets : List (ℕ × ℕ)) (d 
   y_is : (v : ℕ) → v < n → y_at d v ≡ f.weight v
   y_is v l = is.y.each v l
 
-  module _ (g : WeightedGraph) (small : IsSmallGraph g) (valid : IsSoundFor g t) where
+  module _ {g : WeightedGraph} (small : IsSmallGraph g) (valid : IsSoundFor g t) where
     abbrev are : AreDarts (darts_of g)
-    are = are_darts g small.lawful
+    are = are_darts small.lawful
 
     high_in : (b : ℕ) → n ≤ b → g.n ≤ b
     high_in b h = subst (λ x. x ≤ b) valid.vertices h
@@ -249,7 +245,7 @@ module _ (t : ForestTables) (known : IsLaminar t) (sets : List (ℕ × ℕ)) (d 
         let zs : total (λ z. z) d.z ≡ total_below (λ k. f.weight (set_in sets k)) m = total_entries (λ z. z) (pos 0) d.z
         ∙ (ap (total_below (λ k. get_or d.z k (pos 0))) sets_many ∙ total_below_same (λ k. get_or d.z k (pos 0))
         (λ k. f.weight (set_in sets k)) m (λ k l. is.z.each k l)) in
-        omega (arith, ints, ys, zs, sum_parts t sets is.order f.weight known.vertices weights_high weights_none)
+        omega (arith, ints, ys, zs, sum_parts is.order f.weight known.vertices weights_high weights_none)
 
     pub dual_is : IsDualOf n f d
     dual_is = record {
@@ -257,8 +253,8 @@ module _ (t : ForestTables) (known : IsLaminar t) (sets : List (ℕ × ℕ)) (d 
       y = y_is;
       sets = λ k l. (let low : k < m = subst (λ x. k < x) sets_many l in (
         set_in sets k,
-        (sized t sets is.order k low).high,
-        (sized t sets is.order k low).live,
+        (sized is.order k low).high,
+        (sized is.order k low).live,
         z_is k low,
         λ v lv. holds_is k low v lv,
       ));
@@ -278,7 +274,7 @@ module _ (t : ForestTables) (known : IsLaminar t) (sets : List (ℕ × ℕ)) (d 
         at i x e less = ap (λ z. is_up n m i z) e ∙ entry_lawful n m i (entry x) (by_up (cases_eq (up x) x))
           where
             by_up : (up x ≡ x) ⊎ (up x ≢ x) → (entry x ≡ 0) ⊎ ((i + 1 < n + entry x) × (entry x ≤ m))
-            by_up (inl s) = inl (entry_none x s)
+            by_up (inl s) = inl (entry_none s)
             by_up (inr ne) = (let e : entry x ≡ suc (around_place x ne).0 =
                 entry_some x (around_place x ne).0 ne (around_place x ne).1 (around_place x ne).2 in
                 inr (omega (arith, e, less ne), omega (arith, e, (around_place x ne).1)))
@@ -299,16 +295,15 @@ module _ (t : ForestTables) (known : IsLaminar t) (sets : List (ℕ × ℕ)) (d 
     size_odd : (k : ℕ) → k < m → is_odd_size (set_size g.n d k) ≡ true
     size_odd k l =
         ap is_odd_size (size_is k l) ∙ size_lawful (blossom_size g.n f (set_in sets k))
-        (odd_blossom (darts_of g) are f valid.valid.nested (set_in sets k)
-        (inr (high_in (set_in sets k) (sized t sets is.order k l).high, (sized t sets is.order k l).live)))
-        (large_set (darts_of g) are f valid.valid.nested (set_in sets k)
-        (high_in (set_in sets k) (sized t sets is.order k l).high) (sized t sets is.order k l).live)
+        (odd_blossom are valid.valid.nested (set_in sets k)
+        (inr (high_in (set_in sets k) (sized is.order k l).high, (sized is.order k l).live)))
+        (large_set are valid.valid.nested (set_in sets k)
+        (high_in (set_in sets k) (sized is.order k l).high) (sized is.order k l).live)
 
     -- What the vertices add to a load.
     ends_load : (u v : ℕ) → u < n → v < n → u ≢ v
         → total_below (λ w. cond (splits (f.holds w) u v) (f.weight w) (pos 0)) n ≡ f.weight u +ℤ f.weight v
-    ends_load u v lu lv ne =
-        total_below_same (λ w. cond (splits (f.holds w) u v) (f.weight w) (pos 0))
+    ends_load u v lu lv ne = total_below_same (λ w. cond (splits (f.holds w) u v) (f.weight w) (pos 0))
         (λ w. cond (eqb w u) (f.weight w) (pos 0) +ℤ cond (eqb w v) (f.weight w) (pos 0)) n each
         ∙ (total_below_sum (λ w. cond (eqb w u) (f.weight w) (pos 0)) (λ w. cond (eqb w v) (f.weight w) (pos 0)) n
         ∙ (ap (λ x. x +ℤ total_below (λ w. cond (eqb w v) (f.weight w) (pos 0)) n) (only u lu)
@@ -331,7 +326,7 @@ module _ (t : ForestTables) (known : IsLaminar t) (sets : List (ℕ × ℕ)) (d 
         ≡ weight_between f (edge_at g e).u (edge_at g e).v
     load_is e l =
         let parts : total_below added n +ℤ total_below (λ k. added (set_in sets k)) m ≡ weight_between f u v =
-        sum_parts t sets is.order added known.vertices (λ b h lb. high_term (splits (f.holds b) u v) (f.weight b)
+        sum_parts is.order added known.vertices (λ b h lb. high_term (splits (f.holds b) u v) (f.weight b)
         (weights_high b h lb)) (λ b h dead. no_term (splits (f.holds b) u v) (f.weight b)
         (weights_none b h dead)) in
         let sets_load : total_below (λ k. cond (crosses (holds g.n d k) (edge_at g e)) (z_at d k) (pos 0)) (length d.z)
@@ -402,6 +397,6 @@ module _ (t : ForestTables) (known : IsLaminar t) (sets : List (ℕ × ℕ)) (d 
       odd = λ k l. size_odd k (subst (λ x. k < x) sets_many l);
       positive = λ k l. (let low : k < m = subst (λ x. k < x) sets_many l in
           subst (λ (x : ℤ). pos 0 ≤ℤ x) (sym (z_is k low))
-          (weights_high (set_in sets k) (sized t sets is.order k low).high (set_low t sets is.order k low)));
+          (weights_high (set_in sets k) (sized is.order k low).high (set_low is.order k low)));
       loaded = edge_loaded;
     }

@@ -29,9 +29,8 @@ term_low f (suc n) k l = by_last (cases_eq k n) (λ lk. term_low f n k lk)
 
 pub count_more : (f g : ℕ → ℕ) (n x : ℕ) → x < n → f x ≡ 0 → ((k : ℕ) → k < n → k ≢ x → g k ≡ f k)
     → count_below g n ≡ count_below f n + g x
-count_more f g n x l none same =
-    count_below_same g (λ k. f k + cond (eqb k x) (g k) 0) n (λ k lk. each k lk (cases_eq k x))
-    ∙ (count_below_sum f (λ k. cond (eqb k x) (g k) 0) n
+count_more f g n x l none same = count_below_same g (λ k. f k + cond (eqb k x) (g k) 0) n
+    (λ k lk. each k lk (cases_eq k x)) ∙ (count_below_sum f (λ k. cond (eqb k x) (g k) 0) n
     ∙ ap (λ m. count_below f n + m) (count_below_one (λ k. cond (eqb k x) (g k) 0) n x l
     (λ k lk ne. cond-false (eqb k x) (g k) 0 (ne_eqb k x ne)) ∙ cond-true (eqb x x) (g x) 0 (eq-eqb x x refl)))
   where
@@ -85,18 +84,16 @@ module _ (t : ForestTables) (vertices : length t.hand ≤ length t.up)
       ⊎ (get_or (entered n left x u) c None ≡ get_or left c None)
   entry_cases left x u c low = by_size (cases_lt x n) (cases_eq c x)
     where
-      by_size : (x < n) ⊎ (n ≤ x) → (c ≡ x) ⊎ (c ≢ x)
-          → ((n ≤ x) × (c ≡ x) × (get_or (entered n left x u) c None ≡ Some u))
-          ⊎ (get_or (entered n left x u) c None ≡ get_or left c None)
+      by_size : (x < n) ⊎ (n ≤ x) → (c ≡ x) ⊎ (c ≢ x) → ((n ≤ x) × (c ≡ x)
+          × (get_or (entered n left x u) c None ≡ Some u)) ⊎ (get_or (entered n left x u) c None ≡ get_or left c None)
       by_size (inl l) y = inr (ap (λ xs. get_or xs c None) (cond-true (nat_lt x n) left (set left x (Some u))
           (lt-ltb x n l)))
-      by_size (inr h) (inl e) =
-          inl (
-            h,
-            e,
-            ap (λ xs. get_or xs c None) (cond-false (nat_lt x n) left (set left x (Some u)) (le-ltb x n h))
-                ∙ (ap (λ k. get_or (set left x (Some u)) k None) e ∙ get_or-set_same left x (Some u) None low),
-          )
+      by_size (inr h) (inl e) = inl (
+        h,
+        e,
+        ap (λ xs. get_or xs c None) (cond-false (nat_lt x n) left (set left x (Some u)) (le-ltb x n h))
+            ∙ (ap (λ k. get_or (set left x (Some u)) k None) e ∙ get_or-set_same left x (Some u) None low),
+      )
       by_size (inr h) (inr ne) =
           inr (ap (λ xs. get_or xs c None) (cond-false (nat_lt x n) left (set left x (Some u)) (le-ltb x n h))
           ∙ get_or-set_other left x c (Some u) None ne)
@@ -147,10 +144,9 @@ module _ (t : ForestTables) (vertices : length t.hand ≤ length t.up)
         by_test : (get_or marks e false ≡ true) ⊎ (get_or marks e false ≡ false) → get_or marks e false ≡ false
         by_test (inr off) = off
         by_test (inl on) =
-            let at_u : splits ((forest_of t).holds u) u v ≡ true =
-            ap (λ (s : Bool). cond s (not ((forest_of t).holds u v)) ((forest_of t).holds u v))
-            (alone u u pairing.near_low pairing.near_low ∙ eq-eqb u u refl)
-            ∙ ap not (alone u v pairing.near_low pairing.far_low ∙ ne_eqb u v pairing.apart) in
+            let at_u : splits ((forest_of t).holds u) u v ≡ true = ap (λ (s : Bool). cond s
+            (not ((forest_of t).holds u v)) ((forest_of t).holds u v)) (alone u u pairing.near_low pairing.near_low
+            ∙ eq-eqb u u refl) ∙ ap not (alone u v pairing.near_low pairing.far_low ∙ ne_eqb u v pairing.apart) in
             let one : bool_number (get_or marks e false && splits ((forest_of t).holds u) (near_at t (2 * e))
             (near_at t (2 * e + 1))) ≡ 1 =
             ap (λ (s : Bool). bool_number (s && splits ((forest_of t).holds u) (near_at t (2 * e))
@@ -215,26 +211,22 @@ module _ (t : ForestTables) (vertices : length t.hand ≤ length t.up)
 
     waiting_now : (b : ℕ) → waiting t (entered n first_left y v) b ≡ (waiting t left b + waits_but t b x u) + waits_but
         t b y v
-    waiting_now b =
-        entered_more first_left y v b (subst (λ m. y < m) (sym (entered_size left x u ∙ size_left)) pairing.low_y)
-        free_y2 (zero_at y v b pairing.far_held)
-        ∙ ap (λ m. m + waits_but t b y v) (entered_more left x u b (subst (λ m. x < m) (sym size_left) pairing.low_x)
-        free_x (zero_at x u b pairing.near_held))
+    waiting_now b = entered_more first_left y v b (subst (λ m. y < m) (sym (entered_size left x u ∙ size_left))
+        pairing.low_y) free_y2 (zero_at y v b pairing.far_held) ∙ ap (λ m. m + waits_but t b y v)
+        (entered_more left x u b (subst (λ m. x < m) (sym size_left) pairing.low_x) free_x
+        (zero_at x u b pairing.near_held))
 
     leaving_now : (b : ℕ) → leaving t (set marks e true) b
         ≡ leaving t marks b + bool_number (splits ((forest_of t).holds b) u v)
-    leaving_now b =
-        ap (count_below (λ k. bool_number (get_or (set marks e true) k false
-        && splits ((forest_of t).holds b) (near_at t (2 * k)) (near_at t (2 * k + 1)))))
-        (length-set marks e true)
+    leaving_now b = ap (count_below (λ k. bool_number (get_or (set marks e true) k false && splits
+        ((forest_of t).holds b) (near_at t (2 * k)) (near_at t (2 * k + 1))))) (length-set marks e true)
         ∙ (count_more (λ k. bool_number (get_or marks k false && splits ((forest_of t).holds b) (near_at t (2 * k))
-        (near_at t (2 * k + 1)))) (λ k. bool_number (get_or (set marks e true) k false
-        && splits ((forest_of t).holds b) (near_at t (2 * k)) (near_at t (2 * k + 1)))) (length marks) e e_low
+        (near_at t (2 * k + 1)))) (λ k. bool_number (get_or (set marks e true) k false && splits ((forest_of t).holds b)
+        (near_at t (2 * k)) (near_at t (2 * k + 1)))) (length marks) e e_low
         (ap (λ (s : Bool). bool_number (s && splits ((forest_of t).holds b) (near_at t (2 * e))
-        (near_at t (2 * e + 1)))) fresh)
-        (λ k lk ne. ap (λ (s : Bool). bool_number (s && splits ((forest_of t).holds b) (near_at t (2 * k))
-        (near_at t (2 * k + 1)))) (get_or-set_other marks e k true false ne))
-        ∙ ap (λ m. leaving t marks b + m)
+        (near_at t (2 * e + 1)))) fresh) (λ k lk ne. ap (λ (s : Bool). bool_number
+        (s && splits ((forest_of t).holds b) (near_at t (2 * k)) (near_at t (2 * k + 1))))
+        (get_or-set_other marks e k true false ne)) ∙ ap (λ m. leaving t marks b + m)
         (ap (λ (s : Bool). bool_number (s && splits ((forest_of t).holds b) (near_at t (2 * e))
         (near_at t (2 * e + 1)))) (get_or-set_same marks e true false e_low) ∙ ap bool_number (sides b)))
 
@@ -244,8 +236,7 @@ module _ (t : ForestTables) (vertices : length t.hand ≤ length t.up)
       where
         made : (z s : ℕ) → (n ≤ z) → c ≡ z → (n ≤ z → get_or t.parts z 0 ≢ 0) → s < n → (forest_of t).holds z s ≡ true
             → s ≡ w → IsEntry t c w
-        made z s high at live low held same =
-            subst (λ k. IsEntry t k w) (sym at)
+        made z s high at live low held same = subst (λ k. IsEntry t k w) (sym at)
             (subst (IsEntry t z) same (record { high = high; live = live high; low = low; held = held }))
 
         by_first : get_or first_left c None ≡ Some w → ((n ≤ x) × (c ≡ x) × (get_or first_left c None ≡ Some u))
@@ -286,4 +277,4 @@ module _ (t : ForestTables) (vertices : length t.hand ≤ length t.up)
                 subst (IsTight (darts_of g) (forest_of t)) s (pairing.tight g is valid))
             by_side (inr nz) = (let s : d - 1 ≡ 2 * k = omega (arith, nz, at) in
                 subst (IsTight (darts_of g) (forest_of t)) (twin_odd d nz ∙ s)
-                (tight_twin (darts_of g) (are_darts g is.lawful) (forest_of t) d (pairing.tight g is valid)))
+                (tight_twin (are_darts is.lawful) (pairing.tight g is valid)))

@@ -51,30 +51,26 @@ writes_has P f place value (suc k) x values was =
 
 module _ (t : ForestTables) (hid : HiddenTables) (tied : AreTied t hid) (b : ℕ) (ready : IsPartable t b)
     (hand2 top2 : List ℕ) (q2 off2 : List ℤ) (up2 parts2 : List ℕ) (pool2 : List (Option Node)) (id : ℕ) (node : Node)
-    (own : (k v : ℕ) → k < get_or t.parts b 0
-    → listed (λ i. get_or hid.following i 0) (get_or hid.first (walk (λ i. get_or t.after i 0) (get_or t.head b 0) k) 0)
-    (get_or t.rank (walk (λ i. get_or t.after i 0) (get_or t.head b 0) k) 0) v ≡ true
-    → get_or hand2 v 0 ≡ get_or hid.leader (walk (λ i. get_or t.after i 0) (get_or t.head b 0) k) 0)
-    (other : (v : ℕ) → ((k : ℕ) → k < get_or t.parts b 0
-    → listed (λ i. get_or hid.following i 0) (get_or hid.first (walk (λ i. get_or t.after i 0) (get_or t.head b 0) k) 0)
-    (get_or t.rank (walk (λ i. get_or t.after i 0) (get_or t.head b 0) k) 0) v ≡ false)
-    → get_or hand2 v 0 ≡ get_or t.hand v 0)
-    (q_same : (v : ℕ) → get_or q2 v (pos 0) ≡ get_or hid.q v (pos 0)) (hand_size : length hand2 ≡ length t.hand)
-    (q_size : length q2 ≡ length hid.q)
-    (top_is : (λ i. get_or top2 i 0)
-    ≡ writes (λ i. get_or t.top i 0)
+    (own : (k v : ℕ) → k < get_or t.parts b 0 → listed (λ i. get_or hid.following i 0)
+    (get_or hid.first (walk (λ i. get_or t.after i 0) (get_or t.head b 0) k) 0)
+    (get_or t.rank (walk (λ i. get_or t.after i 0) (get_or t.head b 0) k) 0) v ≡ true → get_or hand2 v 0
+    ≡ get_or hid.leader (walk (λ i. get_or t.after i 0) (get_or t.head b 0) k) 0)
+    (other : (v : ℕ) → ((k : ℕ) → k < get_or t.parts b 0 → listed (λ i. get_or hid.following i 0)
+    (get_or hid.first (walk (λ i. get_or t.after i 0) (get_or t.head b 0) k) 0)
+    (get_or t.rank (walk (λ i. get_or t.after i 0) (get_or t.head b 0) k) 0) v ≡ false) → get_or hand2 v 0
+    ≡ get_or t.hand v 0) (q_same : (v : ℕ) → get_or q2 v (pos 0) ≡ get_or hid.q v (pos 0))
+    (hand_size : length hand2 ≡ length t.hand) (q_size : length q2 ≡ length hid.q)
+    (top_is : (λ i. get_or top2 i 0) ≡ writes (λ i. get_or t.top i 0)
     (λ k. get_or hid.leader (walk (λ i. get_or t.after i 0) (get_or t.head b 0) k) 0)
-    (walk (λ i. get_or t.after i 0) (get_or t.head b 0)) (get_or t.parts b 0))
-    (top_size : length top2 ≡ length t.top)
+    (walk (λ i. get_or t.after i 0) (get_or t.head b 0)) (get_or t.parts b 0)) (top_size : length top2 ≡ length t.top)
     (off_is : (λ h. get_or off2 h (pos 0)) ≡ writes (λ h. get_or hid.off h (pos 0))
     (λ k. get_or hid.leader (walk (λ i. get_or t.after i 0) (get_or t.head b 0) k) 0)
     (λ k. get_or hid.off (get_or hid.leader b 0) (pos 0)) (get_or t.parts b 0))
-    (off_size : length off2 ≡ length hid.off)
-    (up_is : up_at up2 ≡ writes (up_at t.up) (walk (λ i. get_or t.after i 0) (get_or t.head b 0))
-    (walk (λ i. get_or t.after i 0) (get_or t.head b 0)) (get_or t.parts b 0))
-    (up_size : length up2 ≡ length t.up) (parts_is : parts2 ≡ set t.parts b 0)
-    (pool_is : pool2 ≡ set hid.pool id None) (id_is : b ≡ length t.hand + id) (id_live : slice_get hid.pool id
-    ≡ Some (Some node)) where
+    (off_size : length off2 ≡ length hid.off) (up_is : up_at up2 ≡ writes (up_at t.up)
+    (walk (λ i. get_or t.after i 0) (get_or t.head b 0)) (walk (λ i. get_or t.after i 0) (get_or t.head b 0))
+    (get_or t.parts b 0)) (up_size : length up2 ≡ length t.up) (parts_is : parts2 ≡ set t.parts b 0)
+    (pool_is : pool2 ≡ set hid.pool id None) (id_is : b ≡ length t.hand + id)
+    (id_live : slice_get hid.pool id ≡ Some (Some node)) where
   abbrev n : ℕ
   n = length t.hand
 
@@ -135,8 +131,7 @@ module _ (t : ForestTables) (hid : HiddenTables) (tied : AreTied t hid) (b : ℕ
         place = w.0;
         low = w.1;
         is = w.2;
-        hand =
-            own w.0 v w.1 (in_list w.0 v w.1 l ∙ the_fresh_part t hid tied b ready up2 up_is w.0 v w.1 l (sym w.2));
+        hand = own w.0 v w.1 (in_list w.0 v w.1 l ∙ the_fresh_part t hid tied b ready up2 up_is w.0 v w.1 l (sym w.2));
       }
 
   hand_off : (v : ℕ) → v < n → inside (fresh v) ≡ false → get_or hand2 v 0 ≡ get_or t.hand v 0
@@ -152,16 +147,12 @@ module _ (t : ForestTables) (hid : HiddenTables) (tied : AreTied t hid) (b : ℕ
   -- The handle of a vertex outside the set is no part's.
   hand_apart : (v k : ℕ) → v < n → inside (fresh v) ≡ false → k < many → get_or hid.leader (at k) 0 ≢ get_or t.hand v 0
   hand_apart v k l off lk e =
-      let part : fresh (get_or hid.leader (at k) 0) ≡ at k =
-      the_part_fresh t hid tied b ready up2 up_is k (get_or hid.leader (at k) 0) lk (leader_in k lk).0
-      (leader_in k lk).1 in
-      let in_b : out (get_or hid.leader (at k) 0) ≡ b =
-      out_in (get_or hid.leader (at k) 0) (leader_in k lk).0 (ap inside part
-      ∙ the_at_in t hid tied b ready up2 up_is k lk) in
+      let part : fresh (get_or hid.leader (at k) 0) ≡ at k = the_part_fresh t hid tied b ready up2 up_is k
+      (get_or hid.leader (at k) 0) lk (leader_in k lk).0 (leader_in k lk).1 in
+      let in_b : out (get_or hid.leader (at k) 0) ≡ b = out_in (get_or hid.leader (at k) 0) (leader_in k lk).0
+      (ap inside part ∙ the_at_in t hid tied b ready up2 up_is k lk) in
       let same : get_or hid.leader (at k) 0 ≡ get_or hid.leader (out v) 0 = e ∙ tied.nest.led v l in
-      let own_out : out (get_or hid.leader (out v) 0) ≡ out v =
-      leader_out n (length t.up) t.hand t.top t.up t.rank t.parts hid.leader hid.first hid.last hid.following
-      tied.nest v l in
+      let own_out : out (get_or hid.leader (out v) 0) ≡ out v = leader_out tied.nest v l in
       the_never t hid tied b ready up2 up_is v n l (sym (out_off v l off) ∙ (sym own_out ∙ (ap out (sym same) ∙ in_b)))
 
   pub out_new : (v : ℕ) → v < n → out_of hand2 top2 v ≡ fresh v
@@ -170,15 +161,13 @@ module _ (t : ForestTables) (hid : HiddenTables) (tied : AreTied t hid) (b : ℕ
       by_test : (inside (fresh v) ≡ true) ⊎ (inside (fresh v) ≡ false) → out_of hand2 top2 v ≡ fresh v
       by_test (inl on) =
           let p : HasPart v = part_of v l on in
-          ap (λ i. get_or top2 i 0) p.hand
-          ∙ (ap (λ (f : ℕ → ℕ). f (get_or hid.leader (at p.place) 0)) top_is
+          ap (λ i. get_or top2 i 0) p.hand ∙ (ap (λ (f : ℕ → ℕ). f (get_or hid.leader (at p.place) 0)) top_is
           ∙ (writes_at (λ i. get_or t.top i 0) (λ k. get_or hid.leader (at k) 0) at many p.place p.low leaders_differ
           ∙ p.is))
-      by_test (inr off) =
-          ap (λ i. get_or top2 i 0) (hand_off v l off)
-          ∙ (ap (λ (f : ℕ → ℕ). f (get_or t.hand v 0)) top_is
-          ∙ (writes_off (λ i. get_or t.top i 0) (λ k. get_or hid.leader (at k) 0) at many (get_or t.hand v 0)
-          (λ k lk. hand_apart v k l off lk) ∙ out_off v l off))
+      by_test (inr off) = ap (λ i. get_or top2 i 0) (hand_off v l off)
+          ∙ (ap (λ (f : ℕ → ℕ). f (get_or t.hand v 0)) top_is ∙ (writes_off (λ i. get_or t.top i 0)
+          (λ k. get_or hid.leader (at k) 0) at many (get_or t.hand v 0) (λ k lk. hand_apart v k l off lk)
+          ∙ out_off v l off))
 
   -- What the handle of a vertex adds stays.
   off_new : (v : ℕ) → v < n → get_or off2 (get_or hand2 v 0) (pos 0) ≡ get_or hid.off (get_or t.hand v 0) (pos 0)
@@ -194,12 +183,10 @@ module _ (t : ForestTables) (hid : HiddenTables) (tied : AreTied t hid) (b : ℕ
           (λ k. get_or hid.off (get_or hid.leader b 0) (pos 0)) many p.place p.low leaders_differ
           ∙ ap (λ i. get_or hid.off i (pos 0))
           (sym (tied.nest.led v l ∙ ap (λ x. get_or hid.leader x 0) (out_in v l on)))))
-      by_test (inr off) =
-          ap (λ i. get_or off2 i (pos 0)) (hand_off v l off)
-          ∙ (ap (λ (f : ℕ → ℤ). f (get_or t.hand v 0)) off_is
-          ∙ writes_off (λ h. get_or hid.off h (pos 0)) (λ k. get_or hid.leader (at k) 0)
-          (λ k. get_or hid.off (get_or hid.leader b 0) (pos 0)) many (get_or t.hand v 0)
-          (λ k lk. hand_apart v k l off lk))
+      by_test (inr off) = ap (λ i. get_or off2 i (pos 0)) (hand_off v l off)
+          ∙ (ap (λ (f : ℕ → ℤ). f (get_or t.hand v 0)) off_is ∙ writes_off (λ h. get_or hid.off h (pos 0))
+          (λ k. get_or hid.leader (at k) 0) (λ k. get_or hid.off (get_or hid.leader b 0) (pos 0)) many
+          (get_or t.hand v 0) (λ k lk. hand_apart v k l off lk))
 
   change_none : (x : ℕ) → label_at t.label x ≡ Outside → weight_change (label_at t.label x) t.delta ≡ pos 0
   change_none x e = ap (λ (l : Label). weight_change l t.delta) e
@@ -258,13 +245,11 @@ module _ (t : ForestTables) (hid : HiddenTables) (tied : AreTied t hid) (b : ℕ
     small_start = tied.numbers.small_start;
     moved = λ v l. (let lv : v < n = subst (λ m. v < m) hand_size l in
         subst (λ (z : ℤ). pos (unsigned_abs (added hand2 top2 off2 t.label t.delta v)) ≤ℤ (z -ℤ tied.numbers.start))
-        (sym all_new)
-        (subst (λ (z : ℤ). pos (unsigned_abs z) ≤ℤ (total_below (weight_at t.base t.label t.delta) (length t.up) -ℤ
-        tied.numbers.start)) (sym (added_new v lv)) (tied.numbers.moved v lv)));
+        (sym all_new) (subst (λ (z : ℤ). pos (unsigned_abs z) ≤ℤ (total_below (weight_at t.base t.label t.delta)
+        (length t.up) -ℤ tied.numbers.start)) (sym (added_new v lv)) (tied.numbers.moved v lv)));
     risen = (
       tied.numbers.risen.0,
-      subst (λ (z : ℤ). t.delta ≤ℤ (z -ℤ tied.numbers.start)) (sym all_new)
-          tied.numbers.risen.1,
+      subst (λ (z : ℤ). t.delta ≤ℤ (z -ℤ tied.numbers.start)) (sym all_new) tied.numbers.risen.1,
     );
     still = tied.numbers.still;
   }
@@ -305,8 +290,7 @@ module _ (t : ForestTables) (hid : HiddenTables) (tied : AreTied t hid) (b : ℕ
     leaders = λ x l used. (let was : (get_or hid.leader x 0 < n)
         × (climbs (up_at t.up) n x (get_or hid.leader x 0) ≡ true) = tied.nest.leaders x l (used_old x used).0 in
         (was.0, holds_old x (get_or hid.leader x 0) (used_old x used).1 was.0 ∙ was.1));
-    members = λ x l used. list_renamed n (λ i. get_or hid.following i 0) (get_or hid.first x 0) (get_or hid.last x 0)
-        (get_or t.rank x 0) (climbs (up_at t.up) n x) (climbs (up_at up2) n x)
+    members = λ x l used. list_renamed (climbs (up_at up2) n x)
         (tied.nest.members x l (used_old x used).0) (λ v lv. sym (holds_old x v (used_old x used).1 lv));
     ended = λ x y k lx ly ux uy l e. tied.nest.ended x y k lx ly (used_old x ux).0 (used_old y uy).0 l e;
     idle = λ x hx none. idle x hx none (cases_eq x b) (cases_Bool (inside x));
@@ -363,9 +347,8 @@ module _ (t : ForestTables) (hid : HiddenTables) (tied : AreTied t hid) (b : ℕ
         tied.trail.named x named in (
           w.0,
           w.1,
-          out_new (get_or t.trail w.0 0) (tied.trail.low w.0 w.1)
-              ∙ same (get_or t.trail w.0 0) x (tied.trail.low w.0 w.1) named w.2
-              (cases_Bool (inside (fresh (get_or t.trail w.0 0)))),
+          out_new (get_or t.trail w.0 0) (tied.trail.low w.0 w.1) ∙ same (get_or t.trail w.0 0) x
+              (tied.trail.low w.0 w.1) named w.2 (cases_Bool (inside (fresh (get_or t.trail w.0 0)))),
         ));
   }
     where
@@ -407,8 +390,7 @@ module _ (t : ForestTables) (hid : HiddenTables) (tied : AreTied t hid) (b : ℕ
   pool_new : IsPooled n (length t.up) parts2 pool2
   pool_new = subst (λ ps. IsPooled n (length t.up) ps pool2) (sym parts_is)
       (subst (IsPooled n (length t.up) (set t.parts b 0)) (sym pool_is)
-      (pool_given n (length t.up) t.parts hid.pool tied.pool b id node ready.high ready.low tied.sizes.parts ready.live
-      id_is id_live))
+      (pool_given tied.pool id node ready.high ready.low tied.sizes.parts ready.live id_is id_live))
 
   -- The tie after a set was parted.
   pub tied_parted : AreTied parted parted_hidden

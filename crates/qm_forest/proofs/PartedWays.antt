@@ -23,10 +23,9 @@ writes_self f next from (suc k) x = by_place (cases_eq x (walk next from k)) (ca
     (writes_self f next from k x)
   where
     by_place : (x ≡ walk next from k) ⊎ (x ≢ walk next from k) → (listed next from k x ≡ true)
-        ⊎ (listed next from k x ≡ false)
-        → writes f (walk next from) (walk next from) k x ≡ cond (listed next from k x) x (f x)
-        → set_at (writes f (walk next from) (walk next from) k) (walk next from k) (walk next from k) x
-        ≡ cond (listed next from (suc k) x) x (f x)
+        ⊎ (listed next from k x ≡ false) → writes f (walk next from) (walk next from) k x
+        ≡ cond (listed next from k x) x (f x) → set_at (writes f (walk next from) (walk next from) k) (walk next from k)
+        (walk next from k) x ≡ cond (listed next from (suc k) x) x (f x)
     by_place (inl e) s was =
         let on : listed next from (suc k) x ≡ true =
         subst (λ y. listed next from (suc k) y ≡ true) (sym e) (listed_at next from (suc k) k (omega arith)) in
@@ -49,8 +48,7 @@ writes_self f next from (suc k) x = by_place (cases_eq x (walk next from k)) (ca
       where
         by_last : (j : ℕ) → j < suc k → walk next from j ≡ x → (j ≡ k) ⊎ (j ≢ k) → ⊥
         by_last j lj e (inl at) = ne (sym e ∙ ap (walk next from) at)
-        by_last j lj e (inr before) =
-            (let s : false ≡ true = sym off ∙ subst (λ y. listed next from k y ≡ true) e
+        by_last j lj e (inr before) = (let s : false ≡ true = sym off ∙ subst (λ y. listed next from k y ≡ true) e
             (listed_at next from k j (omega (arith, lj, before))) in cc)
 
 module _ (t : ForestTables) (hid : HiddenTables) (tied : AreTied t hid) (b : ℕ) (ready : IsPartable t b) (up2 : List ℕ)
@@ -87,9 +85,8 @@ module _ (t : ForestTables) (hid : HiddenTables) (tied : AreTied t hid) (b : ℕ
   up_off x off = ups x ∙ cond-false (inside x) x (up_at t.up x) off
 
   pub in_around : (x : ℕ) → inside x ≡ true → up_at t.up x ≡ b
-  in_around x on = let w : (k : ℕ) × (k < many) × (at k ≡ x) =
-      listed_place (λ i. get_or t.after i 0) (get_or t.head b 0) many x on in ap (up_at t.up) (sym w.2)
-      ∙ ready.around w.0 w.1
+  in_around x on = let w : (k : ℕ) × (k < many) × (at k ≡ x) = listed_place (λ i. get_or t.after i 0)
+      (get_or t.head b 0) many x on in ap (up_at t.up) (sym w.2) ∙ ready.around w.0 w.1
 
   pub at_in : (k : ℕ) → k < many → inside (at k) ≡ true
   at_in k l = listed_at (λ i. get_or t.after i 0) (get_or t.head b 0) many k l
@@ -132,8 +129,7 @@ module _ (t : ForestTables) (hid : HiddenTables) (tied : AreTied t hid) (b : ℕ
           (tied.nest.rises x (λ e. inner (up_off x off ∙ e)))
 
   ones : (v : ℕ) → v < n → 1 ≤ rank v
-  ones v l = rank_some n (length t.up) t.hand t.top t.up t.rank t.parts hid.leader hid.first hid.last hid.following
-      tied.nest v l tied.sizes.vertices
+  ones v l = rank_some tied.nest v l tied.sizes.vertices
 
   -- Where one comes to one came before.
   on_way : (v i : ℕ) → (j : ℕ) × (walk (up_at t.up) v j ≡ walk (up_at up2) v i)
@@ -141,20 +137,18 @@ module _ (t : ForestTables) (hid : HiddenTables) (tied : AreTied t hid) (b : ℕ
   on_way v (suc i) = by_test (on_way v i) (cases_Bool (inside (walk (up_at up2) v i)))
     where
       by_test : (j : ℕ) × (walk (up_at t.up) v j ≡ walk (up_at up2) v i) → (inside (walk (up_at up2) v i) ≡ true)
-          ⊎ (inside (walk (up_at up2) v i) ≡ false)
-          → (j : ℕ) × (walk (up_at t.up) v j ≡ walk (up_at up2) v (suc i))
+          ⊎ (inside (walk (up_at up2) v i) ≡ false) → (j : ℕ) × (walk (up_at t.up) v j ≡ walk (up_at up2) v (suc i))
       by_test w (inl on) = (w.0, w.1 ∙ sym (up_in (walk (up_at up2) v i) on))
       by_test w (inr off) = (suc w.0, ap (up_at t.up) w.1 ∙ sym (up_off (walk (up_at up2) v i) off))
 
   few : (v i : ℕ) → v < n → rank (walk (up_at up2) v i) ≤ n
   few v i l =
       let low : rank (walk (up_at up2) v i) ≤ rank (out v) =
-      rank_low n (up_at t.up) rank out tied.nest.climb tied.nest.rises v (walk (up_at up2) v i) l (on_way v i) in
+      rank_low rank tied.nest.climb tied.nest.rises v (walk (up_at up2) v i) l (on_way v i) in
       omega (
         arith,
         low,
-        rank_few n (length t.up) t.hand t.top t.up t.rank t.parts hid.leader hid.first hid.last
-            hid.following tied.nest v l,
+        rank_few tied.nest v l,
       )
 
   -- Each step rises, or one has come to stay.
@@ -164,10 +158,9 @@ module _ (t : ForestTables) (hid : HiddenTables) (tied : AreTied t hid) (b : ℕ
   stays_or v (suc i) l = by_stay (stays_or v i l) (cases_eq (up_at up2 (walk (up_at up2) v i)) (walk (up_at up2) v i))
     where
       by_stay : (up_at up2 (walk (up_at up2) v i) ≡ walk (up_at up2) v i) ⊎ (i < rank (walk (up_at up2) v i))
-          → (up_at up2 (walk (up_at up2) v i) ≡ walk (up_at up2) v i)
-          ⊎ (up_at up2 (walk (up_at up2) v i) ≢ walk (up_at up2) v i)
-          → (up_at up2 (walk (up_at up2) v (suc i)) ≡ walk (up_at up2) v (suc i))
-          ⊎ (suc i < rank (walk (up_at up2) v (suc i)))
+          → (up_at up2 (walk (up_at up2) v i) ≡ walk (up_at up2) v i) ⊎
+          (up_at up2 (walk (up_at up2) v i) ≢ walk (up_at up2) v i) → (up_at up2 (walk (up_at up2) v (suc i))
+          ≡ walk (up_at up2) v (suc i)) ⊎ (suc i < rank (walk (up_at up2) v (suc i)))
       by_stay x (inl e) = inl (ap (up_at up2) e)
       by_stay (inl e) (inr ne) = absurd (ne e)
       by_stay (inr h) (inr ne) = (let r : rank (walk (up_at up2) v i) < rank (up_at up2 (walk (up_at up2) v i)) =
@@ -176,26 +169,24 @@ module _ (t : ForestTables) (hid : HiddenTables) (tied : AreTied t hid) (b : ℕ
   pub climb_parted : IsClimb n (up_at up2) (λ v. walk (up_at up2) v n)
   climb_parted = record {
     ends = λ v l. refl;
-    tops =
-        λ v l. elim (stays_or v n l) [
-          | inl e ↦ e
-          | inr h ↦ (let f : rank (walk (up_at up2) v n) ≤ n = few v n l in
-              absurd (omega (arith, h, f)))
-        ];
+    tops = λ v l. elim (stays_or v n l) [
+      | inl e ↦ e
+      | inr h ↦ (let f : rank (walk (up_at up2) v n) ≤ n = few v n l in
+          absurd (omega (arith, h, f)))
+    ];
   }
 
   pub holds_old : (x v : ℕ) → x ≢ b → v < n → climbs (up_at up2) n x v ≡ climbs (up_at t.up) n x v
-  holds_old x v ne l = sym (the_holds_same n (up_at up2) rank fresh climb_parted rises ones (λ u lu. few u n lu)
-      (up_at t.up) inside b ready.high up_in b_off alone unused back v x ne l)
+  holds_old x v ne l = sym (the_holds_same rank climb_parted rises ones (λ u lu. few u n lu)
+      (up_at t.up) inside ready.high up_in b_off alone unused back v x ne l)
 
   -- The parts of the set are where its vertices are now.
   pub out_is : (v : ℕ) → v < n → out v ≡ cond (inside (fresh v)) b (fresh v)
-  out_is v l = sym (tied.nest.climb.ends v l)
-      ∙ (climb_enclosed n (up_at up2) rank fresh climb_parted rises ones (λ u lu. few u n lu) (up_at t.up) inside b
-      ready.high up_in b_off alone unused back).ends v l
+  out_is v l = sym (tied.nest.climb.ends v l) ∙ (climb_enclosed rank climb_parted rises ones (λ u lu. few u n lu)
+      (up_at t.up) inside ready.high up_in b_off alone unused back).ends v l
 
   pub never : (v i : ℕ) → v < n → walk (up_at up2) v i ≢ b
-  never v i l = the_not_new n (up_at up2) rank fresh climb_parted rises ones (λ u lu. few u n lu) (up_at t.up) inside b
+  never v i l = the_not_new rank climb_parted rises ones (λ u lu. few u n lu) (up_at t.up) inside
       ready.high up_in b_off alone unused back v l i
 
   pub holds_none : (v : ℕ) → v < n → climbs (up_at up2) n b v ≡ false
@@ -209,16 +200,14 @@ module _ (t : ForestTables) (hid : HiddenTables) (tied : AreTied t hid) (b : ℕ
 
   -- A vertex of a part is in it.
   pub part_fresh : (k v : ℕ) → k < many → v < n → climbs (up_at t.up) n (at k) v ≡ true → fresh v ≡ at k
-  part_fresh k v lk l on = sym (fixed_top n (up_at up2) rank fresh climb_parted rises v (at k) l
+  part_fresh k v lk l on = sym (fixed_top rank climb_parted rises v l
       (climbs_place (up_at up2) n (at k) v (holds_old (at k) v (ready.other k lk) l ∙ on)) (up_in (at k) (at_in k lk)))
 
   -- The vertices of any other blossom lie in one part.
   pub fresh_together : (x u v : ℕ) → u < n → v < n → x ≢ b → climbs (up_at t.up) n x u ≡ true
       → climbs (up_at t.up) n x v ≡ true → fresh u ≡ fresh v
-  fresh_together x u v lu lv ne hu hv =
-      sym (comes_out n (up_at up2) rank fresh climb_parted rises u x lu
-      (climbs_place (up_at up2) n x u (holds_old x u ne lu ∙ hu)))
-      ∙ comes_out n (up_at up2) rank fresh climb_parted rises v x lv
+  fresh_together x u v lu lv ne hu hv = sym (comes_out rank climb_parted rises u x lu
+      (climbs_place (up_at up2) n x u (holds_old x u ne lu ∙ hu))) ∙ comes_out rank climb_parted rises v x lv
       (climbs_place (up_at up2) n x v (holds_old x v ne lv ∙ hv))
 
   pub fresh_part : (k v : ℕ) → k < many → v < n → fresh v ≡ at k → climbs (up_at t.up) n (at k) v ≡ true

@@ -9,7 +9,7 @@ use Rattle.def_forest.specs.Tables.{GraphSize, ForestTables, forest_of, climbs, 
 use Rattle.forest_laws.specs.Walks.{listed}
 use Rattle.forest_laws.proofs.Walks.{listed_place}
 use Rattle.qm_pool.specs.declared.pool.Node.{Node}
-use Rattle.qm_forest.specs.Gathers.{IsRow, lists_at}
+use Rattle.qm_forest.specs.Gathers.{lists_at}
 use Rattle.qm_forest.specs.Parts.{HasHandedRow, HasPartLists, AreOpened, IsPartable, IsParted}
 use Rattle.qm_forest.specs.Ties.{AreTied, HiddenTables, IsInUse, IsListed}
 use Rattle.qm_forest.specs.Views.{tables_of, hidden_of}
@@ -52,7 +52,7 @@ module _ (h : Handles) (l : Lists) (r : Rings) (trail : Trail) (w : Weights) (e 
       tied.pool.live (b - n) (λ none. ready.live (ap (λ x. get_or r.parts.items x 0) is ∙ none)) in
       (b - n, is, live.0, live.1)
 
-  module _ (r2 : Rings) (opened : AreOpened r r2 front many b) where
+  module _ {r2 : Rings} (opened : AreOpened r r2 front many b) where
     used_at : (k : ℕ) → k < many → IsInUse n r.parts.items (at k)
     used_at = part_used t hid tied b ready r2.up.items opened.up
 
@@ -63,10 +63,9 @@ module _ (h : Handles) (l : Lists) (r : Rings) (trail : Trail) (w : Weights) (e 
     on_list : (k v : ℕ) → k < many → lists_at l (at k) v ≡ true
         → (v < n) × (climbs (up_at r.up.items) n (at k) v ≡ true)
     on_list k v lk on =
-        let p : (j : ℕ) × (j < get_or l.rank.items (at k) 0)
-        × (walk (λ i. get_or l.following.items i 0) (get_or l.first.items (at k) 0) j ≡ v) =
-        listed_place (λ i. get_or l.following.items i 0) (get_or l.first.items (at k) 0)
-        (get_or l.rank.items (at k) 0) v on in
+        let p : (j : ℕ) × (j < get_or l.rank.items (at k) 0) × (walk (λ i. get_or l.following.items i 0)
+        (get_or l.first.items (at k) 0) j ≡ v) = listed_place (λ i. get_or l.following.items i 0)
+        (get_or l.first.items (at k) 0) (get_or l.rank.items (at k) 0) v on in
         let lv : v < n = subst (λ y. y < n) p.2 ((list_at k lk).low p.0 p.1) in
         (lv, sym ((list_at k lk).all v lv) ∙ on)
 
@@ -100,9 +99,7 @@ module _ (h : Handles) (l : Lists) (r : Rings) (trail : Trail) (w : Weights) (e 
         q = tied.sizes.q;
         following = tied.sizes.following;
         few = omega (arith, tied.sizes.few, tied.sizes.vertices);
-        many = list_few n (λ i. get_or l.following.items i 0) (get_or l.first.items (at k) 0)
-            (get_or l.last.items (at k) 0) (get_or l.rank.items (at k) 0) (climbs (up_at r.up.items) n (at k))
-            (list_at k lk);
+        many = list_few (list_at k lk);
         low = (list_at k lk).low;
         distinct = (list_at k lk).distinct;
       };
@@ -119,11 +116,7 @@ module _ (h : Handles) (l : Lists) (r : Rings) (trail : Trail) (w : Weights) (e 
           q_small h l r trail w e pool room tied v in omega (arith, s));
     })
 
-    pub row2 : IsRow (length r2.after.items) r2.after.items front many
-    row2 = subst (λ o. IsRow (length o.items) o.items front many) (sym opened.after)
-        (subst (λ m. IsRow m r.after.items front many) (sym tied.sizes.after) ready.row)
-
-    module _ (h2 : Handles) (pool2 : List (Option Node)) (handed : HasHandedRow h h2 l r2.after.items front many b)
+    module _ {h2 : Handles} (pool2 : List (Option Node)) (handed : HasHandedRow h h2 l r2.after.items front many b)
         (gave : (id : ℕ) × (b ≡ n + id) × (pool2 ≡ set pool id None)) where
       handed_row : HasHandedRow h h2 l r.after.items front many b
       handed_row = subst (λ o. HasHandedRow h h2 l o.items front many b) opened.after handed
@@ -135,8 +128,7 @@ module _ (h : Handles) (l : Lists) (r : Rings) (trail : Trail) (w : Weights) (e 
         hand = h2.hand.items;
         top = h2.top.items;
         up = r2.up.items;
-        parts =
-            r2.parts.items;
+        parts = r2.parts.items;
       }) (record hid { q = h2.q.items; off = h2.off.items; pool = pool2 })
       tied_ring = tied_parted t hid tied b ready h2.hand.items h2.top.items h2.q.items h2.off.items r2.up.items
           r2.parts.items pool2 gave.0 node_at.0
@@ -145,44 +137,36 @@ module _ (h : Handles) (l : Lists) (r : Rings) (trail : Trail) (w : Weights) (e 
 
       -- The tie after the loops.
       pub tied_after : AreTied (tables_of h2 l r2 trail w e room) (hidden_of h2 l trail pool2)
-      tied_after =
-          subst (λ o. AreTied (record t {
-            hand = h2.hand.items;
-            top = h2.top.items;
-            up = r2.up.items;
-            parts =
-                r2.parts.items;
-            after = o.items;
-            joint = r2.joint.items;
-            head = r2.head.items;
-          })
-          (record hid { q = h2.q.items; off = h2.off.items; pool = pool2 })) (sym opened.after)
+      tied_after = subst (λ o. AreTied (record t {
+        hand = h2.hand.items;
+        top = h2.top.items;
+        up = r2.up.items;
+        parts = r2.parts.items;
+        after = o.items;
+        joint = r2.joint.items;
+        head = r2.head.items;
+      }) (record hid { q = h2.q.items; off = h2.off.items; pool = pool2 })) (sym opened.after)
           (subst (λ o. AreTied (record t {
             hand = h2.hand.items;
             top = h2.top.items;
             up = r2.up.items;
-            parts =
-                r2.parts.items;
+            parts = r2.parts.items;
             joint = o.items;
             head = r2.head.items;
           }) (record hid {
             q = h2.q.items;
-            off =
-                h2.off.items;
+            off = h2.off.items;
             pool = pool2;
-          })) (sym opened.joint)
-          (subst (λ o. AreTied (record t {
+          })) (sym opened.joint) (subst (λ o. AreTied (record t {
             hand = h2.hand.items;
             top = h2.top.items;
             up = r2.up.items;
-            parts =
-                r2.parts.items;
+            parts = r2.parts.items;
             head = o.items;
           }) (record hid {
             q = h2.q.items;
             off = h2.off.items;
-            pool =
-                pool2;
+            pool = pool2;
           })) (sym opened.head) tied_ring))
 
       seen_ring : IsParted n (forest_of t)
@@ -196,44 +180,34 @@ module _ (h : Handles) (l : Lists) (r : Rings) (trail : Trail) (w : Weights) (e 
       -- And what the forest sees.
       pub seen_after : IsParted n (forest_of t) (forest_of (tables_of h2 l r2 trail w e room))
           (listed (λ i. get_or r.after.items i 0) front many) b
-      seen_after =
-          subst (λ o. IsParted n (forest_of t)
-          (forest_of (record t {
+      seen_after = subst (λ o. IsParted n (forest_of t) (forest_of (record t {
+        hand = h2.hand.items;
+        top = h2.top.items;
+        up = r2.up.items;
+        parts = r2.parts.items;
+        after = o.items;
+        joint = r2.joint.items;
+        head = r2.head.items;
+      })) (listed (λ i. get_or r.after.items i 0) front many) b) (sym opened.after)
+          (subst (λ o. IsParted n (forest_of t) (forest_of (record t {
             hand = h2.hand.items;
             top = h2.top.items;
             up = r2.up.items;
-            parts =
-                r2.parts.items;
-            after = o.items;
-            joint = r2.joint.items;
-            head = r2.head.items;
-          }))
-          (listed (λ i. get_or r.after.items i 0) front many) b) (sym opened.after)
-          (subst (λ o. IsParted n (forest_of t)
-          (forest_of (record t {
-            hand = h2.hand.items;
-            top = h2.top.items;
-            up = r2.up.items;
-            parts =
-                r2.parts.items;
+            parts = r2.parts.items;
             joint = o.items;
             head = r2.head.items;
-          }))
-          (listed (λ i. get_or r.after.items i 0) front many) b) (sym opened.joint)
-          (subst (λ o. IsParted n (forest_of t)
-          (forest_of (record t {
+          })) (listed (λ i. get_or r.after.items i 0) front many) b) (sym opened.joint)
+          (subst (λ o. IsParted n (forest_of t) (forest_of (record t {
             hand = h2.hand.items;
             top = h2.top.items;
             up = r2.up.items;
-            parts =
-                r2.parts.items;
+            parts = r2.parts.items;
             head = o.items;
-          })) (listed (λ i. get_or r.after.items i 0) front many) b)
-          (sym opened.head) seen_ring))
+          })) (listed (λ i. get_or r.after.items i 0) front many) b) (sym opened.head) seen_ring))
 
   -- The same where the ring is told by what was read.
-  module _ (r2 : Rings) (front' many' : ℕ) (front_is : front' ≡ get_or r.head.items b 0) (many_is : many'
-      ≡ get_or r.parts.items b 0) (opened : AreOpened r r2 front' many' b) (xs : List ℕ) (xs_is : xs
+  module _ {r2 : Rings} {front' many' : ℕ} (front_is : front' ≡ get_or r.head.items b 0) (many_is : many'
+      ≡ get_or r.parts.items b 0) (opened : AreOpened r r2 front' many' b) {xs : List ℕ} (xs_is : xs
       ≡ r2.after.items) where
     pub opened_as : AreOpened r r2 (get_or r.head.items b 0) (get_or r.parts.items b 0) b
     opened_as = subst (λ x. AreOpened r r2 x (get_or r.parts.items b 0) b) front_is
@@ -243,21 +217,19 @@ module _ (h : Handles) (l : Lists) (r : Rings) (trail : Trail) (w : Weights) (e 
     lists_as = subst (λ ys. HasPartLists h l ys front' many' b) (sym xs_is)
         (subst (λ x. HasPartLists h l r2.after.items x many' b) (sym front_is)
         (subst (λ m. HasPartLists h l r2.after.items (get_or r.head.items b 0) m b) (sym many_is)
-        (part_lists r2 opened_as)))
+        (part_lists opened_as)))
 
-    pub handed_as : (h2 : Handles) → HasHandedRow h h2 l xs front' many' b
+    pub handed_as : {h2 : Handles} → HasHandedRow h h2 l xs front' many' b
         → HasHandedRow h h2 l r2.after.items (get_or r.head.items b 0) (get_or r.parts.items b 0) b
-    handed_as h2 is = subst (λ x. HasHandedRow h h2 l r2.after.items x (get_or r.parts.items b 0) b) front_is
+    handed_as {h2} is = subst (λ x. HasHandedRow h h2 l r2.after.items x (get_or r.parts.items b 0) b) front_is
         (subst (λ m. HasHandedRow h h2 l r2.after.items front' m b) many_is
         (subst (λ ys. HasHandedRow h h2 l ys front' many' b) xs_is is))
 
-pub parted_as : (t u : ForestTables) (new : Forest) (b : ℕ) → t ≡ u
+pub parted_as : {t u : ForestTables} {new : Forest} {b : ℕ} → t ≡ u
     → IsParted (length t.hand) (forest_of t) new (listed (λ i. get_or t.after i 0) (get_or t.head b 0)
-    (get_or t.parts b 0)) b
-    → IsParted (length u.hand) (forest_of u) new (listed (λ i. get_or u.after i 0) (get_or u.head b 0)
-    (get_or u.parts b 0)) b
-parted_as t u new b e is =
-    subst (λ (x : ForestTables). IsParted (length x.hand) (forest_of x) new
+    (get_or t.parts b 0)) b → IsParted (length u.hand) (forest_of u) new
+    (listed (λ i. get_or u.after i 0) (get_or u.head b 0) (get_or u.parts b 0)) b
+parted_as {new} {b} e is = subst (λ (x : ForestTables). IsParted (length x.hand) (forest_of x) new
     (listed (λ i. get_or x.after i 0) (get_or x.head b 0) (get_or x.parts b 0)) b) e is
 
 -- The number of vertices, told otherwise.

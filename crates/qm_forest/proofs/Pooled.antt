@@ -64,8 +64,8 @@ module _ (n size : ℕ) (parts : List ℕ) (pool : List (Option Node)) (pooled :
       (w.0, there k ne ∙ w.1)
 
   -- The number that was taken is in use from then on, and was not before.
-  live_b : (parts' : List ℕ) (m : ℕ) → get_or parts' b 0 ≡ m → live_at n (λ i. get_or parts' i 0) b ≡ cond (eqb m 0) 0 1
-  live_b parts' m is = cond-false (nat_lt b n) 0 (cond (eqb (get_or parts' b 0) 0) 0 1) (le-ltb b n high)
+  live_b : (parts' : List ℕ) {m : ℕ} → get_or parts' b 0 ≡ m → live_at n (λ i. get_or parts' i 0) b ≡ cond (eqb m 0) 0 1
+  live_b parts' is = cond-false (nat_lt b n) 0 (cond (eqb (get_or parts' b 0) 0) 0 1) (le-ltb b n high)
       ∙ ap (λ k. cond (eqb k 0) 0 1) is
 
   live_new : (x : ℕ) → (x ≡ b) ⊎ (x ≢ b) → live_at n (λ i. get_or parts2 i 0) x ≡ live_at n (λ i. get_or parts i 0) x
@@ -73,9 +73,9 @@ module _ (n size : ℕ) (parts : List ℕ) (pool : List (Option Node)) (pooled :
   live_new x (inl e) =
       let some' : ◌≡◌ {A = ℕ} (cond (eqb many 0) 0 1) 1 = cond-false (eqb many 0) 0 1 (ne_eqb many 0 some) in
       let here' : live_at n (λ i. get_or parts2 i 0) x ≡ cond (eqb many 0) 0 1 =
-      ap (live_at n (λ i. get_or parts2 i 0)) e ∙ live_b parts2 many at_b in
+      ap (live_at n (λ i. get_or parts2 i 0)) e ∙ live_b parts2 at_b in
       let gone : live_at n (λ i. get_or parts i 0) x ≡ 0 = ap (live_at n (λ i. get_or parts i 0)) e
-      ∙ live_b parts 0 dead in
+      ∙ live_b parts dead in
       let mark : bool_number (eqb x b) ≡ 1 = ap bool_number (eq-eqb x b e) in
       omega (arith, some', here', gone, mark)
   live_new x (inr ne) =
@@ -98,9 +98,8 @@ module _ (n size : ℕ) (parts : List ℕ) (pool : List (Option Node)) (pooled :
       let split : count_below (λ x. live_at n (λ i. get_or parts i 0) x + bool_number (eqb x b)) size
       ≡ count_below (live_at n (λ i. get_or parts i 0)) size + count_below (λ x. bool_number (eqb x b)) size =
       count_below_sum (live_at n (λ i. get_or parts i 0)) (λ x. bool_number (eqb x b)) size in
-      let one : count_below (λ x. bool_number (eqb x b)) size ≡ 1 =
-      count_below_one (λ x. bool_number (eqb x b)) size b low (λ x l ne. ap bool_number (ne_eqb x b ne))
-      ∙ ap bool_number (eq-eqb b b refl) in
+      let one : count_below (λ x. bool_number (eqb x b)) size ≡ 1 = count_below_one (λ x. bool_number (eqb x b)) size b
+      low (λ x l ne. ap bool_number (ne_eqb x b ne)) ∙ ap bool_number (eq-eqb b b refl) in
       omega (arith, was, pools, each, split, one, pooled.counted)
 
   pub pool_taken : IsPooled n size (set parts b many) (set pool id (Some node))
@@ -114,10 +113,9 @@ module _ (n size : ℕ) (parts : List ℕ) (pool : List (Option Node)) (pooled :
   }
 
 -- The pool after one of its sets was given back.
-module _ (n size : ℕ) (parts : List ℕ) (pool : List (Option Node)) (pooled : IsPooled n size parts pool) (b id : ℕ)
-    (node : Node)
-    (high : n ≤ b) (low : b < size) (wide : length parts ≡ size) (live' : get_or parts b 0 ≢ 0) (id_is : b ≡ n + id)
-    (id_live : slice_get pool id ≡ Some (Some node)) where
+module _ {n size : ℕ} {parts : List ℕ} {pool : List (Option Node)} (pooled : IsPooled n size parts pool) {b : ℕ}
+    (id : ℕ) (node : Node) (high : n ≤ b) (low : b < size) (wide : length parts ≡ size) (live' : get_or parts b 0 ≢ 0)
+    (id_is : b ≡ n + id) (id_live : slice_get pool id ≡ Some (Some node)) where
   abbrev parts3 : List ℕ
   parts3 = set parts b 0
 
@@ -135,10 +133,6 @@ module _ (n size : ℕ) (parts : List ℕ) (pool : List (Option Node)) (pooled :
 
   old_at : (x : ℕ) → x ≢ b → get_or parts3 x 0 ≡ get_or parts x 0
   old_at x ne = get_or-set_other parts b x 0 0 ne
-
-  here3 : slice_get pool3 id ≡ Some None
-  here3 = slice_get-get_or pool3 id None (subst (λ m. id < m) (sym size_kept) low_id)
-      ∙ ap (λ (o : Option Node). Some o) (get_or-set_same pool id None None low_id)
 
   there3 : (k : ℕ) → k ≢ id → slice_get pool3 k ≡ slice_get pool k
   there3 k ne = by_size (cases_lt k (length pool))
@@ -200,9 +194,8 @@ module _ (n size : ℕ) (parts : List ℕ) (pool : List (Option Node)) (pooled :
       let split : count_below (λ x. live_at n (λ i. get_or parts3 i 0) x + bool_number (eqb x b)) size
       ≡ count_below (live_at n (λ i. get_or parts3 i 0)) size + count_below (λ x. bool_number (eqb x b)) size =
       count_below_sum (live_at n (λ i. get_or parts3 i 0)) (λ x. bool_number (eqb x b)) size in
-      let one : count_below (λ x. bool_number (eqb x b)) size ≡ 1 =
-      count_below_one (λ x. bool_number (eqb x b)) size b low (λ x l ne. ap bool_number (ne_eqb x b ne))
-      ∙ ap bool_number (eq-eqb b b refl) in
+      let one : count_below (λ x. bool_number (eqb x b)) size ≡ 1 = count_below_one (λ x. bool_number (eqb x b)) size b
+      low (λ x l ne. ap bool_number (ne_eqb x b ne)) ∙ ap bool_number (eq-eqb b b refl) in
       omega (arith, was, pools, each, split, one, pooled.counted)
 
   pub pool_given : IsPooled n size (set parts b 0) (set pool id None)

@@ -1,5 +1,5 @@
 -- The numbers of a forest stay small.
-use Rattle.std.proofs.Common.{Some, ◌≡◌, ◌≢◌, ℕ, zero, suc, ◌*◌, ◌<◌, ◌≤◌, ◌^◌, Bool, true, false, cond, List, length}
+use Rattle.std.proofs.Common.{Some, ◌≡◌, ℕ, zero, suc, ◌*◌, ◌<◌, ◌≤◌, ◌^◌, Bool, true, false, cond, List, length}
 use Rattle.std.proofs.Common.{get_or, ℤ, pos, ◌+ℤ◌, sym, ◌∙◌, ap, subst, arith}
 use Rattle.std.specs.Prelude.{unsigned_abs}
 use Rattle.std.proofs.lemmas.Int.{ints}
@@ -25,7 +25,7 @@ change_small Outer d = omega (arith, ints)
 change_small Inner d = omega (arith, ints)
 change_small Outside d = omega (arith, ints)
 
-module _ (t : ForestTables) (hid : HiddenTables) (tied : AreTied t hid) where
+module _ {t : ForestTables} {hid : HiddenTables} (tied : AreTied t hid) where
   pub sum_is_small : unsigned_abs (dual_sum_of (forest_of t)) ≤ 2 ^ 88
   sum_is_small = omega (
     arith,
@@ -62,55 +62,48 @@ module _ (t : ForestTables) (hid : HiddenTables) (tied : AreTied t hid) where
   outermost_low b w = subst (λ x. x < length t.up) w.2 (tied.nest.outs (get_or t.hand w.0 0) (tied.nest.hands w.0 w.1))
 
   -- A blossom with a place in the tree is outermost.
-  pub named_in : (b : ℕ) → label_at t.label b ≢ Outside → IsOutermostIn t b
-  named_in b named = let w : (k : ℕ) × (k < length t.trail) × (out_of t.hand t.top (get_or t.trail k 0) ≡ b) =
-      tied.trail.named b named in (get_or t.trail w.0 0, tied.trail.low w.0 w.1, w.2)
 
   -- The vertices of an outermost blossom have one handle.
   pub one_hand : (u v : ℕ) → u < length t.hand → v < length t.hand → out_of t.hand t.top u ≡ out_of t.hand t.top v
       → get_or t.hand u 0 ≡ get_or t.hand v 0
   one_hand u v lu lv e = tied.nest.led u lu ∙ (ap (λ b. get_or hid.leader b 0) e ∙ sym (tied.nest.led v lv))
 
-  pub out_low : (v : ℕ) → v < length t.hand → out_of t.hand t.top v < length t.up
-  out_low v l = tied.nest.outs (get_or t.hand v 0) (tied.nest.hands v l)
-
 -- A small number that is kept in its bits.
 pub kept_in_bits : (z : ℤ) → unsigned_abs z ≤ 2 ^ 100 → to_z w128 (of_z w128 z) ≡ z
 kept_in_bits z small = omega (arith, ints)
 
 -- What the tables at hand add to a potential.
-pub added_bound : (t : ForestTables) (hid : HiddenTables) → AreTied t hid → (v : ℕ) → v < length t.hand
-    → (xs : List ℤ) (h : ℕ) (l : Label) (d : ℤ)
+pub added_bound : {t : ForestTables} {hid : HiddenTables} → AreTied t hid → (v : ℕ) → v < length t.hand
+    → {xs : List ℤ} (h : ℕ) (l : Label) {d : ℤ}
     → xs ≡ hid.off → h ≡ get_or t.hand v 0 → l ≡ label_at t.label (out_of t.hand t.top v) → d ≡ t.delta
     → get_or xs h (pos 0) +ℤ weight_change l d ≡ added t.hand t.top hid.off t.label t.delta v
-added_bound t hid tied v low xs h l d e1 e2 e3 e4 =
-    ap (λ (ys : List ℤ). get_or ys h (pos 0) +ℤ weight_change l d) e1
-    ∙ (ap (λ k. get_or hid.off k (pos 0) +ℤ weight_change l d) e2
+added_bound {t} {hid} tied v low h l {d} e1 e2 e3 e4 = ap (λ (ys : List ℤ). get_or ys h (pos 0) +ℤ weight_change l d)
+    e1 ∙ (ap (λ k. get_or hid.off k (pos 0) +ℤ weight_change l d) e2
     ∙ (ap (λ (x : Label). get_or hid.off (get_or t.hand v 0) (pos 0) +ℤ weight_change x d) e3
     ∙ ap (λ (x : ℤ). get_or hid.off (get_or t.hand v 0) (pos 0) +ℤ weight_change
     (label_at t.label (out_of t.hand t.top v)) x) e4))
 
 -- What the tables at hand tell of a potential.
-pub told_bound : (t : ForestTables) (hid : HiddenTables) → AreTied t hid → (v : ℕ) → v < length t.hand
-    → (qs : List ℤ) (more : ℤ) → qs ≡ hid.q → more ≡ added t.hand t.top hid.off t.label t.delta v
+pub told_bound : {t : ForestTables} {hid : HiddenTables} → AreTied t hid → (v : ℕ) → v < length t.hand
+    → {qs : List ℤ} {more : ℤ} → qs ≡ hid.q → more ≡ added t.hand t.top hid.off t.label t.delta v
     → get_or qs v (pos 0) +ℤ more ≡ potential (forest_of t) v
-told_bound t hid tied v low qs more e1 e2 = ap (λ (ys : List ℤ). get_or ys v (pos 0) +ℤ more) e1
+told_bound {hid} tied v low {more} e1 e2 = ap (λ (ys : List ℤ). get_or ys v (pos 0) +ℤ more) e1
     ∙ (ap (λ (x : ℤ). get_or hid.q v (pos 0) +ℤ x) e2 ∙ sym (tied.numbers.potentials v low))
 
 -- A weight as it is kept is small.
-pub base_small : (t : ForestTables) (hid : HiddenTables) → AreTied t hid → (b : ℕ)
+pub base_small : {t : ForestTables} {hid : HiddenTables} → AreTied t hid → (b : ℕ)
     → unsigned_abs (get_or t.base b (pos 0)) ≤ 2 ^ 93
-base_small t hid tied b = omega (
+base_small {t} tied b = omega (
   arith,
   ints,
   tied.numbers.small b,
   change_small (label_at t.label b) t.delta,
-  delta_small t hid tied,
+  delta_small tied,
 )
 
 -- An element that is read, whatever would stand past the end.
-pub read_is : (xs : List ℤ) (b : ℕ) (r d : ℤ) → b < length xs → r ≡ get_or xs b r → r ≡ get_or xs b d
-read_is xs b r d low e = e ∙ same (sym (slice_get-get_or xs b r low) ∙ slice_get-get_or xs b d low)
+pub read_is : (xs : List ℤ) (b : ℕ) {r : ℤ} (d : ℤ) → b < length xs → r ≡ get_or xs b r → r ≡ get_or xs b d
+read_is xs b {r} d low e = e ∙ same (sym (slice_get-get_or xs b r low) ∙ slice_get-get_or xs b d low)
   where
     same : {x y : ℤ} → Some x ≡ Some y → x ≡ y
     same p = cc
@@ -122,15 +115,14 @@ read_nat xs b r d low = same (sym (slice_get-get_or xs b r low) ∙ slice_get-ge
     same p = cc
 
 -- A weight, read from the tables at hand.
-pub weight_read : (r : ℤ) (xs base : List ℤ) (ls label : List Label) (d delta : ℤ) (b : ℕ) → r ≡ weight_at xs ls d b
+pub weight_read : {r : ℤ} {xs base : List ℤ} {ls label : List Label} {d delta : ℤ} (b : ℕ) → r ≡ weight_at xs ls d b
     → xs ≡ base → ls ≡ label → d ≡ delta → r ≡ weight_at base label delta b
-weight_read r xs base ls label d delta b e e1 e2 e3 =
-    e ∙ (ap (λ (ys : List ℤ). weight_at ys ls d b) e1 ∙ (ap (λ (ys : List Label). weight_at base ys d b) e2
-    ∙ ap (λ (x : ℤ). weight_at base label x b) e3))
+weight_read {base} {ls} {label} {d} b e e1 e2 e3 = e ∙ (ap (λ (ys : List ℤ). weight_at ys ls d b) e1
+    ∙ (ap (λ (ys : List Label). weight_at base ys d b) e2 ∙ ap (λ (x : ℤ). weight_at base label x b) e3))
 
 -- A mark that is read, whatever would stand past the end.
-pub mark_read : (xs : List Bool) (v : ℕ) (r d : Bool) → v < length xs → r ≡ get_or xs v r → get_or xs v d ≡ r
-mark_read xs v r d low e = sym (e ∙ same (sym (slice_get-get_or xs v r low) ∙ slice_get-get_or xs v d low))
+pub mark_read : (xs : List Bool) (v : ℕ) {r : Bool} (d : Bool) → v < length xs → r ≡ get_or xs v r → get_or xs v d ≡ r
+mark_read xs v {r} d low e = sym (e ∙ same (sym (slice_get-get_or xs v r low) ∙ slice_get-get_or xs v d low))
   where
     same : {x y : Bool} → Some x ≡ Some y → x ≡ y
     same p = cc

@@ -16,28 +16,25 @@ use Rattle.qm_forest.specs.Gathers.{lists_at, differ_by, in_row, HasListAt, HasL
 use Rattle.qm_forest.specs.declared.tables.Handles.{Handles}
 use Rattle.qm_forest.specs.declared.tables.Lists.{Lists}
 
-or_same : (a b : Bool) → b ≡ false → (a || b) ≡ a
-or_same true b e = refl
-or_same false b e = e
+or_same : (a : Bool) {b : Bool} → b ≡ false → (a || b) ≡ a
+or_same true e = refl
+or_same false e = e
 
 -- A table that is written at one more place of a walk, each place with its value: what is listed has it.
 pub one_more : {X : Type 0} (xs : List X) (d : X) (next : ℕ → ℕ) (from k : ℕ) (new old : ℕ → X)
     → walk next from k < length xs → ((i j : ℕ) → i < j → j < suc k → walk next from i ≢ walk next from j)
-    → ((v : ℕ) → get_or xs v d ≡ cond (listed next from k v) (new v) (old v)) → (x : X) → x ≡ new (walk next from k)
+    → ((v : ℕ) → get_or xs v d ≡ cond (listed next from k v) (new v) (old v)) → {x : X} → x ≡ new (walk next from k)
     → (v : ℕ) → get_or (set xs (walk next from k) x) v d ≡ cond (listed next from (suc k) v) (new v) (old v)
-one_more xs d next from k new old low distinct was x x_is v = by_place (cases_eq v (walk next from k))
+one_more xs d next from k new old low distinct was {x} x_is v = by_place (cases_eq v (walk next from k))
   where
     by_place : (v ≡ walk next from k) ⊎ (v ≢ walk next from k) → get_or (set xs (walk next from k) x) v d
         ≡ cond (listed next from k v || eqb (walk next from k) v) (new v) (old v)
-    by_place (inl e) =
-        ap (λ j. get_or (set xs (walk next from k) x) j d) e ∙ (get_or-set_same xs (walk next from k) x d low
-        ∙ (x_is ∙ (ap new (sym e)
+    by_place (inl e) = ap (λ j. get_or (set xs (walk next from k) x) j d) e
+        ∙ (get_or-set_same xs (walk next from k) x d low ∙ (x_is ∙ (ap new (sym e)
         ∙ sym (cond-true (listed next from k v || eqb (walk next from k) v) (new v) (old v)
         (or_right (listed next from k v) (eqb (walk next from k) v) (eq-eqb (walk next from k) v (sym e)))))))
-    by_place (inr ne) =
-        get_or-set_other xs (walk next from k) v x d ne
-        ∙ (was v ∙ ap (λ (s : Bool). cond s (new v) (old v))
-        (sym (or_same (listed next from k v) (eqb (walk next from k) v)
+    by_place (inr ne) = get_or-set_other xs (walk next from k) v x d ne
+        ∙ (was v ∙ ap (λ (s : Bool). cond s (new v) (old v)) (sym (or_same (listed next from k v)
         (ne_eqb (walk next from k) v (λ e. ne (sym e))))))
 
 -- What stands at the next place of a walk has not been changed.
@@ -49,21 +46,21 @@ next_old f next from k new old distinct was = was (walk next from k)
     (listed_off next from k (walk next from k) (λ j l. distinct j k l (omega arith)))
 
 -- What is added is told otherwise.
-pub more_as : (F : ℕ → ℤ) (B : ℕ → Bool) (G : ℕ → ℤ) (m n : ℤ) → m ≡ n → ((v : ℕ) → F v ≡ cond (B v) (G v +ℤ m) (G v))
+pub more_as : (F : ℕ → ℤ) (B : ℕ → Bool) (G : ℕ → ℤ) {m n : ℤ} → m ≡ n → ((v : ℕ) → F v ≡ cond (B v) (G v +ℤ m) (G v))
     → (v : ℕ) → F v ≡ cond (B v) (G v +ℤ n) (G v)
-more_as F B G m n e was v = was v ∙ ap (λ (x : ℤ). cond (B v) (G v +ℤ x) (G v)) e
+more_as F B G e was v = was v ∙ ap (λ (x : ℤ). cond (B v) (G v +ℤ x) (G v)) e
 
 -- So it is small where all were.
-pub next_small : (xs ys : List ℤ) (next : ℕ → ℕ) (from k v : ℕ) (new : ℕ → ℤ) → v ≡ walk next from k
+pub next_small : (xs ys : List ℤ) (next : ℕ → ℕ) (from k : ℕ) {v : ℕ} (new : ℕ → ℤ) → v ≡ walk next from k
     → ((i j : ℕ) → i < j → j < suc k → walk next from i ≢ walk next from j)
     → ((v : ℕ) → get_or xs v (pos 0) ≡ cond (listed next from k v) (new v) (get_or ys v (pos 0)))
     → ((v : ℕ) → unsigned_abs (get_or ys v (pos 0)) ≤ 2 ^ 100) → unsigned_abs (get_or xs v (pos 0)) ≤ 2 ^ 100
-next_small xs ys next from k v new v_is distinct was small =
+next_small xs ys next from k {v} new v_is distinct was small =
     let e : get_or xs v (pos 0) ≡ get_or ys (walk next from k) (pos 0) = ap (λ j. get_or xs j (pos 0)) v_is
     ∙ next_old (λ j. get_or xs j (pos 0)) next from k new (λ j. get_or ys j (pos 0)) distinct was in
     subst (λ z. unsigned_abs z ≤ 2 ^ 100) (sym e) (small (walk next from k))
 
-module _ (h0 : Handles) (lists : Lists) (after : List ℕ) (front many big k : ℕ)
+module _ {h0 : Handles} {lists : Lists} {after : List ℕ} {front many : ℕ} (big k : ℕ)
     (has : HasListsOf h0 lists after front many) (l : k < many) (distinct : (i j : ℕ) → i < j → j < many
     → walk (λ i. get_or after i 0) front i ≢ walk (λ i. get_or after i 0) front j) where
   abbrev at : ℕ → ℕ
@@ -96,10 +93,9 @@ module _ (h0 : Handles) (lists : Lists) (after : List ℕ) (front many big k : �
       ≡ cond (in_row h0 after front k v) handle (get_or h0.hand.items v 0)) → at k ≡ big → (v : ℕ)
       → lists_at lists (at k) v ≡ true → get_or h1.hand.items v 0 ≡ handle
   own_handle h1 hand1 at_big v on =
-      let w : (j : ℕ) × (j < get_or lists.rank.items (at k) 0)
-      × (walk (λ i. get_or lists.following.items i 0) (get_or lists.first.items (at k) 0) j ≡ v) =
-      listed_place (λ i. get_or lists.following.items i 0) (get_or lists.first.items (at k) 0)
-      (get_or lists.rank.items (at k) 0) v on in
+      let w : (j : ℕ) × (j < get_or lists.rank.items (at k) 0) × (walk (λ i. get_or lists.following.items i 0)
+      (get_or lists.first.items (at k) 0) j ≡ v) = listed_place (λ i. get_or lists.following.items i 0)
+      (get_or lists.first.items (at k) 0) (get_or lists.rank.items (at k) 0) v on in
       let lv : v < length h0.hand.items = subst (λ y. y < length h0.hand.items) w.2 ((has.each k l).low w.0 w.1) in
       let e : out v ≡ at k = eqb-true (out v) (at k) (sym (own v lv) ∙ on) in
       hand1 v lv ∙ (cond-false (in_row h0 after front k v) handle (get_or h0.hand.items v 0) (before_off v e)
@@ -110,30 +106,26 @@ module _ (h0 : Handles) (lists : Lists) (after : List ℕ) (front many big k : �
       (q1 : (v : ℕ) → v < length h0.hand.items → get_or h1.q.items v (pos 0)
       ≡ cond (in_row h0 after front k v) (moved v) (get_or h0.q.items v (pos 0))) where
     -- A blossom of the row more is renamed.
-    pub hand_more : (h2 : Handles) (more : ℤ) → HasRenamed h1 h2 lists (at k) handle more → (v : ℕ)
+    pub hand_more : {h2 : Handles} {more : ℤ} → HasRenamed h1 h2 lists (at k) handle more → (v : ℕ)
         → v < length h0.hand.items → get_or h2.hand.items v 0 ≡ cond (in_row h0 after front (suc k) v) handle
         (get_or h0.hand.items v 0)
-    hand_more h2 more renamed v lv =
-        renamed.hand v ∙ (ap (λ (s : Bool). cond s handle (get_or h1.hand.items v 0)) (own v lv ∙ turned v)
-        ∙ by_place (cases_eq (at k) (out v)))
+    hand_more renamed v lv = renamed.hand v ∙ (ap (λ (s : Bool). cond s handle (get_or h1.hand.items v 0))
+        (own v lv ∙ turned v) ∙ by_place (cases_eq (at k) (out v)))
       where
         by_place : (at k ≡ out v) ⊎ (at k ≢ out v) → cond (eqb (at k) (out v)) handle (get_or h1.hand.items v 0)
             ≡ cond (in_row h0 after front k v || eqb (at k) (out v)) handle (get_or h0.hand.items v 0)
-        by_place (inl e) =
-            cond-true (eqb (at k) (out v)) handle (get_or h1.hand.items v 0) (eq-eqb (at k) (out v) e)
+        by_place (inl e) = cond-true (eqb (at k) (out v)) handle (get_or h1.hand.items v 0) (eq-eqb (at k) (out v) e)
             ∙ sym (cond-true (in_row h0 after front k v || eqb (at k) (out v)) handle (get_or h0.hand.items v 0)
             (or_right (in_row h0 after front k v) (eqb (at k) (out v)) (eq-eqb (at k) (out v) e)))
-        by_place (inr ne) =
-            cond-false (eqb (at k) (out v)) handle (get_or h1.hand.items v 0) (ne_eqb (at k) (out v) ne)
+        by_place (inr ne) = cond-false (eqb (at k) (out v)) handle (get_or h1.hand.items v 0) (ne_eqb (at k) (out v) ne)
             ∙ (hand1 v lv ∙ ap (λ (s : Bool). cond s handle (get_or h0.hand.items v 0))
-            (sym (or_same (in_row h0 after front k v) (eqb (at k) (out v)) (ne_eqb (at k) (out v) ne))))
+            (sym (or_same (in_row h0 after front k v) (ne_eqb (at k) (out v) ne))))
 
-    pub q_more : (h2 : Handles) (more : ℤ)
-        → more ≡ (get_or h0.off.items (get_or lists.leader.items (at k) 0) (pos 0) -ℤ get_or h0.off.items handle
-        (pos 0)) → HasRenamed h1 h2 lists (at k) handle more
-        → (v : ℕ) → v < length h0.hand.items → get_or h2.q.items v (pos 0) ≡ cond (in_row h0 after front (suc k) v)
-        (moved v) (get_or h0.q.items v (pos 0))
-    q_more h2 more more_is renamed v lv =
+    pub q_more : {h2 : Handles} {more : ℤ} → more ≡ (get_or h0.off.items (get_or lists.leader.items (at k) 0) (pos 0) -ℤ
+        get_or h0.off.items handle (pos 0)) → HasRenamed h1 h2 lists (at k) handle more → (v : ℕ)
+        → v < length h0.hand.items → get_or h2.q.items v (pos 0) ≡ cond (in_row h0 after front (suc k) v) (moved v)
+        (get_or h0.q.items v (pos 0))
+    q_more {more} more_is renamed v lv =
         renamed.q v ∙ (ap (λ (s : Bool). cond s (get_or h1.q.items v (pos 0) +ℤ more) (get_or h1.q.items v (pos 0)))
         (own v lv ∙ turned v) ∙ by_place (cases_eq (at k) (out v)))
       where
@@ -145,20 +137,17 @@ module _ (h0 : Handles) (lists : Lists) (after : List ℕ) (front many big k : �
             let was : get_or h1.q.items v (pos 0) ≡ get_or h0.q.items v (pos 0) =
             q1 v lv ∙ cond-false (in_row h0 after front k v) (moved v) (get_or h0.q.items v (pos 0)) off in
             let lead : get_or h0.off.items (get_or h0.hand.items v 0) (pos 0)
-            ≡ get_or h0.off.items (get_or lists.leader.items (at k) 0) (pos 0) =
-            ap (λ j. get_or h0.off.items j (pos 0)) (has.led v lv ∙ ap (λ b. get_or lists.leader.items b 0)
-            (sym e)) in
+            ≡ get_or h0.off.items (get_or lists.leader.items (at k) 0) (pos 0) = ap (λ j. get_or h0.off.items j (pos 0))
+            (has.led v lv ∙ ap (λ b. get_or lists.leader.items b 0) (sym e)) in
             let new : get_or h1.q.items v (pos 0) +ℤ more ≡ moved v = omega (arith, ints, was, lead, more_is) in
             cond-true (eqb (at k) (out v)) (get_or h1.q.items v (pos 0) +ℤ more) (get_or h1.q.items v (pos 0))
-            (eq-eqb (at k) (out v) e)
-            ∙ (new ∙ sym (cond-true (in_row h0 after front k v || eqb (at k) (out v)) (moved v)
-            (get_or h0.q.items v (pos 0)) (or_right (in_row h0 after front k v) (eqb (at k) (out v))
+            (eq-eqb (at k) (out v) e) ∙ (new ∙ sym (cond-true (in_row h0 after front k v || eqb (at k) (out v))
+            (moved v) (get_or h0.q.items v (pos 0)) (or_right (in_row h0 after front k v) (eqb (at k) (out v))
             (eq-eqb (at k) (out v) e))))
-        by_place (inr ne) =
-            cond-false (eqb (at k) (out v)) (get_or h1.q.items v (pos 0) +ℤ more) (get_or h1.q.items v (pos 0))
-            (ne_eqb (at k) (out v) ne)
-            ∙ (q1 v lv ∙ ap (λ (s : Bool). cond s (moved v) (get_or h0.q.items v (pos 0)))
-            (sym (or_same (in_row h0 after front k v) (eqb (at k) (out v)) (ne_eqb (at k) (out v) ne))))
+        by_place (inr ne) = cond-false (eqb (at k) (out v)) (get_or h1.q.items v (pos 0) +ℤ more)
+            (get_or h1.q.items v (pos 0)) (ne_eqb (at k) (out v) ne) ∙ (q1 v lv
+            ∙ ap (λ (s : Bool). cond s (moved v) (get_or h0.q.items v (pos 0)))
+            (sym (or_same (in_row h0 after front k v) (ne_eqb (at k) (out v) ne))))
 
     -- The numbers stay small all the while.
     pub q_small : ((j : ℕ) × (j < many) × (at j ≡ big)) → (v : ℕ) → v < length h0.hand.items
@@ -175,22 +164,22 @@ module _ (h0 : Handles) (lists : Lists) (after : List ℕ) (front many big k : �
         by_test false e = omega (arith, ints, e, has.small_q v)
 
 -- A place of a row is low.
-pub row_place : (after : List ℕ) (front many k x : ℕ) → IsRow (length after) after front many → k < many
+pub row_place : {after : List ℕ} {front many : ℕ} (k : ℕ) {x : ℕ} → IsRow (length after) after front many → k < many
     → x ≡ walk (λ i. get_or after i 0) front k → x < length after
-row_place after front many k x row l x_is = subst (λ y. y < length after) (sym x_is) (row.low k l)
+row_place {after} k row l x_is = subst (λ y. y < length after) (sym x_is) (row.low k l)
 
 -- The larger of two blossoms of a row is one of it, and no blossom so far has more vertices.
-pub row_larger : (after : List ℕ) (front many k best x r : ℕ) → k < many → x ≡ walk (λ i. get_or after i 0) front k
-    → ((j : ℕ) × (j < many) × (walk (λ i. get_or after i 0) front j ≡ best)) → (r ≡ best) ⊎ (r ≡ x)
-    → (j : ℕ) × (j < many) × (walk (λ i. get_or after i 0) front j ≡ r)
-row_larger after front many k best x r l x_is w (inl e) = (w.0, w.1, w.2 ∙ sym e)
-row_larger after front many k best x r l x_is w (inr e) = (k, l, sym x_is ∙ sym e)
+pub row_larger : (after : List ℕ) (front many k best : ℕ) {x : ℕ} (r : ℕ) → k < many → x
+    ≡ walk (λ i. get_or after i 0) front k → ((j : ℕ) × (j < many) × (walk (λ i. get_or after i 0) front j ≡ best))
+    → (r ≡ best) ⊎ (r ≡ x) → (j : ℕ) × (j < many) × (walk (λ i. get_or after i 0) front j ≡ r)
+row_larger after front many k best r l x_is w (inl e) = (w.0, w.1, w.2 ∙ sym e)
+row_larger after front many k best r l x_is w (inr e) = (k, l, sym x_is ∙ sym e)
 
-pub row_most : (after rank : List ℕ) (front k best x r : ℕ) → x ≡ walk (λ i. get_or after i 0) front k
+pub row_most : (after rank : List ℕ) (front k best : ℕ) {x : ℕ} (r : ℕ) → x ≡ walk (λ i. get_or after i 0) front k
     → ((j : ℕ) → j < k → get_or rank (walk (λ i. get_or after i 0) front j) 0 ≤ get_or rank best 0)
     → get_or rank best 0 ≤ get_or rank r 0 → get_or rank x 0 ≤ get_or rank r 0
     → (j : ℕ) → j < k + 1 → get_or rank (walk (λ i. get_or after i 0) front j) 0 ≤ get_or rank r 0
-row_most after rank front k best x r x_is was lb lx j l = by_place (cases_eq j k)
+row_most after rank front k best r x_is was lb lx j l = by_place (cases_eq j k)
   where
     by_place : (j ≡ k) ⊎ (j ≢ k) → get_or rank (walk (λ i. get_or after i 0) front j) 0 ≤ get_or rank r 0
     by_place (inl e) = subst (λ y. get_or rank y 0 ≤ get_or rank r 0) (x_is ∙ ap (walk (λ i. get_or after i 0) front)
@@ -199,19 +188,19 @@ row_most after rank front k best x r x_is was lb lx j l = by_place (cases_eq j k
         was j (omega (arith, l, ne)) in omega (arith, h, lb))
 
 -- A table that is written at a place that is told by an equation.
-pub one_more_at : {X : Type 0} (xs : List X) (d : X) (next : ℕ → ℕ) (from k j y : ℕ) (new old : ℕ → X)
+pub one_more_at : {X : Type 0} (xs : List X) (d : X) (next : ℕ → ℕ) (from k : ℕ) {j y : ℕ} (new old : ℕ → X)
     → y ≡ walk next from k → j ≡ suc k → walk next from k < length xs
     → ((i j : ℕ) → i < j → j < suc k → walk next from i ≢ walk next from j)
     → ((v : ℕ) → get_or xs v d ≡ cond (listed next from k v) (new v) (old v)) → (x : X) → x ≡ new (walk next from k)
     → (v : ℕ) → get_or (set xs y x) v d ≡ cond (listed next from j v) (new v) (old v)
-one_more_at xs d next from k j y new old y_is j_is low distinct was x x_is v =
-    ap (λ i. get_or (set xs i x) v d) y_is ∙ (one_more xs d next from k new old low distinct was x x_is v
+one_more_at xs d next from k new old y_is j_is low distinct was x x_is v =
+    ap (λ i. get_or (set xs i x) v d) y_is ∙ (one_more xs d next from k new old low distinct was x_is v
     ∙ ap (λ i. cond (listed next from i v) (new v) (old v)) (sym j_is))
 
 -- A number past the end is 0.
-pub all_small : (xs : List ℤ) (n : ℕ) → length xs ≡ n → ((v : ℕ) → v < n → unsigned_abs (get_or xs v (pos 0)) ≤ 2 ^ 99)
+pub all_small : (xs : List ℤ) {n : ℕ} → length xs ≡ n → ((v : ℕ) → v < n → unsigned_abs (get_or xs v (pos 0)) ≤ 2 ^ 99)
     → (v : ℕ) → unsigned_abs (get_or xs v (pos 0)) ≤ 2 ^ 100
-all_small xs n size each v = by_size (cases_lt v n)
+all_small xs {n} size each v = by_size (cases_lt v n)
   where
     by_size : (v < n) ⊎ (n ≤ v) → unsigned_abs (get_or xs v (pos 0)) ≤ 2 ^ 100
     by_size (inl l) = (let h : unsigned_abs (get_or xs v (pos 0)) ≤ 2 ^ 99 = each v l in omega (arith, h))
@@ -219,10 +208,10 @@ all_small xs n size each v = by_size (cases_lt v n)
         get_or_past xs v (pos 0) (subst (λ m. m ≤ v) (sym size) h) in omega (arith, ints, e))
 
 -- A blossom that keeps its handle is as if renamed.
-pub kept_handle : (h : Handles) (lists : Lists) (x big : ℕ) → x ≡ big
+pub kept_handle : (h : Handles) (lists : Lists) {x big : ℕ} → x ≡ big
     → ((v : ℕ) → lists_at lists x v ≡ true → get_or h.hand.items v 0 ≡ get_or lists.leader.items big 0)
     → HasRenamed h h lists x (get_or lists.leader.items big 0) (differ_by h lists x big)
-kept_handle h lists x big e same = record {
+kept_handle h lists {x} {big} e same = record {
   hand = λ v. by_hand v (cases_Bool (lists_at lists x v));
   q = λ v. by_q v (cases_Bool (lists_at lists x v));
   hands = refl;
@@ -246,40 +235,39 @@ kept_handle h lists x big e same = record {
     by_q : (v : ℕ) → (lists_at lists x v ≡ true) ⊎ (lists_at lists x v ≡ false) → get_or h.q.items v (pos 0)
         ≡ cond (lists_at lists x v) (get_or h.q.items v (pos 0) +ℤ differ_by h lists x big) (get_or h.q.items v (pos 0))
     by_q v (inl on) = (let s : get_or h.q.items v (pos 0) ≡ get_or h.q.items v (pos 0) +ℤ differ_by h lists x big =
-        omega (arith, ints, none) in s)
-        ∙ sym (cond-true (lists_at lists x v) (get_or h.q.items v (pos 0) +ℤ differ_by h lists x big)
-        (get_or h.q.items v (pos 0)) on)
+        omega (arith, ints, none) in s) ∙ sym (cond-true (lists_at lists x v)
+        (get_or h.q.items v (pos 0) +ℤ differ_by h lists x big) (get_or h.q.items v (pos 0)) on)
     by_q v (inr off) = sym (cond-false (lists_at lists x v) (get_or h.q.items v (pos 0) +ℤ differ_by h lists x big)
         (get_or h.q.items v (pos 0)) off)
 
 -- What a turn of the loop over a row has before it.
-pub row_lists : (h0 h1 : Handles) (lists : Lists) (after : List ℕ) (front many k x : ℕ)
+pub row_lists : {h0 : Handles} (h1 : Handles) {lists : Lists} {after : List ℕ} {front many : ℕ} (k : ℕ) {x : ℕ}
     → HasListsOf h0 lists after front many → k < many → x ≡ walk (λ i. get_or after i 0) front k → length h1.hand.items
     ≡ length h0.hand.items → length h1.q.items ≡ length h0.q.items → HasListAt h1 lists x
-row_lists h0 h1 lists after front many k x has l x_is hands qs = subst (λ y. HasListAt h1 lists y) (sym x_is) (record {
-  first = was.first;
-  rank = was.rank;
-  q = qs ∙ (was.q ∙ sym hands);
-  following = was.following ∙ sym hands;
-  few = omega (arith, was.few, hands);
-  many = omega (arith, was.many, hands);
-  low = λ j lj. subst (λ n. walk (λ i. get_or lists.following.items i 0)
-      (get_or lists.first.items (walk (λ i. get_or after i 0) front k) 0) j < n) (sym hands) (was.low j lj);
-  distinct = was.distinct;
-})
+row_lists {h0} h1 {lists} {after} {front} {many} k has l x_is hands qs = subst (λ y. HasListAt h1 lists y) (sym x_is)
+    (record {
+      first = was.first;
+      rank = was.rank;
+      q = qs ∙ (was.q ∙ sym hands);
+      following = was.following ∙ sym hands;
+      few = omega (arith, was.few, hands);
+      many = omega (arith, was.many, hands);
+      low = λ j lj. subst (λ n. walk (λ i. get_or lists.following.items i 0)
+          (get_or lists.first.items (walk (λ i. get_or after i 0) front k) 0) j < n) (sym hands) (was.low j lj);
+      distinct = was.distinct;
+    })
   where
     was : HasListAt h0 lists (walk (λ i. get_or after i 0) front k)
     was = has.each k l
 
-pub row_leaders : (h0 h1 : Handles) (lists : Lists) (after : List ℕ) (front many big k x : ℕ)
-    → HasListsOf h0 lists after front many → IsRow (length after) after front many → k < many
-    → x ≡ walk (λ i. get_or after i 0) front k
-    → ((j : ℕ) × (j < many) × (walk (λ i. get_or after i 0) front j ≡ big)) → h1.off ≡ h0.off
-    → ((v : ℕ) → v < length h0.hand.items → get_or h1.hand.items v 0
+pub row_leaders : {h0 : Handles} (h1 : Handles) {lists : Lists} {after : List ℕ} {front many : ℕ} (big k : ℕ) {x : ℕ}
+    → HasListsOf h0 lists after front many → IsRow (length after) after front many → k < many → x
+    ≡ walk (λ i. get_or after i 0) front k → ((j : ℕ) × (j < many) × (walk (λ i. get_or after i 0) front j ≡ big))
+    → h1.off ≡ h0.off → ((v : ℕ) → v < length h0.hand.items → get_or h1.hand.items v 0
     ≡ cond (in_row h0 after front k v) (get_or lists.leader.items big 0) (get_or h0.hand.items v 0))
     → HasLeaders h1 lists x big
-row_leaders h0 h1 lists after front many big k x has row l x_is on off hand1 = record {
-  low_x = subst (λ n. x < n) (sym has.leader) (row_place after front many k x row l x_is);
+row_leaders {h0} h1 {lists} {after} {front} big k {x} has row l x_is on off hand1 = record {
+  low_x = subst (λ n. x < n) (sym has.leader) (row_place k row l x_is);
   low_big = subst (λ n. big < n) (sym has.leader) (subst (λ y. y < length after) on.2 (row.low on.0 on.1));
   handle_x = subst (λ y. get_or lists.leader.items y 0 < length h1.off.items) (sym x_is)
       (subst (λ n. get_or lists.leader.items (walk (λ i. get_or after i 0) front k) 0 < n) (sym offs)
@@ -295,7 +283,7 @@ row_leaders h0 h1 lists after front many big k x has row l x_is on off hand1 = r
       (sym (ap (λ o. o.items) off))
       (subst (λ y. unsigned_abs (get_or h0.off.items (get_or lists.leader.items y 0) (pos 0)) ≤ 2 ^ 97) on.2
       (has.small_leaders on.0 on.1));
-  same = λ e v listed_v. own_handle h0 lists after front many big k has l row.distinct h1 hand1 (sym x_is ∙ e) v
+  same = λ e v listed_v. own_handle big k has l row.distinct h1 hand1 (sym x_is ∙ e) v
       (ap (λ y. lists_at lists y v) (sym x_is) ∙ listed_v);
 }
   where
@@ -303,7 +291,7 @@ row_leaders h0 h1 lists after front many big k x has row l x_is on off hand1 = r
     offs = ap (λ o. length o.items) off
 
 -- One blossom more is renamed.
-module _ (h0 h1 h2 : Handles) (lists : Lists) (after : List ℕ) (front many big k j x : ℕ)
+module _ {h0 h1 h2 : Handles} {lists : Lists} {after : List ℕ} {front many : ℕ} (big k : ℕ) {j : ℕ} {x : ℕ}
     (has : HasListsOf h0 lists after front many) (row : IsRow (length after) after front many) (l : k < many) (j_is : j
     ≡ suc k) (x_is : x ≡ walk (λ i. get_or after i 0) front k) (off : h1.off ≡ h0.off)
     (hand1 : (v : ℕ) → v < length h0.hand.items → get_or h1.hand.items v 0
@@ -322,14 +310,12 @@ module _ (h0 h1 h2 : Handles) (lists : Lists) (after : List ℕ) (front many big
       ≡ (get_or h0.off.items (get_or lists.leader.items (walk (λ i. get_or after i 0) front k) 0) (pos 0) -ℤ get_or
       h0.off.items (get_or lists.leader.items big 0) (pos 0))
   differ_is = ap (λ o. get_or o.items (get_or lists.leader.items x 0) (pos 0) -ℤ get_or o.items
-      (get_or lists.leader.items big 0) (pos 0)) off
-      ∙ ap (λ y. get_or h0.off.items (get_or lists.leader.items y 0) (pos 0) -ℤ get_or h0.off.items
-      (get_or lists.leader.items big 0) (pos 0)) x_is
+      (get_or lists.leader.items big 0) (pos 0)) off ∙ ap (λ y. get_or h0.off.items (get_or lists.leader.items y 0)
+      (pos 0) -ℤ get_or h0.off.items (get_or lists.leader.items big 0) (pos 0)) x_is
 
   pub hands_more : (v : ℕ) → v < length h0.hand.items → get_or h2.hand.items v 0
       ≡ cond (in_row h0 after front j v) (get_or lists.leader.items big 0) (get_or h0.hand.items v 0)
-  hands_more v lv = hand_more h0 lists after front many big k has l row.distinct h1 hand1 q1 h2
-      (differ_by h1 lists x big) renamed_at v lv
+  hands_more v lv = hand_more big k has l row.distinct h1 hand1 q1 renamed_at v lv
       ∙ ap (λ i. cond (in_row h0 after front i v) (get_or lists.leader.items big 0) (get_or h0.hand.items v 0))
       (sym j_is)
 
@@ -337,14 +323,14 @@ module _ (h0 h1 h2 : Handles) (lists : Lists) (after : List ℕ) (front many big
       ≡ cond (in_row h0 after front j v)
       ((get_or h0.q.items v (pos 0) +ℤ get_or h0.off.items (get_or h0.hand.items v 0) (pos 0)) -ℤ get_or h0.off.items
       (get_or lists.leader.items big 0) (pos 0)) (get_or h0.q.items v (pos 0))
-  qs_more v lv = q_more h0 lists after front many big k has l row.distinct h1 hand1 q1 h2 (differ_by h1 lists x big)
+  qs_more v lv = q_more big k has l row.distinct h1 hand1 q1
       differ_is renamed_at v lv
       ∙ ap (λ i. cond (in_row h0 after front i v)
       ((get_or h0.q.items v (pos 0) +ℤ get_or h0.off.items (get_or h0.hand.items v 0) (pos 0)) -ℤ get_or
       h0.off.items (get_or lists.leader.items big 0) (pos 0)) (get_or h0.q.items v (pos 0))) (sym j_is)
 
 -- The handle and what it adds are told otherwise.
-pub renamed_as : (h0 h1 : Handles) (lists : Lists) (x a b : ℕ) (m n : ℤ) → HasRenamed h0 h1 lists x a m → a ≡ b → m ≡ n
-    → HasRenamed h0 h1 lists x b n
-renamed_as h0 h1 lists x a b m n is e f =
+pub renamed_as : {h0 h1 : Handles} {lists : Lists} {x a : ℕ} {b : ℕ} {m : ℤ} (n : ℤ) → HasRenamed h0 h1 lists x a m → a
+    ≡ b → m ≡ n → HasRenamed h0 h1 lists x b n
+renamed_as {h0} {h1} {lists} {x} {a} n is e f =
     subst (λ k. HasRenamed h0 h1 lists x k n) e (subst (λ (z : ℤ). HasRenamed h0 h1 lists x a z) f is)

@@ -21,16 +21,17 @@ use Rattle.qm_forest.proofs.Pairings.{entered_size, entry_cases, paired_round}
 use Rattle.qm_forest.proofs.Withins.{climb_law, in_where, rank_walk, ring_front}
 
 -- The rest may be told otherwise.
-pub round_rest : (t : ForestTables) (marks : List Bool) (left : List (Option ℕ)) (rest rest2 due : ℕ → ℕ)
-    → ((b : ℕ) → b < length t.up → rest b ≡ rest2 b) → IsRound t marks left rest due → IsRound t marks left rest2 due
-round_rest t marks left rest rest2 due same round = record {
+pub round_rest : {t : ForestTables} {marks : List Bool} {left : List (Option ℕ)} {rest : ℕ → ℕ} (rest2 : ℕ → ℕ)
+    {due : ℕ → ℕ} → ((b : ℕ) → b < length t.up → rest b ≡ rest2 b) → IsRound t marks left rest due
+    → IsRound t marks left rest2 due
+round_rest rest2 same round = record {
   each = λ b l. omega (arith, round.each b l, same b l);
   entry = round.entry;
   once = round.once;
   tight = round.tight;
 }
 
-module _ (t : ForestTables) (known : IsLaminar t) (g : WeightedGraph) (is_small : IsSmallGraph g)
+module _ {t : ForestTables} (known : IsLaminar t) {g : WeightedGraph} (is_small : IsSmallGraph g)
     (valid : IsSoundFor g t) (p : ℕ) (inner : up_at t.up p ≢ p) where
   abbrev after : ℕ → ℕ
   after k = get_or t.after k 0
@@ -69,7 +70,7 @@ module _ (t : ForestTables) (known : IsLaminar t) (g : WeightedGraph) (is_small 
     some = omega (arith, ring.odd);
     closed = ring.closed;
     distinct = ring.distinct;
-    marked = listed_closed after (get_or t.head q 0) many (omega (arith, ring.odd)) ring.closed;
+    marked = listed_closed after many (omega (arith, ring.odd)) ring.closed;
     all = λ x on. listed_place after (get_or t.head q 0) many x on;
   }) p (parts p refl (λ e. inner (sym e)))
 
@@ -92,30 +93,29 @@ module _ (t : ForestTables) (known : IsLaminar t) (g : WeightedGraph) (is_small 
   sum_from x m b = ring_sum after (λ r. bool_number (within t b r)) x m
 
   -- Each part and the next are a pair.
-  pub turn_pairing : (k x y d : ℕ) → x ≡ at (2 * k) → y ≡ after x → d ≡ get_or t.joint x 0 → IsPairing t x y d
-  turn_pairing k x y d x_is y_is d_is =
+  pub turn_pairing : (k : ℕ) {x y d : ℕ} → x ≡ at (2 * k) → y ≡ after x → d ≡ get_or t.joint x 0 → IsPairing t x y d
+  turn_pairing k {x} {y} x_is y_is d_is =
       subst (λ e. IsPairing t x y e) (sym d_is) (subst (λ z. IsPairing t x z (get_or t.joint x 0)) (sym y_is)
       (subst (λ z. IsPairing t z (after z) (get_or t.joint z 0)) (sym x_is) (at_pairing (2 * k))))
 
   -- Before the first pair.
-  pub ring_begun : (marks : List Bool) (left : List (Option ℕ)) (rest due : ℕ → ℕ) (x k : ℕ) → x ≡ after p → k ≡ 0
-      → IsRound t marks left (λ b. sum_from (after p) (many - 1) b + rest b) due
+  pub ring_begun : {marks : List Bool} {left : List (Option ℕ)} (rest : ℕ → ℕ) {due : ℕ → ℕ} {x : ℕ} (k : ℕ) → x
+      ≡ after p → k ≡ 0 → IsRound t marks left (λ b. sum_from (after p) (many - 1) b + rest b) due
       → IsRound t marks left (λ b. sum_from x (many - 1 - 2 * k) b + rest b) due
-  ring_begun marks left rest due x k x_is k_is round =
-      round_rest t marks left (λ b. sum_from (after p) (many - 1) b + rest b) (λ b. sum_from x (many - 1 - 2 * k) b
-      + rest b) due (λ b l. ap (λ m. m + rest b) (same b)) round
+  ring_begun rest {x} k x_is k_is round = round_rest (λ b. sum_from x (many - 1 - 2 * k) b + rest b)
+      (λ b l. ap (λ m. m + rest b) (same b)) round
     where
       same : (b : ℕ) → sum_from (after p) (many - 1) b ≡ sum_from x (many - 1 - 2 * k) b
       same b = (let e : many - 1 ≡ many - 1 - 2 * k = omega (arith, k_is) in ap (λ m. sum_from (after p) m b) e
           ∙ ap (λ z. sum_from z (many - 1 - 2 * k) b) (sym x_is))
 
   -- The sets that wait after it are parts, or waited before.
-  pub turn_entries : (left left2 : List (Option ℕ)) (k x y d c v : ℕ) → x ≡ at (2 * k) → y ≡ after x
-      → length left ≡ length t.up → left2 ≡ entered (length t.hand) (entered (length t.hand) left x (near_at t d)) y
-      (far_at t d) → x < length t.up → y < length t.up
-      → get_or left2 c None ≡ Some v → (get_or left c None ≡ Some v)
-      ⊎ (get_or t.rank c 0 < get_or t.rank (up_at t.up p) 0)
-  turn_entries left left2 k x y d c v x_is y_is size is low_x low_y e =
+  pub turn_entries : (left : List (Option ℕ)) {left2 : List (Option ℕ)} (k : ℕ) {x y : ℕ} (d c v : ℕ) → x ≡ at (2 * k)
+      → y ≡ after x → length left ≡ length t.up → left2 ≡ entered (length t.hand)
+      (entered (length t.hand) left x (near_at t d)) y (far_at t d) → x < length t.up → y < length t.up
+      → get_or left2 c None ≡ Some v → (get_or left c None ≡ Some v) ⊎
+      (get_or t.rank c 0 < get_or t.rank (up_at t.up p) 0)
+  turn_entries left k {x} {y} d c v x_is y_is size is low_x low_y e =
       by_last (entry_cases t known.vertices (alone t known) known.own (another t known g is_small valid)
       (entered (length t.hand) left x (near_at t d)) y (far_at t d) c
       (subst (λ m. y < m) (sym (entered_size t known.vertices (alone t known) known.own
@@ -135,8 +135,7 @@ module _ (t : ForestTables) (known : IsLaminar t) (g : WeightedGraph) (is_small 
           omega (arith, r, a, s)
 
       by_first : ((length t.hand ≤ x) × (c ≡ x) × (get_or (entered (length t.hand) left x (near_at t d)) c None
-          ≡ Some (near_at t d))) ⊎ (get_or (entered (length t.hand) left x (near_at t d)) c None
-          ≡ get_or left c None)
+          ≡ Some (near_at t d))) ⊎ (get_or (entered (length t.hand) left x (near_at t d)) c None ≡ get_or left c None)
           → get_or (entered (length t.hand) left x (near_at t d)) c None ≡ Some v → (get_or left c None ≡ Some v)
           ⊎ (get_or t.rank c 0 < get_or t.rank (up_at t.up p) 0)
       by_first (inl w) here = inr (below x (2 * k) x_is w.1)
@@ -153,35 +152,29 @@ module _ (t : ForestTables) (known : IsLaminar t) (g : WeightedGraph) (is_small 
           ∙ now)
 
   -- One pair more.
-  pub ring_turn : (marks marks2 : List Bool) (left left2 : List (Option ℕ)) (rest due : ℕ → ℕ) (k j x y d : ℕ)
-      → x ≡ at (2 * k) → k < many / 2 → y ≡ after x → d ≡ get_or t.joint x 0 → j ≡ k + 1
-      → length t.near ≡ 2 * length marks → length left ≡ length t.up
-      → marks2 ≡ set marks (d / 2) true → left2 ≡ entered (length t.hand) (entered (length t.hand) left x (near_at t d))
-      y (far_at t d)
-      → IsRound t marks left (λ b. sum_from x (many - 1 - 2 * k) b + rest b) due
+  pub ring_turn : {marks : List Bool} {marks2 : List Bool} {left : List (Option ℕ)} {left2 : List (Option ℕ)}
+      (rest : ℕ → ℕ) {due : ℕ → ℕ} (k j : ℕ) {x y d : ℕ} → x ≡ at (2 * k) → k < many / 2 → y ≡ after x → d
+      ≡ get_or t.joint x 0 → j ≡ k + 1 → length t.near ≡ 2 * length marks → length left ≡ length t.up → marks2
+      ≡ set marks (d / 2) true → left2 ≡ entered (length t.hand) (entered (length t.hand) left x (near_at t d)) y
+      (far_at t d) → IsRound t marks left (λ b. sum_from x (many - 1 - 2 * k) b + rest b) due
       → IsRound t marks2 left2 (λ b. sum_from (after y) (many - 1 - 2 * j) b + rest b) due
-  ring_turn marks marks2 left left2 rest due k j x y d x_is low y_is d_is j_is size_marks size_left marks_is left_is
-      round =
-      subst (λ ms. IsRound t ms left2 (λ b. sum_from (after y) (many - 1 - 2 * j) b + rest b) due) (sym marks_is)
-      (subst (λ ls. IsRound t (set marks (d / 2) true) ls (λ b. sum_from (after y) (many - 1 - 2 * j) b + rest b) due)
-      (sym left_is)
+  ring_turn {marks} {left} {left2} rest {due} k j {x} {y} {d} x_is low y_is d_is j_is size_marks size_left marks_is
+      left_is round = subst (λ ms. IsRound t ms left2 (λ b. sum_from (after y) (many - 1 - 2 * j) b + rest b) due)
+      (sym marks_is) (subst (λ ls. IsRound t (set marks (d / 2) true) ls
+      (λ b. sum_from (after y) (many - 1 - 2 * j) b + rest b) due) (sym left_is)
       (paired_round t known.vertices (alone t known) known.own (another t known g is_small valid) marks left x y d
       (λ b. sum_from (after y) (many - 1 - 2 * j) b + rest b) due size_marks size_left
-      (round_rest t marks left (λ b. sum_from x (many - 1 - 2 * k) b + rest b)
-      (λ b. (bool_number (within t b x) + bool_number (within t b y))
-      + (sum_from (after y) (many - 1 - 2 * j) b + rest b)) due (λ b l. peeled b) round)
-      (turn_pairing k x y d x_is y_is d_is)))
+      (round_rest (λ b. (bool_number (within t b x) + bool_number (within t b y)) +
+      (sum_from (after y) (many - 1 - 2 * j) b + rest b)) (λ b l. peeled b) round) (turn_pairing k x_is y_is d_is)))
     where
-      peeled : (b : ℕ) → sum_from x (many - 1 - 2 * k) b + rest b
-          ≡ (bool_number (within t b x) + bool_number (within t b y))
-          + (sum_from (after y) (many - 1 - 2 * j) b + rest b)
+      peeled : (b : ℕ) → sum_from x (many - 1 - 2 * k) b + rest b ≡ (bool_number (within t b x) + bool_number
+          (within t b y)) + (sum_from (after y) (many - 1 - 2 * j) b + rest b)
       peeled b =
           let two : many - 1 - 2 * k ≡ suc (suc (many - 1 - 2 * j)) = omega (arith, ring.odd, low, j_is) in
           let one : sum_from x (many - 1 - 2 * k) b ≡ sum_from x (suc (suc (many - 1 - 2 * j))) b =
           ap (λ m. sum_from x m b) two in
           let first : sum_from x (suc (suc (many - 1 - 2 * j))) b ≡ bool_number (within t b x) + sum_from (after x)
-          (suc (many - 1 - 2 * j)) b =
-          ring_front after (λ r. bool_number (within t b r)) x (suc (many - 1 - 2 * j)) in
+          (suc (many - 1 - 2 * j)) b = ring_front after (λ r. bool_number (within t b r)) x (suc (many - 1 - 2 * j)) in
           let second : sum_from (after x) (suc (many - 1 - 2 * j)) b ≡ bool_number (within t b (after x)) + sum_from
           (after (after x)) (many - 1 - 2 * j) b = ring_front after (λ r. bool_number (within t b r)) (after x)
           (many - 1 - 2 * j) in
@@ -192,29 +185,25 @@ module _ (t : ForestTables) (known : IsLaminar t) (g : WeightedGraph) (is_small 
           omega (arith, one, first, second, next, more)
 
   -- All pairs.
-  pub ring_ended : (marks : List Bool) (left : List (Option ℕ)) (rest due : ℕ → ℕ) (k x : ℕ) → k ≡ many / 2
+  pub ring_ended : {marks : List Bool} {left : List (Option ℕ)} (rest : ℕ → ℕ) {due : ℕ → ℕ} (k x : ℕ) → k ≡ many / 2
       → IsRound t marks left (λ b. sum_from x (many - 1 - 2 * k) b + rest b) due → IsRound t marks left rest due
-  ring_ended marks left rest due k x k_is round =
-      round_rest t marks left (λ b. sum_from x (many - 1 - 2 * k) b + rest b) rest due (λ b l. none b) round
+  ring_ended rest k x k_is round = round_rest rest (λ b l. none b) round
     where
       none : (b : ℕ) → sum_from x (many - 1 - 2 * k) b + rest b ≡ rest b
       none b = (let z : many - 1 - 2 * k ≡ 0 = omega (arith, ring.odd, k_is) in let s : sum_from x (many - 1 - 2 * k) b
           ≡ 0 = ap (λ m. sum_from x m b) z in omega (arith, s))
 
   -- From a part to its set.
-  pub ring_climb : (marks : List Bool) (left : List (Option ℕ)) (rest due : ℕ → ℕ) (v c j : ℕ) → within t v p ≡ true
-      → v < length t.hand → walk (up_at t.up) q j ≡ c → get_or t.rank c 0 ≤ length t.hand
-      → get_or t.rank q 0 ≤ length t.hand
-      → IsRound t marks left (λ b. cond (within t b p) 0 (waits_but t b c v) + rest b) due
-      → IsRound t marks left (λ b. sum_from (after p) (many - 1) b
-      + (cond (within t b q) 0 (waits_but t b c v) + rest b)) due
-  ring_climb marks left rest due v c j held lv climbs' low_c low_q round =
-      round_rest t marks left (λ b. cond (within t b p) 0 (waits_but t b c v) + rest b)
-      (λ b. sum_from (after p) (many - 1) b + (cond (within t b q) 0 (waits_but t b c v) + rest b)) due (λ b l.
-      (let law : cond (within t b p) 0 (waits_but t b c v) ≡ sum_from (after p) (many - 1) b + cond (within t b q) 0
-      (waits_but t b c v)
-      = climb_law (length t.hand) (up_at t.up) (λ z. get_or t.rank z 0) known.rises p q v c many after inside circle
-      part parts low low_q low_c held j climbs' b in
+  pub ring_climb : {marks : List Bool} {left : List (Option ℕ)} (rest : ℕ → ℕ) {due : ℕ → ℕ} (v : ℕ) {c : ℕ} (j : ℕ)
+      → within t v p ≡ true → v < length t.hand → walk (up_at t.up) q j ≡ c → get_or t.rank c 0 ≤ length t.hand
+      → get_or t.rank q 0 ≤ length t.hand → IsRound t marks left (λ b. cond (within t b p) 0 (waits_but t b c v) + rest
+      b) due → IsRound t marks left (λ b. sum_from (after p) (many - 1) b +
+      (cond (within t b q) 0 (waits_but t b c v) + rest b)) due
+  ring_climb rest v {c} j held lv climbs' low_c low_q round = round_rest
+      (λ b. sum_from (after p) (many - 1) b + (cond (within t b q) 0 (waits_but t b c v) + rest b))
+      (λ b l. (let law : cond (within t b p) 0 (waits_but t b c v) ≡ sum_from (after p) (many - 1) b + cond
+      (within t b q) 0 (waits_but t b c v) = climb_law (length t.hand) (up_at t.up) (λ z. get_or t.rank z 0) known.rises
+      q v circle part parts low low_q low_c held j climbs' b in
       omega (arith, law))) round
     where
       low : (x : ℕ) → inside x ≡ true → get_or t.rank x 0 ≤ length t.hand
@@ -223,16 +212,15 @@ module _ (t : ForestTables) (known : IsLaminar t) (g : WeightedGraph) (is_small 
           omega (arith, r, s, low_q))
 
 -- Going up from a vertex: at it, at each step, and at the end.
-module _ (t : ForestTables) (known : IsLaminar t) (v c : ℕ) (lv : v < length t.hand) (held : within t v c ≡ true) where
+module _ {t : ForestTables} (known : IsLaminar t) (v c : ℕ) (lv : v < length t.hand) (held : within t v c ≡ true) where
   pub top_rank : get_or t.rank c 0 ≤ length t.hand
   top_rank = known.passed c v lv held
 
-  pub climb_begins : (marks : List Bool) (left : List (Option ℕ)) (rest due : ℕ → ℕ)
+  pub climb_begins : {marks : List Bool} {left : List (Option ℕ)} (rest : ℕ → ℕ) {due : ℕ → ℕ}
       → IsRound t marks left (λ b. waits_but t b c v + rest b) due
       → IsRound t marks left (λ b. cond (within t b v) 0 (waits_but t b c v) + rest b) due
-  climb_begins marks left rest due round =
-      round_rest t marks left (λ b. waits_but t b c v + rest b) (λ b. cond (within t b v) 0 (waits_but t b c v)
-      + rest b) due (λ b l. ap (λ m. m + rest b) (same b (cases_Bool (within t b v)))) round
+  climb_begins rest round = round_rest (λ b. cond (within t b v) 0 (waits_but t b c v) + rest b)
+      (λ b l. ap (λ m. m + rest b) (same b (cases_Bool (within t b v)))) round
     where
       nothing : (s : Bool) → ◌≡◌ {A = ℕ} (cond s 0 0) 0
       nothing true = refl
@@ -247,13 +235,11 @@ module _ (t : ForestTables) (known : IsLaminar t) (v c : ℕ) (lv : v < length t
           ap (λ (s : Bool). cond (within t b c) (cond s 0 1) 0) own
           ∙ (nothing (within t b c) ∙ sym (cond-true (within t b v) 0 (waits_but t b c v) on))
 
-  pub climb_ends : (marks : List Bool) (left : List (Option ℕ)) (rest due : ℕ → ℕ) (p : ℕ) → p ≡ c
+  pub climb_ends : {marks : List Bool} {left : List (Option ℕ)} (rest : ℕ → ℕ) {due : ℕ → ℕ} {p : ℕ} → p ≡ c
       → IsRound t marks left (λ b. cond (within t b p) 0 (waits_but t b c v) + rest b) due
       → IsRound t marks left rest due
-  climb_ends marks left rest due p p_is round =
-      round_rest t marks left (λ b. cond (within t b p) 0 (waits_but t b c v) + rest b) rest due (λ b l.
-      (let first : cond (within t b p) 0 (waits_but t b c v) ≡ cond (within t b c) 0 (waits_but t b c v) =
-      ap (λ z. cond (within t b z) 0 (waits_but t b c v)) p_is in
+  climb_ends rest {p} p_is round = round_rest rest (λ b l. (let first : cond (within t b p) 0 (waits_but t b c v)
+      ≡ cond (within t b c) 0 (waits_but t b c v) = ap (λ z. cond (within t b z) 0 (waits_but t b c v)) p_is in
       let second : ◌≡◌ {A = ℕ} (cond (within t b c) 0 (waits_but t b c v)) 0 = none b (within t b c) in
       omega (arith, first, second))) round
     where
@@ -263,7 +249,7 @@ module _ (t : ForestTables) (known : IsLaminar t) (v c : ℕ) (lv : v < length t
 
   module _ (p : ℕ) (above : (j : ℕ) × (walk (up_at t.up) p j ≡ c)) (below : p ≢ c) where
     pub climbs_on : up_at t.up p ≢ p
-    climbs_on e = below (sym (walk_stays (up_at t.up) p above.0 e) ∙ above.1)
+    climbs_on e = below (sym (walk_stays (up_at t.up) above.0 e) ∙ above.1)
 
     pub above_more : (j : ℕ) × (walk (up_at t.up) (up_at t.up p) j ≡ c)
     above_more = by_steps above.0 above.1
@@ -285,5 +271,5 @@ module _ (t : ForestTables) (known : IsLaminar t) (v c : ℕ) (lv : v < length t
 
     pub held_more : within t v p ≡ true → within t v (up_at t.up p) ≡ true
     held_more on = (let w : (i : ℕ) × (walk (up_at t.up) v i ≡ p) = climbs_place (up_at t.up) (length t.hand) p v on in
-        in_where (length t.hand) (up_at t.up) (λ z. get_or t.rank z 0) known.rises v (up_at t.up p) (suc w.0)
+        in_where (length t.hand) (up_at t.up) (λ z. get_or t.rank z 0) known.rises v (suc w.0)
         (omega (arith, next_rank, top_rank)) (ap (up_at t.up) w.1))

@@ -13,11 +13,10 @@ use Rattle.qm_forest.proofs.Chosens.{round_begins}
 use Rattle.qm_forest.specs.Ties.{AreTied, HiddenTables}
 
 -- The room of a forest is as large as what it comes to.
-module _ (t : ForestTables) (known : IsLaminar t) (whole : length t.up ≡ length t.hand + length t.hand / 2)
-    (g : WeightedGraph) (valid : IsSoundFor g t) (n : ℕ) (round : Round) (sets y z : ℕ)
-    (blank : IsBlank n round sets y z)
-    (s : GraphSize) (view_is : ◌≡◌ {A = GraphSize} (record { vertices = n; edges = length round.marks.items }) s)
-    (room : s ≡ size_of g) where
+module _ {t : ForestTables} (known : IsLaminar t) (whole : length t.up ≡ length t.hand + length t.hand / 2)
+    {g : WeightedGraph} (valid : IsSoundFor g t) {n : ℕ} {round : Round} {sets y z : ℕ}
+    (blank : IsBlank n round sets y z) {s : GraphSize} (view_is : ◌≡◌ {A = GraphSize}
+    (record { vertices = n; edges = length round.marks.items }) s) (room : s ≡ size_of g) where
   n_is : n ≡ length t.hand
   n_is = ap (λ (r : GraphSize). r.vertices) (view_is ∙ room) ∙ sym valid.vertices
 
@@ -35,20 +34,11 @@ module _ (t : ForestTables) (known : IsLaminar t) (whole : length t.up ≡ lengt
   }
 
   pub room_begun : IsRound t round.marks.items round.left_out.items (λ b. 0) (λ b. 0)
-  room_begun = round_begins t round.marks.items round.left_out.items (length round.marks.items) (n + n / 2) (λ b. 0)
+  room_begun = round_begins t (length round.marks.items) (n + n / 2) (λ b. 0)
       blank.marks blank.left_out (λ v l. omega arith)
 
-  pub room_y_is : length t.hand ≤ y
-  room_y_is = omega (arith, blank.room_y, n_is)
-
-  pub room_sets_is : length t.up ≤ length t.hand + sets
-  room_sets_is = omega (arith, blank.room_sets, half_is, whole)
-
-  pub room_z_is : (k : ℕ) → length t.hand + k ≤ length t.up → k ≤ z
-  room_z_is k l = omega (arith, blank.room_z, half_is, whole, l)
-
 -- What tied tables say of the way out.
-module _ (t : ForestTables) (hid : HiddenTables) (tied : AreTied t hid) where
+module _ {t : ForestTables} {hid : HiddenTables} (tied : AreTied t hid) where
   pub whole_is : length t.up ≡ length t.hand + length t.hand / 2
   whole_is = omega (arith, tied.pool.room, tied.pool.half)
 

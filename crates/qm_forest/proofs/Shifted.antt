@@ -32,9 +32,9 @@ change_low Inner s h = omega (arith, ints)
 change_low Outside s h = omega (arith, ints)
 
 -- The forest sees the shift.
-pub seen_shift : (t : ForestTables) (s d : ℤ) → d ≡ t.delta +ℤ s → forest_of (record t { delta = d })
+pub seen_shift : (t : ForestTables) (s : ℤ) {d : ℤ} → d ≡ t.delta +ℤ s → forest_of (record t { delta = d })
     ≡ shifted (forest_of t) s
-seen_shift t s d e i = record {
+seen_shift t s {d} e i = record {
   size = (forest_of t).size;
   holds = (forest_of t).holds;
   out = (forest_of t).out;
@@ -52,9 +52,9 @@ seen_shift t s d e i = record {
         ∙ change_sum (label_at t.label b) t.delta s in omega (arith, ints, h)
 
 -- Where no tree stands a shift changes nothing.
-pub seen_still : (g : WeightedGraph) (t : ForestTables) (s : ℤ) → IsValidFor g t → t.root ≡ None
+pub seen_still : {g : WeightedGraph} {t : ForestTables} (s : ℤ) → IsValidFor g t → t.root ≡ None
     → forest_of t ≡ shifted (forest_of t) s
-seen_still g t s valid none i = record {
+seen_still {t} s valid none i = record {
   size = (forest_of t).size;
   holds = (forest_of t).holds;
   out = (forest_of t).out;
@@ -69,15 +69,14 @@ seen_still g t s valid none i = record {
     weight b = let h : weight_change (label_at t.label b) s ≡ pos 0 =
         ap (λ (l : Label). weight_change l s) (valid.valid.no_tree none b) in omega (arith, ints, h)
 
-module _ (t : ForestTables) (hid : HiddenTables) (tied : AreTied t hid) (g : WeightedGraph) (is : IsGraph g)
+module _ {t : ForestTables} {hid : HiddenTables} (tied : AreTied t hid) {g : WeightedGraph} (is : IsGraph g)
     (valid : IsValidFor g t) (r : ℕ) (root : t.root ≡ Some r) (s d : ℤ) (d_is : d ≡ t.delta +ℤ s) (high : pos 0 ≤ℤ s)
     (small : (b : ℕ) → unsigned_abs ((shifted (forest_of t) s).weight b) ≤ 2 ^ 62) where
   valid_root : IsValid (darts_of g) (forest_of t) (Some r)
   valid_root = subst (λ (o : Option ℕ). IsValid (darts_of g) (forest_of t) o) root valid.valid
 
   sum_is : dual_sum_of (forest_of (record t { delta = d })) ≡ dual_sum_of (forest_of t) +ℤ s
-  sum_is = ap dual_sum_of (seen_shift t s d d_is) ∙ sum_rises (darts_of g) (are_darts g is) (forest_of t) r valid_root
-      (valid_root.tree r refl) s
+  sum_is = ap dual_sum_of (seen_shift t s d_is) ∙ sum_rises (are_darts is) valid_root (valid_root.tree r refl) s
 
   added_is : (v : ℕ) → added t.hand t.top hid.off t.label d v ≡ added t.hand t.top hid.off t.label t.delta v +ℤ
       weight_change (label_at t.label (out_of t.hand t.top v)) s
@@ -89,11 +88,11 @@ module _ (t : ForestTables) (hid : HiddenTables) (tied : AreTied t hid) (g : Wei
   -- The tie after a shift.
   pub tied_shift : AreTied (record t { delta = d }) hid
   tied_shift = record {
-    sizes = sizes_kept t hid tied.sizes d t.root t.trail hid.touched hid.room tied.sizes.touched (omega arith);
+    sizes = sizes_kept tied.sizes d t.root t.trail hid.touched hid.room tied.sizes.touched (omega arith);
     nest = tied.nest;
     numbers = record {
       potentials = potentials;
-      small = λ b. subst (λ (f : Forest). unsigned_abs (f.weight b) ≤ 2 ^ 62) (sym (seen_shift t s d d_is)) (small b);
+      small = λ b. subst (λ (f : Forest). unsigned_abs (f.weight b) ≤ 2 ^ 62) (sym (seen_shift t s d_is)) (small b);
       start = tied.numbers.start;
       small_start = tied.numbers.small_start;
       moved = λ v lv. omega (
@@ -121,39 +120,39 @@ module _ (t : ForestTables) (hid : HiddenTables) (tied : AreTied t hid) (g : Wei
           ≡ told hid.q t.hand t.top hid.off t.label d v
       potentials v lv =
           let p : potential (forest_of (record t { delta = d })) v ≡ potential (shifted (forest_of t) s) v =
-          ap (λ (f : Forest). potential f v) (seen_shift t s d d_is) in
+          ap (λ (f : Forest). potential f v) (seen_shift t s d_is) in
           let h : potential (shifted (forest_of t) s) v ≡ potential (forest_of t) v +ℤ weight_change
           (label_at t.label (out_of t.hand t.top v)) s =
-          potential_shifted g.n (forest_of t) valid.valid.outermost s v (subst (λ n. v < n) valid.vertices lv) in
+          potential_shifted valid.valid.outermost s v (subst (λ n. v < n) valid.vertices lv) in
           omega (arith, ints, p, h, tied.numbers.potentials v lv, added_is v)
 
 -- The forest is valid after a shift whose end is feasible.
-pub valid_shift : (t u : ForestTables) (g : WeightedGraph) (s : ℤ) → IsGraph g → IsValidFor g t
+pub valid_shift : {t : ForestTables} (u : ForestTables) {g : WeightedGraph} (s : ℤ) → IsGraph g → IsValidFor g t
     → IsFeasible (darts_of g) (shifted (forest_of t) s) → forest_of u ≡ shifted (forest_of t) s → u.hand ≡ t.hand
     → u.root ≡ t.root → fixed_of u ≡ fixed_of t → IsValidFor g u
-valid_shift t u g s is valid feasible seen hand root fixed = record {
+valid_shift {t} u {g} s is valid feasible seen hand root fixed = record {
   vertices = ap length hand ∙ valid.vertices;
-  darts = darts_kept g t u valid fixed;
-  ends = ends_kept g t u valid fixed;
-  room = room_kept g t u valid fixed;
+  darts = darts_kept u valid fixed;
+  ends = ends_kept u valid fixed;
+  room = room_kept u valid fixed;
   valid = subst (λ (f : Forest). IsValid (darts_of g) f u.root) (sym seen)
       (subst (λ (o : Option ℕ). IsValid (darts_of g) (shifted (forest_of t) s) o) (sym root)
-      (shift_valid (darts_of g) (are_darts g is) (forest_of t) t.root valid.valid s feasible));
+      (shift_valid (are_darts is) valid.valid s feasible));
 }
 
 -- The forest is valid after a blossom has become the root.
-pub valid_rooted : (t u : ForestTables) (g : WeightedGraph) → IsGraph g → IsValidFor g t → (v : ℕ) → v < length t.hand
-    → t.root ≡ None → (forest_of t).mate ((forest_of t).out v) ≡ None
-    → forest_of u ≡ rooted (forest_of t) ((forest_of t).out v) → u.hand ≡ t.hand → u.root ≡ Some ((forest_of t).out v)
-    → fixed_of u ≡ fixed_of t → IsValidFor g u
-valid_rooted t u g is valid v low none free seen hand root fixed = record {
+pub valid_rooted : {t : ForestTables} (u : ForestTables) {g : WeightedGraph} → IsGraph g → IsValidFor g t → (v : ℕ)
+    → v < length t.hand → t.root ≡ None → (forest_of t).mate ((forest_of t).out v) ≡ None → forest_of u
+    ≡ rooted (forest_of t) ((forest_of t).out v) → u.hand ≡ t.hand → u.root ≡ Some ((forest_of t).out v) → fixed_of u
+    ≡ fixed_of t → IsValidFor g u
+valid_rooted {t} u {g} is valid v low none free seen hand root fixed = record {
   vertices = ap length hand ∙ valid.vertices;
-  darts = darts_kept g t u valid fixed;
-  ends = ends_kept g t u valid fixed;
-  room = room_kept g t u valid fixed;
+  darts = darts_kept u valid fixed;
+  ends = ends_kept u valid fixed;
+  room = room_kept u valid fixed;
   valid = subst (λ (f : Forest). IsValid (darts_of g) f u.root) (sym seen)
       (subst (λ (o : Option ℕ). IsValid (darts_of g) (rooted (forest_of t) ((forest_of t).out v)) o) (sym root)
-      (rooted_valid (darts_of g) (are_darts g is) (forest_of t)
+      (rooted_valid (are_darts is)
       (subst (λ (o : Option ℕ). IsValid (darts_of g) (forest_of t) o) none valid.valid) ((forest_of t).out v) (
         v,
         subst (λ n. v < n) valid.vertices low,
@@ -171,6 +170,6 @@ none_of None e = refl
 none_of (Some r) e = absurd (cc e)
 
 -- The forest sees the shift, of tables that are tied.
-pub seen_shift_tied : (t : ForestTables) (hid : HiddenTables) → AreTied t hid → (s d : ℤ) → d ≡ t.delta +ℤ s
+pub seen_shift_tied : {t : ForestTables} {hid : HiddenTables} → AreTied t hid → (s d : ℤ) → d ≡ t.delta +ℤ s
     → forest_of (record t { delta = d }) ≡ shifted (forest_of t) s
-seen_shift_tied t hid tied s d e = seen_shift t s d e
+seen_shift_tied {t} tied s d e = seen_shift t s e

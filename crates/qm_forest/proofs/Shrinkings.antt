@@ -1,7 +1,7 @@
 -- Shrinking, step by step: the ring that is laid is a cycle of the tree, and what comes of it is one blossom.
 use Rattle.std.proofs.Common.{◌≡◌, ◌≢◌, ℕ, suc, ◌+◌, ◌-◌, ◌*◌, ◌<◌, ◌≤◌, Bool, true, false, cond, eqb, length, get_or}
 use Rattle.std.proofs.Common.{ℤ, ◌⊎◌, Option, Some, None, refl, sym, ◌∙◌, ap, subst, inl, inr, arith}
-use Rattle.std.proofs.lemmas.Bool.{cases_eq, cases_lt, cases_Bool, cond-true, eq-eqb}
+use Rattle.std.proofs.lemmas.Bool.{cases_eq, cases_lt, cond-true, eq-eqb}
 use Rattle.def_math.specs.Counts.{count_below}
 use Rattle.def_matching.specs.Matching.{WeightedGraph, IsSmallGraph}
 use Rattle.def_forest.specs.Darts.{Darts, AreDarts, darts_of, far}
@@ -21,7 +21,7 @@ use Rattle.forest_laws.proofs.Levels.{way_differs}
 use Rattle.forest_laws.proofs.Odds.{IsBlossom}
 use Rattle.forest_laws.proofs.Rooms.{sets_few}
 use Rattle.forest_laws.proofs.ShrunkTrees.{shrunk_valid}
-use Rattle.forest_laws.proofs.Walks.{listed_at, listed_place, writes_all}
+use Rattle.forest_laws.proofs.Walks.{listed_at, writes_all}
 use Rattle.forest_laws.proofs.Writes.{label_cases, outer_named, set_here, set_there}
 use Rattle.qm_forest.specs.Gathers.{IsFreeRing, IsGathered, live_sets}
 use Rattle.qm_forest.proofs.OnWays.{darts_kept, ends_kept, room_kept}
@@ -50,13 +50,13 @@ module _ (g : WeightedGraph) (is : IsSmallGraph g) (t0 : ForestTables) (valid : 
   c = (forest_of t0).out (far (darts_of g) start)
 
   are : AreDarts (darts_of g)
-  are = are_darts g is.lawful
+  are = are_darts is.lawful
 
   named_a : f.label a ≢ Outside
-  named_a = outer_named (f.label a) outer_a
+  named_a = outer_named outer_a
 
   named_c : f.label c ≢ Outside
-  named_c = outer_named (f.label c) outer_c
+  named_c = outer_named outer_c
 
   pub tree_is : (r : ℕ) × (t0.root ≡ Some r) × IsTree (darts_of g) (forest_of t0) r
   tree_is = the_tree g is t0 valid a named_a
@@ -71,10 +71,10 @@ module _ (g : WeightedGraph) (is : IsSmallGraph g) (t0 : ForestTables) (valid : 
   at = ring_at d f a c left
 
   left_is : (k : ℕ) → k ≤ left → at k ≡ way_of d f a (left - k)
-  left_is = at_left d are f tree_is.0 whole tree_is.2 a c named_a named_c top left right met outer_a outer_c
+  left_is = at_left are whole tree_is.2 a c named_a named_c top left right met outer_a outer_c
 
   right_is : (k m : ℕ) → k ≡ left + 1 + m → at k ≡ way_of d f c m
-  right_is = at_right d are f tree_is.0 whole tree_is.2 a c named_a named_c top left right met outer_a outer_c
+  right_is = at_right are whole tree_is.2 a c named_a named_c top left right met outer_a outer_c
 
   -- The two ways differ but for where they meet.
   ways_differ : (i m : ℕ) → i ≤ left → m < right → way_of d f c m ≢ way_of d f a i
@@ -83,14 +83,12 @@ module _ (g : WeightedGraph) (is : IsSmallGraph g) (t0 : ForestTables) (valid : 
       omega (arith, h, lm))
 
   left_differs : (i j : ℕ) → i < j → j ≤ left → way_of d f a i ≢ way_of d f a j
-  left_differs i j lij lj e =
-      (let s : i ≡ j = way_differs d are f tree_is.0 whole tree_is.2 a i j named_a (omega (arith, lij, lj, met.x_low))
-      (omega (arith, lj, met.x_low)) e in omega (arith, s, lij))
+  left_differs i j lij lj e = (let s : i ≡ j = way_differs are whole tree_is.2 a i j named_a
+      (omega (arith, lij, lj, met.x_low)) (omega (arith, lj, met.x_low)) e in omega (arith, s, lij))
 
   right_differs : (i j : ℕ) → i < j → j < right → way_of d f c i ≢ way_of d f c j
-  right_differs i j lij lj e =
-      (let s : i ≡ j = way_differs d are f tree_is.0 whole tree_is.2 c i j named_c (omega (arith, lij, lj, met.y_low))
-      (omega (arith, lj, met.y_low)) e in omega (arith, s, lij))
+  right_differs i j lij lj e = (let s : i ≡ j = way_differs are whole tree_is.2 c i j named_c
+      (omega (arith, lij, lj, met.y_low)) (omega (arith, lj, met.y_low)) e in omega (arith, s, lij))
 
   -- The ring is one of two ways, along which its tables are written.
   ways : IsForked (way_of d f a) (way_of d f c) at left right
@@ -112,16 +110,14 @@ module _ (g : WeightedGraph) (is : IsSmallGraph g) (t0 : ForestTables) (valid : 
   after_at k l = by_place (cases_lt k left) (cases_eq k left)
     where
       by_place : (k < left) ⊎ (left ≤ k) → (k ≡ left) ⊎ (k ≢ left) → after (at k) ≡ at (suc k)
-      by_place (inl lk) x = lain_left (way_of d f a) (way_of d f c) at left right ways f.nest.after (way_of d f a) c
+      by_place (inl lk) x = lain_left ways f.nest.after (way_of d f a) c
           (λ i. way_of d f c (suc i)) k lk ∙ (let s : left - k - 1 ≡ left - suc k = omega (arith, lk) in
           ap (way_of d f a) s ∙ sym (left_is (suc k) (omega (arith, lk))))
-      by_place (inr h) (inl e) = ap (λ j. after (at j)) e
-          ∙ (lain_over (way_of d f a) (way_of d f c) at left right ways f.nest.after (way_of d f a) c
+      by_place (inr h) (inl e) = ap (λ j. after (at j)) e ∙ (lain_over ways f.nest.after (way_of d f a) c
           (λ i. way_of d f c (suc i)) ∙ sym (right_is (suc k) 0 (omega (arith, e))))
       by_place (inr h) (inr ne) = (let m : k ≡ left + 1 + (k - left - 1) = omega (arith, h, ne) in
-          lain_right (way_of d f a) (way_of d f c) at left right ways f.nest.after (way_of d f a) c
-          (λ i. way_of d f c (suc i)) k (k - left - 1) m (omega (arith, h, ne, l))
-          ∙ sym (right_is (suc k) (suc (k - left - 1)) (omega (arith, h, ne))))
+          lain_right ways f.nest.after (way_of d f a) c (λ i. way_of d f c (suc i)) (k - left - 1) m
+          (omega (arith, h, ne, l)) ∙ sym (right_is (suc k) (suc (k - left - 1)) (omega (arith, h, ne))))
 
   joint_at : (k : ℕ) → k < left + right + 1 → joint (at k) ≡ ring_dart d f a c left start k
   joint_at k l = by_place (cases_lt k left) (cases_eq k left)
@@ -130,51 +126,47 @@ module _ (g : WeightedGraph) (is : IsSmallGraph g) (t0 : ForestTables) (valid : 
       downs i = d.twin (dart_or (rise_of f (way_of d f a i)))
 
       by_place : (k < left) ⊎ (left ≤ k) → (k ≡ left) ⊎ (k ≢ left) → joint (at k) ≡ ring_dart d f a c left start k
-      by_place (inl lk) x = lain_left (way_of d f a) (way_of d f c) at left right ways f.nest.joint
-          (λ i. d.twin (dart_or (rise_of f (way_of d f a i)))) start (λ i. dart_or (rise_of f (way_of d f c i))) k lk
-          ∙ sym (dart_left d are f tree_is.0 whole tree_is.2 a c named_a named_c top left right met outer_a outer_c
-          start tight refl refl k lk)
-      by_place (inr h) (inl e) = ap (λ j. joint (at j)) e
-          ∙ (lain_over (way_of d f a) (way_of d f c) at left right ways f.nest.joint
+      by_place (inl lk) x = lain_left ways f.nest.joint (λ i. d.twin (dart_or (rise_of f (way_of d f a i)))) start
+          (λ i. dart_or (rise_of f (way_of d f c i))) k lk ∙ sym (dart_left are whole tree_is.2 a c named_a named_c top
+          left right met outer_a outer_c tight refl refl k lk)
+      by_place (inr h) (inl e) = ap (λ j. joint (at j)) e ∙ (lain_over ways f.nest.joint
           (λ i. d.twin (dart_or (rise_of f (way_of d f a i)))) start (λ i. dart_or (rise_of f (way_of d f c i)))
-          ∙ sym (dart_over d are f tree_is.0 whole tree_is.2 a c named_a named_c top left right met outer_a outer_c
-          start tight refl refl k e))
+          ∙ sym (dart_over are whole tree_is.2 a c named_a named_c top left right met outer_a outer_c tight refl refl
+          e))
       by_place (inr h) (inr ne) = (let m : k ≡ left + 1 + (k - left - 1) = omega (arith, h, ne) in
-          lain_right (way_of d f a) (way_of d f c) at left right ways f.nest.joint
-          (λ i. d.twin (dart_or (rise_of f (way_of d f a i)))) start (λ i. dart_or (rise_of f (way_of d f c i))) k
-          (k - left - 1) m (omega (arith, h, ne, l))
-          ∙ sym (dart_right d are f tree_is.0 whole tree_is.2 a c named_a named_c top left right met outer_a outer_c
-          start tight refl refl k (k - left - 1) m))
+          lain_right ways f.nest.joint (λ i. d.twin (dart_or (rise_of f (way_of d f a i)))) start
+          (λ i. dart_or (rise_of f (way_of d f c i))) (k - left - 1) m (omega (arith, h, ne, l))
+          ∙ sym (dart_right are whole tree_is.2 a c named_a named_c top left right met outer_a outer_c tight refl refl
+          (k - left - 1) m))
 
   abbrev pub inside : ℕ → Bool
   inside = listed after top many
 
   pub ring_is : IsClosedRow (darts_of g) (forest_of t0) after joint inside top many
-  ring_is = closed_row d are f tree_is.0 whole tree_is.2 a c named_a named_c top left right met outer_a outer_c start
+  ring_is = closed_row are whole tree_is.2 a c named_a named_c top left right met outer_a outer_c
       tight refl refl after joint after_at joint_at apart
 
   pub cycle_is : IsCycle (darts_of g) (forest_of t0) tree_is.0 tree_is.2.depth inside top
-  cycle_is = ring_cycle d are f tree_is.0 whole tree_is.2 a c named_a named_c top left right met outer_a outer_c start
+  cycle_is = ring_cycle are whole tree_is.2 a c named_a named_c top left right met outer_a outer_c
       tight refl refl after joint after_at joint_at apart
 
   walk_at : (k : ℕ) → k ≤ many → walk after top k ≡ at k
-  walk_at = walks d are f tree_is.0 whole tree_is.2 a c named_a named_c top left right met outer_a outer_c start tight
+  walk_at = walks are whole tree_is.2 a c named_a named_c top left right met outer_a outer_c tight
       refl refl after joint after_at joint_at apart
 
   walk_named : (k : ℕ) → k < many → f.label (walk after top k) ≢ Outside
   walk_named k l = subst (λ x. f.label x ≢ Outside) (sym (walk_at k (omega (arith, l))))
-      (at_named d are f tree_is.0 whole tree_is.2 a c named_a named_c top left right met outer_a outer_c k l)
+      (at_named are whole tree_is.2 a c named_a named_c top left right met outer_a outer_c k l)
 
   after_off : (x : ℕ) → inside x ≡ false → after x ≡ f.nest.after x
-  after_off x off = lain_off (way_of d f a) (way_of d f c) at left right ways f.nest.after (way_of d f a) c
-      (λ i. way_of d f c (suc i)) x
+  after_off x off = lain_off ways f.nest.after (way_of d f a) c (λ i. way_of d f c (suc i)) x
       (λ k l e. clash (sym off ∙ (ap inside (sym (walk_at k (omega (arith, l)) ∙ e)) ∙ listed_at after top many k l)))
     where
       clash : false ≡ true → ⊥
       clash e = cc
 
   joint_off : (x : ℕ) → inside x ≡ false → joint x ≡ f.nest.joint x
-  joint_off x off = lain_off (way_of d f a) (way_of d f c) at left right ways f.nest.joint
+  joint_off x off = lain_off ways f.nest.joint
       (λ i. d.twin (dart_or (rise_of f (way_of d f a i)))) start (λ i. dart_or (rise_of f (way_of d f c i))) x
       (λ k l e. clash (sym off ∙ (ap inside (sym (walk_at k (omega (arith, l)) ∙ e)) ∙ listed_at after top many k l)))
     where
@@ -201,13 +193,11 @@ module _ (g : WeightedGraph) (is : IsSmallGraph g) (t0 : ForestTables) (valid : 
       by_vertex : IsOutermost g.n (forest_of t0) (walk after top k) → (walk after top k < g.n)
           ⊎ (g.n ≤ walk after top k) → IsBlossom (darts_of g) (forest_of t0) (walk after top k)
       by_vertex w (inl low) = inl low
-      by_vertex w (inr high) =
-          inr (
-            high,
-            (λ none. clash (sym (valid.valid.nested.empty (walk after top k) w.0 high w.1 none)
-                ∙ (ap (λ x. f.holds x w.0) (sym w.2) ∙ (valid.valid.outermost.held w.0 w.0 w.1 w.1
-                ∙ same (f.out w.0))))),
-          )
+      by_vertex w (inr high) = inr (
+        high,
+        (λ none. clash (sym (valid.valid.nested.empty (walk after top k) w.0 high w.1 none)
+            ∙ (ap (λ x. f.holds x w.0) (sym w.2) ∙ (valid.valid.outermost.held w.0 w.0 w.1 w.1 ∙ same (f.out w.0))))),
+      )
         where
           clash : false ≡ true → ⊥
           clash e = cc
@@ -217,25 +207,22 @@ module _ (g : WeightedGraph) (is : IsSmallGraph g) (t0 : ForestTables) (valid : 
 
   -- The top is in the tree.
   pub top_low : top < length t0.up
-  top_low = named_low g is t0 valid top
-      (outer_named (f.label top) (top_outer d are f tree_is.0 whole tree_is.2 a c named_a named_c top left right met
-      outer_a outer_c))
+  top_low = named_low g is t0 valid top (outer_named (top_outer are whole tree_is.2 a c named_a named_c
+      top left right met outer_a outer_c))
 
   three_many : 3 ≤ many
   three_many = omega (arith, ring_is.odd, ring_is.some)
 
   pub room_is : 2 * live_sets t0 + 3 ≤ length t0.hand
   room_is = subst (λ n. 2 * count_below (live_at n (forest_of t0).nest.parts) (length t0.up) + 3 ≤ n)
-      (sym valid.vertices)
-      (sets_few (darts_of g) are (forest_of t0) valid.valid.nested valid.valid.outermost.vertices (spot 0) (spot 1)
-      (spot 2) (spot_low 0 (omega (arith, three_many))) (spot_low 1 (omega (arith, three_many)))
-      (spot_low 2 (omega (arith, three_many)))
-      (ring_is.distinct 0 1 (omega arith) (omega (arith, three_many)))
+      (sym valid.vertices) (sets_few (darts_of g) are (forest_of t0) valid.valid.nested valid.valid.outermost.vertices
+      (spot 0) (spot 1) (spot 2) (spot_low 0 (omega (arith, three_many))) (spot_low 1 (omega (arith, three_many)))
+      (spot_low 2 (omega (arith, three_many))) (ring_is.distinct 0 1 (omega arith) (omega (arith, three_many)))
       (ring_is.distinct 0 2 (omega arith) (omega (arith, three_many)))
-      (ring_is.distinct 1 2 (omega arith) (omega (arith, three_many)))
-      (spot_top 0 (omega (arith, three_many))) (spot_top 1 (omega (arith, three_many)))
-      (spot_top 2 (omega (arith, three_many))) (spot_used 0 (omega (arith, three_many)))
-      (spot_used 1 (omega (arith, three_many))) (spot_used 2 (omega (arith, three_many))))
+      (ring_is.distinct 1 2 (omega arith) (omega (arith, three_many))) (spot_top 0 (omega (arith, three_many)))
+      (spot_top 1 (omega (arith, three_many))) (spot_top 2 (omega (arith, three_many)))
+      (spot_used 0 (omega (arith, three_many))) (spot_used 1 (omega (arith, three_many)))
+      (spot_used 2 (omega (arith, three_many))))
 
   -- The ring that is laid is one of outermost blossoms.
   pub tops_laid : (t1 : ForestTables) → forest_of t1 ≡ laid_ring (darts_of g) (forest_of t0) start left right
@@ -279,16 +266,13 @@ module _ (g : WeightedGraph) (is : IsSmallGraph g) (t0 : ForestTables) (valid : 
         (w.0, subst (λ n. w.0 < n) (sym (ap length hand_same ∙ valid.vertices)) w.1, out_same w.0 ∙ w.2))
 
     label_is : (x : ℕ) → (forest_of t2).label x ≡ cond (inside x) Outside (f.label x)
-    label_is x =
-        ap (λ (y : Forest). y.label x) gone
-        ∙ (writes_all (forest_of t1).label (forest_of t1).nest.after top many Outside x
-        ∙ (ap (λ (h : ℕ → ℕ). cond (listed h top many x) Outside ((forest_of t1).label x)) after_laid
+    label_is x = ap (λ (y : Forest). y.label x) gone ∙ (writes_all (forest_of t1).label (forest_of t1).nest.after top
+        many Outside x ∙ (ap (λ (h : ℕ → ℕ). cond (listed h top many x) Outside ((forest_of t1).label x)) after_laid
         ∙ ap (λ (y : Forest). cond (inside x) Outside (y.label x)) laid))
 
     mate_is : (x : ℕ) → (forest_of t2).mate x ≡ cond (inside x) None (f.mate x)
-    mate_is x =
-        ap (λ (y : Forest). y.mate x) gone ∙ (writes_all (forest_of t1).mate (forest_of t1).nest.after top many None x
-        ∙ (ap (λ (h : ℕ → ℕ). cond (listed h top many x) None ((forest_of t1).mate x)) after_laid
+    mate_is x = ap (λ (y : Forest). y.mate x) gone ∙ (writes_all (forest_of t1).mate (forest_of t1).nest.after top many
+        None x ∙ (ap (λ (h : ℕ → ℕ). cond (listed h top many x) None ((forest_of t1).mate x)) after_laid
         ∙ ap (λ (y : Forest). cond (inside x) None (y.mate x)) laid))
 
     spot_is : (k : ℕ) → walk (λ i. get_or t2.after i 0) top k ≡ walk after top k
@@ -306,20 +290,18 @@ module _ (g : WeightedGraph) (is : IsSmallGraph g) (t0 : ForestTables) (valid : 
       two = omega (arith, three_many);
       tops = λ k l. subst (λ x. IsOutermostIn t2 x) (sym (spot_is k))
           (outermost_same (walk after top k) (walk_named k l));
-      outside = λ k l. ap (label_at t2.label) (spot_is k)
-          ∙ (label_is (walk after top k) ∙ cond-true (inside (walk after top k)) Outside (f.label (walk after top k))
-          (listed_at after top many k l));
+      outside = λ k l. ap (label_at t2.label) (spot_is k) ∙ (label_is (walk after top k)
+          ∙ cond-true (inside (walk after top k)) Outside (f.label (walk after top k)) (listed_at after top many k l));
       weightless = λ x high none. ap (λ (y : Forest). y.weight x) gone
           ∙ (ap (λ (y : Forest). y.weight x) laid
           ∙ valid.valid.nested.weightless x (subst (λ n. n ≤ x) (ap length hand_same ∙ valid.vertices) high)
           (ap (λ xs. get_or xs x 0) (sym parts_same) ∙ none));
-      room = subst (λ xs. 2 * count_below (live_at (length xs) (λ i. get_or t2.parts i 0)) (length t2.up) + 3
-          ≤ length xs) (sym hand_same)
-          (subst (λ xs. 2 * count_below (live_at (length t0.hand) (λ i. get_or xs i 0)) (length t2.up) + 3
-          ≤ length t0.hand) (sym parts_same)
-          (subst (λ xs. 2 * count_below (live_at (length t0.hand) (λ i. get_or t0.parts i 0)) (length xs) + 3
-          ≤ length t0.hand) (sym up_same) room_is));
-      root = λ r e. outermost_same r (outer_named (f.label r) (valid.valid.tree r (sym root_same ∙ e)).root_outer);
+      room = subst (λ xs. 2 * count_below (live_at (length xs) (λ i. get_or t2.parts i 0)) (length t2.up) + 3 ≤ length
+          xs) (sym hand_same) (subst (λ xs. 2 * count_below (live_at (length t0.hand) (λ i. get_or xs i 0))
+          (length t2.up) + 3 ≤ length t0.hand) (sym parts_same) (subst (λ xs. 2 * count_below
+          (live_at (length t0.hand) (λ i. get_or t0.parts i 0)) (length xs) + 3 ≤ length t0.hand) (sym up_same)
+          room_is));
+      root = λ r e. outermost_same r (outer_named (valid.valid.tree r (sym root_same ∙ e)).root_outer);
     }
 
     -- And what has come of it is one outer blossom, matched as the top was.
@@ -336,16 +318,6 @@ module _ (g : WeightedGraph) (is : IsSmallGraph g) (t0 : ForestTables) (valid : 
       done_b : forest_of t5 ≡ mated (labelled (forest_of t3) b Outer) b mate
       done_b = done ∙ ap (λ x. mated (labelled (forest_of t3) x Outer) b mate) v_is
 
-      b_off : inside b ≡ false
-      b_off = elim (cases_Bool (inside b)) [
-        | inl on ↦ absurd (marked_out (listed_place after top many b on))
-        | inr off ↦ off
-      ]
-        where
-          marked_out : (k : ℕ) × (k < many) × (walk after top k ≡ b) → ⊥
-          marked_out w = (let o : IsOutermostIn t2 (walk after top w.0) =
-              outermost_same (walk after top w.0) (walk_named w.0 w.1) in gathered.no_out o.0 o.1 (o.2 ∙ w.2))
-
       up_old : (x : ℕ) → (forest_of t2).nest.up x ≡ f.nest.up x
       up_old x = ap (λ (y : Forest). y.nest.up x) gone ∙ ap (λ (y : Forest). y.nest.up x) laid
 
@@ -358,17 +330,14 @@ module _ (g : WeightedGraph) (is : IsSmallGraph g) (t0 : ForestTables) (valid : 
         holds_old = λ x u ne l. ap (λ (y : Forest). y.holds x u) done_b
             ∙ (gathered.holds_old x u ne (low u l)
             ∙ (ap (λ (y : Forest). y.holds x u) gone ∙ ap (λ (y : Forest). y.holds x u) laid));
-        out = λ u l. ap (λ (y : Forest). y.out u) done_b
-            ∙ (gathered.out u (low u l)
+        out = λ u l. ap (λ (y : Forest). y.out u) done_b ∙ (gathered.out u (low u l)
             ∙ (ap (λ (s : Bool). cond s b ((forest_of t2).out u)) (marks ((forest_of t2).out u))
             ∙ ap (λ x. cond (inside x) b x) (out_same u)));
-        weight = λ x. ap (λ (y : Forest). y.weight x) done_b
-            ∙ (ap (λ (h : ℕ → ℤ). h x) gathered.weight
+        weight = λ x. ap (λ (y : Forest). y.weight x) done_b ∙ (ap (λ (h : ℕ → ℤ). h x) gathered.weight
             ∙ (ap (λ (y : Forest). y.weight x) gone ∙ ap (λ (y : Forest). y.weight x) laid));
         label = λ x. ap (λ (y : Forest). y.label x) done_b ∙ label_new x (cases_eq x b);
         mate = λ x. ap (λ (y : Forest). y.mate x) done_b ∙ mate_new x (cases_eq x b);
-        link = λ x. ap (λ (y : Forest). y.link x) done_b
-            ∙ (ap (λ (h : ℕ → ℕ). h x) gathered.link
+        link = λ x. ap (λ (y : Forest). y.link x) done_b ∙ (ap (λ (h : ℕ → ℕ). h x) gathered.link
             ∙ (ap (λ (y : Forest). y.link x) gone ∙ ap (λ (y : Forest). y.link x) laid));
         up = λ x. ap (λ (y : Forest). y.nest.up x) done_b ∙ (gathered.up x ∙ up_new x (cases_eq x b));
         after = λ x off. ap (λ (y : Forest). y.nest.after x) done_b ∙ (after_new x ∙ after_off x off);
@@ -379,9 +348,8 @@ module _ (g : WeightedGraph) (is : IsSmallGraph g) (t0 : ForestTables) (valid : 
         parts = λ x. ap (λ (y : Forest). y.nest.parts x) done_b
             ∙ (gathered.parts x ∙ ap (λ (h : ℕ → ℕ). set_at h b many x) (ap (λ (y : Forest). y.nest.parts) gone
             ∙ ap (λ (y : Forest). y.nest.parts) laid));
-        rank = λ x ne. ap (λ (y : Forest). y.nest.rank x) done_b
-            ∙ (gathered.rank x ne ∙ (ap (λ (y : Forest). y.nest.rank x) gone
-            ∙ ap (λ (y : Forest). y.nest.rank x) laid));
+        rank = λ x ne. ap (λ (y : Forest). y.nest.rank x) done_b ∙ (gathered.rank x ne
+            ∙ (ap (λ (y : Forest). y.nest.rank x) gone ∙ ap (λ (y : Forest). y.nest.rank x) laid));
         ranked = λ x on. subst (λ m. f.nest.rank x < m) (sym (ap (λ (y : Forest). y.nest.rank b) done_b))
             (subst (λ m. m < (forest_of t3).nest.rank b) (ap (λ (y : Forest). y.nest.rank x) gone
             ∙ ap (λ (y : Forest). y.nest.rank x) laid) (gathered.ranked x (marks x ∙ on)));
@@ -410,13 +378,11 @@ module _ (g : WeightedGraph) (is : IsSmallGraph g) (t0 : ForestTables) (valid : 
               ∙ (ap (λ (h : ℕ → Option ℕ). h x) gathered.mate
               ∙ (mate_is x ∙ sym (set_there (λ y. cond (inside y) None (f.mate y)) b x (f.mate top) ne)))
 
-          up_new : (x : ℕ) → (x ≡ b) ⊎ (x ≢ b)
-              → set_at (λ y. cond (listed (λ i. get_or t2.after i 0) top many y) b ((forest_of t2).nest.up y)) b b x
-              ≡ set_at (λ y. cond (inside y) b (f.nest.up y)) b b x
+          up_new : (x : ℕ) → (x ≡ b) ⊎ (x ≢ b) → set_at (λ y. cond (listed (λ i. get_or t2.after i 0) top many y) b
+              ((forest_of t2).nest.up y)) b b x ≡ set_at (λ y. cond (inside y) b (f.nest.up y)) b b x
           up_new x (inl e) = ap (set_at (λ y. cond (listed (λ i. get_or t2.after i 0) top many y) b
-              ((forest_of t2).nest.up y)) b b) e
-              ∙ (set_here (λ y. cond (listed (λ i. get_or t2.after i 0) top many y) b ((forest_of t2).nest.up y)) b b
-              ∙ sym (ap (set_at (λ y. cond (inside y) b (f.nest.up y)) b b) e
+              ((forest_of t2).nest.up y)) b b) e ∙ (set_here (λ y. cond (listed (λ i. get_or t2.after i 0) top many y) b
+              ((forest_of t2).nest.up y)) b b ∙ sym (ap (set_at (λ y. cond (inside y) b (f.nest.up y)) b b) e
               ∙ set_here (λ y. cond (inside y) b (f.nest.up y)) b b))
           up_new x (inr ne) =
               set_there (λ y. cond (listed (λ i. get_or t2.after i 0) top many y) b ((forest_of t2).nest.up y)) b x b ne
@@ -431,8 +397,8 @@ module _ (g : WeightedGraph) (is : IsSmallGraph g) (t0 : ForestTables) (valid : 
           joint_new x = ap (λ (h : ℕ → ℕ). h x) gathered.joint
               ∙ (ap (λ (y : Forest). y.nest.joint x) gone ∙ ap (λ (y : Forest). y.nest.joint x) laid)
 
-    module _ (t5 : ForestTables) (mate : Option ℕ) (mate_was : mate ≡ (forest_of t0).mate top) (t3 : ForestTables)
-        (b v : ℕ) (gathered : IsGathered (length t2.hand) (forest_of t2) (forest_of t3)
+    module _ (t5 : ForestTables) {mate : Option ℕ} (mate_was : mate ≡ (forest_of t0).mate top) (t3 : ForestTables)
+        {b : ℕ} (v : ℕ) (gathered : IsGathered (length t2.hand) (forest_of t2) (forest_of t3)
         (listed (λ i. get_or t2.after i 0) top (left + right + 1)) top (left + right + 1) b)
         (v_is : (forest_of t3).out v ≡ b) (done : forest_of t5
         ≡ mated (labelled (forest_of t3) ((forest_of t3).out v) Outer) b mate) (root : (r : ℕ) → t1.root ≡ Some r
@@ -527,11 +493,10 @@ module _ (g : WeightedGraph) (is : IsSmallGraph g) (t0 : ForestTables) (valid : 
       -- And the forest is valid.
       pub shrunk_tables : fixed_of t5 ≡ fixed_of t1 → IsValidFor g t5
       shrunk_tables fixed = record {
-        darts = darts_kept g t0 t5 valid (fixed ∙ ap fixed_of alike);
-        ends = ends_kept g t0 t5 valid (fixed ∙ ap fixed_of alike);
-        room = room_kept g t0 t5 valid (fixed ∙ ap fixed_of alike);
+        darts = darts_kept t5 valid (fixed ∙ ap fixed_of alike);
+        ends = ends_kept t5 valid (fixed ∙ ap fixed_of alike);
+        room = room_kept t5 valid (fixed ∙ ap fixed_of alike);
         vertices = hand ∙ (ap (λ (t : ForestTables). length t.hand) alike ∙ valid.vertices);
         valid = subst (λ (o : Option ℕ). IsValid (darts_of g) (forest_of t5) o) (sym new_root)
-            (shrunk_valid (darts_of g) are (forest_of t0) tree_is.0 whole tree_is.2 (forest_of t5) inside top b top
-            (left + right + 1) cycle_is unused row_is shrunk_is);
+            (shrunk_valid are whole tree_is.2 cycle_is unused row_is shrunk_is);
       }

@@ -22,20 +22,18 @@ pub entry_set : {X : Type 0} (xs : List X) (k : ℕ) (x d : X) → k < length xs
 entry_set xs k x d low i j = at j (cases_eq j k) i
   where
     at : (j : ℕ) → (j ≡ k) ⊎ (j ≢ k) → get_or (set xs k x) j d ≡ set_at (λ n. get_or xs n d) k x j
-    at j (inl e) = ap (λ n. get_or (set xs k x) n d) e
-        ∙ (get_or-set_same xs k x d low ∙ sym (ap (set_at (λ n. get_or xs n d) k x) e
-        ∙ set_here (λ n. get_or xs n d) k x))
+    at j (inl e) = ap (λ n. get_or (set xs k x) n d) e ∙ (get_or-set_same xs k x d low
+        ∙ sym (ap (set_at (λ n. get_or xs n d) k x) e ∙ set_here (λ n. get_or xs n d) k x))
     at j (inr ne) = get_or-set_other xs k j x d ne ∙ sym (set_there (λ n. get_or xs n d) k j x ne)
 
 -- The tables are as long as they were where only the number of the shifts, the root and the trail differ.
-pub sizes_kept : (t : ForestTables) (hid : HiddenTables) → HasSizes t hid
+pub sizes_kept : {t : ForestTables} {hid : HiddenTables} → HasSizes t hid
     → (d : ℤ) (r : Option ℕ) (trail : List ℕ) (marks : List Bool) (room : ℕ) → length marks ≡ length t.hand
     → hid.room ≤ room → HasSizes (record t { delta = d; root = r; trail = trail }) (record hid {
       touched = marks;
-      room =
-          room;
+      room = room;
     })
-sizes_kept t hid s d r trail marks room size more = record {
+sizes_kept s d r trail marks room size more = record {
   few = s.few;
   vertices = s.vertices;
   top = s.top;
@@ -59,9 +57,9 @@ sizes_kept t hid s d r trail marks room size more = record {
 }
 
 -- The forest sees a mate that is written, and a link.
-pub seen_mate : (t : ForestTables) (hid : HiddenTables) → AreTied t hid → (b : ℕ) (m : Option ℕ) → b < length t.up
+pub seen_mate : {t : ForestTables} {hid : HiddenTables} → AreTied t hid → (b : ℕ) (m : Option ℕ) → b < length t.up
     → forest_of (record t { mate = set t.mate b m }) ≡ mated (forest_of t) b m
-seen_mate t hid tied b m low i = record {
+seen_mate {t} tied b m low i = record {
   size = (forest_of t).size;
   holds = (forest_of t).holds;
   out = (forest_of t).out;
@@ -72,9 +70,9 @@ seen_mate t hid tied b m low i = record {
   nest = (forest_of t).nest;
 }
 
-pub seen_link : (t : ForestTables) (hid : HiddenTables) → AreTied t hid → (b d : ℕ) → b < length t.up
+pub seen_link : {t : ForestTables} {hid : HiddenTables} → AreTied t hid → (b d : ℕ) → b < length t.up
     → forest_of (record t { link = set t.link b d }) ≡ linked (forest_of t) b d
-seen_link t hid tied b d low i = record {
+seen_link {t} tied b d low i = record {
   size = (forest_of t).size;
   holds = (forest_of t).holds;
   out = (forest_of t).out;
@@ -86,8 +84,7 @@ seen_link t hid tied b d low i = record {
 }
 
 module _ (t : ForestTables) (hid : HiddenTables) (tied : AreTied t hid) (v : ℕ) (low : v < length t.hand) (l : Label)
-    (x y : ℤ)
-    (here : l ≢ Outside → IsOnTrail t.trail v) (base_is : x +ℤ weight_change l t.delta
+    (x y : ℤ) (here : l ≢ Outside → IsOnTrail t.trail v) (base_is : x +ℤ weight_change l t.delta
     ≡ (forest_of t).weight ((forest_of t).out v)) (off_is : y +ℤ weight_change l t.delta
     ≡ added t.hand t.top hid.off t.label t.delta v) where
   b : ℕ
@@ -118,15 +115,13 @@ module _ (t : ForestTables) (hid : HiddenTables) (tied : AreTied t hid) (v : ℕ
   weight_same k = at (cases_eq k b)
     where
       at : (k ≡ b) ⊎ (k ≢ b) → weight_at moved_label.base moved_label.label t.delta k ≡ (forest_of t).weight k
-      at (inl e) =
-          ap (weight_at moved_label.base moved_label.label t.delta) e
+      at (inl e) = ap (weight_at moved_label.base moved_label.label t.delta) e
           ∙ (ap (λ (z : ℤ). z +ℤ weight_change (label_at moved_label.label b) t.delta)
           (get_or-set_same t.base b x (pos 0) (subst (λ n. b < n) (sym tied.sizes.base) b_low))
           ∙ (ap (λ (z : Label). x +ℤ weight_change z t.delta) label_here ∙ (base_is ∙ ap (forest_of t).weight (sym e))))
-      at (inr ne) =
-          ap (λ (z : ℤ). z +ℤ weight_change (label_at moved_label.label k) t.delta)
-          (get_or-set_other t.base b k x (pos 0) ne)
-          ∙ ap (λ (z : Label). get_or t.base k (pos 0) +ℤ weight_change z t.delta) (label_there k ne)
+      at (inr ne) = ap (λ (z : ℤ). z +ℤ weight_change (label_at moved_label.label k) t.delta)
+          (get_or-set_other t.base b k x (pos 0) ne) ∙ ap (λ (z : Label). get_or t.base k (pos 0) +ℤ weight_change z
+          t.delta) (label_there k ne)
 
   pub seen_label : forest_of moved_label ≡ labelled (forest_of t) (out_of t.hand t.top v) l
   unfolding b
@@ -150,25 +145,22 @@ module _ (t : ForestTables) (hid : HiddenTables) (tied : AreTied t hid) (v : ℕ
       h_low : h < length hid.off
       h_low = subst (λ n. h < n) (sym tied.sizes.off) (tied.nest.hands v low)
 
-      at : (get_or t.hand u 0 ≡ h) ⊎ (get_or t.hand u 0 ≢ h)
-          → added t.hand t.top (set hid.off h y) moved_label.label t.delta u
-          ≡ added t.hand t.top hid.off t.label t.delta u
+      at : (get_or t.hand u 0 ≡ h) ⊎ (get_or t.hand u 0 ≢ h) → added t.hand t.top (set hid.off h y) moved_label.label
+          t.delta u ≡ added t.hand t.top hid.off t.label t.delta u
       at (inl e) =
           let out_is : out_of t.hand t.top u ≡ b = ap (λ k. get_or t.top k 0) e in
-          ap (λ k. get_or (set hid.off h y) k (pos 0) +ℤ weight_change
-          (label_at moved_label.label (out_of t.hand t.top u)) t.delta) e
-          ∙ (ap (λ (z : ℤ). z +ℤ weight_change (label_at moved_label.label (out_of t.hand t.top u)) t.delta)
-          (get_or-set_same hid.off h y (pos 0) h_low)
+          ap (λ k. get_or (set hid.off h y) k (pos 0) +ℤ weight_change (label_at moved_label.label
+          (out_of t.hand t.top u)) t.delta) e ∙ (ap (λ (z : ℤ). z +ℤ weight_change
+          (label_at moved_label.label (out_of t.hand t.top u)) t.delta) (get_or-set_same hid.off h y (pos 0) h_low)
           ∙ (ap (λ k. y +ℤ weight_change (label_at moved_label.label k) t.delta) out_is
           ∙ (ap (λ (z : Label). y +ℤ weight_change z t.delta) label_here
           ∙ (off_is ∙ (ap (λ k. get_or hid.off k (pos 0) +ℤ weight_change (label_at t.label b) t.delta) (sym e)
           ∙ ap (λ k. get_or hid.off (get_or t.hand u 0) (pos 0) +ℤ weight_change (label_at t.label k) t.delta)
           (sym out_is))))))
-      at (inr ne) =
-          ap (λ (z : ℤ). z +ℤ weight_change (label_at moved_label.label (out_of t.hand t.top u)) t.delta)
+      at (inr ne) = ap (λ (z : ℤ). z +ℤ weight_change (label_at moved_label.label (out_of t.hand t.top u)) t.delta)
           (get_or-set_other hid.off h (get_or t.hand u 0) y (pos 0) ne)
           ∙ ap (λ (z : Label). get_or hid.off (get_or t.hand u 0) (pos 0) +ℤ weight_change z t.delta)
-          (label_there (out_of t.hand t.top u) (λ e. ne (one_hand t hid tied u v lu low e)))
+          (label_there (out_of t.hand t.top u) (λ e. ne (one_hand tied u v lu low e)))
 
   potential_same : (u : ℕ) → potential (forest_of moved_label) u ≡ potential (forest_of t) u
   potential_same u = total_below_same (λ k. cond ((forest_of t).holds k u) ((forest_of moved_label).weight k) (pos 0))
@@ -217,8 +209,7 @@ module _ (t : ForestTables) (hid : HiddenTables) (tied : AreTied t hid) (v : ℕ
           (z -ℤ tied.numbers.start)) (sym sum_same) (tied.numbers.moved u lu));
       risen = (
         tied.numbers.risen.0,
-        subst (λ (z : ℤ). t.delta ≤ℤ (z -ℤ tied.numbers.start)) (sym sum_same)
-            tied.numbers.risen.1,
+        subst (λ (z : ℤ). t.delta ≤ℤ (z -ℤ tied.numbers.start)) (sym sum_same) tied.numbers.risen.1,
       );
       still = tied.numbers.still;
     };
@@ -226,8 +217,7 @@ module _ (t : ForestTables) (hid : HiddenTables) (tied : AreTied t hid) (v : ℕ
       low = tied.trail.low;
       counted = tied.trail.counted;
       marked = tied.trail.marked;
-      named =
-          λ k n. named k n (cases_eq k (out_of t.hand t.top v));
+      named = λ k n. named k n (cases_eq k (out_of t.hand t.top v));
     };
     pool = tied.pool;
   }
@@ -241,11 +231,10 @@ module _ (t : ForestTables) (hid : HiddenTables) (tied : AreTied t hid) (v : ℕ
       named k n (inr ne) = tied.trail.named k (λ off'. n (label_there k ne ∙ off'))
 
 -- One part of a number is taken for another: what it is with the new part is what it was with the old.
-pub exchanged_is : (xs ys : List ℤ) (k j : ℕ) (lab old new : Label) (d e before after x : ℤ) → xs ≡ ys → k ≡ j
-    → before ≡ weight_change lab e → lab ≡ old → after ≡ weight_change new e → e ≡ d
-    → x ≡ (get_or xs k (pos 0) +ℤ before) -ℤ after → x +ℤ weight_change new d ≡ get_or ys j (pos 0) +ℤ weight_change old
-    d
-exchanged_is xs ys k j lab old new d e before after x e1 e2 e3 e4 e5 e6 e7 =
+pub exchanged_is : {xs ys : List ℤ} {k j : ℕ} {lab old : Label} (new : Label) {d e before after : ℤ} (x : ℤ) → xs ≡ ys
+    → k ≡ j → before ≡ weight_change lab e → lab ≡ old → after ≡ weight_change new e → e ≡ d → x
+    ≡ (get_or xs k (pos 0) +ℤ before) -ℤ after → x +ℤ weight_change new d ≡ get_or ys j (pos 0) +ℤ weight_change old d
+exchanged_is {xs} {ys} {k} {j} {old} new {d} {e} {before} {after} x e1 e2 e3 e4 e5 e6 e7 =
     let b' : before ≡ weight_change old d =
     e3 ∙ (ap (λ (l : Label). weight_change l e) e4 ∙ ap (weight_change old) e6) in
     let a' : after ≡ weight_change new d = e5 ∙ ap (weight_change new) e6 in
@@ -254,28 +243,24 @@ exchanged_is xs ys k j lab old new d e before after x e1 e2 e3 e4 e5 e6 e7 =
     omega (arith, ints, b', a', r, e7)
 
 -- The tie after a label is written, where the places are told by equations.
-pub tied_label_at : (t : ForestTables) (hid : HiddenTables) → AreTied t hid → (v : ℕ) → v < length t.hand → (l : Label)
-    → (l ≢ Outside → IsOnTrail t.trail v) → (x y : ℤ) (b h : ℕ) → b ≡ out_of t.hand t.top v → h ≡ get_or t.hand v 0
+pub tied_label_at : {t : ForestTables} {hid : HiddenTables} → AreTied t hid → (v : ℕ) → v < length t.hand → (l : Label)
+    → (l ≢ Outside → IsOnTrail t.trail v) → (x y : ℤ) {b h : ℕ} → b ≡ out_of t.hand t.top v → h ≡ get_or t.hand v 0
     → x +ℤ weight_change l t.delta ≡ (forest_of t).weight (out_of t.hand t.top v) → y +ℤ weight_change l t.delta
     ≡ added t.hand t.top hid.off t.label t.delta v
     → AreTied (record t { base = set t.base b x; label = set t.label b l }) (record hid { off = set hid.off h y })
-tied_label_at t hid tied v low l here x y b h b_is h_is base_is off_is =
-    subst (λ k. AreTied (record t { base = set t.base k x; label = set t.label k l })
-    (record hid { off = set hid.off h y })) (sym b_is)
-    (subst (λ k. AreTied (record t {
+tied_label_at {t} {hid} tied v low l here x y {h} b_is h_is base_is off_is = subst
+    (λ k. AreTied (record t { base = set t.base k x; label = set t.label k l }) (record hid { off = set hid.off h y }))
+    (sym b_is) (subst (λ k. AreTied (record t {
       base = set t.base (out_of t.hand t.top v) x;
-      label =
-          set t.label (out_of t.hand t.top v) l;
-    }) (record hid { off = set hid.off k y })) (sym h_is)
-    (tied_label t hid tied v low l x y here base_is off_is))
+      label = set t.label (out_of t.hand t.top v) l;
+    }) (record hid { off = set hid.off k y })) (sym h_is) (tied_label t hid tied v low l x y here base_is off_is))
 
-pub seen_label_at : (t : ForestTables) (hid : HiddenTables) → AreTied t hid → (v : ℕ) → v < length t.hand → (l : Label)
-    → (l ≢ Outside → IsOnTrail t.trail v) → (x y : ℤ) (b : ℕ) → b ≡ out_of t.hand t.top v
-    → x +ℤ weight_change l t.delta ≡ (forest_of t).weight (out_of t.hand t.top v) → y +ℤ weight_change l t.delta
-    ≡ added t.hand t.top hid.off t.label t.delta v
-    → forest_of (record t { base = set t.base b x; label = set t.label b l })
-    ≡ labelled (forest_of t) (out_of t.hand t.top v) l
-seen_label_at t hid tied v low l here x y b b_is base_is off_is =
+pub seen_label_at : {t : ForestTables} {hid : HiddenTables} → AreTied t hid → (v : ℕ) → v < length t.hand → (l : Label)
+    → (l ≢ Outside → IsOnTrail t.trail v) → (x y : ℤ) {b : ℕ} → b ≡ out_of t.hand t.top v → x +ℤ weight_change l t.delta
+    ≡ (forest_of t).weight (out_of t.hand t.top v) → y +ℤ weight_change l t.delta
+    ≡ added t.hand t.top hid.off t.label t.delta v → forest_of (record t
+    { base = set t.base b x; label = set t.label b l }) ≡ labelled (forest_of t) (out_of t.hand t.top v) l
+seen_label_at {t} {hid} tied v low l here x y b_is base_is off_is =
     subst (λ k. forest_of (record t { base = set t.base k x; label = set t.label k l })
     ≡ labelled (forest_of t) (out_of t.hand t.top v) l) (sym b_is) (seen_label t hid tied v low l x y here base_is
     off_is)

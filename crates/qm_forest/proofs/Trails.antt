@@ -20,13 +20,12 @@ marks_more marks v low off =
 -- Where a mark is missing there are fewer than places.
 pub marks_low : (marks : List Bool) (v : ℕ) → v < length marks → get_or marks v false ≡ false
     → count_by (λ mark. mark) marks < length marks
-marks_low marks v low off =
-    omega (
-      arith,
-      marks_more marks v low off,
-      count_by-le-length (λ (b : Bool). b) (set marks v true),
-      length-set marks v true,
-    )
+marks_low marks v low off = omega (
+  arith,
+  marks_more marks v low off,
+  count_by-le-length (λ (b : Bool). b) (set marks v true),
+  length-set marks v true,
+)
 
 -- What was on a list is on it when it is longer.
 pub still_on : (trail : List ℕ) (v u : ℕ) → IsOnTrail trail u → IsOnTrail (trail ++ v ∷ []) u
@@ -35,7 +34,7 @@ still_on trail v u w = (w.0, omega (arith, w.1, length_push trail v), get_or_app
 pub now_on : (trail : List ℕ) (v : ℕ) → IsOnTrail (trail ++ v ∷ []) v
 now_on trail v = (length trail, omega (arith, length_push trail v), get_or_push trail v 0 (length trail) refl)
 
-module _ (t : ForestTables) (hid : HiddenTables) (tied : AreTied t hid) (v : ℕ) (low : v < length t.hand)
+module _ {t : ForestTables} {hid : HiddenTables} (tied : AreTied t hid) (v : ℕ) (low : v < length t.hand)
     (off : get_or hid.touched v false ≡ false) where
   v_low : v < length hid.touched
   v_low = subst (λ n. v < n) (sym tied.sizes.touched) low
@@ -47,7 +46,7 @@ module _ (t : ForestTables) (hid : HiddenTables) (tied : AreTied t hid) (v : ℕ
   pub tied_touched : (trail : List ℕ) → trail ≡ t.trail ++ v ∷ [] → (room : ℕ) → hid.room ≤ room
       → AreTied (record t { trail = trail }) (record hid { touched = set hid.touched v true; room = room })
   tied_touched trail trail_is room more = record {
-    sizes = sizes_kept t hid tied.sizes t.delta t.root trail (set hid.touched v true) room
+    sizes = sizes_kept tied.sizes t.delta t.root trail (set hid.touched v true) room
         (length-set hid.touched v true ∙ tied.sizes.touched) more;
     nest = tied.nest;
     numbers = tied.numbers;

@@ -23,10 +23,10 @@ use Rattle.qm_forest.specs.Rounds.{waits_for}
 use Rattle.qm_forest.proofs.Pairings.{count_more}
 
 -- A set does not wait any more: what waited in it is the rest.
-pub taken : (t : ForestTables) (marks : List Bool) (left : List (Option ℕ)) (rest due : ℕ → ℕ) (c v : ℕ)
+pub taken : {t : ForestTables} {marks : List Bool} {left : List (Option ℕ)} {rest due : ℕ → ℕ} (c v : ℕ)
     → c < length left → get_or left c None ≡ Some v → IsRound t marks left rest due
     → IsRound t marks (set left c None) (λ b. waits_but t b c v + rest b) due
-taken t marks left rest due c v low here round = record {
+taken {t} {left} c v low here round = record {
   each = λ b l. omega (arith, round.each b l, less b);
   entry = λ k w is. by_place k w is (cases_eq k c);
   once = round.once;
@@ -34,11 +34,10 @@ taken t marks left rest due c v low here round = record {
 }
   where
     less : (b : ℕ) → waiting t left b ≡ waiting t (set left c None) b + waits_but t b c v
-    less b =
-        count_more (λ k. waits_for t b k (get_or (set left c None) k None)) (λ k. waits_for t b k (get_or left k None))
-        (length left) c low (ap (waits_for t b c) (get_or-set_same left c None None low))
-        (λ k lk ne. ap (waits_for t b k) (sym (get_or-set_other left c k None None ne)))
-        ∙ (ap (λ m. m + waits_for t b c (get_or left c None))
+    less b = count_more (λ k. waits_for t b k (get_or (set left c None) k None))
+        (λ k. waits_for t b k (get_or left k None)) (length left) c low
+        (ap (waits_for t b c) (get_or-set_same left c None None low)) (λ k lk ne. ap (waits_for t b k)
+        (sym (get_or-set_other left c k None None ne))) ∙ (ap (λ m. m + waits_for t b c (get_or left c None))
         (ap (count_below (λ k. waits_for t b k (get_or (set left c None) k None))) (sym (length-set left c None)))
         ∙ ap (λ (o : Option ℕ). waiting t (set left c None) b + waits_for t b c o) here)
 
@@ -74,9 +73,9 @@ count_is f [] = refl
 count_is f (x ∷ xs) = ap (λ m. f x + m) (count_is f xs) ∙ sym (sum_by-cons f x xs)
 
 -- The sets of a list, moved about.
-pub sets_moved : (t : ForestTables) (bound : ℕ) (xs ys : List (ℕ × ℕ)) → IsPermutation xs ys → HasSets t bound xs
-    → HasSets t bound ys
-sets_moved t bound xs ys moved has = record {
+pub sets_moved : {t : ForestTables} {bound : ℕ} {xs : List (ℕ × ℕ)} (ys : List (ℕ × ℕ)) → IsPermutation xs ys
+    → HasSets t bound xs → HasSets t bound ys
+sets_moved {t} {bound} {xs} ys moved has = record {
   each = All-permutation (IsSized t bound) xs ys moved has.each;
   all = λ b high low live. Contains-permutation xs ys (get_or t.rank b 0, b) moved (has.all b high low live);
   counts = λ f. count_is (λ (set : ℕ × ℕ). f set.1) ys ∙ (sum_by-IsPermutation (λ (set : ℕ × ℕ). f set.1) xs ys moved
@@ -84,13 +83,12 @@ sets_moved t bound xs ys moved has = record {
 }
 
 -- What waits after a set was matched has fewer vertices, so that it is one of those before.
-pub wait_before : (t : ForestTables) (sets : List (ℕ × ℕ)) (left left2 : List (Option ℕ)) (k c : ℕ) → AreInOrder t sets
-    → suc k ≤ length sets → (get_or sets k (0, 0)).1 ≡ c → WaitWithin left sets (suc k)
+pub wait_before : {t : ForestTables} {sets : List (ℕ × ℕ)} (left left2 : List (Option ℕ)) (k : ℕ) {c : ℕ}
+    → AreInOrder t sets → suc k ≤ length sets → (get_or sets k (0, 0)).1 ≡ c → WaitWithin left sets (suc k)
     → ((b w : ℕ) → get_or left2 b None ≡ Some w → ((get_or left b None ≡ Some w) × (b ≢ c))
-    ⊎ (get_or t.rank b 0 < get_or t.rank c 0))
-    → ((b w : ℕ) → get_or left2 b None ≡ Some w → (length t.hand ≤ b) × (b < length t.up) × (get_or t.parts b 0 ≢ 0))
-    → WaitWithin left2 sets k
-wait_before t sets left left2 k c order low at within entries lawful b w is = by_entry (entries b w is)
+    ⊎ (get_or t.rank b 0 < get_or t.rank c 0)) → ((b w : ℕ) → get_or left2 b None ≡ Some w → (length t.hand ≤ b)
+    × (b < length t.up) × (get_or t.parts b 0 ≢ 0)) → WaitWithin left2 sets k
+wait_before {t} {sets} left left2 k {c} order low at within entries lawful b w is = by_entry (entries b w is)
   where
     by_entry : ((get_or left b None ≡ Some w) × (b ≢ c)) ⊎ (get_or t.rank b 0 < get_or t.rank c 0) → (j : ℕ) × (j < k)
         × (j < length sets) × ((get_or sets j (0, 0)).1 ≡ b)
@@ -131,10 +129,10 @@ entry_low left c v is = by_size (cases_lt c (length left))
     by_size (inr h) = (let clash : ◌≡◌ {A = Option ℕ} None (Some v) = sym (get_or_past left c None h) ∙ is in
         absurd (cc clash))
 
-pub wait_begins : (t : ForestTables) (sets : List (ℕ × ℕ)) (left : List (Option ℕ)) (many : ℕ) → AreInOrder t sets
+pub wait_begins : {t : ForestTables} {sets : List (ℕ × ℕ)} (left : List (Option ℕ)) (many : ℕ) → AreInOrder t sets
     → many ≡ length sets → length left ≡ length t.up → ((c v : ℕ) → get_or left c None ≡ Some v → IsEntry t c v)
     → WaitWithin left sets many
-wait_begins t sets left many order all size lawful c v is =
+wait_begins {t} {sets} left many order all size lawful c v is =
     found (order.has.all c (lawful c v is).high (subst (λ m. c < m) size (entry_low left c v is)) (lawful c v is).live)
   where
     found : Contains sets (get_or t.rank c 0, c) → (j : ℕ) × (j < many) × (j < length sets)
@@ -147,17 +145,15 @@ wait_begins t sets left many order all size lawful c v is =
     )
 
 -- One number more is that of a set in use, or not.
-pub sets_more : (t : ForestTables) (b : ℕ) (xs : List (ℕ × ℕ)) → length t.hand ≤ b → get_or t.parts b 0 ≢ 0
+pub sets_more : {t : ForestTables} {b : ℕ} {xs : List (ℕ × ℕ)} → length t.hand ≤ b → get_or t.parts b 0 ≢ 0
     → HasSets t b xs → HasSets t (b + 1) (xs ++ (get_or t.rank b 0, b) ∷ [])
-sets_more t b xs high live has = record {
+sets_more {t} {b} {xs} high live has = record {
   each = All-push (IsSized t (b + 1)) xs (get_or t.rank b 0, b) (λ k d l. record {
     rank = (has.each k d l).rank;
-    high =
-        (has.each k d l).high;
+    high = (has.each k d l).high;
     low = omega (arith, (has.each k d l).low);
     live = (has.each k d l).live;
-  })
-      (record { rank = refl; high = high; low = omega arith; live = live });
+  }) (record { rank = refl; high = high; low = omega arith; live = live });
   all = λ c hc lc used. by_place c hc lc used (cases_eq c b);
   counts = λ f. (
       let last : count (λ (set : ℕ × ℕ). f set.1) (xs ++ (get_or t.rank b 0, b) ∷ [])
@@ -188,11 +184,10 @@ pub sets_none : (t : ForestTables) (xs : List (ℕ × ℕ)) → length xs ≡ 0 
 sets_none t xs none = record {
   each = λ k d l. absurd (omega (arith, l, none));
   all = λ b high low live. absurd (omega (arith, high, low));
-  counts = λ f. none_in f xs none
-      ∙ sym (count_below_none (λ b. live_at (length t.hand) (λ k. get_or t.parts k 0) b * f b) (length t.hand)
-      (λ b l. (let z : live_at (length t.hand) (λ k. get_or t.parts k 0) b * f b ≡ 0 * f b =
-      ap (λ (m : ℕ). m * f b) (cond-true (nat_lt b (length t.hand)) 0 (cond (eqb (get_or t.parts b 0) 0) 0 1)
-      (lt-ltb b (length t.hand) l)) in omega (arith, z))));
+  counts = λ f. none_in f xs none ∙ sym (count_below_none (λ b. live_at (length t.hand) (λ k. get_or t.parts k 0) b * f
+      b) (length t.hand) (λ b l. (let z : live_at (length t.hand) (λ k. get_or t.parts k 0) b * f b
+      ≡ 0 * f b = ap (λ (m : ℕ). m * f b) (cond-true (nat_lt b (length t.hand)) 0
+      (cond (eqb (get_or t.parts b 0) 0) 0 1) (lt-ltb b (length t.hand) l)) in omega (arith, z))));
 }
   where
     none_in : (f : ℕ → ℕ) (ys : List (ℕ × ℕ)) → length ys ≡ 0 → count (λ (set : ℕ × ℕ). f set.1) ys ≡ 0

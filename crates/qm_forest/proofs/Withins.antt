@@ -10,9 +10,9 @@ use Rattle.forest_laws.proofs.Writes.{true_false}
 use Rattle.qm_forest.proofs.Apart.{walk_stays}
 use Rattle.qm_forest.proofs.Nests.{climbs_place}
 
-or_right : (p q : Bool) → q ≡ true → (p || q) ≡ true
-or_right true q f = refl
-or_right false q f = f
+or_right : (p : Bool) {q : Bool} → q ≡ true → (p || q) ≡ true
+or_right true f = refl
+or_right false f = f
 
 or_left : (p q : Bool) → p ≡ true → (p || q) ≡ true
 or_left true q e = refl
@@ -52,8 +52,7 @@ ring_one next f from (suc k) j l one others =
         omega (
           arith,
           here,
-          ring_none next f from k
-              (λ i li. others i (omega (arith, li)) (λ s. absurd (omega (arith, li, s, e)))),
+          ring_none next f from k (λ i li. others i (omega (arith, li)) (λ s. absurd (omega (arith, li, s, e)))),
         ))
     by_last (inr ne) more = omega (arith, more (omega (arith, l, ne)), others k (omega arith) (λ s. ne (sym s)))
 
@@ -70,12 +69,12 @@ module _ (n : ℕ) (up rank : ℕ → ℕ) (rises : (x : ℕ) → up x ≢ x →
   ]
 
   -- What one comes to one comes past, if there are steps enough.
-  reach : (k c from j : ℕ) → walk up from j ≡ c → rank c ≤ rank from + k → climbs up k c from ≡ true
-  reach zero c from j e low = by_eq (cases_eq from c) (cases_eq (up from) from)
+  reach : (k : ℕ) {c : ℕ} (from j : ℕ) → walk up from j ≡ c → rank c ≤ rank from + k → climbs up k c from ≡ true
+  reach zero {c} from j e low = by_eq (cases_eq from c) (cases_eq (up from) from)
     where
       by_eq : (from ≡ c) ⊎ (from ≢ c) → (up from ≡ from) ⊎ (up from ≢ from) → climbs up zero c from ≡ true
       by_eq (inl s) x = eq-eqb from c s
-      by_eq (inr ne) (inl stays) = absurd (ne (sym (walk_stays up from j stays) ∙ e))
+      by_eq (inr ne) (inl stays) = absurd (ne (sym (walk_stays up j stays) ∙ e))
       by_eq (inr ne) (inr goes) = by_steps j e
         where
           by_steps : (i : ℕ) → walk up from i ≡ c → climbs up zero c from ≡ true
@@ -86,31 +85,30 @@ module _ (n : ℕ) (up rank : ℕ → ℕ) (rises : (x : ℕ) → up x ≢ x →
               let h : rank (up from) ≤ rank (walk up (up from) i) = rank_walk (up from) i in
               let same : rank (walk up (up from) i) ≡ rank c = ap rank there in
               absurd (omega (arith, r, h, same, low))
-  reach (suc k) c from j e low = by_eq (cases_eq from c) (cases_eq (up from) from) (λ i s l. reach k c (up from) i s l)
+  reach (suc k) {c} from j e low = by_eq (cases_eq from c) (cases_eq (up from) from) (λ i s l. reach k (up from) i s l)
     where
       by_eq : (from ≡ c) ⊎ (from ≢ c) → (up from ≡ from) ⊎ (up from ≢ from)
           → ((i : ℕ) → walk up (up from) i ≡ c → rank c ≤ rank (up from) + k → climbs up k c (up from) ≡ true)
           → (eqb from c || climbs up k c (up from)) ≡ true
       by_eq (inl s) x more = or_left (eqb from c) (climbs up k c (up from)) (eq-eqb from c s)
-      by_eq (inr ne) (inl stays) more = absurd (ne (sym (walk_stays up from j stays) ∙ e))
+      by_eq (inr ne) (inl stays) more = absurd (ne (sym (walk_stays up j stays) ∙ e))
       by_eq (inr ne) (inr goes) more = by_steps j e
         where
           by_steps : (i : ℕ) → walk up from i ≡ c → (eqb from c || climbs up k c (up from)) ≡ true
           by_steps zero s = absurd (ne s)
           by_steps (suc i) s = (let r : rank from < rank (up from) = rises from goes in
-              or_right (eqb from c) (climbs up k c (up from))
-              (more i (sym (walk_front up from i) ∙ s) (omega (arith, r, low))))
+              or_right (eqb from c) (more i (sym (walk_front up from i) ∙ s) (omega (arith, r, low))))
 
-  pub in_where : (b c j : ℕ) → rank c ≤ n → walk up b j ≡ c → in_it b c ≡ true
-  in_where b c j low e = reach n c b j e (omega (arith, low))
+  pub in_where : (b : ℕ) {c : ℕ} (j : ℕ) → rank c ≤ n → walk up b j ≡ c → in_it b c ≡ true
+  in_where b j low e = reach n b j e (omega (arith, low))
 
   pub where_in : (b c : ℕ) → in_it b c ≡ true → (j : ℕ) × (walk up b j ≡ c)
   where_in b c on = climbs_place up n c b on
 
   -- Of two blossoms on one way one lies within the other.
-  pub in_line : (w a b i j : ℕ) → walk up w i ≡ a → walk up w j ≡ b → ((m : ℕ) × (walk up a m ≡ b))
+  pub in_line : (w : ℕ) {a b : ℕ} (i j : ℕ) → walk up w i ≡ a → walk up w j ≡ b → ((m : ℕ) × (walk up a m ≡ b))
       ⊎ ((m : ℕ) × (walk up b m ≡ a))
-  in_line w a b i j ea eb = by_order (cases_lt i j)
+  in_line w {a} {b} i j ea eb = by_order (cases_lt i j)
     where
       by_order : (i < j) ⊎ (j ≤ i) → ((m : ℕ) × (walk up a m ≡ b)) ⊎ ((m : ℕ) × (walk up b m ≡ a))
       by_order (inl l) = inl (
@@ -125,9 +123,9 @@ module _ (n : ℕ) (up rank : ℕ → ℕ) (rises : (x : ℕ) → up x ≢ x →
       )
 
   -- Two parts of a set are not within each other.
-  pub parts_apart : (x y q m : ℕ) → up x ≡ q → up y ≡ q → y ≢ q → x ≢ y → walk up x m ≡ y → ⊥
-  parts_apart x y q zero ex ey nq ne e = ne e
-  parts_apart x y q (suc m) ex ey nq ne e =
+  pub parts_apart : (x : ℕ) {y q : ℕ} (m : ℕ) → up x ≡ q → up y ≡ q → y ≢ q → x ≢ y → walk up x m ≡ y → ⊥
+  parts_apart x zero ex ey nq ne e = ne e
+  parts_apart x {y} {q} (suc m) ex ey nq ne e =
       let h : rank q ≤ rank (walk up q m) = rank_walk q m in
       let there : walk up q m ≡ y = ap (λ z. walk up z m) (sym ex) ∙ (sym (walk_front up x m) ∙ e) in
       let same : rank (walk up q m) ≡ rank y = ap rank there in
@@ -136,21 +134,22 @@ module _ (n : ℕ) (up rank : ℕ → ℕ) (rises : (x : ℕ) → up x ≢ x →
       absurd (omega (arith, h, same, r, up_same))
 
   -- Two parts have nothing in common.
-  pub none_in_both : (w x y q : ℕ) → up x ≡ q → up y ≡ q → x ≢ q → y ≢ q → x ≢ y → in_it w x ≡ true → in_it w y ≡ true
-      → ⊥
-  none_in_both w x y q ex ey nx ny ne hx hy =
+  pub none_in_both : (w x y : ℕ) {q : ℕ} → up x ≡ q → up y ≡ q → x ≢ q → y ≢ q → x ≢ y → in_it w x ≡ true → in_it w y
+      ≡ true → ⊥
+  none_in_both w x y ex ey nx ny ne hx hy =
       let wx : (j : ℕ) × (walk up w j ≡ x) = where_in w x hx in
       let wy : (j : ℕ) × (walk up w j ≡ y) = where_in w y hy in
-      elim (in_line w x y wx.0 wy.0 wx.1 wy.1) [
-        | inl m ↦ parts_apart x y q m.0 ex ey ny ne m.1
-        | inr m ↦ parts_apart y x q m.0 ey ex nx (λ s. ne (sym s)) m.1
+      elim (in_line w wx.0 wy.0 wx.1 wy.1) [
+        | inl m ↦ parts_apart x m.0 ex ey ny ne m.1
+        | inr m ↦ parts_apart y m.0 ey ex nx (λ s. ne (sym s)) m.1
       ]
 
   -- What is within a set but the set is within a part of it.
-  pub in_part : (b q j : ℕ) → walk up b j ≡ q → b ≢ q → (r : ℕ) × (up r ≡ q) × (r ≢ q) × (i : ℕ) × (walk up b i ≡ r)
-  in_part b q zero e ne = absurd (ne e)
-  in_part b q (suc j) e ne = elim (cases_eq (walk up b j) q) [
-    | inl s ↦ in_part b q j s ne
+  pub in_part : (b : ℕ) {q : ℕ} (j : ℕ) → walk up b j ≡ q → b ≢ q → (r : ℕ) × (up r ≡ q) × (r ≢ q) × (i : ℕ)
+      × (walk up b i ≡ r)
+  in_part b zero e ne = absurd (ne e)
+  in_part b {q} (suc j) e ne = elim (cases_eq (walk up b j) q) [
+    | inl s ↦ in_part b j s ne
     | inr off ↦ (walk up b j, e, off, j, refl)
   ]
 
@@ -160,20 +159,20 @@ module _ (n : ℕ) (up rank : ℕ → ℕ) (rises : (x : ℕ) → up x ≢ x →
       → (wy ≡ true → (wx ≡ false) × (hu ≡ false)) → (wx ≡ false → wy ≡ false → hu ≡ hv)
       → bool_number (cond hu (not hv) hv) + (cond wx (cond hu 0 1) 0 + cond wy (cond hv 0 1) 0)
       ≡ bool_number wx + bool_number wy
-  by_pair true true hu hv first second none = absurd (true_false true refl (first refl).0)
-  by_pair true false hu true first second none = absurd (true_false true refl (first refl).1)
+  by_pair true true hu hv first second none = absurd (true_false refl (first refl).0)
+  by_pair true false hu true first second none = absurd (true_false refl (first refl).1)
   by_pair true false true false first second none = refl
   by_pair true false false false first second none = refl
-  by_pair false true true hv first second none = absurd (true_false true refl (second refl).1)
+  by_pair false true true hv first second none = absurd (true_false refl (second refl).1)
   by_pair false true false true first second none = refl
   by_pair false true false false first second none = refl
   by_pair false false true true first second none = refl
   by_pair false false false false first second none = refl
-  by_pair false false true false first second none = absurd (true_false true refl (none refl refl))
-  by_pair false false false true first second none = absurd (true_false true refl (sym (none refl refl)))
+  by_pair false false true false first second none = absurd (true_false refl (none refl refl))
+  by_pair false false false true first second none = absurd (true_false refl (sym (none refl refl)))
 
-  module _ (x y q u v : ℕ) (ex : up x ≡ q) (ey : up y ≡ q) (nx : x ≢ q) (ny : y ≢ q) (ne : x ≢ y) (hu : in_it u x
-      ≡ true) (hv : in_it v y ≡ true) (low_x : rank x ≤ n) (low_y : rank y ≤ n) where
+  module _ (x y : ℕ) {q : ℕ} (u v : ℕ) (ex : up x ≡ q) (ey : up y ≡ q) (nx : x ≢ q) (ny : y ≢ q) (ne : x ≢ y)
+      (hu : in_it u x ≡ true) (hv : in_it v y ≡ true) (low_x : rank x ≤ n) (low_y : rank y ≤ n) where
     -- A blossom around one end that is not within its part is around the other end.
     around_other : (u v x y b : ℕ) → up x ≡ q → up y ≡ q → rank x ≤ n → in_it u x ≡ true → in_it v y ≡ true
         → in_it b x ≡ false → rank b ≤ n → in_it u b ≡ true → in_it v b ≡ true
@@ -181,12 +180,12 @@ module _ (n : ℕ) (up rank : ℕ → ℕ) (rises : (x : ℕ) → up x ≢ x →
         let wx : (j : ℕ) × (walk up u j ≡ x) = where_in u x hu in
         let wb : (j : ℕ) × (walk up u j ≡ b) = where_in u b on in
         let wy : (j : ℕ) × (walk up v j ≡ y) = where_in v y hv in
-        elim (in_line u b x wb.0 wx.0 wb.1 wx.1)
-        [ inl m ↦ absurd (true_false (in_it b x) (in_where b x m.0 low_x m.1) off) | inr m ↦ beyond wy m.0 m.1 ]
+        elim (in_line u wb.0 wx.0 wb.1 wx.1)
+        [ inl m ↦ absurd (true_false (in_where b m.0 low_x m.1) off) | inr m ↦ beyond wy m.0 m.1 ]
       where
         beyond : (j : ℕ) × (walk up v j ≡ y) → (m : ℕ) → walk up x m ≡ b → in_it v b ≡ true
-        beyond wy zero e = absurd (true_false (in_it b x) (in_where b x 0 low_x (sym e)) off)
-        beyond wy (suc m) e = in_where v b (wy.0 + suc m) low (walk_sum up v wy.0 (suc m)
+        beyond wy zero e = absurd (true_false (in_where b 0 low_x (sym e)) off)
+        beyond wy (suc m) e = in_where v (wy.0 + suc m) low (walk_sum up v wy.0 (suc m)
             ∙ (ap (λ z. walk up z (suc m)) wy.1
             ∙ (walk_front up y m ∙ (ap (λ z. walk up z m) (ey ∙ sym ex) ∙ (sym (walk_front up x m) ∙ e)))))
 
@@ -194,22 +193,19 @@ module _ (n : ℕ) (up rank : ℕ → ℕ) (rises : (x : ℕ) → up x ≢ x →
         → bool_number (cond (in_it u b) (not (in_it v b)) (in_it v b))
         + (cond (in_it b x) (cond (in_it u b) 0 1) 0 + cond (in_it b y) (cond (in_it v b) 0 1) 0)
         ≡ bool_number (in_it b x) + bool_number (in_it b y)
-    pair_law b low_u low_v = by_pair (in_it b x) (in_it b y) (in_it u b) (in_it v b)
-        (λ on. (
-          off_where (in_it b y) (λ o. none_in_both b x y q ex ey nx ny ne on o),
-          off_where (in_it v b) (λ o. none_in_both v x y q ex ey nx ny ne (through v b x low_x o on) hv),
-        ))
-        (λ on. (
-          off_where (in_it b x) (λ o. none_in_both b x y q ex ey nx ny ne o on),
-          off_where (in_it u b) (λ o. none_in_both u x y q ex ey nx ny ne hu (through u b y low_y o on)),
-        ))
-        (λ ox oy. both ox oy (cases_Bool (in_it u b)) (cases_Bool (in_it v b)))
+    pair_law b low_u low_v = by_pair (in_it b x) (in_it b y) (in_it u b) (in_it v b) (λ on. (
+      off_where (in_it b y) (λ o. none_in_both b x y ex ey nx ny ne on o),
+      off_where (in_it v b) (λ o. none_in_both v x y ex ey nx ny ne (through v b x low_x o on) hv),
+    )) (λ on. (
+      off_where (in_it b x) (λ o. none_in_both b x y ex ey nx ny ne o on),
+      off_where (in_it u b) (λ o. none_in_both u x y ex ey nx ny ne hu (through u b y low_y o on)),
+    )) (λ ox oy. both ox oy (cases_Bool (in_it u b)) (cases_Bool (in_it v b)))
       where
         through : (w b c : ℕ) → rank c ≤ n → in_it w b ≡ true → in_it b c ≡ true → in_it w c ≡ true
         through w b c low o on =
             let first : (j : ℕ) × (walk up w j ≡ b) = where_in w b o in
             let second : (j : ℕ) × (walk up b j ≡ c) = where_in b c on in
-            in_where w c (first.0 + second.0) low (walk_sum up w first.0 second.0
+            in_where w (first.0 + second.0) low (walk_sum up w first.0 second.0
             ∙ (ap (λ z. walk up z second.0) first.1 ∙ second.1))
 
         both : in_it b x ≡ false → in_it b y ≡ false → (in_it u b ≡ true) ⊎ (in_it u b ≡ false) → (in_it v b ≡ true)
@@ -217,15 +213,15 @@ module _ (n : ℕ) (up rank : ℕ → ℕ) (rises : (x : ℕ) → up x ≢ x →
         both ox oy (inl hu') (inl hv') = hu' ∙ sym hv'
         both ox oy (inr fu) (inr fv) = fu ∙ sym fv
         both ox oy (inl hu') (inr fv) =
-            absurd (true_false (in_it v b) (around_other u v x y b ex ey low_x hu hv ox (low_u hu') hu') fv)
+            absurd (true_false (around_other u v x y b ex ey low_x hu hv ox (low_u hu') hu') fv)
         both ox oy (inr fu) (inl hv') =
-            absurd (true_false (in_it u b) (around_other v u y x b ey ex low_y hv hu oy (low_v hv') hv') fu)
+            absurd (true_false (around_other v u y x b ey ex low_y hv hu oy (low_v hv') hv') fu)
 
   -- From a part to its set: what waited there waits in the parts after it, or around the set.
-  module _ (p q v c many : ℕ) (after : ℕ → ℕ) (inside : ℕ → Bool) (circle : IsCircle after p many inside)
-      (part : (x : ℕ) → inside x ≡ true → (up x ≡ q) × (x ≢ q)) (parts : (x : ℕ) → up x ≡ q → x ≢ q → inside x ≡ true)
-      (low : (x : ℕ) → inside x ≡ true → rank x ≤ n) (low_q : rank q ≤ n) (low_c : rank c ≤ n) (hv : in_it v p ≡ true)
-      (j : ℕ) (hq : walk up q j ≡ c) where
+  module _ {p : ℕ} (q v : ℕ) {c : ℕ} {many : ℕ} {after : ℕ → ℕ} {inside : ℕ → Bool}
+      (circle : IsCircle after p many inside) (part : (x : ℕ) → inside x ≡ true → (up x ≡ q) × (x ≢ q))
+      (parts : (x : ℕ) → up x ≡ q → x ≢ q → inside x ≡ true) (low : (x : ℕ) → inside x ≡ true → rank x ≤ n)
+      (low_q : rank q ≤ n) (low_c : rank c ≤ n) (hv : in_it v p ≡ true) (j : ℕ) (hq : walk up q j ≡ c) where
     abbrev pub rest_at : ℕ → ℕ → ℕ
     rest_at p b = cond (in_it b p) 0 (cond (in_it b c) (cond (in_it v b) 0 1) 0)
 
@@ -236,15 +232,12 @@ module _ (n : ℕ) (up rank : ℕ → ℕ) (rises : (x : ℕ) → up x ≢ x →
     at_part k = subst (λ x. (up x ≡ q) × (x ≢ q)) (walk_front after p k)
         (part (walk after p (suc k)) (circle.marked (suc k)))
 
-    at_low : (k : ℕ) → rank (walk after (after p) k) ≤ n
-    at_low k = subst (λ x. rank x ≤ n) (walk_front after p k) (low (walk after p (suc k)) (circle.marked (suc k)))
-
     at_other : (k : ℕ) → k < many - 1 → p ≢ walk after (after p) k
     at_other k l e = circle.distinct 0 (suc k) (omega arith) (omega (arith, l)) (e ∙ sym (walk_front after p k))
 
     in_set : (b r : ℕ) → up r ≡ q → in_it b r ≡ true → in_it b q ≡ true
     in_set b r er on = (let w : (i : ℕ) × (walk up b i ≡ r) = where_in b r on in
-        in_where b q (suc w.0) low_q (ap up w.1 ∙ er))
+        in_where b (suc w.0) low_q (ap up w.1 ∙ er))
 
     q_free : (r : ℕ) → up r ≡ q → r ≢ q → in_it q r ≡ false
     q_free r er nr = off_where (in_it q r) (λ on. at_rank (where_in q r on))
@@ -280,20 +273,19 @@ module _ (n : ℕ) (up rank : ℕ → ℕ) (rises : (x : ℕ) → up x ≢ x →
         around w off on = by_place (circle.all w.0 (parts w.0 w.1 w.2))
           where
             in_r : in_it b w.0 ≡ true
-            in_r = in_where b w.0 w.3 (low w.0 (parts w.0 w.1 w.2)) w.4
+            in_r = in_where b w.3 (low w.0 (parts w.0 w.1 w.2)) w.4
 
             other_p : w.0 ≢ p
-            other_p e = true_false (in_it b p) (subst (λ x. in_it b x ≡ true) e in_r) off
+            other_p e = true_false (subst (λ x. in_it b x ≡ true) e in_r) off
 
             in_c : in_it b c ≡ true
             in_c = (let s : (i : ℕ) × (walk up b i ≡ q) = where_in b q on in
-                in_where b c (s.0 + j) low_c (walk_sum up b s.0 j ∙ (ap (λ x. walk up x j) s.1 ∙ hq)))
+                in_where b (s.0 + j) low_c (walk_sum up b s.0 j ∙ (ap (λ x. walk up x j) s.1 ∙ hq)))
 
             v_off : in_it v b ≡ false
             v_off = off_where (in_it v b) (λ o. (let s : (i : ℕ) × (walk up v i ≡ b) = where_in v b o in
-                none_in_both v w.0 p q w.1 p_part.0 w.2 p_part.1 other_p
-                (in_where v w.0 (s.0 + w.3) (low w.0 (parts w.0 w.1 w.2)) (walk_sum up v s.0 w.3
-                ∙ (ap (λ x. walk up x w.3) s.1 ∙ w.4))) hv))
+                none_in_both v w.0 p w.1 p_part.0 w.2 p_part.1 other_p (in_where v (s.0 + w.3)
+                (low w.0 (parts w.0 w.1 w.2)) (walk_sum up v s.0 w.3 ∙ (ap (λ x. walk up x w.3) s.1 ∙ w.4))) hv))
 
             one_left : rest_at p b ≡ 1
             one_left = out_of b p off ∙ (ap (λ (s : Bool). cond s (cond (in_it v b) 0 1) 0) in_c
@@ -312,7 +304,7 @@ module _ (n : ℕ) (up rank : ℕ → ℕ) (rises : (x : ℕ) → up x ≢ x →
                     ring_one after (λ r. bool_number (in_it b r)) (after p) (many - 1) k (omega (arith, l))
                     (ap (λ x. bool_number (in_it b x)) here ∙ ap bool_number in_r)
                     (λ i li ne. ap bool_number (off_where (in_it b (walk after (after p) i))
-                    (λ o. none_in_both b (walk after (after p) i) w.0 q (at_part i).0 w.1 (at_part i).1 w.2
+                    (λ o. none_in_both b (walk after (after p) i) w.0 (at_part i).0 w.1 (at_part i).1 w.2
                     (λ same. apart i k li (omega (arith, l)) ne (same ∙ sym here)) o in_r))) in
                     omega (arith, one_left, one, zero_in b q on)
                   where
@@ -325,19 +317,18 @@ module _ (n : ℕ) (up rank : ℕ → ℕ) (rises : (x : ℕ) → up x ≢ x →
                           (walk_front after p k ∙ (sym same ∙ sym (walk_front after p i)))
                     ]
 
-        by_part : (in_it b p ≡ true) ⊎ (in_it b p ≡ false) → (in_it b q ≡ true) ⊎ (in_it b q ≡ false)
-            → (b ≡ q) ⊎ (b ≢ q) → rest_at p b ≡ ring_sum after (λ r. bool_number (in_it b r)) (after p) (many - 1)
-            + rest_at q b
+        by_part : (in_it b p ≡ true) ⊎ (in_it b p ≡ false) → (in_it b q ≡ true) ⊎ (in_it b q ≡ false) → (b ≡ q)
+            ⊎ (b ≢ q) → rest_at p b ≡ ring_sum after (λ r. bool_number (in_it b r)) (after p) (many - 1) + rest_at q b
         by_part (inl on) y z =
             let none : ring_sum after (λ r. bool_number (in_it b r)) (after p) (many - 1) ≡ 0 =
             none_after b (λ k l. off_where (in_it b (walk after (after p) k))
-            (λ o. none_in_both b p (walk after (after p) k) q p_part.0 (at_part k).0 p_part.1 (at_part k).1
+            (λ o. none_in_both b p (walk after (after p) k) p_part.0 (at_part k).0 p_part.1 (at_part k).1
             (at_other k l) on o)) in
             omega (arith, zero_in b p on, none, zero_in b q (in_set b p p_part.0 on))
         by_part (inr off) (inr free) z =
             let none : ring_sum after (λ r. bool_number (in_it b r)) (after p) (many - 1) ≡ 0 =
             none_after b (λ k l. off_where (in_it b (walk after (after p) k))
-            (λ o. true_false (in_it b q) (in_set b (walk after (after p) k) (at_part k).0 o) free)) in
+            (λ o. true_false (in_set b (walk after (after p) k) (at_part k).0 o) free)) in
             omega (arith, none, out_of b p off, out_of b q free)
         by_part (inr off) (inl on) (inl e) =
             let none : ring_sum after (λ r. bool_number (in_it b r)) (after p) (many - 1) ≡ 0 =
@@ -351,4 +342,4 @@ module _ (n : ℕ) (up rank : ℕ → ℕ) (rises : (x : ℕ) → up x ≢ x →
             nothing : (s : Bool) → ◌≡◌ {A = ℕ} (cond s 0 0) 0
             nothing true = refl
             nothing false = refl
-        by_part (inr off) (inl on) (inr ne) = around (in_part b q (where_in b q on).0 (where_in b q on).1 ne) off on
+        by_part (inr off) (inl on) (inr ne) = around (in_part b (where_in b q on).0 (where_in b q on).1 ne) off on

@@ -13,7 +13,7 @@ pub record IsForked (first second at : ℕ → ℕ) (left right : ℕ) : Type 0 
   pub left_differs : (i j : ℕ) → i < j → j ≤ left → first i ≢ first j
   pub right_differs : (i j : ℕ) → i < j → j < right → second i ≢ second j
 
-module _ (first second at : ℕ → ℕ) (left right : ℕ) (ways : IsForked first second at left right)
+module _ {first second at : ℕ → ℕ} {left right : ℕ} (ways : IsForked first second at left right)
     {X : Type 0} (old : ℕ → X) (down : ℕ → X) (over : X) (up : ℕ → X) where
   abbrev pub lain : ℕ → X
   lain = writes (set_at (writes old (λ i. first (suc i)) down left) (first 0) over) (λ i. second i) up right
@@ -22,9 +22,8 @@ module _ (first second at : ℕ → ℕ) (left right : ℕ) (ways : IsForked fir
   lain_left k l =
       let i : suc (left - k - 1) ≡ left - k = omega (arith, l) in
       let here : at k ≡ first (suc (left - k - 1)) = ways.left_is k (omega (arith, l)) ∙ ap first (sym i) in
-      ap lain here
-      ∙ (writes_off (set_at (writes old (λ i. first (suc i)) down left) (first 0) over) (λ i. second i) up right
-      (first (suc (left - k - 1))) (λ m lm e. ways.apart (suc (left - k - 1)) m (omega (arith, l)) lm e)
+      ap lain here ∙ (writes_off (set_at (writes old (λ i. first (suc i)) down left) (first 0) over) (λ i. second i) up
+      right (first (suc (left - k - 1))) (λ m lm e. ways.apart (suc (left - k - 1)) m (omega (arith, l)) lm e)
       ∙ (set_there (writes old (λ i. first (suc i)) down left) (first 0) (first (suc (left - k - 1))) over
       (λ e. ways.left_differs 0 (suc (left - k - 1)) (omega arith) (omega (arith, l)) (sym e))
       ∙ writes_at old (λ i. first (suc i)) down left (left - k - 1) (omega (arith, l))
@@ -33,16 +32,14 @@ module _ (first second at : ℕ → ℕ) (left right : ℕ) (ways : IsForked fir
   pub lain_over : lain (at left) ≡ over
   lain_over =
       let z : left - left ≡ 0 = omega arith in
-      ap lain (ways.left_is left (omega arith) ∙ ap first z)
-      ∙ (writes_off (set_at (writes old (λ i. first (suc i)) down left) (first 0) over) (λ i. second i) up right
-      (first 0)
+      ap lain (ways.left_is left (omega arith) ∙ ap first z) ∙ (writes_off
+      (set_at (writes old (λ i. first (suc i)) down left) (first 0) over) (λ i. second i) up right (first 0)
       (λ m lm e. ways.apart 0 m (omega arith) lm e) ∙ set_here (writes old (λ i. first (suc i)) down left) (first 0)
       over)
 
-  pub lain_right : (k m : ℕ) → k ≡ left + 1 + m → m < right → lain (at k) ≡ up m
-  lain_right k m e l = ap lain (ways.right_is k m e)
-      ∙ writes_at (set_at (writes old (λ i. first (suc i)) down left) (first 0) over) (λ i. second i) up right m l
-      ways.right_differs
+  pub lain_right : {k : ℕ} (m : ℕ) → k ≡ left + 1 + m → m < right → lain (at k) ≡ up m
+  lain_right {k} m e l = ap lain (ways.right_is k m e) ∙ writes_at (set_at (writes old (λ i. first (suc i)) down left)
+      (first 0) over) (λ i. second i) up right m l ways.right_differs
 
   pub lain_off : (x : ℕ) → ((k : ℕ) → k < left + right + 1 → at k ≢ x) → lain x ≡ old x
   lain_off x off =

@@ -12,9 +12,9 @@ or_parts : (p q : Bool) → (p || q) ≡ true → (p ≡ true) ⊎ (q ≡ true)
 or_parts true q e = inl refl
 or_parts false q e = inr e
 
-or_right : (p q : Bool) → q ≡ true → (p || q) ≡ true
-or_right true q e = refl
-or_right false q e = e
+or_right : (p : Bool) {q : Bool} → q ≡ true → (p || q) ≡ true
+or_right true e = refl
+or_right false e = e
 
 or_left : (p q : Bool) → p ≡ true → (p || q) ≡ true
 or_left true q e = refl
@@ -53,9 +53,10 @@ passes_same old new bound same falls (suc k) (suc here) d l =
     )) in
     ap (λ (q : Bool). eqb here d || q) (rest ∙ ap (λ x. passes old k x d) (same here (omega (arith, l))))
 
-module _ (g : WeightedGraph) (bound : ℕ) (first next first2 next2 : List ℕ) (fans : AreFansOf g bound first next)
-    (v : ℕ) (lv : v < g.n) (low : bound < 2 * length g.edges) (near : (darts_of g).near bound ≡ v)
-    (is_next : next2 ≡ set next bound (get_or first v 0)) (is_first : first2 ≡ set first v (bound + 1)) where
+module _ {g : WeightedGraph} {bound : ℕ} {first next : List ℕ} {first2 next2 : List ℕ}
+    (fans : AreFansOf g bound first next) {v : ℕ} (lv : v < g.n) (low : bound < 2 * length g.edges)
+    (near : (darts_of g).near bound ≡ v) (is_next : next2 ≡ set next bound (get_or first v 0))
+    (is_first : first2 ≡ set first v (bound + 1)) where
   next_here : get_or next2 bound 0 ≡ get_or first v 0
   next_here = ap (λ xs. get_or xs bound 0) is_next ∙ get_or-set_same next bound (get_or first v 0) 0
       (omega (arith, low, fans.darts))
@@ -80,8 +81,7 @@ module _ (g : WeightedGraph) (bound : ℕ) (first next first2 next2 : List ℕ) 
   on_front : (d : ℕ) → IsOn next2 (get_or first v 0) d → IsOn next2 (get_or first2 v 0) d
   on_front d w = subst (λ x. IsOn next2 x d) (sym entry_is) (
     suc w.0,
-    or_right (eqb bound d) (passes next2 w.0 (get_or next2 bound 0) d) (ap (λ x. passes next2 w.0 x d) next_here
-        ∙ w.1),
+    or_right (eqb bound d) (ap (λ x. passes next2 w.0 x d) next_here ∙ w.1),
   )
     where
       entry_is : get_or first2 v 0 ≡ suc bound

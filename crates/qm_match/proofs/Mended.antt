@@ -16,16 +16,13 @@ use Rattle.qm_match.proofs.Chains.{on_none, on_rest}
 
 module _ (g : WeightedGraph) (f : Forest) (risen : ℕ) where
   -- Nothing is mended.
-  pub mended_none : (keys : List ℕ) → IsMended g f risen keys keys
-  mended_none keys = record { size = refl; each = λ k. inr refl }
 
   -- One leaf is.
   pub mended_one : (keys new : List ℕ) (leaf : ℕ) → leaf < length keys → new ≡ set keys leaf (true_key g f risen leaf)
       → IsMended g f risen keys new
   mended_one keys new leaf l is = record {
     size = ap length is ∙ length-set keys leaf (true_key g f risen leaf);
-    each =
-        λ k. by_place k (cases_eq k leaf);
+    each = λ k. by_place k (cases_eq k leaf);
   }
     where
       by_place : (k : ℕ) → (k ≡ leaf) ⊎ (k ≢ leaf) → (get_or new k 0 ≡ true_key g f risen k)
@@ -37,8 +34,8 @@ module _ (g : WeightedGraph) (f : Forest) (risen : ℕ) where
           ne)
 
   -- More and more are.
-  pub mended_on : (a b c : List ℕ) → IsMended g f risen a b → IsMended g f risen b c → IsMended g f risen a c
-  mended_on a b c p q = record { size = q.size ∙ p.size; each = λ k. by_last k (q.each k) (p.each k) }
+  pub mended_on : {a b c : List ℕ} → IsMended g f risen a b → IsMended g f risen b c → IsMended g f risen a c
+  mended_on {a} {b} {c} p q = record { size = q.size ∙ p.size; each = λ k. by_last k (q.each k) (p.each k) }
     where
       by_last : (k : ℕ) → (get_or c k 0 ≡ true_key g f risen k) ⊎ (get_or c k 0 ≡ get_or b k 0)
           → (get_or b k 0 ≡ true_key g f risen k) ⊎ (get_or b k 0 ≡ get_or a k 0)
@@ -48,20 +45,20 @@ module _ (g : WeightedGraph) (f : Forest) (risen : ℕ) where
       by_last k (inr e) (inr e') = inr (e ∙ e')
 
   -- What is right stays right.
-  pub stays_right : (a b : List ℕ) (k : ℕ) → IsMended g f risen a b → get_or a k 0 ≡ true_key g f risen k
+  pub stays_right : {a b : List ℕ} (k : ℕ) → IsMended g f risen a b → get_or a k 0 ≡ true_key g f risen k
       → get_or b k 0 ≡ true_key g f risen k
-  stays_right a b k p right = elim (p.each k) [ inl e ↦ e | inr e ↦ e ∙ right ]
+  stays_right k p right = elim (p.each k) [ inl e ↦ e | inr e ↦ e ∙ right ]
 
-  pub stay_right : (a b : List ℕ) (of : ℕ → Bool) → IsMended g f risen a b → AreRightAt g f risen a of
+  pub stay_right : {a b : List ℕ} (of : ℕ → Bool) → IsMended g f risen a b → AreRightAt g f risen a of
       → AreRightAt g f risen b of
-  stay_right a b of p right e l at = stays_right a b e p (right e l at)
+  stay_right of p right e l at = stays_right e p (right e l at)
 
   -- A dart of a chain is passed, and its edge mended.
-  pub chain_mended : (next keys new : List ℕ) (entry d from : ℕ) → entry ≡ suc d → d / 2 < length keys
+  pub chain_mended : (next keys : List ℕ) {new : List ℕ} (entry d from : ℕ) → entry ≡ suc d → d / 2 < length keys
       → new ≡ set keys (d / 2) (true_key g f risen (d / 2))
       → ((x : ℕ) → IsOn next from x → (get_or keys (x / 2) 0 ≡ true_key g f risen (x / 2)) ⊎ IsOn next entry x)
       → (x : ℕ) → IsOn next from x → (get_or new (x / 2) 0 ≡ true_key g f risen (x / 2)) ⊎ IsOn next (get_or next d 0) x
-  chain_mended next keys new entry d from is l new_is done x on = by_done (done x on)
+  chain_mended next keys {new} entry d from is l new_is done x on = by_done (done x on)
     where
       mended : IsMended g f risen keys new
       mended = mended_one keys new (d / 2) l new_is
@@ -76,7 +73,7 @@ module _ (g : WeightedGraph) (f : Forest) (risen : ℕ) where
 
       by_done : (get_or keys (x / 2) 0 ≡ true_key g f risen (x / 2)) ⊎ IsOn next entry x
           → (get_or new (x / 2) 0 ≡ true_key g f risen (x / 2)) ⊎ IsOn next (get_or next d 0) x
-      by_done (inl right) = inl (stays_right keys new (x / 2) mended right)
+      by_done (inl right) = inl (stays_right (x / 2) mended right)
       by_done (inr rest) = by_rest (on_rest next d x (subst (λ y. IsOn next y x) is rest))
 
   -- The whole chain of a vertex is.
@@ -101,9 +98,9 @@ module _ (g : WeightedGraph) (f : Forest) (risen : ℕ) where
           ∙ eqb-true (edge_at g e).v v on)
 
 -- Other keys are as many.
-pub made_with : (g : WeightedGraph) (s : Search) (keys : List ℕ) → IsMade g s → length keys ≡ length s.tour
+pub made_with : {g : WeightedGraph} {s : Search} (keys : List ℕ) → IsMade g s → length keys ≡ length s.tour
     → IsMade g (record s { tour = keys })
-made_with g s keys made size = record {
+made_with keys made size = record {
   small = made.small;
   cheap = made.cheap;
   fans = made.fans;
@@ -117,8 +114,7 @@ made_with g s keys made size = record {
 }
 
 -- Only keys differ, twice.
-pub keys_twice : (a b d : Search) (keys : List ℕ) → b ≡ record a { tour = b.tour } → d ≡ record b { tour = keys }
-    → d ≡ record a { tour = d.tour }
-keys_twice a b d keys e1 e2 =
-    e2 ∙ (ap (λ (s : Search). record s { tour = keys }) e1 ∙ ap (λ (t : List ℕ). record a { tour = t })
-    (sym (ap (λ (s : Search). s.tour) e2)))
+pub keys_twice : (a : Search) {b d : Search} (keys : List ℕ) → b ≡ record a { tour = b.tour } → d
+    ≡ record b { tour = keys } → d ≡ record a { tour = d.tour }
+keys_twice a keys e1 e2 = e2 ∙ (ap (λ (s : Search). record s { tour = keys }) e1
+    ∙ ap (λ (t : List ℕ). record a { tour = t }) (sym (ap (λ (s : Search). s.tour) e2)))

@@ -42,16 +42,16 @@ one_of zero x l = absurd (omega (arith, l))
 one_of (suc n) x l = omega arith
 
 -- Costs that are cheap are small.
-pub cheap_costs : (g : WeightedGraph) → IsGraph g → IsCheap g → AreCostsBelow g (2 ^ 60)
-cheap_costs g lawful cheap e l =
+pub cheap_costs : {g : WeightedGraph} → IsGraph g → IsCheap g → AreCostsBelow g (2 ^ 60)
+cheap_costs {g} lawful cheap e l =
     omega (arith, one_of g.n (unsigned_abs (edge_at g e).cost) (omega (arith, lawful.left e l)), cheap e l)
 
 -- A forest whose weights are no greater than the costs.
-pub made_least : (g : WeightedGraph) (t u : ForestTables) → u ≡ t → IsValidFor g t → t.root ≡ None
+pub made_least : {g : WeightedGraph} {t : ForestTables} {u : ForestTables} → u ≡ t → IsValidFor g t → t.root ≡ None
     → length t.up ≡ g.n + g.n / 2 → ((b : ℕ) → g.n ≤ b → (forest_of t).weight b ≡ pos 0)
     → ((c : ℕ) → ((e : ℕ) → e < length g.edges → unsigned_abs (edge_at g e).cost ≤ c) → (b : ℕ)
     → unsigned_abs ((forest_of t).weight b) ≤ c) → IsMadeFor g u
-made_least g t u same valid none size sets small = subst (λ (s : ForestTables). IsMadeFor g s) (sym same) (record {
+made_least {g} {t} same valid none size sets small = subst (λ (s : ForestTables). IsMadeFor g s) (sym same) (record {
   valid = valid;
   no_tree = none;
   size = size;
@@ -62,12 +62,12 @@ made_least g t u same valid none size sets small = subst (λ (s : ForestTables).
 })
 
 -- A forest whose weights are the raised costs.
-pub made_raised : (g : WeightedGraph) (y : List ℤ) (t u : ForestTables) → AreCostsBelow g (2 ^ 60)
+pub made_raised : {g : WeightedGraph} (y : List ℤ) {t : ForestTables} {u : ForestTables} → AreCostsBelow g (2 ^ 60)
     → ((most : ℕ) → AreCostsBelow g most → HaveRoom g most y) → u ≡ t → IsValidFor g t → t.root ≡ None
     → length t.up ≡ g.n + g.n / 2 → ((b : ℕ) → (forest_of t).weight b ≡ get_or y b (pos 0))
     → IsMadeFor g u × ((most : ℕ) → AreCostsBelow g most → (b : ℕ) → unsigned_abs ((forest_of u).weight b) ≤ most)
-made_raised g y t u costs have same valid none size weights = (
-  made_least g t u same valid none size sets small,
+made_raised {g} y {t} costs have same valid none size weights = (
+  made_least same valid none size sets small,
   subst (λ (s : ForestTables). (most : ℕ) → AreCostsBelow g most
       → (b : ℕ) → unsigned_abs ((forest_of s).weight b) ≤ most) (sym same) small,
 )
@@ -79,10 +79,10 @@ made_raised g y t u costs have same valid none size weights = (
     small most below b = subst (λ (w : ℤ). unsigned_abs w ≤ most) (sym (weights b)) ((have most below).small b)
 
 -- A forest whose weights were given.
-pub made_first : (g : WeightedGraph) (y : List ℤ) (t u : ForestTables) → AreFirst g y → u ≡ t → IsValidFor g t
-    → t.root ≡ None → length t.up ≡ g.n + g.n / 2 → ((b : ℕ) → (forest_of t).weight b ≡ get_or y b (pos 0))
-    → IsMadeFor g u
-made_first g y t u first same valid none size weights = subst (λ (s : ForestTables). IsMadeFor g s) (sym same) (record {
+pub made_first : {g : WeightedGraph} {y : List ℤ} {t : ForestTables} {u : ForestTables} → AreFirst g y → u ≡ t
+    → IsValidFor g t → t.root ≡ None → length t.up ≡ g.n + g.n / 2 →
+    ((b : ℕ) → (forest_of t).weight b ≡ get_or y b (pos 0)) → IsMadeFor g u
+made_first {g} {y} first same valid none size weights = subst (λ (s : ForestTables). IsMadeFor g s) (sym same) (record {
   valid = valid;
   no_tree = none;
   size = size;
@@ -103,15 +103,14 @@ raised_first g y cheap have = by_most (greatest g cheap)
     }
 
 -- An edge was read, and the numbers at its ends.
-pub room_read : (g : WeightedGraph) (y : List ℤ) (e : ℕ) (edge : WEdge) (a b : ℤ) → edge ≡ edge_at g e
+pub room_read : (g : WeightedGraph) (y : List ℤ) (e : ℕ) {edge : WEdge} (a b : ℤ) → edge ≡ edge_at g e
     → a ≡ get_or y edge.u (pos 0) → b ≡ get_or y edge.v (pos 0) → (a +ℤ b) ≤ℤ (pos 2 *ℤ edge.cost) → HasRoom g y e
-room_read g y e edge a b is left right le =
-    subst (λ (x : WEdge). (get_or y x.u (pos 0) +ℤ get_or y x.v (pos 0)) ≤ℤ (pos 2 *ℤ x.cost)) is
-    (omega (arith, ints, left, right, le))
+room_read g y e a b is left right le = subst (λ (x : WEdge). (get_or y x.u (pos 0) +ℤ get_or y x.v (pos 0)) ≤ℤ
+    (pos 2 *ℤ x.cost)) is (omega (arith, ints, left, right, le))
 
 -- First weights are small.
-pub first_small : (g : WeightedGraph) (y : List ℤ) → AreFirst g y → (v : ℕ) → unsigned_abs (get_or y v (pos 0)) ≤ 2 ^ 60
-first_small g y first v = by_size (cases_lt v g.n)
+pub first_small : {g : WeightedGraph} {y : List ℤ} → AreFirst g y → (v : ℕ) → unsigned_abs (get_or y v (pos 0)) ≤ 2 ^ 60
+first_small {g} {y} first v = by_size (cases_lt v g.n)
   where
     by_size : (v < g.n) ⊎ (g.n ≤ v) → unsigned_abs (get_or y v (pos 0)) ≤ 2 ^ 60
     by_size (inl l) = omega (arith, one_of g.n (unsigned_abs (get_or y v (pos 0))) (omega (arith, l)), first.range v)
@@ -119,12 +118,12 @@ first_small g y first v = by_size (cases_lt v g.n)
         omega (arith, ints, z))
 
 -- Numbers near wished ones may be the first.
-pub wished_first : (g : WeightedGraph) (ys y : List ℤ) → y ≡ ys → IsSmallGraph g → IsCheap g → length ys ≡ g.n
+pub wished_first : {g : WeightedGraph} (ys y : List ℤ) → y ≡ ys → IsSmallGraph g → IsCheap g → length ys ≡ g.n
     → ((most : ℕ) → ((e : ℕ) → e < length g.edges → unsigned_abs (edge_at g e).cost ≤ most) → (v : ℕ)
     → unsigned_abs (get_or ys v (pos 0)) ≤ 2 * most + MAX_WISH)
     → ((e : ℕ) → e < length g.edges → (get_or ys (edge_at g e).u (pos 0) +ℤ get_or ys (edge_at g e).v (pos 0)) ≤ℤ
     (pos 2 *ℤ (edge_at g e).cost)) → AreFirst g y
-wished_first g ys y same small cheap long near feasible = subst (λ (zs : List ℤ). AreFirst g zs) (sym same) (record {
+wished_first {g} ys y same small cheap long near feasible = subst (λ (zs : List ℤ). AreFirst g zs) (sym same) (record {
   long = long;
   range = λ v. (let w : (most : ℕ) × ((e : ℕ) → e < length g.edges → unsigned_abs (edge_at g e).cost ≤ most)
       × (g.n * most ≤ MAX_PRODUCT) = greatest g cheap in
@@ -139,17 +138,17 @@ wished_first g ys y same small cheap long near feasible = subst (λ (zs : List �
 })
 
 -- They are small, too.
-pub wished_small : (g : WeightedGraph) (ys y : List ℤ) → y ≡ ys → IsCheap g → length ys ≡ g.n
+pub wished_small : (g : WeightedGraph) {ys y : List ℤ} → y ≡ ys → IsCheap g → length ys ≡ g.n
     → ((most : ℕ) → AreCostsBelow g most → (v : ℕ) → unsigned_abs (get_or ys v (pos 0)) ≤ 2 * most + MAX_WISH)
     → AreSmall y
-wished_small g ys y same cheap long near = subst (λ (zs : List ℤ). AreSmall zs) (sym same) (λ v l. (
+wished_small g same cheap long near = subst (λ (zs : List ℤ). AreSmall zs) (sym same) (λ v l. (
     let w : (most : ℕ) × AreCostsBelow g most × (g.n * most ≤ MAX_PRODUCT) = greatest g cheap in
     omega (arith, near w.0 w.1 v, w.2, one_of g.n w.0 (omega (arith, l, long)))))
 
 -- The dual of a forest in range is small.
-pub small_dual : (g : WeightedGraph) (s : Search) (d : DualLists) → IsIdle g s → HasPerfect g
+pub small_dual : {g : WeightedGraph} {s : Search} {d : DualLists} → IsIdle g s → HasPerfect g
     → IsDualOf (length s.forest.hand) (forest_of s.forest) d → 2 * length d.z ≤ length s.forest.hand → IsSmallDual d
-small_dual g s d idle known is few = record {
+small_dual {s} {d} idle known is few = record {
   sets = omega (arith, few, idle.valid.vertices, idle.made.small.vertices);
   small_y = λ k l. (let w : get_or d.y k (pos 0) ≡ (forest_of s.forest).weight k =
       is.y k (omega (arith, l, is.vertices)) in omega (arith, ints, w, weight_low k));
@@ -158,14 +157,14 @@ small_dual g s d idle known is few = record {
 }
   where
     weight_low : (b : ℕ) → unsigned_abs ((forest_of s.forest).weight b) ≤ 6 * MAX_PRODUCT
-    weight_low b = small_weights g idle.made.small.lawful idle.made.cheap known.0 known.1 g.n s.first idle.made.first
-        idle.made.low (forest_of s.forest) s.risen idle.range s.forest.root idle.valid.valid b
+    weight_low b = small_weights idle.made.small.lawful idle.made.cheap known.1 idle.made.first
+        idle.made.low idle.range idle.valid.valid b
 
 -- And no number is far above the first weights and the costs.
-pub bounded_dual : (g : WeightedGraph) (s : Search) (d : DualLists) → IsIdle g s → HasPerfect g
+pub bounded_dual : {g : WeightedGraph} {s : Search} {d : DualLists} → IsIdle g s → HasPerfect g
     → IsDualOf (length s.forest.hand) (forest_of s.forest) d → 2 * length d.z ≤ length s.forest.hand
     → (most : ℕ) → AreCostsBelow g most → AreAtMost (2 * (g.n * s.first) + g.n * most) d
-bounded_dual g s d idle known is few most each = record {
+bounded_dual {g} {s} {d} idle known is few most each = record {
   vertices = λ k l. (let w : get_or d.y k (pos 0) ≡ (forest_of s.forest).weight k =
       is.y k (omega (arith, l, is.vertices)) in
       omega (arith, ints, w, weight_low k (omega (arith, l, is.vertices, idle.valid.vertices))));
@@ -177,24 +176,22 @@ bounded_dual g s d idle known is few most each = record {
     weight_low b some = omega (
       arith,
       one_of g.n s.first some,
-      weights_most g idle.made.small.lawful idle.made.cheap
-          known.0 known.1 g.n s.first idle.made.first idle.made.low (forest_of s.forest) s.risen idle.range
-          s.forest.root idle.valid.valid most each b,
+      weights_most idle.made.small.lawful idle.made.cheap
+          known.1 idle.made.first idle.made.low idle.range idle.valid.valid most each b,
     )
 
 -- Greater bounds hold too.
-pub at_most_more : (d : DualLists) (x y : ℕ) → x ≤ y → AreAtMost x d → AreAtMost y d
-at_most_more d x y le are = record {
+pub at_most_more : {d : DualLists} {x : ℕ} (y : ℕ) → x ≤ y → AreAtMost x d → AreAtMost y d
+at_most_more y le are = record {
   vertices = λ k l. omega (arith, le, are.vertices k l);
   sets = λ k l. omega (arith, le, are.sets k l);
 }
 
 -- What the run of a matcher comes to is bounded by its first weights.
-pub run_bounded : (g : WeightedGraph) (s end : Search) (d : DualLists) → IsReady s → end.first ≡ s.first
+pub run_bounded : (g : WeightedGraph) {s : Search} (end : Search) {d : DualLists} → IsReady s → end.first ≡ s.first
     → (first most : ℕ) → ((b : ℕ) → unsigned_abs ((forest_of s.forest).weight b) ≤ first)
     → AreAtMost (2 * (g.n * end.first) + g.n * most) d → AreAtMost (2 * (g.n * first) + g.n * most) d
-run_bounded g s end d ready same first most each are =
-    at_most_more d (2 * (g.n * end.first) + g.n * most) (2 * (g.n * first) + g.n * most)
+run_bounded g {s} end ready same first most each are = at_most_more (2 * (g.n * first) + g.n * most)
     (omega (arith, times_low g.n end.first first low)) are
   where
     by_weight : (s.first ≡ 0) ⊎ ((b : ℕ) × (unsigned_abs ((forest_of s.forest).weight b) ≡ s.first)) → end.first ≤ first
@@ -205,8 +202,8 @@ run_bounded g s end d ready same first most each are =
     low = by_weight ready.attained
 
 -- The bound for the usual first weights.
-pub best_bounded : (n most : ℕ) (d : DualLists) → AreAtMost (2 * (n * most) + n * most) d → AreAtMost (4 * n * most) d
-best_bounded n most d are = at_most_more d (2 * (n * most) + n * most) (4 * n * most) (omega (arith, four n most)) are
+pub best_bounded : (n most : ℕ) {d : DualLists} → AreAtMost (2 * (n * most) + n * most) d → AreAtMost (4 * n * most) d
+best_bounded n most are = at_most_more (4 * n * most) (omega (arith, four n most)) are
   where
     four : (k x : ℕ) → 4 * k * x ≡ 4 * (k * x)
     four zero x = omega arith
@@ -219,6 +216,6 @@ best_bounded n most d are = at_most_more d (2 * (n * most) + n * most) (4 * n * 
         sum a c (suc y) = omega (arith, sum a c y)
 
 -- The verdict on a dual that says yes.
-pub met_verdict : (g : WeightedGraph) (d : DualLists) (cost : ℤ) → SaysYes g d → dual_sum d ≡ cost
+pub met_verdict : {g : WeightedGraph} {d : DualLists} {cost : ℤ} → SaysYes g d → dual_sum d ≡ cost
     → verdict g d ≡ Yes cost
-met_verdict g d cost says sum = says_yes g d says ∙ ap (λ (x : ℤ). Yes x) sum
+met_verdict {g} {d} says sum = says_yes g d says ∙ ap (λ (x : ℤ). Yes x) sum

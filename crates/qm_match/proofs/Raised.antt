@@ -16,11 +16,10 @@ use Rattle.qm_match.specs.Weights.{left_to, HaveRoom, IsRoom}
 use Rattle.qm_match.proofs.Chains.{on_none, on_rest}
 
 -- A dart of a chain is passed, and what its edge leaves taken.
-pub chain_room : (next : List ℕ) (left : ℕ → ℤ) (old new : ℤ) (entry d from rest : ℕ) → entry ≡ suc d
-    → rest ≡ get_or next d 0 → new ≤ℤ old → new ≤ℤ left d
-    → ((x : ℕ) → IsOn next from x → (old ≤ℤ left x) ⊎ IsOn next entry x)
+pub chain_room : (next : List ℕ) (left : ℕ → ℤ) (old new : ℤ) (entry d from : ℕ) {rest : ℕ} → entry ≡ suc d → rest
+    ≡ get_or next d 0 → new ≤ℤ old → new ≤ℤ left d → ((x : ℕ) → IsOn next from x → (old ≤ℤ left x) ⊎ IsOn next entry x)
     → (x : ℕ) → IsOn next from x → (new ≤ℤ left x) ⊎ IsOn next rest x
-chain_room next left old new entry d from rest is rest_is less here done x on = by_done (done x on)
+chain_room next left old new entry d from {rest} is rest_is less here done x on = by_done (done x on)
   where
     by_rest : (d ≡ x) ⊎ IsOn next (get_or next d 0) x → (new ≤ℤ left x) ⊎ IsOn next rest x
     by_rest (inl e) = inl (subst (λ y. new ≤ℤ left y) e here)
@@ -37,8 +36,7 @@ pub chain_end : (g : WeightedGraph) (most : ℕ) (y : List ℤ) (v : ℕ) (room 
 chain_end g most y v room first next entry fans zero few done =
     record {
       few = few;
-      each =
-          λ d l at. by_done d (done d (subst (λ w. IsOn next (get_or first w 0) d) at (fans.all d l)));
+      each = λ d l at. by_done d (done d (subst (λ w. IsOn next (get_or first w 0) d) at (fans.all d l)));
     }
   where
     by_done : (d : ℕ) → (room ≤ℤ left_to g y d) ⊎ IsOn next entry d → room ≤ℤ left_to g y d
@@ -47,8 +45,8 @@ chain_end g most y v room first next entry fans zero few done =
 
 -- A cost that is read is small, and so is a number.
 pub cost_small : (g : WeightedGraph) (most k : ℕ) → AreCostsBelow g most → most ≤ 2 ^ 60 → k < length g.edges
-    → (edge : WEdge) → edge ≡ edge_at g k → unsigned_abs edge.cost ≤ 2 ^ 60
-cost_small g most k costs few low edge is = let same : unsigned_abs edge.cost ≡ unsigned_abs (edge_at g k).cost =
+    → {edge : WEdge} → edge ≡ edge_at g k → unsigned_abs edge.cost ≤ 2 ^ 60
+cost_small g most k costs few low {edge} is = let same : unsigned_abs edge.cost ≡ unsigned_abs (edge_at g k).cost =
     ap (λ (x : WEdge). unsigned_abs x.cost) is in omega (arith, same, costs k low, few)
 
 -- An edge's second dart ends where the edge begins.
@@ -56,8 +54,8 @@ odd_far : (g : WeightedGraph) (k : ℕ) → far (darts_of g) (2 * k + 1) ≡ (ed
 odd_far g k = ap (darts_of g).near (twin_odd (2 * k + 1) (λ x. absurd (omega arith)))
     ∙ near_even g (2 * k + 1 - 1) k (omega arith)
 
-module _ (g : WeightedGraph) (lawful : IsGraph g) (most : ℕ) (y : List ℤ) (have : HaveRoom g most y) (v : ℕ)
-    (low : v < g.n) (room : ℤ) (is : IsRoom g most y v room) (above : get_or y v (pos 0) ≤ℤ room) where
+module _ {g : WeightedGraph} (lawful : IsGraph g) {most : ℕ} {y : List ℤ} (have : HaveRoom g most y) {v : ℕ}
+    (low : v < g.n) {room : ℤ} (is : IsRoom g most y v room) (above : get_or y v (pos 0) ≤ℤ room) where
   abbrev raised : List ℤ
   raised = set y v room
 
@@ -74,16 +72,15 @@ module _ (g : WeightedGraph) (lawful : IsGraph g) (most : ℕ) (y : List ℤ) (h
       omega (arith, ints, h, have.small w)
 
   -- The edge of a dart from the vertex.
-  from_here : (a b e : ℕ) (cost : ℤ) → a ≡ v → b ≢ a → room ≤ℤ (cost -ℤ get_or y b (pos 0))
+  from_here : {a : ℕ} (b e : ℕ) (cost : ℤ) → a ≡ v → b ≢ a → room ≤ℤ (cost -ℤ get_or y b (pos 0))
       → (get_or raised a (pos 0) +ℤ get_or raised b (pos 0)) ≤ℤ cost
-  from_here a b e cost at ne le =
+  from_here {a} b e cost at ne le =
       let here : get_or raised a (pos 0) ≡ room = ap (λ x. get_or raised x (pos 0)) at ∙ raised_here in
       let there : get_or raised b (pos 0) ≡ get_or y b (pos 0) = raised_other b (λ s. ne (s ∙ sym at)) in
       omega (arith, ints, here, there, le)
 
   by_ends : (e : ℕ) → e < length g.edges → ((edge_at g e).u ≡ v) ⊎ ((edge_at g e).u ≢ v) → ((edge_at g e).v ≡ v)
-      ⊎ ((edge_at g e).v ≢ v)
-      → (get_or raised (edge_at g e).u (pos 0) +ℤ get_or raised (edge_at g e).v (pos 0)) ≤ℤ
+      ⊎ ((edge_at g e).v ≢ v) → (get_or raised (edge_at g e).u (pos 0) +ℤ get_or raised (edge_at g e).v (pos 0)) ≤ℤ
       (pos 2 *ℤ (edge_at g e).cost)
   by_ends e l (inl at) other =
       let half : (2 * e) / 2 ≡ e = omega arith in
@@ -91,7 +88,7 @@ module _ (g : WeightedGraph) (lawful : IsGraph g) (most : ℕ) (y : List ℤ) (h
       let there : get_or y (far (darts_of g) (2 * e)) (pos 0) ≡ get_or y (edge_at g e).v (pos 0) =
       ap (λ w. get_or y w (pos 0)) (dart_far g e) in
       let cost : (edge_at g ((2 * e) / 2)).cost ≡ (edge_at g e).cost = ap (λ k. (edge_at g k).cost) half in
-      from_here (edge_at g e).u (edge_at g e).v e (pos 2 *ℤ (edge_at g e).cost) at (λ s. lawful.apart e l (sym s))
+      from_here (edge_at g e).v e (pos 2 *ℤ (edge_at g e).cost) at (λ s. lawful.apart e l (sym s))
       (omega (arith, ints, leaves, there, cost))
   by_ends e l (inr off) (inl at) =
       let half : (2 * e + 1) / 2 ≡ e = omega arith in
@@ -101,7 +98,7 @@ module _ (g : WeightedGraph) (lawful : IsGraph g) (most : ℕ) (y : List ℤ) (h
       ap (λ w. get_or y w (pos 0)) (odd_far g e) in
       let cost : (edge_at g ((2 * e + 1) / 2)).cost ≡ (edge_at g e).cost = ap (λ k. (edge_at g k).cost) half in
       let turned : (get_or raised (edge_at g e).v (pos 0) +ℤ get_or raised (edge_at g e).u (pos 0)) ≤ℤ
-      (pos 2 *ℤ (edge_at g e).cost) = from_here (edge_at g e).v (edge_at g e).u e (pos 2 *ℤ (edge_at g e).cost) at
+      (pos 2 *ℤ (edge_at g e).cost) = from_here (edge_at g e).u e (pos 2 *ℤ (edge_at g e).cost) at
       (lawful.apart e l) (omega (arith, ints, leaves, there, cost)) in
       omega (arith, ints, turned)
   by_ends e l (inr off) (inr away) =

@@ -24,9 +24,9 @@ use Rattle.qm_match.specs.declared.search.Search.{Search}
 use Rattle.qm_match.proofs.Taken.{made_after}
 
 -- The tables that are ready fit the graph for which the matcher is made.
-pub ready_idle : (g : WeightedGraph) (s : Search) → IsSmallGraph g → IsCheap g → IsReady s → IsMadeFor g s.forest
+pub ready_idle : {g : WeightedGraph} {s : Search} → IsSmallGraph g → IsCheap g → IsReady s → IsMadeFor g s.forest
     → IsIdle g s
-ready_idle g s small cheap ready for = record {
+ready_idle {g} {s} small cheap ready for = record {
   made = record {
     small = small;
     cheap = cheap;
@@ -88,9 +88,9 @@ ready_idle g s small cheap ready for = record {
         by_weight (inr w) = by_size w.0 w.1 (cases_lt w.0 g.n)
 
 -- Chains that fit a graph fit the forest's table of darts.
-pub chains_ready : (g : WeightedGraph) (t : ForestTables) (first next : List ℕ) → AreFans g first next → IsValidFor g t
+pub chains_ready : {g : WeightedGraph} {t : ForestTables} (first next : List ℕ) → AreFans g first next → IsValidFor g t
     → (d : ℕ) → d < length t.near → IsOn next (get_or first (get_or t.near d 0) 0) d
-chains_ready g t first next fans valid d l =
+chains_ready {g} first next fans valid d l =
     let low : d < 2 * length g.edges = subst (λ n. d < n) valid.darts l in
     subst (λ w. IsOn next (get_or first w 0) d) (sym (valid.ends d low)) (fans.all d low)
 
@@ -106,25 +106,24 @@ no_slack : (x : ℤ) → x ≡ pos 0 → int_lt (pos 0) x ≡ false
 no_slack x e = subst (λ y. int_lt (pos 0) y ≡ false) (sym e) refl
 
 -- A free edge may be matched once its one end is the root.
-pub free_augments : (g : WeightedGraph) (f : Forest) (e : ℕ) → IsValid (darts_of g) f None → IsFreeEdge g f e
+pub free_augments : {g : WeightedGraph} {f : Forest} {e : ℕ} → IsValid (darts_of g) f None → IsFreeEdge g f e
     → edge_kind g (rooted f (f.out (edge_at g e).u)) e ≡ Augment
-free_augments g f e valid free =
-    cond-false (int_lt (pos 0) (slack_of g f e)) Loose _ (no_slack (slack_of g f e) (omega (arith, ints, free.tight)))
-    ∙ by_kind _ _ (f.mate (f.out (edge_at g e).u)) (f.mate (f.out (edge_at g e).v)) _
-    (set_here f.label (f.out (edge_at g e).u) Outer)
+free_augments {g} {f} {e} valid free = cond-false (int_lt (pos 0) (slack_of g f e)) Loose _
+    (no_slack (slack_of g f e) (omega (arith, ints, free.tight))) ∙ by_kind _ _ (f.mate (f.out (edge_at g e).u))
+    (f.mate (f.out (edge_at g e).v)) _ (set_here f.label (f.out (edge_at g e).u) Outer)
     (set_there f.label (f.out (edge_at g e).u) (f.out (edge_at g e).v) Outer (λ same. free.apart (sym same))
     ∙ valid.no_tree refl (f.out (edge_at g e).v)) free.right
 
 -- Then no search goes on.
-pub matched_idle : (g : WeightedGraph) (old : Search) (t u : ForestTables) (b d : ℕ) → IsIdle g old
+pub matched_idle : {g : WeightedGraph} {old : Search} (t : ForestTables) {u : ForestTables} (b d : ℕ) → IsIdle g old
     → forest_of t ≡ rooted (forest_of old.forest) b → IsValidFor g u → u.root ≡ None → (r : ℕ) × (t.root ≡ Some r)
     × IsAugmented (darts_of g) (forest_of t) (forest_of u) r d → IsIdle g (record old { forest = u })
-matched_idle g old t u b d idle rooted_is valid root w = record {
-  made = made_after g old u idle.made size;
+matched_idle {old} t {u} b d idle rooted_is valid root w = record {
+  made = made_after u idle.made size;
   valid = valid;
   no_tree = root;
   few = idle.few;
-  range = range_same g.n old.first (forest_of old.forest) (forest_of u) old.risen size
+  range = range_same (forest_of u) size
       (λ x. ap (λ (f : Forest). f.weight x) w.2.changed ∙ ap (λ (f : Forest). f.weight x) rooted_is) idle.range;
 }
   where

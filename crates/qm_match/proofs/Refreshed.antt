@@ -13,11 +13,11 @@ use Rattle.qm_match.specs.declared.search.Search.{Search}
 use Rattle.qm_match.proofs.Mended.{mended_on, stay_right, stays_right}
 
 -- Room stays where all tables are as long as they were.
-pub made_like : (g : WeightedGraph) (old new : Search) → IsMade g old
+pub made_like : {g : WeightedGraph} {old : Search} (new : Search) → IsMade g old
     → ◌≡◌ {A = Fans × ℕ} (new.fans, new.first) (old.fans, old.first) → length new.forest.up ≡ length old.forest.up
     → length new.tour ≡ length old.tour → length new.inner.items ≡ length old.inner.items
     → g.n ≤ vec_capacity new.members → g.n ≤ vec_capacity new.parts → IsMade g new
-made_like g old new made fans up tour inner members parts = record {
+made_like {g} new made fans up tour inner members parts = record {
   small = made.small;
   cheap = made.cheap;
   fans = subst (λ (x : Fans × ℕ). AreFans g x.0.first.items x.0.next.items) (sym fans) made.fans;
@@ -31,19 +31,17 @@ made_like g old new made fans up tour inner members parts = record {
 }
 
 -- What was made right stays so.
-pub stays_fresh : (g : WeightedGraph) (old new : Search) (b : ℕ) → IsRefreshed g old new → IsFreshAt g old b
+pub stays_fresh : {g : WeightedGraph} {old new : Search} {b : ℕ} → IsRefreshed g old new → IsFreshAt g old b
     → IsFreshAt g new b
-stays_fresh g old new b is fresh = record {
+stays_fresh {g} {old} {new} {b} is fresh = record {
   mark = λ inner. is.marked b (label inner) (fresh.mark (label inner));
   leaf = λ inner h. subst (λ (t : ForestTables). get_or new.tour (leaf_of g b) 0
       ≡ true_key g (forest_of t) new.risen (leaf_of g b)) (sym is.forest)
       (subst (λ r. get_or new.tour (leaf_of g b) 0 ≡ true_key g (forest_of old.forest) r (leaf_of g b)) (sym is.risen)
-      (stays_right g (forest_of old.forest) old.risen old.tour new.tour (leaf_of g b) is.mended
-      (fresh.leaf (label inner) h)));
+      (stays_right g (forest_of old.forest) old.risen (leaf_of g b) is.mended (fresh.leaf (label inner) h)));
   edges = λ other. subst (λ (t : ForestTables). AreRightAt g (forest_of t) new.risen new.tour ((forest_of t).holds b))
       (sym is.forest) (subst (λ r. AreRightAt g (forest_of old.forest) r new.tour ((forest_of old.forest).holds b))
-      (sym is.risen)
-      (stay_right g (forest_of old.forest) old.risen old.tour new.tour ((forest_of old.forest).holds b) is.mended
+      (sym is.risen) (stay_right g (forest_of old.forest) old.risen ((forest_of old.forest).holds b) is.mended
       (fresh.edges (λ inner. other (ap (λ (t : ForestTables). (forest_of t).label b) is.forest ∙ inner)))));
 }
   where
@@ -51,14 +49,14 @@ stays_fresh g old new b is fresh = record {
     label inner = ap (λ (t : ForestTables). (forest_of t).label b) (sym is.forest) ∙ inner
 
 -- More and more is made right.
-pub refreshed_on : (g : WeightedGraph) (a b d : Search) → IsRefreshed g a b → IsRefreshed g b d → IsRefreshed g a d
-refreshed_on g a b d p q = record {
+pub refreshed_on : {g : WeightedGraph} {a b d : Search} → IsRefreshed g a b → IsRefreshed g b d → IsRefreshed g a d
+refreshed_on {g} {a} {b} {d} p q = record {
   forest = q.forest ∙ p.forest;
   risen = q.risen ∙ p.risen;
   first = q.first ∙ p.first;
   parts = q.parts ∙ p.parts;
   made = q.made;
-  mended = mended_on g (forest_of a.forest) a.risen a.tour b.tour d.tour p.mended
+  mended = mended_on g (forest_of a.forest) a.risen p.mended
       (subst (λ (t : ForestTables). IsMended g (forest_of t) a.risen b.tour d.tour) p.forest
       (subst (λ r. IsMended g (forest_of b.forest) r b.tour d.tour) p.risen q.mended));
   marked = λ x inner on. q.marked x (ap (λ (t : ForestTables). (forest_of t).label x) p.forest ∙ inner)
@@ -66,9 +64,9 @@ refreshed_on g a b d p q = record {
 }
 
 -- What may be made right may still be.
-pub may_later : (g : WeightedGraph) (old new : Search) (b : ℕ) → IsRefreshed g old new → MayRefresh g old b
+pub may_later : {g : WeightedGraph} {old new : Search} {b : ℕ} → IsRefreshed g old new → MayRefresh g old b
     → MayRefresh g new b
-may_later g old new b is may = record {
+may_later {g} {b} is may = record {
   made = is.made;
   valid = subst (λ (t : ForestTables). IsValidFor g t) (sym is.forest) may.valid;
   low = subst (λ (t : ForestTables). b < length t.up) (sym is.forest) may.low;
@@ -76,12 +74,13 @@ may_later g old new b is may = record {
 }
 
 -- Only keys and the room for vertices differ, twice.
-pub members_twice : (a b d : Search) → b ≡ record a { tour = b.tour; members = b.members }
+pub members_twice : (a : Search) {b d : Search} → b ≡ record a { tour = b.tour; members = b.members }
     → d ≡ record b { tour = d.tour; members = d.members } → d ≡ record a { tour = d.tour; members = d.members }
-members_twice a b d e1 e2 = e2 ∙ ap (λ (s : Search). record s { tour = d.tour; members = d.members }) e1
+members_twice a {d} e1 e2 = e2 ∙ ap (λ (s : Search). record s { tour = d.tour; members = d.members }) e1
 
-pub made_members : (g : WeightedGraph) (a b : Search) → IsMade g a → b ≡ record a { tour = b.tour; members = b.members }
-    → length b.tour ≡ length a.tour → g.n ≤ vec_capacity b.members → IsMade g b
-made_members g a b made same size room = made_like g a b made (ap (λ (s : Search). (s.fans, s.first)) same)
+pub made_members : {g : WeightedGraph} {a : Search} {b : Search} → IsMade g a → b
+    ≡ record a { tour = b.tour; members = b.members } → length b.tour ≡ length a.tour → g.n ≤ vec_capacity b.members
+    → IsMade g b
+made_members {g} {b} made same size room = made_like b made (ap (λ (s : Search). (s.fans, s.first)) same)
     (ap (λ (s : Search). length s.forest.up) same) size (ap (λ (s : Search). length s.inner.items) same) room
     (subst (λ (s : Search). g.n ≤ vec_capacity s.parts) (sym same) made.parts)

@@ -34,26 +34,25 @@ use Rattle.qm_match.specs.declared.search.Search.{Search}
 use Rattle.qm_match.proofs.Refreshed.{made_like}
 
 -- After a step of the forest, and when keys and marks are made right, the search goes on.
-pub step_taken : (g : WeightedGraph) (old : Search) (t : ForestTables) (new : Search) → IsMade g old
+pub step_taken : {g : WeightedGraph} {old : Search} {t : ForestTables} {new : Search} → IsMade g old
     → AreLow g (forest_of old.forest) old.risen old.tour → IsInRange g.n old.first (forest_of old.forest) old.risen
     → IsValidFor g t → IsRefreshed g (record old { forest = t }) new
     → IsTurned g (forest_of old.forest) (forest_of t) old.risen new.tour → (forest_of t).size
     ≡ (forest_of old.forest).size → ((b : ℕ) → (forest_of t).weight b ≡ (forest_of old.forest).weight b)
     → ((b : ℕ) → (forest_of t).label b ≡ Inner → get_or new.inner.items b false ≡ true) → (r : ℕ) × (t.root ≡ Some r)
     → IsUnderWay g new
-step_taken g old t new made low range valid is turned size weights marked tree = record {
+step_taken {g} {old} {t} {new} made low range valid is turned size weights marked tree = record {
   tree = subst (λ (x : ForestTables). (r : ℕ) × (x.root ≡ Some r)) (sym is.forest) tree;
   made = is.made;
   valid = subst (λ (x : ForestTables). IsValidFor g x) (sym is.forest) valid;
   low = subst (λ (x : ForestTables). AreLow g (forest_of x) new.risen new.tour) (sym is.forest)
-      (subst (λ r. AreLow g (forest_of t) r new.tour) (sym is.risen)
-      (stay_low g is.made.small.lawful (forest_of old.forest) (forest_of t) old.risen old.tour new.tour low is.mended
+      (subst (λ r. AreLow g (forest_of t) r new.tour) (sym is.risen) (stay_low is.made.small.lawful low is.mended
       turned));
   marked = λ b inner. marked b (ap (λ (x : ForestTables). (forest_of x).label b) (sym is.forest) ∙ inner);
   range = subst (λ n. IsInRange g.n n (forest_of new.forest) new.risen) (sym is.first)
       (subst (λ (x : ForestTables). IsInRange g.n old.first (forest_of x) new.risen) (sym is.forest)
       (subst (λ r. IsInRange g.n old.first (forest_of t) r) (sym is.risen)
-      (range_same g.n old.first (forest_of old.forest) (forest_of t) old.risen size weights range)));
+      (range_same (forest_of t) size weights range)));
 }
 
 -- What is right at a blossom, said of the forest's tables after the step.
@@ -63,9 +62,9 @@ pub record IsRightIn (g : WeightedGraph) (t : ForestTables) (risen : ℕ) (new :
       ≡ true_key g (forest_of t) risen (leaf_of g b)
   pub edges : (forest_of t).label b ≢ Inner → AreRightAt g (forest_of t) risen new.tour ((forest_of t).holds b)
 
-pub right_in : (g : WeightedGraph) (old : Search) (t : ForestTables) (new : Search) (b : ℕ)
+pub right_in : {g : WeightedGraph} (old : Search) (t : ForestTables) {new : Search} {b : ℕ}
     → IsRefreshed g (record old { forest = t }) new → IsFreshAt g new b → IsRightIn g t old.risen new b
-right_in g old t new b is fresh = record {
+right_in {g} old t {new} {b} is fresh = record {
   mark = λ inner. fresh.mark (back inner);
   leaf = λ inner h. subst (λ (x : ForestTables). get_or new.tour (leaf_of g b) 0
       ≡ true_key g (forest_of x) old.risen (leaf_of g b)) is.forest
@@ -80,7 +79,7 @@ right_in g old t new b is fresh = record {
     back inner = ap (λ (x : ForestTables). (forest_of x).label b) is.forest ∙ inner
 
 -- The tree has grown.
-module _ (g : WeightedGraph) (old : Search) (t : ForestTables) (new : Search) (d m : ℕ) (way : IsUnderWay g old)
+module _ {g : WeightedGraph} {old : Search} {t : ForestTables} {new : Search} (d m : ℕ) (way : IsUnderWay g old)
     (valid : IsValidFor g t) (is : IsRefreshed g (record old { forest = t }) new)
     (mate : (forest_of old.forest).mate ((forest_of old.forest).out (far (darts_of g) d)) ≡ Some m)
     (grown_is : forest_of t ≡ grown (darts_of g) (forest_of old.forest) d m) where
@@ -98,7 +97,7 @@ module _ (g : WeightedGraph) (old : Search) (t : ForestTables) (new : Search) (d
 
   pub grown_way : t.root ≡ old.forest.root → IsRightIn g t old.risen new inn → IsRightIn g t old.risen new outer
       → inn ≢ outer → IsUnderWay g new
-  grown_way root at_inner at_outer apart = step_taken g old t new way.made way.low way.range valid is
+  grown_way root at_inner at_outer apart = step_taken way.made way.low way.range valid is
       (subst (λ (f : Forest). IsTurned g (forest_of old.forest) f old.risen new.tour) (sym grown_is)
       (grown_turned g (forest_of old.forest) old.forest.root way.valid.valid d m old.risen new.tour mate
       (subst (λ (f : Forest). AreRightAt g f old.risen new.tour (f.holds outer)) grown_is
@@ -118,8 +117,7 @@ module _ (g : WeightedGraph) (old : Search) (t : ForestTables) (new : Search) (d
           absurd (let c : Outer ≡ Inner = sym outer_label ∙ (ap (forest_of t).label (sym e) ∙ inner) in cc c)
       marks b inner (inr nu) (inl e) =
           subst (λ x. get_or new.inner.items x false ≡ true) (sym e) (at_inner.mark inner_label)
-      marks b inner (inr nu) (inr ni) =
-          is.marked b inner (way.marked b
+      marks b inner (inr nu) (inr ni) = is.marked b inner (way.marked b
           (sym (labels b ∙ (set_there (set_at (forest_of old.forest).label inn Inner) outer b Outer nu
           ∙ set_there (forest_of old.forest).label inn b Inner ni)) ∙ inner))
 
@@ -136,21 +134,20 @@ module _ (g : WeightedGraph) (old : Search) (t : ForestTables) (new : Search) (d
       (record { vertex = seeking.vertex; root_is = seeking.root_is; before = seeking.before })))
 
 -- A cycle has become one blossom.
-module _ (g : WeightedGraph) (old : Search) (t : ForestTables) (new : Search) (d : ℕ) (way : IsUnderWay g old)
+module _ {g : WeightedGraph} {old : Search} {t : ForestTables} {new : Search} {d : ℕ} (way : IsUnderWay g old)
     (valid : IsValidFor g t) (is : IsRefreshed g (record old { forest = t }) new)
     (s : IsShrinking (darts_of g) (forest_of old.forest) (forest_of t) old.forest.root t.root d) where
   pub shrunk_way : ((p : ℕ) → s.inside p ≡ true → get_or old.inner.items p false ≡ true
       → AreRightAt g (forest_of t) old.risen new.tour ((forest_of t).holds p)) → IsUnderWay g new
-  shrunk_way right = step_taken g old t new way.made way.low way.range valid is turned s.shrunk.size s.shrunk.weight
+  shrunk_way right = step_taken way.made way.low way.range valid is turned s.shrunk.size s.shrunk.weight
       (λ b inner. is.marked b inner (way.marked b (was b inner))) (cond (s.inside s.r) s.set s.r, s.root_is)
     where
       turned : IsTurned g (forest_of old.forest) (forest_of t) old.risen new.tour
-      turned = shrunk_turned g way.made.small.lawful (forest_of old.forest) (forest_of t) old.forest.root t.root d
+      turned = shrunk_turned way.made.small.lawful
           way.valid.valid s old.risen new.tour (λ p on inner. right p on (way.marked p inner))
 
       was : (b : ℕ) → (forest_of t).label b ≡ Inner → (forest_of old.forest).label b ≡ Inner
-      was = shrunk_inner g way.made.small.lawful (forest_of old.forest) (forest_of t) old.forest.root t.root d
-          way.valid.valid s
+      was = shrunk_inner way.made.small.lawful way.valid.valid s
 
   pub shrunk_less : steps_left g.n (forest_of new.forest) < steps_left g.n (forest_of old.forest)
   shrunk_less = subst (λ (x : ForestTables). steps_left g.n (forest_of x) < steps_left g.n (forest_of old.forest))
@@ -159,11 +156,10 @@ module _ (g : WeightedGraph) (old : Search) (t : ForestTables) (new : Search) (d
 
   pub shrunk_goes_on : GoesOn g.n old.forest new.forest
   shrunk_goes_on v seeking = subst (λ (x : ForestTables). IsSeeking g.n (forest_of x) x.root v) (sym is.forest)
-      (seeking_shrunk g way.made.small.lawful (forest_of old.forest) (forest_of t) old.forest.root t.root d v
-      way.valid.valid s seeking)
+      (seeking_shrunk way.made.small.lawful way.valid.valid s seeking)
 
 -- An inner set has been opened.
-module _ (g : WeightedGraph) (old : Search) (t : ForestTables) (new : Search) (b : ℕ) (way : IsUnderWay g old)
+module _ {g : WeightedGraph} {old : Search} {t : ForestTables} {new : Search} {b : ℕ} (way : IsUnderWay g old)
     (valid : IsValidFor g t) (is : IsRefreshed g (record old { forest = t }) new)
     (x : IsExpanding (darts_of g) (forest_of old.forest) (forest_of t) b) where
   module _ (r : ℕ) (root : old.forest.root ≡ Some r) where
@@ -172,13 +168,11 @@ module _ (g : WeightedGraph) (old : Search) (t : ForestTables) (new : Search) (b
 
     opened_way : t.root ≡ old.forest.root → ((j : ℕ) → j ≤ 2 * x.o.half → IsRightIn g t old.risen new (x.o.q j))
         → IsUnderWay g new
-    opened_way root_is right = step_taken g old t new way.made way.low way.range valid is
-        (opened_turned g way.made.small.lawful (forest_of old.forest) (forest_of t) r x.o rooted_valid x.opening
-        x.opened old.risen new.tour (λ j l other. (right j l).edges other)
-        (λ j l inner h. (right j l).leaf inner h))
-        x.opened.size x.opened.weight
-        (λ c inner. marks c inner (opened_inner g way.made.small.lawful (forest_of old.forest) (forest_of t) r x.o
-        rooted_valid x.opening x.opened c inner)) (way.tree.0, root_is ∙ way.tree.1)
+    opened_way root_is right = step_taken way.made way.low way.range valid is
+        (opened_turned way.made.small.lawful rooted_valid x.opening x.opened old.risen new.tour
+        (λ j l other. (right j l).edges other) (λ j l inner h. (right j l).leaf inner h)) x.opened.size x.opened.weight
+        (λ c inner. marks c inner (opened_inner way.made.small.lawful rooted_valid x.opening x.opened c inner))
+        (way.tree.0, root_is ∙ way.tree.1)
       where
         marks : (c : ℕ) → (forest_of t).label c ≡ Inner → ((j : ℕ) × (j ≤ 2 * x.o.half) × (x.o.q j ≡ c))
             ⊎ ((forest_of old.forest).label c ≡ Inner) → get_or new.inner.items c false ≡ true
@@ -188,12 +182,10 @@ module _ (g : WeightedGraph) (old : Search) (t : ForestTables) (new : Search) (b
 
     opened_less : steps_left g.n (forest_of new.forest) < steps_left g.n (forest_of old.forest)
     opened_less = subst (λ (y : ForestTables). steps_left g.n (forest_of y) < steps_left g.n (forest_of old.forest))
-        (sym is.forest) (opened_fewer g way.made.small.lawful (forest_of old.forest) (forest_of t) r x.o rooted_valid
-        x.opening x.opened)
+        (sym is.forest) (opened_fewer way.made.small.lawful rooted_valid x.opening x.opened)
 
   by_root : (r : ℕ) × (old.forest.root ≡ Some r) × IsTree (darts_of g) (forest_of old.forest) r
-  by_root = tree_of (darts_of g) (are_darts g way.made.small.lawful) (forest_of old.forest) old.forest.root
-      way.valid.valid x.o.b (inner_named ((forest_of old.forest).label x.o.b) x.opening.label)
+  by_root = tree_of (are_darts way.made.small.lawful) way.valid.valid x.o.b (inner_named x.opening.label)
 
   pub expanded_way : t.root ≡ old.forest.root → ((j : ℕ) → j ≤ 2 * x.o.half → IsRightIn g t old.risen new (x.o.q j))
       → IsUnderWay g new
@@ -205,14 +197,13 @@ module _ (g : WeightedGraph) (old : Search) (t : ForestTables) (new : Search) (b
   pub expanded_on : t.root ≡ old.forest.root → GoesOn g.n old.forest new.forest
   expanded_on root v seeking = subst (λ (y : ForestTables). IsSeeking g.n (forest_of y) y.root v) (sym is.forest)
       (subst (λ (o : Option ℕ). IsSeeking g.n (forest_of t) o v) (sym (root ∙ seeking.root_is))
-      (seeking_opened g way.made.small.lawful (forest_of old.forest) (forest_of t) x.o v
-      (rooted_valid ((forest_of old.forest).out v) seeking.root_is) x.opening x.opened
-      (subst (λ (o : Option ℕ). IsSeeking g.n (forest_of old.forest) o v) seeking.root_is seeking)))
+      (seeking_opened way.made.small.lawful (rooted_valid ((forest_of old.forest).out v) seeking.root_is) x.opening
+      x.opened (subst (λ (o : Option ℕ). IsSeeking g.n (forest_of old.forest) o v) seeking.root_is seeking)))
 
 -- The ring of a set that is in use.
-ring_of : (g : WeightedGraph) (t : ForestTables) (b : ℕ) → IsValidFor g t → g.n ≤ b → get_or t.parts b 0 ≢ 0
+ring_of : {g : WeightedGraph} {t : ForestTables} (b : ℕ) → IsValidFor g t → g.n ≤ b → get_or t.parts b 0 ≢ 0
     → IsRing (darts_of g) (forest_of t) b
-ring_of g t b valid h live = valid.valid.nested.rings b h live
+ring_of b valid h live = valid.valid.nested.rings b h live
 
 -- A part of it.
 abbrev pub part_of : (t : ForestTables) (b k : ℕ) → ℕ
@@ -223,22 +214,20 @@ by_blossom : (g : WeightedGraph) (t : ForestTables) (p : ℕ) → IsBlossom (dar
 by_blossom g t p (inl l) = inl l
 by_blossom g t p (inr w) = inr w.1
 
-pub part_in_use : (g : WeightedGraph) → IsGraph g → (t : ForestTables) (b k : ℕ) → IsValidFor g t → g.n ≤ b
+pub part_in_use : {g : WeightedGraph} → IsGraph g → {t : ForestTables} (b k : ℕ) → IsValidFor g t → g.n ≤ b
     → get_or t.parts b 0 ≢ 0 → (part_of t b k < g.n) ⊎ (get_or t.parts (part_of t b k) 0 ≢ 0)
-part_in_use g is t b k valid h live =
-    by_blossom g t (part_of t b k) (part_used (darts_of g) (are_darts g is) (forest_of t) valid.valid.nested b
-    (ring_of g t b valid h live) k)
+part_in_use {g} is {t} b k valid h live = by_blossom g t (part_of t b k)
+    (part_used (are_darts is) valid.valid.nested (ring_of b valid h live) k)
 
 -- Keys may be mended at each.
-pub may_part : (g : WeightedGraph) (s : Search) (b k : ℕ) → IsMade g s → IsValidFor g s.forest → g.n ≤ b
+pub may_part : {g : WeightedGraph} {s : Search} (b k : ℕ) → IsMade g s → IsValidFor g s.forest → g.n ≤ b
     → get_or s.forest.parts b 0 ≢ 0 → MayRefresh g s (part_of s.forest b k)
-may_part g s b k made valid h live =
+may_part b k made valid h live =
     record {
       made = made;
       valid = valid;
-      low = (ring_of g s.forest b valid h live).below k;
-      used =
-          part_in_use g made.small.lawful s.forest b k valid h live;
+      low = (ring_of b valid h live).below k;
+      used = part_in_use made.small.lawful b k valid h live;
     }
 
 ring_sum_high : (next f : ℕ → ℕ) (front n : ℕ) → ((k : ℕ) → 1 ≤ f (walk next front k)) → n ≤ ring_sum next f front n
@@ -246,31 +235,27 @@ ring_sum_high next f front zero each = omega arith
 ring_sum_high next f front (suc n) each = omega (arith, ring_sum_high next f front n each, each n)
 
 -- A set has no more parts than there are vertices.
-pub parts_few : (g : WeightedGraph) → IsGraph g → (t : ForestTables) (b : ℕ) → IsValidFor g t → g.n ≤ b
+pub parts_few : {g : WeightedGraph} → IsGraph g → {t : ForestTables} (b : ℕ) → IsValidFor g t → g.n ≤ b
     → get_or t.parts b 0 ≢ 0 → get_or t.parts b 0 ≤ g.n
-parts_few g is t b valid h live =
-    let ring : IsRing (darts_of g) (forest_of t) b = ring_of g t b valid h live in
-    let shared : blossom_size g.n (forest_of t) b
-    ≡ count_below (λ v. ring_sum (forest_of t).nest.after (λ p. bool_number ((forest_of t).holds p v))
-    ((forest_of t).nest.head b) ((forest_of t).nest.parts b)) g.n =
-    count_below_same (λ v. bool_number ((forest_of t).holds b v))
-    (λ v. ring_sum (forest_of t).nest.after (λ p. bool_number ((forest_of t).holds p v)) ((forest_of t).nest.head b)
-    ((forest_of t).nest.parts b)) g.n ring.shared in
+parts_few {g} is {t} b valid h live =
+    let ring : IsRing (darts_of g) (forest_of t) b = ring_of b valid h live in
+    let shared : blossom_size g.n (forest_of t) b ≡ count_below (λ v. ring_sum (forest_of t).nest.after
+    (λ p. bool_number ((forest_of t).holds p v)) ((forest_of t).nest.head b) ((forest_of t).nest.parts b)) g.n =
+    count_below_same (λ v. bool_number ((forest_of t).holds b v)) (λ v. ring_sum (forest_of t).nest.after
+    (λ p. bool_number ((forest_of t).holds p v)) ((forest_of t).nest.head b) ((forest_of t).nest.parts b)) g.n
+    ring.shared in
     let sums : count_below (λ v. ring_sum (forest_of t).nest.after (λ p. bool_number ((forest_of t).holds p v))
-    ((forest_of t).nest.head b) ((forest_of t).nest.parts b)) g.n
-    ≡ ring_sum (forest_of t).nest.after (blossom_size g.n (forest_of t)) ((forest_of t).nest.head b)
-    ((forest_of t).nest.parts b) =
-    counts_exchanged (forest_of t).nest.after (λ p v. bool_number ((forest_of t).holds p v))
-    ((forest_of t).nest.head b) g.n ((forest_of t).nest.parts b) in
+    ((forest_of t).nest.head b) ((forest_of t).nest.parts b)) g.n ≡ ring_sum (forest_of t).nest.after
+    (blossom_size g.n (forest_of t)) ((forest_of t).nest.head b) ((forest_of t).nest.parts b) = counts_exchanged
+    (forest_of t).nest.after (λ p v. bool_number ((forest_of t).holds p v)) ((forest_of t).nest.head b) g.n
+    ((forest_of t).nest.parts b) in
     let many : get_or t.parts b 0 ≤ ring_sum (forest_of t).nest.after (blossom_size g.n (forest_of t))
-    ((forest_of t).nest.head b) ((forest_of t).nest.parts b) =
-    ring_sum_high (forest_of t).nest.after (blossom_size g.n (forest_of t)) ((forest_of t).nest.head b)
-    (get_or t.parts b 0)
-    (λ k. some (odd_blossom (darts_of g) (are_darts g is) (forest_of t) valid.valid.nested (part_of t b k)
-    (part_used (darts_of g) (are_darts g is) (forest_of t) valid.valid.nested b ring k))) in
-    let all : blossom_size g.n (forest_of t) b ≤ count_below (λ v. 1) g.n =
-    count_below_le (λ v. bool_number ((forest_of t).holds b v)) (λ v. 1) g.n
-    (λ v l. one ((forest_of t).holds b v)) in
+    ((forest_of t).nest.head b) ((forest_of t).nest.parts b) = ring_sum_high (forest_of t).nest.after
+    (blossom_size g.n (forest_of t)) ((forest_of t).nest.head b) (get_or t.parts b 0)
+    (λ k. some (odd_blossom (are_darts is) valid.valid.nested (part_of t b k)
+    (part_used (are_darts is) valid.valid.nested ring k))) in
+    let all : blossom_size g.n (forest_of t) b ≤ count_below (λ v. 1) g.n = count_below_le
+    (λ v. bool_number ((forest_of t).holds b v)) (λ v. 1) g.n (λ v l. one ((forest_of t).holds b v)) in
     omega (arith, shared, sums, many, all, count_below_ones g.n)
   where
     some : {x : ℕ} → x % 2 ≡ 1 → 1 ≤ x
@@ -281,27 +266,25 @@ parts_few g is t b valid h live =
     one false = omega arith
 
 -- Keys may be mended at the blossom of a vertex.
-pub may_vertex : (g : WeightedGraph) (s : Search) (v b : ℕ) → IsMade g s → IsValidFor g s.forest → v < g.n
+pub may_vertex : {g : WeightedGraph} {s : Search} (v : ℕ) {b : ℕ} → IsMade g s → IsValidFor g s.forest → v < g.n
     → (forest_of s.forest).out v ≡ b → MayRefresh g s b
-may_vertex g s v b made valid l e =
-    subst (λ x. MayRefresh g s x) e (record {
-      made = made;
-      valid = valid;
-      low = valid.valid.outermost.out_low v l;
-      used = by_size (cases_lt ((forest_of s.forest).out v) g.n);
-    })
+may_vertex {g} {s} v made valid l e = subst (λ x. MayRefresh g s x) e (record {
+  made = made;
+  valid = valid;
+  low = valid.valid.outermost.out_low v l;
+  used = by_size (cases_lt ((forest_of s.forest).out v) g.n);
+})
   where
     by_size : ((forest_of s.forest).out v < g.n) ⊎ (g.n ≤ (forest_of s.forest).out v)
         → ((forest_of s.forest).out v < g.n) ⊎ (get_or s.forest.parts ((forest_of s.forest).out v) 0 ≢ 0)
     by_size (inl low) = inl low
-    by_size (inr high) = inr (λ none. true_false ((forest_of s.forest).holds ((forest_of s.forest).out v) v)
-        (held_out g (forest_of s.forest) s.forest.root valid.valid v l)
-        (valid.valid.nested.empty ((forest_of s.forest).out v) v high l none))
+    by_size (inr high) = inr (λ none. true_false
+        (held_out g valid.valid v l) (valid.valid.nested.empty ((forest_of s.forest).out v) v high l none))
 
 -- Room stays through a step of the forest.
-pub made_after : (g : WeightedGraph) (s : Search) (t : ForestTables) → IsMade g s → (forest_of t).size
+pub made_after : {g : WeightedGraph} {s : Search} (t : ForestTables) → IsMade g s → (forest_of t).size
     ≡ (forest_of s.forest).size → IsMade g (record s { forest = t })
-made_after g s t made size = record {
+made_after t made size = record {
   small = made.small;
   cheap = made.cheap;
   fans = made.fans;
@@ -311,26 +294,24 @@ made_after g s t made size = record {
   leaves = made.leaves;
   marks = made.marks;
   members = made.members;
-  parts =
-      made.parts;
+  parts = made.parts;
 }
 
 -- The matching has grown.
-pub augmented_idle : (g : WeightedGraph) (old : Search) (t : ForestTables) (d : ℕ) → IsUnderWay g old → IsValidFor g t
+pub augmented_idle : {g : WeightedGraph} {old : Search} {t : ForestTables} (d : ℕ) → IsUnderWay g old → IsValidFor g t
     → t.root ≡ None → (r : ℕ) × (old.forest.root ≡ Some r)
     × IsAugmented (darts_of g) (forest_of old.forest) (forest_of t) r d
     → (made : IsMade g (record old { forest = t })) → IsIdle g (record old { forest = t }) × HasEnded g.n old.forest t
-augmented_idle g old t d way valid root w made = (
+augmented_idle {g} {old} {t} d way valid root w made = (
   record {
     made = made;
     valid = valid;
     no_tree = root;
     few = λ k l. omega (arith, way.low k l, true_key_low g (forest_of old.forest) old.risen k);
-    range = range_same g.n old.first (forest_of old.forest) (forest_of t) old.risen
+    range = range_same (forest_of t)
         (ap (λ (f : Forest). f.size) w.2.changed) (λ b. ap (λ (f : Forest). f.weight b) w.2.changed) way.range;
   },
-  λ v seeking. matched_more g.n g (forest_of old.forest) (forest_of t) w.0 d v w.2
-      (subst (λ (o : Option ℕ). IsSeeking g.n (forest_of old.forest) o v) w.1 seeking),
+  λ v seeking. matched_more g w.2 (subst (λ (o : Option ℕ). IsSeeking g.n (forest_of old.forest) o v) w.1 seeking),
 )
 
 -- A search has begun.
@@ -352,17 +333,16 @@ module _ (g : WeightedGraph) (old : Search) (t : ForestTables) (new : Search) (v
       by_place : (x ≡ b) ⊎ (x ≢ b) → ⊥
       by_place (inl e) = let c : Outer ≡ Inner = sym (set_here (forest_of old.forest).label b Outer)
           ∙ (ap (set_at (forest_of old.forest).label b Outer) (sym e) ∙ (sym (labels_rooted x) ∙ inner)) in cc c
-      by_place (inr ne) = let c : Outside ≡ Inner =
-          sym (set_there (forest_of old.forest).label b x Outer ne ∙ idle_valid.no_tree refl x)
-          ∙ (sym (labels_rooted x) ∙ inner) in cc c
+      by_place (inr ne) = let c : Outside ≡ Inner = sym (set_there (forest_of old.forest).label b x Outer ne
+          ∙ idle_valid.no_tree refl x) ∙ (sym (labels_rooted x) ∙ inner) in cc c
 
   idle_keys : AreLow g (forest_of old.forest) old.risen old.tour
   idle_keys = idle_low g (forest_of old.forest) old.risen old.tour (idle_valid.no_tree refl) idle.few
 
   pub begun_way : t.root ≡ Some b → IsRightIn g t old.risen new b → IsUnderWay g new
-  begun_way root at = step_taken g old t new idle.made idle_keys idle.range valid is
+  begun_way root at = step_taken idle.made idle_keys idle.range valid is
       (subst (λ (f : Forest). IsTurned g (forest_of old.forest) f old.risen new.tour) (sym rooted_is)
-      (rooted_turned g (forest_of old.forest) b old.risen new.tour idle_valid
+      (rooted_turned g b old.risen new.tour idle_valid
       (subst (λ (f : Forest). AreRightAt g f old.risen new.tour (f.holds b)) rooted_is (at.edges (not_inner b)))))
       (ap (λ (f : Forest). f.size) rooted_is) (λ x. ap (λ (f : Forest). f.weight x) rooted_is)
       (λ x inner. absurd (not_inner x inner)) (b, root)
@@ -375,7 +355,7 @@ module _ (g : WeightedGraph) (old : Search) (t : ForestTables) (new : Search) (v
       before)))
 
 -- The parts of the opened set, after that.
-module _ (g : WeightedGraph) (old : Search) (t : ForestTables) (b : ℕ) (way : IsUnderWay g old) (valid : IsValidFor g t)
+module _ {g : WeightedGraph} {old : Search} {t : ForestTables} {b : ℕ} (way : IsUnderWay g old) (valid : IsValidFor g t)
     (x : IsExpanding (darts_of g) (forest_of old.forest) (forest_of t) b) where
   opened_live : get_or old.forest.parts b 0 ≢ 0
   opened_live =
@@ -389,23 +369,23 @@ module _ (g : WeightedGraph) (old : Search) (t : ForestTables) (b : ℕ) (way : 
 
   part_not_b : (k : ℕ) → part_of old.forest b k ≢ x.o.b
   part_not_b k e =
-      let ring : IsRing (darts_of g) (forest_of old.forest) b = ring_of g old.forest b way.valid b_high opened_live in
+      let ring : IsRing (darts_of g) (forest_of old.forest) b = ring_of b way.valid b_high opened_live in
       let lower : (forest_of old.forest).nest.rank (part_of old.forest b k) < (forest_of old.forest).nest.rank b =
       ring.lower k in
       let same : (forest_of old.forest).nest.rank (part_of old.forest b k) ≡ (forest_of old.forest).nest.rank b =
       ap (forest_of old.forest).nest.rank (e ∙ x.is) in
       omega (arith, lower, same)
 
-  pub opened_may : (k : ℕ) → (s : Search) → s.forest ≡ t → IsMade g s → MayRefresh g s (part_of old.forest b k)
-  opened_may k s e made = record {
+  pub opened_may : (k : ℕ) → {s : Search} → s.forest ≡ t → IsMade g s → MayRefresh g s (part_of old.forest b k)
+  opened_may k e made = record {
     made = made;
     valid = subst (λ (y : ForestTables). IsValidFor g y) (sym e) valid;
     low = subst (λ (y : ForestTables). part_of old.forest b k < length y.up) (sym e)
         (subst (λ n. part_of old.forest b k < n) (sym x.opened.size)
-        ((ring_of g old.forest b way.valid b_high opened_live).below k));
+        ((ring_of b way.valid b_high opened_live).below k));
     used = subst (λ (y : ForestTables). (part_of old.forest b k < g.n)
         ⊎ (get_or y.parts (part_of old.forest b k) 0 ≢ 0)) (sym e)
-        (elim (part_in_use g way.made.small.lawful old.forest b k way.valid b_high opened_live) [
+        (elim (part_in_use way.made.small.lawful b k way.valid b_high opened_live) [
           | inl l ↦ inl l
           | inr live ↦ inr (λ none. live (sym (x.opened.sets (part_of old.forest b k) (part_not_b k)).many ∙ none))
         ]);
@@ -417,14 +397,15 @@ module _ (g : WeightedGraph) (old : Search) (t : ForestTables) (b : ℕ) (way : 
   opened_place j l =
       let p : ((forest_of old.forest).nest.up (x.o.q j) ≡ x.o.b) × (x.o.q j ≢ x.o.b)
       × (x.o.q j < (forest_of old.forest).size) = x.opening.parts j l in
-      (ring_of g old.forest b way.valid b_high opened_live).all (x.o.q j) (p.0 ∙ x.is) (λ e. p.1 (e ∙ sym x.is))
+      (ring_of b way.valid b_high opened_live).all (x.o.q j) (p.0 ∙ x.is) (λ e. p.1 (e ∙ sym x.is))
 
 -- Keys may be mended at a part while only other tables changed.
-pub may_part_in : (g : WeightedGraph) (old s : Search) (b k p : ℕ) → IsMade g s → IsValidFor g old.forest → g.n ≤ b
-    → get_or old.forest.parts b 0 ≢ 0 → s.forest ≡ old.forest → p ≡ part_of old.forest b k → MayRefresh g s p
-may_part_in g old s b k p made valid h live same is =
+pub may_part_in : {g : WeightedGraph} (old : Search) {s : Search} (b k : ℕ) {p : ℕ} → IsMade g s
+    → IsValidFor g old.forest → g.n ≤ b → get_or old.forest.parts b 0 ≢ 0 → s.forest ≡ old.forest → p
+    ≡ part_of old.forest b k → MayRefresh g s p
+may_part_in {g} old {s} b k made valid h live same is =
     subst (λ x. MayRefresh g s x) (ap (λ (y : ForestTables). part_of y b k) same ∙ sym is)
-    (may_part g s b k made (subst (λ (y : ForestTables). IsValidFor g y) (sym same) valid) h
+    (may_part b k made (subst (λ (y : ForestTables). IsValidFor g y) (sym same) valid) h
     (subst (λ (y : ForestTables). get_or y.parts b 0 ≢ 0) (sym same) live))
 
 -- How a tree grows: along a dart, to a matched blossom and its mate.
@@ -435,27 +416,26 @@ pub record Growth (g : WeightedGraph) (f : Forest) (d m : ℕ) : Type 0 where
   pub low_mate : far (darts_of g) m < g.n
   pub apart : f.out (far (darts_of g) d) ≢ f.out (far (darts_of g) m)
 
-pub growth_of : (g : WeightedGraph) (t : ForestTables) (e m : ℕ) → IsSmallGraph g → IsValidFor g t → e < length g.edges
+pub growth_of : {g : WeightedGraph} {t : ForestTables} (e m : ℕ) → IsSmallGraph g → IsValidFor g t → e < length g.edges
     → edge_kind g (forest_of t) e ≡ Grow
     → (forest_of t).mate ((forest_of t).out (far (darts_of g) (outer_dart g (forest_of t) e))) ≡ Some m
     → Growth g (forest_of t) (outer_dart g (forest_of t) e) m
-growth_of g t e m small valid low kind mate =
+growth_of {g} {t} e m small valid low kind mate =
     let reach : Reaches (darts_of g) (forest_of t) (outer_dart g (forest_of t) e) =
-    (grows g small (forest_of t) valid.valid.feasible e low kind).0 in
+    (grows small valid.valid.feasible e low kind).0 in
     let pair : IsMate (darts_of g) (forest_of t) ((forest_of t).out (far (darts_of g) (outer_dart g (forest_of t) e)))
     m = valid.valid.matched _ m mate in
     record {
       reach = reach;
       mate = mate;
-      low = far_low (darts_of g) (are_darts g small.lawful) _ reach.tight.low;
-      low_mate = far_low (darts_of g) (are_darts g small.lawful) m pair.tight.low;
-      apart =
-          λ same. pair.other (sym same);
+      low = far_low (darts_of g) (are_darts small.lawful) _ reach.tight.low;
+      low_mate = far_low (darts_of g) (are_darts small.lawful) m pair.tight.low;
+      apart = λ same. pair.other (sym same);
     }
 
 -- The keys at the marked parts of the new set are right, and its mark is taken away.
-module _ (g : WeightedGraph) (old : Search) (t : ForestTables) (d : ℕ) (way : IsUnderWay g old)
-    (s : IsShrinking (darts_of g) (forest_of old.forest) (forest_of t) old.forest.root t.root d) (b : ℕ) (b_is : b
+module _ {g : WeightedGraph} {old : Search} (t : ForestTables) {d : ℕ} (way : IsUnderWay g old)
+    (s : IsShrinking (darts_of g) (forest_of old.forest) (forest_of t) old.forest.root t.root d) {b : ℕ} (b_is : b
     ≡ s.set) where
   pub closed_high : g.n ≤ b
   closed_high = subst (λ x. g.n ≤ x) (sym b_is) s.unused.high
@@ -471,10 +451,9 @@ module _ (g : WeightedGraph) (old : Search) (t : ForestTables) (d : ℕ) (way : 
   pub closed_live : get_or t.parts b 0 ≢ 0
   closed_live none = let h : s.many ≡ 0 = sym many_is ∙ none in omega (arith, h, s.row.odd)
 
-  pub closed_right : (risen : ℕ) (tour : List ℕ)
-      → ((k : ℕ) → k < get_or t.parts b 0 → get_or old.inner.items (part_of t b k) false ≡ true
-      → AreRightAt g (forest_of t) risen tour ((forest_of t).holds (part_of t b k)))
-      → (p : ℕ) → s.inside p ≡ true → get_or old.inner.items p false ≡ true
+  pub closed_right : (risen : ℕ) (tour : List ℕ) → ((k : ℕ) → k < get_or t.parts b 0
+      → get_or old.inner.items (part_of t b k) false ≡ true → AreRightAt g (forest_of t) risen tour
+      ((forest_of t).holds (part_of t b k))) → (p : ℕ) → s.inside p ≡ true → get_or old.inner.items p false ≡ true
       → AreRightAt g (forest_of t) risen tour ((forest_of t).holds p)
   closed_right risen tour each p on mark = by_place (s.row.all p on)
     where
@@ -485,17 +464,16 @@ module _ (g : WeightedGraph) (old : Search) (t : ForestTables) (d : ℕ) (way : 
           subst (λ x. AreRightAt g (forest_of t) risen tour ((forest_of t).holds x)) at
           (each w.0 (subst (λ n. w.0 < n) (sym many_is) w.1) (ap (λ x. get_or old.inner.items x false) at ∙ mark))
 
-  pub unmarked : (mid new : Search) → IsMade g (record old { forest = t })
-      → mid ≡ record old { forest = t; tour = mid.tour; members = mid.members } → g.n ≤ vec_capacity mid.members
-      → IsMended g (forest_of t) old.risen old.tour mid.tour
-      → new ≡ record mid { inner = new.inner } → new.inner.items ≡ set mid.inner.items b false
-      → IsRefreshed g (record old { forest = t }) new
-  unmarked mid new made same room mended e marks = record {
+  pub unmarked : {mid : Search} (new : Search) → IsMade g (record old { forest = t }) → mid
+      ≡ record old { forest = t; tour = mid.tour; members = mid.members } → g.n ≤ vec_capacity mid.members
+      → IsMended g (forest_of t) old.risen old.tour mid.tour → new ≡ record mid { inner = new.inner } → new.inner.items
+      ≡ set mid.inner.items b false → IsRefreshed g (record old { forest = t }) new
+  unmarked {mid} new made same room mended e marks = record {
     forest = ap (λ (x : Search). x.forest) e ∙ ap (λ (x : Search). x.forest) same;
     risen = ap (λ (x : Search). x.risen) e ∙ ap (λ (x : Search). x.risen) same;
     first = ap (λ (x : Search). x.first) e ∙ ap (λ (x : Search). x.first) same;
     parts = ap (λ (x : Search). x.parts.items) e ∙ ap (λ (x : Search). x.parts.items) same;
-    made = made_like g (record old { forest = t }) new made (ap (λ (x : Search). (x.fans, x.first)) e
+    made = made_like new made (ap (λ (x : Search). (x.fans, x.first)) e
         ∙ ap (λ (x : Search). (x.fans, x.first)) same) (ap (λ (x : Search). length x.forest.up) e
         ∙ ap (λ (x : Search). length x.forest.up) same)
         (ap (λ (x : Search). length x.tour) e ∙ mended.size) (ap length marks
@@ -504,31 +482,28 @@ module _ (g : WeightedGraph) (old : Search) (t : ForestTables) (d : ℕ) (way : 
         (subst (λ (x : Search). g.n ≤ vec_capacity x.parts) (sym e)
         (subst (λ (x : Search). g.n ≤ vec_capacity x.parts) (sym same) made.parts));
     mended = subst (λ (x : Search). IsMended g (forest_of t) old.risen old.tour x.tour) (sym e) mended;
-    marked = λ x inner on. ap (λ ms. get_or ms x false) marks
-        ∙ (get_or-set_other mid.inner.items b x false false (λ at. not_set x inner (at ∙ b_is))
-        ∙ (ap (λ (y : Search). get_or y.inner.items x false) same ∙ on));
+    marked = λ x inner on. ap (λ ms. get_or ms x false) marks ∙ (get_or-set_other mid.inner.items b x false false
+        (λ at. not_set x inner (at ∙ b_is)) ∙ (ap (λ (y : Search). get_or y.inner.items x false) same ∙ on));
   }
     where
       not_set : (x : ℕ) → (forest_of t).label x ≡ Inner → x ≡ s.set → ⊥
-      not_set x inner at = let c : Outer ≡ Inner =
-          sym (shrunk_set g way.made.small.lawful (forest_of old.forest) (forest_of t) old.forest.root t.root d
-          way.valid.valid s) ∙ (ap (forest_of t).label (sym at) ∙ inner) in cc c
+      not_set x inner at = let c : Outer ≡ Inner = sym (shrunk_set way.made.small.lawful way.valid.valid s)
+          ∙ (ap (forest_of t).label (sym at) ∙ inner) in cc c
 
 -- An inner set is in use.
-pub inner_live : (g : WeightedGraph) (t : ForestTables) (b : ℕ) → IsValidFor g t → g.n ≤ b → (forest_of t).label b
+pub inner_live : {g : WeightedGraph} {t : ForestTables} (b : ℕ) → IsValidFor g t → g.n ≤ b → (forest_of t).label b
     ≡ Inner → get_or t.parts b 0 ≢ 0
-inner_live g t b valid h inner none =
-    by_vertex (valid.valid.outermost.named b (inner_named ((forest_of t).label b) inner))
+inner_live {g} {t} b valid h inner none = by_vertex (valid.valid.outermost.named b (inner_named inner))
   where
     by_vertex : IsOutermost g.n (forest_of t) b → ⊥
-    by_vertex w = true_false ((forest_of t).holds b w.0) (ap (λ x. (forest_of t).holds x w.0) (sym w.2)
-        ∙ held_out g (forest_of t) t.root valid.valid w.0 w.1) (valid.valid.nested.empty b w.0 h w.1 none)
+    by_vertex w = true_false (ap (λ x. (forest_of t).holds x w.0) (sym w.2)
+        ∙ held_out g valid.valid w.0 w.1) (valid.valid.nested.empty b w.0 h w.1 none)
 
 -- A search goes on with another list of parts.
-pub way_with_parts : (g : WeightedGraph) (old new : Search) → IsUnderWay g old → new ≡ record old { parts = new.parts }
-    → g.n ≤ vec_capacity new.parts → IsUnderWay g new
-way_with_parts g old new way same room = record {
-  made = made_like g old new way.made (ap (λ (s : Search). (s.fans, s.first)) same)
+pub way_with_parts : {g : WeightedGraph} {old : Search} {new : Search} → IsUnderWay g old → new
+    ≡ record old { parts = new.parts } → g.n ≤ vec_capacity new.parts → IsUnderWay g new
+way_with_parts {g} {new} way same room = record {
+  made = made_like new way.made (ap (λ (s : Search). (s.fans, s.first)) same)
       (ap (λ (s : Search). length s.forest.up) same) (ap (λ (s : Search). length s.tour) same)
       (ap (λ (s : Search). length s.inner.items) same) (subst (λ (s : Search). g.n ≤ vec_capacity s.members) (sym same)
       way.made.members) room;
@@ -540,10 +515,9 @@ way_with_parts g old new way same room = record {
 }
 
 -- The new set is the outermost blossom of the edge's first end.
-pub closed_set : (g : WeightedGraph) (old : Search) (t : ForestTables) (e : ℕ) (way : IsUnderWay g old)
+pub closed_set : {g : WeightedGraph} {old : Search} (t : ForestTables) (e : ℕ) (way : IsUnderWay g old)
     (s : IsShrinking (darts_of g) (forest_of old.forest) (forest_of t) old.forest.root t.root (2 * e))
-    → e < length g.edges → (u b : ℕ) → u ≡ (edge_at g e).u → b ≡ (forest_of t).out u → b ≡ s.set
-closed_set g old t e way s low u b u_is b_is =
-    b_is ∙ (ap (forest_of t).out u_is ∙ shrunk_on g way.made.small.lawful (forest_of old.forest) (forest_of t)
-    old.forest.root t.root (2 * e) way.valid.valid s (edge_at g e).u (way.made.small.lawful.left e low)
+    → e < length g.edges → {u b : ℕ} → u ≡ (edge_at g e).u → b ≡ (forest_of t).out u → b ≡ s.set
+closed_set {g} {old} t e way s low {u} u_is b_is = b_is ∙ (ap (forest_of t).out u_is
+    ∙ shrunk_on way.made.small.lawful way.valid.valid s (edge_at g e).u (way.made.small.lawful.left e low)
     (ap (λ x. s.inside ((forest_of old.forest).out x)) (sym (dart_near g e)) ∙ s.begins))

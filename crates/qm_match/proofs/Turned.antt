@@ -21,7 +21,7 @@ use Rattle.qm_match.specs.States.{GoesOn, HasPerfect, IsUnderWay}
 use Rattle.qm_match.specs.declared.search.Search.{Search}
 use Rattle.qm_match.proofs.Mended.{made_with, mended_one}
 
-module _ (g : WeightedGraph) (s : Search) (r : ℕ) (root : s.forest.root ≡ Some r) (way : IsUnderWay g s)
+module _ {g : WeightedGraph} {s : Search} (r : ℕ) (root : s.forest.root ≡ Some r) (way : IsUnderWay g s)
     (known : HasPerfect g) where
   valid_at : IsValid (darts_of g) (forest_of s.forest) (Some r)
   valid_at = subst (λ (o : Option ℕ). IsValid (darts_of g) (forest_of s.forest) o) root way.valid.valid
@@ -30,14 +30,13 @@ module _ (g : WeightedGraph) (s : Search) (r : ℕ) (root : s.forest.root ≡ So
   sets = omega (arith, way.made.size, way.made.leaves)
 
   pub risen_few : s.risen ≤ risen_limit
-  risen_few = risen_low g way.made.small.lawful way.made.cheap known.0 known.1 g.n s.first way.made.first way.made.low
-      (forest_of s.forest) s.risen way.range (Some r) valid_at
+  risen_few = risen_low way.made.small.lawful way.made.cheap known.1 way.made.first way.made.low way.range valid_at
 
   -- The least key is small.
   pub soon : (key : ℕ) → ((k : ℕ) → k < length s.tour → key ≤ true_key g (forest_of s.forest) s.risen k)
       → key ≤ risen_limit
-  soon key low = key_soon g way.made.small.lawful way.made.cheap known.0 known.1 g.n s.first way.made.first way.made.low
-      (forest_of s.forest) s.risen way.range r valid_at (length s.tour) sets key low
+  soon key low = key_soon way.made.small.lawful way.made.cheap known.1 way.made.first way.made.low way.range valid_at
+      (length s.tour) sets key low
 
   module _ (x : ℕ) (room : (k : ℕ) → k < length s.tour → s.risen + x ≤ true_key g (forest_of s.forest) s.risen k) where
     pub shift_feasible : IsFeasible (darts_of g) (shifted (forest_of s.forest) (pos x))
@@ -50,18 +49,18 @@ module _ (g : WeightedGraph) (s : Search) (r : ℕ) (root : s.forest.root ≡ So
         way.valid.valid.feasible s.risen x (length s.tour) sets room
 
     pub shift_range : IsInRange g.n s.first (shifted (forest_of s.forest) (pos x)) (s.risen + x)
-    shift_range = range_shifted g way.made.small.lawful way.made.cheap known.0 known.1 g.n s.first way.made.first
-        way.made.low (forest_of s.forest) s.risen way.range r valid_at x
+    shift_range = range_shifted way.made.small.lawful way.made.cheap known.1 way.made.first
+        way.made.low way.range valid_at x
 
     pub shift_small : s.risen + x ≤ risen_limit → (b : ℕ)
         → unsigned_abs ((shifted (forest_of s.forest) (pos x)).weight b) ≤ 2 ^ 62
     shift_small few b = omega (arith, shift_range.weights b, way.made.low, few)
 
     -- The search after the shift.
-    pub shifted_way : (t : ForestTables) (new : Search) (key : ℕ) → new ≡ record s { forest = t; risen = key }
+    pub shifted_way : {t : ForestTables} (new : Search) (key : ℕ) → new ≡ record s { forest = t; risen = key }
         → key ≡ s.risen + x → IsValidFor g t → forest_of t ≡ shifted (forest_of s.forest) (pos x)
         → t.root ≡ s.forest.root → IsUnderWay g new
-    shifted_way t new key e key_is valid shift_is root_is = subst (λ (y : Search). IsUnderWay g y) (sym e) (record {
+    shifted_way new key e key_is valid shift_is root_is = subst (λ (y : Search). IsUnderWay g y) (sym e) (record {
       made = record {
         small = way.made.small;
         cheap = way.made.cheap;
@@ -90,16 +89,15 @@ pub shifted_on : (g : WeightedGraph) (t u : ForestTables) (x : ℕ) → forest_o
 shifted_on g t u x e root v seeking = subst (λ (o : Option ℕ). IsSeeking g.n (forest_of u) o v) (sym root)
     (subst (λ (f : Forest). IsSeeking g.n f t.root v) (sym e) (record {
       vertex = seeking.vertex;
-      root_is =
-          seeking.root_is;
+      root_is = seeking.root_is;
       before = seeking.before;
     }))
 
 -- A key was mended.
-pub mended_way : (g : WeightedGraph) (s new : Search) (leaf : ℕ) → IsUnderWay g s → leaf < length s.tour
+pub mended_way : {g : WeightedGraph} {s : Search} {new : Search} (leaf : ℕ) → IsUnderWay g s → leaf < length s.tour
     → new ≡ record s { tour = set s.tour leaf (true_key g (forest_of s.forest) s.risen leaf) } → IsUnderWay g new
-mended_way g s new leaf way l e = subst (λ (y : Search). IsUnderWay g y) (sym e) (record {
-  made = made_with g s keys way.made mended.size;
+mended_way {g} {s} leaf way l e = subst (λ (y : Search). IsUnderWay g y) (sym e) (record {
+  made = made_with keys way.made mended.size;
   valid = way.valid;
   tree = way.tree;
   low = λ k lk. elim (mended.each k) [
@@ -118,13 +116,12 @@ mended_way g s new leaf way l e = subst (λ (y : Search). IsUnderWay g y) (sym e
     mended = mended_one g (forest_of s.forest) s.risen s.tour
         (set s.tour leaf (true_key g (forest_of s.forest) s.risen leaf)) leaf l refl
 
-pub mended_fewer : (g : WeightedGraph) (s new : Search) (leaf : ℕ) → leaf < length s.tour
+pub mended_fewer : (g : WeightedGraph) (s : Search) {new : Search} (leaf : ℕ) → leaf < length s.tour
     → get_or s.tour leaf 0 ≢ true_key g (forest_of s.forest) s.risen leaf
     → new ≡ record s { tour = set s.tour leaf (true_key g (forest_of s.forest) s.risen leaf) }
     → turns_left g (forest_of new.forest) new.risen new.tour < turns_left g (forest_of s.forest) s.risen s.tour
-mended_fewer g s new leaf l ne e =
-    subst (λ (y : Search). turns_left g (forest_of y.forest) y.risen y.tour < turns_left g (forest_of s.forest) s.risen
-    s.tour) (sym e) (fewer_stale g (forest_of s.forest) s.risen leaf s.tour
+mended_fewer g s leaf l ne e = subst (λ (y : Search). turns_left g (forest_of y.forest) y.risen y.tour < turns_left
+    g (forest_of s.forest) s.risen s.tour) (sym e) (fewer_stale g (forest_of s.forest) s.risen leaf s.tour
     (set s.tour leaf (true_key g (forest_of s.forest) s.risen leaf)) l ne refl)
 
 -- A step is neither loose nor idle.

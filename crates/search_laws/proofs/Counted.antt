@@ -32,8 +32,7 @@ not_outer_low Outside = omega arith
 sets_low : (n : ℕ) (f : Forest) → sets_of n f ≤ f.size
 sets_low n f = omega (
   arith,
-  count_below_le (live_at n f.nest.parts) (λ b. 1) f.size
-      (λ b l. one b (nat_lt b n) (eqb (f.nest.parts b) 0)),
+  count_below_le (live_at n f.nest.parts) (λ b. 1) f.size (λ b l. one b (nat_lt b n) (eqb (f.nest.parts b) 0)),
   count_below_ones f.size,
 )
   where
@@ -90,9 +89,6 @@ module _ (g : WeightedGraph) (is : IsGraph g) (f : Forest) (root : Option ℕ) (
   outer_off : f.label outer ≡ Outside
   outer_off = valid.outside inn m off mate
 
-  labels : ℕ → Label
-  labels = set_at (set_at f.label inn Inner) outer Outer
-
   now : (w : ℕ) → (f.out w ≡ outer) ⊎ (f.out w ≢ outer) → (f.out w ≡ inn) ⊎ (f.out w ≢ inn)
       → not_outer (set_at (set_at f.label inn Inner) outer Outer (f.out w)) ≤ not_outer (f.label (f.out w))
   now w (inl e) y = (let x : not_outer (set_at (set_at f.label inn Inner) outer Outer (f.out w)) ≡ 0 =
@@ -109,18 +105,17 @@ module _ (g : WeightedGraph) (is : IsGraph g) (f : Forest) (root : Option ℕ) (
   pub grown_fewer : steps_left g.n (grown (darts_of g) f d m) < steps_left g.n f
   grown_fewer = fewer_vertices g.n f (grown (darts_of g) f d m) refl
       (count_below_lt (λ w. not_outer (set_at (set_at f.label inn Inner) outer Outer (f.out w)))
-      (λ w. not_outer (f.label (f.out w))) g.n (far (darts_of g) m)
-      (far_low (darts_of g) (are_darts g is) m pair.tight.low)
-      (λ w l. now w (cases_eq (f.out w) outer) (cases_eq (f.out w) inn))
-      (let x : not_outer (set_at (set_at f.label inn Inner) outer Outer outer) ≡ 0 =
-      ap not_outer (set_here (set_at f.label inn Inner) outer Outer) in let y : not_outer (f.label outer) ≡ 1 =
-      ap not_outer outer_off in omega (arith, x, y)))
+      (λ w. not_outer (f.label (f.out w))) g.n (far (darts_of g) m) (far_low (darts_of g) (are_darts is) m
+      pair.tight.low) (λ w l. now w (cases_eq (f.out w) outer) (cases_eq (f.out w) inn))
+      (let x : not_outer (set_at (set_at f.label inn Inner) outer Outer outer)
+      ≡ 0 = ap not_outer (set_here (set_at f.label inn Inner) outer Outer) in let y : not_outer (f.label outer)
+      ≡ 1 = ap not_outer outer_off in omega (arith, x, y)))
 
 module _ (g : WeightedGraph) (is : IsGraph g) (f new : Forest) (root after : Option ℕ) (d : ℕ)
     (valid : IsValid (darts_of g) f root) (s : IsShrinking (darts_of g) f new root after d) where
   -- Some blossom on the cycle is inner.
   inner_on_cycle : (x : ℕ) × (s.inside x ≡ true) × (f.label x ≡ Inner)
-  inner_on_cycle = by_label (on_cycle g is f new root after d valid s second (s.row.marked 1))
+  inner_on_cycle = by_label (on_cycle is valid s second (s.row.marked 1))
     where
       second : ℕ
       second = walk new.nest.after s.top 1
@@ -138,15 +133,15 @@ module _ (g : WeightedGraph) (is : IsGraph g) (f new : Forest) (root after : Opt
       by_label (inr inner) = (second, s.row.marked 1, inner)
 
   now_outer : (w : ℕ) → w < g.n → s.inside (f.out w) ≡ true → not_outer (new.label (new.out w)) ≡ 0
-  now_outer w l on = ap (λ b. not_outer (new.label b)) (shrunk_on g is f new root after d valid s w l on)
-      ∙ ap not_outer (shrunk_set g is f new root after d valid s)
+  now_outer w l on = ap (λ b. not_outer (new.label b)) (shrunk_on is valid s w l on)
+      ∙ ap not_outer (shrunk_set is valid s)
 
   each : (w : ℕ) → w < g.n → (s.inside (f.out w) ≡ true) ⊎ (s.inside (f.out w) ≡ false)
       → not_outer (new.label (new.out w)) ≤ not_outer (f.label (f.out w))
   each w l (inl on) = omega (arith, now_outer w l on)
   each w l (inr off) = let e : not_outer (new.label (new.out w)) ≡ not_outer (f.label (f.out w)) =
-      ap (λ b. not_outer (new.label b)) (shrunk_off g is f new root after d valid s w l off)
-      ∙ ap not_outer (shrunk_label g is f new root after d valid s (f.out w) (s.unused.no_out w l) off) in
+      ap (λ b. not_outer (new.label b)) (shrunk_off is valid s w l off)
+      ∙ ap not_outer (shrunk_label is valid s (f.out w) (s.unused.no_out w l) off) in
       omega (arith, e)
 
   -- A cycle that becomes one blossom.
@@ -162,9 +157,9 @@ module _ (g : WeightedGraph) (is : IsGraph g) (f new : Forest) (root after : Opt
           omega (arith, y, now_outer w.0 w.1 (ap s.inside w.2 ∙ on))))
 
       by_inner : (x : ℕ) × (s.inside x ≡ true) × (f.label x ≡ Inner) → steps_left g.n new < steps_left g.n f
-      by_inner p = by_vertex p.0 p.1 p.2 (valid.outermost.named p.0 (inner_named (f.label p.0) p.2))
+      by_inner p = by_vertex p.0 p.1 p.2 (valid.outermost.named p.0 (inner_named p.2))
 
-module _ (g : WeightedGraph) (is : IsGraph g) (f new : Forest) (r : ℕ) (o : Opening)
+module _ {g : WeightedGraph} (is : IsGraph g) {f new : Forest} {r : ℕ} {o : Opening}
     (valid : IsValid (darts_of g) f (Some r)) (opening : IsOpening (darts_of g) f o)
     (opened : IsOpened (darts_of g) f new o) where
   -- An inner set that is opened.
@@ -180,11 +175,11 @@ module _ (g : WeightedGraph) (is : IsGraph g) (f new : Forest) (r : ℕ) (o : Op
       vertex w l (inl e) = let x : not_outer (f.label (f.out w)) ≡ 1 = ap (λ b. not_outer (f.label b)) e
           ∙ ap not_outer opening.label in omega (arith, x, not_outer_low (new.label (new.out w)))
       vertex w l (inr ne) = let x : not_outer (new.label (new.out w)) ≡ not_outer (f.label (f.out w)) =
-          ap (λ b. not_outer (new.label b)) (opened_old g is f new r o valid opening opened w l ne)
-          ∙ ap not_outer (opened_label g is f new r o valid opening opened w l ne) in omega (arith, x)
+          ap (λ b. not_outer (new.label b)) (opened_old is valid opening opened w l ne)
+          ∙ ap not_outer (opened_label is valid opening opened w l ne) in omega (arith, x)
 
       b_low : o.b < f.size
-      b_low = by_vertex (valid.outermost.named o.b (inner_named (f.label o.b) opening.label))
+      b_low = by_vertex (valid.outermost.named o.b (inner_named opening.label))
         where
           by_vertex : IsOutermost g.n f o.b → o.b < f.size
           by_vertex w = subst (λ x. x < f.size) w.2 (valid.outermost.out_low w.0 w.1)
@@ -219,13 +214,11 @@ module _ (g : WeightedGraph) (is : IsGraph g) (f new : Forest) (r : ℕ) (o : Op
 -- Where fewer steps are left, or one leaf less is stale, fewer turns are left.
 stale_low : (g : WeightedGraph) (f : Forest) (risen : ℕ) (keys : List ℕ) (n : ℕ)
     → count_below (is_stale g f risen keys) n ≤ n
-stale_low g f risen keys n =
-    omega (
-      arith,
-      count_below_le (is_stale g f risen keys) (λ k. 1) n
-          (λ k l. one (eqb (get_or keys k 0) (true_key g f risen k))),
-      count_below_ones n,
-    )
+stale_low g f risen keys n = omega (
+  arith,
+  count_below_le (is_stale g f risen keys) (λ k. 1) n (λ k l. one (eqb (get_or keys k 0) (true_key g f risen k))),
+  count_below_ones n,
+)
   where
     one : (p : Bool) → cond p 0 1 ≤ 1
     one true = omega arith
@@ -233,10 +226,8 @@ stale_low g f risen keys n =
 
 pub fewer_turns : (g : WeightedGraph) (f new : Forest) (risen after : ℕ) (old keys : List ℕ) → length keys ≡ length old
     → steps_left g.n new < steps_left g.n f → turns_left g new after keys < turns_left g f risen old
-fewer_turns g f new risen after old keys size l =
-    subst (λ n. steps_left g.n new * (n + 1) + count_below (is_stale g new after keys) n < turns_left g f risen old)
-    (sym size)
-    (omega (
+fewer_turns g f new risen after old keys size l = subst (λ n. steps_left g.n new * (n + 1) + count_below
+    (is_stale g new after keys) n < turns_left g f risen old) (sym size) (omega (
       arith,
       times_more (length old + 1) (steps_left g.n new) (steps_left g.n f) l,
       stale_low g new after keys (length old),
@@ -248,8 +239,7 @@ pub fewer_stale : (g : WeightedGraph) (f : Forest) (risen leaf : ℕ) (keys new 
 fewer_stale g f risen leaf keys new l ne is =
     let size : length new ≡ length keys = ap length is ∙ length-set keys leaf (true_key g f risen leaf) in
     subst (λ n. steps_left g.n f * (n + 1) + count_below (is_stale g f risen new) n < turns_left g f risen keys)
-    (sym size)
-    (let less : count_below (is_stale g f risen new) (length keys) < count_below (is_stale g f risen keys)
+    (sym size) (let less : count_below (is_stale g f risen new) (length keys) < count_below (is_stale g f risen keys)
     (length keys) = count_below_lt (is_stale g f risen new) (is_stale g f risen keys) (length keys) leaf l
     (λ k lk. each k (cases_eq k leaf)) here in omega (arith, less))
   where

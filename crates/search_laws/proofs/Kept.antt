@@ -10,7 +10,7 @@ use Rattle.def_forest.specs.Opened.{Opening, IsOpening, IsOpened}
 use Rattle.def_forest.specs.Shrunk.{IsShrinking}
 use Rattle.def_forest.specs.Steps.{grown, rooted}
 use Rattle.def_forest.specs.Tables.{slack_of}
-use Rattle.def_forest.specs.Valid.{IsTree, IsValid}
+use Rattle.def_forest.specs.Valid.{IsValid}
 use Rattle.def_forest.specs.declared.kinds.Label.{Label}
 use Rattle.def_forest.specs.declared.kinds.Label.TheVariants.{Outer, Inner, Outside}
 use Rattle.forest_laws.proofs.Graphs.{are_darts}
@@ -18,6 +18,7 @@ use Rattle.forest_laws.proofs.Levels.{tree_cases}
 use Rattle.forest_laws.proofs.Writes.{set_here, set_there}
 use Rattle.forest_laws.proofs.Shrinks as shrinks
 use Rattle.forest_laws.proofs.Expands as expands
+use Rattle.forest_laws.proofs.Expands.{Expansion}
 use Rattle.search_laws.specs.Keys.{no_key, edge_key_by, edge_key, set_key_by, set_of, leaf_of, true_key, AreLow}
 use Rattle.search_laws.specs.Keys.{IsMended, AreRightAt}
 use Rattle.search_laws.proofs.Keys.{at_edge, at_set, edge_key_low}
@@ -46,13 +47,11 @@ same_labels Outside Outside s t slack risen on = omega arith
 
 quiet_key : (a b c d : Label) (s t : Bool) (slack risen : ℕ) → (c ≡ a) ⊎ (c ≡ Inner) → (d ≡ b) ⊎ (d ≡ Inner)
     → (a ≡ Outer → s ≡ true → t ≡ true) → edge_key_by a b s slack risen ≤ edge_key_by c d t slack risen
-quiet_key a b c d s t slack risen (inr e) y on =
-    subst (λ (x : Label). edge_key_by a b s slack risen ≤ edge_key_by x d t slack risen) (sym e)
-    (edge_key_low a b s slack risen)
-quiet_key a b c d s t slack risen (inl e) (inr e') on =
-    subst (λ (x : Label). edge_key_by a b s slack risen ≤ edge_key_by c x t slack risen) (sym e')
-    (subst (λ x. edge_key_by a b s slack risen ≤ x) (sym (inner_right c t slack risen))
-    (edge_key_low a b s slack risen))
+quiet_key a b c d s t slack risen (inr e) y on = subst (λ (x : Label). edge_key_by a b s slack risen ≤ edge_key_by x d t
+    slack risen) (sym e) (edge_key_low a b s slack risen)
+quiet_key a b c d s t slack risen (inl e) (inr e') on = subst (λ (x : Label). edge_key_by a b s slack risen ≤
+    edge_key_by c x t slack risen) (sym e') (subst (λ x. edge_key_by a b s slack risen ≤ x)
+    (sym (inner_right c t slack risen)) (edge_key_low a b s slack risen))
 quiet_key a b c d s t slack risen (inl e) (inl e') on =
     subst (λ (x : Label). edge_key_by a b s slack risen ≤ edge_key_by x d t slack risen) (sym e)
     (subst (λ (x : Label). edge_key_by a b s slack risen ≤ edge_key_by a x t slack risen) (sym e')
@@ -83,9 +82,9 @@ pub record IsTurned (g : WeightedGraph) (f new : Forest) (risen : ℕ) (keys : L
       ⊎ (get_or keys (leaf_of g b) 0 ≡ true_key g new risen (leaf_of g b))
 
 -- Keys stay low.
-pub stay_low : (g : WeightedGraph) → IsGraph g → (f new : Forest) (risen : ℕ) (old keys : List ℕ) → AreLow g f risen old
+pub stay_low : {g : WeightedGraph} → IsGraph g → {f new : Forest} {risen : ℕ} {old keys : List ℕ} → AreLow g f risen old
     → IsMended g new risen old keys → IsTurned g f new risen keys → AreLow g new risen keys
-stay_low g is f new risen old keys low mended turned k l = by_mended (mended.each k)
+stay_low {g} is {f} {new} {risen} {old} {keys} low mended turned k l = by_mended (mended.each k)
   where
     exact : get_or keys k 0 ≡ true_key g new risen k → get_or keys k 0 ≤ true_key g new risen k
     exact e = omega (arith, e)
@@ -99,13 +98,11 @@ stay_low g is f new risen old keys low mended turned k l = by_mended (mended.eac
     at_ends le qu qv =
         let step : edge_key g f risen k ≤ edge_key_by (new.label (new.out (edge_at g k).u))
         (new.label (new.out (edge_at g k).v)) (eqb (new.out (edge_at g k).u) (new.out (edge_at g k).v))
-        (unsigned_abs (slack_of g f k)) risen =
-        quiet_key (f.label (f.out (edge_at g k).u)) (f.label (f.out (edge_at g k).v))
-        (new.label (new.out (edge_at g k).u)) (new.label (new.out (edge_at g k).v))
-        (eqb (f.out (edge_at g k).u) (f.out (edge_at g k).v))
-        (eqb (new.out (edge_at g k).u) (new.out (edge_at g k).v)) (unsigned_abs (slack_of g f k)) risen qu qv
-        (λ outer on. eq-eqb (new.out (edge_at g k).u) (new.out (edge_at g k).v)
-        (turned.same (edge_at g k).u (edge_at g k).v (is.left k le) (is.right k le) outer
+        (unsigned_abs (slack_of g f k)) risen = quiet_key (f.label (f.out (edge_at g k).u))
+        (f.label (f.out (edge_at g k).v)) (new.label (new.out (edge_at g k).u)) (new.label (new.out (edge_at g k).v))
+        (eqb (f.out (edge_at g k).u) (f.out (edge_at g k).v)) (eqb (new.out (edge_at g k).u) (new.out (edge_at g k).v))
+        (unsigned_abs (slack_of g f k)) risen qu qv (λ outer on. eq-eqb (new.out (edge_at g k).u)
+        (new.out (edge_at g k).v) (turned.same (edge_at g k).u (edge_at g k).v (is.left k le) (is.right k le) outer
         (eqb-true (f.out (edge_at g k).u) (f.out (edge_at g k).v) on))) in
         subst (λ x. x ≤ true_key g new risen k) (sym (at_edge g f risen k le))
         (subst (λ x. edge_key g f risen k ≤ x) (sym (at_edge g new risen k le))
@@ -113,12 +110,11 @@ stay_low g is f new risen old keys low mended turned k l = by_mended (mended.eac
         (new.label (new.out (edge_at g k).v)) (eqb (new.out (edge_at g k).u) (new.out (edge_at g k).v))
         (unsigned_abs x) risen) (sym (turned.slacks k le)) step))
 
-    by_ends : get_or keys k 0 ≡ get_or old k 0 → k < length g.edges
-        → IsQuiet f new (edge_at g k).u ⊎ ((e : ℕ) → e < length g.edges → ((edge_at g e).u ≡ (edge_at g k).u)
-        ⊎ ((edge_at g e).v ≡ (edge_at g k).u) → get_or keys e 0 ≡ true_key g new risen e)
-        → IsQuiet f new (edge_at g k).v ⊎ ((e : ℕ) → e < length g.edges → ((edge_at g e).u ≡ (edge_at g k).v)
-        ⊎ ((edge_at g e).v ≡ (edge_at g k).v) → get_or keys e 0 ≡ true_key g new risen e)
-        → get_or keys k 0 ≤ true_key g new risen k
+    by_ends : get_or keys k 0 ≡ get_or old k 0 → k < length g.edges → IsQuiet f new (edge_at g k).u
+        ⊎ ((e : ℕ) → e < length g.edges → ((edge_at g e).u ≡ (edge_at g k).u) ⊎ ((edge_at g e).v ≡ (edge_at g k).u)
+        → get_or keys e 0 ≡ true_key g new risen e) → IsQuiet f new (edge_at g k).v
+        ⊎ ((e : ℕ) → e < length g.edges → ((edge_at g e).u ≡ (edge_at g k).v) ⊎ ((edge_at g e).v ≡ (edge_at g k).v)
+        → get_or keys e 0 ≡ true_key g new risen e) → get_or keys k 0 ≤ true_key g new risen k
     by_ends same le (inr right) y = exact (right k le (inl refl))
     by_ends same le (inl qu) (inr right) = exact (right k le (inr refl))
     by_ends same le (inl qu) (inl qv) = kept same (at_ends le qu qv)
@@ -174,16 +170,15 @@ true_key_low g f risen k = by_leaf (cases_lt k (length g.edges))
 
 -- The edges at a vertex of a set of vertices.
 right_at : (g : WeightedGraph) (f : Forest) (risen : ℕ) (keys : List ℕ) (set : ℕ → Bool) (w : ℕ)
-    → AreRightAt g f risen keys set → set w ≡ true
-    → (e : ℕ) → e < length g.edges → ((edge_at g e).u ≡ w) ⊎ ((edge_at g e).v ≡ w)
-    → get_or keys e 0 ≡ true_key g f risen e
+    → AreRightAt g f risen keys set → set w ≡ true → (e : ℕ) → e < length g.edges → ((edge_at g e).u ≡ w)
+    ⊎ ((edge_at g e).v ≡ w) → get_or keys e 0 ≡ true_key g f risen e
 right_at g f risen keys set w right on e l (inl eu) = right e l (inl (ap set eu ∙ on))
 right_at g f risen keys set w right on e l (inr ev) = right e l (inr (ap set ev ∙ on))
 
 -- A vertex is held by its outermost blossom.
-pub held_out : (g : WeightedGraph) (f : Forest) (root : Option ℕ) → IsValid (darts_of g) f root → (w : ℕ) → w < g.n
+pub held_out : (g : WeightedGraph) {f : Forest} {root : Option ℕ} → IsValid (darts_of g) f root → (w : ℕ) → w < g.n
     → f.holds (f.out w) w ≡ true
-held_out g f root valid w l = valid.outermost.held w w l l ∙ eq-eqb (f.out w) (f.out w) refl
+held_out g {f} valid w l = valid.outermost.held w w l l ∙ eq-eqb (f.out w) (f.out w) refl
 
 -- Where no tree stands nothing happens.
 pub idle_low : (g : WeightedGraph) (f : Forest) (risen : ℕ) (keys : List ℕ) → ((b : ℕ) → f.label b ≡ Outside)
@@ -205,9 +200,9 @@ idle_low g f risen keys outside few k l = by_leaf (cases_lt k (length g.edges))
         omega (arith, e, few k l)
 
 -- A tree begins.
-pub rooted_turned : (g : WeightedGraph) (f : Forest) (b risen : ℕ) (keys : List ℕ) → IsValid (darts_of g) f None
+pub rooted_turned : (g : WeightedGraph) {f : Forest} (b risen : ℕ) (keys : List ℕ) → IsValid (darts_of g) f None
     → AreRightAt g (rooted f b) risen keys (f.holds b) → IsTurned g f (rooted f b) risen keys
-rooted_turned g f b risen keys valid right = record {
+rooted_turned g {f} b risen keys valid right = record {
   slacks = λ e l. refl;
   ends = λ w l. ends w l (cases_eq (f.out w) b);
   same = λ u v lu lv outer e. e;
@@ -218,7 +213,7 @@ rooted_turned g f b risen keys valid right = record {
         ⊎ ((e : ℕ) → e < length g.edges → ((edge_at g e).u ≡ w) ⊎ ((edge_at g e).v ≡ w)
         → get_or keys e 0 ≡ true_key g (rooted f b) risen e)
     ends w l (inl at) = inr (right_at g (rooted f b) risen keys (f.holds b) w right (ap (λ x. f.holds x w) (sym at)
-        ∙ held_out g f None valid w l))
+        ∙ held_out g valid w l))
     ends w l (inr ne) = inl (inl (set_there f.label b (f.out w) Outer ne))
 
     none : (x : ℕ) → set_at f.label b Outer x ≡ Inner → (x ≡ b) ⊎ (x ≢ b) → ⊥
@@ -257,7 +252,7 @@ module _ (g : WeightedGraph) (f : Forest) (root : Option ℕ) (valid : IsValid (
           → IsQuiet f (grown (darts_of g) f d m) w ⊎ ((e : ℕ) → e < length g.edges → ((edge_at g e).u ≡ w)
           ⊎ ((edge_at g e).v ≡ w) → get_or keys e 0 ≡ true_key g (grown (darts_of g) f d m) risen e)
       ends w l (inl at) y = inr (right_at g (grown (darts_of g) f d m) risen keys (f.holds outer) w right
-          (ap (λ x. f.holds x w) (sym at) ∙ held_out g f root valid w l))
+          (ap (λ x. f.holds x w) (sym at) ∙ held_out g valid w l))
       ends w l (inr nu) (inl at) = inl (inr (inner_now (f.out w) nu at))
       ends w l (inr nu) (inr ni) = inl (inl (other (f.out w) nu ni))
 
@@ -272,34 +267,28 @@ module _ (g : WeightedGraph) (f : Forest) (root : Option ℕ) (valid : IsValid (
       sets x h inner (inr nu) (inr ni) = inl (sym (other x nu ni) ∙ inner, refl)
 
 -- A cycle becomes one blossom.
-module _ (g : WeightedGraph) (is : IsGraph g) (f new : Forest) (root after : Option ℕ) (d : ℕ)
+module _ {g : WeightedGraph} (is : IsGraph g) {f new : Forest} {root after : Option ℕ} {d : ℕ}
     (valid : IsValid (darts_of g) f root) (s : IsShrinking (darts_of g) f new root after d) where
   shrunk_root : IsValid (darts_of g) f (Some s.r)
   shrunk_root = subst (λ (x : Option ℕ). IsValid (darts_of g) f x) s.old_root valid
 
   pub shrunk_on : (w : ℕ) → w < g.n → s.inside (f.out w) ≡ true → new.out w ≡ s.set
-  shrunk_on = shrinks.out_on (darts_of g) (are_darts g is) f s.r shrunk_root s.tree new s.inside s.top s.set s.top
-      s.many s.cycle s.unused s.row s.shrunk
+  shrunk_on = shrinks.out_on (are_darts is) shrunk_root s.tree s.cycle s.unused s.row s.shrunk
 
   pub shrunk_off : (w : ℕ) → w < g.n → s.inside (f.out w) ≡ false → new.out w ≡ f.out w
-  shrunk_off = shrinks.out_off (darts_of g) (are_darts g is) f s.r shrunk_root s.tree new s.inside s.top s.set s.top
-      s.many s.cycle s.unused s.row s.shrunk
+  shrunk_off = shrinks.out_off (are_darts is) shrunk_root s.tree s.cycle s.unused s.row s.shrunk
 
   pub shrunk_set : new.label s.set ≡ Outer
-  shrunk_set = shrinks.label_b (darts_of g) (are_darts g is) f s.r shrunk_root s.tree new s.inside s.top s.set s.top
-      s.many s.cycle s.unused s.row s.shrunk
+  shrunk_set = shrinks.label_b (are_darts is) shrunk_root s.tree s.cycle s.unused s.row s.shrunk
 
   shrunk_inside : (x : ℕ) → s.inside x ≡ true → new.label x ≡ Outside
-  shrunk_inside = shrinks.label_on (darts_of g) (are_darts g is) f s.r shrunk_root s.tree new s.inside s.top s.set s.top
-      s.many s.cycle s.unused s.row s.shrunk
+  shrunk_inside = shrinks.label_on (are_darts is) shrunk_root s.tree s.cycle s.unused s.row s.shrunk
 
   pub shrunk_label : (x : ℕ) → x ≢ s.set → s.inside x ≡ false → new.label x ≡ f.label x
-  shrunk_label = shrinks.label_off (darts_of g) (are_darts g is) f s.r shrunk_root s.tree new s.inside s.top s.set s.top
-      s.many s.cycle s.unused s.row s.shrunk
+  shrunk_label = shrinks.label_off (are_darts is) shrunk_root s.tree s.cycle s.unused s.row s.shrunk
 
   shrunk_load : (u v : ℕ) → u < g.n → v < g.n → weight_between new u v ≡ weight_between f u v
-  shrunk_load = shrinks.same_load (darts_of g) (are_darts g is) f s.r shrunk_root s.tree new s.inside s.top s.set s.top
-      s.many s.cycle s.unused s.row s.shrunk
+  shrunk_load = shrinks.same_load (are_darts is) shrunk_root s.tree s.cycle s.unused s.row s.shrunk
 
   -- A blossom on the cycle was outer or inner.
   pub on_cycle : (x : ℕ) → s.inside x ≡ true → (f.label x ≡ Outer) ⊎ (f.label x ≡ Inner)
@@ -307,7 +296,7 @@ module _ (g : WeightedGraph) (is : IsGraph g) (f new : Forest) (root after : Opt
 
   -- A part holds the vertices that it held.
   part_holds : (w : ℕ) → w < g.n → new.holds (f.out w) w ≡ true
-  part_holds w l = s.shrunk.holds_old (f.out w) w (s.unused.no_out w l) l ∙ held_out g f root valid w l
+  part_holds w l = s.shrunk.holds_old (f.out w) w (s.unused.no_out w l) l ∙ held_out g valid w l
 
   -- No blossom becomes inner.
   pub shrunk_inner : (x : ℕ) → new.label x ≡ Inner → f.label x ≡ Inner
@@ -343,30 +332,28 @@ module _ (g : WeightedGraph) (is : IsGraph g) (f new : Forest) (root after : Opt
           (inl (ap new.label (shrunk_off w l off) ∙ shrunk_label (f.out w) (s.unused.no_out w l) off))
 
 -- An inner set is opened.
-module _ (g : WeightedGraph) (is : IsGraph g) (f new : Forest) (r : ℕ) (o : Opening)
+module _ {g : WeightedGraph} (is : IsGraph g) {f new : Forest} {r : ℕ} {o : Opening}
     (valid : IsValid (darts_of g) f (Some r)) (opening : IsOpening (darts_of g) f o)
     (opened : IsOpened (darts_of g) f new o) where
-  opened_tree : IsTree (darts_of g) f r
-  opened_tree = valid.tree r refl
+  pub expansion : Expansion (darts_of g) f r new o
+  expansion = record { are = are_darts is; valid = valid; tree = valid.tree r refl; opening = opening; is = opened }
 
   pub opened_in : (w : ℕ) → w < g.n → f.out w ≡ o.b → new.out w ≡ o.part w
-  opened_in = expands.out_in (darts_of g) (are_darts g is) f r valid opened_tree new o opening opened
+  opened_in = expands.out_in expansion
 
   pub opened_old : (w : ℕ) → w < g.n → f.out w ≢ o.b → new.out w ≡ f.out w
-  opened_old = expands.out_old (darts_of g) (are_darts g is) f r valid opened_tree new o opening opened
+  opened_old = expands.out_old expansion
 
   opened_load : (u v : ℕ) → u < g.n → v < g.n → weight_between new u v ≡ weight_between f u v
-  opened_load = expands.same_load (darts_of g) (are_darts g is) f r valid opened_tree new o opening opened
+  opened_load = expands.same_load expansion
 
   -- A blossom beside the opened one stays as it was.
   pub opened_label : (w : ℕ) → w < g.n → f.out w ≢ o.b → new.label (f.out w) ≡ f.label (f.out w)
-  opened_label w l ne = (opened.others (f.out w) (expands.out_not_part (darts_of g) (are_darts g is) f r valid
-      opened_tree new o opening opened w l ne)).label
+  opened_label w l ne = (opened.others (f.out w) (expands.out_not_part expansion w l ne)).label
 
   -- An inner blossom is a part of the opened one, or was inner.
   pub opened_inner : (x : ℕ) → new.label x ≡ Inner → ((j : ℕ) × (j ≤ 2 * o.half) × (o.q j ≡ x)) ⊎ (f.label x ≡ Inner)
-  opened_inner x inner = by_place (expands.place (darts_of g) (are_darts g is) f r valid opened_tree new o opening
-      opened x)
+  opened_inner x inner = by_place (expands.place expansion x)
     where
       by_place : (x ≡ o.b) ⊎ (((j : ℕ) × (j ≤ 2 * o.half) × (o.q j ≡ x)) ⊎ (f.nest.up x ≢ o.b))
           → ((j : ℕ) × (j ≤ 2 * o.half) × (o.q j ≡ x)) ⊎ (f.label x ≡ Inner)
@@ -414,7 +401,6 @@ module _ (g : WeightedGraph) (is : IsGraph g) (f new : Forest) (r : ℕ) (o : Op
       sets : (x : ℕ) → g.n ≤ x → new.label x ≡ Inner → ((j : ℕ) × (j ≤ 2 * o.half) × (o.q j ≡ x)) ⊎ (f.label x ≡ Inner)
           → ((f.label x ≡ Inner) × (new.weight x ≡ f.weight x))
           ⊎ (get_or keys (leaf_of g x) 0 ≡ true_key g new risen (leaf_of g x))
-      sets x h inner (inl p) =
-          inr (subst (λ y. get_or keys (leaf_of g y) 0 ≡ true_key g new risen (leaf_of g y)) p.2
+      sets x h inner (inl p) = inr (subst (λ y. get_or keys (leaf_of g y) 0 ≡ true_key g new risen (leaf_of g y)) p.2
           (leaves p.0 p.1 (ap new.label p.2 ∙ inner) (subst (λ y. g.n ≤ y) (sym p.2) h)))
       sets x h inner (inr was) = inl (was, opened.weight x)

@@ -44,15 +44,14 @@ pub set_leaf : (g : WeightedGraph) (b : ℕ) → g.n ≤ b → set_of g (leaf_of
 set_leaf g b h = omega (arith, h)
 
 -- The slack of each edge is at least 0.
-pub slack_high : (g : WeightedGraph) (f : Forest) (e : ℕ) → IsFeasible (darts_of g) f → e < length g.edges
+pub slack_high : (g : WeightedGraph) {f : Forest} (e : ℕ) → IsFeasible (darts_of g) f → e < length g.edges
     → pos 0 ≤ℤ slack_of g f e
-slack_high g f e feasible l =
+slack_high g {f} e feasible l =
     let low_load : weight_between f ((darts_of g).near (2 * e)) (far (darts_of g) (2 * e)) ≤ℤ
     ((darts_of g).cost (2 * e) +ℤ (darts_of g).cost (2 * e)) = feasible.darts (2 * e) (omega (arith, l)) in
     let same : weight_between f ((darts_of g).near (2 * e)) (far (darts_of g) (2 * e))
-    ≡ weight_between f (edge_at g e).u (edge_at g e).v =
-    ap (λ u. weight_between f u (far (darts_of g) (2 * e))) (dart_near g e)
-    ∙ ap (weight_between f (edge_at g e).u) (dart_far g e) in
+    ≡ weight_between f (edge_at g e).u (edge_at g e).v = ap (λ u. weight_between f u (far (darts_of g) (2 * e)))
+    (dart_near g e) ∙ ap (weight_between f (edge_at g e).u) (dart_far g e) in
     omega (arith, ints, low_load, same, dart_cost g e)
 
 -- Where no edge's load is above twice its cost, no dart's is.
@@ -135,8 +134,8 @@ one_label Outside Outside slack new risen x e = refl
 one_label _ _ slack new risen x e = absurd (cc e)
 
 -- Numbers past the end stand for no blossom.
-pub past_end : (n : ℕ) (f : Forest) → AreOutermost n f → (b : ℕ) → f.size ≤ b → f.label b ≡ Outside
-past_end n f outermost b h = by_label (label_cases (f.label b))
+pub past_end : {n : ℕ} {f : Forest} → AreOutermost n f → (b : ℕ) → f.size ≤ b → f.label b ≡ Outside
+past_end {n} {f} outermost b h = by_label (label_cases (f.label b))
   where
     low : (v : ℕ) → v < n → f.out v ≡ b → ⊥
     low v l e = let lv : f.out v < f.size = outermost.out_low v l in omega (arith, lv, e, h)
@@ -162,7 +161,7 @@ module _ (g : WeightedGraph) (is : IsGraph g) (f : Forest) (outermost : AreOuter
 
     slack_within : f.out (edge_at g e).u ≡ f.out (edge_at g e).v → slack_of g (shifted f (pos x)) e ≡ slack_of g f e
     slack_within same = ap (λ y. (pos 2 *ℤ (edge_at g e).cost) -ℤ y)
-        (load_within g.n f outermost (pos x) (edge_at g e).u (edge_at g e).v (is.left e le) (is.right e le) same)
+        (load_within outermost (pos x) (edge_at g e).u (edge_at g e).v (is.left e le) (is.right e le) same)
 
     slack_apart : f.out (edge_at g e).u ≢ f.out (edge_at g e).v → slack_of g (shifted f (pos x)) e
         ≡ slack_of g f e -ℤ (weight_change (f.label (f.out (edge_at g e).u)) (pos x) +ℤ weight_change
@@ -170,13 +169,11 @@ module _ (g : WeightedGraph) (is : IsGraph g) (f : Forest) (outermost : AreOuter
     slack_apart ne = omega (
       arith,
       ints,
-      load_apart g.n f outermost (pos x) (edge_at g e).u (edge_at g e).v
-          (is.left e le) (is.right e le) ne,
+      load_apart outermost (pos x) (edge_at g e).u (edge_at g e).v (is.left e le) (is.right e le) ne,
     )
 
-    room_apart : f.out (edge_at g e).u ≢ f.out (edge_at g e).v
-        → risen + x ≤ edge_key_by (f.label (f.out (edge_at g e).u)) (f.label (f.out (edge_at g e).v)) false
-        (unsigned_abs (slack_of g f e)) risen
+    room_apart : f.out (edge_at g e).u ≢ f.out (edge_at g e).v → risen + x ≤ edge_key_by
+        (f.label (f.out (edge_at g e).u)) (f.label (f.out (edge_at g e).v)) false (unsigned_abs (slack_of g f e)) risen
     room_apart ne = subst (λ y. risen + x ≤ y) (at_edge g f risen e le ∙ apart_key ne) room
 
     edge_lawful : pos 0 ≤ℤ slack_of g (shifted f (pos x)) e
@@ -184,13 +181,13 @@ module _ (g : WeightedGraph) (is : IsGraph g) (f : Forest) (outermost : AreOuter
       where
         by_ends : (f.out (edge_at g e).u ≡ f.out (edge_at g e).v) ⊎ (f.out (edge_at g e).u ≢ f.out (edge_at g e).v)
             → pos 0 ≤ℤ slack_of g (shifted f (pos x)) e
-        by_ends (inl same) = subst (λ y. pos 0 ≤ℤ y) (sym (slack_within same)) (slack_high g f e feasible le)
+        by_ends (inl same) = subst (λ y. pos 0 ≤ℤ y) (sym (slack_within same)) (slack_high g e feasible le)
         by_ends (inr ne) =
             let more : (weight_change (f.label (f.out (edge_at g e).u)) (pos x) +ℤ weight_change
             (f.label (f.out (edge_at g e).v)) (pos x)) ≤ℤ pos (unsigned_abs (slack_of g f e)) =
             edge_room (f.label (f.out (edge_at g e).u)) (f.label (f.out (edge_at g e).v))
             (unsigned_abs (slack_of g f e)) risen x (room_apart ne) in
-            omega (arith, ints, more, slack_apart ne, slack_high g f e feasible le)
+            omega (arith, ints, more, slack_apart ne, slack_high g e feasible le)
 
     edge_key_same : edge_key g (shifted f (pos x)) (risen + x) e ≡ edge_key g f risen e
     edge_key_same = by_ends (cases_eq (f.out (edge_at g e).u) (f.out (edge_at g e).v))
@@ -203,8 +200,7 @@ module _ (g : WeightedGraph) (is : IsGraph g) (f : Forest) (outermost : AreOuter
             ap (λ (s : Bool). edge_key_by (f.label (f.out (edge_at g e).u)) (f.label (f.out (edge_at g e).v)) s
             (unsigned_abs (slack_of g (shifted f (pos x)) e)) (risen + x)) on
             ∙ (one_label (f.label (f.out (edge_at g e).u)) (f.label (f.out (edge_at g e).v))
-            (unsigned_abs (slack_of g f e)) (unsigned_abs (slack_of g (shifted f (pos x)) e)) risen x
-            (ap f.label same)
+            (unsigned_abs (slack_of g f e)) (unsigned_abs (slack_of g (shifted f (pos x)) e)) risen x (ap f.label same)
             ∙ ap (λ (s : Bool). edge_key_by (f.label (f.out (edge_at g e).u)) (f.label (f.out (edge_at g e).v)) s
             (unsigned_abs (slack_of g f e)) risen) (sym on))
         by_ends (inr ne) =
@@ -213,13 +209,12 @@ module _ (g : WeightedGraph) (is : IsGraph g) (f : Forest) (outermost : AreOuter
             let moved : pos (unsigned_abs (slack_of g (shifted f (pos x)) e)) ≡ pos (unsigned_abs (slack_of g f e)) -ℤ
             (weight_change (f.label (f.out (edge_at g e).u)) (pos x) +ℤ weight_change
             (f.label (f.out (edge_at g e).v)) (pos x)) =
-            omega (arith, ints, slack_apart ne, slack_high g f e feasible le, edge_lawful) in
+            omega (arith, ints, slack_apart ne, slack_high g e feasible le, edge_lawful) in
             ap (λ (s : Bool). edge_key_by (f.label (f.out (edge_at g e).u)) (f.label (f.out (edge_at g e).v)) s
             (unsigned_abs (slack_of g (shifted f (pos x)) e)) (risen + x)) off
             ∙ (edge_same (f.label (f.out (edge_at g e).u)) (f.label (f.out (edge_at g e).v))
-            (unsigned_abs (slack_of g f e)) (unsigned_abs (slack_of g (shifted f (pos x)) e)) risen x
-            (room_apart ne) moved
-            ∙ sym (apart_key ne))
+            (unsigned_abs (slack_of g f e)) (unsigned_abs (slack_of g (shifted f (pos x)) e)) risen x (room_apart ne)
+            moved ∙ sym (apart_key ne))
 
   module _ (most : ℕ) (sets : length g.edges + (f.size - g.n) ≤ most) (room : (k : ℕ) → k < most
       → risen + x ≤ true_key g f risen k) where
@@ -242,8 +237,8 @@ module _ (g : WeightedGraph) (is : IsGraph g) (f : Forest) (outermost : AreOuter
             ≡ set_key f risen b
         set_same_at b h (inl lb) = set_same (f.label b) (f.weight b) risen x (feasible.sets b h lb) (set_room_at b h lb)
         set_same_at b h (inr hb) = ap (λ (y : Label). set_key_by y (f.weight b +ℤ weight_change y (pos x)) (risen + x))
-            (past_end g.n f outermost b hb) ∙ ap (λ (y : Label). set_key_by y (f.weight b) risen)
-            (sym (past_end g.n f outermost b hb))
+            (past_end outermost b hb) ∙ ap (λ (y : Label). set_key_by y (f.weight b) risen)
+            (sym (past_end outermost b hb))
 
         by_leaf : (k < length g.edges) ⊎ (length g.edges ≤ k) → true_key g (shifted f (pos x)) (risen + x) k
             ≡ true_key g f risen k

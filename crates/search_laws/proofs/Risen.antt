@@ -87,10 +87,10 @@ costs_low g most low (k ∷ ks) each increasing =
     omega (arith, ints, each k increasing.1, costs_low g most (k + 1) ks each increasing.2)
 
 -- Twice the cost of a perfect matching is at most as often a bound of the costs as there are vertices, and small.
-pub known_most : (g : WeightedGraph) → IsGraph g → (most : ℕ)
-    → ((e : ℕ) → e < length g.edges → unsigned_abs (edge_at g e).cost ≤ most) → (m : List ℕ) → IsPerfect g m
+pub known_most : {g : WeightedGraph} → IsGraph g → (most : ℕ)
+    → ((e : ℕ) → e < length g.edges → unsigned_abs (edge_at g e).cost ≤ most) → {m : List ℕ} → IsPerfect g m
     → (pos 2 *ℤ matching_cost g m) ≤ℤ pos (g.n * most)
-known_most g is most each m perfect =
+known_most {g} is most each {m} perfect =
     let ends : total (λ (e : WEdge). pos most +ℤ pos most) (map (edge_at g) m) ≡ total_below (λ v. pos most) g.n =
     ends_once (λ (e : WEdge). e.u) (λ (e : WEdge). e.v) (λ v. pos most) g.n (map (edge_at g) m)
     (chosen_below g is 0 m perfect.increasing) perfect.once in
@@ -98,12 +98,12 @@ known_most g is most each m perfect =
     total_below_small (λ v. pos most) most g.n (λ v l. omega (arith, ints)) in
     omega (arith, ints, ends, small, costs_low g most 0 m each perfect.increasing)
 
-pub known_low : (g : WeightedGraph) → IsGraph g → IsCheap g → (m : List ℕ) → IsPerfect g m
+pub known_low : {g : WeightedGraph} → IsGraph g → IsCheap g → {m : List ℕ} → IsPerfect g m
     → (pos 2 *ℤ matching_cost g m) ≤ℤ pos MAX_PRODUCT
-known_low g is cheap m perfect =
+known_low {g} is cheap perfect =
     let w : (most : ℕ) × ((e : ℕ) → e < length g.edges → unsigned_abs (edge_at g e).cost ≤ most)
     × (g.n * most ≤ MAX_PRODUCT) = greatest g cheap in
-    omega (arith, ints, known_most g is w.0 w.1 m perfect, w.2)
+    omega (arith, ints, known_most is w.0 w.1 perfect, w.2)
 
 change_low : (l : Label) (w : ℤ) (x : ℕ) → unsigned_abs (w +ℤ weight_change l (pos x)) ≤ unsigned_abs w + x
 change_low Outer w x = omega (arith, ints)
@@ -132,30 +132,30 @@ key_high g f risen k few = by_leaf (cases_lt k (length g.edges))
     by_leaf (inr he) = subst (λ x. risen ≤ x) (sym (at_set g f risen k he))
         (set_key_high (f.label (set_of g k)) (f.weight (set_of g k)) risen few)
 
-module _ (g : WeightedGraph) (is : IsGraph g) (cheap : IsCheap g) (m : List ℕ) (perfect : IsPerfect g m) (n first : ℕ)
-    (limit : n * first ≤ first_limit) (low : first ≤ first_limit) (f : Forest) (risen : ℕ)
+module _ {g : WeightedGraph} (is : IsGraph g) (cheap : IsCheap g) {m : List ℕ} (perfect : IsPerfect g m) {n first : ℕ}
+    (limit : n * first ≤ first_limit) (low : first ≤ first_limit) {f : Forest} {risen : ℕ}
     (range : IsInRange n first f risen) where
   -- How far the sum has risen.
-  pub risen_low : (root : Option ℕ) → IsValid (darts_of g) f root → risen ≤ risen_limit
-  risen_low root valid =
+  pub risen_low : {root : Option ℕ} → IsValid (darts_of g) f root → risen ≤ risen_limit
+  risen_low valid =
       let bound : dual_sum_of f ≤ℤ (pos 2 *ℤ matching_cost g m) =
-      sum_bounds g is f valid.outermost.vertices valid.nested valid.feasible m perfect in
-      omega (arith, ints, bound, range.sum, range.start_high, limit, known_low g is cheap m perfect)
+      sum_bounds is valid.outermost.vertices valid.nested valid.feasible perfect in
+      omega (arith, ints, bound, range.sum, range.start_high, limit, known_low is cheap perfect)
 
   -- What the shifts leave in range.
-  pub small_weights : (root : Option ℕ) → IsValid (darts_of g) f root → (b : ℕ)
+  pub small_weights : {root : Option ℕ} → IsValid (darts_of g) f root → (b : ℕ)
       → unsigned_abs (f.weight b) ≤ 6 * MAX_PRODUCT
-  small_weights root valid b = omega (arith, low, range.weights b, risen_low root valid)
+  small_weights valid b = omega (arith, low, range.weights b, risen_low valid)
 
-  pub weights_most : (root : Option ℕ) → IsValid (darts_of g) f root → (most : ℕ)
+  pub weights_most : {root : Option ℕ} → IsValid (darts_of g) f root → (most : ℕ)
       → ((e : ℕ) → e < length g.edges → unsigned_abs (edge_at g e).cost ≤ most) → (b : ℕ)
       → unsigned_abs (f.weight b) ≤ first + (n * first + g.n * most)
-  weights_most root valid most each b =
+  weights_most valid most each b =
       let bound : dual_sum_of f ≤ℤ (pos 2 *ℤ matching_cost g m) =
-      sum_bounds g is f valid.outermost.vertices valid.nested valid.feasible m perfect in
-      omega (arith, ints, bound, range.sum, range.start_high, known_most g is most each m perfect, range.weights b)
+      sum_bounds is valid.outermost.vertices valid.nested valid.feasible perfect in
+      omega (arith, ints, bound, range.sum, range.start_high, known_most is most each perfect, range.weights b)
 
-  module _ (r : ℕ) (valid : IsValid (darts_of g) f (Some r)) where
+  module _ {r : ℕ} (valid : IsValid (darts_of g) f (Some r)) where
     -- A shift.
     pub range_shifted : (x : ℕ) → IsInRange n first (shifted f (pos x)) (risen + x)
     range_shifted x = record {
@@ -164,7 +164,7 @@ module _ (g : WeightedGraph) (is : IsGraph g) (cheap : IsCheap g) (m : List ℕ)
       sum = omega (
         arith,
         ints,
-        sum_rises (darts_of g) (are_darts g is) f r valid (valid.tree r refl) (pos x),
+        sum_rises (are_darts is) valid (valid.tree r refl) (pos x),
         range.sum,
       );
       weights = λ b. omega (arith, change_low (f.label b) (f.weight b) x, range.weights b);
@@ -175,18 +175,18 @@ module _ (g : WeightedGraph) (is : IsGraph g) (cheap : IsCheap g) (m : List ℕ)
       pub reach_low : (x : ℕ) → IsFeasible (darts_of g) (shifted f (pos x)) → risen + x ≤ risen_limit
       reach_low x feasible =
           let then : IsValid (darts_of g) (shifted f (pos x)) (Some r) =
-          shift_valid (darts_of g) (are_darts g is) f (Some r) valid (pos x) feasible in
+          shift_valid (are_darts is) valid (pos x) feasible in
           let bound : dual_sum_of (shifted f (pos x)) ≤ℤ (pos 2 *ℤ matching_cost g m) =
-          sum_bounds g is (shifted f (pos x)) then.outermost.vertices then.nested then.feasible m perfect in
+          sum_bounds is then.outermost.vertices then.nested then.feasible perfect in
           omega (
             arith,
             ints,
             bound,
-            sum_rises (darts_of g) (are_darts g is) f r valid (valid.tree r refl) (pos x),
+            sum_rises (are_darts is) valid (valid.tree r refl) (pos x),
             range.sum,
             range.start_high,
             limit,
-            known_low g is cheap m perfect,
+            known_low is cheap perfect,
           )
 
       -- Something happens soon: the least key is small.
@@ -195,11 +195,10 @@ module _ (g : WeightedGraph) (is : IsGraph g) (cheap : IsCheap g) (m : List ℕ)
         where
           clash : (x : ℕ) → risen + x ≡ risen_limit + 1 → risen_limit < key → ⊥
           clash x e h =
-              let far : risen + x ≤ risen_limit =
-              reach_low x (lawful g is f valid.outermost valid.feasible risen x most sets
-              (λ k l. omega (arith, e, h, low k l))) in
+              let far : risen + x ≤ risen_limit = reach_low x (lawful g is f valid.outermost valid.feasible risen x most
+              sets (λ k l. omega (arith, e, h, low k l))) in
               omega (arith, e, far)
 
           by_order : (risen_limit < key) ⊎ (key ≤ risen_limit) → key ≤ risen_limit
           by_order (inr l) = l
-          by_order (inl h) = absurd (clash (risen_limit + 1 - risen) (omega (arith, risen_low (Some r) valid)) h)
+          by_order (inl h) = absurd (clash (risen_limit + 1 - risen) (omega (arith, risen_low valid)) h)

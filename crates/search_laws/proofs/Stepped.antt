@@ -18,7 +18,7 @@ use Rattle.def_forest.specs.declared.kinds.EdgeKind.TheVariants.{Loose, Augment,
 use Rattle.def_forest.specs.declared.kinds.Label.{Label}
 use Rattle.def_forest.specs.declared.kinds.Label.TheVariants.{Outer, Inner, Outside}
 use Rattle.sum_laws.proofs.Sums.{total_below_same}
-use Rattle.forest_laws.proofs.Expands.{halves}
+use Rattle.forest_laws.proofs.Expands.{Expansion, halves}
 use Rattle.forest_laws.proofs.Expands as expands
 use Rattle.forest_laws.proofs.Graphs.{are_darts}
 use Rattle.forest_laws.proofs.Parities.{slack_even}
@@ -28,12 +28,12 @@ use Rattle.forest_laws.proofs.Writes.{some_is}
 use Rattle.search_laws.specs.Keys.{no_key, edge_key_by, set_key_by, set_of, true_key}
 use Rattle.search_laws.specs.Searches.{IsSeeking, AreMatchedBefore, IsInRange}
 use Rattle.search_laws.proofs.Keys.{at_edge, at_set, slack_high}
-use Rattle.search_laws.proofs.Kept.{opened_old, shrunk_on, shrunk_off}
+use Rattle.search_laws.proofs.Kept.{expansion as the_expansion, shrunk_on, shrunk_off}
 
 -- Where the weights and their sum are the same they stay in range.
-pub range_same : (n first : ℕ) (f new : Forest) (risen : ℕ) → new.size ≡ f.size → ((b : ℕ) → new.weight b ≡ f.weight b)
-    → IsInRange n first f risen → IsInRange n first new risen
-range_same n first f new risen size weights range = record {
+pub range_same : {n first : ℕ} {f : Forest} (new : Forest) {risen : ℕ} → new.size ≡ f.size
+    → ((b : ℕ) → new.weight b ≡ f.weight b) → IsInRange n first f risen → IsInRange n first new risen
+range_same {first} {f} new {risen} size weights range = record {
   start = range.start;
   start_high = range.start_high;
   sum = sums size ∙ range.sum;
@@ -50,10 +50,10 @@ pub seeking_begun : (n : ℕ) (f : Forest) (v : ℕ) → v < n → AreMatchedBef
 seeking_begun n f v l before = record { vertex = l; root_is = refl; before = λ u lu none. absurd (before u lu none) }
 
 -- A cycle becomes one blossom.
-pub seeking_shrunk : (g : WeightedGraph) → IsGraph g → (f new : Forest) (root after : Option ℕ) (d v : ℕ)
+pub seeking_shrunk : {g : WeightedGraph} → IsGraph g → {f new : Forest} {root after : Option ℕ} {d v : ℕ}
     → IsValid (darts_of g) f root → IsShrinking (darts_of g) f new root after d → IsSeeking g.n f root v
     → IsSeeking g.n new after v
-seeking_shrunk g is f new root after d v valid s seeking = record {
+seeking_shrunk {g} is {f} {new} {v} valid s seeking = record {
   vertex = seeking.vertex;
   root_is = s.root_is ∙ (ap (λ x. Some (cond (s.inside x) s.set x)) r_is
       ∙ ap Some (sym (s.shrunk.out v seeking.vertex)));
@@ -76,27 +76,24 @@ seeking_shrunk g is f new root after d v valid s seeking = record {
     before : (u : ℕ) → u < v → new.mate (new.out u) ≡ None → (s.inside (f.out u) ≡ true) ⊎ (s.inside (f.out u) ≡ false)
         → new.out u ≡ new.out v
     before u lu none (inl on) =
-        let here : new.out u ≡ s.set = shrunk_on g is f new root after d valid s u (low u lu) on in
-        let mate : f.mate s.top ≡ None =
-        sym (shrinks.mate_b (darts_of g) (are_darts g is) f s.r valid_r s.tree new s.inside s.top s.set s.top s.many
-        s.cycle s.unused s.row s.shrunk) ∙ (ap new.mate (sym here) ∙ none) in
+        let here : new.out u ≡ s.set = shrunk_on is valid s u (low u lu) on in
+        let mate : f.mate s.top ≡ None = sym (shrinks.mate_b (are_darts is) valid_r s.tree s.cycle s.unused s.row
+        s.shrunk) ∙ (ap new.mate (sym here) ∙ none) in
         let top_r : s.top ≡ s.r = by_top mate (s.tree.outer s.top s.cycle.top_outer) in
         let on_v : s.inside (f.out v) ≡ true = ap s.inside (sym (top_r ∙ r_is)) ∙ s.cycle.top_in in
-        here ∙ sym (shrunk_on g is f new root after d valid s v seeking.vertex on_v)
+        here ∙ sym (shrunk_on is valid s v seeking.vertex on_v)
     before u lu none (inr off) =
-        let here : new.out u ≡ f.out u = shrunk_off g is f new root after d valid s u (low u lu) off in
-        let mate : f.mate (f.out u) ≡ None =
-        sym (shrinks.mate_off (darts_of g) (are_darts g is) f s.r valid_r s.tree new s.inside s.top s.set s.top
-        s.many s.cycle s.unused s.row s.shrunk (f.out u) (s.unused.no_out u (low u lu)) off)
-        ∙ (ap new.mate (sym here) ∙ none) in
+        let here : new.out u ≡ f.out u = shrunk_off is valid s u (low u lu) off in
+        let mate : f.mate (f.out u) ≡ None = sym (shrinks.mate_off (are_darts is) valid_r s.tree s.cycle s.unused s.row
+        s.shrunk (f.out u) (s.unused.no_out u (low u lu)) off) ∙ (ap new.mate (sym here) ∙ none) in
         let same : f.out u ≡ f.out v = seeking.before u lu mate in
-        here ∙ (same ∙ sym (shrunk_off g is f new root after d valid s v seeking.vertex (ap s.inside (sym same) ∙ off)))
+        here ∙ (same ∙ sym (shrunk_off is valid s v seeking.vertex (ap s.inside (sym same) ∙ off)))
 
 -- An inner set is opened: all its parts are matched.
-pub seeking_opened : (g : WeightedGraph) → IsGraph g → (f new : Forest) (o : Opening) (v : ℕ)
+pub seeking_opened : {g : WeightedGraph} → IsGraph g → {f new : Forest} {o : Opening} {v : ℕ}
     → IsValid (darts_of g) f (Some (f.out v)) → IsOpening (darts_of g) f o → IsOpened (darts_of g) f new o
     → IsSeeking g.n f (Some (f.out v)) v → IsSeeking g.n new (Some (f.out v)) v
-seeking_opened g is f new o v valid opening opened seeking = record {
+seeking_opened {g} is {f} {new} {o} {v} valid opening opened seeking = record {
   vertex = seeking.vertex;
   root_is = ap Some (sym (old v seeking.vertex v_off));
   before = λ u lu none. before u lu none (cases_eq (f.out u) o.b);
@@ -106,8 +103,11 @@ seeking_opened g is f new o v valid opening opened seeking = record {
     v_off e = let c : Outer ≡ Inner = sym ((valid.tree (f.out v) refl).root_outer) ∙ (ap f.label e ∙ opening.label) in
         cc
 
+    expansion : Expansion (darts_of g) f (f.out v) new o
+    expansion = the_expansion is valid opening opened
+
     old : (u : ℕ) → u < g.n → f.out u ≢ o.b → new.out u ≡ f.out u
-    old = opened_old g is f new (f.out v) o valid opening opened
+    old = expands.out_old expansion
 
     low : (u : ℕ) → u < v → u < g.n
     low u l = omega (arith, l, seeking.vertex)
@@ -128,21 +128,19 @@ seeking_opened g is f new o v valid opening opened seeking = record {
     before : (u : ℕ) → u < v → new.mate (new.out u) ≡ None → (f.out u ≡ o.b) ⊎ (f.out u ≢ o.b) → new.out u ≡ new.out v
     before u lu none (inl at) =
         let p : (j : ℕ) × (j ≤ 2 * o.half) × (o.q j ≡ o.part u) = opening.part_of u (low u lu) at in
-        let here : new.out u ≡ o.q p.0 = expands.out_in (darts_of g) (are_darts g is) f (f.out v) valid
-        (valid.tree (f.out v) refl) new o opening opened u (low u lu) at ∙ sym p.2 in
+        let here : new.out u ≡ o.q p.0 = expands.out_in expansion u (low u lu) at ∙ sym p.2 in
         absurd (by_half p.0 p.1 (halves p.0) (ap new.mate (sym here) ∙ none))
     before u lu none (inr ne) =
         let here : new.out u ≡ f.out u = old u (low u lu) ne in
-        let other : f.nest.up (f.out u) ≢ o.b = expands.out_not_part (darts_of g) (are_darts g is) f (f.out v) valid
-        (valid.tree (f.out v) refl) new o opening opened u (low u lu) ne in
+        let other : f.nest.up (f.out u) ≢ o.b = expands.out_not_part expansion u (low u lu) ne in
         let same : f.out u ≡ f.out v =
         seeking.before u lu (sym (opened.others (f.out u) other).mate ∙ (ap new.mate (sym here) ∙ none)) in
         here ∙ (same ∙ sym (old v seeking.vertex v_off))
 
 -- The matching grows.
-pub matched_more : (n : ℕ) (g : WeightedGraph) (f new : Forest) (r d v : ℕ) → IsAugmented (darts_of g) f new r d
+pub matched_more : {n : ℕ} (g : WeightedGraph) {f new : Forest} {r d v : ℕ} → IsAugmented (darts_of g) f new r d
     → IsSeeking n f (Some r) v → AreMatchedBefore new (v + 1)
-matched_more n g f new r d v is seeking u l none = by_place (cases_lt u v)
+matched_more g {f} {new} {r} {v} is seeking u l none = by_place (cases_lt u v)
   where
     out_is : (x : ℕ) → new.out x ≡ f.out x
     out_is x = ap (λ (h : Forest). h.out x) is.changed
@@ -167,25 +165,24 @@ grow_or : (o : Bool) → IsStep (cond o Grow Augment)
 grow_or true = inr (inl refl)
 grow_or false = inr (inr refl)
 
-key_step : (a b : Label) (ma mb : Option ℕ) (same : Bool) (slack risen : ℕ) → edge_key_by a b same slack risen ≡ risen
-    → risen < no_key
-    → IsStep (kind_by a b ma mb same) × ((slack ≡ 0) ⊎ ((slack / 2 ≡ 0) × (a ≡ Outer) × (b ≡ Outer)))
-key_step Outer Outer ma mb false slack risen e l = (inl refl, inr (omega (arith, e, l), refl, refl))
-key_step Outer Outside ma mb same slack risen e l = (grow_or (is_some mb), inl (omega (arith, e, l)))
-key_step Outside Outer ma mb same slack risen e l = (grow_or (is_some ma), inl (omega (arith, e, l)))
-key_step _ _ ma mb _ slack risen e l = absurd (omega (arith, e, l))
+key_step : (a b : Label) (ma mb : Option ℕ) (same : Bool) (slack : ℕ) {risen : ℕ} → edge_key_by a b same slack risen
+    ≡ risen → risen < no_key → IsStep (kind_by a b ma mb same) × ((slack ≡ 0)
+    ⊎ ((slack / 2 ≡ 0) × (a ≡ Outer) × (b ≡ Outer)))
+key_step Outer Outer ma mb false slack e l = (inl refl, inr (omega (arith, e, l), refl, refl))
+key_step Outer Outside ma mb same slack e l = (grow_or (is_some mb), inl (omega (arith, e, l)))
+key_step Outside Outer ma mb same slack e l = (grow_or (is_some ma), inl (omega (arith, e, l)))
+key_step _ _ ma mb _ slack e l = absurd (omega (arith, e, l))
 
-not_loose : (x : ℤ) → x ≡ pos 0 → int_lt (pos 0) x ≡ false
-not_loose x e = subst (λ y. int_lt (pos 0) y ≡ false) (sym e) refl
+not_loose : {x : ℤ} → x ≡ pos 0 → int_lt (pos 0) x ≡ false
+not_loose e = subst (λ y. int_lt (pos 0) y ≡ false) (sym e) refl
 
 -- An edge whose key has come allows a step.
-pub edge_step : (g : WeightedGraph) → IsGraph g → (f : Forest) (root : Option ℕ) (risen e : ℕ)
+pub edge_step : {g : WeightedGraph} → IsGraph g → {f : Forest} {root : Option ℕ} {risen : ℕ} (e : ℕ)
     → IsValid (darts_of g) f root → e < length g.edges → true_key g f risen e ≡ risen → risen < no_key
     → IsStep (edge_kind g f e)
-edge_step g is f root risen e valid low key few =
-    by_key (key_step (f.label (f.out (edge_at g e).u)) (f.label (f.out (edge_at g e).v))
-    (f.mate (f.out (edge_at g e).u)) (f.mate (f.out (edge_at g e).v))
-    (eqb (f.out (edge_at g e).u) (f.out (edge_at g e).v)) (unsigned_abs (slack_of g f e)) risen
+edge_step {g} is {f} {root} {risen} e valid low key few = by_key (key_step (f.label (f.out (edge_at g e).u))
+    (f.label (f.out (edge_at g e).v)) (f.mate (f.out (edge_at g e).u)) (f.mate (f.out (edge_at g e).v))
+    (eqb (f.out (edge_at g e).u) (f.out (edge_at g e).v)) (unsigned_abs (slack_of g f e))
     (sym (at_edge g f risen e low) ∙ key) few)
   where
     by_labels : EdgeKind
@@ -194,17 +191,14 @@ edge_step g is f root risen e valid low key few =
         (eqb (f.out (edge_at g e).u) (f.out (edge_at g e).v))
 
     high : pos 0 ≤ℤ slack_of g f e
-    high = slack_high g f e valid.feasible low
+    high = slack_high g e valid.feasible low
 
-    tight : slack_of g f e ≡ pos 0
-        → IsStep (kind_by (f.label (f.out (edge_at g e).u)) (f.label (f.out (edge_at g e).v))
+    tight : slack_of g f e ≡ pos 0 → IsStep (kind_by (f.label (f.out (edge_at g e).u)) (f.label (f.out (edge_at g e).v))
         (f.mate (f.out (edge_at g e).u)) (f.mate (f.out (edge_at g e).v))
         (eqb (f.out (edge_at g e).u) (f.out (edge_at g e).v))) → IsStep (edge_kind g f e)
-    tight z step = subst IsStep
-        (sym (cond-false (int_lt (pos 0) (slack_of g f e)) Loose
-        (kind_by (f.label (f.out (edge_at g e).u)) (f.label (f.out (edge_at g e).v))
-        (f.mate (f.out (edge_at g e).u)) (f.mate (f.out (edge_at g e).v))
-        (eqb (f.out (edge_at g e).u) (f.out (edge_at g e).v))) (not_loose (slack_of g f e) z))) step
+    tight z step = subst IsStep (sym (cond-false (int_lt (pos 0) (slack_of g f e)) Loose
+        (kind_by (f.label (f.out (edge_at g e).u)) (f.label (f.out (edge_at g e).v)) (f.mate (f.out (edge_at g e).u))
+        (f.mate (f.out (edge_at g e).v)) (eqb (f.out (edge_at g e).u) (f.out (edge_at g e).v))) (not_loose z))) step
 
     by_half : (half : ℤ) × (slack_of g f e ≡ half +ℤ half) → unsigned_abs (slack_of g f e) / 2 ≡ 0
         → slack_of g f e ≡ pos 0
@@ -212,8 +206,7 @@ edge_step g is f root risen e valid low key few =
 
     by_key : IsStep (kind_by (f.label (f.out (edge_at g e).u)) (f.label (f.out (edge_at g e).v))
         (f.mate (f.out (edge_at g e).u)) (f.mate (f.out (edge_at g e).v))
-        (eqb (f.out (edge_at g e).u) (f.out (edge_at g e).v)))
-        × ((unsigned_abs (slack_of g f e) ≡ 0)
+        (eqb (f.out (edge_at g e).u) (f.out (edge_at g e).v))) × ((unsigned_abs (slack_of g f e) ≡ 0)
         ⊎ ((unsigned_abs (slack_of g f e) / 2 ≡ 0) × (f.label (f.out (edge_at g e).u) ≡ Outer)
         × (f.label (f.out (edge_at g e).v) ≡ Outer))) → IsStep (edge_kind g f e)
     by_key p = by_slack p.1
@@ -224,13 +217,13 @@ edge_step g is f root risen e valid low key few =
         by_slack (inl z) = tight (omega (arith, ints, z, high)) p.0
         by_slack (inr w) = tight (by_half (slack_even g f root e is valid low w.1 w.2) w.0) p.0
 
-set_step_by : (l : Label) (w : ℤ) (risen : ℕ) → set_key_by l w risen ≡ risen → risen < no_key → (l ≡ Inner)
+set_step_by : (l : Label) (w : ℤ) {risen : ℕ} → set_key_by l w risen ≡ risen → risen < no_key → (l ≡ Inner)
     × (w ≡ pos 0)
-set_step_by Inner w risen e l = (refl, omega (arith, ints, e, l))
-set_step_by _ w risen e l = absurd (omega (arith, e, l))
+set_step_by Inner w e l = (refl, omega (arith, ints, e, l))
+set_step_by _ w e l = absurd (omega (arith, e, l))
 
 -- A set whose key has come may be opened.
-pub set_step : (g : WeightedGraph) (f : Forest) (risen k : ℕ) → length g.edges ≤ k → true_key g f risen k ≡ risen
+pub set_step : (g : WeightedGraph) (f : Forest) {risen : ℕ} (k : ℕ) → length g.edges ≤ k → true_key g f risen k ≡ risen
     → risen < no_key → (f.label (set_of g k) ≡ Inner) × (f.weight (set_of g k) ≡ pos 0)
-set_step g f risen k h key few = set_step_by (f.label (set_of g k)) (f.weight (set_of g k)) risen
+set_step g f {risen} k h key few = set_step_by (f.label (set_of g k)) (f.weight (set_of g k))
     (sym (at_set g f risen k h) ∙ key) few

@@ -2,5 +2,4 @@ use Rattle.forest_laws.proofs.Bounds.{sum_bounds}
 use Rattle.forest_laws.proofs.ends.bound_law.Goals as goal
 
 pub returns : goal.returns
-returns c = λ g f root m is valid perfect. sum_bounds g is f valid.outermost.vertices valid.nested valid.feasible m
-    perfect
+returns c = λ g f root m is valid perfect. sum_bounds is valid.outermost.vertices valid.nested valid.feasible perfect

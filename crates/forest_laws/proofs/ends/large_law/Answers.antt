@@ -2,4 +2,4 @@ use Rattle.forest_laws.proofs.Odds.{large_set}
 use Rattle.forest_laws.proofs.ends.large_law.Goals as goal
 
 pub returns : goal.returns
-returns c = λ g f b are nested high used. large_set g are f nested b high used
+returns c = λ g f b are nested high used. large_set are nested b high used

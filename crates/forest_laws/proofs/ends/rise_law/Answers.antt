@@ -3,4 +3,4 @@ use Rattle.forest_laws.proofs.Rises.{sum_rises}
 use Rattle.forest_laws.proofs.ends.rise_law.Goals as goal
 
 pub returns : goal.returns
-returns c = λ g f root t are valid. sum_rises g are f root valid (valid.tree root refl) t
+returns c = λ g f root t are valid. sum_rises are valid (valid.tree root refl) t

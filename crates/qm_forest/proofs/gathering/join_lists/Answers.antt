@@ -12,8 +12,7 @@ index-end-requires c =
     ∙ c.requires.lists.last in
     omega (
       arith,
-      row_place c.args.after.now c.args.front c.args.many c.loop.counter c.loop.x c.requires.row
-          (omega (arith, c.loop-test.true)) c.loop.invariant.here,
+      row_place c.loop.counter c.requires.row (omega (arith, c.loop-test.true)) c.loop.invariant.here,
       size,
       c.loop.lists.last.ok.0,
     )
@@ -26,8 +25,7 @@ index-requires c =
     (suc c.loop.counter) = ap (λ x. get_or c.args.after.now x 0) c.loop.invariant.here in
     omega (
       arith,
-      row_place c.args.after.now c.args.front c.args.many (suc c.loop.counter)
-          (get_or c.args.after.now c.loop.x 0) c.requires.row (omega (arith, c.loop-test.true)) next,
+      row_place (suc c.loop.counter) c.requires.row (omega (arith, c.loop-test.true)) next,
       size,
       c.loop.lists.first.ok.0,
     )
@@ -36,18 +34,15 @@ pub index_mut-requires : goal.index_mut-requires
 index_mut-requires c =
     let size : length c.loop.lists.last.items ≡ length c.args.after.now = ap (λ o. length o.items) c.loop.invariant.last
     ∙ c.requires.lists.last in
-    let low : c.loop.x < length c.loop.lists.last.items =
-    omega (
+    let low : c.loop.x < length c.loop.lists.last.items = omega (
       arith,
-      row_place c.args.after.now c.args.front c.args.many c.loop.counter c.loop.x c.requires.row
-          (omega (arith, c.loop-test.true)) c.loop.invariant.here,
+      row_place c.loop.counter c.requires.row (omega (arith, c.loop-test.true)) c.loop.invariant.here,
       size,
     ) in
-    let end : c.index-end.result.now
-    ≡ get_or c.args.lists.now.last.items (walk (λ k. get_or c.args.after.now k 0) c.args.front c.loop.counter) 0 =
-    get_or_read c.loop.lists.last.items c.loop.x _ low c.index-end.ensures 0
-    ∙ (ap (λ o. get_or o.items c.loop.x 0) c.loop.invariant.last ∙ ap (λ x. get_or c.args.lists.now.last.items x 0)
-    c.loop.invariant.here) in
+    let end : c.index-end.result.now ≡ get_or c.args.lists.now.last.items
+    (walk (λ k. get_or c.args.after.now k 0) c.args.front c.loop.counter) 0 = get_or_read c.loop.lists.last.items
+    c.loop.x _ low c.index-end.ensures 0 ∙ (ap (λ o. get_or o.items c.loop.x 0) c.loop.invariant.last
+    ∙ ap (λ x. get_or c.args.lists.now.last.items x 0) c.loop.invariant.here) in
     let ends : get_or c.args.lists.now.last.items (walk (λ k. get_or c.args.after.now k 0) c.args.front c.loop.counter)
     0 < length c.args.lists.now.following.items =
     c.requires.lists.ends c.loop.counter (omega (arith, c.loop-test.true)) in
@@ -61,8 +56,7 @@ index-requires-in-loop c =
     (suc c.loop.counter) = ap (λ x. get_or c.args.after.now x 0) c.loop.invariant.here in
     omega (
       arith,
-      row_place c.args.after.now c.args.front c.args.many (suc c.loop.counter)
-          (get_or c.args.after.now c.loop.x 0) c.requires.row (omega (arith, c.loop-test.true)) next,
+      row_place (suc c.loop.counter) c.requires.row (omega (arith, c.loop-test.true)) next,
       size,
       c.loop.lists.rank.ok.0,
     )
@@ -73,11 +67,9 @@ overflow_add-total c =
     ∙ c.requires.lists.rank in
     let next : get_or c.args.after.now c.loop.x 0 ≡ walk (λ k. get_or c.args.after.now k 0) c.args.front
     (suc c.loop.counter) = ap (λ x. get_or c.args.after.now x 0) c.loop.invariant.here in
-    let low : get_or c.args.after.now c.loop.x 0 < length c.loop.lists.rank.items =
-    omega (
+    let low : get_or c.args.after.now c.loop.x 0 < length c.loop.lists.rank.items = omega (
       arith,
-      row_place c.args.after.now c.args.front c.args.many (suc c.loop.counter)
-          (get_or c.args.after.now c.loop.x 0) c.requires.row (omega (arith, c.loop-test.true)) next,
+      row_place (suc c.loop.counter) c.requires.row (omega (arith, c.loop-test.true)) next,
       size,
     ) in
     let more : c.index-in-loop.result.now
@@ -89,9 +81,8 @@ overflow_add-total c =
       arith,
       c.loop.invariant.total,
       more,
-      ring_sum_below (λ k. get_or c.args.after.now k 0)
-          (λ k. get_or c.args.lists.now.rank.items k 0) c.args.front (suc (suc c.loop.counter)) c.args.many
-          (omega (arith, c.loop-test.true)),
+      ring_sum_below (λ k. get_or c.args.after.now k 0) (λ k. get_or c.args.lists.now.rank.items k 0) c.args.front
+          (suc (suc c.loop.counter)) c.args.many (omega (arith, c.loop-test.true)),
       c.requires.lists.few,
     )
 
@@ -106,15 +97,13 @@ loop-preserved c =
     ap (λ o. length o.items) c.loop.invariant.first ∙ c.requires.lists.first in
     let next : get_or c.args.after.now c.loop.x 0 ≡ walk (λ k. get_or c.args.after.now k 0) c.args.front
     (suc c.loop.counter) = ap (λ x. get_or c.args.after.now x 0) c.loop.invariant.here in
-    let low : get_or c.args.after.now c.loop.x 0 < length c.args.after.now =
-    row_place c.args.after.now c.args.front c.args.many (suc c.loop.counter) (get_or c.args.after.now c.loop.x 0)
+    let low : get_or c.args.after.now c.loop.x 0 < length c.args.after.now = row_place (suc c.loop.counter)
     c.requires.row (omega (arith, c.loop-test.true)) next in
-    let low_x : c.loop.x < length c.args.after.now = row_place c.args.after.now c.args.front c.args.many c.loop.counter
-    c.loop.x c.requires.row (omega (arith, c.loop-test.true)) c.loop.invariant.here in
-    let more : c.index-in-loop.result.now
-    ≡ get_or c.args.lists.now.rank.items (walk (λ k. get_or c.args.after.now k 0) c.args.front (suc c.loop.counter))
-    0 = get_or_read c.loop.lists.rank.items (get_or c.args.after.now c.loop.x 0) _ (omega (arith, low, size))
-    c.index-in-loop.ensures 0
+    let low_x : c.loop.x < length c.args.after.now = row_place c.loop.counter c.requires.row
+    (omega (arith, c.loop-test.true)) c.loop.invariant.here in
+    let more : c.index-in-loop.result.now ≡ get_or c.args.lists.now.rank.items
+    (walk (λ k. get_or c.args.after.now k 0) c.args.front (suc c.loop.counter)) 0 = get_or_read c.loop.lists.rank.items
+    (get_or c.args.after.now c.loop.x 0) _ (omega (arith, low, size)) c.index-in-loop.ensures 0
     ∙ (ap (λ o. get_or o.items (get_or c.args.after.now c.loop.x 0) 0) c.loop.invariant.rank
     ∙ ap (λ x. get_or c.args.lists.now.rank.items x 0) next) in
     let end : c.index-end.result.now
@@ -122,10 +111,9 @@ loop-preserved c =
     get_or_read c.loop.lists.last.items c.loop.x _ (omega (arith, low_x, size_last)) c.index-end.ensures 0
     ∙ (ap (λ o. get_or o.items c.loop.x 0) c.loop.invariant.last ∙ ap (λ x. get_or c.args.lists.now.last.items x 0)
     c.loop.invariant.here) in
-    let begin : c.index.result.now
-    ≡ get_or c.args.lists.now.first.items (walk (λ k. get_or c.args.after.now k 0) c.args.front
-    (suc c.loop.counter)) 0 = get_or_read c.loop.lists.first.items (get_or c.args.after.now c.loop.x 0) _
-    (omega (arith, low, size_first)) c.index.ensures 0
+    let begin : c.index.result.now ≡ get_or c.args.lists.now.first.items
+    (walk (λ k. get_or c.args.after.now k 0) c.args.front (suc c.loop.counter)) 0 = get_or_read c.loop.lists.first.items
+    (get_or c.args.after.now c.loop.x 0) _ (omega (arith, low, size_first)) c.index.ensures 0
     ∙ (ap (λ o. get_or o.items (get_or c.args.after.now c.loop.x 0) 0) c.loop.invariant.first
     ∙ ap (λ x. get_or c.args.lists.now.first.items x 0) next) in
     let ends : get_or c.args.lists.now.last.items (walk (λ k. get_or c.args.after.now k 0) c.args.front c.loop.counter)
@@ -141,8 +129,7 @@ loop-preserved c =
       following = written_more c.loop.lists.following.items c.args.lists.now.following.items
           (λ k. get_or c.args.lists.now.last.items (walk (λ k. get_or c.args.after.now k 0) c.args.front k) 0)
           (λ k. get_or c.args.lists.now.first.items (walk (λ k. get_or c.args.after.now k 0) c.args.front (suc k)) 0)
-          c.loop.counter (c.loop.counter + 1) c.index-end.result.now c.index.result.now
-          (omega (arith, end, ends, c.loop.invariant.size)) c.loop.invariant.following end begin one;
+          c.loop.counter (omega (arith, end, ends, c.loop.invariant.size)) c.loop.invariant.following end begin one;
       size = length-set c.loop.lists.following.items c.index-end.result.now c.index.result.now ∙ c.loop.invariant.size;
       first = c.loop.invariant.first;
       last = c.loop.invariant.last;
@@ -159,8 +146,8 @@ returns c =
     ap (λ o. length o.items) c.loop.invariant.last ∙ c.requires.lists.last in
     let size_first : length c.loop.lists.first.items ≡ length c.args.after.now =
     ap (λ o. length o.items) c.loop.invariant.first ∙ c.requires.lists.first in
-    let low_x : c.loop.x < length c.args.after.now = row_place c.args.after.now c.args.front c.args.many c.loop.counter
-    c.loop.x c.requires.row (omega (arith, some)) c.loop.invariant.here in
+    let low_x : c.loop.x < length c.args.after.now = row_place c.loop.counter c.requires.row (omega (arith, some))
+    c.loop.invariant.here in
     record {
       following = rw (← all) c.loop.invariant.following;
       size = c.loop.invariant.size;
@@ -170,10 +157,9 @@ returns c =
           c.loop.invariant.first);
       last = ap (λ o. set o.items c.args.set c.index-3.result.now) c.loop.invariant.last
           ∙ ap (set c.args.lists.now.last.items c.args.set) (get_or_read c.loop.lists.last.items c.loop.x _
-          (omega (arith, low_x, size_last)) c.index-3.ensures 0
-          ∙ (ap (λ o. get_or o.items c.loop.x 0) c.loop.invariant.last
-          ∙ ap (λ x. get_or c.args.lists.now.last.items x 0) (c.loop.invariant.here
-          ∙ ap (walk (λ k. get_or c.args.after.now k 0) c.args.front) all)));
+          (omega (arith, low_x, size_last)) c.index-3.ensures 0 ∙ (ap (λ o. get_or o.items c.loop.x 0)
+          c.loop.invariant.last ∙ ap (λ x. get_or c.args.lists.now.last.items x 0)
+          (c.loop.invariant.here ∙ ap (walk (λ k. get_or c.args.after.now k 0) c.args.front) all)));
       rank = ap (λ o. set o.items c.args.set c.loop.total) c.loop.invariant.rank
           ∙ ap (set c.args.lists.now.rank.items c.args.set) (c.loop.invariant.total
           ∙ ap (ring_sum (λ k. get_or c.args.after.now k 0) (λ k. get_or c.args.lists.now.rank.items k 0)

@@ -7,13 +7,12 @@ pub larger-best-requires : goal.larger-best-requires
 larger-best-requires c = (
   subst (λ n. c.loop.best < n) (sym c.requires.ranks) (subst (λ x. x < length c.args.after.now) c.loop.invariant.best.2
       (c.requires.row.low c.loop.invariant.best.0 c.loop.invariant.best.1)),
-  subst (λ n. c.loop.x < n) (sym c.requires.ranks) (row_place c.args.after.now c.args.front c.args.many c.loop.counter
-      c.loop.x c.requires.row c.loop-test.true c.loop.invariant.here),
+  subst (λ n. c.loop.x < n)
+      (sym c.requires.ranks) (row_place c.loop.counter c.requires.row c.loop-test.true c.loop.invariant.here),
 )
 
 pub bounds-after-x : goal.bounds-after-x
-bounds-after-x c = row_place c.args.after.now c.args.front c.args.many c.loop.counter c.loop.x c.requires.row
-    c.loop-test.true c.loop.invariant.here
+bounds-after-x c = row_place c.loop.counter c.requires.row c.loop-test.true c.loop.invariant.here
 
 pub loop-preserved : goal.loop-preserved
 loop-preserved c =
@@ -21,12 +20,10 @@ loop-preserved c =
     record {
       here = ap (λ x. get_or c.args.after.now x 0) c.loop.invariant.here
           ∙ ap (walk (λ k. get_or c.args.after.now k 0) c.args.front) one;
-      best = row_larger c.args.after.now c.args.front c.args.many c.loop.counter c.loop.best c.loop.x
-          c.larger-best.result c.loop-test.true c.loop.invariant.here c.loop.invariant.best
-          c.larger-best.ensures.either;
-      most = row_most c.args.after.now c.args.rank.now c.args.front c.loop.counter c.loop.best c.loop.x
-          c.larger-best.result c.loop.invariant.here c.loop.invariant.most c.larger-best.ensures.most.0
-          c.larger-best.ensures.most.1;
+      best = row_larger c.args.after.now c.args.front c.args.many c.loop.counter c.loop.best c.larger-best.result
+          c.loop-test.true c.loop.invariant.here c.loop.invariant.best c.larger-best.ensures.either;
+      most = row_most c.args.after.now c.args.rank.now c.args.front c.loop.counter c.loop.best c.larger-best.result
+          c.loop.invariant.here c.loop.invariant.most c.larger-best.ensures.most.0 c.larger-best.ensures.most.1;
     }
 
 pub returns-clause-on : goal.returns-clause-on

@@ -12,19 +12,17 @@ overflow_add-index_mut c =
     let end : c.index-end.result.now ≡ get_or c.args.lists.now.rank.items c.args.x 0 =
     get_or_read c.args.lists.now.rank.items c.args.x _ c.requires.lists.rank c.index-end.ensures 0 in
     let lk : c.loop.counter < get_or c.args.lists.now.rank.items c.args.x 0 = omega (arith, c.loop-test.true, end) in
-    let low : c.loop.v < length c.loop.handles.q.items =
-    subst (λ n. c.loop.v < n) (sym (c.loop.invariant.qs ∙ c.requires.lists.q))
-    (subst (λ v. v < length c.args.handles.now.hand.items) (sym c.loop.invariant.here)
-    (c.requires.lists.low c.loop.counter lk)) in
+    let low : c.loop.v < length c.loop.handles.q.items = subst (λ n. c.loop.v < n)
+    (sym (c.loop.invariant.qs ∙ c.requires.lists.q)) (subst (λ v. v < length c.args.handles.now.hand.items)
+    (sym c.loop.invariant.here) (c.requires.lists.low c.loop.counter lk)) in
     let read : c.index_mut-in-loop.result.now ≡ get_or c.loop.handles.q.items c.loop.v (pos 0) =
     get_or_read c.loop.handles.q.items c.loop.v _ low c.index_mut-in-loop.ensures.value (pos 0) in
     omega (
       arith,
       ints,
       read,
-      next_small c.loop.handles.q.items c.args.handles.now.q.items _ _ c.loop.counter c.loop.v _
-          c.loop.invariant.here (λ i j lij lj. c.requires.lists.distinct i j lij (omega (arith, lj, lk)))
-          c.loop.invariant.q c.requires.small,
+      next_small c.loop.handles.q.items c.args.handles.now.q.items _ _ c.loop.counter _ c.loop.invariant.here
+          (λ i j lij lj. c.requires.lists.distinct i j lij (omega (arith, lj, lk))) c.loop.invariant.q c.requires.small,
       c.requires.more,
     )
 
@@ -48,19 +46,18 @@ loop-preserved c =
           ∙ (ap (λ v. get_or c.args.lists.now.following.items v 0) c.loop.invariant.here
           ∙ ap (walk (λ k. get_or c.args.lists.now.following.items k 0) (get_or c.args.lists.now.first.items c.args.x
           0)) (sym one));
-      hand = one_more_at c.loop.handles.hand.items 0 _ _ c.loop.counter (c.loop.counter + 1) c.loop.v
+      hand = one_more_at c.loop.handles.hand.items 0 _ _ c.loop.counter
           (λ v. c.args.handle) (λ v. get_or c.args.handles.now.hand.items v 0) c.loop.invariant.here one
           (subst (λ n. walk (λ k. get_or c.args.lists.now.following.items k 0)
           (get_or c.args.lists.now.first.items c.args.x 0) c.loop.counter < n) (sym c.loop.invariant.hands)
           low_at) (λ i j lij lj. c.requires.lists.distinct i j lij (omega (arith, lj, lk))) c.loop.invariant.hand
           c.args.handle refl;
-      q = one_more_at c.loop.handles.q.items (pos 0) _ _ c.loop.counter (c.loop.counter + 1) c.loop.v _
+      q = one_more_at c.loop.handles.q.items (pos 0) _ _ c.loop.counter _
           (λ v. get_or c.args.handles.now.q.items v (pos 0)) c.loop.invariant.here one
           (subst (λ n. walk (λ k. get_or c.args.lists.now.following.items k 0)
           (get_or c.args.lists.now.first.items c.args.x 0) c.loop.counter < n)
-          (sym (c.loop.invariant.qs ∙ c.requires.lists.q)) low_at) (λ i j lij lj. c.requires.lists.distinct i j
-          lij (omega (arith, lj, lk))) c.loop.invariant.q _
-          (omega (
+          (sym (c.loop.invariant.qs ∙ c.requires.lists.q)) low_at) (λ i j lij lj. c.requires.lists.distinct i j lij
+          (omega (arith, lj, lk))) c.loop.invariant.q _ (omega (
             arith,
             ints,
             read,
@@ -89,7 +86,7 @@ returns c =
       q = λ v. rw (← all) (more_as (λ u. get_or c.loop.handles.q.items u (pos 0))
           (λ u. listed (λ k. get_or c.args.lists.now.following.items k 0)
           (get_or c.args.lists.now.first.items c.args.x 0) c.loop.counter u)
-          (λ u. get_or c.args.handles.now.q.items u (pos 0)) _ c.args.more (kept_in_bits c.args.more c.requires.more)
+          (λ u. get_or c.args.handles.now.q.items u (pos 0)) (kept_in_bits c.args.more c.requires.more)
           c.loop.invariant.q v);
       hands = c.loop.invariant.hands;
       qs = c.loop.invariant.qs;

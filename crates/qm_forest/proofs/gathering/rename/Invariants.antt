@@ -6,9 +6,8 @@ use Rattle.qm_forest.proofs.gathering.rename.Given as goal
 abbrev pub invariant-loop : goal.invariant-loop
 invariant-loop l = record {
   here : l.v ≡ walk (λ k. get_or l.fn.lists.following.items k 0) (get_or l.fn.lists.first.items l.x 0) l.counter;
-  hand : (v : ℕ) → get_or l.handles.hand.items v 0
-      ≡ cond (listed (λ k. get_or l.fn.lists.following.items k 0) (get_or l.fn.lists.first.items l.x 0) l.counter v)
-      l.handle (get_or l.fn.handles.hand.items v 0);
+  hand : (v : ℕ) → get_or l.handles.hand.items v 0 ≡ cond (listed (λ k. get_or l.fn.lists.following.items k 0)
+      (get_or l.fn.lists.first.items l.x 0) l.counter v) l.handle (get_or l.fn.handles.hand.items v 0);
   q : (v : ℕ) → get_or l.handles.q.items v (pos 0)
       ≡ cond (listed (λ k. get_or l.fn.lists.following.items k 0) (get_or l.fn.lists.first.items l.x 0) l.counter v)
       (get_or l.fn.handles.q.items v (pos 0) +ℤ l.fn.more) (get_or l.fn.handles.q.items v (pos 0));

@@ -10,10 +10,9 @@ invariant-loop l = record {
       ≡ cond (in_row l.fn.handles l.fn.after l.front l.counter v) (get_or l.fn.lists.leader.items l.big 0)
       (get_or l.fn.handles.hand.items v 0);
   q : (v : ℕ) → v < length l.fn.handles.hand.items → get_or l.handles.q.items v (pos 0)
-      ≡ cond (in_row l.fn.handles l.fn.after l.front l.counter v)
-      ((get_or l.fn.handles.q.items v (pos 0) +ℤ get_or l.fn.handles.off.items (get_or l.fn.handles.hand.items v 0)
-      (pos 0)) -ℤ get_or l.fn.handles.off.items (get_or l.fn.lists.leader.items l.big 0) (pos 0))
-      (get_or l.fn.handles.q.items v (pos 0));
+      ≡ cond (in_row l.fn.handles l.fn.after l.front l.counter v) ((get_or l.fn.handles.q.items v (pos 0) +ℤ get_or
+      l.fn.handles.off.items (get_or l.fn.handles.hand.items v 0) (pos 0)) -ℤ get_or l.fn.handles.off.items
+      (get_or l.fn.lists.leader.items l.big 0) (pos 0)) (get_or l.fn.handles.q.items v (pos 0));
   hands : length l.handles.hand.items ≡ length l.fn.handles.hand.items;
   qs : length l.handles.q.items ≡ length l.fn.handles.q.items;
   top : l.handles.top ≡ l.fn.handles.top;

@@ -10,8 +10,7 @@ returns-then-x-big c =
     get_or_read c.args.lists.now.leader.items c.args.big _ c.requires.leaders.low_big c.index-handle.ensures 0 in
     let x_is : c.index.result.now ≡ get_or c.args.lists.now.leader.items c.args.x 0 =
     get_or_read c.args.lists.now.leader.items c.args.x _ c.requires.leaders.low_x c.index.ensures 0 in
-    renamed_as c.args.handles.now c.rename.new.handles c.args.lists.now c.args.x _ _ _ _ c.rename.ensures big_is
-    (omega (
+    renamed_as _ c.rename.ensures big_is (omega (
       arith,
       ints,
       c.off_at.ensures,
@@ -23,5 +22,5 @@ returns-then-x-big c =
     ))
 
 pub returns-else-x-big : goal.returns-else-x-big
-returns-else-x-big c = kept_handle c.args.handles.now c.args.lists.now c.args.x c.args.big c.if-x-big.false
+returns-else-x-big c = kept_handle c.args.handles.now c.args.lists.now c.if-x-big.false
     (c.requires.leaders.same c.if-x-big.false)

@@ -7,9 +7,7 @@ use Rattle.qm_forest.proofs.matchings.add_marked.Goals as goal
 pub returns-then-marks-e-clause-marked : goal.returns-then-marks-e-clause-marked
 returns-then-marks-e-clause-marked c =
     let pushed : c.push.new.self.items ≡ c.args.list.now.items ++ c.args.e ∷ [] = grind (arith, common_steps) in
-    λ are. subst (AreMarked c.args.marks.now (c.args.e + 1)) (sym pushed)
-    (marked_more c.args.marks.now c.args.e c.args.list.now.items c.if-marks-e.true are)
+    λ are. subst (AreMarked c.args.marks.now (c.args.e + 1)) (sym pushed) (marked_more c.if-marks-e.true are)
 
 pub returns-else-marks-e-clause-marked : goal.returns-else-marks-e-clause-marked
-returns-else-marks-e-clause-marked c = λ are. marked_same c.args.marks.now c.args.e c.args.list.now.items
-    c.if-marks-e.false are
+returns-else-marks-e-clause-marked c = λ are. marked_same c.if-marks-e.false are

@@ -19,10 +19,9 @@ loop-preserved c =
           ∙ (ap (λ v. get_or c.args.lists.now.following.items v 0) c.loop.invariant.here
           ∙ ap (walk (λ k. get_or c.args.lists.now.following.items k 0) (get_or c.args.lists.now.first.items c.args.x
           0)) one);
-      count = ap length pushed
-          ∙ (length_push c.loop.list.items c.loop.v ∙ (let e : length c.loop.list.items + 1 ≡ c.loop.counter + 1 =
-          omega (arith, c.loop.invariant.count) in e));
-      each = copied_more c.loop.list.items _ _ _ c.loop.counter c.loop.v pushed c.loop.invariant.count
+      count = ap length pushed ∙ (length_push c.loop.list.items c.loop.v
+          ∙ (let e : length c.loop.list.items + 1 ≡ c.loop.counter + 1 = omega (arith, c.loop.invariant.count) in e));
+      each = copied_more c.loop.list.items _ _ pushed c.loop.invariant.count
           c.loop.invariant.here c.loop.invariant.each;
       room = omega (arith, c.push.ensures.capacity, c.loop.invariant.room);
     }

@@ -26,5 +26,5 @@ loop-preserved c =
           ∙ ap (walk (λ k. get_or c.args.after.now k 0) c.args.row.front) (sym one);
       done = row_more c.args.handles.now c.loop.handles c.args.lists.now c.args.after.now c.args.row.front
           c.args.row.many c.args.set c.loop.counter c.loop.x c.requires.lists c.loop-test.true c.loop.invariant.here
-          c.loop.invariant.done c.requires.row c.hand_over.new.handles (c.loop.counter + 1) one c.hand_over.ensures;
+          c.loop.invariant.done c.requires.row one c.hand_over.ensures;
     }

@@ -12,5 +12,5 @@ loop-e-preserved c =
     c.requires.costs c.loop-e.e (omega (arith, c.loop-e-test.true, c.len-e-end.ensures)) in
     let cost : c.edge_of.result.cost ≡ (edge_at (graph c.args.g.now) c.loop-e.e).cost =
     ap (λ (x : WEdge). x.cost) c.edge_of.ensures in
-    one_more_cost (graph c.args.g.now) c.loop-e.e c.loop-e.most _ c.unsigned_abs.result
+    one_more_cost c.unsigned_abs.result
     (omega (arith, ints, c.unsigned_abs.ensures.value, cost, bound)) c.greater_of-most.ensures c.loop-e.invariant

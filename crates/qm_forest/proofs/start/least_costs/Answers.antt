@@ -12,7 +12,5 @@ loop-e-preserved c =
     c.requires.costs c.loop-e.e (omega (arith, c.loop-e-test.true, c.len-e-end.ensures)) in
     let cost : c.edge_of-edge.result.cost ≡ (edge_at (graph c.args.g.now) c.loop-e.e).cost =
     ap (λ (x : WEdge). x.cost) c.edge_of-edge.ensures in
-    one_more_edge (graph c.args.g.now) c.args.most c.loop-e.e c.loop-e.lows.items c.lower.new.numbers.items
-    c.lower-in-loop-e.new.numbers.items c.edge_of-edge.result _ _ c.loop-e.invariant c.edge_of-edge.ensures
-    (omega (arith, ints, cost, bound, c.requires.few)) (omega (arith, ints, cost, bound, c.requires.few)) bound
-    c.lower.ensures c.lower-in-loop-e.ensures
+    one_more_edge c.loop-e.invariant c.edge_of-edge.ensures (omega (arith, ints, cost, bound, c.requires.few))
+    (omega (arith, ints, cost, bound, c.requires.few)) bound c.lower.ensures c.lower-in-loop-e.ensures

@@ -5,6 +5,5 @@ abbrev pub invariant-loop : goal.invariant-loop
 invariant-loop l = record {
   size : length l.all.items ≡ l.counter;
   long : length l.numbers ≤ l.counter;
-  each : (k : ℕ)
-      → get_or l.all.items k (pos 0) ≡ get_or l.numbers k (pos 0);
+  each : (k : ℕ) → get_or l.all.items k (pos 0) ≡ get_or l.numbers k (pos 0);
 }

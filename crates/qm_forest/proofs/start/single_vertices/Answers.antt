@@ -14,8 +14,8 @@ pub invariant_of-result : goal.invariant_of-result
 invariant_of-result c = fresh_tied c.args.g.now.n (c.args.g.now.n + c.args.g.now.n / 2) c.args.lows.items _ _ (record {
   size_is = refl;
   few = omega (arith, c.requires.graph.vertices);
-  hand = counted_as _ _ c.requires.weights.size c.in_ok-single_handles.ensures.hand;
-  top = counted_as _ _ c.requires.weights.size c.in_ok-single_handles.ensures.top;
+  hand = counted_as c.requires.weights.size c.in_ok-single_handles.ensures.hand;
+  top = counted_as c.requires.weights.size c.in_ok-single_handles.ensures.top;
   up = c.in_ok-no_rings.ensures.up;
   lists = (
     c.in_ok-single_lists.ensures.leader,
@@ -51,8 +51,8 @@ returns-clause-valid c = fresh_valid c.args.g.now.n (c.args.g.now.n + c.args.g.n
     (record {
       size_is = refl;
       few = omega (arith, c.requires.graph.vertices);
-      hand = counted_as _ _ c.requires.weights.size c.in_ok-single_handles.ensures.hand;
-      top = counted_as _ _ c.requires.weights.size c.in_ok-single_handles.ensures.top;
+      hand = counted_as c.requires.weights.size c.in_ok-single_handles.ensures.hand;
+      top = counted_as c.requires.weights.size c.in_ok-single_handles.ensures.top;
       up = c.in_ok-no_rings.ensures.up;
       lists = (
         c.in_ok-single_lists.ensures.leader,
@@ -90,7 +90,7 @@ returns-clause-valid c = fresh_valid c.args.g.now.n (c.args.g.now.n + c.args.g.n
 pub returns-clause-weights : goal.returns-clause-weights
 returns-clause-weights c = λ b. (
     let label : label_at c.in_ok-no_tree.field-0.label.items b ≡ Outside =
-    same_everywhere c.in_ok-no_tree.field-0.label.items _ Outside c.in_ok-no_tree.ensures.label b in
+    same_everywhere _ Outside c.in_ok-no_tree.ensures.label b in
     let none : weight_change (label_at c.in_ok-no_tree.field-0.label.items b) (pos 0) ≡ pos 0 =
     ap (λ (l : Label). weight_change l (pos 0)) label in
     let base : get_or c.in_ok-pad.field-0.items b (pos 0) ≡ get_or c.args.lows.items b (pos 0) =

@@ -15,21 +15,16 @@ loop-e-preserved c =
     get_or_read c.args.g.now.edges.items c.loop-e.e _ low c.index-edge.ensures (record {
       u = 0;
       v = 0;
-      cost =
-          pos 0;
+      cost = pos 0;
     }) in
-    let first : AreFansOf (graph c.args.g.now) (2 * c.loop-e.e + 1) c.put.new.fans.first.items
-    c.put.new.fans.next.items =
-    put_more (graph c.args.g.now) (2 * c.loop-e.e) _ _ _ _ c.loop-e.invariant c.index-edge.result.now.u
-    (subst (λ (x : WEdge). x.u < c.args.g.now.n) (sym edge) (c.requires.lawful.left c.loop-e.e low))
-    (omega (arith, low)) (dart_near (graph c.args.g.now) c.loop-e.e ∙ sym (ap (λ (x : WEdge). x.u) edge))
-    c.put.ensures.next c.put.ensures.first in
+    let first : AreFansOf (graph c.args.g.now) (2 * c.loop-e.e + 1) c.put.new.fans.first.items c.put.new.fans.next.items
+    = put_more c.loop-e.invariant (subst (λ (x : WEdge). x.u < c.args.g.now.n) (sym edge)
+    (c.requires.lawful.left c.loop-e.e low)) (omega (arith, low)) (dart_near (graph c.args.g.now) c.loop-e.e
+    ∙ sym (ap (λ (x : WEdge). x.u) edge)) c.put.ensures.next c.put.ensures.first in
     let second : AreFansOf (graph c.args.g.now) (2 * c.loop-e.e + 1 + 1) c.put-in-loop-e.new.fans.first.items
-    c.put-in-loop-e.new.fans.next.items =
-    put_more (graph c.args.g.now) (2 * c.loop-e.e + 1) _ _ _ _ first c.index-edge.result.now.v
-    (subst (λ (x : WEdge). x.v < c.args.g.now.n) (sym edge) (c.requires.lawful.right c.loop-e.e low))
-    (omega (arith, low)) (near_odd (graph c.args.g.now) (2 * c.loop-e.e + 1) c.loop-e.e refl
-    ∙ sym (ap (λ (x : WEdge). x.v) edge)) c.put-in-loop-e.ensures.next c.put-in-loop-e.ensures.first in
+    c.put-in-loop-e.new.fans.next.items = put_more first (subst (λ (x : WEdge). x.v < c.args.g.now.n) (sym edge)
+    (c.requires.lawful.right c.loop-e.e low)) (omega (arith, low)) (near_odd (graph c.args.g.now) (2 * c.loop-e.e + 1)
+    c.loop-e.e refl ∙ sym (ap (λ (x : WEdge). x.v) edge)) c.put-in-loop-e.ensures.next c.put-in-loop-e.ensures.first in
     let same : 2 * c.loop-e.e + 1 + 1 ≡ 2 * (c.loop-e.e + 1) = omega arith in
     subst (λ n. AreFansOf (graph c.args.g.now) n c.put-in-loop-e.new.fans.first.items
     c.put-in-loop-e.new.fans.next.items) same second

@@ -11,12 +11,10 @@ returns c = λ yes.
     get_or_read c.args.g.now.edges.items c.args.e _ c.requires.edge c.index.ensures (record {
       u = 0;
       v = 0;
-      cost =
-          pos 0;
+      cost = pos 0;
     }) in
     let sum : c.sum_of.result ≡ (get_or c.args.numbers.now c.index.result.now.u (pos 0) +ℤ get_or c.args.numbers.now
     c.index.result.now.v (pos 0)) = search rules in
     let most : c.twice.result ≡ (pos 2 *ℤ c.index.result.now.cost) = search rules in
     let le : c.sum_of.result ≤ℤ c.twice.result = search rules in
-    room_read (graph c.args.g.now) c.args.numbers.now c.args.e c.index.result.now _ _ edge refl refl
-    (omega (arith, ints, sum, most, le))
+    room_read (graph c.args.g.now) c.args.numbers.now c.args.e _ _ edge refl refl (omega (arith, ints, sum, most, le))

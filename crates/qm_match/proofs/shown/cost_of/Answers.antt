@@ -20,15 +20,13 @@ index-requires c = omega (
 pub loop-edge-preserved : goal.loop-edge-preserved
 loop-edge-preserved c =
     let k : ℕ = slice_index c.args.matching.now c.loop-edge.edge-index in
-    let low : k < length c.args.g.now.edges.items =
-    increasing_low 0 (length c.args.g.now.edges.items) c.args.matching.now c.requires.increasing
-    c.loop-edge.edge-index c.loop-edge-test.true in
+    let low : k < length c.args.g.now.edges.items = increasing_low 0 (length c.args.g.now.edges.items)
+    c.args.matching.now c.requires.increasing c.loop-edge.edge-index c.loop-edge-test.true in
     let edge : c.index.result.now ≡ edge_at (graph c.args.g.now) k =
     get_or_read c.args.g.now.edges.items k c.index.result.now low c.index.ensures (record {
       u = 0;
       v = 0;
-      cost =
-          pos 0;
+      cost = pos 0;
     }) in
     let fits : FitsSigned w64 c.index.result.now.cost = search rules in
     let few : length c.args.matching.now ≤ length c.args.g.now.edges.items =

@@ -1,7 +1,6 @@
 use Rattle.std.proofs.Common.{◌≡◌, ◌+◌, ◌-◌, ◌/◌, ◌^◌, ◌≤◌, ◌∙◌, length, get_or, refl, sym, subst, ap, arith}
 use Rattle.std.proofs.lemmas.Grind.{get_or_default_zero}
 use Rattle.std.proofs.lemmas.List.{length-replicate}
-use Rattle.def_matching.specs.Matching.{graph}
 use Rattle.qm_forest.proofs.Fresh.{same_everywhere}
 use Rattle.qm_match.proofs.Ready.{chains_ready}
 use Rattle.qm_match.proofs.start.search_of.Goals as goal
@@ -18,8 +17,7 @@ returns-clause-ready c =
       firsts = λ v. subst (λ n. get_or c.args.fans.first.items v 0 ≤ n) (sym c.requires.valid.darts)
           (c.requires.fans.firsts v);
       nexts = c.requires.fans.nexts;
-      all = chains_ready (graph c.args.g.now) c.args.forest c.args.fans.first.items c.args.fans.next.items
-          c.requires.fans c.requires.valid;
+      all = chains_ready c.args.fans.first.items c.args.fans.next.items c.requires.fans c.requires.valid;
       leaves = omega (arith, size, many, halves, c.requires.valid.darts);
       marks = subst (λ n. length c.in_ok-vec.field-0.items ≡ n + n / 2) (sym c.requires.valid.vertices)
           (omega (arith, c.in_ok-vec.ensures.len, c.in_ok-vec.field-0.ok.0));
@@ -27,8 +25,7 @@ returns-clause-ready c =
       parts = omega (arith, c.in_ok-with_capacity-2.ensures.capacity, c.requires.valid.vertices);
       few = λ k l. omega (
         arith,
-        same_everywhere c.in_ok-new.field-0 (c.len.result + (c.args.g.now.n / 2 + 1))
-            (2 ^ 64 - 1) c.in_ok-new.ensures k,
+        same_everywhere (c.len.result + (c.args.g.now.n / 2 + 1)) (2 ^ 64 - 1) c.in_ok-new.ensures k,
         get_or_default_zero c.in_ok-new.field-0 k (2 ^ 64 - 1) l,
       );
       risen = refl;

@@ -13,14 +13,13 @@ left_of-requires-clause-cost c =
     get_or_read c.args.g.now.edges.items (c.args.d / 2) _ low c.index.ensures (record {
       u = 0;
       v = 0;
-      cost =
-          pos 0;
+      cost = pos 0;
     }) in
     omega (
       arith,
       ints,
       cost_small (graph c.args.g.now) c.requires.ready.0 (c.args.d / 2) c.requires.ready.1.costs
-          c.requires.ready.1.few low c.index.result.now edge,
+          c.requires.ready.1.few low edge,
     )
 
 pub left_of-requires-clause-number : goal.left_of-requires-clause-number

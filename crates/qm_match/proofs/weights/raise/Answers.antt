@@ -11,8 +11,14 @@ pub returns-then-y-v : goal.returns-then-y-v
 returns-then-y-v c =
     let kept : to_z w64 (of_z w64 c.room_at-room.result) ≡ c.room_at-room.result =
     to_z-of_z w64 c.room_at-room.result (record { sfits = c.room_at-room.type_inv }) in
-    let room = raised_room (graph c.args.g.now) c.requires.graph.lawful c.args.most c.args.y.now c.requires.ready.room
-    c.args.v c.requires.vertex _ (subst (λ (z : ℤ). IsRoom (graph c.args.g.now) c.args.most c.args.y.now c.args.v z)
-    (sym kept) c.room_at-room.ensures)
-    (omega (arith, ints, c.if-y-v.true, kept, c.requires.ready.room.small c.args.v, c.requires.ready.few)) _ refl in
+    let room = raised_room c.requires.graph.lawful c.requires.ready.room c.requires.vertex
+    (subst (λ (z : ℤ). IsRoom (graph c.args.g.now) c.args.most c.args.y.now c.args.v z) (sym kept)
+    c.room_at-room.ensures) (omega (
+      arith,
+      ints,
+      c.if-y-v.true,
+      kept,
+      c.requires.ready.room.small c.args.v,
+      c.requires.ready.few,
+    )) _ refl in
     record { few = c.requires.ready.few; costs = c.requires.ready.costs; room = room }

@@ -33,9 +33,8 @@ loop-entry-preserved c =
         c.loop-entry-test.true,
       );
       done = chain_room c.args.fans.now.next.items (left_to (graph c.args.g.now) c.args.y.now) _ _ c.loop-entry.entry
-          (c.loop-entry.entry - 1) _ _ (omega (arith, c.loop-entry-test.true)) read
-          (omega (arith, ints, c.min-room.ensures.self_bound))
-          (omega (
+          (c.loop-entry.entry - 1) _ (omega (arith, c.loop-entry-test.true)) read
+          (omega (arith, ints, c.min-room.ensures.self_bound)) (omega (
             arith,
             ints,
             c.min-room.ensures.other_bound,

@@ -8,7 +8,6 @@ pub returns-clause-bound : goal.returns-clause-bound
 returns-clause-bound c =
     let low : c.args.b < length c.self.inside.rings.up.items =
     subst (λ (t : ForestTables). c.args.b < length t.up) (sym c.self.view_is) c.requires in
-    let read : c.index.result.now ≡ get_or c.self.inside.weights.base.items c.args.b (pos 0) =
-    read_is c.self.inside.weights.base.items c.args.b c.index.result.now (pos 0)
-    (omega (arith, c.self.invariant.sizes.base)) c.index.ensures in
-    omega (arith, ints, read, base_small _ _ c.self.invariant c.args.b)
+    let read : c.index.result.now ≡ get_or c.self.inside.weights.base.items c.args.b (pos 0) = read_is
+    c.self.inside.weights.base.items c.args.b (pos 0) (omega (arith, c.self.invariant.sizes.base)) c.index.ensures in
+    omega (arith, ints, read, base_small c.self.invariant c.args.b)

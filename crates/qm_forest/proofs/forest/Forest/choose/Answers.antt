@@ -12,8 +12,7 @@ returns-clause-chosen c = record {
   done = (let same : length c.match_mates.new.round.marks.items ≡ length c.match_waiting.new.round.marks.items =
       omega (arith, c.match_mates.ensures.room.marks, c.match_waiting.ensures.room.marks) in
       subst (λ m. IsRound c.args.self.now c.match_waiting.new.round.marks.items c.match_waiting.new.round.left_out.items
-      (λ b. 0) (matched_by c.args.self.now m)) same
-      (c.match_waiting.ensures.done (λ b. 0) (matched_by c.args.self.now (length c.match_mates.new.round.marks.items))
-      c.match_mates.ensures.done));
+      (λ b. 0) (matched_by c.args.self.now m)) same (c.match_waiting.ensures.done (λ b. 0)
+      (matched_by c.args.self.now (length c.match_mates.new.round.marks.items)) c.match_mates.ensures.done));
   ended = c.match_waiting.ensures.ended;
 }

@@ -1,14 +1,12 @@
 use Rattle.std.proofs.Common.{◌<◌, subst, sym}
-use Rattle.def_matching.specs.Matching.{graph}
 use Rattle.forest_laws.proofs.Graphs.{are_darts}
 use Rattle.qm_forest.proofs.OnWays.{twin_dart}
 use Rattle.qm_forest.proofs.forest.Forest.far_blossom.Goals as goal
 
 pub near-requires : goal.near-requires
-near-requires c = twin_dart (graph c.args.g.now) c.requires.graph c.args.d c.twin.result c.requires.dart c.twin.ensures
+near-requires c = twin_dart c.requires.graph c.args.d c.requires.dart c.twin.ensures
 
 pub outermost-requires : goal.outermost-requires
 outermost-requires c = subst (λ n. c.near.result < n) (sym c.requires.vertices)
-    (subst (λ v. v < c.args.g.now.n) (sym c.near.ensures)
-    ((are_darts (graph c.args.g.now) c.requires.graph.lawful).near_low c.twin.result
-    (twin_dart (graph c.args.g.now) c.requires.graph c.args.d c.twin.result c.requires.dart c.twin.ensures)))
+    (subst (λ v. v < c.args.g.now.n) (sym c.near.ensures) ((are_darts c.requires.graph.lawful).near_low c.twin.result
+    (twin_dart c.requires.graph c.args.d c.requires.dart c.twin.ensures)))

@@ -9,205 +9,145 @@ use Rattle.qm_forest.proofs.forest.Forest.gather.Goals as goal
 
 pub rename_row-big-requires-clause-lists : goal.rename_row-big-requires-clause-lists
 rename_row-big-requires-clause-lists c =
-    subst (λ xs. HasListsOf c.self.inside.handles c.self.inside.lists xs c.args.front c.args.many)
-    (sym c.deref.ensures.value)
-    (lists_of_row c.self.inside.handles c.self.inside.lists c.self.inside.rings c.self.inside.trail
-    c.self.inside.weights c.self.inside.tree c.self.inside.pool c.self.inside.room c.self.invariant c.args.front
-    c.args.many (subst (λ (t : ForestTables). IsFreeRing t c.args.front c.args.many) (sym c.self.view_is)
-    c.requires) c.take_set-set.result (set_high c.self.inside.handles c.self.inside.lists c.self.inside.rings
-    c.self.inside.trail c.self.inside.weights c.self.inside.tree c.self.inside.pool c.self.inside.room
-    c.self.invariant c.args.front c.args.many
+    let s = c.self.inside in
+    subst (λ xs. HasListsOf s.handles s.lists xs c.args.front c.args.many) (sym c.deref.ensures.value)
+    (lists_of_row s.handles s.lists s.rings s.trail s.weights s.tree s.pool s.room c.self.invariant
     (subst (λ (t : ForestTables). IsFreeRing t c.args.front c.args.many) (sym c.self.view_is) c.requires)
-    c.take_set-set.new.pool c.take_set-set.result (took_as c.self.inside.pool c.take_set-set.new.pool _
-    (length c.self.inside.handles.hand.items) c.take_set-set.result c.take_set-set.ensures
-    (omega (arith, c.len.ensures, c.self.inside.handles.hand.ok.0))))
-    (set_low c.self.inside.handles c.self.inside.lists c.self.inside.rings c.self.inside.trail
-    c.self.inside.weights c.self.inside.tree c.self.inside.pool c.self.inside.room c.self.invariant c.args.front
-    c.args.many (subst (λ (t : ForestTables). IsFreeRing t c.args.front c.args.many) (sym c.self.view_is)
-    c.requires) c.take_set-set.new.pool c.take_set-set.result
-    (took_as c.self.inside.pool c.take_set-set.new.pool _ (length c.self.inside.handles.hand.items)
-    c.take_set-set.result c.take_set-set.ensures
-    (omega (arith, c.len.ensures, c.self.inside.handles.hand.ok.0))))
-    (set_dead c.self.inside.handles c.self.inside.lists c.self.inside.rings c.self.inside.trail
-    c.self.inside.weights c.self.inside.tree c.self.inside.pool c.self.inside.room c.self.invariant c.args.front
-    c.args.many (subst (λ (t : ForestTables). IsFreeRing t c.args.front c.args.many) (sym c.self.view_is)
-    c.requires) c.take_set-set.new.pool c.take_set-set.result
-    (took_as c.self.inside.pool c.take_set-set.new.pool _ (length c.self.inside.handles.hand.items)
-    c.take_set-set.result c.take_set-set.ensures
-    (omega (arith, c.len.ensures, c.self.inside.handles.hand.ok.0)))))
+    c.take_set-set.result (set_high s.handles s.lists s.rings s.trail s.weights s.tree s.pool s.room c.self.invariant
+    (subst (λ (t : ForestTables). IsFreeRing t c.args.front c.args.many) (sym c.self.view_is) c.requires)
+    (took_as (length s.handles.hand.items) c.take_set-set.ensures (omega (arith, c.len.ensures, s.handles.hand.ok.0))))
+    (set_low s.handles s.lists s.rings s.trail s.weights s.tree s.pool s.room c.self.invariant
+    (subst (λ (t : ForestTables). IsFreeRing t c.args.front c.args.many) (sym c.self.view_is) c.requires)
+    (took_as (length s.handles.hand.items) c.take_set-set.ensures (omega (arith, c.len.ensures, s.handles.hand.ok.0))))
+    (set_dead s.handles s.lists s.rings s.trail s.weights s.tree s.pool s.room c.self.invariant
+    (subst (λ (t : ForestTables). IsFreeRing t c.args.front c.args.many) (sym c.self.view_is) c.requires)
+    (took_as (length s.handles.hand.items) c.take_set-set.ensures (omega (arith, c.len.ensures, s.handles.hand.ok.0)))))
 
 pub index_mut-requires : goal.index_mut-requires
 index_mut-requires c =
-    let low : get_or c.self.inside.lists.leader.items c.rename_row-big.result 0
-    < length c.self.inside.handles.top.items =
-    big_handle c.self.inside.handles c.self.inside.lists c.self.inside.rings c.self.inside.trail
-    c.self.inside.weights c.self.inside.tree c.self.inside.pool c.self.inside.room c.self.invariant c.args.front
-    c.args.many (subst (λ (t : ForestTables). IsFreeRing t c.args.front c.args.many) (sym c.self.view_is)
-    c.requires) c.take_set-set.new.pool c.take_set-set.result (took_as c.self.inside.pool c.take_set-set.new.pool
-    _ (length c.self.inside.handles.hand.items) c.take_set-set.result c.take_set-set.ensures
-    (omega (arith, c.len.ensures, c.self.inside.handles.hand.ok.0))) c.rename_row-big.result
-    (on_as c.deref.result.now c.self.inside.rings.after.items c.args.front c.args.many c.rename_row-big.result
-    c.deref.ensures.value c.rename_row-big.ensures.on) in
-    let size : length c.rename_row-big.new.handles.top.items ≡ length c.self.inside.handles.top.items =
+    let s = c.self.inside in
+    let low : get_or s.lists.leader.items c.rename_row-big.result 0 < length s.handles.top.items = big_handle s.handles
+    s.lists s.rings s.trail s.weights s.tree s.pool s.room c.self.invariant
+    (subst (λ (t : ForestTables). IsFreeRing t c.args.front c.args.many) (sym c.self.view_is) c.requires)
+    (took_as (length s.handles.hand.items) c.take_set-set.ensures (omega (arith, c.len.ensures, s.handles.hand.ok.0)))
+    c.rename_row-big.result (on_as c.args.front c.args.many c.rename_row-big.result c.deref.ensures.value
+    c.rename_row-big.ensures.on) in
+    let size : length c.rename_row-big.new.handles.top.items ≡ length s.handles.top.items =
     ap (λ o. length o.items) c.rename_row-big.ensures.renamed.top in
     omega (
       arith,
       low,
-      get_or_read c.self.inside.lists.leader.items c.rename_row-big.result _
-          (big_low c.self.inside.handles c.self.inside.lists c.self.inside.rings c.self.inside.trail
-          c.self.inside.weights c.self.inside.tree c.self.inside.pool c.self.inside.room c.self.invariant c.args.front
-          c.args.many (subst (λ (t : ForestTables). IsFreeRing t c.args.front c.args.many) (sym c.self.view_is)
-          c.requires) c.take_set-set.new.pool c.take_set-set.result
-          (took_as c.self.inside.pool c.take_set-set.new.pool _ (length c.self.inside.handles.hand.items)
-          c.take_set-set.result c.take_set-set.ensures
-          (omega (arith, c.len.ensures, c.self.inside.handles.hand.ok.0))) c.rename_row-big.result
-          (on_as c.deref.result.now c.self.inside.rings.after.items c.args.front c.args.many c.rename_row-big.result
-          c.deref.ensures.value c.rename_row-big.ensures.on)) c.index-leader.ensures 0,
+      get_or_read s.lists.leader.items c.rename_row-big.result _ (big_low s.handles s.lists s.rings s.trail s.weights
+          s.tree s.pool s.room c.self.invariant (subst (λ (t : ForestTables). IsFreeRing t c.args.front c.args.many)
+          (sym c.self.view_is) c.requires) (took_as (length s.handles.hand.items) c.take_set-set.ensures
+          (omega (arith, c.len.ensures, s.handles.hand.ok.0))) c.rename_row-big.result
+          (on_as c.args.front c.args.many c.rename_row-big.result c.deref.ensures.value c.rename_row-big.ensures.on))
+          c.index-leader.ensures 0,
       size,
       c.rename_row-big.new.handles.top.ok.0,
     )
 
 pub join_lists-requires-clause-lists : goal.join_lists-requires-clause-lists
 join_lists-requires-clause-lists c =
-    subst (λ xs. AreJoinable c.self.inside.lists xs c.args.front c.args.many) (sym c.deref-2.ensures.value)
-    (joinable c.self.inside.handles c.self.inside.lists c.self.inside.rings c.self.inside.trail c.self.inside.weights
-    c.self.inside.tree c.self.inside.pool c.self.inside.room c.self.invariant c.args.front c.args.many
+    let s = c.self.inside in
+    subst (λ xs. AreJoinable s.lists xs c.args.front c.args.many) (sym c.deref-2.ensures.value)
+    (joinable s.handles s.lists s.rings s.trail s.weights s.tree s.pool s.room c.self.invariant
     (subst (λ (t : ForestTables). IsFreeRing t c.args.front c.args.many) (sym c.self.view_is) c.requires)
-    c.take_set-set.result (set_high c.self.inside.handles c.self.inside.lists c.self.inside.rings
-    c.self.inside.trail c.self.inside.weights c.self.inside.tree c.self.inside.pool c.self.inside.room
-    c.self.invariant c.args.front c.args.many
+    c.take_set-set.result (set_high s.handles s.lists s.rings s.trail s.weights s.tree s.pool s.room c.self.invariant
     (subst (λ (t : ForestTables). IsFreeRing t c.args.front c.args.many) (sym c.self.view_is) c.requires)
-    c.take_set-set.new.pool c.take_set-set.result (took_as c.self.inside.pool c.take_set-set.new.pool _
-    (length c.self.inside.handles.hand.items) c.take_set-set.result c.take_set-set.ensures
-    (omega (arith, c.len.ensures, c.self.inside.handles.hand.ok.0))))
-    (set_low c.self.inside.handles c.self.inside.lists c.self.inside.rings c.self.inside.trail
-    c.self.inside.weights c.self.inside.tree c.self.inside.pool c.self.inside.room c.self.invariant c.args.front
-    c.args.many (subst (λ (t : ForestTables). IsFreeRing t c.args.front c.args.many) (sym c.self.view_is)
-    c.requires) c.take_set-set.new.pool c.take_set-set.result
-    (took_as c.self.inside.pool c.take_set-set.new.pool _ (length c.self.inside.handles.hand.items)
-    c.take_set-set.result c.take_set-set.ensures
-    (omega (arith, c.len.ensures, c.self.inside.handles.hand.ok.0))))
-    (set_dead c.self.inside.handles c.self.inside.lists c.self.inside.rings c.self.inside.trail
-    c.self.inside.weights c.self.inside.tree c.self.inside.pool c.self.inside.room c.self.invariant c.args.front
-    c.args.many (subst (λ (t : ForestTables). IsFreeRing t c.args.front c.args.many) (sym c.self.view_is)
-    c.requires) c.take_set-set.new.pool c.take_set-set.result
-    (took_as c.self.inside.pool c.take_set-set.new.pool _ (length c.self.inside.handles.hand.items)
-    c.take_set-set.result c.take_set-set.ensures
-    (omega (arith, c.len.ensures, c.self.inside.handles.hand.ok.0)))))
+    (took_as (length s.handles.hand.items) c.take_set-set.ensures (omega (arith, c.len.ensures, s.handles.hand.ok.0))))
+    (set_low s.handles s.lists s.rings s.trail s.weights s.tree s.pool s.room c.self.invariant
+    (subst (λ (t : ForestTables). IsFreeRing t c.args.front c.args.many) (sym c.self.view_is) c.requires)
+    (took_as (length s.handles.hand.items) c.take_set-set.ensures (omega (arith, c.len.ensures, s.handles.hand.ok.0))))
+    (set_dead s.handles s.lists s.rings s.trail s.weights s.tree s.pool s.room c.self.invariant
+    (subst (λ (t : ForestTables). IsFreeRing t c.args.front c.args.many) (sym c.self.view_is) c.requires)
+    (took_as (length s.handles.hand.items) c.take_set-set.ensures (omega (arith, c.len.ensures, s.handles.hand.ok.0)))))
 
 pub join_lists-requires-clause-set : goal.join_lists-requires-clause-set
-join_lists-requires-clause-set c = subst (λ xs. c.take_set-set.result < length xs) (sym c.deref-2.ensures.value)
+join_lists-requires-clause-set c =
+    let s = c.self.inside in
+    subst (λ xs. c.take_set-set.result < length xs) (sym c.deref-2.ensures.value)
     (subst (λ m. c.take_set-set.result < m) (sym c.self.invariant.sizes.after)
-    (set_low c.self.inside.handles c.self.inside.lists c.self.inside.rings c.self.inside.trail c.self.inside.weights
-    c.self.inside.tree c.self.inside.pool c.self.inside.room c.self.invariant c.args.front c.args.many
+    (set_low s.handles s.lists s.rings s.trail s.weights s.tree s.pool s.room c.self.invariant
     (subst (λ (t : ForestTables). IsFreeRing t c.args.front c.args.many) (sym c.self.view_is) c.requires)
-    c.take_set-set.new.pool c.take_set-set.result (took_as c.self.inside.pool c.take_set-set.new.pool _
-    (length c.self.inside.handles.hand.items) c.take_set-set.result c.take_set-set.ensures
-    (omega (arith, c.len.ensures, c.self.inside.handles.hand.ok.0)))))
+    (took_as (length s.handles.hand.items) c.take_set-set.ensures (omega (arith, c.len.ensures, s.handles.hand.ok.0)))))
 
 pub index_mut-requires-2 : goal.index_mut-requires-2
 index_mut-requires-2 c =
-    let size : length c.join_lists.new.lists.leader.items ≡ length c.self.inside.lists.leader.items =
+    let s = c.self.inside in
+    let size : length c.join_lists.new.lists.leader.items ≡ length s.lists.leader.items =
     ap (λ o. length o.items) c.join_lists.ensures.leader in
     omega (
       arith,
-      set_low c.self.inside.handles c.self.inside.lists c.self.inside.rings c.self.inside.trail
-          c.self.inside.weights c.self.inside.tree c.self.inside.pool c.self.inside.room c.self.invariant c.args.front
-          c.args.many (subst (λ (t : ForestTables). IsFreeRing t c.args.front c.args.many) (sym c.self.view_is)
-          c.requires) c.take_set-set.new.pool c.take_set-set.result
-          (took_as c.self.inside.pool c.take_set-set.new.pool _ (length c.self.inside.handles.hand.items)
-          c.take_set-set.result c.take_set-set.ensures
-          (omega (arith, c.len.ensures, c.self.inside.handles.hand.ok.0))),
+      set_low s.handles s.lists s.rings s.trail s.weights s.tree s.pool s.room c.self.invariant
+          (subst (λ (t : ForestTables). IsFreeRing t c.args.front c.args.many) (sym c.self.view_is) c.requires)
+          (took_as (length s.handles.hand.items) c.take_set-set.ensures
+          (omega (arith, c.len.ensures, s.handles.hand.ok.0))),
       size,
       c.self.invariant.sizes.leader,
       c.join_lists.new.lists.leader.ok.0,
     )
 
 pub enclose-requires-clause-set : goal.enclose-requires-clause-set
-enclose-requires-clause-set c = set_low c.self.inside.handles c.self.inside.lists c.self.inside.rings
-    c.self.inside.trail c.self.inside.weights c.self.inside.tree c.self.inside.pool c.self.inside.room c.self.invariant
-    c.args.front c.args.many (subst (λ (t : ForestTables). IsFreeRing t c.args.front c.args.many) (sym c.self.view_is)
-    c.requires) c.take_set-set.new.pool c.take_set-set.result (took_as c.self.inside.pool c.take_set-set.new.pool _
-    (length c.self.inside.handles.hand.items) c.take_set-set.result c.take_set-set.ensures
-    (omega (arith, c.len.ensures, c.self.inside.handles.hand.ok.0)))
+enclose-requires-clause-set c =
+    let s = c.self.inside in
+    set_low s.handles s.lists s.rings s.trail s.weights s.tree s.pool s.room c.self.invariant
+    (subst (λ (t : ForestTables). IsFreeRing t c.args.front c.args.many) (sym c.self.view_is) c.requires)
+    (took_as (length s.handles.hand.items) c.take_set-set.ensures (omega (arith, c.len.ensures, s.handles.hand.ok.0)))
 
 pub invariant_of-self : goal.invariant_of-self
-invariant_of-self c = tied_after c.self.inside.handles c.self.inside.lists c.self.inside.rings c.self.inside.trail
-    c.self.inside.weights c.self.inside.tree c.self.inside.pool c.self.inside.room c.self.invariant c.args.front
-    c.args.many (subst (λ (t : ForestTables). IsFreeRing t c.args.front c.args.many) (sym c.self.view_is) c.requires)
-    c.take_set-set.new.pool c.take_set-set.result (took_as c.self.inside.pool c.take_set-set.new.pool _
-    (length c.self.inside.handles.hand.items) c.take_set-set.result c.take_set-set.ensures
-    (omega (arith, c.len.ensures, c.self.inside.handles.hand.ok.0))) c.rename_row-big.result
-    (on_as c.deref.result.now c.self.inside.rings.after.items c.args.front c.args.many c.rename_row-big.result
-    c.deref.ensures.value c.rename_row-big.ensures.on) c.rename_row-big.new.handles c.join_lists.new.lists
-    c.enclose.new.rings c.index-leader.result.now c.enclosed_root-self-inside.result
-    (subst (λ xs. HasRenamedRow c.self.inside.handles c.rename_row-big.new.handles c.self.inside.lists xs c.args.front
-    c.args.many c.rename_row-big.result) c.deref.ensures.value c.rename_row-big.ensures.renamed)
-    (subst (λ xs. AreJoined c.self.inside.lists c.join_lists.new.lists xs c.args.front c.args.many
-    c.take_set-set.result) c.deref-2.ensures.value c.join_lists.ensures) c.enclose.ensures
-    (get_or_read c.self.inside.lists.leader.items c.rename_row-big.result _
-    (big_low c.self.inside.handles c.self.inside.lists c.self.inside.rings c.self.inside.trail c.self.inside.weights
-    c.self.inside.tree c.self.inside.pool c.self.inside.room c.self.invariant c.args.front c.args.many
+invariant_of-self c =
+    let s = c.self.inside in
+    tied_after s.handles s.lists s.rings s.trail s.weights s.tree s.pool s.room c.self.invariant
     (subst (λ (t : ForestTables). IsFreeRing t c.args.front c.args.many) (sym c.self.view_is) c.requires)
-    c.take_set-set.new.pool c.take_set-set.result (took_as c.self.inside.pool c.take_set-set.new.pool _
-    (length c.self.inside.handles.hand.items) c.take_set-set.result c.take_set-set.ensures
-    (omega (arith, c.len.ensures, c.self.inside.handles.hand.ok.0))) c.rename_row-big.result
-    (on_as c.deref.result.now c.self.inside.rings.after.items c.args.front c.args.many c.rename_row-big.result
-    c.deref.ensures.value c.rename_row-big.ensures.on)) c.index-leader.ensures 0)
-    (c.enclosed_root-self-inside.ensures ∙ ap (λ xs. root_around xs c.take_set-set.result c.self.inside.tree.root)
-    c.deref-3.ensures.value)
+    (took_as (length s.handles.hand.items) c.take_set-set.ensures (omega (arith, c.len.ensures, s.handles.hand.ok.0)))
+    c.rename_row-big.result (on_as c.args.front c.args.many c.rename_row-big.result c.deref.ensures.value
+    c.rename_row-big.ensures.on) (subst (λ xs. HasRenamedRow s.handles c.rename_row-big.new.handles s.lists xs
+    c.args.front c.args.many c.rename_row-big.result) c.deref.ensures.value c.rename_row-big.ensures.renamed)
+    (subst (λ xs. AreJoined s.lists c.join_lists.new.lists xs c.args.front c.args.many c.take_set-set.result)
+    c.deref-2.ensures.value c.join_lists.ensures) c.enclose.ensures (get_or_read s.lists.leader.items
+    c.rename_row-big.result _ (big_low s.handles s.lists s.rings s.trail s.weights s.tree s.pool s.room c.self.invariant
+    (subst (λ (t : ForestTables). IsFreeRing t c.args.front c.args.many) (sym c.self.view_is) c.requires)
+    (took_as (length s.handles.hand.items) c.take_set-set.ensures (omega (arith, c.len.ensures, s.handles.hand.ok.0)))
+    c.rename_row-big.result (on_as c.args.front c.args.many c.rename_row-big.result c.deref.ensures.value
+    c.rename_row-big.ensures.on)) c.index-leader.ensures 0) (c.enclosed_root-self-inside.ensures
+    ∙ ap (λ xs. root_around xs c.take_set-set.result s.tree.root) c.deref-3.ensures.value)
 
 pub returns-clause-gathered : goal.returns-clause-gathered
-returns-clause-gathered c = gathered_as _ c.args.self.now _ c.args.front c.args.many c.take_set-set.result
-    c.self.view_is (seen_after c.self.inside.handles c.self.inside.lists c.self.inside.rings c.self.inside.trail
-    c.self.inside.weights c.self.inside.tree c.self.inside.pool c.self.inside.room c.self.invariant c.args.front
-    c.args.many (subst (λ (t : ForestTables). IsFreeRing t c.args.front c.args.many) (sym c.self.view_is) c.requires)
-    c.take_set-set.new.pool c.take_set-set.result (took_as c.self.inside.pool c.take_set-set.new.pool _
-    (length c.self.inside.handles.hand.items) c.take_set-set.result c.take_set-set.ensures
-    (omega (arith, c.len.ensures, c.self.inside.handles.hand.ok.0))) c.rename_row-big.result
-    (on_as c.deref.result.now c.self.inside.rings.after.items c.args.front c.args.many c.rename_row-big.result
-    c.deref.ensures.value c.rename_row-big.ensures.on) c.rename_row-big.new.handles c.join_lists.new.lists
-    c.enclose.new.rings c.index-leader.result.now c.enclosed_root-self-inside.result
-    (subst (λ xs. HasRenamedRow c.self.inside.handles c.rename_row-big.new.handles c.self.inside.lists xs c.args.front
-    c.args.many c.rename_row-big.result) c.deref.ensures.value c.rename_row-big.ensures.renamed)
-    (subst (λ xs. AreJoined c.self.inside.lists c.join_lists.new.lists xs c.args.front c.args.many
-    c.take_set-set.result) c.deref-2.ensures.value c.join_lists.ensures) c.enclose.ensures
-    (get_or_read c.self.inside.lists.leader.items c.rename_row-big.result _
-    (big_low c.self.inside.handles c.self.inside.lists c.self.inside.rings c.self.inside.trail c.self.inside.weights
-    c.self.inside.tree c.self.inside.pool c.self.inside.room c.self.invariant c.args.front c.args.many
+returns-clause-gathered c =
+    let s = c.self.inside in
+    gathered_as c.self.view_is (seen_after s.handles s.lists s.rings s.trail s.weights s.tree s.pool s.room
+    c.self.invariant (subst (λ (t : ForestTables). IsFreeRing t c.args.front c.args.many) (sym c.self.view_is)
+    c.requires) (took_as (length s.handles.hand.items) c.take_set-set.ensures
+    (omega (arith, c.len.ensures, s.handles.hand.ok.0))) c.rename_row-big.result
+    (on_as c.args.front c.args.many c.rename_row-big.result c.deref.ensures.value c.rename_row-big.ensures.on)
+    (subst (λ xs. HasRenamedRow s.handles c.rename_row-big.new.handles s.lists xs c.args.front c.args.many
+    c.rename_row-big.result) c.deref.ensures.value c.rename_row-big.ensures.renamed)
+    (subst (λ xs. AreJoined s.lists c.join_lists.new.lists xs c.args.front c.args.many c.take_set-set.result)
+    c.deref-2.ensures.value c.join_lists.ensures) c.enclose.ensures (get_or_read s.lists.leader.items
+    c.rename_row-big.result _ (big_low s.handles s.lists s.rings s.trail s.weights s.tree s.pool s.room c.self.invariant
     (subst (λ (t : ForestTables). IsFreeRing t c.args.front c.args.many) (sym c.self.view_is) c.requires)
-    c.take_set-set.new.pool c.take_set-set.result (took_as c.self.inside.pool c.take_set-set.new.pool _
-    (length c.self.inside.handles.hand.items) c.take_set-set.result c.take_set-set.ensures
-    (omega (arith, c.len.ensures, c.self.inside.handles.hand.ok.0))) c.rename_row-big.result
-    (on_as c.deref.result.now c.self.inside.rings.after.items c.args.front c.args.many c.rename_row-big.result
-    c.deref.ensures.value c.rename_row-big.ensures.on)) c.index-leader.ensures 0)
-    (c.enclosed_root-self-inside.ensures ∙ ap (λ xs. root_around xs c.take_set-set.result c.self.inside.tree.root)
-    c.deref-3.ensures.value))
+    (took_as (length s.handles.hand.items) c.take_set-set.ensures (omega (arith, c.len.ensures, s.handles.hand.ok.0)))
+    c.rename_row-big.result (on_as c.args.front c.args.many c.rename_row-big.result c.deref.ensures.value
+    c.rename_row-big.ensures.on)) c.index-leader.ensures 0) (c.enclosed_root-self-inside.ensures
+    ∙ ap (λ xs. root_around xs c.take_set-set.result s.tree.root) c.deref-3.ensures.value))
 
 pub returns-clause-root : goal.returns-clause-root
-returns-clause-root c = λ r is. root_after c.self.inside.handles c.self.inside.lists c.self.inside.rings
-    c.self.inside.trail c.self.inside.weights c.self.inside.tree c.self.inside.pool c.self.inside.room c.self.invariant
-    c.args.front c.args.many (subst (λ (t : ForestTables). IsFreeRing t c.args.front c.args.many) (sym c.self.view_is)
-    c.requires) c.take_set-set.new.pool c.take_set-set.result (took_as c.self.inside.pool c.take_set-set.new.pool _
-    (length c.self.inside.handles.hand.items) c.take_set-set.result c.take_set-set.ensures
-    (omega (arith, c.len.ensures, c.self.inside.handles.hand.ok.0))) c.rename_row-big.result
-    (on_as c.deref.result.now c.self.inside.rings.after.items c.args.front c.args.many c.rename_row-big.result
-    c.deref.ensures.value c.rename_row-big.ensures.on) c.rename_row-big.new.handles c.join_lists.new.lists
-    c.enclose.new.rings c.index-leader.result.now c.enclosed_root-self-inside.result
-    (subst (λ xs. HasRenamedRow c.self.inside.handles c.rename_row-big.new.handles c.self.inside.lists xs c.args.front
-    c.args.many c.rename_row-big.result) c.deref.ensures.value c.rename_row-big.ensures.renamed)
-    (subst (λ xs. AreJoined c.self.inside.lists c.join_lists.new.lists xs c.args.front c.args.many
-    c.take_set-set.result) c.deref-2.ensures.value c.join_lists.ensures) c.enclose.ensures
-    (get_or_read c.self.inside.lists.leader.items c.rename_row-big.result _
-    (big_low c.self.inside.handles c.self.inside.lists c.self.inside.rings c.self.inside.trail c.self.inside.weights
-    c.self.inside.tree c.self.inside.pool c.self.inside.room c.self.invariant c.args.front c.args.many
+returns-clause-root c =
+    let s = c.self.inside in
+    λ r is. root_after s.handles s.lists s.rings s.trail s.weights s.tree s.pool s.room c.self.invariant
     (subst (λ (t : ForestTables). IsFreeRing t c.args.front c.args.many) (sym c.self.view_is) c.requires)
-    c.take_set-set.new.pool c.take_set-set.result (took_as c.self.inside.pool c.take_set-set.new.pool _
-    (length c.self.inside.handles.hand.items) c.take_set-set.result c.take_set-set.ensures
-    (omega (arith, c.len.ensures, c.self.inside.handles.hand.ok.0))) c.rename_row-big.result
-    (on_as c.deref.result.now c.self.inside.rings.after.items c.args.front c.args.many c.rename_row-big.result
-    c.deref.ensures.value c.rename_row-big.ensures.on)) c.index-leader.ensures 0)
-    (c.enclosed_root-self-inside.ensures ∙ ap (λ xs. root_around xs c.take_set-set.result c.self.inside.tree.root)
-    c.deref-3.ensures.value) r (ap (λ (t : ForestTables). t.root) c.self.view_is ∙ is)
-    ∙ ap (λ (t : ForestTables). Some (cond (listed (λ i. get_or t.after i 0) c.args.front c.args.many r)
-    c.take_set-set.result r)) c.self.view_is
+    (took_as (length s.handles.hand.items) c.take_set-set.ensures (omega (arith, c.len.ensures, s.handles.hand.ok.0)))
+    c.rename_row-big.result (on_as c.args.front c.args.many c.rename_row-big.result c.deref.ensures.value
+    c.rename_row-big.ensures.on) (subst (λ xs. HasRenamedRow s.handles c.rename_row-big.new.handles s.lists xs
+    c.args.front c.args.many c.rename_row-big.result) c.deref.ensures.value c.rename_row-big.ensures.renamed)
+    (subst (λ xs. AreJoined s.lists c.join_lists.new.lists xs c.args.front c.args.many c.take_set-set.result)
+    c.deref-2.ensures.value c.join_lists.ensures) c.enclose.ensures (get_or_read s.lists.leader.items
+    c.rename_row-big.result _ (big_low s.handles s.lists s.rings s.trail s.weights s.tree s.pool s.room c.self.invariant
+    (subst (λ (t : ForestTables). IsFreeRing t c.args.front c.args.many) (sym c.self.view_is) c.requires)
+    (took_as (length s.handles.hand.items) c.take_set-set.ensures (omega (arith, c.len.ensures, s.handles.hand.ok.0)))
+    c.rename_row-big.result (on_as c.args.front c.args.many c.rename_row-big.result c.deref.ensures.value
+    c.rename_row-big.ensures.on)) c.index-leader.ensures 0) (c.enclosed_root-self-inside.ensures
+    ∙ ap (λ xs. root_around xs c.take_set-set.result s.tree.root) c.deref-3.ensures.value) r
+    (ap (λ (t : ForestTables). t.root) c.self.view_is ∙ is) ∙ ap (λ (t : ForestTables). Some
+    (cond (listed (λ i. get_or t.after i 0) c.args.front c.args.many r) c.take_set-set.result r)) c.self.view_is

@@ -8,24 +8,22 @@ use Rattle.qm_forest.proofs.OnWays.{same_nest}
 use Rattle.qm_forest.proofs.forest.Forest.hang_parts.Goals as goal
 
 pub leader-v-requires : goal.leader-v-requires
-leader-v-requires c = outermost_kept c.args.self.now c.loop-k.self c.loop-k.x _ c.loop-k.invariant.same
+leader-v-requires c = outermost_kept c.loop-k.invariant.same
     c.loop-k.invariant.here (c.requires.tops c.loop-k.k (omega (arith, c.loop-k-test.true)))
 
 pub side_dart-d-requires-clause-low : goal.side_dart-d-requires-clause-low
 side_dart-d-requires-clause-low c = (
-  place_low c.args.self.now c.set_label.new.self c.loop-k.before _
-      (same_nest _ _ _ c.loop-k.invariant.same c.set_label.ensures.same) c.loop-k.invariant.back
+  place_low c.loop-k.before _ (same_nest c.loop-k.invariant.same c.set_label.ensures.same) c.loop-k.invariant.back
       (c.requires.low (c.loop-k.k - 1) (omega (arith, c.loop-k-test.true))),
-  place_low c.args.self.now c.set_label.new.self c.loop-k.x _
-      (same_nest _ _ _ c.loop-k.invariant.same c.set_label.ensures.same) c.loop-k.invariant.here
+  place_low c.loop-k.x _ (same_nest c.loop-k.invariant.same c.set_label.ensures.same) c.loop-k.invariant.here
       (c.requires.low c.loop-k.k (omega (arith, c.loop-k-test.true))),
 )
 
 pub side_dart-d-requires-clause-joint : goal.side_dart-d-requires-clause-joint
-side_dart-d-requires-clause-joint c = dart_low (forest_of c.args.self.now) (forest_of c.set_label.new.self)
-    c.loop-k.before _ (2 ^ 31) (ap (λ (f : Forest). f.nest.joint) c.set_label.ensures.seen
-    ∙ ap (λ (f : Forest). f.nest.joint) c.loop-k.invariant.seen) c.loop-k.invariant.back
-    (c.requires.joints (c.loop-k.k - 1) (omega (arith, c.loop-k-test.true)))
+side_dart-d-requires-clause-joint c = dart_low (forest_of c.args.self.now) (forest_of c.set_label.new.self) (2 ^ 31)
+    (ap (λ (f : Forest). f.nest.joint) c.set_label.ensures.seen ∙ ap (λ (f : Forest). f.nest.joint)
+    c.loop-k.invariant.seen) c.loop-k.invariant.back (c.requires.joints (c.loop-k.k - 1)
+    (omega (arith, c.loop-k-test.true)))
 
 pub loop-k-preserved : goal.loop-k-preserved
 loop-k-preserved c =
@@ -37,12 +35,11 @@ loop-k-preserved c =
           ∙ (ap (λ x. get_or c.args.self.now.after x 0) c.loop-k.invariant.here
           ∙ ap (walk (λ k. get_or c.args.self.now.after k 0) c.args.course.front) (sym one)));
       back = c.loop-k.invariant.here ∙ ap (walk (λ k. get_or c.args.self.now.after k 0) c.args.course.front) back;
-      seen = hung_more (forest_of c.args.self.now) (forest_of c.loop-k.self) (forest_of c.set_label.new.self)
-          (forest_of c.set_link.new.self) c.args.course.front c.loop-k.k (c.loop-k.k + 1) c.loop-k.before c.loop-k.x
-          c.leader-v.result c.side_dart-d.result c.turn_label.result c.args.course.forward c.loop-k.invariant.seen
+      seen = hung_more (forest_of c.args.self.now) c.args.course.front c.loop-k.k
+          c.leader-v.result c.args.course.forward c.loop-k.invariant.seen
           c.set_label.ensures.seen c.set_link.ensures.seen c.leader-v.ensures.value c.turn_label.ensures
           c.side_dart-d.ensures c.loop-k.invariant.here c.loop-k.invariant.back one;
-      same = same_nest _ _ _ c.loop-k.invariant.same (same_nest _ _ _ c.set_label.ensures.same c.set_link.ensures.same);
+      same = same_nest c.loop-k.invariant.same (same_nest c.set_label.ensures.same c.set_link.ensures.same);
     }
 
 pub returns-clause-seen : goal.returns-clause-seen

@@ -1,5 +1,4 @@
 use Rattle.std.proofs.Common.{◌∙◌, ap}
-use Rattle.def_matching.specs.Dual.{dual}
 use Rattle.def_forest.specs.Tables.{ForestTables, size_of}
 use Rattle.qm_forest.proofs.Handed.{dual_handed, few_handed, in_some, perfect_handed, sound_still, yes_handed}
 use Rattle.qm_forest.proofs.forest.Forest.into_parts.Goals as goal
@@ -9,33 +8,29 @@ write_down-requires c = record {
   valid = (
     c.requires.valid.0,
     c.requires.valid.1,
-    sound_still c.args.self _ c.replace.new.dest (ap (λ (t : ForestTables). record t { room = c.replace.new.dest })
-        c.self.view_is) c.requires.valid.0 c.requires.valid.2,
-    in_some c.replace.result c.in-Some.room (size_of c.requires.valid.0) c.in-Some.is (c.replace.ensures.value
+    sound_still c.args.self c.replace.new.dest (ap (λ (t : ForestTables). record t { room = c.replace.new.dest })
+        c.self.view_is) c.requires.valid.2,
+    in_some c.in-Some.room (size_of c.requires.valid.0) c.in-Some.is (c.replace.ensures.value
         ∙ (ap (λ (t : ForestTables). t.room) c.self.view_is ∙ c.requires.valid.2.room)),
   );
 }
 
 pub returns-clause-yes : goal.returns-clause-yes
-returns-clause-yes c = yes_handed c.args.self _ c.replace.new.dest
+returns-clause-yes c = yes_handed c.args.self c.replace.new.dest
     (ap (λ (t : ForestTables). record t { room = c.replace.new.dest }) c.self.view_is) c.write_down.ensures.laminar
-    c.write_down.ensures.outline.0 (dual c.write_down.result.1) c.write_down.ensures.outline.1
+    c.write_down.ensures.outline.1
 
 pub returns-clause-dual : goal.returns-clause-dual
-returns-clause-dual c = dual_handed c.args.self _ c.replace.new.dest
+returns-clause-dual c = dual_handed c.args.self c.replace.new.dest
     (ap (λ (t : ForestTables). record t { room = c.replace.new.dest }) c.self.view_is) c.write_down.ensures.laminar
-    c.write_down.ensures.outline.0 (dual c.write_down.result.1) c.write_down.ensures.outline.1 c.requires.valid.0
-    c.requires.valid.1 c.requires.valid.2
+    c.write_down.ensures.outline.1 c.requires.valid.1 c.requires.valid.2
 
 pub returns-clause-few : goal.returns-clause-few
-returns-clause-few c = few_handed c.args.self _ c.replace.new.dest
+returns-clause-few c = few_handed c.args.self c.replace.new.dest
     (ap (λ (t : ForestTables). record t { room = c.replace.new.dest }) c.self.view_is) c.write_down.ensures.laminar
-    c.write_down.ensures.outline.0 (dual c.write_down.result.1) c.write_down.ensures.outline.1
+    c.write_down.ensures.outline.1
 
 pub returns-clause-perfect : goal.returns-clause-perfect
-returns-clause-perfect c =
-    perfect_handed c.args.self _ c.replace.new.dest (ap (λ (t : ForestTables). record t { room = c.replace.new.dest })
-    c.self.view_is) c.write_down.ensures.laminar c.write_down.ensures.outline.0 (dual c.write_down.result.1)
-    c.write_down.ensures.outline.1
-    c.write_down.ensures.chosen.0 c.write_down.ensures.chosen.1 c.write_down.result.0.items
-    c.write_down.ensures.chosen.2
+returns-clause-perfect c = perfect_handed c.args.self c.replace.new.dest
+    (ap (λ (t : ForestTables). record t { room = c.replace.new.dest }) c.self.view_is) c.write_down.ensures.laminar
+    c.write_down.ensures.outline.1 c.write_down.ensures.chosen.1 c.write_down.ensures.chosen.2

@@ -7,12 +7,9 @@ use Rattle.qm_forest.proofs.OnWays.{near_in}
 use Rattle.qm_forest.proofs.forest.Forest.lay_ring.Goals as goal
 
 pub outermost-a-requires : goal.outermost-a-requires
-outermost-a-requires c = near_in (graph c.args.g.now) c.args.self.now c.requires.graph c.requires.valid c.args.start
-    c.near.result c.requires.start c.near.ensures
+outermost-a-requires c = near_in c.requires.graph c.requires.valid c.args.start c.requires.start c.near.ensures
 
 pub returns-clause-seen : goal.returns-clause-seen
-returns-clause-seen c = laid_whole (darts_of (graph c.args.g.now)) (forest_of c.args.self.now)
-    (forest_of c.lay_down.new.self) (forest_of c.lay.new.self) (forest_of c.lay_up.new.self) c.args.start
-    c.outermost-a.result c.far_blossom-c.result c.args.fork.left c.args.fork.right
-    (c.outermost-a.ensures.value ∙ ap (forest_of c.args.self.now).out c.near.ensures) c.far_blossom-c.ensures.value
-    c.lay_down.ensures.seen c.lay.ensures.seen c.lay_up.ensures.seen
+returns-clause-seen c = laid_whole (darts_of (graph c.args.g.now)) (forest_of c.args.self.now) c.args.start
+    c.args.fork.left c.args.fork.right (c.outermost-a.ensures.value ∙ ap (forest_of c.args.self.now).out c.near.ensures)
+    c.far_blossom-c.ensures.value c.lay_down.ensures.seen c.lay.ensures.seen c.lay_up.ensures.seen

@@ -7,9 +7,8 @@ use Rattle.qm_forest.proofs.OnWays.{same_nest}
 use Rattle.qm_forest.proofs.forest.Forest.leave.Goals as goal
 
 pub leader-v-requires : goal.leader-v-requires
-leader-v-requires c = outermost_kept c.args.self.now c.loop.self c.loop.x (walk (λ k. get_or c.args.self.now.after k 0)
-    c.args.front c.loop.counter) c.loop.invariant.same c.loop.invariant.here
-    (c.requires c.loop.counter (omega (arith, c.loop-test.true)))
+leader-v-requires c = outermost_kept
+    c.loop.invariant.same c.loop.invariant.here (c.requires c.loop.counter (omega (arith, c.loop-test.true)))
 
 pub loop-preserved : goal.loop-preserved
 loop-preserved c =
@@ -19,11 +18,8 @@ loop-preserved c =
           ∙ (c.set_label.ensures.same.after ∙ c.loop.invariant.same.after))
           ∙ (ap (λ x. get_or c.args.self.now.after x 0) c.loop.invariant.here
           ∙ ap (walk (λ k. get_or c.args.self.now.after k 0) c.args.front) (sym one)));
-      seen = left_more (forest_of c.args.self.now) (forest_of c.loop.self) (forest_of c.set_mate.new.self) c.args.front
-          c.loop.counter (c.loop.counter + 1) c.loop.x c.leader-v.result c.loop.invariant.seen (c.set_mate.ensures.seen
-          ∙ ap (λ (f : Forest). mated f c.loop.x None) c.set_label.ensures.seen) c.leader-v.ensures.value
-          c.loop.invariant.here one;
-      same = same_nest c.args.self.now c.loop.self c.set_mate.new.self c.loop.invariant.same
-          (same_nest c.loop.self c.set_label.new.self c.set_mate.new.self c.set_label.ensures.same
-          c.set_mate.ensures.same);
+      seen = left_more (forest_of c.args.self.now) c.args.front c.loop.counter c.leader-v.result c.loop.invariant.seen
+          (c.set_mate.ensures.seen ∙ ap (λ (f : Forest). mated f c.loop.x None) c.set_label.ensures.seen)
+          c.leader-v.ensures.value c.loop.invariant.here one;
+      same = same_nest c.loop.invariant.same (same_nest c.set_label.ensures.same c.set_mate.ensures.same);
     }

@@ -5,16 +5,15 @@ use Rattle.qm_forest.proofs.Orders.{distinct, list_made}
 use Rattle.qm_forest.proofs.forest.Forest.list_entries.Goals as goal
 
 pub name_sets-requires-clause-distinct : goal.name_sets-requires-clause-distinct
-name_sets-requires-clause-distinct c = distinct c.args.self c.args.sets.now c.requires.order
+name_sets-requires-clause-distinct c = distinct c.requires.order
 
 pub returns-clause-entries : goal.returns-clause-entries
 returns-clause-entries c =
     let up : c.self.inside.rings.up.items ≡ c.args.self.up = ap (λ (t : ForestTables). t.up) c.self.view_is in (
       c.name_sets.new.names.items,
       c.name_sets.ensures.named,
-      list_made c.args.self.up _ _ c.name_sets.new.names.items _ _ (length c.args.self.hand) _ (length c.args.sets.now)
-          (set_in c.args.sets.now) _ _ (c.deref.ensures.value ∙ up) (c.deref-3.ensures.value ∙ up)
-          c.deref-2.ensures.value c.deref-4.ensures.value
-          c.vertices-vertices.ensures c.add_vertex_entries.ensures.size c.add_vertex_entries.ensures.each
-          c.add_set_entries.ensures.size c.add_set_entries.ensures.kept c.add_set_entries.ensures.each,
+      list_made (length c.args.sets.now) (set_in c.args.sets.now) _ _ (c.deref.ensures.value ∙ up)
+          (c.deref-3.ensures.value ∙ up) c.deref-2.ensures.value c.deref-4.ensures.value c.vertices-vertices.ensures
+          c.add_vertex_entries.ensures.size c.add_vertex_entries.ensures.each c.add_set_entries.ensures.size
+          c.add_set_entries.ensures.kept c.add_set_entries.ensures.each,
     )

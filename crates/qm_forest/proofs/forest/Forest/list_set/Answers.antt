@@ -10,6 +10,4 @@ returns-then-parts-ne0-clause-has c =
     grind (arith, common_steps) in
     λ has. subst (HasSets c.args.self.now (c.args.b + 1)) (sym pushed)
     (subst (λ r. HasSets c.args.self.now (c.args.b + 1) (c.args.sets.now.items ++ (r, c.args.b) ∷ []))
-    (sym c.size.ensures)
-    (sets_more c.args.self.now c.args.b c.args.sets.now.items c.requires.high
-    (subst (λ p. p ≢ 0) c.parts.ensures c.if-parts-ne0.true) has))
+    (sym c.size.ensures) (sets_more c.requires.high (subst (λ p. p ≢ 0) c.parts.ensures c.if-parts-ne0.true) has))

@@ -1,7 +1,6 @@
 use Rattle.std.proofs.Common.{◌≡◌, ◌∷◌, [], ◌++◌, ◌∙◌, ap, arith}
 use Rattle.std.proofs.lemmas.Grind.{common_steps}
 use Rattle.def_forest.specs.Tables.{forest_of}
-use Rattle.qm_forest.specs.Outlines.{set_in}
 use Rattle.qm_forest.proofs.Orders.{weights_more}
 use Rattle.qm_forest.proofs.forest.Forest.list_set_weights.Goals as goal
 
@@ -10,8 +9,7 @@ loop-k-preserved c =
     let pushed : c.push.new.self.items ≡ c.loop-k.numbers.items ++ c.weight_of.result ∷ [] =
     grind (arith, common_steps) in
     record {
-      weights = weights_more (forest_of c.args.self.now).weight (set_in c.args.sets.now) c.loop-k.k
-          c.loop-k.numbers.items _ c.weight_of.result pushed (c.weight_of.ensures
+      weights = weights_more pushed (c.weight_of.ensures
           ∙ ap (forest_of c.args.self.now).weight c.set_at.ensures) c.loop-k.invariant.weights;
       room = omega (arith, c.loop-k.invariant.room, c.push.ensures.capacity);
     }

@@ -32,14 +32,13 @@ returns c =
       c.self.invariant.sizes.vertices,
     ) in
     record {
-      has = sets_moved c.args.self.now (length c.args.self.now.up) c.loop-b.sets.items c.sort.new.sets.items
+      has = sets_moved c.sort.new.sets.items
           c.sort.ensures.moved (subst (λ m. HasSets c.args.self.now m c.loop-b.sets.items) all c.loop-b.invariant.has);
       few = omega (
         arith,
         all,
         c.loop-b.invariant.count,
-        length_permutation c.loop-b.sets.items c.sort.new.sets.items
-            c.sort.ensures.moved,
+        length_permutation c.loop-b.sets.items c.sort.new.sets.items c.sort.ensures.moved,
       );
       increasing = c.sort.ensures.increasing;
     }

@@ -1,7 +1,5 @@
 use Rattle.std.proofs.Common.{arith, subst, ◌<◌}
 use Rattle.std.proofs.lemmas.Int.{ints}
-use Rattle.def_matching.specs.Matching.{graph}
-use Rattle.def_forest.specs.Tables.{forest_of}
 use Rattle.forest_laws.proofs.Loads.{load_across}
 use Rattle.qm_forest.proofs.forest.Forest.load_across.Goals as goal
 
@@ -13,7 +11,7 @@ returns-clause-value c = omega (
   c.potential.ensures.small,
   c.potential-2.ensures.value,
   c.potential-2.ensures.small,
-  load_across (graph c.args.g.now).n (forest_of c.args.self.now) c.requires.valid.valid.outermost c.args.u c.args.v
+  load_across c.requires.valid.valid.outermost c.args.u c.args.v
       (subst (λ n. c.args.u < n) c.requires.valid.vertices c.requires.vertices.0)
       (subst (λ n. c.args.v < n) c.requires.valid.vertices c.requires.vertices.1) c.requires.apart,
 )

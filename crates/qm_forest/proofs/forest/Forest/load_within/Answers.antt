@@ -1,6 +1,5 @@
 use Rattle.std.proofs.Common.{arith}
 use Rattle.std.proofs.lemmas.Int.{ints}
-use Rattle.def_matching.specs.Matching.{graph}
 use Rattle.qm_forest.proofs.Meeting.{turn_meets, turn_nearer, met_load}
 use Rattle.qm_forest.proofs.forest.Forest.load_within.Goals as goal
 
@@ -8,18 +7,15 @@ pub overflow_add-load : goal.overflow_add-load
 overflow_add-load c = omega (arith, ints, c.loop-x.invariant.small, c.base_at-load.ensures.bound)
 
 pub loop-x-smaller : goal.loop-x-smaller
-loop-x-smaller c = turn_nearer (graph c.args.g.now) c.args.self.now c.requires.valid c.base_at-load.ensures.climb
-    c.base_at-load.ensures.few c.base_at-load.ensures.small c.args.u c.args.v c.loop-x.x c.loop-x.y _ c.loop-x.invariant
-    c.loop-x-test.true c.by_rank-low.result.0 c.by_rank-low.result.1 c.up_at-x.result c.by_rank-low.ensures.either
-    c.by_rank-low.ensures.order c.up_at-x.ensures.value
+loop-x-smaller c = turn_nearer c.requires.valid c.base_at-load.ensures.climb c.base_at-load.ensures.few
+    c.base_at-load.ensures.small c.loop-x.invariant c.loop-x-test.true c.by_rank-low.result.0 c.by_rank-low.result.1
+    c.by_rank-low.ensures.either c.by_rank-low.ensures.order c.up_at-x.ensures.value
 
 pub loop-x-preserved : goal.loop-x-preserved
-loop-x-preserved c = turn_meets (graph c.args.g.now) c.args.self.now c.requires.valid c.base_at-load.ensures.climb
-    c.base_at-load.ensures.few c.base_at-load.ensures.small c.args.u c.args.v c.loop-x.x c.loop-x.y _ c.loop-x.invariant
-    c.loop-x-test.true c.by_rank-low.result.0 c.by_rank-low.result.1 c.up_at-x.result _ c.by_rank-low.ensures.either
-    c.by_rank-low.ensures.order c.up_at-x.ensures.value c.up_at-x.ensures.low
+loop-x-preserved c = turn_meets c.requires.valid c.base_at-load.ensures.climb c.base_at-load.ensures.few
+    c.base_at-load.ensures.small c.loop-x.invariant c.loop-x-test.true c.by_rank-low.result.0 c.by_rank-low.result.1 _
+    c.by_rank-low.ensures.either c.by_rank-low.ensures.order c.up_at-x.ensures.value c.up_at-x.ensures.low
     (omega (arith, ints, c.loop-x.invariant.small, c.base_at-load.ensures.bound, c.base_at-load.ensures.value))
 
 pub returns-clause-value : goal.returns-clause-value
-returns-clause-value c = met_load c.args.self.now c.args.u c.args.v c.loop-x.x c.loop-x.y _ c.loop-x.invariant
-    c.loop-x-test.false
+returns-clause-value c = met_load c.loop-x.invariant c.loop-x-test.false

@@ -9,25 +9,24 @@ use Rattle.qm_forest.proofs.forest.Forest.match_parts.Goals as goal
 
 pub side_dart-d-requires-clause-low : goal.side_dart-d-requires-clause-low
 side_dart-d-requires-clause-low c = (
-  place_low c.args.self.now c.loop-k.self c.loop-k.before _ c.loop-k.invariant.same c.loop-k.invariant.back
+  place_low c.loop-k.before _ c.loop-k.invariant.same c.loop-k.invariant.back
       (c.requires.low (c.loop-k.k - 1) (omega (arith, c.loop-k-test.true))),
-  place_low c.args.self.now c.loop-k.self c.loop-k.x _ c.loop-k.invariant.same c.loop-k.invariant.here
+  place_low c.loop-k.x _ c.loop-k.invariant.same c.loop-k.invariant.here
       (c.requires.low c.loop-k.k (omega (arith, c.loop-k-test.true))),
 )
 
 pub side_dart-d-requires-clause-joint : goal.side_dart-d-requires-clause-joint
-side_dart-d-requires-clause-joint c = dart_low (forest_of c.args.self.now) (forest_of c.loop-k.self) c.loop-k.before _
+side_dart-d-requires-clause-joint c = dart_low (forest_of c.args.self.now) (forest_of c.loop-k.self)
     (2 ^ 31) (ap (λ (f : Forest). f.nest.joint) c.loop-k.invariant.seen) c.loop-k.invariant.back
     (c.requires.joints (c.loop-k.k - 1) (omega (arith, c.loop-k-test.true)))
 
 pub set_mate-requires : goal.set_mate-requires
-set_mate-requires c = place_low c.args.self.now c.loop-k.self c.loop-k.x _ c.loop-k.invariant.same
+set_mate-requires c = place_low c.loop-k.x _ c.loop-k.invariant.same
     c.loop-k.invariant.here (c.requires.low c.loop-k.k (omega (arith, c.loop-k-test.true)))
 
 pub next-x-requires : goal.next-x-requires
-next-x-requires c = place_low c.args.self.now c.set_mate.new.self c.loop-k.x _
-    (same_nest _ _ _ c.loop-k.invariant.same c.set_mate.ensures.same) c.loop-k.invariant.here
-    (c.requires.low c.loop-k.k (omega (arith, c.loop-k-test.true)))
+next-x-requires c = place_low c.loop-k.x _ (same_nest c.loop-k.invariant.same c.set_mate.ensures.same)
+    c.loop-k.invariant.here (c.requires.low c.loop-k.k (omega (arith, c.loop-k-test.true)))
 
 pub loop-k-preserved : goal.loop-k-preserved
 loop-k-preserved c =
@@ -38,15 +37,13 @@ loop-k-preserved c =
           ∙ c.loop-k.invariant.same.after) ∙ (ap (λ x. get_or c.args.self.now.after x 0) c.loop-k.invariant.here
           ∙ ap (walk (λ k. get_or c.args.self.now.after k 0) c.args.first) (sym one)));
       back = c.loop-k.invariant.here ∙ ap (walk (λ k. get_or c.args.self.now.after k 0) c.args.first) back;
-      seen = paired_more (forest_of c.args.self.now) (forest_of c.loop-k.self) (forest_of c.set_mate.new.self)
-          c.args.first c.loop-k.k (c.loop-k.k + 1) c.loop-k.before c.loop-k.x c.side_dart-d.result
-          c.loop-k.invariant.seen c.set_mate.ensures.seen c.side_dart-d.ensures c.loop-k.invariant.here
-          c.loop-k.invariant.back one;
-      same = same_nest _ _ _ c.loop-k.invariant.same c.set_mate.ensures.same;
+      seen = paired_more (forest_of c.args.self.now) c.args.first c.loop-k.k c.loop-k.invariant.seen
+          c.set_mate.ensures.seen c.side_dart-d.ensures c.loop-k.invariant.here c.loop-k.invariant.back one;
+      same = same_nest c.loop-k.invariant.same c.set_mate.ensures.same;
     }
 
 pub set_mate-requires-2 : goal.set_mate-requires-2
-set_mate-requires-2 c = place_low c.args.self.now c.loop-k.self c.args.first _ c.loop-k.invariant.same refl
+set_mate-requires-2 c = place_low c.args.first _ c.loop-k.invariant.same refl
     (c.requires.low 0 (omega (arith, c.requires.some)))
 
 pub returns-clause-seen : goal.returns-clause-seen
@@ -56,4 +53,4 @@ returns-clause-seen c =
     ∙ ap (paired (forest_of c.args.self.now) c.args.first) all)
 
 pub returns-clause-same : goal.returns-clause-same
-returns-clause-same c = same_nest _ _ _ c.loop-k.invariant.same c.set_mate-2.ensures.same
+returns-clause-same c = same_nest c.loop-k.invariant.same c.set_mate-2.ensures.same

@@ -10,66 +10,56 @@ pub loop-init : goal.loop-init
 loop-init c = record {
   here = c.next-x.ensures;
   room = c.requires.room;
-  done = λ rest due r. ring_begun c.args.self.now c.requires.room.laminar c.requires.valid.0 c.requires.valid.1
-      c.requires.valid.2 c.args.p c.requires.inner c.args.round.now.marks.items c.args.round.now.left_out.items rest due
-      c.next-x.result 0 c.next-x.ensures refl r;
+  done = λ rest due r. ring_begun c.requires.room.laminar c.requires.valid.1 c.requires.valid.2 c.args.p
+      c.requires.inner rest 0 c.next-x.ensures refl r;
   entries = λ b v e. inl e;
 }
 
 pub next-y-requires : goal.next-y-requires
 next-y-requires c = subst (λ z. z < length c.args.self.now.up) (sym c.loop.invariant.here)
-    (at_low c.args.self.now c.requires.room.laminar c.requires.valid.0 c.requires.valid.1 c.requires.valid.2 c.args.p
+    (at_low c.requires.room.laminar c.requires.valid.1 c.requires.valid.2 c.args.p
     c.requires.inner (2 * c.loop.counter))
 
 pub joint-d-requires : goal.joint-d-requires
 joint-d-requires c = subst (λ z. z < length c.args.self.now.up) (sym c.loop.invariant.here)
-    (at_low c.args.self.now c.requires.room.laminar c.requires.valid.0 c.requires.valid.1 c.requires.valid.2 c.args.p
+    (at_low c.requires.room.laminar c.requires.valid.1 c.requires.valid.2 c.args.p
     c.requires.inner (2 * c.loop.counter))
 
 pub pair-requires-clause-pairing : goal.pair-requires-clause-pairing
-pair-requires-clause-pairing c = turn_pairing c.args.self.now c.requires.room.laminar c.requires.valid.0
-    c.requires.valid.1 c.requires.valid.2 c.args.p c.requires.inner c.loop.counter c.loop.x c.next-y.result
-    c.joint-d.result c.loop.invariant.here c.next-y.ensures c.joint-d.ensures
+pair-requires-clause-pairing c = turn_pairing c.requires.room.laminar c.requires.valid.1 c.requires.valid.2 c.args.p
+    c.requires.inner c.loop.counter c.loop.invariant.here c.next-y.ensures c.joint-d.ensures
 
 pub next-x-requires-in-loop : goal.next-x-requires-in-loop
-next-x-requires-in-loop c =
-    (turn_pairing c.args.self.now c.requires.room.laminar c.requires.valid.0 c.requires.valid.1 c.requires.valid.2
-    c.args.p c.requires.inner c.loop.counter c.loop.x c.next-y.result c.joint-d.result c.loop.invariant.here
-    c.next-y.ensures c.joint-d.ensures).low_y
+next-x-requires-in-loop c = (turn_pairing c.requires.room.laminar c.requires.valid.1 c.requires.valid.2 c.args.p
+    c.requires.inner c.loop.counter c.loop.invariant.here c.next-y.ensures c.joint-d.ensures).low_y
 
 pub loop-preserved : goal.loop-preserved
 loop-preserved c =
-    let pairing : IsPairing c.args.self.now c.loop.x c.next-y.result c.joint-d.result =
-    turn_pairing c.args.self.now c.requires.room.laminar c.requires.valid.0 c.requires.valid.1 c.requires.valid.2
-    c.args.p c.requires.inner c.loop.counter c.loop.x c.next-y.result c.joint-d.result c.loop.invariant.here
-    c.next-y.ensures c.joint-d.ensures in
+    let pairing : IsPairing c.args.self.now c.loop.x c.next-y.result c.joint-d.result = turn_pairing
+    c.requires.room.laminar c.requires.valid.1 c.requires.valid.2 c.args.p c.requires.inner c.loop.counter
+    c.loop.invariant.here c.next-y.ensures c.joint-d.ensures in
     let two : suc (suc (2 * c.loop.counter)) ≡ 2 * (c.loop.counter + 1) = omega arith in
     let parts : c.parts-end.result ≡ get_or c.args.self.now.parts (up_at c.args.self.now.up c.args.p) 0 =
     c.parts-end.ensures ∙ ap (λ z. get_or c.args.self.now.parts z 0) c.up_at.ensures.value in
     let low : c.loop.counter < get_or c.args.self.now.parts (up_at c.args.self.now.up c.args.p) 0 / 2 =
     omega (arith, c.loop-test.true, parts) in
     record {
-      here = c.next-x-in-loop.ensures
-          ∙ (ap (λ z. get_or c.args.self.now.after z 0) (c.next-y.ensures ∙ ap (λ z. get_or c.args.self.now.after z 0)
-          c.loop.invariant.here) ∙ ap (walk (λ k. get_or c.args.self.now.after k 0)
-          (get_or c.args.self.now.after c.args.p 0)) two);
+      here = c.next-x-in-loop.ensures ∙ (ap (λ z. get_or c.args.self.now.after z 0)
+          (c.next-y.ensures ∙ ap (λ z. get_or c.args.self.now.after z 0) c.loop.invariant.here)
+          ∙ ap (walk (λ k. get_or c.args.self.now.after k 0) (get_or c.args.self.now.after c.args.p 0)) two);
       room = c.pair.ensures.room;
       done = λ rest due r. subst (λ z. IsRound c.args.self.now c.pair.new.round.marks.items
           c.pair.new.round.left_out.items (λ b. ring_sum (λ k. get_or c.args.self.now.after k 0)
-          (λ s. bool_number (within c.args.self.now b s)) z
-          (get_or c.args.self.now.parts (up_at c.args.self.now.up c.args.p) 0 - 1 - 2 * (c.loop.counter + 1))
-          + rest b) due) (sym c.next-x-in-loop.ensures)
-          (ring_turn c.args.self.now c.requires.room.laminar c.requires.valid.0 c.requires.valid.1 c.requires.valid.2
-          c.args.p c.requires.inner c.loop.round.marks.items c.pair.new.round.marks.items
-          c.loop.round.left_out.items c.pair.new.round.left_out.items rest due c.loop.counter (c.loop.counter + 1)
-          c.loop.x c.next-y.result c.joint-d.result c.loop.invariant.here low c.next-y.ensures c.joint-d.ensures
-          refl c.loop.invariant.room.marks c.loop.invariant.room.left_out c.pair.ensures.marks
+          (λ s. bool_number (within c.args.self.now b s)) z (get_or c.args.self.now.parts
+          (up_at c.args.self.now.up c.args.p) 0 - 1 - 2 * (c.loop.counter + 1)) + rest b) due)
+          (sym c.next-x-in-loop.ensures) (ring_turn c.requires.room.laminar c.requires.valid.1 c.requires.valid.2
+          c.args.p c.requires.inner rest c.loop.counter (c.loop.counter + 1) c.loop.invariant.here low c.next-y.ensures
+          c.joint-d.ensures refl c.loop.invariant.room.marks c.loop.invariant.room.left_out c.pair.ensures.marks
           c.pair.ensures.left_out (c.loop.invariant.done rest due r));
-      entries = λ b v e. by_turn (turn_entries c.args.self.now c.requires.room.laminar c.requires.valid.0
-          c.requires.valid.1 c.requires.valid.2 c.args.p c.requires.inner c.loop.round.left_out.items
-          c.pair.new.round.left_out.items c.loop.counter c.loop.x c.next-y.result c.joint-d.result b v
-          c.loop.invariant.here c.next-y.ensures c.loop.invariant.room.left_out c.pair.ensures.left_out pairing.low_x
-          pairing.low_y e) (c.loop.invariant.entries b v);
+      entries = λ b v e. by_turn (turn_entries c.requires.room.laminar c.requires.valid.1 c.requires.valid.2 c.args.p
+          c.requires.inner c.loop.round.left_out.items c.loop.counter c.joint-d.result b v c.loop.invariant.here
+          c.next-y.ensures c.loop.invariant.room.left_out c.pair.ensures.left_out pairing.low_x pairing.low_y e)
+          (c.loop.invariant.entries b v);
     }
   where
     by_turn : {P Q R : Type 0} → P ⊎ Q → (P → R ⊎ Q) → R ⊎ Q
@@ -80,7 +70,6 @@ pub returns-clause-done : goal.returns-clause-done
 returns-clause-done c =
     let parts : c.parts-end.result ≡ get_or c.args.self.now.parts (up_at c.args.self.now.up c.args.p) 0 =
     c.parts-end.ensures ∙ ap (λ z. get_or c.args.self.now.parts z 0) c.up_at.ensures.value in
-    λ rest due r. ring_ended c.args.self.now c.requires.room.laminar c.requires.valid.0 c.requires.valid.1
-    c.requires.valid.2 c.args.p c.requires.inner c.loop.round.marks.items c.loop.round.left_out.items rest due
-    c.loop.counter c.loop.x (omega (arith, c.loop-test.false, c.loop.auto.counter-end, parts))
+    λ rest due r. ring_ended c.requires.room.laminar c.requires.valid.1 c.requires.valid.2 c.args.p c.requires.inner
+    rest c.loop.counter c.loop.x (omega (arith, c.loop-test.false, c.loop.auto.counter-end, parts))
     (c.loop.invariant.done rest due r)

@@ -17,8 +17,7 @@ returns-in-Some-clause-done c =
     subst (λ m. c.args.c < m) (sym c.requires.room.left_out) c.requires.low in
     let here : get_or c.args.round.now.left_out.items c.args.c None ≡ Some c.in-Some.v =
     sym (get_or_read c.args.round.now.left_out.items c.args.c _ low c.index.ensures None) ∙ c.in-Some.is in
-    λ rest due r. c.match_up.ensures.done rest due (taken c.args.self.now c.args.round.now.marks.items
-    c.args.round.now.left_out.items rest due c.args.c c.in-Some.v low here r)
+    λ rest due r. c.match_up.ensures.done rest due (taken c.args.c c.in-Some.v low here r)
 
 pub returns-in-Some-clause-entries : goal.returns-in-Some-clause-entries
 returns-in-Some-clause-entries c =

@@ -11,8 +11,7 @@ invariant-loop-p l = record {
   low : l.p < length l.self.up;
   room : HasRoom l.self l.round;
   done : (rest due : ℕ → ℕ) → IsRound l.self l.fn.round.marks.items l.fn.round.left_out.items
-      (λ b. waits_but l.self b l.c l.v + rest b) due
-      → IsRound l.self l.round.marks.items l.round.left_out.items
+      (λ b. waits_but l.self b l.c l.v + rest b) due → IsRound l.self l.round.marks.items l.round.left_out.items
       (λ b. (cond (within l.self b l.p) 0 (waits_but l.self b l.c l.v)) + rest b) due;
   entries : (b w : ℕ) → get_or l.round.left_out.items b None ≡ Some w
       → (get_or l.fn.round.left_out.items b None ≡ Some w) ⊎ (get_or l.self.rank b 0 < get_or l.self.rank l.c 0);

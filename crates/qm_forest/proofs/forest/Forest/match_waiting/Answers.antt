@@ -7,7 +7,7 @@ pub loop-k-init : goal.loop-k-init
 loop-k-init c = record {
   room = c.requires.room;
   done = λ rest due r. r;
-  later = wait_begins c.args.self.now c.args.sets.now c.args.round.now.left_out.items (length c.args.sets.now - 0)
+  later = wait_begins c.args.round.now.left_out.items (length c.args.sets.now - 0)
       c.requires.sets (omega arith) c.requires.room.left_out c.requires.begun.2.entry;
 }
 
@@ -23,13 +23,11 @@ loop-k-preserved c =
     record {
       room = c.match_set.ensures.room;
       done = λ rest due r. c.match_set.ensures.done rest due (c.loop-k.invariant.done rest due r);
-      later = wait_before c.args.self.now c.args.sets.now c.loop-k.round.left_out.items
-          c.match_set.new.round.left_out.items (length c.args.sets.now - (c.loop-k.k + 1)) c.set_at.result
-          c.requires.sets (omega (arith, low)) (ap (λ j. (get_or c.args.sets.now j (0, 0)).1) (sym place)
-          ∙ sym c.set_at.ensures)
+      later = wait_before c.loop-k.round.left_out.items c.match_set.new.round.left_out.items
+          (length c.args.sets.now - (c.loop-k.k + 1)) c.requires.sets (omega (arith, low))
+          (ap (λ j. (get_or c.args.sets.now j (0, 0)).1) (sym place) ∙ sym c.set_at.ensures)
           (subst (WaitWithin c.loop-k.round.left_out.items c.args.sets.now) (sym one) c.loop-k.invariant.later)
-          c.match_set.ensures.entries
-          (λ b w is. (
+          c.match_set.ensures.entries (λ b w is. (
             (round.entry b w is).high,
             subst (λ m. b < m) c.match_set.ensures.room.left_out
                 (entry_low c.match_set.new.round.left_out.items b w is),

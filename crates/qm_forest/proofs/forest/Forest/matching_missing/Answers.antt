@@ -23,8 +23,6 @@ returns c =
     (c.in_ok-round.ensures.begun (λ b. waits_but c.args.self.now b c.args.b c.args.v + 0)
     (λ w l. (let low : waits_but c.args.self.now w c.args.b c.args.v ≤ 1 =
     waits_low c.args.self.now w c.args.b c.args.v in omega (arith, low))))) in
-    λ g is valid. matches_but c.args.self.now c.match_waiting.ensures.room.laminar g is (sound g c.args.self.now valid)
-    c.match_waiting.new.round.marks.items c.match_waiting.ensures.room.marks c.list_marked.new.list.items
-    (subst (λ xs. AreMarked xs (length xs) c.list_marked.new.list.items) c.deref-2.ensures.value
-    c.list_marked.ensures) c.match_waiting.new.round.left_out.items c.args.b c.args.v c.requires.vertex round
-    c.match_waiting.ensures.ended
+    λ g is valid. matches_but c.match_waiting.ensures.room.laminar is (sound valid) c.match_waiting.ensures.room.marks
+    (subst (λ xs. AreMarked xs (length xs) c.list_marked.new.list.items) c.deref-2.ensures.value c.list_marked.ensures)
+    c.args.b c.args.v c.requires.vertex round c.match_waiting.ensures.ended

@@ -11,8 +11,8 @@ returns-clause-room c =
     ap (λ (t : ForestTables). length t.near) c.self.view_is in
     let up : length c.self.inside.rings.up.items ≡ length c.args.self.now.up =
     ap (λ (t : ForestTables). length t.up) c.self.view_is in
-    room_begins c.args.self.now c.empty_round.result (c.len.result / 2) c.len-2.result
-    (subst (λ (t : ForestTables). IsLaminar t) c.self.view_is (laminar _ _ c.self.invariant))
+    room_begins c.empty_round.result (c.len.result / 2) c.len-2.result
+    (subst (λ (t : ForestTables). IsLaminar t) c.self.view_is (laminar c.self.invariant))
     (omega (arith, near, c.requires.2.darts, c.len.ensures, c.self.inside.tree.near.ok.0))
     (omega (arith, up, c.len-2.ensures, c.self.inside.rings.up.ok.0)) c.empty_round.ensures.marks
     c.empty_round.ensures.left_out

@@ -9,85 +9,75 @@ use Rattle.qm_forest.proofs.Ranges.{delta_small, added_small, added_bound, told_
 use Rattle.qm_forest.proofs.forest.Forest.potential.Goals as goal
 
 pub added_at-more-requires-clause-delta : goal.added_at-more-requires-clause-delta
-added_at-more-requires-clause-delta c = omega (arith, ints, delta_small _ _ c.self.invariant)
+added_at-more-requires-clause-delta c = omega (arith, ints, delta_small c.self.invariant)
 
 pub added_at-more-requires-clause-small : goal.added_at-more-requires-clause-small
 added_at-more-requires-clause-small c =
-    let low : c.args.v < length c.self.inside.handles.hand.items =
+    let s = c.self.inside in
+    let low : c.args.v < length s.handles.hand.items =
     subst (λ (t : ForestTables). c.args.v < length t.hand) (sym c.self.view_is) c.requires in
     let more : get_or c.deref-5.result.now c.hand_of-handle.result (pos 0) +ℤ weight_change c.label_of-label.result
-    (to_z w128 (of_z w128 c.self.inside.weights.delta)) ≡ added c.self.inside.handles.hand.items
-    c.self.inside.handles.top.items c.self.inside.handles.off.items c.self.inside.tree.label.items
-    c.self.inside.weights.delta c.args.v =
-    added_bound _ _ c.self.invariant c.args.v low _ _ _ _ c.deref-5.ensures.value (cc) (cc)
-    (kept_in_bits _ (omega (arith, delta_small _ _ c.self.invariant))) in
-    omega (arith, ints, more, added_small _ _ c.self.invariant c.args.v low)
+    (to_z w128 (of_z w128 s.weights.delta)) ≡ added s.handles.hand.items s.handles.top.items s.handles.off.items
+    s.tree.label.items s.weights.delta c.args.v = added_bound c.self.invariant c.args.v low _ _ c.deref-5.ensures.value
+    (cc) (cc) (kept_in_bits _ (omega (arith, delta_small c.self.invariant))) in
+    omega (arith, ints, more, added_small c.self.invariant c.args.v low)
 
 pub sum_at-requires-clause-small : goal.sum_at-requires-clause-small
 sum_at-requires-clause-small c =
-    let low : c.args.v < length c.self.inside.handles.hand.items =
+    let s = c.self.inside in
+    let low : c.args.v < length s.handles.hand.items =
     subst (λ (t : ForestTables). c.args.v < length t.hand) (sym c.self.view_is) c.requires in
     let more : get_or c.deref-5.result.now c.hand_of-handle.result (pos 0) +ℤ weight_change c.label_of-label.result
-    (to_z w128 (of_z w128 c.self.inside.weights.delta)) ≡ added c.self.inside.handles.hand.items
-    c.self.inside.handles.top.items c.self.inside.handles.off.items c.self.inside.tree.label.items
-    c.self.inside.weights.delta c.args.v =
-    added_bound _ _ c.self.invariant c.args.v low _ _ _ _ c.deref-5.ensures.value (cc) (cc)
-    (kept_in_bits _ (omega (arith, delta_small _ _ c.self.invariant))) in
-    let kept : to_z w128 (of_z w128 c.added_at-more.result) ≡ added c.self.inside.handles.hand.items
-    c.self.inside.handles.top.items c.self.inside.handles.off.items c.self.inside.tree.label.items
-    c.self.inside.weights.delta c.args.v =
-    omega (arith, ints, more, c.added_at-more.ensures, added_small _ _ c.self.invariant c.args.v low) in
+    (to_z w128 (of_z w128 s.weights.delta)) ≡ added s.handles.hand.items s.handles.top.items s.handles.off.items
+    s.tree.label.items s.weights.delta c.args.v = added_bound c.self.invariant c.args.v low _ _ c.deref-5.ensures.value
+    (cc) (cc) (kept_in_bits _ (omega (arith, delta_small c.self.invariant))) in
+    let kept : to_z w128 (of_z w128 c.added_at-more.result) ≡ added s.handles.hand.items s.handles.top.items
+    s.handles.off.items s.tree.label.items s.weights.delta c.args.v = omega
+    (arith, ints, more, c.added_at-more.ensures, added_small c.self.invariant c.args.v low) in
     omega (
       arith,
       ints,
-      told_bound _ _ c.self.invariant c.args.v low c.deref-6.result.now _ c.deref-6.ensures.value
-          kept,
-      potential_small _ _ c.self.invariant c.args.v,
+      told_bound c.self.invariant c.args.v low c.deref-6.ensures.value kept,
+      potential_small c.self.invariant c.args.v,
     )
 
 pub returns-clause-small : goal.returns-clause-small
 returns-clause-small c =
-    let low : c.args.v < length c.self.inside.handles.hand.items =
+    let s = c.self.inside in
+    let low : c.args.v < length s.handles.hand.items =
     subst (λ (t : ForestTables). c.args.v < length t.hand) (sym c.self.view_is) c.requires in
     let more : get_or c.deref-5.result.now c.hand_of-handle.result (pos 0) +ℤ weight_change c.label_of-label.result
-    (to_z w128 (of_z w128 c.self.inside.weights.delta)) ≡ added c.self.inside.handles.hand.items
-    c.self.inside.handles.top.items c.self.inside.handles.off.items c.self.inside.tree.label.items
-    c.self.inside.weights.delta c.args.v =
-    added_bound _ _ c.self.invariant c.args.v low _ _ _ _ c.deref-5.ensures.value (cc) (cc)
-    (kept_in_bits _ (omega (arith, delta_small _ _ c.self.invariant))) in
-    let kept : to_z w128 (of_z w128 c.added_at-more.result) ≡ added c.self.inside.handles.hand.items
-    c.self.inside.handles.top.items c.self.inside.handles.off.items c.self.inside.tree.label.items
-    c.self.inside.weights.delta c.args.v =
-    omega (arith, ints, more, c.added_at-more.ensures, added_small _ _ c.self.invariant c.args.v low) in
+    (to_z w128 (of_z w128 s.weights.delta)) ≡ added s.handles.hand.items s.handles.top.items s.handles.off.items
+    s.tree.label.items s.weights.delta c.args.v = added_bound c.self.invariant c.args.v low _ _ c.deref-5.ensures.value
+    (cc) (cc) (kept_in_bits _ (omega (arith, delta_small c.self.invariant))) in
+    let kept : to_z w128 (of_z w128 c.added_at-more.result) ≡ added s.handles.hand.items s.handles.top.items
+    s.handles.off.items s.tree.label.items s.weights.delta c.args.v = omega
+    (arith, ints, more, c.added_at-more.ensures, added_small c.self.invariant c.args.v low) in
     omega (
       arith,
       ints,
       c.sum_at.ensures,
-      told_bound _ _ c.self.invariant c.args.v low c.deref-6.result.now _
-          c.deref-6.ensures.value kept,
-      potential_small _ _ c.self.invariant c.args.v,
+      told_bound c.self.invariant c.args.v low c.deref-6.ensures.value kept,
+      potential_small c.self.invariant c.args.v,
     )
 
 pub returns-clause-value : goal.returns-clause-value
 returns-clause-value c =
-    let low : c.args.v < length c.self.inside.handles.hand.items =
+    let s = c.self.inside in
+    let low : c.args.v < length s.handles.hand.items =
     subst (λ (t : ForestTables). c.args.v < length t.hand) (sym c.self.view_is) c.requires in
     let more : get_or c.deref-5.result.now c.hand_of-handle.result (pos 0) +ℤ weight_change c.label_of-label.result
-    (to_z w128 (of_z w128 c.self.inside.weights.delta)) ≡ added c.self.inside.handles.hand.items
-    c.self.inside.handles.top.items c.self.inside.handles.off.items c.self.inside.tree.label.items
-    c.self.inside.weights.delta c.args.v =
-    added_bound _ _ c.self.invariant c.args.v low _ _ _ _ c.deref-5.ensures.value (cc) (cc)
-    (kept_in_bits _ (omega (arith, delta_small _ _ c.self.invariant))) in
-    let kept : to_z w128 (of_z w128 c.added_at-more.result) ≡ added c.self.inside.handles.hand.items
-    c.self.inside.handles.top.items c.self.inside.handles.off.items c.self.inside.tree.label.items
-    c.self.inside.weights.delta c.args.v =
-    omega (arith, ints, more, c.added_at-more.ensures, added_small _ _ c.self.invariant c.args.v low) in
+    (to_z w128 (of_z w128 s.weights.delta)) ≡ added s.handles.hand.items s.handles.top.items s.handles.off.items
+    s.tree.label.items s.weights.delta c.args.v = added_bound c.self.invariant c.args.v low _ _ c.deref-5.ensures.value
+    (cc) (cc) (kept_in_bits _ (omega (arith, delta_small c.self.invariant))) in
+    let kept : to_z w128 (of_z w128 c.added_at-more.result) ≡ added s.handles.hand.items s.handles.top.items
+    s.handles.off.items s.tree.label.items s.weights.delta c.args.v = omega
+    (arith, ints, more, c.added_at-more.ensures, added_small c.self.invariant c.args.v low) in
     omega (
       arith,
       ints,
       c.sum_at.ensures,
-      told_bound _ _ c.self.invariant c.args.v low c.deref-6.result.now _
-          c.deref-6.ensures.value kept,
-      potential_small _ _ c.self.invariant c.args.v,
+      told_bound c.self.invariant c.args.v low c.deref-6.ensures.value kept,
+      potential_small c.self.invariant c.args.v,
       ap (λ (t : ForestTables). potential (forest_of t) c.args.v) c.self.view_is,
     )

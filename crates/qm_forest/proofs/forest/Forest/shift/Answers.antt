@@ -11,36 +11,33 @@ use Rattle.qm_forest.proofs.Shifted.{seen_shift_tied, seen_still, tied_shift, va
 use Rattle.qm_forest.proofs.forest.Forest.shift.Goals as goal
 
 pub overflow_add-self : goal.overflow_add-self
-overflow_add-self c = omega (arith, ints, delta_small _ _ c.self.invariant, c.from.ensures, c.ranges.t)
+overflow_add-self c = omega (arith, ints, delta_small c.self.invariant, c.from.ensures, c.ranges.t)
 
 pub invariant_of-self : goal.invariant_of-self
 invariant_of-self c =
     let w : (r : ℕ) × (c.self.inside.tree.root ≡ Some r) = some_of c.self.inside.tree.root (cc) in
-    tied_shift _ _ c.self.invariant (graph c.args.g.now) c.requires.graph.lawful
-    (subst (λ (t : ForestTables). IsValidFor (graph c.args.g.now) t) (sym c.self.view_is) c.requires.valid) w.0 w.1
-    c.args.t _ (omega (arith, ints, delta_small _ _ c.self.invariant, c.from.ensures, c.ranges.t))
-    c.requires.positive
+    tied_shift c.self.invariant c.requires.graph.lawful (subst (λ (t : ForestTables). IsValidFor (graph c.args.g.now) t)
+    (sym c.self.view_is) c.requires.valid) w.0 w.1 c.args.t _ (omega
+    (arith, ints, delta_small c.self.invariant, c.from.ensures, c.ranges.t)) c.requires.positive
     (subst (λ (t : ForestTables). (b : ℕ) → unsigned_abs ((shifted (forest_of t) c.args.t).weight b) ≤ 2 ^ 62)
     (sym c.self.view_is) c.requires.small)
 
 pub returns-then-is_some-clause-changed : goal.returns-then-is_some-clause-changed
-returns-then-is_some-clause-changed c =
-    seen_shift_tied _ _ c.self.invariant c.args.t _ (omega (
-      arith,
-      ints,
-      delta_small _ _ c.self.invariant,
-      c.from.ensures,
-      c.ranges.t,
-    )) ∙ ap (λ (t : ForestTables). shifted (forest_of t) c.args.t) c.self.view_is
+returns-then-is_some-clause-changed c = seen_shift_tied c.self.invariant c.args.t _ (omega (
+  arith,
+  ints,
+  delta_small c.self.invariant,
+  c.from.ensures,
+  c.ranges.t,
+)) ∙ ap (λ (t : ForestTables). shifted (forest_of t) c.args.t) c.self.view_is
 
 pub returns-then-is_some-clause-valid : goal.returns-then-is_some-clause-valid
-returns-then-is_some-clause-valid c = valid_shift _ _ (graph c.args.g.now) c.args.t c.requires.graph.lawful
+returns-then-is_some-clause-valid c = valid_shift _ c.args.t c.requires.graph.lawful
     (subst (λ (t : ForestTables). IsValidFor (graph c.args.g.now) t) (sym c.self.view_is) c.requires.valid)
     (subst (λ (t : ForestTables). IsFeasible (darts_of (graph c.args.g.now)) (shifted (forest_of t) c.args.t))
-    (sym c.self.view_is) c.requires.feasible) (seen_shift_tied _ _ c.self.invariant c.args.t _
-    (omega (arith, ints, delta_small _ _ c.self.invariant, c.from.ensures, c.ranges.t))) refl refl refl
+    (sym c.self.view_is) c.requires.feasible) (seen_shift_tied c.self.invariant c.args.t _
+    (omega (arith, ints, delta_small c.self.invariant, c.from.ensures, c.ranges.t))) refl refl refl
 
 pub returns-else-is_some-clause-changed : goal.returns-else-is_some-clause-changed
-returns-else-is_some-clause-changed c =
-    seen_still (graph c.args.g.now) _ c.args.t c.requires.valid
+returns-else-is_some-clause-changed c = seen_still c.args.t c.requires.valid
     (none_of _ (ap (λ (t : ForestTables). is_some t.root) (sym c.self.view_is) ∙ cc))

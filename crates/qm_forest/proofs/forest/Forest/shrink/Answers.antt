@@ -11,33 +11,28 @@ use Rattle.qm_forest.proofs.forest.Forest.shrink.Goals as goal
 
 pub mate-mate-requires : goal.mate-mate-requires
 mate-mate-requires c = top_low (graph c.args.g.now) c.requires.graph c.args.self.now c.requires.valid (2 * c.args.e)
-    (shrinks (graph c.args.g.now) c.requires.graph (forest_of c.args.self.now) c.requires.valid.valid.feasible c.args.e
-    c.requires.edge c.requires.kind).tight (shrinks (graph c.args.g.now) c.requires.graph (forest_of c.args.self.now)
-    c.requires.valid.valid.feasible c.args.e c.requires.edge c.requires.kind).outer_near
-    (shrinks (graph c.args.g.now) c.requires.graph (forest_of c.args.self.now) c.requires.valid.valid.feasible c.args.e
-    c.requires.edge c.requires.kind).outer_far (shrinks (graph c.args.g.now) c.requires.graph
-    (forest_of c.args.self.now) c.requires.valid.valid.feasible c.args.e c.requires.edge c.requires.kind).apart
+    (shrinks c.requires.graph c.requires.valid.valid.feasible c.args.e c.requires.edge c.requires.kind).tight
+    (shrinks c.requires.graph c.requires.valid.valid.feasible c.args.e c.requires.edge c.requires.kind).outer_near
+    (shrinks c.requires.graph c.requires.valid.valid.feasible c.args.e c.requires.edge c.requires.kind).outer_far
+    (shrinks c.requires.graph c.requires.valid.valid.feasible c.args.e c.requires.edge c.requires.kind).apart
     c.fork-fork.result.top c.fork-fork.result.left c.fork-fork.result.right
-    (met_at (darts_of (graph c.args.g.now)) (forest_of c.args.self.now) c.outermost-a.result c.far_blossom-c.result _ _
-    _ _ _ (c.outermost-a.ensures.value ∙ ap (forest_of c.args.self.now).out c.near.ensures)
+    (met_at (c.outermost-a.ensures.value ∙ ap (forest_of c.args.self.now).out c.near.ensures)
     c.far_blossom-c.ensures.value c.fork-fork.ensures.meeting)
 
 pub lay_ring-requires-clause-ways : goal.lay_ring-requires-clause-ways
 lay_ring-requires-clause-ways c = (
-  outer_named _ (shrinks (graph c.args.g.now) c.requires.graph (forest_of c.args.self.now)
+  outer_named (shrinks c.requires.graph
       c.requires.valid.valid.feasible c.args.e c.requires.edge c.requires.kind).outer_near,
-  outer_named _ (shrinks (graph c.args.g.now) c.requires.graph (forest_of c.args.self.now)
+  outer_named (shrinks c.requires.graph
       c.requires.valid.valid.feasible c.args.e c.requires.edge c.requires.kind).outer_far,
 )
 
 pub overflow_add-fork : goal.overflow_add-fork
 overflow_add-fork c = omega (
   arith,
-  (met_at (darts_of (graph c.args.g.now)) (forest_of c.args.self.now) c.outermost-a.result c.far_blossom-c.result _
-      _ _ _ _ (c.outermost-a.ensures.value ∙ ap (forest_of c.args.self.now).out c.near.ensures)
+  (met_at (c.outermost-a.ensures.value ∙ ap (forest_of c.args.self.now).out c.near.ensures)
       c.far_blossom-c.ensures.value c.fork-fork.ensures.meeting).x_low,
-  (met_at (darts_of (graph c.args.g.now)) (forest_of c.args.self.now) c.outermost-a.result c.far_blossom-c.result _
-      _ _ _ _ (c.outermost-a.ensures.value ∙ ap (forest_of c.args.self.now).out c.near.ensures)
+  (met_at (c.outermost-a.ensures.value ∙ ap (forest_of c.args.self.now).out c.near.ensures)
       c.far_blossom-c.ensures.value c.fork-fork.ensures.meeting).y_low,
   level_few (darts_of (graph c.args.g.now)) (forest_of c.args.self.now)
       ((forest_of c.args.self.now).out ((darts_of (graph c.args.g.now)).near (2 * c.args.e))),
@@ -49,11 +44,9 @@ overflow_add-fork c = omega (
 pub overflow_add-fork-2 : goal.overflow_add-fork-2
 overflow_add-fork-2 c = omega (
   arith,
-  (met_at (darts_of (graph c.args.g.now)) (forest_of c.args.self.now) c.outermost-a.result c.far_blossom-c.result _
-      _ _ _ _ (c.outermost-a.ensures.value ∙ ap (forest_of c.args.self.now).out c.near.ensures)
+  (met_at (c.outermost-a.ensures.value ∙ ap (forest_of c.args.self.now).out c.near.ensures)
       c.far_blossom-c.ensures.value c.fork-fork.ensures.meeting).x_low,
-  (met_at (darts_of (graph c.args.g.now)) (forest_of c.args.self.now) c.outermost-a.result c.far_blossom-c.result _
-      _ _ _ _ (c.outermost-a.ensures.value ∙ ap (forest_of c.args.self.now).out c.near.ensures)
+  (met_at (c.outermost-a.ensures.value ∙ ap (forest_of c.args.self.now).out c.near.ensures)
       c.far_blossom-c.ensures.value c.fork-fork.ensures.meeting).y_low,
   level_few (darts_of (graph c.args.g.now)) (forest_of c.args.self.now)
       ((forest_of c.args.self.now).out ((darts_of (graph c.args.g.now)).near (2 * c.args.e))),
@@ -64,62 +57,50 @@ overflow_add-fork-2 c = omega (
 
 pub close_ring-requires-clause-tops : goal.close_ring-requires-clause-tops
 close_ring-requires-clause-tops c = tops_laid (graph c.args.g.now) c.requires.graph c.args.self.now c.requires.valid
-    (2 * c.args.e) (shrinks (graph c.args.g.now) c.requires.graph (forest_of c.args.self.now)
-    c.requires.valid.valid.feasible c.args.e c.requires.edge c.requires.kind).tight
-    (shrinks (graph c.args.g.now) c.requires.graph (forest_of c.args.self.now) c.requires.valid.valid.feasible c.args.e
-    c.requires.edge c.requires.kind).outer_near (shrinks (graph c.args.g.now) c.requires.graph
-    (forest_of c.args.self.now) c.requires.valid.valid.feasible c.args.e c.requires.edge c.requires.kind).outer_far
-    (shrinks (graph c.args.g.now) c.requires.graph (forest_of c.args.self.now) c.requires.valid.valid.feasible c.args.e
-    c.requires.edge c.requires.kind).apart c.fork-fork.result.top c.fork-fork.result.left c.fork-fork.result.right
-    (met_at (darts_of (graph c.args.g.now)) (forest_of c.args.self.now) c.outermost-a.result c.far_blossom-c.result _ _
-    _ _ _ (c.outermost-a.ensures.value ∙ ap (forest_of c.args.self.now).out c.near.ensures)
+    (2 * c.args.e) (shrinks c.requires.graph c.requires.valid.valid.feasible c.args.e c.requires.edge
+    c.requires.kind).tight (shrinks c.requires.graph c.requires.valid.valid.feasible c.args.e c.requires.edge
+    c.requires.kind).outer_near (shrinks c.requires.graph c.requires.valid.valid.feasible c.args.e c.requires.edge
+    c.requires.kind).outer_far (shrinks c.requires.graph c.requires.valid.valid.feasible c.args.e c.requires.edge
+    c.requires.kind).apart c.fork-fork.result.top c.fork-fork.result.left c.fork-fork.result.right
+    (met_at (c.outermost-a.ensures.value ∙ ap (forest_of c.args.self.now).out c.near.ensures)
     c.far_blossom-c.ensures.value c.fork-fork.ensures.meeting) c.lay_ring.new.self c.lay_ring.ensures.seen
     c.lay_ring.ensures.same
 
 pub close_ring-requires-clause-free : goal.close_ring-requires-clause-free
 close_ring-requires-clause-free c = λ left gone same. free_ring (graph c.args.g.now) c.requires.graph c.args.self.now
-    c.requires.valid (2 * c.args.e) (shrinks (graph c.args.g.now) c.requires.graph (forest_of c.args.self.now)
-    c.requires.valid.valid.feasible c.args.e c.requires.edge c.requires.kind).tight
-    (shrinks (graph c.args.g.now) c.requires.graph (forest_of c.args.self.now) c.requires.valid.valid.feasible c.args.e
-    c.requires.edge c.requires.kind).outer_near (shrinks (graph c.args.g.now) c.requires.graph
-    (forest_of c.args.self.now) c.requires.valid.valid.feasible c.args.e c.requires.edge c.requires.kind).outer_far
-    (shrinks (graph c.args.g.now) c.requires.graph (forest_of c.args.self.now) c.requires.valid.valid.feasible c.args.e
-    c.requires.edge c.requires.kind).apart c.fork-fork.result.top c.fork-fork.result.left c.fork-fork.result.right
-    (met_at (darts_of (graph c.args.g.now)) (forest_of c.args.self.now) c.outermost-a.result c.far_blossom-c.result _ _
-    _ _ _ (c.outermost-a.ensures.value ∙ ap (forest_of c.args.self.now).out c.near.ensures)
+    c.requires.valid (2 * c.args.e) (shrinks c.requires.graph c.requires.valid.valid.feasible c.args.e c.requires.edge
+    c.requires.kind).tight (shrinks c.requires.graph c.requires.valid.valid.feasible c.args.e c.requires.edge
+    c.requires.kind).outer_near (shrinks c.requires.graph c.requires.valid.valid.feasible c.args.e c.requires.edge
+    c.requires.kind).outer_far (shrinks c.requires.graph c.requires.valid.valid.feasible c.args.e c.requires.edge
+    c.requires.kind).apart c.fork-fork.result.top c.fork-fork.result.left c.fork-fork.result.right
+    (met_at (c.outermost-a.ensures.value ∙ ap (forest_of c.args.self.now).out c.near.ensures)
     c.far_blossom-c.ensures.value c.fork-fork.ensures.meeting) c.lay_ring.new.self left c.lay_ring.ensures.seen
     c.lay_ring.ensures.same gone same
 
 pub returns-clause-changed : goal.returns-clause-changed
 returns-clause-changed c = shrinking (graph c.args.g.now) c.requires.graph c.args.self.now c.requires.valid
-    (2 * c.args.e) (shrinks (graph c.args.g.now) c.requires.graph (forest_of c.args.self.now)
-    c.requires.valid.valid.feasible c.args.e c.requires.edge c.requires.kind).tight
-    (shrinks (graph c.args.g.now) c.requires.graph (forest_of c.args.self.now) c.requires.valid.valid.feasible c.args.e
-    c.requires.edge c.requires.kind).outer_near (shrinks (graph c.args.g.now) c.requires.graph
-    (forest_of c.args.self.now) c.requires.valid.valid.feasible c.args.e c.requires.edge c.requires.kind).outer_far
-    (shrinks (graph c.args.g.now) c.requires.graph (forest_of c.args.self.now) c.requires.valid.valid.feasible c.args.e
-    c.requires.edge c.requires.kind).apart c.fork-fork.result.top c.fork-fork.result.left c.fork-fork.result.right
-    (met_at (darts_of (graph c.args.g.now)) (forest_of c.args.self.now) c.outermost-a.result c.far_blossom-c.result _ _
-    _ _ _ (c.outermost-a.ensures.value ∙ ap (forest_of c.args.self.now).out c.near.ensures)
+    (2 * c.args.e) (shrinks c.requires.graph c.requires.valid.valid.feasible c.args.e c.requires.edge
+    c.requires.kind).tight (shrinks c.requires.graph c.requires.valid.valid.feasible c.args.e c.requires.edge
+    c.requires.kind).outer_near (shrinks c.requires.graph c.requires.valid.valid.feasible c.args.e c.requires.edge
+    c.requires.kind).outer_far (shrinks c.requires.graph c.requires.valid.valid.feasible c.args.e c.requires.edge
+    c.requires.kind).apart c.fork-fork.result.top c.fork-fork.result.left c.fork-fork.result.right
+    (met_at (c.outermost-a.ensures.value ∙ ap (forest_of c.args.self.now).out c.near.ensures)
     c.far_blossom-c.ensures.value c.fork-fork.ensures.meeting) c.lay_ring.new.self c.close_ring.ensures.left
     c.lay_ring.ensures.seen c.lay_ring.ensures.same c.close_ring.ensures.gone c.close_ring.ensures.same
-    c.close_ring.new.self c.mate-mate.result c.mate-mate.ensures c.close_ring.ensures.gathered c.close_ring.ensures.b
+    c.close_ring.new.self c.mate-mate.ensures c.close_ring.ensures.gathered
     c.close_ring.ensures.vertex c.close_ring.ensures.is c.close_ring.ensures.holds c.close_ring.ensures.done
     c.close_ring.ensures.root c.close_ring.ensures.hand
 
 pub returns-clause-valid : goal.returns-clause-valid
 returns-clause-valid c = shrunk_tables (graph c.args.g.now) c.requires.graph c.args.self.now c.requires.valid
-    (2 * c.args.e) (shrinks (graph c.args.g.now) c.requires.graph (forest_of c.args.self.now)
-    c.requires.valid.valid.feasible c.args.e c.requires.edge c.requires.kind).tight
-    (shrinks (graph c.args.g.now) c.requires.graph (forest_of c.args.self.now) c.requires.valid.valid.feasible c.args.e
-    c.requires.edge c.requires.kind).outer_near (shrinks (graph c.args.g.now) c.requires.graph
-    (forest_of c.args.self.now) c.requires.valid.valid.feasible c.args.e c.requires.edge c.requires.kind).outer_far
-    (shrinks (graph c.args.g.now) c.requires.graph (forest_of c.args.self.now) c.requires.valid.valid.feasible c.args.e
-    c.requires.edge c.requires.kind).apart c.fork-fork.result.top c.fork-fork.result.left c.fork-fork.result.right
-    (met_at (darts_of (graph c.args.g.now)) (forest_of c.args.self.now) c.outermost-a.result c.far_blossom-c.result _ _
-    _ _ _ (c.outermost-a.ensures.value ∙ ap (forest_of c.args.self.now).out c.near.ensures)
+    (2 * c.args.e) (shrinks c.requires.graph c.requires.valid.valid.feasible c.args.e c.requires.edge
+    c.requires.kind).tight (shrinks c.requires.graph c.requires.valid.valid.feasible c.args.e c.requires.edge
+    c.requires.kind).outer_near (shrinks c.requires.graph c.requires.valid.valid.feasible c.args.e c.requires.edge
+    c.requires.kind).outer_far (shrinks c.requires.graph c.requires.valid.valid.feasible c.args.e c.requires.edge
+    c.requires.kind).apart c.fork-fork.result.top c.fork-fork.result.left c.fork-fork.result.right
+    (met_at (c.outermost-a.ensures.value ∙ ap (forest_of c.args.self.now).out c.near.ensures)
     c.far_blossom-c.ensures.value c.fork-fork.ensures.meeting) c.lay_ring.new.self c.close_ring.ensures.left
     c.lay_ring.ensures.seen c.lay_ring.ensures.same c.close_ring.ensures.gone c.close_ring.ensures.same
-    c.close_ring.new.self c.mate-mate.result c.mate-mate.ensures c.close_ring.ensures.gathered c.close_ring.ensures.b
+    c.close_ring.new.self c.mate-mate.ensures c.close_ring.ensures.gathered
     c.close_ring.ensures.vertex c.close_ring.ensures.is c.close_ring.ensures.holds c.close_ring.ensures.done
     c.close_ring.ensures.root c.close_ring.ensures.hand c.close_ring.ensures.fixed

@@ -5,25 +5,22 @@ use Rattle.qm_forest.proofs.forest.Forest.steps_to.Goals as goal
 
 pub rise-requires : goal.rise-requires
 rise-requires c = named_low (graph c.args.g.now) c.requires.graph c.args.self.now c.requires.valid c.loop-at.at
-    (climbed_named (graph c.args.g.now) c.requires.graph c.args.self.now c.requires.valid c.args.b c.requires.named
-    c.loop-at.at c.loop-at.count c.loop-at.invariant)
+    (climbed_named (graph c.args.g.now) c.requires.graph c.args.self.now c.requires.valid c.requires.named
+    c.loop-at.invariant)
 
 pub far_blossom-at-requires-clause-dart : goal.far_blossom-at-requires-clause-dart
 far_blossom-at-requires-clause-dart c = rise_low (graph c.args.g.now) c.requires.graph c.args.self.now c.requires.valid
-    c.loop-at.at (climbed_named (graph c.args.g.now) c.requires.graph c.args.self.now c.requires.valid c.args.b
-    c.requires.named c.loop-at.at c.loop-at.count c.loop-at.invariant) c.in-Some.d (sym c.rise.ensures.value
-    ∙ c.in-Some.is)
+    c.loop-at.at (climbed_named (graph c.args.g.now) c.requires.graph c.args.self.now c.requires.valid c.requires.named
+    c.loop-at.invariant) c.in-Some.d (sym c.rise.ensures.value ∙ c.in-Some.is)
 
 pub loop-at-smaller : goal.loop-at-smaller
 loop-at-smaller c = omega (
   arith,
   (far_level (graph c.args.g.now) c.requires.graph c.args.self.now c.requires.valid c.loop-at.at
-      (climbed_named (graph c.args.g.now) c.requires.graph c.args.self.now c.requires.valid c.args.b c.requires.named
-      c.loop-at.at c.loop-at.count c.loop-at.invariant) c.in-Some.d (sym c.rise.ensures.value ∙ c.in-Some.is)
-      c.far_blossom-at.result c.far_blossom-at.ensures.value).1,
+      (climbed_named (graph c.args.g.now) c.requires.graph c.args.self.now c.requires.valid c.requires.named
+      c.loop-at.invariant) c.in-Some.d (sym c.rise.ensures.value ∙ c.in-Some.is) c.far_blossom-at.ensures.value).1,
 )
 
 pub loop-at-preserved : goal.loop-at-preserved
-loop-at-preserved c = far_way (graph c.args.g.now) c.requires.graph c.args.self.now c.requires.valid c.args.b
-    c.requires.named c.loop-at.at c.loop-at.count c.in-Some.d c.far_blossom-at.result c.loop-at.invariant
-    (sym c.rise.ensures.value ∙ c.in-Some.is) c.far_blossom-at.ensures.value
+loop-at-preserved c = far_way (graph c.args.g.now) c.requires.graph c.args.self.now c.requires.valid c.requires.named
+    c.in-Some.d c.loop-at.invariant (sym c.rise.ensures.value ∙ c.in-Some.is) c.far_blossom-at.ensures.value

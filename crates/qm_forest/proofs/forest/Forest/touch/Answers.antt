@@ -11,11 +11,11 @@ unwrap-requires c =
     let low : c.args.v < length c.self.inside.handles.hand.items =
     subst (λ (t : ForestTables). c.args.v < length t.hand) (sym c.self.view_is) c.requires in
     let off : get_or c.self.inside.trail.touched.items c.args.v false ≡ false =
-    mark_read _ c.args.v _ false (subst (λ n. c.args.v < n) (sym c.self.invariant.sizes.touched) low)
+    mark_read _ c.args.v false (subst (λ n. c.args.v < n) (sym c.self.invariant.sizes.touched) low)
     c.index.ensures ∙ c.if-not-index.true in
     c.push.ensures.succeeds (omega (
       arith,
-      trail_room _ _ c.self.invariant c.args.v low off,
+      trail_room c.self.invariant c.args.v low off,
       c.self.inside.trail.vertices.ok.0,
     ))
 
@@ -24,9 +24,9 @@ invariant_of-self c =
     let low : c.args.v < length c.self.inside.handles.hand.items =
     subst (λ (t : ForestTables). c.args.v < length t.hand) (sym c.self.view_is) c.requires in
     let off : get_or c.self.inside.trail.touched.items c.args.v false ≡ false =
-    mark_read _ c.args.v _ false (subst (λ n. c.args.v < n) (sym c.self.invariant.sizes.touched) low)
+    mark_read _ c.args.v false (subst (λ n. c.args.v < n) (sym c.self.invariant.sizes.touched) low)
     c.index.ensures ∙ c.if-not-index.true in
-    tied_touched _ _ c.self.invariant c.args.v low off _ (grind (arith, common_steps)) _
+    tied_touched c.self.invariant c.args.v low off _ (grind (arith, common_steps)) _
     (omega (arith, c.push.ensures.capacity))
 
 pub returns-else-not-index-clause-here : goal.returns-else-not-index-clause-here
@@ -34,6 +34,5 @@ returns-else-not-index-clause-here c =
     let low : c.args.v < length c.self.inside.handles.hand.items =
     subst (λ (t : ForestTables). c.args.v < length t.hand) (sym c.self.view_is) c.requires in
     subst (λ (t : ForestTables). IsOnTrail t.trail c.args.v) c.self.view_is
-    (c.self.invariant.trail.marked c.args.v
-    (mark_read _ c.args.v _ false (subst (λ n. c.args.v < n) (sym c.self.invariant.sizes.touched) low)
-    c.index.ensures ∙ c.if-not-index.false))
+    (c.self.invariant.trail.marked c.args.v (mark_read _ c.args.v false
+    (subst (λ n. c.args.v < n) (sym c.self.invariant.sizes.touched) low) c.index.ensures ∙ c.if-not-index.false))

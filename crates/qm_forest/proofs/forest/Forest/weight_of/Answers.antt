@@ -5,20 +5,20 @@ use Rattle.qm_forest.proofs.Ranges.{delta_small, kept_in_bits, weight_read}
 use Rattle.qm_forest.proofs.forest.Forest.weight_of.Goals as goal
 
 pub weight_from-requires-clause-delta : goal.weight_from-requires-clause-delta
-weight_from-requires-clause-delta c = omega (arith, ints, delta_small _ _ c.self.invariant)
+weight_from-requires-clause-delta c = omega (arith, ints, delta_small c.self.invariant)
 
 pub overflow_cast-result : goal.overflow_cast-result
 overflow_cast-result c =
     let is : c.weight_from.result ≡ weight_at c.self.inside.weights.base.items c.self.inside.tree.label.items
-    c.self.inside.weights.delta c.args.b = weight_read _ _ _ _ _ _ _ _ c.weight_from.ensures c.deref.ensures.value
-    c.deref-2.ensures.value (kept_in_bits _ (omega (arith, delta_small _ _ c.self.invariant))) in
+    c.self.inside.weights.delta c.args.b = weight_read _ c.weight_from.ensures c.deref.ensures.value
+    c.deref-2.ensures.value (kept_in_bits _ (omega (arith, delta_small c.self.invariant))) in
     omega (arith, ints, is, c.self.invariant.numbers.small c.args.b)
 
 pub returns : goal.returns
 returns c =
     let is : c.weight_from.result ≡ weight_at c.self.inside.weights.base.items c.self.inside.tree.label.items
-    c.self.inside.weights.delta c.args.b = weight_read _ _ _ _ _ _ _ _ c.weight_from.ensures c.deref.ensures.value
-    c.deref-2.ensures.value (kept_in_bits _ (omega (arith, delta_small _ _ c.self.invariant))) in
+    c.self.inside.weights.delta c.args.b = weight_read _ c.weight_from.ensures c.deref.ensures.value
+    c.deref-2.ensures.value (kept_in_bits _ (omega (arith, delta_small c.self.invariant))) in
     omega (
       arith,
       ints,

@@ -10,27 +10,24 @@ use Rattle.qm_forest.proofs.forest.Forest.write_down.Goals as goal
 pub choose-requires-clause-room : goal.choose-requires-clause-room
 choose-requires-clause-room c =
     let known : IsLaminar c.args.self =
-    subst (λ (t : ForestTables). IsLaminar t) c.self.view_is (laminar _ _ c.self.invariant) in
+    subst (λ (t : ForestTables). IsLaminar t) c.self.view_is (laminar c.self.invariant) in
     let whole : length c.args.self.up ≡ length c.args.self.hand + length c.args.self.hand / 2 =
     subst (λ (t : ForestTables). length t.up ≡ length t.hand + length t.hand / 2) c.self.view_is
-    (whole_is _ _ c.self.invariant) in
-    has_room c.args.self known whole c.requires.valid.0 c.requires.valid.2 _ _ _ _ _ c.room.invariant c.args.room
-    c.room.view_is c.requires.valid.3
+    (whole_is c.self.invariant) in
+    has_room known whole c.requires.valid.2 c.room.invariant c.room.view_is c.requires.valid.3
 
 pub choose-requires-clause-begun : goal.choose-requires-clause-begun
 choose-requires-clause-begun c =
     let known : IsLaminar c.args.self =
-    subst (λ (t : ForestTables). IsLaminar t) c.self.view_is (laminar _ _ c.self.invariant) in
+    subst (λ (t : ForestTables). IsLaminar t) c.self.view_is (laminar c.self.invariant) in
     let whole : length c.args.self.up ≡ length c.args.self.hand + length c.args.self.hand / 2 =
     subst (λ (t : ForestTables). length t.up ≡ length t.hand + length t.hand / 2) c.self.view_is
-    (whole_is _ _ c.self.invariant) in
-    room_begun c.args.self known whole c.requires.valid.0 c.requires.valid.2 _ _ _ _ _ c.room.invariant c.args.room
-    c.room.view_is c.requires.valid.3
+    (whole_is c.self.invariant) in
+    room_begun known whole c.requires.valid.2 c.room.invariant c.room.view_is c.requires.valid.3
 
 pub list_set_weights-requires-clause-low : goal.list_set_weights-requires-clause-low
 list_set_weights-requires-clause-low c = subst (λ (xs : List (ℕ × ℕ)). (k : ℕ) → k < length xs
-    → set_in xs k < length c.args.self.up) (sym c.deref.ensures.value) (set_low c.args.self c.choose.new.sets.items
-    c.choose.ensures.sets)
+    → set_in xs k < length c.args.self.up) (sym c.deref.ensures.value) (set_low c.choose.ensures.sets)
 
 pub returns-clause-outline : goal.returns-clause-outline
 returns-clause-outline c = (
@@ -47,14 +44,14 @@ returns-clause-outline c = (
         (length c.args.self.hand) (set_in xs) (length xs) c.list_entries-near.result.1.items) c.deref-2.ensures.value
         c.list_entries-near.ensures.entries.2;
     whole = subst (λ (t : ForestTables). length t.up ≡ length t.hand + length t.hand / 2) c.self.view_is
-        (whole_is _ _ c.self.invariant);
+        (whole_is c.self.invariant);
     around = subst (λ (t : ForestTables). (x : ℕ) → up_at t.up x ≢ x → (length t.hand ≤ up_at t.up x)
         × (up_at t.up x < length t.up) × (get_or t.parts (up_at t.up x) 0 ≢ 0)) c.self.view_is
-        (around_used _ _ c.self.invariant);
+        (around_used c.self.invariant);
     inner = subst (λ (t : ForestTables). (x : ℕ) → up_at t.up x ≢ x → x < length t.up) c.self.view_is
-        (inner_low _ _ c.self.invariant);
+        (inner_low c.self.invariant);
     live = subst (λ (t : ForestTables). (x : ℕ) → up_at t.up x ≢ x → length t.hand ≤ x → get_or t.parts x 0 ≢ 0)
-        c.self.view_is (inner_live _ _ c.self.invariant);
+        c.self.view_is (inner_live c.self.invariant);
   },
 )
 
@@ -62,6 +59,5 @@ pub returns-clause-chosen : goal.returns-clause-chosen
 returns-clause-chosen c = (
   c.choose.new.round,
   c.choose.ensures.chosen,
-  subst (λ xs. AreMarked xs (length xs) c.list_marked.new.list.items)
-      c.deref-3.ensures.value c.list_marked.ensures,
+  subst (λ xs. AreMarked xs (length xs) c.list_marked.new.list.items) c.deref-3.ensures.value c.list_marked.ensures,
 )

@@ -9,8 +9,7 @@ new_from-requires-clause-numbers c =
     (subst (λ (y : List ℤ). AreFirst (graph c.args.g.now) y) (sym c.deref.ensures.value) c.in_ok-y.ensures).long
 
 pub new_from-requires-clause-small : goal.new_from-requires-clause-small
-new_from-requires-clause-small c =
-    first_small (graph c.args.g.now) c.deref.result.now (subst (λ (y : List ℤ). AreFirst (graph c.args.g.now) y)
+new_from-requires-clause-small c = first_small (subst (λ (y : List ℤ). AreFirst (graph c.args.g.now) y)
     (sym c.deref.ensures.value) c.in_ok-y.ensures)
 
 pub new_from-requires-clause-feasible : goal.new_from-requires-clause-feasible
@@ -19,8 +18,7 @@ new_from-requires-clause-feasible c =
 
 pub returns : goal.returns
 returns c = record {
-  made = made_first (graph c.args.g.now) c.deref.result.now c.in_ok-forest.forest c.in_ok-search.search.forest
-      (subst (λ (y : List ℤ). AreFirst (graph c.args.g.now) y) (sym c.deref.ensures.value) c.in_ok-y.ensures)
-      c.in_ok-search.ensures.same c.in_ok-forest.ensures.valid c.in_ok-forest.ensures.no_tree
-      c.in_ok-forest.ensures.size c.in_ok-forest.ensures.weights;
+  made = made_first (subst (λ (y : List ℤ). AreFirst (graph c.args.g.now) y)
+      (sym c.deref.ensures.value) c.in_ok-y.ensures) c.in_ok-search.ensures.same c.in_ok-forest.ensures.valid
+      c.in_ok-forest.ensures.no_tree c.in_ok-forest.ensures.size c.in_ok-forest.ensures.weights;
 }

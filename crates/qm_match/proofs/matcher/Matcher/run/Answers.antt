@@ -1,7 +1,6 @@
 use Rattle.std.proofs.Common.{ℕ, ◌≤◌, ◌∙◌, length, subst, sym}
 use Rattle.std.specs.Prelude.{unsigned_abs}
 use Rattle.def_matching.specs.Matching.{graph}
-use Rattle.def_matching.specs.Dual.{dual}
 use Rattle.def_forest.specs.Tables.{ForestTables, forest_of}
 use Rattle.def_forest.specs.Made.{IsMadeFor}
 use Rattle.qm_match.proofs.Outcomes.{increasing_low, run_bounded}
@@ -9,17 +8,15 @@ use Rattle.qm_match.proofs.Ready.{ready_idle}
 use Rattle.qm_match.proofs.matcher.Matcher.run.Goals as goal
 
 pub match_tight-requires-clause-idle : goal.match_tight-requires-clause-idle
-match_tight-requires-clause-idle c = ready_idle (graph c.args.g.now) c.self.inside.search c.requires.small
-    c.requires.cheap c.self.invariant (subst (λ (t : ForestTables). IsMadeFor (graph c.args.g.now) t)
-    (sym c.self.view_is) c.requires.made)
+match_tight-requires-clause-idle c = ready_idle c.requires.small c.requires.cheap c.self.invariant
+    (subst (λ (t : ForestTables). IsMadeFor (graph c.args.g.now) t) (sym c.self.view_is) c.requires.made)
 
 pub match_tight-requires-clause-known : goal.match_tight-requires-clause-known
 match_tight-requires-clause-known c = increasing_low 0 (length c.args.g.now.edges.items) c.args.known.now
     c.requires.known.increasing
 
 pub returns-clause-bounded : goal.returns-clause-bounded
-returns-clause-bounded c = λ first most each costs. run_bounded (graph c.args.g.now) c.self.inside.search
-    c.match_all.new.self (dual c.into_parts.result.1) c.self.invariant (c.match_all.ensures.first
-    ∙ c.match_tight.ensures.first) first most
+returns-clause-bounded c = λ first most each costs. run_bounded (graph c.args.g.now) c.match_all.new.self
+    c.self.invariant (c.match_all.ensures.first ∙ c.match_tight.ensures.first) first most
     (subst (λ (t : ForestTables). (b : ℕ) → unsigned_abs ((forest_of t).weight b) ≤ first) (sym c.self.view_is) each)
     (c.into_parts.ensures.bounded most costs)

@@ -1,17 +1,14 @@
 use Rattle.std.proofs.Common.{ap}
-use Rattle.def_matching.specs.Matching.{graph}
 use Rattle.def_forest.specs.Forests.{Forest}
 use Rattle.qm_match.proofs.Taken.{augmented_idle, made_after}
 use Rattle.qm_match.proofs.search.Search.augment.Goals as goal
 
 pub returns-clause-idle : goal.returns-clause-idle
-returns-clause-idle c = (augmented_idle (graph c.args.g.now) c.args.self.now c.augment.new.self _ c.requires.way
-    c.augment.ensures.valid c.augment.ensures.root c.augment.ensures.changed
-    (made_after (graph c.args.g.now) c.args.self.now c.augment.new.self c.requires.way.made
+returns-clause-idle c = (augmented_idle _ c.requires.way c.augment.ensures.valid c.augment.ensures.root
+    c.augment.ensures.changed (made_after c.augment.new.self c.requires.way.made
     (ap (λ (f : Forest). f.size) c.augment.ensures.changed.2.changed))).0
 
 pub returns-clause-ended : goal.returns-clause-ended
-returns-clause-ended c =
-    (augmented_idle (graph c.args.g.now) c.args.self.now c.augment.new.self _ c.requires.way c.augment.ensures.valid
-    c.augment.ensures.root c.augment.ensures.changed (made_after (graph c.args.g.now) c.args.self.now
-    c.augment.new.self c.requires.way.made (ap (λ (f : Forest). f.size) c.augment.ensures.changed.2.changed))).1
+returns-clause-ended c = (augmented_idle _ c.requires.way c.augment.ensures.valid c.augment.ensures.root
+    c.augment.ensures.changed (made_after c.augment.new.self c.requires.way.made
+    (ap (λ (f : Forest). f.size) c.augment.ensures.changed.2.changed))).1

@@ -1,7 +1,7 @@
 use Rattle.std.proofs.Common.{◌∙◌, sym, subst, ap}
 use Rattle.def_matching.specs.Matching.{graph}
 use Rattle.def_forest.specs.Forests.{Forest}
-use Rattle.def_forest.specs.Tables.{forest_of, IsValidFor}
+use Rattle.def_forest.specs.Tables.{IsValidFor}
 use Rattle.qm_match.specs.States.{IsFreshAt}
 use Rattle.qm_match.proofs.Taken.{begun_seeking, begun_way, made_after, may_vertex, right_in}
 use Rattle.qm_match.proofs.search.Search.begin.Goals as goal
@@ -10,8 +10,7 @@ pub refresh-requires : goal.refresh-requires
 refresh-requires c =
     let valid : IsValidFor (graph c.args.g.now) c.root.new.self =
     c.root.ensures.valid (graph c.args.g.now) c.requires.idle.made.small.lawful c.requires.idle.valid in
-    may_vertex (graph c.args.g.now) (record c.args.self.now { forest = c.root.new.self }) c.args.v c.outermost-b.result
-    (made_after (graph c.args.g.now) c.args.self.now c.root.new.self c.requires.idle.made
+    may_vertex c.args.v (made_after c.root.new.self c.requires.idle.made
     (ap (λ (f : Forest). f.size) c.root.ensures.changed)) valid c.requires.vertex
     (ap (λ (f : Forest). f.out c.args.v) c.root.ensures.changed ∙ sym c.outermost-b.ensures.value)
 
@@ -21,8 +20,7 @@ returns-clause-way c =
     c.root.ensures.valid (graph c.args.g.now) c.requires.idle.made.small.lawful c.requires.idle.valid in
     begun_way (graph c.args.g.now) c.args.self.now c.root.new.self c.refresh.new.self c.args.v c.requires.idle valid
     c.refresh.ensures.refreshed c.root.ensures.changed c.root.ensures.root
-    (right_in (graph c.args.g.now) c.args.self.now c.root.new.self c.refresh.new.self
-    ((forest_of c.args.self.now.forest).out c.args.v) c.refresh.ensures.refreshed
+    (right_in c.args.self.now c.root.new.self c.refresh.ensures.refreshed
     (subst (λ x. IsFreshAt (graph c.args.g.now) c.refresh.new.self x) c.outermost-b.ensures.value
     c.refresh.ensures.here))
 

@@ -9,67 +9,55 @@ use Rattle.qm_match.proofs.Taken.{opened_place, part_of, right_in, way_with_part
 use Rattle.qm_match.proofs.search.Search.expand.Goals as goal
 
 pub list_parts-requires-clause-live : goal.list_parts-requires-clause-live
-list_parts-requires-clause-live c = inner_live (graph c.args.g.now) c.args.self.now.forest c.args.b c.requires.way.valid
-    c.requires.set c.requires.inner
+list_parts-requires-clause-live c = inner_live c.args.b c.requires.way.valid c.requires.set c.requires.inner
 
 pub refresh_parts-requires-clause-may : goal.refresh_parts-requires-clause-may
 refresh_parts-requires-clause-may c =
-    let way : IsUnderWay (graph c.args.g.now) c.list_parts.new.self =
-    way_with_parts (graph c.args.g.now) c.args.self.now c.list_parts.new.self c.requires.way
-    c.list_parts.ensures.same c.list_parts.ensures.room in
+    let way : IsUnderWay (graph c.args.g.now) c.list_parts.new.self = way_with_parts
+    c.requires.way c.list_parts.ensures.same c.list_parts.ensures.room in
     let forest_is : c.list_parts.new.self.forest ≡ c.args.self.now.forest =
     ap (λ (s : Search). s.forest) c.list_parts.ensures.same in
-    let made : IsMade (graph c.args.g.now) (record c.list_parts.new.self { forest = c.expand.new.self }) =
-    made_after (graph c.args.g.now) c.list_parts.new.self c.expand.new.self way.made
-    c.expand.ensures.changed.opened.size in
+    let made : IsMade (graph c.args.g.now) (record c.list_parts.new.self { forest = c.expand.new.self }) = made_after
+    c.expand.new.self way.made c.expand.ensures.changed.opened.size in
     λ k l. subst (λ p. MayRefresh (graph c.args.g.now) (record c.list_parts.new.self { forest = c.expand.new.self }) p)
-    (ap (λ (t : ForestTables). part_of t c.args.b k) forest_is
-    ∙ sym (c.list_parts.ensures.each k (subst (λ n. k < n) c.list_parts.ensures.count l)))
-    (opened_may (graph c.args.g.now) c.list_parts.new.self c.expand.new.self c.args.b way c.expand.ensures.valid
-    c.expand.ensures.changed k (record c.list_parts.new.self { forest = c.expand.new.self }) refl made)
+    (ap (λ (t : ForestTables). part_of t c.args.b k) forest_is ∙ sym
+    (c.list_parts.ensures.each k (subst (λ n. k < n) c.list_parts.ensures.count l)))
+    (opened_may way c.expand.ensures.valid c.expand.ensures.changed k refl made)
 
 pub returns-clause-way : goal.returns-clause-way
 returns-clause-way c =
-    let way : IsUnderWay (graph c.args.g.now) c.list_parts.new.self =
-    way_with_parts (graph c.args.g.now) c.args.self.now c.list_parts.new.self c.requires.way
-    c.list_parts.ensures.same c.list_parts.ensures.room in
+    let way : IsUnderWay (graph c.args.g.now) c.list_parts.new.self = way_with_parts
+    c.requires.way c.list_parts.ensures.same c.list_parts.ensures.room in
     let forest_is : c.list_parts.new.self.forest ≡ c.args.self.now.forest =
     ap (λ (s : Search). s.forest) c.list_parts.ensures.same in
     let x = c.expand.ensures.changed in
-    expanded_way (graph c.args.g.now) c.list_parts.new.self c.expand.new.self c.refresh_parts.new.self c.args.b way
-    c.expand.ensures.valid c.refresh_parts.ensures.refreshed x c.expand.ensures.root
+    expanded_way way c.expand.ensures.valid c.refresh_parts.ensures.refreshed x c.expand.ensures.root
     (λ j l. (let w : (k : ℕ) × (k < get_or c.list_parts.new.self.forest.parts c.args.b 0)
-    × (part_of c.list_parts.new.self.forest c.args.b k ≡ x.o.q j) =
-    opened_place (graph c.args.g.now) c.list_parts.new.self c.expand.new.self c.args.b way
-    c.expand.ensures.valid x j l in
+    × (part_of c.list_parts.new.self.forest c.args.b k ≡ x.o.q j) = opened_place way c.expand.ensures.valid x j l in
     let few : w.0 < get_or c.args.self.now.forest.parts c.args.b 0 =
     subst (λ (t : ForestTables). w.0 < get_or t.parts c.args.b 0) forest_is w.1 in
     let at : get_or c.list_parts.new.self.parts.items w.0 0 ≡ x.o.q j = c.list_parts.ensures.each w.0 few
     ∙ (ap (λ (t : ForestTables). part_of t c.args.b w.0) (sym forest_is) ∙ w.2) in
-    right_in (graph c.args.g.now) c.list_parts.new.self c.expand.new.self c.refresh_parts.new.self (x.o.q j)
-    c.refresh_parts.ensures.refreshed
+    right_in c.list_parts.new.self c.expand.new.self c.refresh_parts.ensures.refreshed
     (subst (λ p. IsFreshAt (graph c.args.g.now) c.refresh_parts.new.self p) at
     (c.refresh_parts.ensures.here w.0 (subst (λ n. w.0 < n) (sym c.list_parts.ensures.count) few)))))
 
 pub returns-clause-goes_on : goal.returns-clause-goes_on
 returns-clause-goes_on c =
-    let way : IsUnderWay (graph c.args.g.now) c.list_parts.new.self =
-    way_with_parts (graph c.args.g.now) c.args.self.now c.list_parts.new.self c.requires.way
-    c.list_parts.ensures.same c.list_parts.ensures.room in
+    let way : IsUnderWay (graph c.args.g.now) c.list_parts.new.self = way_with_parts
+    c.requires.way c.list_parts.ensures.same c.list_parts.ensures.room in
     let forest_is : c.list_parts.new.self.forest ≡ c.args.self.now.forest =
     ap (λ (s : Search). s.forest) c.list_parts.ensures.same in
     subst (λ (t : ForestTables). GoesOn c.args.g.now.n t c.refresh_parts.new.self.forest) forest_is
-    (expanded_on (graph c.args.g.now) c.list_parts.new.self c.expand.new.self c.refresh_parts.new.self c.args.b way
+    (expanded_on way
     c.expand.ensures.valid c.refresh_parts.ensures.refreshed c.expand.ensures.changed c.expand.ensures.root)
 
 pub returns-clause-fewer : goal.returns-clause-fewer
 returns-clause-fewer c =
-    let way : IsUnderWay (graph c.args.g.now) c.list_parts.new.self =
-    way_with_parts (graph c.args.g.now) c.args.self.now c.list_parts.new.self c.requires.way
-    c.list_parts.ensures.same c.list_parts.ensures.room in
+    let way : IsUnderWay (graph c.args.g.now) c.list_parts.new.self = way_with_parts
+    c.requires.way c.list_parts.ensures.same c.list_parts.ensures.room in
     let forest_is : c.list_parts.new.self.forest ≡ c.args.self.now.forest =
     ap (λ (s : Search). s.forest) c.list_parts.ensures.same in
-    subst (λ (t : ForestTables). steps_left c.args.g.now.n (forest_of c.refresh_parts.new.self.forest)
-    < steps_left c.args.g.now.n (forest_of t)) forest_is
-    (expanded_less (graph c.args.g.now) c.list_parts.new.self c.expand.new.self c.refresh_parts.new.self c.args.b way
-    c.expand.ensures.valid c.refresh_parts.ensures.refreshed c.expand.ensures.changed)
+    subst (λ (t : ForestTables). steps_left c.args.g.now.n (forest_of c.refresh_parts.new.self.forest) < steps_left
+    c.args.g.now.n (forest_of t)) forest_is (expanded_less way c.expand.ensures.valid c.refresh_parts.ensures.refreshed
+    c.expand.ensures.changed)

@@ -4,15 +4,13 @@ use Rattle.qm_match.proofs.Outcomes.{bounded_dual, met_verdict, small_dual}
 use Rattle.qm_match.proofs.search.Search.into_parts.Goals as goal
 
 pub returns-clause-dual : goal.returns-clause-dual
-returns-clause-dual c = small_dual (graph c.args.g.now) c.args.self (dual c.into_parts.result.1) c.requires.idle
-    c.requires.known c.into_parts.ensures.dual c.into_parts.ensures.few
+returns-clause-dual c = small_dual c.requires.idle c.requires.known c.into_parts.ensures.dual c.into_parts.ensures.few
 
 pub returns-clause-bounded : goal.returns-clause-bounded
-returns-clause-bounded c = bounded_dual (graph c.args.g.now) c.args.self (dual c.into_parts.result.1) c.requires.idle
+returns-clause-bounded c = bounded_dual c.requires.idle
     c.requires.known c.into_parts.ensures.dual c.into_parts.ensures.few
 
 pub returns-clause-least : goal.returns-clause-least
-returns-clause-least c = met_verdict (graph c.args.g.now) (dual c.into_parts.result.1) _
-    (c.into_parts.ensures.yes (graph c.args.g.now) c.requires.idle.made.small c.requires.idle.valid)
-    (c.into_parts.ensures.perfect (graph c.args.g.now) c.requires.idle.made.small c.requires.idle.valid
-    c.requires.all).1
+returns-clause-least c = met_verdict (c.into_parts.ensures.yes (graph c.args.g.now) c.requires.idle.made.small
+    c.requires.idle.valid) (c.into_parts.ensures.perfect (graph c.args.g.now) c.requires.idle.made.small
+    c.requires.idle.valid c.requires.all).1

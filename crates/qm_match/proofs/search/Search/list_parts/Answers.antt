@@ -1,7 +1,6 @@
 use Rattle.std.proofs.Common.{◌≡◌, suc, ◌+◌, ◌<◌, ◌++◌, ◌∙◌, [], ◌∷◌, length, get_or, sym, subst, ap, arith}
 use Rattle.std.proofs.lemmas.Grind.{common_steps}
 use Rattle.std.proofs.lemmas.List.{length_push}
-use Rattle.def_matching.specs.Matching.{graph}
 use Rattle.def_forest.specs.Tables.{ForestTables}
 use Rattle.qm_forest.proofs.Copied.{copied_more}
 use Rattle.qm_match.specs.declared.search.Search.{Search}
@@ -15,17 +14,15 @@ unwrap-requires c = c.push.ensures.succeeds (omega (
   c.loop.invariant.room,
   c.loop-test.true,
   c.parts-end.ensures,
-  parts_few (graph c.args.g.now) c.requires.made.small.lawful
-      c.args.self.now.forest c.args.b c.requires.valid c.requires.set c.requires.live,
+  parts_few c.requires.made.small.lawful c.args.b c.requires.valid c.requires.set c.requires.live,
   c.loop.self.parts.ok.0,
 ))
 
 pub next-part-requires : goal.next-part-requires
 next-part-requires c = subst (λ (t : ForestTables). c.loop.part < length t.up)
     (sym (ap (λ (s : Search). s.forest) c.loop.invariant.same)) (subst (λ p. p < length c.args.self.now.forest.up)
-    (sym c.loop.invariant.here)
-    ((may_part (graph c.args.g.now) c.args.self.now c.args.b c.loop.counter c.requires.made c.requires.valid
-    c.requires.set c.requires.live).low))
+    (sym c.loop.invariant.here) ((may_part c.args.b c.loop.counter c.requires.made c.requires.valid c.requires.set
+    c.requires.live).low))
 
 pub loop-preserved : goal.loop-preserved
 loop-preserved c =
@@ -40,7 +37,7 @@ loop-preserved c =
       count = ap length pushed ∙ (length_push c.loop.self.parts.items c.loop.part
           ∙ (let e : length c.loop.self.parts.items + 1 ≡ c.loop.counter + 1 =
           omega (arith, c.loop.invariant.count) in e));
-      each = copied_more c.loop.self.parts.items _ (λ i. get_or c.args.self.now.forest.after i 0)
-          (get_or c.args.self.now.forest.head c.args.b 0) c.loop.counter c.loop.part pushed c.loop.invariant.count
+      each = copied_more c.loop.self.parts.items (λ i. get_or c.args.self.now.forest.after i 0)
+          (get_or c.args.self.now.forest.head c.args.b 0) pushed c.loop.invariant.count
           c.loop.invariant.here c.loop.invariant.each;
     }

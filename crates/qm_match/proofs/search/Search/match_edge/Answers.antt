@@ -20,21 +20,18 @@ augment-requires-clause-kind c =
     get_or_read c.args.g.now.edges.items c.args.e _ c.requires.edge c.index.ensures (record {
       u = 0;
       v = 0;
-      cost =
-          pos 0;
+      cost = pos 0;
     }) in
     let valid : IsValid (darts_of (graph c.args.g.now)) (forest_of c.args.self.now.forest) None =
     subst (λ (o : Option ℕ). IsValid (darts_of (graph c.args.g.now)) (forest_of c.args.self.now.forest) o)
     c.requires.idle.no_tree c.requires.idle.valid.valid in
     ap (λ (f : Forest). edge_kind (graph c.args.g.now) f c.args.e) (c.root.ensures.changed
-    ∙ ap (λ (x : WEdge). rooted (forest_of c.args.self.now.forest) ((forest_of c.args.self.now.forest).out x.u))
-    edge)
-    ∙ free_augments (graph c.args.g.now) (forest_of c.args.self.now.forest) c.args.e valid c.requires.free
+    ∙ ap (λ (x : WEdge). rooted (forest_of c.args.self.now.forest) ((forest_of c.args.self.now.forest).out x.u)) edge)
+    ∙ free_augments valid c.requires.free
 
 pub returns : goal.returns
 returns c = record {
   first = refl;
-  idle = matched_idle (graph c.args.g.now) c.args.self.now c.root.new.self
-      c.augment.new.self _ _ c.requires.idle c.root.ensures.changed c.augment.ensures.valid c.augment.ensures.root
-      c.augment.ensures.changed;
+  idle = matched_idle c.root.new.self _ _ c.requires.idle c.root.ensures.changed c.augment.ensures.valid
+      c.augment.ensures.root c.augment.ensures.changed;
 }

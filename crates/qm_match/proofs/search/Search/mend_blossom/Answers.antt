@@ -8,11 +8,10 @@ use Rattle.qm_match.proofs.search.Search.mend_blossom.Goals as goal
 pub returns-clause-right : goal.returns-clause-right
 returns-clause-right c = λ e l at. by_end e l at
   where
-    by_end : (e : ℕ) → e < length c.args.g.now.edges.items
-        → ((forest_of c.args.self.now.forest).holds c.args.b (edge_at (graph c.args.g.now) e).u ≡ true)
-        ⊎ ((forest_of c.args.self.now.forest).holds c.args.b (edge_at (graph c.args.g.now) e).v ≡ true)
-        → get_or c.mend_members.new.self.tour e 0 ≡ true_key (graph c.args.g.now) (forest_of c.args.self.now.forest)
-        c.args.self.now.risen e
+    by_end : (e : ℕ) → e < length c.args.g.now.edges.items → ((forest_of c.args.self.now.forest).holds c.args.b
+        (edge_at (graph c.args.g.now) e).u ≡ true) ⊎ ((forest_of c.args.self.now.forest).holds c.args.b
+        (edge_at (graph c.args.g.now) e).v ≡ true) → get_or c.mend_members.new.self.tour e 0
+        ≡ true_key (graph c.args.g.now) (forest_of c.args.self.now.forest) c.args.self.now.risen e
     by_end e l (inl on) = let p : (k : ℕ) × (k < length c.members.new.list.items)
         × (get_or c.members.new.list.items k 0 ≡ (edge_at (graph c.args.g.now) e).u) =
         c.members.ensures.all (edge_at (graph c.args.g.now) e).u (subst (λ n. (edge_at (graph c.args.g.now) e).u < n)

@@ -26,14 +26,12 @@ loop-k-preserved c =
     get_or_read c.loop-k.self.members.items c.loop-k.k _ (subst (λ (xs : List ℕ). c.loop-k.k < length xs)
     (sym members_is) low) c.index-v.ensures 0 ∙ ap (λ (xs : List ℕ). get_or xs c.loop-k.k 0) members_is in
     record {
-      same = keys_twice c.args.self.now c.loop-k.self c.mend_vertex.new.self _ c.loop-k.invariant.same
-          c.mend_vertex.ensures.same;
-      mended = mended_on (graph c.args.g.now) (forest_of c.args.self.now.forest) c.args.self.now.risen _ _ _
+      same = keys_twice c.args.self.now _ c.loop-k.invariant.same c.mend_vertex.ensures.same;
+      mended = mended_on (graph c.args.g.now) (forest_of c.args.self.now.forest) c.args.self.now.risen
           c.loop-k.invariant.mended mended;
       done = λ j l. elim (cases_lt j c.loop-k.k) [
         | inl lt ↦ stay_right (graph c.args.g.now) (forest_of c.args.self.now.forest) c.args.self.now.risen
-            c.loop-k.self.tour c.mend_vertex.new.self.tour (λ w. eqb w (get_or c.args.self.now.members.items j 0))
-            mended (c.loop-k.invariant.done j lt)
+            (λ w. eqb w (get_or c.args.self.now.members.items j 0)) mended (c.loop-k.invariant.done j lt)
         | inr ge ↦ (let e : c.loop-k.k ≡ j = omega (arith, ge, l) in
             subst (λ x. AreRightAt (graph c.args.g.now) (forest_of c.args.self.now.forest) c.args.self.now.risen
             c.mend_vertex.new.self.tour (λ w. eqb w x)) (v_is ∙ ap (λ i. get_or c.args.self.now.members.items i 0)

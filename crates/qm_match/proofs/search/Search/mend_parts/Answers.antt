@@ -12,29 +12,26 @@ use Rattle.qm_match.proofs.search.Search.mend_parts.Goals as goal
 
 pub mend_marked-requires : goal.mend_marked-requires
 mend_marked-requires c =
-    let made : IsMade (graph c.args.g.now) c.loop.self = made_members (graph c.args.g.now) c.args.self.now c.loop.self
+    let made : IsMade (graph c.args.g.now) c.loop.self = made_members
     c.requires.made c.loop.invariant.same c.loop.invariant.mended.size c.loop.invariant.room in
-    may_part_in (graph c.args.g.now) c.args.self.now c.loop.self c.args.set c.loop.counter c.loop.part made
-    c.requires.valid c.requires.set c.requires.live (ap (λ (s : Search). s.forest) c.loop.invariant.same)
-    c.loop.invariant.here
+    may_part_in c.args.self.now c.args.set c.loop.counter made c.requires.valid c.requires.set
+    c.requires.live (ap (λ (s : Search). s.forest) c.loop.invariant.same) c.loop.invariant.here
 
 pub next-part-requires : goal.next-part-requires
 next-part-requires c =
-    let made : IsMade (graph c.args.g.now) c.loop.self = made_members (graph c.args.g.now) c.args.self.now c.loop.self
+    let made : IsMade (graph c.args.g.now) c.loop.self = made_members
     c.requires.made c.loop.invariant.same c.loop.invariant.mended.size c.loop.invariant.room in
-    let may : MayRefresh (graph c.args.g.now) c.loop.self c.loop.part =
-    may_part_in (graph c.args.g.now) c.args.self.now c.loop.self c.args.set c.loop.counter c.loop.part made
-    c.requires.valid c.requires.set c.requires.live (ap (λ (s : Search). s.forest) c.loop.invariant.same)
-    c.loop.invariant.here in
+    let may : MayRefresh (graph c.args.g.now) c.loop.self c.loop.part = may_part_in c.args.self.now c.args.set
+    c.loop.counter made c.requires.valid c.requires.set c.requires.live
+    (ap (λ (s : Search). s.forest) c.loop.invariant.same) c.loop.invariant.here in
     subst (λ (s : Search). c.loop.part < length s.forest.up) (sym c.mend_marked.ensures.same) may.low
 
 pub loop-preserved : goal.loop-preserved
 loop-preserved c =
     let one : suc c.loop.counter ≡ c.loop.counter + 1 = omega arith in
     let mended : IsMended (graph c.args.g.now) (forest_of c.args.self.now.forest) c.args.self.now.risen c.loop.self.tour
-    c.mend_marked.new.self.tour =
-    subst (λ (s : Search). IsMended (graph c.args.g.now) (forest_of s.forest) s.risen c.loop.self.tour
-    c.mend_marked.new.self.tour) c.loop.invariant.same c.mend_marked.ensures.mended in
+    c.mend_marked.new.self.tour = subst (λ (s : Search). IsMended (graph c.args.g.now) (forest_of s.forest) s.risen
+    c.loop.self.tour c.mend_marked.new.self.tour) c.loop.invariant.same c.mend_marked.ensures.mended in
     let right : get_or c.args.self.now.inner.items c.loop.part false ≡ true
     → AreRightAt (graph c.args.g.now) (forest_of c.args.self.now.forest) c.args.self.now.risen
     c.mend_marked.new.self.tour ((forest_of c.args.self.now.forest).holds c.loop.part) =
@@ -42,18 +39,16 @@ loop-preserved c =
     → AreRightAt (graph c.args.g.now) (forest_of s.forest) s.risen c.mend_marked.new.self.tour
     ((forest_of s.forest).holds c.loop.part)) c.loop.invariant.same c.mend_marked.ensures.right in
     record {
-      same = members_twice c.args.self.now c.loop.self c.mend_marked.new.self c.loop.invariant.same
-          c.mend_marked.ensures.same;
+      same = members_twice c.args.self.now c.loop.invariant.same c.mend_marked.ensures.same;
       room = c.mend_marked.ensures.room;
       here = c.next-part.ensures ∙ (ap (λ (s : Search). get_or s.forest.after c.loop.part 0) c.mend_marked.ensures.same
           ∙ (ap (λ (s : Search). get_or s.forest.after c.loop.part 0) c.loop.invariant.same
           ∙ (ap (λ p. get_or c.args.self.now.forest.after p 0) c.loop.invariant.here
           ∙ ap (part_of c.args.self.now.forest c.args.set) one)));
-      mended = mended_on (graph c.args.g.now) (forest_of c.args.self.now.forest) c.args.self.now.risen _ _ _
+      mended = mended_on (graph c.args.g.now) (forest_of c.args.self.now.forest) c.args.self.now.risen
           c.loop.invariant.mended mended;
       right = λ k l. elim (cases_lt k c.loop.counter) [
         | inl lt ↦ (λ mark. stay_right (graph c.args.g.now) (forest_of c.args.self.now.forest) c.args.self.now.risen
-            c.loop.self.tour c.mend_marked.new.self.tour
             ((forest_of c.args.self.now.forest).holds (part_of c.args.self.now.forest c.args.set k)) mended
             (c.loop.invariant.right k lt mark))
         | inr ge ↦ (let e : c.loop.counter ≡ k = omega (arith, ge, l) in

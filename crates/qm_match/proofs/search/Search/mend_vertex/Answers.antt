@@ -12,8 +12,7 @@ use Rattle.qm_match.proofs.search.Search.mend_vertex.Goals as goal
 
 pub mend-requires-clause-made : goal.mend-requires-clause-made
 mend-requires-clause-made c = subst (λ (s : Search). IsMade (graph c.args.g.now) s) (sym c.loop-entry.invariant.same)
-    (made_with (graph c.args.g.now) c.args.self.now c.loop-entry.self.tour c.requires.made
-    c.loop-entry.invariant.mended.size)
+    (made_with c.loop-entry.self.tour c.requires.made c.loop-entry.invariant.mended.size)
 
 pub loop-entry-smaller : goal.loop-entry-smaller
 loop-entry-smaller c =
@@ -41,13 +40,11 @@ loop-entry-preserved c =
     c.index-entry-in-loop-entry.ensures 0 ∙ ap (λ (xs : List ℕ). get_or xs (c.loop-entry.entry - 1) 0) fans_is in
     let tour_is : c.mend.new.self.tour ≡ set c.loop-entry.self.tour ((c.loop-entry.entry - 1) / 2)
     (true_key (graph c.args.g.now) (forest_of c.args.self.now.forest) c.args.self.now.risen
-    ((c.loop-entry.entry - 1) / 2)) =
-    ap (λ (s : Search). s.tour) c.mend.ensures
+    ((c.loop-entry.entry - 1) / 2)) = ap (λ (s : Search). s.tour) c.mend.ensures
     ∙ ap (λ (s : Search). set c.loop-entry.self.tour ((c.loop-entry.entry - 1) / 2)
     (true_key (graph c.args.g.now) (forest_of s.forest) s.risen ((c.loop-entry.entry - 1) / 2)))
     c.loop-entry.invariant.same in
-    let leaf : (c.loop-entry.entry - 1) / 2 < length c.loop-entry.self.tour =
-    omega (
+    let leaf : (c.loop-entry.entry - 1) / 2 < length c.loop-entry.self.tour = omega (
       arith,
       c.loop-entry.invariant.mended.size,
       c.requires.made.leaves,
@@ -55,7 +52,7 @@ loop-entry-preserved c =
       c.loop-entry-test.true,
     ) in
     record {
-      same = keys_twice c.args.self.now c.loop-entry.self c.mend.new.self _ c.loop-entry.invariant.same c.mend.ensures;
+      same = keys_twice c.args.self.now _ c.loop-entry.invariant.same c.mend.ensures;
       low = omega (
         arith,
         read,
@@ -63,17 +60,16 @@ loop-entry-preserved c =
         c.loop-entry.invariant.low,
         c.loop-entry-test.true,
       );
-      mended = mended_on (graph c.args.g.now) (forest_of c.args.self.now.forest) c.args.self.now.risen _ _ _
+      mended = mended_on (graph c.args.g.now) (forest_of c.args.self.now.forest) c.args.self.now.risen
           c.loop-entry.invariant.mended (mended_one (graph c.args.g.now) (forest_of c.args.self.now.forest)
           c.args.self.now.risen c.loop-entry.self.tour c.mend.new.self.tour ((c.loop-entry.entry - 1) / 2) leaf
           tour_is);
       done = λ x on. subst (λ y. (get_or c.mend.new.self.tour (x / 2) 0
           ≡ true_key (graph c.args.g.now) (forest_of c.args.self.now.forest) c.args.self.now.risen (x / 2))
-          ⊎ IsOn c.args.self.now.fans.next.items y x) (sym read)
-          (chain_mended (graph c.args.g.now) (forest_of c.args.self.now.forest) c.args.self.now.risen
-          c.args.self.now.fans.next.items c.loop-entry.self.tour c.mend.new.self.tour c.loop-entry.entry
-          (c.loop-entry.entry - 1) _ (omega (arith, c.loop-entry-test.true)) leaf tour_is
-          c.loop-entry.invariant.done x on);
+          ⊎ IsOn c.args.self.now.fans.next.items y x) (sym read) (chain_mended (graph c.args.g.now)
+          (forest_of c.args.self.now.forest) c.args.self.now.risen c.args.self.now.fans.next.items
+          c.loop-entry.self.tour c.loop-entry.entry (c.loop-entry.entry - 1) _
+          (omega (arith, c.loop-entry-test.true)) leaf tour_is c.loop-entry.invariant.done x on);
     }
 
 pub returns-clause-right : goal.returns-clause-right
@@ -81,7 +77,6 @@ returns-clause-right c =
     let zero_is : c.loop-entry.entry ≡ 0 = omega (arith, c.loop-entry-test.false) in
     vertex_right (graph c.args.g.now) (forest_of c.args.self.now.forest) c.args.self.now.risen
     c.args.self.now.fans.first.items c.args.self.now.fans.next.items c.loop-entry.self.tour c.args.v
-    c.requires.made.fans
-    (λ x on. subst (λ y. (get_or c.loop-entry.self.tour (x / 2) 0
+    c.requires.made.fans (λ x on. subst (λ y. (get_or c.loop-entry.self.tour (x / 2) 0
     ≡ true_key (graph c.args.g.now) (forest_of c.args.self.now.forest) c.args.self.now.risen (x / 2))
     ⊎ IsOn c.args.self.now.fans.next.items y x) zero_is (c.loop-entry.invariant.done x on))

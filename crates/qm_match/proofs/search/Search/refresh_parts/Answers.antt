@@ -15,8 +15,7 @@ refresh-requires c =
     (sym c.loop-k.invariant.refreshed.parts) low) c.index-p.ensures 0
     ∙ ap (λ (xs : List ℕ). get_or xs c.loop-k.k 0) c.loop-k.invariant.refreshed.parts in
     subst (λ p. MayRefresh (graph c.args.g.now) c.loop-k.self p) (sym p_is)
-    (may_later (graph c.args.g.now) c.args.self.now c.loop-k.self (get_or c.args.self.now.parts.items c.loop-k.k 0)
-    c.loop-k.invariant.refreshed (c.requires.may c.loop-k.k low))
+    (may_later c.loop-k.invariant.refreshed (c.requires.may c.loop-k.k low))
 
 pub loop-k-preserved : goal.loop-k-preserved
 loop-k-preserved c =
@@ -27,11 +26,9 @@ loop-k-preserved c =
     (sym c.loop-k.invariant.refreshed.parts) low) c.index-p.ensures 0
     ∙ ap (λ (xs : List ℕ). get_or xs c.loop-k.k 0) c.loop-k.invariant.refreshed.parts in
     record {
-      refreshed = refreshed_on (graph c.args.g.now) c.args.self.now c.loop-k.self c.refresh.new.self
-          c.loop-k.invariant.refreshed c.refresh.ensures.refreshed;
+      refreshed = refreshed_on c.loop-k.invariant.refreshed c.refresh.ensures.refreshed;
       here = λ j l. elim (cases_lt j c.loop-k.k) [
-        | inl lt ↦ stays_fresh (graph c.args.g.now) c.loop-k.self c.refresh.new.self
-            (get_or c.args.self.now.parts.items j 0) c.refresh.ensures.refreshed (c.loop-k.invariant.here j lt)
+        | inl lt ↦ stays_fresh c.refresh.ensures.refreshed (c.loop-k.invariant.here j lt)
         | inr ge ↦ (let e : c.loop-k.k ≡ j = omega (arith, ge, l) in
             subst (λ p. IsFreshAt (graph c.args.g.now) c.refresh.new.self p) (p_is
             ∙ ap (λ i. get_or c.args.self.now.parts.items i 0) e) c.refresh.ensures.here)

@@ -15,13 +15,13 @@ use Rattle.qm_match.proofs.search.Search.rise_to.Goals as goal
 
 pub overflow_cast-t : goal.overflow_cast-t
 overflow_cast-t c =
-    let few : c.args.key ≤ risen_limit = soon (graph c.args.g.now) c.args.self.now c.requires.way.tree.0
+    let few : c.args.key ≤ risen_limit = soon c.requires.way.tree.0
     c.requires.way.tree.1 c.requires.way c.requires.known c.args.key c.requires.least in
     omega (arith, ints, few)
 
 pub shift-requires-clause-positive : goal.shift-requires-clause-positive
 shift-requires-clause-positive c =
-    let few : c.args.key ≤ risen_limit = soon (graph c.args.g.now) c.args.self.now c.requires.way.tree.0
+    let few : c.args.key ≤ risen_limit = soon c.requires.way.tree.0
     c.requires.way.tree.1 c.requires.way c.requires.known c.args.key c.requires.least in
     let t_is : to_z w64 (c.args.key - c.args.self.now.risen) ≡ pos (c.args.key - c.args.self.now.risen) =
     to_z_pos w64 (c.args.key - c.args.self.now.risen) (omega (arith, few)) in
@@ -29,7 +29,7 @@ shift-requires-clause-positive c =
 
 pub shift-requires-clause-feasible : goal.shift-requires-clause-feasible
 shift-requires-clause-feasible c =
-    let few : c.args.key ≤ risen_limit = soon (graph c.args.g.now) c.args.self.now c.requires.way.tree.0
+    let few : c.args.key ≤ risen_limit = soon c.requires.way.tree.0
     c.requires.way.tree.1 c.requires.way c.requires.known c.args.key c.requires.least in
     let t_is : to_z w64 (c.args.key - c.args.self.now.risen) ≡ pos (c.args.key - c.args.self.now.risen) =
     to_z_pos w64 (c.args.key - c.args.self.now.risen) (omega (arith, few)) in
@@ -37,12 +37,12 @@ shift-requires-clause-feasible c =
     ≤ true_key (graph c.args.g.now) (forest_of c.args.self.now.forest) c.args.self.now.risen k =
     λ k l. omega (arith, c.requires.high, c.requires.least k l) in
     subst (λ z. IsFeasible (darts_of (graph c.args.g.now)) (shifted (forest_of c.args.self.now.forest) z)) (sym t_is)
-    (shift_feasible (graph c.args.g.now) c.args.self.now c.requires.way.tree.0 c.requires.way.tree.1 c.requires.way
+    (shift_feasible c.requires.way.tree.0 c.requires.way.tree.1 c.requires.way
     c.requires.known (c.args.key - c.args.self.now.risen) room)
 
 pub shift-requires-clause-small : goal.shift-requires-clause-small
 shift-requires-clause-small c =
-    let few : c.args.key ≤ risen_limit = soon (graph c.args.g.now) c.args.self.now c.requires.way.tree.0
+    let few : c.args.key ≤ risen_limit = soon c.requires.way.tree.0
     c.requires.way.tree.1 c.requires.way c.requires.known c.args.key c.requires.least in
     let t_is : to_z w64 (c.args.key - c.args.self.now.risen) ≡ pos (c.args.key - c.args.self.now.risen) =
     to_z_pos w64 (c.args.key - c.args.self.now.risen) (omega (arith, few)) in
@@ -50,12 +50,12 @@ shift-requires-clause-small c =
     ≤ true_key (graph c.args.g.now) (forest_of c.args.self.now.forest) c.args.self.now.risen k =
     λ k l. omega (arith, c.requires.high, c.requires.least k l) in
     subst (λ z. (b : ℕ) → unsigned_abs ((shifted (forest_of c.args.self.now.forest) z).weight b) ≤ 2 ^ 62) (sym t_is)
-    (shift_small (graph c.args.g.now) c.args.self.now c.requires.way.tree.0 c.requires.way.tree.1 c.requires.way
+    (shift_small c.requires.way.tree.0 c.requires.way.tree.1 c.requires.way
     c.requires.known (c.args.key - c.args.self.now.risen) room (omega (arith, few, c.requires.high)))
 
 pub returns-clause-way : goal.returns-clause-way
 returns-clause-way c =
-    let few : c.args.key ≤ risen_limit = soon (graph c.args.g.now) c.args.self.now c.requires.way.tree.0
+    let few : c.args.key ≤ risen_limit = soon c.requires.way.tree.0
     c.requires.way.tree.1 c.requires.way c.requires.known c.args.key c.requires.least in
     let t_is : to_z w64 (c.args.key - c.args.self.now.risen) ≡ pos (c.args.key - c.args.self.now.risen) =
     to_z_pos w64 (c.args.key - c.args.self.now.risen) (omega (arith, few)) in
@@ -65,13 +65,13 @@ returns-clause-way c =
     let changed : forest_of c.shift.new.self ≡ shifted (forest_of c.args.self.now.forest)
     (pos (c.args.key - c.args.self.now.risen)) = c.shift.ensures.changed
     ∙ ap (shifted (forest_of c.args.self.now.forest)) t_is in
-    shifted_way (graph c.args.g.now) c.args.self.now c.requires.way.tree.0 c.requires.way.tree.1 c.requires.way
-    c.requires.known (c.args.key - c.args.self.now.risen) room c.shift.new.self _ c.args.key refl
+    shifted_way c.requires.way.tree.0 c.requires.way.tree.1 c.requires.way
+    c.requires.known (c.args.key - c.args.self.now.risen) room _ c.args.key refl
     (omega (arith, c.requires.high)) c.shift.ensures.valid changed c.shift.ensures.root
 
 pub returns-clause-goes_on : goal.returns-clause-goes_on
 returns-clause-goes_on c =
-    let few : c.args.key ≤ risen_limit = soon (graph c.args.g.now) c.args.self.now c.requires.way.tree.0
+    let few : c.args.key ≤ risen_limit = soon c.requires.way.tree.0
     c.requires.way.tree.1 c.requires.way c.requires.known c.args.key c.requires.least in
     let t_is : to_z w64 (c.args.key - c.args.self.now.risen) ≡ pos (c.args.key - c.args.self.now.risen) =
     to_z_pos w64 (c.args.key - c.args.self.now.risen) (omega (arith, few)) in
@@ -86,7 +86,7 @@ returns-clause-steps c = ap (steps_left c.args.g.now.n) c.shift.ensures.changed
 
 pub returns-clause-keys : goal.returns-clause-keys
 returns-clause-keys c =
-    let few : c.args.key ≤ risen_limit = soon (graph c.args.g.now) c.args.self.now c.requires.way.tree.0
+    let few : c.args.key ≤ risen_limit = soon c.requires.way.tree.0
     c.requires.way.tree.1 c.requires.way c.requires.known c.args.key c.requires.least in
     let t_is : to_z w64 (c.args.key - c.args.self.now.risen) ≡ pos (c.args.key - c.args.self.now.risen) =
     to_z_pos w64 (c.args.key - c.args.self.now.risen) (omega (arith, few)) in
@@ -101,5 +101,5 @@ returns-clause-keys c =
     λ k l. ap (λ (f : Forest). true_key (graph c.args.g.now) f c.args.key k) changed
     ∙ (ap (λ y. true_key (graph c.args.g.now)
     (shifted (forest_of c.args.self.now.forest) (pos (c.args.key - c.args.self.now.risen))) y k) (sym key_is)
-    ∙ shift_keys (graph c.args.g.now) c.args.self.now c.requires.way.tree.0 c.requires.way.tree.1 c.requires.way
+    ∙ shift_keys c.requires.way.tree.0 c.requires.way.tree.1 c.requires.way
     c.requires.known (c.args.key - c.args.self.now.risen) room k l)

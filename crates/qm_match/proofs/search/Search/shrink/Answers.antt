@@ -1,4 +1,4 @@
-use Rattle.std.proofs.Common.{◌≡◌, ◌*◌, ◌<◌, pos, refl, sym, subst, ap}
+use Rattle.std.proofs.Common.{◌≡◌, ◌<◌, pos, refl, sym, subst, ap}
 use Rattle.std.proofs.lemmas.List.{get_or_read}
 use Rattle.std.specs.Vec.{with_item}
 use Rattle.std.proofs.Common.{false}
@@ -15,8 +15,7 @@ outermost-set-requires c =
     get_or_read c.args.g.now.edges.items c.args.e _ c.requires.edge c.index.ensures (record {
       u = 0;
       v = 0;
-      cost =
-          pos 0;
+      cost = pos 0;
     }) in
     subst (λ n. c.index.result.now.u < n) (sym c.shrink.ensures.valid.vertices)
     (subst (λ (x : WEdge). x.u < c.args.g.now.n) (sym edge) (c.requires.way.made.small.lawful.left c.args.e
@@ -28,15 +27,12 @@ mend_parts-requires-clause-set c =
     get_or_read c.args.g.now.edges.items c.args.e _ c.requires.edge c.index.ensures (record {
       u = 0;
       v = 0;
-      cost =
-          pos 0;
+      cost = pos 0;
     }) in
     let s = c.shrink.ensures.changed in
-    let set_is : c.outermost-set.result ≡ s.set = closed_set (graph c.args.g.now) c.args.self.now c.shrink.new.self
-    c.args.e c.requires.way s c.requires.edge c.index.result.now.u c.outermost-set.result
+    let set_is : c.outermost-set.result ≡ s.set = closed_set c.shrink.new.self c.args.e c.requires.way s c.requires.edge
     (ap (λ (x : WEdge). x.u) edge) c.outermost-set.ensures.value in
-    closed_high (graph c.args.g.now) c.args.self.now c.shrink.new.self (2 * c.args.e) c.requires.way s
-    c.outermost-set.result set_is
+    closed_high c.shrink.new.self c.requires.way s set_is
 
 pub mend_parts-requires-clause-live : goal.mend_parts-requires-clause-live
 mend_parts-requires-clause-live c =
@@ -44,15 +40,12 @@ mend_parts-requires-clause-live c =
     get_or_read c.args.g.now.edges.items c.args.e _ c.requires.edge c.index.ensures (record {
       u = 0;
       v = 0;
-      cost =
-          pos 0;
+      cost = pos 0;
     }) in
     let s = c.shrink.ensures.changed in
-    let set_is : c.outermost-set.result ≡ s.set = closed_set (graph c.args.g.now) c.args.self.now c.shrink.new.self
-    c.args.e c.requires.way s c.requires.edge c.index.result.now.u c.outermost-set.result
+    let set_is : c.outermost-set.result ≡ s.set = closed_set c.shrink.new.self c.args.e c.requires.way s c.requires.edge
     (ap (λ (x : WEdge). x.u) edge) c.outermost-set.ensures.value in
-    closed_live (graph c.args.g.now) c.args.self.now c.shrink.new.self (2 * c.args.e) c.requires.way s
-    c.outermost-set.result set_is
+    closed_live c.shrink.new.self c.requires.way s set_is
 
 pub returns-clause-way : goal.returns-clause-way
 returns-clause-way c =
@@ -60,30 +53,20 @@ returns-clause-way c =
     get_or_read c.args.g.now.edges.items c.args.e _ c.requires.edge c.index.ensures (record {
       u = 0;
       v = 0;
-      cost =
-          pos 0;
+      cost = pos 0;
     }) in
     let s = c.shrink.ensures.changed in
-    let set_is : c.outermost-set.result ≡ s.set = closed_set (graph c.args.g.now) c.args.self.now c.shrink.new.self
-    c.args.e c.requires.way s c.requires.edge c.index.result.now.u c.outermost-set.result
+    let set_is : c.outermost-set.result ≡ s.set = closed_set c.shrink.new.self c.args.e c.requires.way s c.requires.edge
     (ap (λ (x : WEdge). x.u) edge) c.outermost-set.ensures.value in
     let made : IsMade (graph c.args.g.now) (record c.args.self.now { forest = c.shrink.new.self }) =
-    made_after (graph c.args.g.now) c.args.self.now c.shrink.new.self c.requires.way.made s.shrunk.size in
+    made_after c.shrink.new.self c.requires.way.made s.shrunk.size in
     let refreshed : IsRefreshed (graph c.args.g.now) (record c.args.self.now { forest = c.shrink.new.self })
     (record c.mend_parts.new.self { inner = with_item c.mend_parts.new.self.inner c.outermost-set.result false }) =
-    unmarked (graph c.args.g.now) c.args.self.now c.shrink.new.self (2 * c.args.e) c.requires.way s
-    c.outermost-set.result set_is c.mend_parts.new.self (record c.mend_parts.new.self {
-      inner =
-          with_item c.mend_parts.new.self.inner c.outermost-set.result false;
-    }) made c.mend_parts.ensures.same
-    c.mend_parts.ensures.room c.mend_parts.ensures.mended refl refl in
-    shrunk_way (graph c.args.g.now) c.args.self.now c.shrink.new.self (record c.mend_parts.new.self {
-      inner =
-          with_item c.mend_parts.new.self.inner c.outermost-set.result false;
-    }) (2 * c.args.e) c.requires.way
-    c.shrink.ensures.valid refreshed s
-    (closed_right (graph c.args.g.now) c.args.self.now c.shrink.new.self (2 * c.args.e) c.requires.way s
-    c.outermost-set.result set_is c.args.self.now.risen c.mend_parts.new.self.tour c.mend_parts.ensures.right)
+    unmarked c.shrink.new.self c.requires.way s set_is (record c.mend_parts.new.self {
+      inner = with_item c.mend_parts.new.self.inner c.outermost-set.result false;
+    }) made c.mend_parts.ensures.same c.mend_parts.ensures.room c.mend_parts.ensures.mended refl refl in
+    shrunk_way c.requires.way c.shrink.ensures.valid refreshed s (closed_right c.shrink.new.self c.requires.way s set_is
+    c.args.self.now.risen c.mend_parts.new.self.tour c.mend_parts.ensures.right)
 
 pub returns-clause-goes_on : goal.returns-clause-goes_on
 returns-clause-goes_on c =
@@ -91,28 +74,19 @@ returns-clause-goes_on c =
     get_or_read c.args.g.now.edges.items c.args.e _ c.requires.edge c.index.ensures (record {
       u = 0;
       v = 0;
-      cost =
-          pos 0;
+      cost = pos 0;
     }) in
     let s = c.shrink.ensures.changed in
-    let set_is : c.outermost-set.result ≡ s.set = closed_set (graph c.args.g.now) c.args.self.now c.shrink.new.self
-    c.args.e c.requires.way s c.requires.edge c.index.result.now.u c.outermost-set.result
+    let set_is : c.outermost-set.result ≡ s.set = closed_set c.shrink.new.self c.args.e c.requires.way s c.requires.edge
     (ap (λ (x : WEdge). x.u) edge) c.outermost-set.ensures.value in
     let made : IsMade (graph c.args.g.now) (record c.args.self.now { forest = c.shrink.new.self }) =
-    made_after (graph c.args.g.now) c.args.self.now c.shrink.new.self c.requires.way.made s.shrunk.size in
+    made_after c.shrink.new.self c.requires.way.made s.shrunk.size in
     let refreshed : IsRefreshed (graph c.args.g.now) (record c.args.self.now { forest = c.shrink.new.self })
     (record c.mend_parts.new.self { inner = with_item c.mend_parts.new.self.inner c.outermost-set.result false }) =
-    unmarked (graph c.args.g.now) c.args.self.now c.shrink.new.self (2 * c.args.e) c.requires.way s
-    c.outermost-set.result set_is c.mend_parts.new.self (record c.mend_parts.new.self {
-      inner =
-          with_item c.mend_parts.new.self.inner c.outermost-set.result false;
-    }) made c.mend_parts.ensures.same
-    c.mend_parts.ensures.room c.mend_parts.ensures.mended refl refl in
-    shrunk_goes_on (graph c.args.g.now) c.args.self.now c.shrink.new.self (record c.mend_parts.new.self {
-      inner =
-          with_item c.mend_parts.new.self.inner c.outermost-set.result false;
-    }) (2 * c.args.e) c.requires.way
-    c.shrink.ensures.valid refreshed s
+    unmarked c.shrink.new.self c.requires.way s set_is (record c.mend_parts.new.self {
+      inner = with_item c.mend_parts.new.self.inner c.outermost-set.result false;
+    }) made c.mend_parts.ensures.same c.mend_parts.ensures.room c.mend_parts.ensures.mended refl refl in
+    shrunk_goes_on c.requires.way c.shrink.ensures.valid refreshed s
 
 pub returns-clause-fewer : goal.returns-clause-fewer
 returns-clause-fewer c =
@@ -120,25 +94,16 @@ returns-clause-fewer c =
     get_or_read c.args.g.now.edges.items c.args.e _ c.requires.edge c.index.ensures (record {
       u = 0;
       v = 0;
-      cost =
-          pos 0;
+      cost = pos 0;
     }) in
     let s = c.shrink.ensures.changed in
-    let set_is : c.outermost-set.result ≡ s.set = closed_set (graph c.args.g.now) c.args.self.now c.shrink.new.self
-    c.args.e c.requires.way s c.requires.edge c.index.result.now.u c.outermost-set.result
+    let set_is : c.outermost-set.result ≡ s.set = closed_set c.shrink.new.self c.args.e c.requires.way s c.requires.edge
     (ap (λ (x : WEdge). x.u) edge) c.outermost-set.ensures.value in
     let made : IsMade (graph c.args.g.now) (record c.args.self.now { forest = c.shrink.new.self }) =
-    made_after (graph c.args.g.now) c.args.self.now c.shrink.new.self c.requires.way.made s.shrunk.size in
+    made_after c.shrink.new.self c.requires.way.made s.shrunk.size in
     let refreshed : IsRefreshed (graph c.args.g.now) (record c.args.self.now { forest = c.shrink.new.self })
     (record c.mend_parts.new.self { inner = with_item c.mend_parts.new.self.inner c.outermost-set.result false }) =
-    unmarked (graph c.args.g.now) c.args.self.now c.shrink.new.self (2 * c.args.e) c.requires.way s
-    c.outermost-set.result set_is c.mend_parts.new.self (record c.mend_parts.new.self {
-      inner =
-          with_item c.mend_parts.new.self.inner c.outermost-set.result false;
-    }) made c.mend_parts.ensures.same
-    c.mend_parts.ensures.room c.mend_parts.ensures.mended refl refl in
-    shrunk_less (graph c.args.g.now) c.args.self.now c.shrink.new.self (record c.mend_parts.new.self {
-      inner =
-          with_item c.mend_parts.new.self.inner c.outermost-set.result false;
-    }) (2 * c.args.e) c.requires.way
-    c.shrink.ensures.valid refreshed s
+    unmarked c.shrink.new.self c.requires.way s set_is (record c.mend_parts.new.self {
+      inner = with_item c.mend_parts.new.self.inner c.outermost-set.result false;
+    }) made c.mend_parts.ensures.same c.mend_parts.ensures.room c.mend_parts.ensures.mended refl refl in
+    shrunk_less c.requires.way c.shrink.ensures.valid refreshed s

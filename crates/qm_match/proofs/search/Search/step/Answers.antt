@@ -10,28 +10,26 @@ pub step_along-requires-clause-some : goal.step_along-requires-clause-some
 step_along-requires-clause-some c =
     let low : c.args.leaf < length c.args.g.now.edges.items =
     omega (arith, c.if-leaf-edges.true, c.len-edges.ensures) in
-    not_loose _ (edge_step (graph c.args.g.now) c.requires.way.made.small.lawful (forest_of c.args.self.now.forest)
-    c.args.self.now.forest.root c.args.self.now.risen c.args.leaf c.requires.way.valid.valid low c.requires.here
-    c.requires.few)
+    not_loose _ (edge_step c.requires.way.made.small.lawful c.args.leaf c.requires.way.valid.valid
+    low c.requires.here c.requires.few)
 
 pub step_along-requires-clause-step : goal.step_along-requires-clause-step
 step_along-requires-clause-step c =
     let low : c.args.leaf < length c.args.g.now.edges.items =
     omega (arith, c.if-leaf-edges.true, c.len-edges.ensures) in
-    not_idle _ (edge_step (graph c.args.g.now) c.requires.way.made.small.lawful (forest_of c.args.self.now.forest)
-    c.args.self.now.forest.root c.args.self.now.risen c.args.leaf c.requires.way.valid.valid low c.requires.here
-    c.requires.few)
+    not_idle _ (edge_step c.requires.way.made.small.lawful c.args.leaf c.requires.way.valid.valid
+    low c.requires.here c.requires.few)
 
 pub expand-requires-clause-inner : goal.expand-requires-clause-inner
 expand-requires-clause-inner c =
     let e : c.len-edges.result ≡ length c.args.g.now.edges.items = omega (arith, c.len-edges.ensures) in
     subst (λ x. (forest_of c.args.self.now.forest).label (c.args.g.now.n + (c.args.leaf - x)) ≡ Inner) (sym e)
-    (set_step (graph c.args.g.now) (forest_of c.args.self.now.forest) c.args.self.now.risen c.args.leaf
+    (set_step (graph c.args.g.now) (forest_of c.args.self.now.forest) c.args.leaf
     (omega (arith, c.if-leaf-edges.false, e)) c.requires.here c.requires.few).0
 
 pub expand-requires-clause-weightless : goal.expand-requires-clause-weightless
 expand-requires-clause-weightless c =
     let e : c.len-edges.result ≡ length c.args.g.now.edges.items = omega (arith, c.len-edges.ensures) in
     subst (λ x. (forest_of c.args.self.now.forest).weight (c.args.g.now.n + (c.args.leaf - x)) ≡ pos 0) (sym e)
-    (set_step (graph c.args.g.now) (forest_of c.args.self.now.forest) c.args.self.now.risen c.args.leaf
+    (set_step (graph c.args.g.now) (forest_of c.args.self.now.forest) c.args.leaf
     (omega (arith, c.if-leaf-edges.false, e)) c.requires.here c.requires.few).1

@@ -9,43 +9,34 @@ use Rattle.qm_match.proofs.Turned.{mended_fewer, mended_way, risen_few}
 use Rattle.qm_match.proofs.search.Search.turn.Goals as goal
 
 pub returns-then-key-clause-way : goal.returns-then-key-clause-way
-returns-then-key-clause-way c = λ e. mended_way (graph c.args.g.now) c.args.self.now c.set_leaf.new.self
-    c.least_leaf-leaf.result c.requires.way c.least_leaf-leaf.ensures.low
-    (subst (λ key. c.set_leaf.new.self ≡ record c.args.self.now {
-      tour =
-          set c.args.self.now.tour c.least_leaf-leaf.result key;
+returns-then-key-clause-way c = λ e. mended_way c.least_leaf-leaf.result c.requires.way
+    c.least_leaf-leaf.ensures.low (subst (λ key. c.set_leaf.new.self ≡ record c.args.self.now {
+      tour = set c.args.self.now.tour c.least_leaf-leaf.result key;
     }) c.true_key-key.ensures c.set_leaf.ensures)
 
 pub returns-then-key-clause-fewer : goal.returns-then-key-clause-fewer
-returns-then-key-clause-fewer c = λ e. mended_fewer (graph c.args.g.now) c.args.self.now c.set_leaf.new.self
-    c.least_leaf-leaf.result c.least_leaf-leaf.ensures.low
-    (λ same. c.if-key.true (c.key.ensures ∙ (same ∙ sym c.true_key-key.ensures)))
-    (subst (λ key. c.set_leaf.new.self ≡ record c.args.self.now {
-      tour =
-          set c.args.self.now.tour c.least_leaf-leaf.result key;
+returns-then-key-clause-fewer c = λ e. mended_fewer (graph c.args.g.now) c.args.self.now
+    c.least_leaf-leaf.result c.least_leaf-leaf.ensures.low (λ same. c.if-key.true
+    (c.key.ensures ∙ (same ∙ sym c.true_key-key.ensures))) (subst (λ key. c.set_leaf.new.self ≡ record c.args.self.now {
+      tour = set c.args.self.now.tour c.least_leaf-leaf.result key;
     }) c.true_key-key.ensures c.set_leaf.ensures)
 
 pub rise_to-requires-clause-high : goal.rise_to-requires-clause-high
-rise_to-requires-clause-high c =
-    omega (
-      arith,
-      c.true_key-key.ensures,
-      key_high (graph c.args.g.now) (forest_of c.args.self.now.forest)
-          c.args.self.now.risen c.least_leaf-leaf.result
-          (omega (
-            arith,
-            risen_few (graph c.args.g.now) c.args.self.now c.requires.way.tree.0 c.requires.way.tree.1
-                c.requires.way c.requires.known,
-          )),
-    )
+rise_to-requires-clause-high c = omega (
+  arith,
+  c.true_key-key.ensures,
+  key_high (graph c.args.g.now) (forest_of c.args.self.now.forest) c.args.self.now.risen c.least_leaf-leaf.result
+      (omega (
+        arith,
+        risen_few c.requires.way.tree.0 c.requires.way.tree.1 c.requires.way c.requires.known,
+      )),
+)
 
 pub step-requires-clause-few : goal.step-requires-clause-few
-step-requires-clause-few c =
-    omega (
-      arith,
-      risen_few (graph c.args.g.now) c.rise_to.new.self c.rise_to.ensures.way.tree.0
-          c.rise_to.ensures.way.tree.1 c.rise_to.ensures.way c.requires.known,
-    )
+step-requires-clause-few c = omega (
+  arith,
+  risen_few c.rise_to.ensures.way.tree.0 c.rise_to.ensures.way.tree.1 c.rise_to.ensures.way c.requires.known,
+)
 
 pub returns-clause-goes_on : goal.returns-clause-goes_on
 returns-clause-goes_on c = λ e v seeking. c.step.ensures.goes_on e v (c.rise_to.ensures.goes_on v seeking)
@@ -53,7 +44,6 @@ returns-clause-goes_on c = λ e v seeking. c.step.ensures.goes_on e v (c.rise_to
 pub returns-clause-fewer : goal.returns-clause-fewer
 returns-clause-fewer c = λ e. fewer_turns (graph c.args.g.now) (forest_of c.args.self.now.forest)
     (forest_of c.step.new.self.forest) c.args.self.now.risen c.step.new.self.risen c.args.self.now.tour
-    c.step.new.self.tour
-    ((c.step.ensures.way e).made.leaves ∙ sym c.requires.way.made.leaves)
+    c.step.new.self.tour ((c.step.ensures.way e).made.leaves ∙ sym c.requires.way.made.leaves)
     (subst (λ n. steps_left c.args.g.now.n (forest_of c.step.new.self.forest) < n) c.rise_to.ensures.steps
     (c.step.ensures.fewer e))
