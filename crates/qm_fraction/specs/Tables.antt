@@ -3,31 +3,13 @@ use Rattle.std.specs.Prelude.{◌≡◌, ℕ, ◌+◌, ◌^◌, ◌<◌, ◌≤�
 use Rattle.std.specs.List.{All}
 use Rattle.std.specs.BinaryHeap.{heap_items}
 use Rattle.std.specs.declared.cmp.Reverse.{Reverse}
-use Rattle.qm_fraction.specs.declared.exits.Dart.{Dart}
-use Rattle.qm_fraction.specs.declared.exits.Exit.{Exit}
 use Rattle.qm_fraction.specs.declared.exits.Exits.{Exits}
 use Rattle.qm_fraction.specs.declared.ends.Step.{Step}
 use Rattle.qm_fraction.specs.declared.search.Search.{Search}
 
--- A dart leads between vertices.
-abbrev pub IsDartWithin : (n : ℕ) (dart : Dart) → Type 0
-IsDartWithin n dart = (dart.from < n) × (dart.to < n)
-
--- An exit leads to a vertex.
-abbrev pub IsExitWithin : (n : ℕ) (exit : Exit) → Type 0
-IsExitWithin n exit = exit.to < n
-
 -- How many exits there are.
 abbrev pub exit_count : (exits : Exits) → ℕ
 exit_count exits = length exits.all.items
-
--- The tables of exits fit each other.
-pub record IsExits (exits : Exits) : Type 0 where
-  pub some : 1 ≤ exits.vertices
-  pub few : exit_count exits ≤ 2 ^ 31
-  pub all : All (IsExitWithin exits.vertices) exits.all.items
-  pub counted : length exits.firsts.items ≡ exits.vertices + 1
-  pub firsts : All (λ first. first ≤ exit_count exits) exits.firsts.items
 
 -- A step leads between vertices.
 abbrev pub IsStepWithin : (n : ℕ) (step : Step) → Type 0

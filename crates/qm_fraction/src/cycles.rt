@@ -1,17 +1,19 @@
 //! The edges of pairs, and each second edge of the odd cycles, which leaves a vertex of each free.
 
 ghost use Rattle.std.specs.Prelude.{◌≡◌, ◌<◌, length, OnOk};
-ghost use Rattle.def_matching.specs.Matching.{graph, IsSmallGraph};
 
 use crate::Memory;
 use crate::exits::{Dart, dart_at};
+use crate::graph::SmallGraph;
 use crate::vertices::Vertex;
-use def_matching::WGraph;
 use std::alloc::Global;
 
 /// Edges of which no two meet: those of the pairs, and each second one of the odd cycles.
-pub(crate) fn edges_of(alloc: Global, g: &WGraph, vertices: &[Vertex]) -> Result<Vec<u32>, Memory>
-    requires graph { IsSmallGraph (graph g.now) }
+pub(crate) fn edges_of(
+    alloc: Global,
+    g: &SmallGraph,
+    vertices: &[Vertex],
+) -> Result<Vec<u32>, Memory>
     requires vertices { length vertices.now ≡ g.now.n }
 {
     let mut taken = vec![in alloc; false; g.n as usize]?;
@@ -24,13 +26,12 @@ pub(crate) fn edges_of(alloc: Global, g: &WGraph, vertices: &[Vertex]) -> Result
 
 /// Takes the edge of a pair, or each second edge of a cycle from a vertex on, as long as both ends are free.
 fn follow(
-    g: &WGraph,
+    g: &SmallGraph,
     vertices: &[Vertex],
     first: u32,
     taken: &mut [bool],
     edges: &mut Vec<u32>,
 ) -> Result<(), Memory>
-    requires graph { IsSmallGraph (graph g.now) }
     requires vertices { length vertices.now ≡ g.now.n }
     requires first { first < g.now.n }
     requires taken { length taken.old ≡ g.now.n }

@@ -1,13 +1,12 @@
 //! What a way from a free vertex changes: mates along it, and an odd cycle that it closes or breaks.
 
 ghost use Rattle.std.specs.Prelude.{◌≡◌, ◌<◌, length, IfSome};
-ghost use Rattle.def_matching.specs.Matching.{graph, IsSmallGraph};
 ghost use Rattle.qm_fraction.specs.Tables.{IsStepWithin};
 
 use crate::exits::{Dart, dart_at, twin};
+use crate::graph::SmallGraph;
 use crate::search::Search;
 use crate::vertices::{HALVES, Vertex, join};
-use def_matching::WGraph;
 
 /// A step of a way from an outer vertex towards the source: its mate, an inner vertex, and the dart by which that was
 /// reached, from the next outer vertex.
@@ -19,8 +18,7 @@ pub(crate) struct Step {
 }
 
 /// Changes the mates along the way that was found. An odd cycle where it ends is broken, and one that it closes stays.
-pub(crate) fn end_way(g: &WGraph, vertices: &mut [Vertex], search: &Search)
-    requires graph { IsSmallGraph (graph g.now) }
+pub(crate) fn end_way(g: &SmallGraph, vertices: &mut [Vertex], search: &Search)
     requires vertices { length vertices.old ≡ g.now.n }
     ensures { length vertices.new ≡ g.now.n }
 {
@@ -37,8 +35,7 @@ pub(crate) fn end_way(g: &WGraph, vertices: &mut [Vertex], search: &Search)
 }
 
 /// Matches the ends of a dart from an outer vertex, and changes mates from there to the source.
-fn change(g: &WGraph, vertices: &mut [Vertex], last: u32)
-    requires graph { IsSmallGraph (graph g.now) }
+fn change(g: &SmallGraph, vertices: &mut [Vertex], last: u32)
     requires vertices { length vertices.old ≡ g.now.n }
     ensures { length vertices.new ≡ g.now.n }
 {
@@ -57,8 +54,7 @@ fn change(g: &WGraph, vertices: &mut [Vertex], last: u32)
 }
 
 /// Matches all vertices of an odd cycle but one to each other.
-fn break_cycle(g: &WGraph, vertices: &mut [Vertex], first: u32)
-    requires graph { IsSmallGraph (graph g.now) }
+fn break_cycle(g: &SmallGraph, vertices: &mut [Vertex], first: u32)
     requires vertices { length vertices.old ≡ g.now.n }
     requires first { first < g.now.n }
     ensures { length vertices.new ≡ g.now.n }
@@ -84,8 +80,7 @@ fn break_cycle(g: &WGraph, vertices: &mut [Vertex], first: u32)
 }
 
 /// The step from an outer vertex towards the source, unless it is the source.
-fn step_from(g: &WGraph, vertices: &[Vertex], at: u32) -> Option<Step>
-    requires graph { IsSmallGraph (graph g.now) }
+fn step_from(g: &SmallGraph, vertices: &[Vertex], at: u32) -> Option<Step>
     requires vertices { length vertices.now ≡ g.now.n }
     requires vertex { at < g.now.n }
     ensures { IfSome result (IsStepWithin g.now.n) }
@@ -102,8 +97,7 @@ fn step_from(g: &WGraph, vertices: &[Vertex], at: u32) -> Option<Step>
 }
 
 /// The outer vertex where the ways of two outer ones to the source meet.
-fn meeting(g: &WGraph, vertices: &mut [Vertex], u: u32, v: u32) -> u32
-    requires graph { IsSmallGraph (graph g.now) }
+fn meeting(g: &SmallGraph, vertices: &mut [Vertex], u: u32, v: u32) -> u32
     requires vertices { length vertices.old ≡ g.now.n }
     requires ends { (u < g.now.n) × (v < g.now.n) }
     ensures vertices { length vertices.new ≡ g.now.n }
@@ -116,8 +110,7 @@ fn meeting(g: &WGraph, vertices: &mut [Vertex], u: u32, v: u32) -> u32
 }
 
 /// Sets the marks of all outer vertices from one to the source.
-fn mark_way(g: &WGraph, vertices: &mut [Vertex], from: u32, is_marked: bool)
-    requires graph { IsSmallGraph (graph g.now) }
+fn mark_way(g: &SmallGraph, vertices: &mut [Vertex], from: u32, is_marked: bool)
     requires vertices { length vertices.old ≡ g.now.n }
     requires from { from < g.now.n }
     ensures { length vertices.new ≡ g.now.n }
@@ -133,8 +126,7 @@ fn mark_way(g: &WGraph, vertices: &mut [Vertex], from: u32, is_marked: bool)
 }
 
 /// The first outer vertex with a mark, from one to the source.
-fn first_marked(g: &WGraph, vertices: &[Vertex], from: u32) -> u32
-    requires graph { IsSmallGraph (graph g.now) }
+fn first_marked(g: &SmallGraph, vertices: &[Vertex], from: u32) -> u32
     requires vertices { length vertices.now ≡ g.now.n }
     requires from { from < g.now.n }
     ensures { result < g.now.n }
@@ -154,8 +146,7 @@ fn first_marked(g: &WGraph, vertices: &[Vertex], from: u32) -> u32
 
 /// Closes the odd cycle of a dart between two outer vertices, whose ways meet at a third, and changes mates from there
 /// to the source.
-fn close(g: &WGraph, vertices: &mut [Vertex], last: u32, top: u32)
-    requires graph { IsSmallGraph (graph g.now) }
+fn close(g: &SmallGraph, vertices: &mut [Vertex], last: u32, top: u32)
     requires vertices { length vertices.old ≡ g.now.n }
     requires top { top < g.now.n }
     ensures { length vertices.new ≡ g.now.n }
@@ -173,8 +164,7 @@ fn close(g: &WGraph, vertices: &mut [Vertex], last: u32, top: u32)
 }
 
 /// Turns the way from an outer vertex up to another into a part of an odd cycle.
-fn turn_up(g: &WGraph, vertices: &mut [Vertex], from: u32, top: u32)
-    requires graph { IsSmallGraph (graph g.now) }
+fn turn_up(g: &SmallGraph, vertices: &mut [Vertex], from: u32, top: u32)
     requires vertices { length vertices.old ≡ g.now.n }
     requires from { from < g.now.n }
     ensures { length vertices.new ≡ g.now.n }
@@ -195,8 +185,7 @@ fn turn_up(g: &WGraph, vertices: &mut [Vertex], from: u32, top: u32)
 }
 
 /// Turns the way down to an outer vertex from another into a part of an odd cycle, which goes on by a dart from there.
-fn turn_down(g: &WGraph, vertices: &mut [Vertex], last: u32, to: u32, top: u32)
-    requires graph { IsSmallGraph (graph g.now) }
+fn turn_down(g: &SmallGraph, vertices: &mut [Vertex], last: u32, to: u32, top: u32)
     requires vertices { length vertices.old ≡ g.now.n }
     requires to { to < g.now.n }
     ensures { length vertices.new ≡ g.now.n }

@@ -2,11 +2,11 @@
 
 ghost use Rattle.std.specs.Prelude.{◌≡◌, ◌+◌, ◌*◌, ◌^◌, ◌<◌, ◌≤◌, length, IfOk, IfSome};
 ghost use Rattle.std.specs.List.{All};
-ghost use Rattle.def_matching.specs.Matching.{graph, IsSmallGraph};
-ghost use Rattle.qm_fraction.specs.Tables.{IsDartWithin, IsExitWithin, IsExits, exit_count};
+ghost use Rattle.qm_fraction.specs.Exits.{AreExits, IsDartWithin, IsExitWithin};
 
 use crate::Memory;
-use def_matching::{WEdge, WGraph};
+use crate::graph::SmallGraph;
+use def_matching::WEdge;
 use std::alloc::Global;
 
 /// A dart: where it begins and where it ends, and what its edge costs. That of edge `e` from its first end to its
@@ -32,12 +32,14 @@ pub(crate) struct Exits {
     pub(crate) vertices: u32,
     pub(crate) all: Vec<Exit>,
     pub(crate) firsts: Vec<u32>,
+    pub(crate) ghost fits: { AreExits vertices all.items firsts.items },
 }
 
 impl Exits {
+    ghost use Rattle.qm_fraction.specs.Tables.{exit_count};
+
     /// The first exit of a vertex, and the first behind them.
     pub(crate) fn range(&self, v: u32) -> (u32, u32)
-        requires exits { IsExits self.now }
         requires vertex { v < self.now.vertices }
         ensures { result.1 ≤ exit_count self.now }
     {
@@ -46,7 +48,6 @@ impl Exits {
 
     /// An exit by its place.
     pub(crate) fn exit(&self, place: u32) -> Exit
-        requires exits { IsExits self.now }
         requires place { place < exit_count self.now }
         ensures { IsExitWithin self.now.vertices result }
     {
@@ -55,8 +56,7 @@ impl Exits {
 }
 
 /// The dart with a number, if there is one.
-pub(crate) fn dart_at(g: &WGraph, d: u32) -> Option<Dart>
-    requires { IsSmallGraph (graph g.now) }
+pub(crate) fn dart_at(g: &SmallGraph, d: u32) -> Option<Dart>
     ensures { IfSome result (IsDartWithin g.now.n) }
 {
     if (d / 2) as usize >= g.edges.len() {
@@ -73,19 +73,16 @@ pub(crate) fn twin(d: u32) -> u32 {
 }
 
 /// An edge.
-fn edge_at(g: &WGraph, e: u32) -> WEdge
-    requires graph { IsSmallGraph (graph g.now) }
-    requires edge { e < length g.now.edges.items }
+fn edge_at(g: &SmallGraph, e: u32) -> WEdge
+    requires edge { e < length g.now.edges.now }
     ensures { (result.u < g.now.n) × (result.v < g.now.n) }
 {
     g.edges[e as usize]
 }
 
 /// The exits of a graph that has vertices. Linear.
-pub(crate) fn exits_of(alloc: Global, g: &WGraph) -> Result<Exits, Memory>
-    requires graph { IsSmallGraph (graph g.now) }
+pub(crate) fn exits_of(alloc: Global, g: &SmallGraph) -> Result<Exits, Memory>
     requires some { 1 ≤ g.now.n }
-    ensures exits { IfOk result IsExits }
     ensures vertices { IfOk result (λ exits. exits.vertices ≡ g.now.n) }
 {
     let firsts = firsts_of(alloc, g)?;
@@ -107,10 +104,9 @@ pub(crate) fn exits_of(alloc: Global, g: &WGraph) -> Result<Exits, Memory>
 }
 
 /// For each vertex how many darts leave those before it, and at the end how many there are in all.
-fn firsts_of(alloc: Global, g: &WGraph) -> Result<Vec<u32>, Memory>
-    requires { IsSmallGraph (graph g.now) }
+fn firsts_of(alloc: Global, g: &SmallGraph) -> Result<Vec<u32>, Memory>
     ensures count { IfOk result (λ firsts. length firsts.items ≡ g.now.n + 1) }
-    ensures within { IfOk result (λ firsts. All (λ first. first ≤ 2 * length g.now.edges.items) firsts.items) }
+    ensures within { IfOk result (λ firsts. All (λ first. first ≤ 2 * length g.now.edges.now) firsts.items) }
 {
     let all = 2 * g.edges.len() as u32;
     let mut counts = vec![in alloc; 0u32; g.n as usize]?;
@@ -130,8 +126,7 @@ fn firsts_of(alloc: Global, g: &WGraph) -> Result<Vec<u32>, Memory>
 }
 
 /// Puts a dart at the first free place of the vertex where it begins.
-fn put(g: &WGraph, all: &mut [Exit], free: &mut [u32], d: u32)
-    requires graph { IsSmallGraph (graph g.now) }
+fn put(g: &SmallGraph, all: &mut [Exit], free: &mut [u32], d: u32)
     requires free { length free.old ≡ g.now.n + 1 }
     requires few { length all.old ≤ 2 ^ 31 }
     requires all { All (IsExitWithin g.now.n) all.old }

@@ -6,6 +6,7 @@ ghost use Rattle.def_matching.specs.Matching.{graph, IsSmallGraph};
 use crate::Memory;
 use crate::cycles::edges_of;
 use crate::exits::exits_of;
+use crate::graph::SmallGraph;
 use crate::paths::match_all;
 use crate::search::no_search;
 use crate::vertices::{free_count, numbers_of, pair_tight, vertices_of};
@@ -43,19 +44,23 @@ pub fn least_fraction(
     requires long { length y.now ≡ g.now.n }
     ensures { IfOk result (λ found. IfSome found (λ fraction. length fraction.numbers.items ≡ g.now.n)) }
 {
+    let small = SmallGraph {
+        n: g.n,
+        edges: &g.edges,
+    };
     let mut vertices = vertices_of(alloc, y)?;
-    pair_tight(g, &mut vertices, known);
+    pair_tight(&small, &mut vertices, known);
     if g.n == 0 || free_count(&vertices) <= FEW.min(g.n as usize / SHARE) {
         return Ok(None);
     }
-    let exits = exits_of(alloc, g)?;
+    let exits = exits_of(alloc, &small)?;
     let mut search = no_search(alloc, &exits);
     let mut fuel = FUEL;
-    match_all(g, &exits, &mut vertices, &mut search, &mut fuel)?;
+    match_all(&small, &exits, &mut vertices, &mut search, &mut fuel)?;
     drop(search);
     drop(exits);
     Ok(Some(Fraction {
         numbers: numbers_of(alloc, &vertices)?,
-        edges: edges_of(alloc, g, &vertices)?,
+        edges: edges_of(alloc, &small, &vertices)?,
     }))
 }

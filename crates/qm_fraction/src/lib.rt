@@ -11,6 +11,7 @@ mod cycles;
 mod ends;
 mod exits;
 mod fraction;
+mod graph;
 mod paths;
 mod search;
 mod vertices;

@@ -1,27 +1,24 @@
 //! Searches for the nearest end of a way from a free vertex, and the numbers that make all edges of the way tight.
 
 ghost use Rattle.std.specs.Prelude.{◌≡◌, ◌<◌, length, OnOk};
-ghost use Rattle.def_matching.specs.Matching.{graph, IsSmallGraph};
-ghost use Rattle.qm_fraction.specs.Tables.{IsExits, IsSearch};
+ghost use Rattle.qm_fraction.specs.Tables.{IsSearch};
 
 use crate::Memory;
 use crate::ends::end_way;
 use crate::exits::Exits;
+use crate::graph::SmallGraph;
 use crate::search::{Search, clear, count_look, is_over, make_outer, next_of, reach};
 use crate::vertices::{FAR, NONE, Vertex};
-use def_matching::WGraph;
 
 /// Matches each free vertex, or puts it on an odd cycle, as far as the fuel goes: each exit that is looked at takes
 /// one.
 pub(crate) fn match_all(
-    g: &WGraph,
+    g: &SmallGraph,
     exits: &Exits,
     vertices: &mut [Vertex],
     search: &mut Search,
     fuel: &mut u32,
 ) -> Result<(), Memory>
-    requires graph { IsSmallGraph (graph g.now) }
-    requires exits { IsExits exits.now }
     requires same { exits.now.vertices ≡ g.now.n }
     requires vertices { length vertices.old ≡ g.now.n }
     requires search { IsSearch g.now.n search.old }
@@ -48,7 +45,6 @@ fn find(
     source: u32,
     fuel: &mut u32,
 ) -> Result<bool, Memory>
-    requires exits { IsExits exits.now }
     requires vertices { length vertices.old ≡ exits.now.vertices }
     requires search { IsSearch exits.now.vertices search.old }
     requires source { source < exits.now.vertices }
@@ -84,7 +80,6 @@ fn look_from(
     from: u32,
     fuel: &mut u32,
 ) -> Result<(), Memory>
-    requires exits { IsExits exits.now }
     requires vertices { length vertices.old ≡ exits.now.vertices }
     requires search { IsSearch exits.now.vertices search.old }
     requires from { from < exits.now.vertices }

@@ -1,7 +1,7 @@
 //! The tables of a search for the nearest end of a way from a free vertex, and its queue.
 
 ghost use Rattle.std.specs.Prelude.{◌≡◌, ◌<◌, length, OnOk, IfOk, IfSome};
-ghost use Rattle.qm_fraction.specs.Tables.{IsExits, IsSearch};
+ghost use Rattle.qm_fraction.specs.Tables.{IsSearch};
 
 use crate::Memory;
 use crate::exits::{Exit, Exits};
@@ -39,7 +39,6 @@ pub(crate) struct Search {
 
 /// A search that has not begun.
 pub(crate) fn no_search(alloc: Global, exits: &Exits) -> Search
-    requires { IsExits exits.now }
     ensures { IsSearch exits.now.vertices result }
 {
     Search {

@@ -1,11 +1,10 @@
 //! The vertices on the way to a least fractional matching: their numbers, and what they are matched to.
 
 ghost use Rattle.std.specs.Prelude.{◌≡◌, ◌<◌, length, IfOk};
-ghost use Rattle.def_matching.specs.Matching.{graph, IsSmallGraph};
 
 use crate::Memory;
 use crate::exits::{Dart, dart_at, twin};
-use def_matching::WGraph;
+use crate::graph::SmallGraph;
 use std::alloc::Global;
 
 /// No dart, and no vertex.
@@ -55,8 +54,7 @@ pub(crate) fn vertices_of(alloc: Global, numbers: &[i64]) -> Result<Vec<Vertex>,
 }
 
 /// Matches the ends of tight edges to each other, where both are free: first of known ones, then of all.
-pub(crate) fn pair_tight(g: &WGraph, vertices: &mut [Vertex], known: &[u32])
-    requires graph { IsSmallGraph (graph g.now) }
+pub(crate) fn pair_tight(g: &SmallGraph, vertices: &mut [Vertex], known: &[u32])
     requires vertices { length vertices.old ≡ g.now.n }
     ensures { length vertices.new ≡ g.now.n }
 {
@@ -69,8 +67,7 @@ pub(crate) fn pair_tight(g: &WGraph, vertices: &mut [Vertex], known: &[u32])
 }
 
 /// Matches the ends of an edge to each other, where it is tight and both are free.
-fn pair(g: &WGraph, vertices: &mut [Vertex], e: u32)
-    requires graph { IsSmallGraph (graph g.now) }
+fn pair(g: &SmallGraph, vertices: &mut [Vertex], e: u32)
     requires vertices { length vertices.old ≡ g.now.n }
     ensures { length vertices.new ≡ g.now.n }
 {

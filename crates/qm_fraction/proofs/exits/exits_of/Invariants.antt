@@ -1,9 +1,9 @@
 use Rattle.std.proofs.Common.{◌≡◌, ◌+◌, ◌*◌, length}
 use Rattle.std.specs.List.{All}
-use Rattle.qm_fraction.specs.Tables.{IsExitWithin}
+use Rattle.qm_fraction.specs.Exits.{IsExitWithin}
 use Rattle.qm_fraction.proofs.exits.exits_of.Given as goal
 
 abbrev pub invariant-loop-d : goal.invariant-loop-d
 invariant-loop-d l = (length l.free.items ≡ l.g.n + 1)
-    × (length l.all.items ≡ 2 * length l.g.edges.items)
+    × (length l.all.items ≡ 2 * length l.g.edges.now)
     × All (IsExitWithin l.g.n) l.all.items

@@ -6,5 +6,5 @@ abbrev pub invariant-loop-d : goal.invariant-loop-d
 invariant-loop-d l = length l.counts.items ≡ l.g.n
 
 abbrev pub invariant-loop-count : goal.invariant-loop-count
-invariant-loop-count l = (length l.firsts.items ≡ l.count-index + 1) × All (λ first. first ≤ 2 * length l.g.edges.items)
+invariant-loop-count l = (length l.firsts.items ≡ l.count-index + 1) × All (λ first. first ≤ 2 * length l.g.edges.now)
     l.firsts.items
