@@ -7,10 +7,9 @@ use Rattle.std.proofs.lemmas.Bool.{false≢true}
 use Rattle.std.proofs.lemmas.List.{ext_get_or, length-map}
 use Rattle.std.proofs.lemmas.List.FromFn.{length-range_with_len, get_or-map-range_with_len}
 use Rattle.def_mesh.specs.Faces.{Faces}
-use Rattle.def_mesh.specs.Darts.{darts, all_darts, from_of, prev_of}
+use Rattle.def_mesh.specs.Darts.{darts, all_darts, from_of}
 use Rattle.def_mesh.specs.HalfEdges.{HalfEdges, IsQuadManifold, half_edges}
 use Rattle.def_mesh.specs.Manifold.{IsManifold}
-use Rattle.def_mesh.specs.Vertices.{fan_of}
 use Rattle.def_cut.specs.FullCut.{is_on}
 use Rattle.def_cut.specs.Motion.{is_among}
 use Rattle.def_cut.specs.Steps.{easts}
@@ -43,18 +42,6 @@ of_arc mesh s t n d y = by_place
     by_place (k, m, is) =
         let r : (0 ≤ k) × (k < 0 + n) = range_among 0 n k m in
         (k, omega (arith, r.1), elim (or_cases _ _ is) [ inl e ↦ inl (eqb-true _ _ e) | inr e ↦ inr (eqb-true _ _ e) ])
-
--- Tests grow with the cut.
-turn_more : (faces : Faces) (cut rest : List Bool) (v : ℕ) → ((d : ℕ) → is_on rest d ≡ true → is_on cut d ≡ true)
-    → is_turn faces rest v ≡ true → is_turn faces cut v ≡ true
-turn_more faces cut rest v more y = by_dart (any_where (λ d. is_on rest d && is_on rest (prev_of d)) (fan_of faces v) y)
-  where
-    by_dart : (d : ℕ) × (is_among d (fan_of faces v) ≡ true) × ((is_on rest d && is_on rest (prev_of d)) ≡ true)
-        → is_turn faces cut v ≡ true
-    by_dart (d, m, is) =
-        let p : (is_on rest d ≡ true) × (is_on rest (prev_of d) ≡ true) = and_parts _ _ is in
-        any_at (λ e. is_on cut e && is_on cut (prev_of e)) d (fan_of faces v) m
-        (and_from _ _ (more d p.0) (more (prev_of d) p.1))
 
 implied : (a b : Bool) → (a ≡ true → b ≡ true) → (not a || b) ≡ true
 implied true b f = f refl

@@ -38,10 +38,6 @@ share_back faces f g s =
         (eq-eqb _ _ (sym (eqb-true _ _ p.0)))))
 
 module _ (faces : Faces) where
-  shares_low : (f g n : ℕ) → f < length faces → Shares faces f g n → g < length faces
-  shares_low f g zero l s = subst (λ (x : ℕ). x < length faces) s l
-  shares_low f g (suc n) l s = s.3
-
   pub shares_join : (f g h n m : ℕ) → Shares faces f g n → Shares faces g h m → (k : ℕ) × Shares faces f h k
   shares_join f g h n zero a b = (n, subst (λ (x : ℕ). Shares faces f x n) b a)
   shares_join f g h n (suc m) a b = let j : (k : ℕ) × Shares faces f b.0 k = shares_join f g b.0 n m a b.1 in

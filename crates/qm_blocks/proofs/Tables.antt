@@ -1,9 +1,9 @@
 -- Tables of spots: what each side puts into one, and what a whole one says.
 use Rattle.std.proofs.Common.{◌≡◌, ◌≢◌, ◌⊎◌, ℕ, ◌+◌, ◌*◌, ◌<◌, Bool, true, false, not, cond, List, length, Some, None}
 use Rattle.std.proofs.Common.{Option}
-use Rattle.std.proofs.Common.{refl, sym, ◌∙◌, ap, subst, inl, inr, arith, replicate}
-use Rattle.std.proofs.lemmas.Bool.{cases_eq, cases_lt, false≢true}
-use Rattle.std.proofs.lemmas.List.{get_or-replicate, get_or-set_other, get_or-set_same, get_or_past, length-replicate}
+use Rattle.std.proofs.Common.{refl, sym, ◌∙◌, ap, subst, inl, inr, arith}
+use Rattle.std.proofs.lemmas.Bool.{cases_eq, false≢true}
+use Rattle.std.proofs.lemmas.List.{get_or-set_other, get_or-set_same}
 use Rattle.std.proofs.lemmas.List.{length-set}
 use Rattle.std.proofs.lemmas.Option.{same_Some}
 use Rattle.std.proofs.Math.ListN.{set}
@@ -16,18 +16,8 @@ use Rattle.def_layout.specs.declared.tmesh.SideArc.{SideArc}
 use Rattle.def_remesh.specs.Numberings.{used_at}
 use Rattle.def_blocks.specs.Links.{side_name}
 use Rattle.def_blocks.specs.declared.link.SideName.{SideName}
-use Rattle.qm_blocks.specs.Spots.{back_key, key_of, spot_at, spot_of, spot_on, HasSpots, HasUses, HavePut, IsBefore}
+use Rattle.qm_blocks.specs.Spots.{back_key, key_of, spot_at, spot_of, spot_on, HasSpots, HasUses, HavePut}
 use Rattle.qm_blocks.specs.Spots.{IsOnBlock, IsOnSide, Spot}
-
--- No use yet.
-pub no_uses : (side : List SideArc) (lengths : Lengths) (block : ℕ) (name : SideName) (old : List (Option Spot))
-    → HasUses side lengths block name 0 old old
-no_uses side lengths block name old = record {
-  long = refl;
-  kept = λ key is. is;
-  put = λ at less. absurd (omega arith);
-  only = λ key spot e. inl e;
-}
 
 -- The next use puts its spot in.
 pub use_more : (side : List SideArc) (lengths : Lengths) (block : ℕ) (name : SideName) (many : ℕ)
@@ -73,52 +63,6 @@ use_more side lengths block name many old mid low are = record {
         × (spot_on side lengths block name at ≡ spot))
     before k spot (inl was) = inl was
     before k spot (inr (at, less, is, same)) = inr (at, omega arith, is, same)
-
--- A table in which nothing stands.
-pub no_spots : (l : Layout) (x : Lengths) (table : List (Option Spot)) (n : ℕ) → n ≡ 2 * l.arcs
-    → table ≡ replicate n None
-    → HasSpots l x (IsBefore 0) table
-no_spots l x table n long is = record {
-  long = ap length is ∙ length-replicate n None ∙ long;
-  put = λ w slot less. absurd (omega arith);
-  only = λ key spot e. absurd (false≢true (sym (ap is_some (empty key)) ∙ ap is_some e));
-}
-  where
-    empty : (key : ℕ) → spot_at table key ≡ None
-    empty key = ap (λ t. spot_at t key) is ∙ elim (cases_lt key n) [
-      | inl less ↦ get_or-replicate n key None None less
-      | inr more ↦ get_or_past (replicate n None) key None (omega (arith, length-replicate {A = Option Spot} n None))
-    ]
-
--- Less is asked of the same table.
-pub spots_for : (l : Layout) (x : Lengths) (done now : Slot → Type 0) (table : List (Option Spot))
-    → ((w : Slot) → IsSlot l w → now w → done w) → HasSpots l x done table → HasSpots l x now table
-spots_for l x done now table back are = record {
-  long = are.long;
-  put = λ w slot is. are.put w slot (back w slot is);
-  only = are.only;
-}
-
--- More slots are done.
-pub spots_more : (l : Layout) (x : Lengths) (done now : Slot → Type 0) (old new : List (Option Spot))
-    → HasSpots l x done old
-    → HavePut l x now old new → HasSpots l x (λ w. done w ⊎ now w) new
-spots_more l x done now old new are more = record {
-  long = more.long ∙ are.long;
-  put = put;
-  only = λ key spot e. told key spot (more.only key spot e);
-}
-  where
-    put : (w : Slot) → IsSlot l w → done w ⊎ now w → is_some (spot_at new (key_of (use_of l w))) ≡ true
-    put w slot (inl before) = more.kept (key_of (use_of l w)) (are.put w slot before)
-    put w slot (inr here) = more.put w slot here
-
-    told : (key : ℕ) (spot : Spot)
-        → (spot_at old key ≡ Some spot) ⊎ ((w : Slot) × IsSlot l w × (key_of (use_of l w) ≡ key)
-        × (spot_of l x w ≡ spot))
-        → (w : Slot) × IsSlot l w × (key_of (use_of l w) ≡ key) × (spot_of l x w ≡ spot)
-    told key spot (inl was) = are.only key spot was
-    told key spot (inr here) = here
 
 -- The slots of a side have put theirs.
 pub side_put : (plan : Plan) (x : Lengths) (block : ℕ) (way : Way) (side : List SideArc) (name : SideName)
@@ -200,10 +144,6 @@ block_put l x block old new are = record {
     by_side w east here e = inl (inl (inr (here, e)))
     by_side w north here e = inl (inr (here, e))
     by_side w west here e = inr (here, e)
-
--- One block more is done.
-pub block_more : (block : ℕ) (w : Slot) → IsBefore (block + 1) w → IsBefore block w ⊎ IsOnBlock block w
-block_more block w less = elim (cases_lt w.patch block) [ inl before ↦ inl before | inr more ↦ inr (omega arith) ]
 
 -- Arcs in use by their places.
 pub key_low : (u : SideArc) (n : ℕ) → u.arc < n → key_of u < 2 * n

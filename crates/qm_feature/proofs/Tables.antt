@@ -1,54 +1,11 @@
 -- One dart more in the tables of runs.
-use Rattle.std.proofs.Common.{◌≡◌, ◌⊎◌, ℕ, ◌+◌, ◌<◌, ◌≤◌, Bool, true, false, cond, min, List, length, set, sym, subst}
+use Rattle.std.proofs.Common.{◌≡◌, ◌⊎◌, ℕ, ◌+◌, ◌<◌, ◌≤◌, min, List, length, set, sym, subst}
 use Rattle.std.proofs.Common.{ap, ◌∙◌, inl, inr, arith}
-use Rattle.std.proofs.lemmas.Bool.{cases_Bool, cases_eq, cases_lt, false≢true}
+use Rattle.std.proofs.lemmas.Bool.{cases_eq, cases_lt}
 use Rattle.std.proofs.lemmas.List.{get_or-set_same, get_or-set_other, length-set}
 use Rattle.def_mesh.specs.Faces.{Faces}
 use Rattle.def_mesh.specs.Darts.{from_of}
-use Rattle.def_cut.specs.FullCut.{is_on}
-use Rattle.qm_feature.specs.Rings.{AreLeast, AreWhole, least_at, run_at}
-
-pub whole_more : (marks : List Bool) (run : List ℕ) (old whole new : List Bool) (n : ℕ) → AreWhole marks run old whole n
-    → run_at run n < length whole → new ≡ cond (is_on marks n) whole (set whole (run_at run n) false)
-    → AreWhole marks run old new (n + 1)
-whole_more marks run old whole new n w low is = by_mark (cases_Bool (is_on marks n))
-  where
-    last : (d : ℕ) → d < n + 1 → (d < n) ⊎ (d ≡ n)
-    last d l = elim (cases_eq d n) [ inl e ↦ inr e | inr ne ↦ inl (omega arith) ]
-
-    by_mark : (is_on marks n ≡ true) ⊎ (is_on marks n ≡ false) → AreWhole marks run old new (n + 1)
-    by_mark (inl y) = subst (λ (xs : List Bool). AreWhole marks run old xs (n + 1)) (sym same) (record {
-      long = w.long;
-      off = λ d l off. elim (last d l)
-          [ inl less ↦ w.off d less off | inr e ↦ absurd (false≢true (sym off ∙ (ap (is_on marks) e ∙ y))) ];
-      kept = w.kept;
-      on = λ r o each. w.on r o (λ d l e. each d (omega arith) e);
-    })
-      where
-        same : new ≡ whole
-        same = is ∙ ap (λ (b : Bool). cond b whole (set whole (run_at run n) false)) y
-    by_mark (inr off_n) = subst (λ (xs : List Bool). AreWhole marks run old xs (n + 1)) (sym same) (record {
-      long = length-set whole (run_at run n) false ∙ w.long;
-      off = λ d l off. elim (cases_eq (run_at run d) (run_at run n)) [
-        | inl e ↦ ap (is_on (set whole (run_at run n) false)) e ∙ there
-        | inr ne ↦ get_or-set_other whole (run_at run n) (run_at run d) false false ne
-            ∙ elim (last d l) [ inl less ↦ w.off d less off | inr e ↦ absurd (ne (ap (run_at run) e)) ]
-      ];
-      kept = λ r o. elim (cases_eq r (run_at run n)) [
-        | inl e ↦ absurd (false≢true (sym (ap (is_on (set whole (run_at run n) false)) e ∙ there) ∙ o))
-        | inr ne ↦ w.kept r (sym (get_or-set_other whole (run_at run n) r false false ne) ∙ o)
-      ];
-      on = λ r o each. elim (cases_eq r (run_at run n)) [
-        | inl e ↦ absurd (false≢true (sym off_n ∙ each n (omega arith) (sym e)))
-        | inr ne ↦ get_or-set_other whole (run_at run n) r false false ne ∙ w.on r o (λ d l e. each d (omega arith) e)
-      ];
-    })
-      where
-        same : new ≡ set whole (run_at run n) false
-        same = is ∙ ap (λ (b : Bool). cond b whole (set whole (run_at run n) false)) off_n
-
-        there : is_on (set whole (run_at run n) false) (run_at run n) ≡ false
-        there = get_or-set_same whole (run_at run n) false false low
+use Rattle.qm_feature.specs.Rings.{AreLeast, least_at, run_at}
 
 pub least_more : (faces : Faces) (run least new : List ℕ) (none n : ℕ) → AreLeast faces run least none n
     → run_at run n < length least → from_of faces n ≤ none

@@ -1,13 +1,13 @@
 -- Reading words one by one.
 use Rattle.std.proofs.Common.{◌≡◌, ◌<◌, ◌≤◌, ◌+◌, ◌⊎◌, ◌++◌, ◌∷◌, [], ℕ, List, Option, Some, None, length, map, get_or}
-use Rattle.std.proofs.Common.{sym, subst, ◌∙◌, ap, inl, inr, arith, length-append, refl}
+use Rattle.std.proofs.Common.{sym, subst, ◌∙◌, ap, inl, inr, arith, length-append}
 use Rattle.std.proofs.Math.Seq.{get_or-append_seam}
 use Rattle.std.specs.Prelude.{IfSome}
 use Rattle.std.proofs.lemmas.List.{get_or_append_left, map-append}
 use Rattle.std.proofs.lemmas.Bool.{cases_lt}
 use Rattle.def_io.specs.Bytes.{Bytes, Lines}
 use Rattle.std.specs.Str.{IsUtf8}
-use Rattle.def_io.specs.Words.{AreAll, IsReadAs, IsReadAt, IsWordAt, ReadsWords}
+use Rattle.def_io.specs.Words.{IsReadAs, IsReadAt, IsWordAt}
 use Rattle.qm_io.specs.WordLists.{ReadsSome}
 
 -- A word that fits is read as it is where it is text, and else as the empty word.
@@ -27,10 +27,6 @@ word_read most (Some given) i bytes word is fits text other = (
     by_other : (¬ IsUtf8 bytes) ⊎ (most < length bytes) → word ≡ []
     by_other (inl bad) = other bad
     by_other (inr long) = absurd (omega (arith, long, fits))
-
-pub reads_none : (most : ℕ) (given : Option Lines) → ReadsSome most given 0 []
-reads_none most None = tt
-reads_none most (Some given) = record { many = refl; within = omega arith; each = λ k l. absurd (omega (arith, l)) }
 
 -- One word more.
 pub reads_more : (most : ℕ) (given : Option Lines) (i : ℕ) (words : Lines) (word : Bytes) → ReadsSome most given i words
@@ -64,11 +60,3 @@ reads_pushed f most given i words more found word read some is pushed =
     subst (ReadsSome most given (i + 1)) (sym (ap (map f) pushed ∙ map-append f words (word ∷ [])))
     (reads_more most given i (map f words) (f word) read
     (subst (λ (o : Option _). IfSome o (λ w. IsReadAt most given i (f w))) some is))
-
--- Where there are no more, these are all.
-pub reads_all : (most : ℕ) (given : Option Lines) (i : ℕ) (words : Lines) → ReadsSome most given i words
-    → AreAll given i
-    → ReadsWords most given words
-reads_all most None i words read all = tt
-reads_all most (Some given) i words read all =
-    record { many = omega (arith, read.many, read.within, all); each = λ k l. read.each k (omega (arith, l, all)) }

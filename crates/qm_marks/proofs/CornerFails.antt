@@ -10,7 +10,7 @@ use Rattle.def_text.specs.declared.index.Index.{Index}
 use Rattle.def_marks.specs.Chains.{is_chain}
 use Rattle.def_marks.specs.Lines.{corner_fails, corner_index, is_line_corner, is_malformed, is_nothing, named_chain}
 use Rattle.def_marks.specs.Lines.{named_vertex}
-use Rattle.def_marks.specs.declared.fail.MarkFail.TheVariants.{NotEdge, Range, Syntax}
+use Rattle.def_marks.specs.declared.fail.MarkFail.TheVariants.{NotEdge, Range}
 
 module _ (all before : ℕ) (corners : Words) (right : Bool) (indices : List Index) (is : right
     ≡ list_all is_line_corner corners) (are : right ≡ true → indices ≡ map (corner_index all before) corners) where
@@ -55,9 +55,6 @@ chain_is names all before corners indices chain are is =
     is ∙ (ap (map (named_vertex names)) are ∙ map_map (named_vertex names) (corner_index all before) corners)
 
 module _ (soup : FaceSet) (all before number : ℕ) (corners : Words) where
-  pub fails_syntax : is_malformed corners ≡ true → corner_fails soup all before number corners ≡ Syntax number ∷ []
-  fails_syntax on = rw on refl
-
   module _ (off : is_malformed corners ≡ false) where
     pub fails_range : list_any (λ word. is_nothing (corner_index all before word)) corners ≡ true
         → corner_fails soup all before number corners ≡ Range number ∷ []

@@ -2,7 +2,7 @@
 use Rattle.std.proofs.Common.{◌≡◌, ℕ, suc, ◌+◌, Bool, true, false, cond, not, eqb, ◌&&◌, List, [], ◌∷◌, ◌++◌, length}
 use Rattle.std.proofs.Common.{take, drop, map, refl, sym, ap, ◌∙◌, arith, None, Some}
 use Rattle.std.specs.List.{after_first, list_all, position_or_len}
-use Rattle.std.proofs.lemmas.List.{append_assoc, append-nil}
+use Rattle.std.proofs.lemmas.List.{append_assoc}
 use Rattle.def_text.specs.Corner.{is_optional, is_slash, used_index}
 use Rattle.def_text.specs.Digits.{is_signed}
 use Rattle.def_text.specs.Types.{Word}
@@ -19,10 +19,6 @@ pub record IsReadTo (all before : ℕ) (text rest : List ℕ) (indices : List In
 pub next_word : (rest after : List ℕ) (word : Word) → words rest ≡ cond (eqb (length word) 0) [] (word ∷ words after)
     → eqb (length word) 0 ≡ false → words rest ≡ word ∷ words after
 next_word rest after word first some = first ∙ ap (λ (b : Bool). cond b [] (word ∷ words after)) some
-
-pub no_word : (rest after : List ℕ) (word : Word) → words rest ≡ cond (eqb (length word) 0) [] (word ∷ words after)
-    → eqb (length word) 0 ≡ true → words rest ≡ []
-no_word rest after word first none = first ∙ ap (λ (b : Bool). cond b [] (word ∷ words after)) none
 
 module _ (all before : ℕ) (text rest after : List ℕ) (word : Word) (indices : List Index)
     (to : IsReadTo all before text rest indices) where
@@ -42,14 +38,6 @@ module _ (all before : ℕ) (text rest after : List ℕ) (word : Word) (indices 
     pub read_bad : is_line_corner word ≡ false → false ≡ list_all is_line_corner (words text)
     read_bad off = sym (ap (list_all is_line_corner) next ∙ ap (λ b. b && list_all is_line_corner (words after)) off)
         ∙ to.passed
-
-  -- No word is left.
-  pub read_all : words rest ≡ [] → true ≡ list_all is_line_corner (words text)
-  read_all none = sym (ap (list_all is_line_corner) none) ∙ to.passed
-
-  pub read_items : words rest ≡ [] → indices ≡ map (corner_index all before) (words text)
-  read_items none = sym (append-nil indices) ∙ (ap (λ ws. indices ++ map (corner_index all before) ws) (sym none)
-      ∙ to.items)
 
 -- The parts of a word before and behind its first slash.
 pub behind_slash : (p : ℕ → Bool) (word : Word) → drop 1 (drop (position_or_len p word) word) ≡ after_first p word

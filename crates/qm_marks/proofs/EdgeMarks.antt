@@ -12,7 +12,7 @@ use Rattle.def_mesh.specs.Faces.{Faces}
 use Rattle.def_mesh.specs.Darts.{IsTwin, darts, from_of, to_of, twin_of}
 use Rattle.def_mesh.specs.Manifold.{IsManifold}
 use Rattle.def_marks.specs.Chains.{is_edge, link_at, runs_between}
-use Rattle.qm_marks.specs.Keys.{IsBetween, IsNoneBetween}
+use Rattle.qm_marks.specs.Keys.{IsNoneBetween}
 use Rattle.mesh_laws.proofs.Twins.{twin_found, twin_is}
 use Rattle.list_laws.proofs.Filters.{range_any, range_more}
 use Rattle.std.proofs.lemmas.List.Folds.{list_all-append, list_all_at, list_any-append}
@@ -150,13 +150,6 @@ chain_more faces chain old now new n to long edge step = record {
   marks = λ d l. step_more (is_on new d) (is_on old d) (is_some (twin_of faces d))
       (λ k. runs_between faces (link_at chain k) (link_at chain (k + 1)) d) n (is_on now d) (to.marks d l) (step d l);
 }
-
--- A dart between two vertices runs along their edge, and where there is none there is no edge.
-pub between_runs : (faces : Faces) (u v d : ℕ) → IsBetween faces u v d → runs_between faces u v d ≡ true
-between_runs faces u v d b = or_left _ _ (and_from _ _ (eq-eqb _ _ b.from) (eq-eqb _ _ b.to))
-
-pub between_back : (faces : Faces) (u v d : ℕ) → IsBetween faces v u d → runs_between faces u v d ≡ true
-between_back faces u v d b = or_right _ _ (and_from _ _ (eq-eqb _ _ b.from) (eq-eqb _ _ b.to))
 
 pub no_edge : (faces : Faces) (u v : ℕ) → IsNoneBetween faces u v → IsNoneBetween faces v u → is_edge faces u v ≡ false
 no_edge faces u v none back =

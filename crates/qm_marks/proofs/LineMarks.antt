@@ -239,10 +239,3 @@ counted_next all first i after count next more lt within at is are =
       few = omega (arith, is, are, one_vertex line, at.few, (span_within all i after lt within).0);
       left = omega (arith, cut, are, at.left);
     }
-
-pub counted_end : (all : Lines) (first i after count : ℕ) → after ≤ i → IsCounted all first i after count
-    → count ≡ count_by is_vertex_line (logical_lines (first + 1) (slice_range all first after))
-counted_end all first i after count past at =
-    let end : i ≡ after = omega (arith, at.within, past) in
-    let none : slice_range all i after ≡ [] = ap (λ n. slice_range all n after) end ∙ range_none all after in
-    omega (arith, at.left, ap (λ ls. count_by is_vertex_line (logical_lines (i + 1) ls)) none)

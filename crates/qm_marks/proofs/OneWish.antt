@@ -1,18 +1,16 @@
 -- What one line wishes, and the wishes at the darts of one edge.
-use Rattle.std.proofs.Common.{◌≡◌, ◌≢◌, ◌⊎◌, ℕ, ◌+◌, ◌-◌, ◌^◌, ◌<◌, ◌≤◌, Bool, true, false, eqb, ◌&&◌, ◌||◌, cond, List}
-use Rattle.std.proofs.Common.{[], ◌∷◌, length, get_or, set, Option, Some, None, is_some, refl, sym, ap, subst, ◌∙◌, inl}
+use Rattle.std.proofs.Common.{◌≡◌, ◌≢◌, ◌⊎◌, ℕ, ◌-◌, ◌^◌, ◌<◌, ◌≤◌, Bool, true, false, ◌||◌, cond, List}
+use Rattle.std.proofs.Common.{[], ◌∷◌, length, get_or, set, Option, Some, None, refl, sym, ap, subst, ◌∙◌, inl}
 use Rattle.std.proofs.Common.{inr, arith}
 use Rattle.std.specs.Prelude.{min, nat_lt}
-use Rattle.std.specs.List.{position_or_len}
-use Rattle.std.proofs.lemmas.Bool.{and_from, cases_eq, cases_lt, eq-eqb, false_from_ne_true, le-ltb, lt-ltb, or_cases}
+use Rattle.std.proofs.lemmas.Bool.{and_from, cases_eq, cases_lt, eq-eqb, false_from_ne_true, le-ltb, lt-ltb}
 use Rattle.std.proofs.lemmas.Bool.{or_left, or_right, true≢false}
 use Rattle.std.proofs.lemmas.List.{get_or-set_other, get_or-set_same, length-set}
 use Rattle.std.proofs.lemmas.Option.{none-some}
 use Rattle.def_fit.specs.WishLines.{is_out_of_range, said_fails, vertex_named, wish_or, wished_by, wishes_said, Wished}
 use Rattle.def_fit.specs.declared.fit.TheConstants.{MAX_WISH}
 use Rattle.def_marks.specs.Chains.{is_edge, runs_between}
-use Rattle.def_marks.specs.declared.fail.MarkFail.{MarkFail}
-use Rattle.def_marks.specs.declared.fail.MarkFail.TheVariants.{Syntax, Range, NotEdge}
+use Rattle.def_marks.specs.declared.fail.MarkFail.TheVariants.{Range, NotEdge}
 use Rattle.def_mesh.specs.Faces.{Faces}
 use Rattle.def_mesh.specs.Darts.{IsTwin, darts, from_of, to_of, twin_of}
 use Rattle.def_mesh.specs.Manifold.{IsManifold}
@@ -45,10 +43,6 @@ three_off false false true off = absurd (true≢false off)
 three_off false false false off = (refl, refl, refl)
 
 module _ (soup : FaceSet) (all number : ℕ) (words : Words) (low : all < 2 ^ 32) where
-  -- Words that wish for nothing.
-  pub takes_none : wished_by words ≡ None → said_fails soup all number (wished_by words) ≡ Syntax number ∷ []
-  takes_none none = ap (said_fails soup all number) none
-
   module _ (said : Said) (is : IsSaid words said) where
     far_same : (nat_lt all said.u || nat_lt all said.v || nat_lt MAX_WISH said.wish) ≡ is_out_of_range all is.wished
     far_same =

@@ -1,5 +1,5 @@
 -- An arc leaves dart by dart.
-use Rattle.std.proofs.Common.{◌≡◌, ◌≢◌, ◌⊎◌, ℕ, zero, suc, ◌+◌, ◌-◌, ◌<◌, ◌≤◌, false, Some, sym, ◌∙◌, ap, subst, refl}
+use Rattle.std.proofs.Common.{◌≡◌, ◌≢◌, ◌⊎◌, ℕ, zero, suc, ◌+◌, ◌-◌, ◌<◌, ◌≤◌, false, Some, sym, ◌∙◌, ap, subst}
 use Rattle.std.proofs.Common.{inl, inr, arith}
 use Rattle.std.proofs.lemmas.Bool.{cases_eq}
 use Rattle.std.proofs.lemmas.Option.{same_Some}
@@ -31,14 +31,6 @@ stood mesh s d e (suc k) at some is = let before : suc k - 1 ≡ k =
 
 pub first_still : (mesh : HalfEdges) (s k : ℕ) → k ≤ 0 → easts mesh s (k - 1) ≡ easts mesh s k
 first_still mesh s k none = let same : k - 1 ≡ k = omega arith in ap (easts mesh s) same
-
-pub left_begins : (mesh : HalfEdges) (cut : Cut) (s t n : ℕ) → HaveLeft mesh cut cut s t n 0
-left_begins mesh cut s t n = record {
-  near = λ i l. absurd (omega arith);
-  far = λ i j l e. absurd (omega arith);
-  kept =
-      λ d none. refl;
-}
 
 pub all_left : (mesh : HalfEdges) (cut rest : Cut) (s t n : ℕ) → HaveLeft mesh cut rest s t n n
     → IsWithout mesh cut rest s t n

@@ -15,18 +15,6 @@ use Rattle.qm_merge.specs.Seams.{AreGluedSoFar, IsNameSoFar}
 abbrev pub least_of_three : (a b c : ℕ) → ℕ
 least_of_three a b c = min (min a b) c
 
--- Nothing yet.
-pub glued_begins : (mesh : HalfEdges) (cut : Cut) (s far : ℕ) → AreGluedSoFar mesh cut s far 0
-glued_begins mesh cut s far = record {
-  across = λ k j e. absurd (omega arith);
-  inside =
-      λ j l. absurd (omega arith);
-  ends = λ j e. absurd (omega arith);
-}
-
-pub name_begins : (mesh : HalfEdges) (s far : ℕ) → IsNameSoFar mesh s far 0 s
-name_begins mesh s far = record { on = inl refl; least = λ d o. absurd (omega (arith, o.1)) }
-
 module _ (mesh : HalfEdges) (cut : Cut) (s far d n t : ℕ) (at : d ≡ easts mesh s n) (tw : mesh.twin d ≡ Some t)
     (leads : LeadsOn mesh cut t n far) where
   -- Straight on from the new twin lie those before.

@@ -110,11 +110,6 @@ module _ (share : ℕ → ℕ) (m n k : ℕ) (all : ℕ) (whole : all ≡ count_
       div_less (ONE * (k * all - n * before)) ONE (n * share e) (omega (arith, rest_low from same))
       (omega (arith, rest_low from same))
 
-  pub parameter_is : e ≡ (inner_step share m n k).edge
-      → ONE * e + ONE * (k * all - n * before) / (n * share e) ≡ step_parameter (inner_step share m n k)
-  parameter_is is =
-      λ i. ONE * is i + ONE * (k * whole i - n * (before_is ∙ ap (count_below share) is) i) / (n * share (is i))
-
 -- The parameter of an inner point of an arc of a layout is that of the path of its darts.
 pub arc_parameter : (plan : Plan) (new : Lengths) (shares : List ℕ) (arc k : ℕ) (darts : List ℕ)
     → darts ≡ (path_at plan.arcs arc).darts → 0 < k → k < new arc

@@ -250,9 +250,6 @@ module _ (faces : Faces) (m : IsManifold faces) (d first : ℕ) (line : Line) (r
     (small : darts faces < NONE)
     (fresh : get_or run_old d 0 ≡ NONE) (back : IsBack faces d first) (on : IsLine faces first (length so.lists) line
     run_old run at_old at) (run_long : length run ≡ length run_old) (at_long : length at ≡ length at_old) where
-  abbrev new_run : List ℕ
-  new_run = walk_list (walked (follower faces) first) on.last
-
   abbrev lists : List (List ℕ)
   lists = so.lists ++ walk_list (walked (follower faces) first) on.last ∷ []
 

@@ -11,13 +11,13 @@ use Rattle.def_cut.specs.FullCut.{is_on}
 use Rattle.def_cut.specs.declared.moving.Moving.{Moving}
 use Rattle.def_cut.specs.Motion.{after_steps, end_of, is_among, ridden}
 use Rattle.def_cut.specs.Traced.{terrain_of}
-use Rattle.def_cut.specs.Events.{EventState, darts_in, is_waiting, leads_to, may_ride, may_settle, more_if, note_at}
+use Rattle.def_cut.specs.Events.{EventState, darts_in, is_waiting, leads_to, may_settle, more_if, note_at}
 use Rattle.def_cut.specs.Events.{rider_at, waiting, Event, IsMotionOf, May, NobodyRuns}
 use Rattle.def_cut.specs.Events.Event.{Ride, Settle}
 use Rattle.motion_laws.proofs.Among.{any_where}
 use Rattle.motion_laws.proofs.Shown.{still_runs}
 use Rattle.site_laws.proofs.Laws.{order_law}
-use Rattle.qm_trace.proofs.Reaching.{ride_runs, within_of}
+use Rattle.qm_trace.proofs.Reaching.{within_of}
 use Rattle.qm_trace.proofs.Settled.{settle_parts}
 
 -- Nobody waits.
@@ -54,10 +54,6 @@ module _ (faces : Faces) (m : IsManifold faces) (x : EventState) (z : IsMotionOf
       by_event (Settle v, may) =
           let s = settle_parts faces m x z v may in
           by_dart v s.2 (any_where (leads_to (terrain_of faces) v) (darts_in x.noted) s.1)
-
-  -- A rider that may ride runs.
-  pub ride_not_over : (r : ℕ) → r < length x.riders → may_ride x r ≡ true → NobodyRuns x → ⊥
-  ride_not_over r l may none = none r l (ride_runs faces m x z r l may)
 
   -- So does one that ended at a vertex which may be settled.
   pub settle_not_over : (v : ℕ) → may_settle (terrain_of faces) x v ≡ true → NobodyRuns x → ⊥

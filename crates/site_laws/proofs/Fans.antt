@@ -30,10 +30,6 @@ triple x y z zero = x
 triple x y z (suc k) = pair y z k
 
 module _ (mesh : HalfEdges) (laws : IsQuadManifold mesh) where
-  -- The dart before is joined, and so is the twin.
-  joins_next : (d : ℕ) → Joins mesh d (mesh.next d) 1
-  joins_next d = (d, refl, inl refl)
-
   joins_prev : (d : ℕ) → (k : ℕ) × Joins mesh d (mesh.prev d) k
   joins_prev d = (
     3,
