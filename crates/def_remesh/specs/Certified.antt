@@ -4,10 +4,11 @@ use Rattle.def_certtext.specs.CertLines.{Certificates, Lists}
 use Rattle.def_flow.specs.Accepted.{Certificate, IsAccepted}
 use Rattle.def_flow.specs.declared.net.Settings.{Settings}
 use Rattle.def_io.specs.Bytes.{Bytes}
+use Rattle.def_layout.specs.Lengths.{Lengths}
 use Rattle.def_layout.specs.Plans.{Plan}
 use Rattle.def_text.specs.FaceSet.{FaceSet}
 use Rattle.def_remesh.specs.Remeshed.{AreKeptBy, HasLeastLengths, IsFinished}
-use Rattle.def_remesh.specs.Tasks.{Task, Wish}
+use Rattle.def_remesh.specs.Tasks.{given_floors, Task, Wish}
 
 -- The lists of a certificate, as the checker takes them. A text says four lists; the last three are the dual, which the
 -- checker of matchings takes without the lengths.
@@ -15,14 +16,17 @@ abbrev pub certificate_of : (lists : Lists) → Certificate
 certificate_of lists = record { x = lists.x; dual = record { y = lists.y; z = lists.z; up = lists.up } }
 
 -- A certificate that is accepted for its network, so that its lengths are least.
-pub record IsCertified (wish : Wish) (plan : Plan) (settings : Settings) (cert : Lists) : Type 0 where
-  pub lengths : HasLeastLengths wish plan settings cert
+pub record IsCertified
+    (wish : Wish) (plan : Plan) (settings : Settings) (floors : Lengths) (cert : Lists)
+    : Type 0 where
+  pub lengths : HasLeastLengths wish plan settings floors cert
   pub accepted : IsAccepted lengths.net (certificate_of cert)
 
 -- The accepted certificates of a remesh.
 abbrev pub AreKept :
     (wish : Wish) (plan : Plan) (settings : Settings) (auto : Bool) (certificates : Certificates) → Type 0
-AreKept wish plan settings auto certificates = AreKeptBy (IsCertified wish plan) plan settings auto certificates
+AreKept wish plan settings auto certificates =
+    AreKeptBy (IsCertified wish plan settings) plan (given_floors settings) auto certificates
 
 -- A task that is finished for a soup, as accepted certificates show.
 pub record IsShown (task : Task) (soup : FaceSet) (text : Bytes) : Type 0 where

@@ -1,9 +1,10 @@
 -- The network by which a layout is remeshed, and what is kept of it.
-use Rattle.std.specs.Prelude.{◌≡◌, ◌≤◌, Bool}
+use Rattle.std.specs.Prelude.{◌≡◌, ◌≤◌, ℕ, Bool}
 use Rattle.def_certtext.specs.CertLines.{used, Certificates}
 use Rattle.def_flow.specs.Network.{Network, tangle_number, IsWithinBounds}
 use Rattle.def_flow.specs.declared.limits.TheConstants.{MAX_TANGLE}
 use Rattle.def_flow.specs.declared.net.Settings.{Settings}
+use Rattle.def_layout.specs.Lengths.{Lengths}
 use Rattle.def_layout.specs.Plans.{Plan, layout_of}
 use Rattle.def_layoutnet.specs.LayoutNet.{IsNetOf}
 use Rattle.def_layoutnet.specs.MeshLayouts.{IsSomeLayout}
@@ -13,16 +14,22 @@ use Rattle.def_remesh.specs.Numberings.{IsNumbering}
 use Rattle.def_remesh.specs.Certified.{AreKept}
 use Rattle.def_remesh.specs.Remeshed.{AreCoarse}
 use Rattle.def_remesh.specs.Stitched.{KeepsShapes}
-use Rattle.def_remesh.specs.Tasks.{old_lengths, Wish}
+use Rattle.def_remesh.specs.Tasks.{given_floors, old_lengths, Wish}
 use Rattle.def_remesh.specs.declared.tables.Tables.{Tables}
 
--- A network of a layout with these wished lengths, within bounds and not too tangled.
-pub record IsNetFor (wish : Wish) (plan : Plan) (settings : Settings) (net : Network) : Type 0 where
+-- A network of a layout with these wished lengths and floors, within bounds and not too tangled.
+pub record IsNetWith
+    (wish : Wish) (plan : Plan) (settings : Settings) (floors : Lengths) (net : Network)
+    : Type 0 where
   pub mesh : IsSomeLayout plan
-  pub floor : 1 ≤ settings.floor
-  pub is : IsNetOf (layout_of plan) (old_lengths plan) (wish plan) settings (λ a. settings.floor) net
+  pub floor : (arc : ℕ) → 1 ≤ floors arc
+  pub is : IsNetOf (layout_of plan) (old_lengths plan) (wish plan) settings floors net
   pub bounds : IsWithinBounds net
   pub untangled : tangle_number net ≤ MAX_TANGLE
+
+-- The same with the given floors.
+abbrev pub IsNetFor : (wish : Wish) (plan : Plan) (settings : Settings) (net : Network) → Type 0
+IsNetFor wish plan settings net = IsNetWith wish plan settings (given_floors settings) net
 
 -- The certificates of a remesh, and the numbers of the new mesh at the lengths that are used. It has no more faces than
 -- a new mesh may have, no edge of it is doubled, and it keeps the shape of the old one.

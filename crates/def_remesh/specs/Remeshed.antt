@@ -2,10 +2,11 @@
 use Rattle.std.specs.Prelude.{◌≡◌, ◌≤◌, ◌∷◌, ◌++◌, ℕ, Bool, true, false, List, length, Option}
 use Rattle.def_flow.specs.Admissible.{entries, IsLeast}
 use Rattle.def_flow.specs.Network.{Network, tangle_number}
-use Rattle.def_flow.specs.declared.limits.TheConstants.{MAX_TANGLE}
+use Rattle.def_flow.specs.declared.limits.TheConstants.{MAX_FLOOR, MAX_TANGLE}
 use Rattle.def_flow.specs.declared.net.Settings.{Settings}
 use Rattle.def_io.specs.Bytes.{Bytes}
 use Rattle.def_layout.specs.FaceLayouts.{IsCutLayout}
+use Rattle.def_layout.specs.Lengths.{Lengths}
 use Rattle.def_layout.specs.Plans.{Plan, layout_of, vertex_at}
 use Rattle.def_layoutnet.specs.LayoutNet.{IsNetOf}
 use Rattle.def_layoutnet.specs.LayoutNetLaws.{AreOpposite}
@@ -20,20 +21,17 @@ use Rattle.def_written.specs.NewFaces.{face_count, new_faces}
 use Rattle.def_written.specs.Shape.{KeepsShape}
 use Rattle.def_remesh.specs.NewPoints.{lengths_in}
 use Rattle.def_remesh.specs.NewSoup.{spaced_soup}
-use Rattle.def_remesh.specs.Tasks.{old_lengths, remesh_task, Task, Wish}
+use Rattle.def_remesh.specs.Tasks.{given_floors, old_lengths, remesh_task, Task, Wish}
 use Rattle.def_remesh.specs.declared.limits.TheConstants.{MAX_NEW_FACES}
 
--- The settings with another floor.
-abbrev pub with_floor : (settings : Settings) (floor : ℕ) → Settings
-with_floor settings floor =
-    record { p = settings.p; q = settings.q; floor = floor; weight = settings.weight }
-
--- A certificate whose lengths are least for the network of a layout with these wished lengths: one for each arc, at
--- least the floor, equal on opposite sides of each patch, and of the least deviation among all such lengths. The
--- network is not too tangled, and the certificate can be written.
-pub record HasLeastLengths (wish : Wish) (plan : Plan) (settings : Settings) (cert : Lists) : Type 0 where
+-- A certificate whose lengths are least for the network of a layout with these wished lengths and floors: one for each
+-- arc, at least its floor, equal on opposite sides of each patch, and of the least deviation among all such lengths.
+-- The network is not too tangled, and the certificate can be written.
+pub record HasLeastLengths
+    (wish : Wish) (plan : Plan) (settings : Settings) (floors : Lengths) (cert : Lists)
+    : Type 0 where
   pub net : Network
-  pub of_layout : IsNetOf (layout_of plan) (old_lengths plan) (wish plan) settings (λ a. settings.floor) net
+  pub of_layout : IsNetOf (layout_of plan) (old_lengths plan) (wish plan) settings floors net
   pub untangled : tangle_number net ≤ MAX_TANGLE
   pub count : length cert.x ≡ length net.arcs
   pub opposite : AreOpposite (layout_of plan) (entries cert.x)
@@ -48,13 +46,13 @@ AreCoarse plan lengths = face_count (layout_of plan) (lengths_in lengths) ≤ MA
 abbrev pub AreDoubled : (plan : Plan) (lengths : List ℕ) → Type 0
 AreDoubled plan lengths = (u v : ℕ) × IsDoubledAt (layout_of plan) (lengths_in lengths) u v
 
--- The certificates of a remesh, where this is known of one with its settings: with a given floor there is one. With
--- `auto` there is one for floor 1, and where its lengths double an edge, another for floor 3.
-abbrev pub AreKeptBy : (fits : Settings → Lists → Type 0) (plan : Plan) (settings : Settings) (auto : Bool)
+-- The certificates of a remesh, where this is known of one with its floors: one for those that are given. With `auto`,
+-- where its lengths double an edge, there is another, with floor 3 for each arc.
+abbrev pub AreKeptBy : (fits : Lengths → Lists → Type 0) (plan : Plan) (floors : Lengths) (auto : Bool)
     (certificates : Certificates) → Type 0
-AreKeptBy fits plan settings auto (alone cert) = fits settings cert
-AreKeptBy fits plan settings auto (raised first cert) = (auto ≡ true) × fits settings first × AreCoarse plan first.x
-    × AreDoubled plan first.x × fits (with_floor settings 3) cert
+AreKeptBy fits plan floors auto (alone cert) = fits floors cert
+AreKeptBy fits plan floors auto (raised first cert) = (auto ≡ true) × fits floors first × AreCoarse plan first.x
+    × AreDoubled plan first.x × fits (λ arc. MAX_FLOOR) cert
 
 -- The lines of the certificates. With `auto` each stands behind the line that names its floor.
 abbrev pub certificate_lines : (auto : Bool) (certificates : Certificates) → List CertLine
@@ -79,7 +77,8 @@ pub record IsFinished (task : Task) (soup : FaceSet) (text : Bytes) : Type 0 whe
   pub plan : Plan
   pub cut : IsCutLayout soup.faces task.marks plan
   pub certificates : Certificates
-  pub lengths : AreKeptBy (HasLeastLengths task.wish plan) plan task.settings task.auto certificates
+  pub lengths : AreKeptBy (HasLeastLengths task.wish plan task.settings) plan (given_floors task.settings) task.auto
+      certificates
   pub coarse : AreCoarse plan (used certificates).x
   pub undoubled : IsUndoubled (layout_of plan) (lengths_in (used certificates).x)
   pub written : text ≡ finished_text task soup plan certificates

@@ -17,6 +17,10 @@ Wish = (plan : Plan) → Lengths
 abbrev pub old_lengths : Wish
 old_lengths plan = long_at plan.arcs
 
+-- The floors of the arcs before any rises.
+abbrev pub given_floors : (settings : Settings) → Lengths
+given_floors settings arc = settings.floor
+
 -- The cut of the mesh, the wished lengths with their settings, the shares of the darts by which new points are spaced,
 -- the head line of the text, and the lines of the text between the new mesh and the certificates, for a layout with its
 -- new lengths.

@@ -1,5 +1,6 @@
 //! The lengths that a remesh keeps, and why a layout is not remeshed.
 
+use def_certtext::Certs;
 use def_flow::Cert;
 use std::alloc::AllocError;
 use thiserror::Error;
@@ -9,10 +10,8 @@ use thiserror::Error;
 pub enum Kept {
     /// Each is this multiple of the old one.
     Multiple { by: u32 },
-    /// They are least for the floor that was given, or with `auto` for floor 1.
-    Least { cert: Cert },
-    /// With `auto`: those for floor 1 double an edge, and these are least for floor 3.
-    Raised { first: Cert, cert: Cert },
+    /// They are least, as certificates show.
+    Least { certs: Certs },
 }
 
 /// Why a layout is not remeshed.

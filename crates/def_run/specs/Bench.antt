@@ -24,7 +24,7 @@ use Rattle.def_remesh.specs.declared.kept.LayoutFail.TheVariants as layout_fail
 use Rattle.def_run.specs.Remesh.{IsTracedLayout, RefusesLayout}
 use Rattle.def_run.specs.declared.answer.Answer.{Answer}
 use Rattle.def_run.specs.declared.answer.Answer.TheVariants.{NotManifold}
-use Rattle.def_remesh.specs.Tasks.{old_lengths}
+use Rattle.def_remesh.specs.Tasks.{given_floors, old_lengths}
 
 -- Half of the old lengths, at least 1, all arcs alike.
 abbrev pub bench_settings : Settings
@@ -53,7 +53,7 @@ pub record WritesBench (size : ℕ) (text : Bytes) : Type 0 where
   pub plan : Plan
   pub cut : IsTracedLayout (bench_faces size) plan
   pub cert : Lists
-  pub certified : IsCertified old_lengths plan bench_settings cert
+  pub certified : IsCertified old_lengths plan bench_settings (given_floors bench_settings) cert
   pub coarse : AreCoarse plan cert.x
   pub undoubled : IsUndoubled (layout_of plan) (lengths_in cert.x)
   pub said : text

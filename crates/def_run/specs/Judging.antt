@@ -11,13 +11,14 @@ use Rattle.def_flow.specs.declared.limits.TheConstants.{MAX_FLOOR}
 use Rattle.def_flow.specs.declared.net.Settings.{Settings}
 use Rattle.def_io.specs.Bytes.{Bytes, Lines}
 use Rattle.def_io.specs.Lines.{lines_of, tail_of}
+use Rattle.def_layout.specs.Lengths.{Lengths}
 use Rattle.def_layout.specs.Plans.{Plan, layout_of}
 use Rattle.def_layoutnet.specs.LayoutNet.{IsNetOf}
 use Rattle.def_remesh.specs.NewPoints.{lengths_in}
 use Rattle.def_remesh.specs.Certified.{AreKept, certificate_of, IsCertified}
 use Rattle.def_remesh.specs.Refusals.{AreTooFine}
-use Rattle.def_remesh.specs.Remeshed.{AreCoarse, AreDoubled, finished_text, with_floor}
-use Rattle.def_remesh.specs.Tasks.{old_lengths, Task, Wish}
+use Rattle.def_remesh.specs.Remeshed.{AreCoarse, AreDoubled, finished_text}
+use Rattle.def_remesh.specs.Tasks.{given_floors, old_lengths, Task, Wish}
 use Rattle.def_text.specs.FaceSet.{FaceSet}
 use Rattle.def_written.specs.Edges.{IsFirstDoubled, IsUndoubled}
 use Rattle.def_run.specs.declared.answer.Why.{Why}
@@ -44,20 +45,22 @@ behind_in judged = drop (judged.line + 1) (lines_of judged.bytes)
 abbrev pub TellsMade : (judged : Judged) (made : Made) → Type 0
 TellsMade judged made = TellHow (head_line judged.task.settings judged.task.auto) (behind_in judged) made
 
--- The verdict on a certificate for a layout with these wished lengths and settings.
-pub record HasVerdict (wish : Wish) (plan : Plan) (settings : Settings) (cert : Lists) (verdict : CertVerdict) : Type
-    0 where
+-- The verdict on a certificate for a layout with these wished lengths, settings and floors.
+pub record HasVerdict
+    (wish : Wish) (plan : Plan) (settings : Settings) (floors : Lengths) (cert : Lists) (verdict : CertVerdict)
+    : Type 0 where
   pub net : Network
-  pub of_layout : IsNetOf (layout_of plan) (old_lengths plan) (wish plan) settings (λ a. settings.floor) net
+  pub of_layout : IsNetOf (layout_of plan) (old_lengths plan) (wish plan) settings floors net
   pub told : verdict ≡ cert_verdict net (certificate_of cert)
   pub refuted : (d : ℤ) → verdict ≢ certs.Yes d
 
--- What is wrong with a certificate for a floor: its verdict, or that its lengths give too many faces.
-abbrev pub IsWrong : (wish : Wish) (plan : Plan) (settings : Settings) (cert : Lists) (why : Why) → Type 0
-IsWrong wish plan settings cert (why.Verdict verdict) = HasVerdict wish plan settings cert verdict
-IsWrong wish plan settings cert (why.TooFine faces) =
-    IsCertified wish plan settings cert × AreTooFine plan cert.x faces
-IsWrong wish plan settings cert _ = ⊥
+-- What is wrong with a certificate for these floors: its verdict, or that its lengths give too many faces.
+abbrev pub IsWrong :
+    (wish : Wish) (plan : Plan) (settings : Settings) (floors : Lengths) (cert : Lists) (why : Why) → Type 0
+IsWrong wish plan settings floors cert (why.Verdict verdict) = HasVerdict wish plan settings floors cert verdict
+IsWrong wish plan settings floors cert (why.TooFine faces) =
+    IsCertified wish plan settings floors cert × AreTooFine plan cert.x faces
+IsWrong wish plan settings floors cert _ = ⊥
 
 -- The certificate that is checked first: the one for floor 1, where another follows, or the only one.
 abbrev pub first_checked : (certificates : Certificates) → Lists
@@ -67,8 +70,9 @@ first_checked (raised first cert) = first
 -- The only certificate is accepted, and its lengths double an edge, first at these vertices.
 abbrev pub IsLoneDoubled : (wish : Wish) (plan : Plan) (settings : Settings) (made : Made) (why : Why) → Type 0
 IsLoneDoubled wish plan settings made (why.Doubled u v) =
-    (cert : Lists) × (made.certificates ≡ alone cert) × IsCertified wish plan settings cert
-    × AreCoarse plan cert.x × IsFirstDoubled (layout_of plan) (lengths_in cert.x) u v
+    (cert : Lists) × (made.certificates ≡ alone cert)
+    × IsCertified wish plan settings (given_floors settings) cert × AreCoarse plan cert.x
+    × IsFirstDoubled (layout_of plan) (lengths_in cert.x) u v
 IsLoneDoubled wish plan settings made _ = ⊥
 
 -- The certificate for floor 1 is accepted, its lengths double an edge, and the one for floor 3 is wrong.
@@ -76,10 +80,10 @@ pub record IsThirdWrong (wish : Wish) (plan : Plan) (settings : Settings) (made 
   pub first : Lists
   pub cert : Lists
   pub there : made.certificates ≡ raised first cert
-  pub certified : IsCertified wish plan settings first
+  pub certified : IsCertified wish plan settings (given_floors settings) first
   pub coarse : AreCoarse plan first.x
   pub doubled : AreDoubled plan first.x
-  pub wrong : IsWrong wish plan (with_floor settings MAX_FLOOR) cert why
+  pub wrong : IsWrong wish plan settings (λ arc. MAX_FLOOR) cert why
 
 -- From this byte on, which counts from 1, the texts differ.
 pub record DifferFrom (one other : Bytes) (at : ℕ) : Type 0 where
@@ -105,7 +109,8 @@ TellsOtherText judged made _ = ⊥
 pub record IsWrongText (judged : Judged) (why : Why) : Type 0 where
   pub made : Made
   pub told : TellsMade judged made
-  pub wrong : IsWrong judged.task.wish judged.plan judged.task.settings (first_checked made.certificates) why
+  pub wrong : IsWrong judged.task.wish judged.plan judged.task.settings (given_floors judged.task.settings)
+      (first_checked made.certificates) why
       ⊎ (IsLoneDoubled judged.task.wish judged.plan judged.task.settings made why
       ⊎ (IsThirdWrong judged.task.wish judged.plan judged.task.settings made why ⊎ TellsOtherText judged made why))
 

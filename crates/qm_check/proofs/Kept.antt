@@ -10,10 +10,10 @@ use Rattle.def_flow.specs.Descent.{IsSolution}
 use Rattle.def_flow.specs.Network.{Network}
 use Rattle.def_flow.specs.declared.cert.Cert.{Cert}
 use Rattle.def_flow.specs.declared.net.Settings.{Settings}
+use Rattle.def_layout.specs.Lengths.{Lengths}
 use Rattle.def_layout.specs.Plans.{Plan}
-use Rattle.def_remesh.specs.Keeping.{IsKept, IsNetFor}
-use Rattle.def_remesh.specs.Remeshed.{with_floor}
-use Rattle.def_remesh.specs.Tasks.{Wish}
+use Rattle.def_remesh.specs.Keeping.{IsKept, IsNetFor, IsNetWith}
+use Rattle.def_remesh.specs.Tasks.{given_floors, Wish}
 use Rattle.def_remesh.specs.declared.tables.Tables.{Tables}
 use Rattle.def_run.specs.Judging.{first_checked, IsThirdWrong, IsWrong}
 use Rattle.def_run.specs.declared.answer.Why.{Why}
@@ -29,9 +29,9 @@ use Rattle.remesh_laws.specs.Keeps.{IsDoubling}
 
 module _ (wish : Wish) (plan : Plan) (net : Network) where
   -- A certificate that gives no lengths is wrong.
-  wrong_of : (settings : Settings) (cert : Cert) (why : Why) → IsNetFor wish plan settings net
-      → GivesNone plan net cert (NotAccepted why)
-      → IsWrong wish plan settings (lists_of cert) why
+  wrong_of : {floors : Lengths} (settings : Settings) (cert : Cert) (why : Why)
+      → IsNetWith wish plan settings floors net → GivesNone plan net cert (NotAccepted why)
+      → IsWrong wish plan settings floors (lists_of cert) why
   wrong_of settings cert (why.Verdict verdict) for (told, refuted) = record {
     net = net;
     of_layout = for.is;
@@ -57,12 +57,13 @@ module _ (wish : Wish) (plan : Plan) (net : Network) where
       → IsNetFor wish plan asked.settings net → GivesNone plan net cert fail
       → IsUnused wish plan asked.settings made fail
   unused_first asked made cert fail same for = unused_by asked made cert fail
-      (λ why none. inl (subst (λ (c : Lists). IsWrong wish plan asked.settings c why) (sym same)
+      (λ why none. inl (subst (λ (c : Lists). IsWrong wish plan asked.settings (given_floors asked.settings) c why)
+      (sym same)
       (wrong_of asked.settings cert why for none)))
 
   pub unused_third : (asked : Asked) (first third : Cert) (fail : CheckFail)
-      → IsDoubling wish plan asked.settings (lists_of first)
-      → IsNetFor wish plan (with_floor asked.settings 3) net → GivesNone plan net third fail
+      → IsDoubling wish plan asked.settings (given_floors asked.settings) (lists_of first)
+      → IsNetWith wish plan asked.settings (λ arc. 3) net → GivesNone plan net third fail
       → IsUnused wish plan asked.settings (made_as asked (raised (lists_of first) (lists_of third))) fail
   unused_third asked first third fail doubling for =
       unused_by asked (made_as asked (raised (lists_of first) (lists_of third))) third fail
@@ -77,7 +78,7 @@ module _ (wish : Wish) (plan : Plan) (net : Network) where
         certified = doubling.certified;
         coarse = doubling.coarse;
         doubled = doubling.doubled;
-        wrong = wrong_of (with_floor asked.settings 3) third why for none;
+        wrong = wrong_of asked.settings third why for none;
       }
 
   pub unused_lone : (asked : Asked) (cert : Cert) (u v : ℕ) → IsNetFor wish plan asked.settings net
@@ -117,7 +118,8 @@ module _ (wish : Wish) (plan : Plan) (net : Network) where
   -- The one for floor 3 is used.
   pub checked_third : (higher : Network) (asked : Asked) (first third : Cert) (tables : Tables) (deviates : ℕ)
       → asked.auto ≡ true
-      → IsDoubling wish plan asked.settings (lists_of first) → IsNetFor wish plan (with_floor asked.settings 3) higher
+      → IsDoubling wish plan asked.settings (given_floors asked.settings) (lists_of first)
+      → IsNetWith wish plan asked.settings (λ arc. 3) higher
       → HasFloors net (λ a. 3) higher
       → IsSolution higher (certificate third) → Gives plan higher third.x.items (Whole tables deviates)
       → IsChecked wish plan net (made_as asked (raised (lists_of first) (lists_of third)))
@@ -134,7 +136,7 @@ module _ (wish : Wish) (plan : Plan) (net : Network) where
           doubling.certified,
           doubling.coarse,
           doubling.doubled,
-          solved plan (with_floor asked.settings 3) higher third for is,
+          solved plan asked.settings higher third for is,
         ) gives.0);
     asked = refl;
     chosen = inr refl;

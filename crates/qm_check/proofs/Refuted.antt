@@ -14,14 +14,15 @@ use Rattle.def_flow.specs.Network.{Network, tangle_number}
 use Rattle.def_flow.specs.declared.net.Settings.{Settings}
 use Rattle.def_io.specs.Bytes.{Bytes}
 use Rattle.def_layout.specs.FaceLayouts.{IsCutLayout}
+use Rattle.def_layout.specs.Lengths.{Lengths}
 use Rattle.def_layout.specs.Plans.{Plan, layout_of}
 use Rattle.def_layoutnet.specs.LayoutNet.{IsNetOf}
 use Rattle.def_layoutnet.specs.MeshLayouts.{IsSomeLayout}
 use Rattle.def_remesh.specs.NewPoints.{lengths_in}
 use Rattle.def_remesh.specs.Refusals.{IsTangledAt}
 use Rattle.def_remesh.specs.Certified.{AreKept, certificate_of, IsCertified, IsShown}
-use Rattle.def_remesh.specs.Remeshed.{AreCoarse, finished_text, with_floor}
-use Rattle.def_remesh.specs.Tasks.{old_lengths, Task, Wish}
+use Rattle.def_remesh.specs.Remeshed.{AreCoarse, finished_text}
+use Rattle.def_remesh.specs.Tasks.{given_floors, old_lengths, Task, Wish}
 use Rattle.def_remesh.specs.TextLaws.{IsSolid, made_by}
 use Rattle.def_run.specs.Judging.{behind_in, first_checked, text_in, IsLoneDoubled, IsThirdWrong, IsWrong, IsWrongText}
 use Rattle.def_run.specs.Judging.{Judged, TellsMade, TellsOtherText}
@@ -49,7 +50,7 @@ told_kept wish plan settings false (raised first cert) kept = absurd (false≢tr
 module _ (wish : Wish) (plan : Plan) (settings : Settings) (auto : Bool) where
   -- The certificate that is checked first.
   kept_first : (certificates : Certificates) → AreKept wish plan settings auto certificates
-      → IsCertified wish plan settings (first_checked certificates)
+      → IsCertified wish plan settings (given_floors settings) (first_checked certificates)
   kept_first (alone cert) kept = kept
   kept_first (raised first cert) kept = kept.1
 
@@ -70,24 +71,25 @@ module _ (wish : Wish) (plan : Plan) (settings : Settings) (auto : Bool) where
 
 module _ (wish : Wish) (plan : Plan) (mesh : IsSomeLayout plan) where
   -- A layout has one network.
-  pub one_net : (settings : Settings) (net other : Network)
-      → IsNetOf (layout_of plan) (old_lengths plan) (wish plan) settings (λ a. settings.floor) net
-      → IsNetOf (layout_of plan) (old_lengths plan) (wish plan) settings (λ a. settings.floor) other → net ≡ other
-  one_net settings net other is also = one_net_law (layout_of plan) (old_lengths plan) (wish plan) settings
-      (λ a. settings.floor) (laid_of plan mesh) net other is also
+  pub one_net : (settings : Settings) (floors : Lengths) (net other : Network)
+      → IsNetOf (layout_of plan) (old_lengths plan) (wish plan) settings floors net
+      → IsNetOf (layout_of plan) (old_lengths plan) (wish plan) settings floors other → net ≡ other
+  one_net settings floors net other is also = one_net_law (layout_of plan) (old_lengths plan) (wish plan) settings
+      floors (laid_of plan mesh) net other is also
 
   -- A certified list is not refused.
-  not_wrong : (settings : Settings) (cert : Lists) (why : Why) → IsCertified wish plan settings cert
-      → AreCoarse plan cert.x → IsWrong wish plan settings cert why → ⊥
-  not_wrong settings cert (why.Verdict verdict) is coarse wrong =
+  not_wrong : (settings : Settings) (floors : Lengths) (cert : Lists) (why : Why)
+      → IsCertified wish plan settings floors cert → AreCoarse plan cert.x
+      → IsWrong wish plan settings floors cert why → ⊥
+  not_wrong settings floors cert (why.Verdict verdict) is coarse wrong =
       let same : wrong.net ≡ is.lengths.net =
-      one_net settings wrong.net is.lengths.net wrong.of_layout is.lengths.of_layout in
+      one_net settings floors wrong.net is.lengths.net wrong.of_layout is.lengths.of_layout in
       wrong.refuted (pos (deviation is.lengths.net (entries cert.x)))
       (wrong.told ∙ ap (λ (n : Network). cert_verdict n (certificate_of cert)) same
       ∙ accepted_yes is.lengths.net (certificate_of cert) is.accepted)
-  not_wrong settings cert (why.TooFine faces) is coarse (certified, fine) =
+  not_wrong settings floors cert (why.TooFine faces) is coarse (certified, fine) =
       absurd (omega (arith, fine.0, fine.1, coarse))
-  not_wrong settings cert _ is coarse wrong = wrong
+  not_wrong settings floors cert _ is coarse wrong = wrong
 
   -- A network that is too tangled has no certified list.
   not_tangled : (settings : Settings) (auto : Bool) (count : ℕ) (certificates : Certificates)
@@ -96,7 +98,7 @@ module _ (wish : Wish) (plan : Plan) (mesh : IsSomeLayout plan) where
   not_tangled settings auto count certificates kept tangled =
       let is = kept_first wish plan settings auto certificates kept in
       let same : tangled.net ≡ is.lengths.net =
-      one_net settings tangled.net is.lengths.net tangled.is is.lengths.of_layout in
+      one_net settings (given_floors settings) tangled.net is.lengths.net tangled.is is.lengths.of_layout in
       absurd (omega (arith, tangled.high, tangled.told, ap tangle_number same, is.lengths.untangled))
 
 -- A task that is shown has a network that is not too tangled.
@@ -139,8 +141,9 @@ module _ (judged : Judged) (able : IsJudgeable judged) (shown : IsShown judged.t
           ∙ there) is.undoubled
 
     first_fine : (why : Why) → IsWrong judged.task.wish judged.plan judged.task.settings
-        (first_checked made.certificates) why → ⊥
+        (given_floors judged.task.settings) (first_checked made.certificates) why → ⊥
     first_fine why = not_wrong judged.task.wish judged.plan (judged_layout judged able) judged.task.settings
+        (given_floors judged.task.settings)
         (first_checked made.certificates) why
         (kept_first judged.task.wish judged.plan judged.task.settings judged.task.auto made.certificates
         (kept made.certificates refl))
@@ -154,7 +157,7 @@ module _ (judged : Judged) (able : IsJudgeable judged) (shown : IsShown judged.t
 
     third_fine : (why : Why) → IsThirdWrong judged.task.wish judged.plan judged.task.settings made why → ⊥
     third_fine why third = not_wrong judged.task.wish judged.plan (judged_layout judged able)
-        (with_floor judged.task.settings 3) third.cert why
+        judged.task.settings (λ arc. 3) third.cert why
         (kept (raised third.first third.cert) third.there).4 (coarse (raised third.first third.cert) third.there)
         third.wrong
 
@@ -177,7 +180,8 @@ module _ (judged : Judged) (able : IsJudgeable judged) (shown : IsShown judged.t
   pub text_refuted : (why : Why) → IsWrongText judged why → ⊥
   text_refuted why wrong = by_case wrong.wrong
     where
-      by_case : IsWrong judged.task.wish judged.plan judged.task.settings (first_checked wrong.made.certificates) why
+      by_case : IsWrong judged.task.wish judged.plan judged.task.settings (given_floors judged.task.settings)
+          (first_checked wrong.made.certificates) why
           ⊎ (IsLoneDoubled judged.task.wish judged.plan judged.task.settings wrong.made why
           ⊎ (IsThirdWrong judged.task.wish judged.plan judged.task.settings wrong.made why
           ⊎ TellsOtherText judged wrong.made why)) → ⊥

@@ -52,7 +52,7 @@ use Rattle.remesh_laws.specs.Asides.{IsSilent}
 pub untangled : (wish : Wish) (plan : Plan) (settings : Settings) (net : Network) → IsNetFor wish plan settings net
     → (count : ℕ) → IsTangledAt wish plan settings count → ⊥
 untangled wish plan settings net for count tangled =
-    let same : tangled.net ≡ net = one_net wish plan for.mesh settings tangled.net net tangled.is for.is in
+    let same : tangled.net ≡ net = one_net wish plan for.mesh settings _ tangled.net net tangled.is for.is in
     absurd (omega (arith, tangled.high, tangled.told, ap tangle_number same, for.untangled))
 
 -- New faces that keep the shape of each mesh with a layout keep that of this one.

@@ -19,7 +19,7 @@ use Rattle.def_remesh.specs.NewPoints.{lengths_in}
 use Rattle.def_remesh.specs.Refusals.{AreTooFine}
 use Rattle.def_remesh.specs.Certified.{certificate_of}
 use Rattle.def_remesh.specs.Remeshed.{AreCoarse}
-use Rattle.def_remesh.specs.Tasks.{Wish}
+use Rattle.def_remesh.specs.Tasks.{given_floors, Wish}
 use Rattle.def_run.specs.Judging.{DifferFrom, first_checked, IsLoneDoubled, IsThirdWrong, IsWrong}
 use Rattle.def_run.specs.declared.answer.Why.{Why}
 use Rattle.def_run.specs.declared.answer.Why.TheVariants as why
@@ -77,7 +77,8 @@ pub record IsChecked (wish : Wish) (plan : Plan) (net : Network) (made : Made) (
 -- One of the certificates of a text is wrong.
 abbrev pub HasWrongCert : (wish : Wish) (plan : Plan) (settings : Settings) (made : Made) (why : Why) → Type 0
 HasWrongCert wish plan settings made why =
-    IsWrong wish plan settings (first_checked made.certificates) why ⊎ IsThirdWrong wish plan settings made why
+    IsWrong wish plan settings (given_floors settings) (first_checked made.certificates) why
+    ⊎ IsThirdWrong wish plan settings made why
 
 -- Why the certificates of a text are not used.
 abbrev pub IsUnused : (wish : Wish) (plan : Plan) (settings : Settings) (made : Made) (fail : CheckFail) → Type 0

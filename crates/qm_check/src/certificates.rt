@@ -5,7 +5,7 @@ ghost use Rattle.def_certtext.specs.CertLines.{alone, lists_of, raised};
 ghost use Rattle.def_certtext.specs.Reading.{made_of};
 ghost use Rattle.def_flow.specs.Network.{network};
 ghost use Rattle.def_remesh.specs.Keeping.{IsNetFor};
-ghost use Rattle.def_remesh.specs.Tasks.{Wish};
+ghost use Rattle.def_remesh.specs.Tasks.{given_floors, Wish};
 ghost use Rattle.qm_check.specs.Checked.{made_as, AreInReach, IsChecked, IsInReach, IsUnused};
 ghost use Rattle.remesh_laws.specs.Keeps.{IsDoubling};
 
@@ -137,7 +137,7 @@ fn check_third(
     requires net { (wish : Wish) × IsNetFor wish cut.now.plan asked.settings (network net) }
     requires reach { AreInReach asked.auto (raised (lists_of pair.first) (lists_of pair.third)) }
     requires doubling { (wish : Wish) → IsNetFor wish cut.now.plan asked.settings (network net)
-        → IsDoubling wish cut.now.plan asked.settings (lists_of pair.first) }
+        → IsDoubling wish cut.now.plan asked.settings (given_floors asked.settings) (lists_of pair.first) }
     ensures checked { (wish : Wish) → IsNetFor wish cut.now.plan asked.settings (network net)
         → IfOk result (IsChecked wish cut.now.plan (network net)
         (made_as asked (raised (lists_of pair.first) (lists_of pair.third)))) }

@@ -7,9 +7,10 @@ ghost use Rattle.def_flow.specs.Admissible.{deviation as deviation_of, entries};
 ghost use Rattle.def_flow.specs.Descent.{IsSolution};
 ghost use Rattle.def_flow.specs.Network.{network};
 ghost use Rattle.def_flow.specs.declared.net.Settings.{Settings as AnySettings};
+ghost use Rattle.def_layout.specs.Lengths.{Lengths as AnyLengths};
 ghost use Rattle.def_layout.specs.Plans.{Plan};
 ghost use Rattle.qm_check.specs.Checked.{Gives, GivesNone, IsInReach};
-ghost use Rattle.def_remesh.specs.Keeping.{IsNetFor};
+ghost use Rattle.def_remesh.specs.Keeping.{IsNetWith};
 ghost use Rattle.def_remesh.specs.Tasks.{Wish};
 
 use def_flow::{Cert, CertVerdict, Net};
@@ -42,7 +43,8 @@ pub(crate) fn check_lengths(
     net: &Net,
     cert: &Cert,
 ) -> Result<Lengths, CheckFail>
-    requires net { (wish : Wish) × (settings : AnySettings) × IsNetFor wish cut.now.plan settings (network net.now) }
+    requires net { (wish : Wish) × (settings : AnySettings) × (floors : AnyLengths)
+        × IsNetWith wish cut.now.plan settings floors (network net.now) }
     requires cert { IsInReach (lists_of cert.now) }
     ensures solved { OnOk result (IsSolution (network net.now) (certificate cert.now)) }
     ensures gives { IfOk result (Gives cut.now.plan (network net.now) cert.now.x.items) }
@@ -64,8 +66,8 @@ pub(crate) fn check_lengths(
 
 /// How far the lengths of an accepted certificate are from what is wanted.
 fn accepted_deviation(alloc: Global, net: &Net, cert: &Cert) -> Result<u128, CheckFail>
-    requires net { (wish : Wish) × (settings : AnySettings) × (plan : Plan)
-        × IsNetFor wish plan settings (network net.now) }
+    requires net { (wish : Wish) × (settings : AnySettings) × (floors : AnyLengths) × (plan : Plan)
+        × IsNetWith wish plan settings floors (network net.now) }
     requires cert { IsInReach (lists_of cert.now) }
     ensures solved { OnOk result (IsSolution (network net.now) (certificate cert.now)) }
     ensures told { IfOk result (λ d. d ≡ deviation_of (network net.now) (entries cert.now.x.items)) }

@@ -101,7 +101,7 @@ module _ (t : TMesh) (f : List ℕ → ℕ) (settings : Settings) (lies : IsSome
         → IsNetFor (along f) (plan t) settings new
     wished_net new wishes low bounds are few has = record {
       mesh = lies;
-      floor = low;
+      floor = λ arc. low;
       is = wished (layout_of (plan t)) (long_at (plan t).arcs) (along f (plan t)) settings net new laid is exact;
       bounds = within net (along f (plan t)) new exact bounds (λ k l. omega (arith, part k l, few));
       untangled = omega (arith, wishes_tangle net (along f (plan t)) new exact, small);

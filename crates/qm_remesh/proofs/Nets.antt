@@ -17,4 +17,4 @@ pub net_for : (plan : Plan) (settings : Settings) (auto : Bool) (net : Network) 
     → IsWithinBounds net
     → tangle_number net ≤ MAX_TANGLE → IsNetFor old_lengths plan settings net
 net_for plan settings auto net mesh range is bounds small =
-    record { mesh = mesh; floor = range.floor.low; is = is; bounds = bounds; untangled = small }
+    record { mesh = mesh; floor = λ arc. range.floor.low; is = is; bounds = bounds; untangled = small }

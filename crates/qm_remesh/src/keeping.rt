@@ -71,7 +71,9 @@ pub fn keep_solved(
         }),
         Err(StitchFail::TooFine { faces }) => Err(LayoutFail::TooFine {
             faces,
-            kept: Kept::Least { cert: first },
+            kept: Kept::Least {
+                certs: Certs::Alone { cert: first },
+            },
         }),
         Err(StitchFail::Doubled { .. }) if asked.auto => {
             raise(alloc, cut, asked.settings, net, first)
@@ -114,7 +116,9 @@ fn raise(
         }),
         Err(StitchFail::TooFine { faces }) => Err(LayoutFail::TooFine {
             faces,
-            kept: Kept::Raised { first, cert },
+            kept: Kept::Least {
+                certs: Certs::Raised { first, cert },
+            },
         }),
         Err(StitchFail::Doubled { .. }) => unreachable!(),
         Err(StitchFail::Memory) => Err(LayoutFail::Memory),

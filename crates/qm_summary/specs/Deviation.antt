@@ -8,12 +8,12 @@ use Rattle.def_remesh.specs.Certified.{IsCertified}
 use Rattle.def_remesh.specs.Remeshed.{AreCoarse}
 use Rattle.def_run.specs.Bench.{bench_settings}
 use Rattle.def_written.specs.Edges.{IsUndoubled}
-use Rattle.def_remesh.specs.Tasks.{old_lengths}
+use Rattle.def_remesh.specs.Tasks.{given_floors, old_lengths}
 
 -- The deviation of lengths of a layout that are shown to be least and give a new mesh.
 pub record IsKeptDeviation (plan : Plan) (told : ℤ) : Type 0 where
   pub cert : Lists
-  pub certified : IsCertified old_lengths plan bench_settings cert
+  pub certified : IsCertified old_lengths plan bench_settings (given_floors bench_settings) cert
   pub coarse : AreCoarse plan cert.x
   pub undoubled : IsUndoubled (layout_of plan) (lengths_in cert.x)
   pub is : told ≡ pos (deviation certified.lengths.net (entries cert.x))

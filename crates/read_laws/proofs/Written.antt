@@ -26,7 +26,7 @@ use Rattle.def_remesh.specs.Checked.{accepted_line, IsCheckedPair}
 use Rattle.def_remesh.specs.NewPoints.{lengths_in, multiple_of}
 use Rattle.def_remesh.specs.NewSoup.{spaced_place}
 use Rattle.def_remesh.specs.Remeshed.{AreKeptBy, HasLeastLengths}
-use Rattle.def_remesh.specs.Tasks.{old_lengths, remesh_task, Task}
+use Rattle.def_remesh.specs.Tasks.{given_floors, old_lengths, remesh_task, Task}
 use Rattle.def_remesh.specs.TextLaws.{IsSolid}
 use Rattle.def_run.specs.Check.{head_of}
 use Rattle.def_run.specs.Checking.{begins_fit, HasFitText, WritesAccepted}
@@ -46,7 +46,7 @@ use Rattle.read_laws.proofs.Soups.{mesh_text_law}
 
 -- Kept certificates have the network of their layout.
 net_of : (plan : Plan) (settings : Settings) (auto : Bool) (certificates : Certificates)
-    → AreKeptBy (HasLeastLengths old_lengths plan) plan settings auto certificates
+    → AreKeptBy (HasLeastLengths old_lengths plan settings) plan (given_floors settings) auto certificates
     → (net : Network) × IsNetOf (layout_of plan) (old_lengths plan) (old_lengths plan) settings (λ a. settings.floor)
     net
 net_of plan settings auto (alone cert) kept = (kept.net, kept.of_layout)

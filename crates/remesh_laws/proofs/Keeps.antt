@@ -13,7 +13,7 @@ use Rattle.def_flow.specs.declared.cert.Cert.{Cert}
 use Rattle.def_flow.specs.declared.limits.TheConstants.{MAX_FLOOR, MAX_LENGTH}
 use Rattle.def_flow.specs.declared.net.Settings.{Settings}
 use Rattle.def_layout.specs.FaceLayouts.{IsCutLayout}
-use Rattle.def_layout.specs.Lengths.{AreLengths as AreArcLengths}
+use Rattle.def_layout.specs.Lengths.{AreLengths as AreArcLengths, Lengths}
 use Rattle.def_layout.specs.Plans.{Plan, layout_of, vertex_at}
 use Rattle.def_layoutnet.specs.LayoutNet.{IsNetOf}
 use Rattle.def_mesh.specs.Faces.{Faces}
@@ -26,13 +26,13 @@ use Rattle.def_remesh.specs.Keeping.{IsKept}
 use Rattle.def_remesh.specs.NewPoints.{lengths_in}
 use Rattle.def_remesh.specs.Refusals.{AreTooFine}
 use Rattle.def_remesh.specs.Certified.{AreKept, IsCertified}
-use Rattle.def_remesh.specs.Remeshed.{AreKeptBy, HasLeastLengths, AreCoarse, AreDoubled, finished_text, with_floor}
+use Rattle.def_remesh.specs.Remeshed.{AreKeptBy, HasLeastLengths, AreCoarse, AreDoubled, finished_text}
 use Rattle.def_remesh.specs.Stitched.{AreLong, AreSafe, IsUnstitched, KeepsShapes}
-use Rattle.def_remesh.specs.Tasks.{old_lengths, Task, Wish}
+use Rattle.def_remesh.specs.Tasks.{given_floors, old_lengths, Task, Wish}
 use Rattle.def_remesh.specs.declared.fail.StitchFail.{StitchFail}
 use Rattle.def_remesh.specs.declared.fail.StitchFail.TheVariants as fails
 use Rattle.def_remesh.specs.declared.tables.Tables.{Tables}
-use Rattle.def_remesh.specs.Keeping.{IsNetFor}
+use Rattle.def_remesh.specs.Keeping.{IsNetWith}
 use Rattle.remesh_laws.specs.Keeps.{IsNumbered, ShowsTask}
 use Rattle.plan_laws.proofs.MeshLayouts.{laid_of}
 use Rattle.qm_layoutnet.proofs.Floors.{floored, floors_tangle, floors_within}
@@ -42,46 +42,40 @@ use Rattle.remesh_laws.proofs.ReadAgain.{task_read}
 use Rattle.remesh_laws.proofs.Solved.{certified}
 
 -- Its solution is certified.
-pub solved : {wish : Wish} (plan : Plan) (settings : Settings) (net : Network) (cert : Cert)
-    → IsNetFor wish plan settings net → IsSolution net (certificate cert)
-    → IsCertified wish plan settings (lists_of cert)
-solved plan settings net cert for is = certified _ plan settings net (lists_of cert) for.mesh for.is for.bounds
+pub solved : {wish : Wish} {floors : Lengths} (plan : Plan) (settings : Settings) (net : Network) (cert : Cert)
+    → IsNetWith wish plan settings floors net → IsSolution net (certificate cert)
+    → IsCertified wish plan settings floors (lists_of cert)
+solved plan settings net cert for is = certified _ plan settings _ net (lists_of cert) for.mesh for.is for.bounds
     for.untangled is
 
 -- So its lengths are lengths of the layout, also under another name.
-pub are_lengths : {wish : Wish} (plan : Plan) (settings : Settings) (net : Network) (cert : Cert) (xs : List ℕ)
-    → IsNetFor wish plan settings net
+pub are_lengths : {wish : Wish} {floors : Lengths} (plan : Plan) (settings : Settings) (net : Network) (cert : Cert)
+    (xs : List ℕ) → IsNetWith wish plan settings floors net
     → IsSolution net (certificate cert) → xs ≡ cert.x.items → AreArcLengths (layout_of plan) (lengths_in xs)
 are_lengths plan settings net cert xs for is same =
     subst (λ (ys : List ℕ). AreArcLengths (layout_of plan) (lengths_in ys)) (sym same)
     (certified_lengths plan settings (lists_of cert) for.floor (solved plan settings net cert for is).lengths)
 
--- The network with floor 3.
-pub raised_net : {wish : Wish} (plan : Plan) (settings : Settings) (net other : Network)
-    → IsNetFor wish plan settings net → HasFloors net (λ a. 3) other
-    → IsNetFor wish plan (with_floor settings 3) other
-raised_net {wish} plan settings net other for has = record {
+-- The network with other floors.
+pub raised_net : {wish : Wish} {floors : Lengths} (plan : Plan) (settings : Settings) (higher : Lengths)
+    (net other : Network) → ((arc : ℕ) → (1 ≤ higher arc) × (higher arc ≤ MAX_FLOOR))
+    → IsNetWith wish plan settings floors net → HasFloors net higher other
+    → IsNetWith wish plan settings higher other
+raised_net {wish} {floors} plan settings higher net other low for has = record {
   mesh = for.mesh;
-  floor = omega arith;
-  is = record {
-    nodes = there.nodes;
-    p = there.p;
-    q = there.q;
-    long = there.long;
-    olds = there.olds;
-    weights = there.weights;
-    floors = there.floors;
-    left = there.left;
-    right = there.right;
-    alone = there.alone;
-  };
-  bounds = floors_within net (λ a. 3) other has for.bounds (λ k l. (omega arith, omega arith));
-  untangled = omega (arith, for.untangled, floors_tangle net (λ a. 3) other has);
+  floor = λ arc. (low arc).0;
+  is = floored (layout_of plan) (old_lengths plan) (wish plan) settings floors higher net other
+      (laid_of plan for.mesh) for.is has;
+  bounds = floors_within net higher other has for.bounds (λ k l. low k);
+  untangled = omega (arith, for.untangled, floors_tangle net higher other has);
 }
-  where
-    there : IsNetOf (layout_of plan) (old_lengths plan) (wish plan) settings (λ a. 3) other
-    there = floored (layout_of plan) (old_lengths plan) (wish plan) settings (λ a. settings.floor) (λ a. 3) net other
-        (laid_of plan for.mesh) for.is has
+
+-- The network with floor 3.
+pub third_net : {wish : Wish} {floors : Lengths} (plan : Plan) (settings : Settings) (net other : Network)
+    → IsNetWith wish plan settings floors net → HasFloors net (λ a. 3) other
+    → IsNetWith wish plan settings (λ a. 3) other
+third_net plan settings net other =
+    raised_net plan settings (λ a. 3) net other (λ arc. (omega arith, omega arith))
 
 coarse_is : (plan : Plan) (xs : List ℕ) (tables : Tables) → IsNumbered plan xs tables → AreCoarse plan xs
 coarse_is plan xs tables is = subst (AreCoarse plan) is.lengths is.numbering.few
@@ -100,7 +94,7 @@ keeps plan settings auto certificates tables kept is = record {
 
 pub keeps_first : {wish : Wish} (plan : Plan) (settings : Settings) (auto : Bool) (cert : Cert) (xs : List ℕ)
     (tables : Tables) → xs ≡ cert.x.items
-    → IsCertified wish plan settings (lists_of cert) → IsNumbered plan xs tables
+    → IsCertified wish plan settings (given_floors settings) (lists_of cert) → IsNumbered plan xs tables
     → IsKept wish plan settings auto (alone (lists_of cert)) tables
 keeps_first plan settings auto cert xs tables same certified is =
     keeps plan settings auto (alone (lists_of cert)) tables certified
@@ -145,8 +139,8 @@ bounded net cert xs is same arc = subst (λ (ys : List ℕ). lengths_in ys arc �
     by_arc (inr high) = omega (arith, get_or_past cert.x.items arc 0 high)
 
 -- Lengths for the greatest floors are long.
-pub long_lengths : {wish : Wish} (plan : Plan) (settings : Settings) (net : Network) (cert : Cert)
-    → IsNetFor wish plan settings net → IsSolution net (certificate cert)
+pub long_lengths : {wish : Wish} {floors : Lengths} (plan : Plan) (settings : Settings) (net : Network) (cert : Cert)
+    → IsNetWith wish plan settings floors net → IsSolution net (certificate cert)
     → ((k : ℕ) → k < length net.arcs → MAX_FLOOR ≤ (arc_at net.arcs k).floor)
     → AreLong plan (lengths_in cert.x.items)
 long_lengths plan settings net cert for is high a low =
@@ -164,7 +158,7 @@ none_doubled plan xs ys result fail u v same long safe told doubled =
 -- So lengths that double one are for a lower floor.
 pub low_floor : {T : Type 0} {wish : Wish} (plan : Plan) (settings : Settings) (cert : Cert) (xs : List ℕ)
     (result : Result T StitchFail) (fail : StitchFail) (u v : ℕ)
-    → xs ≡ cert.x.items → IsCertified wish plan settings (lists_of cert)
+    → xs ≡ cert.x.items → IsCertified wish plan settings (given_floors settings) (lists_of cert)
     → (AreSafe plan (lengths_in xs) → (a b : ℕ) → ¬ IsErrOf result (fails.Doubled a b))
     → result ≡ Err fail → fail ≡ fails.Doubled u v → settings.floor < MAX_FLOOR
 low_floor plan settings cert xs result fail u v same is safe told doubled = by_floor (cases_lt settings.floor MAX_FLOOR)
@@ -191,7 +185,7 @@ kept_shape soup plan xs lies shapes = subst
 -- Accepted certificates have least lengths.
 pub least_of : (wish : Wish) (plan : Plan) (settings : Settings) (auto : Bool) (certificates : Certificates)
     → AreKept wish plan settings auto certificates
-    → AreKeptBy (HasLeastLengths wish plan) plan settings auto certificates
+    → AreKeptBy (HasLeastLengths wish plan settings) plan (given_floors settings) auto certificates
 least_of wish plan settings auto (alone cert) kept = kept.lengths
 least_of wish plan settings auto (raised first cert) kept = (kept.0, kept.1.lengths, kept.2, kept.3, kept.4.lengths)
 
@@ -201,7 +195,8 @@ pub shown : (task : Task) (soup : FaceSet) (plan : Plan) (certificates : Certifi
     → IsCutLayout soup.faces task.marks plan → IsKept task.wish plan task.settings task.auto certificates tables
     → ShowsTask task soup (finished_text task soup plan certificates)
 shown task soup plan certificates tables lies cut kept =
-    let lengths : AreKeptBy (HasLeastLengths task.wish plan) plan task.settings task.auto certificates =
+    let lengths : AreKeptBy (HasLeastLengths task.wish plan task.settings) plan (given_floors task.settings) task.auto
+    certificates =
     least_of task.wish plan task.settings task.auto certificates kept.kept in
     record {
       shown = record {

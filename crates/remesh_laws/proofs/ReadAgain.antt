@@ -24,7 +24,7 @@ use Rattle.def_remesh.specs.NewSoup.{new_soup, spaced_soup}
 use Rattle.def_remesh.specs.ReadAgain.{IsReadAgain}
 use Rattle.def_remesh.specs.Refined.{refine_head, refined_text}
 use Rattle.def_remesh.specs.Remeshed.{certificate_lines, finished_text, AreKeptBy, HasLeastLengths}
-use Rattle.def_remesh.specs.Tasks.{remesh_task, Task, Wish}
+use Rattle.def_remesh.specs.Tasks.{given_floors, remesh_task, Task, Wish}
 use Rattle.def_remesh.specs.TextLaws.{ReadAgainLaw}
 use Rattle.qm_certtext.proofs.Telling.{chosen_allowed}
 use Rattle.qm_obj.proofs.LawSoup.{each_both, text_back}
@@ -57,7 +57,7 @@ framed front behind soup is names before after =
 
 -- The lines of certificates that can be written may stand.
 pub kept_allowed : (wish : Wish) (plan : Plan) (settings : Settings) (auto : Bool) (certificates : Certificates)
-    → AreKeptBy (HasLeastLengths wish plan) plan settings auto certificates
+    → AreKeptBy (HasLeastLengths wish plan settings) plan (given_floors settings) auto certificates
     → list_all (may_stand auto) (certificate_lines auto certificates) ≡ true
 kept_allowed wish plan settings true certificates kept =
     chosen_allowed certificates (kept_writable wish plan settings true certificates kept)
@@ -86,7 +86,7 @@ refined_read by soup plan is some low =
 -- The text of a task.
 pub task_read : (task : Task) (soup : FaceSet) (plan : Plan) (certificates : Certificates) → IsSurface (layout_of plan)
     → AreLengths (layout_of plan) (lengths_in (used certificates).x)
-    → AreKeptBy (HasLeastLengths task.wish plan) plan task.settings task.auto certificates
+    → AreKeptBy (HasLeastLengths task.wish plan task.settings) plan (given_floors task.settings) task.auto certificates
     → IsAside (task.head ++ 10 ∷ []) → IsAside (task.between plan (lengths_in (used certificates).x))
     → IsReadAgain (finished_text task soup plan certificates)
     (spaced_soup soup plan task.shares (lengths_in (used certificates).x))

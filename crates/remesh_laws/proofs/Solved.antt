@@ -16,6 +16,7 @@ use Rattle.def_flow.specs.Descent.{IsSolution}
 use Rattle.def_flow.specs.Network.{Network, tangle_number, IsWithinBounds}
 use Rattle.def_flow.specs.declared.limits.TheConstants.{MAX_LENGTH, MAX_TANGLE}
 use Rattle.def_flow.specs.declared.net.Settings.{Settings}
+use Rattle.def_layout.specs.Lengths.{Lengths}
 use Rattle.def_layout.specs.Plans.{Plan, layout_of}
 use Rattle.def_layoutnet.specs.LayoutNet.{IsNetOf}
 use Rattle.def_layoutnet.specs.MeshLayouts.{IsSomeLayout}
@@ -71,17 +72,18 @@ all_low [] low = refl
 all_low (x ∷ xs) low = and_from _ _ (lt-ltb _ _ (low 0 (omega arith)))
     (all_low xs (λ k l. low (suc k) (omega (arith, l))))
 
-pub certified : (wish : Wish) (plan : Plan) (settings : Settings) (net : Network) (cert : Lists) → IsSomeLayout plan
-    → IsNetOf (layout_of plan) (old_lengths plan) (wish plan) settings (λ a. settings.floor) net → IsWithinBounds net
+pub certified : (wish : Wish) (plan : Plan) (settings : Settings) (floors : Lengths) (net : Network) (cert : Lists)
+    → IsSomeLayout plan
+    → IsNetOf (layout_of plan) (old_lengths plan) (wish plan) settings floors net → IsWithinBounds net
     → tangle_number net ≤ MAX_TANGLE
-    → IsSolution net (certificate_of cert) → IsCertified wish plan settings cert
-certified wish plan settings net cert is of_layout bounds untangled solved = record {
+    → IsSolution net (certificate_of cert) → IsCertified wish plan settings floors cert
+certified wish plan settings floors net cert is of_layout bounds untangled solved = record {
   lengths = record {
     net = net;
     of_layout = of_layout;
     untangled = untangled;
     count = solved.accepted.count;
-    opposite = (balance_law (layout_of plan) (old_lengths plan) (wish plan) settings (λ a. settings.floor) net
+    opposite = (balance_law (layout_of plan) (old_lengths plan) (wish plan) settings floors net
         (laid_of plan is) of_layout (entries cert.x)).0 solved.accepted.admissible.balanced;
     least = sound net (certificate_of cert) bounds solved.accepted;
     writable = record { ups = ups; allowed = allowed };

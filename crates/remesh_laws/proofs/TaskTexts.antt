@@ -18,7 +18,7 @@ use Rattle.def_remesh.specs.NewSoup.{spaced_soup}
 use Rattle.def_remesh.specs.ReadAgain.{ends_line}
 use Rattle.def_remesh.specs.Remeshed.{certificate_lines, finished_text, text_behind_head, AreCoarse}
 use Rattle.def_remesh.specs.Remeshed.{AreKeptBy, HasLeastLengths}
-use Rattle.def_remesh.specs.Tasks.{Task}
+use Rattle.def_remesh.specs.Tasks.{given_floors, Task}
 use Rattle.def_remesh.specs.TextLaws.{made_by, IsSolid}
 use Rattle.def_text.specs.Canonical.{canonical_text}
 use Rattle.def_text.specs.FaceSet.{FaceSet}
@@ -91,8 +91,8 @@ tells_same head other behind others made same marked tells = record {
 
 module _ (task : Task) (soup : FaceSet) (plan : Plan) (certificates : Certificates)
     (range : AreInRange task.settings task.auto)
-    (solid : IsSolid soup) (mesh : IsSomeLayout plan) (kept : AreKeptBy (HasLeastLengths task.wish plan) plan
-    task.settings task.auto certificates)
+    (solid : IsSolid soup) (mesh : IsSomeLayout plan) (kept : AreKeptBy (HasLeastLengths task.wish plan
+    task.settings) plan (given_floors task.settings) task.auto certificates)
     (coarse : AreCoarse plan (used certificates).x) (inside : list_all is_inside task.head ≡ true)
     (silent : IsSilent (task.between plan (lengths_in (used certificates).x))) where
   -- A remesh with these certificates.

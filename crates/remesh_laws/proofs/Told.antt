@@ -13,8 +13,8 @@ use Rattle.def_layout.specs.Lengths.{AreLengths}
 use Rattle.def_text.specs.FaceSet.{FaceSet}
 use Rattle.def_remesh.specs.NewPoints.{lengths_in}
 use Rattle.def_remesh.specs.NewSoup.{spaced_soup}
-use Rattle.def_remesh.specs.Remeshed.{text_behind_head, AreKeptBy, HasLeastLengths, with_floor}
-use Rattle.def_remesh.specs.Tasks.{Wish}
+use Rattle.def_remesh.specs.Remeshed.{text_behind_head, AreKeptBy, HasLeastLengths}
+use Rattle.def_remesh.specs.Tasks.{given_floors, Wish}
 use Rattle.def_remesh.specs.TextLaws.{made_by, ToldLaw}
 use Rattle.qm_certtext.proofs.Texts.{chosen_law, written_law}
 use Rattle.remesh_laws.proofs.Certified.{certified_lengths}
@@ -23,15 +23,17 @@ use Rattle.remesh_laws.proofs.Printable.{mesh_layout, printable}
 -- The lengths that are used are lengths of the layout.
 pub used_lengths : (wish : Wish) (plan : Plan) (settings : Settings) (auto : Bool) (certificates : Certificates)
     → AreInRange settings auto
-    → AreKeptBy (HasLeastLengths wish plan) plan settings auto certificates
+    → AreKeptBy (HasLeastLengths wish plan settings) plan (given_floors settings) auto certificates
     → AreLengths (layout_of plan) (lengths_in (used certificates).x)
-used_lengths wish plan settings auto (alone cert) range kept = certified_lengths plan settings cert range.floor.low kept
+used_lengths wish plan settings auto (alone cert) range kept =
+    certified_lengths plan settings cert (λ arc. range.floor.low) kept
 used_lengths wish plan settings auto (raised first cert) range kept =
-    certified_lengths plan (with_floor settings 3) cert (omega arith) kept.4
+    certified_lengths plan settings cert (λ arc. omega arith) kept.4
 
 -- Kept certificates can be written.
 pub kept_writable : (wish : Wish) (plan : Plan) (settings : Settings) (auto : Bool) (certificates : Certificates)
-    → AreKeptBy (HasLeastLengths wish plan) plan settings auto certificates → AreWritable certificates
+    → AreKeptBy (HasLeastLengths wish plan settings) plan (given_floors settings) auto certificates
+    → AreWritable certificates
 kept_writable wish plan settings auto (alone cert) kept = kept.writable
 kept_writable wish plan settings auto (raised first cert) kept = (kept.1.writable, kept.4.writable)
 
@@ -45,7 +47,7 @@ spaced_text settings auto soup plan shares certificates =
 pub kept_told : (wish : Wish) (plan : Plan) (settings : Settings) (auto : Bool) (soup : FaceSet)
     (shares : Option (List ℕ)) (certificates : Certificates) → AreInRange settings auto
     → IsPrintable (spaced_soup soup plan shares (lengths_in (used certificates).x))
-    → AreKeptBy (HasLeastLengths wish plan) plan settings auto certificates
+    → AreKeptBy (HasLeastLengths wish plan settings) plan (given_floors settings) auto certificates
     → TellsOnly (spaced_text settings auto soup plan shares certificates) (made_by settings auto certificates)
 kept_told wish plan settings true soup shares certificates range fine kept =
     chosen_law settings (spaced_soup soup plan shares (lengths_in (used certificates).x)) certificates range fine

@@ -4,6 +4,7 @@ use Rattle.def_certtext.specs.CertLines.{Lists}
 use Rattle.def_flow.specs.declared.net.Settings.{Settings}
 use Rattle.def_io.specs.Bytes.{Bytes}
 use Rattle.def_io.specs.declared.TheConstants.{LINE_FEED}
+use Rattle.def_layout.specs.Lengths.{Lengths}
 use Rattle.def_layout.specs.Plans.{Plan, layout_of}
 use Rattle.def_text.specs.FaceSet.{FaceSet}
 use Rattle.def_written.specs.Edges.{IsUndoubled}
@@ -18,8 +19,10 @@ use Rattle.def_remesh.specs.declared.tables.Tables.{Tables}
 use Rattle.remesh_laws.specs.Asides.{IsAside}
 
 -- Certified lengths that give few faces and double an edge.
-pub record IsDoubling (wish : Wish) (plan : Plan) (settings : Settings) (lists : Lists) : Type 0 where
-  pub certified : IsCertified wish plan settings lists
+pub record IsDoubling
+    (wish : Wish) (plan : Plan) (settings : Settings) (floors : Lengths) (lists : Lists)
+    : Type 0 where
+  pub certified : IsCertified wish plan settings floors lists
   pub coarse : AreCoarse plan lists.x
   pub doubled : AreDoubled plan lists.x
 

@@ -1,19 +1,19 @@
 use Rattle.std.proofs.Common.{subst, arith}
 use Rattle.def_certtext.specs.CertLines.{lists_of, raised}
 use Rattle.def_flow.specs.Network.{network}
-use Rattle.def_remesh.specs.Remeshed.{with_floor}
 use Rattle.error_laws.proofs.Errors.{handed}
 use Rattle.qm_check.proofs.Kept.{checked_third, unused_third}
 use Rattle.qm_check.specs.Checked.{made_as, Gives, IsUnused}
 use Rattle.qm_layoutnet.proofs.Floors.{floors_at, has_floors}
-use Rattle.remesh_laws.proofs.Keeps.{raised_net}
+use Rattle.remesh_laws.proofs.Keeps.{third_net}
 use Rattle.qm_check.proofs.certificates.check_third.Goals as goal
 
 pub check_lengths-requires-clause-net : goal.check_lengths-requires-clause-net
 check_lengths-requires-clause-net c = (
   c.requires.net.0,
-  with_floor c.args.asked.settings 3,
-  raised_net c.args.cut.now.plan c.args.asked.settings (network c.args.net) (network c.with_floor-higher.result)
+  c.args.asked.settings,
+  λ arc. 3,
+  third_net c.args.cut.now.plan c.args.asked.settings (network c.args.net) (network c.with_floor-higher.result)
       c.requires.net.1
       (has_floors (network c.args.net) 3 (network c.with_floor-higher.result) c.with_floor-higher.ensures),
 )
@@ -29,7 +29,7 @@ returns-in_err-numbering-clause-unused c wish for =
     (unused_third wish c.args.cut.now.plan (network c.with_floor-higher.result) c.args.asked c.args.pair.first
     c.args.pair.third c.in_err-numbering.field-0.0
     (c.requires.doubling wish for)
-    (raised_net c.args.cut.now.plan c.args.asked.settings (network c.args.net) (network c.with_floor-higher.result) for
+    (third_net c.args.cut.now.plan c.args.asked.settings (network c.args.net) (network c.with_floor-higher.result) for
     (has_floors (network c.args.net) 3 (network c.with_floor-higher.result) c.with_floor-higher.ensures))
     c.in_err-numbering.ensures.refused)
 
@@ -38,7 +38,7 @@ returns-clause-checked c wish for =
     checked_third wish c.args.cut.now.plan (network c.args.net) (network c.with_floor-higher.result) c.args.asked
     c.args.pair.first c.args.pair.third
     c.in-Whole.numbering c.in-Whole.deviation c.requires.reach.2 (c.requires.doubling wish for)
-    (raised_net c.args.cut.now.plan c.args.asked.settings (network c.args.net) (network c.with_floor-higher.result) for
+    (third_net c.args.cut.now.plan c.args.asked.settings (network c.args.net) (network c.with_floor-higher.result) for
     (has_floors (network c.args.net) 3 (network c.with_floor-higher.result) c.with_floor-higher.ensures))
     (has_floors (network c.args.net) 3 (network c.with_floor-higher.result) c.with_floor-higher.ensures)
     c.in_ok-numbering.ensures.solved

@@ -14,7 +14,7 @@ returns-in_err-deviation-clause-refused c =
 
 pub plan_over-requires-clause-lengths : goal.plan_over-requires-clause-lengths
 plan_over-requires-clause-lengths c =
-    are_lengths c.args.cut.now.plan c.requires.net.1 (network c.args.net.now) c.args.cert.now _ c.requires.net.2
+    are_lengths c.args.cut.now.plan c.requires.net.1 (network c.args.net.now) c.args.cert.now _ c.requires.net.3
     c.in_ok-deviation.ensures.solved
     c.deref.ensures.value
 
@@ -38,7 +38,7 @@ returns-in-Err-Doubled-clause-gives c =
       both.1,
       λ highest. none_doubled plan _ c.args.cert.now.x.items c.plan_over.result c.in-Err-Doubled.field-0 _ _
           c.deref.ensures.value
-          (long_lengths plan c.requires.net.1 (network c.args.net.now) c.args.cert.now c.requires.net.2
+          (long_lengths plan c.requires.net.1 (network c.args.net.now) c.args.cert.now c.requires.net.3
           c.in_ok-deviation.ensures.solved highest)
           c.plan_over.ensures.safe c.in-Err-Doubled.is c.in-Err-Doubled.field-0-is,
     )

@@ -1,20 +1,19 @@
 use Rattle.def_flow.specs.Network.{network}
 use Rattle.std.proofs.Common.{ℕ, refl, sym, subst, arith}
 use Rattle.def_remesh.specs.Refusals.{AreTooFine}
-use Rattle.def_remesh.specs.Remeshed.{with_floor}
 use Rattle.qm_layoutnet.proofs.Floors.{floors_at, floors_even, has_floors}
-use Rattle.remesh_laws.proofs.Keeps.{are_lengths, bounded, keeps_third, long_lengths, none_doubled, raised_net, solved}
+use Rattle.remesh_laws.proofs.Keeps.{are_lengths, bounded, keeps_third, long_lengths, none_doubled, solved, third_net}
 use Rattle.remesh_laws.proofs.Keeps.{too_fine}
 use Rattle.qm_remesh.proofs.keeping.raise.Goals as goal
 
 pub solve-requires-clause-bounds : goal.solve-requires-clause-bounds
 solve-requires-clause-bounds c =
-    (raised_net _ c.args.settings (network c.args.net) (network c.with_floor-raised.result) c.requires.net.1
+    (third_net _ c.args.settings (network c.args.net) (network c.with_floor-raised.result) c.requires.net.1
     (has_floors (network c.args.net) 3 (network c.with_floor-raised.result) c.with_floor-raised.ensures)).bounds
 
 pub solve-requires-clause-tangle : goal.solve-requires-clause-tangle
 solve-requires-clause-tangle c =
-    (raised_net _ c.args.settings (network c.args.net) (network c.with_floor-raised.result) c.requires.net.1
+    (third_net _ c.args.settings (network c.args.net) (network c.with_floor-raised.result) c.requires.net.1
     (has_floors (network c.args.net) 3 (network c.with_floor-raised.result) c.with_floor-raised.ensures)).untangled
 
 pub solve-requires-clause-even : goal.solve-requires-clause-even
@@ -25,8 +24,8 @@ solve-requires-clause-even c =
 
 pub plan_over-requires-clause-lengths : goal.plan_over-requires-clause-lengths
 plan_over-requires-clause-lengths c =
-    are_lengths _ (with_floor c.args.settings 3) (network c.with_floor-raised.result) c.in_ok-cert.cert _
-    (raised_net _ c.args.settings (network c.args.net) (network c.with_floor-raised.result) c.requires.net.1
+    are_lengths _ c.args.settings (network c.with_floor-raised.result) c.in_ok-cert.cert _
+    (third_net _ c.args.settings (network c.args.net) (network c.with_floor-raised.result) c.requires.net.1
     (has_floors (network c.args.net) 3 (network c.with_floor-raised.result) c.with_floor-raised.ensures))
     c.in_ok-cert.ensures c.deref.ensures.value
 
@@ -41,8 +40,8 @@ returns-in-Ok-clause-kept c = λ wish for.
       solved _ c.args.settings (network c.args.net) c.args.first for c.requires.solved,
       c.requires.coarse,
       c.requires.doubled,
-      solved _ (with_floor c.args.settings 3) (network c.with_floor-raised.result) c.in_ok-cert.cert
-          (raised_net _ c.args.settings (network c.args.net) (network c.with_floor-raised.result) for
+      solved _ c.args.settings (network c.with_floor-raised.result) c.in_ok-cert.cert
+          (third_net _ c.args.settings (network c.args.net) (network c.with_floor-raised.result) for
           (has_floors (network c.args.net) 3 (network c.with_floor-raised.result) c.with_floor-raised.ensures))
           c.in_ok-cert.ensures,
     )
@@ -60,8 +59,8 @@ returns-in-Err-TooFine-clause-refused c = λ wish for. (
     solved _ c.args.settings (network c.args.net) c.args.first for c.requires.solved,
     c.requires.coarse,
     c.requires.doubled,
-    solved _ (with_floor c.args.settings 3) (network c.with_floor-raised.result) c.in_ok-cert.cert
-        (raised_net _ c.args.settings (network c.args.net) (network c.with_floor-raised.result) for
+    solved _ c.args.settings (network c.with_floor-raised.result) c.in_ok-cert.cert
+        (third_net _ c.args.settings (network c.args.net) (network c.with_floor-raised.result) for
         (has_floors (network c.args.net) 3 (network c.with_floor-raised.result) c.with_floor-raised.ensures))
         c.in_ok-cert.ensures,
   ),
@@ -75,9 +74,9 @@ unreachable-requires c =
     let has = has_floors (network c.args.net) 3 (network c.with_floor-raised.result) c.with_floor-raised.ensures in
     none_doubled c.args.cut.now.plan _ c.in_ok-cert.cert.x.items c.plan_over.result c.in-Err-Doubled.field-0 _ _
     c.deref.ensures.value
-    (long_lengths c.args.cut.now.plan (with_floor c.args.settings 3) (network c.with_floor-raised.result)
+    (long_lengths c.args.cut.now.plan c.args.settings (network c.with_floor-raised.result)
     c.in_ok-cert.cert
-    (raised_net _ c.args.settings (network c.args.net) (network c.with_floor-raised.result) c.requires.net.1 has)
+    (third_net _ c.args.settings (network c.args.net) (network c.with_floor-raised.result) c.requires.net.1 has)
     c.in_ok-cert.ensures
     (λ k l. omega (arith, floors_at (network c.args.net) (λ a. 3) (network c.with_floor-raised.result) has k l)))
     c.plan_over.ensures.safe c.in-Err-Doubled.is c.in-Err-Doubled.field-0-is
