@@ -2,6 +2,13 @@
 
 use def_flow::Cert;
 
+/// An arc, from 0, and the floor to which its floor rises.
+#[derive(Clone, Copy, Debug, PartialEq, Eq)]
+pub struct Rise {
+    pub arc: u32,
+    pub floor: u32,
+}
+
 /// The certificates of a remesh.
 #[derive(Debug, Drop)]
 pub enum Certs {

@@ -3,7 +3,7 @@
 
 mod certs;
 
-pub use certs::Certs;
+pub use certs::{Certs, Rise};
 use def_flow::{Cert, Settings};
 use std::alloc::AllocError;
 use thiserror::Error;

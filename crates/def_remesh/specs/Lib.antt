@@ -12,6 +12,7 @@ pub mod ReadAgain
 pub mod Refined
 pub mod Refusals
 pub mod Remeshed
+pub mod Rises
 pub mod Stitched
 pub mod Tasks
 pub mod TextLaws
