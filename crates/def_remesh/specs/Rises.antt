@@ -51,6 +51,6 @@ pub record AreNeeded (layout : Layout) (lengths : Lengths) (rises : List Rise) :
   pub each : (k : ℕ) → k < length rises → IsNeeded layout lengths (rise_at rises k)
 
 -- The floors after they rose.
-abbrev pub risen : (rises : List Rise) (floors : Lengths) → Lengths
-risen [] floors arc = floors arc
-risen (rise ∷ rises) floors arc = cond (arc == rise.arc) rise.floor (risen rises floors arc)
+abbrev pub risen_floors : (rises : List Rise) (floors : Lengths) → Lengths
+risen_floors [] floors arc = floors arc
+risen_floors (rise ∷ rises) floors arc = cond (arc == rise.arc) rise.floor (risen_floors rises floors arc)

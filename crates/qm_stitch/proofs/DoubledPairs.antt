@@ -123,23 +123,17 @@ module _ (l : Layout) (x : Lengths) (laid : IsSurface l) (len : AreLengths l x) 
       by_spoke (inr s) (inl t) = inr (t.0 ∙ s.0, t.1 ∙ s.1)
       by_spoke (inr s) (inr t) = inl (t.0 ∙ s.1, t.1 ∙ s.0)
 
-  -- An edge that is doubled is listed.
-  listed : (e f : Edge) (u v : ℕ) → IsEdge l x e → IsEdge l x f → HasEnds l x e u v → HasEnds l x f u v → e ≢ f
-      → Contains (rim_edges l x) e
-  listed e f u v is_e is_f e_ends f_ends apart = elim (deep_or_listed l x e is_e) [
-    | inl deep ↦
-        let h : IsHub e = deep_hub e is_e deep in
-        absurd (apart (hub_alone e f h is_f (hub_joins e f h (joins_same e f u v is_e is_f e_ends f_ends))))
-    | inr has ↦ has
-  ]
+  -- Two edges with the same ends are one, where one lies between two inner points of a patch.
+  pub deep_alone : (e f : Edge) (u v : ℕ) → IsEdge l x e → IsEdge l x f → HasEnds l x e u v → HasEnds l x f u v
+      → IsDeep l x e → e ≡ f
+  deep_alone e f u v is_e is_f e_ends f_ends deep =
+      let h : IsHub e = deep_hub e is_e deep in
+      hub_alone e f h is_f (hub_joins e f h (joins_same e f u v is_e is_f e_ends f_ends))
 
-  loop_listed : (e : Edge) (u : ℕ) → IsEdge l x e → HasEnds l x e u u → Contains (rim_edges l x) e
-  loop_listed e u is ends = elim (deep_or_listed l x e is) [
-    | inl deep ↦
-        let h : IsHub e = deep_hub e is deep in
-        absurd (loop_at l x laid len e h.p h.i h.j h.way h.inner h.is (equal ends))
-    | inr has ↦ has
-  ]
+  -- An edge between two inner points has two ends.
+  pub deep_apart : (e : Edge) (u : ℕ) → IsEdge l x e → HasEnds l x e u u → IsDeep l x e → ⊥
+  deep_apart e u is ends deep =
+      let h : IsHub e = deep_hub e is deep in loop_at l x laid len e h.p h.i h.j h.way h.inner h.is (equal ends)
     where
       same : vertex_number l x (edge_start l x e) ≡ vertex_number l x (edge_end l x e)
           → edge_start l x e ≡ edge_end l x e
@@ -150,6 +144,20 @@ module _ (l : Layout) (x : Lengths) (laid : IsSurface l) (len : AreLengths l x) 
       equal (inl s) = same (s.0 ∙ sym s.1)
       equal (inr s) = same (s.0 ∙ sym s.1)
 
+  -- An edge that is doubled is listed.
+  listed : (e f : Edge) (u v : ℕ) → IsEdge l x e → IsEdge l x f → HasEnds l x e u v → HasEnds l x f u v → e ≢ f
+      → Contains (rim_edges l x) e
+  listed e f u v is_e is_f e_ends f_ends apart = elim (deep_or_listed l x e is_e) [
+    | inl deep ↦ absurd (apart (deep_alone e f u v is_e is_f e_ends f_ends deep))
+    | inr has ↦ has
+  ]
+
+  loop_listed : (e : Edge) (u : ℕ) → IsEdge l x e → HasEnds l x e u u → Contains (rim_edges l x) e
+  loop_listed e u is ends = elim (deep_or_listed l x e is) [
+    | inl deep ↦ absurd (deep_apart e u is ends deep)
+    | inr has ↦ has
+  ]
+
   module _ (few : vertices l x ≤ 2 ^ 23) where
     ends_low : (e : Edge) → IsEdge l x e → (vertex_number l x (edge_start l x e) < 2 ^ 32)
         × (vertex_number l x (edge_end l x e) < 2 ^ 32)
@@ -158,12 +166,12 @@ module _ (l : Layout) (x : Lengths) (laid : IsSurface l) (len : AreLengths l x) 
       omega (arith, few, number_low l x (edge_end l x e) (edge_points l x laid len e is).1),
     )
 
-    key_ends : (e : Edge) (key : ℕ) → IsEdge l x e → key ≡ key_of l x e
+    pub key_ends : (e : Edge) (key : ℕ) → IsEdge l x e → key ≡ key_of l x e
         → (key / 2 ^ 32 ≤ key % 2 ^ 32) × HasEnds l x e (key / 2 ^ 32) (key % 2 ^ 32)
     key_ends e key is same = split_key (vertex_number l x (edge_start l x e)) (vertex_number l x (edge_end l x e)) key
         (ends_low e is).0 (ends_low e is).1 same
 
-    ends_key : (e : Edge) (u v : ℕ) → IsEdge l x e → u ≤ v → HasEnds l x e u v → (key_of l x e ≡ u * 2 ^ 32 + v)
+    pub ends_key : (e : Edge) (u v : ℕ) → IsEdge l x e → u ≤ v → HasEnds l x e u v → (key_of l x e ≡ u * 2 ^ 32 + v)
         × (v < 2 ^ 32)
     ends_key e u v is le (inl s) = (omega (arith, le, s.0, s.1), omega (arith, (ends_low e is).1, s.1))
     ends_key e u v is le (inr s) = (omega (arith, le, s.0, s.1), omega (arith, (ends_low e is).0, s.0))
@@ -187,7 +195,7 @@ module _ (l : Layout) (x : Lengths) (laid : IsSurface l) (len : AreLengths l x) 
     key_at k d less = get_or-map (key_of l x) edges k (on_arc 0 0) d (omega (arith, less, keys_long))
 
     -- What repeats is doubled.
-    repeat_doubled : (key : ℕ) → IsRepeat keys key → IsDoubledAt l x (key / 2 ^ 32) (key % 2 ^ 32)
+    pub repeat_doubled : (key : ℕ) → IsRepeat keys key → IsDoubledAt l x (key / 2 ^ 32) (key % 2 ^ 32)
     repeat_doubled key (inl (same, (k, k_low, at))) =
         let ends : (key / 2 ^ 32 ≤ key % 2 ^ 32) × HasEnds l x (edge_at k) (key / 2 ^ 32) (key % 2 ^ 32) =
         key_ends (edge_at k) key (edge_is k k_low) (sym at ∙ key_at k key k_low) in (
@@ -225,7 +233,7 @@ module _ (l : Layout) (x : Lengths) (laid : IsSurface l) (len : AreLengths l x) 
     place_of e (k, less, at) = (k, omega (arith, less, keys_long), get_or_default edges k (on_arc 0 0) e less ∙ at)
 
     -- What is doubled repeats.
-    doubled_repeats : (u v : ℕ) → IsDoubledAt l x u v → IsRepeat keys (u * 2 ^ 32 + v) × (v < 2 ^ 32)
+    pub doubled_repeats : (u v : ℕ) → IsDoubledAt l x u v → IsRepeat keys (u * 2 ^ 32 + v) × (v < 2 ^ 32)
     doubled_repeats u v (le, inl (same, (e, is, ends))) = at_place (place_of e (loop_listed e u is ends))
       where
         ends_uv : HasEnds l x e u v

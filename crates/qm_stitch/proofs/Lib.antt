@@ -1,7 +1,10 @@
 mod Built
 mod DoubledPairs
 mod Grids
+mod Marks
 mod Repeats
 mod RimEdges
 mod RimLists
+mod RiseLists
 mod SafeLengths
+mod TightEdges

@@ -1,6 +1,6 @@
 -- Numbers that stand twice in a list.
-use Rattle.std.proofs.Common.{◌≡◌, ◌≢◌, ℕ, suc, ◌+◌, ◌/◌, ◌%◌, ◌^◌, ◌<◌, ◌≤◌, true, false, cond, List, [], ◌∷◌, length}
-use Rattle.std.proofs.Common.{take, drop, get_or, refl, sym, ◌∙◌, ap, inl, inr, arith}
+use Rattle.std.proofs.Common.{◌≡◌, ◌≢◌, ◌⊎◌, ℕ, suc, ◌+◌, ◌-◌, ◌/◌, ◌%◌, ◌^◌, ◌<◌, ◌≤◌, true, false, cond}
+use Rattle.std.proofs.Common.{List, [], ◌∷◌, length, take, drop, get_or, refl, sym, ◌∙◌, ap, subst, inl, inr, arith}
 use Rattle.std.specs.Prelude.{◌==◌, ◌&&◌, nat_lt}
 use Rattle.std.specs.List.{sum_by}
 use Rattle.std.specs.List.Sorted.{IsPermutation, IsNonDecreasing}
@@ -148,6 +148,53 @@ module _ (keys : List ℕ) (increasing : IsNonDecreasing keys) where
     where
       by_place : (k : ℕ) × (k < length keys) × (get_or keys k 0 ≡ key) × (is_repeat_at keys k ≡ true) → ⊥
       by_place (k, low, at, on) = false≢true (sym (none k low) ∙ on)
+
+  -- What repeats stands at a place with its like beside it, at each place where it stands.
+  pub here_repeats : (place key : ℕ) → place < length keys → get_or keys place 0 ≡ key
+      → is_repeat_at keys place ≡ true → IsRepeat keys key
+  here_repeats place key low at on = subst (IsRepeat keys) at (at_repeat place low on)
+
+  pub before_repeats : (place key : ℕ) → place < length keys → get_or keys place 0 ≡ key → 0 < place
+      → get_or keys (place - 1) 0 ≡ key → IsRepeat keys key
+  before_repeats place key low at some before =
+      inr (place - 1, place, omega (arith, some), low, before, at)
+
+  pub beside : (place key : ℕ) → place < length keys → get_or keys place 0 ≡ key → IsRepeat keys key
+      → (is_repeat_at keys place ≡ true) ⊎ ((0 < place) × (get_or keys (place - 1) 0 ≡ key))
+  beside place key low at (inl (loop, has)) =
+      inl (or_left (is_loop (get_or keys place 0))
+      (nat_lt (place + 1) (length keys) && get_or keys (place + 1) 0 == get_or keys place 0)
+      (eq-eqb (get_or keys place 0 / 2 ^ 32) (get_or keys place 0 % 2 ^ 32) (ap (λ n. n / 2 ^ 32) at ∙ loop
+      ∙ ap (λ n. n % 2 ^ 32) (sym at))))
+  beside place key low at (inr (i, j, less, j_low, at_i, at_j)) = elim (cases_lt place j) [
+    | inl before ↦ inl (or_right (is_loop (get_or keys place 0))
+        (nat_lt (place + 1) (length keys) && get_or keys (place + 1) 0 == get_or keys place 0)
+        (and_from (nat_lt (place + 1) (length keys)) (get_or keys (place + 1) 0 == get_or keys place 0)
+        (lt-ltb (place + 1) (length keys) (omega (arith, before, j_low)))
+        (eq-eqb (get_or keys (place + 1) 0) (get_or keys place 0) (omega (
+          arith,
+          at,
+          at_j,
+          increasing place (place + 1) 0 (omega arith) (omega (arith, before, j_low)),
+          increasing (place + 1) j 0 (omega (arith, before)) j_low,
+        )))))
+    | inr after ↦ inr (
+      omega (arith, after, less),
+      omega (
+        arith,
+        at,
+        at_i,
+        increasing i (place - 1) 0 (omega (arith, after, less)) (omega (arith, low)),
+        increasing (place - 1) place 0 (omega arith) low,
+      ),
+    )
+  ]
+
+-- What repeats stands somewhere.
+pub repeat_somewhere : (keys : List ℕ) (key : ℕ) → IsRepeat keys key
+    → (k : ℕ) × (k < length keys) × (get_or keys k 0 ≡ key)
+repeat_somewhere keys key (inl (loop, (k, low, at))) = (k, low, get_or_default keys k 0 key low ∙ at)
+repeat_somewhere keys key (inr (i, j, less, low, at_i, at_j)) = (j, low, at_j)
 
 -- The least repeat does not depend on the order.
 pub least_moved : (xs ys : List ℕ) (key : ℕ) → IsPermutation xs ys → IsLeastRepeat ys key → IsLeastRepeat xs key

@@ -34,7 +34,7 @@ pub(crate) fn number(alloc: Global, stretched: &Stretched) -> Result<Numbering, 
 }
 
 /// The tables of a numbering.
-fn tables(alloc: Global, t: &TMesh, lengths: &[u64]) -> Result<Tables, AllocError>
+pub(crate) fn tables(alloc: Global, t: &TMesh, lengths: &[u64]) -> Result<Tables, AllocError>
     requires fine { IsFine (plan t.now) lengths.now }
     ensures numbering { IfOk result (λ tables. IsNumbering (plan t.now) tables) }
     ensures lengths { IfOk result (λ tables. tables.lengths.items ≡ lengths.now) }

@@ -1,5 +1,5 @@
 //! The mesh that a layout gives at new lengths: a numbering of its points, each face by its number, and where an edge
-//! is doubled, so that there is none.
+//! is doubled, so that there is none, with the arcs whose floors have to rise then.
 #![tactic(auto)]
 
 mod build;
@@ -12,13 +12,17 @@ mod planning;
 mod point;
 mod repeat;
 mod rim;
+mod rises;
 mod safe;
 mod size;
 mod stitching;
 mod stretched;
+mod tight;
 
 pub use def_remesh::{NewMesh, StitchFail};
 pub use numbered::Numbered;
 pub use numbering::Numbering;
 pub use planning::plan;
+pub use rises::{are_needed, needed_rises};
 pub use stitching::stitch;
+pub use tight::tight_arcs;

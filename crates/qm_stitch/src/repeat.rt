@@ -1,6 +1,7 @@
 //! The least key that tells of a doubled edge.
 
 ghost use Rattle.std.specs.Prelude.{◌≡◌, ◌<◌, ◌+◌, ◌-◌, ◌*◌, ◌/◌, ◌%◌, ◌^◌, ℕ, length, IfSome, IsNone};
+ghost use Rattle.std.specs.Prelude.{◌↔◌, IsTrue};
 ghost use Rattle.std.specs.List.Sorted.{IsNonDecreasing, IsPermutation};
 ghost use Rattle.qm_stitch.specs.Rims.{is_repeat_at, pair_key, IsLeastRepeat, IsRepeat};
 
@@ -39,7 +40,7 @@ pub(crate) fn least_repeat(keys: Vec<u64>) -> Option<u64>
 }
 
 /// Sorts keys.
-fn sort(keys: &mut Vec<u64>)
+pub(crate) fn sort(keys: &mut Vec<u64>)
     ensures moved { IsPermutation keys.old.items keys.new.items }
     ensures increasing { IsNonDecreasing keys.new.items }
 {
@@ -58,6 +59,17 @@ fn first_repeat(keys: &[u64]) -> Option<u64>
         }
     }
     None
+}
+
+/// Whether a key with two equal vertices, or of two edges, is among keys that rise. Logarithmic.
+pub(crate) fn is_repeat(keys: &[u64], key: u64) -> bool
+    requires { IsNonDecreasing keys.now }
+    ensures { IsTrue result ↔ IsRepeat keys.now key }
+{
+    match keys.binary_search(&key) {
+        Ok(place) => is_at(keys, place) || (place > 0 && keys[place - 1] == key),
+        Err(_) => false,
+    }
 }
 
 /// Whether the key at a place has two equal vertices or stands at the next place, too.

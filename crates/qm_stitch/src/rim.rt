@@ -4,6 +4,7 @@
 ghost use Rattle.std.specs.Prelude.{◌≡◌, ◌<◌, ◌≤◌, ◌-◌, ◌++◌, length, IfOk, OnOk};
 ghost use Rattle.def_layout.specs.Lengths.{size};
 ghost use Rattle.def_layout.specs.Plans.{way_number as side_number};
+ghost use Rattle.def_written.specs.Edges.{on_arc};
 ghost use Rattle.def_written.specs.Numbers.{vertex_number as point_name};
 ghost use Rattle.qm_stitch.specs.Lengthened.{layout_in, lengths_by};
 ghost use Rattle.qm_stitch.specs.Rims.{all_lines, along_lines, arcs_upto, key_of, keys_of, line_edge, line_ends};
@@ -47,11 +48,20 @@ fn push_arc(keys: &mut Vec<u64>, numbered: &Numbered, arc: usize) -> Result<(), 
         (segments (lengths_by numbered.now) arc)) }
 {
     for k in 0..numbered.tables.lengths[arc] {
-        let from = arc_number(numbered, arc, k);
-        let to = arc_number(numbered, arc, k + 1);
-        keys.push(key_for(from, to))?;
+        keys.push(arc_key(numbered, arc, k))?;
     }
     Ok(())
+}
+
+/// The key of an edge of an arc.
+pub(crate) fn arc_key(numbered: &Numbered, arc: usize, k: u32) -> u64
+    requires arc { arc < length numbered.now.t.now.arcs.items }
+    requires low { k < lengths_by numbered.now arc }
+    ensures { result ≡ key_of (layout_in numbered.now) (lengths_by numbered.now) (on_arc arc k) }
+{
+    let from = arc_number(numbered, arc, k);
+    let to = arc_number(numbered, arc, k + 1);
+    key_for(from, to)
 }
 
 /// Puts the keys of the edges of all patches that have an end on a side behind the others.
@@ -70,9 +80,9 @@ fn push_patches(keys: &mut Vec<u64>, numbered: &Numbered) -> Result<(), AllocErr
 /// A row inside a patch, or a column, which is upright.
 #[derive(Clone, Copy, Debug, PartialEq, Eq)]
 pub struct Line {
-    patch: usize,
-    upright: bool,
-    number: u32,
+    pub(crate) patch: usize,
+    pub(crate) upright: bool,
+    pub(crate) number: u32,
 }
 
 /// Puts the keys of the ends of all rows inside a patch, or of all columns, behind the others.
@@ -116,7 +126,7 @@ fn push_line(keys: &mut Vec<u64>, numbered: &Numbered, line: Line) -> Result<(),
 }
 
 /// The number of a side along which rows run, or columns.
-fn side_along(upright: bool) -> usize
+pub(crate) fn side_along(upright: bool) -> usize
     ensures low { result < 4 }
     ensures side { side_number (along_lines upright) ≡ result }
 {
@@ -124,7 +134,7 @@ fn side_along(upright: bool) -> usize
 }
 
 /// The key of an edge of a line, so many edges after its first one.
-fn key_at(numbered: &Numbered, line: Line, at: u32) -> u64
+pub(crate) fn key_at(numbered: &Numbered, line: Line, at: u32) -> u64
     requires line { IsLine (layout_in numbered.now) (lengths_by numbered.now) line }
     requires low { at < size (layout_in numbered.now) (lengths_by numbered.now) line.patch
         (along_lines line.upright) }

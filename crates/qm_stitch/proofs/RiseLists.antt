@@ -1,0 +1,171 @@
+-- Rises by marks of the tight arcs are the needed ones.
+use Rattle.std.proofs.Common.{◌≡◌, ◌⊎◌, ◌↔◌, ℕ, zero, suc, ◌+◌, ◌<◌, ◌≤◌, Bool, true, false, List, [], ◌∷◌, ◌++◌}
+use Rattle.std.proofs.Common.{Option, None, Some, length, get_or, refl, sym, ◌∙◌, ap, subst, inl, inr, arith}
+use Rattle.std.proofs.Common.{length-append}
+use Rattle.std.proofs.lemmas.Bool.{cases_eq, cases_lt, false≢true}
+use Rattle.std.proofs.lemmas.List.{get_or_append_left, get_or_push}
+use Rattle.def_certtext.specs.declared.certs.Rise.{Rise}
+use Rattle.def_flow.specs.declared.limits.TheConstants.{MAX_FLOOR}
+use Rattle.def_layout.specs.Layouts.{Layout}
+use Rattle.def_remesh.specs.NewPoints.{lengths_in}
+use Rattle.def_remesh.specs.Rises.{rise_at, AreNeeded, AreTightLong, IsNeeded, IsTight}
+use Rattle.qm_stitch.specs.Raised.{AreFloors, AreOrdered, AreRisesUpto, IsFloorOf, IsShortTight}
+
+-- The rise past the last one.
+abbrev no_rise : Rise
+no_rise = record { arc = 0; floor = 0 }
+
+pub none_some : (t : ℕ) → ◌≡◌ {A = Option ℕ} None (Some t) → ⊥
+none_some t e = absurd cc
+
+module _ (some : Bool) (tight : List Bool) (xs : List ℕ) where
+  -- One arc more, whose floor stays or rises.
+  pub stays : (arc : ℕ) (rises : List Rise) → AreRisesUpto some tight xs arc rises
+      → ((floor : ℕ) → ¬ IsFloorOf some tight xs arc floor) → AreRisesUpto some tight xs (arc + 1) rises
+  stays arc rises are none = record {
+    below = λ k low. omega (arith, are.below k low);
+    ordered = are.ordered;
+    floors = are.floors;
+    none_left = λ a floor low is. elim (cases_eq a arc) [
+      | inl same ↦ absurd (none floor (subst (λ (b : ℕ). IsFloorOf some tight xs b floor) same is))
+      | inr other ↦ are.none_left a floor (omega (arith, low, other)) is
+    ];
+  }
+
+  pub rises_too : (arc : ℕ) (rise : Rise) (rises : List Rise) → AreRisesUpto some tight xs arc rises → rise.arc ≡ arc
+      → arc < length xs → IsFloorOf some tight xs rise.arc rise.floor
+      → AreRisesUpto some tight xs (arc + 1) (rises ++ rise ∷ [])
+  rises_too arc rise rises are same low is = record {
+    below = λ k k_low. by_place (λ r. r.arc < arc + 1) k k_low (λ old. omega (arith, are.below k old))
+        (omega (arith, same));
+    ordered = λ k k_low. elim (cases_lt (k + 1) (length rises)) [
+      | inl old ↦ subst (λ (r : Rise). r.arc < (rise_at (rises ++ rise ∷ []) (k + 1)).arc)
+          (sym (at_old k (omega (arith, old))))
+          (subst (λ (r : Rise). (rise_at rises k).arc < r.arc) (sym (at_old (k + 1) old)) (are.ordered k old))
+      | inr last ↦
+          let before : k < length rises = omega (arith, k_low, longer) in
+          subst (λ (r : Rise). r.arc < (rise_at (rises ++ rise ∷ []) (k + 1)).arc) (sym (at_old k before))
+          (subst (λ (r : Rise). (rise_at rises k).arc < r.arc)
+          (sym (at_new (k + 1) (omega (arith, last, before))))
+          (omega (arith, same, are.below k before)))
+    ];
+    floors = λ k k_low. by_place
+        (λ r. (r.arc < length xs) × IsFloorOf some tight xs r.arc r.floor) k k_low
+        (are.floors k) (omega (arith, same, low), is);
+    none_left = λ a floor a_low has. omega (arith, longer);
+  }
+    where
+      longer : length (rises ++ rise ∷ []) ≡ length rises + 1
+      longer = length-append rises (rise ∷ [])
+
+      at_old : (k : ℕ) → k < length rises → rise_at (rises ++ rise ∷ []) k ≡ rise_at rises k
+      at_old k old = get_or_append_left rises (rise ∷ []) no_rise k old
+
+      at_new : (k : ℕ) → length rises ≡ k → rise_at (rises ++ rise ∷ []) k ≡ rise
+      at_new k end = get_or_push rises rise no_rise k end
+
+      by_place : (P : Rise → Type 0) (k : ℕ) → k < length (rises ++ rise ∷ [])
+          → (k < length rises → P (rise_at rises k)) → P rise → P (rise_at (rises ++ rise ∷ []) k)
+      by_place P k k_low old new = elim (cases_lt k (length rises)) [
+        | inl less ↦ subst P (sym (at_old k less)) (old less)
+        | inr more ↦ subst P (sym (at_new k (omega (arith, more, k_low, longer)))) new
+      ]
+
+-- A short arc is there, or all are long.
+find_short : (xs : List ℕ) (n : ℕ) → ((arc : ℕ) × (arc < n) × (lengths_in xs arc < MAX_FLOOR))
+    ⊎ ((arc : ℕ) → arc < n → MAX_FLOOR ≤ lengths_in xs arc)
+find_short xs zero = inr (λ arc low. absurd (omega (arith, low)))
+find_short xs (suc n) = elim (cases_lt (lengths_in xs n) MAX_FLOOR) [
+  | inl short ↦ inl (n, omega arith, short)
+  | inr high ↦ elim (find_short xs n) [
+    | inl (arc, low, short) ↦ inl (arc, omega (arith, low), short)
+    | inr all ↦ inr (λ arc low. elim (cases_lt arc n) [
+      | inl less ↦ all arc less
+      | inr more ↦ subst (λ (a : ℕ). MAX_FLOOR ≤ lengths_in xs a) (let e : n ≡ arc = omega (arith, low, more) in e) high
+    ])
+  ]
+]
+
+module _
+    (l : Layout) (xs : List ℕ) (tight : List Bool) (long : length xs ≡ l.arcs)
+    (tells : (arc : ℕ) → arc < l.arcs → (get_or tight arc false ≡ true) ↔ IsTight l (lengths_in xs) arc)
+    (some : Bool) (told : (some ≡ true) ↔ ((arc : ℕ) × (arc < length xs) × IsShortTight tight xs arc))
+  where
+    tight_long : some ≡ false → AreTightLong l (lengths_in xs)
+    tight_long none arc low is = elim (cases_lt (lengths_in xs arc) MAX_FLOOR) [
+      | inl short ↦ absurd (false≢true (sym none
+          ∙ told.1 (arc, omega (arith, low, long), ((tells arc low).1 is, short))))
+      | inr high ↦ high
+    ]
+
+    -- A floor by the marks is needed.
+    floor_needed : (rise : Rise) → rise.arc < length xs → IsFloorOf some tight xs rise.arc rise.floor
+        → IsNeeded l (lengths_in xs) rise
+    floor_needed rise low is = by_some some refl is
+      where
+        there : rise.arc < l.arcs
+        there = omega (arith, low, long)
+
+        by_some : (b : Bool) → some ≡ b → IsFloorOf b tight xs rise.arc rise.floor → IsNeeded l (lengths_in xs) rise
+        by_some true on (short, marked, same) = record {
+          there = there;
+          short = omega (arith, same);
+          low = omega (arith, short, same);
+          reason = inl ((tells rise.arc there).0 marked, same);
+        }
+        by_some false off (short, same) = record {
+          there = there;
+          short = omega (arith, short, same);
+          low = omega (arith, same);
+          reason = inr (tight_long off, same);
+        }
+
+    -- A needed floor is one by the marks.
+    needed_floor : (rise : Rise) → IsNeeded l (lengths_in xs) rise
+        → (rise.arc < length xs) × IsFloorOf some tight xs rise.arc rise.floor
+    needed_floor rise is = (omega (arith, is.there, long), by_some some refl is.reason)
+      where
+        by_some : (b : Bool) → some ≡ b
+            → (IsTight l (lengths_in xs) rise.arc × (rise.floor ≡ lengths_in xs rise.arc + 1))
+            ⊎ (AreTightLong l (lengths_in xs) × (rise.floor ≡ MAX_FLOOR))
+            → IsFloorOf b tight xs rise.arc rise.floor
+        by_some true on (inl (t, same)) = (omega (arith, is.low, same), (tells rise.arc is.there).1 t, same)
+        by_some true on (inr (all, same)) =
+            let s = told.0 on in
+            let inner : s.0 < l.arcs = omega (arith, s.1, long) in
+            absurd (omega (arith, all s.0 inner ((tells s.0 inner).0 s.2.0), s.2.1))
+        by_some false off (inl (t, same)) =
+            absurd (omega (arith, tight_long off rise.arc is.there t, is.low, same))
+        by_some false off (inr (all, same)) = (omega (arith, is.short, same), same)
+
+    needed_is : (rises : List Rise) → AreNeeded l (lengths_in xs) rises
+        → (0 < length rises) × AreOrdered rises × AreFloors some tight xs rises
+    needed_is rises are = (are.some, are.ordered, λ k low. needed_floor (rise_at rises k) (are.each k low))
+
+    is_needed : (rises : List Rise) → 0 < length rises → AreOrdered rises → AreFloors some tight xs rises
+        → AreNeeded l (lengths_in xs) rises
+    is_needed rises first ordered floors = record {
+      some = first;
+      ordered = ordered;
+      each = λ k low. floor_needed (rise_at rises k) (floors k low).0 (floors k low).1;
+    }
+
+    pub needed_are : (rises : List Rise) → ((0 < length rises) × AreOrdered rises × AreFloors some tight xs rises)
+        ↔ AreNeeded l (lengths_in xs) rises
+    needed_are rises = (λ all. is_needed rises all.0 all.1 all.2, needed_is rises)
+
+    -- The rises of all arcs are needed where an arc is short.
+    pub all_needed : (rises : List Rise) → AreRisesUpto some tight xs (length xs) rises
+        → ¬ ((arc : ℕ) → arc < l.arcs → MAX_FLOOR ≤ lengths_in xs arc) → AreNeeded l (lengths_in xs) rises
+    all_needed rises are not_long = is_needed rises (by_some some refl) are.ordered are.floors
+      where
+        by_some : (b : Bool) → some ≡ b → 0 < length rises
+        by_some true on =
+            let s = told.0 on in
+            are.none_left s.0 (lengths_in xs s.0 + 1) s.1
+            (subst (λ (b : Bool). IsFloorOf b tight xs s.0 (lengths_in xs s.0 + 1)) (sym on) (s.2.1, s.2.0, refl))
+        by_some false off = elim (find_short xs l.arcs) [
+          | inl (arc, low, short) ↦ are.none_left arc MAX_FLOOR (omega (arith, low, long))
+              (subst (λ (b : Bool). IsFloorOf b tight xs arc MAX_FLOOR) (sym off) (short, refl))
+          | inr all ↦ absurd (not_long all)
+        ]

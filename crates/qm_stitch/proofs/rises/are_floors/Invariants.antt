@@ -1,0 +1,8 @@
+use Rattle.std.proofs.Common.{◌<◌, ℕ, length}
+use Rattle.def_remesh.specs.Rises.{rise_at}
+use Rattle.qm_stitch.specs.Raised.{IsFloorOf}
+use Rattle.qm_stitch.proofs.rises.are_floors.Given as goal
+
+abbrev pub invariant-loop-rise : goal.invariant-loop-rise
+invariant-loop-rise l = (k : ℕ) → k < l.rise-index → ((rise_at l.rises k).arc < length l.lengths)
+    × IsFloorOf l.some l.tight l.lengths (rise_at l.rises k).arc (rise_at l.rises k).floor

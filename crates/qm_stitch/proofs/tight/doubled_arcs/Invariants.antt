@@ -1,0 +1,11 @@
+use Rattle.std.proofs.Common.{◌≡◌, ◌↔◌, ◌<◌, ℕ, true, false, length, get_or}
+use Rattle.qm_stitch.specs.Lengthened.{layout_in, lengths_by}
+use Rattle.qm_stitch.specs.Tight.{IsDoubledOn}
+use Rattle.qm_stitch.proofs.tight.doubled_arcs.Given as goal
+
+abbrev pub invariant-loop-arc : goal.invariant-loop-arc
+invariant-loop-arc l = record {
+  long : length l.on.items ≡ l.arc;
+  each : (a : ℕ) → a < l.arc
+      → (get_or l.on.items a false ≡ true) ↔ IsDoubledOn (layout_in l.numbered) (lengths_by l.numbered) a;
+}

@@ -1,0 +1,11 @@
+use Rattle.std.proofs.Common.{◌<◌, ℕ}
+use Rattle.qm_stitch.specs.Lengthened.{layout_in, lengths_by}
+use Rattle.qm_stitch.specs.Tight.{IsLineDoubled}
+use Rattle.qm_stitch.proofs.tight.is_doubled_in.Given as goal
+
+abbrev pub invariant-loop-number : goal.invariant-loop-number
+invariant-loop-number l = record {
+  some : 0 < l.number;
+  none : (n : ℕ) → 0 < n → n < l.number
+      → ¬ IsLineDoubled (layout_in l.numbered) (lengths_by l.numbered) l.upright l.patch n;
+}

@@ -1,0 +1,57 @@
+use Rattle.std.proofs.Common.{◌≡◌, ◌↔◌, ◌<◌, ◌+◌, ℕ, length, get_or, refl, sym, subst, below_more, ◌∙◌, true, arith}
+use Rattle.std.proofs.lemmas.Bool.{false≢true}
+use Rattle.std.proofs.lemmas.List.{get_or_default, length-map}
+use Rattle.def_layout.specs.Arcs.{path}
+use Rattle.def_written.specs.Edges.{on_arc}
+use Rattle.qm_stitch.specs.declared.numbered.Numbered.{Numbered}
+use Rattle.qm_stitch.specs.Lengthened.{layout_in, lengths_by}
+use Rattle.qm_stitch.specs.Rims.{IsRepeat}
+use Rattle.qm_stitch.specs.Tight.{IsDoubled}
+use Rattle.qm_stitch.proofs.TightEdges.{key_tells}
+use Rattle.qm_stitch.proofs.tight.is_doubled_on.Goals.{After-is_repeat}
+use Rattle.qm_stitch.proofs.tight.is_doubled_on.Goals as goal
+
+-- The length of an arc, as the loop reads it.
+end_is : (numbered : Numbered) (arc end : ℕ) → arc < length numbered.t.now.arcs.items
+    → end ≡ get_or numbered.tables.now.lengths.items arc end → end ≡ lengths_by numbered arc
+end_is numbered arc end low read = read ∙ get_or_default numbered.tables.now.lengths.items arc end 0
+    (omega (arith, low, numbered.numbers.long, length-map numbered.t.now.arcs.items path))
+
+told : (c : After-is_repeat) → (c.is_repeat.result ≡ true)
+    ↔ IsDoubled (layout_in c.args.numbered.now) (lengths_by c.args.numbered.now) (on_arc c.args.arc c.loop-k.k)
+told c =
+    let tells = key_tells (layout_in c.args.numbered.now) (lengths_by c.args.numbered.now) c.requires.laid
+    c.args.numbered.now.numbers.lengths c.args.numbered.now.numbers.few c.args.keys.now
+    (on_arc c.args.arc c.loop-k.k) c.requires.keys (
+      omega (arith, c.requires.arc, length-map c.args.numbered.now.t.now.arcs.items path),
+      omega (
+        arith,
+        c.loop-k-test.true,
+        end_is c.args.numbered.now c.args.arc c.index-k-end.result.now c.requires.arc c.index-k-end.ensures,
+      ),
+    ) in (
+      λ on. tells.0 (subst (IsRepeat c.args.keys.now) c.arc_key.ensures (c.is_repeat.ensures.0 on)),
+      λ is. c.is_repeat.ensures.1 (subst (IsRepeat c.args.keys.now) (sym c.arc_key.ensures) (tells.1 is)),
+    )
+
+pub returns-then-is_repeat : goal.returns-then-is_repeat
+returns-then-is_repeat c =
+    let w = (goal.at.returns-then-is_repeat c).After-is_repeat in
+    (λ on. (c.loop-k.k, (told w).0 c.if-is_repeat.true), λ has. refl)
+
+pub loop-k-preserved : goal.loop-k-preserved
+loop-k-preserved c =
+    let w = (goal.at.loop-k-preserved c).After-is_repeat in
+    below_more (λ (k : ℕ). ¬ IsDoubled (layout_in c.args.numbered.now) (lengths_by c.args.numbered.now)
+    (on_arc c.args.arc k)) c.loop-k.k c.loop-k.invariant (λ is. false≢true (sym c.if-is_repeat.false ∙ (told w).1 is))
+
+pub returns : goal.returns
+returns c = (
+  λ on. absurd (false≢true on),
+  λ has. absurd (c.loop-k.invariant has.0 (omega (
+    arith,
+    has.1.is.1,
+    c.loop-k-test.false,
+    end_is c.args.numbered.now c.args.arc c.index-k-end.result.now c.requires.arc c.index-k-end.ensures,
+  )) has.1),
+)

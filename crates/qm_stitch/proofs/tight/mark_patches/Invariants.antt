@@ -1,0 +1,7 @@
+use Rattle.qm_stitch.specs.Lengthened.{layout_in, lengths_by}
+use Rattle.qm_stitch.specs.Tight.{AddsMarks, IsTightUpto}
+use Rattle.qm_stitch.proofs.tight.mark_patches.Given as goal
+
+abbrev pub invariant-loop-patch : goal.invariant-loop-patch
+invariant-loop-patch l =
+    AddsMarks l.initial.tight l.tight (IsTightUpto (layout_in l.numbered) (lengths_by l.numbered) l.patch)

@@ -1,0 +1,163 @@
+//! The floors that have to rise where lengths double an edge.
+
+ghost use Rattle.std.specs.Prelude.{◌≡◌, ◌↔◌, ◌<◌, ◌^◌, ℕ, length, IfOk, IsTrue, Some};
+ghost use Rattle.def_flow.specs.declared.limits.TheConstants.{MAX_FLOOR};
+ghost use Rattle.def_layout.specs.Lengths.{AreLengths};
+ghost use Rattle.def_layout.specs.Plans.{layout_of, plan};
+ghost use Rattle.def_layoutnet.specs.MeshLayouts.{IsSomeLayout};
+ghost use Rattle.def_remesh.specs.NewPoints.{lengths_in};
+ghost use Rattle.def_remesh.specs.Remeshed.{AreCoarse, AreDoubled};
+ghost use Rattle.def_remesh.specs.Rises.{AreNeeded};
+ghost use Rattle.qm_stitch.specs.Raised.{AreFloors, AreOrdered, AreRisesUpto, IsFloorFor, IsFloorOf};
+ghost use Rattle.qm_stitch.specs.Raised.{IsShortTight};
+
+use crate::tight::tight_arcs;
+use def_certtext::Rise;
+use def_flow::MAX_FLOOR;
+use def_layout::TMesh;
+use std::alloc::{AllocError, Global};
+
+/// The floors that rise for lengths that double an edge: of each tight arc that is shorter than the greatest floor to
+/// one more than its length; where there is none, of each short arc to the greatest. Of the cost of `tight_arcs`.
+pub fn needed_rises(alloc: Global, t: &TMesh, lengths: &[u64]) -> Result<Vec<Rise>, AllocError>
+    requires layout { IsSomeLayout (plan t.now) }
+    requires long { length lengths.now ≡ length t.now.arcs.items }
+    requires lengths { AreLengths (layout_of (plan t.now)) (lengths_in lengths.now) }
+    requires few { length lengths.now < 2 ^ 32 }
+    requires coarse { AreCoarse (plan t.now) lengths.now }
+    requires doubled { AreDoubled (plan t.now) lengths.now }
+    ensures { IfOk result (λ rises. AreNeeded (layout_of (plan t.now)) (lengths_in lengths.now) rises.items) }
+{
+    let tight = tight_arcs(alloc, t, lengths)?;
+    rises_by(alloc, lengths, &tight, is_some_short(lengths, &tight))
+}
+
+/// The rises of all arcs.
+fn rises_by(
+    alloc: Global,
+    lengths: &[u64],
+    tight: &[bool],
+    some: bool,
+) -> Result<Vec<Rise>, AllocError>
+    requires long { length tight.now ≡ length lengths.now }
+    requires few { length lengths.now < 2 ^ 32 }
+    ensures { IfOk result (λ rises.
+        AreRisesUpto some tight.now lengths.now (length lengths.now) rises.items) }
+{
+    let mut rises = Vec::new(alloc);
+    for arc in 0..lengths.len() {
+        if let Some(floor) = floor_of(lengths, tight, some, arc) {
+            rises.push(Rise {
+                arc: arc as u32,
+                floor,
+            })?;
+        }
+    }
+    Ok(rises)
+}
+
+/// Whether floors rise as they have to for these lengths. Of the cost of `tight_arcs`.
+pub fn are_needed(
+    alloc: Global,
+    t: &TMesh,
+    lengths: &[u64],
+    rises: &[Rise],
+) -> Result<bool, AllocError>
+    requires layout { IsSomeLayout (plan t.now) }
+    requires long { length lengths.now ≡ length t.now.arcs.items }
+    requires lengths { AreLengths (layout_of (plan t.now)) (lengths_in lengths.now) }
+    requires coarse { AreCoarse (plan t.now) lengths.now }
+    ensures { IfOk result (λ are.
+        IsTrue are ↔ AreNeeded (layout_of (plan t.now)) (lengths_in lengths.now) rises.now) }
+{
+    let tight = tight_arcs(alloc, t, lengths)?;
+    Ok(are_rises(lengths, &tight, is_some_short(lengths, &tight), rises))
+}
+
+/// Whether there are rises, in order, each that of its arc.
+fn are_rises(lengths: &[u64], tight: &[bool], some: bool, rises: &[Rise]) -> bool
+    requires { length tight.now ≡ length lengths.now }
+    ensures { IsTrue result ↔ ((0 < length rises.now) × AreOrdered rises.now
+        × AreFloors some tight.now lengths.now rises.now) }
+{
+    !rises.is_empty() && are_ordered(rises) && are_floors(lengths, tight, some, rises)
+}
+
+/// Whether a tight arc is shorter than the greatest floor.
+fn is_some_short(lengths: &[u64], tight: &[bool]) -> bool
+    requires { length tight.now ≡ length lengths.now }
+    ensures { IsTrue result
+        ↔ ((arc : ℕ) × (arc < length lengths.now) × IsShortTight tight.now lengths.now arc) }
+{
+    for arc in 0..lengths.len() {
+        if is_short_tight(lengths, tight, arc) {
+            return true;
+        }
+    }
+    false
+}
+
+/// Whether an arc is tight and shorter than the greatest floor.
+fn is_short_tight(lengths: &[u64], tight: &[bool], arc: usize) -> bool
+    requires low { arc < length lengths.now }
+    requires long { length tight.now ≡ length lengths.now }
+    ensures { IsTrue result ↔ IsShortTight tight.now lengths.now arc }
+{
+    tight[arc] && is_short(lengths[arc])
+}
+
+/// Whether a length is less than the greatest floor.
+fn is_short(length: u64) -> bool
+    ensures { IsTrue result ↔ (length < MAX_FLOOR) }
+{
+    length < u64::from(MAX_FLOOR)
+}
+
+/// The floor to which that of an arc rises.
+fn floor_of(lengths: &[u64], tight: &[bool], some: bool, arc: usize) -> Option<u32>
+    requires low { arc < length lengths.now }
+    requires long { length tight.now ≡ length lengths.now }
+    ensures { (floor : ℕ) → (result ≡ Some floor) ↔ IsFloorOf some tight.now lengths.now arc floor }
+{
+    floor_for(lengths[arc], tight[arc], some)
+}
+
+/// The floor to which that of an arc rises, where it does: with `some`, a tight arc is short.
+fn floor_for(length: u64, tight: bool, some: bool) -> Option<u32>
+    ensures { (floor : ℕ) → (result ≡ Some floor) ↔ IsFloorFor some tight length floor }
+{
+    if !is_short(length) || (some && !tight) {
+        return None;
+    }
+    if some {
+        Some(length as u32 + 1)
+    } else {
+        Some(MAX_FLOOR)
+    }
+}
+
+/// Whether the arcs of rises are in order, each once.
+fn are_ordered(rises: &[Rise]) -> bool
+    ensures { IsTrue result ↔ AreOrdered rises.now }
+{
+    for k in 1..rises.len() {
+        if rises[k - 1].arc >= rises[k].arc {
+            return false;
+        }
+    }
+    true
+}
+
+/// Whether each rise is that of its arc.
+fn are_floors(lengths: &[u64], tight: &[bool], some: bool, rises: &[Rise]) -> bool
+    requires { length tight.now ≡ length lengths.now }
+    ensures { IsTrue result ↔ AreFloors some tight.now lengths.now rises.now }
+{
+    for rise in rises {
+        let arc = rise.arc as usize;
+        if arc >= lengths.len() || floor_of(lengths, tight, some, arc) != Some(rise.floor) {
+            return false;
+        }
+    }
+    true
+}
