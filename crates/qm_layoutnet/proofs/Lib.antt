@@ -6,5 +6,6 @@ mod Tangles
 pub mod Built
 pub mod SameEnds
 pub mod Floors
+pub mod Risen
 pub mod OneNet
 pub mod Opposite

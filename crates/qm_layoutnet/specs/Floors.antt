@@ -14,6 +14,15 @@ pub record AreFloored (n floor : ℕ) (arcs new : List Arc) : Type 0 where
   pub done : (k : ℕ) → k < n → k < length arcs → arc_at new k ≡ at_floor floor (arc_at arcs k)
   pub left : (k : ℕ) → n ≤ k → k < length arcs → arc_at new k ≡ arc_at arcs k
 
+-- The floors of arcs.
+abbrev pub floor_of : (arcs : List Arc) → Lengths
+floor_of arcs k = (arc_at arcs k).floor
+
+-- The arcs have these floors, and nothing else is different.
+pub record AreArcsAt (floor : Lengths) (arcs new : List Arc) : Type 0 where
+  pub long : length new ≡ length arcs
+  pub each : (k : ℕ) → k < length arcs → arc_at new k ≡ at_floor (floor k) (arc_at arcs k)
+
 -- All arcs have these floors, and nothing else is different.
 pub record HasFloors (net : Network) (floor : Lengths) (new : Network) : Type 0 where
   pub nodes : new.nodes ≡ net.nodes
