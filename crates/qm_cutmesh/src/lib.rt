@@ -7,9 +7,11 @@ mod meshed;
 mod no_mesh;
 mod planning;
 mod regridded;
+mod rising;
 
 pub use cut_mesh::CutMesh;
 pub use meshed::Meshed;
 pub use no_mesh::NoMesh;
 pub use planning::plan_over;
 pub use regridded::Regridded;
+pub use rising::{are_needed_over, rises_over};

@@ -1,0 +1,41 @@
+//! The floors that have to rise over a cut mesh.
+
+ghost use Rattle.std.specs.Prelude.{◌≡◌, ◌↔◌, ◌<◌, ◌^◌, length, IfOk, IsTrue};
+ghost use Rattle.def_layout.specs.Lengths.{AreLengths};
+ghost use Rattle.def_layout.specs.Plans.{layout_of};
+ghost use Rattle.def_remesh.specs.NewPoints.{lengths_in};
+ghost use Rattle.def_remesh.specs.Remeshed.{AreCoarse, AreDoubled};
+ghost use Rattle.def_remesh.specs.Rises.{AreNeeded};
+
+use crate::cut_mesh::CutMesh;
+use def_certtext::Rise;
+use qm_stitch::{are_needed, needed_rises};
+use std::alloc::{AllocError, Global};
+
+/// The floors that rise for lengths that double an edge, as `needed_rises` has them.
+pub fn rises_over(alloc: Global, cut: &CutMesh, lengths: &[u64]) -> Result<Vec<Rise>, AllocError>
+    requires long { length lengths.now ≡ length cut.now.plan.arcs }
+    requires lengths { AreLengths (layout_of cut.now.plan) (lengths_in lengths.now) }
+    requires few { length lengths.now < 2 ^ 32 }
+    requires coarse { AreCoarse cut.now.plan lengths.now }
+    requires doubled { AreDoubled cut.now.plan lengths.now }
+    ensures { IfOk result (λ rises. AreNeeded (layout_of cut.now.plan) (lengths_in lengths.now) rises.items) }
+{
+    needed_rises(alloc, cut.layout(), lengths)
+}
+
+/// Whether floors rise as they have to for these lengths.
+pub fn are_needed_over(
+    alloc: Global,
+    cut: &CutMesh,
+    lengths: &[u64],
+    rises: &[Rise],
+) -> Result<bool, AllocError>
+    requires long { length lengths.now ≡ length cut.now.plan.arcs }
+    requires lengths { AreLengths (layout_of cut.now.plan) (lengths_in lengths.now) }
+    requires coarse { AreCoarse cut.now.plan lengths.now }
+    ensures { IfOk result (λ are.
+        IsTrue are ↔ AreNeeded (layout_of cut.now.plan) (lengths_in lengths.now) rises.now) }
+{
+    are_needed(alloc, cut.layout(), lengths, rises)
+}
