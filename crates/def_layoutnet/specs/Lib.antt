@@ -1,3 +1,4 @@
+pub mod Floors
 pub mod LayoutNet
 pub mod LayoutNetLaws
 pub mod MeshLayouts

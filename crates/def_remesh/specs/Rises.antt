@@ -18,7 +18,7 @@ RunsAlong layout (flat p i j) arc = IsOnSide layout p south arc ⊎ IsOnSide lay
 RunsAlong layout (steep p i j) arc = IsOnSide layout p east arc ⊎ IsOnSide layout p west arc
 
 -- An arc is tight where a doubled edge runs along it.
-pub record IsTight (layout : Layout) (lengths : Lengths) (arc : ℕ) : Type 0 where
+pub record IsTightArc (layout : Layout) (lengths : Lengths) (arc : ℕ) : Type 0 where
   pub edge : Edge
   pub u : ℕ
   pub v : ℕ
@@ -29,7 +29,7 @@ pub record IsTight (layout : Layout) (lengths : Lengths) (arc : ℕ) : Type 0 wh
 
 -- No tight arc is shorter than the greatest floor.
 abbrev pub AreTightLong : (layout : Layout) (lengths : Lengths) → Type 0
-AreTightLong layout lengths = (arc : ℕ) → arc < layout.arcs → IsTight layout lengths arc → MAX_FLOOR ≤ lengths arc
+AreTightLong layout lengths = (arc : ℕ) → arc < layout.arcs → IsTightArc layout lengths arc → MAX_FLOOR ≤ lengths arc
 
 -- The floor of a short arc may rise: that of a tight one to one more than its length; where no tight arc is short, that
 -- of each to the greatest.
@@ -37,7 +37,7 @@ pub record IsNeeded (layout : Layout) (lengths : Lengths) (rise : Rise) : Type 0
   pub there : rise.arc < layout.arcs
   pub short : lengths rise.arc < rise.floor
   pub low : rise.floor ≤ MAX_FLOOR
-  pub reason : (IsTight layout lengths rise.arc × (rise.floor ≡ lengths rise.arc + 1))
+  pub reason : (IsTightArc layout lengths rise.arc × (rise.floor ≡ lengths rise.arc + 1))
       ⊎ (AreTightLong layout lengths × (rise.floor ≡ MAX_FLOOR))
 
 -- The rise at a place; past the last one, one that means nothing.

@@ -23,7 +23,7 @@ use Rattle.def_run.specs.declared.check_fail.CheckFail.TheVariants.{NotAccepted,
 use Rattle.qm_check.specs.Checked.{made_as, Gives, GivesNone, HasWrongCert, IsChecked, IsUnused}
 use Rattle.qm_check.specs.declared.lengths.Lengths.TheVariants.{Whole, Doubled}
 use Rattle.qm_layoutnet.proofs.Floors.{floors_deviation}
-use Rattle.qm_layoutnet.specs.Floors.{HasFloors}
+use Rattle.def_layoutnet.specs.Floors.{HasFloors}
 use Rattle.remesh_laws.proofs.Keeps.{keeps_first, keeps_third, solved}
 use Rattle.remesh_laws.specs.Keeps.{IsDoubling}
 

@@ -18,7 +18,8 @@ use Rattle.def_layout.specs.Lengths.{Lengths}
 use Rattle.def_layout.specs.Surfaces.{IsSurface}
 use Rattle.def_layoutnet.specs.LayoutNet.{IsNetOf}
 use Rattle.qm_net.proofs.Within.{arc_bounded}
-use Rattle.qm_layoutnet.specs.Floors.{at_floor, AreFloored, HasFloors}
+use Rattle.def_layoutnet.specs.Floors.{at_floor, HasFloors}
+use Rattle.qm_layoutnet.specs.Floors.{AreFloored}
 use Rattle.qm_layoutnet.proofs.Built.{all_pass, count_at}
 use Rattle.qm_layoutnet.proofs.SameEnds.{sums_same, tangle_same}
 

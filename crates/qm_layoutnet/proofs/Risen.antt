@@ -14,7 +14,8 @@ use Rattle.def_layout.specs.Lengths.{Lengths}
 use Rattle.def_math.specs.Counts.{count_below}
 use Rattle.def_remesh.specs.Rises.{rise_at, risen_floors, AreNeeded, IsNeeded}
 use Rattle.sum_laws.proofs.Counts.{count_below_lt}
-use Rattle.qm_layoutnet.specs.Floors.{at_floor, floor_of, AreArcsAt}
+use Rattle.def_layoutnet.specs.Floors.{at_floor, floor_of}
+use Rattle.qm_layoutnet.specs.Floors.{AreArcsAt}
 
 -- The arc and the rise past the last one.
 abbrev no_arc : Arc

@@ -1,12 +1,9 @@
--- A network with other floors.
+-- Arcs with other floors, as loops give them.
 use Rattle.std.specs.Prelude.{◌≡◌, ℕ, ◌<◌, ◌≤◌, List, length}
-use Rattle.def_flow.specs.Network.{Network, arc_at}
+use Rattle.def_flow.specs.Network.{arc_at}
 use Rattle.def_flow.specs.declared.net.Arc.{Arc}
 use Rattle.def_layout.specs.Lengths.{Lengths}
-
--- An arc with another floor.
-abbrev pub at_floor : (floor : ℕ) (arc : Arc) → Arc
-at_floor floor arc = record arc { floor = floor }
+use Rattle.def_layoutnet.specs.Floors.{at_floor}
 
 -- The first n arcs have this floor, and the others are as they were.
 pub record AreFloored (n floor : ℕ) (arcs new : List Arc) : Type 0 where
@@ -14,19 +11,7 @@ pub record AreFloored (n floor : ℕ) (arcs new : List Arc) : Type 0 where
   pub done : (k : ℕ) → k < n → k < length arcs → arc_at new k ≡ at_floor floor (arc_at arcs k)
   pub left : (k : ℕ) → n ≤ k → k < length arcs → arc_at new k ≡ arc_at arcs k
 
--- The floors of arcs.
-abbrev pub floor_of : (arcs : List Arc) → Lengths
-floor_of arcs k = (arc_at arcs k).floor
-
 -- The arcs have these floors, and nothing else is different.
 pub record AreArcsAt (floor : Lengths) (arcs new : List Arc) : Type 0 where
   pub long : length new ≡ length arcs
   pub each : (k : ℕ) → k < length arcs → arc_at new k ≡ at_floor (floor k) (arc_at arcs k)
-
--- All arcs have these floors, and nothing else is different.
-pub record HasFloors (net : Network) (floor : Lengths) (new : Network) : Type 0 where
-  pub nodes : new.nodes ≡ net.nodes
-  pub p : new.p ≡ net.p
-  pub q : new.q ≡ net.q
-  pub long : length new.arcs ≡ length net.arcs
-  pub arcs : (k : ℕ) → k < length net.arcs → arc_at new.arcs k ≡ at_floor (floor k) (arc_at net.arcs k)

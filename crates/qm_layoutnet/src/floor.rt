@@ -6,7 +6,8 @@ ghost use Rattle.def_certtext.specs.declared.certs.Rise.{Rise as AnyRise};
 ghost use Rattle.def_flow.specs.Network.{network};
 ghost use Rattle.def_flow.specs.declared.net.Arc.{Arc as AnyArc};
 ghost use Rattle.def_remesh.specs.Rises.{risen_floors};
-ghost use Rattle.qm_layoutnet.specs.Floors.{at_floor, floor_of, AreArcsAt, HasFloors};
+ghost use Rattle.def_layoutnet.specs.Floors.{at_floor, floor_of, HasFloors};
+ghost use Rattle.qm_layoutnet.specs.Floors.{AreArcsAt};
 
 use def_certtext::Rise;
 use def_flow::{Arc, Net};

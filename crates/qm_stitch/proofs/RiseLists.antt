@@ -8,7 +8,7 @@ use Rattle.def_certtext.specs.declared.certs.Rise.{Rise}
 use Rattle.def_flow.specs.declared.limits.TheConstants.{MAX_FLOOR}
 use Rattle.def_layout.specs.Layouts.{Layout}
 use Rattle.def_remesh.specs.NewPoints.{lengths_in}
-use Rattle.def_remesh.specs.Rises.{rise_at, AreNeeded, AreTightLong, IsNeeded, IsTight}
+use Rattle.def_remesh.specs.Rises.{rise_at, AreNeeded, AreTightLong, IsNeeded, IsTightArc}
 use Rattle.qm_stitch.specs.Raised.{AreFloors, AreOrdered, AreRisesUpto, IsFloorOf, IsShortTight}
 
 -- The rise past the last one.
@@ -88,7 +88,7 @@ find_short xs (suc n) = elim (cases_lt (lengths_in xs n) MAX_FLOOR) [
 
 module _
     (l : Layout) (xs : List ℕ) (tight : List Bool) (long : length xs ≡ l.arcs)
-    (tells : (arc : ℕ) → arc < l.arcs → (get_or tight arc false ≡ true) ↔ IsTight l (lengths_in xs) arc)
+    (tells : (arc : ℕ) → arc < l.arcs → (get_or tight arc false ≡ true) ↔ IsTightArc l (lengths_in xs) arc)
     (some : Bool) (told : (some ≡ true) ↔ ((arc : ℕ) × (arc < length xs) × IsShortTight tight xs arc))
   where
     tight_long : some ≡ false → AreTightLong l (lengths_in xs)
@@ -126,7 +126,7 @@ module _
     needed_floor rise is = (omega (arith, is.there, long), by_some some refl is.reason)
       where
         by_some : (b : Bool) → some ≡ b
-            → (IsTight l (lengths_in xs) rise.arc × (rise.floor ≡ lengths_in xs rise.arc + 1))
+            → (IsTightArc l (lengths_in xs) rise.arc × (rise.floor ≡ lengths_in xs rise.arc + 1))
             ⊎ (AreTightLong l (lengths_in xs) × (rise.floor ≡ MAX_FLOOR))
             → IsFloorOf b tight xs rise.arc rise.floor
         by_some true on (inl (t, same)) = (omega (arith, is.low, same), (tells rise.arc is.there).1 t, same)

@@ -6,7 +6,7 @@ use Rattle.std.proofs.lemmas.List.Sorted.{IsPermutation-sym}
 use Rattle.def_layout.specs.Layouts.{Layout}
 use Rattle.def_layout.specs.Surfaces.{IsSurface}
 use Rattle.def_layout.specs.Lengths.{Lengths, size, AreLengths}
-use Rattle.def_remesh.specs.Rises.{IsTight, RunsAlong}
+use Rattle.def_remesh.specs.Rises.{IsTightArc, RunsAlong}
 use Rattle.def_written.specs.Edges.{Edge, on_arc, flat, steep, IsEdge, HasEnds, HasLoop, HasPair}
 use Rattle.def_written.specs.Numbers.{vertices}
 use Rattle.qm_stitch.specs.Rims.{along_lines, key_of, keys_of, line_edge, rim_edges, IsRepeat}
@@ -32,7 +32,7 @@ line_deep l x false p n k some less = (some, less)
 line_deep l x true p n k some less = (some, less)
 
 -- An arc along a doubled edge is tight.
-tight_by : (l : Layout) (x : Lengths) (arc : ℕ) (e : Edge) → IsDoubled l x e → RunsAlong l e arc → IsTight l x arc
+tight_by : (l : Layout) (x : Lengths) (arc : ℕ) (e : Edge) → IsDoubled l x e → RunsAlong l e arc → IsTightArc l x arc
 tight_by l x arc e is along = record {
   edge = e;
   u = is.u;
@@ -44,12 +44,14 @@ tight_by l x arc e is along = record {
 }
 
 -- So an arc is where an edge of it is doubled, or one in a line beside it.
-tight_of : (l : Layout) (x : Lengths) (arc : ℕ) → IsDoubledOn l x arc ⊎ IsTightUpto l x l.patches arc → IsTight l x arc
+tight_of : (l : Layout) (x : Lengths) (arc : ℕ) → IsDoubledOn l x arc ⊎ IsTightUpto l x l.patches arc
+    → IsTightArc l x arc
 tight_of l x arc (inl (k, is)) = tight_by l x arc (on_arc arc k) is refl
 tight_of l x arc (inr (p, false, low, ((n, (k, is)), beside))) = tight_by l x arc (flat p k n) is beside
 tight_of l x arc (inr (p, true, low, ((n, (k, is)), beside))) = tight_by l x arc (steep p n k) is beside
 
-of_tight : (l : Layout) (x : Lengths) (arc : ℕ) → IsTight l x arc → IsDoubledOn l x arc ⊎ IsTightUpto l x l.patches arc
+of_tight : (l : Layout) (x : Lengths) (arc : ℕ) → IsTightArc l x arc
+    → IsDoubledOn l x arc ⊎ IsTightUpto l x l.patches arc
 of_tight l x arc t =
     by_edge t.edge (record { is = t.is; u = t.u; v = t.v; ends = t.ends; doubled = t.doubled }) t.along
   where
@@ -62,7 +64,7 @@ of_tight l x arc t =
 pub tight_told : (l : Layout) (x : Lengths) (n : ℕ) (on old new : List Bool) → n ≡ l.patches → old ≡ on
     → length on ≡ l.arcs → ((arc : ℕ) → arc < l.arcs → (get_or on arc false ≡ true) ↔ IsDoubledOn l x arc)
     → AddsMarks old new (IsTightUpto l x n) → (arc : ℕ) → arc < l.arcs
-    → (get_or new arc false ≡ true) ↔ IsTight l x arc
+    → (get_or new arc false ≡ true) ↔ IsTightArc l x arc
 tight_told l x n on old new all same long each adds arc low =
     (λ marked. tight_of l x arc (of_more (more.0 marked)), λ is. more.1 (to_more (of_tight l x arc is)))
   where

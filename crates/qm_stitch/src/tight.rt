@@ -10,7 +10,7 @@ ghost use Rattle.def_layout.specs.declared.tmesh.SideArc.{SideArc as Used};
 ghost use Rattle.def_layoutnet.specs.MeshLayouts.{IsSomeLayout};
 ghost use Rattle.def_remesh.specs.NewPoints.{lengths_in};
 ghost use Rattle.def_remesh.specs.Remeshed.{AreCoarse};
-ghost use Rattle.def_remesh.specs.Rises.{IsOnSide, IsTight};
+ghost use Rattle.def_remesh.specs.Rises.{IsOnSide, IsTightArc};
 ghost use Rattle.qm_stitch.specs.Lengthened.{layout_in, lengths_by};
 ghost use Rattle.qm_stitch.specs.Rims.{IsLine};
 ghost use Rattle.qm_stitch.specs.Tight.{is_on, AddsMarks, AreRimKeys, IsDoubledIn, IsDoubledOn};
@@ -34,7 +34,7 @@ pub fn tight_arcs(alloc: Global, t: &TMesh, lengths: &[u64]) -> Result<Vec<bool>
     ensures long { IfOk result (λ tight. length tight.items ≡ length t.now.arcs.items) }
     ensures each { IfOk result (λ tight. (arc : ℕ) → arc < length t.now.arcs.items
         → IsTrue (slice_index_or tight.items arc false)
-        ↔ IsTight (layout_of (plan t.now)) (lengths_in lengths.now) arc) }
+        ↔ IsTightArc (layout_of (plan t.now)) (lengths_in lengths.now) arc) }
 {
     let tables = tables(alloc, t, lengths)?;
     let numbered = Numbered { t, tables: &tables };

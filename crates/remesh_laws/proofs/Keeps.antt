@@ -36,7 +36,7 @@ use Rattle.def_remesh.specs.Keeping.{IsNetWith}
 use Rattle.remesh_laws.specs.Keeps.{IsNumbered, ShowsTask}
 use Rattle.plan_laws.proofs.MeshLayouts.{laid_of}
 use Rattle.qm_layoutnet.proofs.Floors.{floored, floors_tangle, floors_within}
-use Rattle.qm_layoutnet.specs.Floors.{HasFloors}
+use Rattle.def_layoutnet.specs.Floors.{HasFloors}
 use Rattle.remesh_laws.proofs.Certified.{certified_lengths}
 use Rattle.remesh_laws.proofs.ReadAgain.{task_read}
 use Rattle.remesh_laws.proofs.Solved.{certified}

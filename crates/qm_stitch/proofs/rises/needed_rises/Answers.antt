@@ -4,7 +4,7 @@ use Rattle.std.proofs.lemmas.Result.{IfOk-weaker}
 use Rattle.def_layout.specs.Arcs.{path}
 use Rattle.def_layout.specs.Plans.{layout_of, plan}
 use Rattle.def_remesh.specs.NewPoints.{lengths_in}
-use Rattle.def_remesh.specs.Rises.{IsTight}
+use Rattle.def_remesh.specs.Rises.{IsTightArc}
 use Rattle.qm_stitch.specs.Raised.{AreRisesUpto, IsShortTight}
 use Rattle.qm_stitch.proofs.RiseLists.{all_needed}
 use Rattle.qm_stitch.proofs.SafeLengths.{safe_undoubled}

@@ -4,7 +4,7 @@ use Rattle.def_cut.specs.Grids.{rectangle}
 use Rattle.def_layout.specs.Arcs.{path}
 use Rattle.def_layout.specs.Plans.{layout_of, plan}
 use Rattle.def_remesh.specs.NewPoints.{lengths_in}
-use Rattle.def_remesh.specs.Rises.{IsTight}
+use Rattle.def_remesh.specs.Rises.{IsTightArc}
 use Rattle.plan_laws.proofs.MeshLayouts.{laid_of}
 use Rattle.qm_stitch.proofs.Grids.{tables_are}
 use Rattle.qm_stitch.proofs.TightEdges.{tight_told}
@@ -25,11 +25,11 @@ returns-clause-each c arc low =
     let arcs : length (plan c.args.t.now).arcs ≡ length c.args.t.now.arcs.items =
     length-map c.args.t.now.arcs.items path in
     subst (λ (bs : List Bool). (get_or bs arc false ≡ true)
-    ↔ IsTight (layout_of (plan c.args.t.now)) (lengths_in c.args.lengths.now) arc)
+    ↔ IsTightArc (layout_of (plan c.args.t.now)) (lengths_in c.args.lengths.now) arc)
     (sym (with_items_is c.in_ok-tight.tight c.mark_patches.new.tight
     (c.mark_patches.auto.tight ∙ c.deref_mut.ensures.len)))
     (subst (λ (xs : List ℕ). (get_or c.mark_patches.new.tight arc false ≡ true)
-    ↔ IsTight (layout_of (plan c.args.t.now)) (lengths_in xs) arc) c.in_ok-tables.ensures.lengths
+    ↔ IsTightArc (layout_of (plan c.args.t.now)) (lengths_in xs) arc) c.in_ok-tables.ensures.lengths
     (tight_told (layout_of (plan c.args.t.now)) (lengths_in c.in_ok-tables.tables.lengths.items)
     (length c.args.t.now.patches.items) c.in_ok-tight.tight.items c.deref_mut.result.now c.mark_patches.new.tight
     (sym (length-map c.args.t.now.patches.items rectangle)) c.deref_mut.ensures.value
