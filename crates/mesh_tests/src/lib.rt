@@ -15,6 +15,8 @@ mod meshes;
 #[cfg(test)]
 mod new_meshes;
 #[cfg(test)]
+mod rising;
+#[cfg(test)]
 mod spaced;
 #[cfg(test)]
 mod stitched;

@@ -6,19 +6,19 @@ use std::alloc::{AllocError, Global};
 use std::test::Fail;
 
 /// A cylinder of three rows of six faces, and on half of its rim three rows of three.
-const CYLINDER: &str = "\
+pub(crate) const CYLINDER: &str = "\
     f 1 2 8 7\nf 2 3 9 8\nf 3 4 10 9\nf 4 5 11 10\nf 5 6 12 11\nf 6 1 7 12\nf 7 8 14 13\nf 8 9 15 14\nf 9 10 16 15\n\
     f 10 11 17 16\nf 11 12 18 17\nf 12 7 13 18\nf 13 14 20 19\nf 14 15 21 20\nf 15 16 22 21\nf 16 17 23 22\n\
     f 17 18 24 23\nf 18 13 19 24\nf 19 20 26 25\nf 20 21 27 26\nf 21 22 28 27\nf 25 26 30 29\nf 26 27 31 30\n\
     f 27 28 32 31\nf 29 30 34 33\nf 30 31 35 34\nf 31 32 36 35\n";
 
 /// A torus of four rows of four faces.
-const TORUS: &str = "\
+pub(crate) const TORUS: &str = "\
     f 1 2 6 5\nf 2 3 7 6\nf 3 4 8 7\nf 4 1 5 8\nf 5 6 10 9\nf 6 7 11 10\nf 7 8 12 11\nf 8 5 9 12\nf 9 10 14 13\n\
     f 10 11 15 14\nf 11 12 16 15\nf 12 9 13 16\nf 13 14 2 1\nf 14 15 3 2\nf 15 16 4 3\nf 16 13 1 4\n";
 
 /// Two sheets of three rows of three faces, joined along their rims.
-const PILLOW: &str = "\
+pub(crate) const PILLOW: &str = "\
     f 1 2 6 5\nf 2 3 7 6\nf 3 4 8 7\nf 5 6 10 9\nf 6 7 11 10\nf 7 8 12 11\nf 9 10 14 13\nf 10 11 15 14\n\
     f 11 12 16 15\nf 1 5 17 2\nf 2 17 18 3\nf 3 18 8 4\nf 5 9 19 17\nf 17 19 20 18\nf 18 20 12 8\nf 9 13 14 19\n\
     f 19 14 15 20\nf 20 15 16 12\n";
