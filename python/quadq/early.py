@@ -1,9 +1,11 @@
 """The first moments of the command line: once this is imported, Ctrl-C ends it without a word while other modules are
-still loaded. Later it is wound up, as `stopping` says."""
+still loaded. Later it is wound up, as `stopping` says.
+
+Nothing is imported here that Python has not loaded already: `signal` itself would load others."""
 
 from __future__ import annotations
 
-import signal
+import _signal as signal  # type: ignore[import]
 import sys
 
 COMMANDS = ("quadq-remesh", "quadq-check")
