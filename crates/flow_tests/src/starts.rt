@@ -3,7 +3,7 @@
 use crate::samples::{FIVE_SHAPES, FLAPS, TREBLED};
 use qm_net::{admissible, are_lengths, deviation, is_within_bounds};
 use qm_nettext::read_net;
-use qm_start::near_start;
+use qm_warmstart::near_start;
 use std::test::Fail;
 
 /// The least deviations are 0, 20 and 11.

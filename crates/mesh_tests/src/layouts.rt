@@ -2,7 +2,7 @@
 
 use def_text::MAX_BYTES;
 use qm_cut::traced_layout;
-use qm_cutmesh::{CutMesh, Meshed, NoMesh};
+use qm_stages::{CutMesh, Meshed, NoMesh};
 use qm_io::Source;
 use qm_obj::read_soup;
 use std::alloc::{AllocError, Global};

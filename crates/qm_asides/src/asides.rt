@@ -12,7 +12,7 @@ use crate::marks::text_marks;
 use def_fit::{Aim, Fit};
 use def_marks::MarkFail;
 use def_patches::Keep;
-use qm_cutmesh::Meshed;
+use qm_stages::Meshed;
 use qm_io::Lines;
 use qm_marks::read_wishes;
 use std::alloc::Global;

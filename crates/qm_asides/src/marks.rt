@@ -6,7 +6,7 @@ ghost use Rattle.def_marks.specs.Lines.{marks_in};
 ghost use Rattle.def_text.specs.declared.limits.TheConstants.{MAX_V_LINES};
 
 use def_marks::MarkFail;
-use qm_cutmesh::Meshed;
+use qm_stages::Meshed;
 use qm_io::Lines;
 use qm_marks::read_marks;
 use std::alloc::Global;

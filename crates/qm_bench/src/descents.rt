@@ -9,7 +9,7 @@ use def_flow::{MAX_TANGLE, Net};
 use qm_net::{is_within_bounds, tangle_of};
 use qm_nettext::{NetFail, read_net};
 use qm_solve::{first_descent, is_start, start_of};
-use qm_start::Start;
+use qm_warmstart::Start;
 use std::alloc::{AllocError, Global};
 use std::io;
 use std::process::ExitCode;

@@ -16,7 +16,7 @@ use Rattle.plan_laws.proofs.Bounds.{old_faces, side_few, side_most}
 use Rattle.plan_laws.proofs.MeshLayouts.{laid_of, lengths_of}
 use Rattle.std.proofs.lemmas.Nat.{mul-le}
 use Rattle.written_laws.proofs.Grid.{high_some, wide_some}
-use Rattle.qm_reach.proofs.Whole.{side_long, uses_low}
+use Rattle.qm_offsets.proofs.Whole.{side_long, uses_low}
 use Rattle.qm_blocks.specs.Spots.{IsMeasured}
 
 -- A layout has no more patches than its mesh may have faces.

@@ -16,7 +16,7 @@ ghost use Rattle.qm_blocks.specs.Spots.{block_links, link_from, links_on, side_l
 use crate::spots::{back_key, name_of, spots_of};
 use def_blocks::{Link, SideName};
 use def_layout::{SideArc, TMesh};
-use qm_reach::side_of;
+use qm_offsets::side_of;
 use std::alloc::{AllocError, Global};
 
 /// The links of each block, side after side, each along its side. Linear in the arcs.

@@ -13,7 +13,7 @@ ghost use Rattle.qm_blocks.specs.Spots.{back_key, key_of, HasSpots, HasUses, Hav
 
 use def_blocks::SideName;
 use def_layout::{SideArc, TMesh};
-use qm_reach::side_of;
+use qm_offsets::side_of;
 use std::alloc::{AllocError, Global};
 
 /// The place of an arc in use in a table of spots: each arc has two, one for each direction.

@@ -4,7 +4,7 @@ ghost use Rattle.std.specs.Prelude.{◌≡◌, length, None};
 
 use def_blocks::Link;
 use def_cuttext::Chosen;
-use qm_cutmesh::Regridded;
+use qm_stages::Regridded;
 
 /// The blocks of a mesh: how its cut was chosen, if it was, how many parts each old edge has, the new mesh of their
 /// points, which are evenly spaced, and the links of each block.

@@ -18,7 +18,7 @@ use def_cuttext::Chosen;
 use def_layout::Side;
 use def_output::Stopped;
 use qm_blocks::links;
-use qm_cutmesh::CutMesh;
+use qm_stages::CutMesh;
 use qm_output::Output;
 use qm_refine::multiples;
 use std::alloc::{AllocError, Global};

@@ -11,7 +11,7 @@ use arrayvec::ArrayVec;
 use def_io::LINE_FEED;
 use def_output::Stopped;
 use def_text::{Micro, SPACE};
-use qm_cutmesh::Regridded;
+use qm_stages::Regridded;
 use qm_dec::write_micro;
 use qm_output::Output;
 use qm_place::Near;

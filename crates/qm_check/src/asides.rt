@@ -16,7 +16,7 @@ use def_patches::Keep;
 use def_run::CheckFail;
 use def_text::{MAX_BYTES, MAX_V_LINES};
 use qm_asides::{Asides, read_asides};
-use qm_cutmesh::Meshed;
+use qm_stages::Meshed;
 use qm_io::{Lines, MemSource, read_lines};
 use std::alloc::Global;
 

@@ -13,7 +13,7 @@ use crate::lengths::{Lengths, check_lengths};
 use def_certtext::{Asked, Certs, Written};
 use def_flow::{Cert, MAX_FLOOR, Net};
 use def_run::{CheckFail, Why};
-use qm_cutmesh::CutMesh;
+use qm_stages::CutMesh;
 use qm_layoutnet::with_floor;
 use qm_write::Remesh;
 use std::alloc::Global;

@@ -9,7 +9,7 @@ ghost use Rattle.qm_check.specs.Checked.{IsDifference};
 ghost use Rattle.qm_write.specs.Framing.{framed_text};
 
 use def_run::{CheckFail, Why};
-use qm_cutmesh::{CutMesh, Regridded};
+use qm_stages::{CutMesh, Regridded};
 use qm_output::Comparison;
 use qm_write::{Framed, PutFail, put_framed};
 use std::alloc::Global;

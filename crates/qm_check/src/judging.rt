@@ -17,7 +17,7 @@ use crate::ready::Ready;
 use def_certtext::{Asked, CertFail, Written};
 use def_run::{CheckFail, Why};
 use qm_certtext::{HeadAt, read_certs};
-use qm_cutmesh::Regridded;
+use qm_stages::Regridded;
 use qm_marktext::lines_between;
 use qm_write::Framed;
 use std::alloc::Global;

@@ -17,7 +17,7 @@ use def_flow::{Cert, CertVerdict, Net};
 use def_remesh::StitchFail;
 use def_run::{CheckFail, Why};
 use qm_cert::accepts;
-use qm_cutmesh::{CutMesh, plan_over};
+use qm_stages::{CutMesh, plan_over};
 use qm_stitch::Numbering;
 use std::alloc::Global;
 

@@ -19,7 +19,7 @@ use def_flow::Net;
 use def_metric::MetricFail;
 use def_run::CheckFail;
 use qm_cut::chosen_layout;
-use qm_cutmesh::{CutMesh, Meshed};
+use qm_stages::{CutMesh, Meshed};
 use qm_metric::{net_for, shares_of};
 use std::alloc::Global;
 

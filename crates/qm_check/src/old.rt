@@ -8,7 +8,7 @@ ghost use Rattle.qm_check.specs.Refused.{of_obj};
 
 use def_run::CheckFail;
 use def_text::{MAX_BYTES, MAX_F_LINES, MAX_V_LINES, ObjFail, Soup};
-use qm_cutmesh::{Meshed, NoMesh};
+use qm_stages::{Meshed, NoMesh};
 use qm_obj::ObjFeed;
 use std::alloc::Global;
 

@@ -20,7 +20,7 @@ use crate::old::read_old;
 use crate::parts::{head_line, old_text};
 use def_run::{CheckFail, Why};
 use qm_certtext::{HeadAt, find_head, read_head};
-use qm_head::{find_mark, read_mark};
+use qm_headline::{find_mark, read_mark};
 use std::alloc::Global;
 
 /// What is told of a pair: its arcs, the faces of the new mesh, and how far the lengths are from what is wanted.

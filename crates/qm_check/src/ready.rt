@@ -7,7 +7,7 @@ use def_certtext::Asked;
 use def_flow::Net;
 use def_io::LINE_FEED;
 use def_remesh::DartShares;
-use qm_cutmesh::CutMesh;
+use qm_stages::CutMesh;
 use std::alloc::{AllocError, Global};
 
 /// What is asked for, the head line of its text, with its end, the marked edges whose lines stand in it, and the shares

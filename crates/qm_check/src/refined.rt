@@ -18,7 +18,7 @@ use def_remesh::StitchFail;
 use def_run::{CheckFail, Why};
 use qm_certtext::HeadAt;
 use qm_cut::traced_layout;
-use qm_cutmesh::{CutMesh, Meshed, Regridded};
+use qm_stages::{CutMesh, Meshed, Regridded};
 use qm_output::Comparison;
 use qm_refine::{put_refined, refined_points};
 use std::alloc::Global;

@@ -9,7 +9,7 @@ ghost use Rattle.qm_map.specs.PatchLines.{patch_lines};
 use crate::lines::{cell_front, seen_text};
 use def_map::{Home, Seen};
 use def_output::Stopped;
-use qm_cutmesh::Regridded;
+use qm_stages::Regridded;
 use qm_output::Output;
 
 /// Puts a line for each face, patch by patch.

@@ -8,7 +8,7 @@ ghost use Rattle.def_mesh.specs.Darts.{darts};
 ghost use Rattle.def_written.specs.Places.{ONE};
 
 use def_map::{EdgeSpot, FaceSpot, Seen, Spot};
-use qm_cutmesh::CutMesh;
+use qm_stages::CutMesh;
 use qm_place::EDGE;
 use qm_print::{Line, line_of, numbered_line, push_integer, push_numbered};
 

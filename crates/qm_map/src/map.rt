@@ -11,7 +11,7 @@ use crate::cells::put_cells;
 use crate::lines::head_line;
 use crate::vertices::put_vertices;
 use def_output::Stopped;
-use qm_cutmesh::Regridded;
+use qm_stages::Regridded;
 use qm_output::Output;
 
 /// Puts the text that says where each vertex and each face of the new mesh lies in the old one: a line for each vertex,

@@ -8,7 +8,7 @@ ghost use Rattle.def_remesh.specs.NewPoints.{lengths_in};
 use crate::lines::spot_line;
 use def_map::Spot;
 use def_output::Stopped;
-use qm_cutmesh::{CutMesh, Regridded};
+use qm_stages::{CutMesh, Regridded};
 use qm_output::Output;
 use qm_place::Near;
 

@@ -10,7 +10,7 @@ ghost use Rattle.def_remesh.specs.Tasks.{Wish};
 
 use crate::Memory;
 use crate::lines::marked_lines;
-use qm_cutmesh::CutMesh;
+use qm_stages::CutMesh;
 use qm_write::Remesh;
 use std::alloc::Global;
 

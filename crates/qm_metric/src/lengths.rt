@@ -14,7 +14,7 @@ use crate::measures::edge_length;
 use def_layout::TArc;
 use def_remesh::DartShares;
 use def_text::Micro;
-use qm_cutmesh::CutMesh;
+use qm_stages::CutMesh;
 use qm_mesh::Mesh;
 use std::alloc::{AllocError, Global};
 

@@ -14,7 +14,7 @@ use crate::wishes::with_wishes;
 use def_fit::{Aim, Fit};
 use def_flow::Net;
 use def_metric::{MAX_TARGETS, MetricFail};
-use qm_cutmesh::CutMesh;
+use qm_stages::CutMesh;
 use qm_layoutnet::net_of;
 use std::alloc::Global;
 

@@ -8,7 +8,7 @@ ghost use Rattle.def_layout.specs.FaceLayouts.{IsCutLayout};
 use crate::lengths::cut_lengths;
 use def_fit::{Aim, Fit, Spacing};
 use def_remesh::DartShares;
-use qm_cutmesh::CutMesh;
+use qm_stages::CutMesh;
 use std::alloc::{AllocError, Global};
 
 /// The shares of a fit for the edges of the darts of a mesh with a cut, where its new points are spaced by them. There

@@ -12,7 +12,7 @@ ghost use Rattle.qm_metric.specs.Wishes.{wish_along};
 use crate::measures::{Ruler, target_of};
 use def_fit::Aim;
 use def_layout::TArc;
-use qm_cutmesh::CutMesh;
+use qm_stages::CutMesh;
 use std::alloc::{AllocError, Global};
 
 /// The wishes for arcs, each as far as the type goes, and the sum of them all.

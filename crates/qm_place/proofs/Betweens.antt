@@ -15,7 +15,7 @@ use Rattle.def_remesh.specs.Spaced.{spacing_by}
 use Rattle.def_written.specs.Spacings.{IsSpacing}
 use Rattle.map_laws.proofs.Numbered.{is_point}
 use Rattle.map_laws.proofs.OldPoints.{old_low}
-use Rattle.qm_reach.proofs.Whole.{laid_of, lengths_of}
+use Rattle.qm_offsets.proofs.Whole.{laid_of, lengths_of}
 use Rattle.written_laws.proofs.Between.{between_law}
 
 -- One of the three coordinates of a new vertex.

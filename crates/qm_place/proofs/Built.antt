@@ -14,8 +14,8 @@ use Rattle.sum_laws.proofs.Counts.{count_below_same}
 use Rattle.qm_place.specs.ArcTables.{AreFine}
 use Rattle.qm_place.specs.Spots.{inner_of}
 use Rattle.plan_laws.proofs.Bounds.{vertices_few}
-use Rattle.qm_reach.proofs.Spots.{starts_same, term_room}
-use Rattle.qm_reach.proofs.Whole.{laid_of}
+use Rattle.qm_offsets.proofs.Spots.{starts_same, term_room}
+use Rattle.qm_offsets.proofs.Whole.{laid_of}
 use Rattle.written_laws.proofs.Grid.{wide_some, high_some}
 
 module _ (plan : Plan) (list : List ℕ) (fine : AreFine plan list) where

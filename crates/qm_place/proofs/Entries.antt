@@ -22,7 +22,7 @@ use Rattle.def_math.specs.Counts.{count_below}
 use Rattle.qm_place.proofs.Rims.{old_read}
 use Rattle.qm_place.specs.Placed.{ArePlaced}
 use Rattle.qm_place.specs.Spots.{HasRoom}
-use Rattle.qm_reach.proofs.Spots.{last_is}
+use Rattle.qm_offsets.proofs.Spots.{last_is}
 
 -- Where a run begins.
 pub start_read : (f : ℕ → ℕ) (n k v : ℕ) (starts : List ℕ) → AreRunStarts f n starts → k < n → v ≡ get_or starts k v

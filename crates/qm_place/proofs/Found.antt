@@ -50,8 +50,8 @@ use Rattle.qm_place.proofs.Rims.{old_few, old_short}
 use Rattle.qm_place.specs.Placed.{ArePlaced, IsSized}
 use Rattle.qm_place.specs.Spots.{grid_point, HasEnds, IsAlong, IsInside, IsShort, IsSmall}
 use Rattle.plan_laws.proofs.Bounds.{side_few, vertices_few}
-use Rattle.qm_reach.proofs.Spots.{term_room}
-use Rattle.qm_reach.proofs.Whole.{laid_of, lengths_of}
+use Rattle.qm_offsets.proofs.Spots.{term_room}
+use Rattle.qm_offsets.proofs.Whole.{laid_of, lengths_of}
 use Rattle.written_laws.proofs.EdgeNumbers.{in_rows}
 use Rattle.written_laws.proofs.Grid.{wide_some, high_some}
 

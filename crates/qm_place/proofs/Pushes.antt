@@ -15,7 +15,7 @@ use Rattle.def_written.specs.Places.{ONE, parameter, parameter_back, ArcSpacing}
 use Rattle.def_written.specs.Points.{use_over}
 use Rattle.def_remesh.specs.Placings.{side_parameter, AreParameters}
 use Rattle.qm_place.specs.Pushed.{on_arc, ArePushed, IsKept}
-use Rattle.qm_reach.proofs.Spots.{count_step}
+use Rattle.qm_offsets.proofs.Spots.{count_step}
 use Rattle.written_laws.proofs.Between.{div_most}
 use Rattle.written_laws.proofs.Sides.{slot, over_is}
 

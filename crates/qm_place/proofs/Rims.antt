@@ -21,8 +21,8 @@ use Rattle.qm_place.specs.Pushed.{on_arc, ArePushed, IsKept}
 use Rattle.qm_place.proofs.Pushes.{is_back, kept_on, parameters_in, parameters_kept, pushed_join, pushed_kept}
 use Rattle.qm_place.proofs.Pushes.{slot_parameter, start_by}
 use Rattle.plan_laws.proofs.Bounds.{old_faces, side_few}
-use Rattle.qm_reach.proofs.Spots.{count_step}
-use Rattle.qm_reach.proofs.Whole.{laid_of, lengths_of}
+use Rattle.qm_offsets.proofs.Spots.{count_step}
+use Rattle.qm_offsets.proofs.Whole.{laid_of, lengths_of}
 use Rattle.written_laws.proofs.Sides.{reach_low, slot}
 
 -- Sides are short.

@@ -9,7 +9,7 @@ ghost use Rattle.qm_place.specs.Lengthened.{lengths_by, plan_in, shares_by};
 use crate::placed::Placed;
 use crate::spots::{along_spot, inside_spot};
 use def_map::Spot;
-use qm_reach::spot_near;
+use qm_offsets::spot_near;
 
 /// The arc and the patch where a vertex was found: the next one is looked for there first.
 #[derive(Clone, Copy, Debug, PartialEq, Eq)]

@@ -32,7 +32,7 @@ use def_map::{Home, Spot};
 use def_remesh::{DartShares, PlaceTables, Rim, RunStarts, Spaced};
 use def_text::Micro;
 use qm_mesh::Mesh;
-use qm_reach::{inner_points, no_starts, push_start, short_lengths};
+use qm_offsets::{inner_points, no_starts, push_start, short_lengths};
 use std::alloc::{AllocError, Global};
 use std::marker::Model;
 

@@ -16,7 +16,7 @@ use crate::ways::EDGE;
 use def_layout::{SideArc, TMesh};
 use def_mesh::MAX_FACES;
 use def_remesh::Rim;
-use qm_reach::side_of;
+use qm_offsets::side_of;
 use std::alloc::{AllocError, Global};
 
 /// The new sizes of patches, and the parameters of the places of their sides.

@@ -8,7 +8,7 @@ ghost use Rattle.def_layout.specs.Plans.{layout_of};
 ghost use Rattle.def_remesh.specs.NewPoints.{lengths_in, multiple_of};
 ghost use Rattle.def_run.specs.declared.command.TheConstants.{MAX_MULTIPLE};
 
-use qm_cutmesh::CutMesh;
+use qm_stages::CutMesh;
 use std::alloc::{AllocError, Global};
 
 /// The length of each arc, times this number. Linear in the arcs.

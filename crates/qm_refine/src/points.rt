@@ -14,7 +14,7 @@ ghost use Rattle.def_run.specs.declared.command.TheConstants.{MAX_MULTIPLE};
 
 use crate::lengths::multiples;
 use def_remesh::StitchFail;
-use qm_cutmesh::{CutMesh, Regridded, plan_over};
+use qm_stages::{CutMesh, Regridded, plan_over};
 use std::alloc::Global;
 
 /// The numbers and the places of the points of the mesh with `by` times the old lengths, evenly spaced. Linear in the

@@ -6,7 +6,7 @@ ghost use Rattle.def_remesh.specs.NewPoints.{lengths_in, multiple_of};
 ghost use Rattle.def_remesh.specs.Refined.{refine_head, refined_text};
 
 use def_output::Stopped;
-use qm_cutmesh::Regridded;
+use qm_stages::Regridded;
 use qm_output::Output;
 use qm_print::numbered_line;
 use qm_write::put_new_mesh;

@@ -17,7 +17,7 @@ use def_certtext::Asked;
 use def_fit::{Aim, Fit};
 use def_flow::{Cert, Net};
 use def_metric::SizeFail;
-use qm_cutmesh::CutMesh;
+use qm_stages::CutMesh;
 use qm_metric::{fit_settings, net_for, old_start};
 use qm_solve::{solve, solve_near};
 use qm_write::Remesh;

@@ -17,7 +17,7 @@ use def_certtext::{Asked, Certs};
 use def_flow::{Cert, MAX_FLOOR, Net, Settings};
 use def_layoutnet::NetFail;
 use def_remesh::{Kept, LayoutFail, StitchFail};
-use qm_cutmesh::{CutMesh, plan_over};
+use qm_stages::{CutMesh, plan_over};
 use qm_layoutnet::{net_of, with_floor};
 use qm_solve::solve;
 use qm_write::Remesh;

@@ -11,7 +11,7 @@ ghost use Rattle.def_remesh.specs.Placings.{IsMeshLayout};
 use crate::fitted::keep_fit;
 use def_metric::SizeFail;
 use def_text::Micro;
-use qm_cutmesh::CutMesh;
+use qm_stages::CutMesh;
 use qm_metric::edge_fit;
 use qm_write::Remesh;
 use std::alloc::Global;

@@ -19,7 +19,7 @@ use def_io::LINE_FEED;
 use def_layout::TArc;
 use def_mesh::Kind;
 use def_patches::{Keep, Patches};
-use qm_cutmesh::CutMesh;
+use qm_stages::CutMesh;
 use qm_feature::breaks;
 use qm_fit::{keep_word, patches_word};
 use qm_marktext::is_marked;

@@ -11,7 +11,7 @@ use crate::Memory;
 use crate::round::{Round, improve};
 use def_flow::{Arc, Cert, MAX_OLD, MAX_SCALE, MAX_STEP, MAX_TANGLE, Net};
 use def_matching::Dual;
-use qm_start::Start;
+use qm_warmstart::Start;
 use std::alloc::Global;
 
 /// A descent on its way: an admissible list, how far the next round steps, and prices of the nodes for rounds of step

@@ -13,7 +13,7 @@ use crate::Memory;
 use crate::descent::descend;
 use def_flow::{Arc, Cert, MAX_LENGTH, MAX_TANGLE, Net};
 use qm_net::{admissible, are_lengths, deviation};
-use qm_start::{Start, near_start};
+use qm_warmstart::{Start, near_start};
 use std::alloc::Global;
 
 /// A least list of lengths of an even network, with the certificate that shows it to be least. The descent begins at a

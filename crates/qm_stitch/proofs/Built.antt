@@ -12,10 +12,10 @@ use Rattle.def_remesh.specs.NewPoints.{lengths_in}
 use Rattle.def_remesh.specs.Numberings.{sizes_on, table_at, tables_of, AreRunStarts, AreSideStarts, IsNumbering}
 use Rattle.def_remesh.specs.declared.tables.Tables.{Tables}
 use Rattle.sum_laws.proofs.Counts.{count_below_le, count_below_same}
-use Rattle.qm_reach.specs.Fours.{begins_of}
-use Rattle.qm_reach.proofs.Spots.{last_is, term_room}
+use Rattle.qm_offsets.specs.Fours.{begins_of}
+use Rattle.qm_offsets.proofs.Spots.{last_is, term_room}
 use Rattle.plan_laws.proofs.MeshLayouts.{laid_of}
-use Rattle.qm_reach.proofs.Whole.{way_for}
+use Rattle.qm_offsets.proofs.Whole.{way_for}
 use Rattle.written_laws.proofs.Sides.{size_some}
 use Rattle.qm_stitch.specs.Sizes.{long_by, product_by, table_in, AreRows, IsFine}
 use Rattle.plan_laws.proofs.Bounds.{side_few, vertices_few}

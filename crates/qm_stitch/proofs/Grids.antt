@@ -19,9 +19,9 @@ use Rattle.def_remesh.specs.Numberings.{sizes_on, table_at, tables_of, used_at, 
 use Rattle.def_remesh.specs.declared.tables.RunStarts.{RunStarts}
 use Rattle.def_remesh.specs.declared.tables.Tables.{Tables}
 use Rattle.written_laws.proofs.Runs.{run_here, run_low, IsInRun}
-use Rattle.qm_reach.proofs.Spots.{last_is, within_run}
+use Rattle.qm_offsets.proofs.Spots.{last_is, within_run}
 use Rattle.plan_laws.proofs.MeshLayouts.{laid_of}
-use Rattle.qm_reach.proofs.Whole.{arcs_low, read_size, read_used, way_for}
+use Rattle.qm_offsets.proofs.Whole.{arcs_low, read_size, read_used, way_for}
 use Rattle.qm_stitch.specs.Numbered.{AreTables}
 use Rattle.qm_stitch.specs.Sizes.{long_by, table_in, point_on}
 use Rattle.plan_laws.proofs.Bounds.{side_few, vertices_few}

@@ -10,7 +10,7 @@ use Rattle.def_layout.specs.Lengths.{Lengths}
 use Rattle.def_layout.specs.Plans.{layout_of, side_at, way_number, Plan}
 use Rattle.def_layout.specs.declared.tmesh.SideArc.{SideArc}
 use Rattle.def_remesh.specs.Rises.{IsOnSide}
-use Rattle.qm_reach.specs.Fours.{arcs_on}
+use Rattle.qm_offsets.specs.Fours.{arcs_on}
 use Rattle.qm_stitch.specs.Rims.{along_lines}
 use Rattle.qm_stitch.specs.Tight.{is_on, AddsMarks, IsBeside, IsDoubledIn, IsTightAt, IsTightUpto}
 

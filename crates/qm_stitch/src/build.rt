@@ -13,7 +13,7 @@ use crate::size::last_of;
 use crate::stretched::Stretched;
 use def_layout::TMesh;
 use def_remesh::{MAX_NEW_FACES, RunStarts, StitchFail, Tables};
-use qm_reach::{inner_points, no_starts, push_start, short_lengths, side_tables, starts_on};
+use qm_offsets::{inner_points, no_starts, push_start, short_lengths, side_tables, starts_on};
 use std::alloc::{AllocError, Global};
 
 /// The numbering of the points and faces of a layout with these lengths, also where an edge is doubled. It is refused

@@ -7,7 +7,7 @@ ghost use Rattle.def_written.specs.NewFaces.{face_count};
 ghost use Rattle.def_remesh.specs.NewPoints.{lengths_in};
 
 use crate::stretched::Stretched;
-use qm_reach::size_on;
+use qm_offsets::size_on;
 
 /// How many faces there are. Linear in the arcs on the sides of patches.
 pub(crate) fn count_faces(stretched: &Stretched) -> u128

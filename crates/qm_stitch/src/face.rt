@@ -8,7 +8,7 @@ ghost use Rattle.qm_stitch.specs.Cells.{IsCellOf};
 use crate::numbered::Numbered;
 use crate::point::point_number;
 use crate::size::size_at;
-use qm_reach::spot_in;
+use qm_offsets::spot_in;
 
 /// A cell of a patch, in a column and a row.
 #[derive(Clone, Copy, Debug)]

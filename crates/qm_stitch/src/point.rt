@@ -15,7 +15,7 @@ ghost use Rattle.qm_stitch.specs.Sizes.{long_by, point_on};
 use crate::numbered::Numbered;
 use crate::size::{last_of, size_at};
 use def_layout::SideArc;
-use qm_reach::{spot_in, starts_on, uses_on};
+use qm_offsets::{spot_in, starts_on, uses_on};
 
 /// The number of the point at place k of an arc.
 pub(crate) fn arc_number(numbered: &Numbered, arc: usize, k: u32) -> u32

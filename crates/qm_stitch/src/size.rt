@@ -7,7 +7,7 @@ ghost use Rattle.def_layout.specs.Plans.{way_number};
 ghost use Rattle.qm_stitch.specs.Lengthened.{layout_in, lengths_by};
 
 use crate::numbered::Numbered;
-use qm_reach::starts_on;
+use qm_offsets::starts_on;
 
 /// The end of the last run.
 pub(crate) fn last_of(starts: &[u32]) -> u32

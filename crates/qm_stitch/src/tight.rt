@@ -22,7 +22,7 @@ use crate::repeat::{is_repeat, sort};
 use crate::rim::{Line, arc_key, key_at, rim_keys, side_along};
 use crate::size::size_at;
 use def_layout::{SideArc, TMesh};
-use qm_reach::uses_on;
+use qm_offsets::uses_on;
 use std::alloc::{AllocError, Global};
 
 /// Whether each arc is tight: a doubled edge runs along it. n log n in the edges that have an end on a side of a patch.

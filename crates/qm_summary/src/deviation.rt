@@ -10,7 +10,7 @@ use def_certtext::Asked;
 use def_flow::{Settings, Weight};
 use def_layoutnet::NetFail;
 use def_remesh::LayoutFail;
-use qm_cutmesh::CutMesh;
+use qm_stages::CutMesh;
 use qm_layoutnet::net_of;
 use qm_net::deviation;
 use qm_remesh::keep;

@@ -8,7 +8,7 @@ use crate::deviation::kept_deviation;
 use def_remesh::LayoutFail;
 use def_report::Counts;
 use qm_cut::layout_from;
-use qm_cutmesh::{CutMesh, Meshed};
+use qm_stages::{CutMesh, Meshed};
 use qm_report::summary_text;
 use qm_sing::{edge_count, sources};
 use std::alloc::Global;

@@ -17,7 +17,7 @@ use def_output::Stopped;
 use def_remesh::LayoutFail;
 use def_run::Command;
 use qm_blocktext::{Blocks, Chosen, links_by, put_blocks};
-use qm_cutmesh::{Meshed, Regridded};
+use qm_stages::{Meshed, Regridded};
 use qm_io::{Memory, Sink, Source};
 use qm_output::{Buffer, Room};
 use std::alloc::Global;

@@ -17,7 +17,7 @@ use def_certtext::Asked;
 use def_flow::Settings;
 use def_patches::Patches;
 use def_run::Command;
-use qm_cutmesh::Meshed;
+use qm_stages::Meshed;
 use qm_io::{Sink, Source};
 use std::alloc::Global;
 

@@ -21,7 +21,7 @@ use def_patches::Patches;
 use def_run::Command;
 use def_text::MAX_BYTES;
 use qm_asides::text_marks;
-use qm_cutmesh::Meshed;
+use qm_stages::Meshed;
 use qm_io::{Sink, Source, read_lines};
 use qm_marktext::lines_between;
 use qm_remesh::keep;

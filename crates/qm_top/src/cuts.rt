@@ -7,7 +7,7 @@ ghost use Rattle.def_run.specs.Remesh.{IsTracedLayout};
 
 use def_patches::Patches;
 use qm_cut::{chosen_layout, traced_layout};
-use qm_cutmesh::{CutMesh, Meshed};
+use qm_stages::{CutMesh, Meshed};
 use qm_io::Memory;
 use std::alloc::Global;
 

@@ -17,7 +17,7 @@ ghost use Rattle.qm_write.specs.Framing.{framed_text};
 
 use crate::refusal::Refusal;
 use def_certtext::Asked;
-use qm_cutmesh::CutMesh;
+use qm_stages::CutMesh;
 use qm_io::Sink;
 use qm_output::{Buffer, Room};
 use qm_remesh::keep;

@@ -19,7 +19,7 @@ use def_run::Command;
 use def_text::MAX_BYTES;
 use qm_asides::read_kept;
 use qm_blocktext::{Blocks, Chosen};
-use qm_cutmesh::CutMesh;
+use qm_stages::CutMesh;
 use qm_io::{Sink, Source, read_lines};
 use qm_output::Room;
 use std::alloc::Global;

@@ -11,7 +11,7 @@ ghost use Rattle.qm_top.specs.Refusals.{IsInputRefusal, IsNoMeshOf};
 use crate::named::named_place;
 use crate::refusal::Refusal;
 use def_text::{MAX_BYTES, MAX_F_LINES, MAX_V_LINES, Soup};
-use qm_cutmesh::{Meshed, NoMesh};
+use qm_stages::{Meshed, NoMesh};
 use qm_io::{Lines, Source};
 use qm_obj::{read_obj, read_soup};
 use std::alloc::Global;

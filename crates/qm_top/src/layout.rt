@@ -16,7 +16,7 @@ use def_run::Command;
 use def_text::MAX_BYTES;
 use qm_asides::read_kept;
 use qm_blocktext::Chosen;
-use qm_cutmesh::CutMesh;
+use qm_stages::CutMesh;
 use qm_io::{Sink, Source, read_lines, write_all};
 use qm_report::layout_text;
 use std::alloc::Global;

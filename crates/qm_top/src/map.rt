@@ -15,7 +15,7 @@ use def_output::Stopped;
 use def_run::Command;
 use def_text::MAX_BYTES;
 use qm_check::judge;
-use qm_cutmesh::Regridded;
+use qm_stages::Regridded;
 use qm_io::{Sink, Source, read_bytes};
 use qm_map::put_map;
 use qm_output::{Buffer, Room};

@@ -19,7 +19,7 @@ use crate::refusal::Refusal;
 use def_output::Stopped;
 use def_remesh::{Kept, LayoutFail, StitchFail};
 use def_run::Command;
-use qm_cutmesh::{CutMesh, Meshed, Regridded};
+use qm_stages::{CutMesh, Meshed, Regridded};
 use qm_io::{Sink, Source};
 use qm_output::{Buffer, Room};
 use qm_refine::{put_refined, refined_points};

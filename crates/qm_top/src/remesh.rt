@@ -15,7 +15,7 @@ use crate::refusal::Refusal;
 use def_certtext::Asked;
 use def_run::Command;
 use qm_certtext::head_text;
-use qm_cutmesh::Meshed;
+use qm_stages::Meshed;
 use qm_io::{Sink, Source};
 use std::alloc::Global;
 

@@ -18,7 +18,7 @@ use crate::refusal::Refusal;
 use def_io::LINE_FEED;
 use def_run::Command;
 use def_text::Micro;
-use qm_cutmesh::Meshed;
+use qm_stages::Meshed;
 use qm_dec::write_micro;
 use qm_io::{Memory, Sink, Source};
 use qm_print::push_number;

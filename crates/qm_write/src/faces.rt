@@ -8,7 +8,7 @@ ghost use Rattle.def_text.specs.Canonical.{face_text};
 ghost use Rattle.def_written.specs.NewFaces.{new_faces};
 
 use def_output::Stopped;
-use qm_cutmesh::Regridded;
+use qm_stages::Regridded;
 use qm_obj::put_face;
 use qm_output::Output;
 

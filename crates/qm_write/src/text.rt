@@ -15,7 +15,7 @@ use crate::certs::{CertTexts, cert_texts, put_certs};
 use crate::remesh::{Remesh, used_of};
 use def_output::Stopped;
 use def_remesh::DartShares;
-use qm_cutmesh::{CutMesh, Regridded};
+use qm_stages::{CutMesh, Regridded};
 use qm_output::Output;
 use std::alloc::{AllocError, Global};
 use thiserror::Error;

@@ -7,7 +7,7 @@ ghost use Rattle.def_remesh.specs.NewSoup.{new_places};
 ghost use Rattle.def_text.specs.Canonical.{position_text};
 
 use def_output::Stopped;
-use qm_cutmesh::Regridded;
+use qm_stages::Regridded;
 use qm_obj::put_position;
 use qm_output::Output;
 use qm_place::Near;

@@ -4,8 +4,8 @@ use Rattle.def_cut.specs.Grids.{rectangle}
 use Rattle.def_layout.specs.Layouts.{Way}
 use Rattle.def_layout.specs.Plans.{plan, way_number}
 use Rattle.def_remesh.specs.NewPoints.{lengths_in}
-use Rattle.qm_reach.specs.Fours.{arcs_on}
-use Rattle.qm_reach.proofs.Whole.{way_for}
+use Rattle.qm_offsets.specs.Fours.{arcs_on}
+use Rattle.qm_offsets.proofs.Whole.{way_for}
 use Rattle.qm_blocks.proofs.Measures.{arcs_low, patches_few, side_small}
 use Rattle.qm_blocks.proofs.Tables.{side_put}
 use Rattle.qm_blocks.proofs.spots.put_side.Goals as goal

@@ -7,7 +7,7 @@ use Rattle.def_layout.specs.Plans.{layout_of, way_number, plan}
 use Rattle.qm_place.specs.OnArcs.{spacing_on}
 use Rattle.qm_place.proofs.Pushes.{start_by}
 use Rattle.qm_place.proofs.Rims.{back_by, old_read, read, side_more, start_few, IsRead}
-use Rattle.qm_reach.proofs.Whole.{way_for}
+use Rattle.qm_offsets.proofs.Whole.{way_for}
 use Rattle.qm_place.proofs.sides.push_side.Goals as goal
 
 pub index-requires : goal.index-requires

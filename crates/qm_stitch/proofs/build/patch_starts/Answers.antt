@@ -2,8 +2,8 @@ use Rattle.std.proofs.Common.{◌≡◌, ℕ, ◌-◌, ◌*◌, List, length, sy
 use Rattle.std.specs.Prelude.{slice_index}
 use Rattle.std.proofs.lemmas.List.{length-map}
 use Rattle.def_remesh.specs.Numberings.{tables_of}
-use Rattle.qm_reach.specs.Fours.{begins_of}
-use Rattle.qm_reach.proofs.Spots.{next_room, term_room}
+use Rattle.qm_offsets.specs.Fours.{begins_of}
+use Rattle.qm_offsets.proofs.Spots.{next_room, term_room}
 use Rattle.qm_stitch.specs.Sizes.{long_by, product_by}
 use Rattle.qm_stitch.proofs.build.patch_starts.Goals as goal
 

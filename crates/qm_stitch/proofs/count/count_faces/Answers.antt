@@ -12,7 +12,7 @@ use Rattle.def_remesh.specs.NewPoints.{lengths_in}
 use Rattle.plan_laws.proofs.MeshLayouts.{laid_of, lengths_of}
 use Rattle.written_laws.proofs.Runs.{count_rises}
 use Rattle.plan_laws.proofs.Bounds.{cells_most, old_faces}
-use Rattle.qm_reach.proofs.Spots.{count_step}
+use Rattle.qm_offsets.proofs.Spots.{count_step}
 use Rattle.qm_stitch.proofs.count.count_faces.Goals as goal
 
 -- All faces are few enough for 128 bits.

@@ -10,7 +10,7 @@ use Rattle.def_layout.specs.Plans.{plan}
 use Rattle.def_written.specs.Numbers.{vertex_number}
 use Rattle.def_remesh.specs.Numberings.{tables_of}
 use Rattle.def_remesh.specs.declared.tables.RunStarts.{RunStarts}
-use Rattle.qm_reach.specs.Fours.{arcs_on, uses_in}
+use Rattle.qm_offsets.specs.Fours.{arcs_on, uses_in}
 use Rattle.qm_stitch.specs.Sizes.{point_on, table_in}
 use Rattle.qm_stitch.proofs.Grids.{border, IsBorder}
 use Rattle.qm_stitch.specs.Lengthened.{layout_in, lengths_by}

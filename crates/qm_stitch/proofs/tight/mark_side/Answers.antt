@@ -7,7 +7,7 @@ use Rattle.def_layout.specs.Plans.{plan}
 use Rattle.def_layout.specs.declared.tmesh.Side.{Side}
 use Rattle.def_layout.specs.declared.tmesh.SideArc.{SideArc}
 use Rattle.def_remesh.specs.Numberings.{tables_of}
-use Rattle.qm_reach.specs.Fours.{arcs_on, uses_in}
+use Rattle.qm_offsets.specs.Fours.{arcs_on, uses_in}
 use Rattle.qm_stitch.specs.Sizes.{table_in}
 use Rattle.qm_stitch.proofs.Grids.{border}
 use Rattle.qm_stitch.proofs.Marks.{adds_side}

@@ -3,7 +3,7 @@ use Rattle.def_layout.specs.Lengths.{wide, high}
 use Rattle.def_layout.specs.Plans.{layout_of, plan}
 use Rattle.def_remesh.specs.NewPoints.{lengths_in}
 use Rattle.qm_place.proofs.Entries.{rim_here, IsRimRead}
-use Rattle.qm_reach.proofs.Spots.{term_room}
+use Rattle.qm_offsets.proofs.Spots.{term_room}
 use Rattle.qm_place.proofs.placed.Placed.rim.Goals.{After-index}
 use Rattle.qm_place.proofs.placed.Placed.rim.Goals as goal
 

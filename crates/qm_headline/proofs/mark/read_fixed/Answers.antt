@@ -1,0 +1,24 @@
+use Rattle.std.proofs.Common.{◌≡◌, Bool, sym, ◌∙◌, subst}
+use Rattle.std.proofs.lemmas.Bool.{true≢false}
+use Rattle.def_certtext.specs.Settings.{AreInRange}
+use Rattle.qm_certtext.proofs.Texts.{same_asked}
+use Rattle.qm_certtext.specs.Cuts.{asked_line}
+use Rattle.qm_headline.proofs.mark.read_fixed.Goals as goal
+
+pub returns-in_default : goal.returns-in_default
+returns-in_default c settings range is = c.in_default.ensures settings _ range is
+
+pub returns-then-asked : goal.returns-then-asked
+returns-then-asked c settings range is =
+    let asked = c.in-Some.asked in
+    let both = same_asked c.args.prefix.now c.args.line.now asked.settings settings asked.auto _ c.in-Some.ensures.0
+    c.in-Some.ensures.1 range is in
+    let chosen = c.if-asked.true in
+    true≢false (sym chosen ∙ both.1)
+
+pub returns : goal.returns
+returns c =
+    let asked = c.in-Some.asked in
+    subst (λ (auto : Bool). AreInRange asked.settings auto
+    × (c.args.line.now ≡ asked_line c.args.prefix.now asked.settings auto)) c.if-asked.false
+    c.in-Some.ensures

@@ -1,0 +1,59 @@
+-- What the layout of a mesh gives.
+use Rattle.std.proofs.Common.{◌≡◌, ℕ, zero, suc, ◌<◌, true, false, List, length, get_or, refl, sym, ap, subst, arith}
+use Rattle.std.specs.List.{All}
+use Rattle.std.proofs.lemmas.List.{get_or_default}
+use Rattle.def_math.specs.Counts.{count_below}
+use Rattle.def_layout.specs.Surfaces.{HasWholeSides}
+use Rattle.def_layout.specs.Layouts.{Way, south, east, north, west}
+use Rattle.def_layout.specs.Lengths.{Lengths, size}
+use Rattle.def_layout.specs.Plans.{Plan, layout_of, way_number, side_at}
+use Rattle.def_layout.specs.declared.tmesh.SideArc.{SideArc}
+use Rattle.def_remesh.specs.Numberings.{sizes_on, used_at}
+use Rattle.def_layoutnet.specs.MeshLayouts.{IsSomeLayout}
+use Rattle.qm_offsets.specs.Fours.{AreSides}
+pub use Rattle.plan_laws.proofs.MeshLayouts.{laid_of, lengths_of, lies}
+
+-- The arcs that sides use.
+pub arcs_low : (plan : Plan) → HasWholeSides (layout_of plan) → (patch : ℕ) (side : Way) (n : ℕ) (list : List SideArc)
+    → patch < length plan.patches
+    → n ≡ length plan.arcs → list ≡ side_at plan patch side → All (λ (used : SideArc). used.arc < n) list
+arcs_low plan paved patch side n list low long same =
+    subst (λ (us : List SideArc). All (λ (used : SideArc). used.arc < n) us) (sym same)
+    (λ k d less. let arc = paved.arc_low (record { patch = patch; side = side; at = k })
+    (record { patch_low = low; low = less }) in
+    let read = get_or_default (side_at plan patch side) k d (record { arc = 0; forward = true }) less in
+    omega (arith, arc, ap (λ (u : SideArc). u.arc) read, long))
+
+pub uses_low : (plan : Plan) → IsSomeLayout plan → (patch : ℕ) (side : Way) (n : ℕ) (list : List SideArc)
+    → patch < length plan.patches
+    → n ≡ length plan.arcs → list ≡ side_at plan patch side → All (λ (used : SideArc). used.arc < n) list
+uses_low plan is = arcs_low plan (laid_of plan is).paved
+
+-- What is read of the sides of the layout of a mesh.
+pub sides_of : (plan : Plan) → IsSomeLayout plan → AreSides plan
+sides_of plan is = record { sided = is.laid.sided; four = is.laid.four; paved = (laid_of plan is).paved }
+
+-- A side that is read is as long as its lengths say.
+pub side_long : (plan : Plan) (patch : ℕ) (side : Way) (lengths : Lengths) (list : List SideArc)
+    → list ≡ side_at plan patch side
+    → count_below (sizes_on list lengths) (length list) ≡ size (layout_of plan) lengths patch side
+side_long plan patch side lengths list same = ap (λ (us : List SideArc). count_below (sizes_on us lengths) (length us))
+    same
+
+-- What is read of a side.
+pub read_used : (side : List SideArc) (k : ℕ) → k < length side
+    → used_at side k ≡ get_or side k (record { arc = 0; forward = false })
+read_used side k low = get_or_default side k (record { arc = 0; forward = true }) (record { arc = 0; forward = false })
+    low
+
+pub read_size : (side : List SideArc) (lengths : Lengths) (k : ℕ) → k < length side
+    → sizes_on side lengths k ≡ lengths (get_or side k (record { arc = 0; forward = false })).arc
+read_size side lengths k low = ap (λ (used : SideArc). lengths used.arc) (read_used side k low)
+
+-- The side with a number.
+pub way_for : (s : ℕ) → s < 4 → (w : Way) × (way_number w ≡ s)
+way_for zero low = (south, refl)
+way_for (suc zero) low = (east, refl)
+way_for (suc (suc zero)) low = (north, refl)
+way_for (suc (suc (suc zero))) low = (west, refl)
+way_for (suc (suc (suc (suc s)))) low = absurd (omega arith)

@@ -1,0 +1,6 @@
+use Rattle.def_remesh.specs.NewPoints.{lengths_in}
+use Rattle.def_remesh.specs.Numberings.{sizes_on, AreRunStarts}
+use Rattle.qm_offsets.proofs.sides.side_starts.Given as goal
+
+abbrev pub invariant-loop-used : goal.invariant-loop-used
+invariant-loop-used l = AreRunStarts (sizes_on l.side (lengths_in l.lengths)) l.used-index l.starts.begin.items

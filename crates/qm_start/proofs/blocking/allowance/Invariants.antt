@@ -1,5 +1,0 @@
-use Rattle.qm_start.specs.Tables.{IsCourse}
-use Rattle.qm_start.proofs.blocking.allowance.Given as goal
-
-abbrev pub invariant-loop-k : goal.invariant-loop-k
-invariant-loop-k l = IsCourse l.cover l.course

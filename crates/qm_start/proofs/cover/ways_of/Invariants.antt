@@ -1,8 +1,0 @@
-use Rattle.std.proofs.Common.{◌≡◌, ◌+◌, ◌*◌, length}
-use Rattle.std.specs.List.{All}
-use Rattle.qm_start.specs.Tables.{LeadsWithin}
-use Rattle.qm_start.proofs.cover.ways_of.Given as goal
-
-abbrev pub invariant-loop-chain : goal.invariant-loop-chain
-invariant-loop-chain l = (length l.ways.items ≡ 2 * l.chain-index)
-    × All (LeadsWithin (2 * l.net.nodes + 1)) l.ways.items
