@@ -1,30 +1,22 @@
 -- The text of a finished remesh behind that of its mesh is a checked pair.
 use Rattle.std.proofs.Common.{◌≡◌, ◌<◌, ◌+◌, ◌-◌, ℕ, zero, suc, Bool, true, false, cond, List, [], ◌∷◌, ◌++◌, length}
 use Rattle.std.proofs.Common.{map, take, drop, get_or, sym, ◌∙◌, ap, refl, arith, length-append, length-drop}
-use Rattle.std.specs.Prelude.{codes, nat_eq}
-use Rattle.std.specs.List.{filter, starts_with}
 use Rattle.std.proofs.Math.Seq.{take-append_seam}
 use Rattle.std.proofs.lemmas.Bool.{and_parts, eq-eqb, eqb-true, false_from_ne_true, false≢true}
 use Rattle.std.proofs.lemmas.List.{get_or-append-add}
-use Rattle.def_certtext.specs.CertLines.{line_text, Certificates}
-use Rattle.def_certtext.specs.HeadLine.{begins_head, head_line, IsLastLine}
-use Rattle.def_certtext.specs.Reading.{is_hash_line, TellHow}
-use Rattle.def_certtext.specs.declared.CertLine.{CertLine}
-use Rattle.def_certtext.specs.declared.CertLine.TheVariants.{Length, Vertex, Set, Floor}
+use Rattle.std.specs.{Prelude.codes, Prelude.nat_eq, List.filter, List.starts_with}
+use Rattle.def_certtext.specs.{CertLines.line_text, CertLines.Certificates, HeadLine.begins_head, HeadLine.head_line}
+use Rattle.def_certtext.specs.{HeadLine.IsLastLine, Reading.is_hash_line, Reading.TellHow, declared.CertLine.CertLine}
+use Rattle.def_certtext.specs.declared.CertLine.TheVariants.{Length, Vertex}
+use Rattle.def_certtext.specs.declared.CertLine.TheVariants.{Set, Floor}
 use Rattle.def_certtext.specs.Settings.{AreInRange}
 use Rattle.def_flow.specs.declared.net.Settings.{Settings}
-use Rattle.def_io.specs.Bytes.{Bytes, Lines}
-use Rattle.def_io.specs.Lines.{lines_of}
+use Rattle.def_io.specs.{Bytes.Bytes, Bytes.Lines, Lines.lines_of}
 use Rattle.def_recheck.specs.Accepting.{AcceptsLaw}
-use Rattle.def_remesh.specs.Certified.{IsShown}
-use Rattle.def_remesh.specs.ReadAgain.{ends_line}
-use Rattle.def_remesh.specs.Tasks.{remesh_task}
-use Rattle.def_remesh.specs.TextLaws.{IsSolid, made_by}
-use Rattle.def_text.specs.FaceSet.{FaceSet}
-use Rattle.def_text.specs.Text.{text_soup}
-use Rattle.def_text.specs.declared.letters.TheConstants.{HASH}
-use Rattle.remesh_laws.proofs.Told.{told_law}
-use Rattle.remesh_laws.proofs.Joined.{lines_append, tail_append}
+use Rattle.def_remesh.specs.{Certified.IsShown, ReadAgain.ends_line, Tasks.remesh_task, TextLaws.IsSolid}
+use Rattle.def_remesh.specs.TextLaws.{made_by}
+use Rattle.def_text.specs.{FaceSet.FaceSet, Text.text_soup, declared.letters.TheConstants.HASH}
+use Rattle.remesh_laws.proofs.{Told.told_law, Joined.lines_append, Joined.tail_append}
 
 -- A test of lines that the head line of a remesh passes, and no line of a certificate or without a mark does.
 pub record IsHeadTest (begins_so : Bytes → Bool) : Type 0 where

@@ -4,8 +4,7 @@ use Rattle.std.proofs.Common.{true≢false, arith}
 use Rattle.std.proofs.lemmas.Bool.{cases_eq, cases_order}
 use Rattle.std.proofs.lemmas.Option.{same_Some}
 use Rattle.def_mesh.specs.HalfEdges.{HalfEdges, IsQuadManifold}
-use Rattle.def_cut.specs.Cuts.{Cut, Links, IsCorner, IsCut}
-use Rattle.def_cut.specs.Grids.{Cells, IsGrid, IsPatch}
+use Rattle.def_cut.specs.{Cuts.Cut, Cuts.Links, Cuts.IsCorner, Cuts.IsCut, Grids.Cells, Grids.IsGrid, Grids.IsPatch}
 use Rattle.def_cut.specs.Steps.{spin}
 use Rattle.cut_laws.proofs.Darts.{prev_three, prev_twice, prev_same}
 use Rattle.cut_laws.proofs.Folds.{At, one_more, cross_to, west_open, south_open}

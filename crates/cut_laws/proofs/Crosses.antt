@@ -3,9 +3,8 @@ use Rattle.std.proofs.Common.{◌≡◌, ◌⊎◌, ℕ, zero, suc, ◌<◌, ◌
 use Rattle.std.proofs.lemmas.Bool.{cases_eq, cases_order}
 use Rattle.std.proofs.lemmas.Option.{same_Some}
 use Rattle.def_mesh.specs.HalfEdges.{HalfEdges, AreTurned, Turns, IsQuadManifold}
-use Rattle.def_cut.specs.Cuts.{IsCross, HasCross}
+use Rattle.def_cut.specs.{Cuts.IsCross, Cuts.HasCross, Steps.or_zero}
 use Rattle.cut_laws.proofs.Darts.{prev_three, turn_from, turn_low, turn_same}
-use Rattle.def_cut.specs.Steps.{or_zero}
 
 -- Each edge at which a dart arrives at v has two darts.
 abbrev pub IsRound : (mesh : HalfEdges) (v : ℕ) → Type 0

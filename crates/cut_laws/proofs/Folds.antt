@@ -5,10 +5,8 @@ use Rattle.std.proofs.Common.{subst, refl, inl, inr, true≢false, arith}
 use Rattle.std.proofs.lemmas.Bool.{cases_eq, cases_order}
 use Rattle.std.proofs.lemmas.Option.{same_Some}
 use Rattle.def_mesh.specs.HalfEdges.{HalfEdges, Turns, IsQuadManifold}
-use Rattle.def_cut.specs.Cuts.{Cut, IsCross, HasCross, IsUncut, IsCut}
-use Rattle.def_cut.specs.Grids.{Cells, IsGrid}
-use Rattle.def_cut.specs.Steps.{spin}
-use Rattle.def_cut.specs.Laws.{NoFoldLaw}
+use Rattle.def_cut.specs.{Cuts.Cut, Cuts.IsCross, Cuts.HasCross, Cuts.IsUncut, Cuts.IsCut, Grids.Cells, Grids.IsGrid}
+use Rattle.def_cut.specs.{Steps.spin, Laws.NoFoldLaw}
 use Rattle.cut_laws.proofs.Darts.{prev_three, prev_same, no_self, turn_low, two_darts}
 
 -- x is the k-th side of a cell of a grid, where k may be any number.

@@ -4,13 +4,9 @@ use Rattle.std.proofs.Common.{refl, arith}
 use Rattle.std.proofs.Math.Nat.{div-lt_iff_lt-mul}
 use Rattle.std.proofs.lemmas.List.{ext_get_or}
 use Rattle.def_mesh.specs.HalfEdges.{HalfEdges, IsQuadManifold}
-use Rattle.def_cut.specs.Cuts.{Cut, IsCut}
-use Rattle.def_cut.specs.Grids.{IsGrid, IsPatch, Rectangle, cell_of, patch_at, least_of, IsSide, IsPartition}
-use Rattle.def_cut.specs.Steps.{spin}
-use Rattle.def_cut.specs.Laws.{OneListLaw}
-use Rattle.cut_laws.proofs.Spins.{spun}
-use Rattle.cut_laws.proofs.Folds.{no_fold}
-use Rattle.cut_laws.proofs.Classes.{In, AreOne, one_patch}
+use Rattle.def_cut.specs.{Cuts.Cut, Cuts.IsCut, Grids.IsGrid, Grids.IsPatch, Grids.Rectangle, Grids.cell_of}
+use Rattle.def_cut.specs.{Grids.patch_at, Grids.least_of, Grids.IsSide, Grids.IsPartition, Steps.spin, Laws.OneListLaw}
+use Rattle.cut_laws.proofs.{Spins.spun, Folds.no_fold, Classes.In, Classes.AreOne, Classes.one_patch}
 use Rattle.cut_laws.proofs.Increasing.{increasing_place, same_many, same_values}
 
 -- A place among h rows of w.

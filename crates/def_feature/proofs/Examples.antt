@@ -1,14 +1,10 @@
 -- Breaks, starts and cuts, computed on small meshes.
 use Rattle.std.proofs.Common.{◌≡◌, ℕ, Bool, true, false, not, List, [], ◌∷◌, map, length, refl, Some}
-use Rattle.std.specs.Prelude.{filter, slice_set, replicate}
-use Rattle.std.specs.List.{range_with_len}
-use Rattle.def_mesh.specs.Faces.{Faces}
-use Rattle.def_mesh.specs.Darts.{to_of}
-use Rattle.def_cut.specs.declared.graph.Stop.{Stop}
-use Rattle.def_cut.specs.declared.graph.Stop.TheVariants.{Boundary}
+use Rattle.std.specs.{Prelude.filter, Prelude.slice_set, Prelude.replicate, List.range_with_len}
+use Rattle.def_mesh.specs.{Faces.Faces, Darts.to_of}
+use Rattle.def_cut.specs.{declared.graph.Stop.Stop, declared.graph.Stop.TheVariants.Boundary}
 use Rattle.def_cut.specs.declared.moving.Moving.{Moving}
-use Rattle.def_feature.specs.Marks.{is_break}
-use Rattle.def_feature.specs.Marked.{marked_starts, marked_last, marked_cut}
+use Rattle.def_feature.specs.{Marks.is_break, Marked.marked_starts, Marked.marked_last, Marked.marked_cut}
 
 -- Two by two faces.
 abbrev grid : Faces

@@ -1,9 +1,7 @@
 -- The text of where new vertices and faces lie, computed on a square and on two squares in a row.
 use Rattle.std.proofs.Common.{◌≡◌, ℕ, true, [], ◌∷◌, ◌++◌, refl}
-use Rattle.std.specs.Prelude.{codes, None, Some}
-use Rattle.std.specs.Fmt.{digits}
-use Rattle.def_layout.specs.Plans.{Plan}
-use Rattle.def_layout.specs.declared.tmesh.SideArc.{SideArc}
+use Rattle.std.specs.{Prelude.codes, Prelude.None, Prelude.Some, Fmt.digits}
+use Rattle.def_layout.specs.{Plans.Plan, declared.tmesh.SideArc.SideArc}
 use Rattle.def_remesh.specs.NewPoints.{lengths_in}
 use Rattle.def_text.specs.FaceSet.{FaceSet}
 use Rattle.def_map.specs.MapText.{map_text}

@@ -3,11 +3,9 @@ use Rattle.std.proofs.Common.{◌≡◌, ℕ, Bool, true, false, List, [], ◌�
 use Rattle.std.specs.Prelude.{codes, slice_set, replicate}
 use Rattle.def_io.specs.Bytes.{Bytes}
 use Rattle.def_mesh.specs.Faces.{Faces}
-use Rattle.def_text.specs.FaceSet.{FaceSet}
-use Rattle.def_text.specs.Text.{numbers_to}
-use Rattle.def_marks.specs.Lines.{marks_in}
-use Rattle.def_marks.specs.declared.fail.MarkFail.{MarkFail}
-use Rattle.def_marks.specs.declared.fail.MarkFail.TheVariants.{NotEdge, Range, Syntax}
+use Rattle.def_text.specs.{FaceSet.FaceSet, Text.numbers_to}
+use Rattle.def_marks.specs.{Lines.marks_in, declared.fail.MarkFail.MarkFail, declared.fail.MarkFail.TheVariants.NotEdge}
+use Rattle.def_marks.specs.declared.fail.MarkFail.TheVariants.{Range, Syntax}
 
 -- Two by two faces.
 abbrev grid : Faces

@@ -1,14 +1,13 @@
 -- The definitions, computed on small meshes.
 use Rattle.std.proofs.Common.{◌≡◌, ◌<◌, ℕ, zero, suc, pos, [], ◌∷◌, map, Some, None, refl, sym, subst, arith}
 use Rattle.std.proofs.lemmas.Bool.{false≢true}
-use Rattle.def_mesh.specs.Faces.{Faces}
-use Rattle.def_mesh.specs.Darts.{all_darts, from_of, straight_of, twin_of}
-use Rattle.def_mesh.specs.Vertices.{fan_of, vertex_count}
-use Rattle.def_mesh.specs.Kinds.{kind_of}
-use Rattle.def_mesh.specs.Components.{component_numbers, seeds, start_darts, euler, edge_count}
-use Rattle.def_mesh.specs.Faults.{IsFirstTwice, repeat_in}
-use Rattle.def_mesh.specs.Manifold.{AreNeighbours, Chain, HasOneFan, IsSameEdge}
-use Rattle.def_mesh.specs.declared.Kind.TheVariants.{Regular, Singular, Corner, Reflex}
+use Rattle.def_mesh.specs.{Faces.Faces, Darts.all_darts, Darts.from_of, Darts.straight_of, Darts.twin_of}
+use Rattle.def_mesh.specs.{Vertices.fan_of, Vertices.vertex_count, Kinds.kind_of, Components.component_numbers}
+use Rattle.def_mesh.specs.Components.{seeds, start_darts, euler, edge_count}
+use Rattle.def_mesh.specs.{Faults.IsFirstTwice, Faults.repeat_in, Manifold.AreNeighbours, Manifold.Chain}
+use Rattle.def_mesh.specs.{Manifold.HasOneFan, Manifold.IsSameEdge, declared.Kind.TheVariants.Regular}
+use Rattle.def_mesh.specs.declared.Kind.TheVariants.{Singular, Corner}
+use Rattle.def_mesh.specs.declared.Kind.TheVariants.{Reflex}
 
 -- A cube: its eight vertices are singular, so a rider starts along each dart.
 abbrev cube : Faces

@@ -1,17 +1,11 @@
 -- The definitions of the new soup and of its places, computed on a square and on the stepped cylinder.
 use Rattle.std.proofs.Common.{◌≡◌, ℕ, true, false, [], ◌∷◌, map, ℤ, pos, None, refl}
 use Rattle.std.specs.Prelude.{neg_ℤ}
-use Rattle.def_layout.specs.declared.tmesh.SideArc.{SideArc}
-use Rattle.def_layout.specs.Plans.{Plan}
-use Rattle.def_text.specs.FaceSet.{FaceSet}
-use Rattle.def_text.specs.Types.{Position, Positions}
-use Rattle.def_remesh.specs.NewSoup.{new_places, new_soup}
-use Rattle.def_remesh.specs.NewPoints.{lengths_in, multiple_of}
-use Rattle.def_remesh.specs.Refined.{refined_faces}
-use Rattle.def_remesh.specs.Spaced.{shares_along}
-use Rattle.def_written.specs.Places.{ONE}
-use Rattle.def_written.specs.Spacings.{edge_begin, shared_step}
-use Rattle.def_layout.specs.Arcs.{long_at}
+use Rattle.def_layout.specs.{declared.tmesh.SideArc.SideArc, Plans.Plan, Arcs.long_at}
+use Rattle.def_text.specs.{FaceSet.FaceSet, Types.Position, Types.Positions}
+use Rattle.def_remesh.specs.{NewSoup.new_places, NewSoup.new_soup, NewPoints.lengths_in, NewPoints.multiple_of}
+use Rattle.def_remesh.specs.{Refined.refined_faces, Spaced.shares_along}
+use Rattle.def_written.specs.{Places.ONE, Spacings.edge_begin, Spacings.shared_step}
 
 abbrev square : FaceSet
 square = record {

@@ -2,13 +2,10 @@
 use Rattle.std.proofs.Common.{◌≡◌, ℕ, true, List, [], ◌∷◌, ◌++◌, replicate, codes, refl}
 use Rattle.std.specs.Fmt.{digits}
 use Rattle.def_mesh.specs.Faces.{Faces}
-use Rattle.def_cut.specs.Grids.{Rectangle}
-use Rattle.def_cut.specs.declared.graph.Rider.{Rider}
-use Rattle.def_cut.specs.declared.graph.Stop.{Stop}
-use Rattle.def_cut.specs.declared.graph.Stop.TheVariants.{Boundary, Middle, Tie}
-use Rattle.def_layout.specs.Arcs.{Path}
-use Rattle.def_layout.specs.Plans.{Plan}
-use Rattle.def_layout.specs.declared.tmesh.SideArc.{SideArc}
+use Rattle.def_cut.specs.{Grids.Rectangle, declared.graph.Rider.Rider, declared.graph.Stop.Stop}
+use Rattle.def_cut.specs.declared.graph.Stop.TheVariants.{Boundary, Middle}
+use Rattle.def_cut.specs.declared.graph.Stop.TheVariants.{Tie}
+use Rattle.def_layout.specs.{Arcs.Path, Plans.Plan, declared.tmesh.SideArc.SideArc}
 use Rattle.def_report.specs.GraphText.{graph_text}
 
 abbrev rider : (start rides : ℕ) (stop : Stop) → Rider

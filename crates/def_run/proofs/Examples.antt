@@ -1,11 +1,9 @@
 -- The definitions of command lines, computed on lines.
 use Rattle.std.proofs.Common.{◌≡◌, Bool, true, false, Option, Some, None, [], ◌∷◌, map, refl, arith}
-use Rattle.std.specs.Prelude.{codes}
-use Rattle.std.specs.Fmt.{digits}
+use Rattle.std.specs.{Prelude.codes, Fmt.digits}
 use Rattle.def_text.specs.Types.{Words}
-use Rattle.def_run.specs.CommandLines.{remesh_options, IsCommand}
-use Rattle.def_run.specs.Options.{are_once, separate, uses_of, Uses}
-use Rattle.def_run.specs.declared.command.Command.TheVariants.{Refine}
+use Rattle.def_run.specs.{CommandLines.remesh_options, CommandLines.IsCommand, Options.are_once, Options.separate}
+use Rattle.def_run.specs.{Options.uses_of, Options.Uses, declared.command.Command.TheVariants.Refine}
 
 -- Whether words are the options of a remesh, once each.
 by_uses : Option Uses → Bool

@@ -1,12 +1,9 @@
 -- The definitions computed on small texts.
 use Rattle.std.proofs.Common.{◌≡◌, ◌++◌, ℕ, pos, negsuc, List, [], ◌∷◌, Ok, Err, refl, map, true, false}
-use Rattle.std.specs.Prelude.{codes}
-use Rattle.std.specs.Fmt.{digits}
-use Rattle.def_text.specs.Canonical.{micro_text}
-use Rattle.def_text.specs.Decimal.{is_decimal, rounded}
-use Rattle.def_text.specs.Text.{text_soup}
-use Rattle.def_text.specs.Words.{words}
-use Rattle.def_text.specs.declared.refusal.ObjFail.TheVariants.{NotQuad, Range, Syntax}
+use Rattle.std.specs.{Prelude.codes, Fmt.digits}
+use Rattle.def_text.specs.{Canonical.micro_text, Decimal.is_decimal, Decimal.rounded, Text.text_soup, Words.words}
+use Rattle.def_text.specs.declared.refusal.ObjFail.TheVariants.{NotQuad, Range}
+use Rattle.def_text.specs.declared.refusal.ObjFail.TheVariants.{Syntax}
 
 words_row : words (codes " v\t1  2.5 ") ≡ codes "v" ∷ codes "1" ∷ codes "2.5" ∷ []
 words_row = refl

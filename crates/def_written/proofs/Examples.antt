@@ -2,15 +2,12 @@
 use Rattle.std.proofs.Common.{◌≡◌, ℕ, true, false, List, [], ◌∷◌, length, map, pos, negsuc, cond, nat_lt, refl, inl}
 use Rattle.std.proofs.Common.{inr, arith}
 use Rattle.std.specs.Prelude.{slice_index_or, ◌-◌, ◌*◌, ◌/◌, ◌==◌, ◌||◌}
-use Rattle.def_layout.specs.declared.tmesh.SideArc.{SideArc}
-use Rattle.def_layout.specs.Layouts.{Way, south, east, north, west, Layout}
-use Rattle.def_layout.specs.Lengths.{Lengths}
-use Rattle.def_written.specs.Points.{node, along, inside}
-use Rattle.def_written.specs.Numbers.{vertices}
-use Rattle.def_written.specs.NewFaces.{new_faces}
-use Rattle.def_written.specs.Edges.{on_arc, IsDoubledAt}
-use Rattle.def_written.specs.Places.{Coordinate, even, ONE, parameter, parameter_back, place_of, Step}
-use Rattle.def_written.specs.Spacings.{shared, shared_step, Shares}
+use Rattle.def_layout.specs.{declared.tmesh.SideArc.SideArc, Layouts.Way, Layouts.south, Layouts.east, Layouts.north}
+use Rattle.def_layout.specs.{Layouts.west, Layouts.Layout, Lengths.Lengths}
+use Rattle.def_written.specs.{Points.node, Points.along, Points.inside, Numbers.vertices, NewFaces.new_faces}
+use Rattle.def_written.specs.{Edges.on_arc, Edges.IsDoubledAt, Places.Coordinate, Places.even, Places.ONE}
+use Rattle.def_written.specs.{Places.parameter, Places.parameter_back, Places.place_of, Places.Step, Spacings.shared}
+use Rattle.def_written.specs.Spacings.{shared_step, Shares}
 
 abbrev turn : (side : Way) → ℕ
 turn south = 0

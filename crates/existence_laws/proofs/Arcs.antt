@@ -2,31 +2,23 @@
 use Rattle.std.proofs.Common.{◌≡◌, ◌⊎◌, ℕ, zero, suc, ◌+◌, ◌-◌, ◌/◌, ◌<◌, ◌≤◌, Bool, true, false, List, [], ◌∷◌, ◌++◌}
 use Rattle.std.proofs.Common.{length, get_or, set, replicate, Option, Some, None, sym, ◌∙◌, ap, subst, refl, inl, inr}
 use Rattle.std.proofs.Common.{arith}
-use Rattle.std.specs.List.{filter, range_with_len}
 use Rattle.std.proofs.lemmas.Bool.{cases_Bool, cases_eq, false≢true}
 use Rattle.std.proofs.lemmas.List.{length-replicate}
-use Rattle.def_cut.specs.FullCut.{is_on}
-use Rattle.def_cut.specs.Grids.{IsPartition, Rectangle}
-use Rattle.def_cut.specs.Steps.{easts}
-use Rattle.def_layout.specs.Arcs.{long_at, path_at, IsRun, Path}
-use Rattle.def_layout.specs.Nodes.{is_node}
+use Rattle.std.specs.List.{filter, range_with_len}
+use Rattle.def_cut.specs.{FullCut.is_on, Grids.IsPartition, Grids.Rectangle, Steps.easts}
+use Rattle.def_layout.specs.{Arcs.long_at, Arcs.path_at, Arcs.IsRun, Arcs.Path, Nodes.is_node}
 use Rattle.def_layout.specs.declared.tmesh.SideArc.{SideArc}
-use Rattle.def_mesh.specs.Darts.{darts, from_of, next_of, to_of, twin_of}
-use Rattle.def_mesh.specs.Faces.{Faces}
-use Rattle.def_mesh.specs.HalfEdges.{half_edges}
-use Rattle.def_mesh.specs.Vertices.{vertex_count}
+use Rattle.def_mesh.specs.{Darts.darts, Darts.from_of, Darts.next_of, Darts.to_of, Darts.twin_of, Faces.Faces}
+use Rattle.def_mesh.specs.{HalfEdges.half_edges, Vertices.vertex_count}
 use Rattle.cut_laws.proofs.Leasts.{least_there}
 use Rattle.layout_laws.specs.Named.{run_list, run_name}
-use Rattle.layout_laws.proofs.Borders.{each_in_run}
-use Rattle.layout_laws.proofs.Runs.{run_low, same_length, same_place, IsBack}
+use Rattle.layout_laws.proofs.{Borders.each_in_run, Runs.run_low, Runs.same_length, Runs.same_place, Runs.IsBack}
 use Rattle.layout_laws.proofs.Uses.{named_or_back, run_entry, run_long}
 use Rattle.list_laws.proofs.Filters.{place_of}
 use Rattle.mesh_laws.proofs.Vertices.{all_below}
-use Rattle.qm_tmesh.specs.Arcs.{AreArcsBelow, IsArcFrom}
-use Rattle.qm_tmesh.specs.Tables.{IsMarked, IsNamedRun}
-use Rattle.qm_tmesh.specs.Uses.{AreNamed, HasUsesBelow}
-use Rattle.qm_tmesh.proofs.ArcReads.{named_low, named_some}
-use Rattle.qm_tmesh.proofs.ArcTables.{arcs_more, arcs_none}
+use Rattle.qm_tmesh.specs.{Arcs.AreArcsBelow, Arcs.IsArcFrom, Tables.IsMarked, Tables.IsNamedRun, Uses.AreNamed}
+use Rattle.qm_tmesh.specs.Uses.{HasUsesBelow}
+use Rattle.qm_tmesh.proofs.{ArcReads.named_low, ArcReads.named_some, ArcTables.arcs_more, ArcTables.arcs_none}
 use Rattle.qm_tmesh.proofs.UseTables.{clash, uses_more}
 
 module _ (faces : Faces) (cut marks : List Bool) (marked : IsMarked faces cut marks) where

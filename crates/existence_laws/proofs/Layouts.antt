@@ -1,31 +1,17 @@
 -- Each full cut of a mesh has exactly one layout.
 use Rattle.std.proofs.Common.{◌/◌, Bool, List, length, map, refl, arith}
 use Rattle.std.specs.List.{range_with_len}
-use Rattle.def_cut.specs.FullCut.{is_on, IsFullCut}
-use Rattle.def_cut.specs.Grids.{IsPartition, Rectangle}
-use Rattle.def_cut.specs.Traced.{traced_marks}
-use Rattle.def_layout.specs.Arcs.{Path}
-use Rattle.def_layout.specs.FaceLayouts.{IsCutLayout}
-use Rattle.def_layout.specs.Nodes.{is_node}
-use Rattle.def_layout.specs.Plans.{Plan}
+use Rattle.def_cut.specs.{FullCut.is_on, FullCut.IsFullCut, Grids.IsPartition, Grids.Rectangle, Traced.traced_marks}
+use Rattle.def_layout.specs.{Arcs.Path, FaceLayouts.IsCutLayout, Nodes.is_node, Plans.Plan}
 use Rattle.def_layout.specs.declared.tmesh.SideArc.{SideArc}
-use Rattle.def_mesh.specs.Darts.{darts}
-use Rattle.def_mesh.specs.Faces.{Faces}
-use Rattle.def_mesh.specs.HalfEdges.{half_edges}
-use Rattle.def_mesh.specs.Meshes.{IsMesh}
-use Rattle.def_mesh.specs.Vertices.{vertex_count}
+use Rattle.def_mesh.specs.{Darts.darts, Faces.Faces, HalfEdges.half_edges, Meshes.IsMesh, Vertices.vertex_count}
 use Rattle.def_remesh.specs.LayoutLaws.{HasOneLayout, LayoutLaw, TracedLayoutLaw}
 use Rattle.plan_laws.proofs.OnePlan.{one_layout_law}
 use Rattle.qm_grid.proofs.Cuttings.{to_cutting}
-use Rattle.qm_tmesh.specs.Arcs.{AreArcsBelow}
-use Rattle.qm_tmesh.specs.Four.{AreAllFour}
-use Rattle.qm_tmesh.specs.Tables.{IsMarked}
-use Rattle.qm_tmesh.specs.Uses.{HasUsesBelow}
-use Rattle.qm_tmesh.proofs.Built.{have_patches, is_layout, to_marked}
-use Rattle.qm_tmesh.proofs.UseTables.{to_named}
+use Rattle.qm_tmesh.specs.{Arcs.AreArcsBelow, Four.AreAllFour, Tables.IsMarked, Uses.HasUsesBelow}
+use Rattle.qm_tmesh.proofs.{Built.have_patches, Built.is_layout, Built.to_marked, UseTables.to_named}
 use Rattle.site_laws.proofs.Laws.{graph_law}
-use Rattle.existence_laws.proofs.Arcs.{arcs_exist, node_list, uses_exist}
-use Rattle.existence_laws.proofs.Patches.{patches_exist}
+use Rattle.existence_laws.proofs.{Arcs.arcs_exist, Arcs.node_list, Arcs.uses_exist, Patches.patches_exist}
 use Rattle.existence_laws.proofs.Sides.{sides_exist}
 
 module _ (faces : Faces) (marks : List Bool) (mesh : IsMesh faces) (full : IsFullCut faces marks) where

@@ -3,19 +3,14 @@ use Rattle.std.proofs.Common.{◌⊎◌, ℕ, zero, suc, ◌+◌, ◌<◌, ◌�
 use Rattle.std.proofs.Common.{inl, inr, arith}
 use Rattle.std.proofs.lemmas.Bool.{cases_lt}
 use Rattle.def_cut.specs.Grids.{patch_at, Rectangle}
-use Rattle.def_layout.specs.Arcs.{long_at, Path}
-use Rattle.def_layout.specs.Borders.{border_dart, side_size}
-use Rattle.def_layout.specs.Layouts.{east, north, south, west, Way}
-use Rattle.def_layout.specs.Plans.{way_number}
+use Rattle.def_layout.specs.{Arcs.long_at, Arcs.Path, Borders.border_dart, Borders.side_size, Layouts.east}
+use Rattle.def_layout.specs.{Layouts.north, Layouts.south, Layouts.west, Layouts.Way, Plans.way_number}
 use Rattle.def_layout.specs.declared.tmesh.SideArc.{SideArc}
-use Rattle.def_mesh.specs.Faces.{Faces}
-use Rattle.def_mesh.specs.HalfEdges.{half_edges}
+use Rattle.def_mesh.specs.{Faces.Faces, HalfEdges.half_edges}
 use Rattle.layout_laws.specs.Named.{run_list}
 use Rattle.qm_tmesh.specs.Four.{AreAllFour, AreFour, AreRuns, HavePatches, IsPatchOf}
-use Rattle.qm_tmesh.specs.Sides.{HasUseAt, IsSideOf, IsSideSoFar, IsSplit}
-use Rattle.qm_tmesh.specs.Uses.{use_in}
-use Rattle.qm_tmesh.proofs.SideTables.{side_more}
-use Rattle.qm_tmesh.proofs.Splits.{begins, side_split}
+use Rattle.qm_tmesh.specs.{Sides.HasUseAt, Sides.IsSideOf, Sides.IsSideSoFar, Sides.IsSplit, Uses.use_in}
+use Rattle.qm_tmesh.proofs.{SideTables.side_more, Splits.begins, Splits.side_split}
 use Rattle.existence_laws.proofs.Choices.{chosen}
 
 -- A line that is split has a side.

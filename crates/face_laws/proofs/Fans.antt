@@ -5,17 +5,13 @@ use Rattle.std.proofs.lemmas.Bool.{cases_Bool, cases_order, eqb-true, eq-eqb, ne
 use Rattle.std.proofs.lemmas.Bool.{or_right, or_cases, not_from_true, not_from_false, false≢true}
 use Rattle.std.proofs.lemmas.List.FromFn.{length-range_with_len, get_or-range_with_len}
 use Rattle.std.proofs.lemmas.List.Sums.{list_all-from_AllPass, AllPass-from_list_all}
-use Rattle.def_mesh.specs.Faces.{Faces}
-use Rattle.def_mesh.specs.Darts.{darts, all_darts, from_of, to_of, next_of, prev_of, twin_of}
-use Rattle.def_mesh.specs.Vertices.{faces_at, fan_of}
-use Rattle.def_mesh.specs.Kinds.{is_end, is_inner, is_regular}
-use Rattle.def_mesh.specs.HalfEdges.{half_edges, IsQuadManifold}
-use Rattle.def_cut.specs.Cuts.{HasCross}
-use Rattle.def_cut.specs.Steps.{spin}
+use Rattle.def_mesh.specs.{Faces.Faces, Darts.darts, Darts.all_darts, Darts.from_of, Darts.to_of, Darts.next_of}
+use Rattle.def_mesh.specs.{Darts.prev_of, Darts.twin_of, Vertices.faces_at, Vertices.fan_of, Kinds.is_end}
+use Rattle.def_mesh.specs.{Kinds.is_inner, Kinds.is_regular, HalfEdges.half_edges, HalfEdges.IsQuadManifold}
+use Rattle.def_cut.specs.{Cuts.HasCross, Steps.spin}
 use Rattle.mesh_laws.proofs.Fans.{IsFan, is_fan}
-use Rattle.cut_laws.proofs.Pigeon.{no_more}
-use Rattle.cut_laws.proofs.Crosses.{IsRound, HasFan, of_four, four_cross, four_all, four_some, both_twins}
-use Rattle.cut_laws.proofs.Spins.{spin_back, spin_join}
+use Rattle.cut_laws.proofs.{Pigeon.no_more, Crosses.IsRound, Crosses.HasFan, Crosses.of_four, Crosses.four_cross}
+use Rattle.cut_laws.proofs.{Crosses.four_all, Crosses.four_some, Crosses.both_twins, Spins.spin_back, Spins.spin_join}
 
 -- The number of faces at v is the number of darts that leave it.
 pub has_fan : (faces : Faces) (v : ℕ) → HasFan (half_edges faces) v (faces_at faces v)

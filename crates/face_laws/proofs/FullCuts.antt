@@ -2,16 +2,12 @@
 use Rattle.std.proofs.Common.{◌≡◌, ◌⊎◌, ℕ, zero, suc, ◌*◌, ◌/◌, ◌<◌, ◌≤◌, Bool, true, false, List, length, Option, Some}
 use Rattle.std.proofs.Common.{None, option_map, sym, ◌∙◌, ap, subst, refl, inl, inr, true≢false, arith}
 use Rattle.std.proofs.lemmas.Bool.{cases_Bool, cases_eq, false≢true}
-use Rattle.def_mesh.specs.Faces.{Faces}
-use Rattle.def_mesh.specs.Darts.{darts, from_of, to_of, next_of, prev_of, twin_of, straight_of}
-use Rattle.def_mesh.specs.Kinds.{is_inner, is_regular}
-use Rattle.def_mesh.specs.HalfEdges.{half_edges, IsQuadManifold}
+use Rattle.def_mesh.specs.{Faces.Faces, Darts.darts, Darts.from_of, Darts.to_of, Darts.next_of, Darts.prev_of}
+use Rattle.def_mesh.specs.{Darts.twin_of, Darts.straight_of, Kinds.is_inner, Kinds.is_regular, HalfEdges.half_edges}
+use Rattle.def_mesh.specs.HalfEdges.{IsQuadManifold}
 use Rattle.def_cut.specs.Cuts.{HasCross, IsUncut, Links, IsCorner, GoesOn, IsCut}
-use Rattle.def_cut.specs.FullCut.{is_on, IsChain, IsFullCut}
-use Rattle.def_cut.specs.Steps.{spin}
-use Rattle.def_cut.specs.Laws.{FullCutLaw}
-use Rattle.mesh_laws.proofs.HalfEdges.{manifold_law}
-use Rattle.mesh_laws.proofs.Darts.{next_face}
+use Rattle.def_cut.specs.{FullCut.is_on, FullCut.IsChain, FullCut.IsFullCut, Steps.spin, Laws.FullCutLaw}
+use Rattle.mesh_laws.proofs.{HalfEdges.manifold_law, Darts.next_face}
 use Rattle.cut_laws.proofs.Classes.{AreLinked, step_over, step_spin, links_low}
 use Rattle.face_laws.proofs.Fans.{inner_from, regular_cross, cross_regular, same_face}
 

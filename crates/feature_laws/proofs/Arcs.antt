@@ -2,32 +2,24 @@
 use Rattle.std.proofs.Common.{◌≡◌, ◌⊎◌, ℕ, zero, suc, ◌<◌, Bool, true, false, ◌&&◌, List, Option, Some, None, is_some}
 use Rattle.std.proofs.Common.{sym, subst, ap, ◌∙◌, refl, inl, inr, arith}
 use Rattle.std.proofs.lemmas.Bool.{or_right, and_from, and_parts, or_left, false≢true}
+use Rattle.std.proofs.lemmas.Option.{same_Some}
 use Rattle.sum_laws.proofs.Tests.{same_test}
-use Rattle.def_mesh.specs.Faces.{Faces}
-use Rattle.def_mesh.specs.Darts.{darts, from_of, to_of, next_of, prev_of, twin_of}
-use Rattle.def_mesh.specs.Manifold.{IsManifold}
-use Rattle.def_mesh.specs.HalfEdges.{IsQuadManifold, half_edges}
-use Rattle.def_cut.specs.Cuts.{IsCross, HasCross, IsCut}
-use Rattle.def_cut.specs.FullCut.{is_on}
-use Rattle.def_cut.specs.Steps.{step_east, easts}
-use Rattle.def_layout.specs.Arcs.{IsRun}
-use Rattle.def_layout.specs.Nodes.{is_node, AreNodes}
-use Rattle.def_feature.specs.Laws.{KeepsMarks, MarkedArcLaw}
-use Rattle.def_feature.specs.Beside.{is_turn, IsCutBeside, BesideArcLaw}
-use Rattle.def_feature.specs.Marks.{AreMarks, is_break}
-use Rattle.def_feature.specs.Marked.{marked_cut}
+use Rattle.def_mesh.specs.{Faces.Faces, Darts.darts, Darts.from_of, Darts.to_of, Darts.next_of, Darts.prev_of}
+use Rattle.def_mesh.specs.{Darts.twin_of, Manifold.IsManifold, HalfEdges.IsQuadManifold, HalfEdges.half_edges}
+use Rattle.def_mesh.specs.Vertices.{fan_of}
+use Rattle.def_cut.specs.{Cuts.IsCross, Cuts.HasCross, Cuts.IsCut, FullCut.is_on, Steps.step_east, Steps.easts}
+use Rattle.def_cut.specs.Motion.{is_among}
+use Rattle.def_layout.specs.{Arcs.IsRun, Nodes.is_node, Nodes.AreNodes}
+use Rattle.def_feature.specs.{Laws.KeepsMarks, Laws.MarkedArcLaw, Beside.is_turn, Beside.IsCutBeside}
+use Rattle.def_feature.specs.{Beside.BesideArcLaw, Marks.AreMarks, Marks.is_break, Marked.marked_cut}
 use Rattle.cut_laws.proofs.Crosses.{low_a, low_b, low_c, at_a, at_c, both_twins}
 use Rattle.face_laws.proofs.FullCuts.{full_cut_law}
-use Rattle.layout_laws.proofs.FaceNodes.{are_nodes}
-use Rattle.layout_laws.proofs.Runs.{GoesStraight, run_low, run_goes, run_inner}
+use Rattle.layout_laws.proofs.{FaceNodes.are_nodes, Runs.GoesStraight, Runs.run_low, Runs.run_goes, Runs.run_inner}
 use Rattle.mesh_laws.proofs.HalfEdges.{manifold_law}
-use Rattle.std.proofs.lemmas.Option.{same_Some}
 use Rattle.feature_laws.proofs.Breaks.{in_fan, from_fan, twin_on, two_ways, break_origin, break_cross}
-use Rattle.def_mesh.specs.Vertices.{fan_of}
-use Rattle.motion_laws.proofs.Among.{any_at, any_where}
-use Rattle.def_cut.specs.Motion.{is_among}
-use Rattle.std.specs.List.{list_any}
 use Rattle.feature_laws.proofs.Laws.{marked_law, origin_cut}
+use Rattle.motion_laws.proofs.Among.{any_at, any_where}
+use Rattle.std.specs.List.{list_any}
 
 module _ (faces : Faces) (m : IsManifold faces) (marks : List Bool) (marked : AreMarks faces marks)
     (cut_marks : List Bool) (kept : IsCutBeside faces marks cut_marks) where

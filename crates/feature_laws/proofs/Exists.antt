@@ -6,26 +6,17 @@ use Rattle.std.proofs.lemmas.List.{ext_get_or, length-map, length-replicate, get
 use Rattle.std.proofs.lemmas.List.FromFn.{length-range_with_len, get_or-map-range_with_len}
 use Rattle.std.proofs.lemmas.Option.{same_Some}
 use Rattle.def_math.specs.Counts.{count_below}
-use Rattle.sum_laws.proofs.Counts.{count_below_lt}
-use Rattle.sum_laws.proofs.Tests.{same_test}
-use Rattle.def_mesh.specs.Faces.{Faces}
-use Rattle.def_mesh.specs.Darts.{all_darts, darts, twin_of}
-use Rattle.def_mesh.specs.Manifold.{IsManifold}
+use Rattle.sum_laws.proofs.{Counts.count_below_lt, Tests.same_test}
+use Rattle.def_mesh.specs.{Faces.Faces, Darts.all_darts, Darts.darts, Darts.twin_of, Manifold.IsManifold}
 use Rattle.def_mesh.specs.HalfEdges.{half_edges, IsQuadManifold}
-use Rattle.def_cut.specs.FullCut.{is_on}
-use Rattle.def_cut.specs.Trails.{IsStraight}
+use Rattle.def_cut.specs.{FullCut.is_on, Trails.IsStraight, Motion.is_among}
 use Rattle.def_runs.specs.Runs.{follower}
-use Rattle.def_feature.specs.Conforming.{IsConforming}
+use Rattle.def_feature.specs.{Conforming.IsConforming, Marked.marked_starts, Marks.AreMarks}
 use Rattle.mesh_laws.proofs.HalfEdges.{manifold_law}
 use Rattle.motion_laws.proofs.Marks.{none_on}
-use Rattle.def_cut.specs.Motion.{is_among}
-use Rattle.def_feature.specs.Marked.{marked_starts}
-use Rattle.def_feature.specs.Marks.{AreMarks}
-use Rattle.feature_laws.proofs.First.{origin_of}
-use Rattle.feature_laws.proofs.Conforming.{follows, mark_low}
-use Rattle.feature_laws.proofs.Led.{conforms}
-use Rattle.feature_laws.specs.Leads.{IsClosed, IsLedFrom, IsLeading, IsNext, AreLed, is_led_edge}
+use Rattle.feature_laws.proofs.{First.origin_of, Conforming.follows, Conforming.mark_low, Led.conforms}
 use Rattle.feature_laws.proofs.Leading.{lead_begins, lead_more, lead_ends, led_more}
+use Rattle.feature_laws.specs.Leads.{IsClosed, IsLedFrom, IsLeading, IsNext, AreLed, is_led_edge}
 
 pub one_conforming : (faces : Faces) (marks one other : List Bool) → IsConforming faces marks one
     → IsConforming faces marks other → one ≡ other

@@ -1,30 +1,24 @@
 -- The first state of the motion beside marks is one from which it comes to a full cut.
 use Rattle.std.proofs.Common.{◌≡◌, ◌⊎◌, ℕ, ◌+◌, ◌<◌, ◌≤◌, Bool, true, false, not, eqb, ◌&&◌, List, map}
 use Rattle.std.proofs.Common.{Option, Some, None, is_some, sym, subst, ap, ◌∙◌, refl, inl, inr, arith}
-use Rattle.std.specs.List.{list_any}
 use Rattle.std.proofs.lemmas.Bool.{cases_Bool, eq-eqb, eqb-true, or_left, or_right, or_cases, and_from, and_parts}
 use Rattle.std.proofs.lemmas.Bool.{not_from_false, false≢true, not-true}
-use Rattle.def_mesh.specs.Faces.{Faces}
-use Rattle.def_mesh.specs.Darts.{darts, all_darts, from_of, to_of, next_of, prev_of, twin_of}
-use Rattle.def_mesh.specs.Manifold.{IsManifold}
-use Rattle.def_mesh.specs.Kinds.{is_end, is_inner, is_singular}
-use Rattle.def_mesh.specs.Components.{seeds, is_start, start_darts}
+use Rattle.std.specs.List.{list_any}
+use Rattle.def_mesh.specs.{Faces.Faces, Darts.darts, Darts.all_darts, Darts.from_of, Darts.to_of, Darts.next_of}
+use Rattle.def_mesh.specs.{Darts.prev_of, Darts.twin_of, Manifold.IsManifold, Kinds.is_end, Kinds.is_inner}
+use Rattle.def_mesh.specs.{Kinds.is_singular, Components.seeds, Components.is_start, Components.start_darts}
 use Rattle.def_mesh.specs.HalfEdges.{IsQuadManifold, half_edges}
-use Rattle.def_cut.specs.Cuts.{IsCross, HasCross}
-use Rattle.def_cut.specs.FullCut.{is_on}
-use Rattle.def_cut.specs.Motion.{ridden, is_among, begun}
-use Rattle.def_cut.specs.Trails.{Joins, IsSource, HasSources}
-use Rattle.def_cut.specs.Traced.{terrain_of}
+use Rattle.def_cut.specs.{Cuts.IsCross, Cuts.HasCross, FullCut.is_on, Motion.ridden, Motion.is_among, Motion.begun}
+use Rattle.def_cut.specs.{Trails.Joins, Trails.IsSource, Trails.HasSources, Traced.terrain_of}
 use Rattle.def_feature.specs.Marks.{AreMarks, is_break}
 use Rattle.def_feature.specs.Marked.{is_origin, marked_starts, marked_first}
 use Rattle.cut_laws.proofs.Crosses.{low_a, low_b, at_a, at_b, both_twins}
 use Rattle.cut_laws.proofs.Darts.{turn_from, turn_low}
 use Rattle.mesh_laws.proofs.HalfEdges.{manifold_law}
-use Rattle.motion_laws.proofs.Among.{AreApart, any_at, any_where, in_filter, from_filter, apart_filter, among_range}
-use Rattle.motion_laws.proofs.Among.{range_among, range_apart}
-use Rattle.motion_laws.proofs.Bits.{rotated}
-use Rattle.motion_laws.proofs.Terrains.{IsReachedFrom, IsFirst, IsSoon, IsShut, IsCrossedAt}
-use Rattle.motion_laws.proofs.Traced.{ridden_begun}
+use Rattle.motion_laws.proofs.Among.{AreApart, any_at, any_where, in_filter, from_filter}
+use Rattle.motion_laws.proofs.Among.{apart_filter, among_range, range_among, range_apart}
+use Rattle.motion_laws.proofs.{Bits.rotated, Terrains.IsReachedFrom, Terrains.IsFirst, Terrains.IsSoon, Terrains.IsShut}
+use Rattle.motion_laws.proofs.{Terrains.IsCrossedAt, Traced.ridden_begun}
 use Rattle.site_laws.proofs.Sites.{terrain, started, all_start}
 use Rattle.site_laws.proofs.Sources.{start_in, start_of, found}
 use Rattle.feature_laws.proofs.Breaks.{begins, is_held, is_held_after, twin_on, two_ways}

@@ -3,27 +3,17 @@ use Rattle.std.proofs.Common.{◌≡◌, ℕ, suc, ◌<◌, Bool, true, false, L
 use Rattle.std.proofs.lemmas.List.{length-map}
 use Rattle.std.proofs.lemmas.List.FromFn.{length-range_with_len, get_or-map-range_with_len}
 use Rattle.std.proofs.lemmas.Bool.{or_left, false≢true}
-use Rattle.def_mesh.specs.Faces.{Faces}
-use Rattle.def_mesh.specs.Darts.{darts, all_darts}
-use Rattle.def_mesh.specs.Manifold.{IsManifold}
-use Rattle.def_mesh.specs.Vertices.{vertex_count}
+use Rattle.def_mesh.specs.{Faces.Faces, Darts.darts, Darts.all_darts, Manifold.IsManifold, Vertices.vertex_count}
 use Rattle.def_mesh.specs.HalfEdges.{half_edges}
-use Rattle.def_cut.specs.Cuts.{IsCut}
-use Rattle.def_cut.specs.FullCut.{is_on}
-use Rattle.def_cut.specs.Motion.{ridden, is_among}
-use Rattle.def_cut.specs.Traced.{terrain_of, is_cut}
-use Rattle.def_feature.specs.Laws.{KeepsMarks, MarkedLaw}
-use Rattle.def_feature.specs.Marks.{AreMarks}
-use Rattle.def_feature.specs.Marked.{is_origin, marked_first, marked_last, marked_cut}
+use Rattle.def_cut.specs.{Cuts.IsCut, FullCut.is_on, Motion.ridden, Motion.is_among, Traced.terrain_of, Traced.is_cut}
+use Rattle.def_feature.specs.{Laws.KeepsMarks, Laws.MarkedLaw, Marks.AreMarks, Marked.is_origin, Marked.marked_first}
+use Rattle.def_feature.specs.Marked.{marked_last, marked_cut}
 use Rattle.face_laws.proofs.FullCuts.{full_cut_law}
-use Rattle.mesh_laws.proofs.HalfEdges.{manifold_law}
-use Rattle.mesh_laws.proofs.Vertices.{all_below}
+use Rattle.mesh_laws.proofs.{HalfEdges.manifold_law, Vertices.all_below}
 use Rattle.motion_laws.proofs.Onward.{nobody_runs, end_reached, full_cut}
 use Rattle.motion_laws.proofs.Terrains.{IsReachedFrom, IsSoon}
-use Rattle.site_laws.proofs.Laws.{same_cut}
-use Rattle.site_laws.proofs.Sites.{terrain}
-use Rattle.feature_laws.proofs.Breaks.{begins}
-use Rattle.feature_laws.proofs.First.{origin_soon, marked_begin}
+use Rattle.site_laws.proofs.{Laws.same_cut, Sites.terrain}
+use Rattle.feature_laws.proofs.{Breaks.begins, First.origin_soon, First.marked_begin}
 
 -- A mark of the cut.
 pub mark_is : (faces : Faces) (marks : List Bool) (d : ℕ) → d < darts faces

@@ -4,8 +4,7 @@ use Rattle.std.proofs.Common.{Option, Some, None, sym, ◌∙◌, ap, subst, ref
 use Rattle.std.proofs.lemmas.Bool.{cases_eq, false≢true}
 use Rattle.std.proofs.lemmas.List.{get_or-set_same, get_or-set_other, length-set}
 use Rattle.std.proofs.lemmas.Option.{same_Some}
-use Rattle.def_mesh.specs.Faces.{Faces}
-use Rattle.def_mesh.specs.Darts.{darts}
+use Rattle.def_mesh.specs.{Faces.Faces, Darts.darts}
 use Rattle.def_cut.specs.FullCut.{is_on}
 use Rattle.def_runs.specs.Runs.{follower}
 use Rattle.feature_laws.specs.Leads.{From, IsClosed, IsClosedBut, IsLedFrom, IsLeading, IsNext, AreLed}

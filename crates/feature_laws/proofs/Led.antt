@@ -5,15 +5,11 @@ use Rattle.std.proofs.lemmas.Bool.{cases_Bool, or_left, or_right, or_cases, fals
 use Rattle.std.proofs.lemmas.List.{length-map}
 use Rattle.std.proofs.lemmas.List.FromFn.{length-range_with_len, get_or-map-range_with_len}
 use Rattle.std.proofs.lemmas.Option.{same_Some}
-use Rattle.def_mesh.specs.Faces.{Faces}
-use Rattle.def_mesh.specs.Darts.{all_darts, darts, twin_of}
-use Rattle.def_mesh.specs.HalfEdges.{half_edges}
+use Rattle.def_mesh.specs.{Faces.Faces, Darts.all_darts, Darts.darts, Darts.twin_of, HalfEdges.half_edges}
 use Rattle.def_mesh.specs.Manifold.{IsManifold}
-use Rattle.def_cut.specs.FullCut.{is_on}
-use Rattle.def_cut.specs.Motion.{is_among}
+use Rattle.def_cut.specs.{FullCut.is_on, Motion.is_among}
 use Rattle.def_feature.specs.Conforming.{is_source, Line, IsLined, IsConforming}
-use Rattle.def_feature.specs.Marked.{is_origin, marked_starts}
-use Rattle.def_feature.specs.Marks.{AreMarks}
+use Rattle.def_feature.specs.{Marked.is_origin, Marked.marked_starts, Marks.AreMarks}
 use Rattle.feature_laws.proofs.First.{origin_in, origin_of}
 use Rattle.mesh_laws.proofs.HalfEdges.{manifold_law}
 use Rattle.feature_laws.specs.Leads.{From, AreLed, is_led_edge}

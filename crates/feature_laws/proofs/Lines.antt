@@ -4,14 +4,10 @@ use Rattle.std.proofs.Common.{◌≡◌, ◌⊎◌, ℕ, zero, suc, ◌+◌, ◌
 use Rattle.std.proofs.Common.{Option, Some, None, is_some, sym, subst, ap, ◌∙◌, refl, inl, inr, arith}
 use Rattle.std.proofs.lemmas.Bool.{cases_lt, cases_eq, le-ltb, or_left, or_right, and_from, not_from_false}
 use Rattle.std.proofs.lemmas.Option.{same_Some}
-use Rattle.def_mesh.specs.Faces.{Faces}
-use Rattle.def_mesh.specs.Darts.{darts, from_of, twin_of}
-use Rattle.def_mesh.specs.Manifold.{IsManifold}
-use Rattle.def_mesh.specs.Vertices.{fan_of}
+use Rattle.def_mesh.specs.{Faces.Faces, Darts.darts, Darts.from_of, Darts.twin_of, Manifold.IsManifold, Vertices.fan_of}
 use Rattle.def_mesh.specs.HalfEdges.{half_edges}
 use Rattle.def_runs.specs.Runs.{is_passed, follower}
-use Rattle.def_cut.specs.FullCut.{is_on}
-use Rattle.def_cut.specs.Trails.{Trail}
+use Rattle.def_cut.specs.{FullCut.is_on, Trails.Trail}
 use Rattle.def_feature.specs.Marks.{AreMarks, goes_round, is_touched, is_crossed, is_least_in_ring, is_break}
 use Rattle.cut_laws.proofs.Pigeon.{comes_back}
 use Rattle.motion_laws.proofs.Among.{any_at}

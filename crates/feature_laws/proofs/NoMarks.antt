@@ -1,24 +1,19 @@
 -- Without marks the motion is that of the traced graph.
 use Rattle.std.proofs.Common.{◌≡◌, ℕ, zero, suc, ◌<◌, Bool, true, false, not, eqb, ◌&&◌, ◌||◌, List, map, replicate}
 use Rattle.std.proofs.Common.{Some, is_some, sym, subst, ap, ◌∙◌, refl, arith}
-use Rattle.std.specs.List.{filter, list_any}
 use Rattle.std.proofs.lemmas.Bool.{false≢true, false_from_ne_true, and_parts}
 use Rattle.std.proofs.lemmas.List.{length-replicate}
-use Rattle.def_mesh.specs.Faces.{Faces}
-use Rattle.def_mesh.specs.Darts.{darts, all_darts, from_of, twin_of}
-use Rattle.def_mesh.specs.Vertices.{vertex_count, fan_of}
-use Rattle.def_mesh.specs.Kinds.{is_end}
-use Rattle.def_mesh.specs.Components.{seeds, is_start, start_darts}
+use Rattle.std.specs.List.{filter, list_any}
+use Rattle.def_mesh.specs.{Faces.Faces, Darts.darts, Darts.all_darts, Darts.from_of, Darts.twin_of}
+use Rattle.def_mesh.specs.{Vertices.vertex_count, Vertices.fan_of, Kinds.is_end, Components.seeds, Components.is_start}
+use Rattle.def_mesh.specs.Components.{start_darts}
 use Rattle.def_runs.specs.Runs.{is_passed, follower}
-use Rattle.def_cut.specs.FullCut.{is_on}
-use Rattle.def_cut.specs.Motion.{State, is_among, begun, start}
-use Rattle.def_cut.specs.Traced.{AreRiders, IsGraphOf, finish, is_cut, last_state, terrain_of, traced_marks}
-use Rattle.def_cut.specs.declared.graph.Graph.{Graph}
-use Rattle.def_cut.specs.declared.moving.Moving.{Moving}
+use Rattle.def_cut.specs.{FullCut.is_on, Motion.State, Motion.is_among, Motion.begun, Motion.start, Traced.AreRiders}
+use Rattle.def_cut.specs.Traced.{IsGraphOf, finish, is_cut, last_state, terrain_of}
+use Rattle.def_cut.specs.{Traced.traced_marks, declared.graph.Graph.Graph, declared.moving.Moving.Moving}
 use Rattle.def_feature.specs.Marks.{AreMarks, is_touched, is_crossed, goes_round, is_least_in_ring, is_break}
 use Rattle.def_feature.specs.Marked.{IsMarkedGraph, is_origin, marked_starts, marked_first, marked_last, marked_cut}
-use Rattle.motion_laws.proofs.Among.{any_where}
-use Rattle.motion_laws.proofs.Marks.{none_on}
+use Rattle.motion_laws.proofs.{Among.any_where, Marks.none_on}
 use Rattle.feature_laws.proofs.Breaks.{from_fan}
 
 -- A test that nothing passes.

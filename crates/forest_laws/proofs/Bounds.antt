@@ -1,21 +1,16 @@
 -- The dual of a valid forest bounds each perfect matching.
 use Rattle.std.proofs.Common.{◌≡◌, ◌≢◌, ℕ, ◌+◌, ◌*◌, ◌<◌, ◌≤◌, Bool, true, false, not, cond, eqb, List, [], ◌∷◌, map}
-use Rattle.std.proofs.Common.{length, ℤ, pos, ◌+ℤ◌, ◌*ℤ◌, ◌≤ℤ◌, ◌⊎◌, refl, sym, ◌∙◌, ap, subst, inl, inr, arith}
 use Rattle.std.proofs.lemmas.Int.{ints}
 use Rattle.std.proofs.lemmas.Bool.{cases_eq, cases_lt, eq-eqb, ne_eqb, eqb-true}
-use Rattle.def_math.specs.Counts.{count}
-use Rattle.def_math.specs.Increasing.{IsIncreasing}
-use Rattle.def_math.specs.Sums.{total, total_below}
+use Rattle.std.proofs.Common.{length, ℤ, pos, ◌+ℤ◌, ◌*ℤ◌, ◌≤ℤ◌, ◌⊎◌, refl, sym, ◌∙◌, ap, subst, inl, inr, arith}
+use Rattle.def_math.specs.{Counts.count, Increasing.IsIncreasing, Sums.total, Sums.total_below}
 use Rattle.sum_laws.proofs.Sums.{total_below_le, two_orders}
-use Rattle.def_matching.specs.Matching.{WeightedGraph, IsGraph, edge_at, ends_at, IsPerfect, matching_cost}
-use Rattle.def_matching.specs.Dual.{crosses}
-use Rattle.def_matching.specs.declared.weighted.WEdge.{WEdge}
+use Rattle.def_matching.specs.Matching.{WeightedGraph, IsGraph, edge_at, ends_at}
+use Rattle.def_matching.specs.{Matching.IsPerfect, Matching.matching_cost, Dual.crosses, declared.weighted.WEdge.WEdge}
 use Rattle.qm_dual.proofs.Weak.{at_least_once, odd_leaves, chosen_below}
-use Rattle.def_forest.specs.Darts.{darts_of, far}
-use Rattle.def_forest.specs.Forests.{Forest, weight_between, dual_sum_of}
+use Rattle.def_forest.specs.{Darts.darts_of, Darts.far, Forests.Forest, Forests.weight_between, Forests.dual_sum_of}
 use Rattle.def_forest.specs.Valid.{IsNested, IsFeasible}
-use Rattle.forest_laws.proofs.Graphs.{are_darts, dart_near, dart_far, dart_cost}
-use Rattle.forest_laws.proofs.Odds.{odd_blossom}
+use Rattle.forest_laws.proofs.{Graphs.are_darts, Graphs.dart_near, Graphs.dart_far, Graphs.dart_cost, Odds.odd_blossom}
 
 -- A test of two numbers, in either order.
 pub eqb_order : (a b : ℕ) → eqb a b ≡ eqb b a

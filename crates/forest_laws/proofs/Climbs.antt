@@ -1,8 +1,8 @@
 -- Climbing towards the root ends: a computed number of steps falls.
 use Rattle.std.proofs.Common.{◌≡◌, ◌≢◌, ℕ, zero, suc, ◌+◌, ◌<◌, ◌≤◌, Bool, true, false, Option, Some, None, ◌⊎◌, refl}
 use Rattle.std.proofs.Common.{sym, ◌∙◌, ap, subst, inl, inr, arith}
-use Rattle.std.specs.Prelude.{nat_lt}
 use Rattle.std.proofs.lemmas.Bool.{cases_lt, lt-ltb, le-ltb}
+use Rattle.std.specs.Prelude.{nat_lt}
 use Rattle.def_math.specs.Counts.{count_below}
 use Rattle.sum_laws.proofs.Counts.{count_below_le, count_below_lt, count_below_ones}
 use Rattle.def_forest.specs.Darts.{Darts, AreDarts, far}
@@ -10,8 +10,7 @@ use Rattle.def_forest.specs.Forests.{Forest, IsOutermost, bool_number}
 use Rattle.def_forest.specs.Valid.{IsTree, IsInner, IsValid}
 use Rattle.def_forest.specs.declared.kinds.Label.TheVariants.{Outer, Inner, Outside}
 use Rattle.def_forest.specs.Ways.{dart_or, inner_of, parent_of, steps_by, steps}
-use Rattle.forest_laws.proofs.Writes.{some_is}
-use Rattle.forest_laws.proofs.Facts.{far_twin, outer_mate}
+use Rattle.forest_laws.proofs.{Writes.some_is, Facts.far_twin, Facts.outer_mate}
 
 module _ {g : Darts} (are : AreDarts g) {f : Forest} {r : ℕ} (valid : IsValid g f (Some r)) (tree : IsTree g f r) where
   module _ (a d : ℕ) (outer : f.label a ≡ Outer) (mate : f.mate a ≡ Some d) where

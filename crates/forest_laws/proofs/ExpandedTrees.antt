@@ -5,17 +5,15 @@ use Rattle.std.proofs.Math.Nat.{mul-le-mul_left}
 use Rattle.std.proofs.lemmas.Bool.{cases_eq, cases_lt, cond-true, cond-false, eq-eqb, ne_eqb}
 use Rattle.def_math.specs.Searches.{least}
 use Rattle.qm_dual.proofs.Searches.{least_some}
-use Rattle.def_forest.specs.Darts.{Darts, far}
-use Rattle.def_forest.specs.Forests.{Forest, IsTight, IsOutermost}
-use Rattle.def_forest.specs.Opened.{Opening, StaysAt}
-use Rattle.def_forest.specs.Valid.{IsMate, IsMatched, IsTree, IsInner, IsOuter, IsValid, KeepsOutside}
-use Rattle.def_forest.specs.declared.kinds.Label.TheVariants.{Outer, Inner, Outside}
+use Rattle.def_forest.specs.{Darts.Darts, Darts.far, Forests.Forest, Forests.IsTight, Forests.IsOutermost}
+use Rattle.def_forest.specs.{Opened.Opening, Opened.StaysAt, Valid.IsMate, Valid.IsMatched, Valid.IsTree, Valid.IsInner}
+use Rattle.def_forest.specs.{Valid.IsOuter, Valid.IsValid, Valid.KeepsOutside, declared.kinds.Label.TheVariants.Outer}
+use Rattle.def_forest.specs.declared.kinds.Label.TheVariants.{Inner, Outside}
 use Rattle.def_forest.specs.Ways.{dart_or}
-use Rattle.forest_laws.proofs.Writes.{some_is}
-use Rattle.forest_laws.proofs.Facts.{far_low, far_twin, tight_twin}
-use Rattle.forest_laws.proofs.WayLaws.{some_none}
-use Rattle.forest_laws.proofs.Expands.{Expansion, Place, place, halves, b_named, out_not_part, out_in, out_old}
-use Rattle.forest_laws.proofs.Expands.{other_not_b, same_tight, new_outermost, new_nested, new_feasible}
+use Rattle.forest_laws.proofs.{Writes.some_is, Facts.far_low, Facts.far_twin, Facts.tight_twin, WayLaws.some_none}
+use Rattle.forest_laws.proofs.Expands.{Expansion, Place, place, halves, b_named}
+use Rattle.forest_laws.proofs.Expands.{out_not_part, out_in, out_old, other_not_b}
+use Rattle.forest_laws.proofs.Expands.{same_tight, new_outermost, new_nested, new_feasible}
 
 module _ {g : Darts} {f : Forest} {r : ℕ} {new : Forest} {o : Opening} (opened : Expansion g f r new o) where
   open opened use {are, valid, tree, opening, is}

@@ -7,10 +7,8 @@ use Rattle.def_forest.specs.Forests.{Forest, weight_between, IsTight, IsOutermos
 use Rattle.def_forest.specs.Opened.{Opening, IsOpening, IsOpened}
 use Rattle.def_forest.specs.Valid.{AreOutermost, IsNested, IsRing, IsJoint, IsFeasible, IsTree, IsValid}
 use Rattle.def_forest.specs.declared.kinds.Label.TheVariants.{Inner, Outside}
-use Rattle.forest_laws.proofs.Writes.{true_false}
+use Rattle.forest_laws.proofs.{Writes.true_false, Facts.far_low, Shrinks.walk_same, Shrinks.ring_sum_same}
 use Rattle.forest_laws.proofs.SameLoads as loads
-use Rattle.forest_laws.proofs.Facts.{far_low}
-use Rattle.forest_laws.proofs.Shrinks.{walk_same, ring_sum_same}
 
 -- A number is even or odd.
 pub halves : (j : ℕ) → ((i : ℕ) × (j ≡ 2 * i)) ⊎ ((i : ℕ) × (j ≡ 2 * i + 1))

@@ -4,8 +4,7 @@ use Rattle.def_forest.specs.Darts.{Darts, AreDarts, far}
 use Rattle.def_forest.specs.Forests.{Forest, weight_between, IsTight}
 use Rattle.def_forest.specs.Valid.{IsValid, IsTree, IsInner, IsOuter}
 use Rattle.def_forest.specs.declared.kinds.Label.TheVariants.{Outer, Inner, Outside}
-use Rattle.forest_laws.proofs.Writes.{some_is}
-use Rattle.forest_laws.proofs.Loads.{load_order}
+use Rattle.forest_laws.proofs.{Writes.some_is, Loads.load_order}
 
 -- Where a dart ends there is a vertex.
 pub far_low : (g : Darts) → AreDarts g → (d : ℕ) → d < g.count → far g d < g.n

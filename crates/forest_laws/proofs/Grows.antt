@@ -2,14 +2,12 @@
 use Rattle.std.proofs.Common.{◌≡◌, ◌≢◌, ℕ, suc, ◌<◌, Option, Some, None, ◌⊎◌, refl, sym, ◌∙◌, ap, subst, inl, inr}
 use Rattle.std.proofs.Common.{arith}
 use Rattle.std.proofs.lemmas.Bool.{cases_eq}
-use Rattle.def_forest.specs.Darts.{Darts, AreDarts, far}
-use Rattle.def_forest.specs.Forests.{Forest, IsTight, IsOutermost, set_at}
-use Rattle.def_forest.specs.Steps.{rooted, grown}
-use Rattle.def_forest.specs.Ways.{Reaches}
-use Rattle.def_forest.specs.Valid.{AreOutermost, IsNested, IsRing, IsJoint, IsFeasible, IsMatched, IsMate, IsTree}
-use Rattle.def_forest.specs.Valid.{IsInner, IsOuter, IsValid, KeepsOutside}
-use Rattle.def_forest.specs.declared.kinds.Label.{Label}
-use Rattle.def_forest.specs.declared.kinds.Label.TheVariants.{Outer, Inner, Outside}
+use Rattle.def_forest.specs.{Darts.Darts, Darts.AreDarts, Darts.far, Forests.Forest, Forests.IsTight}
+use Rattle.def_forest.specs.{Forests.IsOutermost, Forests.set_at, Steps.rooted, Steps.grown, Ways.Reaches}
+use Rattle.def_forest.specs.Valid.{AreOutermost, IsNested, IsRing, IsJoint, IsFeasible}
+use Rattle.def_forest.specs.Valid.{IsMatched, IsMate, IsTree, IsInner, IsOuter, IsValid}
+use Rattle.def_forest.specs.{Valid.KeepsOutside, declared.kinds.Label.Label, declared.kinds.Label.TheVariants.Outer}
+use Rattle.def_forest.specs.declared.kinds.Label.TheVariants.{Inner, Outside}
 use Rattle.forest_laws.proofs.Writes.{some_is, set_here, set_there}
 use Rattle.forest_laws.proofs.Facts.{far_low, far_twin, tight_twin}
 

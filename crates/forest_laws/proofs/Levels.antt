@@ -1,17 +1,15 @@
 -- Climbing the tree one blossom at a time: each step brings one a level nearer to the root.
 use Rattle.std.proofs.Common.{◌≡◌, ◌≢◌, ℕ, zero, suc, ◌+◌, ◌-◌, ◌*◌, ◌<◌, ◌≤◌, Option, Some, None, ◌⊎◌, refl, sym, ◌∙◌}
 use Rattle.std.proofs.Common.{ap, subst, inl, inr, arith}
-use Rattle.def_forest.specs.Darts.{Darts, AreDarts, far}
-use Rattle.def_forest.specs.Forests.{Forest, IsTight}
-use Rattle.def_forest.specs.Valid.{IsValid, IsTree, IsInner, IsOuter, IsMate}
-use Rattle.def_forest.specs.Ways.{dart_or, inner_of, parent_of, steps_by, steps}
-use Rattle.def_forest.specs.declared.kinds.Label.{Label}
-use Rattle.def_forest.specs.declared.kinds.Label.TheVariants.{Outer, Inner, Outside}
+use Rattle.def_forest.specs.{Darts.Darts, Darts.AreDarts, Darts.far, Forests.Forest, Forests.IsTight, Valid.IsValid}
+use Rattle.def_forest.specs.{Valid.IsTree, Valid.IsInner, Valid.IsOuter, Valid.IsMate, Ways.dart_or, Ways.inner_of}
+use Rattle.def_forest.specs.{Ways.parent_of, Ways.steps_by, Ways.steps, declared.kinds.Label.Label}
+use Rattle.def_forest.specs.declared.kinds.Label.TheVariants.{Outer, Inner}
+use Rattle.def_forest.specs.declared.kinds.Label.TheVariants.{Outside}
 use Rattle.forest_laws.specs.Climbing.{rise_by, rise_of, above_of, level_by, level_of, way_of}
-use Rattle.forest_laws.proofs.Writes.{some_is, inner_named, outer_named}
-use Rattle.forest_laws.proofs.Facts.{far_twin}
-use Rattle.forest_laws.proofs.WayLaws.{some_none}
-use Rattle.forest_laws.proofs.Climbs.{fewer_steps, inner_is, inner_label, inner_back, inner_depth, steps_low}
+use Rattle.forest_laws.proofs.{Writes.some_is, Writes.inner_named, Writes.outer_named, Facts.far_twin}
+use Rattle.forest_laws.proofs.{WayLaws.some_none, Climbs.fewer_steps, Climbs.inner_is, Climbs.inner_label}
+use Rattle.forest_laws.proofs.Climbs.{inner_back, inner_depth, steps_low}
 
 -- A blossom of the tree is outer or inner.
 pub tree_cases : (l : Label) → l ≢ Outside → (l ≡ Outer) ⊎ (l ≡ Inner)

@@ -6,9 +6,7 @@ use Rattle.std.proofs.lemmas.Bool.{cond-true, cond-false, eq-eqb, ne_eqb, eqb-tr
 use Rattle.def_math.specs.Sums.{total_below}
 use Rattle.sum_laws.proofs.Sums.{total_below_same, total_below_sum, total_below_none, total_below_one}
 use Rattle.def_forest.specs.Forests.{Forest, weight_between, splits, IsOutermost}
-use Rattle.def_forest.specs.Steps.{weight_change, shifted}
-use Rattle.def_forest.specs.Valid.{AreOutermost}
-use Rattle.def_forest.specs.declared.kinds.Label.{Label}
+use Rattle.def_forest.specs.{Steps.weight_change, Steps.shifted, Valid.AreOutermost, declared.kinds.Label.Label}
 use Rattle.def_forest.specs.declared.kinds.Label.TheVariants.{Outside}
 use Rattle.forest_laws.proofs.Writes.{label_cases, by_two, by_same, by_none, by_sum, by_order}
 

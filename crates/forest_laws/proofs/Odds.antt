@@ -3,9 +3,8 @@ use Rattle.std.proofs.Common.{◌≡◌, ◌≢◌, ℕ, zero, suc, ◌%◌, ◌
 use Rattle.std.proofs.lemmas.Bool.{cases_lt, eq-eqb, ne_eqb}
 use Rattle.def_math.specs.Counts.{count_below}
 use Rattle.sum_laws.proofs.Counts.{count_below_same, count_below_sum, count_below_none, count_below_one}
-use Rattle.def_forest.specs.Darts.{Darts, AreDarts}
-use Rattle.def_forest.specs.Forests.{Forest, bool_number, walk, ring_sum, blossom_size}
-use Rattle.def_forest.specs.Valid.{IsNested, IsRing, IsJoint}
+use Rattle.def_forest.specs.{Darts.Darts, Darts.AreDarts, Forests.Forest, Forests.bool_number, Forests.walk}
+use Rattle.def_forest.specs.{Forests.ring_sum, Forests.blossom_size, Valid.IsNested, Valid.IsRing, Valid.IsJoint}
 use Rattle.forest_laws.proofs.Writes.{true_false}
 
 -- A count of sums along a ring.

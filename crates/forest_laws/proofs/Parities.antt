@@ -10,11 +10,8 @@ use Rattle.def_forest.specs.Forests.{Forest, weight_between, splits, IsTight, Is
 use Rattle.def_forest.specs.Tables.{slack_of}
 use Rattle.def_forest.specs.Valid.{IsNested, IsRing, IsJoint, IsMate, IsInner, IsOuter, IsTree, IsValid}
 use Rattle.def_forest.specs.declared.kinds.Label.TheVariants.{Outer}
-use Rattle.forest_laws.proofs.Expands.{number_true}
-use Rattle.forest_laws.proofs.Facts.{far_low, far_twin, tree_of}
-use Rattle.forest_laws.proofs.Graphs.{are_darts}
-use Rattle.forest_laws.proofs.Loads.{potential}
-use Rattle.forest_laws.proofs.Writes.{outer_named, some_is, true_false}
+use Rattle.forest_laws.proofs.{Expands.number_true, Facts.far_low, Facts.far_twin, Facts.tree_of, Graphs.are_darts}
+use Rattle.forest_laws.proofs.{Loads.potential, Writes.outer_named, Writes.some_is, Writes.true_false}
 
 -- Two numbers have one parity.
 pub record AreAlike (a b : ℤ) : Type 0 where

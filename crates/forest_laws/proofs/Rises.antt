@@ -6,16 +6,12 @@ use Rattle.std.proofs.lemmas.Bool.{cond-true, cond-false, eq-eqb, ne_eqb}
 use Rattle.def_math.specs.Sums.{total_below}
 use Rattle.sum_laws.proofs.Sums.{total_below_same, total_below_sum, total_below_minus, total_below_none}
 use Rattle.sum_laws.proofs.Sums.{total_below_one}
-use Rattle.def_forest.specs.Darts.{Darts, AreDarts, far}
-use Rattle.def_forest.specs.Forests.{Forest, IsOutermost, dual_sum_of}
-use Rattle.def_forest.specs.Steps.{weight_change, shifted}
-use Rattle.def_forest.specs.Valid.{IsMate, IsTree, IsInner, IsOuter, IsValid}
-use Rattle.def_forest.specs.declared.kinds.Label.{Label}
-use Rattle.def_forest.specs.declared.kinds.Label.TheVariants.{Outer, Inner, Outside}
-use Rattle.def_forest.specs.Ways.{inner_of, dart_or}
-use Rattle.forest_laws.proofs.Writes.{some_is}
-use Rattle.forest_laws.proofs.Facts.{far_twin}
-use Rattle.forest_laws.proofs.WayLaws.{some_none}
+use Rattle.def_forest.specs.{Darts.Darts, Darts.AreDarts, Darts.far, Forests.Forest, Forests.IsOutermost}
+use Rattle.def_forest.specs.{Forests.dual_sum_of, Steps.weight_change, Steps.shifted, Valid.IsMate, Valid.IsTree}
+use Rattle.def_forest.specs.{Valid.IsInner, Valid.IsOuter, Valid.IsValid, declared.kinds.Label.Label}
+use Rattle.def_forest.specs.declared.kinds.Label.TheVariants.{Outer, Inner}
+use Rattle.def_forest.specs.{declared.kinds.Label.TheVariants.Outside, Ways.inner_of, Ways.dart_or}
+use Rattle.forest_laws.proofs.{Writes.some_is, Facts.far_twin, WayLaws.some_none}
 
 -- The order of two sums does not matter.
 pub sums_exchanged : (f : ℕ → ℕ → ℤ) (m n : ℕ) → total_below (λ i. total_below (f i) m) n

@@ -1,16 +1,15 @@
 -- There are fewer than half as many sets as vertices: each set has three parts at least.
 use Rattle.std.proofs.Common.{◌≡◌, ◌≢◌, ℕ, zero, suc, ◌+◌, ◌*◌, ◌<◌, ◌≤◌, Bool, true, false, cond, eqb, ◌⊎◌, refl, sym}
 use Rattle.std.proofs.Common.{◌∙◌, ap, subst, inl, inr, arith}
-use Rattle.std.specs.Prelude.{nat_lt}
 use Rattle.std.proofs.lemmas.Bool.{cases_eq, cases_lt, cond-true, cond-false, eq-eqb, ne_eqb, lt-ltb, le-ltb}
+use Rattle.std.specs.Prelude.{nat_lt}
 use Rattle.def_math.specs.Counts.{count_below}
 use Rattle.sum_laws.proofs.Counts.{count_below_same, count_below_le, count_below_sum, count_below_none, count_below_one}
 use Rattle.sum_laws.proofs.Counts.{count_below_ones, count_below_times}
 use Rattle.def_forest.specs.Darts.{Darts, AreDarts}
 use Rattle.def_forest.specs.Forests.{Forest, live_at, bool_number, sets_of, walk}
 use Rattle.def_forest.specs.Valid.{AreOutermost, IsNested, IsRing, IsJoint}
-use Rattle.forest_laws.proofs.Odds.{IsBlossom}
-use Rattle.forest_laws.proofs.Writes.{true_false}
+use Rattle.forest_laws.proofs.{Odds.IsBlossom, Writes.true_false}
 
 -- The order of two counts does not matter.
 counts_swapped : (f : ℕ → ℕ → ℕ) (m n : ℕ) → count_below (λ i. count_below (f i) m) n

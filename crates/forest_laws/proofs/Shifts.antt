@@ -3,14 +3,12 @@ use Rattle.std.proofs.Common.{true, ◌≤◌, ◌≡◌, ◌≢◌, ℕ, Option
 use Rattle.std.proofs.Common.{inl, inr, arith}
 use Rattle.std.proofs.lemmas.Int.{ints}
 use Rattle.std.proofs.lemmas.Bool.{cases_eq, eq-eqb}
-use Rattle.def_forest.specs.Darts.{Darts, AreDarts, far}
-use Rattle.def_forest.specs.Forests.{Forest, weight_between, IsTight, IsOutermost}
-use Rattle.def_forest.specs.Steps.{weight_change, shifted}
-use Rattle.def_forest.specs.Valid.{IsNested, IsRing, IsJoint, IsFeasible, IsMate, IsTree, IsInner, IsValid}
-use Rattle.def_forest.specs.declared.kinds.Label.{Label}
-use Rattle.def_forest.specs.declared.kinds.Label.TheVariants.{Outer, Inner, Outside}
-use Rattle.forest_laws.proofs.Loads.{load_apart, load_within}
-use Rattle.forest_laws.proofs.Writes.{label_cases, true_false}
+use Rattle.def_forest.specs.{Darts.Darts, Darts.AreDarts, Darts.far, Forests.Forest, Forests.weight_between}
+use Rattle.def_forest.specs.{Forests.IsTight, Forests.IsOutermost, Steps.weight_change, Steps.shifted, Valid.IsNested}
+use Rattle.def_forest.specs.Valid.{IsRing, IsJoint, IsFeasible, IsMate, IsTree, IsInner}
+use Rattle.def_forest.specs.{Valid.IsValid, declared.kinds.Label.Label, declared.kinds.Label.TheVariants.Outer}
+use Rattle.def_forest.specs.declared.kinds.Label.TheVariants.{Inner, Outside}
+use Rattle.forest_laws.proofs.{Loads.load_apart, Loads.load_within, Writes.label_cases, Writes.true_false}
 use Rattle.forest_laws.proofs.Facts.{far_low, inner_mate, outer_mate}
 
 module _ {g : Darts} (are : AreDarts g) {f : Forest} {root : Option ℕ} (valid : IsValid g f root) (t : ℤ) where

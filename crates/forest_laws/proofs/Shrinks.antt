@@ -8,10 +8,9 @@ use Rattle.def_forest.specs.Shrunk.{IsUnused, IsCycle, IsClosedRow, IsShrunk}
 use Rattle.def_forest.specs.Valid.{AreOutermost, IsNested, IsRing, IsJoint, IsFeasible, IsMate, IsMatched, IsTree}
 use Rattle.def_forest.specs.Valid.{IsValid}
 use Rattle.def_forest.specs.declared.kinds.Label.TheVariants.{Outer, Outside}
-use Rattle.forest_laws.proofs.Writes.{set_here, set_there, true_false}
-use Rattle.forest_laws.proofs.SameLoads as loads
-use Rattle.forest_laws.proofs.Facts.{far_low, far_twin}
+use Rattle.forest_laws.proofs.{Writes.set_here, Writes.set_there, Writes.true_false, Facts.far_low, Facts.far_twin}
 use Rattle.forest_laws.proofs.WayLaws.{some_none}
+use Rattle.forest_laws.proofs.SameLoads as loads
 
 -- Walks and sums along a ring that two tables have in common.
 pub walk_same : (f h : ℕ → ℕ) (a : ℕ) → ((k : ℕ) → f (walk f a k) ≡ h (walk f a k)) → (k : ℕ) → walk h a k ≡ walk f a k

@@ -2,22 +2,20 @@
 use Rattle.std.proofs.Common.{◌≡◌, ◌≢◌, ℕ, ◌<◌, ◌≤◌, Bool, true, false, cond, Some, None, ◌⊎◌, sym, ◌∙◌, ap, subst, inl}
 use Rattle.std.proofs.Common.{inr, arith}
 use Rattle.std.proofs.lemmas.Bool.{cases_Bool, cond-true, cond-false}
-use Rattle.def_forest.specs.Darts.{Darts, AreDarts, far}
-use Rattle.def_forest.specs.Forests.{Forest, IsTight, set_at}
-use Rattle.def_forest.specs.Shrunk.{IsUnused, IsCycle, IsClosedRow, IsShrunk}
-use Rattle.def_forest.specs.Valid.{AreOutermost, IsNested, IsFeasible, IsMatched, IsTree, IsInner, IsOuter, IsValid}
-use Rattle.def_forest.specs.Valid.{KeepsOutside}
-use Rattle.def_forest.specs.declared.kinds.Label.TheVariants.{Outer, Inner, Outside}
-use Rattle.forest_laws.proofs.Writes.{some_is, set_here, set_there}
-use Rattle.forest_laws.proofs.Facts.{far_low}
-use Rattle.forest_laws.proofs.WayLaws.{some_none}
-use Rattle.forest_laws.proofs.Shrinks.{Place as the_Place, place as the_place, out_on as the_out_on}
-use Rattle.forest_laws.proofs.Shrinks.{out_off as the_out_off, label_b as the_label_b, label_on as the_label_on}
-use Rattle.forest_laws.proofs.Shrinks.{label_off as the_label_off, mate_b as the_mate_b, mate_on as the_mate_on}
-use Rattle.forest_laws.proofs.Shrinks.{mate_off as the_mate_off, same_tight as the_same_tight}
-use Rattle.forest_laws.proofs.Shrinks.{new_outermost as the_new_outermost, new_nested as the_new_nested}
-use Rattle.forest_laws.proofs.Shrinks.{new_feasible as the_new_feasible, only_top as the_only_top}
-use Rattle.forest_laws.proofs.Shrinks.{new_matched as the_new_matched}
+use Rattle.def_forest.specs.{Darts.Darts, Darts.AreDarts, Darts.far, Forests.Forest, Forests.IsTight, Forests.set_at}
+use Rattle.def_forest.specs.{Shrunk.IsUnused, Shrunk.IsCycle, Shrunk.IsClosedRow, Shrunk.IsShrunk, Valid.AreOutermost}
+use Rattle.def_forest.specs.Valid.{IsNested, IsFeasible, IsMatched, IsTree, IsInner}
+use Rattle.def_forest.specs.{Valid.IsOuter, Valid.IsValid, Valid.KeepsOutside, declared.kinds.Label.TheVariants.Outer}
+use Rattle.def_forest.specs.declared.kinds.Label.TheVariants.{Inner, Outside}
+use Rattle.forest_laws.proofs.{Writes.some_is, Writes.set_here, Writes.set_there, Facts.far_low, WayLaws.some_none}
+use Rattle.forest_laws.proofs.{Shrinks.Place as the_Place, Shrinks.place as the_place, Shrinks.out_on as the_out_on}
+use Rattle.forest_laws.proofs.{Shrinks.out_off as the_out_off, Shrinks.label_b as the_label_b}
+use Rattle.forest_laws.proofs.{Shrinks.label_on as the_label_on, Shrinks.label_off as the_label_off}
+use Rattle.forest_laws.proofs.{Shrinks.mate_b as the_mate_b, Shrinks.mate_on as the_mate_on}
+use Rattle.forest_laws.proofs.{Shrinks.mate_off as the_mate_off, Shrinks.same_tight as the_same_tight}
+use Rattle.forest_laws.proofs.{Shrinks.new_outermost as the_new_outermost, Shrinks.new_nested as the_new_nested}
+use Rattle.forest_laws.proofs.{Shrinks.new_feasible as the_new_feasible, Shrinks.only_top as the_only_top}
+use Rattle.forest_laws.proofs.{Shrinks.new_matched as the_new_matched}
 
 module _ {g : Darts} (are : AreDarts g) {f : Forest} {r : ℕ} (valid : IsValid g f (Some r)) (tree : IsTree g f r)
     {new : Forest} {inside : ℕ → Bool} {top b front many : ℕ} (cycle : IsCycle g f r tree.depth inside top)

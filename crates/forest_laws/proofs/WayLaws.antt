@@ -2,15 +2,12 @@
 use Rattle.std.proofs.Common.{◌≡◌, ◌≢◌, ℕ, ◌<◌, ◌≤◌, Option, Some, None, ◌⊎◌, refl, sym, ◌∙◌, ap, subst, inl, inr}
 use Rattle.std.proofs.Common.{arith}
 use Rattle.std.proofs.lemmas.Bool.{cases_eq}
-use Rattle.def_forest.specs.Darts.{Darts, AreDarts, far}
-use Rattle.def_forest.specs.Forests.{Forest, set_at}
-use Rattle.def_forest.specs.Steps.{with_mates, IsAugmented}
-use Rattle.def_forest.specs.Valid.{IsMate, IsTree, IsInner, IsOuter, IsValid}
-use Rattle.def_forest.specs.declared.kinds.Label.TheVariants.{Outer, Inner, Outside}
-use Rattle.def_forest.specs.Ways.{Reaches, IsHalf, IsAlmost}
-use Rattle.forest_laws.proofs.Writes.{some_is, set_here, set_there}
-use Rattle.forest_laws.proofs.Facts.{far_twin, tight_twin, outer_mate}
-use Rattle.forest_laws.proofs.Grows.{same_outermost, same_nested, same_feasible}
+use Rattle.def_forest.specs.{Darts.Darts, Darts.AreDarts, Darts.far, Forests.Forest, Forests.set_at, Steps.with_mates}
+use Rattle.def_forest.specs.{Steps.IsAugmented, Valid.IsMate, Valid.IsTree, Valid.IsInner, Valid.IsOuter, Valid.IsValid}
+use Rattle.def_forest.specs.declared.kinds.Label.TheVariants.{Outer, Inner}
+use Rattle.def_forest.specs.{declared.kinds.Label.TheVariants.Outside, Ways.Reaches, Ways.IsHalf, Ways.IsAlmost}
+use Rattle.forest_laws.proofs.{Writes.some_is, Writes.set_here, Writes.set_there, Facts.far_twin, Facts.tight_twin}
+use Rattle.forest_laws.proofs.{Facts.outer_mate, Grows.same_outermost, Grows.same_nested, Grows.same_feasible}
 
 -- An option with something in it is not empty.
 pub some_none : (o : Option ℕ) (d : ℕ) → o ≡ Some d → o ≢ None

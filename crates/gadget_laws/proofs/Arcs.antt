@@ -7,27 +7,20 @@ use Rattle.std.proofs.lemmas.Int.{ints}
 use Rattle.std.proofs.lemmas.Bool.{cases_lt}
 use Rattle.std.proofs.lemmas.List.{length-take-le, length-drop}
 use Rattle.def_flow.specs.Network.{EndsBelow, Network, IsWithinBounds, arc_at}
-use Rattle.def_flow.specs.Admissible.{IsAdmissible, IsBalanced, arc_deviation, deviation, entries}
+use Rattle.def_flow.specs.Admissible.{IsAdmissible, IsBalanced, arc_deviation}
+use Rattle.def_flow.specs.{Admissible.deviation, Admissible.entries, Units.arcwise, Units.down, Units.low, Units.cap}
+use Rattle.def_flow.specs.Units.{units_from, units, states_at, active, rim_active}
+use Rattle.def_flow.specs.{Units.cost_on, MatchingGraph.matching_graph, declared.net.Arc.Arc, declared.net.End.End}
+use Rattle.def_flow.specs.{declared.units.ArcUnit.ArcUnit, Nearby.IsPart, Gadget.IsInBox, Gadget.lows, Gadget.caps}
 use Rattle.def_matching.specs.Matching.{IsPerfect, matching_cost}
-use Rattle.def_flow.specs.Units.{arcwise, down, low, cap, units_from, units, states_at, active, rim_active, cost_on}
-use Rattle.def_flow.specs.MatchingGraph.{matching_graph}
-use Rattle.def_flow.specs.declared.net.Arc.{Arc}
-use Rattle.def_flow.specs.declared.net.End.{End}
-use Rattle.def_flow.specs.declared.units.ArcUnit.{ArcUnit}
-use Rattle.def_flow.specs.Nearby.{IsPart}
 use Rattle.network_laws.proofs.Lift.{arc_convex}
-use Rattle.gadget_laws.specs.Marks.{trues}
-use Rattle.def_flow.specs.Gadget.{IsInBox, lows, caps}
-use Rattle.gadget_laws.specs.Box.{IsRaised}
-use Rattle.gadget_laws.specs.Told.{marks_from, states_told, steps_told, lengths_on, lengths_told}
-use Rattle.gadget_laws.proofs.Unit.{ends_active}
-use Rattle.gadget_laws.proofs.Units.{UnitsAt}
-use Rattle.gadget_laws.proofs.Box.{own_box, arcwise_length, box_length, arc_active, weighted_ends, units_length}
-use Rattle.gadget_laws.proofs.Box.{box_active, box_ends}
-use Rattle.gadget_laws.proofs.Box.{side_list, balanced_list, deviations, deviation_list}
-use Rattle.gadget_laws.proofs.Law.{arcs_at, units_at}
-use Rattle.gadget_laws.proofs.Steps.{raised_in_box}
-use Rattle.gadget_laws.proofs.Reading.{told_length, told_fills, told_cost}
+use Rattle.gadget_laws.specs.{Marks.trues, Box.IsRaised, Told.marks_from, Told.states_told, Told.steps_told}
+use Rattle.gadget_laws.specs.Told.{lengths_on, lengths_told}
+use Rattle.gadget_laws.proofs.{Unit.ends_active, Units.UnitsAt, Box.own_box, Box.arcwise_length, Box.box_length}
+use Rattle.gadget_laws.proofs.Box.{arc_active, weighted_ends, units_length, box_active, box_ends}
+use Rattle.gadget_laws.proofs.{Box.side_list, Box.balanced_list, Box.deviations, Box.deviation_list, Law.arcs_at}
+use Rattle.gadget_laws.proofs.{Law.units_at, Steps.raised_in_box, Reading.told_length, Reading.told_fills}
+use Rattle.gadget_laws.proofs.Reading.{told_cost}
 
 -- The active ends of an arc with any states of its units.
 any_active : (net : Network) (step v : ℕ) (a : Arc) (x k n : ℕ) (os : List Bool) → length os ≡ n

@@ -5,15 +5,13 @@ use Rattle.std.proofs.Common.{mul_assoc, div-mul-le_self, mul-le-mul_right, zero
 use Rattle.std.proofs.Common.{arith}
 use Rattle.std.proofs.lemmas.Int.{ints}
 use Rattle.std.proofs.Math.Nat.{mul-div_cancel_left}
-use Rattle.def_math.specs.Sums.{total}
-use Rattle.def_math.specs.Counts.{count, count_below}
+use Rattle.def_math.specs.{Sums.total, Counts.count, Counts.count_below}
 use Rattle.qm_dual.proofs.Entries.{total_below_prefix}
 use Rattle.sum_laws.proofs.Counts.{count_below_prefix}
-use Rattle.def_flow.specs.Network.{Network, ends, arc_at}
-use Rattle.def_flow.specs.Admissible.{IsBalanced, is_on_side, side_sum, arc_deviation, entries}
-use Rattle.def_flow.specs.Units.{arcwise, down, low, cap, units_from, units, run, states, is_active, active, cost_on}
-use Rattle.def_flow.specs.declared.net.Arc.{Arc}
-use Rattle.def_flow.specs.declared.net.End.{End}
+use Rattle.def_flow.specs.{Network.Network, Network.ends, Network.arc_at, Admissible.IsBalanced, Admissible.is_on_side}
+use Rattle.def_flow.specs.{Admissible.side_sum, Admissible.arc_deviation, Admissible.entries, Units.arcwise, Units.down}
+use Rattle.def_flow.specs.Units.{low, cap, units_from, units, run, states}
+use Rattle.def_flow.specs.{Units.is_active, Units.active, Units.cost_on, declared.net.Arc.Arc, declared.net.End.End}
 use Rattle.def_flow.specs.declared.units.ArcUnit.{ArcUnit}
 use Rattle.gadget_laws.specs.Box.{IsRaised}
 

@@ -1,23 +1,18 @@
 -- No edge of a matching graph is dear.
-use Rattle.std.proofs.Common.{◌≡◌, ℕ, zero, suc, ◌+◌, ◌*◌, ◌<◌, ◌≤◌, Bool, true, false, cond, ◌&&◌, nat_le, IsTrue}
-use Rattle.std.proofs.Common.{List, [], ◌∷◌, ◌++◌, length, Option, Some, None, ℤ, pos, ◌-ℤ◌, ◌*ℤ◌, mul-add, add-mul, ap}
-use Rattle.std.proofs.Common.{leb-true, arith}
-use Rattle.std.specs.Prelude.{slice_index_or, unsigned_abs}
-use Rattle.std.specs.List.{list_all}
-use Rattle.std.proofs.Math.Nat.{mul-le-mul_left, mul-le-mul}
-use Rattle.std.proofs.lemmas.Int.{ints}
+use Rattle.std.proofs.Common.{◌≡◌, ℕ, zero, suc, ◌+◌, ◌*◌, ◌<◌, ◌≤◌}
+use Rattle.std.proofs.Common.{Bool, true, false, cond, ◌&&◌, nat_le, IsTrue}
+use Rattle.std.proofs.{Common.leb-true, Common.arith, Math.Nat.mul-le-mul_left, Math.Nat.mul-le-mul, lemmas.Int.ints}
 use Rattle.std.proofs.lemmas.Bool.{and_parts}
+use Rattle.std.proofs.Common.{List, [], ◌∷◌, ◌++◌, length, Option, Some, None, ℤ, pos, ◌-ℤ◌, ◌*ℤ◌, mul-add, add-mul, ap}
+use Rattle.std.specs.{Prelude.slice_index_or, Prelude.unsigned_abs, List.list_all}
 use Rattle.def_math.specs.Counts.{count_below}
-use Rattle.def_matching.specs.Matching.{edge_at}
-use Rattle.def_matching.specs.declared.weighted.WEdge.{WEdge}
-use Rattle.def_flow.specs.Network.{Network, IsWithinBounds, is_bounded}
-use Rattle.def_flow.specs.Admissible.{arc_deviation}
+use Rattle.def_matching.specs.{Matching.edge_at, declared.weighted.WEdge.WEdge}
+use Rattle.def_flow.specs.{Network.Network, Network.IsWithinBounds, Network.is_bounded, Admissible.arc_deviation}
 use Rattle.def_flow.specs.Units.{low, cap, units_from, units, states_at, active}
-use Rattle.def_flow.specs.MatchingGraph.{fan, to_copies, inner_link, are_alike, links_by, unit_size, units_links, rim}
-use Rattle.def_flow.specs.MatchingGraph.{matching_graph}
-use Rattle.def_flow.specs.declared.net.Arc.{Arc}
-use Rattle.def_flow.specs.declared.net.End.{End}
-use Rattle.def_flow.specs.declared.units.ArcUnit.{ArcUnit}
+use Rattle.def_flow.specs.MatchingGraph.{fan, to_copies, inner_link}
+use Rattle.def_flow.specs.MatchingGraph.{are_alike, links_by, unit_size}
+use Rattle.def_flow.specs.MatchingGraph.{units_links, rim, matching_graph}
+use Rattle.def_flow.specs.{declared.net.Arc.Arc, declared.net.End.End, declared.units.ArcUnit.ArcUnit}
 use Rattle.gadget_laws.proofs.Chain.{AreFree, rim_free}
 
 -- Edges, and units, that cost no more than c, up or down.

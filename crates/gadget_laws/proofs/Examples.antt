@@ -3,8 +3,7 @@ use Rattle.std.proofs.Common.{◌≡◌, [], ◌∷◌, negsuc, refl}
 use Rattle.def_matching.specs.Matching.{matching_cost}
 use Rattle.def_flow.specs.MatchingGraph.{matching_graph}
 use Rattle.def_flow.proofs.NetworkExamples.{five_shapes}
-use Rattle.gadget_laws.specs.Box.{matching_told}
-use Rattle.gadget_laws.specs.Told.{lengths_told}
+use Rattle.gadget_laws.specs.{Box.matching_told, Told.lengths_told}
 
 -- Arcs of all shapes, with the lone vertex. The matching tells the list [4, 2, 2, 5, 2, 1, 1], 20 away where the lows
 -- are 39.

@@ -1,18 +1,15 @@
 -- What the marks of a unit's edges tell, where each of its own vertices has one mate.
 use Rattle.std.proofs.Common.{◌≡◌, ℕ, ◌+◌, ◌<◌, ◌≤◌, Bool, true, false, cond, not, nat_lt, List, [], ◌∷◌, ◌++◌, length}
-use Rattle.std.proofs.Common.{take, drop, Option, Some, None, ℤ, pos, ◌+ℤ◌, ◌*ℤ◌, ap, length-append, arith}
 use Rattle.std.proofs.lemmas.Int.{ints}
 use Rattle.std.proofs.lemmas.Bool.{cases_lt}
+use Rattle.std.proofs.Common.{take, drop, Option, Some, None, ℤ, pos, ◌+ℤ◌, ◌*ℤ◌, ap, length-append, arith}
 use Rattle.def_math.specs.Counts.{count_below}
-use Rattle.def_flow.specs.Units.{is_active}
-use Rattle.def_flow.specs.MatchingGraph.{link, to_copies, inner_link, are_alike, links_by}
-use Rattle.def_flow.specs.declared.net.End.{End}
+use Rattle.def_flow.specs.{Units.is_active, MatchingGraph.link, MatchingGraph.to_copies, MatchingGraph.inner_link}
+use Rattle.def_flow.specs.{MatchingGraph.are_alike, MatchingGraph.links_by, declared.net.End.End}
 use Rattle.def_matching.specs.declared.weighted.WEdge.{WEdge}
-use Rattle.gadget_laws.specs.Marks.{trues}
-use Rattle.gadget_laws.specs.Told.{width_by, state_told}
-use Rattle.gadget_laws.proofs.Pick.{picked, fan_length}
-use Rattle.gadget_laws.proofs.Unit.{alike_active, unlike_active}
-use Rattle.gadget_laws.proofs.Touch.{head_mark, pick_split, pick_last, fan_pick}
+use Rattle.gadget_laws.specs.{Marks.trues, Told.width_by, Told.state_told}
+use Rattle.gadget_laws.proofs.{Pick.picked, Pick.fan_length, Unit.alike_active, Unit.unlike_active, Touch.head_mark}
+use Rattle.gadget_laws.proofs.Touch.{pick_split, pick_last, fan_pick}
 
 -- How many edges of the first end, and of the second, are marked, and whether the inner one is.
 abbrev pub left_marks : (ℕ → ℕ) → List Bool → End → ℕ

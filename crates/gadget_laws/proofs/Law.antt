@@ -2,25 +2,19 @@
 use Rattle.std.proofs.Common.{◌≡◌, ℕ, zero, suc, ◌+◌, ◌%◌, ◌≤◌, Bool, true, cond, ◌&&◌, ◌==◌, nat_le, nat_lt, IsTrue}
 use Rattle.std.proofs.Common.{List, [], ◌∷◌, ◌++◌, length, Option, Some, None, option_to_list, pos, ◌-ℤ◌, refl}
 use Rattle.std.proofs.Common.{◌∙◌, ltb-true, arith}
-use Rattle.std.specs.List.{list_all}
 use Rattle.std.proofs.lemmas.Int.{ints}
 use Rattle.std.proofs.lemmas.Bool.{and_parts, cases_eq}
+use Rattle.std.specs.List.{list_all}
 use Rattle.def_flow.specs.Network.{EndsBelow, Network, IsWithinBounds, is_bounded}
 use Rattle.def_flow.specs.Admissible.{IsAdmissible, IsBalanced, deviation, entries}
+use Rattle.def_flow.specs.Units.{arcwise, down, low, cap, units_from, units, states}
+use Rattle.def_flow.specs.{Units.states_at, Units.active, Units.rim_active, Units.cost_on, MatchingGraph.matching_graph}
+use Rattle.def_flow.specs.{declared.net.Arc.Arc, declared.net.End.End, declared.units.ArcUnit.ArcUnit, Gadget.lows}
 use Rattle.def_matching.specs.Matching.{IsGraph, IsPerfect, matching_cost}
-use Rattle.def_flow.specs.Units.{arcwise, down, low, cap, units_from, units, states, states_at, active, rim_active}
-use Rattle.def_flow.specs.Units.{cost_on}
-use Rattle.def_flow.specs.MatchingGraph.{matching_graph}
-use Rattle.def_flow.specs.declared.net.Arc.{Arc}
-use Rattle.def_flow.specs.declared.net.End.{End}
-use Rattle.def_flow.specs.declared.units.ArcUnit.{ArcUnit}
-use Rattle.def_flow.specs.Gadget.{lows}
 use Rattle.gadget_laws.specs.Box.{IsRaised, matching_told}
-use Rattle.gadget_laws.proofs.Units.{UnitsAt}
-use Rattle.gadget_laws.proofs.Whole.{StatesFit, states_perfect, states_cost, rim_parity}
-use Rattle.gadget_laws.proofs.Box.{own_box, arcwise_length, box_length, states_count, same_active, deviation_list}
-use Rattle.gadget_laws.proofs.Box.{box_cost}
-use Rattle.gadget_laws.proofs.Links.{graph_lawful}
+use Rattle.gadget_laws.proofs.{Units.UnitsAt, Whole.StatesFit, Whole.states_perfect, Whole.states_cost}
+use Rattle.gadget_laws.proofs.{Whole.rim_parity, Box.own_box, Box.arcwise_length, Box.box_length, Box.states_count}
+use Rattle.gadget_laws.proofs.{Box.same_active, Box.deviation_list, Box.box_cost, Links.graph_lawful}
 
 -- The ends of all arcs are at nodes.
 abbrev pub ArcsAt : ℕ → List Arc → Type 0

@@ -1,16 +1,10 @@
 -- The laws as they are promised.
 use Rattle.std.proofs.Common.{ℕ, List}
 use Rattle.def_matching.specs.Matching.{IsPerfect}
-use Rattle.def_flow.specs.Network.{Network}
-use Rattle.def_flow.specs.Admissible.{IsAdmissible, entries}
-use Rattle.def_flow.specs.MatchingGraph.{matching_graph}
-use Rattle.def_flow.specs.Gadget.{IsInBox, lows, caps}
-use Rattle.def_flow.specs.Laws.{IsStart, HasMatching, HasLengths}
-use Rattle.gadget_laws.specs.Box.{ups, matching_told}
-use Rattle.gadget_laws.specs.Told.{lengths_told}
-use Rattle.gadget_laws.proofs.Arcs.{lengths_law, told_in_box}
-use Rattle.gadget_laws.proofs.Law.{matching_law}
-use Rattle.gadget_laws.proofs.Steps.{in_box}
+use Rattle.def_flow.specs.{Network.Network, Admissible.IsAdmissible, Admissible.entries, MatchingGraph.matching_graph}
+use Rattle.def_flow.specs.{Gadget.IsInBox, Gadget.lows, Gadget.caps, Laws.IsStart, Laws.HasMatching, Laws.HasLengths}
+use Rattle.gadget_laws.specs.{Box.ups, Box.matching_told, Told.lengths_told}
+use Rattle.gadget_laws.proofs.{Arcs.lengths_law, Arcs.told_in_box, Law.matching_law, Steps.in_box}
 
 pub matchings : (net : Network) (step : ℕ) (xs ys : List ℕ) → IsStart net step xs → IsAdmissible net (entries ys)
     → IsInBox step (lows net step xs) (caps net step xs) ys → HasMatching net step xs ys

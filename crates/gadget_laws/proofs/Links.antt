@@ -3,16 +3,14 @@ use Rattle.std.proofs.Common.{◌≡◌, ◌≢◌, ℕ, zero, suc, ◌+◌, ◌
 use Rattle.std.proofs.Common.{length, get_or, Option, Some, None, ℤ, pos, ap, inl, inr, ◌⊎◌, arith}
 use Rattle.std.proofs.lemmas.Bool.{cases_eq}
 use Rattle.def_math.specs.Counts.{count, count_below}
-use Rattle.def_matching.specs.Matching.{IsGraph, edge_at}
+use Rattle.def_matching.specs.{Matching.IsGraph, Matching.edge_at, declared.weighted.WEdge.WEdge}
 use Rattle.def_flow.specs.Network.{EndsBelow}
 use Rattle.def_flow.specs.MatchingGraph.{link, fan, to_copies, inner_link, are_alike, links_by, size_by, unit_links}
 use Rattle.def_flow.specs.MatchingGraph.{unit_size, units_links, with_rim, rim, link_from, rung, rim_links, first_fresh}
 use Rattle.def_flow.specs.MatchingGraph.{lone_vertex, graph_by}
 use Rattle.def_flow.specs.declared.net.End.{End}
 use Rattle.def_flow.specs.declared.units.ArcUnit.{ArcUnit}
-use Rattle.def_matching.specs.declared.weighted.WEdge.{WEdge}
-use Rattle.gadget_laws.proofs.Units.{UnitsAt}
-use Rattle.gadget_laws.proofs.Chain.{pairs}
+use Rattle.gadget_laws.proofs.{Units.UnitsAt, Chain.pairs}
 
 -- Edges with two different ends below n.
 abbrev pub AreLinks : ℕ → List WEdge → Type 0

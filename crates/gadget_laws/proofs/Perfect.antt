@@ -1,11 +1,10 @@
 -- In a perfect matching each own vertex of each unit has one mate.
 use Rattle.std.proofs.Common.{◌≡◌, ◌≢◌, ℕ, ◌+◌, ◌<◌, ◌≤◌, Bool, true, false, cond, ◌==◌, List, [], ◌∷◌, ◌++◌, length}
-use Rattle.std.proofs.Common.{drop, Option, Some, None, ℤ, pos, ◌+ℤ◌, ◌*ℤ◌, refl, sym, ◌∙◌, ap, subst, eq-eqb, ne_eqb}
 use Rattle.std.proofs.Common.{append_assoc, arith}
 use Rattle.std.proofs.lemmas.Int.{ints}
+use Rattle.std.proofs.Common.{drop, Option, Some, None, ℤ, pos, ◌+ℤ◌, ◌*ℤ◌, refl, sym, ◌∙◌, ap, subst, eq-eqb, ne_eqb}
 use Rattle.std.proofs.Math.IntN.{*ℤ-zero}
-use Rattle.def_math.specs.Sums.{total_below}
-use Rattle.def_math.specs.Counts.{count, count_below}
+use Rattle.def_math.specs.{Sums.total_below, Counts.count, Counts.count_below}
 use Rattle.sum_laws.proofs.Sums.{total_below_one}
 use Rattle.def_flow.specs.Network.{EndsBelow}
 use Rattle.def_flow.specs.MatchingGraph.{link, to_copies, inner_link, are_alike, links_by, size_by, unit_links}
@@ -14,13 +13,11 @@ use Rattle.def_flow.specs.declared.net.End.{End}
 use Rattle.def_flow.specs.declared.units.ArcUnit.{ArcUnit}
 use Rattle.def_matching.specs.declared.weighted.WEdge.{WEdge}
 use Rattle.gadget_laws.specs.Told.{width_by}
-use Rattle.gadget_laws.proofs.Pick.{picked}
-use Rattle.gadget_laws.proofs.Chain.{at_ends}
-use Rattle.gadget_laws.proofs.Units.{UnitsAt}
-use Rattle.gadget_laws.proofs.Links.{copies_below, AreBelow, IsPast}
-use Rattle.gadget_laws.proofs.Touch.{pick_split, AreZero, zero_append, picked_zero, fan_zero}
-use Rattle.gadget_laws.proofs.Facts.{left_marks, right_marks, lone_inner, alike_inner, IsWorth, lone_pick, alike_pick}
-use Rattle.gadget_laws.proofs.Facts.{unlike_pick, links_width, IsPairOk, IsUnitOk}
+use Rattle.gadget_laws.proofs.{Pick.picked, Chain.at_ends, Units.UnitsAt, Links.copies_below, Links.AreBelow}
+use Rattle.gadget_laws.proofs.{Links.IsPast, Touch.pick_split, Touch.AreZero, Touch.zero_append, Touch.picked_zero}
+use Rattle.gadget_laws.proofs.{Touch.fan_zero, Facts.left_marks, Facts.right_marks, Facts.lone_inner, Facts.alike_inner}
+use Rattle.gadget_laws.proofs.Facts.{IsWorth, lone_pick, alike_pick, unlike_pick, links_width}
+use Rattle.gadget_laws.proofs.Facts.{IsPairOk, IsUnitOk}
 
 -- All units' own vertices have one mate.
 abbrev pub UnitsOk : (ℕ → ℕ) → List ArcUnit → List Bool → Type 0

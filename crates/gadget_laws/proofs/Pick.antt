@@ -2,12 +2,9 @@
 use Rattle.std.proofs.Common.{◌≡◌, ℕ, zero, suc, ◌+◌, ◌<◌, ◌≤◌, Bool, true, false, cond, List, [], ◌∷◌, ◌++◌, length}
 use Rattle.std.proofs.Common.{map, get_or, ℤ, pos, ◌+ℤ◌, refl, ◌∙◌, ap, add-zero, arith}
 use Rattle.std.proofs.lemmas.Int.{ints}
-use Rattle.def_math.specs.Sums.{total}
-use Rattle.def_math.specs.Increasing.{IsIncreasing}
-use Rattle.def_flow.specs.MatchingGraph.{link, fan, to_copies}
-use Rattle.def_flow.specs.declared.net.End.{End}
+use Rattle.def_math.specs.{Sums.total, Increasing.IsIncreasing, Counts.count_below}
+use Rattle.def_flow.specs.{MatchingGraph.link, MatchingGraph.fan, MatchingGraph.to_copies, declared.net.End.End}
 use Rattle.def_matching.specs.declared.weighted.WEdge.{WEdge}
-use Rattle.def_math.specs.Counts.{count_below}
 use Rattle.gadget_laws.specs.Marks.{choice, keep, chosen, places, end_marks}
 
 -- The sum of f over what is marked.

@@ -1,35 +1,30 @@
 -- A perfect matching tells states of the units that fill the copies, at its own cost.
 use Rattle.std.proofs.Common.{◌≡◌, ◌≢◌, ℕ, zero, suc, ◌+◌, ◌<◌, ◌≤◌, min, Bool, true, false, cond, not, ◌&&◌, ◌==◌}
 use Rattle.std.proofs.Common.{nat_lt, List, [], ◌∷◌, ◌++◌, length, map, drop, Option, Some, None, ℤ, pos, ◌+ℤ◌, ◌-ℤ◌}
-use Rattle.std.proofs.Common.{◌*ℤ◌, refl, sym, ◌∙◌, ap, subst, inl, inr, ◌⊎◌, zero-add, eq-eqb, ne_eqb, lt-ltb, le-ltb}
 use Rattle.std.proofs.Common.{arith}
 use Rattle.std.proofs.lemmas.Int.{ints}
 use Rattle.std.proofs.lemmas.Bool.{cases_eq, cases_lt}
+use Rattle.std.proofs.Common.{◌*ℤ◌, refl, sym, ◌∙◌, ap, subst, inl, inr, ◌⊎◌, zero-add, eq-eqb, ne_eqb, lt-ltb, le-ltb}
 use Rattle.std.proofs.Math.IntN.{*ℤ-zero}
-use Rattle.def_math.specs.Sums.{total, total_below}
-use Rattle.def_math.specs.Counts.{count, count_below}
+use Rattle.def_math.specs.{Sums.total, Sums.total_below, Counts.count, Counts.count_below, Increasing.IsIncreasing}
 use Rattle.sum_laws.proofs.Sums.{total_below_minus}
-use Rattle.qm_dual.proofs.Ends.{ends_once}
-use Rattle.def_math.specs.Increasing.{IsIncreasing}
+use Rattle.qm_dual.proofs.{Ends.ends_once, Weak.chosen_below}
 use Rattle.def_matching.specs.Matching.{IsPerfect, edge_at, matching_cost}
+use Rattle.def_matching.specs.declared.weighted.WEdge.{WEdge}
 use Rattle.def_flow.specs.Units.{active, cost_on}
 use Rattle.def_flow.specs.MatchingGraph.{to_copies, inner_link, are_alike, links_by, unit_links, unit_size, units_links}
 use Rattle.def_flow.specs.MatchingGraph.{rim, rim_links, first_fresh, lone_vertex, graph_by}
 use Rattle.def_flow.specs.declared.net.End.{End}
 use Rattle.def_flow.specs.declared.units.ArcUnit.{ArcUnit}
-use Rattle.def_matching.specs.declared.weighted.WEdge.{WEdge}
-use Rattle.qm_dual.proofs.Weak.{chosen_below}
 use Rattle.gadget_laws.specs.Marks.{keep, chosen, places}
 use Rattle.gadget_laws.specs.Told.{past, marks_from, width_by, state_told, states_told}
-use Rattle.gadget_laws.proofs.Pick.{picked, picked_chosen, at_places}
-use Rattle.gadget_laws.proofs.Chain.{at_ends, picked_free, rim_free}
-use Rattle.gadget_laws.proofs.Unit.{ends_active}
-use Rattle.gadget_laws.proofs.Units.{UnitsAt}
-use Rattle.gadget_laws.proofs.Links.{copies_below, IsPast, graph_lawful}
-use Rattle.gadget_laws.proofs.Touch.{pick_split, picked_zero}
-use Rattle.gadget_laws.proofs.Facts.{IsWorth, left_marks, right_marks, lone_inner, alike_inner, lone_pick, alike_pick}
-use Rattle.gadget_laws.proofs.Facts.{unlike_pick, links_width, IsUnitOk, told, lone_told, alike_told, unlike_told}
-use Rattle.gadget_laws.proofs.Perfect.{UnitsOk, RestZero, nil_rim, rim_zero, units_ok}
+use Rattle.gadget_laws.proofs.{Pick.picked, Pick.picked_chosen, Pick.at_places, Chain.at_ends, Chain.picked_free}
+use Rattle.gadget_laws.proofs.{Chain.rim_free, Unit.ends_active, Units.UnitsAt, Links.copies_below, Links.IsPast}
+use Rattle.gadget_laws.proofs.{Links.graph_lawful, Touch.pick_split, Touch.picked_zero, Facts.IsWorth, Facts.left_marks}
+use Rattle.gadget_laws.proofs.Facts.{right_marks, lone_inner, alike_inner, lone_pick}
+use Rattle.gadget_laws.proofs.Facts.{alike_pick, unlike_pick, links_width, IsUnitOk, told}
+use Rattle.gadget_laws.proofs.{Facts.lone_told, Facts.alike_told, Facts.unlike_told, Perfect.UnitsOk, Perfect.RestZero}
+use Rattle.gadget_laws.proofs.Perfect.{nil_rim, rim_zero, units_ok}
 
 marks_length : (k n : ℕ) (m : List ℕ) → length (marks_from k n m) ≡ n
 marks_length k zero m = refl

@@ -3,12 +3,13 @@ use Rattle.std.proofs.Common.{◌≡◌, ◌≢◌, ℕ, zero, suc, ◌+◌, ◌
 use Rattle.std.proofs.Common.{List, [], ◌∷◌, length, Option, Some, None, option_to_list, pos, ◌≤ℤ◌, refl, sym, ◌∙◌}
 use Rattle.std.proofs.Common.{ap, inl, inr, ◌⊎◌, add-mul, mul-add, mul_comm, mul_left_comm, zero-mul, mul-le-mul_left}
 use Rattle.std.proofs.Common.{mul-le-mul_right, length-append, eq-eqb, ne_eqb, leb-true, nat_le, IsTrue, arith}
-use Rattle.std.specs.List.{list_all}
 use Rattle.std.proofs.lemmas.Int.{ints}
 use Rattle.std.proofs.lemmas.Bool.{and_parts, cases_eq}
+use Rattle.std.specs.List.{list_all}
 use Rattle.def_math.specs.Counts.{count, count_below}
 use Rattle.sum_laws.proofs.Counts.{count_append, count_sum, count_below_sum, count_below_le, count_below_same}
 use Rattle.sum_laws.proofs.Counts.{count_below_one, count_below_none, count_below_times}
+use Rattle.sum_laws.proofs.Tests.{once_at_most}
 use Rattle.def_flow.specs.Network.{EndsBelow, Network, IsWithinBounds, is_bounded, arc_at, ends, degree, tangle_number}
 use Rattle.def_flow.specs.Admissible.{IsAdmissible, entries}
 use Rattle.def_flow.specs.Units.{arcwise, down, low, cap, units_from, units, states_at, is_active, active, alone_active}
@@ -20,9 +21,7 @@ use Rattle.def_flow.specs.declared.net.End.{End}
 use Rattle.def_flow.specs.declared.units.ArcUnit.{ArcUnit}
 use Rattle.gadget_laws.specs.Told.{width_by}
 use Rattle.gadget_laws.proofs.Box.{own_box, arc_active, weighted_ends, box_active, balanced_list}
-use Rattle.gadget_laws.proofs.Law.{ArcsAt, arcs_at}
-use Rattle.gadget_laws.proofs.Facts.{links_width}
-use Rattle.sum_laws.proofs.Tests.{once_at_most}
+use Rattle.gadget_laws.proofs.{Law.ArcsAt, Law.arcs_at, Facts.links_width}
 
 -- The ends at a node on one side.
 abbrev ends_on : ℕ → Bool → List Arc → ℕ

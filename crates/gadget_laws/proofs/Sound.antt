@@ -1,24 +1,18 @@
 -- Soundness: the list of an accepted certificate is least.
 use Rattle.std.proofs.Common.{◌≡◌, ℕ, zero, suc, ◌+◌, ◌-◌, ◌*◌, ◌/◌, ◌<◌, ◌≤◌, min, true, false, List, [], ◌∷◌, length}
-use Rattle.std.proofs.Common.{ℤ, pos, ◌-ℤ◌, ◌*ℤ◌, ◌≤ℤ◌, unsigned_abs, sym, ◌∙◌, ap, inl, inr, ◌⊎◌, arith}
 use Rattle.std.proofs.lemmas.Int.{ints}
 use Rattle.std.proofs.lemmas.Bool.{cases_lt}
+use Rattle.std.proofs.Common.{ℤ, pos, ◌-ℤ◌, ◌*ℤ◌, ◌≤ℤ◌, unsigned_abs, sym, ◌∙◌, ap, inl, inr, ◌⊎◌, arith}
 use Rattle.sum_laws.proofs.Counts.{count_below_same}
-use Rattle.def_flow.specs.Network.{Network, IsWithinBounds, arc_at}
-use Rattle.def_flow.specs.Admissible.{IsAdmissible, IsLeast, arc_deviation, deviation, entries}
-use Rattle.def_flow.specs.declared.net.Arc.{Arc}
-use Rattle.def_matching.specs.Matching.{IsPerfect, matching_cost}
-use Rattle.def_flow.specs.Units.{arcwise, down, low, cap, on_cost}
-use Rattle.def_flow.specs.MatchingGraph.{matching_graph}
-use Rattle.def_matching.specs.Dual.{dual_sum}
-use Rattle.def_flow.specs.Accepted.{Certificate, IsAccepted}
-use Rattle.network_laws.proofs.Balance.{same_sides}
-use Rattle.network_laws.proofs.Lift.{lift_law}
+use Rattle.def_flow.specs.{Network.Network, Network.IsWithinBounds, Network.arc_at, Admissible.IsAdmissible}
+use Rattle.def_flow.specs.Admissible.{IsLeast, arc_deviation, deviation, entries}
+use Rattle.def_flow.specs.{declared.net.Arc.Arc, Units.arcwise, Units.down, Units.low, Units.cap, Units.on_cost}
+use Rattle.def_flow.specs.{MatchingGraph.matching_graph, Accepted.Certificate, Accepted.IsAccepted, Gadget.lows}
+use Rattle.def_matching.specs.{Matching.IsPerfect, Matching.matching_cost, Dual.dual_sum}
+use Rattle.network_laws.proofs.{Balance.same_sides, Lift.lift_law}
 use Rattle.qm_dual.proofs.Weak.{weak_duality}
-use Rattle.def_flow.specs.Gadget.{lows}
 use Rattle.gadget_laws.specs.Box.{IsRaised, matching_told}
-use Rattle.gadget_laws.proofs.Box.{own_box}
-use Rattle.gadget_laws.proofs.Law.{graph_law, box_deviation, matching_law}
+use Rattle.gadget_laws.proofs.{Box.own_box, Law.graph_law, Law.box_deviation, Law.matching_law}
 
 -- A list of whole numbers near xs as a list, and how many units it has on.
 abbrev listed : (ℕ → ℤ) → List ℕ → List ℕ

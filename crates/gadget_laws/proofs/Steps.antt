@@ -1,13 +1,11 @@
 -- Lists in a box, and the steps that their entries are above the lows.
 use Rattle.std.proofs.Common.{◌≡◌, ℕ, zero, suc, ◌+◌, ◌-◌, ◌*◌, ◌/◌, ◌%◌, ◌<◌, ◌≤◌, List, [], ◌∷◌, length, sym}
 use Rattle.std.proofs.Common.{◌∙◌, ap, inl, inr, ◌⊎◌, arith}
-use Rattle.std.specs.Prelude.{slice_index}
 use Rattle.std.proofs.Math.Nat.{mul-le-mul_left}
 use Rattle.std.proofs.lemmas.Bool.{cases_order}
+use Rattle.std.specs.Prelude.{slice_index}
 use Rattle.gadget_laws.proofs.Box.{arcwise_length, box_length}
-use Rattle.def_flow.specs.declared.net.Arc.{Arc}
-use Rattle.def_flow.specs.Units.{arcwise, low, cap}
-use Rattle.def_flow.specs.Gadget.{IsStepUp, IsInBox}
+use Rattle.def_flow.specs.{declared.net.Arc.Arc, Units.arcwise, Units.low, Units.cap, Gadget.IsStepUp, Gadget.IsInBox}
 use Rattle.gadget_laws.specs.Box.{IsRaised, ups}
 
 -- Steps over the step.

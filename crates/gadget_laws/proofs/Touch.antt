@@ -1,13 +1,12 @@
 -- What any marks pick: of two lists in a row, of one edge, of a fan.
 use Rattle.std.proofs.Common.{◌≡◌, ℕ, zero, suc, ◌+◌, ◌<◌, Bool, true, false, cond, List, [], ◌∷◌, ◌++◌, length, take}
-use Rattle.std.proofs.Common.{drop, ℤ, pos, ◌+ℤ◌, ◌*ℤ◌, refl, sym, ◌∙◌, ap, add-zero, arith}
 use Rattle.std.proofs.lemmas.Int.{ints}
+use Rattle.std.proofs.Common.{drop, ℤ, pos, ◌+ℤ◌, ◌*ℤ◌, refl, sym, ◌∙◌, ap, add-zero, arith}
 use Rattle.qm_dual.proofs.Ends.{plus_times}
 use Rattle.def_flow.specs.MatchingGraph.{link, fan}
 use Rattle.def_matching.specs.declared.weighted.WEdge.{WEdge}
 use Rattle.gadget_laws.specs.Marks.{trues}
-use Rattle.gadget_laws.proofs.Pick.{picked}
-use Rattle.gadget_laws.proofs.Chain.{at_ends}
+use Rattle.gadget_laws.proofs.{Pick.picked, Chain.at_ends}
 
 -- The first mark.
 abbrev pub head_mark : List Bool → Bool

@@ -3,17 +3,14 @@ use Rattle.std.proofs.Common.{◌≡◌, ℕ, ◌+◌, ◌<◌, ◌≤◌, Bool,
 use Rattle.std.proofs.Common.{Option, Some, None, option_to_list, ℤ, pos, ◌+ℤ◌, refl, sym, ◌∙◌, ap, true≢false, eq-eqb}
 use Rattle.std.proofs.Common.{ne_eqb, length-append, arith}
 use Rattle.std.proofs.lemmas.Int.{ints}
-use Rattle.def_math.specs.Sums.{total_below, span}
-use Rattle.def_math.specs.Counts.{count, count_below}
+use Rattle.def_math.specs.{Sums.total_below, Sums.span, Counts.count, Counts.count_below}
 use Rattle.sum_laws.proofs.Sums.{total_below_same, total_below_sum, total_below_one, span_sum}
-use Rattle.def_flow.specs.Network.{EndsBelow}
-use Rattle.def_flow.specs.Units.{is_active}
-use Rattle.def_flow.specs.MatchingGraph.{link, to_copies, inner_link, are_alike, links_by}
+use Rattle.def_flow.specs.{Network.EndsBelow, Units.is_active, MatchingGraph.link, MatchingGraph.to_copies}
+use Rattle.def_flow.specs.MatchingGraph.{inner_link, are_alike, links_by}
 use Rattle.def_flow.specs.declared.net.End.{End}
 use Rattle.def_matching.specs.declared.weighted.WEdge.{WEdge}
 use Rattle.gadget_laws.specs.Marks.{take_end, end_marks, marks_by}
-use Rattle.gadget_laws.proofs.Pick.{picked, pick_append, pick_end, end_length}
-use Rattle.gadget_laws.proofs.Chain.{at_ends}
+use Rattle.gadget_laws.proofs.{Pick.picked, Pick.pick_append, Pick.pick_end, Pick.end_length, Chain.at_ends}
 
 -- What the copies in use weigh.
 abbrev pub held : ℕ → (ℕ → ℕ) → (ℕ → ℤ) → (ℕ → ℕ) → ℤ

@@ -2,19 +2,16 @@
 use Rattle.std.proofs.Common.{◌≡◌, ℕ, ◌+◌, ◌≤◌, Bool, true, false, cond, List, [], ◌∷◌, length, Option, Some, None, ℤ}
 use Rattle.std.proofs.Common.{pos, ◌+ℤ◌, refl, length-append, arith}
 use Rattle.std.proofs.lemmas.Int.{ints}
-use Rattle.def_math.specs.Sums.{span}
-use Rattle.def_math.specs.Counts.{count}
+use Rattle.def_math.specs.{Sums.span, Counts.count}
 use Rattle.sum_laws.proofs.Sums.{span_sum}
-use Rattle.def_flow.specs.Network.{EndsBelow}
-use Rattle.def_flow.specs.Units.{is_active, active, active_at, rim_active, cost_on}
-use Rattle.def_flow.specs.MatchingGraph.{size_by, unit_size, unit_links, units_links, with_rim, rim}
-use Rattle.def_flow.specs.declared.net.End.{End}
+use Rattle.def_flow.specs.{Network.EndsBelow, Units.is_active, Units.active, Units.active_at, Units.rim_active}
+use Rattle.def_flow.specs.{Units.cost_on, MatchingGraph.size_by, MatchingGraph.unit_size, MatchingGraph.unit_links}
+use Rattle.def_flow.specs.{MatchingGraph.units_links, MatchingGraph.with_rim, MatchingGraph.rim, declared.net.End.End}
 use Rattle.def_flow.specs.declared.units.ArcUnit.{ArcUnit}
 use Rattle.def_matching.specs.declared.weighted.WEdge.{WEdge}
 use Rattle.gadget_laws.specs.Marks.{trues, marks_by, units_marks, with_state, rim_states}
-use Rattle.gadget_laws.proofs.Pick.{picked, pick_append}
-use Rattle.gadget_laws.proofs.Chain.{at_ends}
-use Rattle.gadget_laws.proofs.Unit.{ends_active, held, held_same, own, unit_weight, unit_cost, unit_length}
+use Rattle.gadget_laws.proofs.{Pick.picked, Pick.pick_append, Chain.at_ends, Unit.ends_active, Unit.held}
+use Rattle.gadget_laws.proofs.Unit.{held_same, own, unit_weight, unit_cost, unit_length}
 
 -- The ends of all units are at nodes.
 abbrev pub UnitsAt : ℕ → List ArcUnit → Type 0

@@ -3,15 +3,14 @@ use Rattle.std.proofs.Common.{◌≡◌, ℕ, zero, suc, ◌+◌, ◌*◌, ◌%�
 use Rattle.std.proofs.Common.{length, map, Some, None, ℤ, pos, ◌+ℤ◌, refl, ◌∙◌, ap, zero-add, add-zero, length-append}
 use Rattle.std.proofs.Common.{eq-eqb, ne_eqb, arith}
 use Rattle.std.proofs.lemmas.Int.{ints}
-use Rattle.def_math.specs.Sums.{total, total_below, span}
-use Rattle.def_math.specs.Counts.{count, count_below}
+use Rattle.def_math.specs.{Sums.total, Sums.total_below, Sums.span, Counts.count, Counts.count_below}
 use Rattle.sum_laws.proofs.Sums.{total_below_none, total_below_one, total_below_span, total_same}
 use Rattle.sum_laws.proofs.Counts.{count_total}
 use Rattle.def_matching.specs.Matching.{IsPerfect, edge_at, ends_at, matching_cost}
+use Rattle.def_matching.specs.declared.weighted.WEdge.{WEdge}
 use Rattle.def_flow.specs.Units.{active, rim_active, cost_on}
 use Rattle.def_flow.specs.MatchingGraph.{unit_size, units_links, rim, rim_links, first_fresh, lone_vertex, graph_by}
 use Rattle.def_flow.specs.declared.units.ArcUnit.{ArcUnit}
-use Rattle.def_matching.specs.declared.weighted.WEdge.{WEdge}
 use Rattle.gadget_laws.specs.Marks.{trues, chosen, places, units_marks, rim_marks, rim_states, states_marks}
 use Rattle.gadget_laws.proofs.Pick.{picked, pick_append, picked_chosen, places_rise, at_places}
 use Rattle.gadget_laws.proofs.Chain.{at_ends, pairs, IsThere, waiting, chain_sum, picked_free, rim_free, rim_length}

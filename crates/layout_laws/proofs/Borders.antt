@@ -4,17 +4,13 @@ use Rattle.std.proofs.Common.{◌≡◌, ◌⊎◌, ℕ, zero, suc, ◌+◌, ◌
 use Rattle.std.proofs.Common.{◌∙◌, ap, refl, inl, inr, true≢false, arith}
 use Rattle.std.proofs.lemmas.Bool.{cases_Bool, cases_eq, cases_lt, false≢true}
 use Rattle.def_mesh.specs.HalfEdges.{HalfEdges, IsQuadManifold}
-use Rattle.def_cut.specs.Cuts.{Cut, IsCut}
-use Rattle.def_cut.specs.Grids.{Cells, IsGrid, Rectangle, cell_of, patch_at, IsSide, IsPartition}
-use Rattle.def_cut.specs.Steps.{spin, or_zero, easts}
-use Rattle.def_cut.specs.Steps.{step_east as go}
-use Rattle.def_layout.specs.Arcs.{end_vertex, IsRun}
-use Rattle.def_layout.specs.Borders.{side_size, border_dart}
-use Rattle.def_layout.specs.Layouts.{Way, south, east, north, west}
-use Rattle.def_layout.specs.Nodes.{AreNodes}
-use Rattle.cut_laws.proofs.Darts.{prev_three, prev_twice}
-use Rattle.cut_laws.proofs.Folds.{west_open, south_open}
-use Rattle.cut_laws.proofs.Folds.{west as west_link, south as south_link}
+use Rattle.def_cut.specs.{Cuts.Cut, Cuts.IsCut, Grids.Cells, Grids.IsGrid, Grids.Rectangle, Grids.cell_of}
+use Rattle.def_cut.specs.{Grids.patch_at, Grids.IsSide, Grids.IsPartition, Steps.spin, Steps.or_zero, Steps.easts}
+use Rattle.def_cut.specs.{Steps.step_east as go}
+use Rattle.def_layout.specs.{Arcs.end_vertex, Arcs.IsRun, Borders.side_size, Borders.border_dart, Layouts.Way}
+use Rattle.def_layout.specs.{Layouts.south, Layouts.east, Layouts.north, Layouts.west, Nodes.AreNodes}
+use Rattle.cut_laws.proofs.{Darts.prev_three, Darts.prev_twice, Folds.west_open, Folds.south_open}
+use Rattle.cut_laws.proofs.{Folds.west as west_link, Folds.south as south_link}
 use Rattle.layout_laws.proofs.Runs.{walk_done}
 
 -- A line of L cut darts, each straight on from the one before, from a corner to a corner.

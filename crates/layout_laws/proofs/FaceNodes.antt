@@ -1,17 +1,14 @@
 -- The nodes of a cut of faces are what the laws of layouts need of nodes.
 use Rattle.std.proofs.Common.{◌≡◌, ◌⊎◌, ℕ, zero, suc, ◌<◌, ◌≤◌, Bool, true, false, not, cond, List, [], ◌∷◌, length}
 use Rattle.std.proofs.Common.{get_or, Option, Some, None, is_some, sym, ◌∙◌, ap, subst, refl, inl, inr, arith}
-use Rattle.std.specs.List.{filter}
 use Rattle.std.proofs.lemmas.Bool.{cases_Bool, cases_eq, eqb-true, cond-false, or_parts, not-false, ltb-false, and_from}
 use Rattle.std.proofs.lemmas.Bool.{false≢true, true_from_ne_false}
 use Rattle.std.proofs.lemmas.Option.{same_Some}
-use Rattle.def_mesh.specs.Faces.{Faces}
-use Rattle.def_mesh.specs.Darts.{darts, from_of, to_of, next_of, prev_of, twin_of}
-use Rattle.def_mesh.specs.Vertices.{fan_of}
-use Rattle.def_mesh.specs.Kinds.{is_inner, is_regular}
-use Rattle.def_mesh.specs.HalfEdges.{half_edges, AreTurned, Turns, IsQuadManifold}
-use Rattle.def_cut.specs.Cuts.{IsCross, HasCross, GoesOn, IsCut}
-use Rattle.def_cut.specs.FullCut.{is_on}
+use Rattle.std.specs.List.{filter}
+use Rattle.def_mesh.specs.{Faces.Faces, Darts.darts, Darts.from_of, Darts.to_of, Darts.next_of, Darts.prev_of}
+use Rattle.def_mesh.specs.{Darts.twin_of, Vertices.fan_of, Kinds.is_inner, Kinds.is_regular, HalfEdges.half_edges}
+use Rattle.def_mesh.specs.HalfEdges.{AreTurned, Turns, IsQuadManifold}
+use Rattle.def_cut.specs.{Cuts.IsCross, Cuts.HasCross, Cuts.GoesOn, Cuts.IsCut, FullCut.is_on}
 use Rattle.def_layout.specs.Nodes.{is_lone_before, cut_degree, is_node, AreNodes}
 use Rattle.mesh_laws.proofs.Fans.{IsFan, is_fan}
 use Rattle.cut_laws.proofs.Pigeon.{no_more}

@@ -6,10 +6,8 @@ use Rattle.std.proofs.lemmas.Option.{same_Some}
 use Rattle.def_mesh.specs.HalfEdges.{HalfEdges, IsQuadManifold}
 use Rattle.def_cut.specs.Cuts.{Cut, IsCross, HasCross, GoesOn, IsCut}
 use Rattle.def_cut.specs.Steps.{or_zero, step_east, easts}
-use Rattle.def_layout.specs.Arcs.{end_vertex, IsRun}
-use Rattle.def_layout.specs.Nodes.{AreNodes}
-use Rattle.cut_laws.proofs.Darts.{next_same, twin_same, turn_low, no_self}
-use Rattle.cut_laws.proofs.Pigeon.{comes_back}
+use Rattle.def_layout.specs.{Arcs.end_vertex, Arcs.IsRun, Nodes.AreNodes}
+use Rattle.cut_laws.proofs.{Darts.next_same, Darts.twin_same, Darts.turn_low, Darts.no_self, Pigeon.comes_back}
 
 -- The cut goes straight on from d to the next dart.
 pub record GoesStraight (mesh : HalfEdges) (cut : Cut) (d : ℕ) : Type 0 where

@@ -1,8 +1,7 @@
 -- What is read of the sides of a layout.
 use Rattle.std.proofs.Common.{◌≡◌, ℕ, ◌<◌, List, [], map, length, get_or, ap, sym, ◌∙◌, arith}
 use Rattle.std.proofs.lemmas.List.{get_or-map, length-map}
-use Rattle.def_layout.specs.declared.tmesh.Side.{Side}
-use Rattle.def_layout.specs.declared.tmesh.SideArc.{SideArc}
+use Rattle.def_layout.specs.{declared.tmesh.Side.Side, declared.tmesh.SideArc.SideArc}
 
 -- The arcs of a side.
 abbrev pub arcs_of : (side : Side) → List SideArc

@@ -5,10 +5,8 @@ use Rattle.std.proofs.lemmas.Bool.{cases_lt}
 use Rattle.std.proofs.lemmas.Option.{same_Some}
 use Rattle.std.proofs.lemmas.List.FromFn.{get_or-map-range_with_len, length-map-range_with_len}
 use Rattle.def_mesh.specs.HalfEdges.{HalfEdges, IsQuadManifold}
-use Rattle.def_cut.specs.Cuts.{Cut, IsCut}
-use Rattle.def_cut.specs.Steps.{easts}
-use Rattle.def_layout.specs.Arcs.{IsRun, IsArc, LiesAt}
-use Rattle.def_layout.specs.Nodes.{AreNodes}
+use Rattle.def_cut.specs.{Cuts.Cut, Cuts.IsCut, Steps.easts}
+use Rattle.def_layout.specs.{Arcs.IsRun, Arcs.IsArc, Arcs.LiesAt, Nodes.AreNodes}
 use Rattle.layout_laws.specs.Named.{run_list, run_name, IsNamed}
 use Rattle.cut_laws.proofs.Leasts.{least_high, least_there}
 use Rattle.layout_laws.proofs.Runs.{IsBack, run_low, same_place, same_length, back_run, no_mirror}

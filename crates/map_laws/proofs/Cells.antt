@@ -1,12 +1,11 @@
 -- The new faces patch by patch: those of a patch stand one after the other, row by row.
 use Rattle.std.proofs.Common.{◌≡◌, ℕ, zero, suc, ◌+◌, ◌*◌, ◌/◌, ◌%◌, ◌<◌, List, [], ◌∷◌, ◌++◌, map, refl, sym, ◌∙◌, ap}
 use Rattle.std.proofs.Common.{ap₂, append_assoc, append-nil, arith}
-use Rattle.std.specs.List.{flat_map, range_with_len}
 use Rattle.std.proofs.lemmas.Grind.{flat_map-append}
 use Rattle.std.proofs.lemmas.List.FromFn.{map-range_with_len_more}
-use Rattle.def_layout.specs.Cells.{CellDart, dart}
-use Rattle.def_layout.specs.Layouts.{south, Layout}
-use Rattle.def_layout.specs.Lengths.{Lengths, wide, high}
+use Rattle.std.specs.List.{flat_map, range_with_len}
+use Rattle.def_layout.specs.{Cells.CellDart, Cells.dart, Layouts.south, Layouts.Layout, Lengths.Lengths, Lengths.wide}
+use Rattle.def_layout.specs.Lengths.{high}
 use Rattle.def_written.specs.NewFaces.{cell_in, cells_before, dart_of, patch_of}
 use Rattle.list_laws.proofs.Filters.{map_range_same}
 use Rattle.written_laws.proofs.Runs.{run_place}

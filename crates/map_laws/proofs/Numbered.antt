@@ -1,16 +1,13 @@
 -- The point with a number.
 use Rattle.std.proofs.Common.{◌≡◌, ℕ, ◌+◌, ◌-◌, ◌*◌, ◌<◌, ◌≤◌, sym, ◌∙◌, subst, inl, inr, arith}
-use Rattle.std.specs.Prelude.{nat_lt}
 use Rattle.std.proofs.Math.Nat.{mul_comm}
 use Rattle.std.proofs.lemmas.Bool.{cases_lt, cond-true, cond-false, le-ltb, lt-ltb}
+use Rattle.std.specs.Prelude.{nat_lt}
 use Rattle.def_math.specs.Runs.{run_at}
-use Rattle.def_layout.specs.Layouts.{Layout}
-use Rattle.def_layout.specs.Lengths.{Lengths, wide, high}
-use Rattle.def_written.specs.Numbers.{before_arc, before_patch, vertices}
-use Rattle.def_written.specs.Points.{node, IsPoint}
+use Rattle.def_layout.specs.{Layouts.Layout, Lengths.Lengths, Lengths.wide, Lengths.high}
+use Rattle.def_written.specs.{Numbers.before_arc, Numbers.before_patch, Numbers.vertices, Points.node, Points.IsPoint}
 use Rattle.def_remesh.specs.NewPoints.{along_arcs, inside_patches, point_at}
-use Rattle.written_laws.proofs.EdgeNumbers.{in_rows}
-use Rattle.written_laws.proofs.Runs.{run_here, IsInRun}
+use Rattle.written_laws.proofs.{EdgeNumbers.in_rows, Runs.run_here, Runs.IsInRun}
 
 module _ (l : Layout) (new : Lengths) where
   -- It is a node, or lies on an arc, or inside a patch.

@@ -1,33 +1,24 @@
 -- The old vertices at the points of a layout are those that the darts of the mesh leave there.
 use Rattle.std.proofs.Common.{◌≡◌, ℕ, ◌+◌, ◌<◌, true, length, refl, sym, ◌∙◌, ap, subst, arith}
-use Rattle.def_mesh.specs.Darts.{darts, next_of, from_of, to_of}
-use Rattle.def_mesh.specs.HalfEdges.{half_edges}
+use Rattle.def_mesh.specs.{Darts.darts, Darts.next_of, Darts.from_of, Darts.to_of, HalfEdges.half_edges}
 use Rattle.def_mesh.specs.Vertices.{vertex_count}
 use Rattle.def_cut.specs.Grids.{cell_of, patch_at}
-use Rattle.def_layout.specs.Arcs.{dart_at, long_at}
-use Rattle.def_layout.specs.Cells.{CellDart, IsDart, dart, next, slot_dart}
-use Rattle.def_layout.specs.Surfaces.{IsSurface}
-use Rattle.def_layout.specs.Layouts.{Way, south, east, north, west, Layout, Slot, IsSlot, use_of, start_node}
-use Rattle.def_layout.specs.Lengths.{Lengths, wide, high, AreLengths}
-use Rattle.def_layout.specs.Plans.{Plan, layout_of, vertex_at}
-use Rattle.def_layout.specs.Embeddings.{IsEmbedding}
+use Rattle.def_layout.specs.{Arcs.dart_at, Arcs.long_at, Cells.CellDart, Cells.IsDart, Cells.dart, Cells.next}
+use Rattle.def_layout.specs.{Cells.slot_dart, Surfaces.IsSurface, Layouts.Way, Layouts.south, Layouts.east}
+use Rattle.def_layout.specs.Layouts.{north, west, Layout, Slot, IsSlot, use_of}
+use Rattle.def_layout.specs.{Layouts.start_node, Lengths.Lengths, Lengths.wide, Lengths.high, Lengths.AreLengths}
+use Rattle.def_layout.specs.{Plans.Plan, Plans.layout_of, Plans.vertex_at, Embeddings.IsEmbedding}
 use Rattle.def_layout.specs.declared.tmesh.SideArc.{SideArc}
 use Rattle.def_layoutnet.specs.MeshLayouts.{IsSomeLayout}
-use Rattle.def_written.specs.Laws.{LiesInMesh}
-use Rattle.def_written.specs.NewFaces.{dart_start}
-use Rattle.def_written.specs.Points.{Point, node, along, inside, IsPoint, arc_point, use_point, point}
+use Rattle.def_written.specs.{Laws.LiesInMesh, NewFaces.dart_start, Points.Point, Points.node, Points.along}
+use Rattle.def_written.specs.Points.{inside, IsPoint, arc_point, use_point, point}
 use Rattle.def_remesh.specs.NewPoints.{old_vertex}
-use Rattle.mesh_laws.proofs.HalfEdges.{manifold_law}
-use Rattle.mesh_laws.proofs.Vertices.{all_below}
-use Rattle.plan_laws.proofs.Lies.{cell_dart}
-use Rattle.plan_laws.proofs.PlanLies.{in_mesh as sides_in_mesh}
-use Rattle.plan_laws.proofs.MeshLayouts.{lies, laid_of, lengths_of}
-use Rattle.written_laws.proofs.Borders.{at_is, at_from, at_to, from_is}
-use Rattle.written_laws.proofs.Grid.{point_inside}
-use Rattle.written_laws.proofs.NewDarts.{next_is}
-use Rattle.written_laws.proofs.OldModel.{old_model}
-use Rattle.written_laws.proofs.Sided.{starts}
-use Rattle.written_laws.proofs.Sides.{use_begins, use_some, arc_inner}
+use Rattle.mesh_laws.proofs.{HalfEdges.manifold_law, Vertices.all_below}
+use Rattle.plan_laws.proofs.{Lies.cell_dart, PlanLies.in_mesh as sides_in_mesh, MeshLayouts.lies, MeshLayouts.laid_of}
+use Rattle.plan_laws.proofs.MeshLayouts.{lengths_of}
+use Rattle.written_laws.proofs.{Borders.at_is, Borders.at_from, Borders.at_to, Borders.from_is, Grid.point_inside}
+use Rattle.written_laws.proofs.{NewDarts.next_is, OldModel.old_model, Sided.starts, Sides.use_begins, Sides.use_some}
+use Rattle.written_laws.proofs.Sides.{arc_inner}
 
 module _ (plan : Plan) (is : IsSomeLayout plan) where
   abbrev l : Layout

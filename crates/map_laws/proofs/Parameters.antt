@@ -2,17 +2,15 @@
 use Rattle.std.proofs.Common.{◌≡◌, ℕ, zero, suc, ◌+◌, ◌-◌, ◌*◌, ◌/◌, ◌<◌, ◌≤◌, Bool, not, ◌∙◌, ap, inl, inr, arith}
 use Rattle.std.proofs.lemmas.Bool.{cases_eq, cases_lt}
 use Rattle.std.proofs.lemmas.Nat.{mul-le}
-use Rattle.def_layout.specs.Surfaces.{IsSurface}
-use Rattle.def_layout.specs.declared.tmesh.SideArc.{SideArc}
-use Rattle.def_layout.specs.Layouts.{Way, south, east, north, west, Layout}
-use Rattle.def_layout.specs.Lengths.{Lengths, reach, size, wide, high, AreLengths}
+use Rattle.def_layout.specs.{Surfaces.IsSurface, declared.tmesh.SideArc.SideArc, Layouts.Way, Layouts.south}
+use Rattle.def_layout.specs.{Layouts.east, Layouts.north, Layouts.west, Layouts.Layout, Lengths.Lengths, Lengths.reach}
+use Rattle.def_layout.specs.Lengths.{size, wide, high, AreLengths}
 use Rattle.def_written.specs.Places.{ONE, parameter, parameter_back, parameter_u, parameter_v, rest_at, ArcSpacing}
 use Rattle.def_written.specs.Spacings.{IsSpacing}
 use Rattle.def_written.specs.Points.{inside, offset_at, use_over, IsPoint}
-use Rattle.written_laws.proofs.Grid.{high_some, wide_some}
-use Rattle.written_laws.proofs.Runs.{count_rises, run_last, run_place}
-use Rattle.written_laws.proofs.Spacings.{div_less}
-use Rattle.written_laws.proofs.Sides.{first_slot, last_reach, long_at, place_on, slot, use_some, IsOn}
+use Rattle.written_laws.proofs.{Grid.high_some, Grid.wide_some, Runs.count_rises, Runs.run_last, Runs.run_place}
+use Rattle.written_laws.proofs.{Spacings.div_less, Sides.first_slot, Sides.last_reach, Sides.long_at, Sides.place_on}
+use Rattle.written_laws.proofs.Sides.{slot, use_some, IsOn}
 
 -- What is left of a parameter in an old column or row.
 pub rest_less : (n u : ℕ) → 0 < n → u < ONE * n → rest_at n u < ONE

@@ -1,18 +1,11 @@
 -- The points of a new mesh are spaced, evenly or by any shares.
 use Rattle.std.proofs.Common.{ℕ, suc, ◌-◌, ◌<◌, ◌≤◌, List, length, Option, None, Some, arith}
-use Rattle.def_layout.specs.Arcs.{long_at}
-use Rattle.def_layout.specs.Lengths.{Lengths, AreLengths}
-use Rattle.def_layout.specs.Plans.{Plan, layout_of}
+use Rattle.def_layout.specs.{Arcs.long_at, Lengths.Lengths, Lengths.AreLengths, Plans.Plan, Plans.layout_of}
 use Rattle.def_layoutnet.specs.MeshLayouts.{IsSomeLayout}
-use Rattle.def_remesh.specs.Spaced.{shares_along, spacing_by}
-use Rattle.def_remesh.specs.declared.limits.TheConstants.{MAX_NEW_FACES}
-use Rattle.def_written.specs.NewFaces.{face_count}
-use Rattle.def_written.specs.Places.{ONE}
-use Rattle.def_written.specs.Spacings.{IsSpacing}
-use Rattle.plan_laws.proofs.Bounds.{vertices_few}
-use Rattle.plan_laws.proofs.MeshLayouts.{laid_of, lengths_of}
-use Rattle.written_laws.proofs.Runs.{count_rises}
-use Rattle.written_laws.proofs.Spacings.{even_law, shared_law}
+use Rattle.def_remesh.specs.{Spaced.shares_along, Spaced.spacing_by, declared.limits.TheConstants.MAX_NEW_FACES}
+use Rattle.def_written.specs.{NewFaces.face_count, Places.ONE, Spacings.IsSpacing}
+use Rattle.plan_laws.proofs.{Bounds.vertices_few, MeshLayouts.laid_of, MeshLayouts.lengths_of}
+use Rattle.written_laws.proofs.{Runs.count_rises, Spacings.even_law, Spacings.shared_law}
 
 module _ (plan : Plan) (is : IsSomeLayout plan) (new : Lengths) (len : AreLengths (layout_of plan) new)
     (few : face_count (layout_of plan) new ≤ MAX_NEW_FACES) where

@@ -1,22 +1,17 @@
 -- New vertices lie in the old mesh, and have the places that are computed from there.
 use Rattle.std.proofs.Common.{◌≡◌, ℕ, ◌<◌, List, length, Option, refl, sym, subst, arith}
 use Rattle.def_cut.specs.Grids.{cell_of, patch_at}
-use Rattle.def_layout.specs.Arcs.{dart_at, long_at}
-use Rattle.def_layout.specs.Layouts.{Layout}
-use Rattle.def_layout.specs.Lengths.{Lengths, wide, high, AreLengths}
-use Rattle.def_layout.specs.Plans.{Plan, layout_of}
+use Rattle.def_layout.specs.{Arcs.dart_at, Arcs.long_at, Layouts.Layout, Lengths.Lengths, Lengths.wide, Lengths.high}
+use Rattle.def_layout.specs.{Lengths.AreLengths, Plans.Plan, Plans.layout_of}
 use Rattle.def_layoutnet.specs.MeshLayouts.{IsSomeLayout}
 use Rattle.def_mesh.specs.Faces.{Faces}
 use Rattle.def_text.specs.Types.{Positions}
 use Rattle.def_written.specs.Places.{blend, cell_at, on_the_way, parameter_u, parameter_v, rest_at, ArcSpacing}
 use Rattle.def_written.specs.Spacings.{IsSpacing}
 use Rattle.def_written.specs.Points.{Point, node, along, inside, IsPoint}
-use Rattle.def_remesh.specs.NewPoints.{point_at}
-use Rattle.def_remesh.specs.NewSoup.{new_coordinate, spaced_place}
-use Rattle.def_remesh.specs.Spaced.{spacing_by}
-use Rattle.def_map.specs.Laws.{IsSpot, SpotLaw}
-use Rattle.def_map.specs.SpotPlaces.{coordinate_at, on_axes, spot_place}
-use Rattle.def_map.specs.Spots.{spot_at, spot_of}
+use Rattle.def_remesh.specs.{NewPoints.point_at, NewSoup.new_coordinate, NewSoup.spaced_place, Spaced.spacing_by}
+use Rattle.def_map.specs.{Laws.IsSpot, Laws.SpotLaw, SpotPlaces.coordinate_at, SpotPlaces.on_axes}
+use Rattle.def_map.specs.{SpotPlaces.spot_place, Spots.spot_at, Spots.spot_of}
 use Rattle.map_laws.proofs.Numbered.{is_point}
 use Rattle.map_laws.proofs.OldPoints.{corners, ends, old_low, AreCorners, AreEnds}
 use Rattle.map_laws.proofs.Parameters.{rest_less, u_less, v_less}

@@ -2,12 +2,9 @@
 use Rattle.std.proofs.Common.{◌≡◌, ◌⊎◌, ℕ, zero, suc, ◌-◌, ◌<◌, true, false, Some, sym, ◌∙◌, ap, subst, refl}
 use Rattle.std.proofs.Common.{inl, inr, true≢false, arith}
 use Rattle.def_mesh.specs.HalfEdges.{HalfEdges, IsQuadManifold}
-use Rattle.def_cut.specs.Cuts.{Cut, IsCross, HasCross, Links, IsCut}
-use Rattle.def_cut.specs.Grids.{Cells, IsGrid}
+use Rattle.def_cut.specs.{Cuts.Cut, Cuts.IsCross, Cuts.HasCross, Cuts.Links, Cuts.IsCut, Grids.Cells, Grids.IsGrid}
 use Rattle.def_cut.specs.Steps.{spin, easts}
-use Rattle.cut_laws.proofs.Crosses.{one_of_four, low_a, low_b}
-use Rattle.cut_laws.proofs.Folds.{no_fold}
-use Rattle.cut_laws.proofs.Pigeon.{sent_or_not}
+use Rattle.cut_laws.proofs.{Crosses.one_of_four, Crosses.low_a, Crosses.low_b, Folds.no_fold, Pigeon.sent_or_not}
 use Rattle.cut_laws.proofs.Classes.{links_low, linked_back}
 use Rattle.motion_laws.proofs.Bits.{rotated}
 use Rattle.def_merge.specs.Joins.{AreGlued, IsJoinable, IsOnArc, IsWithout}

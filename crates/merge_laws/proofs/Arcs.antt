@@ -5,8 +5,7 @@ use Rattle.std.proofs.Common.{inr, true≢false, arith}
 use Rattle.std.proofs.lemmas.Bool.{cases_Bool, cases_eq, cases_lt}
 use Rattle.std.proofs.lemmas.Option.{same_Some}
 use Rattle.def_mesh.specs.HalfEdges.{HalfEdges, IsQuadManifold}
-use Rattle.def_cut.specs.Cuts.{Cut, IsCut}
-use Rattle.def_cut.specs.Steps.{easts}
+use Rattle.def_cut.specs.{Cuts.Cut, Cuts.IsCut, Steps.easts}
 use Rattle.merge_laws.proofs.Sides.{side_low, side_on, first_place, one_place, one_size}
 use Rattle.merge_laws.proofs.ArcDarts.{on_or_not, other_way, turned_glued, less, links_less}
 use Rattle.merge_laws.proofs.Joins.{join_law}

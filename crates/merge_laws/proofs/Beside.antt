@@ -1,22 +1,16 @@
 -- What is merged beside marked lines keeps them.
 use Rattle.std.proofs.Common.{◌≡◌, ◌⊎◌, ℕ, zero, suc, ◌+◌, ◌<◌, ◌≤◌, Bool, true, false, not, eqb, ◌&&◌, ◌||◌, List}
 use Rattle.std.proofs.Common.{length, sym, ◌∙◌, ap, refl, inl, inr, arith}
-use Rattle.std.specs.List.{list_all, range_with_len}
 use Rattle.std.proofs.lemmas.Bool.{cases_Bool, or_left, or_right, or_cases, and_from, and_parts, eq-eqb, eqb-true}
 use Rattle.std.proofs.lemmas.Bool.{false≢true}
 use Rattle.std.proofs.lemmas.List.{ext_get_or, length-map}
 use Rattle.std.proofs.lemmas.List.FromFn.{length-range_with_len, get_or-map-range_with_len}
-use Rattle.def_mesh.specs.Faces.{Faces}
-use Rattle.def_mesh.specs.Darts.{darts, all_darts, from_of}
-use Rattle.def_mesh.specs.HalfEdges.{HalfEdges, IsQuadManifold, half_edges}
-use Rattle.def_mesh.specs.Manifold.{IsManifold}
-use Rattle.def_cut.specs.FullCut.{is_on}
-use Rattle.def_cut.specs.Motion.{is_among}
-use Rattle.def_cut.specs.Steps.{easts}
-use Rattle.def_feature.specs.Beside.{is_turn, IsCutBeside, is_kept, keeps_lines}
-use Rattle.def_feature.specs.Marks.{is_break}
-use Rattle.def_merge.specs.Beside.{is_on_arc, without, may_beside, MergedBesideLaw}
-use Rattle.def_merge.specs.Joins.{IsOnArc}
+use Rattle.std.specs.List.{list_all, range_with_len}
+use Rattle.def_mesh.specs.{Faces.Faces, Darts.darts, Darts.all_darts, Darts.from_of, HalfEdges.HalfEdges}
+use Rattle.def_mesh.specs.{HalfEdges.IsQuadManifold, HalfEdges.half_edges, Manifold.IsManifold}
+use Rattle.def_cut.specs.{FullCut.is_on, Motion.is_among, Steps.easts}
+use Rattle.def_feature.specs.{Beside.is_turn, Beside.IsCutBeside, Beside.is_kept, Beside.keeps_lines, Marks.is_break}
+use Rattle.def_merge.specs.{Beside.is_on_arc, Beside.without, Beside.may_beside, Beside.MergedBesideLaw, Joins.IsOnArc}
 use Rattle.def_merge.specs.Merged.{IsStep, Steps}
 use Rattle.mesh_laws.proofs.HalfEdges.{manifold_law}
 use Rattle.face_laws.proofs.FullCuts.{full_cut_law}

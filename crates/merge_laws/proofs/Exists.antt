@@ -1,23 +1,20 @@
 -- Each full cut has a merged cut: each step leaves fewer darts.
 use Rattle.std.proofs.Common.{◌≡◌, ◌⊎◌, ℕ, zero, suc, ◌<◌, ◌≤◌, Bool, true, false, cond}
 use Rattle.std.proofs.Common.{List, map, sym, ◌∙◌, ap, subst, refl, inl, inr, arith}
-use Rattle.std.specs.List.{range_with_len}
 use Rattle.std.proofs.lemmas.Bool.{cases_lt}
 use Rattle.std.proofs.lemmas.List.FromFn.{get_or-map-range_with_len, length-map-range_with_len}
+use Rattle.std.specs.List.{range_with_len}
 use Rattle.def_math.specs.Counts.{count_below}
 use Rattle.sum_laws.proofs.Counts.{count_below_lt}
-use Rattle.def_mesh.specs.Faces.{Faces}
-use Rattle.def_mesh.specs.Darts.{darts}
-use Rattle.def_mesh.specs.HalfEdges.{HalfEdges, IsQuadManifold, half_edges}
+use Rattle.def_mesh.specs.{Faces.Faces, Darts.darts, HalfEdges.HalfEdges, HalfEdges.IsQuadManifold}
+use Rattle.def_mesh.specs.HalfEdges.{half_edges}
 use Rattle.def_cut.specs.FullCut.{is_on}
 use Rattle.mesh_laws.proofs.HalfEdges.{manifold_law}
 use Rattle.face_laws.proofs.FullCuts.{full_cut_law}
-use Rattle.def_merge.specs.Joins.{IsJoinable, IsOnArc}
-use Rattle.def_merge.specs.Laws.{MergedLaw}
-use Rattle.def_merge.specs.Merged.{IsMergedBy, IsStep, Steps, MayLeave}
-use Rattle.merge_laws.proofs.ArcDarts.{on_cut, on_low, on_or_not}
-use Rattle.merge_laws.proofs.OneMerged.{IsCutOf, cut_after}
-use Rattle.merge_laws.proofs.Decided.{Over, least_or_none}
+use Rattle.def_merge.specs.{Joins.IsJoinable, Joins.IsOnArc, Laws.MergedLaw, Merged.IsMergedBy, Merged.IsStep}
+use Rattle.def_merge.specs.Merged.{Steps, MayLeave}
+use Rattle.merge_laws.proofs.{ArcDarts.on_cut, ArcDarts.on_low, ArcDarts.on_or_not, OneMerged.IsCutOf}
+use Rattle.merge_laws.proofs.{OneMerged.cut_after, Decided.Over, Decided.least_or_none}
 
 -- Marks without those of an arc.
 abbrev left : (b : Bool) {P : Type 0} → P ⊎ (P → ⊥) → Bool

@@ -7,17 +7,13 @@ use Rattle.def_math.specs.Counts.{count_below}
 use Rattle.sum_laws.proofs.Counts.{count_below_one, count_below_ones, count_below_same, count_below_sum}
 use Rattle.written_laws.proofs.Tallies.{one_if, passing, passing_all, passing_le}
 use Rattle.def_mesh.specs.HalfEdges.{HalfEdges, IsQuadManifold}
-use Rattle.def_cut.specs.Cuts.{Cut, Links, IsCut}
-use Rattle.def_cut.specs.Grids.{IsGrid, IsPartition, IsSide, Rectangle, cell_of, patch_at}
-use Rattle.def_cut.specs.Steps.{easts}
+use Rattle.def_cut.specs.{Cuts.Cut, Cuts.Links, Cuts.IsCut, Grids.IsGrid, Grids.IsPartition, Grids.IsSide}
+use Rattle.def_cut.specs.{Grids.Rectangle, Grids.cell_of, Grids.patch_at, Steps.easts}
 use Rattle.cut_laws.specs.Grown.{grown}
 use Rattle.cut_laws.proofs.Classes.{links_join, links_low, linked_back, linked_in, step_next, step_over}
-use Rattle.def_merge.specs.Joins.{AreInOne, IsJoinable, IsOnArc, IsWithout}
-use Rattle.def_merge.specs.Laws.{FewerLaw}
-use Rattle.merge_laws.proofs.Classes.{IsIn, one_place_of}
-use Rattle.merge_laws.proofs.ArcDarts.{links_less, on_low, on_or_not, on_twin}
-use Rattle.merge_laws.proofs.Joins.{join_law}
-use Rattle.merge_laws.proofs.Sides.{grid_on}
+use Rattle.def_merge.specs.{Joins.AreInOne, Joins.IsJoinable, Joins.IsOnArc, Joins.IsWithout, Laws.FewerLaw}
+use Rattle.merge_laws.proofs.{Classes.IsIn, Classes.one_place_of, ArcDarts.links_less, ArcDarts.on_low}
+use Rattle.merge_laws.proofs.{ArcDarts.on_or_not, ArcDarts.on_twin, Joins.join_law, Sides.grid_on}
 
 -- All numbers below a bound but one.
 one_less : (u m : ℕ) → u < m → suc (passing (λ k. not (k == u)) m) ≡ m

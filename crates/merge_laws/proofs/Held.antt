@@ -1,15 +1,11 @@
 -- An arc that may not leave a cut beside marked lines may not leave a part of it, nor from its other side.
-use Rattle.std.proofs.Common.{◌≡◌, ℕ, ◌<◌, Bool, true, false, not, ◌&&◌, List}
-use Rattle.std.proofs.Common.{sym, ◌∙◌, ap, arith}
-use Rattle.std.proofs.lemmas.Bool.{and_from, and_parts}
-use Rattle.std.proofs.lemmas.List.{ext_get_or}
+use Rattle.std.proofs.Common.{◌≡◌, ℕ, ◌<◌, Bool, true, false, not}
+use Rattle.std.proofs.{Common.◌&&◌, Common.List, Common.sym, Common.◌∙◌, Common.ap, Common.arith, lemmas.Bool.and_from}
+use Rattle.std.proofs.{lemmas.Bool.and_parts, lemmas.List.ext_get_or}
 use Rattle.sum_laws.proofs.Tests.{same_test}
-use Rattle.def_mesh.specs.Faces.{Faces}
-use Rattle.def_mesh.specs.Darts.{darts, from_of, prev_of}
-use Rattle.def_mesh.specs.HalfEdges.{half_edges}
+use Rattle.def_mesh.specs.{Faces.Faces, Darts.darts, Darts.from_of, Darts.prev_of, HalfEdges.half_edges}
 use Rattle.def_mesh.specs.Vertices.{fan_of}
-use Rattle.def_cut.specs.FullCut.{is_on}
-use Rattle.def_cut.specs.Motion.{is_among}
+use Rattle.def_cut.specs.{FullCut.is_on, Motion.is_among}
 use Rattle.def_feature.specs.Beside.{is_turn, keeps_lines}
 use Rattle.def_merge.specs.Beside.{is_on_arc, without, may_beside, HeldLaw}
 use Rattle.mesh_laws.proofs.Darts.{prev_of_low}

@@ -5,15 +5,12 @@ use Rattle.std.proofs.lemmas.Bool.{cases_Bool, cases_eq, false≢true}
 use Rattle.std.proofs.lemmas.Option.{same_Some}
 use Rattle.def_mesh.specs.HalfEdges.{HalfEdges, IsQuadManifold}
 use Rattle.def_cut.specs.Cuts.{Cut, HasCross, IsUncut, Links, IsCorner, GoesOn, IsCut}
-use Rattle.def_cut.specs.Grids.{IsGrid}
-use Rattle.def_cut.specs.Steps.{spin, easts}
+use Rattle.def_cut.specs.{Grids.IsGrid, Steps.spin, Steps.easts}
 use Rattle.cut_laws.specs.Grown.{grown}
-use Rattle.cut_laws.proofs.Darts.{prev_three, next_same, twin_same}
-use Rattle.cut_laws.proofs.Rows.{cross_at}
-use Rattle.cut_laws.proofs.Classes.{In, AreLinked, links_join, linked_back, linked_in}
+use Rattle.cut_laws.proofs.{Darts.prev_three, Darts.next_same, Darts.twin_same, Rows.cross_at, Classes.In}
+use Rattle.cut_laws.proofs.Classes.{AreLinked, links_join, linked_back, linked_in}
 use Rattle.cut_laws.proofs.Corners.{CornerOf}
-use Rattle.def_merge.specs.Joins.{IsJoinable, IsOnArc, IsWithout}
-use Rattle.def_merge.specs.Laws.{JoinLaw}
+use Rattle.def_merge.specs.{Joins.IsJoinable, Joins.IsOnArc, Joins.IsWithout, Laws.JoinLaw}
 use Rattle.merge_laws.proofs.ArcDarts.{on_or_not, other_without, cross_from, turned_glued, turned_arc, on_twin}
 use Rattle.merge_laws.proofs.ArcDarts.{never_south, less, still, links_less}
 use Rattle.merge_laws.proofs.Sides.{side_low, side_link, side_from, first_place, grid_on}

@@ -1,28 +1,19 @@
 -- What is joinable in a layout is joinable in its cut.
 use Rattle.std.proofs.Common.{◌≡◌, ℕ, suc, ◌+◌, ◌-◌, ◌<◌, Bool, true, false, not, Some, sym, ◌∙◌, ap, subst, refl}
 use Rattle.std.proofs.Common.{arith}
-use Rattle.def_mesh.specs.HalfEdges.{HalfEdges, IsQuadManifold, half_edges}
-use Rattle.def_mesh.specs.Vertices.{vertex_count}
-use Rattle.def_cut.specs.Cuts.{Cut, IsCut}
-use Rattle.def_cut.specs.FullCut.{is_on}
-use Rattle.def_cut.specs.Grids.{IsGrid, Rectangle, cell_of, patch_at}
-use Rattle.def_cut.specs.Steps.{face_of, easts}
-use Rattle.cut_laws.proofs.Darts.{prev_three}
-use Rattle.cut_laws.proofs.Classes.{In, in_low}
-use Rattle.def_layout.specs.Arcs.{path_at, long_at, dart_at, LiesAt}
-use Rattle.def_layout.specs.Borders.{side_size, border_dart}
-use Rattle.def_layout.specs.Layouts.{Way, south, east, north, west, Slot, IsSlot, use_of}
-use Rattle.def_layout.specs.Lengths.{reach}
-use Rattle.def_layout.specs.Nodes.{is_node}
-use Rattle.def_layout.specs.Plans.{Plan, layout_of, IsDartLayout}
+use Rattle.def_mesh.specs.{HalfEdges.HalfEdges, HalfEdges.IsQuadManifold, HalfEdges.half_edges, Vertices.vertex_count}
+use Rattle.def_cut.specs.{Cuts.Cut, Cuts.IsCut, FullCut.is_on, Grids.IsGrid, Grids.Rectangle, Grids.cell_of}
+use Rattle.def_cut.specs.{Grids.patch_at, Steps.face_of, Steps.easts}
+use Rattle.cut_laws.proofs.{Darts.prev_three, Classes.In, Classes.in_low}
+use Rattle.def_layout.specs.{Arcs.path_at, Arcs.long_at, Arcs.dart_at, Arcs.LiesAt, Borders.side_size}
+use Rattle.def_layout.specs.{Borders.border_dart, Layouts.Way, Layouts.south, Layouts.east, Layouts.north, Layouts.west}
+use Rattle.def_layout.specs.{Layouts.Slot, Layouts.IsSlot, Layouts.use_of, Lengths.reach, Nodes.is_node, Plans.Plan}
+use Rattle.def_layout.specs.Plans.{layout_of, IsDartLayout}
 use Rattle.mesh_laws.proofs.HalfEdges.{manifold_law}
 use Rattle.face_laws.proofs.FullCuts.{full_cut_law}
-use Rattle.merge_laws.proofs.Sides.{south_side, east_side, north_side, west_side, along_south, along_east, along_north}
-use Rattle.merge_laws.proofs.Sides.{along_west}
-use Rattle.merge_laws.proofs.Classes.{one_place_of}
-use Rattle.def_merge.specs.Joins.{IsWholeSide, AreInOne, IsJoinable}
-use Rattle.def_merge.specs.Layouts.{IsJoinableAt}
-use Rattle.def_merge.specs.Laws.{JoinableLaw}
+use Rattle.merge_laws.proofs.Sides.{south_side, east_side, north_side, west_side, along_south}
+use Rattle.merge_laws.proofs.{Sides.along_east, Sides.along_north, Sides.along_west, Classes.one_place_of}
+use Rattle.def_merge.specs.{Joins.IsWholeSide, Joins.AreInOne, Joins.IsJoinable, Layouts.IsJoinableAt, Laws.JoinableLaw}
 
 -- A side of a patch: the whole of it, dart by dart.
 pub record IsBorder (mesh : HalfEdges) (cut : Cut) (p : Rectangle) (side : Way) : Type 0 where

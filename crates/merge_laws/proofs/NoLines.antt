@@ -3,12 +3,9 @@ use Rattle.std.proofs.Common.{◌≡◌, ℕ, zero, suc, ◌<◌, Bool, true, fa
 use Rattle.std.proofs.lemmas.Bool.{false≢true}
 use Rattle.std.proofs.lemmas.List.{ext_get_or, length-map, length-replicate}
 use Rattle.std.proofs.lemmas.List.FromFn.{length-range_with_len, get_or-map-range_with_len}
-use Rattle.def_mesh.specs.Faces.{Faces}
-use Rattle.def_mesh.specs.Darts.{darts, from_of}
-use Rattle.def_mesh.specs.Vertices.{all_vertices, vertex_count}
+use Rattle.def_mesh.specs.{Faces.Faces, Darts.darts, Darts.from_of, Vertices.all_vertices, Vertices.vertex_count}
 use Rattle.def_cut.specs.FullCut.{is_on, IsFullCut}
-use Rattle.def_feature.specs.Beside.{IsCutBeside}
-use Rattle.def_feature.specs.Marks.{is_break}
+use Rattle.def_feature.specs.{Beside.IsCutBeside, Marks.is_break}
 use Rattle.def_merge.specs.Beside.{may_beside, without}
 use Rattle.def_merge.specs.Merged.{all_may, IsMergedBy, IsMergedCut, IsStep, MayLeave, Steps}
 use Rattle.feature_laws.proofs.NoMarks.{no_break, off}

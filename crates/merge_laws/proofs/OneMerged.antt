@@ -3,19 +3,15 @@ use Rattle.std.proofs.Common.{◌≡◌, ◌⊎◌, ℕ, zero, suc, ◌<◌, Boo
 use Rattle.std.proofs.Common.{inr, arith}
 use Rattle.std.proofs.lemmas.Bool.{cases_eq, cases_order}
 use Rattle.std.proofs.lemmas.List.{ext_get_or}
-use Rattle.def_mesh.specs.Faces.{Faces}
-use Rattle.def_mesh.specs.Darts.{darts}
-use Rattle.def_mesh.specs.HalfEdges.{HalfEdges, IsQuadManifold, half_edges}
-use Rattle.def_cut.specs.Cuts.{IsCut}
-use Rattle.def_cut.specs.FullCut.{is_on}
+use Rattle.def_mesh.specs.{Faces.Faces, Darts.darts, HalfEdges.HalfEdges, HalfEdges.IsQuadManifold}
+use Rattle.def_mesh.specs.HalfEdges.{half_edges}
+use Rattle.def_cut.specs.{Cuts.IsCut, FullCut.is_on}
 use Rattle.mesh_laws.proofs.HalfEdges.{manifold_law}
 use Rattle.face_laws.proofs.FullCuts.{full_cut_law}
-use Rattle.merge_laws.proofs.ArcDarts.{on_or_not, other_way, less}
-use Rattle.merge_laws.proofs.Joins.{join_law}
-use Rattle.merge_laws.proofs.Arcs.{AreOneArc, one_arc}
-use Rattle.def_merge.specs.Joins.{IsOnArc}
-use Rattle.def_merge.specs.Merged.{IsStep, Steps, IsMerged, IsMergedBy, MayLeave}
-use Rattle.def_merge.specs.Laws.{OneMergedLaw}
+use Rattle.merge_laws.proofs.{ArcDarts.on_or_not, ArcDarts.other_way, ArcDarts.less, Joins.join_law, Arcs.AreOneArc}
+use Rattle.merge_laws.proofs.Arcs.{one_arc}
+use Rattle.def_merge.specs.{Joins.IsOnArc, Merged.IsStep, Merged.Steps, Merged.IsMerged, Merged.IsMergedBy}
+use Rattle.def_merge.specs.{Merged.MayLeave, Laws.OneMergedLaw}
 
 -- An arc has the same darts from both sides.
 pub same_darts : (mesh : HalfEdges) (s t n r u m d : ℕ) → AreOneArc s t r u → n ≡ m → IsOnArc mesh s t n d

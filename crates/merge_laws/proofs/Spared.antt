@@ -3,17 +3,11 @@ use Rattle.std.proofs.Common.{◌≡◌, ◌≢◌, ◌⊎◌, ℕ, zero, suc, �
 use Rattle.std.proofs.Common.{Some, sym, ◌∙◌, ap, subst, refl, inl, inr, arith}
 use Rattle.std.proofs.lemmas.Bool.{false≢true, false_from_ne_true}
 use Rattle.std.proofs.lemmas.Option.{same_Some}
-use Rattle.def_mesh.specs.Faces.{Faces}
-use Rattle.def_mesh.specs.Darts.{darts, from_of, next_of, prev_of, twin_of}
-use Rattle.def_mesh.specs.HalfEdges.{HalfEdges, IsQuadManifold, half_edges}
-use Rattle.def_mesh.specs.Manifold.{IsManifold}
-use Rattle.def_cut.specs.Cuts.{HasCross, IsCut, GoesOn}
-use Rattle.def_cut.specs.FullCut.{is_on}
-use Rattle.def_cut.specs.Grids.{IsGrid}
+use Rattle.def_mesh.specs.{Faces.Faces, Darts.darts, Darts.from_of, Darts.next_of, Darts.prev_of, Darts.twin_of}
+use Rattle.def_mesh.specs.{HalfEdges.HalfEdges, HalfEdges.IsQuadManifold, HalfEdges.half_edges, Manifold.IsManifold}
+use Rattle.def_cut.specs.{Cuts.HasCross, Cuts.IsCut, Cuts.GoesOn, FullCut.is_on, Grids.IsGrid, Steps.easts}
 use Rattle.cut_laws.specs.Grown.{grown}
-use Rattle.def_cut.specs.Steps.{easts}
-use Rattle.def_feature.specs.Beside.{is_turn, IsCutBeside, keeps_lines}
-use Rattle.def_feature.specs.Marks.{AreMarks, is_break}
+use Rattle.def_feature.specs.{Beside.is_turn, Beside.IsCutBeside, Beside.keeps_lines, Marks.AreMarks, Marks.is_break}
 use Rattle.def_merge.specs.Beside.{without, IsEndFree, IsSpared, SparedLaw}
 use Rattle.def_merge.specs.Joins.{AreGlued, IsJoinable, IsOnArc, IsWithout}
 use Rattle.cut_laws.proofs.Crosses.{one_of_four, low_a, low_b, low_c, at_a, at_b}

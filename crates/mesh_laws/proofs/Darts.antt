@@ -1,8 +1,7 @@
 -- The steps round a face.
 use Rattle.std.proofs.Common.{◌≡◌, ℕ, ◌+◌, ◌/◌, ◌%◌, ◌-◌, ◌<◌, ◌≤◌, ap, ◌∙◌, arith}
 use Rattle.std.proofs.lemmas.Bool.Decides.{nat_tests}
-use Rattle.def_mesh.specs.Faces.{Faces}
-use Rattle.def_mesh.specs.Darts.{darts, next_of, prev_of, from_of, to_of}
+use Rattle.def_mesh.specs.{Faces.Faces, Darts.darts, Darts.next_of, Darts.prev_of, Darts.from_of, Darts.to_of}
 
 -- The dart after a dart is a dart, and so is the one before.
 pub next_of_low : (faces : Faces) (d : ℕ) → d < darts faces → next_of d < darts faces

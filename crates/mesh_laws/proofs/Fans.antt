@@ -1,9 +1,7 @@
 -- The fan of a vertex by places.
 use Rattle.std.proofs.Common.{◌≡◌, ◌⊎◌, ℕ, ◌<◌, ◌≤◌, eqb, List, length, get_or, sym, subst, ap, inl, inr, arith}
 use Rattle.std.proofs.lemmas.Bool.{cases_eq, cases_lt, eq-eqb, eqb-true}
-use Rattle.def_mesh.specs.Faces.{Faces}
-use Rattle.def_mesh.specs.Darts.{darts, from_of}
-use Rattle.def_mesh.specs.Vertices.{fan_of}
+use Rattle.def_mesh.specs.{Faces.Faces, Darts.darts, Darts.from_of, Vertices.fan_of}
 use Rattle.list_laws.proofs.Filters.{IsKept, kept_at, place_of, rises}
 
 -- The fan of v by places: its entries are the darts that leave v, each at one place, increasing.

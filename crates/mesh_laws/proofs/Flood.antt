@@ -1,15 +1,15 @@
 -- The flood of a component is exact: it marks just the faces to which chains of shared edges lead.
 use Rattle.std.proofs.Common.{◌≡◌, ◌⊎◌, ℕ, zero, suc, ◌+◌, ◌*◌, ◌<◌, ◌≤◌, Bool, true, false, not, cond, eqb, ◌&&◌, ◌||◌}
 use Rattle.std.proofs.Common.{map, length, sym, subst, ap, ◌∙◌, refl, inl, inr, arith}
-use Rattle.std.specs.List.{list_any, range_with_len, position_or_len}
 use Rattle.std.proofs.lemmas.Bool.{eq-eqb, eqb-true, cases_Bool, cases_lt, or_left, or_right, or_cases, and_parts}
 use Rattle.std.proofs.lemmas.Bool.{and_from, false≢true, not_from_false}
-use Rattle.sum_laws.proofs.Tests.{once_at_most, same_test}
 use Rattle.std.proofs.lemmas.List.{length-map}
 use Rattle.std.proofs.lemmas.List.FromFn.{length-range_with_len, get_or-map-range_with_len}
 use Rattle.std.proofs.lemmas.List.Sums.{passes_at_first, fails_before_first}
-use Rattle.def_math.specs.Counts.{count_below}
+use Rattle.std.specs.List.{list_any, range_with_len, position_or_len}
+use Rattle.sum_laws.proofs.Tests.{once_at_most, same_test}
 use Rattle.sum_laws.proofs.Counts.{count_below_lt, count_below_le, count_below_none, count_below_ones}
+use Rattle.def_math.specs.Counts.{count_below}
 use Rattle.list_laws.proofs.Filters.{any_in_range, range_any, map_range_same}
 use Rattle.def_mesh.specs.Faces.{Faces, all_faces}
 use Rattle.def_mesh.specs.Darts.{from_of, to_of, is_reverse}

@@ -2,14 +2,12 @@
 use Rattle.std.proofs.Common.{◌≡◌, ◌≢◌, ◌⊎◌, ℕ, zero, suc, ◌+◌, ◌-◌, ◌/◌, ◌%◌, ◌<◌, Bool, true, false, Some, sym, subst}
 use Rattle.std.proofs.Common.{ap, ◌∙◌, refl, inl, inr, arith}
 use Rattle.std.proofs.lemmas.Bool.{cases_lt}
-use Rattle.def_mesh.specs.Faces.{Faces, corner}
-use Rattle.def_mesh.specs.Darts.{darts, from_of, next_of, prev_of, twin_of, IsTwin}
-use Rattle.def_mesh.specs.Manifold.{IsRepeatFree, HasEdgesOnce, Chain}
+use Rattle.def_mesh.specs.{Faces.Faces, Faces.corner, Darts.darts, Darts.from_of, Darts.next_of, Darts.prev_of}
+use Rattle.def_mesh.specs.{Darts.twin_of, Darts.IsTwin, Manifold.IsRepeatFree, Manifold.HasEdgesOnce, Manifold.Chain}
 use Rattle.def_mesh.specs.HalfEdges.{AreTurned, Turns, half_edges, ManifoldLaw}
-use Rattle.mesh_laws.proofs.Darts.{next_of_low, prev_of_low, prev_of-next_of, next_of-prev_of, four_steps, next_face}
-use Rattle.mesh_laws.proofs.Darts.{two_on}
-use Rattle.mesh_laws.proofs.Chains.{Step, ends_differ, neighbour_step, chain_low}
-use Rattle.mesh_laws.proofs.Twins.{twin_found, twin_is}
+use Rattle.mesh_laws.proofs.Darts.{next_of_low, prev_of_low, prev_of-next_of, next_of-prev_of}
+use Rattle.mesh_laws.proofs.{Darts.four_steps, Darts.next_face, Darts.two_on, Chains.Step, Chains.ends_differ}
+use Rattle.mesh_laws.proofs.{Chains.neighbour_step, Chains.chain_low, Twins.twin_found, Twins.twin_is}
 
 -- Opposite corners of a face differ.
 opposite_differ : (faces : Faces) → IsRepeatFree faces → (d : ℕ) → d < darts faces

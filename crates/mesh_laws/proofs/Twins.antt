@@ -1,9 +1,8 @@
 -- The twin that a search finds is the dart with the ends exchanged.
 use Rattle.std.proofs.Common.{◌≡◌, ℕ, ◌+◌, ◌<◌, true, eqb, Some, None, sym, ◌∙◌, arith}
 use Rattle.std.proofs.lemmas.Bool.{and_parts, and_from, false_from_ne_true, eq-eqb, eqb-true}
-use Rattle.def_mesh.specs.Faces.{Faces}
-use Rattle.def_mesh.specs.Darts.{darts, from_of, to_of, is_reverse, twin_of, IsTwin}
-use Rattle.def_mesh.specs.Manifold.{HasEdgesOnce}
+use Rattle.def_mesh.specs.{Faces.Faces, Darts.darts, Darts.from_of, Darts.to_of, Darts.is_reverse, Darts.twin_of}
+use Rattle.def_mesh.specs.{Darts.IsTwin, Manifold.HasEdgesOnce}
 use Rattle.list_laws.proofs.Filters.{find_none, find_one, find_passes}
 
 pub reverse_twin : (faces : Faces) (d e : ℕ) → e < darts faces → is_reverse faces d e ≡ true → IsTwin faces d e

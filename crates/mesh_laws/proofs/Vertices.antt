@@ -1,12 +1,10 @@
 -- The number of vertices, and the length of a fan.
-use Rattle.std.proofs.Common.{◌≡◌, ℕ, zero, suc, ◌<◌, ◌≤◌, eqb, not, List, [], ◌∷◌, map, length, get_or, ◌∙◌, refl}
-use Rattle.std.proofs.Common.{arith}
-use Rattle.std.proofs.lemmas.List.{length-map}
-use Rattle.std.proofs.lemmas.List.FromFn.{length-range_with_len, get_or-map-range_with_len}
-use Rattle.std.proofs.lemmas.List.Filters.{length-filter_both}
-use Rattle.def_mesh.specs.Faces.{Faces}
-use Rattle.def_mesh.specs.Darts.{darts, all_darts, from_of}
-use Rattle.def_mesh.specs.Vertices.{above_all, vertex_count, faces_at}
+use Rattle.std.proofs.Common.{◌≡◌, ℕ, zero, suc, ◌<◌, ◌≤◌, eqb, not}
+use Rattle.std.proofs.Common.{List, [], ◌∷◌, map, length, get_or, ◌∙◌}
+use Rattle.std.proofs.{Common.refl, Common.arith, lemmas.List.length-map, lemmas.List.FromFn.length-range_with_len}
+use Rattle.std.proofs.{lemmas.List.FromFn.get_or-map-range_with_len, lemmas.List.Filters.length-filter_both}
+use Rattle.def_mesh.specs.{Faces.Faces, Darts.darts, Darts.all_darts, Darts.from_of, Vertices.above_all}
+use Rattle.def_mesh.specs.Vertices.{vertex_count, faces_at}
 
 -- Each number of a list is below the bound, which is the least.
 pub below_bound : (xs : List ℕ) (i : ℕ) → i < length xs → get_or xs i 0 < above_all xs

@@ -1,9 +1,9 @@
 -- Lists of darts: what stands among them, filters, and lists without repeats.
 use Rattle.std.proofs.Common.{◌≡◌, ◌≢◌, ◌⊎◌, ℕ, zero, suc, Bool, true, false, cond, eqb, ◌&&◌, ◌+◌, ◌<◌, ◌≤◌, List, []}
 use Rattle.std.proofs.Common.{◌∷◌, arith, sym, ap, ◌∙◌, refl, inl, inr}
-use Rattle.std.specs.List.{filter, list_any, list_all, range_with_len}
 use Rattle.std.proofs.lemmas.Bool.{or_left, or_right, or_cases, eq-eqb, eqb-true, and_parts, false≢true}
 use Rattle.std.proofs.lemmas.Bool.{false_from_ne_true}
+use Rattle.std.specs.List.{filter, list_any, list_all, range_with_len}
 use Rattle.list_laws.proofs.Filters.{any_in_range, range_any}
 use Rattle.def_cut.specs.Motion.{is_among}
 

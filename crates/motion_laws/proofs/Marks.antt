@@ -2,13 +2,12 @@
 use Rattle.std.proofs.Common.{◌≡◌, ◌≢◌, ◌⊎◌, ℕ, zero, suc, ◌+◌, ◌<◌, ◌≤◌, Bool, true, false, eqb, ◌||◌, List, [], ◌∷◌}
 use Rattle.std.proofs.Common.{◌++◌, length, get_or, set, replicate, Option, Some, None, sym, ap, ◌∙◌, refl, inl, inr}
 use Rattle.std.proofs.Common.{arith}
-use Rattle.std.specs.List.{list_any}
 use Rattle.std.proofs.Math.Bool.{or-false}
 use Rattle.std.proofs.lemmas.Bool.{eq-eqb, ne_eqb, cases_eq, false≢true, false_from_ne_true}
 use Rattle.std.proofs.lemmas.List.{get_or-set_same, get_or-set_other, length-set}
-use Rattle.def_cut.specs.FullCut.{is_on}
-use Rattle.def_cut.specs.Motion.{Terrain, is_among, is_found}
-use Rattle.def_cut.specs.Events.{mark_twin, marked_from, darts_in, note_at}
+use Rattle.std.specs.List.{list_any}
+use Rattle.def_cut.specs.{FullCut.is_on, Motion.Terrain, Motion.is_among, Motion.is_found, Events.mark_twin}
+use Rattle.def_cut.specs.Events.{marked_from, darts_in, note_at}
 use Rattle.cut_laws.proofs.Pigeon.{no_more}
 use Rattle.motion_laws.proofs.Among.{among_here, among_later, among_cases, AreApart}
 

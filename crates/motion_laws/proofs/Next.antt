@@ -2,10 +2,9 @@
 use Rattle.std.proofs.Common.{◌≡◌, ◌≢◌, ◌⊎◌, ℕ, Bool, true, false, List, [], ◌∷◌, map, Option, Some, None, sym, subst}
 use Rattle.std.proofs.Common.{ap, ◌∙◌, refl, inl, inr}
 use Rattle.std.proofs.lemmas.Bool.{false≢true, false_from_ne_true}
-use Rattle.def_cut.specs.declared.graph.Stop.{Stop}
-use Rattle.def_cut.specs.declared.moving.Moving.{Moving}
-use Rattle.def_cut.specs.Motion.{Terrain, straight, with_next, ridden, is_among, stop_of, or_else, after_ride, ride_on}
-use Rattle.def_cut.specs.Motion.{ride}
+use Rattle.def_cut.specs.{declared.graph.Stop.Stop, declared.moving.Moving.Moving, Motion.Terrain, Motion.straight}
+use Rattle.def_cut.specs.Motion.{with_next, ridden, is_among, stop_of, or_else}
+use Rattle.def_cut.specs.Motion.{after_ride, ride_on, ride}
 use Rattle.motion_laws.proofs.Among.{among_here, among_later, among_cases, AreApart}
 
 -- Who rides next, among those of a rider and later ones.

@@ -4,14 +4,11 @@ use Rattle.std.proofs.Common.{◌∷◌, map, length, Option, Some, None, is_som
 use Rattle.std.proofs.lemmas.Bool.{eq-eqb, eqb-true, false≢true, cases_Bool, cases_eq, or_left, or_right, or_cases}
 use Rattle.def_math.specs.Counts.{count_below}
 use Rattle.sum_laws.proofs.Counts.{count_below_lt, count_below_ones}
-use Rattle.def_cut.specs.Cuts.{IsCross, HasCross, GoesOn as CutGoesOn, IsUncut, IsCut}
-use Rattle.def_cut.specs.Trails.{Trail, IsTracked, IsTraced}
-use Rattle.def_cut.specs.declared.graph.Stop.{Stop}
-use Rattle.def_cut.specs.declared.moving.Moving.{Moving}
-use Rattle.def_cut.specs.Motion.{Terrain, State, end_of, with_next, ridden, is_among, ride, ride_on, step, later}
-use Rattle.def_cut.specs.Traced.{finish, is_cut}
-use Rattle.cut_laws.proofs.Corners.{corner_law}
-use Rattle.cut_laws.proofs.Crosses.{one_of_four, low_a, low_b, at_b}
+use Rattle.def_cut.specs.{Cuts.IsCross, Cuts.HasCross, Cuts.GoesOn as CutGoesOn, Cuts.IsUncut, Cuts.IsCut, Trails.Trail}
+use Rattle.def_cut.specs.{Trails.IsTracked, Trails.IsTraced, declared.graph.Stop.Stop, declared.moving.Moving.Moving}
+use Rattle.def_cut.specs.Motion.{Terrain, State, end_of, with_next, ridden, is_among}
+use Rattle.def_cut.specs.{Motion.ride, Motion.ride_on, Motion.step, Motion.later, Traced.finish, Traced.is_cut}
+use Rattle.cut_laws.proofs.{Corners.corner_law, Crosses.one_of_four, Crosses.low_a, Crosses.low_b, Crosses.at_b}
 use Rattle.motion_laws.proofs.Among.{among_here}
 use Rattle.motion_laws.proofs.Terrains.{IsTerrain, IsReachedFrom, IsFirst, IsKnown, IsSoon, IsShut, IsCrossedAt}
 use Rattle.motion_laws.proofs.Steps.{trail_more, IsNext, next_is, step_keeps, back, stands}

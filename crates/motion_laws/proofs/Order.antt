@@ -2,24 +2,22 @@
 use Rattle.std.proofs.Common.{◌≡◌, ◌≢◌, ◌⊎◌, ℕ, zero, suc, ◌+◌, ◌-◌, ◌<◌, ◌≤◌, Bool, true, false, not, cond, eqb, ◌&&◌}
 use Rattle.std.proofs.Common.{◌||◌, List, [], ◌∷◌, ◌++◌, map, length, get_or, set, replicate, Option, Some, None, sym}
 use Rattle.std.proofs.Common.{subst, ap, ◌∙◌, refl, inl, inr, arith}
-use Rattle.std.specs.List.{list_any}
 use Rattle.std.proofs.Math.Bool.{or-false}
 use Rattle.std.proofs.lemmas.Bool.{eq-eqb, eqb-true, false≢true, cases_Bool, cases_eq, cases_lt, or_right, and_parts}
 use Rattle.std.proofs.lemmas.Bool.{and_from, not_from_false}
-use Rattle.sum_laws.proofs.Tests.{same_test}
 use Rattle.std.proofs.lemmas.List.{get_or-set_same, get_or-set_other, length-set, length-replicate, length-map}
 use Rattle.std.proofs.lemmas.List.{length-append}
-use Rattle.def_cut.specs.FullCut.{is_on}
-use Rattle.def_cut.specs.declared.graph.Stop.{Stop}
-use Rattle.def_cut.specs.declared.moving.Moving.{Moving}
-use Rattle.def_cut.specs.Motion.{Terrain, State, end_of, with_next, ridden, is_among, is_found, is_met, arrives_at}
-use Rattle.def_cut.specs.Motion.{ride_on, ride, begun, step, start, after_steps}
-use Rattle.def_cut.specs.Traced.{finish, end_state}
-use Rattle.def_cut.specs.Events.{EventState, waiting, darts_in, rider_at, note_at, may_ride, mark_twin, after_ride_of}
-use Rattle.def_cut.specs.Events.{leads_to, may_settle, all_told, decided_at, are_ends_settled, closed, after_settling}
-use Rattle.def_cut.specs.Events.{first_state, Event, May, Leads, rides_in, NobodyRuns}
-use Rattle.def_cut.specs.Events.Event.{Ride, Settle}
-use Rattle.sum_laws.proofs.Counts.{count_below_lt, count_below_ones}
+use Rattle.std.specs.List.{list_any}
+use Rattle.sum_laws.proofs.{Tests.same_test, Counts.count_below_lt, Counts.count_below_ones}
+use Rattle.def_cut.specs.{FullCut.is_on, declared.graph.Stop.Stop, declared.moving.Moving.Moving, Motion.Terrain}
+use Rattle.def_cut.specs.Motion.{State, end_of, with_next, ridden, is_among}
+use Rattle.def_cut.specs.Motion.{is_found, is_met, arrives_at, ride_on, ride, begun}
+use Rattle.def_cut.specs.{Motion.step, Motion.start, Motion.after_steps, Traced.finish, Traced.end_state}
+use Rattle.def_cut.specs.Events.{EventState, waiting, darts_in, rider_at, note_at}
+use Rattle.def_cut.specs.Events.{may_ride, mark_twin, after_ride_of, leads_to, may_settle}
+use Rattle.def_cut.specs.Events.{all_told, decided_at, are_ends_settled, closed}
+use Rattle.def_cut.specs.Events.{after_settling, first_state, Event, May, Leads}
+use Rattle.def_cut.specs.{Events.rides_in, Events.NobodyRuns, Events.Event.Ride, Events.Event.Settle}
 use Rattle.motion_laws.proofs.Among.{among_here, any_at, any_where, all_at, not_all, AreApart}
 use Rattle.motion_laws.proofs.Marks.{none_on, none_found, no_darts, twin_marks, from_marks, marked_long, noted_more}
 use Rattle.motion_laws.proofs.Marks.{noted_longer, found_more, apart_few, among_append, apart_append}

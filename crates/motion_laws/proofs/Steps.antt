@@ -1,16 +1,15 @@
 -- Each step keeps what reached states know.
 use Rattle.std.proofs.Common.{◌≡◌, ◌≢◌, ◌⊎◌, ℕ, zero, suc, ◌<◌, Bool, true, false, not, cond, ◌&&◌, List, [], Option}
 use Rattle.std.proofs.Common.{Some, None, sym, subst, ap, ◌∙◌, refl, inl, inr}
-use Rattle.std.specs.List.{list_any}
 use Rattle.std.proofs.lemmas.Option.{none-some, same_Some}
 use Rattle.std.proofs.lemmas.Bool.{eq-eqb, eqb-true, false≢true, false_from_ne_true, cases_Bool, or_left, or_right}
 use Rattle.std.proofs.lemmas.Bool.{or_cases, and_from, and_parts, not_from_false}
+use Rattle.std.specs.List.{list_any}
 use Rattle.sum_laws.proofs.Tests.{same_test}
 use Rattle.def_mesh.specs.HalfEdges.{HalfEdges}
-use Rattle.def_cut.specs.Cuts.{IsCross, HasCross}
-use Rattle.def_cut.specs.Trails.{IsStraight, Trail, IsTracked}
-use Rattle.def_cut.specs.declared.graph.Stop.{Stop}
-use Rattle.def_cut.specs.Motion.{Terrain, State, end_of, straight, ridden, is_among, is_found, is_met, arrives_at}
+use Rattle.def_cut.specs.{Cuts.IsCross, Cuts.HasCross, Trails.IsStraight, Trails.Trail, Trails.IsTracked}
+use Rattle.def_cut.specs.{declared.graph.Stop.Stop, Motion.Terrain, Motion.State, Motion.end_of, Motion.straight}
+use Rattle.def_cut.specs.Motion.{ridden, is_among, is_found, is_met, arrives_at}
 use Rattle.def_cut.specs.Motion.{arrivals, goes_on, stop_of, or_else, step}
 use Rattle.cut_laws.proofs.Crosses.{low_a, low_c, at_a, at_b, at_c}
 use Rattle.cut_laws.proofs.Darts.{next_same, twin_same}

@@ -1,8 +1,7 @@
 -- Where riders move, from where they start, and what each state that they reach knows.
 use Rattle.std.proofs.Common.{◌≡◌, ◌⊎◌, ℕ, ◌<◌, Bool, true, false, List, Some, None}
 use Rattle.def_mesh.specs.HalfEdges.{IsQuadManifold}
-use Rattle.def_cut.specs.Cuts.{IsCross, HasCross}
-use Rattle.def_cut.specs.Trails.{Trail, IsTracked, HasSources}
+use Rattle.def_cut.specs.{Cuts.IsCross, Cuts.HasCross, Trails.Trail, Trails.IsTracked, Trails.HasSources}
 use Rattle.def_cut.specs.Motion.{Terrain, State, end_of, ridden, is_among, start}
 use Rattle.motion_laws.proofs.Among.{AreApart}
 

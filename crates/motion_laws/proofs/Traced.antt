@@ -4,12 +4,10 @@ use Rattle.std.proofs.Common.{ap, ◌∙◌, refl, inl, inr}
 use Rattle.std.proofs.lemmas.Bool.{eq-eqb, eqb-true, false≢true}
 use Rattle.def_cut.specs.Cuts.{HasCross}
 use Rattle.def_cut.specs.Motion.{Terrain, end_of, ridden, is_among, begun, start, after_steps}
-use Rattle.cut_laws.proofs.Crosses.{low_a, low_b, at_b}
-use Rattle.cut_laws.proofs.Darts.{turn_from, turn_low}
-use Rattle.motion_laws.proofs.Among.{any_at, any_where, AreApart}
-use Rattle.motion_laws.proofs.Onward.{later_reached, rides_once}
-use Rattle.motion_laws.proofs.Steps.{back}
-use Rattle.motion_laws.proofs.Terrains.{IsTerrain, IsStarted, IsReached, IsFirst, IsShut, IsCrossedAt}
+use Rattle.cut_laws.proofs.{Crosses.low_a, Crosses.low_b, Crosses.at_b, Darts.turn_from, Darts.turn_low}
+use Rattle.motion_laws.proofs.{Among.any_at, Among.any_where, Among.AreApart, Onward.later_reached, Onward.rides_once}
+use Rattle.motion_laws.proofs.{Steps.back, Terrains.IsTerrain, Terrains.IsStarted, Terrains.IsReached, Terrains.IsFirst}
+use Rattle.motion_laws.proofs.Terrains.{IsShut, IsCrossedAt}
 
 -- All riders ride at first.
 pub ridden_begun : (starts : List ℕ) → ridden (map begun starts) ≡ starts

@@ -4,10 +4,8 @@ use Rattle.std.proofs.Common.{arith}
 use Rattle.std.proofs.lemmas.Int.{ints}
 use Rattle.def_math.specs.Sums.{total}
 use Rattle.sum_laws.proofs.Sums.{total_below_same, total_below_sum, total_below_minus}
-use Rattle.def_flow.specs.Network.{ends, arc_at}
-use Rattle.def_flow.specs.Admissible.{is_on_side, side_sum, IsBalanced}
-use Rattle.def_flow.specs.declared.net.Arc.{Arc}
-use Rattle.def_flow.specs.declared.net.End.{End}
+use Rattle.def_flow.specs.{Network.ends, Network.arc_at, Admissible.is_on_side, Admissible.side_sum}
+use Rattle.def_flow.specs.{Admissible.IsBalanced, declared.net.Arc.Arc, declared.net.End.End}
 
 -- The ends of an arc on a side take the sum of two entries as the sum of what they take of each.
 ends_sum : (v : ℕ) (plus : Bool) (x y : ℤ) (es : List End) → total (λ e. cond (is_on_side v plus e) (x +ℤ y) (pos 0)) es

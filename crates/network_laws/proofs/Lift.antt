@@ -7,12 +7,9 @@ use Rattle.std.proofs.Math.IntN.{*ℤ-zero}
 use Rattle.def_math.specs.Counts.{count_below}
 use Rattle.sum_laws.proofs.Sums.{times_sum}
 use Rattle.sum_laws.proofs.Counts.{count_below_same, count_below_sum, count_below_le, count_below_lt}
-use Rattle.def_flow.specs.Network.{Network, arc_at}
-use Rattle.def_flow.specs.Admissible.{IsAdmissible, arc_deviation, deviation}
-use Rattle.def_flow.specs.declared.net.Arc.{Arc}
-use Rattle.def_flow.specs.Nearby.{IsPart, IsSmallPart}
-use Rattle.network_laws.proofs.Balance.{balanced_sum, balanced_minus}
-use Rattle.network_laws.proofs.Part.{walk_law}
+use Rattle.def_flow.specs.{Network.Network, Network.arc_at, Admissible.IsAdmissible, Admissible.arc_deviation}
+use Rattle.def_flow.specs.{Admissible.deviation, declared.net.Arc.Arc, Nearby.IsPart, Nearby.IsSmallPart}
+use Rattle.network_laws.proofs.{Balance.balanced_sum, Balance.balanced_minus, Part.walk_law}
 
 -- A factor keeps the order.
 times_le : (q : ℕ) (a b : ℤ) → a ≤ℤ b → (pos q *ℤ a) ≤ℤ (pos q *ℤ b)

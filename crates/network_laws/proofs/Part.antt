@@ -5,14 +5,11 @@ use Rattle.std.proofs.Common.{sym, ◌∙◌, ap, inl, inr, arith, eq-eqb}
 use Rattle.std.proofs.lemmas.Int.{ints}
 use Rattle.def_math.specs.Sums.{total, total_below}
 use Rattle.sum_laws.proofs.Sums.{total_below_same, total_below_minus, total_below_none}
-use Rattle.def_flow.specs.Network.{Network, ends, arc_at}
-use Rattle.def_flow.specs.Admissible.{IsAdmissible, IsBalanced, is_on_side, side_sum}
-use Rattle.def_flow.specs.declared.net.Arc.{Arc}
-use Rattle.def_flow.specs.declared.net.End.{End}
-use Rattle.def_flow.specs.Nearby.{IsPart, IsSmallPart}
-use Rattle.network_laws.proofs.Balance.{balanced_minus, same_sides}
-use Rattle.network_laws.proofs.Ports.{Port, weigh}
-use Rattle.network_laws.proofs.Walk.{Tour, IsEvenOut, uses, tour, tour_even, at_most_twice}
+use Rattle.def_flow.specs.{Network.Network, Network.ends, Network.arc_at, Admissible.IsAdmissible}
+use Rattle.def_flow.specs.{Admissible.IsBalanced, Admissible.is_on_side, Admissible.side_sum, declared.net.Arc.Arc}
+use Rattle.def_flow.specs.{declared.net.End.End, Nearby.IsPart, Nearby.IsSmallPart}
+use Rattle.network_laws.proofs.{Balance.balanced_minus, Balance.same_sides, Ports.Port, Ports.weigh, Walk.Tour}
+use Rattle.network_laws.proofs.Walk.{IsEvenOut, uses, tour, tour_even, at_most_twice}
 
 -- Whether a difference goes up, and m with its sign.
 abbrev goes_up : ℤ → Bool

@@ -4,11 +4,9 @@ use Rattle.std.proofs.Common.{Option, Some, None, ℤ, pos, ◌+ℤ◌, ◌-ℤ�
 use Rattle.std.proofs.Common.{◌⊎◌, true≢false, arith, eq-eqb, ne_eqb}
 use Rattle.std.proofs.lemmas.Int.{ints}
 use Rattle.std.proofs.lemmas.Bool.{cases_eq, cases_lt}
-use Rattle.def_math.specs.Sums.{total, total_below}
-use Rattle.def_math.specs.Counts.{count, count_below}
+use Rattle.def_math.specs.{Sums.total, Sums.total_below, Counts.count, Counts.count_below}
 use Rattle.sum_laws.proofs.Sums.{total_below_sum, total_below_same, total_below_none, total_below_one}
-use Rattle.sum_laws.proofs.Sums.{total_below_minus, cases_neg, some_below}
-use Rattle.sum_laws.proofs.Counts.{count_below_lt}
+use Rattle.sum_laws.proofs.{Sums.total_below_minus, Sums.cases_neg, Sums.some_below, Counts.count_below_lt}
 use Rattle.network_laws.proofs.Ports.{Port, opposite, weigh, is_same, same_is, is_same_self, weigh_opposite, weigh_sum}
 use Rattle.network_laws.proofs.Ports.{weigh_none, weigh_self, weigh_other, weigh_low}
 

@@ -1,25 +1,16 @@
 -- The cut that is chosen: there is one, it is full, and it keeps lines.
 use Rattle.std.proofs.Common.{◌≡◌, Bool, false, List, replicate, Some, None, refl, sym, ◌∙◌, subst}
 use Rattle.std.proofs.lemmas.List.{ext_get_or, length-replicate}
-use Rattle.def_mesh.specs.Darts.{darts}
-use Rattle.def_mesh.specs.Faces.{Faces}
-use Rattle.def_mesh.specs.Manifold.{IsManifold}
-use Rattle.def_feature.specs.Beside.{IsCutBeside}
-use Rattle.def_feature.specs.Marked.{marked_cut}
-use Rattle.def_feature.specs.Marks.{AreMarks}
-use Rattle.def_merge.specs.Beside.{may_beside}
-use Rattle.def_merge.specs.Merged.{IsMergedCut}
+use Rattle.def_mesh.specs.{Darts.darts, Faces.Faces, Manifold.IsManifold}
+use Rattle.def_feature.specs.{Beside.IsCutBeside, Marked.marked_cut, Marks.AreMarks}
+use Rattle.def_merge.specs.{Beside.may_beside, Merged.IsMergedCut}
 use Rattle.def_patches.specs.Chosen.{IsKeepingCut, IsPlainCut}
 use Rattle.def_patches.specs.Laws.{ChosenCutLaw, LineArcLaw, LinesLaw, NoMarksLaw, OneArcLaw, OneCutLaw}
 use Rattle.def_patches.specs.declared.Patches.{Patches}
 use Rattle.def_patches.specs.declared.Patches.TheVariants.{Traced, Merged, Conforming}
-use Rattle.feature_laws.proofs.Arcs.{beside_arc_law, traced_beside}
-use Rattle.feature_laws.proofs.Conforming.{conforming_law}
-use Rattle.feature_laws.proofs.Exists.{a_conforming, one_conforming}
-use Rattle.feature_laws.proofs.NoMarks.{are_none, off, same_cut}
-use Rattle.merge_laws.proofs.Beside.{merged_beside_law}
-use Rattle.merge_laws.proofs.Exists.{merged_law}
-use Rattle.merge_laws.proofs.NoLines.{merged_none, none_merged}
+use Rattle.feature_laws.proofs.{Arcs.beside_arc_law, Arcs.traced_beside, Conforming.conforming_law, Exists.a_conforming}
+use Rattle.feature_laws.proofs.{Exists.one_conforming, NoMarks.are_none, NoMarks.off, NoMarks.same_cut}
+use Rattle.merge_laws.proofs.{Beside.merged_beside_law, Exists.merged_law, NoLines.merged_none, NoLines.none_merged}
 use Rattle.merge_laws.proofs.OneMerged.{one_merged_law}
 use Rattle.patch_laws.proofs.OneArc.{one_arc}
 

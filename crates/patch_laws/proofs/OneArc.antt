@@ -2,45 +2,29 @@
 use Rattle.std.proofs.Common.{◌≡◌, ◌⊎◌, ℕ, zero, suc, ◌+◌, ◌-◌, ◌<◌, ◌≤◌, Bool, true, false, not, cond, eqb, ltb}
 use Rattle.std.proofs.Common.{List, [], ◌∷◌, length, Some, is_some, sym, ◌∙◌, ap, subst, refl, inl}
 use Rattle.std.proofs.Common.{inr, arith}
-use Rattle.std.specs.List.{filter}
 use Rattle.std.proofs.lemmas.Bool.{cases_Bool, cases_eq, cases_lt, or_left, or_right, or_cases, and_from, and_parts}
 use Rattle.std.proofs.lemmas.Bool.{eq-eqb, not-true, not_from_false, lt-ltb, ltb-true, false≢true}
 use Rattle.std.proofs.lemmas.Bool.{false_from_ne_true}
+use Rattle.std.specs.List.{filter}
 use Rattle.def_math.specs.Counts.{count_below}
-use Rattle.def_mesh.specs.Faces.{Faces}
-use Rattle.def_mesh.specs.Darts.{darts, all_darts, from_of, next_of, prev_of, twin_of}
-use Rattle.def_mesh.specs.HalfEdges.{HalfEdges, IsQuadManifold, half_edges}
-use Rattle.def_mesh.specs.Kinds.{is_inner, is_regular}
-use Rattle.def_mesh.specs.Components.{seeds, is_start}
-use Rattle.def_mesh.specs.Manifold.{IsManifold}
+use Rattle.def_mesh.specs.{Faces.Faces, Darts.darts, Darts.all_darts, Darts.from_of, Darts.next_of, Darts.prev_of}
+use Rattle.def_mesh.specs.{Darts.twin_of, HalfEdges.HalfEdges, HalfEdges.IsQuadManifold, HalfEdges.half_edges}
+use Rattle.def_mesh.specs.{Kinds.is_inner, Kinds.is_regular, Components.seeds, Components.is_start, Manifold.IsManifold}
 use Rattle.def_mesh.specs.Vertices.{fan_of, faces_at}
-use Rattle.def_cut.specs.Cuts.{HasCross, IsCut}
-use Rattle.def_cut.specs.FullCut.{is_on}
-use Rattle.def_cut.specs.Grids.{patch_at}
-use Rattle.def_cut.specs.Motion.{is_among}
-use Rattle.def_cut.specs.Steps.{easts}
-use Rattle.def_feature.specs.Conforming.{IsConforming}
-use Rattle.def_feature.specs.Marks.{AreMarks}
-use Rattle.def_layout.specs.Arcs.{IsArc, path_at, long_at}
-use Rattle.def_layout.specs.Borders.{side_size, border_dart}
-use Rattle.def_layout.specs.FaceLayouts.{IsCutLayout}
-use Rattle.def_layout.specs.Layouts.{Way}
-use Rattle.def_layout.specs.Lengths.{reach}
-use Rattle.def_layout.specs.Nodes.{is_lone_before, cut_degree, is_node}
-use Rattle.def_layout.specs.Plans.{Plan, layout_of}
+use Rattle.def_cut.specs.{Cuts.HasCross, Cuts.IsCut, FullCut.is_on, Grids.patch_at, Motion.is_among, Steps.easts}
+use Rattle.def_feature.specs.{Conforming.IsConforming, Marks.AreMarks}
+use Rattle.def_layout.specs.{Arcs.IsArc, Arcs.path_at, Arcs.long_at, Borders.side_size, Borders.border_dart}
+use Rattle.def_layout.specs.{FaceLayouts.IsCutLayout, Layouts.Way, Lengths.reach, Nodes.is_lone_before}
+use Rattle.def_layout.specs.{Nodes.cut_degree, Nodes.is_node, Plans.Plan, Plans.layout_of}
 use Rattle.def_merge.specs.Joins.{IsWholeSide}
 use Rattle.cut_laws.proofs.Crosses.{Leaves, of_four, one_of_four, both_twins, no_fix, low_a, low_b}
-use Rattle.face_laws.proofs.Fans.{has_fan, regular_cross}
-use Rattle.face_laws.proofs.FullCuts.{full_cut_law}
-use Rattle.feature_laws.proofs.Breaks.{from_fan}
-use Rattle.feature_laws.proofs.Conforming.{conforming_law, straight_law}
-use Rattle.layout_laws.proofs.FaceNodes.{are_nodes}
-use Rattle.layout_laws.proofs.Uses.{use_run}
+use Rattle.face_laws.proofs.{Fans.has_fan, Fans.regular_cross, FullCuts.full_cut_law}
+use Rattle.feature_laws.proofs.{Breaks.from_fan, Conforming.conforming_law, Conforming.straight_law}
+use Rattle.layout_laws.proofs.{FaceNodes.are_nodes, Uses.use_run}
 use Rattle.mesh_laws.proofs.HalfEdges.{manifold_law}
 use Rattle.motion_laws.proofs.Among.{AreApart, among_here, among_later, apart_filter, from_filter, range_apart}
 use Rattle.motion_laws.proofs.Bits.{rotated}
-use Rattle.merge_laws.proofs.Layouts.{IsBorder, border}
-use Rattle.merge_laws.proofs.Sides.{side_low, side_link, side_from}
+use Rattle.merge_laws.proofs.{Layouts.IsBorder, Layouts.border, Sides.side_low, Sides.side_link, Sides.side_from}
 
 -- Different numbers of which each is this one are at most one,
 at_most_one : (y : ℕ) (xs : List ℕ) → AreApart xs → ((d : ℕ) → is_among d xs ≡ true → d ≡ y) → length xs ≤ 1

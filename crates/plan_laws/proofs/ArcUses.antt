@@ -4,8 +4,7 @@ use Rattle.std.proofs.Common.{ap, subst, inl, inr, arith}
 use Rattle.std.proofs.lemmas.Bool.{cases_eq, cases_order}
 use Rattle.std.proofs.lemmas.Option.{same_Some}
 use Rattle.def_mesh.specs.HalfEdges.{HalfEdges, IsQuadManifold}
-use Rattle.def_cut.specs.Cuts.{Cut, IsCut}
-use Rattle.def_cut.specs.Steps.{easts}
+use Rattle.def_cut.specs.{Cuts.Cut, Cuts.IsCut, Steps.easts}
 use Rattle.def_layout.specs.Arcs.{IsRun, LiesAt, Path, path_at, dart_at, long_at, name_at, AreArcs}
 use Rattle.def_layout.specs.Nodes.{AreNodes}
 use Rattle.cut_laws.proofs.Leasts.{least_high, least_there}

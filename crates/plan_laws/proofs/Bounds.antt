@@ -2,26 +2,19 @@
 use Rattle.std.proofs.Common.{◌≡◌, ℕ, zero, suc, ◌+◌, ◌*◌, ◌^◌, ◌<◌, ◌≤◌, true, refl, sym, ◌∙◌, ap, arith}
 use Rattle.std.proofs.lemmas.Nat.{mul-le}
 use Rattle.def_math.specs.Counts.{count_below}
-use Rattle.def_layout.specs.Arcs.{long_at}
-use Rattle.def_layout.specs.Cells.{CellDart, IsDart}
-use Rattle.def_layout.specs.Surfaces.{IsSurface}
-use Rattle.def_layout.specs.Layouts.{Way, south, east, north, west, Layout}
-use Rattle.def_layout.specs.Lengths.{Lengths, size, wide, high, AreLengths}
-use Rattle.def_layout.specs.Plans.{Plan, layout_of, vertex_at}
+use Rattle.def_layout.specs.{Arcs.long_at, Cells.CellDart, Cells.IsDart, Surfaces.IsSurface, Layouts.Way, Layouts.south}
+use Rattle.def_layout.specs.{Layouts.east, Layouts.north, Layouts.west, Layouts.Layout, Lengths.Lengths, Lengths.size}
+use Rattle.def_layout.specs.{Lengths.wide, Lengths.high, Lengths.AreLengths, Plans.Plan, Plans.layout_of}
+use Rattle.def_layout.specs.Plans.{vertex_at}
 use Rattle.def_layoutnet.specs.MeshLayouts.{IsSomeLayout}
-use Rattle.def_written.specs.Points.{Point, IsPoint}
-use Rattle.def_written.specs.Numbers.{vertex_number, vertices}
+use Rattle.def_written.specs.{Points.Point, Points.IsPoint, Numbers.vertex_number, Numbers.vertices}
 use Rattle.def_written.specs.NewFaces.{dart_start, cells_before, face_count}
 use Rattle.sum_laws.proofs.Counts.{count_below_le, count_below_times}
-use Rattle.written_laws.proofs.Runs.{count_rises}
-use Rattle.written_laws.proofs.Tallies.{passing, passing_le, passing_all}
+use Rattle.written_laws.proofs.{Runs.count_rises, Tallies.passing, Tallies.passing_le, Tallies.passing_all}
+use Rattle.written_laws.proofs.{Grid.wide_some, Grid.high_some, EdgeNumbers.point_onto, Models.point_dart}
+use Rattle.written_laws.proofs.{ModelCounts.faces_are, NewDarts.dart_number, NewDarts.dart_low, NewDarts.dart_same}
+use Rattle.written_laws.proofs.{NewDarts.faces_long, OldModel.old_model}
 use Rattle.plan_laws.proofs.MeshLayouts.{lies}
-use Rattle.written_laws.proofs.Grid.{wide_some, high_some}
-use Rattle.written_laws.proofs.EdgeNumbers.{point_onto}
-use Rattle.written_laws.proofs.Models.{point_dart}
-use Rattle.written_laws.proofs.ModelCounts.{faces_are}
-use Rattle.written_laws.proofs.NewDarts.{dart_number, dart_low, dart_same, faces_long}
-use Rattle.written_laws.proofs.OldModel.{old_model}
 
 module _ (l : Layout) (x : Lengths) (laid : IsSurface l) (len : AreLengths l x) where
   -- Each point is left by a dart, so that there are no more points than darts.

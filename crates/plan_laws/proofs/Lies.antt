@@ -4,22 +4,17 @@ use Rattle.std.proofs.Common.{Option, Some, None, refl, sym, ◌∙◌, ap, subs
 use Rattle.std.proofs.lemmas.Bool.{cases_eq, cases_lt, cases_order, false≢true}
 use Rattle.std.proofs.lemmas.Option.{none-some}
 use Rattle.def_mesh.specs.HalfEdges.{HalfEdges, IsQuadManifold}
-use Rattle.def_cut.specs.Cuts.{Cut, IsCut}
-use Rattle.def_cut.specs.Grids.{cell_of, patch_at, IsGrid, IsSide}
-use Rattle.def_cut.specs.Steps.{spin}
-use Rattle.def_layout.specs.declared.tmesh.SideArc.{SideArc}
-use Rattle.def_layout.specs.Layouts.{Way, south, east, north, west, Layout, Slot, IsSlot, use_of, start_node}
-use Rattle.def_layout.specs.Surfaces.{HasWholeSides, IsOtherSlot}
-use Rattle.def_layout.specs.Lengths.{reach, size, wide, high, AreLengths}
-use Rattle.def_layout.specs.Cells.{CellDart, IsDart, dart, dart_along, slot_dart}
-use Rattle.def_layout.specs.Embeddings.{IsEmbedding}
-use Rattle.def_layout.specs.Arcs.{end_vertex, IsRun, LiesAt, path_at, dart_at, long_at}
-use Rattle.def_layout.specs.Borders.{side_size, border_dart}
-use Rattle.def_layout.specs.Nodes.{AreNodes}
-use Rattle.def_layout.specs.Plans.{Plan, way_number, vertex_at, layout_of, IsDartLayout}
+use Rattle.def_cut.specs.{Cuts.Cut, Cuts.IsCut, Grids.cell_of, Grids.patch_at, Grids.IsGrid, Grids.IsSide, Steps.spin}
+use Rattle.def_layout.specs.{declared.tmesh.SideArc.SideArc, Layouts.Way, Layouts.south, Layouts.east, Layouts.north}
+use Rattle.def_layout.specs.Layouts.{west, Layout, Slot, IsSlot, use_of}
+use Rattle.def_layout.specs.{Layouts.start_node, Surfaces.HasWholeSides, Surfaces.IsOtherSlot, Lengths.reach}
+use Rattle.def_layout.specs.{Lengths.size, Lengths.wide, Lengths.high, Lengths.AreLengths, Cells.CellDart, Cells.IsDart}
+use Rattle.def_layout.specs.{Cells.dart, Cells.dart_along, Cells.slot_dart, Embeddings.IsEmbedding, Arcs.end_vertex}
+use Rattle.def_layout.specs.{Arcs.IsRun, Arcs.LiesAt, Arcs.path_at, Arcs.dart_at, Arcs.long_at, Borders.side_size}
+use Rattle.def_layout.specs.{Borders.border_dart, Nodes.AreNodes, Plans.Plan, Plans.way_number, Plans.vertex_at}
+use Rattle.def_layout.specs.Plans.{layout_of, IsDartLayout}
 use Rattle.list_laws.proofs.Filters.{IsKept, kept_at, rises}
-use Rattle.layout_laws.proofs.Runs.{run_inner}
-use Rattle.layout_laws.proofs.Borders.{IsLine, line, on_side, line_from}
+use Rattle.layout_laws.proofs.{Runs.run_inner, Borders.IsLine, Borders.line, Borders.on_side, Borders.line_from}
 use Rattle.written_laws.proofs.Sides.{slot, IsOn, place_on}
 use Rattle.plan_laws.proofs.Spins.{spin_low, spin_after, spin_way, spin_once, prev_is}
 use Rattle.plan_laws.proofs.ArcUses.{on_run, dart_low, same_use}

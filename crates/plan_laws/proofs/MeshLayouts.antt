@@ -1,8 +1,6 @@
 -- What is known of the layout of a mesh.
-use Rattle.def_layout.specs.Arcs.{long_at}
-use Rattle.def_layout.specs.Surfaces.{IsSurface}
-use Rattle.def_layout.specs.Lengths.{AreLengths}
-use Rattle.def_layout.specs.Plans.{Plan, layout_of, vertex_at}
+use Rattle.def_layout.specs.{Arcs.long_at, Surfaces.IsSurface, Lengths.AreLengths, Plans.Plan, Plans.layout_of}
+use Rattle.def_layout.specs.Plans.{vertex_at}
 use Rattle.def_layoutnet.specs.MeshLayouts.{IsSomeLayout}
 use Rattle.def_written.specs.Laws.{LiesInMesh}
 use Rattle.plan_laws.proofs.PlanLies.{plan_law}

@@ -1,18 +1,13 @@
 -- At each node an edge of the cut ends.
 use Rattle.std.proofs.Common.{◌≡◌, ◌⊎◌, ℕ, zero, suc, ◌<◌, Bool, true, false, not, cond, List, [], ◌∷◌, length, get_or}
 use Rattle.std.proofs.Common.{refl, ◌∙◌, ap, inl, inr, arith}
-use Rattle.std.specs.Prelude.{nat_lt, is_some}
-use Rattle.std.specs.List.{filter}
 use Rattle.std.proofs.lemmas.Bool.{cases_lt, or_cases, and_parts, not-true, ltb-true}
-use Rattle.def_mesh.specs.Faces.{Faces}
-use Rattle.def_mesh.specs.Darts.{darts, prev_of, from_of, to_of, twin_of}
-use Rattle.def_mesh.specs.Vertices.{fan_of}
-use Rattle.def_mesh.specs.Kinds.{is_regular}
+use Rattle.std.specs.{Prelude.nat_lt, Prelude.is_some, List.filter}
+use Rattle.def_mesh.specs.{Faces.Faces, Darts.darts, Darts.prev_of, Darts.from_of, Darts.to_of, Darts.twin_of}
+use Rattle.def_mesh.specs.{Vertices.fan_of, Kinds.is_regular}
 use Rattle.def_cut.specs.FullCut.{IsFullCut, is_on}
 use Rattle.def_layout.specs.Nodes.{is_lone_before, cut_degree, is_node}
-use Rattle.mesh_laws.proofs.Darts.{prev_of_low}
-use Rattle.mesh_laws.proofs.Fans.{IsFan, fan_of_is}
-use Rattle.mesh_laws.proofs.Chains.{before_from}
+use Rattle.mesh_laws.proofs.{Darts.prev_of_low, Fans.IsFan, Fans.fan_of_is, Chains.before_from}
 
 -- What a filter keeps is there.
 filter_some : (p : ℕ → Bool) (xs : List ℕ) → 0 < length (filter p xs) → (k : ℕ) × (k < length xs)

@@ -5,21 +5,15 @@ use Rattle.std.proofs.lemmas.Bool.{cases_eq, cases_order}
 use Rattle.std.proofs.lemmas.List.{ext_get_or}
 use Rattle.sum_laws.proofs.Counts.{count_below_same}
 use Rattle.written_laws.proofs.Runs.{count_rises}
-use Rattle.def_mesh.specs.HalfEdges.{HalfEdges, IsQuadManifold, half_edges}
-use Rattle.def_mesh.specs.Vertices.{vertex_count}
-use Rattle.def_cut.specs.Cuts.{Cut, IsCut}
-use Rattle.def_cut.specs.FullCut.{is_on}
-use Rattle.def_cut.specs.Grids.{Rectangle, patch_at}
-use Rattle.def_cut.specs.Steps.{face_of}
+use Rattle.def_mesh.specs.{HalfEdges.HalfEdges, HalfEdges.IsQuadManifold, HalfEdges.half_edges, Vertices.vertex_count}
+use Rattle.def_cut.specs.{Cuts.Cut, Cuts.IsCut, FullCut.is_on, Grids.Rectangle, Grids.patch_at, Steps.face_of}
 use Rattle.cut_laws.proofs.OneList.{one_list_law}
 use Rattle.cut_laws.proofs.Increasing.{AreIncreasing, increasing_place, same_many, same_values}
-use Rattle.def_layout.specs.declared.tmesh.SideArc.{SideArc}
-use Rattle.def_layout.specs.Arcs.{end_vertex, LiesAt, Path, path_at, dart_at, long_at, name_at, AreArcs}
-use Rattle.def_layout.specs.Borders.{border_dart}
-use Rattle.def_layout.specs.Layouts.{Way, south, east, north, west, Slot, IsSlot}
-use Rattle.def_layout.specs.Lengths.{reach}
-use Rattle.def_layout.specs.Nodes.{is_node, AreNodes}
-use Rattle.def_layout.specs.Plans.{Plan, side_at, vertex_at, layout_of, IsDartLayout}
+use Rattle.def_layout.specs.{declared.tmesh.SideArc.SideArc, Arcs.end_vertex, Arcs.LiesAt, Arcs.Path, Arcs.path_at}
+use Rattle.def_layout.specs.{Arcs.dart_at, Arcs.long_at, Arcs.name_at, Arcs.AreArcs, Borders.border_dart, Layouts.Way}
+use Rattle.def_layout.specs.Layouts.{south, east, north, west, Slot, IsSlot}
+use Rattle.def_layout.specs.{Lengths.reach, Nodes.is_node, Nodes.AreNodes, Plans.Plan, Plans.side_at, Plans.vertex_at}
+use Rattle.def_layout.specs.Plans.{layout_of, IsDartLayout}
 use Rattle.def_written.specs.PlanLaws.{OneLayoutLaw}
 use Rattle.face_laws.proofs.FullCuts.{full_cut_law}
 use Rattle.layout_laws.proofs.FaceNodes.{are_nodes}

@@ -1,19 +1,11 @@
 -- The layout of a mesh and a full cut lies in the mesh.
 use Rattle.std.proofs.Common.{◌≡◌, ℕ, ◌<◌, Bool, true, List, length, arith}
-use Rattle.def_mesh.specs.Faces.{Faces}
-use Rattle.def_mesh.specs.Darts.{darts, from_of}
-use Rattle.def_mesh.specs.Vertices.{vertex_count}
-use Rattle.def_mesh.specs.Meshes.{IsMesh}
+use Rattle.def_mesh.specs.{Faces.Faces, Darts.darts, Darts.from_of, Vertices.vertex_count, Meshes.IsMesh}
 use Rattle.def_mesh.specs.HalfEdges.{IsQuadManifold, half_edges}
-use Rattle.def_cut.specs.Cuts.{IsCut}
-use Rattle.def_cut.specs.FullCut.{IsFullCut, is_on}
-use Rattle.def_cut.specs.Steps.{face_of}
-use Rattle.def_layout.specs.Arcs.{dart_at, long_at}
-use Rattle.def_layout.specs.Embeddings.{IsEmbedding}
-use Rattle.def_layout.specs.Nodes.{is_node, AreNodes}
+use Rattle.def_cut.specs.{Cuts.IsCut, FullCut.IsFullCut, FullCut.is_on, Steps.face_of}
+use Rattle.def_layout.specs.{Arcs.dart_at, Arcs.long_at, Embeddings.IsEmbedding, Nodes.is_node, Nodes.AreNodes}
 use Rattle.def_layout.specs.Plans.{Plan, IsDartLayout, layout_of, vertex_at}
-use Rattle.def_written.specs.Laws.{AreQuads, LiesInMesh}
-use Rattle.def_written.specs.PlanLaws.{PlanLaw}
+use Rattle.def_written.specs.{Laws.AreQuads, Laws.LiesInMesh, PlanLaws.PlanLaw}
 use Rattle.list_laws.proofs.Filters.{IsKept}
 use Rattle.mesh_laws.proofs.HalfEdges.{manifold_law}
 use Rattle.face_laws.proofs.FullCuts.{full_cut_law}

@@ -5,15 +5,10 @@ use Rattle.std.proofs.lemmas.Bool.{false≢true}
 use Rattle.def_layout.specs.Surfaces.{IsSurface, IsOtherSlot}
 use Rattle.def_layout.specs.Layouts.{Way, south, east, north, west, Layout, Slot, IsSlot, use_of}
 use Rattle.def_layout.specs.Lengths.{Lengths, size, AreLengths}
-use Rattle.def_written.specs.Numbers.{vertex_number}
-use Rattle.def_written.specs.Points.{side_point, use_point}
-use Rattle.def_blocks.specs.Laws.{LinkedPointsLaw}
-use Rattle.def_blocks.specs.Links.{first_point, side_name, IsLinkOf}
-use Rattle.def_blocks.specs.SidePoints.{side_vertex}
-use Rattle.def_blocks.specs.declared.link.SideName.{SideName}
-use Rattle.written_laws.proofs.Borders.{use_back}
-use Rattle.written_laws.proofs.Rims.{border_point}
-use Rattle.written_laws.proofs.Sides.{reach_low, side_upto}
+use Rattle.def_written.specs.{Numbers.vertex_number, Points.side_point, Points.use_point}
+use Rattle.def_blocks.specs.{Laws.LinkedPointsLaw, Links.first_point, Links.side_name, Links.IsLinkOf}
+use Rattle.def_blocks.specs.{SidePoints.side_vertex, declared.link.SideName.SideName}
+use Rattle.written_laws.proofs.{Borders.use_back, Rims.border_point, Sides.reach_low, Sides.side_upto}
 use Rattle.qm_blocks.proofs.Mutual.{block_part, from_part, is_linked, link_to, side_part, slot_of_link}
 
 module _ (l : Layout) (x : Lengths) (laid : IsSurface l) (len : AreLengths l x) where

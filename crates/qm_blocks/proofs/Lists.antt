@@ -5,10 +5,8 @@ use Rattle.std.proofs.lemmas.List.{get_or_append_left, get_or-append-add, length
 use Rattle.std.proofs.lemmas.List.FromFn.{get_or-map-range_with_len, length-map-range_with_len, map-range_with_len_more}
 use Rattle.std.proofs.lemmas.Option.{slice_get-get_or}
 use Rattle.std.specs.List.{range_with_len}
-use Rattle.def_layout.specs.Surfaces.{IsSurface}
-use Rattle.def_layout.specs.Layouts.{Way, south, east, north, west, Slot, IsSlot}
-use Rattle.def_layout.specs.Lengths.{Lengths}
-use Rattle.def_layout.specs.Plans.{Plan, layout_of, side_at}
+use Rattle.def_layout.specs.{Surfaces.IsSurface, Layouts.Way, Layouts.south, Layouts.east, Layouts.north, Layouts.west}
+use Rattle.def_layout.specs.{Layouts.Slot, Layouts.IsSlot, Lengths.Lengths, Plans.Plan, Plans.layout_of, Plans.side_at}
 use Rattle.def_blocks.specs.Links.{arcs_before, place_in, side_name, AreLinks, IsLinkOf}
 use Rattle.def_blocks.specs.declared.link.Link.{Link}
 use Rattle.qm_blocks.specs.Spots.{all_links, block_links, link_on, side_links, HasSpots, Spot}

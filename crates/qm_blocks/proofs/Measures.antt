@@ -1,20 +1,16 @@
 -- What a layout with a length for each arc gives for its sides.
 use Rattle.std.proofs.Common.{◌≡◌, ℕ, zero, suc, ◌*◌, ◌^◌, ◌<◌, ◌≤◌, List, length, arith}
+use Rattle.std.proofs.lemmas.Nat.{mul-le}
 use Rattle.std.specs.List.{All}
 use Rattle.def_flow.specs.declared.limits.TheConstants.{MAX_LENGTH}
 use Rattle.def_math.specs.Counts.{count_below}
-use Rattle.def_layout.specs.Arcs.{long_at}
-use Rattle.def_layout.specs.Layouts.{Way}
-use Rattle.def_layout.specs.Lengths.{high, wide, Lengths}
-use Rattle.def_layout.specs.Plans.{Plan, layout_of, side_at}
-use Rattle.def_layout.specs.declared.tmesh.SideArc.{SideArc}
+use Rattle.def_layout.specs.{Arcs.long_at, Layouts.Way, Lengths.high, Lengths.wide, Lengths.Lengths, Plans.Plan}
+use Rattle.def_layout.specs.{Plans.layout_of, Plans.side_at, declared.tmesh.SideArc.SideArc}
 use Rattle.def_layoutnet.specs.MeshLayouts.{IsSomeLayout}
 use Rattle.def_written.specs.NewFaces.{cells_before}
-use Rattle.def_remesh.specs.NewPoints.{lengths_in}
-use Rattle.def_remesh.specs.Numberings.{sizes_on}
+use Rattle.def_remesh.specs.{NewPoints.lengths_in, Numberings.sizes_on}
 use Rattle.plan_laws.proofs.Bounds.{old_faces, side_few, side_most}
 use Rattle.plan_laws.proofs.MeshLayouts.{laid_of, lengths_of}
-use Rattle.std.proofs.lemmas.Nat.{mul-le}
 use Rattle.written_laws.proofs.Grid.{high_some, wide_some}
 use Rattle.qm_offsets.proofs.Whole.{side_long, uses_low}
 use Rattle.qm_blocks.specs.Spots.{IsMeasured}

@@ -9,11 +9,9 @@ use Rattle.def_layout.specs.Surfaces.{IsSurface, IsOtherSlot}
 use Rattle.def_layout.specs.Layouts.{Way, south, east, north, west, Layout, Slot, IsSlot, use_of}
 use Rattle.def_layout.specs.Lengths.{Lengths}
 use Rattle.std.specs.List.{Contains}
-use Rattle.def_blocks.specs.Laws.{HasLink, MutualLaw}
-use Rattle.def_blocks.specs.Links.{arcs_before, first_point, place_in, side_name, AreLinks, IsLinkOf}
-use Rattle.def_blocks.specs.declared.link.Link.{Link}
-use Rattle.def_blocks.specs.declared.link.SideName.{SideName}
-use Rattle.def_blocks.specs.declared.link.SideName.TheVariants.{South}
+use Rattle.def_blocks.specs.{Laws.HasLink, Laws.MutualLaw, Links.arcs_before, Links.first_point, Links.place_in}
+use Rattle.def_blocks.specs.{Links.side_name, Links.AreLinks, Links.IsLinkOf, declared.link.Link.Link}
+use Rattle.def_blocks.specs.{declared.link.SideName.SideName, declared.link.SideName.TheVariants.South}
 use Rattle.qm_blocks.proofs.Slots.{turned_back}
 
 -- Each place of a patch is that of a slot.

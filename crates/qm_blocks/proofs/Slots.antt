@@ -1,8 +1,7 @@
 -- Slots by the arcs that they use.
 use Rattle.std.proofs.Common.{◌≡◌, ◌≢◌, ◌⊎◌, Bool, true, false, not, refl, sym, ◌∙◌, ap, inl, inr}
-use Rattle.def_layout.specs.declared.tmesh.SideArc.{SideArc}
-use Rattle.def_layout.specs.Surfaces.{IsSurface, IsOtherSlot}
-use Rattle.def_layout.specs.Layouts.{Layout, Slot, IsSlot, AreReverse, use_of}
+use Rattle.def_layout.specs.{declared.tmesh.SideArc.SideArc, Surfaces.IsSurface, Surfaces.IsOtherSlot, Layouts.Layout}
+use Rattle.def_layout.specs.Layouts.{Slot, IsSlot, AreReverse, use_of}
 use Rattle.def_blocks.specs.Laws.{SymmetricLaw, TwoLinksLaw}
 
 -- An arc that is used the other way round.

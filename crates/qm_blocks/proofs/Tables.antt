@@ -1,21 +1,17 @@
 -- Tables of spots: what each side puts into one, and what a whole one says.
-use Rattle.std.proofs.Common.{◌≡◌, ◌≢◌, ◌⊎◌, ℕ, ◌+◌, ◌*◌, ◌<◌, Bool, true, false, not, cond, List, length, Some, None}
-use Rattle.std.proofs.Common.{Option}
-use Rattle.std.proofs.Common.{refl, sym, ◌∙◌, ap, subst, inl, inr, arith}
-use Rattle.std.proofs.lemmas.Bool.{cases_eq, false≢true}
-use Rattle.std.proofs.lemmas.List.{get_or-set_other, get_or-set_same}
-use Rattle.std.proofs.lemmas.List.{length-set}
-use Rattle.std.proofs.lemmas.Option.{same_Some}
-use Rattle.std.proofs.Math.ListN.{set}
+use Rattle.std.proofs.Common.{◌≡◌, ◌≢◌, ◌⊎◌, ℕ, ◌+◌, ◌*◌, ◌<◌, Bool}
+use Rattle.std.proofs.Common.{true, false, not, cond, List, length, Some}
+use Rattle.std.proofs.Common.{None, Option, refl, sym, ◌∙◌, ap, subst}
+use Rattle.std.proofs.{Common.inl, Common.inr, Common.arith, lemmas.Bool.cases_eq, lemmas.Bool.false≢true}
+use Rattle.std.proofs.lemmas.List.{get_or-set_other, get_or-set_same, length-set}
+use Rattle.std.proofs.{lemmas.Option.same_Some, Math.ListN.set}
 use Rattle.std.specs.Option.{is_some}
-use Rattle.def_layout.specs.Surfaces.{IsSurface, IsOtherSlot}
-use Rattle.def_layout.specs.Layouts.{Way, south, east, north, west, Layout, Slot, IsSlot, AreReverse, use_of}
-use Rattle.def_layout.specs.Lengths.{Lengths}
-use Rattle.def_layout.specs.Plans.{Plan, layout_of, side_at}
-use Rattle.def_layout.specs.declared.tmesh.SideArc.{SideArc}
+use Rattle.def_layout.specs.{Surfaces.IsSurface, Surfaces.IsOtherSlot, Layouts.Way, Layouts.south, Layouts.east}
+use Rattle.def_layout.specs.Layouts.{north, west, Layout, Slot, IsSlot}
+use Rattle.def_layout.specs.{Layouts.AreReverse, Layouts.use_of, Lengths.Lengths, Plans.Plan, Plans.layout_of}
+use Rattle.def_layout.specs.{Plans.side_at, declared.tmesh.SideArc.SideArc}
 use Rattle.def_remesh.specs.Numberings.{used_at}
-use Rattle.def_blocks.specs.Links.{side_name}
-use Rattle.def_blocks.specs.declared.link.SideName.{SideName}
+use Rattle.def_blocks.specs.{Links.side_name, declared.link.SideName.SideName}
 use Rattle.qm_blocks.specs.Spots.{back_key, key_of, spot_at, spot_of, spot_on, HasSpots, HasUses, HavePut}
 use Rattle.qm_blocks.specs.Spots.{IsOnBlock, IsOnSide, Spot}
 

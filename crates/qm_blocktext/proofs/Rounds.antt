@@ -1,16 +1,13 @@
 -- The arcs around a block, and the lines of links along them.
 use Rattle.std.proofs.Common.{◌≡◌, ℕ, zero, suc, ◌+◌, ◌-◌, ◌<◌, ◌≤◌, List, [], ◌∷◌, ◌++◌, length, map, take, drop}
 use Rattle.std.proofs.Common.{get_or, Option, Some, None, refl, sym, ◌∙◌, ap, subst, append_assoc, append-nil, arith}
-use Rattle.std.specs.Prelude.{slice_get}
-use Rattle.std.specs.List.{flat_map}
 use Rattle.std.proofs.Math.Seq.{drop-cons}
 use Rattle.std.proofs.lemmas.List.{get_or-map, length-map, map-append}
 use Rattle.std.proofs.lemmas.Option.{slice_get-get_or, slice_get-map}
+use Rattle.std.specs.{Prelude.slice_get, List.flat_map}
 use Rattle.def_blocks.specs.declared.link.Link.{Link}
 use Rattle.def_cuttext.specs.GridsText.{arc_link_line, arc_link_lines, arcs_around}
-use Rattle.def_layout.specs.Plans.{plan, Plan}
-use Rattle.def_layout.specs.declared.tmesh.Side.{Side}
-use Rattle.def_layout.specs.declared.tmesh.SideArc.{SideArc}
+use Rattle.def_layout.specs.{Plans.plan, Plans.Plan, declared.tmesh.Side.Side, declared.tmesh.SideArc.SideArc}
 use Rattle.def_layout.specs.declared.tmesh.TMesh.{TMesh}
 use Rattle.def_layoutnet.specs.MeshLayouts.{IsSomeLayout}
 use Rattle.qm_blocktext.specs.Gridded.{arcs_of}

@@ -1,31 +1,25 @@
 -- The verdict yes is that the certificate is accepted.
 use Rattle.std.proofs.Common.{◌≡◌, ◌≢◌, ℕ, ℤ, ◌<◌, ◌≤◌, ◌==◌, nat_lt, not, length, List, Option, Some, None}
-use Rattle.std.proofs.Common.{option_map, pos, unsigned_abs, ◌-ℤ◌, ◌*ℤ◌, ◌≤ℤ◌, true, false, cond, Bool, ◌↔◌, Result, Ok}
 use Rattle.std.proofs.Common.{Err, IfOk, refl, sym, ◌∙◌, ap, inl, inr, ◌⊎◌, ltb-false, le-ltb, eq-eqb, eqb-true, arith}
-use Rattle.std.specs.Prelude.{slice_index, if◌then◌else◌}
-use Rattle.std.specs.Ordering.{int_eq}
 use Rattle.std.proofs.lemmas.Int.{ints}
 use Rattle.std.proofs.lemmas.Bool.{cases_lt, not-false}
 use Rattle.std.proofs.lemmas.Bool.Decides.{Decides-int_eq}
-use Rattle.qm_dual.proofs.Searches.{least_none, none_below}
-use Rattle.def_flow.specs.Gadget.{lows}
-use Rattle.def_flow.specs.Network.{Network, IsWithinBounds, arc_at}
-use Rattle.def_flow.specs.Admissible.{IsAdmissible, IsLeast, deviation, entries, side_sum}
-use Rattle.def_flow.specs.Units.{arcwise, down, on_cost}
-use Rattle.def_flow.specs.MatchingGraph.{matching_graph}
-use Rattle.def_matching.specs.Dual.{dual_sum, refuse, verdict}
-use Rattle.def_flow.specs.Accepted.{Certificate, IsAccepted, below_fault, unequal_fault, refuse_dual, sums_verdict}
-use Rattle.def_flow.specs.Accepted.{cert_verdict}
-use Rattle.def_flow.specs.declared.cert.CertVerdict.{CertVerdict}
-use Rattle.def_flow.specs.declared.cert.CertVerdict.TheVariants.{Count, Below, Unequal, Sums}
-use Rattle.def_flow.specs.declared.cert.CertVerdict.TheVariants.{Yes as Accepted}
-use Rattle.def_matching.specs.declared.weighted.Verdict.{Verdict}
+use Rattle.std.proofs.Common.{option_map, pos, unsigned_abs, ◌-ℤ◌, ◌*ℤ◌, ◌≤ℤ◌, true, false, cond, Bool, ◌↔◌, Result, Ok}
+use Rattle.std.specs.{Prelude.slice_index, Prelude.if◌then◌else◌, Ordering.int_eq}
+use Rattle.qm_dual.proofs.{Searches.least_none, Searches.none_below, Verdicts.yes_says, Verdicts.says_yes}
+use Rattle.def_flow.specs.{Gadget.lows, Network.Network, Network.IsWithinBounds, Network.arc_at}
+use Rattle.def_flow.specs.Admissible.{IsAdmissible, IsLeast, deviation, entries}
+use Rattle.def_flow.specs.{Admissible.side_sum, Units.arcwise, Units.down, Units.on_cost, MatchingGraph.matching_graph}
+use Rattle.def_flow.specs.Accepted.{Certificate, IsAccepted, below_fault, unequal_fault}
+use Rattle.def_flow.specs.Accepted.{refuse_dual, sums_verdict, cert_verdict}
+use Rattle.def_flow.specs.{declared.cert.CertVerdict.CertVerdict, declared.cert.CertVerdict.TheVariants.Count}
+use Rattle.def_flow.specs.declared.cert.CertVerdict.TheVariants.{Below, Unequal}
+use Rattle.def_flow.specs.declared.cert.CertVerdict.TheVariants.{Sums}
+use Rattle.def_flow.specs.{declared.cert.CertVerdict.TheVariants.Yes as Accepted}
+use Rattle.def_matching.specs.{Dual.dual_sum, Dual.refuse, Dual.verdict, declared.weighted.Verdict.Verdict}
 use Rattle.def_matching.specs.declared.weighted.Verdict.TheVariants.{Yes}
 use Rattle.qm_net.proofs.Balances.{no_side_past}
-use Rattle.qm_dual.proofs.Verdicts.{yes_says, says_yes}
-use Rattle.gadget_laws.proofs.Box.{own_box}
-use Rattle.gadget_laws.proofs.Law.{box_deviation}
-use Rattle.gadget_laws.proofs.Sound.{sound}
+use Rattle.gadget_laws.proofs.{Box.own_box, Law.box_deviation, Sound.sound}
 use Rattle.qm_cert.specs.Faults.{first_of_two, or_else, below_verdict, unequal_verdict, list_verdict}
 
 -- The verdict on the sum, by its three numbers.

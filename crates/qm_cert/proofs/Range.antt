@@ -1,18 +1,13 @@
 -- Deviations are far from the ends of their type.
 use Rattle.std.proofs.Common.{◌≡◌, ℕ, ◌*◌, ◌^◌, ◌<◌, ◌≤◌, List, length, pos, unsigned_abs, ◌-ℤ◌, ◌*ℤ◌, ◌&&◌}
-use Rattle.std.proofs.Common.{nat_le, true, ◌∙◌, ap, mul-le-mul, leb-true, arith}
-use Rattle.std.specs.Prelude.{slice_index, nat_lt}
-use Rattle.std.specs.List.{list_all}
-use Rattle.std.proofs.lemmas.Int.{ints}
-use Rattle.std.proofs.lemmas.Bool.{and_parts}
+use Rattle.std.proofs.Common.{nat_le, true, ◌∙◌, ap, mul-le-mul, leb-true}
+use Rattle.std.proofs.{Common.arith, lemmas.Int.ints, lemmas.Bool.and_parts}
+use Rattle.std.specs.{Prelude.slice_index, Prelude.nat_lt, List.list_all}
 use Rattle.def_math.specs.Counts.{count_below}
 use Rattle.sum_laws.proofs.Counts.{count_below_le, count_below_ones, count_below_times}
 use Rattle.def_flow.specs.Network.{Network, IsWithinBounds, arc_at, ends}
-use Rattle.def_flow.specs.Admissible.{arc_deviation, deviation, entries}
-use Rattle.def_flow.specs.Units.{low}
-use Rattle.def_flow.specs.declared.net.Arc.{Arc}
-use Rattle.def_flow.specs.Admissible.{AreNetLengths}
-use Rattle.def_flow.specs.Gadget.{lows}
+use Rattle.def_flow.specs.{Admissible.arc_deviation, Admissible.deviation, Admissible.entries, Units.low}
+use Rattle.def_flow.specs.{declared.net.Arc.Arc, Admissible.AreNetLengths, Gadget.lows}
 use Rattle.gadget_laws.proofs.Box.{arcwise_length}
 use Rattle.qm_gadget.proofs.Arcwise.{arcwise_at}
 use Rattle.qm_net.proofs.Within.{arc_bounded}

@@ -2,15 +2,11 @@
 use Rattle.std.proofs.Common.{◌≡◌, ℕ, zero, suc, ◌+◌, ◌*◌, ◌^◌, ◌<◌, ◌≤◌, Bool, true, false, not, cond, List, length}
 use Rattle.std.proofs.Common.{pos, refl, ◌∙◌, add-one, arith}
 use Rattle.std.specs.Prelude.{slice_index}
-use Rattle.def_math.specs.Sums.{total}
-use Rattle.def_math.specs.Tables.{at_place, IsRaised}
-use Rattle.sum_laws.proofs.Counts.{count_total, count_below_total}
-use Rattle.sum_laws.proofs.Sums.{total_same, total_below_same}
+use Rattle.def_math.specs.{Sums.total, Tables.at_place, Tables.IsRaised}
+use Rattle.sum_laws.proofs.{Counts.count_total, Counts.count_below_total, Sums.total_same, Sums.total_below_same}
 use Rattle.table_laws.proofs.Tallies.{raised_as, raised_none, tally_low, tally_more}
-use Rattle.def_flow.specs.Network.{arc_at, ends}
-use Rattle.def_flow.specs.Admissible.{AreNetLengths, entries, is_on_side, side_sum}
-use Rattle.def_flow.specs.declared.net.Arc.{Arc}
-use Rattle.def_flow.specs.declared.net.End.{End}
+use Rattle.def_flow.specs.{Network.arc_at, Network.ends, Admissible.AreNetLengths, Admissible.entries}
+use Rattle.def_flow.specs.{Admissible.is_on_side, Admissible.side_sum, declared.net.Arc.Arc, declared.net.End.End}
 use Rattle.qm_cert.specs.Sides.{end_put, arc_put, side_count, AreSides}
 
 -- Adding at the node of an end that is on the side.

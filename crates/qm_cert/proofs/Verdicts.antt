@@ -1,20 +1,15 @@
 -- The verdict on a list by tables of sums.
 use Rattle.std.proofs.Common.{◌≡◌, ◌≢◌, ℕ, ℤ, ◌<◌, ◌==◌, not, length, List, Option, Some, None, option_map, pos}
 use Rattle.std.proofs.Common.{unsigned_abs, true, false, Bool, refl, sym, ◌∙◌, ap, inl, inr, ◌⊎◌, eq-eqb, ne_eqb, arith}
-use Rattle.std.specs.Prelude.{slice_index}
-use Rattle.std.specs.Ordering.{int_eq}
 use Rattle.std.proofs.lemmas.Int.{ints}
 use Rattle.std.proofs.lemmas.Bool.{cases_eq}
 use Rattle.std.proofs.lemmas.Bool.Decides.{Decides-int_eq}
+use Rattle.std.specs.{Prelude.slice_index, Ordering.int_eq}
 use Rattle.def_math.specs.Searches.{least}
 use Rattle.qm_dual.proofs.Searches.{least_low, least_same}
-use Rattle.def_flow.specs.Network.{Network}
-use Rattle.def_flow.specs.Admissible.{entries, side_sum}
-use Rattle.def_flow.specs.Accepted.{unequal_fault}
-use Rattle.def_flow.specs.declared.cert.CertVerdict.{CertVerdict}
-use Rattle.def_flow.specs.declared.cert.CertVerdict.TheVariants.{Unequal}
-use Rattle.qm_cert.specs.Faults.{compared_verdict, unequal_verdict}
-use Rattle.qm_cert.specs.Sides.{AreSides}
+use Rattle.def_flow.specs.{Network.Network, Admissible.entries, Admissible.side_sum, Accepted.unequal_fault}
+use Rattle.def_flow.specs.{declared.cert.CertVerdict.CertVerdict, declared.cert.CertVerdict.TheVariants.Unequal}
+use Rattle.qm_cert.specs.{Faults.compared_verdict, Faults.unequal_verdict, Sides.AreSides}
 use Rattle.qm_cert.proofs.SideSums.{side_is}
 
 -- Equal answers at what was found.

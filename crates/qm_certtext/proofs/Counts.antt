@@ -2,24 +2,19 @@
 use Rattle.std.proofs.Common.{◌≡◌, ◌⊎◌, ◌≤◌, ◌<◌, ◌+◌, ◌-◌, ◌^◌, ◌&&◌, min, ℕ, zero, suc, ℤ, pos, negsuc, Bool, true}
 use Rattle.std.proofs.Common.{false, not, [], ◌∷◌, ◌++◌, Option, Some, None, length, take, drop, get_or, map, cond, eqb}
 use Rattle.std.proofs.Common.{ltb, inl, inr, refl, ap, ap₂, sym, ◌∙◌, subst, arith}
-use Rattle.std.specs.Prelude.{decimal, unsigned_abs}
-use Rattle.std.specs.Char.{is_ascii_digit}
-use Rattle.std.specs.Fmt.{digits}
-use Rattle.std.specs.Int.Digits.{number_from_digits_after}
-use Rattle.std.specs.List.{list_all, position_or_len}
 use Rattle.std.proofs.lemmas.Bool.{and_cases, and_from, and_parts, eq-eqb, eqb-false, eqb-true, false≢true, le-leb}
 use Rattle.std.proofs.lemmas.Bool.{lt-ltb, ltb-false, ltb-true, ne_eqb, not-true, not_from_false, and_right, true≢false}
 use Rattle.std.proofs.lemmas.Fmt.{decimal-digits_value, decimal_nonempty, first_decimal}
 use Rattle.std.proofs.lemmas.List.{drop_at, take_at, take-append-drop}
 use Rattle.std.proofs.lemmas.Str.Parse.{numerals_by_fold, IsDigitsTest, IsNumeralModel}
-use Rattle.std.specs.Fmt.{signed_decimal}
+use Rattle.std.proofs.lemmas.Fmt.{decimal_injective}
+use Rattle.std.specs.{Prelude.decimal, Prelude.unsigned_abs, Char.is_ascii_digit, Fmt.digits}
+use Rattle.std.specs.{Int.Digits.number_from_digits_after, List.list_all, List.position_or_len, Fmt.signed_decimal}
 use Rattle.def_certtext.specs.Reading.{is_small}
-use Rattle.def_text.specs.Digits.{is_number, number_written}
-use Rattle.def_text.specs.Types.{Word}
+use Rattle.def_text.specs.{Digits.is_number, Digits.number_written, Types.Word}
 use Rattle.qm_dec.proofs.Texts.{decimal_digits, decimal_number, digit_other, digits_fail, first_at}
 use Rattle.qm_dec.proofs.Ratios.{first_passes}
 use Rattle.qm_scan.proofs.Numbers.{digit_small, number_all}
-use Rattle.std.proofs.lemmas.Fmt.{decimal_injective}
 
 -- Digits, and the number that they write.
 abbrev AreDigits : (word : Word) → Type 0

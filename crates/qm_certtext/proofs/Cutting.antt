@@ -2,17 +2,13 @@
 use Rattle.std.proofs.Common.{◌≡◌, ◌+◌, not, ℕ, suc, Bool, true, false, [], ◌∷◌, ◌++◌, Option, Some, None, MatchOption}
 use Rattle.std.proofs.Common.{codes, length, take, drop, get_or, eqb, inl, inr, refl, ap, ap₂, sym, ◌∙◌, arith}
 use Rattle.std.proofs.Common.{append_assoc}
-use Rattle.std.specs.Prelude.{decimal}
-use Rattle.std.specs.Char.{is_ascii_digit}
-use Rattle.std.specs.List.{list_all, position_or_len}
-use Rattle.std.specs.Str.{bytes_eq}
 use Rattle.std.proofs.lemmas.Bool.{and_from, cases_Bool, true≢false}
 use Rattle.std.proofs.lemmas.List.{append_cancel_left, drop_at, take_at, take-append-drop}
 use Rattle.std.proofs.lemmas.List.Folds.{list_all-append}
 use Rattle.std.proofs.lemmas.Slice.Eq.{bytes_eq-Decides}
-use Rattle.def_certtext.specs.Reading.{IsHead}
-use Rattle.def_certtext.specs.Settings.{floor_text, scale_text, weight_text, AreInRange, AreWordsOf, IsFloor}
-use Rattle.def_certtext.specs.declared.Asked.{Asked}
+use Rattle.std.specs.{Prelude.decimal, Char.is_ascii_digit, List.list_all, List.position_or_len, Str.bytes_eq}
+use Rattle.def_certtext.specs.{Reading.IsHead, Settings.floor_text, Settings.scale_text, Settings.weight_text}
+use Rattle.def_certtext.specs.{Settings.AreInRange, Settings.AreWordsOf, Settings.IsFloor, declared.Asked.Asked}
 use Rattle.def_flow.specs.declared.net.Settings.{Settings}
 use Rattle.def_text.specs.Types.{Word}
 use Rattle.qm_certtext.specs.Cuts.{asked_line, is_bare, IsCut}

@@ -1,15 +1,11 @@
 -- The last line that begins with a prefix, found line after line.
-use Rattle.std.specs.Prelude.{IfSome, MatchOption}
+use Rattle.std.specs.{Prelude.IfSome, Prelude.MatchOption, Prelude.nat_eq, List.starts_with}
 use Rattle.std.proofs.Common.{◌≡◌, ◌≤◌, ◌<◌, ◌+◌, ◌-◌, ◌⊎◌, ℕ, Bool, true, false, Option, Some, None, if◌then◌else◌, []}
 use Rattle.std.proofs.Common.{length, take, drop, slice_index_or, inl, inr, refl, sym, ◌∙◌, ap, subst, arith}
-use Rattle.std.specs.Prelude.{nat_eq}
-use Rattle.std.specs.List.{starts_with}
 use Rattle.std.proofs.lemmas.Bool.{cases_lt}
-use Rattle.def_io.specs.Bytes.{Bytes}
-use Rattle.def_io.specs.Lines.{lines_of, tail_of}
+use Rattle.def_io.specs.{Bytes.Bytes, Lines.lines_of, Lines.tail_of}
 use Rattle.def_certtext.specs.HeadLine.{HasNoLine, IsLastLine}
-use Rattle.qm_certtext.specs.Heads.{begins_at, IsFoundIn}
-use Rattle.qm_certtext.specs.declared.last.HeadAt.{HeadAt}
+use Rattle.qm_certtext.specs.{Heads.begins_at, Heads.IsFoundIn, declared.last.HeadAt.HeadAt}
 use Rattle.qm_io.proofs.Cuts.{first_lines, rest_is}
 
 -- What was found among all lines is the last that begins so.

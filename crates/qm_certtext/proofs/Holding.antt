@@ -2,13 +2,12 @@
 use Rattle.std.proofs.Common.{◌≡◌, ◌+◌, ◌||◌, not, ℕ, suc, Bool, true, false, List, [], ◌∷◌, ◌++◌, Option, Some, None}
 use Rattle.std.proofs.Common.{is_some, Result, Ok, Err, OnOk, ◌&&◌, take, drop, inl, inr, refl, ap, ap₂, sym, ◌∙◌}
 use Rattle.std.proofs.Common.{subst, arith, append-nil}
-use Rattle.std.specs.List.{after_first, before_first, flat_map, list_any, position_or_len}
 use Rattle.std.proofs.lemmas.Bool.{cases_Bool, false≢true, or_parts}
 use Rattle.std.proofs.lemmas.List.Concat.{flat_map-append}
+use Rattle.std.specs.List.{after_first, before_first, flat_map, list_any, position_or_len}
 use Rattle.def_certtext.specs.Reading.{is_third, length_in, set_in, set_up_in, vertex_in, vertex_up_in}
 use Rattle.def_certtext.specs.declared.CertLine.{CertLine}
-use Rattle.qm_certtext.specs.Parts.{HoldBoth, Holds, TakesLine}
-use Rattle.qm_certtext.specs.declared.parts.Found.{Found}
+use Rattle.qm_certtext.specs.{Parts.HoldBoth, Parts.Holds, Parts.TakesLine, declared.parts.Found.Found}
 use Rattle.qm_certtext.specs.declared.parts.Parts.{Parts}
 
 -- Before and behind the first that passes, where it is not the front.

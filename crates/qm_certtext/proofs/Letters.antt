@@ -1,14 +1,13 @@
 -- A line of one kind is none of another.
 use Rattle.std.proofs.Common.{◌≡◌, ◌⊎◌, ◌≤◌, ◌||◌, ℕ, ℤ, Bool, true, ◌∷◌, ◌++◌, drop, get_or, eqb, inl, inr, ap, sym}
 use Rattle.std.proofs.Common.{◌∙◌, arith}
-use Rattle.std.specs.Prelude.{decimal}
 use Rattle.std.proofs.lemmas.Bool.{and_parts, eqb-true, or_cases}
-use Rattle.std.specs.Fmt.{signed_decimal}
+use Rattle.std.proofs.lemmas.Fmt.{decimal_injective}
+use Rattle.std.specs.{Prelude.decimal, Fmt.signed_decimal}
 use Rattle.def_certtext.specs.Reading.{is_small, Says}
 use Rattle.def_certtext.specs.declared.CertLine.{CertLine}
 use Rattle.def_certtext.specs.declared.CertLine.TheVariants.{Length, Vertex, Set, Floor}
 use Rattle.def_text.specs.Types.{Word}
-use Rattle.std.proofs.lemmas.Fmt.{decimal_injective}
 
 -- The letter of a line, and what stands behind it.
 pub letter_is : (a b : ℕ) (rest more : Word) → 35 ∷ a ∷ rest ≡ 35 ∷ b ∷ more → a ≡ b

@@ -1,18 +1,16 @@
 -- The marked lines of a text, one line after another.
 use Rattle.std.proofs.Common.{◌≡◌, ◌<◌, ◌+◌, ℕ, zero, suc, Bool, true, false, Option, None, List, [], ◌∷◌, ◌++◌, length}
 use Rattle.std.proofs.Common.{take, map, filter, slice_index_or, cond, inl, inr, refl, ap, sym, ◌∙◌, subst, arith}
-use Rattle.std.specs.List.{list_all}
 use Rattle.std.proofs.lemmas.Bool.{and_parts, cases_Bool, true≢false}
 use Rattle.std.proofs.lemmas.List.{get_or-take, length-take-le, take_more}
-use Rattle.def_certtext.specs.CertLines.{line_text}
-use Rattle.def_certtext.specs.Reading.{is_hash_line, may_stand, Says}
-use Rattle.def_certtext.specs.declared.CertLine.{CertLine}
+use Rattle.std.specs.List.{list_all}
+use Rattle.def_certtext.specs.{CertLines.line_text, Reading.is_hash_line, Reading.may_stand, Reading.Says}
+use Rattle.def_certtext.specs.{declared.CertLine.CertLine, declared.CertFail.CertFail}
+use Rattle.def_certtext.specs.declared.CertFail.TheVariants.{Head, Line}
+use Rattle.def_certtext.specs.declared.CertFail.TheVariants.{Memory}
 use Rattle.def_io.specs.Bytes.{Bytes, Lines}
-use Rattle.def_certtext.specs.declared.CertFail.{CertFail}
-use Rattle.def_certtext.specs.declared.CertFail.TheVariants.{Head, Line, Memory}
-use Rattle.qm_certtext.specs.Parts.{HoldBoth, Holds, IsBehindFail, IsLineFail, ReadSome, TakesText}
-use Rattle.qm_certtext.specs.declared.parts.Found.{Found}
-use Rattle.qm_certtext.specs.declared.parts.Parts.{Parts}
+use Rattle.qm_certtext.specs.Parts.{HoldBoth, Holds, IsBehindFail, IsLineFail, ReadSome}
+use Rattle.qm_certtext.specs.{Parts.TakesText, declared.parts.Found.Found, declared.parts.Parts.Parts}
 
 pub filter_append : {X : Type 0} (p : X → Bool) (xs ys : List X) → filter p (xs ++ ys) ≡ filter p xs ++ filter p ys
 filter_append p [] ys = refl

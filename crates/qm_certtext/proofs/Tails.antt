@@ -2,11 +2,9 @@
 use Rattle.std.proofs.Common.{◌≡◌, ◌+◌, ◌<◌, ◌^◌, ℕ, Bool, [], ◌∷◌, length, drop, get_or, slice_index_or, sym, ◌∙◌, ap}
 use Rattle.std.proofs.Common.{subst, arith, length-drop}
 use Rattle.std.proofs.lemmas.List.{drop-drop, get_or-drop}
-use Rattle.def_certtext.specs.HeadLine.{head_line}
-use Rattle.def_certtext.specs.Reading.{IsCertFail, IsHead, Made, TellHow}
+use Rattle.def_certtext.specs.{HeadLine.head_line, Reading.IsCertFail, Reading.IsHead, Reading.Made, Reading.TellHow}
 use Rattle.def_certtext.specs.declared.CertFail.{CertFail}
-use Rattle.def_io.specs.Bytes.{Bytes, Lines}
-use Rattle.def_io.specs.Lines.{lines_of, tail_of}
+use Rattle.def_io.specs.{Bytes.Bytes, Bytes.Lines, Lines.lines_of, Lines.tail_of}
 use Rattle.def_flow.specs.declared.net.Settings.{Settings}
 use Rattle.qm_io.proofs.Cuts.{last_lines}
 

@@ -2,12 +2,12 @@
 use Rattle.std.proofs.Common.{◌≡◌, ◌⊎◌, ◌≤◌, ◌<◌, ◌+◌, ◌^◌, ◌||◌, ℕ, ℤ, pos, negsuc, unsigned_abs, Bool, true, false}
 use Rattle.std.proofs.Common.{List, [], ◌∷◌, ◌++◌, length, take, drop, map, filter, eqb, inl, inr, refl, ap, ap₂, sym}
 use Rattle.std.proofs.Common.{◌∙◌, arith, append-nil, take-append-drop}
-use Rattle.std.specs.Prelude.{decimal}
-use Rattle.std.specs.List.{after_first, before_first, flat_map, list_all, list_any}
 use Rattle.std.proofs.lemmas.Bool.{and_from, and_parts, eqb-true, false≢true, leb-true, or_cases, or_from}
 use Rattle.std.proofs.lemmas.List.{length-drop, length-take-le}
 use Rattle.std.proofs.lemmas.List.Concat.{flat_map-append}
 use Rattle.std.proofs.lemmas.List.Folds.{list_all-append}
+use Rattle.std.proofs.lemmas.Fmt.{decimal_injective, signed_decimal_injective}
+use Rattle.std.specs.{Prelude.decimal, List.after_first, List.before_first, List.flat_map, List.list_all, List.list_any}
 use Rattle.std.specs.Fmt.{signed_decimal}
 use Rattle.def_certtext.specs.CertLines.{alone, line_text, dual_lines, raised, said_by, Certificates, HasUps, Lists}
 use Rattle.def_certtext.specs.Laws.{chosen_lines, AreWritable, IsWritableCert}
@@ -16,10 +16,8 @@ use Rattle.def_certtext.specs.Reading.{may_stand, set_in, set_up_in, vertex_in, 
 use Rattle.def_certtext.specs.declared.CertLine.{CertLine}
 use Rattle.def_certtext.specs.declared.CertLine.TheVariants.{Length, Vertex, Set, Floor}
 use Rattle.def_text.specs.Types.{Word}
-use Rattle.qm_certtext.proofs.Counts.{small_parts, split_once}
-use Rattle.qm_certtext.proofs.Holding.{after_first_one, any_append, before_first_one}
-use Rattle.qm_certtext.proofs.Letters.{letter_is}
-use Rattle.std.proofs.lemmas.Fmt.{decimal_injective, signed_decimal_injective}
+use Rattle.qm_certtext.proofs.{Counts.small_parts, Counts.split_once, Holding.after_first_one, Holding.any_append}
+use Rattle.qm_certtext.proofs.{Holding.before_first_one, Letters.letter_is}
 
 one_number : (y z : ℤ) → unsigned_abs y < 10 ^ 18 → unsigned_abs z < 10 ^ 18 → signed_decimal y ≡ signed_decimal z
     → y ≡ z

@@ -2,23 +2,16 @@
 use Rattle.std.proofs.Common.{◌≡◌, ◌↔◌, ◌<◌, ◌+◌, ◌^◌, not, ℕ, zero, suc, ℤ, pos, negsuc, Bool, true, false, List, []}
 use Rattle.std.proofs.Common.{◌∷◌, ◌++◌, codes, length, drop, get_or, slice_index_or, map, filter, ltb, refl, ap, ap₂}
 use Rattle.std.proofs.Common.{sym, ◌∙◌, subst, arith, append_assoc}
-use Rattle.std.specs.Prelude.{decimal, unsigned_abs}
-use Rattle.std.specs.Char.{is_ascii_digit}
-use Rattle.std.specs.List.{flat_map, list_all}
 use Rattle.std.proofs.lemmas.Bool.{and_from, and_parts, eqb-true, leb-true, ltb-true}
 use Rattle.std.proofs.lemmas.List.{length-map}
 use Rattle.std.proofs.lemmas.List.Concat.{flat_map-append}
 use Rattle.std.proofs.lemmas.List.Folds.{flat_map-map, list_all-append}
+use Rattle.std.specs.{Prelude.decimal, Prelude.unsigned_abs, Char.is_ascii_digit, List.flat_map, List.list_all}
 use Rattle.std.specs.Fmt.{signed_decimal}
-use Rattle.def_io.specs.Bytes.{Lines}
-use Rattle.def_io.specs.Lines.{lines_of}
-use Rattle.def_text.specs.Canonical.{canonical_text}
-use Rattle.def_text.specs.FaceSet.{FaceSet}
-use Rattle.def_text.specs.Laws.{is_position, is_quad}
-use Rattle.def_text.specs.Types.{Word}
-use Rattle.def_flow.specs.declared.net.Settings.{Settings}
-use Rattle.def_flow.specs.declared.net.Weight.{Weight}
-use Rattle.def_flow.specs.declared.net.Weight.TheVariants.{Plain, Length as ByLength}
+use Rattle.def_io.specs.{Bytes.Lines, Lines.lines_of}
+use Rattle.def_text.specs.{Canonical.canonical_text, FaceSet.FaceSet, Laws.is_position, Laws.is_quad, Types.Word}
+use Rattle.def_flow.specs.{declared.net.Settings.Settings, declared.net.Weight.Weight}
+use Rattle.def_flow.specs.{declared.net.Weight.TheVariants.Plain, declared.net.Weight.TheVariants.Length as ByLength}
 use Rattle.def_certtext.specs.CertLines.{alone, line_text, said_by, text_of}
 use Rattle.def_certtext.specs.HeadLine.{head_line}
 use Rattle.def_certtext.specs.Laws.{chosen, chosen_lines, written_text, ChosenLaw, IsPrintable, TellsOnly, WrittenLaw}
@@ -31,12 +24,10 @@ use Rattle.qm_obj.proofs.LawSoup.{canonical_lines, each_both, each_map, face_lin
 use Rattle.qm_obj.proofs.LawSoup.{text_lines, vertex_word}
 use Rattle.qm_obj.proofs.LawText.{decimal_word, is_inside, line_tame, lines_back, tame_inside, IsLine, IsWord}
 use Rattle.qm_obj.proofs.ListLemmas.{passes_at}
-use Rattle.qm_certtext.proofs.Counts.{small_parts}
-use Rattle.qm_certtext.proofs.Cutting.{asked_cut, asked_words}
+use Rattle.qm_certtext.proofs.{Counts.small_parts, Cutting.asked_cut, Cutting.asked_words, Marks.filter_append}
+use Rattle.qm_certtext.proofs.Telling.{all_marked, chosen_allowed, chosen_certs, floor_low}
+use Rattle.qm_certtext.proofs.{Telling.one_cert, Telling.one_list, Unique.same_settings}
 use Rattle.qm_certtext.specs.Cuts.{asked_line}
-use Rattle.qm_certtext.proofs.Marks.{filter_append}
-use Rattle.qm_certtext.proofs.Telling.{all_marked, chosen_allowed, chosen_certs, floor_low, one_cert, one_list}
-use Rattle.qm_certtext.proofs.Unique.{same_settings}
 
 -- Digits end no line.
 digits_inside : (digits : Word) → list_all is_ascii_digit digits ≡ true → list_all is_inside digits ≡ true

@@ -1,18 +1,13 @@
 -- Words say one settings, and begin with no hyphen.
 use Rattle.std.proofs.Common.{◌≡◌, ◌≤◌, ℕ, Bool, true, false, ◌∷◌, codes, drop, refl, ap, sym, ◌∙◌, arith}
-use Rattle.std.specs.Prelude.{decimal}
-use Rattle.std.specs.Char.{is_ascii_digit}
-use Rattle.std.specs.List.{list_all}
 use Rattle.std.proofs.lemmas.Bool.{false≢true}
 use Rattle.std.proofs.lemmas.Fmt.{decimal_injective}
+use Rattle.std.specs.{Prelude.decimal, Char.is_ascii_digit, List.list_all}
 use Rattle.def_certtext.specs.Settings.{floor_text, scale_text, weight_text, AreInRange, AreWordsOf, IsFloor}
-use Rattle.def_flow.specs.declared.net.Settings.{Settings}
-use Rattle.def_flow.specs.declared.net.Weight.{Weight}
+use Rattle.def_flow.specs.{declared.net.Settings.Settings, declared.net.Weight.Weight}
 use Rattle.def_flow.specs.declared.net.Weight.TheVariants.{Plain, Length}
-use Rattle.def_text.specs.Ratio.{IsRatio}
-use Rattle.def_text.specs.Types.{Word}
-use Rattle.qm_dec.proofs.Ratios.{above_is, below_is}
-use Rattle.qm_dec.proofs.Texts.{decimal_digits}
+use Rattle.def_text.specs.{Ratio.IsRatio, Types.Word}
+use Rattle.qm_dec.proofs.{Ratios.above_is, Ratios.below_is, Texts.decimal_digits}
 
 as_ratio : (word : Word) (settings : Settings) (auto : Bool) → word ≡ scale_text settings → AreInRange settings auto
     → IsRatio word settings.p settings.q

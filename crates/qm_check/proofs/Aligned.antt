@@ -2,28 +2,19 @@
 -- alone.
 use Rattle.std.proofs.Common.{◌≡◌, ◌↔◌, true, drop, ap, sym, ◌∙◌, subst}
 use Rattle.std.specs.List.{list_all}
-use Rattle.def_certtext.specs.CertLines.{used, Certificates}
-use Rattle.def_certtext.specs.HeadLine.{head_line}
-use Rattle.def_certtext.specs.Reading.{Made, TellHow}
-use Rattle.def_certtext.specs.Settings.{AreInRange}
+use Rattle.def_certtext.specs.{CertLines.used, CertLines.Certificates, HeadLine.head_line, Reading.Made}
+use Rattle.def_certtext.specs.{Reading.TellHow, Settings.AreInRange}
 use Rattle.def_cut.specs.FullCut.{IsFullCut}
-use Rattle.def_io.specs.Bytes.{Bytes, Lines}
-use Rattle.def_io.specs.Lines.{lines_of}
-use Rattle.def_layout.specs.FaceLayouts.{IsCutLayout}
-use Rattle.def_layout.specs.Lengths.{Lengths}
-use Rattle.def_layout.specs.Plans.{Plan, layout_of}
+use Rattle.def_io.specs.{Bytes.Bytes, Bytes.Lines, Lines.lines_of}
+use Rattle.def_layout.specs.{FaceLayouts.IsCutLayout, Lengths.Lengths, Plans.Plan, Plans.layout_of}
 use Rattle.def_layoutnet.specs.MeshLayouts.{IsSomeLayout}
-use Rattle.def_remesh.specs.NewPoints.{lengths_in}
-use Rattle.def_remesh.specs.Certified.{AreKept, IsShown}
-use Rattle.def_remesh.specs.Remeshed.{finished_text, AreCoarse}
-use Rattle.def_remesh.specs.TextLaws.{made_by, IsSolid}
+use Rattle.def_remesh.specs.{NewPoints.lengths_in, Certified.AreKept, Certified.IsShown, Remeshed.finished_text}
+use Rattle.def_remesh.specs.{Remeshed.AreCoarse, TextLaws.made_by, TextLaws.IsSolid}
 use Rattle.def_run.specs.Judging.{behind_in, text_in, Judged, TellsMade}
 use Rattle.def_written.specs.Edges.{IsUndoubled}
 use Rattle.plan_laws.proofs.OnePlan.{one_layout_law}
 use Rattle.qm_obj.proofs.LawText.{is_inside}
-use Rattle.remesh_laws.proofs.Printable.{cut_layout}
-use Rattle.remesh_laws.proofs.Tails.{tail_behind}
-use Rattle.remesh_laws.proofs.TaskTexts.{task_told}
+use Rattle.remesh_laws.proofs.{Printable.cut_layout, Tails.tail_behind, TaskTexts.task_told}
 use Rattle.remesh_laws.specs.Asides.{IsSilent}
 
 -- What a text is judged by is right: the mesh can be written, and the layout is that of the task's

@@ -2,11 +2,9 @@
 use Rattle.std.proofs.Common.{◌≡◌, ◌<◌, ◌^◌, ℕ, true, length, refl, sym, ◌∙◌, ap, arith}
 use Rattle.std.proofs.lemmas.Bool.{false≢true}
 use Rattle.def_fit.specs.declared.fit.Fit.{Fit as AnyFit}
-use Rattle.def_io.specs.Bytes.{Bytes}
-use Rattle.def_io.specs.Lines.{tail_of}
+use Rattle.def_io.specs.{Bytes.Bytes, Lines.tail_of}
 use Rattle.def_layout.specs.Plans.{layout_of, Plan}
-use Rattle.def_remesh.specs.CutSoups.{Regrid}
-use Rattle.def_remesh.specs.NewPoints.{lengths_in}
+use Rattle.def_remesh.specs.{CutSoups.Regrid, NewPoints.lengths_in}
 use Rattle.def_run.specs.Checking.{begins_fit, IsCountedFit}
 use Rattle.def_run.specs.MarkLines.{front_of, IsMarkLine}
 use Rattle.def_run.specs.declared.command.Command.{Command}
@@ -14,8 +12,7 @@ use Rattle.def_run.specs.declared.command.Command.TheVariants.{Refine, Remesh, C
 use Rattle.def_text.specs.FaceSet.{FaceSet}
 use Rattle.def_written.specs.NewFaces.{face_count}
 use Rattle.qm_certtext.specs.declared.last.HeadAt.{HeadAt}
-use Rattle.qm_check.specs.Making.{IsFound, IsGivenTo}
-use Rattle.qm_check.specs.declared.judging.Finished.{Finished}
+use Rattle.qm_check.specs.{Making.IsFound, Making.IsGivenTo, declared.judging.Finished.Finished}
 
 -- A line that begins as a head line of `fit` is that of no other command.
 pub only_fit : (line : Bytes) (command : Command) → begins_fit line ≡ true → IsMarkLine line command

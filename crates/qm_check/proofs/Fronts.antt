@@ -1,11 +1,9 @@
 -- The bytes in front of a line, and those from it on.
-use Rattle.std.proofs.Common.{◌≡◌, ◌≤◌, ℕ, ◌++◌, length, take, drop, sym, ◌∙◌, ap, arith, length-append, length-drop}
-use Rattle.std.proofs.Math.Seq.{take-append_seam}
-use Rattle.std.proofs.lemmas.List.{take-append-drop}
-use Rattle.std.proofs.lemmas.List.Concat.{flat_map-append}
+use Rattle.std.proofs.Common.{◌≡◌, ◌≤◌, ℕ, ◌++◌, length, take, drop}
+use Rattle.std.proofs.Common.{sym, ◌∙◌, ap, arith, length-append, length-drop}
+use Rattle.std.proofs.{Math.Seq.take-append_seam, lemmas.List.take-append-drop, lemmas.List.Concat.flat_map-append}
 use Rattle.std.specs.List.{flat_map}
-use Rattle.def_io.specs.Bytes.{Bytes}
-use Rattle.def_io.specs.Lines.{pieces, tail_of}
+use Rattle.def_io.specs.{Bytes.Bytes, Lines.pieces, Lines.tail_of}
 use Rattle.def_run.specs.MarkLines.{front_of}
 use Rattle.def_text.specs.declared.limits.TheConstants.{MAX_BYTES}
 use Rattle.remesh_laws.proofs.Tails.{flat-pieces}

@@ -1,32 +1,24 @@
 -- What the head line of a command says: its settings may be asked for, and it ends no line.
 use Rattle.std.proofs.Common.{◌≡◌, ◌≤◌, ◌^◌, ◌<◌, ℕ, zero, suc, ℤ, false, true, Bool, [], ◌∷◌, ◌++◌, codes, get_or}
 use Rattle.std.proofs.Common.{refl, subst, arith}
-use Rattle.std.specs.List.{list_all}
-use Rattle.std.specs.Prelude.{decimal, unsigned_abs}
 use Rattle.std.proofs.lemmas.List.{append-nil}
+use Rattle.std.specs.{List.list_all, Prelude.decimal, Prelude.unsigned_abs}
 use Rattle.def_certtext.specs.Settings.{weight_text, AreInRange, IsFloor}
-use Rattle.def_fit.specs.Aims.{fit_settings, IsAim, IsFit}
-use Rattle.def_fit.specs.FitWords.{aim_text, fit_head, keep_word, patches_word, spacing_word}
-use Rattle.def_fit.specs.declared.fit.Aim.{Aim}
-use Rattle.def_fit.specs.declared.fit.Aim.TheVariants.{Scale, Edge, Wishes}
-use Rattle.def_fit.specs.declared.fit.Fit.{Fit}
-use Rattle.def_fit.specs.declared.fit.Spacing.{Spacing}
+use Rattle.def_fit.specs.{Aims.fit_settings, Aims.IsAim, Aims.IsFit, FitWords.aim_text, FitWords.fit_head}
+use Rattle.def_fit.specs.{FitWords.keep_word, FitWords.patches_word, FitWords.spacing_word, declared.fit.Aim.Aim}
+use Rattle.def_fit.specs.declared.fit.Aim.TheVariants.{Scale, Edge}
+use Rattle.def_fit.specs.{declared.fit.Aim.TheVariants.Wishes, declared.fit.Fit.Fit, declared.fit.Spacing.Spacing}
 use Rattle.def_fit.specs.declared.fit.Spacing.TheVariants.{Even, Wished}
-use Rattle.def_flow.specs.declared.net.Settings.{Settings}
-use Rattle.def_flow.specs.declared.net.Weight.{Weight}
+use Rattle.def_flow.specs.{declared.net.Settings.Settings, declared.net.Weight.Weight}
 use Rattle.def_flow.specs.declared.net.Weight.TheVariants as weights
 use Rattle.def_io.specs.Bytes.{Bytes}
-use Rattle.def_patches.specs.declared.Keep.{Keep}
+use Rattle.def_patches.specs.{declared.Keep.Keep, declared.Patches.Patches, declared.Patches.TheVariants.Traced}
+use Rattle.def_patches.specs.declared.Patches.TheVariants.{Merged, Conforming}
 use Rattle.def_patches.specs.declared.Keep.TheVariants as keeps
-use Rattle.def_patches.specs.declared.Patches.{Patches}
-use Rattle.def_patches.specs.declared.Patches.TheVariants.{Traced, Merged, Conforming}
-use Rattle.def_run.specs.Heads.{named_head}
-use Rattle.def_run.specs.Size.{size_head}
-use Rattle.def_text.specs.Canonical.{micro_text}
-use Rattle.def_text.specs.Types.{Word}
+use Rattle.def_run.specs.{Heads.named_head, Size.size_head}
+use Rattle.def_text.specs.{Canonical.micro_text, Types.Word}
 use Rattle.qm_certtext.proofs.Texts.{both_inside, number_inside, settings_inside}
-use Rattle.qm_check.specs.Least.{asked_of, scaled}
-use Rattle.qm_check.specs.declared.least.Least.{Least}
+use Rattle.qm_check.specs.{Least.asked_of, Least.scaled, declared.least.Least.Least}
 use Rattle.qm_obj.proofs.LawText.{is_inside, is_tame, line_tame, micro_word, tame_inside, IsWord}
 
 pub record IsHeadFor (least : Least) (line : Bytes) : Type 0 where

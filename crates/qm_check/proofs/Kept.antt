@@ -1,25 +1,18 @@
 -- What is kept by certificates that are checked, and why none is.
 use Rattle.std.proofs.Common.{◌≡◌, ℕ, Bool, true, inl, inr, refl, ap, sym, ◌∙◌, subst}
-use Rattle.def_certtext.specs.CertLines.{alone, lists_of, raised, Lists}
-use Rattle.def_certtext.specs.Reading.{Made}
-use Rattle.def_certtext.specs.declared.Asked.{Asked}
-use Rattle.def_certtext.specs.declared.certs.Certs.TheVariants.{Alone, Raised}
-use Rattle.def_flow.specs.Accepted.{certificate}
-use Rattle.def_flow.specs.Admissible.{deviation, entries}
-use Rattle.def_flow.specs.Descent.{IsSolution}
-use Rattle.def_flow.specs.Network.{Network}
-use Rattle.def_flow.specs.declared.cert.Cert.{Cert}
-use Rattle.def_flow.specs.declared.net.Settings.{Settings}
-use Rattle.def_layout.specs.Lengths.{Lengths}
-use Rattle.def_layout.specs.Plans.{Plan}
-use Rattle.def_remesh.specs.Keeping.{IsKept, IsNetFor, IsNetWith}
-use Rattle.def_remesh.specs.Tasks.{given_floors, Wish}
+use Rattle.def_certtext.specs.{CertLines.alone, CertLines.lists_of, CertLines.raised, CertLines.Lists, Reading.Made}
+use Rattle.def_certtext.specs.{declared.Asked.Asked, declared.certs.Certs.TheVariants.Alone}
+use Rattle.def_certtext.specs.declared.certs.Certs.TheVariants.{Raised}
+use Rattle.def_flow.specs.{Accepted.certificate, Admissible.deviation, Admissible.entries, Descent.IsSolution}
+use Rattle.def_flow.specs.{Network.Network, declared.cert.Cert.Cert, declared.net.Settings.Settings}
+use Rattle.def_layout.specs.{Lengths.Lengths, Plans.Plan}
+use Rattle.def_remesh.specs.{Keeping.IsKept, Keeping.IsNetFor, Keeping.IsNetWith, Tasks.given_floors, Tasks.Wish}
 use Rattle.def_remesh.specs.declared.tables.Tables.{Tables}
 use Rattle.def_run.specs.Judging.{first_checked, IsThirdWrong, IsWrong}
 use Rattle.def_run.specs.declared.answer.Why.{Why}
-use Rattle.def_run.specs.declared.answer.Why.TheVariants as why
 use Rattle.def_run.specs.declared.check_fail.CheckFail.{CheckFail}
 use Rattle.def_run.specs.declared.check_fail.CheckFail.TheVariants.{NotAccepted, Memory}
+use Rattle.def_run.specs.declared.answer.Why.TheVariants as why
 use Rattle.qm_check.specs.Checked.{made_as, Gives, GivesNone, HasWrongCert, IsChecked, IsUnused}
 use Rattle.qm_check.specs.declared.lengths.Lengths.TheVariants.{Whole, Doubled}
 use Rattle.qm_layoutnet.proofs.Floors.{floors_deviation}

@@ -4,19 +4,13 @@ use Rattle.std.proofs.lemmas.Bool.{false≢true}
 use Rattle.def_certtext.specs.CertLines.{used}
 use Rattle.def_cut.specs.Traced.{traced_marks}
 use Rattle.def_flow.specs.Network.{network}
-use Rattle.def_io.specs.Bytes.{Bytes}
-use Rattle.def_io.specs.Lines.{lines_of, tail_of}
-use Rattle.def_layout.specs.Arcs.{long_at}
-use Rattle.def_layout.specs.Plans.{Plan}
+use Rattle.def_io.specs.{Bytes.Bytes, Lines.lines_of, Lines.tail_of}
+use Rattle.def_layout.specs.{Arcs.long_at, Plans.Plan}
 use Rattle.def_map.specs.MapText.{map_text}
 use Rattle.def_mesh.specs.Manifold.{IsManifold}
-use Rattle.def_remesh.specs.Certified.{IsShown}
-use Rattle.def_remesh.specs.CutSoups.{CutSoup, Regrid}
-use Rattle.def_remesh.specs.Keeping.{IsNetFor}
-use Rattle.def_remesh.specs.NewPoints.{lengths_in, multiple_of}
-use Rattle.def_remesh.specs.Refined.{refined_faces, refined_text}
-use Rattle.def_remesh.specs.Tasks.{Task}
-use Rattle.def_remesh.specs.declared.limits.TheConstants.{MAX_NEW_FACES}
+use Rattle.def_remesh.specs.{Certified.IsShown, CutSoups.CutSoup, CutSoups.Regrid, Keeping.IsNetFor}
+use Rattle.def_remesh.specs.{NewPoints.lengths_in, NewPoints.multiple_of, Refined.refined_faces, Refined.refined_text}
+use Rattle.def_remesh.specs.{Tasks.Task, declared.limits.TheConstants.MAX_NEW_FACES}
 use Rattle.def_run.specs.Check.{head_of}
 use Rattle.def_run.specs.Judging.{IsReason}
 use Rattle.def_run.specs.Map.{asks_of, HasMap, HasOtherText, IsHeadedBy, IsMapOf, IsNotRefined, IsUnfinished, IsUnlike}
@@ -27,27 +21,22 @@ use Rattle.def_run.specs.Mesh.{IsMeshText}
 use Rattle.def_run.specs.Refine.{WritesRefined}
 use Rattle.def_run.specs.Remesh.{IsTracedLayout, WritesFinished}
 use Rattle.def_run.specs.declared.answer.Why.{Why}
-use Rattle.def_run.specs.declared.answer.Why.TheVariants as why
 use Rattle.def_run.specs.declared.check_fail.CheckFail.{CheckFail}
 use Rattle.def_run.specs.declared.check_fail.CheckFail.TheVariants.{NotAccepted, Old, NotManifold, Marks, Tangled, Far}
 use Rattle.def_run.specs.declared.check_fail.CheckFail.TheVariants.{Memory}
 use Rattle.def_run.specs.declared.command.Command.{Command}
 use Rattle.def_run.specs.declared.command.Command.TheVariants.{Refine, Remesh, Crease, Size, Coarse, Fit}
+use Rattle.def_run.specs.declared.answer.Why.TheVariants as why
 use Rattle.def_text.specs.FaceSet.{FaceSet}
 use Rattle.plan_laws.proofs.OnePlan.{one_layout_law}
 use Rattle.site_laws.proofs.Laws.{graph_law}
 use Rattle.qm_certtext.specs.declared.last.HeadAt.{HeadAt}
 use Rattle.remesh_laws.proofs.LastLines.{one_last}
-use Rattle.qm_check.proofs.Results.{ok_or_err, one_ok}
-use Rattle.qm_check.proofs.Tasks.{shown_by}
-use Rattle.qm_check.proofs.Verdicts.{shape_of, untangled}
-use Rattle.qm_check.specs.Checked.{IsDifference}
-use Rattle.qm_check.specs.Judged.{judged_by, Finishes, IsTextFail}
-use Rattle.qm_check.specs.Making.{HasMapOf, IsFound, IsGivenTo, IsMarkedAt, IsReadyFor, IsUnmade}
-use Rattle.qm_check.specs.Multiples.{HasNoPoints, IsRefinedBy}
-use Rattle.qm_check.specs.Ready.{IsNoOld, IsOld}
-use Rattle.qm_check.specs.declared.judging.Finished.{Finished}
-use Rattle.qm_check.specs.declared.ready.Ready.{Ready}
+use Rattle.qm_check.proofs.{Results.ok_or_err, Results.one_ok, Tasks.shown_by, Verdicts.shape_of, Verdicts.untangled}
+use Rattle.qm_check.specs.{Checked.IsDifference, Judged.judged_by, Judged.Finishes, Judged.IsTextFail, Making.HasMapOf}
+use Rattle.qm_check.specs.Making.{IsFound, IsGivenTo, IsMarkedAt, IsReadyFor, IsUnmade}
+use Rattle.qm_check.specs.{Multiples.HasNoPoints, Multiples.IsRefinedBy, Ready.IsNoOld, Ready.IsOld}
+use Rattle.qm_check.specs.{declared.judging.Finished.Finished, declared.ready.Ready.Ready}
 
 -- Without such a line there is no map.
 pub unmarked_bytes : (bytes : Bytes) → HasNoMark (lines_of bytes) → IsMapFail bytes (NotAccepted why.NoHead)

@@ -1,11 +1,9 @@
 -- What is known of an old text that is refused.
 use Rattle.std.proofs.Common.{◌≡◌, ◌≢◌, Err}
 use Rattle.def_io.specs.Bytes.{Bytes}
-use Rattle.def_text.specs.Text.{soup_in}
-use Rattle.def_text.specs.declared.refusal.ObjFail.{ObjFail}
+use Rattle.def_text.specs.{Text.soup_in, declared.refusal.ObjFail.ObjFail}
 use Rattle.def_text.specs.declared.refusal.ObjFail.TheVariants as obj
-use Rattle.qm_check.specs.Ready.{IsNoOld}
-use Rattle.qm_check.specs.Refused.{of_obj}
+use Rattle.qm_check.specs.{Ready.IsNoOld, Refused.of_obj}
 
 -- A text that has no soup is refused.
 pub old_fails : (text : Bytes) (fail : ObjFail) → (fail ≢ obj.Memory → soup_in text ≡ Err fail)

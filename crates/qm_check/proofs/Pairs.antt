@@ -2,51 +2,35 @@
 use Rattle.std.proofs.Common.{◌≡◌, ◌⊎◌, ◌<◌, ◌≤◌, ◌^◌, ℕ, Bool, true, false, Result, Ok, Err, length, take, inl, inr}
 use Rattle.std.proofs.Common.{refl, ap, sym, ◌∙◌, subst, arith}
 use Rattle.std.proofs.lemmas.Bool.{cases_eq, cases_lt, false≢true}
-use Rattle.def_certtext.specs.CertLines.{Certificates}
-use Rattle.def_certtext.specs.HeadLine.{begins_head, HasNoHead, IsLastHead, IsLastLine}
-use Rattle.def_certtext.specs.Reading.{IsHead}
-use Rattle.def_flow.specs.Network.{network}
-use Rattle.def_flow.specs.declared.net.Settings.{Settings}
-use Rattle.def_io.specs.Bytes.{Bytes, Lines}
-use Rattle.def_io.specs.Lines.{lines_of, tail_of}
-use Rattle.def_layout.specs.FaceLayouts.{IsCutLayout}
-use Rattle.def_layout.specs.Plans.{layout_of, Plan}
+use Rattle.def_certtext.specs.{CertLines.Certificates, HeadLine.begins_head, HeadLine.HasNoHead, HeadLine.IsLastHead}
+use Rattle.def_certtext.specs.{HeadLine.IsLastLine, Reading.IsHead}
+use Rattle.def_flow.specs.{Network.network, declared.net.Settings.Settings}
+use Rattle.def_io.specs.{Bytes.Bytes, Bytes.Lines, Lines.lines_of, Lines.tail_of}
+use Rattle.def_layout.specs.{FaceLayouts.IsCutLayout, Plans.layout_of, Plans.Plan}
 use Rattle.def_layoutnet.specs.LayoutNet.{IsNetOf}
 use Rattle.def_mesh.specs.Manifold.{IsManifold}
-use Rattle.def_remesh.specs.Certified.{IsShown}
-use Rattle.def_remesh.specs.Checked.{IsCheckedPair}
-use Rattle.def_remesh.specs.CutSoups.{Regrid}
-use Rattle.def_remesh.specs.NewPoints.{lengths_in}
-use Rattle.def_remesh.specs.Refusals.{IsTangledAt}
-use Rattle.def_remesh.specs.Tasks.{old_lengths, remesh_task, Task}
-use Rattle.def_remesh.specs.TextLaws.{made_by, IsSolid}
-use Rattle.def_run.specs.Check.{head_of, HasOldSoup, IsAsked, IsCountedPair, IsNoPair, RefusesOldText}
-use Rattle.def_run.specs.CheckFails.{IsPairFail}
-use Rattle.def_run.specs.Judging.{IsReason}
-use Rattle.def_run.specs.Map.{WritesNew}
-use Rattle.def_run.specs.Mesh.{IsMeshText}
-use Rattle.def_run.specs.Remesh.{IsTracedLayout}
-use Rattle.def_run.specs.declared.answer.Why.{Why}
+use Rattle.def_remesh.specs.{Certified.IsShown, Checked.IsCheckedPair, CutSoups.Regrid, NewPoints.lengths_in}
+use Rattle.def_remesh.specs.{Refusals.IsTangledAt, Tasks.old_lengths, Tasks.remesh_task, Tasks.Task, TextLaws.made_by}
+use Rattle.def_remesh.specs.TextLaws.{IsSolid}
+use Rattle.def_run.specs.Check.{head_of, HasOldSoup, IsAsked, IsCountedPair, IsNoPair}
+use Rattle.def_run.specs.{Check.RefusesOldText, CheckFails.IsPairFail, Judging.IsReason, Map.WritesNew, Mesh.IsMeshText}
+use Rattle.def_run.specs.{Remesh.IsTracedLayout, declared.answer.Why.Why, declared.check_fail.CheckFail.CheckFail}
+use Rattle.def_run.specs.declared.check_fail.CheckFail.TheVariants.{NotAccepted}
+use Rattle.def_run.specs.declared.check_fail.CheckFail.TheVariants.{Old}
+use Rattle.def_run.specs.declared.check_fail.CheckFail.TheVariants.{NotManifold}
+use Rattle.def_run.specs.declared.check_fail.CheckFail.TheVariants.{Marks}
+use Rattle.def_run.specs.declared.check_fail.CheckFail.TheVariants.{Tangled}
+use Rattle.def_run.specs.declared.check_fail.CheckFail.TheVariants.{Far}
+use Rattle.def_run.specs.{declared.check_fail.CheckFail.TheVariants.Memory, declared.command.Command.TheVariants.Remesh}
 use Rattle.def_run.specs.declared.answer.Why.TheVariants as why
-use Rattle.def_run.specs.declared.check_fail.CheckFail.{CheckFail}
-use Rattle.def_run.specs.declared.check_fail.CheckFail.TheVariants.{NotAccepted, Old, NotManifold, Marks, Tangled, Far}
-use Rattle.def_run.specs.declared.check_fail.CheckFail.TheVariants.{Memory}
-use Rattle.def_run.specs.declared.command.Command.TheVariants.{Remesh}
-use Rattle.def_text.specs.FaceSet.{FaceSet}
-use Rattle.def_text.specs.Text.{soup_in, text_soup}
-use Rattle.def_text.specs.declared.refusal.ObjFail.{ObjFail}
+use Rattle.def_text.specs.{FaceSet.FaceSet, Text.soup_in, Text.text_soup, declared.refusal.ObjFail.ObjFail}
 use Rattle.def_written.specs.NewFaces.{face_count}
 use Rattle.qm_certtext.proofs.Texts.{same_head}
-use Rattle.qm_check.proofs.Results.{ok_or_err, one_ok}
-use Rattle.qm_check.proofs.Tasks.{shown_by}
-use Rattle.qm_check.proofs.Verdicts.{untangled}
-use Rattle.qm_check.specs.Judged.{judged_by, Finishes, IsTextFail}
-use Rattle.qm_check.specs.Making.{IsReadyFor, IsUnmade}
-use Rattle.qm_check.specs.Ready.{IsNoOld, IsOld, IsReady}
-use Rattle.qm_check.specs.declared.judging.Finished.{Finished}
+use Rattle.qm_check.proofs.{Results.ok_or_err, Results.one_ok, Tasks.shown_by, Verdicts.untangled}
+use Rattle.qm_check.specs.{Judged.judged_by, Judged.Finishes, Judged.IsTextFail, Making.IsReadyFor, Making.IsUnmade}
+use Rattle.qm_check.specs.{Ready.IsNoOld, Ready.IsOld, Ready.IsReady, declared.judging.Finished.Finished}
 use Rattle.qm_check.specs.declared.ready.Ready.{Ready}
-use Rattle.remesh_laws.proofs.LastLines.{one_last}
-use Rattle.remesh_laws.proofs.Pairs.{pair_law}
+use Rattle.remesh_laws.proofs.{LastLines.one_last, Pairs.pair_law}
 
 -- A text without a head line is no pair.
 pub headless : (bytes : Bytes) → HasNoHead (lines_of bytes) → ¬ IsCheckedPair bytes

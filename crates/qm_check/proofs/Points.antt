@@ -1,44 +1,31 @@
 -- Each command that finds least lengths is a fit under a head line of its own.
 use Rattle.std.proofs.Common.{◌≡◌, ℕ, ℤ, Bool, false, List, [], Option, Some, None, IfSome, codes, Result, Ok, Err}
 use Rattle.std.proofs.Common.{inl, inr, refl, sym, ◌∙◌, ap, subst, arith}
-use Rattle.std.specs.Prelude.{unsigned_abs, ◌≤◌}
-use Rattle.std.specs.Result.{result_map_both}
-use Rattle.def_certtext.specs.HeadLine.{head_line}
-use Rattle.def_certtext.specs.Reading.{IsHead}
-use Rattle.def_certtext.specs.Settings.{AreInRange}
-use Rattle.def_certtext.specs.declared.Asked.{Asked}
+use Rattle.std.specs.{Prelude.unsigned_abs, Prelude.◌≤◌, Result.result_map_both}
+use Rattle.def_certtext.specs.{HeadLine.head_line, Reading.IsHead, Settings.AreInRange, declared.Asked.Asked}
 use Rattle.def_cut.specs.Traced.{traced_marks}
 use Rattle.def_feature.specs.Marked.{marked_cut}
-use Rattle.def_fit.specs.Aims.{AreAimedNear, IsFit}
-use Rattle.def_fit.specs.FitTasks.{asides_by, asides_in, Asides}
-use Rattle.def_fit.specs.FitWords.{fit_head}
-use Rattle.def_fit.specs.declared.fit.Aim.TheVariants.{Edge}
-use Rattle.def_fit.specs.declared.fit.Fit.{Fit as AnyFit}
+use Rattle.def_fit.specs.{Aims.AreAimedNear, Aims.IsFit, FitTasks.asides_by, FitTasks.asides_in, FitTasks.Asides}
+use Rattle.def_fit.specs.{FitWords.fit_head, declared.fit.Aim.TheVariants.Edge, declared.fit.Fit.Fit as AnyFit}
 use Rattle.def_fit.specs.declared.fit.Spacing.TheVariants.{Even}
 use Rattle.def_flow.specs.declared.net.Settings.{Settings}
 use Rattle.def_flow.specs.declared.net.Weight.TheVariants as weights
 use Rattle.def_io.specs.Bytes.{Bytes}
-use Rattle.def_layout.specs.FaceLayouts.{IsCutLayout}
-use Rattle.def_layout.specs.Plans.{Plan}
-use Rattle.def_marks.specs.Lines.{marks_in}
-use Rattle.def_marks.specs.declared.fail.MarkFail.{MarkFail}
+use Rattle.def_layout.specs.{FaceLayouts.IsCutLayout, Plans.Plan}
+use Rattle.def_marks.specs.{Lines.marks_in, declared.fail.MarkFail.MarkFail}
 use Rattle.def_metric.specs.Fails.{IsFar}
 use Rattle.def_patches.specs.Chosen.{IsChosenCut, IsPlainCut}
 use Rattle.def_patches.specs.declared.Keep.TheVariants.{Nothing, Lines}
 use Rattle.def_patches.specs.declared.Patches.TheVariants.{Traced, Merged}
 use Rattle.def_remesh.specs.Tasks.{Task}
-use Rattle.def_run.specs.Crease.{creased_task}
-use Rattle.def_run.specs.Fit.{HasAsideFail, HasNearWishes}
-use Rattle.def_run.specs.Heads.{named_head}
-use Rattle.def_run.specs.Map.{asks_of, RefusesNew, WritesNew}
-use Rattle.def_run.specs.MapFails.{HasLineFail}
-use Rattle.def_run.specs.MarkLines.{IsMarkLine}
-use Rattle.def_run.specs.Remesh.{Asks, HasTask, RefusesTask, WritesFinished}
-use Rattle.def_run.specs.Size.{size_head, size_task}
-use Rattle.def_run.specs.declared.answer.Answer.{Answer}
+use Rattle.def_run.specs.{Crease.creased_task, Fit.HasAsideFail, Fit.HasNearWishes, Heads.named_head, Map.asks_of}
+use Rattle.def_run.specs.{Map.RefusesNew, Map.WritesNew, MapFails.HasLineFail, MarkLines.IsMarkLine, Remesh.Asks}
+use Rattle.def_run.specs.{Remesh.HasTask, Remesh.RefusesTask, Remesh.WritesFinished, Size.size_head, Size.size_task}
+use Rattle.def_run.specs.{declared.answer.Answer.Answer, declared.command.Command.Command}
+use Rattle.def_run.specs.declared.command.Command.TheVariants.{Remesh, Crease}
+use Rattle.def_run.specs.declared.command.Command.TheVariants.{Size, Coarse}
+use Rattle.def_run.specs.declared.command.Command.TheVariants.{Fit}
 use Rattle.def_run.specs.declared.answer.Answer.TheVariants as answers
-use Rattle.def_run.specs.declared.command.Command.{Command}
-use Rattle.def_run.specs.declared.command.Command.TheVariants.{Remesh, Crease, Size, Coarse, Fit}
 use Rattle.def_text.specs.FaceSet.{FaceSet}
 use Rattle.qm_certtext.proofs.Texts.{head_inside}
 use Rattle.qm_check.proofs.Heads.{fit_inside, fit_range, named_inside, scaled_is, size_inside, IsHeadFor}

@@ -1,19 +1,18 @@
 -- The certificates that lines tell are within the limits of the checker.
 use Rattle.std.proofs.Common.{◌≡◌, ◌<◌, ◌≤◌, ◌+◌, ◌^◌, ℕ, zero, suc, pos, Bool, true, false, List, [], ◌∷◌}
 use Rattle.std.proofs.Common.{if◌then◌else◌, length, drop, refl, ap, sym, ◌∙◌, subst, arith}
-use Rattle.std.specs.Prelude.{slice_index, slice_index_or, unsigned_abs}
-use Rattle.std.specs.List.{after_first, before_first, flat_map, list_all, list_any, position_or_len}
 use Rattle.std.proofs.lemmas.Bool.{and_parts, false≢true, leb-true, ltb-true}
 use Rattle.std.proofs.lemmas.List.{length-drop, length-map, length-take}
 use Rattle.std.proofs.lemmas.List.Sums.{count_by-le-length, length-filter}
+use Rattle.std.specs.Prelude.{slice_index, slice_index_or, unsigned_abs}
+use Rattle.std.specs.List.{after_first, before_first, flat_map, list_all, list_any, position_or_len}
 use Rattle.def_certtext.specs.CertLines.{alone, line_text, raised}
 use Rattle.def_certtext.specs.Reading.{certificates_in, is_hash_line, is_third, length_in, lists_in, may_stand, set_in}
 use Rattle.def_certtext.specs.Reading.{vertex_in, Made, TellHow}
 use Rattle.def_certtext.specs.declared.CertLine.{CertLine}
 use Rattle.def_certtext.specs.declared.CertLine.TheVariants.{Length, Vertex, Set, Floor}
 use Rattle.def_flow.specs.declared.limits.TheConstants.{MAX_LENGTH}
-use Rattle.def_io.specs.Bytes.{Bytes}
-use Rattle.def_io.specs.Lines.{lines_of}
+use Rattle.def_io.specs.{Bytes.Bytes, Lines.lines_of}
 use Rattle.def_text.specs.declared.limits.TheConstants.{MAX_BYTES}
 use Rattle.remesh_laws.proofs.Solved.{all_drop, all_take}
 use Rattle.qm_io.proofs.Cuts.{lines_few}

@@ -3,40 +3,30 @@ use Rattle.std.proofs.Common.{◌≡◌, ◌⊎◌, ◌+◌, ℕ, Bool, true, fa
 use Rattle.std.proofs.Common.{pos}
 use Rattle.std.proofs.lemmas.Bool.{false≢true}
 use Rattle.std.specs.Prelude.{slice_index_or}
-use Rattle.def_certtext.specs.CertLines.{alone, raised, used, Certificates, Lists}
-use Rattle.def_certtext.specs.HeadLine.{head_line}
-use Rattle.def_certtext.specs.Reading.{HasBadLine, IsFirstBad, Made, Says}
-use Rattle.def_certtext.specs.declared.CertLine.{CertLine}
+use Rattle.def_certtext.specs.CertLines.{alone, raised, used, Certificates}
+use Rattle.def_certtext.specs.{CertLines.Lists, HeadLine.head_line, Reading.HasBadLine, Reading.IsFirstBad}
+use Rattle.def_certtext.specs.{Reading.Made, Reading.Says, declared.CertLine.CertLine}
 use Rattle.def_cut.specs.FullCut.{IsFullCut}
-use Rattle.def_flow.specs.Accepted.{cert_verdict}
-use Rattle.def_flow.specs.Admissible.{deviation, entries}
-use Rattle.def_flow.specs.Network.{Network, tangle_number}
-use Rattle.def_flow.specs.declared.net.Settings.{Settings}
+use Rattle.def_flow.specs.{Accepted.cert_verdict, Admissible.deviation, Admissible.entries, Network.Network}
+use Rattle.def_flow.specs.{Network.tangle_number, declared.net.Settings.Settings}
 use Rattle.def_io.specs.Bytes.{Bytes}
-use Rattle.def_layout.specs.FaceLayouts.{IsCutLayout}
-use Rattle.def_layout.specs.Lengths.{Lengths}
-use Rattle.def_layout.specs.Plans.{Plan, layout_of}
-use Rattle.def_layoutnet.specs.LayoutNet.{IsNetOf}
-use Rattle.def_layoutnet.specs.MeshLayouts.{IsSomeLayout}
-use Rattle.def_remesh.specs.NewPoints.{lengths_in}
-use Rattle.def_remesh.specs.Refusals.{IsTangledAt}
-use Rattle.def_remesh.specs.Certified.{AreKept, certificate_of, IsCertified, IsShown}
-use Rattle.def_remesh.specs.Remeshed.{AreCoarse, finished_text}
-use Rattle.def_remesh.specs.Tasks.{given_floors, old_lengths, Task, Wish}
-use Rattle.def_remesh.specs.TextLaws.{IsSolid, made_by}
+use Rattle.def_layout.specs.{FaceLayouts.IsCutLayout, Lengths.Lengths, Plans.Plan, Plans.layout_of}
+use Rattle.def_layoutnet.specs.{LayoutNet.IsNetOf, MeshLayouts.IsSomeLayout}
+use Rattle.def_remesh.specs.{NewPoints.lengths_in, Refusals.IsTangledAt, Certified.AreKept, Certified.certificate_of}
+use Rattle.def_remesh.specs.{Certified.IsCertified, Certified.IsShown, Remeshed.AreCoarse, Remeshed.finished_text}
+use Rattle.def_remesh.specs.{Tasks.given_floors, Tasks.old_lengths, Tasks.Task, Tasks.Wish, TextLaws.IsSolid}
+use Rattle.def_remesh.specs.TextLaws.{made_by}
 use Rattle.def_run.specs.Judging.{behind_in, first_checked, text_in, IsLoneDoubled, IsThirdWrong, IsWrong, IsWrongText}
 use Rattle.def_run.specs.Judging.{Judged, TellsMade, TellsOtherText}
 use Rattle.def_run.specs.declared.answer.Why.{Why}
 use Rattle.def_run.specs.declared.answer.Why.TheVariants as why
 use Rattle.def_text.specs.FaceSet.{FaceSet}
 use Rattle.def_written.specs.Edges.{IsUndoubled}
-use Rattle.plan_laws.proofs.OnePlan.{one_layout_law}
+use Rattle.plan_laws.proofs.{OnePlan.one_layout_law, MeshLayouts.laid_of}
 use Rattle.remesh_laws.proofs.Printable.{cut_layout}
 use Rattle.qm_cert.proofs.Checked.{accepted_yes}
-use Rattle.qm_certtext.proofs.Marks.{said_at}
-use Rattle.qm_certtext.proofs.Texts.{same_head}
+use Rattle.qm_certtext.proofs.{Marks.said_at, Texts.same_head}
 use Rattle.qm_layoutnet.proofs.OneNet.{one_net_law}
-use Rattle.plan_laws.proofs.MeshLayouts.{laid_of}
 use Rattle.qm_check.proofs.Aligned.{aligned, judged_layout, IsAligned, IsJudgeable}
 
 -- Lines tell the certificates that were kept.

@@ -1,36 +1,25 @@
 -- The one task that each command asks of a soup, and why it is not made ready.
 use Rattle.std.proofs.Common.{◌≡◌, Bool, List, ◌∷◌, ◌++◌, [], Ok, inr, refl, sym, ◌∙◌, ap, subst}
 use Rattle.def_cut.specs.FullCut.{IsFullCut}
-use Rattle.def_fit.specs.Aims.{AreAimedNear}
-use Rattle.def_fit.specs.FitTasks.{asides_in, kept_text, Asides}
-use Rattle.def_fit.specs.Shares.{shares_of}
+use Rattle.def_fit.specs.{Aims.AreAimedNear, FitTasks.asides_in, FitTasks.kept_text, FitTasks.Asides, Shares.shares_of}
 use Rattle.def_io.specs.Bytes.{Bytes}
-use Rattle.def_layout.specs.FaceLayouts.{IsCutLayout}
-use Rattle.def_layout.specs.Plans.{Plan}
-use Rattle.def_patches.specs.Chosen.{AreKeptMarks, IsChosenCut, IsChosenLayout}
-use Rattle.def_patches.specs.Laws.{IsOneCut}
-use Rattle.def_remesh.specs.Certified.{IsShown}
-use Rattle.def_remesh.specs.CutSoups.{CutSoup}
-use Rattle.def_run.specs.Fit.{HasNearWishes}
-use Rattle.def_run.specs.Map.{asks_of, WritesNew}
-use Rattle.def_run.specs.Mesh.{IsMeshText}
-use Rattle.def_run.specs.Remesh.{Asks, HasTask, WritesFinished}
-use Rattle.def_run.specs.declared.check_fail.CheckFail.{CheckFail}
-use Rattle.def_run.specs.declared.check_fail.CheckFail.TheVariants.{Far, Marks, Tangled, Memory}
-use Rattle.def_run.specs.declared.command.Command.{Command}
+use Rattle.def_layout.specs.{FaceLayouts.IsCutLayout, Plans.Plan}
+use Rattle.def_patches.specs.{Chosen.AreKeptMarks, Chosen.IsChosenCut, Chosen.IsChosenLayout, Laws.IsOneCut}
+use Rattle.def_remesh.specs.{Certified.IsShown, CutSoups.CutSoup, Tasks.Task}
+use Rattle.def_run.specs.{Fit.HasNearWishes, Map.asks_of, Map.WritesNew, Mesh.IsMeshText, Remesh.Asks, Remesh.HasTask}
+use Rattle.def_run.specs.{Remesh.WritesFinished, declared.check_fail.CheckFail.CheckFail}
+use Rattle.def_run.specs.declared.check_fail.CheckFail.TheVariants.{Far}
+use Rattle.def_run.specs.declared.check_fail.CheckFail.TheVariants.{Marks}
+use Rattle.def_run.specs.declared.check_fail.CheckFail.TheVariants.{Tangled}
+use Rattle.def_run.specs.{declared.check_fail.CheckFail.TheVariants.Memory, declared.command.Command.Command}
 use Rattle.def_run.specs.declared.command.Command.TheVariants as commands
-use Rattle.def_remesh.specs.Tasks.{Task}
 use Rattle.def_text.specs.FaceSet.{FaceSet}
 use Rattle.patch_laws.proofs.Chosen.{chosen_cut_law, one_cut_law}
 use Rattle.plan_laws.proofs.OnePlan.{one_layout_law}
-use Rattle.qm_check.proofs.Points.{IsPoint}
-use Rattle.qm_check.proofs.Refuted.{shown_untangled}
-use Rattle.qm_check.proofs.Results.{ok_or_err, one_ok}
-use Rattle.qm_check.specs.Least.{asked_of, least_task, AsksToFind, HasNoNet}
-use Rattle.qm_check.specs.Making.{IsOnlyTask, IsUnmade}
-use Rattle.qm_check.specs.Ready.{marks_of, IsAsideFail, IsLaidOut, IsOld}
-use Rattle.qm_check.specs.declared.least.Least.{Least}
-use Rattle.qm_check.specs.declared.ready.Frame.{Frame}
+use Rattle.qm_check.proofs.{Points.IsPoint, Refuted.shown_untangled, Results.ok_or_err, Results.one_ok}
+use Rattle.qm_check.specs.{Least.asked_of, Least.least_task, Least.AsksToFind, Least.HasNoNet, Making.IsOnlyTask}
+use Rattle.qm_check.specs.{Making.IsUnmade, Ready.marks_of, Ready.IsAsideFail, Ready.IsLaidOut, Ready.IsOld}
+use Rattle.qm_check.specs.{declared.least.Least.Least, declared.ready.Frame.Frame}
 
 -- A text that is written for a mesh shows the only task that is asked.
 shown_only : (asks : Asks) (front text : Bytes) (soup : FaceSet) (task : Task) → IsMeshText front soup

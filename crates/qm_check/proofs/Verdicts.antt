@@ -1,51 +1,32 @@
 -- Each refusal of a text, with what it says of it, and what a text shows that is not refused.
 use Rattle.std.proofs.Common.{◌≡◌, ℕ, ◌+◌, Bool, List, Option, Some, None, drop, inl, inr, refl, ap, sym, ◌∙◌, subst}
 use Rattle.std.proofs.Common.{arith}
-use Rattle.def_certtext.specs.CertLines.{certificates_of, used, Certificates}
-use Rattle.def_certtext.specs.HeadLine.{head_line}
-use Rattle.def_certtext.specs.Reading.{HasBadLine, Made, TellHow}
-use Rattle.def_certtext.specs.Settings.{AreInRange}
+use Rattle.def_certtext.specs.{CertLines.certificates_of, CertLines.used, CertLines.Certificates, HeadLine.head_line}
+use Rattle.def_certtext.specs.{Reading.HasBadLine, Reading.Made, Reading.TellHow, Settings.AreInRange}
 use Rattle.def_certtext.specs.declared.Asked.{Asked}
 use Rattle.def_cut.specs.FullCut.{IsFullCut}
 use Rattle.def_fit.specs.FitTasks.{kept_text}
-use Rattle.def_flow.specs.Network.{network, tangle_number, Network}
-use Rattle.def_flow.specs.declared.net.Settings.{Settings}
-use Rattle.def_io.specs.Bytes.{Bytes}
-use Rattle.def_io.specs.Lines.{lines_of}
-use Rattle.def_layout.specs.FaceLayouts.{IsCutLayout}
-use Rattle.def_layout.specs.Lengths.{Lengths}
-use Rattle.def_layout.specs.Plans.{layout_of, vertex_at, Plan}
-use Rattle.def_remesh.specs.Certified.{IsShown}
-use Rattle.def_remesh.specs.CutSoups.{Regrid}
-use Rattle.def_remesh.specs.Keeping.{IsKept, IsNetFor}
-use Rattle.def_remesh.specs.NewPoints.{lengths_in}
-use Rattle.def_remesh.specs.Refusals.{IsTangledAt}
-use Rattle.def_remesh.specs.Remeshed.{finished_text}
-use Rattle.def_remesh.specs.Stitched.{KeepsShapes}
-use Rattle.def_remesh.specs.Tasks.{Task, Wish}
+use Rattle.def_flow.specs.{Network.network, Network.tangle_number, Network.Network, declared.net.Settings.Settings}
+use Rattle.def_io.specs.{Bytes.Bytes, Lines.lines_of}
+use Rattle.def_layout.specs.{FaceLayouts.IsCutLayout, Lengths.Lengths, Plans.layout_of, Plans.vertex_at, Plans.Plan}
+use Rattle.def_remesh.specs.{Certified.IsShown, CutSoups.Regrid, Keeping.IsKept, Keeping.IsNetFor, NewPoints.lengths_in}
+use Rattle.def_remesh.specs.{Refusals.IsTangledAt, Remeshed.finished_text, Stitched.KeepsShapes, Tasks.Task, Tasks.Wish}
 use Rattle.def_remesh.specs.TextLaws.{IsSolid}
 use Rattle.def_run.specs.Judging.{behind_in, text_in, DifferFrom, IsWrongText, Judged, TellsMade}
 use Rattle.def_run.specs.declared.answer.Why.{Why}
-use Rattle.def_run.specs.declared.answer.Why.TheVariants as why
 use Rattle.def_run.specs.declared.check_fail.CheckFail.{CheckFail}
 use Rattle.def_run.specs.declared.check_fail.CheckFail.TheVariants.{NotAccepted, Memory}
+use Rattle.def_run.specs.declared.answer.Why.TheVariants as why
 use Rattle.def_text.specs.FaceSet.{FaceSet}
-use Rattle.def_written.specs.NewFaces.{new_faces}
-use Rattle.def_written.specs.Shape.{KeepsShape}
+use Rattle.def_written.specs.{NewFaces.new_faces, Shape.KeepsShape}
 use Rattle.qm_certtext.proofs.Texts.{same_head}
-use Rattle.qm_check.proofs.Aligned.{IsJudgeable}
-use Rattle.qm_check.proofs.Refuted.{line_refuted, one_net, text_refuted}
+use Rattle.qm_check.proofs.{Aligned.IsJudgeable, Refuted.line_refuted, Refuted.one_net, Refuted.text_refuted}
 use Rattle.qm_check.specs.Checked.{HasWrongCert, IsChecked, IsDifference, IsUnused}
-use Rattle.qm_check.specs.Judged.{judged_by, Finishes, IsTextFail}
-use Rattle.qm_check.specs.Ready.{marks_of, IsReady, TellsNothing}
-use Rattle.qm_check.specs.declared.ready.Ready.{Ready}
+use Rattle.qm_check.specs.{Judged.judged_by, Judged.Finishes, Judged.IsTextFail, Ready.marks_of, Ready.IsReady}
+use Rattle.qm_check.specs.{Ready.TellsNothing, declared.ready.Ready.Ready}
 use Rattle.qm_write.proofs.Framing.{text_is}
-use Rattle.qm_write.specs.Framing.{framed_text, IsFramed}
-use Rattle.qm_write.specs.declared.text.Framed.{Framed}
-use Rattle.remesh_laws.proofs.Keeps.{least_of}
-use Rattle.remesh_laws.proofs.MarkedLines.{marked_silent}
-use Rattle.remesh_laws.proofs.Printable.{quads_of}
-use Rattle.remesh_laws.proofs.TaskTexts.{none_silent}
+use Rattle.qm_write.specs.{Framing.framed_text, Framing.IsFramed, declared.text.Framed.Framed}
+use Rattle.remesh_laws.proofs.{Keeps.least_of, MarkedLines.marked_silent, Printable.quads_of, TaskTexts.none_silent}
 use Rattle.remesh_laws.specs.Asides.{IsSilent}
 
 -- A network that is not too tangled is the only one.

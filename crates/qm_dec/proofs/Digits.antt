@@ -1,15 +1,12 @@
 -- The number that digits write, digit by digit and in parts.
-use Rattle.std.proofs.Common.{◌≡◌, ℕ, ◌+◌, ◌-◌, ◌*◌, ◌^◌, ◌<◌, ◌≤◌, min, true, List, [], ◌∷◌, ◌++◌, length, take, drop}
-use Rattle.std.proofs.Common.{get_or, sym, ap, ◌∙◌, arith}
-use Rattle.std.specs.Char.{is_ascii_digit}
-use Rattle.std.specs.Int.Digits.{number_from_digits, number_from_digits_after}
+use Rattle.std.proofs.Common.{◌≡◌, ℕ, ◌+◌, ◌-◌, ◌*◌, ◌^◌, ◌<◌, ◌≤◌}
+use Rattle.std.proofs.Common.{min, true, List, [], ◌∷◌, ◌++◌, length}
+use Rattle.std.proofs.Common.{take, drop, get_or, sym, ap, ◌∙◌, arith}
+use Rattle.std.proofs.{lemmas.Int.Digits.number_after_append, lemmas.List.map-append, lemmas.List.map_push}
+use Rattle.std.proofs.{lemmas.List.take_more, lemmas.List.take-append-drop, lemmas.List.Folds.list_all-append}
+use Rattle.std.proofs.{lemmas.Bool.and_parts, lemmas.Bool.and_from, Math.Nat.pow-suc, Math.Seq.take-append-add}
+use Rattle.std.specs.{Char.is_ascii_digit, Int.Digits.number_from_digits, Int.Digits.number_from_digits_after}
 use Rattle.std.specs.List.{list_all}
-use Rattle.std.proofs.lemmas.Int.Digits.{number_after_append}
-use Rattle.std.proofs.lemmas.List.{map-append, map_push, take_more, take-append-drop}
-use Rattle.std.proofs.lemmas.List.Folds.{list_all-append}
-use Rattle.std.proofs.lemmas.Bool.{and_parts, and_from}
-use Rattle.std.proofs.Math.Nat.{pow-suc}
-use Rattle.std.proofs.Math.Seq.{take-append-add}
 use Rattle.def_text.specs.Digits.{number_written}
 use Rattle.qm_dec.specs.Sizes.{clamped}
 use Rattle.qm_scan.proofs.Numbers.{values}

@@ -1,22 +1,17 @@
 -- Decimals of few digits without an exponent.
 use Rattle.std.proofs.Common.{◌≡◌, ℕ, ◌+◌, ◌-◌, ◌*◌, ◌^◌, ◌<◌, ◌≤◌, min, true, List, [], ◌∷◌, ◌++◌, length, take, drop}
 use Rattle.std.proofs.Common.{get_or, sym, ap, ◌∙◌, refl, subst, arith, Option, Some, None}
-use Rattle.std.specs.Prelude.{IfSome}
-use Rattle.std.specs.Char.{is_ascii_digit}
-use Rattle.std.specs.Int.Digits.{number_from_digits_after}
-use Rattle.std.specs.List.{list_all}
 use Rattle.std.proofs.lemmas.Bool.{and_from, le-leb}
 use Rattle.std.proofs.lemmas.List.{append-nil, length-map, length-take, nil_from_length, take-append-drop, take-take}
 use Rattle.std.proofs.lemmas.List.{take_all}
 use Rattle.std.proofs.lemmas.Nat.{pow-add}
 use Rattle.std.proofs.Math.Nat.{mul-le-mul_left, mul-le-mul_right, mul_assoc, pow-le-pow_right}
-use Rattle.def_text.specs.Decimal.{is_exponent}
-use Rattle.def_text.specs.Digits.{is_number, number_written, unsigned}
+use Rattle.std.specs.{Prelude.IfSome, Char.is_ascii_digit, Int.Digits.number_from_digits_after, List.list_all}
+use Rattle.def_text.specs.{Decimal.is_exponent, Digits.is_number, Digits.number_written, Digits.unsigned}
 use Rattle.qm_dec.specs.Sizes.{IsSize}
-use Rattle.qm_dec.proofs.Clamps.{ten_power}
-use Rattle.qm_dec.proofs.Digits.{after_is, number_append}
+use Rattle.qm_dec.proofs.{Clamps.ten_power, Digits.after_is, Digits.number_append, ReadBack.HasParts}
+use Rattle.qm_dec.proofs.ReadBack.{digits_number, parts_size, plain_parts, pointed_parts}
 use Rattle.qm_scan.proofs.Numbers.{number_small, values}
-use Rattle.qm_dec.proofs.ReadBack.{HasParts, digits_number, parts_size, plain_parts, pointed_parts}
 
 ten_most : (i j : ℕ) → i ≤ j → 10 ^ i ≤ 10 ^ j
 ten_most i j le = pow-le-pow_right {n = 10} (omega arith) {i = i} {j = j} le

@@ -1,10 +1,9 @@
 -- The form of a decimal by its parts.
 use Rattle.std.proofs.Common.{◌≡◌, ℕ, ◌+◌, ◌<◌, Bool, true, false, ◌&&◌, List, [], ◌∷◌, ◌++◌, length, drop, eqb, pos}
 use Rattle.std.proofs.Common.{neg_ℤ, sym, ap, ◌∙◌, refl, arith}
-use Rattle.std.specs.Char.{is_ascii_digit}
-use Rattle.std.specs.List.{list_all}
 use Rattle.std.proofs.lemmas.List.Folds.{list_all-append}
 use Rattle.std.proofs.lemmas.Bool.{and_parts, false≢true, cond-true, cond-false}
+use Rattle.std.specs.{Char.is_ascii_digit, List.list_all}
 use Rattle.def_text.specs.Digits.{is_number, is_negative, number_written, signed, unsigned}
 use Rattle.def_text.specs.Decimal.{is_exponent, power}
 

@@ -1,13 +1,10 @@
 -- The parts of a ratio's word.
 use Rattle.std.proofs.Common.{◌≡◌, ℕ, suc, ◌+◌, ◌<◌, ◌≤◌, min, Bool, true, false, not, cond, eqb, List, [], ◌∷◌, ◌++◌}
 use Rattle.std.proofs.Common.{length, take, drop, get_or, sym, ap, ◌∙◌, subst, refl, arith}
-use Rattle.std.specs.Prelude.{decimal}
-use Rattle.std.specs.Char.{is_ascii_digit}
-use Rattle.std.specs.List.{list_all, position_or_len}
 use Rattle.std.proofs.lemmas.Bool.{false≢true, eqb-true}
 use Rattle.std.proofs.lemmas.List.{take_at, drop_at, take-append-drop}
-use Rattle.def_text.specs.Digits.{number_written}
-use Rattle.def_text.specs.Ratio.{IsRatio}
+use Rattle.std.specs.{Prelude.decimal, Char.is_ascii_digit, List.list_all, List.position_or_len}
+use Rattle.def_text.specs.{Digits.number_written, Ratio.IsRatio}
 use Rattle.qm_dec.specs.Sizes.{clamped}
 use Rattle.qm_dec.proofs.Texts.{decimal_digits, decimal_number, digits_fail, digit_other, first_at}
 

@@ -9,13 +9,10 @@ use Rattle.std.proofs.Math.Nat.{pow-suc, pow-succ', pow-le-pow_right, mul-le-mul
 use Rattle.std.proofs.lemmas.List.{take-append-drop, length-drop, length-map}
 use Rattle.std.proofs.lemmas.List.Folds.{list_all-append}
 use Rattle.std.proofs.lemmas.List.Sums.{AllPass-from_list_all}
-use Rattle.std.specs.Char.{is_ascii_digit}
-use Rattle.std.specs.List.{list_all}
-use Rattle.def_text.specs.Decimal.{scaled}
-use Rattle.def_text.specs.Digits.{number_written}
+use Rattle.std.specs.{Char.is_ascii_digit, List.list_all}
+use Rattle.def_text.specs.{Decimal.scaled, Digits.number_written}
 use Rattle.qm_dec.specs.Sizes.{clamped}
-use Rattle.qm_dec.proofs.Clamps.{both_far}
-use Rattle.qm_dec.proofs.Digits.{after_is, after_more, number_append}
+use Rattle.qm_dec.proofs.{Clamps.both_far, Digits.after_is, Digits.after_more, Digits.number_append}
 use Rattle.qm_scan.proofs.Numbers.{values, number_small, digit_small}
 
 -- the difference of two numbers as a whole number

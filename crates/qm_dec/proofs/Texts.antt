@@ -1,12 +1,10 @@
 -- Numbers as they are printed: their digits, their value, their length, and where other bytes stand among them.
 use Rattle.std.proofs.Common.{◌≡◌, ℕ, ◌+◌, ◌%◌, ◌^◌, ◌<◌, Bool, true, false, not, cond, eqb, List, [], ◌∷◌, ◌++◌}
 use Rattle.std.proofs.Common.{length, ap, ◌∙◌, refl, arith}
-use Rattle.std.specs.Prelude.{decimal}
-use Rattle.std.specs.Char.{is_ascii_digit}
-use Rattle.std.specs.List.{list_all, position_or_len, prefix_len}
 use Rattle.std.proofs.lemmas.Bool.{and_parts, and_from, le-leb, not_from_true, not_from_false, ne_eqb}
 use Rattle.std.proofs.lemmas.Fmt.{decimal_by_steps}
 use Rattle.std.proofs.lemmas.List.Folds.{list_all-append}
+use Rattle.std.specs.{Prelude.decimal, Char.is_ascii_digit, List.list_all, List.position_or_len, List.prefix_len}
 use Rattle.def_text.specs.Digits.{number_written}
 use Rattle.qm_dec.proofs.Digits.{number_append}
 use Rattle.qm_scan.proofs.Numbers.{digit_small}

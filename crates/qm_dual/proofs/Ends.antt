@@ -1,11 +1,8 @@
 -- A sum over the ends of edges is a sum over the vertices.
 use Rattle.std.proofs.Common.{◌≡◌, ℕ, ◌+◌, ◌<◌, ◌==◌, eqb, true, false, List, [], ◌∷◌, cond, ℤ, pos, ◌+ℤ◌, ◌*ℤ◌, refl}
-use Rattle.std.proofs.Common.{sym, ◌∙◌, arith}
-use Rattle.std.proofs.lemmas.Int.{ints}
-use Rattle.std.proofs.lemmas.Bool.{eq-eqb, ne_eqb}
+use Rattle.std.proofs.{Common.sym, Common.◌∙◌, Common.arith, lemmas.Int.ints, lemmas.Bool.eq-eqb, lemmas.Bool.ne_eqb}
 use Rattle.std.proofs.Math.IntN.{*ℤ_comm}
-use Rattle.def_math.specs.Counts.{count}
-use Rattle.def_math.specs.Sums.{total, total_below}
+use Rattle.def_math.specs.{Counts.count, Sums.total, Sums.total_below}
 use Rattle.sum_laws.proofs.Sums.{times_sum, total_below_same, total_below_sum, total_below_none, total_below_one}
 
 -- 1 where the two numbers are equal.

@@ -1,8 +1,8 @@
 -- The least set around two entries, by leaving paths below their heads.
 use Rattle.std.proofs.Common.{◌≡◌, ℕ, suc, ◌+◌, ◌<◌, ◌≤◌, ◌||◌, ◌&&◌, Bool, true, max, List, refl, sym, ◌∙◌, ap, inl}
 use Rattle.std.proofs.Common.{inr, ◌⊎◌, arith}
-use Rattle.std.specs.Prelude.{slice_index}
 use Rattle.std.proofs.lemmas.Bool.{cases_eq, cases_lt, eq-eqb, and_parts, and_from}
+use Rattle.std.specs.Prelude.{slice_index}
 use Rattle.sum_laws.proofs.Tests.{same_test}
 use Rattle.def_matching.specs.Dual.{AreNestedSets}
 use Rattle.qm_dual.specs.Nest.{climbs, AreHeads, IsMeeting, HaveSameSets}

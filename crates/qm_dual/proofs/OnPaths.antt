@@ -1,8 +1,8 @@
 -- The paths into which nested sets fall, and the least set around two entries.
 use Rattle.std.proofs.Common.{◌≡◌, ℕ, zero, suc, ◌+◌, ◌<◌, ◌≤◌, ◌==◌, ◌||◌, Bool, true, List, refl, sym, ◌∙◌, ap, subst}
 use Rattle.std.proofs.Common.{inl, inr, ◌⊎◌, arith}
-use Rattle.std.specs.Prelude.{slice_index}
 use Rattle.std.proofs.lemmas.Bool.{cases_eq, cases_order, eq-eqb, false≢true}
+use Rattle.std.specs.Prelude.{slice_index}
 use Rattle.def_matching.specs.Dual.{AreNestedSets}
 use Rattle.qm_dual.specs.Nest.{climbs, IsHead, AreHeads}
 use Rattle.qm_dual.proofs.Climbs.{set_later, around_later, climb_on, climb_none, passed_on, passed_later}

@@ -1,15 +1,14 @@
 -- The sizes of nested sets, as the sets pass on what they hold in their order.
 use Rattle.std.proofs.Common.{◌≡◌, ℕ, zero, suc, ◌+◌, ◌<◌, ◌≤◌, ◌≢◌, ◌==◌, ◌||◌, Bool, true, false, cond, min, List}
 use Rattle.std.proofs.Common.{length, refl, sym, ◌∙◌, ap, subst, inl, inr, ◌⊎◌, arith}
-use Rattle.std.specs.Prelude.{slice_index}
 use Rattle.std.proofs.lemmas.Bool.{cases_eq, cases_lt, eq-eqb, ne_eqb, false_from_ne_true, cond-true, cond-false}
 use Rattle.std.proofs.lemmas.List.{get_or_past, length-set, get_or-set_same, get_or-set_other}
+use Rattle.std.specs.Prelude.{slice_index}
 use Rattle.def_math.specs.Counts.{count_below}
-use Rattle.sum_laws.proofs.Counts.{count_below_same, count_below_sum}
+use Rattle.sum_laws.proofs.{Counts.count_below_same, Counts.count_below_sum, Tests.once_at_most}
 use Rattle.def_matching.specs.Dual.{DualLists, AreNestedSets, set_size}
 use Rattle.qm_dual.specs.Nest.{climbs, stand_of, tally, tally_with, AreTallies, AreSizes}
 use Rattle.qm_dual.proofs.Climbs.{set_later, entry_low, climb_on, climb_none, passed_later}
-use Rattle.sum_laws.proofs.Tests.{once_at_most}
 
 -- A count of tests is at most the number of things tested.
 pub tests_low : (p : ℕ → Bool) (n : ℕ) → count_below (λ v. cond (p v) 1 0) n ≤ n

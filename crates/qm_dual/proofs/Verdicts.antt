@@ -1,20 +1,19 @@
 -- The verdict yes is that the dual says yes.
 use Rattle.std.proofs.Common.{◌≡◌, ℕ, ◌+◌, ◌<◌, ◌≢◌, ◌==◌, Bool, true, false, not, cond, List, length, ℤ, pos, ◌*ℤ◌}
-use Rattle.std.proofs.Common.{◌≤ℤ◌, ◌^◌, ◌≤◌, Option, Some, None, IfNone, Result, Ok, Err, IfOk, refl, sym, ◌∙◌, ap}
-use Rattle.std.proofs.Common.{arith}
-use Rattle.std.proofs.lemmas.Int.{ints}
-use Rattle.std.proofs.lemmas.Bool.{eq-eqb, not-false}
+use Rattle.std.proofs.Common.{◌≤ℤ◌, ◌^◌, ◌≤◌, Option, Some, None, IfNone}
+use Rattle.std.proofs.Common.{Result, Ok, Err, IfOk, refl, sym, ◌∙◌}
+use Rattle.std.proofs.{Common.ap, Common.arith, lemmas.Int.ints, lemmas.Bool.eq-eqb, lemmas.Bool.not-false}
 use Rattle.std.proofs.lemmas.Bool.Decides.{nat_tests}
 use Rattle.std.specs.Prelude.{int_lt, slice_index}
 use Rattle.def_math.specs.Searches.{least}
 use Rattle.qm_dual.proofs.Searches.{least_none, least_some, least_same, none_below}
+use Rattle.qm_dual.proofs.Weak.{weak_duality}
 use Rattle.def_matching.specs.declared.weighted.Verdict.{Verdict}
 use Rattle.def_matching.specs.declared.weighted.Verdict.TheVariants.{Yes, Shape, Even, Negative, Short}
 use Rattle.def_matching.specs.Matching.{WeightedGraph, IsGraph, edge_at, IsPerfect, matching_cost}
 use Rattle.def_matching.specs.Dual.{DualLists, AreNestedSets, SaysYes, set_size, is_odd_size, is_up, load, z_at}
 use Rattle.def_matching.specs.Dual.{dual_sum, shape_fault, even_fault, negative_fault, short_fault, refuse, verdict}
 use Rattle.qm_dual.specs.Nest.{AreSizes, IsNest}
-use Rattle.qm_dual.proofs.Weak.{weak_duality}
 
 -- Where the verdict is yes, nothing was refused, and what comes after is yes.
 pub not_refused : (o : Option ℕ) (at : ℕ → Verdict) (after : Verdict) (s : ℤ) → ((k : ℕ) → at k ≢ Yes s)

@@ -1,16 +1,12 @@
 -- Weak duality: where a dual says yes, each perfect matching has twice its cost at least the dual's sum.
 use Rattle.std.proofs.Common.{◌≡◌, ℕ, ◌+◌, ◌*◌, ◌%◌, ◌<◌, ◌≤◌, Bool, true, false, cond, List, [], ◌∷◌, map, length, ℤ}
-use Rattle.std.proofs.Common.{pos, ◌+ℤ◌, ◌*ℤ◌, ◌≤ℤ◌, refl, arith}
 use Rattle.std.proofs.lemmas.Int.{ints}
 use Rattle.std.proofs.lemmas.Bool.Decides.{nat_tests}
-use Rattle.def_math.specs.Counts.{count, count_below}
-use Rattle.def_math.specs.Sums.{total, total_below}
-use Rattle.sum_laws.proofs.Counts.{count_below_total}
-use Rattle.qm_dual.proofs.Ends.{EndsBelow, ends_once}
-use Rattle.qm_dual.proofs.Entries.{total_entries}
-use Rattle.sum_laws.proofs.Sums.{total_sum, total_below_le, two_orders}
+use Rattle.std.proofs.Common.{pos, ◌+ℤ◌, ◌*ℤ◌, ◌≤ℤ◌, refl, arith}
+use Rattle.def_math.specs.{Counts.count, Counts.count_below, Sums.total, Sums.total_below, Increasing.IsIncreasing}
+use Rattle.sum_laws.proofs.{Counts.count_below_total, Sums.total_sum, Sums.total_below_le, Sums.two_orders}
+use Rattle.qm_dual.proofs.{Ends.EndsBelow, Ends.ends_once, Entries.total_entries}
 use Rattle.def_matching.specs.declared.weighted.WEdge.{WEdge}
-use Rattle.def_math.specs.Increasing.{IsIncreasing}
 use Rattle.def_matching.specs.Matching.{WeightedGraph, IsGraph, edge_at, ends_at, IsPerfect, matching_cost}
 use Rattle.def_matching.specs.Dual.{DualLists, SaysYes, holds, set_size, is_odd_size, crosses, load, y_at, z_at}
 use Rattle.def_matching.specs.Dual.{dual_sum}

@@ -1,18 +1,14 @@
 -- The tables of runs tell the least vertices of closed runs whose edges are all marked.
 use Rattle.std.proofs.Common.{◌≡◌, ◌⊎◌, ℕ, ◌+◌, ◌<◌, ◌≤◌, Bool, true, false, eqb, ◌&&◌, ◌||◌, List, [], length, get_or}
 use Rattle.std.proofs.Common.{sym, subst, ap, ◌∙◌, inl, inr, arith}
-use Rattle.std.specs.List.{list_any}
 use Rattle.std.proofs.lemmas.Bool.{eq-eqb, eqb-true, and_from, and_parts, true_from_ne_false, false≢true}
 use Rattle.std.proofs.lemmas.List.{get_or-map, length-map}
+use Rattle.std.specs.List.{list_any}
 use Rattle.sum_laws.proofs.Tests.{same_test}
-use Rattle.def_mesh.specs.Faces.{Faces}
-use Rattle.def_mesh.specs.Darts.{all_darts, darts, from_of}
-use Rattle.def_mesh.specs.Manifold.{IsManifold}
+use Rattle.def_mesh.specs.{Faces.Faces, Darts.all_darts, Darts.darts, Darts.from_of, Manifold.IsManifold}
 use Rattle.def_mesh.specs.Vertices.{fan_of, vertex_count}
-use Rattle.def_runs.specs.declared.RunTable.{RunTable}
-use Rattle.def_runs.specs.Runs.{AreRuns, is_closed, nth_run}
-use Rattle.def_cut.specs.FullCut.{is_on}
-use Rattle.def_cut.specs.Motion.{is_among}
+use Rattle.def_runs.specs.{declared.RunTable.RunTable, Runs.AreRuns, Runs.is_closed, Runs.nth_run}
+use Rattle.def_cut.specs.{FullCut.is_on, Motion.is_among}
 use Rattle.def_feature.specs.Marks.{goes_round, is_least_in_ring}
 use Rattle.feature_laws.proofs.Breaks.{from_fan, in_fan}
 use Rattle.qm_feature.proofs.Rings.{IsRing, all_round, round_all}

@@ -2,20 +2,16 @@
 -- darts goes all round.
 use Rattle.std.proofs.Common.{◌≡◌, ◌≢◌, ◌⊎◌, ℕ, zero, suc, ◌+◌, ◌-◌, ◌<◌, ◌≤◌, Bool, true, false, not, eqb, ltb, ◌&&◌}
 use Rattle.std.proofs.Common.{List, length, get_or, Option, Some, None, sym, subst, ap, ◌∙◌, refl, inl, inr, arith}
-use Rattle.std.specs.Prelude.{option_map}
 use Rattle.std.proofs.lemmas.Bool.{cases_lt, cases_order, eq-eqb, eqb-true, le-ltb, lt-ltb, and_from, and_parts}
 use Rattle.std.proofs.lemmas.Bool.{not_from_false, false≢true}
 use Rattle.std.proofs.lemmas.Option.{none-some, same_Some}
-use Rattle.def_mesh.specs.Faces.{Faces}
-use Rattle.def_mesh.specs.Darts.{darts, from_of, to_of, next_of, twin_of, straight_of}
-use Rattle.def_mesh.specs.Manifold.{IsManifold}
-use Rattle.def_mesh.specs.HalfEdges.{half_edges}
+use Rattle.std.specs.Prelude.{option_map}
+use Rattle.def_mesh.specs.{Faces.Faces, Darts.darts, Darts.from_of, Darts.to_of, Darts.next_of, Darts.twin_of}
+use Rattle.def_mesh.specs.{Darts.straight_of, Manifold.IsManifold, HalfEdges.half_edges}
 use Rattle.def_runs.specs.declared.RunTable.{RunTable}
 use Rattle.def_runs.specs.Runs.{AreRuns, HasDart, IsBefore, IsLongestRun, first_dart, follower, is_closed, is_dart}
 use Rattle.def_runs.specs.Runs.{is_passed, last_dart, nth_run}
-use Rattle.def_cut.specs.FullCut.{is_on}
-use Rattle.def_cut.specs.Trails.{IsStraight}
-use Rattle.def_cut.specs.Traced.{terrain_of}
+use Rattle.def_cut.specs.{FullCut.is_on, Trails.IsStraight, Traced.terrain_of}
 use Rattle.def_feature.specs.Marks.{goes_round}
 use Rattle.cut_laws.proofs.Pigeon.{no_more}
 use Rattle.motion_laws.proofs.Steps.{straight_same}

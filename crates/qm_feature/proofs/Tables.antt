@@ -3,8 +3,7 @@ use Rattle.std.proofs.Common.{◌≡◌, ◌⊎◌, ℕ, ◌+◌, ◌<◌, ◌�
 use Rattle.std.proofs.Common.{ap, ◌∙◌, inl, inr, arith}
 use Rattle.std.proofs.lemmas.Bool.{cases_eq, cases_lt}
 use Rattle.std.proofs.lemmas.List.{get_or-set_same, get_or-set_other, length-set}
-use Rattle.def_mesh.specs.Faces.{Faces}
-use Rattle.def_mesh.specs.Darts.{from_of}
+use Rattle.def_mesh.specs.{Faces.Faces, Darts.from_of}
 use Rattle.qm_feature.specs.Rings.{AreLeast, least_at, run_at}
 
 pub least_more : (faces : Faces) (run least new : List ℕ) (none n : ℕ) → AreLeast faces run least none n

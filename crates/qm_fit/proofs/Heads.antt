@@ -1,11 +1,10 @@
 -- The head line of a fit is cut into its words in one way.
 use Rattle.std.proofs.Common.{◌≡◌, ◌≤◌, ◌-◌, ℕ, true, false, List, [], ◌∷◌, ◌++◌, codes, length, length-append, take}
 use Rattle.std.proofs.Common.{drop, refl, ap, sym, subst, ◌∙◌, append_assoc, arith}
-use Rattle.std.specs.Prelude.{decimal}
 use Rattle.std.proofs.lemmas.List.{append-nil, append_cancel_left, take_at}
 use Rattle.std.proofs.lemmas.Fmt.{decimal_digit}
-use Rattle.def_certtext.specs.HeadLine.{head_line}
-use Rattle.def_certtext.specs.Settings.{weight_text}
+use Rattle.std.specs.Prelude.{decimal}
+use Rattle.def_certtext.specs.{HeadLine.head_line, Settings.weight_text}
 use Rattle.def_fit.specs.Aims.{IsAim, IsFit}
 use Rattle.def_fit.specs.FitWords.{
   aim_text,
@@ -16,21 +15,18 @@ use Rattle.def_fit.specs.FitWords.{
   AreFitWords,
   IsAimWord,
 }
-use Rattle.def_fit.specs.declared.fit.Aim.{Aim}
-use Rattle.def_fit.specs.declared.fit.Aim.TheVariants.{Scale, Edge, Wishes}
-use Rattle.def_fit.specs.declared.fit.Fit.{Fit}
+use Rattle.def_fit.specs.{declared.fit.Aim.Aim, declared.fit.Aim.TheVariants.Scale, declared.fit.Aim.TheVariants.Edge}
+use Rattle.def_fit.specs.{declared.fit.Aim.TheVariants.Wishes, declared.fit.Fit.Fit}
 use Rattle.def_flow.specs.declared.net.Weight.{Weight}
 use Rattle.def_flow.specs.declared.net.Weight.TheVariants.{Plain, Length}
-use Rattle.def_patches.specs.declared.Keep.{Keep}
-use Rattle.def_patches.specs.declared.Keep.TheVariants.{Nothing, Lines}
-use Rattle.def_patches.specs.declared.Patches.{Patches}
-use Rattle.def_patches.specs.declared.Patches.TheVariants.{Traced, Merged, Conforming}
+use Rattle.def_patches.specs.{declared.Keep.Keep, declared.Keep.TheVariants.Nothing, declared.Keep.TheVariants.Lines}
+use Rattle.def_patches.specs.{declared.Patches.Patches, declared.Patches.TheVariants.Traced}
+use Rattle.def_patches.specs.declared.Patches.TheVariants.{Merged, Conforming}
 use Rattle.def_text.specs.Types.{Word}
 use Rattle.qm_certtext.proofs.Cutting.{asked_cut, one_word}
 use Rattle.qm_certtext.specs.Cuts.{asked_line, is_bare}
 use Rattle.qm_fit.specs.Cuts.{IsFitCut}
-use Rattle.qm_fit.proofs.Edges.{micro_bare, written_edge}
-use Rattle.qm_fit.proofs.OneFit.{same_fit, scale_range, scaled}
+use Rattle.qm_fit.proofs.{Edges.micro_bare, Edges.written_edge, OneFit.same_fit, OneFit.scale_range, OneFit.scaled}
 
 -- The words of a fit have no space.
 keep_bare : (keep : Keep) → is_bare (keep_word keep) ≡ true

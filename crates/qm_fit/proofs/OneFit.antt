@@ -1,21 +1,17 @@
 -- Words ask for one fit.
 use Rattle.std.proofs.Common.{◌≡◌, ℕ, ℤ, false, ◌∷◌, ◌++◌, codes, drop, get_or, refl, ap, sym, subst, ◌∙◌, arith}
-use Rattle.std.specs.Prelude.{decimal}
 use Rattle.std.proofs.lemmas.Fmt.{decimal_digit}
+use Rattle.std.specs.Prelude.{decimal}
 use Rattle.def_certtext.specs.Settings.{scale_text, AreInRange, AreWordsOf}
-use Rattle.def_fit.specs.Aims.{IsAim}
-use Rattle.def_fit.specs.FitWords.{keep_word, patches_word, spacing_word, AreFitWords, IsAimWord, IsEdgeLength}
-use Rattle.def_fit.specs.declared.fit.Aim.{Aim}
-use Rattle.def_fit.specs.declared.fit.Aim.TheVariants.{Scale, Edge, Wishes}
-use Rattle.def_fit.specs.declared.fit.Fit.{Fit}
-use Rattle.def_fit.specs.declared.fit.Spacing.{Spacing}
+use Rattle.def_fit.specs.{Aims.IsAim, FitWords.keep_word, FitWords.patches_word, FitWords.spacing_word}
+use Rattle.def_fit.specs.{FitWords.AreFitWords, FitWords.IsAimWord, FitWords.IsEdgeLength, declared.fit.Aim.Aim}
+use Rattle.def_fit.specs.declared.fit.Aim.TheVariants.{Scale, Edge}
+use Rattle.def_fit.specs.{declared.fit.Aim.TheVariants.Wishes, declared.fit.Fit.Fit, declared.fit.Spacing.Spacing}
 use Rattle.def_fit.specs.declared.fit.Spacing.TheVariants.{Even, Wished}
-use Rattle.def_flow.specs.declared.net.Settings.{Settings}
-use Rattle.def_flow.specs.declared.net.Weight.TheVariants.{Plain}
-use Rattle.def_patches.specs.declared.Keep.{Keep}
-use Rattle.def_patches.specs.declared.Keep.TheVariants.{Nothing, Lines}
-use Rattle.def_patches.specs.declared.Patches.{Patches}
-use Rattle.def_patches.specs.declared.Patches.TheVariants.{Traced, Merged, Conforming}
+use Rattle.def_flow.specs.{declared.net.Settings.Settings, declared.net.Weight.TheVariants.Plain}
+use Rattle.def_patches.specs.{declared.Keep.Keep, declared.Keep.TheVariants.Nothing, declared.Keep.TheVariants.Lines}
+use Rattle.def_patches.specs.{declared.Patches.Patches, declared.Patches.TheVariants.Traced}
+use Rattle.def_patches.specs.declared.Patches.TheVariants.{Merged, Conforming}
 use Rattle.def_text.specs.Types.{Word}
 use Rattle.qm_certtext.proofs.Unique.{same_settings}
 

@@ -1,14 +1,13 @@
 -- Climbing from two vertices of one blossom until one meets: what is passed on the way is what lies around just one.
 use Rattle.std.proofs.Common.{◌≡◌, ◌≢◌, ℕ, zero, suc, ◌+◌, ◌*◌, ◌<◌, ◌≤◌, ◌^◌, Bool, true, false, not, cond, eqb, ◌||◌}
 use Rattle.std.proofs.Common.{ℤ, pos, ◌+ℤ◌, ◌⊎◌, refl, sym, ◌∙◌, ap, subst, inl, inr, arith}
-use Rattle.std.specs.Prelude.{unsigned_abs}
 use Rattle.std.proofs.lemmas.Int.{ints}
 use Rattle.std.proofs.lemmas.Bool.{cases_eq, cases_Bool, cond-true, cond-false, eq-eqb, ne_eqb, eqb-true, or_cases}
 use Rattle.std.proofs.lemmas.Bool.{or_left}
+use Rattle.std.specs.Prelude.{unsigned_abs}
 use Rattle.def_math.specs.Sums.{total_below}
 use Rattle.sum_laws.proofs.Sums.{total_below_same, total_below_sum, total_below_one, total_below_none}
-use Rattle.def_forest.specs.Forests.{splits, walk}
-use Rattle.def_forest.specs.Tables.{climbs}
+use Rattle.def_forest.specs.{Forests.splits, Forests.walk, Tables.climbs}
 use Rattle.forest_laws.proofs.Writes.{by_order, by_same}
 use Rattle.qm_forest.specs.Ties.{IsClimb, apart}
 use Rattle.qm_forest.proofs.Ranges.{sum_small}

@@ -4,19 +4,16 @@ use Rattle.std.proofs.Common.{◌++◌, map, length, get_or, replicate, Option, 
 use Rattle.std.proofs.Common.{refl, sym, ◌∙◌, ap, subst, inl, inr, arith, length-append}
 use Rattle.std.proofs.lemmas.Bool.{cases_lt, cond-true, cond-false}
 use Rattle.std.proofs.lemmas.List.{get_or_append_left, get_or-append_right, length-replicate}
-use Rattle.def_math.specs.Counts.{count, count_below}
-use Rattle.def_math.specs.Increasing.{IsIncreasing}
+use Rattle.def_math.specs.{Counts.count, Counts.count_below, Increasing.IsIncreasing}
 use Rattle.sum_laws.proofs.Counts.{count_append, count_below_none, count_below_same}
 use Rattle.def_matching.specs.Matching.{WeightedGraph, IsSmallGraph, edge_at, ends_at}
 use Rattle.def_forest.specs.Forests.{bool_number, splits}
 use Rattle.def_forest.specs.Tables.{ForestTables, forest_of, MatchesBut}
-use Rattle.forest_laws.proofs.Bounds.{leaves_vertex}
-use Rattle.forest_laws.proofs.Graphs.{dart_near, near_odd}
+use Rattle.forest_laws.proofs.{Bounds.leaves_vertex, Graphs.dart_near, Graphs.near_odd}
 use Rattle.qm_forest.specs.Rounds.{IsSoundFor, AreMarked, HasRoom, IsLaminar, IsRound, leaving, near_at, waiting}
 use Rattle.qm_forest.specs.Rounds.{waits_but, waits_for, within}
 use Rattle.qm_forest.specs.declared.rounds.Round.{Round}
-use Rattle.qm_forest.proofs.Fresh.{same_everywhere}
-use Rattle.qm_forest.proofs.Laminars.{alone}
+use Rattle.qm_forest.proofs.{Fresh.same_everywhere, Laminars.alone}
 
 -- An increasing list with one number more at its end.
 pub increasing_more : (low bound : ℕ) (xs : List ℕ) → low ≤ bound → IsIncreasing low bound xs

@@ -3,11 +3,9 @@ use Rattle.std.proofs.Common.{◌≡◌, ℕ, ◌+◌, ◌<◌, ◌≤◌, ◌++
 use Rattle.std.proofs.Common.{subst, inl, inr, arith}
 use Rattle.std.proofs.lemmas.Bool.{cases_lt}
 use Rattle.std.proofs.lemmas.List.{get_or_append_left, get_or_push}
-use Rattle.def_forest.specs.Forests.{walk}
-use Rattle.def_forest.specs.Tables.{ForestTables, climbs, up_at}
+use Rattle.def_forest.specs.{Forests.walk, Tables.ForestTables, Tables.climbs, Tables.up_at}
 use Rattle.forest_laws.proofs.Walks.{listed_place}
-use Rattle.qm_forest.specs.Gathers.{IsListAt}
-use Rattle.qm_forest.specs.Ties.{AreTied, HiddenTables, IsInUse, IsListed}
+use Rattle.qm_forest.specs.{Gathers.IsListAt, Ties.AreTied, Ties.HiddenTables, Ties.IsInUse, Ties.IsListed}
 use Rattle.qm_forest.specs.declared.tables.Lists.{Lists}
 use Rattle.qm_forest.proofs.JoinedLists.{list_few}
 

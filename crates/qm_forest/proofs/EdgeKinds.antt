@@ -1,19 +1,18 @@
 -- What an edge's kind says of its dart that begins in an outer blossom.
 use Rattle.std.proofs.Common.{◌≡◌, ◌≢◌, ℕ, ◌+◌, ◌*◌, ◌<◌, Bool, true, false, cond, eqb, length, ℤ, pos, ◌+ℤ◌, ◌-ℤ◌}
-use Rattle.std.proofs.Common.{◌*ℤ◌, ◌≤ℤ◌, Option, is_some, ◌⊎◌, refl, sym, ◌∙◌, ap, subst, inl, inr, arith}
-use Rattle.std.specs.Prelude.{int_lt}
 use Rattle.std.proofs.lemmas.Int.{ints}
 use Rattle.std.proofs.lemmas.Bool.{cases_Bool, cond-true, cond-false, eq-eqb}
+use Rattle.std.proofs.Common.{◌*ℤ◌, ◌≤ℤ◌, Option, is_some, ◌⊎◌, refl, sym, ◌∙◌, ap, subst, inl, inr, arith}
+use Rattle.std.specs.Prelude.{int_lt}
 use Rattle.def_matching.specs.Matching.{IsSmallGraph, WeightedGraph, edge_at}
-use Rattle.def_forest.specs.Darts.{darts_of, other_dart, far}
-use Rattle.def_forest.specs.Forests.{Forest, weight_between, IsTight}
-use Rattle.def_forest.specs.Tables.{edge_kind, kind_by, slack_of, outer_dart, dart_by}
-use Rattle.def_forest.specs.Valid.{IsFeasible}
-use Rattle.def_forest.specs.declared.kinds.Label.{Label}
-use Rattle.def_forest.specs.declared.kinds.Label.TheVariants.{Outer, Inner, Outside}
-use Rattle.def_forest.specs.declared.kinds.EdgeKind.{EdgeKind}
-use Rattle.def_forest.specs.declared.kinds.EdgeKind.TheVariants.{Loose, Augment, Grow, Shrink, Idle}
-use Rattle.def_forest.specs.Ways.{Reaches}
+use Rattle.def_forest.specs.{Darts.darts_of, Darts.other_dart, Darts.far, Forests.Forest, Forests.weight_between}
+use Rattle.def_forest.specs.{Forests.IsTight, Tables.edge_kind, Tables.kind_by, Tables.slack_of, Tables.outer_dart}
+use Rattle.def_forest.specs.{Tables.dart_by, Valid.IsFeasible, declared.kinds.Label.Label}
+use Rattle.def_forest.specs.declared.kinds.Label.TheVariants.{Outer, Inner}
+use Rattle.def_forest.specs.{declared.kinds.Label.TheVariants.Outside, declared.kinds.EdgeKind.EdgeKind}
+use Rattle.def_forest.specs.declared.kinds.EdgeKind.TheVariants.{Loose, Augment}
+use Rattle.def_forest.specs.declared.kinds.EdgeKind.TheVariants.{Grow, Shrink}
+use Rattle.def_forest.specs.{declared.kinds.EdgeKind.TheVariants.Idle, Ways.Reaches}
 use Rattle.forest_laws.proofs.Facts.{tight_twin, far_twin}
 use Rattle.forest_laws.proofs.Graphs.{are_darts, twin_even, dart_near, dart_far, dart_cost}
 

@@ -2,12 +2,10 @@
 use Rattle.std.proofs.Common.{◌≡◌, ◌≢◌, ℕ, zero, suc, ◌+◌, ◌<◌, ◌≤◌, Bool, true, false, cond, eqb, ◌||◌, ◌⊎◌, refl, sym}
 use Rattle.std.proofs.Common.{◌∙◌, ap, inl, inr, arith}
 use Rattle.std.proofs.lemmas.Bool.{cases_eq, cases_Bool, cond-true, cond-false, eq-eqb, ne_eqb}
-use Rattle.def_forest.specs.Forests.{walk}
-use Rattle.def_forest.specs.Tables.{climbs}
+use Rattle.def_forest.specs.{Forests.walk, Tables.climbs}
 use Rattle.forest_laws.proofs.Walks.{walk_front, walk_fixed}
 use Rattle.qm_forest.specs.Ties.{IsClimb}
-use Rattle.qm_forest.proofs.Apart.{OnWayFrom, fixed_top, rank_low, goes_on}
-use Rattle.qm_forest.proofs.Fresh.{climbs_self}
+use Rattle.qm_forest.proofs.{Apart.OnWayFrom, Apart.fixed_top, Apart.rank_low, Apart.goes_on, Fresh.climbs_self}
 
 -- One comes past where one is.
 pub climbs_here : (up : ℕ → ℕ) (k b : ℕ) → climbs up k b b ≡ true

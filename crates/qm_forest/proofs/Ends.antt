@@ -1,23 +1,18 @@
 -- Where all blossoms are matched, the edges that are chosen are a perfect matching, and twice its cost is the sum.
 use Rattle.std.proofs.Common.{◌≡◌, ◌≢◌, ℕ, suc, ◌*◌, ◌<◌, ◌≤◌, Bool, true, false, cond, List, [], ◌∷◌, map, length}
-use Rattle.std.proofs.Common.{get_or, ℤ, pos, ◌+ℤ◌, ◌*ℤ◌, Option, None, ◌⊎◌, refl, sym, ◌∙◌, ap, subst, inl, inr, arith}
 use Rattle.std.proofs.lemmas.Int.{ints}
 use Rattle.std.proofs.lemmas.Bool.{cases_eq, cases_lt}
-use Rattle.def_math.specs.Increasing.{IsIncreasing}
-use Rattle.def_math.specs.Sums.{total}
+use Rattle.std.proofs.Common.{get_or, ℤ, pos, ◌+ℤ◌, ◌*ℤ◌, Option, None, ◌⊎◌, refl, sym, ◌∙◌, ap, subst, inl, inr, arith}
+use Rattle.def_math.specs.{Increasing.IsIncreasing, Sums.total}
 use Rattle.sum_laws.proofs.Sums.{total_below_same, two_orders}
-use Rattle.def_matching.specs.Matching.{WeightedGraph, IsSmallGraph, IsPerfect, edge_at, matching_cost}
-use Rattle.def_matching.specs.Dual.{crosses}
-use Rattle.def_matching.specs.declared.weighted.WEdge.{WEdge}
-use Rattle.def_forest.specs.Darts.{darts_of}
-use Rattle.def_forest.specs.Forests.{Forest, IsTight, dual_sum_of, weight_between}
-use Rattle.def_forest.specs.Tables.{ForestTables, forest_of}
-use Rattle.forest_laws.proofs.Bounds.{just_once}
-use Rattle.forest_laws.proofs.Graphs.{dart_near, dart_far, dart_cost}
+use Rattle.def_matching.specs.Matching.{WeightedGraph, IsSmallGraph, IsPerfect, edge_at}
+use Rattle.def_matching.specs.{Matching.matching_cost, Dual.crosses, declared.weighted.WEdge.WEdge}
+use Rattle.def_forest.specs.{Darts.darts_of, Forests.Forest, Forests.IsTight, Forests.dual_sum_of}
+use Rattle.def_forest.specs.{Forests.weight_between, Tables.ForestTables, Tables.forest_of}
+use Rattle.forest_laws.proofs.{Bounds.just_once, Graphs.dart_near, Graphs.dart_far, Graphs.dart_cost}
 use Rattle.qm_forest.specs.Rounds.{IsSoundFor, AreMarked, IsLaminar, IsRound, leaving, matched_by}
-use Rattle.qm_forest.proofs.Chosens.{count_map, edges_is, leaving_listed, met_as_left, round_ends}
-use Rattle.qm_forest.proofs.Laminars.{another}
-use Rattle.qm_forest.proofs.MateRounds.{due_one, due_same}
+use Rattle.qm_forest.proofs.Chosens.{count_map, edges_is, leaving_listed, met_as_left}
+use Rattle.qm_forest.proofs.{Chosens.round_ends, Laminars.another, MateRounds.due_one, MateRounds.due_same}
 
 -- A blossom without weight adds nothing.
 none_added : (s : ℕ → Bool) {z : ℤ} (es : List WEdge) → z ≡ pos 0

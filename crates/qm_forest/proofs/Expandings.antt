@@ -2,24 +2,18 @@
 use Rattle.std.proofs.Common.{◌≡◌, ◌≢◌, ℕ, ◌+◌, ◌*◌, ◌<◌, ◌≤◌, ◌^◌, ◌-◌, ◌%◌, Bool, true, false, length, pos, Option}
 use Rattle.std.proofs.Common.{Some, None, ◌⊎◌, refl, sym, ◌∙◌, ap, subst, inl, inr, arith}
 use Rattle.def_matching.specs.Matching.{WeightedGraph, IsSmallGraph}
-use Rattle.def_forest.specs.Darts.{Darts, darts_of}
-use Rattle.def_forest.specs.Forests.{Forest, walk}
-use Rattle.def_forest.specs.Opened.{IsExpanding}
+use Rattle.def_forest.specs.{Darts.Darts, Darts.darts_of, Forests.Forest, Forests.walk, Opened.IsExpanding}
 use Rattle.def_forest.specs.Tables.{ForestTables, forest_of, IsOutermostIn, IsValidFor}
-use Rattle.def_forest.specs.Valid.{IsTree, IsValid}
-use Rattle.def_forest.specs.Ways.{dart_or}
-use Rattle.def_forest.specs.declared.kinds.Label.TheVariants.{Inner, Outside}
+use Rattle.def_forest.specs.{Valid.IsTree, Valid.IsValid, Ways.dart_or, declared.kinds.Label.TheVariants.Inner}
+use Rattle.def_forest.specs.declared.kinds.Label.TheVariants.{Outside}
 use Rattle.forest_laws.specs.Walks.{listed}
-use Rattle.forest_laws.proofs.Circles.{IsCircle}
-use Rattle.forest_laws.proofs.ExpandedTrees.{opened_valid}
-use Rattle.qm_forest.specs.Parts.{HasOpened, IsCourse, IsParted, hung, paired}
-use Rattle.qm_forest.specs.Ties.{fixed_of, HasSameNest, labelled, linked, mated}
-use Rattle.qm_forest.specs.declared.expanding.Course.{Course}
-use Rattle.qm_forest.proofs.Leavings.{outermost_kept}
-use Rattle.qm_forest.proofs.OnWays.{darts_kept, ends_kept, room_kept}
-use Rattle.qm_forest.proofs.Openeds.{expanding}
-use Rattle.qm_forest.proofs.Openings.{IsJoined, are, inside as the_inside, in_tree, joined, mate_is, part_low}
-use Rattle.qm_forest.proofs.Openings.{ring_from, first_in, last_in, tree_is}
+use Rattle.forest_laws.proofs.{Circles.IsCircle, ExpandedTrees.opened_valid}
+use Rattle.qm_forest.specs.{Parts.HasOpened, Parts.IsCourse, Parts.IsParted, Parts.hung, Parts.paired, Ties.fixed_of}
+use Rattle.qm_forest.specs.{Ties.HasSameNest, Ties.labelled, Ties.linked, Ties.mated, declared.expanding.Course.Course}
+use Rattle.qm_forest.proofs.{Leavings.outermost_kept, OnWays.darts_kept, OnWays.ends_kept, OnWays.room_kept}
+use Rattle.qm_forest.proofs.{Openeds.expanding, Openings.IsJoined, Openings.are, Openings.inside as the_inside}
+use Rattle.qm_forest.proofs.Openings.{in_tree, joined, mate_is, part_low, ring_from}
+use Rattle.qm_forest.proofs.Openings.{first_in, last_in, tree_is}
 
 module _ {g : WeightedGraph} (is : IsSmallGraph g) {t0 : ForestTables} (valid : IsValidFor g t0) (b : ℕ)
     (high : g.n ≤ b) (inner : (forest_of t0).label b ≡ Inner) (weightless : (forest_of t0).weight b ≡ pos 0) where

@@ -1,15 +1,13 @@
 -- The tables where the tree is forgotten.
 use Rattle.std.proofs.Common.{◌≡◌, ◌≢◌, ℕ, suc, Bool, true, false, [], ◌∷◌, count_by, ◌<◌, ◌≤◌, ◌^◌, List, length}
 use Rattle.std.proofs.Common.{get_or, ℤ, pos, ◌+ℤ◌, ◌⊎◌, cond, None, refl, sym, ◌∙◌, ap, subst, inl, inr, arith}
-use Rattle.std.specs.Prelude.{unsigned_abs}
 use Rattle.std.proofs.lemmas.Int.{ints}
 use Rattle.std.proofs.lemmas.Bool.{cases_Bool}
 use Rattle.std.proofs.lemmas.List.Sums.{sum_by-cons}
+use Rattle.std.specs.Prelude.{unsigned_abs}
 use Rattle.sum_laws.proofs.Sums.{total_below_same}
-use Rattle.def_forest.specs.Forests.{dual_sum_of}
-use Rattle.def_forest.specs.Steps.{weight_change}
-use Rattle.def_forest.specs.Tables.{ForestTables, forest_of, label_at, out_of}
-use Rattle.def_forest.specs.declared.kinds.Label.{Label}
+use Rattle.def_forest.specs.{Forests.dual_sum_of, Steps.weight_change, Tables.ForestTables, Tables.forest_of}
+use Rattle.def_forest.specs.{Tables.label_at, Tables.out_of, declared.kinds.Label.Label}
 use Rattle.def_forest.specs.declared.kinds.Label.TheVariants.{Outside}
 use Rattle.forest_laws.proofs.Writes.{label_cases, true_false}
 use Rattle.qm_forest.specs.Ties.{AreTied, HiddenTables, IsOnTrail, potential, added, relabelled}

@@ -1,33 +1,26 @@
 -- The tables of a forest of single vertices are tied, and valid for a graph whose costs the weights stay below.
 use Rattle.std.proofs.Common.{count_by, is_some, ◌≡◌, ◌≢◌, ℕ, zero, suc, ◌+◌, ◌-◌, ◌*◌, ◌/◌, ◌%◌, ◌<◌, ◌≤◌, ◌^◌, Bool}
-use Rattle.std.proofs.Common.{true, false, cond, eqb, ◌||◌, List, length, get_or, replicate, ℤ, pos, ◌+ℤ◌, ◌*ℤ◌, ◌≤ℤ◌}
 use Rattle.std.proofs.Common.{◌⊎◌, Option, Some, None, refl, sym, ◌∙◌, ap, subst, inl, inr, arith}
-use Rattle.std.specs.Prelude.{unsigned_abs, nat_lt}
 use Rattle.std.proofs.lemmas.Int.{ints}
 use Rattle.std.proofs.lemmas.List.{get_or-replicate, length-replicate, get_or_past}
 use Rattle.std.proofs.lemmas.List.Folds.{sum_by-replicate}
 use Rattle.std.proofs.lemmas.Bool.{cases_eq, cases_lt, cond-true, cond-false, eq-eqb, ne_eqb, eqb-true}
-use Rattle.sum_laws.proofs.Sums.{total_below_one}
+use Rattle.std.proofs.Common.{true, false, cond, eqb, ◌||◌, List, length, get_or, replicate, ℤ, pos, ◌+ℤ◌, ◌*ℤ◌, ◌≤ℤ◌}
+use Rattle.std.specs.Prelude.{unsigned_abs, nat_lt}
+use Rattle.sum_laws.proofs.{Sums.total_below_one, Counts.count_below_none}
 use Rattle.def_math.specs.Counts.{count_below}
-use Rattle.sum_laws.proofs.Counts.{count_below_none}
 use Rattle.def_matching.specs.Matching.{WeightedGraph, IsGraph, edge_at}
-use Rattle.def_forest.specs.Darts.{darts_of, far}
-use Rattle.def_forest.specs.Forests.{walk, live_at, weight_between, dual_sum_of}
-use Rattle.def_forest.specs.Steps.{weight_change}
-use Rattle.def_forest.specs.Tables.{size_of, ForestTables, forest_of, up_at, label_at, out_of, climbs, IsValidFor}
-use Rattle.def_forest.specs.Valid.{AreOutermost, IsNested, IsFeasible}
-use Rattle.def_forest.specs.declared.kinds.Label.{Label}
-use Rattle.def_forest.specs.declared.kinds.Label.TheVariants.{Outside}
-use Rattle.forest_laws.proofs.Bounds.{eqb_order}
-use Rattle.forest_laws.proofs.Graphs.{near_even, near_odd, twin_even, twin_odd}
-use Rattle.forest_laws.proofs.Writes.{true_false}
-use Rattle.forest_laws.proofs.Loads.{load_across}
+use Rattle.def_forest.specs.{Darts.darts_of, Darts.far, Forests.walk, Forests.live_at, Forests.weight_between}
+use Rattle.def_forest.specs.{Forests.dual_sum_of, Steps.weight_change, Tables.size_of, Tables.ForestTables}
+use Rattle.def_forest.specs.Tables.{forest_of, up_at, label_at, out_of, climbs}
+use Rattle.def_forest.specs.{Tables.IsValidFor, Valid.AreOutermost, Valid.IsNested, Valid.IsFeasible}
+use Rattle.def_forest.specs.{declared.kinds.Label.Label, declared.kinds.Label.TheVariants.Outside}
+use Rattle.forest_laws.proofs.{Bounds.eqb_order, Graphs.near_even, Graphs.near_odd, Graphs.twin_even, Graphs.twin_odd}
+use Rattle.forest_laws.proofs.{Writes.true_false, Loads.load_across}
 use Rattle.qm_pool.specs.declared.pool.Node.{Node}
 use Rattle.qm_forest.specs.Ties.{AreTied, HasSizes, IsLaidOut, IsListed, HiddenTables, IsCounted, IsFresh, AreFeasible}
 use Rattle.qm_forest.specs.Ties.{AreStarts, potential, added}
-use Rattle.qm_forest.proofs.Forgets.{none_counted}
-use Rattle.qm_forest.proofs.Apart.{walk_stays}
-use Rattle.qm_forest.proofs.Ranges.{sum_small, read_nat}
+use Rattle.qm_forest.proofs.{Forgets.none_counted, Apart.walk_stays, Ranges.sum_small, Ranges.read_nat}
 
 -- A list of one value has it everywhere, if it stands past the end too.
 pub same_everywhere : {X : Type 0} {xs : List X} (n : ℕ) (x : X) → xs ≡ replicate n x → (k : ℕ) → get_or xs k x ≡ x

@@ -3,8 +3,8 @@ use Rattle.std.proofs.Common.{◌≡◌, ◌≢◌, ℕ, suc, ◌+◌, ◌-◌, 
 use Rattle.std.proofs.Common.{ℤ, pos, ◌+ℤ◌, ◌-ℤ◌, ◌⊎◌, Option, Some, None, refl, sym, ◌∙◌, ap, subst, inl, inr}
 use Rattle.std.proofs.Common.{length-set, get_or-set_same, get_or-set_other, arith}
 use Rattle.std.proofs.Math.ListN.{set}
-use Rattle.std.specs.Prelude.{slice_get}
 use Rattle.std.proofs.lemmas.Bool.{cases_eq, cases_Bool, cond-true, cond-false, eq-eqb, ne_eqb}
+use Rattle.std.specs.Prelude.{slice_get}
 use Rattle.def_forest.specs.Forests.{walk, ring_sum, set_at}
 use Rattle.def_forest.specs.Tables.{ForestTables, forest_of, climbs, label_at, out_of, up_at, weight_at}
 use Rattle.def_forest.specs.declared.kinds.Label.TheVariants.{Outside}
@@ -15,16 +15,13 @@ use Rattle.qm_pool.specs.declared.pool.Node.{Node}
 use Rattle.qm_forest.specs.Gathers.{IsRow, IsGathered}
 use Rattle.qm_forest.specs.Ties.{AreTied, HiddenTables, HasSizes, HasNumbers, IsClimb, IsInUse, IsLaidOut, IsListed}
 use Rattle.qm_forest.specs.Ties.{IsPooled, IsTrailed}
-use Rattle.qm_forest.proofs.Enclosed.{climb_enclosed as the_climb_enclosed, holds_same as the_holds_same}
-use Rattle.qm_forest.proofs.Enclosed.{holds_new as the_holds_new}
-use Rattle.qm_forest.proofs.JoinedLists.{list_agrees, list_renamed, list_has_last, list_last, list_member, row_joined}
-use Rattle.qm_forest.proofs.JoinedLists.{walk_agrees}
-use Rattle.qm_forest.proofs.JoinedRows.{ring_sum_above}
-use Rattle.qm_forest.proofs.Ranges.{read_nat}
-use Rattle.qm_forest.proofs.TiedWrites.{entry_set}
-use Rattle.qm_forest.proofs.Nests.{out_used, rank_few, rank_some, rank_passed}
-use Rattle.qm_forest.proofs.GatheredRows.{RowFacts, row_facts}
-use Rattle.qm_forest.proofs.GatheredNumbers.{numbers_new as the_numbers_new, trail_new as the_trail_new}
+use Rattle.qm_forest.proofs.{Enclosed.climb_enclosed as the_climb_enclosed, Enclosed.holds_same as the_holds_same}
+use Rattle.qm_forest.proofs.{Enclosed.holds_new as the_holds_new, JoinedLists.list_agrees, JoinedLists.list_renamed}
+use Rattle.qm_forest.proofs.JoinedLists.{list_has_last, list_last, list_member}
+use Rattle.qm_forest.proofs.{JoinedLists.row_joined, JoinedLists.walk_agrees, JoinedRows.ring_sum_above}
+use Rattle.qm_forest.proofs.{Ranges.read_nat, TiedWrites.entry_set, Nests.out_used, Nests.rank_few, Nests.rank_some}
+use Rattle.qm_forest.proofs.{Nests.rank_passed, GatheredRows.RowFacts, GatheredRows.row_facts}
+use Rattle.qm_forest.proofs.{GatheredNumbers.numbers_new as the_numbers_new, GatheredNumbers.trail_new as the_trail_new}
 use Rattle.qm_forest.proofs.Pooled.{pool_taken}
 
 module _ {t : ForestTables} {hid : HiddenTables} (tied : AreTied t hid) {front many : ℕ} (b big : ℕ)

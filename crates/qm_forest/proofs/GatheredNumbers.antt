@@ -2,14 +2,13 @@
 -- set has none.
 use Rattle.std.proofs.Common.{◌≡◌, ◌≢◌, ℕ, ◌<◌, Bool, true, false, cond, List, length, get_or, ℤ, pos, ◌+ℤ◌, ◌-ℤ◌, ◌≤ℤ◌}
 use Rattle.std.proofs.Common.{◌⊎◌, Option, None, sym, ◌∙◌, ap, subst, inl, inr, arith}
-use Rattle.std.specs.Prelude.{unsigned_abs}
 use Rattle.std.proofs.lemmas.Int.{ints}
 use Rattle.std.proofs.lemmas.Bool.{cases_eq, cases_Bool, cond-true, cond-false}
+use Rattle.std.specs.Prelude.{unsigned_abs}
 use Rattle.def_math.specs.Sums.{total_below}
 use Rattle.sum_laws.proofs.Sums.{total_below_same}
-use Rattle.def_forest.specs.Steps.{weight_change}
-use Rattle.def_forest.specs.Tables.{ForestTables, climbs, label_at, out_of, up_at, weight_at}
-use Rattle.def_forest.specs.declared.kinds.Label.{Label}
+use Rattle.def_forest.specs.{Steps.weight_change, Tables.ForestTables, Tables.climbs, Tables.label_at, Tables.out_of}
+use Rattle.def_forest.specs.{Tables.up_at, Tables.weight_at, declared.kinds.Label.Label}
 use Rattle.def_forest.specs.declared.kinds.Label.TheVariants.{Outside}
 use Rattle.forest_laws.proofs.Writes.{by_none}
 use Rattle.qm_forest.specs.Ties.{AreTied, HiddenTables, HasNumbers, IsTrailed, added, told, weights_around, all_weights}

@@ -2,17 +2,13 @@
 use Rattle.std.proofs.Common.{◌≡◌, ◌≢◌, ℕ, suc, ◌<◌, ◌≤◌, Bool, true, false, eqb, length, get_or, ◌⊎◌, sym, ◌∙◌}
 use Rattle.std.proofs.Common.{ap, subst, inl, inr, arith}
 use Rattle.std.proofs.lemmas.Bool.{cases_eq, cases_Bool, eq-eqb, ne_eqb, eqb-true}
-use Rattle.def_forest.specs.Forests.{walk}
-use Rattle.def_forest.specs.Tables.{ForestTables, climbs, label_at, out_of, up_at}
-use Rattle.def_forest.specs.declared.kinds.Label.TheVariants.{Outside}
+use Rattle.def_forest.specs.{Forests.walk, Tables.ForestTables, Tables.climbs, Tables.label_at, Tables.out_of}
+use Rattle.def_forest.specs.{Tables.up_at, declared.kinds.Label.TheVariants.Outside}
 use Rattle.forest_laws.specs.Walks.{listed}
-use Rattle.forest_laws.proofs.Walks.{listed_at, listed_place, listed_off}
-use Rattle.forest_laws.proofs.Writes.{label_cases}
-use Rattle.qm_forest.specs.Gathers.{IsRow}
-use Rattle.qm_forest.specs.Ties.{AreTied, HiddenTables, IsInUse, IsListed}
-use Rattle.qm_forest.proofs.JoinedLists.{list_has_last}
-use Rattle.qm_forest.proofs.Nests.{came_past, last_free, out_used, reached_used, list_of, held_out, leader_low}
-use Rattle.qm_forest.proofs.Nests.{leader_out}
+use Rattle.forest_laws.proofs.{Walks.listed_at, Walks.listed_place, Walks.listed_off, Writes.label_cases}
+use Rattle.qm_forest.specs.{Gathers.IsRow, Ties.AreTied, Ties.HiddenTables, Ties.IsInUse, Ties.IsListed}
+use Rattle.qm_forest.proofs.{JoinedLists.list_has_last, Nests.came_past, Nests.last_free, Nests.out_used}
+use Rattle.qm_forest.proofs.Nests.{reached_used, list_of, held_out, leader_low, leader_out}
 
 abbrev pub row_at : (t : ForestTables) (front k : ℕ) → ℕ
 row_at t front k = walk (λ i. get_or t.after i 0) front k

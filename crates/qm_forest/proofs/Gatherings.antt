@@ -1,27 +1,21 @@
 -- Gathering a ring, step by step: what each of its loops needs, and the tie and the forest after all of them.
-use Rattle.std.proofs.Common.{◌≡◌, ◌≢◌, ℕ, ◌<◌, ◌≤◌, ◌^◌, cond, eqb, List, length, get_or}
-use Rattle.std.proofs.Common.{pos, ◌+ℤ◌, ◌⊎◌, Option, Some, None, refl, sym, ◌∙◌, ap, subst, inl, inr, arith}
-use Rattle.std.proofs.Math.ListN.{set}
+use Rattle.std.proofs.Common.{◌≡◌, ◌≢◌, ℕ, ◌<◌, ◌≤◌, ◌^◌, cond, eqb}
+use Rattle.std.proofs.Common.{List, length, get_or, pos, ◌+ℤ◌, ◌⊎◌, Option}
+use Rattle.std.proofs.Common.{Some, None, refl, sym, ◌∙◌, ap, subst}
+use Rattle.std.proofs.{Common.inl, Common.inr, Common.arith, Math.ListN.set, lemmas.Int.ints, lemmas.Bool.cases_lt}
+use Rattle.std.proofs.{lemmas.List.get_or_past, lemmas.Option.slice_get_within}
 use Rattle.std.specs.Prelude.{unsigned_abs}
-use Rattle.std.proofs.lemmas.Int.{ints}
-use Rattle.std.proofs.lemmas.Bool.{cases_lt}
-use Rattle.std.proofs.lemmas.List.{get_or_past}
-use Rattle.std.proofs.lemmas.Option.{slice_get_within}
 use Rattle.def_forest.specs.Forests.{Forest, walk, ring_sum}
 use Rattle.def_forest.specs.Steps.{weight_change}
 use Rattle.def_forest.specs.Tables.{GraphSize, ForestTables, forest_of, label_at, out_of, IsOutermostIn}
 use Rattle.forest_laws.specs.Walks.{listed}
 use Rattle.qm_pool.specs.declared.pool.Node.{Node}
-use Rattle.qm_forest.specs.Gathers.{HasListsOf, HasRenamedRow, AreJoinable, AreJoined, AreEnclosed}
-use Rattle.qm_forest.specs.Gathers.{TookSet, IsFreeRing, IsGathered, root_around}
-use Rattle.qm_forest.specs.Ties.{AreTied, HiddenTables, added, told}
-use Rattle.qm_forest.specs.Views.{tables_of, hidden_of}
-use Rattle.qm_forest.specs.declared.tables.Handles.{Handles}
-use Rattle.qm_forest.specs.declared.tables.Lists.{Lists}
-use Rattle.qm_forest.specs.declared.tables.Rings.{Rings}
-use Rattle.qm_forest.specs.declared.tables.Trail.{Trail}
-use Rattle.qm_forest.specs.declared.tables.Tree.{Tree}
-use Rattle.qm_forest.specs.declared.tables.Weights.{Weights}
+use Rattle.qm_forest.specs.Gathers.{HasListsOf, HasRenamedRow, AreJoinable, AreJoined}
+use Rattle.qm_forest.specs.Gathers.{AreEnclosed, TookSet, IsFreeRing, IsGathered}
+use Rattle.qm_forest.specs.{Gathers.root_around, Ties.AreTied, Ties.HiddenTables, Ties.added, Ties.told}
+use Rattle.qm_forest.specs.{Views.tables_of, Views.hidden_of, declared.tables.Handles.Handles}
+use Rattle.qm_forest.specs.{declared.tables.Lists.Lists, declared.tables.Rings.Rings, declared.tables.Trail.Trail}
+use Rattle.qm_forest.specs.{declared.tables.Tree.Tree, declared.tables.Weights.Weights}
 use Rattle.qm_forest.proofs.Gathered.{gathered, gathered_hidden, tied_gathered, gathered_is, root_new}
 use Rattle.qm_forest.proofs.GatheredRows.{RowFacts, row_facts}
 use Rattle.qm_forest.proofs.JoinedLists.{list_few, list_renamed, row_few}

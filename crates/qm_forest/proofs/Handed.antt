@@ -5,11 +5,9 @@ use Rattle.def_matching.specs.Matching.{WeightedGraph, IsSmallGraph, IsPerfect, 
 use Rattle.def_matching.specs.Dual.{DualLists, SaysYes, dual_sum}
 use Rattle.def_forest.specs.Tables.{ForestTables, GraphSize, forest_of, IsValidFor}
 use Rattle.def_forest.specs.Written.{IsDualOf}
-use Rattle.qm_forest.specs.Outlines.{IsChosen, IsOutline}
-use Rattle.qm_forest.specs.Rounds.{AreMarked, IsLaminar, IsSoundFor}
-use Rattle.qm_forest.specs.declared.rounds.Round.{Round}
-use Rattle.qm_forest.proofs.Ends.{met, perfect}
-use Rattle.qm_forest.proofs.Outlined.{dual_is, few_is, says_yes}
+use Rattle.qm_forest.specs.{Outlines.IsChosen, Outlines.IsOutline, Rounds.AreMarked, Rounds.IsLaminar}
+use Rattle.qm_forest.specs.{Rounds.IsSoundFor, declared.rounds.Round.Round}
+use Rattle.qm_forest.proofs.{Ends.met, Ends.perfect, Outlined.dual_is, Outlined.few_is, Outlined.says_yes}
 
 -- What is in an option.
 pub in_some : {X : Type 0} {o : Option X} (x y : X) → o ≡ Some x → o ≡ Some y → x ≡ y

@@ -2,14 +2,13 @@
 use Rattle.std.proofs.Common.{◌≡◌, ◌≢◌, ℕ, zero, suc, ◌<◌, ◌≤◌, ◌^◌, true, false, List, length, get_or, ℤ, pos}
 use Rattle.std.proofs.Common.{◌⊎◌, refl, sym, ◌∙◌, ap, subst, inl, inr, arith, length-set}
 use Rattle.std.proofs.Math.ListN.{set}
-use Rattle.std.specs.Prelude.{unsigned_abs}
 use Rattle.std.proofs.lemmas.Bool.{cases_eq, cases_Bool, cond-true, cond-false}
+use Rattle.std.specs.Prelude.{unsigned_abs}
 use Rattle.def_forest.specs.Forests.{walk, set_at}
 use Rattle.forest_laws.specs.Walks.{writes}
 use Rattle.forest_laws.proofs.Writes.{set_here, set_there}
-use Rattle.qm_forest.specs.Gathers.{HasListAt, IsRow, lists_at}
-use Rattle.qm_forest.specs.Parts.{HasHandedOver, HasHandedRow, HasOwnLeader, HasPartLists}
-use Rattle.qm_forest.specs.declared.tables.Handles.{Handles}
+use Rattle.qm_forest.specs.{Gathers.HasListAt, Gathers.IsRow, Gathers.lists_at, Parts.HasHandedOver, Parts.HasHandedRow}
+use Rattle.qm_forest.specs.{Parts.HasOwnLeader, Parts.HasPartLists, declared.tables.Handles.Handles}
 use Rattle.qm_forest.specs.declared.tables.Lists.{Lists}
 use Rattle.qm_forest.proofs.TiedWrites.{entry_set}
 

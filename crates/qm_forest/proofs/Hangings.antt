@@ -1,8 +1,6 @@
 -- The parts of a set that is opened, one more of them matched, or hung into the tree.
 use Rattle.std.proofs.Common.{◌≡◌, ℕ, suc, ◌-◌, ◌%◌, ◌<◌, Bool, eqb, length, Some, sym, ◌∙◌, ap, subst}
-use Rattle.def_forest.specs.Forests.{Forest, walk}
-use Rattle.def_forest.specs.Tables.{ForestTables}
-use Rattle.def_forest.specs.declared.kinds.Label.{Label}
+use Rattle.def_forest.specs.{Forests.Forest, Forests.walk, Tables.ForestTables, declared.kinds.Label.Label}
 use Rattle.qm_forest.specs.Parts.{hung, paired, side_dart, turn_label}
 use Rattle.qm_forest.specs.Ties.{HasSameNest, labelled, linked, mated}
 

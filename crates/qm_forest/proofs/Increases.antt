@@ -1,21 +1,15 @@
 -- The ways to the root in the tables of a valid forest.
 use Rattle.std.proofs.Common.{◌≡◌, ◌≢◌, ℕ, suc, ◌+◌, ◌-◌, ◌*◌, ◌<◌, ◌≤◌, true, false, length, min, Option, Some, None}
 use Rattle.std.proofs.Common.{refl, sym, ◌∙◌, ap, subst, arith}
-use Rattle.std.specs.Prelude.{is_some}
 use Rattle.std.proofs.lemmas.Bool.{false≢true}
+use Rattle.std.specs.Prelude.{is_some}
 use Rattle.def_matching.specs.Matching.{WeightedGraph, IsSmallGraph}
-use Rattle.def_forest.specs.Darts.{Darts, AreDarts, darts_of, far}
-use Rattle.def_forest.specs.Forests.{Forest, IsOutermost}
-use Rattle.def_forest.specs.Tables.{ForestTables, forest_of, IsValidFor}
-use Rattle.def_forest.specs.Valid.{IsValid, IsTree}
-use Rattle.def_forest.specs.Ways.{dart_or}
-use Rattle.def_forest.specs.declared.kinds.Label.TheVariants.{Outside}
+use Rattle.def_forest.specs.{Darts.Darts, Darts.AreDarts, Darts.darts_of, Darts.far, Forests.Forest}
+use Rattle.def_forest.specs.{Forests.IsOutermost, Tables.ForestTables, Tables.forest_of, Tables.IsValidFor}
+use Rattle.def_forest.specs.{Valid.IsValid, Valid.IsTree, Ways.dart_or, declared.kinds.Label.TheVariants.Outside}
 use Rattle.forest_laws.specs.Climbing.{rise_of, above_of, level_of, way_of, IsClimbing}
-use Rattle.forest_laws.proofs.Facts.{tree_of}
-use Rattle.forest_laws.proofs.Graphs.{are_darts}
-use Rattle.forest_laws.proofs.Forks.{can_climb, climb_on}
-use Rattle.forest_laws.proofs.Levels.{level_some, level_zero, on_way, step_up, at_root}
-use Rattle.forest_laws.proofs.Walks.{walk_sum}
+use Rattle.forest_laws.proofs.{Facts.tree_of, Graphs.are_darts, Forks.can_climb, Forks.climb_on, Levels.level_some}
+use Rattle.forest_laws.proofs.{Levels.level_zero, Levels.on_way, Levels.step_up, Levels.at_root, Walks.walk_sum}
 use Rattle.forest_laws.proofs.WayLaws.{some_none}
 use Rattle.qm_forest.specs.Rings.{AreOnBoth, HasClimbed}
 

@@ -3,19 +3,15 @@ use Rattle.std.proofs.Common.{◌≡◌, ◌≢◌, ℕ, suc, ◌*◌, ◌<◌, 
 use Rattle.std.proofs.Common.{subst, inl, inr, arith}
 use Rattle.std.proofs.lemmas.Bool.{cases_eq, cases_lt, eq-eqb, ne_eqb}
 use Rattle.def_matching.specs.Matching.{WeightedGraph, IsSmallGraph}
-use Rattle.def_forest.specs.Darts.{AreDarts, darts_of, other_dart}
-use Rattle.def_forest.specs.Forests.{walk}
-use Rattle.def_forest.specs.Tables.{ForestTables, forest_of, climbs, out_of, up_at, IsValidFor}
+use Rattle.def_forest.specs.{Darts.AreDarts, Darts.darts_of, Darts.other_dart, Forests.walk, Tables.ForestTables}
+use Rattle.def_forest.specs.Tables.{forest_of, climbs, out_of, up_at, IsValidFor}
 use Rattle.def_forest.specs.Valid.{IsJoint, IsRing}
-use Rattle.forest_laws.proofs.Facts.{far_low}
-use Rattle.forest_laws.proofs.Graphs.{are_darts}
-use Rattle.forest_laws.proofs.Writes.{true_false}
+use Rattle.forest_laws.proofs.{Facts.far_low, Graphs.are_darts, Writes.true_false}
 use Rattle.qm_forest.specs.Rounds.{IsSoundFor, IsLaminar, IsPairing, far_at, near_at, within}
 use Rattle.qm_forest.specs.Ties.{AreTied, HiddenTables, IsInUse, IsListed}
-use Rattle.qm_forest.proofs.Enclosed.{climbs_here}
-use Rattle.qm_forest.proofs.JoinedLists.{list_few, list_member}
-use Rattle.qm_forest.proofs.Nests.{climbs_place, comes_by, rank_few, rank_passed}
-use Rattle.qm_forest.proofs.Withins.{none_in_both, off_where, pair_law}
+use Rattle.qm_forest.proofs.{Enclosed.climbs_here, JoinedLists.list_few, JoinedLists.list_member, Nests.climbs_place}
+use Rattle.qm_forest.proofs.{Nests.comes_by, Nests.rank_few, Nests.rank_passed, Withins.none_in_both, Withins.off_where}
+use Rattle.qm_forest.proofs.Withins.{pair_law}
 
 pub laminar : {t : ForestTables} {hid : HiddenTables} → AreTied t hid → IsLaminar t
 laminar {t} {hid} tied = record {

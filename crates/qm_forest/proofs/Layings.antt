@@ -2,10 +2,8 @@
 use Rattle.std.proofs.Common.{◌≡◌, ◌≢◌, ℕ, suc, ◌*◌, ◌<◌, ◌≤◌, length, None, sym, ◌∙◌, ap, subst, arith}
 use Rattle.std.proofs.Math.ListN.{set}
 use Rattle.def_matching.specs.Matching.{WeightedGraph, IsSmallGraph}
-use Rattle.def_forest.specs.Darts.{Darts, darts_of, far}
-use Rattle.def_forest.specs.Forests.{Forest, set_at}
-use Rattle.def_forest.specs.Tables.{ForestTables, forest_of, IsValidFor}
-use Rattle.def_forest.specs.Ways.{dart_or}
+use Rattle.def_forest.specs.{Darts.Darts, Darts.darts_of, Darts.far, Forests.Forest, Forests.set_at}
+use Rattle.def_forest.specs.{Tables.ForestTables, Tables.forest_of, Tables.IsValidFor, Ways.dart_or}
 use Rattle.def_forest.specs.declared.kinds.Label.TheVariants.{Outside}
 use Rattle.forest_laws.specs.Climbing.{rise_of, level_of, way_of}
 use Rattle.qm_forest.specs.Rings.{ringed, IsRingedAlike, MayClimb, laid_down, laid_up, laid_ring}

@@ -1,16 +1,13 @@
 -- Blossoms of a ring that leave the tree, and the set that is closed of them.
-use Rattle.std.proofs.Common.{◌≡◌, ℕ, suc, ◌<◌, length, get_or, None, sym, ◌∙◌, ap, subst}
-use Rattle.std.proofs.lemmas.Bool.{cond-true}
-use Rattle.std.proofs.lemmas.List.{get_or_read}
-use Rattle.def_forest.specs.Forests.{Forest, walk}
-use Rattle.def_forest.specs.Tables.{ForestTables, forest_of, out_of, IsOutermostIn}
-use Rattle.def_forest.specs.declared.kinds.Label.TheVariants.{Outside}
+use Rattle.std.proofs.Common.{◌≡◌, ℕ, suc, ◌<◌, length, get_or, None}
+use Rattle.std.proofs.{Common.sym, Common.◌∙◌, Common.ap, Common.subst, lemmas.Bool.cond-true, lemmas.List.get_or_read}
+use Rattle.def_forest.specs.{Forests.Forest, Forests.walk, Tables.ForestTables, Tables.forest_of, Tables.out_of}
+use Rattle.def_forest.specs.{Tables.IsOutermostIn, declared.kinds.Label.TheVariants.Outside}
 use Rattle.forest_laws.specs.Walks.{listed}
 use Rattle.forest_laws.proofs.Walks.{listed_at}
 use Rattle.qm_forest.specs.Gathers.{IsFreeRing, IsGathered}
-use Rattle.qm_forest.proofs.Nests.{leader_out}
-use Rattle.qm_forest.proofs.Ranges.{outermost_low}
 use Rattle.qm_forest.specs.Ties.{AreTied, HiddenTables, HasSameNest, labelled, mated, left_alone}
+use Rattle.qm_forest.proofs.{Nests.leader_out, Ranges.outermost_low}
 
 -- A blossom stays outermost where the handles are the same.
 pub outermost_kept : {t u : ForestTables} {x y : ℕ} → HasSameNest t u → x ≡ y → IsOutermostIn t y → IsOutermostIn u x

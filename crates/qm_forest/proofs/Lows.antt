@@ -1,11 +1,9 @@
 -- One edge more, at whose ends the numbers are lowered to its cost.
-use Rattle.std.proofs.Common.{◌≡◌, ◌≢◌, ℕ, ◌+◌, ◌<◌, ◌≤◌, List, get_or, ℤ, pos, ◌≤ℤ◌, ◌⊎◌, sym, ◌∙◌, ap, max, inl, inr}
-use Rattle.std.proofs.Common.{arith}
+use Rattle.std.proofs.Common.{◌≡◌, ◌≢◌, ℕ, ◌+◌, ◌<◌, ◌≤◌, List, get_or}
+use Rattle.std.proofs.Common.{ℤ, pos, ◌≤ℤ◌, ◌⊎◌, sym, ◌∙◌, ap, max}
+use Rattle.std.proofs.{Common.inl, Common.inr, Common.arith, lemmas.Int.ints, lemmas.Bool.cases_eq}
 use Rattle.std.specs.Prelude.{unsigned_abs}
-use Rattle.std.proofs.lemmas.Int.{ints}
-use Rattle.std.proofs.lemmas.Bool.{cases_eq}
-use Rattle.def_matching.specs.Matching.{WeightedGraph, edge_at}
-use Rattle.def_matching.specs.declared.weighted.WEdge.{WEdge}
+use Rattle.def_matching.specs.{Matching.WeightedGraph, Matching.edge_at, declared.weighted.WEdge.WEdge}
 use Rattle.qm_forest.specs.Ties.{HasLowCosts, IsGreatestTo, IsLowered}
 
 pub one_more_edge : {g : WeightedGraph} {most e : ℕ} {a b d : List ℤ} {x : WEdge} {c1 c2 : ℤ} → HasLowCosts g most e a

@@ -5,19 +5,16 @@ use Rattle.std.proofs.Math.ListN.{set}
 use Rattle.std.proofs.lemmas.Bool.{cases_Bool, cases_eq, cases_lt, cond-true, cond-false, eq-eqb, eqb-true, ne_eqb}
 use Rattle.sum_laws.proofs.Counts.{count_below_none, count_below_one, count_below_same}
 use Rattle.def_matching.specs.Matching.{WeightedGraph, IsSmallGraph}
-use Rattle.def_forest.specs.Darts.{AreDarts, darts_of, far, other_dart}
-use Rattle.def_forest.specs.Forests.{Forest, bool_number, splits, walk}
-use Rattle.def_forest.specs.Tables.{ForestTables, forest_of, up_at}
-use Rattle.def_forest.specs.Valid.{IsMate}
-use Rattle.forest_laws.proofs.Graphs.{are_darts, twin_even, twin_odd}
-use Rattle.forest_laws.proofs.Writes.{some_is, true_false}
+use Rattle.def_forest.specs.{Darts.AreDarts, Darts.darts_of, Darts.far, Darts.other_dart, Forests.Forest}
+use Rattle.def_forest.specs.{Forests.bool_number, Forests.splits, Forests.walk, Tables.ForestTables, Tables.forest_of}
+use Rattle.def_forest.specs.{Tables.up_at, Valid.IsMate}
+use Rattle.forest_laws.proofs.{Graphs.are_darts, Graphs.twin_even, Graphs.twin_odd, Writes.some_is, Writes.true_false}
 use Rattle.forest_laws.proofs.Walks.{walk_sum}
 use Rattle.qm_forest.specs.Rounds.{IsSoundFor, IsLaminar, IsPairing, IsRound, entered, far_at, is_dart, matched_by}
 use Rattle.qm_forest.specs.Rounds.{matches, near_at, waits_but, within}
-use Rattle.qm_forest.proofs.Apart.{walk_stays}
-use Rattle.qm_forest.proofs.Laminars.{alone, another}
-use Rattle.qm_forest.proofs.Pairings.{option_cases, paired_round}
-use Rattle.qm_forest.proofs.Withins.{by_pair, in_line, in_where, off_where, where_in}
+use Rattle.qm_forest.proofs.{Apart.walk_stays, Laminars.alone, Laminars.another, Pairings.option_cases}
+use Rattle.qm_forest.proofs.{Pairings.paired_round, Withins.by_pair, Withins.in_line, Withins.in_where}
+use Rattle.qm_forest.proofs.Withins.{off_where, where_in}
 
 module _ {t : ForestTables} (known : IsLaminar t) {g : WeightedGraph} (is : IsSmallGraph g)
     (valid : IsSoundFor g t) where

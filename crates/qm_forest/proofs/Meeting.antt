@@ -1,15 +1,12 @@
 -- Two climbers in a valid forest: each turn keeps what they know, and brings them nearer.
 use Rattle.std.proofs.Common.{◌≡◌, ◌≢◌, ℕ, suc, ◌+◌, ◌-◌, ◌<◌, ◌≤◌, ◌^◌, length, get_or, ℤ, pos, ◌+ℤ◌, ◌⊎◌, refl, sym}
 use Rattle.std.proofs.Common.{◌∙◌, ap, subst, inl, inr, arith}
-use Rattle.std.specs.Prelude.{unsigned_abs, slice_index}
 use Rattle.std.proofs.lemmas.Int.{ints}
+use Rattle.std.specs.Prelude.{unsigned_abs, slice_index}
 use Rattle.def_matching.specs.Matching.{WeightedGraph}
-use Rattle.def_forest.specs.Darts.{darts_of}
-use Rattle.def_forest.specs.Forests.{IsOutermost, walk, weight_between}
-use Rattle.def_forest.specs.Steps.{weight_change}
-use Rattle.def_forest.specs.Tables.{up_at, ForestTables, forest_of, label_at, IsValidFor}
-use Rattle.def_forest.specs.Valid.{IsRing}
-use Rattle.def_forest.specs.declared.kinds.Label.{Label}
+use Rattle.def_forest.specs.{Darts.darts_of, Forests.IsOutermost, Forests.walk, Forests.weight_between}
+use Rattle.def_forest.specs.{Steps.weight_change, Tables.up_at, Tables.ForestTables, Tables.forest_of, Tables.label_at}
+use Rattle.def_forest.specs.{Tables.IsValidFor, Valid.IsRing, declared.kinds.Label.Label}
 use Rattle.def_forest.specs.declared.kinds.Label.TheVariants.{Outside}
 use Rattle.forest_laws.proofs.Writes.{label_cases}
 use Rattle.qm_forest.specs.Ties.{IsClimb, IsWithin, IsMeeting, apart}

@@ -2,8 +2,7 @@
 use Rattle.std.proofs.Common.{◌≡◌, ◌≢◌, ℕ, zero, suc, ◌<◌, ◌≤◌, Bool, true, false, eqb, ◌||◌, List, get_or, ◌⊎◌, refl}
 use Rattle.std.proofs.Common.{sym, ◌∙◌, ap, subst, inl, inr, arith}
 use Rattle.std.proofs.lemmas.Bool.{cases_eq, eq-eqb, eqb-true}
-use Rattle.def_forest.specs.Forests.{walk}
-use Rattle.def_forest.specs.Tables.{climbs, out_of, up_at}
+use Rattle.def_forest.specs.{Forests.walk, Tables.climbs, Tables.out_of, Tables.up_at}
 use Rattle.forest_laws.proofs.Walks.{walk_front}
 use Rattle.qm_forest.specs.Ties.{IsInUse, IsLaidOut, IsListed}
 use Rattle.qm_forest.proofs.Apart.{fixed_top, rank_low}

@@ -1,23 +1,18 @@
 -- Steps of the tree in the tables: growing, and changing the matching along the way to the root.
 use Rattle.std.proofs.Common.{◌≡◌, ◌≢◌, ℕ, suc, ◌+◌, ◌*◌, ◌<◌, List, length, get_or, Option, Some, None, true, false}
 use Rattle.std.proofs.Common.{is_some, refl, sym, ◌∙◌, ap, subst, ◌⊎◌, inl, inr, arith}
-use Rattle.def_matching.specs.Matching.{IsSmallGraph, WeightedGraph}
-use Rattle.def_forest.specs.Darts.{darts_of, far}
-use Rattle.def_forest.specs.Forests.{Forest, IsOutermost, set_at}
-use Rattle.def_forest.specs.Steps.{grown, with_mates, IsAugmented}
-use Rattle.def_forest.specs.Tables.{GraphSize, size_of, ForestTables, forest_of, IsValidFor}
-use Rattle.def_forest.specs.Valid.{IsValid, IsTree}
-use Rattle.def_forest.specs.declared.kinds.Label.{Label}
-use Rattle.def_forest.specs.declared.kinds.Label.TheVariants.{Outer, Outside}
-use Rattle.def_forest.specs.Ways.{Reaches, IsAlmost, steps, parent_of}
-use Rattle.forest_laws.proofs.Climbs.{fewer_steps, inner_is}
-use Rattle.forest_laws.proofs.Facts.{tree_of, outer_mate}
-use Rattle.forest_laws.proofs.Graphs.{are_darts}
-use Rattle.forest_laws.proofs.Grows.{grown_valid}
-use Rattle.forest_laws.proofs.WayLaws.{begin, turn, end_valid, end_augmented, some_none}
-use Rattle.qm_forest.specs.Ties.{fixed_of, IsOnWay, HasSameNest, mated, remated, labelled, relabelled}
 use Rattle.std.proofs.lemmas.Bool.{cases_eq}
-use Rattle.forest_laws.proofs.Writes.{set_here, set_there}
+use Rattle.def_matching.specs.Matching.{IsSmallGraph, WeightedGraph}
+use Rattle.def_forest.specs.{Darts.darts_of, Darts.far, Forests.Forest, Forests.IsOutermost, Forests.set_at}
+use Rattle.def_forest.specs.{Steps.grown, Steps.with_mates, Steps.IsAugmented, Tables.GraphSize, Tables.size_of}
+use Rattle.def_forest.specs.{Tables.ForestTables, Tables.forest_of, Tables.IsValidFor, Valid.IsValid, Valid.IsTree}
+use Rattle.def_forest.specs.{declared.kinds.Label.Label, declared.kinds.Label.TheVariants.Outer}
+use Rattle.def_forest.specs.{declared.kinds.Label.TheVariants.Outside, Ways.Reaches, Ways.IsAlmost, Ways.steps}
+use Rattle.def_forest.specs.Ways.{parent_of}
+use Rattle.forest_laws.proofs.{Climbs.fewer_steps, Climbs.inner_is, Facts.tree_of, Facts.outer_mate, Graphs.are_darts}
+use Rattle.forest_laws.proofs.{Grows.grown_valid, WayLaws.begin, WayLaws.turn, WayLaws.end_valid, WayLaws.end_augmented}
+use Rattle.forest_laws.proofs.{WayLaws.some_none, Writes.set_here, Writes.set_there}
+use Rattle.qm_forest.specs.Ties.{fixed_of, IsOnWay, HasSameNest, mated, remated, labelled, relabelled}
 
 -- A mate is a dart of the graph.
 pub mate_low : {g : WeightedGraph} {t : ForestTables} → IsSmallGraph g → IsValidFor g t → (b m : ℕ)

@@ -3,20 +3,15 @@ use Rattle.std.proofs.Common.{◌≡◌, ◌≢◌, ℕ, suc, ◌+◌, ◌-◌, 
 use Rattle.std.proofs.Common.{pos, Option, Some, None, ◌⊎◌, refl, sym, ◌∙◌, ap, subst, inl, inr, arith}
 use Rattle.std.proofs.lemmas.Bool.{cases_Bool, cases_eq, cases_lt, cond-true, cond-false, eq-eqb, ne_eqb}
 use Rattle.def_matching.specs.Matching.{WeightedGraph, IsSmallGraph}
-use Rattle.def_forest.specs.Darts.{Darts, darts_of}
-use Rattle.def_forest.specs.Forests.{Forest, walk}
-use Rattle.def_forest.specs.Opened.{IsOpened, IsExpanding}
-use Rattle.def_forest.specs.Tables.{ForestTables, forest_of, IsValidFor}
-use Rattle.def_forest.specs.declared.kinds.Label.{Label}
-use Rattle.def_forest.specs.declared.kinds.Label.TheVariants.{Outer, Inner, Outside}
+use Rattle.def_forest.specs.{Darts.Darts, Darts.darts_of, Forests.Forest, Forests.walk, Opened.IsOpened}
+use Rattle.def_forest.specs.{Opened.IsExpanding, Tables.ForestTables, Tables.forest_of, Tables.IsValidFor}
+use Rattle.def_forest.specs.{declared.kinds.Label.Label, declared.kinds.Label.TheVariants.Outer}
+use Rattle.def_forest.specs.declared.kinds.Label.TheVariants.{Inner, Outside}
 use Rattle.forest_laws.specs.Walks.{listed}
-use Rattle.forest_laws.proofs.Circles.{IsCircle}
-use Rattle.forest_laws.proofs.Facts.{far_twin, tight_twin}
-use Rattle.forest_laws.proofs.Walks.{walk_sum, writes_at, writes_off}
-use Rattle.forest_laws.proofs.Writes.{set_here, set_there, true_false}
+use Rattle.forest_laws.proofs.{Circles.IsCircle, Facts.far_twin, Facts.tight_twin, Walks.walk_sum, Walks.writes_at}
+use Rattle.forest_laws.proofs.{Walks.writes_off, Writes.set_here, Writes.set_there, Writes.true_false}
 use Rattle.qm_forest.specs.Parts.{IsCourse, IsParted, hung, paired, side_dart, turn_label}
-use Rattle.qm_forest.specs.Ties.{labelled, linked, mated}
-use Rattle.qm_forest.specs.declared.expanding.Course.{Course}
+use Rattle.qm_forest.specs.{Ties.labelled, Ties.linked, Ties.mated, declared.expanding.Course.Course}
 use Rattle.qm_forest.proofs.Openings.{IsJoined, IsRoute, are as the_are, inside as the_inside, in_tree as the_in_tree}
 use Rattle.qm_forest.proofs.Openings.{joined as the_joined, opening_at as the_opening_at, opening_is as the_opening_is}
 use Rattle.qm_forest.proofs.Openings.{out_is, part_around as the_part_around, around_part, part_other, part_outside}

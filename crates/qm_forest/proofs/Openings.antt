@@ -3,21 +3,16 @@ use Rattle.std.proofs.Common.{◌≡◌, ◌≢◌, ℕ, suc, ◌+◌, ◌*◌, 
 use Rattle.std.proofs.Common.{None, ◌⊎◌, sym, ◌∙◌, ap, subst, inl, inr, arith}
 use Rattle.std.proofs.lemmas.Bool.{cases_Bool, cases_eq, cond-true, cond-false, eq-eqb, eqb-true, ne_eqb}
 use Rattle.def_matching.specs.Matching.{WeightedGraph, IsSmallGraph}
-use Rattle.def_forest.specs.Darts.{AreDarts, Darts, darts_of, far}
-use Rattle.def_forest.specs.Forests.{Forest, IsOutermost, IsTight, walk}
-use Rattle.def_forest.specs.Opened.{Opening, IsOpening}
+use Rattle.def_forest.specs.{Darts.AreDarts, Darts.Darts, Darts.darts_of, Darts.far, Forests.Forest}
+use Rattle.def_forest.specs.{Forests.IsOutermost, Forests.IsTight, Forests.walk, Opened.Opening, Opened.IsOpening}
 use Rattle.def_forest.specs.Tables.{ForestTables, forest_of, IsOutermostIn, IsValidFor}
 use Rattle.def_forest.specs.Valid.{IsInner, IsJoint, IsMate, IsRing, IsTree}
 use Rattle.def_forest.specs.declared.kinds.Label.TheVariants.{Inner, Outside}
 use Rattle.forest_laws.specs.Walks.{listed}
-use Rattle.forest_laws.proofs.Circles.{IsCircle, circle_from}
-use Rattle.forest_laws.proofs.Expands.{holds_up}
-use Rattle.forest_laws.proofs.Facts.{far_low, tree_of}
-use Rattle.forest_laws.proofs.Graphs.{are_darts}
-use Rattle.forest_laws.proofs.Walks.{listed_at, listed_closed, listed_place}
+use Rattle.forest_laws.proofs.{Circles.IsCircle, Circles.circle_from, Expands.holds_up, Facts.far_low, Facts.tree_of}
+use Rattle.forest_laws.proofs.{Graphs.are_darts, Walks.listed_at, Walks.listed_closed, Walks.listed_place}
 use Rattle.forest_laws.proofs.Writes.{inner_named, label_cases, set_here, true_false}
-use Rattle.qm_forest.specs.Parts.{IsPartable, IsParted}
-use Rattle.qm_forest.specs.Ties.{HasSameNest, labelled, mated}
+use Rattle.qm_forest.specs.{Parts.IsPartable, Parts.IsParted, Ties.HasSameNest, Ties.labelled, Ties.mated}
 use Rattle.qm_forest.proofs.Increases.{named_low}
 
 -- An inner set of weight 0 of a valid forest.

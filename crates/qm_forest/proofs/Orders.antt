@@ -1,18 +1,15 @@
 -- The sets of a forest in an order: each stands there once, and a sum over them is a sum over all blossoms.
 use Rattle.std.proofs.Common.{◌≡◌, ◌≢◌, ℕ, zero, suc, ◌+◌, ◌-◌, ◌*◌, ◌<◌, ◌≤◌, Bool, true, false, cond, eqb, List, []}
 use Rattle.std.proofs.Common.{◌∷◌, ◌++◌, length, get_or, ℤ, pos, ◌+ℤ◌, ◌≤ℤ◌, ◌⊎◌, refl, sym, ◌∙◌, ap, inl, inr, arith}
-use Rattle.std.specs.Prelude.{nat_lt, unsigned_abs}
-use Rattle.std.specs.List.{Contains}
 use Rattle.std.proofs.lemmas.Int.{ints}
 use Rattle.std.proofs.lemmas.Bool.{cases_eq, cases_lt, cond-false, cond-true, eq-eqb, le-ltb, lt-ltb, ne_eqb}
 use Rattle.std.proofs.lemmas.List.{get_or_append_left, get_or-append_right, get_or_read, length-append}
-use Rattle.def_math.specs.Counts.{count, count_below}
-use Rattle.def_math.specs.Sums.{total, total_below}
+use Rattle.std.specs.{Prelude.nat_lt, Prelude.unsigned_abs, List.Contains}
+use Rattle.def_math.specs.{Counts.count, Counts.count_below, Sums.total, Sums.total_below}
 use Rattle.sum_laws.proofs.Counts.{count_below_one, count_below_total, count_total}
-use Rattle.qm_dual.proofs.Entries.{total_entries}
 use Rattle.sum_laws.proofs.Sums.{total_below_same, total_below_sum}
-use Rattle.def_forest.specs.Forests.{live_at, bool_number}
-use Rattle.def_forest.specs.Tables.{ForestTables, up_at}
+use Rattle.qm_dual.proofs.Entries.{total_entries}
+use Rattle.def_forest.specs.{Forests.live_at, Forests.bool_number, Tables.ForestTables, Tables.up_at}
 use Rattle.qm_forest.specs.Outlines.{AreDistinct, AreEntries, AreWeights, IsListOf, entry_of, set_in}
 use Rattle.qm_forest.specs.Rounds.{AreInOrder, IsSized}
 

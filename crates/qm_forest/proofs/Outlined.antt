@@ -1,17 +1,15 @@
 -- A forest that is written down as a dual: the sets hold what they held, and the dual says yes.
 use Rattle.std.proofs.Common.{◌≡◌, ◌≢◌, ℕ, zero, suc, ◌+◌, ◌-◌, ◌*◌, ◌%◌, ◌<◌, ◌≤◌, Bool, true, false, not, cond, eqb}
-use Rattle.std.proofs.Common.{◌&&◌, ◌||◌, List, length, get_or, ℤ, pos, ◌+ℤ◌, ◌*ℤ◌, ◌≤ℤ◌, ◌⊎◌, refl, sym, ◌∙◌, ap}
 use Rattle.std.proofs.Common.{subst, inl, inr, arith}
-use Rattle.std.specs.Prelude.{nat_lt, nat_le}
-use Rattle.std.specs.List.{list_any}
 use Rattle.std.proofs.lemmas.Int.{ints}
 use Rattle.std.proofs.lemmas.Bool.{cases_eq, cases_lt, cond-false, cond-true, eq-eqb, eqb-true, le-leb, le-ltb, lt-ltb}
 use Rattle.std.proofs.lemmas.Bool.{ne_eqb}
+use Rattle.std.proofs.Common.{◌&&◌, ◌||◌, List, length, get_or, ℤ, pos, ◌+ℤ◌, ◌*ℤ◌, ◌≤ℤ◌, ◌⊎◌, refl, sym, ◌∙◌, ap}
+use Rattle.std.specs.{Prelude.nat_lt, Prelude.nat_le, List.list_any}
 use Rattle.def_math.specs.Sums.{total, total_below}
-use Rattle.sum_laws.proofs.Counts.{count_below_same}
-use Rattle.qm_dual.proofs.Entries.{total_entries}
-use Rattle.sum_laws.proofs.Sums.{total_below_one, total_below_same, total_below_sum}
+use Rattle.sum_laws.proofs.{Counts.count_below_same, Sums.total_below_one, Sums.total_below_same, Sums.total_below_sum}
 use Rattle.sum_laws.proofs.Tests.{same_test}
+use Rattle.qm_dual.proofs.Entries.{total_entries}
 use Rattle.def_matching.specs.Matching.{WeightedGraph, IsSmallGraph, edge_at}
 use Rattle.def_matching.specs.Dual.{DualLists, SaysYes, AreNestedSets, crosses, dual_sum, holds, is_odd_size, is_up}
 use Rattle.def_matching.specs.Dual.{load as dual_load, set_size, sets_from, y_at, z_at}
@@ -19,15 +17,11 @@ use Rattle.def_forest.specs.Darts.{AreDarts, darts_of}
 use Rattle.def_forest.specs.Forests.{Forest, dual_sum_of, weight_between, bool_number, splits, blossom_size, walk}
 use Rattle.def_forest.specs.Tables.{ForestTables, forest_of, climbs, up_at}
 use Rattle.def_forest.specs.Written.{IsDualOf}
-use Rattle.forest_laws.proofs.Graphs.{are_darts, dart_cost, dart_far, dart_near}
-use Rattle.forest_laws.proofs.Odds.{large_set, odd_blossom}
-use Rattle.forest_laws.proofs.Writes.{by_two}
-use Rattle.qm_forest.specs.Outlines.{IsOutline, entry_of, set_in}
-use Rattle.qm_forest.specs.Rounds.{IsLaminar, IsSoundFor}
-use Rattle.qm_forest.proofs.Laminars.{alone}
-use Rattle.qm_forest.proofs.Nests.{climbs_place}
-use Rattle.qm_forest.proofs.Orders.{place_of, set_low, sized, sum_parts}
-use Rattle.qm_forest.proofs.Withins.{in_where}
+use Rattle.forest_laws.proofs.{Graphs.are_darts, Graphs.dart_cost, Graphs.dart_far, Graphs.dart_near, Odds.large_set}
+use Rattle.forest_laws.proofs.{Odds.odd_blossom, Writes.by_two}
+use Rattle.qm_forest.specs.{Outlines.IsOutline, Outlines.entry_of, Outlines.set_in, Rounds.IsLaminar, Rounds.IsSoundFor}
+use Rattle.qm_forest.proofs.{Laminars.alone, Nests.climbs_place, Orders.place_of, Orders.set_low, Orders.sized}
+use Rattle.qm_forest.proofs.{Orders.sum_parts, Withins.in_where}
 
 -- Where one stays one passes nothing else.
 climbs_still : (up : ℕ → ℕ) (m b : ℕ) {y : ℕ} → up y ≡ y → climbs up m b y ≡ eqb y b

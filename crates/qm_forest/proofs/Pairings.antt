@@ -3,18 +3,16 @@ use Rattle.std.proofs.Common.{◌≡◌, ◌≢◌, ℕ, zero, suc, ◌+◌, ◌
 use Rattle.std.proofs.Common.{eqb, ◌&&◌, List, length, get_or, Option, Some, None, ◌⊎◌, refl, sym, ◌∙◌, ap, subst, inl}
 use Rattle.std.proofs.Common.{inr, arith, length-set, get_or-set_same, get_or-set_other}
 use Rattle.std.proofs.Math.ListN.{set}
-use Rattle.std.specs.Prelude.{nat_lt}
 use Rattle.std.proofs.lemmas.Bool.{cases_eq, cases_lt, cases_Bool, cond-true, cond-false, eq-eqb, ne_eqb, lt-ltb}
 use Rattle.std.proofs.lemmas.Bool.{le-ltb}
+use Rattle.std.specs.Prelude.{nat_lt}
 use Rattle.def_math.specs.Counts.{count_below}
 use Rattle.sum_laws.proofs.Counts.{count_below_same, count_below_sum, count_below_one}
 use Rattle.def_matching.specs.Matching.{WeightedGraph, IsSmallGraph}
-use Rattle.def_forest.specs.Darts.{darts_of, other_dart}
-use Rattle.def_forest.specs.Forests.{IsTight, bool_number, splits}
+use Rattle.def_forest.specs.{Darts.darts_of, Darts.other_dart, Forests.IsTight, Forests.bool_number, Forests.splits}
 use Rattle.def_forest.specs.Tables.{ForestTables, forest_of}
-use Rattle.forest_laws.proofs.Facts.{tight_twin}
-use Rattle.forest_laws.proofs.Graphs.{are_darts, twin_even, twin_odd}
-use Rattle.forest_laws.proofs.Writes.{by_order, some_is}
+use Rattle.forest_laws.proofs.{Facts.tight_twin, Graphs.are_darts, Graphs.twin_even, Graphs.twin_odd, Writes.by_order}
+use Rattle.forest_laws.proofs.Writes.{some_is}
 use Rattle.qm_forest.specs.Rounds.{IsSoundFor, IsEntry, IsPairing, IsRound, entered, far_at, leaving, near_at, waiting}
 use Rattle.qm_forest.specs.Rounds.{waits_but, waits_for, within}
 

@@ -1,20 +1,16 @@
 -- The tables after a set was parted into the blossoms of its ring.
-use Rattle.std.proofs.Common.{◌≡◌, ◌≢◌, ℕ, zero, suc, ◌+◌, ◌<◌, ◌≤◌, Bool, true, false, cond, List, length, get_or, ℤ}
-use Rattle.std.proofs.Common.{pos}
-use Rattle.std.proofs.Common.{◌-ℤ◌, ◌≤ℤ◌, ◌⊎◌, Option, Some, None, refl, sym, ◌∙◌, ap, subst, inl, inr, arith}
-use Rattle.std.proofs.Common.{length-set}
-use Rattle.std.proofs.Common.{get_or-set_same, get_or-set_other}
-use Rattle.std.proofs.Math.ListN.{set}
+use Rattle.std.proofs.Common.{◌≡◌, ◌≢◌, ℕ, zero, suc, ◌+◌, ◌<◌, ◌≤◌}
+use Rattle.std.proofs.Common.{Bool, true, false, cond, List, length, get_or}
+use Rattle.std.proofs.Common.{ℤ, pos, ◌-ℤ◌, ◌≤ℤ◌, ◌⊎◌, Option, Some}
+use Rattle.std.proofs.Common.{None, refl, sym, ◌∙◌, ap, subst, inl}
+use Rattle.std.proofs.Common.{inr, arith, length-set, get_or-set_same, get_or-set_other}
+use Rattle.std.proofs.{Math.ListN.set, lemmas.Int.ints, lemmas.Bool.cases_eq, lemmas.Bool.cases_Bool}
 use Rattle.std.specs.Prelude.{slice_get, unsigned_abs}
-use Rattle.std.proofs.lemmas.Int.{ints}
-use Rattle.std.proofs.lemmas.Bool.{cases_eq, cases_Bool}
 use Rattle.def_math.specs.Sums.{total_below}
 use Rattle.sum_laws.proofs.Sums.{total_below_same}
-use Rattle.def_forest.specs.Forests.{walk, set_at}
-use Rattle.def_forest.specs.Steps.{weight_change}
-use Rattle.def_forest.specs.Tables.{ForestTables, forest_of, climbs, label_at, out_of, up_at, weight_at}
-use Rattle.def_forest.specs.declared.kinds.Label.{Label}
-use Rattle.def_forest.specs.declared.kinds.Label.TheVariants.{Outside}
+use Rattle.def_forest.specs.{Forests.walk, Forests.set_at, Steps.weight_change, Tables.ForestTables, Tables.forest_of}
+use Rattle.def_forest.specs.Tables.{climbs, label_at, out_of, up_at, weight_at}
+use Rattle.def_forest.specs.{declared.kinds.Label.Label, declared.kinds.Label.TheVariants.Outside}
 use Rattle.forest_laws.specs.Walks.{listed, writes}
 use Rattle.forest_laws.proofs.Walks.{listed_place, writes_at, writes_off}
 use Rattle.forest_laws.proofs.Writes.{by_none, set_here, set_there}
@@ -22,19 +18,18 @@ use Rattle.qm_pool.specs.declared.pool.Node.{Node}
 use Rattle.qm_forest.specs.Parts.{IsPartable, IsParted}
 use Rattle.qm_forest.specs.Ties.{AreTied, HiddenTables, HasSizes, HasNumbers, IsInUse, IsLaidOut, IsPooled, IsTrailed}
 use Rattle.qm_forest.specs.Ties.{added, told, weights_around}
-use Rattle.qm_forest.proofs.JoinedLists.{list_renamed}
-use Rattle.qm_forest.proofs.Nests.{came_past, leader_out}
-use Rattle.qm_forest.proofs.PartedWays.{ups as the_ups, up_in as the_up_in, up_off as the_up_off, at_in as the_at_in}
-use Rattle.qm_forest.proofs.PartedWays.{unused as the_unused, rises as the_rises, climb_parted}
-use Rattle.qm_forest.proofs.PartedWays.{holds_old as the_holds_old, holds_none as the_holds_none, never as the_never}
-use Rattle.qm_forest.proofs.PartedWays.{part_fresh as the_part_fresh, fresh_together, part_used as the_part_used}
-use Rattle.qm_forest.proofs.PartedWays.{fresh_part as the_fresh_part, fresh_place as the_fresh_place}
-use Rattle.qm_forest.proofs.PartedWays.{out_is as the_out_is, out_in as the_out_in, out_off as the_out_off}
-use Rattle.qm_forest.proofs.PartedWays.{part_outside as the_part_outside, leader_in as the_leader_in}
-use Rattle.qm_forest.proofs.PartedWays.{leaders_differ as the_leaders_differ, alone as the_alone}
-use Rattle.qm_forest.proofs.Pooled.{pool_given}
-use Rattle.qm_forest.proofs.Ranges.{read_nat}
-use Rattle.qm_forest.proofs.TiedWrites.{entry_set}
+use Rattle.qm_forest.proofs.{JoinedLists.list_renamed, Nests.came_past, Nests.leader_out, PartedWays.ups as the_ups}
+use Rattle.qm_forest.proofs.{PartedWays.up_in as the_up_in, PartedWays.up_off as the_up_off}
+use Rattle.qm_forest.proofs.{PartedWays.at_in as the_at_in, PartedWays.unused as the_unused}
+use Rattle.qm_forest.proofs.{PartedWays.rises as the_rises, PartedWays.climb_parted}
+use Rattle.qm_forest.proofs.{PartedWays.holds_old as the_holds_old, PartedWays.holds_none as the_holds_none}
+use Rattle.qm_forest.proofs.{PartedWays.never as the_never, PartedWays.part_fresh as the_part_fresh}
+use Rattle.qm_forest.proofs.{PartedWays.fresh_together, PartedWays.part_used as the_part_used}
+use Rattle.qm_forest.proofs.{PartedWays.fresh_part as the_fresh_part, PartedWays.fresh_place as the_fresh_place}
+use Rattle.qm_forest.proofs.{PartedWays.out_is as the_out_is, PartedWays.out_in as the_out_in}
+use Rattle.qm_forest.proofs.{PartedWays.out_off as the_out_off, PartedWays.part_outside as the_part_outside}
+use Rattle.qm_forest.proofs.{PartedWays.leader_in as the_leader_in, PartedWays.leaders_differ as the_leaders_differ}
+use Rattle.qm_forest.proofs.{PartedWays.alone as the_alone, Pooled.pool_given, Ranges.read_nat, TiedWrites.entry_set}
 
 -- What holds of all values and of a function holds where it is written.
 writes_has : {X : Type 0} (P : X → Type 0) (f : ℕ → X) (place : ℕ → ℕ) (value : ℕ → X) (many x : ℕ)

@@ -3,14 +3,12 @@ use Rattle.std.proofs.Common.{◌≡◌, ◌≢◌, ℕ, zero, suc, ◌<◌, ◌
 use Rattle.std.proofs.Common.{refl, sym}
 use Rattle.std.proofs.Common.{◌∙◌, ap, subst, inl, inr, arith}
 use Rattle.std.proofs.lemmas.Bool.{cases_eq, cases_lt, cases_Bool, cond-true, cond-false}
-use Rattle.def_forest.specs.Forests.{walk, set_at}
-use Rattle.def_forest.specs.Tables.{ForestTables, climbs, label_at, out_of, up_at}
-use Rattle.def_forest.specs.declared.kinds.Label.TheVariants.{Outside}
+use Rattle.def_forest.specs.{Forests.walk, Forests.set_at, Tables.ForestTables, Tables.climbs, Tables.label_at}
+use Rattle.def_forest.specs.{Tables.out_of, Tables.up_at, declared.kinds.Label.TheVariants.Outside}
 use Rattle.forest_laws.specs.Walks.{listed, writes}
 use Rattle.forest_laws.proofs.Walks.{listed_at, listed_place, listed_off}
 use Rattle.forest_laws.proofs.Writes.{label_cases, set_here, set_there}
-use Rattle.qm_forest.specs.Parts.{IsPartable}
-use Rattle.qm_forest.specs.Ties.{AreTied, HiddenTables, IsClimb, IsInUse}
+use Rattle.qm_forest.specs.{Parts.IsPartable, Ties.AreTied, Ties.HiddenTables, Ties.IsClimb, Ties.IsInUse}
 use Rattle.qm_forest.proofs.Apart.{comes_out, fixed_top, rank_low}
 use Rattle.qm_forest.proofs.Enclosed.{climb_enclosed, holds_same as the_holds_same, not_new as the_not_new}
 use Rattle.qm_forest.proofs.Nests.{came_past, climbs_place, rank_few, rank_some}

@@ -2,27 +2,21 @@
 use Rattle.std.proofs.Common.{◌≡◌, ◌≢◌, ℕ, ◌+◌, ◌-◌, ◌<◌, ◌≤◌, ◌^◌, true, List, length, get_or, pos, ◌⊎◌, Option}
 use Rattle.std.proofs.Common.{Some, None, sym, ◌∙◌, ap, subst, inl, inr, arith}
 use Rattle.std.proofs.Math.ListN.{set}
-use Rattle.std.specs.Prelude.{slice_get, unsigned_abs}
 use Rattle.std.proofs.lemmas.Bool.{cases_eq, cases_lt}
+use Rattle.std.specs.Prelude.{slice_get, unsigned_abs}
 use Rattle.def_forest.specs.Forests.{Forest, walk}
 use Rattle.def_forest.specs.Tables.{GraphSize, ForestTables, forest_of, climbs, up_at}
 use Rattle.forest_laws.specs.Walks.{listed}
 use Rattle.forest_laws.proofs.Walks.{listed_place}
 use Rattle.qm_pool.specs.declared.pool.Node.{Node}
-use Rattle.qm_forest.specs.Gathers.{lists_at}
-use Rattle.qm_forest.specs.Parts.{HasHandedRow, HasPartLists, AreOpened, IsPartable, IsParted}
-use Rattle.qm_forest.specs.Ties.{AreTied, HiddenTables, IsInUse, IsListed}
-use Rattle.qm_forest.specs.Views.{tables_of, hidden_of}
-use Rattle.qm_forest.specs.declared.tables.Handles.{Handles}
-use Rattle.qm_forest.specs.declared.tables.Lists.{Lists}
-use Rattle.qm_forest.specs.declared.tables.Rings.{Rings}
-use Rattle.qm_forest.specs.declared.tables.Trail.{Trail}
-use Rattle.qm_forest.specs.declared.tables.Tree.{Tree}
-use Rattle.qm_forest.specs.declared.tables.Weights.{Weights}
-use Rattle.qm_forest.proofs.Gatherings.{q_small}
-use Rattle.qm_forest.proofs.JoinedLists.{list_few}
-use Rattle.qm_forest.proofs.Parted.{tied_parted, parted_is}
-use Rattle.qm_forest.proofs.PartedWays.{part_fresh, part_used, leader_in, out_in, at_in}
+use Rattle.qm_forest.specs.{Gathers.lists_at, Parts.HasHandedRow, Parts.HasPartLists, Parts.AreOpened, Parts.IsPartable}
+use Rattle.qm_forest.specs.{Parts.IsParted, Ties.AreTied, Ties.HiddenTables, Ties.IsInUse, Ties.IsListed}
+use Rattle.qm_forest.specs.{Views.tables_of, Views.hidden_of, declared.tables.Handles.Handles}
+use Rattle.qm_forest.specs.{declared.tables.Lists.Lists, declared.tables.Rings.Rings, declared.tables.Trail.Trail}
+use Rattle.qm_forest.specs.{declared.tables.Tree.Tree, declared.tables.Weights.Weights}
+use Rattle.qm_forest.proofs.{Gatherings.q_small, JoinedLists.list_few, Parted.tied_parted, Parted.parted_is}
+use Rattle.qm_forest.proofs.PartedWays.{part_fresh, part_used, leader_in, out_in}
+use Rattle.qm_forest.proofs.PartedWays.{at_in}
 
 module _ (h : Handles) (l : Lists) (r : Rings) (trail : Trail) (w : Weights) (e : Tree) (pool : List (Option Node))
     (room : Option GraphSize) (tied : AreTied (tables_of h l r trail w e room) (hidden_of h l trail pool))

@@ -1,17 +1,16 @@
 -- The numbers of a forest stay small.
 use Rattle.std.proofs.Common.{Some, ◌≡◌, ℕ, zero, suc, ◌*◌, ◌<◌, ◌≤◌, ◌^◌, Bool, true, false, cond, List, length}
 use Rattle.std.proofs.Common.{get_or, ℤ, pos, ◌+ℤ◌, sym, ◌∙◌, ap, subst, arith}
-use Rattle.std.specs.Prelude.{unsigned_abs}
 use Rattle.std.proofs.lemmas.Int.{ints}
 use Rattle.std.proofs.lemmas.Option.{slice_get-get_or}
+use Rattle.std.specs.Prelude.{unsigned_abs}
 use mir.Syntax.{w128}
 use mir.Val.{to_z, of_z}
 use Rattle.def_math.specs.Sums.{total_below}
-use Rattle.def_forest.specs.Forests.{dual_sum_of}
-use Rattle.def_forest.specs.Steps.{weight_change}
-use Rattle.def_forest.specs.Tables.{ForestTables, forest_of, label_at, weight_at, out_of, IsOutermostIn}
-use Rattle.def_forest.specs.declared.kinds.Label.{Label}
-use Rattle.def_forest.specs.declared.kinds.Label.TheVariants.{Outer, Inner, Outside}
+use Rattle.def_forest.specs.{Forests.dual_sum_of, Steps.weight_change, Tables.ForestTables, Tables.forest_of}
+use Rattle.def_forest.specs.Tables.{label_at, weight_at, out_of, IsOutermostIn}
+use Rattle.def_forest.specs.{declared.kinds.Label.Label, declared.kinds.Label.TheVariants.Outer}
+use Rattle.def_forest.specs.declared.kinds.Label.TheVariants.{Inner, Outside}
 use Rattle.qm_forest.specs.Ties.{AreTied, HiddenTables, potential, added, told}
 
 -- A sum of small numbers.

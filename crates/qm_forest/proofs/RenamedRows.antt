@@ -3,15 +3,14 @@ use Rattle.std.proofs.Common.{◌≡◌, ◌≢◌, ℕ, suc, ◌+◌, ◌<◌, 
 use Rattle.std.proofs.Common.{get_or, ℤ, pos, ◌+ℤ◌, ◌-ℤ◌, ◌⊎◌, refl, sym, ◌∙◌, ap, subst, inl, inr, arith}
 use Rattle.std.proofs.Common.{get_or-set_same, get_or-set_other}
 use Rattle.std.proofs.Math.ListN.{set}
-use Rattle.std.specs.Prelude.{unsigned_abs}
 use Rattle.std.proofs.lemmas.Int.{ints}
 use Rattle.std.proofs.lemmas.Bool.{cases_eq, cases_lt, cases_Bool, cond-true, cond-false, eq-eqb, ne_eqb, eqb-true}
 use Rattle.std.proofs.lemmas.Bool.{or_right}
-use Rattle.def_forest.specs.Forests.{walk}
-use Rattle.def_forest.specs.Tables.{out_of}
+use Rattle.std.proofs.lemmas.List.{get_or_past}
+use Rattle.std.specs.Prelude.{unsigned_abs}
+use Rattle.def_forest.specs.{Forests.walk, Tables.out_of}
 use Rattle.forest_laws.specs.Walks.{listed}
 use Rattle.forest_laws.proofs.Walks.{listed_off, listed_place}
-use Rattle.std.proofs.lemmas.List.{get_or_past}
 use Rattle.qm_forest.specs.Gathers.{lists_at, differ_by, in_row, HasListAt, HasListsOf, HasLeaders, HasRenamed, IsRow}
 use Rattle.qm_forest.specs.declared.tables.Handles.{Handles}
 use Rattle.qm_forest.specs.declared.tables.Lists.{Lists}

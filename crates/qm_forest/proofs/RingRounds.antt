@@ -2,23 +2,19 @@
 use Rattle.std.proofs.Common.{◌≡◌, ◌≢◌, ℕ, zero, suc, ◌+◌, ◌-◌, ◌*◌, ◌/◌, ◌<◌, ◌≤◌, Bool, true, false, cond, List}
 use Rattle.std.proofs.Common.{length, get_or, Option, Some, None, ◌⊎◌, refl, sym, ◌∙◌, ap, subst, inl, inr, arith}
 use Rattle.std.proofs.Math.ListN.{set}
+use Rattle.std.proofs.lemmas.Bool.{cases_Bool, cond-true, cond-false}
 use Rattle.def_matching.specs.Matching.{WeightedGraph, IsSmallGraph}
-use Rattle.def_forest.specs.Darts.{darts_of}
-use Rattle.def_forest.specs.Forests.{bool_number, walk, ring_sum}
-use Rattle.def_forest.specs.Tables.{ForestTables, forest_of, up_at}
-use Rattle.def_forest.specs.Valid.{IsRing}
+use Rattle.def_forest.specs.{Darts.darts_of, Forests.bool_number, Forests.walk, Forests.ring_sum, Tables.ForestTables}
+use Rattle.def_forest.specs.{Tables.forest_of, Tables.up_at, Valid.IsRing}
 use Rattle.forest_laws.specs.Walks.{listed}
 use Rattle.forest_laws.proofs.Circles.{IsCircle, circle_from}
 use Rattle.forest_laws.proofs.Walks.{listed_at, listed_closed, listed_place, walk_front}
 use Rattle.qm_forest.specs.Rounds.{IsSoundFor, IsLaminar, IsPairing, IsRound, entered, far_at, near_at, waits_but}
 use Rattle.qm_forest.specs.Rounds.{within}
-use Rattle.qm_forest.proofs.Apart.{walk_stays}
-use Rattle.qm_forest.proofs.Enclosed.{climbs_here}
-use Rattle.qm_forest.proofs.Nests.{climbs_place}
-use Rattle.std.proofs.lemmas.Bool.{cases_Bool, cond-true, cond-false}
-use Rattle.qm_forest.proofs.Laminars.{alone, another, ring_around, ring_pairing, x_low}
-use Rattle.qm_forest.proofs.Pairings.{entered_size, entry_cases, paired_round}
-use Rattle.qm_forest.proofs.Withins.{climb_law, in_where, rank_walk, ring_front}
+use Rattle.qm_forest.proofs.{Apart.walk_stays, Enclosed.climbs_here, Nests.climbs_place, Laminars.alone}
+use Rattle.qm_forest.proofs.Laminars.{another, ring_around, ring_pairing, x_low}
+use Rattle.qm_forest.proofs.{Pairings.entered_size, Pairings.entry_cases, Pairings.paired_round, Withins.climb_law}
+use Rattle.qm_forest.proofs.Withins.{in_where, rank_walk, ring_front}
 
 -- The rest may be told otherwise.
 pub round_rest : {t : ForestTables} {marks : List Bool} {left : List (Option ℕ)} {rest : ℕ → ℕ} (rest2 : ℕ → ℕ)

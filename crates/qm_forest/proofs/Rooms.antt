@@ -1,16 +1,13 @@
 -- Tied tables with another room, and room that is blank.
-use Rattle.std.proofs.Common.{◌≡◌, ◌≢◌, ℕ, ◌+◌, ◌/◌, ◌<◌, ◌≤◌, length, get_or, None, inl, inr, sym, ◌∙◌, ap, subst}
-use Rattle.std.proofs.Common.{arith}
-use Rattle.std.proofs.lemmas.Bool.{cases_lt}
-use Rattle.std.proofs.lemmas.Grind.{get_or_default_zero}
+use Rattle.std.proofs.Common.{◌≡◌, ◌≢◌, ℕ, ◌+◌, ◌/◌, ◌<◌, ◌≤◌, length}
+use Rattle.std.proofs.Common.{get_or, None, inl, inr, sym, ◌∙◌, ap}
+use Rattle.std.proofs.{Common.subst, Common.arith, lemmas.Bool.cases_lt, lemmas.Grind.get_or_default_zero}
 use Rattle.std.proofs.lemmas.List.{get_or_past, length-replicate}
 use Rattle.def_matching.specs.Matching.{WeightedGraph}
 use Rattle.def_forest.specs.Tables.{ForestTables, GraphSize, size_of, up_at}
-use Rattle.qm_forest.specs.Outlines.{IsBlank}
-use Rattle.qm_forest.specs.Rounds.{HasRoom, IsLaminar, IsRound, IsSoundFor}
-use Rattle.qm_forest.specs.declared.rounds.Round.{Round}
+use Rattle.qm_forest.specs.{Outlines.IsBlank, Rounds.HasRoom, Rounds.IsLaminar, Rounds.IsRound, Rounds.IsSoundFor}
+use Rattle.qm_forest.specs.{declared.rounds.Round.Round, Ties.AreTied, Ties.HiddenTables}
 use Rattle.qm_forest.proofs.Chosens.{round_begins}
-use Rattle.qm_forest.specs.Ties.{AreTied, HiddenTables}
 
 -- The room of a forest is as large as what it comes to.
 module _ {t : ForestTables} (known : IsLaminar t) (whole : length t.up ≡ length t.hand + length t.hand / 2)

@@ -1,24 +1,18 @@
 -- What a shift does to the tables.
 use Rattle.std.proofs.Common.{◌≡◌, ℕ, ◌<◌, ◌≤◌, ◌^◌, length, ℤ, pos, ◌+ℤ◌, ◌≤ℤ◌, Option, Some, None, is_some, true}
 use Rattle.std.proofs.Common.{false, refl, sym, ◌∙◌, ap, subst, arith}
-use Rattle.std.specs.Prelude.{unsigned_abs}
 use Rattle.std.proofs.lemmas.Int.{ints}
+use Rattle.std.specs.Prelude.{unsigned_abs}
 use Rattle.def_matching.specs.Matching.{WeightedGraph, IsGraph}
-use Rattle.def_forest.specs.Darts.{darts_of}
-use Rattle.def_forest.specs.Forests.{Forest, dual_sum_of}
-use Rattle.def_forest.specs.Steps.{weight_change, shifted, rooted}
-use Rattle.def_forest.specs.Tables.{ForestTables, forest_of, label_at, out_of, IsValidFor}
-use Rattle.def_forest.specs.Valid.{IsFeasible, IsValid}
-use Rattle.def_forest.specs.declared.kinds.Label.{Label}
-use Rattle.def_forest.specs.declared.kinds.Label.TheVariants.{Outer, Inner, Outside}
-use Rattle.forest_laws.proofs.Graphs.{are_darts}
-use Rattle.forest_laws.proofs.Loads.{potential_shifted}
-use Rattle.forest_laws.proofs.Rises.{sum_rises}
-use Rattle.forest_laws.proofs.Shifts.{shift_valid}
+use Rattle.def_forest.specs.{Darts.darts_of, Forests.Forest, Forests.dual_sum_of, Steps.weight_change, Steps.shifted}
+use Rattle.def_forest.specs.{Steps.rooted, Tables.ForestTables, Tables.forest_of, Tables.label_at, Tables.out_of}
+use Rattle.def_forest.specs.{Tables.IsValidFor, Valid.IsFeasible, Valid.IsValid, declared.kinds.Label.Label}
+use Rattle.def_forest.specs.declared.kinds.Label.TheVariants.{Outer, Inner}
+use Rattle.def_forest.specs.declared.kinds.Label.TheVariants.{Outside}
+use Rattle.forest_laws.proofs.{Graphs.are_darts, Loads.potential_shifted, Rises.sum_rises, Shifts.shift_valid}
 use Rattle.forest_laws.proofs.Grows.{rooted_valid}
 use Rattle.qm_forest.specs.Ties.{fixed_of, AreTied, HiddenTables, potential, added, told}
-use Rattle.qm_forest.proofs.TiedWrites.{sizes_kept}
-use Rattle.qm_forest.proofs.OnWays.{darts_kept, ends_kept, room_kept}
+use Rattle.qm_forest.proofs.{TiedWrites.sizes_kept, OnWays.darts_kept, OnWays.ends_kept, OnWays.room_kept}
 
 -- A shift after another.
 change_sum : (l : Label) (d s : ℤ) → weight_change l (d +ℤ s) ≡ weight_change l d +ℤ weight_change l s

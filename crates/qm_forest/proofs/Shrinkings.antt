@@ -4,29 +4,23 @@ use Rattle.std.proofs.Common.{ℤ, ◌⊎◌, Option, Some, None, refl, sym, ◌
 use Rattle.std.proofs.lemmas.Bool.{cases_eq, cases_lt, cond-true, eq-eqb}
 use Rattle.def_math.specs.Counts.{count_below}
 use Rattle.def_matching.specs.Matching.{WeightedGraph, IsSmallGraph}
-use Rattle.def_forest.specs.Darts.{Darts, AreDarts, darts_of, far}
-use Rattle.def_forest.specs.Forests.{Forest, IsTight, IsOutermost, live_at, set_at, walk}
-use Rattle.def_forest.specs.Shrunk.{IsClosedRow, IsCycle, IsShrunk, IsShrinking, IsUnused}
-use Rattle.def_forest.specs.Tables.{ForestTables, forest_of, label_at, IsOutermostIn, IsValidFor}
-use Rattle.def_forest.specs.Valid.{IsMate, IsValid, IsTree}
-use Rattle.def_forest.specs.Ways.{dart_or}
-use Rattle.def_forest.specs.declared.kinds.Label.{Label}
+use Rattle.def_forest.specs.{Darts.Darts, Darts.AreDarts, Darts.darts_of, Darts.far, Forests.Forest, Forests.IsTight}
+use Rattle.def_forest.specs.{Forests.IsOutermost, Forests.live_at, Forests.set_at, Forests.walk, Shrunk.IsClosedRow}
+use Rattle.def_forest.specs.{Shrunk.IsCycle, Shrunk.IsShrunk, Shrunk.IsShrinking, Shrunk.IsUnused, Tables.ForestTables}
+use Rattle.def_forest.specs.{Tables.forest_of, Tables.label_at, Tables.IsOutermostIn, Tables.IsValidFor, Valid.IsMate}
+use Rattle.def_forest.specs.{Valid.IsValid, Valid.IsTree, Ways.dart_or, declared.kinds.Label.Label}
 use Rattle.def_forest.specs.declared.kinds.Label.TheVariants.{Outer, Outside}
 use Rattle.forest_laws.specs.Climbing.{rise_of, way_of, IsClimbing, ring_at, ring_dart}
 use Rattle.forest_laws.specs.Walks.{listed}
-use Rattle.forest_laws.proofs.Forks.{at_left, at_right, at_named, dart_left, dart_over, dart_right, top_outer}
-use Rattle.forest_laws.proofs.Forks.{closed_row, ring_cycle, walks}
-use Rattle.forest_laws.proofs.Graphs.{are_darts}
-use Rattle.forest_laws.proofs.Levels.{way_differs}
-use Rattle.forest_laws.proofs.Odds.{IsBlossom}
-use Rattle.forest_laws.proofs.Rooms.{sets_few}
-use Rattle.forest_laws.proofs.ShrunkTrees.{shrunk_valid}
-use Rattle.forest_laws.proofs.Walks.{listed_at, writes_all}
-use Rattle.forest_laws.proofs.Writes.{label_cases, outer_named, set_here, set_there}
+use Rattle.forest_laws.proofs.Forks.{at_left, at_right, at_named, dart_left, dart_over}
+use Rattle.forest_laws.proofs.Forks.{dart_right, top_outer, closed_row, ring_cycle, walks}
+use Rattle.forest_laws.proofs.{Graphs.are_darts, Levels.way_differs, Odds.IsBlossom, Rooms.sets_few}
+use Rattle.forest_laws.proofs.{ShrunkTrees.shrunk_valid, Walks.listed_at, Walks.writes_all, Writes.label_cases}
+use Rattle.forest_laws.proofs.Writes.{outer_named, set_here, set_there}
 use Rattle.qm_forest.specs.Gathers.{IsFreeRing, IsGathered, live_sets}
-use Rattle.qm_forest.proofs.OnWays.{darts_kept, ends_kept, room_kept}
 use Rattle.qm_forest.specs.Rings.{IsRingedAlike, laid_ring}
 use Rattle.qm_forest.specs.Ties.{fixed_of, HasSameNest, labelled, mated, left_alone}
+use Rattle.qm_forest.proofs.OnWays.{darts_kept, ends_kept, room_kept}
 use Rattle.qm_forest.proofs.Increases.{the_tree, named_low}
 use Rattle.qm_forest.proofs.WritesAlong.{IsForked, lain_left, lain_over, lain_right, lain_off}
 

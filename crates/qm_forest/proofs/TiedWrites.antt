@@ -1,17 +1,14 @@
 -- One write to a table, and what it leaves of the tie.
-use Rattle.std.proofs.Common.{Bool, ◌≡◌, ◌≢◌, ℕ, ◌<◌, ◌≤◌, ◌^◌, List, length, get_or, ℤ, pos, ◌+ℤ◌, ◌-ℤ◌, ◌≤ℤ◌, ◌⊎◌}
-use Rattle.std.proofs.Common.{Option, None, sym, ◌∙◌, ap, subst, inl, inr, length-set, get_or-set_same}
-use Rattle.std.proofs.Common.{get_or-set_other, arith, cond}
-use Rattle.std.proofs.Math.ListN.{set}
+use Rattle.std.proofs.Common.{Bool, ◌≡◌, ◌≢◌, ℕ, ◌<◌, ◌≤◌, ◌^◌, List}
+use Rattle.std.proofs.Common.{length, get_or, ℤ, pos, ◌+ℤ◌, ◌-ℤ◌, ◌≤ℤ◌}
+use Rattle.std.proofs.Common.{◌⊎◌, Option, None, sym, ◌∙◌, ap, subst}
+use Rattle.std.proofs.Common.{inl, inr, length-set, get_or-set_same, get_or-set_other}
+use Rattle.std.proofs.{Common.arith, Common.cond, Math.ListN.set, lemmas.Int.ints, lemmas.Bool.cases_eq}
 use Rattle.std.specs.Prelude.{unsigned_abs}
-use Rattle.std.proofs.lemmas.Int.{ints}
-use Rattle.std.proofs.lemmas.Bool.{cases_eq}
 use Rattle.sum_laws.proofs.Sums.{total_below_same}
-use Rattle.def_forest.specs.Forests.{dual_sum_of, set_at}
-use Rattle.def_forest.specs.Steps.{weight_change}
-use Rattle.def_forest.specs.Tables.{ForestTables, forest_of, label_at, weight_at, out_of}
-use Rattle.def_forest.specs.declared.kinds.Label.{Label}
-use Rattle.def_forest.specs.declared.kinds.Label.TheVariants.{Outside}
+use Rattle.def_forest.specs.{Forests.dual_sum_of, Forests.set_at, Steps.weight_change, Tables.ForestTables}
+use Rattle.def_forest.specs.Tables.{forest_of, label_at, weight_at, out_of}
+use Rattle.def_forest.specs.{declared.kinds.Label.Label, declared.kinds.Label.TheVariants.Outside}
 use Rattle.qm_forest.specs.Ties.{AreTied, HasSizes, HiddenTables, IsOnTrail, potential, added, labelled, mated, linked}
 use Rattle.qm_forest.proofs.Ranges.{one_hand}
 use Rattle.forest_laws.proofs.Writes.{set_here, set_there}

@@ -2,13 +2,9 @@
 use Rattle.std.proofs.Common.{◌≡◌, ◌≢◌, ℕ, zero, suc, ◌+◌, ◌-◌, ◌<◌, ◌≤◌, Bool, true, false, not, cond, eqb, ◌||◌, ◌⊎◌}
 use Rattle.std.proofs.Common.{refl, sym, ◌∙◌, ap, subst, inl, inr, arith}
 use Rattle.std.proofs.lemmas.Bool.{cases_eq, cases_lt, cases_Bool, eq-eqb}
-use Rattle.def_forest.specs.Forests.{bool_number, walk, ring_sum}
-use Rattle.def_forest.specs.Tables.{climbs}
-use Rattle.forest_laws.proofs.Circles.{IsCircle}
-use Rattle.forest_laws.proofs.Walks.{walk_front, walk_sum}
-use Rattle.forest_laws.proofs.Writes.{true_false}
-use Rattle.qm_forest.proofs.Apart.{walk_stays}
-use Rattle.qm_forest.proofs.Nests.{climbs_place}
+use Rattle.def_forest.specs.{Forests.bool_number, Forests.walk, Forests.ring_sum, Tables.climbs}
+use Rattle.forest_laws.proofs.{Circles.IsCircle, Walks.walk_front, Walks.walk_sum, Writes.true_false}
+use Rattle.qm_forest.proofs.{Apart.walk_stays, Nests.climbs_place}
 
 or_right : (p : Bool) {q : Bool} → q ≡ true → (p || q) ≡ true
 or_right true f = refl

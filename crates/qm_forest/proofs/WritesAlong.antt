@@ -2,8 +2,7 @@
 use Rattle.std.proofs.Common.{◌≡◌, ◌≢◌, ℕ, suc, ◌+◌, ◌-◌, ◌<◌, ◌≤◌, refl, sym, ◌∙◌, ap, arith}
 use Rattle.def_forest.specs.Forests.{set_at}
 use Rattle.forest_laws.specs.Walks.{writes}
-use Rattle.forest_laws.proofs.Walks.{writes_at, writes_off}
-use Rattle.forest_laws.proofs.Writes.{set_here, set_there}
+use Rattle.forest_laws.proofs.{Walks.writes_at, Walks.writes_off, Writes.set_here, Writes.set_there}
 
 -- A ring goes down the first way and up the second, and no place of these is on it twice.
 pub record IsForked (first second at : ℕ → ℕ) (left right : ℕ) : Type 0 where

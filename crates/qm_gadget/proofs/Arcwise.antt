@@ -1,8 +1,6 @@
 -- What is made of each arc and its entry, at one place.
 use Rattle.std.proofs.Common.{◌≡◌, ℕ, zero, suc, ◌+◌, ◌<◌, List, [], ◌∷◌, ◌++◌, length, take, get_or, refl, ap, arith}
-use Rattle.def_flow.specs.Network.{arc_at}
-use Rattle.def_flow.specs.Units.{arcwise}
-use Rattle.def_flow.specs.declared.net.Arc.{Arc}
+use Rattle.def_flow.specs.{Network.arc_at, Units.arcwise, declared.net.Arc.Arc}
 
 -- At an arc of the list.
 pub arcwise_at : (f : Arc → ℕ → ℕ) (arcs : List Arc) (xs : List ℕ) (k : ℕ) → length xs ≡ length arcs → k < length arcs

@@ -1,14 +1,12 @@
 -- Units and states by lows and caps, one arc and one unit at a time.
 use Rattle.std.proofs.Common.{◌≡◌, ℕ, zero, suc, ◌+◌, ◌-◌, true, false, List, [], ◌∷◌, ◌++◌, length, map, refl, sym}
 use Rattle.std.proofs.Common.{◌∙◌, ap, add-one, add-zero, arith}
-use Rattle.std.specs.Prelude.{nat_lt}
 use Rattle.std.proofs.lemmas.Bool.Decides.{nat_tests}
 use Rattle.std.proofs.lemmas.List.{length-append}
-use Rattle.def_flow.specs.Network.{Network}
-use Rattle.def_flow.specs.Units.{arcwise, down, cap, run, units_from, states, states_at}
-use Rattle.def_flow.specs.declared.net.Arc.{Arc}
-use Rattle.def_flow.specs.Gadget.{caps}
-use Rattle.def_flow.specs.Units.{unit_at, units_from, units_over, states_over}
+use Rattle.std.specs.Prelude.{nat_lt}
+use Rattle.def_flow.specs.{Network.Network, Units.arcwise, Units.down, Units.cap, Units.run, Units.units_from}
+use Rattle.def_flow.specs.{Units.states, Units.states_at, declared.net.Arc.Arc, Gadget.caps, Units.unit_at}
+use Rattle.def_flow.specs.Units.{units_from, units_over, states_over}
 
 run_suc : (j n : ℕ) → run j (suc n) ≡ run j n ++ nat_lt n j ∷ []
 run_suc zero zero = refl

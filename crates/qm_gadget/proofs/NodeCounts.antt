@@ -1,19 +1,15 @@
 -- Counts of active ends, one unit at a time.
 use Rattle.std.proofs.Common.{◌≡◌, ℕ, zero, suc, ◌+◌, ◌*◌, ◌%◌, ◌<◌, ◌≤◌, ◌==◌, Bool, true, false, not, ◌&&◌, cond}
 use Rattle.std.proofs.Common.{List, [], ◌∷◌, length, take, drop, Option, Some, None, refl, subst, inl, inr, arith}
-use Rattle.std.specs.Prelude.{slice_index, slice_index_or, option_to_list}
-use mathlib.Core.Bool.{beq}
 use Rattle.std.proofs.lemmas.Bool.{cases_lt, ne_eqb}
 use Rattle.std.proofs.lemmas.List.{drop_more, get_or_past, length-take}
-use Rattle.def_math.specs.Counts.{count}
-use Rattle.def_flow.specs.Network.{EndsBelow}
-use Rattle.def_flow.specs.Units.{is_active, active_at, active, alone_active, rim_active}
-use Rattle.def_flow.specs.declared.net.End.{End}
-use Rattle.def_flow.specs.declared.units.ArcUnit.{ArcUnit}
-use Rattle.qm_gadget.specs.Layout.{IsAtNodes, AreAtNodes}
-use Rattle.def_math.specs.Tables.{at_place, IsRaised, IsTally}
+use Rattle.std.specs.Prelude.{slice_index, slice_index_or, option_to_list}
+use mathlib.Core.Bool.{beq}
+use Rattle.def_math.specs.{Counts.count, Tables.at_place, Tables.IsRaised, Tables.IsTally}
+use Rattle.def_flow.specs.{Network.EndsBelow, Units.is_active, Units.active_at, Units.active, Units.alone_active}
+use Rattle.def_flow.specs.{Units.rim_active, declared.net.End.End, declared.units.ArcUnit.ArcUnit}
+use Rattle.qm_gadget.specs.{Layout.IsAtNodes, Layout.AreAtNodes, Over.end_active}
 use Rattle.table_laws.proofs.Tallies.{raised_as, raised_none, tally_low, tally_more}
-use Rattle.qm_gadget.specs.Over.{end_active}
 use Rattle.sum_laws.proofs.Tests.{once_at_most}
 
 -- Functions that agree everywhere are equal.

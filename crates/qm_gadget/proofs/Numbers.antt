@@ -2,17 +2,14 @@
 use Rattle.std.proofs.Common.{◌≡◌, ℕ, zero, suc, ◌+◌, ◌<◌, ◌≤◌, ◌==◌, Bool, true, false, not, ◌&&◌, cond, List, [], ◌∷◌}
 use Rattle.std.proofs.Common.{◌++◌, length, drop, Option, Some, None, refl, sym, ◌∙◌, ap, add-zero, append_assoc}
 use Rattle.std.proofs.Common.{length-append, inl, inr, ◌⊎◌, arith}
-use Rattle.std.specs.Prelude.{nat_lt, slice_index_or}
 use Rattle.std.proofs.lemmas.Bool.{cond-true, cases_eq, eq-eqb, ne_eqb}
 use Rattle.std.proofs.lemmas.Bool.Decides.{nat_tests}
 use Rattle.std.proofs.lemmas.List.{drop_more, drop_all, append-nil}
-use Rattle.def_flow.specs.Units.{is_active, active_at}
-use Rattle.def_flow.specs.MatchingGraph.{are_alike}
-use Rattle.def_flow.specs.declared.net.End.{End}
+use Rattle.std.specs.Prelude.{nat_lt, slice_index_or}
+use Rattle.def_flow.specs.{Units.is_active, Units.active_at, MatchingGraph.are_alike, declared.net.End.End}
 use Rattle.def_flow.specs.declared.units.ArcUnit.{ArcUnit}
-use Rattle.gadget_laws.specs.Marks.{choice, places, take_end, end_marks, marks_by, units_marks, differ, mark_from}
-use Rattle.gadget_laws.specs.Marks.{rim_marks}
-use Rattle.gadget_laws.specs.Told.{width_by}
+use Rattle.gadget_laws.specs.Marks.{choice, places, take_end, end_marks, marks_by}
+use Rattle.gadget_laws.specs.{Marks.units_marks, Marks.differ, Marks.mark_from, Marks.rim_marks, Told.width_by}
 use Rattle.gadget_laws.proofs.Pick.{choice_length}
 use Rattle.qm_gadget.specs.Marked.{right_marks, mark_if, rim_by, turn_marks}
 use Rattle.qm_gadget.proofs.Fans.{two_parts}

@@ -1,34 +1,24 @@
 -- The lows and caps of an admissible list are ready for a plan, and its plan gives its matching graph.
 use Rattle.std.proofs.Common.{◌≡◌, ℕ, zero, suc, ◌+◌, ◌-◌, ◌*◌, ◌%◌, ◌^◌, ◌<◌, ◌≤◌, ◌==◌, Bool, cond, List, [], ◌∷◌}
 use Rattle.std.proofs.Common.{length, Option, Some, None, sym, ◌∙◌, ap, inl, inr, arith}
-use Rattle.std.specs.Prelude.{unsigned_abs}
 use Rattle.std.proofs.Math.Nat.{mul-le-mul}
 use Rattle.std.proofs.lemmas.Bool.{cases_lt}
 use Rattle.std.proofs.lemmas.List.{get_or_past}
+use Rattle.std.specs.Prelude.{unsigned_abs}
 use Rattle.def_math.specs.Counts.{count, count_below}
-use Rattle.def_flow.specs.Network.{Network, IsWithinBounds, tangle_number}
-use Rattle.def_flow.specs.Admissible.{IsAdmissible, entries}
-use Rattle.def_matching.specs.Matching.{WeightedGraph, IsCheap, IsSmallGraph, edge_at}
-use Rattle.def_flow.specs.Units.{low, cap, units, active, rim_active}
-use Rattle.def_flow.specs.MatchingGraph.{graph_by, graph_of_units, matching_graph, first_fresh, unit_size, size_by}
-use Rattle.def_flow.specs.MatchingGraph.{are_alike, rim}
-use Rattle.def_flow.specs.declared.net.End.{End}
-use Rattle.def_flow.specs.declared.units.ArcUnit.{ArcUnit}
-use Rattle.def_flow.specs.Admissible.{AreNetLengths}
-use Rattle.gadget_laws.proofs.Units.{UnitsAt}
-use Rattle.def_flow.specs.Gadget.{caps, lows}
-use Rattle.gadget_laws.proofs.Box.{arcwise_length}
-use Rattle.gadget_laws.proofs.Costs.{costs}
-use Rattle.gadget_laws.proofs.Law.{arcs_at, units_at, graph_law}
-use Rattle.gadget_laws.proofs.Size.{size_law}
-use Rattle.qm_gadget.specs.Layout.{copies_in, AreAtNodes}
+use Rattle.def_flow.specs.{Network.Network, Network.IsWithinBounds, Network.tangle_number, Admissible.IsAdmissible}
+use Rattle.def_flow.specs.{Admissible.entries, Units.low, Units.cap, Units.units, Units.active, Units.rim_active}
+use Rattle.def_flow.specs.MatchingGraph.{graph_by, graph_of_units, matching_graph}
+use Rattle.def_flow.specs.MatchingGraph.{first_fresh, unit_size, size_by}
+use Rattle.def_flow.specs.{MatchingGraph.are_alike, MatchingGraph.rim, declared.net.End.End}
+use Rattle.def_flow.specs.{declared.units.ArcUnit.ArcUnit, Admissible.AreNetLengths, Gadget.caps, Gadget.lows}
 use Rattle.def_flow.specs.Units.{units_over}
-use Rattle.qm_gadget.specs.Ready.{graph_by_lows, IsReady, IsPlan}
-use Rattle.qm_gadget.specs.Ready.{own_states as states_of_caps}
-use Rattle.qm_gadget.specs.declared.plan.Plan.{Plan}
-use Rattle.qm_gadget.proofs.Arcwise.{arcwise_at}
-use Rattle.qm_gadget.proofs.ByLows.{own_states}
-use Rattle.qm_gadget.proofs.NodeCounts.{same_everywhere, none_past}
+use Rattle.def_matching.specs.Matching.{WeightedGraph, IsCheap, IsSmallGraph, edge_at}
+use Rattle.gadget_laws.proofs.{Units.UnitsAt, Box.arcwise_length, Costs.costs, Law.arcs_at, Law.units_at, Law.graph_law}
+use Rattle.gadget_laws.proofs.Size.{size_law}
+use Rattle.qm_gadget.specs.{Layout.copies_in, Layout.AreAtNodes, Ready.graph_by_lows, Ready.IsReady, Ready.IsPlan}
+use Rattle.qm_gadget.specs.{Ready.own_states as states_of_caps, declared.plan.Plan.Plan}
+use Rattle.qm_gadget.proofs.{Arcwise.arcwise_at, ByLows.own_states, NodeCounts.same_everywhere, NodeCounts.none_past}
 
 -- Ends at nodes, one unit at a time.
 at_by_index : (nodes : ℕ) (us : List ArcUnit) → UnitsAt nodes us → AreAtNodes nodes us

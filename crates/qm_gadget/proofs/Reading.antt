@@ -2,18 +2,14 @@
 use Rattle.std.proofs.Common.{◌≡◌, ℕ, zero, suc, ◌+◌, ◌*◌, ◌<◌, ◌≤◌, ◌==◌, Bool, true, false, not, cond, List, [], ◌∷◌}
 use Rattle.std.proofs.Common.{length, take, drop, Option, refl, sym, ◌∙◌, ap, subst, inl, inr, ◌⊎◌, add-zero}
 use Rattle.std.proofs.Common.{length-append, arith}
-use Rattle.std.specs.Prelude.{nat_lt, slice_index_or}
-use Rattle.std.specs.Bool.{beq}
 use Rattle.std.proofs.lemmas.Bool.{cases_eq, cases_lt, eq-eqb, ne_eqb, lt-ltb}
 use Rattle.std.proofs.lemmas.Bool.Decides.{nat_tests}
 use Rattle.std.proofs.lemmas.List.{drop_more}
-use Rattle.def_math.specs.Counts.{count}
-use Rattle.def_math.specs.Increasing.{IsIncreasing}
-use Rattle.def_flow.specs.Units.{arcwise, low, cap, active_at}
-use Rattle.def_flow.specs.MatchingGraph.{graph_by, units_links, rim_links, lone_vertex, first_fresh, rim}
-use Rattle.def_math.specs.Counts.{count_below}
-use Rattle.def_flow.specs.declared.net.Arc.{Arc}
-use Rattle.def_flow.specs.declared.net.End.{End}
+use Rattle.std.specs.{Prelude.nat_lt, Prelude.slice_index_or, Bool.beq}
+use Rattle.def_math.specs.{Counts.count, Increasing.IsIncreasing, Counts.count_below}
+use Rattle.def_flow.specs.{Units.arcwise, Units.low, Units.cap, Units.active_at, MatchingGraph.graph_by}
+use Rattle.def_flow.specs.MatchingGraph.{units_links, rim_links, lone_vertex}
+use Rattle.def_flow.specs.{MatchingGraph.first_fresh, MatchingGraph.rim, declared.net.Arc.Arc, declared.net.End.End}
 use Rattle.def_flow.specs.declared.units.ArcUnit.{ArcUnit}
 use Rattle.gadget_laws.specs.Marks.{trues, units_marks, marks_by}
 use Rattle.gadget_laws.specs.Told.{past, marks_from, width_by, state_told, states_told, steps_told, lengths_on}

@@ -1,9 +1,9 @@
 -- Lists in the box, by the steps that their entries are above the lows.
 use Rattle.std.proofs.Common.{◌≡◌, ℕ, suc, ◌-◌, ◌*◌, ◌/◌, ◌%◌, ◌^◌, ◌<◌, ◌≤◌, ◌==◌, Bool, true, false, List, [], ◌∷◌}
 use Rattle.std.proofs.Common.{length, refl, sym, ◌∙◌, ap, inl, inr, ◌⊎◌, length-append, arith}
-use Rattle.std.specs.Prelude.{slice_index}
 use Rattle.std.proofs.lemmas.Bool.{cases_lt}
 use Rattle.std.proofs.lemmas.List.{get_or_past}
+use Rattle.std.specs.Prelude.{slice_index}
 use Rattle.def_math.specs.Counts.{count_below}
 use Rattle.def_flow.specs.Network.{Network}
 use Rattle.def_flow.specs.Units.{units_over, units, states_over, states, active, rim_active}
@@ -11,19 +11,11 @@ use Rattle.def_flow.specs.MatchingGraph.{graph_by, lone_vertex, first_fresh, rim
 use Rattle.def_flow.specs.declared.units.ArcUnit.{ArcUnit}
 use Rattle.def_flow.specs.Gadget.{IsStepUp, IsInBox, caps, lows}
 use Rattle.gadget_laws.specs.Box.{ups, matching_told}
-use Rattle.gadget_laws.proofs.Steps.{quotient, step_up}
 use Rattle.gadget_laws.specs.Marks.{places, states_marks, units_marks, rim_marks, rim_states}
-use Rattle.gadget_laws.proofs.Chain.{rim_length}
-use Rattle.gadget_laws.proofs.Units.{units_length, states_length}
-use Rattle.qm_gadget.specs.Layout.{copies_in}
-use Rattle.qm_gadget.specs.Marked.{rim_by}
-use Rattle.qm_gadget.specs.Ready.{IsReady, IsPlan, marks_over}
-use Rattle.qm_gadget.specs.Ready.{own_states as states_of_caps}
-use Rattle.qm_gadget.specs.declared.plan.Plan.{Plan}
-use Rattle.qm_gadget.proofs.ByLows.{own_states}
-use Rattle.qm_gadget.proofs.Numbers.{rim_is}
-use Rattle.qm_gadget.proofs.OfList.{plan_counts}
-use Rattle.qm_gadget.proofs.NodeCounts.{active_low}
+use Rattle.gadget_laws.proofs.{Steps.quotient, Steps.step_up, Chain.rim_length, Units.units_length, Units.states_length}
+use Rattle.qm_gadget.specs.{Layout.copies_in, Marked.rim_by, Ready.IsReady, Ready.IsPlan, Ready.marks_over}
+use Rattle.qm_gadget.specs.{Ready.own_states as states_of_caps, declared.plan.Plan.Plan}
+use Rattle.qm_gadget.proofs.{ByLows.own_states, Numbers.rim_is, OfList.plan_counts, NodeCounts.active_low}
 
 -- No entry of a list in the box is more than 4 steps up.
 pub ups_small : (step : ℕ) (lows caps ys : List ℕ) → 1 ≤ step → IsInBox step lows caps ys

@@ -3,29 +3,20 @@ use Rattle.std.proofs.Common.{◌≡◌, ℕ, ◌-◌, ◌*◌, ◌%◌, ◌^◌
 use Rattle.std.proofs.Common.{ap, subst, arith}
 use Rattle.std.proofs.lemmas.Int.{ints}
 use Rattle.std.proofs.lemmas.List.{length-map}
-use Rattle.def_flow.specs.Network.{Network, IsWithinBounds, tangle_number}
-use Rattle.def_flow.specs.Admissible.{IsAdmissible, deviation, entries}
+use Rattle.def_flow.specs.{Network.Network, Network.IsWithinBounds, Network.tangle_number, Admissible.IsAdmissible}
+use Rattle.def_flow.specs.{Admissible.deviation, Admissible.entries, Units.low, Units.cap, Units.units, Units.states_at}
+use Rattle.def_flow.specs.{Units.active, Units.rim_active, MatchingGraph.graph_by, MatchingGraph.matching_graph}
+use Rattle.def_flow.specs.{declared.units.ArcUnit.ArcUnit, Gadget.IsGadgetOf, Gadget.IsInBox, Gadget.lows, Gadget.caps}
+use Rattle.def_flow.specs.{declared.gadget.Gadget.Gadget, Units.units_over, Units.states_over}
 use Rattle.def_matching.specs.Matching.{WeightedGraph, graph, matching_cost, IsPerfect}
-use Rattle.def_flow.specs.Units.{low, cap, units, states_at, active, rim_active}
-use Rattle.def_flow.specs.MatchingGraph.{graph_by, matching_graph}
-use Rattle.def_flow.specs.declared.units.ArcUnit.{ArcUnit}
-use Rattle.def_flow.specs.Gadget.{IsGadgetOf, IsInBox, lows, caps}
-use Rattle.gadget_laws.specs.Box.{ups, matching_told}
-use Rattle.gadget_laws.proofs.Steps.{in_box}
-use Rattle.gadget_laws.specs.Marks.{places}
-use Rattle.gadget_laws.proofs.Law.{matching_law}
-use Rattle.gadget_laws.proofs.Size.{size_law}
-use Rattle.gadget_laws.proofs.Arcs.{lengths_law, told_in_box}
-use Rattle.gadget_laws.specs.Told.{marks_from, states_told, lengths_told}
-use Rattle.def_flow.specs.declared.gadget.Gadget.{Gadget}
-use Rattle.def_flow.specs.Units.{units_over, states_over}
-use Rattle.qm_gadget.specs.Ready.{IsReady, marks_over}
-use Rattle.qm_gadget.specs.Ready.{own_states as states_of_caps}
-use Rattle.qm_gadget.proofs.ByLows.{states_long, own_states}
-use Rattle.qm_gadget.proofs.OfList.{list_ready, graph_over}
-use Rattle.qm_gadget.specs.Read.{lengths_by, lengths_read, widths_over}
-use Rattle.qm_gadget.proofs.Reading.{widths_low, lengths_is}
-use Rattle.qm_gadget.proofs.Steps.{ups_length, marks_long, marks_over_is}
+use Rattle.gadget_laws.specs.{Box.ups, Box.matching_told, Marks.places, Told.marks_from, Told.states_told}
+use Rattle.gadget_laws.specs.Told.{lengths_told}
+use Rattle.gadget_laws.proofs.{Steps.in_box, Law.matching_law, Size.size_law, Arcs.lengths_law, Arcs.told_in_box}
+use Rattle.qm_gadget.specs.{Ready.IsReady, Ready.marks_over, Ready.own_states as states_of_caps, Read.lengths_by}
+use Rattle.qm_gadget.specs.Read.{lengths_read, widths_over}
+use Rattle.qm_gadget.proofs.{ByLows.states_long, ByLows.own_states, OfList.list_ready, OfList.graph_over}
+use Rattle.qm_gadget.proofs.{Reading.widths_low, Reading.lengths_is, Steps.ups_length, Steps.marks_long}
+use Rattle.qm_gadget.proofs.Steps.{marks_over_is}
 
 -- The lows and caps of a gadget are ready for a plan.
 pub gadget_ready : (net : Network) (g : Gadget) → IsWithinBounds net → IsGadgetOf net g

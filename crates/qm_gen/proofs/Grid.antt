@@ -1,20 +1,17 @@
 -- The cells name points of the grid.
 use Rattle.std.proofs.Common.{◌≡◌, ◌<◌, ◌≤◌, ◌+◌, ◌*◌, ◌^◌, ◌&&◌, ℕ, zero, suc, ℤ, Bool, true, false, IsTrue, List, []}
 use Rattle.std.proofs.Common.{◌∷◌, length, map, filter, cond, refl, ap, ap₂, sym, ◌∙◌, subst, arith, length-append}
-use Rattle.std.specs.Prelude.{nat_le, nat_lt}
-use Rattle.std.specs.List.{flat_map, list_all, range_with_len}
 use Rattle.std.proofs.lemmas.Bool.{and_from, le-leb, lt-ltb}
 use Rattle.std.proofs.lemmas.List.{length-map}
 use Rattle.std.proofs.lemmas.List.Folds.{list_all-append}
 use Rattle.std.proofs.lemmas.List.FromFn.{length-map-range_with_len, length-range_with_len}
 use Rattle.std.proofs.Math.Nat.{mul-le-mul_right, suc-mul}
+use Rattle.std.specs.{Prelude.nat_le, Prelude.nat_lt, List.flat_map, List.list_all, List.range_with_len}
 use Rattle.def_gen.specs.Steps.{cell, cells, column_height, grid_points, whole_point, point_number, row_cells}
 use Rattle.def_gen.specs.Steps.{row_points}
-use Rattle.def_mesh.specs.Faces.{Faces}
-use Rattle.def_mesh.specs.Vertices.{is_used}
-use Rattle.def_text.specs.FaceSet.{FaceSet, IsSoup}
-use Rattle.def_text.specs.Text.{face_set, numbers_to, position_of, used_to, line_vertex}
-use Rattle.def_text.specs.Types.{Positions}
+use Rattle.def_mesh.specs.{Faces.Faces, Vertices.is_used}
+use Rattle.def_text.specs.{FaceSet.FaceSet, FaceSet.IsSoup, Text.face_set, Text.numbers_to, Text.position_of}
+use Rattle.def_text.specs.{Text.used_to, Text.line_vertex, Types.Positions}
 use Rattle.qm_obj.proofs.SoupLemmas.{length-numbers_to, numbers_rise}
 
 -- How many points there are.

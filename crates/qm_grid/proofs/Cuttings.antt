@@ -1,7 +1,6 @@
 -- A mesh and a full cut of its faces are what the loops need.
 use Rattle.std.proofs.Common.{Bool, List}
-use Rattle.def_mesh.specs.Faces.{Faces}
-use Rattle.def_mesh.specs.Meshes.{IsMesh}
+use Rattle.def_mesh.specs.{Faces.Faces, Meshes.IsMesh}
 use Rattle.def_cut.specs.FullCut.{IsFullCut}
 use Rattle.mesh_laws.proofs.HalfEdges.{manifold_law}
 use Rattle.face_laws.proofs.FullCuts.{full_cut_law}

@@ -5,20 +5,15 @@ use Rattle.std.proofs.Common.{arith}
 use Rattle.std.proofs.lemmas.Bool.{cases_eq, cases_lt, or_cases, or_left, or_right, false≢true}
 use Rattle.std.proofs.lemmas.List.{get_or_append_left, get_or-append-add, get_or-map, length-map, length-replicate}
 use Rattle.std.proofs.lemmas.List.{get_or-replicate}
-use Rattle.def_mesh.specs.Faces.{Faces}
-use Rattle.def_mesh.specs.Darts.{darts}
-use Rattle.def_mesh.specs.HalfEdges.{half_edges}
-use Rattle.def_cut.specs.FullCut.{is_on}
-use Rattle.def_cut.specs.Grids.{Rectangle, cell_of, patch_at, least_of, IsPatch, IsSide, IsPartition}
-use Rattle.def_cut.specs.Steps.{spin}
+use Rattle.def_mesh.specs.{Faces.Faces, Darts.darts, HalfEdges.half_edges}
+use Rattle.def_cut.specs.{FullCut.is_on, Grids.Rectangle, Grids.cell_of, Grids.patch_at, Grids.least_of, Grids.IsPatch}
+use Rattle.def_cut.specs.{Grids.IsSide, Grids.IsPartition, Steps.spin}
 use Rattle.cut_laws.specs.Grown.{IsGrown}
 use Rattle.cut_laws.proofs.Classes.{linked_back}
 use Rattle.cut_laws.proofs.Leasts.{least_high, least_low}
 use Rattle.cut_laws.proofs.OneList.{AreTiles, LiesInPatch, least_at, place_row, place_is, shared, once}
 use Rattle.face_laws.proofs.Fans.{same_face}
-use Rattle.qm_grid.specs.Cells.{grid_list}
-use Rattle.qm_grid.specs.Cutting.{IsCutting}
-use Rattle.qm_grid.specs.Heads.{lies_in, AreOfOne, IsHead}
+use Rattle.qm_grid.specs.{Cells.grid_list, Cutting.IsCutting, Heads.lies_in, Heads.AreOfOne, Heads.IsHead}
 use Rattle.qm_grid.proofs.Laid.{grid_long, cells_low, lies_at, at_lies, linked_lies, laid_patch}
 
 -- The face of a dart.

@@ -2,18 +2,13 @@
 use Rattle.std.proofs.Common.{◌≡◌, ◌≢◌, ◌⊎◌, ℕ, ◌+◌, ◌*◌, ◌/◌, ◌<◌, ◌≤◌, Bool, true, false, cond, List, length, get_or}
 use Rattle.std.proofs.Common.{sym, ◌∙◌, ap, subst, refl, inl, inr, arith}
 use Rattle.std.proofs.lemmas.Bool.{cases_Bool, cases_eq, cases_lt, cond-true, cond-false, false≢true}
-use Rattle.def_mesh.specs.Faces.{Faces}
-use Rattle.def_mesh.specs.Darts.{darts}
-use Rattle.def_mesh.specs.HalfEdges.{half_edges}
-use Rattle.def_cut.specs.Cuts.{Links, IsCorner}
-use Rattle.def_cut.specs.FullCut.{is_on}
-use Rattle.def_cut.specs.Steps.{spin}
+use Rattle.def_mesh.specs.{Faces.Faces, Darts.darts, HalfEdges.half_edges}
+use Rattle.def_cut.specs.{Cuts.Links, Cuts.IsCorner, FullCut.is_on, Steps.spin}
 use Rattle.cut_laws.specs.Grown.{IsGrown}
 use Rattle.cut_laws.proofs.Classes.{links_join, linked_back, step_spin}
 use Rattle.face_laws.proofs.Fans.{same_face}
-use Rattle.qm_grid.specs.Cells.{grid_list}
-use Rattle.qm_grid.specs.Cutting.{IsCutting}
-use Rattle.qm_grid.specs.Heads.{lies_in, AreOfOne, IsHead, AreHeadsSoFar}
+use Rattle.qm_grid.specs.{Cells.grid_list, Cutting.IsCutting, Heads.lies_in, Heads.AreOfOne, Heads.IsHead}
+use Rattle.qm_grid.specs.Heads.{AreHeadsSoFar}
 use Rattle.qm_grid.proofs.Laid.{lies_linked, linked_lies}
 
 module _ (faces : Faces) (cut : List Bool) (cutting : IsCutting faces cut) where

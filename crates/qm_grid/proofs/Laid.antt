@@ -6,23 +6,17 @@ use Rattle.std.proofs.lemmas.Bool.{cases_lt, eqb-true, eq-eqb, or_cases, false�
 use Rattle.std.proofs.lemmas.List.{get_or_append_left, get_or-append-add}
 use Rattle.std.proofs.lemmas.List.Folds.{list_any_at}
 use Rattle.std.proofs.lemmas.List.FromFn.{get_or-map-range_with_len, length-map-range_with_len}
-use Rattle.def_mesh.specs.Faces.{Faces}
-use Rattle.def_mesh.specs.Darts.{darts}
-use Rattle.def_mesh.specs.HalfEdges.{HalfEdges, half_edges}
-use Rattle.def_cut.specs.Cuts.{Cut, IsCorner}
-use Rattle.def_cut.specs.FullCut.{is_on}
-use Rattle.def_cut.specs.Grids.{Cells, IsGrid, IsPatch, Rectangle, cell_of}
-use Rattle.def_cut.specs.Steps.{easts, norths, spin}
+use Rattle.def_mesh.specs.{Faces.Faces, Darts.darts, HalfEdges.HalfEdges, HalfEdges.half_edges}
+use Rattle.def_cut.specs.{Cuts.Cut, Cuts.IsCorner, FullCut.is_on, Grids.Cells, Grids.IsGrid, Grids.IsPatch}
+use Rattle.def_cut.specs.{Grids.Rectangle, Grids.cell_of, Steps.easts, Steps.norths, Steps.spin}
 use Rattle.cut_laws.specs.Grown.{grown, IsGrown}
-use Rattle.cut_laws.proofs.Grown.{grown_grid}
-use Rattle.cut_laws.proofs.Classes.{In, AtMost, closed, linked_cell, links_join, step_spin, at_most}
-use Rattle.cut_laws.proofs.Folds.{At}
-use Rattle.cut_laws.proofs.OneList.{place_row, place_is}
+use Rattle.cut_laws.proofs.{Grown.grown_grid, Classes.In, Classes.AtMost, Classes.closed, Classes.linked_cell}
+use Rattle.cut_laws.proofs.{Classes.links_join, Classes.step_spin, Classes.at_most, Folds.At, OneList.place_row}
+use Rattle.cut_laws.proofs.OneList.{place_is}
 use Rattle.face_laws.proofs.Fans.{same_face}
 use Rattle.mesh_laws.proofs.Darts.{next_face}
-use Rattle.qm_grid.specs.Cells.{row_list, grid_list}
-use Rattle.qm_grid.specs.Cutting.{IsCutting}
-use Rattle.qm_grid.specs.Heads.{lies_in, AreOfOne, IsHead}
+use Rattle.qm_grid.specs.{Cells.row_list, Cells.grid_list, Cutting.IsCutting, Heads.lies_in, Heads.AreOfOne}
+use Rattle.qm_grid.specs.Heads.{IsHead}
 
 -- The list of a grid.
 row_long : (mesh : HalfEdges) (s w : ℕ) → length (row_list mesh s w) ≡ w

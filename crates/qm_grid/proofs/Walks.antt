@@ -7,8 +7,7 @@ use Rattle.def_mesh.specs.HalfEdges.{HalfEdges, IsQuadManifold}
 use Rattle.def_cut.specs.Cuts.{Cut, IsCorner, IsCut}
 use Rattle.def_cut.specs.Steps.{step_east, step_north, easts, norths}
 use Rattle.cut_laws.specs.Grown.{IsRow, IsGrown}
-use Rattle.cut_laws.proofs.Rows.{endless, next_row, west_on}
-use Rattle.cut_laws.proofs.Grown.{grow, endless_north}
+use Rattle.cut_laws.proofs.{Rows.endless, Rows.next_row, Rows.west_on, Grown.grow, Grown.endless_north}
 use Rattle.qm_grid.specs.Cells.{row_list, grid_list}
 
 -- What holds below a number and at it holds below the next.

@@ -1,10 +1,7 @@
 -- The head lines of commands with settings, and the head line of none of the commands.
 use Rattle.std.proofs.Common.{◌≡◌, ℕ, ℤ, Bool, false, codes}
-use Rattle.def_certtext.specs.Reading.{IsHead}
-use Rattle.def_certtext.specs.Settings.{AreInRange}
-use Rattle.def_fit.specs.Aims.{IsFit}
-use Rattle.def_fit.specs.FitWords.{fit_head}
-use Rattle.def_fit.specs.declared.fit.Fit.{Fit as AnyFit}
+use Rattle.def_certtext.specs.{Reading.IsHead, Settings.AreInRange}
+use Rattle.def_fit.specs.{Aims.IsFit, FitWords.fit_head, declared.fit.Fit.Fit as AnyFit}
 use Rattle.def_flow.specs.declared.net.Settings.{Settings}
 use Rattle.def_run.specs.MarkLines.{IsMarkLine, IsNamedHead, IsRefineHead, IsSizeHead}
 use Rattle.def_run.specs.declared.command.Command.{Command}

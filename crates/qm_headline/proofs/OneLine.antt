@@ -1,7 +1,6 @@
 -- A head line is of one command.
-use Rattle.std.specs.Prelude.{MatchOption}
+use Rattle.std.specs.{Prelude.MatchOption, Str.bytes_eq}
 use Rattle.std.proofs.Common.{◌≡◌, ◌↔◌, ℕ, false, Option, Some, None, [], codes, take, refl, ap, sym, subst, ◌∙◌}
-use Rattle.std.specs.Str.{bytes_eq}
 use Rattle.std.proofs.lemmas.Bool.{true≢false}
 use Rattle.std.proofs.lemmas.Option.{none-some, same_Some}
 use Rattle.std.proofs.lemmas.Slice.Eq.{bytes_eq-Decides}
@@ -14,8 +13,7 @@ use Rattle.def_run.specs.declared.command.Command.TheVariants.{Coarse, Blocks, M
 use Rattle.def_text.specs.Types.{Word}
 use Rattle.qm_certtext.proofs.Texts.{same_asked, same_head}
 use Rattle.qm_fit.proofs.Heads.{one_fit}
-use Rattle.qm_headline.proofs.Refined.{one_multiple}
-use Rattle.qm_headline.proofs.Sizes.{one_size}
+use Rattle.qm_headline.proofs.{Refined.one_multiple, Sizes.one_size}
 
 -- How far the head lines of two commands may be alike.
 abbrev tag_of : (command : Command) → Word

@@ -1,15 +1,12 @@
 -- A head line of `size` is cut into its words in one way, and its length is read as it is written.
 use Rattle.std.proofs.Common.{◌≡◌, ◌≤◌, ◌<◌, ◌⊎◌, ℕ, ℤ, pos, true, false, ◌++◌, codes, length, take}
 use Rattle.std.proofs.Common.{inl, inr, refl, ap, ap₂, sym, subst, ◌∙◌, arith, append_assoc}
-use Rattle.std.specs.Prelude.{decimal, unsigned_abs, ◌≤ℤ◌}
-use Rattle.std.specs.Str.{bytes_eq}
 use Rattle.std.proofs.lemmas.Bool.{cases_lt, lt-ltb, true≢false}
 use Rattle.std.proofs.lemmas.Fmt.{decimal_injective}
 use Rattle.std.proofs.lemmas.List.{append_cancel_left}
-use Rattle.def_run.specs.MarkLines.{IsSizeHead}
-use Rattle.def_run.specs.Size.{size_head}
-use Rattle.def_text.specs.Canonical.{micro_text}
-use Rattle.def_text.specs.Decimal.{is_decimal, is_far, rounded, IsValue}
+use Rattle.std.specs.{Prelude.decimal, Prelude.unsigned_abs, Prelude.◌≤ℤ◌, Str.bytes_eq}
+use Rattle.def_run.specs.{MarkLines.IsSizeHead, Size.size_head}
+use Rattle.def_text.specs.{Canonical.micro_text, Decimal.is_decimal, Decimal.is_far, Decimal.rounded, Decimal.IsValue}
 use Rattle.def_text.specs.Types.{Word}
 use Rattle.qm_certtext.proofs.Cutting.{not_stripped, one_word}
 use Rattle.qm_certtext.specs.Cuts.{is_bare}

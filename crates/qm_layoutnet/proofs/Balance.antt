@@ -2,19 +2,16 @@
 use Rattle.std.proofs.Common.{◌≡◌, ◌≢◌, ◌⊎◌, ℕ, ◌+◌, ◌*◌, ◌/◌, ◌%◌, ◌<◌, ◌≤◌, Bool, true, false, cond, not, ◌&&◌, ◌==◌}
 use Rattle.std.proofs.Common.{ℤ, pos, ◌+ℤ◌}
 use Rattle.std.proofs.Common.{length, Option, Some, None, refl, sym, ap, ◌∙◌, subst, inl, inr, arith}
-use Rattle.std.specs.Prelude.{option_to_list}
 use Rattle.std.proofs.lemmas.Bool.{cases_eq, cases_lt, eq-eqb, ne_eqb, false≢true}
 use Rattle.std.proofs.lemmas.Int.{ints}
+use Rattle.std.specs.Prelude.{option_to_list}
 use Rattle.def_math.specs.Sums.{total, total_below}
 use Rattle.sum_laws.proofs.Sums.{total_below_none, total_below_one, total_below_same}
-use Rattle.def_flow.specs.Admissible.{is_on_side, side_sum, IsBalanced}
-use Rattle.def_flow.specs.Network.{Network, arc_at, ends}
-use Rattle.def_flow.specs.declared.net.End.{End}
-use Rattle.def_flow.specs.declared.net.Settings.{Settings}
-use Rattle.def_layout.specs.declared.tmesh.SideArc.{SideArc}
-use Rattle.def_layout.specs.Layouts.{Way, south, east, north, west, Layout, Slot, IsSlot, AreReverse, use_of}
-use Rattle.def_layout.specs.Surfaces.{IsSurface, IsOtherSlot}
-use Rattle.def_layout.specs.Lengths.{Lengths}
+use Rattle.def_flow.specs.{Admissible.is_on_side, Admissible.side_sum, Admissible.IsBalanced, Network.Network}
+use Rattle.def_flow.specs.{Network.arc_at, Network.ends, declared.net.End.End, declared.net.Settings.Settings}
+use Rattle.def_layout.specs.{declared.tmesh.SideArc.SideArc, Layouts.Way, Layouts.south, Layouts.east, Layouts.north}
+use Rattle.def_layout.specs.Layouts.{west, Layout, Slot, IsSlot, AreReverse}
+use Rattle.def_layout.specs.{Layouts.use_of, Surfaces.IsSurface, Surfaces.IsOtherSlot, Lengths.Lengths}
 use Rattle.def_layoutnet.specs.LayoutNet.{node_of, is_plus, end_at, IsNetOf}
 use Rattle.def_layoutnet.specs.LayoutNetLaws.{sum_along, AreOpposite, BalanceLaw}
 use Rattle.qm_layoutnet.proofs.Hits.{is_hit, use_of_arc, hit_of, no_hit, along_is}

@@ -2,33 +2,26 @@
 use Rattle.std.proofs.Common.{◌≡◌, ◌⊎◌, ℕ, zero, suc, ◌*◌, ◌^◌, ◌<◌, ◌≤◌, Bool, true, false, List, [], ◌∷◌, length, map}
 use Rattle.std.proofs.Common.{Option, Some, pos}
 use Rattle.std.proofs.Common.{refl, sym, ap, ◌∙◌, subst, inl, inr, arith, ◌&&◌}
-use Rattle.std.specs.Prelude.{nat_le, nat_lt, option_to_list}
-use Rattle.std.specs.List.{list_all}
 use Rattle.std.proofs.lemmas.Bool.{le-leb, lt-ltb}
+use Rattle.std.specs.{Prelude.nat_le, Prelude.nat_lt, Prelude.option_to_list, List.list_all}
 use Rattle.def_math.specs.Counts.{count, count_below}
 use Rattle.sum_laws.proofs.Counts.{count_below_prefix, count_below_le, count_below_ones, count_below_same}
 use Rattle.sum_laws.proofs.Sums.{total_below_same}
-use Rattle.def_flow.specs.Admissible.{IsEven}
-use Rattle.def_flow.specs.Network.{Network, arc_at, ends, is_bounded, tangle_number, IsWithinBounds}
-use Rattle.def_flow.specs.declared.limits.TheConstants.{MAX_FLOOR, MAX_OLD, MAX_WEIGHT}
-use Rattle.def_flow.specs.declared.net.Arc.{Arc}
-use Rattle.def_flow.specs.declared.net.End.{End}
-use Rattle.def_flow.specs.declared.net.Settings.{Settings}
-use Rattle.def_flow.specs.declared.net.Weight.{Weight}
-use Rattle.def_flow.specs.declared.net.Weight.TheVariants.{Plain, Length}
-use Rattle.def_layout.specs.declared.tmesh.SideArc.{SideArc}
-use Rattle.def_layout.specs.declared.tmesh.TArc.{TArc}
-use Rattle.def_layout.specs.Arcs.{path, long_at}
-use Rattle.def_layout.specs.Layouts.{Way, south, east, north, west, Layout, Slot, IsSlot, use_of}
-use Rattle.def_layout.specs.Surfaces.{IsSurface}
-use Rattle.def_layout.specs.Lengths.{Lengths, size, AreLengths}
+use Rattle.def_flow.specs.{Admissible.IsEven, Network.Network, Network.arc_at, Network.ends, Network.is_bounded}
+use Rattle.def_flow.specs.{Network.tangle_number, Network.IsWithinBounds, declared.limits.TheConstants.MAX_FLOOR}
+use Rattle.def_flow.specs.declared.limits.TheConstants.{MAX_OLD, MAX_WEIGHT}
+use Rattle.def_flow.specs.{declared.net.Arc.Arc, declared.net.End.End, declared.net.Settings.Settings}
+use Rattle.def_flow.specs.{declared.net.Weight.Weight, declared.net.Weight.TheVariants.Plain}
+use Rattle.def_flow.specs.declared.net.Weight.TheVariants.{Length}
+use Rattle.def_layout.specs.{declared.tmesh.SideArc.SideArc, declared.tmesh.TArc.TArc, Arcs.path, Arcs.long_at}
+use Rattle.def_layout.specs.Layouts.{Way, south, east, north, west, Layout}
+use Rattle.def_layout.specs.{Layouts.Slot, Layouts.IsSlot, Layouts.use_of, Surfaces.IsSurface, Lengths.Lengths}
+use Rattle.def_layout.specs.Lengths.{size, AreLengths}
 use Rattle.def_layoutnet.specs.LayoutNet.{end_at, weight_of, AreSettings, IsNetOf}
 use Rattle.def_layoutnet.specs.LayoutNetLaws.{sum_along}
 use Rattle.qm_layoutnet.specs.Ends.{arc_of, open_arc, AreEnds, PatchesBelow}
-use Rattle.qm_layoutnet.proofs.Hits.{use_of_arc}
-use Rattle.qm_layoutnet.proofs.Balance.{balance_law, has_ends, node_low, HasEnds}
-use Rattle.qm_layoutnet.proofs.Opposite.{size_is}
-use Rattle.qm_layoutnet.proofs.Tangles.{tangle_small, term_low}
+use Rattle.qm_layoutnet.proofs.{Hits.use_of_arc, Balance.balance_law, Balance.has_ends, Balance.node_low}
+use Rattle.qm_layoutnet.proofs.{Balance.HasEnds, Opposite.size_is, Tangles.tangle_small, Tangles.term_low}
 
 -- A count along a list is one over its places.
 pub count_at : (f : Arc → ℕ) (xs : List Arc) → count f xs ≡ count_below (λ k. f (arc_at xs k)) (length xs)

@@ -5,15 +5,10 @@ use Rattle.std.proofs.Common.{refl, sym, ap, ◌∙◌, subst, inl, inr, arith}
 use Rattle.std.proofs.lemmas.Bool.{cases_eq, false≢true, cases_Bool}
 use Rattle.std.proofs.lemmas.List.{get_or-set_same, get_or-set_other, length-set}
 use Rattle.std.specs.List.{All}
-use Rattle.def_flow.specs.Network.{arc_at}
-use Rattle.def_flow.specs.declared.net.Arc.{Arc}
-use Rattle.def_flow.specs.declared.net.End.{End}
-use Rattle.def_flow.specs.declared.net.Settings.{Settings}
-use Rattle.def_layout.specs.declared.tmesh.SideArc.{SideArc}
-use Rattle.def_layout.specs.Layouts.{Way, south, east, north, west, Layout, Slot, IsSlot, use_of}
-use Rattle.def_layout.specs.Surfaces.{IsSurface}
-use Rattle.def_layout.specs.Lengths.{Lengths}
-use Rattle.def_layout.specs.Plans.{way_number}
+use Rattle.def_flow.specs.{Network.arc_at, declared.net.Arc.Arc, declared.net.End.End, declared.net.Settings.Settings}
+use Rattle.def_layout.specs.{declared.tmesh.SideArc.SideArc, Layouts.Way, Layouts.south, Layouts.east, Layouts.north}
+use Rattle.def_layout.specs.Layouts.{west, Layout, Slot, IsSlot, use_of}
+use Rattle.def_layout.specs.{Surfaces.IsSurface, Lengths.Lengths, Plans.way_number}
 use Rattle.def_layoutnet.specs.LayoutNet.{end_at, weight_of}
 use Rattle.qm_layoutnet.specs.Ends.{with_side, with_end, with_ends, with_four, AreEnds, PatchesBelow, SlotsBelow}
 use Rattle.qm_layoutnet.proofs.Hits.{use_of_arc}

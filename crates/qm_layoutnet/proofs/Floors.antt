@@ -1,27 +1,21 @@
 -- A network with other floors is as even and as tangled as it was, and it is the network of the same layout.
 use Rattle.std.proofs.Common.{◌≡◌, ℕ, ◌*◌, ◌<◌, ◌≤◌, Bool, true, false, ◌&&◌, length, ℤ, pos, ◌-ℤ◌, ◌*ℤ◌, sym, ap, ◌∙◌}
 use Rattle.std.proofs.Common.{List, None, map, refl, subst, leb-true, arith}
-use Rattle.std.specs.Prelude.{nat_le, nat_lt, unsigned_abs}
-use Rattle.std.specs.List.{list_all}
 use Rattle.std.proofs.lemmas.Bool.{and_parts, le-leb}
 use Rattle.std.proofs.lemmas.List.{ext_get_or, get_or-map, length-map}
+use Rattle.std.specs.{Prelude.nat_le, Prelude.nat_lt, Prelude.unsigned_abs, List.list_all}
 use Rattle.def_math.specs.Counts.{count, count_below}
 use Rattle.sum_laws.proofs.Counts.{count_below_same}
 use Rattle.def_flow.specs.Admissible.{arc_deviation, deviation, side_sum, IsEven}
-use Rattle.def_flow.specs.Network.{Network, arc_at, ends, is_bounded, tangle_number, IsWithinBounds}
-use Rattle.def_flow.specs.declared.limits.TheConstants.{MAX_FLOOR, MAX_OLD, MAX_WEIGHT}
-use Rattle.def_flow.specs.declared.net.Arc.{Arc}
-use Rattle.def_flow.specs.declared.net.End.{End}
-use Rattle.def_flow.specs.declared.net.Settings.{Settings}
-use Rattle.def_layout.specs.Layouts.{Layout, use_of}
-use Rattle.def_layout.specs.Lengths.{Lengths}
-use Rattle.def_layout.specs.Surfaces.{IsSurface}
-use Rattle.def_layoutnet.specs.LayoutNet.{IsNetOf}
+use Rattle.def_flow.specs.Network.{Network, arc_at, ends, is_bounded, tangle_number}
+use Rattle.def_flow.specs.{Network.IsWithinBounds, declared.limits.TheConstants.MAX_FLOOR}
+use Rattle.def_flow.specs.declared.limits.TheConstants.{MAX_OLD, MAX_WEIGHT}
+use Rattle.def_flow.specs.{declared.net.Arc.Arc, declared.net.End.End, declared.net.Settings.Settings}
+use Rattle.def_layout.specs.{Layouts.Layout, Layouts.use_of, Lengths.Lengths, Surfaces.IsSurface}
+use Rattle.def_layoutnet.specs.{LayoutNet.IsNetOf, Floors.at_floor, Floors.HasFloors}
 use Rattle.qm_net.proofs.Within.{arc_bounded}
-use Rattle.def_layoutnet.specs.Floors.{at_floor, HasFloors}
 use Rattle.qm_layoutnet.specs.Floors.{AreFloored}
-use Rattle.qm_layoutnet.proofs.Built.{all_pass, count_at}
-use Rattle.qm_layoutnet.proofs.SameEnds.{sums_same, tangle_same}
+use Rattle.qm_layoutnet.proofs.{Built.all_pass, Built.count_at, SameEnds.sums_same, SameEnds.tangle_same}
 
 -- The arc past the last one.
 abbrev no_arc : Arc

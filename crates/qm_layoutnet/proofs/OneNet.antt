@@ -2,15 +2,11 @@
 use Rattle.std.proofs.Common.{◌≡◌, ◌⊎◌, ℕ, ◌<◌, Bool, true, false, length, Some, None, pos, refl, sym, ap, ◌∙◌, subst}
 use Rattle.std.proofs.Common.{inl, inr, arith}
 use Rattle.std.proofs.lemmas.List.{ext_get_or}
-use Rattle.def_flow.specs.Network.{Network, arc_at}
-use Rattle.def_flow.specs.declared.net.Settings.{Settings}
-use Rattle.def_layout.specs.declared.tmesh.SideArc.{SideArc}
-use Rattle.def_layout.specs.Layouts.{Layout, Slot, IsSlot, use_of}
-use Rattle.def_layout.specs.Lengths.{Lengths}
-use Rattle.def_layoutnet.specs.LayoutNet.{end_at, IsNetOf}
-use Rattle.def_layoutnet.specs.LayoutNetLaws.{OneNetLaw}
-use Rattle.qm_layoutnet.proofs.Hits.{use_of_arc}
-use Rattle.qm_layoutnet.proofs.Balance.{has_ends, HasEnds}
+use Rattle.def_flow.specs.{Network.Network, Network.arc_at, declared.net.Settings.Settings}
+use Rattle.def_layout.specs.{declared.tmesh.SideArc.SideArc, Layouts.Layout, Layouts.Slot, Layouts.IsSlot}
+use Rattle.def_layout.specs.{Layouts.use_of, Lengths.Lengths}
+use Rattle.def_layoutnet.specs.{LayoutNet.end_at, LayoutNet.IsNetOf, LayoutNetLaws.OneNetLaw}
+use Rattle.qm_layoutnet.proofs.{Hits.use_of_arc, Balance.has_ends, Balance.HasEnds}
 
 module _ (l : Layout) (old wish : Lengths) (set : Settings) (floor : Lengths) (net : Network)
     (is : IsNetOf l old wish set floor net) where

@@ -1,16 +1,13 @@
 -- Floors that rise: one by one from the last rise on, within their bounds, and higher than they were.
 use Rattle.std.proofs.Common.{◌≡◌, ℕ, suc, ◌+◌, ◌-◌, ◌<◌, ◌≤◌, cond, List, [], ◌∷◌, drop, length, set, refl, sym, ◌∙◌}
 use Rattle.std.proofs.Common.{ap, subst, inl, inr, arith}
-use Rattle.std.specs.Prelude.{◌==◌, None, true}
 use Rattle.std.proofs.lemmas.Bool.{cases_eq, cond-false, cond-true, eq-eqb, ne_eqb}
 use Rattle.std.proofs.lemmas.Grind.{get_or-set_at}
 use Rattle.std.proofs.lemmas.List.{drop_all, drop_more, get_or-set_other, length-set}
+use Rattle.std.specs.Prelude.{◌==◌, None, true}
 use Rattle.def_certtext.specs.declared.certs.Rise.{Rise}
-use Rattle.def_flow.specs.Network.{arc_at}
-use Rattle.def_flow.specs.declared.limits.TheConstants.{MAX_FLOOR}
-use Rattle.def_flow.specs.declared.net.Arc.{Arc}
-use Rattle.def_layout.specs.Layouts.{Layout}
-use Rattle.def_layout.specs.Lengths.{Lengths}
+use Rattle.def_flow.specs.{Network.arc_at, declared.limits.TheConstants.MAX_FLOOR, declared.net.Arc.Arc}
+use Rattle.def_layout.specs.{Layouts.Layout, Lengths.Lengths}
 use Rattle.def_math.specs.Counts.{count_below}
 use Rattle.def_remesh.specs.Rises.{rise_at, risen_floors, AreNeeded, IsNeeded}
 use Rattle.sum_laws.proofs.Counts.{count_below_lt}

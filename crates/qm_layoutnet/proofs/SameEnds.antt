@@ -1,13 +1,9 @@
 -- Two networks whose arcs have the same ends have the same sums at their nodes, and are equally tangled.
 use Rattle.std.proofs.Common.{◌≡◌, ℕ, ◌*◌, ◌<◌, ◌==◌, Bool, cond, List, length, ℤ, pos, sym, ap, ◌∙◌}
-use Rattle.def_math.specs.Counts.{count, count_below}
-use Rattle.def_math.specs.Sums.{total, total_below}
-use Rattle.sum_laws.proofs.Counts.{count_below_same}
-use Rattle.sum_laws.proofs.Sums.{total_below_same}
-use Rattle.def_flow.specs.Admissible.{is_on_side, side_sum}
-use Rattle.def_flow.specs.Network.{Network, arc_at, degree, ends, tangle_number}
-use Rattle.def_flow.specs.declared.net.Arc.{Arc}
-use Rattle.def_flow.specs.declared.net.End.{End}
+use Rattle.def_math.specs.{Counts.count, Counts.count_below, Sums.total, Sums.total_below}
+use Rattle.sum_laws.proofs.{Counts.count_below_same, Sums.total_below_same}
+use Rattle.def_flow.specs.{Admissible.is_on_side, Admissible.side_sum, Network.Network, Network.arc_at, Network.degree}
+use Rattle.def_flow.specs.{Network.ends, Network.tangle_number, declared.net.Arc.Arc, declared.net.End.End}
 use Rattle.qm_layoutnet.proofs.Built.{count_at}
 
 module _

@@ -2,14 +2,13 @@
 use Rattle.std.proofs.Common.{◌≡◌, ℕ, zero, suc, ◌+◌, ◌*◌, ◌^◌, ◌<◌, ◌≤◌, Bool, cond, ◌==◌, List, [], ◌∷◌, length}
 use Rattle.std.proofs.Common.{Option, Some, None, refl, ap, inl, inr, arith}
 use Rattle.std.proofs.Math.Nat.{mul-le-mul_right}
-use Rattle.std.specs.Prelude.{option_to_list}
 use Rattle.std.proofs.lemmas.Bool.{cases_eq, eq-eqb, ne_eqb}
+use Rattle.std.specs.Prelude.{option_to_list}
 use Rattle.def_math.specs.Counts.{count, count_below}
 use Rattle.sum_laws.proofs.Counts.{count_below_le, count_below_none, count_below_sum, count_below_times}
-use Rattle.def_flow.specs.Network.{degree, ends, tangle_number, Network}
-use Rattle.def_flow.specs.declared.net.Arc.{Arc}
-use Rattle.def_flow.specs.declared.net.End.{End}
 use Rattle.sum_laws.proofs.Tests.{once_at_most}
+use Rattle.def_flow.specs.{Network.degree, Network.ends, Network.tangle_number, Network.Network, declared.net.Arc.Arc}
+use Rattle.def_flow.specs.declared.net.End.{End}
 
 -- A term is at most the sum.
 pub term_low : (f : ℕ → ℕ) (n k : ℕ) → k < n → f k ≤ count_below f n

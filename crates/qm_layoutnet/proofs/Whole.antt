@@ -1,22 +1,15 @@
 -- What the layout of a mesh gives: its arcs have at most all darts, and its patches at most all faces.
 use Rattle.std.proofs.Common.{◌≡◌, ℕ, ◌-◌, ◌^◌, ◌<◌, ◌≤◌, [], length, get_or, refl, ap, arith}
 use Rattle.std.proofs.lemmas.List.{get_or-map, length-map}
-use Rattle.def_math.specs.Counts.{count_below}
-use Rattle.def_mesh.specs.Darts.{darts}
-use Rattle.def_mesh.specs.HalfEdges.{half_edges, IsQuadManifold}
-use Rattle.def_cut.specs.Cuts.{IsCut}
-use Rattle.def_cut.specs.FullCut.{is_on}
-use Rattle.def_cut.specs.Grids.{cell_of, patch_at, rectangle, IsSide}
+use Rattle.def_math.specs.{Counts.count_below, Runs.run_at}
+use Rattle.def_mesh.specs.{Darts.darts, HalfEdges.half_edges, HalfEdges.IsQuadManifold}
+use Rattle.def_cut.specs.{Cuts.IsCut, FullCut.is_on, Grids.cell_of, Grids.patch_at, Grids.rectangle, Grids.IsSide}
 use Rattle.std.specs.List.{All}
-use Rattle.def_layout.specs.Arcs.{dart_at, long_at, path, Path}
-use Rattle.def_layout.specs.declared.tmesh.TArc.{TArc}
-use Rattle.def_layout.specs.declared.tmesh.TMesh.{TMesh}
-use Rattle.def_layout.specs.Nodes.{is_node, AreNodes}
-use Rattle.def_layout.specs.Plans.{Plan, plan}
+use Rattle.def_layout.specs.{Arcs.dart_at, Arcs.long_at, Arcs.path, Arcs.Path, declared.tmesh.TArc.TArc}
+use Rattle.def_layout.specs.{declared.tmesh.TMesh.TMesh, Nodes.is_node, Nodes.AreNodes, Plans.Plan, Plans.plan}
 use Rattle.def_layoutnet.specs.MeshLayouts.{IsSomeLayout}
 use Rattle.qm_layoutnet.proofs.Tangles.{term_low}
 use Rattle.written_laws.proofs.Runs.{run_here, IsInRun}
-use Rattle.def_math.specs.Runs.{run_at}
 use Rattle.cut_laws.proofs.Pigeon.{no_more}
 use Rattle.mesh_laws.proofs.HalfEdges.{manifold_law}
 use Rattle.face_laws.proofs.FullCuts.{full_cut_law}

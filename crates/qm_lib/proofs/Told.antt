@@ -1,13 +1,8 @@
 -- A run over any streams, told by what contracts see of them; and so of a run over bytes in memory.
 use Rattle.std.proofs.Common.{◌≡◌, [], ℕ, Option, Some, subst, ap, inl, inr, refl}
-use Rattle.def_io.specs.Bytes.{Bytes, Lines}
-use Rattle.def_io.specs.Lines.{lines_of}
-use Rattle.def_io.specs.Memory.{Store}
-use Rattle.def_io.specs.Moves.{StreamState, stream}
+use Rattle.def_io.specs.{Bytes.Bytes, Bytes.Lines, Lines.lines_of, Memory.Store, Moves.StreamState, Moves.stream}
 use Rattle.def_lib.specs.Calls.{HasRunOver, from_to, in_memory}
-use Rattle.def_run.specs.Exits.{Ends, RunsTo}
-use Rattle.def_run.specs.Status.{status_of}
-use Rattle.def_run.specs.declared.answer.Answer.{Answer}
+use Rattle.def_run.specs.{Exits.Ends, Exits.RunsTo, Status.status_of, declared.answer.Answer.Answer}
 use Rattle.def_run.specs.declared.answer.Answer.TheVariants.{Memory}
 
 module _ {S O E : Type 0} (s : S → StreamState) (o : O → StreamState) (e : E → StreamState)

@@ -1,11 +1,9 @@
 -- The cells of a patch, and the lines of all patches.
 use Rattle.std.proofs.Common.{◌≡◌, ℕ, ◌*◌, ◌/◌, ◌%◌, ◌<◌, List, Option, length, map, subst, arith}
-use Rattle.std.specs.List.{flat_map, range_with_len}
 use Rattle.std.proofs.Math.Nat.{mul_comm}
-use Rattle.def_layout.specs.Lengths.{Lengths}
-use Rattle.def_layout.specs.Plans.{Plan, layout_of}
-use Rattle.def_map.specs.Homes.{dart_home}
-use Rattle.def_map.specs.MapText.{cell_line, cell_lines}
+use Rattle.std.specs.List.{flat_map, range_with_len}
+use Rattle.def_layout.specs.{Lengths.Lengths, Plans.Plan, Plans.layout_of}
+use Rattle.def_map.specs.{Homes.dart_home, MapText.cell_line, MapText.cell_lines}
 use Rattle.map_laws.proofs.Cells.{by_patches}
 use Rattle.qm_map.specs.PatchLines.{patch_lines}
 use Rattle.written_laws.proofs.EdgeNumbers.{in_rows}

@@ -1,23 +1,18 @@
 -- Wishes line by line: what is known after some lines of a text.
 use Rattle.std.proofs.Common.{◌≡◌, ℕ, ◌+◌, ◌-◌, ◌<◌, ◌≤◌, Bool, true, false, cond, List, [], ◌∷◌, ◌++◌, codes, length}
 use Rattle.std.proofs.Common.{map, take, drop, get_or, Ok, Err, refl, sym, ap, subst, ◌∙◌, arith, length-take}
-use Rattle.std.specs.Prelude.{slice_range}
-use Rattle.std.specs.List.{All, range_with_len}
-use Rattle.std.specs.Str.{bytes_eq}
 use Rattle.std.proofs.lemmas.Bool.{false_from_ne_true, true≢false}
 use Rattle.std.proofs.lemmas.List.{at_drop_more, drop_all, get_or-take, get_or_default, length-map, same_lists}
 use Rattle.std.proofs.lemmas.List.FromFn.{get_or-map-range_with_len, length-range_with_len}
 use Rattle.std.proofs.lemmas.Slice.Eq.{bytes_eq-Decides}
+use Rattle.std.specs.{Prelude.slice_range, List.All, List.range_with_len, Str.bytes_eq}
 use Rattle.def_fit.specs.WishLines.{all_wish_fails, all_wished, edge_wishes, first_or_wishes, is_wish_line, said_fails}
 use Rattle.def_fit.specs.WishLines.{vertex_line_count, wish_fails, wish_or}
 use Rattle.def_fit.specs.WishLines.{wish_words, wished_by, wishes_of, wishes_said, Wished}
 use Rattle.def_fit.specs.declared.fit.TheConstants.{MAX_WISH}
-use Rattle.def_io.specs.Bytes.{Bytes, Lines}
-use Rattle.def_io.specs.Lines.{lines_of}
-use Rattle.def_marks.specs.Chains.{runs_between}
-use Rattle.def_marks.specs.declared.fail.MarkFail.{MarkFail}
-use Rattle.def_mesh.specs.Darts.{darts}
-use Rattle.def_mesh.specs.Faces.{Faces}
+use Rattle.def_io.specs.{Bytes.Bytes, Bytes.Lines, Lines.lines_of}
+use Rattle.def_marks.specs.{Chains.runs_between, declared.fail.MarkFail.MarkFail}
+use Rattle.def_mesh.specs.{Darts.darts, Faces.Faces}
 use Rattle.def_text.specs.FaceSet.{FaceSet}
 use Rattle.qm_marks.specs.Wishing.{pieces_of, TakesWish}
 

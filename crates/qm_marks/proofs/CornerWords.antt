@@ -1,13 +1,10 @@
 -- The corners of a line, word by word.
 use Rattle.std.proofs.Common.{◌≡◌, ℕ, suc, ◌+◌, Bool, true, false, cond, not, eqb, ◌&&◌, List, [], ◌∷◌, ◌++◌, length}
 use Rattle.std.proofs.Common.{take, drop, map, refl, sym, ap, ◌∙◌, arith, None, Some}
-use Rattle.std.specs.List.{after_first, list_all, position_or_len}
 use Rattle.std.proofs.lemmas.List.{append_assoc}
-use Rattle.def_text.specs.Corner.{is_optional, is_slash, used_index}
-use Rattle.def_text.specs.Digits.{is_signed}
-use Rattle.def_text.specs.Types.{Word}
-use Rattle.def_text.specs.Words.{words}
-use Rattle.def_text.specs.declared.index.Index.{Index}
+use Rattle.std.specs.List.{after_first, list_all, position_or_len}
+use Rattle.def_text.specs.{Corner.is_optional, Corner.is_slash, Corner.used_index, Digits.is_signed, Types.Word}
+use Rattle.def_text.specs.{Words.words, declared.index.Index.Index}
 use Rattle.def_marks.specs.Lines.{corner_index, is_line_corner}
 
 -- Some words of a line are read, and the rest is left.

@@ -2,21 +2,20 @@
 use Rattle.std.proofs.Common.{◌≡◌, ◌≢◌, ◌⊎◌, ℕ, ◌+◌, ◌<◌, ◌≤◌, Bool, true, false, eqb, ◌&&◌, ◌||◌, List, [], ◌∷◌}
 use Rattle.std.proofs.Common.{length, get_or, set, Some, None, is_some, sym, ap, ◌∙◌, refl, inl, inr, arith}
 use Rattle.std.proofs.Math.Bool.{and-true, or-false, or_comm}
-use Rattle.std.specs.List.{list_all, list_any, range_with_len}
 use Rattle.std.proofs.lemmas.Bool.{and_from, and_parts, cases_eq, eq-eqb, eqb-true, false≢true, false_from_ne_true}
 use Rattle.std.proofs.lemmas.Bool.{or_cases, or_left, or_right}
 use Rattle.std.proofs.lemmas.List.{get_or-set_other, get_or-set_same, length-set}
 use Rattle.std.proofs.lemmas.Option.{none-some}
+use Rattle.std.proofs.lemmas.List.Folds.{list_all-append, list_all_at, list_any-append}
+use Rattle.std.proofs.lemmas.List.FromFn.{get_or-range_with_len, length-range_with_len}
+use Rattle.std.specs.List.{list_all, list_any, range_with_len}
 use Rattle.def_cut.specs.FullCut.{is_on}
-use Rattle.def_mesh.specs.Faces.{Faces}
-use Rattle.def_mesh.specs.Darts.{IsTwin, darts, from_of, to_of, twin_of}
+use Rattle.def_mesh.specs.{Faces.Faces, Darts.IsTwin, Darts.darts, Darts.from_of, Darts.to_of, Darts.twin_of}
 use Rattle.def_mesh.specs.Manifold.{IsManifold}
 use Rattle.def_marks.specs.Chains.{is_edge, link_at, runs_between}
 use Rattle.qm_marks.specs.Keys.{IsNoneBetween}
 use Rattle.mesh_laws.proofs.Twins.{twin_found, twin_is}
 use Rattle.list_laws.proofs.Filters.{range_any, range_more}
-use Rattle.std.proofs.lemmas.List.Folds.{list_all-append, list_all_at, list_any-append}
-use Rattle.std.proofs.lemmas.List.FromFn.{get_or-range_with_len, length-range_with_len}
 
 module _ (faces : Faces) (m : IsManifold faces) where
   -- What runs between the ends of a dart is that dart or its twin.

@@ -1,19 +1,16 @@
 -- Darts in a table of keys by their ends.
 use Rattle.std.proofs.Common.{◌≡◌, ◌≢◌, ℕ, ◌+◌, ◌-◌, ◌*◌, ◌/◌, ◌%◌, ◌^◌, ◌<◌, ◌≤◌, Bool, true, false, List, [], ◌∷◌}
 use Rattle.std.proofs.Common.{◌++◌, cond, length, map, get_or, sym, subst, ap, ◌∙◌, arith}
-use Rattle.std.specs.Prelude.{filter}
-use Rattle.std.specs.List.{Contains, range_with_len}
-use Rattle.std.specs.List.Sorted.{IsNonDecreasing, IsPermutation}
 use Rattle.std.proofs.lemmas.List.{append-nil, get_or-map, length-map, map-append}
 use Rattle.std.proofs.lemmas.List.Elements.{at_from_Contains, Contains-get_or}
 use Rattle.std.proofs.lemmas.List.Sorted.{Contains-permutation, IsPermutation-sym}
 use Rattle.std.proofs.lemmas.Nat.{div-mul-add, mod-mul-add}
+use Rattle.std.specs.{Prelude.filter, List.Contains, List.range_with_len, List.Sorted.IsNonDecreasing}
+use Rattle.std.specs.List.Sorted.{IsPermutation}
 use Rattle.list_laws.proofs.Filters.{filter_range_more, kept_at, place_of}
-use Rattle.def_mesh.specs.Faces.{Faces}
-use Rattle.def_mesh.specs.Darts.{all_darts, darts, from_of, next_of, to_of}
+use Rattle.def_mesh.specs.{Faces.Faces, Darts.all_darts, Darts.darts, Darts.from_of, Darts.next_of, Darts.to_of}
 use Rattle.def_mesh.specs.Vertices.{vertex_count}
-use Rattle.mesh_laws.proofs.Darts.{next_of_low}
-use Rattle.mesh_laws.proofs.Vertices.{all_below}
+use Rattle.mesh_laws.proofs.{Darts.next_of_low, Vertices.all_below}
 use Rattle.qm_marks.specs.Keys.{AreEnds, IsBetween, IsLeastPlace, IsNoneBetween, dart_key, is_busy, key_of}
 
 -- The keys of the busy darts, in any order that rises, are a table of ends.

@@ -1,33 +1,24 @@
 -- Marks line by line: what is known after some lines of a text.
 use Rattle.std.proofs.Common.{◌≡◌, ℕ, ◌+◌, ◌<◌, ◌≤◌, Bool, true, false, cond, ◌&&◌, ◌||◌, List, [], ◌∷◌, ◌++◌, length}
 use Rattle.std.proofs.Common.{map, is_some, sym, subst, ap, ◌∙◌, refl, arith, Ok, Err}
-use Rattle.std.specs.Prelude.{slice_range}
-use Rattle.std.specs.List.{count_by, flat_map, list_any}
 use Rattle.std.proofs.lemmas.List.{get_or_default, length-map, same_lists}
 use Rattle.std.proofs.lemmas.List.FromFn.{length-range_with_len}
 use Rattle.std.proofs.lemmas.List.Sums.{sum_by-cons}
+use Rattle.std.specs.{Prelude.slice_range, List.count_by, List.flat_map, List.list_any}
 use Rattle.def_cut.specs.FullCut.{is_on}
 use Rattle.def_io.specs.Bytes.{Lines}
-use Rattle.def_mesh.specs.Faces.{Faces}
-use Rattle.def_mesh.specs.Darts.{all_darts, darts, twin_of}
-use Rattle.def_mesh.specs.Manifold.{IsManifold}
+use Rattle.def_mesh.specs.{Faces.Faces, Darts.all_darts, Darts.darts, Darts.twin_of, Manifold.IsManifold}
 use Rattle.def_feature.specs.Marks.{AreMarks}
-use Rattle.def_text.specs.FaceSet.{FaceSet}
-use Rattle.def_text.specs.Logical.{Logical, logical_lines}
-use Rattle.def_text.specs.Reading.{is_vertex_line}
+use Rattle.def_text.specs.{FaceSet.FaceSet, Logical.Logical, Logical.logical_lines, Reading.is_vertex_line}
 use Rattle.def_text.specs.declared.limits.TheConstants.{MAX_V_LINES}
-use Rattle.def_marks.specs.Chains.{is_along_chains, marks_along, runs_along}
-use Rattle.def_marks.specs.Lines.{first_fail, line_chain, line_fails, marks_of, Placed, placed_lines, text_lines}
-use Rattle.def_marks.specs.Lines.{vertex_lines_in}
-use Rattle.def_marks.specs.declared.fail.MarkFail.{MarkFail}
+use Rattle.def_marks.specs.{Chains.is_along_chains, Chains.marks_along, Chains.runs_along, Lines.first_fail}
+use Rattle.def_marks.specs.Lines.{line_chain, line_fails, marks_of, Placed, placed_lines}
+use Rattle.def_marks.specs.{Lines.text_lines, Lines.vertex_lines_in, declared.fail.MarkFail.MarkFail}
 use Rattle.qm_marks.proofs.AlongChains.{mark_along, marks_are}
-use Rattle.qm_obj.specs.Ahead.{span}
-use Rattle.qm_obj.specs.Lines.{first_logical}
 use Rattle.qm_marks.proofs.Ranges.{next_lines, range_none, span_within}
-use Rattle.qm_marks.specs.Keys.{AreEnds}
-use Rattle.qm_marks.specs.declared.ends.TheConstants.{FEW}
-use Rattle.qm_marks.specs.Reading.{IsBegun, IsReading, line_at, placed_at, TookLine}
-use Rattle.qm_marks.specs.declared.lines.MarkReader.{MarkReader}
+use Rattle.qm_obj.specs.{Ahead.span, Lines.first_logical}
+use Rattle.qm_marks.specs.{Keys.AreEnds, declared.ends.TheConstants.FEW, Reading.IsBegun, Reading.IsReading}
+use Rattle.qm_marks.specs.{Reading.line_at, Reading.placed_at, Reading.TookLine, declared.lines.MarkReader.MarkReader}
 
 -- Whether dart d runs along the chain of some line.
 abbrev pub is_said : (soup : FaceSet) (placed : List Placed) (d : ℕ) → Bool

@@ -1,10 +1,9 @@
 -- The places of numbers in a list that rises.
 use Rattle.std.proofs.Common.{◌≡◌, ◌≢◌, ℕ, zero, suc, ◌+◌, ◌-◌, ◌<◌, ◌≤◌, eqb, List, length, get_or, subst, ap, inl}
 use Rattle.std.proofs.Common.{inr, arith}
-use Rattle.std.specs.List.{position_or_len}
-use Rattle.std.specs.List.Sorted.{IsStrictlyIncreasing}
 use Rattle.std.proofs.lemmas.Bool.{cases_eq, eq-eqb, ne_eqb}
 use Rattle.std.proofs.lemmas.List.Sums.{position_or_len_is}
+use Rattle.std.specs.{List.position_or_len, List.Sorted.IsStrictlyIncreasing}
 
 module _ (xs : List ℕ) (up : IsStrictlyIncreasing xs) where
   far : (i n : ℕ) → i + suc n < length xs → get_or xs i 0 < get_or xs (i + suc n) 0

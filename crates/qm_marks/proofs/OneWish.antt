@@ -2,24 +2,21 @@
 use Rattle.std.proofs.Common.{◌≡◌, ◌≢◌, ◌⊎◌, ℕ, ◌-◌, ◌^◌, ◌<◌, ◌≤◌, Bool, true, false, ◌||◌, cond, List}
 use Rattle.std.proofs.Common.{[], ◌∷◌, length, get_or, set, Option, Some, None, refl, sym, ap, subst, ◌∙◌, inl}
 use Rattle.std.proofs.Common.{inr, arith}
-use Rattle.std.specs.Prelude.{min, nat_lt}
 use Rattle.std.proofs.lemmas.Bool.{and_from, cases_eq, cases_lt, eq-eqb, false_from_ne_true, le-ltb, lt-ltb}
 use Rattle.std.proofs.lemmas.Bool.{or_left, or_right, true≢false}
 use Rattle.std.proofs.lemmas.List.{get_or-set_other, get_or-set_same, length-set}
 use Rattle.std.proofs.lemmas.Option.{none-some}
+use Rattle.std.specs.Prelude.{min, nat_lt}
 use Rattle.def_fit.specs.WishLines.{is_out_of_range, said_fails, vertex_named, wish_or, wished_by, wishes_said, Wished}
 use Rattle.def_fit.specs.declared.fit.TheConstants.{MAX_WISH}
 use Rattle.def_marks.specs.Chains.{is_edge, runs_between}
 use Rattle.def_marks.specs.declared.fail.MarkFail.TheVariants.{Range, NotEdge}
-use Rattle.def_mesh.specs.Faces.{Faces}
-use Rattle.def_mesh.specs.Darts.{IsTwin, darts, from_of, to_of, twin_of}
+use Rattle.def_mesh.specs.{Faces.Faces, Darts.IsTwin, Darts.darts, Darts.from_of, Darts.to_of, Darts.twin_of}
 use Rattle.def_mesh.specs.Manifold.{IsManifold}
-use Rattle.def_text.specs.FaceSet.{FaceSet}
-use Rattle.def_text.specs.Types.{Words}
+use Rattle.def_text.specs.{FaceSet.FaceSet, Types.Words}
 use Rattle.mesh_laws.proofs.Twins.{twin_found, twin_is}
 use Rattle.qm_marks.proofs.EdgeMarks.{on_edge}
-use Rattle.qm_marks.specs.Wishing.{IsSaid, TakesWish}
-use Rattle.qm_marks.specs.declared.said.Said.{Said}
+use Rattle.qm_marks.specs.{Wishing.IsSaid, Wishing.TakesWish, declared.said.Said.Said}
 
 -- A number that is cut off at a bound is above what is far below the bound where the number is.
 clamped_lt : (a b : ℕ) → a < 2 ^ 64 - 1 → nat_lt a (min b (2 ^ 64 - 1)) ≡ nat_lt a b

@@ -2,19 +2,16 @@
 use Rattle.std.proofs.Common.{◌≡◌, ℕ, ◌+◌, ◌-◌, ◌^◌, ◌<◌, ◌≤◌, Bool, true, false, eqb, ◌&&◌, ◌||◌, not, cond, [], ◌∷◌}
 use Rattle.std.proofs.Common.{length, take, drop, get_or, Option, Some, None, is_some, MatchOption, refl, sym, ap, ◌∙◌}
 use Rattle.std.proofs.Common.{arith, length-drop}
-use Rattle.std.specs.Prelude.{min}
-use Rattle.std.specs.List.{All, position_or_len}
 use Rattle.std.proofs.lemmas.List.{drop-drop, take_all}
 use Rattle.std.proofs.lemmas.List.Splits.{length-slice_split, slice_split_first, slice_split_none}
 use Rattle.std.proofs.lemmas.List.Sums.{fails_before_first}
 use Rattle.std.proofs.lemmas.Bool.{true≢false}
 use Rattle.std.proofs.lemmas.Option.{none-some, same_Some}
+use Rattle.std.specs.{Prelude.min, List.All, List.position_or_len}
 use Rattle.def_fit.specs.WishLines.{is_counting, is_whole, wished_by}
 use Rattle.def_io.specs.Bytes.{Bytes}
-use Rattle.def_text.specs.Digits.{number_written}
-use Rattle.def_text.specs.Types.{Word, Words}
-use Rattle.qm_marks.specs.Wishing.{pieces_of, IsSaid}
-use Rattle.qm_marks.specs.declared.said.Said.{Said}
+use Rattle.def_text.specs.{Digits.number_written, Types.Word, Types.Words}
+use Rattle.qm_marks.specs.{Wishing.pieces_of, Wishing.IsSaid, declared.said.Said.Said}
 
 module _ (text front behind : Bytes) (i : ℕ) (at : i ≡ position_or_len (λ b. eqb b 32) text) (before : front
     ≡ take i text) (back : behind ≡ drop i text) where

@@ -1,15 +1,12 @@
 -- The logical line with which a range of physical lines begins.
 use Rattle.std.proofs.Common.{◌≡◌, ℕ, suc, ◌+◌, ◌-◌, ◌<◌, ◌≤◌, false, List, [], ◌∷◌, length, drop, get_or, refl, sym}
 use Rattle.std.proofs.Common.{ap, ◌∙◌, arith}
-use Rattle.std.specs.Prelude.{slice_range}
-use Rattle.std.specs.List.{before_first}
 use Rattle.std.proofs.lemmas.List.{drop_more}
+use Rattle.std.specs.{Prelude.slice_range, List.before_first}
 use Rattle.def_io.specs.Bytes.{Lines}
 use Rattle.def_text.specs.Logical.{continues, is_hash, logical_lines}
-use Rattle.qm_obj.specs.Ahead.{span, text_ahead}
-use Rattle.qm_obj.specs.Lines.{first_logical}
-use Rattle.qm_obj.proofs.Groups.{logical_step}
-use Rattle.qm_obj.proofs.ListLemmas.{length-range, range_drop}
+use Rattle.qm_obj.specs.{Ahead.span, Ahead.text_ahead, Lines.first_logical}
+use Rattle.qm_obj.proofs.{Groups.logical_step, ListLemmas.length-range, ListLemmas.range_drop}
 
 -- A range by its first line.
 range_cons : (xs : Lines) (i b : ℕ) → i < b → b ≤ length xs → slice_range xs i b

@@ -1,27 +1,21 @@
 -- The vertices along an arc, and the line that names them.
 use Rattle.std.proofs.Common.{◌≡◌, ℕ, zero, suc, ◌+◌, ◌-◌, ◌<◌, ◌≤◌, ◌^◌, Bool, true, false, cond, eqb, List, [], ◌∷◌}
 use Rattle.std.proofs.Common.{◌++◌, length, map, get_or, refl, sym, ap, ◌∙◌, arith}
-use Rattle.std.specs.Prelude.{decimal, slice_index}
-use Rattle.std.specs.List.{flat_map, range_with_len}
 use Rattle.std.proofs.lemmas.Bool.{cond-false, cond-true, eq-eqb, ne_eqb}
 use Rattle.std.proofs.lemmas.List.{append_assoc, append-nil, get_or-map, length-map, map-append, same_lists}
 use Rattle.std.proofs.lemmas.List.Concat.{flat_map-append}
 use Rattle.std.proofs.lemmas.List.FromFn.{get_or-map-range_with_len, length-range_with_len}
+use Rattle.std.specs.{Prelude.decimal, Prelude.slice_index, List.flat_map, List.range_with_len}
 use Rattle.list_laws.proofs.Filters.{range_more}
 use Rattle.def_math.specs.Counts.{count_below}
 use Rattle.def_cut.specs.FullCut.{is_on}
-use Rattle.def_layout.specs.Arcs.{Path, path, path_at}
-use Rattle.def_layout.specs.Layouts.{Layout}
-use Rattle.def_layout.specs.Lengths.{Lengths}
-use Rattle.def_layout.specs.Plans.{layout_of, Plan, plan}
-use Rattle.def_layout.specs.declared.tmesh.TArc.{TArc}
-use Rattle.def_layout.specs.declared.tmesh.TMesh.{TMesh}
+use Rattle.def_layout.specs.{Arcs.Path, Arcs.path, Arcs.path_at, Layouts.Layout, Lengths.Lengths, Plans.layout_of}
+use Rattle.def_layout.specs.{Plans.Plan, Plans.plan, declared.tmesh.TArc.TArc, declared.tmesh.TMesh.TMesh}
 use Rattle.def_remesh.specs.NewPoints.{lengths_in}
-use Rattle.def_io.specs.Bytes.{Bytes}
-use Rattle.def_io.specs.declared.TheConstants.{LINE_FEED}
+use Rattle.def_io.specs.{Bytes.Bytes, declared.TheConstants.LINE_FEED}
 use Rattle.def_marks.specs.declared.fail.TheConstants.{LINE}
-use Rattle.def_text.specs.declared.letters.TheConstants.{SPACE}
 use Rattle.def_marks.specs.MarkedText.{arc_chain, arc_text, chain_text}
+use Rattle.def_text.specs.declared.letters.TheConstants.{SPACE}
 use Rattle.def_written.specs.Numbers.{before_arc, vertex_number, vertices}
 use Rattle.def_written.specs.Points.{along, arc_point, node}
 use Rattle.qm_marktext.specs.Chains.{chain_from}

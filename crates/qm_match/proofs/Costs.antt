@@ -1,9 +1,8 @@
 -- The cost of a matching, one edge at a time.
 use Rattle.std.proofs.Common.{◌≡◌, ℕ, ◌+◌, ◌-◌, ◌<◌, ◌≤◌, List, [], ◌∷◌, length, take, ◌+ℤ◌, refl, arith}
-use Rattle.std.specs.Prelude.{slice_index}
 use Rattle.std.proofs.lemmas.Int.{ints}
-use Rattle.def_math.specs.Increasing.{IsIncreasing}
-use Rattle.def_math.specs.Sums.{total}
+use Rattle.std.specs.Prelude.{slice_index}
+use Rattle.def_math.specs.{Increasing.IsIncreasing, Sums.total}
 use Rattle.qm_dual.proofs.Entries.{total_take}
 use Rattle.def_matching.specs.Matching.{WeightedGraph, edge_at, matching_cost}
 

@@ -2,8 +2,7 @@
 use Rattle.std.proofs.Common.{◌≡◌, ℕ, ◌+◌, ◌<◌, ◌≤◌, List, [], ◌∷◌, ◌++◌, map, length, get_or, take, sym, ◌∙◌, ap}
 use Rattle.std.proofs.Common.{subst, arith}
 use Rattle.std.proofs.lemmas.List.{map-append, take_more}
-use Rattle.def_math.specs.Counts.{count}
-use Rattle.def_math.specs.Increasing.{IsIncreasing}
+use Rattle.def_math.specs.{Counts.count, Increasing.IsIncreasing}
 use Rattle.sum_laws.proofs.Counts.{count_append}
 use Rattle.def_matching.specs.Matching.{WeightedGraph, edge_at, ends_at}
 use Rattle.qm_forest.proofs.Chosens.{increasing_more}

@@ -5,13 +5,10 @@ use Rattle.std.proofs.Math.ListN.{set}
 use Rattle.std.proofs.lemmas.Bool.{cases_eq, eqb-true}
 use Rattle.std.proofs.lemmas.List.{length-set, get_or-set_same, get_or-set_other}
 use Rattle.def_matching.specs.Matching.{WeightedGraph, edge_at}
-use Rattle.def_forest.specs.Darts.{darts_of}
-use Rattle.def_forest.specs.Forests.{Forest}
+use Rattle.def_forest.specs.{Darts.darts_of, Forests.Forest}
 use Rattle.forest_laws.proofs.Graphs.{dart_near, near_odd}
 use Rattle.search_laws.specs.Keys.{true_key, AreRightAt, IsMended}
-use Rattle.qm_match.specs.Fans.{AreFans, IsOn}
-use Rattle.qm_match.specs.States.{IsMade}
-use Rattle.qm_match.specs.declared.search.Search.{Search}
+use Rattle.qm_match.specs.{Fans.AreFans, Fans.IsOn, States.IsMade, declared.search.Search.Search}
 use Rattle.qm_match.proofs.Chains.{on_none, on_rest}
 
 module _ (g : WeightedGraph) (f : Forest) (risen : ℕ) where

@@ -1,24 +1,20 @@
 -- What a match begins with, and what has come of it.
-use Rattle.std.proofs.Common.{◌≡◌, ℕ, zero, suc, ◌+◌, ◌*◌, ◌/◌, ◌<◌, ◌≤◌, ◌^◌, List, [], ◌∷◌, length, get_or, None, ℤ}
+use Rattle.std.proofs.Common.{◌≡◌, ℕ, zero, suc, ◌+◌, ◌*◌, ◌/◌, ◌<◌}
+use Rattle.std.proofs.Common.{◌≤◌, ◌^◌, List, [], ◌∷◌, length, get_or}
+use Rattle.std.proofs.{Common.None, Common.ℤ, lemmas.Int.ints, lemmas.Bool.cases_lt, lemmas.List.get_or_past}
 use Rattle.std.proofs.Common.{pos, ◌+ℤ◌, ◌*ℤ◌, ◌≤ℤ◌, ◌⊎◌, sym, ◌∙◌, ap, subst, inl, inr, arith}
 use Rattle.std.specs.Int.RustNames.{unsigned_abs}
-use Rattle.std.proofs.lemmas.Int.{ints}
-use Rattle.std.proofs.lemmas.Bool.{cases_lt}
-use Rattle.std.proofs.lemmas.List.{get_or_past}
 use Rattle.def_math.specs.Increasing.{IsIncreasing}
-use Rattle.def_matching.specs.Matching.{WeightedGraph, IsCheap, IsGraph, IsSmallGraph, edge_at}
-use Rattle.def_matching.specs.Dual.{AreSmall, DualLists, IsSmallDual, SaysYes, dual_sum, verdict}
-use Rattle.def_matching.specs.declared.limits.TheConstants.{MAX_PRODUCT}
-use Rattle.def_matching.specs.declared.weighted.WEdge.{WEdge}
-use Rattle.def_matching.specs.declared.weighted.Verdict.TheVariants.{Yes}
-use Rattle.def_forest.specs.Tables.{ForestTables, forest_of, IsValidFor}
-use Rattle.def_forest.specs.Written.{IsDualOf}
-use Rattle.def_forest.specs.Made.{AreAtMost, AreCostsBelow, AreFirst, IsMadeFor, MAX_FIRST}
+use Rattle.def_matching.specs.Matching.{WeightedGraph, IsCheap, IsGraph, IsSmallGraph}
+use Rattle.def_matching.specs.{Matching.edge_at, Dual.AreSmall, Dual.DualLists, Dual.IsSmallDual, Dual.SaysYes}
+use Rattle.def_matching.specs.{Dual.dual_sum, Dual.verdict, declared.limits.TheConstants.MAX_PRODUCT}
+use Rattle.def_matching.specs.{declared.weighted.WEdge.WEdge, declared.weighted.Verdict.TheVariants.Yes}
+use Rattle.def_forest.specs.{Tables.ForestTables, Tables.forest_of, Tables.IsValidFor, Written.IsDualOf, Made.AreAtMost}
+use Rattle.def_forest.specs.Made.{AreCostsBelow, AreFirst, IsMadeFor, MAX_FIRST}
 use Rattle.qm_dual.proofs.Verdicts.{says_yes}
 use Rattle.qm_initial.specs.declared.initial.TheConstants.{MAX_WISH}
 use Rattle.search_laws.proofs.Risen.{greatest, small_weights, weights_most}
-use Rattle.qm_match.specs.States.{HasPerfect, IsIdle, IsReady}
-use Rattle.qm_match.specs.Weights.{HaveRoom, HasRoom}
+use Rattle.qm_match.specs.{States.HasPerfect, States.IsIdle, States.IsReady, Weights.HaveRoom, Weights.HasRoom}
 use Rattle.qm_match.specs.declared.search.Search.{Search}
 
 -- The numbers of an increasing list are below its bound.

@@ -1,18 +1,15 @@
 -- What raising the number of one vertex does.
-use Rattle.std.proofs.Common.{◌≡◌, ◌≢◌, ℕ, suc, ◌+◌, ◌-◌, ◌*◌, ◌/◌, ◌<◌, ◌≤◌, ◌^◌, List, length, get_or, ℤ, pos, ◌+ℤ◌}
-use Rattle.std.proofs.Common.{◌-ℤ◌, ◌*ℤ◌, ◌≤ℤ◌, ◌⊎◌, refl, sym, ◌∙◌, ap, subst, inl, inr, arith}
-use Rattle.std.proofs.Math.ListN.{set}
-use Rattle.std.specs.Int.RustNames.{unsigned_abs}
-use Rattle.std.proofs.lemmas.Int.{ints}
-use Rattle.std.proofs.lemmas.Bool.{cases_eq}
+use Rattle.std.proofs.Common.{◌≡◌, ◌≢◌, ℕ, suc, ◌+◌, ◌-◌, ◌*◌, ◌/◌}
+use Rattle.std.proofs.Common.{◌<◌, ◌≤◌, ◌^◌, List, length, get_or, ℤ}
+use Rattle.std.proofs.{Common.pos, Common.◌+ℤ◌, Math.ListN.set, lemmas.Int.ints, lemmas.Bool.cases_eq}
 use Rattle.std.proofs.lemmas.List.{length-set, get_or-set_same, get_or-set_other}
+use Rattle.std.proofs.Common.{◌-ℤ◌, ◌*ℤ◌, ◌≤ℤ◌, ◌⊎◌, refl, sym, ◌∙◌, ap, subst, inl, inr, arith}
+use Rattle.std.specs.Int.RustNames.{unsigned_abs}
 use Rattle.def_matching.specs.Matching.{WeightedGraph, IsGraph, edge_at}
-use Rattle.def_forest.specs.Darts.{darts_of, far}
-use Rattle.forest_laws.proofs.Graphs.{dart_near, dart_far, near_even, near_odd, twin_odd}
 use Rattle.def_matching.specs.declared.weighted.WEdge.{WEdge}
-use Rattle.def_forest.specs.Made.{AreCostsBelow}
-use Rattle.qm_match.specs.Fans.{AreFans, IsOn}
-use Rattle.qm_match.specs.Weights.{left_to, HaveRoom, IsRoom}
+use Rattle.def_forest.specs.{Darts.darts_of, Darts.far, Made.AreCostsBelow}
+use Rattle.forest_laws.proofs.Graphs.{dart_near, dart_far, near_even, near_odd, twin_odd}
+use Rattle.qm_match.specs.{Fans.AreFans, Fans.IsOn, Weights.left_to, Weights.HaveRoom, Weights.IsRoom}
 use Rattle.qm_match.proofs.Chains.{on_none, on_rest}
 
 -- A dart of a chain is passed, and what its edge leaves taken.

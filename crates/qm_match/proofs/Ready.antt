@@ -1,25 +1,20 @@
 -- Searches that are about to begin, and edges that are matched before.
 use Rattle.std.proofs.Common.{◌≡◌, ℕ, zero, suc, ◌⊎◌, inl, inr, ◌≤◌, ◌+◌, ◌*◌, ◌/◌, ◌<◌, ◌≤◌, List, length, get_or}
 use Rattle.std.proofs.Common.{Option, Some, None, Bool, false, ℤ, pos, refl, sym, ◌∙◌, ap, subst, arith}
-use Rattle.std.specs.Prelude.{int_lt, unsigned_abs}
 use Rattle.std.proofs.lemmas.Int.{ints}
 use Rattle.std.proofs.lemmas.Bool.{cases_lt, cond-false}
+use Rattle.std.specs.Prelude.{int_lt, unsigned_abs}
 use Rattle.def_matching.specs.Matching.{WeightedGraph, IsCheap, IsSmallGraph, edge_at}
-use Rattle.def_forest.specs.Darts.{darts_of}
-use Rattle.def_forest.specs.Forests.{Forest}
-use Rattle.def_forest.specs.Made.{IsMadeFor}
-use Rattle.def_forest.specs.Steps.{rooted, IsAugmented}
-use Rattle.def_forest.specs.Tables.{ForestTables, forest_of, kind_by, edge_kind, slack_of, IsValidFor}
-use Rattle.def_forest.specs.Valid.{IsValid}
-use Rattle.def_forest.specs.declared.kinds.EdgeKind.TheVariants.{Augment, Loose}
-use Rattle.def_forest.specs.declared.kinds.Label.{Label}
-use Rattle.def_forest.specs.declared.kinds.Label.TheVariants.{Outer, Inner, Outside}
+use Rattle.def_forest.specs.{Darts.darts_of, Forests.Forest, Made.IsMadeFor, Steps.rooted, Steps.IsAugmented}
+use Rattle.def_forest.specs.Tables.{ForestTables, forest_of, kind_by, edge_kind, slack_of}
+use Rattle.def_forest.specs.{Tables.IsValidFor, Valid.IsValid, declared.kinds.EdgeKind.TheVariants.Augment}
+use Rattle.def_forest.specs.{declared.kinds.EdgeKind.TheVariants.Loose, declared.kinds.Label.Label}
+use Rattle.def_forest.specs.declared.kinds.Label.TheVariants.{Outer, Inner}
+use Rattle.def_forest.specs.declared.kinds.Label.TheVariants.{Outside}
 use Rattle.forest_laws.proofs.Writes.{set_here, set_there}
 use Rattle.search_laws.specs.Searches.{IsInRange, first_limit}
-use Rattle.search_laws.proofs.Risen.{range_begun}
-use Rattle.search_laws.proofs.Stepped.{range_same}
-use Rattle.qm_match.specs.Fans.{AreFans, IsOn}
-use Rattle.qm_match.specs.States.{IsFreeEdge, IsIdle, IsReady}
+use Rattle.search_laws.proofs.{Risen.range_begun, Stepped.range_same}
+use Rattle.qm_match.specs.{Fans.AreFans, Fans.IsOn, States.IsFreeEdge, States.IsIdle, States.IsReady}
 use Rattle.qm_match.specs.declared.search.Search.{Search}
 use Rattle.qm_match.proofs.Taken.{made_after}
 

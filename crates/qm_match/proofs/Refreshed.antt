@@ -4,12 +4,9 @@ use Rattle.std.specs.Vec.{vec_capacity}
 use Rattle.def_matching.specs.Matching.{WeightedGraph}
 use Rattle.def_forest.specs.Tables.{ForestTables, forest_of, IsValidFor}
 use Rattle.def_forest.specs.declared.kinds.Label.TheVariants.{Inner}
-use Rattle.search_laws.specs.Keys.{leaf_of, true_key, AreRightAt, IsMended}
-use Rattle.qm_match.specs.Fans.{AreFans}
-use Rattle.search_laws.specs.Searches.{first_limit}
-use Rattle.qm_match.specs.States.{IsMade, IsRefreshed, IsFreshAt, MayRefresh}
-use Rattle.qm_match.specs.declared.fans.Fans.{Fans}
-use Rattle.qm_match.specs.declared.search.Search.{Search}
+use Rattle.search_laws.specs.{Keys.leaf_of, Keys.true_key, Keys.AreRightAt, Keys.IsMended, Searches.first_limit}
+use Rattle.qm_match.specs.{Fans.AreFans, States.IsMade, States.IsRefreshed, States.IsFreshAt, States.MayRefresh}
+use Rattle.qm_match.specs.{declared.fans.Fans.Fans, declared.search.Search.Search}
 use Rattle.qm_match.proofs.Mended.{mended_on, stay_right, stays_right}
 
 -- Room stays where all tables are as long as they were.

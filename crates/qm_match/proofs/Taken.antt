@@ -1,27 +1,23 @@
 -- A step that is taken, and the keys that are mended after it.
 use Rattle.std.proofs.Common.{◌≡◌, ◌≢◌, ℕ, zero, suc, ◌*◌, ◌%◌, ◌<◌, ◌≤◌, Bool, true, false, cond, List, length, get_or}
 use Rattle.std.proofs.Common.{Option, Some, None, ◌⊎◌, refl, sym, ◌∙◌, ap, subst, inl, inr, arith}
-use Rattle.std.specs.Vec.{vec_capacity}
 use Rattle.std.proofs.Math.ListN.{set}
 use Rattle.std.proofs.lemmas.Bool.{cases_eq, cases_lt}
 use Rattle.std.proofs.lemmas.List.{length-set, get_or-set_other}
+use Rattle.std.specs.Vec.{vec_capacity}
 use Rattle.def_matching.specs.Matching.{WeightedGraph, IsGraph, IsSmallGraph, edge_at}
-use Rattle.def_forest.specs.Darts.{darts_of, far}
-use Rattle.def_forest.specs.Forests.{Forest, IsOutermost, set_at, walk, bool_number, ring_sum, blossom_size}
+use Rattle.def_forest.specs.{Darts.darts_of, Darts.far, Forests.Forest, Forests.IsOutermost, Forests.set_at}
+use Rattle.def_forest.specs.Forests.{walk, bool_number, ring_sum, blossom_size}
+use Rattle.def_forest.specs.{Opened.IsExpanding, Shrunk.IsShrinking, Steps.grown, Steps.rooted, Steps.IsAugmented}
+use Rattle.def_forest.specs.Tables.{ForestTables, forest_of, edge_kind, outer_dart}
+use Rattle.def_forest.specs.{Tables.IsValidFor, Ways.Reaches, declared.kinds.EdgeKind.TheVariants.Grow, Valid.IsMate}
+use Rattle.def_forest.specs.{Valid.IsRing, Valid.IsTree, Valid.IsValid, declared.kinds.Label.TheVariants.Outer}
+use Rattle.def_forest.specs.declared.kinds.Label.TheVariants.{Inner, Outside}
 use Rattle.def_math.specs.Counts.{count_below}
 use Rattle.sum_laws.proofs.Counts.{count_below_le, count_below_ones, count_below_same}
-use Rattle.def_forest.specs.Opened.{IsExpanding}
-use Rattle.def_forest.specs.Shrunk.{IsShrinking}
-use Rattle.def_forest.specs.Steps.{grown, rooted, IsAugmented}
-use Rattle.def_forest.specs.Tables.{ForestTables, forest_of, edge_kind, outer_dart, IsValidFor}
-use Rattle.def_forest.specs.Ways.{Reaches}
-use Rattle.def_forest.specs.declared.kinds.EdgeKind.TheVariants.{Grow}
-use Rattle.def_forest.specs.Valid.{IsMate, IsRing, IsTree, IsValid}
-use Rattle.def_forest.specs.declared.kinds.Label.TheVariants.{Outer, Inner, Outside}
-use Rattle.forest_laws.proofs.Graphs.{are_darts, dart_near}
-use Rattle.forest_laws.proofs.Odds.{IsBlossom, counts_exchanged, odd_blossom, part_used}
-use Rattle.forest_laws.proofs.Facts.{far_low, tree_of}
-use Rattle.forest_laws.proofs.Writes.{set_here, set_there, inner_named, true_false}
+use Rattle.forest_laws.proofs.{Graphs.are_darts, Graphs.dart_near, Odds.IsBlossom, Odds.counts_exchanged}
+use Rattle.forest_laws.proofs.{Odds.odd_blossom, Odds.part_used, Facts.far_low, Facts.tree_of, Writes.set_here}
+use Rattle.forest_laws.proofs.Writes.{set_there, inner_named, true_false}
 use Rattle.search_laws.specs.Keys.{leaf_of, true_key, AreLow, AreRightAt, IsMended}
 use Rattle.search_laws.specs.Searches.{AreMarked, AreMatchedBefore, IsInRange, IsSeeking, steps_left}
 use Rattle.search_laws.proofs.Counted.{grown_fewer, shrunk_fewer, opened_fewer}

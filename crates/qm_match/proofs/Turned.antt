@@ -1,24 +1,17 @@
 -- A shift by the least key, and a turn of a search.
 use Rattle.std.proofs.Common.{◌≡◌, ◌≢◌, ℕ, ◌+◌, ◌-◌, ◌^◌, ◌<◌, ◌≤◌, List, length, get_or, Option, Some, pos, refl, sym}
 use Rattle.std.proofs.Common.{◌∙◌, ap, subst, inl, inr, arith}
+use Rattle.std.proofs.Math.ListN.{set}
 use Rattle.std.specs.Int.RustNames.{unsigned_abs}
 use Rattle.def_matching.specs.Matching.{WeightedGraph}
-use Rattle.def_forest.specs.Darts.{darts_of}
-use Rattle.def_forest.specs.Forests.{Forest}
-use Rattle.def_forest.specs.Steps.{shifted}
-use Rattle.def_forest.specs.Tables.{ForestTables, forest_of, IsValidFor}
-use Rattle.def_forest.specs.Valid.{IsFeasible, IsValid}
-use Rattle.std.proofs.Math.ListN.{set}
-use Rattle.def_forest.specs.declared.kinds.EdgeKind.{EdgeKind}
+use Rattle.def_forest.specs.{Darts.darts_of, Forests.Forest, Steps.shifted, Tables.ForestTables, Tables.forest_of}
+use Rattle.def_forest.specs.{Tables.IsValidFor, Valid.IsFeasible, Valid.IsValid, declared.kinds.EdgeKind.EdgeKind}
 use Rattle.def_forest.specs.declared.kinds.EdgeKind.TheVariants.{Loose, Idle}
 use Rattle.search_laws.specs.Keys.{true_key, IsMended}
-use Rattle.search_laws.proofs.Counted.{fewer_stale}
-use Rattle.search_laws.proofs.Stepped.{IsStep}
 use Rattle.search_laws.specs.Searches.{IsInRange, IsSeeking, risen_limit, turns_left}
-use Rattle.search_laws.proofs.Keys.{keys_same, lawful}
-use Rattle.search_laws.proofs.Risen.{key_soon, risen_low, range_shifted}
-use Rattle.qm_match.specs.States.{GoesOn, HasPerfect, IsUnderWay}
-use Rattle.qm_match.specs.declared.search.Search.{Search}
+use Rattle.search_laws.proofs.{Counted.fewer_stale, Stepped.IsStep, Keys.keys_same, Keys.lawful, Risen.key_soon}
+use Rattle.search_laws.proofs.Risen.{risen_low, range_shifted}
+use Rattle.qm_match.specs.{States.GoesOn, States.HasPerfect, States.IsUnderWay, declared.search.Search.Search}
 use Rattle.qm_match.proofs.Mended.{made_with, mended_one}
 
 module _ {g : WeightedGraph} {s : Search} (r : ℕ) (root : s.forest.root ≡ Some r) (way : IsUnderWay g s)

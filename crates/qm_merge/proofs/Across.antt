@@ -1,17 +1,14 @@
 -- What lies across the side of a corner, where that is the whole of a side too.
 use Rattle.std.proofs.Common.{◌≡◌, ◌↔◌, ℕ, suc, ◌-◌, Bool, true, false, not, Some, None, sym, ◌∙◌, ap, subst, arith}
 use Rattle.std.proofs.Common.{Option, refl, true≢false}
-use Rattle.std.specs.Prelude.{IfNone}
 use Rattle.std.proofs.lemmas.Bool.{false≢true}
 use Rattle.std.proofs.lemmas.Option.{same_Some}
+use Rattle.std.specs.Prelude.{IfNone}
 use Rattle.def_mesh.specs.HalfEdges.{HalfEdges, IsQuadManifold}
-use Rattle.def_cut.specs.Cuts.{Cut, IsCorner, IsCut}
-use Rattle.def_cut.specs.Steps.{easts}
+use Rattle.def_cut.specs.{Cuts.Cut, Cuts.IsCorner, Cuts.IsCut, Steps.easts}
 use Rattle.def_merge.specs.Joins.{AreGlued, IsWholeSide}
 use Rattle.merge_laws.proofs.Sides.{one_size}
-use Rattle.qm_merge.specs.Links.{AreLinks, IsRound, at}
-use Rattle.qm_merge.specs.Walks.{IsNextCorner}
-use Rattle.qm_merge.specs.declared.links.Links.{Links}
+use Rattle.qm_merge.specs.{Links.AreLinks, Links.IsRound, Links.at, Walks.IsNextCorner, declared.links.Links.Links}
 use Rattle.qm_merge.specs.declared.links.Round.{Round}
 use Rattle.qm_merge.proofs.Rounds.{closes, next_is_corner, one_before}
 

@@ -1,28 +1,19 @@
 -- What one arc less leaves joinable.
 use Rattle.std.proofs.Common.{◌≡◌, ◌≢◌, ◌⊎◌, ℕ, ◌+◌, ◌≤◌, Bool, true, List, length, sym, ◌∙◌, ap}
 use Rattle.std.proofs.Common.{inl, inr, true≢false, arith}
-use Rattle.std.specs.BTreeSet.{BTreeSet}
-use Rattle.std.specs.Prelude.{OnOk}
-use Rattle.std.specs.declared.result.Result.{Result}
+use Rattle.std.specs.{BTreeSet.BTreeSet, Prelude.OnOk, declared.result.Result.Result}
 use Rattle.std.specs.declared.result.Result.TheVariants.{Ok, Err}
-use Rattle.def_mesh.specs.Faces.{Faces}
-use Rattle.def_mesh.specs.HalfEdges.{half_edges}
+use Rattle.def_mesh.specs.{Faces.Faces, HalfEdges.half_edges}
 use Rattle.def_cut.specs.FullCut.{is_on}
-use Rattle.merge_laws.proofs.Sides.{StandsOn}
-use Rattle.merge_laws.proofs.ArcDarts.{on_cut, less, other_without, turned_arc}
-use Rattle.merge_laws.proofs.Joins.{join_law}
-use Rattle.merge_laws.proofs.Arcs.{name_there, grown_law}
+use Rattle.merge_laws.proofs.{Sides.StandsOn, ArcDarts.on_cut, ArcDarts.less, ArcDarts.other_without}
+use Rattle.merge_laws.proofs.{ArcDarts.turned_arc, Joins.join_law, Arcs.name_there, Arcs.grown_law}
 use Rattle.def_merge.specs.Joins.{IsJoinable, IsOnArc, IsNameOf, IsWithout}
 use Rattle.def_merge.specs.Merged.{IsStep, MayLeave}
 use Rattle.qm_grid.specs.Cutting.{IsCutting}
-use Rattle.qm_merge.specs.Links.{IsRound}
-use Rattle.qm_merge.specs.Seams.{IsSeam}
-use Rattle.qm_merge.specs.Waiting.{IsNoted, WaitStill, mark_count}
-use Rattle.qm_merge.specs.declared.links.Round.{Round}
-use Rattle.qm_merge.specs.declared.seams.Place.{Place}
+use Rattle.qm_merge.specs.{Links.IsRound, Seams.IsSeam, Waiting.IsNoted, Waiting.WaitStill, Waiting.mark_count}
+use Rattle.qm_merge.specs.{declared.links.Round.Round, declared.seams.Place.Place}
 use Rattle.feature_laws.proofs.Conforming.{mark_low}
-use Rattle.qm_merge.proofs.Names.{fewer_marks, noted_over}
-use Rattle.qm_merge.proofs.Rejoined.{near_over}
+use Rattle.qm_merge.proofs.{Names.fewer_marks, Names.noted_over, Rejoined.near_over}
 
 -- Two facts where a call went well.
 pub both_ok : {T E P Q R : Type 0} (r : Result T E) → (P → Q → R) → OnOk r P → OnOk r Q → OnOk r R

@@ -4,8 +4,7 @@ use Rattle.std.proofs.Common.{inl, inr, arith}
 use Rattle.std.proofs.lemmas.Bool.{cases_eq}
 use Rattle.std.proofs.lemmas.Option.{same_Some}
 use Rattle.def_mesh.specs.HalfEdges.{HalfEdges, IsQuadManifold}
-use Rattle.def_cut.specs.Cuts.{Cut, IsCut}
-use Rattle.def_cut.specs.Steps.{step_east, easts}
+use Rattle.def_cut.specs.{Cuts.Cut, Cuts.IsCut, Steps.step_east, Steps.easts}
 use Rattle.merge_laws.proofs.Sides.{side_low, side_link}
 use Rattle.def_merge.specs.Joins.{AreGlued, IsOnArc, IsWithout}
 

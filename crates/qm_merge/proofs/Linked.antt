@@ -5,15 +5,12 @@ use Rattle.std.proofs.Common.{arith}
 use Rattle.std.proofs.lemmas.Bool.{cases_eq, cases_lt}
 use Rattle.std.proofs.lemmas.List.{get_or_default, get_or-set_other, get_or-set_same, length-set}
 use Rattle.def_mesh.specs.HalfEdges.{HalfEdges, IsQuadManifold}
-use Rattle.def_cut.specs.Cuts.{Cut, IsCorner, IsCut}
-use Rattle.def_cut.specs.Steps.{easts}
+use Rattle.def_cut.specs.{Cuts.Cut, Cuts.IsCorner, Cuts.IsCut, Steps.easts}
 use Rattle.cut_laws.proofs.Rows.{endless}
 use Rattle.def_merge.specs.Joins.{IsJoinable, IsWholeSide, IsWithout}
 use Rattle.merge_laws.proofs.ArcDarts.{other_without, turned_arc}
 use Rattle.qm_merge.specs.Links.{AreLinks, AreSides, HasRoom, IsJoined, IsRound, at}
-use Rattle.qm_merge.specs.Walks.{IsNextCorner}
-use Rattle.qm_merge.specs.declared.links.Links.{Links}
-use Rattle.qm_merge.specs.declared.links.Round.{Round}
+use Rattle.qm_merge.specs.{Walks.IsNextCorner, declared.links.Links.Links, declared.links.Round.Round}
 use Rattle.qm_merge.proofs.Rejoined.{corner_was, fourths_differ, near_closes, near_corner, near_side, side_stays}
 use Rattle.qm_merge.proofs.Rounds.{next_is_corner, one_before}
 

@@ -3,22 +3,16 @@ use Rattle.std.proofs.Common.{◌≡◌, ◌≢◌, ◌⊎◌, ℕ, zero, suc, �
 use Rattle.std.proofs.Common.{[], ◌∷◌, length, set, sym, ◌∙◌, ap, subst, refl, inl, inr, true≢false, arith}
 use Rattle.std.proofs.lemmas.Bool.{cases_eq, ne_eqb, false≢true}
 use Rattle.std.proofs.lemmas.List.{get_or-set_other, get_or-set_same}
-use Rattle.std.specs.Ordering.{nat_cmp, is_eq}
-use Rattle.std.specs.declared.cmp.Ordering.TheVariants.{Less, Equal, Greater}
+use Rattle.std.specs.{Ordering.nat_cmp, Ordering.is_eq, declared.cmp.Ordering.TheVariants.Less}
+use Rattle.std.specs.declared.cmp.Ordering.TheVariants.{Equal, Greater}
+use Rattle.std.specs.{BTreeSet.BTreeSet, BTreeMap.is_at}
 use Rattle.std.specs.BTreeSet as sorted
-use Rattle.std.specs.BTreeSet.{BTreeSet}
-use Rattle.std.specs.BTreeMap.{is_at}
 use Rattle.def_mesh.specs.HalfEdges.{HalfEdges, IsQuadManifold}
-use Rattle.def_cut.specs.Cuts.{Cut, IsCut}
-use Rattle.def_cut.specs.FullCut.{is_on}
-use Rattle.def_cut.specs.Steps.{easts}
-use Rattle.merge_laws.proofs.Sides.{StandsOn, one_place}
-use Rattle.merge_laws.proofs.ArcDarts.{turned_arc}
-use Rattle.merge_laws.proofs.Arcs.{AreOneArc, one_arc, one_far, one_name, name_other}
+use Rattle.def_cut.specs.{Cuts.Cut, Cuts.IsCut, FullCut.is_on, Steps.easts}
+use Rattle.merge_laws.proofs.{Sides.StandsOn, Sides.one_place, ArcDarts.turned_arc, Arcs.AreOneArc, Arcs.one_arc}
+use Rattle.merge_laws.proofs.Arcs.{one_far, one_name, name_other}
 use Rattle.def_merge.specs.Joins.{IsWholeSide, IsJoinable, IsOnArc, IsNameOf, Leave}
-use Rattle.qm_merge.specs.Seams.{IsSeam}
-use Rattle.qm_merge.specs.Links.{at}
-use Rattle.qm_merge.specs.Waiting.{AreBelow, IsNoted, Waits, mark_count}
+use Rattle.qm_merge.specs.{Seams.IsSeam, Links.at, Waiting.AreBelow, Waiting.IsNoted, Waiting.Waits, Waiting.mark_count}
 use Rattle.qm_merge.specs.declared.seams.Seam.{Seam}
 
 -- Another number is not at a number's place.

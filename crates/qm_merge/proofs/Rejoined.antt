@@ -3,15 +3,12 @@ use Rattle.std.proofs.Common.{◌≡◌, ◌⊎◌, ℕ, zero, suc, ◌+◌, ◌
 use Rattle.std.proofs.Common.{inl, inr, true≢false, arith}
 use Rattle.std.proofs.lemmas.Bool.{cases_eq, cases_order}
 use Rattle.def_mesh.specs.HalfEdges.{HalfEdges, IsQuadManifold}
-use Rattle.def_cut.specs.Cuts.{Cut, IsCorner, IsCut}
-use Rattle.def_cut.specs.Steps.{or_zero, step_east, easts}
+use Rattle.def_cut.specs.{Cuts.Cut, Cuts.IsCorner, Cuts.IsCut, Steps.or_zero, Steps.step_east, Steps.easts}
 use Rattle.cut_laws.proofs.Classes.{linked_back, links_join}
 use Rattle.def_merge.specs.Joins.{AreInOne, IsJoinable, IsOnArc, IsWholeSide, IsWithout}
 use Rattle.merge_laws.proofs.ArcDarts.{less, opened, still}
 use Rattle.merge_laws.proofs.Sides.{StandsOn, first_place, one_size, side_low}
-use Rattle.qm_merge.specs.Walks.{IsNextCorner}
-use Rattle.qm_merge.specs.Links.{IsRound}
-use Rattle.qm_merge.specs.declared.links.Round.{Round}
+use Rattle.qm_merge.specs.{Walks.IsNextCorner, Links.IsRound, declared.links.Round.Round}
 use Rattle.qm_merge.proofs.Rounds.{around, closes, next_is_corner, one_next, opposite}
 
 module _ (mesh : HalfEdges) (laws : IsQuadManifold mesh) (cut rest : Cut) (full : IsCut mesh cut) (s t n : ℕ)

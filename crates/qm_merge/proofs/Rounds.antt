@@ -3,9 +3,7 @@ use Rattle.std.proofs.Common.{◌≡◌, ◌⊎◌, Bool, ◌||◌, eqb, ℕ, su
 use Rattle.std.proofs.Common.{inr, arith}
 use Rattle.std.proofs.lemmas.Bool.{false≢true, eq-eqb, eqb-true, or_cases, or_left, or_right}
 use Rattle.def_mesh.specs.HalfEdges.{HalfEdges, IsQuadManifold}
-use Rattle.def_cut.specs.Cuts.{Cut, IsCorner, IsCut}
-use Rattle.def_cut.specs.Grids.{IsGrid}
-use Rattle.def_cut.specs.Steps.{easts}
+use Rattle.def_cut.specs.{Cuts.Cut, Cuts.IsCorner, Cuts.IsCut, Grids.IsGrid, Steps.easts}
 use Rattle.cut_laws.specs.Grown.{grown}
 use Rattle.cut_laws.proofs.Classes.{In, linked_in, closed, first_in}
 use Rattle.merge_laws.proofs.ArcDarts.{never_south}

@@ -4,12 +4,10 @@ use Rattle.std.proofs.Common.{subst, refl, inl, inr, true≢false, arith}
 use Rattle.std.proofs.lemmas.Bool.{cases_eq, cases_lt}
 use Rattle.std.proofs.lemmas.Option.{same_Some}
 use Rattle.def_mesh.specs.HalfEdges.{HalfEdges, IsQuadManifold}
-use Rattle.def_cut.specs.Cuts.{Cut, IsCorner, IsCut}
-use Rattle.def_cut.specs.Steps.{step_east, easts}
+use Rattle.def_cut.specs.{Cuts.Cut, Cuts.IsCorner, Cuts.IsCut, Steps.step_east, Steps.easts}
 use Rattle.merge_laws.proofs.Sides.{easts_front, side_low, side_on}
 use Rattle.def_merge.specs.Joins.{IsWholeSide, AreGlued, IsOnArc, IsNameOf}
-use Rattle.qm_merge.specs.Walks.{LeadsOn}
-use Rattle.qm_merge.specs.Seams.{AreGluedSoFar, IsNameSoFar}
+use Rattle.qm_merge.specs.{Walks.LeadsOn, Seams.AreGluedSoFar, Seams.IsNameSoFar}
 
 -- The least of three.
 abbrev pub least_of_three : (a b c : ℕ) → ℕ

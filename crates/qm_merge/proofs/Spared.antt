@@ -1,17 +1,12 @@
 -- Whether an arc may leave, as the code tells it.
-use Rattle.std.proofs.Common.{◌≡◌, ℕ, ◌<◌, Bool, true, false, List, length, sym, ◌∙◌, ap}
-use Rattle.std.proofs.Common.{arith}
-use Rattle.std.proofs.lemmas.List.{length-map}
+use Rattle.std.proofs.Common.{◌≡◌, ℕ, ◌<◌, Bool, true, false, List}
+use Rattle.std.proofs.{Common.length, Common.sym, Common.◌∙◌, Common.ap, Common.arith, lemmas.List.length-map}
 use Rattle.std.proofs.lemmas.List.FromFn.{length-range_with_len, get_or-map-range_with_len}
-use Rattle.def_mesh.specs.Faces.{Faces}
-use Rattle.def_mesh.specs.Darts.{darts, from_of}
-use Rattle.def_mesh.specs.HalfEdges.{half_edges}
-use Rattle.def_mesh.specs.Vertices.{all_vertices, vertex_count}
-use Rattle.def_cut.specs.Cuts.{HasCross}
-use Rattle.def_cut.specs.FullCut.{is_on}
+use Rattle.def_mesh.specs.{Faces.Faces, Darts.darts, Darts.from_of, HalfEdges.half_edges, Vertices.all_vertices}
+use Rattle.def_mesh.specs.Vertices.{vertex_count}
+use Rattle.def_cut.specs.{Cuts.HasCross, FullCut.is_on}
 use Rattle.def_feature.specs.Marks.{is_break}
-use Rattle.def_merge.specs.Beside.{may_beside, IsEndFree, IsSpared}
-use Rattle.def_merge.specs.Joins.{IsJoinable}
+use Rattle.def_merge.specs.{Beside.may_beside, Beside.IsEndFree, Beside.IsSpared, Joins.IsJoinable}
 use Rattle.feature_laws.proofs.Breaks.{break_cross}
 use Rattle.mesh_laws.proofs.Vertices.{all_below}
 use Rattle.merge_laws.proofs.Spared.{spared_law, unmarked_from}

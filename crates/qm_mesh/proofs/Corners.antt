@@ -5,9 +5,7 @@ use Rattle.std.proofs.Common.{◌⊎◌, inl, inr, ◌∙◌, subst}
 use Rattle.std.proofs.lemmas.Bool.{or_parts, or_cases, eqb-true, eqb-false, false≢true}
 use Rattle.std.proofs.lemmas.Option.{none-some, same_Some}
 use Rattle.std.specs.List.{list_any}
-use Rattle.def_mesh.specs.Faces.{Faces}
-use Rattle.def_mesh.specs.Faults.{repeat_after, repeat_in}
-use Rattle.def_mesh.specs.Manifold.{IsRepeatFree}
+use Rattle.def_mesh.specs.{Faces.Faces, Faults.repeat_after, Faults.repeat_in, Manifold.IsRepeatFree}
 
 none_by : (b : Bool) (v : ℕ) (o : Option ℕ) → cond b (Some v) o ≡ None → (b ≡ false) × (o ≡ None)
 none_by true v o e = absurd (none-some v (sym e))

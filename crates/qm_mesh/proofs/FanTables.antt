@@ -5,9 +5,7 @@ use Rattle.std.proofs.lemmas.Bool.{cases_eq, eq-eqb, ne_eqb}
 use Rattle.std.proofs.lemmas.List.{append-nil, length-map, length-set, get_or-set_same, get_or-set_other}
 use Rattle.std.specs.List.{filter, range_with_len}
 use Rattle.smallvec.specs.SmallVec.{SmallVec}
-use Rattle.def_mesh.specs.Faces.{Faces}
-use Rattle.def_mesh.specs.Darts.{from_of}
-use Rattle.def_mesh.specs.Vertices.{fan_of}
+use Rattle.def_mesh.specs.{Faces.Faces, Darts.from_of, Vertices.fan_of}
 use Rattle.qm_mesh.specs.Tables.{fan_lists, fan_at, HoldDarts, AreFans}
 use Rattle.list_laws.proofs.Filters.{filter_range_more}
 

@@ -4,17 +4,13 @@ use Rattle.std.proofs.Common.{subst, ap, ◌∙◌, refl, inl, inr, arith}
 use Rattle.std.proofs.lemmas.Bool.{cases_eq, cases_lt, cases_order}
 use Rattle.std.proofs.lemmas.List.{get_or-set_same, get_or-set_other, set_past}
 use Rattle.std.specs.Option.{option_or}
-use Rattle.def_mesh.specs.Faces.{Faces}
-use Rattle.def_mesh.specs.Darts.{darts, from_of, to_of, next_of, prev_of}
-use Rattle.def_mesh.specs.Manifold.{IsSameEdge, HasEdgesOnce}
-use Rattle.def_mesh.specs.Faults.{IsFirstTwice}
-use Rattle.qm_mesh.specs.declared.twins.Doubled.{Doubled}
-use Rattle.qm_mesh.specs.Tables.{NamesBelow}
-use Rattle.qm_mesh.specs.Pairs.{IsPartner, Runs, AreDarts, AreMarked, IsTwice, NoneTwice, IsFirstAt, IsFirstBelow}
-use Rattle.qm_mesh.specs.Pairs.{MarksOne, IsEarlier}
+use Rattle.def_mesh.specs.{Faces.Faces, Darts.darts, Darts.from_of, Darts.to_of, Darts.next_of, Darts.prev_of}
+use Rattle.def_mesh.specs.{Manifold.IsSameEdge, Manifold.HasEdgesOnce, Faults.IsFirstTwice}
+use Rattle.qm_mesh.specs.{declared.twins.Doubled.Doubled, Tables.NamesBelow, Pairs.IsPartner, Pairs.Runs}
+use Rattle.qm_mesh.specs.Pairs.{AreDarts, AreMarked, IsTwice, NoneTwice, IsFirstAt}
+use Rattle.qm_mesh.specs.Pairs.{IsFirstBelow, MarksOne, IsEarlier}
 use Rattle.list_laws.proofs.Filters.{last_or}
-use Rattle.mesh_laws.proofs.Fans.{IsFan, earlier_place}
-use Rattle.mesh_laws.proofs.Darts.{next_of_low, prev_of-next_of}
+use Rattle.mesh_laws.proofs.{Fans.IsFan, Fans.earlier_place, Darts.next_of_low, Darts.prev_of-next_of}
 
 -- At the end of d stands a dart that runs from v to it, and is at most d.
 pub record IsMark (faces : Faces) (v : ℕ) (by_end : List ℕ) (d : ℕ) : Type 0 where

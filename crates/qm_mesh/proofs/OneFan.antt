@@ -4,19 +4,17 @@ use Rattle.std.proofs.Common.{◌≡◌, ◌≢◌, ◌⊎◌, ℕ, zero, suc, �
 use Rattle.std.proofs.Common.{length, get_or, ◌≤◌, Some, None, sym, subst, ap, ◌∙◌, inl, inr, arith}
 use Rattle.std.proofs.lemmas.Bool.{cases_lt, cases_Bool, false≢true, eq-eqb, ne_eqb, false_from_ne_true}
 use Rattle.std.proofs.lemmas.Option.{none-some, same_Some}
-use Rattle.def_mesh.specs.Faces.{Faces}
-use Rattle.def_mesh.specs.Darts.{darts, from_of, to_of, next_of, prev_of, IsTwin}
-use Rattle.def_mesh.specs.Manifold.{IsRepeatFree, HasEdgesOnce, Chain, HasOneFan}
-use Rattle.def_mesh.specs.Faults.{IsFirstTwoFans}
-use Rattle.qm_mesh.specs.Tables.{NamesBelow}
-use Rattle.qm_mesh.specs.Pairs.{IsPartner, ArePartners}
-use Rattle.qm_mesh.specs.Turns.{behind, beside_of, IsSeen, Reaches, IsClosed, IsBehind, IsVisit}
-use Rattle.mesh_laws.proofs.Darts.{next_of_low, prev_of_low, prev_of-next_of, next_of-prev_of}
 use Rattle.std.proofs.lemmas.List.{get_or_past}
-use Rattle.list_laws.proofs.Filters.{last_or}
+use Rattle.def_mesh.specs.{Faces.Faces, Darts.darts, Darts.from_of, Darts.to_of, Darts.next_of, Darts.prev_of}
+use Rattle.def_mesh.specs.{Darts.IsTwin, Manifold.IsRepeatFree, Manifold.HasEdgesOnce, Manifold.Chain}
+use Rattle.def_mesh.specs.{Manifold.HasOneFan, Faults.IsFirstTwoFans}
+use Rattle.qm_mesh.specs.{Tables.NamesBelow, Pairs.IsPartner, Pairs.ArePartners, Turns.behind, Turns.beside_of}
+use Rattle.qm_mesh.specs.Turns.{IsSeen, Reaches, IsClosed, IsBehind, IsVisit}
+use Rattle.mesh_laws.proofs.Darts.{next_of_low, prev_of_low, prev_of-next_of, next_of-prev_of}
 use Rattle.mesh_laws.proofs.Fans.{IsFan}
 use Rattle.mesh_laws.proofs.Chains.{Step, neighbour_step, step_back, step_vertex, step_neighbour, step_once}
 use Rattle.mesh_laws.proofs.Chains.{twin_differs, chain_low, chain_vertex, chain_join, chain_back}
+use Rattle.list_laws.proofs.Filters.{last_or}
 
 -- What the table of partners says is beside a corner is beside it, and all that.
 beside_found : (faces : Faces) (twins : List ℕ) → ArePartners faces twins → (left : Bool) (d e : ℕ) → d < darts faces

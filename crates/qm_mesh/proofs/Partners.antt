@@ -1,12 +1,10 @@
 -- The table of partners has the twin of each dart of a manifold.
 use Rattle.std.proofs.Common.{◌≡◌, ℕ, ◌<◌, cond, eqb, Some, None, sym, ap, ◌∙◌, inl, inr}
 use Rattle.std.proofs.lemmas.Bool.{eq-eqb, ne_eqb}
-use Rattle.def_mesh.specs.Faces.{Faces}
-use Rattle.def_mesh.specs.Darts.{darts, from_of, twin_of}
-use Rattle.def_mesh.specs.Manifold.{IsRepeatFree, HasEdgesOnce}
+use Rattle.def_mesh.specs.{Faces.Faces, Darts.darts, Darts.from_of, Darts.twin_of, Manifold.IsRepeatFree}
+use Rattle.def_mesh.specs.Manifold.{HasEdgesOnce}
 use Rattle.qm_mesh.specs.Pairs.{IsPartner}
-use Rattle.mesh_laws.proofs.Chains.{ends_differ}
-use Rattle.mesh_laws.proofs.Twins.{twin_found, twin_none}
+use Rattle.mesh_laws.proofs.{Chains.ends_differ, Twins.twin_found, Twins.twin_none}
 
 -- What the table has for a dart.
 pub partner_is : (faces : Faces) → IsRepeatFree faces → HasEdgesOnce faces → (d t : ℕ) → d < darts faces

@@ -1,18 +1,15 @@
 -- The lengths of the edges along all arcs of a full cut are those of all its edges.
 use Rattle.std.proofs.Common.{◌≡◌, ℕ, ◌-◌, ◌<◌, ◌⊎◌, inl, inr, Bool, true, false, cond, List, [], length, map}
 use Rattle.std.proofs.Common.{replicate, get_or, refl, sym, ap, ◌∙◌, subst, arith, true≢false}
-use Rattle.std.specs.Prelude.{slice_index}
-use Rattle.std.specs.List.{All}
 use Rattle.std.proofs.lemmas.Bool.{cases_Bool}
 use Rattle.std.proofs.lemmas.Grind.{same_number_lists}
 use Rattle.std.proofs.lemmas.List.{get_or_default, get_or-map, get_or-replicate, length-map, length-replicate}
 use Rattle.std.proofs.lemmas.List.FromFn.{get_or-map-range_with_len, length-map-range_with_len}
+use Rattle.std.specs.{Prelude.slice_index, List.All}
 use Rattle.def_cut.specs.FullCut.{is_on, IsFullCut}
 use Rattle.def_layout.specs.Arcs.{dart_at, long_at, path, path_at, AreArcs, LiesAt, Path}
 use Rattle.def_layout.specs.declared.tmesh.TArc.{TArc}
-use Rattle.def_mesh.specs.Darts.{all_darts, darts}
-use Rattle.def_mesh.specs.Faces.{Faces}
-use Rattle.def_mesh.specs.HalfEdges.{half_edges, IsQuadManifold}
+use Rattle.def_mesh.specs.{Darts.all_darts, Darts.darts, Faces.Faces, HalfEdges.half_edges, HalfEdges.IsQuadManifold}
 use Rattle.def_metric.specs.Targets.{edge_length}
 use Rattle.def_text.specs.Types.{Positions}
 use Rattle.qm_metric.specs.Lengths.{with_arcs, with_edge, with_path}

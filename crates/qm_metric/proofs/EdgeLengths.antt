@@ -1,12 +1,10 @@
 -- What stands in a table in which the lengths of edges were put along paths.
 use Rattle.std.proofs.Common.{◌≡◌, ◌≢◌, ℕ, ◌<◌, ◌⊎◌, inl, inr, List, length, Some, None, Option}
 use Rattle.std.proofs.Common.{refl, sym, ap, ◌∙◌, subst, arith}
-use Rattle.std.specs.Prelude.{slice_index}
 use Rattle.std.proofs.lemmas.Bool.{cases_eq}
 use Rattle.std.proofs.lemmas.List.{length-set, get_or-set_same, get_or-set_other}
-use Rattle.def_mesh.specs.Darts.{darts, twin_of}
-use Rattle.def_mesh.specs.Faces.{Faces}
-use Rattle.def_mesh.specs.HalfEdges.{half_edges, IsQuadManifold}
+use Rattle.std.specs.Prelude.{slice_index}
+use Rattle.def_mesh.specs.{Darts.darts, Darts.twin_of, Faces.Faces, HalfEdges.half_edges, HalfEdges.IsQuadManifold}
 use Rattle.def_metric.specs.Targets.{edge_length}
 use Rattle.def_text.specs.Types.{Positions}
 use Rattle.qm_metric.specs.Lengths.{with_dart, with_edge, with_twin}

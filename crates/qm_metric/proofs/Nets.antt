@@ -1,38 +1,28 @@
 -- The network of a layout with what is wished of its arcs, and why there is none.
 use Rattle.std.proofs.Common.{◌≡◌, ℕ, ◌-◌, ◌^◌, ◌<◌, ◌≤◌, List, length, map, refl, sym, ap, ◌∙◌, subst, arith}
-use Rattle.std.specs.Prelude.{min, slice_index}
 use Rattle.std.proofs.lemmas.List.{length-map}
+use Rattle.std.specs.Prelude.{min, slice_index}
 use Rattle.def_math.specs.Counts.{count}
 use Rattle.def_fit.specs.Aims.{aimed, denominator, fit_settings, numerator, AreAimedNear, IsAim, IsFit, IsFitFail}
 use Rattle.def_fit.specs.declared.fit.Aim.{Aim}
 use Rattle.def_fit.specs.declared.fit.Aim.TheVariants.{Scale, Edge, Wishes}
 use Rattle.def_fit.specs.declared.fit.Fit.{Fit}
-use Rattle.def_flow.specs.Admissible.{IsEven}
-use Rattle.def_flow.specs.Network.{Network, arc_at, tangle_number, IsWithinBounds}
-use Rattle.def_flow.specs.declared.limits.TheConstants.{MAX_TANGLE}
+use Rattle.def_flow.specs.{Admissible.IsEven, Network.Network, Network.arc_at, Network.tangle_number}
+use Rattle.def_flow.specs.{Network.IsWithinBounds, declared.limits.TheConstants.MAX_TANGLE}
 use Rattle.def_flow.specs.declared.net.Settings.{Settings}
-use Rattle.def_layout.specs.Arcs.{long_at, path, path_at}
-use Rattle.def_layout.specs.Surfaces.{IsSurface}
-use Rattle.def_layout.specs.Plans.{layout_of, plan, Plan}
-use Rattle.def_layout.specs.declared.tmesh.TArc.{TArc}
-use Rattle.def_layout.specs.declared.tmesh.TMesh.{TMesh}
-use Rattle.def_layoutnet.specs.LayoutNet.{AreSettings, HasNoNet, IsNetOf}
-use Rattle.def_layoutnet.specs.MeshLayouts.{IsSomeLayout}
+use Rattle.def_layout.specs.{Arcs.long_at, Arcs.path, Arcs.path_at, Surfaces.IsSurface, Plans.layout_of, Plans.plan}
+use Rattle.def_layout.specs.{Plans.Plan, declared.tmesh.TArc.TArc, declared.tmesh.TMesh.TMesh}
+use Rattle.def_layoutnet.specs.{LayoutNet.AreSettings, LayoutNet.HasNoNet, LayoutNet.IsNetOf, MeshLayouts.IsSomeLayout}
 use Rattle.def_layoutnet.specs.declared.NetFail.{NetFail}
 use Rattle.def_layoutnet.specs.declared.NetFail.TheVariants as nets
-use Rattle.def_remesh.specs.Keeping.{IsNetFor}
-use Rattle.def_remesh.specs.Refusals.{IsTangledAt}
-use Rattle.def_remesh.specs.Tasks.{Wish}
+use Rattle.def_remesh.specs.{Keeping.IsNetFor, Refusals.IsTangledAt, Tasks.Wish}
 use Rattle.def_text.specs.FaceSet.{FaceSet}
-use Rattle.def_metric.specs.Fails.{metric_fail_of, size_fail_of, IsFar}
-use Rattle.def_metric.specs.Targets.{wish_sum}
-use Rattle.def_metric.specs.declared.fail.MetricFail.TheVariants.{Far}
-use Rattle.def_metric.specs.declared.limits.TheConstants.{MAX_TARGETS}
+use Rattle.def_metric.specs.{Fails.metric_fail_of, Fails.size_fail_of, Fails.IsFar, Targets.wish_sum}
+use Rattle.def_metric.specs.{declared.fail.MetricFail.TheVariants.Far, declared.limits.TheConstants.MAX_TARGETS}
 use Rattle.sum_laws.proofs.Counts.{count_below_le, count_below_ones}
 use Rattle.table_laws.proofs.Ranges.{part_low}
 use Rattle.plan_laws.proofs.MeshLayouts.{laid_of, lengths_of}
-use Rattle.qm_layoutnet.proofs.OneNet.{one_net_law}
-use Rattle.qm_layoutnet.proofs.Whole.{lengths_few}
+use Rattle.qm_layoutnet.proofs.{OneNet.one_net_law, Whole.lengths_few}
 use Rattle.qm_metric.specs.Wishes.{wish_along, with_wish, HasWishes}
 use Rattle.qm_metric.proofs.Reading.{sum_is, whole_entry}
 use Rattle.qm_metric.proofs.Wished.{wishes_tangle, tangled_for, untangled_for, wished, within}

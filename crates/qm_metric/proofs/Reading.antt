@@ -1,15 +1,12 @@
 -- What is read of the arcs of a layout: their darts, and the sum and the entries of a list of targets.
 use Rattle.std.proofs.Common.{◌≡◌, ℕ, zero, suc, ◌+◌, ◌*◌, ◌<◌, ◌≤◌, List, [], ◌∷◌, ◌++◌, take, length, map, get_or}
 use Rattle.std.proofs.Common.{refl, sym, ap, ◌∙◌, subst, arith}
-use Rattle.std.specs.Prelude.{min, slice_index}
-use Rattle.std.specs.List.{All}
 use Rattle.std.proofs.lemmas.List.{get_or_default, get_or-map, length-map, map-append, take_more}
+use Rattle.std.specs.{Prelude.min, Prelude.slice_index, List.All}
 use Rattle.def_math.specs.Counts.{count, count_below}
 use Rattle.def_mesh.specs.Darts.{darts}
-use Rattle.def_layout.specs.Arcs.{Path, dart_at, long_at, path, path_at}
-use Rattle.def_layout.specs.Plans.{plan}
-use Rattle.def_layout.specs.declared.tmesh.TArc.{TArc}
-use Rattle.def_layout.specs.declared.tmesh.TMesh.{TMesh}
+use Rattle.def_layout.specs.{Arcs.Path, Arcs.dart_at, Arcs.long_at, Arcs.path, Arcs.path_at, Plans.plan}
+use Rattle.def_layout.specs.{declared.tmesh.TArc.TArc, declared.tmesh.TMesh.TMesh}
 use Rattle.def_layoutnet.specs.MeshLayouts.{IsSomeLayout}
 use Rattle.sum_laws.proofs.Counts.{count_below_prefix}
 use Rattle.table_laws.proofs.Ranges.{part_low}

@@ -1,9 +1,8 @@
 -- Whole square roots: there is one, and it is computed digit by digit.
-use Rattle.std.proofs.Common.{◌≡◌, ◌⊎◌, ℕ, zero, suc, ◌+◌, ◌*◌, ◌/◌, ◌^◌, ◌<◌, ◌≤◌, nat_le, cond, Bool, true, false}
-use Rattle.std.proofs.Common.{refl, subst, inl, inr, arith}
-use Rattle.std.proofs.lemmas.Nat.{mul-le}
-use Rattle.std.proofs.Math.Nat.{pow-succ'}
-use Rattle.std.proofs.lemmas.Bool.Decides.{leb_tells}
+use Rattle.std.proofs.Common.{◌≡◌, ◌⊎◌, ℕ, zero, suc, ◌+◌, ◌*◌, ◌/◌}
+use Rattle.std.proofs.Common.{◌^◌, ◌<◌, ◌≤◌, nat_le, cond, Bool, true}
+use Rattle.std.proofs.{Common.false, Common.refl, Common.subst, Common.inl, Common.inr, Common.arith, lemmas.Nat.mul-le}
+use Rattle.std.proofs.{Math.Nat.pow-succ', lemmas.Bool.Decides.leb_tells}
 use Rattle.def_metric.specs.Roots.{doubled_root, root_of, root_within, IsRoot, WholeRootLaw}
 
 -- A number whose square is at most n is at most each root.

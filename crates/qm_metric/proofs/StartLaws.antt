@@ -1,38 +1,25 @@
 -- The old lengths times the floor start the descent whatever lengths are wished for.
 use Rattle.std.proofs.Common.{◌≡◌, ℕ, ◌+◌, ◌*◌, ◌^◌, ◌<◌, ◌≤◌, List, [], length, pos, ◌-ℤ◌, ◌*ℤ◌, ◌≤ℤ◌, sym, ap, ◌∙◌}
-use Rattle.std.proofs.Common.{mul-one, arith}
+use Rattle.std.proofs.{Common.mul-one, Common.arith, Math.Nat.mul-le-mul_left, Math.Nat.mul-le-mul_right}
+use Rattle.std.proofs.{lemmas.Nat.mul-le, lemmas.Int.ints, lemmas.List.get_or-map, lemmas.List.length-map}
 use Rattle.std.specs.Prelude.{unsigned_abs}
-use Rattle.std.proofs.Math.Nat.{mul-le-mul_left, mul-le-mul_right}
-use Rattle.std.proofs.lemmas.Nat.{mul-le}
-use Rattle.std.proofs.lemmas.Int.{ints}
-use Rattle.std.proofs.lemmas.List.{get_or-map, length-map}
 use Rattle.def_math.specs.Counts.{count_below}
 use Rattle.def_flow.specs.Admissible.{arc_deviation, deviation, entries, IsBalanced}
-use Rattle.def_flow.specs.Descent.{IsStartOf}
-use Rattle.def_flow.specs.Network.{Network, arc_at}
-use Rattle.def_flow.specs.declared.net.Settings.{Settings}
-use Rattle.def_flow.specs.declared.net.Weight.{Weight}
-use Rattle.def_flow.specs.declared.net.Weight.TheVariants.{Plain, Length}
-use Rattle.def_layout.specs.Arcs.{Path, long_at}
-use Rattle.def_layout.specs.Surfaces.{IsSurface}
-use Rattle.def_layout.specs.Layouts.{Way, south, east, north, west, Layout}
-use Rattle.def_layout.specs.Lengths.{Lengths, size, AreLengths}
-use Rattle.def_layout.specs.Plans.{Plan, layout_of}
-use Rattle.def_layoutnet.specs.LayoutNet.{weight_of}
-use Rattle.def_layoutnet.specs.LayoutNetLaws.{sum_along}
-use Rattle.def_remesh.specs.Keeping.{IsNetFor}
-use Rattle.def_remesh.specs.Tasks.{Wish}
-use Rattle.def_metric.specs.Fails.{AreNear}
-use Rattle.def_metric.specs.Starts.{times_long, StartLaw}
-use Rattle.def_metric.specs.Targets.{wish_sum}
+use Rattle.def_flow.specs.{Descent.IsStartOf, Network.Network, Network.arc_at, declared.net.Settings.Settings}
+use Rattle.def_flow.specs.{declared.net.Weight.Weight, declared.net.Weight.TheVariants.Plain}
+use Rattle.def_flow.specs.declared.net.Weight.TheVariants.{Length}
+use Rattle.def_layout.specs.{Arcs.Path, Arcs.long_at, Surfaces.IsSurface, Layouts.Way, Layouts.south, Layouts.east}
+use Rattle.def_layout.specs.{Layouts.north, Layouts.west, Layouts.Layout, Lengths.Lengths, Lengths.size}
+use Rattle.def_layout.specs.{Lengths.AreLengths, Plans.Plan, Plans.layout_of}
+use Rattle.def_layoutnet.specs.{LayoutNet.weight_of, LayoutNetLaws.sum_along}
+use Rattle.def_remesh.specs.{Keeping.IsNetFor, Tasks.Wish}
+use Rattle.def_metric.specs.{Fails.AreNear, Starts.times_long, Starts.StartLaw, Targets.wish_sum}
 use Rattle.def_metric.specs.declared.limits.TheConstants.{MAX_TARGETS}
 use Rattle.sum_laws.proofs.Counts.{count_below_le, count_below_sum, count_below_times, count_below_total}
 use Rattle.sum_laws.proofs.Sums.{total_below_same}
 use Rattle.table_laws.proofs.Ranges.{part_low}
 use Rattle.plan_laws.proofs.MeshLayouts.{laid_of, lengths_of}
-use Rattle.qm_layoutnet.proofs.Balance.{balance_law}
-use Rattle.qm_layoutnet.proofs.Floors.{floor_high}
-use Rattle.qm_layoutnet.proofs.Whole.{lengths_few}
+use Rattle.qm_layoutnet.proofs.{Balance.balance_law, Floors.floor_high, Whole.lengths_few}
 
 -- No weight is above 1000.
 weight_low : (weight : Weight) (old : ℕ) → weight_of weight old ≤ 1000

@@ -1,22 +1,16 @@
 -- The network of a layout with other wishes is within bounds, and as tangled as it was.
-use Rattle.std.proofs.Common.{◌≡◌, ℕ, zero, suc, ◌<◌, ◌≤◌, Bool, true, ◌&&◌, List, [], ◌∷◌, length}
-use Rattle.std.proofs.Common.{nat_le}
-use Rattle.std.proofs.Common.{refl, sym, ap, ◌∙◌, arith}
-use Rattle.std.specs.Prelude.{nat_lt}
-use Rattle.std.specs.List.{list_all}
-use Rattle.std.proofs.lemmas.Bool.{and_parts, le-leb}
+use Rattle.std.proofs.Common.{◌≡◌, ℕ, zero, suc, ◌<◌, ◌≤◌, Bool, true}
+use Rattle.std.proofs.Common.{◌&&◌, List, [], ◌∷◌, length, nat_le, refl}
+use Rattle.std.proofs.{Common.sym, Common.ap, Common.◌∙◌, Common.arith, lemmas.Bool.and_parts, lemmas.Bool.le-leb}
+use Rattle.std.specs.{Prelude.nat_lt, List.list_all}
 use Rattle.def_flow.specs.Network.{Network, arc_at, ends, is_bounded, tangle_number, IsWithinBounds}
 use Rattle.def_flow.specs.declared.limits.TheConstants.{MAX_FLOOR, MAX_OLD, MAX_TANGLE, MAX_WEIGHT}
 use Rattle.def_flow.specs.declared.net.Arc.{Arc}
 use Rattle.def_flow.specs.declared.net.End.{End}
 use Rattle.def_flow.specs.declared.net.Settings.{Settings}
-use Rattle.def_layout.specs.Surfaces.{IsSurface}
-use Rattle.def_layout.specs.Layouts.{Layout, use_of}
-use Rattle.def_layout.specs.Lengths.{Lengths}
+use Rattle.def_layout.specs.{Surfaces.IsSurface, Layouts.Layout, Layouts.use_of, Lengths.Lengths}
 use Rattle.def_layoutnet.specs.LayoutNet.{IsNetOf, IsTangled}
-use Rattle.qm_layoutnet.proofs.Built.{all_pass}
-use Rattle.qm_layoutnet.proofs.OneNet.{one_net_law}
-use Rattle.qm_layoutnet.proofs.SameEnds.{tangle_same}
+use Rattle.qm_layoutnet.proofs.{Built.all_pass, OneNet.one_net_law, SameEnds.tangle_same}
 use Rattle.qm_net.proofs.Within.{arc_bounded}
 use Rattle.qm_metric.specs.Wishes.{with_wish, HasWishes}
 

@@ -1,12 +1,9 @@
 -- The bounds of an arc of a network within bounds.
 use Rattle.std.proofs.Common.{◌≡◌, ℕ, ◌<◌, true, ◌&&◌, nat_le, length}
-use Rattle.std.specs.Prelude.{nat_lt}
-use Rattle.std.specs.List.{list_all}
-use Rattle.std.proofs.lemmas.List.Sums.{AllPass-from_list_all}
-use Rattle.std.proofs.lemmas.Bool.{and_parts}
+use Rattle.std.proofs.{lemmas.List.Sums.AllPass-from_list_all, lemmas.Bool.and_parts}
+use Rattle.std.specs.{Prelude.nat_lt, List.list_all}
 use Rattle.def_flow.specs.Network.{Network, IsWithinBounds, is_bounded, arc_at, ends}
-use Rattle.def_flow.specs.declared.net.Arc.{Arc}
-use Rattle.def_flow.specs.declared.net.End.{End}
+use Rattle.def_flow.specs.{declared.net.Arc.Arc, declared.net.End.End}
 
 -- Each arc passes the test of its bounds.
 pub arc_bounded : (net : Network) → IsWithinBounds net → (k : ℕ) → k < length net.arcs

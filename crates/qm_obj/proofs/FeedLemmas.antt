@@ -1,25 +1,18 @@
 -- Lines and pieces that are taken one by one, and what is then kept.
 use Rattle.std.proofs.Common.{◌≡◌, ℕ, ◌+◌, ◌-◌, ◌<◌, ◌≤◌, true, false, eqb, ltb, List, [], ◌∷◌, ◌++◌, length, refl, sym}
 use Rattle.std.proofs.Common.{ap, ◌∙◌, arith, Option, Some, None, Result, Err}
-use Rattle.std.specs.Prelude.{is_some}
-use Rattle.std.specs.List.{list_any}
 use Rattle.std.proofs.lemmas.Bool.{eqb-true, false≢true, lt-ltb, or_from}
 use Rattle.std.proofs.lemmas.List.{append-nil, append_assoc, length-append}
 use Rattle.std.proofs.lemmas.List.Folds.{list_any-append}
-use Rattle.def_feed.specs.Feed.{StandsFor, is_line_feed}
-use Rattle.def_feed.specs.Kept.{KeptText, kept_readings, logical_behind, readings_behind, soup_with, soup_with_lines}
-use Rattle.def_feed.specs.Kept.{with_joined}
-use Rattle.def_io.specs.Bytes.{Bytes, Lines}
-use Rattle.def_io.specs.Lines.{line_of, lines_of}
+use Rattle.std.specs.{Prelude.is_some, List.list_any}
+use Rattle.def_feed.specs.{Feed.StandsFor, Feed.is_line_feed, Kept.KeptText, Kept.kept_readings, Kept.logical_behind}
+use Rattle.def_feed.specs.Kept.{readings_behind, soup_with, soup_with_lines, with_joined}
+use Rattle.def_io.specs.{Bytes.Bytes, Bytes.Lines, Lines.line_of, Lines.lines_of}
 use Rattle.def_mesh.specs.Faces.{Faces}
-use Rattle.def_text.specs.FaceSet.{FaceSet}
-use Rattle.def_text.specs.Logical.{Logical, continues, is_hash, logical_lines, with_space}
-use Rattle.def_text.specs.Text.{soup_in, soup_of}
-use Rattle.def_text.specs.Types.{Positions}
-use Rattle.def_text.specs.declared.reading.Reading.TheVariants.{Refused}
-use Rattle.def_text.specs.declared.refusal.ObjFail.{ObjFail}
-use Rattle.def_text.specs.declared.refusal.ObjFail.TheVariants.{Limit}
-use Rattle.def_text.specs.declared.refusal.Which.TheVariants.{Line}
+use Rattle.def_text.specs.{FaceSet.FaceSet, Logical.Logical, Logical.continues, Logical.is_hash, Logical.logical_lines}
+use Rattle.def_text.specs.{Logical.with_space, Text.soup_in, Text.soup_of, Types.Positions}
+use Rattle.def_text.specs.{declared.reading.Reading.TheVariants.Refused, declared.refusal.ObjFail.ObjFail}
+use Rattle.def_text.specs.{declared.refusal.ObjFail.TheVariants.Limit, declared.refusal.Which.TheVariants.Line}
 use Rattle.qm_obj.specs.Feeding.{IsSound, RefusesLine, RefusesPiece, TookLine, TookPiece, number_by}
 use Rattle.qm_obj.specs.Lines.{Took, next_said, uncommented}
 use Rattle.qm_obj.proofs.PrefixLemmas.{BeginsWith, bare_more, begins_behind, behind_held, behind_nothing}

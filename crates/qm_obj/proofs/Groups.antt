@@ -1,13 +1,12 @@
 -- The first group of physical lines is the logical line ahead.
 use Rattle.std.proofs.Common.{◌≡◌, ℕ, suc, ◌+◌, Bool, true, false, cond, List, [], ◌∷◌, ◌++◌, length, drop}
 use Rattle.std.proofs.Common.{slice_index_or, refl, sym, ap, ◌∙◌, arith}
-use Rattle.std.specs.List.{before_first, flat_map}
 use Rattle.std.proofs.lemmas.List.{append-nil, length-append}
+use Rattle.std.specs.List.{before_first, flat_map}
 use Rattle.def_io.specs.Bytes.{Lines}
 use Rattle.def_text.specs.Logical.{continues, first_group, groups_of, is_hash, joined, logical, logical_lines}
 use Rattle.def_text.specs.Logical.{numbered_groups, part_of, with_line, with_space}
-use Rattle.qm_obj.specs.Ahead.{size_ahead, span, text_ahead}
-use Rattle.qm_obj.specs.Lines.{first_logical}
+use Rattle.qm_obj.specs.{Ahead.size_ahead, Ahead.span, Ahead.text_ahead, Lines.first_logical}
 
 -- The physical lines of the logical line ahead.
 abbrev pub prefix : (lines : Lines) → Lines

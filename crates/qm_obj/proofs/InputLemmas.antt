@@ -2,13 +2,9 @@
 use Rattle.std.proofs.Common.{◌≡◌, ◌≢◌, ◌≤◌, ℕ, ◌+◌, ◌-◌, ◌++◌, Err, refl, arith}
 use Rattle.std.proofs.lemmas.List.{length-append}
 use Rattle.def_feed.specs.Feed.{Fed}
-use Rattle.def_io.specs.Bytes.{Bytes, Told}
-use Rattle.def_io.specs.Moves.{Change, GaveMore, IsEmptied}
-use Rattle.def_text.specs.Fails.{of_obj}
-use Rattle.def_text.specs.Input.{IsSoupFail, ReadWhole}
-use Rattle.def_text.specs.Text.{soup_in}
-use Rattle.def_text.specs.declared.refusal.ObjFail.{ObjFail}
-use Rattle.def_text.specs.declared.refusal.ObjFail.TheVariants.{Memory}
+use Rattle.def_io.specs.{Bytes.Bytes, Bytes.Told, Moves.Change, Moves.GaveMore, Moves.IsEmptied}
+use Rattle.def_text.specs.{Fails.of_obj, Input.IsSoupFail, Input.ReadWhole, Text.soup_in}
+use Rattle.def_text.specs.{declared.refusal.ObjFail.ObjFail, declared.refusal.ObjFail.TheVariants.Memory}
 use Rattle.qm_io.proofs.Moved.{gave_more}
 use Rattle.qm_obj.specs.Feeding.{FedPiece, FedTo, FedWhole}
 

@@ -1,15 +1,13 @@
 -- Physical lines text_ahead to logical lines.
 use Rattle.std.proofs.Common.{◌≡◌, ℕ, zero, suc, ◌+◌, ◌-◌, ◌<◌, ◌≤◌, Bool, true, false, cond, not, List, [], ◌∷◌, ◌++◌}
 use Rattle.std.proofs.Common.{length, take, get_or, refl, sym, ap, ◌∙◌, arith, subst, eqb}
-use Rattle.std.specs.List.{before_first, list_any, position_or_len}
 use Rattle.std.proofs.lemmas.Bool.Decides.{nat_tests}
-use Rattle.std.specs.Prelude.{slice_range}
 use Rattle.std.proofs.lemmas.Bool.{and_parts, false≢true, not-true, or_from, or_parts}
 use Rattle.std.proofs.lemmas.List.{append_assoc, drop_more, length-append, length-take}
-use Rattle.def_text.specs.Logical.{continues, is_hash, with_space}
-use Rattle.qm_obj.specs.Ahead.{text_ahead, size_ahead, span}
 use Rattle.std.proofs.lemmas.List.Folds.{list_any-append}
-use Rattle.qm_obj.specs.Lines.{first_logical, uncommented}
+use Rattle.std.specs.{List.before_first, List.list_any, List.position_or_len, Prelude.slice_range}
+use Rattle.def_text.specs.Logical.{continues, is_hash, with_space}
+use Rattle.qm_obj.specs.{Ahead.text_ahead, Ahead.size_ahead, Ahead.span, Lines.first_logical, Lines.uncommented}
 use Rattle.qm_obj.proofs.WordLemmas.{uncommented_is, uncommented_none}
 use Rattle.def_io.specs.Bytes.{Lines}
 

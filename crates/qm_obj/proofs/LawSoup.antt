@@ -2,9 +2,6 @@
 use Rattle.std.proofs.Common.{◌≡◌, ℕ, ℤ, pos, zero, suc, ◌+◌, ◌-◌, ◌^◌, ◌<◌, ◌≤◌, Bool, true, false, cond, not, ◌&&◌}
 use Rattle.std.proofs.Common.{List, [], ◌∷◌, ◌++◌, length, take, map, get_or, refl, sym, ap, ◌∙◌, arith, subst, eqb}
 use Rattle.std.proofs.Common.{ltb, add-one, Ok}
-use Rattle.std.specs.Prelude.{decimal, unsigned_abs}
-use Rattle.std.specs.Char.{is_ascii_digit}
-use Rattle.std.specs.List.{count_by, filter, flat_map, list_all, list_any}
 use Rattle.std.proofs.lemmas.Bool.{and_from, and_parts, cond-false, eqb-true, le-ltb, lt-leb, ltb-false, ltb-true}
 use Rattle.std.proofs.lemmas.Bool.{ne_eqb, not-true, or_from}
 use Rattle.std.proofs.lemmas.List.{append-nil, append_assoc, get_or-map, get_or_default, length-map, same_lists}
@@ -14,35 +11,31 @@ use Rattle.std.proofs.lemmas.List.Elements.{filter-append}
 use Rattle.std.proofs.lemmas.List.Folds.{flat_map-map}
 use Rattle.std.proofs.lemmas.List.Sums.{sum_by_push}
 use Rattle.std.proofs.lemmas.Fmt.{decimal_nonempty}
+use Rattle.std.specs.{Prelude.decimal, Prelude.unsigned_abs, Char.is_ascii_digit, List.count_by, List.filter}
+use Rattle.std.specs.List.{flat_map, list_all, list_any}
 use Rattle.def_text.specs.Canonical.{canonical_text, face_text, micro_text, position_text}
-use Rattle.def_text.specs.Corner.{are_indices, is_corner_word, is_out, is_slash, resolved, used_index}
-use Rattle.def_text.specs.Decimal.{is_decimal, is_far, rounded}
-use Rattle.def_text.specs.Digits.{is_negative, is_number, is_signed, number_written, unsigned}
-use Rattle.def_mesh.specs.Vertices.{is_used}
-use Rattle.def_text.specs.FaceSet.{FaceSet, IsSoup}
-use Rattle.def_text.specs.Logical.{Logical, logical_lines}
-use Rattle.def_text.specs.Reading.{begins_with, is_face_line, is_position_count, is_vertex_line, reading, words_reading}
-use Rattle.def_text.specs.Text.{face_in, face_set, faces, first_refusal, late_in, numbers_to, position_in, position_of}
-use Rattle.def_text.specs.Text.{readings, refusal_in, soup_of, text_soup, used_to, line_vertex}
-use Rattle.def_text.specs.Words.{words}
-use Rattle.def_text.specs.declared.reading.Reading.{Reading}
-use Rattle.def_text.specs.declared.reading.Reading.TheVariants.{Position, Face, Refused}
-use Rattle.def_text.specs.declared.refusal.ObjFail.TheVariants.{Limit}
-use Rattle.def_text.specs.declared.refusal.Which.TheVariants.{Line}
-use Rattle.def_io.specs.Lines.{lines_of}
-use Rattle.def_text.specs.Laws.{ReadsBack, is_position, is_quad}
+use Rattle.def_text.specs.Corner.{are_indices, is_corner_word, is_out, is_slash, resolved}
+use Rattle.def_text.specs.{Corner.used_index, Decimal.is_decimal, Decimal.is_far, Decimal.rounded, Digits.is_negative}
+use Rattle.def_text.specs.{Digits.is_number, Digits.is_signed, Digits.number_written, Digits.unsigned, FaceSet.FaceSet}
+use Rattle.def_text.specs.{FaceSet.IsSoup, Logical.Logical, Logical.logical_lines, Reading.begins_with}
+use Rattle.def_text.specs.Reading.{is_face_line, is_position_count, is_vertex_line, reading}
+use Rattle.def_text.specs.{Reading.words_reading, Text.face_in, Text.face_set, Text.faces, Text.first_refusal}
+use Rattle.def_text.specs.Text.{late_in, numbers_to, position_in, position_of, readings}
+use Rattle.def_text.specs.{Text.refusal_in, Text.soup_of, Text.text_soup, Text.used_to, Text.line_vertex, Words.words}
+use Rattle.def_text.specs.{declared.reading.Reading.Reading, declared.reading.Reading.TheVariants.Position}
+use Rattle.def_text.specs.declared.reading.Reading.TheVariants.{Face, Refused}
+use Rattle.def_text.specs.{declared.refusal.ObjFail.TheVariants.Limit, declared.refusal.Which.TheVariants.Line}
+use Rattle.def_text.specs.{Laws.ReadsBack, Laws.is_position, Laws.is_quad, Types.Positions}
+use Rattle.def_mesh.specs.{Vertices.is_used, Faces.Faces}
+use Rattle.def_io.specs.{Lines.lines_of, Bytes.Lines}
 use Rattle.qm_obj.proofs.CornerLemmas.{behind_none, digits_index, no_slash, whole_word}
-use Rattle.qm_dec.proofs.ReadBack.{canonical_law}
-use Rattle.qm_dec.proofs.Texts.{decimal_digits, decimal_number}
 use Rattle.qm_obj.proofs.LawText.{IsLine, IsWord, decimal_word, line_tame, line_text, line_words, lines_split}
 use Rattle.qm_obj.proofs.LawText.{logical_plain, micro_word, plain_lines}
 use Rattle.qm_obj.proofs.LineLemmas.{face_rest, vertex_rest}
 use Rattle.qm_obj.proofs.ListLemmas.{passes_at}
 use Rattle.qm_obj.proofs.ReadLemmas.{readings_append}
 use Rattle.qm_obj.proofs.SoupLemmas.{are_below, length-numbers_to, numbers_at, used_renumbered}
-use Rattle.def_text.specs.Types.{Positions}
-use Rattle.def_mesh.specs.Faces.{Faces}
-use Rattle.def_io.specs.Bytes.{Lines}
+use Rattle.qm_dec.proofs.{ReadBack.canonical_law, Texts.decimal_digits, Texts.decimal_number}
 
 -- What holds at each position of two lists holds at each position of both together, and of a map what holds of each
 -- image.

@@ -2,24 +2,20 @@
 use Rattle.std.proofs.Common.{◌≡◌, ℕ, ℤ, zero, suc, ◌+◌, ◌-◌, ◌*◌, ◌/◌, ◌%◌, ◌^◌, ◌<◌, ◌≤◌, Bool, true, false, cond}
 use Rattle.std.proofs.Common.{not, ◌&&◌, List, [], ◌∷◌, ◌++◌, length, take, drop, map, get_or, refl, ap, ◌∙◌, arith}
 use Rattle.std.proofs.Common.{eqb, leb}
-use Rattle.std.specs.Prelude.{decimal, int_lt, pos, unsigned_abs}
-use Rattle.std.specs.Char.{is_ascii_digit}
-use Rattle.std.specs.List.{before_first, flat_map, list_all, position_or_len, suffix_len}
 use Rattle.std.proofs.lemmas.Bool.{and_from, and_parts, le-leb, leb-true, not-true}
 use Rattle.std.proofs.lemmas.Bool.Decides.{nat_tests}
 use Rattle.std.proofs.lemmas.Fmt.{decimal_nonempty, length-decimal-le}
 use Rattle.std.proofs.lemmas.List.{append_assoc, get_or_at, length-append, length-drop, length-take, take_all, take_at}
 use Rattle.std.proofs.lemmas.List.Folds.{list_all-append}
-use Rattle.def_text.specs.Canonical.{fraction_text, micro_text, minus_text, six_digits, without_zeros}
-use Rattle.qm_obj.proofs.Groups.{logical_step}
-use Rattle.def_text.specs.Logical.{Logical, continues, is_hash, logical_lines}
-use Rattle.def_io.specs.Lines.{byte_in_front}
-use Rattle.def_text.specs.Words.{ends_word, is_blank, words}
-use Rattle.def_io.specs.Lines.{line_of, lines_of, pieces, without_last}
-use Rattle.qm_obj.proofs.ListLemmas.{passes_at}
-use Rattle.qm_dec.proofs.Texts.{decimal_digits}
-use Rattle.def_text.specs.Types.{Words}
+use Rattle.std.specs.{Prelude.decimal, Prelude.int_lt, Prelude.pos, Prelude.unsigned_abs, Char.is_ascii_digit}
+use Rattle.std.specs.List.{before_first, flat_map, list_all, position_or_len, suffix_len}
+use Rattle.def_text.specs.Canonical.{fraction_text, micro_text, minus_text, six_digits}
+use Rattle.def_text.specs.{Canonical.without_zeros, Logical.Logical, Logical.continues, Logical.is_hash}
+use Rattle.def_text.specs.{Logical.logical_lines, Words.ends_word, Words.is_blank, Words.words, Types.Words}
+use Rattle.qm_obj.proofs.{Groups.logical_step, ListLemmas.passes_at}
+use Rattle.def_io.specs.Lines.{byte_in_front, line_of, lines_of, pieces, without_last}
 use Rattle.def_io.specs.Bytes.{Lines}
+use Rattle.qm_dec.proofs.Texts.{decimal_digits}
 
 -- The bytes of words: from the minus to the digits.
 abbrev pub is_plain : ℕ → Bool

@@ -1,19 +1,16 @@
 -- Logical lines of which the first begins with text that is joined.
 use Rattle.std.proofs.Common.{◌≡◌, ℕ, suc, ◌+◌, ◌-◌, ◌<◌, ◌≤◌, Bool, true, false, cond, List, [], ◌∷◌, ◌++◌, length}
 use Rattle.std.proofs.Common.{take, refl, sym, ap, ◌∙◌, arith}
-use Rattle.std.specs.List.{before_first, flat_map, list_any}
 use Rattle.std.proofs.lemmas.Bool.{and_parts, not-true, or_from}
 use Rattle.std.proofs.lemmas.List.{append-nil, append_assoc, length-append}
 use Rattle.std.proofs.lemmas.List.Folds.{list_any-append}
+use Rattle.std.specs.List.{before_first, flat_map, list_any}
 use Rattle.def_feed.specs.Kept.{KeptText, logical_behind, with_front, with_joined}
 use Rattle.def_io.specs.Bytes.{Bytes, Lines}
 use Rattle.def_text.specs.Logical.{Logical, continues, groups_of, is_hash, joined, logical, logical_lines}
 use Rattle.def_text.specs.Logical.{numbered_groups, part_of, with_line, with_space}
-use Rattle.qm_obj.specs.Ahead.{size_ahead}
-use Rattle.qm_obj.specs.Feeding.{number_by}
-use Rattle.qm_obj.specs.Lines.{first_logical, uncommented}
-use Rattle.qm_obj.proofs.Groups.{logical_step}
-use Rattle.qm_obj.proofs.JoinLemmas.{any_take, cut_none, length-with_space}
+use Rattle.qm_obj.specs.{Ahead.size_ahead, Feeding.number_by, Lines.first_logical, Lines.uncommented}
+use Rattle.qm_obj.proofs.{Groups.logical_step, JoinLemmas.any_take, JoinLemmas.cut_none, JoinLemmas.length-with_space}
 use Rattle.qm_obj.proofs.WordLemmas.{uncommented_is, uncommented_none}
 
 -- Joined text that is there stands in front.

@@ -2,8 +2,6 @@
 use Rattle.std.proofs.Common.{◌≡◌, ℕ, suc, ◌+◌, ◌-◌, ◌^◌, ◌<◌, ◌≤◌, min, Bool, true, false, cond, List, [], ◌∷◌, ◌++◌}
 use Rattle.std.proofs.Common.{length, drop, map, get_or, refl, sym, ap, ◌∙◌, arith, ltb, Option, Some, None, Result, Ok}
 use Rattle.std.proofs.Common.{Err}
-use Rattle.std.specs.Prelude.{◌≢◌, IfErr, IfOk, IsTrue, slice_range}
-use Rattle.std.specs.List.{count_by, flat_map, list_all, list_any}
 use Rattle.std.proofs.lemmas.Bool.{and_from, and_parts, ltb-false, or_parts}
 use Rattle.std.proofs.lemmas.Bool.Decides.{nat_tests}
 use Rattle.std.proofs.lemmas.List.{append-nil, append_assoc, length-append, length-map, map-append}
@@ -11,25 +9,21 @@ use Rattle.std.proofs.lemmas.List.Concat.{flat_map-append}
 use Rattle.std.proofs.lemmas.List.Folds.{list_all-append}
 use Rattle.std.proofs.lemmas.List.Sums.{sum_by_push}
 use Rattle.std.proofs.lemmas.Result.{IfErr-weaker, IfOk-weaker}
-use Rattle.def_text.specs.FaceSet.{FaceSet}
-use Rattle.def_text.specs.Logical.{Logical, logical_lines}
-use Rattle.qm_obj.specs.Ahead.{span}
-use Rattle.def_text.specs.Reading.{is_face_line, is_vertex_line, reading}
-use Rattle.def_text.specs.Text.{face_in, face_set, faces, first_refusal, late_in, position_in, positions, readings}
-use Rattle.def_text.specs.Text.{refusal_in, soup_of, text_soup}
-use Rattle.def_text.specs.declared.refusal.ObjFail.{ObjFail}
+use Rattle.std.specs.Prelude.{◌≢◌, IfErr, IfOk, IsTrue, slice_range}
+use Rattle.std.specs.List.{count_by, flat_map, list_all, list_any}
+use Rattle.def_text.specs.{FaceSet.FaceSet, Logical.Logical, Logical.logical_lines, Reading.is_face_line}
+use Rattle.def_text.specs.{Reading.is_vertex_line, Reading.reading, Text.face_in, Text.face_set, Text.faces}
+use Rattle.def_text.specs.Text.{first_refusal, late_in, position_in, positions, readings}
+use Rattle.def_text.specs.{Text.refusal_in, Text.soup_of, Text.text_soup, declared.refusal.ObjFail.ObjFail}
 use Rattle.def_text.specs.declared.refusal.ObjFail.TheVariants.{Memory, Range}
-use Rattle.def_text.specs.declared.reading.Reading.{Reading}
-use Rattle.def_text.specs.declared.reading.Reading.TheVariants.{Passed, Position, Face, Refused}
-use Rattle.qm_obj.specs.Indices.{clamped, with_clamped}
-use Rattle.qm_obj.specs.Kept.{first_late, IsLate}
-use Rattle.qm_obj.specs.Lines.{HasRead, HasReadTo, Took, first_logical, line_in, next_said}
-use Rattle.qm_obj.proofs.Groups.{logical_step}
-use Rattle.qm_obj.proofs.JoinLemmas.{range_cons, range_none, span_few, span_some}
-use Rattle.qm_obj.proofs.ListLemmas.{length-range, parts_none, range_drop}
-use Rattle.qm_obj.proofs.SoupLemmas.{few_pos, same_faces}
-use Rattle.qm_obj.proofs.SuitLemmas.{Suits, reading_suits}
-use Rattle.def_text.specs.Types.{Positions}
+use Rattle.def_text.specs.{declared.reading.Reading.Reading, declared.reading.Reading.TheVariants.Passed}
+use Rattle.def_text.specs.declared.reading.Reading.TheVariants.{Position, Face}
+use Rattle.def_text.specs.{declared.reading.Reading.TheVariants.Refused, Types.Positions}
+use Rattle.qm_obj.specs.{Ahead.span, Indices.clamped, Indices.with_clamped, Kept.first_late, Kept.IsLate, Lines.HasRead}
+use Rattle.qm_obj.specs.Lines.{HasReadTo, Took, first_logical, line_in, next_said}
+use Rattle.qm_obj.proofs.{Groups.logical_step, JoinLemmas.range_cons, JoinLemmas.range_none, JoinLemmas.span_few}
+use Rattle.qm_obj.proofs.{JoinLemmas.span_some, ListLemmas.length-range, ListLemmas.parts_none, ListLemmas.range_drop}
+use Rattle.qm_obj.proofs.{SoupLemmas.few_pos, SoupLemmas.same_faces, SuitLemmas.Suits, SuitLemmas.reading_suits}
 use Rattle.def_mesh.specs.Faces.{Faces}
 use Rattle.def_io.specs.Bytes.{Lines}
 

@@ -2,9 +2,6 @@
 use Rattle.std.proofs.Common.{◌≡◌, ℕ, zero, suc, ◌+◌, ◌-◌, ◌<◌, ◌≤◌, Bool, true, false, cond, ◌&&◌, nat_lt, List, []}
 use Rattle.std.proofs.Common.{◌∷◌, ◌++◌, length, map, get_or, refl, sym, ap, ◌∙◌, arith, subst, eqb, ltb, leb, Some}
 use Rattle.std.proofs.Common.{None, inl, inr, ◌⊎◌}
-use Rattle.std.specs.Prelude.{IsTrue}
-use Rattle.std.specs.List.{list_all, list_any}
-use Rattle.std.specs.List.Sorted.{IsStrictlyIncreasing}
 use Rattle.std.proofs.lemmas.Bool.{and_from, and_parts, cases_lt, eq-eqb, eqb-true, false≢true, le-leb, leb-true}
 use Rattle.std.proofs.lemmas.Bool.{lt-ltb, ltb-false, ltb-true, or_left, or_right, or_cases, or_parts}
 use Rattle.std.proofs.lemmas.List.{append-nil, get_or_append_left, get_or_push, length-append, length-map, length_push}
@@ -12,12 +9,11 @@ use Rattle.std.proofs.lemmas.List.Elements.{filter-append, filter_passes}
 use Rattle.std.proofs.lemmas.List.Folds.{list_any_at}
 use Rattle.std.proofs.lemmas.List.Kept.{IsStrictlyIncreasing-filter}
 use Rattle.std.proofs.lemmas.List.Sums.{count_by-le-length, length-filter}
-use Rattle.def_mesh.specs.Vertices.{is_used}
-use Rattle.def_text.specs.FaceSet.{IsSoup}
-use Rattle.def_text.specs.Text.{face_set, numbers_to, position_of, used_to, line_vertex}
+use Rattle.std.specs.{Prelude.IsTrue, List.list_all, List.list_any, List.Sorted.IsStrictlyIncreasing}
+use Rattle.def_mesh.specs.{Vertices.is_used, Faces.Faces}
+use Rattle.def_text.specs.{FaceSet.IsSoup, Text.face_set, Text.numbers_to, Text.position_of, Text.used_to}
+use Rattle.def_text.specs.{Text.line_vertex, Types.Positions}
 use Rattle.qm_obj.specs.Kept.{are_numbers, first_late}
-use Rattle.def_text.specs.Types.{Positions}
-use Rattle.def_mesh.specs.Faces.{Faces}
 
 -- Each of these numbers is below n.
 abbrev pub are_below : ℕ → List ℕ → Bool

@@ -1,18 +1,15 @@
 -- The positions that some face names, and the numbers of the vertices that they become.
 use Rattle.std.proofs.Common.{◌≡◌, ℕ, zero, suc, ◌+◌, ◌-◌, ◌<◌, ◌≤◌, Bool, true, false, cond, ◌&&◌, List, [], ◌∷◌, ◌++◌}
 use Rattle.std.proofs.Common.{length, drop, set, map, get_or, refl, sym, ap, ◌∙◌, arith, ltb, leb, add-one}
-use Rattle.std.specs.Prelude.{IsTrue}
-use Rattle.std.specs.List.{filter, list_all, list_any}
 use Rattle.std.proofs.lemmas.List.{append-nil, take_more_set, map_push, length_push, drop-drop, drop_more, length-set}
 use Rattle.std.proofs.lemmas.List.Elements.{filter-append}
 use Rattle.std.proofs.lemmas.Bool.{and_parts, ltb-true, leb-true}
-use Rattle.def_mesh.specs.Vertices.{is_used}
-use Rattle.def_text.specs.FaceSet.{FaceSet}
-use Rattle.def_text.specs.Text.{face_set, numbers_to, position_of, used_to, line_vertex}
+use Rattle.std.specs.{Prelude.IsTrue, List.filter, List.list_all, List.list_any}
+use Rattle.def_mesh.specs.{Vertices.is_used, Faces.Faces}
+use Rattle.def_text.specs.{FaceSet.FaceSet, Text.face_set, Text.numbers_to, Text.position_of, Text.used_to}
+use Rattle.def_text.specs.{Text.line_vertex, Types.Positions}
 use Rattle.qm_obj.proofs.ListLemmas.{at_back, back_more}
 use Rattle.qm_obj.specs.Kept.{are_numbers, chosen, first_late, IsCounted, IsKept, IsMarked}
-use Rattle.def_text.specs.Types.{Positions}
-use Rattle.def_mesh.specs.Faces.{Faces}
 
 -- A filter and one number more.
 pub filter_numbers : (p : ℕ → Bool) (k : ℕ) → filter p (numbers_to (k + 1)) ≡ filter p (numbers_to k)

@@ -6,14 +6,12 @@ use Rattle.std.proofs.lemmas.List.{drop_more, get_or-map, get_or-set_other, get_
 use Rattle.std.proofs.lemmas.List.{length-map, length-set, length-take-le, same_lists, take_all}
 use Rattle.std.proofs.lemmas.List.Folds.{list_all_at, list_all_more}
 use Rattle.std.specs.List.{before_first, list_all, list_any, position_or_len}
-use Rattle.def_text.specs.Logical.{is_hash}
-use Rattle.def_text.specs.Reading.{face_reading, is_letter, vertex_reading, words_reading}
-use Rattle.def_text.specs.declared.reading.Reading.TheVariants.{Passed}
+use Rattle.def_text.specs.{Logical.is_hash, Reading.face_reading, Reading.is_letter, Reading.vertex_reading}
+use Rattle.def_text.specs.{Reading.words_reading, declared.reading.Reading.TheVariants.Passed, Words.ends_word}
+use Rattle.def_text.specs.{Words.is_blank, Words.words, Types.Words}
 use Rattle.def_io.specs.Lines.{byte_in_front}
-use Rattle.def_text.specs.Words.{ends_word, is_blank, words}
 use Rattle.qm_obj.specs.Indices.{with_clamped}
 use Rattle.qm_obj.specs.Lines.{IsFilled, IsReadTo, is_end, uncommented, with_word}
-use Rattle.def_text.specs.Types.{Words}
 
 -- A text that begins with no blank has its prefix up to the first blank as its first word.
 pub words_word : (b : ℕ) (bs : List ℕ) → is_blank b ≡ false

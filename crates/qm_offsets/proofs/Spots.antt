@@ -1,9 +1,8 @@
 -- Searches in tables of starts.
 use Rattle.std.proofs.Common.{◌≡◌, ◌⊎◌, ℕ, zero, suc, ◌+◌, ◌-◌, ◌<◌, ◌≤◌, List, length, ◌∙◌, ap, inl, inr, arith}
-use Rattle.std.specs.Prelude.{nat_lt, slice_index}
 use Rattle.std.proofs.lemmas.Bool.{cases_eq, cases_lt, cond-true, lt-ltb}
-use Rattle.def_math.specs.Counts.{count_below}
-use Rattle.def_math.specs.Runs.{run_at}
+use Rattle.std.specs.Prelude.{nat_lt, slice_index}
+use Rattle.def_math.specs.{Counts.count_below, Runs.run_at}
 use Rattle.def_remesh.specs.Numberings.{AreRunStarts}
 use Rattle.sum_laws.proofs.Counts.{count_below_same}
 use Rattle.written_laws.proofs.Runs.{count_rises, run_from, run_to, run_last}

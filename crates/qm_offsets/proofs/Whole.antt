@@ -1,13 +1,11 @@
 -- What the layout of a mesh gives.
 use Rattle.std.proofs.Common.{◌≡◌, ℕ, zero, suc, ◌<◌, true, false, List, length, get_or, refl, sym, ap, subst, arith}
-use Rattle.std.specs.List.{All}
 use Rattle.std.proofs.lemmas.List.{get_or_default}
+use Rattle.std.specs.List.{All}
 use Rattle.def_math.specs.Counts.{count_below}
-use Rattle.def_layout.specs.Surfaces.{HasWholeSides}
-use Rattle.def_layout.specs.Layouts.{Way, south, east, north, west}
-use Rattle.def_layout.specs.Lengths.{Lengths, size}
-use Rattle.def_layout.specs.Plans.{Plan, layout_of, way_number, side_at}
-use Rattle.def_layout.specs.declared.tmesh.SideArc.{SideArc}
+use Rattle.def_layout.specs.{Surfaces.HasWholeSides, Layouts.Way, Layouts.south, Layouts.east, Layouts.north}
+use Rattle.def_layout.specs.{Layouts.west, Lengths.Lengths, Lengths.size, Plans.Plan, Plans.layout_of, Plans.way_number}
+use Rattle.def_layout.specs.{Plans.side_at, declared.tmesh.SideArc.SideArc}
 use Rattle.def_remesh.specs.Numberings.{sizes_on, used_at}
 use Rattle.def_layoutnet.specs.MeshLayouts.{IsSomeLayout}
 use Rattle.qm_offsets.specs.Fours.{AreSides}

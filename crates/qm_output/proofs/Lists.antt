@@ -1,13 +1,12 @@
 -- A text that is put item by item and stops at one of them.
-use Rattle.std.proofs.Common.{◌≡◌, ℕ, suc, ◌+◌, ◌<◌, map, arith, List, [], ◌∷◌, ◌++◌, length, take, drop, get_or, sym}
-use Rattle.std.proofs.Common.{◌∙◌, ap, subst, append_assoc}
-use Rattle.std.specs.List.{flat_map, range_with_len}
-use Rattle.std.proofs.Math.Seq.{drop-cons}
-use Rattle.std.proofs.lemmas.Grind.{flat_map-append}
-use Rattle.std.proofs.lemmas.List.{append-nil, take-append-drop}
-use Rattle.std.proofs.lemmas.List.Concat.{flat_map-cons}
-use Rattle.std.proofs.lemmas.List.FromFn.{get_or-map-range_with_len, length-map-range_with_len, map-range_with_len_more}
+use Rattle.std.proofs.Common.{◌≡◌, ℕ, suc, ◌+◌, ◌<◌, map, arith, List}
+use Rattle.std.proofs.Common.{[], ◌∷◌, ◌++◌, length, take, drop, get_or}
+use Rattle.std.proofs.{Common.sym, Common.◌∙◌, Common.ap, Common.subst, Common.append_assoc, Math.Seq.drop-cons}
+use Rattle.std.proofs.{lemmas.Grind.flat_map-append, lemmas.List.append-nil, lemmas.List.take-append-drop}
+use Rattle.std.proofs.{lemmas.List.Concat.flat_map-cons, lemmas.List.FromFn.get_or-map-range_with_len}
+use Rattle.std.proofs.lemmas.List.FromFn.{length-map-range_with_len, map-range_with_len_more}
 use Rattle.std.proofs.lemmas.List.FromFn.{take-map-range_with_len}
+use Rattle.std.specs.List.{flat_map, range_with_len}
 
 -- The texts of items are those up to one, that one's, and those behind it.
 items_apart : {X : Type 0} (f : X → List ℕ) (xs : List X) (i : ℕ) (d : X) → i < length xs

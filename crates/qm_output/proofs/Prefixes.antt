@@ -1,11 +1,9 @@
 -- A sink that failed and took a prefix.
 use Rattle.std.proofs.Common.{◌≡◌, ℕ, [], ◌++◌, Result, Ok, Err, length, take, drop, sym, ap, ◌∙◌, subst}
 use Rattle.std.proofs.Math.Seq.{take-append_seam}
-use Rattle.std.specs.Prelude.{OnErr}
 use Rattle.std.proofs.lemmas.List.{append-nil, take-append-drop}
-use Rattle.def_io.specs.Bytes.{Bytes, Told}
-use Rattle.def_io.specs.Faults.{Rose}
-use Rattle.def_io.specs.Moves.{took, TookPrefix}
+use Rattle.std.specs.Prelude.{OnErr}
+use Rattle.def_io.specs.{Bytes.Bytes, Bytes.Told, Faults.Rose, Moves.took, Moves.TookPrefix}
 use Rattle.def_output.specs.Buffered.{buffered, Buffered, BrokeOff, PassedOn}
 use Rattle.qm_output.specs.Laws.{broke_later, passed_more}
 

@@ -24,25 +24,16 @@ use Rattle.std.proofs.Common.{
   arith,
 }
 use Rattle.std.specs.Prelude.{◌==◌, slice_index}
-use Rattle.std.proofs.lemmas.Bool.{cond_both}
-use Rattle.std.proofs.lemmas.List.{get_or_read, length-map}
-use Rattle.def_layout.specs.Arcs.{dart_at, long_at, path}
-use Rattle.def_layout.specs.Lengths.{Lengths}
-use Rattle.def_layout.specs.Plans.{Plan, layout_of, plan}
-use Rattle.def_layout.specs.declared.tmesh.TArc.{TArc}
-use Rattle.def_layout.specs.declared.tmesh.TMesh.{TMesh}
+use Rattle.std.proofs.{lemmas.Bool.cond_both, lemmas.List.get_or_read, lemmas.List.length-map}
+use Rattle.def_layout.specs.{Arcs.dart_at, Arcs.long_at, Arcs.path, Lengths.Lengths, Plans.Plan, Plans.layout_of}
+use Rattle.def_layout.specs.{Plans.plan, declared.tmesh.TArc.TArc, declared.tmesh.TMesh.TMesh}
 use Rattle.def_layoutnet.specs.MeshLayouts.{IsSomeLayout}
-use Rattle.def_map.specs.Spots.{edge_spot}
-use Rattle.def_map.specs.declared.spot.EdgeSpot.{EdgeSpot}
-use Rattle.def_written.specs.Numbers.{before_arc}
-use Rattle.def_written.specs.Places.{ONE, Step}
-use Rattle.def_written.specs.Spacings.{edge_begin, shared_step, step_parameter, IsSpacing, Shares}
-use Rattle.def_remesh.specs.Placings.{shares_in, IsSpaced}
-use Rattle.def_remesh.specs.Spaced.{shares_along, spacing_by}
-use Rattle.def_remesh.specs.declared.places.Spaced.{Spaced}
-use Rattle.def_remesh.specs.NewPoints.{lengths_in}
-use Rattle.plan_laws.proofs.Bounds.{vertices_few}
-use Rattle.plan_laws.proofs.MeshLayouts.{laid_of}
+use Rattle.def_map.specs.{Spots.edge_spot, declared.spot.EdgeSpot.EdgeSpot}
+use Rattle.def_written.specs.{Numbers.before_arc, Places.ONE, Places.Step, Spacings.edge_begin, Spacings.shared_step}
+use Rattle.def_written.specs.Spacings.{step_parameter, IsSpacing, Shares}
+use Rattle.def_remesh.specs.{Placings.shares_in, Placings.IsSpaced, Spaced.shares_along, Spaced.spacing_by}
+use Rattle.def_remesh.specs.{declared.places.Spaced.Spaced, NewPoints.lengths_in}
+use Rattle.plan_laws.proofs.{Bounds.vertices_few, MeshLayouts.laid_of}
 use Rattle.qm_place.specs.ArcTables.{AreFine}
 use Rattle.qm_place.proofs.Rims.{old_read, old_short}
 use Rattle.written_laws.proofs.Runs.{place_low}

@@ -1,20 +1,13 @@
 -- New vertices lie between the old ones.
 use Rattle.std.proofs.Common.{◌≡◌, ℕ, zero, suc, ◌<◌, List, length, Option, refl, sym, ap, subst, arith}
 use Rattle.std.specs.Prelude.{◌≤ℤ◌}
-use Rattle.def_mesh.specs.Faces.{Faces}
-use Rattle.def_mesh.specs.Vertices.{vertex_count}
-use Rattle.def_layout.specs.Arcs.{long_at}
-use Rattle.def_layout.specs.Lengths.{Lengths, AreLengths}
-use Rattle.def_layout.specs.Plans.{Plan, layout_of}
+use Rattle.def_mesh.specs.{Faces.Faces, Vertices.vertex_count}
+use Rattle.def_layout.specs.{Arcs.long_at, Lengths.Lengths, Lengths.AreLengths, Plans.Plan, Plans.layout_of}
 use Rattle.def_text.specs.Types.{Positions}
-use Rattle.def_written.specs.Numbers.{vertices}
-use Rattle.def_remesh.specs.NewPoints.{point_at}
-use Rattle.def_remesh.specs.NewSoup.{coordinate, new_coordinate, spaced_place}
-use Rattle.def_remesh.specs.Placings.{coordinate_in, IsMeshLayout, LiesBetween}
-use Rattle.def_remesh.specs.Spaced.{spacing_by}
-use Rattle.def_written.specs.Spacings.{IsSpacing}
-use Rattle.map_laws.proofs.Numbered.{is_point}
-use Rattle.map_laws.proofs.OldPoints.{old_low}
+use Rattle.def_written.specs.{Numbers.vertices, Spacings.IsSpacing}
+use Rattle.def_remesh.specs.{NewPoints.point_at, NewSoup.coordinate, NewSoup.new_coordinate, NewSoup.spaced_place}
+use Rattle.def_remesh.specs.{Placings.coordinate_in, Placings.IsMeshLayout, Placings.LiesBetween, Spaced.spacing_by}
+use Rattle.map_laws.proofs.{Numbered.is_point, OldPoints.old_low}
 use Rattle.qm_offsets.proofs.Whole.{laid_of, lengths_of}
 use Rattle.written_laws.proofs.Between.{between_law}
 

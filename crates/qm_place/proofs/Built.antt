@@ -2,20 +2,14 @@
 use Rattle.std.proofs.Common.{◌≡◌, ℕ, ◌-◌, ◌*◌, ◌^◌, ◌<◌, ◌≤◌, List, length, ap, subst, arith}
 use Rattle.std.specs.Prelude.{slice_index}
 use Rattle.def_math.specs.Counts.{count_below}
-use Rattle.def_layout.specs.Lengths.{wide, high}
-use Rattle.def_layout.specs.Plans.{Plan, layout_of}
-use Rattle.def_written.specs.Numbers.{vertices}
-use Rattle.def_written.specs.Places.{ArcSpacing}
-use Rattle.def_remesh.specs.NewPoints.{lengths_in}
-use Rattle.def_remesh.specs.Numberings.{AreRunStarts}
-use Rattle.def_remesh.specs.Placings.{rim_at, IsRim}
+use Rattle.def_layout.specs.{Lengths.wide, Lengths.high, Plans.Plan, Plans.layout_of}
+use Rattle.def_written.specs.{Numbers.vertices, Places.ArcSpacing}
+use Rattle.def_remesh.specs.{NewPoints.lengths_in, Numberings.AreRunStarts, Placings.rim_at, Placings.IsRim}
 use Rattle.def_remesh.specs.declared.places.Rim.{Rim}
 use Rattle.sum_laws.proofs.Counts.{count_below_same}
-use Rattle.qm_place.specs.ArcTables.{AreFine}
-use Rattle.qm_place.specs.Spots.{inner_of}
+use Rattle.qm_place.specs.{ArcTables.AreFine, Spots.inner_of}
 use Rattle.plan_laws.proofs.Bounds.{vertices_few}
-use Rattle.qm_offsets.proofs.Spots.{starts_same, term_room}
-use Rattle.qm_offsets.proofs.Whole.{laid_of}
+use Rattle.qm_offsets.proofs.{Spots.starts_same, Spots.term_room, Whole.laid_of}
 use Rattle.written_laws.proofs.Grid.{wide_some, high_some}
 
 module _ (plan : Plan) (list : List ℕ) (fine : AreFine plan list) where

@@ -1,10 +1,7 @@
 -- Numbers that fit their type, and products of such.
 use Rattle.std.proofs.Common.{◌≡◌, ℕ, zero, suc, ◌-◌, ◌*◌, ◌^◌, ◌<◌, ◌≤◌, ℤ, pos, negsuc, ◌+ℤ◌, ◌-ℤ◌, ◌*ℤ◌, to_z, of_z}
-use Rattle.std.proofs.Common.{◌∙◌, ap, arith}
-use Rattle.std.specs.Prelude.{◌≤ℤ◌, unsigned_abs, neg_ℤ}
-use Rattle.std.specs.Int.{int_div_euclid, w64, w128}
-use Rattle.std.proofs.lemmas.Int.{ints}
-use Rattle.std.proofs.lemmas.Nat.{mul-le}
+use Rattle.std.proofs.{Common.◌∙◌, Common.ap, Common.arith, lemmas.Int.ints, lemmas.Nat.mul-le}
+use Rattle.std.specs.{Prelude.◌≤ℤ◌, Prelude.unsigned_abs, Prelude.neg_ℤ, Int.int_div_euclid, Int.w64, Int.w128}
 use Rattle.def_written.specs.Places.{on_the_way, ONE, blend}
 use Rattle.written_laws.proofs.Between.{way_within, blend_within}
 

@@ -1,27 +1,19 @@
 -- What is read of the tables and of the layout.
 use Rattle.std.proofs.Common.{◌≡◌, ℕ, zero, suc, ◌+◌, ◌-◌, ◌*◌, ◌<◌, ◌≤◌, List, [], length, get_or, sym, ◌∙◌, ap, subst}
 use Rattle.std.proofs.Common.{arith, ◌^◌}
-use Rattle.std.specs.Prelude.{slice_index}
 use Rattle.std.proofs.lemmas.List.{get_or_read, get_or-map, length-map}
 use Rattle.std.proofs.lemmas.Nat.{mul-le}
-use Rattle.def_cut.specs.Grids.{Rectangle, cell_of, patch_at, rectangle}
-use Rattle.def_cut.specs.declared.patch.Patch.{Patch}
-use Rattle.def_layout.specs.Arcs.{Path, dart_at, long_at, path}
-use Rattle.def_layout.specs.Layouts.{west}
-use Rattle.def_layout.specs.Lengths.{wide, high}
-use Rattle.def_layout.specs.Plans.{Plan, layout_of, plan}
-use Rattle.def_layout.specs.declared.tmesh.TArc.{TArc}
+use Rattle.std.specs.Prelude.{slice_index}
+use Rattle.def_cut.specs.{Grids.Rectangle, Grids.cell_of, Grids.patch_at, Grids.rectangle, declared.patch.Patch.Patch}
+use Rattle.def_layout.specs.{Arcs.Path, Arcs.dart_at, Arcs.long_at, Arcs.path, Layouts.west, Lengths.wide, Lengths.high}
+use Rattle.def_layout.specs.{Plans.Plan, Plans.layout_of, Plans.plan, declared.tmesh.TArc.TArc}
 use Rattle.def_layout.specs.declared.tmesh.TMesh.{TMesh}
 use Rattle.def_written.specs.Numbers.{before_patch}
-use Rattle.def_remesh.specs.NewPoints.{lengths_in}
-use Rattle.def_remesh.specs.Numberings.{AreRunStarts}
-use Rattle.def_remesh.specs.Placings.{rim_at, spacing_in, IsRim}
-use Rattle.def_remesh.specs.declared.places.PlaceTables.{PlaceTables}
-use Rattle.def_remesh.specs.declared.places.Rim.{Rim}
+use Rattle.def_remesh.specs.{NewPoints.lengths_in, Numberings.AreRunStarts, Placings.rim_at, Placings.spacing_in}
+use Rattle.def_remesh.specs.{Placings.IsRim, declared.places.PlaceTables.PlaceTables, declared.places.Rim.Rim}
 use Rattle.def_math.specs.Counts.{count_below}
 use Rattle.qm_place.proofs.Rims.{old_read}
-use Rattle.qm_place.specs.Placed.{ArePlaced}
-use Rattle.qm_place.specs.Spots.{HasRoom}
+use Rattle.qm_place.specs.{Placed.ArePlaced, Spots.HasRoom}
 use Rattle.qm_offsets.proofs.Spots.{last_is}
 
 -- Where a run begins.

@@ -24,36 +24,30 @@ use Rattle.std.proofs.Common.{
 use Rattle.std.proofs.Math.Nat.{mul_comm}
 use Rattle.def_math.specs.Runs.{run_at}
 use Rattle.def_mesh.specs.Faces.{Faces}
-use Rattle.def_layout.specs.Arcs.{long_at}
-use Rattle.def_layout.specs.Layouts.{Layout, south, east, north, west}
-use Rattle.def_layout.specs.Lengths.{Lengths, wide, high, AreLengths}
-use Rattle.def_layout.specs.Plans.{Plan, layout_of, vertex_at}
+use Rattle.def_layout.specs.{Arcs.long_at, Layouts.Layout, Layouts.south, Layouts.east, Layouts.north, Layouts.west}
+use Rattle.def_layout.specs.{Lengths.Lengths, Lengths.wide, Lengths.high, Lengths.AreLengths, Plans.Plan}
+use Rattle.def_layout.specs.Plans.{layout_of, vertex_at}
 use Rattle.def_layoutnet.specs.MeshLayouts.{IsSomeLayout}
-use Rattle.def_written.specs.Numbers.{before_arc, before_patch, vertices}
-use Rattle.def_written.specs.Places.{ONE, parameter, parameter_back, ArcSpacing}
-use Rattle.def_written.specs.Spacings.{IsSpacing}
-use Rattle.def_written.specs.Points.{Point, node, along, inside, IsPoint}
+use Rattle.def_written.specs.{Numbers.before_arc, Numbers.before_patch, Numbers.vertices, Places.ONE, Places.parameter}
+use Rattle.def_written.specs.{Places.parameter_back, Places.ArcSpacing, Spacings.IsSpacing, Points.Point, Points.node}
+use Rattle.def_written.specs.Points.{along, inside, IsPoint}
 use Rattle.def_map.specs.Spots.{edge_spot, face_spot, spot_at, spot_of}
 use Rattle.def_map.specs.declared.spot.EdgeSpot.{EdgeSpot}
 use Rattle.def_map.specs.declared.spot.FaceSpot.{FaceSpot}
 use Rattle.def_map.specs.declared.spot.Spot.TheVariants.{AtVertex, InFace, OnEdge}
 use Rattle.def_remesh.specs.NewPoints.{along_arcs, inside_patches, lengths_in, point_at}
-use Rattle.def_remesh.specs.Placings.{shares_in, spacing_in, ArePlaces}
-use Rattle.def_remesh.specs.Spaced.{shares_along, spacing_by}
-use Rattle.def_remesh.specs.declared.places.PlaceTables.{PlaceTables}
+use Rattle.def_remesh.specs.{Placings.shares_in, Placings.spacing_in, Placings.ArePlaces, Spaced.shares_along}
+use Rattle.def_remesh.specs.{Spaced.spacing_by, declared.places.PlaceTables.PlaceTables}
 use Rattle.map_laws.proofs.Numbered.{at_arc, at_node, at_patch, is_point}
 use Rattle.map_laws.proofs.Parameters.{ahead_end, back_end, u_upto, v_upto}
 use Rattle.map_laws.proofs.Spaced.{spacing_is}
-use Rattle.written_laws.proofs.Spacings.{even_edge, step_is}
-use Rattle.written_laws.proofs.Runs.{run_here, IsInRun}
+use Rattle.written_laws.proofs.{Spacings.even_edge, Spacings.step_is, Runs.run_here, Runs.IsInRun, EdgeNumbers.in_rows}
+use Rattle.written_laws.proofs.Grid.{wide_some, high_some}
 use Rattle.qm_place.proofs.Rims.{old_few, old_short}
 use Rattle.qm_place.specs.Placed.{ArePlaced, IsSized}
 use Rattle.qm_place.specs.Spots.{grid_point, HasEnds, IsAlong, IsInside, IsShort, IsSmall}
 use Rattle.plan_laws.proofs.Bounds.{side_few, vertices_few}
-use Rattle.qm_offsets.proofs.Spots.{term_room}
-use Rattle.qm_offsets.proofs.Whole.{laid_of, lengths_of}
-use Rattle.written_laws.proofs.EdgeNumbers.{in_rows}
-use Rattle.written_laws.proofs.Grid.{wide_some, high_some}
+use Rattle.qm_offsets.proofs.{Spots.term_room, Whole.laid_of, Whole.lengths_of}
 
 module _ (plan : Plan) (shares : Option (List ℕ)) (new : Lengths) where
   -- Where a number of a vertex leads.

@@ -29,17 +29,13 @@ use Rattle.std.proofs.Common.{
 use Rattle.std.specs.Prelude.{nat_lt, ◌==◌}
 use Rattle.std.proofs.lemmas.Bool.{cases_eq, cond-true, cond-false, lt-ltb, le-ltb, ne_eqb}
 use Rattle.std.proofs.lemmas.Nat.{mul-le}
-use Rattle.def_math.specs.Counts.{count_below}
-use Rattle.def_math.specs.Runs.{run_at}
+use Rattle.def_math.specs.{Counts.count_below, Runs.run_at}
 use Rattle.def_written.specs.Places.{ONE}
-use Rattle.def_layout.specs.Arcs.{long_at, path_at}
-use Rattle.def_layout.specs.Lengths.{Lengths}
-use Rattle.def_layout.specs.Plans.{Plan}
-use Rattle.def_remesh.specs.Spaced.{shares_along}
 use Rattle.def_written.specs.Spacings.{counted, edge_begin, inner_step, shared_step, step_parameter}
+use Rattle.def_layout.specs.{Arcs.long_at, Arcs.path_at, Lengths.Lengths, Plans.Plan}
+use Rattle.def_remesh.specs.Spaced.{shares_along}
 use Rattle.qm_place.specs.Paths.{share_by}
-use Rattle.written_laws.proofs.Runs.{count_rises, run_to}
-use Rattle.written_laws.proofs.Spacings.{div_less}
+use Rattle.written_laws.proofs.{Runs.count_rises, Runs.run_to, Spacings.div_less}
 
 -- The run that begins at or before a place, and ends after it, is the one that is found.
 run_is : (start : ℕ → ℕ) (n t e : ℕ) → ((a b : ℕ) → a ≤ b → start a ≤ start b) → e < n → start e ≤ t

@@ -1,23 +1,18 @@
 -- Lists that grow at their end, and the parameters of a side that are put there arc by arc.
-use Rattle.std.proofs.Common.{◌≡◌, ℕ, ◌+◌, ◌-◌, ◌*◌, ◌/◌, ◌<◌, ◌≤◌, Bool, true, false, cond, not, List, [], ◌∷◌}
-use Rattle.std.proofs.Common.{◌++◌, length, length-append, sym, ◌∙◌, ap, subst, inl, inr, arith}
+use Rattle.std.proofs.Common.{◌≡◌, ℕ, ◌+◌, ◌-◌, ◌*◌, ◌/◌, ◌<◌, ◌≤◌}
+use Rattle.std.proofs.Common.{Bool, true, false, cond, not, List, []}
+use Rattle.std.proofs.Common.{◌∷◌, ◌++◌, length, length-append, sym, ◌∙◌, ap}
+use Rattle.std.proofs.{Common.subst, Common.inl, Common.inr, Common.arith, lemmas.Bool.cases_lt}
+use Rattle.std.proofs.{lemmas.List.get_or_append_left, lemmas.List.get_or_push, lemmas.Nat.mul-le, Math.Nat.mul_comm}
 use Rattle.std.specs.Prelude.{slice_index}
-use Rattle.std.proofs.lemmas.Bool.{cases_lt}
-use Rattle.std.proofs.lemmas.List.{get_or_append_left, get_or_push}
-use Rattle.std.proofs.lemmas.Nat.{mul-le}
-use Rattle.std.proofs.Math.Nat.{mul_comm}
-use Rattle.def_layout.specs.Arcs.{long_at}
-use Rattle.def_layout.specs.declared.tmesh.SideArc.{SideArc}
-use Rattle.def_layout.specs.Layouts.{Way, south, east, north, west, Layout, IsSlot}
-use Rattle.def_layout.specs.Lengths.{Lengths, reach, size}
-use Rattle.def_layout.specs.Plans.{Plan, layout_of, plan}
-use Rattle.def_written.specs.Places.{ONE, parameter, parameter_back, ArcSpacing}
-use Rattle.def_written.specs.Points.{use_over}
+use Rattle.def_layout.specs.{Arcs.long_at, declared.tmesh.SideArc.SideArc, Layouts.Way, Layouts.south, Layouts.east}
+use Rattle.def_layout.specs.{Layouts.north, Layouts.west, Layouts.Layout, Layouts.IsSlot, Lengths.Lengths}
+use Rattle.def_layout.specs.{Lengths.reach, Lengths.size, Plans.Plan, Plans.layout_of, Plans.plan}
+use Rattle.def_written.specs.{Places.ONE, Places.parameter, Places.parameter_back, Places.ArcSpacing, Points.use_over}
 use Rattle.def_remesh.specs.Placings.{side_parameter, AreParameters}
 use Rattle.qm_place.specs.Pushed.{on_arc, ArePushed, IsKept}
 use Rattle.qm_offsets.proofs.Spots.{count_step}
-use Rattle.written_laws.proofs.Between.{div_most}
-use Rattle.written_laws.proofs.Sides.{slot, over_is}
+use Rattle.written_laws.proofs.{Between.div_most, Sides.slot, Sides.over_is}
 
 pub pushed_join : (a b c : List ℕ) (n m : ℕ) (f g : ℕ → ℕ) → ArePushed a b n f → ArePushed b c m g
     → ((k : ℕ) → k < m → g k ≡ f (n + k)) → ArePushed a c (n + m) f

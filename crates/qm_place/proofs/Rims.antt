@@ -1,28 +1,23 @@
 -- The parameters of all sides, as they are put one after the other.
 use Rattle.std.proofs.Common.{◌≡◌, ℕ, ◌+◌, ◌-◌, ◌^◌, ◌<◌, ◌≤◌, Bool, true, false, cond, List, [], length, get_or, refl}
 use Rattle.std.proofs.Common.{sym, ◌∙◌, ap, subst, arith}
-use Rattle.std.specs.Prelude.{nat_le}
 use Rattle.std.proofs.lemmas.List.{get_or_default, get_or-map, length-map}
+use Rattle.std.specs.Prelude.{nat_le}
 use Rattle.def_cut.specs.Grids.{rectangle}
-use Rattle.def_layout.specs.Arcs.{Path, long_at, path}
-use Rattle.def_layout.specs.Layouts.{Way, south, east, north, west, Slot, IsSlot, use_of}
-use Rattle.def_layout.specs.Lengths.{Lengths, reach, size}
-use Rattle.def_layout.specs.Plans.{Plan, layout_of, way_number, plan, side_at}
-use Rattle.def_layout.specs.declared.tmesh.SideArc.{SideArc}
-use Rattle.def_layout.specs.declared.tmesh.TArc.{TArc}
+use Rattle.def_layout.specs.{Arcs.Path, Arcs.long_at, Arcs.path, Layouts.Way, Layouts.south, Layouts.east}
+use Rattle.def_layout.specs.{Layouts.north, Layouts.west, Layouts.Slot, Layouts.IsSlot, Layouts.use_of, Lengths.Lengths}
+use Rattle.def_layout.specs.{Lengths.reach, Lengths.size, Plans.Plan, Plans.layout_of, Plans.way_number, Plans.plan}
+use Rattle.def_layout.specs.{Plans.side_at, declared.tmesh.SideArc.SideArc, declared.tmesh.TArc.TArc}
 use Rattle.def_layout.specs.declared.tmesh.TMesh.{TMesh}
 use Rattle.def_layoutnet.specs.MeshLayouts.{IsSomeLayout}
 use Rattle.def_written.specs.Places.{ArcSpacing}
-use Rattle.def_remesh.specs.NewPoints.{lengths_in}
-use Rattle.def_remesh.specs.Placings.{parameters_from, side_parameter, AreParameters, IsRim}
-use Rattle.def_remesh.specs.declared.places.Rim.{Rim}
-use Rattle.qm_place.specs.ArcTables.{AreFine}
-use Rattle.qm_place.specs.Pushed.{on_arc, ArePushed, IsKept}
+use Rattle.def_remesh.specs.{NewPoints.lengths_in, Placings.parameters_from, Placings.side_parameter}
+use Rattle.def_remesh.specs.{Placings.AreParameters, Placings.IsRim, declared.places.Rim.Rim}
+use Rattle.qm_place.specs.{ArcTables.AreFine, Pushed.on_arc, Pushed.ArePushed, Pushed.IsKept}
 use Rattle.qm_place.proofs.Pushes.{is_back, kept_on, parameters_in, parameters_kept, pushed_join, pushed_kept}
 use Rattle.qm_place.proofs.Pushes.{slot_parameter, start_by}
 use Rattle.plan_laws.proofs.Bounds.{old_faces, side_few}
-use Rattle.qm_offsets.proofs.Spots.{count_step}
-use Rattle.qm_offsets.proofs.Whole.{laid_of, lengths_of}
+use Rattle.qm_offsets.proofs.{Spots.count_step, Whole.laid_of, Whole.lengths_of}
 use Rattle.written_laws.proofs.Sides.{reach_low, slot}
 
 -- Sides are short.

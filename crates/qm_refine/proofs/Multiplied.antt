@@ -1,22 +1,16 @@
 -- Multiples of the old lengths as lengths of a layout.
-use Rattle.std.proofs.Common.{◌≡◌, ℕ, ◌*◌, ◌^◌, ◌<◌, ◌≤◌, ◌⊎◌, List, [], ◌∷◌, length, map, get_or, inl, inr, refl, ap}
-use Rattle.std.proofs.Common.{◌∙◌, arith}
+use Rattle.std.proofs.Common.{◌≡◌, ℕ, ◌*◌, ◌^◌, ◌<◌, ◌≤◌, ◌⊎◌, List}
+use Rattle.std.proofs.Common.{[], ◌∷◌, length, map, get_or, inl, inr}
+use Rattle.std.proofs.{Common.refl, Common.ap, Common.◌∙◌, Common.arith, lemmas.Bool.cases_lt}
+use Rattle.std.proofs.{Math.ListN.get_or-eq_default, Math.ListN.get_or-map, Math.Nat.mul-le-mul_right}
 use Rattle.std.specs.List.{All}
-use Rattle.std.proofs.lemmas.Bool.{cases_lt}
-use Rattle.std.proofs.Math.ListN.{get_or-eq_default, get_or-map}
 use Rattle.std.proofs.lemmas.List as lists
-use Rattle.std.proofs.Math.Nat.{mul-le-mul_right}
-use Rattle.def_cut.specs.Cuts.{IsCut}
-use Rattle.def_cut.specs.FullCut.{is_on}
-use Rattle.def_layout.specs.Arcs.{dart_at, long_at, path, Path}
-use Rattle.def_layout.specs.Lengths.{AreLengths}
-use Rattle.def_layout.specs.Nodes.{is_node, AreNodes}
-use Rattle.def_layout.specs.Plans.{Plan, layout_of, plan, vertex_at}
-use Rattle.def_layout.specs.declared.tmesh.TArc.{TArc}
-use Rattle.def_layout.specs.declared.tmesh.TMesh.{TMesh}
+use Rattle.def_cut.specs.{Cuts.IsCut, FullCut.is_on}
+use Rattle.def_layout.specs.{Arcs.dart_at, Arcs.long_at, Arcs.path, Arcs.Path, Lengths.AreLengths, Nodes.is_node}
+use Rattle.def_layout.specs.{Nodes.AreNodes, Plans.Plan, Plans.layout_of, Plans.plan, Plans.vertex_at}
+use Rattle.def_layout.specs.{declared.tmesh.TArc.TArc, declared.tmesh.TMesh.TMesh}
 use Rattle.def_layoutnet.specs.MeshLayouts.{IsSomeLayout}
-use Rattle.def_mesh.specs.Darts.{darts}
-use Rattle.def_mesh.specs.HalfEdges.{half_edges, IsQuadManifold}
+use Rattle.def_mesh.specs.{Darts.darts, HalfEdges.half_edges, HalfEdges.IsQuadManifold}
 use Rattle.def_remesh.specs.NewPoints.{lengths_in, multiple_of}
 use Rattle.def_flow.specs.declared.limits.TheConstants.{MAX_LENGTH}
 use Rattle.def_run.specs.declared.command.TheConstants.{MAX_MULTIPLE}
@@ -24,8 +18,7 @@ use Rattle.cut_laws.proofs.Pigeon.{no_more}
 use Rattle.mesh_laws.proofs.HalfEdges.{manifold_law}
 use Rattle.face_laws.proofs.FullCuts.{full_cut_law}
 use Rattle.layout_laws.proofs.FaceNodes.{are_nodes}
-use Rattle.plan_laws.proofs.ArcUses.{dart_low, same_dart}
-use Rattle.plan_laws.proofs.PlanLies.{plan_law}
+use Rattle.plan_laws.proofs.{ArcUses.dart_low, ArcUses.same_dart, PlanLies.plan_law}
 use Rattle.written_laws.proofs.Shape.{multiple_law}
 
 -- The lengths of the arcs of a layout, times a number.

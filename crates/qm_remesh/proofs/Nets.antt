@@ -2,14 +2,10 @@
 use Rattle.std.proofs.Common.{Bool, ◌≤◌}
 use Rattle.def_certtext.specs.Settings.{AreInRange}
 use Rattle.def_flow.specs.Network.{Network, tangle_number, IsWithinBounds}
-use Rattle.def_flow.specs.declared.limits.TheConstants.{MAX_TANGLE}
-use Rattle.def_flow.specs.declared.net.Settings.{Settings}
-use Rattle.def_layout.specs.Arcs.{long_at}
-use Rattle.def_layout.specs.Plans.{Plan, layout_of}
-use Rattle.def_layoutnet.specs.LayoutNet.{IsNetOf}
-use Rattle.def_layoutnet.specs.MeshLayouts.{IsSomeLayout}
-use Rattle.def_remesh.specs.Keeping.{IsNetFor}
-use Rattle.def_remesh.specs.Tasks.{old_lengths}
+use Rattle.def_flow.specs.{declared.limits.TheConstants.MAX_TANGLE, declared.net.Settings.Settings}
+use Rattle.def_layout.specs.{Arcs.long_at, Plans.Plan, Plans.layout_of}
+use Rattle.def_layoutnet.specs.{LayoutNet.IsNetOf, MeshLayouts.IsSomeLayout}
+use Rattle.def_remesh.specs.{Keeping.IsNetFor, Tasks.old_lengths}
 
 pub net_for : (plan : Plan) (settings : Settings) (auto : Bool) (net : Network) → IsSomeLayout plan
     → AreInRange settings auto

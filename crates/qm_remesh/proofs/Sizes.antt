@@ -5,12 +5,9 @@ use Rattle.def_fit.specs.declared.fit.Aim.{Aim}
 use Rattle.def_fit.specs.declared.fit.Aim.TheVariants.{Scale, Edge, Wishes}
 use Rattle.def_flow.specs.declared.net.Settings.{Settings}
 use Rattle.def_layout.specs.Plans.{Plan}
-use Rattle.def_remesh.specs.Refusals.{IsLayoutFail}
-use Rattle.def_remesh.specs.Tasks.{Wish}
-use Rattle.def_remesh.specs.declared.kept.LayoutFail.{LayoutFail}
+use Rattle.def_remesh.specs.{Refusals.IsLayoutFail, Tasks.Wish, declared.kept.LayoutFail.LayoutFail}
 use Rattle.def_remesh.specs.declared.kept.LayoutFail.TheVariants as layouts
-use Rattle.def_metric.specs.Fails.{AreNear}
-use Rattle.def_metric.specs.declared.fail.SizeFail.TheVariants.{Layout}
+use Rattle.def_metric.specs.{Fails.AreNear, declared.fail.SizeFail.TheVariants.Layout}
 
 -- Its least lengths give no new mesh.
 pub no_mesh : (aim : Aim) (wish : Wish) (plan : Plan) (settings : Settings) (fail : LayoutFail)

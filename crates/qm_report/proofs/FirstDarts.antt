@@ -3,12 +3,9 @@ use Rattle.std.proofs.Common.{ℕ, ◌<◌, List, [], ◌∷◌, length, get_or,
 use Rattle.std.proofs.lemmas.List.FromFn.{get_or-range_with_len, length-range_with_len}
 use Rattle.std.proofs.lemmas.List.Elements.{All-nil, All-cons, All-head, All-tail, All-filter}
 use Rattle.std.specs.List.{All}
-use Rattle.def_mesh.specs.Components.{is_start, seeds, start_darts}
-use Rattle.def_mesh.specs.Darts.{all_darts, darts}
+use Rattle.def_mesh.specs.{Components.is_start, Components.seeds, Components.start_darts, Darts.all_darts, Darts.darts}
 use Rattle.def_mesh.specs.Faces.{Faces}
-use Rattle.def_cut.specs.Traced.{AreRiders}
-use Rattle.def_cut.specs.declared.graph.Rider.{Rider}
-use Rattle.def_cut.specs.declared.moving.Moving.{Moving}
+use Rattle.def_cut.specs.{Traced.AreRiders, declared.graph.Rider.Rider, declared.moving.Moving.Moving}
 
 -- The riders start along these darts.
 from_firsts : (n : ℕ) (ms : List Moving) (ds : List ℕ) (rs : List Rider)

@@ -1,23 +1,18 @@
 -- The lines of the layout of a chosen cut.
 use Rattle.std.proofs.Common.{◌≡◌, ℕ, ◌+◌, ◌<◌, Bool, List, [], ◌∷◌, ◌++◌, Option, Some, None, length, map, get_or}
 use Rattle.std.proofs.Common.{codes, refl, sym, ap, ◌∙◌, subst, append_assoc, append-nil, arith}
-use Rattle.std.specs.Prelude.{decimal, slice_index, if◌then◌else◌}
-use Rattle.std.specs.List.{flat_map}
 use Rattle.std.proofs.lemmas.Grind.{flat_map-append}
 use Rattle.std.proofs.lemmas.List.{get_or_default, get_or-map}
+use Rattle.std.specs.{Prelude.decimal, Prelude.slice_index, Prelude.if◌then◌else◌, List.flat_map}
 use Rattle.def_cut.specs.FullCut.{is_on}
 use Rattle.def_cuttext.specs.LayoutText.{break_line, place_in_file, whole_arc_line}
 use Rattle.def_io.specs.declared.TheConstants.{LINE_FEED}
-use Rattle.def_layout.specs.Arcs.{path, path_at, Path}
-use Rattle.def_layout.specs.Plans.{plan, vertex_at, Plan}
-use Rattle.def_layout.specs.declared.tmesh.TArc.{TArc}
-use Rattle.def_layout.specs.declared.tmesh.TMesh.{TMesh}
-use Rattle.def_mesh.specs.Darts.{darts, from_of}
-use Rattle.def_mesh.specs.Faces.{Faces}
+use Rattle.def_layout.specs.{Arcs.path, Arcs.path_at, Arcs.Path, Plans.plan, Plans.vertex_at, Plans.Plan}
+use Rattle.def_layout.specs.{declared.tmesh.TArc.TArc, declared.tmesh.TMesh.TMesh}
+use Rattle.def_mesh.specs.{Darts.darts, Darts.from_of, Faces.Faces}
 use Rattle.def_remesh.specs.Placings.{IsMeshLayout}
 use Rattle.def_report.specs.GraphText.{numbers_line, numbers_text}
-use Rattle.def_text.specs.FaceSet.{FaceSet}
-use Rattle.def_text.specs.declared.letters.TheConstants.{SPACE}
+use Rattle.def_text.specs.{FaceSet.FaceSet, declared.letters.TheConstants.SPACE}
 use Rattle.plan_laws.proofs.PlanLies.{in_mesh}
 use Rattle.qm_report.specs.Words.{word_of}
 use Rattle.qm_report.proofs.Texts.{behind}

@@ -5,8 +5,7 @@ use Rattle.std.proofs.lemmas.List.FromFn.{length-range_with_len}
 use Rattle.std.proofs.lemmas.List.Sums.{length-filter, count_by-le-length}
 use Rattle.std.specs.List.{range_with_len}
 use Rattle.layout_laws.proofs.SideReads.{arcs_of, read_side}
-use Rattle.def_layout.specs.declared.tmesh.Side.{Side}
-use Rattle.def_layout.specs.declared.tmesh.SideArc.{SideArc}
+use Rattle.def_layout.specs.{declared.tmesh.Side.Side, declared.tmesh.SideArc.SideArc}
 use Rattle.def_report.specs.GraphText.{numbers_line}
 
 -- Text b is text t with the line of the arcs behind it that were read.

@@ -1,14 +1,11 @@
 -- Counting along a range.
 use Rattle.std.proofs.Common.{◌≡◌, ℕ, zero, suc, ◌+◌, ◌<◌, ◌≤◌, Bool, true, false, cond, [], ◌∷◌, ◌++◌, length, map, ap}
 use Rattle.std.proofs.Common.{◌∙◌, refl, arith}
-use Rattle.std.specs.List.{filter, range_with_len}
 use Rattle.std.proofs.lemmas.List.{length-append, append-nil}
 use Rattle.std.proofs.lemmas.List.Sums.{length-filter, count_by-le-length}
 use Rattle.std.proofs.lemmas.List.FromFn.{length-range_with_len, map-range_with_len_more}
-use Rattle.def_mesh.specs.Faces.{Faces}
-use Rattle.def_mesh.specs.Meshes.{IsMesh}
-use Rattle.def_mesh.specs.Vertices.{is_used, vertex_count}
-use Rattle.def_mesh.specs.Components.{used_count}
+use Rattle.std.specs.List.{filter, range_with_len}
+use Rattle.def_mesh.specs.{Faces.Faces, Meshes.IsMesh, Vertices.is_used, Vertices.vertex_count, Components.used_count}
 use Rattle.list_laws.proofs.Filters.{filter_range_more}
 
 -- At most all.

@@ -2,16 +2,14 @@
 use Rattle.std.proofs.Common.{◌≡◌, ◌≢◌, ◌⊎◌, ℕ, zero, suc, ◌+◌, ◌*◌, ◌/◌, ◌<◌, ◌≤◌, Bool, true, false, cond, eqb, List}
 use Rattle.std.proofs.Common.{[], ◌∷◌, ◌++◌, length, get_or, set, Option, Some, None, sym, subst, ap, ◌∙◌, refl, inl}
 use Rattle.std.proofs.Common.{inr, arith}
-use Rattle.std.specs.List.{list_any, count_by, range_with_len}
 use Rattle.std.proofs.lemmas.Option.{none-some, same_Some}
 use Rattle.std.proofs.lemmas.Bool.{cases_eq, cases_lt, eq-eqb, ne_eqb, eqb-true, eqb-false, or_left, or_right, or_cases}
 use Rattle.std.proofs.lemmas.Bool.{false≢true}
 use Rattle.std.proofs.lemmas.List.{get_or-set_same, get_or-set_other, length-set, length-append}
 use Rattle.std.proofs.lemmas.List.Sums.{sum_by-set}
-use Rattle.def_mesh.specs.Faces.{Faces}
-use Rattle.def_mesh.specs.Darts.{is_reverse, twin_of}
-use Rattle.def_mesh.specs.Manifold.{IsManifold}
-use Rattle.def_mesh.specs.Components.{share_edge, is_marked, component_of}
+use Rattle.std.specs.List.{list_any, count_by, range_with_len}
+use Rattle.def_mesh.specs.{Faces.Faces, Darts.is_reverse, Darts.twin_of, Manifold.IsManifold, Components.share_edge}
+use Rattle.def_mesh.specs.Components.{is_marked, component_of}
 use Rattle.list_laws.proofs.Filters.{any_in_range, range_any}
 use Rattle.mesh_laws.proofs.Flood.{Shares, sound, closed, own_mark, share_back}
 use Rattle.mesh_laws.proofs.Twins.{reverse_twin, twin_reverse, twin_found, twin_is}

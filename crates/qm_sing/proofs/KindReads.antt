@@ -3,11 +3,10 @@ use Rattle.std.proofs.Common.{◌≡◌, ℕ, ◌<◌, Bool, true, false, cond, 
 use Rattle.std.proofs.Common.{refl, inl, inr, arith}
 use Rattle.std.proofs.lemmas.Bool.{cases_eq, eq-eqb, ne_eqb, lt-ltb, le-ltb}
 use Rattle.std.proofs.lemmas.List.FromFn.{get_or-map-range_with_len}
-use Rattle.def_mesh.specs.Faces.{Faces}
-use Rattle.def_mesh.specs.Vertices.{vertex_count, all_vertices, faces_at}
-use Rattle.def_mesh.specs.Kinds.{is_inner, is_corner, is_singular, is_reflex, is_regular, kind_of}
-use Rattle.def_mesh.specs.declared.Kind.{Kind}
-use Rattle.def_mesh.specs.declared.Kind.TheVariants.{Regular, Singular, Corner, Reflex}
+use Rattle.def_mesh.specs.{Faces.Faces, Vertices.vertex_count, Vertices.all_vertices, Vertices.faces_at, Kinds.is_inner}
+use Rattle.def_mesh.specs.Kinds.{is_corner, is_singular, is_reflex, is_regular, kind_of}
+use Rattle.def_mesh.specs.{declared.Kind.Kind, declared.Kind.TheVariants.Regular, declared.Kind.TheVariants.Singular}
+use Rattle.def_mesh.specs.declared.Kind.TheVariants.{Corner, Reflex}
 use Rattle.qm_sing.specs.Rings.{is_regular_kind, is_singular_kind, is_reflex_kind}
 
 -- The tests of a kind are those of its vertex.

@@ -5,15 +5,12 @@ use Rattle.std.proofs.Common.{arith}
 use Rattle.std.proofs.lemmas.Option.{none-some, same_Some}
 use Rattle.std.proofs.lemmas.Bool.{cases_Bool, cases_eq, cases_lt, eq-eqb}
 use Rattle.std.proofs.lemmas.List.{length-append, length-replicate, map-append, get_or_append_left, get_or-append-add}
-use Rattle.def_mesh.specs.Faces.{Faces}
-use Rattle.def_mesh.specs.Darts.{darts}
-use Rattle.def_mesh.specs.Manifold.{IsManifold}
+use Rattle.def_mesh.specs.{Faces.Faces, Darts.darts, Manifold.IsManifold}
 use Rattle.def_runs.specs.Runs.{HasDart, IsBefore, IsLongestRun, first_dart, follower, is_closed, is_dart, last_dart}
 use Rattle.def_runs.specs.Runs.{nth_run}
 use Rattle.cut_laws.proofs.Pigeon.{sent_or_not}
-use Rattle.qm_sing.specs.declared.flooding.TheConstants.{NONE}
-use Rattle.qm_sing.specs.declared.lines.Line.{Line}
-use Rattle.qm_sing.specs.Walks.{AreRunsBelow, AreRunsSoFar, IsBack, IsLine, leader, walked}
+use Rattle.qm_sing.specs.{declared.flooding.TheConstants.NONE, declared.lines.Line.Line, Walks.AreRunsBelow}
+use Rattle.qm_sing.specs.Walks.{AreRunsSoFar, IsBack, IsLine, leader, walked}
 use Rattle.qm_sing.proofs.Walking.{back_of, follower_low, leader_low, on_from, one_follower, one_leader, places_differ}
 use Rattle.qm_sing.proofs.Walking.{walk_low, walk_list, walk_long, walk_at, holds_at}
 

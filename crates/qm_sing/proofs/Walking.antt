@@ -4,13 +4,12 @@ use Rattle.std.proofs.Common.{List, map, length, get_or, set, sym, subst, ap, â—
 use Rattle.std.proofs.lemmas.Option.{none-some, same_Some}
 use Rattle.std.proofs.lemmas.Bool.{cases_eq}
 use Rattle.std.proofs.lemmas.List.{get_or-set_same, get_or-set_other}
-use Rattle.std.specs.List.{range_with_len}
 use Rattle.std.proofs.lemmas.List.{length-map}
 use Rattle.std.proofs.lemmas.List.FromFn.{length-range_with_len, get_or-map-range_with_len}
-use Rattle.def_mesh.specs.Faces.{Faces}
-use Rattle.def_mesh.specs.Darts.{darts, from_of, next_of, prev_of, to_of, twin_of, straight_of}
-use Rattle.def_mesh.specs.Manifold.{IsManifold}
-use Rattle.def_mesh.specs.HalfEdges.{IsQuadManifold, half_edges}
+use Rattle.std.specs.List.{range_with_len}
+use Rattle.def_mesh.specs.{Faces.Faces, Darts.darts, Darts.from_of, Darts.next_of, Darts.prev_of, Darts.to_of}
+use Rattle.def_mesh.specs.{Darts.twin_of, Darts.straight_of, Manifold.IsManifold, HalfEdges.IsQuadManifold}
+use Rattle.def_mesh.specs.HalfEdges.{half_edges}
 use Rattle.def_runs.specs.Runs.{HasDart, follower, is_passed}
 use Rattle.cut_laws.proofs.Pigeon.{comes_back}
 use Rattle.mesh_laws.proofs.HalfEdges.{manifold_law}

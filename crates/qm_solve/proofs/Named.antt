@@ -2,8 +2,7 @@
 use Rattle.std.proofs.Common.{◌≡◌, ◌⊎◌, ℕ, ◌+◌, ◌≤◌, true, eqb, ltb, leb, ◌&&◌, List, length, get_or, ℤ, inl, inr}
 use Rattle.std.proofs.Common.{arith}
 use Rattle.std.proofs.lemmas.Bool.{or_cases, and_parts, eqb-true, leb-true}
-use Rattle.def_matching.specs.Matching.{WeightedGraph}
-use Rattle.def_matching.specs.Dual.{DualLists, is_up, verdict}
+use Rattle.def_matching.specs.{Matching.WeightedGraph, Dual.DualLists, Dual.is_up, Dual.verdict}
 use Rattle.def_matching.specs.declared.weighted.Verdict.TheVariants.{Yes}
 use Rattle.qm_dual.proofs.Verdicts.{yes_says}
 use Rattle.qm_solve.specs.Idle.{AreNamed}

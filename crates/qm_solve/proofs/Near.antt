@@ -1,19 +1,16 @@
 -- A list that is no farther from what is wanted than the start has no great length.
-use Rattle.std.proofs.Common.{◌≡◌, ℕ, suc, ◌+◌, ◌*◌, ◌^◌, ◌<◌, ◌≤◌, ◌&&◌, ◌↔◌, true, false, not, nat_le, List, length}
-use Rattle.std.proofs.Common.{pos, ◌-ℤ◌, ◌*ℤ◌, mul-add, mul_comm, mul-one, inl, inr, sym, ◌∙◌, ap, subst, None}
-use Rattle.std.proofs.Common.{true≢false, leb-true, arith}
-use Rattle.std.specs.Prelude.{slice_index, unsigned_abs, int_lt}
-use Rattle.std.specs.List.{list_all}
-use Rattle.std.proofs.lemmas.List.{get_or_default}
+use Rattle.std.proofs.Common.{◌≡◌, ℕ, suc, ◌+◌, ◌*◌, ◌^◌, ◌<◌, ◌≤◌}
+use Rattle.std.proofs.Common.{◌&&◌, ◌↔◌, true, false, not, nat_le, List}
+use Rattle.std.proofs.{Common.length, Common.true≢false, Common.leb-true, Common.arith, lemmas.List.get_or_default}
 use Rattle.std.proofs.lemmas.List.Sums.{AllPass-from_list_all, list_all-from_AllPass}
-use Rattle.std.proofs.Math.Nat.{mul-le-mul_left, mul-le-mul_right}
-use Rattle.std.proofs.lemmas.Int.{ints}
-use Rattle.std.proofs.lemmas.Bool.{and_parts, cases_lt}
+use Rattle.std.proofs.{Math.Nat.mul-le-mul_left, Math.Nat.mul-le-mul_right, lemmas.Int.ints, lemmas.Bool.and_parts}
+use Rattle.std.proofs.lemmas.Bool.{cases_lt}
+use Rattle.std.proofs.Common.{pos, ◌-ℤ◌, ◌*ℤ◌, mul-add, mul_comm, mul-one, inl, inr, sym, ◌∙◌, ap, subst, None}
+use Rattle.std.specs.{Prelude.slice_index, Prelude.unsigned_abs, Prelude.int_lt, List.list_all}
 use Rattle.table_laws.proofs.Ranges.{part_low}
-use Rattle.def_flow.specs.Network.{Network, IsWithinBounds, arc_at}
-use Rattle.def_flow.specs.Admissible.{AreNetLengths, IsAdmissible, arc_deviation, deviation, entries}
-use Rattle.def_flow.specs.Descent.{IsStartOf}
-use Rattle.def_flow.specs.declared.net.Arc.{Arc}
+use Rattle.def_flow.specs.{Network.Network, Network.IsWithinBounds, Network.arc_at, Admissible.AreNetLengths}
+use Rattle.def_flow.specs.Admissible.{IsAdmissible, arc_deviation, deviation, entries}
+use Rattle.def_flow.specs.{Descent.IsStartOf, declared.net.Arc.Arc}
 use Rattle.qm_net.proofs.Within.{arc_bounded}
 use Rattle.qm_solve.specs.Rounds.{is_near_arc}
 

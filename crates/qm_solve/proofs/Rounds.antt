@@ -1,21 +1,15 @@
 -- What the costs of two matchings tell of the list.
 use Rattle.std.proofs.Common.{◌≡◌, ℕ, ◌≤◌, List, length, ℤ, pos, ◌-ℤ◌, ◌*ℤ◌, ◌≤ℤ◌, ◌<ℤ◌, refl, sym, ◌∙◌, ap, subst}
-use Rattle.std.proofs.Common.{arith}
-use Rattle.std.proofs.lemmas.Int.{ints}
+use Rattle.std.proofs.{Common.arith, lemmas.Int.ints}
 use Rattle.def_matching.specs.Matching.{WeightedGraph, IsGraph, IsPerfect, matching_cost}
 use Rattle.def_matching.specs.Dual.{DualLists, IsSmallDual, SaysYes, dual_sum, verdict}
 use Rattle.def_matching.specs.declared.weighted.Verdict.TheVariants.{Yes}
-use Rattle.def_flow.specs.Network.{Network, IsWithinBounds}
-use Rattle.def_flow.specs.Admissible.{IsAdmissible, deviation, entries}
-use Rattle.def_flow.specs.Accepted.{Certificate, IsAccepted}
-use Rattle.def_flow.specs.MatchingGraph.{matching_graph}
-use Rattle.def_flow.specs.Units.{arcwise, down, on_cost}
-use Rattle.def_flow.specs.Descent.{IsSolution, IsStartOf}
+use Rattle.def_flow.specs.{Network.Network, Network.IsWithinBounds, Admissible.IsAdmissible, Admissible.deviation}
+use Rattle.def_flow.specs.{Admissible.entries, Accepted.Certificate, Accepted.IsAccepted, MatchingGraph.matching_graph}
+use Rattle.def_flow.specs.{Units.arcwise, Units.down, Units.on_cost, Descent.IsSolution, Descent.IsStartOf}
 use Rattle.def_flow.specs.Gadget.{IsInBox, lows, caps}
 use Rattle.qm_dual.proofs.Verdicts.{yes_says, yes_bounds}
-use Rattle.gadget_laws.proofs.Box.{own_box}
-use Rattle.gadget_laws.proofs.Law.{box_deviation}
-use Rattle.gadget_laws.proofs.Steps.{raised_in_box}
+use Rattle.gadget_laws.proofs.{Box.own_box, Law.box_deviation, Steps.raised_in_box}
 use Rattle.qm_solve.specs.Rounds.{IsBetter}
 use Rattle.qm_solve.proofs.Near.{start_lengths}
 

@@ -1,25 +1,21 @@
 -- A multiple of the old lengths is a start of the descent.
 use Rattle.std.proofs.Common.{◌≡◌, ℕ, zero, suc, ◌+◌, ◌*◌, ◌/◌, ◌%◌, ◌^◌, ◌<◌, ◌≤◌, ◌&&◌, Bool, true, false, cond}
-use Rattle.std.proofs.Common.{nat_le, max, List, [], ◌∷◌, length, ℤ, pos, ◌-ℤ◌, ◌*ℤ◌, ◌≤ℤ◌, refl, sym, ◌∙◌, ap, add-mul}
 use Rattle.std.proofs.Common.{mul_assoc, mul-one, inl, inr, ◌⊎◌, leb-true, arith}
-use Rattle.std.specs.Prelude.{slice_index, unsigned_abs}
-use Rattle.std.specs.List.{list_all}
 use Rattle.std.proofs.Math.Nat.{mul-le-mul_left, mul-le-mul_right, mul-le-mul}
 use Rattle.std.proofs.lemmas.Int.{ints}
 use Rattle.std.proofs.lemmas.List.{length-map}
 use Rattle.std.proofs.lemmas.Bool.{and_parts, cases_lt}
-use Rattle.def_math.specs.Counts.{count, count_below}
-use Rattle.def_math.specs.Sums.{total, total_below}
+use Rattle.std.proofs.Common.{nat_le, max, List, [], ◌∷◌, length, ℤ, pos, ◌-ℤ◌, ◌*ℤ◌, ◌≤ℤ◌, refl, sym, ◌∙◌, ap, add-mul}
+use Rattle.std.specs.{Prelude.slice_index, Prelude.unsigned_abs, List.list_all}
+use Rattle.def_math.specs.{Counts.count, Counts.count_below, Sums.total, Sums.total_below}
 use Rattle.sum_laws.proofs.Counts.{count_below_prefix, count_below_le, count_below_times}
 use Rattle.sum_laws.proofs.Sums.{times_sum, total_below_same, total_same}
 use Rattle.table_laws.proofs.Ranges.{part_low}
 use Rattle.def_flow.specs.Network.{Network, IsWithinBounds, is_bounded, arc_at, ends}
-use Rattle.def_flow.specs.Admissible.{IsBalanced, IsEven, arc_deviation, deviation, entries, is_on_side, side_sum}
-use Rattle.def_flow.specs.Descent.{IsStartOf, greatest_floor}
-use Rattle.def_flow.specs.declared.net.Arc.{Arc}
-use Rattle.def_flow.specs.declared.net.End.{End}
+use Rattle.def_flow.specs.Admissible.{IsBalanced, IsEven, arc_deviation, deviation}
+use Rattle.def_flow.specs.{Admissible.entries, Admissible.is_on_side, Admissible.side_sum, Descent.IsStartOf}
+use Rattle.def_flow.specs.{Descent.greatest_floor, declared.net.Arc.Arc, declared.net.End.End, Descent.times_old}
 use Rattle.qm_net.proofs.Within.{arc_bounded}
-use Rattle.def_flow.specs.Descent.{times_old}
 
 -- A factor of all terms.
 total_times : {X : Type 0} (c : ℤ) (f : X → ℤ) (xs : List X) → total (λ x. c *ℤ f x) xs ≡ c *ℤ total f xs

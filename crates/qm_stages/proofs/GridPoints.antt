@@ -1,15 +1,10 @@
 -- Grid points are points.
 use Rattle.std.proofs.Common.{◌≡◌, ℕ, ◌+◌, ◌-◌, ◌<◌, ◌≤◌, inl, inr, subst, arith}
 use Rattle.std.proofs.lemmas.Bool.{cases_eq}
-use Rattle.def_layout.specs.Cells.{dart}
-use Rattle.def_layout.specs.Surfaces.{IsSurface}
-use Rattle.def_layout.specs.Layouts.{south, east, north, west, Layout}
-use Rattle.def_layout.specs.Lengths.{Lengths, wide, high, AreLengths}
-use Rattle.def_written.specs.Numbers.{vertex_number, vertices}
-use Rattle.def_written.specs.Points.{point, IsPoint}
-use Rattle.written_laws.proofs.Borders.{from_is}
-use Rattle.written_laws.proofs.Grid.{high_some, wide_some}
-use Rattle.written_laws.proofs.Numbers.{number_low}
+use Rattle.def_layout.specs.{Cells.dart, Surfaces.IsSurface, Layouts.south, Layouts.east, Layouts.north, Layouts.west}
+use Rattle.def_layout.specs.{Layouts.Layout, Lengths.Lengths, Lengths.wide, Lengths.high, Lengths.AreLengths}
+use Rattle.def_written.specs.{Numbers.vertex_number, Numbers.vertices, Points.point, Points.IsPoint}
+use Rattle.written_laws.proofs.{Borders.from_is, Grid.high_some, Grid.wide_some, Numbers.number_low}
 
 module _ (l : Layout) (x : Lengths) (laid : IsSurface l) (len : AreLengths l x) where
   -- A grid point is where a dart of a cell begins.

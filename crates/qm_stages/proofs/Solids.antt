@@ -1,16 +1,11 @@
 -- A mesh whose numbers are those of its types can be written.
-use Rattle.std.specs.Prelude.{nat_lt, slice_index_or}
+use Rattle.std.specs.{Prelude.nat_lt, Prelude.slice_index_or, List.list_all}
 use Rattle.std.proofs.Common.{◌≡◌, ◌<◌, ◌^◌, ◌≤◌, ℕ, true, List, [], ◌∷◌, refl, length, arith, eq-eqb, ap, ◌∙◌}
-use Rattle.std.specs.List.{list_all}
 use Rattle.std.proofs.lemmas.Bool.{and_from, and_parts, lt-ltb, ltb-true}
 use Rattle.std.proofs.lemmas.List.{get_or_default}
 use Rattle.std.proofs.lemmas.List.Sums.{list_all-from_AllPass}
-use Rattle.def_mesh.specs.Faces.{Faces}
-use Rattle.def_mesh.specs.Meshes.{IsMesh}
-use Rattle.def_mesh.specs.Vertices.{names_below}
-use Rattle.def_text.specs.declared.limits.TheConstants.{MAX_V_LINES}
-use Rattle.def_text.specs.FaceSet.{FaceSet}
-use Rattle.def_text.specs.Laws.{is_position, is_quad}
+use Rattle.def_mesh.specs.{Faces.Faces, Meshes.IsMesh, Vertices.names_below}
+use Rattle.def_text.specs.{declared.limits.TheConstants.MAX_V_LINES, FaceSet.FaceSet, Laws.is_position, Laws.is_quad}
 use Rattle.def_remesh.specs.TextLaws.{IsSolid}
 
 -- Numbers below a bound are below a greater one.

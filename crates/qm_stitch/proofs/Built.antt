@@ -1,11 +1,10 @@
 -- The tables that are built number the layout.
 use Rattle.std.proofs.Common.{◌≡◌, ℕ, ◌-◌, ◌*◌, ◌^◌, ◌<◌, ◌≤◌, List, length, sym, ◌∙◌, ap, subst, arith}
-use Rattle.std.specs.Prelude.{slice_index}
 use Rattle.std.proofs.lemmas.Nat.{mul-le}
 use Rattle.std.proofs.lemmas.List.{length-map}
+use Rattle.std.specs.Prelude.{slice_index}
 use Rattle.def_math.specs.Counts.{count_below}
-use Rattle.def_layout.specs.Layouts.{Way, south, west}
-use Rattle.def_layout.specs.Lengths.{size, wide, high}
+use Rattle.def_layout.specs.{Layouts.Way, Layouts.south, Layouts.west, Lengths.size, Lengths.wide, Lengths.high}
 use Rattle.def_layout.specs.Plans.{Plan, layout_of, way_number, side_at}
 use Rattle.def_written.specs.Numbers.{vertices}
 use Rattle.def_remesh.specs.NewPoints.{lengths_in}
@@ -13,12 +12,10 @@ use Rattle.def_remesh.specs.Numberings.{sizes_on, table_at, tables_of, AreRunSta
 use Rattle.def_remesh.specs.declared.tables.Tables.{Tables}
 use Rattle.sum_laws.proofs.Counts.{count_below_le, count_below_same}
 use Rattle.qm_offsets.specs.Fours.{begins_of}
-use Rattle.qm_offsets.proofs.Spots.{last_is, term_room}
-use Rattle.plan_laws.proofs.MeshLayouts.{laid_of}
-use Rattle.qm_offsets.proofs.Whole.{way_for}
+use Rattle.qm_offsets.proofs.{Spots.last_is, Spots.term_room, Whole.way_for}
+use Rattle.plan_laws.proofs.{MeshLayouts.laid_of, Bounds.side_few, Bounds.vertices_few}
 use Rattle.written_laws.proofs.Sides.{size_some}
 use Rattle.qm_stitch.specs.Sizes.{long_by, product_by, table_in, AreRows, IsFine}
-use Rattle.plan_laws.proofs.Bounds.{side_few, vertices_few}
 
 -- Starts of other sizes that are the same.
 starts_same : (f g : ℕ → ℕ) (n : ℕ) (starts : List ℕ) → ((k : ℕ) → k < n → f k ≡ g k) → AreRunStarts f n starts

@@ -1,22 +1,18 @@
 -- What repeats among the keys of the listed edges are the doubled pairs.
 use Rattle.std.proofs.Common.{◌≡◌, ◌≢◌, ◌⊎◌, ℕ, ◌+◌, ◌*◌, ◌/◌, ◌%◌, ◌^◌, ◌<◌, ◌≤◌, List, length, get_or, refl, sym, ◌∙◌}
 use Rattle.std.proofs.Common.{ap, subst, inl, inr, arith}
-use Rattle.std.specs.Prelude.{min, max}
-use Rattle.std.specs.List.{Contains}
 use Rattle.std.proofs.lemmas.Bool.{cases_lt}
 use Rattle.std.proofs.lemmas.List.{get_or-map, get_or_default, length-map}
-use Rattle.def_layout.specs.Layouts.{Way, east, north, Layout}
-use Rattle.def_layout.specs.Surfaces.{IsSurface}
+use Rattle.std.specs.{Prelude.min, Prelude.max, List.Contains}
+use Rattle.def_layout.specs.{Layouts.Way, Layouts.east, Layouts.north, Layouts.Layout, Surfaces.IsSurface}
 use Rattle.def_layout.specs.Lengths.{Lengths, AreLengths}
-use Rattle.def_written.specs.Points.{inside}
-use Rattle.def_written.specs.Numbers.{vertex_number, vertices}
-use Rattle.def_written.specs.Edges.{Edge, on_arc, flat, steep, IsEdge, edge_start, edge_end, HasEnds, IsDoubledAt}
-use Rattle.def_written.specs.Edges.{IsUndoubled, IsFirstDoubled}
-use Rattle.written_laws.proofs.Grid.{point_inside}
-use Rattle.written_laws.proofs.Numbers.{number_low, number_same}
-use Rattle.written_laws.proofs.EdgeDarts.{edge_points}
-use Rattle.written_laws.proofs.Spokes.{spoke, tip, tip_column, tip_row, tip_low, one_way, hub_edge, loop_at, point_sort}
-use Rattle.written_laws.proofs.Spokes.{spoke_joins, Inner, Joins}
+use Rattle.def_written.specs.{Points.inside, Numbers.vertex_number, Numbers.vertices, Edges.Edge, Edges.on_arc}
+use Rattle.def_written.specs.Edges.{flat, steep, IsEdge, edge_start, edge_end, HasEnds}
+use Rattle.def_written.specs.Edges.{IsDoubledAt, IsUndoubled, IsFirstDoubled}
+use Rattle.written_laws.proofs.{Grid.point_inside, Numbers.number_low, Numbers.number_same, EdgeDarts.edge_points}
+use Rattle.written_laws.proofs.Spokes.{spoke, tip, tip_column, tip_row, tip_low}
+use Rattle.written_laws.proofs.Spokes.{one_way, hub_edge, loop_at, point_sort, spoke_joins}
+use Rattle.written_laws.proofs.Spokes.{Inner, Joins}
 use Rattle.qm_stitch.specs.Rims.{key_of, keys_of, pair_key, rim_edges, IsLeastRepeat, IsRepeat}
 use Rattle.qm_stitch.proofs.RimEdges.{all_edges, deep_or_listed, fresh_rim, IsDeep}
 

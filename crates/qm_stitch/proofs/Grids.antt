@@ -1,34 +1,26 @@
 -- What the tables of a numbering say.
 use Rattle.std.proofs.Common.{◌≡◌, ◌≢◌, ℕ, ◌+◌, ◌-◌, ◌*◌, ◌/◌, ◌%◌, ◌^◌, ◌<◌, ◌≤◌, false, List, [], length, get_or}
 use Rattle.std.proofs.Common.{refl, sym, ◌∙◌, ap, subst, arith}
-use Rattle.std.specs.Prelude.{◌==◌, slice_index}
-use Rattle.std.specs.List.{All}
 use Rattle.std.proofs.lemmas.Bool.{cond-true, cond-false, eq-eqb, ne_eqb}
 use Rattle.std.proofs.lemmas.List.{get_or_read}
-use Rattle.def_math.specs.Counts.{count_below}
-use Rattle.def_math.specs.Runs.{run_at}
-use Rattle.def_layout.specs.declared.tmesh.SideArc.{SideArc}
-use Rattle.def_layout.specs.Layouts.{Way, east, north, west, Layout}
-use Rattle.def_layout.specs.Lengths.{Lengths, size, wide, high}
-use Rattle.def_layout.specs.Plans.{Plan, layout_of, way_number, side_at}
+use Rattle.std.proofs.Math.Nat.{mul_comm}
+use Rattle.std.specs.{Prelude.◌==◌, Prelude.slice_index, List.All}
+use Rattle.def_math.specs.{Counts.count_below, Runs.run_at}
+use Rattle.def_layout.specs.{declared.tmesh.SideArc.SideArc, Layouts.Way, Layouts.east, Layouts.north, Layouts.west}
+use Rattle.def_layout.specs.{Layouts.Layout, Lengths.Lengths, Lengths.size, Lengths.wide, Lengths.high, Plans.Plan}
+use Rattle.def_layout.specs.Plans.{layout_of, way_number, side_at}
 use Rattle.def_written.specs.Numbers.{before_arc, before_patch, vertex_number as point_name}
 use Rattle.def_written.specs.NewFaces.{cells_before, face_count, patch_of, cell_in}
 use Rattle.def_written.specs.Points.{along, inside, arc_point, use_point, side_point, point}
-use Rattle.def_remesh.specs.NewPoints.{lengths_in}
-use Rattle.def_remesh.specs.Numberings.{sizes_on, table_at, tables_of, used_at, AreRunStarts, IsNumbering}
-use Rattle.def_remesh.specs.declared.tables.RunStarts.{RunStarts}
-use Rattle.def_remesh.specs.declared.tables.Tables.{Tables}
-use Rattle.written_laws.proofs.Runs.{run_here, run_low, IsInRun}
-use Rattle.qm_offsets.proofs.Spots.{last_is, within_run}
-use Rattle.plan_laws.proofs.MeshLayouts.{laid_of}
-use Rattle.qm_offsets.proofs.Whole.{arcs_low, read_size, read_used, way_for}
-use Rattle.qm_stitch.specs.Numbered.{AreTables}
-use Rattle.qm_stitch.specs.Sizes.{long_by, table_in, point_on}
-use Rattle.plan_laws.proofs.Bounds.{side_few, vertices_few}
-use Rattle.written_laws.proofs.EdgeNumbers.{in_rows}
-use Rattle.written_laws.proofs.Numbers.{number_low}
+use Rattle.def_remesh.specs.{NewPoints.lengths_in, Numberings.sizes_on, Numberings.table_at, Numberings.tables_of}
+use Rattle.def_remesh.specs.Numberings.{used_at, AreRunStarts, IsNumbering}
+use Rattle.def_remesh.specs.{declared.tables.RunStarts.RunStarts, declared.tables.Tables.Tables}
+use Rattle.written_laws.proofs.{Runs.run_here, Runs.run_low, Runs.IsInRun, EdgeNumbers.in_rows, Numbers.number_low}
 use Rattle.written_laws.proofs.Sides.{arc_inner}
-use Rattle.std.proofs.Math.Nat.{mul_comm}
+use Rattle.qm_offsets.proofs.Spots.{last_is, within_run}
+use Rattle.qm_offsets.proofs.Whole.{arcs_low, read_size, read_used, way_for}
+use Rattle.plan_laws.proofs.{MeshLayouts.laid_of, Bounds.side_few, Bounds.vertices_few}
+use Rattle.qm_stitch.specs.{Numbered.AreTables, Sizes.long_by, Sizes.table_in, Sizes.point_on}
 
 -- Which side a grid point lies on.
 module _ (l : Layout) (x : Lengths) (p i j : ℕ) where

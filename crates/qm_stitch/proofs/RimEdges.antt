@@ -1,15 +1,13 @@
 -- The edges that are listed are edges, each once, and all others lie between two inner points of a patch.
 use Rattle.std.proofs.Common.{◌≡◌, ◌≢◌, ◌⊎◌, ℕ, ◌+◌, ◌-◌, ◌<◌, Bool, true, false, not, cond, [], ◌∷◌, refl, sym, ap}
 use Rattle.std.proofs.Common.{subst, inl, inr, arith}
-use Rattle.std.specs.Prelude.{nat_lt}
-use Rattle.std.specs.List.{All, Contains}
 use Rattle.std.proofs.lemmas.Bool.{cases_eq, cases_lt, lt-ltb, ltb-true}
 use Rattle.std.proofs.lemmas.List.Elements.{All-append, All-cons, All-contains, All-nil, Contains-append_left}
 use Rattle.std.proofs.lemmas.List.Elements.{Contains-append_right}
 use Rattle.std.proofs.lemmas.List.Kept.{AllPairs-cons}
-use Rattle.def_layout.specs.Layouts.{Layout}
-use Rattle.def_layout.specs.Surfaces.{HasWholeSides}
-use Rattle.def_layout.specs.Lengths.{Lengths, size, wide, high, AreLengths}
+use Rattle.std.specs.{Prelude.nat_lt, List.All, List.Contains}
+use Rattle.def_layout.specs.{Layouts.Layout, Surfaces.HasWholeSides, Lengths.Lengths, Lengths.size, Lengths.wide}
+use Rattle.def_layout.specs.Lengths.{high, AreLengths}
 use Rattle.def_written.specs.Edges.{Edge, on_arc, flat, steep, IsEdge}
 use Rattle.written_laws.proofs.Sides.{size_some}
 use Rattle.qm_stitch.specs.Rims.{all_lines, along_lines, arcs_upto, ends_in, line_edge, line_ends, lines_upto}

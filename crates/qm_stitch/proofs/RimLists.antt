@@ -1,7 +1,6 @@
 -- Lists that are joined of parts, in which no item stands twice.
 use Rattle.std.proofs.Common.{◌≡◌, ◌≢◌, ℕ, zero, suc, ◌+◌, ◌-◌, ◌<◌, ◌≤◌, Bool, true, false, cond, List, [], ◌∷◌, ◌++◌}
 use Rattle.std.proofs.Common.{map, length, get_or, refl, sym, ◌∙◌, ap, subst, inl, inr, length-append, arith}
-use Rattle.std.specs.List.{All, AllPairs, Contains, flat_map, range_with_len}
 use Rattle.std.proofs.lemmas.Bool.{cases_eq, cases_lt, false≢true}
 use Rattle.std.proofs.lemmas.List.{get_or_append_left, get_or-append_right, get_or_default, append-nil, append_assoc}
 use Rattle.std.proofs.lemmas.List.{map-append, map-id}
@@ -9,6 +8,7 @@ use Rattle.std.proofs.lemmas.List.Concat.{flat_map-append}
 use Rattle.std.proofs.lemmas.List.Elements.{All-append, All-contains, All-nil, Contains-append_left}
 use Rattle.std.proofs.lemmas.List.Elements.{Contains-append_right}
 use Rattle.std.proofs.lemmas.List.FromFn.{get_or-map-range_with_len, length-map-range_with_len, map-range_with_len_more}
+use Rattle.std.specs.List.{All, AllPairs, Contains, flat_map, range_with_len}
 
 -- No item stands twice.
 abbrev pub IsFresh : {X : Type 0} (xs : List X) → Type 0

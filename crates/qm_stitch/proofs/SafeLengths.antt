@@ -1,19 +1,15 @@
 -- Safe lengths double no edge, and lengths that double none keep the shape.
-use Rattle.std.proofs.Common.{◌≡◌, ℕ, zero, suc, ◌*◌, ◌/◌, ◌<◌, Bool, List, length, sym, ◌∙◌, ap, subst, inl, inr}
-use Rattle.std.proofs.Common.{arith}
+use Rattle.std.proofs.Common.{◌≡◌, ℕ, zero, suc, ◌*◌, ◌/◌, ◌<◌, Bool}
+use Rattle.std.proofs.Common.{List, length, sym, ◌∙◌, ap, subst, inl}
+use Rattle.std.proofs.{Common.inr, Common.arith, lemmas.Bool.cases_lt, lemmas.List.get_or_past, lemmas.Nat.div-mul-add}
 use Rattle.std.specs.Prelude.{◌↔◌, IsTrue}
-use Rattle.std.proofs.lemmas.Bool.{cases_lt}
-use Rattle.std.proofs.lemmas.List.{get_or_past}
-use Rattle.std.proofs.lemmas.Nat.{div-mul-add}
-use Rattle.def_layout.specs.Arcs.{long_at, Path}
-use Rattle.def_layout.specs.Lengths.{Lengths, AreLengths}
-use Rattle.def_layout.specs.Plans.{Plan, layout_of, vertex_at}
+use Rattle.def_layout.specs.{Arcs.long_at, Arcs.Path, Lengths.Lengths, Lengths.AreLengths, Plans.Plan, Plans.layout_of}
+use Rattle.def_layout.specs.Plans.{vertex_at}
 use Rattle.def_layoutnet.specs.MeshLayouts.{IsSomeLayout}
 use Rattle.def_written.specs.Edges.{IsUndoubled}
 use Rattle.def_remesh.specs.NewPoints.{lengths_in, multiple_of}
 use Rattle.def_remesh.specs.Stitched.{AreMultiples, AreSafe, KeepsShapes}
-use Rattle.plan_laws.proofs.MeshLayouts.{laid_of, lies}
-use Rattle.plan_laws.proofs.PlanLies.{plan_law}
+use Rattle.plan_laws.proofs.{MeshLayouts.laid_of, MeshLayouts.lies, PlanLies.plan_law}
 use Rattle.written_laws.proofs.Shape.{keeps_shape_law, multiple_law, three_law}
 
 module _ (plan : Plan) (list : List ℕ) (long : length list ≡ length plan.arcs) where

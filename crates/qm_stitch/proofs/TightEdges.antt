@@ -3,9 +3,7 @@ use Rattle.std.proofs.Common.{◌≡◌, ◌⊎◌, ◌↔◌, ℕ, ◌+◌, ◌
 use Rattle.std.proofs.Common.{length, get_or, refl, sym, ◌∙◌, ap, subst, inl, inr, arith}
 use Rattle.std.proofs.lemmas.Bool.{cases_eq, cases_lt}
 use Rattle.std.proofs.lemmas.List.Sorted.{IsPermutation-sym}
-use Rattle.def_layout.specs.Layouts.{Layout}
-use Rattle.def_layout.specs.Surfaces.{IsSurface}
-use Rattle.def_layout.specs.Lengths.{Lengths, size, AreLengths}
+use Rattle.def_layout.specs.{Layouts.Layout, Surfaces.IsSurface, Lengths.Lengths, Lengths.size, Lengths.AreLengths}
 use Rattle.def_remesh.specs.Rises.{IsTightArc, RunsAlong}
 use Rattle.def_written.specs.Edges.{Edge, on_arc, flat, steep, IsEdge, HasEnds, HasLoop, HasPair}
 use Rattle.def_written.specs.Numbers.{vertices}

@@ -2,21 +2,16 @@
 use Rattle.std.proofs.Common.{◌≡◌, ℤ, pos, sym, ◌∙◌, ap, subst, false}
 use Rattle.std.proofs.lemmas.Bool.{false≢true}
 use Rattle.def_certtext.specs.CertLines.{alone, raised, used, Certificates}
-use Rattle.def_flow.specs.Admissible.{deviation, entries, AreNetLengths}
-use Rattle.def_flow.specs.Network.{Network}
+use Rattle.def_flow.specs.{Admissible.deviation, Admissible.entries, Admissible.AreNetLengths, Network.Network}
 use Rattle.def_flow.specs.declared.net.Settings.{Settings}
-use Rattle.def_layout.specs.Arcs.{long_at}
-use Rattle.def_layout.specs.Plans.{Plan, layout_of}
-use Rattle.def_layoutnet.specs.LayoutNet.{IsNetOf}
-use Rattle.def_layoutnet.specs.MeshLayouts.{IsSomeLayout}
-use Rattle.def_remesh.specs.Keeping.{IsKept}
-use Rattle.def_remesh.specs.declared.tables.Tables.{Tables}
+use Rattle.def_layout.specs.{Arcs.long_at, Plans.Plan, Plans.layout_of}
+use Rattle.def_layoutnet.specs.{LayoutNet.IsNetOf, MeshLayouts.IsSomeLayout}
+use Rattle.def_remesh.specs.{Keeping.IsKept, declared.tables.Tables.Tables, Tasks.old_lengths}
 use Rattle.def_run.specs.Bench.{bench_settings}
 use Rattle.plan_laws.proofs.MeshLayouts.{laid_of}
 use Rattle.qm_layoutnet.proofs.OneNet.{one_net_law}
 use Rattle.qm_summary.specs.Deviation.{IsKeptDeviation}
 use Rattle.remesh_laws.proofs.Solved.{writable_short}
-use Rattle.def_remesh.specs.Tasks.{old_lengths}
 
 -- A network and what is kept, of the same layout, where the settings are those of a benchmark.
 pub bench_net : (plan other : Plan) (settings : Settings) (net : Network) → other ≡ plan → settings ≡ bench_settings

@@ -2,19 +2,14 @@
 use Rattle.std.proofs.Common.{◌≡◌, ℕ, pos, false, length, sym, ◌∙◌, ap, subst}
 use Rattle.def_gen.specs.Steps.{steps_soup}
 use Rattle.def_layout.specs.Plans.{Plan}
-use Rattle.def_mesh.specs.Components.{edge_count, start_darts}
-use Rattle.def_mesh.specs.Faces.{Faces}
-use Rattle.def_mesh.specs.Vertices.{vertex_count}
-use Rattle.def_remesh.specs.CutSoups.{CutSoup}
-use Rattle.def_remesh.specs.Refusals.{IsLayoutFail}
-use Rattle.def_remesh.specs.declared.kept.LayoutFail.{LayoutFail}
+use Rattle.def_mesh.specs.{Components.edge_count, Components.start_darts, Faces.Faces, Vertices.vertex_count}
+use Rattle.def_remesh.specs.{CutSoups.CutSoup, Refusals.IsLayoutFail, declared.kept.LayoutFail.LayoutFail}
+use Rattle.def_remesh.specs.Tasks.{old_lengths}
 use Rattle.def_remesh.specs.declared.kept.LayoutFail.TheVariants as fail
-use Rattle.def_report.specs.BenchLine.{bench_line}
-use Rattle.def_report.specs.declared.Counts.{Counts}
+use Rattle.def_report.specs.{BenchLine.bench_line, declared.Counts.Counts}
 use Rattle.def_run.specs.Bench.{bench_faces, bench_settings, counts_of, IsBenchFail}
 use Rattle.def_run.specs.Remesh.{IsTracedLayout}
 use Rattle.def_text.specs.FaceSet.{FaceSet}
-use Rattle.def_remesh.specs.Tasks.{old_lengths}
 
 -- Counts that are those of a mesh and its layout give its line.
 pub same_line : (size : ℕ) (told : Counts) (faces : Faces) (plan : Plan) (deviation : ℕ)

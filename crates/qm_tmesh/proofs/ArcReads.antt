@@ -1,20 +1,12 @@
 -- What is read of the arcs in a slice.
 use Rattle.std.proofs.Common.{◌≡◌, ℕ, ◌<◌, Bool, List, [], map, length, get_or, sym, ◌∙◌, ap, subst}
 use Rattle.std.proofs.lemmas.List.{get_or-map}
-use Rattle.def_mesh.specs.Faces.{Faces}
-use Rattle.def_mesh.specs.Darts.{darts}
-use Rattle.def_mesh.specs.HalfEdges.{half_edges}
-use Rattle.def_cut.specs.FullCut.{is_on}
-use Rattle.def_cut.specs.Grids.{rectangle, patch_at}
-use Rattle.def_cut.specs.declared.patch.Patch.{Patch}
-use Rattle.def_layout.specs.Arcs.{Path, path, path_at, long_at}
-use Rattle.def_layout.specs.Nodes.{is_node}
-use Rattle.def_layout.specs.declared.tmesh.TArc.{TArc}
+use Rattle.def_mesh.specs.{Faces.Faces, Darts.darts, HalfEdges.half_edges}
+use Rattle.def_cut.specs.{FullCut.is_on, Grids.rectangle, Grids.patch_at, declared.patch.Patch.Patch}
+use Rattle.def_layout.specs.{Arcs.Path, Arcs.path, Arcs.path_at, Arcs.long_at, Nodes.is_node, declared.tmesh.TArc.TArc}
 use Rattle.layout_laws.specs.Named.{run_list}
-use Rattle.layout_laws.proofs.Runs.{run_low}
-use Rattle.layout_laws.proofs.Uses.{run_entry}
-use Rattle.qm_tmesh.specs.Tables.{IsMarked, IsNamedRun}
-use Rattle.qm_tmesh.specs.Uses.{AreNamed}
+use Rattle.layout_laws.proofs.{Runs.run_low, Uses.run_entry}
+use Rattle.qm_tmesh.specs.{Tables.IsMarked, Tables.IsNamedRun, Uses.AreNamed}
 
 -- The arc that was read.
 pub read_arc : (arcs : List TArc) (a : ℕ) (x : TArc) → a < length arcs → x ≡ get_or arcs a x → path_at (map path arcs) a

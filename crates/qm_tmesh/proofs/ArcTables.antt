@@ -3,17 +3,11 @@ use Rattle.std.proofs.Common.{◌≡◌, ◌⊎◌, ℕ, suc, ◌+◌, ◌<◌, 
 use Rattle.std.proofs.Common.{subst, inl, inr, length-append, arith}
 use Rattle.std.proofs.lemmas.Bool.{cases_eq, cases_lt}
 use Rattle.std.proofs.lemmas.List.{get_or_append_left, get_or-append-add}
-use Rattle.def_mesh.specs.Faces.{Faces}
-use Rattle.def_mesh.specs.Darts.{darts}
-use Rattle.def_mesh.specs.Vertices.{vertex_count}
-use Rattle.def_mesh.specs.HalfEdges.{half_edges}
-use Rattle.def_cut.specs.FullCut.{is_on}
-use Rattle.def_cut.specs.Grids.{least_of}
-use Rattle.def_layout.specs.Arcs.{Path, path_at, name_at}
-use Rattle.def_layout.specs.Nodes.{is_node}
+use Rattle.def_mesh.specs.{Faces.Faces, Darts.darts, Vertices.vertex_count, HalfEdges.half_edges}
+use Rattle.def_cut.specs.{FullCut.is_on, Grids.least_of}
+use Rattle.def_layout.specs.{Arcs.Path, Arcs.path_at, Arcs.name_at, Nodes.is_node}
 use Rattle.layout_laws.specs.Named.{run_list, run_name}
-use Rattle.layout_laws.proofs.Runs.{same_length}
-use Rattle.layout_laws.proofs.Uses.{same_named}
+use Rattle.layout_laws.proofs.{Runs.same_length, Uses.same_named}
 use Rattle.qm_tmesh.specs.Tables.{IsMarked, IsNamedRun, AreStarts, ArePlaces}
 use Rattle.qm_tmesh.specs.Arcs.{IsArcFrom, AreArcsBelow}
 

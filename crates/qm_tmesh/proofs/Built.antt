@@ -1,40 +1,29 @@
 -- What was found is the layout.
 use Rattle.std.proofs.Common.{◌≡◌, ℕ, zero, suc, ◌+◌, ◌-◌, ◌<◌, ◌≤◌, Bool, true, false, cond, List, [], ◌∷◌, ◌++◌, map}
 use Rattle.std.proofs.Common.{length, get_or, Some, sym, ◌∙◌, ap, subst, refl, inl, inr, arith}
-use Rattle.std.specs.List.{filter, range_with_len}
 use Rattle.std.proofs.lemmas.List.{length-map}
 use Rattle.std.proofs.lemmas.List.FromFn.{get_or-map-range_with_len, length-map-range_with_len}
+use Rattle.std.specs.List.{filter, range_with_len}
 use Rattle.list_laws.proofs.Filters.{filter_range_more}
-use Rattle.def_mesh.specs.Faces.{Faces}
-use Rattle.def_mesh.specs.Meshes.{IsMesh}
-use Rattle.def_mesh.specs.Darts.{darts, from_of, to_of, twin_of}
-use Rattle.def_mesh.specs.Vertices.{vertex_count}
-use Rattle.def_mesh.specs.HalfEdges.{half_edges}
-use Rattle.def_cut.specs.FullCut.{is_on, IsFullCut}
-use Rattle.def_cut.specs.Grids.{Rectangle, patch_at, IsPartition}
+use Rattle.def_mesh.specs.{Faces.Faces, Meshes.IsMesh, Darts.darts, Darts.from_of, Darts.to_of, Darts.twin_of}
+use Rattle.def_mesh.specs.{Vertices.vertex_count, HalfEdges.half_edges}
+use Rattle.def_cut.specs.{FullCut.is_on, FullCut.IsFullCut, Grids.Rectangle, Grids.patch_at, Grids.IsPartition}
 use Rattle.def_cut.specs.Steps.{easts}
-use Rattle.def_layout.specs.Arcs.{IsRun, Path, path, path_at, dart_at, long_at, IsArc, LiesAt}
-use Rattle.def_layout.specs.Borders.{side_size, border_dart}
-use Rattle.def_layout.specs.Layouts.{Way}
-use Rattle.def_layout.specs.Nodes.{is_node}
-use Rattle.def_layout.specs.Plans.{way_number, IsDartLayout}
-use Rattle.def_layout.specs.declared.tmesh.SideArc.{SideArc}
+use Rattle.def_layout.specs.Arcs.{IsRun, Path, path, path_at, dart_at, long_at, IsArc}
+use Rattle.def_layout.specs.{Arcs.LiesAt, Borders.side_size, Borders.border_dart, Layouts.Way, Nodes.is_node}
+use Rattle.def_layout.specs.{Plans.way_number, Plans.IsDartLayout, declared.tmesh.SideArc.SideArc}
 use Rattle.def_layout.specs.declared.tmesh.TArc.{TArc}
 use Rattle.mesh_laws.proofs.HalfEdges.{manifold_law}
 use Rattle.face_laws.proofs.FullCuts.{full_cut_law}
 use Rattle.layout_laws.specs.Named.{run_list}
 use Rattle.layout_laws.proofs.Borders.{IsLine, line, line_easts, each_in_run}
-use Rattle.layout_laws.proofs.FaceNodes.{are_nodes}
-use Rattle.layout_laws.proofs.Runs.{IsBack, run_low}
-use Rattle.layout_laws.proofs.Uses.{run_long, run_entry, named_arc, named_or_back}
-use Rattle.qm_tmesh.specs.Arcs.{IsArcFrom, AreArcsBelow}
-use Rattle.qm_tmesh.specs.Four.{AreRuns, IsPatchOf, HavePatches, AreAllFour}
-use Rattle.qm_tmesh.specs.Sides.{reach_in, HasUseAt, IsSplit, IsSideOf}
-use Rattle.qm_tmesh.specs.Tables.{IsMarked, IsNamedRun}
-use Rattle.qm_tmesh.specs.Uses.{use_in, HasUsesBelow}
-use Rattle.qm_tmesh.proofs.Splits.{arc_use, begins, side_split, entry}
-use Rattle.qm_tmesh.proofs.UseTables.{to_named, uses_done}
-use Rattle.qm_tmesh.proofs.Walks.{name_low}
+use Rattle.layout_laws.proofs.{FaceNodes.are_nodes, Runs.IsBack, Runs.run_low, Uses.run_long, Uses.run_entry}
+use Rattle.layout_laws.proofs.Uses.{named_arc, named_or_back}
+use Rattle.qm_tmesh.specs.{Arcs.IsArcFrom, Arcs.AreArcsBelow, Four.AreRuns, Four.IsPatchOf, Four.HavePatches}
+use Rattle.qm_tmesh.specs.{Four.AreAllFour, Sides.reach_in, Sides.HasUseAt, Sides.IsSplit, Sides.IsSideOf}
+use Rattle.qm_tmesh.specs.{Tables.IsMarked, Tables.IsNamedRun, Uses.use_in, Uses.HasUsesBelow}
+use Rattle.qm_tmesh.proofs.{Splits.arc_use, Splits.begins, Splits.side_split, Splits.entry, UseTables.to_named}
+use Rattle.qm_tmesh.proofs.{UseTables.uses_done, Walks.name_low}
 
 -- Tests that agree below n filter the numbers below n alike.
 filter_same : (p q : ℕ → Bool) (n : ℕ) → ((v : ℕ) → v < n → p v ≡ q v) → filter p (range_with_len 0 n)

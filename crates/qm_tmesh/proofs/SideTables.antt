@@ -4,10 +4,8 @@ use Rattle.std.proofs.Common.{◌∙◌, ap, inl, inr, length-append, arith}
 use Rattle.std.proofs.lemmas.Bool.{cases_lt}
 use Rattle.std.proofs.lemmas.List.{get_or_append_left, get_or-append-add}
 use Rattle.sum_laws.proofs.Counts.{count_below_same}
-use Rattle.def_layout.specs.Arcs.{Path, long_at}
-use Rattle.def_layout.specs.declared.tmesh.SideArc.{SideArc}
-use Rattle.qm_tmesh.specs.Uses.{use_in}
-use Rattle.qm_tmesh.specs.Sides.{reach_in, HasUseAt, IsSplit, IsSideSoFar}
+use Rattle.def_layout.specs.{Arcs.Path, Arcs.long_at, declared.tmesh.SideArc.SideArc}
+use Rattle.qm_tmesh.specs.{Uses.use_in, Sides.reach_in, Sides.HasUseAt, Sides.IsSplit, Sides.IsSideSoFar}
 
 use_front : (used : List SideArc) (u : SideArc) (k : ℕ) → k < length used → use_in (used ++ u ∷ []) k ≡ use_in used k
 use_front used u k l = get_or_append_left used (u ∷ []) (record { arc = 0; forward = true }) k l

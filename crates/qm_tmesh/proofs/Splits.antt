@@ -1,23 +1,15 @@
 -- The sides of patches are split into uses of arcs.
 use Rattle.std.proofs.Common.{◌≡◌, ℕ, suc, ◌+◌, ◌<◌, ◌≤◌, Bool, true, List, length, get_or, Some, option_map, sym, ◌∙◌}
 use Rattle.std.proofs.Common.{ap, subst, arith}
-use Rattle.def_mesh.specs.Faces.{Faces}
-use Rattle.def_mesh.specs.Darts.{darts, from_of, next_of, straight_of}
+use Rattle.def_mesh.specs.{Faces.Faces, Darts.darts, Darts.from_of, Darts.next_of, Darts.straight_of}
 use Rattle.def_mesh.specs.HalfEdges.{half_edges}
-use Rattle.def_cut.specs.FullCut.{is_on}
-use Rattle.def_cut.specs.Grids.{Rectangle}
-use Rattle.def_cut.specs.Steps.{easts}
-use Rattle.def_layout.specs.Arcs.{IsRun, Path, path_at, long_at, LiesAt}
-use Rattle.def_layout.specs.Borders.{side_size, border_dart}
-use Rattle.def_layout.specs.Layouts.{Way}
-use Rattle.def_layout.specs.Nodes.{is_node}
-use Rattle.def_layout.specs.declared.tmesh.SideArc.{SideArc}
+use Rattle.def_cut.specs.{FullCut.is_on, Grids.Rectangle, Steps.easts}
+use Rattle.def_layout.specs.{Arcs.IsRun, Arcs.Path, Arcs.path_at, Arcs.long_at, Arcs.LiesAt, Borders.side_size}
+use Rattle.def_layout.specs.{Borders.border_dart, Layouts.Way, Nodes.is_node, declared.tmesh.SideArc.SideArc}
 use Rattle.layout_laws.specs.Named.{run_list}
 use Rattle.layout_laws.proofs.Borders.{IsLine, line, line_easts, line_begins, run_fits, next_begins}
 use Rattle.layout_laws.proofs.Uses.{IsUse, run_long, run_entry, named_arc, use_run}
-use Rattle.qm_tmesh.specs.Four.{AreRuns, IsPatchOf, HasSide}
-use Rattle.qm_tmesh.specs.Sides.{HasUseAt, IsSplit}
-use Rattle.qm_tmesh.specs.Tables.{IsNamedRun}
+use Rattle.qm_tmesh.specs.{Four.AreRuns, Four.IsPatchOf, Four.HasSide, Sides.HasUseAt, Sides.IsSplit, Tables.IsNamedRun}
 use Rattle.qm_tmesh.specs.Uses.{use_in}
 
 module _ (faces : Faces) (arcs : List Path) (uses : List SideArc) (runs : AreRuns faces arcs uses) where

@@ -4,26 +4,17 @@ use Rattle.std.proofs.Common.{Option, Some, None, sym, ◌∙◌, ap, subst, ref
 use Rattle.std.proofs.lemmas.Bool.{cases_eq, cases_lt, false≢true}
 use Rattle.std.proofs.lemmas.Option.{same_Some}
 use Rattle.std.proofs.lemmas.List.{get_or-set_same, get_or-set_other, length-set}
-use Rattle.def_mesh.specs.Faces.{Faces}
-use Rattle.def_mesh.specs.Darts.{darts, from_of, twin_of}
-use Rattle.def_mesh.specs.HalfEdges.{half_edges}
-use Rattle.def_cut.specs.FullCut.{is_on}
-use Rattle.def_cut.specs.Grids.{Rectangle, least_of, IsPartition}
-use Rattle.def_cut.specs.Steps.{easts}
+use Rattle.def_mesh.specs.{Faces.Faces, Darts.darts, Darts.from_of, Darts.twin_of, HalfEdges.half_edges}
+use Rattle.def_cut.specs.{FullCut.is_on, Grids.Rectangle, Grids.least_of, Grids.IsPartition, Steps.easts}
 use Rattle.def_layout.specs.Arcs.{IsRun, Path, path_at, long_at, name_at, LiesAt}
-use Rattle.def_layout.specs.Nodes.{is_node}
-use Rattle.def_layout.specs.declared.tmesh.SideArc.{SideArc}
-use Rattle.cut_laws.proofs.Darts.{twin_same}
-use Rattle.cut_laws.proofs.Leasts.{least_there}
-use Rattle.cut_laws.proofs.Increasing.{increasing_place}
+use Rattle.def_layout.specs.{Nodes.is_node, declared.tmesh.SideArc.SideArc}
+use Rattle.cut_laws.proofs.{Darts.twin_same, Leasts.least_there, Increasing.increasing_place}
 use Rattle.layout_laws.specs.Named.{run_list, run_name}
-use Rattle.layout_laws.proofs.Borders.{each_in_run}
-use Rattle.layout_laws.proofs.Runs.{IsBack, run_low, run_inner, same_place, same_length, back_run}
-use Rattle.layout_laws.proofs.Uses.{run_long, run_entry, named_or_back}
-use Rattle.qm_tmesh.specs.Tables.{IsMarked, IsNamedRun}
-use Rattle.qm_tmesh.specs.Arcs.{IsArcFrom, AreArcsBelow}
+use Rattle.layout_laws.proofs.{Borders.each_in_run, Runs.IsBack, Runs.run_low, Runs.run_inner, Runs.same_place}
+use Rattle.layout_laws.proofs.{Runs.same_length, Runs.back_run, Uses.run_long, Uses.run_entry, Uses.named_or_back}
+use Rattle.qm_tmesh.specs.{Tables.IsMarked, Tables.IsNamedRun, Arcs.IsArcFrom, Arcs.AreArcsBelow, Uses.use_in}
+use Rattle.qm_tmesh.specs.Uses.{AreNamed, HasUsesBelow, HasUses}
 use Rattle.qm_tmesh.proofs.Walks.{name_low}
-use Rattle.qm_tmesh.specs.Uses.{use_in, AreNamed, HasUsesBelow, HasUses}
 
 module _ (faces : Faces) (cut marks : List Bool) (marked : IsMarked faces cut marks) where
   -- What a place 0 of an arc is.

@@ -2,23 +2,17 @@
 use Rattle.std.proofs.Common.{◌≡◌, ◌≢◌, ◌⊎◌, ℕ, suc, ◌+◌, ◌<◌, ◌≤◌, Bool, true, false, cond, List, [], ◌∷◌, ◌++◌}
 use Rattle.std.proofs.Common.{length, get_or, set, Some, option_map, sym, ◌∙◌, ap, subst, inl, inr, length-append}
 use Rattle.std.proofs.Common.{arith}
-use Rattle.std.specs.List.{filter, range_with_len}
 use Rattle.std.proofs.lemmas.Bool.{cases_eq, false≢true}
 use Rattle.std.proofs.lemmas.List.{get_or-set_same, get_or-set_other, length-set, get_or_append_left, get_or-append-add}
 use Rattle.std.proofs.lemmas.List.FromFn.{map-range_with_len_more}
-use Rattle.def_mesh.specs.Faces.{Faces}
-use Rattle.def_mesh.specs.Darts.{darts, from_of, next_of, twin_of, straight_of}
-use Rattle.def_mesh.specs.Vertices.{fan_of}
-use Rattle.def_mesh.specs.HalfEdges.{half_edges}
-use Rattle.def_cut.specs.FullCut.{is_on}
-use Rattle.def_cut.specs.Grids.{least_of}
-use Rattle.def_cut.specs.Steps.{step_east, easts}
-use Rattle.def_layout.specs.Arcs.{end_vertex, IsRun}
-use Rattle.def_layout.specs.Nodes.{is_node}
 use Rattle.std.proofs.lemmas.List.{append-nil}
+use Rattle.std.specs.List.{filter, range_with_len}
+use Rattle.def_mesh.specs.{Faces.Faces, Darts.darts, Darts.from_of, Darts.next_of, Darts.twin_of, Darts.straight_of}
+use Rattle.def_mesh.specs.{Vertices.fan_of, HalfEdges.half_edges}
+use Rattle.def_cut.specs.{FullCut.is_on, Grids.least_of, Steps.step_east, Steps.easts}
+use Rattle.def_layout.specs.{Arcs.end_vertex, Arcs.IsRun, Nodes.is_node}
 use Rattle.list_laws.proofs.Filters.{filter_range_more}
-use Rattle.mesh_laws.proofs.Fans.{is_fan}
-use Rattle.mesh_laws.proofs.Vertices.{all_below}
+use Rattle.mesh_laws.proofs.{Fans.is_fan, Vertices.all_below}
 use Rattle.cut_laws.proofs.Leasts.{least_high, least_low, least_there}
 use Rattle.layout_laws.specs.Named.{run_list, run_name}
 use Rattle.layout_laws.proofs.Runs.{GoesStraight, on_from, walk_done, walk_never, walked, run_low, same_length}

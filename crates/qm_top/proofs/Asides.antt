@@ -6,31 +6,22 @@ use Rattle.std.proofs.lemmas.Bool.{and_from, and_parts}
 use Rattle.std.specs.List.{before_first, list_all}
 use Rattle.std.specs.Prelude.{◌==◌, ◌&&◌, decimal, if◌then◌else◌, unsigned_abs}
 use Rattle.def_certtext.specs.Settings.{weight_text, AreInRange}
-use Rattle.def_fit.specs.Aims.{IsAim, IsFit}
-use Rattle.def_fit.specs.FitWords.{aim_text, fit_head, keep_word, patches_word, spacing_word}
-use Rattle.def_fit.specs.declared.fit.Aim.{Aim}
-use Rattle.def_fit.specs.declared.fit.Aim.TheVariants.{Scale, Edge, Wishes}
-use Rattle.def_fit.specs.declared.fit.Fit.{Fit}
-use Rattle.def_fit.specs.declared.fit.Spacing.{Spacing}
+use Rattle.def_fit.specs.{Aims.IsAim, Aims.IsFit, FitWords.aim_text, FitWords.fit_head, FitWords.keep_word}
+use Rattle.def_fit.specs.{FitWords.patches_word, FitWords.spacing_word, declared.fit.Aim.Aim}
+use Rattle.def_fit.specs.declared.fit.Aim.TheVariants.{Scale, Edge}
+use Rattle.def_fit.specs.{declared.fit.Aim.TheVariants.Wishes, declared.fit.Fit.Fit, declared.fit.Spacing.Spacing}
 use Rattle.def_fit.specs.declared.fit.Spacing.TheVariants.{Even, Wished}
-use Rattle.def_flow.specs.declared.net.Settings.{Settings}
-use Rattle.def_flow.specs.declared.net.Weight.{Weight}
+use Rattle.def_flow.specs.{declared.net.Settings.Settings, declared.net.Weight.Weight}
 use Rattle.def_flow.specs.declared.net.Weight.TheVariants as weights
 use Rattle.def_io.specs.Bytes.{Bytes, Lines}
-use Rattle.def_layout.specs.Lengths.{Lengths}
-use Rattle.def_layout.specs.Plans.{Plan}
+use Rattle.def_layout.specs.{Lengths.Lengths, Plans.Plan}
 use Rattle.def_marks.specs.MarkedText.{marked_text}
-use Rattle.def_patches.specs.declared.Keep.{Keep}
+use Rattle.def_patches.specs.{declared.Keep.Keep, declared.Patches.Patches, declared.Patches.TheVariants.Traced}
+use Rattle.def_patches.specs.declared.Patches.TheVariants.{Merged, Conforming}
 use Rattle.def_patches.specs.declared.Keep.TheVariants as keeps
-use Rattle.def_patches.specs.declared.Patches.{Patches}
-use Rattle.def_patches.specs.declared.Patches.TheVariants.{Traced, Merged, Conforming}
-use Rattle.def_run.specs.Heads.{named_head}
-use Rattle.def_run.specs.Reread.{HasShortLines}
-use Rattle.def_run.specs.Size.{size_head}
-use Rattle.def_text.specs.Canonical.{micro_text}
-use Rattle.def_text.specs.Logical.{is_hash, part_of, with_space}
-use Rattle.def_text.specs.Reading.{begins_with}
-use Rattle.def_text.specs.Words.{words}
+use Rattle.def_run.specs.{Heads.named_head, Reread.HasShortLines, Size.size_head}
+use Rattle.def_text.specs.{Canonical.micro_text, Logical.is_hash, Logical.part_of, Logical.with_space}
+use Rattle.def_text.specs.{Reading.begins_with, Words.words}
 use Rattle.qm_dec.proofs.Texts.{none_first}
 use Rattle.qm_obj.proofs.LawText.{is_tame, micro_word, no_continuation}
 use Rattle.qm_check.proofs.Heads.{fit_inside, size_inside}

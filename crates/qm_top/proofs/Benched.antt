@@ -4,16 +4,13 @@ use Rattle.def_gen.specs.Steps.{steps_soup}
 use Rattle.def_io.specs.Moves.{Change}
 use Rattle.def_remesh.specs.declared.kept.LayoutFail.{LayoutFail}
 use Rattle.def_remesh.specs.declared.kept.LayoutFail.TheVariants as layouts
-use Rattle.def_run.specs.Bench.{IsBenchFail, WritesBench}
-use Rattle.def_run.specs.Causes.{Cause, IsUnread}
+use Rattle.def_run.specs.{Bench.IsBenchFail, Bench.WritesBench, Causes.Cause, Causes.IsUnread}
 use Rattle.def_run.specs.declared.command.Command.TheVariants.{Bench}
 use Rattle.qm_top.specs.Refusals.{answer_of_layout, Ended, IsNoMeshOf}
-use Rattle.qm_top.specs.declared.refusal.Refusal.{Refusal}
-use Rattle.qm_top.specs.declared.refusal.Refusal.TheVariants.{NotManifold}
-use Rattle.qm_top.specs.declared.refusal.Refusal.TheVariants as refusals
+use Rattle.qm_top.specs.{declared.refusal.Refusal.Refusal, declared.refusal.Refusal.TheVariants.NotManifold}
 use Rattle.qm_top.specs.Writing.{IsOfLayout}
-use Rattle.qm_top.proofs.Refusals.{memory_ended}
-use Rattle.qm_top.proofs.Writers.{layout_ends, IsWriter}
+use Rattle.qm_top.specs.declared.refusal.Refusal.TheVariants as refusals
+use Rattle.qm_top.proofs.{Refusals.memory_ended, Writers.layout_ends, Writers.IsWriter}
 
 module _ (size : ℕ) (input out : Change) (unread : IsUnread input) where
   pub bench_writer : IsWriter (Bench size) (WritesBench size) (IsOfLayout (IsBenchFail size)) input out

@@ -1,28 +1,21 @@
 -- The text of the blocks of a mesh, and what `blocks` keeps.
 use Rattle.std.proofs.Common.{◌≡◌, ℕ, ◌<◌}
 use Rattle.def_io.specs.Moves.{Change}
-use Rattle.def_layout.specs.Arcs.{long_at}
-use Rattle.def_layout.specs.Surfaces.{IsSurface}
-use Rattle.def_layout.specs.Lengths.{Lengths, AreLengths}
-use Rattle.def_layout.specs.Plans.{Plan, layout_of}
+use Rattle.def_layout.specs.{Arcs.long_at, Surfaces.IsSurface, Lengths.Lengths, Lengths.AreLengths, Plans.Plan}
+use Rattle.def_layout.specs.Plans.{layout_of}
 use Rattle.def_mesh.specs.Manifold.{IsManifold}
 use Rattle.def_remesh.specs.NewPoints.{multiple_of}
 use Rattle.def_run.specs.Blocks.{IsBlocked}
 use Rattle.def_run.specs.declared.command.Command.TheVariants as commands
-use Rattle.def_text.specs.FaceSet.{FaceSet}
-use Rattle.def_text.specs.Input.{ReadSoup}
-use Rattle.def_text.specs.declared.limits.TheConstants.{MAX_BYTES}
+use Rattle.def_text.specs.{FaceSet.FaceSet, Input.ReadSoup, declared.limits.TheConstants.MAX_BYTES}
 use Rattle.plan_laws.proofs.MeshLayouts.{laid_of}
-use Rattle.qm_blocks.proofs.Joined.{linked_points}
-use Rattle.qm_blocks.proofs.Mutual.{lead_back}
+use Rattle.qm_blocks.proofs.{Joined.linked_points, Mutual.lead_back}
 use Rattle.def_cuttext.specs.GridsText.{chosen_text}
 use Rattle.qm_blocktext.specs.declared.blocks.Blocks.{Blocks}
 use Rattle.qm_refine.proofs.Multiplied.{are_multiples}
-use Rattle.qm_top.specs.Blocking.{links_in, told_text, AreBlocksBy}
-use Rattle.qm_top.specs.Refining.{FailsToRefine}
+use Rattle.qm_top.specs.{Blocking.links_in, Blocking.told_text, Blocking.AreBlocksBy, Refining.FailsToRefine}
 use Rattle.qm_top.specs.Writing.{IsOfLayout}
-use Rattle.qm_top.proofs.Refined.{fails_as}
-use Rattle.qm_top.proofs.Writers.{layout_ends, IsWriter}
+use Rattle.qm_top.proofs.{Refined.fails_as, Writers.layout_ends, Writers.IsWriter}
 
 -- The text of the blocks of a mesh with each edge divided in so many.
 pub is_blocked : (by : ℕ) (soup : FaceSet) (blocks : Blocks) → 0 < by → AreBlocksBy by soup blocks

@@ -1,38 +1,27 @@
 -- What `check` keeps: the line that accepts a pair is written, or a refusal has its cause.
 use Rattle.std.proofs.Common.{◌≡◌, take, inl, inr}
-use Rattle.def_io.specs.Bytes.{Bytes}
-use Rattle.def_io.specs.Lines.{lines_of}
-use Rattle.def_io.specs.Moves.{Change}
+use Rattle.def_io.specs.{Bytes.Bytes, Lines.lines_of, Moves.Change, declared.fails.WriteFail.WriteFail}
 use Rattle.def_remesh.specs.declared.kept.LayoutFail.TheVariants as layouts
-use Rattle.def_run.specs.Causes.{Cause}
-use Rattle.def_io.specs.declared.fails.WriteFail.{WriteFail}
-use Rattle.def_run.specs.Check.{RefusesOldText, RefusesPair}
-use Rattle.def_run.specs.Checking.{HasFitText, IsAcceptedText, RefusesToCheck, WritesAccepted}
-use Rattle.def_run.specs.declared.answer.Answer.{Answer}
+use Rattle.def_run.specs.{Causes.Cause, Check.RefusesOldText, Check.RefusesPair, Checking.HasFitText}
+use Rattle.def_run.specs.Checking.{IsAcceptedText, RefusesToCheck, WritesAccepted}
+use Rattle.def_run.specs.{declared.answer.Answer.Answer, CheckFails.IsCheckFail, CheckFails.IsPairFail}
+use Rattle.def_run.specs.{MapFails.IsMapFail, declared.check_fail.CheckFail.CheckFail}
+use Rattle.def_run.specs.declared.command.Command.TheVariants.{Check}
 use Rattle.def_run.specs.declared.answer.Answer.TheVariants as answers
 use Rattle.def_run.specs.declared.answer.Why.TheVariants as why
-use Rattle.def_run.specs.CheckFails.{IsCheckFail, IsPairFail}
-use Rattle.def_run.specs.MapFails.{IsMapFail}
-use Rattle.def_run.specs.declared.check_fail.CheckFail.{CheckFail}
 use Rattle.def_run.specs.declared.check_fail.CheckFail.TheVariants as check_fail
-use Rattle.def_run.specs.declared.command.Command.TheVariants.{Check}
 use Rattle.def_remesh.specs.Checked.{IsCheckedPair}
-use Rattle.def_text.specs.Input.{ReadWhole}
-use Rattle.def_text.specs.declared.limits.TheConstants.{MAX_BYTES}
-use Rattle.def_text.specs.declared.refusal.ObjFail.{ObjFail}
+use Rattle.def_text.specs.{Input.ReadWhole, declared.limits.TheConstants.MAX_BYTES, declared.refusal.ObjFail.ObjFail}
+use Rattle.def_text.specs.{declared.refusal.Which.TheVariants.Bytes as AllBytes}
 use Rattle.def_text.specs.declared.refusal.ObjFail.TheVariants as obj
 use Rattle.def_text.specs.declared.refusal.SoupFail.TheVariants as soup
-use Rattle.def_text.specs.declared.refusal.Which.TheVariants.{Bytes as AllBytes}
 use Rattle.qm_check.proofs.Pairs.{headless, old_faulty, old_refused}
-use Rattle.qm_top.proofs.NeverBytes.{never_bytes}
-use Rattle.qm_top.proofs.Refusals.{obj_place}
-use Rattle.qm_top.proofs.Writers.{IsWriter}
-use Rattle.qm_top.proofs.Mapped.{map_placed, unmapped_ends}
-use Rattle.qm_top.specs.Checking.{IsNoPairFor, IsPlaced, IsUnaccepted}
-use Rattle.qm_top.specs.Mapping.{IsNoMapFor}
-use Rattle.qm_top.specs.Refusals.{answer_of_obj, Ended}
-use Rattle.qm_top.specs.declared.refusal.Refusal.{Refusal}
-use Rattle.qm_top.specs.declared.refusal.Refusal.TheVariants.{NotAccepted, Soup, NotManifold, Layout}
+use Rattle.qm_top.proofs.{NeverBytes.never_bytes, Refusals.obj_place, Writers.IsWriter, Mapped.map_placed}
+use Rattle.qm_top.proofs.Mapped.{unmapped_ends}
+use Rattle.qm_top.specs.{Checking.IsNoPairFor, Checking.IsPlaced, Checking.IsUnaccepted, Mapping.IsNoMapFor}
+use Rattle.qm_top.specs.{Refusals.answer_of_obj, Refusals.Ended, declared.refusal.Refusal.Refusal}
+use Rattle.qm_top.specs.declared.refusal.Refusal.TheVariants.{NotAccepted, Soup}
+use Rattle.qm_top.specs.declared.refusal.Refusal.TheVariants.{NotManifold, Layout}
 use Rattle.qm_top.specs.declared.refusal.Refusal.TheVariants as refusals
 
 -- A place that bytes are refused for is the first fault of their old text.

@@ -2,34 +2,25 @@
 use Rattle.std.proofs.Common.{Bool, false, ◌≡◌, ◌≤◌, ◌⊎◌, ℕ, ℤ, List, ◌++◌, length, Option, Some, None, Result, Ok, Err}
 use Rattle.std.proofs.Common.{sym, ◌∙◌, ap, subst, arith, refl, inl, inr, length-append}
 use Rattle.std.proofs.lemmas.List.{append-nil}
-use Rattle.def_fit.specs.FitTasks.{asides_in, kept_in, Asides}
-use Rattle.def_fit.specs.declared.fit.Fit.{Fit as AnyFit}
-use Rattle.def_io.specs.Bytes.{Bytes, Told}
-use Rattle.def_io.specs.Faults.{Rose}
-use Rattle.def_io.specs.Moves.{Change, gave, GaveMore, IsEmptied}
+use Rattle.def_fit.specs.{FitTasks.asides_in, FitTasks.kept_in, FitTasks.Asides, declared.fit.Fit.Fit as AnyFit}
+use Rattle.def_io.specs.{Bytes.Bytes, Bytes.Told, Faults.Rose, Moves.Change, Moves.gave, Moves.GaveMore}
+use Rattle.def_io.specs.Moves.{IsEmptied}
 use Rattle.def_marks.specs.declared.fail.MarkFail.{MarkFail}
 use Rattle.def_marks.specs.declared.fail.MarkFail.TheVariants as marks
 use Rattle.def_mesh.specs.Manifold.{IsManifold}
-use Rattle.def_text.specs.FaceSet.{FaceSet}
-use Rattle.def_text.specs.declared.limits.TheConstants.{MAX_BYTES}
-use Rattle.def_text.specs.declared.refusal.ObjFail.{ObjFail}
-use Rattle.def_text.specs.declared.refusal.Which.TheVariants.{Bytes as AllBytes}
+use Rattle.def_text.specs.{FaceSet.FaceSet, declared.limits.TheConstants.MAX_BYTES, declared.refusal.ObjFail.ObjFail}
+use Rattle.def_text.specs.{declared.refusal.Which.TheVariants.Bytes as AllBytes, Types.Words}
 use Rattle.def_run.specs.Bench.{bench_settings, HasBench, RefusesToBench}
 use Rattle.def_run.specs.Causes.{Cause, FailsToRead, SourceHolds, IsGood, Reads, ReadsTooMany, Refused, Refuses, Takes}
 use Rattle.def_run.specs.Coarse.{AsksToMerge}
 use Rattle.def_run.specs.Crease.{AsksToCrease, HasCreased, RefusesToCrease}
 use Rattle.def_run.specs.Fit.{AsksForNearFit, AsksToFit, HasAsideFail, HasFit, HasNearAsides, HasNearWishes, IsFarFit}
 use Rattle.def_run.specs.Fit.{RefusesAsides, RefusesFit}
-use Rattle.def_patches.specs.declared.Keep.{Keep}
-use Rattle.def_patches.specs.declared.Patches.{Patches}
 use Rattle.def_run.specs.Grids.{HasGrids, RefusesGrids}
 use Rattle.def_run.specs.LayOut.{HasKept, HasKeptFail, RefusesKept, RefusesToLayOut}
 use Rattle.def_run.specs.Mesh.{IsMeshText, IsNoMesh}
-use Rattle.def_flow.specs.declared.net.Settings.{Settings}
-use Rattle.def_remesh.specs.Refusals.{IsRemeshable}
 use Rattle.def_run.specs.Refine.{HasRefined, RefusesToRefine}
 use Rattle.def_run.specs.Remesh.{Asks, AsksToRemesh, HasFinished, RefusesLayout, RefusesTask}
-use Rattle.def_layout.specs.Plans.{Plan}
 use Rattle.def_run.specs.Size.{AsksForNearSize, AsksForSize, HasNearTargets, HasSize, IsFarText, RefusesSize}
 use Rattle.def_run.specs.declared.answer.Answer.{Answer}
 use Rattle.def_run.specs.declared.answer.Answer.TheVariants.{Done, NotAccepted, Usage, Syntax, NotQuad, Range, Limit}
@@ -39,14 +30,15 @@ use Rattle.def_run.specs.declared.command.Command.{Command}
 use Rattle.def_run.specs.declared.command.Command.TheVariants.{Tidy, Graph, Refine, Remesh, Check, Bench, Crease, Size}
 use Rattle.def_run.specs.declared.command.Command.TheVariants.{Coarse, Blocks, Map, Fit, LayOut, Grids}
 use Rattle.def_run.specs.declared.words.WordsFail.{WordsFail}
-use Rattle.def_run.specs.declared.words.WordsFail.TheVariants as words_fail
 use Rattle.def_run.specs.CommandLines.{IsAcceptedLine, IsCommand}
-use Rattle.def_text.specs.Types.{Words}
+use Rattle.def_patches.specs.{declared.Keep.Keep, declared.Patches.Patches}
+use Rattle.def_flow.specs.declared.net.Settings.{Settings}
+use Rattle.def_remesh.specs.{Refusals.IsRemeshable, Tasks.old_lengths, Tasks.Task, Tasks.Wish}
+use Rattle.def_layout.specs.Plans.{Plan}
+use Rattle.def_run.specs.declared.words.WordsFail.TheVariants as words_fail
 use Rattle.remesh_laws.proofs.Fits.{fits_not_doubled, fits_not_fine}
-use Rattle.qm_top.proofs.Checked.{accepted_not_refused}
-use Rattle.qm_top.proofs.Creased.{marks_not_refused}
+use Rattle.qm_top.proofs.{Checked.accepted_not_refused, Creased.marks_not_refused}
 use Rattle.qm_top.specs.Refusals.{answer_of_words}
-use Rattle.def_remesh.specs.Tasks.{old_lengths, Task, Wish}
 
 -- Bytes that have a mesh have no refusal of one.
 pub mesh_not_refused : (bytes : Bytes) (soup : FaceSet) (answer : Answer) → IsMeshText bytes soup

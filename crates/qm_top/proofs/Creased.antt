@@ -6,40 +6,25 @@ use Rattle.std.proofs.Common.{inl}
 use Rattle.def_certtext.specs.CertLines.{certificates_of, used}
 use Rattle.def_feature.specs.Marked.{marked_cut}
 use Rattle.def_flow.specs.declared.net.Settings.{Settings}
-use Rattle.def_io.specs.Bytes.{Bytes}
-use Rattle.def_io.specs.declared.TheConstants.{LINE_FEED}
-use Rattle.def_layout.specs.FaceLayouts.{IsCutLayout}
-use Rattle.def_marks.specs.Lines.{marks_in}
-use Rattle.def_marks.specs.MarkedText.{marked_text}
-use Rattle.def_marks.specs.declared.fail.MarkFail.{MarkFail}
+use Rattle.def_io.specs.{Bytes.Bytes, declared.TheConstants.LINE_FEED}
+use Rattle.def_layout.specs.{FaceLayouts.IsCutLayout, Plans.Plan}
+use Rattle.def_marks.specs.{Lines.marks_in, MarkedText.marked_text, declared.fail.MarkFail.MarkFail}
 use Rattle.def_marks.specs.declared.fail.MarkFail.TheVariants as marks
-use Rattle.def_remesh.specs.CutSoups.{CutSoup}
-use Rattle.def_remesh.specs.Keeping.{IsKept}
-use Rattle.def_remesh.specs.NewPoints.{lengths_in}
-use Rattle.def_remesh.specs.Placings.{IsMeshLayout}
-use Rattle.def_remesh.specs.Refusals.{IsLayoutFail}
-use Rattle.def_remesh.specs.Tasks.{old_lengths}
-use Rattle.def_remesh.specs.declared.kept.LayoutFail.{LayoutFail}
+use Rattle.def_remesh.specs.{CutSoups.CutSoup, Keeping.IsKept, NewPoints.lengths_in, Placings.IsMeshLayout}
+use Rattle.def_remesh.specs.{Refusals.IsLayoutFail, Tasks.old_lengths, declared.kept.LayoutFail.LayoutFail}
 use Rattle.def_mesh.specs.Faces.{Faces}
-use Rattle.def_layout.specs.Plans.{Plan}
-use Rattle.def_patches.specs.Chosen.{IsChosenLayout}
-use Rattle.def_patches.specs.declared.Patches.TheVariants.{Traced}
-use Rattle.def_run.specs.Causes.{Refuses}
-use Rattle.qm_top.specs.Refusals.{answer_of_marks}
-use Rattle.def_run.specs.Crease.{creased_task, AsksToCrease, HasMarkFail, HasMarks, RefusesMarks}
-use Rattle.def_run.specs.Heads.{named_head}
-use Rattle.def_run.specs.declared.answer.Answer.{Answer}
-use Rattle.def_run.specs.declared.answer.Answer.TheVariants.{NotEdge, Range, Syntax}
-use Rattle.def_run.specs.declared.command.Command.TheVariants.{Crease}
-use Rattle.def_text.specs.FaceSet.{FaceSet}
-use Rattle.def_text.specs.declared.refusal.ObjFail.{ObjFail}
+use Rattle.def_patches.specs.{Chosen.IsChosenLayout, declared.Patches.TheVariants.Traced}
+use Rattle.def_run.specs.{Causes.Refuses, Crease.creased_task, Crease.AsksToCrease, Crease.HasMarkFail, Crease.HasMarks}
+use Rattle.def_run.specs.{Crease.RefusesMarks, Heads.named_head, declared.answer.Answer.Answer}
+use Rattle.def_run.specs.declared.answer.Answer.TheVariants.{NotEdge, Range}
+use Rattle.def_run.specs.{declared.answer.Answer.TheVariants.Syntax, declared.command.Command.TheVariants.Crease}
+use Rattle.qm_top.specs.{Refusals.answer_of_marks, Writing.FailsAsked, Writing.ShowsAsked}
+use Rattle.def_text.specs.{FaceSet.FaceSet, declared.refusal.ObjFail.ObjFail}
 use Rattle.def_text.specs.declared.refusal.ObjFail.TheVariants as obj
 use Rattle.def_text.specs.declared.refusal.SoupFail.TheVariants as soup
 use Rattle.qm_top.proofs.Framed.{framed_shown}
-use Rattle.qm_write.specs.Framing.{framed_text}
-use Rattle.qm_top.specs.Writing.{FailsAsked, ShowsAsked}
+use Rattle.qm_write.specs.{Framing.framed_text, declared.text.Framed.Framed}
 use Rattle.qm_top.specs.declared.refusal.Refusal.TheVariants as refusals
-use Rattle.qm_write.specs.declared.text.Framed.{Framed}
 
 -- Bytes whose `l` lines are refused are refused.
 pub marks_refuse : (settings : Settings) (bytes : Bytes) (fail : MarkFail) → (fail ≡ marks.Memory → ⊥)

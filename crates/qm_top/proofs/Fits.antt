@@ -4,44 +4,27 @@ use Rattle.std.proofs.Common.{subst}
 use Rattle.def_certtext.specs.CertLines.{certificates_of, used}
 use Rattle.def_cut.specs.FullCut.{IsFullCut}
 use Rattle.def_fit.specs.Aims.{aimed, fit_settings, AreAimedNear, IsFit, IsFitFail}
-use Rattle.def_fit.specs.FitTasks.{asides_in, fit_task, kept_text, Asides}
-use Rattle.def_fit.specs.FitWords.{fit_head}
-use Rattle.def_fit.specs.Shares.{shares_of}
-use Rattle.def_fit.specs.declared.fit.Fit.{Fit as AnyFit}
-use Rattle.def_io.specs.Bytes.{Bytes}
-use Rattle.def_io.specs.Moves.{IsStill, Stream}
-use Rattle.def_layout.specs.FaceLayouts.{IsCutLayout}
-use Rattle.def_layout.specs.Lengths.{Lengths}
-use Rattle.def_layout.specs.Plans.{Plan}
+use Rattle.def_fit.specs.{FitTasks.asides_in, FitTasks.fit_task, FitTasks.kept_text, FitTasks.Asides, FitWords.fit_head}
+use Rattle.def_fit.specs.{Shares.shares_of, declared.fit.Fit.Fit as AnyFit}
+use Rattle.def_io.specs.{Bytes.Bytes, Moves.IsStill, Moves.Stream}
+use Rattle.def_layout.specs.{FaceLayouts.IsCutLayout, Lengths.Lengths, Plans.Plan}
 use Rattle.def_marks.specs.declared.fail.MarkFail.{MarkFail}
 use Rattle.def_marks.specs.declared.fail.MarkFail.TheVariants as marks
 use Rattle.def_mesh.specs.Manifold.{IsManifold}
 use Rattle.def_metric.specs.declared.fail.SizeFail.{SizeFail}
 use Rattle.def_patches.specs.Chosen.{AreKeptMarks, IsChosenLayout}
-use Rattle.def_remesh.specs.CutSoups.{CutSoup}
-use Rattle.def_remesh.specs.Keeping.{IsKept}
-use Rattle.def_remesh.specs.NewPoints.{lengths_in}
-use Rattle.def_remesh.specs.Placings.{IsMeshLayout}
-use Rattle.def_remesh.specs.Tasks.{Task}
-use Rattle.def_run.specs.Causes.{Refuses}
-use Rattle.def_run.specs.Fit.{AsksForNearFit, AsksToFit, HasAsideFail}
-use Rattle.def_run.specs.Mesh.{IsNoMesh}
-use Rattle.def_run.specs.Remesh.{IsSettled, RefusesTask}
-use Rattle.def_run.specs.Reread.{HasShortLines}
-use Rattle.def_run.specs.declared.answer.Answer.{Answer}
-use Rattle.def_run.specs.declared.answer.Answer.TheVariants as answers
+use Rattle.def_remesh.specs.{CutSoups.CutSoup, Keeping.IsKept, NewPoints.lengths_in, Placings.IsMeshLayout, Tasks.Task}
+use Rattle.def_run.specs.{Causes.Refuses, Fit.AsksForNearFit, Fit.AsksToFit, Fit.HasAsideFail, Mesh.IsNoMesh}
+use Rattle.def_run.specs.{Remesh.IsSettled, Remesh.RefusesTask, Reread.HasShortLines, declared.answer.Answer.Answer}
 use Rattle.def_run.specs.declared.command.Command.TheVariants.{Fit}
+use Rattle.def_run.specs.declared.answer.Answer.TheVariants as answers
 use Rattle.def_text.specs.FaceSet.{FaceSet}
 use Rattle.patch_laws.proofs.Chosen.{chosen_cut_law}
-use Rattle.qm_top.proofs.Asides.{fit_aside, marked_aside}
-use Rattle.qm_top.proofs.Fitted.{aimed_fails, aimed_shown, near_on, IsAimed}
-use Rattle.qm_top.proofs.Refusals.{NeedsMesh}
-use Rattle.qm_top.proofs.Remeshed.{task_reread}
-use Rattle.qm_top.specs.Fitting.{FailsNear, IsFarTask, IsOfWishes}
-use Rattle.qm_top.specs.Refusals.{answer_of_marks, refusal_of_size}
-use Rattle.qm_top.specs.Writing.{IsUnwritten, ShowsAsked}
-use Rattle.qm_write.specs.Framing.{framed_text}
-use Rattle.qm_write.specs.declared.text.Framed.{Framed}
+use Rattle.qm_top.proofs.{Asides.fit_aside, Asides.marked_aside, Fitted.aimed_fails, Fitted.aimed_shown, Fitted.near_on}
+use Rattle.qm_top.proofs.{Fitted.IsAimed, Refusals.NeedsMesh, Remeshed.task_reread}
+use Rattle.qm_top.specs.{Fitting.FailsNear, Fitting.IsFarTask, Fitting.IsOfWishes, Refusals.answer_of_marks}
+use Rattle.qm_top.specs.{Refusals.refusal_of_size, Writing.IsUnwritten, Writing.ShowsAsked}
+use Rattle.qm_write.specs.{Framing.framed_text, declared.text.Framed.Framed}
 use Rattle.remesh_laws.proofs.Asides.{none_aside}
 use Rattle.remesh_laws.specs.Asides.{IsAside}
 

@@ -2,46 +2,28 @@
 use Rattle.std.proofs.Common.{◌≡◌, ◌++◌, ◌∷◌, [], ℕ, false, Bool, List, inr, refl, sym, subst}
 use Rattle.def_certtext.specs.CertLines.{certificates_of, used}
 use Rattle.def_cut.specs.FullCut.{IsFullCut}
-use Rattle.def_fit.specs.Aims.{AreAimedNear, IsFitFail}
-use Rattle.def_fit.specs.declared.fit.Aim.{Aim}
-use Rattle.def_io.specs.Bytes.{Bytes}
-use Rattle.def_io.specs.Moves.{Change, IsStill, Stream}
-use Rattle.def_layout.specs.FaceLayouts.{IsCutLayout}
-use Rattle.def_layout.specs.Plans.{Plan}
-use Rattle.def_mesh.specs.Faces.{Faces}
-use Rattle.def_mesh.specs.Manifold.{IsManifold}
+use Rattle.def_fit.specs.{Aims.AreAimedNear, Aims.IsFitFail, declared.fit.Aim.Aim}
+use Rattle.def_io.specs.{Bytes.Bytes, Moves.Change, Moves.IsStill, Moves.Stream}
+use Rattle.def_layout.specs.{FaceLayouts.IsCutLayout, Plans.Plan}
+use Rattle.def_mesh.specs.{Faces.Faces, Manifold.IsManifold}
 use Rattle.def_metric.specs.declared.fail.SizeFail.{SizeFail}
 use Rattle.def_metric.specs.declared.fail.SizeFail.TheVariants as sizes
-use Rattle.def_remesh.specs.CutSoups.{CutSoup}
-use Rattle.def_remesh.specs.Keeping.{IsKept}
-use Rattle.def_remesh.specs.NewPoints.{lengths_in}
-use Rattle.def_remesh.specs.Placings.{IsMeshLayout}
-use Rattle.def_remesh.specs.Refusals.{IsDoubledBy, IsFineBy}
-use Rattle.def_remesh.specs.Tasks.{Task, Wish}
+use Rattle.def_remesh.specs.{CutSoups.CutSoup, Keeping.IsKept, NewPoints.lengths_in, Placings.IsMeshLayout}
+use Rattle.def_remesh.specs.{Refusals.IsDoubledBy, Refusals.IsFineBy, Tasks.Task, Tasks.Wish}
 use Rattle.def_remesh.specs.declared.kept.LayoutFail.{LayoutFail}
 use Rattle.def_remesh.specs.declared.kept.LayoutFail.TheVariants as layouts
-use Rattle.def_run.specs.Causes.{Cause, Refused, Refuses, Writes}
-use Rattle.def_run.specs.Mesh.{IsMeshText}
-use Rattle.def_run.specs.Remesh.{Asks, IsSettled, RefusesLayout, RefusesTask, WritesFinished}
-use Rattle.def_run.specs.Reread.{Rereads}
-use Rattle.def_run.specs.declared.answer.Answer.{Answer}
+use Rattle.def_run.specs.{Causes.Cause, Causes.Refused, Causes.Refuses, Causes.Writes, Mesh.IsMeshText, Remesh.Asks}
+use Rattle.def_run.specs.Remesh.{IsSettled, RefusesLayout, RefusesTask, WritesFinished}
+use Rattle.def_run.specs.{Reread.Rereads, declared.answer.Answer.Answer, declared.command.Command.Command}
 use Rattle.def_run.specs.declared.answer.Answer.TheVariants as answers
-use Rattle.def_run.specs.declared.command.Command.{Command}
-use Rattle.def_text.specs.FaceSet.{FaceSet}
-use Rattle.def_text.specs.Input.{ReadSoup}
-use Rattle.def_text.specs.declared.limits.TheConstants.{MAX_BYTES}
+use Rattle.def_text.specs.{FaceSet.FaceSet, Input.ReadSoup, declared.limits.TheConstants.MAX_BYTES}
 use Rattle.plan_laws.proofs.OnePlan.{one_layout_law}
-use Rattle.qm_top.proofs.Framed.{framed_shown}
-use Rattle.qm_top.proofs.Refusals.{NeedsMesh}
-use Rattle.qm_top.proofs.Remeshed.{IsReadAside}
-use Rattle.qm_top.proofs.Writers.{layout_ends, IsWriter}
-use Rattle.qm_top.specs.Fitting.{FailsNear, IsFarTask, IsOfWishes}
-use Rattle.qm_top.specs.Refusals.{answer_of_layout, refusal_of_size, Ended}
-use Rattle.qm_top.specs.Writing.{IsUnwritten, ShowsAsked}
-use Rattle.qm_top.specs.declared.refusal.Refusal.{Refusal}
-use Rattle.qm_top.specs.declared.refusal.Refusal.TheVariants.{Far}
-use Rattle.qm_write.specs.Framing.{framed_text}
-use Rattle.qm_write.specs.declared.text.Framed.{Framed}
+use Rattle.qm_top.proofs.{Framed.framed_shown, Refusals.NeedsMesh, Remeshed.IsReadAside, Writers.layout_ends}
+use Rattle.qm_top.proofs.Writers.{IsWriter}
+use Rattle.qm_top.specs.{Fitting.FailsNear, Fitting.IsFarTask, Fitting.IsOfWishes, Refusals.answer_of_layout}
+use Rattle.qm_top.specs.{Refusals.refusal_of_size, Refusals.Ended, Writing.IsUnwritten, Writing.ShowsAsked}
+use Rattle.qm_top.specs.{declared.refusal.Refusal.Refusal, declared.refusal.Refusal.TheVariants.Far}
+use Rattle.qm_write.specs.{Framing.framed_text, declared.text.Framed.Framed}
 
 -- Wishes that are not too great for a layout are so for each layout of its cut: there is one.
 pub near_on : (aim : Aim) (wish : Wish) (faces : Faces) (edges : List Bool) (plan : Plan) → IsManifold faces

@@ -1,23 +1,14 @@
 -- A remesh in the frame of its text finishes its task.
 use Rattle.std.specs.Prelude.{IsErrOf}
 use Rattle.std.proofs.Common.{◌≡◌, [], ◌∷◌, ◌++◌, ◌∙◌, Err, ap, sym, subst, refl}
-use Rattle.def_certtext.specs.CertLines.{certificates_of, used}
-use Rattle.def_certtext.specs.declared.Asked.{Asked}
-use Rattle.def_io.specs.Bytes.{Bytes}
-use Rattle.def_io.specs.Faults.{Rose}
-use Rattle.def_io.specs.Moves.{IsStill, Stream, TookPrefix}
-use Rattle.def_layout.specs.FaceLayouts.{IsCutLayout}
-use Rattle.def_layout.specs.Plans.{Plan}
-use Rattle.def_remesh.specs.Keeping.{IsKept}
-use Rattle.def_remesh.specs.NewPoints.{lengths_in}
-use Rattle.def_remesh.specs.Placings.{IsMeshLayout}
-use Rattle.def_remesh.specs.Tasks.{Task, Wish}
+use Rattle.def_certtext.specs.{CertLines.certificates_of, CertLines.used, declared.Asked.Asked}
+use Rattle.def_io.specs.{Bytes.Bytes, Faults.Rose, Moves.IsStill, Moves.Stream, Moves.TookPrefix}
+use Rattle.def_layout.specs.{FaceLayouts.IsCutLayout, Plans.Plan}
+use Rattle.def_remesh.specs.{Keeping.IsKept, NewPoints.lengths_in, Placings.IsMeshLayout, Tasks.Task, Tasks.Wish}
 use Rattle.def_remesh.specs.declared.kept.LayoutFail.{LayoutFail}
 use Rattle.def_text.specs.FaceSet.{FaceSet}
 use Rattle.qm_write.proofs.Framing.{text_is}
-use Rattle.qm_write.specs.Framing.{framed_text}
-use Rattle.qm_write.specs.declared.remesh.Remesh.{Remesh}
-use Rattle.qm_write.specs.declared.text.Framed.{Framed}
+use Rattle.qm_write.specs.{Framing.framed_text, declared.remesh.Remesh.Remesh, declared.text.Framed.Framed}
 use Rattle.qm_write.specs.declared.text.PutFail.{PutFail}
 use Rattle.qm_write.specs.declared.text.PutFail.TheVariants as puts
 use Rattle.qm_top.specs.Writing.{refusal_of_put, IsOfLayout, IsUnwritten}

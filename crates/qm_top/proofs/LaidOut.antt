@@ -1,41 +1,25 @@
 -- What `layout` and `grids` keep.
 use Rattle.std.proofs.Common.{◌≡◌, ℕ, ◌<◌, Bool, List, Option, Ok, inl, inr, refl, sym, ap, ◌∙◌, subst}
-use Rattle.def_cuttext.specs.LayoutText.{layout_text}
+use Rattle.def_cuttext.specs.{LayoutText.layout_text, GridsText.chosen_text, declared.chosen.Chosen.Chosen}
 use Rattle.def_fit.specs.FitTasks.{kept_in}
-use Rattle.def_io.specs.Bytes.{Bytes}
-use Rattle.def_io.specs.Moves.{Change}
-use Rattle.def_layout.specs.Arcs.{long_at}
-use Rattle.def_layout.specs.Lengths.{Lengths, AreLengths}
-use Rattle.def_layout.specs.Plans.{layout_of}
-use Rattle.def_layout.specs.Surfaces.{IsSurface}
+use Rattle.def_io.specs.{Bytes.Bytes, Moves.Change}
+use Rattle.def_layout.specs.{Arcs.long_at, Lengths.Lengths, Lengths.AreLengths, Plans.layout_of, Surfaces.IsSurface}
 use Rattle.def_marks.specs.declared.fail.MarkFail.{MarkFail}
 use Rattle.def_marks.specs.declared.fail.MarkFail.TheVariants as marks
-use Rattle.def_patches.specs.Chosen.{IsChosenLayout}
-use Rattle.def_patches.specs.declared.Keep.{Keep}
-use Rattle.def_patches.specs.declared.Patches.{Patches}
-use Rattle.def_remesh.specs.CutSoups.{CutSoup}
-use Rattle.def_remesh.specs.NewPoints.{multiple_of}
-use Rattle.def_remesh.specs.Placings.{IsMeshLayout}
+use Rattle.def_patches.specs.{Chosen.IsChosenLayout, declared.Keep.Keep, declared.Patches.Patches}
+use Rattle.def_remesh.specs.{CutSoups.CutSoup, NewPoints.multiple_of, Placings.IsMeshLayout}
 use Rattle.def_remesh.specs.declared.kept.LayoutFail.{LayoutFail}
 use Rattle.def_remesh.specs.declared.kept.LayoutFail.TheVariants as layouts
-use Rattle.def_run.specs.Causes.{Cause, Refuses}
-use Rattle.def_run.specs.LayOut.{HasChosenLayout, HasKept, HasKeptFail, RefusesToLayOut}
-use Rattle.def_run.specs.Mesh.{IsMeshText}
-use Rattle.def_run.specs.declared.command.Command.TheVariants.{Grids, LayOut}
-use Rattle.def_text.specs.FaceSet.{FaceSet}
-use Rattle.def_text.specs.Input.{ReadWhole}
-use Rattle.def_text.specs.declared.limits.TheConstants.{MAX_BYTES}
+use Rattle.def_run.specs.{Causes.Cause, Causes.Refuses, LayOut.HasChosenLayout, LayOut.HasKept, LayOut.HasKeptFail}
+use Rattle.def_run.specs.{LayOut.RefusesToLayOut, Mesh.IsMeshText, declared.command.Command.TheVariants.Grids}
+use Rattle.def_run.specs.declared.command.Command.TheVariants.{LayOut}
+use Rattle.def_text.specs.{FaceSet.FaceSet, Input.ReadWhole, declared.limits.TheConstants.MAX_BYTES}
 use Rattle.plan_laws.proofs.MeshLayouts.{laid_of}
-use Rattle.qm_blocks.proofs.Joined.{linked_points}
-use Rattle.qm_blocks.proofs.Mutual.{lead_back}
-use Rattle.def_cuttext.specs.GridsText.{chosen_text}
+use Rattle.qm_blocks.proofs.{Joined.linked_points, Mutual.lead_back}
 use Rattle.qm_blocktext.specs.declared.blocks.Blocks.{Blocks}
-use Rattle.def_cuttext.specs.declared.chosen.Chosen.{Chosen}
 use Rattle.qm_refine.proofs.Multiplied.{are_multiples}
 use Rattle.qm_top.specs.Blocking.{links_in, told_text, AreGridsBy, IsGridded}
-use Rattle.qm_top.specs.LayingOut.{FailsNever}
-use Rattle.qm_top.specs.Refining.{FailsBy}
-use Rattle.qm_top.specs.Refusals.{answer_of_layout, answer_of_marks}
+use Rattle.qm_top.specs.{LayingOut.FailsNever, Refining.FailsBy, Refusals.answer_of_layout, Refusals.answer_of_marks}
 use Rattle.qm_top.specs.Writing.{IsOfLayout}
 use Rattle.qm_top.proofs.Writers.{layout_ends, IsWriter}
 

@@ -1,34 +1,24 @@
 -- What `map` keeps: the map of a new mesh is written, or a refusal has its cause.
 use Rattle.std.proofs.Common.{◌≡◌, ◌≢◌, inl, inr}
-use Rattle.def_io.specs.Bytes.{Bytes}
-use Rattle.def_io.specs.Lines.{lines_of}
-use Rattle.def_io.specs.Moves.{Change}
+use Rattle.def_io.specs.{Bytes.Bytes, Lines.lines_of, Moves.Change}
 use Rattle.def_marks.specs.declared.fail.MarkFail.{MarkFail}
 use Rattle.def_marks.specs.declared.fail.MarkFail.TheVariants as marks
 use Rattle.def_mesh.specs.declared.Place.{Place}
 use Rattle.def_remesh.specs.declared.kept.LayoutFail.TheVariants as layouts
-use Rattle.def_run.specs.Causes.{Cause, Reads, Refused, Refuses}
-use Rattle.def_run.specs.Map.{HasMap, RefusesNew, RefusesToMap, WritesMap}
-use Rattle.def_run.specs.MapFails.{HasLineFail, IsMapFail, RefusesFrontMarks, RefusesFrontText}
-use Rattle.def_run.specs.MarkLines.{front_of}
-use Rattle.def_run.specs.Messages.{HasFrontSoup, LooksAt}
-use Rattle.def_run.specs.declared.answer.Answer.{Answer}
+use Rattle.def_run.specs.{Causes.Cause, Causes.Reads, Causes.Refused, Causes.Refuses, Map.HasMap, Map.RefusesNew}
+use Rattle.def_run.specs.{Map.RefusesToMap, Map.WritesMap, MapFails.HasLineFail, MapFails.IsMapFail}
+use Rattle.def_run.specs.{MapFails.RefusesFrontMarks, MapFails.RefusesFrontText, MarkLines.front_of}
+use Rattle.def_run.specs.{Messages.HasFrontSoup, Messages.LooksAt, declared.answer.Answer.Answer}
+use Rattle.def_run.specs.{declared.check_fail.CheckFail.CheckFail, declared.command.Command.Command}
+use Rattle.def_run.specs.declared.command.Command.TheVariants.{Crease, Fit}
+use Rattle.def_run.specs.declared.command.Command.TheVariants.{Map}
 use Rattle.def_run.specs.declared.answer.Answer.TheVariants as answers
-use Rattle.def_run.specs.declared.check_fail.CheckFail.{CheckFail}
 use Rattle.def_run.specs.declared.check_fail.CheckFail.TheVariants as check_fail
-use Rattle.def_run.specs.declared.command.Command.{Command}
-use Rattle.def_run.specs.declared.command.Command.TheVariants.{Crease, Fit, Map}
-use Rattle.def_text.specs.FaceSet.{FaceSet}
-use Rattle.def_text.specs.Input.{ReadWhole}
-use Rattle.def_text.specs.declared.limits.TheConstants.{MAX_BYTES}
-use Rattle.def_text.specs.declared.refusal.ObjFail.{ObjFail}
+use Rattle.def_text.specs.{FaceSet.FaceSet, Input.ReadWhole, declared.limits.TheConstants.MAX_BYTES}
+use Rattle.def_text.specs.{declared.refusal.ObjFail.ObjFail, declared.refusal.Which.TheVariants.Bytes as AllBytes}
 use Rattle.def_text.specs.declared.refusal.ObjFail.TheVariants as obj
 use Rattle.def_text.specs.declared.refusal.SoupFail.TheVariants as soup
-use Rattle.def_text.specs.declared.refusal.Which.TheVariants.{Bytes as AllBytes}
-use Rattle.qm_top.proofs.Creased.{marks_refuse}
-use Rattle.qm_top.proofs.Fits.{asides_refuse}
-use Rattle.qm_top.proofs.NeverBytes.{never_bytes}
-use Rattle.qm_top.proofs.Refusals.{obj_place}
+use Rattle.qm_top.proofs.{Creased.marks_refuse, Fits.asides_refuse, NeverBytes.never_bytes, Refusals.obj_place}
 use Rattle.qm_top.proofs.Writers.{IsWriter}
 use Rattle.qm_top.specs.Checking.{IsPlaced}
 use Rattle.qm_top.specs.Mapping.{IsNoMapFor}

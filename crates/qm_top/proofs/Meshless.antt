@@ -2,27 +2,20 @@
 use Rattle.std.specs.Prelude.{slice_range, IfErr, IfOk, IsErrAnd, OnOk}
 use Rattle.std.proofs.Common.{◌≡◌, ◌≢◌, ◌≤◌, ◌-◌, ℕ, Result, Ok, Err, length, sym, ◌∙◌, ap, subst, refl, arith}
 use Rattle.std.proofs.lemmas.List.{take_all}
-use Rattle.def_io.specs.Bytes.{Bytes, Lines}
-use Rattle.def_io.specs.Moves.{Change}
+use Rattle.def_io.specs.{Bytes.Bytes, Bytes.Lines, Moves.Change}
 use Rattle.def_marks.specs.declared.fail.MarkFail.{MarkFail}
 use Rattle.def_marks.specs.declared.fail.MarkFail.TheVariants as marks
 use Rattle.def_mesh.specs.Manifold.{IsManifold}
-use Rattle.def_run.specs.Causes.{Refuses}
-use Rattle.def_run.specs.Mesh.{IsMeshText}
-use Rattle.def_run.specs.declared.command.Command.{Command}
-use Rattle.def_text.specs.FaceSet.{FaceSet}
-use Rattle.def_text.specs.Fails.{of_obj}
-use Rattle.def_text.specs.Input.{ReadWhole}
-use Rattle.def_text.specs.Text.{soup_in}
+use Rattle.def_run.specs.{Causes.Refuses, Mesh.IsMeshText, declared.command.Command.Command}
+use Rattle.def_text.specs.{FaceSet.FaceSet, Fails.of_obj, Input.ReadWhole, Text.soup_in}
 use Rattle.def_text.specs.declared.limits.TheConstants.{MAX_BYTES, MAX_V_LINES}
 use Rattle.def_text.specs.declared.refusal.ObjFail.{ObjFail}
 use Rattle.def_text.specs.declared.refusal.ObjFail.TheVariants as obj
 use Rattle.def_text.specs.declared.refusal.SoupFail.TheVariants as soup
 use Rattle.qm_top.proofs.Refusals.{input_ended, NeedsMesh}
-use Rattle.qm_top.specs.Meshless.{IsMeshless}
-use Rattle.qm_top.specs.Refusals.{answer_of_marks, Ended, IsNoMeshOf}
-use Rattle.qm_top.specs.declared.refusal.Refusal.{Refusal}
-use Rattle.qm_top.specs.declared.refusal.Refusal.TheVariants.{Marks, NotManifold, Soup}
+use Rattle.qm_top.specs.{Meshless.IsMeshless, Refusals.answer_of_marks, Refusals.Ended, Refusals.IsNoMeshOf}
+use Rattle.qm_top.specs.{declared.refusal.Refusal.Refusal, declared.refusal.Refusal.TheVariants.Marks}
+use Rattle.qm_top.specs.declared.refusal.Refusal.TheVariants.{NotManifold, Soup}
 use Rattle.qm_top.specs.declared.refusal.Refusal.TheVariants as refusals
 
 -- ---- What ends a command that has read a text.

@@ -1,14 +1,12 @@
 -- Where the faces of a soup first fail to be a manifold, each vertex has a number.
 use Rattle.std.proofs.Common.{◌≡◌, ◌⊎◌, ℕ, suc, ◌+◌, ◌*◌, ◌%◌, ◌<◌, ◌≤◌, Bool, true, false, cond, eqb, ltb, List, []}
 use Rattle.std.proofs.Common.{◌∷◌, length, get_or, Some, sym, subst, ap, ◌∙◌, refl, inl, inr, arith}
-use Rattle.std.specs.List.{list_all, list_any}
 use Rattle.std.proofs.lemmas.Bool.{and_from, cases_lt, lt-ltb}
 use Rattle.std.proofs.lemmas.Option.{none-some, same_Some}
-use Rattle.def_mesh.specs.Faces.{corner, face_at}
-use Rattle.def_mesh.specs.Darts.{from_of}
-use Rattle.def_mesh.specs.Faults.{repeat_after, IsFirstFault}
-use Rattle.def_mesh.specs.declared.Place.{Place}
-use Rattle.def_mesh.specs.declared.Place.TheVariants.{Repeated, EdgeTwice, TwoFans}
+use Rattle.std.specs.List.{list_all, list_any}
+use Rattle.def_mesh.specs.{Faces.corner, Faces.face_at, Darts.from_of, Faults.repeat_after, Faults.IsFirstFault}
+use Rattle.def_mesh.specs.{declared.Place.Place, declared.Place.TheVariants.Repeated}
+use Rattle.def_mesh.specs.declared.Place.TheVariants.{EdgeTwice, TwoFans}
 use Rattle.def_text.specs.FaceSet.{FaceSet, IsSoup}
 use Rattle.def_written.specs.Laws.{AreQuads}
 use Rattle.qm_mesh.proofs.Vertices.{below_from, end_low}

@@ -2,34 +2,20 @@
 use Rattle.std.specs.Prelude.{IfErr, IfOk, OnOk}
 use Rattle.std.proofs.Common.{◌≡◌, ℕ, ◌≤◌, None, Result, Ok, Err, sym, ap, ◌∙◌, subst, refl, arith}
 use Rattle.def_io.specs.Moves.{Change}
-use Rattle.def_layout.specs.Arcs.{long_at}
-use Rattle.def_layout.specs.Plans.{Plan, layout_of, vertex_at}
-use Rattle.def_mesh.specs.Faces.{Faces}
-use Rattle.def_mesh.specs.Manifold.{IsManifold}
-use Rattle.def_remesh.specs.CutSoups.{CutSoup, Regrid}
-use Rattle.def_remesh.specs.NewPoints.{lengths_in, multiple_of}
-use Rattle.def_remesh.specs.Placings.{IsMeshLayout}
-use Rattle.def_remesh.specs.Refined.{refined_faces, refined_text}
-use Rattle.def_remesh.specs.Stitched.{KeepsShapes}
-use Rattle.def_remesh.specs.declared.kept.LayoutFail.{LayoutFail}
+use Rattle.def_layout.specs.{Arcs.long_at, Plans.Plan, Plans.layout_of, Plans.vertex_at}
+use Rattle.def_mesh.specs.{Faces.Faces, Manifold.IsManifold}
+use Rattle.def_remesh.specs.{CutSoups.CutSoup, CutSoups.Regrid, NewPoints.lengths_in, NewPoints.multiple_of}
+use Rattle.def_remesh.specs.{Placings.IsMeshLayout, Refined.refined_faces, Refined.refined_text, Stitched.KeepsShapes}
+use Rattle.def_remesh.specs.{declared.kept.LayoutFail.LayoutFail, declared.limits.TheConstants.MAX_NEW_FACES}
 use Rattle.def_remesh.specs.declared.kept.LayoutFail.TheVariants as layouts
-use Rattle.def_remesh.specs.declared.limits.TheConstants.{MAX_NEW_FACES}
-use Rattle.def_run.specs.Causes.{Cause, Reads, Refuses}
-use Rattle.def_run.specs.Refine.{RefusesToRefine}
-use Rattle.def_run.specs.Remesh.{IsTracedLayout}
-use Rattle.def_run.specs.declared.answer.Answer.{Answer}
+use Rattle.def_run.specs.{Causes.Cause, Causes.Reads, Causes.Refuses, Refine.RefusesToRefine, Remesh.IsTracedLayout}
+use Rattle.def_run.specs.{declared.answer.Answer.Answer, declared.command.Command.Command}
+use Rattle.def_run.specs.{declared.command.Command.TheVariants.Refine, declared.command.TheConstants.MAX_MULTIPLE}
 use Rattle.def_run.specs.declared.answer.Answer.TheVariants as answers
-use Rattle.def_run.specs.declared.command.Command.{Command}
-use Rattle.def_run.specs.declared.command.Command.TheVariants.{Refine}
-use Rattle.def_run.specs.declared.command.TheConstants.{MAX_MULTIPLE}
-use Rattle.def_text.specs.FaceSet.{FaceSet}
-use Rattle.def_text.specs.Input.{ReadSoup}
-use Rattle.def_text.specs.declared.limits.TheConstants.{MAX_BYTES}
-use Rattle.def_written.specs.NewFaces.{new_faces}
-use Rattle.def_written.specs.Shape.{KeepsShape}
+use Rattle.def_text.specs.{FaceSet.FaceSet, Input.ReadSoup, declared.limits.TheConstants.MAX_BYTES}
+use Rattle.def_written.specs.{NewFaces.new_faces, Shape.KeepsShape}
 use Rattle.qm_top.specs.Refining.{FailsBy, FailsToRefine, IsRefinedMesh, ShowsRefined}
-use Rattle.qm_top.specs.Refusals.{answer_of_layout}
-use Rattle.qm_top.specs.Writing.{IsOfLayout}
+use Rattle.qm_top.specs.{Refusals.answer_of_layout, Writing.IsOfLayout}
 use Rattle.qm_top.proofs.Writers.{layout_ends, IsWriter}
 use Rattle.remesh_laws.proofs.ReadAgain.{refined_read}
 

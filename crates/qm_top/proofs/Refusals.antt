@@ -2,40 +2,31 @@
 use Rattle.std.specs.Prelude.{IsErrAnd}
 use Rattle.def_flow.specs.declared.net.Settings.{Settings}
 use Rattle.std.proofs.Common.{inl, inr, Bool, ◌≡◌, ℕ, ℤ, List, [], Result, Ok, Err, sym, ◌∙◌, subst, refl}
-use Rattle.def_io.specs.Bytes.{Bytes}
-use Rattle.def_io.specs.Faults.{Rose}
-use Rattle.def_io.specs.Moves.{Change, IsStill, Stream, GaveMore}
+use Rattle.def_io.specs.{Bytes.Bytes, Faults.Rose, Moves.Change, Moves.IsStill, Moves.Stream, Moves.GaveMore}
 use Rattle.def_io.specs.Lines.{lines_of}
 use Rattle.def_mesh.specs.declared.Place.{Place}
-use Rattle.def_text.specs.FaceSet.{FaceSet}
-use Rattle.def_text.specs.Input.{ReadRefused, ReadWhole}
-use Rattle.def_text.specs.Text.{soup_in}
-use Rattle.def_text.specs.Types.{Words}
-use Rattle.def_text.specs.declared.limits.TheConstants.{MAX_BYTES}
-use Rattle.def_text.specs.declared.refusal.ObjFail.{ObjFail}
+use Rattle.def_text.specs.{FaceSet.FaceSet, Input.ReadRefused, Input.ReadWhole, Text.soup_in, Types.Words}
+use Rattle.def_text.specs.{declared.limits.TheConstants.MAX_BYTES, declared.refusal.ObjFail.ObjFail}
+use Rattle.def_text.specs.{declared.refusal.Which.TheVariants.Bytes as AllBytes}
 use Rattle.def_text.specs.declared.refusal.ObjFail.TheVariants as obj
 use Rattle.def_text.specs.declared.refusal.SoupFail.TheVariants as soup
-use Rattle.def_text.specs.declared.refusal.Which.TheVariants.{Bytes as AllBytes}
 use Rattle.def_run.specs.Causes.{Cause, FailsToRead, Reads, ReadsTooMany, Refuses}
-use Rattle.def_run.specs.CommandLines.{IsCommand}
-use Rattle.def_run.specs.Mesh.{IsNoMesh}
-use Rattle.def_run.specs.declared.answer.Answer.{Answer}
+use Rattle.def_run.specs.{CommandLines.IsCommand, Mesh.IsNoMesh, declared.answer.Answer.Answer}
+use Rattle.def_run.specs.{declared.command.Command.Command, declared.command.Command.TheVariants.Tidy}
+use Rattle.def_run.specs.declared.command.Command.TheVariants.{Graph, Refine}
+use Rattle.def_run.specs.declared.command.Command.TheVariants.{Remesh, Crease}
+use Rattle.def_run.specs.declared.command.Command.TheVariants.{Size, Coarse}
+use Rattle.def_run.specs.declared.command.Command.TheVariants.{Blocks, LayOut}
+use Rattle.def_run.specs.{declared.command.Command.TheVariants.Grids, ErrorLines.error_line, Messages.AreNames}
+use Rattle.def_run.specs.{Messages.LooksAt, Messages.Said, Messages.SaidWhy, declared.words.WordsFail.WordsFail}
 use Rattle.def_run.specs.declared.answer.Answer.TheVariants as answers
-use Rattle.def_run.specs.declared.command.Command.{Command}
-use Rattle.def_run.specs.declared.command.Command.TheVariants.{Tidy, Graph, Refine, Remesh, Crease, Size, Coarse}
-use Rattle.def_run.specs.declared.command.Command.TheVariants.{Blocks}
-use Rattle.def_run.specs.declared.command.Command.TheVariants.{LayOut, Grids}
-use Rattle.def_patches.specs.declared.Keep.{Keep}
-use Rattle.def_patches.specs.declared.Patches.{Patches}
+use Rattle.def_patches.specs.{declared.Keep.Keep, declared.Patches.Patches}
 use Rattle.qm_top.specs.declared.refusal.Refusal.{Refusal}
 use Rattle.qm_top.specs.declared.refusal.Refusal.TheVariants.{Soup, NotManifold}
-use Rattle.qm_top.specs.declared.refusal.Refusal.TheVariants as refusals
-use Rattle.def_run.specs.ErrorLines.{error_line}
-use Rattle.def_run.specs.Messages.{AreNames, LooksAt, Said, SaidWhy}
-use Rattle.def_run.specs.declared.words.WordsFail.{WordsFail}
-use Rattle.def_run.specs.declared.words.WordsFail.TheVariants as words
 use Rattle.qm_top.specs.Runs.{HasRun}
 use Rattle.qm_top.specs.Refusals.{answer_of, answer_of_obj, answer_of_words, names_of, Ended, IsInputRefusal}
+use Rattle.qm_top.specs.declared.refusal.Refusal.TheVariants as refusals
+use Rattle.def_run.specs.declared.words.WordsFail.TheVariants as words
 use Rattle.qm_top.proofs.NeverBytes.{never_bytes}
 
 -- A command that reads its input whole, and refuses what has no mesh.

@@ -2,43 +2,28 @@
 use Rattle.std.specs.Prelude.{IfErr, OnOk}
 use Rattle.std.proofs.Common.{◌≡◌, [], ◌∷◌, ◌++◌, codes, false, Bool, Result, inr, subst, sym}
 use Rattle.std.proofs.lemmas.Result.{IfErr-weaker, on_ok_weaker}
-use Rattle.def_certtext.specs.CertLines.{used}
-use Rattle.def_certtext.specs.Settings.{AreInRange}
+use Rattle.def_certtext.specs.{CertLines.used, Settings.AreInRange}
 use Rattle.def_flow.specs.declared.net.Settings.{Settings}
-use Rattle.def_io.specs.Bytes.{Bytes}
-use Rattle.def_io.specs.Moves.{Change, Stream}
+use Rattle.def_io.specs.{Bytes.Bytes, Moves.Change, Moves.Stream}
 use Rattle.def_mesh.specs.Manifold.{IsManifold}
-use Rattle.def_remesh.specs.declared.kept.LayoutFail.{LayoutFail}
-use Rattle.def_remesh.specs.declared.kept.LayoutFail.TheVariants as layouts
-use Rattle.def_text.specs.FaceSet.{FaceSet}
-use Rattle.def_text.specs.Input.{ReadSoup}
-use Rattle.def_text.specs.declared.limits.TheConstants.{MAX_BYTES}
-use Rattle.qm_top.proofs.Writers.{layout_ends, IsWriter}
-use Rattle.qm_top.specs.Refusals.{answer_of_layout}
-use Rattle.def_layout.specs.FaceLayouts.{IsCutLayout}
-use Rattle.def_layout.specs.Plans.{Plan}
-use Rattle.def_remesh.specs.NewPoints.{lengths_in}
-use Rattle.def_remesh.specs.ReadAgain.{lines_between}
+use Rattle.def_remesh.specs.{declared.kept.LayoutFail.LayoutFail, NewPoints.lengths_in, ReadAgain.lines_between}
 use Rattle.def_remesh.specs.Tasks.{remesh_task, Task}
-use Rattle.def_run.specs.Causes.{Cause, Refused, Refuses, Writes}
-use Rattle.def_run.specs.Coarse.{AsksToMerge}
-use Rattle.def_run.specs.Crease.{creased_task, AsksToCrease}
-use Rattle.def_run.specs.Heads.{named_task}
-use Rattle.def_run.specs.Mesh.{IsMeshText}
-use Rattle.def_run.specs.Remesh.{Asks, AsksToRemesh, RefusesLayout, RefusesTask, WritesFinished}
-use Rattle.def_run.specs.Reread.{HasShortLines, Rereads, RereadsTask}
-use Rattle.def_run.specs.declared.answer.Answer.{Answer}
-use Rattle.def_run.specs.declared.answer.Answer.TheVariants as answers
+use Rattle.def_remesh.specs.declared.kept.LayoutFail.TheVariants as layouts
+use Rattle.def_text.specs.{FaceSet.FaceSet, Input.ReadSoup, declared.limits.TheConstants.MAX_BYTES}
+use Rattle.qm_top.proofs.{Writers.layout_ends, Writers.IsWriter, Asides.coarse_aside, Asides.crease_aside}
+use Rattle.qm_top.proofs.{Asides.marked_aside, Framed.unwritten_weaker, Refusals.NeedsMesh}
+use Rattle.qm_top.specs.{Refusals.answer_of_layout, Writing.FailsAsked, Writing.FailsTask, Writing.IsOfLayout}
+use Rattle.qm_top.specs.{Writing.IsUnwritten, Writing.ShowsAsked, Writing.WroteText, declared.refusal.Refusal.Refusal}
+use Rattle.def_layout.specs.{FaceLayouts.IsCutLayout, Plans.Plan}
+use Rattle.def_run.specs.{Causes.Cause, Causes.Refused, Causes.Refuses, Causes.Writes, Coarse.AsksToMerge}
+use Rattle.def_run.specs.{Crease.creased_task, Crease.AsksToCrease, Heads.named_task, Mesh.IsMeshText, Remesh.Asks}
+use Rattle.def_run.specs.Remesh.{AsksToRemesh, RefusesLayout, RefusesTask, WritesFinished}
+use Rattle.def_run.specs.{Reread.HasShortLines, Reread.Rereads, Reread.RereadsTask, declared.answer.Answer.Answer}
 use Rattle.def_run.specs.declared.command.Command.{Command}
+use Rattle.def_run.specs.declared.answer.Answer.TheVariants as answers
 use Rattle.def_run.specs.declared.command.Command.TheVariants as commands
-use Rattle.qm_top.specs.Writing.{FailsAsked, FailsTask, IsOfLayout, IsUnwritten, ShowsAsked, WroteText}
-use Rattle.qm_top.specs.declared.refusal.Refusal.{Refusal}
-use Rattle.qm_top.proofs.Asides.{coarse_aside, crease_aside, marked_aside}
-use Rattle.qm_top.proofs.Framed.{unwritten_weaker}
-use Rattle.qm_top.proofs.Refusals.{NeedsMesh}
 use Rattle.remesh_laws.proofs.Asides.{head_aside, none_aside}
-use Rattle.remesh_laws.specs.Asides.{IsAside}
-use Rattle.remesh_laws.specs.Keeps.{ShowsTask}
+use Rattle.remesh_laws.specs.{Asides.IsAside, Keeps.ShowsTask}
 
 -- Where a reader passes over the lines around the new mesh, it is read again.
 abbrev pub IsReadAside : (asks : Asks) (bytes text : Bytes) (said : WritesFinished asks bytes text) → Type 0

@@ -1,24 +1,16 @@
 -- What a run keeps, by how far it came.
 use Rattle.std.proofs.Common.{◌≡◌, ◌≢◌, ◌⊎◌, ℕ, List, [], Result, Ok, Err, sym, ◌∙◌, subst, refl, inl, inr}
-use Rattle.def_io.specs.Bytes.{Bytes}
-use Rattle.def_io.specs.Moves.{Change, IsStill, Stream}
+use Rattle.def_io.specs.{Bytes.Bytes, Moves.Change, Moves.IsStill, Moves.Stream}
 use Rattle.def_text.specs.Types.{Words}
-use Rattle.def_run.specs.Causes.{Cause}
-use Rattle.def_run.specs.CommandLines.{IsCommand}
-use Rattle.def_run.specs.ErrorLines.{error_line}
-use Rattle.def_run.specs.Exits.{RunsTo}
-use Rattle.def_run.specs.Messages.{Said}
-use Rattle.def_run.specs.declared.answer.Answer.{Answer}
+use Rattle.def_run.specs.{Causes.Cause, CommandLines.IsCommand, ErrorLines.error_line, Exits.RunsTo, Messages.Said}
+use Rattle.def_run.specs.{declared.answer.Answer.Answer, declared.command.Command.Command}
+use Rattle.def_run.specs.{declared.command.Command.TheVariants.Bench, declared.words.WordsFail.WordsFail}
 use Rattle.def_run.specs.declared.answer.Answer.TheVariants as answers
-use Rattle.def_run.specs.declared.command.Command.{Command}
-use Rattle.def_run.specs.declared.command.Command.TheVariants.{Bench}
-use Rattle.def_run.specs.declared.words.WordsFail.{WordsFail}
 use Rattle.def_run.specs.declared.words.WordsFail.TheVariants as words_fail
 use Rattle.qm_top.specs.Refusals.{answer_of, answer_of_words, names_of, Ended, Finished}
 use Rattle.qm_top.specs.declared.refusal.Refusal.{Refusal}
 use Rattle.qm_top.proofs.Complete.{completes_as, not_accepted, not_read, same_command}
-use Rattle.qm_top.proofs.Refusals.{says_why, says_words}
-use Rattle.qm_top.proofs.Settled.{settles_as}
+use Rattle.qm_top.proofs.{Refusals.says_why, Refusals.says_words, Settled.settles_as}
 
 -- The answer to words is one of two.
 words_only : (fail : WordsFail) (answer : Answer) → answer ≡ answer_of_words fail → answer ≢ answers.Usage

@@ -2,12 +2,9 @@
 use Rattle.std.proofs.Common.{false, Bool, ℕ, ℤ, ◌≡◌, ◌⊎◌, sym, subst, refl, inl, inr}
 use Rattle.def_flow.specs.declared.net.Settings.{Settings}
 use Rattle.def_fit.specs.declared.fit.Fit.{Fit as AnyFit}
-use Rattle.def_io.specs.Bytes.{Bytes, Told}
-use Rattle.def_io.specs.Faults.{Rose}
-use Rattle.def_io.specs.Moves.{Change}
+use Rattle.def_io.specs.{Bytes.Bytes, Bytes.Told, Faults.Rose, Moves.Change}
 use Rattle.def_layout.specs.Plans.{Plan}
-use Rattle.def_remesh.specs.Refusals.{IsTangledAt}
-use Rattle.def_remesh.specs.Tasks.{old_lengths, Task, Wish}
+use Rattle.def_remesh.specs.{Refusals.IsTangledAt, Tasks.old_lengths, Tasks.Task, Tasks.Wish}
 use Rattle.def_run.specs.Bench.{bench_settings, RefusesToBench}
 use Rattle.def_run.specs.Causes.{Cause, ReadsTooMany, Refused}
 use Rattle.def_run.specs.Coarse.{AsksToMerge}
@@ -21,10 +18,8 @@ use Rattle.def_run.specs.declared.answer.Answer.TheVariants.{Done, Usage, Limit,
 use Rattle.def_run.specs.declared.answer.Answer.TheVariants.{ReadFault, WriteFault, Memory, Far}
 use Rattle.def_run.specs.declared.command.Command.{Command}
 use Rattle.def_run.specs.declared.command.Command.TheVariants.{Remesh, Bench, Crease, Size, Coarse, Fit}
-use Rattle.def_text.specs.FaceSet.{FaceSet}
-use Rattle.def_text.specs.Input.{ReadWhole}
-use Rattle.def_text.specs.declared.limits.TheConstants.{MAX_BYTES}
-use Rattle.def_text.specs.declared.refusal.Which.TheVariants.{Bytes as AllBytes}
+use Rattle.def_text.specs.{FaceSet.FaceSet, Input.ReadWhole, declared.limits.TheConstants.MAX_BYTES}
+use Rattle.def_text.specs.{declared.refusal.Which.TheVariants.Bytes as AllBytes}
 use Rattle.qm_top.proofs.Creased.{marks_not_refused}
 use Rattle.qm_top.proofs.Complete.{asides_not_refused, far_not_near, mesh_not_refused, not_too_long, rose_if}
 use Rattle.qm_top.proofs.Complete.{same_bytes, wishes_not_near}

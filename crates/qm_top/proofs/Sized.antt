@@ -2,31 +2,21 @@
 use Rattle.std.proofs.Common.{◌≡◌, ◌≤◌, ◌<◌, ◌^◌, ℕ, ℤ, refl, subst, arith}
 use Rattle.std.specs.Prelude.{unsigned_abs}
 use Rattle.def_cut.specs.Traced.{traced_marks}
-use Rattle.def_fit.specs.Aims.{IsFitFail}
-use Rattle.def_fit.specs.declared.fit.Aim.TheVariants.{Edge}
+use Rattle.def_fit.specs.{Aims.IsFitFail, declared.fit.Aim.TheVariants.Edge}
 use Rattle.def_io.specs.Bytes.{Bytes}
-use Rattle.def_layout.specs.FaceLayouts.{IsCutLayout}
-use Rattle.def_layout.specs.Plans.{Plan}
+use Rattle.def_layout.specs.{FaceLayouts.IsCutLayout, Plans.Plan}
 use Rattle.def_mesh.specs.Manifold.{IsManifold}
-use Rattle.def_metric.specs.Fails.{AreNear, IsFar, IsSizeFail}
-use Rattle.def_metric.specs.Targets.{edge_settings}
+use Rattle.def_metric.specs.{Fails.AreNear, Fails.IsFar, Fails.IsSizeFail, Targets.edge_settings}
 use Rattle.def_metric.specs.declared.fail.SizeFail.{SizeFail}
 use Rattle.def_metric.specs.declared.fail.SizeFail.TheVariants as sizes
-use Rattle.def_remesh.specs.CutSoups.{CutSoup}
-use Rattle.def_remesh.specs.Placings.{IsMeshLayout}
-use Rattle.def_remesh.specs.Tasks.{Task, Wish}
+use Rattle.def_remesh.specs.{CutSoups.CutSoup, Placings.IsMeshLayout, Tasks.Task, Tasks.Wish}
 use Rattle.def_remesh.specs.declared.kept.LayoutFail.TheVariants as layouts
-use Rattle.def_run.specs.Causes.{Refuses}
-use Rattle.def_run.specs.Mesh.{IsMeshText}
-use Rattle.def_run.specs.Remesh.{IsSettled, IsTracedLayout, RefusesTask}
+use Rattle.def_run.specs.{Causes.Refuses, Mesh.IsMeshText, Remesh.IsSettled, Remesh.IsTracedLayout, Remesh.RefusesTask}
 use Rattle.def_run.specs.Size.{size_task, soup_targets, AsksForNearSize, AsksForSize, IsFarText}
-use Rattle.def_run.specs.declared.answer.Answer.{Answer}
+use Rattle.def_run.specs.{declared.answer.Answer.Answer, declared.command.Command.TheVariants.Size}
 use Rattle.def_run.specs.declared.answer.Answer.TheVariants as answers
-use Rattle.def_run.specs.declared.command.Command.TheVariants.{Size}
 use Rattle.def_text.specs.FaceSet.{FaceSet}
-use Rattle.qm_top.proofs.Asides.{size_aside}
-use Rattle.qm_top.proofs.Fitted.{near_on, IsAimed}
-use Rattle.qm_top.proofs.Remeshed.{task_reread}
+use Rattle.qm_top.proofs.{Asides.size_aside, Fitted.near_on, Fitted.IsAimed, Remeshed.task_reread}
 use Rattle.qm_top.specs.Fitting.{IsFarTask}
 use Rattle.remesh_laws.proofs.Asides.{none_aside}
 use Rattle.site_laws.proofs.Laws.{graph_law}

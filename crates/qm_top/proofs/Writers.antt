@@ -1,24 +1,16 @@
 -- What a command keeps that writes a new mesh.
 use Rattle.std.specs.Prelude.{IfErr, OnOk}
 use Rattle.std.proofs.Common.{◌≡◌, ◌≢◌, Result, Ok, Err, sym, subst, refl}
-use Rattle.def_io.specs.Bytes.{Bytes}
-use Rattle.def_io.specs.Moves.{Change, Stream}
-use Rattle.def_io.specs.declared.fails.WriteFail.{WriteFail}
+use Rattle.def_io.specs.{Bytes.Bytes, Moves.Change, Moves.Stream, declared.fails.WriteFail.WriteFail}
 use Rattle.def_layout.specs.Plans.{Plan}
-use Rattle.def_mesh.specs.Faces.{Faces}
-use Rattle.def_mesh.specs.declared.Place.{Place}
-use Rattle.def_remesh.specs.CutSoups.{CutSoup}
-use Rattle.def_remesh.specs.declared.kept.LayoutFail.{LayoutFail}
+use Rattle.def_mesh.specs.{Faces.Faces, declared.Place.Place}
+use Rattle.def_remesh.specs.{CutSoups.CutSoup, declared.kept.LayoutFail.LayoutFail}
 use Rattle.def_remesh.specs.declared.kept.LayoutFail.TheVariants as layouts
-use Rattle.def_run.specs.Causes.{Cause, Reads, Writes}
-use Rattle.def_run.specs.Reread.{Rereads}
+use Rattle.def_run.specs.{Causes.Cause, Causes.Reads, Causes.Writes, Reread.Rereads, declared.command.Command.Command}
 use Rattle.def_run.specs.declared.answer.Answer.TheVariants as answers
-use Rattle.def_run.specs.declared.command.Command.{Command}
 use Rattle.def_text.specs.FaceSet.{FaceSet}
-use Rattle.qm_top.specs.Refusals.{answer_of, answer_of_layout, Ended}
-use Rattle.qm_top.specs.Runs.{HasRun}
-use Rattle.qm_top.specs.Writing.{IsOfLayout, IsUnwritten, WroteText}
-use Rattle.qm_top.specs.declared.refusal.Refusal.{Refusal}
+use Rattle.qm_top.specs.{Refusals.answer_of, Refusals.answer_of_layout, Refusals.Ended, Runs.HasRun, Writing.IsOfLayout}
+use Rattle.qm_top.specs.{Writing.IsUnwritten, Writing.WroteText, declared.refusal.Refusal.Refusal}
 use Rattle.qm_top.specs.declared.refusal.Refusal.TheVariants.{Layout, Write}
 use Rattle.qm_top.specs.declared.refusal.Refusal.TheVariants as refusals
 

@@ -1,21 +1,13 @@
 -- The tables and the queue before the first instant.
 use Rattle.std.proofs.Common.{◌≡◌, ℕ, ◌+◌, ◌<◌, ◌≤◌, Bool, true, false, not, eqb, ◌&&◌, ◌||◌, List, [], ◌∷◌, length}
 use Rattle.std.proofs.Common.{map, replicate, ap, ◌∙◌, arith}
-use Rattle.std.specs.List.{list_any, range_with_len}
 use Rattle.std.proofs.lemmas.List.{get_or-map, length-map, length-replicate}
-use Rattle.def_mesh.specs.Faces.{Faces}
-use Rattle.def_mesh.specs.Darts.{darts, all_darts, from_of}
-use Rattle.def_mesh.specs.Manifold.{IsManifold}
-use Rattle.def_mesh.specs.Vertices.{vertex_count}
-use Rattle.def_mesh.specs.Components.{start_darts}
-use Rattle.def_mesh.specs.Kinds.{is_end}
-use Rattle.def_cut.specs.FullCut.{is_on}
-use Rattle.def_feature.specs.Marks.{AreMarks}
-use Rattle.def_feature.specs.Marked.{is_origin, marked_starts}
+use Rattle.std.specs.List.{list_any, range_with_len}
+use Rattle.def_mesh.specs.{Faces.Faces, Darts.darts, Darts.all_darts, Darts.from_of, Manifold.IsManifold}
+use Rattle.def_mesh.specs.{Vertices.vertex_count, Components.start_darts, Kinds.is_end}
+use Rattle.def_cut.specs.{FullCut.is_on, Motion.begun, Motion.is_among, Events.rider_at, declared.moving.Moving.Moving}
+use Rattle.def_feature.specs.{Marks.AreMarks, Marked.is_origin, Marked.marked_starts}
 use Rattle.feature_laws.proofs.First.{origin_of}
-use Rattle.def_cut.specs.Motion.{begun, is_among}
-use Rattle.def_cut.specs.Events.{rider_at}
-use Rattle.def_cut.specs.declared.moving.Moving.{Moving}
 use Rattle.motion_laws.proofs.Among.{AreApart, apart_filter, among_range, range_among, range_apart}
 use Rattle.motion_laws.proofs.Marks.{apart_few, none_on}
 use Rattle.site_laws.proofs.Sites.{started}

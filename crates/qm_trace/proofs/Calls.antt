@@ -1,33 +1,24 @@
 -- What the calls of a motion make of its tables.
 use Rattle.std.proofs.Common.{◌≡◌, ℕ, ◌<◌, Bool, true, false, cond, eqb, ◌||◌, List, map, length, set, replicate}
 use Rattle.std.proofs.Common.{Option, Some, None, sym, ap, ◌∙◌, refl, arith}
-use Rattle.std.specs.List.{list_any}
 use Rattle.std.proofs.Math.Bool.{or-false}
 use Rattle.std.proofs.lemmas.List.{ext_get_or, length-map, length-replicate}
-use Rattle.def_mesh.specs.Faces.{Faces}
-use Rattle.def_mesh.specs.Darts.{all_darts, from_of, to_of, twin_of}
-use Rattle.def_mesh.specs.Manifold.{IsManifold}
-use Rattle.def_mesh.specs.Vertices.{vertex_count}
-use Rattle.def_mesh.specs.Components.{start_darts}
-use Rattle.def_cut.specs.FullCut.{is_on}
-use Rattle.def_cut.specs.declared.moving.Moving.{Moving}
-use Rattle.def_cut.specs.Motion.{begun, is_among}
-use Rattle.def_cut.specs.Traced.{last_state, terrain_of, traced_marks}
-use Rattle.def_cut.specs.Events.{EventState, NobodyRuns, IsMotionOf, after_ride_of, after_settling, closed, darts_in}
-use Rattle.def_cut.specs.Events.{decided_at, are_ends_settled, mark_twin, marked_from, may_settle, note_at}
-use Rattle.def_cut.specs.Events.{ridden_once_more, rider_at, waiting}
-use Rattle.def_cut.specs.Views.{MotionView}
+use Rattle.std.specs.List.{list_any}
+use Rattle.def_mesh.specs.{Faces.Faces, Darts.all_darts, Darts.from_of, Darts.to_of, Darts.twin_of, Manifold.IsManifold}
+use Rattle.def_mesh.specs.{Vertices.vertex_count, Components.start_darts}
+use Rattle.def_cut.specs.{FullCut.is_on, declared.moving.Moving.Moving, Motion.begun, Motion.is_among}
+use Rattle.def_cut.specs.{Traced.last_state, Traced.terrain_of, Traced.traced_marks, Events.EventState}
+use Rattle.def_cut.specs.Events.{NobodyRuns, IsMotionOf, after_ride_of, after_settling}
+use Rattle.def_cut.specs.Events.{closed, darts_in, decided_at, are_ends_settled, mark_twin}
+use Rattle.def_cut.specs.Events.{marked_from, may_settle, note_at, ridden_once_more}
+use Rattle.def_cut.specs.{Events.rider_at, Events.waiting, Views.MotionView}
 use Rattle.motion_laws.proofs.Marks.{from_marks, marked_long, none_on}
 use Rattle.mesh_laws.proofs.Vertices.{all_below}
-use Rattle.site_laws.proofs.Laws.{order_law}
-use Rattle.site_laws.proofs.Sites.{started}
-use Rattle.qm_trace.specs.declared.telling.Riders.{Riders}
-use Rattle.qm_trace.specs.Motions.{AreCounted, is_untold, runs_on, tally}
-use Rattle.qm_trace.specs.Tables.{is_closed_at}
-use Rattle.qm_trace.proofs.Ends.{cut_is}
-use Rattle.qm_trace.proofs.Counting.{all_run, all_wait, none_untold, tally_runs}
-use Rattle.qm_trace.proofs.Reaching.{noted_where}
-use Rattle.qm_trace.proofs.Settled.{are_ends, ends_decided}
+use Rattle.site_laws.proofs.{Laws.order_law, Sites.started}
+use Rattle.qm_trace.specs.{declared.telling.Riders.Riders, Motions.AreCounted, Motions.is_untold, Motions.runs_on}
+use Rattle.qm_trace.specs.{Motions.tally, Tables.is_closed_at}
+use Rattle.qm_trace.proofs.{Ends.cut_is, Counting.all_run, Counting.all_wait, Counting.none_untold, Counting.tally_runs}
+use Rattle.qm_trace.proofs.{Reaching.noted_where, Settled.are_ends, Settled.ends_decided}
 
 -- A motion with this state.
 abbrev pub made : (starts : List ℕ) (state : EventState) → MotionView

@@ -1,19 +1,17 @@
 -- How many riders pass a test with their notes.
 use Rattle.std.proofs.Common.{◌≡◌, ◌≢◌, ◌↔◌, ℕ, zero, suc, ◌+◌, ◌<◌, ◌≤◌, Bool, true, false, cond, eqb, ◌&&◌, List, []}
 use Rattle.std.proofs.Common.{◌∷◌, map, length, set, replicate, Option, Some, None, sym, subst, ap, ◌∙◌, refl, arith}
-use Rattle.std.specs.List.{list_all}
 use Rattle.std.proofs.lemmas.Bool.{eq-eqb, ne_eqb, eqb-true}
 use Rattle.std.proofs.lemmas.List.{set-get_or}
+use Rattle.std.specs.List.{list_all}
 use Rattle.def_cut.specs.declared.graph.Stop.{Stop}
 use Rattle.def_cut.specs.declared.moving.Moving.{Moving}
 use Rattle.def_cut.specs.Motion.{Terrain, end_of, is_among, begun, stop_of, or_else, straight, after_ride}
 use Rattle.def_cut.specs.Events.{all_told, darts_in, is_waiting, more_if, note_at, rider_at, ridden_once_more, told_at}
 use Rattle.def_cut.specs.Events.{waiting, with_note}
-use Rattle.motion_laws.proofs.Among.{among_here, among_later}
-use Rattle.motion_laws.proofs.Shown.{AreShown, IsNoted, shown_by}
-use Rattle.qm_trace.specs.declared.telling.Riders.{Riders}
-use Rattle.qm_trace.specs.Motions.{AreCounted, is_untold, is_untold_by, runs_on, tally}
-use Rattle.qm_trace.specs.Tables.{is_running}
+use Rattle.motion_laws.proofs.{Among.among_here, Among.among_later, Shown.AreShown, Shown.IsNoted, Shown.shown_by}
+use Rattle.qm_trace.specs.{declared.telling.Riders.Riders, Motions.AreCounted, Motions.is_untold, Motions.is_untold_by}
+use Rattle.qm_trace.specs.{Motions.runs_on, Motions.tally, Tables.is_running}
 
 -- One rider and its note changed.
 pub tally_set : (p : Moving → Option ℕ → Bool) (rs : List Moving) (ns : List (Option ℕ)) (r : ℕ) (x : Moving)

@@ -1,34 +1,25 @@
 -- The queue of the next instant, and the end of the motion.
 use Rattle.std.proofs.Common.{◌≡◌, ℕ, zero, suc, ◌+◌, ◌-◌, ◌<◌, ◌≤◌, Bool, true, false, not, eqb, is_some, ◌||◌, List}
 use Rattle.std.proofs.Common.{[], ◌∷◌, ◌++◌, length, get_or, map, Option, Some, None, sym, ap, ◌∙◌, refl, arith}
-use Rattle.std.specs.List.{filter}
 use Rattle.std.proofs.lemmas.Bool.{false≢true}
 use Rattle.std.proofs.lemmas.List.{ext_get_or, get_or-map, length-map}
 use Rattle.std.proofs.lemmas.List.FromFn.{length-range_with_len, get_or-map-range_with_len}
-use Rattle.def_mesh.specs.Faces.{Faces}
-use Rattle.def_mesh.specs.Darts.{darts, all_darts, twin_of}
-use Rattle.def_mesh.specs.Manifold.{IsManifold}
-use Rattle.def_mesh.specs.Vertices.{vertex_count}
-use Rattle.def_mesh.specs.Components.{start_darts}
-use Rattle.def_cut.specs.FullCut.{is_on}
-use Rattle.def_cut.specs.declared.graph.Rider.{Rider}
-use Rattle.def_cut.specs.declared.graph.Stop.{Stop}
-use Rattle.def_cut.specs.declared.moving.Moving.{Moving}
-use Rattle.def_cut.specs.Motion.{Terrain, State, ridden, is_among, ride_on, ride, begun, step, start, later}
-use Rattle.def_cut.specs.Traced.{AreRiders, IsRiderOf, finish, is_cut, last_state, terrain_of}
-use Rattle.def_feature.specs.Marks.{AreMarks}
-use Rattle.def_feature.specs.Marked.{marked_starts, marked_first, marked_last}
-use Rattle.def_cut.specs.Events.{rider_at}
+use Rattle.std.specs.List.{filter}
+use Rattle.def_mesh.specs.{Faces.Faces, Darts.darts, Darts.all_darts, Darts.twin_of, Manifold.IsManifold}
+use Rattle.def_mesh.specs.{Vertices.vertex_count, Components.start_darts}
+use Rattle.def_cut.specs.{FullCut.is_on, declared.graph.Rider.Rider, declared.graph.Stop.Stop}
+use Rattle.def_cut.specs.{declared.moving.Moving.Moving, Motion.Terrain, Motion.State, Motion.ridden, Motion.is_among}
+use Rattle.def_cut.specs.Motion.{ride_on, ride, begun, step, start, later}
+use Rattle.def_cut.specs.Traced.{AreRiders, IsRiderOf, finish, is_cut, last_state}
+use Rattle.def_cut.specs.{Traced.terrain_of, Events.rider_at}
+use Rattle.def_feature.specs.{Marks.AreMarks, Marked.marked_starts, Marked.marked_first, Marked.marked_last}
 use Rattle.mesh_laws.proofs.Vertices.{all_below}
 use Rattle.motion_laws.proofs.Among.{among_here, apart_filter, from_filter, in_filter}
-use Rattle.motion_laws.proofs.Order.{runs_ridden}
-use Rattle.motion_laws.proofs.Onward.{at_rest, last_rests, runs_on}
+use Rattle.motion_laws.proofs.{Order.runs_ridden, Onward.at_rest, Onward.last_rests, Onward.runs_on}
 use Rattle.site_laws.proofs.Sites.{terrain}
-use Rattle.feature_laws.proofs.Breaks.{begins}
-use Rattle.feature_laws.proofs.First.{marked_begin}
+use Rattle.feature_laws.proofs.{Breaks.begins, First.marked_begin}
 use Rattle.qm_trace.specs.Tables.{HaveStopped, IsEnd, IsOnItsWay, IsQueue, IsTableAt, is_running, is_closed_at}
-use Rattle.qm_trace.proofs.Beginnings.{all_apart, each_once}
-use Rattle.qm_trace.proofs.Steps.{ridden_where}
+use Rattle.qm_trace.proofs.{Beginnings.all_apart, Beginnings.each_once, Steps.ridden_where}
 
 runs_by : (o : Option Stop) → is_running o ≡ true → o ≡ None
 runs_by None e = refl

@@ -1,26 +1,20 @@
 -- Each event leaves less that can still happen.
 use Rattle.std.proofs.Common.{◌≡◌, ℕ, zero, suc, ◌+◌, ◌*◌, ◌-◌, ◌<◌, ◌≤◌, Bool, true, false, cond, List, [], ◌∷◌, ◌++◌}
 use Rattle.std.proofs.Common.{length, set, map, replicate, Option, Some, None, sym, subst, ap, ◌∙◌, refl, arith}
-use Rattle.std.specs.List.{list_any}
 use Rattle.std.proofs.lemmas.Bool.{false≢true}
 use Rattle.std.proofs.lemmas.List.{length-map, length-replicate, length-set}
-use Rattle.def_mesh.specs.Faces.{Faces}
-use Rattle.def_mesh.specs.Components.{start_darts}
-use Rattle.def_mesh.specs.Darts.{darts}
-use Rattle.def_mesh.specs.Manifold.{IsManifold}
-use Rattle.def_cut.specs.FullCut.{is_on}
-use Rattle.def_cut.specs.declared.graph.Stop.{Stop}
-use Rattle.def_cut.specs.declared.moving.Moving.{Moving}
-use Rattle.def_cut.specs.Motion.{begun, stop_of, Terrain}
-use Rattle.def_cut.specs.Traced.{terrain_of}
-use Rattle.def_cut.specs.Events.{after_ride_of, after_settling, all_told, closed, darts_in, decided_at}
-use Rattle.def_cut.specs.Events.{are_ends_settled, leads_to, may_settle, rider_at, ridden_once_more, rides_in, told}
-use Rattle.def_cut.specs.Events.{told_at, first_event_state, Event, EventState, IsMotionOf, Leads}
-use Rattle.def_cut.specs.Events.Event.{Ride, Settle}
-use Rattle.motion_laws.proofs.Marks.{no_darts}
-use Rattle.motion_laws.proofs.Shown.{long}
+use Rattle.std.specs.List.{list_any}
+use Rattle.def_mesh.specs.{Faces.Faces, Components.start_darts, Darts.darts, Manifold.IsManifold}
+use Rattle.def_cut.specs.{FullCut.is_on, declared.graph.Stop.Stop, declared.moving.Moving.Moving, Motion.begun}
+use Rattle.def_cut.specs.{Motion.stop_of, Motion.Terrain, Traced.terrain_of, Events.after_ride_of}
+use Rattle.def_cut.specs.Events.{after_settling, all_told, closed, darts_in, decided_at}
+use Rattle.def_cut.specs.Events.{are_ends_settled, leads_to, may_settle, rider_at}
+use Rattle.def_cut.specs.Events.{ridden_once_more, rides_in, told, told_at}
+use Rattle.def_cut.specs.Events.{first_event_state, Event, EventState, IsMotionOf, Leads}
+use Rattle.def_cut.specs.{Events.Event.Ride, Events.Event.Settle, Motion.after_steps, Motion.later, Motion.ride}
+use Rattle.def_cut.specs.Motion.{ridden, start, State}
+use Rattle.motion_laws.proofs.{Marks.no_darts, Shown.long}
 use Rattle.site_laws.proofs.Laws.{order_law}
-use Rattle.def_cut.specs.Motion.{after_steps, later, ride, ridden, start, State}
 use Rattle.qm_trace.specs.Left.{left_in, left_of, rides_of, unset}
 use Rattle.qm_trace.proofs.Reaching.{leads_more, settled_long, within_of}
 use Rattle.qm_trace.proofs.Settled.{settle_low, settle_parts}

@@ -3,31 +3,20 @@ use Rattle.std.proofs.Common.{◌≡◌, ℕ, suc, ◌<◌, Bool, true, false, c
 use Rattle.std.proofs.Common.{Option, Some, None, sym, ap, ◌∙◌, refl, arith}
 use Rattle.std.proofs.lemmas.Bool.{false≢true}
 use Rattle.std.proofs.lemmas.List.{ext_get_or, get_or-map, length-map}
-use Rattle.def_mesh.specs.Faces.{Faces}
-use Rattle.def_mesh.specs.Darts.{darts, from_of, next_of, prev_of, twin_of}
-use Rattle.def_mesh.specs.Manifold.{IsManifold}
-use Rattle.def_mesh.specs.Vertices.{vertex_count}
-use Rattle.def_mesh.specs.Kinds.{is_inner, is_singular}
+use Rattle.def_mesh.specs.{Faces.Faces, Darts.darts, Darts.from_of, Darts.next_of, Darts.prev_of, Darts.twin_of}
+use Rattle.def_mesh.specs.{Manifold.IsManifold, Vertices.vertex_count, Kinds.is_inner, Kinds.is_singular}
 use Rattle.def_mesh.specs.HalfEdges.{IsQuadManifold, half_edges}
-use Rattle.def_cut.specs.Cuts.{IsCross, HasCross}
-use Rattle.def_cut.specs.FullCut.{is_on}
-use Rattle.def_cut.specs.declared.graph.Stop.{Stop}
-use Rattle.def_cut.specs.declared.graph.Stop.TheVariants.{Tie}
-use Rattle.def_cut.specs.declared.moving.Moving.{Moving}
-use Rattle.def_cut.specs.Motion.{end_of, ridden, is_among, is_found, is_met, arrivals, goes_on, stop_of, after_ride}
-use Rattle.def_cut.specs.Motion.{ride_on, ride, begun, later, State}
-use Rattle.def_cut.specs.Traced.{terrain_of}
-use Rattle.def_cut.specs.Events.{rider_at}
+use Rattle.def_cut.specs.{Cuts.IsCross, Cuts.HasCross, FullCut.is_on, declared.graph.Stop.Stop}
+use Rattle.def_cut.specs.{declared.graph.Stop.TheVariants.Tie, declared.moving.Moving.Moving, Motion.end_of}
+use Rattle.def_cut.specs.Motion.{ridden, is_among, is_found, is_met, arrivals}
+use Rattle.def_cut.specs.Motion.{goes_on, stop_of, after_ride, ride_on, ride, begun}
+use Rattle.def_cut.specs.{Motion.later, Motion.State, Traced.terrain_of, Events.rider_at}
 use Rattle.mesh_laws.proofs.Vertices.{all_below}
-use Rattle.motion_laws.proofs.Order.{runs_ridden}
-use Rattle.motion_laws.proofs.Steps.{two_bits}
-use Rattle.motion_laws.proofs.Among.{AreApart}
-use Rattle.motion_laws.proofs.Onward.{later_reached}
+use Rattle.motion_laws.proofs.{Order.runs_ridden, Steps.two_bits, Among.AreApart, Onward.later_reached}
 use Rattle.motion_laws.proofs.Terrains.{IsReachedFrom}
 use Rattle.site_laws.proofs.Sites.{terrain}
 use Rattle.def_feature.specs.Marked.{marked_first}
-use Rattle.feature_laws.proofs.Breaks.{begins}
-use Rattle.feature_laws.proofs.First.{marked_begin}
+use Rattle.feature_laws.proofs.{Breaks.begins, First.marked_begin}
 use Rattle.qm_trace.specs.Tables.{IsInstant, AreRode, rode, stop_by, is_met_now, is_crowded, is_faced}
 
 -- What a state tells of the darts that are ridden next: they differ, and leave vertices where a rider has stood.

@@ -2,21 +2,16 @@
 use Rattle.std.proofs.Common.{◌≡◌, ℕ, ◌+◌, ◌<◌, Bool, true, false, cond, eqb, ◌||◌, List, [], ◌∷◌, ◌++◌, length, get_or}
 use Rattle.std.proofs.Common.{set, take, Option, Some, None, sym, ap, ◌∙◌, refl, inl, inr, arith}
 use Rattle.std.proofs.Math.Bool.{or-false}
+use Rattle.std.proofs.lemmas.Bool.{cases_eq, eq-eqb, ne_eqb, eqb-true, false≢true}
+use Rattle.std.proofs.lemmas.List.{take_more, get_or-set_same, get_or-set_other}
 use Rattle.std.specs.List.{list_any, range_with_len}
 use Rattle.list_laws.proofs.Filters.{range_more}
-use Rattle.std.proofs.lemmas.Bool.{cases_eq, eq-eqb, ne_eqb, eqb-true, false≢true}
 use Rattle.sum_laws.proofs.Tests.{same_test}
-use Rattle.std.proofs.lemmas.List.{take_more, get_or-set_same, get_or-set_other}
-use Rattle.def_mesh.specs.Faces.{Faces}
-use Rattle.def_mesh.specs.Darts.{darts, twin_of}
-use Rattle.def_mesh.specs.Manifold.{IsManifold}
-use Rattle.def_mesh.specs.HalfEdges.{IsQuadManifold, half_edges}
-use Rattle.def_cut.specs.FullCut.{is_on}
-use Rattle.def_cut.specs.Motion.{is_among, is_found}
-use Rattle.def_cut.specs.Events.{mark_twin}
+use Rattle.def_mesh.specs.{Faces.Faces, Darts.darts, Darts.twin_of, Manifold.IsManifold, HalfEdges.IsQuadManifold}
+use Rattle.def_mesh.specs.HalfEdges.{half_edges}
+use Rattle.def_cut.specs.{FullCut.is_on, Motion.is_among, Motion.is_found, Events.mark_twin}
 use Rattle.mesh_laws.proofs.HalfEdges.{manifold_law}
-use Rattle.motion_laws.proofs.Among.{among_here}
-use Rattle.motion_laws.proofs.Marks.{twin_marks, found_more}
+use Rattle.motion_laws.proofs.{Among.among_here, Marks.twin_marks, Marks.found_more}
 
 -- One more at the end of a list.
 any_snoc : (p : ℕ → Bool) (xs : List ℕ) (x : ℕ) → list_any p (xs ++ x ∷ []) ≡ (list_any p xs || p x)

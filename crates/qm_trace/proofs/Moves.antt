@@ -1,15 +1,9 @@
 -- What is known where a rider may ride, and where a vertex may be settled.
 use Rattle.std.proofs.Common.{◌≡◌, ℕ, ◌<◌, true, List, length, get_or, ap, sym, subst, ◌∙◌, arith}
 use Rattle.std.proofs.lemmas.List.{get_or_default}
-use Rattle.def_mesh.specs.Faces.{Faces}
-use Rattle.def_mesh.specs.Manifold.{IsManifold}
-use Rattle.def_mesh.specs.Vertices.{vertex_count}
-use Rattle.def_mesh.specs.Components.{start_darts}
-use Rattle.def_cut.specs.declared.moving.Moving.{Moving}
-use Rattle.def_cut.specs.Motion.{begun}
-use Rattle.def_cut.specs.Events.{IsMotionOf, may_ride, may_settle, rider_at}
-use Rattle.def_cut.specs.Traced.{terrain_of}
-use Rattle.def_cut.specs.Views.{IsMotionOn, MotionView}
+use Rattle.def_mesh.specs.{Faces.Faces, Manifold.IsManifold, Vertices.vertex_count, Components.start_darts}
+use Rattle.def_cut.specs.{declared.moving.Moving.Moving, Motion.begun, Events.IsMotionOf, Events.may_ride}
+use Rattle.def_cut.specs.{Events.may_settle, Events.rider_at, Traced.terrain_of, Views.IsMotionOn, Views.MotionView}
 use Rattle.qm_trace.proofs.Settled.{settle_low}
 
 -- A rider that may ride, and was read.

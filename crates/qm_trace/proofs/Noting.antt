@@ -6,20 +6,13 @@ use Rattle.std.proofs.lemmas.Option.{none-some, same_Some}
 use Rattle.std.proofs.lemmas.Bool.{cases_eq, eq-eqb, ne_eqb, false≢true, false_from_ne_true, or_right}
 use Rattle.std.proofs.lemmas.List.{get_or-set_same, get_or-set_other, length-set, length-replicate}
 use Rattle.std.specs.Vec.{vec_capacity}
-use Rattle.def_mesh.specs.Faces.{Faces}
-use Rattle.def_mesh.specs.Darts.{to_of}
-use Rattle.def_cut.specs.FullCut.{is_on}
-use Rattle.def_cut.specs.Motion.{is_among}
-use Rattle.def_cut.specs.Events.{darts_in, note_at}
+use Rattle.def_mesh.specs.{Faces.Faces, Darts.to_of}
+use Rattle.def_cut.specs.{FullCut.is_on, Motion.is_among, Events.darts_in, Events.note_at}
 use Rattle.motion_laws.proofs.Among.{among_here, among_later, among_cases}
 use Rattle.motion_laws.proofs.Marks.{among_append, apart_append, apart_few, mark_is, no_darts, noted_more}
-use Rattle.qm_trace.specs.declared.notes.Notes.{Notes}
-use Rattle.qm_trace.specs.Motions.{AreNotes}
-use Rattle.qm_trace.specs.Tables.{AreEachOnce}
-use Rattle.qm_trace.proofs.Beginnings.{all_apart, each_once}
-use Rattle.qm_trace.proofs.Marking.{among_more}
-use Rattle.qm_trace.proofs.Reaching.{noted_among, noted_short}
-use Rattle.qm_trace.proofs.Riding.{once}
+use Rattle.qm_trace.specs.{declared.notes.Notes.Notes, Motions.AreNotes, Tables.AreEachOnce}
+use Rattle.qm_trace.proofs.{Beginnings.all_apart, Beginnings.each_once, Marking.among_more, Reaching.noted_among}
+use Rattle.qm_trace.proofs.{Reaching.noted_short, Riding.once}
 
 pub all_none : (ns : List (Option ℕ)) → ((r : ℕ) → note_at ns r ≡ None) → ns ≡ replicate (length ns) None
 all_none [] each = refl

@@ -1,24 +1,17 @@
 -- Which events are possible, and how many can still happen.
 use Rattle.std.proofs.Common.{◌≡◌, ℕ, suc, ◌<◌, Bool, true, false, List, [], ◌∷◌, length, Option, sym, subst, ap, ◌∙◌}
 use Rattle.std.proofs.Common.{refl, arith}
-use Rattle.std.specs.List.{list_any}
 use Rattle.std.proofs.lemmas.Bool.{and_from, eq-eqb, eqb-true, false≢true, not_from_false}
-use Rattle.def_mesh.specs.Faces.{Faces}
-use Rattle.def_mesh.specs.Components.{start_darts}
-use Rattle.def_mesh.specs.Darts.{to_of}
-use Rattle.def_mesh.specs.Manifold.{IsManifold}
-use Rattle.def_cut.specs.FullCut.{is_on}
-use Rattle.def_cut.specs.declared.moving.Moving.{Moving}
-use Rattle.def_cut.specs.Motion.{after_steps, end_of, is_among, ridden}
-use Rattle.def_cut.specs.Traced.{terrain_of}
-use Rattle.def_cut.specs.Events.{EventState, darts_in, is_waiting, leads_to, may_settle, more_if, note_at}
-use Rattle.def_cut.specs.Events.{rider_at, waiting, Event, IsMotionOf, May, NobodyRuns}
-use Rattle.def_cut.specs.Events.Event.{Ride, Settle}
-use Rattle.motion_laws.proofs.Among.{any_where}
-use Rattle.motion_laws.proofs.Shown.{still_runs}
+use Rattle.std.specs.List.{list_any}
+use Rattle.def_mesh.specs.{Faces.Faces, Components.start_darts, Darts.to_of, Manifold.IsManifold}
+use Rattle.def_cut.specs.{FullCut.is_on, declared.moving.Moving.Moving, Motion.after_steps, Motion.end_of}
+use Rattle.def_cut.specs.{Motion.is_among, Motion.ridden, Traced.terrain_of, Events.EventState, Events.darts_in}
+use Rattle.def_cut.specs.Events.{is_waiting, leads_to, may_settle, more_if, note_at}
+use Rattle.def_cut.specs.Events.{rider_at, waiting, Event, IsMotionOf, May}
+use Rattle.def_cut.specs.{Events.NobodyRuns, Events.Event.Ride, Events.Event.Settle}
+use Rattle.motion_laws.proofs.{Among.any_where, Shown.still_runs}
 use Rattle.site_laws.proofs.Laws.{order_law}
-use Rattle.qm_trace.proofs.Reaching.{within_of}
-use Rattle.qm_trace.proofs.Settled.{settle_parts}
+use Rattle.qm_trace.proofs.{Reaching.within_of, Settled.settle_parts}
 
 -- Nobody waits.
 pub none_wait : (rs : List Moving) (ns : List (Option ℕ))

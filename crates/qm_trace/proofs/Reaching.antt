@@ -3,28 +3,21 @@ use Rattle.std.proofs.Common.{◌≡◌, ℕ, zero, suc, ◌+◌, ◌-◌, ◌<�
 use Rattle.std.proofs.Common.{Option, Some, None, sym, subst, ap, ◌∙◌, refl, inl, inr, arith}
 use Rattle.std.proofs.lemmas.Option.{none-some, same_Some}
 use Rattle.std.proofs.lemmas.Bool.{cases_lt, false≢true, false_from_ne_true}
-use Rattle.def_mesh.specs.Faces.{Faces}
-use Rattle.def_mesh.specs.Darts.{darts}
-use Rattle.def_mesh.specs.Manifold.{IsManifold}
-use Rattle.def_mesh.specs.Vertices.{vertex_count}
-use Rattle.def_mesh.specs.Components.{start_darts}
-use Rattle.def_cut.specs.FullCut.{is_on}
-use Rattle.def_cut.specs.declared.graph.Stop.{Stop}
-use Rattle.def_cut.specs.declared.graph.Stop.TheVariants.{Middle, Boundary, Singular, Trail, Tie}
-use Rattle.def_cut.specs.declared.moving.Moving.{Moving}
-use Rattle.def_cut.specs.Motion.{Terrain, end_of, with_next, ridden, is_among, is_met, arrivals, goes_on, stop_of}
-use Rattle.def_cut.specs.Motion.{start, after_steps}
-use Rattle.def_cut.specs.Traced.{terrain_of}
-use Rattle.def_cut.specs.Events.{EventState, darts_in, rider_at, note_at, may_ride, after_ride_of, told_at, all_told}
-use Rattle.def_cut.specs.Events.{Event, May, after_event, Leads, rides_in, first_event_state, IsMotionOf}
-use Rattle.def_cut.specs.Events.Event.{Ride}
+use Rattle.def_mesh.specs.{Faces.Faces, Darts.darts, Manifold.IsManifold, Vertices.vertex_count, Components.start_darts}
+use Rattle.def_cut.specs.{FullCut.is_on, declared.graph.Stop.Stop, declared.graph.Stop.TheVariants.Middle}
+use Rattle.def_cut.specs.declared.graph.Stop.TheVariants.{Boundary, Singular}
+use Rattle.def_cut.specs.declared.graph.Stop.TheVariants.{Trail, Tie}
+use Rattle.def_cut.specs.{declared.moving.Moving.Moving, Motion.Terrain, Motion.end_of, Motion.with_next, Motion.ridden}
+use Rattle.def_cut.specs.Motion.{is_among, is_met, arrivals, goes_on, stop_of, start}
+use Rattle.def_cut.specs.{Motion.after_steps, Traced.terrain_of, Events.EventState, Events.darts_in, Events.rider_at}
+use Rattle.def_cut.specs.Events.{note_at, may_ride, after_ride_of, told_at, all_told}
+use Rattle.def_cut.specs.Events.{Event, May, after_event, Leads, rides_in}
+use Rattle.def_cut.specs.{Events.first_event_state, Events.IsMotionOf, Events.Event.Ride}
 use Rattle.mesh_laws.proofs.Vertices.{all_below}
-use Rattle.motion_laws.proofs.Among.{AreApart, among_here, among_later, among_cases}
-use Rattle.motion_laws.proofs.Order.{IsWithin, within, rode, rode_low, at_last, runs_ridden}
-use Rattle.motion_laws.proofs.Shown.{AreShown, IsNoted, long, shown_by}
-use Rattle.motion_laws.proofs.Steps.{next_is}
-use Rattle.motion_laws.proofs.Terrains.{IsReached}
-use Rattle.motion_laws.proofs.Traced.{after_reached}
+use Rattle.motion_laws.proofs.{Among.AreApart, Among.among_here, Among.among_later, Among.among_cases, Order.IsWithin}
+use Rattle.motion_laws.proofs.Order.{within, rode, rode_low, at_last, runs_ridden}
+use Rattle.motion_laws.proofs.{Shown.AreShown, Shown.IsNoted, Shown.long, Shown.shown_by, Steps.next_is}
+use Rattle.motion_laws.proofs.{Terrains.IsReached, Traced.after_reached}
 use Rattle.site_laws.proofs.Sites.{terrain, started}
 use Rattle.qm_trace.proofs.Steps.{begun_low, rides_low}
 

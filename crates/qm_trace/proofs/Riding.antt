@@ -2,17 +2,14 @@
 use Rattle.std.proofs.Common.{◌≡◌, ℕ, zero, suc, ◌+◌, ◌<◌, Bool, true, false, cond, eqb, ◌||◌, List, [], ◌∷◌, ◌++◌}
 use Rattle.std.proofs.Common.{length, get_or, set, take, sym, ap, ◌∙◌, refl, inl, inr, arith}
 use Rattle.std.proofs.Math.Bool.{or-false}
-use Rattle.std.specs.List.{filter}
 use Rattle.std.proofs.lemmas.Bool.{cases_eq, eq-eqb, ne_eqb, false≢true, false_from_ne_true, or_right}
 use Rattle.std.proofs.lemmas.List.{take_more, get_or-set_same, get_or-set_other}
 use Rattle.std.proofs.lemmas.List.Elements.{filter-append}
 use Rattle.std.proofs.lemmas.List.{append-nil}
+use Rattle.std.specs.List.{filter}
 use Rattle.def_mesh.specs.Faces.{Faces}
-use Rattle.def_cut.specs.Motion.{is_among, begun}
-use Rattle.def_cut.specs.Events.{rider_at}
-use Rattle.def_cut.specs.declared.moving.Moving.{Moving}
-use Rattle.motion_laws.proofs.Among.{among_cases}
-use Rattle.motion_laws.proofs.Marks.{among_at}
+use Rattle.def_cut.specs.{Motion.is_among, Motion.begun, Events.rider_at, declared.moving.Moving.Moving}
+use Rattle.motion_laws.proofs.{Among.among_cases, Marks.among_at}
 use Rattle.qm_trace.proofs.Marking.{among_more}
 use Rattle.qm_trace.specs.Tables.{AreEachOnce, AreRode, rode}
 

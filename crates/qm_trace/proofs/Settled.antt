@@ -1,41 +1,34 @@
 -- A settling: which riders it tells, how, and when the instant ends.
 use Rattle.std.proofs.Common.{◌≡◌, ◌≢◌, ℕ, ◌<◌, Bool, true, false, not, cond, eqb, ◌||◌, List, [], ◌∷◌, ◌++◌, length}
 use Rattle.std.proofs.Common.{set, Option, Some, None, sym, subst, ap, ◌∙◌, refl, inl, inr, arith}
-use Rattle.std.specs.List.{list_any}
 use Rattle.std.proofs.lemmas.Bool.{cases_eq, eq-eqb, ne_eqb, eqb-true, false≢true, or_left}
-use Rattle.sum_laws.proofs.Tests.{same_test}
 use Rattle.std.proofs.lemmas.List.{ext_get_or, get_or-set_same, get_or-set_other}
-use Rattle.def_mesh.specs.Faces.{Faces}
-use Rattle.def_mesh.specs.Darts.{darts, all_darts, from_of, next_of, prev_of, to_of}
-use Rattle.def_mesh.specs.Manifold.{IsManifold}
-use Rattle.def_mesh.specs.Vertices.{fan_of, vertex_count}
+use Rattle.std.specs.List.{list_any}
+use Rattle.sum_laws.proofs.Tests.{same_test}
+use Rattle.def_mesh.specs.{Faces.Faces, Darts.darts, Darts.all_darts, Darts.from_of, Darts.next_of, Darts.prev_of}
+use Rattle.def_mesh.specs.{Darts.to_of, Manifold.IsManifold, Vertices.fan_of, Vertices.vertex_count}
 use Rattle.def_mesh.specs.Components.{start_darts}
-use Rattle.def_cut.specs.FullCut.{is_on}
-use Rattle.def_cut.specs.declared.moving.Moving.{Moving}
-use Rattle.def_cut.specs.Motion.{State, end_of, ridden, is_among, arrives_at, stop_of, or_else, straight, begun, step}
-use Rattle.def_cut.specs.Motion.{start, after_steps}
-use Rattle.def_cut.specs.Traced.{terrain_of}
-use Rattle.def_cut.specs.Events.{EventState, waiting, darts_in, rider_at, note_at, may_ride, after_ride_of, leads_to}
-use Rattle.def_cut.specs.Events.{may_settle, told, told_at, all_told, decided_at, are_ends_settled, closed}
-use Rattle.def_cut.specs.Events.{after_settling, Event, Leads, first_event_state, ridden_once_more, IsMotionOf}
-use Rattle.def_cut.specs.Events.Event.{Ride, Settle}
-use Rattle.mesh_laws.proofs.Darts.{next_of-prev_of, prev_of-next_of}
-use Rattle.mesh_laws.proofs.Vertices.{all_below}
+use Rattle.def_cut.specs.{FullCut.is_on, declared.moving.Moving.Moving, Motion.State, Motion.end_of, Motion.ridden}
+use Rattle.def_cut.specs.Motion.{is_among, arrives_at, stop_of, or_else, straight}
+use Rattle.def_cut.specs.{Motion.begun, Motion.step, Motion.start, Motion.after_steps, Traced.terrain_of}
+use Rattle.def_cut.specs.Events.{EventState, waiting, darts_in, rider_at, note_at}
+use Rattle.def_cut.specs.Events.{may_ride, after_ride_of, leads_to, may_settle, told}
+use Rattle.def_cut.specs.Events.{told_at, all_told, decided_at, are_ends_settled, closed}
+use Rattle.def_cut.specs.Events.{after_settling, Event, Leads, first_event_state}
+use Rattle.def_cut.specs.{Events.ridden_once_more, Events.IsMotionOf, Events.Event.Ride, Events.Event.Settle}
+use Rattle.mesh_laws.proofs.{Darts.next_of-prev_of, Darts.prev_of-next_of, Vertices.all_below}
 use Rattle.motion_laws.proofs.Among.{any_at, any_where, among_range, in_filter, from_filter}
 use Rattle.motion_laws.proofs.Marks.{none_on, noted_more}
 use Rattle.motion_laws.proofs.Order.{all_ridden, parts, stood_then, v_low}
 use Rattle.motion_laws.proofs.Shown.{AreShown, IsNoted, long, noted_rides, shown_by, told_shown, told_long}
 use Rattle.motion_laws.proofs.Steps.{IsNext, is_next, stands}
 use Rattle.site_laws.proofs.Sites.{terrain, started}
-use Rattle.qm_trace.specs.declared.ground.Site.{Site}
-use Rattle.qm_trace.specs.declared.notes.Notes.{Notes}
-use Rattle.qm_trace.specs.declared.telling.Riders.{Riders}
+use Rattle.qm_trace.specs.{declared.ground.Site.Site, declared.notes.Notes.Notes, declared.telling.Riders.Riders}
 use Rattle.qm_trace.specs.Motions.{AreNotes, CanTell, is_untold, tally, told_by}
 use Rattle.qm_trace.specs.Tables.{IsSite, stop_by, stop_here}
-use Rattle.qm_trace.proofs.Counting.{untold_is}
-use Rattle.qm_trace.proofs.Instants.{IsTold, stop_same}
-use Rattle.qm_trace.proofs.Reaching.{leads_more, noted_among, reached_at, ride_fresh, ride_noted, shown_at, stop_alike}
-use Rattle.qm_trace.proofs.Reaching.{told_place, within_of}
+use Rattle.qm_trace.proofs.{Counting.untold_is, Instants.IsTold, Instants.stop_same, Reaching.leads_more}
+use Rattle.qm_trace.proofs.Reaching.{noted_among, reached_at, ride_fresh, ride_noted}
+use Rattle.qm_trace.proofs.Reaching.{shown_at, stop_alike, told_place, within_of}
 
 -- Some noted dart ends at v, by the marks at the darts before those that leave v.
 pub end_is : (faces : Faces) (v : ℕ) (ds : List ℕ) (taken : List Bool) → ((d : ℕ) → is_on taken d ≡ is_among d ds)

@@ -1,30 +1,21 @@
 -- The tables after a step.
 use Rattle.std.proofs.Common.{◌≡◌, ◌⊎◌, ℕ, zero, suc, ◌+◌, ◌^◌, ◌<◌, ◌≤◌, Bool, true, false, cond, not, eqb, ◌||◌, List}
 use Rattle.std.proofs.Common.{[], ◌∷◌, length, map, Option, Some, None, sym, subst, ap, ◌∙◌, refl, inl, inr, arith}
-use Rattle.std.specs.List.{list_any}
 use Rattle.std.proofs.lemmas.Bool.{cases_lt, eqb-true, false≢true, or_left, or_right, or_cases, and_parts}
-use Rattle.sum_laws.proofs.Tests.{same_test}
 use Rattle.std.proofs.lemmas.List.{get_or-map, get_or_past, length-map}
-use Rattle.def_mesh.specs.Faces.{Faces}
-use Rattle.def_mesh.specs.Darts.{darts, to_of, twin_of}
-use Rattle.def_mesh.specs.Manifold.{IsManifold}
-use Rattle.def_cut.specs.FullCut.{is_on}
-use Rattle.def_cut.specs.declared.graph.Stop.{Stop}
-use Rattle.def_cut.specs.declared.moving.Moving.{Moving}
-use Rattle.def_cut.specs.Motion.{ridden, is_among, is_found, is_met, arrives_at, stop_of, after_ride, ride_on, ride}
-use Rattle.def_cut.specs.Motion.{begun, later, State, Terrain}
-use Rattle.def_cut.specs.Traced.{terrain_of}
-use Rattle.def_cut.specs.Events.{rider_at}
+use Rattle.std.specs.List.{list_any}
+use Rattle.sum_laws.proofs.Tests.{same_test}
+use Rattle.def_mesh.specs.{Faces.Faces, Darts.darts, Darts.to_of, Darts.twin_of, Manifold.IsManifold}
+use Rattle.def_cut.specs.{FullCut.is_on, declared.graph.Stop.Stop, declared.moving.Moving.Moving, Motion.ridden}
+use Rattle.def_cut.specs.Motion.{is_among, is_found, is_met, arrives_at, stop_of}
+use Rattle.def_cut.specs.Motion.{after_ride, ride_on, ride, begun, later, State}
+use Rattle.def_cut.specs.{Motion.Terrain, Traced.terrain_of, Events.rider_at}
 use Rattle.motion_laws.proofs.Among.{among_here, among_later, among_cases, any_at, any_where}
-use Rattle.motion_laws.proofs.Next.{with_cases}
-use Rattle.motion_laws.proofs.Order.{runs_ridden}
-use Rattle.motion_laws.proofs.Steps.{stands}
-use Rattle.motion_laws.proofs.Onward.{later_reached}
+use Rattle.motion_laws.proofs.{Next.with_cases, Order.runs_ridden, Steps.stands, Onward.later_reached}
 use Rattle.motion_laws.proofs.Terrains.{IsReachedFrom}
 use Rattle.site_laws.proofs.Sites.{terrain}
 use Rattle.def_feature.specs.Marked.{marked_starts, marked_first}
-use Rattle.feature_laws.proofs.Breaks.{begins}
-use Rattle.feature_laws.proofs.First.{marked_begin}
+use Rattle.feature_laws.proofs.{Breaks.begins, First.marked_begin}
 use Rattle.qm_trace.specs.Tables.{AreDarts, CanRide, IsInstant, IsQueue, IsTableAt, dart_of}
 
 -- What stands among the values along a list.

@@ -1,11 +1,9 @@
 -- Why a rider stops, as the code has it.
 use Rattle.std.proofs.Common.{◌≡◌, ℕ, ◌+◌, ◌<◌, Bool, false, not, List, [], ◌∷◌, ◌++◌, length, get_or, map, ◌∙◌, arith}
-use Rattle.std.specs.List.{range_with_len}
 use Rattle.std.proofs.lemmas.List.{get_or_default, length-map}
 use Rattle.std.proofs.lemmas.List.FromFn.{length-range_with_len, get_or-map-range_with_len, map-range_with_len_more}
-use Rattle.def_mesh.specs.Faces.{Faces}
-use Rattle.def_mesh.specs.Vertices.{vertex_count}
-use Rattle.def_mesh.specs.Kinds.{is_inner, is_singular}
+use Rattle.std.specs.List.{range_with_len}
+use Rattle.def_mesh.specs.{Faces.Faces, Vertices.vertex_count, Kinds.is_inner, Kinds.is_singular}
 use Rattle.def_cut.specs.FullCut.{is_on}
 use Rattle.qm_trace.specs.Tables.{IsGround}
 

@@ -3,31 +3,20 @@ use Rattle.std.proofs.Common.{◌≡◌, ◌≢◌, ℕ, ◌+◌, ◌<◌, Bool,
 use Rattle.std.proofs.Common.{take, Option, Some, None, is_some, sym, subst, ap, ◌∙◌, refl, inl, inr, arith}
 use Rattle.std.proofs.Math.Bool.{or-false}
 use Rattle.std.proofs.lemmas.Bool.{cases_eq, eq-eqb, ne_eqb, eqb-true, false≢true, or_right}
-use Rattle.sum_laws.proofs.Tests.{same_test}
 use Rattle.std.proofs.lemmas.List.{get_or-set_same, get_or-set_other}
-use Rattle.def_mesh.specs.Faces.{Faces}
-use Rattle.def_mesh.specs.Darts.{darts, all_darts, from_of, next_of, prev_of, to_of}
-use Rattle.def_mesh.specs.Vertices.{fan_of}
-use Rattle.def_cut.specs.FullCut.{is_on}
-use Rattle.def_cut.specs.declared.graph.Stop.{Stop}
-use Rattle.def_cut.specs.declared.moving.Moving.{Moving}
-use Rattle.def_cut.specs.Motion.{Terrain, is_among, or_else, straight, begun}
-use Rattle.def_cut.specs.Events.{more_if, note_at, rider_at, told}
-use Rattle.def_cut.specs.Traced.{terrain_of}
-use Rattle.mesh_laws.proofs.Darts.{next_of-prev_of, prev_of-next_of}
-use Rattle.mesh_laws.proofs.Fans.{fan_of_is}
-use Rattle.mesh_laws.proofs.Darts.{next_of_low}
+use Rattle.sum_laws.proofs.Tests.{same_test}
+use Rattle.def_mesh.specs.{Faces.Faces, Darts.darts, Darts.all_darts, Darts.from_of, Darts.next_of, Darts.prev_of}
+use Rattle.def_mesh.specs.{Darts.to_of, Vertices.fan_of}
+use Rattle.def_cut.specs.{FullCut.is_on, declared.graph.Stop.Stop, declared.moving.Moving.Moving, Motion.Terrain}
+use Rattle.def_cut.specs.{Motion.is_among, Motion.or_else, Motion.straight, Motion.begun, Events.more_if}
+use Rattle.def_cut.specs.{Events.note_at, Events.rider_at, Events.told, Traced.terrain_of}
+use Rattle.mesh_laws.proofs.{Darts.next_of-prev_of, Darts.prev_of-next_of, Fans.fan_of_is, Darts.next_of_low}
 use Rattle.motion_laws.proofs.Among.{among_range, apart_filter, from_filter, in_filter, range_apart}
-use Rattle.qm_trace.specs.declared.ground.Site.{Site}
-use Rattle.qm_trace.specs.declared.notes.Notes.{Notes}
-use Rattle.qm_trace.specs.declared.telling.Riders.{Riders}
-use Rattle.qm_trace.specs.Motions.{AreNotes, CanTell, is_untold, is_untold_by, runs_on, tally, told_along, told_by}
-use Rattle.qm_trace.specs.Tables.{is_running, stop_here}
-use Rattle.qm_trace.proofs.Beginnings.{each_once}
-use Rattle.qm_trace.proofs.Counting.{tally_rider, tally_some}
-use Rattle.qm_trace.proofs.Marking.{among_more}
-use Rattle.qm_trace.proofs.Reaching.{noted_among, noted_where}
-use Rattle.qm_trace.proofs.Riding.{once}
+use Rattle.qm_trace.specs.{declared.ground.Site.Site, declared.notes.Notes.Notes, declared.telling.Riders.Riders}
+use Rattle.qm_trace.specs.Motions.{AreNotes, CanTell, is_untold, is_untold_by, runs_on}
+use Rattle.qm_trace.specs.{Motions.tally, Motions.told_along, Motions.told_by, Tables.is_running, Tables.stop_here}
+use Rattle.qm_trace.proofs.{Beginnings.each_once, Counting.tally_rider, Counting.tally_some, Marking.among_more}
+use Rattle.qm_trace.proofs.{Reaching.noted_among, Reaching.noted_where, Riding.once}
 
 -- An untold rider runs, and its dart is noted.
 pub untold_runs : (q : Moving) (n : Option ℕ) → is_untold q n ≡ true → (q.stop ≡ None) × (n ≡ Some q.dart)

@@ -1,12 +1,10 @@
 -- clap takes words that are uses of the options, where each value may stand in a word of its own.
 use Rattle.std.proofs.Common.{◌≡◌, ℕ, Bool, true, false, List, [], ◌∷◌, ◌++◌, Option, Some, None, map, inl, inr, refl}
 use Rattle.std.proofs.Common.{ap, sym, ◌∙◌, subst, append-nil, append_assoc}
-use Rattle.std.specs.List.{after_first, before_first, list_all, list_any}
-use Rattle.std.specs.Str.{bytes_eq}
 use Rattle.std.proofs.lemmas.Bool.{and_parts, cases_Bool, false≢true, true≢false}
-use Rattle.clap.specs.Faults.{use_fault, walk_fault}
-use Rattle.clap.specs.Lexer.{long_of}
-use Rattle.clap.specs.Walk.{has_row, idle, option, settled_rows, used, walked, Row, Walk}
+use Rattle.std.specs.{List.after_first, List.before_first, List.list_all, List.list_any, Str.bytes_eq}
+use Rattle.clap.specs.{Faults.use_fault, Faults.walk_fault, Lexer.long_of, Walk.has_row, Walk.idle, Walk.option}
+use Rattle.clap.specs.Walk.{settled_rows, used, walked, Row, Walk}
 use Rattle.def_run.specs.Options.{attached, dashed, use_in_front, is_equals, separate, uses_of, Use, Uses}
 use Rattle.def_text.specs.Types.{Word, Words}
 use Rattle.qm_words.specs.Parsing.{is_known, is_plain}

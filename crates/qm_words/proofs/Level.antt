@@ -1,33 +1,27 @@
 -- What clap's contracts say of the words.
 use Rattle.std.proofs.Common.{◌≡◌, ◌≤◌, ◌&&◌, ◌||◌, ◌==◌, not, ℕ, Bool, true, false, List, [], ◌∷◌, Option, Some, None}
 use Rattle.std.proofs.Common.{fold, map, inl, inr, cond, eqb, refl, ap, ap₂, sym, ◌∙◌, subst, arith}
-use Rattle.std.specs.List.{list_all, list_any}
-use Rattle.std.specs.Str.{bytes_eq}
 use Rattle.std.proofs.lemmas.Bool.{and_from, and_parts, cases_Bool, eq-eqb, eqb-true, false≢true, or_from, or_parts}
 use Rattle.std.proofs.lemmas.Bool.{true≢false}
 use Rattle.std.proofs.lemmas.Slice.Eq.{bytes_eq-Decides}
-use Rattle.clap.specs.Faults.{built_fault, default_fault, defaults_fault, fault_of, settle_fault, walk_fault}
-use Rattle.clap.specs.Kinds.{or_else, Kinds}
-use Rattle.clap.specs.Matches.{first_value}
-use Rattle.clap.specs.Simple.{matches_of, App}
-use Rattle.clap.specs.Takes.{is_given}
-use Rattle.clap.specs.Walk.{first_of, has_row, nothing_held, rows_after, with_default, Row, Rule}
-use Rattle.clap.specs.Walk as clap
+use Rattle.std.specs.{List.list_all, List.list_any, Str.bytes_eq}
+use Rattle.clap.specs.Faults.{built_fault, default_fault, defaults_fault, fault_of}
+use Rattle.clap.specs.{Faults.settle_fault, Faults.walk_fault, Kinds.or_else, Kinds.Kinds, Matches.first_value}
+use Rattle.clap.specs.{Simple.matches_of, Simple.App, Takes.is_given, Walk.first_of, Walk.has_row, Walk.nothing_held}
+use Rattle.clap.specs.Walk.{rows_after, with_default, Row, Rule}
 use Rattle.clap.specs.declared.error.kind.ErrorKind.TheVariants.{MissingRequiredArgument}
 use Rattle.clap.specs.declared.parser.matches.Found.{Found}
-use Rattle.clap.proofs.FaultLemmas.{leaf_fault}
-use Rattle.clap.proofs.WalkLemmas.{first_value-rows}
+use Rattle.clap.specs.Walk as clap
+use Rattle.clap.proofs.{FaultLemmas.leaf_fault, WalkLemmas.first_value-rows}
 use Rattle.def_run.specs.Options.{are_once, attached, count_of, dashed, is_equals, is_of, separate, uses_of, AreOptions}
 use Rattle.def_run.specs.Options.{Use, Uses}
 use Rattle.def_text.specs.Types.{Word, Words}
 use Rattle.qm_words.specs.Parsing.{is_end, is_known, is_plain, options_app, Reads}
-use Rattle.qm_words.proofs.Fits.{fits, prefix_is, pair_long, Fit}
-use Rattle.qm_words.proofs.Rules.{built_is, full_rule, rules, shape}
-use Rattle.qm_words.proofs.Sound.{sound, Read}
-use Rattle.qm_words.proofs.Uses.{count, count_given, count_hyphens, either_way, first_value_of, given_count, rows_of}
-use Rattle.qm_words.proofs.Uses.{Good}
-use Rattle.qm_words.proofs.Walks.{both_quiet, end, end_rows, quiet_both, rests, Passes}
-use Rattle.qm_words.proofs.Words.{plain_view, uses_flag, uses_pair, with_hyphens}
+use Rattle.qm_words.proofs.{Fits.fits, Fits.prefix_is, Fits.pair_long, Fits.Fit, Rules.built_is, Rules.full_rule}
+use Rattle.qm_words.proofs.{Rules.rules, Rules.shape, Sound.sound, Sound.Read, Uses.count, Uses.count_given}
+use Rattle.qm_words.proofs.Uses.{count_hyphens, either_way, first_value_of, given_count, rows_of}
+use Rattle.qm_words.proofs.{Uses.Good, Walks.both_quiet, Walks.end, Walks.end_rows, Walks.quiet_both, Walks.rests}
+use Rattle.qm_words.proofs.{Walks.Passes, Words.plain_view, Words.uses_flag, Words.uses_pair, Words.with_hyphens}
 
 -- No option has a default.
 same_rows : (names : Words) (rows : List Row) → fold with_default rows (rules names) ≡ rows

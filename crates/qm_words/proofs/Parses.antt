@@ -1,23 +1,16 @@
 -- The command that the loop makes, and clap's answers to it.
 use Rattle.std.proofs.Common.{◌≡◌, ◌<◌, ◌≤◌, ◌+◌, ℕ, zero, suc, true, false, List, [], ◌∷◌, ◌++◌, length, take}
 use Rattle.std.proofs.Common.{take_all, map, slice_index_or, inl, inr, refl, ap, sym, ◌∙◌, subst, arith}
-use Rattle.std.specs.List.{list_any}
-use Rattle.std.specs.Borrow.{Bor}
-use Rattle.clap.specs.Faults.{fault_of, is_simple_and_free}
-use Rattle.clap.specs.Kinds.{HasKind, Kinds}
-use Rattle.clap.specs.Matches.{found_of}
-use Rattle.clap.specs.Simple.{with_rule, App, HasMatchesOf}
-use Rattle.clap.specs.Values.{kind_of}
-use Rattle.clap.specs.Walk.{Rule}
-use Rattle.clap.specs.declared.error.Error.{Error}
-use Rattle.clap.specs.declared.error.kind.ErrorKind.TheVariants.{OutOfMemory}
+use Rattle.std.specs.{List.list_any, Borrow.Bor}
+use Rattle.clap.specs.{Faults.fault_of, Faults.is_simple_and_free, Kinds.HasKind, Kinds.Kinds, Matches.found_of}
+use Rattle.clap.specs.{Simple.with_rule, Simple.App, Simple.HasMatchesOf, Values.kind_of, Walk.Rule}
+use Rattle.clap.specs.{declared.error.Error.Error, declared.error.kind.ErrorKind.TheVariants.OutOfMemory}
 use Rattle.clap.specs.declared.parser.matches.ArgMatches.{ArgMatches}
 use Rattle.def_run.specs.declared.words.WordsFail.{WordsFail}
 use Rattle.def_run.specs.declared.words.WordsFail.TheVariants.{Memory, Usage}
 use Rattle.def_text.specs.Types.{Word, Words}
 use Rattle.qm_words.specs.Parsing.{is_end, is_known, option_rule, options_app, Reads, Refuses}
-use Rattle.qm_words.proofs.Level.{line_taken, taken}
-use Rattle.qm_words.proofs.Rules.{simple, simple_free}
+use Rattle.qm_words.proofs.{Level.line_taken, Level.taken, Rules.simple, Rules.simple_free}
 
 abbrev pub texts : (names : List (Bor Word)) → Words
 texts names = map (λ name. name.now) names

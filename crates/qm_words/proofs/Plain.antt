@@ -1,33 +1,27 @@
 -- The values of a line begin with no hyphen.
 use Rattle.std.proofs.Common.{◌≡◌, ◌⊎◌, ◌≤◌, ◌<◌, ◌+◌, ◌^◌, ◌==◌, not, ℕ, Bool, true, false, [], ◌∷◌, ◌++◌, codes, inl}
 use Rattle.std.proofs.Common.{inr, refl, ap, sym, ◌∙◌, subst, arith}
-use Rattle.std.specs.Prelude.{decimal, ℤ, pos, neg_ℤ, ◌≤ℤ◌, if◌then◌else◌}
 use Rattle.std.proofs.lemmas.Int.{ints}
-use Rattle.std.specs.Char.{is_ascii_digit}
-use Rattle.std.specs.List.{list_all, list_any}
-use Rattle.std.specs.Str.{bytes_eq}
 use Rattle.std.proofs.lemmas.Bool.{and_from, and_parts, cases_Bool, eqb-true, false≢true, or_left, or_right}
 use Rattle.std.proofs.lemmas.Slice.Eq.{bytes_eq-Decides}
+use Rattle.std.specs.Prelude.{decimal, ℤ, pos, neg_ℤ, ◌≤ℤ◌, if◌then◌else◌}
+use Rattle.std.specs.{Char.is_ascii_digit, List.list_all, List.list_any, Str.bytes_eq}
 use Rattle.def_certtext.specs.Settings.{floor_text, weight_text, IsFloor}
-use Rattle.def_fit.specs.FitWords.{keep_word, patches_word, spacing_word, IsAimWord, IsEdgeLength}
-use Rattle.def_fit.specs.declared.fit.Aim.{Aim}
-use Rattle.def_fit.specs.declared.fit.Aim.TheVariants.{Scale, Edge, Wishes}
-use Rattle.def_fit.specs.declared.fit.Fit.{Fit}
-use Rattle.def_fit.specs.declared.fit.Spacing.{Spacing}
-use Rattle.def_fit.specs.declared.fit.Spacing.TheVariants.{Even, Wished}
-use Rattle.def_flow.specs.declared.net.Settings.{Settings}
-use Rattle.def_flow.specs.declared.net.Weight.{Weight}
+use Rattle.def_fit.specs.FitWords.{keep_word, patches_word, spacing_word, IsAimWord}
+use Rattle.def_fit.specs.{FitWords.IsEdgeLength, declared.fit.Aim.Aim, declared.fit.Aim.TheVariants.Scale}
+use Rattle.def_fit.specs.{declared.fit.Aim.TheVariants.Edge, declared.fit.Aim.TheVariants.Wishes, declared.fit.Fit.Fit}
+use Rattle.def_fit.specs.{declared.fit.Spacing.Spacing, declared.fit.Spacing.TheVariants.Even}
+use Rattle.def_fit.specs.declared.fit.Spacing.TheVariants.{Wished}
+use Rattle.def_flow.specs.{declared.net.Settings.Settings, declared.net.Weight.Weight}
 use Rattle.def_flow.specs.declared.net.Weight.TheVariants.{Plain, Length}
-use Rattle.def_patches.specs.declared.Keep.{Keep}
-use Rattle.def_patches.specs.declared.Keep.TheVariants.{Nothing, Lines}
-use Rattle.def_patches.specs.declared.Patches.{Patches}
-use Rattle.def_patches.specs.declared.Patches.TheVariants.{Traced, Merged, Conforming}
+use Rattle.def_patches.specs.{declared.Keep.Keep, declared.Keep.TheVariants.Nothing, declared.Keep.TheVariants.Lines}
+use Rattle.def_patches.specs.{declared.Patches.Patches, declared.Patches.TheVariants.Traced}
+use Rattle.def_patches.specs.declared.Patches.TheVariants.{Merged, Conforming}
 use Rattle.def_run.specs.CommandLines.{fit_options, grids_options, layout_options, remesh_options, size_options}
 use Rattle.def_run.specs.CommandLines.{HasCount, HasCutOptions, HasEdge}
 use Rattle.def_run.specs.CommandLines.{HasFitOptions, HasGridsOptions, HasSettings}
 use Rattle.def_run.specs.Options.{count_of, is_of, value_of, AreOptions, Use, Uses}
-use Rattle.def_text.specs.Decimal.{rounded_size}
-use Rattle.def_text.specs.Types.{Word, Words}
+use Rattle.def_text.specs.{Decimal.rounded_size, Types.Word, Types.Words}
 use Rattle.qm_dec.proofs.Texts.{decimal_digits, digit_other}
 use Rattle.qm_words.specs.Parsing.{is_known, is_plain, Refuses}
 use Rattle.qm_words.proofs.Uses.{same_name}

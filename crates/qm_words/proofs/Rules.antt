@@ -1,15 +1,13 @@
 -- The command of options as clap builds it, and the rules that it finds.
 use Rattle.std.proofs.Common.{◌≡◌, ◌&&◌, not, ℕ, true, false, List, [], ◌∷◌, Some, None, codes, map, inl, inr, refl, ap}
 use Rattle.std.proofs.Common.{ap₂, ◌∙◌}
-use Rattle.std.specs.List.{list_all, list_any}
-use Rattle.std.specs.Str.{bytes_eq}
 use Rattle.std.proofs.lemmas.Bool.{cases_Bool, false≢true, true≢false}
 use Rattle.std.proofs.lemmas.Slice.Eq.{bytes_eq-Decides}
-use Rattle.clap.specs.Faults.{is_free_app, is_simple_and_free}
-use Rattle.clap.specs.Simple.{built, filled_from, is_buildable, is_ready, is_ready_leaf, is_simple, new_shape, App}
-use Rattle.clap.specs.Simple.{Shape}
-use Rattle.clap.specs.Walk.{arg_by_id, arg_by_index, arg_by_long, arg_by_short, is_early_multiple, Rule}
-use Rattle.clap.specs.declared.builder.action.ArgAction.TheVariants.{Set}
+use Rattle.std.specs.{List.list_all, List.list_any, Str.bytes_eq}
+use Rattle.clap.specs.{Faults.is_free_app, Faults.is_simple_and_free, Simple.built, Simple.filled_from}
+use Rattle.clap.specs.Simple.{is_buildable, is_ready, is_ready_leaf, is_simple, new_shape}
+use Rattle.clap.specs.{Simple.App, Simple.Shape, Walk.arg_by_id, Walk.arg_by_index, Walk.arg_by_long, Walk.arg_by_short}
+use Rattle.clap.specs.{Walk.is_early_multiple, Walk.Rule, declared.builder.action.ArgAction.TheVariants.Set}
 use Rattle.clap.specs.declared.builder.value_parser.ValueParser.TheVariants as vp
 use Rattle.def_text.specs.Types.{Word, Words}
 use Rattle.qm_words.specs.Parsing.{is_known, option_rule, options_app}

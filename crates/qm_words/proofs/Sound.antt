@@ -1,14 +1,12 @@
 -- Words that clap takes are uses of the options.
 use Rattle.std.proofs.Common.{◌≡◌, ℕ, true, false, List, [], ◌∷◌, ◌++◌, Option, Some, None, map, inl, inr, arith, refl}
 use Rattle.std.proofs.Common.{ap, sym, ◌∙◌, subst, append-nil, append_assoc, slice_get}
-use Rattle.std.specs.List.{list_any}
-use Rattle.std.specs.Str.{chars}
 use Rattle.std.proofs.lemmas.Bool.{cases_Bool, or_parts, true≢false}
-use Rattle.clap.specs.Faults.{use_fault}
-use Rattle.clap.specs.Kinds.{or_else, Kinds}
-use Rattle.clap.specs.Lexer.{long_of}
-use Rattle.clap.specs.Walk.{idle, option, settled_rows, used, walked, Row, Walk}
-use Rattle.clap.specs.declared.error.kind.ErrorKind.TheVariants.{InvalidValue, UnknownArgument}
+use Rattle.std.specs.{List.list_any, Str.chars}
+use Rattle.clap.specs.{Faults.use_fault, Kinds.or_else, Kinds.Kinds, Lexer.long_of, Walk.idle, Walk.option}
+use Rattle.clap.specs.Walk.{settled_rows, used, walked, Row, Walk}
+use Rattle.clap.specs.declared.error.kind.ErrorKind.TheVariants.{InvalidValue}
+use Rattle.clap.specs.declared.error.kind.ErrorKind.TheVariants.{UnknownArgument}
 use Rattle.def_run.specs.Options.{attached, dashed, use_in_front, is_equals, separate, uses_of, Use, Uses}
 use Rattle.def_text.specs.Types.{Word, Words}
 use Rattle.qm_words.specs.Parsing.{is_end, is_known}

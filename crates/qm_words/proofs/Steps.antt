@@ -1,13 +1,11 @@
 -- One word's step of clap's walk, in each state: its fault, and the state behind it.
 use Rattle.std.proofs.Common.{◌≡◌, ℕ, true, false, List, [], ◌∷◌, Option, Some, None, refl}
-use Rattle.std.specs.Prelude.{slice_get}
-use Rattle.std.specs.Str.{bytes_eq, chars}
-use Rattle.clap.specs.Faults.{flags_fault, settle_fault, turn_fault, use_fault}
-use Rattle.clap.specs.Kinds.{or_else, Kinds}
-use Rattle.clap.specs.Lexer.{long_of, short_of}
-use Rattle.clap.specs.Walk.{arg_by_id, arg_by_long, bundle_met, idle, option, positional, settled_rows, used, walked}
-use Rattle.clap.specs.Walk.{Held, Row, Waiting, Walk}
-use Rattle.clap.specs.declared.error.kind.ErrorKind.TheVariants.{UnknownArgument, InvalidValue}
+use Rattle.std.specs.{Prelude.slice_get, Str.bytes_eq, Str.chars}
+use Rattle.clap.specs.{Faults.flags_fault, Faults.settle_fault, Faults.turn_fault, Faults.use_fault, Kinds.or_else}
+use Rattle.clap.specs.{Kinds.Kinds, Lexer.long_of, Lexer.short_of, Walk.arg_by_id, Walk.arg_by_long, Walk.bundle_met}
+use Rattle.clap.specs.Walk.{idle, option, positional, settled_rows, used, walked, Held}
+use Rattle.clap.specs.{Walk.Row, Walk.Waiting, Walk.Walk, declared.error.kind.ErrorKind.TheVariants.UnknownArgument}
+use Rattle.clap.specs.declared.error.kind.ErrorKind.TheVariants.{InvalidValue}
 use Rattle.def_text.specs.Types.{Word, Words}
 use Rattle.qm_words.specs.Parsing.{is_end}
 use Rattle.qm_words.proofs.Rules.{full_rule, no_index, no_short, rules, shape}

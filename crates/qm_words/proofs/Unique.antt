@@ -1,28 +1,24 @@
 -- A line has one command.
 use Rattle.std.proofs.Common.{◌≡◌, ◌⊎◌, ◌≤◌, ℕ, Bool, true, false, [], ◌∷◌, Option, Some, Result, Ok, Err, IfOk, IfErr}
 use Rattle.std.proofs.Common.{inl, inr, refl, ap, sym, ◌∙◌, subst, arith}
-use Rattle.std.specs.Str.{bytes_eq}
 use Rattle.std.proofs.lemmas.Bool.{true≢false}
 use Rattle.std.proofs.lemmas.Slice.Eq.{bytes_eq-Decides}
+use Rattle.std.proofs.lemmas.Fmt.{decimal_injective}
+use Rattle.std.specs.{Str.bytes_eq, Prelude.codes, Prelude.ℤ}
 use Rattle.def_flow.specs.declared.net.Settings.{Settings}
-use Rattle.std.specs.Prelude.{codes, ℤ}
 use Rattle.def_certtext.specs.Settings.{AreWordsOf}
-use Rattle.def_fit.specs.FitWords.{AreFitWords}
-use Rattle.def_fit.specs.declared.fit.Fit.{Fit as AnyFit}
+use Rattle.def_fit.specs.{FitWords.AreFitWords, declared.fit.Fit.Fit as AnyFit}
 use Rattle.def_run.specs.CommandLines.{name_of, HasCount, HasCutOptions, HasEdge, HasFitOptions, HasGridsOptions}
 use Rattle.def_run.specs.CommandLines.{HasOptions}
 use Rattle.def_run.specs.CommandLines.{HasSettings, IsCommand}
-use Rattle.def_patches.specs.declared.Keep.{Keep}
-use Rattle.def_patches.specs.declared.Patches.{Patches}
 use Rattle.def_run.specs.Options.{uses_of, value_of, Uses}
 use Rattle.def_run.specs.declared.command.Command.{Command}
 use Rattle.def_run.specs.declared.command.Command.TheVariants.{Tidy, Graph, Refine, Remesh, Check, Bench, Crease, Size}
 use Rattle.def_run.specs.declared.command.Command.TheVariants.{Coarse, Blocks, Map, Fit, LayOut, Grids}
 use Rattle.def_run.specs.declared.words.WordsFail.{WordsFail}
 use Rattle.def_run.specs.declared.words.WordsFail.TheVariants.{Memory, Usage}
-use Rattle.def_text.specs.Decimal.{rounded}
-use Rattle.def_text.specs.Types.{Word, Words}
-use Rattle.std.proofs.lemmas.Fmt.{decimal_injective}
+use Rattle.def_patches.specs.{declared.Keep.Keep, declared.Patches.Patches}
+use Rattle.def_text.specs.{Decimal.rounded, Types.Word, Types.Words}
 use Rattle.qm_certtext.proofs.Unique.{same_settings}
 use Rattle.qm_fit.proofs.OneFit.{same_fit, same_keep, same_patches}
 

@@ -1,25 +1,20 @@
 -- Uses counted, and the rows that clap keeps of them.
 use Rattle.std.proofs.Common.{◌≡◌, ◌⊎◌, ◌≤◌, ◌+◌, ℕ, true, false, List, [], ◌∷◌, ◌++◌, Option, Some, None, map, cond}
 use Rattle.std.proofs.Common.{inl, inr, refl, ap, sym, ◌∙◌, subst, arith, append-nil}
-use Rattle.std.specs.List.{list_all}
-use Rattle.std.specs.Str.{bytes_eq}
 use Rattle.std.proofs.lemmas.Bool.{and_parts, cases_Bool, false≢true, or_parts, true≢false}
 use Rattle.std.proofs.lemmas.List.{map-append}
 use Rattle.std.proofs.lemmas.List.Folds.{list_all-append}
 use Rattle.std.proofs.lemmas.Slice.Eq.{bytes_eq-Decides}
-use Rattle.clap.specs.Faults.{use_fault}
-use Rattle.clap.specs.Kinds.{Kinds}
-use Rattle.clap.specs.Takes.{is_given}
-use Rattle.clap.specs.Walk.{at_row, first_of, has_row, more_values, settled_rows, used, Row}
+use Rattle.std.specs.{List.list_all, Str.bytes_eq}
+use Rattle.clap.specs.{Faults.use_fault, Kinds.Kinds, Takes.is_given, Walk.at_row, Walk.first_of, Walk.has_row}
+use Rattle.clap.specs.Walk.{more_values, settled_rows, used, Row}
 use Rattle.clap.specs.declared.builder.value_parser.Reading.TheVariants.{AsWritten}
 use Rattle.clap.specs.declared.error.kind.ErrorKind.TheVariants.{ArgumentConflict}
 use Rattle.clap.specs.declared.parser.matches.ValueSource.TheVariants.{CommandLine}
 use Rattle.def_run.specs.Options.{count_of, value_of, Use, Uses}
 use Rattle.def_text.specs.Types.{Word, Words}
 use Rattle.qm_words.specs.Parsing.{is_known}
-use Rattle.qm_words.proofs.Rules.{by_id, full_rule, rules}
-use Rattle.qm_words.proofs.Steps.{settle, Pending}
-use Rattle.qm_words.proofs.Words.{with_hyphens}
+use Rattle.qm_words.proofs.{Rules.by_id, Rules.full_rule, Rules.rules, Steps.settle, Steps.Pending, Words.with_hyphens}
 
 -- The row of a use without hyphens.
 abbrev pub row_of : (one : Use) → Row

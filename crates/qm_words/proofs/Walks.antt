@@ -1,13 +1,10 @@
 -- clap's walk over words: where it passes, and its first step.
 use Rattle.std.proofs.Common.{◌≡◌, ℕ, false, List, [], ◌∷◌, Option, Some, fold, refl, ap, sym, ◌∙◌}
-use Rattle.clap.specs.Faults.{settle_fault, turn_fault, walk_fault}
-use Rattle.clap.specs.Kinds.{or_else, Kinds}
-use Rattle.clap.specs.Walk.{idle, option, settled_rows, walked, Held, Row, Walk}
+use Rattle.clap.specs.{Faults.settle_fault, Faults.turn_fault, Faults.walk_fault, Kinds.or_else, Kinds.Kinds, Walk.idle}
+use Rattle.clap.specs.Walk.{option, settled_rows, walked, Held, Row, Walk}
 use Rattle.def_run.specs.Options.{Use, Uses}
 use Rattle.def_text.specs.Types.{Word, Words}
-use Rattle.qm_words.proofs.Rules.{rules, shape}
-use Rattle.qm_words.proofs.Steps.{fault_at, stands}
-use Rattle.qm_words.proofs.Uses.{pending, rows_of}
+use Rattle.qm_words.proofs.{Rules.rules, Rules.shape, Steps.fault_at, Steps.stands, Uses.pending, Uses.rows_of}
 
 -- What is held behind the words.
 abbrev pub end : (names : Words) (from : Walk) (words : Words) → Held

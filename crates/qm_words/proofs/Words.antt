@@ -1,8 +1,8 @@
 -- What a word is to clap, and what it is as the use of an option.
 use Rattle.std.proofs.Common.{◌≡◌, ◌+◌, ◌==◌, not, ℕ, suc, true, false, [], ◌∷◌, Some, None, take, drop, inl, inr, refl}
 use Rattle.std.proofs.Common.{ap, sym, ◌∙◌, subst, arith}
-use Rattle.std.specs.List.{after_first, before_first, list_any, position_or_len}
 use Rattle.std.proofs.lemmas.Bool.{cases_Bool, eqb-true, not-true, or_parts}
+use Rattle.std.specs.List.{after_first, before_first, list_any, position_or_len}
 use Rattle.clap.specs.Lexer.{long_of, short_of}
 use Rattle.def_run.specs.Options.{attached, dashed, use_in_front, is_equals, separate, uses_of, Use}
 use Rattle.def_text.specs.Types.{Word, Words}

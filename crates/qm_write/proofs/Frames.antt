@@ -1,8 +1,7 @@
 -- The text of a remesh is its head line, the text of the new mesh and the joined lines of the certificates.
-use Rattle.std.proofs.Common.{◌≡◌, ℕ, Bool, true, false, Vec, Global, List, Option, [], ◌∷◌, ◌++◌, codes, sym, ◌∙◌, ap}
-use Rattle.std.proofs.Common.{ap₂}
-use Rattle.std.proofs.Common.{arith}
-use Rattle.std.proofs.lemmas.Fmt.{decimal_digit}
+use Rattle.std.proofs.Common.{◌≡◌, ℕ, Bool, true, false, Vec, Global}
+use Rattle.std.proofs.Common.{List, Option, [], ◌∷◌, ◌++◌, codes, sym}
+use Rattle.std.proofs.{Common.◌∙◌, Common.ap, Common.ap₂, Common.arith, lemmas.Fmt.decimal_digit}
 use Rattle.std.proofs.lemmas.List.Concat.{flat_map-append}
 use Rattle.def_certtext.specs.CertLines.{alone, line_text, raised, said_by, text_of, used, Certificates, Lists}
 use Rattle.def_certtext.specs.Laws.{AreWritable}
@@ -10,14 +9,9 @@ use Rattle.def_certtext.specs.declared.CertLine.TheVariants.{Floor}
 use Rattle.def_flow.specs.declared.net.Settings.{Settings}
 use Rattle.def_io.specs.Bytes.{Bytes}
 use Rattle.def_layout.specs.Plans.{Plan}
-use Rattle.def_remesh.specs.Certified.{AreKept}
-use Rattle.def_remesh.specs.CutSoups.{Regrid}
-use Rattle.def_remesh.specs.NewPoints.{lengths_in}
-use Rattle.def_remesh.specs.NewSoup.{spaced_soup}
-use Rattle.def_remesh.specs.Remeshed.{certificate_lines, text_behind_head}
-use Rattle.def_remesh.specs.Tasks.{Wish}
-use Rattle.def_text.specs.Canonical.{canonical_text}
-use Rattle.def_text.specs.FaceSet.{FaceSet}
+use Rattle.def_remesh.specs.{Certified.AreKept, CutSoups.Regrid, NewPoints.lengths_in, NewSoup.spaced_soup}
+use Rattle.def_remesh.specs.{Remeshed.certificate_lines, Remeshed.text_behind_head, Tasks.Wish}
+use Rattle.def_text.specs.{Canonical.canonical_text, FaceSet.FaceSet}
 use Rattle.qm_write.specs.Joined.{joined}
 use Rattle.qm_write.specs.declared.certs.CertTexts.TheVariants.{Alone, Raised}
 

@@ -2,12 +2,9 @@
 use Rattle.std.proofs.Common.{◌≡◌, [], ◌∷◌, ◌++◌, append_assoc, ◌∙◌}
 use Rattle.def_certtext.specs.CertLines.{certificates_of, used}
 use Rattle.def_layout.specs.Plans.{Plan}
-use Rattle.def_remesh.specs.NewPoints.{lengths_in}
-use Rattle.def_remesh.specs.Remeshed.{finished_text, text_behind_head}
-use Rattle.def_remesh.specs.Tasks.{Task}
+use Rattle.def_remesh.specs.{NewPoints.lengths_in, Remeshed.finished_text, Remeshed.text_behind_head, Tasks.Task}
 use Rattle.def_text.specs.FaceSet.{FaceSet}
-use Rattle.qm_write.specs.Framing.{framed_text, IsFramed}
-use Rattle.qm_write.specs.declared.text.Framed.{Framed}
+use Rattle.qm_write.specs.{Framing.framed_text, Framing.IsFramed, declared.text.Framed.Framed}
 
 module _ (task : Task) (framed : Framed) (soup : FaceSet) (plan : Plan) (is : IsFramed task framed soup plan) where
   pieces_are : framed_text framed soup plan

@@ -1,8 +1,7 @@
 -- The joined lines of certificates, piece by piece.
 use Rattle.std.proofs.Common.{◌≡◌, Bool, true, ◌++◌, codes, sym, ◌∙◌, ap, ap₂}
 use Rattle.def_io.specs.Bytes.{Bytes}
-use Rattle.qm_write.specs.Joined.{joined}
-use Rattle.qm_write.specs.declared.certs.CertTexts.{CertTexts}
+use Rattle.qm_write.specs.{Joined.joined, declared.certs.CertTexts.CertTexts}
 use Rattle.qm_write.specs.declared.certs.CertTexts.TheVariants.{Alone, Raised}
 
 -- Those of one,

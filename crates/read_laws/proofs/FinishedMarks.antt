@@ -1,45 +1,32 @@
 -- The `l` lines that a command wrote are read again as the marks along the chains of its marked arcs.
 use Rattle.std.proofs.Common.{◌≡◌, ◌⊎◌, ◌+◌, ◌-◌, ◌<◌, ◌≤◌, ◌++◌, ℕ, zero, suc, Bool, true, false, cond, List, [], ◌∷◌}
 use Rattle.std.proofs.Common.{length, map, filter, get_or, Option, inl, inr, refl, sym, ap, subst, ◌∙◌, arith}
-use Rattle.std.specs.List.{flat_map, list_all, range_with_len}
 use Rattle.std.proofs.lemmas.Bool.{and_from, cases_lt}
 use Rattle.std.proofs.lemmas.List.{append_assoc}
 use Rattle.std.proofs.lemmas.List.Folds.{flat_map-map}
 use Rattle.std.proofs.lemmas.List.FromFn.{get_or-range_with_len, length-map-range_with_len, length-range_with_len}
+use Rattle.std.specs.List.{flat_map, list_all, range_with_len}
 use Rattle.def_certtext.specs.CertLines.{line_text, text_of, used}
 use Rattle.def_certtext.specs.Reading.{is_hash_line, may_stand}
 use Rattle.def_certtext.specs.declared.CertLine.{CertLine}
 use Rattle.def_certtext.specs.declared.CertLine.TheVariants.{Length, Vertex, Set, Floor}
-use Rattle.def_io.specs.Bytes.{Bytes}
-use Rattle.def_io.specs.Lines.{lines_of}
-use Rattle.def_layout.specs.Lengths.{AreLengths, Lengths}
-use Rattle.def_layout.specs.Plans.{layout_of, Plan}
+use Rattle.def_io.specs.{Bytes.Bytes, Lines.lines_of}
+use Rattle.def_layout.specs.{Lengths.AreLengths, Lengths.Lengths, Plans.layout_of, Plans.Plan}
 use Rattle.def_layoutnet.specs.MeshLayouts.{IsSomeLayout}
 use Rattle.def_marks.specs.Lines.{marks_in}
 use Rattle.def_marks.specs.MarkedText.{arc_chain, arc_text, chain_text, is_marked_arc}
 use Rattle.def_readlaws.specs.ReadChains.{AreHashLines, FinishedMarksLaw, IsChainOf, marked_arc_chains}
-use Rattle.def_remesh.specs.NewPoints.{lengths_in}
-use Rattle.def_remesh.specs.NewSoup.{spaced_place, spaced_soup}
-use Rattle.def_remesh.specs.ReadAgain.{ends_line}
+use Rattle.def_remesh.specs.{NewPoints.lengths_in, NewSoup.spaced_place, NewSoup.spaced_soup, ReadAgain.ends_line}
 use Rattle.def_remesh.specs.Remeshed.{certificate_lines}
-use Rattle.def_text.specs.Canonical.{canonical_text}
-use Rattle.def_text.specs.FaceSet.{FaceSet}
-use Rattle.def_text.specs.Text.{numbers_to}
-use Rattle.def_written.specs.Edges.{on_arc}
-use Rattle.def_written.specs.Numbers.{vertex_number, vertices}
-use Rattle.def_written.specs.Points.{arc_point, IsPoint}
+use Rattle.def_text.specs.{Canonical.canonical_text, FaceSet.FaceSet, Text.numbers_to}
+use Rattle.def_written.specs.{Edges.on_arc, Numbers.vertex_number, Numbers.vertices, Points.arc_point, Points.IsPoint}
 use Rattle.plan_laws.proofs.MeshLayouts.{laid_of}
 use Rattle.qm_certtext.proofs.Texts.{lines_inside}
 use Rattle.qm_obj.proofs.LawText.{lines_back}
-use Rattle.remesh_laws.proofs.Asides.{ends_lines}
-use Rattle.remesh_laws.proofs.ReadAgain.{kept_allowed}
-use Rattle.remesh_laws.proofs.Told.{used_lengths}
-use Rattle.written_laws.proofs.EdgeDarts.{edge_points}
-use Rattle.written_laws.proofs.Shape.{numbers_law}
-use Rattle.read_laws.proofs.LayoutsRead.{task_layout_law}
-use Rattle.read_laws.proofs.MarksAgain.{marks_again_law}
-use Rattle.read_laws.proofs.NewChains.{at_link, chain_is}
-use Rattle.read_laws.proofs.Soups.{mesh_text_law, soup_in_law}
+use Rattle.remesh_laws.proofs.{Asides.ends_lines, ReadAgain.kept_allowed, Told.used_lengths}
+use Rattle.written_laws.proofs.{EdgeDarts.edge_points, Shape.numbers_law}
+use Rattle.read_laws.proofs.{LayoutsRead.task_layout_law, MarksAgain.marks_again_law, NewChains.at_link}
+use Rattle.read_laws.proofs.{NewChains.chain_is, Soups.mesh_text_law, Soups.soup_in_law}
 
 -- The lines of certificates begin with `#`.
 cert_hash : (line : CertLine) → is_hash_line (line_text line) ≡ true

@@ -1,20 +1,15 @@
 -- The layouts of bytes that are read.
 use Rattle.std.proofs.Common.{◌≡◌, Bool, List, Option, sym, subst, ◌∙◌, refl, Ok, Some, None}
-use Rattle.def_cut.specs.FullCut.{IsFullCut}
-use Rattle.def_cut.specs.Traced.{traced_marks}
+use Rattle.def_cut.specs.{FullCut.IsFullCut, Traced.traced_marks}
 use Rattle.def_feature.specs.Marked.{marked_cut}
 use Rattle.def_fit.specs.FitTasks.{Asides, asides_in, fit_task}
 use Rattle.def_io.specs.Bytes.{Bytes}
 use Rattle.def_layout.specs.FaceLayouts.{IsCutLayout}
-use Rattle.def_mesh.specs.Faces.{Faces}
-use Rattle.def_mesh.specs.Meshes.{IsMesh}
-use Rattle.def_patches.specs.Chosen.{AreKeptMarks, IsChosenCut}
-use Rattle.def_patches.specs.Laws.{IsOneCut}
-use Rattle.def_patches.specs.declared.Patches.{Patches}
+use Rattle.def_mesh.specs.{Faces.Faces, Meshes.IsMesh}
+use Rattle.def_patches.specs.{Chosen.AreKeptMarks, Chosen.IsChosenCut, Laws.IsOneCut, declared.Patches.Patches}
 use Rattle.def_patches.specs.declared.Patches.TheVariants.{Merged, Traced}
 use Rattle.def_readlaws.specs.ReadLayouts.{HasOneChosen, OneChosenLaw, OneTracedLaw, TaskLayoutLaw}
-use Rattle.def_remesh.specs.LayoutLaws.{HasOneLayout}
-use Rattle.def_remesh.specs.Tasks.{Task}
+use Rattle.def_remesh.specs.{LayoutLaws.HasOneLayout, Tasks.Task}
 use Rattle.def_run.specs.Mesh.{IsMeshText}
 use Rattle.def_run.specs.Map.{asks_of}
 use Rattle.def_run.specs.declared.command.Command.{Command}
@@ -24,8 +19,7 @@ use Rattle.def_text.specs.FaceSet.{FaceSet}
 use Rattle.existence_laws.proofs.Layouts.{layout_law, traced_layout_law}
 use Rattle.patch_laws.proofs.Chosen.{chosen_cut_law, one_cut_law}
 use Rattle.site_laws.proofs.Laws.{graph_law}
-use Rattle.read_laws.proofs.MarksRead.{asides_in_law, marks_in_law}
-use Rattle.read_laws.proofs.Soups.{mesh_text_law}
+use Rattle.read_laws.proofs.{MarksRead.asides_in_law, MarksRead.marks_in_law, Soups.mesh_text_law}
 
 -- Bytes have at most one soup.
 one_soup : (bytes : Bytes) (soup other : FaceSet) → IsMeshText bytes soup → IsMeshText bytes other → other ≡ soup

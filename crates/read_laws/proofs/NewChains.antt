@@ -1,44 +1,32 @@
 -- The chains of the arcs of a new mesh are chains of its edges, and name each edge once.
 use Rattle.std.proofs.Common.{◌≡◌, ◌⊎◌, ◌+◌, ◌-◌, ◌<◌, ◌&&◌, ℕ, Bool, true, false, eqb, length, map, inl, inr, sym, ap}
 use Rattle.std.proofs.Common.{subst, ◌∙◌, arith}
-use Rattle.std.specs.List.{range_with_len}
 use Rattle.std.proofs.lemmas.Bool.{and_from, and_parts, eq-eqb, eqb-true, or_cases, or_left, or_right}
 use Rattle.std.proofs.lemmas.List.Folds.{list_any_at}
 use Rattle.std.proofs.lemmas.List.FromFn.{get_or-map-range_with_len, get_or-range_with_len, length-map-range_with_len}
 use Rattle.std.proofs.lemmas.List.FromFn.{length-range_with_len}
 use Rattle.std.proofs.lemmas.List.Sums.{list_all-from_AllPass}
+use Rattle.std.specs.List.{range_with_len}
 use Rattle.def_certtext.specs.CertLines.{used}
-use Rattle.def_layout.specs.Arcs.{long_at}
-use Rattle.def_layout.specs.Fans.{HasFans}
-use Rattle.def_layout.specs.Cells.{CellDart, IsDart}
-use Rattle.def_layout.specs.Layouts.{Layout}
-use Rattle.def_layout.specs.Lengths.{AreLengths, Lengths}
-use Rattle.def_layout.specs.Plans.{layout_of, Plan, vertex_at}
+use Rattle.def_layout.specs.{Arcs.long_at, Fans.HasFans, Cells.CellDart, Cells.IsDart, Layouts.Layout}
+use Rattle.def_layout.specs.{Lengths.AreLengths, Lengths.Lengths, Plans.layout_of, Plans.Plan, Plans.vertex_at}
 use Rattle.def_layout.specs.Surfaces.{IsSurface}
 use Rattle.def_layoutnet.specs.MeshLayouts.{IsSomeLayout}
 use Rattle.def_marks.specs.Chains.{is_chain, is_edge, link_at, runs_between, step_places}
 use Rattle.def_marks.specs.MarkedText.{arc_chain}
-use Rattle.def_mesh.specs.Darts.{darts, from_of, to_of}
-use Rattle.def_mesh.specs.Faces.{Faces}
-use Rattle.def_mesh.specs.Manifold.{IsManifold}
+use Rattle.def_mesh.specs.{Darts.darts, Darts.from_of, Darts.to_of, Faces.Faces, Manifold.IsManifold}
 use Rattle.def_readlaws.specs.ReadChains.{AreNewChains, FinishedChainsLaw}
 use Rattle.def_remesh.specs.NewPoints.{lengths_in}
-use Rattle.def_written.specs.Edges.{Edge, IsEdge, IsUndoubled, on_arc}
-use Rattle.def_written.specs.NewFaces.{new_faces}
-use Rattle.def_written.specs.Numbers.{vertex_number}
-use Rattle.def_written.specs.Points.{arc_point}
+use Rattle.def_written.specs.{Edges.Edge, Edges.IsEdge, Edges.IsUndoubled, Edges.on_arc, NewFaces.new_faces}
+use Rattle.def_written.specs.{Numbers.vertex_number, Points.arc_point}
 use Rattle.plan_laws.proofs.MeshLayouts.{laid_of, lies}
 use Rattle.remesh_laws.proofs.Told.{used_lengths}
-use Rattle.written_laws.proofs.Courses.{course, course_from, course_of, course_to, end_at, start_at}
-use Rattle.written_laws.proofs.EdgeDarts.{edge_dart, edge_points}
+use Rattle.written_laws.proofs.Courses.{course, course_from, course_of, course_to}
+use Rattle.written_laws.proofs.{Courses.end_at, Courses.start_at, EdgeDarts.edge_dart, EdgeDarts.edge_points}
 use Rattle.written_laws.proofs.NewDarts.{dart_low, dart_number, number_from, number_to}
-use Rattle.written_laws.proofs.Numbers.{number_same}
-use Rattle.written_laws.proofs.Shape.{laid_law, new_manifold_law}
-use Rattle.written_laws.proofs.Simple.{IsSimple}
+use Rattle.written_laws.proofs.{Numbers.number_same, Shape.laid_law, Shape.new_manifold_law, Simple.IsSimple}
 use Rattle.written_laws.proofs.Undoubled.{simple_from}
-use Rattle.read_laws.proofs.LayoutsRead.{task_layout_law}
-use Rattle.read_laws.proofs.MarksRead.{chain_marks}
-use Rattle.read_laws.proofs.Soups.{mesh_text_law}
+use Rattle.read_laws.proofs.{LayoutsRead.task_layout_law, MarksRead.chain_marks, Soups.mesh_text_law}
 
 -- The ends of a dart that runs between two vertices.
 ends_of : (faces : Faces) (u v d : ℕ) → runs_between faces u v d ≡ true

@@ -1,31 +1,25 @@
 -- An `l` line that is written for a chain says that chain, where it is read.
 use Rattle.std.proofs.Common.{◌≡◌, ◌+◌, ◌^◌, ◌<◌, ◌≤◌, ◌&&◌, ℕ, suc, Bool, true, false, cond, not, List, [], ◌∷◌}
 use Rattle.std.proofs.Common.{length, drop, map, get_or, refl, sym, ap, ◌∙◌, arith, eqb, ltb}
-use Rattle.std.specs.Char.{is_ascii_digit}
-use Rattle.std.specs.List.{after_first, list_all, list_any, position_or_len}
-use Rattle.std.specs.Prelude.{decimal}
 use Rattle.std.proofs.lemmas.Bool.{and_from, and_parts, cond-false, eq-eqb, le-ltb, leb-true, ne_eqb, or_from}
 use Rattle.std.proofs.lemmas.Fmt.{decimal_nonempty}
 use Rattle.std.proofs.lemmas.List.{append-nil, drop_all, length-map, take_all}
 use Rattle.std.proofs.lemmas.List.Folds.{flat_map-map}
 use Rattle.std.proofs.lemmas.List.Sums.{position_or_len_is}
-use Rattle.def_io.specs.Bytes.{Bytes, Lines}
-use Rattle.def_io.specs.Lines.{lines_of}
+use Rattle.std.specs.{Char.is_ascii_digit, List.after_first, List.list_all, List.list_any, List.position_or_len}
+use Rattle.std.specs.Prelude.{decimal}
+use Rattle.def_io.specs.{Bytes.Bytes, Bytes.Lines, Lines.lines_of}
 use Rattle.def_marks.specs.Chains.{is_chain, link_at}
 use Rattle.def_marks.specs.Lines.{corner_fails, corner_index, is_line_corner, is_nothing, named_chain, named_vertex}
 use Rattle.def_marks.specs.MarkedText.{chain_text}
 use Rattle.def_readlaws.specs.ReadChains.{ChainSaidLaw}
-use Rattle.def_text.specs.Corner.{index_of, is_optional, is_out, is_slash, resolved, used_index}
-use Rattle.def_text.specs.Digits.{is_negative, is_number, is_signed, number_written, unsigned}
-use Rattle.def_text.specs.Reading.{begins_with}
-use Rattle.def_text.specs.Text.{numbers_to}
-use Rattle.def_text.specs.Types.{Words}
-use Rattle.def_text.specs.Words.{words}
-use Rattle.def_text.specs.declared.index.Index.TheVariants.{Vertex}
+use Rattle.def_text.specs.Corner.{index_of, is_optional, is_out, is_slash, resolved}
+use Rattle.def_text.specs.{Corner.used_index, Digits.is_negative, Digits.is_number, Digits.is_signed}
+use Rattle.def_text.specs.{Digits.number_written, Digits.unsigned, Reading.begins_with, Text.numbers_to, Types.Words}
+use Rattle.def_text.specs.{Words.words, declared.index.Index.TheVariants.Vertex}
 use Rattle.qm_dec.proofs.Texts.{decimal_digits, decimal_number}
-use Rattle.qm_obj.proofs.LawSoup.{each_map, vertex_word}
-use Rattle.qm_obj.proofs.LawText.{decimal_word, IsWord, line_words, lines_back}
-use Rattle.qm_obj.proofs.SoupLemmas.{length-numbers_to, numbers_at}
+use Rattle.qm_obj.proofs.{LawSoup.each_map, LawSoup.vertex_word, LawText.decimal_word, LawText.IsWord}
+use Rattle.qm_obj.proofs.{LawText.line_words, LawText.lines_back, SoupLemmas.length-numbers_to, SoupLemmas.numbers_at}
 use Rattle.remesh_laws.proofs.MarkedLines.{chain_line, chains_inside}
 use Rattle.read_laws.proofs.Soups.{all_weaker}
 

@@ -1,23 +1,20 @@
 -- What one line says, where it is not refused.
 use Rattle.std.proofs.Common.{◌≡◌, ℕ, ℤ, ◌+◌, ◌^◌, ◌<◌, ◌≤◌, Bool, true, false, cond, not, ◌&&◌, List, [], ◌∷◌, length}
 use Rattle.std.proofs.Common.{take, map, refl, sym, ap, ◌∙◌, arith, ltb, leb, eqb}
-use Rattle.std.specs.List.{list_all, list_any}
 use Rattle.std.proofs.lemmas.Bool.{and_from, eqb-true, false≢true, leb-false, ne_eqb, or_parts}
 use Rattle.std.proofs.lemmas.Bool.Decides.{nat_tests}
 use Rattle.std.proofs.lemmas.List.{length-map}
-use Rattle.def_text.specs.Corner.{is_out, resolved, used_index}
-use Rattle.def_text.specs.Decimal.{is_far, rounded}
-use Rattle.def_text.specs.Laws.{is_position, is_quad}
-use Rattle.def_text.specs.Logical.{Logical}
-use Rattle.def_text.specs.Reading.{begins_with, face_reading, is_face_line, is_letter, is_position_count}
-use Rattle.def_text.specs.Reading.{is_vertex_line, reading, vertex_reading, words_reading}
-use Rattle.def_text.specs.Text.{face_in, position_in, refusal_in}
-use Rattle.def_text.specs.Types.{Words}
-use Rattle.def_text.specs.Words.{words}
-use Rattle.def_text.specs.declared.reading.Reading.{Reading}
-use Rattle.def_text.specs.declared.reading.Reading.TheVariants.{Passed, Position, Face, Refused}
-use Rattle.def_text.specs.declared.refusal.ObjFail.{ObjFail}
-use Rattle.def_text.specs.declared.refusal.ObjFail.TheVariants.{Limit, NotQuad, Range, Syntax}
+use Rattle.std.specs.List.{list_all, list_any}
+use Rattle.def_text.specs.{Corner.is_out, Corner.resolved, Corner.used_index, Decimal.is_far, Decimal.rounded}
+use Rattle.def_text.specs.{Laws.is_position, Laws.is_quad, Logical.Logical, Reading.begins_with, Reading.face_reading}
+use Rattle.def_text.specs.Reading.{is_face_line, is_letter, is_position_count, is_vertex_line}
+use Rattle.def_text.specs.{Reading.reading, Reading.vertex_reading, Reading.words_reading, Text.face_in}
+use Rattle.def_text.specs.{Text.position_in, Text.refusal_in, Types.Words, Words.words}
+use Rattle.def_text.specs.{declared.reading.Reading.Reading, declared.reading.Reading.TheVariants.Passed}
+use Rattle.def_text.specs.declared.reading.Reading.TheVariants.{Position, Face}
+use Rattle.def_text.specs.{declared.reading.Reading.TheVariants.Refused, declared.refusal.ObjFail.ObjFail}
+use Rattle.def_text.specs.declared.refusal.ObjFail.TheVariants.{Limit, NotQuad}
+use Rattle.def_text.specs.declared.refusal.ObjFail.TheVariants.{Range, Syntax}
 use Rattle.def_text.specs.declared.refusal.Which.TheVariants as limits
 
 -- What a line says that is not refused, behind so many `v` and `f` lines: its position can be written, its face is a

@@ -1,21 +1,18 @@
 -- What all lines of a text say, where none is refused.
-use Rattle.std.proofs.Common.{◌≡◌, ℕ, ◌+◌, ◌^◌, ◌≤◌, Bool, true, false, cond, List, [], ◌∷◌, ◌++◌, length, refl, ap}
-use Rattle.std.proofs.Common.{◌∙◌, arith, ltb, Some, None}
-use Rattle.std.specs.List.{count_by, flat_map, list_all, list_any}
-use Rattle.std.proofs.lemmas.Bool.{and_from, and_parts}
-use Rattle.std.proofs.lemmas.List.{length-append}
-use Rattle.std.proofs.lemmas.List.Folds.{list_all-append}
+use Rattle.std.proofs.Common.{◌≡◌, ℕ, ◌+◌, ◌^◌, ◌≤◌, Bool, true, false}
+use Rattle.std.proofs.Common.{cond, List, [], ◌∷◌, ◌++◌, length, refl}
+use Rattle.std.proofs.{Common.ap, Common.◌∙◌, Common.arith, Common.ltb, Common.Some, Common.None, lemmas.Bool.and_from}
+use Rattle.std.proofs.{lemmas.Bool.and_parts, lemmas.List.length-append, lemmas.List.Folds.list_all-append}
 use Rattle.std.proofs.lemmas.List.Sums.{sum_by_push}
-use Rattle.def_text.specs.Laws.{is_position, is_quad}
-use Rattle.def_text.specs.Logical.{Logical}
-use Rattle.def_text.specs.Reading.{is_face_line, is_vertex_line, reading}
-use Rattle.def_text.specs.Text.{face_in, faces, late_in, position_in, positions, readings, refusal_in}
-use Rattle.def_text.specs.declared.reading.Reading.{Reading}
-use Rattle.def_text.specs.declared.reading.Reading.TheVariants.{Passed, Position, Face, Refused}
-use Rattle.def_text.specs.declared.refusal.ObjFail.TheVariants.{Range}
+use Rattle.std.specs.List.{count_by, flat_map, list_all, list_any}
+use Rattle.def_text.specs.{Laws.is_position, Laws.is_quad, Logical.Logical, Reading.is_face_line}
+use Rattle.def_text.specs.{Reading.is_vertex_line, Reading.reading, Text.face_in, Text.faces, Text.late_in}
+use Rattle.def_text.specs.Text.{position_in, positions, readings, refusal_in}
+use Rattle.def_text.specs.{declared.reading.Reading.Reading, declared.reading.Reading.TheVariants.Passed}
+use Rattle.def_text.specs.declared.reading.Reading.TheVariants.{Position, Face}
+use Rattle.def_text.specs.{declared.reading.Reading.TheVariants.Refused, declared.refusal.ObjFail.TheVariants.Range}
 use Rattle.qm_obj.specs.Kept.{are_numbers}
-use Rattle.qm_obj.proofs.ListLemmas.{parts_none}
-use Rattle.qm_obj.proofs.SoupLemmas.{none_late}
+use Rattle.qm_obj.proofs.{ListLemmas.parts_none, SoupLemmas.none_late}
 use Rattle.read_laws.proofs.SaidLines.{is_said, IsSaid}
 
 -- What lines say behind others: positions that can be written, quads of positive numbers, and no more than the limits.

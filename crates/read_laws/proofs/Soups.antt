@@ -1,23 +1,17 @@
 -- The soup of a text that is read can be written, and a mesh of it is what all laws of meshes ask for.
 use Rattle.std.proofs.Common.{◌≡◌, ℕ, zero, suc, ◌-◌, ◌^◌, ◌≤◌, Bool, true, false, cond, List, [], ◌∷◌, ◌++◌, length}
 use Rattle.std.proofs.Common.{map, refl, sym, ap, ◌∙◌, arith, subst, ltb, eqb, Ok}
-use Rattle.std.specs.List.{flat_map, list_all}
 use Rattle.std.proofs.lemmas.Bool.{and_from, and_parts, lt-ltb, ltb-true}
 use Rattle.std.proofs.lemmas.List.{append-nil, length-map, map-append}
 use Rattle.std.proofs.lemmas.List.Folds.{list_all-append}
+use Rattle.std.specs.List.{flat_map, list_all}
 use Rattle.def_io.specs.Lines.{lines_of}
-use Rattle.def_mesh.specs.Faces.{Faces}
-use Rattle.def_mesh.specs.Meshes.{IsMesh}
-use Rattle.def_mesh.specs.Vertices.{is_used, UsesEach, vertex_count}
+use Rattle.def_mesh.specs.{Faces.Faces, Meshes.IsMesh, Vertices.is_used, Vertices.UsesEach, Vertices.vertex_count}
 use Rattle.def_readlaws.specs.ReadMeshes.{MeshTextLaw, SoupInLaw}
-use Rattle.def_text.specs.FaceSet.{FaceSet}
-use Rattle.def_text.specs.Laws.{is_position, is_quad, IsWritableSoup}
-use Rattle.def_text.specs.Logical.{logical_lines}
-use Rattle.def_text.specs.Text.{face_set, faces, first_refusal, late_in, line_vertex, position_of, positions, readings}
-use Rattle.def_text.specs.Text.{refusal_in, used_to}
-use Rattle.def_text.specs.Types.{Positions}
-use Rattle.def_text.specs.declared.reading.Reading.{Reading}
-use Rattle.def_text.specs.declared.refusal.ObjFail.{ObjFail}
+use Rattle.def_text.specs.{FaceSet.FaceSet, Laws.is_position, Laws.is_quad, Laws.IsWritableSoup, Logical.logical_lines}
+use Rattle.def_text.specs.Text.{face_set, faces, first_refusal, late_in, line_vertex}
+use Rattle.def_text.specs.Text.{position_of, positions, readings, refusal_in, used_to}
+use Rattle.def_text.specs.{Types.Positions, declared.reading.Reading.Reading, declared.refusal.ObjFail.ObjFail}
 use Rattle.def_written.specs.Laws.{AreQuads}
 use Rattle.qm_mesh.proofs.Vertices.{below_from, corners_from, count_is}
 use Rattle.qm_obj.proofs.ListLemmas.{parts_none, passes_at}

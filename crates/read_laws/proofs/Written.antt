@@ -7,42 +7,26 @@ use Rattle.check_laws.proofs.Accepted.{accepts_law, head_there, last_line, plain
 use Rattle.def_certtext.specs.CertLines.{alone, Certificates, line_text, raised, used}
 use Rattle.def_certtext.specs.declared.CertLine.{CertLine}
 use Rattle.def_certtext.specs.declared.CertLine.TheVariants.{Length, Vertex, Set, Floor}
-use Rattle.def_flow.specs.Admissible.{deviation, entries}
-use Rattle.def_flow.specs.Network.{Network}
-use Rattle.def_flow.specs.declared.net.Settings.{Settings}
-use Rattle.def_io.specs.Bytes.{Bytes}
-use Rattle.def_io.specs.Lines.{lines_of}
-use Rattle.def_layout.specs.Arcs.{long_at}
-use Rattle.def_cut.specs.FullCut.{IsFullCut}
-use Rattle.def_cut.specs.Traced.{traced_marks}
-use Rattle.def_layout.specs.Lengths.{AreLengths, Lengths}
-use Rattle.def_layout.specs.Plans.{layout_of, Plan, vertex_at}
-use Rattle.def_layoutnet.specs.LayoutNet.{IsNetOf}
-use Rattle.def_layoutnet.specs.MeshLayouts.{IsSomeLayout}
+use Rattle.def_flow.specs.{Admissible.deviation, Admissible.entries, Network.Network, declared.net.Settings.Settings}
+use Rattle.def_io.specs.{Bytes.Bytes, Lines.lines_of}
+use Rattle.def_layout.specs.{Arcs.long_at, Lengths.AreLengths, Lengths.Lengths, Plans.layout_of, Plans.Plan}
+use Rattle.def_layout.specs.Plans.{vertex_at}
+use Rattle.def_cut.specs.{FullCut.IsFullCut, Traced.traced_marks}
+use Rattle.def_layoutnet.specs.{LayoutNet.IsNetOf, MeshLayouts.IsSomeLayout}
 use Rattle.def_readlaws.specs.ReadPairs.{AcceptsTextLaw}
 use Rattle.def_readlaws.specs.ReadSpots.{FinishedSpotsLaw, RefinedSpotsLaw, SpotTextLaw}
-use Rattle.def_remesh.specs.Certified.{IsShown}
-use Rattle.def_remesh.specs.Checked.{accepted_line, IsCheckedPair}
-use Rattle.def_remesh.specs.NewPoints.{lengths_in, multiple_of}
-use Rattle.def_remesh.specs.NewSoup.{spaced_place}
-use Rattle.def_remesh.specs.Remeshed.{AreKeptBy, HasLeastLengths}
-use Rattle.def_remesh.specs.Tasks.{given_floors, old_lengths, remesh_task, Task}
-use Rattle.def_remesh.specs.TextLaws.{IsSolid}
-use Rattle.def_run.specs.Check.{head_of}
-use Rattle.def_run.specs.Checking.{begins_fit, HasFitText, WritesAccepted}
+use Rattle.def_remesh.specs.{Certified.IsShown, Checked.accepted_line, Checked.IsCheckedPair, NewPoints.lengths_in}
+use Rattle.def_remesh.specs.{NewPoints.multiple_of, NewSoup.spaced_place, Remeshed.AreKeptBy, Remeshed.HasLeastLengths}
+use Rattle.def_remesh.specs.{Tasks.given_floors, Tasks.old_lengths, Tasks.remesh_task, Tasks.Task, TextLaws.IsSolid}
+use Rattle.def_run.specs.{Check.head_of, Checking.begins_fit, Checking.HasFitText, Checking.WritesAccepted}
 use Rattle.def_run.specs.MarkLines.{begins_mark}
-use Rattle.def_written.specs.Laws.{LiesInMesh}
-use Rattle.def_written.specs.Numbers.{vertices}
-use Rattle.map_laws.proofs.Spaced.{spacing_is}
-use Rattle.map_laws.proofs.SpotPlaces.{spot_law}
+use Rattle.def_written.specs.{Laws.LiesInMesh, Numbers.vertices}
+use Rattle.map_laws.proofs.{Spaced.spacing_is, SpotPlaces.spot_law}
 use Rattle.plan_laws.proofs.PlanLies.{plan_law}
-use Rattle.remesh_laws.proofs.LastLines.{one_last}
-use Rattle.remesh_laws.proofs.Told.{used_lengths}
+use Rattle.remesh_laws.proofs.{LastLines.one_last, Told.used_lengths}
 use Rattle.site_laws.proofs.Laws.{graph_law}
-use Rattle.written_laws.proofs.Shape.{multiple_law}
-use Rattle.written_laws.proofs.Spacings.{even_law}
-use Rattle.read_laws.proofs.LayoutsRead.{task_layout_law}
-use Rattle.read_laws.proofs.Soups.{mesh_text_law}
+use Rattle.written_laws.proofs.{Shape.multiple_law, Spacings.even_law}
+use Rattle.read_laws.proofs.{LayoutsRead.task_layout_law, Soups.mesh_text_law}
 
 -- Kept certificates have the network of their layout.
 net_of : (plan : Plan) (settings : Settings) (auto : Bool) (certificates : Certificates)

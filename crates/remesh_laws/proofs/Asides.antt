@@ -1,40 +1,31 @@
 -- The lines of a text around its mesh: whole lines, and those that begin with `#` are passed over.
 use Rattle.std.proofs.Common.{◌≡◌, ◌<◌, ◌≤◌, ◌^◌, ℕ, zero, suc, ℤ, pos, negsuc, Bool, true, false, List, [], ◌∷◌, ◌++◌}
 use Rattle.std.proofs.Common.{codes, length, map, get_or, refl, sym, ◌∙◌, ap, subst, arith, length-append}
-use Rattle.std.specs.Prelude.{◌&&◌, ◌==◌, ◌-◌, if◌then◌else◌, decimal, slice_index, unsigned_abs}
-use Rattle.std.specs.Fmt.{signed_decimal}
-use Rattle.std.specs.List.{before_first, flat_map, list_all}
 use Rattle.std.proofs.lemmas.Bool.{and_parts, leb-true}
 use Rattle.std.proofs.lemmas.Fmt.{length-decimal-le}
 use Rattle.std.proofs.lemmas.List.{append-nil}
 use Rattle.std.proofs.lemmas.List.Folds.{flat_map-map}
-use Rattle.def_certtext.specs.CertLines.{dual_line, line_text, text_of}
-use Rattle.def_certtext.specs.HeadLine.{head_line}
-use Rattle.def_certtext.specs.Reading.{is_small, may_stand}
-use Rattle.def_certtext.specs.Settings.{floor_text, scale_text, weight_text, AreInRange, IsFloor}
-use Rattle.def_certtext.specs.declared.CertLine.{CertLine}
-use Rattle.def_certtext.specs.declared.CertLine.TheVariants.{Floor, Length, Set, Vertex}
-use Rattle.def_flow.specs.declared.net.Settings.{Settings}
-use Rattle.def_flow.specs.declared.net.Weight.{Weight}
-use Rattle.def_flow.specs.declared.net.Weight.TheVariants.{Plain, Length as ByLength}
-use Rattle.def_io.specs.Bytes.{Bytes, Lines}
-use Rattle.def_io.specs.Lines.{lines_of}
-use Rattle.def_text.specs.Canonical.{canonical_text}
-use Rattle.def_text.specs.FaceSet.{FaceSet}
-use Rattle.def_text.specs.Laws.{is_position, is_quad, IsWritableSoup}
-use Rattle.def_text.specs.Logical.{continues, is_hash, with_space}
-use Rattle.def_text.specs.Reading.{begins_with}
-use Rattle.def_text.specs.Words.{words}
-use Rattle.def_remesh.specs.ReadAgain.{ends_line}
-use Rattle.def_remesh.specs.Refined.{refine_head}
-use Rattle.qm_certtext.proofs.Counts.{small_parts}
-use Rattle.qm_certtext.proofs.Telling.{floor_low}
-use Rattle.qm_certtext.proofs.Texts.{both_inside, lines_inside, number_inside, settings_inside, settings_line}
-use Rattle.qm_obj.proofs.LawSoup.{canonical_lines, each_both, each_map, face_line, face_line_is, position_line}
-use Rattle.qm_obj.proofs.LawSoup.{position_line_is, text_lines}
-use Rattle.qm_obj.proofs.LawText.{is_inside, lines_back, lines_split, no_continuation, IsLine}
-use Rattle.qm_obj.proofs.ListLemmas.{passes_at}
-use Rattle.qm_obj.proofs.SoupLemmas.{are_below}
+use Rattle.std.specs.Prelude.{◌&&◌, ◌==◌, ◌-◌, if◌then◌else◌, decimal, slice_index, unsigned_abs}
+use Rattle.std.specs.Fmt.{signed_decimal}
+use Rattle.std.specs.List.{before_first, flat_map, list_all}
+use Rattle.def_certtext.specs.{CertLines.dual_line, CertLines.line_text, CertLines.text_of, HeadLine.head_line}
+use Rattle.def_certtext.specs.{Reading.is_small, Reading.may_stand, Settings.floor_text, Settings.scale_text}
+use Rattle.def_certtext.specs.{Settings.weight_text, Settings.AreInRange, Settings.IsFloor, declared.CertLine.CertLine}
+use Rattle.def_certtext.specs.declared.CertLine.TheVariants.{Floor, Length}
+use Rattle.def_certtext.specs.declared.CertLine.TheVariants.{Set, Vertex}
+use Rattle.def_flow.specs.{declared.net.Settings.Settings, declared.net.Weight.Weight}
+use Rattle.def_flow.specs.{declared.net.Weight.TheVariants.Plain, declared.net.Weight.TheVariants.Length as ByLength}
+use Rattle.def_io.specs.{Bytes.Bytes, Bytes.Lines, Lines.lines_of}
+use Rattle.def_text.specs.{Canonical.canonical_text, FaceSet.FaceSet, Laws.is_position, Laws.is_quad}
+use Rattle.def_text.specs.{Laws.IsWritableSoup, Logical.continues, Logical.is_hash, Logical.with_space}
+use Rattle.def_text.specs.{Reading.begins_with, Words.words}
+use Rattle.def_remesh.specs.{ReadAgain.ends_line, Refined.refine_head}
+use Rattle.qm_certtext.proofs.{Counts.small_parts, Telling.floor_low, Texts.both_inside, Texts.lines_inside}
+use Rattle.qm_certtext.proofs.Texts.{number_inside, settings_inside, settings_line}
+use Rattle.qm_obj.proofs.LawSoup.{canonical_lines, each_both, each_map, face_line}
+use Rattle.qm_obj.proofs.LawSoup.{face_line_is, position_line, position_line_is, text_lines}
+use Rattle.qm_obj.proofs.LawText.{is_inside, lines_back, lines_split, no_continuation}
+use Rattle.qm_obj.proofs.{LawText.IsLine, ListLemmas.passes_at, SoupLemmas.are_below}
 use Rattle.remesh_laws.specs.Asides.{IsAside, IsPassedOver}
 
 -- ---- Whole lines.

@@ -1,14 +1,10 @@
 -- Certified lengths are lengths of the layout: at least 1, and equal on opposite sides of each patch.
-use Rattle.std.proofs.Common.{ℕ, ◌<◌, ◌≤◌, length, arith}
-use Rattle.std.proofs.lemmas.Int.{ints}
+use Rattle.std.proofs.{Common.ℕ, Common.◌<◌, Common.◌≤◌, Common.length, Common.arith, lemmas.Int.ints}
 use Rattle.std.specs.Prelude.{slice_index}
 use Rattle.def_certtext.specs.CertLines.{Lists}
 use Rattle.def_flow.specs.declared.net.Settings.{Settings}
-use Rattle.def_layout.specs.Lengths.{AreLengths, Lengths}
-use Rattle.def_layout.specs.Plans.{Plan, layout_of}
-use Rattle.def_remesh.specs.NewPoints.{lengths_in}
-use Rattle.def_remesh.specs.Remeshed.{HasLeastLengths}
-use Rattle.def_remesh.specs.Tasks.{Wish}
+use Rattle.def_layout.specs.{Lengths.AreLengths, Lengths.Lengths, Plans.Plan, Plans.layout_of}
+use Rattle.def_remesh.specs.{NewPoints.lengths_in, Remeshed.HasLeastLengths, Tasks.Wish}
 use Rattle.qm_layoutnet.proofs.Opposite.{opposite_law}
 
 pub certified_lengths : {wish : Wish} {floors : Lengths} (plan : Plan) (settings : Settings) (cert : Lists)

@@ -2,16 +2,13 @@
 use Rattle.std.proofs.Common.{ℕ, Bool, ◌∙◌, arith}
 use Rattle.def_certtext.specs.CertLines.{lists_of, Lists}
 use Rattle.def_certtext.specs.declared.certs.Certs.TheVariants.{Alone, Raised}
-use Rattle.def_flow.specs.declared.cert.Cert.{Cert}
-use Rattle.def_flow.specs.declared.limits.TheConstants.{MAX_FLOOR}
+use Rattle.def_flow.specs.{declared.cert.Cert.Cert, declared.limits.TheConstants.MAX_FLOOR}
 use Rattle.def_flow.specs.declared.net.Settings.{Settings}
-use Rattle.def_layout.specs.Lengths.{Lengths}
-use Rattle.def_layout.specs.Plans.{Plan}
-use Rattle.def_remesh.specs.Refusals.{AreAllCoarse, AreTooFine, IsDoubledBy, IsFineBy, IsLeastFor, IsRemeshable}
-use Rattle.def_remesh.specs.Certified.{IsCertified}
-use Rattle.def_remesh.specs.Tasks.{given_floors, Wish}
-use Rattle.def_remesh.specs.declared.kept.Kept.{Kept}
-use Rattle.def_remesh.specs.declared.kept.Kept.TheVariants.{Multiple, Least}
+use Rattle.def_layout.specs.{Lengths.Lengths, Plans.Plan}
+use Rattle.def_remesh.specs.Refusals.{AreAllCoarse, AreTooFine, IsDoubledBy, IsFineBy}
+use Rattle.def_remesh.specs.{Refusals.IsLeastFor, Refusals.IsRemeshable, Certified.IsCertified, Tasks.given_floors}
+use Rattle.def_remesh.specs.{Tasks.Wish, declared.kept.Kept.Kept, declared.kept.Kept.TheVariants.Multiple}
+use Rattle.def_remesh.specs.declared.kept.Kept.TheVariants.{Least}
 
 -- Certified lengths are a least list.
 least_for : {wish : Wish} {floors : Lengths} (plan : Plan) (settings : Settings) (cert : Lists)

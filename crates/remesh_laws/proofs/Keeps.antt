@@ -1,45 +1,29 @@
 -- What least lengths and the numbers of their new mesh make, together, of a layout that is remeshed.
-use Rattle.std.proofs.lemmas.Bool.{cases_lt}
-use Rattle.std.proofs.lemmas.List.{get_or_past}
-use Rattle.std.proofs.Common.{◌≡◌, ◌≤◌, ◌<◌, ◌⊎◌, inl, inr, ℕ, Bool, true, List, length, sym, ◌∙◌, ap, subst, refl}
-use Rattle.std.proofs.Common.{arith}
-use Rattle.std.proofs.lemmas.Int.{ints}
+use Rattle.std.proofs.{lemmas.Bool.cases_lt, lemmas.List.get_or_past, Common.◌≡◌, Common.◌≤◌, Common.◌<◌, Common.◌⊎◌}
+use Rattle.std.proofs.Common.{inl, inr, ℕ, Bool, true, List, length}
+use Rattle.std.proofs.{Common.sym, Common.◌∙◌, Common.ap, Common.subst, Common.refl, Common.arith, lemmas.Int.ints}
 use Rattle.std.specs.Prelude.{IsErrOf, Result, Err}
 use Rattle.def_certtext.specs.CertLines.{alone, lists_of, raised, used, Certificates}
-use Rattle.def_flow.specs.Accepted.{certificate}
-use Rattle.def_flow.specs.Descent.{IsSolution}
-use Rattle.def_flow.specs.Network.{arc_at, Network}
-use Rattle.def_flow.specs.declared.cert.Cert.{Cert}
-use Rattle.def_flow.specs.declared.limits.TheConstants.{MAX_FLOOR, MAX_LENGTH}
-use Rattle.def_flow.specs.declared.net.Settings.{Settings}
-use Rattle.def_layout.specs.FaceLayouts.{IsCutLayout}
-use Rattle.def_layout.specs.Lengths.{AreLengths as AreArcLengths, Lengths}
-use Rattle.def_layout.specs.Plans.{Plan, layout_of, vertex_at}
-use Rattle.def_layoutnet.specs.LayoutNet.{IsNetOf}
+use Rattle.def_flow.specs.{Accepted.certificate, Descent.IsSolution, Network.arc_at, Network.Network}
+use Rattle.def_flow.specs.{declared.cert.Cert.Cert, declared.limits.TheConstants.MAX_FLOOR}
+use Rattle.def_flow.specs.{declared.limits.TheConstants.MAX_LENGTH, declared.net.Settings.Settings}
+use Rattle.def_layout.specs.{FaceLayouts.IsCutLayout, Lengths.AreLengths as AreArcLengths, Lengths.Lengths, Plans.Plan}
+use Rattle.def_layout.specs.Plans.{layout_of, vertex_at}
+use Rattle.def_layoutnet.specs.{LayoutNet.IsNetOf, Floors.HasFloors}
 use Rattle.def_mesh.specs.Faces.{Faces}
-use Rattle.def_remesh.specs.Placings.{IsMeshLayout}
+use Rattle.def_remesh.specs.{Placings.IsMeshLayout, Keeping.IsKept, NewPoints.lengths_in, Refusals.AreTooFine}
+use Rattle.def_remesh.specs.{Certified.AreKept, Certified.IsCertified, Remeshed.AreKeptBy, Remeshed.HasLeastLengths}
+use Rattle.def_remesh.specs.{Remeshed.AreCoarse, Remeshed.AreDoubled, Remeshed.finished_text, Stitched.AreLong}
+use Rattle.def_remesh.specs.{Stitched.AreSafe, Stitched.IsUnstitched, Stitched.KeepsShapes, Tasks.given_floors}
+use Rattle.def_remesh.specs.{Tasks.old_lengths, Tasks.Task, Tasks.Wish, declared.fail.StitchFail.StitchFail}
+use Rattle.def_remesh.specs.{declared.tables.Tables.Tables, Keeping.IsNetWith}
 use Rattle.def_text.specs.FaceSet.{FaceSet}
-use Rattle.def_written.specs.Shape.{KeepsShape}
-use Rattle.def_written.specs.Edges.{IsFirstDoubled}
-use Rattle.def_written.specs.NewFaces.{new_faces}
-use Rattle.def_remesh.specs.Keeping.{IsKept}
-use Rattle.def_remesh.specs.NewPoints.{lengths_in}
-use Rattle.def_remesh.specs.Refusals.{AreTooFine}
-use Rattle.def_remesh.specs.Certified.{AreKept, IsCertified}
-use Rattle.def_remesh.specs.Remeshed.{AreKeptBy, HasLeastLengths, AreCoarse, AreDoubled, finished_text}
-use Rattle.def_remesh.specs.Stitched.{AreLong, AreSafe, IsUnstitched, KeepsShapes}
-use Rattle.def_remesh.specs.Tasks.{given_floors, old_lengths, Task, Wish}
-use Rattle.def_remesh.specs.declared.fail.StitchFail.{StitchFail}
+use Rattle.def_written.specs.{Shape.KeepsShape, Edges.IsFirstDoubled, NewFaces.new_faces}
 use Rattle.def_remesh.specs.declared.fail.StitchFail.TheVariants as fails
-use Rattle.def_remesh.specs.declared.tables.Tables.{Tables}
-use Rattle.def_remesh.specs.Keeping.{IsNetWith}
 use Rattle.remesh_laws.specs.Keeps.{IsNumbered, ShowsTask}
 use Rattle.plan_laws.proofs.MeshLayouts.{laid_of}
 use Rattle.qm_layoutnet.proofs.Floors.{floored, floors_tangle, floors_within}
-use Rattle.def_layoutnet.specs.Floors.{HasFloors}
-use Rattle.remesh_laws.proofs.Certified.{certified_lengths}
-use Rattle.remesh_laws.proofs.ReadAgain.{task_read}
-use Rattle.remesh_laws.proofs.Solved.{certified}
+use Rattle.remesh_laws.proofs.{Certified.certified_lengths, ReadAgain.task_read, Solved.certified}
 
 -- Its solution is certified.
 pub solved : {wish : Wish} {floors : Lengths} (plan : Plan) (settings : Settings) (net : Network) (cert : Cert)

@@ -4,14 +4,11 @@ use Rattle.std.proofs.Common.{length, map, filter, get_or, ◌∙◌, ap, refl, 
 use Rattle.std.proofs.lemmas.Bool.{and_from, cond-true, lt-ltb}
 use Rattle.std.proofs.lemmas.Bool.Decides.{nat_tests}
 use Rattle.std.proofs.lemmas.List.Folds.{list_all-append}
-use Rattle.std.specs.Fmt.{digit_glyph, digits, digits_onto}
-use Rattle.std.specs.List.{flat_map, list_all, range_with_len}
+use Rattle.std.specs.{Fmt.digit_glyph, Fmt.digits, Fmt.digits_onto, List.flat_map, List.list_all, List.range_with_len}
 use Rattle.std.specs.Prelude.{◌==◌, decimal, if◌then◌else◌, nat_lt}
 use Rattle.def_certtext.specs.Reading.{is_hash_line}
-use Rattle.def_io.specs.Bytes.{Bytes}
-use Rattle.def_io.specs.Lines.{lines_of}
-use Rattle.def_layout.specs.Lengths.{Lengths}
-use Rattle.def_layout.specs.Plans.{layout_of, Plan}
+use Rattle.def_io.specs.{Bytes.Bytes, Lines.lines_of}
+use Rattle.def_layout.specs.{Lengths.Lengths, Plans.layout_of, Plans.Plan}
 use Rattle.def_marks.specs.MarkedText.{arc_chain, arc_text, chain_text, is_marked_arc, marked_text}
 use Rattle.def_remesh.specs.ReadAgain.{ends_line}
 use Rattle.qm_obj.proofs.LawText.{is_inside, is_tame, lines_back, tame_inside}

@@ -1,31 +1,22 @@
 -- The soup of a new mesh within the limits of the reader is one that a text can have.
-use Rattle.std.proofs.Common.{◌≡◌, ℕ, ◌<◌, true, List, Option, length, refl, sym, ◌∙◌, ap, subst}
-use Rattle.std.specs.Prelude.{nat_lt}
-use Rattle.std.specs.List.{list_all, range_with_len}
-use Rattle.std.proofs.lemmas.Bool.{and_from, lt-ltb}
-use Rattle.std.proofs.lemmas.List.FromFn.{length-map-range_with_len}
-use Rattle.std.proofs.lemmas.List.Folds.{list_all-map}
-use Rattle.def_layout.specs.Cells.{CellDart, IsDart}
-use Rattle.def_layout.specs.Surfaces.{IsSurface}
-use Rattle.def_layout.specs.Layouts.{Layout, Way, south, east, north, west}
-use Rattle.def_layout.specs.Lengths.{Lengths, AreLengths}
-use Rattle.def_layout.specs.Plans.{Plan, layout_of}
+use Rattle.std.proofs.Common.{◌≡◌, ℕ, ◌<◌, true, List, Option, length}
+use Rattle.std.proofs.{Common.refl, Common.sym, Common.◌∙◌, Common.ap, Common.subst, lemmas.Bool.and_from}
+use Rattle.std.proofs.{lemmas.Bool.lt-ltb, lemmas.List.FromFn.length-map-range_with_len, lemmas.List.Folds.list_all-map}
+use Rattle.std.specs.{Prelude.nat_lt, List.list_all, List.range_with_len}
+use Rattle.def_layout.specs.{Cells.CellDart, Cells.IsDart, Surfaces.IsSurface, Layouts.Layout, Layouts.Way}
+use Rattle.def_layout.specs.{Layouts.south, Layouts.east, Layouts.north, Layouts.west, Lengths.Lengths}
+use Rattle.def_layout.specs.{Lengths.AreLengths, Plans.Plan, Plans.layout_of}
 use Rattle.def_mesh.specs.Vertices.{is_used, names_below, UsesEach}
-use Rattle.def_text.specs.FaceSet.{FaceSet, IsSoup}
-use Rattle.def_text.specs.Laws.{is_quad, IsWritableSoup}
-use Rattle.def_text.specs.Text.{numbers_to}
+use Rattle.def_text.specs.{FaceSet.FaceSet, FaceSet.IsSoup, Laws.is_quad, Laws.IsWritableSoup, Text.numbers_to}
 use Rattle.def_written.specs.NewFaces.{cell_vertex, dart_of, dart_start, face_count, new_face, new_faces}
 use Rattle.def_written.specs.Numbers.{vertex_number, vertices}
 use Rattle.def_written.specs.Points.{Point, IsPoint}
-use Rattle.def_remesh.specs.NewSoup.{spaced_place, spaced_soup}
-use Rattle.def_remesh.specs.ReadAgain.{IsReadable}
+use Rattle.def_remesh.specs.{NewSoup.spaced_place, NewSoup.spaced_soup, ReadAgain.IsReadable}
 use Rattle.qm_obj.proofs.SoupLemmas.{length-numbers_to, numbers_rise}
 use Rattle.remesh_laws.proofs.Printable.{passes_range}
-use Rattle.written_laws.proofs.Borders.{from_is}
-use Rattle.written_laws.proofs.EdgeNumbers.{point_onto}
-use Rattle.written_laws.proofs.Models.{dart_used, new_quads, point_dart}
-use Rattle.written_laws.proofs.NewDarts.{cell_is, dart_low, dart_number, number_from}
-use Rattle.written_laws.proofs.Numbers.{number_low}
+use Rattle.written_laws.proofs.{Borders.from_is, EdgeNumbers.point_onto, Models.dart_used, Models.new_quads}
+use Rattle.written_laws.proofs.{Models.point_dart, NewDarts.cell_is, NewDarts.dart_low, NewDarts.dart_number}
+use Rattle.written_laws.proofs.{NewDarts.number_from, Numbers.number_low}
 
 module _ (l : Layout) (x : Lengths) (laid : IsSurface l) (len : AreLengths l x) where
   -- Each new vertex is a corner of some face.

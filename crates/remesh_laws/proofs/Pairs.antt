@@ -1,12 +1,9 @@
 -- A text is a checked pair in one way: its lines from the head line on tell how the remesh was made, and no other way.
 use Rattle.std.proofs.Common.{◌≡◌, ◌↔◌, ℕ, ◌+◌, [], drop, slice_index_or, ◌∙◌, ap, subst}
-use Rattle.def_certtext.specs.Laws.{TellsOnly}
-use Rattle.def_certtext.specs.Reading.{Made, TellHow}
-use Rattle.def_io.specs.Bytes.{Bytes, Lines}
-use Rattle.def_io.specs.Lines.{lines_of, tail_of}
+use Rattle.def_certtext.specs.{Laws.TellsOnly, Reading.Made, Reading.TellHow}
+use Rattle.def_io.specs.{Bytes.Bytes, Bytes.Lines, Lines.lines_of, Lines.tail_of}
 use Rattle.def_remesh.specs.TextLaws.{made_by, PairLaw}
-use Rattle.remesh_laws.proofs.Tails.{first-drop, lines-tail, tail_behind}
-use Rattle.remesh_laws.proofs.Told.{told_law}
+use Rattle.remesh_laws.proofs.{Tails.first-drop, Tails.lines-tail, Tails.tail_behind, Told.told_law}
 
 -- What a tail tells is what the last lines tell.
 pub tail_told : (bytes : Bytes) (line : ℕ) (by : Made) → TellsOnly (tail_of line bytes) by → (made : Made)

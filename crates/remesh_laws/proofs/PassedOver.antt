@@ -1,31 +1,29 @@
 -- Lines that a reader of meshes passes over, before and behind the lines of a mesh, change nothing that is read.
-use Rattle.std.proofs.Common.{◌≡◌, ◌<◌, ◌+◌, ℕ, zero, suc, Bool, true, false, cond, not, if◌then◌else◌, List, [], ◌∷◌}
-use Rattle.std.proofs.Common.{◌++◌, length, map, take, get_or, Result, Ok, Err, refl, sym, ◌∙◌, ap, ap₂, subst, arith}
-use Rattle.std.proofs.Common.{ltb}
+use Rattle.std.proofs.Common.{◌≡◌, ◌<◌, ◌+◌, ℕ, zero, suc, Bool, true}
+use Rattle.std.proofs.Common.{false, cond, not, if◌then◌else◌, List, [], ◌∷◌}
+use Rattle.std.proofs.Common.{◌++◌, length, map, take, get_or, Result, Ok}
+use Rattle.std.proofs.Common.{Err, refl, sym, ◌∙◌, ap, ap₂, subst}
+use Rattle.std.proofs.{Common.arith, Common.ltb, lemmas.Bool.le-ltb, lemmas.List.append-nil}
+use Rattle.std.proofs.{lemmas.List.Concat.flat_map-append, lemmas.List.Sums.sum_by_push}
 use Rattle.std.specs.Prelude.{nat_le, ◌&&◌, ◌==◌}
 use Rattle.std.specs.List.{count_by, flat_map, list_all, list_any}
-use Rattle.std.proofs.lemmas.Bool.{le-ltb}
-use Rattle.std.proofs.lemmas.List.{append-nil}
-use Rattle.std.proofs.lemmas.List.Concat.{flat_map-append}
-use Rattle.std.proofs.lemmas.List.Sums.{sum_by_push}
 use Rattle.def_io.specs.Bytes.{Bytes, Lines}
 use Rattle.def_mesh.specs.Faces.{Face}
-use Rattle.def_text.specs.Corner.{is_corner_word, is_out, resolved, used_index}
-use Rattle.def_text.specs.Decimal.{is_decimal, is_far, rounded}
-use Rattle.def_text.specs.FaceSet.{FaceSet}
-use Rattle.def_text.specs.Logical.{continues, groups_of, joined, logical, logical_lines, numbered_groups, part_of}
-use Rattle.def_text.specs.Logical.{with_line, Logical}
-use Rattle.def_text.specs.Reading.{begins_with, face_reading, is_face_line, is_letter, is_position_count}
+use Rattle.def_text.specs.{Corner.is_corner_word, Corner.is_out, Corner.resolved, Corner.used_index, Decimal.is_decimal}
+use Rattle.def_text.specs.{Decimal.is_far, Decimal.rounded, FaceSet.FaceSet, Logical.continues, Logical.groups_of}
+use Rattle.def_text.specs.Logical.{joined, logical, logical_lines, numbered_groups}
+use Rattle.def_text.specs.{Logical.part_of, Logical.with_line, Logical.Logical, Reading.begins_with}
+use Rattle.def_text.specs.Reading.{face_reading, is_face_line, is_letter, is_position_count}
 use Rattle.def_text.specs.Reading.{is_vertex_line, reading, vertex_reading, words_reading}
-use Rattle.def_text.specs.Text.{face_in, face_set, faces, first_refusal, late_in, position_in, positions, readings}
-use Rattle.def_text.specs.Text.{refusal_in, refusals, soup_of, text_soup}
-use Rattle.def_text.specs.Types.{Position as Place, Words}
-use Rattle.def_text.specs.Words.{words}
-use Rattle.def_text.specs.declared.limits.TheConstants.{MAX_F_LINES, MAX_LINE, MAX_V_LINES}
-use Rattle.def_text.specs.declared.reading.Reading.{Reading}
-use Rattle.def_text.specs.declared.reading.Reading.TheVariants.{Face as Said, Passed, Position, Refused}
-use Rattle.def_text.specs.declared.refusal.ObjFail.{ObjFail}
-use Rattle.def_text.specs.declared.refusal.ObjFail.TheVariants.{Limit, NotQuad, Range, Syntax}
+use Rattle.def_text.specs.Text.{face_in, face_set, faces, first_refusal, late_in, position_in}
+use Rattle.def_text.specs.Text.{positions, readings, refusal_in, refusals, soup_of, text_soup}
+use Rattle.def_text.specs.{Types.Position as Place, Types.Words, Words.words, declared.limits.TheConstants.MAX_F_LINES}
+use Rattle.def_text.specs.declared.limits.TheConstants.{MAX_LINE, MAX_V_LINES}
+use Rattle.def_text.specs.{declared.reading.Reading.Reading, declared.reading.Reading.TheVariants.Face as Said}
+use Rattle.def_text.specs.declared.reading.Reading.TheVariants.{Passed, Position}
+use Rattle.def_text.specs.{declared.reading.Reading.TheVariants.Refused, declared.refusal.ObjFail.ObjFail}
+use Rattle.def_text.specs.declared.refusal.ObjFail.TheVariants.{Limit, NotQuad}
+use Rattle.def_text.specs.declared.refusal.ObjFail.TheVariants.{Range, Syntax}
 use Rattle.def_text.specs.declared.refusal.Which.TheVariants as limits
 use Rattle.qm_obj.proofs.ListLemmas.{parts_none}
 use Rattle.remesh_laws.specs.Asides.{IsPassedOver}

@@ -1,49 +1,34 @@
 -- The soup of a new mesh can be written: its coordinates are in range, and its faces are quads over few vertices.
 use Rattle.std.proofs.Common.{◌≡◌, ◌⊎◌, ℕ, zero, suc, ◌+◌, ◌-◌, ◌*◌, ◌^◌, ◌<◌, ◌≤◌, Bool, true, not, List, [], ◌∷◌}
 use Rattle.std.proofs.Common.{Option, length, refl, sym, ◌∙◌, ap, subst, inl, inr, arith, pos, negsuc, neg_ℤ, ℤ, ◌≤ℤ◌}
-use Rattle.std.specs.Prelude.{nat_lt, unsigned_abs, slice_index_or}
-use Rattle.std.specs.List.{list_all, range_with_len}
 use Rattle.std.proofs.lemmas.Bool.{and_from, and_parts, cases_lt, cond-false, cond-true, false≢true, le-ltb, lt-ltb}
 use Rattle.std.proofs.lemmas.Bool.Decides.{Decides-eqb}
 use Rattle.std.proofs.lemmas.Int.{ints}
 use Rattle.std.proofs.lemmas.List.FromFn.{get_or-range_with_len, length-range_with_len}
 use Rattle.std.proofs.lemmas.List.Folds.{list_all-map}
 use Rattle.std.proofs.lemmas.List.Sums.{list_all-from_AllPass}
-use Rattle.written_laws.proofs.Runs.{run_here, IsInRun}
+use Rattle.std.specs.{Prelude.nat_lt, Prelude.unsigned_abs, Prelude.slice_index_or, List.list_all, List.range_with_len}
+use Rattle.written_laws.proofs.{Runs.run_here, Runs.IsInRun, EdgeNumbers.in_rows, Between.between_law, Borders.from_is}
+use Rattle.written_laws.proofs.{Numbers.number_low, NewDarts.cell_is}
 use Rattle.def_math.specs.Runs.{run_at}
 use Rattle.def_mesh.specs.Faces.{Faces}
-use Rattle.def_text.specs.Decimal.{is_far}
-use Rattle.def_text.specs.FaceSet.{FaceSet}
-use Rattle.def_text.specs.Laws.{is_position, is_quad}
-use Rattle.def_text.specs.Types.{Positions}
-use Rattle.def_certtext.specs.Laws.{IsPrintable}
-use Rattle.def_layout.specs.Arcs.{long_at}
-use Rattle.def_layout.specs.Layouts.{Layout, Way, south, east, north, west}
-use Rattle.def_layout.specs.Lengths.{Lengths, wide, high, AreLengths}
-use Rattle.def_layout.specs.Plans.{Plan, layout_of}
-use Rattle.def_written.specs.NewFaces.{face_count, dart_start, new_face, dart_of, cell_vertex}
-use Rattle.def_written.specs.Numbers.{before_arc, before_patch, vertices}
-use Rattle.def_written.specs.Points.{IsPoint}
-use Rattle.written_laws.proofs.EdgeNumbers.{in_rows}
-use Rattle.def_cut.specs.FullCut.{IsFullCut}
-use Rattle.def_cut.specs.Traced.{traced_marks}
-use Rattle.def_layout.specs.FaceLayouts.{IsCutLayout}
-use Rattle.def_layoutnet.specs.MeshLayouts.{IsSomeLayout}
+use Rattle.def_text.specs.{Decimal.is_far, FaceSet.FaceSet, Laws.is_position, Laws.is_quad, Types.Positions}
 use Rattle.def_text.specs.declared.limits.TheConstants.{MAX_MICRO}
-use Rattle.def_written.specs.Laws.{AreQuads}
-use Rattle.def_remesh.specs.TextLaws.{IsSolid}
-use Rattle.def_remesh.specs.declared.limits.TheConstants.{MAX_NEW_FACES}
+use Rattle.def_certtext.specs.Laws.{IsPrintable}
+use Rattle.def_layout.specs.{Arcs.long_at, Layouts.Layout, Layouts.Way, Layouts.south, Layouts.east, Layouts.north}
+use Rattle.def_layout.specs.{Layouts.west, Lengths.Lengths, Lengths.wide, Lengths.high, Lengths.AreLengths, Plans.Plan}
+use Rattle.def_layout.specs.{Plans.layout_of, FaceLayouts.IsCutLayout}
+use Rattle.def_written.specs.NewFaces.{face_count, dart_start, new_face, dart_of}
+use Rattle.def_written.specs.{NewFaces.cell_vertex, Numbers.before_arc, Numbers.before_patch, Numbers.vertices}
+use Rattle.def_written.specs.{Points.IsPoint, Laws.AreQuads}
+use Rattle.def_cut.specs.{FullCut.IsFullCut, Traced.traced_marks}
+use Rattle.def_layoutnet.specs.MeshLayouts.{IsSomeLayout}
+use Rattle.def_remesh.specs.{TextLaws.IsSolid, declared.limits.TheConstants.MAX_NEW_FACES, NewPoints.along_arcs}
+use Rattle.def_remesh.specs.{NewPoints.inside_patches, NewPoints.old_vertex, NewPoints.point_at, NewSoup.coordinate}
+use Rattle.def_remesh.specs.{NewSoup.new_coordinate, NewSoup.spaced_place, NewSoup.spaced_soup, Spaced.spacing_by}
 use Rattle.map_laws.proofs.Spaced.{spacing_is}
-use Rattle.plan_laws.proofs.Bounds.{vertices_few}
-use Rattle.plan_laws.proofs.MeshLayouts.{laid_of, lengths_of}
+use Rattle.plan_laws.proofs.{Bounds.vertices_few, MeshLayouts.laid_of, MeshLayouts.lengths_of}
 use Rattle.site_laws.proofs.Laws.{graph_law}
-use Rattle.written_laws.proofs.Between.{between_law}
-use Rattle.written_laws.proofs.Borders.{from_is}
-use Rattle.written_laws.proofs.Numbers.{number_low}
-use Rattle.written_laws.proofs.NewDarts.{cell_is}
-use Rattle.def_remesh.specs.NewPoints.{along_arcs, inside_patches, old_vertex, point_at}
-use Rattle.def_remesh.specs.NewSoup.{coordinate, new_coordinate, spaced_place, spaced_soup}
-use Rattle.def_remesh.specs.Spaced.{spacing_by}
 
 -- What holds at each number of a range passes.
 pub passes_range : (p : ℕ → Bool) (n : ℕ) → ((k : ℕ) → k < n → p k ≡ true) → list_all p (range_with_len 0 n) ≡ true

@@ -1,40 +1,29 @@
 -- What is written for a task, or for a refined mesh, is read again as the new mesh.
-use Rattle.std.proofs.Common.{◌≡◌, ◌<◌, ◌^◌, ℕ, Bool, true, false, None, [], ◌∷◌, ◌++◌, length, get_or, Ok, sym, ◌∙◌}
-use Rattle.std.proofs.Common.{ap}
-use Rattle.std.proofs.Common.{subst, arith, append_assoc}
+use Rattle.std.proofs.Common.{◌≡◌, ◌<◌, ◌^◌, ℕ, Bool, true, false}
+use Rattle.std.proofs.Common.{None, [], ◌∷◌, ◌++◌, length, get_or, Ok}
+use Rattle.std.proofs.Common.{sym, ◌∙◌, ap, subst, arith, append_assoc}
+use Rattle.std.proofs.{lemmas.List.append-nil, lemmas.Bool.false≢true}
 use Rattle.std.specs.List.{list_all}
-use Rattle.std.proofs.lemmas.List.{append-nil}
-use Rattle.std.proofs.lemmas.Bool.{false≢true}
 use Rattle.def_certtext.specs.CertLines.{alone, raised, text_of, used, Certificates}
 use Rattle.def_certtext.specs.Reading.{may_stand}
 use Rattle.def_flow.specs.declared.net.Settings.{Settings}
-use Rattle.def_io.specs.Bytes.{Bytes, Lines}
-use Rattle.def_io.specs.Lines.{lines_of}
-use Rattle.def_layout.specs.Arcs.{long_at}
-use Rattle.def_layout.specs.Surfaces.{IsSurface}
-use Rattle.def_layout.specs.Lengths.{AreLengths, Lengths}
-use Rattle.def_layout.specs.Plans.{Plan, layout_of, vertex_at}
+use Rattle.def_io.specs.{Bytes.Bytes, Bytes.Lines, Lines.lines_of}
+use Rattle.def_layout.specs.{Arcs.long_at, Surfaces.IsSurface, Lengths.AreLengths, Lengths.Lengths, Plans.Plan}
+use Rattle.def_layout.specs.Plans.{layout_of, vertex_at}
 use Rattle.def_layoutnet.specs.MeshLayouts.{IsSomeLayout}
-use Rattle.def_text.specs.Canonical.{canonical_text}
-use Rattle.def_text.specs.FaceSet.{FaceSet}
-use Rattle.def_text.specs.Laws.{IsWritableSoup}
-use Rattle.def_text.specs.Text.{numbers_to, soup_in, text_soup}
-use Rattle.def_remesh.specs.NewPoints.{lengths_in, multiple_of}
-use Rattle.def_remesh.specs.NewSoup.{new_soup, spaced_soup}
-use Rattle.def_remesh.specs.ReadAgain.{IsReadAgain}
-use Rattle.def_remesh.specs.Refined.{refine_head, refined_text}
-use Rattle.def_remesh.specs.Remeshed.{certificate_lines, finished_text, AreKeptBy, HasLeastLengths}
-use Rattle.def_remesh.specs.Tasks.{given_floors, remesh_task, Task, Wish}
+use Rattle.def_text.specs.{Canonical.canonical_text, FaceSet.FaceSet, Laws.IsWritableSoup, Text.numbers_to}
+use Rattle.def_text.specs.Text.{soup_in, text_soup}
+use Rattle.def_remesh.specs.{NewPoints.lengths_in, NewPoints.multiple_of, NewSoup.new_soup, NewSoup.spaced_soup}
+use Rattle.def_remesh.specs.{ReadAgain.IsReadAgain, Refined.refine_head, Refined.refined_text}
+use Rattle.def_remesh.specs.Remeshed.{certificate_lines, finished_text, AreKeptBy}
+use Rattle.def_remesh.specs.{Remeshed.HasLeastLengths, Tasks.given_floors, Tasks.remesh_task, Tasks.Task, Tasks.Wish}
 use Rattle.def_remesh.specs.TextLaws.{ReadAgainLaw}
 use Rattle.qm_certtext.proofs.Telling.{chosen_allowed}
 use Rattle.qm_obj.proofs.LawSoup.{each_both, text_back}
-use Rattle.remesh_laws.proofs.Asides.{canonical_ends, canonical_whole, cert_lines_passed, head_aside, none_aside}
-use Rattle.remesh_laws.proofs.Asides.{refine_aside}
-use Rattle.remesh_laws.proofs.Joined.{lines_append}
-use Rattle.remesh_laws.proofs.NewSoups.{new_names, writable}
-use Rattle.remesh_laws.proofs.PassedOver.{passed_over}
-use Rattle.remesh_laws.proofs.Printable.{mesh_layout, printable}
-use Rattle.remesh_laws.proofs.Told.{kept_writable, used_lengths}
+use Rattle.remesh_laws.proofs.Asides.{canonical_ends, canonical_whole, cert_lines_passed}
+use Rattle.remesh_laws.proofs.{Asides.head_aside, Asides.none_aside, Asides.refine_aside, Joined.lines_append}
+use Rattle.remesh_laws.proofs.{NewSoups.new_names, NewSoups.writable, PassedOver.passed_over, Printable.mesh_layout}
+use Rattle.remesh_laws.proofs.{Printable.printable, Told.kept_writable, Told.used_lengths}
 use Rattle.remesh_laws.specs.Asides.{IsAside, IsPassedOver}
 use Rattle.plan_laws.proofs.MeshLayouts.{laid_of, lies}
 use Rattle.written_laws.proofs.Shape.{multiple_law}

@@ -1,28 +1,20 @@
 -- An accepted certificate of the network of a layout certifies its lengths, and can be written.
 use Rattle.std.proofs.Common.{◌≡◌, ◌⊎◌, ℕ, zero, suc, ◌^◌, ◌<◌, ◌≤◌, Bool, true, false, ◌&&◌, List, [], ◌∷◌, ◌++◌}
 use Rattle.std.proofs.Common.{length, map, take, drop, refl, sym, ◌∙◌, arith, inl, inr, ℤ}
-use Rattle.std.specs.Prelude.{nat_lt, slice_index}
-use Rattle.std.specs.List.{list_all}
 use Rattle.std.proofs.lemmas.Bool.{and_from, and_parts, le-leb, leb-true, lt-ltb}
 use Rattle.std.proofs.lemmas.Bool.Decides.{nat_tests}
 use Rattle.std.proofs.lemmas.List.Folds.{list_all-append}
-use Rattle.def_certtext.specs.CertLines.{dual_lines, HasUps, Lists}
-use Rattle.def_certtext.specs.Laws.{IsWritableCert}
-use Rattle.def_certtext.specs.Reading.{is_small, may_stand}
-use Rattle.def_certtext.specs.declared.CertLine.{CertLine}
+use Rattle.std.specs.{Prelude.nat_lt, Prelude.slice_index, List.list_all}
+use Rattle.def_certtext.specs.{CertLines.dual_lines, CertLines.HasUps, CertLines.Lists, Laws.IsWritableCert}
+use Rattle.def_certtext.specs.{Reading.is_small, Reading.may_stand, declared.CertLine.CertLine}
 use Rattle.def_certtext.specs.declared.CertLine.TheVariants as lines
-use Rattle.def_flow.specs.Admissible.{entries}
-use Rattle.def_flow.specs.Descent.{IsSolution}
-use Rattle.def_flow.specs.Network.{Network, tangle_number, IsWithinBounds}
-use Rattle.def_flow.specs.declared.limits.TheConstants.{MAX_LENGTH, MAX_TANGLE}
-use Rattle.def_flow.specs.declared.net.Settings.{Settings}
-use Rattle.def_layout.specs.Lengths.{Lengths}
-use Rattle.def_layout.specs.Plans.{Plan, layout_of}
-use Rattle.def_layoutnet.specs.LayoutNet.{IsNetOf}
-use Rattle.def_layoutnet.specs.MeshLayouts.{IsSomeLayout}
+use Rattle.def_flow.specs.{Admissible.entries, Descent.IsSolution, Network.Network, Network.tangle_number}
+use Rattle.def_flow.specs.{Network.IsWithinBounds, declared.limits.TheConstants.MAX_LENGTH}
+use Rattle.def_flow.specs.{declared.limits.TheConstants.MAX_TANGLE, declared.net.Settings.Settings}
+use Rattle.def_layout.specs.{Lengths.Lengths, Plans.Plan, Plans.layout_of}
+use Rattle.def_layoutnet.specs.{LayoutNet.IsNetOf, MeshLayouts.IsSomeLayout}
 use Rattle.def_matching.specs.Dual.{is_up, AreSmall}
-use Rattle.def_remesh.specs.Certified.{certificate_of, IsCertified}
-use Rattle.def_remesh.specs.Tasks.{old_lengths, Wish}
+use Rattle.def_remesh.specs.{Certified.certificate_of, Certified.IsCertified, Tasks.old_lengths, Tasks.Wish}
 use Rattle.qm_layoutnet.proofs.Balance.{balance_law}
 use Rattle.plan_laws.proofs.MeshLayouts.{laid_of}
 use Rattle.gadget_laws.proofs.Sound.{sound}

@@ -1,8 +1,8 @@
 -- The lines of the tail of a text are its last lines.
 use Rattle.std.proofs.Common.{◌≡◌, ℕ, zero, suc, ◌+◌, ◌==◌, Bool, true, false, if◌then◌else◌, [], ◌∷◌, drop, map}
 use Rattle.std.proofs.Common.{slice_index_or, refl, sym, ◌∙◌, ap, arith}
-use Rattle.std.specs.List.{flat_map}
 use Rattle.std.proofs.lemmas.List.{drop-map}
+use Rattle.std.specs.List.{flat_map}
 use Rattle.def_io.specs.Bytes.{Bytes, Lines}
 use Rattle.def_io.specs.Lines.{byte_in_front, pieces, line_of, lines_of, tail_of}
 

@@ -2,32 +2,22 @@
 use Rattle.std.proofs.Common.{◌≡◌, ◌↔◌, ◌<◌, ℕ, zero, suc, Bool, true, List, Option, [], ◌∷◌, ◌++◌, drop, filter}
 use Rattle.std.proofs.Common.{get_or}
 use Rattle.std.proofs.Common.{slice_index_or, refl, sym, ◌∙◌, ap, subst, arith, append_assoc}
-use Rattle.std.specs.List.{list_all}
 use Rattle.std.proofs.lemmas.List.{append-nil}
-use Rattle.def_certtext.specs.CertLines.{text_of, used, Certificates}
-use Rattle.def_certtext.specs.HeadLine.{head_line}
-use Rattle.def_certtext.specs.Laws.{IsPrintable}
-use Rattle.def_certtext.specs.Reading.{is_hash_line, IsHead, Made, TellHow}
+use Rattle.std.specs.List.{list_all}
+use Rattle.def_certtext.specs.{CertLines.text_of, CertLines.used, CertLines.Certificates, HeadLine.head_line}
+use Rattle.def_certtext.specs.{Laws.IsPrintable, Reading.is_hash_line, Reading.IsHead, Reading.Made, Reading.TellHow}
 use Rattle.def_certtext.specs.Settings.{AreInRange}
-use Rattle.def_io.specs.Bytes.{Bytes, Lines}
-use Rattle.def_io.specs.Lines.{lines_of}
+use Rattle.def_io.specs.{Bytes.Bytes, Bytes.Lines, Lines.lines_of}
 use Rattle.def_layout.specs.Plans.{Plan}
 use Rattle.def_layoutnet.specs.MeshLayouts.{IsSomeLayout}
-use Rattle.def_remesh.specs.NewPoints.{lengths_in}
-use Rattle.def_remesh.specs.NewSoup.{spaced_soup}
-use Rattle.def_remesh.specs.ReadAgain.{ends_line}
-use Rattle.def_remesh.specs.Remeshed.{certificate_lines, finished_text, text_behind_head, AreCoarse}
-use Rattle.def_remesh.specs.Remeshed.{AreKeptBy, HasLeastLengths}
-use Rattle.def_remesh.specs.Tasks.{given_floors, Task}
-use Rattle.def_remesh.specs.TextLaws.{made_by, IsSolid}
-use Rattle.def_text.specs.Canonical.{canonical_text}
-use Rattle.def_text.specs.FaceSet.{FaceSet}
-use Rattle.qm_certtext.proofs.Marks.{filter_append}
-use Rattle.qm_certtext.proofs.Texts.{head_inside}
+use Rattle.def_remesh.specs.{NewPoints.lengths_in, NewSoup.spaced_soup, ReadAgain.ends_line, Remeshed.certificate_lines}
+use Rattle.def_remesh.specs.Remeshed.{finished_text, text_behind_head, AreCoarse, AreKeptBy}
+use Rattle.def_remesh.specs.{Remeshed.HasLeastLengths, Tasks.given_floors, Tasks.Task, TextLaws.made_by}
+use Rattle.def_remesh.specs.TextLaws.{IsSolid}
+use Rattle.def_text.specs.{Canonical.canonical_text, FaceSet.FaceSet}
+use Rattle.qm_certtext.proofs.{Marks.filter_append, Texts.head_inside}
 use Rattle.qm_obj.proofs.LawText.{is_inside, lines_back}
-use Rattle.remesh_laws.proofs.Asides.{canonical_ends, ends_last}
-use Rattle.remesh_laws.proofs.Joined.{lines_append}
-use Rattle.remesh_laws.proofs.Printable.{printable}
+use Rattle.remesh_laws.proofs.{Asides.canonical_ends, Asides.ends_last, Joined.lines_append, Printable.printable}
 use Rattle.remesh_laws.proofs.Told.{kept_told, spaced_text, used_lengths}
 use Rattle.remesh_laws.specs.Asides.{IsSilent}
 

@@ -2,23 +2,17 @@
 use Rattle.std.proofs.Common.{ℕ, Bool, true, false, List, [], ◌∷◌, ◌++◌, Option, None, sym, subst, arith}
 use Rattle.std.proofs.lemmas.Bool.{false≢true}
 use Rattle.def_certtext.specs.CertLines.{alone, raised, used, Certificates}
-use Rattle.def_certtext.specs.HeadLine.{head_line}
-use Rattle.def_certtext.specs.Laws.{AreWritable, IsPrintable, TellsOnly}
+use Rattle.def_certtext.specs.{HeadLine.head_line, Laws.AreWritable, Laws.IsPrintable, Laws.TellsOnly}
 use Rattle.def_certtext.specs.Settings.{AreInRange}
 use Rattle.def_flow.specs.declared.net.Settings.{Settings}
-use Rattle.def_io.specs.Bytes.{Bytes}
-use Rattle.def_io.specs.declared.TheConstants.{LINE_FEED}
-use Rattle.def_layout.specs.Plans.{Plan, layout_of}
-use Rattle.def_layout.specs.Lengths.{AreLengths}
+use Rattle.def_io.specs.{Bytes.Bytes, declared.TheConstants.LINE_FEED}
+use Rattle.def_layout.specs.{Plans.Plan, Plans.layout_of, Lengths.AreLengths}
 use Rattle.def_text.specs.FaceSet.{FaceSet}
-use Rattle.def_remesh.specs.NewPoints.{lengths_in}
-use Rattle.def_remesh.specs.NewSoup.{spaced_soup}
-use Rattle.def_remesh.specs.Remeshed.{text_behind_head, AreKeptBy, HasLeastLengths}
-use Rattle.def_remesh.specs.Tasks.{given_floors, Wish}
-use Rattle.def_remesh.specs.TextLaws.{made_by, ToldLaw}
+use Rattle.def_remesh.specs.{NewPoints.lengths_in, NewSoup.spaced_soup, Remeshed.text_behind_head, Remeshed.AreKeptBy}
+use Rattle.def_remesh.specs.{Remeshed.HasLeastLengths, Tasks.given_floors, Tasks.Wish, TextLaws.made_by}
+use Rattle.def_remesh.specs.TextLaws.{ToldLaw}
 use Rattle.qm_certtext.proofs.Texts.{chosen_law, written_law}
-use Rattle.remesh_laws.proofs.Certified.{certified_lengths}
-use Rattle.remesh_laws.proofs.Printable.{mesh_layout, printable}
+use Rattle.remesh_laws.proofs.{Certified.certified_lengths, Printable.mesh_layout, Printable.printable}
 
 -- The lengths that are used are lengths of the layout.
 pub used_lengths : (wish : Wish) (plan : Plan) (settings : Settings) (auto : Bool) (certificates : Certificates)

@@ -1,24 +1,19 @@
 -- Each step lessens what is left of a search.
 use Rattle.std.proofs.Common.{◌≡◌, ◌≢◌, ℕ, zero, suc, ◌+◌, ◌*◌, ◌<◌, ◌≤◌, Bool, true, false, cond, eqb, List, length}
 use Rattle.std.proofs.Common.{get_or, Option, Some, ◌⊎◌, refl, sym, ◌∙◌, ap, subst, inl, inr, arith}
-use Rattle.std.specs.Prelude.{nat_lt}
 use Rattle.std.proofs.Math.ListN.{set}
 use Rattle.std.proofs.lemmas.List.{length-set, get_or-set_same, get_or-set_other}
 use Rattle.std.proofs.lemmas.Bool.{cases_eq, cases_lt, cases_Bool, cond-true, cond-false, eq-eqb, ne_eqb, le-ltb}
+use Rattle.std.specs.Prelude.{nat_lt}
 use Rattle.def_math.specs.Counts.{count_below}
 use Rattle.sum_laws.proofs.Counts.{count_below_le, count_below_lt, count_below_ones}
 use Rattle.def_matching.specs.Matching.{WeightedGraph, IsGraph}
-use Rattle.def_forest.specs.Darts.{darts_of, far}
-use Rattle.def_forest.specs.Forests.{Forest, IsOutermost, live_at, set_at, sets_of, walk}
-use Rattle.def_forest.specs.Opened.{Opening, IsOpening, IsOpened}
-use Rattle.def_forest.specs.Shrunk.{IsShrinking}
-use Rattle.def_forest.specs.Steps.{grown}
-use Rattle.def_forest.specs.Valid.{IsMate, IsOuter, IsValid}
-use Rattle.def_forest.specs.declared.kinds.Label.{Label}
-use Rattle.def_forest.specs.declared.kinds.Label.TheVariants.{Outer, Inner, Outside}
-use Rattle.forest_laws.proofs.Facts.{far_low}
-use Rattle.forest_laws.proofs.Graphs.{are_darts}
-use Rattle.forest_laws.proofs.Writes.{set_here, set_there, inner_named}
+use Rattle.def_forest.specs.{Darts.darts_of, Darts.far, Forests.Forest, Forests.IsOutermost, Forests.live_at}
+use Rattle.def_forest.specs.{Forests.set_at, Forests.sets_of, Forests.walk, Opened.Opening, Opened.IsOpening}
+use Rattle.def_forest.specs.{Opened.IsOpened, Shrunk.IsShrinking, Steps.grown, Valid.IsMate, Valid.IsOuter}
+use Rattle.def_forest.specs.{Valid.IsValid, declared.kinds.Label.Label, declared.kinds.Label.TheVariants.Outer}
+use Rattle.def_forest.specs.declared.kinds.Label.TheVariants.{Inner, Outside}
+use Rattle.forest_laws.proofs.{Facts.far_low, Graphs.are_darts, Writes.set_here, Writes.set_there, Writes.inner_named}
 use Rattle.search_laws.specs.Keys.{is_stale, true_key}
 use Rattle.search_laws.specs.Searches.{not_outer, vertices_left, steps_left, turns_left}
 use Rattle.search_laws.proofs.Kept.{on_cycle, opened_old, opened_label, shrunk_on, shrunk_off, shrunk_set, shrunk_label}

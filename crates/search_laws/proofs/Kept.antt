@@ -1,24 +1,18 @@
 -- Keys stay low through each step, where the edges at new outer blossoms and the new inner sets get theirs anew.
 use Rattle.std.proofs.Common.{◌≡◌, ◌≢◌, ℕ, ◌*◌, ◌<◌, ◌≤◌, Bool, true, false, cond, eqb, List, length, get_or, Option}
+use Rattle.std.proofs.lemmas.Bool.{cases_eq, cases_lt, cases_Bool, eq-eqb, eqb-true}
 use Rattle.std.proofs.Common.{Some, None, ℤ, pos, ◌-ℤ◌, ◌*ℤ◌, ◌⊎◌, refl, sym, ◌∙◌, ap, subst, inl, inr, arith}
 use Rattle.std.specs.Int.RustNames.{unsigned_abs}
-use Rattle.std.proofs.lemmas.Bool.{cases_eq, cases_lt, cases_Bool, eq-eqb, eqb-true}
 use Rattle.def_matching.specs.Matching.{WeightedGraph, IsGraph, edge_at}
-use Rattle.def_forest.specs.Darts.{darts_of, far}
-use Rattle.def_forest.specs.Forests.{Forest, weight_between, set_at}
-use Rattle.def_forest.specs.Opened.{Opening, IsOpening, IsOpened}
-use Rattle.def_forest.specs.Shrunk.{IsShrinking}
-use Rattle.def_forest.specs.Steps.{grown, rooted}
-use Rattle.def_forest.specs.Tables.{slack_of}
-use Rattle.def_forest.specs.Valid.{IsValid}
-use Rattle.def_forest.specs.declared.kinds.Label.{Label}
-use Rattle.def_forest.specs.declared.kinds.Label.TheVariants.{Outer, Inner, Outside}
-use Rattle.forest_laws.proofs.Graphs.{are_darts}
-use Rattle.forest_laws.proofs.Levels.{tree_cases}
-use Rattle.forest_laws.proofs.Writes.{set_here, set_there}
+use Rattle.def_forest.specs.{Darts.darts_of, Darts.far, Forests.Forest, Forests.weight_between, Forests.set_at}
+use Rattle.def_forest.specs.{Opened.Opening, Opened.IsOpening, Opened.IsOpened, Shrunk.IsShrinking, Steps.grown}
+use Rattle.def_forest.specs.{Steps.rooted, Tables.slack_of, Valid.IsValid, declared.kinds.Label.Label}
+use Rattle.def_forest.specs.declared.kinds.Label.TheVariants.{Outer, Inner}
+use Rattle.def_forest.specs.declared.kinds.Label.TheVariants.{Outside}
+use Rattle.forest_laws.proofs.{Graphs.are_darts, Levels.tree_cases, Writes.set_here, Writes.set_there}
+use Rattle.forest_laws.proofs.Expands.{Expansion}
 use Rattle.forest_laws.proofs.Shrinks as shrinks
 use Rattle.forest_laws.proofs.Expands as expands
-use Rattle.forest_laws.proofs.Expands.{Expansion}
 use Rattle.search_laws.specs.Keys.{no_key, edge_key_by, edge_key, set_key_by, set_of, leaf_of, true_key, AreLow}
 use Rattle.search_laws.specs.Keys.{IsMended, AreRightAt}
 use Rattle.search_laws.proofs.Keys.{at_edge, at_set, edge_key_low}

@@ -1,18 +1,14 @@
 -- Keys do not change with a shift, and what they say is lawful.
 use Rattle.std.proofs.Common.{◌≡◌, ◌≢◌, ℕ, ◌+◌, ◌-◌, ◌*◌, ◌/◌, ◌%◌, ◌<◌, ◌≤◌, Bool, true, false, eqb, length, ℤ, pos}
-use Rattle.std.proofs.Common.{◌+ℤ◌, ◌-ℤ◌, ◌*ℤ◌, ◌≤ℤ◌, ◌⊎◌, refl, sym, ◌∙◌, ap, subst, inl, inr, arith}
-use Rattle.std.specs.Int.RustNames.{unsigned_abs}
-use Rattle.std.specs.Prelude.{nat_lt}
 use Rattle.std.proofs.lemmas.Int.{ints}
 use Rattle.std.proofs.lemmas.Bool.{cases_eq, cases_lt, cond-true, cond-false, eq-eqb, ne_eqb, lt-ltb, le-ltb}
+use Rattle.std.proofs.Common.{◌+ℤ◌, ◌-ℤ◌, ◌*ℤ◌, ◌≤ℤ◌, ◌⊎◌, refl, sym, ◌∙◌, ap, subst, inl, inr, arith}
+use Rattle.std.specs.{Int.RustNames.unsigned_abs, Prelude.nat_lt}
 use Rattle.def_matching.specs.Matching.{WeightedGraph, IsGraph, edge_at}
-use Rattle.def_forest.specs.Darts.{darts_of, far}
-use Rattle.def_forest.specs.Forests.{Forest, IsOutermost, weight_between}
-use Rattle.def_forest.specs.Steps.{weight_change, shifted}
-use Rattle.def_forest.specs.Tables.{slack_of}
-use Rattle.def_forest.specs.Valid.{AreOutermost, IsFeasible}
-use Rattle.def_forest.specs.declared.kinds.Label.{Label}
-use Rattle.def_forest.specs.declared.kinds.Label.TheVariants.{Outer, Inner, Outside}
+use Rattle.def_forest.specs.{Darts.darts_of, Darts.far, Forests.Forest, Forests.IsOutermost, Forests.weight_between}
+use Rattle.def_forest.specs.{Steps.weight_change, Steps.shifted, Tables.slack_of, Valid.AreOutermost, Valid.IsFeasible}
+use Rattle.def_forest.specs.{declared.kinds.Label.Label, declared.kinds.Label.TheVariants.Outer}
+use Rattle.def_forest.specs.declared.kinds.Label.TheVariants.{Inner, Outside}
 use Rattle.forest_laws.proofs.Graphs.{dart_near, dart_far, dart_cost, near_even, near_odd, twin_even, twin_odd}
 use Rattle.forest_laws.proofs.Loads.{load_apart, load_order, load_within}
 use Rattle.forest_laws.proofs.Writes.{label_cases}

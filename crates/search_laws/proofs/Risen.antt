@@ -1,29 +1,19 @@
 -- How far the sum of the weights rises, and so how large keys and weights are.
-use Rattle.std.proofs.Common.{◌≡◌, ℕ, zero, suc, ◌+◌, ◌-◌, ◌*◌, ◌/◌, ap, ◌∙◌, ◌<◌, ◌≤◌, Bool, false, eqb, List, [], ◌∷◌}
+use Rattle.std.proofs.Common.{◌≡◌, ℕ, zero, suc, ◌+◌, ◌-◌, ◌*◌, ◌/◌}
+use Rattle.std.proofs.Common.{ap, ◌∙◌, ◌<◌, ◌≤◌, Bool, false, eqb}
+use Rattle.std.proofs.{Common.List, Common.[], Common.◌∷◌, Common.arith, lemmas.Int.ints, lemmas.Bool.cases_lt}
 use Rattle.std.proofs.Common.{length, map, Option, Some, ℤ, pos, ◌+ℤ◌, ◌*ℤ◌, ◌≤ℤ◌, ◌⊎◌, refl, sym, subst, inl, inr}
-use Rattle.std.proofs.Common.{arith}
 use Rattle.std.specs.Int.RustNames.{unsigned_abs}
-use Rattle.std.proofs.lemmas.Int.{ints}
-use Rattle.std.proofs.lemmas.Bool.{cases_lt}
-use Rattle.def_math.specs.Increasing.{IsIncreasing}
-use Rattle.def_math.specs.Sums.{total, total_below}
-use Rattle.qm_dual.proofs.Ends.{ends_once}
-use Rattle.qm_dual.proofs.Gathered.{total_below_small}
-use Rattle.qm_dual.proofs.Weak.{chosen_below}
+use Rattle.def_math.specs.{Increasing.IsIncreasing, Sums.total, Sums.total_below}
+use Rattle.qm_dual.proofs.{Ends.ends_once, Gathered.total_below_small, Weak.chosen_below}
 use Rattle.def_matching.specs.Matching.{WeightedGraph, IsGraph, IsCheap, IsPerfect, edge_at, matching_cost}
 use Rattle.def_matching.specs.declared.limits.TheConstants.{MAX_PRODUCT}
 use Rattle.def_matching.specs.declared.weighted.WEdge.{WEdge}
-use Rattle.def_forest.specs.Darts.{darts_of}
-use Rattle.def_forest.specs.Forests.{Forest, dual_sum_of}
-use Rattle.def_forest.specs.Steps.{weight_change, shifted}
-use Rattle.def_forest.specs.Tables.{slack_of}
-use Rattle.def_forest.specs.Valid.{IsFeasible, IsValid}
-use Rattle.def_forest.specs.declared.kinds.Label.{Label}
-use Rattle.def_forest.specs.declared.kinds.Label.TheVariants.{Outer, Inner, Outside}
-use Rattle.forest_laws.proofs.Bounds.{sum_bounds}
-use Rattle.forest_laws.proofs.Graphs.{are_darts}
-use Rattle.forest_laws.proofs.Rises.{sum_rises}
-use Rattle.forest_laws.proofs.Shifts.{shift_valid}
+use Rattle.def_forest.specs.{Darts.darts_of, Forests.Forest, Forests.dual_sum_of, Steps.weight_change, Steps.shifted}
+use Rattle.def_forest.specs.{Tables.slack_of, Valid.IsFeasible, Valid.IsValid, declared.kinds.Label.Label}
+use Rattle.def_forest.specs.declared.kinds.Label.TheVariants.{Outer, Inner}
+use Rattle.def_forest.specs.declared.kinds.Label.TheVariants.{Outside}
+use Rattle.forest_laws.proofs.{Bounds.sum_bounds, Graphs.are_darts, Rises.sum_rises, Shifts.shift_valid}
 use Rattle.search_laws.specs.Keys.{no_key, edge_key_by, set_key_by, set_of, true_key}
 use Rattle.search_laws.specs.Searches.{IsInRange, first_limit, risen_limit}
 use Rattle.search_laws.proofs.Keys.{at_edge, at_set, lawful}

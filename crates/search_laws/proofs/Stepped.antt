@@ -1,30 +1,23 @@
 -- What each step leaves of a search, and which step a key names.
 use Rattle.std.proofs.Common.{◌≡◌, ◌≢◌, ℕ, ◌+◌, ◌-◌, ◌*◌, ◌/◌, ◌<◌, ◌≤◌, Bool, true, false, cond, eqb, length, Option}
 use Rattle.std.proofs.Common.{Some, None, is_some, ℤ, pos, ◌+ℤ◌, ◌≤ℤ◌, ◌⊎◌, refl, sym, ◌∙◌, ap, subst, inl, inr, arith}
-use Rattle.std.specs.Int.RustNames.{unsigned_abs}
-use Rattle.std.specs.Prelude.{int_lt}
 use Rattle.std.proofs.lemmas.Int.{ints}
 use Rattle.std.proofs.lemmas.Bool.{cases_eq, cases_lt, cases_Bool, cond-false}
+use Rattle.std.specs.{Int.RustNames.unsigned_abs, Prelude.int_lt}
 use Rattle.def_matching.specs.Matching.{WeightedGraph, IsGraph, edge_at}
-use Rattle.def_forest.specs.Darts.{darts_of}
-use Rattle.def_forest.specs.Forests.{Forest, dual_sum_of}
-use Rattle.def_forest.specs.Opened.{Opening, IsOpening, IsOpened}
-use Rattle.def_forest.specs.Shrunk.{IsShrinking}
-use Rattle.def_forest.specs.Steps.{rooted, IsAugmented}
-use Rattle.def_forest.specs.Tables.{kind_by, edge_kind, slack_of}
-use Rattle.def_forest.specs.Valid.{IsOuter, IsValid}
-use Rattle.def_forest.specs.declared.kinds.EdgeKind.{EdgeKind}
-use Rattle.def_forest.specs.declared.kinds.EdgeKind.TheVariants.{Loose, Augment, Grow, Shrink}
-use Rattle.def_forest.specs.declared.kinds.Label.{Label}
-use Rattle.def_forest.specs.declared.kinds.Label.TheVariants.{Outer, Inner, Outside}
+use Rattle.def_forest.specs.{Darts.darts_of, Forests.Forest, Forests.dual_sum_of, Opened.Opening, Opened.IsOpening}
+use Rattle.def_forest.specs.{Opened.IsOpened, Shrunk.IsShrinking, Steps.rooted, Steps.IsAugmented, Tables.kind_by}
+use Rattle.def_forest.specs.{Tables.edge_kind, Tables.slack_of, Valid.IsOuter, Valid.IsValid}
+use Rattle.def_forest.specs.{declared.kinds.EdgeKind.EdgeKind, declared.kinds.EdgeKind.TheVariants.Loose}
+use Rattle.def_forest.specs.declared.kinds.EdgeKind.TheVariants.{Augment, Grow}
+use Rattle.def_forest.specs.{declared.kinds.EdgeKind.TheVariants.Shrink, declared.kinds.Label.Label}
+use Rattle.def_forest.specs.declared.kinds.Label.TheVariants.{Outer, Inner}
+use Rattle.def_forest.specs.declared.kinds.Label.TheVariants.{Outside}
 use Rattle.sum_laws.proofs.Sums.{total_below_same}
-use Rattle.forest_laws.proofs.Expands.{Expansion, halves}
+use Rattle.forest_laws.proofs.{Expands.Expansion, Expands.halves, Graphs.are_darts, Parities.slack_even}
+use Rattle.forest_laws.proofs.{WayLaws.some_none, Writes.some_is}
 use Rattle.forest_laws.proofs.Expands as expands
-use Rattle.forest_laws.proofs.Graphs.{are_darts}
-use Rattle.forest_laws.proofs.Parities.{slack_even}
 use Rattle.forest_laws.proofs.Shrinks as shrinks
-use Rattle.forest_laws.proofs.WayLaws.{some_none}
-use Rattle.forest_laws.proofs.Writes.{some_is}
 use Rattle.search_laws.specs.Keys.{no_key, edge_key_by, set_key_by, set_of, true_key}
 use Rattle.search_laws.specs.Searches.{IsSeeking, AreMatchedBefore, IsInRange}
 use Rattle.search_laws.proofs.Keys.{at_edge, at_set, slack_high}

@@ -3,14 +3,11 @@ use Rattle.std.proofs.Common.{◌≡◌, ◌≢◌, ◌⊎◌, ℕ, zero, suc, �
 use Rattle.std.proofs.Common.{sym, subst, ap, ◌∙◌, refl, inl, inr, arith}
 use Rattle.std.proofs.lemmas.Option.{same_Some}
 use Rattle.std.proofs.lemmas.Bool.{cases_eq, false≢true}
-use Rattle.def_mesh.specs.Faces.{Faces}
-use Rattle.def_mesh.specs.Darts.{darts, from_of, next_of, prev_of, twin_of}
-use Rattle.def_mesh.specs.Vertices.{faces_at, fan_of}
-use Rattle.def_mesh.specs.Kinds.{is_inner}
-use Rattle.def_mesh.specs.HalfEdges.{HalfEdges, AreTurned, Turns, IsQuadManifold, half_edges}
+use Rattle.def_mesh.specs.{Faces.Faces, Darts.darts, Darts.from_of, Darts.next_of, Darts.prev_of, Darts.twin_of}
+use Rattle.def_mesh.specs.{Vertices.faces_at, Vertices.fan_of, Kinds.is_inner, HalfEdges.HalfEdges, HalfEdges.AreTurned}
+use Rattle.def_mesh.specs.HalfEdges.{Turns, IsQuadManifold, half_edges}
 use Rattle.def_cut.specs.Trails.{Joins}
-use Rattle.cut_laws.proofs.Crosses.{Leaves, no_fix}
-use Rattle.cut_laws.proofs.Darts.{turn_from, turn_low}
+use Rattle.cut_laws.proofs.{Crosses.Leaves, Crosses.no_fix, Darts.turn_from, Darts.turn_low}
 use Rattle.mesh_laws.proofs.Fans.{IsFan, is_fan}
 use Rattle.face_laws.proofs.Fans.{has_fan, inner_from}
 

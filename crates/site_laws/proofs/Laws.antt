@@ -3,27 +3,20 @@ use Rattle.std.proofs.Common.{◌≡◌, ◌⊎◌, ℕ, zero, suc, ◌<◌, Boo
 use Rattle.std.proofs.Common.{◌∙◌, inl, inr, arith}
 use Rattle.std.proofs.lemmas.List.{length-map}
 use Rattle.std.proofs.lemmas.List.FromFn.{length-range_with_len, get_or-map-range_with_len}
-use Rattle.def_mesh.specs.Darts.{darts, all_darts, from_of}
-use Rattle.def_mesh.specs.Vertices.{vertex_count}
-use Rattle.def_mesh.specs.Components.{start_darts}
+use Rattle.std.proofs.lemmas.Bool.{not-true}
+use Rattle.def_mesh.specs.{Darts.darts, Darts.all_darts, Darts.from_of, Vertices.vertex_count, Components.start_darts}
 use Rattle.def_mesh.specs.HalfEdges.{HalfEdges, IsQuadManifold, half_edges}
-use Rattle.def_cut.specs.Cuts.{GoesOn, Links, IsCorner, IsCut}
-use Rattle.def_cut.specs.FullCut.{is_on}
-use Rattle.def_cut.specs.Motion.{ridden, is_among, start, after_steps}
-use Rattle.def_cut.specs.Traced.{terrain_of, last_state, is_traced, traced_marks}
-use Rattle.def_cut.specs.Events.{rides_in}
-use Rattle.def_cut.specs.MotionLaws.{IsKnown, StateLaw, TracedGraphLaw, OrderLaw}
+use Rattle.def_cut.specs.{Cuts.GoesOn, Cuts.Links, Cuts.IsCorner, Cuts.IsCut, FullCut.is_on, Motion.ridden}
+use Rattle.def_cut.specs.{Motion.is_among, Motion.start, Motion.after_steps, Traced.terrain_of, Traced.last_state}
+use Rattle.def_cut.specs.{Traced.is_traced, Traced.traced_marks, Events.rides_in, MotionLaws.IsKnown}
+use Rattle.def_cut.specs.MotionLaws.{StateLaw, TracedGraphLaw, OrderLaw}
 use Rattle.cut_laws.proofs.Classes.{links_low}
 use Rattle.face_laws.proofs.FullCuts.{full_cut_law}
-use Rattle.mesh_laws.proofs.HalfEdges.{manifold_law}
-use Rattle.mesh_laws.proofs.Vertices.{all_below}
-use Rattle.motion_laws.proofs.Marks.{among_at, places_apart}
-use Rattle.motion_laws.proofs.Order.{IsWithin, within, bounded, possible, one_end}
-use Rattle.motion_laws.proofs.Terrains.{IsReached, IsFirst}
-use Rattle.motion_laws.proofs.Onward.{nobody_runs, end_reached, full_cut}
-use Rattle.motion_laws.proofs.Traced.{after_reached, first}
+use Rattle.mesh_laws.proofs.{HalfEdges.manifold_law, Vertices.all_below}
+use Rattle.motion_laws.proofs.{Marks.among_at, Marks.places_apart, Order.IsWithin, Order.within, Order.bounded}
+use Rattle.motion_laws.proofs.{Order.possible, Order.one_end, Terrains.IsReached, Terrains.IsFirst, Onward.nobody_runs}
+use Rattle.motion_laws.proofs.{Onward.end_reached, Onward.full_cut, Traced.after_reached, Traced.first}
 use Rattle.site_laws.proofs.Sites.{terrain, started}
-use Rattle.std.proofs.lemmas.Bool.{not-true}
 
 pub state_law : StateLaw
 state_law faces m n = record {

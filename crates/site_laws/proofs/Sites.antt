@@ -1,25 +1,20 @@
 -- A manifold list of faces is a terrain, and its start darts are starts.
 use Rattle.std.proofs.Common.{◌≡◌, ◌≢◌, ◌⊎◌, ℕ, ◌+◌, ◌<◌, ◌≤◌, true, false, not, eqb, ltb, ◌&&◌, ◌||◌, Option, Some}
 use Rattle.std.proofs.Common.{None, is_some, sym, ap, ◌∙◌, refl, inl, inr, arith}
-use Rattle.std.specs.List.{list_any}
 use Rattle.std.proofs.lemmas.Option.{none-some}
 use Rattle.std.proofs.lemmas.Bool.{eqb-true, lt-ltb, or_left, or_right, or_cases, or_parts, and_from, and_parts}
 use Rattle.std.proofs.lemmas.Bool.{not_from_false, false≢true, false_from_ne_true, not-false, not-true}
-use Rattle.def_mesh.specs.Faces.{Faces}
-use Rattle.def_mesh.specs.Darts.{darts, all_darts, from_of, to_of, next_of, prev_of, twin_of}
-use Rattle.def_mesh.specs.Manifold.{IsManifold}
-use Rattle.def_mesh.specs.Vertices.{faces_at}
-use Rattle.def_mesh.specs.Kinds.{is_end, is_inner, is_regular, is_singular, is_reflex}
-use Rattle.def_mesh.specs.Components.{seeds, is_start, start_darts}
-use Rattle.def_mesh.specs.HalfEdges.{IsQuadManifold, half_edges}
-use Rattle.def_cut.specs.Motion.{is_among}
-use Rattle.def_cut.specs.Traced.{terrain_of}
+use Rattle.std.specs.List.{list_any}
+use Rattle.def_mesh.specs.{Faces.Faces, Darts.darts, Darts.all_darts, Darts.from_of, Darts.to_of, Darts.next_of}
+use Rattle.def_mesh.specs.{Darts.prev_of, Darts.twin_of, Manifold.IsManifold, Vertices.faces_at, Kinds.is_end}
+use Rattle.def_mesh.specs.{Kinds.is_inner, Kinds.is_regular, Kinds.is_singular, Kinds.is_reflex, Components.seeds}
+use Rattle.def_mesh.specs.{Components.is_start, Components.start_darts, HalfEdges.IsQuadManifold, HalfEdges.half_edges}
+use Rattle.def_cut.specs.{Motion.is_among, Traced.terrain_of}
 use Rattle.mesh_laws.proofs.HalfEdges.{manifold_law}
 use Rattle.face_laws.proofs.Fans.{inner_twin, regular_cross}
 use Rattle.motion_laws.proofs.Among.{not_all, range_among, range_apart, apart_filter}
 use Rattle.motion_laws.proofs.Terrains.{IsTerrain, IsStarted}
-use Rattle.site_laws.proofs.Fans.{three_faces}
-use Rattle.site_laws.proofs.Sources.{start_in, start_of, found}
+use Rattle.site_laws.proofs.{Fans.three_faces, Sources.start_in, Sources.start_of, Sources.found}
 
 module _ (faces : Faces) (m : IsManifold faces) where
   abbrev laws : IsQuadManifold (half_edges faces)

@@ -2,25 +2,21 @@
 use Rattle.std.proofs.Common.{◌≡◌, ◌≢◌, ◌⊎◌, ℕ, zero, suc, ◌+◌, ◌*◌, ◌/◌, ◌<◌, ◌≤◌, Bool, true, false, cond, eqb, ltb}
 use Rattle.std.proofs.Common.{◌&&◌, ◌||◌, List, [], ◌∷◌, length, Some, is_some, sym, subst, ap, ◌∙◌, refl, inl, inr}
 use Rattle.std.proofs.Common.{arith}
-use Rattle.std.specs.List.{list_any, range_with_len}
 use Rattle.std.proofs.lemmas.Bool.{cases_Bool, cases_lt, cases_eq, eq-eqb, eqb-true, eqb-false, lt-ltb, or_left}
 use Rattle.std.proofs.lemmas.Bool.{or_right, and_from, and_parts, not_from_false, false≢true}
-use Rattle.def_mesh.specs.Faces.{Faces, all_faces}
-use Rattle.def_mesh.specs.Darts.{darts, all_darts, from_of, is_reverse, twin_of}
-use Rattle.def_mesh.specs.Manifold.{IsManifold}
-use Rattle.def_mesh.specs.Vertices.{faces_at, vertex_count, all_vertices}
-use Rattle.def_mesh.specs.Kinds.{is_inner, is_regular, is_singular, is_reflex}
-use Rattle.def_mesh.specs.Components.{share_edge, is_marked, component_of, least_face, least_faces, vertices_in}
-use Rattle.def_mesh.specs.Components.{is_ring, is_first, is_seed_in, seeds, is_start, start_darts}
+use Rattle.std.specs.List.{list_any, range_with_len}
+use Rattle.def_mesh.specs.{Faces.Faces, Faces.all_faces, Darts.darts, Darts.all_darts, Darts.from_of, Darts.is_reverse}
+use Rattle.def_mesh.specs.{Darts.twin_of, Manifold.IsManifold, Vertices.faces_at, Vertices.vertex_count}
+use Rattle.def_mesh.specs.{Vertices.all_vertices, Kinds.is_inner, Kinds.is_regular, Kinds.is_singular, Kinds.is_reflex}
+use Rattle.def_mesh.specs.Components.{share_edge, is_marked, component_of, least_face}
+use Rattle.def_mesh.specs.Components.{least_faces, vertices_in, is_ring, is_first}
+use Rattle.def_mesh.specs.Components.{is_seed_in, seeds, is_start, start_darts}
 use Rattle.def_mesh.specs.HalfEdges.{HalfEdges, Turns, IsQuadManifold, half_edges}
-use Rattle.def_cut.specs.Motion.{is_among}
-use Rattle.def_cut.specs.Steps.{spin}
-use Rattle.def_cut.specs.Trails.{Joins, IsSource}
+use Rattle.def_cut.specs.{Motion.is_among, Steps.spin, Trails.Joins, Trails.IsSource}
 use Rattle.list_laws.proofs.Filters.{any_in_range, range_any}
-use Rattle.mesh_laws.proofs.HalfEdges.{manifold_law}
-use Rattle.mesh_laws.proofs.Flood.{Shares, sound, own_mark, same_component, least_low, least_marked, least_again}
-use Rattle.mesh_laws.proofs.Twins.{reverse_twin, twin_found}
-use Rattle.mesh_laws.proofs.Vertices.{all_below}
+use Rattle.mesh_laws.proofs.{HalfEdges.manifold_law, Flood.Shares, Flood.sound, Flood.own_mark, Flood.same_component}
+use Rattle.mesh_laws.proofs.{Flood.least_low, Flood.least_marked, Flood.least_again, Twins.reverse_twin}
+use Rattle.mesh_laws.proofs.{Twins.twin_found, Vertices.all_below}
 use Rattle.face_laws.proofs.Fans.{same_face}
 use Rattle.motion_laws.proofs.Among.{any_at, not_all, in_filter, from_filter, among_here, among_range, range_among}
 use Rattle.site_laws.proofs.Fans.{joins_join, joins_turns, lone_face, some_twin}

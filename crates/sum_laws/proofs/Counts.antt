@@ -3,8 +3,7 @@ use Rattle.std.proofs.Common.{◌≡◌, ℕ, zero, suc, ◌+◌, ◌*◌, ◌<�
 use Rattle.std.proofs.Common.{mul-zero, mul-add, arith}
 use Rattle.std.proofs.lemmas.Int.{ints}
 use Rattle.std.proofs.lemmas.Bool.{cases_eq}
-use Rattle.def_math.specs.Sums.{total, total_below}
-use Rattle.def_math.specs.Counts.{count, count_below}
+use Rattle.def_math.specs.{Sums.total, Sums.total_below, Counts.count, Counts.count_below}
 
 -- Two lists in a row.
 pub count_append : {X : Type 0} (f : X → ℕ) (xs ys : List X) → count f (xs ++ ys) ≡ count f xs + count f ys

@@ -1,16 +1,15 @@
 -- The twin of a new dart is the dart that runs the other way along its edge. There is none where the arc stands once.
 use Rattle.std.proofs.Common.{◌≡◌, ◌⊎◌, ℕ, ◌+◌, ◌-◌, ◌<◌, Bool, true, false, not, cond, Some, None, refl, sym, ◌∙◌, ap}
 use Rattle.std.proofs.Common.{subst, inl, inr, arith}
-use Rattle.std.specs.Prelude.{◌==◌}
 use Rattle.std.proofs.lemmas.Bool.{cond-false, ne_eqb, false≢true}
+use Rattle.std.specs.Prelude.{◌==◌}
 use Rattle.def_mesh.specs.Darts.{from_of, to_of, twin_of, IsTwin}
 use Rattle.def_layout.specs.Layouts.{Way, south, east, north, west, side_after, Layout, Slot, IsSlot, use_of}
 use Rattle.def_layout.specs.Surfaces.{IsSurface, IsOtherSlot}
 use Rattle.def_layout.specs.Lengths.{Lengths, wide, high, AreLengths}
 use Rattle.def_layout.specs.Cells.{CellDart, IsDart, dart, next, slot_dart}
-use Rattle.def_written.specs.Numbers.{vertex_number}
-use Rattle.def_written.specs.NewFaces.{column, row, dart_start, dart_end, new_faces}
-use Rattle.def_written.specs.Edges.{on_arc, flat, steep}
+use Rattle.def_written.specs.{Numbers.vertex_number, NewFaces.column, NewFaces.row, NewFaces.dart_start}
+use Rattle.def_written.specs.{NewFaces.dart_end, NewFaces.new_faces, Edges.on_arc, Edges.flat, Edges.steep}
 use Rattle.mesh_laws.proofs.Twins.{twin_found, twin_is, twin_none}
 use Rattle.written_laws.proofs.Numbers.{number_same}
 use Rattle.written_laws.proofs.Borders.{from_is, at_is, other_long}

@@ -1,17 +1,13 @@
 -- New points lie between the least and the greatest of the old coordinates.
-use Rattle.std.proofs.Common.{◌≡◌, ℕ, zero, suc, ◌+◌, ◌-◌, ◌*◌, ◌/◌, ◌%◌, ◌^◌, ◌<◌, ◌≤◌, ℤ, pos, negsuc, ◌+ℤ◌, ◌-ℤ◌}
+use Rattle.std.proofs.Common.{◌≡◌, ℕ, zero, suc, ◌+◌, ◌-◌, ◌*◌, ◌/◌}
+use Rattle.std.proofs.Common.{◌%◌, ◌^◌, ◌<◌, ◌≤◌, ℤ, pos, negsuc, ◌+ℤ◌}
+use Rattle.std.proofs.{Common.◌-ℤ◌, Math.Nat.mod-lt, Math.Nat.div-add-mod, Math.Nat.div-lt_iff_lt-mul}
+use Rattle.std.proofs.{Math.Nat.mul_comm, lemmas.Bool.cases_eq, lemmas.Int.ints, lemmas.Int.by_lt_z, lemmas.Nat.mul-le}
 use Rattle.std.proofs.Common.{◌*ℤ◌, Bool, not, sym, ◌∙◌, ap, subst, inl, inr, arith}
-use Rattle.std.specs.Prelude.{◌≤ℤ◌, ◌<ℤ◌}
-use Rattle.std.specs.Int.{int_div_euclid}
-use Rattle.std.proofs.Math.Nat.{mod-lt, div-add-mod, div-lt_iff_lt-mul, mul_comm}
-use Rattle.std.proofs.lemmas.Bool.{cases_eq}
-use Rattle.std.proofs.lemmas.Int.{ints, by_lt_z}
-use Rattle.std.proofs.lemmas.Nat.{mul-le}
-use Rattle.def_layout.specs.declared.tmesh.SideArc.{SideArc}
-use Rattle.def_layout.specs.Layouts.{Way, south, east, north, west, Layout}
-use Rattle.def_layout.specs.Surfaces.{IsSurface}
-use Rattle.def_layout.specs.Lengths.{Lengths, reach, size, wide, high, AreLengths}
-use Rattle.def_layout.specs.Cells.{IsDart, dart}
+use Rattle.std.specs.{Prelude.◌≤ℤ◌, Prelude.◌<ℤ◌, Int.int_div_euclid}
+use Rattle.def_layout.specs.{declared.tmesh.SideArc.SideArc, Layouts.Way, Layouts.south, Layouts.east, Layouts.north}
+use Rattle.def_layout.specs.{Layouts.west, Layouts.Layout, Surfaces.IsSurface, Lengths.Lengths, Lengths.reach}
+use Rattle.def_layout.specs.{Lengths.size, Lengths.wide, Lengths.high, Lengths.AreLengths, Cells.IsDart, Cells.dart}
 use Rattle.def_written.specs.Points.{Point, node, along, inside, IsPoint, arc_point, use_over, offset_at, point}
 use Rattle.def_written.specs.Edges.{on_arc, edge_start, edge_end}
 use Rattle.def_written.specs.Places.{
@@ -31,14 +27,10 @@ use Rattle.def_written.specs.Places.{
   ArcSpacing,
   Step,
 }
-use Rattle.def_written.specs.Places.{parameter_u, parameter_v, cell_at, rest_at, blend, inside_place, place_of}
-use Rattle.def_written.specs.Spacings.{IsSpacing}
-use Rattle.def_written.specs.Laws.{BetweenLaw}
-use Rattle.written_laws.proofs.Runs.{count_rises}
-use Rattle.written_laws.proofs.Sides.{IsOn, place_on, long_at}
-use Rattle.written_laws.proofs.Grid.{wide_some, high_some}
-use Rattle.written_laws.proofs.Borders.{from_is}
-use Rattle.written_laws.proofs.EdgeDarts.{edge_points}
+use Rattle.def_written.specs.Places.{parameter_u, parameter_v, cell_at, rest_at, blend}
+use Rattle.def_written.specs.{Places.inside_place, Places.place_of, Spacings.IsSpacing, Laws.BetweenLaw}
+use Rattle.written_laws.proofs.{Runs.count_rises, Sides.IsOn, Sides.place_on, Sides.long_at, Grid.wide_some}
+use Rattle.written_laws.proofs.{Grid.high_some, Borders.from_is, EdgeDarts.edge_points}
 
 -- Products with a natural number, term by term.
 times_le : (k : ℕ) (a b : ℤ) → a ≤ℤ b → (pos k *ℤ a) ≤ℤ (pos k *ℤ b)

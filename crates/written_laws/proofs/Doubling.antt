@@ -1,26 +1,21 @@
 -- Multiples of lengths that double no edge double none, and no lengths of at least 3 do.
 use Rattle.std.proofs.Common.{◌≡◌, ◌≢◌, ℕ, zero, suc, ◌+◌, ◌-◌, ◌*◌, ◌/◌, ◌%◌, ◌<◌, ◌≤◌, Bool, true, false, not, cond}
 use Rattle.std.proofs.Common.{refl, sym, ◌∙◌, ap, subst, inl, inr, arith}
-use Rattle.std.specs.Prelude.{◌==◌}
 use Rattle.std.proofs.Math.Nat.{mul-le-mul_left}
 use Rattle.std.proofs.lemmas.Bool.{cases_eq, cond-true, cond-false, eq-eqb, ne_eqb}
-use Rattle.def_layout.specs.declared.tmesh.SideArc.{SideArc}
-use Rattle.def_layout.specs.Layouts.{Way, south, east, north, west, Layout, IsSlot}
-use Rattle.def_layout.specs.Surfaces.{IsSurface}
-use Rattle.def_layout.specs.Lengths.{Lengths, reach, size, wide, high, AreLengths}
+use Rattle.std.specs.Prelude.{◌==◌}
+use Rattle.def_layout.specs.{declared.tmesh.SideArc.SideArc, Layouts.Way, Layouts.south, Layouts.east, Layouts.north}
+use Rattle.def_layout.specs.{Layouts.west, Layouts.Layout, Layouts.IsSlot, Surfaces.IsSurface, Lengths.Lengths}
+use Rattle.def_layout.specs.Lengths.{reach, size, wide, high, AreLengths}
 use Rattle.def_layout.specs.Cells.{CellDart, IsDart, dart}
-use Rattle.def_written.specs.Points.{Point, node, along, inside, arc_point, use_point, use_over, offset_at, side_point}
-use Rattle.def_written.specs.Points.{point}
-use Rattle.def_written.specs.NewFaces.{dart_start, dart_end}
-use Rattle.def_written.specs.Edges.{Edge, on_arc, flat, steep}
+use Rattle.def_written.specs.Points.{Point, node, along, inside, arc_point}
+use Rattle.def_written.specs.Points.{use_point, use_over, offset_at, side_point, point}
+use Rattle.def_written.specs.{NewFaces.dart_start, NewFaces.dart_end, Edges.Edge, Edges.on_arc, Edges.flat, Edges.steep}
 use Rattle.sum_laws.proofs.Counts.{count_below_times}
-use Rattle.written_laws.proofs.Sides.{slot, IsOn, arc_last, use_inner, side_in, place_on, first_slot, reach_low}
-use Rattle.written_laws.proofs.Grid.{point_north, point_west, point_east}
+use Rattle.written_laws.proofs.Sides.{slot, IsOn, arc_last, use_inner, side_in, place_on}
+use Rattle.written_laws.proofs.{Sides.first_slot, Sides.reach_low, Grid.point_north, Grid.point_west, Grid.point_east}
 use Rattle.written_laws.proofs.Courses.{Course, course_of, border_course, course_once}
-use Rattle.written_laws.proofs.Simple.{IsSimple}
-use Rattle.written_laws.proofs.Manifold.{ends_differ}
-use Rattle.written_laws.proofs.Across.{across_ends}
-use Rattle.written_laws.proofs.Spokes.{IsOpen}
+use Rattle.written_laws.proofs.{Simple.IsSimple, Manifold.ends_differ, Across.across_ends, Spokes.IsOpen}
 use Rattle.written_laws.proofs.Opens.{simple_open}
 
 -- The k-fold lengths.

@@ -3,15 +3,12 @@ use Rattle.std.proofs.Common.{◌≡◌, ℕ, ◌+◌, ◌-◌, ◌*◌, ◌/◌
 use Rattle.std.proofs.Math.Nat.{mod-lt, div-lt_iff_lt-mul, mul_comm}
 use Rattle.std.proofs.lemmas.Nat.{mul-add-lt, same_from_place, div-add-mod'}
 use Rattle.std.proofs.lemmas.Bool.{cases_lt, cases_eq}
-use Rattle.def_math.specs.Counts.{count_below}
-use Rattle.def_math.specs.Runs.{run_at}
-use Rattle.def_layout.specs.Layouts.{Layout}
-use Rattle.def_layout.specs.Lengths.{Lengths, wide, high}
+use Rattle.def_math.specs.{Counts.count_below, Runs.run_at}
+use Rattle.def_layout.specs.{Layouts.Layout, Lengths.Lengths, Lengths.wide, Lengths.high}
 use Rattle.def_written.specs.Points.{Point, node, along, inside, IsPoint}
 use Rattle.def_written.specs.Numbers.{before_arc, vertex_number, vertices}
 use Rattle.def_written.specs.Edges.{Edge, on_arc, flat, steep, IsEdge}
-use Rattle.written_laws.proofs.Runs.{run_here, place_low, place_same, IsInRun}
-use Rattle.written_laws.proofs.Numbers.{inner_points}
+use Rattle.written_laws.proofs.{Runs.run_here, Runs.place_low, Runs.place_same, Runs.IsInRun, Numbers.inner_points}
 
 -- A place below rows of so many is one of a row and a column.
 pub in_rows : (w h t : ℕ) → t < h * w → (t % w < w) × (t / w < h) × (t / w * w + t % w ≡ t)

@@ -8,8 +8,7 @@ use Rattle.def_layout.specs.Surfaces.{HasWholeSides, IsSurface}
 use Rattle.def_layout.specs.Fans.{IsTurn, SlotTurns, HasFans}
 use Rattle.def_layout.specs.Lengths.{Lengths, reach, size, AreLengths}
 use Rattle.def_layout.specs.Cells.{CellDart, IsDart, next, dart_along, slot_dart}
-use Rattle.def_written.specs.Points.{node, along, inside, use_point}
-use Rattle.def_written.specs.NewFaces.{dart_start}
+use Rattle.def_written.specs.{Points.node, Points.along, Points.inside, Points.use_point, NewFaces.dart_start}
 use Rattle.written_laws.proofs.Sides.{slot, use_begins, use_inner, reach_low, use_some, last_reach, size_some}
 use Rattle.written_laws.proofs.Turning.{IsTurning}
 use Rattle.written_laws.proofs.Rims.{column_of, row_of, rim_patch, rim_column, rim_row, rim_on, rim_round}

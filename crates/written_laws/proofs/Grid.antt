@@ -1,7 +1,7 @@
 -- The points of a patch: its sides, corners included, and its inside.
 use Rattle.std.proofs.Common.{◌≡◌, ℕ, ◌-◌, ◌<◌, ◌≤◌, sym, ◌∙◌, ap, inl, inr, arith}
-use Rattle.std.specs.Prelude.{◌==◌}
 use Rattle.std.proofs.lemmas.Bool.{cases_eq, cond-true, cond-false, eq-eqb, ne_eqb}
+use Rattle.std.specs.Prelude.{◌==◌}
 use Rattle.def_layout.specs.Layouts.{south, east, north, west, Layout}
 use Rattle.def_layout.specs.Surfaces.{HasWholeSides, IsSurface}
 use Rattle.def_layout.specs.Lengths.{Lengths, wide, high, AreLengths}

@@ -1,25 +1,18 @@
 -- A vertex of a model is inner where each arc at its point has two sides.
 use Rattle.std.proofs.Common.{◌≡◌, ◌⊎◌, ℕ, ◌+◌, ◌<◌, ◌≤◌, true, Some, refl, sym, ◌∙◌, ap, inl, inr, arith}
-use Rattle.std.specs.Prelude.{◌==◌}
 use Rattle.std.proofs.lemmas.Bool.{eqb-true, eq-eqb}
 use Rattle.std.proofs.lemmas.Option.{none-some}
-use Rattle.def_mesh.specs.Faces.{Faces}
-use Rattle.def_mesh.specs.Darts.{darts, from_of, to_of, twin_of}
-use Rattle.def_mesh.specs.Vertices.{faces_at}
+use Rattle.std.specs.Prelude.{◌==◌}
+use Rattle.def_mesh.specs.{Faces.Faces, Darts.darts, Darts.from_of, Darts.to_of, Darts.twin_of, Vertices.faces_at}
 use Rattle.def_mesh.specs.Kinds.{is_inner}
-use Rattle.def_layout.specs.Layouts.{Layout, Slot, IsSlot, use_of}
-use Rattle.def_layout.specs.Surfaces.{IsSurface, IsOtherSlot}
-use Rattle.def_layout.specs.Lengths.{Lengths, AreLengths}
-use Rattle.def_layout.specs.Cells.{CellDart, IsDart, next, slot_dart}
-use Rattle.def_written.specs.Points.{Point, use_point}
-use Rattle.def_written.specs.NewFaces.{dart_start, dart_end}
+use Rattle.def_layout.specs.{Layouts.Layout, Layouts.Slot, Layouts.IsSlot, Layouts.use_of, Surfaces.IsSurface}
+use Rattle.def_layout.specs.{Surfaces.IsOtherSlot, Lengths.Lengths, Lengths.AreLengths, Cells.CellDart, Cells.IsDart}
+use Rattle.def_layout.specs.Cells.{next, slot_dart}
+use Rattle.def_written.specs.{Points.Point, Points.use_point, NewFaces.dart_start, NewFaces.dart_end}
 use Rattle.written_laws.proofs.Tallies.{passing, passing_le, passing_all, filter_long}
+use Rattle.written_laws.proofs.{Borders.at_is, Borders.at_from, Borders.at_to, NewDarts.next_is, Courses.IsAcross}
+use Rattle.written_laws.proofs.{Across.across_or_alone, Across.IsAlone, Across.alone_not_across, Models.IsModel}
 use Rattle.face_laws.proofs.Fans.{inner_from, inner_twin}
-use Rattle.written_laws.proofs.Borders.{at_is, at_from, at_to}
-use Rattle.written_laws.proofs.NewDarts.{next_is}
-use Rattle.written_laws.proofs.Courses.{IsAcross}
-use Rattle.written_laws.proofs.Across.{across_or_alone, IsAlone, alone_not_across}
-use Rattle.written_laws.proofs.Models.{IsModel}
 
 -- Each arc at the point is used by two slots.
 abbrev pub AreShared : (l : Layout) (x : Lengths) (a : Point) → Type 0

@@ -2,28 +2,24 @@
 use Rattle.std.proofs.Common.{◌≡◌, ◌≢◌, ◌⊎◌, ℕ, zero, suc, ◌+◌, ◌-◌, ◌<◌, not, cond, refl, sym, ◌∙◌, ap, subst, inl}
 use Rattle.std.proofs.Common.{inr, arith}
 use Rattle.std.proofs.lemmas.Bool.{false≢true}
-use Rattle.def_mesh.specs.Faces.{corner}
-use Rattle.def_mesh.specs.Darts.{from_of, to_of}
-use Rattle.def_mesh.specs.Manifold.{IsManifold, IsRepeatFree, HasEdgesOnce}
-use Rattle.def_layout.specs.Layouts.{Way, south, east, north, west, side_after, side_before, Layout, Slot, AreReverse}
-use Rattle.def_layout.specs.Layouts.{use_of, slot_before}
-use Rattle.def_layout.specs.Surfaces.{IsSurface}
-use Rattle.def_layout.specs.Fans.{HasFans}
-use Rattle.def_layout.specs.Lengths.{Lengths, reach, size, AreLengths}
-use Rattle.def_layout.specs.Cells.{CellDart, IsDart, next, dart_along, slot_dart}
-use Rattle.def_written.specs.Numbers.{vertex_number}
-use Rattle.def_written.specs.NewFaces.{dart_start, dart_end, face_count, dart_of, cell_vertex, new_faces}
-use Rattle.def_written.specs.Edges.{on_arc}
-use Rattle.written_laws.proofs.Sides.{slot, first_is, last_is}
-use Rattle.written_laws.proofs.Rims.{corner_cell, rim_way, rim_patch}
-use Rattle.written_laws.proofs.Numbers.{number_same}
-use Rattle.written_laws.proofs.Borders.{from_is, at_low}
-use Rattle.written_laws.proofs.NewDarts.{turn, way_of, turn_way, dart_number, corner_is, cell_is, number_from}
-use Rattle.written_laws.proofs.NewDarts.{number_to, next_is, at_number, faces_long}
-use Rattle.written_laws.proofs.OneFan.{one_fan}
-use Rattle.written_laws.proofs.Courses.{Course, is_arc, inner_course, course_of, IsWithin, IsOnBorder, sees, border_is}
-use Rattle.written_laws.proofs.Courses.{course_is, course_from, course_to, inner_no_arc, course_once}
-use Rattle.written_laws.proofs.Simple.{IsSimple, one_course, reversed, ends_apart}
+use Rattle.def_mesh.specs.{Faces.corner, Darts.from_of, Darts.to_of, Manifold.IsManifold, Manifold.IsRepeatFree}
+use Rattle.def_mesh.specs.Manifold.{HasEdgesOnce}
+use Rattle.def_layout.specs.Layouts.{Way, south, east, north, west, side_after}
+use Rattle.def_layout.specs.Layouts.{side_before, Layout, Slot, AreReverse, use_of}
+use Rattle.def_layout.specs.{Layouts.slot_before, Surfaces.IsSurface, Fans.HasFans, Lengths.Lengths, Lengths.reach}
+use Rattle.def_layout.specs.{Lengths.size, Lengths.AreLengths, Cells.CellDart, Cells.IsDart, Cells.next}
+use Rattle.def_layout.specs.Cells.{dart_along, slot_dart}
+use Rattle.def_written.specs.{Numbers.vertex_number, NewFaces.dart_start, NewFaces.dart_end, NewFaces.face_count}
+use Rattle.def_written.specs.{NewFaces.dart_of, NewFaces.cell_vertex, NewFaces.new_faces, Edges.on_arc}
+use Rattle.written_laws.proofs.{Sides.slot, Sides.first_is, Sides.last_is, Rims.corner_cell, Rims.rim_way}
+use Rattle.written_laws.proofs.{Rims.rim_patch, Numbers.number_same, Borders.from_is, Borders.at_low, NewDarts.turn}
+use Rattle.written_laws.proofs.NewDarts.{way_of, turn_way, dart_number, corner_is}
+use Rattle.written_laws.proofs.NewDarts.{cell_is, number_from, number_to, next_is}
+use Rattle.written_laws.proofs.{NewDarts.at_number, NewDarts.faces_long, OneFan.one_fan, Courses.Course, Courses.is_arc}
+use Rattle.written_laws.proofs.Courses.{inner_course, course_of, IsWithin, IsOnBorder}
+use Rattle.written_laws.proofs.Courses.{sees, border_is, course_is, course_from}
+use Rattle.written_laws.proofs.{Courses.course_to, Courses.inner_no_arc, Courses.course_once, Simple.IsSimple}
+use Rattle.written_laws.proofs.Simple.{one_course, reversed, ends_apart}
 
 -- Darts that follow each other round a cell inside a patch run along different edges.
 flat_or_steep : (p i j : ℕ) (w : Way) → (inner_course p i j (side_after w)).edge ≢ (inner_course p i j w).edge

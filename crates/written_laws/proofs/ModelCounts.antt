@@ -4,30 +4,25 @@ use Rattle.std.proofs.Common.{Option, Some, pos, ◌+ℤ◌, ◌-ℤ◌, refl, s
 use Rattle.std.proofs.lemmas.Int.{ints}
 use Rattle.std.proofs.lemmas.Bool.{cases_order, ltb-true, lt-ltb}
 use Rattle.def_math.specs.Counts.{count_below}
-use Rattle.def_mesh.specs.Faces.{Faces}
-use Rattle.def_mesh.specs.Darts.{darts, from_of, twin_of}
-use Rattle.def_mesh.specs.Vertices.{is_used, vertex_count}
-use Rattle.def_mesh.specs.Components.{is_lesser, edge_count, used_count, euler}
-use Rattle.def_layout.specs.Layouts.{Layout, Slot}
-use Rattle.def_layout.specs.Surfaces.{IsSurface}
-use Rattle.def_layout.specs.Lengths.{Lengths, wide, high, AreLengths}
-use Rattle.def_layout.specs.Cells.{CellDart, IsDart}
-use Rattle.def_written.specs.Points.{Point, IsPoint}
-use Rattle.def_written.specs.Numbers.{before_patch, vertex_number, vertices}
-use Rattle.def_written.specs.NewFaces.{dart_start, cells_before, face_count}
+use Rattle.def_mesh.specs.{Faces.Faces, Darts.darts, Darts.from_of, Darts.twin_of, Vertices.is_used}
+use Rattle.def_mesh.specs.{Vertices.vertex_count, Components.is_lesser, Components.edge_count, Components.used_count}
+use Rattle.def_mesh.specs.Components.{euler}
+use Rattle.def_layout.specs.{Layouts.Layout, Layouts.Slot, Surfaces.IsSurface, Lengths.Lengths, Lengths.wide}
+use Rattle.def_layout.specs.{Lengths.high, Lengths.AreLengths, Cells.CellDart, Cells.IsDart}
+use Rattle.def_written.specs.{Points.Point, Points.IsPoint, Numbers.before_patch, Numbers.vertex_number}
+use Rattle.def_written.specs.{Numbers.vertices, NewFaces.dart_start, NewFaces.cells_before, NewFaces.face_count}
 use Rattle.def_written.specs.Edges.{Edge, IsEdge}
 use Rattle.written_laws.proofs.Tallies.{passing, passing_le, passing_all, filter_long}
+use Rattle.written_laws.proofs.{Numbers.number_low, Numbers.number_same, Grid.wide_some, Grid.high_some}
+use Rattle.written_laws.proofs.{Borders.from_is, NewDarts.dart_number, NewDarts.dart_low, NewDarts.dart_same}
+use Rattle.written_laws.proofs.{NewDarts.at_number, NewDarts.faces_long, Courses.course, Courses.course_of}
+use Rattle.written_laws.proofs.{Courses.course_is, Courses.course_once, Courses.IsAcross, Across.across_or_alone}
+use Rattle.written_laws.proofs.{Across.IsAlone, Across.alone_not_across, EdgeDarts.edge_dart, EdgeNumbers.flats}
+use Rattle.written_laws.proofs.EdgeNumbers.{steeps, edge_number, edge_total}
+use Rattle.written_laws.proofs.EdgeNumbers.{edge_low, edge_same, edge_onto}
+use Rattle.written_laws.proofs.{EdgeNumbers.point_onto, Models.IsModel, Models.used_dart, Models.dart_used}
+use Rattle.written_laws.proofs.Models.{point_dart}
 use Rattle.mesh_laws.proofs.Vertices.{all_below}
-use Rattle.written_laws.proofs.Numbers.{number_low, number_same}
-use Rattle.written_laws.proofs.Grid.{wide_some, high_some}
-use Rattle.written_laws.proofs.Borders.{from_is}
-use Rattle.written_laws.proofs.NewDarts.{dart_number, dart_low, dart_same, at_number, faces_long}
-use Rattle.written_laws.proofs.Courses.{course, course_of, course_is, course_once, IsAcross}
-use Rattle.written_laws.proofs.Across.{across_or_alone, IsAlone, alone_not_across}
-use Rattle.written_laws.proofs.EdgeDarts.{edge_dart}
-use Rattle.written_laws.proofs.EdgeNumbers.{flats, steeps, edge_number, edge_total, edge_low, edge_same, edge_onto}
-use Rattle.written_laws.proofs.EdgeNumbers.{point_onto}
-use Rattle.written_laws.proofs.Models.{IsModel, used_dart, dart_used, point_dart}
 
 -- Counts whose terms have equal sums, but for one.
 count_sums : (f g h k : ℕ → ℕ) (n : ℕ) → ((p : ℕ) → p < n → f p + g p ≡ h p + k p + 1)

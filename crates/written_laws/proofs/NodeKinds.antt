@@ -1,28 +1,21 @@
 -- The vertex of a node has the same kind and as many faces in each model, whatever the lengths.
 use Rattle.std.proofs.Common.{◌≡◌, ◌⊎◌, ℕ, zero, suc, ◌+◌, ◌-◌, ◌<◌, ◌≤◌, Bool, true, cond, refl, sym, ◌∙◌, ap, subst}
 use Rattle.std.proofs.Common.{inl, inr, arith}
-use Rattle.std.specs.Prelude.{◌==◌}
 use Rattle.std.proofs.lemmas.Bool.{cases_eq, eqb-true, eq-eqb}
+use Rattle.std.specs.Prelude.{◌==◌}
 use Rattle.sum_laws.proofs.Tests.{same_test}
-use Rattle.def_mesh.specs.Faces.{Faces}
-use Rattle.def_mesh.specs.Darts.{darts, from_of}
-use Rattle.def_mesh.specs.Vertices.{faces_at}
-use Rattle.def_mesh.specs.Kinds.{is_inner}
-use Rattle.def_layout.specs.declared.tmesh.SideArc.{SideArc}
-use Rattle.def_layout.specs.Layouts.{Layout, Slot, IsSlot, use_of, start_node, end_node}
-use Rattle.def_layout.specs.Surfaces.{IsSurface, IsOtherSlot}
-use Rattle.def_layout.specs.Lengths.{Lengths, reach, AreLengths}
-use Rattle.def_layout.specs.Cells.{CellDart, IsDart}
-use Rattle.def_written.specs.Points.{node, along, inside, use_point}
-use Rattle.def_written.specs.NewFaces.{dart_start}
-use Rattle.written_laws.proofs.Runs.{count_rises}
-use Rattle.written_laws.proofs.Tallies.{passing, passing_le, filter_long}
-use Rattle.written_laws.proofs.Sides.{slot, long_at, use_begins, use_ends, use_inner, use_some}
-use Rattle.written_laws.proofs.Rims.{column_of, row_of, IsInner}
-use Rattle.written_laws.proofs.Borders.{IsAt, sort_dart, inner_from}
-use Rattle.written_laws.proofs.Spots.{place_at, spot_dart, at_once, spot_is, spot_at, sort_spot, spot_once}
-use Rattle.written_laws.proofs.Models.{IsModel}
-use Rattle.written_laws.proofs.Inners.{AreShared, IsVertex, inner_if, inner_only}
+use Rattle.def_mesh.specs.{Faces.Faces, Darts.darts, Darts.from_of, Vertices.faces_at, Kinds.is_inner}
+use Rattle.def_layout.specs.{declared.tmesh.SideArc.SideArc, Layouts.Layout, Layouts.Slot, Layouts.IsSlot}
+use Rattle.def_layout.specs.{Layouts.use_of, Layouts.start_node, Layouts.end_node, Surfaces.IsSurface}
+use Rattle.def_layout.specs.{Surfaces.IsOtherSlot, Lengths.Lengths, Lengths.reach, Lengths.AreLengths, Cells.CellDart}
+use Rattle.def_layout.specs.Cells.{IsDart}
+use Rattle.def_written.specs.{Points.node, Points.along, Points.inside, Points.use_point, NewFaces.dart_start}
+use Rattle.written_laws.proofs.{Runs.count_rises, Tallies.passing, Tallies.passing_le, Tallies.filter_long, Sides.slot}
+use Rattle.written_laws.proofs.Sides.{long_at, use_begins, use_ends, use_inner, use_some}
+use Rattle.written_laws.proofs.{Rims.column_of, Rims.row_of, Rims.IsInner, Borders.IsAt, Borders.sort_dart}
+use Rattle.written_laws.proofs.{Borders.inner_from, Spots.place_at, Spots.spot_dart, Spots.at_once, Spots.spot_is}
+use Rattle.written_laws.proofs.{Spots.spot_at, Spots.sort_spot, Spots.spot_once, Models.IsModel, Inners.AreShared}
+use Rattle.written_laws.proofs.Inners.{IsVertex, inner_if, inner_only}
 
 module _ (l : Layout) (x : Lengths) (laid : IsSurface l) (len : AreLengths l x) where
   -- A point of an arc that is a node is one of its ends.

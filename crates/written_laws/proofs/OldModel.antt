@@ -3,34 +3,27 @@ use Rattle.std.proofs.Common.{◌≡◌, ◌⊎◌, ℕ, zero, suc, ◌+◌, ◌
 use Rattle.std.proofs.Common.{refl, sym, ◌∙◌, ap, subst, inl, inr, arith}
 use Rattle.std.proofs.lemmas.Bool.{cases_lt}
 use Rattle.std.proofs.lemmas.Option.{none-some, same_Some}
-use Rattle.def_mesh.specs.Faces.{Faces, face_at}
-use Rattle.def_mesh.specs.Manifold.{IsManifold}
-use Rattle.def_mesh.specs.HalfEdges.{HalfEdges, AreTurned, IsQuadManifold, half_edges, Turns as MeshTurns}
-use Rattle.def_layout.specs.declared.tmesh.SideArc.{SideArc}
-use Rattle.def_layout.specs.Layouts.{Way, south, east, north, west, side_after, side_before, Layout, Slot, IsSlot}
-use Rattle.def_layout.specs.Layouts.{AreReverse, use_of, slot_before, start_node}
-use Rattle.def_layout.specs.Surfaces.{HasWholeSides, IsSurface, IsOtherSlot}
-use Rattle.def_layout.specs.Fans.{IsTurn, SlotTurns, HasFans}
-use Rattle.def_layout.specs.Lengths.{Lengths, reach, size, AreLengths}
-use Rattle.def_layout.specs.Cells.{CellDart, IsDart, dart, next, prev, slot_dart}
-use Rattle.def_layout.specs.Embeddings.{IsEmbedding}
-use Rattle.def_written.specs.Points.{node}
-use Rattle.def_written.specs.NewFaces.{dart_start}
+use Rattle.def_mesh.specs.{Faces.Faces, Faces.face_at, Manifold.IsManifold, HalfEdges.HalfEdges, HalfEdges.AreTurned}
+use Rattle.def_mesh.specs.{HalfEdges.IsQuadManifold, HalfEdges.half_edges, HalfEdges.Turns as MeshTurns}
+use Rattle.def_layout.specs.{declared.tmesh.SideArc.SideArc, Layouts.Way, Layouts.south, Layouts.east, Layouts.north}
+use Rattle.def_layout.specs.Layouts.{west, side_after, side_before, Layout, Slot}
+use Rattle.def_layout.specs.Layouts.{IsSlot, AreReverse, use_of, slot_before}
+use Rattle.def_layout.specs.{Layouts.start_node, Surfaces.HasWholeSides, Surfaces.IsSurface, Surfaces.IsOtherSlot}
+use Rattle.def_layout.specs.{Fans.IsTurn, Fans.SlotTurns, Fans.HasFans, Lengths.Lengths, Lengths.reach, Lengths.size}
+use Rattle.def_layout.specs.{Lengths.AreLengths, Cells.CellDart, Cells.IsDart, Cells.dart, Cells.next, Cells.prev}
+use Rattle.def_layout.specs.{Cells.slot_dart, Embeddings.IsEmbedding}
+use Rattle.def_written.specs.{Points.node, NewFaces.dart_start}
 use Rattle.mesh_laws.proofs.HalfEdges.{manifold_law}
-use Rattle.written_laws.proofs.Sides.{slot, use_some, use_begins}
-use Rattle.written_laws.proofs.Rims.{column_of, row_of, side_column, side_row, rim_patch, rim_next_column, rim_next_row}
-use Rattle.written_laws.proofs.Rims.{corner_column, corner_row}
-use Rattle.written_laws.proofs.Borders.{at_low, at_is, IsAt}
-use Rattle.written_laws.proofs.Fans.{point_related}
-use Rattle.written_laws.proofs.NewDarts.{next_is, prev_is}
-use Rattle.written_laws.proofs.Courses.{course, course_once, IsAcross, IsWithin, IsOnBorder, sees}
-use Rattle.written_laws.proofs.Manifold.{before_after}
-use Rattle.written_laws.proofs.Across.{across_border, across_within, across_or_alone, across_ends, alone_not_across}
-use Rattle.written_laws.proofs.Across.{IsAlone}
-use Rattle.written_laws.proofs.Spots.{place_at, at_place, at_once, rim_is_at}
-use Rattle.written_laws.proofs.NodeKinds.{IsAtNode, node_sort}
-use Rattle.written_laws.proofs.Models.{IsModel}
-use Rattle.written_laws.proofs.Sided.{AreFromOne, from_turning, starts, laid_in}
+use Rattle.written_laws.proofs.{Sides.slot, Sides.use_some, Sides.use_begins, Rims.column_of, Rims.row_of}
+use Rattle.written_laws.proofs.Rims.{side_column, side_row, rim_patch, rim_next_column}
+use Rattle.written_laws.proofs.{Rims.rim_next_row, Rims.corner_column, Rims.corner_row, Borders.at_low, Borders.at_is}
+use Rattle.written_laws.proofs.{Borders.IsAt, Fans.point_related, NewDarts.next_is, NewDarts.prev_is, Courses.course}
+use Rattle.written_laws.proofs.Courses.{course_once, IsAcross, IsWithin, IsOnBorder}
+use Rattle.written_laws.proofs.{Courses.sees, Manifold.before_after, Across.across_border, Across.across_within}
+use Rattle.written_laws.proofs.Across.{across_or_alone, across_ends, alone_not_across, IsAlone}
+use Rattle.written_laws.proofs.{Spots.place_at, Spots.at_place, Spots.at_once, Spots.rim_is_at, NodeKinds.IsAtNode}
+use Rattle.written_laws.proofs.{NodeKinds.node_sort, Models.IsModel, Sided.AreFromOne, Sided.from_turning, Sided.starts}
+use Rattle.written_laws.proofs.Sided.{laid_in}
 
 -- Going back and on leads to the same dart.
 next_prev : (d : CellDart) → next (prev d) ≡ d

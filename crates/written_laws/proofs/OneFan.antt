@@ -1,22 +1,18 @@
 -- Each vertex of the new mesh has one fan.
 use Rattle.std.proofs.Common.{◌≡◌, ◌⊎◌, ℕ, zero, suc, ◌+◌, ◌-◌, ◌<◌, refl, sym, ◌∙◌, ap, subst, inl, inr, arith}
-use Rattle.def_mesh.specs.Darts.{prev_of, from_of}
-use Rattle.def_mesh.specs.Manifold.{AreNeighbours, Chain, HasOneFan}
-use Rattle.def_layout.specs.Layouts.{Way, south, east, north, west, side_after, side_before, Layout, Slot, IsSlot}
-use Rattle.def_layout.specs.Layouts.{use_of}
-use Rattle.def_layout.specs.Surfaces.{IsSurface, IsOtherSlot}
-use Rattle.def_layout.specs.Fans.{HasFans}
-use Rattle.def_layout.specs.Lengths.{Lengths, AreLengths}
-use Rattle.def_layout.specs.Cells.{CellDart, IsDart, dart, next, prev, slot_dart}
-use Rattle.def_written.specs.Points.{point}
-use Rattle.def_written.specs.Numbers.{vertex_number}
-use Rattle.def_written.specs.NewFaces.{column, row, dart_start, dart_end, new_faces}
+use Rattle.def_mesh.specs.{Darts.prev_of, Darts.from_of, Manifold.AreNeighbours, Manifold.Chain, Manifold.HasOneFan}
+use Rattle.def_layout.specs.Layouts.{Way, south, east, north, west, side_after}
+use Rattle.def_layout.specs.Layouts.{side_before, Layout, Slot, IsSlot, use_of}
+use Rattle.def_layout.specs.{Surfaces.IsSurface, Surfaces.IsOtherSlot, Fans.HasFans, Lengths.Lengths}
+use Rattle.def_layout.specs.{Lengths.AreLengths, Cells.CellDart, Cells.IsDart, Cells.dart, Cells.next, Cells.prev}
+use Rattle.def_layout.specs.Cells.{slot_dart}
+use Rattle.def_written.specs.{Points.point, Numbers.vertex_number, NewFaces.column, NewFaces.row, NewFaces.dart_start}
+use Rattle.def_written.specs.NewFaces.{dart_end, new_faces}
 use Rattle.mesh_laws.proofs.Chains.{meet_from, chain_join, chain_back}
-use Rattle.written_laws.proofs.Numbers.{number_same}
-use Rattle.written_laws.proofs.Turning.{IsTurning}
-use Rattle.written_laws.proofs.Borders.{at_is, from_is, across_from, across_to, other_long}
-use Rattle.written_laws.proofs.Fans.{at_nodes, point_related}
-use Rattle.written_laws.proofs.NewDarts.{dart_number, dart_low, number_from, number_to, prev_number, prev_is, next_is}
+use Rattle.written_laws.proofs.{Numbers.number_same, Turning.IsTurning, Borders.at_is, Borders.from_is}
+use Rattle.written_laws.proofs.{Borders.across_from, Borders.across_to, Borders.other_long, Fans.at_nodes}
+use Rattle.written_laws.proofs.{Fans.point_related, NewDarts.dart_number, NewDarts.dart_low, NewDarts.number_from}
+use Rattle.written_laws.proofs.NewDarts.{number_to, prev_number, prev_is, next_is}
 use Rattle.written_laws.proofs.NewDarts.{at_number}
 
 module _ (l : Layout) (x : Lengths) where

@@ -8,14 +8,13 @@ use Rattle.def_layout.specs.Surfaces.{IsSurface}
 use Rattle.def_layout.specs.Lengths.{Lengths, reach, size, wide, high, AreLengths}
 use Rattle.def_written.specs.Points.{Point, node, along, inside, arc_point, side_point, point}
 use Rattle.def_written.specs.Edges.{Edge, on_arc, flat, steep, IsEdge, edge_start, edge_end}
-use Rattle.written_laws.proofs.Sides.{slot, arc_last, arc_inner, use_inner, side_in, reach_low, first_slot, last_slot}
-use Rattle.written_laws.proofs.Sides.{last_reach}
-use Rattle.written_laws.proofs.Grid.{point_north, point_west, point_east}
-use Rattle.written_laws.proofs.Courses.{is_arc}
-use Rattle.written_laws.proofs.Simple.{IsSimple}
-use Rattle.written_laws.proofs.Manifold.{before_after}
-use Rattle.written_laws.proofs.Spokes.{IsOpen, spoke, tip_column, tip_row, one_way, tip, Joins, joins_swap, arc_sort}
-use Rattle.written_laws.proofs.Spokes.{point_sort, Inner, hub, tip_low, spoke_joins, hub_edge, loop_at}
+use Rattle.written_laws.proofs.Sides.{slot, arc_last, arc_inner, use_inner, side_in}
+use Rattle.written_laws.proofs.{Sides.reach_low, Sides.first_slot, Sides.last_slot, Sides.last_reach, Grid.point_north}
+use Rattle.written_laws.proofs.{Grid.point_west, Grid.point_east, Courses.is_arc, Simple.IsSimple}
+use Rattle.written_laws.proofs.{Manifold.before_after, Spokes.IsOpen, Spokes.spoke, Spokes.tip_column, Spokes.tip_row}
+use Rattle.written_laws.proofs.Spokes.{one_way, tip, Joins, joins_swap, arc_sort}
+use Rattle.written_laws.proofs.Spokes.{point_sort, Inner, hub, tip_low, spoke_joins}
+use Rattle.written_laws.proofs.Spokes.{hub_edge, loop_at}
 
 module _ (l : Layout) (x : Lengths) (laid : IsSurface l) (len : AreLengths l x) (open_l : IsOpen l x) where
   side_two : (p : ℕ) (s : Way) → p < l.patches → 2 ≤ size l x p s

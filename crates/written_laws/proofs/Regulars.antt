@@ -2,25 +2,20 @@
 use Rattle.std.proofs.Common.{◌≡◌, ◌≢◌, ◌⊎◌, ℕ, zero, suc, ◌+◌, ◌-◌, ◌<◌, ◌≤◌, Bool, true, false, not, cond, refl, sym}
 use Rattle.std.proofs.Common.{◌∙◌, ap, subst, inl, inr, arith}
 use Rattle.std.proofs.lemmas.Bool.{cases_eq, eq-eqb, false_from_ne_true}
-use Rattle.def_mesh.specs.Faces.{Faces}
-use Rattle.def_mesh.specs.Vertices.{faces_at}
-use Rattle.def_mesh.specs.Kinds.{is_inner, is_regular}
-use Rattle.def_layout.specs.declared.tmesh.SideArc.{SideArc}
-use Rattle.def_layout.specs.Layouts.{Way, south, east, north, west, Layout, Slot, IsSlot, use_of, start_node, end_node}
-use Rattle.def_layout.specs.Surfaces.{IsSurface, IsOtherSlot}
-use Rattle.def_layout.specs.Lengths.{Lengths, AreLengths}
-use Rattle.def_layout.specs.Cells.{CellDart, IsDart, dart}
+use Rattle.def_mesh.specs.{Faces.Faces, Vertices.faces_at, Kinds.is_inner, Kinds.is_regular}
+use Rattle.def_layout.specs.{declared.tmesh.SideArc.SideArc, Layouts.Way, Layouts.south, Layouts.east, Layouts.north}
+use Rattle.def_layout.specs.Layouts.{west, Layout, Slot, IsSlot, use_of}
+use Rattle.def_layout.specs.{Layouts.start_node, Layouts.end_node, Surfaces.IsSurface, Surfaces.IsOtherSlot}
+use Rattle.def_layout.specs.{Lengths.Lengths, Lengths.AreLengths, Cells.CellDart, Cells.IsDart, Cells.dart}
 use Rattle.def_written.specs.Points.{node, along, inside, IsPoint, use_point, point}
 use Rattle.def_written.specs.NewFaces.{column, row, dart_start}
-use Rattle.written_laws.proofs.Sides.{use_begins, use_ends, use_inner, arc_inner}
-use Rattle.written_laws.proofs.Grid.{point_inside}
-use Rattle.written_laws.proofs.Rims.{column_of, row_of, corner_low, IsInner}
-use Rattle.written_laws.proofs.Borders.{IsAt, sort_dart, inner_from, use_back, use_not_inside}
+use Rattle.written_laws.proofs.{Sides.use_begins, Sides.use_ends, Sides.use_inner, Sides.arc_inner, Grid.point_inside}
+use Rattle.written_laws.proofs.{Rims.column_of, Rims.row_of, Rims.corner_low, Rims.IsInner, Borders.IsAt}
+use Rattle.written_laws.proofs.Borders.{sort_dart, inner_from, use_back, use_not_inside}
 use Rattle.written_laws.proofs.NewDarts.{turn, way_of, way_turn, turn_way, turn_low}
-use Rattle.written_laws.proofs.Spokes.{point_sort}
-use Rattle.written_laws.proofs.Spots.{place_at, spot_dart, at_once, spot_is, spot_at, sort_spot, spot_once}
-use Rattle.written_laws.proofs.Models.{IsModel}
-use Rattle.written_laws.proofs.Inners.{AreShared, IsVertex, inner_if, inner_only, fan_most, fan_least}
+use Rattle.written_laws.proofs.{Spokes.point_sort, Spots.place_at, Spots.spot_dart, Spots.at_once, Spots.spot_is}
+use Rattle.written_laws.proofs.{Spots.spot_at, Spots.sort_spot, Spots.spot_once, Models.IsModel, Inners.AreShared}
+use Rattle.written_laws.proofs.Inners.{IsVertex, inner_if, inner_only, fan_most, fan_least}
 
 column_once : (i k : ℕ) (w : Way) → column i w ≡ column k w → i ≡ k
 column_once i k south e = e

@@ -1,9 +1,8 @@
 -- Laws of runs laid end to end.
 use Rattle.std.proofs.Common.{◌≡◌, ℕ, zero, suc, ◌+◌, ◌-◌, ◌<◌, ◌≤◌, sym, ◌∙◌, ap, subst, inl, inr, arith}
-use Rattle.std.specs.Prelude.{nat_lt}
 use Rattle.std.proofs.lemmas.Bool.{cases_eq, cond_both, cond-true, cond-false, ltb-true, ltb-false, lt-ltb, le-ltb}
-use Rattle.def_math.specs.Counts.{count_below}
-use Rattle.def_math.specs.Runs.{run_at}
+use Rattle.std.specs.Prelude.{nat_lt}
+use Rattle.def_math.specs.{Counts.count_below, Runs.run_at}
 
 -- Counts rise with the bound.
 pub count_rises : (f : ℕ → ℕ) (a b : ℕ) → a ≤ b → count_below f a ≤ count_below f b

@@ -1,49 +1,34 @@
 -- The new mesh has the shape of the old one, and the old one doubles no edge.
 use Rattle.std.proofs.Common.{◌≡◌, ◌≢◌, ℕ, ◌<◌, ◌≤◌, Bool, true, false, cond, not, ◌&&◌, Some, refl, sym, ◌∙◌, ap}
 use Rattle.std.proofs.Common.{subst, arith}
-use Rattle.std.specs.Prelude.{◌==◌}
 use Rattle.std.proofs.lemmas.Bool.{false≢true}
-use Rattle.def_mesh.specs.Faces.{Faces}
-use Rattle.def_mesh.specs.Darts.{darts, from_of, to_of, twin_of}
-use Rattle.def_mesh.specs.Manifold.{IsManifold}
-use Rattle.def_mesh.specs.Vertices.{faces_at, vertex_count}
-use Rattle.def_mesh.specs.Kinds.{is_inner, is_regular, kind_of}
-use Rattle.def_mesh.specs.HalfEdges.{IsQuadManifold, half_edges}
-use Rattle.def_mesh.specs.declared.Kind.{Kind}
-use Rattle.def_mesh.specs.declared.Kind.TheVariants.{Regular, Singular, Corner, Reflex}
+use Rattle.std.specs.Prelude.{◌==◌}
+use Rattle.def_mesh.specs.{Faces.Faces, Darts.darts, Darts.from_of, Darts.to_of, Darts.twin_of, Manifold.IsManifold}
+use Rattle.def_mesh.specs.{Vertices.faces_at, Vertices.vertex_count, Kinds.is_inner, Kinds.is_regular, Kinds.kind_of}
+use Rattle.def_mesh.specs.{HalfEdges.IsQuadManifold, HalfEdges.half_edges, declared.Kind.Kind}
+use Rattle.def_mesh.specs.declared.Kind.TheVariants.{Regular, Singular}
+use Rattle.def_mesh.specs.declared.Kind.TheVariants.{Corner, Reflex}
 use Rattle.def_layout.specs.Layouts.{Layout, Slot, IsSlot, use_of, start_node}
-use Rattle.def_layout.specs.Surfaces.{HasWholeSides, IsSurface}
-use Rattle.def_layout.specs.Fans.{HasFans}
-use Rattle.def_layout.specs.Lengths.{Lengths, AreLengths}
-use Rattle.def_layout.specs.Cells.{CellDart, IsDart, next, slot_dart}
+use Rattle.def_layout.specs.{Surfaces.HasWholeSides, Surfaces.IsSurface, Fans.HasFans, Lengths.Lengths}
+use Rattle.def_layout.specs.{Lengths.AreLengths, Cells.CellDart, Cells.IsDart, Cells.next, Cells.slot_dart}
 use Rattle.def_layout.specs.Embeddings.{IsEmbedding}
 use Rattle.def_written.specs.Points.{Point, node, along, inside, IsPoint}
-use Rattle.def_written.specs.Numbers.{vertex_number, vertices}
-use Rattle.def_written.specs.NewFaces.{dart_start, dart_end, new_faces}
-use Rattle.def_written.specs.Edges.{Edge, IsEdge, edge_start, edge_end, IsUndoubled}
-use Rattle.def_written.specs.Shape.{IsKeptNode, KeepsShape}
-use Rattle.def_written.specs.Laws.{LiesInMesh, LaidLaw, NumbersLaw, NewManifoldLaw, KeepsShapeLaw, ThreeLaw}
-use Rattle.def_written.specs.Laws.{MultipleLaw}
-use Rattle.mesh_laws.proofs.HalfEdges.{manifold_law}
-use Rattle.mesh_laws.proofs.Vertices.{count_least}
-use Rattle.written_laws.proofs.Sides.{use_some, use_begins}
-use Rattle.written_laws.proofs.Numbers.{number_low, number_same}
-use Rattle.written_laws.proofs.Borders.{at_is, at_from, from_is}
-use Rattle.written_laws.proofs.NewDarts.{dart_number, next_is, at_number, number_from}
-use Rattle.written_laws.proofs.Courses.{course, start_at, end_at, course_of, course_from, course_to, IsAcross}
-use Rattle.written_laws.proofs.Simple.{IsSimple}
-use Rattle.written_laws.proofs.Manifold.{manifold}
-use Rattle.written_laws.proofs.EdgeDarts.{edge_dart}
-use Rattle.written_laws.proofs.EdgeNumbers.{point_onto}
-use Rattle.written_laws.proofs.Undoubled.{simple_from, undoubled_from}
-use Rattle.written_laws.proofs.Doubling.{scale, lengths_scale, simple_three, simple_multiple}
-use Rattle.written_laws.proofs.Models.{IsModel, used_dart, point_dart, new_model}
-use Rattle.written_laws.proofs.ModelCounts.{euler_is}
-use Rattle.written_laws.proofs.Inners.{IsVertex, vertex_from}
-use Rattle.written_laws.proofs.Regulars.{inside_regular, along_regular}
-use Rattle.written_laws.proofs.NodeKinds.{node_faces, node_inner}
-use Rattle.written_laws.proofs.Sided.{starts}
-use Rattle.written_laws.proofs.OldModel.{old_laid, old_model, old_fans, twin_is_across}
+use Rattle.def_written.specs.{Numbers.vertex_number, Numbers.vertices, NewFaces.dart_start, NewFaces.dart_end}
+use Rattle.def_written.specs.{NewFaces.new_faces, Edges.Edge, Edges.IsEdge, Edges.edge_start, Edges.edge_end}
+use Rattle.def_written.specs.{Edges.IsUndoubled, Shape.IsKeptNode, Shape.KeepsShape, Laws.LiesInMesh, Laws.LaidLaw}
+use Rattle.def_written.specs.Laws.{NumbersLaw, NewManifoldLaw, KeepsShapeLaw, ThreeLaw, MultipleLaw}
+use Rattle.mesh_laws.proofs.{HalfEdges.manifold_law, Vertices.count_least}
+use Rattle.written_laws.proofs.{Sides.use_some, Sides.use_begins, Numbers.number_low, Numbers.number_same}
+use Rattle.written_laws.proofs.{Borders.at_is, Borders.at_from, Borders.from_is, NewDarts.dart_number, NewDarts.next_is}
+use Rattle.written_laws.proofs.{NewDarts.at_number, NewDarts.number_from, Courses.course, Courses.start_at}
+use Rattle.written_laws.proofs.Courses.{end_at, course_of, course_from, course_to}
+use Rattle.written_laws.proofs.{Courses.IsAcross, Simple.IsSimple, Manifold.manifold, EdgeDarts.edge_dart}
+use Rattle.written_laws.proofs.{EdgeNumbers.point_onto, Undoubled.simple_from, Undoubled.undoubled_from, Doubling.scale}
+use Rattle.written_laws.proofs.{Doubling.lengths_scale, Doubling.simple_three, Doubling.simple_multiple, Models.IsModel}
+use Rattle.written_laws.proofs.{Models.used_dart, Models.point_dart, Models.new_model, ModelCounts.euler_is}
+use Rattle.written_laws.proofs.{Inners.IsVertex, Inners.vertex_from, Regulars.inside_regular, Regulars.along_regular}
+use Rattle.written_laws.proofs.{NodeKinds.node_faces, NodeKinds.node_inner, Sided.starts, OldModel.old_laid}
+use Rattle.written_laws.proofs.OldModel.{old_model, old_fans, twin_is_across}
 
 module _ (faces : Faces) (man : IsManifold faces) (l : Layout) (x : Lengths) (paved : HasWholeSides l)
     (len : AreLengths l x)

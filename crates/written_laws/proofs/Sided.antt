@@ -10,12 +10,8 @@ use Rattle.def_layout.specs.Lengths.{Lengths, reach, size, AreLengths}
 use Rattle.def_layout.specs.Cells.{CellDart, IsDart, dart, next, prev, dart_along, slot_dart}
 use Rattle.def_layout.specs.Embeddings.{IsEmbedding}
 use Rattle.def_written.specs.NewFaces.{column, row}
-use Rattle.written_laws.proofs.Sides.{slot, use_some, last_reach}
-use Rattle.written_laws.proofs.Turning.{IsTurning}
-use Rattle.written_laws.proofs.Rims.{corner_next}
-use Rattle.written_laws.proofs.Borders.{at_is, before_is}
-use Rattle.written_laws.proofs.Fans.{before_related}
-use Rattle.written_laws.proofs.Spots.{rim_slot}
+use Rattle.written_laws.proofs.{Sides.slot, Sides.use_some, Sides.last_reach, Turning.IsTurning, Rims.corner_next}
+use Rattle.written_laws.proofs.{Borders.at_is, Borders.before_is, Fans.before_related, Spots.rim_slot}
 
 module _ (m : HalfEdges) (laws : IsQuadManifold m) (l : Layout) (x : Lengths) (paved : HasWholeSides l)
     (len : AreLengths l x)

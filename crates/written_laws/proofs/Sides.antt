@@ -1,13 +1,12 @@
 -- The points on a side of a patch.
 use Rattle.std.proofs.Common.{◌≡◌, ℕ, suc, ◌+◌, ◌-◌, ◌<◌, ◌≤◌, Bool, true, false, cond, refl, sym, ◌∙◌, ap, inl, inr}
 use Rattle.std.proofs.Common.{arith}
-use Rattle.std.specs.Prelude.{◌==◌}
 use Rattle.std.proofs.lemmas.Bool.{cases_eq, cases_lt, cond-true, cond-false, eq-eqb, ne_eqb}
-use Rattle.def_layout.specs.declared.tmesh.SideArc.{SideArc}
-use Rattle.def_layout.specs.Layouts.{Way, south, east, north, west, side_after, Layout, Slot, IsSlot, use_of}
-use Rattle.def_layout.specs.Layouts.{start_node, end_node}
-use Rattle.def_layout.specs.Surfaces.{HasWholeSides, IsSurface}
-use Rattle.def_layout.specs.Lengths.{Lengths, reach, size, AreLengths}
+use Rattle.std.specs.Prelude.{◌==◌}
+use Rattle.def_layout.specs.{declared.tmesh.SideArc.SideArc, Layouts.Way, Layouts.south, Layouts.east, Layouts.north}
+use Rattle.def_layout.specs.Layouts.{west, side_after, Layout, Slot, IsSlot}
+use Rattle.def_layout.specs.{Layouts.use_of, Layouts.start_node, Layouts.end_node, Surfaces.HasWholeSides}
+use Rattle.def_layout.specs.{Surfaces.IsSurface, Lengths.Lengths, Lengths.reach, Lengths.size, Lengths.AreLengths}
 use Rattle.def_written.specs.Points.{node, along, arc_point, use_point, use_over, offset_at, side_point}
 use Rattle.written_laws.proofs.Runs.{count_rises, run_here, run_last, run_place, IsInRun}
 

@@ -1,7 +1,6 @@
 -- Meshes in which no edge is doubled, and what two points then tell of an edge between them.
 use Rattle.std.proofs.Common.{◌≡◌, ◌≢◌, Bool, true, false, not, refl, sym, ◌∙◌, ap}
-use Rattle.def_layout.specs.Layouts.{Layout}
-use Rattle.def_layout.specs.Lengths.{Lengths}
+use Rattle.def_layout.specs.{Layouts.Layout, Lengths.Lengths}
 use Rattle.def_written.specs.Edges.{Edge, IsEdge, edge_start, edge_end}
 use Rattle.written_laws.proofs.Courses.{Course, course, start_at, end_at}
 

@@ -30,10 +30,8 @@ use Rattle.std.specs.Prelude.{◌==◌}
 use Rattle.std.proofs.Math.Nat.{div-lt_iff_lt-mul, le-div_iff_mul-le, mod-lt, mul_comm}
 use Rattle.std.proofs.lemmas.Bool.{cases_eq, cond_both, cond-true, cond-false, eq-eqb, eqb-false, eqb-true, ne_eqb}
 use Rattle.std.proofs.lemmas.Nat.{div-mul-add, mul-le}
-use Rattle.def_math.specs.Counts.{count_below}
-use Rattle.def_math.specs.Runs.{run_at}
-use Rattle.def_layout.specs.Layouts.{Layout}
-use Rattle.def_layout.specs.Lengths.{Lengths, AreLengths}
+use Rattle.def_math.specs.{Counts.count_below, Runs.run_at}
+use Rattle.def_layout.specs.{Layouts.Layout, Lengths.Lengths, Lengths.AreLengths}
 use Rattle.def_written.specs.Laws.{EvenSpacingLaw, SharedLaw}
 use Rattle.def_written.specs.Places.{even, ONE, Step}
 use Rattle.def_written.specs.Spacings.{counted, edge_begin, inner_step, shared, shared_parameter, shared_step}

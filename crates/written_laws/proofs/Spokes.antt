@@ -3,14 +3,11 @@ use Rattle.std.proofs.Common.{◌≡◌, ◌≢◌, ◌⊎◌, ℕ, ◌+◌, ◌
 use Rattle.std.proofs.Common.{inl, inr, arith}
 use Rattle.std.specs.Prelude.{◌==◌}
 use Rattle.def_layout.specs.Layouts.{Way, south, east, north, west, Layout}
-use Rattle.def_layout.specs.Surfaces.{IsSurface}
-use Rattle.def_layout.specs.Lengths.{Lengths, wide, high, AreLengths}
+use Rattle.def_layout.specs.{Surfaces.IsSurface, Lengths.Lengths, Lengths.wide, Lengths.high, Lengths.AreLengths}
 use Rattle.def_written.specs.Points.{Point, node, along, inside, arc_point, use_over, offset_at, point}
 use Rattle.def_written.specs.Edges.{Edge, on_arc, flat, steep, IsEdge, edge_start, edge_end}
-use Rattle.written_laws.proofs.Sides.{IsOn, place_on}
-use Rattle.written_laws.proofs.Grid.{point_inside}
-use Rattle.written_laws.proofs.Rims.{IsInner, IsBorder, border_point, on_rim}
-use Rattle.written_laws.proofs.Borders.{use_not_inside}
+use Rattle.written_laws.proofs.{Sides.IsOn, Sides.place_on, Grid.point_inside, Rims.IsInner, Rims.IsBorder}
+use Rattle.written_laws.proofs.{Rims.border_point, Rims.on_rim, Borders.use_not_inside}
 
 -- All lengths are at least 2, no arc of length 2 has equal ends, and no two points of a patch that is 2 wide or high
 -- are the same across it.

@@ -5,15 +5,12 @@ use Rattle.def_layout.specs.Layouts.{Way, south, east, north, west, side_after, 
 use Rattle.def_layout.specs.Surfaces.{HasWholeSides, IsSurface}
 use Rattle.def_layout.specs.Lengths.{Lengths, reach, size, wide, high, AreLengths}
 use Rattle.def_layout.specs.Cells.{CellDart, IsDart, dart, next, dart_along, slot_dart}
-use Rattle.def_written.specs.Points.{point}
-use Rattle.def_written.specs.NewFaces.{column, row}
-use Rattle.written_laws.proofs.Runs.{place_same}
-use Rattle.written_laws.proofs.Sides.{slot, long_at, side_in}
-use Rattle.written_laws.proofs.Grid.{wide_some, high_some}
-use Rattle.written_laws.proofs.Rims.{column_of, row_of, side_column, side_row, border_point, rim_is, rim_column}
-use Rattle.written_laws.proofs.Rims.{rim_row, rim_next_column, rim_next_row, rim_patch, rim_way}
-use Rattle.written_laws.proofs.Borders.{at_low, at_is, IsAt}
-use Rattle.written_laws.proofs.NewDarts.{next_is}
+use Rattle.def_written.specs.{Points.point, NewFaces.column, NewFaces.row}
+use Rattle.written_laws.proofs.{Runs.place_same, Sides.slot, Sides.long_at, Sides.side_in, Grid.wide_some}
+use Rattle.written_laws.proofs.{Grid.high_some, Rims.column_of, Rims.row_of, Rims.side_column, Rims.side_row}
+use Rattle.written_laws.proofs.Rims.{border_point, rim_is, rim_column, rim_row, rim_next_column}
+use Rattle.written_laws.proofs.{Rims.rim_next_row, Rims.rim_patch, Rims.rim_way, Borders.at_low, Borders.at_is}
+use Rattle.written_laws.proofs.{Borders.IsAt, NewDarts.next_is}
 
 no_turn : (s : Way) → s ≢ side_after s
 no_turn south e = cc

@@ -1,15 +1,11 @@
 -- No edge is doubled exactly where edges are told by their ends.
 use Rattle.std.proofs.Common.{◌≡◌, ◌≢◌, ◌⊎◌, ℕ, refl, sym, ◌∙◌, ap, inl, inr, arith}
 use Rattle.std.proofs.lemmas.Bool.{cases_eq, cases_lt}
-use Rattle.def_layout.specs.Layouts.{Layout}
-use Rattle.def_layout.specs.Surfaces.{IsSurface}
-use Rattle.def_layout.specs.Lengths.{Lengths, AreLengths}
+use Rattle.def_layout.specs.{Layouts.Layout, Surfaces.IsSurface, Lengths.Lengths, Lengths.AreLengths}
 use Rattle.def_written.specs.Numbers.{vertex_number}
 use Rattle.def_written.specs.Edges.{Edge, on_arc, flat, steep, IsEdge, edge_start, edge_end, HasEnds, HasLoop, HasPair}
 use Rattle.def_written.specs.Edges.{IsUndoubled}
-use Rattle.written_laws.proofs.Numbers.{number_same}
-use Rattle.written_laws.proofs.Simple.{IsSimple}
-use Rattle.written_laws.proofs.EdgeDarts.{edge_points}
+use Rattle.written_laws.proofs.{Numbers.number_same, Simple.IsSimple, EdgeDarts.edge_points}
 
 -- Two edges are one or two.
 pub cases_edge : (e f : Edge) → (e ≡ f) ⊎ (e ≢ f)

@@ -1,6 +1,5 @@
-use Rattle.std.proofs.Common.{◌≡◌, ℕ, length, ap, subst, inl, inr, arith}
-use Rattle.std.proofs.lemmas.Bool.{cases_lt}
-use Rattle.std.proofs.lemmas.List.{length-map}
+use Rattle.std.proofs.Common.{◌≡◌, ℕ, length, ap, subst, inl, inr}
+use Rattle.std.proofs.{Common.arith, lemmas.Bool.cases_lt, lemmas.List.length-map}
 use Rattle.def_cut.specs.Grids.{rectangle}
 use Rattle.def_layout.specs.Plans.{layout_of, Plan}
 use Rattle.def_remesh.specs.NewPoints.{lengths_in}

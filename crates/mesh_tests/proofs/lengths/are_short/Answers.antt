@@ -1,5 +1,4 @@
-use Rattle.std.proofs.Common.{ℕ, length, inl, inr, arith}
-use Rattle.std.proofs.lemmas.Bool.{cases_lt}
+use Rattle.std.proofs.{Common.ℕ, Common.length, Common.inl, Common.inr, Common.arith, lemmas.Bool.cases_lt}
 use Rattle.std.proofs.lemmas.List.{get_or_past}
 use Rattle.mesh_tests.proofs.lengths.are_short.Goals as goal
 

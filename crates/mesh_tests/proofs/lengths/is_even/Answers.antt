@@ -1,5 +1,4 @@
-use Rattle.std.proofs.Common.{refl, sym, ◌∙◌}
-use Rattle.std.proofs.lemmas.Bool.{eqb-true}
+use Rattle.std.proofs.{Common.refl, Common.sym, Common.◌∙◌, lemmas.Bool.eqb-true}
 use Rattle.def_layout.specs.Layouts.{south, east, north, west}
 use Rattle.mesh_tests.proofs.lengths.is_even.Goals as goal
 

@@ -1,9 +1,7 @@
 use Rattle.std.proofs.Common.{length, sym, ◌∙◌, ap, subst, arith}
 use Rattle.std.proofs.lemmas.List.{length-map}
 use Rattle.def_cut.specs.Grids.{rectangle}
-use Rattle.def_layout.specs.Arcs.{path}
-use Rattle.def_layout.specs.Lengths.{size}
-use Rattle.def_layout.specs.Plans.{layout_of, Plan}
+use Rattle.def_layout.specs.{Arcs.path, Lengths.size, Plans.layout_of, Plans.Plan}
 use Rattle.def_layoutnet.specs.MeshLayouts.{IsSomeLayout}
 use Rattle.def_remesh.specs.NewPoints.{lengths_in}
 use Rattle.mesh_tests.proofs.lengths.sum_on.Goals as goal

@@ -1,8 +1,6 @@
 use Rattle.std.proofs.Common.{subst}
 use Rattle.def_layout.specs.Plans.{layout_of, plan, Plan}
-use Rattle.def_remesh.specs.NewPoints.{lengths_in}
-use Rattle.def_remesh.specs.Remeshed.{AreDoubled}
-use Rattle.def_remesh.specs.Stitched.{IsUnstitched}
+use Rattle.def_remesh.specs.{NewPoints.lengths_in, Remeshed.AreDoubled, Stitched.IsUnstitched}
 use Rattle.mesh_tests.proofs.rising.risen_text.Goals as goal
 
 pub rises_over-requires-clause-doubled : goal.rises_over-requires-clause-doubled

@@ -1,8 +1,5 @@
-use Rattle.std.proofs.Common.{length, sym, ◌∙◌, ap, subst}
-use Rattle.std.proofs.lemmas.List.{length-map}
-use Rattle.def_layout.specs.Arcs.{path}
-use Rattle.def_layout.specs.Lengths.{AreLengths}
-use Rattle.def_layout.specs.Plans.{layout_of, Plan}
+use Rattle.std.proofs.{Common.length, Common.sym, Common.◌∙◌, Common.ap, Common.subst, lemmas.List.length-map}
+use Rattle.def_layout.specs.{Arcs.path, Lengths.AreLengths, Plans.layout_of, Plans.Plan}
 use Rattle.def_layoutnet.specs.MeshLayouts.{IsSomeLayout}
 use Rattle.def_remesh.specs.NewPoints.{lengths_in}
 use Rattle.mesh_tests.proofs.stitched.stitched_text.Goals as goal

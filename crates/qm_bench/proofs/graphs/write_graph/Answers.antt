@@ -1,7 +1,5 @@
 use Rattle.std.proofs.Common.{length, ap, ◌∙◌, sym, rules}
-use Rattle.def_flow.specs.Admissible.{AreNetLengths}
-use Rattle.def_flow.specs.Gadget.{lows, caps}
-use Rattle.def_flow.specs.Network.{network}
+use Rattle.def_flow.specs.{Admissible.AreNetLengths, Gadget.lows, Gadget.caps, Network.network}
 use Rattle.qm_solve.proofs.Rounds.{own_inside}
 use Rattle.qm_bench.proofs.graphs.write_graph.Goals as goal
 

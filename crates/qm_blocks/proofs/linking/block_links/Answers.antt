@@ -1,8 +1,7 @@
 use Rattle.std.proofs.Common.{◌≡◌, ◌++◌, [], refl, ◌∙◌, arith, rules}
 use Rattle.std.proofs.lemmas.List.{length-map}
 use Rattle.def_cut.specs.Grids.{rectangle}
-use Rattle.def_layout.specs.Layouts.{south, east, north, west}
-use Rattle.def_layout.specs.Plans.{plan}
+use Rattle.def_layout.specs.{Layouts.south, Layouts.east, Layouts.north, Layouts.west, Plans.plan}
 use Rattle.def_remesh.specs.NewPoints.{lengths_in}
 use Rattle.qm_blocks.specs.Spots.{links_on}
 use Rattle.qm_blocks.proofs.Measures.{arcs_low, side_small}

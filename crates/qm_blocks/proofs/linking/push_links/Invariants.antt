@@ -1,8 +1,7 @@
 use Rattle.std.proofs.Common.{◌≡◌, ◌++◌, map}
 use Rattle.std.specs.List.{range_with_len}
 use Rattle.def_math.specs.Counts.{count_below}
-use Rattle.def_remesh.specs.NewPoints.{lengths_in}
-use Rattle.def_remesh.specs.Numberings.{sizes_on}
+use Rattle.def_remesh.specs.{NewPoints.lengths_in, Numberings.sizes_on}
 use Rattle.qm_blocks.specs.Spots.{link_on}
 use Rattle.qm_blocks.proofs.linking.push_links.Given as goal
 

@@ -1,6 +1,5 @@
 use Rattle.std.proofs.Common.{refl}
-use Rattle.def_layout.specs.Layouts.{south, east, north, west}
-use Rattle.def_layout.specs.Plans.{layout_of, plan}
+use Rattle.def_layout.specs.{Layouts.south, Layouts.east, Layouts.north, Layouts.west, Plans.layout_of, Plans.plan}
 use Rattle.def_remesh.specs.NewPoints.{lengths_in}
 use Rattle.qm_blocks.proofs.Tables.{block_put, both_put}
 use Rattle.qm_blocks.proofs.spots.put_block.Goals as goal

@@ -1,13 +1,10 @@
-use Rattle.std.proofs.Common.{◌≡◌, ◌∙◌, ap, sym, arith}
-use Rattle.std.proofs.lemmas.List.{length-map}
+use Rattle.std.proofs.{Common.◌≡◌, Common.◌∙◌, Common.ap, Common.sym, Common.arith, lemmas.List.length-map}
 use Rattle.def_cut.specs.Grids.{rectangle}
-use Rattle.def_layout.specs.Layouts.{Way}
-use Rattle.def_layout.specs.Plans.{plan, way_number}
+use Rattle.def_layout.specs.{Layouts.Way, Plans.plan, Plans.way_number}
 use Rattle.def_remesh.specs.NewPoints.{lengths_in}
 use Rattle.qm_offsets.specs.Fours.{arcs_on}
 use Rattle.qm_offsets.proofs.Whole.{way_for}
-use Rattle.qm_blocks.proofs.Measures.{arcs_low, patches_few, side_small}
-use Rattle.qm_blocks.proofs.Tables.{side_put}
+use Rattle.qm_blocks.proofs.{Measures.arcs_low, Measures.patches_few, Measures.side_small, Tables.side_put}
 use Rattle.qm_blocks.proofs.spots.put_side.Goals as goal
 
 pub put_uses-requires-clause-low : goal.put_uses-requires-clause-low

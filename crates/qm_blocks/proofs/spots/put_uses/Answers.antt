@@ -1,9 +1,7 @@
 use Rattle.std.proofs.Common.{◌≡◌, ◌+◌, ◌<◌, true, Some, length, ap, sym, ◌∙◌, subst, arith}
 use Rattle.std.specs.Prelude.{slice_set}
-use Rattle.def_remesh.specs.NewPoints.{lengths_in}
-use Rattle.def_remesh.specs.Numberings.{sizes_on, used_at}
-use Rattle.qm_offsets.proofs.Spots.{count_step, term_room}
-use Rattle.qm_offsets.proofs.Whole.{read_size, read_used}
+use Rattle.def_remesh.specs.{NewPoints.lengths_in, Numberings.sizes_on, Numberings.used_at}
+use Rattle.qm_offsets.proofs.{Spots.count_step, Spots.term_room, Whole.read_size, Whole.read_used}
 use Rattle.qm_blocks.specs.Spots.{key_of, HasUses}
 use Rattle.qm_blocks.proofs.Tables.{key_low, use_more}
 use Rattle.qm_blocks.proofs.spots.put_uses.Goals as goal

@@ -1,7 +1,6 @@
 use Rattle.std.proofs.Common.{◌≡◌}
 use Rattle.def_math.specs.Counts.{count_below}
-use Rattle.def_remesh.specs.NewPoints.{lengths_in}
-use Rattle.def_remesh.specs.Numberings.{sizes_on}
+use Rattle.def_remesh.specs.{NewPoints.lengths_in, Numberings.sizes_on}
 use Rattle.qm_blocks.specs.Spots.{HasUses}
 use Rattle.qm_blocks.proofs.spots.put_uses.Given as goal
 

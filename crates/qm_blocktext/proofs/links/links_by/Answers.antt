@@ -3,9 +3,7 @@ use Rattle.std.proofs.Common.{◌≤◌, ◌*◌, ℕ, List, length, map, ◌∙
 use Rattle.std.proofs.lemmas.List.{length-map}
 use Rattle.def_blocks.specs.Links.{AreLinks}
 use Rattle.def_flow.specs.declared.limits.TheConstants.{MAX_LENGTH}
-use Rattle.def_layout.specs.Arcs.{path, Path}
-use Rattle.def_layout.specs.Lengths.{Lengths}
-use Rattle.def_layout.specs.Plans.{layout_of, Plan}
+use Rattle.def_layout.specs.{Arcs.path, Arcs.Path, Lengths.Lengths, Plans.layout_of, Plans.Plan}
 use Rattle.def_layoutnet.specs.MeshLayouts.{IsSomeLayout}
 use Rattle.def_remesh.specs.NewPoints.{lengths_in}
 use Rattle.qm_blocktext.proofs.links.links_by.Goals as goal

@@ -1,8 +1,7 @@
 use Rattle.std.proofs.Common.{◌≡◌, ◌+◌, ℕ, map, subst, arith}
 use Rattle.std.specs.List.{flat_map, range_with_len}
 use Rattle.def_blocks.specs.BlockTexts.{row_text}
-use Rattle.qm_output.proofs.Prefixes.{of_error}
-use Rattle.qm_output.proofs.Lists.{stops_at_number, takes_number}
+use Rattle.qm_output.proofs.{Prefixes.of_error, Lists.stops_at_number, Lists.takes_number}
 use Rattle.qm_blocktext.specs.Gridded.{height_in, row_in}
 use Rattle.qm_blocktext.proofs.points.put_points.Goals as goal
 

@@ -1,11 +1,9 @@
 use Rattle.std.proofs.Common.{◌≡◌, ◌+◌, ℕ, map, ◌∙◌, subst, arith}
 use Rattle.std.specs.List.{flat_map, range_with_len}
 use Rattle.def_blocks.specs.BlockTexts.{point_line}
-use Rattle.def_remesh.specs.NewPoints.{lengths_in}
-use Rattle.def_remesh.specs.NewSoup.{spaced_place}
+use Rattle.def_remesh.specs.{NewPoints.lengths_in, NewSoup.spaced_place}
 use Rattle.def_text.specs.Types.{Position}
-use Rattle.qm_output.proofs.Prefixes.{of_error}
-use Rattle.qm_output.proofs.Lists.{stops_at_number, takes_number}
+use Rattle.qm_output.proofs.{Prefixes.of_error, Lists.stops_at_number, Lists.takes_number}
 use Rattle.qm_blocktext.specs.Gridded.{place_in, width_in}
 use Rattle.qm_blocktext.proofs.points.put_row.Goals as goal
 

@@ -3,16 +3,12 @@ use Rattle.std.proofs.Common.{◌≡◌, ◌<◌, ℕ, List, [], Vec, Global, le
 use Rattle.std.proofs.lemmas.List.{get_or-map}
 use Rattle.std.proofs.lemmas.Result.{on_err_weaker, on_ok_weaker}
 use Rattle.def_blocks.specs.declared.link.Link.{Link}
-use Rattle.def_cuttext.specs.GridsText.{arcs_around}
+use Rattle.def_cuttext.specs.GridsText.{arcs_around, links_text}
 use Rattle.def_io.specs.Bytes.{Bytes}
-use Rattle.def_layout.specs.Plans.{plan}
-use Rattle.def_layout.specs.declared.tmesh.Side.{Side}
-use Rattle.def_layout.specs.declared.tmesh.TMesh.{TMesh}
-use Rattle.def_remesh.specs.CutSoups.{CutSoup}
-use Rattle.def_remesh.specs.Placings.{IsMeshLayout}
+use Rattle.def_layout.specs.{Plans.plan, declared.tmesh.Side.Side, declared.tmesh.TMesh.TMesh}
+use Rattle.def_remesh.specs.{CutSoups.CutSoup, Placings.IsMeshLayout}
 use Rattle.qm_output.proofs.Prefixes.{of_error}
 use Rattle.qm_blocktext.specs.Gridded.{arcs_of, links_in, points_in, size_in}
-use Rattle.def_cuttext.specs.GridsText.{links_text}
 use Rattle.qm_blocktext.specs.declared.blocks.Blocks.{Blocks}
 use Rattle.qm_blocktext.proofs.Rounds.{arcs_round, sides_low}
 use Rattle.qm_blocktext.proofs.text.put_block.Goals as goal

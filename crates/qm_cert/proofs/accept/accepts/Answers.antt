@@ -1,6 +1,5 @@
 use Rattle.std.proofs.Common.{◌≡◌, Some, None, sym, ◌∙◌, ap}
-use Rattle.def_flow.specs.Network.{network}
-use Rattle.def_flow.specs.Accepted.{certificate}
+use Rattle.def_flow.specs.{Network.network, Accepted.certificate}
 use Rattle.qm_cert.specs.Faults.{list_verdict}
 use Rattle.qm_cert.proofs.Checked.{no_fault, exact_accepted, accepted_where_exact, least_where_exact, faulty, faultless}
 use Rattle.qm_cert.proofs.accept.accepts.Goals as goal

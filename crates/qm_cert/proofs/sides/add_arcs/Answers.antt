@@ -1,8 +1,7 @@
 use Rattle.std.proofs.Common.{◌≡◌, ◌<◌, slice_index_or, None, false, ◌∙◌, ap, subst, length, slice_index, arith}
 use Rattle.std.proofs.lemmas.List.{get_or_default}
 use Rattle.def_math.specs.Tables.{IsRaised}
-use Rattle.def_flow.specs.Network.{arc_at}
-use Rattle.def_flow.specs.declared.net.Arc.{Arc}
+use Rattle.def_flow.specs.{Network.arc_at, declared.net.Arc.Arc}
 use Rattle.qm_cert.specs.Sides.{arc_put}
 use Rattle.qm_cert.proofs.SideSums.{sides_low, sides_more}
 use Rattle.qm_cert.proofs.sides.add_arcs.Goals as goal

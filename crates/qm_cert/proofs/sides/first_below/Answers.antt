@@ -1,8 +1,7 @@
 use Rattle.std.proofs.Common.{◌≡◌, ◌<◌, true, sym, length, slice_index, nat_lt, lt-ltb, ◌∙◌, ap, arith}
 use Rattle.std.proofs.lemmas.List.{get_or_default}
 use Rattle.qm_dual.proofs.Searches.{least_none, least_some}
-use Rattle.def_flow.specs.Network.{arc_at}
-use Rattle.def_flow.specs.declared.net.Arc.{Arc}
+use Rattle.def_flow.specs.{Network.arc_at, declared.net.Arc.Arc}
 use Rattle.qm_cert.proofs.sides.first_below.Goals as goal
 
 pub returns-then-entry-from-clause-least : goal.returns-then-entry-from-clause-least

@@ -1,6 +1,5 @@
 use Rattle.std.proofs.Common.{◌≡◌, ◌++◌, drop, map}
-use Rattle.def_certtext.specs.CertLines.{text_of}
-use Rattle.def_certtext.specs.declared.CertLine.TheVariants.{Length}
+use Rattle.def_certtext.specs.{CertLines.text_of, declared.CertLine.TheVariants.Length}
 use Rattle.qm_certtext.proofs.cert.push_lengths.Given as goal
 
 abbrev pub invariant-loop-n : goal.invariant-loop-n

@@ -1,6 +1,5 @@
 use Rattle.std.proofs.Common.{◌≡◌, ◌++◌, drop}
-use Rattle.def_certtext.specs.CertLines.{dual_lines, text_of}
-use Rattle.def_certtext.specs.declared.CertLine.TheVariants.{Vertex}
+use Rattle.def_certtext.specs.{CertLines.dual_lines, CertLines.text_of, declared.CertLine.TheVariants.Vertex}
 use Rattle.qm_certtext.proofs.cert.push_vertices.Given as goal
 
 abbrev pub invariant-loop-i : goal.invariant-loop-i

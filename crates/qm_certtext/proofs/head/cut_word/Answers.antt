@@ -1,6 +1,5 @@
 use Rattle.qm_certtext.proofs.Cutting.{behind_is, not_stripped, stripped, word_bare}
-use Rattle.std.proofs.Common.{◌++◌, sym, ◌∙◌, ap₂}
-use Rattle.std.proofs.lemmas.List.{take-append-drop}
+use Rattle.std.proofs.{Common.◌++◌, Common.sym, Common.◌∙◌, Common.ap₂, lemmas.List.take-append-drop}
 use Rattle.qm_certtext.proofs.head.cut_word.Goals as goal
 
 pub returns-in-Some : goal.returns-in-Some

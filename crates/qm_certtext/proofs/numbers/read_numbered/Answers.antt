@@ -1,10 +1,8 @@
-use Rattle.std.proofs.Common.{◌≡◌, ◌++◌, ◌∷◌, ℤ, true, arith, sym, subst, length}
-use Rattle.std.specs.Prelude.{decimal}
-use Rattle.std.proofs.lemmas.Bool.{eqb-true}
-use Rattle.std.proofs.lemmas.Int.{ints}
+use Rattle.std.proofs.Common.{◌≡◌, ◌++◌, ◌∷◌, ℤ, true, arith, sym}
+use Rattle.std.proofs.{Common.subst, Common.length, lemmas.Bool.eqb-true, lemmas.Int.ints}
+use Rattle.std.specs.{Prelude.decimal, Fmt.signed_decimal}
 use mir.Syntax.{w64}
 use mir.Val.{of_z, to_z}
-use Rattle.std.specs.Fmt.{signed_decimal}
 use Rattle.def_certtext.specs.Reading.{is_small}
 use Rattle.qm_certtext.proofs.Counts.{both_read, no_behind, no_number, no_up, some_behind}
 use Rattle.qm_certtext.proofs.numbers.read_numbered.Goals as goal

@@ -1,8 +1,7 @@
 use Rattle.std.proofs.Common.{◌≡◌, ◌+◌, ◌-◌, ℕ, take, sym, ◌∙◌, ap, subst, arith}
 use Rattle.std.proofs.lemmas.List.{take_all}
 use Rattle.error_laws.proofs.Errors.{handed}
-use Rattle.def_io.specs.Bytes.{Lines}
-use Rattle.def_io.specs.Lines.{lines_of, tail_of}
+use Rattle.def_io.specs.{Bytes.Lines, Lines.lines_of, Lines.tail_of}
 use Rattle.qm_certtext.specs.Parts.{IsLineFail, ReadSome}
 use Rattle.qm_certtext.proofs.Marks.{behind_fail, read_next, read_none}
 use Rattle.qm_io.proofs.Cuts.{cut_behind, cut_ended, cut_is, cut_there, whole_tail}

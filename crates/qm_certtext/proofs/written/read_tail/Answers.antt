@@ -1,9 +1,7 @@
 use Rattle.std.proofs.Common.{◌≡◌, ◌+◌, ℕ, [], slice_index_or, ap, arith, subst}
 use Rattle.std.proofs.lemmas.Result.{IfErr-weaker}
-use Rattle.def_certtext.specs.HeadLine.{head_line}
-use Rattle.def_certtext.specs.Reading.{IsCertFail, IsHead}
-use Rattle.def_io.specs.Bytes.{Bytes, Lines}
-use Rattle.def_io.specs.Lines.{lines_of}
+use Rattle.def_certtext.specs.{HeadLine.head_line, Reading.IsCertFail, Reading.IsHead}
+use Rattle.def_io.specs.{Bytes.Bytes, Bytes.Lines, Lines.lines_of}
 use Rattle.qm_certtext.proofs.Tails.{text_fails}
 use Rattle.qm_certtext.proofs.written.read_tail.Goals as goal
 

@@ -1,5 +1,4 @@
-use Rattle.std.proofs.Common.{arith}
-use Rattle.std.proofs.lemmas.Result.{IfErr-weaker, IfOk-weaker}
+use Rattle.std.proofs.{Common.arith, lemmas.Result.IfErr-weaker, lemmas.Result.IfOk-weaker}
 use Rattle.def_certtext.specs.Reading.{made_of}
 use Rattle.qm_certtext.proofs.Tails.{few_lines, tail_fails, tail_tells}
 use Rattle.qm_certtext.proofs.written.read_written.Goals as goal

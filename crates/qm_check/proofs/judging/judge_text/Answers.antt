@@ -1,20 +1,15 @@
 use Rattle.std.proofs.Common.{◌≡◌, ◌≤◌, List, Bool, Option, length, ap, refl, sym, ◌∙◌, subst}
 use Rattle.error_laws.proofs.Errors.{handed}
-use Rattle.def_certtext.specs.CertLines.{certificates_of, used}
-use Rattle.def_certtext.specs.Reading.{made_of}
+use Rattle.def_certtext.specs.{CertLines.certificates_of, CertLines.used, Reading.made_of}
 use Rattle.def_fit.specs.FitTasks.{kept_text}
 use Rattle.def_io.specs.Bytes.{Bytes}
 use Rattle.def_remesh.specs.NewPoints.{lengths_in}
 use Rattle.def_text.specs.declared.limits.TheConstants.{MAX_BYTES}
-use Rattle.qm_check.proofs.Fronts.{tail_few}
-use Rattle.qm_check.proofs.Reach.{made_reach}
-use Rattle.qm_check.proofs.Verdicts.{asked_range, finishes, net_is, other, tells_nothing, unused}
-use Rattle.qm_check.specs.Checked.{IsDifference}
-use Rattle.qm_check.specs.Judged.{judged_by, IsTextFail}
-use Rattle.qm_check.specs.Ready.{marks_of}
-use Rattle.qm_write.specs.Framing.{framed_text}
-use Rattle.qm_write.specs.declared.text.Framed.{Framed}
+use Rattle.qm_check.proofs.{Fronts.tail_few, Reach.made_reach, Verdicts.asked_range, Verdicts.finishes, Verdicts.net_is}
+use Rattle.qm_check.proofs.Verdicts.{other, tells_nothing, unused}
 use Rattle.qm_check.proofs.judging.judge_text.Goals.{In_ok-between}
+use Rattle.qm_check.specs.{Checked.IsDifference, Judged.judged_by, Judged.IsTextFail, Ready.marks_of}
+use Rattle.qm_write.specs.{Framing.framed_text, declared.text.Framed.Framed}
 use Rattle.qm_check.proofs.judging.judge_text.Goals as goal
 
 pub read_certificates-requires-clause-range : goal.read_certificates-requires-clause-range

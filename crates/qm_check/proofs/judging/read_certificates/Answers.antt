@@ -1,11 +1,9 @@
 use Rattle.std.proofs.Common.{◌≡◌, ◌+◌, ℕ, Bool, drop, length, refl, ap, subst, arith}
 use Rattle.std.proofs.lemmas.List.{length-drop}
-use Rattle.def_certtext.specs.HeadLine.{head_line}
-use Rattle.def_certtext.specs.Reading.{made_of, IsCertFail, IsHead, TellHow}
+use Rattle.def_certtext.specs.{HeadLine.head_line, Reading.made_of, Reading.IsCertFail, Reading.IsHead, Reading.TellHow}
 use Rattle.def_certtext.specs.declared.CertFail.TheVariants as fails
 use Rattle.def_flow.specs.declared.net.Settings.{Settings}
-use Rattle.def_io.specs.Bytes.{Bytes, Lines}
-use Rattle.def_io.specs.Lines.{lines_of}
+use Rattle.def_io.specs.{Bytes.Bytes, Bytes.Lines, Lines.lines_of}
 use Rattle.qm_io.proofs.Cuts.{lines_few}
 use Rattle.qm_check.proofs.judging.read_certificates.Goals as goal
 

@@ -1,5 +1,4 @@
-use Rattle.def_flow.specs.Accepted.{certificate, IsAccepted}
-use Rattle.def_flow.specs.Network.{network}
+use Rattle.def_flow.specs.{Accepted.certificate, Accepted.IsAccepted, Network.network}
 use Rattle.qm_check.proofs.lengths.accepted_deviation.Goals as goal
 
 pub returns-in-Yes-clause-solved : goal.returns-in-Yes-clause-solved

@@ -1,20 +1,15 @@
 use Rattle.std.proofs.Common.{List, Bool, ℕ, Option, refl, sym, ◌∙◌, ap, subst}
 use Rattle.error_laws.proofs.Errors.{handed}
-use Rattle.def_fit.specs.Aims.{aimed, fit_settings, AreAimedNear}
-use Rattle.def_fit.specs.Shares.{shares_of}
+use Rattle.def_fit.specs.{Aims.aimed, Aims.fit_settings, Aims.AreAimedNear, Shares.shares_of}
 use Rattle.def_flow.specs.Network.{network}
 use Rattle.def_layout.specs.Plans.{plan}
 use Rattle.def_mesh.specs.Faces.{Faces}
 use Rattle.def_patches.specs.Chosen.{IsChosenLayout}
-use Rattle.def_remesh.specs.CutSoups.{CutSoup}
-use Rattle.def_remesh.specs.Keeping.{IsNetFor}
+use Rattle.def_remesh.specs.{CutSoups.CutSoup, Keeping.IsNetFor}
 use Rattle.qm_asides.specs.Beside.{asides_of}
-use Rattle.qm_check.proofs.Points.{point_of}
-use Rattle.qm_check.proofs.Tasks.{aside_unmade, cut_by, laid_for, net_unmade, only_for, task, IsCutBy}
-use Rattle.qm_check.specs.Least.{HasNoNet}
-use Rattle.qm_check.specs.Making.{IsUnmade}
-use Rattle.qm_check.specs.Ready.{IsOld}
-use Rattle.qm_check.proofs.making.ready_for.Goals.{After-new-cut}
+use Rattle.qm_check.proofs.{Points.point_of, Tasks.aside_unmade, Tasks.cut_by, Tasks.laid_for, Tasks.net_unmade}
+use Rattle.qm_check.proofs.{Tasks.only_for, Tasks.task, Tasks.IsCutBy, making.ready_for.Goals.After-new-cut}
+use Rattle.qm_check.specs.{Least.HasNoNet, Making.IsUnmade, Ready.IsOld}
 use Rattle.qm_check.proofs.making.ready_for.Goals as goal
 
 -- The mesh is cut as the command asks.

@@ -2,14 +2,12 @@ use Rattle.std.proofs.Common.{◌≡◌, Some, sym, subst, arith}
 use Rattle.std.proofs.lemmas.Result.{IfErr-weaker, IfOk-weaker}
 use Rattle.error_laws.proofs.Errors.{handed}
 use Rattle.def_io.specs.Bytes.{Bytes}
-use Rattle.def_run.specs.MapFails.{IsMapFail}
-use Rattle.def_run.specs.MarkLines.{front_of, IsMarkLine}
+use Rattle.def_run.specs.{MapFails.IsMapFail, MarkLines.front_of, MarkLines.IsMarkLine}
 use Rattle.def_run.specs.declared.command.Command.{Command}
 use Rattle.qm_check.proofs.Maps.{found, text_fails, unmade_fails}
-use Rattle.qm_check.specs.Least.{least_of, IsLeastLine}
-use Rattle.qm_check.specs.Making.{IsGivenTo, IsReadyFor, IsUnmade}
-use Rattle.qm_check.specs.Ready.{IsOld}
 use Rattle.qm_check.proofs.map.judge_least.Goals.{After-head_line, In_ok-ready}
+use Rattle.qm_check.specs.{Least.least_of, Least.IsLeastLine, Making.IsGivenTo, Making.IsReadyFor, Making.IsUnmade}
+use Rattle.qm_check.specs.Ready.{IsOld}
 use Rattle.qm_check.proofs.map.judge_least.Goals as goal
 
 -- The line is that of a command to which the bytes are given.

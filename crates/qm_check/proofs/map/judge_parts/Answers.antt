@@ -1,9 +1,7 @@
-use Rattle.std.proofs.Common.{sym, ◌∙◌, subst}
-use Rattle.std.proofs.lemmas.Option.{none-some, same_Some}
+use Rattle.std.proofs.{Common.sym, Common.◌∙◌, Common.subst, lemmas.Option.none-some, lemmas.Option.same_Some}
 use Rattle.error_laws.proofs.Errors.{handed}
 use Rattle.def_io.specs.Bytes.{Bytes}
-use Rattle.def_run.specs.MapFails.{IsMapFail}
-use Rattle.def_run.specs.MarkLines.{IsMarkLine}
+use Rattle.def_run.specs.{MapFails.IsMapFail, MarkLines.IsMarkLine}
 use Rattle.qm_check.proofs.Maps.{no_command, no_front}
 use Rattle.qm_check.specs.Ready.{IsNoOld, IsOld}
 use Rattle.qm_check.proofs.map.judge_parts.Goals as goal

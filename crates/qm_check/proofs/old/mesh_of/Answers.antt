@@ -1,8 +1,6 @@
 use Rattle.std.proofs.Common.{◌≡◌, Ok, Err, ap, sym, subst}
-use Rattle.def_mesh.specs.Faults.{IsFirstFault}
-use Rattle.def_mesh.specs.Manifold.{IsManifold}
-use Rattle.def_text.specs.FaceSet.{FaceSet}
-use Rattle.def_text.specs.Text.{soup_in}
+use Rattle.def_mesh.specs.{Faults.IsFirstFault, Manifold.IsManifold}
+use Rattle.def_text.specs.{FaceSet.FaceSet, Text.soup_in}
 use Rattle.qm_check.specs.Ready.{IsOld}
 use Rattle.qm_check.proofs.old.mesh_of.Goals as goal
 

@@ -2,18 +2,12 @@ use Rattle.std.proofs.Common.{◌≡◌, Some, sym, ◌∙◌, ap, subst}
 use Rattle.std.proofs.lemmas.Option.{none-some, same_Some}
 use Rattle.error_laws.proofs.Errors.{handed}
 use Rattle.def_fit.specs.declared.fit.Fit.{Fit as AnyFit}
-use Rattle.def_io.specs.Bytes.{Bytes}
-use Rattle.def_io.specs.Lines.{tail_of}
-use Rattle.def_run.specs.MapFails.{IsMapFail}
-use Rattle.def_run.specs.MarkLines.{front_of, IsMarkLine}
-use Rattle.def_run.specs.declared.command.Command.{Command}
-use Rattle.def_run.specs.declared.command.Command.TheVariants.{Fit}
-use Rattle.qm_check.proofs.Fits.{counted_fit, few_found, only_fit}
-use Rattle.qm_check.proofs.Maps.{no_command, no_front}
-use Rattle.qm_check.specs.Least.{fixed, least_of}
-use Rattle.qm_check.specs.Making.{IsFound, IsGivenTo}
-use Rattle.qm_check.specs.Ready.{IsNoOld, IsOld}
+use Rattle.def_io.specs.{Bytes.Bytes, Lines.tail_of}
+use Rattle.def_run.specs.{MapFails.IsMapFail, MarkLines.front_of, MarkLines.IsMarkLine}
+use Rattle.def_run.specs.{declared.command.Command.Command, declared.command.Command.TheVariants.Fit}
+use Rattle.qm_check.proofs.{Fits.counted_fit, Fits.few_found, Fits.only_fit, Maps.no_command, Maps.no_front}
 use Rattle.qm_check.proofs.pair.check_fit.Goals.{In-Some, In_ok-finished}
+use Rattle.qm_check.specs.{Least.fixed, Least.least_of, Making.IsFound, Making.IsGivenTo, Ready.IsNoOld, Ready.IsOld}
 use Rattle.qm_check.proofs.pair.check_fit.Goals as goal
 
 pub returns-in_err-old-clause-refused : goal.returns-in_err-old-clause-refused

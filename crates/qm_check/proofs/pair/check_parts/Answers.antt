@@ -3,12 +3,11 @@ use Rattle.error_laws.proofs.Errors.{handed}
 use Rattle.def_certtext.specs.Reading.{IsHead}
 use Rattle.def_flow.specs.declared.net.Settings.{Settings}
 use Rattle.def_io.specs.Bytes.{Bytes}
-use Rattle.def_run.specs.CheckFails.{IsPairFail}
+use Rattle.def_run.specs.{CheckFails.IsPairFail, declared.command.Command.TheVariants.Remesh}
 use Rattle.qm_check.proofs.Points.{remesh_line}
 use Rattle.qm_check.proofs.Pairs.{counted, few_arcs, no_head, no_old, text_fails, unmade_fails, IsAskedAt}
-use Rattle.def_run.specs.declared.command.Command.TheVariants.{Remesh}
-use Rattle.qm_check.specs.Making.{IsReadyFor}
 use Rattle.qm_check.proofs.pair.check_parts.Goals.{In_ok-ready, In-Some}
+use Rattle.qm_check.specs.Making.{IsReadyFor}
 use Rattle.qm_check.proofs.pair.check_parts.Goals as goal
 
 -- The line behind the old text asks for a remesh.

@@ -1,7 +1,5 @@
-use Rattle.std.proofs.Common.{◌≡◌, length, ap, ◌∙◌, arith}
-use Rattle.std.proofs.lemmas.List.{length-map}
-use Rattle.def_layout.specs.Arcs.{path}
-use Rattle.def_layout.specs.Plans.{plan, Plan}
+use Rattle.std.proofs.{Common.◌≡◌, Common.length, Common.ap, Common.◌∙◌, Common.arith, lemmas.List.length-map}
+use Rattle.def_layout.specs.{Arcs.path, Plans.plan, Plans.Plan}
 use Rattle.def_remesh.specs.CutSoups.{CutSoup}
 use Rattle.qm_check.proofs.pair.told_of.Goals.{After-len}
 use Rattle.qm_check.proofs.pair.told_of.Goals as goal

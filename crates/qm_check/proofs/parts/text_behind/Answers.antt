@@ -1,6 +1,5 @@
 use Rattle.std.proofs.Common.{drop, ap, sym, ◌∙◌}
-use Rattle.def_io.specs.Bytes.{Bytes, Lines}
-use Rattle.def_io.specs.Lines.{lines_of}
+use Rattle.def_io.specs.{Bytes.Bytes, Bytes.Lines, Lines.lines_of}
 use Rattle.remesh_laws.proofs.Tails.{tail_behind}
 use Rattle.qm_check.proofs.parts.text_behind.Goals as goal
 

@@ -1,5 +1,4 @@
-use Rattle.std.proofs.Common.{ℕ, ◌+◌, sym, ◌∙◌, subst}
-use Rattle.std.proofs.lemmas.Bool.{false≢true}
+use Rattle.std.proofs.{Common.ℕ, Common.◌+◌, Common.sym, Common.◌∙◌, Common.subst, lemmas.Bool.false≢true}
 use Rattle.def_io.specs.Bytes.{Bytes}
 use Rattle.def_remesh.specs.Refined.{refined_text}
 use Rattle.def_run.specs.Judging.{DifferFrom}

@@ -2,22 +2,14 @@ use Rattle.std.proofs.Common.{◌≤◌, length, sym, ap, ◌∙◌, subst}
 use Rattle.error_laws.proofs.Errors.{handed}
 use Rattle.def_cut.specs.Traced.{traced_marks}
 use Rattle.def_io.specs.Bytes.{Bytes}
-use Rattle.def_layout.specs.Arcs.{long_at}
-use Rattle.def_layout.specs.FaceLayouts.{IsCutLayout}
-use Rattle.def_layout.specs.Plans.{plan, Plan}
+use Rattle.def_layout.specs.{Arcs.long_at, FaceLayouts.IsCutLayout, Plans.plan, Plans.Plan}
 use Rattle.def_mesh.specs.Faces.{Faces}
-use Rattle.def_remesh.specs.CutSoups.{CutSoup}
-use Rattle.def_remesh.specs.NewPoints.{multiple_of}
-use Rattle.def_remesh.specs.Refined.{refined_text}
-use Rattle.def_run.specs.MapFails.{IsMapFail}
-use Rattle.def_run.specs.Remesh.{IsTracedLayout}
-use Rattle.def_run.specs.declared.command.Command.TheVariants.{Refine}
+use Rattle.def_remesh.specs.{CutSoups.CutSoup, NewPoints.multiple_of, Refined.refined_text}
+use Rattle.def_run.specs.{MapFails.IsMapFail, Remesh.IsTracedLayout, declared.command.Command.TheVariants.Refine}
 use Rattle.def_text.specs.declared.limits.TheConstants.{MAX_BYTES}
-use Rattle.qm_check.proofs.Fronts.{tail_few}
-use Rattle.qm_check.proofs.Maps.{no_points, other_refined, refined_mapped}
-use Rattle.qm_check.specs.Checked.{IsDifference}
-use Rattle.qm_check.specs.Making.{IsGivenTo}
+use Rattle.qm_check.proofs.{Fronts.tail_few, Maps.no_points, Maps.other_refined, Maps.refined_mapped}
 use Rattle.qm_check.proofs.refined.judge_refined.Goals.{After-new}
+use Rattle.qm_check.specs.{Checked.IsDifference, Making.IsGivenTo}
 use Rattle.qm_check.proofs.refined.judge_refined.Goals as goal
 
 -- The mesh that is cut is the one that is given, and the layout is that of its motorcycle graph.

@@ -1,8 +1,6 @@
 use Rattle.std.proofs.Common.{arith, subst}
-use Rattle.def_layout.specs.Arcs.{long_at}
-use Rattle.def_layout.specs.Plans.{layout_of}
-use Rattle.def_remesh.specs.NewPoints.{multiple_of}
-use Rattle.def_remesh.specs.Stitched.{IsUnstitched}
+use Rattle.def_layout.specs.{Arcs.long_at, Plans.layout_of}
+use Rattle.def_remesh.specs.{NewPoints.multiple_of, Stitched.IsUnstitched}
 use Rattle.qm_check.proofs.refined.points_by.Goals as goal
 
 pub returns-in-Ok-clause-refined : goal.returns-in-Ok-clause-refined

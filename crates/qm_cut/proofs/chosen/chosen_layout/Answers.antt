@@ -1,5 +1,4 @@
-use Rattle.std.proofs.Common.{option_copied}
-use Rattle.std.proofs.lemmas.Result.{IfOk-weaker}
+use Rattle.std.proofs.{Common.option_copied, lemmas.Result.IfOk-weaker}
 use Rattle.patch_laws.proofs.Chosen.{chosen_cut_law}
 use Rattle.qm_cut.proofs.chosen.chosen_layout.Goals as goal
 

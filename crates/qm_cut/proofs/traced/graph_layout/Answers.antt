@@ -1,7 +1,5 @@
-use Rattle.std.proofs.Common.{◌≡◌, refl, subst}
-use Rattle.std.proofs.lemmas.Result.{IfOk-weaker}
-use Rattle.def_layout.specs.FaceLayouts.{IsCutLayout}
-use Rattle.def_layout.specs.Plans.{plan}
+use Rattle.std.proofs.{Common.◌≡◌, Common.refl, Common.subst, lemmas.Result.IfOk-weaker}
+use Rattle.def_layout.specs.{FaceLayouts.IsCutLayout, Plans.plan}
 use Rattle.def_written.specs.Laws.{AreQuads}
 use Rattle.def_layoutnet.specs.MeshLayouts.{IsSomeLayout}
 use Rattle.qm_cut.proofs.traced.graph_layout.Goals as goal

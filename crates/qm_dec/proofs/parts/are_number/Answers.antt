@@ -1,5 +1,4 @@
-use Rattle.std.proofs.Common.{sym, ◌∙◌, arith}
-use Rattle.std.proofs.lemmas.Bool.{and_left}
+use Rattle.std.proofs.{Common.sym, Common.◌∙◌, Common.arith, lemmas.Bool.and_left}
 use Rattle.qm_dec.proofs.Forms.{number_both, both_of_first}
 use Rattle.qm_dec.proofs.parts.are_number.Goals as goal
 

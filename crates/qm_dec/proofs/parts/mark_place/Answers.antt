@@ -1,5 +1,4 @@
-use Rattle.std.proofs.Common.{length, arith, sym}
-use Rattle.std.proofs.lemmas.List.Sums.{position_or_len_is}
+use Rattle.std.proofs.{Common.length, Common.arith, Common.sym, lemmas.List.Sums.position_or_len_is}
 use Rattle.def_text.specs.Decimal.{is_mark}
 use Rattle.qm_dec.proofs.parts.mark_place.Goals as goal
 

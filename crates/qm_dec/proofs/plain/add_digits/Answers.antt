@@ -1,9 +1,7 @@
 use Rattle.std.proofs.Common.{◌+◌, ◌*◌, arith, sym, ◌∙◌, ap}
+use Rattle.std.proofs.{lemmas.List.Folds.list_all_more, lemmas.Bool.and_from}
 use Rattle.std.specs.Char.{is_ascii_digit}
-use Rattle.std.proofs.lemmas.List.Folds.{list_all_more}
-use Rattle.std.proofs.lemmas.Bool.{and_from}
-use Rattle.qm_dec.proofs.Digits.{after_more}
-use Rattle.qm_dec.proofs.FewDigits.{after_room}
+use Rattle.qm_dec.proofs.{Digits.after_more, FewDigits.after_room}
 use Rattle.qm_dec.proofs.plain.add_digits.Goals as goal
 
 pub overflow_mul-value : goal.overflow_mul-value

@@ -1,7 +1,5 @@
 use Rattle.std.proofs.Common.{◌≡◌, ◌-◌, map, take, true}
-use Rattle.std.specs.Char.{is_ascii_digit}
-use Rattle.std.specs.Int.Digits.{number_from_digits_after}
-use Rattle.std.specs.List.{list_all}
+use Rattle.std.specs.{Char.is_ascii_digit, Int.Digits.number_from_digits_after, List.list_all}
 use Rattle.qm_dec.proofs.plain.add_digits.Given as goal
 
 -- the digits so far

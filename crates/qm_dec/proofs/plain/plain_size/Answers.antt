@@ -1,5 +1,4 @@
-use Rattle.std.proofs.Common.{arith, sym}
-use Rattle.std.proofs.lemmas.Bool.{eqb-true}
+use Rattle.std.proofs.{Common.arith, Common.sym, lemmas.Bool.eqb-true}
 use Rattle.qm_dec.specs.Sizes.{IsSize}
 use Rattle.qm_dec.proofs.Forms.{some_from}
 use Rattle.qm_dec.proofs.FewDigits.{prefix_is, prefix_small, pointed_size, some_weaker, whole_size}

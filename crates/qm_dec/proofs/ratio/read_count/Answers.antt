@@ -1,7 +1,6 @@
-use Rattle.std.proofs.Common.{◌≡◌, ap, sym, ◌∙◌, arith, min}
+use Rattle.std.proofs.{Common.◌≡◌, Common.ap, Common.sym, Common.◌∙◌, Common.arith, Common.min, lemmas.Bool.false≢true}
 use Rattle.std.specs.Prelude.{decimal}
 use Rattle.qm_dec.proofs.Ratios.{not_printed, printed_read}
-use Rattle.std.proofs.lemmas.Bool.{false≢true}
 use Rattle.qm_dec.proofs.ratio.read_count.Goals as goal
 
 pub returns-then-not-are_digits : goal.returns-then-not-are_digits

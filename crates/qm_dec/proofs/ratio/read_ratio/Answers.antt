@@ -1,8 +1,7 @@
 use Rattle.std.proofs.Common.{◌≡◌, ℕ, ◌<◌, List, take, drop, length, eqb, ap, sym, ◌∙◌, arith}
-use Rattle.std.specs.List.{position_or_len}
 use Rattle.std.proofs.lemmas.Bool.{eqb-true}
-use Rattle.qm_dec.proofs.Forms.{some_from}
-use Rattle.qm_dec.proofs.Ratios.{above_is, below_is, joined}
+use Rattle.std.specs.List.{position_or_len}
+use Rattle.qm_dec.proofs.{Forms.some_from, Ratios.above_is, Ratios.below_is, Ratios.joined}
 use Rattle.qm_dec.proofs.ratio.read_ratio.Goals as goal
 
 pub returns-then-is_empty : goal.returns-then-is_empty

@@ -1,7 +1,6 @@
 use Rattle.std.proofs.Common.{◌≡◌, ℕ, ◌+◌, min, ℤ, pos, neg_ℤ, ◌+ℤ◌, ◌-ℤ◌, true, ◌++◌, drop, length, length-append, ap}
 use Rattle.std.proofs.Common.{sym, ◌∙◌, arith}
-use Rattle.std.specs.Char.{is_ascii_digit}
-use Rattle.std.specs.List.{list_all}
+use Rattle.std.specs.{Char.is_ascii_digit, List.list_all}
 use Rattle.def_text.specs.Decimal.{power, scaled}
 use Rattle.def_text.specs.Digits.{is_negative, is_number, number_written, unsigned}
 use Rattle.qm_dec.specs.Sizes.{clamped}

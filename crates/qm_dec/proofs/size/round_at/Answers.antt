@@ -1,7 +1,6 @@
 use Rattle.std.proofs.Common.{ap, sym, ◌+◌, ◌-◌, ◌++◌, length, length-append, arith}
 use Rattle.qm_dec.specs.Sizes.{clamped}
-use Rattle.qm_dec.proofs.Digits.{digits_both}
-use Rattle.qm_dec.proofs.Scaling.{cut_below, cut_above, cut_zero}
+use Rattle.qm_dec.proofs.{Digits.digits_both, Scaling.cut_below, Scaling.cut_above, Scaling.cut_zero}
 use Rattle.qm_dec.proofs.size.round_at.Goals as goal
 
 pub returns-then-last-count : goal.returns-then-last-count

@@ -1,10 +1,7 @@
 use Rattle.std.proofs.Common.{ℤ, ap, sym, ◌∙◌, ◌*◌, ◌-◌, ◌^◌, ◌++◌}
-use Rattle.def_text.specs.Decimal.{scaled}
-use Rattle.def_text.specs.Digits.{number_written}
+use Rattle.def_text.specs.{Decimal.scaled, Digits.number_written}
 use Rattle.qm_dec.specs.Sizes.{clamped}
-use Rattle.qm_dec.proofs.Clamps.{clamp_scaled, ten_power}
-use Rattle.qm_dec.proofs.Digits.{two_parts}
-use Rattle.qm_dec.proofs.Scaling.{difference_up}
+use Rattle.qm_dec.proofs.{Clamps.clamp_scaled, Clamps.ten_power, Digits.two_parts, Scaling.difference_up}
 use Rattle.qm_dec.proofs.size.size_of.Goals as goal
 
 pub returns-then-down-up : goal.returns-then-down-up

@@ -2,9 +2,8 @@ use Rattle.std.proofs.Common.{◌≡◌, ◌<◌, not, length, None, Some, slice
 use Rattle.std.proofs.Common.{refl, arith}
 use Rattle.std.proofs.lemmas.List.{get_or_read}
 use Rattle.def_math.specs.Searches.{least}
-use Rattle.def_matching.specs.Matching.{graph}
-use Rattle.def_matching.specs.Dual.{dual, even_fault, negative_fault, is_odd_size, set_size}
-use Rattle.def_matching.specs.declared.weighted.Verdict.TheVariants.{Even}
+use Rattle.def_matching.specs.{Matching.graph, Dual.dual, Dual.even_fault, Dual.negative_fault, Dual.is_odd_size}
+use Rattle.def_matching.specs.{Dual.set_size, declared.weighted.Verdict.TheVariants.Even}
 use Rattle.qm_dual.specs.Nest.{AreSizes}
 use Rattle.qm_dual.proofs.Verdicts.{even_by_sizes, shaped_verdict}
 use Rattle.qm_dual.proofs.check.check_sets.Goals as goal

@@ -1,5 +1,4 @@
-use Rattle.def_matching.specs.Matching.{graph}
-use Rattle.def_matching.specs.Dual.{dual}
+use Rattle.def_matching.specs.{Matching.graph, Dual.dual}
 use Rattle.qm_dual.proofs.Verdicts.{bound_where_exact}
 use Rattle.qm_dual.proofs.check.dual_ok.Goals as goal
 

@@ -1,12 +1,9 @@
 use Rattle.std.proofs.Common.{◌≡◌, ◌^◌, ◌<◌, length, ℤ, pos, ◌*ℤ◌, slice_index_or, ◌∙◌, ap, FitsSigned, below_more}
-use Rattle.std.proofs.Common.{rules, arith}
-use Rattle.std.proofs.lemmas.Int.{ints, to_z-of_z}
+use Rattle.std.proofs.{Common.rules, Common.arith, lemmas.Int.ints, lemmas.Int.to_z-of_z}
 use mir.Syntax.{w64, w128}
 use mir.Val.{to_z, of_z}
 use lib.Signed.{mag}
-use Rattle.def_matching.specs.declared.weighted.WEdge.{WEdge}
-use Rattle.def_matching.specs.Matching.{graph, edge_at}
-use Rattle.def_matching.specs.Dual.{dual, load}
+use Rattle.def_matching.specs.{declared.weighted.WEdge.WEdge, Matching.graph, Matching.edge_at, Dual.dual, Dual.load}
 use Rattle.qm_dual.proofs.Verdicts.{short_found, none_short}
 use Rattle.qm_dual.proofs.loads.check_loads.Goals as goal
 

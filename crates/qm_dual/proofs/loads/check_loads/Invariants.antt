@@ -1,6 +1,5 @@
 use Rattle.std.proofs.Common.{◌≡◌, ℕ, ◌<◌, false, pos, ◌*ℤ◌, int_lt}
-use Rattle.def_matching.specs.Matching.{graph, edge_at}
-use Rattle.def_matching.specs.Dual.{dual, load}
+use Rattle.def_matching.specs.{Matching.graph, Matching.edge_at, Dual.dual, Dual.load}
 use Rattle.qm_dual.proofs.loads.check_loads.Given as goal
 
 abbrev pub invariant-loop-k : goal.invariant-loop-k

@@ -1,6 +1,5 @@
 use Rattle.std.proofs.Common.{◌≡◌, ◌-◌, suc, length, slice_index, arith}
-use Rattle.qm_dual.proofs.OnPaths.{head_later}
-use Rattle.qm_dual.proofs.Meets.{leave_entries, leave_entries_back}
+use Rattle.qm_dual.proofs.{OnPaths.head_later, Meets.leave_entries, Meets.leave_entries_back}
 use Rattle.qm_dual.proofs.paths.leave_path.Goals as goal
 
 pub returns-then-heads-a-clause-same : goal.returns-then-heads-a-clause-same

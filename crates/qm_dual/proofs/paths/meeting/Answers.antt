@@ -1,9 +1,9 @@
 use Rattle.std.proofs.Common.{◌≡◌, ◌⊎◌, ◌-◌, length, slice_index, ◌∙◌, sym, ap, arith}
 use Rattle.qm_dual.specs.Nest.{climbs}
 use Rattle.qm_dual.proofs.Meets.{meeting_found, meeting_none}
-use Rattle.qm_dual.proofs.paths.meeting.Goals as goal
 use Rattle.qm_dual.proofs.paths.meeting.Goals.{then-loop-first-test+then-second-ne0+else-heads-first}
 use Rattle.qm_dual.proofs.paths.meeting.Goals.{then-loop-first-test+else-second-ne0, else-loop-first-test}
+use Rattle.qm_dual.proofs.paths.meeting.Goals as goal
 
 pub returns-else-second-eq0-clause-least : goal.returns-else-second-eq0-clause-least
 returns-else-second-eq0-clause-least c =

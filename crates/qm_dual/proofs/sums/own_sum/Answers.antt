@@ -1,7 +1,6 @@
-use Rattle.std.proofs.Common.{◌≡◌, ◌+◌, ◌^◌, ◌<◌, pos, ◌+ℤ◌, unsigned_abs, slice_index, slice_index_or, ◌∙◌, ap}
-use Rattle.std.proofs.Common.{add-one, arith}
-use Rattle.std.proofs.lemmas.Int.{ints}
-use Rattle.std.proofs.lemmas.List.{get_or_read}
+use Rattle.std.proofs.Common.{◌≡◌, ◌+◌, ◌^◌, ◌<◌, pos, ◌+ℤ◌, unsigned_abs}
+use Rattle.std.proofs.Common.{slice_index, slice_index_or, ◌∙◌, ap, add-one, arith}
+use Rattle.std.proofs.{lemmas.Int.ints, lemmas.List.get_or_read}
 use Rattle.def_matching.specs.Dual.{dual, z_at}
 use Rattle.qm_dual.specs.Nest.{around}
 use Rattle.qm_dual.proofs.Gathered.{around_small, around_step, named_later}

@@ -1,5 +1,4 @@
-use Rattle.std.proofs.Common.{sym, ◌∙◌, arith}
-use Rattle.std.proofs.lemmas.List.FromFn.{map-range_with_len_more}
+use Rattle.std.proofs.{Common.sym, Common.◌∙◌, Common.arith, lemmas.List.FromFn.map-range_with_len_more}
 use Rattle.def_feature.specs.Marks.{is_break}
 use Rattle.qm_feature.proofs.breaking.breaks.Goals as goal
 

@@ -1,7 +1,6 @@
 use Rattle.std.proofs.Common.{◌≡◌, false, take}
 use Rattle.std.specs.List.{list_any}
-use Rattle.def_mesh.specs.Darts.{twin_of}
-use Rattle.def_mesh.specs.Vertices.{fan_of}
+use Rattle.def_mesh.specs.{Darts.twin_of, Vertices.fan_of}
 use Rattle.def_feature.specs.Marks.{goes_through}
 use Rattle.qm_feature.proofs.breaking.is_crossed.Given as goal
 

@@ -1,6 +1,5 @@
 use Rattle.std.proofs.Common.{min, set, ap, ◌∙◌, arith}
-use Rattle.qm_feature.specs.declared.closed.TheConstants.{NONE}
-use Rattle.qm_feature.specs.Rings.{least_at, run_at}
+use Rattle.qm_feature.specs.{declared.closed.TheConstants.NONE, Rings.least_at, Rings.run_at}
 use Rattle.qm_feature.proofs.Tables.{least_more}
 use Rattle.qm_feature.proofs.closed.lower.Goals as goal
 

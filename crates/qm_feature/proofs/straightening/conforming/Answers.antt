@@ -2,12 +2,10 @@ use Rattle.std.proofs.Common.{rules, ◌≡◌, ◌<◌, ℕ, Bool, List, true, 
 use Rattle.std.proofs.lemmas.List.{with_items_is}
 use Rattle.std.proofs.lemmas.Result.{IfOk-weaker}
 use Rattle.def_mesh.specs.Darts.{darts}
-use Rattle.def_cut.specs.FullCut.{is_on}
-use Rattle.def_cut.specs.Motion.{is_among}
+use Rattle.def_cut.specs.{FullCut.is_on, Motion.is_among}
 use Rattle.def_feature.specs.Marked.{marked_starts}
-use Rattle.feature_laws.proofs.First.{origin_of}
+use Rattle.feature_laws.proofs.{First.origin_of, Led.conforms}
 use Rattle.feature_laws.specs.Leads.{AreLed}
-use Rattle.feature_laws.proofs.Led.{conforms}
 use Rattle.qm_feature.proofs.straightening.conforming.Goals as goal
 
 pub mark_starts-requires : goal.mark_starts-requires

@@ -1,5 +1,4 @@
-use Rattle.std.proofs.Common.{sym, ◌∙◌, arith}
-use Rattle.std.proofs.lemmas.List.FromFn.{map-range_with_len_more}
+use Rattle.std.proofs.{Common.sym, Common.◌∙◌, Common.arith, lemmas.List.FromFn.map-range_with_len_more}
 use Rattle.def_mesh.specs.Darts.{twin_of}
 use Rattle.feature_laws.specs.Leads.{is_led_edge}
 use Rattle.qm_feature.proofs.straightening.led_edges.Goals as goal

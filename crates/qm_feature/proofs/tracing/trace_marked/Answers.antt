@@ -1,8 +1,7 @@
 use Rattle.std.proofs.Common.{◌≡◌, ◌<◌, ℕ, Bool, List, true, ap, ◌∙◌}
 use Rattle.std.proofs.lemmas.Result.{IfOk-weaker}
 use Rattle.def_mesh.specs.Darts.{darts}
-use Rattle.def_cut.specs.FullCut.{is_on}
-use Rattle.def_cut.specs.declared.graph.Graph.{Graph}
+use Rattle.def_cut.specs.{FullCut.is_on, declared.graph.Graph.Graph}
 use Rattle.def_feature.specs.Marked.{IsMarkedGraph}
 use Rattle.feature_laws.proofs.Laws.{marked_law}
 use Rattle.qm_feature.proofs.tracing.trace_marked.Goals as goal

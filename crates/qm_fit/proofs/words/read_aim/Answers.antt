@@ -1,8 +1,6 @@
 use Rattle.std.specs.Prelude.{MatchOption}
 use Rattle.std.proofs.Common.{codes, sym, subst}
-use Rattle.def_fit.specs.Aims.{IsAim}
-use Rattle.def_fit.specs.FitWords.{IsAimWord}
-use Rattle.def_fit.specs.declared.fit.Aim.{Aim}
+use Rattle.def_fit.specs.{Aims.IsAim, FitWords.IsAimWord, declared.fit.Aim.Aim}
 use Rattle.def_text.specs.Types.{Word}
 use Rattle.qm_certtext.proofs.Cutting.{stripped}
 use Rattle.qm_fit.proofs.words.read_aim.Goals as goal

@@ -1,5 +1,4 @@
-use Rattle.std.proofs.Common.{not, ap, ◌∙◌}
-use Rattle.std.proofs.lemmas.Bool.{true≢false}
+use Rattle.std.proofs.{Common.not, Common.ap, Common.◌∙◌, lemmas.Bool.true≢false}
 use Rattle.qm_certtext.proofs.Unique.{same_settings}
 use Rattle.qm_fit.proofs.words.read_least.Goals as goal
 

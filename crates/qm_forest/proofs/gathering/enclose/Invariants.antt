@@ -1,6 +1,5 @@
 use Rattle.std.proofs.Common.{◌≡◌, get_or, length}
-use Rattle.def_forest.specs.Forests.{walk}
-use Rattle.def_forest.specs.Tables.{up_at}
+use Rattle.def_forest.specs.{Forests.walk, Tables.up_at}
 use Rattle.forest_laws.specs.Walks.{writes}
 use Rattle.qm_forest.proofs.gathering.enclose.Given as goal
 

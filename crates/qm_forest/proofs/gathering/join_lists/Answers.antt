@@ -2,8 +2,7 @@ use Rattle.std.proofs.Common.{◌≡◌, suc, ◌+◌, ◌-◌, ◌<◌, ◌∙�
 use Rattle.std.proofs.Math.ListN.{set}
 use Rattle.std.proofs.lemmas.List.{get_or_read}
 use Rattle.def_forest.specs.Forests.{walk, ring_sum}
-use Rattle.qm_forest.proofs.JoinedRows.{ring_sum_below, written_more}
-use Rattle.qm_forest.proofs.RenamedRows.{row_place}
+use Rattle.qm_forest.proofs.{JoinedRows.ring_sum_below, JoinedRows.written_more, RenamedRows.row_place}
 use Rattle.qm_forest.proofs.gathering.join_lists.Goals as goal
 
 pub index-end-requires : goal.index-end-requires

@@ -1,5 +1,4 @@
-use Rattle.std.proofs.Common.{◌≡◌, pos, ap, get_or, arith}
-use Rattle.std.proofs.lemmas.Int.{ints}
+use Rattle.std.proofs.{Common.◌≡◌, Common.pos, Common.ap, Common.get_or, Common.arith, lemmas.Int.ints}
 use Rattle.std.proofs.lemmas.List.{get_or_read}
 use Rattle.qm_forest.proofs.RenamedRows.{kept_handle, renamed_as}
 use Rattle.qm_forest.proofs.gathering.rename_to.Goals as goal

@@ -1,8 +1,6 @@
-use Rattle.std.proofs.Common.{◌≡◌, ◌≤◌, ap, arith}
+use Rattle.std.proofs.{Common.◌≡◌, Common.◌≤◌, Common.ap, Common.arith, lemmas.Int.ints}
 use Rattle.std.specs.Prelude.{unsigned_abs}
-use Rattle.std.proofs.lemmas.Int.{ints}
-use Rattle.def_matching.specs.Matching.{graph, edge_at}
-use Rattle.def_matching.specs.declared.weighted.WEdge.{WEdge}
+use Rattle.def_matching.specs.{Matching.graph, Matching.edge_at, declared.weighted.WEdge.WEdge}
 use Rattle.qm_forest.proofs.Lows.{one_more_edge}
 use Rattle.qm_forest.proofs.start.least_costs.Goals as goal
 

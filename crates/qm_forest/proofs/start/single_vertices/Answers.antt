@@ -1,10 +1,8 @@
 use Rattle.std.proofs.Common.{◌≡◌, ℕ, ◌+◌, ◌*◌, ◌/◌, length, subst, sym, ◌∙◌, ap, refl, arith, get_or, replicate, pos}
 use Rattle.std.proofs.Common.{List, ℤ, Some}
-use Rattle.def_matching.specs.Matching.{graph}
 use Rattle.std.proofs.lemmas.Int.{ints}
-use Rattle.def_forest.specs.Steps.{weight_change}
-use Rattle.def_forest.specs.Tables.{GraphSize, label_at}
-use Rattle.def_forest.specs.declared.kinds.Label.{Label}
+use Rattle.def_matching.specs.Matching.{graph}
+use Rattle.def_forest.specs.{Steps.weight_change, Tables.GraphSize, Tables.label_at, declared.kinds.Label.Label}
 use Rattle.def_forest.specs.declared.kinds.Label.TheVariants.{Outside}
 use Rattle.qm_forest.specs.Ties.{AreStarts}
 use Rattle.qm_forest.proofs.Fresh.{counted_as, fresh_tied, fresh_valid, same_everywhere}

@@ -1,5 +1,4 @@
-use Rattle.std.proofs.lemmas.List.Elements.{All-head, All-tail}
-use Rattle.std.proofs.lemmas.List.Sorted.{All-permutation}
+use Rattle.std.proofs.{lemmas.List.Elements.All-head, lemmas.List.Elements.All-tail, lemmas.List.Sorted.All-permutation}
 use Rattle.qm_fraction.specs.Tables.{IsKey}
 use Rattle.qm_fraction.proofs.search.pop.Goals as goal
 

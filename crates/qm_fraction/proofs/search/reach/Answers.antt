@@ -1,6 +1,5 @@
-use Rattle.std.proofs.Common.{◌<◌}
-use Rattle.std.proofs.lemmas.List.Elements.{All-cons, All-push, All-same}
-use Rattle.std.proofs.lemmas.List.Sorted.{All-permutation}
+use Rattle.std.proofs.{Common.◌<◌, lemmas.List.Elements.All-cons, lemmas.List.Elements.All-push}
+use Rattle.std.proofs.{lemmas.List.Elements.All-same, lemmas.List.Sorted.All-permutation}
 use Rattle.qm_fraction.specs.Tables.{IsKey}
 use Rattle.qm_fraction.proofs.search.reach.Goals as goal
 

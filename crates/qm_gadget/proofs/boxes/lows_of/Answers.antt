@@ -1,7 +1,6 @@
 use Rattle.std.proofs.Common.{◌≡◌, ◌+◌, ◌++◌, [], ◌∷◌, take, get_or, sym, ◌∙◌, ap, arith}
 use Rattle.std.proofs.lemmas.List.{get_or_default}
-use Rattle.def_flow.specs.Network.{arc_at}
-use Rattle.def_flow.specs.Units.{arcwise, low}
+use Rattle.def_flow.specs.{Network.arc_at, Units.arcwise, Units.low}
 use Rattle.qm_gadget.proofs.Arcwise.{arcwise_more}
 use Rattle.qm_gadget.proofs.boxes.lows_of.Goals as goal
 

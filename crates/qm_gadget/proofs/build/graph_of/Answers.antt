@@ -1,8 +1,6 @@
 use Rattle.std.proofs.Common.{◌≡◌, length, sym, ◌∙◌, ap, subst, arith}
-use Rattle.def_flow.specs.Network.{network}
+use Rattle.def_flow.specs.{Network.network, MatchingGraph.matching_graph, Gadget.lows}
 use Rattle.def_matching.specs.Matching.{WeightedGraph, IsCheap}
-use Rattle.def_flow.specs.MatchingGraph.{matching_graph}
-use Rattle.def_flow.specs.Gadget.{lows}
 use Rattle.qm_gadget.specs.Ready.{graph_by_lows}
 use Rattle.gadget_laws.proofs.Size.{size_law}
 use Rattle.qm_gadget.proofs.OfList.{list_ready, graph_small, graph_lawful, graph_cheap, graph_over}

@@ -1,5 +1,4 @@
-use Rattle.std.proofs.Common.{◌≡◌, slice_index, arith}
-use Rattle.std.proofs.lemmas.List.{get_or_read}
+use Rattle.std.proofs.{Common.◌≡◌, Common.slice_index, Common.arith, lemmas.List.get_or_read}
 use Rattle.qm_gadget.proofs.Rows.{copies_fit}
 use Rattle.qm_gadget.proofs.edges.push_to_copies.Goals as goal
 

@@ -1,12 +1,8 @@
 use Rattle.std.proofs.Common.{◌≡◌, ◌∙◌, ap}
-use Rattle.def_flow.specs.Network.{network}
-use Rattle.def_flow.specs.Units.{active}
+use Rattle.def_flow.specs.{Network.network, Units.active, Units.units_over}
 use Rattle.gadget_laws.specs.Told.{marks_from, states_told}
-use Rattle.qm_gadget.specs.Layout.{copies_in}
-use Rattle.def_flow.specs.Units.{units_over}
-use Rattle.qm_gadget.specs.Ready.{own_states}
-use Rattle.qm_gadget.proofs.OfList.{plan_counts}
-use Rattle.qm_gadget.proofs.Steps.{plan_few}
+use Rattle.qm_gadget.specs.{Layout.copies_in, Ready.own_states}
+use Rattle.qm_gadget.proofs.{OfList.plan_counts, Steps.plan_few}
 use Rattle.qm_gadget.proofs.lengths.lengths_over.Goals as goal
 
 pub states_in-requires-clause-few : goal.states_in-requires-clause-few

@@ -4,8 +4,7 @@ use Rattle.std.specs.Bool.{beq}
 use Rattle.def_math.specs.Counts.{count}
 use Rattle.def_flow.specs.declared.units.ArcUnit.{ArcUnit}
 use Rattle.gadget_laws.specs.Told.{marks_from, states_told}
-use Rattle.qm_gadget.specs.Layout.{copies_in}
-use Rattle.qm_gadget.specs.Read.{width_of_unit, first_below, skip_below}
+use Rattle.qm_gadget.specs.{Layout.copies_in, Read.width_of_unit, Read.first_below, Read.skip_below}
 use Rattle.qm_gadget.proofs.Reading.{increasing_skip, states_read, count_in_width, widths_step}
 use Rattle.qm_gadget.proofs.lengths.states_in.Goals as goal
 

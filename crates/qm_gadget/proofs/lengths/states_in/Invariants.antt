@@ -1,9 +1,7 @@
 use Rattle.std.proofs.Common.{◌≡◌, ◌+◌, ◌-◌, ◌≤◌, ◌++◌, length, drop}
-use Rattle.def_math.specs.Counts.{count}
-use Rattle.def_math.specs.Increasing.{IsIncreasing}
+use Rattle.def_math.specs.{Counts.count, Increasing.IsIncreasing}
 use Rattle.gadget_laws.specs.Told.{marks_from, states_told}
-use Rattle.qm_gadget.specs.Layout.{copies_in}
-use Rattle.qm_gadget.specs.Read.{width_of_unit}
+use Rattle.qm_gadget.specs.{Layout.copies_in, Read.width_of_unit}
 use Rattle.qm_gadget.proofs.lengths.states_in.Given as goal
 
 abbrev pub invariant-loop-unit : goal.invariant-loop-unit

@@ -1,8 +1,7 @@
 use Rattle.std.proofs.Common.{◌≡◌, ℕ, ◌+◌, ◌++◌, Bool, List, length, drop, slice_index, slice_index_or, false, None}
 use Rattle.std.proofs.Common.{pos, sym, ◌∙◌, ap, length-append, arith}
 use Rattle.def_math.specs.Tables.{IsRaised}
-use Rattle.def_flow.specs.declared.units.ArcUnit.{ArcUnit}
-use Rattle.def_flow.specs.Units.{active_at}
+use Rattle.def_flow.specs.{declared.units.ArcUnit.ArcUnit, Units.active_at}
 use Rattle.gadget_laws.specs.Marks.{marks_by, units_marks}
 use Rattle.qm_gadget.specs.Layout.{copies_in}
 use Rattle.qm_gadget.proofs.Numbers.{marks_step, marks_width, units_marks_step}

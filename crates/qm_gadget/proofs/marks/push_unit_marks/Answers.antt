@@ -3,8 +3,7 @@ use Rattle.std.proofs.lemmas.Result.{on_ok_weaker}
 use Rattle.def_flow.specs.Units.{is_active}
 use Rattle.gadget_laws.specs.Marks.{places, take_end}
 use Rattle.qm_gadget.specs.Layout.{copies_in}
-use Rattle.qm_gadget.proofs.Numbers.{unit_lone, unit_two}
-use Rattle.qm_gadget.proofs.NodeCounts.{right_at}
+use Rattle.qm_gadget.proofs.{Numbers.unit_lone, Numbers.unit_two, NodeCounts.right_at}
 use Rattle.qm_gadget.proofs.marks.push_unit_marks.Goals as goal
 
 pub returns-in-None-clause-marks : goal.returns-in-None-clause-marks

@@ -1,11 +1,8 @@
 use Rattle.std.proofs.Common.{◌≡◌, ◌+◌, ◌++◌, [], Bool, List, length, sym, ◌∙◌, ap, length-append, arith}
 use Rattle.def_flow.specs.MatchingGraph.{lone_vertex, first_fresh}
 use Rattle.gadget_laws.specs.Marks.{places, units_marks, rim_marks, rim_states}
-use Rattle.qm_gadget.specs.Layout.{copies_in}
-use Rattle.qm_gadget.specs.Marked.{rim_by}
-use Rattle.qm_gadget.proofs.Fans.{two_parts}
-use Rattle.qm_gadget.proofs.Numbers.{places_append}
-use Rattle.qm_gadget.proofs.Steps.{rim_states_few, rim_from_lone}
+use Rattle.qm_gadget.specs.{Layout.copies_in, Marked.rim_by}
+use Rattle.qm_gadget.proofs.{Fans.two_parts, Numbers.places_append, Steps.rim_states_few, Steps.rim_from_lone}
 use Rattle.qm_gadget.proofs.matching.marks_told.Goals as goal
 
 pub push_rim_marks-requires : goal.push_rim_marks-requires

@@ -1,9 +1,7 @@
 use Rattle.std.proofs.Common.{◌≡◌, length, sym, ◌∙◌, ap, arith}
-use Rattle.def_flow.specs.Network.{network}
-use Rattle.def_flow.specs.Units.{states_over}
+use Rattle.def_flow.specs.{Network.network, Units.states_over}
 use Rattle.gadget_laws.specs.Box.{ups}
-use Rattle.qm_gadget.proofs.ByLows.{states_long}
-use Rattle.qm_gadget.proofs.Steps.{ups_small, ups_length, plan_marks, plan_few}
+use Rattle.qm_gadget.proofs.{ByLows.states_long, Steps.ups_small, Steps.ups_length, Steps.plan_marks, Steps.plan_few}
 use Rattle.qm_gadget.proofs.matching.matching_by.Goals as goal
 
 pub ups_of-requires-clause-small : goal.ups_of-requires-clause-small

@@ -1,5 +1,4 @@
-use Rattle.std.proofs.Common.{ℕ, Vec, Global}
-use Rattle.std.proofs.lemmas.Result.{IfOk-weaker}
+use Rattle.std.proofs.{Common.ℕ, Common.Vec, Common.Global, lemmas.Result.IfOk-weaker}
 use Rattle.def_flow.specs.Network.{network}
 use Rattle.qm_gadget.proofs.Told.{gadget_ready, gadget_short, gadget_matching}
 use Rattle.qm_gadget.proofs.matching.matching_of.Goals as goal

@@ -1,5 +1,4 @@
-use Rattle.std.proofs.Common.{◌≡◌, ◌-◌, length, ◌∙◌, sym, ap}
-use Rattle.std.proofs.lemmas.List.{length-map}
+use Rattle.std.proofs.{Common.◌≡◌, Common.◌-◌, Common.length, Common.◌∙◌, Common.sym, Common.ap, lemmas.List.length-map}
 use Rattle.def_flow.specs.Network.{network}
 use Rattle.qm_gadget.proofs.ByLows.{states_long}
 use Rattle.qm_gadget.proofs.plan.plan_of.Goals as goal

@@ -1,6 +1,5 @@
 use Rattle.std.proofs.Common.{◌+◌, false, None, pos, drop, arith}
-use Rattle.def_flow.specs.declared.units.ArcUnit.{ArcUnit}
-use Rattle.def_flow.specs.Units.{rim_active}
+use Rattle.def_flow.specs.{declared.units.ArcUnit.ArcUnit, Units.rim_active}
 use Rattle.qm_gadget.proofs.NodeCounts.{rim_step, differ_parity}
 use Rattle.qm_gadget.proofs.states.is_rim_odd.Goals as goal
 

@@ -1,6 +1,5 @@
 use Rattle.std.proofs.Common.{◌++◌, ◌∙◌, sym, ap}
-use Rattle.qm_gadget.proofs.ByLows.{run_more}
-use Rattle.qm_gadget.proofs.Fans.{two_parts}
+use Rattle.qm_gadget.proofs.{ByLows.run_more, Fans.two_parts}
 use Rattle.qm_gadget.proofs.states.push_run.Goals as goal
 
 pub loop-k-preserved : goal.loop-k-preserved

@@ -1,8 +1,6 @@
 use Rattle.std.proofs.Common.{◌≡◌, ◌++◌, [], ◌∷◌, ◌∙◌, sym, ap}
-use Rattle.def_flow.specs.Network.{network}
-use Rattle.def_flow.specs.Units.{unit_at}
-use Rattle.qm_gadget.proofs.ByLows.{from_more}
-use Rattle.qm_gadget.proofs.Fans.{two_parts}
+use Rattle.def_flow.specs.{Network.network, Units.unit_at}
+use Rattle.qm_gadget.proofs.{ByLows.from_more, Fans.two_parts}
 use Rattle.qm_gadget.proofs.units.push_units_of.Goals as goal
 
 pub loop-k-preserved : goal.loop-k-preserved

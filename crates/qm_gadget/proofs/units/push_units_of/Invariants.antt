@@ -1,6 +1,5 @@
 use Rattle.std.proofs.Common.{◌≡◌, ◌++◌}
-use Rattle.def_flow.specs.Network.{network}
-use Rattle.def_flow.specs.Units.{units_from}
+use Rattle.def_flow.specs.{Network.network, Units.units_from}
 use Rattle.qm_gadget.proofs.units.push_units_of.Given as goal
 
 abbrev pub invariant-loop-k : goal.invariant-loop-k

@@ -1,6 +1,5 @@
 use Rattle.std.proofs.Common.{◌≡◌, ◌++◌, drop}
-use Rattle.def_flow.specs.Network.{network}
-use Rattle.def_flow.specs.Units.{units_over}
+use Rattle.def_flow.specs.{Network.network, Units.units_over}
 use Rattle.qm_gadget.proofs.units.units_of.Given as goal
 
 abbrev pub invariant-loop-k : goal.invariant-loop-k

@@ -1,7 +1,6 @@
 use Rattle.std.proofs.Common.{◌≡◌, ◌<◌, map}
 use Rattle.std.specs.List.{range_with_len}
-use Rattle.def_gen.specs.Steps.{block_height, state_after}
-use Rattle.def_gen.specs.declared.TheConstants.{STATES}
+use Rattle.def_gen.specs.{Steps.block_height, Steps.state_after, declared.TheConstants.STATES}
 use Rattle.qm_gen.proofs.steps.block_heights.Given as goal
 
 abbrev pub invariant-loop : goal.invariant-loop

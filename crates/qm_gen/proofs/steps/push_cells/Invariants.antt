@@ -1,6 +1,5 @@
 use Rattle.std.proofs.Common.{◌≡◌, ◌++◌, filter, map}
-use Rattle.std.specs.Prelude.{nat_lt}
-use Rattle.std.specs.List.{range_with_len}
+use Rattle.std.specs.{Prelude.nat_lt, List.range_with_len}
 use Rattle.def_gen.specs.Steps.{cell, column_height}
 use Rattle.qm_gen.proofs.steps.push_cells.Given as goal
 

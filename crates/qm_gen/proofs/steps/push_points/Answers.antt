@@ -1,5 +1,4 @@
-use Rattle.std.proofs.Common.{◌≡◌, ◌++◌, ◌∷◌, [], arith}
-use Rattle.std.proofs.lemmas.Grind.{common_steps}
+use Rattle.std.proofs.{Common.◌≡◌, Common.◌++◌, Common.◌∷◌, Common.[], Common.arith, lemmas.Grind.common_steps}
 use Rattle.def_gen.specs.Steps.{whole_point}
 use Rattle.qm_gen.proofs.Ranges.{pushed_more}
 use Rattle.qm_gen.proofs.steps.push_points.Goals as goal

@@ -3,12 +3,11 @@ use Rattle.std.proofs.Common.{◌∙◌, arith}
 use Rattle.std.proofs.lemmas.List.{map-append}
 use Rattle.def_mesh.specs.HalfEdges.{half_edges}
 use Rattle.def_cut.specs.Grids.{rectangle}
-use Rattle.qm_grid.specs.Cells.{grid_list}
-use Rattle.qm_grid.specs.Heads.{lies_in, IsHead}
+use Rattle.qm_grid.specs.{Cells.grid_list, Heads.lies_in, Heads.IsHead}
 use Rattle.qm_grid.proofs.Laid.{cells_low}
 use Rattle.qm_grid.proofs.Found.{found_skip, found_more, found_done}
-use Rattle.qm_grid.proofs.by_face.in_order.Goals as goal
 use Rattle.qm_grid.proofs.by_face.in_order.Goals.{then-not-seen-f+in_ok-patch+in_ok-push, else-not-seen-f}
+use Rattle.qm_grid.proofs.by_face.in_order.Goals as goal
 
 pub grid-requires-clause-corner : goal.grid-requires-clause-corner
 grid-requires-clause-corner c =

@@ -1,6 +1,5 @@
 use Rattle.std.proofs.Common.{◌≡◌, ap, sym, ◌∙◌, arith, false}
-use Rattle.def_mesh.specs.Darts.{next_of}
-use Rattle.def_mesh.specs.HalfEdges.{half_edges}
+use Rattle.def_mesh.specs.{Darts.next_of, HalfEdges.half_edges}
 use Rattle.def_cut.specs.FullCut.{is_on}
 use Rattle.qm_grid.proofs.Walks.{grid_listed, first_row, grid_done, grid_at, grid_inside, grid_west, grid_never}
 use Rattle.qm_grid.proofs.grid.grid.Goals as goal

@@ -1,8 +1,6 @@
 use Rattle.std.proofs.Common.{◌≡◌, ℕ, ◌<◌, true, false}
-use Rattle.def_mesh.specs.Darts.{darts, next_of, prev_of}
-use Rattle.def_mesh.specs.HalfEdges.{half_edges}
-use Rattle.def_cut.specs.FullCut.{is_on}
-use Rattle.def_cut.specs.Steps.{norths}
+use Rattle.def_mesh.specs.{Darts.darts, Darts.next_of, Darts.prev_of, HalfEdges.half_edges}
+use Rattle.def_cut.specs.{FullCut.is_on, Steps.norths}
 use Rattle.cut_laws.specs.Grown.{IsRow}
 use Rattle.qm_grid.specs.Cells.{grid_list}
 use Rattle.qm_grid.proofs.grid.grid.Given as goal

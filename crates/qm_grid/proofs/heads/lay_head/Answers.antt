@@ -1,15 +1,12 @@
 use Rattle.std.proofs.Common.{◌≡◌, ◌≢◌, ℕ, ◌<◌, ◌/◌, length, get_or, ap, sym, subst, ◌∙◌, arith, cond, List}
 use Rattle.std.proofs.lemmas.Bool.{false≢true}
 use Rattle.def_mesh.specs.HalfEdges.{half_edges}
-use Rattle.def_cut.specs.Cuts.{IsCorner}
-use Rattle.def_cut.specs.FullCut.{is_on}
-use Rattle.qm_grid.specs.Cells.{grid_list}
-use Rattle.qm_grid.specs.Heads.{lies_in}
-use Rattle.qm_grid.proofs.Laid.{cells_low}
-use Rattle.qm_grid.proofs.HeadTables.{heads_skip, heads_more}
-use Rattle.qm_grid.proofs.heads.lay_head.Goals as goal
+use Rattle.def_cut.specs.{Cuts.IsCorner, FullCut.is_on}
+use Rattle.qm_grid.specs.{Cells.grid_list, Heads.lies_in}
+use Rattle.qm_grid.proofs.{Laid.cells_low, HeadTables.heads_skip, HeadTables.heads_more}
 use Rattle.qm_grid.proofs.heads.lay_head.Goals.{then-not-is_corner-via-then-not-is_corner}
 use Rattle.qm_grid.proofs.heads.lay_head.Goals.{then-not-is_corner-via-else-not-is_corner+then-heads-d}
+use Rattle.qm_grid.proofs.heads.lay_head.Goals as goal
 
 pub returns-then-not-is_corner : goal.returns-then-not-is_corner
 returns-then-not-is_corner c =

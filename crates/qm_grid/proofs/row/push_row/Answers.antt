@@ -1,6 +1,5 @@
 use Rattle.std.proofs.Common.{◌≡◌, ap, sym, ◌∙◌, arith}
-use Rattle.def_mesh.specs.Darts.{next_of}
-use Rattle.def_mesh.specs.HalfEdges.{half_edges}
+use Rattle.def_mesh.specs.{Darts.next_of, HalfEdges.half_edges}
 use Rattle.def_cut.specs.FullCut.{is_on}
 use Rattle.qm_grid.proofs.Walks.{row_at, row_listed, row_inside, row_done, row_never}
 use Rattle.qm_grid.proofs.row.push_row.Goals as goal

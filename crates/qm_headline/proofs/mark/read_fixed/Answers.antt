@@ -1,5 +1,4 @@
-use Rattle.std.proofs.Common.{◌≡◌, Bool, sym, ◌∙◌, subst}
-use Rattle.std.proofs.lemmas.Bool.{true≢false}
+use Rattle.std.proofs.{Common.◌≡◌, Common.Bool, Common.sym, Common.◌∙◌, Common.subst, lemmas.Bool.true≢false}
 use Rattle.def_certtext.specs.Settings.{AreInRange}
 use Rattle.qm_certtext.proofs.Texts.{same_asked}
 use Rattle.qm_certtext.specs.Cuts.{asked_line}

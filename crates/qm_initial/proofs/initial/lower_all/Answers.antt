@@ -1,6 +1,5 @@
 use Rattle.std.proofs.Common.{◌<◌, List, length, get_or, pos, subst, ap}
-use Rattle.def_matching.specs.declared.weighted.WEdge.{WEdge}
-use Rattle.def_matching.specs.Matching.{graph}
+use Rattle.def_matching.specs.{declared.weighted.WEdge.WEdge, Matching.graph}
 use Rattle.qm_initial.proofs.Lowering.{more_room}
 use Rattle.qm_initial.proofs.initial.lower_all.Goals as goal
 

@@ -1,7 +1,6 @@
-use Rattle.std.proofs.Common.{◌≡◌, ◌-◌, ◌+◌, ◌==◌, ℕ, List, false, length, subst, arith}
-use Rattle.std.proofs.Math.Seq.{take-length}
+use Rattle.std.proofs.Common.{◌≡◌, ◌-◌, ◌+◌, ◌==◌, ℕ, List, false}
+use Rattle.std.proofs.{Common.length, Common.subst, Common.arith, Math.Seq.take-length, lemmas.Bool.eqb-true}
 use Rattle.std.specs.List.{list_any}
-use Rattle.std.proofs.lemmas.Bool.{eqb-true}
 use Rattle.qm_io.proofs.Pieces.{none_in_front}
 use Rattle.qm_io.proofs.ends.end_of_line.Goals as goal
 

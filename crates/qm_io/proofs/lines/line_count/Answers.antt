@@ -1,5 +1,4 @@
-use Rattle.std.proofs.Common.{length, sym, ap, ◌∙◌, arith}
-use Rattle.std.proofs.lemmas.List.{length-map}
+use Rattle.std.proofs.{Common.length, Common.sym, Common.ap, Common.◌∙◌, Common.arith, lemmas.List.length-map}
 use Rattle.def_io.specs.Lines.{pieces, line_of}
 use Rattle.qm_io.proofs.Pieces.{length-pieces, length-ends_from}
 use Rattle.qm_io.proofs.lines.line_count.Goals as goal

@@ -1,19 +1,15 @@
 use Rattle.std.proofs.Common.{◌≡◌, ℕ, ◌*◌, ◌^◌, ◌<◌, ◌≤◌, List, map, length, sym, ap, ◌∙◌, refl, subst, arith}
-use Rattle.std.specs.Vec.{with_items}
 use Rattle.std.proofs.lemmas.List.{with_items_is, length-map}
-use Rattle.std.specs.List.{All}
+use Rattle.std.specs.{Vec.with_items, List.All}
 use Rattle.def_math.specs.Counts.{count_below}
-use Rattle.def_flow.specs.Network.{Network}
-use Rattle.def_flow.specs.declared.net.Arc.{Arc}
+use Rattle.def_flow.specs.{Network.Network, declared.net.Arc.Arc}
 use Rattle.def_cut.specs.Grids.{rectangle}
-use Rattle.def_layout.specs.Arcs.{path, long_at}
-use Rattle.def_layout.specs.Plans.{layout_of, plan}
-use Rattle.def_layout.specs.declared.tmesh.TArc.{TArc}
+use Rattle.def_layout.specs.{Arcs.path, Arcs.long_at, Plans.layout_of, Plans.plan, declared.tmesh.TArc.TArc}
 use Rattle.def_layoutnet.specs.LayoutNet.{IsNetOf}
 use Rattle.qm_layoutnet.specs.Ends.{open_arc, AreEnds, PatchesBelow}
 use Rattle.qm_layoutnet.proofs.Built.{ends_begin, even, net_is, small, within}
-use Rattle.plan_laws.proofs.MeshLayouts.{laid_of, lengths_of}
 use Rattle.qm_layoutnet.proofs.Whole.{few_patches, lengths_few, runs_short}
+use Rattle.plan_laws.proofs.MeshLayouts.{laid_of, lengths_of}
 use Rattle.qm_layoutnet.proofs.build.any_net_of.Goals as goal
 
 pub open_arcs-requires : goal.open_arcs-requires

@@ -1,11 +1,9 @@
 use Rattle.std.proofs.Common.{◌≡◌, ℕ, ◌+◌, ◌<◌, true, List, map, length, sym, ap, refl, subst, arith}
 use Rattle.std.proofs.lemmas.List.{get_or_default, length-map}
 use Rattle.def_flow.specs.declared.net.Arc.{Arc}
-use Rattle.def_layout.specs.declared.tmesh.SideArc.{SideArc}
-use Rattle.def_layout.specs.Arcs.{path, long_at}
+use Rattle.def_layout.specs.{declared.tmesh.SideArc.SideArc, Arcs.path, Arcs.long_at, Layouts.Slot, Plans.layout_of}
+use Rattle.def_layout.specs.Plans.{plan, side_at}
 use Rattle.def_cut.specs.Grids.{rectangle}
-use Rattle.def_layout.specs.Layouts.{Slot}
-use Rattle.def_layout.specs.Plans.{layout_of, plan, side_at}
 use Rattle.qm_layoutnet.specs.Ends.{AreEnds, PatchesBelow}
 use Rattle.qm_layoutnet.proofs.EndTables.{patch_more}
 use Rattle.qm_layoutnet.proofs.build.put_all_ends.Goals as goal

@@ -1,7 +1,6 @@
 use Rattle.std.proofs.Common.{◌≡◌, length}
 use Rattle.def_flow.specs.declared.net.Settings.{Settings}
-use Rattle.def_layout.specs.Arcs.{long_at}
-use Rattle.def_layout.specs.Plans.{layout_of, plan}
+use Rattle.def_layout.specs.{Arcs.long_at, Plans.layout_of, Plans.plan}
 use Rattle.qm_layoutnet.specs.Ends.{AreEnds, PatchesBelow}
 use Rattle.qm_layoutnet.proofs.build.put_all_ends.Given as goal
 

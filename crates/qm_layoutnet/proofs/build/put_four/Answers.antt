@@ -1,7 +1,6 @@
 use Rattle.std.proofs.Common.{◌≡◌, ◌<◌, List, length, sym, ◌∙◌, subst, arith}
 use Rattle.std.specs.List.{All}
-use Rattle.def_layout.specs.declared.tmesh.SideArc.{SideArc}
-use Rattle.def_layout.specs.Layouts.{south, east, north, west}
+use Rattle.def_layout.specs.{declared.tmesh.SideArc.SideArc, Layouts.south, Layouts.east, Layouts.north, Layouts.west}
 use Rattle.def_layout.specs.Plans.{plan, side_at}
 use Rattle.qm_layoutnet.proofs.EndTables.{low_among}
 use Rattle.layout_laws.proofs.SideReads.{read_side}

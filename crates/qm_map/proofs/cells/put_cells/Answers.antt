@@ -4,12 +4,10 @@ use Rattle.std.specs.List.{flat_map, range_with_len}
 use Rattle.def_cut.specs.Grids.{rectangle}
 use Rattle.def_io.specs.Bytes.{Bytes}
 use Rattle.def_layout.specs.Plans.{Plan}
-use Rattle.def_remesh.specs.NewPoints.{lengths_in}
-use Rattle.def_remesh.specs.CutSoups.{CutSoup}
+use Rattle.def_remesh.specs.{NewPoints.lengths_in, CutSoups.CutSoup}
 use Rattle.qm_map.specs.PatchLines.{patch_lines}
 use Rattle.qm_map.proofs.PatchCells.{all_lines}
-use Rattle.qm_output.proofs.Prefixes.{of_error}
-use Rattle.qm_output.proofs.Lists.{stops_at_number, takes_number}
+use Rattle.qm_output.proofs.{Prefixes.of_error, Lists.stops_at_number, Lists.takes_number}
 use Rattle.qm_map.proofs.cells.put_cells.Goals as goal
 
 pub put_patch-requires : goal.put_patch-requires

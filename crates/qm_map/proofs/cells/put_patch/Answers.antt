@@ -1,15 +1,11 @@
 use Rattle.std.proofs.Common.{◌≡◌, ℕ, ◌*◌, ◌/◌, ◌%◌, ◌<◌, map, ◌∙◌, subst, arith}
 use Rattle.std.specs.List.{flat_map, range_with_len}
-use Rattle.def_layout.specs.Lengths.{wide, high}
-use Rattle.def_layout.specs.Plans.{layout_of}
-use Rattle.def_map.specs.Homes.{home_of}
-use Rattle.def_map.specs.MapText.{cell_line}
-use Rattle.def_map.specs.declared.home.Home.{Home}
+use Rattle.def_layout.specs.{Lengths.wide, Lengths.high, Plans.layout_of}
+use Rattle.def_map.specs.{Homes.home_of, MapText.cell_line, declared.home.Home.Home}
 use Rattle.def_remesh.specs.NewPoints.{lengths_in}
 use Rattle.qm_map.specs.PatchLines.{home_in}
 use Rattle.qm_map.proofs.PatchCells.{in_grid}
-use Rattle.qm_output.proofs.Prefixes.{of_error}
-use Rattle.qm_output.proofs.Lists.{stops_at_number, takes_number}
+use Rattle.qm_output.proofs.{Prefixes.of_error, Lists.stops_at_number, Lists.takes_number}
 use Rattle.qm_map.proofs.cells.put_patch.Goals as goal
 
 pub overflow_mul-k-end : goal.overflow_mul-k-end

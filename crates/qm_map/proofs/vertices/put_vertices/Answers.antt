@@ -1,14 +1,10 @@
 use Rattle.std.proofs.Common.{◌≡◌, ℕ, map, sym, subst, arith}
 use Rattle.std.specs.List.{flat_map, range_with_len}
 use Rattle.def_layout.specs.Plans.{layout_of}
-use Rattle.def_map.specs.Laws.{IsSpot}
-use Rattle.def_map.specs.MapText.{spot_line}
-use Rattle.def_map.specs.Spots.{spot_at}
-use Rattle.def_remesh.specs.NewPoints.{lengths_in}
+use Rattle.def_map.specs.{Laws.IsSpot, MapText.spot_line, Spots.spot_at}
+use Rattle.def_remesh.specs.{NewPoints.lengths_in, CutSoups.CutSoup}
 use Rattle.def_written.specs.Numbers.{vertices}
-use Rattle.def_remesh.specs.CutSoups.{CutSoup}
-use Rattle.qm_output.proofs.Prefixes.{of_error}
-use Rattle.qm_output.proofs.Lists.{stops_at_number, takes_number}
+use Rattle.qm_output.proofs.{Prefixes.of_error, Lists.stops_at_number, Lists.takes_number}
 use Rattle.qm_map.proofs.vertices.put_vertices.Goals as goal
 
 pub spot_near-spot-requires : goal.spot_near-spot-requires

@@ -1,7 +1,6 @@
 use Rattle.std.proofs.Common.{map}
 use Rattle.std.specs.List.{flat_map, range_with_len}
-use Rattle.def_map.specs.MapText.{spot_line}
-use Rattle.def_map.specs.Spots.{spot_at}
+use Rattle.def_map.specs.{MapText.spot_line, Spots.spot_at}
 use Rattle.def_remesh.specs.NewPoints.{lengths_in}
 use Rattle.qm_map.proofs.vertices.put_vertices.Given as goal
 

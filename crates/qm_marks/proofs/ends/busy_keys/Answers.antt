@@ -1,6 +1,5 @@
 use Rattle.std.proofs.Common.{sym, ap, ◌∙◌, ◌++◌, ◌∷◌, []}
-use Rattle.qm_marks.specs.declared.ends.TheConstants.{FEW}
-use Rattle.qm_marks.specs.Keys.{key_of}
+use Rattle.qm_marks.specs.{declared.ends.TheConstants.FEW, Keys.key_of}
 use Rattle.qm_marks.proofs.EndKeys.{keys_off, keys_on}
 use Rattle.qm_marks.proofs.ends.busy_keys.Goals.{then-is_busy+in_ok-push, else-is_busy}
 use Rattle.qm_marks.proofs.ends.busy_keys.Goals as goal

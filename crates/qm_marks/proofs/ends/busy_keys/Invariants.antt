@@ -1,8 +1,6 @@
 use Rattle.std.proofs.Common.{◌≡◌, map}
-use Rattle.std.specs.Prelude.{filter}
-use Rattle.std.specs.List.{range_with_len}
-use Rattle.qm_marks.specs.Keys.{dart_key, is_busy}
-use Rattle.qm_marks.specs.declared.ends.TheConstants.{FEW}
+use Rattle.std.specs.{Prelude.filter, List.range_with_len}
+use Rattle.qm_marks.specs.{Keys.dart_key, Keys.is_busy, declared.ends.TheConstants.FEW}
 use Rattle.qm_marks.proofs.ends.busy_keys.Given as goal
 
 abbrev pub invariant-loop-d : goal.invariant-loop-d

@@ -1,6 +1,5 @@
 use Rattle.std.proofs.Common.{◌≢◌, ℕ, ◌<◌, get_or}
-use Rattle.def_mesh.specs.Darts.{to_of}
-use Rattle.def_mesh.specs.Vertices.{fan_of}
+use Rattle.def_mesh.specs.{Darts.to_of, Vertices.fan_of}
 use Rattle.qm_marks.proofs.ends.dart_in_fan.Given as goal
 
 abbrev pub invariant-loop-d : goal.invariant-loop-d

@@ -1,8 +1,6 @@
-use Rattle.std.proofs.Common.{ℕ, Ok, Err, Result, subst, inl, inr, arith}
-use Rattle.std.specs.Ordering.{nat_cmp}
-use Rattle.std.specs.List.Sorted.{IsBinarySearchResult}
-use Rattle.std.proofs.lemmas.Bool.{cases_lt}
-use Rattle.std.proofs.lemmas.List.Sorted.{searched}
+use Rattle.std.proofs.Common.{ℕ, Ok, Err, Result, subst, inl, inr}
+use Rattle.std.proofs.{Common.arith, lemmas.Bool.cases_lt, lemmas.List.Sorted.searched}
+use Rattle.std.specs.{Ordering.nat_cmp, List.Sorted.IsBinarySearchResult}
 use Rattle.qm_marks.proofs.ends.place_of.Goals as goal
 
 pub returns-in-Ok : goal.returns-in-Ok

@@ -1,12 +1,10 @@
 use Rattle.std.proofs.Common.{◌≡◌, ◌+◌, cond, ap, ◌∙◌, arith}
 use Rattle.std.specs.Prelude.{slice_range}
 use Rattle.def_io.specs.Lines.{lines_of}
-use Rattle.def_text.specs.Reading.{begins_with}
-use Rattle.def_text.specs.Words.{words}
+use Rattle.def_text.specs.{Reading.begins_with, Words.words}
 use Rattle.qm_obj.specs.Ahead.{span, text_ahead}
 use Rattle.qm_obj.proofs.Groups.{group_span, group_text}
-use Rattle.qm_marks.proofs.LineMarks.{counted_next}
-use Rattle.qm_marks.proofs.Ranges.{single_span, single_text, span_within}
+use Rattle.qm_marks.proofs.{LineMarks.counted_next, Ranges.single_span, Ranges.single_text, Ranges.span_within}
 use Rattle.qm_marks.proofs.lines.count_vertex_lines.Goals.{After-drop-joined}
 use Rattle.qm_marks.proofs.lines.count_vertex_lines.Goals as goal
 

@@ -3,12 +3,10 @@ use Rattle.std.specs.Prelude.{slice_range}
 use Rattle.def_io.specs.Lines.{lines_of}
 use Rattle.def_marks.specs.Lines.{vertex_lines_in}
 use Rattle.error_laws.proofs.Errors.{handed}
-use Rattle.qm_obj.specs.Ahead.{text_ahead}
-use Rattle.qm_obj.specs.Lines.{first_logical}
+use Rattle.qm_obj.specs.{Ahead.text_ahead, Lines.first_logical}
 use Rattle.qm_obj.proofs.Groups.{group_span, group_text}
 use Rattle.qm_marks.specs.Reading.{line_at}
-use Rattle.qm_marks.proofs.LineMarks.{fails_line, took_line}
-use Rattle.qm_marks.proofs.Ranges.{single_span, single_text}
+use Rattle.qm_marks.proofs.{LineMarks.fails_line, LineMarks.took_line, Ranges.single_span, Ranges.single_text}
 use Rattle.qm_marks.proofs.lines.take_logical.Goals.{After-before_comment, After-deref}
 use Rattle.qm_marks.proofs.lines.take_logical.Goals as goal
 

@@ -1,14 +1,13 @@
 use Rattle.std.proofs.Common.{◌≡◌, ℕ, ◌+◌, List, true, false, codes, length, take, drop, sym, ◌∙◌, subst, ap, arith}
 use Rattle.std.proofs.Common.{length-take}
-use Rattle.std.specs.Str.{bytes_eq}
 use Rattle.std.proofs.lemmas.List.{take_at}
+use Rattle.std.specs.Str.{bytes_eq}
 use Rattle.def_fit.specs.WishLines.{vertex_line_count}
-use Rattle.def_io.specs.Bytes.{Bytes}
-use Rattle.def_io.specs.Lines.{lines_of}
+use Rattle.def_io.specs.{Bytes.Bytes, Lines.lines_of}
 use Rattle.def_mesh.specs.Darts.{darts}
 use Rattle.qm_marks.proofs.AllWishes.{at_last, at_other, at_small, at_wish, first_lines, line_in, low_in, IsAtWish}
-use Rattle.qm_marks.specs.Wishing.{pieces_of, TakesWish}
 use Rattle.qm_marks.proofs.wishes.read_wishes.Goals.{in-Some+in_ok-take_wish, in_default}
+use Rattle.qm_marks.specs.Wishing.{pieces_of, TakesWish}
 use Rattle.qm_marks.proofs.wishes.read_wishes.Goals as goal
 
 pub loop-i-preserved : goal.loop-i-preserved

@@ -1,12 +1,10 @@
 use Rattle.std.proofs.Common.{◌≡◌, ◌<◌, ℕ, List, cond, get_or, ap, sym, subst, ◌∙◌}
 use Rattle.def_fit.specs.WishLines.{vertex_named}
 use Rattle.def_marks.specs.Chains.{is_edge, runs_between}
-use Rattle.def_mesh.specs.Darts.{darts}
-use Rattle.def_mesh.specs.Faces.{Faces}
+use Rattle.def_mesh.specs.{Darts.darts, Faces.Faces}
 use Rattle.def_text.specs.FaceSet.{FaceSet}
-use Rattle.qm_marks.proofs.OneWish.{takes_no_edge, takes_wish}
+use Rattle.qm_marks.proofs.{OneWish.takes_no_edge, OneWish.takes_wish, wishes.take_wish.Goals.After-put_wish}
 use Rattle.qm_marks.specs.Wishing.{pieces_of}
-use Rattle.qm_marks.proofs.wishes.take_wish.Goals.{After-put_wish}
 use Rattle.qm_marks.proofs.wishes.take_wish.Goals as goal
 
 -- The vertices of the line.

@@ -1,9 +1,8 @@
 use Rattle.std.proofs.Common.{◌≡◌, ◌<◌, ◌^◌, ℕ, List, length, sym, subst, ap, ◌∙◌, arith}
-use Rattle.std.specs.Prelude.{IfOk}
 use Rattle.std.proofs.lemmas.List.{length-map}
+use Rattle.std.specs.Prelude.{IfOk}
 use Rattle.def_certtext.specs.CertLines.{certificates_of, used, Lists}
-use Rattle.def_layout.specs.Arcs.{path}
-use Rattle.def_layout.specs.Plans.{layout_of, plan, Plan}
+use Rattle.def_layout.specs.{Arcs.path, Plans.layout_of, Plans.plan, Plans.Plan}
 use Rattle.def_marks.specs.MarkedText.{marked_text}
 use Rattle.def_remesh.specs.NewPoints.{lengths_in}
 use Rattle.def_written.specs.Numbers.{vertices}

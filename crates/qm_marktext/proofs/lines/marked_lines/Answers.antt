@@ -1,8 +1,7 @@
 use Rattle.std.proofs.Common.{◌≡◌, ◌<◌, ◌+◌, suc, ◌++◌, length, sym, ap, ◌∙◌, arith}
-use Rattle.std.specs.List.{flat_map, range_with_len}
 use Rattle.std.proofs.lemmas.List.{append-nil, get_or_default, length-map}
-use Rattle.def_layout.specs.Arcs.{path}
-use Rattle.def_layout.specs.Plans.{layout_of, plan}
+use Rattle.std.specs.List.{flat_map, range_with_len}
+use Rattle.def_layout.specs.{Arcs.path, Plans.layout_of, Plans.plan}
 use Rattle.def_marks.specs.MarkedText.{arc_text, chain_text}
 use Rattle.def_remesh.specs.NewPoints.{lengths_in}
 use Rattle.def_written.specs.Numbers.{before_arc}

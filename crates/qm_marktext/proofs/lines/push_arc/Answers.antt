@@ -1,7 +1,6 @@
 use Rattle.std.proofs.Common.{◌≡◌, ◌+◌, ◌-◌, List, ℕ, ◌∷◌, [], ◌++◌, map, sym, ap, ◌∙◌, arith}
-use Rattle.std.specs.Prelude.{decimal}
-use Rattle.std.specs.List.{flat_map, range_with_len}
 use Rattle.std.proofs.lemmas.List.{append_assoc}
+use Rattle.std.specs.{Prelude.decimal, List.flat_map, List.range_with_len}
 use Rattle.def_marks.specs.declared.fail.TheConstants.{LINE}
 use Rattle.def_io.specs.declared.TheConstants.{LINE_FEED}
 use Rattle.def_text.specs.declared.letters.TheConstants.{SPACE}

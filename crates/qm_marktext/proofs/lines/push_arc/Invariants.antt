@@ -1,6 +1,5 @@
 use Rattle.std.proofs.Common.{◌≡◌, ◌≤◌, ◌+◌, ◌-◌, ◌∷◌, ◌++◌, map}
-use Rattle.std.specs.Prelude.{decimal}
-use Rattle.std.specs.List.{flat_map, range_with_len}
+use Rattle.std.specs.{Prelude.decimal, List.flat_map, List.range_with_len}
 use Rattle.def_text.specs.declared.letters.TheConstants.{SPACE}
 use Rattle.def_marks.specs.declared.fail.TheConstants.{LINE}
 use Rattle.qm_marktext.proofs.ArcChains.{vertex_text}

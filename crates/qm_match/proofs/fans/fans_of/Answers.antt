@@ -1,7 +1,6 @@
 use Rattle.std.proofs.Common.{◌≡◌, ◌+◌, ◌*◌, ◌<◌, ◌∙◌, length, pos, refl, sym, ap, subst, arith}
 use Rattle.std.proofs.lemmas.List.{get_or_read}
-use Rattle.def_matching.specs.Matching.{graph, edge_at}
-use Rattle.def_matching.specs.declared.weighted.WEdge.{WEdge}
+use Rattle.def_matching.specs.{Matching.graph, Matching.edge_at, declared.weighted.WEdge.WEdge}
 use Rattle.forest_laws.proofs.Graphs.{dart_near, near_odd}
 use Rattle.qm_match.specs.Fans.{AreFansOf}
 use Rattle.qm_match.proofs.Chains.{put_more}

@@ -1,6 +1,5 @@
 use Rattle.std.proofs.Common.{◌≡◌, ◌≤ℤ◌, ◌+ℤ◌, ◌*ℤ◌, pos, get_or, refl, arith, rules}
-use Rattle.std.proofs.lemmas.Int.{ints}
-use Rattle.std.proofs.lemmas.List.{get_or_read}
+use Rattle.std.proofs.{lemmas.Int.ints, lemmas.List.get_or_read}
 use Rattle.def_matching.specs.Matching.{edge_at, graph}
 use Rattle.qm_match.proofs.Outcomes.{room_read}
 use Rattle.qm_match.proofs.first.has_room.Goals as goal

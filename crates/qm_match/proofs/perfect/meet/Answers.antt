@@ -1,5 +1,4 @@
-use Rattle.std.proofs.Common.{◌∙◌, length, subst, take, arith}
-use Rattle.std.proofs.lemmas.List.{take_all}
+use Rattle.std.proofs.{Common.◌∙◌, Common.length, Common.subst, Common.take, Common.arith, lemmas.List.take_all}
 use Rattle.def_math.specs.Increasing.{IsIncreasing}
 use Rattle.def_matching.specs.Matching.{graph}
 use Rattle.qm_match.proofs.Edges.{counts_on, increasing_on, increasing_to}

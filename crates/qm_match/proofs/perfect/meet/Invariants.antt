@@ -1,6 +1,5 @@
 use Rattle.std.proofs.Common.{◌≡◌, ℕ, ◌<◌, ◌≤◌, false, get_or, length, map, take}
-use Rattle.def_math.specs.Counts.{count}
-use Rattle.def_math.specs.Increasing.{IsIncreasing}
+use Rattle.def_math.specs.{Counts.count, Increasing.IsIncreasing}
 use Rattle.def_matching.specs.Matching.{graph, edge_at, ends_at}
 use Rattle.def_forest.specs.Forests.{bool_number}
 use Rattle.qm_match.proofs.perfect.meet.Given as goal

@@ -1,12 +1,9 @@
-use Rattle.std.proofs.Common.{◌≡◌, ◌+◌, ◌<◌, ◌≤◌, length, slice_index, take, ℕ, pos, ◌+ℤ◌, ap, rules, arith}
-use Rattle.std.proofs.lemmas.Int.{ints}
-use Rattle.std.proofs.lemmas.List.{get_or_read}
+use Rattle.std.proofs.Common.{◌≡◌, ◌+◌, ◌<◌, ◌≤◌, length, slice_index, take}
+use Rattle.std.proofs.{Common.ℕ, Common.pos, Common.◌+ℤ◌, Common.ap, Common.rules, Common.arith, lemmas.Int.ints}
+use Rattle.std.proofs.{lemmas.List.get_or_read, Common.FitsSigned}
 use mir.Syntax.{w64}
-use Rattle.std.proofs.Common.{FitsSigned}
-use Rattle.def_matching.specs.Matching.{graph, edge_at, matching_cost}
-use Rattle.def_matching.specs.declared.weighted.WEdge.{WEdge}
-use Rattle.qm_match.proofs.Costs.{increasing_few, cost_take}
-use Rattle.qm_match.proofs.Outcomes.{increasing_low}
+use Rattle.def_matching.specs.{Matching.graph, Matching.edge_at, Matching.matching_cost, declared.weighted.WEdge.WEdge}
+use Rattle.qm_match.proofs.{Costs.increasing_few, Costs.cost_take, Outcomes.increasing_low}
 use Rattle.qm_match.proofs.shown.cost_of.Goals as goal
 
 pub index-requires : goal.index-requires

@@ -1,7 +1,6 @@
-use Rattle.std.proofs.Common.{◌≡◌, ◌/◌, ◌<◌, ◌≤◌, ◌^◌, length, get_or, pos, arith}
+use Rattle.std.proofs.Common.{◌≡◌, ◌/◌, ◌<◌, ◌≤◌, ◌^◌, length, get_or}
+use Rattle.std.proofs.{Common.pos, Common.arith, lemmas.Int.ints, lemmas.List.get_or_read}
 use Rattle.std.specs.Prelude.{unsigned_abs}
-use Rattle.std.proofs.lemmas.Int.{ints}
-use Rattle.std.proofs.lemmas.List.{get_or_read}
 use Rattle.def_matching.specs.Matching.{graph, edge_at}
 use Rattle.qm_match.proofs.Raised.{cost_small}
 use Rattle.qm_match.proofs.weights.left_by.Goals as goal

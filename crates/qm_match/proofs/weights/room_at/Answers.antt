@@ -1,5 +1,4 @@
-use Rattle.std.proofs.Common.{◌≡◌, ◌-◌, ◌<◌, length, get_or, arith}
-use Rattle.std.proofs.lemmas.Int.{ints}
+use Rattle.std.proofs.{Common.◌≡◌, Common.◌-◌, Common.◌<◌, Common.length, Common.get_or, Common.arith, lemmas.Int.ints}
 use Rattle.std.proofs.lemmas.List.{get_or_read}
 use Rattle.def_matching.specs.Matching.{graph}
 use Rattle.qm_match.specs.Weights.{left_to}

@@ -1,7 +1,6 @@
 use Rattle.std.proofs.Common.{ℕ, ◌*◌, ◌≤◌, ◌⊎◌, length, get_or, pos, ◌≤ℤ◌}
 use Rattle.def_matching.specs.Matching.{graph}
-use Rattle.qm_match.specs.Fans.{IsOn}
-use Rattle.qm_match.specs.Weights.{left_to}
+use Rattle.qm_match.specs.{Fans.IsOn, Weights.left_to}
 use Rattle.qm_match.proofs.weights.room_at.Given as goal
 
 abbrev pub invariant-loop-entry : goal.invariant-loop-entry

@@ -1,8 +1,6 @@
 use Rattle.std.proofs.Common.{◌≡◌, ◌+◌, ◌-◌, ap, sym, ◌∙◌, arith}
-use Rattle.def_mesh.specs.Darts.{next_of}
-use Rattle.def_mesh.specs.HalfEdges.{half_edges}
-use Rattle.def_cut.specs.FullCut.{is_on}
-use Rattle.def_cut.specs.Steps.{easts}
+use Rattle.def_mesh.specs.{Darts.next_of, HalfEdges.half_edges}
+use Rattle.def_cut.specs.{FullCut.is_on, Steps.easts}
 use Rattle.qm_grid.proofs.Walks.{row_at, row_inside, row_never}
 use Rattle.qm_merge.proofs.SideWalks.{near_done}
 use Rattle.qm_merge.proofs.corners.side_from.Goals as goal

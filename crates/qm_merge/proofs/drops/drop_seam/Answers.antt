@@ -1,12 +1,10 @@
 use Rattle.std.proofs.Common.{◌≡◌, ◌+◌, ◌-◌, ℕ, ap, subst, ◌∙◌, arith, Some}
 use Rattle.std.specs.Prelude.{is_some}
-use Rattle.def_mesh.specs.Darts.{next_of, twin_of}
-use Rattle.def_mesh.specs.HalfEdges.{half_edges}
-use Rattle.def_cut.specs.FullCut.{is_on}
-use Rattle.def_cut.specs.Steps.{easts}
+use Rattle.def_mesh.specs.{Darts.next_of, Darts.twin_of, HalfEdges.half_edges}
+use Rattle.def_cut.specs.{FullCut.is_on, Steps.easts}
 use Rattle.qm_merge.proofs.Leaving.{HaveLeft, left_more, all_left, stood, first_still, edge_there, edge_twin, leads_to}
-use Rattle.qm_merge.proofs.drops.drop_seam.Goals as goal
 use Rattle.qm_merge.proofs.drops.drop_seam.Goals.{then-k-gt0, else-k-gt0}
+use Rattle.qm_merge.proofs.drops.drop_seam.Goals as goal
 
 pub east-d-requires-clause-dart : goal.east-d-requires-clause-dart
 east-d-requires-clause-dart c =

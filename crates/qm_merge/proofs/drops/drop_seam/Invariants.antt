@@ -1,7 +1,6 @@
 use Rattle.std.proofs.Common.{◌≡◌, ◌-◌, length}
 use Rattle.def_mesh.specs.HalfEdges.{half_edges}
-use Rattle.def_cut.specs.FullCut.{is_on}
-use Rattle.def_cut.specs.Steps.{easts}
+use Rattle.def_cut.specs.{FullCut.is_on, Steps.easts}
 use Rattle.qm_merge.proofs.Leaving.{HaveLeft}
 use Rattle.qm_merge.proofs.drops.drop_seam.Given as goal
 

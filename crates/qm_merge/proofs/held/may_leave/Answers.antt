@@ -1,5 +1,4 @@
-use Rattle.std.proofs.Common.{sym, ◌∙◌}
-use Rattle.std.proofs.lemmas.Bool.{false≢true}
+use Rattle.std.proofs.{Common.sym, Common.◌∙◌, lemmas.Bool.false≢true}
 use Rattle.qm_merge.proofs.Spared.{breaks_long, crossed_there, may_from, may_then}
 use Rattle.qm_merge.proofs.held.may_leave.Goals as goal
 

@@ -1,5 +1,4 @@
-use Rattle.def_mesh.specs.Darts.{darts}
-use Rattle.def_mesh.specs.HalfEdges.{half_edges}
+use Rattle.def_mesh.specs.{Darts.darts, HalfEdges.half_edges}
 use Rattle.def_cut.specs.FullCut.{is_on}
 use Rattle.qm_merge.specs.Links.{AreSides, AreStarts}
 use Rattle.qm_merge.proofs.links.all_links.Given as goal

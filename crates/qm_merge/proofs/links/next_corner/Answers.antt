@@ -1,11 +1,8 @@
 use Rattle.std.proofs.Common.{◌≡◌, ℕ, sym, subst, arith}
 use Rattle.def_mesh.specs.HalfEdges.{half_edges}
-use Rattle.def_cut.specs.Cuts.{IsCorner}
-use Rattle.def_cut.specs.FullCut.{is_on}
-use Rattle.qm_merge.specs.Links.{at}
-use Rattle.qm_merge.specs.Walks.{IsNextCorner}
-use Rattle.qm_merge.proofs.Linked.{linked, read_at}
-use Rattle.qm_merge.proofs.Rounds.{next_is_corner}
+use Rattle.def_cut.specs.{Cuts.IsCorner, FullCut.is_on}
+use Rattle.qm_merge.specs.{Links.at, Walks.IsNextCorner}
+use Rattle.qm_merge.proofs.{Linked.linked, Linked.read_at, Rounds.next_is_corner}
 use Rattle.qm_merge.proofs.links.next_corner.Goals as goal
 
 pub returns-clause-next : goal.returns-clause-next

@@ -5,8 +5,7 @@ use Rattle.def_mesh.specs.HalfEdges.{half_edges}
 use Rattle.def_cut.specs.FullCut.{is_on}
 use Rattle.qm_merge.specs.Waiting.{IsNoted}
 use Rattle.qm_merge.proofs.Dropped.{both_ok, cutting_after, marks_fewer, wait_still}
-use Rattle.qm_merge.proofs.Linked.{has_room, links_after}
-use Rattle.qm_merge.proofs.Rounds.{next_is_corner}
+use Rattle.qm_merge.proofs.{Linked.has_room, Linked.links_after, Rounds.next_is_corner}
 use Rattle.qm_merge.proofs.merged.drop_first.Goals as goal
 
 pub join_rounds-requires : goal.join_rounds-requires

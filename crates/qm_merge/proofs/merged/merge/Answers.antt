@@ -1,11 +1,8 @@
 use Rattle.std.proofs.Common.{rules, ◌≡◌, Bool, List, map, replicate, false, sym, ◌∙◌, ap, subst}
 use Rattle.std.proofs.lemmas.Result.{IfOk-weaker}
-use Rattle.def_mesh.specs.Darts.{darts}
-use Rattle.def_mesh.specs.Vertices.{all_vertices, vertex_count}
-use Rattle.def_feature.specs.Beside.{IsCutBeside}
-use Rattle.def_feature.specs.Marks.{is_break}
-use Rattle.def_merge.specs.Beside.{may_beside}
-use Rattle.def_merge.specs.Merged.{IsMergedBy}
+use Rattle.def_mesh.specs.{Darts.darts, Vertices.all_vertices, Vertices.vertex_count}
+use Rattle.def_feature.specs.{Beside.IsCutBeside, Marks.is_break}
+use Rattle.def_merge.specs.{Beside.may_beside, Merged.IsMergedBy}
 use Rattle.merge_laws.proofs.NoLines.{none_beside, none_broken, none_merged}
 use Rattle.qm_merge.proofs.merged.merge.Goals as goal
 use Rattle.qm_merge.proofs.merged.merge.Goals.{After-deref-2}

@@ -1,17 +1,13 @@
 use Rattle.std.proofs.Common.{true, refl, ◌≡◌, ◌⊎◌, ℕ, suc, length, sym, ◌∙◌, ap, subst, inl, inr, arith}
 use Rattle.std.proofs.lemmas.Bool.{cases_lt, false≢true}
 use Rattle.std.proofs.lemmas.Map.Keys.{le_from_not_gt}
-use Rattle.def_mesh.specs.Darts.{darts}
-use Rattle.def_mesh.specs.HalfEdges.{half_edges}
+use Rattle.def_mesh.specs.{Darts.darts, HalfEdges.half_edges}
 use Rattle.def_cut.specs.FullCut.{is_on}
-use Rattle.def_merge.specs.Joins.{IsJoinable, IsNameOf}
-use Rattle.def_merge.specs.Beside.{may_beside}
+use Rattle.def_merge.specs.{Joins.IsJoinable, Joins.IsNameOf, Beside.may_beside}
 use Rattle.feature_laws.proofs.Conforming.{mark_low}
-use Rattle.merge_laws.proofs.Beside.{beside_reached}
+use Rattle.merge_laws.proofs.{Beside.beside_reached, Arcs.name_there, OneMerged.part_reached, Held.held_law}
+use Rattle.merge_laws.proofs.Held.{turned_may}
 use Rattle.face_laws.proofs.FullCuts.{from_cut}
-use Rattle.merge_laws.proofs.Arcs.{name_there}
-use Rattle.merge_laws.proofs.OneMerged.{part_reached}
-use Rattle.merge_laws.proofs.Held.{held_law, turned_may}
 use Rattle.qm_merge.specs.Links.{at}
 use Rattle.qm_merge.proofs.Dropped.{less_on, name_gone, step_taken}
 use Rattle.qm_merge.proofs.Names.{none_named, none_waits, seam_free, taken_below, taken_kept}

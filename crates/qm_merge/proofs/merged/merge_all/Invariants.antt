@@ -1,12 +1,9 @@
 use Rattle.std.proofs.Common.{ℕ}
-use Rattle.def_mesh.specs.Darts.{darts}
-use Rattle.def_mesh.specs.HalfEdges.{half_edges}
+use Rattle.def_mesh.specs.{Darts.darts, HalfEdges.half_edges}
 use Rattle.def_cut.specs.FullCut.{is_on}
-use Rattle.def_merge.specs.Merged.{Steps}
-use Rattle.def_merge.specs.Beside.{may_beside}
+use Rattle.def_merge.specs.{Merged.Steps, Beside.may_beside}
 use Rattle.qm_grid.specs.Cutting.{IsCutting}
-use Rattle.qm_merge.specs.Links.{AreLinks, AreStarts}
-use Rattle.qm_merge.specs.Waiting.{AreBelow, FreeWait, left_over}
+use Rattle.qm_merge.specs.{Links.AreLinks, Links.AreStarts, Waiting.AreBelow, Waiting.FreeWait, Waiting.left_over}
 use Rattle.qm_merge.proofs.merged.merge_all.Given as goal
 
 abbrev pub decreases-loop-name : goal.decreases-loop-name

@@ -3,8 +3,7 @@ use Rattle.def_mesh.specs.HalfEdges.{half_edges}
 use Rattle.def_cut.specs.FullCut.{is_on}
 use Rattle.def_merge.specs.Joins.{IsJoinable, IsNameOf}
 use Rattle.qm_merge.specs.Links.{at}
-use Rattle.qm_merge.proofs.Linked.{read_at}
-use Rattle.qm_merge.proofs.Names.{seam_name}
+use Rattle.qm_merge.proofs.{Linked.read_at, Names.seam_name}
 use Rattle.qm_merge.proofs.merged.place_of.Goals as goal
 
 pub returns-in_default-clause-none : goal.returns-in_default-clause-none

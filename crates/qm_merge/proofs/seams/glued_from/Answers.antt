@@ -1,7 +1,6 @@
 use Rattle.std.proofs.Common.{◌≡◌, ◌+◌, min, Some, ap, sym, subst, ◌∙◌, arith, ℕ, true, true≢false}
 use Rattle.std.proofs.lemmas.Bool.{false≢true}
-use Rattle.def_mesh.specs.Darts.{next_of, twin_of}
-use Rattle.def_mesh.specs.HalfEdges.{half_edges}
+use Rattle.def_mesh.specs.{Darts.next_of, Darts.twin_of, HalfEdges.half_edges}
 use Rattle.def_cut.specs.FullCut.{is_on}
 use Rattle.def_merge.specs.Joins.{IsNameOf}
 use Rattle.qm_grid.proofs.Walks.{row_at, row_inside, row_never}

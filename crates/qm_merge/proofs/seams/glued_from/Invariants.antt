@@ -1,8 +1,6 @@
 use Rattle.std.proofs.Common.{◌≡◌, ◌<◌, ℕ, false}
-use Rattle.def_mesh.specs.Darts.{darts, next_of}
-use Rattle.def_mesh.specs.HalfEdges.{half_edges}
-use Rattle.def_cut.specs.FullCut.{is_on}
-use Rattle.def_cut.specs.Steps.{easts}
+use Rattle.def_mesh.specs.{Darts.darts, Darts.next_of, HalfEdges.half_edges}
+use Rattle.def_cut.specs.{FullCut.is_on, Steps.easts}
 use Rattle.qm_merge.specs.Seams.{AreGluedSoFar, IsNameSoFar}
 use Rattle.qm_merge.proofs.seams.glued_from.Given as goal
 

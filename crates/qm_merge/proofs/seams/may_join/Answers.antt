@@ -1,12 +1,10 @@
 use Rattle.std.proofs.Common.{◌≡◌, ◌↔◌, ℕ, Some, sym, subst, ap, ◌∙◌, true, true≢false, arith}
-use Rattle.def_mesh.specs.Darts.{next_of, twin_of}
-use Rattle.def_mesh.specs.HalfEdges.{half_edges}
+use Rattle.def_mesh.specs.{Darts.next_of, Darts.twin_of, HalfEdges.half_edges}
 use Rattle.def_cut.specs.FullCut.{is_on}
 use Rattle.def_merge.specs.Joins.{AreInOne}
 use Rattle.qm_merge.specs.Links.{IsRound, at}
 use Rattle.qm_merge.proofs.Across.{contrary, far_corner, far_is, has_twin, same_size}
-use Rattle.qm_merge.proofs.Linked.{read_at}
-use Rattle.qm_merge.proofs.Rounds.{next_is_corner}
+use Rattle.qm_merge.proofs.{Linked.read_at, Rounds.next_is_corner}
 use Rattle.qm_merge.proofs.seams.may_join.Goals as goal
 
 pub returns-in_default : goal.returns-in_default

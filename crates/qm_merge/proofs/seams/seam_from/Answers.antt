@@ -1,6 +1,4 @@
-use Rattle.std.proofs.Common.{sym, ◌∙◌}
-use Rattle.std.proofs.lemmas.Bool.{false≢true}
-use Rattle.std.proofs.lemmas.Option.{IfSome_then}
+use Rattle.std.proofs.{Common.sym, Common.◌∙◌, lemmas.Bool.false≢true, lemmas.Option.IfSome_then}
 use Rattle.qm_merge.proofs.Across.{none_then}
 use Rattle.qm_merge.proofs.seams.seam_from.Goals as goal
 

@@ -1,10 +1,8 @@
 use Rattle.std.proofs.Common.{◌<◌, ℕ}
-use Rattle.def_mesh.specs.Darts.{darts}
-use Rattle.def_mesh.specs.HalfEdges.{half_edges}
+use Rattle.def_mesh.specs.{Darts.darts, HalfEdges.half_edges}
 use Rattle.def_cut.specs.FullCut.{is_on}
 use Rattle.def_merge.specs.Joins.{IsJoinable, IsNameOf}
-use Rattle.qm_merge.specs.Links.{AreLinks, AreStarts}
-use Rattle.qm_merge.specs.Waiting.{AreBelow, IsNoted}
+use Rattle.qm_merge.specs.{Links.AreLinks, Links.AreStarts, Waiting.AreBelow, Waiting.IsNoted}
 use Rattle.qm_merge.proofs.waiting.all_names.Given as goal
 
 -- the arcs with a side that begins below d wait

@@ -1,8 +1,8 @@
 use Rattle.std.proofs.Common.{◌≡◌, length, get_or, ◌<◌, ap, ◌∙◌, arith}
 use Rattle.def_mesh.specs.Vertices.{fan_of}
 use Rattle.qm_mesh.proofs.FanTables.{fan_found}
-use Rattle.mesh_laws.proofs.Fans.{IsFan, is_fan}
 use Rattle.qm_mesh.proofs.OneFan.{IsVisited, visited, not_seen, checked_more, two_fans_first, one_fan_all}
+use Rattle.mesh_laws.proofs.Fans.{IsFan, is_fan}
 use Rattle.qm_mesh.proofs.one_fan.check_each.Goals as goal
 
 pub is_one_fan-requires-clause-used : goal.is_one_fan-requires-clause-used

@@ -1,7 +1,6 @@
-use Rattle.qm_mesh.proofs.Vertices.{end_low}
+use Rattle.qm_mesh.proofs.{Vertices.end_low, Marks.mark_more, Marks.marked_all, Marks.first_of_all}
 use Rattle.std.proofs.Common.{arith}
 use Rattle.mesh_laws.proofs.Fans.{IsFan, is_fan}
-use Rattle.qm_mesh.proofs.Marks.{mark_more, marked_all, first_of_all}
 use Rattle.qm_mesh.proofs.twins.mark.Goals as goal
 
 pub mark_one-found-requires-clause-dart : goal.mark_one-found-requires-clause-dart

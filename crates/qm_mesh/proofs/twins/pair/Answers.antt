@@ -1,9 +1,7 @@
-use Rattle.qm_mesh.specs.declared.twins.Doubled.{Doubled}
+use Rattle.qm_mesh.specs.{declared.twins.Doubled.Doubled, Pairs.IsFirstBelow, Pairs.ArePartners}
 use Rattle.std.proofs.Common.{ℕ, List, Option, Some, None, arith, subst, sym, ap, ◌≡◌, ◌++◌, ◌∙◌, take, drop, length}
 use Rattle.std.proofs.Math.Seq.{take-append_seam}
-use Rattle.qm_mesh.specs.Pairs.{IsFirstBelow, ArePartners}
-use Rattle.qm_mesh.proofs.Vertices.{end_low}
-use Rattle.qm_mesh.proofs.Marks.{edges_once_from, first_twice_from}
+use Rattle.qm_mesh.proofs.{Vertices.end_low, Marks.edges_once_from, Marks.first_twice_from}
 use Rattle.qm_mesh.proofs.twins.pair.Goals as goal
 
 -- What was lent whole comes back whole.

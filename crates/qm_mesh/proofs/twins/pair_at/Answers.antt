@@ -1,7 +1,6 @@
 use Rattle.std.proofs.Common.{◌<◌, arith}
 use Rattle.def_mesh.specs.Darts.{darts}
-use Rattle.mesh_laws.proofs.Darts.{before_ends, before_low}
-use Rattle.mesh_laws.proofs.Fans.{IsFan, is_fan}
+use Rattle.mesh_laws.proofs.{Darts.before_ends, Darts.before_low, Fans.IsFan, Fans.is_fan}
 use Rattle.qm_mesh.proofs.Marks.{pair_more, paired_all}
 use Rattle.qm_mesh.proofs.twins.pair_at.Goals as goal
 

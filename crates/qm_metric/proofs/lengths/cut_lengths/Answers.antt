@@ -1,21 +1,13 @@
 use Rattle.std.proofs.Common.{◌≡◌, ◌<◌, ℕ, List, replicate, sym, ap, ◌∙◌, subst}
-use Rattle.std.specs.List.{All}
 use Rattle.std.proofs.lemmas.List.{with_items_is}
-use Rattle.def_layout.specs.Arcs.{AreArcs}
-use Rattle.def_layout.specs.Plans.{plan, Plan}
-use Rattle.def_layout.specs.declared.tmesh.TArc.{TArc}
+use Rattle.std.specs.List.{All}
+use Rattle.def_layout.specs.{Arcs.AreArcs, Plans.plan, Plans.Plan, declared.tmesh.TArc.TArc, Nodes.is_node}
 use Rattle.def_cut.specs.FullCut.{is_on}
-use Rattle.def_layout.specs.Nodes.{is_node}
-use Rattle.def_mesh.specs.Darts.{darts}
-use Rattle.def_mesh.specs.Faces.{Faces}
-use Rattle.def_mesh.specs.HalfEdges.{half_edges}
-use Rattle.def_mesh.specs.Manifold.{IsManifold}
+use Rattle.def_mesh.specs.{Darts.darts, Faces.Faces, HalfEdges.half_edges, Manifold.IsManifold}
 use Rattle.def_remesh.specs.Placings.{IsMeshLayout}
 use Rattle.mesh_laws.proofs.HalfEdges.{manifold_law}
 use Rattle.qm_metric.specs.Lengths.{with_arcs}
-use Rattle.qm_metric.proofs.CutTables.{filled_is}
-use Rattle.qm_metric.proofs.Reading.{runs_inside}
-use Rattle.qm_metric.proofs.lengths.cut_lengths.Goals.{After-deref}
+use Rattle.qm_metric.proofs.{CutTables.filled_is, Reading.runs_inside, lengths.cut_lengths.Goals.After-deref}
 use Rattle.qm_metric.proofs.lengths.cut_lengths.Goals as goal
 
 -- The darts of the arcs are darts of the mesh.

@@ -1,5 +1,4 @@
-use Rattle.std.proofs.Common.{◌<◌, ◌^◌, ℕ, set}
-use Rattle.std.proofs.lemmas.List.Elements.{All-set}
+use Rattle.std.proofs.{Common.◌<◌, Common.◌^◌, Common.ℕ, Common.set, lemmas.List.Elements.All-set}
 use Rattle.qm_metric.proofs.lengths.put_edge.Goals as goal
 
 pub returns-in-Some-clause-small : goal.returns-in-Some-clause-small

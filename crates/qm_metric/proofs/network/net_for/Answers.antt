@@ -1,25 +1,19 @@
 use Rattle.std.proofs.Common.{◌≡◌, ◌-◌, ◌<◌, ◌^◌, ℕ, List, length, map, sym, ap, ◌∙◌, subst, arith}
-use Rattle.std.specs.Prelude.{min}
-use Rattle.std.specs.List.{All}
+use Rattle.std.specs.{Prelude.min, List.All}
 use Rattle.def_fit.specs.Aims.{fit_settings}
-use Rattle.def_flow.specs.Network.{network}
-use Rattle.def_flow.specs.declared.net.Settings.{Settings}
-use Rattle.def_layout.specs.Arcs.{long_at}
-use Rattle.def_layout.specs.Plans.{layout_of, plan}
-use Rattle.def_layout.specs.declared.tmesh.TArc.{TArc}
-use Rattle.def_layoutnet.specs.LayoutNet.{HasNoNet, IsNetOf}
-use Rattle.def_layoutnet.specs.MeshLayouts.{IsSomeLayout}
+use Rattle.def_flow.specs.{Network.network, declared.net.Settings.Settings}
+use Rattle.def_layout.specs.{Arcs.long_at, Plans.layout_of, Plans.plan, declared.tmesh.TArc.TArc}
+use Rattle.def_layoutnet.specs.{LayoutNet.HasNoNet, LayoutNet.IsNetOf, MeshLayouts.IsSomeLayout}
 use Rattle.def_math.specs.Counts.{count}
-use Rattle.def_mesh.specs.Darts.{darts}
-use Rattle.def_mesh.specs.Faces.{Faces}
+use Rattle.def_mesh.specs.{Darts.darts, Faces.Faces}
 use Rattle.def_metric.specs.Fails.{metric_fail_of}
 use Rattle.def_remesh.specs.Placings.{IsMeshLayout}
 use Rattle.error_laws.proofs.Errors.{handed}
 use Rattle.qm_layoutnet.proofs.Whole.{runs_short}
 use Rattle.qm_metric.proofs.Nets.{even_is, far, few_arcs, near, net_is, no_net, settings_fit}
 use Rattle.qm_metric.proofs.Reading.{runs_inside}
-use Rattle.qm_metric.specs.Wishes.{wish_along}
 use Rattle.qm_metric.proofs.network.net_for.Goals.{After-deref, In_ok-sums}
+use Rattle.qm_metric.specs.Wishes.{wish_along}
 use Rattle.qm_metric.proofs.network.net_for.Goals as goal
 
 pub net_of-requires-clause-layout : goal.net_of-requires-clause-layout

@@ -1,6 +1,6 @@
 use Rattle.std.proofs.Common.{◌<◌, ◌*◌, ◌^◌, List, length, map, sym, ◌∙◌, ap, subst}
-use Rattle.std.specs.List.{All}
 use Rattle.std.proofs.lemmas.Result.{IfOk-weaker}
+use Rattle.std.specs.List.{All}
 use Rattle.def_layout.specs.declared.tmesh.TArc.{TArc}
 use Rattle.qm_layoutnet.proofs.Whole.{runs_short}
 use Rattle.qm_metric.proofs.Reading.{times_same}

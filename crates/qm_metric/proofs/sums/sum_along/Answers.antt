@@ -1,5 +1,4 @@
-use Rattle.std.proofs.Common.{◌≡◌, ◌∙◌, ℕ, get_or, arith}
-use Rattle.std.proofs.lemmas.List.{get_or_default}
+use Rattle.std.proofs.{Common.◌≡◌, Common.◌∙◌, Common.ℕ, Common.get_or, Common.arith, lemmas.List.get_or_default}
 use Rattle.table_laws.proofs.Ranges.{count_take}
 use Rattle.qm_metric.proofs.sums.sum_along.Goals as goal
 

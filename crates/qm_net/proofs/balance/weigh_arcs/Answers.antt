@@ -1,7 +1,6 @@
 use Rattle.std.proofs.Common.{◌≡◌, ◌≤◌, ◌^◌, slice_index, slice_index_or, None, false, ◌∙◌, ap, length, arith}
 use Rattle.std.proofs.lemmas.List.{get_or_default}
-use Rattle.def_flow.specs.Network.{arc_at}
-use Rattle.def_flow.specs.declared.net.Arc.{Arc}
+use Rattle.def_flow.specs.{Network.arc_at, declared.net.Arc.Arc}
 use Rattle.qm_net.specs.Balance.{weighed_arc}
 use Rattle.qm_net.proofs.Balances.{balances_more, balances_none}
 use Rattle.qm_net.proofs.balance.weigh_arcs.Goals as goal

@@ -1,7 +1,6 @@
 use Rattle.std.proofs.Common.{◌≡◌, ◌*◌, ◌^◌, ◌≤◌}
 use Rattle.def_math.specs.Counts.{count_below}
-use Rattle.def_flow.specs.Network.{network, arc_at}
-use Rattle.def_flow.specs.Admissible.{arc_deviation, entries}
+use Rattle.def_flow.specs.{Network.network, Network.arc_at, Admissible.arc_deviation, Admissible.entries}
 use Rattle.qm_net.proofs.wanted.deviation.Given as goal
 
 abbrev pub invariant-loop-k : goal.invariant-loop-k

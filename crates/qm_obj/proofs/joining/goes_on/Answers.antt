@@ -1,5 +1,4 @@
-use Rattle.std.proofs.Common.{◌∙◌, sym, refl}
-use Rattle.std.proofs.lemmas.Bool.{eq-eqb}
+use Rattle.std.proofs.{Common.◌∙◌, Common.sym, Common.refl, lemmas.Bool.eq-eqb}
 use Rattle.qm_obj.proofs.JoinLemmas.{no_hash}
 use Rattle.qm_obj.proofs.joining.goes_on.Goals as goal
 

@@ -1,14 +1,11 @@
 use Rattle.std.proofs.Common.{◌≡◌, true, map, arith, sym, ◌∙◌, ap, eqb}
+use Rattle.std.proofs.{lemmas.Bool.eq-eqb, lemmas.Bool.lt-leb, lemmas.Bool.ne_eqb, lemmas.List.take_all}
 use Rattle.std.specs.List.{list_any}
-use Rattle.std.proofs.lemmas.Bool.{eq-eqb, lt-leb, ne_eqb}
-use Rattle.std.proofs.lemmas.List.{take_all}
-use Rattle.def_text.specs.Corner.{is_corner_word}
-use Rattle.def_text.specs.declared.reading.Reading.TheVariants.{Face, Refused}
-use Rattle.def_text.specs.declared.refusal.ObjFail.TheVariants.{NotQuad}
-use Rattle.qm_obj.specs.Indices.{corner_of}
-use Rattle.qm_obj.proofs.LineLemmas.{face_count, face_in, face_out, face_syntax}
+use Rattle.def_text.specs.{Corner.is_corner_word, declared.reading.Reading.TheVariants.Face}
+use Rattle.def_text.specs.{declared.reading.Reading.TheVariants.Refused, declared.refusal.ObjFail.TheVariants.NotQuad}
 use Rattle.def_text.specs.Words.{words}
-use Rattle.qm_obj.specs.Lines.{uncommented}
+use Rattle.qm_obj.specs.{Indices.corner_of, Lines.uncommented}
+use Rattle.qm_obj.proofs.LineLemmas.{face_count, face_in, face_out, face_syntax}
 use Rattle.qm_obj.proofs.WordLemmas.{AreRead, IsNext, all_read, fewer_left, next_is, read_bad, read_more, words_few}
 use Rattle.qm_obj.proofs.WordLemmas.{uncommented_short}
 use Rattle.qm_obj.proofs.line.read_face.Goals.{After-is_empty}

@@ -1,8 +1,6 @@
 use Rattle.std.proofs.Common.{length}
-use Rattle.def_text.specs.Corner.{is_corner_word}
-use Rattle.qm_obj.specs.Indices.{corner_of}
-use Rattle.def_text.specs.Words.{words}
-use Rattle.qm_obj.specs.Lines.{IsReadTo, uncommented}
+use Rattle.def_text.specs.{Corner.is_corner_word, Words.words}
+use Rattle.qm_obj.specs.{Indices.corner_of, Lines.IsReadTo, Lines.uncommented}
 use Rattle.qm_obj.proofs.line.read_face.Given as goal
 
 abbrev pub invariant-words : goal.invariant-words

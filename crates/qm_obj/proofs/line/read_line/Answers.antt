@@ -1,7 +1,6 @@
 use Rattle.std.proofs.Common.{◌≡◌, ◌∙◌, sym, refl, true, false, ltb, arith}
 use Rattle.std.proofs.lemmas.Bool.{le-ltb}
-use Rattle.def_text.specs.Reading.{is_letter}
-use Rattle.def_text.specs.Words.{words}
+use Rattle.def_text.specs.{Reading.is_letter, Words.words}
 use Rattle.qm_obj.specs.Lines.{uncommented}
 use Rattle.qm_obj.proofs.WordLemmas.{by_first_word}
 use Rattle.qm_obj.proofs.line.read_line.Goals as goal

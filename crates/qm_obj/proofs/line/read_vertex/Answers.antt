@@ -1,12 +1,9 @@
 use Rattle.std.proofs.Common.{◌≡◌, ◌&&◌, true, length, map, take, arith, sym, ◌∙◌, ap}
-use Rattle.std.specs.List.{list_all}
 use Rattle.std.proofs.lemmas.Bool.{and_from, and_left, and_right, lt-leb}
-use Rattle.def_text.specs.Decimal.{is_decimal}
-use Rattle.def_text.specs.Reading.{is_position_count}
-use Rattle.qm_obj.specs.Positions.{all_near, coordinate}
+use Rattle.std.specs.List.{list_all}
+use Rattle.def_text.specs.{Decimal.is_decimal, Reading.is_position_count, Words.words}
+use Rattle.qm_obj.specs.{Positions.all_near, Positions.coordinate, Lines.uncommented}
 use Rattle.qm_obj.proofs.LineLemmas.{position_words, vertex_far, vertex_position, vertex_syntax}
-use Rattle.def_text.specs.Words.{words}
-use Rattle.qm_obj.specs.Lines.{uncommented}
 use Rattle.qm_obj.proofs.WordLemmas.{AreRead, IsNext, all_read, fewer_left, next_is, read_bad, read_more, words_few}
 use Rattle.qm_obj.proofs.WordLemmas.{uncommented_short}
 use Rattle.qm_obj.proofs.line.read_vertex.Goals.{After-is_empty}

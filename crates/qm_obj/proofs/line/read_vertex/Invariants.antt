@@ -1,8 +1,6 @@
 use Rattle.std.proofs.Common.{length}
-use Rattle.def_text.specs.Decimal.{is_decimal}
-use Rattle.qm_obj.specs.Positions.{coordinate}
-use Rattle.def_text.specs.Words.{words}
-use Rattle.qm_obj.specs.Lines.{IsReadTo, uncommented}
+use Rattle.def_text.specs.{Decimal.is_decimal, Words.words}
+use Rattle.qm_obj.specs.{Positions.coordinate, Lines.IsReadTo, Lines.uncommented}
 use Rattle.qm_obj.proofs.line.read_vertex.Given as goal
 
 abbrev pub invariant-words : goal.invariant-words

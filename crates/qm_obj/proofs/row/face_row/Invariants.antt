@@ -1,7 +1,6 @@
 use Rattle.std.proofs.Common.{◌≡◌, ◌≤◌, ◌∷◌, ◌+◌, ◌*◌, take}
 use Rattle.arrayvec.specs.ArrayVec.{array_vec_len}
-use Rattle.std.specs.Prelude.{decimal}
-use Rattle.std.specs.List.{flat_map}
+use Rattle.std.specs.{Prelude.decimal, List.flat_map}
 use Rattle.qm_obj.proofs.row.face_row.Given as goal
 
 abbrev pub invariant-loop-vertex : goal.invariant-loop-vertex

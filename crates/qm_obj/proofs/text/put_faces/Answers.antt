@@ -1,6 +1,5 @@
 use Rattle.def_text.specs.Canonical.{face_text}
-use Rattle.qm_output.proofs.Prefixes.{of_error}
-use Rattle.qm_output.proofs.Lists.{stops_at_item}
+use Rattle.qm_output.proofs.{Prefixes.of_error, Lists.stops_at_item}
 use Rattle.qm_obj.proofs.text.put_faces.Goals as goal
 
 pub returns-in_err-put_face-clause-part : goal.returns-in_err-put_face-clause-part

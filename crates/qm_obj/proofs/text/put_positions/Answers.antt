@@ -1,8 +1,6 @@
 use Rattle.std.proofs.Common.{subst}
-use Rattle.def_text.specs.Canonical.{position_text}
-use Rattle.def_text.specs.Types.{Position}
-use Rattle.qm_output.proofs.Prefixes.{of_error}
-use Rattle.qm_output.proofs.Lists.{stops_at_item}
+use Rattle.def_text.specs.{Canonical.position_text, Types.Position}
+use Rattle.qm_output.proofs.{Prefixes.of_error, Lists.stops_at_item}
 use Rattle.qm_obj.proofs.text.put_positions.Goals as goal
 
 pub returns-in_err-put_position-clause-part : goal.returns-in_err-put_position-clause-part

@@ -3,8 +3,8 @@ use Rattle.std.proofs.lemmas.Grind.{common_steps}
 use Rattle.std.proofs.lemmas.List.{length_push, get_or_push, get_or_append_left}
 use Rattle.qm_obj.specs.Kept.{chosen, IsKept}
 use Rattle.qm_obj.proofs.UsedLemmas.{kept_mark, kept_skip}
-use Rattle.qm_obj.proofs.used.keep_marked.Goals as goal
 use Rattle.qm_obj.proofs.used.keep_marked.Goals.{then-marks-k+in_ok-keep_position, else-marks-k}
+use Rattle.qm_obj.proofs.used.keep_marked.Goals as goal
 
 pub loop-k-preserved : goal.loop-k-preserved
 loop-k-preserved c =

@@ -1,6 +1,5 @@
 use Rattle.std.proofs.Common.{◌≡◌, ◌<◌, ◌||◌, ℕ, suc, false, length, take, get_or}
-use Rattle.std.specs.Prelude.{◌==◌}
-use Rattle.std.specs.List.{list_any}
+use Rattle.std.specs.{Prelude.◌==◌, List.list_any}
 use Rattle.qm_obj.proofs.used.mark_face.Given as goal
 
 abbrev pub invariant-loop-corner : goal.invariant-loop-corner

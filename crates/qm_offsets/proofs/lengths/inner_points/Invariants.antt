@@ -1,6 +1,5 @@
 use Rattle.std.proofs.Common.{◌-◌}
-use Rattle.def_remesh.specs.NewPoints.{lengths_in}
-use Rattle.def_remesh.specs.Numberings.{AreRunStarts}
+use Rattle.def_remesh.specs.{NewPoints.lengths_in, Numberings.AreRunStarts}
 use Rattle.qm_offsets.proofs.lengths.inner_points.Given as goal
 
 abbrev pub invariant-loop-length : goal.invariant-loop-length

@@ -1,5 +1,4 @@
-use Rattle.def_remesh.specs.NewPoints.{lengths_in}
-use Rattle.def_remesh.specs.Numberings.{sizes_on, AreRunStarts}
+use Rattle.def_remesh.specs.{NewPoints.lengths_in, Numberings.sizes_on, Numberings.AreRunStarts}
 use Rattle.qm_offsets.proofs.sides.side_starts.Given as goal
 
 abbrev pub invariant-loop-used : goal.invariant-loop-used

@@ -3,8 +3,7 @@ use Rattle.std.proofs.Common.{arith}
 use Rattle.std.proofs.lemmas.Bool.{cases_lt}
 use Rattle.std.proofs.lemmas.List.{map-append, length-map, get_or_append_left, get_or_push}
 use Rattle.def_layout.specs.Plans.{plan}
-use Rattle.def_remesh.specs.NewPoints.{lengths_in}
-use Rattle.def_remesh.specs.Numberings.{tables_of}
+use Rattle.def_remesh.specs.{NewPoints.lengths_in, Numberings.tables_of}
 use Rattle.qm_offsets.specs.Fours.{begins_of, AreFourStarts}
 use Rattle.qm_offsets.proofs.Whole.{sides_of}
 use Rattle.qm_offsets.proofs.sides.side_tables.Goals as goal

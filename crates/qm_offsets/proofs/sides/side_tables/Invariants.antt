@@ -1,7 +1,6 @@
 use Rattle.std.proofs.Common.{◌≡◌, ◌<◌, ℕ, [], length, get_or}
 use Rattle.def_layout.specs.Plans.{plan}
-use Rattle.def_remesh.specs.NewPoints.{lengths_in}
-use Rattle.def_remesh.specs.Numberings.{tables_of}
+use Rattle.def_remesh.specs.{NewPoints.lengths_in, Numberings.tables_of}
 use Rattle.qm_offsets.specs.Fours.{AreFourStarts}
 use Rattle.qm_offsets.proofs.sides.side_tables.Given as goal
 

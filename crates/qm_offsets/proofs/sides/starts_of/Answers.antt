@@ -1,10 +1,7 @@
 use Rattle.std.proofs.Common.{◌≡◌, List, [], length, get_or, ◌∙◌, ap, sym, arith}
 use Rattle.std.proofs.lemmas.List.{length-map}
 use Rattle.def_cut.specs.Grids.{rectangle}
-use Rattle.def_layout.specs.Arcs.{path}
-use Rattle.def_layout.specs.Layouts.{Way}
-use Rattle.def_layout.specs.Plans.{plan, way_number}
-use Rattle.def_layout.specs.declared.tmesh.Side.{Side}
+use Rattle.def_layout.specs.{Arcs.path, Layouts.Way, Plans.plan, Plans.way_number, declared.tmesh.Side.Side}
 use Rattle.def_remesh.specs.NewPoints.{lengths_in}
 use Rattle.qm_offsets.specs.Fours.{arcs_on, uses_in}
 use Rattle.qm_offsets.proofs.Whole.{arcs_low, side_long, way_for}

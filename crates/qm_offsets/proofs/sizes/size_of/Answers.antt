@@ -1,8 +1,6 @@
 use Rattle.std.proofs.Common.{length, arith}
-use Rattle.def_remesh.specs.NewPoints.{lengths_in}
-use Rattle.def_remesh.specs.Numberings.{sizes_on}
-use Rattle.qm_offsets.proofs.Spots.{count_step, term_room}
-use Rattle.qm_offsets.proofs.Whole.{read_size}
+use Rattle.def_remesh.specs.{NewPoints.lengths_in, Numberings.sizes_on}
+use Rattle.qm_offsets.proofs.{Spots.count_step, Spots.term_room, Whole.read_size}
 use Rattle.qm_offsets.proofs.sizes.size_of.Goals as goal
 
 pub overflow_add-size : goal.overflow_add-size

@@ -1,16 +1,13 @@
 use Rattle.std.proofs.Common.{◌≡◌, ℕ, ◌^◌, ◌<◌, ◌≤◌, length, ◌∙◌, ap, sym, arith}
 use Rattle.std.proofs.lemmas.List.{length-map}
 use Rattle.def_cut.specs.Grids.{rectangle}
-use Rattle.def_layout.specs.Arcs.{long_at, path}
-use Rattle.def_layout.specs.Layouts.{Way}
-use Rattle.def_layout.specs.Lengths.{size}
-use Rattle.def_layout.specs.Plans.{layout_of, way_number, plan}
-use Rattle.def_layout.specs.declared.tmesh.TMesh.{TMesh}
+use Rattle.def_layout.specs.{Arcs.long_at, Arcs.path, Layouts.Way, Lengths.size, Plans.layout_of, Plans.way_number}
+use Rattle.def_layout.specs.{Plans.plan, declared.tmesh.TMesh.TMesh}
 use Rattle.def_layoutnet.specs.MeshLayouts.{IsSomeLayout}
 use Rattle.def_remesh.specs.NewPoints.{lengths_in}
 use Rattle.plan_laws.proofs.MeshLayouts.{laid_of, lengths_of}
-use Rattle.qm_offsets.specs.Fours.{arcs_on}
 use Rattle.plan_laws.proofs.Bounds.{old_faces, side_few, side_most}
+use Rattle.qm_offsets.specs.Fours.{arcs_on}
 use Rattle.qm_offsets.proofs.Whole.{side_long, uses_low, way_for}
 use Rattle.qm_offsets.proofs.sizes.size_on.Goals as goal
 

@@ -1,9 +1,6 @@
-use Rattle.std.proofs.Common.{◌∙◌, arith}
-use Rattle.std.proofs.lemmas.List.{length-map}
-use Rattle.def_layout.specs.Arcs.{path}
-use Rattle.def_layout.specs.Plans.{plan}
-use Rattle.qm_place.proofs.ArcPoints.{read_short}
-use Rattle.qm_place.proofs.Rims.{old_short}
+use Rattle.std.proofs.{Common.◌∙◌, Common.arith, lemmas.List.length-map}
+use Rattle.def_layout.specs.{Arcs.path, Plans.plan}
+use Rattle.qm_place.proofs.{ArcPoints.read_short, Rims.old_short}
 use Rattle.qm_place.proofs.arcs.parameter_of.Goals as goal
 
 pub part_of_arc-requires-clause-short : goal.part_of_arc-requires-clause-short

@@ -1,9 +1,7 @@
 use Rattle.std.proofs.Common.{◌≡◌, ◌+◌, ◌-◌, ◌<◌, true, length, ◌∙◌, ap, arith}
 use Rattle.std.proofs.lemmas.List.{length-map}
-use Rattle.def_layout.specs.Arcs.{path}
-use Rattle.def_layout.specs.Plans.{plan}
-use Rattle.def_remesh.specs.NewPoints.{lengths_in}
-use Rattle.def_remesh.specs.Placings.{shares_in}
+use Rattle.def_layout.specs.{Arcs.path, Plans.plan}
+use Rattle.def_remesh.specs.{NewPoints.lengths_in, Placings.shares_in}
 use Rattle.def_written.specs.Numbers.{before_arc}
 use Rattle.map_laws.proofs.Spaced.{spacing_is}
 use Rattle.qm_place.proofs.ArcPoints.{inner_low, points_few, read_inner, read_short}

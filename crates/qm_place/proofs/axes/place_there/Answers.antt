@@ -1,6 +1,5 @@
 use Rattle.std.proofs.Common.{sym, ◌∙◌, ap, subst, arith}
-use Rattle.def_map.specs.Laws.{IsSpot}
-use Rattle.def_map.specs.SpotPlaces.{spot_place}
+use Rattle.def_map.specs.{Laws.IsSpot, SpotPlaces.spot_place}
 use Rattle.qm_place.specs.Spots.{IsShort}
 use Rattle.qm_place.proofs.axes.place_there.Goals as goal
 

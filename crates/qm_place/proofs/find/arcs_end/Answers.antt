@@ -1,7 +1,6 @@
 use Rattle.std.proofs.Common.{◌≡◌, ◌-◌, length, ◌∙◌, ap, arith}
 use Rattle.std.proofs.lemmas.List.{length-map}
-use Rattle.def_layout.specs.Arcs.{path}
-use Rattle.def_layout.specs.Plans.{plan}
+use Rattle.def_layout.specs.{Arcs.path, Plans.plan}
 use Rattle.def_written.specs.Numbers.{before_arc}
 use Rattle.def_remesh.specs.NewPoints.{lengths_in}
 use Rattle.qm_place.proofs.Entries.{end_read}

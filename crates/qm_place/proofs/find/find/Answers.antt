@@ -1,12 +1,9 @@
 use Rattle.std.proofs.Common.{◌≡◌, ◌+◌, ◌-◌, ◌*◌, ◌<◌, ℕ, List, length, sym, ◌∙◌, ap, subst, arith}
 use Rattle.std.proofs.lemmas.List.{get_or_read, length-map}
 use Rattle.def_math.specs.Runs.{run_at}
-use Rattle.def_layout.specs.Arcs.{path}
-use Rattle.def_layout.specs.Lengths.{wide, high}
-use Rattle.def_layout.specs.Plans.{layout_of, plan}
+use Rattle.def_layout.specs.{Arcs.path, Lengths.wide, Lengths.high, Plans.layout_of, Plans.plan}
 use Rattle.def_written.specs.Numbers.{before_arc, before_patch}
-use Rattle.def_remesh.specs.NewPoints.{lengths_in}
-use Rattle.def_remesh.specs.Numberings.{AreRunStarts}
+use Rattle.def_remesh.specs.{NewPoints.lengths_in, Numberings.AreRunStarts}
 use Rattle.qm_place.specs.Lengthened.{shares_by}
 use Rattle.qm_place.proofs.Entries.{some_runs}
 use Rattle.qm_place.proofs.Found.{found_at, found_in, found_on, in_patch, on_arc}

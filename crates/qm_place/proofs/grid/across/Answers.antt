@@ -1,9 +1,6 @@
 use Rattle.std.proofs.Common.{◌≡◌, ◌+◌, ◌-◌, ◌*◌, ◌/◌, sym, ◌∙◌, ap, inl, inr, arith}
 use Rattle.std.proofs.lemmas.Bool.{cases_lt}
-use Rattle.def_layout.specs.Arcs.{long_at}
-use Rattle.def_layout.specs.Layouts.{south, north}
-use Rattle.def_layout.specs.Lengths.{wide}
-use Rattle.def_layout.specs.Plans.{layout_of}
+use Rattle.def_layout.specs.{Arcs.long_at, Layouts.south, Layouts.north, Lengths.wide, Plans.layout_of}
 use Rattle.def_written.specs.Places.{ONE, parameter, parameter_back}
 use Rattle.qm_place.proofs.grid.across.Goals as goal
 

@@ -1,9 +1,6 @@
 use Rattle.std.proofs.Common.{◌≡◌, ◌+◌, ◌-◌, ◌*◌, ◌/◌, sym, ◌∙◌, ap, inl, inr, arith}
 use Rattle.std.proofs.lemmas.Bool.{cases_lt}
-use Rattle.def_layout.specs.Arcs.{long_at}
-use Rattle.def_layout.specs.Layouts.{east, west}
-use Rattle.def_layout.specs.Lengths.{high}
-use Rattle.def_layout.specs.Plans.{layout_of}
+use Rattle.def_layout.specs.{Arcs.long_at, Layouts.east, Layouts.west, Lengths.high, Plans.layout_of}
 use Rattle.def_written.specs.Places.{ONE, parameter, parameter_back}
 use Rattle.qm_place.proofs.grid.upright.Goals as goal
 

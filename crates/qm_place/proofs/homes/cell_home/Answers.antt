@@ -1,19 +1,12 @@
 use Rattle.std.proofs.Common.{◌≡◌, ℕ, ◌+◌, ◌/◌, ◌^◌, ◌<◌, ◌≤◌, length, get_or, [], ◌∷◌, ◌∙◌, arith}
 use Rattle.std.proofs.lemmas.List.{length-map}
-use Rattle.def_cut.specs.Grids.{cell_of, patch_at, rectangle}
-use Rattle.def_cut.specs.declared.patch.Patch.{Patch}
-use Rattle.def_layout.specs.Layouts.{south, east, north, west}
-use Rattle.def_layout.specs.Lengths.{wide, high}
-use Rattle.def_layout.specs.Plans.{layout_of, plan}
-use Rattle.def_layout.specs.declared.tmesh.TMesh.{TMesh}
+use Rattle.def_cut.specs.{Grids.cell_of, Grids.patch_at, Grids.rectangle, declared.patch.Patch.Patch}
+use Rattle.def_layout.specs.{Layouts.south, Layouts.east, Layouts.north, Layouts.west, Lengths.wide, Lengths.high}
+use Rattle.def_layout.specs.{Plans.layout_of, Plans.plan, declared.tmesh.TMesh.TMesh}
 use Rattle.def_map.specs.Homes.{corner_u, corner_v, home_column, home_row, mean_corner, seen_corner}
-use Rattle.def_remesh.specs.NewPoints.{lengths_in}
-use Rattle.def_remesh.specs.Placings.{rim_at}
-use Rattle.def_remesh.specs.declared.places.PlaceTables.{PlaceTables}
+use Rattle.def_remesh.specs.{NewPoints.lengths_in, Placings.rim_at, declared.places.PlaceTables.PlaceTables}
 use Rattle.def_written.specs.Places.{cell_at}
-use Rattle.qm_place.specs.Lengthened.{shares_by}
-use Rattle.qm_place.specs.Placed.{ArePlaced}
-use Rattle.qm_place.specs.Spots.{seen_from, IsOnGrid}
+use Rattle.qm_place.specs.{Lengthened.shares_by, Placed.ArePlaced, Spots.seen_from, Spots.IsOnGrid}
 use Rattle.qm_place.proofs.Entries.{cell_low, cell_read, patch_read}
 use Rattle.qm_place.proofs.homes.cell_home.Goals as goal
 

@@ -1,19 +1,13 @@
 use Rattle.std.proofs.Common.{◌≡◌, ◌-◌, ◌*◌, ◌<◌, ◌≤◌, ℕ, List, length, sym, ◌∙◌, ap, subst, arith}
 use Rattle.std.proofs.lemmas.List.{length-map}
 use Rattle.def_cut.specs.Grids.{rectangle}
-use Rattle.def_layout.specs.Arcs.{path}
-use Rattle.def_layout.specs.Lengths.{wide, high, AreLengths}
-use Rattle.def_layout.specs.Plans.{layout_of, plan}
+use Rattle.def_layout.specs.{Arcs.path, Lengths.wide, Lengths.high, Lengths.AreLengths, Plans.layout_of, Plans.plan}
 use Rattle.def_layout.specs.declared.tmesh.TMesh.{TMesh}
 use Rattle.def_mesh.specs.Faces.{Faces}
-use Rattle.def_remesh.specs.NewPoints.{lengths_in}
-use Rattle.def_remesh.specs.Numberings.{AreRunStarts}
-use Rattle.def_remesh.specs.Placings.{rim_at, shares_in, IsMeshLayout, IsRim, IsSpaced}
-use Rattle.def_remesh.specs.Spaced.{spacing_by}
-use Rattle.def_remesh.specs.declared.limits.TheConstants.{MAX_NEW_FACES}
-use Rattle.def_remesh.specs.declared.places.Rim.{Rim}
-use Rattle.def_written.specs.NewFaces.{face_count}
-use Rattle.def_written.specs.Places.{ArcSpacing}
+use Rattle.def_remesh.specs.{NewPoints.lengths_in, Numberings.AreRunStarts, Placings.rim_at, Placings.shares_in}
+use Rattle.def_remesh.specs.{Placings.IsMeshLayout, Placings.IsRim, Placings.IsSpaced, Spaced.spacing_by}
+use Rattle.def_remesh.specs.{declared.limits.TheConstants.MAX_NEW_FACES, declared.places.Rim.Rim}
+use Rattle.def_written.specs.{NewFaces.face_count, Places.ArcSpacing}
 use Rattle.qm_place.specs.ArcTables.{AreFine}
 use Rattle.qm_place.proofs.Built.{inner_short, inner_starts, lengths_short, points_short, rims_some}
 use Rattle.qm_place.proofs.places.placer.Goals as goal

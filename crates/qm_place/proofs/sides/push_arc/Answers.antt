@@ -2,8 +2,7 @@ use Rattle.std.proofs.Common.{◌≡◌, ◌+◌, ◌-◌, ◌*◌, cond, not, s
 use Rattle.std.proofs.lemmas.Bool.{cond-true, cond-false}
 use Rattle.def_remesh.specs.NewPoints.{lengths_in}
 use Rattle.def_written.specs.Places.{ONE}
-use Rattle.qm_place.specs.OnArcs.{spacing_on}
-use Rattle.qm_place.specs.Pushed.{on_arc}
+use Rattle.qm_place.specs.{OnArcs.spacing_on, Pushed.on_arc}
 use Rattle.qm_place.proofs.Pushes.{pushed_more}
 use Rattle.qm_place.proofs.sides.push_arc.Goals.{then-back, else-back, then-back-2, else-back-2}
 use Rattle.qm_place.proofs.sides.push_arc.Goals as goal

@@ -1,6 +1,5 @@
 use Rattle.def_remesh.specs.NewPoints.{lengths_in}
-use Rattle.qm_place.specs.OnArcs.{spacing_on}
-use Rattle.qm_place.specs.Pushed.{on_arc, ArePushed}
+use Rattle.qm_place.specs.{OnArcs.spacing_on, Pushed.on_arc, Pushed.ArePushed}
 use Rattle.qm_place.proofs.sides.push_arc.Given as goal
 
 abbrev pub invariant-loop-offset : goal.invariant-loop-offset

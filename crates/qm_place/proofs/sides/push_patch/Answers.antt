@@ -1,11 +1,8 @@
-use Rattle.std.proofs.Common.{◌-◌, refl, ◌∙◌, ap, arith}
-use Rattle.std.proofs.lemmas.List.{length-map}
+use Rattle.std.proofs.{Common.◌-◌, Common.refl, Common.◌∙◌, Common.ap, Common.arith, lemmas.List.length-map}
 use Rattle.def_cut.specs.Grids.{rectangle}
-use Rattle.def_layout.specs.Layouts.{south, east, north, west}
-use Rattle.def_layout.specs.Plans.{plan}
+use Rattle.def_layout.specs.{Layouts.south, Layouts.east, Layouts.north, Layouts.west, Plans.plan}
 use Rattle.qm_place.specs.OnArcs.{spacing_on}
-use Rattle.qm_place.proofs.Pushes.{kept_on, pushed_kept}
-use Rattle.qm_place.proofs.Rims.{new_few, rim_built}
+use Rattle.qm_place.proofs.{Pushes.kept_on, Pushes.pushed_kept, Rims.new_few, Rims.rim_built}
 use Rattle.qm_place.proofs.sides.push_patch.Goals as goal
 
 pub overflow_sub-wide : goal.overflow_sub-wide

@@ -1,9 +1,7 @@
 use Rattle.std.proofs.Common.{◌≡◌, ◌+◌, ◌-◌, ◌^◌, ◌≤◌, false, cond, get_or, ◌∙◌, ap, arith}
 use Rattle.std.specs.Prelude.{nat_le}
-use Rattle.def_layout.specs.Arcs.{long_at}
-use Rattle.def_layout.specs.declared.tmesh.SideArc.{SideArc}
-use Rattle.def_layout.specs.Layouts.{Way}
-use Rattle.def_layout.specs.Plans.{layout_of, way_number, plan}
+use Rattle.def_layout.specs.{Arcs.long_at, declared.tmesh.SideArc.SideArc, Layouts.Way, Plans.layout_of}
+use Rattle.def_layout.specs.Plans.{way_number, plan}
 use Rattle.qm_place.specs.OnArcs.{spacing_on}
 use Rattle.qm_place.proofs.Pushes.{start_by}
 use Rattle.qm_place.proofs.Rims.{back_by, old_read, read, side_more, start_few, IsRead}

@@ -2,9 +2,7 @@ use Rattle.std.proofs.Common.{◌≡◌, ℕ, List, [], ◌∷◌, ◌++◌, len
 use Rattle.std.proofs.lemmas.Bool.{cases_lt}
 use Rattle.std.proofs.lemmas.List.{get_or_append_left, get_or_push}
 use Rattle.def_layout.specs.Plans.{plan}
-use Rattle.def_remesh.specs.NewPoints.{lengths_in}
-use Rattle.def_remesh.specs.Placings.{rim_at, IsRim}
-use Rattle.def_remesh.specs.declared.places.Rim.{Rim}
+use Rattle.def_remesh.specs.{NewPoints.lengths_in, Placings.rim_at, Placings.IsRim, declared.places.Rim.Rim}
 use Rattle.qm_place.specs.OnArcs.{spacing_on}
 use Rattle.qm_place.proofs.Rims.{rim_kept}
 use Rattle.qm_place.proofs.sides.sides_of.Goals as goal

@@ -1,7 +1,6 @@
 use Rattle.std.proofs.Common.{◌≡◌, ◌<◌, ℕ, length}
 use Rattle.def_layout.specs.Plans.{plan}
-use Rattle.def_remesh.specs.NewPoints.{lengths_in}
-use Rattle.def_remesh.specs.Placings.{rim_at, IsRim}
+use Rattle.def_remesh.specs.{NewPoints.lengths_in, Placings.rim_at, Placings.IsRim}
 use Rattle.qm_place.specs.OnArcs.{spacing_on}
 use Rattle.qm_place.proofs.sides.sides_of.Given as goal
 

@@ -1,7 +1,6 @@
 use Rattle.std.proofs.Common.{◌≡◌, ◌+◌, ◌-◌, false, length, subst, arith}
 use Rattle.def_written.specs.Spacings.{counted, inner_step, step_parameter}
-use Rattle.qm_place.specs.Paths.{share_by}
-use Rattle.qm_place.specs.Pushed.{ArePushed}
+use Rattle.qm_place.specs.{Paths.share_by, Pushed.ArePushed}
 use Rattle.qm_place.proofs.spacing.push_shared.Goals as goal
 
 pub returns : goal.returns

@@ -1,8 +1,6 @@
 use Rattle.std.proofs.Common.{◌+◌, ◌-◌, false, length}
 use Rattle.def_written.specs.Spacings.{counted, inner_step, step_parameter}
-use Rattle.qm_place.specs.Paths.{share_by}
-use Rattle.qm_place.specs.Pushed.{ArePushed}
-use Rattle.qm_place.specs.Walks.{HasReached}
+use Rattle.qm_place.specs.{Paths.share_by, Pushed.ArePushed, Walks.HasReached}
 use Rattle.qm_place.proofs.spacing.push_shared.Given as goal
 
 abbrev pub invariant-loop-k : goal.invariant-loop-k

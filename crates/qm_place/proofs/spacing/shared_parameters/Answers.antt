@@ -1,19 +1,13 @@
 use Rattle.std.proofs.Common.{◌≡◌, ◌+◌, ◌-◌, ◌<◌, ◌≤◌, ℕ, suc, List, [], length, sym, ◌∙◌, ap, subst, inl, inr, arith}
-use Rattle.std.specs.Prelude.{slice_index}
 use Rattle.std.proofs.lemmas.Bool.{cases_lt}
 use Rattle.std.proofs.lemmas.List.{get_or-map, length-map}
-use Rattle.def_layout.specs.Arcs.{long_at, path, path_at, Path}
-use Rattle.def_layout.specs.Plans.{plan}
-use Rattle.def_layout.specs.declared.tmesh.TArc.{TArc}
-use Rattle.def_remesh.specs.NewPoints.{lengths_in}
-use Rattle.def_remesh.specs.Spaced.{shares_along}
-use Rattle.def_written.specs.Numbers.{before_arc}
-use Rattle.def_written.specs.Spacings.{shared_step, step_parameter}
+use Rattle.std.specs.Prelude.{slice_index}
+use Rattle.def_layout.specs.{Arcs.long_at, Arcs.path, Arcs.path_at, Arcs.Path, Plans.plan, declared.tmesh.TArc.TArc}
+use Rattle.def_remesh.specs.{NewPoints.lengths_in, Spaced.shares_along}
+use Rattle.def_written.specs.{Numbers.before_arc, Spacings.shared_step, Spacings.step_parameter}
 use Rattle.plan_laws.proofs.MeshLayouts.{lengths_of}
 use Rattle.written_laws.proofs.Runs.{place_low}
-use Rattle.qm_place.proofs.ArcPoints.{read_short}
-use Rattle.qm_place.proofs.Paths.{arc_parameter}
-use Rattle.qm_place.proofs.Rims.{old_read}
+use Rattle.qm_place.proofs.{ArcPoints.read_short, Paths.arc_parameter, Rims.old_read}
 use Rattle.qm_place.proofs.spacing.shared_parameters.Goals.{After-deref}
 use Rattle.qm_place.proofs.spacing.shared_parameters.Goals as goal
 

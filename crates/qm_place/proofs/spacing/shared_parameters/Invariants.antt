@@ -1,8 +1,7 @@
 use Rattle.std.proofs.Common.{◌≡◌, ◌+◌, ◌-◌, ◌<◌, ℕ, true, length, Some}
 use Rattle.std.specs.Prelude.{slice_index}
 use Rattle.def_layout.specs.Plans.{plan}
-use Rattle.def_remesh.specs.NewPoints.{lengths_in}
-use Rattle.def_remesh.specs.Spaced.{spacing_by}
+use Rattle.def_remesh.specs.{NewPoints.lengths_in, Spaced.spacing_by}
 use Rattle.def_written.specs.Numbers.{before_arc}
 use Rattle.qm_place.proofs.spacing.shared_parameters.Given as goal
 

@@ -3,9 +3,7 @@ use Rattle.std.proofs.lemmas.List.{get_or_read}
 use Rattle.def_layout.specs.Arcs.{dart_at, long_at}
 use Rattle.def_map.specs.Spots.{edge_spot}
 use Rattle.def_written.specs.Numbers.{before_arc}
-use Rattle.def_remesh.specs.Placings.{shares_in}
-use Rattle.def_remesh.specs.Spaced.{spacing_by}
-use Rattle.def_remesh.specs.declared.places.Spaced.{Spaced}
+use Rattle.def_remesh.specs.{Placings.shares_in, Spaced.spacing_by, declared.places.Spaced.Spaced}
 use Rattle.qm_place.specs.Lengthened.{lengths_by, plan_in, spacing_at}
 use Rattle.qm_place.proofs.ArcPoints.{inner_low, read_inner, spot_told}
 use Rattle.qm_place.proofs.Entries.{start_read}

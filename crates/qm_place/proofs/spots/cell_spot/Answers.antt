@@ -1,12 +1,9 @@
 use Rattle.std.proofs.Common.{◌≡◌, ◌-◌, ◌*◌, ◌∙◌, ap, arith}
 use Rattle.def_cut.specs.Grids.{cell_of, patch_at}
-use Rattle.def_layout.specs.Arcs.{long_at}
-use Rattle.def_layout.specs.Lengths.{wide, high}
-use Rattle.def_layout.specs.Plans.{layout_of, plan}
+use Rattle.def_layout.specs.{Arcs.long_at, Lengths.wide, Lengths.high, Plans.layout_of, Plans.plan}
 use Rattle.def_written.specs.Places.{ONE, cell_at, parameter_u, parameter_v}
 use Rattle.def_remesh.specs.NewPoints.{lengths_in}
-use Rattle.qm_place.specs.Lengthened.{spacing_at}
-use Rattle.qm_place.specs.declared.spots.GridPoint.{GridPoint}
+use Rattle.qm_place.specs.{Lengthened.spacing_at, declared.spots.GridPoint.GridPoint}
 use Rattle.qm_place.proofs.Entries.{cell_low, cell_read, patch_read}
 use Rattle.qm_place.proofs.spots.cell_spot.Goals as goal
 

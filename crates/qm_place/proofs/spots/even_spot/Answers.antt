@@ -1,7 +1,6 @@
 use Rattle.std.proofs.Common.{◌≡◌, ◌*◌, ◌/◌, ◌%◌, ◌^◌, ◌<◌, length, ◌∙◌, arith}
 use Rattle.std.proofs.lemmas.Nat.{mul-le}
-use Rattle.def_layout.specs.Arcs.{long_at}
-use Rattle.def_layout.specs.Plans.{plan}
+use Rattle.def_layout.specs.{Arcs.long_at, Plans.plan}
 use Rattle.qm_place.proofs.Entries.{arc_read, dart_read}
 use Rattle.qm_place.proofs.spots.even_spot.Goals as goal
 

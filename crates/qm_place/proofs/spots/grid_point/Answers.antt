@@ -1,12 +1,8 @@
 use Rattle.std.proofs.Common.{◌≡◌, ℕ, List, sym, ap, subst, arith}
-use Rattle.def_layout.specs.Arcs.{long_at}
-use Rattle.def_layout.specs.Plans.{layout_of, plan}
-use Rattle.def_remesh.specs.NewPoints.{lengths_in}
-use Rattle.def_remesh.specs.Placings.{IsRim}
-use Rattle.def_remesh.specs.declared.places.Rim.{Rim}
+use Rattle.def_layout.specs.{Arcs.long_at, Plans.layout_of, Plans.plan}
+use Rattle.def_remesh.specs.{NewPoints.lengths_in, Placings.IsRim, declared.places.Rim.Rim}
 use Rattle.def_written.specs.Places.{parameter_u, parameter_v}
-use Rattle.qm_place.specs.Lengthened.{spacing_at}
-use Rattle.qm_place.specs.Spots.{IsOnGrid}
+use Rattle.qm_place.specs.{Lengthened.spacing_at, Spots.IsOnGrid}
 use Rattle.qm_place.proofs.Entries.{patch_read, rim_here, rim_room}
 use Rattle.qm_place.proofs.spots.grid_point.Goals as goal
 

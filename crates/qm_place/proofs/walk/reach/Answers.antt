@@ -3,8 +3,7 @@ use Rattle.std.proofs.lemmas.Nat.{mul-le}
 use Rattle.def_math.specs.Counts.{count_below}
 use Rattle.written_laws.proofs.Runs.{count_rises}
 use Rattle.qm_place.specs.Walks.{share_in}
-use Rattle.qm_place.proofs.Paths.{edge_is, next_is, next_low}
-use Rattle.qm_place.proofs.walk.reach.Goals.{After-from-in-edges-2}
+use Rattle.qm_place.proofs.{Paths.edge_is, Paths.next_is, Paths.next_low, walk.reach.Goals.After-from-in-edges-2}
 use Rattle.qm_place.proofs.walk.reach.Goals as goal
 
 -- No more shares lie before the edge than in all.

@@ -1,8 +1,7 @@
 use Rattle.std.proofs.Common.{rules, ◌≡◌, ◌≤◌, ◌^◌, ℤ, pos, ◌+ℤ◌, FitsSigned, length, to_z, of_z, ◌∙◌, ap, arith}
-use Rattle.std.specs.Prelude.{unsigned_abs}
-use Rattle.std.specs.Int.{w128}
 use Rattle.std.proofs.lemmas.Int.{ints}
 use Rattle.std.proofs.lemmas.List.{get_or_default}
+use Rattle.std.specs.{Prelude.unsigned_abs, Int.w128}
 use Rattle.def_written.specs.Places.{blend}
 use Rattle.qm_place.proofs.Casts.{blend_micro, sum_is, sum_fits, mean_is, cast_micro}
 use Rattle.qm_place.proofs.ways.blend.Goals as goal

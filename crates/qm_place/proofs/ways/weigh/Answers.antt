@@ -1,6 +1,5 @@
 use Rattle.std.proofs.Common.{◌≡◌, ◌≤◌, ◌^◌, ◌*◌, pos, ◌*ℤ◌, to_z, of_z, ap, arith}
-use Rattle.std.specs.Prelude.{unsigned_abs}
-use Rattle.std.specs.Int.{w128}
+use Rattle.std.specs.{Prelude.unsigned_abs, Int.w128}
 use Rattle.qm_place.proofs.Casts.{weighed_is}
 use Rattle.qm_place.proofs.ways.weigh.Goals as goal
 

@@ -2,9 +2,7 @@ use Rattle.std.proofs.Common.{◌≡◌, ◌≤◌, ◌<◌, ◌*◌, ◌^◌, �
 use Rattle.std.proofs.lemmas.List.{take_all}
 use Rattle.std.proofs.lemmas.Nat.{mul-le}
 use Rattle.def_flow.specs.declared.limits.TheConstants.{MAX_LENGTH}
-use Rattle.def_layout.specs.Arcs.{long_at}
-use Rattle.def_layout.specs.Lengths.{Lengths, AreLengths}
-use Rattle.def_layout.specs.Plans.{layout_of, plan, Plan}
+use Rattle.def_layout.specs.{Arcs.long_at, Lengths.Lengths, Lengths.AreLengths, Plans.layout_of, Plans.plan, Plans.Plan}
 use Rattle.def_layout.specs.declared.tmesh.TArc.{TArc}
 use Rattle.def_layoutnet.specs.MeshLayouts.{IsSomeLayout}
 use Rattle.def_remesh.specs.NewPoints.{lengths_in, multiple_of}

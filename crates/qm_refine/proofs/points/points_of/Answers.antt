@@ -1,7 +1,6 @@
 use Rattle.std.proofs.Common.{◌≤◌, ℕ, List, subst}
 use Rattle.def_layout.specs.Plans.{layout_of}
-use Rattle.def_remesh.specs.NewPoints.{lengths_in}
-use Rattle.def_remesh.specs.declared.limits.TheConstants.{MAX_NEW_FACES}
+use Rattle.def_remesh.specs.{NewPoints.lengths_in, declared.limits.TheConstants.MAX_NEW_FACES}
 use Rattle.def_written.specs.NewFaces.{face_count}
 use Rattle.qm_refine.proofs.points.points_of.Goals as goal
 

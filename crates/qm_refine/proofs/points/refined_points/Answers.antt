@@ -1,13 +1,9 @@
 use Rattle.std.specs.Prelude.{IfErr, OnOk}
 use Rattle.std.proofs.Common.{◌≡◌, ◌≤◌, inr, ap, ◌∙◌, subst}
 use Rattle.std.proofs.lemmas.Result.{IfOk-weaker}
-use Rattle.def_layout.specs.Arcs.{long_at}
-use Rattle.def_layout.specs.Lengths.{Lengths}
-use Rattle.def_layout.specs.Plans.{layout_of}
-use Rattle.def_remesh.specs.CutSoups.{Regrid}
-use Rattle.def_remesh.specs.NewPoints.{lengths_in, multiple_of}
-use Rattle.def_remesh.specs.Stitched.{IsUnstitched, KeepsShapes}
-use Rattle.def_remesh.specs.declared.limits.TheConstants.{MAX_NEW_FACES}
+use Rattle.def_layout.specs.{Arcs.long_at, Lengths.Lengths, Plans.layout_of}
+use Rattle.def_remesh.specs.{CutSoups.Regrid, NewPoints.lengths_in, NewPoints.multiple_of, Stitched.IsUnstitched}
+use Rattle.def_remesh.specs.{Stitched.KeepsShapes, declared.limits.TheConstants.MAX_NEW_FACES}
 use Rattle.def_written.specs.NewFaces.{face_count}
 use Rattle.qm_refine.proofs.points.refined_points.Goals.{After-deref}
 use Rattle.qm_refine.proofs.points.refined_points.Goals as goal

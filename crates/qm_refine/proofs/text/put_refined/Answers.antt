@@ -3,10 +3,8 @@ use Rattle.std.proofs.Common.{◌≡◌, ℕ, None, subst}
 use Rattle.std.proofs.lemmas.Result.{on_err_weaker, on_ok_weaker}
 use Rattle.def_io.specs.Bytes.{Bytes}
 use Rattle.def_layout.specs.Arcs.{long_at}
-use Rattle.def_remesh.specs.CutSoups.{Regrid}
-use Rattle.def_remesh.specs.NewPoints.{lengths_in, multiple_of}
-use Rattle.def_remesh.specs.NewSoup.{new_soup, spaced_soup}
-use Rattle.def_remesh.specs.Refined.{refine_head}
+use Rattle.def_remesh.specs.{CutSoups.Regrid, NewPoints.lengths_in, NewPoints.multiple_of, NewSoup.new_soup}
+use Rattle.def_remesh.specs.{NewSoup.spaced_soup, Refined.refine_head}
 use Rattle.def_text.specs.Canonical.{canonical_text}
 use Rattle.qm_output.proofs.Prefixes.{of_error}
 use Rattle.qm_refine.proofs.text.put_refined.Goals as goal

@@ -2,14 +2,10 @@ use Rattle.std.proofs.Common.{false, subst, sym}
 use Rattle.error_laws.proofs.Errors.{handed}
 use Rattle.def_certtext.specs.CertLines.{certificates_of}
 use Rattle.def_fit.specs.Aims.{aimed, fit_settings}
-use Rattle.def_flow.specs.Network.{network}
-use Rattle.def_flow.specs.declared.net.Settings.{Settings}
+use Rattle.def_flow.specs.{Network.network, declared.net.Settings.Settings}
 use Rattle.def_metric.specs.declared.fail.SizeFail.TheVariants.{Layout}
-use Rattle.def_remesh.specs.Keeping.{IsKept, IsNetFor}
-use Rattle.def_remesh.specs.Refusals.{IsLayoutFail}
-use Rattle.def_remesh.specs.Tasks.{Wish}
-use Rattle.qm_remesh.proofs.Sizes.{no_mesh}
-use Rattle.qm_remesh.proofs.fitted.keep_fit.Goals.{After-fit_settings}
+use Rattle.def_remesh.specs.{Keeping.IsKept, Keeping.IsNetFor, Refusals.IsLayoutFail, Tasks.Wish}
+use Rattle.qm_remesh.proofs.{Sizes.no_mesh, fitted.keep_fit.Goals.After-fit_settings}
 use Rattle.qm_remesh.proofs.fitted.keep_fit.Goals as goal
 
 abbrev wish : (c : After-fit_settings) → Wish

@@ -1,7 +1,6 @@
 use Rattle.std.proofs.Common.{List, ℕ, ap, sym, subst, ◌∙◌}
 use Rattle.def_fit.specs.Aims.{fit_settings}
-use Rattle.def_flow.specs.Descent.{IsStartOf}
-use Rattle.def_flow.specs.Network.{network}
+use Rattle.def_flow.specs.{Descent.IsStartOf, Network.network}
 use Rattle.def_metric.specs.Starts.{times_long}
 use Rattle.qm_metric.proofs.StartLaws.{start_law}
 use Rattle.qm_remesh.proofs.Sizes.{unscaled}

@@ -1,14 +1,9 @@
 use Rattle.std.proofs.Common.{ℕ, sym, subst}
 use Rattle.def_flow.specs.Network.{network}
-use Rattle.def_layout.specs.Arcs.{long_at}
-use Rattle.def_layout.specs.Plans.{layout_of, plan, Plan}
-use Rattle.def_layoutnet.specs.LayoutNet.{HasNoNet, IsNetOf}
-use Rattle.def_layoutnet.specs.MeshLayouts.{IsSomeLayout}
-use Rattle.def_remesh.specs.Keeping.{IsNetFor}
-use Rattle.def_remesh.specs.Refusals.{IsTangledAt}
-use Rattle.def_remesh.specs.Tasks.{old_lengths}
-use Rattle.qm_remesh.proofs.Nets.{net_for}
-use Rattle.qm_remesh.proofs.keeping.keep.Goals.{In-Ok}
+use Rattle.def_layout.specs.{Arcs.long_at, Plans.layout_of, Plans.plan, Plans.Plan}
+use Rattle.def_layoutnet.specs.{LayoutNet.HasNoNet, LayoutNet.IsNetOf, MeshLayouts.IsSomeLayout}
+use Rattle.def_remesh.specs.{Keeping.IsNetFor, Refusals.IsTangledAt, Tasks.old_lengths}
+use Rattle.qm_remesh.proofs.{Nets.net_for, keeping.keep.Goals.In-Ok}
 use Rattle.qm_remesh.proofs.keeping.keep.Goals as goal
 
 pub net_of-requires-clause-layout : goal.net_of-requires-clause-layout

@@ -2,8 +2,7 @@ use Rattle.std.specs.Prelude.{IfErr, IfOk}
 use Rattle.std.proofs.Common.{Bool, subst, sym}
 use Rattle.def_certtext.specs.CertLines.{certificates_of}
 use Rattle.def_flow.specs.Network.{network}
-use Rattle.def_remesh.specs.Keeping.{IsKept}
-use Rattle.def_remesh.specs.Refusals.{IsLayoutFail}
+use Rattle.def_remesh.specs.{Keeping.IsKept, Refusals.IsLayoutFail}
 use Rattle.remesh_laws.proofs.Keeps.{are_lengths, doubled_first, doubled_some, keeps_first, low_floor, solved, too_fine}
 use Rattle.qm_remesh.proofs.keeping.keep_solved.Goals as goal
 

@@ -1,8 +1,7 @@
 use Rattle.std.proofs.Common.{◌<◌, List, sym, subst}
 use Rattle.std.specs.List.{All}
 use Rattle.def_mesh.specs.Darts.{darts}
-use Rattle.def_cut.specs.Traced.{last_state}
-use Rattle.def_cut.specs.declared.graph.Rider.{Rider}
+use Rattle.def_cut.specs.{Traced.last_state, declared.graph.Rider.Rider}
 use Rattle.qm_report.proofs.FirstDarts.{starts_low}
 use Rattle.qm_report.proofs.graph.graph_text.Goals as goal
 

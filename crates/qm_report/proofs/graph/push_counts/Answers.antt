@@ -1,12 +1,10 @@
 use mir.Syntax.{w64, w128}
-use Rattle.std.proofs.Common.{◌≡◌, ◌≤◌, ℤ, ◌∷◌, [], length}
-use Rattle.std.proofs.Common.{to_z, of_z, Ok, ap, sym, ◌∙◌, arith}
-use Rattle.std.proofs.lemmas.Int.{ints}
+use Rattle.std.proofs.Common.{◌≡◌, ◌≤◌, ℤ, ◌∷◌, [], length, to_z, of_z}
+use Rattle.std.proofs.{Common.Ok, Common.ap, Common.sym, Common.◌∙◌, Common.arith, lemmas.Int.ints}
 use Rattle.std.specs.Prelude.{codes}
 use Rattle.def_io.specs.declared.TheConstants.{LINE_FEED}
 use Rattle.def_mesh.specs.Components.{edge_count, euler, is_lesser, used_count}
-use Rattle.def_mesh.specs.Darts.{darts, twin_of}
-use Rattle.def_mesh.specs.Vertices.{is_used, vertex_count}
+use Rattle.def_mesh.specs.{Darts.darts, Darts.twin_of, Vertices.is_used, Vertices.vertex_count}
 use Rattle.qm_report.proofs.TableReads.{filter_few}
 use Rattle.qm_report.proofs.Texts.{behind, nothing_behind, number_behind, signed_behind}
 use Rattle.qm_report.proofs.graph.push_counts.Goals as goal

@@ -1,9 +1,6 @@
-use Rattle.std.proofs.Common.{◌≡◌, ◌<◌, ℕ, ◌++◌, length, ap, ◌∙◌, arith}
-use Rattle.std.proofs.lemmas.List.{length-map}
-use Rattle.std.proofs.lemmas.List.FromFn.{length-range_with_len}
-use Rattle.def_mesh.specs.Kinds.{kind_of}
-use Rattle.def_mesh.specs.Vertices.{all_vertices, vertex_count}
-use Rattle.def_mesh.specs.declared.Kind.{Kind}
+use Rattle.std.proofs.Common.{◌≡◌, ◌<◌, ℕ, ◌++◌, length, ap, ◌∙◌}
+use Rattle.std.proofs.{Common.arith, lemmas.List.length-map, lemmas.List.FromFn.length-range_with_len}
+use Rattle.def_mesh.specs.{Kinds.kind_of, Vertices.all_vertices, Vertices.vertex_count, declared.Kind.Kind}
 use Rattle.def_mesh.specs.declared.Kind.TheVariants.{Regular}
 use Rattle.def_report.specs.GraphText.{kind_line, vertex_line}
 use Rattle.qm_sing.proofs.KindReads.{kind_read}

@@ -1,10 +1,7 @@
 use Rattle.std.proofs.Common.{◌++◌, List, ℕ, length, ap, ◌∙◌}
-use Rattle.std.specs.Prelude.{option_copied}
-use Rattle.std.specs.List.{flat_map, range_with_len}
+use Rattle.std.specs.{Prelude.option_copied, List.flat_map, List.range_with_len}
 use Rattle.def_cuttext.specs.LayoutText.{break_line, layout_head, named_line, place_in_file, whole_arc_line}
-use Rattle.def_mesh.specs.Components.{seeds as seeds_of}
-use Rattle.def_mesh.specs.Faces.{Faces}
-use Rattle.def_mesh.specs.Vertices.{all_vertices}
+use Rattle.def_mesh.specs.{Components.seeds as seeds_of, Faces.Faces, Vertices.all_vertices}
 use Rattle.def_report.specs.GraphText.{counts_line, patch_lines, seed_line}
 use Rattle.qm_report.proofs.layout.layout_text.Goals as goal
 

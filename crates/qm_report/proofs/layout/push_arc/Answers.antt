@@ -1,9 +1,8 @@
 use Rattle.std.proofs.Common.{◌≡◌, ◌<◌, ◌+◌, ℕ, List, [], ◌∷◌, ◌++◌, length, get_or, sym, ap, ◌∙◌, arith}
-use Rattle.std.specs.Prelude.{option_copied, slice_index}
 use Rattle.std.proofs.lemmas.List.{get_or_default, length-map}
+use Rattle.std.specs.Prelude.{option_copied, slice_index}
 use Rattle.def_cuttext.specs.LayoutText.{place_in_file}
-use Rattle.def_layout.specs.Arcs.{path, path_at}
-use Rattle.def_layout.specs.Plans.{vertex_at, Plan}
+use Rattle.def_layout.specs.{Arcs.path, Arcs.path_at, Plans.vertex_at, Plans.Plan}
 use Rattle.def_report.specs.GraphText.{numbers_line}
 use Rattle.qm_report.proofs.Layouts.{along_low, along_numbers, arc_read, arc_written, last_node, line_behind}
 use Rattle.qm_report.proofs.layout.push_arc.Goals as goal

@@ -1,10 +1,8 @@
 use Rattle.std.proofs.Common.{◌≡◌, ℕ, ◌++◌, length, ap, subst, arith}
-use Rattle.std.specs.Prelude.{option_copied}
-use Rattle.std.specs.List.{flat_map, range_with_len}
 use Rattle.std.proofs.lemmas.List.{length-map}
+use Rattle.std.specs.{Prelude.option_copied, List.flat_map, List.range_with_len}
 use Rattle.def_cuttext.specs.LayoutText.{whole_arc_line}
-use Rattle.def_layout.specs.Arcs.{path}
-use Rattle.def_layout.specs.Plans.{Plan}
+use Rattle.def_layout.specs.{Arcs.path, Plans.Plan}
 use Rattle.qm_report.proofs.Texts.{piece_behind}
 use Rattle.qm_report.proofs.layout.push_arcs.Goals as goal
 

@@ -1,6 +1,5 @@
 use Rattle.std.proofs.Common.{◌++◌, List, ℕ, sym, ap, ◌∙◌, append-nil}
-use Rattle.std.specs.Prelude.{option_copied}
-use Rattle.std.specs.List.{flat_map}
+use Rattle.std.specs.{Prelude.option_copied, List.flat_map}
 use Rattle.def_cuttext.specs.LayoutText.{break_line}
 use Rattle.def_mesh.specs.Vertices.{all_vertices}
 use Rattle.qm_report.proofs.Layouts.{none_breaks}

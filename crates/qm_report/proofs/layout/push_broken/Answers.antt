@@ -1,12 +1,11 @@
 use Rattle.std.proofs.Common.{◌≡◌, ◌<◌, ◌+◌, ℕ, Bool, true, false, List, [], ◌∷◌, ◌++◌, Some, length, get_or, codes}
 use Rattle.std.proofs.Common.{sym, ap, ◌∙◌, arith}
-use Rattle.std.specs.List.{range_with_len}
 use Rattle.std.proofs.lemmas.List.{length-map}
 use Rattle.std.proofs.lemmas.List.FromFn.{get_or-map-range_with_len, length-range_with_len}
+use Rattle.std.specs.List.{range_with_len}
 use Rattle.def_cuttext.specs.LayoutText.{break_line, place_in_file}
 use Rattle.def_feature.specs.Marks.{is_break}
-use Rattle.def_mesh.specs.Faces.{Faces}
-use Rattle.def_mesh.specs.Vertices.{all_vertices, vertex_count}
+use Rattle.def_mesh.specs.{Faces.Faces, Vertices.all_vertices, Vertices.vertex_count}
 use Rattle.def_report.specs.GraphText.{numbers_line}
 use Rattle.qm_report.proofs.Texts.{nothing_behind, piece_behind}
 use Rattle.qm_report.proofs.layout.push_broken.Goals.{then-index+in_ok-push_line, else-index}

@@ -1,12 +1,8 @@
-use Rattle.std.proofs.Common.{◌≡◌, ◌<◌, ℕ, List, ◌++◌, length, ap, ◌∙◌, arith}
-use Rattle.std.proofs.lemmas.List.{length-map}
-use Rattle.std.proofs.lemmas.List.FromFn.{length-range_with_len}
+use Rattle.std.proofs.Common.{◌≡◌, ◌<◌, ℕ, List, ◌++◌, length, ap, ◌∙◌}
+use Rattle.std.proofs.{Common.arith, lemmas.List.length-map, lemmas.List.FromFn.length-range_with_len}
 use Rattle.def_cuttext.specs.LayoutText.{named_line, place_in_file}
-use Rattle.def_mesh.specs.Faces.{Faces}
-use Rattle.def_mesh.specs.Kinds.{kind_of}
-use Rattle.def_mesh.specs.Vertices.{all_vertices, faces_at, vertex_count}
-use Rattle.def_mesh.specs.declared.Kind.{Kind}
-use Rattle.def_mesh.specs.declared.Kind.TheVariants.{Regular}
+use Rattle.def_mesh.specs.{Faces.Faces, Kinds.kind_of, Vertices.all_vertices, Vertices.faces_at, Vertices.vertex_count}
+use Rattle.def_mesh.specs.{declared.Kind.Kind, declared.Kind.TheVariants.Regular}
 use Rattle.def_report.specs.GraphText.{kind_line}
 use Rattle.qm_sing.proofs.KindReads.{kind_read}
 use Rattle.qm_report.proofs.Texts.{piece_behind}

@@ -1,7 +1,6 @@
 use Rattle.std.proofs.Common.{ℕ, arith}
 use Rattle.std.specs.Prelude.{codes}
-use Rattle.qm_report.proofs.Texts.{behind}
-use Rattle.qm_report.proofs.TableReads.{side_behind}
+use Rattle.qm_report.proofs.{Texts.behind, TableReads.side_behind}
 use Rattle.qm_report.proofs.parts.push_sides.Goals as goal
 
 pub returns : goal.returns

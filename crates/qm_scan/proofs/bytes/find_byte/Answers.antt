@@ -1,5 +1,4 @@
-use Rattle.std.proofs.Common.{length, arith, sym, eqb}
-use Rattle.std.proofs.lemmas.Bool.{eq-eqb}
+use Rattle.std.proofs.{Common.length, Common.arith, Common.sym, Common.eqb, lemmas.Bool.eq-eqb}
 use Rattle.std.proofs.lemmas.List.Sums.{position_or_len_is}
 use Rattle.qm_scan.proofs.bytes.find_byte.Goals as goal
 

@@ -1,7 +1,6 @@
 use Rattle.std.proofs.Common.{◌-◌, take, get_or, arith, sym, ◌∙◌}
+use Rattle.std.proofs.{lemmas.List.Folds.list_all_more, lemmas.Bool.and_from}
 use Rattle.std.specs.Char.{is_ascii_digit}
-use Rattle.std.proofs.lemmas.List.Folds.{list_all_more}
-use Rattle.std.proofs.lemmas.Bool.{and_from}
 use Rattle.def_text.specs.Digits.{number_written}
 use Rattle.qm_scan.proofs.Numbers.{number_more, clamped_more}
 use Rattle.qm_scan.proofs.number.read_long.Goals as goal

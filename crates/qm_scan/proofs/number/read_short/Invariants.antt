@@ -1,6 +1,5 @@
 use Rattle.std.proofs.Common.{◌≡◌, take, true}
-use Rattle.std.specs.Char.{is_ascii_digit}
-use Rattle.std.specs.List.{list_all}
+use Rattle.std.specs.{Char.is_ascii_digit, List.list_all}
 use Rattle.def_text.specs.Digits.{number_written}
 use Rattle.qm_scan.proofs.number.read_short.Given as goal
 

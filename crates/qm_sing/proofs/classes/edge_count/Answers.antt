@@ -1,6 +1,5 @@
 use Rattle.std.proofs.Common.{ℕ, cond, Bool, ap, arith}
-use Rattle.def_mesh.specs.Darts.{twin_of}
-use Rattle.def_mesh.specs.Components.{is_lesser}
+use Rattle.def_mesh.specs.{Darts.twin_of, Components.is_lesser}
 use Rattle.qm_sing.proofs.Edges.{filter_few, one_more}
 use Rattle.qm_sing.proofs.classes.edge_count.Goals.{then-is_lesser_dart, else-is_lesser_dart}
 use Rattle.qm_sing.proofs.classes.edge_count.Goals as goal

@@ -1,7 +1,6 @@
 use Rattle.std.proofs.Common.{◌≡◌, length}
 use Rattle.std.specs.List.{filter, range_with_len}
-use Rattle.def_mesh.specs.Darts.{twin_of}
-use Rattle.def_mesh.specs.Components.{is_lesser}
+use Rattle.def_mesh.specs.{Darts.twin_of, Components.is_lesser}
 use Rattle.qm_sing.proofs.classes.edge_count.Given as goal
 
 -- The edges of the darts before d have been counted.

@@ -1,5 +1,4 @@
-use Rattle.std.proofs.Common.{length, Ok, ap, arith}
-use Rattle.std.proofs.lemmas.Int.{ints}
+use Rattle.std.proofs.{Common.length, Common.Ok, Common.ap, Common.arith, lemmas.Int.ints}
 use Rattle.qm_sing.proofs.Edges.{used_is}
 use Rattle.qm_sing.proofs.classes.euler.Goals as goal
 

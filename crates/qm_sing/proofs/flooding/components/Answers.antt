@@ -1,8 +1,7 @@
 use Rattle.std.proofs.Common.{◌≡◌, ℕ, ◌+◌, ◌<◌, List, replicate, length, rules, get_or, ap, subst, sym, ◌∙◌, arith}
 use Rattle.std.proofs.lemmas.List.{with_items_is}
 use Rattle.std.proofs.lemmas.Grind.{get_or_default_zero}
-use Rattle.qm_sing.specs.Floods.{IsNumbering}
-use Rattle.qm_sing.specs.declared.flooding.TheConstants.{NONE}
+use Rattle.qm_sing.specs.{Floods.IsNumbering, declared.flooding.TheConstants.NONE}
 use Rattle.qm_sing.proofs.Numberings.{numbering_none, numbering_closed, numbering_low, numbering_skip, numbering_more}
 use Rattle.qm_sing.proofs.Numberings.{numbers_are, count_is}
 use Rattle.qm_sing.proofs.flooding.components.Goals.{then-index+in_ok-flood, else-index}

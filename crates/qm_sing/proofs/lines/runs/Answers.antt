@@ -1,9 +1,8 @@
 use Rattle.std.proofs.Common.{rules, ◌≡◌, ◌<◌, ℕ, List, length, get_or, replicate, sym, subst, ap, ◌∙◌, arith}
-use Rattle.std.specs.Vec.{with_items}
 use Rattle.std.proofs.lemmas.List.{get_or_default, length-map, with_items_is}
+use Rattle.std.specs.Vec.{with_items}
 use Rattle.def_mesh.specs.Darts.{darts}
-use Rattle.qm_sing.specs.declared.flooding.TheConstants.{NONE}
-use Rattle.qm_sing.specs.Walks.{IsLine}
+use Rattle.qm_sing.specs.{declared.flooding.TheConstants.NONE, Walks.IsLine}
 use Rattle.qm_sing.proofs.Longest.{none_found, one_more, passed_by}
 use Rattle.qm_sing.proofs.lines.runs.Goals.{then-index+in_ok-push+in_ok-push-2, else-index}
 use Rattle.qm_sing.proofs.lines.runs.Goals as goal

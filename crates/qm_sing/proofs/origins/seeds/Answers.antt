@@ -1,7 +1,6 @@
 use Rattle.std.proofs.Common.{◌≡◌, get_or, false, ◌++◌, ◌∷◌, [], ap, ◌∙◌, sym}
 use Rattle.qm_sing.specs.Rings.{is_seed}
-use Rattle.qm_sing.proofs.Edges.{filter_on, filter_off}
-use Rattle.qm_sing.proofs.Seeds.{mark_test}
+use Rattle.qm_sing.proofs.{Edges.filter_on, Edges.filter_off, Seeds.mark_test}
 use Rattle.qm_sing.proofs.origins.seeds.Goals.{then-marks-v+in_ok-push, else-marks-v}
 use Rattle.qm_sing.proofs.origins.seeds.Goals as goal
 

@@ -1,14 +1,9 @@
 use Rattle.std.proofs.Common.{◌≡◌, ◌<◌, get_or, is_some, false, ◌++◌, ◌∷◌, [], length, ap, ◌∙◌, sym, arith}
 use Rattle.std.proofs.lemmas.List.{length-map}
 use Rattle.std.proofs.lemmas.List.FromFn.{length-range_with_len}
-use Rattle.def_mesh.specs.Kinds.{kind_of}
-use Rattle.def_mesh.specs.Vertices.{all_vertices, vertex_count}
-use Rattle.qm_sing.proofs.Edges.{filter_on, filter_off}
-use Rattle.qm_sing.proofs.KindReads.{kind_read}
-use Rattle.qm_sing.proofs.Seeds.{mark_test, start_told}
-use Rattle.def_mesh.specs.Darts.{darts}
-use Rattle.def_mesh.specs.Components.{is_start, seeds}
-use Rattle.def_mesh.specs.declared.Kind.TheVariants.{Regular}
+use Rattle.def_mesh.specs.{Kinds.kind_of, Vertices.all_vertices, Vertices.vertex_count, Darts.darts}
+use Rattle.def_mesh.specs.{Components.is_start, Components.seeds, declared.Kind.TheVariants.Regular}
+use Rattle.qm_sing.proofs.{Edges.filter_on, Edges.filter_off, KindReads.kind_read, Seeds.mark_test, Seeds.start_told}
 use Rattle.qm_sing.proofs.origins.starts.Goals.{then-may_start+in_ok-push, else-may_start}
 use Rattle.qm_sing.proofs.origins.starts.Goals as goal
 

@@ -1,14 +1,9 @@
 use Rattle.std.proofs.Common.{◌≡◌, ◌<◌, ◌/◌, get_or, length, ap, arith}
-use Rattle.std.proofs.lemmas.List.{length-map}
-use Rattle.std.proofs.lemmas.List.FromFn.{length-range_with_len}
-use Rattle.def_mesh.specs.Faces.{all_faces}
-use Rattle.def_mesh.specs.Darts.{darts}
-use Rattle.def_mesh.specs.declared.Kind.TheVariants.{Regular}
-use Rattle.def_mesh.specs.Kinds.{kind_of}
-use Rattle.def_mesh.specs.Vertices.{all_vertices, vertex_count}
-use Rattle.def_mesh.specs.Components.{least_face, least_faces, place_among}
-use Rattle.qm_sing.proofs.KindReads.{kind_read}
-use Rattle.qm_sing.proofs.Seeds.{number_low, gathered, number_read}
+use Rattle.std.proofs.{lemmas.List.length-map, lemmas.List.FromFn.length-range_with_len}
+use Rattle.def_mesh.specs.{Faces.all_faces, Darts.darts, declared.Kind.TheVariants.Regular, Kinds.kind_of}
+use Rattle.def_mesh.specs.{Vertices.all_vertices, Vertices.vertex_count, Components.least_face, Components.least_faces}
+use Rattle.def_mesh.specs.Components.{place_among}
+use Rattle.qm_sing.proofs.{KindReads.kind_read, Seeds.number_low, Seeds.gathered, Seeds.number_read}
 use Rattle.qm_sing.proofs.rings.gather.Goals as goal
 
 pub bounds-component-d : goal.bounds-component-d

@@ -1,11 +1,8 @@
-use Rattle.std.proofs.Common.{◌≡◌, ◌<◌, ◌/◌, get_or, length, ap, sym, ◌∙◌, arith}
-use Rattle.std.proofs.lemmas.List.{length-map}
-use Rattle.std.proofs.lemmas.List.FromFn.{length-range_with_len}
-use Rattle.def_mesh.specs.Faces.{all_faces}
-use Rattle.def_mesh.specs.Darts.{darts, from_of}
+use Rattle.std.proofs.Common.{◌≡◌, ◌<◌, ◌/◌, get_or, length, ap, sym}
+use Rattle.std.proofs.{Common.◌∙◌, Common.arith, lemmas.List.length-map, lemmas.List.FromFn.length-range_with_len}
+use Rattle.def_mesh.specs.{Faces.all_faces, Darts.darts, Darts.from_of, Vertices.vertex_count, Components.least_face}
+use Rattle.def_mesh.specs.Components.{least_faces, place_among}
 use Rattle.qm_sing.specs.Rings.{is_seed}
-use Rattle.def_mesh.specs.Vertices.{vertex_count}
-use Rattle.def_mesh.specs.Components.{least_face, least_faces, place_among}
 use Rattle.qm_sing.proofs.Seeds.{number_low, number_read, least_told, marks_on, marks_off}
 use Rattle.qm_sing.proofs.rings.mark.Goals.{then-is_least, else-is_least}
 use Rattle.qm_sing.proofs.rings.mark.Goals as goal

@@ -1,7 +1,5 @@
 use Rattle.std.proofs.Common.{◌+◌, ◌≤◌}
-use Rattle.def_flow.specs.Network.{network}
-use Rattle.def_flow.specs.Admissible.{deviation, entries}
-use Rattle.def_flow.specs.Descent.{IsStartOf}
+use Rattle.def_flow.specs.{Network.network, Admissible.deviation, Admissible.entries, Descent.IsStartOf}
 use Rattle.qm_solve.proofs.descent.descend.Given as goal
 
 abbrev pub invariant-loop-descent : goal.invariant-loop-descent

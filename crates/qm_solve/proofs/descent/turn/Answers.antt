@@ -1,11 +1,8 @@
 use Rattle.std.proofs.Common.{subst}
 use Rattle.def_matching.specs.Dual.{dual}
 use Rattle.def_flow.specs.Network.{network}
-use Rattle.qm_solve.specs.Rounds.{IsRound}
-use Rattle.qm_solve.specs.declared.round.Round.{Round}
-use Rattle.qm_solve.specs.declared.round.Round.TheVariants.{Least}
-use Rattle.qm_solve.proofs.Near.{start_lengths}
-use Rattle.qm_solve.proofs.Rounds.{solved}
+use Rattle.qm_solve.specs.{Rounds.IsRound, declared.round.Round.Round, declared.round.Round.TheVariants.Least}
+use Rattle.qm_solve.proofs.{Near.start_lengths, Rounds.solved}
 use Rattle.qm_solve.proofs.descent.turn.Goals as goal
 
 pub improve-requires-clause-lengths : goal.improve-requires-clause-lengths

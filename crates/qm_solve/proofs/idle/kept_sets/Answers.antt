@@ -1,6 +1,5 @@
 use Rattle.std.proofs.Common.{length, ap, ◌∙◌}
-use Rattle.def_matching.specs.Matching.{graph}
-use Rattle.def_matching.specs.Dual.{dual}
+use Rattle.def_matching.specs.{Matching.graph, Dual.dual}
 use Rattle.qm_solve.proofs.Named.{named_read}
 use Rattle.qm_solve.proofs.idle.kept_sets.Goals as goal
 

@@ -1,10 +1,7 @@
 use Rattle.std.proofs.Common.{◌≡◌, ℤ, pos, ◌-ℤ◌, ◌<ℤ◌, ◌≤ℤ◌, ap, ◌∙◌, arith}
 use Rattle.std.proofs.lemmas.Int.{ints}
-use Rattle.def_matching.specs.Matching.{graph, matching_cost}
-use Rattle.def_matching.specs.Dual.{dual}
-use Rattle.def_flow.specs.Network.{network}
-use Rattle.def_flow.specs.Admissible.{deviation, entries}
-use Rattle.def_flow.specs.Gadget.{lows}
+use Rattle.def_matching.specs.{Matching.graph, Matching.matching_cost, Dual.dual}
+use Rattle.def_flow.specs.{Network.network, Admissible.deviation, Admissible.entries, Gadget.lows}
 use Rattle.qm_solve.proofs.Rounds.{own_inside, better, sums_meet}
 use Rattle.qm_solve.proofs.round.improve.Goals as goal
 

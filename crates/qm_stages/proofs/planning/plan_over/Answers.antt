@@ -1,14 +1,10 @@
 use Rattle.std.specs.Prelude.{IfErr, IfOk, OnOk}
-use Rattle.std.proofs.Common.{length, sym, ◌∙◌, ap, subst}
-use Rattle.std.proofs.lemmas.List.{length-map}
-use Rattle.def_layout.specs.Arcs.{path}
-use Rattle.def_layout.specs.Lengths.{AreLengths}
-use Rattle.def_layout.specs.Plans.{layout_of, Plan}
+use Rattle.std.proofs.{Common.length, Common.sym, Common.◌∙◌, Common.ap, Common.subst, lemmas.List.length-map}
+use Rattle.def_layout.specs.{Arcs.path, Lengths.AreLengths, Plans.layout_of, Plans.Plan}
 use Rattle.def_layoutnet.specs.MeshLayouts.{IsSomeLayout}
 use Rattle.def_written.specs.Edges.{IsUndoubled}
-use Rattle.def_remesh.specs.NewPoints.{lengths_in}
-use Rattle.def_remesh.specs.Numberings.{IsNumbering}
-use Rattle.def_remesh.specs.Stitched.{AreSafe, IsUnstitched, KeepsShapes}
+use Rattle.def_remesh.specs.{NewPoints.lengths_in, Numberings.IsNumbering, Stitched.AreSafe, Stitched.IsUnstitched}
+use Rattle.def_remesh.specs.Stitched.{KeepsShapes}
 use Rattle.qm_stages.proofs.planning.plan_over.Goals as goal
 
 pub plan-requires-clause-layout : goal.plan-requires-clause-layout

@@ -1,13 +1,8 @@
 use Rattle.std.specs.Prelude.{IfOk, ◌↔◌, IsTrue}
-use Rattle.std.proofs.Common.{length, sym, ◌∙◌, ap, subst}
-use Rattle.std.proofs.lemmas.List.{length-map}
-use Rattle.def_layout.specs.Arcs.{path}
-use Rattle.def_layout.specs.Lengths.{AreLengths}
-use Rattle.def_layout.specs.Plans.{layout_of, Plan}
+use Rattle.std.proofs.{Common.length, Common.sym, Common.◌∙◌, Common.ap, Common.subst, lemmas.List.length-map}
+use Rattle.def_layout.specs.{Arcs.path, Lengths.AreLengths, Plans.layout_of, Plans.Plan}
 use Rattle.def_layoutnet.specs.MeshLayouts.{IsSomeLayout}
-use Rattle.def_remesh.specs.NewPoints.{lengths_in}
-use Rattle.def_remesh.specs.Remeshed.{AreCoarse}
-use Rattle.def_remesh.specs.Rises.{AreNeeded}
+use Rattle.def_remesh.specs.{NewPoints.lengths_in, Remeshed.AreCoarse, Rises.AreNeeded}
 use Rattle.qm_stages.proofs.rising.are_needed_over.Goals as goal
 
 pub are_needed-requires-clause-layout : goal.are_needed-requires-clause-layout

@@ -1,13 +1,8 @@
 use Rattle.std.specs.Prelude.{IfOk}
-use Rattle.std.proofs.Common.{length, sym, ◌∙◌, ap, subst}
-use Rattle.std.proofs.lemmas.List.{length-map}
-use Rattle.def_layout.specs.Arcs.{path}
-use Rattle.def_layout.specs.Lengths.{AreLengths}
-use Rattle.def_layout.specs.Plans.{layout_of, Plan}
+use Rattle.std.proofs.{Common.length, Common.sym, Common.◌∙◌, Common.ap, Common.subst, lemmas.List.length-map}
+use Rattle.def_layout.specs.{Arcs.path, Lengths.AreLengths, Plans.layout_of, Plans.Plan}
 use Rattle.def_layoutnet.specs.MeshLayouts.{IsSomeLayout}
-use Rattle.def_remesh.specs.NewPoints.{lengths_in}
-use Rattle.def_remesh.specs.Remeshed.{AreCoarse, AreDoubled}
-use Rattle.def_remesh.specs.Rises.{AreNeeded}
+use Rattle.def_remesh.specs.{NewPoints.lengths_in, Remeshed.AreCoarse, Remeshed.AreDoubled, Rises.AreNeeded}
 use Rattle.qm_stages.proofs.rising.rises_over.Goals as goal
 
 pub needed_rises-requires-clause-layout : goal.needed_rises-requires-clause-layout

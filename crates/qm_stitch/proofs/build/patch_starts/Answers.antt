@@ -1,6 +1,6 @@
 use Rattle.std.proofs.Common.{◌≡◌, ℕ, ◌-◌, ◌*◌, List, length, sym, ◌∙◌, ap, arith}
-use Rattle.std.specs.Prelude.{slice_index}
 use Rattle.std.proofs.lemmas.List.{length-map}
+use Rattle.std.specs.Prelude.{slice_index}
 use Rattle.def_remesh.specs.Numberings.{tables_of}
 use Rattle.qm_offsets.specs.Fours.{begins_of}
 use Rattle.qm_offsets.proofs.Spots.{next_room, term_room}

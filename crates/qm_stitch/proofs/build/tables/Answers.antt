@@ -2,9 +2,8 @@ use Rattle.std.proofs.Common.{ℕ, ◌-◌, List, length, sym, ◌∙◌, subst,
 use Rattle.std.proofs.lemmas.List.{length-map}
 use Rattle.def_cut.specs.Grids.{rectangle}
 use Rattle.def_layout.specs.Plans.{plan}
-use Rattle.def_remesh.specs.NewPoints.{lengths_in}
-use Rattle.def_remesh.specs.Numberings.{tables_of, AreRunStarts, AreSideStarts}
-use Rattle.def_remesh.specs.declared.tables.RunStarts.{RunStarts}
+use Rattle.def_remesh.specs.{NewPoints.lengths_in, Numberings.tables_of, Numberings.AreRunStarts}
+use Rattle.def_remesh.specs.{Numberings.AreSideStarts, declared.tables.RunStarts.RunStarts}
 use Rattle.qm_stitch.specs.Sizes.{product_by, IsFine}
 use Rattle.qm_stitch.proofs.Built.{built, few_points, lengths_short, points_short, rows, sides_short}
 use Rattle.qm_stitch.proofs.build.tables.Goals as goal

@@ -1,17 +1,13 @@
 use Rattle.std.proofs.Common.{◌≡◌, ℕ, suc, ◌+◌, ◌*◌, ◌^◌, ◌<◌, ◌≤◌, length, refl, ◌∙◌, arith}
 use Rattle.std.proofs.lemmas.List.{length-map}
 use Rattle.def_cut.specs.Grids.{rectangle}
-use Rattle.def_layout.specs.Arcs.{long_at}
-use Rattle.def_layout.specs.Layouts.{south, west}
-use Rattle.def_layout.specs.Lengths.{wide, high}
-use Rattle.def_layout.specs.Plans.{layout_of, plan}
-use Rattle.def_layout.specs.declared.tmesh.TMesh.{TMesh}
+use Rattle.def_layout.specs.{Arcs.long_at, Layouts.south, Layouts.west, Lengths.wide, Lengths.high, Plans.layout_of}
+use Rattle.def_layout.specs.{Plans.plan, declared.tmesh.TMesh.TMesh}
 use Rattle.def_layoutnet.specs.MeshLayouts.{IsSomeLayout}
 use Rattle.def_written.specs.NewFaces.{cells_before, face_count}
 use Rattle.def_remesh.specs.NewPoints.{lengths_in}
-use Rattle.plan_laws.proofs.MeshLayouts.{laid_of, lengths_of}
+use Rattle.plan_laws.proofs.{MeshLayouts.laid_of, MeshLayouts.lengths_of, Bounds.cells_most, Bounds.old_faces}
 use Rattle.written_laws.proofs.Runs.{count_rises}
-use Rattle.plan_laws.proofs.Bounds.{cells_most, old_faces}
 use Rattle.qm_offsets.proofs.Spots.{count_step}
 use Rattle.qm_stitch.proofs.count.count_faces.Goals as goal
 

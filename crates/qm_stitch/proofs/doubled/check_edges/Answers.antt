@@ -4,8 +4,7 @@ use Rattle.def_written.specs.Edges.{IsFirstDoubled}
 use Rattle.def_remesh.specs.NewPoints.{lengths_in}
 use Rattle.plan_laws.proofs.MeshLayouts.{laid_of}
 use Rattle.qm_stitch.specs.Rims.{IsLeastRepeat, IsRepeat}
-use Rattle.qm_stitch.proofs.DoubledPairs.{first_doubled, none_doubled}
-use Rattle.qm_stitch.proofs.Grids.{tables_are}
+use Rattle.qm_stitch.proofs.{DoubledPairs.first_doubled, DoubledPairs.none_doubled, Grids.tables_are}
 use Rattle.qm_stitch.proofs.doubled.check_edges.Goals as goal
 
 pub invariant_of-numbered : goal.invariant_of-numbered

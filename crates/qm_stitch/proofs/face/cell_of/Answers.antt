@@ -1,17 +1,11 @@
 use Rattle.std.proofs.Common.{◌≡◌, ℕ, ◌-◌, ◌/◌, ◌%◌, ◌<◌, ◌*◌, List, length, get_or, sym, refl, ◌∙◌, ap, subst, arith}
-use Rattle.def_layout.specs.Layouts.{south}
-use Rattle.def_layout.specs.Lengths.{wide, high}
-use Rattle.def_layout.specs.Plans.{layout_of, plan}
+use Rattle.def_layout.specs.{Layouts.south, Lengths.wide, Lengths.high, Plans.layout_of, Plans.plan}
 use Rattle.def_layout.specs.declared.tmesh.TMesh.{TMesh}
 use Rattle.def_written.specs.NewFaces.{cells_before, face_count, patch_of}
-use Rattle.def_remesh.specs.NewPoints.{lengths_in}
-use Rattle.def_remesh.specs.Numberings.{AreRunStarts}
-use Rattle.qm_stitch.specs.Numbered.{AreTables}
-use Rattle.def_remesh.specs.declared.tables.Tables.{Tables}
-use Rattle.def_math.specs.Counts.{count_below}
-use Rattle.def_math.specs.Runs.{run_at}
+use Rattle.def_remesh.specs.{NewPoints.lengths_in, Numberings.AreRunStarts, declared.tables.Tables.Tables}
+use Rattle.qm_stitch.specs.{Numbered.AreTables, Lengthened.layout_in, Lengthened.lengths_by}
+use Rattle.def_math.specs.{Counts.count_below, Runs.run_at}
 use Rattle.qm_stitch.proofs.Grids.{cell_is, cells_at, column_low, row_low, IsFaceAt}
-use Rattle.qm_stitch.specs.Lengthened.{layout_in, lengths_by}
 use Rattle.qm_stitch.proofs.face.cell_of.Goals as goal
 
 -- The patch that is found.

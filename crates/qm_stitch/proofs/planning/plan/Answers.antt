@@ -1,10 +1,7 @@
-use Rattle.std.proofs.Common.{ℕ, List, subst, arith}
-use Rattle.std.proofs.lemmas.List.{length-map}
-use Rattle.def_layout.specs.Arcs.{path}
-use Rattle.def_layout.specs.Plans.{layout_of, plan}
+use Rattle.std.proofs.{Common.ℕ, Common.List, Common.subst, Common.arith, lemmas.List.length-map}
+use Rattle.def_layout.specs.{Arcs.path, Plans.layout_of, Plans.plan}
 use Rattle.def_written.specs.Edges.{IsUndoubled}
-use Rattle.def_remesh.specs.NewPoints.{lengths_in}
-use Rattle.def_remesh.specs.declared.tables.Tables.{Tables}
+use Rattle.def_remesh.specs.{NewPoints.lengths_in, declared.tables.Tables.Tables}
 use Rattle.qm_stitch.proofs.SafeLengths.{safe_undoubled, shapes_kept}
 use Rattle.qm_stitch.proofs.planning.plan.Goals as goal
 

@@ -1,9 +1,6 @@
-use Rattle.std.proofs.Common.{◌≡◌, ◌+◌, ◌-◌, ◌^◌, ◌<◌, arith}
-use Rattle.std.proofs.lemmas.List.{length-map}
-use Rattle.def_layout.specs.Arcs.{path}
-use Rattle.def_layout.specs.Plans.{plan}
-use Rattle.def_written.specs.Numbers.{vertex_number}
-use Rattle.def_written.specs.Points.{arc_point}
+use Rattle.std.proofs.{Common.◌≡◌, Common.◌+◌, Common.◌-◌, Common.◌^◌, Common.◌<◌, Common.arith, lemmas.List.length-map}
+use Rattle.def_layout.specs.{Arcs.path, Plans.plan}
+use Rattle.def_written.specs.{Numbers.vertex_number, Points.arc_point}
 use Rattle.qm_stitch.proofs.Grids.{arc_here}
 use Rattle.qm_stitch.specs.Lengthened.{layout_in, lengths_by}
 use Rattle.qm_stitch.proofs.point.arc_number.Goals as goal

@@ -1,19 +1,14 @@
 use Rattle.std.proofs.Common.{◌≡◌, ◌<◌, ℕ, List, [], get_or, ◌∙◌, ap, subst, arith}
-use Rattle.std.specs.List.{All}
 use Rattle.std.proofs.lemmas.List.{length-map}
+use Rattle.std.specs.List.{All}
 use Rattle.def_cut.specs.Grids.{rectangle}
-use Rattle.def_layout.specs.Arcs.{path}
-use Rattle.def_layout.specs.declared.tmesh.Side.{Side}
-use Rattle.def_layout.specs.declared.tmesh.SideArc.{SideArc}
-use Rattle.def_layout.specs.declared.tmesh.TMesh.{TMesh}
-use Rattle.def_layout.specs.Plans.{plan}
+use Rattle.def_layout.specs.{Arcs.path, declared.tmesh.Side.Side, declared.tmesh.SideArc.SideArc}
+use Rattle.def_layout.specs.{declared.tmesh.TMesh.TMesh, Plans.plan}
 use Rattle.def_written.specs.Numbers.{vertex_number}
-use Rattle.def_remesh.specs.Numberings.{tables_of}
-use Rattle.def_remesh.specs.declared.tables.RunStarts.{RunStarts}
+use Rattle.def_remesh.specs.{Numberings.tables_of, declared.tables.RunStarts.RunStarts}
 use Rattle.qm_offsets.specs.Fours.{arcs_on, uses_in}
-use Rattle.qm_stitch.specs.Sizes.{point_on, table_in}
+use Rattle.qm_stitch.specs.{Sizes.point_on, Sizes.table_in, Lengthened.layout_in, Lengthened.lengths_by}
 use Rattle.qm_stitch.proofs.Grids.{border, IsBorder}
-use Rattle.qm_stitch.specs.Lengthened.{layout_in, lengths_by}
 use Rattle.qm_stitch.proofs.point.border_number.Goals as goal
 
 -- The arcs of the side.

@@ -1,12 +1,9 @@
 use Rattle.std.proofs.Common.{◌≡◌, ℕ, ◌+◌, ◌-◌, ◌*◌, ◌^◌, ◌<◌, length, refl, sym, ◌∙◌, ap, arith}
 use Rattle.std.proofs.lemmas.List.{length-map}
 use Rattle.def_cut.specs.Grids.{rectangle}
-use Rattle.def_layout.specs.Layouts.{south, east, north, west}
-use Rattle.def_layout.specs.Lengths.{wide, high}
-use Rattle.def_layout.specs.Plans.{plan}
-use Rattle.def_layout.specs.declared.tmesh.TMesh.{TMesh}
-use Rattle.def_written.specs.Numbers.{vertex_number}
-use Rattle.def_written.specs.Points.{point, side_point}
+use Rattle.def_layout.specs.{Layouts.south, Layouts.east, Layouts.north, Layouts.west, Lengths.wide, Lengths.high}
+use Rattle.def_layout.specs.{Plans.plan, declared.tmesh.TMesh.TMesh}
+use Rattle.def_written.specs.{Numbers.vertex_number, Points.point, Points.side_point}
 use Rattle.qm_stitch.proofs.Grids.{along_end, inside_at, inside_here, long_is, on_north, on_west, on_east}
 use Rattle.qm_stitch.specs.Lengthened.{layout_in, lengths_by}
 use Rattle.qm_stitch.proofs.point.point_number.Goals as goal

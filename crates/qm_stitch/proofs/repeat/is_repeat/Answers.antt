@@ -1,8 +1,7 @@
 use Rattle.std.proofs.Common.{◌≡◌, ◌<◌, ◌-◌, ℕ, Ok, Result, length, get_or, sym, ◌∙◌, subst, inl, inr}
-use Rattle.std.specs.Ordering.{nat_cmp}
-use Rattle.std.specs.List.Sorted.{IsBinarySearchResult}
 use Rattle.std.proofs.lemmas.Bool.{eq-eqb, eqb-true, false≢true}
 use Rattle.std.proofs.lemmas.List.Sorted.{searched}
+use Rattle.std.specs.{Ordering.nat_cmp, List.Sorted.IsBinarySearchResult}
 use Rattle.qm_stitch.proofs.Repeats.{before_repeats, beside}
 use Rattle.qm_stitch.proofs.repeat.is_repeat.Goals as goal
 

@@ -1,5 +1,4 @@
-use Rattle.std.proofs.Common.{ℕ, List, sym, subst}
-use Rattle.std.proofs.lemmas.Option.{IfSome_then}
+use Rattle.std.proofs.{Common.ℕ, Common.List, Common.sym, Common.subst, lemmas.Option.IfSome_then}
 use Rattle.qm_stitch.specs.Rims.{IsLeastRepeat, IsRepeat}
 use Rattle.qm_stitch.proofs.Repeats.{least_moved, repeat_moved}
 use Rattle.qm_stitch.proofs.repeat.least_repeat.Goals as goal

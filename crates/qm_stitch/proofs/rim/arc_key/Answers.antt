@@ -1,6 +1,4 @@
-use Rattle.std.proofs.Common.{inl, inr, arith}
-use Rattle.std.proofs.lemmas.Bool.{cases_eq}
-use Rattle.std.proofs.lemmas.List.{length-map}
+use Rattle.std.proofs.{Common.inl, Common.inr, Common.arith, lemmas.Bool.cases_eq, lemmas.List.length-map}
 use Rattle.def_layout.specs.Arcs.{path}
 use Rattle.def_written.specs.Points.{along}
 use Rattle.qm_stitch.specs.Lengthened.{layout_in, lengths_by}

@@ -1,6 +1,5 @@
 use Rattle.std.proofs.Common.{◌≡◌, ◌+◌, ℕ, Bool, true, false, refl, ◌∙◌, arith}
-use Rattle.def_layout.specs.Layouts.{Layout}
-use Rattle.def_layout.specs.Lengths.{Lengths}
+use Rattle.def_layout.specs.{Layouts.Layout, Lengths.Lengths}
 use Rattle.def_written.specs.Numbers.{vertex_number}
 use Rattle.qm_stitch.specs.Rims.{along_lines, key_of, line_edge, line_point, pair_key}
 use Rattle.qm_stitch.specs.Lengthened.{layout_in, lengths_by}

@@ -1,7 +1,6 @@
 use Rattle.def_written.specs.Edges.{on_arc}
-use Rattle.qm_stitch.specs.Rims.{key_of}
+use Rattle.qm_stitch.specs.{Rims.key_of, Lengthened.layout_in, Lengthened.lengths_by}
 use Rattle.qm_stitch.proofs.RimLists.{item_next}
-use Rattle.qm_stitch.specs.Lengthened.{layout_in, lengths_by}
 use Rattle.qm_stitch.proofs.rim.push_arc.Goals as goal
 
 pub loop-k-preserved : goal.loop-k-preserved

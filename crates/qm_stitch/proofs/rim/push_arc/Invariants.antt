@@ -1,8 +1,7 @@
 use Rattle.std.proofs.Common.{◌≡◌, ◌++◌, map}
 use Rattle.std.specs.List.{range_with_len}
 use Rattle.def_written.specs.Edges.{on_arc}
-use Rattle.qm_stitch.specs.Rims.{keys_of}
-use Rattle.qm_stitch.specs.Lengthened.{layout_in, lengths_by}
+use Rattle.qm_stitch.specs.{Rims.keys_of, Lengthened.layout_in, Lengthened.lengths_by}
 use Rattle.qm_stitch.proofs.rim.push_arc.Given as goal
 
 abbrev pub invariant-loop-k : goal.invariant-loop-k

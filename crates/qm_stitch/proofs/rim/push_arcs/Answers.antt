@@ -1,7 +1,6 @@
 use Rattle.std.proofs.Common.{arith}
-use Rattle.qm_stitch.specs.Rims.{key_of, segments}
+use Rattle.qm_stitch.specs.{Rims.key_of, Rims.segments, Lengthened.layout_in, Lengthened.lengths_by}
 use Rattle.qm_stitch.proofs.RimLists.{parts_next}
-use Rattle.qm_stitch.specs.Lengthened.{layout_in, lengths_by}
 use Rattle.qm_stitch.proofs.rim.push_arcs.Goals as goal
 
 pub loop-arc-preserved : goal.loop-arc-preserved

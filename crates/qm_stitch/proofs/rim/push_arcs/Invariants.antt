@@ -1,6 +1,5 @@
 use Rattle.std.proofs.Common.{◌≡◌, ◌++◌}
-use Rattle.qm_stitch.specs.Rims.{arcs_upto, keys_of}
-use Rattle.qm_stitch.specs.Lengthened.{layout_in, lengths_by}
+use Rattle.qm_stitch.specs.{Rims.arcs_upto, Rims.keys_of, Lengthened.layout_in, Lengthened.lengths_by}
 use Rattle.qm_stitch.proofs.rim.push_arcs.Given as goal
 
 abbrev pub invariant-loop-arc : goal.invariant-loop-arc

@@ -1,13 +1,11 @@
 use Rattle.std.proofs.Common.{◌≡◌, ◌<◌, ◌-◌, ◌+◌, ◌++◌, ℕ, not, length, ◌∙◌, ap, subst, sym, arith}
 use Rattle.std.proofs.lemmas.List.{append-nil, length-map}
 use Rattle.def_cut.specs.Grids.{rectangle}
-use Rattle.def_layout.specs.Lengths.{size}
-use Rattle.def_layout.specs.Plans.{plan}
-use Rattle.def_layout.specs.declared.tmesh.TMesh.{TMesh}
+use Rattle.def_layout.specs.{Lengths.size, Plans.plan, declared.tmesh.TMesh.TMesh}
 use Rattle.qm_stitch.specs.Rims.{along_lines, key_of, keys_of, line_ends, lines_upto}
+use Rattle.qm_stitch.specs.Lengthened.{layout_in, lengths_by}
 use Rattle.qm_stitch.proofs.RimLists.{parts_next}
 use Rattle.written_laws.proofs.Sides.{size_some}
-use Rattle.qm_stitch.specs.Lengthened.{layout_in, lengths_by}
 use Rattle.qm_stitch.proofs.rim.push_lines.Goals as goal
 
 low : (t : TMesh) (patch : ℕ) → patch < length t.patches.items → patch < length (plan t).patches

@@ -1,7 +1,6 @@
 use Rattle.std.proofs.Common.{true, false, arith}
-use Rattle.qm_stitch.specs.Rims.{all_lines, ends_in, key_of}
+use Rattle.qm_stitch.specs.{Rims.all_lines, Rims.ends_in, Rims.key_of, Lengthened.layout_in, Lengthened.lengths_by}
 use Rattle.qm_stitch.proofs.RimLists.{both_next, parts_next}
-use Rattle.qm_stitch.specs.Lengthened.{layout_in, lengths_by}
 use Rattle.qm_stitch.proofs.rim.push_patches.Goals as goal
 
 pub loop-patch-preserved : goal.loop-patch-preserved

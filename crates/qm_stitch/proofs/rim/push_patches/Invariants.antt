@@ -1,6 +1,5 @@
 use Rattle.std.proofs.Common.{◌≡◌, ◌++◌}
-use Rattle.qm_stitch.specs.Rims.{keys_of, patches_upto}
-use Rattle.qm_stitch.specs.Lengthened.{layout_in, lengths_by}
+use Rattle.qm_stitch.specs.{Rims.keys_of, Rims.patches_upto, Lengthened.layout_in, Lengthened.lengths_by}
 use Rattle.qm_stitch.proofs.rim.push_patches.Given as goal
 
 abbrev pub invariant-loop-patch : goal.invariant-loop-patch

@@ -1,7 +1,6 @@
 use Rattle.std.proofs.Common.{◌≡◌, ◌↔◌, ◌<◌, ℕ, Bool, List, true, length, sym, ◌∙◌, subst, arith}
 use Rattle.std.proofs.lemmas.List.{length-map}
-use Rattle.def_layout.specs.Arcs.{path}
-use Rattle.def_layout.specs.Plans.{layout_of, plan}
+use Rattle.def_layout.specs.{Arcs.path, Plans.layout_of, Plans.plan}
 use Rattle.qm_stitch.specs.Raised.{AreFloors, AreOrdered, IsShortTight}
 use Rattle.qm_stitch.proofs.RiseLists.{needed_are}
 use Rattle.qm_stitch.proofs.rises.are_needed.Goals as goal

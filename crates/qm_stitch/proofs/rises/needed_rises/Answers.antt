@@ -1,13 +1,10 @@
 use Rattle.std.proofs.Common.{◌≡◌, ◌↔◌, ◌<◌, ℕ, Bool, List, true, false, get_or, length, sym, ◌∙◌, subst, inl, arith}
 use Rattle.std.proofs.lemmas.List.{length-map}
 use Rattle.std.proofs.lemmas.Result.{IfOk-weaker}
-use Rattle.def_layout.specs.Arcs.{path}
-use Rattle.def_layout.specs.Plans.{layout_of, plan}
-use Rattle.def_remesh.specs.NewPoints.{lengths_in}
-use Rattle.def_remesh.specs.Rises.{IsTightArc}
+use Rattle.def_layout.specs.{Arcs.path, Plans.layout_of, Plans.plan}
+use Rattle.def_remesh.specs.{NewPoints.lengths_in, Rises.IsTightArc}
 use Rattle.qm_stitch.specs.Raised.{AreRisesUpto, IsShortTight}
-use Rattle.qm_stitch.proofs.RiseLists.{all_needed}
-use Rattle.qm_stitch.proofs.SafeLengths.{safe_undoubled}
+use Rattle.qm_stitch.proofs.{RiseLists.all_needed, SafeLengths.safe_undoubled}
 use Rattle.qm_stitch.proofs.rises.needed_rises.Goals as goal
 
 pub returns : goal.returns

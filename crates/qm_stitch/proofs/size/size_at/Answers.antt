@@ -1,8 +1,7 @@
 use Rattle.std.proofs.Common.{◌<◌, ℕ, length, ◌∙◌, ap, sym, arith}
 use Rattle.std.proofs.lemmas.List.{length-map}
 use Rattle.def_cut.specs.Grids.{rectangle}
-use Rattle.def_layout.specs.Plans.{plan}
-use Rattle.def_layout.specs.declared.tmesh.TMesh.{TMesh}
+use Rattle.def_layout.specs.{Plans.plan, declared.tmesh.TMesh.TMesh}
 use Rattle.def_remesh.specs.Numberings.{tables_of}
 use Rattle.qm_stitch.specs.Sizes.{table_in}
 use Rattle.qm_stitch.proofs.Grids.{size_read, table_full}

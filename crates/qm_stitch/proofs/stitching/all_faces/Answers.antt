@@ -1,11 +1,10 @@
 use Rattle.std.proofs.Common.{◌≡◌, ◌++◌, [], ◌∷◌, map, ◌∙◌, ap, sym, arith}
-use Rattle.std.specs.List.{range_with_len}
 use Rattle.std.proofs.lemmas.List.FromFn.{map-range_with_len_more}
+use Rattle.std.specs.List.{range_with_len}
 use Rattle.def_layout.specs.Plans.{plan}
 use Rattle.def_written.specs.NewFaces.{face_count, new_face}
 use Rattle.qm_stitch.specs.Lengthened.{layout_in, lengths_by}
-use Rattle.qm_stitch.proofs.Grids.{cells_end}
-use Rattle.qm_stitch.proofs.stitching.all_faces.Goals.{After-last_of-count}
+use Rattle.qm_stitch.proofs.{Grids.cells_end, stitching.all_faces.Goals.After-last_of-count}
 use Rattle.qm_stitch.proofs.stitching.all_faces.Goals as goal
 
 all : (c : After-last_of-count) → c.last_of-count.result ≡ face_count (layout_in c.args.numbered.now)

@@ -1,7 +1,6 @@
 use Rattle.std.proofs.Common.{ℕ, List, ◌∙◌, ap}
 use Rattle.def_layout.specs.Plans.{layout_of, plan}
-use Rattle.def_written.specs.NewFaces.{new_faces}
-use Rattle.def_written.specs.Numbers.{vertices}
+use Rattle.def_written.specs.{NewFaces.new_faces, Numbers.vertices}
 use Rattle.def_remesh.specs.NewPoints.{lengths_in}
 use Rattle.qm_stitch.proofs.stitching.stitch.Goals as goal
 

@@ -1,6 +1,5 @@
 use Rattle.std.proofs.Common.{◌≡◌, ◌↔◌, ◌<◌, ℕ, true, false, length, get_or}
-use Rattle.qm_stitch.specs.Lengthened.{layout_in, lengths_by}
-use Rattle.qm_stitch.specs.Tight.{IsDoubledOn}
+use Rattle.qm_stitch.specs.{Lengthened.layout_in, Lengthened.lengths_by, Tight.IsDoubledOn}
 use Rattle.qm_stitch.proofs.tight.doubled_arcs.Given as goal
 
 abbrev pub invariant-loop-arc : goal.invariant-loop-arc

@@ -1,8 +1,6 @@
 use Rattle.std.proofs.Common.{◌<◌, ◌+◌, ℕ, not, sym, ◌∙◌, inl, inr, subst, arith}
 use Rattle.std.proofs.lemmas.Bool.{cases_eq, false≢true}
-use Rattle.qm_stitch.specs.Lengthened.{layout_in, lengths_by}
-use Rattle.qm_stitch.specs.Rims.{along_lines}
-use Rattle.qm_stitch.specs.Tight.{IsLineDoubled}
+use Rattle.qm_stitch.specs.{Lengthened.layout_in, Lengthened.lengths_by, Rims.along_lines, Tight.IsLineDoubled}
 use Rattle.qm_stitch.proofs.TightEdges.{line_parts}
 use Rattle.qm_stitch.proofs.tight.is_doubled_in.Goals as goal
 

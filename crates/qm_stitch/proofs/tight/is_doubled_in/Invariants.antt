@@ -1,6 +1,5 @@
 use Rattle.std.proofs.Common.{◌<◌, ℕ}
-use Rattle.qm_stitch.specs.Lengthened.{layout_in, lengths_by}
-use Rattle.qm_stitch.specs.Tight.{IsLineDoubled}
+use Rattle.qm_stitch.specs.{Lengthened.layout_in, Lengthened.lengths_by, Tight.IsLineDoubled}
 use Rattle.qm_stitch.proofs.tight.is_doubled_in.Given as goal
 
 abbrev pub invariant-loop-number : goal.invariant-loop-number

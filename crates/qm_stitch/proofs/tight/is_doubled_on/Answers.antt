@@ -3,12 +3,9 @@ use Rattle.std.proofs.lemmas.Bool.{false≢true}
 use Rattle.std.proofs.lemmas.List.{get_or_default, length-map}
 use Rattle.def_layout.specs.Arcs.{path}
 use Rattle.def_written.specs.Edges.{on_arc}
-use Rattle.qm_stitch.specs.declared.numbered.Numbered.{Numbered}
-use Rattle.qm_stitch.specs.Lengthened.{layout_in, lengths_by}
-use Rattle.qm_stitch.specs.Rims.{IsRepeat}
-use Rattle.qm_stitch.specs.Tight.{IsDoubled}
-use Rattle.qm_stitch.proofs.TightEdges.{key_tells}
-use Rattle.qm_stitch.proofs.tight.is_doubled_on.Goals.{After-is_repeat}
+use Rattle.qm_stitch.specs.{declared.numbered.Numbered.Numbered, Lengthened.layout_in, Lengthened.lengths_by}
+use Rattle.qm_stitch.specs.{Rims.IsRepeat, Tight.IsDoubled}
+use Rattle.qm_stitch.proofs.{TightEdges.key_tells, tight.is_doubled_on.Goals.After-is_repeat}
 use Rattle.qm_stitch.proofs.tight.is_doubled_on.Goals as goal
 
 -- The length of an arc, as the loop reads it.

@@ -1,7 +1,6 @@
 use Rattle.std.proofs.Common.{◌<◌, ℕ}
 use Rattle.def_written.specs.Edges.{on_arc}
-use Rattle.qm_stitch.specs.Lengthened.{layout_in, lengths_by}
-use Rattle.qm_stitch.specs.Tight.{IsDoubled}
+use Rattle.qm_stitch.specs.{Lengthened.layout_in, Lengthened.lengths_by, Tight.IsDoubled}
 use Rattle.qm_stitch.proofs.tight.is_doubled_on.Given as goal
 
 abbrev pub invariant-loop-k : goal.invariant-loop-k

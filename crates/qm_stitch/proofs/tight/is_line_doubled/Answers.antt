@@ -2,11 +2,9 @@ use Rattle.std.proofs.Common.{◌≡◌, ◌⊎◌, ◌↔◌, ◌-◌, ◌<◌,
 use Rattle.std.proofs.lemmas.Bool.{false≢true}
 use Rattle.def_layout.specs.Lengths.{size}
 use Rattle.written_laws.proofs.Sides.{size_some}
-use Rattle.qm_stitch.specs.Lengthened.{layout_in, lengths_by}
-use Rattle.qm_stitch.specs.Rims.{along_lines, key_of, line_edge, IsRepeat}
-use Rattle.qm_stitch.specs.Tight.{IsLineDoubled}
-use Rattle.qm_stitch.proofs.TightEdges.{line_tells}
-use Rattle.qm_stitch.proofs.tight.is_line_doubled.Goals.{After-size_at-last}
+use Rattle.qm_stitch.specs.{Lengthened.layout_in, Lengthened.lengths_by, Rims.along_lines, Rims.key_of, Rims.line_edge}
+use Rattle.qm_stitch.specs.{Rims.IsRepeat, Tight.IsLineDoubled}
+use Rattle.qm_stitch.proofs.{TightEdges.line_tells, tight.is_line_doubled.Goals.After-size_at-last}
 use Rattle.qm_stitch.proofs.tight.is_line_doubled.Goals as goal
 
 abbrev long : After-size_at-last → ℕ

@@ -1,7 +1,6 @@
 use Rattle.std.proofs.Common.{◌≡◌, ◌+◌, ◌%◌, ℕ, Bool, true, false, refl, sym, ◌∙◌, ap}
 use Rattle.def_layout.specs.Plans.{way_number}
-use Rattle.qm_stitch.specs.Lengthened.{layout_in, lengths_by}
-use Rattle.qm_stitch.specs.Rims.{along_lines}
+use Rattle.qm_stitch.specs.{Lengthened.layout_in, Lengthened.lengths_by, Rims.along_lines}
 use Rattle.qm_stitch.proofs.Marks.{across, adds_lines}
 use Rattle.qm_stitch.proofs.tight.mark_lines.Goals as goal
 

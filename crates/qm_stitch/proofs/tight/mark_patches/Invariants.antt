@@ -1,5 +1,4 @@
-use Rattle.qm_stitch.specs.Lengthened.{layout_in, lengths_by}
-use Rattle.qm_stitch.specs.Tight.{AddsMarks, IsTightUpto}
+use Rattle.qm_stitch.specs.{Lengthened.layout_in, Lengthened.lengths_by, Tight.AddsMarks, Tight.IsTightUpto}
 use Rattle.qm_stitch.proofs.tight.mark_patches.Given as goal
 
 abbrev pub invariant-loop-patch : goal.invariant-loop-patch

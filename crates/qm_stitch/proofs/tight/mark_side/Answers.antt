@@ -1,17 +1,12 @@
 use Rattle.std.proofs.Common.{◌≡◌, ◌<◌, ℕ, List, [], get_or, length, ◌∙◌, ap, sym, subst, refl, arith}
-use Rattle.std.specs.List.{All}
 use Rattle.std.proofs.lemmas.List.{length-map}
+use Rattle.std.specs.List.{All}
 use Rattle.def_cut.specs.Grids.{rectangle}
-use Rattle.def_layout.specs.Arcs.{path}
-use Rattle.def_layout.specs.Plans.{plan}
-use Rattle.def_layout.specs.declared.tmesh.Side.{Side}
-use Rattle.def_layout.specs.declared.tmesh.SideArc.{SideArc}
+use Rattle.def_layout.specs.{Arcs.path, Plans.plan, declared.tmesh.Side.Side, declared.tmesh.SideArc.SideArc}
 use Rattle.def_remesh.specs.Numberings.{tables_of}
 use Rattle.qm_offsets.specs.Fours.{arcs_on, uses_in}
 use Rattle.qm_stitch.specs.Sizes.{table_in}
-use Rattle.qm_stitch.proofs.Grids.{border}
-use Rattle.qm_stitch.proofs.Marks.{adds_side}
-use Rattle.qm_stitch.proofs.tight.mark_side.Goals.{After-uses_on}
+use Rattle.qm_stitch.proofs.{Grids.border, Marks.adds_side, tight.mark_side.Goals.After-uses_on}
 use Rattle.qm_stitch.proofs.tight.mark_side.Goals as goal
 
 read : (c : After-uses_on) → c.uses_on.result.now ≡ arcs_on (plan c.args.numbered.now.t.now) c.args.patch c.args.side

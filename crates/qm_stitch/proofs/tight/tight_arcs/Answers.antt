@@ -1,13 +1,10 @@
 use Rattle.std.proofs.Common.{◌≡◌, ◌↔◌, ℕ, Bool, List, true, false, get_or, length, sym, ap, ◌∙◌, subst, arith}
 use Rattle.std.proofs.lemmas.List.{length-map, with_items_is}
 use Rattle.def_cut.specs.Grids.{rectangle}
-use Rattle.def_layout.specs.Arcs.{path}
-use Rattle.def_layout.specs.Plans.{layout_of, plan}
-use Rattle.def_remesh.specs.NewPoints.{lengths_in}
-use Rattle.def_remesh.specs.Rises.{IsTightArc}
+use Rattle.def_layout.specs.{Arcs.path, Plans.layout_of, Plans.plan}
+use Rattle.def_remesh.specs.{NewPoints.lengths_in, Rises.IsTightArc}
 use Rattle.plan_laws.proofs.MeshLayouts.{laid_of}
-use Rattle.qm_stitch.proofs.Grids.{tables_are}
-use Rattle.qm_stitch.proofs.TightEdges.{tight_told}
+use Rattle.qm_stitch.proofs.{Grids.tables_are, TightEdges.tight_told}
 use Rattle.qm_stitch.proofs.tight.tight_arcs.Goals as goal
 
 pub invariant_of-numbered : goal.invariant_of-numbered

@@ -2,8 +2,7 @@ use mir.Syntax.{w128}
 use Rattle.std.proofs.Common.{◌≡◌, pos, to_z, of_z, List, ℕ, sym, ◌∙◌, ap, subst, arith}
 use Rattle.std.proofs.lemmas.Int.{ints}
 use Rattle.def_certtext.specs.CertLines.{certificates_of, Lists}
-use Rattle.def_flow.specs.Admissible.{deviation, entries, AreNetLengths}
-use Rattle.def_flow.specs.Network.{network}
+use Rattle.def_flow.specs.{Admissible.deviation, Admissible.entries, Admissible.AreNetLengths, Network.network}
 use Rattle.def_layout.specs.Plans.{plan}
 use Rattle.def_layoutnet.specs.MeshLayouts.{IsSomeLayout}
 use Rattle.qm_summary.proofs.Deviations.{bench_kept, bench_net, deviation_kept, kept_lengths}

@@ -1,16 +1,11 @@
 use mir.Syntax.{w128}
-use Rattle.std.proofs.Common.{◌≡◌, ap, arith, length, subst, to_z, of_z, ◌∙◌}
-use Rattle.std.proofs.lemmas.Int.{ints}
-use Rattle.std.proofs.lemmas.List.{length-map}
+use Rattle.std.proofs.Common.{◌≡◌, ap, arith, length, subst, to_z, of_z}
+use Rattle.std.proofs.{Common.◌∙◌, lemmas.Int.ints, lemmas.List.length-map}
 use Rattle.error_laws.proofs.Errors.{handed}
 use Rattle.def_cut.specs.Grids.{rectangle}
-use Rattle.def_layout.specs.Arcs.{path}
-use Rattle.def_layout.specs.Plans.{plan, Plan}
+use Rattle.def_layout.specs.{Arcs.path, Plans.plan, Plans.Plan}
 use Rattle.def_mesh.specs.Components.{edge_count, is_start, seeds, start_darts}
-use Rattle.def_mesh.specs.Darts.{darts}
-use Rattle.def_mesh.specs.Faces.{Faces}
-use Rattle.def_mesh.specs.Manifold.{IsManifold}
-use Rattle.def_mesh.specs.Vertices.{vertex_count}
+use Rattle.def_mesh.specs.{Darts.darts, Faces.Faces, Manifold.IsManifold, Vertices.vertex_count}
 use Rattle.def_remesh.specs.Placings.{IsMeshLayout}
 use Rattle.def_run.specs.Bench.{bench_faces, IsBenchFail}
 use Rattle.def_text.specs.FaceSet.{FaceSet}

@@ -5,8 +5,8 @@ use Rattle.def_layout.specs.Arcs.{path}
 use Rattle.layout_laws.specs.Named.{run_name}
 use Rattle.qm_tmesh.specs.Tables.{IsNamedRun}
 use Rattle.qm_tmesh.proofs.ArcTables.{arcs_skip, arcs_more}
-use Rattle.qm_tmesh.proofs.arcs.arcs.Goals as goal
 use Rattle.qm_tmesh.proofs.arcs.arcs.Goals.{then-start-cut+in_ok-arc+in_ok-push, else-start-cut}
+use Rattle.qm_tmesh.proofs.arcs.arcs.Goals as goal
 
 pub arc_from-requires-clause-on : goal.arc_from-requires-clause-on
 arc_from-requires-clause-on c =

@@ -1,19 +1,9 @@
 use Rattle.std.proofs.Common.{◌≡◌, ◌≤◌, Bool, List, map, length, ap, sym, subst, refl, arith}
 use Rattle.std.proofs.lemmas.List.{length-map}
-use Rattle.def_mesh.specs.Darts.{darts}
-use Rattle.def_mesh.specs.HalfEdges.{half_edges}
-use Rattle.def_mesh.specs.Vertices.{vertex_count}
-use Rattle.def_cut.specs.FullCut.{is_on}
-use Rattle.def_cut.specs.Grids.{rectangle, IsPartition}
-use Rattle.def_cut.specs.Steps.{face_of}
-use Rattle.def_cut.specs.declared.patch.Patch.{Patch}
-use Rattle.def_layout.specs.Arcs.{path}
-use Rattle.def_layout.specs.Nodes.{is_node}
-use Rattle.def_layout.specs.Plans.{IsDartLayout}
-use Rattle.def_layout.specs.declared.tmesh.TArc.{TArc}
-use Rattle.qm_tmesh.specs.Four.{HavePatches, AreAllFour, four_of}
-use Rattle.qm_tmesh.specs.Tables.{IsMarked}
-use Rattle.qm_tmesh.specs.Uses.{AreNamed}
+use Rattle.def_mesh.specs.{Darts.darts, HalfEdges.half_edges, Vertices.vertex_count}
+use Rattle.def_cut.specs.{FullCut.is_on, Grids.rectangle, Grids.IsPartition, Steps.face_of, declared.patch.Patch.Patch}
+use Rattle.def_layout.specs.{Arcs.path, Nodes.is_node, Plans.IsDartLayout, declared.tmesh.TArc.TArc}
+use Rattle.qm_tmesh.specs.{Four.HavePatches, Four.AreAllFour, Four.four_of, Tables.IsMarked, Uses.AreNamed}
 use Rattle.qm_tmesh.proofs.Built.{marked_of, table_of, have_patches, is_layout}
 use Rattle.qm_tmesh.proofs.UseTables.{to_named, arcs_few}
 use Rattle.qm_tmesh.proofs.build.layout.Goals as goal

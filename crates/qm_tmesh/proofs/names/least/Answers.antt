@@ -1,5 +1,4 @@
-use Rattle.std.proofs.Common.{◌≤◌, get_or, inl, inr, arith}
-use Rattle.std.proofs.lemmas.Bool.{cases_lt}
+use Rattle.std.proofs.{Common.◌≤◌, Common.get_or, Common.inl, Common.inr, Common.arith, lemmas.Bool.cases_lt}
 use Rattle.qm_tmesh.proofs.Walks.{below_next, least_is}
 use Rattle.qm_tmesh.proofs.names.least.Goals as goal
 

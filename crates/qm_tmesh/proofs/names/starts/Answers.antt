@@ -1,11 +1,10 @@
 use Rattle.std.proofs.Common.{◌≡◌, ℕ, ◌<◌, arith}
-use Rattle.def_mesh.specs.HalfEdges.{half_edges}
-use Rattle.def_mesh.specs.Darts.{darts}
+use Rattle.def_mesh.specs.{HalfEdges.half_edges, Darts.darts}
 use Rattle.layout_laws.specs.Named.{run_name}
 use Rattle.qm_tmesh.specs.Tables.{IsNamedRun}
 use Rattle.qm_tmesh.proofs.Walks.{name_low, starts_skip, starts_more}
-use Rattle.qm_tmesh.proofs.names.starts.Goals as goal
 use Rattle.qm_tmesh.proofs.names.starts.Goals.{in-Some, in_default}
+use Rattle.qm_tmesh.proofs.names.starts.Goals as goal
 
 pub index_mut-requires : goal.index_mut-requires
 index_mut-requires c =

@@ -1,8 +1,8 @@
 use Rattle.std.proofs.Common.{◌≡◌, ◌+◌, length, [], ◌∷◌, ◌++◌, ap, ◌∙◌, length-append, arith}
 use Rattle.def_cut.specs.FullCut.{is_on}
 use Rattle.qm_tmesh.proofs.Walks.{list_on, list_off}
-use Rattle.qm_tmesh.proofs.nodes.list_marked.Goals as goal
 use Rattle.qm_tmesh.proofs.nodes.list_marked.Goals.{then-on+in_ok-push-2, else-on}
+use Rattle.qm_tmesh.proofs.nodes.list_marked.Goals as goal
 
 pub loop-v-preserved : goal.loop-v-preserved
 loop-v-preserved c =

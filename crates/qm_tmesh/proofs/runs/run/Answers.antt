@@ -1,12 +1,8 @@
 use Rattle.std.proofs.Common.{◌≡◌, ℕ, ◌<◌, ◌+◌, true, false, Some, is_some, ap, sym, subst, ◌∙◌, arith, length}
 use Rattle.std.proofs.lemmas.Option.{same_Some}
-use Rattle.def_mesh.specs.Darts.{straight_of}
-use Rattle.def_mesh.specs.Vertices.{vertex_count}
-use Rattle.def_mesh.specs.HalfEdges.{half_edges}
-use Rattle.def_cut.specs.Steps.{step_east}
-use Rattle.def_cut.specs.FullCut.{is_on}
-use Rattle.def_layout.specs.Arcs.{end_vertex, IsRun}
-use Rattle.def_layout.specs.Nodes.{is_node}
+use Rattle.def_mesh.specs.{Darts.straight_of, Vertices.vertex_count, HalfEdges.half_edges}
+use Rattle.def_cut.specs.{Steps.step_east, FullCut.is_on}
+use Rattle.def_layout.specs.{Arcs.end_vertex, Arcs.IsRun, Nodes.is_node}
 use Rattle.layout_laws.specs.Named.{run_list}
 use Rattle.layout_laws.proofs.Uses.{run_long}
 use Rattle.qm_tmesh.proofs.Walks.{walk_straight, walk_inner, walk_run, walk_listed, walk_at, walk_end}

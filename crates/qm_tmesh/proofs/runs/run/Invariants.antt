@@ -1,9 +1,7 @@
 use Rattle.std.proofs.Common.{◌≡◌, ℕ, ◌<◌, false}
-use Rattle.def_mesh.specs.Darts.{darts}
-use Rattle.def_mesh.specs.HalfEdges.{half_edges}
+use Rattle.def_mesh.specs.{Darts.darts, HalfEdges.half_edges}
 use Rattle.def_cut.specs.Steps.{easts}
-use Rattle.def_layout.specs.Arcs.{end_vertex}
-use Rattle.def_layout.specs.Nodes.{is_node}
+use Rattle.def_layout.specs.{Arcs.end_vertex, Nodes.is_node}
 use Rattle.layout_laws.specs.Named.{run_list}
 use Rattle.qm_tmesh.proofs.runs.run.Given as goal
 

@@ -1,15 +1,11 @@
 use Rattle.std.proofs.Common.{◌≡◌, ℕ, ◌-◌, ◌≤◌, [], ◌∷◌, map, length, get_or, ap, subst, ◌∙◌, refl, arith}
 use Rattle.std.proofs.lemmas.Grind.{get_or_default_zero}
-use Rattle.def_mesh.specs.Darts.{next_of, prev_of}
-use Rattle.def_mesh.specs.HalfEdges.{half_edges}
+use Rattle.def_mesh.specs.{Darts.next_of, Darts.prev_of, HalfEdges.half_edges}
 use Rattle.def_cut.specs.Grids.{rectangle, cell_of}
-use Rattle.def_layout.specs.Arcs.{path}
-use Rattle.def_layout.specs.Borders.{side_size, border_dart}
-use Rattle.def_layout.specs.Layouts.{Way, south, east, north, west}
-use Rattle.def_layout.specs.Plans.{way_number}
+use Rattle.def_layout.specs.{Arcs.path, Borders.side_size, Borders.border_dart, Layouts.Way, Layouts.south}
+use Rattle.def_layout.specs.{Layouts.east, Layouts.north, Layouts.west, Plans.way_number}
 use Rattle.layout_laws.specs.Named.{run_list}
-use Rattle.qm_tmesh.specs.Sides.{IsSideOf}
-use Rattle.qm_tmesh.specs.Four.{four_of}
+use Rattle.qm_tmesh.specs.{Sides.IsSideOf, Four.four_of}
 use Rattle.qm_tmesh.proofs.Corners.{room, at_south_east, at_north_east, at_north_west}
 use Rattle.qm_tmesh.proofs.sides.four_sides.Goals as goal
 

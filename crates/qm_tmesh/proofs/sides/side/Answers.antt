@@ -1,12 +1,9 @@
 use Rattle.std.proofs.Common.{◌≡◌, ℕ, ◌+◌, ◌<◌, Bool, true, List, [], ◌∷◌, ◌++◌, map, length, get_or, ap, sym, subst}
 use Rattle.std.proofs.Common.{◌∙◌, arith}
 use Rattle.std.proofs.lemmas.List.{get_or_default, length-map}
-use Rattle.def_layout.specs.Arcs.{Path, path, path_at, long_at}
-use Rattle.def_layout.specs.declared.tmesh.SideArc.{SideArc}
-use Rattle.qm_tmesh.specs.Uses.{use_in}
-use Rattle.qm_tmesh.specs.Sides.{HasUseAt, IsSplit, IsSideSoFar}
-use Rattle.qm_tmesh.proofs.ArcReads.{read_arc}
-use Rattle.qm_tmesh.proofs.SideTables.{side_more}
+use Rattle.def_layout.specs.{Arcs.Path, Arcs.path, Arcs.path_at, Arcs.long_at, declared.tmesh.SideArc.SideArc}
+use Rattle.qm_tmesh.specs.{Uses.use_in, Sides.HasUseAt, Sides.IsSplit, Sides.IsSideSoFar}
+use Rattle.qm_tmesh.proofs.{ArcReads.read_arc, SideTables.side_more}
 use Rattle.qm_tmesh.proofs.sides.side.Goals as goal
 
 pub loop-t-preserved : goal.loop-t-preserved

@@ -2,11 +2,9 @@ use Rattle.std.proofs.Common.{◌≡◌, ◌+◌, List, [], ◌∷◌, ◌++◌,
 use Rattle.std.proofs.Common.{arith}
 use Rattle.std.proofs.lemmas.List.{map-append, length-map, get_or_append_left, get_or-append-add}
 use Rattle.def_cut.specs.Grids.{Rectangle, rectangle, patch_at}
-use Rattle.def_layout.specs.Arcs.{path}
-use Rattle.def_layout.specs.declared.tmesh.SideArc.{SideArc}
+use Rattle.def_layout.specs.{Arcs.path, declared.tmesh.SideArc.SideArc}
 use Rattle.qm_tmesh.specs.Four.{IsPatchOf, AreFour, four_of}
-use Rattle.qm_tmesh.proofs.ArcReads.{read_patch}
-use Rattle.qm_tmesh.proofs.Walks.{below_next}
+use Rattle.qm_tmesh.proofs.{ArcReads.read_patch, Walks.below_next}
 use Rattle.qm_tmesh.proofs.sides.sides.Goals as goal
 
 pub four_sides-requires : goal.four_sides-requires

@@ -1,14 +1,12 @@
-use Rattle.std.proofs.Common.{◌≡◌, ℕ, ◌-◌, ◌<◌, true, false, map, length, get_or, set, Option, Some, None, ap, sym}
-use Rattle.std.proofs.Common.{subst, ◌∙◌, refl, arith}
-use Rattle.std.proofs.lemmas.Grind.{get_or_default_zero}
-use Rattle.std.proofs.lemmas.List.{length-map}
-use Rattle.std.proofs.lemmas.Option.{same_Some}
+use Rattle.std.proofs.Common.{◌≡◌, ℕ, ◌-◌, ◌<◌, true, false, map}
+use Rattle.std.proofs.Common.{length, get_or, set, Option, Some, None, ap}
+use Rattle.std.proofs.Common.{sym, subst, ◌∙◌, refl, arith}
+use Rattle.std.proofs.{lemmas.Grind.get_or_default_zero, lemmas.List.length-map, lemmas.Option.same_Some}
 use Rattle.def_mesh.specs.Darts.{darts, twin_of}
 use Rattle.def_layout.specs.Arcs.{Path, path, path_at, long_at}
-use Rattle.qm_tmesh.proofs.ArcReads.{read_arc, named_some, named_low}
-use Rattle.qm_tmesh.proofs.UseTables.{uses_more}
-use Rattle.qm_tmesh.proofs.uses.uses.Goals as goal
+use Rattle.qm_tmesh.proofs.{ArcReads.read_arc, ArcReads.named_some, ArcReads.named_low, UseTables.uses_more}
 use Rattle.qm_tmesh.proofs.uses.uses.Goals.{in-Some, in_default}
+use Rattle.qm_tmesh.proofs.uses.uses.Goals as goal
 
 -- A dart of the arc that was read.
 some_of : (g : Path) (p : Path) → g ≡ p → 0 < length g.darts → 0 < length p.darts

@@ -2,8 +2,7 @@ use Rattle.std.proofs.Common.{◌∙◌, refl, subst}
 use Rattle.def_io.specs.Moves.{change}
 use Rattle.def_text.specs.FaceSet.{FaceSet}
 use Rattle.qm_top.specs.Refusals.{IsNoMeshOf}
-use Rattle.qm_top.proofs.Benched.{bench_writer, made_ended}
-use Rattle.qm_top.proofs.Refusals.{handed_run, memory_ended}
+use Rattle.qm_top.proofs.{Benched.bench_writer, Benched.made_ended, Refusals.handed_run, Refusals.memory_ended}
 use Rattle.qm_top.proofs.Writers.{writer_runs}
 use Rattle.qm_top.proofs.bench.bench.Goals as goal
 

@@ -1,6 +1,5 @@
 use Rattle.std.proofs.Common.{refl}
-use Rattle.qm_top.proofs.Blocked.{blocks_writer}
-use Rattle.qm_top.proofs.Refusals.{blocks_needs, handed_run, input_ended}
+use Rattle.qm_top.proofs.{Blocked.blocks_writer, Refusals.blocks_needs, Refusals.handed_run, Refusals.input_ended}
 use Rattle.qm_top.proofs.Writers.{writer_runs}
 use Rattle.qm_top.proofs.blocks.blocks.Goals as goal
 

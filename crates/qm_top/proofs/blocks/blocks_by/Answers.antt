@@ -1,11 +1,8 @@
 use Rattle.std.proofs.Common.{sym, subst}
 use Rattle.def_blocks.specs.Links.{AreLinks}
-use Rattle.def_layout.specs.Arcs.{long_at}
-use Rattle.def_layout.specs.Plans.{layout_of}
-use Rattle.def_remesh.specs.CutSoups.{Regrid}
-use Rattle.def_remesh.specs.NewPoints.{multiple_of}
-use Rattle.qm_top.specs.Blocking.{links_in}
-use Rattle.qm_top.specs.Refining.{IsRefinedMesh}
+use Rattle.def_layout.specs.{Arcs.long_at, Plans.layout_of}
+use Rattle.def_remesh.specs.{CutSoups.Regrid, NewPoints.multiple_of}
+use Rattle.qm_top.specs.{Blocking.links_in, Refining.IsRefinedMesh}
 use Rattle.qm_top.proofs.blocks.blocks_by.Goals as goal
 
 pub returns-clause-blocks : goal.returns-clause-blocks

@@ -1,10 +1,7 @@
-use Rattle.std.proofs.Common.{map, sym, ◌∙◌, refl, subst}
-use Rattle.std.proofs.lemmas.List.{length-map}
+use Rattle.std.proofs.{Common.map, Common.sym, Common.◌∙◌, Common.refl, Common.subst, lemmas.List.length-map}
 use Rattle.def_blocks.specs.Links.{AreLinks}
-use Rattle.def_layout.specs.Arcs.{long_at}
-use Rattle.def_layout.specs.Plans.{layout_of}
-use Rattle.def_remesh.specs.CutSoups.{CutSoup}
-use Rattle.def_remesh.specs.NewPoints.{multiple_of}
+use Rattle.def_layout.specs.{Arcs.long_at, Plans.layout_of}
+use Rattle.def_remesh.specs.{CutSoups.CutSoup, NewPoints.multiple_of}
 use Rattle.qm_top.proofs.blocks.blocks_of.Goals as goal
 
 pub invariant_of-result : goal.invariant_of-result

@@ -1,5 +1,4 @@
-use Rattle.std.proofs.Common.{◌≡◌, rules}
-use Rattle.std.proofs.lemmas.Result.{on_err_weaker, on_ok_weaker}
+use Rattle.std.proofs.{Common.◌≡◌, Common.rules, lemmas.Result.on_err_weaker, lemmas.Result.on_ok_weaker}
 use Rattle.def_io.specs.Moves.{took, TookPrefix}
 use Rattle.qm_output.proofs.Prefixes.{of_error, rest_prefix, text_prefix, text_whole}
 use Rattle.qm_top.specs.Blocking.{told_text}

@@ -1,8 +1,6 @@
 use Rattle.std.proofs.Common.{sym, subst}
-use Rattle.def_text.specs.Input.{ReadWhole}
-use Rattle.def_text.specs.declared.limits.TheConstants.{MAX_BYTES}
-use Rattle.qm_top.proofs.Checked.{check_writer}
-use Rattle.qm_top.proofs.Writers.{writer_runs}
+use Rattle.def_text.specs.{Input.ReadWhole, declared.limits.TheConstants.MAX_BYTES}
+use Rattle.qm_top.proofs.{Checked.check_writer, Writers.writer_runs}
 use Rattle.qm_top.proofs.check.check.Goals as goal
 
 pub returns : goal.returns

@@ -3,8 +3,7 @@ use Rattle.def_io.specs.Moves.{stream}
 use Rattle.def_run.specs.Checking.{WritesAccepted}
 use Rattle.error_laws.proofs.Errors.{handed}
 use Rattle.qm_top.specs.Checking.{IsUnaccepted}
-use Rattle.qm_top.proofs.Checked.{check_placed, unaccepted, unwritable}
-use Rattle.qm_top.proofs.Writers.{not_begun}
+use Rattle.qm_top.proofs.{Checked.check_placed, Checked.unaccepted, Checked.unwritable, Writers.not_begun}
 use Rattle.qm_top.proofs.check.check_bytes.Goals as goal
 
 pub returns-in_err-write_all-in-Ok-clause-refused : goal.returns-in_err-write_all-in-Ok-clause-refused

@@ -1,9 +1,7 @@
 use Rattle.std.proofs.Common.{refl}
-use Rattle.def_run.specs.Coarse.{AsksToMerge}
-use Rattle.def_run.specs.declared.command.Command.TheVariants.{Coarse}
-use Rattle.qm_top.proofs.Refusals.{coarse_needs, handed_run, input_ended}
-use Rattle.qm_top.proofs.Remeshed.{coarse_tasked, task_writer}
-use Rattle.qm_top.proofs.Writers.{writer_runs}
+use Rattle.def_run.specs.{Coarse.AsksToMerge, declared.command.Command.TheVariants.Coarse}
+use Rattle.qm_top.proofs.{Refusals.coarse_needs, Refusals.handed_run, Refusals.input_ended, Remeshed.coarse_tasked}
+use Rattle.qm_top.proofs.{Remeshed.task_writer, Writers.writer_runs}
 use Rattle.qm_top.proofs.coarse.coarse.Goals as goal
 
 pub returns-in_err-read : goal.returns-in_err-read

@@ -1,6 +1,5 @@
 use Rattle.std.proofs.Common.{codes, refl}
-use Rattle.def_run.specs.Coarse.{AsksToMerge}
-use Rattle.def_run.specs.Heads.{named_head, named_task}
+use Rattle.def_run.specs.{Coarse.AsksToMerge, Heads.named_head, Heads.named_task}
 use Rattle.qm_top.proofs.Remeshed.{asked_done, asked_refused}
 use Rattle.qm_top.proofs.coarse.coarse_mesh.Goals as goal
 

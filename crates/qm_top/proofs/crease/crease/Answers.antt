@@ -1,11 +1,7 @@
 use Rattle.std.proofs.Common.{refl}
-use Rattle.def_run.specs.Crease.{AsksToCrease}
-use Rattle.def_run.specs.declared.command.Command.TheVariants.{Crease}
-use Rattle.qm_top.proofs.Creased.{marks_refuse}
-use Rattle.qm_top.proofs.Meshless.{marks_ended, meshless_ended}
-use Rattle.qm_top.proofs.Refusals.{crease_needs, handed_run}
-use Rattle.qm_top.proofs.Remeshed.{crease_tasked, task_writer}
-use Rattle.qm_top.proofs.Writers.{writer_runs}
+use Rattle.def_run.specs.{Crease.AsksToCrease, declared.command.Command.TheVariants.Crease}
+use Rattle.qm_top.proofs.{Creased.marks_refuse, Meshless.marks_ended, Meshless.meshless_ended, Refusals.crease_needs}
+use Rattle.qm_top.proofs.{Refusals.handed_run, Remeshed.crease_tasked, Remeshed.task_writer, Writers.writer_runs}
 use Rattle.qm_top.specs.declared.refusal.Refusal.TheVariants.{Marks}
 use Rattle.qm_top.proofs.crease.crease.Goals as goal
 

@@ -3,8 +3,7 @@ use Rattle.error_laws.proofs.Errors.{handed}
 use Rattle.def_feature.specs.Marks.{AreMarks}
 use Rattle.def_remesh.specs.Tasks.{old_lengths}
 use Rattle.def_run.specs.Crease.{AsksToCrease}
-use Rattle.qm_write.specs.Framing.{framed_text}
-use Rattle.qm_write.specs.declared.text.Framed.{Framed}
+use Rattle.qm_write.specs.{Framing.framed_text, declared.text.Framed.Framed}
 use Rattle.qm_top.proofs.Creased.{chosen_marked, creased_fails, creased_shown}
 use Rattle.qm_top.proofs.Framed.{kept_for, put_refused}
 use Rattle.qm_top.specs.Writing.{refusal_of_put, FailsAsked, IsOfLayout, ShowsAsked}

@@ -3,8 +3,7 @@ use Rattle.std.specs.Prelude.{option_copied}
 use Rattle.def_layout.specs.Plans.{plan}
 use Rattle.def_mesh.specs.Faces.{Faces}
 use Rattle.def_patches.specs.Chosen.{AreKeptMarks, IsChosenLayout}
-use Rattle.def_remesh.specs.CutSoups.{CutSoup}
-use Rattle.def_remesh.specs.Placings.{IsMeshLayout}
+use Rattle.def_remesh.specs.{CutSoups.CutSoup, Placings.IsMeshLayout}
 use Rattle.qm_top.proofs.Writers.{on_cut}
 use Rattle.qm_top.proofs.cuts.chosen_cut.Goals as goal
 

@@ -1,8 +1,7 @@
 use Rattle.std.proofs.Common.{ap, subst}
 use Rattle.def_layout.specs.Plans.{plan}
 use Rattle.def_mesh.specs.Faces.{Faces}
-use Rattle.def_remesh.specs.CutSoups.{CutSoup}
-use Rattle.def_remesh.specs.Placings.{IsMeshLayout}
+use Rattle.def_remesh.specs.{CutSoups.CutSoup, Placings.IsMeshLayout}
 use Rattle.def_run.specs.Remesh.{IsTracedLayout}
 use Rattle.qm_top.proofs.Writers.{on_cut}
 use Rattle.qm_top.proofs.cuts.traced_cut.Goals as goal

@@ -2,11 +2,9 @@ use Rattle.std.proofs.Common.{None, refl}
 use Rattle.error_laws.proofs.Errors.{handed}
 use Rattle.def_remesh.specs.Tasks.{old_lengths}
 use Rattle.remesh_laws.specs.Keeps.{ShowsTask}
-use Rattle.qm_write.specs.Framing.{framed_text}
-use Rattle.qm_write.specs.declared.text.Framed.{Framed}
+use Rattle.qm_write.specs.{Framing.framed_text, declared.text.Framed.Framed}
 use Rattle.qm_top.proofs.Framed.{framed_shown, kept_for, put_refused}
-use Rattle.qm_top.specs.Finishing.{headed_task}
-use Rattle.qm_top.specs.Writing.{refusal_of_put, FailsTask, IsOfLayout}
+use Rattle.qm_top.specs.{Finishing.headed_task, Writing.refusal_of_put, Writing.FailsTask, Writing.IsOfLayout}
 use Rattle.qm_top.proofs.finishing.finish.Goals as goal
 
 pub write_framed-requires : goal.write_framed-requires

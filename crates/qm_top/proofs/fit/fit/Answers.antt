@@ -1,11 +1,7 @@
 use Rattle.std.proofs.Common.{refl}
-use Rattle.def_run.specs.Fit.{AsksForNearFit, AsksToFit}
-use Rattle.def_run.specs.declared.command.Command.TheVariants.{Fit}
-use Rattle.qm_top.proofs.Fits.{asides_refuse, fit_aimed, fit_needs}
-use Rattle.qm_top.proofs.Fitted.{aimed_writer}
-use Rattle.qm_top.proofs.Meshless.{marks_ended, meshless_ended}
-use Rattle.qm_top.proofs.Refusals.{handed_run}
-use Rattle.qm_top.proofs.Writers.{writer_runs}
+use Rattle.def_run.specs.{Fit.AsksForNearFit, Fit.AsksToFit, declared.command.Command.TheVariants.Fit}
+use Rattle.qm_top.proofs.{Fits.asides_refuse, Fits.fit_aimed, Fits.fit_needs, Fitted.aimed_writer, Meshless.marks_ended}
+use Rattle.qm_top.proofs.{Meshless.meshless_ended, Refusals.handed_run, Writers.writer_runs}
 use Rattle.qm_top.specs.declared.refusal.Refusal.TheVariants.{Marks}
 use Rattle.qm_top.proofs.fit.fit.Goals as goal
 

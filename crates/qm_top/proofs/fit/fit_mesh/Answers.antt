@@ -2,22 +2,17 @@ use Rattle.std.proofs.Common.{◌≡◌, Ok, false, Bool, List, ap, sym, ◌∙�
 use Rattle.std.specs.Prelude.{option_copied}
 use Rattle.error_laws.proofs.Errors.{handed}
 use Rattle.def_cut.specs.FullCut.{IsFullCut}
-use Rattle.def_fit.specs.Aims.{aimed, fit_settings}
-use Rattle.def_fit.specs.FitTasks.{asides_in, Asides}
-use Rattle.def_fit.specs.Shares.{shares_of}
+use Rattle.def_fit.specs.{Aims.aimed, Aims.fit_settings, FitTasks.asides_in, FitTasks.Asides, Shares.shares_of}
 use Rattle.def_io.specs.Bytes.{Bytes}
 use Rattle.def_layout.specs.FaceLayouts.{IsCutLayout}
 use Rattle.def_mesh.specs.Darts.{darts}
 use Rattle.def_patches.specs.Chosen.{AreKeptMarks}
 use Rattle.def_run.specs.Fit.{AsksForNearFit, AsksToFit}
 use Rattle.def_text.specs.FaceSet.{FaceSet}
-use Rattle.qm_write.specs.Framing.{framed_text}
-use Rattle.qm_write.specs.declared.text.Framed.{Framed}
+use Rattle.qm_write.specs.{Framing.framed_text, declared.text.Framed.Framed}
 use Rattle.qm_asides.specs.Beside.{asides_of}
-use Rattle.qm_top.proofs.Fits.{asides_by_parts, fit_fails, fit_shown}
-use Rattle.qm_top.proofs.Framed.{kept_for, put_refused}
-use Rattle.qm_top.specs.Fitting.{FailsNear, IsFarTask, IsOfWishes}
-use Rattle.qm_top.specs.Refusals.{refusal_of_size}
+use Rattle.qm_top.proofs.{Fits.asides_by_parts, Fits.fit_fails, Fits.fit_shown, Framed.kept_for, Framed.put_refused}
+use Rattle.qm_top.specs.{Fitting.FailsNear, Fitting.IsFarTask, Fitting.IsOfWishes, Refusals.refusal_of_size}
 use Rattle.qm_top.specs.Writing.{refusal_of_put, ShowsAsked}
 use Rattle.qm_top.proofs.fit.fit_mesh.Goals as goal
 

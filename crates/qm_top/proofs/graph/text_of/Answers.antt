@@ -1,7 +1,5 @@
-use Rattle.std.proofs.Common.{◌≡◌, Bool, List, subst}
-use Rattle.std.proofs.lemmas.Result.{IfOk-weaker}
-use Rattle.def_layout.specs.FaceLayouts.{IsCutLayout}
-use Rattle.def_layout.specs.Plans.{plan}
+use Rattle.std.proofs.{Common.◌≡◌, Common.Bool, Common.List, Common.subst, lemmas.Result.IfOk-weaker}
+use Rattle.def_layout.specs.{FaceLayouts.IsCutLayout, Plans.plan}
 use Rattle.def_report.specs.GraphText.{graph_text}
 use Rattle.def_run.specs.Graph.{IsGraphText}
 use Rattle.qm_top.proofs.graph.text_of.Goals as goal

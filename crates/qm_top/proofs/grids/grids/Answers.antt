@@ -2,10 +2,8 @@ use Rattle.std.proofs.Common.{refl, sym, subst}
 use Rattle.std.specs.Prelude.{option_copied}
 use Rattle.def_patches.specs.Chosen.{AreKeptMarks}
 use Rattle.def_run.specs.declared.command.Command.TheVariants.{Grids}
-use Rattle.qm_top.proofs.LaidOut.{grids_refuse, grids_writer}
-use Rattle.qm_top.proofs.Meshless.{marks_ended, meshless_ended}
-use Rattle.qm_top.proofs.Refusals.{grids_needs, handed_run}
-use Rattle.qm_top.proofs.Writers.{writer_runs}
+use Rattle.qm_top.proofs.{LaidOut.grids_refuse, LaidOut.grids_writer, Meshless.marks_ended, Meshless.meshless_ended}
+use Rattle.qm_top.proofs.{Refusals.grids_needs, Refusals.handed_run, Writers.writer_runs}
 use Rattle.qm_top.specs.declared.refusal.Refusal.TheVariants.{Marks}
 use Rattle.qm_top.proofs.grids.grids.Goals as goal
 

@@ -1,9 +1,7 @@
 use Rattle.std.proofs.Common.{◌∙◌, ap, subst}
 use Rattle.def_blocks.specs.Links.{AreLinks}
-use Rattle.def_layout.specs.Arcs.{long_at}
-use Rattle.def_layout.specs.Plans.{layout_of, Plan}
-use Rattle.def_remesh.specs.CutSoups.{Regrid}
-use Rattle.def_remesh.specs.NewPoints.{lengths_in, multiple_of}
+use Rattle.def_layout.specs.{Arcs.long_at, Plans.layout_of, Plans.Plan}
+use Rattle.def_remesh.specs.{CutSoups.Regrid, NewPoints.lengths_in, NewPoints.multiple_of}
 use Rattle.qm_top.specs.Blocking.{links_in}
 use Rattle.qm_top.proofs.grids.grids_by.Goals as goal
 

@@ -3,10 +3,8 @@ use Rattle.std.specs.Prelude.{option_copied}
 use Rattle.def_patches.specs.Chosen.{AreKeptMarks}
 use Rattle.def_run.specs.declared.command.Command.TheVariants.{LayOut}
 use Rattle.def_text.specs.FaceSet.{FaceSet}
-use Rattle.qm_top.proofs.LaidOut.{kept_refuses, layout_writer}
-use Rattle.qm_top.proofs.Meshless.{marks_ended, meshless_ended}
-use Rattle.qm_top.proofs.Refusals.{handed_run, layout_needs}
-use Rattle.qm_top.proofs.Writers.{writer_runs}
+use Rattle.qm_top.proofs.{LaidOut.kept_refuses, LaidOut.layout_writer, Meshless.marks_ended, Meshless.meshless_ended}
+use Rattle.qm_top.proofs.{Refusals.handed_run, Refusals.layout_needs, Writers.writer_runs}
 use Rattle.qm_top.specs.declared.refusal.Refusal.TheVariants.{Marks}
 use Rattle.qm_top.proofs.layout.layout.Goals as goal
 

@@ -3,8 +3,7 @@ use Rattle.def_io.specs.Moves.{stream}
 use Rattle.def_run.specs.Map.{WritesMap}
 use Rattle.error_laws.proofs.Errors.{handed}
 use Rattle.qm_top.specs.Mapping.{mapped_text, IsNoMapFor}
-use Rattle.qm_top.proofs.Mapped.{map_placed}
-use Rattle.qm_top.proofs.Writers.{not_begun}
+use Rattle.qm_top.proofs.{Mapped.map_placed, Writers.not_begun}
 use Rattle.qm_top.proofs.map.map_bytes.Goals as goal
 
 pub returns-in_err-write_map-in-Ok-clause-refused : goal.returns-in_err-write_map-in-Ok-clause-refused

@@ -1,6 +1,5 @@
 use Rattle.std.proofs.Common.{refl}
-use Rattle.qm_top.proofs.Refined.{refine_writer}
-use Rattle.qm_top.proofs.Refusals.{handed_run, input_ended, refine_needs}
+use Rattle.qm_top.proofs.{Refined.refine_writer, Refusals.handed_run, Refusals.input_ended, Refusals.refine_needs}
 use Rattle.qm_top.proofs.Writers.{writer_runs}
 use Rattle.qm_top.proofs.refine.refine.Goals as goal
 

@@ -1,8 +1,6 @@
 use Rattle.std.proofs.Common.{refl, subst, arith}
-use Rattle.def_layout.specs.Arcs.{long_at}
-use Rattle.def_layout.specs.Plans.{layout_of}
-use Rattle.def_remesh.specs.NewPoints.{multiple_of}
-use Rattle.def_remesh.specs.Stitched.{IsUnstitched}
+use Rattle.def_layout.specs.{Arcs.long_at, Plans.layout_of}
+use Rattle.def_remesh.specs.{NewPoints.multiple_of, Stitched.IsUnstitched}
 use Rattle.qm_top.proofs.refine.refined_cut.Goals as goal
 
 pub returns-in-Err-TooFine-clause-refused : goal.returns-in-Err-TooFine-clause-refused

@@ -1,9 +1,7 @@
 use Rattle.std.proofs.Common.{refl}
-use Rattle.def_run.specs.Remesh.{AsksToRemesh}
-use Rattle.def_run.specs.declared.command.Command.TheVariants.{Remesh}
-use Rattle.qm_top.proofs.Refusals.{handed_run, input_ended, remesh_needs}
-use Rattle.qm_top.proofs.Remeshed.{remesh_tasked, task_writer}
-use Rattle.qm_top.proofs.Writers.{writer_runs}
+use Rattle.def_run.specs.{Remesh.AsksToRemesh, declared.command.Command.TheVariants.Remesh}
+use Rattle.qm_top.proofs.{Refusals.handed_run, Refusals.input_ended, Refusals.remesh_needs, Remeshed.remesh_tasked}
+use Rattle.qm_top.proofs.{Remeshed.task_writer, Writers.writer_runs}
 use Rattle.qm_top.proofs.remesh.remesh.Goals as goal
 
 pub returns-in_err-read : goal.returns-in_err-read

@@ -1,12 +1,9 @@
 use Rattle.std.specs.Prelude.{unsigned_abs}
 use Rattle.std.proofs.Common.{◌≤◌, refl, arith, rules}
 use Rattle.def_fit.specs.declared.fit.Aim.TheVariants.{Edge}
-use Rattle.def_run.specs.Size.{AsksForNearSize, AsksForSize}
-use Rattle.def_run.specs.declared.command.Command.TheVariants.{Size}
-use Rattle.qm_top.proofs.Fitted.{aimed_writer}
-use Rattle.qm_top.proofs.Refusals.{handed_run, input_ended, size_needs}
-use Rattle.qm_top.proofs.Sized.{size_aimed}
-use Rattle.qm_top.proofs.Writers.{writer_runs}
+use Rattle.def_run.specs.{Size.AsksForNearSize, Size.AsksForSize, declared.command.Command.TheVariants.Size}
+use Rattle.qm_top.proofs.{Fitted.aimed_writer, Refusals.handed_run, Refusals.input_ended, Refusals.size_needs}
+use Rattle.qm_top.proofs.{Sized.size_aimed, Writers.writer_runs}
 use Rattle.qm_top.proofs.size.size.Goals as goal
 
 pub returns-in_err-read : goal.returns-in_err-read

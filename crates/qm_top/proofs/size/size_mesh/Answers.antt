@@ -3,13 +3,10 @@ use Rattle.error_laws.proofs.Errors.{handed}
 use Rattle.def_fit.specs.declared.fit.Aim.TheVariants.{Edge}
 use Rattle.def_metric.specs.Targets.{edge_settings}
 use Rattle.def_run.specs.Size.{size_task, soup_targets, AsksForNearSize, AsksForSize}
-use Rattle.qm_write.specs.Framing.{framed_text}
-use Rattle.qm_write.specs.declared.text.Framed.{Framed}
-use Rattle.qm_top.proofs.Fitted.{aimed_fails, aimed_shown}
-use Rattle.qm_top.proofs.Framed.{kept_for, put_refused}
+use Rattle.qm_write.specs.{Framing.framed_text, declared.text.Framed.Framed}
+use Rattle.qm_top.proofs.{Fitted.aimed_fails, Fitted.aimed_shown, Framed.kept_for, Framed.put_refused}
 use Rattle.qm_top.proofs.Sized.{size_fail_as, size_near}
-use Rattle.qm_top.specs.Fitting.{FailsNear, IsFarTask, IsOfWishes}
-use Rattle.qm_top.specs.Refusals.{refusal_of_size}
+use Rattle.qm_top.specs.{Fitting.FailsNear, Fitting.IsFarTask, Fitting.IsOfWishes, Refusals.refusal_of_size}
 use Rattle.qm_top.specs.Writing.{refusal_of_put, ShowsAsked}
 use Rattle.qm_top.proofs.size.size_mesh.Goals as goal
 

@@ -1,8 +1,7 @@
-use Rattle.std.proofs.Common.{rules}
+use Rattle.std.proofs.{Common.rules, lemmas.Result.on_err_weaker}
 use Rattle.std.specs.Prelude.{OnErr}
 use Rattle.def_io.specs.Moves.{TookPrefix}
 use Rattle.def_text.specs.Canonical.{canonical_text}
-use Rattle.std.proofs.lemmas.Result.{on_err_weaker}
 use Rattle.qm_output.proofs.Prefixes.{of_error, rest_prefix, text_prefix}
 use Rattle.qm_top.proofs.tidy.write_soup.Goals as goal
 

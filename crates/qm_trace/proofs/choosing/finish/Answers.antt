@@ -1,8 +1,7 @@
 use Rattle.std.proofs.Common.{◌<◌, length, Some, sym, subst, ap, arith}
 use Rattle.def_cut.specs.Views.{MotionView}
 use Rattle.qm_trace.specs.Left.{left_of}
-use Rattle.qm_trace.proofs.Fewer.{ride_less, riders_long, settle_less}
-use Rattle.qm_trace.proofs.Reaching.{ride_reached}
+use Rattle.qm_trace.proofs.{Fewer.ride_less, Fewer.riders_long, Fewer.settle_less, Reaching.ride_reached}
 use Rattle.qm_trace.proofs.choosing.finish.Goals as goal
 
 pub events-smaller-in-Ride : goal.events-smaller-in-Ride

@@ -2,9 +2,7 @@ use Rattle.std.proofs.Common.{cond, Bool, ◌≡◌, ◌<◌, ◌≤◌, ◌++�
 use Rattle.std.proofs.Common.{arith}
 use Rattle.std.proofs.lemmas.List.{length_push, take_more, take_all}
 use Rattle.std.specs.Vec.{vec_capacity, vec_len}
-use Rattle.def_cut.specs.Motion.{begun}
-use Rattle.def_cut.specs.Traced.{AreRiders}
-use Rattle.def_cut.specs.declared.moving.Moving.{Moving}
+use Rattle.def_cut.specs.{Motion.begun, Traced.AreRiders, declared.moving.Moving.Moving}
 use Rattle.qm_trace.proofs.Ends.{riders_more}
 use Rattle.qm_trace.proofs.ending.tell_riders.Goals as goal
 

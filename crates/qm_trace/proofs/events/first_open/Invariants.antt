@@ -1,7 +1,5 @@
 use Rattle.std.proofs.Common.{◌≡◌, ℕ, true, Some, take}
-use Rattle.def_cut.specs.Events.{note_at}
-use Rattle.def_cut.specs.FullCut.{is_on}
-use Rattle.def_cut.specs.Motion.{is_among}
+use Rattle.def_cut.specs.{Events.note_at, FullCut.is_on, Motion.is_among}
 use Rattle.def_mesh.specs.Darts.{to_of}
 use Rattle.qm_trace.proofs.events.first_open.Given as goal
 

@@ -1,6 +1,5 @@
 use Rattle.std.proofs.Common.{◌≡◌, not, ◌∙◌, sym, arith}
-use Rattle.def_mesh.specs.Kinds.{is_inner, is_singular}
-use Rattle.def_mesh.specs.Vertices.{vertex_count}
+use Rattle.def_mesh.specs.{Kinds.is_inner, Kinds.is_singular, Vertices.vertex_count}
 use Rattle.qm_trace.proofs.Stops.{map_more, ground_is}
 use Rattle.qm_trace.proofs.ground.ground_of.Goals as goal
 

@@ -1,8 +1,7 @@
 use Rattle.std.proofs.Common.{◌||◌, Bool, List, length, ap, ◌∙◌}
-use Rattle.def_mesh.specs.Darts.{twin_of}
-use Rattle.def_cut.specs.Motion.{is_among, is_found}
 use Rattle.std.proofs.lemmas.List.{with_items_is}
-use Rattle.def_cut.specs.FullCut.{is_on}
+use Rattle.def_mesh.specs.Darts.{twin_of}
+use Rattle.def_cut.specs.{Motion.is_among, Motion.is_found, FullCut.is_on}
 use Rattle.qm_trace.proofs.marks.cover.Goals as goal
 
 pub returns-clause-long : goal.returns-clause-long

@@ -1,7 +1,6 @@
 use Rattle.std.proofs.Common.{◌≡◌, ◌<◌, ◌||◌, ℕ, take}
 use Rattle.def_mesh.specs.Darts.{darts, twin_of}
-use Rattle.def_cut.specs.FullCut.{is_on}
-use Rattle.def_cut.specs.Motion.{is_among, is_found}
+use Rattle.def_cut.specs.{FullCut.is_on, Motion.is_among, Motion.is_found}
 use Rattle.qm_trace.proofs.marks.cover_each.Given as goal
 
 abbrev pub invariant-loop-d : goal.invariant-loop-d

@@ -1,7 +1,7 @@
 use Rattle.std.proofs.Common.{◌||◌, eqb, Bool, List, length, ap, ◌∙◌}
+use Rattle.std.proofs.lemmas.List.{with_items_is}
 use Rattle.std.specs.List.{list_any}
 use Rattle.def_mesh.specs.Darts.{from_of}
-use Rattle.std.proofs.lemmas.List.{with_items_is}
 use Rattle.def_cut.specs.FullCut.{is_on}
 use Rattle.qm_trace.proofs.marks.leave.Goals as goal
 

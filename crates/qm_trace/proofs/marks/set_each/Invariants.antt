@@ -1,6 +1,5 @@
 use Rattle.std.proofs.Common.{◌≡◌, ℕ, cond, take}
-use Rattle.def_cut.specs.FullCut.{is_on}
-use Rattle.def_cut.specs.Motion.{is_among}
+use Rattle.def_cut.specs.{FullCut.is_on, Motion.is_among}
 use Rattle.qm_trace.proofs.marks.set_each.Given as goal
 
 abbrev pub invariant-loop-d : goal.invariant-loop-d

@@ -1,7 +1,6 @@
 use Rattle.std.proofs.Common.{cond, Bool, List, length, ap, ◌∙◌}
-use Rattle.def_cut.specs.Motion.{is_among}
 use Rattle.std.proofs.lemmas.List.{with_items_is}
-use Rattle.def_cut.specs.FullCut.{is_on}
+use Rattle.def_cut.specs.{Motion.is_among, FullCut.is_on}
 use Rattle.qm_trace.proofs.marks.set_marks.Goals as goal
 
 pub returns-clause-long : goal.returns-clause-long

@@ -1,8 +1,7 @@
 use Rattle.std.proofs.Common.{◌&&◌, ◌||◌, Bool, List, length, ap, ◌∙◌}
-use Rattle.std.specs.List.{list_any}
-use Rattle.def_mesh.specs.Darts.{all_darts}
-use Rattle.def_mesh.specs.Kinds.{is_end}
 use Rattle.std.proofs.lemmas.List.{with_items_is}
+use Rattle.std.specs.List.{list_any}
+use Rattle.def_mesh.specs.{Darts.all_darts, Kinds.is_end}
 use Rattle.def_cut.specs.FullCut.{is_on}
 use Rattle.qm_trace.proofs.marks.stand_marked.Goals as goal
 

@@ -2,8 +2,7 @@ use Rattle.std.proofs.Common.{◌≡◌, ◌<◌, false, cond, ℕ, Bool, Some, 
 use Rattle.std.proofs.lemmas.Bool.{false_from_ne_true}
 use Rattle.std.proofs.lemmas.Option.{none-some}
 use Rattle.def_mesh.specs.Darts.{to_of}
-use Rattle.def_cut.specs.Motion.{is_among}
-use Rattle.def_cut.specs.Events.{note_at}
+use Rattle.def_cut.specs.{Motion.is_among, Events.note_at}
 use Rattle.qm_trace.proofs.Noting.{all_none, all_off, are_none, cleared}
 use Rattle.qm_trace.proofs.Reaching.{noted_among, noted_where}
 use Rattle.qm_trace.proofs.notes.clear.Goals as goal

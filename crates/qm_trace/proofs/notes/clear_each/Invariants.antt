@@ -1,8 +1,6 @@
 use Rattle.std.proofs.Common.{◌≡◌, ℕ, true, cond, length, take, Some, None}
 use Rattle.def_mesh.specs.Darts.{to_of}
-use Rattle.def_cut.specs.FullCut.{is_on}
-use Rattle.def_cut.specs.Motion.{is_among}
-use Rattle.def_cut.specs.Events.{note_at}
+use Rattle.def_cut.specs.{FullCut.is_on, Motion.is_among, Events.note_at}
 use Rattle.qm_trace.proofs.notes.clear_each.Given as goal
 
 -- What is marked still belongs to a note, and the riders before this one have none.

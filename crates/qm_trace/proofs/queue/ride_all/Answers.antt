@@ -1,5 +1,4 @@
-use Rattle.std.proofs.Common.{List, length, ap, subst, ◌∙◌}
-use Rattle.std.proofs.lemmas.List.{with_items_is}
+use Rattle.std.proofs.{Common.List, Common.length, Common.ap, Common.subst, Common.◌∙◌, lemmas.List.with_items_is}
 use Rattle.def_cut.specs.declared.moving.Moving.{Moving}
 use Rattle.qm_trace.specs.Tables.{AreRode}
 use Rattle.qm_trace.proofs.Instants.{next_riders}

@@ -1,7 +1,5 @@
 use Rattle.std.proofs.Common.{◌≡◌, true, get_or, ap, arith}
-use Rattle.def_cut.specs.declared.moving.Moving.{Moving}
-use Rattle.def_cut.specs.Motion.{is_among}
-use Rattle.def_cut.specs.Events.{rider_at}
+use Rattle.def_cut.specs.{declared.moving.Moving.Moving, Motion.is_among, Events.rider_at}
 use Rattle.motion_laws.proofs.Marks.{among_at}
 use Rattle.qm_trace.proofs.Riding.{unmoved, rode_more}
 use Rattle.qm_trace.proofs.queue.ride_each.Goals as goal

@@ -1,7 +1,6 @@
 use Rattle.std.proofs.Common.{◌≡◌, false, take}
 use Rattle.std.specs.List.{list_any}
-use Rattle.def_mesh.specs.Darts.{prev_of}
-use Rattle.def_mesh.specs.Vertices.{fan_of}
+use Rattle.def_mesh.specs.{Darts.prev_of, Vertices.fan_of}
 use Rattle.def_cut.specs.FullCut.{is_on}
 use Rattle.qm_trace.proofs.telling.is_end.Given as goal
 

@@ -1,11 +1,8 @@
 use Rattle.std.proofs.Common.{◌≡◌, ◌<◌, true, false, List, ℕ, length, get_or, take, sym, ap, ◌∙◌, arith}
 use Rattle.std.proofs.lemmas.List.{get_or_default, length-set, take_all}
 use Rattle.mesh_laws.proofs.Fans.{is_fan}
-use Rattle.def_mesh.specs.Darts.{prev_of}
-use Rattle.def_mesh.specs.Vertices.{fan_of}
-use Rattle.def_cut.specs.FullCut.{is_on}
-use Rattle.def_cut.specs.declared.moving.Moving.{Moving}
-use Rattle.def_cut.specs.Events.{note_at, rider_at}
+use Rattle.def_mesh.specs.{Darts.prev_of, Vertices.fan_of}
+use Rattle.def_cut.specs.{FullCut.is_on, declared.moving.Moving.Moving, Events.note_at, Events.rider_at}
 use Rattle.qm_trace.specs.Motions.{told_along}
 use Rattle.qm_trace.proofs.Tellings.{none_here, noted_here, one_here, onward_here, runs_here, told_all_along}
 use Rattle.qm_trace.proofs.Tellings.{untold_here}

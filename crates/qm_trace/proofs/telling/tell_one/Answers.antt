@@ -1,11 +1,7 @@
 use Rattle.std.proofs.Common.{◌≡◌, ◌≤◌, ◌+◌, cond, Bool, List, ℕ, is_some, length, set, sym, ap, ◌∙◌, arith}
 use Rattle.std.proofs.lemmas.List.{get_or_default, length-set}
-use Rattle.def_cut.specs.declared.moving.Moving.{Moving}
-use Rattle.def_cut.specs.Motion.{begun}
-use Rattle.def_cut.specs.Events.{rider_at, told}
-use Rattle.def_cut.specs.Traced.{terrain_of}
-use Rattle.qm_trace.specs.Motions.{is_untold, runs_on, tally}
-use Rattle.qm_trace.specs.Tables.{stop_here}
+use Rattle.def_cut.specs.{declared.moving.Moving.Moving, Motion.begun, Events.rider_at, Events.told, Traced.terrain_of}
+use Rattle.qm_trace.specs.{Motions.is_untold, Motions.runs_on, Motions.tally, Tables.stop_here}
 use Rattle.qm_trace.proofs.Tellings.{fewer_run, fewer_untold, some_run, some_untold, told_stop}
 use Rattle.qm_trace.proofs.telling.tell_one.Goals.{then-is_some, else-is_some}
 use Rattle.qm_trace.proofs.telling.tell_one.Goals as goal

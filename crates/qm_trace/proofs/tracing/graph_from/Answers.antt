@@ -1,12 +1,8 @@
 use Rattle.std.proofs.Common.{ℕ, Bool, List, length, sym, subst, ap, ◌∙◌, arith}
-use Rattle.def_cut.specs.FullCut.{IsFullCut}
-use Rattle.def_cut.specs.Motion.{ridden}
-use Rattle.def_cut.specs.Traced.{AreRiders}
-use Rattle.def_cut.specs.declared.moving.Moving.{Moving}
+use Rattle.def_cut.specs.{FullCut.IsFullCut, Motion.ridden, Traced.AreRiders, declared.moving.Moving.Moving}
 use Rattle.def_feature.specs.Marked.{marked_last}
 use Rattle.feature_laws.proofs.Laws.{marked_law}
-use Rattle.qm_trace.proofs.Beginnings.{marked_few}
-use Rattle.qm_trace.proofs.Ends.{cut_is, have_stopped, last_long}
+use Rattle.qm_trace.proofs.{Beginnings.marked_few, Ends.cut_is, Ends.have_stopped, Ends.last_long}
 use Rattle.qm_trace.proofs.tracing.graph_from.Goals as goal
 
 pub tell_riders-requires-clause-few : goal.tell_riders-requires-clause-few

@@ -1,11 +1,8 @@
 use Rattle.std.proofs.Common.{◌≡◌, ◌<◌, ◌+◌, suc, List, ℕ, length, sym, subst, ap, ◌∙◌, arith}
-use Rattle.std.specs.List.{filter}
-use Rattle.std.specs.Vec.{vec_len}
 use Rattle.std.proofs.lemmas.Bool.{eqb-true}
+use Rattle.std.specs.{List.filter, Vec.vec_len}
 use Rattle.def_mesh.specs.Vertices.{vertex_count}
-use Rattle.def_cut.specs.declared.moving.Moving.{Moving}
-use Rattle.def_cut.specs.Motion.{later, is_among}
-use Rattle.def_cut.specs.Traced.{terrain_of}
+use Rattle.def_cut.specs.{declared.moving.Moving.Moving, Motion.later, Motion.is_among, Traced.terrain_of}
 use Rattle.def_cut.specs.Events.{rider_at}
 use Rattle.def_feature.specs.Marked.{marked_starts, marked_first}
 use Rattle.qm_trace.specs.Tables.{IsQueue, IsTableAt, is_running}

@@ -1,5 +1,4 @@
-use Rattle.std.proofs.lemmas.List.Elements.{All-head, All-tail}
-use Rattle.std.proofs.lemmas.List.Sorted.{All-permutation}
+use Rattle.std.proofs.{lemmas.List.Elements.All-head, lemmas.List.Elements.All-tail, lemmas.List.Sorted.All-permutation}
 use Rattle.qm_warmstart.specs.Tables.{IsKey}
 use Rattle.qm_warmstart.proofs.search.next_beyond.Goals as goal
 

@@ -1,9 +1,7 @@
-use Rattle.std.proofs.Common.{◌<◌, ◌∙◌}
-use Rattle.std.proofs.lemmas.List.{length-set}
-use Rattle.std.proofs.lemmas.List.Elements.{All-cons, All-push, All-same, All-set}
+use Rattle.std.proofs.{Common.◌<◌, Common.◌∙◌, lemmas.List.length-set, lemmas.List.Elements.All-cons}
+use Rattle.std.proofs.lemmas.List.Elements.{All-push, All-same, All-set}
 use Rattle.std.proofs.lemmas.List.Sorted.{All-permutation}
-use Rattle.qm_warmstart.specs.Tables.{IsKey, way_count}
-use Rattle.qm_warmstart.specs.declared.cover.Step.{Step}
+use Rattle.qm_warmstart.specs.{Tables.IsKey, Tables.way_count, declared.cover.Step.Step}
 use Rattle.qm_warmstart.proofs.search.reach.Goals as goal
 
 pub returns-in_ok-push-3 : goal.returns-in_ok-push-3

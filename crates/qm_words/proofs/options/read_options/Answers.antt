@@ -1,5 +1,4 @@
-use Rattle.std.proofs.Common.{map, string_bytes, sym, ◌∙◌}
-use Rattle.std.proofs.lemmas.Bool.{true≢false}
+use Rattle.std.proofs.{Common.map, Common.string_bytes, Common.sym, Common.◌∙◌, lemmas.Bool.true≢false}
 use Rattle.qm_words.proofs.Level.{line_no_end}
 use Rattle.qm_words.proofs.Parses.{app_all, app_more, refused, texts, took}
 use Rattle.qm_words.proofs.options.read_options.Goals as goal

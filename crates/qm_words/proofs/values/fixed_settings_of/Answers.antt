@@ -1,5 +1,4 @@
-use Rattle.std.proofs.Common.{map, string_bytes, sym, ◌∙◌}
-use Rattle.std.proofs.lemmas.Bool.{true≢false}
+use Rattle.std.proofs.{Common.map, Common.string_bytes, Common.sym, Common.◌∙◌, lemmas.Bool.true≢false}
 use Rattle.error_laws.proofs.Errors.{handed}
 use Rattle.qm_words.proofs.Unique.{same_asked}
 use Rattle.qm_words.proofs.values.fixed_settings_of.Goals as goal

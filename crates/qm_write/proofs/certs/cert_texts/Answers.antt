@@ -1,6 +1,5 @@
 use Rattle.std.proofs.Common.{sym, ◌∙◌, ap, subst}
-use Rattle.def_certtext.specs.CertLines.{certificates_of, lists_of, text_of}
-use Rattle.def_certtext.specs.Laws.{AreWritable}
+use Rattle.def_certtext.specs.{CertLines.certificates_of, CertLines.lists_of, CertLines.text_of, Laws.AreWritable}
 use Rattle.def_certtext.specs.declared.certs.Certs.{Certs}
 use Rattle.def_remesh.specs.Remeshed.{certificate_lines}
 use Rattle.qm_write.proofs.Frames.{alone_is, raised_is}

@@ -1,6 +1,6 @@
 use Rattle.std.proofs.Common.{◌++◌, codes, refl, subst}
-use Rattle.std.specs.Result.{OnErr, OnOk}
 use Rattle.std.proofs.lemmas.Result.{on_err_weaker, on_ok_weaker}
+use Rattle.std.specs.Result.{OnErr, OnOk}
 use Rattle.def_io.specs.Bytes.{Bytes}
 use Rattle.qm_output.proofs.Prefixes.{of_error}
 use Rattle.qm_write.proofs.Joins.{alone_joined, raised_joined}

@@ -5,8 +5,7 @@ use Rattle.def_mesh.specs.Faces.{Face}
 use Rattle.def_remesh.specs.NewPoints.{lengths_in}
 use Rattle.def_text.specs.Canonical.{face_text}
 use Rattle.def_written.specs.NewFaces.{face_count, new_face}
-use Rattle.qm_output.proofs.Prefixes.{of_error}
-use Rattle.qm_output.proofs.Lists.{stops_at_number, takes_number}
+use Rattle.qm_output.proofs.{Prefixes.of_error, Lists.stops_at_number, Lists.takes_number}
 use Rattle.qm_write.proofs.faces.put_faces.Goals as goal
 
 pub returns-in_err-put_face-clause-part : goal.returns-in_err-put_face-clause-part

@@ -1,7 +1,6 @@
 use Rattle.std.proofs.Common.{map}
 use Rattle.std.specs.List.{flat_map, range_with_len}
-use Rattle.def_remesh.specs.NewPoints.{lengths_in}
-use Rattle.def_remesh.specs.NewSoup.{spaced_place}
+use Rattle.def_remesh.specs.{NewPoints.lengths_in, NewSoup.spaced_place}
 use Rattle.def_text.specs.Canonical.{position_text}
 use Rattle.qm_write.proofs.vertices.put_vertices.Given as goal
 

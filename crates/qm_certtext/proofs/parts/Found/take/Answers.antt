@@ -1,6 +1,5 @@
 use Rattle.std.proofs.Common.{Some, sym, ap, subst, refl}
-use Rattle.qm_certtext.specs.Parts.{Holds}
-use Rattle.qm_certtext.specs.declared.parts.Parts.{Parts}
+use Rattle.qm_certtext.specs.{Parts.Holds, declared.parts.Parts.Parts}
 use Rattle.qm_certtext.proofs.Holding.{starts, starts_not, takes_ok, takes_third}
 use Rattle.qm_certtext.proofs.parts.Found.take.Goals as goal
 

@@ -1,11 +1,7 @@
 use Rattle.std.proofs.Common.{◌≡◌, ◌∙◌, sym, ap, subst, is_some, Some, ℕ}
 use Rattle.def_matching.specs.Matching.{graph}
-use Rattle.def_forest.specs.Darts.{darts_of, far}
-use Rattle.def_forest.specs.Steps.{IsAugmented}
-use Rattle.def_forest.specs.Tables.{forest_of}
-use Rattle.def_forest.specs.Ways.{Reaches}
-use Rattle.qm_forest.proofs.EdgeKinds.{augments}
-use Rattle.qm_forest.proofs.OnWays.{none_is, augmented}
+use Rattle.def_forest.specs.{Darts.darts_of, Darts.far, Steps.IsAugmented, Tables.forest_of, Ways.Reaches}
+use Rattle.qm_forest.proofs.{EdgeKinds.augments, OnWays.none_is, OnWays.augmented}
 use Rattle.qm_forest.proofs.forest.Forest.augment.Goals as goal
 
 pub rematch-requires-clause-reaches : goal.rematch-requires-clause-reaches

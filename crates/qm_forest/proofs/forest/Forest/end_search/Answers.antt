@@ -1,7 +1,5 @@
 use Rattle.std.proofs.Common.{◌∙◌, ap, refl, get_or}
-use Rattle.def_forest.specs.Forests.{Forest}
-use Rattle.def_forest.specs.Tables.{forest_of}
-use Rattle.def_forest.specs.declared.kinds.Label.TheVariants.{Outside}
+use Rattle.def_forest.specs.{Forests.Forest, Tables.forest_of, declared.kinds.Label.TheVariants.Outside}
 use Rattle.qm_forest.specs.Ties.{labelled}
 use Rattle.qm_forest.proofs.OnWays.{labels_own, one_more_outside, same_nest}
 use Rattle.qm_forest.proofs.forest.Forest.end_search.Goals as goal

@@ -1,6 +1,5 @@
 use Rattle.std.proofs.Common.{◌≡◌, ℕ, ◌<◌, get_or}
-use Rattle.def_forest.specs.Tables.{forest_of}
-use Rattle.def_forest.specs.declared.kinds.Label.TheVariants.{Outside}
+use Rattle.def_forest.specs.{Tables.forest_of, declared.kinds.Label.TheVariants.Outside}
 use Rattle.qm_forest.specs.Ties.{HasSameNest, relabelled}
 use Rattle.qm_forest.proofs.forest.Forest.end_search.Given as goal
 

@@ -1,6 +1,6 @@
 use Rattle.std.proofs.Common.{◌≡◌, ℕ, ◌≤◌, ◌⊎◌, inl, inr, subst, arith}
-use Rattle.std.specs.Prelude.{unsigned_abs}
 use Rattle.std.proofs.lemmas.Bool.{cases_lt}
+use Rattle.std.specs.Prelude.{unsigned_abs}
 use Rattle.def_forest.specs.Tables.{forest_of}
 use Rattle.qm_forest.proofs.forest.Forest.greatest_weight.Goals as goal
 

@@ -1,10 +1,7 @@
 use Rattle.std.proofs.Common.{◌∙◌, sym, ap, subst, is_some}
 use Rattle.def_matching.specs.Matching.{graph}
-use Rattle.def_forest.specs.Darts.{darts_of, far}
-use Rattle.def_forest.specs.Tables.{forest_of}
-use Rattle.def_forest.specs.Ways.{Reaches}
-use Rattle.qm_forest.proofs.EdgeKinds.{grows}
-use Rattle.qm_forest.proofs.OnWays.{valid_grown, is_some_ne}
+use Rattle.def_forest.specs.{Darts.darts_of, Darts.far, Tables.forest_of, Ways.Reaches}
+use Rattle.qm_forest.proofs.{EdgeKinds.grows, OnWays.valid_grown, OnWays.is_some_ne}
 use Rattle.qm_forest.proofs.forest.Forest.grow.Goals as goal
 
 pub grow_along-requires-clause-reaches : goal.grow_along-requires-clause-reaches

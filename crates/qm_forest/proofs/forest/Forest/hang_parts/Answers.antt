@@ -1,9 +1,7 @@
 use Rattle.std.proofs.Common.{◌≡◌, ◌+◌, ◌-◌, ◌^◌, suc, get_or, ◌∙◌, ap, sym, arith}
-use Rattle.def_forest.specs.Forests.{Forest, walk}
-use Rattle.def_forest.specs.Tables.{forest_of}
+use Rattle.def_forest.specs.{Forests.Forest, Forests.walk, Tables.forest_of}
 use Rattle.qm_forest.specs.Parts.{hung}
-use Rattle.qm_forest.proofs.Hangings.{hung_more, place_low, dart_low}
-use Rattle.qm_forest.proofs.Leavings.{outermost_kept}
+use Rattle.qm_forest.proofs.{Hangings.hung_more, Hangings.place_low, Hangings.dart_low, Leavings.outermost_kept}
 use Rattle.qm_forest.proofs.OnWays.{same_nest}
 use Rattle.qm_forest.proofs.forest.Forest.hang_parts.Goals as goal
 

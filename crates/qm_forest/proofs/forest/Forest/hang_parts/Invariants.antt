@@ -1,8 +1,6 @@
 use Rattle.std.proofs.Common.{◌≡◌, ◌-◌, get_or}
-use Rattle.def_forest.specs.Forests.{walk}
-use Rattle.def_forest.specs.Tables.{forest_of}
-use Rattle.qm_forest.specs.Parts.{hung}
-use Rattle.qm_forest.specs.Ties.{HasSameNest}
+use Rattle.def_forest.specs.{Forests.walk, Tables.forest_of}
+use Rattle.qm_forest.specs.{Parts.hung, Ties.HasSameNest}
 use Rattle.qm_forest.proofs.forest.Forest.hang_parts.Given as goal
 
 abbrev pub invariant-loop-k : goal.invariant-loop-k

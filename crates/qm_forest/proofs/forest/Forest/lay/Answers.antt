@@ -1,6 +1,5 @@
 use Rattle.std.proofs.Common.{◌<◌, ◌∙◌, ap, subst, sym, length}
-use Rattle.def_forest.specs.Forests.{set_at}
-use Rattle.def_forest.specs.Tables.{ForestTables, forest_of}
+use Rattle.def_forest.specs.{Forests.set_at, Tables.ForestTables, Tables.forest_of}
 use Rattle.qm_forest.specs.Rings.{ringed}
 use Rattle.qm_forest.proofs.Layings.{seen_lay}
 use Rattle.qm_forest.proofs.forest.Forest.lay.Goals as goal

@@ -1,8 +1,6 @@
 use Rattle.std.proofs.Common.{◌≡◌, ◌+◌, ◌*◌, ◌<◌, length, ◌∙◌, sym, ap, subst, suc, arith}
 use Rattle.def_matching.specs.Matching.{graph}
-use Rattle.def_forest.specs.Darts.{darts_of, far}
-use Rattle.def_forest.specs.Tables.{forest_of}
-use Rattle.def_forest.specs.Ways.{dart_or}
+use Rattle.def_forest.specs.{Darts.darts_of, Darts.far, Tables.forest_of, Ways.dart_or}
 use Rattle.forest_laws.specs.Climbing.{rise_of, way_of}
 use Rattle.qm_forest.specs.Rings.{laid_down}
 use Rattle.qm_forest.proofs.Layings.{IsLaidPlace, laid_place, laid_more_down, alike_more}

@@ -1,7 +1,6 @@
 use Rattle.std.proofs.Common.{◌≡◌}
 use Rattle.def_matching.specs.Matching.{graph}
-use Rattle.def_forest.specs.Darts.{darts_of}
-use Rattle.def_forest.specs.Tables.{forest_of}
+use Rattle.def_forest.specs.{Darts.darts_of, Tables.forest_of}
 use Rattle.forest_laws.specs.Climbing.{way_of}
 use Rattle.qm_forest.specs.Rings.{IsRingedAlike, laid_down}
 use Rattle.qm_forest.proofs.forest.Forest.lay_down.Given as goal

@@ -1,9 +1,7 @@
 use Rattle.std.proofs.Common.{◌∙◌, ap}
 use Rattle.def_matching.specs.Matching.{graph}
-use Rattle.def_forest.specs.Darts.{darts_of}
-use Rattle.def_forest.specs.Tables.{forest_of}
-use Rattle.qm_forest.proofs.Layings.{laid_whole}
-use Rattle.qm_forest.proofs.OnWays.{near_in}
+use Rattle.def_forest.specs.{Darts.darts_of, Tables.forest_of}
+use Rattle.qm_forest.proofs.{Layings.laid_whole, OnWays.near_in}
 use Rattle.qm_forest.proofs.forest.Forest.lay_ring.Goals as goal
 
 pub outermost-a-requires : goal.outermost-a-requires

@@ -1,9 +1,7 @@
 use Rattle.std.proofs.Common.{◌≡◌, suc, ◌+◌, None, ◌∙◌, ap, sym, get_or, arith}
-use Rattle.def_forest.specs.Forests.{Forest, walk}
-use Rattle.def_forest.specs.Tables.{forest_of}
+use Rattle.def_forest.specs.{Forests.Forest, Forests.walk, Tables.forest_of}
 use Rattle.qm_forest.specs.Ties.{mated}
-use Rattle.qm_forest.proofs.Leavings.{outermost_kept, left_more}
-use Rattle.qm_forest.proofs.OnWays.{same_nest}
+use Rattle.qm_forest.proofs.{Leavings.outermost_kept, Leavings.left_more, OnWays.same_nest}
 use Rattle.qm_forest.proofs.forest.Forest.leave.Goals as goal
 
 pub leader-v-requires : goal.leader-v-requires

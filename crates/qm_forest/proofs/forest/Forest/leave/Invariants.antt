@@ -1,6 +1,5 @@
 use Rattle.std.proofs.Common.{◌≡◌, get_or}
-use Rattle.def_forest.specs.Forests.{walk}
-use Rattle.def_forest.specs.Tables.{forest_of}
+use Rattle.def_forest.specs.{Forests.walk, Tables.forest_of}
 use Rattle.qm_forest.specs.Ties.{HasSameNest, left_alone}
 use Rattle.qm_forest.proofs.forest.Forest.leave.Given as goal
 

@@ -1,5 +1,4 @@
-use Rattle.std.proofs.Common.{arith, subst, ◌<◌}
-use Rattle.std.proofs.lemmas.Int.{ints}
+use Rattle.std.proofs.{Common.arith, Common.subst, Common.◌<◌, lemmas.Int.ints}
 use Rattle.forest_laws.proofs.Loads.{load_across}
 use Rattle.qm_forest.proofs.forest.Forest.load_across.Goals as goal
 

@@ -1,10 +1,7 @@
 use Rattle.std.proofs.Common.{◌≡◌, ◌+◌, ◌-◌, ◌^◌, suc, Some, get_or, refl, ◌∙◌, ap, sym, arith}
-use Rattle.def_forest.specs.Forests.{Forest, walk}
-use Rattle.def_forest.specs.Tables.{forest_of}
-use Rattle.qm_forest.specs.Parts.{paired}
-use Rattle.qm_forest.specs.Ties.{mated}
-use Rattle.qm_forest.proofs.Hangings.{paired_more, place_low, dart_low}
-use Rattle.qm_forest.proofs.OnWays.{same_nest}
+use Rattle.def_forest.specs.{Forests.Forest, Forests.walk, Tables.forest_of}
+use Rattle.qm_forest.specs.{Parts.paired, Ties.mated}
+use Rattle.qm_forest.proofs.{Hangings.paired_more, Hangings.place_low, Hangings.dart_low, OnWays.same_nest}
 use Rattle.qm_forest.proofs.forest.Forest.match_parts.Goals as goal
 
 pub side_dart-d-requires-clause-low : goal.side_dart-d-requires-clause-low

@@ -1,7 +1,6 @@
 use Rattle.std.proofs.Common.{◌≡◌, suc, ◌+◌, ◌-◌, ◌*◌, ◌/◌, ◌<◌, ◌⊎◌, length, get_or, refl, sym, ◌∙◌, ap, subst, inl}
 use Rattle.std.proofs.Common.{inr, arith}
-use Rattle.def_forest.specs.Forests.{bool_number, ring_sum, walk}
-use Rattle.def_forest.specs.Tables.{up_at}
+use Rattle.def_forest.specs.{Forests.bool_number, Forests.ring_sum, Forests.walk, Tables.up_at}
 use Rattle.qm_forest.specs.Rounds.{IsPairing, IsRound, within}
 use Rattle.qm_forest.proofs.RingRounds.{at_low, ring_begun, ring_ended, ring_turn, turn_entries, turn_pairing}
 use Rattle.qm_forest.proofs.forest.Forest.match_ring.Goals as goal

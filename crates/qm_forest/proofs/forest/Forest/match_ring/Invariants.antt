@@ -1,6 +1,5 @@
 use Rattle.std.proofs.Common.{◌≡◌, ℕ, ◌+◌, ◌-◌, ◌*◌, ◌<◌, ◌⊎◌, get_or, Some, None}
-use Rattle.def_forest.specs.Forests.{bool_number, ring_sum, walk}
-use Rattle.def_forest.specs.Tables.{up_at}
+use Rattle.def_forest.specs.{Forests.bool_number, Forests.ring_sum, Forests.walk, Tables.up_at}
 use Rattle.qm_forest.specs.Rounds.{HasRoom, IsRound, within}
 use Rattle.qm_forest.proofs.forest.Forest.match_ring.Given as goal
 

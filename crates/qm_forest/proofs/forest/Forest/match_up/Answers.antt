@@ -1,11 +1,9 @@
 use Rattle.std.proofs.Common.{◌≡◌, ℕ, ◌+◌, ◌<◌, ◌⊎◌, cond, length, get_or, sym, ◌∙◌, ap, subst, inl, inr, arith, Some}
 use Rattle.std.proofs.Common.{None}
-use Rattle.def_forest.specs.Forests.{walk}
-use Rattle.def_forest.specs.Tables.{up_at}
+use Rattle.def_forest.specs.{Forests.walk, Tables.up_at}
 use Rattle.qm_forest.specs.Rounds.{IsRound, waits_but, within}
-use Rattle.qm_forest.proofs.Enclosed.{climbs_here}
-use Rattle.qm_forest.proofs.Nests.{climbs_place}
-use Rattle.qm_forest.proofs.RingRounds.{above_more, climb_begins, climb_ends, climbs_on, held_more, next_rank}
+use Rattle.qm_forest.proofs.{Enclosed.climbs_here, Nests.climbs_place, RingRounds.above_more, RingRounds.climb_begins}
+use Rattle.qm_forest.proofs.RingRounds.{climb_ends, climbs_on, held_more, next_rank}
 use Rattle.qm_forest.proofs.RingRounds.{ring_climb, rises_here, top_rank}
 use Rattle.qm_forest.proofs.forest.Forest.match_up.Goals as goal
 

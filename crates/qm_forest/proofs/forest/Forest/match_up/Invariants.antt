@@ -1,6 +1,5 @@
 use Rattle.std.proofs.Common.{◌≡◌, ℕ, ◌+◌, ◌-◌, ◌<◌, ◌⊎◌, cond, get_or, length, true, Some, None}
-use Rattle.def_forest.specs.Forests.{walk}
-use Rattle.def_forest.specs.Tables.{up_at}
+use Rattle.def_forest.specs.{Forests.walk, Tables.up_at}
 use Rattle.qm_forest.specs.Rounds.{HasRoom, IsRound, waits_but, within}
 use Rattle.qm_forest.proofs.forest.Forest.match_up.Given as goal
 

@@ -1,7 +1,6 @@
 use Rattle.std.proofs.Common.{◌+◌, ◌≤◌, length, subst, arith}
 use Rattle.qm_forest.specs.Rounds.{AreMarked, IsRound, waits_but}
-use Rattle.qm_forest.proofs.Laminars.{sound}
-use Rattle.qm_forest.proofs.Chosens.{matches_but, waits_low}
+use Rattle.qm_forest.proofs.{Laminars.sound, Chosens.matches_but, Chosens.waits_low}
 use Rattle.qm_forest.proofs.forest.Forest.matching_missing.Goals as goal
 
 pub match_waiting-requires-clause-begun : goal.match_waiting-requires-clause-begun

@@ -1,8 +1,7 @@
 use Rattle.std.proofs.Common.{◌≡◌, ◌∙◌, ap, sym, subst, arith}
 use Rattle.std.specs.Prelude.{is_some}
 use Rattle.def_matching.specs.Matching.{graph}
-use Rattle.def_forest.specs.Darts.{darts_of}
-use Rattle.def_forest.specs.Tables.{forest_of}
+use Rattle.def_forest.specs.{Darts.darts_of, Tables.forest_of}
 use Rattle.forest_laws.specs.Climbing.{level_of}
 use Rattle.forest_laws.proofs.Levels.{level_few}
 use Rattle.qm_forest.specs.Rings.{AreOnBoth}

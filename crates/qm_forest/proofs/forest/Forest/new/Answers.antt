@@ -1,6 +1,6 @@
 use Rattle.std.proofs.Common.{◌≡◌, ◌≤◌, ◌∙◌, List, get_or, pos, ap, sym, subst, arith, ℤ}
-use Rattle.std.specs.Prelude.{unsigned_abs}
 use Rattle.std.proofs.lemmas.Result.{IfOk-weaker}
+use Rattle.std.specs.Prelude.{unsigned_abs}
 use Rattle.qm_forest.proofs.forest.Forest.new.Goals as goal
 
 pub returns-clause-small : goal.returns-clause-small

@@ -1,8 +1,7 @@
 use Rattle.std.proofs.Common.{◌≡◌, ◌/◌, length, ap, subst, arith}
 use Rattle.def_forest.specs.Tables.{ForestTables}
 use Rattle.qm_forest.specs.Rounds.{IsLaminar}
-use Rattle.qm_forest.proofs.Chosens.{room_begins, rounds_begin}
-use Rattle.qm_forest.proofs.Laminars.{laminar}
+use Rattle.qm_forest.proofs.{Chosens.room_begins, Chosens.rounds_begin, Laminars.laminar}
 use Rattle.qm_forest.proofs.forest.Forest.new_round.Goals as goal
 
 pub returns-clause-room : goal.returns-clause-room

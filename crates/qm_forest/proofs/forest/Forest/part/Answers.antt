@@ -1,5 +1,4 @@
-use Rattle.std.proofs.Common.{◌<◌, subst, sym, length, arith}
-use Rattle.std.proofs.lemmas.List.{get_or_read}
+use Rattle.std.proofs.{Common.◌<◌, Common.subst, Common.sym, Common.length, Common.arith, lemmas.List.get_or_read}
 use Rattle.def_forest.specs.Tables.{ForestTables}
 use Rattle.qm_forest.specs.Parts.{IsPartable}
 use Rattle.qm_forest.proofs.Partings.{set_live, tied_after, seen_after, opened_as, lists_as, handed_as, parted_as}

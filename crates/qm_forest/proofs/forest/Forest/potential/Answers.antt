@@ -2,8 +2,7 @@ use Rattle.std.proofs.Common.{◌<◌, ◌≡◌, length, arith, subst, sym, ap,
 use Rattle.std.proofs.lemmas.Int.{ints}
 use mir.Syntax.{w128}
 use mir.Val.{to_z, of_z}
-use Rattle.def_forest.specs.Steps.{weight_change}
-use Rattle.def_forest.specs.Tables.{ForestTables, forest_of}
+use Rattle.def_forest.specs.{Steps.weight_change, Tables.ForestTables, Tables.forest_of}
 use Rattle.qm_forest.specs.Ties.{added, potential}
 use Rattle.qm_forest.proofs.Ranges.{delta_small, added_small, added_bound, told_bound, potential_small, kept_in_bits}
 use Rattle.qm_forest.proofs.forest.Forest.potential.Goals as goal

@@ -1,8 +1,6 @@
 use Rattle.std.proofs.Common.{◌<◌, ℕ, List, length, Some, ◌∙◌, sym, ap, subst, arith}
 use Rattle.def_matching.specs.Matching.{graph}
-use Rattle.def_forest.specs.Darts.{darts_of, far}
-use Rattle.def_forest.specs.Forests.{Forest, set_at}
-use Rattle.def_forest.specs.Tables.{forest_of}
+use Rattle.def_forest.specs.{Darts.darts_of, Darts.far, Forests.Forest, Forests.set_at, Tables.forest_of}
 use Rattle.qm_forest.proofs.OnWays.{way_begins, way_goes_on, way_shorter, way_low, way_ends, old_low, up_low, twin_dart}
 use Rattle.qm_forest.proofs.OnWays.{near_in, remated_more, out_same, link_same, same_nest, seen_own}
 use Rattle.qm_forest.proofs.forest.Forest.rematch.Goals as goal

@@ -1,8 +1,6 @@
 use Rattle.std.proofs.Common.{◌≡◌, ◌+◌}
 use Rattle.def_matching.specs.Matching.{graph}
-use Rattle.def_forest.specs.Darts.{darts_of}
-use Rattle.def_forest.specs.Tables.{forest_of}
-use Rattle.def_forest.specs.Ways.{steps}
+use Rattle.def_forest.specs.{Darts.darts_of, Tables.forest_of, Ways.steps}
 use Rattle.qm_forest.specs.Ties.{IsOnWay, HasSameNest, remated}
 use Rattle.qm_forest.proofs.forest.Forest.rematch.Given as goal
 

@@ -1,10 +1,8 @@
 use Rattle.std.proofs.Common.{◌≡◌, ◌≤◌, ◌^◌, ◌∙◌, ap, sym, subst, refl, ℕ, Some, is_some, arith}
-use Rattle.std.specs.Prelude.{unsigned_abs}
 use Rattle.std.proofs.lemmas.Int.{ints}
+use Rattle.std.specs.Prelude.{unsigned_abs}
 use Rattle.def_matching.specs.Matching.{graph}
-use Rattle.def_forest.specs.Darts.{darts_of}
-use Rattle.def_forest.specs.Steps.{shifted}
-use Rattle.def_forest.specs.Tables.{ForestTables, forest_of, IsValidFor}
+use Rattle.def_forest.specs.{Darts.darts_of, Steps.shifted, Tables.ForestTables, Tables.forest_of, Tables.IsValidFor}
 use Rattle.def_forest.specs.Valid.{IsFeasible}
 use Rattle.qm_forest.proofs.Ranges.{delta_small}
 use Rattle.qm_forest.proofs.Shifted.{seen_shift_tied, seen_still, tied_shift, valid_shift, some_of, none_of}

@@ -1,12 +1,9 @@
 use Rattle.std.proofs.Common.{◌*◌, ◌∙◌, ap, arith}
 use Rattle.def_matching.specs.Matching.{graph}
-use Rattle.def_forest.specs.Darts.{darts_of, far}
-use Rattle.def_forest.specs.Tables.{forest_of}
-use Rattle.forest_laws.proofs.Levels.{level_few}
-use Rattle.forest_laws.proofs.Writes.{outer_named}
-use Rattle.qm_forest.proofs.EdgeKinds.{shrinks}
-use Rattle.qm_forest.proofs.Increases.{met_at}
-use Rattle.qm_forest.proofs.Shrinkings.{top_low, tops_laid, free_ring, shrinking, shrunk_tables}
+use Rattle.def_forest.specs.{Darts.darts_of, Darts.far, Tables.forest_of}
+use Rattle.forest_laws.proofs.{Levels.level_few, Writes.outer_named}
+use Rattle.qm_forest.proofs.{EdgeKinds.shrinks, Increases.met_at, Shrinkings.top_low, Shrinkings.tops_laid}
+use Rattle.qm_forest.proofs.Shrinkings.{free_ring, shrinking, shrunk_tables}
 use Rattle.qm_forest.proofs.forest.Forest.shrink.Goals as goal
 
 pub mate-mate-requires : goal.mate-mate-requires

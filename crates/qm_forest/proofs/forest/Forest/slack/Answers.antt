@@ -1,9 +1,6 @@
-use Rattle.std.proofs.Common.{◌≡◌, ap, arith}
-use Rattle.std.proofs.lemmas.Int.{ints}
-use Rattle.def_matching.specs.Matching.{graph, edge_at}
-use Rattle.def_matching.specs.declared.weighted.WEdge.{WEdge}
-use Rattle.def_forest.specs.Forests.{weight_between}
-use Rattle.def_forest.specs.Tables.{forest_of}
+use Rattle.std.proofs.{Common.◌≡◌, Common.ap, Common.arith, lemmas.Int.ints}
+use Rattle.def_matching.specs.{Matching.graph, Matching.edge_at, declared.weighted.WEdge.WEdge}
+use Rattle.def_forest.specs.{Forests.weight_between, Tables.forest_of}
 use Rattle.qm_forest.proofs.forest.Forest.slack.Goals as goal
 
 pub returns : goal.returns

@@ -2,8 +2,7 @@ use Rattle.std.proofs.Common.{◌≡◌, ◌<◌, length, ◌∙◌, subst, sym,
 use Rattle.std.proofs.lemmas.Grind.{common_steps}
 use Rattle.def_forest.specs.Tables.{ForestTables}
 use Rattle.qm_forest.specs.Ties.{IsOnTrail}
-use Rattle.qm_forest.proofs.Ranges.{mark_read}
-use Rattle.qm_forest.proofs.Trails.{trail_room, tied_touched}
+use Rattle.qm_forest.proofs.{Ranges.mark_read, Trails.trail_room, Trails.tied_touched}
 use Rattle.qm_forest.proofs.forest.Forest.touch.Goals as goal
 
 pub unwrap-requires : goal.unwrap-requires

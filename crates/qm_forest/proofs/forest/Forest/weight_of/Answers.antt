@@ -1,5 +1,4 @@
-use Rattle.std.proofs.Common.{◌≡◌, ap, arith}
-use Rattle.std.proofs.lemmas.Int.{ints}
+use Rattle.std.proofs.{Common.◌≡◌, Common.ap, Common.arith, lemmas.Int.ints}
 use Rattle.def_forest.specs.Tables.{ForestTables, weight_at}
 use Rattle.qm_forest.proofs.Ranges.{delta_small, kept_in_bits, weight_read}
 use Rattle.qm_forest.proofs.forest.Forest.weight_of.Goals as goal

@@ -2,9 +2,8 @@ use Rattle.std.proofs.Common.{◌≡◌, ◌≢◌, ◌+◌, ◌/◌, ◌<◌, �
 use Rattle.def_forest.specs.Tables.{ForestTables, forest_of, up_at}
 use Rattle.qm_forest.specs.Outlines.{AreNames, AreWeights, IsListOf, set_in}
 use Rattle.qm_forest.specs.Rounds.{AreMarked, IsLaminar}
-use Rattle.qm_forest.proofs.Laminars.{laminar}
-use Rattle.qm_forest.proofs.Orders.{set_low}
-use Rattle.qm_forest.proofs.Rooms.{around_used, has_room, inner_live, inner_low, room_begun, whole_is}
+use Rattle.qm_forest.proofs.{Laminars.laminar, Orders.set_low, Rooms.around_used, Rooms.has_room, Rooms.inner_live}
+use Rattle.qm_forest.proofs.Rooms.{inner_low, room_begun, whole_is}
 use Rattle.qm_forest.proofs.forest.Forest.write_down.Goals as goal
 
 pub choose-requires-clause-room : goal.choose-requires-clause-room

@@ -2,8 +2,7 @@ use Rattle.std.proofs.Common.{◌≡◌, ◌≢◌, ◌<◌, length, get_or, Lis
 use Rattle.std.proofs.lemmas.Int.{ints}
 use mir.Syntax.{w128}
 use mir.Val.{to_z, of_z}
-use Rattle.def_forest.specs.Steps.{weight_change}
-use Rattle.def_forest.specs.Tables.{ForestTables, forest_of, out_of, label_at}
+use Rattle.def_forest.specs.{Steps.weight_change, Tables.ForestTables, Tables.forest_of, Tables.out_of, Tables.label_at}
 use Rattle.def_forest.specs.declared.kinds.Label.TheVariants.{Outside}
 use Rattle.qm_forest.specs.Ties.{labelled, IsOnTrail}
 use Rattle.qm_forest.proofs.Ranges.{delta_small, added_small, kept_in_bits}

@@ -1,13 +1,12 @@
 use Rattle.std.proofs.Common.{◌≡◌, Bool, List, Ok, true, false, ltb, not, ◌||◌, ◌&&◌, is_some, length, map, refl, sym}
 use Rattle.std.proofs.Common.{ap, ◌∙◌, arith}
-use Rattle.std.specs.List.{list_any}
 use Rattle.std.proofs.lemmas.List.{with_items_is}
+use Rattle.std.specs.List.{list_any}
 use Rattle.def_cut.specs.FullCut.{is_on}
 use Rattle.def_marks.specs.Chains.{is_chain, runs_along}
 use Rattle.def_marks.specs.Lines.{corner_index, is_malformed, is_nothing, named_chain, named_vertex}
 use Rattle.def_mesh.specs.Darts.{darts, twin_of}
-use Rattle.def_text.specs.FaceSet.{FaceSet}
-use Rattle.def_text.specs.Words.{words}
+use Rattle.def_text.specs.{FaceSet.FaceSet, Words.words}
 use Rattle.qm_marks.proofs.CornerFails.{chain_is, fails_edge, fails_none, fails_range, indices_are, malformed_is}
 use Rattle.qm_marks.proofs.CornerFails.{nothing_is}
 use Rattle.qm_marks.proofs.lines.MarkReader.take_corners.Goals.{After-mark_chain, After-names_nothing}

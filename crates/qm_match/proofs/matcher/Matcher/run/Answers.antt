@@ -1,10 +1,8 @@
 use Rattle.std.proofs.Common.{ℕ, ◌≤◌, ◌∙◌, length, subst, sym}
 use Rattle.std.specs.Prelude.{unsigned_abs}
 use Rattle.def_matching.specs.Matching.{graph}
-use Rattle.def_forest.specs.Tables.{ForestTables, forest_of}
-use Rattle.def_forest.specs.Made.{IsMadeFor}
-use Rattle.qm_match.proofs.Outcomes.{increasing_low, run_bounded}
-use Rattle.qm_match.proofs.Ready.{ready_idle}
+use Rattle.def_forest.specs.{Tables.ForestTables, Tables.forest_of, Made.IsMadeFor}
+use Rattle.qm_match.proofs.{Outcomes.increasing_low, Outcomes.run_bounded, Ready.ready_idle}
 use Rattle.qm_match.proofs.matcher.Matcher.run.Goals as goal
 
 pub match_tight-requires-clause-idle : goal.match_tight-requires-clause-idle

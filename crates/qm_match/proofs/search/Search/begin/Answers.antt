@@ -1,7 +1,6 @@
 use Rattle.std.proofs.Common.{◌∙◌, sym, subst, ap}
 use Rattle.def_matching.specs.Matching.{graph}
-use Rattle.def_forest.specs.Forests.{Forest}
-use Rattle.def_forest.specs.Tables.{IsValidFor}
+use Rattle.def_forest.specs.{Forests.Forest, Tables.IsValidFor}
 use Rattle.qm_match.specs.States.{IsFreshAt}
 use Rattle.qm_match.proofs.Taken.{begun_seeking, begun_way, made_after, may_vertex, right_in}
 use Rattle.qm_match.proofs.search.Search.begin.Goals as goal

@@ -1,8 +1,6 @@
 use Rattle.std.proofs.Common.{◌≡◌, ◌∙◌, sym, subst, ap}
 use Rattle.def_matching.specs.Matching.{graph}
-use Rattle.def_forest.specs.Darts.{darts_of, far}
-use Rattle.def_forest.specs.Forests.{Forest}
-use Rattle.def_forest.specs.Tables.{forest_of, outer_dart}
+use Rattle.def_forest.specs.{Darts.darts_of, Darts.far, Forests.Forest, Tables.forest_of, Tables.outer_dart}
 use Rattle.qm_match.specs.States.{IsFreshAt, IsRefreshed}
 use Rattle.qm_match.proofs.Refreshed.{may_later, refreshed_on, stays_fresh}
 use Rattle.qm_match.proofs.Taken.{Growth, growth_of, grown_less, grown_on, grown_way, made_after, may_vertex, right_in}

@@ -1,11 +1,7 @@
 use Rattle.std.proofs.Common.{refl, ◌≡◌, ◌∙◌, pos, None, Option, ℕ, subst, ap}
 use Rattle.std.proofs.lemmas.List.{get_or_read}
-use Rattle.def_matching.specs.Matching.{edge_at, graph}
-use Rattle.def_matching.specs.declared.weighted.WEdge.{WEdge}
-use Rattle.def_forest.specs.Darts.{darts_of}
-use Rattle.def_forest.specs.Forests.{Forest}
-use Rattle.def_forest.specs.Steps.{rooted}
-use Rattle.def_forest.specs.Tables.{forest_of, edge_kind}
+use Rattle.def_matching.specs.{Matching.edge_at, Matching.graph, declared.weighted.WEdge.WEdge}
+use Rattle.def_forest.specs.{Darts.darts_of, Forests.Forest, Steps.rooted, Tables.forest_of, Tables.edge_kind}
 use Rattle.def_forest.specs.Valid.{IsValid}
 use Rattle.qm_match.proofs.Ready.{free_augments, matched_idle}
 use Rattle.qm_match.proofs.search.Search.match_edge.Goals as goal

@@ -1,7 +1,5 @@
-use Rattle.std.proofs.Common.{◌≡◌, ◌<◌, pos, sym, subst}
-use Rattle.std.proofs.lemmas.List.{get_or_read}
-use Rattle.def_matching.specs.Matching.{edge_at, graph}
-use Rattle.def_matching.specs.declared.weighted.WEdge.{WEdge}
+use Rattle.std.proofs.{Common.◌≡◌, Common.◌<◌, Common.pos, Common.sym, Common.subst, lemmas.List.get_or_read}
+use Rattle.def_matching.specs.{Matching.edge_at, Matching.graph, declared.weighted.WEdge.WEdge}
 use Rattle.qm_match.proofs.search.Search.may_match.Goals as goal
 
 pub outermost-a-requires : goal.outermost-a-requires

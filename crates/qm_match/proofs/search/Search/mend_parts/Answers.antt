@@ -3,10 +3,8 @@ use Rattle.std.proofs.lemmas.Bool.{cases_lt}
 use Rattle.def_matching.specs.Matching.{graph}
 use Rattle.def_forest.specs.Tables.{forest_of}
 use Rattle.search_laws.specs.Keys.{AreRightAt, IsMended}
-use Rattle.qm_match.specs.States.{IsMade, MayRefresh}
-use Rattle.qm_match.specs.declared.search.Search.{Search}
-use Rattle.qm_match.proofs.Mended.{mended_on, stay_right}
-use Rattle.qm_match.proofs.Refreshed.{made_members, members_twice}
+use Rattle.qm_match.specs.{States.IsMade, States.MayRefresh, declared.search.Search.Search}
+use Rattle.qm_match.proofs.{Mended.mended_on, Mended.stay_right, Refreshed.made_members, Refreshed.members_twice}
 use Rattle.qm_match.proofs.Taken.{may_part_in, part_of}
 use Rattle.qm_match.proofs.search.Search.mend_parts.Goals as goal
 

@@ -4,9 +4,7 @@ use Rattle.std.proofs.lemmas.List.{get_or_read}
 use Rattle.def_matching.specs.Matching.{graph}
 use Rattle.def_forest.specs.Tables.{forest_of}
 use Rattle.search_laws.specs.Keys.{true_key}
-use Rattle.qm_match.specs.Fans.{IsOn}
-use Rattle.qm_match.specs.States.{IsMade}
-use Rattle.qm_match.specs.declared.search.Search.{Search}
+use Rattle.qm_match.specs.{Fans.IsOn, States.IsMade, declared.search.Search.Search}
 use Rattle.qm_match.proofs.Mended.{chain_mended, keys_twice, made_with, mended_on, mended_one, vertex_right}
 use Rattle.qm_match.proofs.search.Search.mend_vertex.Goals as goal
 

@@ -1,15 +1,10 @@
 use Rattle.std.proofs.Common.{◌≡◌, ◌+◌, ◌-◌, ◌^◌, ◌<◌, ◌≤◌, ◌∙◌, ℕ, length, pos, ◌≤ℤ◌, refl, sym, subst, ap, arith}
 use Rattle.std.proofs.Common.{to_z, w64}
-use Rattle.std.specs.Int.RustNames.{unsigned_abs}
 use Rattle.std.proofs.lemmas.Int.{ints, to_z_pos}
+use Rattle.std.specs.Int.RustNames.{unsigned_abs}
 use Rattle.def_matching.specs.Matching.{graph}
-use Rattle.def_forest.specs.Darts.{darts_of}
-use Rattle.def_forest.specs.Forests.{Forest}
-use Rattle.def_forest.specs.Steps.{shifted}
-use Rattle.def_forest.specs.Tables.{forest_of}
-use Rattle.def_forest.specs.Valid.{IsFeasible}
-use Rattle.search_laws.specs.Keys.{true_key}
-use Rattle.search_laws.specs.Searches.{risen_limit, steps_left}
+use Rattle.def_forest.specs.{Darts.darts_of, Forests.Forest, Steps.shifted, Tables.forest_of, Valid.IsFeasible}
+use Rattle.search_laws.specs.{Keys.true_key, Searches.risen_limit, Searches.steps_left}
 use Rattle.qm_match.proofs.Turned.{shift_feasible, shift_keys, shift_small, shifted_on, shifted_way, soon}
 use Rattle.qm_match.proofs.search.Search.rise_to.Goals as goal
 

@@ -1,10 +1,8 @@
-use Rattle.std.proofs.Common.{◌≡◌, ◌<◌, ◌∙◌, sym, subst, arith}
-use Rattle.std.proofs.Math.ListN.{set}
+use Rattle.std.proofs.{Common.◌≡◌, Common.◌<◌, Common.◌∙◌, Common.sym, Common.subst, Common.arith, Math.ListN.set}
 use Rattle.def_matching.specs.Matching.{graph}
 use Rattle.def_forest.specs.Tables.{forest_of}
 use Rattle.search_laws.specs.Searches.{steps_left}
-use Rattle.search_laws.proofs.Counted.{fewer_turns}
-use Rattle.search_laws.proofs.Risen.{key_high}
+use Rattle.search_laws.proofs.{Counted.fewer_turns, Risen.key_high}
 use Rattle.qm_match.proofs.Turned.{mended_fewer, mended_way, risen_few}
 use Rattle.qm_match.proofs.search.Search.turn.Goals as goal
 

@@ -1,8 +1,7 @@
 use Rattle.std.proofs.Common.{◌≡◌, ℕ, ◌<◌, List, length, get_or, ap, subst, ◌∙◌, arith}
 use Rattle.std.proofs.lemmas.List.{length-map}
 use Rattle.smallvec.specs.SmallVec.{SmallVec}
-use Rattle.def_mesh.specs.Faces.{Faces}
-use Rattle.def_mesh.specs.Vertices.{faces_at, vertex_count}
+use Rattle.def_mesh.specs.{Faces.Faces, Vertices.faces_at, Vertices.vertex_count}
 use Rattle.qm_mesh.specs.Tables.{IsMeshOf}
 use Rattle.qm_mesh.proofs.FanTables.{fan_found}
 use Rattle.mesh_laws.proofs.Vertices.{fan_short}

@@ -1,7 +1,6 @@
 use Rattle.std.proofs.Common.{ℕ, length, ap, subst, arith}
 use Rattle.qm_mesh.specs.Tables.{IsMeshOf}
-use Rattle.mesh_laws.proofs.Fans.{is_fan}
-use Rattle.mesh_laws.proofs.Darts.{prev_of_low}
+use Rattle.mesh_laws.proofs.{Fans.is_fan, Darts.prev_of_low}
 use Rattle.qm_mesh.proofs.Inner.{inner_is}
 use Rattle.qm_mesh.proofs.mesh.Mesh.is_inner.Goals as goal
 use Rattle.def_mesh.specs.Faces.{Faces}

@@ -1,6 +1,5 @@
 use Rattle.std.proofs.Common.{◌≡◌, ap, ◌∙◌, arith}
-use Rattle.def_mesh.specs.Darts.{to_of}
-use Rattle.def_mesh.specs.Vertices.{vertex_count}
+use Rattle.def_mesh.specs.{Darts.to_of, Vertices.vertex_count}
 use Rattle.qm_mesh.proofs.Vertices.{end_low}
 use Rattle.mesh_laws.proofs.Vertices.{all_below}
 use Rattle.qm_mesh.proofs.mesh.Mesh.to.Goals as goal

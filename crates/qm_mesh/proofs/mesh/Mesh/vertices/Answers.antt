@@ -1,5 +1,4 @@
-use Rattle.std.proofs.Common.{ℕ, arith}
-use Rattle.std.proofs.lemmas.List.{length-map}
+use Rattle.std.proofs.{Common.ℕ, Common.arith, lemmas.List.length-map}
 use Rattle.smallvec.specs.SmallVec.{SmallVec}
 use Rattle.qm_mesh.proofs.mesh.Mesh.vertices.Goals as goal
 

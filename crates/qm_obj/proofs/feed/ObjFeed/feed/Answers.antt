@@ -1,5 +1,4 @@
-use Rattle.std.proofs.Common.{◌≢◌}
-use Rattle.std.proofs.lemmas.Result.{on_ok_weaker}
+use Rattle.std.proofs.{Common.◌≢◌, lemmas.Result.on_ok_weaker}
 use Rattle.def_text.specs.declared.refusal.ObjFail.TheVariants.{Memory}
 use Rattle.qm_obj.specs.Views.{kept_at}
 use Rattle.qm_obj.proofs.FeedLemmas.{stands_more, stands_refused, stands_still}

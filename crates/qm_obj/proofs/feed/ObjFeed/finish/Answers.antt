@@ -1,10 +1,8 @@
 use Rattle.std.proofs.Common.{◌≡◌, ◌≢◌, [], Ok, Err}
 use Rattle.std.proofs.lemmas.Result.{IfErr-weaker, IfOk-weaker}
-use Rattle.def_feed.specs.Feed.{StandsFor}
-use Rattle.def_feed.specs.Kept.{soup_with}
+use Rattle.def_feed.specs.{Feed.StandsFor, Kept.soup_with}
 use Rattle.def_io.specs.Bytes.{Bytes}
-use Rattle.def_text.specs.Text.{soup_in}
-use Rattle.def_text.specs.declared.refusal.ObjFail.TheVariants.{Memory}
+use Rattle.def_text.specs.{Text.soup_in, declared.refusal.ObjFail.TheVariants.Memory}
 use Rattle.qm_obj.specs.Views.{kept_at}
 use Rattle.qm_obj.proofs.FeedLemmas.{stands_end, stands_stopped}
 use Rattle.qm_obj.proofs.feed.ObjFeed.finish.Goals as goal

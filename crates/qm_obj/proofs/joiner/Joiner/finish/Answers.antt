@@ -1,8 +1,7 @@
 use Rattle.std.proofs.Common.{◌≡◌, ◌≢◌, ◌∙◌, [], Ok, Err}
 use Rattle.std.proofs.lemmas.Result.{IfErr-weaker, IfOk-weaker}
 use Rattle.def_feed.specs.Kept.{kept_readings, soup_with_lines}
-use Rattle.def_text.specs.Text.{soup_of}
-use Rattle.def_text.specs.declared.refusal.ObjFail.TheVariants.{Memory}
+use Rattle.def_text.specs.{Text.soup_of, declared.refusal.ObjFail.TheVariants.Memory}
 use Rattle.qm_obj.specs.Views.{kept_of}
 use Rattle.qm_obj.proofs.FeedLemmas.{fits}
 use Rattle.qm_obj.proofs.KeptLemmas.{finished_few, finished_refused, finished_soup}

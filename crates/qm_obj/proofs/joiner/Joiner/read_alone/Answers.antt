@@ -1,9 +1,7 @@
 use Rattle.std.proofs.Common.{[], length}
 use Rattle.error_laws.proofs.Errors.{handed}
-use Rattle.qm_obj.specs.Lines.{uncommented}
-use Rattle.qm_obj.specs.Views.{kept_of}
-use Rattle.qm_obj.proofs.FeedLemmas.{ended_line, refused_line}
-use Rattle.qm_obj.proofs.PrefixLemmas.{behind_alone}
+use Rattle.qm_obj.specs.{Lines.uncommented, Views.kept_of}
+use Rattle.qm_obj.proofs.{FeedLemmas.ended_line, FeedLemmas.refused_line, PrefixLemmas.behind_alone}
 use Rattle.qm_obj.proofs.joiner.Joiner.read_alone.Goals as goal
 
 pub returns-in_err-take-clause-refused : goal.returns-in_err-take-clause-refused

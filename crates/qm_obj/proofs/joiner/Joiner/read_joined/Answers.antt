@@ -2,8 +2,7 @@ use Rattle.std.proofs.Common.{◌≡◌, ◌+◌, [], ◌++◌, ◌∙◌, lengt
 use Rattle.std.specs.List.{before_first}
 use Rattle.error_laws.proofs.Errors.{handed}
 use Rattle.def_text.specs.Logical.{Logical, is_hash}
-use Rattle.qm_obj.specs.Lines.{Took, next_said, uncommented}
-use Rattle.qm_obj.specs.Views.{kept_of}
+use Rattle.qm_obj.specs.{Lines.Took, Lines.next_said, Lines.uncommented, Views.kept_of}
 use Rattle.qm_obj.proofs.FeedLemmas.{ended_line, long_line, number_some, refused_line}
 use Rattle.qm_obj.proofs.PrefixLemmas.{behind_joined}
 use Rattle.qm_obj.proofs.joiner.Joiner.read_joined.Goals as goal

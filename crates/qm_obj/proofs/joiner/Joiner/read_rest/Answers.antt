@@ -1,8 +1,7 @@
 use Rattle.std.proofs.Common.{[], ◌∙◌, length, refl, sym, ap, subst, arith}
 use Rattle.error_laws.proofs.Errors.{handed}
 use Rattle.def_text.specs.Logical.{Logical}
-use Rattle.qm_obj.specs.Lines.{Took, next_said, uncommented}
-use Rattle.qm_obj.specs.Views.{kept_of}
+use Rattle.qm_obj.specs.{Lines.Took, Lines.next_said, Lines.uncommented, Views.kept_of}
 use Rattle.qm_obj.proofs.FeedLemmas.{is_nothing, is_something, last_read, last_refused, last_same, nothing_joined}
 use Rattle.qm_obj.proofs.FeedLemmas.{same_line, sound_by}
 use Rattle.qm_obj.proofs.KeptLemmas.{Follows}

@@ -3,8 +3,7 @@ use Rattle.std.proofs.lemmas.Result.{IfErr-weaker, on_ok_weaker}
 use Rattle.def_feed.specs.Kept.{soup_with}
 use Rattle.def_io.specs.Lines.{line_of}
 use Rattle.def_text.specs.declared.refusal.ObjFail.TheVariants.{Memory}
-use Rattle.qm_obj.specs.Feeding.{RefusesLine, TookLine}
-use Rattle.qm_obj.specs.Views.{kept_at, kept_of}
+use Rattle.qm_obj.specs.{Feeding.RefusesLine, Feeding.TookLine, Views.kept_at, Views.kept_of}
 use Rattle.qm_obj.proofs.FeedLemmas.{ended_tail, is_nothing, is_something}
 use Rattle.qm_obj.proofs.progress.Progress.end.Goals as goal
 

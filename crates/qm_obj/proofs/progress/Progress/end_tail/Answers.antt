@@ -1,5 +1,4 @@
-use Rattle.std.proofs.Common.{[], ◌∙◌, refl, sym, ap}
-use Rattle.std.proofs.lemmas.List.{append-nil}
+use Rattle.std.proofs.{Common.[], Common.◌∙◌, Common.refl, Common.sym, Common.ap, lemmas.List.append-nil}
 use Rattle.error_laws.proofs.Errors.{handed}
 use Rattle.def_io.specs.Lines.{line_of}
 use Rattle.qm_obj.specs.Views.{kept_at, kept_of}

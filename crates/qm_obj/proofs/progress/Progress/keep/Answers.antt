@@ -1,5 +1,4 @@
-use Rattle.std.proofs.Common.{◌≡◌, ◌++◌, arith}
-use Rattle.std.proofs.lemmas.Result.{on_ok_weaker}
+use Rattle.std.proofs.{Common.◌≡◌, Common.◌++◌, Common.arith, lemmas.Result.on_ok_weaker}
 use Rattle.qm_obj.specs.Views.{kept_at}
 use Rattle.qm_obj.proofs.FeedLemmas.{kept_piece, long_piece}
 use Rattle.qm_obj.proofs.progress.Progress.keep.Goals as goal

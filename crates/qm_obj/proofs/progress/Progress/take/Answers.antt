@@ -4,8 +4,7 @@ use Rattle.std.proofs.lemmas.Result.{IfErr-weaker, on_ok_weaker}
 use Rattle.error_laws.proofs.Errors.{handed}
 use Rattle.def_io.specs.Bytes.{Bytes}
 use Rattle.def_text.specs.declared.refusal.ObjFail.TheVariants.{Memory}
-use Rattle.qm_obj.specs.Feeding.{RefusesPiece, TookPiece}
-use Rattle.qm_obj.specs.Views.{kept_at}
+use Rattle.qm_obj.specs.{Feeding.RefusesPiece, Feeding.TookPiece, Views.kept_at}
 use Rattle.qm_obj.proofs.FeedLemmas.{both_taken, refused_before, refused_behind}
 use Rattle.qm_obj.proofs.TailLemmas.{prefix_fed, prefix_rest}
 use Rattle.qm_obj.proofs.progress.Progress.take.Goals as goal

@@ -1,6 +1,5 @@
 use Rattle.std.proofs.Common.{◌≤◌, ◌-◌, length, take}
-use Rattle.qm_obj.specs.Feeding.{TookPiece}
-use Rattle.qm_obj.specs.Views.{kept_at}
+use Rattle.qm_obj.specs.{Feeding.TookPiece, Views.kept_at}
 use Rattle.qm_obj.proofs.progress.Progress.take.Given as goal
 
 abbrev pub invariant-loop-end : goal.invariant-loop-end

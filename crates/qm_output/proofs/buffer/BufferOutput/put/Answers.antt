@@ -1,5 +1,4 @@
-use Rattle.std.proofs.Common.{◌∙◌}
-use Rattle.std.proofs.lemmas.Result.{on_err_weaker, on_ok_weaker}
+use Rattle.std.proofs.{Common.◌∙◌, lemmas.Result.on_err_weaker, lemmas.Result.on_ok_weaker}
 use Rattle.qm_output.proofs.Prefixes.{of_error}
 use Rattle.qm_output.specs.Laws.{broke_before, broke_later, passed_more}
 use Rattle.qm_output.proofs.buffer.BufferOutput.put.Goals as goal

@@ -1,5 +1,4 @@
-use Rattle.std.proofs.Common.{sym}
-use Rattle.std.proofs.lemmas.List.{take_rest}
+use Rattle.std.proofs.{Common.sym, lemmas.List.take_rest}
 use Rattle.qm_output.proofs.Places.{differs_behind}
 use Rattle.qm_output.proofs.comparison.ComparisonOutput.put.Goals as goal
 

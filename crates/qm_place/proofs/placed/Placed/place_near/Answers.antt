@@ -1,13 +1,9 @@
 use Rattle.std.proofs.Common.{◌≡◌, sym, ◌∙◌, ap, subst}
-use Rattle.def_map.specs.Laws.{IsSpot}
-use Rattle.def_map.specs.SpotPlaces.{spot_place}
-use Rattle.def_remesh.specs.NewSoup.{spaced_place}
-use Rattle.def_remesh.specs.Placings.{LiesBetween}
+use Rattle.def_map.specs.{Laws.IsSpot, SpotPlaces.spot_place}
+use Rattle.def_remesh.specs.{NewSoup.spaced_place, Placings.LiesBetween}
 use Rattle.map_laws.proofs.SpotPlaces.{spot_law}
-use Rattle.qm_place.specs.Lengthened.{lengths_by, plan_in, shares_by}
-use Rattle.qm_place.specs.Spots.{IsShort}
-use Rattle.qm_place.proofs.Betweens.{lies_between}
-use Rattle.qm_place.proofs.Found.{short_spot}
+use Rattle.qm_place.specs.{Lengthened.lengths_by, Lengthened.plan_in, Lengthened.shares_by, Spots.IsShort}
+use Rattle.qm_place.proofs.{Betweens.lies_between, Found.short_spot}
 use Rattle.qm_place.proofs.placed.Placed.place_near.Goals as goal
 
 pub place_there-requires-clause-spot : goal.place_there-requires-clause-spot

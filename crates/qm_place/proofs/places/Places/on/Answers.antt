@@ -1,7 +1,6 @@
 use Rattle.std.proofs.Common.{sym, subst}
 use Rattle.def_layout.specs.Plans.{plan}
-use Rattle.def_remesh.specs.Placings.{ArePlaces}
-use Rattle.def_remesh.specs.declared.places.PlaceTables.{PlaceTables}
+use Rattle.def_remesh.specs.{Placings.ArePlaces, declared.places.PlaceTables.PlaceTables}
 use Rattle.qm_place.proofs.Found.{placed_of}
 use Rattle.qm_place.proofs.places.Places.on.Goals as goal
 

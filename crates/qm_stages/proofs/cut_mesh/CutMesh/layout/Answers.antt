@@ -1,6 +1,5 @@
 use Rattle.std.proofs.Common.{subst}
-use Rattle.def_remesh.specs.CutSoups.{CutSoup}
-use Rattle.def_remesh.specs.Placings.{IsMeshLayout}
+use Rattle.def_remesh.specs.{CutSoups.CutSoup, Placings.IsMeshLayout}
 use Rattle.qm_stages.proofs.cut_mesh.CutMesh.layout.Goals as goal
 
 pub returns-clause-laid : goal.returns-clause-laid

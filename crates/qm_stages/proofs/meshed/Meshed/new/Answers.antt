@@ -1,7 +1,6 @@
 use Rattle.std.proofs.Common.{rules, ◌≡◌, List, ℤ, true, length, ◌∙◌, subst}
 use Rattle.std.specs.List.{list_all}
-use Rattle.def_mesh.specs.Meshes.{IsMesh}
-use Rattle.def_mesh.specs.Vertices.{names_below}
+use Rattle.def_mesh.specs.{Meshes.IsMesh, Vertices.names_below}
 use Rattle.def_text.specs.Laws.{is_position}
 use Rattle.def_written.specs.Laws.{AreQuads}
 use Rattle.qm_stages.proofs.Solids.{solid_of}

@@ -1,8 +1,7 @@
 use Rattle.std.proofs.Common.{◌<◌, length, sym, ◌∙◌, ap, subst, arith}
 use Rattle.std.proofs.lemmas.List.{length-map}
 use Rattle.def_cut.specs.Grids.{rectangle}
-use Rattle.def_layout.specs.Lengths.{wide, high}
-use Rattle.def_layout.specs.Plans.{layout_of, Plan}
+use Rattle.def_layout.specs.{Lengths.wide, Lengths.high, Plans.layout_of, Plans.Plan}
 use Rattle.def_map.specs.Homes.{home_of}
 use Rattle.def_remesh.specs.NewPoints.{lengths_in}
 use Rattle.qm_stages.proofs.regridded.Regridded.home.Goals as goal

@@ -1,12 +1,9 @@
 use Rattle.std.proofs.Common.{◌≤◌, ℕ, List, length, sym, ◌∙◌, ap, subst}
 use Rattle.std.proofs.lemmas.List.{length-map}
-use Rattle.def_layout.specs.Arcs.{path}
-use Rattle.def_layout.specs.Lengths.{AreLengths}
-use Rattle.def_layout.specs.Plans.{layout_of, plan, Plan}
+use Rattle.def_layout.specs.{Arcs.path, Lengths.AreLengths, Plans.layout_of, Plans.plan, Plans.Plan}
 use Rattle.def_mesh.specs.Faces.{Faces}
 use Rattle.def_written.specs.NewFaces.{face_count}
-use Rattle.def_remesh.specs.NewPoints.{lengths_in}
-use Rattle.def_remesh.specs.Placings.{ArePlaces, IsMeshLayout}
+use Rattle.def_remesh.specs.{NewPoints.lengths_in, Placings.ArePlaces, Placings.IsMeshLayout}
 use Rattle.def_remesh.specs.declared.limits.TheConstants.{MAX_NEW_FACES}
 use Rattle.qm_stages.proofs.regridded.Regridded.new.Goals as goal
 

@@ -1,10 +1,6 @@
 use Rattle.std.proofs.Common.{sym, ◌∙◌, ap, subst}
-use Rattle.def_layout.specs.Lengths.{AreLengths}
-use Rattle.def_layout.specs.Plans.{layout_of, plan, Plan}
-use Rattle.def_remesh.specs.CutSoups.{Regrid}
-use Rattle.def_remesh.specs.NewPoints.{lengths_in}
-use Rattle.def_remesh.specs.Numberings.{IsNumbering}
-use Rattle.def_remesh.specs.Placings.{IsMeshLayout}
+use Rattle.def_layout.specs.{Lengths.AreLengths, Plans.layout_of, Plans.plan, Plans.Plan}
+use Rattle.def_remesh.specs.{CutSoups.Regrid, NewPoints.lengths_in, Numberings.IsNumbering, Placings.IsMeshLayout}
 use Rattle.def_remesh.specs.declared.tables.Tables.{Tables}
 use Rattle.qm_stages.proofs.regridded.Regridded.numbered.Goals as goal
 

@@ -1,13 +1,10 @@
 use Rattle.std.proofs.Common.{◌≡◌, ◌<◌, sym, ◌∙◌, ap, subst}
 use Rattle.def_layout.specs.Plans.{layout_of, plan, Plan}
-use Rattle.def_mesh.specs.Faces.{Faces}
-use Rattle.def_mesh.specs.Vertices.{vertex_count}
+use Rattle.def_mesh.specs.{Faces.Faces, Vertices.vertex_count}
 use Rattle.def_text.specs.Types.{Positions}
 use Rattle.def_written.specs.Numbers.{vertices}
-use Rattle.def_remesh.specs.CutSoups.{Regrid}
-use Rattle.def_remesh.specs.NewPoints.{lengths_in}
-use Rattle.def_remesh.specs.NewSoup.{spaced_place}
-use Rattle.def_remesh.specs.Placings.{IsMeshLayout, LiesBetween}
+use Rattle.def_remesh.specs.{CutSoups.Regrid, NewPoints.lengths_in, NewSoup.spaced_place, Placings.IsMeshLayout}
+use Rattle.def_remesh.specs.Placings.{LiesBetween}
 use Rattle.qm_stages.proofs.regridded.Regridded.place_near.Goals.{After-mesh, After-pos}
 use Rattle.qm_stages.proofs.regridded.Regridded.place_near.Goals as goal
 

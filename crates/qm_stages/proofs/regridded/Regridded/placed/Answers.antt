@@ -1,10 +1,7 @@
 use Rattle.std.proofs.Common.{◌≤◌, sym, ◌∙◌, ap, subst}
-use Rattle.def_layout.specs.Lengths.{AreLengths}
-use Rattle.def_layout.specs.Plans.{layout_of, plan, Plan}
-use Rattle.def_remesh.specs.CutSoups.{Regrid}
-use Rattle.def_remesh.specs.NewPoints.{lengths_in}
-use Rattle.def_remesh.specs.Placings.{shares_in, ArePlaces, IsMeshLayout}
-use Rattle.def_remesh.specs.declared.limits.TheConstants.{MAX_NEW_FACES}
+use Rattle.def_layout.specs.{Lengths.AreLengths, Plans.layout_of, Plans.plan, Plans.Plan}
+use Rattle.def_remesh.specs.{CutSoups.Regrid, NewPoints.lengths_in, Placings.shares_in, Placings.ArePlaces}
+use Rattle.def_remesh.specs.{Placings.IsMeshLayout, declared.limits.TheConstants.MAX_NEW_FACES}
 use Rattle.def_remesh.specs.declared.places.PlaceTables.{PlaceTables}
 use Rattle.def_written.specs.NewFaces.{face_count}
 use Rattle.qm_stages.proofs.regridded.Regridded.placed.Goals as goal

@@ -1,14 +1,11 @@
 use Rattle.std.proofs.Common.{◌≡◌, ◌<◌, ◌≤◌, length, sym, ◌∙◌, ap, subst, arith}
 use Rattle.std.proofs.lemmas.List.{length-map}
 use Rattle.def_cut.specs.Grids.{rectangle}
-use Rattle.def_layout.specs.Lengths.{wide, high}
-use Rattle.def_layout.specs.Plans.{layout_of, Plan}
-use Rattle.def_written.specs.Numbers.{vertex_number, vertices}
-use Rattle.def_written.specs.Points.{point}
+use Rattle.def_layout.specs.{Lengths.wide, Lengths.high, Plans.layout_of, Plans.Plan}
+use Rattle.def_written.specs.{Numbers.vertex_number, Numbers.vertices, Points.point}
 use Rattle.def_remesh.specs.NewPoints.{lengths_in}
 use Rattle.plan_laws.proofs.MeshLayouts.{laid_of}
-use Rattle.qm_stages.proofs.GridPoints.{grid_low}
-use Rattle.qm_stages.proofs.regridded.Regridded.point.Goals.{After-point}
+use Rattle.qm_stages.proofs.{GridPoints.grid_low, regridded.Regridded.point.Goals.After-point}
 use Rattle.qm_stages.proofs.regridded.Regridded.point.Goals as goal
 
 pub point-requires-clause-patch : goal.point-requires-clause-patch

@@ -1,11 +1,9 @@
 use Rattle.std.proofs.Common.{◌≡◌, ◌<◌, sym, ◌∙◌, subst}
 use Rattle.def_layout.specs.Plans.{layout_of}
-use Rattle.def_map.specs.Laws.{IsSpot}
-use Rattle.def_map.specs.Spots.{spot_at}
+use Rattle.def_map.specs.{Laws.IsSpot, Spots.spot_at}
 use Rattle.def_written.specs.Numbers.{vertices}
 use Rattle.def_remesh.specs.NewPoints.{lengths_in}
-use Rattle.map_laws.proofs.Spaced.{spacing_is}
-use Rattle.map_laws.proofs.SpotPlaces.{spot_law}
+use Rattle.map_laws.proofs.{Spaced.spacing_is, SpotPlaces.spot_law}
 use Rattle.qm_stages.proofs.regridded.Regridded.spot_near.Goals.{After-spot_near}
 use Rattle.qm_stages.proofs.regridded.Regridded.spot_near.Goals as goal
 

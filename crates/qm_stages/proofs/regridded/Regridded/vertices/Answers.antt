@@ -1,8 +1,7 @@
 use Rattle.std.proofs.Common.{◌∙◌, ap}
 use Rattle.def_layout.specs.Plans.{layout_of}
 use Rattle.def_written.specs.Numbers.{vertices}
-use Rattle.def_remesh.specs.CutSoups.{Regrid}
-use Rattle.def_remesh.specs.NewPoints.{lengths_in}
+use Rattle.def_remesh.specs.{CutSoups.Regrid, NewPoints.lengths_in}
 use Rattle.qm_stages.proofs.regridded.Regridded.vertices.Goals as goal
 
 pub returns : goal.returns

@@ -1,15 +1,9 @@
 use Rattle.std.proofs.Common.{ℕ, Bool, List, length, sym, subst, ap, ◌∙◌, arith}
-use Rattle.def_cut.specs.FullCut.{IsFullCut}
-use Rattle.def_cut.specs.Events.{NobodyRuns}
-use Rattle.def_cut.specs.Motion.{ridden}
-use Rattle.def_cut.specs.Traced.{AreRiders, last_state}
-use Rattle.def_cut.specs.Views.{IsMotionOn, MotionView}
-use Rattle.def_cut.specs.declared.moving.Moving.{Moving}
+use Rattle.def_cut.specs.{FullCut.IsFullCut, Events.NobodyRuns, Motion.ridden, Traced.AreRiders, Traced.last_state}
+use Rattle.def_cut.specs.{Views.IsMotionOn, Views.MotionView, declared.moving.Moving.Moving}
 use Rattle.site_laws.proofs.Laws.{graph_law}
 use Rattle.qm_trace.specs.contracts.motion.Motion.{the_view}
-use Rattle.qm_trace.proofs.Beginnings.{starts_few}
-use Rattle.qm_trace.proofs.Calls.{end_cut, end_riders}
-use Rattle.qm_trace.proofs.Ends.{have_stopped, traced_long}
+use Rattle.qm_trace.proofs.{Beginnings.starts_few, Calls.end_cut, Calls.end_riders, Ends.have_stopped, Ends.traced_long}
 use Rattle.qm_trace.proofs.Reaching.{covered_long}
 use Rattle.qm_trace.proofs.motion.Motion.into_graph.Goals as goal
 

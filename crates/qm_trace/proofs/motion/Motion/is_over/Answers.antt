@@ -1,6 +1,5 @@
 use Rattle.std.proofs.Common.{◌≡◌, ◌↔◌, true, nat_eq, subst}
-use Rattle.def_cut.specs.Views.{MotionView}
-use Rattle.def_cut.specs.Events.{NobodyRuns}
+use Rattle.def_cut.specs.{Views.MotionView, Events.NobodyRuns}
 use Rattle.qm_trace.proofs.Counting.{over_is}
 use Rattle.qm_trace.proofs.motion.Motion.is_over.Goals as goal
 

@@ -1,15 +1,11 @@
 use Rattle.std.proofs.Common.{◌≡◌, ◌<◌, ◌&&◌, not, eqb, false, Bool, List, ℕ, length, sym, subst, ap, ◌∙◌, arith}
-use Rattle.std.specs.List.{list_any}
 use Rattle.std.proofs.lemmas.List.{get_or_default}
-use Rattle.def_mesh.specs.Darts.{prev_of}
-use Rattle.def_mesh.specs.Vertices.{fan_of}
-use Rattle.def_cut.specs.FullCut.{is_on}
-use Rattle.def_cut.specs.Events.{darts_in, leads_to, may_settle, waiting}
-use Rattle.def_cut.specs.Traced.{terrain_of}
-use Rattle.def_cut.specs.Views.{IsMotionOn, MotionView}
+use Rattle.std.specs.List.{list_any}
+use Rattle.def_mesh.specs.{Darts.prev_of, Vertices.fan_of}
+use Rattle.def_cut.specs.{FullCut.is_on, Events.darts_in, Events.leads_to, Events.may_settle, Events.waiting}
+use Rattle.def_cut.specs.{Traced.terrain_of, Views.IsMotionOn, Views.MotionView}
 use Rattle.qm_trace.specs.contracts.motion.Motion.{the_view}
-use Rattle.qm_trace.proofs.Reaching.{covered_long, settled_long}
-use Rattle.qm_trace.proofs.Settled.{end_is, noted_low_at}
+use Rattle.qm_trace.proofs.{Reaching.covered_long, Reaching.settled_long, Settled.end_is, Settled.noted_low_at}
 use Rattle.qm_trace.proofs.motion.Motion.may_settle.Goals as goal
 
 pub is_end-ends-requires-clause-taken : goal.is_end-ends-requires-clause-taken

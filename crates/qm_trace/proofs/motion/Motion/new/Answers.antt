@@ -1,8 +1,6 @@
 use Rattle.std.proofs.Common.{rules, ◌≡◌, false, List, [], None, ℕ, length, map, replicate, sym, ap, ◌∙◌, refl, arith}
 use Rattle.std.proofs.lemmas.List.{length-map, length-replicate}
-use Rattle.def_mesh.specs.Darts.{darts}
-use Rattle.def_mesh.specs.Vertices.{vertex_count}
-use Rattle.def_mesh.specs.Components.{start_darts}
+use Rattle.def_mesh.specs.{Darts.darts, Vertices.vertex_count, Components.start_darts}
 use Rattle.def_cut.specs.Motion.{begun, is_among}
 use Rattle.qm_trace.proofs.Beginnings.{starts_few, starts_low}
 use Rattle.qm_trace.proofs.Calls.{first_counted, first_stood, first_waits}

@@ -3,14 +3,10 @@ use Rattle.std.proofs.lemmas.Option.{none-some}
 use Rattle.std.specs.List.{list_any}
 use Rattle.def_mesh.specs.Darts.{to_of}
 use Rattle.def_cut.specs.Events.{darts_in, leads_to, may_settle, note_at, NobodyRuns}
-use Rattle.def_cut.specs.FullCut.{is_on}
-use Rattle.def_cut.specs.Motion.{is_among}
-use Rattle.def_cut.specs.Traced.{terrain_of}
-use Rattle.def_cut.specs.Views.{IsMotionOn, MotionView}
+use Rattle.def_cut.specs.{FullCut.is_on, Motion.is_among, Traced.terrain_of, Views.IsMotionOn, Views.MotionView}
 use Rattle.qm_trace.specs.contracts.motion.Motion.{the_view}
-use Rattle.qm_trace.proofs.Beginnings.{starts_few}
-use Rattle.qm_trace.proofs.Possible.{none_there, over_where, settle_may, settle_not_over}
-use Rattle.qm_trace.proofs.Reaching.{noted_among, noted_where, settled_long}
+use Rattle.qm_trace.proofs.{Beginnings.starts_few, Possible.none_there, Possible.over_where, Possible.settle_may}
+use Rattle.qm_trace.proofs.{Possible.settle_not_over, Reaching.noted_among, Reaching.noted_where, Reaching.settled_long}
 use Rattle.qm_trace.proofs.Settled.{noted_low_at}
 use Rattle.qm_trace.proofs.motion.Motion.possible.Goals as goal
 

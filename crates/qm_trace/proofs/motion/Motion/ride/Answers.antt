@@ -3,18 +3,14 @@ use Rattle.std.proofs.Common.{arith}
 use Rattle.std.proofs.lemmas.List.{length-set, with_items_is}
 use Rattle.std.specs.Vec.{with_items}
 use Rattle.def_mesh.specs.Darts.{twin_of}
-use Rattle.def_cut.specs.declared.moving.Moving.{Moving}
-use Rattle.def_cut.specs.Motion.{is_among}
-use Rattle.def_cut.specs.Events.{IsMotionOf, after_ride_of, darts_in, mark_twin, waiting}
-use Rattle.def_cut.specs.Traced.{terrain_of}
-use Rattle.def_cut.specs.Views.{IsMotionOn, MotionView, with_state}
-use Rattle.qm_trace.specs.Motions.{is_untold, runs_on, tally}
-use Rattle.qm_trace.specs.contracts.motion.Motion.{the_view}
-use Rattle.qm_trace.proofs.Beginnings.{starts_few}
-use Rattle.qm_trace.proofs.Calls.{made, ride_state}
-use Rattle.qm_trace.proofs.Counting.{ride_runs_on, ride_untold, ride_waits, tally_few}
-use Rattle.qm_trace.proofs.Reaching.{covered_long, ride_alone, ride_dart, ride_few, ride_fresh, ride_reached, ride_runs}
-use Rattle.qm_trace.proofs.Moves.{rides}
+use Rattle.def_cut.specs.{declared.moving.Moving.Moving, Motion.is_among, Events.IsMotionOf, Events.after_ride_of}
+use Rattle.def_cut.specs.{Events.darts_in, Events.mark_twin, Events.waiting, Traced.terrain_of, Views.IsMotionOn}
+use Rattle.def_cut.specs.Views.{MotionView, with_state}
+use Rattle.qm_trace.specs.{Motions.is_untold, Motions.runs_on, Motions.tally, contracts.motion.Motion.the_view}
+use Rattle.qm_trace.proofs.{Beginnings.starts_few, Calls.made, Calls.ride_state, Counting.ride_runs_on}
+use Rattle.qm_trace.proofs.{Counting.ride_untold, Counting.ride_waits, Counting.tally_few, Reaching.covered_long}
+use Rattle.qm_trace.proofs.Reaching.{ride_alone, ride_dart, ride_few, ride_fresh}
+use Rattle.qm_trace.proofs.{Reaching.ride_reached, Reaching.ride_runs, Moves.rides}
 use Rattle.qm_trace.proofs.motion.Motion.ride.Goals as goal
 
 pub overflow_add-rider : goal.overflow_add-rider

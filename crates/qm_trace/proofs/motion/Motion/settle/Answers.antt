@@ -1,19 +1,14 @@
 use Rattle.std.proofs.Common.{◌≡◌, eqb, true, false, Bool, List, set, sym, subst, ap, ◌∙◌, refl, arith}
 use Rattle.std.proofs.lemmas.Bool.{eq-eqb, ne_eqb}
 use Rattle.std.proofs.lemmas.List.{get_or_default, length-set}
-use Rattle.def_cut.specs.FullCut.{is_on}
-use Rattle.def_cut.specs.declared.moving.Moving.{Moving}
-use Rattle.def_cut.specs.Events.{IsMotionOf, after_settling, darts_in, decided_at, are_ends_settled, waiting}
-use Rattle.def_cut.specs.Traced.{terrain_of}
-use Rattle.def_cut.specs.Views.{IsMotionOn, MotionView, with_state}
-use Rattle.qm_trace.specs.Motions.{is_untold, tally}
-use Rattle.qm_trace.specs.Tables.{IsSite}
-use Rattle.qm_trace.specs.contracts.motion.Motion.{the_view}
-use Rattle.qm_trace.proofs.Calls.{closed_state, counted_again, ends_now, made, open_state, waits_again}
-use Rattle.qm_trace.proofs.Counting.{waiting_told}
-use Rattle.qm_trace.proofs.Reaching.{covered_long, settled_long, stood_long}
-use Rattle.qm_trace.proofs.Settled.{can_tell, closed_where, noted_low_at, settle_reached, stood_is, told_are}
-use Rattle.qm_trace.proofs.Moves.{settles}
+use Rattle.def_cut.specs.{FullCut.is_on, declared.moving.Moving.Moving, Events.IsMotionOf, Events.after_settling}
+use Rattle.def_cut.specs.Events.{darts_in, decided_at, are_ends_settled, waiting}
+use Rattle.def_cut.specs.{Traced.terrain_of, Views.IsMotionOn, Views.MotionView, Views.with_state}
+use Rattle.qm_trace.specs.{Motions.is_untold, Motions.tally, Tables.IsSite, contracts.motion.Motion.the_view}
+use Rattle.qm_trace.proofs.Calls.{closed_state, counted_again, ends_now, made, open_state}
+use Rattle.qm_trace.proofs.{Calls.waits_again, Counting.waiting_told, Reaching.covered_long, Reaching.settled_long}
+use Rattle.qm_trace.proofs.{Reaching.stood_long, Settled.can_tell, Settled.closed_where, Settled.noted_low_at}
+use Rattle.qm_trace.proofs.{Settled.settle_reached, Settled.stood_is, Settled.told_are, Moves.settles}
 use Rattle.qm_trace.proofs.motion.Motion.settle.Goals as goal
 
 pub index-requires : goal.index-requires
