@@ -28,6 +28,7 @@ from .errors import FormatError, MeshError, QuadqError, WishError
 from .files import write_whole
 from .formats import bytes_of, left_out, read_file
 from .graphs import Cut, graph, layout
+from .inputs import file_named
 from .maps import Map
 from .obj import read_obj
 from .obj_writing import write_obj
@@ -72,6 +73,6 @@ def write(path: Union[str, os.PathLike[str]], mesh: MeshLike, *, format: Optiona
     """Writes a mesh as a whole file, in the format that its name says, and returns what the format has no word for, in
     words. A `.msh` file is of version 2.2, and with the format `gmsh` of version 4.1. Raises a `Refusal` where that
     fails, and a `WishError` for a format that is not written."""
-    made = as_mesh(mesh)
-    write_whole(Path(path), bytes_of(Path(path), made, form=format))
-    return left_out(Path(path), made)
+    made, target = as_mesh(mesh), file_named(path)
+    write_whole(target, bytes_of(target, made, form=format))
+    return left_out(target, made)

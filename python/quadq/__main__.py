@@ -17,7 +17,7 @@ from .errors import WishError
 from .features import KINDS
 from .files import is_through, nothing_stale, refuse_closed, write_whole
 from .formats import FORMS, refuse_format
-from .inputs import refuse_kept_clashes, refuse_overwriting
+from .inputs import file_named, folder_named, refuse_kept_clashes, refuse_overwriting
 from .jobs import one_file
 from .levels import level_files, path_of, shares_of
 from .program import Program, find_program
@@ -86,16 +86,16 @@ def parser_of_words() -> argparse.ArgumentParser:
                         "stays so, each half with what it carries; where faces go by shape it does if nothing is said")
     parser.add_argument("--round", action="store_true", help="put new points on a curved surface behind the old faces")
     parser.add_argument("--relax", type=int, default=0, metavar="N", help="move points so many times along the surface")
-    parser.add_argument("--keep", type=Path, metavar="FOLDER", help="keep the old and new text of each part there")
-    parser.add_argument("--report", type=Path, metavar="FILE.html",
+    parser.add_argument("--keep", metavar="FOLDER", help="keep the old and new text of each part there")
+    parser.add_argument("--report", metavar="FILE.html",
                         help="a page with both meshes, to be turned; with --out a folder of pages with an index")
     parser.add_argument("--up", choices=["y", "z"], default="y", help="the axis that points upward in pictures")
     parser.add_argument("--carry", action="store_true", help="keep texture coordinates, normals, names and colours")
     parser.add_argument("--format", choices=[*FORMS], help="how .msh is written: gmsh22 is version 2.2, which is taken "
                         "if nothing is said, and gmsh version 4.1")
-    parser.add_argument("--out", type=Path, metavar="FOLDER", help="where the remeshed files go, by the same names")
-    parser.add_argument("--table", type=Path, metavar="FILE.csv", help="a table of all files")
-    parser.add_argument("--log", type=Path, metavar="FILE.jsonl", help="a line of JSON for each file as it ends")
+    parser.add_argument("--out", metavar="FOLDER", help="where the remeshed files go, by the same names")
+    parser.add_argument("--table", metavar="FILE.csv", help="a table of all files")
+    parser.add_argument("--log", metavar="FILE.jsonl", help="a line of JSON for each file as it ends")
     parser.add_argument("--resume", action="store_true", help="leave out what the log has of the same")
     parser.add_argument("--recursive", action="store_true", help="take the folders below folders, too")
     parser.add_argument("--pattern", metavar="'*.msh'", help="which files of folders are taken; else those in .obj")
@@ -170,6 +170,7 @@ def _ended(asked: argparse.Namespace, command: Optional[Command]) -> tuple[int, 
 
 
 def _done(asked: argparse.Namespace) -> int:
+    _take_names(asked)
     program = Program()
     settings = settings_of(asked)
     refuse_missing(settings, program)
@@ -186,6 +187,17 @@ def _done(asked: argparse.Namespace) -> int:
         raise WishError("with --out the reports are a page for each file: --report FOLDER")
     with beside([asked.log, asked.table]):
         return _batch(asked, settings, program)
+
+
+def _take_names(asked: argparse.Namespace) -> None:
+    """Puts paths where names stand. Raises a `WishError` for names of something else."""
+    with_out = asked.out is not None
+    kinds = {"out": folder_named, "keep": folder_named, "report": folder_named if with_out else file_named,
+             "log": file_named, "table": file_named}
+    for it, named in kinds.items():
+        if getattr(asked, it) is not None:
+            setattr(asked, it, named(getattr(asked, it)))
+    asked.paths = [folder_named(it) if with_out else file_named(it) for it in asked.paths]
 
 
 def settings_of(asked: argparse.Namespace) -> Settings:

@@ -13,7 +13,9 @@ from typing import Callable, Generator, Iterable, Optional, Sequence, Union
 from .errors import WishError
 from .files import checksum_of, refuse_closed, remove_stale, write_whole
 from .index import Index, page_for
-from .inputs import Input, inputs_of, refuse_clashes, refuse_kept_clashes, refuse_overwriting, refuse_page_clashes
+from .inputs import (
+    Input, PathLike, folder_named, inputs_of, refuse_clashes, refuse_kept_clashes, refuse_overwriting,
+    refuse_page_clashes)
 from .jobs import Job, done
 from .logs import Log, read_log
 from .program import Program
@@ -24,7 +26,6 @@ from .settings import Settings
 from .stopping import Stopped
 from .workers import Workers
 
-PathLike = Union[str, "os.PathLike[str]"]
 FINAL = (*range(1, 12), 16, 17)
 """The statuses that a file gets again, whenever it is tried."""
 
@@ -65,8 +66,8 @@ def remesh_files(
     an interruption goes on to the caller when all is wound up.
     """
     given = [files] if isinstance(files, (str, os.PathLike)) else list(files)
-    folder = Path(out)
-    inputs = inputs_of([Path(it) for it in given], pattern, recursive, folder)
+    folder = folder_named(out)
+    inputs = inputs_of([folder_named(it) for it in given], pattern, recursive, folder)
     refuse_time(timeout)
     _refuse_clashes(inputs, folder, settings, books)
     runner = Program() if program is None else program

@@ -16,6 +16,8 @@ from .errors import WishError
 from .files import make_folder, write_whole
 from .foam import NAME as FOAM
 from .foam import foam_text
+from .inputs import file_named
+from .settings import FAR
 from .thickness import extruded, folded_in
 
 VTK, PLOT3D, CGNS = ".vtm", ".xyz", ".cgns"
@@ -59,7 +61,7 @@ def write_blocks(
     """Writes blocks as the name says: `.vtm` with a folder of grids beside it, `.xyz` with a neutral map beside it, a
     `blockMeshDict`, or `.cgns`. With a thickness they are a cell deep; a blockMeshDict always is. Returns what is not
     as it was asked, in words. Raises a `WishError` for other names, and a `Refusal` where a file cannot be written."""
-    target = Path(path)
+    target = file_named(path)
     writers: dict[str, Callable[[Path, Blocks, Optional[float]], tuple[str, ...]]] = {
         VTK: _write_vtk, PLOT3D: _write_plot3d, CGNS: write_cgns}
     if thickness is not None and not thickness > 0:

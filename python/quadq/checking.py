@@ -16,6 +16,7 @@ from .carried import carried
 from .errors import FormatError, WishError
 from .files import read_whole
 from .formats import read_file
+from .inputs import PathLike, folder_named, refuse_folder
 from .manifold import parts_at_fault
 from .mesh import Mesh
 from .obj import read_obj
@@ -34,7 +35,6 @@ MOST = 100
 NAMING = ("o", "g", "usemtl")
 SOME_REFUSED = 1
 """The status where files are refused for several reasons."""
-PathLike = Union[str, "os.PathLike[str]"]
 
 
 class Lines(NamedTuple):
@@ -116,7 +116,7 @@ def status_of(found: Sequence[Checked]) -> int:
 def files_of(given: Sequence[PathLike], pattern: Optional[str]) -> list[Path]:
     """The files that these paths are, lie below or match, each once."""
     found: dict[Path, None] = {}
-    for it in map(Path, given):
+    for it in map(folder_named, given):
         if os.path.isdir(it):
             some = list(_files_below(it, pattern))
         elif glob.has_magic(str(it)) and not os.path.exists(it):
@@ -131,7 +131,7 @@ def files_of(given: Sequence[PathLike], pattern: Optional[str]) -> list[Path]:
 
 def _files_below(folder: Path, pattern: Optional[str]) -> Iterator[Path]:
     """Hidden folders are left out."""
-    for place, folders, names in os.walk(folder):
+    for place, folders, names in os.walk(folder, onerror=refuse_folder):
         folders[:] = sorted(it for it in folders if not it.startswith("."))
         for name in sorted(names):
             if fnmatch.fnmatchcase(name, pattern) if pattern else name.lower().endswith(KNOWN):

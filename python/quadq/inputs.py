@@ -4,12 +4,31 @@ from __future__ import annotations
 
 import fnmatch
 import os
+import stat
 from pathlib import Path
-from typing import Iterable, Iterator, NamedTuple, Optional, Sequence
+from typing import Iterable, Iterator, NamedTuple, Optional, Sequence, Union
 
 from .errors import WishError
 from .files import is_through
 from .parts import KEPT
+
+
+PathLike = Union[str, "os.PathLike[str]"]
+
+
+def folder_named(name: PathLike) -> Path:
+    """The path of a name. Raises a `WishError` for an empty one, whose path would be the folder at hand."""
+    if not os.fspath(name):
+        raise WishError("an empty name is none of a file or a folder")
+    return Path(name)
+
+
+def file_named(name: PathLike) -> Path:
+    """The same, also for a name that says by a slash at its end that it is a folder: its path would be that of a file.
+    """
+    if os.fspath(name).endswith(("/", "/.")):
+        raise WishError(f"{os.fspath(name)} names a folder, where a file is needed")
+    return folder_named(name)
 
 
 class Input(NamedTuple):
@@ -45,17 +64,26 @@ def inputs_of(
 
 def _files_in(folder: Path, pattern: Optional[str], is_recursive: bool, out: Optional[Path]) -> Iterator[Path]:
     apart = None if out is None else os.path.realpath(out)
-    for place, folders, names in os.walk(folder, onerror=_refuse):
+    for place, folders, names in os.walk(folder, onerror=refuse_folder):
         folders[:] = sorted(it for it in folders if os.path.realpath(os.path.join(place, it)) != apart)
         for name in sorted(names):
             is_asked = fnmatch.fnmatchcase(name, pattern) if pattern else name.lower().endswith(".obj")
-            if is_asked and (Path(place) / name).is_file():
+            if is_asked and not _is_left_out(Path(place) / name):
                 yield Path(place) / name
         if not is_recursive:
             return
 
 
-def _refuse(error: OSError) -> None:
+def _is_left_out(path: Path) -> bool:
+    """Whether a path of a folder is a pipe or a device. What cannot be looked at is not: its row says why."""
+    try:
+        return not stat.S_ISREG(os.stat(path).st_mode)
+    except OSError:
+        return False
+
+
+def refuse_folder(error: OSError) -> None:
+    """Raises a `WishError` for a folder that cannot be read."""
     raise WishError(f"the folder {error.filename} cannot be read: {error.strerror}")
 
 

@@ -3,14 +3,15 @@
 
 import os
 import pathlib
+import threading
 import unittest
 from unittest import mock
 
-from quadq import Books, Program, Refusal, Settings, WishError, jobs, remesh, remesh_files
+from quadq import Books, Program, Refusal, Settings, WishError, jobs, remesh, remesh_files, write
 from quadq.files import read_whole
 from quadq.logs import Log, read_log
 
-from .shapes import grid
+from .shapes import grid, written_by
 from .test_batch import HALF, BatchRoom
 from .test_files import CUBE, TWO_FANS, Room
 
@@ -52,7 +53,7 @@ class OneFile(Room):
 
     def test_a_file_may_be_replaced_by_its_remesh(self):
         self.assertEqual(self.run_words(self.source, self.source, "--scale", "1/2")[0], 0)
-        self.assertTrue(self.source.read_bytes().startswith(b"#quadq 1 remesh"))
+        self.assertTrue(self.source.read_bytes().startswith(f"#quadq 1 {written_by('remesh')} ".encode()))
 
     def test_where_nothing_can_be_written_is_known_before_the_work(self):
         (self.room / "circle.obj").symlink_to("circle.obj")
@@ -85,7 +86,8 @@ class OneFile(Room):
     def test_values_that_are_none(self):
         for words in (("--scale", "1/0"), ("--scale", "1e999999999"), ("--scale", "nan"), ("--scale", ""),
                       ("--edge", "nan"), ("--edge", "inf"), ("--edge", "1e99999999999999999999"), ("--within", "nan"),
-                      ("--lods", "1/0"), ("--lods", "1e99999999"), ("--faces", "0"),
+                      ("--lods", "1/0"), ("--lods", "1e99999999"), ("--lods", ""), ("--lods", "1/2,,1/4"),
+                      ("--faces", "0"),
                       ("--scale", "1", "--timeout", "-1"), ("--scale", "1", "--timeout", "0"),
                       ("--scale", "1", "--timeout", "inf"), ("--scale", "1", "--timeout", "nan"),
                       ("--scale", "1", "--sharp", "nan"), ("--scale", "1", "--relax", "-1")):
@@ -96,6 +98,21 @@ class OneFile(Room):
                 remesh(grid(2, 2), scale=1, timeout=seconds)
             with self.assertRaises(WishError):
                 remesh_files(self.source, self.room / "out", HALF, timeout=seconds)
+
+    def test_a_name_of_a_folder_is_none_of_a_file(self):
+        for words in ((f"{self.source}/",), (f"{self.source}/.",), (f"{self.room}/new/",), ("",),
+                      (self.out, "--report", f"{self.room}/page/"), (self.out, "--report", ""),
+                      (self.out, "--keep", ""), ("--out", ""),
+                      ("--out", self.room / "new", "--log", f"{self.room}/log/"),
+                      ("--out", self.room / "new", "--table", f"{self.room}/table/")):
+            self.assertEqual(self.refused(self.source, *words)[0], 2, words)
+        for words in (("", self.out), (f"{self.source}/", self.out), ("", "--out", self.room / "new")):
+            self.assertEqual(self.refused(*words)[0], 2, words)
+        self.assertEqual(self.run_words("blocks", self.source, f"{self.room}/a.vtm/")[0], 2)
+        self.assertEqual(self.run_words("check", "")[0], 2)
+        with self.assertRaises(WishError):
+            write(f"{self.room}/new/", grid(1, 1))
+        self.assertEqual(self.names(), ["in.obj"])
 
     def test_a_device_without_an_end(self):
         with self.assertRaises(Refusal) as caught:
@@ -142,9 +159,13 @@ class Many(BatchRoom):
         remesh_files(self.inward / "a.obj", self.out, HALF, books=Books(path))
         line = path.read_bytes()
         strange = [b"[1]", b"{}", b"7", b"[" * 100_000, b"\xff", line.replace(b'"status": 0', b'"status": "x"'),
-                   line.replace(b'"faces_before": 6', b'"faces_before": "x"'),
+                   *(line.replace(b'"status": 0', b'"status": ' + it) for it in (b"0.9", b"1e400", b"false", b"null")),
+                   *(line.replace(b'"faces_before": 6', b'"faces_before": ' + it) for it in (b'"x"', b"true", b"6.5")),
+                   line.replace(b'"parts": 1', b'"parts": [1]'), line.replace(b'"seconds": ', b'"seconds": "0", "x": '),
+                   line.replace(b'"warnings": [', b'"warnings": [{"words": 5}, '),
                    line.replace(b'"input": ', b'"input": [], "more": '),
                    line.replace(b'"warnings": [', b'"warnings": [7, '), line[:40]]
+        self.assertEqual(len({*strange} - {line}), len(strange))
         path.write_bytes(b"\n".join(strange))
         self.assertEqual(read_log(path), {})
 
@@ -205,6 +226,23 @@ class Many(BatchRoom):
         name = self.room / ("a" * 300 + ".obj")
         (row,) = remesh_files(name, self.out, HALF)
         self.assertEqual((row.status, "too long" in row.words), (12, True))
+        long, table, pages = self.room / ("a" * 250 + ".obj"), self.room / "table", self.room / "pages"
+        long.write_bytes(CUBE.read_bytes())
+        rows = remesh_files([long, self.inward / "a.obj"], self.out, HALF, books=Books(None, table, report=pages))
+        self.assertEqual([it.status for it in rows], [13, 0])
+        self.assertEqual(rows[0].words, f"write fault: {pages / long.name}.html: File name too long")
+        self.assertEqual((os.listdir(self.out), len(table.read_text().splitlines())), (["a.obj"], 3))
+        self.assertEqual((pages / "index.html").read_text().count("<tr data-kind="), 2)
+
+    def test_a_table_is_written_also_where_the_index_cannot_be(self):
+        table = self.room / "table"
+        with mock.patch("quadq.index.Index.close", side_effect=Refusal(13, "write fault: the index")):
+            with self.assertRaises(Refusal):
+                remesh_files(self.inward, self.out, HALF, books=Books(None, table, report=self.room / "pages"))
+        self.assertEqual(len(table.read_text().splitlines()), 5)
+
+    def test_names_of_files_that_are_checked(self):
+        name = self.room / ("a" * 300 + ".obj")
         self.assertEqual(self.run_words("check", name, "--jobs", "-1")[0], 12)
         status, _, said = self.run_words("check", self.room / "*.off")
         self.assertEqual((status, said.partition(": ")[0]), (2, "quadq-check"))
@@ -215,6 +253,15 @@ class Many(BatchRoom):
             (self.room / name).write_bytes(data)
             status, _, said = self.run_words(CUBE, self.room / "out.obj", "--size", self.room / name)
             self.assertEqual((status, len(said.splitlines())), (2, 1), name)
+
+    def test_numbers_may_come_from_a_pipe_and_not_without_an_end(self):
+        out, pipe = self.room / "out.obj", self.room / "pipe"
+        os.mkfifo(pipe)
+        threading.Thread(target=pipe.write_text, args=["0.5\n" * 8]).start()
+        self.assertEqual(self.run_words(CUBE, out, "--size", pipe)[0], 0)
+        with mock.patch("quadq.density.read_whole", side_effect=Refusal(6, "limit: bytes")) as asked:
+            self.assertEqual(self.run_words(CUBE, out, "--size", "/dev/zero")[0], 6)
+        self.assertEqual(asked.call_args.args, (pathlib.Path("/dev/zero"), 512 << 20))
 
     def test_a_pipe_of_another_format_is_no_file(self):
         os.mkfifo(self.room / "pipe.msh")
