@@ -30,7 +30,7 @@ from .running import refuse_time
 from .settings import MODES, SYMMETRIES, Settings, as_length
 
 from .stopping import Stopped, stopped_by_signals
-from .streams import beside, close_output, open_streams
+from .streams import beside, close_output, in_a_line, open_streams
 from .version import VERSION, version_lines
 
 USAGE = 2
@@ -132,15 +132,15 @@ def main(words: Optional[Sequence[str]] = None) -> int:
     try:
         status, said = _ended(asked, command)
         if said:
-            print(f"{parser.prog}: {said}", file=sys.stderr)
+            print(in_a_line(f"{parser.prog}: {said}"), file=sys.stderr)
         return status
     except OSError as error:
         # Files are read and written through `files`: this is what is said.
         close_output()
         if not isinstance(error, BrokenPipeError):
             with contextlib.suppress(OSError):
-                print(f"{parser.prog}: write fault: {error.filename or 'standard output'}: {error.strerror}",
-                      file=sys.stderr)
+                where = error.filename or "standard output"
+                print(in_a_line(f"{parser.prog}: write fault: {where}: {error.strerror}"), file=sys.stderr)
         return WRITE_FAULT
 
 
@@ -278,13 +278,13 @@ def _say(path: Optional[Path], report: Report, is_quiet: bool) -> None:
     """Prints what a remesh came to; of several with the name of its file."""
     if not is_quiet:
         if path is not None:
-            print(path)
+            print(in_a_line(str(path)))
         for label, value in report.facts():
             print(f"{label:<34}{value:>12}")
         for label, before, after in report.table():
             print(f"{label:<34}{before:>12}{after:>14}")
     for warning in report.warnings:
-        print(f"{NAME}: warning: {warning}", file=sys.stderr)
+        print(in_a_line(f"{NAME}: warning: {warning}"), file=sys.stderr)
 
 
 def _batch(asked: argparse.Namespace, settings: Settings, program: Program) -> int:
@@ -293,11 +293,12 @@ def _batch(asked: argparse.Namespace, settings: Settings, program: Program) -> i
     def say(it: Row) -> None:
         told.append(it)
         if not it.is_good:
-            print(f"{NAME}: {it.source}: {it.words}", file=sys.stderr, flush=True)
+            print(in_a_line(f"{NAME}: {it.source}: {it.words}"), file=sys.stderr, flush=True)
         elif not asked.quiet:
-            print(f"{it.source}: {it.words}", flush=True)
+            print(in_a_line(f"{it.source}: {it.words}"), flush=True)
             for warning in it.warnings:
-                print(f"{NAME}: {it.source}: warning: {warning['words']}", file=sys.stderr, flush=True)
+                words = in_a_line(f"{NAME}: {it.source}: warning: {warning['words']}")
+                print(words, file=sys.stderr, flush=True)
 
     try:
         rows = remesh_files(

@@ -12,6 +12,7 @@ from .checking import Checked, Fault, check, status_of
 from .notices import counted
 from .program import Program
 from .sarif import sarif_of
+from .streams import in_a_line
 
 NAME = "quadq-check"
 
@@ -50,9 +51,9 @@ def check_asked(asked: argparse.Namespace) -> int:
 def _tell(it: Checked) -> None:
     """Each fault in a line that editors and people can follow."""
     for fault in it.faults:
-        print(in_words(it, fault), flush=True)
+        print(in_a_line(in_words(it, fault)), flush=True)
     if it.more:
-        print(f"{it.path}: and {it.more} more faults", flush=True)
+        print(in_a_line(f"{it.path}: and {it.more} more faults"), flush=True)
 
 
 def in_words(it: Checked, fault: Fault) -> str:

@@ -5,6 +5,7 @@ from __future__ import annotations
 import contextlib
 import io
 import os
+import re
 import stat
 import sys
 from pathlib import Path
@@ -14,6 +15,7 @@ from .files import held_number
 
 OUT = 1
 """The number of standard output."""
+STEERING = re.compile("[\x00-\x1f\x7f-\x9f]")
 
 
 def open_streams() -> None:
@@ -31,6 +33,12 @@ def open_streams() -> None:
     for stream in (sys.stdout, sys.stderr):
         if isinstance(stream, io.TextIOWrapper) and stream.errors == "strict":
             stream.reconfigure(errors="backslashreplace")
+
+
+def in_a_line(words: str) -> str:
+    """Words as one line: letters that end lines or steer terminals, as names of files may have, stand by their numbers.
+    """
+    return STEERING.sub(lambda it: it[0].encode("unicode_escape").decode(), words)
 
 
 def beside(files: Iterable[Optional[Path]]) -> ContextManager[object]:
