@@ -134,12 +134,15 @@ class _Batch:
                     self._tell(job, row)
             is_whole = True
         finally:
-            if log is not None:
-                log.close()
-            if index is not None:
-                index.close([(row, it.page) for row, it in zip(self._all(), self.jobs) if it.page], not is_whole)
-            if self.books.table is not None:
-                write_whole(self.books.table, table_of(self._all()), is_hasty=not is_whole)
+            # Where one of them fails, the others are written all the same.
+            with contextlib.ExitStack() as ends:
+                if self.books.table is not None:
+                    ends.callback(write_whole, self.books.table, table_of(self._all()), is_hasty=not is_whole)
+                if index is not None:
+                    rows = [(row, it.page) for row, it in zip(self._all(), self.jobs) if it.page]
+                    ends.callback(index.close, rows, not is_whole)
+                if log is not None:
+                    ends.callback(log.close)
         return self._all()
 
     def _tell(self, job: Job, row: Row) -> None:
@@ -196,12 +199,12 @@ def _still_holds(row: Row, job: Job) -> bool:
     """Whether a row is of the same file, settings and program, and what it says to be there is there."""
     if (row.settings, row.program, row.target) != (job.settings_in_words(), job.digest, str(job.target)):
         return False
-    if job.page is not None and not job.page.exists():
+    if job.page is not None and not os.path.exists(job.page):
         return False
     try:
         if row.read != checksum_of(job.source):
             return False
-        is_there = job.target.exists()
+        is_there = os.path.exists(job.target)
         if row.is_good:
             are_kept = job.settings.folder is None or (job.settings.folder / "part-1.remeshed.obj").exists()
             return is_there and are_kept and row.written == checksum_of(job.target)

@@ -126,7 +126,7 @@ def remove_stale(path: Path, source: Optional[Path] = None) -> None:
     """Removes the file that an earlier run wrote, where this one writes none; but not the source itself, and nothing
     that is no regular file."""
     try:
-        if is_through(path) or not path.exists() or (source is not None and is_same(path, source)):
+        if is_through(path) or not os.path.exists(path) or (source is not None and is_same(path, source)):
             return
         Path(os.path.realpath(path)).unlink()
     except OSError as error:

@@ -87,7 +87,7 @@ class Index:
                   for it, side in zip(pictures, ("before", "after"))]
         warnings = "".join(f"<li>{words(it['words'])}</li>" for it in row.warnings)
         cells = [
-            (link if page.exists() else name, row.source), *((it, None) for it in [*images, "", ""][:2]),
+            (link if os.path.exists(page) else name, row.source), *((it, None) for it in [*images, "", ""][:2]),
             (said + (f'<ul class="warnings warning">{warnings}</ul>' if warnings else ""), str(len(row.warnings))),
             _number(facts.get("faces_before")), (words(_wish(row.settings)), None), _number(facts.get("faces_after")),
             _number(facts.get("inverted_after")), _number(facts.get("least_before")), _number(facts.get("least_after")),

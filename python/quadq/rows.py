@@ -8,7 +8,7 @@ import json
 from dataclasses import dataclass, field, fields
 from fractions import Fraction
 from pathlib import Path
-from typing import Any, Mapping, Optional, Sequence
+from typing import Any, Iterable, Mapping, Optional, Sequence
 
 from .results import Report
 from .settings import Settings
@@ -67,17 +67,24 @@ class Row:
         """The row of a line. Raises a `ValueError` where it is none."""
         try:
             told = json.loads(line)
-            row = Row(told["input"], told["output"], int(told["status"]), told["words"], told["settings"],
-                      told["program_sha256"], told["input_sha256"], told["output_sha256"], float(told["seconds"]),
+            row = Row(told["input"], told["output"], told["status"], told["words"], told["settings"],
+                      told["program_sha256"], told["input_sha256"], told["output_sha256"], told["seconds"],
                       {name: told[name] for name in FACTS if name in told}, tuple(told["warnings"]), True)
         except (KeyError, TypeError, RecursionError) as error:
             raise ValueError("this is no line of a log") from error
-        texts = [row.source, row.target, row.words, row.program, row.read, row.written]
-        counts = [row.facts.get(name, 0) for name in ("faces_before", "faces_after")]
-        is_told = all(isinstance(it, dict) and "words" in it for it in row.warnings) and isinstance(row.settings, dict)
-        if not (is_told and all(isinstance(it, str) for it in texts) and all(isinstance(it, int) for it in counts)):
+        if not row._is_told():
             raise ValueError("this is no line of a log")
         return row
+
+    def _is_told(self) -> bool:
+        """Whether all that JSON has brought is of the kinds that a row has."""
+        warned = [it.get("words") if isinstance(it, dict) else None for it in self.warnings]
+        texts = [self.source, self.target, self.words, self.program, self.read, self.written, *warned]
+        counts = [self.status, *(self.facts.get(name, 0) for name in ("faces_before", "faces_after"))]
+        kinds: list[tuple[Iterable[object], set[type]]] = [
+            (texts, {str}), (counts, {int}), ([self.seconds], {int, float}), ([self.settings], {dict}),
+            (self.facts.values(), {str, int, float, type(None)})]
+        return all(type(it) in kind for some, kind in kinds for it in some)
 
     def cells(self) -> list[str]:
         """The row of the table."""

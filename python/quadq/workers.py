@@ -15,7 +15,7 @@ from pathlib import Path
 from typing import Callable, Generator, Optional, Sequence
 
 from .jobs import Job
-from .refusal import STRANGE, TIMEOUT
+from .refusal import CANNOT_RUN, STRANGE, TIMEOUT, Refusal
 from .rows import Row
 from .running import SIGNAL
 from .worker import HEAD, framed
@@ -120,8 +120,10 @@ class Workers:
         try:
             while waiting or self.busy:
                 while waiting and len(self.busy) < self.most:
-                    job = waiting.popleft()
                     worker = self._free_one()
+                    if worker is None:
+                        break
+                    job = waiting.popleft()
                     asked[id(worker)] = job
                     worker.begin(share(job, min(self.most, len(self.busy) + len(waiting) + 1)))
                     self.busy.append(worker)
@@ -130,10 +132,17 @@ class Workers:
         finally:
             self.end()
 
-    def _free_one(self) -> Worker:
+    def _free_one(self) -> Optional[Worker]:
+        """One that has nothing to do, or a new one. Where the system lets no more begin, these are all."""
         if self.idle:
             return self.idle.pop()
-        worker = Worker()
+        try:
+            worker = Worker()
+        except OSError as error:
+            if not self.busy:
+                raise Refusal(CANNOT_RUN, f"no worker can be started: {error.strerror}") from error
+            self.most = len(self.busy)
+            return None
         self.selector.register(worker.outward, selectors.EVENT_READ, worker)
         return worker
 

@@ -2,6 +2,7 @@
 
 import contextlib
 import csv
+import errno
 import json
 import os
 import pathlib
@@ -14,11 +15,12 @@ import warnings
 from concurrent.futures import ThreadPoolExecutor
 from unittest import mock
 
-from quadq import Books, Program, Settings, WishError, remesh_files
+from quadq import Books, Program, Refusal, Settings, WishError, remesh_files
 from quadq.inputs import inputs_of
 from quadq.jobs import checksum
 from quadq.logs import Log, read_log
 from quadq.rows import Row
+from quadq.workers import Worker
 
 from .shapes import EXAMPLES
 from .test_files import CUBE, TWO_FANS, Room
@@ -30,6 +32,8 @@ STUBS = {
     "says no": "echo 'quadq: ' >&2; exit 99\n",
 }
 """Programs that are none, as scripts of the shell."""
+PLAINLY = ["env", "setpriv", "--bounding-set=-dac_override,-dac_read_search", "--inh-caps=-all"]
+"""Before a command of root: it has the rights of an owner alone."""
 
 
 class BatchRoom(Room):
@@ -79,6 +83,27 @@ class Batch(BatchRoom):
         self.assertEqual((row.status, "no regular file" in row.words), (12, True))
         with self.assertRaises(WishError):
             remesh_files([self.inward / "a.obj", below], self.out, HALF)
+
+    def test_what_a_folder_has_and_what_cannot_be_read_is_a_row(self):
+        (self.inward / "gone.obj").symlink_to("nowhere")
+        (self.inward / "circle.obj").symlink_to("circle.obj")
+        rows = {pathlib.Path(it.source).name: it.status for it in remesh_files(self.inward, self.out, HALF)}
+        self.assertEqual((len(rows), rows["gone.obj"], rows["circle.obj"]), (6, 12, 12))
+
+    @unittest.skipIf(os.getuid() == 0 and subprocess.run([*PLAINLY, "true"], capture_output=True).returncode != 0,
+                     "root reads all, and cannot be kept from it here")
+    def test_folders_that_cannot_be_read(self):
+        below, plain = self.inward / "below", PLAINLY if os.getuid() == 0 else []
+        below.mkdir()
+        (below / "a.obj").write_bytes(CUBE.read_bytes())
+        for mode, words, status, said in (
+                (0o000, ("--out", self.out, "--scale", "1/2", "--recursive"), 2, "cannot be read: Permission denied"),
+                (0o444, ("--out", self.out, "--scale", "1/2", "--recursive"), 1, "read fault"), (0o000, (), 2, "read")):
+            below.chmod(mode)
+            self.addCleanup(below.chmod, 0o755)
+            command = [*plain, sys.executable, "-m", "quadq", *([] if words else ["check"]), self.inward, *words]
+            ran = subprocess.run([str(it) for it in command], cwd=ROOT, capture_output=True, text=True, check=False)
+            self.assertEqual((ran.returncode, said in ran.stderr), (status, True), ran.stderr)
 
     def test_log_and_table(self):
         log, table = self.room / "log.jsonl", self.room / "table.csv"
@@ -132,6 +157,24 @@ class Batch(BatchRoom):
         hangs.path.write_text("#!/bin/sh\ncase $PPID in *) kill -KILL $PPID; sleep 9;; esac\n")
         rows = remesh_files([self.inward / "a.obj", self.inward / "a1.obj"], self.out, HALF, program=hangs)
         self.assertEqual([it.status for it in rows], [137, 137])
+
+    def test_as_many_workers_as_the_system_lets_begin(self):
+        begun, table = iter((Worker, None, None, Worker)), self.room / "table"
+
+        def one() -> Worker:
+            made = next(begun)
+            if made is None:
+                raise OSError(errno.EMFILE, os.strerror(errno.EMFILE))
+            return made()
+
+        with mock.patch("quadq.workers.Worker", side_effect=one):
+            rows = remesh_files(self.inward, self.out, HALF)
+            self.assertEqual([it.status for it in rows], [0, 0, 0, 7])
+            with self.assertRaises(Refusal) as caught:
+                remesh_files(self.inward, self.out, HALF, books=Books(None, table))
+        self.assertEqual((caught.exception.status, str(caught.exception)),
+                         (126, "no worker can be started: Too many open files"))
+        self.assertEqual(len(table.read_text().splitlines()), 5)
 
     def test_want_of_memory_and_an_overflow_are_rows(self):
         log, table = self.room / "log.jsonl", self.room / "table.csv"
