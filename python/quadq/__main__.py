@@ -20,7 +20,7 @@ from .formats import FORMS, refuse_format
 from .inputs import file_named, folder_named, refuse_kept_clashes, refuse_overwriting
 from .jobs import one_file
 from .levels import level_files, path_of, shares_of
-from .program import Program, find_program
+from .program import Program
 from .progress import NAME, Progress
 from .refusal import MEMORY, READ_FAULT, STRANGE, WRITE_FAULT, Refusal
 from .report import refused_page, result_page
@@ -114,7 +114,7 @@ class TellVersion(argparse.Action):
 
     def __call__(self, parser: argparse.ArgumentParser, *_: object) -> None:
         try:
-            said = version_lines(find_program())
+            said = version_lines(Program().path)
         except OSError as error:
             print(f"{NAME} {VERSION}")
             parser.exit(USAGE, f"{NAME}: {error}\n")
@@ -128,8 +128,8 @@ def main(words: Optional[Sequence[str]] = None) -> int:
     given = sys.argv[1:] if words is None else [*words]
     command = COMMANDS.get(given[0]) if given and not os.path.exists(given[0]) else None
     parser = parser_of_words() if command is None else command.parser()
-    asked = parser.parse_args(given if command is None else given[1:])
     try:
+        asked = _parsed(parser, given if command is None else given[1:])
         status, said = _ended(asked, command)
         if said:
             print(in_a_line(f"{parser.prog}: {said}"), file=sys.stderr)
@@ -142,6 +142,14 @@ def main(words: Optional[Sequence[str]] = None) -> int:
                 where = error.filename or "standard output"
                 print(in_a_line(f"{parser.prog}: write fault: {where}: {error.strerror}"), file=sys.stderr)
         return WRITE_FAULT
+
+
+def _parsed(parser: argparse.ArgumentParser, words: Sequence[str]) -> argparse.Namespace:
+    """What the words ask. What is said in place of that, such as the help, is said at once."""
+    try:
+        return parser.parse_args(words)
+    finally:
+        sys.stdout.flush()
 
 
 def _ended(asked: argparse.Namespace, command: Optional[Command]) -> tuple[int, str]:
@@ -179,7 +187,7 @@ def _done(asked: argparse.Namespace) -> int:
             raise WishError("two files are needed, IN and OUT, or --out FOLDER")
         if asked.log or asked.resume or asked.table or asked.recursive or asked.pattern:
             raise WishError("--log, --resume, --table, --recursive and --pattern go with --out FOLDER")
-        with beside([Path(asked.paths[1]), asked.report]):
+        with beside([asked.paths[1], asked.report]):
             return _single(asked, settings, program)
     if asked.lods:
         raise WishError("--lods goes with two files, IN and OUT")
@@ -203,7 +211,7 @@ def _take_names(asked: argparse.Namespace) -> None:
 def settings_of(asked: argparse.Namespace) -> Settings:
     """What the words of a command line ask. Raises a `WishError` for what does not go together."""
     return Settings(
-        scale=asked.scale, faces=asked.faces, share=shares_of(asked.lods)[0] if asked.lods else None,
+        scale=asked.scale, faces=asked.faces, share=None if asked.lods is None else shares_of(asked.lods)[0],
         edge=None if asked.edge is None else as_length(asked.edge), within=asked.within, mode=asked.mode,
         size=asked.size, density=asked.density, region=asked.region, floor=asked.floor, weight=asked.weight,
         sharp=asked.sharp, keep=tuple(asked.keep_edges or ()), corners=asked.corners, coarse=asked.coarse,
@@ -220,7 +228,7 @@ def refuse_missing(settings: Settings, program: Program) -> None:
 
 
 def _single(asked: argparse.Namespace, settings: Settings, program: Program) -> int:
-    source, out = map(Path, asked.paths)
+    source, out = asked.paths
     refuse_format(out, settings.form)
     pages = _refuse_clashes(asked, source, out, settings)
     progress = Progress(is_quiet=asked.quiet)

@@ -64,8 +64,8 @@ def write_blocks(
     target = file_named(path)
     writers: dict[str, Callable[[Path, Blocks, Optional[float]], tuple[str, ...]]] = {
         VTK: _write_vtk, PLOT3D: _write_plot3d, CGNS: write_cgns}
-    if thickness is not None and not thickness > 0:
-        raise WishError(f"the thickness is a length above 0, and not {thickness}")
+    if thickness is not None and not 0 < thickness < float(FAR):
+        raise WishError(f"the thickness is a length above 0 and below {FAR:f}, and not {thickness}")
     if target.name == FOAM:
         text, said = foam_text(blocks, thickness)
         make_folder(target.parent)

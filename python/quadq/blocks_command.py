@@ -4,7 +4,6 @@ from __future__ import annotations
 
 import argparse
 import sys
-from pathlib import Path
 
 from .block_files import write_blocks
 from .blocks import blocks
@@ -39,7 +38,7 @@ def write_asked(asked: argparse.Namespace) -> int:
     with nothing_stale([target], source):
         mesh, _ = read_file(source, program)
         found = blocks(mesh, asked.by, keep=asked.keep, patches=asked.patches, program=program)
-        said = write_blocks(asked.target, found, asked.thickness)
+        said = write_blocks(target, found, asked.thickness)
     if not asked.quiet:
         print(f"{len(found)} blocks, {sum(it.wide * it.high for it in found)} faces, "
               f"{sum(1 for _ in found.joins())} joins; walls: {', '.join(found.names) or 'none'}")

@@ -2,16 +2,20 @@
 
 from __future__ import annotations
 
+import io
+import stat
 import warnings
 from dataclasses import replace
 from pathlib import Path
-from typing import Optional
+from typing import Optional, Union
 
 import numpy as np
 
 from .arrays import Array
 from .backgrounds import is_background, read_background
+from .carried import carried
 from .errors import WishError
+from .files import read_whole
 from .incoming import GROUP
 from .local import Local
 from .mesh import Mesh
@@ -132,9 +136,14 @@ def _colour(mesh: Mesh, name: str, what: str) -> Array:
 
 def _numbers(mesh: Mesh, path: Path, what: str) -> Array:
     try:
+        # A device may have no end.
+        is_long = stat.S_ISCHR(path.stat().st_mode) or stat.S_ISFIFO(path.stat().st_mode)
+        file: Union[Path, io.BytesIO] = path
+        if is_long:
+            file = io.BytesIO(read_whole(path, carried("obj_text").MAX_BYTES))
         with warnings.catch_warnings():
             warnings.simplefilter("ignore", UserWarning)
-            return np.asarray(np.load(path) if path.suffix == ".npy" else np.loadtxt(path), dtype=float).ravel()
+            return np.asarray(np.load(file) if path.suffix == ".npy" else np.loadtxt(file), dtype=float).ravel()
     except (OSError, ValueError, EOFError) as error:
         fields = ", ".join(mesh.point_fields)
         has = f"; the fields of its points are {fields}" if fields else ""

@@ -18,10 +18,9 @@ from .settings import Settings, as_scale_wish
 
 def shares_of(words: str) -> tuple[Fraction, ...]:
     """The parts of the faces that are named: `1/2,1/4,1/8`. Raises a `WishError` for other words."""
-    shares = tuple(as_scale_wish(it) for it in words.split(",") if it.strip())
-    if not shares:
+    if not all(it.strip() for it in words.split(",")):
         raise WishError("levels of detail are parts of the faces, such as 1/2,1/4,1/8")
-    return shares
+    return tuple(as_scale_wish(it) for it in words.split(","))
 
 
 def path_of(target: Path, level: int) -> Path:

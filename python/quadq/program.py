@@ -105,6 +105,10 @@ class Program:
     halt: Optional[Halt] = None
     """What ends its runs from another thread."""
 
+    def __post_init__(self) -> None:
+        # A name without a folder would be looked for on the PATH, where another program may have it.
+        object.__setattr__(self, "path", Path(os.path.abspath(self.path)))
+
     def within(self, seconds: Optional[float]) -> Program:
         """The same program, whose runs have so much time together from now on. Raises a `WishError` for no time."""
         refuse_time(seconds)

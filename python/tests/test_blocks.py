@@ -226,6 +226,12 @@ class Files(unittest.TestCase):
         self.assertIn("outlet_2", said[0])
         self.assertRegex(self.foam(drum())[0], r"front\n +\{\n +type patch;")
 
+    def test_thicknesses_that_are_none(self):
+        for thickness in (0.0, -1.0, float("nan"), float("inf"), 1e9):
+            with self.assertRaises(WishError):
+                write_blocks(self.room / "a.vtm", quadq.blocks(named_plate()), thickness)
+        self.assertEqual([*self.room.iterdir()], [])
+
     def test_cells_that_a_thickness_turns_inside_out_are_said(self):
         narrow = quadq.Mesh.of_quads(drum(24, 2).points[:, [0, 2, 1]], drum(24, 2).quads)
         for name in ("a.vtm", "a.xyz", "system/blockMeshDict"):

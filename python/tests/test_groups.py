@@ -8,7 +8,7 @@ import numpy as np
 from quadq import Mesh, Names, remesh
 from quadq.groups import chains_of, edges_by_group, length_of
 
-from .shapes import grid, plate
+from .shapes import grid, plate, written_by
 
 
 def sides_of(mesh: Mesh, low, high):
@@ -54,7 +54,7 @@ class Groups(unittest.TestCase):
         for scale in ("1/2", "3/2", "2/1"):
             result = remesh(mesh, scale=scale)
             self.assertBack(mesh, result.mesh, 0.01)
-            self.assertEqual(result.report.command, "remesh", "nothing but the boundary had to stay")
+            self.assertEqual(result.report.marks, "", "nothing but the boundary had to stay")
             self.assertTrue(result.mesh.is_grouped)
 
     def test_names_that_change_in_the_middle_of_a_side(self):
@@ -63,9 +63,10 @@ class Groups(unittest.TestCase):
         mesh = grouped(mesh, {"inlet": bottom[:5], "wall": bottom[5:]})
         result = remesh(mesh, scale="1/2")
         self.assertBack(mesh, result.mesh)
-        self.assertEqual(result.report.command, "crease")
+        self.assertEqual(result.report.command, written_by("crease"))
+        self.assertNotEqual(result.report.marks, "")
         moved = remesh(mesh, scale="1/2", free_groups=True)
-        self.assertEqual(moved.report.command, "remesh")
+        self.assertEqual((moved.report.command, moved.report.marks), (written_by("remesh"), ""))
         self.assertNotEqual(lengths(moved.mesh), lengths(mesh))
         self.assertIn("group-length", [it.kind for it in moved.report.notices])
 
