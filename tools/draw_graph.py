@@ -58,7 +58,7 @@ def read_lengths(path):
     """The lengths of the arcs of the last certificate in a text that the program wrote."""
     lengths = []
     for line in pathlib.Path(path).read_text(encoding="utf-8").splitlines():
-        if line.startswith("#f "):
+        if line.startswith(("#f ", "#r ")):
             lengths = []
         elif line.startswith("#x "):
             lengths.append(int(line[3:]))

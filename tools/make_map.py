@@ -208,7 +208,7 @@ def read_written(text: str) -> Written:
     head = HEAD.match(text)
     if head is None:
         raise CarryError("the new mesh does not begin with the line of a command that writes one")
-    certificate = text[max(text.rfind("\n#f "), 0):]
+    certificate = text[max(text.rfind("\n#f "), text.rfind("\n#r "), 0):]
     lengths = [int(it) for it in re.findall(r"^#x (\d+)$", certificate, re.M)]
     return Written(int(head[1] or 0), lengths, re.findall(r"^v (.*)$", text, re.M))
 

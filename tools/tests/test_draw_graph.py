@@ -9,7 +9,7 @@ import unittest
 
 ROOT = pathlib.Path(__file__).resolve().parents[2]
 sys.path.insert(0, str(ROOT / "tools"))
-from draw_graph import read_mesh  # noqa: E402
+from draw_graph import read_lengths, read_mesh  # noqa: E402
 from layout_text import cut_options, patches_of, read_layout  # noqa: E402
 
 PROGRAM = os.environ.get("QUADQ", str(ROOT / "dist/quadq"))
@@ -76,6 +76,14 @@ class Drawing(unittest.TestCase):
         self.assertLessEqual(svg.count('<path class="c'), new.count("\nf "))
         self.assertIn("has 84 arcs, and the text 48", self.draw(LETTER, traced, "--written", new, status=1))
         self.assertIn("begins with `quadq layout 1`", self.draw(LETTER, "quadq graph 1\n", status=1))
+
+    def test_the_lengths_of_a_text_are_those_of_its_last_certificate(self):
+        with tempfile.TemporaryDirectory() as folder:
+            path = pathlib.Path(folder) / "out.obj"
+            for text, lengths in (("#x 1\n#x 2\n", [1, 2]), ("#f 1\n#x 1\n#x 2\n#f 3\n#x 3\n#x 4\n", [3, 4]),
+                                  ("#f 1\n#x 1\n#r 1 2\n#x 2\n#y 0 0\n#r 1 3\n#x 3\n#y 0 0\n", [3])):
+                path.write_text(text)
+                self.assertEqual(read_lengths(path), lengths)
 
     def test_the_cut_of_a_text(self):
         for head, kept, patches in (
