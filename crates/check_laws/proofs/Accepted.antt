@@ -5,11 +5,11 @@ use Rattle.std.proofs.Math.Seq.{take-append_seam}
 use Rattle.std.proofs.lemmas.Bool.{and_parts, eq-eqb, eqb-true, false_from_ne_true, false≢true}
 use Rattle.std.proofs.lemmas.List.{get_or-append-add}
 use Rattle.std.specs.{Prelude.codes, Prelude.nat_eq, List.filter, List.starts_with}
-use Rattle.def_certtext.specs.{CertLines.line_text, CertLines.Certificates, HeadLine.begins_head, HeadLine.head_line}
-use Rattle.def_certtext.specs.{HeadLine.IsLastLine, Reading.is_hash_line, Reading.TellHow, declared.CertLine.CertLine}
+use Rattle.def_certtext.specs.{CertLines.line_text, HeadLine.begins_head, HeadLine.head_line, HeadLine.IsLastLine}
+use Rattle.def_certtext.specs.{Reading.is_hash_line, Reading.TellHow, declared.CertLine.CertLine}
 use Rattle.def_certtext.specs.declared.CertLine.TheVariants.{Length, Vertex}
 use Rattle.def_certtext.specs.declared.CertLine.TheVariants.{Set, Floor}
-use Rattle.def_certtext.specs.Settings.{AreInRange}
+use Rattle.def_certtext.specs.{declared.CertLine.TheVariants.Rise as rise_line, Settings.AreInRange}
 use Rattle.def_flow.specs.declared.net.Settings.{Settings}
 use Rattle.def_io.specs.{Bytes.Bytes, Bytes.Lines, Lines.lines_of}
 use Rattle.def_recheck.specs.Accepting.{AcceptsLaw}
@@ -30,6 +30,7 @@ cert_begins (Length n) = refl
 cert_begins (Vertex number up) = refl
 cert_begins (Set number up) = refl
 cert_begins (Floor floor) = refl
+cert_begins (rise_line rise) = refl
 
 -- Nor does a line without a mark begin with one.
 pub plain_begins : (rest line : Bytes) → is_hash_line line ≡ false → starts_with nat_eq line (HASH ∷ rest) ≡ false
@@ -90,12 +91,6 @@ line_behind : (lines : Lines) (k : ℕ) → get_or lines (suc k) [] ≡ get_or (
 line_behind [] k = refl
 line_behind (line ∷ lines) k = refl
 
--- The settings with which a text was made.
-made_settings : (settings : Settings) (auto : Bool) (certificates : Certificates)
-    → ((made_by settings auto certificates).settings ≡ settings) × ((made_by settings auto certificates).auto ≡ auto)
-made_settings settings true certificates = (refl, refl)
-made_settings settings false certificates = (refl, refl)
-
 -- Behind the text of a mesh the text of a remesh begins with its head line, and no line behind that passes such a test.
 module _ (settings : Settings) (auto : Bool) (old text : Bytes) (soup : FaceSet) (range : AreInRange settings auto)
     (ends : ends_line old ≡ true) (solid : IsSolid soup)
@@ -115,10 +110,7 @@ module _ (settings : Settings) (auto : Bool) (old text : Bytes) (soup : FaceSet)
   pub head_there : get_or (lines_of (old ++ text)) (length (lines_of old)) [] ≡ head_line settings auto
   head_there =
       let same : length (lines_of old) ≡ length (lines_of old) + 0 = omega arith in
-      let is_made = made_settings settings auto is.finished.certificates in
-      ap (λ n. get_or (lines_of (old ++ text)) n []) same ∙ (place 0 ∙ (tells.settings.written ∙ (ap
-      (λ (s : Settings). head_line s (made_by settings auto is.finished.certificates).auto) is_made.0
-      ∙ ap (head_line settings) is_made.1)))
+      ap (λ n. get_or (lines_of (old ++ text)) n []) same ∙ (place 0 ∙ tells.settings.written)
 
   module _ (begins_so : Bytes → Bool) (test : IsHeadTest begins_so) where
     begins : begins_so (get_or (lines_of (old ++ text)) (length (lines_of old)) []) ≡ true
@@ -140,8 +132,8 @@ module _ (settings : Settings) (auto : Bool) (old text : Bytes) (soup : FaceSet)
         ap (λ n. begins_so (get_or (lines_of (old ++ text)) n [])) (sym at)
         ∙ (ap begins_so (place (suc (k - length (lines_of old) - 1))
         ∙ line_behind (lines_of text) (k - length (lines_of old) - 1))
-        ∙ none_begins begins_so test (drop 1 (lines_of text)) tells.said tells.texts (k - length (lines_of old) - 1)
-        within)
+        ∙ none_begins begins_so test (drop 1 (lines_of text)) tells.certificates.said tells.certificates.texts
+        (k - length (lines_of old) - 1) within)
 
     pub last_line : IsLastLine begins_so (lines_of (old ++ text)) (length (lines_of old))
     last_line = record {

@@ -1,5 +1,6 @@
 -- What is written reads back: the head line and the certificate lines of a written text are those that it was made of.
-use Rattle.std.specs.Prelude.{◌≡◌, ◌^◌, ◌↔◌, ℕ, Bool, true, false, IsTrue, List, [], ◌∷◌, ◌++◌, drop, slice_index_or}
+use Rattle.std.specs.Prelude.{◌≡◌, ◌^◌, ◌<◌, ◌↔◌, Bool, true, IsTrue, List, [], ◌∷◌, ◌++◌, drop, length, map}
+use Rattle.std.specs.Prelude.{slice_index_or}
 use Rattle.std.specs.List.{list_all}
 use Rattle.def_io.specs.Bytes.{Bytes}
 use Rattle.def_io.specs.Lines.{lines_of}
@@ -9,12 +10,15 @@ use Rattle.def_text.specs.Canonical.{canonical_text}
 use Rattle.def_text.specs.FaceSet.{FaceSet}
 use Rattle.def_text.specs.Laws.{is_position, is_quad}
 use Rattle.def_flow.specs.declared.net.Settings.{Settings}
-use Rattle.def_certtext.specs.CertLines.{alone, raised, said_by, text_of, Certificates, HasUps, Lists}
+use Rattle.def_certtext.specs.CertLines.{alone, raised, risen, said_by, text_of, used, Certificates, HasUps, Lists}
 use Rattle.def_certtext.specs.HeadLine.{head_line}
-use Rattle.def_certtext.specs.Reading.{may_stand, Made, TellHow}
+use Rattle.def_certtext.specs.Reading.{may_stand, may_tell, Made, TellHow}
+use Rattle.def_certtext.specs.Risings.{third_if}
 use Rattle.def_certtext.specs.Settings.{AreInRange}
 use Rattle.def_certtext.specs.declared.CertLine.{CertLine}
-use Rattle.def_certtext.specs.declared.CertLine.TheVariants.{Floor}
+use Rattle.def_certtext.specs.declared.CertLine.TheVariants.{Floor, Rise as rise_line}
+use Rattle.def_certtext.specs.declared.certs.Rising.{Rising}
+use Rattle.def_certtext.specs.declared.certs.Rising.TheVariants.{Never, Third, Rounds}
 
 -- A mesh that can be written: its numbers are those of the types of a soup.
 pub record IsPrintable (soup : FaceSet) : Type 0 where
@@ -25,42 +29,41 @@ pub record IsPrintable (soup : FaceSet) : Type 0 where
 -- A certificate that can be written: its lines may stand, and each vertex and each set has its `up`.
 pub record IsWritableCert (lists : Lists) : Type 0 where
   pub ups : HasUps lists
-  pub allowed : list_all (may_stand false) (said_by lists) ≡ true
+  pub allowed : list_all (may_stand Never) (said_by lists) ≡ true
 
--- So can each of these.
-abbrev pub AreWritable : (certificates : Certificates) → Type 0
-AreWritable (alone cert) = IsWritableCert cert
-AreWritable (raised first cert) = IsWritableCert first × IsWritableCert cert
+-- Certificates that can be written where floors rise so: those of a round have lengths, and some floors rise behind it.
+abbrev pub AreWritable : (rising : Rising) (certificates : Certificates) → Type 0
+AreWritable rising (alone cert) = IsWritableCert cert
+AreWritable rising (raised first cert) = (rising ≡ Third) × IsWritableCert first × IsWritableCert cert
+AreWritable rising (risen first rises after) =
+    (rising ≡ Rounds) × IsWritableCert first × (0 < length first.x) × (0 < length rises)
+    × (list_all (may_tell Rounds) rises ≡ true) × AreWritable rising after
 
--- The head line, the mesh and the lines of a certificate.
-abbrev pub written_text : (settings : Settings) (auto : Bool) (soup : FaceSet) (said : List CertLine) → Bytes
-written_text settings auto soup said = head_line settings auto ++ LINE_FEED ∷ (canonical_text soup ++ text_of said)
-
--- The lines of two certificates, where floor 3 was used, or of the one for floor 1.
+-- The lines of certificates behind the line that names the first floor.
 abbrev pub chosen_lines : (certificates : Certificates) → List CertLine
-chosen_lines (alone cert) = Floor 1 ∷ said_by cert
-chosen_lines (raised first cert) = (Floor 1 ∷ said_by first) ++ Floor 3 ∷ said_by cert
+chosen_lines (alone cert) = said_by cert
+chosen_lines (raised first cert) = said_by first ++ Floor 3 ∷ said_by cert
+chosen_lines (risen first rises after) = said_by first ++ (map rise_line rises ++ chosen_lines after)
 
--- How a text of a chosen floor was made.
-abbrev pub chosen : (settings : Settings) (certificates : Certificates) → Made
-chosen settings certificates = record { settings = settings; auto = true; certificates = certificates }
+-- The lines of certificates: where floors rise, they begin with the floor of the first.
+abbrev pub certificate_lines : (rising : Rising) (certificates : Certificates) → List CertLine
+certificate_lines Never certificates = said_by (used certificates)
+certificate_lines _ certificates = Floor 1 ∷ chosen_lines certificates
+
+-- A text of a mesh and certificates, behind some head line.
+abbrev pub made_text : (head : Bytes) (rising : Rising) (soup : FaceSet) (certificates : Certificates) → Bytes
+made_text head rising soup certificates =
+    head ++ LINE_FEED ∷ (canonical_text soup ++ text_of (certificate_lines rising certificates))
 
 -- A text whose first line is the head line tells that it was made so, and not otherwise.
 abbrev pub TellsOnly : (text : Bytes) (made : Made) → Type 0
 TellsOnly text made =
     (other : Made) → TellHow (slice_index_or (lines_of text) 0 []) (drop 1 (lines_of text)) other ↔ (other ≡ made)
 
--- A text of a given floor tells its settings and its certificate, and no others.
+-- The text of a remesh tells its settings and its certificates, and no others.
 abbrev pub WrittenLaw : Type 0
 WrittenLaw =
-    (settings : Settings) (soup : FaceSet) (cert : Lists) → AreInRange settings false → IsPrintable soup
-    → IsWritableCert cert
-    → TellsOnly (written_text settings false soup (said_by cert))
-    (record { settings = settings; auto = false; certificates = alone cert })
-
--- A text of a chosen floor tells its settings and its certificates, and no others.
-abbrev pub ChosenLaw : Type 0
-ChosenLaw =
-    (settings : Settings) (soup : FaceSet) (certificates : Certificates) → AreInRange settings true → IsPrintable soup
-    → AreWritable certificates
-    → TellsOnly (written_text settings true soup (chosen_lines certificates)) (chosen settings certificates)
+    (settings : Settings) (auto : Bool) (soup : FaceSet) (certificates : Certificates) → AreInRange settings auto
+    → IsPrintable soup → AreWritable (third_if auto) certificates
+    → TellsOnly (made_text (head_line settings auto) (third_if auto) soup certificates)
+    (record { settings = settings; auto = auto; certificates = certificates })

@@ -22,7 +22,7 @@ abbrev pub weight_text : (weight : Weight) → Bytes
 weight_text Plain = codes "plain"
 weight_text Length = codes "length"
 
--- A floor that may be asked for. `auto` begins with floor 1, and takes 3 where the lengths double an edge.
+-- A floor that may be asked for. `auto` begins with floor 1, which rises where the lengths double an edge.
 pub record IsFloor (floor : ℕ) (auto : Bool) : Type 0 where
   pub low : 1 ≤ floor
   pub high : floor ≤ MAX_FLOOR

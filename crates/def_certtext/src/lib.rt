@@ -3,8 +3,8 @@
 
 mod certs;
 
-pub use certs::{Certs, Rise};
-use def_flow::{Cert, Settings};
+pub use certs::{Certs, Rise, Rising, Round, Terms};
+use def_flow::Settings;
 use std::alloc::AllocError;
 use thiserror::Error;
 
@@ -20,6 +20,9 @@ pub const SET: u8 = b's';
 /// `f`, before the floor of the certificate that follows.
 pub const FLOOR: u8 = b'f';
 
+/// `r`, before an arc and the floor to which its floor rises.
+pub const RISE: u8 = b'r';
+
 /// What one line of a certificate says.
 #[derive(Clone, Copy, Debug, PartialEq, Eq)]
 pub enum CertLine {
@@ -31,6 +34,8 @@ pub enum CertLine {
     Set { number: i64, up: u32 },
     /// The lines of the certificate for this floor follow, in a text of `auto`.
     Floor { floor: u32 },
+    /// The floor of an arc rises, in a text of rounds.
+    Rise { rise: Rise },
 }
 
 /// What a remesh was asked for. With `auto` the floor of the settings is 1.
@@ -40,14 +45,11 @@ pub struct Asked {
     pub auto: bool,
 }
 
-/// What a written text says of how it was made. `first` is the certificate for floor 1, where floor 3 was used because
-/// the lengths for floor 1 double an edge; then `auto` holds.
+/// What a written text says of how it was made.
 #[derive(Debug, Drop)]
 pub struct Written {
-    pub settings: Settings,
-    pub auto: bool,
-    pub first: Option<Cert>,
-    pub cert: Cert,
+    pub asked: Asked,
+    pub certs: Certs,
 }
 
 /// Why the lines are no text of a certificate. Lines count from 1.

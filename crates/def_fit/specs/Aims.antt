@@ -1,6 +1,7 @@
 -- What the new lengths of arcs aim at.
-use Rattle.std.specs.Prelude.{◌≤◌, ◌≤ℤ◌, ℕ, false, List, pos, slice_index_or, unsigned_abs, ⊤}
-use Rattle.def_flow.specs.declared.limits.TheConstants.{MAX_FLOOR}
+use Rattle.std.specs.Prelude.{◌≤◌, ◌≤ℤ◌, ℕ, List, pos, slice_index_or, unsigned_abs, ⊤}
+use Rattle.def_certtext.specs.Settings.{IsFloor}
+use Rattle.def_certtext.specs.declared.certs.Rising.{Rising}
 use Rattle.def_flow.specs.declared.net.Settings.{Settings}
 use Rattle.def_layout.specs.Arcs.{path_at}
 use Rattle.def_layout.specs.Plans.{Plan}
@@ -61,13 +62,14 @@ IsAim Wishes = ⊤
 -- A fit that may be asked for.
 pub record IsFit (fit : Fit) : Type 0 where
   pub aim : IsAim fit.aim
-  pub low : 1 ≤ fit.floor
-  pub high : fit.floor ≤ MAX_FLOOR
+  pub floor : IsFloor fit.floor fit.auto
 
 -- Why a layout is not remeshed with these wishes: want of memory says nothing of them.
-abbrev pub IsFitFail : (aim : Aim) (wish : Wish) (plan : Plan) (settings : Settings) (fail : SizeFail) → Type 0
-IsFitFail aim wish plan settings (sizes.Far sum) = (¬ AreAimedNear aim wish plan) × IsFar wish plan settings sum
-IsFitFail aim wish plan settings (sizes.Layout (layouts.Tangled count)) = IsTangledAt wish plan settings count
-IsFitFail aim wish plan settings (sizes.Layout layouts.Memory) = ⊤
-IsFitFail aim wish plan settings (sizes.Layout failed) =
-    AreAimedNear aim wish plan × IsLayoutFail wish plan settings false failed
+abbrev pub IsFitFail :
+    (aim : Aim) (wish : Wish) (plan : Plan) (settings : Settings) (rising : Rising) (fail : SizeFail) → Type 0
+IsFitFail aim wish plan settings rising (sizes.Far sum) =
+    (¬ AreAimedNear aim wish plan) × IsFar wish plan settings sum
+IsFitFail aim wish plan settings rising (sizes.Layout (layouts.Tangled count)) = IsTangledAt wish plan settings count
+IsFitFail aim wish plan settings rising (sizes.Layout layouts.Memory) = ⊤
+IsFitFail aim wish plan settings rising (sizes.Layout failed) =
+    AreAimedNear aim wish plan × IsLayoutFail wish plan settings rising failed

@@ -1,6 +1,7 @@
 -- What `fit` asks of a mesh, with what the lines of its text say.
-use Rattle.std.specs.Prelude.{ℕ, Bool, false, List, [], Option, Some, None, Result, Ok, Err}
+use Rattle.std.specs.Prelude.{ℕ, Bool, List, [], Option, Some, None, Result, Ok, Err}
 use Rattle.std.specs.Result.{result_map_both}
+use Rattle.def_certtext.specs.Risings.{rounds_if}
 use Rattle.def_io.specs.Bytes.{Bytes}
 use Rattle.def_layout.specs.Lengths.{Lengths}
 use Rattle.def_layout.specs.Plans.{Plan}
@@ -16,7 +17,7 @@ use Rattle.def_fit.specs.FitWords.{fit_head}
 use Rattle.def_fit.specs.Shares.{shares_of}
 use Rattle.def_fit.specs.WishLines.{wishes_in}
 use Rattle.def_fit.specs.declared.fit.Aim.{Aim}
-use Rattle.def_fit.specs.declared.fit.Aim.TheVariants.{Scale, Edge, Wishes}
+use Rattle.def_fit.specs.declared.fit.Aim.TheVariants.{Wishes}
 use Rattle.def_fit.specs.declared.fit.Fit.{Fit}
 
 -- What the lines of a text say beside its mesh: the marks that are kept, if any are, and a wish for each dart, if they
@@ -57,7 +58,7 @@ fit_task fit soup asides cut = record {
   marks = cut;
   wish = aimed fit.aim soup asides.wishes;
   settings = fit_settings fit;
-  auto = false;
+  rising = rounds_if fit.auto;
   head = fit_head fit;
   between = kept_text asides.kept;
   shares = shares_of fit soup asides.wishes cut;

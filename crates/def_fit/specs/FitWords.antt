@@ -1,6 +1,6 @@
 -- The words of a fit, as options and as a head line.
 use Rattle.std.specs.Prelude.{◌≡◌, ◌≤ℤ◌, ℤ, ◌∷◌, ◌++◌, codes, decimal, pos}
-use Rattle.def_certtext.specs.Settings.{weight_text}
+use Rattle.def_certtext.specs.Settings.{floor_text, weight_text}
 use Rattle.def_io.specs.Bytes.{Bytes}
 use Rattle.def_patches.specs.declared.Keep.{Keep}
 use Rattle.def_patches.specs.declared.Keep.TheVariants as keeps
@@ -43,7 +43,7 @@ aim_text Wishes = codes "lines"
 abbrev pub fit_head : (fit : Fit) → Bytes
 fit_head fit =
     codes "#quadq 1 fit keep " ++ keep_word fit.keep ++ codes " patches " ++ patches_word fit.patches
-    ++ codes " aim " ++ aim_text fit.aim ++ codes " floor " ++ decimal fit.floor
+    ++ codes " aim " ++ aim_text fit.aim ++ codes " floor " ++ floor_text fit.floor fit.auto
     ++ codes " weight " ++ weight_text fit.weight ++ codes " spacing " ++ spacing_word fit.spacing
 
 -- The word is a decimal with so many millionths, at least one.
@@ -61,7 +61,7 @@ pub record AreFitWords (keep patches aim floor weight spacing : Word) (fit : Fit
   pub kept : keep ≡ keep_word fit.keep
   pub cut : patches ≡ patches_word fit.patches
   pub aimed : IsAimWord aim fit.aim
-  pub bounded : floor ≡ decimal fit.floor
+  pub bounded : floor ≡ floor_text fit.floor fit.auto
   pub weighed : weight ≡ weight_text fit.weight
   pub spaced : spacing ≡ spacing_word fit.spacing
   pub in_range : IsFit fit

@@ -28,13 +28,14 @@ pub enum Spacing {
 }
 
 /// A cut, what the lengths of its arcs aim at, the least length of an arc, how arcs are weighed, and how their new
-/// points are spaced.
+/// points are spaced. With `auto` the floor is 1, and rises for the arcs along doubled edges.
 #[derive(Clone, Copy, Debug, PartialEq, Eq)]
 pub struct Fit {
     pub keep: Keep,
     pub patches: Patches,
     pub aim: Aim,
     pub floor: u32,
+    pub auto: bool,
     pub weight: Weight,
     pub spacing: Spacing,
 }

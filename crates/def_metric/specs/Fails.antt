@@ -1,5 +1,6 @@
 -- Why a layout is not remeshed with edges of a given length.
-use Rattle.std.specs.Prelude.{◌≡◌, ℕ, ◌<◌, ◌≤◌, false, ⊤}
+use Rattle.std.specs.Prelude.{◌≡◌, ℕ, ◌<◌, ◌≤◌, ⊤}
+use Rattle.def_certtext.specs.declared.certs.Rising.TheVariants.{Never}
 use Rattle.def_flow.specs.declared.net.Settings.{Settings}
 use Rattle.def_layout.specs.Plans.{Plan}
 use Rattle.def_layoutnet.specs.declared.NetFail.{NetFail}
@@ -41,4 +42,4 @@ IsSizeFail wish plan floor (sizes.Far sum) = IsFar wish plan (edge_settings floo
 IsSizeFail wish plan floor (sizes.Layout (layouts.Tangled count)) = IsTangledAt wish plan (edge_settings floor) count
 IsSizeFail wish plan floor (sizes.Layout layouts.Memory) = ⊤
 IsSizeFail wish plan floor (sizes.Layout failed) =
-    AreNear wish plan × IsLayoutFail wish plan (edge_settings floor) false failed
+    AreNear wish plan × IsLayoutFail wish plan (edge_settings floor) Never failed

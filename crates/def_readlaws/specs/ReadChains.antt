@@ -3,6 +3,7 @@ use Rattle.std.specs.Prelude.{◌∷◌, Bool, ◌≡◌, ◌+◌, ◌<◌, ◌�
 use Rattle.std.specs.List.{filter, flat_map, list_all, range_with_len}
 use Rattle.def_certtext.specs.CertLines.{used}
 use Rattle.def_certtext.specs.Reading.{is_hash_line}
+use Rattle.def_certtext.specs.Risings.{may_rise}
 use Rattle.def_certtext.specs.Settings.{AreInRange}
 use Rattle.def_feature.specs.Marks.{AreMarks}
 use Rattle.def_io.specs.Bytes.{Bytes}
@@ -46,7 +47,7 @@ pub record AreNewChains (plan : Plan) (new : Lengths) : Type 0 where
 -- them.
 abbrev pub FinishedChainsLaw : Type 0
 FinishedChainsLaw = (command : Command) (bytes text : Bytes) (wrote : WritesFinished (asks_of command) bytes text)
-    → AreInRange wrote.task.settings wrote.task.auto
+    → AreInRange wrote.task.settings (may_rise wrote.task.rising)
     → AreNewChains wrote.shown.finished.plan (lengths_in (used wrote.shown.finished.certificates).x)
 
 -- The line of a chain says this chain, where it is read behind the text of a mesh whose vertices are numbered from 1,
@@ -87,7 +88,7 @@ marked_arc_chains marks plan new =
 -- are read as the marks along the chains of these arcs. Its head line begins with `#`.
 abbrev pub FinishedMarksLaw : Type 0
 FinishedMarksLaw = (command : Command) (bytes text : Bytes) (marks : List Bool)
-    (wrote : WritesFinished (asks_of command) bytes text) → AreInRange wrote.task.settings wrote.task.auto
+    (wrote : WritesFinished (asks_of command) bytes text) → AreInRange wrote.task.settings (may_rise wrote.task.rising)
     → AreHashLines (wrote.task.head ++ LINE_FEED ∷ []) → wrote.task.between ≡ marked_text marks
     → soup_in text ≡ Ok (finished_soup wrote.task wrote.soup text wrote.shown.finished)
     → marks_in text (finished_soup wrote.task wrote.soup text wrote.shown.finished)

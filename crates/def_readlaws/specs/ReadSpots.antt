@@ -1,6 +1,7 @@
 -- Where the vertices of a new mesh lie in the mesh of bytes that are read.
 use Rattle.std.specs.Prelude.{◌≡◌, ◌<◌, ℕ, Bool, List, [], Option, None, slice_index_or}
 use Rattle.def_certtext.specs.CertLines.{used}
+use Rattle.def_certtext.specs.Risings.{may_rise}
 use Rattle.def_certtext.specs.Settings.{AreInRange}
 use Rattle.def_cut.specs.FullCut.{IsFullCut}
 use Rattle.def_io.specs.Bytes.{Bytes}
@@ -45,6 +46,6 @@ RefinedSpotsLaw = (by : ℕ) (bytes text : Bytes) → 0 < by → (wrote : Writes
 -- So it is in the one that a command wrote which finds least lengths.
 abbrev pub FinishedSpotsLaw : Type 0
 FinishedSpotsLaw = (command : Command) (bytes text : Bytes) (wrote : WritesFinished (asks_of command) bytes text)
-    → AreInRange wrote.task.settings wrote.task.auto
+    → AreInRange wrote.task.settings (may_rise wrote.task.rising)
     → AreSpots wrote.soup wrote.shown.finished.plan wrote.task.shares
     (lengths_in (used wrote.shown.finished.certificates).x)

@@ -1,13 +1,13 @@
 -- What shows that lengths are least: certificates that are accepted.
-use Rattle.std.specs.Prelude.{Bool}
 use Rattle.def_certtext.specs.CertLines.{Certificates, Lists}
+use Rattle.def_certtext.specs.declared.certs.Rising.{Rising}
 use Rattle.def_flow.specs.Accepted.{Certificate, IsAccepted}
 use Rattle.def_flow.specs.declared.net.Settings.{Settings}
 use Rattle.def_io.specs.Bytes.{Bytes}
 use Rattle.def_layout.specs.Lengths.{Lengths}
 use Rattle.def_layout.specs.Plans.{Plan}
 use Rattle.def_text.specs.FaceSet.{FaceSet}
-use Rattle.def_remesh.specs.Remeshed.{AreKeptBy, HasLeastLengths, IsFinished}
+use Rattle.def_remesh.specs.Remeshed.{AreKeptBy, HasLeastLengths, IsDoublingBy, IsFinished}
 use Rattle.def_remesh.specs.Tasks.{given_floors, Task, Wish}
 
 -- The lists of a certificate, as the checker takes them. A text says four lists; the last three are the dual, which the
@@ -22,13 +22,17 @@ pub record IsCertified
   pub lengths : HasLeastLengths wish plan settings floors cert
   pub accepted : IsAccepted lengths.net (certificate_of cert)
 
+-- Such a certificate, whose lengths double an edge of a new mesh with few faces.
+abbrev pub IsDoubling : (wish : Wish) (plan : Plan) (settings : Settings) (floors : Lengths) (cert : Lists) → Type 0
+IsDoubling wish plan settings floors cert = IsDoublingBy (IsCertified wish plan settings) plan floors cert
+
 -- The accepted certificates of a remesh.
 abbrev pub AreKept :
-    (wish : Wish) (plan : Plan) (settings : Settings) (auto : Bool) (certificates : Certificates) → Type 0
-AreKept wish plan settings auto certificates =
-    AreKeptBy (IsCertified wish plan settings) plan (given_floors settings) auto certificates
+    (wish : Wish) (plan : Plan) (settings : Settings) (rising : Rising) (certificates : Certificates) → Type 0
+AreKept wish plan settings rising certificates =
+    AreKeptBy (IsCertified wish plan settings) plan (given_floors settings) rising certificates
 
 -- A task that is finished for a soup, as accepted certificates show.
 pub record IsShown (task : Task) (soup : FaceSet) (text : Bytes) : Type 0 where
   pub finished : IsFinished task soup text
-  pub certified : AreKept task.wish finished.plan task.settings task.auto finished.certificates
+  pub certified : AreKept task.wish finished.plan task.settings task.rising finished.certificates

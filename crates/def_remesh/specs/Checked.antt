@@ -1,6 +1,7 @@
 -- What `check` accepts: an old text, and behind it the text of a remesh of its mesh.
 use Rattle.std.specs.Prelude.{◌≡◌, ℕ, Bool, Ok, take, ◌++◌, codes, decimal}
 use Rattle.def_certtext.specs.HeadLine.{IsLastHead}
+use Rattle.def_certtext.specs.Risings.{third_if}
 use Rattle.def_certtext.specs.Settings.{AreInRange}
 use Rattle.def_flow.specs.declared.net.Settings.{Settings}
 use Rattle.def_io.specs.Bytes.{Bytes}
@@ -24,7 +25,7 @@ pub record IsCheckedPair (bytes : Bytes) : Type 0 where
   pub auto : Bool
   pub in_range : AreInRange settings auto
   pub remeshed : IsRemeshed settings auto soup (tail_of line bytes)
-  pub certified : AreKept old_lengths remeshed.plan settings auto remeshed.certificates
+  pub certified : AreKept old_lengths remeshed.plan settings (third_if auto) remeshed.certificates
 
 -- The line that is written then, with the numbers of arcs and of new faces, and the deviation of the used lengths.
 abbrev pub accepted_line : (arcs faces deviation : ℕ) → Bytes

@@ -1,6 +1,7 @@
 -- The network by which a layout is remeshed, and what is kept of it.
-use Rattle.std.specs.Prelude.{◌≡◌, ◌≤◌, ℕ, Bool}
+use Rattle.std.specs.Prelude.{◌≡◌, ◌≤◌, ℕ}
 use Rattle.def_certtext.specs.CertLines.{used, Certificates}
+use Rattle.def_certtext.specs.declared.certs.Rising.{Rising}
 use Rattle.def_flow.specs.Network.{Network, tangle_number, IsWithinBounds}
 use Rattle.def_flow.specs.declared.limits.TheConstants.{MAX_TANGLE}
 use Rattle.def_flow.specs.declared.net.Settings.{Settings}
@@ -34,9 +35,9 @@ IsNetFor wish plan settings net = IsNetWith wish plan settings (given_floors set
 -- The certificates of a remesh, and the numbers of the new mesh at the lengths that are used. It has no more faces than
 -- a new mesh may have, no edge of it is doubled, and it keeps the shape of the old one.
 pub record IsKept
-    (wish : Wish) (plan : Plan) (settings : Settings) (auto : Bool) (certificates : Certificates) (tables : Tables)
+    (wish : Wish) (plan : Plan) (settings : Settings) (rising : Rising) (certificates : Certificates) (tables : Tables)
     : Type 0 where
-  pub kept : AreKept wish plan settings auto certificates
+  pub kept : AreKept wish plan settings rising certificates
   pub coarse : AreCoarse plan (used certificates).x
   pub undoubled : IsUndoubled (layout_of plan) (lengths_in (used certificates).x)
   pub shape : KeepsShapes plan (lengths_in (used certificates).x)

@@ -1,6 +1,8 @@
 -- Why a layout is not remeshed, and which layouts are remeshed whatever least lists are kept.
-use Rattle.std.specs.Prelude.{◌≡◌, ◌<◌, ℕ, Bool, true, false, List, length, ⊤}
-use Rattle.def_certtext.specs.CertLines.{certificates_of, lists_of, used}
+use Rattle.std.specs.Prelude.{◌≡◌, ◌<◌, ℕ, List, length, ⊤}
+use Rattle.def_certtext.specs.CertLines.{certificates_of, lists_of, used, Certificates}
+use Rattle.def_certtext.specs.declared.certs.Rising.{Rising}
+use Rattle.def_certtext.specs.declared.certs.Rising.TheVariants.{Never}
 use Rattle.def_flow.specs.Admissible.{entries, IsLeast}
 use Rattle.def_flow.specs.Network.{Network}
 use Rattle.def_flow.specs.declared.cert.Cert.{Cert}
@@ -13,7 +15,7 @@ use Rattle.def_written.specs.Edges.{IsFirstDoubled, IsUndoubled}
 use Rattle.def_written.specs.NewFaces.{face_count}
 use Rattle.def_remesh.specs.NewPoints.{lengths_in}
 use Rattle.def_remesh.specs.Certified.{AreKept, IsCertified}
-use Rattle.def_remesh.specs.Remeshed.{AreCoarse}
+use Rattle.def_remesh.specs.Remeshed.{AreCoarse, AreKeptBy}
 use Rattle.def_remesh.specs.Tasks.{given_floors, old_lengths, Wish}
 use Rattle.def_remesh.specs.declared.kept.Kept.{Kept}
 use Rattle.def_remesh.specs.declared.kept.Kept.TheVariants.{Multiple, Least}
@@ -29,28 +31,32 @@ IsTangledAt wish plan settings count = IsTangled (layout_of plan) (old_lengths p
 abbrev pub AreTooFine : (plan : Plan) (lengths : List ℕ) (faces : ℕ) → Type 0
 AreTooFine plan lengths faces = (faces ≡ face_count (layout_of plan) (lengths_in lengths)) × (MAX_NEW_FACES < faces)
 
--- The kept lengths do so. They are shown to be least, and where they are for a higher floor the first ones, too, by
+-- The kept lengths do so. They are shown to be least, and where they are for floors that rose all before them, too, by
 -- accepted certificates.
-abbrev pub IsFineBy : (wish : Wish) (plan : Plan) (settings : Settings) (auto : Bool) (faces : ℕ) (kept : Kept) → Type 0
-IsFineBy wish plan settings auto faces (Multiple by) = ⊥
-IsFineBy wish plan settings auto faces (Least certs) =
-    AreKept wish plan settings auto (certificates_of certs) × AreTooFine plan (used (certificates_of certs)).x faces
+abbrev pub IsFineBy :
+    (wish : Wish) (plan : Plan) (settings : Settings) (rising : Rising) (faces : ℕ) (kept : Kept) → Type 0
+IsFineBy wish plan settings rising faces (Multiple by) = ⊥
+IsFineBy wish plan settings rising faces (Least certs) =
+    AreKept wish plan settings rising (certificates_of certs) × AreTooFine plan (used (certificates_of certs)).x faces
 
--- The kept lengths of a given floor double an edge, first at these vertices of the new mesh. With floor 3 none does.
-pub record IsDoubledBy (wish : Wish) (plan : Plan) (settings : Settings) (auto : Bool) (u v : ℕ) (cert : Cert) : Type
-    0 where
-  pub given : auto ≡ false
+-- The kept lengths double an edge, first at these vertices of the new mesh, where floors do not rise. With floor 3 none
+-- does.
+pub record IsDoubledBy
+    (wish : Wish) (plan : Plan) (settings : Settings) (rising : Rising) (u v : ℕ) (cert : Cert)
+    : Type 0 where
+  pub given : rising ≡ Never
   pub low : settings.floor < MAX_FLOOR
   pub certified : IsCertified wish plan settings (given_floors settings) (lists_of cert)
   pub coarse : AreCoarse plan cert.x.items
   pub pair : IsFirstDoubled (layout_of plan) (lengths_in cert.x.items) u v
 
 -- Why a layout is not remeshed with these settings. Want of memory says nothing of it.
-abbrev pub IsLayoutFail : (wish : Wish) (plan : Plan) (settings : Settings) (auto : Bool) (failed : LayoutFail) → Type 0
-IsLayoutFail wish plan settings auto (fail.Tangled count) = IsTangledAt wish plan settings count
-IsLayoutFail wish plan settings auto (fail.TooFine faces kept) = IsFineBy wish plan settings auto faces kept
-IsLayoutFail wish plan settings auto (fail.Doubled u v cert) = IsDoubledBy wish plan settings auto u v cert
-IsLayoutFail wish plan settings auto fail.Memory = ⊤
+abbrev pub IsLayoutFail :
+    (wish : Wish) (plan : Plan) (settings : Settings) (rising : Rising) (failed : LayoutFail) → Type 0
+IsLayoutFail wish plan settings rising (fail.Tangled count) = IsTangledAt wish plan settings count
+IsLayoutFail wish plan settings rising (fail.TooFine faces kept) = IsFineBy wish plan settings rising faces kept
+IsLayoutFail wish plan settings rising (fail.Doubled u v cert) = IsDoubledBy wish plan settings rising u v cert
+IsLayoutFail wish plan settings rising fail.Memory = ⊤
 
 -- A least list for a layout with these settings and floors: one length for each arc.
 pub record IsLeastFor
@@ -61,20 +67,21 @@ pub record IsLeastFor
   pub count : length lengths ≡ length plan.arcs
   pub least : IsLeast net (entries lengths)
 
--- No least list gives too many faces.
-abbrev pub AreAllCoarse : (wish : Wish) (plan : Plan) (settings : Settings) (floors : Lengths) → Type 0
-AreAllCoarse wish plan settings floors =
-    (lengths : List ℕ) → IsLeastFor wish plan settings floors lengths → AreCoarse plan lengths
+-- Whatever least lists are kept, with the floors that rise for them, those that are used give few faces.
+abbrev pub AreAllCoarse : (wish : Wish) (plan : Plan) (settings : Settings) (rising : Rising) → Type 0
+AreAllCoarse wish plan settings rising = (certificates : Certificates)
+    → AreKeptBy (λ floors cert. IsLeastFor wish plan settings floors cert.x) plan (given_floors settings) rising
+    certificates
+    → AreCoarse plan (used certificates).x
 
 -- No least list doubles an edge.
-abbrev pub AreAllUndoubled : (wish : Wish) (plan : Plan) (settings : Settings) (floors : Lengths) → Type 0
-AreAllUndoubled wish plan settings floors = (lengths : List ℕ) → IsLeastFor wish plan settings floors lengths
+abbrev pub AreAllUndoubled : (wish : Wish) (plan : Plan) (settings : Settings) → Type 0
+AreAllUndoubled wish plan settings =
+    (lengths : List ℕ) → IsLeastFor wish plan settings (given_floors settings) lengths
     → IsUndoubled (layout_of plan) (lengths_in lengths)
 
 -- A layout that is remeshed whatever least lists are kept. With floor 3 no edge is ever doubled.
-pub record IsRemeshable (wish : Wish) (plan : Plan) (settings : Settings) (auto : Bool) : Type 0 where
+pub record IsRemeshable (wish : Wish) (plan : Plan) (settings : Settings) (rising : Rising) : Type 0 where
   pub untangled : (count : ℕ) → ¬ IsTangledAt wish plan settings count
-  pub coarse : AreAllCoarse wish plan settings (given_floors settings)
-  pub raised : auto ≡ true → AreAllCoarse wish plan settings (λ arc. MAX_FLOOR)
-  pub undoubled : auto ≡ false → settings.floor < MAX_FLOOR
-      → AreAllUndoubled wish plan settings (given_floors settings)
+  pub coarse : AreAllCoarse wish plan settings rising
+  pub undoubled : rising ≡ Never → settings.floor < MAX_FLOOR → AreAllUndoubled wish plan settings

@@ -1,5 +1,5 @@
 -- What is made of a mesh that is remeshed: the cut, the lengths, the text and the shape.
-use Rattle.std.specs.Prelude.{◌≡◌, ◌≤◌, ◌∷◌, ◌++◌, ℕ, Bool, true, false, List, length, Option}
+use Rattle.std.specs.Prelude.{◌≡◌, ◌≤◌, ◌∷◌, ◌++◌, ℕ, Bool, List, length, Option}
 use Rattle.def_flow.specs.Admissible.{entries, IsLeast}
 use Rattle.def_flow.specs.Network.{Network, tangle_number}
 use Rattle.def_flow.specs.declared.limits.TheConstants.{MAX_FLOOR, MAX_TANGLE}
@@ -10,9 +10,10 @@ use Rattle.def_layout.specs.Lengths.{Lengths}
 use Rattle.def_layout.specs.Plans.{Plan, layout_of, vertex_at}
 use Rattle.def_layoutnet.specs.LayoutNet.{IsNetOf}
 use Rattle.def_layoutnet.specs.LayoutNetLaws.{AreOpposite}
-use Rattle.def_certtext.specs.CertLines.{alone, raised, said_by, text_of, used, Certificates, Lists}
-use Rattle.def_certtext.specs.Laws.{chosen_lines, IsWritableCert}
-use Rattle.def_certtext.specs.declared.CertLine.{CertLine}
+use Rattle.def_certtext.specs.CertLines.{alone, raised, risen, text_of, used, Certificates, Lists}
+use Rattle.def_certtext.specs.Laws.{certificate_lines, IsWritableCert}
+use Rattle.def_certtext.specs.declared.certs.Rising.{Rising}
+use Rattle.def_certtext.specs.declared.certs.Rising.TheVariants.{Third, Rounds}
 use Rattle.def_io.specs.declared.TheConstants.{LINE_FEED}
 use Rattle.def_text.specs.Canonical.{canonical_text}
 use Rattle.def_text.specs.FaceSet.{FaceSet}
@@ -21,6 +22,7 @@ use Rattle.def_written.specs.NewFaces.{face_count, new_faces}
 use Rattle.def_written.specs.Shape.{KeepsShape}
 use Rattle.def_remesh.specs.NewPoints.{lengths_in}
 use Rattle.def_remesh.specs.NewSoup.{spaced_soup}
+use Rattle.def_remesh.specs.Rises.{risen_floors, AreNeeded}
 use Rattle.def_remesh.specs.Tasks.{given_floors, old_lengths, remesh_task, Task, Wish}
 use Rattle.def_remesh.specs.declared.limits.TheConstants.{MAX_NEW_FACES}
 
@@ -46,30 +48,36 @@ AreCoarse plan lengths = face_count (layout_of plan) (lengths_in lengths) ≤ MA
 abbrev pub AreDoubled : (plan : Plan) (lengths : List ℕ) → Type 0
 AreDoubled plan lengths = (u v : ℕ) × IsDoubledAt (layout_of plan) (lengths_in lengths) u v
 
--- The certificates of a remesh, where this is known of one with its floors: one for those that are given. With `auto`,
--- where its lengths double an edge, there is another, with floor 3 for each arc.
-abbrev pub AreKeptBy : (fits : Lengths → Lists → Type 0) (plan : Plan) (floors : Lengths) (auto : Bool)
-    (certificates : Certificates) → Type 0
-AreKeptBy fits plan floors auto (alone cert) = fits floors cert
-AreKeptBy fits plan floors auto (raised first cert) = (auto ≡ true) × fits floors first × AreCoarse plan first.x
-    × AreDoubled plan first.x × fits (λ arc. MAX_FLOOR) cert
+-- A certificate of which this is known with its floors, and whose lengths double an edge of a new mesh with few faces.
+pub record IsDoublingBy (fits : Lengths → Lists → Type 0) (plan : Plan) (floors : Lengths) (cert : Lists) : Type 0 where
+  pub fit : fits floors cert
+  pub coarse : AreCoarse plan cert.x
+  pub doubled : AreDoubled plan cert.x
 
--- The lines of the certificates. With `auto` each stands behind the line that names its floor.
-abbrev pub certificate_lines : (auto : Bool) (certificates : Certificates) → List CertLine
-certificate_lines true certificates = chosen_lines certificates
-certificate_lines false certificates = said_by (used certificates)
+-- The certificates of a remesh, where this is known of one with its floors: one for those that are given. Where its
+-- lengths double an edge, floors may rise: there is another, with floor 3 for each arc, or there are those for the
+-- floors that rose by need.
+abbrev pub AreKeptBy : (fits : Lengths → Lists → Type 0) (plan : Plan) (floors : Lengths) (rising : Rising)
+    (certificates : Certificates) → Type 0
+AreKeptBy fits plan floors rising (alone cert) = fits floors cert
+AreKeptBy fits plan floors rising (raised first cert) =
+    (rising ≡ Third) × IsDoublingBy fits plan floors first × fits (λ arc. MAX_FLOOR) cert
+AreKeptBy fits plan floors rising (risen first rises after) =
+    (rising ≡ Rounds) × IsDoublingBy fits plan floors first × AreNeeded (layout_of plan) (lengths_in first.x) rises
+    × AreKeptBy fits plan (risen_floors rises floors) rising after
 
 -- The mesh at the lengths that are used, these lines behind it, and the lines of the certificates.
-abbrev pub text_behind_head : (between : Bytes) (auto : Bool) (soup : FaceSet) (plan : Plan)
+abbrev pub text_behind_head : (between : Bytes) (rising : Rising) (soup : FaceSet) (plan : Plan)
     (shares : Option (List ℕ)) (certificates : Certificates) → Bytes
-text_behind_head between auto soup plan shares certificates =
+text_behind_head between rising soup plan shares certificates =
     canonical_text (spaced_soup soup plan shares (lengths_in (used certificates).x))
-    ++ (between ++ text_of (certificate_lines auto certificates))
+    ++ (between ++ text_of (certificate_lines rising certificates))
 
 -- The whole text of a task.
 abbrev pub finished_text : (task : Task) (soup : FaceSet) (plan : Plan) (certificates : Certificates) → Bytes
 finished_text task soup plan certificates = task.head ++ LINE_FEED ∷
-    text_behind_head (task.between plan (lengths_in (used certificates).x)) task.auto soup plan task.shares certificates
+    text_behind_head (task.between plan (lengths_in (used certificates).x)) task.rising soup plan task.shares
+    certificates
 
 -- A task that is finished for a soup: a layout cuts its mesh into rectangular grids of the cut, each face once; the
 -- lengths are least; the text is that of the mesh with these lengths; and that mesh has the shape of the old one.
@@ -77,7 +85,7 @@ pub record IsFinished (task : Task) (soup : FaceSet) (text : Bytes) : Type 0 whe
   pub plan : Plan
   pub cut : IsCutLayout soup.faces task.marks plan
   pub certificates : Certificates
-  pub lengths : AreKeptBy (HasLeastLengths task.wish plan task.settings) plan (given_floors task.settings) task.auto
+  pub lengths : AreKeptBy (HasLeastLengths task.wish plan task.settings) plan (given_floors task.settings) task.rising
       certificates
   pub coarse : AreCoarse plan (used certificates).x
   pub undoubled : IsUndoubled (layout_of plan) (lengths_in (used certificates).x)

@@ -1,6 +1,8 @@
 -- What is asked of a mesh that is remeshed: its cut, the lengths that are wished for, and the frame of the text.
 use Rattle.std.specs.Prelude.{ℕ, Bool, List, [], Option, None}
 use Rattle.def_certtext.specs.HeadLine.{head_line}
+use Rattle.def_certtext.specs.Risings.{third_if}
+use Rattle.def_certtext.specs.declared.certs.Rising.{Rising}
 use Rattle.def_cut.specs.Traced.{traced_marks}
 use Rattle.def_flow.specs.declared.net.Settings.{Settings}
 use Rattle.def_io.specs.Bytes.{Bytes}
@@ -21,14 +23,14 @@ old_lengths plan = long_at plan.arcs
 abbrev pub given_floors : (settings : Settings) → Lengths
 given_floors settings arc = settings.floor
 
--- The cut of the mesh, the wished lengths with their settings, the shares of the darts by which new points are spaced,
--- the head line of the text, and the lines of the text between the new mesh and the certificates, for a layout with its
--- new lengths.
+-- The cut of the mesh, the wished lengths with their settings, how floors rise, the shares of the darts by which new
+-- points are spaced, the head line of the text, and the lines of the text between the new mesh and the certificates,
+-- for a layout with its new lengths.
 pub record Task : Type 0 where
   pub marks : List Bool
   pub wish : Wish
   pub settings : Settings
-  pub auto : Bool
+  pub rising : Rising
   pub shares : Option (List ℕ)
   pub head : Bytes
   pub between : (plan : Plan) (new : Lengths) → Bytes
@@ -39,7 +41,7 @@ remesh_task settings auto faces = record {
   marks = traced_marks faces;
   wish = old_lengths;
   settings = settings;
-  auto = auto;
+  rising = third_if auto;
   shares = None;
   head = head_line settings auto;
   between = λ plan new. [];

@@ -1,7 +1,7 @@
 -- What the text of a finished remesh tells.
-use Rattle.std.specs.Prelude.{◌≡◌, ◌↔◌, ◌≤◌, ◌+◌, Ok, length, Bool, true, false, [], drop, slice_index_or}
-use Rattle.def_certtext.specs.CertLines.{alone, used, Certificates}
-use Rattle.def_certtext.specs.Laws.{chosen, IsPrintable, TellsOnly}
+use Rattle.std.specs.Prelude.{◌≡◌, ◌↔◌, ◌≤◌, ◌+◌, Ok, length, Bool, [], drop, slice_index_or}
+use Rattle.def_certtext.specs.CertLines.{Certificates}
+use Rattle.def_certtext.specs.Laws.{IsPrintable, TellsOnly}
 use Rattle.def_certtext.specs.Reading.{Made, TellHow}
 use Rattle.def_certtext.specs.Settings.{AreInRange}
 use Rattle.def_flow.specs.declared.net.Settings.{Settings}
@@ -18,9 +18,7 @@ use Rattle.def_remesh.specs.Tasks.{remesh_task}
 
 -- How it was made, as its lines tell it.
 abbrev pub made_by : (settings : Settings) (auto : Bool) (certificates : Certificates) → Made
-made_by settings true certificates = chosen settings certificates
-made_by settings false certificates =
-    record { settings = settings; auto = false; certificates = alone (used certificates) }
+made_by settings auto certificates = record { settings = settings; auto = auto; certificates = certificates }
 
 -- A soup of quads whose numbers can be written, and whose faces are a mesh.
 pub record IsSolid (soup : FaceSet) : Type 0 where

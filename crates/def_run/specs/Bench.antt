@@ -1,6 +1,7 @@
 -- What `bench` means: it reads nothing and remeshes a mesh that is made from a number.
-use Rattle.std.specs.Prelude.{◌≡◌, ℕ, false, length, pos, ⊤}
+use Rattle.std.specs.Prelude.{◌≡◌, ℕ, length, pos, ⊤}
 use Rattle.def_certtext.specs.CertLines.{Lists}
+use Rattle.def_certtext.specs.declared.certs.Rising.TheVariants.{Never}
 use Rattle.def_flow.specs.Admissible.{deviation, entries}
 use Rattle.def_flow.specs.declared.net.Settings.{Settings}
 use Rattle.def_flow.specs.declared.net.Weight.TheVariants.{Plain}
@@ -64,16 +65,16 @@ abbrev pub RefusesToBench : (size : ℕ) (answer : Answer) → Type 0
 RefusesToBench size (NotManifold place) =
     IsFirstFault (bench_faces size) place × (¬ IsManifold (bench_faces size))
 RefusesToBench size answer =
-    (plan : Plan) × IsTracedLayout (bench_faces size) plan × RefusesLayout old_lengths plan bench_settings false answer
+    (plan : Plan) × IsTracedLayout (bench_faces size) plan × RefusesLayout old_lengths plan bench_settings Never answer
 
 -- Why the mesh of a size is not remeshed. Want of memory says nothing of it.
 abbrev pub IsBenchFail : (size : ℕ) (failed : LayoutFail) → Type 0
 IsBenchFail size layout_fail.Memory = ⊤
 IsBenchFail size failed =
-    (plan : Plan) × IsTracedLayout (bench_faces size) plan × IsLayoutFail old_lengths plan bench_settings false failed
+    (plan : Plan) × IsTracedLayout (bench_faces size) plan × IsLayoutFail old_lengths plan bench_settings Never failed
 
 -- The mesh of this size is remeshed whatever least lists are kept.
 pub record HasBench (size : ℕ) : Type 0 where
   pub manifold : IsManifold (bench_faces size)
   pub fits : (plan : Plan) → IsTracedLayout (bench_faces size) plan
-      → IsRemeshable old_lengths plan bench_settings false
+      → IsRemeshable old_lengths plan bench_settings Never

@@ -1,5 +1,6 @@
 -- What `crease` means: a remesh that keeps the edges which the `l` lines of a text mark.
-use Rattle.std.specs.Prelude.{◌≡◌, ◌⊎◌, false, List, Bool, None, Ok, Err, codes}
+use Rattle.std.specs.Prelude.{◌≡◌, ◌⊎◌, List, Bool, None, Ok, Err, codes}
+use Rattle.def_certtext.specs.declared.certs.Rising.TheVariants.{Never}
 use Rattle.def_marks.specs.MarkedText.{marked_text}
 use Rattle.def_marks.specs.Lines.{marks_in}
 use Rattle.def_feature.specs.Marked.{marked_cut}
@@ -22,7 +23,7 @@ creased_task settings faces marks = record {
   marks = marked_cut faces marks;
   wish = old_lengths;
   settings = settings;
-  auto = false;
+  rising = Never;
   head = named_head (codes "crease") settings;
   between = marked_text marks;
   shares = None;

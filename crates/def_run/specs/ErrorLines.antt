@@ -77,6 +77,7 @@ why_text (why.CertLine line) = codes "certificate line " ++ decimal line
 why_text (why.Verdict verdict) = verdict_text verdict
 why_text (why.TooFine faces) = codes "faces " ++ decimal faces
 why_text (why.Doubled u v) = codes "doubled " ++ decimal (u + 1) ++ codes " " ++ decimal (v + 1)
+why_text (why.Rises round) = codes "round " ++ decimal round ++ codes " rises"
 why_text (why.Byte at) = codes "byte " ++ decimal at
 
 -- The accepted command lines.

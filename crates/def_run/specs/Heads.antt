@@ -1,6 +1,7 @@
 -- The head lines of commands that remesh over another cut than `remesh` does.
 use Rattle.std.specs.Prelude.{false, List, Bool, None, [], ◌++◌, codes}
 use Rattle.def_certtext.specs.Settings.{floor_text, scale_text, weight_text}
+use Rattle.def_certtext.specs.declared.certs.Rising.TheVariants.{Never}
 use Rattle.def_flow.specs.declared.net.Settings.{Settings}
 use Rattle.def_io.specs.Bytes.{Bytes}
 use Rattle.def_remesh.specs.Tasks.{old_lengths, Task}
@@ -19,7 +20,7 @@ named_task name settings marks = record {
   marks = marks;
   wish = old_lengths;
   settings = settings;
-  auto = false;
+  rising = Never;
   head = named_head name settings;
   between = λ plan new. [];
   shares = None;

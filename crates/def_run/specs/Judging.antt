@@ -1,8 +1,8 @@
 -- What is wrong with the text of a task that stands behind the text of its mesh, as its certificates show.
-use Rattle.std.specs.Prelude.{◌≡◌, ◌≢◌, ◌⊎◌, ◌+◌, ◌-◌, ◌<◌, ℕ, ℤ, drop, take}
-use Rattle.def_certtext.specs.CertLines.{alone, raised, used, Certificates, Lists}
-use Rattle.def_certtext.specs.HeadLine.{head_line}
-use Rattle.def_certtext.specs.Reading.{HasBadLine, Made, TellHow}
+use Rattle.std.specs.Prelude.{◌≡◌, ◌≢◌, ◌⊎◌, ◌+◌, ◌-◌, ◌<◌, ℕ, ℤ, List, drop, take}
+use Rattle.def_certtext.specs.CertLines.{alone, raised, risen, used, Certificates, Lists}
+use Rattle.def_certtext.specs.Reading.{HasBadLine, TellCerts}
+use Rattle.def_certtext.specs.declared.certs.Rise.{Rise}
 use Rattle.def_flow.specs.Accepted.{cert_verdict}
 use Rattle.def_flow.specs.Network.{Network}
 use Rattle.def_flow.specs.declared.cert.CertVerdict.{CertVerdict}
@@ -15,9 +15,10 @@ use Rattle.def_layout.specs.Lengths.{Lengths}
 use Rattle.def_layout.specs.Plans.{Plan, layout_of}
 use Rattle.def_layoutnet.specs.LayoutNet.{IsNetOf}
 use Rattle.def_remesh.specs.NewPoints.{lengths_in}
-use Rattle.def_remesh.specs.Certified.{AreKept, certificate_of, IsCertified}
+use Rattle.def_remesh.specs.Certified.{AreKept, certificate_of, IsCertified, IsDoubling}
 use Rattle.def_remesh.specs.Refusals.{AreTooFine}
-use Rattle.def_remesh.specs.Remeshed.{AreCoarse, AreDoubled, finished_text}
+use Rattle.def_remesh.specs.Remeshed.{AreCoarse, finished_text}
+use Rattle.def_remesh.specs.Rises.{risen_floors, AreNeeded}
 use Rattle.def_remesh.specs.Tasks.{given_floors, old_lengths, Task, Wish}
 use Rattle.def_text.specs.FaceSet.{FaceSet}
 use Rattle.def_written.specs.Edges.{IsFirstDoubled, IsUndoubled}
@@ -41,10 +42,6 @@ text_in judged = tail_of judged.line judged.bytes
 abbrev pub behind_in : (judged : Judged) → Lines
 behind_in judged = drop (judged.line + 1) (lines_of judged.bytes)
 
--- They tell that it was made so. They are read as behind a head line of `remesh` with the settings of the task.
-abbrev pub TellsMade : (judged : Judged) (made : Made) → Type 0
-TellsMade judged made = TellHow (head_line judged.task.settings judged.task.auto) (behind_in judged) made
-
 -- The verdict on a certificate for a layout with these wished lengths, settings and floors.
 pub record HasVerdict
     (wish : Wish) (plan : Plan) (settings : Settings) (floors : Lengths) (cert : Lists) (verdict : CertVerdict)
@@ -62,28 +59,44 @@ IsWrong wish plan settings floors cert (why.TooFine faces) =
     IsCertified wish plan settings floors cert × AreTooFine plan cert.x faces
 IsWrong wish plan settings floors cert _ = ⊥
 
--- The certificate that is checked first: the one for floor 1, where another follows, or the only one.
-abbrev pub first_checked : (certificates : Certificates) → Lists
-first_checked (alone cert) = cert
-first_checked (raised first cert) = first
-
 -- The only certificate is accepted, and its lengths double an edge, first at these vertices.
-abbrev pub IsLoneDoubled : (wish : Wish) (plan : Plan) (settings : Settings) (made : Made) (why : Why) → Type 0
-IsLoneDoubled wish plan settings made (why.Doubled u v) =
-    (cert : Lists) × (made.certificates ≡ alone cert)
-    × IsCertified wish plan settings (given_floors settings) cert × AreCoarse plan cert.x
-    × IsFirstDoubled (layout_of plan) (lengths_in cert.x) u v
-IsLoneDoubled wish plan settings made _ = ⊥
+abbrev pub IsLoneDoubled :
+    (wish : Wish) (plan : Plan) (settings : Settings) (floors : Lengths) (cert : Lists) (why : Why) → Type 0
+IsLoneDoubled wish plan settings floors cert (why.Doubled u v) = IsCertified wish plan settings floors cert
+    × AreCoarse plan cert.x × IsFirstDoubled (layout_of plan) (lengths_in cert.x) u v
+IsLoneDoubled wish plan settings floors cert _ = ⊥
 
--- The certificate for floor 1 is accepted, its lengths double an edge, and the one for floor 3 is wrong.
-pub record IsThirdWrong (wish : Wish) (plan : Plan) (settings : Settings) (made : Made) (why : Why) : Type 0 where
-  pub first : Lists
-  pub cert : Lists
-  pub there : made.certificates ≡ raised first cert
-  pub certified : IsCertified wish plan settings (given_floors settings) first
-  pub coarse : AreCoarse plan first.x
-  pub doubled : AreDoubled plan first.x
-  pub wrong : IsWrong wish plan settings (λ arc. MAX_FLOOR) cert why
+-- The floors that rise in the round of this number are not those that have to.
+abbrev pub AreUnneeded : (plan : Plan) (first : Lists) (rises : List Rise) (round : ℕ) (why : Why) → Type 0
+AreUnneeded plan first rises round (why.Rises number) =
+    (number ≡ round) × (¬ AreNeeded (layout_of plan) (lengths_in first.x) rises)
+AreUnneeded plan first rises round _ = ⊥
+
+-- What is wrong with the certificates from a round on that begins with these floors. Rounds count from 1.
+abbrev pub AreWrong : (wish : Wish) (plan : Plan) (settings : Settings) (floors : Lengths) (round : ℕ)
+    (certificates : Certificates) (why : Why) → Type 0
+AreWrong wish plan settings floors round (alone cert) why =
+    IsWrong wish plan settings floors cert why ⊎ IsLoneDoubled wish plan settings floors cert why
+AreWrong wish plan settings floors round (raised first cert) why = IsWrong wish plan settings floors first why
+    ⊎ (IsDoubling wish plan settings floors first × IsWrong wish plan settings (λ arc. MAX_FLOOR) cert why)
+AreWrong wish plan settings floors round (risen first rises after) why = IsWrong wish plan settings floors first why
+    ⊎ (IsDoubling wish plan settings floors first
+    × (AreUnneeded plan first rises (round + 1) why
+    ⊎ (AreNeeded (layout_of plan) (lengths_in first.x) rises
+    × AreWrong wish plan settings (risen_floors rises floors) (round + 1) after why)))
+
+-- The first certificate of these.
+abbrev pub first_of : (certificates : Certificates) → Lists
+first_of (alone cert) = cert
+first_of (raised first cert) = first
+first_of (risen first rises after) = first
+
+-- These are the others up to one of them, or all of them.
+abbrev pub AreFront : (certificates others : Certificates) → Type 0
+AreFront (alone cert) others = cert ≡ first_of others
+AreFront (raised first cert) others = others ≡ raised first cert
+AreFront (risen first rises after) others =
+    (more : Certificates) × (others ≡ risen first rises more) × AreFront after more
 
 -- From this byte on, which counts from 1, the texts differ.
 pub record DifferFrom (one other : Bytes) (at : ℕ) : Type 0 where
@@ -92,30 +105,27 @@ pub record DifferFrom (one other : Bytes) (at : ℕ) : Type 0 where
   pub there : take at one ≢ take at other
 
 -- The certificates are those of a finished task, whose text is another one from this byte on.
-pub record IsOtherText (judged : Judged) (made : Made) (at : ℕ) : Type 0 where
+pub record IsOtherText (judged : Judged) (told : Certificates) (at : ℕ) : Type 0 where
   pub certificates : Certificates
-  pub chosen : (certificates ≡ alone (first_checked made.certificates)) ⊎ (certificates ≡ made.certificates)
-  pub kept : AreKept judged.task.wish judged.plan judged.task.settings judged.task.auto certificates
+  pub front : AreFront certificates told
+  pub kept : AreKept judged.task.wish judged.plan judged.task.settings judged.task.rising certificates
   pub coarse : AreCoarse judged.plan (used certificates).x
   pub undoubled : IsUndoubled (layout_of judged.plan) (lengths_in (used certificates).x)
   pub differ : DifferFrom (text_in judged) (finished_text judged.task judged.soup judged.plan certificates) at
 
 -- The text is not that of the certificates that it tells.
-abbrev pub TellsOtherText : (judged : Judged) (made : Made) (why : Why) → Type 0
-TellsOtherText judged made (why.Byte at) = IsOtherText judged made at
-TellsOtherText judged made _ = ⊥
+abbrev pub TellsOtherText : (judged : Judged) (told : Certificates) (why : Why) → Type 0
+TellsOtherText judged told (why.Byte at) = IsOtherText judged told at
+TellsOtherText judged told _ = ⊥
 
--- The first thing that is wrong with a text that tells how it was made.
+-- The first thing that is wrong with a text that tells certificates.
 pub record IsWrongText (judged : Judged) (why : Why) : Type 0 where
-  pub made : Made
-  pub told : TellsMade judged made
-  pub wrong : IsWrong judged.task.wish judged.plan judged.task.settings (given_floors judged.task.settings)
-      (first_checked made.certificates) why
-      ⊎ (IsLoneDoubled judged.task.wish judged.plan judged.task.settings made why
-      ⊎ (IsThirdWrong judged.task.wish judged.plan judged.task.settings made why ⊎ TellsOtherText judged made why))
+  pub told : Certificates
+  pub tells : TellCerts judged.task.rising (behind_in judged) told
+  pub wrong : AreWrong judged.task.wish judged.plan judged.task.settings (given_floors judged.task.settings) 1 told why
+      ⊎ TellsOtherText judged told why
 
 -- The first thing that is wrong behind a head line.
 abbrev pub IsReason : (judged : Judged) (why : Why) → Type 0
-IsReason judged (why.CertLine line) =
-    HasBadLine (head_line judged.task.settings judged.task.auto) (judged.line + 2) (behind_in judged) line
+IsReason judged (why.CertLine line) = HasBadLine judged.task.rising (judged.line + 2) (behind_in judged) line
 IsReason judged why = IsWrongText judged why

@@ -1,5 +1,6 @@
 -- What a command means that remeshes: `remesh`, and each that takes another cut or wishes for other lengths.
 use Rattle.std.specs.Prelude.{◌≡◌, ◌≤◌, ◌⊎◌, ℕ, Bool, Some, length, ⊤}
+use Rattle.def_certtext.specs.declared.certs.Rising.{Rising}
 use Rattle.def_cut.specs.Traced.{traced_marks}
 use Rattle.def_flow.specs.declared.net.Settings.{Settings}
 use Rattle.def_io.specs.Bytes.{Bytes, Told}
@@ -50,25 +51,25 @@ pub record HasTask (asks : Asks) (bytes : Bytes) (task : Task) (plan : Plan) : T
 
 -- Why a layout is not remeshed: its network is too tangled, or the kept lengths give too many faces or double an edge.
 abbrev pub RefusesLayout :
-    (wish : Wish) (plan : Plan) (settings : Settings) (auto : Bool) (answer : Answer) → Type 0
-RefusesLayout wish plan settings auto (Tangled count) = IsTangledAt wish plan settings count
-RefusesLayout wish plan settings auto (TooFine faces kept) = IsFineBy wish plan settings auto faces kept
-RefusesLayout wish plan settings auto (Doubled u v cert) = IsDoubledBy wish plan settings auto u v cert
-RefusesLayout wish plan settings auto _ = ⊥
+    (wish : Wish) (plan : Plan) (settings : Settings) (rising : Rising) (answer : Answer) → Type 0
+RefusesLayout wish plan settings rising (Tangled count) = IsTangledAt wish plan settings count
+RefusesLayout wish plan settings rising (TooFine faces kept) = IsFineBy wish plan settings rising faces kept
+RefusesLayout wish plan settings rising (Doubled u v cert) = IsDoubledBy wish plan settings rising u v cert
+RefusesLayout wish plan settings rising _ = ⊥
 
 -- It refuses these bytes with this answer: they have no mesh, or the layout of a task is refused.
 abbrev pub RefusesTask : (asks : Asks) (bytes : Bytes) (answer : Answer) → Type 0
 RefusesTask asks bytes answer =
     IsNoMesh bytes answer
     ⊎ ((task : Task) × (plan : Plan) × HasTask asks bytes task plan
-    × RefusesLayout task.wish plan task.settings task.auto answer)
+    × RefusesLayout task.wish plan task.settings task.rising answer)
 
 -- The bytes have a mesh, each task of which is finished whatever least lists are kept.
 pub record HasFinished (asks : Asks) (bytes : Bytes) : Type 0 where
   pub soup : FaceSet
   pub mesh : IsMeshText bytes soup
   pub fits : (task : Task) (plan : Plan) → HasTask asks bytes task plan
-      → IsRemeshable task.wish plan task.settings task.auto
+      → IsRemeshable task.wish plan task.settings task.rising
 
 -- A source that holds the bytes of a mesh, no task of which has a network that is too tangled.
 pub record HoldsUntangled (asks : Asks) (left : Told) : Type 0 where

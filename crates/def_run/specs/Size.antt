@@ -1,5 +1,6 @@
 -- What `size` means: a remesh whose edges are to have a given length.
-use Rattle.std.specs.Prelude.{◌≡◌, ℕ, ◌++◌, [], codes, decimal, false, None, ℤ, unsigned_abs}
+use Rattle.std.specs.Prelude.{◌≡◌, ℕ, ◌++◌, [], codes, decimal, None, ℤ, unsigned_abs}
+use Rattle.def_certtext.specs.declared.certs.Rising.TheVariants.{Never}
 use Rattle.def_cut.specs.Traced.{traced_marks}
 use Rattle.def_io.specs.Bytes.{Bytes, Told}
 use Rattle.def_layout.specs.Plans.{Plan}
@@ -27,7 +28,7 @@ size_task edge floor soup = record {
   marks = traced_marks soup.faces;
   wish = soup_targets edge soup;
   settings = edge_settings floor;
-  auto = false;
+  rising = Never;
   head = size_head edge floor;
   between = λ plan new. [];
   shares = None;

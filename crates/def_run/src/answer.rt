@@ -50,6 +50,8 @@ pub enum Why {
     TooFine { faces: u128 },
     /// Its lengths double the edge between two vertices of the new mesh.
     Doubled { u: u32, v: u32 },
+    /// The floors that rise in this round, which counts from 1, are not those that have to.
+    Rises { round: u64 },
     /// The text is another one from this byte on, which counts from 1.
     Byte { at: u32 },
 }

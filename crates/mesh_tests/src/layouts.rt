@@ -2,9 +2,9 @@
 
 use def_text::MAX_BYTES;
 use qm_cut::traced_layout;
-use qm_stages::{CutMesh, Meshed, NoMesh};
 use qm_io::Source;
 use qm_obj::read_soup;
+use qm_stages::{CutMesh, Meshed, NoMesh};
 use std::alloc::{AllocError, Global};
 
 /// The mesh that a source gives, with the layout of its traced graph; none where there is no mesh.

@@ -9,8 +9,8 @@ ghost use Rattle.def_remesh.specs.NewPoints.{lengths_in};
 ghost use Rattle.mesh_tests.specs.Fits.{AreEven, FitsLayout};
 
 use def_flow::MAX_LENGTH;
-use qm_stages::CutMesh;
 use qm_offsets::size_on;
+use qm_stages::CutMesh;
 
 /// Whether these are lengths of a layout: one for each arc, from 1 to the limit, with equal sums on opposite sides.
 pub(crate) fn are_lengths(cut: &CutMesh, lengths: &[u64]) -> bool

@@ -3,8 +3,8 @@
 use crate::layouts::read_cut;
 use crate::lengths::are_lengths;
 use crate::new_meshes::{CYLINDER, PILLOW, TORUS, mesh_text};
-use qm_stages::{are_needed_over, rises_over};
 use qm_io::{MemSource, Source};
+use qm_stages::{are_needed_over, rises_over};
 use qm_stitch::{StitchFail, stitch};
 use std::alloc::{AllocError, Global};
 use std::test::Fail;

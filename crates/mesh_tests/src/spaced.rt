@@ -3,9 +3,9 @@
 use crate::layouts::read_cut;
 use crate::lengths::are_lengths;
 use def_remesh::{DartShares, MAX_SHARE, StitchFail};
-use qm_stages::{Regridded, plan_over};
 use qm_io::{MemSource, Source};
 use qm_place::Near;
+use qm_stages::{Regridded, plan_over};
 use std::alloc::{AllocError, Global};
 use std::test::Fail;
 

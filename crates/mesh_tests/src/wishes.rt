@@ -2,10 +2,10 @@
 
 use def_marks::MarkFail;
 use def_text::{MAX_BYTES, MAX_V_LINES};
-use qm_stages::Meshed;
 use qm_io::{MemSource, Source, read_lines};
 use qm_marks::read_wishes;
 use qm_obj::read_obj;
+use qm_stages::Meshed;
 use std::alloc::{AllocError, Global};
 use std::test::Fail;
 

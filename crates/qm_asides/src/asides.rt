@@ -12,9 +12,9 @@ use crate::marks::text_marks;
 use def_fit::{Aim, Fit};
 use def_marks::MarkFail;
 use def_patches::Keep;
-use qm_stages::Meshed;
 use qm_io::Lines;
 use qm_marks::read_wishes;
+use qm_stages::Meshed;
 use std::alloc::Global;
 
 /// What the lines of a text say beside its mesh: a mark for each dart, where marks are kept, and a wish for each, where

@@ -6,9 +6,9 @@ ghost use Rattle.def_marks.specs.Lines.{marks_in};
 ghost use Rattle.def_text.specs.declared.limits.TheConstants.{MAX_V_LINES};
 
 use def_marks::MarkFail;
-use qm_stages::Meshed;
 use qm_io::Lines;
 use qm_marks::read_marks;
+use qm_stages::Meshed;
 use std::alloc::Global;
 
 /// A mark for each dart of the mesh of a text: whether it has a twin, and an `l` line marks its edge. Else the first

@@ -5,7 +5,7 @@ ghost use Rattle.def_io.specs.Lines.{lines_of};
 
 use def_certtext::{CertFail, Written};
 use def_flow::Cert;
-use qm_certtext::{Memory, cert_text, last_head, read_written};
+use qm_certtext::{Memory, cert_text, last_head, read_written, used_cert};
 use qm_io::{Lines, StdSource, read_lines};
 use std::alloc::Global;
 use std::io;
@@ -99,13 +99,14 @@ fn write_often(alloc: Global, lines: &Lines, first: u32, times: u32) -> Result<C
 
 /// Writes the certificate so often, and counts what it has.
 fn counts_of(alloc: Global, written: &Written, times: u32) -> Result<Counts, Fail> {
-    let Cert { x, dual } = &written.cert;
+    let cert = used_cert(&written.certs);
+    let Cert { x, dual } = cert;
     if dual.up.len() != dual.y.len() + dual.z.len() {
         return Err(Fail::Text);
     }
-    let mut text = cert_text(alloc, &written.cert)?;
+    let mut text = cert_text(alloc, cert)?;
     for _ in 1..times {
-        text = cert_text(alloc, &written.cert)?;
+        text = cert_text(alloc, cert)?;
     }
     Ok(Counts {
         lengths: x.len(),

@@ -18,9 +18,9 @@ use def_cuttext::Chosen;
 use def_layout::Side;
 use def_output::Stopped;
 use qm_blocks::links;
-use qm_stages::CutMesh;
 use qm_output::Output;
 use qm_refine::multiples;
+use qm_stages::CutMesh;
 use std::alloc::{AllocError, Global};
 
 /// The links of the blocks of a layout with `by` times its old lengths. Linear in the arcs.

@@ -11,10 +11,10 @@ use arrayvec::ArrayVec;
 use def_io::LINE_FEED;
 use def_output::Stopped;
 use def_text::{Micro, SPACE};
-use qm_stages::Regridded;
 use qm_dec::write_micro;
 use qm_output::Output;
 use qm_place::Near;
+use qm_stages::Regridded;
 
 /// Puts the lines of the points of a block, row by row.
 pub(crate) fn put_points<T: Output>(

@@ -1,6 +1,7 @@
 -- Numbers as certificate lines have them.
 use Rattle.std.proofs.Common.{◌≡◌, ◌⊎◌, ◌≤◌, ◌<◌, ◌+◌, ◌-◌, ◌^◌, ◌&&◌, min, ℕ, zero, suc, ℤ, pos, negsuc, Bool, true}
-use Rattle.std.proofs.Common.{false, not, [], ◌∷◌, ◌++◌, Option, Some, None, length, take, drop, get_or, map, cond, eqb}
+use Rattle.std.proofs.Common.{false, not, List, [], ◌∷◌, ◌++◌, Option, Some, None, length, take, drop, get_or, map}
+use Rattle.std.proofs.Common.{cond, eqb}
 use Rattle.std.proofs.Common.{ltb, inl, inr, refl, ap, ap₂, sym, ◌∙◌, subst, arith}
 use Rattle.std.proofs.lemmas.Bool.{and_cases, and_from, and_parts, eq-eqb, eqb-false, eqb-true, false≢true, le-leb}
 use Rattle.std.proofs.lemmas.Bool.{lt-ltb, ltb-false, ltb-true, ne_eqb, not-true, not_from_false, and_right, true≢false}
@@ -10,8 +11,10 @@ use Rattle.std.proofs.lemmas.Str.Parse.{numerals_by_fold, IsDigitsTest, IsNumera
 use Rattle.std.proofs.lemmas.Fmt.{decimal_injective}
 use Rattle.std.specs.{Prelude.decimal, Prelude.unsigned_abs, Char.is_ascii_digit, Fmt.digits}
 use Rattle.std.specs.{Int.Digits.number_from_digits_after, List.list_all, List.position_or_len, Fmt.signed_decimal}
-use Rattle.def_certtext.specs.Reading.{is_small}
+use Rattle.def_certtext.specs.{Reading.is_small, Reading.may_tell, declared.certs.Rise.Rise}
+use Rattle.def_certtext.specs.declared.certs.Rising.TheVariants.{Rounds}
 use Rattle.def_text.specs.{Digits.is_number, Digits.number_written, Types.Word}
+use Rattle.qm_certtext.proofs.Letters.{rise_low, rise_small}
 use Rattle.qm_dec.proofs.Texts.{decimal_digits, decimal_number, digit_other, digits_fail, first_at}
 use Rattle.qm_dec.proofs.Ratios.{first_passes}
 use Rattle.qm_scan.proofs.Numbers.{digit_small, number_all}
@@ -208,7 +211,49 @@ module _ (text prefix behind : Word) (i : ℕ) (place : i ≡ position_or_len (�
       begins : behind ≡ 32 ∷ drop 1 behind
       begins = by_behind behind refl some
 
-pub some_behind : (behind : Word) → false ≡ eqb (length behind) 0 → 0 < length behind
+  -- A rise is a number from 1 and a floor.
+  pub rise_parts : (rise : Rise) → may_tell Rounds rise ≡ true
+      → text ≡ decimal (rise.arc + 1) ++ 32 ∷ decimal rise.floor
+      → (prefix ≡ decimal (rise.arc + 1)) × (behind ≡ 32 ∷ decimal rise.floor)
+  rise_parts rise may is =
+      parts_are (pos (rise.arc + 1)) rise.floor
+      (small_parts (pos (rise.arc + 1)) rise.floor (rise_small Rounds rise may)).0 is
+
+  pub rise_no_behind : length behind ≡ 0 → (rise : Rise) → may_tell Rounds rise ≡ true
+      → text ≡ decimal (rise.arc + 1) ++ 32 ∷ decimal rise.floor → ⊥
+  rise_no_behind none rise may is = omega (arith, none, ap length (rise_parts rise may is).1)
+
+  pub rise_no_floor : (rest : Word) → rest ≡ drop 1 behind → ((n : ℕ) → n ≤ 3 → rest ≡ decimal n → ⊥) → (rise : Rise)
+      → may_tell Rounds rise ≡ true → text ≡ decimal (rise.arc + 1) ++ 32 ∷ decimal rise.floor → ⊥
+  rise_no_floor rest is none rise may same =
+      none rise.floor (rise_low Rounds rise may).1 (is ∙ ap (drop 1) (rise_parts rise may same).1)
+
+  pub rise_no_arc : ((n : ℕ) → n ≤ 2 ^ 32 → prefix ≡ decimal n → ⊥) → (rise : Rise) → may_tell Rounds rise ≡ true
+      → text ≡ decimal (rise.arc + 1) ++ 32 ∷ decimal rise.floor → ⊥
+  rise_no_arc none rise may same =
+      none (rise.arc + 1) (omega (arith, (rise_low Rounds rise may).0)) (rise_parts rise may same).0
+
+  pub rise_not_zero : (n : ℕ) → n ≡ 0 → prefix ≡ decimal n → (rise : Rise) → may_tell Rounds rise ≡ true
+      → text ≡ decimal (rise.arc + 1) ++ 32 ∷ decimal rise.floor → ⊥
+  rise_not_zero n none is rise may same =
+      let equal : n ≡ rise.arc + 1 =
+      decimal_injective n (rise.arc + 1) (omega (arith, none)) (omega (arith, (rise_low Rounds rise may).0))
+      (sym is ∙ (rise_parts rise may same).0) in
+      omega (arith, none, equal)
+
+  pub rise_read : (rest : Word) (number floor : ℕ) → 0 < length behind → rest ≡ drop 1 behind → 0 < number
+      → number ≤ 2 ^ 32 → prefix ≡ decimal number → floor ≤ 3 → rest ≡ decimal floor
+      → (may_tell Rounds (record { arc = number - 1; floor = floor }) ≡ true)
+      × (text ≡ decimal (number - 1 + 1) ++ 32 ∷ decimal floor)
+  rise_read rest number floor some is low high number_is least floor_is =
+      let same : number - 1 + 1 ≡ number = omega (arith, low) in
+      let read = both_read rest (pos number) floor some is (omega (arith, high)) number_is (omega (arith, least))
+      floor_is in (
+        and_from _ _ (lt-ltb (number - 1) (2 ^ 32) (omega (arith, low, high))) (le-leb floor 3 least),
+        read.1 ∙ ap (λ (n : ℕ). decimal n ++ 32 ∷ decimal floor) (sym same),
+      )
+
+pub some_behind : {X : Type 0} (behind : List X) → false ≡ eqb (length behind) 0 → 0 < length behind
 some_behind [] is = absurd (false≢true is)
 some_behind (x ∷ xs) is = omega arith
 

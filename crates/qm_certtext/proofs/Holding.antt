@@ -7,6 +7,8 @@ use Rattle.std.proofs.lemmas.List.Concat.{flat_map-append}
 use Rattle.std.specs.List.{after_first, before_first, flat_map, list_any, position_or_len}
 use Rattle.def_certtext.specs.Reading.{is_third, length_in, set_in, set_up_in, vertex_in, vertex_up_in}
 use Rattle.def_certtext.specs.declared.CertLine.{CertLine}
+use Rattle.def_certtext.specs.declared.certs.Rising.{Rising}
+use Rattle.def_certtext.specs.declared.certs.Rising.TheVariants.{Never, Third, Rounds}
 use Rattle.qm_certtext.specs.{Parts.HoldBoth, Parts.Holds, Parts.TakesLine, declared.parts.Found.Found}
 use Rattle.qm_certtext.specs.declared.parts.Parts.{Parts}
 
@@ -88,7 +90,8 @@ pub record Adds (old new : Parts) (line : CertLine) : Type 0 where
   pub sets : new.sets.items ≡ old.sets.items ++ set_in line
   pub set_ups : new.set_ups.items ≡ old.set_ups.items ++ set_up_in line
 
-holds_more : (old new : Parts) (said : List CertLine) (line : CertLine) → Adds old new line → Holds old said
+-- So the lists are those of one line more.
+pub holds_more : (old new : Parts) (said : List CertLine) (line : CertLine) → Adds old new line → Holds old said
     → Holds new (said ++ line ∷ [])
 holds_more old new said line adds holds = record {
   lengths = more length_in _ _ said line holds.lengths adds.lengths;
@@ -98,9 +101,20 @@ holds_more old new said line adds holds = record {
   set_ups = more set_up_in _ _ said line holds.set_ups adds.set_ups;
 }
 
+-- One line more, where floors do not rise in rounds.
+abbrev pub TakesBoth : (old new : Found) (line : CertLine) → Type 0
+TakesBoth old new line =
+    (said : List CertLine) → HoldBoth old.first old.last said → HoldBoth new.first new.last (said ++ line ∷ [])
+
+pub takes_both : (rising : Rising) (old new : Found) (line : CertLine) → (rising ≡ Rounds → ⊥)
+    → TakesBoth old new line → TakesLine rising old new line
+takes_both Never old new line other takes = takes
+takes_both Third old new line other takes = takes
+takes_both Rounds old new line other takes = absurd (other refl)
+
 -- The lines before the first `#f 3` stay, and the next are those of another certificate.
 pub takes_third : (old new : Found) (line : CertLine) → old.first ≡ None → is_third line ≡ true
-    → new.first ≡ Some old.last → Holds new.last [] → TakesLine old new line
+    → new.first ≡ Some old.last → Holds new.last [] → TakesBoth old new line
 takes_third old new line none third first empty said holds =
     let before : (list_any is_third said ≡ false) × Holds old.last said =
     subst (λ (o : Option Parts). HoldBoth o old.last said) none holds in
@@ -114,7 +128,7 @@ takes_third old new line none third first empty said holds =
 
 -- Any other line is one of the last certificate.
 pub takes_other : (old new : Found) (line : CertLine) → (old.first ≡ None → is_third line ≡ false)
-    → new.first ≡ old.first → Adds old.last new.last line → TakesLine old new line
+    → new.first ≡ old.first → Adds old.last new.last line → TakesBoth old new line
 takes_other old new line other first adds said holds = by_first old.first refl holds
   where
     by_first : (o : Option Parts) → old.first ≡ o → HoldBoth o old.last said
@@ -148,14 +162,12 @@ starts_not None line is none = is
 starts_not (Some prefix) line is none = absurd cc
 
 -- Where memory was found for the line.
-pub takes_ok : {T E : Type 0} (r : Result T E) (old new : Found) (line : CertLine)
-    → (old.first ≡ None → is_third line ≡ false) → new.first ≡ old.first
-    → OnOk r (new.last.lengths.items ≡ old.last.lengths.items ++ length_in line)
-    → OnOk r (new.last.vertices.items ≡ old.last.vertices.items ++ vertex_in line)
-    → OnOk r (new.last.vertex_ups.items ≡ old.last.vertex_ups.items ++ vertex_up_in line)
-    → OnOk r (new.last.sets.items ≡ old.last.sets.items ++ set_in line)
-    → OnOk r (new.last.set_ups.items ≡ old.last.set_ups.items ++ set_up_in line)
-    → OnOk r (TakesLine old new line)
-takes_ok (Ok x) old new line other first a b c d e =
-    takes_other old new line other first (record { lengths = a; vertices = b; vertex_ups = c; sets = d; set_ups = e })
-takes_ok (Err e) old new line other first a b c d f = tt
+pub added_ok : {T E : Type 0} {P : Type 0} (r : Result T E) (old new : Parts) (line : CertLine)
+    → OnOk r (new.lengths.items ≡ old.lengths.items ++ length_in line)
+    → OnOk r (new.vertices.items ≡ old.vertices.items ++ vertex_in line)
+    → OnOk r (new.vertex_ups.items ≡ old.vertex_ups.items ++ vertex_up_in line)
+    → OnOk r (new.sets.items ≡ old.sets.items ++ set_in line)
+    → OnOk r (new.set_ups.items ≡ old.set_ups.items ++ set_up_in line) → (Adds old new line → P) → OnOk r P
+added_ok (Ok x) old new line a b c d e takes =
+    takes (record { lengths = a; vertices = b; vertex_ups = c; sets = d; set_ups = e })
+added_ok (Err e) old new line a b c d f takes = tt

@@ -2,8 +2,8 @@
 use Rattle.std.proofs.Common.{◌≡◌, ◌+◌, ◌<◌, ◌^◌, ℕ, Bool, [], ◌∷◌, length, drop, get_or, slice_index_or, sym, ◌∙◌, ap}
 use Rattle.std.proofs.Common.{subst, arith, length-drop}
 use Rattle.std.proofs.lemmas.List.{drop-drop, get_or-drop}
-use Rattle.def_certtext.specs.{HeadLine.head_line, Reading.IsCertFail, Reading.IsHead, Reading.Made, Reading.TellHow}
-use Rattle.def_certtext.specs.declared.CertFail.{CertFail}
+use Rattle.def_certtext.specs.Reading.{IsBehindFail, IsCertFail, IsHead, Made, TellHow}
+use Rattle.def_certtext.specs.{Risings.third_if, declared.CertFail.CertFail, declared.CertFail.TheVariants.Head}
 use Rattle.def_io.specs.{Bytes.Bytes, Bytes.Lines, Lines.lines_of, Lines.tail_of}
 use Rattle.def_flow.specs.declared.net.Settings.{Settings}
 use Rattle.qm_io.proofs.Cuts.{last_lines}
@@ -42,10 +42,13 @@ module _ (bytes tail : Bytes) (line : ℕ) (is : tail ≡ tail_of line bytes) wh
 -- Why the lines behind a head line tell nothing, their text tells nothing.
 pub text_fails : (text line behind : Bytes) (settings : Settings) (auto : Bool) (number : ℕ) (fail : CertFail)
     → lines_of text ≡ line ∷ lines_of behind → IsHead line settings auto
-    → IsCertFail (head_line settings auto) number (lines_of behind) fail
+    → IsBehindFail (third_if auto) number (lines_of behind) fail
     → IsCertFail (slice_index_or (lines_of text) 0 []) number (drop 1 (lines_of text)) fail
-text_fails text line behind settings auto number fail cut head why =
-    subst (λ (first : Bytes). IsCertFail first number (drop 1 (lines_of text)) fail)
-    (sym (ap (λ (ls : Lines). slice_index_or ls 0 []) cut ∙ head.written))
-    (subst (λ (later : Lines). IsCertFail (head_line settings auto) number later fail)
-    (sym (ap (λ (ls : Lines). drop 1 ls) cut)) why)
+text_fails text line behind settings auto number Head cut head why = absurd why
+text_fails text line behind settings auto number fail cut head why = (
+  settings,
+  auto,
+  subst (λ (first : Bytes). IsHead first settings auto) (sym (ap (λ (ls : Lines). slice_index_or ls 0 []) cut)) head,
+  subst (λ (later : Lines). IsBehindFail (third_if auto) number later fail)
+      (sym (ap (λ (ls : Lines). drop 1 ls) cut)) why,
+)

@@ -12,21 +12,23 @@ use Rattle.def_io.specs.{Bytes.Lines, Lines.lines_of}
 use Rattle.def_text.specs.{Canonical.canonical_text, FaceSet.FaceSet, Laws.is_position, Laws.is_quad, Types.Word}
 use Rattle.def_flow.specs.{declared.net.Settings.Settings, declared.net.Weight.Weight}
 use Rattle.def_flow.specs.{declared.net.Weight.TheVariants.Plain, declared.net.Weight.TheVariants.Length as ByLength}
-use Rattle.def_certtext.specs.CertLines.{alone, line_text, said_by, text_of}
+use Rattle.def_certtext.specs.CertLines.{line_text, text_of, Certificates}
 use Rattle.def_certtext.specs.HeadLine.{head_line}
-use Rattle.def_certtext.specs.Laws.{chosen, chosen_lines, written_text, ChosenLaw, IsPrintable, TellsOnly, WrittenLaw}
-use Rattle.def_certtext.specs.Reading.{certificates_in, is_hash_line, may_stand, IsHead, Made, TellHow}
+use Rattle.def_certtext.specs.Laws.{certificate_lines, AreWritable, IsPrintable, WrittenLaw}
+use Rattle.def_certtext.specs.Reading.{certificates_in, is_hash_line, may_stand, IsHead, Made, TellCerts, TellHow}
+use Rattle.def_certtext.specs.Risings.{third_if}
 use Rattle.def_certtext.specs.Settings.{floor_text, scale_text, weight_text, AreInRange, IsFloor}
 use Rattle.def_certtext.specs.declared.CertLine.{CertLine}
-use Rattle.def_certtext.specs.declared.CertLine.TheVariants.{Length, Vertex, Set, Floor}
+use Rattle.def_certtext.specs.declared.CertLine.TheVariants.{Length, Vertex, Set, Floor, Rise as rise_line}
+use Rattle.def_certtext.specs.declared.certs.Rising.{Rising}
 use Rattle.qm_dec.proofs.Texts.{decimal_digits, digit_other}
 use Rattle.qm_obj.proofs.LawSoup.{canonical_lines, each_both, each_map, face_line, position_line, position_line_is}
 use Rattle.qm_obj.proofs.LawSoup.{text_lines, vertex_word}
 use Rattle.qm_obj.proofs.LawText.{decimal_word, is_inside, line_tame, lines_back, tame_inside, IsLine, IsWord}
 use Rattle.qm_obj.proofs.ListLemmas.{passes_at}
 use Rattle.qm_certtext.proofs.{Counts.small_parts, Cutting.asked_cut, Cutting.asked_words, Marks.filter_append}
-use Rattle.qm_certtext.proofs.Telling.{all_marked, chosen_allowed, chosen_certs, floor_low}
-use Rattle.qm_certtext.proofs.{Telling.one_cert, Telling.one_list, Unique.same_settings}
+use Rattle.qm_certtext.proofs.{Chosen.chosen_allowed, Chosen.chosen_certs, Letters.floor_low, Letters.rise_low}
+use Rattle.qm_certtext.proofs.{Telling.all_marked, Telling.one_list, Unique.same_settings}
 use Rattle.qm_certtext.specs.Cuts.{asked_line}
 
 -- Digits end no line.
@@ -49,26 +51,32 @@ signed_inside (pos n) low = number_inside n (omega arith)
 signed_inside (negsuc n) low = number_inside (suc n) (omega arith)
 
 -- A certificate line is one line.
-line_inside : (auto : Bool) (line : CertLine) → may_stand auto line ≡ true → list_all is_inside (line_text line) ≡ true
-line_inside auto (Length n) may = number_inside n (omega (arith, leb-true n (10 ^ 12) may))
-line_inside auto (Vertex z u) may =
+line_inside : (rising : Rising) (line : CertLine) → may_stand rising line ≡ true
+    → list_all is_inside (line_text line) ≡ true
+line_inside rising (Length n) may = number_inside n (omega (arith, leb-true n (10 ^ 12) may))
+line_inside rising (Vertex z u) may =
     let parts = small_parts z u may in
     both_inside (35 ∷ 121 ∷ 32 ∷ signed_decimal z) (32 ∷ decimal u) (signed_inside z parts.0)
     (number_inside u (omega (arith, parts.1)))
-line_inside auto (Set z u) may =
+line_inside rising (Set z u) may =
     let parts = small_parts z u may in
     both_inside (35 ∷ 115 ∷ 32 ∷ signed_decimal z) (32 ∷ decimal u) (signed_inside z parts.0)
     (number_inside u (omega (arith, parts.1)))
-line_inside auto (Floor f) may = number_inside f (omega (arith, floor_low auto f may))
+line_inside rising (Floor f) may = number_inside f (omega (arith, floor_low rising f may))
+line_inside rising (rise_line r) may =
+    let low = rise_low rising r may in
+    both_inside (35 ∷ 114 ∷ 32 ∷ decimal (r.arc + 1)) (32 ∷ decimal r.floor)
+    (number_inside (r.arc + 1) (omega (arith, low.0))) (number_inside r.floor (omega (arith, low.1)))
 
-pub lines_inside : (auto : Bool) (said : List CertLine) → list_all (may_stand auto) said ≡ true → (k : ℕ)
+pub lines_inside : (rising : Rising) (said : List CertLine) → list_all (may_stand rising) said ≡ true → (k : ℕ)
     → k < length (map line_text said)
     → list_all is_inside (get_or (map line_text said) k []) ≡ true
-lines_inside auto [] all k low = absurd (omega arith)
-lines_inside auto (line ∷ said) all zero low =
-    line_inside auto line (and_parts (may_stand auto line) (list_all (may_stand auto) said) all).0
-lines_inside auto (line ∷ said) all (suc k) low =
-    lines_inside auto said (and_parts (may_stand auto line) (list_all (may_stand auto) said) all).1 k (omega arith)
+lines_inside rising [] all k low = absurd (omega arith)
+lines_inside rising (line ∷ said) all zero low =
+    line_inside rising line (and_parts (may_stand rising line) (list_all (may_stand rising) said) all).0
+lines_inside rising (line ∷ said) all (suc k) low =
+    lines_inside rising said (and_parts (may_stand rising line) (list_all (may_stand rising) said) all).1 k
+    (omega arith)
 
 -- So is a line that ends with settings, as a head line does.
 abbrev pub settings_line : (front : Word) (settings : Settings) (auto : Bool) → Word
@@ -76,7 +84,8 @@ settings_line front settings auto =
     front ++ scale_text settings ++ codes " floor " ++ floor_text settings.floor auto ++ codes " weight "
     ++ weight_text settings.weight
 
-floor_inside : (floor : ℕ) (auto : Bool) → IsFloor floor auto → list_all is_inside (floor_text floor auto) ≡ true
+-- The word of a floor ends no line.
+pub floor_inside : (floor : ℕ) (auto : Bool) → IsFloor floor auto → list_all is_inside (floor_text floor auto) ≡ true
 floor_inside floor true may = refl
 floor_inside floor false may = number_inside floor (omega (arith, may.high))
 
@@ -137,38 +146,47 @@ no_marks_at : (xs : List (List ℕ)) → filter is_hash_line (map face_line xs) 
 no_marks_at [] = refl
 no_marks_at (x ∷ xs) = no_marks_at xs
 
--- All lines of the text.
-abbrev whole : (settings : Settings) (auto : Bool) (soup : FaceSet) (said : List CertLine) → Lines
-whole settings auto soup said = head_line settings auto ∷ canonical_lines soup ++ map line_text said
-
-text_is : (settings : Settings) (auto : Bool) (soup : FaceSet) (said : List CertLine)
-    → written_text settings auto soup said ≡ flat_map (λ l. l ++ 10 ∷ []) (whole settings auto soup said)
-text_is settings auto soup said =
-    let mesh : canonical_text soup ≡ flat_map (λ l. l ++ 10 ∷ []) (canonical_lines soup) = text_lines soup in
+-- The lines of a mesh and of a certificate.
+mesh_and_said : (soup : FaceSet) (said : List CertLine) → canonical_text soup ++ text_of said
+    ≡ flat_map (λ l. l ++ 10 ∷ []) (canonical_lines soup ++ map line_text said)
+mesh_and_said soup said =
     let cert : text_of said ≡ flat_map (λ l. l ++ 10 ∷ []) (map line_text said) =
     sym (flat_map-map (λ l. l ++ 10 ∷ []) line_text said) in
-    ap₂ (λ (m c : Word). head_line settings auto ++ 10 ∷ (m ++ c)) mesh cert
-    ∙ ap (λ (t : Word). head_line settings auto ++ 10 ∷ t)
-    (sym (flat_map-append (λ l. l ++ 10 ∷ []) (canonical_lines soup) (map line_text said)))
-    ∙ sym (append_assoc (head_line settings auto) (10 ∷ []) _)
+    ap₂ ◌++◌ (text_lines soup) cert
+    ∙ sym (flat_map-append (λ l. l ++ 10 ∷ []) (canonical_lines soup) (map line_text said))
 
-lines_are : (settings : Settings) (auto : Bool) (soup : FaceSet) (said : List CertLine) → AreInRange settings auto
-    → IsPrintable soup → list_all (may_stand auto) said ≡ true
-    → lines_of (written_text settings auto soup said) ≡ whole settings auto soup said
-lines_are settings auto soup said range able allowed =
-    ap lines_of (text_is settings auto soup said)
-    ∙ lines_back (whole settings auto soup said) (by_place)
+behind_inside : (rising : Rising) (soup : FaceSet) (said : List CertLine) → IsPrintable soup
+    → list_all (may_stand rising) said ≡ true → (k : ℕ) → k < length (canonical_lines soup ++ map line_text said)
+    → list_all is_inside (get_or (canonical_lines soup ++ map line_text said) k []) ≡ true
+behind_inside rising soup said able allowed =
+    each_both (λ l. list_all is_inside l ≡ true) (canonical_lines soup) (map line_text said) []
+    (mesh_inside soup able) (lines_inside rising said allowed)
+
+-- The lines of the text behind a head line.
+pub lines_behind : (rising : Rising) (soup : FaceSet) (said : List CertLine) → IsPrintable soup
+    → list_all (may_stand rising) said ≡ true
+    → lines_of (canonical_text soup ++ text_of said) ≡ canonical_lines soup ++ map line_text said
+lines_behind rising soup said able allowed =
+    ap lines_of (mesh_and_said soup said)
+    ∙ lines_back (canonical_lines soup ++ map line_text said) (behind_inside rising soup said able allowed)
+
+-- All lines of a text with some head line.
+pub lines_whole : (head : Word) (rising : Rising) (soup : FaceSet) (said : List CertLine)
+    → list_all is_inside head ≡ true → IsPrintable soup → list_all (may_stand rising) said ≡ true
+    → lines_of (head ++ 10 ∷ (canonical_text soup ++ text_of said))
+    ≡ head ∷ canonical_lines soup ++ map line_text said
+lines_whole head rising soup said inside able allowed =
+    ap lines_of (ap (λ (t : Word). head ++ 10 ∷ t) (mesh_and_said soup said) ∙ sym (append_assoc head (10 ∷ []) _))
+    ∙ lines_back (head ∷ canonical_lines soup ++ map line_text said) by_place
   where
-    by_place : (k : ℕ) → k < length (whole settings auto soup said)
-        → list_all is_inside (get_or (whole settings auto soup said) k []) ≡ true
-    by_place zero low = head_inside settings auto range
-    by_place (suc k) low =
-        each_both (λ l. list_all is_inside l ≡ true) (canonical_lines soup) (map line_text said) []
-        (mesh_inside soup able) (lines_inside auto said allowed) k (omega arith)
+    by_place : (k : ℕ) → k < length (head ∷ canonical_lines soup ++ map line_text said)
+        → list_all is_inside (get_or (head ∷ canonical_lines soup ++ map line_text said) k []) ≡ true
+    by_place zero low = inside
+    by_place (suc k) low = behind_inside rising soup said able allowed k (omega arith)
 
 -- Those that are marked.
-marked_are : (soup : FaceSet) (said : List CertLine) → filter is_hash_line (canonical_lines soup ++ map line_text said)
-    ≡ map line_text said
+pub marked_are : (soup : FaceSet) (said : List CertLine)
+    → filter is_hash_line (canonical_lines soup ++ map line_text said) ≡ map line_text said
 marked_are soup said =
     filter_append is_hash_line (canonical_lines soup) (map line_text said)
     ∙ ap₂ ◌++◌ (filter_append is_hash_line (map position_line soup.pos) (map face_line soup.faces)
@@ -188,45 +206,67 @@ pub same_head : (line : Word) (s t : Settings) (a b : Bool) → IsHead line s a 
 same_head line s t a b one two = same_asked (codes "#quadq 1 remesh scale ") line s t a b one.in_range one.written
     two.in_range two.written
 
--- A text tells what it was made of, and nothing else.
-pub tells : (made : Made) (soup : FaceSet) (said : List CertLine) → AreInRange made.settings made.auto
-    → IsPrintable soup → list_all (may_stand made.auto) said ≡ true
-    → made.certificates ≡ certificates_in said → TellsOnly (written_text made.settings made.auto soup said) made
-tells made soup said range able allowed certificates other =
-    subst (λ (ls : Lines). TellHow (slice_index_or ls 0 []) (drop 1 ls) other ↔ (other ≡ made))
-    (sym (lines_are made.settings made.auto soup said range able allowed)) (only, is)
+-- Lines of which those of certificates are marked say these certificates, and no others.
+pub certs_tell : (rising : Rising) (behind : Lines) (certificates : Certificates)
+    → filter is_hash_line behind ≡ map line_text (certificate_lines rising certificates)
+    → AreWritable rising certificates → (other : Certificates)
+    → TellCerts rising behind other ↔ (other ≡ certificates)
+certs_tell rising behind certificates texts able other = (only, is)
   where
-    head : IsHead (head_line made.settings made.auto) made.settings made.auto
+    only : TellCerts rising behind other → other ≡ certificates
+    only tell =
+        let lines : certificate_lines rising certificates ≡ tell.said =
+        one_list rising (certificate_lines rising certificates) tell.said
+        (chosen_allowed rising certificates able) tell.allowed (sym texts ∙ tell.texts) in
+        tell.are ∙ ap (certificates_in rising) (sym lines) ∙ sym (chosen_certs rising certificates able)
+
+    is : other ≡ certificates → TellCerts rising behind other
+    is same = record {
+      said = certificate_lines rising certificates;
+      texts = texts;
+      allowed = chosen_allowed rising certificates able;
+      are = same ∙ chosen_certs rising certificates able;
+    }
+
+-- So do the lines of a mesh and of certificates.
+pub certs_told : (rising : Rising) (soup : FaceSet) (certificates : Certificates) → IsPrintable soup
+    → AreWritable rising certificates → (other : Certificates)
+    → TellCerts rising (lines_of (canonical_text soup ++ text_of (certificate_lines rising certificates))) other
+    ↔ (other ≡ certificates)
+certs_told rising soup certificates printable able =
+    certs_tell rising (lines_of (canonical_text soup ++ text_of (certificate_lines rising certificates))) certificates
+    (ap (filter is_hash_line) (lines_behind rising soup (certificate_lines rising certificates) printable
+    (chosen_allowed rising certificates able)) ∙ marked_are soup (certificate_lines rising certificates)) able
+
+-- A text tells what it was made of, and nothing else.
+pub written_law : WrittenLaw
+written_law settings auto soup certificates range printable able other =
+    subst (λ (ls : Lines). TellHow (slice_index_or ls 0 []) (drop 1 ls) other ↔ (other ≡ made))
+    (sym (lines_whole (head_line settings auto) (third_if auto) soup said (head_inside settings auto range) printable
+    (chosen_allowed (third_if auto) certificates able))) (only, is)
+  where
+    made : Made
+    made = record { settings = settings; auto = auto; certificates = certificates }
+
+    said : List CertLine
+    said = certificate_lines (third_if auto) certificates
+
+    head : IsHead (head_line settings auto) settings auto
     head = record { written = refl; in_range = range }
 
-    only : TellHow (head_line made.settings made.auto) (canonical_lines soup ++ map line_text said) other → other ≡ made
+    tells : (one : Certificates) → TellCerts (third_if auto) (canonical_lines soup ++ map line_text said) one
+        ↔ (one ≡ certificates)
+    tells = certs_tell (third_if auto) (canonical_lines soup ++ map line_text said) certificates
+        (marked_are soup said) able
+
+    only : TellHow (head_line settings auto) (canonical_lines soup ++ map line_text said) other → other ≡ made
     only tell =
-        let same = same_head (head_line made.settings made.auto) made.settings other.settings made.auto other.auto head
-        tell.settings in
-        let lines : said ≡ tell.said =
-        one_list made.auto said tell.said allowed (subst (λ (b : Bool). list_all (may_stand b) tell.said ≡ true)
-        (sym same.1) tell.allowed)
-        (sym (marked_are soup said) ∙ tell.texts) in
-        let both : other.certificates ≡ made.certificates = tell.certificates ∙ ap certificates_in (sym lines)
-        ∙ sym certificates in
+        let same = same_head (head_line settings auto) settings other.settings auto other.auto head tell.settings in
+        let both : other.certificates ≡ certificates = (tells other.certificates).0
+        (subst (λ (b : Bool). TellCerts (third_if b) (canonical_lines soup ++ map line_text said) other.certificates)
+        (sym same.1) tell.certificates) in
         λ i. record { settings = sym same.0 i; auto = sym same.1 i; certificates = both i }
 
-    is : other ≡ made → TellHow (head_line made.settings made.auto) (canonical_lines soup ++ map line_text said) other
-    is same = subst (TellHow (head_line made.settings made.auto) (canonical_lines soup ++ map line_text said))
-        (sym same) (record {
-          settings = head;
-          said = said;
-          texts = marked_are soup said;
-          allowed = allowed;
-          certificates = certificates;
-        })
-
-pub written_law : WrittenLaw
-written_law settings soup cert range able writable =
-    tells (record { settings = settings; auto = false; certificates = alone cert }) soup (said_by cert) range able
-    writable.allowed (one_cert cert writable)
-
-pub chosen_law : ChosenLaw
-chosen_law settings soup certificates range able writable =
-    tells (chosen settings certificates) soup (chosen_lines certificates) range able
-    (chosen_allowed certificates writable) (chosen_certs certificates writable)
+    is : other ≡ made → TellHow (head_line settings auto) (canonical_lines soup ++ map line_text said) other
+    is same = subst (TellHow (head_line settings auto) (canonical_lines soup ++ map line_text said))
+        (sym same) (record { settings = head; certificates = (tells certificates).1 refl })

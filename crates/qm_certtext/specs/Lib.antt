@@ -1,3 +1,4 @@
 pub mod Cuts
 pub mod Heads
 pub mod Parts
+pub mod RoundLines

@@ -1,13 +1,17 @@
 -- Lists of a certificate in the making.
-use Rattle.std.specs.Prelude.{◌≡◌, ◌++◌, ◌+◌, ℕ, Bool, true, false, Option, Some, None, List, [], ◌∷◌, map, ⊤}
+use Rattle.std.specs.Prelude.{◌≡◌, ◌++◌, ℕ, not, Bool, true, false, Option, Some, None, List, [], ◌∷◌, map, ⊤}
 use Rattle.std.specs.List.{after_first, before_first, filter, flat_map, list_all, list_any}
 use Rattle.def_io.specs.Bytes.{Bytes, Lines}
-use Rattle.def_certtext.specs.CertLines.{alone, line_text, raised, Certificates, Lists}
-use Rattle.def_certtext.specs.Reading.{is_hash_line, is_third, length_in, may_stand, set_in, set_up_in, vertex_in}
-use Rattle.def_certtext.specs.Reading.{vertex_up_in, IsFirstBad, Says}
+use Rattle.def_certtext.specs.CertLines.{line_text, risen_by, Lists}
+use Rattle.def_certtext.specs.Reading.{certificates_by, is_hash_line, is_third, length_in, may_stand, set_in, set_up_in}
+use Rattle.def_certtext.specs.Reading.{vertex_in, vertex_up_in, Says}
+use Rattle.def_certtext.specs.Rounds.{parts_of}
 use Rattle.def_certtext.specs.declared.CertFail.{CertFail}
 use Rattle.def_certtext.specs.declared.CertFail.TheVariants.{Head, Line, Memory}
 use Rattle.def_certtext.specs.declared.CertLine.{CertLine}
+use Rattle.def_certtext.specs.declared.CertLine.TheVariants.{Rise}
+use Rattle.def_certtext.specs.declared.certs.Rising.{Rising}
+use Rattle.def_certtext.specs.declared.certs.Rising.TheVariants.{Rounds}
 use Rattle.qm_certtext.specs.declared.parts.Found.{Found}
 use Rattle.qm_certtext.specs.declared.parts.Parts.{Parts}
 
@@ -19,11 +23,6 @@ lists_in_parts parts = record {
   z = parts.sets.items;
   up = parts.vertex_ups.items ++ parts.set_ups.items;
 }
-
--- The certificates that they make, where the first stand before `#f 3`.
-abbrev pub certificates_in_parts : (first : Option Parts) (last : Parts) → Certificates
-certificates_in_parts None last = alone (lists_in_parts last)
-certificates_in_parts (Some first) last = raised (lists_in_parts first) (lists_in_parts last)
 
 -- The lists of these lines.
 pub record Holds (parts : Parts) (said : List CertLine) : Type 0 where
@@ -39,31 +38,63 @@ HoldBoth None last said = (list_any is_third said ≡ false) × Holds last said
 HoldBoth (Some first) last said =
     (list_any is_third said ≡ true) × Holds first (before_first is_third said) × Holds last (after_first is_third said)
 
--- One line more.
-abbrev pub TakesLine : (old new : Found) (line : CertLine) → Type 0
-TakesLine old new line =
-    (said : List CertLine) → HoldBoth old.first old.last said → HoldBoth new.first new.last (said ++ line ∷ [])
+-- Whether a line raises a floor.
+abbrev pub is_rise : (line : CertLine) → Bool
+is_rise (Rise rise) = true
+is_rise _ = false
 
--- What the first lines behind a head line say, in a text of `auto` or not.
-pub record ReadSome (auto : Bool) (behind : Lines) (found : Found) : Type 0 where
+-- The first of these lines raises none.
+abbrev pub begins_plain : (said : List CertLine) → Bool
+begins_plain [] = true
+begins_plain (line ∷ said) = not (is_rise line)
+
+-- Rounds, the lines of the last certificate, and the floors that rise behind it: whatever lines are behind them, these
+-- say the same certificates.
+pub record HoldRounds (found : Found) (said : List CertLine) : Type 0 where
+  pub lines : List CertLine
+  pub plain : list_any is_rise lines ≡ false
+  pub holds : Holds found.last lines
+  pub same : (more : List CertLine) → certificates_by (parts_of (said ++ more))
+      ≡ risen_by found.rounds.items (certificates_by (parts_of (lines ++ (map Rise found.rises.items ++ more))))
+
+-- The same where no floor rises behind the last certificate, and none at first in what is behind.
+pub record HoldEnded (found : Found) (said : List CertLine) : Type 0 where
+  pub lines : List CertLine
+  pub plain : list_any is_rise lines ≡ false
+  pub holds : Holds found.last lines
+  pub none : found.rises.items ≡ []
+  pub same : (more : List CertLine) → begins_plain more ≡ true → certificates_by (parts_of (said ++ more))
+      ≡ risen_by found.rounds.items (certificates_by (parts_of (lines ++ more)))
+
+-- What was found says what lines say.
+abbrev pub HoldSome : (rising : Rising) (found : Found) (said : List CertLine) → Type 0
+HoldSome Rounds found said = HoldRounds found said
+HoldSome _ found said = HoldBoth found.first found.last said
+
+-- The last round is ended.
+abbrev pub EndsRound : (old new : Found) → Type 0
+EndsRound old new = (said : List CertLine) → HoldRounds old said → HoldEnded new said
+
+-- One line more.
+abbrev pub TakesLine : (rising : Rising) (old new : Found) (line : CertLine) → Type 0
+TakesLine rising old new line =
+    (said : List CertLine) → HoldSome rising old said → HoldSome rising new (said ++ line ∷ [])
+
+-- What the first lines behind a head line say, where floors rise so.
+pub record ReadSome (rising : Rising) (behind : Lines) (found : Found) : Type 0 where
   pub said : List CertLine
   pub texts : filter is_hash_line behind ≡ map line_text said
-  pub allowed : list_all (may_stand auto) said ≡ true
-  pub holds : HoldBoth found.first found.last said
+  pub allowed : list_all (may_stand rising) said ≡ true
+  pub holds : HoldSome rising found said
 
 -- The next line, where it was read.
-abbrev pub TakesText : (auto : Bool) (line : Bytes) (old new : Found) → Type 0
-TakesText auto line old new = (behind : Lines) → ReadSome auto behind old → ReadSome auto (behind ++ line ∷ []) new
+abbrev pub TakesText : (rising : Rising) (line : Bytes) (old new : Found) → Type 0
+TakesText rising line old new =
+    (behind : Lines) → ReadSome rising behind old → ReadSome rising (behind ++ line ∷ []) new
 
 -- Why a line of this number was not read.
-abbrev pub IsLineFail : (auto : Bool) (line : Bytes) (number : ℕ) (fail : CertFail) → Type 0
-IsLineFail auto line number Head = ⊥
-IsLineFail auto line number (Line n) =
-    (n ≡ number) × (is_hash_line line ≡ true) × ((said : CertLine) → ¬ Says auto line said)
-IsLineFail auto line number Memory = ⊤
-
--- Why the lines behind the head line, of which the first has this number, were not read.
-abbrev pub IsBehindFail : (auto : Bool) (number : ℕ) (behind : Lines) (fail : CertFail) → Type 0
-IsBehindFail auto number behind Head = ⊥
-IsBehindFail auto number behind (Line n) = (k : ℕ) × IsFirstBad auto behind k × (n ≡ number + k)
-IsBehindFail auto number behind Memory = ⊤
+abbrev pub IsLineFail : (rising : Rising) (line : Bytes) (number : ℕ) (fail : CertFail) → Type 0
+IsLineFail rising line number Head = ⊥
+IsLineFail rising line number (Line n) =
+    (n ≡ number) × (is_hash_line line ≡ true) × ((said : CertLine) → ¬ Says rising line said)
+IsLineFail rising line number Memory = ⊤

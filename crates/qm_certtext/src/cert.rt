@@ -10,10 +10,10 @@ ghost use Rattle.def_certtext.specs.CertLines.{
   text_of,
   HasUps,
 };
-ghost use Rattle.def_certtext.specs.declared.CertLine.TheVariants.{Length, Set, Vertex};
+ghost use Rattle.def_certtext.specs.declared.CertLine.TheVariants.{Length, Rise as RiseLine, Set, Vertex};
 
 use crate::Memory;
-use def_certtext::{CertLine, DUAL_VERTEX, FLOOR, LENGTH, SET};
+use def_certtext::{CertLine, DUAL_VERTEX, FLOOR, LENGTH, RISE, Rise, SET};
 use def_flow::Cert;
 use def_io::LINE_FEED;
 use def_text::{HASH, SPACE};
@@ -26,11 +26,19 @@ pub fn cert_text(alloc: Global, cert: &Cert) -> Result<Vec<u8>, Memory>
     ensures { IfOk result (λ text. text.items ≡ cert_lines cert.now) }
 {
     let mut text = Vec::new(alloc);
-    let (vertices, sets) = cert.dual.up.split_at(cert.dual.y.len());
-    push_lengths(&mut text, &cert.x)?;
-    push_vertices(&mut text, &cert.dual.y, vertices)?;
-    push_sets(&mut text, &cert.dual.z, sets)?;
+    push_cert(&mut text, cert)?;
     Ok(text)
+}
+
+/// The same at the end of a text.
+pub(crate) fn push_cert(text: &mut Vec<u8>, cert: &Cert) -> Result<(), Memory>
+    requires { HasUps (lists_of cert.now) }
+    ensures { OnOk result (text.new.items ≡ text.old.items ++ cert_lines cert.now) }
+{
+    let (vertices, sets) = cert.dual.up.split_at(cert.dual.y.len());
+    push_lengths(text, &cert.x)?;
+    push_vertices(text, &cert.dual.y, vertices)?;
+    push_sets(text, &cert.dual.z, sets)
 }
 
 fn push_lengths(text: &mut Vec<u8>, lengths: &[u64]) -> Result<(), Memory>
@@ -76,8 +84,18 @@ fn push_sets(text: &mut Vec<u8>, numbers: &[i64], ups: &[u32]) -> Result<(), Mem
     Ok(())
 }
 
+/// A line for each floor that rises.
+pub(crate) fn push_rises(text: &mut Vec<u8>, rises: &[Rise]) -> Result<(), Memory>
+    ensures { OnOk result (text.new.items ≡ text.old.items ++ text_of (map RiseLine rises.now)) }
+{
+    for rise in rises {
+        push_line(text, CertLine::Rise { rise: *rise })?;
+    }
+    Ok(())
+}
+
 /// One line and its end.
-fn push_line(text: &mut Vec<u8>, line: CertLine) -> Result<(), Memory>
+pub(crate) fn push_line(text: &mut Vec<u8>, line: CertLine) -> Result<(), Memory>
     ensures { OnOk result (text.new.items ≡ text.old.items ++ line_text line ++ LINE_FEED ∷ []) }
 {
     match line {
@@ -85,6 +103,10 @@ fn push_line(text: &mut Vec<u8>, line: CertLine) -> Result<(), Memory>
         CertLine::Vertex { number, up } => push_dual(text, DUAL_VERTEX, number, up)?,
         CertLine::Set { number, up } => push_dual(text, SET, number, up)?,
         CertLine::Floor { floor } => push_count(text, FLOOR, u64::from(floor))?,
+        CertLine::Rise { rise } => {
+            push_count(text, RISE, u64::from(rise.arc) + 1)?;
+            push_spaced(text, u64::from(rise.floor))?;
+        }
     }
     text.push(LINE_FEED)?;
     Ok(())

@@ -1,13 +1,8 @@
 //! What is written reads back, and as nothing else.
 
-ghost use Rattle.def_certtext.specs.Laws.{ChosenLaw, WrittenLaw};
+ghost use Rattle.def_certtext.specs.Laws.{WrittenLaw};
 
-/// A text of a given floor tells the settings and the certificate that it was made of, and no others.
+/// The text of a remesh tells the settings and the certificates that it was made of, and no others.
 pub fn written_law()
     ensures { WrittenLaw }
-{}
-
-/// So does a text of a chosen floor, with one certificate or two.
-pub fn chosen_law()
-    ensures { ChosenLaw }
 {}

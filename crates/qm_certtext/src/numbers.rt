@@ -1,16 +1,23 @@
 //! The numbers of certificate lines, read as they are written.
 
-ghost use Rattle.std.specs.Prelude.{◌≡◌, ◌≤◌, ◌<◌, ◌==◌, ◌&&◌, ◌++◌, ◌∷◌, ℕ, ℤ, true, decimal, length, nat_lt};
+ghost use Rattle.std.specs.Prelude.{◌≡◌, ◌≤◌, ◌<◌, ◌+◌, ◌==◌, ◌&&◌, ◌++◌, ◌∷◌, ℕ, ℤ, true, decimal, length, nat_lt};
 ghost use Rattle.std.specs.Prelude.{slice_index, unsigned_abs, MatchOption};
 ghost use Rattle.std.specs.Fmt.{signed_decimal};
-ghost use Rattle.def_certtext.specs.Reading.{is_small};
+ghost use Rattle.def_certtext.specs.Reading.{is_small, may_tell};
+ghost use Rattle.def_certtext.specs.declared.certs.Rise.{Rise as AnyRise};
+ghost use Rattle.def_certtext.specs.declared.certs.Rising.TheVariants.{Rounds};
 
+use def_certtext::Rise;
+use def_flow::MAX_FLOOR;
 use def_matching::NUMBER_LIMIT;
 use def_text::{MINUS, SPACE, ZERO};
 use qm_scan::{behind_first, find_byte, read_number};
 
 /// The greatest `up`.
 const GREATEST_UP: u64 = 4_294_967_295;
+
+/// The greatest number of an arc, from 1.
+const MOST_ARCS: u64 = 4_294_967_296;
 
 /// A number of a vertex or a set, and its `up`.
 #[derive(Clone, Copy)]
@@ -40,6 +47,30 @@ pub(crate) fn read_numbered(text: &[u8]) -> Option<Numbered>
         number,
         up: up as u32,
     })
+}
+
+/// An arc, which counts from 1, and its floor behind one space.
+pub(crate) fn read_rise(text: &[u8]) -> Option<Rise>
+    ensures { MatchOption result
+        ((rise : AnyRise) → may_tell Rounds rise ≡ true
+        → ¬ (text.now ≡ decimal (rise.arc + 1) ++ SPACE ∷ decimal rise.floor))
+        (λ rise. (may_tell Rounds rise ≡ true)
+        × (text.now ≡ decimal (rise.arc + 1) ++ SPACE ∷ decimal rise.floor)) }
+{
+    let (prefix, rest) = text.split_at(find_byte(text, SPACE));
+    if rest.is_empty() {
+        return None;
+    }
+    let Some(floor) = read_count(behind_first(rest), u64::from(MAX_FLOOR)) else {
+        return None;
+    };
+    match read_count(prefix, MOST_ARCS) {
+        Some(number) if number > 0 => Some(Rise {
+            arc: (number - 1) as u32,
+            floor: floor as u32,
+        }),
+        _ => None,
+    }
 }
 
 /// A whole number of at most 18 digits, with a minus where it is below 0.

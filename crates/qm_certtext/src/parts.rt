@@ -3,10 +3,11 @@
 ghost use Rattle.std.specs.Prelude.{◌≡◌, ◌&&◌, ◌++◌, [], not, is_some, None, IfOk, OnOk};
 ghost use Rattle.def_certtext.specs.CertLines.{lists_of};
 ghost use Rattle.def_certtext.specs.Reading.{is_third, length_in, set_in, set_up_in, vertex_in, vertex_up_in};
-ghost use Rattle.qm_certtext.specs.Parts.{lists_in_parts, TakesLine};
+ghost use Rattle.def_certtext.specs.declared.certs.Rising.TheVariants.{Rounds};
+ghost use Rattle.qm_certtext.specs.Parts.{lists_in_parts, EndsRound, TakesLine};
 
 use crate::Memory;
-use def_certtext::CertLine;
+use def_certtext::{CertLine, Rise, Rising, Round};
 use def_flow::Cert;
 use def_matching::Dual;
 use std::alloc::Global;
@@ -54,7 +55,7 @@ impl Parts {
                 self.sets.push(number)?;
                 self.set_ups.push(up)?;
             }
-            CertLine::Floor { .. } => {}
+            CertLine::Floor { .. } | CertLine::Rise { .. } => {}
         }
         Ok(())
     }
@@ -82,35 +83,75 @@ impl Parts {
     }
 }
 
-/// What was found so far: the certificate before the first `#f 3`, where there is one, and the last.
+/// What was found so far: the certificate before the first `#f 3`, where there is one, or the rounds whose floors rose;
+/// and the last certificate, with the floors that rise behind it.
 #[derive(Drop)]
 pub(crate) struct Found {
     pub(crate) first: Option<Parts>,
+    pub(crate) rounds: Vec<Round>,
     pub(crate) last: Parts,
+    pub(crate) rises: Vec<Rise>,
 }
 
 impl Found {
     pub(crate) fn new(alloc: Global) -> Found
         ensures first { result.first ≡ None }
+        ensures rounds { (result.rounds.items ≡ []) × (result.rises.items ≡ []) }
         ensures lengths { result.last.lengths.items ≡ [] }
         ensures vertices { (result.last.vertices.items ≡ []) × (result.last.vertex_ups.items ≡ []) }
         ensures sets { (result.last.sets.items ≡ []) × (result.last.set_ups.items ≡ []) }
     {
         Found {
             first: None,
+            rounds: Vec::new(alloc),
             last: Parts::new(alloc),
+            rises: Vec::new(alloc),
         }
     }
 
     /// Takes the next line.
-    pub(crate) fn take(&mut self, alloc: Global, line: CertLine) -> Result<(), Memory>
-        ensures { OnOk result (TakesLine self.old self.new line) }
+    pub(crate) fn take(
+        &mut self,
+        alloc: Global,
+        rising: Rising,
+        line: CertLine,
+    ) -> Result<(), Memory>
+        ensures { OnOk result (TakesLine rising self.old self.new line) }
     {
+        if rising == Rising::Rounds {
+            return self.take_in_round(alloc, line);
+        }
         if self.starts_third(line) {
             self.first = Some(mem::replace(&mut self.last, Parts::new(alloc)));
             return Ok(());
         }
         self.last.take(line)
+    }
+
+    /// Takes the next line of rounds: behind floors that rise, each other line begins the next round.
+    fn take_in_round(&mut self, alloc: Global, line: CertLine) -> Result<(), Memory>
+        ensures { OnOk result (TakesLine Rounds self.old self.new line) }
+    {
+        if let CertLine::Rise { rise } = line {
+            self.rises.push(rise)?;
+            return Ok(());
+        }
+        self.end_round(alloc)?;
+        self.last.take(line)
+    }
+
+    /// Ends the round behind whose certificate floors rise.
+    pub(crate) fn end_round(&mut self, alloc: Global) -> Result<(), Memory>
+        ensures { OnOk result (EndsRound self.old self.new) }
+    {
+        if self.rises.is_empty() {
+            return Ok(());
+        }
+        let last = mem::replace(&mut self.last, Parts::new(alloc));
+        let rises = mem::replace(&mut self.rises, Vec::new(alloc));
+        let cert = last.into_cert()?;
+        self.rounds.push(Round { cert, rises })?;
+        Ok(())
     }
 
     /// Whether the line is the first `#f 3`.

@@ -1,17 +1,20 @@
 //! What a written text says of how it was made.
 
-ghost use Rattle.std.specs.Prelude.{◌≡◌, ◌<◌, ◌+◌, ◌^◌, [], drop, length, slice_index_or, IfOk, IfErr, OnOk};
+ghost use Rattle.std.specs.Prelude.{◌≡◌, ◌<◌, ◌+◌, ◌^◌, List, [], drop, length, slice_index_or, IfOk, IfErr, OnOk};
 ghost use Rattle.def_io.specs.Lines.{lines_of};
-ghost use Rattle.def_certtext.specs.HeadLine.{head_line};
-ghost use Rattle.def_certtext.specs.Reading.{is_hash_line, made_of, with_first, IsCertFail, TellHow};
-ghost use Rattle.def_certtext.specs.Settings.{AreInRange};
-ghost use Rattle.qm_certtext.specs.Parts.{certificates_in_parts, IsBehindFail, IsLineFail, ReadSome, TakesText};
+ghost use Rattle.def_certtext.specs.CertLines.{certificates_of};
+ghost use Rattle.def_certtext.specs.Reading.{certificates_in, is_hash_line, made_of, IsBehindFail, IsCertFail};
+ghost use Rattle.def_certtext.specs.Reading.{TellCerts, TellHow};
+ghost use Rattle.def_certtext.specs.Risings.{third_if};
+ghost use Rattle.def_certtext.specs.declared.CertLine.{CertLine};
+ghost use Rattle.def_certtext.specs.declared.certs.Rising.TheVariants.{Rounds};
+ghost use Rattle.qm_certtext.specs.Parts.{HoldSome, IsLineFail, ReadSome, TakesText};
 
 use crate::Memory;
 use crate::head::read_head;
 use crate::line::read_line;
 use crate::parts::Found;
-use def_certtext::{Asked, CertFail, Written};
+use def_certtext::{CertFail, Certs, Rising, Written};
 use qm_io::{Lines, cut_line};
 use std::alloc::Global;
 
@@ -42,38 +45,45 @@ pub fn read_tail(alloc: Global, tail: &[u8], first: u32) -> Result<Written, Cert
     let Some(asked) = read_head(line) else {
         return Err(CertFail::Head);
     };
-    read_certs(alloc, behind, first + 1, asked)
+    let certs = read_certs(alloc, behind, first + 1, third_if(asked.auto))?;
+    Ok(Written { asked, certs })
 }
 
-/// The same of the bytes behind a head line that asks for this. Their first line is line `from` of a whole, from 0.
+/// How floors rise in a remesh.
+pub fn third_if(auto: bool) -> Rising
+    ensures { result ≡ third_if auto }
+{
+    if auto { Rising::Third } else { Rising::Never }
+}
+
+/// The certificates that the lines behind a head line say, where floors rise so. The first is line `from` of a whole,
+/// from 0. Linear.
 pub fn read_certs(
     alloc: Global,
     behind: &[u8],
     from: u32,
-    asked: Asked,
-) -> Result<Written, CertFail>
-    requires few { from + length (lines_of behind.now) < 2 ^ 32 }
-    requires range { AreInRange asked.settings asked.auto }
-    ensures reads { IfOk result (λ written. TellHow (head_line asked.settings asked.auto) (lines_of behind.now)
-        (made_of written)) }
-    ensures fails { IfErr result (IsCertFail (head_line asked.settings asked.auto) (from + 1) (lines_of behind.now)) }
+    rising: Rising,
+) -> Result<Certs, CertFail>
+    requires { from + length (lines_of behind.now) < 2 ^ 32 }
+    ensures reads { IfOk result (λ certs. TellCerts rising (lines_of behind.now) (certificates_of certs)) }
+    ensures fails { IfErr result (IsBehindFail rising (from + 1) (lines_of behind.now)) }
 {
-    let found = read_behind(alloc, behind, from, asked.auto)?;
-    Ok(written_of(asked, found)?)
+    let found = read_behind(alloc, behind, from, rising)?;
+    Ok(certs_of(alloc, rising, found)?)
 }
 
-/// What the lines of a text say that is of `auto` or not. The first is line `from` of a whole, from 0.
-fn read_behind(alloc: Global, text: &[u8], from: u32, auto: bool) -> Result<Found, CertFail>
+/// What the lines of a text say. The first is line `from` of a whole, from 0.
+fn read_behind(alloc: Global, text: &[u8], from: u32, rising: Rising) -> Result<Found, CertFail>
     requires { from + length (lines_of text.now) < 2 ^ 32 }
-    ensures reads { IfOk result (ReadSome auto (lines_of text.now)) }
-    ensures fails { IfErr result (IsBehindFail auto (from + 1) (lines_of text.now)) }
+    ensures reads { IfOk result (ReadSome rising (lines_of text.now)) }
+    ensures fails { IfErr result (IsBehindFail rising (from + 1) (lines_of text.now)) }
 {
     let mut found = Found::new(alloc);
     let mut rest = text;
     let mut i = from;
     'lines: while let Some((line, behind)) = cut_line(rest) {
         i += 1;
-        take_text(alloc, &mut found, line, auto, i)?;
+        take_text(alloc, &mut found, line, rising, i)?;
         rest = behind;
     }
     Ok(found)
@@ -84,19 +94,19 @@ fn take_text(
     alloc: Global,
     found: &mut Found,
     line: &[u8],
-    auto: bool,
+    rising: Rising,
     number: u32,
 ) -> Result<(), CertFail>
-    ensures taken { OnOk result (TakesText auto line.now found.old found.new) }
-    ensures fails { IfErr result (IsLineFail auto line.now number) }
+    ensures taken { OnOk result (TakesText rising line.now found.old found.new) }
+    ensures fails { IfErr result (IsLineFail rising line.now number) }
 {
     if !is_marked(line) {
         return Ok(());
     }
-    let Some(said) = read_line(line, auto) else {
+    let Some(said) = read_line(line, rising) else {
         return Err(CertFail::Line { line: number });
     };
-    found.take(alloc, said)?;
+    found.take(alloc, rising, said)?;
     Ok(())
 }
 
@@ -109,21 +119,33 @@ fn is_marked(line: &[u8]) -> bool
     }
 }
 
-fn written_of(asked: Asked, found: Found) -> Result<Written, Memory>
-    ensures asked { IfOk result (λ written. (written.settings ≡ asked.settings) × (written.auto ≡ asked.auto)) }
-    ensures certificates { IfOk result
-        (λ written. with_first written.first written.cert ≡ certificates_in_parts found.first found.last) }
+/// The certificates that were found.
+fn certs_of(alloc: Global, rising: Rising, found: Found) -> Result<Certs, Memory>
+    ensures { IfOk result (λ certs. (said : List CertLine) → HoldSome rising found said
+        → certificates_of certs ≡ certificates_in rising said) }
 {
-    let Found { first, last } = found;
-    let first = match first {
-        Some(parts) => Some(parts.into_cert()?),
-        None => None,
-    };
+    if rising == Rising::Rounds {
+        return rounds_of(alloc, found);
+    }
+    let Found { first, last, .. } = found;
     let cert = last.into_cert()?;
-    Ok(Written {
-        settings: asked.settings,
-        auto: asked.auto,
-        first,
-        cert,
-    })
+    match first {
+        Some(parts) => Ok(Certs::Raised {
+            first: parts.into_cert()?,
+            cert,
+        }),
+        None => Ok(Certs::Alone { cert }),
+    }
+}
+
+/// The same of rounds.
+fn rounds_of(alloc: Global, found: Found) -> Result<Certs, Memory>
+    ensures { IfOk result (λ certs. (said : List CertLine) → HoldSome Rounds found said
+        → certificates_of certs ≡ certificates_in Rounds said) }
+{
+    let mut ended = found;
+    ended.end_round(alloc)?;
+    let Found { rounds, last, .. } = ended;
+    let cert = last.into_cert()?;
+    Ok(Certs::Risen { rounds, cert })
 }

@@ -2,15 +2,15 @@
 -- alone.
 use Rattle.std.proofs.Common.{◌≡◌, ◌↔◌, true, drop, ap, sym, ◌∙◌, subst}
 use Rattle.std.specs.List.{list_all}
-use Rattle.def_certtext.specs.{CertLines.used, CertLines.Certificates, HeadLine.head_line, Reading.Made}
-use Rattle.def_certtext.specs.{Reading.TellHow, Settings.AreInRange}
+use Rattle.def_certtext.specs.{CertLines.used, CertLines.Certificates, Reading.TellCerts, Risings.may_rise}
+use Rattle.def_certtext.specs.Settings.{AreInRange}
 use Rattle.def_cut.specs.FullCut.{IsFullCut}
 use Rattle.def_io.specs.{Bytes.Bytes, Bytes.Lines, Lines.lines_of}
 use Rattle.def_layout.specs.{FaceLayouts.IsCutLayout, Lengths.Lengths, Plans.Plan, Plans.layout_of}
 use Rattle.def_layoutnet.specs.MeshLayouts.{IsSomeLayout}
 use Rattle.def_remesh.specs.{NewPoints.lengths_in, Certified.AreKept, Certified.IsShown, Remeshed.finished_text}
-use Rattle.def_remesh.specs.{Remeshed.AreCoarse, TextLaws.made_by, TextLaws.IsSolid}
-use Rattle.def_run.specs.Judging.{behind_in, text_in, Judged, TellsMade}
+use Rattle.def_remesh.specs.{Remeshed.AreCoarse, TextLaws.IsSolid}
+use Rattle.def_run.specs.Judging.{behind_in, text_in, Judged}
 use Rattle.def_written.specs.Edges.{IsUndoubled}
 use Rattle.plan_laws.proofs.OnePlan.{one_layout_law}
 use Rattle.qm_obj.proofs.LawText.{is_inside}
@@ -21,7 +21,7 @@ use Rattle.remesh_laws.specs.Asides.{IsSilent}
 -- cut, which is full; and the lines of the task around the new mesh are no lines of certificates.
 pub record IsJudgeable (judged : Judged) : Type 0 where
   pub solid : IsSolid judged.soup
-  pub range : AreInRange judged.task.settings judged.task.auto
+  pub range : AreInRange judged.task.settings (may_rise judged.task.rising)
   pub full : IsFullCut judged.soup.faces judged.task.marks
   pub laid : IsCutLayout judged.soup.faces judged.task.marks judged.plan
   pub inside : list_all is_inside judged.task.head ≡ true
@@ -30,11 +30,11 @@ pub record IsJudgeable (judged : Judged) : Type 0 where
 -- What is known of a text that is shown, over a layout.
 pub record IsAligned (judged : Judged) (plan : Plan) : Type 0 where
   pub certificates : Certificates
-  pub kept : AreKept judged.task.wish plan judged.task.settings judged.task.auto certificates
+  pub kept : AreKept judged.task.wish plan judged.task.settings judged.task.rising certificates
   pub coarse : AreCoarse plan (used certificates).x
   pub undoubled : IsUndoubled (layout_of plan) (lengths_in (used certificates).x)
   pub written : text_in judged ≡ finished_text judged.task judged.soup plan certificates
-  pub told : (made : Made) → TellsMade judged made ↔ (made ≡ made_by judged.task.settings judged.task.auto certificates)
+  pub told : (other : Certificates) → TellCerts judged.task.rising (behind_in judged) other ↔ (other ≡ certificates)
 
 module _ (judged : Judged) (able : IsJudgeable judged) where
   -- Its layout is that of a mesh.
@@ -55,14 +55,14 @@ module _ (judged : Judged) (able : IsJudgeable judged) where
       coarse = shown.finished.coarse;
       undoubled = shown.finished.undoubled;
       written = shown.finished.written;
-      told = λ made. subst
-          (λ (behind : Lines). TellHow (head_line judged.task.settings judged.task.auto) behind made
-          ↔ (made ≡ made_by judged.task.settings judged.task.auto shown.finished.certificates))
+      told = λ other. subst
+          (λ (behind : Lines). TellCerts judged.task.rising behind other ↔ (other ≡ shown.finished.certificates))
           behind_is
-          (task_told judged.task judged.soup shown.finished.plan shown.finished.certificates able.range able.solid
+          (task_told judged.task judged.soup shown.finished.plan shown.finished.certificates
+          able.range.floor.low able.solid
           (cut_layout judged.soup judged.task.marks shown.finished.plan able.solid able.full shown.finished.cut)
           shown.finished.lengths shown.finished.coarse able.inside
-          (able.silent shown.finished.plan (lengths_in (used shown.finished.certificates).x)) made);
+          (able.silent shown.finished.plan (lengths_in (used shown.finished.certificates).x)) other);
     }
 
     pub aligned : IsAligned judged judged.plan

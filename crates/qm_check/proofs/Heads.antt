@@ -3,7 +3,8 @@ use Rattle.std.proofs.Common.{◌≡◌, ◌≤◌, ◌^◌, ◌<◌, ℕ, zero,
 use Rattle.std.proofs.Common.{refl, subst, arith}
 use Rattle.std.proofs.lemmas.List.{append-nil}
 use Rattle.std.specs.{List.list_all, Prelude.decimal, Prelude.unsigned_abs}
-use Rattle.def_certtext.specs.Settings.{weight_text, AreInRange, IsFloor}
+use Rattle.def_certtext.specs.Risings.{may_rise, rounds_if, third_if}
+use Rattle.def_certtext.specs.Settings.{floor_text, weight_text, AreInRange, IsFloor}
 use Rattle.def_fit.specs.{Aims.fit_settings, Aims.IsAim, Aims.IsFit, FitWords.aim_text, FitWords.fit_head}
 use Rattle.def_fit.specs.{FitWords.keep_word, FitWords.patches_word, FitWords.spacing_word, declared.fit.Aim.Aim}
 use Rattle.def_fit.specs.declared.fit.Aim.TheVariants.{Scale, Edge}
@@ -17,13 +18,13 @@ use Rattle.def_patches.specs.declared.Patches.TheVariants.{Merged, Conforming}
 use Rattle.def_patches.specs.declared.Keep.TheVariants as keeps
 use Rattle.def_run.specs.{Heads.named_head, Size.size_head}
 use Rattle.def_text.specs.{Canonical.micro_text, Types.Word}
-use Rattle.qm_certtext.proofs.Texts.{both_inside, number_inside, settings_inside}
-use Rattle.qm_check.specs.{Least.asked_of, Least.scaled, declared.least.Least.Least}
+use Rattle.qm_certtext.proofs.Texts.{both_inside, floor_inside, number_inside, settings_inside}
+use Rattle.qm_check.specs.{Least.scaled, Least.terms_of, declared.least.Least.Least}
 use Rattle.qm_obj.proofs.LawText.{is_inside, is_tame, line_tame, micro_word, tame_inside, IsWord}
 
 pub record IsHeadFor (least : Least) (line : Bytes) : Type 0 where
   pub fit : IsFit least.fit
-  pub range : AreInRange (asked_of least).settings (asked_of least).auto
+  pub range : AreInRange (terms_of least).settings (may_rise least.rising)
   pub inside : list_all is_inside line ≡ true
 
 -- ---- Texts that end no line.
@@ -83,43 +84,52 @@ fit_inside fit is =
     let keep = codes "#quadq 1 fit keep " ++ keep_word fit.keep ++ codes " patches " in
     let patches = keep ++ patches_word fit.patches ++ codes " aim " in
     let aim = patches ++ aim_text fit.aim ++ codes " floor " in
-    let floor = aim ++ decimal fit.floor ++ codes " weight " in
+    let floor = aim ++ floor_text fit.floor fit.auto ++ codes " weight " in
     let weight = floor ++ weight_text fit.weight ++ codes " spacing " in
     both_inside weight (spacing_word fit.spacing)
     (two_inside floor (weight_text fit.weight) (codes " spacing ")
-    (two_inside aim (decimal fit.floor) (codes " weight ")
+    (two_inside aim (floor_text fit.floor fit.auto) (codes " weight ")
     (two_inside patches (aim_text fit.aim) (codes " floor ")
     (two_inside keep (patches_word fit.patches) (codes " aim ")
     (two_inside (codes "#quadq 1 fit keep ") (keep_word fit.keep) (codes " patches ") refl (keep_inside fit.keep) refl)
     (patches_inside fit.patches) refl) (aim_inside fit.aim is.aim) refl)
-    (number_inside fit.floor (omega (arith, is.high))) refl)
+    (floor_inside fit.floor fit.auto is.floor) refl)
     (weight_inside fit.weight) refl)
     (spacing_inside fit.spacing)
 
 -- ---- Settings that may be asked for.
 
-range_of : (keep : Keep) (patches : Patches) (aim : Aim) (floor : ℕ) (weight : Weight) (spacing : Spacing)
-    → IsAim aim → IsFloor floor false
+range_of : (keep : Keep) (patches : Patches) (aim : Aim) (floor : ℕ) (auto : Bool) (weight : Weight) (spacing : Spacing)
+    → IsAim aim → IsFloor floor auto
     → AreInRange (fit_settings (record {
       keep = keep;
       patches = patches;
       aim = aim;
       floor = floor;
+      auto = auto;
       weight = weight;
       spacing = spacing;
     }))
-    false
-range_of keep patches (Scale p q) floor weight spacing is at =
+    auto
+range_of keep patches (Scale p q) floor auto weight spacing is at =
     record { p_low = is.0; p_high = is.1; q_low = is.2; q_high = is.3; floor = at }
-range_of keep patches (Edge edge) floor weight spacing is at =
+range_of keep patches (Edge edge) floor auto weight spacing is at =
     record { p_low = omega arith; p_high = omega arith; q_low = omega arith; q_high = omega arith; floor = at }
-range_of keep patches Wishes floor weight spacing is at =
+range_of keep patches Wishes floor auto weight spacing is at =
     record { p_low = omega arith; p_high = omega arith; q_low = omega arith; q_high = omega arith; floor = at }
 
-pub fit_range : (fit : Fit) → IsFit fit → AreInRange (fit_settings fit) false
+pub fit_range : (fit : Fit) → IsFit fit → AreInRange (fit_settings fit) fit.auto
 fit_range fit is =
-    range_of fit.keep fit.patches fit.aim fit.floor fit.weight fit.spacing is.aim
-    (record { low = is.low; high = is.high; at_first = λ e. cc })
+    range_of fit.keep fit.patches fit.aim fit.floor fit.auto fit.weight fit.spacing is.aim is.floor
+
+-- Floors rise where that is asked for.
+pub third_rises : (auto : Bool) → may_rise (third_if auto) ≡ auto
+third_rises true = refl
+third_rises false = refl
+
+pub rounds_rise : (auto : Bool) → may_rise (rounds_if auto) ≡ auto
+rounds_rise true = refl
+rounds_rise false = refl
 
 -- A fit near the old lengths.
 
@@ -128,8 +138,7 @@ pub scaled_is : (keep : Keep) (patches : Patches) (settings : Settings) (auto : 
 scaled_is keep patches settings auto range =
     record {
       aim = (range.p_low, range.p_high, range.q_low, range.q_high);
-      low = range.floor.low;
-      high = range.floor.high;
+      floor = record { low = range.floor.low; high = range.floor.high; at_first = λ e. cc };
     }
 
 -- The head line of a command with settings whose floor is a number.

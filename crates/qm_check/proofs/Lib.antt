@@ -1,4 +1,5 @@
 mod Aligned
+mod Behind
 mod Differences
 mod Fronts
 mod Fits

@@ -10,7 +10,7 @@ use Rattle.def_map.specs.MapText.{map_text}
 use Rattle.def_mesh.specs.Manifold.{IsManifold}
 use Rattle.def_remesh.specs.{Certified.IsShown, CutSoups.CutSoup, CutSoups.Regrid, Keeping.IsNetFor}
 use Rattle.def_remesh.specs.{NewPoints.lengths_in, NewPoints.multiple_of, Refined.refined_faces, Refined.refined_text}
-use Rattle.def_remesh.specs.{Tasks.Task, declared.limits.TheConstants.MAX_NEW_FACES}
+use Rattle.def_remesh.specs.declared.limits.TheConstants.{MAX_NEW_FACES}
 use Rattle.def_run.specs.Check.{head_of}
 use Rattle.def_run.specs.Judging.{IsReason}
 use Rattle.def_run.specs.Map.{asks_of, HasMap, HasOtherText, IsHeadedBy, IsMapOf, IsNotRefined, IsUnfinished, IsUnlike}
@@ -190,6 +190,7 @@ module _ (bytes : Bytes) (mark : HeadAt) (old : FaceSet) (command : Command)
     text_fails (NotAccepted (why.Verdict verdict)) both = other (why.Verdict verdict) both
     text_fails (NotAccepted (why.TooFine faces)) both = other (why.TooFine faces) both
     text_fails (NotAccepted (why.Doubled u v)) both = other (why.Doubled u v) both
+    text_fails (NotAccepted (why.Rises round)) both = other (why.Rises round) both
     text_fails (NotAccepted (why.Byte at)) both = other (why.Byte at) both
     text_fails Memory none = tt
     text_fails _ none = absurd none

@@ -1,11 +1,10 @@
 -- What check says of a pair, from what is judged of its text.
-use Rattle.std.proofs.Common.{◌≡◌, ◌⊎◌, ◌<◌, ◌≤◌, ◌^◌, ℕ, Bool, true, false, Result, Ok, Err, length, take, inl, inr}
+use Rattle.std.proofs.Common.{◌≡◌, ◌<◌, ◌^◌, ℕ, Bool, Result, Ok, Err, length, take, inl, inr}
 use Rattle.std.proofs.Common.{refl, ap, sym, ◌∙◌, subst, arith}
-use Rattle.std.proofs.lemmas.Bool.{cases_eq, cases_lt, false≢true}
-use Rattle.def_certtext.specs.{CertLines.Certificates, HeadLine.begins_head, HeadLine.HasNoHead, HeadLine.IsLastHead}
-use Rattle.def_certtext.specs.{HeadLine.IsLastLine, Reading.IsHead}
+use Rattle.std.proofs.lemmas.Bool.{false≢true}
+use Rattle.def_certtext.specs.{HeadLine.begins_head, HeadLine.HasNoHead, HeadLine.IsLastHead, Reading.IsHead}
 use Rattle.def_flow.specs.{Network.network, declared.net.Settings.Settings}
-use Rattle.def_io.specs.{Bytes.Bytes, Bytes.Lines, Lines.lines_of, Lines.tail_of}
+use Rattle.def_io.specs.{Bytes.Bytes, Lines.lines_of, Lines.tail_of}
 use Rattle.def_layout.specs.{FaceLayouts.IsCutLayout, Plans.layout_of, Plans.Plan}
 use Rattle.def_layoutnet.specs.LayoutNet.{IsNetOf}
 use Rattle.def_mesh.specs.Manifold.{IsManifold}
@@ -54,12 +53,6 @@ old_faulty bytes line soup old bad pair =
     bad (subst (λ (s : FaceSet). IsManifold s.faces) (one_ok _ pair.soup soup (pair_said bytes line pair old.divided)
     old.said) pair.manifold)
 
-made_head : (line : Bytes) (settings : Settings) (auto : Bool) (certificates : Certificates)
-    → IsHead line (made_by settings auto certificates).settings (made_by settings auto certificates).auto
-    → IsHead line settings auto
-made_head line settings true certificates is = is
-made_head line settings false certificates is = is
-
 module _ (bytes front : Bytes) (line : ℕ) (divided : IsLastHead (lines_of bytes) line) (lines : lines_of front
     ≡ take line (lines_of bytes)) where
   -- What is said of the text in front is said of the lines before the head line.
@@ -95,9 +88,8 @@ module _ (bytes front : Bytes) (line : ℕ) (divided : IsLastHead (lines_of byte
     pair_head : (pair : IsCheckedPair bytes) → IsHead (head_of bytes line) pair.settings pair.auto
     pair_head pair =
         subst (λ (n : ℕ). IsHead (head_of bytes n) pair.settings pair.auto) (line_is pair)
-        (made_head (head_of bytes pair.line) pair.settings pair.auto pair.remeshed.certificates
         ((pair_law bytes pair (subst IsSolid (sym (soup_is pair)) is.solid)
-        (made_by pair.settings pair.auto pair.remeshed.certificates)).1 refl).settings)
+        (made_by pair.settings pair.auto pair.remeshed.certificates)).1 refl).settings
 
     -- The line behind the old text is no head line.
     pub no_head : ((settings : Settings) (auto : Bool) → ¬ IsHead (head_of bytes line) settings auto)
@@ -215,6 +207,7 @@ module _ (bytes front : Bytes) (line : ℕ) (soup : FaceSet) (settings : Setting
     remesh_fails (NotAccepted (why.Verdict verdict)) both = other (why.Verdict verdict) both
     remesh_fails (NotAccepted (why.TooFine faces)) both = other (why.TooFine faces) both
     remesh_fails (NotAccepted (why.Doubled u v)) both = other (why.Doubled u v) both
+    remesh_fails (NotAccepted (why.Rises round)) both = other (why.Rises round) both
     remesh_fails (NotAccepted (why.Byte at)) both = other (why.Byte at) both
     remesh_fails Memory none = tt
     remesh_fails _ none = absurd none

@@ -2,12 +2,13 @@
 use Rattle.std.proofs.Common.{◌≡◌, ℕ, ℤ, Bool, false, List, [], Option, Some, None, IfSome, codes, Result, Ok, Err}
 use Rattle.std.proofs.Common.{inl, inr, refl, sym, ◌∙◌, ap, subst, arith}
 use Rattle.std.specs.{Prelude.unsigned_abs, Prelude.◌≤◌, Result.result_map_both}
-use Rattle.def_certtext.specs.{HeadLine.head_line, Reading.IsHead, Settings.AreInRange, declared.Asked.Asked}
+use Rattle.def_certtext.specs.{HeadLine.head_line, Reading.IsHead, Risings.rounds_if, Settings.AreInRange}
+use Rattle.def_certtext.specs.declared.Asked.{Asked}
 use Rattle.def_cut.specs.Traced.{traced_marks}
 use Rattle.def_feature.specs.Marked.{marked_cut}
-use Rattle.def_fit.specs.{Aims.AreAimedNear, Aims.IsFit, FitTasks.asides_by, FitTasks.asides_in, FitTasks.Asides}
-use Rattle.def_fit.specs.{FitWords.fit_head, declared.fit.Aim.TheVariants.Edge, declared.fit.Fit.Fit as AnyFit}
-use Rattle.def_fit.specs.declared.fit.Spacing.TheVariants.{Even}
+use Rattle.def_fit.specs.{Aims.fit_settings, Aims.AreAimedNear, Aims.IsFit, FitTasks.asides_by, FitTasks.asides_in}
+use Rattle.def_fit.specs.{FitTasks.Asides, FitWords.fit_head, declared.fit.Aim.TheVariants.Edge}
+use Rattle.def_fit.specs.{declared.fit.Fit.Fit as AnyFit, declared.fit.Spacing.TheVariants.Even}
 use Rattle.def_flow.specs.declared.net.Settings.{Settings}
 use Rattle.def_flow.specs.declared.net.Weight.TheVariants as weights
 use Rattle.def_io.specs.Bytes.{Bytes}
@@ -28,8 +29,8 @@ use Rattle.def_run.specs.declared.command.Command.TheVariants.{Fit}
 use Rattle.def_run.specs.declared.answer.Answer.TheVariants as answers
 use Rattle.def_text.specs.FaceSet.{FaceSet}
 use Rattle.qm_certtext.proofs.Texts.{head_inside}
-use Rattle.qm_check.proofs.Heads.{fit_inside, fit_range, named_inside, scaled_is, size_inside, IsHeadFor}
-use Rattle.qm_check.proofs.Results.{ok_or_err, one_ok}
+use Rattle.qm_check.proofs.Heads.{fit_inside, fit_range, named_inside, rounds_rise, scaled_is}
+use Rattle.qm_check.proofs.{Heads.size_inside, Heads.third_rises, Heads.IsHeadFor, Results.ok_or_err, Results.one_ok}
 use Rattle.qm_check.specs.Least.{fixed, least_of, least_task, remeshed, scaled, AsksToFind, AsksToFindNear, IsLeastLine}
 use Rattle.qm_check.specs.declared.least.Least.{Least}
 
@@ -113,7 +114,7 @@ module _ (settings : Settings) (auto : Bool) where
   remesh_point range = record {
     head = record {
       fit = scaled_is Nothing Traced settings auto range;
-      range = range;
+      range = subst (AreInRange settings) (sym (third_rises auto)) range;
       inside = head_inside settings auto range;
     };
     gives = λ bytes soup task asked. remesh_gives bytes soup task asked.0;
@@ -243,6 +244,7 @@ module _ (edge : ℤ) (floor : ℕ) where
     patches = Traced;
     aim = Edge edge;
     floor = floor;
+    auto = false;
     weight = weights.Plain;
     spacing = Even;
   })
@@ -274,7 +276,7 @@ module _ (edge : ℤ) (floor : ℕ) where
     head = record {
       fit = is;
       range = fit_range sized.fit is;
-      inside = size_inside edge near floor (omega (arith, is.high));
+      inside = size_inside edge near floor (omega (arith, is.floor.high));
     };
     gives = λ bytes soup task asked.
         let same = size_gives bytes soup task asked.0 in
@@ -294,9 +296,17 @@ module _ (edge : ℤ) (floor : ℕ) where
 
 -- ---- `fit`.
 
-fit_point : (fit : AnyFit) → IsFit fit → IsPoint (Fit fit) (fit_head fit) (fixed fit)
+-- What it asks for.
+abbrev chosen : (fit : AnyFit) → Least
+chosen fit = record { fit = fit; rising = rounds_if fit.auto }
+
+fit_point : (fit : AnyFit) → IsFit fit → IsPoint (Fit fit) (fit_head fit) (chosen fit)
 fit_point fit is = record {
-  head = record { fit = is; range = fit_range fit is; inside = fit_inside fit is };
+  head = record {
+    fit = is;
+    range = subst (AreInRange (fit_settings fit)) (sym (rounds_rise fit.auto)) (fit_range fit is);
+    inside = fit_inside fit is;
+  };
   gives = λ bytes soup task asked. asked;
   takes = λ bytes soup task asked. asked;
   tangled = λ bytes count why. why;
@@ -321,12 +331,15 @@ point_by (Crease settings) line is =
     (crease_point settings is.in_range)
 point_by (Size edge floor) line is =
     subst (λ (l : Bytes). IsPoint (Size edge floor) l (sized edge floor)) (sym is.written)
-    (size_point edge floor (record { aim = (is.low, is.near); low = is.floor_low; high = is.floor_high }) is.near)
+    (size_point edge floor (record {
+      aim = (is.low, is.near);
+      floor = record { low = is.floor_low; high = is.floor_high; at_first = λ e. cc };
+    }) is.near)
 point_by (Coarse settings) line is =
     subst (λ (l : Bytes). IsPoint (Coarse settings) l (coarse settings)) (sym is.written)
     (coarse_point settings is.in_range)
 point_by (Fit fit) line is =
-    subst (λ (l : Bytes). IsPoint (Fit fit) l (fixed fit)) (sym is.written) (fit_point fit is.in_range)
+    subst (λ (l : Bytes). IsPoint (Fit fit) l (chosen fit)) (sym is.written) (fit_point fit is.in_range)
 point_by _ line is = tt
 
 pub point_of : (command : Command) (line : Bytes) (least : Least) → IsLeastLine command line least

@@ -1,11 +1,10 @@
 -- What is told of a text that is refused shows that it finishes no task.
-use Rattle.std.proofs.Common.{◌≡◌, ◌⊎◌, ◌+◌, ℕ, Bool, true, false, [], take, inl, inr, refl, ap, sym, ◌∙◌, subst, arith}
-use Rattle.std.proofs.Common.{pos}
-use Rattle.std.proofs.lemmas.Bool.{false≢true}
+use Rattle.std.proofs.Common.{◌≡◌, ◌⊎◌, ◌+◌, ℕ, List, [], take, inl, inr, refl, ap, sym, ◌∙◌, subst, arith, pos}
 use Rattle.std.specs.Prelude.{slice_index_or}
-use Rattle.def_certtext.specs.CertLines.{alone, raised, used, Certificates}
-use Rattle.def_certtext.specs.{CertLines.Lists, HeadLine.head_line, Reading.HasBadLine, Reading.IsFirstBad}
-use Rattle.def_certtext.specs.{Reading.Made, Reading.Says, declared.CertLine.CertLine}
+use Rattle.def_certtext.specs.CertLines.{alone, raised, risen, used}
+use Rattle.def_certtext.specs.{CertLines.Certificates, CertLines.Lists, Reading.HasBadLine, Reading.Says}
+use Rattle.def_certtext.specs.{Reading.TellCerts, declared.CertLine.CertLine, declared.certs.Rise.Rise}
+use Rattle.def_certtext.specs.declared.certs.Rising.{Rising}
 use Rattle.def_cut.specs.FullCut.{IsFullCut}
 use Rattle.def_flow.specs.{Accepted.cert_verdict, Admissible.deviation, Admissible.entries, Network.Network}
 use Rattle.def_flow.specs.{Network.tangle_number, declared.net.Settings.Settings}
@@ -13,11 +12,11 @@ use Rattle.def_io.specs.Bytes.{Bytes}
 use Rattle.def_layout.specs.{FaceLayouts.IsCutLayout, Lengths.Lengths, Plans.Plan, Plans.layout_of}
 use Rattle.def_layoutnet.specs.{LayoutNet.IsNetOf, MeshLayouts.IsSomeLayout}
 use Rattle.def_remesh.specs.{NewPoints.lengths_in, Refusals.IsTangledAt, Certified.AreKept, Certified.certificate_of}
-use Rattle.def_remesh.specs.{Certified.IsCertified, Certified.IsShown, Remeshed.AreCoarse, Remeshed.finished_text}
+use Rattle.def_remesh.specs.{Certified.IsCertified, Certified.IsShown, Remeshed.AreCoarse, Remeshed.AreDoubled}
+use Rattle.def_remesh.specs.{Remeshed.AreKeptBy, Remeshed.finished_text, Rises.risen_floors, Rises.AreNeeded}
 use Rattle.def_remesh.specs.{Tasks.given_floors, Tasks.old_lengths, Tasks.Task, Tasks.Wish, TextLaws.IsSolid}
-use Rattle.def_remesh.specs.TextLaws.{made_by}
-use Rattle.def_run.specs.Judging.{behind_in, first_checked, text_in, IsLoneDoubled, IsThirdWrong, IsWrong, IsWrongText}
-use Rattle.def_run.specs.Judging.{Judged, TellsMade, TellsOtherText}
+use Rattle.def_run.specs.Judging.{behind_in, first_of, text_in, AreFront, AreUnneeded, AreWrong, IsLoneDoubled, IsWrong}
+use Rattle.def_run.specs.Judging.{IsWrongText, Judged, TellsOtherText}
 use Rattle.def_run.specs.declared.answer.Why.{Why}
 use Rattle.def_run.specs.declared.answer.Why.TheVariants as why
 use Rattle.def_text.specs.FaceSet.{FaceSet}
@@ -25,39 +24,38 @@ use Rattle.def_written.specs.Edges.{IsUndoubled}
 use Rattle.plan_laws.proofs.{OnePlan.one_layout_law, MeshLayouts.laid_of}
 use Rattle.remesh_laws.proofs.Printable.{cut_layout}
 use Rattle.qm_cert.proofs.Checked.{accepted_yes}
-use Rattle.qm_certtext.proofs.{Marks.said_at, Texts.same_head}
+use Rattle.qm_certtext.proofs.Marks.{said_at}
 use Rattle.qm_layoutnet.proofs.OneNet.{one_net_law}
 use Rattle.qm_check.proofs.Aligned.{aligned, judged_layout, IsAligned, IsJudgeable}
 
--- Lines tell the certificates that were kept.
-told_kept : (wish : Wish) (plan : Plan) (settings : Settings) (auto : Bool) (certificates : Certificates)
-    → AreKept wish plan settings auto certificates
-    → (made_by settings auto certificates).certificates ≡ certificates
-told_kept wish plan settings true certificates kept = refl
-told_kept wish plan settings false (alone cert) kept = refl
-told_kept wish plan settings false (raised first cert) kept = absurd (false≢true kept.0)
+module _ (wish : Wish) (plan : Plan) (settings : Settings) (rising : Rising) where
+  -- The first certificate that is kept is certified.
+  kept_first : (floors : Lengths) (certificates : Certificates)
+      → AreKeptBy (IsCertified wish plan settings) plan floors rising certificates
+      → IsCertified wish plan settings floors (first_of certificates)
+  kept_first floors (alone cert) kept = kept
+  kept_first floors (raised first cert) kept = kept.1.fit
+  kept_first floors (risen first rises after) kept = kept.1.fit
 
-module _ (wish : Wish) (plan : Plan) (settings : Settings) (auto : Bool) where
-  -- The certificate that is checked first.
-  kept_first : (certificates : Certificates) → AreKept wish plan settings auto certificates
-      → IsCertified wish plan settings (given_floors settings) (first_checked certificates)
-  kept_first (alone cert) kept = kept
-  kept_first (raised first cert) kept = kept.1
+  -- Lengths that double an edge are not those that double none.
+  twice_doubled : (cert first : Lists) → cert ≡ first → AreDoubled plan first.x
+      → IsUndoubled (layout_of plan) (lengths_in cert.x) → ⊥
+  twice_doubled cert first same doubled undoubled =
+      subst (λ (c : Lists). IsUndoubled (layout_of plan) (lengths_in c.x)) same undoubled doubled.0 doubled.1 doubled.2
 
-  kept_coarse : (certificates : Certificates) → AreKept wish plan settings auto certificates
-      → AreCoarse plan (used certificates).x
-      → AreCoarse plan (first_checked certificates).x
-  kept_coarse (alone cert) kept coarse = coarse
-  kept_coarse (raised first cert) kept coarse = kept.2
-
-  -- It is not used alone where its lengths double an edge.
-  used_alone : (certificates other : Certificates) → AreKept wish plan settings auto certificates
-      → other ≡ alone (first_checked certificates)
-      → IsUndoubled (layout_of plan) (lengths_in (used other).x) → other ≡ certificates
-  used_alone (alone cert) other kept is undoubled = is
-  used_alone (raised first cert) other kept is undoubled =
-      absurd (subst (λ (c : Certificates). IsUndoubled (layout_of plan) (lengths_in (used c).x)) is undoubled kept.3.0
-      kept.3.1 kept.3.2)
+  -- Where the lengths of one certificate double no edge, those up to it are all that are kept.
+  front_whole : (floors : Lengths) (certificates others : Certificates) → AreFront certificates others
+      → AreKeptBy (IsCertified wish plan settings) plan floors rising others
+      → IsUndoubled (layout_of plan) (lengths_in (used certificates).x) → certificates ≡ others
+  front_whole floors (alone cert) (alone other) front kept undoubled = ap alone front
+  front_whole floors (alone cert) (raised first other) front kept undoubled =
+      absurd (twice_doubled cert first front kept.1.doubled undoubled)
+  front_whole floors (alone cert) (risen first rises after) front kept undoubled =
+      absurd (twice_doubled cert first front kept.1.doubled undoubled)
+  front_whole floors (raised first cert) others front kept undoubled = sym front
+  front_whole floors (risen first rises after) others (more, is, front) kept undoubled =
+      let parts = subst (AreKeptBy (IsCertified wish plan settings) plan floors rising) is kept in
+      ap (risen first rises) (front_whole (risen_floors rises floors) after more front parts.3 undoubled) ∙ sym is
 
 module _ (wish : Wish) (plan : Plan) (mesh : IsSomeLayout plan) where
   -- A layout has one network.
@@ -81,12 +79,46 @@ module _ (wish : Wish) (plan : Plan) (mesh : IsSomeLayout plan) where
       absurd (omega (arith, fine.0, fine.1, coarse))
   not_wrong settings floors cert _ is coarse wrong = wrong
 
+  -- Lengths that double no edge do not double one.
+  not_lone : (settings : Settings) (floors : Lengths) (cert : Lists) (why : Why)
+      → IsUndoubled (layout_of plan) (lengths_in cert.x) → IsLoneDoubled wish plan settings floors cert why → ⊥
+  not_lone settings floors cert (why.Doubled u v) undoubled lone = undoubled u v lone.2.doubled
+  not_lone settings floors cert _ undoubled lone = lone
+
+  -- Floors that have to rise are those that have to.
+  not_unneeded : (first : Lists) (rises : List Rise) (round : ℕ) (why : Why)
+      → AreNeeded (layout_of plan) (lengths_in first.x) rises → AreUnneeded plan first rises round why → ⊥
+  not_unneeded first rises round (why.Rises number) needed unneeded = unneeded.1 needed
+  not_unneeded first rises round _ needed unneeded = unneeded
+
+  -- Certificates that are kept, whose used lengths give few faces and double no edge, are not wrong.
+  none_wrong : (settings : Settings) (rising : Rising) (floors : Lengths) (round : ℕ) (certificates : Certificates)
+      (why : Why) → AreKeptBy (IsCertified wish plan settings) plan floors rising certificates
+      → AreCoarse plan (used certificates).x
+      → IsUndoubled (layout_of plan) (lengths_in (used certificates).x)
+      → AreWrong wish plan settings floors round certificates why → ⊥
+  none_wrong settings rising floors round (alone cert) why kept coarse undoubled (inl wrong) =
+      not_wrong settings floors cert why kept coarse wrong
+  none_wrong settings rising floors round (alone cert) why kept coarse undoubled (inr lone) =
+      not_lone settings floors cert why undoubled lone
+  none_wrong settings rising floors round (raised first cert) why kept coarse undoubled (inl wrong) =
+      not_wrong settings floors first why kept.1.fit kept.1.coarse wrong
+  none_wrong settings rising floors round (raised first cert) why kept coarse undoubled (inr (doubling, wrong)) =
+      not_wrong settings (λ arc. 3) cert why kept.2 coarse wrong
+  none_wrong settings rising floors round (risen first rises after) why kept coarse undoubled (inl wrong) =
+      not_wrong settings floors first why kept.1.fit kept.1.coarse wrong
+  none_wrong settings rising floors round (risen first rises after) why kept coarse undoubled
+      (inr (doubling, inl unneeded)) = not_unneeded first rises (round + 1) why kept.2 unneeded
+  none_wrong settings rising floors round (risen first rises after) why kept coarse undoubled
+      (inr (doubling, inr (needed, wrong))) =
+      none_wrong settings rising (risen_floors rises floors) (round + 1) after why kept.3 coarse undoubled wrong
+
   -- A network that is too tangled has no certified list.
-  not_tangled : (settings : Settings) (auto : Bool) (count : ℕ) (certificates : Certificates)
-      → AreKept wish plan settings auto certificates
+  not_tangled : (settings : Settings) (rising : Rising) (count : ℕ) (certificates : Certificates)
+      → AreKept wish plan settings rising certificates
       → IsTangledAt wish plan settings count → ⊥
-  not_tangled settings auto count certificates kept tangled =
-      let is = kept_first wish plan settings auto certificates kept in
+  not_tangled settings rising count certificates kept tangled =
+      let is = kept_first wish plan settings rising (given_floors settings) certificates kept in
       let same : tangled.net ≡ is.lengths.net =
       one_net settings (given_floors settings) tangled.net is.lengths.net tangled.is is.lengths.of_layout in
       absurd (omega (arith, tangled.high, tangled.told, ap tangle_number same, is.lengths.untangled))
@@ -97,9 +129,9 @@ pub shown_untangled : (task : Task) (soup : FaceSet) (text : Bytes) (plan : Plan
     → IsCutLayout soup.faces task.marks plan → IsShown task soup text → (count : ℕ)
     → IsTangledAt task.wish plan task.settings count → ⊥
 shown_untangled task soup text plan solid full laid shown count tangled =
-    not_tangled task.wish plan (cut_layout soup task.marks plan solid full laid) task.settings task.auto count
+    not_tangled task.wish plan (cut_layout soup task.marks plan solid full laid) task.settings task.rising count
     shown.finished.certificates
-    (subst (λ (p : Plan). AreKept task.wish p task.settings task.auto shown.finished.certificates)
+    (subst (λ (p : Plan). AreKept task.wish p task.settings task.rising shown.finished.certificates)
     (one_layout_law soup.faces task.marks solid.mesh.manifold full shown.finished.plan plan shown.finished.cut laid)
     shown.certified) tangled
 
@@ -107,91 +139,46 @@ module _ (judged : Judged) (able : IsJudgeable judged) (shown : IsShown judged.t
   is : IsAligned judged judged.plan
   is = aligned judged able shown
 
-  abbrev by : Made
-  by = made_by judged.task.settings judged.task.auto is.certificates
-
   -- Whatever its lines tell are the certificates that were kept.
-  module _ (made : Made) (told : TellsMade judged made) where
-    same : made.certificates ≡ is.certificates
-    same =
-        ap (λ (m : Made). m.certificates) ((is.told made).0 told)
-        ∙ told_kept judged.task.wish judged.plan judged.task.settings judged.task.auto is.certificates is.kept
+  same : (told : Certificates) → TellCerts judged.task.rising (behind_in judged) told → told ≡ is.certificates
+  same told tells = (is.told told).0 tells
 
-    -- So none of them is wrong, whichever they are called.
-    module _ (certificates : Certificates) (there : made.certificates ≡ certificates) where
-      kept : AreKept judged.task.wish judged.plan judged.task.settings judged.task.auto certificates
-      kept = subst (AreKept judged.task.wish judged.plan judged.task.settings judged.task.auto) (sym same ∙ there)
-          is.kept
+  -- None of these is wrong.
+  certs_fine : (told : Certificates) (why : Why) → told ≡ is.certificates
+      → AreWrong judged.task.wish judged.plan judged.task.settings (given_floors judged.task.settings) 1 told why → ⊥
+  certs_fine told why are wrong =
+      none_wrong judged.task.wish judged.plan (judged_layout judged able) judged.task.settings judged.task.rising
+      (given_floors judged.task.settings) 1 is.certificates why is.kept is.coarse is.undoubled
+      (subst (λ (c : Certificates). AreWrong judged.task.wish judged.plan judged.task.settings
+      (given_floors judged.task.settings) 1 c why) are wrong)
 
-      coarse : AreCoarse judged.plan (used certificates).x
-      coarse = subst (λ (c : Certificates). AreCoarse judged.plan (used c).x) (sym same ∙ there) is.coarse
-
-      undoubled : IsUndoubled (layout_of judged.plan) (lengths_in (used certificates).x)
-      undoubled = subst (λ (c : Certificates). IsUndoubled (layout_of judged.plan) (lengths_in (used c).x)) (sym same
-          ∙ there) is.undoubled
-
-    first_fine : (why : Why) → IsWrong judged.task.wish judged.plan judged.task.settings
-        (given_floors judged.task.settings) (first_checked made.certificates) why → ⊥
-    first_fine why = not_wrong judged.task.wish judged.plan (judged_layout judged able) judged.task.settings
-        (given_floors judged.task.settings)
-        (first_checked made.certificates) why
-        (kept_first judged.task.wish judged.plan judged.task.settings judged.task.auto made.certificates
-        (kept made.certificates refl))
-        (kept_coarse judged.task.wish judged.plan judged.task.settings judged.task.auto made.certificates
-        (kept made.certificates refl)
-        (coarse made.certificates refl))
-
-    lone_fine : (why : Why) → IsLoneDoubled judged.task.wish judged.plan judged.task.settings made why → ⊥
-    lone_fine (why.Doubled u v) lone = undoubled (alone lone.0) lone.1 u v lone.4.doubled
-    lone_fine _ lone = lone
-
-    third_fine : (why : Why) → IsThirdWrong judged.task.wish judged.plan judged.task.settings made why → ⊥
-    third_fine why third = not_wrong judged.task.wish judged.plan (judged_layout judged able)
-        judged.task.settings (λ arc. 3) third.cert why
-        (kept (raised third.first third.cert) third.there).4 (coarse (raised third.first third.cert) third.there)
-        third.wrong
-
-    -- The certificates that are compared with are those too, and their text is the one that is given.
-    other_fine : (why : Why) → TellsOtherText judged made why → ⊥
-    other_fine (why.Byte at) other = other.differ.there
-        (ap (take at) (is.written ∙ ap (finished_text judged.task judged.soup judged.plan) (sym same
-        ∙ sym (by_case other.chosen))))
-      where
-        by_case : (other.certificates ≡ alone (first_checked made.certificates))
-            ⊎ (other.certificates ≡ made.certificates)
-            → other.certificates ≡ made.certificates
-        by_case (inl first) = used_alone judged.task.wish judged.plan judged.task.settings judged.task.auto
-            made.certificates other.certificates
-            (kept made.certificates refl) first other.undoubled
-        by_case (inr both) = both
-    other_fine _ other = other
+  -- The certificates that are compared with are those too, and their text is the one that is given.
+  other_fine : (told : Certificates) (why : Why) → told ≡ is.certificates → TellsOtherText judged told why → ⊥
+  other_fine told (why.Byte at) are other =
+      let whole : other.certificates ≡ is.certificates =
+      front_whole judged.task.wish judged.plan judged.task.settings judged.task.rising
+      (given_floors judged.task.settings) other.certificates is.certificates
+      (subst (AreFront other.certificates) are other.front) is.kept other.undoubled in
+      other.differ.there
+      (ap (take at) (is.written ∙ ap (finished_text judged.task judged.soup judged.plan) (sym whole)))
+  other_fine told _ are other = other
 
   -- A text whose certificates or whose bytes are refused finishes no task.
   pub text_refuted : (why : Why) → IsWrongText judged why → ⊥
   text_refuted why wrong = by_case wrong.wrong
     where
-      by_case : IsWrong judged.task.wish judged.plan judged.task.settings (given_floors judged.task.settings)
-          (first_checked wrong.made.certificates) why
-          ⊎ (IsLoneDoubled judged.task.wish judged.plan judged.task.settings wrong.made why
-          ⊎ (IsThirdWrong judged.task.wish judged.plan judged.task.settings wrong.made why
-          ⊎ TellsOtherText judged wrong.made why)) → ⊥
-      by_case (inl one) = first_fine wrong.made wrong.told why one
-      by_case (inr (inl lone)) = lone_fine wrong.made wrong.told why lone
-      by_case (inr (inr (inl three))) = third_fine wrong.made wrong.told why three
-      by_case (inr (inr (inr other))) = other_fine wrong.made wrong.told why other
+      by_case : AreWrong judged.task.wish judged.plan judged.task.settings (given_floors judged.task.settings) 1
+          wrong.told why ⊎ TellsOtherText judged wrong.told why → ⊥
+      by_case (inl certs) = certs_fine wrong.told why (same wrong.told wrong.tells) certs
+      by_case (inr other) = other_fine wrong.told why (same wrong.told wrong.tells) other
 
   -- Nor does one with a bad line behind the head line.
-  pub line_refuted : (line : ℕ) → HasBadLine (head_line judged.task.settings judged.task.auto) (judged.line + 2)
-      (behind_in judged) line → ⊥
-  line_refuted line has = found.bad said.0 said.1
+  pub line_refuted : (line : ℕ) → HasBadLine judged.task.rising (judged.line + 2) (behind_in judged) line → ⊥
+  line_refuted line has = has.bad.bad said.0 said.1
     where
-      how : TellsMade judged by
-      how = (is.told by).1 refl
+      how : TellCerts judged.task.rising (behind_in judged) is.certificates
+      how = (is.told is.certificates).1 refl
 
-      found : IsFirstBad by.auto (behind_in judged) has.k
-      found = subst (λ (b : Bool). IsFirstBad b (behind_in judged) has.k)
-          (same_head (head_line judged.task.settings judged.task.auto) has.settings by.settings has.auto by.auto
-          has.asked how.settings).1 has.bad
-
-      said : (l : CertLine) × Says by.auto (slice_index_or (behind_in judged) has.k []) l
-      said = said_at by.auto (behind_in judged) how.said how.texts how.allowed has.k found.there found.marked
+      said : (l : CertLine) × Says judged.task.rising (slice_index_or (behind_in judged) has.k []) l
+      said = said_at judged.task.rising (behind_in judged) how.said how.texts how.allowed has.k has.bad.there
+          has.bad.marked

@@ -17,7 +17,7 @@ use Rattle.def_text.specs.FaceSet.{FaceSet}
 use Rattle.patch_laws.proofs.Chosen.{chosen_cut_law, one_cut_law}
 use Rattle.plan_laws.proofs.OnePlan.{one_layout_law}
 use Rattle.qm_check.proofs.{Points.IsPoint, Refuted.shown_untangled, Results.ok_or_err, Results.one_ok}
-use Rattle.qm_check.specs.{Least.asked_of, Least.least_task, Least.AsksToFind, Least.HasNoNet, Making.IsOnlyTask}
+use Rattle.qm_check.specs.{Least.least_task, Least.terms_of, Least.AsksToFind, Least.HasNoNet, Making.IsOnlyTask}
 use Rattle.qm_check.specs.{Making.IsUnmade, Ready.marks_of, Ready.IsAsideFail, Ready.IsLaidOut, Ready.IsOld}
 use Rattle.qm_check.specs.{declared.least.Least.Least, declared.ready.Frame.Frame}
 
@@ -148,7 +148,7 @@ module _ (command : Command) (line text : Bytes) (least : Least) (point : IsPoin
     net_unmade _ none = absurd none
 
     -- The mesh is laid out for the task.
-    pub laid_for : (frame : Frame) → frame.asked ≡ asked_of least → frame.head.items ≡ line ++ 10 ∷ []
+    pub laid_for : (frame : Frame) → frame.terms ≡ terms_of least → frame.head.items ≡ line ++ 10 ∷ []
         → marks_of frame ≡ asides.kept
         → ((marks : List Bool) → IsFullCut cut.soup.faces marks → IsCutLayout cut.soup.faces marks cut.plan
         → frame.shares ≡ shares_of least.fit cut.soup asides.wishes marks)
@@ -158,7 +158,7 @@ module _ (command : Command) (line text : Bytes) (least : Least) (point : IsPoin
       full = full;
       laid = by.laid;
       range = point.head.range;
-      asked = is;
+      terms = is;
       head = ended;
       inside = point.head.inside;
       between = λ plan new. λ i. kept_text (sym marks i) plan new;

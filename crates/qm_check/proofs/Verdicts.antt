@@ -1,29 +1,30 @@
 -- Each refusal of a text, with what it says of it, and what a text shows that is not refused.
 use Rattle.std.proofs.Common.{◌≡◌, ℕ, ◌+◌, Bool, List, Option, Some, None, drop, inl, inr, refl, ap, sym, ◌∙◌, subst}
 use Rattle.std.proofs.Common.{arith}
-use Rattle.def_certtext.specs.{CertLines.certificates_of, CertLines.used, CertLines.Certificates, HeadLine.head_line}
-use Rattle.def_certtext.specs.{Reading.HasBadLine, Reading.Made, Reading.TellHow, Settings.AreInRange}
-use Rattle.def_certtext.specs.declared.Asked.{Asked}
+use Rattle.std.specs.Prelude.{⊤}
+use Rattle.def_certtext.specs.CertLines.{alone, certificates_of, raised, risen}
+use Rattle.def_certtext.specs.{CertLines.used, CertLines.Certificates, CertLines.Lists, Reading.HasBadLine}
+use Rattle.def_certtext.specs.{Reading.TellCerts, declared.certs.Rise.Rise, declared.certs.Terms.Terms}
 use Rattle.def_cut.specs.FullCut.{IsFullCut}
 use Rattle.def_fit.specs.FitTasks.{kept_text}
 use Rattle.def_flow.specs.{Network.network, Network.tangle_number, Network.Network, declared.net.Settings.Settings}
 use Rattle.def_io.specs.{Bytes.Bytes, Lines.lines_of}
 use Rattle.def_layout.specs.{FaceLayouts.IsCutLayout, Lengths.Lengths, Plans.layout_of, Plans.vertex_at, Plans.Plan}
 use Rattle.def_remesh.specs.{Certified.IsShown, CutSoups.Regrid, Keeping.IsKept, Keeping.IsNetFor, NewPoints.lengths_in}
-use Rattle.def_remesh.specs.{Refusals.IsTangledAt, Remeshed.finished_text, Stitched.KeepsShapes, Tasks.Task, Tasks.Wish}
-use Rattle.def_remesh.specs.TextLaws.{IsSolid}
-use Rattle.def_run.specs.Judging.{behind_in, text_in, DifferFrom, IsWrongText, Judged, TellsMade}
+use Rattle.def_remesh.specs.{Refusals.IsTangledAt, Remeshed.finished_text, Stitched.KeepsShapes, Rises.risen_floors}
+use Rattle.def_remesh.specs.{Tasks.given_floors, Tasks.Task, Tasks.Wish, TextLaws.IsSolid}
+use Rattle.def_run.specs.Judging.{behind_in, text_in, AreUnneeded, AreWrong, DifferFrom, IsLoneDoubled, IsWrong}
+use Rattle.def_run.specs.Judging.{IsWrongText, Judged}
 use Rattle.def_run.specs.declared.answer.Why.{Why}
 use Rattle.def_run.specs.declared.check_fail.CheckFail.{CheckFail}
 use Rattle.def_run.specs.declared.check_fail.CheckFail.TheVariants.{NotAccepted, Memory}
 use Rattle.def_run.specs.declared.answer.Why.TheVariants as why
 use Rattle.def_text.specs.FaceSet.{FaceSet}
 use Rattle.def_written.specs.{NewFaces.new_faces, Shape.KeepsShape}
-use Rattle.qm_certtext.proofs.Texts.{same_head}
 use Rattle.qm_check.proofs.{Aligned.IsJudgeable, Refuted.line_refuted, Refuted.one_net, Refuted.text_refuted}
-use Rattle.qm_check.specs.Checked.{HasWrongCert, IsChecked, IsDifference, IsUnused}
-use Rattle.qm_check.specs.{Judged.judged_by, Judged.Finishes, Judged.IsTextFail, Ready.marks_of, Ready.IsReady}
-use Rattle.qm_check.specs.{Ready.TellsNothing, declared.ready.Ready.Ready}
+use Rattle.qm_check.specs.{Checked.IsChecked, Checked.IsDifference, Checked.IsUnused, Judged.judged_by, Judged.Finishes}
+use Rattle.qm_check.specs.{Judged.IsTextFail, Ready.marks_of, Ready.IsReady, Ready.TellsNothing}
+use Rattle.qm_check.specs.declared.ready.Ready.{Ready}
 use Rattle.qm_write.proofs.Framing.{text_is}
 use Rattle.qm_write.specs.{Framing.framed_text, Framing.IsFramed, declared.text.Framed.Framed}
 use Rattle.remesh_laws.proofs.{Keeps.least_of, MarkedLines.marked_silent, Printable.quads_of, TaskTexts.none_silent}
@@ -49,6 +50,44 @@ between_silent : (marks : Option (List Bool)) (plan : Plan) (new : Lengths) → 
 between_silent None plan new = none_silent
 between_silent (Some marks) plan new = marked_silent marks plan new
 
+-- What may be told of certificates.
+abbrev TellsOfCerts : (why : Why) → Type 0
+TellsOfCerts (why.Verdict verdict) = ⊤
+TellsOfCerts (why.TooFine faces) = ⊤
+TellsOfCerts (why.Doubled u v) = ⊤
+TellsOfCerts (why.Rises round) = ⊤
+TellsOfCerts _ = ⊥
+
+-- What is wrong with certificates is told of them.
+module _ (wish : Wish) (plan : Plan) (settings : Settings) where
+  cert_tells : (floors : Lengths) (cert : Lists) (why : Why) → IsWrong wish plan settings floors cert why
+      → TellsOfCerts why
+  cert_tells floors cert (why.Verdict verdict) wrong = tt
+  cert_tells floors cert (why.TooFine faces) wrong = tt
+  cert_tells floors cert _ wrong = absurd wrong
+
+  lone_tells : (floors : Lengths) (cert : Lists) (why : Why) → IsLoneDoubled wish plan settings floors cert why
+      → TellsOfCerts why
+  lone_tells floors cert (why.Doubled u v) wrong = tt
+  lone_tells floors cert _ wrong = absurd wrong
+
+  rises_tell : (first : Lists) (rises : List Rise) (round : ℕ) (why : Why) → AreUnneeded plan first rises round why
+      → TellsOfCerts why
+  rises_tell first rises round (why.Rises number) wrong = tt
+  rises_tell first rises round _ wrong = absurd wrong
+
+  wrong_tells : (floors : Lengths) (round : ℕ) (told : Certificates) (why : Why)
+      → AreWrong wish plan settings floors round told why → TellsOfCerts why
+  wrong_tells floors round (alone cert) why (inl wrong) = cert_tells floors cert why wrong
+  wrong_tells floors round (alone cert) why (inr lone) = lone_tells floors cert why lone
+  wrong_tells floors round (raised first cert) why (inl wrong) = cert_tells floors first why wrong
+  wrong_tells floors round (raised first cert) why (inr (doubling, wrong)) = cert_tells (λ arc. 3) cert why wrong
+  wrong_tells floors round (risen first rises after) why (inl wrong) = cert_tells floors first why wrong
+  wrong_tells floors round (risen first rises after) why (inr (doubling, inl unneeded)) =
+      rises_tell first rises (round + 1) why unneeded
+  wrong_tells floors round (risen first rises after) why (inr (doubling, inr (needed, wrong))) =
+      wrong_tells (risen_floors rises floors) (round + 1) after why wrong
+
 module _ (bytes : Bytes) (line : ℕ) (task : Task) (ready : Ready) (is : IsReady task ready) where
   abbrev judged : Judged
   judged = judged_by bytes line ready.cut task
@@ -64,18 +103,15 @@ module _ (bytes : Bytes) (line : ℕ) (task : Task) (ready : Ready) (is : IsRead
         (between_silent (marks_of ready.frame) plan new);
   }
 
-  pub asked_range : AreInRange ready.frame.asked.settings ready.frame.asked.auto
-  asked_range = subst (λ (a : Asked). AreInRange a.settings a.auto) (sym is.laid_out.asked) is.laid_out.range
-
-  head_is : head_line ready.frame.asked.settings ready.frame.asked.auto ≡ head_line task.settings task.auto
-  head_is = ap (λ (a : Asked). head_line a.settings a.auto) is.laid_out.asked
+  terms_are : ready.frame.terms ≡ record { settings = task.settings; rising = task.rising }
+  terms_are = is.laid_out.terms
 
   -- A line behind the head line is bad.
-  pub tells_nothing : (fail : CheckFail) → TellsNothing (head_line ready.frame.asked.settings ready.frame.asked.auto)
-      bytes line fail → IsTextFail judged fail
+  pub tells_nothing : (fail : CheckFail) → TellsNothing ready.frame.terms.rising bytes line fail
+      → IsTextFail judged fail
   tells_nothing (NotAccepted (why.CertLine bad)) has =
-      let moved : HasBadLine (head_line task.settings task.auto) (line + 2) (behind_in judged) bad =
-      subst (λ (head : Bytes). HasBadLine head (line + 2) (behind_in judged) bad) head_is has in
+      let moved : HasBadLine task.rising (line + 2) (behind_in judged) bad =
+      subst (λ (t : Terms). HasBadLine t.rising (line + 2) (behind_in judged) bad) terms_are has in
       (moved, λ shown. line_refuted judged able shown bad moved)
   tells_nothing Memory has = tt
   tells_nothing _ has = absurd has
@@ -85,48 +121,42 @@ module _ (bytes : Bytes) (line : ℕ) (task : Task) (ready : Ready) (is : IsRead
       × (¬ IsShown task ready.cut.soup (text_in judged))
   both why wrong = (wrong, λ shown. text_refuted judged able shown why wrong)
 
-  module _ (made : Made) (tells : TellHow (head_line ready.frame.asked.settings ready.frame.asked.auto)
-      (drop (line + 1) (lines_of bytes)) made) where
-    told : TellsMade judged made
-    told = subst (λ (head : Bytes). TellHow head (behind_in judged) made) head_is tells
+  pub net_is : IsNetFor task.wish ready.cut.plan ready.frame.terms.settings (network ready.net)
+  net_is = subst (λ (t : Terms). IsNetFor task.wish ready.cut.plan t.settings (network ready.net)) (sym terms_are)
+      is.net
 
-    -- It was made as the task asks.
-    abbrev made_so : Asked
-    made_so = record { settings = made.settings; auto = made.auto }
+  module _ (told : Certificates) (reads : TellCerts ready.frame.terms.rising (drop (line + 1)
+      (lines_of bytes)) told) where
+    tells : TellCerts task.rising (behind_in judged) told
+    tells = subst (λ (t : Terms). TellCerts t.rising (behind_in judged) told) terms_are reads
 
-    abbrev asked : Asked
-    asked = record { settings = task.settings; auto = task.auto }
+    abbrev AreBad : (why : Why) → Type 0
+    AreBad why = AreWrong task.wish ready.cut.plan task.settings (given_floors task.settings) 1 told why
 
-    made_is : made_so ≡ asked
-    made_is =
-        let both = same_head (head_line task.settings task.auto) made.settings task.settings made.auto task.auto
-        told.settings
-        (record { written = refl; in_range = is.laid_out.range }) in
-        λ i. record { settings = both.0 i; auto = both.1 i }
+    cert_wrong : (why : Why) → AreBad why → IsWrongText judged why
+    cert_wrong why wrong = record { told = told; tells = tells; wrong = inl wrong }
 
-    pub net_is : IsNetFor task.wish ready.cut.plan made.settings (network ready.net)
-    net_is = subst (λ (a : Asked). IsNetFor task.wish ready.cut.plan a.settings (network ready.net)) (sym made_is)
-        is.net
+    bad_by : (why : Why) → AreBad why → TellsOfCerts why → IsTextFail judged (NotAccepted why)
+    bad_by (why.Verdict verdict) wrong said = both (why.Verdict verdict) (cert_wrong (why.Verdict verdict) wrong)
+    bad_by (why.TooFine faces) wrong said = both (why.TooFine faces) (cert_wrong (why.TooFine faces) wrong)
+    bad_by (why.Doubled u v) wrong said = both (why.Doubled u v) (cert_wrong (why.Doubled u v) wrong)
+    bad_by (why.Rises round) wrong said = both (why.Rises round) (cert_wrong (why.Rises round) wrong)
+    bad_by _ wrong said = absurd said
 
-    cert_wrong : (why : Why) → HasWrongCert task.wish ready.cut.plan task.settings made why → IsWrongText judged why
-    cert_wrong why (inl one) = record { made = made; told = told; wrong = inl one }
-    cert_wrong why (inr third) = record { made = made; told = told; wrong = inr (inr (inl third)) }
-
-    wrong_by : (fail : CheckFail) → IsUnused task.wish ready.cut.plan task.settings made fail → IsTextFail judged fail
-    wrong_by (NotAccepted (why.Verdict verdict)) by = both (why.Verdict verdict) (cert_wrong (why.Verdict verdict) by)
-    wrong_by (NotAccepted (why.TooFine faces)) by = both (why.TooFine faces) (cert_wrong (why.TooFine faces) by)
-    wrong_by (NotAccepted (why.Doubled u v)) by =
-        both (why.Doubled u v) (record { made = made; told = told; wrong = inr (inl by) })
+    wrong_by : (fail : CheckFail) → IsUnused task.wish ready.cut.plan task.settings told fail → IsTextFail judged fail
+    wrong_by (NotAccepted why) by =
+        bad_by why by (wrong_tells task.wish ready.cut.plan task.settings (given_floors task.settings) 1 told why by)
     wrong_by Memory by = tt
     wrong_by _ by = absurd by
 
     -- The certificates are not used.
-    pub unused : (fail : CheckFail) → IsUnused task.wish ready.cut.plan made.settings made fail → IsTextFail judged fail
-    unused fail by = wrong_by fail (subst (λ (a : Asked). IsUnused task.wish ready.cut.plan a.settings made fail)
-        made_is by)
+    pub unused : (fail : CheckFail) → IsUnused task.wish ready.cut.plan ready.frame.terms.settings told fail
+        → IsTextFail judged fail
+    unused fail by = wrong_by fail (subst (λ (t : Terms). IsUnused task.wish ready.cut.plan t.settings told fail)
+        terms_are by)
 
     module _ (framed : Framed) (deviates : ℕ)
-        (right : IsChecked task.wish ready.cut.plan (network ready.net) made
+        (right : IsChecked task.wish ready.cut.plan (network ready.net) ready.frame.terms told
         (record { remesh = framed.remesh; deviation = deviates }))
         (head : framed.head.items ≡ ready.frame.head.items)
         (between : framed.between.items
@@ -136,19 +166,19 @@ module _ (bytes : Bytes) (line : ℕ) (task : Task) (ready : Ready) (is : IsRead
       abbrev certificates : Certificates
       certificates = certificates_of framed.remesh.certs
 
-      asked_is : framed.remesh.asked ≡ asked
-      asked_is = right.asked ∙ made_is
+      found_by : framed.remesh.terms ≡ record { settings = task.settings; rising = task.rising }
+      found_by = right.found ∙ terms_are
 
-      kept : IsKept task.wish ready.cut.plan task.settings task.auto certificates framed.remesh.numbering
-      kept = subst (λ (a : Asked). IsKept task.wish ready.cut.plan a.settings a.auto certificates
-          framed.remesh.numbering) asked_is right.kept
+      kept : IsKept task.wish ready.cut.plan task.settings task.rising certificates framed.remesh.numbering
+      kept = subst (λ (t : Terms). IsKept task.wish ready.cut.plan t.settings t.rising certificates
+          framed.remesh.numbering) found_by right.kept
 
       -- What is kept is in the frame of the task.
       in_frame : IsFramed task framed ready.cut.soup ready.cut.plan
       in_frame = record {
         cut = is.laid_out.laid;
-        settings = ap (λ (a : Asked). a.settings) asked_is;
-        auto = ap (λ (a : Asked). a.auto) asked_is;
+        settings = ap (λ (t : Terms). t.settings) found_by;
+        rising = ap (λ (t : Terms). t.rising) found_by;
         kept = kept;
         head = head ∙ is.laid_out.head;
         between = between ∙ sym (is.laid_out.between ready.cut.plan (lengths_in (used certificates).x));
@@ -163,16 +193,16 @@ module _ (bytes : Bytes) (line : ℕ) (task : Task) (ready : Ready) (is : IsRead
       pub other : (fail : CheckFail) → IsDifference (text_in judged) (framed_text framed ready.cut.soup ready.cut.plan)
           fail → IsTextFail judged fail
       other (NotAccepted (why.Byte at)) differ = both (why.Byte at) (record {
-        made = made;
         told = told;
-        wrong = inr (inr (inr (record {
+        tells = tells;
+        wrong = inr (record {
           certificates = certificates;
-          chosen = right.chosen;
+          front = right.front;
           kept = kept.kept;
           coarse = kept.coarse;
           undoubled = kept.undoubled;
           differ = subst (λ (t : Bytes). DifferFrom (text_in judged) t at) text differ;
-        })));
+        });
       })
       other Memory differ = tt
       other _ differ = absurd differ
@@ -195,7 +225,7 @@ module _ (bytes : Bytes) (line : ℕ) (task : Task) (ready : Ready) (is : IsRead
             plan = ready.cut.plan;
             cut = is.laid_out.laid;
             certificates = certificates;
-            lengths = least_of task.wish ready.cut.plan task.settings task.auto certificates kept.kept;
+            lengths = least_of task.wish ready.cut.plan task.settings task.rising certificates kept.kept;
             coarse = kept.coarse;
             undoubled = kept.undoubled;
             written = written ∙ text;

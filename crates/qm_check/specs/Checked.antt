@@ -1,8 +1,11 @@
 -- What certificates are checked to be.
-use Rattle.std.specs.Prelude.{◌≡◌, ◌≢◌, ◌⊎◌, ◌<◌, ◌≤◌, ◌^◌, ℕ, ℤ, Bool, true, List, length, slice_index, ⊤}
-use Rattle.def_certtext.specs.CertLines.{alone, certificates_of, raised, used, Certificates, Lists}
-use Rattle.def_certtext.specs.Reading.{Made}
-use Rattle.def_certtext.specs.declared.Asked.{Asked}
+use Rattle.std.specs.Prelude.{◌≡◌, ◌≢◌, ◌<◌, ◌≤◌, ◌^◌, ℕ, ℤ, List, length, slice_index, ⊤}
+use Rattle.def_certtext.specs.CertLines.{alone, certificates_of, lists_of, raised, risen, used}
+use Rattle.def_certtext.specs.CertLines.{Certificates, Lists}
+use Rattle.def_certtext.specs.declared.certs.Rising.{Rising}
+use Rattle.def_certtext.specs.declared.certs.Rising.TheVariants.{Third, Rounds}
+use Rattle.def_certtext.specs.declared.certs.Round.{Round}
+use Rattle.def_certtext.specs.declared.certs.Terms.{Terms}
 use Rattle.def_flow.specs.Accepted.{certificate, cert_verdict}
 use Rattle.def_flow.specs.Admissible.{deviation, entries}
 use Rattle.def_flow.specs.Descent.{IsSolution}
@@ -14,17 +17,16 @@ use Rattle.def_flow.specs.declared.net.Settings.{Settings}
 use Rattle.def_io.specs.Bytes.{Bytes}
 use Rattle.def_layout.specs.Plans.{Plan, layout_of}
 use Rattle.def_matching.specs.Dual.{IsSmallDual}
-use Rattle.def_remesh.specs.Keeping.{IsKept}
+use Rattle.def_remesh.specs.Keeping.{IsKept, IsNetWith}
 use Rattle.def_remesh.specs.NewPoints.{lengths_in}
 use Rattle.def_remesh.specs.Refusals.{AreTooFine}
-use Rattle.def_remesh.specs.Certified.{certificate_of}
+use Rattle.def_remesh.specs.Certified.{certificate_of, IsCertified}
 use Rattle.def_remesh.specs.Remeshed.{AreCoarse}
 use Rattle.def_remesh.specs.Tasks.{given_floors, Wish}
-use Rattle.def_run.specs.Judging.{DifferFrom, first_checked, IsLoneDoubled, IsThirdWrong, IsWrong}
-use Rattle.def_run.specs.declared.answer.Why.{Why}
+use Rattle.def_run.specs.Judging.{AreFront, AreUnneeded, AreWrong, DifferFrom}
 use Rattle.def_run.specs.declared.answer.Why.TheVariants as why
 use Rattle.def_written.specs.Edges.{IsFirstDoubled}
-use Rattle.remesh_laws.specs.Keeps.{IsNumbered}
+use Rattle.remesh_laws.specs.Keeps.{floors_behind, AreLed, IsNumbered}
 use Rattle.def_run.specs.declared.check_fail.CheckFail.{CheckFail}
 use Rattle.def_run.specs.declared.check_fail.CheckFail.TheVariants.{NotAccepted, Memory}
 use Rattle.qm_check.specs.declared.certificates.Checked.{Checked}
@@ -37,10 +39,11 @@ pub record IsInReach (cert : Lists) : Type 0 where
   pub short : (k : ℕ) → k < length cert.x → slice_index cert.x k ≤ MAX_LENGTH
   pub small : IsSmallDual (certificate_of cert).dual
 
--- So are those of a text, which is one of `auto` where there are two.
-abbrev pub AreInReach : (auto : Bool) (certificates : Certificates) → Type 0
-AreInReach auto (alone cert) = IsInReach cert
-AreInReach auto (raised first cert) = IsInReach first × IsInReach cert × (auto ≡ true)
+-- So are those of a text, and floors rise as it says.
+abbrev pub AreInReach : (rising : Rising) (certificates : Certificates) → Type 0
+AreInReach rising (alone cert) = IsInReach cert
+AreInReach rising (raised first cert) = IsInReach first × IsInReach cert × (rising ≡ Third)
+AreInReach rising (risen first rises after) = IsInReach first × AreInReach rising after × (rising ≡ Rounds)
 
 -- Each arc has the greatest floor.
 abbrev pub AreHighest : (net : Network) → Type 0
@@ -61,35 +64,38 @@ GivesNone plan net cert (NotAccepted (why.TooFine faces)) =
 GivesNone plan net cert Memory = ⊤
 GivesNone plan net cert _ = ⊥
 
--- How a text was made that was asked for so, with these certificates.
-abbrev pub made_as : (asked : Asked) (certificates : Certificates) → Made
-made_as asked certificates = record { settings = asked.settings; auto = asked.auto; certificates = certificates }
+-- Why the floors of a round are not raised: they do not have to rise.
+abbrev pub IsNoRise : (plan : Plan) (before : Round) (number : ℕ) (fail : CheckFail) → Type 0
+IsNoRise plan before number (NotAccepted why) = AreUnneeded plan (lists_of before.cert) before.rises.items number why
+IsNoRise plan before number Memory = ⊤
+IsNoRise plan before number _ = ⊥
 
--- What is kept by the certificates of a text: those that are used, the numbers of the new mesh, and the deviation.
-pub record IsChecked (wish : Wish) (plan : Plan) (net : Network) (made : Made) (checked : Checked) : Type 0 where
-  pub kept : IsKept wish plan checked.remesh.asked.settings checked.remesh.asked.auto
+-- Rounds of a text that are passed: their certificates are accepted and double an edge each, and the floors that rise
+-- have to. The network has the floors behind them, and lists deviate as much there as in the first one.
+pub record ArePassed
+    (wish : Wish) (plan : Plan) (settings : Settings) (start : Network) (rounds : List Round) (net : Network)
+    : Type 0 where
+  pub led : AreLed (IsCertified wish plan settings) plan rounds (given_floors settings)
+  pub risen : IsNetWith wish plan settings (floors_behind rounds (given_floors settings)) net
+  pub even : (x : ℕ → ℤ) → deviation net x ≡ deviation start x
+
+-- What is kept by the certificates of a text: those up to the ones that are used, the numbers of the new mesh, and the
+-- deviation.
+pub record IsChecked
+    (wish : Wish) (plan : Plan) (net : Network) (terms : Terms) (told : Certificates) (checked : Checked)
+    : Type 0 where
+  pub kept : IsKept wish plan checked.remesh.terms.settings checked.remesh.terms.rising
       (certificates_of checked.remesh.certs) checked.remesh.numbering
-  pub asked : checked.remesh.asked ≡ record { settings = made.settings; auto = made.auto }
-  pub chosen : (certificates_of checked.remesh.certs ≡ alone (first_checked made.certificates))
-      ⊎ (certificates_of checked.remesh.certs ≡ made.certificates)
+  pub found : checked.remesh.terms ≡ terms
+  pub front : AreFront (certificates_of checked.remesh.certs) told
   pub deviates : checked.deviation ≡ deviation net (entries (used (certificates_of checked.remesh.certs)).x)
 
--- One of the certificates of a text is wrong.
-abbrev pub HasWrongCert : (wish : Wish) (plan : Plan) (settings : Settings) (made : Made) (why : Why) → Type 0
-HasWrongCert wish plan settings made why =
-    IsWrong wish plan settings (given_floors settings) (first_checked made.certificates) why
-    ⊎ IsThirdWrong wish plan settings made why
-
 -- Why the certificates of a text are not used.
-abbrev pub IsUnused : (wish : Wish) (plan : Plan) (settings : Settings) (made : Made) (fail : CheckFail) → Type 0
-IsUnused wish plan settings made (NotAccepted (why.Verdict verdict)) =
-    HasWrongCert wish plan settings made (why.Verdict verdict)
-IsUnused wish plan settings made (NotAccepted (why.TooFine faces)) =
-    HasWrongCert wish plan settings made (why.TooFine faces)
-IsUnused wish plan settings made (NotAccepted (why.Doubled u v)) =
-    IsLoneDoubled wish plan settings made (why.Doubled u v)
-IsUnused wish plan settings made Memory = ⊤
-IsUnused wish plan settings made _ = ⊥
+abbrev pub IsUnused :
+    (wish : Wish) (plan : Plan) (settings : Settings) (told : Certificates) (fail : CheckFail) → Type 0
+IsUnused wish plan settings told (NotAccepted why) = AreWrong wish plan settings (given_floors settings) 1 told why
+IsUnused wish plan settings told Memory = ⊤
+IsUnused wish plan settings told _ = ⊥
 
 -- The bytes are not this text.
 abbrev pub IsDifference : (given text : Bytes) (fail : CheckFail) → Type 0

@@ -1,6 +1,8 @@
 -- What a command asks for that finds least lengths: a fit, under a head line of its own.
 use Rattle.std.specs.Prelude.{◌≡◌, Bool, false, List, Option, Some, None, Ok, ⊤}
-use Rattle.def_certtext.specs.declared.Asked.{Asked}
+use Rattle.def_certtext.specs.Risings.{rounds_if, third_if}
+use Rattle.def_certtext.specs.declared.certs.Rising.TheVariants.{Never}
+use Rattle.def_certtext.specs.declared.certs.Terms.{Terms}
 use Rattle.def_fit.specs.Aims.{aimed, fit_settings, AreAimedNear}
 use Rattle.def_fit.specs.FitTasks.{Asides, asides_in, kept_text}
 use Rattle.def_fit.specs.Shares.{shares_of}
@@ -37,17 +39,18 @@ scaled keep patches settings = record {
   patches = patches;
   aim = Scale settings.p settings.q;
   floor = settings.floor;
+  auto = false;
   weight = settings.weight;
   spacing = Even;
 }
 
 -- What `remesh` asks for.
 abbrev pub remeshed : (settings : Settings) (auto : Bool) → Least
-remeshed settings auto = record { fit = scaled Nothing Traced settings; auto = auto }
+remeshed settings auto = record { fit = scaled Nothing Traced settings; rising = third_if auto }
 
--- A fit whose floor is a number.
+-- A fit whose floors do not rise.
 abbrev pub fixed : (fit : Fit) → Least
-fixed fit = record { fit = fit; auto = false }
+fixed fit = record { fit = fit; rising = Never }
 
 -- What a command asks for, if it finds least lengths.
 abbrev pub least_of : (command : Command) → Option Least
@@ -58,11 +61,12 @@ least_of (commands.Size edge floor) = Some (fixed (record {
   patches = Traced;
   aim = Edge edge;
   floor = floor;
+  auto = false;
   weight = Plain;
   spacing = Even;
 }))
 least_of (commands.Coarse settings) = Some (fixed (scaled Nothing Merged settings))
-least_of (commands.Fit fit) = Some (fixed fit)
+least_of (commands.Fit fit) = Some (record { fit = fit; rising = rounds_if fit.auto })
 least_of _ = None
 
 -- The line is the head line of this command, which asks for this.
@@ -70,9 +74,9 @@ pub record IsLeastLine (command : Command) (line : Bytes) (least : Least) : Type
   pub mark : IsMarkLine line command
   pub finds : least_of command ≡ Some least
 
--- The settings of its lengths.
-abbrev pub asked_of : (least : Least) → Asked
-asked_of least = record { settings = fit_settings least.fit; auto = least.auto }
+-- What its lengths are found by.
+abbrev pub terms_of : (least : Least) → Terms
+terms_of least = record { settings = fit_settings least.fit; rising = least.rising }
 
 -- Its task over a cut, beside what the lines of a text say.
 abbrev pub least_task : (least : Least) (head : Bytes) (soup : FaceSet) (asides : Asides) (cut : List Bool) → Task
@@ -80,7 +84,7 @@ least_task least head soup asides cut = record {
   marks = cut;
   wish = aimed least.fit.aim soup asides.wishes;
   settings = fit_settings least.fit;
-  auto = least.auto;
+  rising = least.rising;
   head = head;
   between = kept_text asides.kept;
   shares = shares_of least.fit soup asides.wishes cut;

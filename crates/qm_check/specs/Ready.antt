@@ -5,7 +5,9 @@ use Rattle.std.specs.List.{list_all}
 use Rattle.std.specs.Option.{option_map}
 use Rattle.def_certtext.specs.HeadLine.{IsLastHead}
 use Rattle.def_certtext.specs.Reading.{HasBadLine}
+use Rattle.def_certtext.specs.Risings.{may_rise}
 use Rattle.def_certtext.specs.Settings.{AreInRange}
+use Rattle.def_certtext.specs.declared.certs.Rising.{Rising}
 use Rattle.def_cut.specs.FullCut.{IsFullCut}
 use Rattle.def_fit.specs.FitTasks.{asides_in, kept_text}
 use Rattle.def_fit.specs.declared.fit.Fit.{Fit}
@@ -71,8 +73,8 @@ pub record IsLaidOut (task : Task) (cut : CutSoup) (frame : Frame) : Type 0 wher
   pub solid : IsSolid cut.soup
   pub full : IsFullCut cut.soup.faces task.marks
   pub laid : IsCutLayout cut.soup.faces task.marks cut.plan
-  pub range : AreInRange task.settings task.auto
-  pub asked : frame.asked ≡ record { settings = task.settings; auto = task.auto }
+  pub range : AreInRange task.settings (may_rise task.rising)
+  pub terms : frame.terms ≡ record { settings = task.settings; rising = task.rising }
   pub head : frame.head.items ≡ task.head ++ LINE_FEED ∷ []
   pub inside : list_all is_inside task.head ≡ true
   pub between : (plan : Plan) (new : Lengths) → task.between plan new ≡ kept_text (marks_of frame) plan new
@@ -84,11 +86,11 @@ pub record IsReady (task : Task) (ready : Ready) : Type 0 where
   pub net : IsNetFor task.wish ready.cut.plan task.settings (network ready.net)
 
 -- Why the lines behind a head line tell nothing: one of them is bad.
-abbrev pub TellsNothing : (head bytes : Bytes) (line : ℕ) (fail : CheckFail) → Type 0
-TellsNothing head bytes line (NotAccepted (why.CertLine bad)) =
-    HasBadLine head (line + 2) (drop (line + 1) (lines_of bytes)) bad
-TellsNothing head bytes line Memory = ⊤
-TellsNothing head bytes line _ = ⊥
+abbrev pub TellsNothing : (rising : Rising) (bytes : Bytes) (line : ℕ) (fail : CheckFail) → Type 0
+TellsNothing rising bytes line (NotAccepted (why.CertLine bad)) =
+    HasBadLine rising (line + 2) (drop (line + 1) (lines_of bytes)) bad
+TellsNothing rising bytes line Memory = ⊤
+TellsNothing rising bytes line _ = ⊥
 
 -- Why a line beside the mesh of a text is refused, where there is memory.
 abbrev pub IsAsideFail : (fit : Fit) (text : Bytes) (soup : FaceSet) (fail : CheckFail) → Type 0

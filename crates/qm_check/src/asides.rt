@@ -16,8 +16,8 @@ use def_patches::Keep;
 use def_run::CheckFail;
 use def_text::{MAX_BYTES, MAX_V_LINES};
 use qm_asides::{Asides, read_asides};
-use qm_stages::Meshed;
 use qm_io::{Lines, MemSource, read_lines};
+use qm_stages::Meshed;
 use std::alloc::Global;
 
 /// What the lines of an old text say beside its mesh, as far as a fit asks for it, or their first refusal. Its lines

@@ -1,20 +1,20 @@
 //! Which certificate of a text is used.
 
 ghost use Rattle.std.specs.Prelude.{IfErr, IfOk};
-ghost use Rattle.def_certtext.specs.CertLines.{alone, lists_of, raised};
-ghost use Rattle.def_certtext.specs.Reading.{made_of};
+ghost use Rattle.def_certtext.specs.CertLines.{alone, certificates_of, lists_of, raised};
 ghost use Rattle.def_flow.specs.Network.{network};
+ghost use Rattle.def_remesh.specs.Certified.{IsDoubling};
 ghost use Rattle.def_remesh.specs.Keeping.{IsNetFor};
 ghost use Rattle.def_remesh.specs.Tasks.{given_floors, Wish};
-ghost use Rattle.qm_check.specs.Checked.{made_as, AreInReach, IsChecked, IsInReach, IsUnused};
-ghost use Rattle.remesh_laws.specs.Keeps.{IsDoubling};
+ghost use Rattle.qm_check.specs.Checked.{AreInReach, IsChecked, IsInReach, IsUnused};
 
 use crate::lengths::{Lengths, check_lengths};
-use def_certtext::{Asked, Certs, Written};
+use crate::rounds::{Run, check_rounds};
+use def_certtext::{Certs, Terms};
 use def_flow::{Cert, MAX_FLOOR, Net};
 use def_run::{CheckFail, Why};
-use qm_stages::CutMesh;
 use qm_layoutnet::with_floor;
+use qm_stages::CutMesh;
 use qm_write::Remesh;
 use std::alloc::Global;
 
@@ -25,31 +25,31 @@ pub(crate) struct Checked {
     pub(crate) deviation: u128,
 }
 
-/// Checks the certificates of a text: the only one, or the one for floor 1 and, where its lengths double an edge, the
-/// one for floor 3.
-pub(crate) fn check_written(
+/// Checks the certificates of a text one after the other, up to the first whose lengths double no edge.
+pub(crate) fn check_certs(
     alloc: Global,
     cut: &CutMesh,
     net: Net,
-    written: Written,
+    terms: Terms,
+    certs: Certs,
 ) -> Result<Checked, CheckFail>
-    requires net { (wish : Wish) × IsNetFor wish cut.now.plan written.settings (network net) }
-    requires reach { AreInReach written.auto (made_of written).certificates }
-    ensures checked { (wish : Wish) → IsNetFor wish cut.now.plan written.settings (network net)
-        → IfOk result (IsChecked wish cut.now.plan (network net) (made_of written)) }
-    ensures unused { (wish : Wish) → IsNetFor wish cut.now.plan written.settings (network net)
-        → IfErr result (IsUnused wish cut.now.plan written.settings (made_of written)) }
+    requires net { (wish : Wish) × IsNetFor wish cut.now.plan terms.settings (network net) }
+    requires reach { AreInReach terms.rising (certificates_of certs) }
+    ensures checked { (wish : Wish) → IsNetFor wish cut.now.plan terms.settings (network net)
+        → IfOk result (IsChecked wish cut.now.plan (network net) terms (certificates_of certs)) }
+    ensures unused { (wish : Wish) → IsNetFor wish cut.now.plan terms.settings (network net)
+        → IfErr result (IsUnused wish cut.now.plan terms.settings (certificates_of certs)) }
 {
-    let Written {
-        settings,
-        auto,
-        first,
-        cert,
-    } = written;
-    let asked = Asked { settings, auto };
-    match first {
-        Some(first) => check_both(alloc, cut, net, asked, Pair { first, third: cert }),
-        None => check_only(alloc, cut, &net, asked, cert),
+    match certs {
+        Certs::Alone { cert } => check_only(alloc, cut, &net, terms, cert),
+        Certs::Raised { first, cert } => check_both(
+            alloc,
+            cut,
+            net,
+            terms,
+            Pair { first, third: cert },
+        ),
+        Certs::Risen { rounds, cert } => check_rounds(alloc, cut, net, terms, Run { rounds, cert }),
     }
 }
 
@@ -65,15 +65,15 @@ fn check_only(
     alloc: Global,
     cut: &CutMesh,
     net: &Net,
-    asked: Asked,
+    terms: Terms,
     cert: Cert,
 ) -> Result<Checked, CheckFail>
-    requires net { (wish : Wish) × IsNetFor wish cut.now.plan asked.settings (network net.now) }
+    requires net { (wish : Wish) × IsNetFor wish cut.now.plan terms.settings (network net.now) }
     requires cert { IsInReach (lists_of cert) }
-    ensures checked { (wish : Wish) → IsNetFor wish cut.now.plan asked.settings (network net.now)
-        → IfOk result (IsChecked wish cut.now.plan (network net.now) (made_as asked (alone (lists_of cert)))) }
-    ensures unused { (wish : Wish) → IsNetFor wish cut.now.plan asked.settings (network net.now)
-        → IfErr result (IsUnused wish cut.now.plan asked.settings (made_as asked (alone (lists_of cert)))) }
+    ensures checked { (wish : Wish) → IsNetFor wish cut.now.plan terms.settings (network net.now)
+        → IfOk result (IsChecked wish cut.now.plan (network net.now) terms (alone (lists_of cert))) }
+    ensures unused { (wish : Wish) → IsNetFor wish cut.now.plan terms.settings (network net.now)
+        → IfErr result (IsUnused wish cut.now.plan terms.settings (alone (lists_of cert))) }
 {
     match check_lengths(alloc, cut, net, &cert)? {
         Lengths::Whole {
@@ -81,7 +81,7 @@ fn check_only(
             deviation,
         } => Ok(Checked {
             remesh: Remesh {
-                asked,
+                terms,
                 certs: Certs::Alone { cert },
                 numbering,
             },
@@ -98,17 +98,17 @@ fn check_both(
     alloc: Global,
     cut: &CutMesh,
     net: Net,
-    asked: Asked,
+    terms: Terms,
     pair: Pair,
 ) -> Result<Checked, CheckFail>
-    requires net { (wish : Wish) × IsNetFor wish cut.now.plan asked.settings (network net) }
-    requires reach { AreInReach asked.auto (raised (lists_of pair.first) (lists_of pair.third)) }
-    ensures checked { (wish : Wish) → IsNetFor wish cut.now.plan asked.settings (network net)
-        → IfOk result (IsChecked wish cut.now.plan (network net)
-        (made_as asked (raised (lists_of pair.first) (lists_of pair.third)))) }
-    ensures unused { (wish : Wish) → IsNetFor wish cut.now.plan asked.settings (network net)
-        → IfErr result (IsUnused wish cut.now.plan asked.settings
-        (made_as asked (raised (lists_of pair.first) (lists_of pair.third)))) }
+    requires net { (wish : Wish) × IsNetFor wish cut.now.plan terms.settings (network net) }
+    requires reach { AreInReach terms.rising (raised (lists_of pair.first) (lists_of pair.third)) }
+    ensures checked { (wish : Wish) → IsNetFor wish cut.now.plan terms.settings (network net)
+        → IfOk result (IsChecked wish cut.now.plan (network net) terms
+        (raised (lists_of pair.first) (lists_of pair.third))) }
+    ensures unused { (wish : Wish) → IsNetFor wish cut.now.plan terms.settings (network net)
+        → IfErr result (IsUnused wish cut.now.plan terms.settings
+        (raised (lists_of pair.first) (lists_of pair.third))) }
 {
     match check_lengths(alloc, cut, &net, &pair.first)? {
         Lengths::Whole {
@@ -116,13 +116,13 @@ fn check_both(
             deviation,
         } => Ok(Checked {
             remesh: Remesh {
-                asked,
+                terms,
                 certs: Certs::Alone { cert: pair.first },
                 numbering,
             },
             deviation,
         }),
-        Lengths::Doubled { .. } => check_third(alloc, cut, net, asked, pair),
+        Lengths::Doubled { .. } => check_third(alloc, cut, net, terms, pair),
     }
 }
 
@@ -131,19 +131,19 @@ fn check_third(
     alloc: Global,
     cut: &CutMesh,
     net: Net,
-    asked: Asked,
+    terms: Terms,
     pair: Pair,
 ) -> Result<Checked, CheckFail>
-    requires net { (wish : Wish) × IsNetFor wish cut.now.plan asked.settings (network net) }
-    requires reach { AreInReach asked.auto (raised (lists_of pair.first) (lists_of pair.third)) }
-    requires doubling { (wish : Wish) → IsNetFor wish cut.now.plan asked.settings (network net)
-        → IsDoubling wish cut.now.plan asked.settings (given_floors asked.settings) (lists_of pair.first) }
-    ensures checked { (wish : Wish) → IsNetFor wish cut.now.plan asked.settings (network net)
-        → IfOk result (IsChecked wish cut.now.plan (network net)
-        (made_as asked (raised (lists_of pair.first) (lists_of pair.third)))) }
-    ensures unused { (wish : Wish) → IsNetFor wish cut.now.plan asked.settings (network net)
-        → IfErr result (IsUnused wish cut.now.plan asked.settings
-        (made_as asked (raised (lists_of pair.first) (lists_of pair.third)))) }
+    requires net { (wish : Wish) × IsNetFor wish cut.now.plan terms.settings (network net) }
+    requires reach { AreInReach terms.rising (raised (lists_of pair.first) (lists_of pair.third)) }
+    requires doubling { (wish : Wish) → IsNetFor wish cut.now.plan terms.settings (network net)
+        → IsDoubling wish cut.now.plan terms.settings (given_floors terms.settings) (lists_of pair.first) }
+    ensures checked { (wish : Wish) → IsNetFor wish cut.now.plan terms.settings (network net)
+        → IfOk result (IsChecked wish cut.now.plan (network net) terms
+        (raised (lists_of pair.first) (lists_of pair.third))) }
+    ensures unused { (wish : Wish) → IsNetFor wish cut.now.plan terms.settings (network net)
+        → IfErr result (IsUnused wish cut.now.plan terms.settings
+        (raised (lists_of pair.first) (lists_of pair.third))) }
 {
     let higher = with_floor(net, MAX_FLOOR);
     let Pair { first, third } = pair;
@@ -153,7 +153,7 @@ fn check_third(
             deviation,
         } => Ok(Checked {
             remesh: Remesh {
-                asked,
+                terms,
                 certs: Certs::Raised { first, cert: third },
                 numbering,
             },

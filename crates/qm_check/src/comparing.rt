@@ -9,8 +9,8 @@ ghost use Rattle.qm_check.specs.Checked.{IsDifference};
 ghost use Rattle.qm_write.specs.Framing.{framed_text};
 
 use def_run::{CheckFail, Why};
-use qm_stages::{CutMesh, Regridded};
 use qm_output::Comparison;
+use qm_stages::{CutMesh, Regridded};
 use qm_write::{Framed, PutFail, put_framed};
 use std::alloc::Global;
 
@@ -23,7 +23,7 @@ pub(crate) fn compare(
     framed: Framed,
 ) -> Result<Regridded, CheckFail>
     requires few { length given.now ≤ MAX_BYTES }
-    requires kept { (wish : Wish) × IsKept wish cut.plan framed.remesh.asked.settings framed.remesh.asked.auto
+    requires kept { (wish : Wish) × IsKept wish cut.plan framed.remesh.terms.settings framed.remesh.terms.rising
         (certificates_of framed.remesh.certs) framed.remesh.numbering }
     ensures same { OnOk result (given.now ≡ framed_text framed cut.soup cut.plan) }
     ensures new { IfOk result (λ new. new ≡ record {

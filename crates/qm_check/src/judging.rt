@@ -1,24 +1,23 @@
 //! One text, from its certificates to the verdict.
 
 ghost use Rattle.std.specs.Prelude.{◌≤◌, ◌+◌, drop, length, IfErr, IfOk};
-ghost use Rattle.def_certtext.specs.HeadLine.{head_line};
-ghost use Rattle.def_certtext.specs.Reading.{made_of, TellHow};
-ghost use Rattle.def_certtext.specs.Settings.{AreInRange};
+ghost use Rattle.def_certtext.specs.CertLines.{certificates_of};
+ghost use Rattle.def_certtext.specs.Reading.{TellCerts};
 ghost use Rattle.def_io.specs.Lines.{lines_of, tail_of};
 ghost use Rattle.def_remesh.specs.Tasks.{Task};
 ghost use Rattle.def_text.specs.declared.limits.TheConstants.{MAX_BYTES};
 ghost use Rattle.qm_check.specs.Judged.{judged_by, Finishes, IsTextFail};
 ghost use Rattle.qm_check.specs.Ready.{CutsAt, IsReady, TellsNothing};
 
-use crate::certificates::check_written;
+use crate::certificates::check_certs;
 use crate::comparing::compare;
 use crate::parts::{text_behind, written_text};
 use crate::ready::Ready;
-use def_certtext::{Asked, CertFail, Written};
+use def_certtext::{CertFail, Certs, Rising};
 use def_run::{CheckFail, Why};
 use qm_certtext::{HeadAt, read_certs};
-use qm_stages::Regridded;
 use qm_marktext::lines_between;
+use qm_stages::Regridded;
 use qm_write::Framed;
 use std::alloc::Global;
 
@@ -46,9 +45,9 @@ pub(crate) fn judge_text(
     ensures refused { (task : Task) → IsReady task ready
         → IfErr result (IsTextFail (judged_by bytes.now head.line ready.cut task)) }
 {
-    let written = read_certificates(alloc, bytes, head, ready.frame.asked)?;
+    let certs = read_certificates(alloc, bytes, head, ready.frame.terms.rising)?;
     let Ready { cut, frame, net } = ready;
-    let checked = check_written(alloc, &cut, net, written)?;
+    let checked = check_certs(alloc, &cut, net, frame.terms, certs)?;
     let between = lines_between(alloc, frame.marks.as_deref(), &cut, &checked.remesh)?;
     let framed = Framed {
         head: frame.head,
@@ -63,22 +62,21 @@ pub(crate) fn judge_text(
     })
 }
 
-/// What the lines behind a head line say that asks for this.
+/// The certificates that the lines behind a head line say.
 fn read_certificates(
     alloc: Global,
     bytes: &[u8],
     head: HeadAt,
-    asked: Asked,
-) -> Result<Written, CheckFail>
+    rising: Rising,
+) -> Result<Certs, CheckFail>
     requires few { length bytes.now ≤ MAX_BYTES }
     requires head { CutsAt bytes.now head }
-    requires range { AreInRange asked.settings asked.auto }
-    ensures told { IfOk result (λ written. TellHow (head_line asked.settings asked.auto)
-        (drop (head.line + 1) (lines_of bytes.now)) (made_of written)) }
-    ensures refused { IfErr result (TellsNothing (head_line asked.settings asked.auto) bytes.now head.line) }
+    ensures told { IfOk result (λ certs.
+        TellCerts rising (drop (head.line + 1) (lines_of bytes.now)) (certificates_of certs)) }
+    ensures refused { IfErr result (TellsNothing rising bytes.now head.line) }
 {
-    match read_certs(alloc, text_behind(bytes, head), head.line + 1, asked) {
-        Ok(written) => Ok(written),
+    match read_certs(alloc, text_behind(bytes, head), head.line + 1, rising) {
+        Ok(certs) => Ok(certs),
         Err(CertFail::Line { line }) => Err(CheckFail::NotAccepted {
             why: Why::CertLine { line },
         }),

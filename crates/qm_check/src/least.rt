@@ -1,20 +1,22 @@
 //! The commands that find least lengths: each is a fit under a head line of its own.
 
-ghost use Rattle.std.specs.Prelude.{◌≡◌, false};
-ghost use Rattle.qm_check.specs.Least.{asked_of, least_of, remeshed, scaled};
+ghost use Rattle.std.specs.Prelude.{◌≡◌};
+ghost use Rattle.def_certtext.specs.Risings.{rounds_if};
+ghost use Rattle.qm_check.specs.Least.{least_of, remeshed, scaled, terms_of};
 
-use def_certtext::Asked;
+use def_certtext::{Asked, Rising, Terms};
 use def_fit::{Aim, Fit, Spacing};
 use def_flow::Settings;
 use def_patches::{Keep, Patches};
 use def_run::Command;
+use qm_certtext::third_if;
 use qm_metric::{edge_fit, fit_settings};
 
-/// What such a command asks for, and whether the floor is one that the certificates choose.
+/// What such a command asks for, and how floors rise.
 #[derive(Clone, Copy)]
 pub(crate) struct Least {
     pub(crate) fit: Fit,
-    pub(crate) auto: bool,
+    pub(crate) rising: Rising,
 }
 
 /// What a command asks for, if it finds least lengths.
@@ -26,10 +28,18 @@ pub(crate) fn least_of(command: &Command) -> Option<Least>
         Command::Crease { settings } => scaled(Keep::Lines, Patches::Traced, settings),
         Command::Size { edge, floor } => edge_fit(edge, floor),
         Command::Coarse { settings } => scaled(Keep::Nothing, Patches::Merged, settings),
-        Command::Fit { fit } => fit,
+        Command::Fit { fit } => {
+            return Some(Least {
+                fit,
+                rising: rounds_if(fit.auto),
+            });
+        }
         _ => return None,
     };
-    Some(Least { fit, auto: false })
+    Some(Least {
+        fit,
+        rising: Rising::Never,
+    })
 }
 
 /// What `remesh` asks for.
@@ -38,8 +48,15 @@ pub(crate) fn remeshed(asked: Asked) -> Least
 {
     Least {
         fit: scaled(Keep::Nothing, Patches::Traced, asked.settings),
-        auto: asked.auto,
+        rising: third_if(asked.auto),
     }
+}
+
+/// How floors rise in a fit.
+fn rounds_if(auto: bool) -> Rising
+    ensures { result ≡ rounds_if auto }
+{
+    if auto { Rising::Rounds } else { Rising::Never }
 }
 
 /// A fit near the old lengths.
@@ -54,17 +71,18 @@ fn scaled(keep: Keep, patches: Patches, settings: Settings) -> Fit
             q: settings.q,
         },
         floor: settings.floor,
+        auto: false,
         weight: settings.weight,
         spacing: Spacing::Even,
     }
 }
 
-/// The settings of its lengths.
-pub(crate) fn asked_of(least: &Least) -> Asked
-    ensures { result ≡ asked_of least.now }
+/// What its lengths are found by.
+pub(crate) fn terms_of(least: &Least) -> Terms
+    ensures { result ≡ terms_of least.now }
 {
-    Asked {
+    Terms {
         settings: fit_settings(&least.fit),
-        auto: least.auto,
+        rising: least.rising,
     }
 }

@@ -15,6 +15,7 @@ mod pair;
 mod parts;
 mod ready;
 mod refined;
+mod rounds;
 
 pub use def_run::{CheckFail, Why};
 pub use map::judge;

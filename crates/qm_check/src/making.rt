@@ -12,15 +12,15 @@ ghost use Rattle.qm_check.specs.Making.{IsReadyFor, IsUnmade};
 ghost use Rattle.qm_check.specs.Ready.{IsOld};
 
 use crate::asides::old_asides;
-use crate::least::{Least, asked_of};
+use crate::least::{Least, terms_of};
 use crate::ready::{Frame, Ready, ended};
 use def_fit::{Aim, Fit};
 use def_flow::Net;
 use def_metric::MetricFail;
 use def_run::CheckFail;
 use qm_cut::chosen_layout;
-use qm_stages::{CutMesh, Meshed};
 use qm_metric::{net_for, shares_of};
+use qm_stages::{CutMesh, Meshed};
 use std::alloc::Global;
 
 /// What the text of a command with this head line is judged by, behind the text of a mesh: the cut, the head line and
@@ -49,7 +49,7 @@ pub(crate) fn ready_for(
     let shares = shares_of(alloc, &cut, &least.fit, &asides.wishes)?;
     let head = ended(alloc, line)?;
     let frame = Frame {
-        asked: asked_of(least),
+        terms: terms_of(least),
         head,
         marks: asides.kept,
         shares,

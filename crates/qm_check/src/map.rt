@@ -20,8 +20,8 @@ use crate::parts::{head_line, old_text};
 use crate::refined::judge_refined;
 use def_run::{CheckFail, Command, Why};
 use qm_certtext::HeadAt;
-use qm_stages::{Meshed, Regridded};
 use qm_headline::{find_mark, read_mark};
+use qm_stages::{Meshed, Regridded};
 use std::alloc::Global;
 
 /// Judges a text. The last line that begins with `#quadq 1 ` divides it into an old text and one that the command of

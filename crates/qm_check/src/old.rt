@@ -8,8 +8,8 @@ ghost use Rattle.qm_check.specs.Refused.{of_obj};
 
 use def_run::CheckFail;
 use def_text::{MAX_BYTES, MAX_F_LINES, MAX_V_LINES, ObjFail, Soup};
-use qm_stages::{Meshed, NoMesh};
 use qm_obj::ObjFeed;
+use qm_stages::{Meshed, NoMesh};
 use std::alloc::Global;
 
 /// The mesh of the old text.

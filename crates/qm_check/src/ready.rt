@@ -3,18 +3,18 @@
 ghost use Rattle.std.specs.Prelude.{◌≡◌, ◌∷◌, ◌++◌, [], IfOk};
 ghost use Rattle.def_io.specs.declared.TheConstants.{LINE_FEED};
 
-use def_certtext::Asked;
+use def_certtext::Terms;
 use def_flow::Net;
 use def_io::LINE_FEED;
 use def_remesh::DartShares;
 use qm_stages::CutMesh;
 use std::alloc::{AllocError, Global};
 
-/// What is asked for, the head line of its text, with its end, the marked edges whose lines stand in it, and the shares
-/// by which new points are spaced, if they are.
+/// What lengths are found by, the head line of their text, with its end, the marked edges whose lines stand in it, and
+/// the shares by which new points are spaced, if they are.
 #[derive(Drop)]
 pub(crate) struct Frame {
-    pub(crate) asked: Asked,
+    pub(crate) terms: Terms,
     pub(crate) head: Vec<u8>,
     pub(crate) marks: Option<Vec<bool>>,
     pub(crate) shares: Option<DartShares>,

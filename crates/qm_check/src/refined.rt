@@ -18,9 +18,9 @@ use def_remesh::StitchFail;
 use def_run::{CheckFail, Why};
 use qm_certtext::HeadAt;
 use qm_cut::traced_layout;
-use qm_stages::{CutMesh, Meshed, Regridded};
 use qm_output::Comparison;
 use qm_refine::{put_refined, refined_points};
+use qm_stages::{CutMesh, Meshed, Regridded};
 use std::alloc::Global;
 
 /// Judges what `refine` is to have written.

@@ -1,10 +1,9 @@
 -- The head line of a fit is cut into its words in one way.
-use Rattle.std.proofs.Common.{◌≡◌, ◌≤◌, ◌-◌, ℕ, true, false, List, [], ◌∷◌, ◌++◌, codes, length, length-append, take}
+use Rattle.std.proofs.Common.{◌≡◌, ◌-◌, ℕ, Bool, true, false, List, [], ◌∷◌, ◌++◌, codes, length, length-append, take}
 use Rattle.std.proofs.Common.{drop, refl, ap, sym, subst, ◌∙◌, append_assoc, arith}
 use Rattle.std.proofs.lemmas.List.{append-nil, append_cancel_left, take_at}
 use Rattle.std.proofs.lemmas.Fmt.{decimal_digit}
-use Rattle.std.specs.Prelude.{decimal}
-use Rattle.def_certtext.specs.{HeadLine.head_line, Settings.weight_text}
+use Rattle.def_certtext.specs.{HeadLine.head_line, Settings.floor_text, Settings.weight_text, Settings.IsFloor}
 use Rattle.def_fit.specs.Aims.{IsAim, IsFit}
 use Rattle.def_fit.specs.FitWords.{
   aim_text,
@@ -44,15 +43,15 @@ aim_bare (Scale p q) is =
 aim_bare (Edge edge) is = micro_bare edge is.1
 aim_bare Wishes is = refl
 
-floor_bare : (floor : ℕ) → 1 ≤ floor → floor ≤ 3 → is_bare (decimal floor) ≡ true
-floor_bare floor low high =
-    (asked_cut [] _ (record { p = 1; q = 1; floor = floor; weight = Plain }) false
+floor_bare : (floor : ℕ) (auto : Bool) → IsFloor floor auto → is_bare (floor_text floor auto) ≡ true
+floor_bare floor auto is =
+    (asked_cut [] _ (record { p = 1; q = 1; floor = floor; weight = Plain }) auto
     (record {
       p_low = omega arith;
       p_high = omega arith;
       q_low = omega arith;
       q_high = omega arith;
-      floor = record { low = low; high = high; at_first = λ auto. absurd cc };
+      floor = is;
     })
     refl).floor_bare
 
@@ -78,28 +77,28 @@ regrouped front (part ∷ next ∷ parts) =
 
 -- The head line is cut into the words of its fit.
 head_cut : (fit : Fit) → IsFit fit → IsFitCut (fit_head fit) (keep_word fit.keep) (patches_word fit.patches)
-    (aim_text fit.aim) (decimal fit.floor)
+    (aim_text fit.aim) (floor_text fit.floor fit.auto)
     (weight_text fit.weight) (spacing_word fit.spacing)
 head_cut fit is = record {
   written =
       regrouped (codes "#quadq 1 fit keep ")
       (keep_word fit.keep ∷ codes " patches " ∷ patches_word fit.patches ∷ codes " aim " ∷ aim_text fit.aim
-      ∷ codes " floor " ∷ decimal fit.floor
+      ∷ codes " floor " ∷ floor_text fit.floor fit.auto
       ∷ codes " weight " ∷ weight_text fit.weight ∷ codes " spacing " ∷ spacing_word fit.spacing ∷ []);
   keep_bare = keep_bare fit.keep;
   patches_bare = patches_bare fit.patches;
   aim_bare = aim_bare fit.aim is.aim;
-  floor_bare = floor_bare fit.floor is.low is.high;
+  floor_bare = floor_bare fit.floor fit.auto is.floor;
   weight_bare = weight_bare fit.weight;
 }
 
 pub line_cut : (line : Word) (fit : Fit) → IsFit fit → line ≡ fit_head fit
     → IsFitCut line (keep_word fit.keep) (patches_word fit.patches) (aim_text fit.aim)
-    (decimal fit.floor) (weight_text fit.weight) (spacing_word fit.spacing)
+    (floor_text fit.floor fit.auto) (weight_text fit.weight) (spacing_word fit.spacing)
 line_cut line fit is head =
     subst
-    (λ (l : Word). IsFitCut l (keep_word fit.keep) (patches_word fit.patches) (aim_text fit.aim) (decimal fit.floor)
-    (weight_text fit.weight) (spacing_word fit.spacing))
+    (λ (l : Word). IsFitCut l (keep_word fit.keep) (patches_word fit.patches) (aim_text fit.aim)
+    (floor_text fit.floor fit.auto) (weight_text fit.weight) (spacing_word fit.spacing))
     (sym head) (head_cut fit is)
 
 -- What stands behind each word.
@@ -229,38 +228,33 @@ module _ (line keep patches aim floor weight spacing : Word) (one : IsFitCut lin
       ++ (codes " weight " ++ (words.weighed i ++ (codes " spacing " ++ words.spaced i)))))))))))
       ∙ sym (head_cut fit words.in_range).written
 
--- The head line of a remesh by no scale has the least length and the weights behind its first 25 bytes, and ends.
-least_behind : (floor : ℕ) (weight : Weight) → head_line (record { p = 1; q = 1; floor = floor; weight = weight }) false
-    ++ 10 ∷ []
-    ≡ codes "#quadq 1 remesh scale 1/1" ++ ((codes " floor " ++ decimal floor ++ codes " weight " ++ weight_text weight)
-    ++ 10 ∷ [])
-least_behind floor weight =
-    λ i. (codes "#quadq 1 remesh scale " ++ (decimal_digit 1 (omega arith) i ++ 47 ∷ decimal_digit 1 (omega arith) i)
-    ++ codes " floor " ++ decimal floor
-    ++ codes " weight " ++ weight_text weight) ++ 10 ∷ []
+-- The least length and the weights, as they stand in a head line.
+abbrev least_text : (floor : ℕ) (auto : Bool) (weight : Weight) → Word
+least_text floor auto weight = codes " floor " ++ floor_text floor auto ++ codes " weight " ++ weight_text weight
 
-pub least_cut : (old head : Word) (long floor : ℕ) (weight : Weight)
-    → head ≡ head_line (record { p = 1; q = 1; floor = floor; weight = weight }) false ++ 10 ∷ []
-    → long ≡ length head → old ++ take (long - 1 - 25) (drop 25 head) ≡ old ++ codes " floor " ++ decimal floor
-    ++ codes " weight " ++ weight_text weight
-least_cut old head long floor weight is told =
-    let text : Word = codes " floor " ++ decimal floor ++ codes " weight " ++ weight_text weight in
-    let same : head ≡ codes "#quadq 1 remesh scale 1/1"
-    ++ ((codes " floor " ++ decimal floor ++ codes " weight " ++ weight_text weight) ++ 10 ∷ []) =
-    is ∙ least_behind floor weight in
-    let size : long - 1 - 25 ≡ length (codes " floor " ++ decimal floor ++ codes " weight " ++ weight_text weight) =
-    omega (
-      arith,
-      told,
-      ap length same,
-      length-append (codes " floor " ++ decimal floor ++ codes " weight "
-          ++ weight_text weight) (10 ∷ []),
-    ) in
+-- The head line of a remesh by no scale has them behind its first 25 bytes, and ends.
+least_behind : (floor : ℕ) (auto : Bool) (weight : Weight)
+    → head_line (record { p = 1; q = 1; floor = floor; weight = weight }) auto ++ 10 ∷ []
+    ≡ codes "#quadq 1 remesh scale 1/1" ++ (least_text floor auto weight ++ 10 ∷ [])
+least_behind floor auto weight =
+    λ i. (codes "#quadq 1 remesh scale " ++ (decimal_digit 1 (omega arith) i ++ 47 ∷ decimal_digit 1 (omega arith) i)
+    ++ codes " floor " ++ floor_text floor auto ++ codes " weight " ++ weight_text weight) ++ 10 ∷ []
+
+pub least_cut : (old head : Word) (long floor : ℕ) (auto : Bool) (weight : Weight)
+    → head ≡ head_line (record { p = 1; q = 1; floor = floor; weight = weight }) auto ++ 10 ∷ []
+    → long ≡ length head → old ++ take (long - 1 - 25) (drop 25 head)
+    ≡ old ++ codes " floor " ++ floor_text floor auto ++ codes " weight " ++ weight_text weight
+least_cut old head long floor auto weight is told =
+    let text : Word = least_text floor auto weight in
+    let same : head ≡ codes "#quadq 1 remesh scale 1/1" ++ (least_text floor auto weight ++ 10 ∷ []) =
+    is ∙ least_behind floor auto weight in
+    let size : long - 1 - 25 ≡ length (least_text floor auto weight) =
+    omega (arith, told, ap length same, length-append (least_text floor auto weight) (10 ∷ [])) in
     ap (λ (t : Word). old ++ t) (ap (λ (t : Word). take (long - 1 - 25) (drop 25 t)) same
     ∙ take_at text (10 ∷ []) (long - 1 - 25) (sym size))
-    ∙ ap (λ (t : Word). old ++ t) (regrouped (codes " floor ") (decimal floor ∷ codes " weight " ∷ weight_text weight
-    ∷ []))
-    ∙ sym (regrouped old (codes " floor " ∷ decimal floor ∷ codes " weight " ∷ weight_text weight ∷ []))
+    ∙ ap (λ (t : Word). old ++ t) (regrouped (codes " floor ") (floor_text floor auto ∷ codes " weight "
+    ∷ weight_text weight ∷ []))
+    ∙ sym (regrouped old (codes " floor " ∷ floor_text floor auto ∷ codes " weight " ∷ weight_text weight ∷ []))
 
 -- A line is the head line of one fit.
 pub one_fit : (line : Word) (one two : Fit) → IsFit one → line ≡ fit_head one → IsFit two → line ≡ fit_head two

@@ -92,7 +92,7 @@ least fit = record { p = 1; q = 1; floor = fit.floor; weight = fit.weight }
 
 pub least_words : (fit : Fit) (keep patches aim floor weight spacing : Word)
     → AreFitWords keep patches aim floor weight spacing fit
-    → AreWordsOf (codes "1/1") floor weight (least fit) false
+    → AreWordsOf (codes "1/1") floor weight (least fit) fit.auto
 least_words fit keep patches aim floor weight spacing words = record {
   scaled = λ i. sym (decimal_digit 1 (omega arith)) i ++ 47 ∷ sym (decimal_digit 1 (omega arith)) i;
   bounded = words.bounded;
@@ -102,7 +102,7 @@ least_words fit keep patches aim floor weight spacing words = record {
     p_high = omega arith;
     q_low = omega arith;
     q_high = omega arith;
-    floor = record { low = words.in_range.low; high = words.in_range.high; at_first = λ auto. absurd cc };
+    floor = words.in_range.floor;
   };
 }
 
@@ -115,15 +115,16 @@ same_fit keep patches aim floor weight spacing one two first second =
     let cuts : one.patches ≡ two.patches = same_patches _ _ (sym first.cut ∙ second.cut) in
     let aims : one.aim ≡ two.aim = same_aim aim one.aim two.aim first.in_range.aim first.aimed second.in_range.aim
     second.aimed in
-    let leasts : least one ≡ least two =
-    (same_settings _ _ _ (least one) (least two) false false (least_words one _ _ _ _ _ _ first)
-    (least_words two _ _ _ _ _ _ second)).0 in
+    let leasts : (least one ≡ least two) × (one.auto ≡ two.auto) =
+    same_settings _ _ _ (least one) (least two) one.auto two.auto (least_words one _ _ _ _ _ _ first)
+    (least_words two _ _ _ _ _ _ second) in
     let spacings : one.spacing ≡ two.spacing = same_spacing _ _ (sym first.spaced ∙ second.spaced) in
     λ i. record {
       keep = keeps i;
       patches = cuts i;
       aim = aims i;
-      floor = (leasts i).floor;
-      weight = (leasts i).weight;
+      floor = (leasts.0 i).floor;
+      auto = leasts.1 i;
+      weight = (leasts.0 i).weight;
       spacing = spacings i;
     }

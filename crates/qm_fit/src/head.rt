@@ -1,13 +1,12 @@
 //! The head line of a fit.
 
-ghost use Rattle.std.specs.Prelude.{◌≡◌, ◌≤◌, ◌++◌, ◌∷◌, [], codes, decimal, length, IfOk, OnOk};
-ghost use Rattle.def_certtext.specs.Settings.{weight_text};
+ghost use Rattle.std.specs.Prelude.{◌≡◌, ◌≤◌, ◌++◌, ◌∷◌, [], codes, length, IfOk, OnOk};
+ghost use Rattle.def_certtext.specs.Settings.{floor_text, weight_text};
 ghost use Rattle.def_fit.specs.FitWords.{aim_text, fit_head, keep_word, patches_word, spacing_word};
-ghost use Rattle.def_flow.specs.declared.net.Weight.{Weight as AnyWeight};
 
 use crate::Memory;
 use def_fit::{Aim, Fit, Keep, Patches, Spacing};
-use def_flow::{Settings, Weight};
+use def_flow::Settings;
 use def_io::LINE_FEED;
 use def_text::SLASH;
 use qm_certtext::head_text;
@@ -26,7 +25,7 @@ pub fn fit_head(alloc: Global, fit: &Fit) -> Result<Vec<u8>, Memory>
     text.extend_from_slice(patches_word(fit.patches).as_bytes())?;
     text.extend_from_slice(b" aim ")?;
     push_aim(&mut text, &fit.aim)?;
-    push_least(alloc, &mut text, fit.floor, fit.weight)?;
+    push_least(alloc, &mut text, fit)?;
     push_spacing(&mut text, fit.spacing)?;
     text.push(LINE_FEED)?;
     Ok(text)
@@ -95,17 +94,17 @@ fn push_aim(text: &mut Vec<u8>, aim: &Aim) -> Result<(), Memory>
 }
 
 /// Puts the least length of an arc and the weights at the end of a text, as they stand in the head line of a remesh.
-fn push_least(alloc: Global, text: &mut Vec<u8>, floor: u32, weight: Weight) -> Result<(), Memory>
-    ensures { OnOk result (text.new.items
-        ≡ text.old.items ++ codes " floor " ++ decimal floor ++ codes " weight " ++ weight_text weight) }
+fn push_least(alloc: Global, text: &mut Vec<u8>, fit: &Fit) -> Result<(), Memory>
+    ensures { OnOk result (text.new.items ≡ text.old.items
+        ++ codes " floor " ++ floor_text fit.now.floor fit.now.auto ++ codes " weight " ++ weight_text fit.now.weight) }
 {
     let settings = Settings {
         p: 1,
         q: 1,
-        floor,
-        weight,
+        floor: fit.floor,
+        weight: fit.weight,
     };
-    let head = head_text(alloc, &settings, false)?;
+    let head = head_text(alloc, &settings, fit.auto)?;
     text.extend_from_slice(&head[b"#quadq 1 remesh scale 1/1".len()..head.len() - 1])?;
     Ok(())
 }

@@ -1,19 +1,16 @@
 //! The words of a fit.
 
-ghost use Rattle.std.specs.Prelude.{◌≡◌, ◌++◌, false, codes, MatchOption};
-ghost use Rattle.def_certtext.specs.Settings.{AreWordsOf};
+ghost use Rattle.std.specs.Prelude.{◌≡◌, ◌++◌, codes, MatchOption};
 ghost use Rattle.def_fit.specs.Aims.{IsAim};
 ghost use Rattle.def_fit.specs.FitWords.{keep_word, patches_word, spacing_word, AreFitWords, IsAimWord};
 ghost use Rattle.def_fit.specs.declared.fit.Aim.{Aim as AnyAim};
 ghost use Rattle.def_fit.specs.declared.fit.Fit.{Fit as AnyFit};
 ghost use Rattle.def_fit.specs.declared.fit.Spacing.{Spacing as AnySpacing};
-ghost use Rattle.def_flow.specs.declared.net.Settings.{Settings as AnySettings};
 ghost use Rattle.def_patches.specs.declared.Keep.{Keep as AnyKeep};
 ghost use Rattle.def_patches.specs.declared.Patches.{Patches as AnyPatches};
 
 use crate::edge::read_edge;
 use def_fit::{Aim, Fit, Keep, Patches, Spacing};
-use def_flow::Settings;
 use qm_certtext::read_settings;
 use qm_dec::read_ratio;
 
@@ -45,7 +42,7 @@ pub fn read_fit(words: &FitWords) -> Option<Fit>
     let Some(aim) = read_aim(words.aim) else {
         return None;
     };
-    let Some(settings) = read_least(words.floor, words.weight) else {
+    let Some(least) = read_settings(b"1/1", words.floor, words.weight) else {
         return None;
     };
     let Some(spacing) = read_spacing(words.spacing) else {
@@ -55,8 +52,9 @@ pub fn read_fit(words: &FitWords) -> Option<Fit>
         keep,
         patches,
         aim,
-        floor: settings.floor,
-        weight: settings.weight,
+        floor: least.settings.floor,
+        auto: least.auto,
+        weight: least.settings.weight,
         spacing,
     })
 }
@@ -135,16 +133,4 @@ fn read_length(length: &[u8]) -> Option<Aim>
         return None;
     };
     Some(Aim::Edge { edge })
-}
-
-/// The least length of an arc and the weights, as settings of the old lengths themselves.
-fn read_least(floor: &[u8], weight: &[u8]) -> Option<Settings>
-    ensures { MatchOption result
-        ((settings : AnySettings) → ¬ AreWordsOf (codes "1/1") floor.now weight.now settings false)
-        (λ settings. AreWordsOf (codes "1/1") floor.now weight.now settings false) }
-{
-    match read_settings(b"1/1", floor, weight) {
-        Some(asked) if !asked.auto => Some(asked.settings),
-        _ => None,
-    }
 }

@@ -9,8 +9,8 @@ ghost use Rattle.qm_map.specs.PatchLines.{patch_lines};
 use crate::lines::{cell_front, seen_text};
 use def_map::{Home, Seen};
 use def_output::Stopped;
-use qm_stages::Regridded;
 use qm_output::Output;
+use qm_stages::Regridded;
 
 /// Puts a line for each face, patch by patch.
 pub(crate) fn put_cells<T: Output>(out: &mut T, new: &Regridded) -> Result<(), Stopped>

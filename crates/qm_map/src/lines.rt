@@ -8,9 +8,9 @@ ghost use Rattle.def_mesh.specs.Darts.{darts};
 ghost use Rattle.def_written.specs.Places.{ONE};
 
 use def_map::{EdgeSpot, FaceSpot, Seen, Spot};
-use qm_stages::CutMesh;
 use qm_place::EDGE;
 use qm_print::{Line, line_of, numbered_line, push_integer, push_numbered};
+use qm_stages::CutMesh;
 
 /// The first two lines.
 pub(crate) fn head_line(vertices: u32, faces: u32) -> Line

@@ -11,8 +11,8 @@ use crate::cells::put_cells;
 use crate::lines::head_line;
 use crate::vertices::put_vertices;
 use def_output::Stopped;
-use qm_stages::Regridded;
 use qm_output::Output;
+use qm_stages::Regridded;
 
 /// Puts the text that says where each vertex and each face of the new mesh lies in the old one: a line for each vertex,
 /// then one for each face, in the order of the text of the new mesh. Linear; without memory.

@@ -8,9 +8,9 @@ ghost use Rattle.def_remesh.specs.NewPoints.{lengths_in};
 use crate::lines::spot_line;
 use def_map::Spot;
 use def_output::Stopped;
-use qm_stages::{CutMesh, Regridded};
 use qm_output::Output;
 use qm_place::Near;
+use qm_stages::{CutMesh, Regridded};
 
 /// Puts a line for each vertex.
 pub(crate) fn put_vertices<T: Output>(out: &mut T, new: &Regridded) -> Result<(), Stopped>

@@ -21,7 +21,7 @@ pub fn kept_lines(
     cut: &CutMesh,
     remesh: &Remesh,
 ) -> Result<Vec<u8>, Memory>
-    requires { (wish : Wish) × IsKept wish cut.now.plan remesh.now.asked.settings remesh.now.asked.auto
+    requires { (wish : Wish) × IsKept wish cut.now.plan remesh.now.terms.settings remesh.now.terms.rising
         (certificates_of remesh.now.certs) remesh.now.numbering }
     ensures { IfOk result (λ text. text.items ≡ marked_text marks.now cut.now.plan
         (lengths_in (used (certificates_of remesh.now.certs)).x)) }
@@ -37,7 +37,7 @@ pub fn lines_between(
     cut: &CutMesh,
     remesh: &Remesh,
 ) -> Result<Vec<u8>, Memory>
-    requires { (wish : Wish) × IsKept wish cut.now.plan remesh.now.asked.settings remesh.now.asked.auto
+    requires { (wish : Wish) × IsKept wish cut.now.plan remesh.now.terms.settings remesh.now.terms.rising
         (certificates_of remesh.now.certs) remesh.now.numbering }
     ensures { IfOk result (λ text. text.items ≡ kept_text (option_copied kept.entry) cut.now.plan
         (lengths_in (used (certificates_of remesh.now.certs)).x)) }

@@ -3,6 +3,7 @@ use Rattle.std.proofs.Common.{◌≡◌, ℕ, ◌-◌, ◌^◌, ◌<◌, ◌≤�
 use Rattle.std.proofs.lemmas.List.{length-map}
 use Rattle.std.specs.Prelude.{min, slice_index}
 use Rattle.def_math.specs.Counts.{count}
+use Rattle.def_certtext.specs.declared.certs.Rising.{Rising}
 use Rattle.def_fit.specs.Aims.{aimed, denominator, fit_settings, numerator, AreAimedNear, IsAim, IsFit, IsFitFail}
 use Rattle.def_fit.specs.declared.fit.Aim.{Aim}
 use Rattle.def_fit.specs.declared.fit.Aim.TheVariants.{Scale, Edge, Wishes}
@@ -47,9 +48,9 @@ settings_fit fit is =
       p_high = scale.1;
       q_low = scale.2;
       q_high = scale.3;
-      floor_low = is.low;
+      floor_low = is.floor.low;
       floor_high =
-          is.high;
+          is.floor.high;
     }
   where
     by_aim : (aim : Aim) → IsAim aim → (1 ≤ numerator aim) × (numerator aim ≤ 1000) × (1 ≤ denominator aim)
@@ -149,20 +150,21 @@ module _ (aim : Aim) (soup : FaceSet) (wishes : List ℕ) (t : TMesh) (p : Plan)
   sum_of sum told = moved (λ w q. sum ≡ wish_sum w q) (told ∙ sum_is f t.arcs.items)
 
   -- It has no network.
-  pub no_net : (fail : NetFail) → HasNoNet (layout_of (plan t)) (long_at (plan t).arcs) (long_at (plan t).arcs) settings
-      fail
-      → IsFitFail aim (aimed aim soup wishes) p settings (size_fail_of (metric_fail_of fail))
-  no_net (nets.Tangled number) is =
+  pub no_net : (rising : Rising) (fail : NetFail)
+      → HasNoNet (layout_of (plan t)) (long_at (plan t).arcs) (long_at (plan t).arcs) settings fail
+      → IsFitFail aim (aimed aim soup wishes) p settings rising (size_fail_of (metric_fail_of fail))
+  no_net rising (nets.Tangled number) is =
       moved (λ w q. IsTangledAt w q settings number)
       (tangled_for (layout_of (plan t)) (long_at (plan t).arcs) (along f (plan t)) settings number
       (laid_of (plan t) there) is)
-  no_net nets.Memory is = tt
+  no_net rising nets.Memory is = tt
 
   module _ (net : Network) (is : IsNetOf (layout_of (plan t)) (long_at (plan t).arcs) (long_at (plan t).arcs) settings
       (λ a. settings.floor) net) (small : tangle_number net ≤ MAX_TANGLE) where
-    pub far : (sum : ℕ) → sum ≡ count (λ (run : TArc). f run.darts.items) t.arcs.items → MAX_TARGETS < sum
-        → IsFitFail aim (aimed aim soup wishes) p settings (size_fail_of (Far sum))
-    far sum told high = (
+    pub far : (rising : Rising) (sum : ℕ) → sum ≡ count (λ (run : TArc). f run.darts.items) t.arcs.items
+        → MAX_TARGETS < sum
+        → IsFitFail aim (aimed aim soup wishes) p settings rising (size_fail_of (Far sum))
+    far rising sum told high = (
       far_aims aim soup wishes p lies (omega (arith, high, sum_of sum told)),
       moved (λ w q. IsFar w q settings sum) (too_far t f settings there net is small sum told high),
     )

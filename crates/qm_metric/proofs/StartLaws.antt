@@ -1,18 +1,18 @@
--- The old lengths times the floor start the descent whatever lengths are wished for.
+-- The old lengths, as many times as no floor is above, start the descent whatever lengths are wished for.
 use Rattle.std.proofs.Common.{◌≡◌, ℕ, ◌+◌, ◌*◌, ◌^◌, ◌<◌, ◌≤◌, List, [], length, pos, ◌-ℤ◌, ◌*ℤ◌, ◌≤ℤ◌, sym, ap, ◌∙◌}
 use Rattle.std.proofs.{Common.mul-one, Common.arith, Math.Nat.mul-le-mul_left, Math.Nat.mul-le-mul_right}
 use Rattle.std.proofs.{lemmas.Nat.mul-le, lemmas.Int.ints, lemmas.List.get_or-map, lemmas.List.length-map}
 use Rattle.std.specs.Prelude.{unsigned_abs}
 use Rattle.def_math.specs.Counts.{count_below}
 use Rattle.def_flow.specs.Admissible.{arc_deviation, deviation, entries, IsBalanced}
-use Rattle.def_flow.specs.{Descent.IsStartOf, Network.Network, Network.arc_at, declared.net.Settings.Settings}
-use Rattle.def_flow.specs.{declared.net.Weight.Weight, declared.net.Weight.TheVariants.Plain}
-use Rattle.def_flow.specs.declared.net.Weight.TheVariants.{Length}
+use Rattle.def_flow.specs.{Descent.IsStartOf, Network.Network, Network.arc_at, declared.limits.TheConstants.MAX_FLOOR}
+use Rattle.def_flow.specs.{declared.net.Settings.Settings, declared.net.Weight.Weight}
+use Rattle.def_flow.specs.declared.net.Weight.TheVariants.{Plain, Length}
 use Rattle.def_layout.specs.{Arcs.Path, Arcs.long_at, Surfaces.IsSurface, Layouts.Way, Layouts.south, Layouts.east}
 use Rattle.def_layout.specs.{Layouts.north, Layouts.west, Layouts.Layout, Lengths.Lengths, Lengths.size}
 use Rattle.def_layout.specs.{Lengths.AreLengths, Plans.Plan, Plans.layout_of}
 use Rattle.def_layoutnet.specs.{LayoutNet.weight_of, LayoutNetLaws.sum_along}
-use Rattle.def_remesh.specs.{Keeping.IsNetFor, Tasks.Wish}
+use Rattle.def_remesh.specs.{Keeping.IsNetWith, Tasks.given_floors, Tasks.Wish}
 use Rattle.def_metric.specs.{Fails.AreNear, Starts.times_long, Starts.StartLaw, Targets.wish_sum}
 use Rattle.def_metric.specs.declared.limits.TheConstants.{MAX_TARGETS}
 use Rattle.sum_laws.proofs.Counts.{count_below_le, count_below_sum, count_below_times, count_below_total}
@@ -27,7 +27,9 @@ weight_low Plain old = omega arith
 weight_low Length old = omega arith
 
 module _
-    (wish : Wish) (plan : Plan) (settings : Settings) (net : Network) (is : IsNetFor wish plan settings net)
+    (wish : Wish) (plan : Plan) (settings : Settings) (floors : Lengths) (net : Network)
+    (is : IsNetWith wish plan settings floors net) (times : ℕ)
+    (above : (k : ℕ) → k < length net.arcs → ((arc_at net.arcs k).floor ≤ times) × (times ≤ MAX_FLOOR))
     (unit : settings.p ≡ 1) (parts : settings.q ≡ 1000) (near : AreNear wish plan) where
   abbrev l : Layout
   l = layout_of plan
@@ -36,7 +38,7 @@ module _
   x = long_at plan.arcs
 
   abbrev xs : List ℕ
-  xs = times_long settings.floor plan
+  xs = times_long times plan
 
   laid : IsSurface (layout_of plan)
   laid = laid_of plan is.mesh
@@ -44,26 +46,26 @@ module _
   len : AreLengths (layout_of plan) (long_at plan.arcs)
   len = lengths_of plan is.mesh
 
-  entry : (a : ℕ) → a < length plan.arcs → entries xs a ≡ pos (settings.floor * x a)
-  entry a low = ap pos (get_or-map (λ (run : Path). settings.floor * length run.darts) plan.arcs a
+  entry : (a : ℕ) → a < length plan.arcs → entries xs a ≡ pos (times * x a)
+  entry a low = ap pos (get_or-map (λ (run : Path). times * length run.darts) plan.arcs a
       (record { first = 0; last = 0; darts = [] }) 0 low)
 
   -- Opposite sides are equal.
-  along : (p : ℕ) (s : Way) → p < l.patches → sum_along l (entries xs) p s ≡ pos (settings.floor * size l x p s)
+  along : (p : ℕ) (s : Way) → p < l.patches → sum_along l (entries xs) p s ≡ pos (times * size l x p s)
   along p s low =
-      total_below_same (λ k. entries xs (l.use_at p s k).arc) (λ k. pos (settings.floor * x (l.use_at p s k).arc))
+      total_below_same (λ k. entries xs (l.use_at p s k).arc) (λ k. pos (times * x (l.use_at p s k).arc))
       (l.many p s)
       (λ k less. entry (l.use_at p s k).arc (laid.paved.arc_low (record { patch = p; side = s; at = k })
       (record { patch_low = low; low = less })))
-      ∙ sym (count_below_total (λ k. settings.floor * x (l.use_at p s k).arc) (l.many p s))
-      ∙ ap pos (count_below_times settings.floor (λ k. x (l.use_at p s k).arc) (l.many p s))
+      ∙ sym (count_below_total (λ k. times * x (l.use_at p s k).arc) (l.many p s))
+      ∙ ap pos (count_below_times times (λ k. x (l.use_at p s k).arc) (l.many p s))
 
   balanced : IsBalanced net.arcs (entries xs)
-  balanced = (balance_law l (long_at plan.arcs) (wish plan) settings (λ a. settings.floor) net laid is.is
+  balanced = (balance_law l (long_at plan.arcs) (wish plan) settings floors net laid is.is
       (entries xs)).1 (record {
-        across = λ p low. along p south low ∙ (ap (λ n. pos (settings.floor * n)) (sym (len.across p low))
+        across = λ p low. along p south low ∙ (ap (λ n. pos (times * n)) (sym (len.across p low))
             ∙ sym (along p north low));
-        upright = λ p low. along p east low ∙ (ap (λ n. pos (settings.floor * n)) (len.upright p low)
+        upright = λ p low. along p east low ∙ (ap (λ n. pos (times * n)) (len.upright p low)
             ∙ sym (along p west low));
       })
 
@@ -73,9 +75,9 @@ module _
   -- No length is below the floor of its arc.
   tall : (k : ℕ) → k < length net.arcs → pos (arc_at net.arcs k).floor ≤ℤ entries xs k
   tall k low =
-      let some : settings.floor * 1 ≤ settings.floor * x k =
-      mul-le-mul_left settings.floor (len.some k (arc_low k low)) in
-      rw (entry k (arc_low k low)) (omega (arith, ints, some, mul-one settings.floor, is.is.floors k (arc_low k low)))
+      let some : times * 1 ≤ times * x k =
+      mul-le-mul_left times (len.some k (arc_low k low)) in
+      rw (entry k (arc_low k low)) (omega (arith, ints, some, mul-one times, (above k low).0))
 
   -- How far an arc is from its wish.
   far : (k : ℕ) → k < length net.arcs → arc_deviation net (arc_at net.arcs k) (entries xs k)
@@ -83,16 +85,16 @@ module _
   far k low =
       let inner : k < length plan.arcs = arc_low k low in
       let same : arc_deviation net (arc_at net.arcs k) (entries xs k)
-      ≡ weight_of settings.weight (x k) * unsigned_abs (pos 1000 *ℤ pos (settings.floor * x k) -ℤ pos
+      ≡ weight_of settings.weight (x k) * unsigned_abs (pos 1000 *ℤ pos (times * x k) -ℤ pos
       (1 * wish plan k)) =
       (λ i. is.is.weights k inner i * unsigned_abs (pos ((is.is.q ∙ parts) i) *ℤ entry k inner i -ℤ pos
       ((is.is.p ∙ unit) i * is.is.olds k inner i))) in
-      let high : settings.floor * x k ≤ 3 * x k =
-      mul-le-mul_right (x k) (omega (arith, is.is.floors k inner, floor_high net is.bounds k low)) in
-      let few : unsigned_abs (pos 1000 *ℤ pos (settings.floor * x k) -ℤ pos (1 * wish plan k))
+      let high : times * x k ≤ 3 * x k =
+      mul-le-mul_right (x k) (above k low).1 in
+      let few : unsigned_abs (pos 1000 *ℤ pos (times * x k) -ℤ pos (1 * wish plan k))
       ≤ 3000 * x k + wish plan k = omega (arith, ints, high) in
       let both = mul-le (weight_of settings.weight (x k))
-      (unsigned_abs (pos 1000 *ℤ pos (settings.floor * x k) -ℤ pos (1 * wish plan k)))
+      (unsigned_abs (pos 1000 *ℤ pos (times * x k) -ℤ pos (1 * wish plan k)))
       1000 (3000 * x k + wish plan k) (weight_low settings.weight (x k)) few in
       omega (arith, same, both)
 
@@ -117,12 +119,15 @@ module _
       let part : wish plan k ≤ wish_sum wish plan = omega (arith, part_low (wish plan) k (length plan.arcs) inner) in
       omega (arith, wanted, part, near, all_far, is.is.q, parts)
 
-  starts : IsStartOf net xs
-  starts = record {
-    count = length-map plan.arcs (λ (run : Path). settings.floor * length run.darts) ∙ sym is.is.long;
+  pub start_at : IsStartOf net xs
+  start_at = record {
+    count = length-map plan.arcs (λ (run : Path). times * length run.darts) ∙ sym is.is.long;
     admissible = record { high = tall; balanced = balanced };
     near = close;
   }
 
 pub start_law : StartLaw
-start_law = starts
+start_law wish plan settings net is =
+    start_at wish plan settings (given_floors settings) net is settings.floor (λ k low.
+    let same : (arc_at net.arcs k).floor ≡ settings.floor = is.is.floors k (omega (arith, low, is.is.long)) in
+    (omega (arith, same), omega (arith, same, floor_high net is.bounds k low)))

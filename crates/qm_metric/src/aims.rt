@@ -1,6 +1,6 @@
 //! What a fit asks of a network, and what `size` asks for as a fit.
 
-ghost use Rattle.std.specs.Prelude.{◌≡◌};
+ghost use Rattle.std.specs.Prelude.{◌≡◌, false};
 ghost use Rattle.def_fit.specs.Aims.{fit_settings};
 
 use def_fit::{Aim, Fit, Keep, Patches, Spacing};
@@ -31,6 +31,7 @@ pub fn edge_fit(edge: Micro, floor: u32) -> Fit
       patches = Patches.Traced;
       aim = Aim.Edge edge;
       floor = floor;
+      auto = false;
       weight = Weight.Plain;
       spacing = Spacing.Even;
     } }
@@ -40,6 +41,7 @@ pub fn edge_fit(edge: Micro, floor: u32) -> Fit
         patches: Patches::Traced,
         aim: Aim::Edge { edge },
         floor,
+        auto: false,
         weight: Weight::Plain,
         spacing: Spacing::Even,
     }

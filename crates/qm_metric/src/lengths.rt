@@ -14,8 +14,8 @@ use crate::measures::edge_length;
 use def_layout::TArc;
 use def_remesh::DartShares;
 use def_text::Micro;
-use qm_stages::CutMesh;
 use qm_mesh::Mesh;
+use qm_stages::CutMesh;
 use std::alloc::{AllocError, Global};
 
 /// The lengths of the edges of the cut, in millionths, and 0 at all other darts. Linear in the darts, and near linear

@@ -1,6 +1,7 @@
 //! The network of a layout for what new lengths aim at.
 
 ghost use Rattle.std.specs.Prelude.{◌≡◌, ℕ, length, IfOk, IfErr, OnOk};
+ghost use Rattle.def_certtext.specs.Risings.{rounds_if};
 ghost use Rattle.def_fit.specs.Aims.{aimed, fit_settings, AreAimedNear, IsFit, IsFitFail};
 ghost use Rattle.def_flow.specs.Admissible.{IsEven};
 ghost use Rattle.def_flow.specs.Network.{network};
@@ -14,8 +15,8 @@ use crate::wishes::with_wishes;
 use def_fit::{Aim, Fit};
 use def_flow::Net;
 use def_metric::{MAX_TARGETS, MetricFail};
-use qm_stages::CutMesh;
 use qm_layoutnet::net_of;
+use qm_stages::CutMesh;
 use std::alloc::Global;
 
 /// The network of a layout for what a fit aims at. There is a wish for each dart where these are what it aims at. Near
@@ -29,7 +30,7 @@ pub fn net_for(alloc: Global, cut: &CutMesh, fit: &Fit, wishes: &[u32]) -> Resul
         (AreAimedNear fit.now.aim (aimed fit.now.aim cut.now.soup wishes.now) cut.now.plan) }
     ensures even { (p q : ℕ) → fit.now.aim ≡ Aim.Scale p q → IfOk result (λ net. IsEven (network net)) }
     ensures refused { IfErr result (λ fail. IsFitFail fit.now.aim (aimed fit.now.aim cut.now.soup wishes.now)
-        cut.now.plan (fit_settings fit.now) (size_fail_of fail)) }
+        cut.now.plan (fit_settings fit.now) (rounds_if fit.now.auto) (size_fail_of fail)) }
 {
     let layout = cut.layout();
     let net = net_of(alloc, layout, &fit_settings(fit))?;

@@ -6,9 +6,9 @@ ghost use Rattle.def_remesh.specs.NewPoints.{lengths_in, multiple_of};
 ghost use Rattle.def_remesh.specs.Refined.{refine_head, refined_text};
 
 use def_output::Stopped;
-use qm_stages::Regridded;
 use qm_output::Output;
 use qm_print::numbered_line;
+use qm_stages::Regridded;
 use qm_write::put_new_mesh;
 
 /// Puts the head line and the text of the mesh with `by` times the old lengths. Its cost is that of `put_new_mesh`.

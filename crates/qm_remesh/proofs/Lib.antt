@@ -1,2 +1,3 @@
+mod Leading
 mod Nets
 mod Sizes

@@ -1,25 +1,29 @@
 //! Least lengths for a layout, with whatever they aim at.
 
-ghost use Rattle.std.specs.Prelude.{◌≡◌, ℕ, false, length, IfOk, IfErr, OnOk};
+ghost use Rattle.std.specs.Prelude.{◌≡◌, ◌<◌, ◌≤◌, ℕ, length, IfOk, IfErr, OnOk};
 ghost use Rattle.def_certtext.specs.CertLines.{certificates_of};
+ghost use Rattle.def_certtext.specs.Risings.{rounds_if};
 ghost use Rattle.def_fit.specs.Aims.{aimed, fit_settings, AreAimedNear, IsFit, IsFitFail};
 ghost use Rattle.def_flow.specs.Accepted.{certificate};
 ghost use Rattle.def_flow.specs.Admissible.{IsEven};
 ghost use Rattle.def_flow.specs.Descent.{IsSolution};
-ghost use Rattle.def_flow.specs.Network.{network};
+ghost use Rattle.def_flow.specs.Network.{arc_at, network};
+ghost use Rattle.def_layout.specs.Lengths.{Lengths};
 ghost use Rattle.def_mesh.specs.Darts.{darts};
-ghost use Rattle.def_remesh.specs.Keeping.{IsKept, IsNetFor};
+ghost use Rattle.def_remesh.specs.Keeping.{IsKept, IsNetWith};
 ghost use Rattle.def_remesh.specs.Placings.{IsMeshLayout};
 ghost use Rattle.def_remesh.specs.Tasks.{Wish};
+ghost use Rattle.qm_remesh.specs.Rounds.{greatest_floor};
 
 use crate::keeping::keep_solved;
-use def_certtext::Asked;
+use crate::rounds::keep_rounds;
+use def_certtext::{Rising, Terms};
 use def_fit::{Aim, Fit};
-use def_flow::{Cert, Net};
+use def_flow::{Cert, MAX_FLOOR, Net};
 use def_metric::SizeFail;
-use qm_stages::CutMesh;
 use qm_metric::{fit_settings, net_for, old_start};
 use qm_solve::{solve, solve_near};
+use qm_stages::CutMesh;
 use qm_write::Remesh;
 use std::alloc::{AllocError, Global};
 
@@ -32,37 +36,59 @@ pub fn keep_fit(alloc: Global, cut: &CutMesh, fit: &Fit, wishes: &[u32]) -> Resu
     requires fit { IsFit fit.now }
     requires wishes { fit.now.aim ≡ Aim.Wishes → length wishes.now ≡ darts cut.now.soup.faces }
     ensures kept { IfOk result (λ kept. IsKept (aimed fit.now.aim cut.now.soup wishes.now) cut.now.plan
-        (fit_settings fit.now) false (certificates_of kept.certs) kept.numbering) }
-    ensures asked { IfOk result (λ kept. kept.asked ≡ record { settings = fit_settings fit.now; auto = false }) }
+        (fit_settings fit.now) (rounds_if fit.now.auto) (certificates_of kept.certs) kept.numbering) }
+    ensures terms { IfOk result (λ kept.
+        kept.terms ≡ record { settings = fit_settings fit.now; rising = rounds_if fit.now.auto }) }
     ensures laid { IsMeshLayout cut.now.soup.faces cut.now.plan }
     ensures near { OnOk result
         (AreAimedNear fit.now.aim (aimed fit.now.aim cut.now.soup wishes.now) cut.now.plan) }
     ensures refused { IfErr result
-        (IsFitFail fit.now.aim (aimed fit.now.aim cut.now.soup wishes.now) cut.now.plan (fit_settings fit.now)) }
+        (IsFitFail fit.now.aim (aimed fit.now.aim cut.now.soup wishes.now) cut.now.plan (fit_settings fit.now)
+        (rounds_if fit.now.auto)) }
 {
     let _laid = cut.layout();
     let net = net_for(alloc, cut, fit, wishes)?;
     let first = solve_fit(alloc, cut, fit, &net)?;
-    let asked = Asked {
+    if fit.auto {
+        let kept = keep_rounds(alloc, cut, fit, net, first)?;
+        return Ok(kept);
+    }
+    let terms = Terms {
         settings: fit_settings(fit),
-        auto: false,
+        rising: Rising::Never,
     };
-    let kept = keep_solved(alloc, cut, asked, net, first)?;
+    let kept = keep_solved(alloc, cut, terms, net, first)?;
     Ok(kept)
 }
 
-/// A least list of lengths of the network of a fit, with its certificate.
-fn solve_fit(alloc: Global, cut: &CutMesh, fit: &Fit, net: &Net) -> Result<Cert, AllocError>
-    requires net { (wish : Wish) × IsNetFor wish cut.now.plan (fit_settings fit.now) (network net.now)
+/// A least list of lengths of the network of a fit, with its certificate, whichever of its floors rose.
+pub(crate) fn solve_fit(
+    alloc: Global,
+    cut: &CutMesh,
+    fit: &Fit,
+    net: &Net,
+) -> Result<Cert, AllocError>
+    requires fit { IsFit fit.now }
+    requires net { (wish : Wish) × (floors : Lengths)
+        × IsNetWith wish cut.now.plan (fit_settings fit.now) floors (network net.now)
         × AreAimedNear fit.now.aim wish cut.now.plan }
+    requires floors { (k : ℕ) → k < length net.now.arcs.items
+        → (arc_at net.now.arcs.items k).floor ≤ greatest_floor fit.now }
     requires even { (p q : ℕ) → fit.now.aim ≡ Aim.Scale p q → IsEven (network net.now) }
     ensures { IfOk result (λ cert. IsSolution (network net.now) (certificate cert)) }
 {
     match fit.aim {
         Aim::Scale { .. } => solve(alloc, net),
         _ => {
-            let start = old_start(alloc, cut.layout(), fit.floor)?;
+            let start = old_start(alloc, cut.layout(), greatest_floor(fit))?;
             solve_near(alloc, net, start)
         }
     }
+}
+
+/// The greatest floor that an arc may get.
+fn greatest_floor(fit: &Fit) -> u32
+    ensures { result ≡ greatest_floor fit.now }
+{
+    if fit.auto { MAX_FLOOR } else { fit.floor }
 }

@@ -1,8 +1,10 @@
-//! Least lengths for a layout, for the floor that was given or for one that rises where it must.
+//! Least lengths for a layout, for the floor that was given or for floor 3 where it must.
 
-ghost use Rattle.std.specs.Prelude.{◌≡◌, IfOk, IfErr, true};
+ghost use Rattle.std.specs.Prelude.{◌≡◌, ◌≢◌, IfOk, IfErr};
 ghost use Rattle.def_certtext.specs.CertLines.{certificates_of};
+ghost use Rattle.def_certtext.specs.Risings.{may_rise};
 ghost use Rattle.def_certtext.specs.Settings.{AreInRange};
+ghost use Rattle.def_certtext.specs.declared.certs.Rising.TheVariants.{Rounds, Third};
 ghost use Rattle.def_flow.specs.Accepted.{certificate};
 ghost use Rattle.def_flow.specs.Admissible.{IsEven};
 ghost use Rattle.def_flow.specs.Descent.{IsSolution};
@@ -13,59 +15,61 @@ ghost use Rattle.def_remesh.specs.Refusals.{IsLayoutFail};
 ghost use Rattle.def_remesh.specs.Remeshed.{AreCoarse, AreDoubled};
 ghost use Rattle.def_remesh.specs.Tasks.{old_lengths, Wish};
 
-use def_certtext::{Asked, Certs};
+use def_certtext::{Certs, Rising, Terms};
 use def_flow::{Cert, MAX_FLOOR, Net, Settings};
 use def_layoutnet::NetFail;
 use def_remesh::{Kept, LayoutFail, StitchFail};
-use qm_stages::{CutMesh, plan_over};
 use qm_layoutnet::{net_of, with_floor};
 use qm_solve::solve;
+use qm_stages::{CutMesh, plan_over};
 use qm_write::Remesh;
 use std::alloc::Global;
 
-/// Finds least lengths for a layout, and numbers the new mesh that they give. With `auto` they are those for floor 1,
-/// or those for floor 3 where the first double an edge.
+/// Finds least lengths for a layout, and numbers the new mesh that they give: those for the given floors, or, where
+/// these double an edge and floors rise to 3 at once, those for floor 3. They do not rise in rounds.
 ///
 /// The time is that of `solve` and, beyond it, near linear in the sizes of the old and the new mesh.
-pub fn keep(alloc: Global, cut: &CutMesh, asked: Asked) -> Result<Remesh, LayoutFail>
-    requires settings { AreInRange asked.settings asked.auto }
-    ensures kept { IfOk result (λ kept. IsKept old_lengths cut.now.plan asked.settings asked.auto
+pub fn keep(alloc: Global, cut: &CutMesh, terms: Terms) -> Result<Remesh, LayoutFail>
+    requires known { terms.rising ≢ Rounds }
+    requires settings { AreInRange terms.settings (may_rise terms.rising) }
+    ensures kept { IfOk result (λ kept. IsKept old_lengths cut.now.plan terms.settings terms.rising
         (certificates_of kept.certs) kept.numbering) }
-    ensures asked { IfOk result (λ kept. kept.asked ≡ asked) }
+    ensures terms { IfOk result (λ kept. kept.terms ≡ terms) }
     ensures laid { IsMeshLayout cut.now.soup.faces cut.now.plan }
-    ensures refused { IfErr result (IsLayoutFail old_lengths cut.now.plan asked.settings asked.auto) }
+    ensures refused { IfErr result (IsLayoutFail old_lengths cut.now.plan terms.settings terms.rising) }
 {
-    let net = match net_of(alloc, cut.layout(), &asked.settings) {
+    let net = match net_of(alloc, cut.layout(), &terms.settings) {
         Ok(net) => net,
         Err(NetFail::Tangled { count }) => return Err(LayoutFail::Tangled { count }),
         Err(NetFail::Memory) => return Err(LayoutFail::Memory),
     };
     let first = solve(alloc, &net)?;
-    keep_solved(alloc, cut, asked, net, first)
+    keep_solved(alloc, cut, terms, net, first)
 }
 
-/// The same of a network of the layout with any wished lengths, which this certificate solves. With `auto` the network
-/// is even, so that it can be solved for floor 3.
+/// The same of a network of the layout with any wished lengths, which this certificate solves. Where floors rise the
+/// network is even, so that it can be solved for floor 3.
 pub fn keep_solved(
     alloc: Global,
     cut: &CutMesh,
-    asked: Asked,
+    terms: Terms,
     net: Net,
     first: Cert,
 ) -> Result<Remesh, LayoutFail>
-    requires net { (wish : Wish) × IsNetFor wish cut.now.plan asked.settings (network net) }
+    requires known { terms.rising ≢ Rounds }
+    requires net { (wish : Wish) × IsNetFor wish cut.now.plan terms.settings (network net) }
     requires solved { IsSolution (network net) (certificate first) }
-    requires even { asked.auto ≡ true → IsEven (network net) }
-    ensures kept { (wish : Wish) → IsNetFor wish cut.now.plan asked.settings (network net)
-        → IfOk result (λ kept. IsKept wish cut.now.plan asked.settings asked.auto
+    requires even { terms.rising ≡ Third → IsEven (network net) }
+    ensures kept { (wish : Wish) → IsNetFor wish cut.now.plan terms.settings (network net)
+        → IfOk result (λ kept. IsKept wish cut.now.plan terms.settings terms.rising
         (certificates_of kept.certs) kept.numbering) }
-    ensures asked { IfOk result (λ kept. kept.asked ≡ asked) }
-    ensures refused { (wish : Wish) → IsNetFor wish cut.now.plan asked.settings (network net)
-        → IfErr result (IsLayoutFail wish cut.now.plan asked.settings asked.auto) }
+    ensures terms { IfOk result (λ kept. kept.terms ≡ terms) }
+    ensures refused { (wish : Wish) → IsNetFor wish cut.now.plan terms.settings (network net)
+        → IfErr result (IsLayoutFail wish cut.now.plan terms.settings terms.rising) }
 {
     match plan_over(alloc, cut, &first.x) {
         Ok(numbering) => Ok(Remesh {
-            asked,
+            terms,
             certs: Certs::Alone { cert: first },
             numbering,
         }),
@@ -75,15 +79,15 @@ pub fn keep_solved(
                 certs: Certs::Alone { cert: first },
             },
         }),
-        Err(StitchFail::Doubled { .. }) if asked.auto => {
-            raise(alloc, cut, asked.settings, net, first)
-        }
-        Err(StitchFail::Doubled { u, v }) => Err(LayoutFail::Doubled { u, v, cert: first }),
+        Err(StitchFail::Doubled { u, v }) => match terms.rising {
+            Rising::Third => raise(alloc, cut, terms.settings, net, first),
+            _ => Err(LayoutFail::Doubled { u, v, cert: first }),
+        },
         Err(StitchFail::Memory) => Err(LayoutFail::Memory),
     }
 }
 
-/// The same with `auto`, where the lengths for floor 1 double an edge: those for floor 3 double none.
+/// The same where the lengths for the given floors double an edge: those for floor 3 double none.
 fn raise(
     alloc: Global,
     cut: &CutMesh,
@@ -97,19 +101,19 @@ fn raise(
     requires coarse { AreCoarse cut.now.plan first.x.items }
     requires doubled { AreDoubled cut.now.plan first.x.items }
     ensures kept { (wish : Wish) → IsNetFor wish cut.now.plan settings (network net)
-        → IfOk result (λ kept. IsKept wish cut.now.plan settings true
+        → IfOk result (λ kept. IsKept wish cut.now.plan settings Third
         (certificates_of kept.certs) kept.numbering) }
-    ensures asked { IfOk result (λ kept. kept.asked ≡ record { settings = settings; auto = true }) }
+    ensures terms { IfOk result (λ kept. kept.terms ≡ record { settings = settings; rising = Third }) }
     ensures refused { (wish : Wish) → IsNetFor wish cut.now.plan settings (network net)
-        → IfErr result (IsLayoutFail wish cut.now.plan settings true) }
+        → IfErr result (IsLayoutFail wish cut.now.plan settings Third) }
 {
     let raised = with_floor(net, MAX_FLOOR);
     let cert = solve(alloc, &raised)?;
     match plan_over(alloc, cut, &cert.x) {
         Ok(numbering) => Ok(Remesh {
-            asked: Asked {
+            terms: Terms {
                 settings,
-                auto: true,
+                rising: Rising::Third,
             },
             certs: Certs::Raised { first, cert },
             numbering,

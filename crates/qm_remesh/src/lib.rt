@@ -1,8 +1,9 @@
-//! The lengths that a remesh keeps: least ones for the floor that was given, or for one that rises where it must.
+//! The lengths that a remesh keeps: least ones for the floor that was given, or for floors that rise where they must.
 #![tactic(auto)]
 
 mod fitted;
 mod keeping;
+mod rounds;
 mod sized;
 
 pub use def_metric::SizeFail;

@@ -1,7 +1,8 @@
 //! Least lengths for a layout whose new edges are to have a given length.
 
-ghost use Rattle.std.specs.Prelude.{◌≡◌, ◌≤◌, false, pos as whole, ◌≤ℤ◌, unsigned_abs, IfOk, IfErr, OnOk};
+ghost use Rattle.std.specs.Prelude.{◌≡◌, ◌≤◌, pos as whole, ◌≤ℤ◌, unsigned_abs, IfOk, IfErr, OnOk};
 ghost use Rattle.def_certtext.specs.CertLines.{certificates_of};
+ghost use Rattle.def_certtext.specs.declared.certs.Rising.TheVariants.{Never};
 ghost use Rattle.def_flow.specs.declared.limits.TheConstants.{MAX_FLOOR};
 ghost use Rattle.def_metric.specs.Fails.{AreNear, IsSizeFail};
 ghost use Rattle.def_metric.specs.Targets.{edge_settings, targets};
@@ -11,8 +12,8 @@ ghost use Rattle.def_remesh.specs.Placings.{IsMeshLayout};
 use crate::fitted::keep_fit;
 use def_metric::SizeFail;
 use def_text::Micro;
-use qm_stages::CutMesh;
 use qm_metric::edge_fit;
+use qm_stages::CutMesh;
 use qm_write::Remesh;
 use std::alloc::Global;
 
@@ -23,9 +24,10 @@ pub fn keep_sized(alloc: Global, cut: &CutMesh, edge: Micro, floor: u32) -> Resu
     requires edge { whole 1 ≤ℤ edge }
     requires floor { (1 ≤ floor) × (floor ≤ MAX_FLOOR) }
     ensures kept { IfOk result (λ kept. IsKept
-        (targets cut.now.soup.faces cut.now.soup.pos (unsigned_abs edge)) cut.now.plan (edge_settings floor) false
+        (targets cut.now.soup.faces cut.now.soup.pos (unsigned_abs edge)) cut.now.plan (edge_settings floor) Never
         (certificates_of kept.certs) kept.numbering) }
-    ensures asked { IfOk result (λ kept. kept.asked ≡ record { settings = edge_settings floor; auto = false }) }
+    ensures terms { IfOk result (λ kept.
+        kept.terms ≡ record { settings = edge_settings floor; rising = Never }) }
     ensures laid { IsMeshLayout cut.now.soup.faces cut.now.plan }
     ensures near { OnOk result
         (AreNear (targets cut.now.soup.faces cut.now.soup.pos (unsigned_abs edge)) cut.now.plan) }

@@ -19,12 +19,12 @@ use def_io::LINE_FEED;
 use def_layout::TArc;
 use def_mesh::Kind;
 use def_patches::{Keep, Patches};
-use qm_stages::CutMesh;
 use qm_feature::breaks;
 use qm_fit::{keep_word, patches_word};
 use qm_marktext::is_marked;
 use qm_print::push_spaced;
 use qm_sing::sources;
+use qm_stages::CutMesh;
 use std::alloc::Global;
 
 /// The text of a mesh with the layout of the cut that is chosen so, where these marked edges are kept. Vertices have

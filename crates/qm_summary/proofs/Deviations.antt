@@ -1,7 +1,7 @@
 -- What is kept of a layout for a benchmark, and how far it is from what is wanted.
-use Rattle.std.proofs.Common.{◌≡◌, ℤ, pos, sym, ◌∙◌, ap, subst, false}
-use Rattle.std.proofs.lemmas.Bool.{false≢true}
-use Rattle.def_certtext.specs.CertLines.{alone, raised, used, Certificates}
+use Rattle.std.proofs.Common.{◌≡◌, ℤ, pos, sym, ◌∙◌, ap, subst}
+use Rattle.def_certtext.specs.CertLines.{alone, raised, risen, used, Certificates}
+use Rattle.def_certtext.specs.declared.certs.Rising.TheVariants.{Never, Third, Rounds}
 use Rattle.def_flow.specs.{Admissible.deviation, Admissible.entries, Admissible.AreNetLengths, Network.Network}
 use Rattle.def_flow.specs.declared.net.Settings.{Settings}
 use Rattle.def_layout.specs.{Arcs.long_at, Plans.Plan, Plans.layout_of}
@@ -22,30 +22,39 @@ bench_net plan other settings net equal same is =
     (subst (λ (p : Plan). IsNetOf (layout_of p) (long_at p.arcs) (long_at p.arcs) settings (λ a. settings.floor) net)
     equal is)
 
+-- Floors that never rise do not rise to 3, nor in rounds.
+no_third : Never ≡ Third → ⊥
+no_third is = cc
+
+no_rounds : Never ≡ Rounds → ⊥
+no_rounds is = cc
+
 pub bench_kept : (plan : Plan) (settings : Settings) (certificates : Certificates) (tables : Tables)
     → settings ≡ bench_settings
-    → IsKept old_lengths plan settings false certificates tables
-    → IsKept old_lengths plan bench_settings false certificates tables
+    → IsKept old_lengths plan settings Never certificates tables
+    → IsKept old_lengths plan bench_settings Never certificates tables
 bench_kept plan settings certificates tables same kept =
-    subst (λ (s : Settings). IsKept old_lengths plan s false certificates tables) same kept
+    subst (λ (s : Settings). IsKept old_lengths plan s Never certificates tables) same kept
 
 module _
     (plan : Plan) (tables : Tables) (net : Network)
     (is : IsNetOf (layout_of plan) (long_at plan.arcs) (long_at plan.arcs) bench_settings (λ a. 1) net) where
   -- The kept lengths are lengths of the layout's network.
-  pub kept_lengths : (certificates : Certificates) → IsKept old_lengths plan bench_settings false certificates tables
+  pub kept_lengths : (certificates : Certificates) → IsKept old_lengths plan bench_settings Never certificates tables
       → AreNetLengths net.arcs (used certificates).x
   kept_lengths (alone cert) kept = record {
     count = kept.kept.lengths.count ∙ (kept.kept.lengths.of_layout.long ∙ sym is.long);
     small = writable_short cert kept.kept.lengths.writable;
   }
-  kept_lengths (raised first cert) kept = absurd (false≢true kept.kept.0)
+  kept_lengths (raised first cert) kept = absurd (no_third kept.kept.0)
+  kept_lengths (risen first rises after) kept = absurd (no_rounds kept.kept.0)
 
   -- A layout has one network, so their deviation is that of their certificate.
   pub deviation_kept : (certificates : Certificates) (told : ℤ) → IsSomeLayout plan
-      → IsKept old_lengths plan bench_settings false certificates tables
+      → IsKept old_lengths plan bench_settings Never certificates tables
       → told ≡ pos (deviation net (entries (used certificates).x)) → IsKeptDeviation plan told
-  deviation_kept (raised first cert) told mesh kept says = absurd (false≢true kept.kept.0)
+  deviation_kept (raised first cert) told mesh kept says = absurd (no_third kept.kept.0)
+  deviation_kept (risen first rises after) told mesh kept says = absurd (no_rounds kept.kept.0)
   deviation_kept (alone cert) told mesh kept says =
       let one : net ≡ kept.kept.lengths.net =
       one_net_law (layout_of plan) (long_at plan.arcs) (long_at plan.arcs) bench_settings (λ a. 1) (laid_of plan mesh)

@@ -1,5 +1,6 @@
 -- The line of counts that are told, and why a size is refused.
-use Rattle.std.proofs.Common.{◌≡◌, ℕ, pos, false, length, sym, ◌∙◌, ap, subst}
+use Rattle.std.proofs.Common.{◌≡◌, ℕ, pos, length, sym, ◌∙◌, ap, subst}
+use Rattle.def_certtext.specs.declared.certs.Rising.TheVariants.{Never}
 use Rattle.def_gen.specs.Steps.{steps_soup}
 use Rattle.def_layout.specs.Plans.{Plan}
 use Rattle.def_mesh.specs.{Components.edge_count, Components.start_darts, Faces.Faces, Vertices.vertex_count}
@@ -38,7 +39,7 @@ traced_in size soup faces plan cut is same made traced =
 
 -- A layout of the mesh of a size that is refused is why the size is.
 pub size_fails : (size : ℕ) (plan : Plan) (failed : LayoutFail) → IsTracedLayout (bench_faces size) plan
-    → IsLayoutFail old_lengths plan bench_settings false failed → IsBenchFail size failed
+    → IsLayoutFail old_lengths plan bench_settings Never failed → IsBenchFail size failed
 size_fails size plan (fail.Tangled count) cut why = (plan, cut, why)
 size_fails size plan (fail.TooFine faces kept) cut why = (plan, cut, why)
 size_fails size plan (fail.Doubled u v cert) cut why = (plan, cut, why)

@@ -1,19 +1,20 @@
 //! The deviation of the lengths that a benchmark keeps.
 
-ghost use Rattle.std.specs.Prelude.{◌≡◌, ◌<◌, ◌^◌, ◌<ℤ◌, pos, false, length, IfOk, IfErr, OnOk};
+ghost use Rattle.std.specs.Prelude.{◌≡◌, ◌<◌, ◌^◌, ◌<ℤ◌, pos, length, IfOk, IfErr, OnOk};
+ghost use Rattle.def_certtext.specs.declared.certs.Rising.TheVariants.{Never};
 ghost use Rattle.def_remesh.specs.Refusals.{IsLayoutFail};
 ghost use Rattle.def_remesh.specs.Tasks.{old_lengths};
 ghost use Rattle.def_run.specs.Bench.{bench_settings};
 ghost use Rattle.qm_summary.specs.Deviation.{IsKeptDeviation};
 
-use def_certtext::Asked;
+use def_certtext::{Rising, Terms};
 use def_flow::{Settings, Weight};
 use def_layoutnet::NetFail;
 use def_remesh::LayoutFail;
-use qm_stages::CutMesh;
 use qm_layoutnet::net_of;
 use qm_net::deviation;
 use qm_remesh::keep;
+use qm_stages::CutMesh;
 use std::alloc::Global;
 
 /// The deviation of the lengths that a remesh of this layout keeps, with the settings of a benchmark.
@@ -23,14 +24,14 @@ pub(crate) fn kept_deviation(alloc: Global, cut: &CutMesh) -> Result<i128, Layou
     ensures kept { IfOk result (IsKeptDeviation cut.now.plan) }
     ensures small { IfOk result (λ deviation. deviation <ℤ pos (2 ^ 127)) }
     ensures few { OnOk result ((length cut.now.plan.patches < 2 ^ 32) × (length cut.now.plan.arcs < 2 ^ 32)) }
-    ensures refused { IfErr result (IsLayoutFail old_lengths cut.now.plan bench_settings false) }
+    ensures refused { IfErr result (IsLayoutFail old_lengths cut.now.plan bench_settings Never) }
 {
     let settings = half();
-    let asked = Asked {
+    let terms = Terms {
         settings,
-        auto: false,
+        rising: Rising::Never,
     };
-    let kept = keep(alloc, cut, asked)?;
+    let kept = keep(alloc, cut, terms)?;
     let t = cut.layout();
     let net = match net_of(alloc, t, &settings) {
         Ok(net) => net,

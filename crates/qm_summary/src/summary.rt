@@ -8,9 +8,9 @@ use crate::deviation::kept_deviation;
 use def_remesh::LayoutFail;
 use def_report::Counts;
 use qm_cut::layout_from;
-use qm_stages::{CutMesh, Meshed};
 use qm_report::summary_text;
 use qm_sing::{edge_count, sources};
+use qm_stages::{CutMesh, Meshed};
 use std::alloc::Global;
 
 /// The line of the benchmark of this size, whose mesh this is.

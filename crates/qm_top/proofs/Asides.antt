@@ -5,7 +5,7 @@ use Rattle.std.proofs.Math.Seq.{take-length}
 use Rattle.std.proofs.lemmas.Bool.{and_from, and_parts}
 use Rattle.std.specs.List.{before_first, list_all}
 use Rattle.std.specs.Prelude.{◌==◌, ◌&&◌, decimal, if◌then◌else◌, unsigned_abs}
-use Rattle.def_certtext.specs.Settings.{weight_text, AreInRange}
+use Rattle.def_certtext.specs.Settings.{floor_text, weight_text, AreInRange}
 use Rattle.def_fit.specs.{Aims.IsAim, Aims.IsFit, FitWords.aim_text, FitWords.fit_head, FitWords.keep_word}
 use Rattle.def_fit.specs.{FitWords.patches_word, FitWords.spacing_word, declared.fit.Aim.Aim}
 use Rattle.def_fit.specs.declared.fit.Aim.TheVariants.{Scale, Edge}
@@ -25,7 +25,7 @@ use Rattle.def_text.specs.{Reading.begins_with, Words.words}
 use Rattle.qm_dec.proofs.Texts.{none_first}
 use Rattle.qm_obj.proofs.LawText.{is_tame, micro_word, no_continuation}
 use Rattle.qm_check.proofs.Heads.{fit_inside, size_inside}
-use Rattle.remesh_laws.proofs.Asides.{line_aside, number_short, settings_aside}
+use Rattle.remesh_laws.proofs.Asides.{floor_short, line_aside, number_short, settings_aside}
 use Rattle.remesh_laws.proofs.MarkedLines.{chain_line, chain_tame, marked_chains, marked_ended, marked_lines}
 use Rattle.remesh_laws.specs.Asides.{IsAside, IsPassedOver}
 
@@ -97,19 +97,19 @@ fit_aside fit is =
     let kept = codes "#quadq 1 fit keep " ++ keep_word fit.keep in
     let cut = kept ++ codes " patches " ++ patches_word fit.patches in
     let aimed = cut ++ codes " aim " ++ aim_text fit.aim in
-    let bounded = aimed ++ codes " floor " ++ decimal fit.floor in
+    let bounded = aimed ++ codes " floor " ++ floor_text fit.floor fit.auto in
     let weighed = bounded ++ codes " weight " ++ weight_text fit.weight in
     line_aside (fit_head fit) refl (fit_inside fit is) (omega (
       arith,
       behind weighed (codes " spacing ") (spacing_word fit.spacing) 300 20 20
           (behind bounded (codes " weight ") (weight_text fit.weight) 260 20 20
-          (behind aimed (codes " floor ") (decimal fit.floor) 220 20 20
+          (behind aimed (codes " floor ") (floor_text fit.floor fit.auto) 220 20 20
           (behind cut (codes " aim ") (aim_text fit.aim) 100 20 100
           (behind kept (codes " patches ") (patches_word fit.patches) 60 20 20
           (behind [] (codes "#quadq 1 fit keep ") (keep_word fit.keep) 0 40 20 (omega arith) (omega arith)
           (keep_short fit.keep))
           (omega arith) (patches_short fit.patches)) (omega arith) (aim_short fit.aim is.aim)) (omega arith)
-          (number_short fit.floor (omega (arith, is.high)))) (omega arith) (weight_short fit.weight)) (omega arith)
+          (floor_short fit.floor fit.auto is.floor)) (omega arith) (weight_short fit.weight)) (omega arith)
           (spacing_short fit.spacing),
     ))
 

@@ -1,7 +1,8 @@
 -- Bytes that a command takes are not refused.
-use Rattle.std.proofs.Common.{Bool, false, ◌≡◌, ◌≤◌, ◌⊎◌, ℕ, ℤ, List, ◌++◌, length, Option, Some, None, Result, Ok, Err}
+use Rattle.std.proofs.Common.{Bool, ◌≡◌, ◌≤◌, ◌⊎◌, ℕ, ℤ, List, ◌++◌, length, Option, Some, None, Result, Ok, Err}
 use Rattle.std.proofs.Common.{sym, ◌∙◌, ap, subst, arith, refl, inl, inr, length-append}
 use Rattle.std.proofs.lemmas.List.{append-nil}
+use Rattle.def_certtext.specs.{declared.certs.Rising.Rising, declared.certs.Rising.TheVariants.Never}
 use Rattle.def_fit.specs.{FitTasks.asides_in, FitTasks.kept_in, FitTasks.Asides, declared.fit.Fit.Fit as AnyFit}
 use Rattle.def_io.specs.{Bytes.Bytes, Bytes.Told, Faults.Rose, Moves.Change, Moves.gave, Moves.GaveMore}
 use Rattle.def_io.specs.Moves.{IsEmptied}
@@ -64,21 +65,21 @@ refine_not_both by bytes (TooFine faces kept) takes (plan, cut, fine) =
 refine_not_both by bytes answer takes refuses = mesh_not_refused bytes takes.soup answer takes.mesh refuses
 
 -- Bytes whose mesh is remeshed whatever least lists are kept are not refused.
-layout_not_both : (wish : Wish) (settings : Settings) (auto : Bool) (plan : Plan) (answer : Answer)
-    → IsRemeshable wish plan settings auto
-    → RefusesLayout wish plan settings auto answer → ⊥
-layout_not_both wish settings auto plan (Tangled count) fits refuses = fits.untangled count refuses
-layout_not_both wish settings auto plan (TooFine faces kept) fits refuses =
-    fits_not_fine wish plan settings auto faces kept fits refuses
-layout_not_both wish settings auto plan (Doubled u v cert) fits refuses =
-    fits_not_doubled wish plan settings auto u v cert fits refuses
-layout_not_both wish settings auto plan _ fits refuses = absurd refuses
+layout_not_both : (wish : Wish) (settings : Settings) (rising : Rising) (plan : Plan) (answer : Answer)
+    → IsRemeshable wish plan settings rising
+    → RefusesLayout wish plan settings rising answer → ⊥
+layout_not_both wish settings rising plan (Tangled count) fits refuses = fits.untangled count refuses
+layout_not_both wish settings rising plan (TooFine faces kept) fits refuses =
+    fits_not_fine wish plan settings rising faces kept fits refuses
+layout_not_both wish settings rising plan (Doubled u v cert) fits refuses =
+    fits_not_doubled wish plan settings rising u v cert fits refuses
+layout_not_both wish settings rising plan _ fits refuses = absurd refuses
 
 task_not_both : (asks : Asks) (bytes : Bytes) (answer : Answer) → HasFinished asks bytes → RefusesTask asks bytes answer
     → ⊥
 task_not_both asks bytes answer takes (inl none) = mesh_not_refused bytes takes.soup answer takes.mesh none
 task_not_both asks bytes answer takes (inr (task, plan, has, why)) =
-    layout_not_both task.wish task.settings task.auto plan answer (takes.fits task plan has) why
+    layout_not_both task.wish task.settings task.rising plan answer (takes.fits task plan has) why
 
 -- What is asked for under a condition is finished with all that is asked for.
 near_finished : (asks near : Asks) (bytes : Bytes)
@@ -116,7 +117,7 @@ size_not_both edge floor bytes answer takes refuses =
 bench_not_both : (size : ℕ) (answer : Answer) → HasBench size → RefusesToBench size answer → ⊥
 bench_not_both size (NotManifold place) takes refuses = refuses.1 takes.manifold
 bench_not_both size answer takes (plan, cut, why) =
-    layout_not_both old_lengths bench_settings false plan answer (takes.fits plan cut) why
+    layout_not_both old_lengths bench_settings Never plan answer (takes.fits plan cut) why
 
 -- Bytes with marks are refused for what is asked of them alone.
 crease_not_both : (settings : Settings) (bytes : Bytes) (answer : Answer) → HasCreased settings bytes

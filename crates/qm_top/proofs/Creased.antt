@@ -1,9 +1,9 @@
 -- What `crease` keeps: bytes whose `l` lines are refused end it, and bytes that it takes are not refused.
 use Rattle.std.specs.Prelude.{codes}
-use Rattle.std.proofs.Common.{◌≡◌, false, Result, Ok, Err, List, Bool, Some, None, [], ◌∷◌, ◌++◌, sym, ◌∙◌, ap, subst}
+use Rattle.std.proofs.Common.{◌≡◌, Result, Ok, Err, List, Bool, Some, None, [], ◌∷◌, ◌++◌, sym, ◌∙◌, ap, subst}
 use Rattle.std.proofs.Common.{refl}
 use Rattle.std.proofs.Common.{inl}
-use Rattle.def_certtext.specs.CertLines.{certificates_of, used}
+use Rattle.def_certtext.specs.{declared.certs.Rising.TheVariants.Never, CertLines.certificates_of, CertLines.used}
 use Rattle.def_feature.specs.Marked.{marked_cut}
 use Rattle.def_flow.specs.declared.net.Settings.{Settings}
 use Rattle.def_io.specs.{Bytes.Bytes, declared.TheConstants.LINE_FEED}
@@ -62,8 +62,8 @@ module _ (settings : Settings) (bytes : Bytes) (read : FaceSet) (cut : CutSoup) 
 
   -- What is kept of a mesh with its marks is written for its task.
   pub creased_shown : (framed : Framed) → IsMeshLayout cut.soup.faces cut.plan
-      → framed.remesh.asked ≡ record { settings = settings; auto = false }
-      → IsKept old_lengths cut.plan settings false (certificates_of framed.remesh.certs) framed.remesh.numbering
+      → framed.remesh.terms ≡ record { settings = settings; rising = Never }
+      → IsKept old_lengths cut.plan settings Never (certificates_of framed.remesh.certs) framed.remesh.numbering
       → framed.head.items ≡ named_head (codes "crease") settings ++ LINE_FEED ∷ []
       → framed.between.items ≡ marked_text marks cut.plan (lengths_in (used (certificates_of framed.remesh.certs)).x)
       → framed.shares ≡ None
@@ -77,7 +77,7 @@ module _ (settings : Settings) (bytes : Bytes) (read : FaceSet) (cut : CutSoup) 
       )
 
   -- Where its layout is refused its task fails.
-  pub creased_fails : (fail : LayoutFail) → IsLayoutFail old_lengths cut.plan settings false fail
+  pub creased_fails : (fail : LayoutFail) → IsLayoutFail old_lengths cut.plan settings Never fail
       → FailsAsked (AsksToCrease settings) bytes read fail
   creased_fails fail why =
       subst (λ (s : FaceSet). FailsAsked (AsksToCrease settings) bytes s fail) same

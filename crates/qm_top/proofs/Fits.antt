@@ -1,7 +1,7 @@
 -- What `fit` keeps.
-use Rattle.std.proofs.Common.{◌≡◌, ◌++◌, ◌∷◌, [], false, ℕ, Bool, List, Option, Some, None, Ok, inl, inr, refl, sym}
+use Rattle.std.proofs.Common.{◌≡◌, ◌++◌, ◌∷◌, [], ℕ, Bool, List, Option, Some, None, Ok, inl, inr, refl, sym}
 use Rattle.std.proofs.Common.{subst}
-use Rattle.def_certtext.specs.CertLines.{certificates_of, used}
+use Rattle.def_certtext.specs.{Risings.rounds_if, CertLines.certificates_of, CertLines.used}
 use Rattle.def_cut.specs.FullCut.{IsFullCut}
 use Rattle.def_fit.specs.Aims.{aimed, fit_settings, AreAimedNear, IsFit, IsFitFail}
 use Rattle.def_fit.specs.{FitTasks.asides_in, FitTasks.fit_task, FitTasks.kept_text, FitTasks.Asides, FitWords.fit_head}
@@ -114,8 +114,8 @@ module _ (fit : AnyFit) (bytes : Bytes) (read : FaceSet) (cut : CutSoup) (asides
 
   -- What is kept of it is written.
   pub fit_shown : (framed : Framed) → AreAimedNear fit.aim (aimed fit.aim cut.soup asides.wishes) cut.plan
-      → framed.remesh.asked ≡ record { settings = fit_settings fit; auto = false }
-      → IsKept (aimed fit.aim cut.soup asides.wishes) cut.plan (fit_settings fit) false
+      → framed.remesh.terms ≡ record { settings = fit_settings fit; rising = rounds_if fit.auto }
+      → IsKept (aimed fit.aim cut.soup asides.wishes) cut.plan (fit_settings fit) (rounds_if fit.auto)
       (certificates_of framed.remesh.certs) framed.remesh.numbering
       → framed.head.items ≡ fit_head fit ++ 10 ∷ []
       → framed.between.items ≡ kept_text asides.kept cut.plan
@@ -129,10 +129,11 @@ module _ (fit : AnyFit) (bytes : Bytes) (read : FaceSet) (cut : CutSoup) (asides
 
   -- It is not written where there is no network for its wishes, or where least lengths give no new mesh.
   pub fit_fails : {O : Type 0} (says : Bytes → Type 0) (out : Stream O) → IsStill out → (fail : SizeFail)
-      → IsFitFail fit.aim (aimed fit.aim cut.soup asides.wishes) cut.plan (fit_settings fit) fail
+      → IsFitFail fit.aim (aimed fit.aim cut.soup asides.wishes) cut.plan (fit_settings fit)
+      (rounds_if fit.auto) fail
       → IsUnwritten says (IsOfWishes (FailsNear (AsksToFit fit) (AsksForNearFit fit) bytes read)
       (IsFarTask fit.aim (AsksToFit fit) bytes read)) out
       (refusal_of_size fail)
   fit_fails says out still fail why =
-      aimed_fails fit.aim (AsksToFit fit) (AsksForNearFit fit) bytes read cut same task asked chosen.2 nearly refl says
+      aimed_fails fit.aim (AsksToFit fit) (AsksForNearFit fit) bytes read cut same task asked chosen.2 nearly says
       out still fail why

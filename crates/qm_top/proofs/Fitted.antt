@@ -1,5 +1,5 @@
 -- What a command keeps that wishes for lengths which may be too great: `fit`, and `size`.
-use Rattle.std.proofs.Common.{◌≡◌, ◌++◌, ◌∷◌, [], ℕ, false, Bool, List, inr, refl, sym, subst}
+use Rattle.std.proofs.Common.{◌≡◌, ◌++◌, ◌∷◌, [], ℕ, Bool, List, inr, refl, subst}
 use Rattle.def_certtext.specs.CertLines.{certificates_of, used}
 use Rattle.def_cut.specs.FullCut.{IsFullCut}
 use Rattle.def_fit.specs.{Aims.AreAimedNear, Aims.IsFitFail, declared.fit.Aim.Aim}
@@ -8,9 +8,8 @@ use Rattle.def_layout.specs.{FaceLayouts.IsCutLayout, Plans.Plan}
 use Rattle.def_mesh.specs.{Faces.Faces, Manifold.IsManifold}
 use Rattle.def_metric.specs.declared.fail.SizeFail.{SizeFail}
 use Rattle.def_metric.specs.declared.fail.SizeFail.TheVariants as sizes
-use Rattle.def_remesh.specs.{CutSoups.CutSoup, Keeping.IsKept, NewPoints.lengths_in, Placings.IsMeshLayout}
-use Rattle.def_remesh.specs.{Refusals.IsDoubledBy, Refusals.IsFineBy, Tasks.Task, Tasks.Wish}
-use Rattle.def_remesh.specs.declared.kept.LayoutFail.{LayoutFail}
+use Rattle.def_remesh.specs.{CutSoups.CutSoup, Keeping.IsKept, NewPoints.lengths_in, Placings.IsMeshLayout, Tasks.Task}
+use Rattle.def_remesh.specs.{Tasks.Wish, declared.kept.LayoutFail.LayoutFail}
 use Rattle.def_remesh.specs.declared.kept.LayoutFail.TheVariants as layouts
 use Rattle.def_run.specs.{Causes.Cause, Causes.Refused, Causes.Refuses, Causes.Writes, Mesh.IsMeshText, Remesh.Asks}
 use Rattle.def_run.specs.Remesh.{IsSettled, RefusesLayout, RefusesTask, WritesFinished}
@@ -57,7 +56,7 @@ module _ (command : Command) (aim : Aim) (asks near : Asks) (input out : Change)
 
   refused : (by : Asks) (answer : Answer) (task : Task) (plan : Plan) → by read.bytes soup task
       → IsCutLayout soup.faces task.marks plan
-      → RefusesLayout task.wish plan task.settings task.auto answer → RefusesTask by read.bytes answer
+      → RefusesLayout task.wish plan task.settings task.rising answer → RefusesTask by read.bytes answer
   refused by answer task plan asked cut why =
       inr (task, plan, record { soup = soup; mesh = mesh; asked = asked; cut = cut }, why)
 
@@ -110,8 +109,9 @@ module _ (aim : Aim) (asks near : Asks) (bytes : Bytes) (read : FaceSet) (cut : 
     (nearly : AreAimedNear aim task.wish cut.plan → near bytes cut.soup task) where
   -- What is kept of a layout is written for it.
   pub aimed_shown : (framed : Framed) → IsMeshLayout cut.soup.faces cut.plan → AreAimedNear aim task.wish cut.plan
-      → framed.remesh.asked ≡ record { settings = task.settings; auto = task.auto }
-      → IsKept task.wish cut.plan task.settings task.auto (certificates_of framed.remesh.certs) framed.remesh.numbering
+      → framed.remesh.terms ≡ record { settings = task.settings; rising = task.rising }
+      → IsKept task.wish cut.plan task.settings task.rising (certificates_of framed.remesh.certs)
+      framed.remesh.numbering
       → framed.head.items ≡ task.head ++ 10 ∷ []
       → framed.between.items ≡ task.between cut.plan (lengths_in (used (certificates_of framed.remesh.certs)).x)
       → framed.shares ≡ task.shares
@@ -124,46 +124,25 @@ module _ (aim : Aim) (asks near : Asks) (bytes : Bytes) (read : FaceSet) (cut : 
             shares,
       )
 
-  module _ (fixed : task.auto ≡ false) where
-    fails_for : {O : Type 0} (says : Bytes → Type 0) (out : Stream O) → IsStill out → (fail : SizeFail)
-        → IsFitFail aim task.wish cut.plan task.settings fail
-        → IsUnwritten says (IsOfWishes (FailsNear asks near bytes cut.soup) (IsFarTask aim asks bytes cut.soup)) out
-        (refusal_of_size fail)
-    fails_for says out still (sizes.Far sum) why =
-        (still, record { task = task; asked = asked; plan = cut.plan; cut = on; unbounded = why.0; far = why.1 })
-    fails_for says out still (sizes.Layout (layouts.Tangled count)) why = (still, (task, asked, (cut.plan, on, why)))
-    fails_for says out still (sizes.Layout layouts.Memory) why = (still, tt)
-    fails_for says out still (sizes.Layout (layouts.TooFine faces kept)) (close, why) = (
-      still,
-      (
-        task,
-        nearly close,
-        (
-          cut.plan,
-          on,
-          subst (λ (auto : Bool). IsFineBy task.wish cut.plan task.settings auto faces kept) (sym fixed) why,
-        ),
-      ),
-    )
-    fails_for says out still (sizes.Layout (layouts.Doubled u v cert)) (close, why) = (
-      still,
-      (
-        task,
-        nearly close,
-        (
-          cut.plan,
-          on,
-          subst (λ (auto : Bool). IsDoubledBy task.wish cut.plan task.settings auto u v cert) (sym fixed) why,
-        ),
-      ),
-    )
+  fails_for : {O : Type 0} (says : Bytes → Type 0) (out : Stream O) → IsStill out → (fail : SizeFail)
+      → IsFitFail aim task.wish cut.plan task.settings task.rising fail
+      → IsUnwritten says (IsOfWishes (FailsNear asks near bytes cut.soup) (IsFarTask aim asks bytes cut.soup)) out
+      (refusal_of_size fail)
+  fails_for says out still (sizes.Far sum) why =
+      (still, record { task = task; asked = asked; plan = cut.plan; cut = on; unbounded = why.0; far = why.1 })
+  fails_for says out still (sizes.Layout (layouts.Tangled count)) why = (still, (task, asked, (cut.plan, on, why)))
+  fails_for says out still (sizes.Layout layouts.Memory) why = (still, tt)
+  fails_for says out still (sizes.Layout (layouts.TooFine faces kept)) (close, why) =
+      (still, (task, nearly close, (cut.plan, on, why)))
+  fails_for says out still (sizes.Layout (layouts.Doubled u v cert)) (close, why) =
+      (still, (task, nearly close, (cut.plan, on, why)))
 
-    -- It is not written where a layout has no least lengths for its wishes, or none that give a new mesh.
-    pub aimed_fails : {O : Type 0} (says : Bytes → Type 0) (out : Stream O) → IsStill out → (fail : SizeFail)
-        → IsFitFail aim task.wish cut.plan task.settings fail
-        → IsUnwritten says (IsOfWishes (FailsNear asks near bytes read) (IsFarTask aim asks bytes read)) out
-        (refusal_of_size fail)
-    aimed_fails says out still fail why =
-        subst (λ (s : FaceSet). IsUnwritten says (IsOfWishes (FailsNear asks near bytes s) (IsFarTask aim asks bytes s))
-        out (refusal_of_size fail)) same
-        (fails_for says out still fail why)
+  -- It is not written where a layout has no least lengths for its wishes, or none that give a new mesh.
+  pub aimed_fails : {O : Type 0} (says : Bytes → Type 0) (out : Stream O) → IsStill out → (fail : SizeFail)
+      → IsFitFail aim task.wish cut.plan task.settings task.rising fail
+      → IsUnwritten says (IsOfWishes (FailsNear asks near bytes read) (IsFarTask aim asks bytes read)) out
+      (refusal_of_size fail)
+  aimed_fails says out still fail why =
+      subst (λ (s : FaceSet). IsUnwritten says (IsOfWishes (FailsNear asks near bytes s) (IsFarTask aim asks bytes s))
+      out (refusal_of_size fail)) same
+      (fails_for says out still fail why)

@@ -1,7 +1,7 @@
 -- A remesh in the frame of its text finishes its task.
 use Rattle.std.specs.Prelude.{IsErrOf}
 use Rattle.std.proofs.Common.{◌≡◌, [], ◌∷◌, ◌++◌, ◌∙◌, Err, ap, sym, subst, refl}
-use Rattle.def_certtext.specs.{CertLines.certificates_of, CertLines.used, declared.Asked.Asked}
+use Rattle.def_certtext.specs.{CertLines.certificates_of, CertLines.used, declared.certs.Terms.Terms}
 use Rattle.def_io.specs.{Bytes.Bytes, Faults.Rose, Moves.IsStill, Moves.Stream, Moves.TookPrefix}
 use Rattle.def_layout.specs.{FaceLayouts.IsCutLayout, Plans.Plan}
 use Rattle.def_remesh.specs.{Keeping.IsKept, NewPoints.lengths_in, Placings.IsMeshLayout, Tasks.Task, Tasks.Wish}
@@ -19,31 +19,32 @@ use Rattle.remesh_laws.proofs.Keeps.{shown}
 use Rattle.remesh_laws.specs.Keeps.{ShowsTask}
 
 -- What is kept for what was asked is kept for what it tells.
-pub kept_for : (wish : Wish) (plan : Plan) (remesh : Remesh) (asked : Asked) → remesh.asked ≡ asked
-    → IsKept wish plan asked.settings asked.auto (certificates_of remesh.certs) remesh.numbering
-    → (w : Wish) × IsKept w plan remesh.asked.settings remesh.asked.auto (certificates_of remesh.certs) remesh.numbering
-kept_for wish plan remesh asked same kept = (
+pub kept_for : (wish : Wish) (plan : Plan) (remesh : Remesh) (terms : Terms) → remesh.terms ≡ terms
+    → IsKept wish plan terms.settings terms.rising (certificates_of remesh.certs) remesh.numbering
+    → (w : Wish) × IsKept w plan remesh.terms.settings remesh.terms.rising (certificates_of remesh.certs)
+    remesh.numbering
+kept_for wish plan remesh terms same kept = (
   wish,
-  subst (λ (a : Asked). IsKept wish plan a.settings a.auto (certificates_of remesh.certs) remesh.numbering)
+  subst (λ (t : Terms). IsKept wish plan t.settings t.rising (certificates_of remesh.certs) remesh.numbering)
       (sym same) kept,
 )
 
 -- Its text is that of the task for which it is kept.
-pub framed_shown : (task : Task) (framed : Framed) (asked : Asked) (soup : FaceSet) (plan : Plan)
+pub framed_shown : (task : Task) (framed : Framed) (terms : Terms) (soup : FaceSet) (plan : Plan)
     → IsMeshLayout soup.faces plan
-    → IsCutLayout soup.faces task.marks plan → framed.remesh.asked ≡ asked → asked.settings ≡ task.settings
-    → asked.auto ≡ task.auto
-    → IsKept task.wish plan task.settings task.auto (certificates_of framed.remesh.certs) framed.remesh.numbering
+    → IsCutLayout soup.faces task.marks plan → framed.remesh.terms ≡ terms → terms.settings ≡ task.settings
+    → terms.rising ≡ task.rising
+    → IsKept task.wish plan task.settings task.rising (certificates_of framed.remesh.certs) framed.remesh.numbering
     → framed.head.items ≡ task.head ++ 10 ∷ []
     → framed.between.items ≡ task.between plan (lengths_in (used (certificates_of framed.remesh.certs)).x)
     → framed.shares ≡ task.shares
     → ShowsTask task soup (framed_text framed soup plan)
-framed_shown task framed asked soup plan laid on same settings auto kept head between shares =
+framed_shown task framed terms soup plan laid on same settings rising kept head between shares =
     subst (ShowsTask task soup)
     (sym (text_is task framed soup plan (record {
       cut = on;
-      settings = ap (λ (a : Asked). a.settings) same ∙ settings;
-      auto = ap (λ (a : Asked). a.auto) same ∙ auto;
+      settings = ap (λ (t : Terms). t.settings) same ∙ settings;
+      rising = ap (λ (t : Terms). t.rising) same ∙ rising;
       kept = kept;
       head = head;
       between = between;

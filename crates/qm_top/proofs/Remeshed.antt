@@ -1,19 +1,23 @@
 -- What a command keeps that remeshes.
 use Rattle.std.specs.Prelude.{IfErr, OnOk}
-use Rattle.std.proofs.Common.{◌≡◌, [], ◌∷◌, ◌++◌, codes, false, Bool, Result, inr, subst, sym}
+use Rattle.std.proofs.Common.{◌≡◌, [], ◌∷◌, ◌++◌, codes, true, false, Bool, Result, inr, ap, subst, sym}
 use Rattle.std.proofs.lemmas.Result.{IfErr-weaker, on_ok_weaker}
-use Rattle.def_certtext.specs.{CertLines.used, Settings.AreInRange}
+use Rattle.def_certtext.specs.{CertLines.used, HeadLine.head_line, Risings.may_rise, Risings.third_if}
+use Rattle.def_certtext.specs.{Settings.AreInRange, declared.certs.Rising.Rising}
+use Rattle.def_certtext.specs.declared.certs.Rising.TheVariants.{Rounds}
+use Rattle.def_cut.specs.Traced.{traced_marks}
 use Rattle.def_flow.specs.declared.net.Settings.{Settings}
 use Rattle.def_io.specs.{Bytes.Bytes, Moves.Change, Moves.Stream}
-use Rattle.def_mesh.specs.Manifold.{IsManifold}
+use Rattle.def_mesh.specs.{Faces.Faces, Manifold.IsManifold}
 use Rattle.def_remesh.specs.{declared.kept.LayoutFail.LayoutFail, NewPoints.lengths_in, ReadAgain.lines_between}
 use Rattle.def_remesh.specs.Tasks.{remesh_task, Task}
 use Rattle.def_remesh.specs.declared.kept.LayoutFail.TheVariants as layouts
 use Rattle.def_text.specs.{FaceSet.FaceSet, Input.ReadSoup, declared.limits.TheConstants.MAX_BYTES}
 use Rattle.qm_top.proofs.{Writers.layout_ends, Writers.IsWriter, Asides.coarse_aside, Asides.crease_aside}
 use Rattle.qm_top.proofs.{Asides.marked_aside, Framed.unwritten_weaker, Refusals.NeedsMesh}
-use Rattle.qm_top.specs.{Refusals.answer_of_layout, Writing.FailsAsked, Writing.FailsTask, Writing.IsOfLayout}
-use Rattle.qm_top.specs.{Writing.IsUnwritten, Writing.ShowsAsked, Writing.WroteText, declared.refusal.Refusal.Refusal}
+use Rattle.qm_top.specs.{Refusals.answer_of_layout, Finishing.headed_task, Writing.FailsAsked, Writing.FailsTask}
+use Rattle.qm_top.specs.Writing.{IsOfLayout, IsUnwritten, ShowsAsked, WroteText}
+use Rattle.qm_top.specs.declared.refusal.Refusal.{Refusal}
 use Rattle.def_layout.specs.{FaceLayouts.IsCutLayout, Plans.Plan}
 use Rattle.def_run.specs.{Causes.Cause, Causes.Refused, Causes.Refuses, Causes.Writes, Coarse.AsksToMerge}
 use Rattle.def_run.specs.{Crease.creased_task, Crease.AsksToCrease, Heads.named_task, Mesh.IsMeshText, Remesh.Asks}
@@ -71,7 +75,7 @@ task_writer command asks input out soup needs tasked manifold read calm = record
 
     refused : (answer : Answer) (task : Task) (plan : Plan) → asks read.bytes soup task
         → IsCutLayout soup.faces task.marks plan
-        → RefusesLayout task.wish plan task.settings task.auto answer → Refused command input answer
+        → RefusesLayout task.wish plan task.settings task.rising answer → Refused command input answer
     refused answer task plan asked cut why = record {
       bytes = read.bytes;
       whole = needs.reads input read.bytes read.whole;
@@ -90,6 +94,25 @@ task_writer command asks input out soup needs tasked manifold read calm = record
         refused (answers.Doubled u v cert) task plan asked cut why
 
 -- The commands that do so.
+-- A remesh has no rounds.
+pub third_known : {rising : Rising} (auto : Bool) → rising ≡ third_if auto → rising ≡ Rounds → ⊥
+third_known true is rounds = absurd cc
+third_known false is rounds = absurd cc
+
+-- Its settings may be asked for as floors rise in it.
+pub third_range : {rising : Rising} (settings : Settings) (auto : Bool) → rising ≡ third_if auto
+    → AreInRange settings auto → AreInRange settings (may_rise rising)
+third_range settings true is range = subst (λ (r : Rising). AreInRange settings (may_rise r)) (sym is) range
+third_range settings false is range = subst (λ (r : Rising). AreInRange settings (may_rise r)) (sym is) range
+
+-- Its task is that of a mesh with its head line.
+pub headed_asked : {rising : Rising} (settings : Settings) (auto : Bool) (faces : Faces) → rising ≡ third_if auto
+    → headed_task (record { settings = settings; rising = rising }) (traced_marks faces) (head_line settings auto)
+    ≡ remesh_task settings auto faces
+headed_asked settings auto faces is =
+    ap (λ (r : Rising). headed_task (record { settings = settings; rising = r }) (traced_marks faces)
+    (head_line settings auto)) is
+
 pub remesh_tasked : (settings : Settings) (auto : Bool) → AreInRange settings auto
     → IsTasked (commands.Remesh settings auto) (AsksToRemesh settings auto)
 remesh_tasked settings auto range = record {

@@ -1,5 +1,6 @@
 -- A command that solves finds least lengths for a network that is not too tangled.
-use Rattle.std.proofs.Common.{false, Bool, ℕ, ℤ, ◌≡◌, ◌⊎◌, sym, subst, refl, inl, inr}
+use Rattle.std.proofs.Common.{ℕ, ℤ, ◌≡◌, ◌⊎◌, sym, subst, refl, inl, inr}
+use Rattle.def_certtext.specs.{declared.certs.Rising.Rising, declared.certs.Rising.TheVariants.Never}
 use Rattle.def_flow.specs.declared.net.Settings.{Settings}
 use Rattle.def_fit.specs.declared.fit.Fit.{Fit as AnyFit}
 use Rattle.def_io.specs.{Bytes.Bytes, Bytes.Told, Faults.Rose, Moves.Change}
@@ -25,20 +26,20 @@ use Rattle.qm_top.proofs.Complete.{asides_not_refused, far_not_near, mesh_not_re
 use Rattle.qm_top.proofs.Complete.{same_bytes, wishes_not_near}
 
 -- A layout that is not too tangled is refused for its least lengths alone.
-layout_settles : (wish : Wish) (settings : Settings) (auto : Bool) (plan : Plan) (answer : Answer)
+layout_settles : (wish : Wish) (settings : Settings) (rising : Rising) (plan : Plan) (answer : Answer)
     → ((count : ℕ) → ¬ IsTangledAt wish plan settings count)
-    → RefusesLayout wish plan settings auto answer → IsSettled answer
-layout_settles wish settings auto plan (Tangled count) fits why = absurd (fits count why)
-layout_settles wish settings auto plan (TooFine faces kept) fits why = tt
-layout_settles wish settings auto plan (Doubled u v cert) fits why = tt
-layout_settles wish settings auto plan _ fits why = absurd why
+    → RefusesLayout wish plan settings rising answer → IsSettled answer
+layout_settles wish settings rising plan (Tangled count) fits why = absurd (fits count why)
+layout_settles wish settings rising plan (TooFine faces kept) fits why = tt
+layout_settles wish settings rising plan (Doubled u v cert) fits why = tt
+layout_settles wish settings rising plan _ fits why = absurd why
 
 -- So are the bytes that a source held.
 held_settles : (asks : Asks) (left : Told) (held : HoldsUntangled asks left) (answer : Answer)
     → RefusesTask asks held.bytes answer → IsSettled answer
 held_settles asks left held answer (inl none) = absurd (mesh_not_refused held.bytes held.soup answer held.mesh none)
 held_settles asks left held answer (inr (task, plan, has, why)) =
-    layout_settles task.wish task.settings task.auto plan answer (held.untangled task plan has) why
+    layout_settles task.wish task.settings task.rising plan answer (held.untangled task plan has) why
 
 -- What is asked for under a condition is held with all that is asked for.
 abbrev near_held : (asks near : Asks) (left : Told)
@@ -126,7 +127,7 @@ crease_settles settings input bytes answer held whole (inr why) =
 bench_settles : (size : ℕ) (answer : Answer) → IsUntangledBench size → RefusesToBench size answer → IsSettled answer
 bench_settles size (NotManifold place) held refuses = absurd (refuses.1 held.manifold)
 bench_settles size answer held (plan, cut, why) =
-    layout_settles old_lengths bench_settings false plan answer (held.untangled plan cut) why
+    layout_settles old_lengths bench_settings Never plan answer (held.untangled plan cut) why
 
 -- A command that refuses for its least lengths alone finds them, or memory is wanting or a stream failed.
 settles_if : (command : Command) (input out : Change) (answer : Answer) → (ReadsTooMany command input → ⊥)

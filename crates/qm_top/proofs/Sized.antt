@@ -1,6 +1,7 @@
 -- What `size` keeps.
 use Rattle.std.proofs.Common.{◌≡◌, ◌≤◌, ◌<◌, ◌^◌, ℕ, ℤ, refl, subst, arith}
 use Rattle.std.specs.Prelude.{unsigned_abs}
+use Rattle.def_certtext.specs.declared.certs.Rising.TheVariants.{Never}
 use Rattle.def_cut.specs.Traced.{traced_marks}
 use Rattle.def_fit.specs.{Aims.IsFitFail, declared.fit.Aim.TheVariants.Edge}
 use Rattle.def_io.specs.Bytes.{Bytes}
@@ -24,7 +25,7 @@ use Rattle.site_laws.proofs.Laws.{graph_law}
 -- Why a layout is not remeshed with edges of a given length, as the failure of an aim.
 pub size_fail_as : (edge : ℤ) (wish : Wish) (plan : Plan) (floor : ℕ) (fail : SizeFail)
     → IsSizeFail wish plan floor fail
-    → IsFitFail (Edge edge) wish plan (edge_settings floor) fail
+    → IsFitFail (Edge edge) wish plan (edge_settings floor) Never fail
 size_fail_as edge wish plan floor (sizes.Far sum) far =
     (λ (near : AreNear wish plan). absurd (omega (arith, near, far.told, far.high)), far)
 size_fail_as edge wish plan floor (sizes.Layout (layouts.Tangled count)) why = why

@@ -47,7 +47,7 @@ IsOfLayout fails _ = ⊥
 abbrev pub FailsTask : (task : Task) (soup : FaceSet) (failed : LayoutFail) → Type 0
 FailsTask task soup failed =
     (plan : Plan) × IsCutLayout soup.faces task.marks plan
-    × IsLayoutFail task.wish plan task.settings task.auto failed
+    × IsLayoutFail task.wish plan task.settings task.rising failed
 
 -- A text that finishes a task which is asked of these bytes and their soup.
 abbrev pub ShowsAsked : (asks : Asks) (bytes : Bytes) (soup : FaceSet) (text : Bytes) → Type 0

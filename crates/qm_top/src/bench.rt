@@ -10,9 +10,9 @@ ghost use Rattle.qm_top.specs.Writing.{IsOfLayout, IsUnwritten, WroteText};
 use crate::input::mesh_of;
 use crate::refusal::Refusal;
 use def_run::{Command, MAX_SIZE};
-use qm_stages::Meshed;
 use qm_gen::steps_mesh;
 use qm_io::{Sink, write_all};
+use qm_stages::Meshed;
 use qm_summary::summary_of;
 use std::alloc::Global;
 

@@ -17,9 +17,9 @@ use def_output::Stopped;
 use def_remesh::LayoutFail;
 use def_run::Command;
 use qm_blocktext::{Blocks, Chosen, links_by, put_blocks};
-use qm_stages::{Meshed, Regridded};
 use qm_io::{Memory, Sink, Source};
 use qm_output::{Buffer, Room};
+use qm_stages::{Meshed, Regridded};
 use std::alloc::Global;
 
 /// Reads a mesh, divides each edge in so many, and writes its patches as blocks.

@@ -13,12 +13,12 @@ use crate::finishing::{Headed, finish};
 use crate::heads::named_head;
 use crate::input::read_mesh;
 use crate::refusal::Refusal;
-use def_certtext::Asked;
+use def_certtext::{Rising, Terms};
 use def_flow::Settings;
 use def_patches::Patches;
 use def_run::Command;
-use qm_stages::Meshed;
 use qm_io::{Sink, Source};
+use qm_stages::Meshed;
 use std::alloc::Global;
 
 /// Reads a mesh, merges the patches of its graph, and writes the new mesh with least lengths and their certificate.
@@ -52,9 +52,9 @@ fn coarse_mesh<O: Sink>(
 {
     let cut = chosen_cut(alloc, read, None, Patches::Merged)?;
     let head = named_head(alloc, b"coarse", &settings)?;
-    let asked = Asked {
+    let terms = Terms {
         settings,
-        auto: false,
+        rising: Rising::Never,
     };
-    finish(alloc, cut, Headed { asked, head }, out)
+    finish(alloc, cut, Headed { terms, head }, out)
 }

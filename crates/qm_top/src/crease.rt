@@ -15,16 +15,16 @@ use crate::finishing::write_framed;
 use crate::heads::named_head;
 use crate::input::text_mesh;
 use crate::refusal::Refusal;
-use def_certtext::Asked;
+use def_certtext::{Rising, Terms};
 use def_flow::Settings;
 use def_patches::Patches;
 use def_run::Command;
 use def_text::MAX_BYTES;
 use qm_asides::text_marks;
-use qm_stages::Meshed;
 use qm_io::{Sink, Source, read_lines};
 use qm_marktext::lines_between;
 use qm_remesh::keep;
+use qm_stages::Meshed;
 use qm_write::Framed;
 use std::alloc::Global;
 
@@ -67,11 +67,11 @@ fn crease_mesh<O: Sink>(
 {
     let kept = Some(marks.as_slice());
     let cut = chosen_cut(alloc, read, kept, Patches::Traced)?;
-    let asked = Asked {
+    let terms = Terms {
         settings,
-        auto: false,
+        rising: Rising::Never,
     };
-    let remesh = keep(alloc, &cut, asked)?;
+    let remesh = keep(alloc, &cut, terms)?;
     let head = named_head(alloc, b"crease", &settings)?;
     let between = lines_between(alloc, kept, &cut, &remesh)?;
     let framed = Framed {

@@ -7,8 +7,8 @@ ghost use Rattle.def_run.specs.Remesh.{IsTracedLayout};
 
 use def_patches::Patches;
 use qm_cut::{chosen_layout, traced_layout};
-use qm_stages::{CutMesh, Meshed};
 use qm_io::Memory;
+use qm_stages::{CutMesh, Meshed};
 use std::alloc::Global;
 
 /// A mesh with its motorcycle graph.

@@ -1,8 +1,10 @@
 //! A task that is finished, written out.
 
-ghost use Rattle.std.specs.Prelude.{◌≡◌, ◌++◌, ◌∷◌, [], List, Bool, IfErr, IsErrOf, OnOk};
+ghost use Rattle.std.specs.Prelude.{◌≡◌, ◌≢◌, ◌++◌, ◌∷◌, [], List, Bool, IfErr, IsErrOf, OnOk};
 ghost use Rattle.def_certtext.specs.CertLines.{certificates_of};
+ghost use Rattle.def_certtext.specs.Risings.{may_rise};
 ghost use Rattle.def_certtext.specs.Settings.{AreInRange};
+ghost use Rattle.def_certtext.specs.declared.certs.Rising.TheVariants.{Rounds};
 ghost use Rattle.def_io.specs.Bytes.{Bytes};
 ghost use Rattle.def_io.specs.Faults.{Rose};
 ghost use Rattle.def_io.specs.Moves.{change, stream, took, TookPrefix};
@@ -16,18 +18,18 @@ ghost use Rattle.qm_top.specs.Writing.{FailsTask, IsOfLayout, IsUnwritten, Wrote
 ghost use Rattle.qm_write.specs.Framing.{framed_text};
 
 use crate::refusal::Refusal;
-use def_certtext::Asked;
-use qm_stages::CutMesh;
+use def_certtext::Terms;
 use qm_io::Sink;
 use qm_output::{Buffer, Room};
 use qm_remesh::keep;
+use qm_stages::CutMesh;
 use qm_write::{Framed, PutFail, put_framed};
 use std::alloc::Global;
 
-/// What is asked of a layout, and the head line of the text, with its line feed.
+/// What lengths are found by, and the head line of the text, with its line feed.
 #[derive(Drop)]
 pub(crate) struct Headed {
-    pub(crate) asked: Asked,
+    pub(crate) terms: Terms,
     pub(crate) head: Vec<u8>,
 }
 
@@ -38,17 +40,18 @@ pub(crate) fn finish<O: Sink>(
     headed: Headed,
     out: &mut O,
 ) -> Result<(), Refusal>
-    requires { AreInRange headed.asked.settings headed.asked.auto }
+    requires known { headed.terms.rising ≢ Rounds }
+    requires settings { AreInRange headed.terms.settings (may_rise headed.terms.rising) }
     ensures done { (marks : List Bool) (head : Bytes) → IsCutLayout cut.soup.faces marks cut.plan
         → headed.head.items ≡ head ++ LINE_FEED ∷ []
-        → OnOk result (WroteText (ShowsTask (headed_task headed.asked marks head) cut.soup)
+        → OnOk result (WroteText (ShowsTask (headed_task headed.terms marks head) cut.soup)
         (change (O.state out.old) (O.state out.new))) }
     ensures refused { (marks : List Bool) (head : Bytes) → IsCutLayout cut.soup.faces marks cut.plan
         → headed.head.items ≡ head ++ LINE_FEED ∷ []
-        → IfErr result (IsUnwritten (ShowsTask (headed_task headed.asked marks head) cut.soup)
-        (IsOfLayout (FailsTask (headed_task headed.asked marks head) cut.soup)) (stream O.state out.old out.new)) }
+        → IfErr result (IsUnwritten (ShowsTask (headed_task headed.terms marks head) cut.soup)
+        (IsOfLayout (FailsTask (headed_task headed.terms marks head) cut.soup)) (stream O.state out.old out.new)) }
 {
-    let remesh = keep(alloc, &cut, headed.asked)?;
+    let remesh = keep(alloc, &cut, headed.terms)?;
     let framed = Framed {
         head: headed.head,
         between: Vec::new(alloc),
@@ -66,7 +69,7 @@ pub(crate) fn write_framed<O: Sink>(
     framed: Framed,
     out: &mut O,
 ) -> Result<(), PutFail>
-    requires { (wish : Wish) × IsKept wish cut.plan framed.remesh.asked.settings framed.remesh.asked.auto
+    requires { (wish : Wish) × IsKept wish cut.plan framed.remesh.terms.settings framed.remesh.terms.rising
         (certificates_of framed.remesh.certs) framed.remesh.numbering }
     ensures whole { OnOk result ((O.state out.new).told
         ≡ took (O.state out.old).told (framed_text framed cut.soup cut.plan)) }

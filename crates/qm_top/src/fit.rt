@@ -22,12 +22,12 @@ use def_fit::{Aim, Fit};
 use def_run::Command;
 use def_text::MAX_BYTES;
 use qm_asides::{Asides, read_asides};
-use qm_stages::Meshed;
 use qm_fit::fit_head;
 use qm_io::{Sink, Source, read_lines};
 use qm_marktext::lines_between;
 use qm_metric::shares_of;
 use qm_remesh::keep_fit;
+use qm_stages::Meshed;
 use qm_write::Framed;
 use std::alloc::Global;
 

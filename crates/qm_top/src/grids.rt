@@ -19,9 +19,9 @@ use def_run::Command;
 use def_text::MAX_BYTES;
 use qm_asides::read_kept;
 use qm_blocktext::{Blocks, Chosen};
-use qm_stages::CutMesh;
 use qm_io::{Sink, Source, read_lines};
 use qm_output::Room;
+use qm_stages::CutMesh;
 use std::alloc::Global;
 
 /// Reads a mesh with the lines that are kept, divides each edge in so many, and writes the patches of the cut that is

@@ -11,9 +11,9 @@ ghost use Rattle.qm_top.specs.Refusals.{IsInputRefusal, IsNoMeshOf};
 use crate::named::named_place;
 use crate::refusal::Refusal;
 use def_text::{MAX_BYTES, MAX_F_LINES, MAX_V_LINES, Soup};
-use qm_stages::{Meshed, NoMesh};
 use qm_io::{Lines, Source};
 use qm_obj::{read_obj, read_soup};
+use qm_stages::{Meshed, NoMesh};
 use std::alloc::Global;
 
 /// The mesh of the whole input.

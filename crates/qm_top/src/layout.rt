@@ -16,9 +16,9 @@ use def_run::Command;
 use def_text::MAX_BYTES;
 use qm_asides::read_kept;
 use qm_blocktext::Chosen;
-use qm_stages::CutMesh;
 use qm_io::{Sink, Source, read_lines, write_all};
 use qm_report::layout_text;
+use qm_stages::CutMesh;
 use std::alloc::Global;
 
 /// Reads a mesh with the lines that are kept, and writes the layout of the cut that is chosen so.

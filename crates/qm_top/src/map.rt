@@ -15,10 +15,10 @@ use def_output::Stopped;
 use def_run::Command;
 use def_text::MAX_BYTES;
 use qm_check::judge;
-use qm_stages::Regridded;
 use qm_io::{Sink, Source, read_bytes};
 use qm_map::put_map;
 use qm_output::{Buffer, Room};
+use qm_stages::Regridded;
 use std::alloc::Global;
 
 /// Reads the text of a mesh and behind it that of a new one, and writes where each vertex and face of this lies.

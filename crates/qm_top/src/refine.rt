@@ -19,10 +19,10 @@ use crate::refusal::Refusal;
 use def_output::Stopped;
 use def_remesh::{Kept, LayoutFail, StitchFail};
 use def_run::Command;
-use qm_stages::{CutMesh, Meshed, Regridded};
 use qm_io::{Sink, Source};
 use qm_output::{Buffer, Room};
 use qm_refine::{put_refined, refined_points};
+use qm_stages::{CutMesh, Meshed, Regridded};
 use std::alloc::Global;
 
 /// Reads a mesh, divides each edge in so many, and writes the new mesh.

@@ -12,11 +12,11 @@ use crate::cuts::traced_cut;
 use crate::finishing::{Headed, finish};
 use crate::input::read_mesh;
 use crate::refusal::Refusal;
-use def_certtext::Asked;
+use def_certtext::{Asked, Terms};
 use def_run::Command;
-use qm_certtext::head_text;
-use qm_stages::Meshed;
+use qm_certtext::{head_text, third_if};
 use qm_io::{Sink, Source};
+use qm_stages::Meshed;
 use std::alloc::Global;
 
 /// Reads a mesh, finds least lengths for its layout, and writes the new mesh with their certificates.
@@ -53,5 +53,9 @@ fn remesh_mesh<O: Sink>(
 {
     let cut = traced_cut(alloc, read)?;
     let head = head_text(alloc, &asked.settings, asked.auto)?;
-    finish(alloc, cut, Headed { asked, head }, out)
+    let terms = Terms {
+        settings: asked.settings,
+        rising: third_if(asked.auto),
+    };
+    finish(alloc, cut, Headed { terms, head }, out)
 }

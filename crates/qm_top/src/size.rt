@@ -18,11 +18,11 @@ use crate::refusal::Refusal;
 use def_io::LINE_FEED;
 use def_run::Command;
 use def_text::Micro;
-use qm_stages::Meshed;
 use qm_dec::write_micro;
 use qm_io::{Memory, Sink, Source};
 use qm_print::push_number;
 use qm_remesh::keep_sized;
+use qm_stages::Meshed;
 use qm_write::Framed;
 use std::alloc::Global;
 

@@ -28,6 +28,10 @@ pub(crate) fn why_of(why: &Why) -> Line
             push_counted(&mut line, "doubled ", u64::from(u) + 1);
             push_counted(&mut line, " ", u64::from(v) + 1);
         }
+        Why::Rises { round } => {
+            push_counted(&mut line, "round ", round);
+            line.push_str(" rises");
+        }
         Why::Byte { at } => push_counted(&mut line, "byte ", u64::from(at)),
     }
     line

@@ -3,7 +3,8 @@
 ghost use Rattle.std.specs.Prelude.{◌≡◌, ◌+◌, ◌*◌, ◌/◌, ◌^◌, ◌<◌, ◌≤◌, length, IfOk, IfSome};
 ghost use Rattle.std.specs.List.{All};
 ghost use Rattle.def_flow.specs.Network.{network, IsWithinBounds};
-ghost use Rattle.qm_warmstart.specs.Tables.{AreChains, IsCover, LeadsWithin, IsExitWithin, IsPlaced, exit_count, way_count};
+ghost use Rattle.qm_warmstart.specs.Tables.{AreChains, IsCover, LeadsWithin, IsExitWithin, IsPlaced};
+ghost use Rattle.qm_warmstart.specs.Tables.{exit_count, way_count};
 
 use crate::Memory;
 use crate::chains::{Chain, across, end_at};

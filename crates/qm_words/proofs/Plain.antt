@@ -1,6 +1,6 @@
 -- The values of a line begin with no hyphen.
 use Rattle.std.proofs.Common.{◌≡◌, ◌⊎◌, ◌≤◌, ◌<◌, ◌+◌, ◌^◌, ◌==◌, not, ℕ, Bool, true, false, [], ◌∷◌, ◌++◌, codes, inl}
-use Rattle.std.proofs.Common.{inr, refl, ap, sym, ◌∙◌, subst, arith}
+use Rattle.std.proofs.Common.{inr, refl, ap, ◌∙◌, subst, arith}
 use Rattle.std.proofs.lemmas.Int.{ints}
 use Rattle.std.proofs.lemmas.Bool.{and_from, and_parts, cases_Bool, eqb-true, false≢true, or_left, or_right}
 use Rattle.std.proofs.lemmas.Slice.Eq.{bytes_eq-Decides}
@@ -193,7 +193,7 @@ no_fit words fit refuses has =
     (and_from _ _ (ap is_plain has.values.kept ∙ keep_plain fit.keep)
     (and_from _ _ (ap is_plain has.values.cut ∙ patches_plain fit.patches)
     (and_from _ _ (aim_plain _ fit.aim has.values.aimed)
-    (and_from _ _ (ap is_plain has.values.bounded ∙ number_plain fit.floor (omega (arith, has.values.in_range.high)))
+    (and_from _ _ (ap is_plain has.values.bounded ∙ floor_plain fit.floor fit.auto has.values.in_range.floor)
     (and_from _ _ (ap is_plain has.values.weighed ∙ weight_plain fit.weight)
     (and_from _ _ (ap is_plain has.values.spaced ∙ spacing_plain fit.spacing) refl)))))))
 

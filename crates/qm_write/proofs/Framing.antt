@@ -9,9 +9,9 @@ use Rattle.qm_write.specs.{Framing.framed_text, Framing.IsFramed, declared.text.
 module _ (task : Task) (framed : Framed) (soup : FaceSet) (plan : Plan) (is : IsFramed task framed soup plan) where
   pieces_are : framed_text framed soup plan
       ≡ (task.head ++ 10 ∷ [])
-      ++ text_behind_head (task.between plan (lengths_in (used (certificates_of framed.remesh.certs)).x)) task.auto soup
-      plan task.shares (certificates_of framed.remesh.certs)
-  pieces_are = λ i. is.head i ++ text_behind_head (is.between i) (is.auto i) soup plan (is.shares i)
+      ++ text_behind_head (task.between plan (lengths_in (used (certificates_of framed.remesh.certs)).x)) task.rising
+      soup plan task.shares (certificates_of framed.remesh.certs)
+  pieces_are = λ i. is.head i ++ text_behind_head (is.between i) (is.rising i) soup plan (is.shares i)
       (certificates_of framed.remesh.certs)
 
   -- Its text is that of the task.

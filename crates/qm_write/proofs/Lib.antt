@@ -1,3 +1,2 @@
 mod Frames
 pub mod Framing
-mod Joins

@@ -15,15 +15,16 @@ use Rattle.qm_write.specs.declared.text.Framed.{Framed}
 -- The text of a remesh in its frame.
 abbrev pub framed_text : (framed : Framed) (soup : FaceSet) (plan : Plan) → Bytes
 framed_text framed soup plan =
-    framed.head.items ++ text_behind_head framed.between.items framed.remesh.asked.auto soup plan
+    framed.head.items ++ text_behind_head framed.between.items framed.remesh.terms.rising soup plan
     framed.shares (certificates_of framed.remesh.certs)
 
 -- What is kept of a layout that the cut of a task gives, in the frame that the task asks for.
 pub record IsFramed (task : Task) (framed : Framed) (soup : FaceSet) (plan : Plan) : Type 0 where
   pub cut : IsCutLayout soup.faces task.marks plan
-  pub settings : framed.remesh.asked.settings ≡ task.settings
-  pub auto : framed.remesh.asked.auto ≡ task.auto
+  pub settings : framed.remesh.terms.settings ≡ task.settings
+  pub rising : framed.remesh.terms.rising ≡ task.rising
   pub shares : framed.shares ≡ task.shares
-  pub kept : IsKept task.wish plan task.settings task.auto (certificates_of framed.remesh.certs) framed.remesh.numbering
+  pub kept : IsKept task.wish plan task.settings task.rising (certificates_of framed.remesh.certs)
+      framed.remesh.numbering
   pub head : framed.head.items ≡ task.head ++ LINE_FEED ∷ []
   pub between : framed.between.items ≡ task.between plan (lengths_in (used (certificates_of framed.remesh.certs)).x)

@@ -8,8 +8,8 @@ ghost use Rattle.def_text.specs.Canonical.{canonical_text};
 use crate::faces::put_faces;
 use crate::vertices::put_vertices;
 use def_output::Stopped;
-use qm_stages::Regridded;
 use qm_output::Output;
+use qm_stages::Regridded;
 
 /// Puts the canonical text of the new mesh: a line for each vertex, then one for each face. Linear but for the searches
 /// of faces' corners on borders, which are logarithmic; without memory.

@@ -8,9 +8,9 @@ ghost use Rattle.def_text.specs.Canonical.{face_text};
 ghost use Rattle.def_written.specs.NewFaces.{new_faces};
 
 use def_output::Stopped;
-use qm_stages::Regridded;
 use qm_obj::put_face;
 use qm_output::Output;
+use qm_stages::Regridded;
 
 /// Puts a line for each face.
 pub(crate) fn put_faces<T: Output>(out: &mut T, new: &Regridded) -> Result<(), Stopped>

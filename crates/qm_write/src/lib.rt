@@ -3,7 +3,6 @@
 #![tactic(auto)]
 
 mod body;
-mod certs;
 mod faces;
 mod remesh;
 mod text;

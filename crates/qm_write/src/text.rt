@@ -8,15 +8,14 @@ ghost use Rattle.def_remesh.specs.NewSoup.{spaced_soup};
 ghost use Rattle.def_remesh.specs.Remeshed.{text_behind_head};
 ghost use Rattle.def_remesh.specs.Tasks.{Wish};
 ghost use Rattle.def_text.specs.Canonical.{canonical_text};
-ghost use Rattle.qm_write.specs.Joined.{joined};
 
 use crate::body::put_new_mesh;
-use crate::certs::{CertTexts, cert_texts, put_certs};
-use crate::remesh::{Remesh, used_of};
+use crate::remesh::Remesh;
 use def_output::Stopped;
 use def_remesh::DartShares;
-use qm_stages::{CutMesh, Regridded};
+use qm_certtext::{certs_text, used_cert};
 use qm_output::Output;
+use qm_stages::{CutMesh, Regridded};
 use std::alloc::{AllocError, Global};
 use thiserror::Error;
 
@@ -70,13 +69,13 @@ pub fn put_framed<T: Output>(
     cut: CutMesh,
     framed: Framed,
 ) -> Result<Regridded, PutFail>
-    requires kept { (wish : Wish) × IsKept wish cut.plan framed.remesh.asked.settings framed.remesh.asked.auto
+    requires kept { (wish : Wish) × IsKept wish cut.plan framed.remesh.terms.settings framed.remesh.terms.rising
         (certificates_of framed.remesh.certs) framed.remesh.numbering }
     ensures whole { OnOk result (T.takes out.old out.new (framed.head.items
-        ++ text_behind_head framed.between.items framed.remesh.asked.auto cut.soup cut.plan
+        ++ text_behind_head framed.between.items framed.remesh.terms.rising cut.soup cut.plan
         framed.shares (certificates_of framed.remesh.certs))) }
     ensures part { IsErrOf result PutFail.Stopped → T.stops out.old out.new (framed.head.items
-        ++ text_behind_head framed.between.items framed.remesh.asked.auto cut.soup cut.plan
+        ++ text_behind_head framed.between.items framed.remesh.terms.rising cut.soup cut.plan
         framed.shares (certificates_of framed.remesh.certs)) }
     ensures untouched { IsErrOf result PutFail.Memory → out.new ≡ out.old }
     ensures new { IfOk result (λ new. new ≡ record {
@@ -93,17 +92,17 @@ pub fn put_framed<T: Output>(
         remesh,
     } = framed;
     let Remesh {
-        asked,
+        terms,
         certs,
         numbering,
     } = remesh;
-    let texts = cert_texts(alloc, &certs)?;
-    let new = Regridded::new(alloc, cut, numbering, &used_of(&certs).x, shares)?;
+    let _layout = cut.layout();
+    let certificates = certs_text(alloc, terms.rising, &certs)?;
+    let new = Regridded::new(alloc, cut, numbering, &used_cert(&certs).x, shares)?;
     let frame = Frame {
         head,
         between,
-        texts,
-        auto: asked.auto,
+        certificates,
     };
     put_parts(out, &frame, &new)?;
     Ok(new)
@@ -114,21 +113,20 @@ pub fn put_framed<T: Output>(
 struct Frame {
     head: Vec<u8>,
     between: Vec<u8>,
-    texts: CertTexts,
-    auto: bool,
+    certificates: Vec<u8>,
 }
 
 /// Puts the head line, the lines of the new mesh, those behind it, and those of the certificates.
 fn put_parts<T: Output>(out: &mut T, frame: &Frame, new: &Regridded) -> Result<(), Stopped>
     ensures whole { OnOk result (T.takes out.old out.new (frame.now.head.items
         ++ (canonical_text (spaced_soup new.now.soup new.now.plan new.now.shares (lengths_in new.now.lengths))
-        ++ (frame.now.between.items ++ joined frame.now.auto frame.now.texts)))) }
+        ++ (frame.now.between.items ++ frame.now.certificates.items)))) }
     ensures part { OnErr result (T.stops out.old out.new (frame.now.head.items
         ++ (canonical_text (spaced_soup new.now.soup new.now.plan new.now.shares (lengths_in new.now.lengths))
-        ++ (frame.now.between.items ++ joined frame.now.auto frame.now.texts)))) }
+        ++ (frame.now.between.items ++ frame.now.certificates.items)))) }
 {
     out.put(&frame.head)?;
     put_new_mesh(out, new)?;
     out.put(&frame.between)?;
-    put_certs(out, frame.auto, &frame.texts)
+    out.put(&frame.certificates)
 }

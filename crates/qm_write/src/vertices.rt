@@ -7,10 +7,10 @@ ghost use Rattle.def_remesh.specs.NewSoup.{new_places};
 ghost use Rattle.def_text.specs.Canonical.{position_text};
 
 use def_output::Stopped;
-use qm_stages::Regridded;
 use qm_obj::put_position;
 use qm_output::Output;
 use qm_place::Near;
+use qm_stages::Regridded;
 
 /// Puts a line for each vertex.
 pub(crate) fn put_vertices<T: Output>(out: &mut T, new: &Regridded) -> Result<(), Stopped>

@@ -6,10 +6,11 @@ use Rattle.std.proofs.lemmas.List.{append_assoc}
 use Rattle.std.proofs.lemmas.List.Folds.{flat_map-map}
 use Rattle.std.proofs.lemmas.List.FromFn.{get_or-range_with_len, length-map-range_with_len, length-range_with_len}
 use Rattle.std.specs.List.{flat_map, list_all, range_with_len}
-use Rattle.def_certtext.specs.CertLines.{line_text, text_of, used}
-use Rattle.def_certtext.specs.Reading.{is_hash_line, may_stand}
-use Rattle.def_certtext.specs.declared.CertLine.{CertLine}
-use Rattle.def_certtext.specs.declared.CertLine.TheVariants.{Length, Vertex, Set, Floor}
+use Rattle.def_certtext.specs.{CertLines.line_text, CertLines.text_of, CertLines.used, Reading.is_hash_line}
+use Rattle.def_certtext.specs.{Reading.may_stand, declared.CertLine.CertLine, Laws.certificate_lines}
+use Rattle.def_certtext.specs.{declared.certs.Rising.Rising, declared.CertLine.TheVariants.Length}
+use Rattle.def_certtext.specs.declared.CertLine.TheVariants.{Vertex, Set}
+use Rattle.def_certtext.specs.{declared.CertLine.TheVariants.Floor, declared.CertLine.TheVariants.Rise as rise_line}
 use Rattle.def_io.specs.{Bytes.Bytes, Lines.lines_of}
 use Rattle.def_layout.specs.{Lengths.AreLengths, Lengths.Lengths, Plans.layout_of, Plans.Plan}
 use Rattle.def_layoutnet.specs.MeshLayouts.{IsSomeLayout}
@@ -17,13 +18,12 @@ use Rattle.def_marks.specs.Lines.{marks_in}
 use Rattle.def_marks.specs.MarkedText.{arc_chain, arc_text, chain_text, is_marked_arc}
 use Rattle.def_readlaws.specs.ReadChains.{AreHashLines, FinishedMarksLaw, IsChainOf, marked_arc_chains}
 use Rattle.def_remesh.specs.{NewPoints.lengths_in, NewSoup.spaced_place, NewSoup.spaced_soup, ReadAgain.ends_line}
-use Rattle.def_remesh.specs.Remeshed.{certificate_lines}
 use Rattle.def_text.specs.{Canonical.canonical_text, FaceSet.FaceSet, Text.numbers_to}
 use Rattle.def_written.specs.{Edges.on_arc, Numbers.vertex_number, Numbers.vertices, Points.arc_point, Points.IsPoint}
 use Rattle.plan_laws.proofs.MeshLayouts.{laid_of}
 use Rattle.qm_certtext.proofs.Texts.{lines_inside}
 use Rattle.qm_obj.proofs.LawText.{lines_back}
-use Rattle.remesh_laws.proofs.{Asides.ends_lines, ReadAgain.kept_allowed, Told.used_lengths}
+use Rattle.remesh_laws.proofs.{Asides.ends_lines, ReadAgain.kept_allowed, Certified.used_lengths}
 use Rattle.written_laws.proofs.{EdgeDarts.edge_points, Shape.numbers_law}
 use Rattle.read_laws.proofs.{LayoutsRead.task_layout_law, MarksAgain.marks_again_law, NewChains.at_link}
 use Rattle.read_laws.proofs.{NewChains.chain_is, Soups.mesh_text_law, Soups.soup_in_law}
@@ -34,19 +34,21 @@ cert_hash (Length n) = refl
 cert_hash (Vertex number up) = refl
 cert_hash (Set number up) = refl
 cert_hash (Floor floor) = refl
+cert_hash (rise_line rise) = refl
 
 certs_hash : (said : List CertLine) → list_all is_hash_line (map line_text said) ≡ true
 certs_hash [] = refl
 certs_hash (line ∷ said) = and_from _ _ (cert_hash line) (certs_hash said)
 
-cert_lines : (auto : Bool) (said : List CertLine) → list_all (may_stand auto) said ≡ true → AreHashLines (text_of said)
-cert_lines auto said may =
+cert_lines : (rising : Rising) (said : List CertLine) → list_all (may_stand rising) said ≡ true
+    → AreHashLines (text_of said)
+cert_lines rising said may =
     let same : text_of said ≡ flat_map (λ l. l ++ 10 ∷ []) (map line_text said) =
     sym (flat_map-map (λ l. l ++ 10 ∷ []) line_text said) in
     record {
       ended = ap ends_line same ∙ ends_lines (map line_text said);
       hashes = ap (list_all is_hash_line) (ap lines_of same
-          ∙ lines_back (map line_text said) (lines_inside auto said may)) ∙ certs_hash said;
+          ∙ lines_back (map line_text said) (lines_inside rising said may)) ∙ certs_hash said;
     }
 
 -- What holds of the image of each element holds along those that pass.
@@ -128,13 +130,13 @@ finished_marks_law command bytes text marks wrote range head between read =
     ap (λ (t : Bytes). marks_in t (spaced_soup wrote.soup wrote.shown.finished.plan wrote.task.shares
     (lengths_in (used wrote.shown.finished.certificates).x))) text_is
     ∙ marks_again_law (wrote.task.head ++ 10 ∷ [])
-    (text_of (certificate_lines wrote.task.auto wrote.shown.finished.certificates))
+    (text_of (certificate_lines wrote.task.rising wrote.shown.finished.certificates))
     (spaced_soup wrote.soup wrote.shown.finished.plan wrote.task.shares
     (lengths_in (used wrote.shown.finished.certificates).x))
     (marked_arc_chains marks wrote.shown.finished.plan (lengths_in (used wrote.shown.finished.certificates).x)) head
-    (cert_lines wrote.task.auto (certificate_lines wrote.task.auto wrote.shown.finished.certificates)
-    (kept_allowed wrote.task.wish wrote.shown.finished.plan wrote.task.settings wrote.task.auto
-    wrote.shown.finished.certificates wrote.shown.finished.lengths))
+    (cert_lines wrote.task.rising (certificate_lines wrote.task.rising wrote.shown.finished.certificates)
+    (kept_allowed wrote.task.wish wrote.shown.finished.plan wrote.task.settings wrote.task.rising
+    wrote.shown.finished.certificates some wrote.shown.finished.lengths))
     (soup_in_law text (spaced_soup wrote.soup wrote.shown.finished.plan wrote.task.shares
     (lengths_in (used wrote.shown.finished.certificates).x)) read)
     (ap numbers_to (sym (many wrote.soup wrote.shown.finished.plan wrote.task.shares
@@ -156,15 +158,15 @@ finished_marks_law command bytes text marks wrote range head between read =
         }
 
     len : AreLengths (layout_of wrote.shown.finished.plan) (lengths_in (used wrote.shown.finished.certificates).x)
-    len = used_lengths wrote.task.wish wrote.shown.finished.plan wrote.task.settings wrote.task.auto
-        wrote.shown.finished.certificates range wrote.shown.finished.lengths
+    len = used_lengths wrote.task.wish wrote.shown.finished.plan wrote.task.settings wrote.task.rising
+        wrote.shown.finished.certificates range.floor.low wrote.shown.finished.lengths
 
     text_is : text ≡ (wrote.task.head ++ 10 ∷ [])
         ++ (canonical_text (spaced_soup wrote.soup wrote.shown.finished.plan wrote.task.shares
         (lengths_in (used wrote.shown.finished.certificates).x))
         ++ (flat_map chain_text (marked_arc_chains marks wrote.shown.finished.plan
         (lengths_in (used wrote.shown.finished.certificates).x))
-        ++ text_of (certificate_lines wrote.task.auto wrote.shown.finished.certificates)))
+        ++ text_of (certificate_lines wrote.task.rising wrote.shown.finished.certificates)))
     text_is =
         wrote.shown.finished.written
         ∙ ((λ i. wrote.task.head
@@ -174,10 +176,10 @@ finished_marks_law command bytes text marks wrote range head between read =
         between ∙ marked_is marks wrote.shown.finished.plan
         (lengths_in (used wrote.shown.finished.certificates).x)
         (range_with_len 0 (length wrote.shown.finished.plan.arcs))) i
-        ++ text_of (certificate_lines wrote.task.auto wrote.shown.finished.certificates))))
+        ++ text_of (certificate_lines wrote.task.rising wrote.shown.finished.certificates))))
         ∙ sym (append_assoc wrote.task.head (10 ∷ [])
         (canonical_text (spaced_soup wrote.soup wrote.shown.finished.plan wrote.task.shares
         (lengths_in (used wrote.shown.finished.certificates).x))
         ++ (flat_map chain_text (marked_arc_chains marks wrote.shown.finished.plan
         (lengths_in (used wrote.shown.finished.certificates).x))
-        ++ text_of (certificate_lines wrote.task.auto wrote.shown.finished.certificates)))))
+        ++ text_of (certificate_lines wrote.task.rising wrote.shown.finished.certificates)))))

@@ -20,7 +20,7 @@ use Rattle.def_remesh.specs.NewPoints.{lengths_in}
 use Rattle.def_written.specs.{Edges.Edge, Edges.IsEdge, Edges.IsUndoubled, Edges.on_arc, NewFaces.new_faces}
 use Rattle.def_written.specs.{Numbers.vertex_number, Points.arc_point}
 use Rattle.plan_laws.proofs.MeshLayouts.{laid_of, lies}
-use Rattle.remesh_laws.proofs.Told.{used_lengths}
+use Rattle.remesh_laws.proofs.Certified.{used_lengths}
 use Rattle.written_laws.proofs.Courses.{course, course_from, course_of, course_to}
 use Rattle.written_laws.proofs.{Courses.end_at, Courses.start_at, EdgeDarts.edge_dart, EdgeDarts.edge_points}
 use Rattle.written_laws.proofs.NewDarts.{dart_low, dart_number, number_from, number_to}
@@ -190,6 +190,6 @@ finished_chains_law command bytes text wrote range =
       cut = (task_layout_law command bytes wrote.soup wrote.task wrote.mesh wrote.asked).0;
       laid = wrote.shown.finished.cut;
     })
-    (used_lengths wrote.task.wish wrote.shown.finished.plan wrote.task.settings wrote.task.auto
-    wrote.shown.finished.certificates range wrote.shown.finished.lengths)
+    (used_lengths wrote.task.wish wrote.shown.finished.plan wrote.task.settings wrote.task.rising
+    wrote.shown.finished.certificates range.floor.low wrote.shown.finished.lengths)
     wrote.shown.finished.undoubled

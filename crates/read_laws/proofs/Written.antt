@@ -1,12 +1,14 @@
 -- What is written for bytes that are read: it is accepted behind them, and its vertices lie where they are said to.
 use Rattle.std.specs.Prelude.{codes}
-use Rattle.std.proofs.Common.{◌≡◌, ◌++◌, Bool, false, [], None, length, inr, sym, subst, ap, ◌∙◌, arith, refl}
+use Rattle.std.proofs.Common.{◌≡◌, ◌++◌, false, [], None, length, inr, sym, subst, ap, ◌∙◌, arith, refl}
 use Rattle.std.proofs.lemmas.List.FromFn.{get_or-map-range_with_len}
 use Rattle.std.proofs.lemmas.Bool.{false≢true}
 use Rattle.check_laws.proofs.Accepted.{accepts_law, head_there, last_line, plain_begins, IsHeadTest}
-use Rattle.def_certtext.specs.CertLines.{alone, Certificates, line_text, raised, used}
+use Rattle.def_certtext.specs.CertLines.{alone, Certificates, line_text, raised, risen, used}
+use Rattle.def_certtext.specs.Risings.{third_if}
+use Rattle.def_certtext.specs.declared.certs.Rising.{Rising}
 use Rattle.def_certtext.specs.declared.CertLine.{CertLine}
-use Rattle.def_certtext.specs.declared.CertLine.TheVariants.{Length, Vertex, Set, Floor}
+use Rattle.def_certtext.specs.declared.CertLine.TheVariants.{Length, Vertex, Set, Floor, Rise as rise_line}
 use Rattle.def_flow.specs.{Admissible.deviation, Admissible.entries, Network.Network, declared.net.Settings.Settings}
 use Rattle.def_io.specs.{Bytes.Bytes, Lines.lines_of}
 use Rattle.def_layout.specs.{Arcs.long_at, Lengths.AreLengths, Lengths.Lengths, Plans.layout_of, Plans.Plan}
@@ -23,22 +25,24 @@ use Rattle.def_run.specs.MarkLines.{begins_mark}
 use Rattle.def_written.specs.{Laws.LiesInMesh, Numbers.vertices}
 use Rattle.map_laws.proofs.{Spaced.spacing_is, SpotPlaces.spot_law}
 use Rattle.plan_laws.proofs.PlanLies.{plan_law}
-use Rattle.remesh_laws.proofs.{LastLines.one_last, Told.used_lengths}
+use Rattle.remesh_laws.proofs.{LastLines.one_last, Certified.used_lengths}
 use Rattle.site_laws.proofs.Laws.{graph_law}
 use Rattle.written_laws.proofs.{Shape.multiple_law, Spacings.even_law}
 use Rattle.read_laws.proofs.{LayoutsRead.task_layout_law, Soups.mesh_text_law}
 
 -- Kept certificates have the network of their layout.
-net_of : (plan : Plan) (settings : Settings) (auto : Bool) (certificates : Certificates)
-    → AreKeptBy (HasLeastLengths old_lengths plan settings) plan (given_floors settings) auto certificates
+net_of : (plan : Plan) (settings : Settings) (rising : Rising) (certificates : Certificates)
+    → AreKeptBy (HasLeastLengths old_lengths plan settings) plan (given_floors settings) rising certificates
     → (net : Network) × IsNetOf (layout_of plan) (old_lengths plan) (old_lengths plan) settings (λ a. settings.floor)
     net
-net_of plan settings auto (alone cert) kept = (kept.net, kept.of_layout)
-net_of plan settings auto (raised first cert) kept = (kept.1.net, kept.1.of_layout)
+net_of plan settings rising (alone cert) kept = (kept.net, kept.of_layout)
+net_of plan settings rising (raised first cert) kept = (kept.1.fit.net, kept.1.fit.of_layout)
+net_of plan settings rising (risen first rises after) kept = (kept.1.fit.net, kept.1.fit.of_layout)
 
 -- A checked pair that is no text of `fit` has the line that tells its numbers.
 told_pair : (bytes : Bytes) → ¬ HasFitText bytes → IsCheckedPair bytes → (line : Bytes) × WritesAccepted bytes line
-told_pair bytes other pair = by_net (net_of pair.remeshed.plan pair.settings pair.auto pair.remeshed.certificates
+told_pair bytes other pair =
+    by_net (net_of pair.remeshed.plan pair.settings (third_if pair.auto) pair.remeshed.certificates
     pair.remeshed.lengths)
   where
     by_net : (net : Network) × IsNetOf (layout_of pair.remeshed.plan) (old_lengths pair.remeshed.plan)
@@ -71,6 +75,7 @@ cert_marks (Length n) = refl
 cert_marks (Vertex number up) = refl
 cert_marks (Set number up) = refl
 cert_marks (Floor floor) = refl
+cert_marks (rise_line rise) = refl
 
 mark_test : IsHeadTest begins_mark
 mark_test = record { head = λ settings auto. refl; cert = cert_marks; plain = plain_begins (codes "quadq 1 ") }
@@ -145,7 +150,7 @@ finished_spots_law command bytes text wrote range =
       laid = finished.cut;
     } in
     let lengths : AreLengths (layout_of finished.plan) new =
-    used_lengths wrote.task.wish finished.plan wrote.task.settings wrote.task.auto finished.certificates range
-    finished.lengths in
+    used_lengths wrote.task.wish finished.plan wrote.task.settings wrote.task.rising finished.certificates
+    range.floor.low finished.lengths in
     spot_text_law bytes wrote.soup wrote.task.marks finished.plan wrote.task.shares new wrote.mesh full finished.cut
     lengths (spacing_is finished.plan laid new lengths finished.coarse wrote.task.shares)

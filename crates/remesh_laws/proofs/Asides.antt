@@ -5,7 +5,7 @@ use Rattle.std.proofs.lemmas.Bool.{and_parts, leb-true}
 use Rattle.std.proofs.lemmas.Fmt.{length-decimal-le}
 use Rattle.std.proofs.lemmas.List.{append-nil}
 use Rattle.std.proofs.lemmas.List.Folds.{flat_map-map}
-use Rattle.std.specs.Prelude.{◌&&◌, ◌==◌, ◌-◌, if◌then◌else◌, decimal, slice_index, unsigned_abs}
+use Rattle.std.specs.Prelude.{◌&&◌, ◌==◌, ◌+◌, ◌-◌, if◌then◌else◌, decimal, slice_index, unsigned_abs}
 use Rattle.std.specs.Fmt.{signed_decimal}
 use Rattle.std.specs.List.{before_first, flat_map, list_all}
 use Rattle.def_certtext.specs.{CertLines.dual_line, CertLines.line_text, CertLines.text_of, HeadLine.head_line}
@@ -13,15 +13,18 @@ use Rattle.def_certtext.specs.{Reading.is_small, Reading.may_stand, Settings.flo
 use Rattle.def_certtext.specs.{Settings.weight_text, Settings.AreInRange, Settings.IsFloor, declared.CertLine.CertLine}
 use Rattle.def_certtext.specs.declared.CertLine.TheVariants.{Floor, Length}
 use Rattle.def_certtext.specs.declared.CertLine.TheVariants.{Set, Vertex}
-use Rattle.def_flow.specs.{declared.net.Settings.Settings, declared.net.Weight.Weight}
-use Rattle.def_flow.specs.{declared.net.Weight.TheVariants.Plain, declared.net.Weight.TheVariants.Length as ByLength}
+use Rattle.def_certtext.specs.{declared.CertLine.TheVariants.Rise as RiseLine, declared.certs.Rise.Rise}
+use Rattle.def_certtext.specs.declared.certs.Rising.{Rising}
+use Rattle.def_flow.specs.{declared.limits.TheConstants.MAX_FLOOR, declared.net.Settings.Settings}
+use Rattle.def_flow.specs.{declared.net.Weight.Weight, declared.net.Weight.TheVariants.Plain}
+use Rattle.def_flow.specs.{declared.net.Weight.TheVariants.Length as ByLength}
 use Rattle.def_io.specs.{Bytes.Bytes, Bytes.Lines, Lines.lines_of}
 use Rattle.def_text.specs.{Canonical.canonical_text, FaceSet.FaceSet, Laws.is_position, Laws.is_quad}
 use Rattle.def_text.specs.{Laws.IsWritableSoup, Logical.continues, Logical.is_hash, Logical.with_space}
 use Rattle.def_text.specs.{Reading.begins_with, Words.words}
 use Rattle.def_remesh.specs.{ReadAgain.ends_line, Refined.refine_head}
-use Rattle.qm_certtext.proofs.{Counts.small_parts, Telling.floor_low, Texts.both_inside, Texts.lines_inside}
-use Rattle.qm_certtext.proofs.Texts.{number_inside, settings_inside, settings_line}
+use Rattle.qm_certtext.proofs.{Counts.small_parts, Letters.floor_low, Letters.rise_low, Texts.both_inside}
+use Rattle.qm_certtext.proofs.Texts.{lines_inside, number_inside, settings_inside, settings_line}
 use Rattle.qm_obj.proofs.LawSoup.{canonical_lines, each_both, each_map, face_line}
 use Rattle.qm_obj.proofs.LawSoup.{face_line_is, position_line, position_line_is, text_lines}
 use Rattle.qm_obj.proofs.LawText.{is_inside, lines_back, lines_split, no_continuation}
@@ -141,38 +144,51 @@ dual_short letter z up may =
       number_short up (omega (arith, parts.1)),
     )
 
-cert_passed : (auto : Bool) (line : CertLine) → may_stand auto line ≡ true → IsPassedOver (line_text line)
-cert_passed auto (Length n) may =
-    hash_passed (line_text (Length n)) refl (omega (arith, number_short n (omega (arith, leb-true n (10 ^ 12) may))))
-cert_passed auto (Vertex z up) may = hash_passed (line_text (Vertex z up)) refl (dual_short 121 z up may)
-cert_passed auto (Set z up) may = hash_passed (line_text (Set z up)) refl (dual_short 115 z up may)
-cert_passed auto (Floor floor) may =
-    hash_passed (line_text (Floor floor)) refl
-    (omega (arith, number_short floor (omega (arith, floor_low auto floor may))))
+-- So is a line that tells a rise.
+rise_short : (rise : Rise) → (rise.arc < 2 ^ 32) × (rise.floor ≤ MAX_FLOOR)
+    → length (line_text (RiseLine rise)) ≤ 65536
+rise_short rise low = omega (
+  arith,
+  length-append (decimal (rise.arc + 1)) (32 ∷ decimal rise.floor),
+  number_short (rise.arc + 1) (omega (arith, low.0)),
+  number_short rise.floor (omega (arith, low.1)),
+)
 
-certs_passed : (auto : Bool) (said : List CertLine) → list_all (may_stand auto) said ≡ true → (k : ℕ)
+cert_passed : (rising : Rising) (line : CertLine) → may_stand rising line ≡ true → IsPassedOver (line_text line)
+cert_passed rising (Length n) may =
+    hash_passed (line_text (Length n)) refl (omega (arith, number_short n (omega (arith, leb-true n (10 ^ 12) may))))
+cert_passed rising (Vertex z up) may = hash_passed (line_text (Vertex z up)) refl (dual_short 121 z up may)
+cert_passed rising (Set z up) may = hash_passed (line_text (Set z up)) refl (dual_short 115 z up may)
+cert_passed rising (Floor floor) may =
+    hash_passed (line_text (Floor floor)) refl
+    (omega (arith, number_short floor (omega (arith, floor_low rising floor may))))
+cert_passed rising (RiseLine rise) may =
+    hash_passed (line_text (RiseLine rise)) refl (rise_short rise (rise_low rising rise may))
+
+certs_passed : (rising : Rising) (said : List CertLine) → list_all (may_stand rising) said ≡ true → (k : ℕ)
     → k < length (map line_text said)
     → IsPassedOver (get_or (map line_text said) k [])
-certs_passed auto [] all k low = absurd (omega (arith, low))
-certs_passed auto (line ∷ said) all zero low =
-    cert_passed auto line (and_parts (may_stand auto line) (list_all (may_stand auto) said) all).0
-certs_passed auto (line ∷ said) all (suc k) low =
-    certs_passed auto said (and_parts (may_stand auto line) (list_all (may_stand auto) said) all).1 k
+certs_passed rising [] all k low = absurd (omega (arith, low))
+certs_passed rising (line ∷ said) all zero low =
+    cert_passed rising line (and_parts (may_stand rising line) (list_all (may_stand rising) said) all).0
+certs_passed rising (line ∷ said) all (suc k) low =
+    certs_passed rising said (and_parts (may_stand rising line) (list_all (may_stand rising) said) all).1 k
     (omega (arith, low))
 
-pub cert_lines_passed : (auto : Bool) (said : List CertLine) → list_all (may_stand auto) said ≡ true → (k : ℕ)
+pub cert_lines_passed : (rising : Rising) (said : List CertLine) → list_all (may_stand rising) said ≡ true → (k : ℕ)
     → k < length (lines_of (text_of said))
     → IsPassedOver (get_or (lines_of (text_of said)) k [])
-cert_lines_passed auto said all = subst (λ (ls : Lines). (k : ℕ) → k < length ls → IsPassedOver (get_or ls k []))
-    (sym lines) (certs_passed auto said all)
+cert_lines_passed rising said all = subst (λ (ls : Lines). (k : ℕ) → k < length ls → IsPassedOver (get_or ls k []))
+    (sym lines) (certs_passed rising said all)
   where
     lines : lines_of (text_of said) ≡ map line_text said
     lines = ap lines_of (sym (flat_map-map (λ l. l ++ 10 ∷ []) line_text said))
-        ∙ lines_back (map line_text said) (lines_inside auto said all)
+        ∙ lines_back (map line_text said) (lines_inside rising said all)
 
 -- ---- Head lines.
 
-floor_short : (floor : ℕ) (auto : Bool) → IsFloor floor auto → length (floor_text floor auto) ≤ 20
+-- The word of a floor is short.
+pub floor_short : (floor : ℕ) (auto : Bool) → IsFloor floor auto → length (floor_text floor auto) ≤ 20
 floor_short floor true may = omega arith
 floor_short floor false may = number_short floor (omega (arith, may.high))
 

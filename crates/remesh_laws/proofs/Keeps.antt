@@ -1,29 +1,30 @@
 -- What least lengths and the numbers of their new mesh make, together, of a layout that is remeshed.
 use Rattle.std.proofs.{lemmas.Bool.cases_lt, lemmas.List.get_or_past, Common.◌≡◌, Common.◌≤◌, Common.◌<◌, Common.◌⊎◌}
-use Rattle.std.proofs.Common.{inl, inr, ℕ, Bool, true, List, length}
-use Rattle.std.proofs.{Common.sym, Common.◌∙◌, Common.ap, Common.subst, Common.refl, Common.arith, lemmas.Int.ints}
+use Rattle.std.proofs.Common.{inl, inr, ℕ, List, length, sym, ◌∙◌, ap}
+use Rattle.std.proofs.{Common.subst, Common.refl, Common.arith, lemmas.Int.ints}
 use Rattle.std.specs.Prelude.{IsErrOf, Result, Err}
 use Rattle.def_certtext.specs.CertLines.{alone, lists_of, raised, used, Certificates}
+use Rattle.def_certtext.specs.declared.certs.Rising.{Rising}
+use Rattle.def_certtext.specs.declared.certs.Rising.TheVariants.{Third}
 use Rattle.def_flow.specs.{Accepted.certificate, Descent.IsSolution, Network.arc_at, Network.Network}
 use Rattle.def_flow.specs.{declared.cert.Cert.Cert, declared.limits.TheConstants.MAX_FLOOR}
 use Rattle.def_flow.specs.{declared.limits.TheConstants.MAX_LENGTH, declared.net.Settings.Settings}
 use Rattle.def_layout.specs.{FaceLayouts.IsCutLayout, Lengths.AreLengths as AreArcLengths, Lengths.Lengths, Plans.Plan}
 use Rattle.def_layout.specs.Plans.{layout_of, vertex_at}
-use Rattle.def_layoutnet.specs.{LayoutNet.IsNetOf, Floors.HasFloors}
 use Rattle.def_mesh.specs.Faces.{Faces}
 use Rattle.def_remesh.specs.{Placings.IsMeshLayout, Keeping.IsKept, NewPoints.lengths_in, Refusals.AreTooFine}
 use Rattle.def_remesh.specs.{Certified.AreKept, Certified.IsCertified, Remeshed.AreKeptBy, Remeshed.HasLeastLengths}
 use Rattle.def_remesh.specs.{Remeshed.AreCoarse, Remeshed.AreDoubled, Remeshed.finished_text, Stitched.AreLong}
 use Rattle.def_remesh.specs.{Stitched.AreSafe, Stitched.IsUnstitched, Stitched.KeepsShapes, Tasks.given_floors}
-use Rattle.def_remesh.specs.{Tasks.old_lengths, Tasks.Task, Tasks.Wish, declared.fail.StitchFail.StitchFail}
-use Rattle.def_remesh.specs.{declared.tables.Tables.Tables, Keeping.IsNetWith}
+use Rattle.def_remesh.specs.{Tasks.Task, Tasks.Wish, declared.fail.StitchFail.StitchFail, declared.tables.Tables.Tables}
+use Rattle.def_remesh.specs.Keeping.{IsNetWith}
 use Rattle.def_text.specs.FaceSet.{FaceSet}
 use Rattle.def_written.specs.{Shape.KeepsShape, Edges.IsFirstDoubled, NewFaces.new_faces}
 use Rattle.def_remesh.specs.declared.fail.StitchFail.TheVariants as fails
 use Rattle.remesh_laws.specs.Keeps.{IsNumbered, ShowsTask}
-use Rattle.plan_laws.proofs.MeshLayouts.{laid_of}
-use Rattle.qm_layoutnet.proofs.Floors.{floored, floors_tangle, floors_within}
-use Rattle.remesh_laws.proofs.{Certified.certified_lengths, ReadAgain.task_read, Solved.certified}
+use Rattle.def_layoutnet.specs.Floors.{HasFloors}
+use Rattle.remesh_laws.proofs.{Certified.certified_lengths, ReadAgain.task_read, Rounds.kept_by, Rounds.raised_net}
+use Rattle.remesh_laws.proofs.Solved.{certified}
 
 -- Its solution is certified.
 pub solved : {wish : Wish} {floors : Lengths} (plan : Plan) (settings : Settings) (net : Network) (cert : Cert)
@@ -40,57 +41,43 @@ are_lengths plan settings net cert xs for is same =
     subst (λ (ys : List ℕ). AreArcLengths (layout_of plan) (lengths_in ys)) (sym same)
     (certified_lengths plan settings (lists_of cert) for.floor (solved plan settings net cert for is).lengths)
 
--- The network with other floors.
-pub raised_net : {wish : Wish} {floors : Lengths} (plan : Plan) (settings : Settings) (higher : Lengths)
-    (net other : Network) → ((arc : ℕ) → (1 ≤ higher arc) × (higher arc ≤ MAX_FLOOR))
-    → IsNetWith wish plan settings floors net → HasFloors net higher other
-    → IsNetWith wish plan settings higher other
-raised_net {wish} {floors} plan settings higher net other low for has = record {
-  mesh = for.mesh;
-  floor = λ arc. (low arc).0;
-  is = floored (layout_of plan) (old_lengths plan) (wish plan) settings floors higher net other
-      (laid_of plan for.mesh) for.is has;
-  bounds = floors_within net higher other has for.bounds (λ k l. low k);
-  untangled = omega (arith, for.untangled, floors_tangle net higher other has);
-}
-
 -- The network with floor 3.
 pub third_net : {wish : Wish} {floors : Lengths} (plan : Plan) (settings : Settings) (net other : Network)
     → IsNetWith wish plan settings floors net → HasFloors net (λ a. 3) other
     → IsNetWith wish plan settings (λ a. 3) other
 third_net plan settings net other =
-    raised_net plan settings (λ a. 3) net other (λ arc. (omega arith, omega arith))
+    raised_net plan settings (λ a. 3) net other (λ arc. omega arith) (λ arc low. omega arith)
 
-coarse_is : (plan : Plan) (xs : List ℕ) (tables : Tables) → IsNumbered plan xs tables → AreCoarse plan xs
-coarse_is plan xs tables is = subst (AreCoarse plan) is.lengths is.numbering.few
-
-keeps : {wish : Wish} (plan : Plan) (settings : Settings) (auto : Bool) (certificates : Certificates) (tables : Tables)
-    → AreKept wish plan settings auto certificates
-    → IsNumbered plan (used certificates).x tables → IsKept wish plan settings auto certificates tables
-keeps plan settings auto certificates tables kept is = record {
+-- Kept certificates, with the numbers of the new mesh at the lengths that are used.
+pub keeps : {wish : Wish} (plan : Plan) (settings : Settings) (rising : Rising) (certificates : Certificates)
+    (xs : List ℕ) (tables : Tables) → xs ≡ (used certificates).x
+    → AreKept wish plan settings rising certificates → IsNumbered plan xs tables
+    → IsKept wish plan settings rising certificates tables
+keeps {wish} plan settings rising certificates xs tables same kept numbered = record {
   kept = kept;
-  coarse = coarse_is plan (used certificates).x tables is;
+  coarse = subst (AreCoarse plan) is.lengths is.numbering.few;
   undoubled = is.undoubled;
   shape = is.shape;
   numbering = is.numbering;
   lengths = is.lengths;
 }
+  where
+    is : IsNumbered plan (used certificates).x tables
+    is = subst (λ (ys : List ℕ). IsNumbered plan ys tables) same numbered
 
-pub keeps_first : {wish : Wish} (plan : Plan) (settings : Settings) (auto : Bool) (cert : Cert) (xs : List ℕ)
+pub keeps_first : {wish : Wish} (plan : Plan) (settings : Settings) (rising : Rising) (cert : Cert) (xs : List ℕ)
     (tables : Tables) → xs ≡ cert.x.items
     → IsCertified wish plan settings (given_floors settings) (lists_of cert) → IsNumbered plan xs tables
-    → IsKept wish plan settings auto (alone (lists_of cert)) tables
-keeps_first plan settings auto cert xs tables same certified is =
-    keeps plan settings auto (alone (lists_of cert)) tables certified
-    (subst (λ (ys : List ℕ). IsNumbered plan ys tables) same is)
+    → IsKept wish plan settings rising (alone (lists_of cert)) tables
+keeps_first plan settings rising cert xs tables =
+    keeps plan settings rising (alone (lists_of cert)) xs tables
 
 pub keeps_third : {wish : Wish} (plan : Plan) (settings : Settings) (first third : Cert) (xs : List ℕ) (tables : Tables)
     → xs ≡ third.x.items
-    → AreKept wish plan settings true (raised (lists_of first) (lists_of third)) → IsNumbered plan xs tables
-    → IsKept wish plan settings true (raised (lists_of first) (lists_of third)) tables
-keeps_third plan settings first third xs tables same kept is =
-    keeps plan settings true (raised (lists_of first) (lists_of third)) tables kept
-    (subst (λ (ys : List ℕ). IsNumbered plan ys tables) same is)
+    → AreKept wish plan settings Third (raised (lists_of first) (lists_of third)) → IsNumbered plan xs tables
+    → IsKept wish plan settings Third (raised (lists_of first) (lists_of third)) tables
+keeps_third plan settings first third xs tables =
+    keeps plan settings Third (raised (lists_of first) (lists_of third)) xs tables
 
 -- A refusal of lengths, of this kind, is one of the same lengths under another name.
 pub too_fine : (plan : Plan) (xs ys : List ℕ) (fail : StitchFail) (faces : ℕ) → xs ≡ ys → fail ≡ fails.TooFine faces
@@ -167,21 +154,21 @@ kept_shape soup plan xs lies shapes = subst
     (shapes lies.0.faces lies.0.marks lies.0.mesh lies.0.quads lies.0.cut lies.0.laid)
 
 -- Accepted certificates have least lengths.
-pub least_of : (wish : Wish) (plan : Plan) (settings : Settings) (auto : Bool) (certificates : Certificates)
-    → AreKept wish plan settings auto certificates
-    → AreKeptBy (HasLeastLengths wish plan settings) plan (given_floors settings) auto certificates
-least_of wish plan settings auto (alone cert) kept = kept.lengths
-least_of wish plan settings auto (raised first cert) kept = (kept.0, kept.1.lengths, kept.2, kept.3, kept.4.lengths)
+pub least_of : (wish : Wish) (plan : Plan) (settings : Settings) (rising : Rising) (certificates : Certificates)
+    → AreKept wish plan settings rising certificates
+    → AreKeptBy (HasLeastLengths wish plan settings) plan (given_floors settings) rising certificates
+least_of wish plan settings rising certificates =
+    kept_by plan (given_floors settings) rising certificates (λ floors cert is. is.lengths)
 
 -- What is kept of a layout that a task's cut gives finishes the task, and shows it.
 pub shown : (task : Task) (soup : FaceSet) (plan : Plan) (certificates : Certificates) (tables : Tables)
     → IsMeshLayout soup.faces plan
-    → IsCutLayout soup.faces task.marks plan → IsKept task.wish plan task.settings task.auto certificates tables
+    → IsCutLayout soup.faces task.marks plan → IsKept task.wish plan task.settings task.rising certificates tables
     → ShowsTask task soup (finished_text task soup plan certificates)
 shown task soup plan certificates tables lies cut kept =
-    let lengths : AreKeptBy (HasLeastLengths task.wish plan task.settings) plan (given_floors task.settings) task.auto
+    let lengths : AreKeptBy (HasLeastLengths task.wish plan task.settings) plan (given_floors task.settings) task.rising
     certificates =
-    least_of task.wish plan task.settings task.auto certificates kept.kept in
+    least_of task.wish plan task.settings task.rising certificates kept.kept in
     record {
       shown = record {
         finished = record {
@@ -196,7 +183,7 @@ shown task soup plan certificates tables lies cut kept =
         };
         certified = kept.kept;
       };
-      read = task_read task soup plan certificates (laid_of plan kept.numbering.mesh)
+      read = task_read task soup plan certificates kept.numbering.mesh
           (subst (λ (xs : List ℕ). AreArcLengths (layout_of plan) (lengths_in xs)) kept.lengths kept.numbering.lengths)
           lengths;
     }

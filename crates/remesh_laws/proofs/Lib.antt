@@ -10,7 +10,9 @@ pub mod Pairs
 mod PassedOver
 pub mod Printable
 pub mod ReadAgain
+pub mod Rounds
 pub mod Solved
 pub mod Tails
 pub mod TaskTexts
 pub mod Told
+pub mod Writable

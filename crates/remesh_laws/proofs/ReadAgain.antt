@@ -1,11 +1,10 @@
 -- What is written for a task, or for a refined mesh, is read again as the new mesh.
-use Rattle.std.proofs.Common.{◌≡◌, ◌<◌, ◌^◌, ℕ, Bool, true, false}
-use Rattle.std.proofs.Common.{None, [], ◌∷◌, ◌++◌, length, get_or, Ok}
-use Rattle.std.proofs.Common.{sym, ◌∙◌, ap, subst, arith, append_assoc}
-use Rattle.std.proofs.{lemmas.List.append-nil, lemmas.Bool.false≢true}
+use Rattle.std.proofs.Common.{◌≡◌, ◌<◌, ◌^◌, ℕ, true, None, [], ◌∷◌}
+use Rattle.std.proofs.Common.{◌++◌, length, get_or, Ok, sym, ◌∙◌, ap}
+use Rattle.std.proofs.{Common.subst, Common.arith, Common.append_assoc, lemmas.List.append-nil}
 use Rattle.std.specs.List.{list_all}
-use Rattle.def_certtext.specs.CertLines.{alone, raised, text_of, used, Certificates}
-use Rattle.def_certtext.specs.Reading.{may_stand}
+use Rattle.def_certtext.specs.{CertLines.text_of, CertLines.used, CertLines.Certificates, Laws.certificate_lines}
+use Rattle.def_certtext.specs.{Reading.may_stand, Risings.third_if, declared.certs.Rising.Rising}
 use Rattle.def_flow.specs.declared.net.Settings.{Settings}
 use Rattle.def_io.specs.{Bytes.Bytes, Bytes.Lines, Lines.lines_of}
 use Rattle.def_layout.specs.{Arcs.long_at, Surfaces.IsSurface, Lengths.AreLengths, Lengths.Lengths, Plans.Plan}
@@ -14,16 +13,15 @@ use Rattle.def_layoutnet.specs.MeshLayouts.{IsSomeLayout}
 use Rattle.def_text.specs.{Canonical.canonical_text, FaceSet.FaceSet, Laws.IsWritableSoup, Text.numbers_to}
 use Rattle.def_text.specs.Text.{soup_in, text_soup}
 use Rattle.def_remesh.specs.{NewPoints.lengths_in, NewPoints.multiple_of, NewSoup.new_soup, NewSoup.spaced_soup}
-use Rattle.def_remesh.specs.{ReadAgain.IsReadAgain, Refined.refine_head, Refined.refined_text}
-use Rattle.def_remesh.specs.Remeshed.{certificate_lines, finished_text, AreKeptBy}
-use Rattle.def_remesh.specs.{Remeshed.HasLeastLengths, Tasks.given_floors, Tasks.remesh_task, Tasks.Task, Tasks.Wish}
-use Rattle.def_remesh.specs.TextLaws.{ReadAgainLaw}
-use Rattle.qm_certtext.proofs.Telling.{chosen_allowed}
+use Rattle.def_remesh.specs.{ReadAgain.IsReadAgain, Refined.refine_head, Refined.refined_text, Remeshed.finished_text}
+use Rattle.def_remesh.specs.{Remeshed.AreKeptBy, Remeshed.HasLeastLengths, Tasks.given_floors, Tasks.remesh_task}
+use Rattle.def_remesh.specs.{Tasks.Task, Tasks.Wish, TextLaws.ReadAgainLaw}
+use Rattle.qm_certtext.proofs.Chosen.{chosen_allowed}
 use Rattle.qm_obj.proofs.LawSoup.{each_both, text_back}
 use Rattle.remesh_laws.proofs.Asides.{canonical_ends, canonical_whole, cert_lines_passed}
-use Rattle.remesh_laws.proofs.{Asides.head_aside, Asides.none_aside, Asides.refine_aside, Joined.lines_append}
-use Rattle.remesh_laws.proofs.{NewSoups.new_names, NewSoups.writable, PassedOver.passed_over, Printable.mesh_layout}
-use Rattle.remesh_laws.proofs.{Printable.printable, Told.kept_writable, Told.used_lengths}
+use Rattle.remesh_laws.proofs.{Asides.head_aside, Asides.none_aside, Asides.refine_aside, Certified.used_lengths}
+use Rattle.remesh_laws.proofs.{Joined.lines_append, NewSoups.new_names, NewSoups.writable, PassedOver.passed_over}
+use Rattle.remesh_laws.proofs.{Printable.mesh_layout, Printable.printable, Writable.kept_writable}
 use Rattle.remesh_laws.specs.Asides.{IsAside, IsPassedOver}
 use Rattle.plan_laws.proofs.MeshLayouts.{laid_of, lies}
 use Rattle.written_laws.proofs.Shape.{multiple_law}
@@ -45,13 +43,13 @@ framed front behind soup is names before after =
         ∙ ap (λ (ls : Lines). lines_of front ++ ls) (lines_append (canonical_text soup) behind (canonical_ends soup))
 
 -- The lines of certificates that can be written may stand.
-pub kept_allowed : (wish : Wish) (plan : Plan) (settings : Settings) (auto : Bool) (certificates : Certificates)
-    → AreKeptBy (HasLeastLengths wish plan settings) plan (given_floors settings) auto certificates
-    → list_all (may_stand auto) (certificate_lines auto certificates) ≡ true
-kept_allowed wish plan settings true certificates kept =
-    chosen_allowed certificates (kept_writable wish plan settings true certificates kept)
-kept_allowed wish plan settings false (alone cert) kept = kept.writable.allowed
-kept_allowed wish plan settings false (raised first cert) kept = absurd (false≢true kept.0)
+pub kept_allowed : (wish : Wish) (plan : Plan) (settings : Settings) (rising : Rising) (certificates : Certificates)
+    → IsSomeLayout plan
+    → AreKeptBy (HasLeastLengths wish plan settings) plan (given_floors settings) rising certificates
+    → list_all (may_stand rising) (certificate_lines rising certificates) ≡ true
+kept_allowed wish plan settings rising certificates mesh kept =
+    chosen_allowed rising certificates
+    (kept_writable wish plan settings rising certificates (given_floors settings) mesh kept)
 
 module _ (soup : FaceSet) (plan : Plan) (x : Lengths) (laid : IsSurface (layout_of plan))
     (len : AreLengths (layout_of plan) x) where
@@ -73,36 +71,37 @@ refined_read by soup plan is some low =
     (refine_head by) (refine_aside by low)
 
 -- The text of a task.
-pub task_read : (task : Task) (soup : FaceSet) (plan : Plan) (certificates : Certificates) → IsSurface (layout_of plan)
+pub task_read : (task : Task) (soup : FaceSet) (plan : Plan) (certificates : Certificates) → IsSomeLayout plan
     → AreLengths (layout_of plan) (lengths_in (used certificates).x)
-    → AreKeptBy (HasLeastLengths task.wish plan task.settings) plan (given_floors task.settings) task.auto certificates
-    → IsAside (task.head ++ 10 ∷ []) → IsAside (task.between plan (lengths_in (used certificates).x))
+    → AreKeptBy (HasLeastLengths task.wish plan task.settings) plan (given_floors task.settings) task.rising
+    certificates → IsAside (task.head ++ 10 ∷ []) → IsAside (task.between plan (lengths_in (used certificates).x))
     → IsReadAgain (finished_text task soup plan certificates)
     (spaced_soup soup plan task.shares (lengths_in (used certificates).x))
-task_read task soup plan certificates laid len kept head between is =
+task_read task soup plan certificates mesh len kept head between is =
     ap soup_in (sym (append_assoc task.head (10 ∷ []) _))
     ∙ framed (task.head ++ 10 ∷ []) (task.between plan new ++ certs) (spaced_soup soup plan task.shares new)
-    (writable soup plan task.shares new laid len is) (new_names soup plan task.shares new laid len)
+    (writable soup plan task.shares new (laid_of plan mesh) len is)
+    (new_names soup plan task.shares new (laid_of plan mesh) len)
     head behind
   where
     new : Lengths
     new = lengths_in (used certificates).x
 
     certs : Bytes
-    certs = text_of (certificate_lines task.auto certificates)
+    certs = text_of (certificate_lines task.rising certificates)
 
     behind : (k : ℕ) → k < length (lines_of (task.between plan new ++ certs))
         → IsPassedOver (get_or (lines_of (task.between plan new ++ certs)) k [])
     behind = subst (λ (ls : Lines). (k : ℕ) → k < length ls → IsPassedOver (get_or ls k []))
         (sym (lines_append (task.between plan new) certs between.ended))
         (each_both IsPassedOver (lines_of (task.between plan new)) (lines_of certs) [] between.each
-        (cert_lines_passed task.auto (certificate_lines task.auto certificates)
-        (kept_allowed task.wish plan task.settings task.auto certificates kept)))
+        (cert_lines_passed task.rising (certificate_lines task.rising certificates)
+        (kept_allowed task.wish plan task.settings task.rising certificates mesh kept)))
 
 pub read_again_law : ReadAgainLaw
 read_again_law settings auto soup text range solid is few_vertices few_faces =
     ap soup_in is.written
-    ∙ task_read (remesh_task settings auto soup.faces) soup is.plan is.certificates (laid_of is.plan mesh) lengths
+    ∙ task_read (remesh_task settings auto soup.faces) soup is.plan is.certificates mesh lengths
     is.lengths (head_aside settings auto range)
     none_aside (record {
       near = (printable soup solid is.plan mesh None (lengths_in (used is.certificates).x) lengths is.coarse).positions;
@@ -114,4 +113,4 @@ read_again_law settings auto soup text range solid is few_vertices few_faces =
     mesh = mesh_layout soup is.plan solid is.cut
 
     lengths : AreLengths (layout_of is.plan) (lengths_in (used is.certificates).x)
-    lengths = used_lengths _ is.plan settings auto is.certificates range is.lengths
+    lengths = used_lengths _ is.plan settings (third_if auto) is.certificates range.floor.low is.lengths

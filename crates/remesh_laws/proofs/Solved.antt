@@ -1,5 +1,5 @@
 -- An accepted certificate of the network of a layout certifies its lengths, and can be written.
-use Rattle.std.proofs.Common.{◌≡◌, ◌⊎◌, ℕ, zero, suc, ◌^◌, ◌<◌, ◌≤◌, Bool, true, false, ◌&&◌, List, [], ◌∷◌, ◌++◌}
+use Rattle.std.proofs.Common.{◌≡◌, ◌⊎◌, ℕ, zero, suc, ◌^◌, ◌<◌, ◌≤◌, Bool, true, ◌&&◌, List, [], ◌∷◌, ◌++◌}
 use Rattle.std.proofs.Common.{length, map, take, drop, refl, sym, ◌∙◌, arith, inl, inr, ℤ}
 use Rattle.std.proofs.lemmas.Bool.{and_from, and_parts, le-leb, leb-true, lt-ltb}
 use Rattle.std.proofs.lemmas.Bool.Decides.{nat_tests}
@@ -7,6 +7,7 @@ use Rattle.std.proofs.lemmas.List.Folds.{list_all-append}
 use Rattle.std.specs.{Prelude.nat_lt, Prelude.slice_index, List.list_all}
 use Rattle.def_certtext.specs.{CertLines.dual_lines, CertLines.HasUps, CertLines.Lists, Laws.IsWritableCert}
 use Rattle.def_certtext.specs.{Reading.is_small, Reading.may_stand, declared.CertLine.CertLine}
+use Rattle.def_certtext.specs.declared.certs.Rising.TheVariants.{Never}
 use Rattle.def_certtext.specs.declared.CertLine.TheVariants as lines
 use Rattle.def_flow.specs.{Admissible.entries, Descent.IsSolution, Network.Network, Network.tangle_number}
 use Rattle.def_flow.specs.{Network.IsWithinBounds, declared.limits.TheConstants.MAX_LENGTH}
@@ -31,10 +32,10 @@ all_drop p (suc n) [] all = refl
 all_drop p (suc n) (x ∷ xs) all = all_drop p n xs (and_parts _ _ all).1
 
 -- Lines of small numbers may stand.
-numbered_stand : (kind : ℤ → ℕ → CertLine) → ((z : ℤ) (u : ℕ) → may_stand false (kind z u) ≡ is_small z u)
+numbered_stand : (kind : ℤ → ℕ → CertLine) → ((z : ℤ) (u : ℕ) → may_stand Never (kind z u) ≡ is_small z u)
     → (numbers : List ℤ) (ups : List ℕ)
     → AreSmall numbers → list_all (λ u. nat_lt u (2 ^ 32)) ups ≡ true
-    → list_all (may_stand false) (dual_lines kind numbers ups) ≡ true
+    → list_all (may_stand Never) (dual_lines kind numbers ups) ≡ true
 numbered_stand kind same [] ups small low = refl
 numbered_stand kind same (z ∷ zs) [] small low = refl
 numbered_stand kind same (z ∷ zs) (u ∷ us) small low =
@@ -42,7 +43,7 @@ numbered_stand kind same (z ∷ zs) (u ∷ us) small low =
     (numbered_stand kind same zs us (λ k l. small (suc k) (omega (arith, l))) (and_parts _ _ low).1)
 
 lengths_stand : (xs : List ℕ) → ((k : ℕ) → k < length xs → slice_index xs k ≤ MAX_LENGTH)
-    → list_all (may_stand false) (map lines.Length xs) ≡ true
+    → list_all (may_stand Never) (map lines.Length xs) ≡ true
 lengths_stand [] low = refl
 lengths_stand (x ∷ xs) low =
     and_from _ _ (le-leb _ _ (low 0 (omega arith))) (lengths_stand xs (λ k l. low (suc k) (omega (arith, l))))
@@ -103,16 +104,16 @@ certified wish plan settings floors net cert is of_layout bounds untangled solve
     arcs : List CertLine
     arcs = map lines.Length cert.x
 
-    allowed : list_all (may_stand false) ((arcs ++ vertices) ++ sets) ≡ true
-    allowed = list_all-append (may_stand false) (arcs ++ vertices) sets ∙ and_from _ _
-        (list_all-append (may_stand false) arcs vertices ∙ and_from _ _ (lengths_stand cert.x solved.lengths.small)
+    allowed : list_all (may_stand Never) ((arcs ++ vertices) ++ sets) ≡ true
+    allowed = list_all-append (may_stand Never) (arcs ++ vertices) sets ∙ and_from _ _
+        (list_all-append (may_stand Never) arcs vertices ∙ and_from _ _ (lengths_stand cert.x solved.lengths.small)
         (numbered_stand lines.Vertex (λ z u. refl) cert.y (take (length cert.y) cert.up) solved.small.small_y
         (all_take _ (length cert.y) cert.up low)))
         (numbered_stand lines.Set (λ z u. refl) cert.z (drop (length cert.y) cert.up) solved.small.small_z
         (all_drop _ (length cert.y) cert.up low))
 
 -- The lengths of a certificate that can be written are not too great.
-standing_short : (xs : List ℕ) → list_all (may_stand false) (map lines.Length xs) ≡ true → (k : ℕ) → k < length xs
+standing_short : (xs : List ℕ) → list_all (may_stand Never) (map lines.Length xs) ≡ true → (k : ℕ) → k < length xs
     → slice_index xs k ≤ MAX_LENGTH
 standing_short [] all k l = absurd (omega (arith, l))
 standing_short (x ∷ xs) all zero l = leb-true x MAX_LENGTH (and_parts _ _ all).0
@@ -131,8 +132,8 @@ writable_short cert is = standing_short cert.x (and_parts _ _ both).0
     sets : List CertLine
     sets = dual_lines lines.Set cert.z (drop (length cert.y) cert.up)
 
-    all : (list_all (may_stand false) (arcs ++ vertices) && list_all (may_stand false) sets) ≡ true
-    all = sym (list_all-append (may_stand false) (arcs ++ vertices) sets) ∙ is.allowed
+    all : (list_all (may_stand Never) (arcs ++ vertices) && list_all (may_stand Never) sets) ≡ true
+    all = sym (list_all-append (may_stand Never) (arcs ++ vertices) sets) ∙ is.allowed
 
-    both : (list_all (may_stand false) arcs && list_all (may_stand false) vertices) ≡ true
-    both = sym (list_all-append (may_stand false) arcs vertices) ∙ (and_parts _ _ all).0
+    both : (list_all (may_stand Never) arcs && list_all (may_stand Never) vertices) ≡ true
+    both = sym (list_all-append (may_stand Never) arcs vertices) ∙ (and_parts _ _ all).0

@@ -1,7 +1,7 @@
--- Certified lengths, the numbering of the new mesh at them, and the text of a finished task.
-use Rattle.std.specs.Prelude.{◌≡◌, ℕ, List, [], ◌∷◌, ◌++◌}
-use Rattle.def_certtext.specs.CertLines.{Lists}
-use Rattle.def_flow.specs.declared.net.Settings.{Settings}
+-- Rounds of certificates, the numbering of the new mesh at lengths, and the text of a finished task.
+use Rattle.std.specs.Prelude.{◌≡◌, ℕ, List, [], ◌∷◌, ◌++◌, ⊤}
+use Rattle.def_certtext.specs.CertLines.{lists_of, Lists}
+use Rattle.def_certtext.specs.declared.certs.Round.{Round}
 use Rattle.def_io.specs.Bytes.{Bytes}
 use Rattle.def_io.specs.declared.TheConstants.{LINE_FEED}
 use Rattle.def_layout.specs.Lengths.{Lengths}
@@ -10,21 +10,28 @@ use Rattle.def_text.specs.FaceSet.{FaceSet}
 use Rattle.def_written.specs.Edges.{IsUndoubled}
 use Rattle.def_remesh.specs.NewPoints.{lengths_in}
 use Rattle.def_remesh.specs.Numberings.{IsNumbering}
-use Rattle.def_remesh.specs.Certified.{IsCertified, IsShown}
+use Rattle.def_remesh.specs.Certified.{IsShown}
 use Rattle.def_remesh.specs.ReadAgain.{finished_soup, lines_between, IsReadAgain}
-use Rattle.def_remesh.specs.Remeshed.{AreCoarse, AreDoubled}
+use Rattle.def_remesh.specs.Remeshed.{IsDoublingBy}
+use Rattle.def_remesh.specs.Rises.{risen_floors, AreNeeded}
 use Rattle.def_remesh.specs.Stitched.{KeepsShapes}
-use Rattle.def_remesh.specs.Tasks.{Task, Wish}
+use Rattle.def_remesh.specs.Tasks.{Task}
 use Rattle.def_remesh.specs.declared.tables.Tables.{Tables}
 use Rattle.remesh_laws.specs.Asides.{IsAside}
 
--- Certified lengths that give few faces and double an edge.
-pub record IsDoubling
-    (wish : Wish) (plan : Plan) (settings : Settings) (floors : Lengths) (lists : Lists)
-    : Type 0 where
-  pub certified : IsCertified wish plan settings floors lists
-  pub coarse : AreCoarse plan lists.x
-  pub doubled : AreDoubled plan lists.x
+-- The certificates of rounds, where this is known of each with the floors that rose before it: their lengths double an
+-- edge, and floors rise by need.
+abbrev pub AreLed :
+    (fits : Lengths → Lists → Type 0) (plan : Plan) (rounds : List Round) (floors : Lengths) → Type 0
+AreLed fits plan [] floors = ⊤
+AreLed fits plan (round ∷ rounds) floors = IsDoublingBy fits plan floors (lists_of round.cert)
+    × AreNeeded (layout_of plan) (lengths_in round.cert.x.items) round.rises.items
+    × AreLed fits plan rounds (risen_floors round.rises.items floors)
+
+-- The floors behind them.
+abbrev pub floors_behind : (rounds : List Round) (floors : Lengths) → Lengths
+floors_behind [] floors = floors
+floors_behind (round ∷ rounds) floors = floors_behind rounds (risen_floors round.rises.items floors)
 
 -- What a numbering at these lengths shows.
 pub record IsNumbered (plan : Plan) (xs : List ℕ) (tables : Tables) : Type 0 where

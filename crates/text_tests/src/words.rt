@@ -28,15 +28,27 @@ const LINES: Fit = Fit {
     patches: Patches::Conforming,
     aim: Aim::Wishes,
     floor: 2,
+    auto: false,
     weight: Weight::Length,
     spacing: Spacing::Wished,
+};
+
+/// Merged patches with lengths as the lines wish, whose floors rise by need.
+const CHOSEN: Fit = Fit {
+    keep: Keep::Nothing,
+    patches: Patches::Merged,
+    aim: Aim::Wishes,
+    floor: 1,
+    auto: true,
+    weight: Weight::Plain,
+    spacing: Spacing::Even,
 };
 
 /// No command.
 const NONE: Result<Command, WordsFail> = Err(WordsFail::Usage);
 
 /// Lines with the commands that they are, and those that are none.
-const CASES: [(&str, Result<Command, WordsFail>); 50] = [
+const CASES: [(&str, Result<Command, WordsFail>); 52] = [
     ("tidy", Ok(Command::Tidy)),
     ("graph", Ok(Command::Graph)),
     ("check", Ok(Command::Check)),
@@ -92,6 +104,7 @@ const CASES: [(&str, Result<Command, WordsFail>); 50] = [
                 patches: Patches::Merged,
                 aim: Aim::Scale { p: 2, q: 4 },
                 floor: 1,
+                auto: false,
                 weight: Weight::Plain,
                 spacing: Spacing::Even,
             },
@@ -107,10 +120,19 @@ const CASES: [(&str, Result<Command, WordsFail>); 50] = [
                     edge: Micro { n: 500_000 },
                 },
                 floor: 3,
+                auto: false,
                 weight: Weight::Plain,
                 spacing: Spacing::Even,
             },
         }),
+    ),
+    (
+        "fit --keep none --patches merged --aim lines --floor auto --weight plain --spacing even",
+        Ok(Command::Fit { fit: CHOSEN }),
+    ),
+    (
+        "fit --floor=auto --spacing even --keep none --weight=plain --patches merged --aim lines",
+        Ok(Command::Fit { fit: CHOSEN }),
     ),
     ("", NONE),
     ("tidy --", NONE),
@@ -172,7 +194,7 @@ const CASES: [(&str, Result<Command, WordsFail>); 50] = [
         NONE,
     ),
     (
-        "fit --keep none --patches traced --aim lines --floor auto --weight plain --spacing even",
+        "fit --keep none --patches traced --aim lines --floor 4 --weight plain --spacing even",
         NONE,
     ),
     (

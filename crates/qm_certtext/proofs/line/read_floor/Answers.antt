@@ -1,8 +1,14 @@
-use Rattle.qm_certtext.proofs.Letters.{floor_other, not_floor}
+use Rattle.std.proofs.{Common.◌≡◌, Common.arith, Common.ap, Common.sym, Common.◌∙◌, lemmas.Bool.false≢true}
+use Rattle.std.proofs.lemmas.Fmt.{decimal_injective}
+use Rattle.def_certtext.specs.Reading.{may_name}
+use Rattle.qm_certtext.proofs.Letters.{floor_low, not_floor}
 use Rattle.qm_certtext.proofs.line.read_floor.Goals as goal
 
 pub returns-in_default : goal.returns-in_default
 returns-in_default c =
-    not_floor c.args.auto c.args.rest.now
-    (λ auto. floor_other c.args.rest.now _ c.in_default.ensures.0 c.in_default.ensures.1 c.in_default.field-0-test.0.1
-    c.in_default.field-0-test.1)
+    not_floor c.args.rising c.args.rest.now
+    (λ n may is.
+    let same : c.in-Some.floor ≡ n =
+    decimal_injective c.in-Some.floor n (omega (arith, c.in-Some.ensures.0))
+    (omega (arith, floor_low c.args.rising n may)) (sym c.in-Some.ensures.1 ∙ is) in
+    false≢true (c.if-may_name.ensures ∙ ap (may_name c.args.rising) same ∙ may))

@@ -8,7 +8,7 @@ invariant-lines l = record {
   order : l.from ≤ l.i;
   rest : l.rest ≡ tail_of (l.i - l.from) l.text;
   low : l.i - l.from ≤ length (lines_of l.text);
-  read : ReadSome l.auto' (take (l.i - l.from) (lines_of l.text)) l.found;
+  read : ReadSome l.rising (take (l.i - l.from) (lines_of l.text)) l.found;
 }
 
 abbrev pub decreases-lines : goal.decreases-lines

@@ -3,7 +3,7 @@ use Rattle.def_certtext.specs.CertLines.{lists_of, raised}
 use Rattle.def_flow.specs.Network.{network}
 use Rattle.error_laws.proofs.Errors.{handed}
 use Rattle.qm_check.proofs.Kept.{checked_third, unused_third}
-use Rattle.qm_check.specs.Checked.{made_as, Gives, IsUnused}
+use Rattle.qm_check.specs.Checked.{Gives, IsUnused}
 use Rattle.qm_layoutnet.proofs.Floors.{floors_at, has_floors}
 use Rattle.remesh_laws.proofs.Keeps.{third_net}
 use Rattle.qm_check.proofs.certificates.check_third.Goals as goal
@@ -11,9 +11,9 @@ use Rattle.qm_check.proofs.certificates.check_third.Goals as goal
 pub check_lengths-requires-clause-net : goal.check_lengths-requires-clause-net
 check_lengths-requires-clause-net c = (
   c.requires.net.0,
-  c.args.asked.settings,
+  c.args.terms.settings,
   λ arc. 3,
-  third_net c.args.cut.now.plan c.args.asked.settings (network c.args.net) (network c.with_floor-higher.result)
+  third_net c.args.cut.now.plan c.args.terms.settings (network c.args.net) (network c.with_floor-higher.result)
       c.requires.net.1
       (has_floors (network c.args.net) 3 (network c.with_floor-higher.result) c.with_floor-higher.ensures),
 )
@@ -23,27 +23,27 @@ check_lengths-requires-clause-cert c = c.requires.reach.1
 
 pub returns-in_err-numbering-clause-unused : goal.returns-in_err-numbering-clause-unused
 returns-in_err-numbering-clause-unused c wish for =
-    let made = made_as c.args.asked (raised (lists_of c.args.pair.first) (lists_of c.args.pair.third)) in
-    handed (IsUnused wish c.args.cut.now.plan c.args.asked.settings made) c.from_residual.result
+    let higher = network c.with_floor-higher.result in
+    handed (IsUnused wish c.args.cut.now.plan c.args.terms.settings
+    (raised (lists_of c.args.pair.first) (lists_of c.args.pair.third))) c.from_residual.result
     c.in_err-numbering.field-0.0 c.from_residual.ensures.1
-    (unused_third wish c.args.cut.now.plan (network c.with_floor-higher.result) c.args.asked c.args.pair.first
+    (unused_third wish c.args.cut.now.plan higher c.args.terms.settings c.args.pair.first
     c.args.pair.third c.in_err-numbering.field-0.0
     (c.requires.doubling wish for)
-    (third_net c.args.cut.now.plan c.args.asked.settings (network c.args.net) (network c.with_floor-higher.result) for
-    (has_floors (network c.args.net) 3 (network c.with_floor-higher.result) c.with_floor-higher.ensures))
+    (third_net c.args.cut.now.plan c.args.terms.settings (network c.args.net) higher for
+    (has_floors (network c.args.net) 3 higher c.with_floor-higher.ensures))
     c.in_err-numbering.ensures.refused)
 
 pub returns-clause-checked : goal.returns-clause-checked
 returns-clause-checked c wish for =
-    checked_third wish c.args.cut.now.plan (network c.args.net) (network c.with_floor-higher.result) c.args.asked
+    let higher = network c.with_floor-higher.result in
+    let has = has_floors (network c.args.net) 3 higher c.with_floor-higher.ensures in
+    checked_third wish c.args.cut.now.plan (network c.args.net) higher c.args.terms
     c.args.pair.first c.args.pair.third
     c.in-Whole.numbering c.in-Whole.deviation c.requires.reach.2 (c.requires.doubling wish for)
-    (third_net c.args.cut.now.plan c.args.asked.settings (network c.args.net) (network c.with_floor-higher.result) for
-    (has_floors (network c.args.net) 3 (network c.with_floor-higher.result) c.with_floor-higher.ensures))
-    (has_floors (network c.args.net) 3 (network c.with_floor-higher.result) c.with_floor-higher.ensures)
+    (third_net c.args.cut.now.plan c.args.terms.settings (network c.args.net) higher for has) has
     c.in_ok-numbering.ensures.solved
-    (subst (Gives c.args.cut.now.plan (network c.with_floor-higher.result) c.args.pair.third.x.items) c.in-Whole.is
-    c.in_ok-numbering.ensures.gives)
+    (subst (Gives c.args.cut.now.plan higher c.args.pair.third.x.items) c.in-Whole.is c.in_ok-numbering.ensures.gives)
 
 pub unreachable-requires : goal.unreachable-requires
 unreachable-requires c =

@@ -72,12 +72,12 @@ returns-clause-ready c command is =
         laid_out =
             laid_for command c.args.line.now c.args.text.now c.args.least.now point cut asides (old_is at) (cut_is at)
             (record {
-              asked = c.asked_of.result;
+              terms = c.terms_of.result;
               head = c.in_ok-head.head;
               marks = c.in_ok-asides.asides.kept;
               shares = c.in_ok-shares.shares;
             })
-            c.asked_of.ensures c.in_ok-head.ensures refl
+            c.terms_of.ensures c.in_ok-head.ensures refl
             (λ marks full laid. c.in_ok-shares.ensures marks full laid
             ∙ ap (λ ws. shares_of fit cut.soup ws marks) c.deref-2.ensures.value);
         net =

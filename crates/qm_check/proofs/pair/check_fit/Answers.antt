@@ -1,13 +1,14 @@
-use Rattle.std.proofs.Common.{◌≡◌, Some, sym, ◌∙◌, ap, subst}
+use Rattle.std.proofs.Common.{◌≡◌, sym, ◌∙◌, ap, subst}
 use Rattle.std.proofs.lemmas.Option.{none-some, same_Some}
 use Rattle.error_laws.proofs.Errors.{handed}
+use Rattle.def_certtext.specs.Risings.{rounds_if}
 use Rattle.def_fit.specs.declared.fit.Fit.{Fit as AnyFit}
 use Rattle.def_io.specs.{Bytes.Bytes, Lines.tail_of}
 use Rattle.def_run.specs.{MapFails.IsMapFail, MarkLines.front_of, MarkLines.IsMarkLine}
 use Rattle.def_run.specs.{declared.command.Command.Command, declared.command.Command.TheVariants.Fit}
 use Rattle.qm_check.proofs.{Fits.counted_fit, Fits.few_found, Fits.only_fit, Maps.no_command, Maps.no_front}
 use Rattle.qm_check.proofs.pair.check_fit.Goals.{In-Some, In_ok-finished}
-use Rattle.qm_check.specs.{Least.fixed, Least.least_of, Making.IsFound, Making.IsGivenTo, Ready.IsNoOld, Ready.IsOld}
+use Rattle.qm_check.specs.{Least.least_of, Making.IsFound, Making.IsGivenTo, Ready.IsNoOld, Ready.IsOld}
 use Rattle.qm_check.proofs.pair.check_fit.Goals as goal
 
 pub returns-in_err-old-clause-refused : goal.returns-in_err-old-clause-refused
@@ -53,7 +54,8 @@ found c is fit same =
 pub unreachable-requires : goal.unreachable-requires
 unreachable-requires c =
     let fit = asked (goal.at.unreachable-requires c).In-Some in
-    none-some (fixed fit.0) (sym c.in_default-least_of.is ∙ (c.least_of.ensures ∙ ap least_of fit.1))
+    none-some (record { fit = fit.0; rising = rounds_if fit.0.auto })
+    (sym c.in_default-least_of.is ∙ (c.least_of.ensures ∙ ap least_of fit.1))
 
 pub told_of-requires : goal.told_of-requires
 told_of-requires c =

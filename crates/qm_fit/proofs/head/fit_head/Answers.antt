@@ -1,7 +1,6 @@
 use Rattle.std.proofs.Common.{◌++◌, ◌∷◌, [], codes, ap, ◌∙◌}
-use Rattle.std.specs.Prelude.{decimal}
-use Rattle.def_certtext.specs.Settings.{weight_text}
-use Rattle.def_fit.specs.FitWords.{aim_text, keep_word, patches_word, spacing_word}
+use Rattle.def_certtext.specs.Settings.{floor_text, weight_text}
+use Rattle.def_fit.specs.FitWords.{aim_text, spacing_word}
 use Rattle.def_text.specs.Types.{Word}
 use Rattle.qm_fit.proofs.head.fit_head.Goals as goal
 
@@ -18,7 +17,8 @@ returns c =
     let third = c.in_ok-extend_from_slice-5.ensures.items ∙ ap (λ (t : Word). t ++ codes " aim ") cut in
     let aim = c.in_ok-push_aim.ensures ∙ ap (λ (t : Word). t ++ aim_text fit.aim) third in
     let least = c.in_ok-push_least.ensures
-    ∙ ap (λ (t : Word). t ++ codes " floor " ++ decimal fit.floor ++ codes " weight " ++ weight_text fit.weight) aim in
+    ∙ ap (λ (t : Word). t ++ codes " floor " ++ floor_text fit.floor fit.auto ++ codes " weight "
+    ++ weight_text fit.weight) aim in
     let spacing = c.in_ok-push_spacing.ensures
     ∙ ap (λ (t : Word). t ++ codes " spacing " ++ spacing_word fit.spacing) least in
     c.in_ok-push.ensures.items ∙ ap (λ (t : Word). t ++ 10 ∷ []) spacing

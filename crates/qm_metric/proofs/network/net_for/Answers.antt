@@ -1,5 +1,6 @@
 use Rattle.std.proofs.Common.{◌≡◌, ◌-◌, ◌<◌, ◌^◌, ℕ, List, length, map, sym, ap, ◌∙◌, subst, arith}
 use Rattle.std.specs.{Prelude.min, List.All}
+use Rattle.def_certtext.specs.Risings.{rounds_if}
 use Rattle.def_fit.specs.Aims.{fit_settings}
 use Rattle.def_flow.specs.{Network.network, declared.net.Settings.Settings}
 use Rattle.def_layout.specs.{Arcs.long_at, Plans.layout_of, Plans.plan, declared.tmesh.TArc.TArc}
@@ -27,7 +28,7 @@ returns-in_err-net-clause-refused c =
     handed _ _ (metric_fail_of c.in_err-net.field-0.0) c.from_residual.ensures.1
     (no_net c.args.fit.now.aim c.args.cut.now.soup c.args.wishes.now c.layout-layout.result.now c.args.cut.now.plan
     c.layout-layout.ensures.plan
-    (fit_settings c.args.fit.now) c.layout-layout.ensures.laid.0 c.in_err-net.field-0.0
+    (fit_settings c.args.fit.now) c.layout-layout.ensures.laid.0 (rounds_if c.args.fit.now.auto) c.in_err-net.field-0.0
     (subst
     (λ (s : Settings). HasNoNet (layout_of (plan c.layout-layout.result.now))
     (long_at (plan c.layout-layout.result.now).arcs)
@@ -83,7 +84,7 @@ returns-then-sums-from-clause-refused c =
     far c.args.fit.now.aim c.args.cut.now.soup c.args.wishes.now c.layout-layout.result.now c.args.cut.now.plan
     c.layout-layout.ensures.plan
     (fit_settings c.args.fit.now) c.layout-layout.ensures.laid.0 (network c.in_ok-net.net) (old_net at)
-    c.in_ok-net.ensures.small c.in_ok-sums.sums.sum (told at)
+    c.in_ok-net.ensures.small (rounds_if c.args.fit.now.auto) c.in_ok-sums.sums.sum (told at)
     (omega (arith, c.if-sums-from.true, c.from.ensures))
 
 pub returns-clause-near : goal.returns-clause-near
@@ -103,7 +104,7 @@ returns-clause-net c =
     (fit_settings c.args.fit.now) c.layout-layout.ensures.laid.0 (network c.in_ok-net.net) (old_net at)
     c.in_ok-net.ensures.small c.in_ok-sums.sums.sum (told at)
     (omega (arith, c.if-sums-from.false, c.from.ensures)) (network c.with_wishes.result) c.deref-2.result.now
-    c.requires.fit.low c.in_ok-net.ensures.bounds
+    c.requires.fit.floor.low c.in_ok-net.ensures.bounds
     (c.deref-2.ensures.value ∙ c.in_ok-sums.ensures.wishes
     ∙ ap (map (λ (run : TArc). min (wish_along c.args.fit.now.aim c.args.cut.now.soup c.args.wishes.now run.darts.items)
     (2 ^ 32 - 1))) c.deref.ensures.value)

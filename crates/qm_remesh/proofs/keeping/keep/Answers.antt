@@ -12,17 +12,17 @@ net_of-requires-clause-layout c = subst IsSomeLayout (sym c.layout.ensures.plan)
 pub returns-in-Err-Tangled-clause-refused : goal.returns-in-Err-Tangled-clause-refused
 returns-in-Err-Tangled-clause-refused c =
     let layout = plan c.layout.result.now in
-    subst (λ (n : ℕ). IsTangledAt old_lengths c.args.cut.now.plan c.args.asked.settings n)
+    subst (λ (n : ℕ). IsTangledAt old_lengths c.args.cut.now.plan c.args.terms.settings n)
     (sym c.in-Err-Tangled.count-is)
-    (subst (λ (p : Plan). IsTangledAt old_lengths p c.args.asked.settings c.in-Err-Tangled.count) c.layout.ensures.plan
-    (subst (HasNoNet (layout_of layout) (long_at layout.arcs) (long_at layout.arcs) c.args.asked.settings)
+    (subst (λ (p : Plan). IsTangledAt old_lengths p c.args.terms.settings c.in-Err-Tangled.count) c.layout.ensures.plan
+    (subst (HasNoNet (layout_of layout) (long_at layout.arcs) (long_at layout.arcs) c.args.terms.settings)
     c.in-Err-Tangled.field-0-is c.in-Err-Tangled.ensures.tangled))
 
-net : (c : In-Ok) → IsNetFor old_lengths c.args.cut.now.plan c.args.asked.settings (network c.in-Ok.net)
+net : (c : In-Ok) → IsNetFor old_lengths c.args.cut.now.plan c.args.terms.settings (network c.in-Ok.net)
 net c =
     net_for _ _ _ _ c.layout.ensures.laid.0 c.requires.settings
-    (subst (λ (p : Plan). IsNetOf (layout_of p) (long_at p.arcs) (long_at p.arcs) c.args.asked.settings
-    (λ a. c.args.asked.settings.floor) (network c.in-Ok.net)) c.layout.ensures.plan c.in-Ok.ensures.net)
+    (subst (λ (p : Plan). IsNetOf (layout_of p) (long_at p.arcs) (long_at p.arcs) c.args.terms.settings
+    (λ a. c.args.terms.settings.floor) (network c.in-Ok.net)) c.layout.ensures.plan c.in-Ok.ensures.net)
     c.in-Ok.ensures.bounds c.in-Ok.ensures.small
 
 pub keep_solved-requires-clause-net : goal.keep_solved-requires-clause-net

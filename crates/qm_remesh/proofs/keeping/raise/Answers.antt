@@ -37,9 +37,11 @@ pub returns-in-Ok-clause-kept : goal.returns-in-Ok-clause-kept
 returns-in-Ok-clause-kept c = λ wish for.
     keeps_third _ _ c.args.first c.in_ok-cert.cert _ _ c.deref.ensures.value (
       refl,
-      solved _ c.args.settings (network c.args.net) c.args.first for c.requires.solved,
-      c.requires.coarse,
-      c.requires.doubled,
+      record {
+        fit = solved _ c.args.settings (network c.args.net) c.args.first for c.requires.solved;
+        coarse = c.requires.coarse;
+        doubled = c.requires.doubled;
+      },
       solved _ c.args.settings (network c.with_floor-raised.result) c.in_ok-cert.cert
           (third_net _ c.args.settings (network c.args.net) (network c.with_floor-raised.result) for
           (has_floors (network c.args.net) 3 (network c.with_floor-raised.result) c.with_floor-raised.ensures))
@@ -56,9 +58,11 @@ pub returns-in-Err-TooFine-clause-refused : goal.returns-in-Err-TooFine-clause-r
 returns-in-Err-TooFine-clause-refused c = λ wish for. (
   (
     refl,
-    solved _ c.args.settings (network c.args.net) c.args.first for c.requires.solved,
-    c.requires.coarse,
-    c.requires.doubled,
+    record {
+      fit = solved _ c.args.settings (network c.args.net) c.args.first for c.requires.solved;
+      coarse = c.requires.coarse;
+      doubled = c.requires.doubled;
+    },
     solved _ c.args.settings (network c.with_floor-raised.result) c.in_ok-cert.cert
         (third_net _ c.args.settings (network c.args.net) (network c.with_floor-raised.result) for
         (has_floors (network c.args.net) 3 (network c.with_floor-raised.result) c.with_floor-raised.ensures))

@@ -1,5 +1,6 @@
-use Rattle.std.proofs.Common.{None, Ok, false, ap, sym, ◌∙◌, refl, subst}
+use Rattle.std.proofs.Common.{None, Ok, ap, sym, ◌∙◌, refl, subst}
 use Rattle.error_laws.proofs.Errors.{handed}
+use Rattle.def_certtext.specs.declared.certs.Rising.TheVariants.{Never}
 use Rattle.def_feature.specs.Marks.{AreMarks}
 use Rattle.def_remesh.specs.Tasks.{old_lengths}
 use Rattle.def_run.specs.Crease.{AsksToCrease}
@@ -15,13 +16,13 @@ chosen_cut-requires g c = subst (AreMarks c.args.read.faces) (sym c.as_slice.ens
 pub lines_between-requires : goal.lines_between-requires
 lines_between-requires g c =
     kept_for old_lengths c.in_ok-cut.cut.plan c.in_ok-remesh.remesh
-    (record { settings = c.args.settings; auto = false }) c.in_ok-remesh.ensures.asked
+    (record { settings = c.args.settings; rising = Never }) c.in_ok-remesh.ensures.terms
     c.in_ok-remesh.ensures.kept
 
 pub write_framed-requires : goal.write_framed-requires
 write_framed-requires g c =
     kept_for old_lengths c.in_ok-cut.cut.plan c.in_ok-remesh.remesh
-    (record { settings = c.args.settings; auto = false }) c.in_ok-remesh.ensures.asked
+    (record { settings = c.args.settings; rising = Never }) c.in_ok-remesh.ensures.terms
     c.in_ok-remesh.ensures.kept
 
 pub returns-in_err-remesh-clause-refused : goal.returns-in_err-remesh-clause-refused
@@ -58,7 +59,7 @@ returns-in_err-write_framed-clause-refused g c bytes said =
     (creased_shown c.args.settings bytes c.args.read cut c.as_slice.result.now c.in_ok-cut.ensures.soup
     (said ∙ ap Ok (sym c.as_slice.ensures.value))
     (chosen_marked c.in_ok-cut.cut.soup.faces c.as_slice.result.now c.in_ok-cut.cut.plan c.in_ok-cut.ensures.chosen)
-    framed kept.laid kept.asked kept.kept c.in_ok-head.ensures c.in_ok-between.ensures refl)
+    framed kept.laid kept.terms kept.kept c.in_ok-head.ensures c.in_ok-between.ensures refl)
     tt failed.ensures.prefix failed.ensures.fault failed.ensures.untouched)
 
 pub returns-clause-done : goal.returns-clause-done
@@ -76,7 +77,7 @@ returns-clause-done g c bytes said =
       said = creased_shown c.args.settings bytes c.args.read cut c.as_slice.result.now c.in_ok-cut.ensures.soup
           (said ∙ ap Ok (sym c.as_slice.ensures.value))
           (chosen_marked c.in_ok-cut.cut.soup.faces c.as_slice.result.now c.in_ok-cut.cut.plan
-          c.in_ok-cut.ensures.chosen) framed kept.laid kept.asked kept.kept c.in_ok-head.ensures
+          c.in_ok-cut.ensures.chosen) framed kept.laid kept.terms kept.kept c.in_ok-head.ensures
           c.in_ok-between.ensures refl;
       written = c.in_ok-write_framed.ensures.whole;
     }

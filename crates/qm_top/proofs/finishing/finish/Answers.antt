@@ -9,7 +9,7 @@ use Rattle.qm_top.proofs.finishing.finish.Goals as goal
 
 pub write_framed-requires : goal.write_framed-requires
 write_framed-requires g c =
-    kept_for old_lengths c.args.cut.plan c.in_ok-remesh.remesh c.args.headed.asked c.in_ok-remesh.ensures.asked
+    kept_for old_lengths c.args.cut.plan c.in_ok-remesh.remesh c.args.headed.terms c.in_ok-remesh.ensures.terms
     c.in_ok-remesh.ensures.kept
 
 pub returns-in_err-remesh-clause-refused : goal.returns-in_err-remesh-clause-refused
@@ -24,14 +24,14 @@ returns-in_err-write_framed-clause-refused g c = λ marks head on is.
       remesh = c.in_ok-remesh.remesh;
       shares = None;
     } in
-    let task = headed_task c.args.headed.asked marks head in
+    let task = headed_task c.args.headed.terms marks head in
     let failed = c.in_err-write_framed in
     handed _ _ (refusal_of_put failed.field-0.0) c.from_residual-in_err-write_framed.ensures.1
     (put_refused (ShowsTask task c.args.cut.soup) (IsOfLayout (FailsTask task c.args.cut.soup)) _
     (framed_text framed c.args.cut.soup c.args.cut.plan)
     failed.field-0.0
-    (framed_shown task framed c.args.headed.asked c.args.cut.soup c.args.cut.plan c.in_ok-remesh.ensures.laid on
-    c.in_ok-remesh.ensures.asked refl refl c.in_ok-remesh.ensures.kept is c.new.ensures.items refl)
+    (framed_shown task framed c.args.headed.terms c.args.cut.soup c.args.cut.plan c.in_ok-remesh.ensures.laid on
+    c.in_ok-remesh.ensures.terms refl refl c.in_ok-remesh.ensures.kept is c.new.ensures.items refl)
     tt failed.ensures.prefix failed.ensures.fault failed.ensures.untouched)
 
 pub returns-clause-done : goal.returns-clause-done
@@ -44,8 +44,8 @@ returns-clause-done g c = λ marks head on is.
     } in
     record {
       text = framed_text framed c.args.cut.soup c.args.cut.plan;
-      said = framed_shown (headed_task c.args.headed.asked marks head) framed c.args.headed.asked c.args.cut.soup
+      said = framed_shown (headed_task c.args.headed.terms marks head) framed c.args.headed.terms c.args.cut.soup
           c.args.cut.plan c.in_ok-remesh.ensures.laid on
-          c.in_ok-remesh.ensures.asked refl refl c.in_ok-remesh.ensures.kept is c.new.ensures.items refl;
+          c.in_ok-remesh.ensures.terms refl refl c.in_ok-remesh.ensures.kept is c.new.ensures.items refl;
       written = c.in_ok-write_framed.ensures.whole;
     }

@@ -1,14 +1,12 @@
-use Rattle.std.proofs.Common.{◌≡◌, Ok, false, Bool, List, ap, sym, ◌∙◌, refl, subst, length}
+use Rattle.std.proofs.Common.{◌≡◌, Ok, Bool, List, ap, sym, ◌∙◌, refl, subst}
 use Rattle.std.specs.Prelude.{option_copied}
 use Rattle.error_laws.proofs.Errors.{handed}
+use Rattle.def_certtext.specs.Risings.{rounds_if}
 use Rattle.def_cut.specs.FullCut.{IsFullCut}
-use Rattle.def_fit.specs.{Aims.aimed, Aims.fit_settings, FitTasks.asides_in, FitTasks.Asides, Shares.shares_of}
-use Rattle.def_io.specs.Bytes.{Bytes}
+use Rattle.def_fit.specs.{Aims.aimed, Aims.fit_settings, FitTasks.Asides, Shares.shares_of}
 use Rattle.def_layout.specs.FaceLayouts.{IsCutLayout}
-use Rattle.def_mesh.specs.Darts.{darts}
 use Rattle.def_patches.specs.Chosen.{AreKeptMarks}
 use Rattle.def_run.specs.Fit.{AsksForNearFit, AsksToFit}
-use Rattle.def_text.specs.FaceSet.{FaceSet}
 use Rattle.qm_write.specs.{Framing.framed_text, declared.text.Framed.Framed}
 use Rattle.qm_asides.specs.Beside.{asides_of}
 use Rattle.qm_top.proofs.{Fits.asides_by_parts, Fits.fit_fails, Fits.fit_shown, Framed.kept_for, Framed.put_refused}
@@ -20,15 +18,15 @@ pub lines_between-requires : goal.lines_between-requires
 lines_between-requires g c =
     kept_for (aimed c.args.fit.now.aim c.in_ok-cut.cut.soup c.deref.result.now) c.in_ok-cut.cut.plan
     c.in_ok-remesh.remesh
-    (record { settings = fit_settings c.args.fit.now; auto = false }) c.in_ok-remesh.ensures.asked
-    c.in_ok-remesh.ensures.kept
+    (record { settings = fit_settings c.args.fit.now; rising = rounds_if c.args.fit.now.auto })
+    c.in_ok-remesh.ensures.terms c.in_ok-remesh.ensures.kept
 
 pub write_framed-requires : goal.write_framed-requires
 write_framed-requires g c =
     kept_for (aimed c.args.fit.now.aim c.in_ok-cut.cut.soup c.deref.result.now) c.in_ok-cut.cut.plan
     c.in_ok-remesh.remesh
-    (record { settings = fit_settings c.args.fit.now; auto = false }) c.in_ok-remesh.ensures.asked
-    c.in_ok-remesh.ensures.kept
+    (record { settings = fit_settings c.args.fit.now; rising = rounds_if c.args.fit.now.auto })
+    c.in_ok-remesh.ensures.terms c.in_ok-remesh.ensures.kept
 
 pub returns-in_err-remesh-clause-refused : goal.returns-in_err-remesh-clause-refused
 returns-in_err-remesh-clause-refused g c bytes said =
@@ -82,7 +80,7 @@ returns-in_err-write_framed-clause-refused g c bytes said =
     (fit_shown fit bytes c.args.read cut asides made.soup (said ∙ ap Ok parts)
     (subst (AreKeptMarks c.args.read.faces) (sym c.as_deref-kept.ensures.value) c.requires.marks) made.laid made.chosen
     framed kept.near
-    kept.asked kept.kept c.in_ok-head.ensures c.in_ok-between.ensures shares)
+    kept.terms kept.kept c.in_ok-head.ensures c.in_ok-between.ensures shares)
     tt failed.ensures.prefix failed.ensures.fault failed.ensures.untouched)
 
 pub returns-clause-done : goal.returns-clause-done
@@ -108,6 +106,6 @@ returns-clause-done g c bytes said =
       said = fit_shown fit bytes c.args.read cut asides made.soup (said ∙ ap Ok parts)
           (subst (AreKeptMarks c.args.read.faces) (sym c.as_deref-kept.ensures.value) c.requires.marks) made.laid
           made.chosen framed kept.near
-          kept.asked kept.kept c.in_ok-head.ensures c.in_ok-between.ensures shares;
+          kept.terms kept.kept c.in_ok-head.ensures c.in_ok-between.ensures shares;
       written = c.in_ok-write_framed.ensures.whole;
     }

@@ -1,5 +1,6 @@
-use Rattle.std.proofs.Common.{None, false, refl}
+use Rattle.std.proofs.Common.{None, refl}
 use Rattle.error_laws.proofs.Errors.{handed}
+use Rattle.def_certtext.specs.declared.certs.Rising.TheVariants.{Never}
 use Rattle.def_fit.specs.declared.fit.Aim.TheVariants.{Edge}
 use Rattle.def_metric.specs.Targets.{edge_settings}
 use Rattle.def_run.specs.Size.{size_task, soup_targets, AsksForNearSize, AsksForSize}
@@ -13,7 +14,7 @@ use Rattle.qm_top.proofs.size.size_mesh.Goals as goal
 pub write_framed-requires : goal.write_framed-requires
 write_framed-requires g c =
     kept_for (soup_targets c.args.edge c.in_ok-cut.cut.soup) c.in_ok-cut.cut.plan c.in_ok-remesh.remesh
-    (record { settings = edge_settings c.args.floor; auto = false }) c.in_ok-remesh.ensures.asked
+    (record { settings = edge_settings c.args.floor; rising = Never }) c.in_ok-remesh.ensures.terms
     c.in_ok-remesh.ensures.kept
 
 pub returns-in_err-remesh-clause-refused : goal.returns-in_err-remesh-clause-refused
@@ -24,7 +25,7 @@ returns-in_err-remesh-clause-refused g c bytes =
     (aimed_fails (Edge c.args.edge) (AsksForSize c.args.edge c.args.floor) (AsksForNearSize c.args.edge c.args.floor)
     bytes c.args.read cut made.soup
     (size_task c.args.edge c.args.floor cut.soup) refl made.traced
-    (size_near c.args.edge c.args.floor bytes cut made.laid made.traced) refl _ _ refl
+    (size_near c.args.edge c.args.floor bytes cut made.laid made.traced) _ _ refl
     c.in_err-remesh.field-0.0
     (size_fail_as c.args.edge (soup_targets c.args.edge cut.soup) cut.plan c.args.floor c.in_err-remesh.field-0.0
     c.in_err-remesh.ensures.refused))
@@ -52,7 +53,7 @@ returns-in_err-write_framed-clause-refused g c bytes =
     (framed_text framed cut.soup cut.plan) failed.field-0.0
     (aimed_shown (Edge c.args.edge) asks near bytes c.args.read cut made.soup
     (size_task c.args.edge c.args.floor cut.soup) refl made.traced
-    (size_near c.args.edge c.args.floor bytes cut made.laid made.traced) framed made.laid kept.near kept.asked kept.kept
+    (size_near c.args.edge c.args.floor bytes cut made.laid made.traced) framed made.laid kept.near kept.terms kept.kept
     c.in_ok-head.ensures c.new.ensures.items refl)
     tt failed.ensures.prefix failed.ensures.fault failed.ensures.untouched)
 
@@ -73,6 +74,6 @@ returns-clause-done g c bytes =
           (AsksForNearSize c.args.edge c.args.floor) bytes c.args.read cut made.soup
           (size_task c.args.edge c.args.floor cut.soup) refl made.traced
           (size_near c.args.edge c.args.floor bytes cut made.laid made.traced) framed made.laid
-          kept.near kept.asked kept.kept c.in_ok-head.ensures c.new.ensures.items refl;
+          kept.near kept.terms kept.kept c.in_ok-head.ensures c.new.ensures.items refl;
       written = c.in_ok-write_framed.ensures.whole;
     }

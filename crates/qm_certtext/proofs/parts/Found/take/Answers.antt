@@ -1,25 +1,41 @@
-use Rattle.std.proofs.Common.{Some, sym, ap, subst, refl}
-use Rattle.qm_certtext.specs.{Parts.Holds, declared.parts.Parts.Parts}
-use Rattle.qm_certtext.proofs.Holding.{starts, starts_not, takes_ok, takes_third}
+use Rattle.std.proofs.Common.{◌≡◌, Some, sym, ap, subst, refl}
+use Rattle.std.proofs.lemmas.Bool.{false≢true}
+use Rattle.def_certtext.specs.declared.certs.Rising.TheVariants.{Rounds}
+use Rattle.qm_certtext.specs.{Parts.Holds, declared.parts.Found.Found, declared.parts.Parts.Parts}
+use Rattle.qm_certtext.proofs.Holding.{added_ok, starts, starts_not, takes_both, takes_other, takes_third}
 use Rattle.qm_certtext.proofs.parts.Found.take.Goals as goal
 
 pub returns-then-starts_third : goal.returns-then-starts_third
 returns-then-starts_third c =
+    let other : c.args.rising ≡ Rounds → ⊥ = λ is. false≢true (rw is at c.if-eq.ensures) in
+    let new : Found = record {
+      first = Some c.replace.result;
+      rounds = c.args.self.now.rounds;
+      last = c.replace.new.dest;
+      rises = c.args.self.now.rises;
+    } in
     let both = starts c.args.self.now.first c.args.line (sym c.if-starts_third.ensures) in
-    takes_third c.args.self.now (record { first = Some c.replace.result; last = c.replace.new.dest }) c.args.line both.0
-    both.1
-    (ap (λ (p : Parts). Some p) c.replace.ensures.value)
+    takes_both c.args.rising c.args.self.now new c.args.line other
+    (takes_third c.args.self.now new c.args.line both.0 both.1 (ap (λ (p : Parts). Some p) c.replace.ensures.value)
     (subst (λ (p : Parts). Holds p _) (sym c.replace.ensures.after) (record {
       lengths = c.new.ensures.lengths;
       vertices = c.new.ensures.vertices.0;
       vertex_ups = c.new.ensures.vertices.1;
       sets = c.new.ensures.sets.0;
       set_ups = c.new.ensures.sets.1;
-    }))
+    })))
 
 pub returns : goal.returns
 returns c =
-    takes_ok c.take.result c.args.self.now (record { first = c.args.self.now.first; last = c.take.new.self })
-    c.args.line
-    (starts_not c.args.self.now.first c.args.line (sym c.if-starts_third.ensures)) refl
-    c.take.ensures.lengths c.take.ensures.vertices c.take.ensures.vertex_ups c.take.ensures.sets c.take.ensures.set_ups
+    let other : c.args.rising ≡ Rounds → ⊥ = λ is. false≢true (rw is at c.if-eq.ensures) in
+    let new : Found = record {
+      first = c.args.self.now.first;
+      rounds = c.args.self.now.rounds;
+      last = c.take.new.self;
+      rises = c.args.self.now.rises;
+    } in
+    added_ok c.take.result c.args.self.now.last c.take.new.self c.args.line c.take.ensures.lengths
+    c.take.ensures.vertices c.take.ensures.vertex_ups c.take.ensures.sets c.take.ensures.set_ups
+    (λ adds. takes_both c.args.rising c.args.self.now new c.args.line other
+    (takes_other c.args.self.now new c.args.line
+    (starts_not c.args.self.now.first c.args.line (sym c.if-starts_third.ensures)) refl adds))

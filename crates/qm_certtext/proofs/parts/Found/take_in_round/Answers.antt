@@ -1,0 +1,18 @@
+use Rattle.std.proofs.Common.{refl}
+use Rattle.qm_certtext.specs.declared.parts.Found.{Found}
+use Rattle.qm_certtext.proofs.{Ending.no_rise_line, Ending.takes_plain, Holding.added_ok}
+use Rattle.qm_certtext.proofs.parts.Found.take_in_round.Goals as goal
+
+pub returns : goal.returns
+returns c =
+    let ended = c.end_round.new.self in
+    let new : Found = record {
+      first = ended.first;
+      rounds = ended.rounds;
+      last = c.take.new.self;
+      rises = ended.rises;
+    } in
+    added_ok c.take.result ended.last c.take.new.self c.args.line c.take.ensures.lengths c.take.ensures.vertices
+    c.take.ensures.vertex_ups c.take.ensures.sets c.take.ensures.set_ups
+    (λ adds. takes_plain c.args.self.now ended new c.args.line (no_rise_line c.args.line c.in_default.not-Rise)
+    c.in_ok-end_round.ensures refl refl adds)
