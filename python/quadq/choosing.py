@@ -5,9 +5,7 @@ from __future__ import annotations
 from dataclasses import dataclass, replace
 from fractions import Fraction
 from itertools import count
-from typing import Callable, Sequence
-
-import numpy as np
+from typing import Callable, Optional, Sequence
 
 from .arrays import Array
 from .layout import layout_of
@@ -15,8 +13,9 @@ from .local import NOWHERE, Local
 from .mesh import Mesh, join
 from .multiplying import Multiplying, met
 from .nearing import coarsest_within
-from .parts import Part, Workshop, certified_lengths
-from .program import FIT, RAISED, Wish
+from .notices import at_the_floor
+from .parts import Part, Workshop
+from .program import FIT, Wish
 from .quality import quality_of
 from .refusal import Refusal
 from .settings import Settings
@@ -83,10 +82,14 @@ class Chooser:
 
     def _as_is(self) -> Wish:
         """What settings wish of all arcs alike. Edges of one length are that along each arc, where the program can."""
-        wish = self.settings.wish(self.settings.scale)
+        wish = self._alike(self.settings.scale)
         if wish.edge is None or not self.shop.program.has_spacing():
             return wish
         return replace(wish, command=FIT, is_merged=self.settings.coarse, is_spaced=True)
+
+    def _alike(self, scale: Optional[Fraction]) -> Wish:
+        """What settings wish of all arcs alike; where floors may rise, in the way in which the fewest do."""
+        return self.shop.program.best(self.settings.wish(scale))
 
     @property
     def _is_told(self) -> bool:
@@ -144,17 +147,15 @@ class Chooser:
 
     def _by_scale(self, wished: int) -> Chosen:
         """The one scale for all parts that comes nearest to a number of faces."""
-        settings = self.settings
         tries = count(1)
 
         def count_at(scale: Fraction) -> Counted:
             self.begin(f"bisecting, try {next(tries)} of at most {MOST_TRIES}", len(self.parts))
-            _, texts = self.shop.remesh(self.parts, settings.wish(scale))
-            floor = max((certified_lengths(it)[0] for it in texts), default=1)
-            return Counted(self.halves * sum(it.count(b"\nf ") for it in texts), floor if floor >= RAISED else 1)
+            tried = Tried(*self.shop.remesh(self.parts, self._alike(scale)), self._alike(scale))
+            return Counted(self.halves * tried.faces, tried.floors)
 
         reached = nearest_scale(wished, self.halves * self.old.face_count, count_at)
-        return self._written(settings.wish(reached.scale), reached)
+        return self._written(self._alike(reached.scale), reached)
 
     def _by_shape(self, wished: int) -> Chosen:
         """Lengths by shape, or one scale for all, whichever comes out better."""
@@ -269,12 +270,9 @@ class Options:
             there = min(nearer, key=lambda it: (it[0].missed, it[0].inverted))
             return (f"a mesh of {halves * there[1].faces} would have {halves * there[0].inverted} inverted faces, and "
                     f"this one has {halves * worth.inverted}")
-        lengths = np.concatenate(tried.lengths)
-        floors = np.repeat(tried.floors, [len(it) for it in tried.lengths])
-        short = int(np.sum(lengths <= floors))
-        if tried.faces > self.wished and 2 * short > len(lengths):
-            twice = ", and with a lower one an edge would be there twice" if int(floors.max()) > 1 else ""
-            return f"{short} of {len(lengths)} arcs are as short as the floor {int(floors.max())}{twice}"
+        floors = tried.floors
+        if tried.faces > self.wished and 2 * floors.short > floors.arcs:
+            return at_the_floor(floors)
         return "no row of faces more or less brings it nearer"
 
 

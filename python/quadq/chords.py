@@ -37,8 +37,8 @@ class Chord:
 class Chords:
     """The chords through the arcs of a layout, for lengths that fit each other."""
 
-    def __init__(self, layout: Layout, lengths: Array, wished: Array, floor: int) -> None:
-        self.lengths, self.wished, self.floor = lengths, np.maximum(wished, 1e-9), floor
+    def __init__(self, layout: Layout, lengths: Array, wished: Array, floors: Array) -> None:
+        self.lengths, self.wished, self.floors = lengths, np.maximum(wished, 1e-9), floors
         self.arc_of_use = layout.cut.uses.tolist()
         self.side_of_use = layout.side_of_use.tolist()
         self.first = np.concatenate([[0], np.cumsum(layout.cut.uses_of_sides)]).tolist()
@@ -66,7 +66,7 @@ class Chords:
                 return None
             for it, _, way in other[0]:
                 change[it] += way
-        if np.any(self.lengths + change < np.minimum(self.floor, self.lengths)):
+        if np.any(self.lengths + change < np.minimum(self.floors, self.lengths)):
             return None
         return Chord(change, self._cost_of(change))
 
@@ -75,7 +75,7 @@ class Chords:
         return float(((after - before) / self.wished).sum() + START * np.abs(change).sum())
 
     def _may(self, arc: int, sign: int) -> bool:
-        return sign > 0 or bool(self.lengths[arc] > self.floor)
+        return sign > 0 or bool(self.lengths[arc] > self.floors[arc])
 
     def _step_cost(self, arc: int, sign: int) -> float:
         before, wished = self.lengths[arc], self.wished[arc]
@@ -133,9 +133,10 @@ def _path(state: State, before: dict[State, State], start: State) -> list[State]
     return path
 
 
-def chords_of(layout: Layout, lengths: Array, wished: Array, floor: int) -> list[Chord]:
-    """Chords through arcs all over a layout, each once, those of least cost first."""
-    finder = Chords(layout, lengths, wished, floor)
+def chords_of(layout: Layout, lengths: Array, wished: Array, floors: Array) -> list[Chord]:
+    """Chords through arcs all over a layout, each once, those of least cost first. No arc (arcs,) gets shorter than its
+    floor, or than it is."""
+    finder = Chords(layout, lengths, wished, floors)
     found: dict[bytes, Chord] = {}
     most = max(1, min(MOST, BUDGET // max(1, len(lengths))))
     for arc in range(0, len(lengths), max(1, -(-len(lengths) // most))):

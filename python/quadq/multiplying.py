@@ -144,8 +144,9 @@ def _changes(found: Tried, wished: float) -> Iterator[list[Array]]:
     are and how far they come from the wishes, then those that come nearer, the nearest first."""
     options: list[tuple[bool, float, float, int, Array]] = []
     gap = abs(found.faces - wished)
-    for place, (shape, now, first, floor) in enumerate(zip(found.shapes, found.lengths, found.wished, found.floors)):
-        chords = chords_of(shape.layout, now, first, floor)
+    for place, (shape, it, first) in enumerate(zip(found.shapes, found.certified, found.wished)):
+        now, floors = it.lengths, it.floors
+        chords = chords_of(shape.layout, now, first, floors)
         changes = np.array([it.change for it in chords], dtype=np.int64).reshape(-1, len(now))
         costs = np.array([it.cost for it in chords])
         wide = shape.layout.widths(changes.T).transpose(2, 0, 1) if len(chords) else np.zeros((0, 0, 2))
@@ -153,7 +154,7 @@ def _changes(found: Tried, wished: float) -> Iterator[list[Array]]:
         for some in _combinations(len(chords)):
             after = found.faces + (before + wide[some].sum(axis=1)).prod(axis=2).sum(axis=1) - before.prod(axis=1).sum()
             off = np.abs(after - wished)
-            for at in np.flatnonzero((off < gap) & _are_above(now, changes, some, floor)):
+            for at in np.flatnonzero((off < gap) & _are_above(now, changes, some, floors)):
                 is_met, cost = bool(off[at] <= NEAR * wished), float(costs[some[at]].sum())
                 rank = float(some.shape[1]) if is_met else float(off[at])
                 options.append((not is_met, rank, cost, place, changes[some[at]].sum(axis=0)))
@@ -161,9 +162,9 @@ def _changes(found: Tried, wished: float) -> Iterator[list[Array]]:
         yield [it + change if at == place else it for at, it in enumerate(found.lengths)]
 
 
-def _are_above(now: Array, changes: Array, some: Array, floor: int) -> Array:
-    """(combinations,) bool: with which changes together no length falls below the floor, or below what it is."""
-    return np.asarray(np.all(now + changes[some].sum(axis=1) >= np.minimum(now, floor), axis=1))
+def _are_above(now: Array, changes: Array, some: Array, floors: Array) -> Array:
+    """(combinations,) bool: with which changes together no length falls below its floor, or below what it is."""
+    return np.asarray(np.all(now + changes[some].sum(axis=1) >= np.minimum(now, floors), axis=1))
 
 
 def _combinations(count: int) -> Iterator[Array]:

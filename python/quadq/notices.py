@@ -5,6 +5,8 @@ from __future__ import annotations
 from dataclasses import dataclass
 from typing import TYPE_CHECKING, Iterator
 
+from .floors import Floors
+
 if TYPE_CHECKING:
     from .results import Report
 
@@ -37,6 +39,27 @@ def counted(count: int, thing: str, was: bool = False) -> str:
     return words + (" was" if count == 1 else " were") * was
 
 
+def why_raised(floors: Floors) -> str:
+    """Why arcs have a greater floor than 1 though none was asked for, and how many; nothing where none has."""
+    if not floors.raised:
+        return ""
+    whose = "all arcs have" if floors.raised == floors.arcs else f"{floors.raised} of {floors.arcs} arcs have"
+    return f"with the floor 1 an edge would be there twice, so {whose} a floor of up to {floors.greatest}"
+
+
+def why_no_shorter(floors: Floors) -> str:
+    """Why arcs are no shorter."""
+    if floors.raised:
+        return f"{why_raised(floors)}, and arcs cannot be shorter"
+    return f"arcs cannot be shorter than the floor {floors.greatest}"
+
+
+def at_the_floor(floors: Floors) -> str:
+    """How many arcs are as short as they can be, and why not shorter."""
+    why = why_raised(floors)
+    return f"{floors.short} of {floors.arcs} arcs are as short as the floor allows" + (f": {why}" if why else "")
+
+
 def notices_of(report: Report) -> tuple[Notice, ...]:
     """What there is to know of a remesh, the most important first."""
     return tuple([*_of_faces(report), *_of_quality(report), *_of_shape(report), *_of_losses(report)])
@@ -45,19 +68,15 @@ def notices_of(report: Report) -> tuple[Notice, ...]:
 def _of_faces(report: Report) -> Iterator[Notice]:
     """Whether the number of faces is what was wished."""
     after, ready, scale = report.after.faces, report.ready, report.scale
-    why = "arcs are as short as the floor"
-    if report.raised:
-        why = f"with the floor 1 an edge would be there twice, and with the floor 3 {why}"
     if report.wished is not None and report.because:
         yield Notice("faces", f"{after} faces in place of {report.wished}: {report.because}")
     is_fewer = (scale is not None and scale < 1) or (report.wished is not None and report.wished <= ready)
     if is_fewer and after > ready:
         yield Notice("more-faces", f"the mesh has more faces than before, {after} in place of {ready}, at scale "
-                     f"{scale}: {why}", after - ready)
+                     f"{scale}: {why_no_shorter(report.floors)}", after - ready)
     elif scale not in (None, 1) and not report.because and abs(after - ready) <= UNCHANGED * ready:
         yield Notice("unchanged", "the mesh is about as it was: its patches are hardly larger than a face, as in "
-                     f"voxels and in quads made of triangles; {report.arcs_at_floor} of {report.arcs} arcs are as "
-                     "short as the floor")
+                     f"voxels and in quads made of triangles; {at_the_floor(report.floors)}")
     edge, mean = report.edge, report.after.mean_edge
     if edge is not None and report.beyond is None and abs(mean / float(edge) - 1) > UNLIKE:
         yield Notice("edges", f"edges are {mean:.4g} long on average, and not {float(edge):.4g}: opposite sides of a "
@@ -74,7 +93,7 @@ def _of_faces(report: Report) -> Iterator[Notice]:
 def _of_quality(report: Report) -> Iterator[Notice]:
     """Whether the faces are worse than they were."""
     before, after = report.before.quality, report.after.quality
-    advice = "try --sharp 30 or more faces"
+    advice = "try more faces" if _keeps_sharp(report) else "try --sharp 30 or more faces"
     if after.inverted > before.inverted:
         first = f" (first: face {after.first_inverted + 1})" if after.first_inverted is not None else ""
         yield Notice("inverted", f"inverted faces: {after.inverted}, and {before.inverted} before{first}: {advice}",
@@ -87,17 +106,24 @@ def _of_quality(report: Report) -> Iterator[Notice]:
                      f"the least scaled Jacobian is {after.least:.3f}, and was {before.least:.3f}: {advice}")
 
 
+def _keeps_sharp(report: Report) -> bool:
+    """Whether all edges stay already that --sharp 30 keeps."""
+    return report.angle is not None and report.angle <= 30
+
+
 def _of_shape(report: Report) -> Iterator[Notice]:
     """Whether the shape is about as it was."""
     if report.before.irregular != report.after.irregular:
         yield Notice("irregular", "irregular points were lost or made")
     lost, sharp = report.sharp
     if lost:
-        yield Notice("sharp", f"{lost} of {sharp} sharp edges have no new edge along them: --sharp 30 keeps them", lost)
+        advice = "more faces bring their lines nearer" if _keeps_sharp(report) else "--sharp 30 keeps them"
+        yield Notice("sharp", f"{lost} of {sharp} sharp edges have no new edge along them: {advice}", lost)
     if report.diagonal and report.greatest_distance > FAR * report.diagonal:
         part = 100 * report.greatest_distance / report.diagonal
+        advice = "more faces bring" if _keeps_sharp(report) else "--sharp 30 or more faces bring"
         yield Notice("distance", f"the new mesh is up to {report.greatest_distance:.4g} from the old one, {part:.2g}% "
-                     "of its diagonal: --sharp 30 or more faces bring them nearer")
+                     f"of its diagonal: {advice} them nearer")
     for axis in report.mirrors:
         yield Notice("mirror", f"the mesh was its own mirror image along {axis}, and is not any more: --symmetry "
                      f"{axis} keeps that, where the mirror plane is at 0 and no face crosses it")

@@ -12,19 +12,18 @@ import numpy as np
 
 from .arrays import Array
 from .files import write_within
+from .floors import Certified, certified_lengths
 from .mesh import NONE, Mesh, Names, join
 from .obj_writing import number_lines, plain_text
 from .program import AUTO, DOUBLED, RAISED, Program, Verdict, Wish
 from .plain import written_mesh
-from .refusal import STRANGE, Refusal
+from .refusal import Refusal
 from .running import stop_all
 from .surface import number_in_order, part_of_face
 
 Tell = Callable[[int], None]
 """Is told how many parts are done."""
 NO_MARKS = np.zeros((0, 2), dtype=np.int64)
-HEAD = re.compile(rb"#quadq 1 (?:\w+ scale \S+|size edge \S+|fit keep \S+ patches \S+ aim \S+) floor (\S+)")
-"""The head line of a text that the program wrote, with its floor."""
 WISH = b"#w "
 """How a line begins that wishes the length of an edge."""
 LINE = re.compile(r"line (\d+): (.*)")
@@ -106,14 +105,12 @@ class Part:
 
 @dataclass(frozen=True)
 class Written:
-    """What the program wrote for a part, and what `check` said of it."""
+    """What the program wrote for a part, and what was found of it."""
 
     text: bytes
     verdict: Verdict
-    lengths: Array
-    """(arcs,) int64: the new length of each arc."""
-    floor: int
-    """The least length that these arcs could have: with the floor `auto`, the one that it chose."""
+    certified: Certified
+    """The lengths of its arcs, and the least that they could have."""
     command: str = "remesh"
     is_merged: bool = False
     """Whether patches were merged."""
@@ -123,8 +120,9 @@ class Written:
         return written_mesh(self.text)
 
     @property
-    def arcs_at_floor(self) -> int:
-        return int(np.sum(self.lengths == self.floor))
+    def lengths(self) -> Array:
+        """(arcs,) int64: the new length of each arc."""
+        return self.certified.lengths
 
 
 def split(mesh: Mesh, text: Optional[bytes] = None, marks: Array = NO_MARKS) -> list[Part]:
@@ -226,18 +224,17 @@ class Workshop:
     def _made(self, part: Part, wish: Wish) -> list[tuple[Part, bytes]]:
         if part.count == 1:
             return [(part, self.program.remesh(part.text, wish))]
-        floors = [1] if wish.floor == AUTO else [int(wish.floor)]
-        kinds: Optional[Array] = None
-        while floors:
-            try:
-                return [(part, self.program.remesh(part.text, wish.at_floor(floors.pop(0))))]
-            except Refusal as said:
-                if said.status not in DIVIDES:
-                    raise
-                kinds = part.kinds(wish.edge is not None) if kinds is None else kinds
-                if said.status == DOUBLED and wish.floor == AUTO and not floors and not kinds.max():
-                    wish, floors = wish.at_floor(RAISED), [RAISED]
-        assert kinds is not None
+        # Among many parts none gets a greater floor for the sake of another.
+        is_alike = wish.floor == AUTO and not self.program.is_by_need(wish)
+        try:
+            return [(part, self.program.remesh(part.text, wish.at_floor(1) if is_alike else wish))]
+        except Refusal as said:
+            if said.status not in DIVIDES:
+                raise
+            is_doubled = said.status == DOUBLED
+        kinds = part.kinds(wish.edge is not None)
+        if is_alike and is_doubled and not kinds.max():
+            return self._made(part, wish.at_floor(RAISED))
         names = kinds if kinds.max() else np.arange(part.count)
         is_first = names <= int(names.max()) // 2
         return [it for half in (is_first, ~is_first) for it in self._half(part.some(half), wish)]
@@ -259,19 +256,8 @@ class Workshop:
 
     def _judged(self, part: Part, text: bytes, wish: Wish) -> Written:
         verdict = self.program.judge(part.text, text, wish)
-        floor, lengths = certified_lengths(text)
-        return Written(text, verdict, lengths, floor, wish.command, wish.command == "coarse" or wish.is_merged)
-
-
-def certified_lengths(text: bytes) -> tuple[int, Array]:
-    """The floor and the lengths of the arcs, as the last certificate of a written text has them."""
-    head = HEAD.match(text)
-    if head is None:
-        raise Refusal(STRANGE, "what the program wrote is no remesh")
-    named = text.rfind(b"\n#f ")
-    floor = head[1] if head[1] != b"auto" else text[named:named + 10].split()[1]
-    lengths = re.findall(rb"^#x (\d+)$", text[max(named, 0):], re.M)
-    return int(floor), np.array(lengths, dtype=np.int64)
+        is_merged = wish.command == "coarse" or wish.is_merged
+        return Written(text, verdict, certified_lengths(text), wish.command, is_merged)
 
 
 def put_together(parts: list[Part], meshes: list[Mesh]) -> Mesh:

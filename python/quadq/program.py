@@ -12,6 +12,7 @@ from fractions import Fraction
 from pathlib import Path
 from typing import Optional, Sequence, Union
 
+from .floors import certified_lengths
 from .refusal import STRANGE, Refusal
 from .running import Halt, refuse_time, run_program
 
@@ -21,6 +22,8 @@ LARGEST = 1000
 
 FIT = "fit"
 """The command that takes all wishes together."""
+SIGNALLED = 128
+"""From this status on a program was ended by a signal: it has answered nothing."""
 AUTO = "auto"
 RAISED = 3
 """The floor that never doubles an edge."""
@@ -60,8 +63,18 @@ class Wish:
         """How new points stand along the arcs: `even` or `wished`."""
         return "wished" if self.is_spaced and self.command == FIT else "even"
 
+    @property
+    def is_scaled(self) -> bool:
+        """Whether old lengths are wished, times the scale."""
+        return self.edge is None and not self.has_lines
+
     def at_floor(self, floor: int) -> Wish:
         return replace(self, floor=floor)
+
+    def as_fit(self) -> Wish:
+        """The same as a wish of `fit`."""
+        return replace(self, command=FIT, keeps=self.keeps or self.command == "crease",
+                       is_merged=self.is_merged or self.command == "coarse")
 
     def words(self, floor: Union[int, str]) -> list[str]:
         if self.command == FIT:
@@ -81,7 +94,8 @@ class Wish:
                 "--aim", aim, "--floor", str(floor), "--weight", self.weight, "--spacing", self.spacing]
 
     def floors(self) -> list[int]:
-        """The floors that are tried in place of `auto`, one after the other, where an edge would be there twice."""
+        """The floors that are tried in place of `auto`, one after the other, where an edge would be there twice and the
+        program raises none itself."""
         return [1, 2, RAISED] if self.command == FIT else [1, RAISED]
 
 
@@ -115,9 +129,9 @@ class Program:
         return self if seconds is None else replace(self, until=time.monotonic() + seconds)
 
     def remesh(self, text: bytes, wish: Wish) -> bytes:
-        """The mesh remeshed, with its certificate. The floor `auto` is 1, and a greater one where that doubles an edge.
-        """
-        if wish.floor != AUTO or wish.command == "remesh":
+        """The mesh remeshed, with its certificate. The floor `auto` is 1, and where that doubles an edge a greater one:
+        of the arcs along such edges in a `fit` with rounds, else of all arcs."""
+        if wish.floor != AUTO or wish.command == "remesh" or self.is_by_need(wish):
             return self._run(wish.words(wish.floor), text)
         *floors, last = wish.floors()
         for floor in floors:
@@ -130,13 +144,13 @@ class Program:
 
     def judge(self, old: bytes, new: bytes, wish: Wish) -> Verdict:
         """Judges what a command wrote for a text: with `check` where that knows the command, else with `map`."""
-        if wish.command == "remesh":
+        if wish.command == "remesh" or (wish.command == FIT and wish.is_scaled and self.has_check()):
             return self.check(old, new)
         self.map(old, new)
-        return Verdict(len(re.findall(rb"^#x ", new, re.M)), len(re.findall(rb"^f ", new, re.M)), None)
+        return Verdict(len(certified_lengths(new).lengths), len(re.findall(rb"^f ", new, re.M)), None)
 
     def check(self, old: bytes, new: bytes) -> Verdict:
-        """Judges what `remesh` wrote for a text, anew."""
+        """Judges what `remesh` or `fit` wrote for a text, anew."""
         said = self._run(["check"], b"\n".join([old, new])).decode(errors="replace")
         found = re.match(r"accepted arcs (\d+) faces (\d+) deviation (\d+)\n", said)
         if found is None:
@@ -166,19 +180,38 @@ class Program:
 
     def has_fit(self) -> bool:
         """Whether it takes all wishes together, and judges what comes of that. It is asked once."""
-        return self._takes(Wish(command=FIT))
+        return self._takes(Wish(command=FIT).words(1))
 
     def has_spacing(self) -> bool:
         """Whether it puts new points where they are wished, and judges what comes of that. It is asked once."""
-        return self._takes(Wish(command=FIT, is_spaced=True))
+        return self._takes(Wish(command=FIT, is_spaced=True).words(1))
 
-    def _takes(self, wish: Wish) -> bool:
-        words = wish.words(1)
-        key = self.path, tuple(words)
+    def has_rounds(self) -> bool:
+        """Whether its `fit` takes the floor `auto`, raises floors round after round along doubled edges alone, and is
+        judged by `check`. It is asked once."""
+        return self._takes(Wish(command=FIT).words(AUTO), "check")
+
+    def has_check(self) -> bool:
+        """Whether `check` judges what `fit` wrote. It is asked once."""
+        return self.has_rounds() or self._takes(Wish(command=FIT).words(1), "check")
+
+    def is_by_need(self, wish: Wish) -> bool:
+        """Whether it raises the floors of a wish itself, and no others than it has to."""
+        return wish.floor == AUTO and wish.command == FIT and self.has_rounds()
+
+    def best(self, wish: Wish) -> Wish:
+        """The same wish, as one of `fit` where floors may rise and rise there by need: that gives the same mesh where
+        no edge is doubled, and else fewer faces."""
+        return wish.as_fit() if wish.floor == AUTO and self.has_rounds() else wish
+
+    def _takes(self, words: list[str], judge: str = "map") -> bool:
+        key = self.path, (*words, judge)
         if key not in _TAKES:
-            status, out, _ = run_program(self.path, words, SQUARE, self.until)
+            status, out, _ = run_program(self.path, words, SQUARE, self.until, self.halt)
             if status == 0:
-                status, _, _ = run_program(self.path, ["map"], b"\n".join([SQUARE, out]), self.until)
+                status, _, _ = run_program(self.path, [judge], b"\n".join([SQUARE, out]), self.until, self.halt)
+            if status >= SIGNALLED:
+                return False
             _TAKES[key] = status == 0
         return _TAKES[key]
 

@@ -22,6 +22,7 @@ from .density import for_region, local_of, with_sizes
 from .distance import distance_between
 from .errors import WishError
 from .features import ANGLE, mark_features
+from .floors import Floors
 from .groups import keeping_groups, with_meetings
 from .local import NOWHERE, Local
 from .losses import SHARP, dropped_of, lost_edges, lost_mirrors
@@ -31,7 +32,7 @@ from .obj_writing import plain_text
 from .parts import NO_MARKS, Part, Workshop, Written, keep, put_together, split
 from .patches import patches_under
 from .plain import written_mesh
-from .program import FIT, RAISED, Program
+from .program import AUTO, FIT, Program
 from .reading import divided, refuse_other, refuse_polygons, told_of_old
 from .refusal import NOT_QUAD, SYNTAX, Refusal
 from .relaxing import relax
@@ -339,6 +340,7 @@ class _Work:
     def _report(self, new: Mesh, chosen: Chosen, parts: list[Part], written: list[Written]) -> Report:
         self._begin("measuring")
         old, after = in_quads(self.mesh), Counts.of(new)
+        floors = Floors.of([it.certified for it in written], self.settings.floor == AUTO)
         return Report(
             before=Counts.of(self.mesh),
             after=after,
@@ -357,15 +359,17 @@ class _Work:
             floor=self.settings.floor,
             weight=self.settings.weight,
             parts=sum(it.count for it in parts),
-            arcs=sum(it.verdict.arcs for it in written),
-            arcs_at_floor=sum(it.arcs_at_floor for it in written),
+            arcs=floors.arcs,
+            arcs_at_floor=floors.short,
+            arcs_raised=floors.raised,
+            greatest_floor=floors.greatest,
+            rounds=floors.rounds,
             deviation=_sum([it.verdict.deviation for it in written]),
             to_old=distance_between(new, old),
             to_new=distance_between(old, new),
-            raised=sum(it.count for it, made in zip(parts, written) if made.floor == RAISED
-                       and str(self.settings.floor) == "auto"),
             diagonal=float(np.linalg.norm(np.ptp(self.mesh.points[self.mesh.used], axis=0))),
             sharp=lost_edges(old, new, after.mean_edge, self.sharp),
+            angle=self.settings.sharp,
             mirrors=lost_mirrors(old, new) if self.local.is_nowhere or self.image is not None else "",
             dropped=self._dropped(parts),
             is_round=self.settings.round,

@@ -202,10 +202,11 @@ def _part_table(result: Result) -> list[str]:
     if len(result.parts) < 2:
         return []
     rows = [
-        (str(number), str(part.mesh.face_count), str(it.verdict.faces), str(it.floor), str(it.verdict.arcs),
-         str(it.arcs_at_floor), "" if it.verdict.deviation is None else str(it.verdict.deviation))
+        (str(number), str(part.mesh.face_count), str(it.verdict.faces), str(it.certified.floors.max(initial=1)),
+         str(it.verdict.arcs), str(it.certified.short),
+         "" if it.verdict.deviation is None else str(it.verdict.deviation))
         for number, (part, it) in enumerate(zip(result.parts, result.written), 1)
     ]
-    head = ("part", "faces before", "after", "floor", "arcs", "arcs at the floor", "deviation")
+    head = ("part", "faces before", "after", "greatest floor", "arcs", "arcs at the floor", "deviation")
     more = [f"<p>and {len(rows) - MOST_ROWS} more parts</p>"] if len(rows) > MOST_ROWS else []
     return ["<h2>Parts</h2>", table(head, rows[:MOST_ROWS], "The parts"), *more]

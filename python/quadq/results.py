@@ -16,6 +16,7 @@ from .arrays import Array
 from .attributes import map_of
 from .carrier import Carrier
 from .distance import Distance
+from .floors import Floors
 from .mesh import Mesh
 from .notices import Notice, notices_of
 from .parts import Part, Workshop, Written
@@ -85,12 +86,18 @@ class Report:
     """Whether points were put on a curved surface behind the old one: certificates hold for the counts alone."""
     over_seams: int = 0
     """How many new faces lie over a seam of the texture or a border of names, where these were carried over."""
-    raised: int = 0
-    """How many parts have the floor 3 since with the floor 1 an edge would be there twice."""
+    arcs_raised: int = 0
+    """How many arcs have a greater floor than 1 though none was asked for, since an edge would be there twice."""
+    greatest_floor: int = 1
+    """The greatest floor of an arc."""
+    rounds: int = 1
+    """How many certificates there are for a part, at most: where floors rise, each round has its own."""
     diagonal: float = 0.0
     """How long the diagonal of the old mesh's box is."""
     sharp: tuple[int, int] = (0, 0)
     """How many sharp edges of the old mesh no new edge follows, and how many it had."""
+    angle: Optional[float] = None
+    """The degrees above which edges were asked to stay, if they were."""
     mirrors: str = ""
     """The axes along which the old mesh was its own mirror image, and the new one is not."""
     symmetry: str = ""
@@ -118,8 +125,13 @@ class Report:
 
     @property
     def is_checked(self) -> bool:
-        """Whether `check` judges what was asked for, and tells its deviation. If not, `map` has judged each part."""
-        return self.command == "remesh"
+        """Whether `check` has judged each part, and told its deviation. If not, `map` has judged each."""
+        return self.deviation is not None
+
+    @property
+    def floors(self) -> Floors:
+        """The least lengths that arcs could have."""
+        return Floors(self.arcs, self.arcs_at_floor, self.arcs_raised, self.greatest_floor, self.rounds)
 
     @property
     def greatest_distance(self) -> float:
@@ -188,6 +200,7 @@ class Report:
             ("parts, each checked" if self.is_checked else "parts", str(self.parts)),
             ("arcs", str(self.arcs)),
             ("arcs at the floor", str(self.arcs_at_floor)),
+            ("floors that rose", self.floors.in_words or None),
             ("deviation, least in each part", None if self.deviation is None else str(self.deviation)),
             ("fields carried over", self.fields or None),
             ("edges off from the first wishes", None if self.strayed is None else f"{self.strayed:.1f}"),

@@ -16,14 +16,15 @@ from .settings import Settings
 APART = ("jobs", "folder")
 """The settings that change no result."""
 FACTS = (
-    "faces_before", "faces_after", "command", "spacing", "scale", "edge", "parts", "arcs", "arcs_at_floor", "deviation",
-    "inverted_before", "inverted_after", "least_before", "least_after", "greatest_distance",
+    "faces_before", "faces_after", "command", "spacing", "scale", "edge", "parts", "arcs", "arcs_at_floor",
+    "arcs_raised", "rounds", "deviation", "inverted_before", "inverted_after", "least_before", "least_after",
+    "greatest_distance",
 )
 """What is told of a remesh, in the order of the table."""
 COLUMNS = (
     "file", "output", "status", "faces before", "faces after", "command", "spacing", "scale", "edge", "parts", "arcs",
-    "arcs at the floor", "deviation", "inverted before", "inverted after", "least scaled Jacobian before",
-    "least scaled Jacobian after", "greatest distance", "seconds", "said",
+    "arcs at the floor", "arcs whose floor rose", "rounds", "deviation", "inverted before", "inverted after",
+    "least scaled Jacobian before", "least scaled Jacobian after", "greatest distance", "seconds", "said",
 )
 NOT_REACHED = "not reached"
 
@@ -112,9 +113,9 @@ def facts_of(report: Report) -> dict[str, Any]:
     """The figures of a remesh, by the names of `FACTS`."""
     before, after = report.before, report.after
     values = (before.faces, after.faces, report.command, report.spacing, _plain(report.scale), _plain(report.edge),
-              report.parts, report.arcs, report.arcs_at_floor, report.deviation, before.quality.inverted,
-              after.quality.inverted,
-              round(before.quality.least, 4), round(after.quality.least, 4), float(f"{report.greatest_distance:.6g}"))
+              report.parts, report.arcs, report.arcs_at_floor, report.arcs_raised, report.rounds, report.deviation,
+              before.quality.inverted, after.quality.inverted, round(before.quality.least, 4),
+              round(after.quality.least, 4), float(f"{report.greatest_distance:.6g}"))
     return dict(zip(FACTS, values))
 
 

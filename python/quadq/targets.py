@@ -7,7 +7,9 @@ from dataclasses import dataclass
 from fractions import Fraction
 from typing import Callable, Optional
 
-from .program import LARGEST, RAISED
+from .floors import Floors
+from .notices import why_no_shorter
+from .program import LARGEST
 from .refusal import Refusal
 
 TRIES = 14
@@ -28,8 +30,7 @@ class Counted:
     """What a scale gives."""
 
     faces: int
-    floor: int = 1
-    """The least length that arcs could have: above 1 where that would double an edge, or where it was wished so."""
+    floors: Floors = Floors()
 
 
 @dataclass(frozen=True)
@@ -136,10 +137,7 @@ class _Search:
 
     def _why_more(self, scale: Fraction) -> str:
         found = self.tried[scale]
-        why = "arcs cannot be shorter than the floor"
-        if found.floor >= RAISED:
-            why = f"with the floor 1 an edge would be there twice, and with the floor {RAISED} arcs cannot be shorter"
-        return f"at scale {scale} it has {found.faces}, more than before: {why}"
+        return f"at scale {scale} it has {found.faces}, more than before: {why_no_shorter(found.floors)}"
 
     def _reason(self) -> str:
         tried = self.tried
@@ -149,9 +147,8 @@ class _Search:
         above = [it for it in tried if tried[it].faces >= self.wished]
         if not below:
             least = min(above)
-            twice = ", and with the floor 1 an edge would be there twice" if tried[least].floor >= RAISED else ""
-            return (f"already at scale {least} it has {tried[least].faces} faces: arcs cannot be shorter than the "
-                    f"floor {tried[least].floor}{twice}")
+            return (f"already at scale {least} it has {tried[least].faces} faces: "
+                    f"{why_no_shorter(tried[least].floors)}")
         if not above:
             most = max(below)
             return f"even at scale {most} it has {tried[most].faces} faces"

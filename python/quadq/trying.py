@@ -11,10 +11,11 @@ import numpy as np
 
 from .arrays import Array
 from .distance import distance_between
+from .floors import Certified, Floors, certified_lengths
 from .mesh import Mesh, join
-from .parts import Part, Workshop, certified_lengths
+from .parts import Part, Workshop
 from .plain import written_mesh
-from .program import Wish
+from .program import AUTO, Wish
 from .quality import quality_of
 from .wishing import UNIT, Along, Shape
 
@@ -40,13 +41,17 @@ class Tried:
         return sum(it.count(b"\nf ") for it in self.texts)
 
     @cached_property
-    def lengths(self) -> list[Array]:
-        """For each text the lengths of its arcs."""
-        return [certified_lengths(it)[1] for it in self.texts]
+    def certified(self) -> list[Certified]:
+        """For each text the lengths of its arcs and their floors."""
+        return [certified_lengths(it) for it in self.texts]
 
-    @cached_property
-    def floors(self) -> list[int]:
-        return [certified_lengths(it)[0] for it in self.texts]
+    @property
+    def lengths(self) -> list[Array]:
+        return [it.lengths for it in self.certified]
+
+    @property
+    def floors(self) -> Floors:
+        return Floors.of(self.certified, self.wish.floor == AUTO)
 
     @property
     def fits_shapes(self) -> bool:

@@ -1,10 +1,11 @@
 """Small meshes that the tests share."""
 
 import pathlib
+from unittest import mock
 
 import numpy as np
 
-from quadq import Mesh
+from quadq import Mesh, Program
 
 EXAMPLES = pathlib.Path(__file__).resolve().parents[2] / "examples"
 
@@ -15,6 +16,16 @@ def grid(wide: int, high: int) -> Mesh:
     at = np.arange((wide + 1) * (high + 1)).reshape(high + 1, wide + 1)
     quads = np.stack([at[:-1, :-1], at[:-1, 1:], at[1:, 1:], at[1:, :-1]], axis=-1)
     return Mesh.of_quads(np.stack([x, y, 0 * x], axis=-1).reshape(-1, 3), quads)
+
+
+def written_by(command: str) -> str:
+    """The command that writes what this one does, where no floor is asked for: `fit`, if that raises them by need."""
+    return "fit" if Program().has_rounds() else command
+
+
+def without_rounds():
+    """A program that raises the floors of all arcs at once."""
+    return mock.patch.object(Program, "has_rounds", lambda self: False)
 
 
 def moved(mesh: Mesh, x: float, y: float = 0.0, z: float = 0.0) -> Mesh:

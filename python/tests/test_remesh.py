@@ -4,7 +4,10 @@ import contextlib
 import csv
 import hashlib
 import io
+import os
 import pathlib
+import subprocess
+import sys
 import tempfile
 import unittest
 from fractions import Fraction
@@ -16,10 +19,11 @@ from quadq import Mesh, Names, Program, Refusal, read_obj, remesh, write_obj
 from quadq.__main__ import main
 from quadq.mesh import join
 
-from .shapes import EXAMPLES, grid, moved
+from .shapes import EXAMPLES, grid, moved, written_by
 
 TWO_FANS = EXAMPLES / "two_fans.obj"
 CUBE = EXAMPLES / "cube.obj"
+ROOT = pathlib.Path(__file__).resolve().parents[1]
 LETTER = EXAMPLES / "letter_q.obj"
 
 
@@ -95,7 +99,7 @@ class Remesh(unittest.TestCase):
         self.assertLessEqual(line, ridge)
         self.assertLess(result.report.greatest_distance, 1e-6)
         self.assertGreater(remesh(roof, scale="1/3").report.greatest_distance, 0.1)
-        self.assertEqual((result.report.command, result.report.marks), ("crease", "9 edges: 9 by angle"))
+        self.assertEqual((result.report.command, result.report.marks), (written_by("crease"), "9 edges: 9 by angle"))
 
     def test_borders_of_materials_and_lines_stay_in_each_part(self):
         half = grid(8, 4)
@@ -124,11 +128,11 @@ class Remesh(unittest.TestCase):
 
     def test_merged_patches(self):
         result = remesh(read(LETTER), scale="1/2", coarse=True)
-        self.assertEqual((result.report.arcs, result.report.command), (48, "coarse"))
+        self.assertEqual((result.report.arcs, result.report.command), (48, written_by("coarse")))
         self.assertEqual(result.report.after.irregular, result.report.before.irregular)
-        self.assertTrue(result.text.startswith(b"#quadq 1 coarse scale 1/2 floor 1 "))
+        self.assertRegex(result.text, b"^#quadq 1 (coarse|fit keep none patches merged aim) scale.1/2 floor (1|auto) ")
         ring = remesh(read(EXAMPLES / "torus.obj"), scale="1/2", coarse=True)
-        self.assertEqual(ring.written[0].floor, 3)
+        self.assertEqual(set(ring.written[0].certified.floors.tolist()), {3})
 
     def test_polygons(self):
         text = "v 0 0 0\nv 1 0 0\nv 0 1 0\nv 1 1 0\nf 1 2 3\nf 2 4 3\n"
@@ -197,10 +201,11 @@ class CommandLine(unittest.TestCase):
         out = self.room / "out.obj"
         marked = EXAMPLES / "marked_grid.obj"
         for words, head in (
-            (["--scale", "2", "--lines"], "#quadq 1 crease scale 2/1 floor 1"),
-            (["--faces", "16", "--sharp", "30", "--materials", "--no-corners"], "#quadq 1 crease"),
-            (["--scale", "2", "--coarse"], "#quadq 1 coarse"),
-            (["--edge", ".25"], "#quadq 1 fit keep none patches traced aim edge:0.25 floor 1 weight"),
+            (["--scale", "2", "--lines"], "(crease scale 2/1 floor 1|fit keep lines .* floor auto) "),
+            (["--scale", "2", "--lines", "--floor", "1"], "crease scale 2/1 floor 1 "),
+            (["--faces", "16", "--sharp", "30", "--materials", "--no-corners"], "(crease|fit keep lines) "),
+            (["--scale", "2", "--coarse"], "(coarse|fit keep none patches merged) "),
+            (["--edge", ".25"], "fit keep none patches traced aim edge:0.25 floor (1|auto) weight"),
         ):
             page = self.room / "page.html"
             status, said, errors = self.run_words(marked, out, *words, "--report", page)
@@ -209,8 +214,8 @@ class CommandLine(unittest.TestCase):
             lost = [] if "--lines" in words else [
                 "quadq-remesh: warning: 1 line was dropped: --lines keeps those along edges"]
             self.assertEqual((status, told), (0, lost), words)
-            self.assertTrue(out.read_text().startswith(head), words)
-            self.assertIn("accepted by <code>quadq map</code>", page.read_text())
+            self.assertRegex(out.read_text(), f"^#quadq 1 {head}", words)
+            self.assertRegex(page.read_text(), "accepted by <code>quadq (map|check)</code>")
         self.assertIn("wished length of edges", said)
 
     def test_version(self):
@@ -221,6 +226,21 @@ class CommandLine(unittest.TestCase):
         self.assertEqual(quadq.__version__, (EXAMPLES.parent / "VERSION").read_text().strip())
         self.assertEqual(said.getvalue().splitlines(), [
             f"quadq-remesh {quadq.__version__}", f"program {Program().path}", f"SHA-256 {digest}"])
+
+    def test_the_program_that_is_named_is_the_one_that_runs(self):
+        here, other = self.room / "here", self.room / "other"
+        for folder, text in ((here, f'#!/bin/sh\nexec {Program().path} "$@"\n'), (other, "#!/bin/sh\nexit 9\n")):
+            folder.mkdir()
+            (folder / "quadq").write_text(text)
+            (folder / "quadq").chmod(0o755)
+        digest = hashlib.sha256((here / "quadq").read_bytes()).hexdigest()
+        way = f"{other}:{os.environ['PATH']}"
+        for named in ("./quadq", "quadq"):
+            ran = [subprocess.run([sys.executable, "-m", "quadq", *words], cwd=here, capture_output=True, check=False,
+                                  text=True, env={**os.environ, "PYTHONPATH": str(ROOT), "QUADQ": named, "PATH": way})
+                   for words in ((CUBE, "out.obj", "--scale", "1/2"), ("--version",))]
+            self.assertEqual([it.returncode for it in ran], [0, 0], ran[0].stderr)
+            self.assertEqual(ran[1].stdout.splitlines()[1:], [f"program {here / 'quadq'}", f"SHA-256 {digest}"])
 
     def test_wrong_words_are_told_by_the_name_of_the_command(self):
         with self.assertRaises(SystemExit), contextlib.redirect_stderr(io.StringIO()) as said:

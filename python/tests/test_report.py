@@ -14,12 +14,12 @@ import numpy as np
 
 from quadq import Program, Refusal, find_features, read_obj, refusal_page, remesh, result_page
 from quadq.canvas import Canvas
+from quadq.floors import certified_lengths
 from quadq.graphs import cut_of
 from quadq.index import Index
 from quadq.layout import Layout
 from quadq.looks import Looks, places_of, shown_of
 from quadq.mesh import join
-from quadq.parts import certified_lengths
 from quadq.patches import colours_of, paint
 from quadq.program import Wish
 from quadq.rows import Row, facts_of, settings_in_words
@@ -107,7 +107,7 @@ class Pages(unittest.TestCase):
             of_face = cut.patches_of(mesh)
             self.assertEqual(np.bincount(of_face).tolist(), cut.sizes.prod(axis=1).tolist(), name)
             wanted = program.remesh(text, Wish())
-            self.assertEqual(Layout(mesh, cut).faces(certified_lengths(wanted)[1]), wanted.count(b"\nf "))
+            self.assertEqual(Layout(mesh, cut).faces(certified_lengths(wanted).lengths), wanted.count(b"\nf "))
             tints = colours_of(mesh, of_face, 8)
             self.assertLess(tints.max(initial=0), 8)
 

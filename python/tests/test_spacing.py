@@ -22,7 +22,7 @@ from quadq.spacing import MOST, divided
 from quadq.thinning import bands_of, kept_points
 from quadq.wishing import UNIT, Shape, by_bends
 
-from .shapes import drum, grid, moved
+from .shapes import drum, grid, moved, written_by
 from .test_shape import bent_sheet
 
 WITH_SPACING = unittest.skipUnless(Program().has_spacing(), "this program has no `--spacing wished`")
@@ -209,7 +209,7 @@ class Without(unittest.TestCase):
     def test_without_spacing_all_is_as_before(self):
         mesh = bent_sheet(12)
         with without_spacing():
-            for wishes, command in (({"edge": 0.2}, "size"), ({"scale": "1/2"}, "remesh")):
+            for wishes, command in (({"edge": 0.2}, written_by("size")), ({"scale": "1/2"}, written_by("remesh"))):
                 report = remesh(mesh, **wishes).report
                 self.assertEqual((report.command, report.spacing), (command, "even"))
             if Program().has_fit():

@@ -103,7 +103,7 @@ class ChordsOfLayouts(unittest.TestCase):
                                                 for name in ("letter_q", "cube", "torus", "notched_square"))):
             layout = one_layout(mesh, mesh.edges.ends[:0])
             lengths = 2 * layout.old
-            found = chords_of(layout, lengths, lengths.astype(float), 1)
+            found = chords_of(layout, lengths, lengths.astype(float), np.ones_like(lengths))
             self.assertGreater(len(found), 0)
             for it in found:
                 long = layout.cut.side_lengths(lengths + it.change)
@@ -112,9 +112,13 @@ class ChordsOfLayouts(unittest.TestCase):
 
     def test_an_arc_at_the_floor_gets_no_shorter(self):
         layout = one_layout(grid(1, 4), np.zeros((0, 2), dtype=np.int64))
-        changes = [it.change for it in chords_of(layout, layout.old, layout.old.astype(float), 1)]
-        self.assertTrue(all(np.all(layout.old + it >= 1) for it in changes))
+        old, ones = layout.old, np.ones_like(layout.old)
+        changes = [it.change for it in chords_of(layout, old, old.astype(float), ones)]
+        self.assertTrue(all(np.all(old + it >= 1) for it in changes))
         self.assertTrue(any(it.min() < 0 for it in changes))
+        others = [it.change for it in chords_of(layout, old, old.astype(float), np.where(old > 1, 4, ones))]
+        self.assertTrue(others)
+        self.assertFalse(any(it.min() < 0 for it in others), "each arc has a floor of its own")
 
 
 if __name__ == "__main__":

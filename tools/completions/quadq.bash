@@ -18,7 +18,7 @@ _quadq() {
         esac
         # The values of the option in front.
         case ${COMP_WORDS[COMP_CWORD - 1]} in
-            --floor) words="1 2 3"; [ "${COMP_WORDS[1]}" = remesh ] && words="$words auto" ;;
+            --floor) words="1 2 3"; case ${COMP_WORDS[1]} in remesh | fit) words="$words auto" ;; esac ;;
             --weight) words="plain length" ;;
             --keep) words="none lines" ;;
             --patches) words="traced merged conforming" ;;

@@ -118,6 +118,8 @@ class MakeMap(unittest.TestCase):
         self.assertEqual(mapped(STRIP, layout(STRIP, STRIP_NEW), STRIP_NEW), STRIP_MAP)
         new = HEAD + GRID_NEW + "#x 2\n" * 4
         self.assertEqual(mapped(grid(), layout(grid(), new), new), GRID_MAP)
+        rounds = HEAD + GRID_NEW + "#f 1\n" + "#x 1\n" * 4 + "#r 1 2\n#r 2 2\n" + "#x 2\n" * 4
+        self.assertEqual(mapped(grid(), layout(grid(), new), rounds), GRID_MAP, "the last round is that of the mesh")
 
     def test_faces_that_are_turned(self):
         self.assertEqual(mapped(TURNED, layout(TURNED, TURNED_NEW), TURNED_NEW), TURNED_MAP)

@@ -27,6 +27,7 @@ TEXTS = [
     "crease --scale 2/3 --floor 3 --weight plain", "coarse --scale 1/2 --floor 3 --weight plain",
     "size --edge 0.3 --floor 3",
     "fit --keep lines --patches conforming --aim scale:1/2 --floor 1 --weight plain --spacing even",
+    "fit --keep none --patches traced --aim scale:1/10 --floor auto --weight plain --spacing even",
 ]
 CREASE = "crease --scale 1/2 --floor 1 --weight plain"
 REMESH = "remesh --scale 1/2 --floor 1 --weight plain"
