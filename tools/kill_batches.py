@@ -110,6 +110,9 @@ class Batch:
         for line in self.log.read_bytes().split(b"\n")[:-1] if self.log.exists() else ():
             row = json.loads(line)
             told[row["input"]] = row
+            # It is to be done again: nothing is told of it until it is.
+            if row["status"] is None:
+                del told[row["input"]]
         for source, row in told.items():
             data = pathlib.Path(source).read_bytes()
             name = pathlib.Path(row["output"]).name

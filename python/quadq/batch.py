@@ -20,7 +20,7 @@ from .jobs import Job, done
 from .logs import Log, read_log
 from .program import Program
 from .refusal import STRANGE, Refusal
-from .rows import Row, table_of, unreached
+from .rows import AGAIN, Row, table_of, unreached
 from .running import refuse_time, stop_all
 from .settings import Settings
 from .stopping import Stopped
@@ -124,8 +124,12 @@ class _Batch:
         index = self.index = None if self.books.report is None else Index(self.books.report, "A batch of quadq")
         try:
             log = Log(self.books.log, is_new=not self.books.resume) if self.books.log is not None else None
-            self._take_over()
+            known = self._take_over()
             waiting = [it for it in self.jobs if it.source not in self.found]
+            for job in waiting:
+                # What an earlier line tells of it need not be true any more when this run is killed.
+                if log is not None and str(job.source) in known:
+                    log.add(unreached(job.source, job.target, AGAIN))
             with contextlib.closing(self._ended(waiting)) as ended:
                 for job, row in ended:
                     self.found[job.source] = row
@@ -153,16 +157,17 @@ class _Batch:
     def _all(self) -> list[Row]:
         return [self.found.get(it.source) or unreached(it.source, it.target) for it in self.jobs]
 
-    def _take_over(self) -> None:
-        """The rows of an earlier run that still hold."""
+    def _take_over(self) -> dict[str, Row]:
+        """The rows of an earlier run, of which those are taken that still hold."""
         if not self.books.resume or self.books.log is None:
-            return
+            return {}
         known = read_log(self.books.log)
         for job in self.jobs:
             row = known.get(str(job.source))
             if row is not None and _still_holds(row, job):
                 self.found[job.source] = row
                 self._tell(job, row)
+        return known
 
     def _ended(self, jobs: Sequence[Job]) -> Generator[tuple[Job, Row], None, None]:
         many = (self.jobs[0].settings.jobs if self.jobs else 0) or os.cpu_count() or 1

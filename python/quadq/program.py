@@ -13,7 +13,7 @@ from pathlib import Path
 from typing import Optional, Sequence, Union
 
 from .floors import certified_lengths
-from .refusal import STRANGE, Refusal
+from .refusal import CANNOT_RUN, MEMORY, READ_FAULT, STRANGE, TIMEOUT, WRITE_FAULT, Refusal
 from .running import Halt, refuse_time, run_program
 
 LARGEST = 1000
@@ -23,7 +23,9 @@ LARGEST = 1000
 FIT = "fit"
 """The command that takes all wishes together."""
 SIGNALLED = 128
-"""From this status on a program was ended by a signal: it has answered nothing."""
+"""From this status on a program was ended by a signal."""
+UNANSWERED = (READ_FAULT, WRITE_FAULT, MEMORY, TIMEOUT, CANNOT_RUN)
+"""By these, too, it has said neither yes nor no."""
 AUTO = "auto"
 RAISED = 3
 """The floor that never doubles an edge."""
@@ -205,15 +207,21 @@ class Program:
         return wish.as_fit() if wish.floor == AUTO and self.has_rounds() else wish
 
     def _takes(self, words: list[str], judge: str = "map") -> bool:
+        """Whether it takes these words, and judges what comes of them. A program that says no is asked again: one that
+        fails now and then must not decide for all that comes later."""
         key = self.path, (*words, judge)
         if key not in _TAKES:
-            status, out, _ = run_program(self.path, words, SQUARE, self.until, self.halt)
-            if status == 0:
-                status, _, _ = run_program(self.path, [judge], b"\n".join([SQUARE, out]), self.until, self.halt)
-            if status >= SIGNALLED:
-                return False
-            _TAKES[key] = status == 0
+            _TAKES[key] = self._says_yes(words, judge) or self._says_yes(words, judge)
         return _TAKES[key]
+
+    def _says_yes(self, words: list[str], judge: str) -> bool:
+        try:
+            self._run([judge], b"\n".join([SQUARE, self._run(words, SQUARE)]))
+        except Refusal as said:
+            if said.status >= SIGNALLED or said.status in UNANSWERED:
+                raise
+            return False
+        return True
 
     def _run(self, words: list[str], text: bytes) -> bytes:
         status, out, said = run_program(self.path, words, text, self.until, self.halt)

@@ -27,6 +27,7 @@ COLUMNS = (
     "least scaled Jacobian before", "least scaled Jacobian after", "greatest distance", "seconds", "said",
 )
 NOT_REACHED = "not reached"
+AGAIN = "to be done again"
 
 
 @dataclass(frozen=True)
@@ -81,10 +82,10 @@ class Row:
         """Whether all that JSON has brought is of the kinds that a row has."""
         warned = [it.get("words") if isinstance(it, dict) else None for it in self.warnings]
         texts = [self.source, self.target, self.words, self.program, self.read, self.written, *warned]
-        counts = [self.status, *(self.facts.get(name, 0) for name in ("faces_before", "faces_after"))]
+        counts = [self.facts.get(name, 0) for name in ("faces_before", "faces_after")]
         kinds: list[tuple[Iterable[object], set[type]]] = [
-            (texts, {str}), (counts, {int}), ([self.seconds], {int, float}), ([self.settings], {dict}),
-            (self.facts.values(), {str, int, float, type(None)})]
+            (texts, {str}), ([self.status], {int, type(None)}), (counts, {int}), ([self.seconds], {int, float}),
+            ([self.settings], {dict}), (self.facts.values(), {str, int, float, type(None)})]
         return all(type(it) in kind for some, kind in kinds for it in some)
 
     def cells(self) -> list[str]:
@@ -145,5 +146,5 @@ def summary_of(rows: Sequence[Row]) -> str:
     return f"{', '.join(parts)}; faces {before} -> {after}"
 
 
-def unreached(source: Path, target: Path) -> Row:
-    return Row(str(source), str(target), None, NOT_REACHED)
+def unreached(source: Path, target: Path, words: str = NOT_REACHED) -> Row:
+    return Row(str(source), str(target), None, words)

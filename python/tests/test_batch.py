@@ -29,7 +29,7 @@ ROOT = pathlib.Path(__file__).resolve().parents[1]
 HALF = Settings(scale="1/2", jobs=2)
 STUBS = {
     "hangs": "exec sleep 600\n", "crashes": "kill -SEGV $$\n", "babbles": "head -c 3000 /dev/urandom; exit 0\n",
-    "says no": "echo 'quadq: ' >&2; exit 99\n",
+    "says no": "echo 'quadq: ' >&2; exit 99\n", "wants memory": "echo 'quadq: out of memory' >&2; exit 14\n",
 }
 """Programs that are none, as scripts of the shell."""
 PLAINLY = ["env", "setpriv", "--bounding-set=-dac_override,-dac_read_search", "--inh-caps=-all"]
@@ -137,7 +137,12 @@ class Batch(BatchRoom):
         (self.inward / "a.obj").write_bytes((EXAMPLES / "torus.obj").read_bytes())
         rows = remesh_files(self.inward, self.out, HALF, books=Books(log, resume=True))
         self.assertEqual([it.is_as_before for it in rows], [False, False, True, True])
-        self.assertEqual(len(log.read_text().splitlines()), 6)
+        # What is done again is told so before it begins: were the run killed, no line of an earlier run would be false.
+        told = [json.loads(it)["status"] for it in log.read_text().splitlines()]
+        self.assertEqual((sorted(told[:4]), told[4:]), ([0, 0, 0, 7], [None, None, 0, 0]))
+        log.write_text("".join(log.read_text().splitlines(True)[:6]))
+        again = remesh_files(self.inward, self.out, HALF, books=Books(log, resume=True))
+        self.assertEqual([it.is_as_before for it in again], [False, False, True, True])
         other = remesh_files(self.inward, self.out, Settings(scale="1/3"), books=Books(log, resume=True))
         self.assertFalse(any(it.is_as_before for it in other))
         with self.assertRaises(WishError):
@@ -151,6 +156,16 @@ class Batch(BatchRoom):
                                 program=self.stub(name), timeout=10 if name != "hangs" else 2)
             self.assertEqual([it.status for it in rows], [status] * 2, name)
             self.assertEqual(os.listdir(self.out), [], name)
+
+    def test_a_program_that_fails_once_decides_for_one_file(self):
+        whole = remesh_files([self.inward / "a.obj"], self.room / "whole", HALF)[0].written
+        for name, status in (("crashes", 139), ("wants memory", 14), ("babbles", 0)):
+            once, program = self.room / f"{name} once", self.stub(name)
+            program.path.write_text(f'#!/bin/sh\nif [ "$1" = fit ] && mkdir "{once}"; then\n{STUBS[name]}fi\n'
+                                    f'exec {Program().path} "$@"\n')
+            rows = [remesh_files([self.inward / "a.obj"], self.out, HALF, program=program)[0] for _ in range(2)]
+            self.assertEqual([it.status for it in rows], [status, 0], name)
+            self.assertEqual(rows[1].written, whole, name)
 
     def test_a_worker_that_is_killed_is_one_row(self):
         hangs = self.stub("hangs")
@@ -308,7 +323,8 @@ class Ends(BatchRoom):
             said = ran.communicate(timeout=60)[1]
             if at:
                 self.assertNotIn("Traceback", said)
-            self.assertIn(ran.returncode, (130, -signal.SIGINT))
+            # Before any module of the package is loaded it is Python that ends, with 1 where it has not begun itself.
+            self.assertIn(ran.returncode, (130, -signal.SIGINT) if at else (130, -signal.SIGINT, 1))
 
     def tearDown(self):
         # What a stub has begun is no part of what is tried.
