@@ -1,1 +1,2 @@
-mod Roots
+pub mod Mended
+pub mod Roots

@@ -4,9 +4,9 @@ use Rattle.qm_tour.proofs.tour.settle.Given as goal
 
 abbrev pub invariant-loop-node : goal.invariant-loop-node
 invariant-loop-node l = record {
-  low : l.node < l.room;
-  tree : IsTreeBut l.room l.node l.keys;
-  leaves : HasSameLeaves l.room l.fn.keys l.keys;
+  low : l.node < l.first;
+  tree : IsTreeBut l.first l.node l.keys;
+  leaves : HasSameLeaves l.first l.fn.keys l.keys;
 }
 
 abbrev pub decreases-loop-node : goal.decreases-loop-node
