@@ -30,7 +30,7 @@ or_first true b e = absurd (clash e)
     clash x = cc
 or_first false b e = refl
 
-or_twice : (a : Bool) → (a || a) ≡ a
+pub or_twice : (a : Bool) → (a || a) ≡ a
 or_twice true = refl
 or_twice false = refl
 

@@ -1,520 +1,464 @@
 -- The tables after a ring of outermost blossoms was gathered into a set.
 use Rattle.std.proofs.Common.{◌≡◌, ◌≢◌, ℕ, suc, ◌+◌, ◌-◌, ◌<◌, ◌≤◌, Bool, true, false, cond, eqb, List, length, get_or}
-use Rattle.std.proofs.Common.{ℤ, pos, ◌+ℤ◌, ◌-ℤ◌, ◌⊎◌, Option, Some, None, refl, sym, ◌∙◌, ap, subst, inl, inr}
+use Rattle.std.proofs.Common.{ℤ, pos, ◌+ℤ◌, ◌-ℤ◌, ◌⊎◌, Option, None, refl, sym, ◌∙◌, ap, subst, inl, inr}
 use Rattle.std.proofs.Common.{length-set, get_or-set_same, get_or-set_other, arith}
 use Rattle.std.proofs.Math.ListN.{set}
+use Rattle.std.proofs.lemmas.Int.{ints}
 use Rattle.std.proofs.lemmas.Bool.{cases_eq, cases_Bool, cond-true, cond-false, eq-eqb, ne_eqb}
-use Rattle.std.specs.Prelude.{slice_get}
 use Rattle.def_forest.specs.Forests.{walk, ring_sum, set_at}
-use Rattle.def_forest.specs.Tables.{ForestTables, forest_of, climbs, label_at, out_of, up_at, weight_at}
+use Rattle.def_forest.specs.Tables.{GraphSize, ForestTables, forest_of, climbs, label_at, out_of, up_at}
 use Rattle.def_forest.specs.declared.kinds.Label.TheVariants.{Outside}
-use Rattle.forest_laws.specs.Walks.{listed, writes}
+use Rattle.forest_laws.specs.Walks.{listed}
 use Rattle.forest_laws.proofs.Walks.{listed_place, writes_all, writes_at, writes_off}
-use Rattle.forest_laws.proofs.Writes.{set_here, set_there}
+use Rattle.forest_laws.proofs.Writes.{set_here, set_there, true_false}
 use Rattle.qm_pool.specs.declared.pool.Node.{Node}
-use Rattle.qm_forest.specs.Gathers.{IsRow, IsGathered}
-use Rattle.qm_forest.specs.Ties.{AreTied, HiddenTables, HasSizes, HasNumbers, IsClimb, IsInUse, IsLaidOut, IsListed}
-use Rattle.qm_forest.specs.Ties.{IsPooled, IsTrailed}
-use Rattle.qm_forest.proofs.{Enclosed.climb_enclosed as the_climb_enclosed, Enclosed.holds_same as the_holds_same}
-use Rattle.qm_forest.proofs.{Enclosed.holds_new as the_holds_new, JoinedLists.list_agrees, JoinedLists.list_renamed}
-use Rattle.qm_forest.proofs.JoinedLists.{list_has_last, list_last, list_member}
-use Rattle.qm_forest.proofs.{JoinedLists.row_joined, JoinedLists.walk_agrees, JoinedRows.ring_sum_above}
-use Rattle.qm_forest.proofs.{Ranges.read_nat, TiedWrites.entry_set, Nests.out_used, Nests.rank_few, Nests.rank_some}
-use Rattle.qm_forest.proofs.{Nests.rank_passed, GatheredRows.RowFacts, GatheredRows.row_facts}
-use Rattle.qm_forest.proofs.{GatheredNumbers.numbers_new as the_numbers_new, GatheredNumbers.trail_new as the_trail_new}
-use Rattle.qm_forest.proofs.Pooled.{pool_taken}
+use Rattle.qm_forest.specs.Gathers.{AreEnclosed, AreJoined, HasRenamedRow, IsGathered, TookSet}
+use Rattle.qm_forest.specs.Ties.{AreTied, HiddenTables, HasSizes, HasNumbers, IsInUse, IsLaidOut, IsListed}
+use Rattle.qm_forest.specs.Ties.{IsPooled, IsTrailed, added, told}
+use Rattle.qm_forest.specs.{Views.tables_of, Views.hidden_of, declared.tables.Handles.Handles}
+use Rattle.qm_forest.specs.{declared.tables.Lists.Lists, declared.tables.Rings.Rings, declared.tables.Trail.Trail}
+use Rattle.qm_forest.specs.{declared.tables.Tree.Tree, declared.tables.Weights.Weights}
+use Rattle.qm_forest.proofs.Enclosed.{Enclosing, climb_enclosed, holds_new, holds_same}
+use Rattle.qm_forest.proofs.GatheredRows.{FreeRow, alone, b_off, b_outside, big_in, handle_at, handle_top, in_row_out}
+use Rattle.qm_forest.proofs.GatheredRows.{lasts_differ, no_out, own_handle, own_list, row_ended, row_list, row_outside}
+use Rattle.qm_forest.proofs.GatheredRows.{row_top, unused}
+use Rattle.qm_forest.proofs.JoinedLists.{list_agrees, list_has_last, list_last, list_member, list_renamed, row_joined}
+use Rattle.qm_forest.proofs.{JoinedLists.walk_agrees, JoinedRows.ring_sum_above, KeptTies.numbers_kept}
+use Rattle.qm_forest.proofs.{KeptTies.tied_as, KeptTies.trail_kept, Nests.out_used, Nests.rank_few, Nests.rank_passed}
+use Rattle.qm_forest.proofs.{Nests.rank_some, Pooled.pool_taken, Ranges.read_nat, TiedWrites.entry_set}
 
-module _ {t : ForestTables} {hid : HiddenTables} (tied : AreTied t hid) {front many : ℕ} (b big : ℕ)
-    (row : IsRow (length t.up) t.after front many) (tops : (k : ℕ) → k < many → (v : ℕ) × (v < length t.hand)
-    × (out_of t.hand t.top v ≡ walk (λ i. get_or t.after i 0) front k))
-    (outside : (k : ℕ) → k < many → label_at t.label (walk (λ i. get_or t.after i 0) front k) ≡ Outside)
-    (high : length t.hand ≤ b) (low : b < length t.up) (dead : get_or t.parts b 0 ≡ 0)
-    (weightless : weight_at t.base t.label t.delta b ≡ pos 0) (on : (k : ℕ) × (k < many)
-    × (walk (λ i. get_or t.after i 0) front k ≡ big)) (two : 2 ≤ many) where
+-- A free ring that is gathered: its vertices got one handle, its lists were joined, and set b, which was free, is around
+-- its blossoms.
+pub record Gathering (h h2 : Handles) (l l2 : Lists) (r r2 : Rings) (trail : Trail) (w : Weights) (e : Tree)
+    (pool pool2 : List (Option Node)) (room : Option GraphSize) (root2 : Option ℕ) (front many b big : ℕ)
+    : Type 0 where
+  pub free : FreeRow (tables_of h l r trail w e room) (hidden_of h l trail pool) front many b big
+  pub took : TookSet pool pool2 (length h.hand.items) b
+  pub renamed : HasRenamedRow h h2 l r.after.items front many big
+  pub joined : AreJoined l l2 r.after.items front many b
+  pub enclosed : AreEnclosed r r2 front many b
+  pub root_is : root2 ≡ None → e.root ≡ None
+
+module _ {h h2 : Handles} {l l2 : Lists} {r r2 : Rings} {trail : Trail} {w : Weights} {e : Tree}
+    {pool pool2 : List (Option Node)} {room : Option GraphSize} {root2 : Option ℕ} {front many b big : ℕ}
+    (gathering : Gathering h h2 l l2 r r2 trail w e pool pool2 room root2 front many b big) where
+  open gathering use {free, free.{tied, ring, high, low, dead}, took, renamed, joined, enclosed, root_is}
+
+  abbrev t : ForestTables
+  t = tables_of h l r trail w e room
+
+  abbrev hid : HiddenTables
+  hid = hidden_of h l trail pool
+
   abbrev n : ℕ
   n = length t.hand
 
   abbrev at : ℕ → ℕ
   at k = walk (λ i. get_or t.after i 0) front k
 
-  abbrev out : ℕ → ℕ
-  out = out_of t.hand t.top
-
-  abbrev pub inside : ℕ → Bool
+  abbrev inside : ℕ → Bool
   inside = listed (λ i. get_or t.after i 0) front many
 
   abbrev handle : ℕ
   handle = get_or hid.leader big 0
 
-  facts : RowFacts t hid front many b big
-  facts = row_facts t hid tied front many b big row tops outside high low dead on
+  abbrev rank : ℕ → ℕ
+  rank x = get_or t.rank x 0
 
-  module _ (hand2 : List ℕ) {top2 : List ℕ} (up2 : List ℕ) {head2 parts2 rank2 : List ℕ} (root2 : Option ℕ)
-      (q2 : List ℤ) {leader2 first2 last2 : List ℕ} (following2 : List ℕ) {pool2 : List (Option Node)} (id : ℕ)
-      (node : Node) (hands : (v : ℕ) → v < length t.hand → get_or hand2 v 0
-      ≡ cond (inside (out v)) (get_or hid.leader big 0) (get_or t.hand v 0)) (hand_size : length hand2 ≡ length t.hand)
-      (qs : (v : ℕ) → v < length t.hand → get_or q2 v (pos 0) ≡ cond (inside (out v))
-      ((get_or hid.q v (pos 0) +ℤ get_or hid.off (get_or t.hand v 0) (pos 0)) -ℤ get_or hid.off
-      (get_or hid.leader big 0) (pos 0)) (get_or hid.q v (pos 0))) (q_size : length q2 ≡ length hid.q)
-      (top_is : top2 ≡ set t.top (get_or hid.leader big 0) b) (up_is : up_at up2
-      ≡ writes (up_at t.up) (walk (λ i. get_or t.after i 0) front) (λ k. b) many) (up_size : length up2 ≡ length t.up)
-      (head_is : head2 ≡ set t.head b front) (parts_is : parts2 ≡ set t.parts b many)
-      (rank_is : rank2 ≡ set t.rank b (ring_sum (λ i. get_or t.after i 0) (λ i. get_or t.rank i 0) front many))
-      (leader_is : leader2 ≡ set hid.leader b (get_or hid.leader big 0))
-      (first_is : first2 ≡ set hid.first b (get_or hid.first front 0))
-      (last_is : last2 ≡ set hid.last b (get_or hid.last (walk (λ i. get_or t.after i 0) front (many - 1)) 0))
-      (following_is : (λ i. get_or following2 i 0) ≡ writes (λ i. get_or hid.following i 0)
-      (λ k. get_or hid.last (walk (λ i. get_or t.after i 0) front k) 0)
-      (λ k. get_or hid.first (walk (λ i. get_or t.after i 0) front (suc k)) 0) (many - 1))
-      (following_size : length following2 ≡ length hid.following) (pool_is : pool2 ≡ set hid.pool id (Some node))
-      (id_is : b ≡ length t.hand + id) (id_free : slice_get hid.pool id ≡ Some None)
-      (root_is : root2 ≡ None → t.root ≡ None) where
-    abbrev rank : ℕ → ℕ
-    rank x = get_or t.rank x 0
+  abbrev first : ℕ → ℕ
+  first x = get_or hid.first x 0
 
-    ups : (x : ℕ) → up_at up2 x ≡ cond (inside x) b (up_at t.up x)
-    ups x = ap (λ (f : ℕ → ℕ). f x) up_is ∙ writes_all (up_at t.up) (λ i. get_or t.after i 0) front many b x
+  abbrev last : ℕ → ℕ
+  last x = get_or hid.last x 0
 
-    ones : (v : ℕ) → v < n → 1 ≤ rank v
-    ones v l = rank_some tied.nest v l tied.sizes.vertices
+  abbrev next2 : ℕ → ℕ
+  next2 v = get_or l2.following.items v 0
 
-    few : (v : ℕ) → v < n → rank (out v) ≤ n
-    few v l = rank_few tied.nest v l
+  abbrev total : ℕ
+  total = ring_sum (λ i. get_or t.after i 0) rank front many
 
-    pub climb_enclosed : IsClimb n (up_at up2) (λ v. cond (inside (out v)) b (out v))
-    climb_enclosed = the_climb_enclosed rank tied.nest.climb tied.nest.rises ones few (up_at up2)
-        inside high facts.row_top facts.b_off facts.alone facts.unused ups
+  -- The outermost blossoms before and after, and the way up from then on.
+  abbrev out : ℕ → ℕ
+  out = out_of t.hand t.top
 
-    pub holds_old : (x v : ℕ) → x ≢ b → v < n → climbs (up_at up2) n x v ≡ climbs (up_at t.up) n x v
-    holds_old x v ne l = the_holds_same rank tied.nest.climb tied.nest.rises ones few (up_at up2)
-        inside high facts.row_top facts.b_off facts.alone facts.unused ups v x ne l
+  abbrev out2 : ℕ → ℕ
+  out2 = out_of h2.hand.items (set t.top handle b)
 
-    pub holds_new : (v : ℕ) → v < n → climbs (up_at up2) n b v ≡ inside (out v)
-    holds_new v l = the_holds_new rank tied.nest.climb tied.nest.rises ones few (up_at up2) inside
-        high facts.row_top facts.b_off facts.alone facts.unused ups v l
+  abbrev up2 : ℕ → ℕ
+  up2 = up_at r2.up.items
 
-    -- The outermost blossoms.
-    pub out_new : (v : ℕ) → v < n → out_of hand2 top2 v ≡ cond (inside (out v)) b (out v)
-    out_new v l = by_test (cases_Bool (inside (out v)))
-      where
-        by_test : (inside (out v) ≡ true) ⊎ (inside (out v) ≡ false) → out_of hand2 top2 v
-            ≡ cond (inside (out v)) b (out v)
-        by_test (inl yes') =
-            let h : get_or hand2 v 0 ≡ handle = hands v l ∙ cond-true (inside (out v)) handle (get_or t.hand v 0)
-            yes' in
-            ap (λ k. get_or top2 k 0) h ∙ (ap (λ xs. get_or xs handle 0) top_is
-            ∙ (get_or-set_same t.top handle b 0 facts.handle_top ∙ sym (cond-true (inside (out v)) b (out v) yes')))
-        by_test (inr off) =
-            let h : get_or hand2 v 0 ≡ get_or t.hand v 0 =
-            hands v l ∙ cond-false (inside (out v)) handle (get_or t.hand v 0) off in
-            let other : get_or t.hand v 0 ≢ handle =
-            λ e. clash off (ap inside (facts.own_handle v l e) ∙ facts.big_in) in
-            ap (λ k. get_or top2 k 0) h ∙ (ap (λ xs. get_or xs (get_or t.hand v 0) 0) top_is
-            ∙ (get_or-set_other t.top handle (get_or t.hand v 0) b 0 other
-            ∙ sym (cond-false (inside (out v)) b (out v) off)))
-          where
-            clash : inside (out v) ≡ false → inside (out v) ≡ true → ⊥
-            clash p q = (let s : false ≡ true = sym p ∙ q in cc)
+  ups : (x : ℕ) → up2 x ≡ cond (inside x) b (up_at t.up x)
+  ups x = ap (λ (f : ℕ → ℕ). f x) enclosed.up ∙ writes_all (up_at t.up) (λ i. get_or t.after i 0) front many b x
 
-    out_in : (v : ℕ) → v < n → inside (out v) ≡ true → out_of hand2 top2 v ≡ b
-    out_in v l yes' = out_new v l ∙ cond-true (inside (out v)) b (out v) yes'
+  enclosing : Enclosing n (up_at t.up) out rank up2 inside b
+  enclosing = record {
+    climb = tied.nest.climb;
+    rises = tied.nest.rises;
+    ones = λ v lv. rank_some tied.nest v lv tied.sizes.vertices;
+    few = rank_few tied.nest;
+    high = high;
+    tops = row_top free;
+    new = b_off free;
+    alone = alone free;
+    unused = unused free;
+    ups = ups;
+  }
 
-    out_off : (v : ℕ) → v < n → inside (out v) ≡ false → out_of hand2 top2 v ≡ out v
-    out_off v l off = out_new v l ∙ cond-false (inside (out v)) b (out v) off
+  holds_old : (x v : ℕ) → x ≢ b → v < n → climbs up2 n x v ≡ climbs (up_at t.up) n x v
+  holds_old = holds_same enclosing
 
-    -- Entries of the tables.
-    at_new : (xs : List ℕ) {ys : List ℕ} (x : ℕ) → ys ≡ set xs b x → length xs ≡ length t.up → get_or ys b 0 ≡ x
-    at_new xs x e size = ap (λ zs. get_or zs b 0) e ∙ get_or-set_same xs b x 0 (subst (λ m. b < m) (sym size) low)
+  -- The handles and the outermost blossoms.
+  hand_in : (v : ℕ) → v < n → inside (out v) ≡ true → get_or h2.hand.items v 0 ≡ handle
+  hand_in v lv on = renamed.hand v lv ∙ cond-true _ _ _ on
 
-    at_old : (xs : List ℕ) {ys : List ℕ} (x y : ℕ) → ys ≡ set xs b x → y ≢ b → get_or ys y 0 ≡ get_or xs y 0
-    at_old xs x y e ne = ap (λ zs. get_or zs y 0) e ∙ get_or-set_other xs b y x 0 ne
+  hand_off : (v : ℕ) → v < n → inside (out v) ≡ false → get_or h2.hand.items v 0 ≡ get_or t.hand v 0
+  hand_off v lv off = renamed.hand v lv ∙ cond-false _ _ _ off
 
-    abbrev total : ℕ
-    total = ring_sum (λ i. get_or t.after i 0) rank front many
+  out_in : (v : ℕ) → v < n → inside (out v) ≡ true → out2 v ≡ b
+  out_in v lv on = rw (hand_in v lv on) (get_or-set_same t.top handle b 0 (handle_top free))
 
-    -- The joined list.
-    next_at : (k : ℕ) → suc k < many → get_or following2 (get_or hid.last (at k) 0) 0 ≡ get_or hid.first (at (suc k)) 0
-    next_at k l = ap (λ (f : ℕ → ℕ). f (get_or hid.last (at k) 0)) following_is
-        ∙ writes_at (λ i. get_or hid.following i 0) (λ j. get_or hid.last (at j) 0)
-        (λ j. get_or hid.first (at (suc j)) 0) (many - 1) k (omega (arith, l))
-        (λ i j lij lj. facts.lasts_differ i j lij (omega (arith, lj)))
+  out_off : (v : ℕ) → v < n → inside (out v) ≡ false → out2 v ≡ out v
+  out_off v lv off = rw (hand_off v lv off) (get_or-set_other t.top handle (get_or t.hand v 0) b 0
+      (λ same. true_false (ap inside (own_handle free v lv same) ∙ big_in free) off))
 
-    next_off : (x : ℕ) → ((k : ℕ) → suc k < many → get_or hid.last (at k) 0 ≢ x) → get_or following2 x 0
-        ≡ get_or hid.following x 0
-    next_off x off = ap (λ (f : ℕ → ℕ). f x) following_is ∙ writes_off (λ i. get_or hid.following i 0)
-        (λ j. get_or hid.last (at j) 0) (λ j. get_or hid.first (at (suc j)) 0) (many - 1) x
-        (λ k l. off k (omega (arith, l)))
+  out_new : (v : ℕ) → v < n → out2 v ≡ cond (inside (out v)) b (out v)
+  out_new v lv = elim (cases_Bool (inside (out v))) [
+    | inl on ↦ out_in v lv on ∙ sym (cond-true _ _ _ on)
+    | inr off ↦ out_off v lv off ∙ sym (cond-false _ _ _ off)
+  ]
 
-    -- Each old list stays.
-    old_next : (y k : ℕ) → y < length t.up → IsInUse n t.parts y → suc k < rank y
-        → get_or following2 (walk (λ i. get_or hid.following i 0) (get_or hid.first y 0) k) 0
-        ≡ walk (λ i. get_or hid.following i 0) (get_or hid.first y 0) (suc k)
-    old_next y k ly used l = next_off (walk (λ i. get_or hid.following i 0) (get_or hid.first y 0) k)
-        (λ j lj e. facts.row_ended j y k (omega (arith, lj)) ly used l (sym e))
+  -- Entries of the tables.
+  at_new : (xs : List ℕ) {ys : List ℕ} (x : ℕ) → ys ≡ set xs b x → length xs ≡ length t.up → get_or ys b 0 ≡ x
+  at_new xs x is size = ap (λ zs. get_or zs b 0) is ∙ get_or-set_same xs b x 0 (rw size low)
 
-    old_list : (y : ℕ) → y < length t.up → IsInUse n t.parts y → IsListed n (λ i. get_or following2 i 0)
-        (get_or hid.first y 0) (get_or hid.last y 0) (rank y) (climbs (up_at t.up) n y)
-    old_list y ly used = list_agrees (λ i. get_or following2 i 0) (tied.nest.members y ly used)
-        (λ k l. old_next y k ly used l)
+  at_old : (xs : List ℕ) {ys : List ℕ} (x : ℕ) → ys ≡ set xs b x → (y : ℕ) → y ≢ b → get_or ys y 0 ≡ get_or xs y 0
+  at_old xs x is y ne = ap (λ zs. get_or zs y 0) is ∙ get_or-set_other xs b y x 0 ne
 
-    old_walk : (y k : ℕ) → y < length t.up → IsInUse n t.parts y → k < rank y
-        → walk (λ i. get_or following2 i 0) (get_or hid.first y 0) k
-        ≡ walk (λ i. get_or hid.following i 0) (get_or hid.first y 0) k
-    old_walk y k ly used l = walk_agrees (λ i. get_or hid.following i 0) (λ i. get_or following2 i 0)
-        (get_or hid.first y 0) (rank y) (λ j lj. old_next y j ly used lj) k l
+  leader_b : get_or (set hid.leader b handle) b 0 ≡ handle
+  leader_b = at_new hid.leader handle refl tied.sizes.leader
 
-    new_list : IsListed n (λ i. get_or following2 i 0) (get_or hid.first front 0) (get_or hid.last (at (many - 1)) 0)
-        total (λ v. inside (out v))
-    new_list =
-        let whole : suc (many - 1) ≡ many = omega (arith, two) in
-        subst (λ m. IsListed n (λ i. get_or following2 i 0) (get_or hid.first front 0)
-        (get_or hid.last (at (many - 1)) 0) (ring_sum (λ i. get_or t.after i 0) rank front m)
-        (λ v. listed (λ i. get_or t.after i 0) front m (out v))) whole
-        (row_joined n (λ i. get_or following2 i 0) (λ i. get_or t.after i 0) (λ x. get_or hid.first x 0)
-        (λ x. get_or hid.last x 0) rank front many out row.distinct (λ k l. list_renamed (λ v. eqb (out v) (at k))
-        (old_list (at k) (row.low k l) (facts.row_used k l)) (λ v lv. facts.held k v l lv)) next_at (many - 1)
-        (omega (arith, two)))
+  rank_b : get_or l2.rank.items b 0 ≡ total
+  rank_b = at_new _ _ joined.rank tied.sizes.rank
 
-    row_rank : (k : ℕ) → k < many → rank (at k) < total
-    row_rank k l = ring_sum_above (λ i. get_or t.after i 0) rank front many two (λ j lj. (facts.row_list j lj).some) k l
+  first_b : get_or l2.first.items b 0 ≡ first front
+  first_b = at_new _ _ joined.first tied.sizes.first
 
-    nest_new : IsLaidOut n (length t.up) hand2 top2 up2 rank2 parts2 leader2 first2 last2 following2
-    nest_new = record {
-      hands = λ v l. subst (λ m. get_or hand2 v 0 < m) (sym top_size) (hand_low v l (cases_Bool (inside (out v))));
-      outs = λ h l. out_low h (subst (λ m. h < m) top_size l) (cases_eq h handle);
-      ups = λ x l. up_low x l (cases_Bool (inside x));
-      climb = record {
-        ends = λ v l. climb_enclosed.ends v l ∙ sym (out_new v l);
-        tops = λ v l. ap (up_at up2) (out_new v l) ∙ (climb_enclosed.tops v l ∙ sym (out_new v l));
-      };
-      led = λ v l. led v l (cases_Bool (inside (out v)));
-      leaders = λ x l used. leaders x l used (cases_eq x b);
-      members = λ x l used. members x l used (cases_eq x b);
-      ended = λ x y k lx ly ux uy l e. ended x y k lx ly ux uy l e (cases_eq x b) (cases_eq y b);
-      idle = λ x hx none. idle x hx none (cases_eq x b);
-      around = λ x inner. around x inner (cases_Bool (inside x));
-      rises = λ x inner. rises x inner (cases_Bool (inside x));
-    }
-      where
-        top_size : length top2 ≡ length t.top
-        top_size = ap length top_is ∙ length-set t.top handle b
+  last_b : get_or l2.last.items b 0 ≡ last (at (many - 1))
+  last_b = at_new _ _ joined.last tied.sizes.last
 
-        hand_low : (v : ℕ) → v < n → (inside (out v) ≡ true) ⊎ (inside (out v) ≡ false)
-            → get_or hand2 v 0 < length t.top
-        hand_low v l (inl yes') =
-            subst (λ x. x < length t.top) (sym (hands v l ∙ cond-true (inside (out v)) handle (get_or t.hand v 0) yes'))
-            facts.handle_top
-        hand_low v l (inr off) =
-            subst (λ x. x < length t.top) (sym (hands v l ∙ cond-false (inside (out v)) handle (get_or t.hand v 0) off))
-            (tied.nest.hands v l)
+  parts_b : get_or r2.parts.items b 0 ≡ many
+  parts_b = at_new _ _ enclosed.parts tied.sizes.parts
 
-        out_low : (h : ℕ) → h < length t.top → (h ≡ handle) ⊎ (h ≢ handle) → get_or top2 h 0 < length t.up
-        out_low h l (inl e) = subst (λ x. x < length t.up) (sym (ap (λ xs. get_or xs h 0) top_is
-            ∙ (ap (λ k. get_or (set t.top handle b) k 0) e ∙ get_or-set_same t.top handle b 0 facts.handle_top))) low
-        out_low h l (inr ne) = subst (λ x. x < length t.up)
-            (sym (ap (λ xs. get_or xs h 0) top_is ∙ get_or-set_other t.top handle h b 0 ne)) (tied.nest.outs h l)
+  rank_old : (x : ℕ) → x ≢ b → get_or l2.rank.items x 0 ≡ rank x
+  rank_old = at_old _ _ joined.rank
 
-        read_up : (xs : List ℕ) (x : ℕ) → x < length xs → get_or xs x 0 ≡ up_at xs x
-        read_up xs x l = read_nat xs x 0 x l
+  first_old : (x : ℕ) → x ≢ b → get_or l2.first.items x 0 ≡ first x
+  first_old = at_old _ _ joined.first
 
-        up_low : (x : ℕ) → x < length t.up → (inside x ≡ true) ⊎ (inside x ≡ false) → get_or up2 x 0 < length t.up
-        up_low x l (inl yes') = subst (λ y. y < length t.up) (sym (read_up up2 x (subst (λ m. x < m) (sym up_size) l)
-            ∙ (ups x ∙ cond-true (inside x) b (up_at t.up x) yes'))) low
-        up_low x l (inr off) = subst (λ y. y < length t.up) (sym (read_up up2 x (subst (λ m. x < m) (sym up_size) l)
-            ∙ (ups x ∙ (cond-false (inside x) b (up_at t.up x) off ∙ sym (read_up t.up x l))))) (tied.nest.ups x l)
+  last_old : (x : ℕ) → x ≢ b → get_or l2.last.items x 0 ≡ last x
+  last_old = at_old _ _ joined.last
 
-        led : (v : ℕ) → v < n → (inside (out v) ≡ true) ⊎ (inside (out v) ≡ false)
-            → get_or hand2 v 0 ≡ get_or leader2 (out_of hand2 top2 v) 0
-        led v l (inl yes') = (hands v l ∙ cond-true (inside (out v)) handle (get_or t.hand v 0) yes')
-            ∙ sym (ap (λ x. get_or leader2 x 0) (out_in v l yes') ∙ at_new hid.leader handle leader_is
-            tied.sizes.leader)
-        led v l (inr off) = (hands v l ∙ cond-false (inside (out v)) handle (get_or t.hand v 0) off)
-            ∙ (tied.nest.led v l ∙ sym (ap (λ x. get_or leader2 x 0) (out_off v l off)
-            ∙ at_old hid.leader handle (out v) leader_is (facts.no_out v l)))
+  parts_old : (x : ℕ) → x ≢ b → get_or r2.parts.items x 0 ≡ get_or t.parts x 0
+  parts_old = at_old _ _ enclosed.parts
 
-        still_used : (x : ℕ) → x ≢ b → IsInUse n parts2 x → IsInUse n t.parts x
-        still_used x ne (inl l) = inl l
-        still_used x ne (inr live) = inr (λ none. live (at_old t.parts many x parts_is ne ∙ none))
+  still_used : (x : ℕ) → x ≢ b → IsInUse n r2.parts.items x → IsInUse n t.parts x
+  still_used x ne (inl lx) = inl lx
+  still_used x ne (inr live) = inr (λ none. live (parts_old x ne ∙ none))
 
-        leaders : (x : ℕ) → x < length t.up → IsInUse n parts2 x → (x ≡ b) ⊎ (x ≢ b) → (get_or leader2 x 0 < n)
-            × (climbs (up_at up2) n x (get_or leader2 x 0) ≡ true)
-        leaders x l used (inl e) =
-            let is : get_or leader2 x 0 ≡ handle = ap (λ y. get_or leader2 y 0) e
-            ∙ at_new hid.leader handle leader_is tied.sizes.leader in (
-              subst (λ y. y < n) (sym is) facts.handle_low,
-              ap (climbs (up_at up2) n x) is ∙ (ap (λ y. climbs (up_at up2) n y handle) e
-                  ∙ (holds_new handle facts.handle_low ∙ (ap inside facts.handle_out ∙ facts.big_in))),
-            )
-        leaders x l used (inr ne) =
-            let is : get_or leader2 x 0 ≡ get_or hid.leader x 0 = at_old hid.leader handle x leader_is ne in
-            let was : (get_or hid.leader x 0 < n) × (climbs (up_at t.up) n x (get_or hid.leader x 0) ≡ true) =
-            tied.nest.leaders x l (still_used x ne used) in (
-              subst (λ y. y < n) (sym is) was.0,
-              ap (climbs (up_at up2) n x) is ∙ (holds_old x (get_or hid.leader x 0) ne was.0 ∙ was.1),
-            )
+  -- Each old list stays.
+  next_off : (v : ℕ) → ((k : ℕ) → suc k < many → last (at k) ≢ v) → next2 v ≡ get_or hid.following v 0
+  next_off v off = ap (λ (f : ℕ → ℕ). f v) joined.following
+      ∙ writes_off (λ i. get_or hid.following i 0) (λ j. last (at j)) (λ j. first (at (suc j))) (many - 1) v
+      (λ k lk. off k (omega (arith, lk)))
 
-        members : (x : ℕ) → x < length t.up → IsInUse n parts2 x → (x ≡ b) ⊎ (x ≢ b)
-            → IsListed n (λ i. get_or following2 i 0) (get_or first2 x 0) (get_or last2 x 0) (get_or rank2 x 0)
-            (climbs (up_at up2) n x)
-        members x l used (inl e) = subst (λ y. IsListed n (λ i. get_or following2 i 0) (get_or first2 y 0)
-            (get_or last2 y 0) (get_or rank2 y 0) (climbs (up_at up2) n y)) (sym e)
-            (subst (λ y. IsListed n (λ i. get_or following2 i 0) y (get_or last2 b 0) (get_or rank2 b 0)
-            (climbs (up_at up2) n b)) (sym (at_new hid.first (get_or hid.first front 0) first_is
-            tied.sizes.first)) (subst (λ y. IsListed n (λ i. get_or following2 i 0) (get_or hid.first front 0) y
-            (get_or rank2 b 0) (climbs (up_at up2) n b)) (sym (at_new hid.last (get_or hid.last (at (many - 1)) 0)
-            last_is tied.sizes.last)) (subst (λ y. IsListed n (λ i. get_or following2 i 0) (get_or hid.first front 0)
-            (get_or hid.last (at (many - 1)) 0) y (climbs (up_at up2) n b))
-            (sym (at_new t.rank total rank_is tied.sizes.rank)) (list_renamed (climbs (up_at up2) n b) new_list
-            (λ v lv. sym (holds_new v lv))))))
-        members x l used (inr ne) = subst (λ y. IsListed n (λ i. get_or following2 i 0) y (get_or last2 x 0)
-            (get_or rank2 x 0) (climbs (up_at up2) n x)) (sym (at_old hid.first (get_or hid.first front 0) x
-            first_is ne)) (subst (λ y. IsListed n (λ i. get_or following2 i 0) (get_or hid.first x 0) y
-            (get_or rank2 x 0) (climbs (up_at up2) n x)) (sym (at_old hid.last (get_or hid.last (at (many - 1)) 0)
-            x last_is ne)) (subst (λ y. IsListed n (λ i. get_or following2 i 0) (get_or hid.first x 0)
-            (get_or hid.last x 0) y (climbs (up_at up2) n x)) (sym (at_old t.rank total x rank_is ne))
-            (list_renamed (climbs (up_at up2) n x) (old_list x l (still_used x ne used))
-            (λ v lv. sym (holds_old x v ne lv)))))
+  old_next : (y : ℕ) → y < length t.up → IsInUse n t.parts y → (k : ℕ) → suc k < rank y
+      → next2 (walk (λ i. get_or hid.following i 0) (first y) k)
+      ≡ walk (λ i. get_or hid.following i 0) (first y) (suc k)
+  old_next y ly used k lk = next_off (walk (λ i. get_or hid.following i 0) (first y) k)
+      (λ j lj same. row_ended free j y k (omega (arith, lj)) ly used lk (sym same))
 
-        rank_b : get_or rank2 b 0 ≡ total
-        rank_b = at_new t.rank total rank_is tied.sizes.rank
+  old_list : (y : ℕ) → y < length t.up → IsInUse n t.parts y → IsListed n next2 (first y) (last y) (rank y)
+      (climbs (up_at t.up) n y)
+  old_list y ly used = list_agrees next2 (tied.nest.members y ly used) (old_next y ly used)
 
-        last_b : get_or last2 b 0 ≡ get_or hid.last (at (many - 1)) 0
-        last_b = at_new hid.last (get_or hid.last (at (many - 1)) 0) last_is tied.sizes.last
+  old_walk : (y k : ℕ) → y < length t.up → IsInUse n t.parts y → k < rank y → walk next2 (first y) k
+      ≡ walk (λ i. get_or hid.following i 0) (first y) k
+  old_walk y k ly used = walk_agrees _ next2 (first y) (rank y) (old_next y ly used) k
 
-        first_b : get_or first2 b 0 ≡ get_or hid.first front 0
-        first_b = at_new hid.first (get_or hid.first front 0) first_is tied.sizes.first
+  -- The joined list.
+  next_at : (k : ℕ) → suc k < many → next2 (last (at k)) ≡ first (at (suc k))
+  next_at k lk = ap (λ (f : ℕ → ℕ). f (last (at k))) joined.following
+      ∙ writes_at (λ i. get_or hid.following i 0) (λ j. last (at j)) (λ j. first (at (suc j))) (many - 1) k
+      (omega (arith, lk)) (λ i j lij lj. lasts_differ free i j lij (omega (arith, lj)))
 
-        -- A blossom whose last vertex is on the list of the new set is within one of the row's.
-        within : (x k : ℕ) → x < length t.up → IsInUse n t.parts x → k < total
-            → walk (λ i. get_or following2 i 0) (get_or hid.first front 0) k ≡ get_or hid.last x 0 → rank x < total
-        within x k lx used l e =
-            let mine : (get_or hid.last x 0 < n) × (climbs (up_at t.up) n x (get_or hid.last x 0) ≡ true) =
-            list_has_last (tied.nest.members x lx used) in
-            let in_new : inside (out (get_or hid.last x 0)) ≡ true = subst (λ v. inside (out v) ≡ true) e
-            (list_member new_list k l) in
-            let w : (i : ℕ) × (i < many) × (at i ≡ out (get_or hid.last x 0)) =
-            listed_place (λ i. get_or t.after i 0) front many (out (get_or hid.last x 0)) in_new in
-            let low : rank x ≤ rank (out (get_or hid.last x 0)) = rank_passed tied.nest (get_or hid.last x 0) x mine.0
-            mine.1 in
-            let same : rank (at w.0) ≡ rank (out (get_or hid.last x 0)) = ap rank w.2 in
-            omega (arith, low, same, row_rank w.0 w.1)
+  new_list : IsListed n next2 (first front) (last (at (many - 1))) total (λ v. inside (out v))
+  new_list =
+      let whole : suc (many - 1) ≡ many = omega (arith, ring.two) in
+      subst (λ m. IsListed n next2 (first front) (last (at (many - 1)))
+      (ring_sum (λ i. get_or t.after i 0) rank front m) (λ v. listed (λ i. get_or t.after i 0) front m (out v))) whole
+      (row_joined n next2 (λ i. get_or t.after i 0) first last rank front many out ring.row.distinct
+      (λ k lk. list_agrees next2 (own_list free k lk) (λ j lj. next_off _
+      (λ i li same. apart i k j (omega (arith, li)) lk lj (sym same)))) next_at (many - 1) (omega (arith, ring.two)))
+    where
+      apart : (i k j : ℕ) → i < many → k < many → suc j < rank (at k)
+          → walk (λ m. get_or hid.following m 0) (first (at k)) j ≢ last (at i)
+      apart i k j li lk = row_ended free i (at k) j li (ring.row.low k lk) (used k lk)
+        where
+          used : (k : ℕ) → k < many → IsInUse n t.parts (at k)
+          used k lk = let v : (v : ℕ) × (v < n) × (out v ≡ at k) = ring.tops k lk in
+              subst (IsInUse n t.parts) v.2 (out_used tied.nest v.0 v.1)
 
-        ended : (x y k : ℕ) → x < length t.up → y < length t.up → IsInUse n parts2 x → IsInUse n parts2 y
-            → suc k < get_or rank2 y 0 → walk (λ i. get_or following2 i 0) (get_or first2 y 0) k ≡ get_or last2 x 0
-            → (x ≡ b) ⊎ (x ≢ b) → (y ≡ b) ⊎ (y ≢ b) → get_or rank2 x 0 < get_or rank2 y 0
-        ended x y k lx ly ux uy l e (inl xb) (inl yb) =
-            let w : (j : ℕ) × (suc j ≡ total) × (walk (λ i. get_or following2 i 0) (get_or hid.first front 0) j
-            ≡ get_or hid.last (at (many - 1)) 0) = list_last total new_list in
-            let count : get_or rank2 y 0 ≡ total = ap (λ z. get_or rank2 z 0) yb ∙ rank_b in
-            let here : walk (λ i. get_or following2 i 0) (get_or hid.first front 0) k
-            ≡ get_or hid.last (at (many - 1)) 0 = ap (λ z. walk (λ i. get_or following2 i 0) z k)
-            (sym (ap (λ z. get_or first2 z 0) yb ∙ first_b)) ∙ (e ∙ (ap (λ z. get_or last2 z 0) xb ∙ last_b)) in
-            absurd (new_list.distinct k w.0 (omega (arith, l, count, w.1)) (omega (arith, w.1)) (here ∙ sym w.2))
-        ended x y k lx ly ux uy l e (inr nx) (inl yb) =
-            let count : get_or rank2 y 0 ≡ total = ap (λ z. get_or rank2 z 0) yb ∙ rank_b in
-            let own : get_or rank2 x 0 ≡ rank x = at_old t.rank total x rank_is nx in
-            let here : walk (λ i. get_or following2 i 0) (get_or hid.first front 0) k ≡ get_or hid.last x 0 =
-            ap (λ z. walk (λ i. get_or following2 i 0) z k) (sym (ap (λ z. get_or first2 z 0) yb ∙ first_b))
-            ∙ (e ∙ at_old hid.last (get_or hid.last (at (many - 1)) 0) x last_is nx) in
-            omega (arith, count, own, within x k lx (still_used x nx ux) (omega (arith, l, count)) here)
-        ended x y k lx ly ux uy l e (inl xb) (inr ny) =
-            let own : get_or rank2 y 0 ≡ rank y = at_old t.rank total y rank_is ny in
-            let lk : suc k < rank y = omega (arith, l, own) in
-            absurd (facts.row_ended (many - 1) y k (omega (arith, two)) ly (still_used y ny uy) lk
-            (sym (old_walk y k ly (still_used y ny uy) (omega (arith, lk)))
-            ∙ (ap (λ z. walk (λ i. get_or following2 i 0) z k)
-            (sym (at_old hid.first (get_or hid.first front 0) y first_is ny))
-            ∙ (e ∙ (ap (λ z. get_or last2 z 0) xb ∙ last_b)))))
-        ended x y k lx ly ux uy l e (inr nx) (inr ny) =
-            let own_x : get_or rank2 x 0 ≡ rank x = at_old t.rank total x rank_is nx in
-            let own : get_or rank2 y 0 ≡ rank y = at_old t.rank total y rank_is ny in
-            let lk : suc k < rank y = omega (arith, l, own) in
-            let was : rank x < rank y = tied.nest.ended x y k lx ly (still_used x nx ux) (still_used y ny uy) lk
-            (sym (old_walk y k ly (still_used y ny uy) (omega (arith, lk)))
-            ∙ (ap (λ z. walk (λ i. get_or following2 i 0) z k)
-            (sym (at_old hid.first (get_or hid.first front 0) y first_is ny))
-            ∙ (e ∙ at_old hid.last (get_or hid.last (at (many - 1)) 0) x last_is nx))) in
-            omega (arith, own_x, own, was)
+  row_rank : (x : ℕ) → inside x ≡ true → rank x < total
+  row_rank x on =
+      let p : (k : ℕ) × (k < many) × (at k ≡ x) = listed_place _ front many x on in
+      subst (λ y. rank y < total) p.2
+      (ring_sum_above _ rank front many ring.two (λ j lj. (row_list free j lj).some) p.0 p.1)
 
-        many_some : many ≢ 0
-        many_some z = omega (arith, z, two)
+  -- A blossom whose last vertex is on the list of the new set is within one of the row's.
+  within : (x k : ℕ) → x < length t.up → IsInUse n t.parts x → k < total → walk next2 (first front) k ≡ last x
+      → rank x < total
+  within x k lx used lk same =
+      let mine : (last x < n) × (climbs (up_at t.up) n x (last x) ≡ true) =
+      list_has_last (tied.nest.members x lx used) in
+      omega (
+        arith,
+        rank_passed tied.nest (last x) x mine.0 mine.1,
+        row_rank (out (last x)) (subst (λ v. inside (out v) ≡ true) same (list_member new_list k lk)),
+      )
 
-        idle : (x : ℕ) → n ≤ x → get_or parts2 x 0 ≡ 0 → (x ≡ b) ⊎ (x ≢ b) → up_at up2 x ≡ x
-        idle x hx none (inl e) = absurd (many_some (sym (at_new t.parts many parts_is tied.sizes.parts)
-            ∙ (ap (λ y. get_or parts2 y 0) (sym e) ∙ none)))
-        idle x hx none (inr ne) = by_test (cases_Bool (inside x))
-          where
-            old_none : get_or t.parts x 0 ≡ 0
-            old_none = sym (at_old t.parts many x parts_is ne) ∙ none
+  nest_new : IsLaidOut n (length t.up) h2.hand.items (set t.top handle b) r2.up.items l2.rank.items r2.parts.items
+      (set hid.leader b handle) l2.first.items l2.last.items l2.following.items
+  nest_new = record {
+    hands = λ v lv. rw (length-set t.top handle b) (elim (cases_Bool (inside (out v))) [
+      | inl on ↦ rw (hand_in v lv on) (handle_top free)
+      | inr off ↦ rw (hand_off v lv off) (tied.nest.hands v lv)
+    ]);
+    outs = λ k lk. elim (cases_eq k handle) [
+      | inl same ↦ rw (same, get_or-set_same t.top handle b 0 (handle_top free)) low
+      | inr ne ↦ rw (get_or-set_other t.top handle k b 0 ne) (tied.nest.outs k (rw (length-set t.top handle b) at lk))
+    ];
+    ups = λ x lx. rw (read_nat r2.up.items x 0 x (rw enclosed.size lx), ups x) (elim (cases_Bool (inside x)) [
+      | inl on ↦ rw on low
+      | inr off ↦ rw (off, read_nat t.up x x 0 lx) (tied.nest.ups x lx)
+    ]);
+    climb = record {
+      ends = λ v lv. (climb_enclosed enclosing).ends v lv ∙ sym (out_new v lv);
+      tops = λ v lv. rw (out_new v lv) ((climb_enclosed enclosing).tops v lv);
+    };
+    led = λ v lv. elim (cases_Bool (inside (out v))) [
+      | inl on ↦ rw (out_in v lv on, hand_in v lv on) (sym leader_b)
+      | inr off ↦ rw (out_off v lv off, hand_off v lv off, get_or-set_other hid.leader b (out v) handle 0
+          (no_out free v lv)) (tied.nest.led v lv)
+    ];
+    leaders = λ x lx used. elim (cases_eq x b) [
+      | inl same ↦ rw (same, leader_b) (
+        (handle_at free).0,
+        holds_new enclosing handle (handle_at free).0 ∙ (ap inside (handle_at free).1 ∙ big_in free),
+      )
+      | inr ne ↦ rw (get_or-set_other hid.leader b x handle 0 ne)
+          (let was : (get_or hid.leader x 0 < n) × (climbs (up_at t.up) n x (get_or hid.leader x 0) ≡ true) =
+          tied.nest.leaders x lx (still_used x ne used) in (was.0, holds_old x _ ne was.0 ∙ was.1))
+    ];
+    members = λ x lx used. elim (cases_eq x b) [
+      | inl same ↦ rw (same, first_b, last_b, rank_b)
+          (list_renamed _ new_list (λ v lv. sym (holds_new enclosing v lv)))
+      | inr ne ↦ rw (first_old x ne, last_old x ne, rank_old x ne)
+          (list_renamed _ (old_list x lx (still_used x ne used)) (λ v lv. sym (holds_old x v ne lv)))
+    ];
+    ended = λ x y k lx ly ux uy lk same. ended x y k lx ly ux uy lk same (cases_eq x b) (cases_eq y b);
+    idle = λ x hx none. idle x hx none (cases_eq x b) (cases_Bool (inside x));
+    around = λ x inner. around x inner (cases_Bool (inside x));
+    rises = λ x inner. elim (cases_Bool (inside x)) [
+      | inl on ↦ rw (ups x, on, rank_b, rank_old x (in_ne x on)) (row_rank x on)
+      | inr off ↦
+          (let is : up2 x ≡ up_at t.up x = ups x ∙ cond-false _ _ _ off in
+          let ne : x ≢ b = λ same. inner (rw same (ups b ∙ (cond-false _ _ _ (b_off free) ∙ alone free))) in
+          rw (is, rank_old x ne, rank_old (up_at t.up x) (unused free x ne)) (tied.nest.rises x (λ s. inner (is ∙ s))))
+    ];
+  }
+    where
+      in_ne : (x : ℕ) → inside x ≡ true → x ≢ b
+      in_ne x on same = true_false (ap inside (sym same) ∙ on) (b_off free)
 
-            by_used : (v : ℕ) → v < n → out v ≡ x → IsInUse n t.parts (out v) → ⊥
-            by_used v l e (inl lx) = omega (arith, lx, hx, e)
-            by_used v l e (inr live) = live (ap (λ y. get_or t.parts y 0) e ∙ old_none)
+      ended : (x y k : ℕ) → x < length t.up → y < length t.up → IsInUse n r2.parts.items x → IsInUse n r2.parts.items y
+          → suc k < get_or l2.rank.items y 0
+          → walk next2 (get_or l2.first.items y 0) k ≡ get_or l2.last.items x 0
+          → (x ≡ b) ⊎ (x ≢ b) → (y ≡ b) ⊎ (y ≢ b) → get_or l2.rank.items x 0 < get_or l2.rank.items y 0
+      ended x y k lx ly ux uy lk same (inl xb) (inl yb) =
+          let p : (j : ℕ) × (suc j ≡ total) × (walk next2 (first front) j ≡ last (at (many - 1))) =
+          list_last total new_list in
+          let few : suc k < total = rw (yb, rank_b) at lk in
+          absurd (new_list.distinct k p.0 (omega (arith, few, p.1)) (omega (arith, p.1))
+          ((rw (yb, xb, first_b, last_b) at same) ∙ sym p.2))
+      ended x y k lx ly ux uy lk same (inr nx) (inl yb) =
+          let few : suc k < total = rw (yb, rank_b) at lk in
+          rw (yb, rank_b, rank_old x nx) (within x k lx (still_used x nx ux) (omega (arith, few))
+          (rw (yb, first_b, last_old x nx) at same))
+      ended x y k lx ly ux uy lk same (inl xb) (inr ny) =
+          let few : suc k < rank y = rw (rank_old y ny) at lk in
+          absurd (row_ended free (many - 1) y k (omega (arith, ring.two)) ly (still_used y ny uy) few
+          (sym (old_walk y k ly (still_used y ny uy) (omega (arith, few)))
+          ∙ (rw (xb, first_old y ny, last_b) at same)))
+      ended x y k lx ly ux uy lk same (inr nx) (inr ny) =
+          let few : suc k < rank y = rw (rank_old y ny) at lk in
+          rw (rank_old x nx, rank_old y ny) (tied.nest.ended x y k lx ly (still_used x nx ux) (still_used y ny uy) few
+          (sym (old_walk y k ly (still_used y ny uy) (omega (arith, few)))
+          ∙ (rw (first_old y ny, last_old x nx) at same)))
 
-            by_test : (inside x ≡ true) ⊎ (inside x ≡ false) → up_at up2 x ≡ x
-            by_test (inl yes') = let w : (v : ℕ) × (v < n) × (out v ≡ x) = facts.in_row_out x yes' in
-                absurd (by_used w.0 w.1 w.2 (out_used tied.nest w.0 w.1))
-            by_test (inr off) = ups x ∙ (cond-false (inside x) b (up_at t.up x) off ∙ tied.nest.idle x hx old_none)
+      idle : (x : ℕ) → n ≤ x → get_or r2.parts.items x 0 ≡ 0 → (x ≡ b) ⊎ (x ≢ b)
+          → (inside x ≡ true) ⊎ (inside x ≡ false) → up2 x ≡ x
+      idle x hx none (inl same) y = absurd (omega (arith, ring.two, parts_b, rw same at none))
+      idle x hx none (inr ne) (inl on) =
+          let v : (v : ℕ) × (v < n) × (out v ≡ x) = in_row_out free x on in
+          elim (subst (IsInUse n t.parts) v.2 (out_used tied.nest v.0 v.1)) [
+            | inl lx ↦ absurd (omega (arith, lx, hx))
+            | inr live ↦ absurd (live (sym (parts_old x ne) ∙ none))
+          ]
+      idle x hx none (inr ne) (inr off) = rw (ups x, off) (tied.nest.idle x hx (sym (parts_old x ne) ∙ none))
 
-        around : (x : ℕ) → up_at up2 x ≢ x → (inside x ≡ true) ⊎ (inside x ≡ false) → (n ≤ up_at up2 x)
-            × (get_or parts2 (up_at up2 x) 0 ≢ 0)
-        around x inner (inl yes') =
-            let is : up_at up2 x ≡ b = ups x ∙ cond-true (inside x) b (up_at t.up x) yes' in (
-              subst (λ y. n ≤ y) (sym is) high,
-              (λ none. many_some (sym (at_new t.parts many parts_is tied.sizes.parts)
-                  ∙ (ap (λ y. get_or parts2 y 0) (sym is) ∙ none))),
-            )
-        around x inner (inr off) =
-            let is : up_at up2 x ≡ up_at t.up x = ups x ∙ cond-false (inside x) b (up_at t.up x) off in
-            let was : (n ≤ up_at t.up x) × (get_or t.parts (up_at t.up x) 0 ≢ 0) =
-            tied.nest.around x (λ e. inner (is ∙ e)) in
-            let other : up_at t.up x ≢ b = λ e. was.1 (ap (λ y. get_or t.parts y 0) e ∙ dead) in (
-              subst (λ y. n ≤ y) (sym is) was.0,
-              (λ none. was.1 (sym (at_old t.parts many (up_at t.up x) parts_is other)
-                  ∙ (ap (λ y. get_or parts2 y 0) (sym is) ∙ none))),
-            )
+      around : (x : ℕ) → up2 x ≢ x → (inside x ≡ true) ⊎ (inside x ≡ false) → (n ≤ up2 x)
+          × (get_or r2.parts.items (up2 x) 0 ≢ 0)
+      around x inner (inl on) = rw (ups x, on) (high, (λ none. absurd (omega (arith, ring.two, parts_b, none))))
+      around x inner (inr off) =
+          let is : up2 x ≡ up_at t.up x = ups x ∙ cond-false _ _ _ off in
+          let was : (n ≤ up_at t.up x) × (get_or t.parts (up_at t.up x) 0 ≢ 0) =
+          tied.nest.around x (λ s. inner (is ∙ s)) in
+          rw (is, parts_old (up_at t.up x) (λ s. was.1 (ap (λ y. get_or t.parts y 0) s ∙ dead))) was
 
-        rises : (x : ℕ) → up_at up2 x ≢ x → (inside x ≡ true) ⊎ (inside x ≡ false)
-            → get_or rank2 x 0 < get_or rank2 (up_at up2 x) 0
-        rises x inner (inl yes') =
-            let is : up_at up2 x ≡ b = ups x ∙ cond-true (inside x) b (up_at t.up x) yes' in
-            let w : (k : ℕ) × (k < many) × (at k ≡ x) = listed_place (λ i. get_or t.after i 0) front many x yes' in
-            let ne : x ≢ b = λ e. (let s : false ≡ true = sym facts.b_off ∙ (ap inside (sym e) ∙ yes') in cc) in
-            let own : get_or rank2 x 0 ≡ rank (at w.0) = at_old t.rank total x rank_is ne ∙ ap rank (sym w.2) in
-            let new : get_or rank2 (up_at up2 x) 0 ≡ total = ap (λ y. get_or rank2 y 0) is
-            ∙ at_new t.rank total rank_is tied.sizes.rank in
-            omega (arith, own, new, row_rank w.0 w.1)
-        rises x inner (inr off) =
-            let is : up_at up2 x ≡ up_at t.up x = ups x ∙ cond-false (inside x) b (up_at t.up x) off in
-            let was : rank x < rank (up_at t.up x) = tied.nest.rises x (λ e. inner (is ∙ e)) in
-            let x_ne : x ≢ b = λ e. inner (ap (up_at up2) e
-            ∙ (ups b ∙ (cond-false (inside b) b (up_at t.up b) facts.b_off ∙ (facts.alone ∙ sym e)))) in
-            let own : get_or rank2 x 0 ≡ rank x = at_old t.rank total x rank_is x_ne in
-            let next : get_or rank2 (up_at up2 x) 0 ≡ rank (up_at t.up x) = ap (λ y. get_or rank2 y 0) is
-            ∙ at_old t.rank total (up_at t.up x) rank_is (facts.unused x x_ne) in
-            omega (arith, own, next, was)
+  -- The numbers, the trail and the pool.
+  handle_outside : label_at t.label (out handle) ≡ Outside
+  handle_outside = row_outside free (out handle) (ap inside (handle_at free).1 ∙ big_in free)
 
-    -- The numbers, the trail and the pool.
-    numbers_new : HasNumbers hand2 top2 up2 t.base t.label t.delta root2 q2 hid.off
-    numbers_new = the_numbers_new tied b inside hand2 top2 up2 root2 q2 facts.handle_low
-        (tied.nest.led handle facts.handle_low ∙ ap (λ x. get_or hid.leader x 0) facts.handle_out)
-        (ap inside facts.handle_out ∙ facts.big_in)
-        facts.row_outside facts.b_outside weightless hands hand_size up_size qs holds_old out_in out_off root_is
+  told_new : (v : ℕ) → v < n → told h2.q.items h2.hand.items (set t.top handle b) hid.off t.label t.delta v
+      ≡ told hid.q t.hand t.top hid.off t.label t.delta v
+  told_new v lv = elim (cases_Bool (inside (out v))) [
+    | inl on ↦
+        (let q : get_or h2.q.items v (pos 0) ≡ (get_or hid.q v (pos 0) +ℤ get_or hid.off (get_or t.hand v 0) (pos 0)) -ℤ
+        get_or hid.off handle (pos 0) = renamed.q v lv ∙ cond-true _ _ _ on in
+        rw (out_in v lv on, hand_in v lv on, b_outside free, row_outside free (out v) on) (omega (arith, ints, q)))
+    | inr off ↦
+        (let q : get_or h2.q.items v (pos 0) ≡ get_or hid.q v (pos 0) = renamed.q v lv ∙ cond-false _ _ _ off in
+        rw (out_off v lv off, hand_off v lv off, q))
+  ]
 
-    trail_new : IsTrailed n hand2 top2 t.label t.trail hid.touched
-    trail_new = the_trail_new tied b inside hand2 top2 up2 root2 q2 facts.handle_low
-        (tied.nest.led handle facts.handle_low ∙ ap (λ x. get_or hid.leader x 0) facts.handle_out)
-        (ap inside facts.handle_out ∙ facts.big_in)
-        facts.row_outside facts.b_outside weightless hands hand_size up_size qs holds_old out_in out_off root_is
+  -- What the handle of a vertex adds is what some handle added.
+  moved_new : (v : ℕ) → v < n → (u : ℕ) × (u < n)
+      × (added h2.hand.items (set t.top handle b) hid.off t.label t.delta v ≡ added t.hand t.top hid.off t.label t.delta u)
+  moved_new v lv = elim (cases_Bool (inside (out v))) [
+    | inl on ↦ (
+      handle,
+      (handle_at free).0,
+      rw (out_in v lv on, hand_in v lv on, b_outside free, handle_outside, (handle_at free).2),
+    )
+    | inr off ↦ (v, lv, rw (out_off v lv off, hand_off v lv off))
+  ]
 
-    pool_new : IsPooled n (length t.up) parts2 pool2
-    pool_new = subst (λ ps. IsPooled n (length t.up) ps pool2) (sym parts_is)
-        (subst (IsPooled n (length t.up) (set t.parts b many)) (sym pool_is)
-        (pool_taken n (length t.up) t.parts hid.pool tied.pool b many id node high low tied.sizes.parts dead
-        (λ z. omega (arith, z, two)) id_is id_free))
+  numbers_new : HasNumbers h2.hand.items (set t.top handle b) r2.up.items t.base t.label t.delta root2 h2.q.items hid.off
+  numbers_new = numbers_kept tied (ring.weightless b high dead) renamed.hands enclosed.size holds_old root_is told_new
+      moved_new
 
-    abbrev pub gathered : ForestTables
-    gathered = record t { hand = hand2; top = top2; up = up2; head = head2; parts = parts2; rank = rank2; root = root2 }
+  trail_new : IsTrailed n h2.hand.items (set t.top handle b) t.label t.trail hid.touched
+  trail_new = trail_kept tied.trail (λ v lv named. elim (cases_Bool (inside (out v))) [
+    | inl on ↦ absurd (named (row_outside free (out v) on))
+    | inr off ↦ out_off v lv off
+  ])
 
-    abbrev pub gathered_hidden : HiddenTables
-    gathered_hidden = record hid {
-      q = q2;
-      leader = leader2;
-      first = first2;
-      last = last2;
-      following = following2;
-      pool = pool2;
-    }
+  pool_new : IsPooled n (length t.up) r2.parts.items pool2
+  pool_new = rw (enclosed.parts, took.taken) (pool_taken n (length t.up) t.parts hid.pool tied.pool b many took.id
+      took.node high low tied.sizes.parts dead (λ z. absurd (omega (arith, z, ring.two))) took.is took.free)
 
-    sizes_new : HasSizes gathered gathered_hidden
-    sizes_new = record {
-      few = omega (arith, tied.sizes.few, up_size);
-      vertices = omega (arith, tied.sizes.vertices, up_size, hand_size);
-      top = ap length top_is ∙ (length-set t.top handle b ∙ (tied.sizes.top ∙ sym hand_size));
-      q = q_size ∙ (tied.sizes.q ∙ sym hand_size);
-      off = tied.sizes.off ∙ sym (ap length top_is ∙ length-set t.top handle b);
-      following = following_size ∙ (tied.sizes.following ∙ sym hand_size);
-      touched = tied.sizes.touched ∙ sym hand_size;
-      base = tied.sizes.base ∙ sym up_size;
-      label = tied.sizes.label ∙ sym up_size;
-      mate = tied.sizes.mate ∙ sym up_size;
-      link = tied.sizes.link ∙ sym up_size;
-      rank = ap length rank_is ∙ (length-set t.rank b total ∙ (tied.sizes.rank ∙ sym up_size));
-      after = tied.sizes.after ∙ sym up_size;
-      joint = tied.sizes.joint ∙ sym up_size;
-      head = ap length head_is ∙ (length-set t.head b front ∙ (tied.sizes.head ∙ sym up_size));
-      parts = ap length parts_is ∙ (length-set t.parts b many ∙ (tied.sizes.parts ∙ sym up_size));
-      leader = ap length leader_is ∙ (length-set hid.leader b handle ∙ (tied.sizes.leader ∙ sym up_size));
-      first = ap length first_is ∙ (length-set hid.first b (get_or hid.first front 0)
-          ∙ (tied.sizes.first ∙ sym up_size));
-      last = ap length last_is ∙ (length-set hid.last b (get_or hid.last (at (many - 1)) 0)
-          ∙ (tied.sizes.last ∙ sym up_size));
-      room = omega (arith, tied.sizes.room, hand_size);
-    }
+  abbrev pub gathered : ForestTables
+  gathered = record t {
+    hand = h2.hand.items;
+    top = set t.top handle b;
+    up = r2.up.items;
+    head = r2.head.items;
+    parts = r2.parts.items;
+    rank = l2.rank.items;
+    root = root2;
+  }
 
-    -- The tie after a ring was gathered.
-    pub tied_gathered : AreTied gathered gathered_hidden
-    tied_gathered = record {
-      sizes = sizes_new;
-      nest = subst (λ m. IsLaidOut m (length up2) hand2 top2 up2 rank2 parts2 leader2 first2 last2 following2)
-          (sym hand_size) (subst (λ m. IsLaidOut n m hand2 top2 up2 rank2 parts2 leader2 first2 last2 following2)
-          (sym up_size) nest_new);
-      numbers = numbers_new;
-      trail = subst (λ m. IsTrailed m hand2 top2 t.label t.trail hid.touched) (sym hand_size) trail_new;
-      pool = subst (λ m. IsPooled m (length up2) parts2 pool2) (sym hand_size)
-          (subst (λ m. IsPooled n m parts2 pool2) (sym up_size) pool_new);
-    }
+  abbrev pub gathered_hidden : HiddenTables
+  gathered_hidden = record hid {
+    q = h2.q.items;
+    leader = set hid.leader b handle;
+    first = l2.first.items;
+    last = l2.last.items;
+    following = l2.following.items;
+    pool = pool2;
+  }
 
-    -- What the forest sees.
-    pub gathered_is : IsGathered n (forest_of t) (forest_of gathered) inside front many b
-    gathered_is = record {
-      high = high;
-      low = low;
-      no_parts = dead;
-      alone = facts.alone;
-      around_none = facts.unused;
-      no_out = facts.no_out;
-      outside = facts.b_outside;
-      size = up_size;
-      holds_new = λ v l. ap (λ m. climbs (up_at up2) m b v) hand_size ∙ holds_new v l;
-      holds_old = λ x v ne l. ap (λ m. climbs (up_at up2) m x v) hand_size ∙ holds_old x v ne l;
-      out = out_new;
-      weight = refl;
-      label = refl;
-      mate = refl;
-      link = refl;
-      after = refl;
-      joint = refl;
-      up = λ x. up_seen x (cases_eq x b);
-      head = λ x. ap (λ (f : ℕ → ℕ). f x) (ap (λ xs y. get_or xs y 0) head_is
-          ∙ entry_set t.head b front 0 (subst (λ m. b < m) (sym tied.sizes.head) low));
-      parts = λ x. ap (λ (f : ℕ → ℕ). f x) (ap (λ xs y. get_or xs y 0) parts_is
-          ∙ entry_set t.parts b many 0 (subst (λ m. b < m) (sym tied.sizes.parts) low));
-      rank = λ x ne. at_old t.rank total x rank_is ne;
-      ranked = λ x yes'. ranked x (listed_place (λ i. get_or t.after i 0) front many x yes');
-    }
-      where
-        up_seen : (x : ℕ) → (x ≡ b) ⊎ (x ≢ b) → up_at up2 x ≡ set_at (λ y. cond (inside y) b (up_at t.up y)) b b x
-        up_seen x (inl e) = ups x ∙ (ap (λ y. cond (inside y) b (up_at t.up y)) e
-            ∙ (cond-false (inside b) b (up_at t.up b) facts.b_off
-            ∙ (facts.alone ∙ sym (ap (set_at (λ y. cond (inside y) b (up_at t.up y)) b b) e
-            ∙ set_here (λ y. cond (inside y) b (up_at t.up y)) b b))))
-        up_seen x (inr ne) = ups x ∙ sym (set_there (λ y. cond (inside y) b (up_at t.up y)) b x b ne)
+  -- A table with one entry written is as long as the numbers of blossoms.
+  as_long : (xs : List ℕ) {ys : List ℕ} (k x : ℕ) → ys ≡ set xs k x → length xs ≡ length t.up → length ys
+      ≡ length r2.up.items
+  as_long xs k x is size = ap length is ∙ (length-set xs k x ∙ (size ∙ sym enclosed.size))
 
-        ranked : (x : ℕ) → (k : ℕ) × (k < many) × (at k ≡ x) → rank x < get_or rank2 b 0
-        ranked x w = subst (λ y. rank y < get_or rank2 b 0) w.2 (let new : get_or rank2 b 0 ≡ total =
-            at_new t.rank total rank_is tied.sizes.rank in omega (arith, new, row_rank w.0 w.1))
+  sizes_new : HasSizes gathered gathered_hidden
+  sizes_new = record {
+    few = omega (arith, tied.sizes.few, enclosed.size);
+    vertices = omega (arith, tied.sizes.vertices, enclosed.size, renamed.hands);
+    top = length-set t.top handle b ∙ (tied.sizes.top ∙ sym renamed.hands);
+    q = renamed.qs ∙ (tied.sizes.q ∙ sym renamed.hands);
+    off = tied.sizes.off ∙ sym (length-set t.top handle b);
+    following = joined.size ∙ (tied.sizes.following ∙ sym renamed.hands);
+    touched = tied.sizes.touched ∙ sym renamed.hands;
+    base = tied.sizes.base ∙ sym enclosed.size;
+    label = tied.sizes.label ∙ sym enclosed.size;
+    mate = tied.sizes.mate ∙ sym enclosed.size;
+    link = tied.sizes.link ∙ sym enclosed.size;
+    rank = as_long _ _ _ joined.rank tied.sizes.rank;
+    after = tied.sizes.after ∙ sym enclosed.size;
+    joint = tied.sizes.joint ∙ sym enclosed.size;
+    head = as_long _ _ _ enclosed.head tied.sizes.head;
+    parts = as_long _ _ _ enclosed.parts tied.sizes.parts;
+    leader = as_long hid.leader b handle refl tied.sizes.leader;
+    first = as_long _ _ _ joined.first tied.sizes.first;
+    last = as_long _ _ _ joined.last tied.sizes.last;
+    room = omega (arith, tied.sizes.room, renamed.hands);
+  }
 
-    -- The root's blossom is enclosed where it is in the row.
-    pub root_new : (r : ℕ) → r < length t.up → r ≢ b → cond (eqb (get_or up2 r 0) b) b r ≡ cond (inside r) b r
-    root_new r l ne = by_test (cases_Bool (inside r))
-      where
-        read : get_or up2 r 0 ≡ up_at up2 r
-        read = read_nat up2 r 0 r (subst (λ m. r < m) (sym up_size) l)
+  -- The tie after a ring was gathered.
+  pub tied_gathered : AreTied gathered gathered_hidden
+  tied_gathered = tied_as {t = gathered} {hid = gathered_hidden} renamed.hands enclosed.size sizes_new nest_new
+      numbers_new trail_new pool_new
 
-        by_test : (inside r ≡ true) ⊎ (inside r ≡ false) → cond (eqb (get_or up2 r 0) b) b r ≡ cond (inside r) b r
-        by_test (inl yes') = cond-true (eqb (get_or up2 r 0) b) b r (eq-eqb (get_or up2 r 0) b
-            (read ∙ (ups r ∙ cond-true (inside r) b (up_at t.up r) yes'))) ∙ sym (cond-true (inside r) b r yes')
-        by_test (inr off) = cond-false (eqb (get_or up2 r 0) b) b r
-            (ne_eqb (get_or up2 r 0) b (λ e. facts.unused r ne (sym (ups r ∙ cond-false (inside r) b (up_at t.up r) off)
-            ∙ (sym read ∙ e)))) ∙ sym (cond-false (inside r) b r off)
+  -- What the forest sees.
+  pub gathered_is : IsGathered n (forest_of t) (forest_of gathered) inside front many b
+  gathered_is = record {
+    high = high;
+    low = low;
+    no_parts = dead;
+    alone = alone free;
+    around_none = unused free;
+    no_out = no_out free;
+    outside = b_outside free;
+    size = enclosed.size;
+    holds_new = λ v lv. ap (λ m. climbs up2 m b v) renamed.hands ∙ holds_new enclosing v lv;
+    holds_old = λ x v ne lv. ap (λ m. climbs up2 m x v) renamed.hands ∙ holds_old x v ne lv;
+    out = out_new;
+    weight = refl;
+    label = refl;
+    mate = refl;
+    link = refl;
+    after = refl;
+    joint = refl;
+    up = λ x. up_seen x (cases_eq x b);
+    head = λ x. ap (λ (f : ℕ → ℕ). f x) (ap (λ xs y. get_or xs y 0) enclosed.head
+        ∙ entry_set t.head b front 0 (rw tied.sizes.head low));
+    parts = λ x. ap (λ (f : ℕ → ℕ). f x) (ap (λ xs y. get_or xs y 0) enclosed.parts
+        ∙ entry_set t.parts b many 0 (rw tied.sizes.parts low));
+    rank = rank_old;
+    ranked = λ x on. rw rank_b (row_rank x on);
+  }
+    where
+      up_seen : (x : ℕ) → (x ≡ b) ⊎ (x ≢ b) → up2 x ≡ set_at (λ y. cond (inside y) b (up_at t.up y)) b b x
+      up_seen x (inl same) = rw (same, set_here (λ y. cond (inside y) b (up_at t.up y)) b b)
+          (ups b ∙ (cond-false _ _ _ (b_off free) ∙ alone free))
+      up_seen x (inr ne) = ups x ∙ sym (set_there (λ y. cond (inside y) b (up_at t.up y)) b x b ne)
+
+  -- The root's blossom is enclosed where it is in the row.
+  pub root_new : (x : ℕ) → x < length t.up → x ≢ b → cond (eqb (get_or r2.up.items x 0) b) b x ≡ cond (inside x) b x
+  root_new x lx ne = rw (read_nat r2.up.items x 0 x (rw enclosed.size lx), ups x) (elim (cases_Bool (inside x)) [
+    | inl on ↦ rw (on, eq-eqb b b refl)
+    | inr off ↦ rw (off, ne_eqb (up_at t.up x) b (unused free x ne))
+  ])

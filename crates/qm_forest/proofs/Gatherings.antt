@@ -16,10 +16,9 @@ use Rattle.qm_forest.specs.{Gathers.root_around, Ties.AreTied, Ties.HiddenTables
 use Rattle.qm_forest.specs.{Views.tables_of, Views.hidden_of, declared.tables.Handles.Handles}
 use Rattle.qm_forest.specs.{declared.tables.Lists.Lists, declared.tables.Rings.Rings, declared.tables.Trail.Trail}
 use Rattle.qm_forest.specs.{declared.tables.Tree.Tree, declared.tables.Weights.Weights}
-use Rattle.qm_forest.proofs.Gathered.{gathered, gathered_hidden, tied_gathered, gathered_is, root_new}
-use Rattle.qm_forest.proofs.GatheredRows.{RowFacts, row_facts}
-use Rattle.qm_forest.proofs.JoinedLists.{list_few, list_renamed, row_few}
-use Rattle.qm_forest.proofs.Nests.{leader_low, leader_out}
+use Rattle.qm_forest.proofs.Gathered.{Gathering, gathered_is, root_new, tied_gathered}
+use Rattle.qm_forest.proofs.GatheredRows.{FreeRow, handle_top, last_in, leader_at, no_out, own_list, row_list}
+use Rattle.qm_forest.proofs.JoinedLists.{list_few, row_few}
 use Rattle.qm_forest.proofs.Ranges.{added_small, change_small, delta_small, outermost_low, told_small}
 
 module _ (h : Handles) (l : Lists) (r : Rings) (trail : Trail) (w : Weights) (e : Tree) (pool : List (Option Node))
@@ -67,49 +66,30 @@ module _ (h : Handles) (l : Lists) (r : Rings) (trail : Trail) (w : Weights) (e 
     -- A free number and a blossom of the ring, as far as one is needed to speak of the ring.
     module _ (b : ℕ) (high : length h.hand.items ≤ b) (low : b < length r.up.items) (dead : get_or r.parts.items b 0
         ≡ 0) where
-      facts : RowFacts t hid front many b (at 0)
-      facts = row_facts t hid tied front many b (at 0) ring.row ring.tops ring.outside high low dead (
-        0,
-        ring.row.some,
-        refl,
-      )
-
-      leader_at : (k : ℕ) → k < many → (get_or l.leader.items (at k) 0 < length h.hand.items)
-          × (get_or h.hand.items (get_or l.leader.items (at k) 0) 0 ≡ get_or l.leader.items (at k) 0)
-      leader_at k lk = by_top (ring.tops k lk)
-        where
-          by_top : IsOutermostIn t (at k) → (get_or l.leader.items (at k) 0 < length h.hand.items)
-              × (get_or h.hand.items (get_or l.leader.items (at k) 0) 0 ≡ get_or l.leader.items (at k) 0)
-          by_top v =
-              let lv : get_or l.leader.items (at k) 0 < length h.hand.items = subst
-              (λ x. get_or l.leader.items x 0 < length h.hand.items) v.2 (leader_low tied.nest v.0 v.1) in
-              let own : out_of h.hand.items h.top.items (get_or l.leader.items (at k) 0) ≡ at k =
-              ap (λ x. out_of h.hand.items h.top.items (get_or l.leader.items x 0)) (sym v.2)
-              ∙ (leader_out tied.nest v.0 v.1 ∙ v.2) in
-              (lv, tied.nest.led (get_or l.leader.items (at k) 0) lv ∙ ap (λ x. get_or l.leader.items x 0) own)
+      free : FreeRow t hid front many b (at 0)
+      free = record { tied = tied; ring = ring; high = high; low = low; dead = dead; on = (0, ring.row.some, refl) }
 
       pub lists_of_row : HasListsOf h l r.after.items front many
       lists_of_row = record {
         each = λ k lk. record {
-          first = subst (λ m. at k < m) (sym tied.sizes.first) (ring.row.low k lk);
-          rank = subst (λ m. at k < m) (sym tied.sizes.rank) (ring.row.low k lk);
+          first = rw tied.sizes.first (ring.row.low k lk);
+          rank = rw tied.sizes.rank (ring.row.low k lk);
           q = tied.sizes.q;
           following = tied.sizes.following;
           few = omega (arith, tied.sizes.few, tied.sizes.vertices);
-          many = list_few (facts.row_list k lk);
-          low = (facts.row_list k lk).low;
-          distinct = (facts.row_list k lk).distinct;
+          many = list_few (row_list free k lk);
+          low = (row_list free k lk).low;
+          distinct = (row_list free k lk).distinct;
         };
-        own = λ k v lk lv. (facts.row_list k lk).all v lv ∙ facts.held k v lk lv;
+        own = λ k v lk lv. (own_list free k lk).all v lv;
         leader = tied.sizes.leader ∙ sym tied.sizes.after;
         rank = tied.sizes.rank ∙ sym tied.sizes.after;
-        leaders = λ k lk. subst (λ m. get_or l.leader.items (at k) 0 < m) (sym (tied.sizes.off ∙ tied.sizes.top))
-            (leader_at k lk).0;
+        leaders = λ k lk. rw (tied.sizes.off, tied.sizes.top) (leader_at free k lk).0;
         led = tied.nest.led;
         small_q = q_small;
         small_off = off_small;
-        small_leaders = λ k lk. subst (λ i. unsigned_abs (get_or h.off.items i (pos 0)) ≤ 2 ^ 97) (leader_at k lk).1
-            (off_small (get_or l.leader.items (at k) 0) (leader_at k lk).0);
+        small_leaders = λ k lk. subst (λ i. unsigned_abs (get_or h.off.items i (pos 0)) ≤ 2 ^ 97) (leader_at free k lk).2
+            (off_small (get_or l.leader.items (at k) 0) (leader_at free k lk).0);
       }
 
       pub joinable : AreJoinable l r.after.items front many
@@ -117,14 +97,10 @@ module _ (h : Handles) (l : Lists) (r : Rings) (trail : Trail) (w : Weights) (e 
         first = tied.sizes.first ∙ sym tied.sizes.after;
         last = tied.sizes.last ∙ sym tied.sizes.after;
         rank = tied.sizes.rank ∙ sym tied.sizes.after;
-        ends = λ k lk. subst (λ m. get_or l.last.items (at k) 0 < m) (sym tied.sizes.following) (facts.last_in k lk).0;
-        few = (let total : ring_sum (λ i. get_or r.after.items i 0) (λ x. get_or l.rank.items x 0) front many ≤ length
-            h.hand.items = row_few (length h.hand.items) (λ i. get_or l.following.items i 0)
-            (λ i. get_or r.after.items i 0) (λ x. get_or l.first.items x 0) (λ x. get_or l.last.items x 0)
-            (λ x. get_or l.rank.items x 0) front many (out_of h.hand.items h.top.items) ring.row.distinct
-            (λ k lk. list_renamed (λ v. eqb (out_of h.hand.items h.top.items v) (at k)) (facts.row_list k lk)
-            (λ v lv. facts.held k v lk lv)) in
-            omega (arith, total, tied.sizes.few, tied.sizes.vertices));
+        ends = λ k lk. rw tied.sizes.following (last_in free k lk).0;
+        few = omega (arith, row_few (length h.hand.items) _ (λ i. get_or r.after.items i 0)
+            (λ x. get_or l.first.items x 0) (λ x. get_or l.last.items x 0) (λ x. get_or l.rank.items x 0) front many
+            (out_of h.hand.items h.top.items) ring.row.distinct (own_list free), tied.sizes.few, tied.sizes.vertices);
       }
 
     -- The number that is taken.
@@ -139,100 +115,69 @@ module _ (h : Handles) (l : Lists) (r : Rings) (trail : Trail) (w : Weights) (e 
       set_dead = ap (λ x. get_or r.parts.items x 0) took.is ∙ tied.pool.free took.id took.free
 
       module _ (big : ℕ) (on : (k : ℕ) × (k < many) × (walk (λ i. get_or r.after.items i 0) front k ≡ big)) where
-        big_facts : RowFacts t hid front many b big
-        big_facts = row_facts t hid tied front many b big ring.row ring.tops ring.outside set_high set_low set_dead on
+        row : FreeRow t hid front many b big
+        row = record { tied = tied; ring = ring; high = set_high; low = set_low; dead = set_dead; on = on }
 
         pub big_low : big < length l.leader.items
-        big_low = subst (λ m. big < m) (sym tied.sizes.leader)
-            (subst (λ x. x < length r.up.items) on.2 (ring.row.low on.0 on.1))
+        big_low = rw tied.sizes.leader (subst (λ x. x < length r.up.items) on.2 (ring.row.low on.0 on.1))
 
         pub big_handle : get_or l.leader.items big 0 < length h.top.items
-        big_handle = subst (λ m. get_or l.leader.items big 0 < m) (sym tied.sizes.top) big_facts.handle_low
+        big_handle = handle_top row
 
         module _ {h2 : Handles} {l2 : Lists} {r2 : Rings} {leader : ℕ} {root2 : Option ℕ}
             (renamed : HasRenamedRow h h2 l r.after.items front many big)
             (joined : AreJoined l l2 r.after.items front many b) (enclosed : AreEnclosed r r2 front many b)
             (leader_is : leader ≡ get_or l.leader.items big 0) (root_is : root2
             ≡ root_around r2.up.items b e.root) where
-          pub top_new : set h2.top.items leader b ≡ set h.top.items (get_or l.leader.items big 0) b
-          top_new = ap (λ o. set o.items leader b) renamed.top ∙ ap (λ i. set h.top.items i b) leader_is
-
-          pub leader_new : set l2.leader.items b leader ≡ set l.leader.items b (get_or l.leader.items big 0)
-          leader_new = ap (λ o. set o.items b leader) joined.leader ∙ ap (set l.leader.items b) leader_is
-
-          pub root_kept : root2 ≡ None → e.root ≡ None
-          root_kept none = by_root e.root (sym root_is ∙ none)
+          gathering : Gathering h h2 l l2 r r2 trail w e pool pool2 room root2 front many b big
+          gathering = record {
+            free = row;
+            took = took;
+            renamed = renamed;
+            joined = joined;
+            enclosed = enclosed;
+            root_is = λ none. by_root e.root (sym root_is ∙ none);
+          }
             where
               by_root : (o : Option ℕ) → root_around r2.up.items b o ≡ None → o ≡ None
               by_root None n = refl
               by_root (Some x) n = absurd (cc n)
 
+          -- The tables after the loops.
           abbrev after_ring : ForestTables
-          after_ring = gathered tied b big ring.row ring.tops ring.outside set_high set_low set_dead
-              (ring.weightless b set_high set_dead) on ring.two h2.hand.items r2.up.items root2 h2.q.items
-              l2.following.items took.id took.node renamed.hand renamed.hands renamed.q renamed.qs top_new enclosed.up
-              enclosed.size enclosed.head enclosed.parts joined.rank leader_new joined.first joined.last
-              joined.following joined.size took.taken took.is took.free root_kept
+          after_ring = record (tables_of h2 l2 r2 trail w e room) { top = set h2.top.items leader b; root = root2 }
 
           abbrev hidden_ring : HiddenTables
-          hidden_ring = gathered_hidden tied b big ring.row ring.tops ring.outside set_high set_low set_dead
-              (ring.weightless b set_high set_dead) on ring.two h2.hand.items r2.up.items root2 h2.q.items
-              l2.following.items took.id took.node renamed.hand renamed.hands renamed.q renamed.qs top_new enclosed.up
-              enclosed.size enclosed.head enclosed.parts joined.rank leader_new joined.first joined.last
-              joined.following joined.size took.taken took.is took.free root_kept
+          hidden_ring = record (hidden_of h2 l2 trail pool2) { leader = set l2.leader.items b leader }
 
           -- The tie after the loops.
-          pub tied_after : AreTied (record after_ring { after = r2.after.items; joint = r2.joint.items })
-              (record hidden_ring { off = h2.off.items })
-          tied_after = subst (λ o. AreTied (record after_ring { after = o.items; joint = r2.joint.items })
-              (record hidden_ring { off = h2.off.items })) (sym enclosed.after)
-              (subst (λ o. AreTied (record after_ring { joint = o.items }) (record hidden_ring { off = h2.off.items }))
-              (sym enclosed.joint) (subst (λ o. AreTied after_ring (record hidden_ring { off = o.items }))
-              (sym renamed.off) (tied_gathered tied b big ring.row ring.tops ring.outside set_high set_low set_dead
-              (ring.weightless b set_high set_dead) on ring.two h2.hand.items r2.up.items root2 h2.q.items
-              l2.following.items took.id took.node renamed.hand renamed.hands renamed.q renamed.qs top_new enclosed.up
-              enclosed.size enclosed.head enclosed.parts joined.rank leader_new joined.first joined.last
-              joined.following joined.size took.taken took.is took.free root_kept)))
+          pub tied_after : AreTied after_ring hidden_ring
+          tied_after = rw (enclosed.after, enclosed.joint, renamed.off, renamed.top, joined.leader, leader_is)
+              (tied_gathered gathering)
 
           -- And what the forest sees.
-          pub seen_after : IsGathered (length h.hand.items) (forest_of t)
-              (forest_of (record after_ring { after = r2.after.items; joint = r2.joint.items }))
+          pub seen_after : IsGathered (length h.hand.items) (forest_of t) (forest_of after_ring)
               (listed (λ i. get_or r.after.items i 0) front many) front many b
-          seen_after = subst (λ o. IsGathered (length h.hand.items) (forest_of t)
-              (forest_of (record after_ring { after = o.items; joint = r2.joint.items }))
-              (listed (λ i. get_or r.after.items i 0) front many) front many b) (sym enclosed.after)
-              (subst (λ o. IsGathered (length h.hand.items) (forest_of t)
-              (forest_of (record after_ring { joint = o.items })) (listed (λ i. get_or r.after.items i 0) front many)
-              front many b) (sym enclosed.joint) (gathered_is tied b big ring.row ring.tops ring.outside set_high
-              set_low set_dead (ring.weightless b set_high set_dead) on ring.two h2.hand.items r2.up.items root2
-              h2.q.items l2.following.items took.id took.node renamed.hand renamed.hands renamed.q renamed.qs top_new
-              enclosed.up enclosed.size enclosed.head enclosed.parts joined.rank leader_new joined.first joined.last
-              joined.following joined.size took.taken took.is took.free root_kept))
-
-          root_ne : (x : ℕ) → e.root ≡ Some x → x ≢ b
-          root_ne x is at_b = (let v : IsOutermostIn t x = ring.root x is in big_facts.no_out v.0 v.1 (v.2 ∙ at_b))
+          seen_after = rw (enclosed.after, enclosed.joint, renamed.top, leader_is) (gathered_is gathering)
 
           pub root_after : (x : ℕ) → e.root ≡ Some x
               → root2 ≡ Some (cond (listed (λ i. get_or r.after.items i 0) front many x) b x)
-          root_after x is = root_is ∙ (ap (root_around r2.up.items b) is
-              ∙ ap (λ (y : ℕ). Some y) (root_new tied b big ring.row ring.tops ring.outside set_high set_low set_dead
-              (ring.weightless b set_high set_dead) on ring.two h2.hand.items r2.up.items root2 h2.q.items
-              l2.following.items took.id took.node renamed.hand renamed.hands renamed.q renamed.qs top_new enclosed.up
-              enclosed.size enclosed.head enclosed.parts joined.rank leader_new joined.first joined.last
-              joined.following joined.size took.taken took.is took.free root_kept x (root_low x is) (root_ne x is)))
+          root_after x is =
+              let v : IsOutermostIn t x = ring.root x is in
+              root_is ∙ (ap (root_around r2.up.items b) is ∙ ap (λ (y : ℕ). Some y)
+              (root_new gathering x (root_low x is) (λ same. no_out row v.0 v.1 (v.2 ∙ same))))
 
 -- The number of vertices, told otherwise; and the row, read from a slice.
 pub took_as : {pool pool2 : List (Option Node)} {m : ℕ} (n : ℕ) {b : ℕ} → TookSet pool pool2 m b → m ≡ n
     → TookSet pool pool2 n b
-took_as {pool} {pool2} n {b} took e = subst (λ k. TookSet pool pool2 k b) e took
+took_as n took e = rw e at took
 
 pub on_as : {xs ys : List ℕ} (front many big : ℕ) → xs ≡ ys → ((k : ℕ) × (k < many)
     × (walk (λ i. get_or xs i 0) front k ≡ big)) → (k : ℕ) × (k < many) × (walk (λ i. get_or ys i 0) front k ≡ big)
-on_as front many big e w = subst (λ zs. (k : ℕ) × (k < many) × (walk (λ i. get_or zs i 0) front k ≡ big)) e w
+on_as front many big e w = rw e at w
 
 -- What the forest sees, said of the tables as contracts see them.
 pub gathered_as : {t u : ForestTables} {new : Forest} {front many b : ℕ} → t ≡ u
     → IsGathered (length t.hand) (forest_of t) new (listed (λ i. get_or t.after i 0) front many) front many b
     → IsGathered (length u.hand) (forest_of u) new (listed (λ i. get_or u.after i 0) front many) front many b
-gathered_as {new} {front} {many} {b} e is = subst (λ (x : ForestTables). IsGathered (length x.hand) (forest_of x)
-    new (listed (λ i. get_or x.after i 0) front many) front many b) e is
+gathered_as e is = rw e at is

@@ -19,8 +19,8 @@ pub mod JoinedRows
 pub mod Nests
 pub mod Gathered
 pub mod GatheredRows
-pub mod GatheredNumbers
 pub mod Pooled
+pub mod KeptTies
 pub mod PartedWays
 pub mod Parted
 pub mod Handings
