@@ -11,7 +11,8 @@ use Rattle.forest_laws.proofs.{Circles.IsCircle, ExpandedTrees.opened_valid}
 use Rattle.qm_forest.specs.{Parts.HasOpened, Parts.IsCourse, Parts.IsParted, Parts.hung, Parts.paired, Ties.fixed_of}
 use Rattle.qm_forest.specs.{Ties.HasSameNest, Ties.labelled, Ties.linked, Ties.mated, declared.expanding.Course.Course}
 use Rattle.qm_forest.proofs.{Leavings.outermost_kept, OnWays.darts_kept, OnWays.ends_kept, OnWays.room_kept}
-use Rattle.qm_forest.proofs.{Openeds.expanding, Openings.IsJoined, Openings.are, Openings.inside as the_inside}
+use Rattle.qm_forest.proofs.{Openeds.expanding, Openeds.laid, Openings.CanOpen, Openings.IsJoined, Openings.are}
+use Rattle.qm_forest.proofs.Openings.{inside as the_inside}
 use Rattle.qm_forest.proofs.Openings.{in_tree, joined, mate_is, part_low, ring_from}
 use Rattle.qm_forest.proofs.Openings.{first_in, last_in, tree_is}
 
@@ -23,22 +24,25 @@ module _ {g : WeightedGraph} (is : IsSmallGraph g) {t0 : ForestTables} (valid : 
   abbrev f0 : Forest
   f0 = forest_of t0
 
+  abbrev ready : CanOpen g t0 b
+  ready = record { is = is; valid = valid; high = high; inner = inner; weightless = weightless }
+
   abbrev m : ℕ
-  m = (in_tree g is t0 valid b high inner weightless).dart
+  m = (in_tree ready).dart
 
   -- The set is matched, and its darts are darts of the graph.
   pub matched : f0.mate b ≢ None
   matched none = (let clash : ◌≡◌ {A = Option ℕ} (Some m) None =
-      sym (in_tree g is t0 valid b high inner weightless).mate ∙ none in absurd (cc clash))
+      sym (in_tree ready).mate ∙ none in absurd (cc clash))
 
   pub mate_dart_is : {x : ℕ} → x ≡ dart_or (f0.mate b) → x ≡ m
-  mate_dart_is e = e ∙ ap dart_or (in_tree g is t0 valid b high inner weightless).mate
+  mate_dart_is e = e ∙ ap dart_or (in_tree ready).mate
 
   pub mate_low : {x : ℕ} → x ≡ m → x < 2 * length g.edges
-  mate_low e = subst (λ y. y < 2 * length g.edges) (sym e) (mate_is g is t0 valid b high inner weightless).tight.low
+  mate_low e = rw e (mate_is ready).tight.low
 
   pub link_low : {x : ℕ} → x ≡ f0.link b → x < 2 * length g.edges
-  link_low e = subst (λ y. y < 2 * length g.edges) (sym e) (in_tree g is t0 valid b high inner weightless).tight.low
+  link_low e = rw e (in_tree ready).tight.low
 
   module _ {t2 : ForestTables} (opened : HasOpened t0 t2 b) where
     abbrev f2 : Forest
@@ -52,33 +56,29 @@ module _ {g : WeightedGraph} (is : IsSmallGraph g) {t0 : ForestTables} (valid : 
 
     pub parted : IsParted g.n (mated (labelled f0 b Outside) b None) f2
         (listed f0.nest.after (f0.nest.head b) (f0.nest.parts b)) b
-    parted = subst (λ n. IsParted n (mated (labelled f0 b Outside) b None) f2
-        (listed f0.nest.after (f0.nest.head b) (f0.nest.parts b)) b) left_size
-        (subst (λ (x : Forest). IsParted (length opened.left.hand) x f2
+    parted = rw left_size at (subst (λ (x : Forest). IsParted (length opened.left.hand) x f2
         (listed x.nest.after (x.nest.head b) (x.nest.parts b)) b) opened.gone opened.is)
 
     pub vertex_low : (v x : ℕ) → v ≡ d.near x → x < 2 * length g.edges → v < length t2.hand
-    vertex_low v x e l = subst (λ n. v < n) (sym hand2)
-        (subst (λ y. y < g.n) (sym e) ((are g is t0 valid b high inner weightless).near_low x l))
+    vertex_low v x e l = rw (hand2, e) ((are ready).near_low x l)
 
     abbrev inside : ℕ → Bool
-    inside = the_inside g is t0 valid b high inner weightless
+    inside = the_inside ready
 
     part_top : (x : ℕ) → inside x ≡ true → IsOutermostIn t2 x
     part_top x on =
-        let j : IsJoined g is t0 valid b high inner weightless parted f2.nest.after f2.nest.joint x =
-        joined g is t0 valid b high inner weightless parted x on in (
+        let j : IsJoined ready f2.out f2.nest.after f2.nest.joint x =
+        joined ready parted x on in (
           d.near (f2.nest.joint x),
           vertex_low (d.near (f2.nest.joint x)) (f2.nest.joint x) refl j.tight.low,
           j.near_part,
         )
 
     low2 : (x : ℕ) → inside x ≡ true → x < length t2.up
-    low2 x on = subst (λ n. x < n) (sym parted.size) (part_low g is t0 valid b high inner weightless x on)
+    low2 x on = rw parted.size (part_low ready x on)
 
     joint_low : (x : ℕ) → inside x ≡ true → f2.nest.joint x < 2 ^ 31
-    joint_low x on = (let l : f2.nest.joint x < 2 * length g.edges =
-        (joined g is t0 valid b high inner weightless parted x on).tight.low in omega (arith, l, is.edges))
+    joint_low x on = omega (arith, (joined ready parted x on).tight.low, is.edges)
 
     module _ {m' l' first' last' many' v' w' : ℕ} (m_is : m' ≡ m) (l_is : l' ≡ f0.link b) (v_is : v' ≡ d.near m')
         (w_is : w' ≡ d.near l') (first_at : first' ≡ f2.out v') (last_at : last' ≡ f2.out w') (many_is : many'
@@ -90,16 +90,16 @@ module _ {g : WeightedGraph} (is : IsSmallGraph g) {t0 : ForestTables} (valid : 
       last_is = last_at ∙ (ap f2.out w_is ∙ ap (λ x. f2.out (d.near x)) l_is)
 
       first_marked : inside first' ≡ true
-      first_marked = ap inside first_is ∙ first_in g is t0 valid b high inner weightless parted
+      first_marked = ap inside first_is ∙ first_in ready parted
 
       last_marked : inside last' ≡ true
-      last_marked = ap inside last_is ∙ last_in g is t0 valid b high inner weightless parted
+      last_marked = ap inside last_is ∙ last_in ready parted
 
       circle_at : (x : ℕ) → inside x ≡ true → IsCircle f2.nest.after x (f0.nest.parts b) inside
-      circle_at = ring_from g is t0 valid b high inner weightless parted
+      circle_at = ring_from ready parted
 
       pub some : 1 ≤ many'
-      some = subst (λ n. 1 ≤ n) (sym many_is) (circle_at first' first_marked).some
+      some = rw many_is (circle_at first' first_marked).some
 
       pub places_low : (k : ℕ) → k < many' → walk f2.nest.after first' k < length t2.up
       places_low k l = low2 (walk f2.nest.after first' k) ((circle_at first' first_marked).marked k)
@@ -125,8 +125,7 @@ module _ {g : WeightedGraph} (is : IsSmallGraph g) {t0 : ForestTables} (valid : 
             (w.0, subst (λ n. w.0 < n) (sym many_is) w.1, at3 first' w.0 ∙ w.2))
 
         low_from : (x : ℕ) → inside x ≡ true → (k : ℕ) → walk (forest_of t3).nest.after x k < length t3.up
-        low_from x on k = subst (λ n. walk (forest_of t3).nest.after x k < n) (sym up3)
-            (subst (λ y. y < length t2.up) (sym (at3 x k)) (low2 (walk f2.nest.after x k) ((circle_at x on).marked k)))
+        low_from x on k = rw (up3, at3 x k) (low2 (walk f2.nest.after x k) ((circle_at x on).marked k))
 
         pub low3 : (k : ℕ) → k < many' → walk (forest_of t3).nest.after first' k < length t3.up
         low3 k l = low_from first' first_marked k
@@ -134,13 +133,10 @@ module _ {g : WeightedGraph} (is : IsSmallGraph g) {t0 : ForestTables} (valid : 
         -- And hung into the tree.
         module _ {course : Course} (way : IsCourse (forest_of t3).nest.after first' last' many' course) where
           front_marked : inside course.front ≡ true
-          front_marked = by_way way.way
-            where
-              by_way : ((course.forward ≡ true) × (course.front ≡ first') × (course.many ≡ way.steps + 1)
-                  × (way.steps % 2 ≡ 0)) ⊎ ((course.forward ≡ false) × (course.front ≡ last')
-                  × (course.many ≡ (many' - way.steps) + 1) × (way.steps % 2 ≡ 1)) → inside course.front ≡ true
-              by_way (inl w) = ap inside w.1 ∙ first_marked
-              by_way (inr w) = ap inside w.1 ∙ last_marked
+          front_marked = elim way.way [
+            | inl w ↦ ap inside w.1 ∙ first_marked
+            | inr w ↦ ap inside w.1 ∙ last_marked
+          ]
 
           pub tops3 : (k : ℕ) → k < course.many → IsOutermostIn t3 (walk (forest_of t3).nest.after course.front k)
           tops3 k l = outermost_kept same3 (at3 course.front k)
@@ -151,40 +147,26 @@ module _ {g : WeightedGraph} (is : IsSmallGraph g) {t0 : ForestTables} (valid : 
 
           pub joints3 : (k : ℕ) → k < course.many
               → (forest_of t3).nest.joint (walk (forest_of t3).nest.after course.front k) < 2 ^ 31
-          joints3 k l = subst (λ (h : ℕ → ℕ). h (walk (forest_of t3).nest.after course.front k) < 2 ^ 31)
-              (sym (ap (λ (f : Forest). f.nest.joint) seen3))
-              (subst (λ y. f2.nest.joint y < 2 ^ 31) (sym (at3 course.front k))
-              (joint_low (walk f2.nest.after course.front k) ((circle_at course.front front_marked).marked k)))
+          joints3 k l = rw (at3 course.front k,
+              ap (λ (f : Forest). f.nest.joint (walk f2.nest.after course.front k)) seen3)
+              (joint_low (walk f2.nest.after course.front k) ((circle_at course.front front_marked).marked k))
 
           way2 : IsCourse f2.nest.after (f2.out (d.near m)) (f2.out (d.near (f0.link b))) (f0.nest.parts b) course
-          way2 = subst (λ n. IsCourse f2.nest.after (f2.out (d.near m)) (f2.out (d.near (f0.link b))) n course) many_is
-              (subst (λ x. IsCourse f2.nest.after (f2.out (d.near m)) x many' course) last_is
-              (subst (λ x. IsCourse f2.nest.after x last' many' course) first_is
-              (subst (λ (h : ℕ → ℕ). IsCourse h first' last' many' course) after3 way)))
+          way2 = rw (after3, first_is, last_is, many_is) at way
 
           module _ {f6 : Forest} (t4 : ForestTables) (seen4 : forest_of t4
               ≡ hung (forest_of t3) course.front course.many course.forward) (seen6 : f6
               ≡ linked (forest_of t4) last' l') where
-            done : f6 ≡ linked (hung (mated (paired f2 (f2.out (d.near m)) (f0.nest.parts b)) (f2.out (d.near m))
-                (Some m)) course.front course.many course.forward) (f2.out (d.near (f0.link b))) (f0.link b)
-            done = seen6 ∙ (ap (λ (f : Forest). linked f last' l') seen4
-                ∙ (ap (λ (f : Forest). linked (hung f course.front course.many course.forward) last' l') seen3
-                ∙ (ap (λ x. linked (hung (mated (paired f2 x many') x (Some m')) course.front course.many
-                course.forward) last' l') first_is ∙ (ap (λ n. linked (hung
-                (mated (paired f2 (f2.out (d.near m)) n) (f2.out (d.near m)) (Some m')) course.front course.many
-                course.forward) last' l') many_is ∙ (ap (λ x. linked (hung
-                (mated (paired f2 (f2.out (d.near m)) (f0.nest.parts b)) (f2.out (d.near m)) (Some x)) course.front
-                course.many course.forward) last' l') m_is ∙ (ap (λ x. linked
-                (hung (mated (paired f2 (f2.out (d.near m)) (f0.nest.parts b)) (f2.out (d.near m)) (Some m))
-                course.front course.many course.forward) x l') last_is ∙ ap
-                (λ x. linked (hung (mated (paired f2 (f2.out (d.near m)) (f0.nest.parts b)) (f2.out (d.near m))
-                (Some m)) course.front course.many course.forward) (f2.out (d.near (f0.link b))) x) l_is))))))
+            done : f6 ≡ laid ready parted course.front course.many course.forward
+            done = seen6 ∙ (ap (λ (f : Forest). linked f last' l')
+                (seen4 ∙ ap (λ (f : Forest). hung f course.front course.many course.forward) seen3)
+                ∙ rw (first_is, many_is, m_is, last_is, l_is))
 
             pub expanded : IsExpanding d f0 f6 b
-            expanded = expanding g is t0 valid b high inner weightless f2 parted course way2 f6 done
+            expanded = expanding ready parted way2 done
 
             abbrev tree : (r : ℕ) × (t0.root ≡ Some r) × IsTree d f0 r
-            tree = tree_is g is t0 valid b high inner weightless
+            tree = tree_is ready
 
             pub expanded_valid : (t6 : ForestTables) → forest_of t6 ≡ f6 → length t6.hand ≡ length t2.hand
                 → t6.root ≡ t0.root → fixed_of t6 ≡ fixed_of t2 → IsValidFor g t6
@@ -193,10 +175,10 @@ module _ {g : WeightedGraph} (is : IsSmallGraph g) {t0 : ForestTables} (valid : 
               ends = ends_kept t6 valid (fixed ∙ (opened.fixed ∙ opened.same.fixed));
               room = room_kept t6 valid (fixed ∙ (opened.fixed ∙ opened.same.fixed));
               vertices = hand ∙ hand2;
-              valid = subst (λ o. IsValid d (forest_of t6) o) (sym (root ∙ tree.1))
-                  (subst (λ (f : Forest). IsValid d f (Some tree.0)) (sym seen) (opened_valid (record {
-                    are = are g is t0 valid b high inner weightless;
-                    valid = subst (λ o. IsValid d f0 o) tree.1 valid.valid;
+              valid = rw (root, tree.1) (subst (λ (f : Forest). IsValid d f (Some tree.0)) (sym seen)
+                  (opened_valid (record {
+                    are = are ready;
+                    valid = rw tree.1 at valid.valid;
                     tree = tree.2;
                     opening = expanded.opening;
                     is = expanded.opened;

@@ -2,9 +2,9 @@
 use Rattle.std.proofs.Common.{◌≡◌, ◌≢◌, ℕ, suc, ◌+◌, ◌-◌, ◌*◌, ◌/◌, ◌%◌, ◌<◌, ◌≤◌, Bool, true, false, cond, eqb, length}
 use Rattle.std.proofs.Common.{pos, Option, Some, None, ◌⊎◌, refl, sym, ◌∙◌, ap, subst, inl, inr, arith}
 use Rattle.std.proofs.lemmas.Bool.{cases_Bool, cases_eq, cases_lt, cond-true, cond-false, eq-eqb, ne_eqb}
-use Rattle.def_matching.specs.Matching.{WeightedGraph, IsSmallGraph}
+use Rattle.def_matching.specs.Matching.{WeightedGraph}
 use Rattle.def_forest.specs.{Darts.Darts, Darts.darts_of, Forests.Forest, Forests.walk, Opened.IsOpened}
-use Rattle.def_forest.specs.{Opened.IsExpanding, Tables.ForestTables, Tables.forest_of, Tables.IsValidFor}
+use Rattle.def_forest.specs.{Opened.IsExpanding, Tables.ForestTables, Tables.forest_of}
 use Rattle.def_forest.specs.{declared.kinds.Label.Label, declared.kinds.Label.TheVariants.Outer}
 use Rattle.def_forest.specs.declared.kinds.Label.TheVariants.{Inner, Outside}
 use Rattle.forest_laws.specs.Walks.{listed}
@@ -12,10 +12,9 @@ use Rattle.forest_laws.proofs.{Circles.IsCircle, Facts.far_twin, Facts.tight_twi
 use Rattle.forest_laws.proofs.{Walks.writes_off, Writes.set_here, Writes.set_there, Writes.true_false}
 use Rattle.qm_forest.specs.Parts.{IsCourse, IsParted, hung, paired, side_dart, turn_label}
 use Rattle.qm_forest.specs.{Ties.labelled, Ties.linked, Ties.mated, declared.expanding.Course.Course}
-use Rattle.qm_forest.proofs.Openings.{IsJoined, IsRoute, are as the_are, inside as the_inside, in_tree as the_in_tree}
-use Rattle.qm_forest.proofs.Openings.{joined as the_joined, opening_at as the_opening_at, opening_is as the_opening_is}
-use Rattle.qm_forest.proofs.Openings.{out_is, part_around as the_part_around, around_part, part_other, part_outside}
-use Rattle.qm_forest.proofs.Openings.{ring_from as the_ring_from, ring_is as the_ring_is, first_in, last_in, set_top}
+use Rattle.qm_forest.proofs.Openings.{CanOpen, IsJoined, IsRoute, are, around_part, first_in, in_tree, joined, last_in}
+use Rattle.qm_forest.proofs.Openings.{opening_at, opening_is, out_is, part_around, part_other, part_outside, ring_from}
+use Rattle.qm_forest.proofs.Openings.{ring_is, set_top}
 
 even_is : (k i : ℕ) → k ≡ 2 * i → turn_label k ≡ Inner
 even_is k i e = cond-true (eqb (k % 2) 0) Inner Outer (eq-eqb (k % 2) 0 (omega (arith, e)))
@@ -23,9 +22,8 @@ even_is k i e = cond-true (eqb (k % 2) 0) Inner Outer (eq-eqb (k % 2) 0 (omega (
 odd_is : (k i : ℕ) → k ≡ 2 * i + 1 → turn_label k ≡ Outer
 odd_is k i e = cond-false (eqb (k % 2) 0) Inner Outer (ne_eqb (k % 2) 0 (λ z. absurd (omega (arith, e, z))))
 
-module _ (g : WeightedGraph) (is : IsSmallGraph g) (t0 : ForestTables) (valid : IsValidFor g t0) (b : ℕ)
-    (high : g.n ≤ b) (inner : (forest_of t0).label b ≡ Inner) (weightless : (forest_of t0).weight b ≡ pos 0)
-    (f2 : Forest) (parted : IsParted g.n (mated (labelled (forest_of t0) b Outside) b None) f2
+module _ {g : WeightedGraph} {t0 : ForestTables} {b : ℕ} (ready : CanOpen g t0 b) {f2 : Forest}
+    (parted : IsParted g.n (mated (labelled (forest_of t0) b Outside) b None) f2
     (listed (forest_of t0).nest.after ((forest_of t0).nest.head b) ((forest_of t0).nest.parts b)) b) where
   abbrev d : Darts
   d = darts_of g
@@ -37,13 +35,13 @@ module _ (g : WeightedGraph) (is : IsSmallGraph g) (t0 : ForestTables) (valid : 
   many = f0.nest.parts b
 
   abbrev half : ℕ
-  half = (the_ring_is g is t0 valid b high inner weightless).half
+  half = (ring_is ready).half
 
   odd : many ≡ 2 * half + 1
-  odd = (the_ring_is g is t0 valid b high inner weightless).odd
+  odd = (ring_is ready).odd
 
   abbrev inside : ℕ → Bool
-  inside = the_inside g is t0 valid b high inner weightless
+  inside = listed f0.nest.after (f0.nest.head b) many
 
   abbrev next : ℕ → ℕ
   next = f2.nest.after
@@ -52,129 +50,160 @@ module _ (g : WeightedGraph) (is : IsSmallGraph g) (t0 : ForestTables) (valid : 
   joint = f2.nest.joint
 
   abbrev m : ℕ
-  m = (the_in_tree g is t0 valid b high inner weightless).dart
+  m = (in_tree ready).dart
 
-  abbrev pub first : ℕ
+  abbrev first : ℕ
   first = f2.out (d.near m)
 
-  abbrev pub last : ℕ
+  abbrev last : ℕ
   last = f2.out (d.near (f0.link b))
 
   abbrev at : ℕ → ℕ
   at k = walk next first k
 
   circle : IsCircle next first many inside
-  circle = the_ring_from g is t0 valid b high inner weightless parted first
-      (first_in g is t0 valid b high inner weightless parted)
+  circle = ring_from ready parted first (first_in ready parted)
 
-  joined : (k : ℕ) → IsJoined g is t0 valid b high inner weightless parted next joint (at k)
-  joined k = the_joined g is t0 valid b high inner weightless parted (at k) (circle.marked k)
+  joint_at : (k : ℕ) → IsJoined ready f2.out next joint (at k)
+  joint_at k = joined ready parted (at k) (circle.marked k)
 
-  abbrev Route : (q e : ℕ → ℕ) → Type 0
-  Route q e = IsRoute g is t0 valid b high inner weightless parted q e
+  -- A place that is told otherwise.
+  at_same : (i j : ℕ) → i ≡ j → at i ≡ at j
+  at_same i j e = ap at e
 
   -- Along the ring.
-  route_on : Route at (λ j. joint (at j))
+  route_on : IsRoute ready parted at (λ j. joint (at j))
   route_on = record {
     begins = refl;
     marked = circle.marked;
     distinct = λ i j lij lj. circle.distinct i j lij (omega (arith, odd, lj));
     all = λ x on. (let w : (k : ℕ) × (k < many) × (at k ≡ x) = circle.all x on in (w.0, omega (arith, odd, w.1), w.2));
-    tight = λ j l. (joined j).tight;
-    near = λ j l. ((joined j).near_in, (joined j).near_part);
-    far = λ j l. ((joined j).far_in, (joined j).far_part ∙ (let e : suc j ≡ j + 1 = omega arith in ap at e));
+    tight = λ j l. (joint_at j).tight;
+    near = λ j l. ((joint_at j).near_in, (joint_at j).near_part);
+    far = λ j l. ((joint_at j).far_in, (joint_at j).far_part ∙ at_same (suc j) (j + 1) (omega arith));
   }
 
   -- Against it.
-  route_back : Route (λ j. at (many - j)) (λ j. d.twin (joint (at (many - suc j))))
+  route_back : IsRoute ready parted (λ j. at (many - j)) (λ j. d.twin (joint (at (many - suc j))))
   route_back = record {
-    begins = (let e : many - 0 ≡ many = omega arith in ap at e ∙ circle.closed);
+    begins = at_same (many - 0) many (omega arith) ∙ circle.closed;
     marked = λ j. circle.marked (many - j);
     distinct = λ i j lij lj e. differ i j lij lj e (cases_eq i 0);
-    all = λ x on. found x (circle.all x on);
-    tight = λ j l. tight_twin (the_are g is t0 valid b high inner weightless) (joined (many - suc j)).tight;
+    all = λ x on. found x (circle.all x on) (cases_eq (circle.all x on).0 0);
+    tight = λ j l. tight_twin (are ready) (joint_at (many - suc j)).tight;
     near = λ j l. (
-      (joined (many - suc j)).far_in,
-      (joined (many - suc j)).far_part ∙ (let e : suc (many - suc j) ≡ many - j = omega (arith, odd, l) in ap at e),
+      (joint_at (many - suc j)).far_in,
+      (joint_at (many - suc j)).far_part ∙ at_same (suc (many - suc j)) (many - j) (omega (arith, odd, l)),
     );
     far = λ j l. (
-      ap f0.out (far_twin (the_are g is t0 valid b high inner weightless) (joint (at (many - suc j))))
-          ∙ (joined (many - suc j)).near_in,
-      ap f2.out (far_twin (the_are g is t0 valid b high inner weightless) (joint (at (many - suc j))))
-          ∙ ((joined (many - suc j)).near_part ∙ (let e : many - suc j ≡ many - (j + 1) = omega arith in ap at e)),
+      ap f0.out (far_twin (are ready) (joint (at (many - suc j)))) ∙ (joint_at (many - suc j)).near_in,
+      ap f2.out (far_twin (are ready) (joint (at (many - suc j))))
+          ∙ ((joint_at (many - suc j)).near_part ∙ at_same (many - suc j) (many - (j + 1)) (omega arith)),
     );
   }
     where
       differ : (i j : ℕ) → i < j → j ≤ 2 * half → at (many - i) ≡ at (many - j) → (i ≡ 0) ⊎ (i ≢ 0) → ⊥
       differ i j lij lj e (inl z) = circle.distinct 0 (many - j) (omega (arith, odd, lj)) (omega (arith, odd, lij, lj))
-          (sym circle.closed ∙ ((let e : many ≡ many - i = omega (arith, z) in ap at e) ∙ e))
+          (sym circle.closed ∙ (at_same many (many - i) (omega (arith, z)) ∙ e))
       differ i j lij lj e (inr nz) = circle.distinct (many - j) (many - i) (omega (arith, odd, lij, lj))
           (omega (arith, odd, lij, lj, nz)) (sym e)
 
-      found : (x : ℕ) → (k : ℕ) × (k < many) × (at k ≡ x) → (j : ℕ) × (j ≤ 2 * half) × (at (many - j) ≡ x)
-      found x w = by_start (cases_eq w.0 0)
-        where
-          by_start : (w.0 ≡ 0) ⊎ (w.0 ≢ 0) → (j : ℕ) × (j ≤ 2 * half) × (at (many - j) ≡ x)
-          by_start (inl z) = (
-            0,
-            omega arith,
-            (let e : many - 0 ≡ many = omega arith in ap at e) ∙ (circle.closed ∙ (ap at (sym z) ∙ w.2)),
-          )
-          by_start (inr nz) = (
-            many - w.0,
-            omega (arith, odd, nz),
-            (let e : many - (many - w.0) ≡ w.0 = omega (arith, w.1) in ap at e) ∙ w.2,
-          )
+      found : (x : ℕ) (w : (k : ℕ) × (k < many) × (at k ≡ x)) → (w.0 ≡ 0) ⊎ (w.0 ≢ 0)
+          → (j : ℕ) × (j ≤ 2 * half) × (at (many - j) ≡ x)
+      found x w (inl z) = (0, omega arith, at_same (many - 0) many (omega arith) ∙ (circle.closed ∙ (ap at (sym z) ∙ w.2)))
+      found x w (inr nz) =
+          (many - w.0, omega (arith, odd, nz), at_same (many - (many - w.0)) w.0 (omega (arith, w.1)) ∙ w.2)
 
   b_off : inside b ≡ false
-  b_off = by_test (cases_Bool (inside b))
-    where
-      by_test : (inside b ≡ true) ⊎ (inside b ≡ false) → inside b ≡ false
-      by_test (inl on) = absurd (part_other g is t0 valid b high inner weightless b on refl)
-      by_test (inr off) = off
+  b_off = elim (cases_Bool (inside b)) [ inl on ↦ absurd (part_other ready b on refl) | inr off ↦ off ]
 
   other_off : (x : ℕ) → f0.nest.up x ≢ b → inside x ≡ false
-  other_off x ne = by_test (cases_Bool (inside x))
-    where
-      by_test : (inside x ≡ true) ⊎ (inside x ≡ false) → inside x ≡ false
-      by_test (inl on) = absurd (ne (the_part_around g is t0 valid b high inner weightless x on))
-      by_test (inr off) = off
+  other_off x ne = elim (cases_Bool (inside x)) [ inl on ↦ absurd (ne (part_around ready x on)) | inr off ↦ off ]
 
   b_top : f0.nest.up b ≡ b
-  b_top = (let w : (v : ℕ) × (v < length t0.hand) × (f0.out v ≡ b) = set_top g is t0 valid b high inner weightless in
-      let l : w.0 < g.n = subst (λ n. w.0 < n) valid.vertices w.1 in
-      ap f0.nest.up (sym w.2) ∙ (valid.valid.outermost.tops w.0 l ∙ w.2))
+  b_top = (let w : (v : ℕ) × (v < length t0.hand) × (f0.out v ≡ b) = set_top ready in
+      subst (λ x. f0.nest.up x ≡ x) w.2 (ready.valid.valid.outermost.tops w.0 (rw ready.valid.vertices at w.1)))
 
   part_label : (x : ℕ) → inside x ≡ true → f2.label x ≡ Outside
-  part_label x on = ap (λ (h : ℕ → Label). h x) parted.label ∙ (set_there f0.label b x Outside
-      (part_other g is t0 valid b high inner weightless x on) ∙ part_outside g is t0 valid b high inner weightless x on)
+  part_label x on = ap (λ (h : ℕ → Label). h x) parted.label
+      ∙ (set_there f0.label b x Outside (part_other ready x on) ∙ part_outside ready x on)
 
-  module _ (course : Course) (way : IsCourse next first last many course) (f6 : Forest)
-      (done : f6 ≡ linked (hung (mated (paired f2 first many) first (Some m)) course.front course.many course.forward)
-      last (f0.link b)) where
+  -- The parts are matched along the ring, the first one as the set was.
+  abbrev matched : Forest
+  matched = mated (paired f2 first many) first (Some m)
+
+  -- And some of them hang in the tree, the last one where the set hung.
+  abbrev pub laid : (front count : ℕ) (forward : Bool) → Forest
+  laid front count forward = linked (hung matched front count forward) last (f0.link b)
+
+  -- The forest after a way of so many parts from one on is hung into the tree.
+  record IsLaid (f6 : Forest) (front count : ℕ) (forward : Bool) : Type 0 where
+    on : f6 ≡ laid front count forward
+    marked : inside front ≡ true
+    few : count ≤ many
+
+  module _ {f6 : Forest} {front count : ℕ} {forward : Bool} (lies : IsLaid f6 front count forward) where
+    open lies use {on, marked, few}
+
     mate_at : (k : ℕ) → 1 ≤ k → k < many → f6.mate (at k) ≡ Some (side_dart f2 (at (k - 1)) (at k) (eqb (k % 2) 1))
-    mate_at k some l = ap (λ (f : Forest). f.mate (at k)) done ∙ (set_there (paired f2 first many).mate first (at k)
+    mate_at k some l = ap (λ (f : Forest). f.mate (at k)) on ∙ (set_there (paired f2 first many).mate first (at k)
         (Some m) (λ e. circle.distinct 0 k some l (sym e)) ∙ writes_at f2.mate at
         (λ j. Some (side_dart f2 (at (j - 1)) (at j) (eqb (j % 2) 1))) many k l circle.distinct)
 
     mate_odd : (k i : ℕ) → k ≡ 2 * i + 1 → k < many → f6.mate (at k) ≡ Some (joint (at k))
     mate_odd k i e l = mate_at k (omega (arith, e)) l ∙ ap (λ (x : ℕ). Some x)
-        (cond-true (eqb (k % 2) 1) (joint (at k)) (d.twin (joint (at (k - 1)))) (eq-eqb (k % 2) 1 (omega (arith, e))))
+        (cond-true (eqb (k % 2) 1) _ _ (eq-eqb (k % 2) 1 (omega (arith, e))))
 
     mate_even : (k j i : ℕ) → k ≡ 2 * i + 2 → k ≡ suc j → k < many → f6.mate (at k) ≡ Some (d.twin (joint (at j)))
     mate_even k j i e ej l = mate_at k (omega (arith, e)) l
-        ∙ ap (λ (x : ℕ). Some x) (cond-false (eqb (k % 2) 1) (joint (at k)) (d.twin (joint (at (k - 1))))
-        (ne_eqb (k % 2) 1 (λ z. absurd (omega (arith, e, z))))
-        ∙ (let s : k - 1 ≡ j = omega (arith, ej) in ap (λ x. d.twin (joint (at x))) s))
+        ∙ ap (λ (x : ℕ). Some x) (cond-false (eqb (k % 2) 1) _ _ (ne_eqb (k % 2) 1 (λ z. absurd (omega (arith, e, z))))
+        ∙ ap (λ x. d.twin (joint x)) (at_same (k - 1) j (omega (arith, ej))))
 
     mate_first : f6.mate first ≡ Some m
-    mate_first = ap (λ (f : Forest). f.mate first) done ∙ set_here (paired f2 first many).mate first (Some m)
+    mate_first = ap (λ (f : Forest). f.mate first) on ∙ set_here (paired f2 first many).mate first (Some m)
 
     mate_off : (x : ℕ) → inside x ≡ false → f6.mate x ≡ f2.mate x
-    mate_off x off = ap (λ (f : Forest). f.mate x) done ∙ (set_there (paired f2 first many).mate first x (Some m)
+    mate_off x off = ap (λ (f : Forest). f.mate x) on ∙ (set_there (paired f2 first many).mate first x (Some m)
         (λ e. true_false (ap inside e ∙ circle.marked 0) off)
         ∙ writes_off f2.mate at (λ j. Some (side_dart f2 (at (j - 1)) (at j) (eqb (j % 2) 1))) many x
         (λ k lk e. true_false (ap inside (sym e) ∙ circle.marked k) off))
+
+    -- The way that hangs in the tree goes along the ring.
+    abbrev way : ℕ → ℕ
+    way k = walk next front k
+
+    ring : IsCircle next front many inside
+    ring = ring_from ready parted front marked
+
+    differ : (i j : ℕ) → i < j → j < count → way i ≢ way j
+    differ i j lij lj = ring.distinct i j lij (omega (arith, lj, few))
+
+    label_at : (k : ℕ) → k < count → f6.label (way k) ≡ turn_label k
+    label_at k l = ap (λ (f : Forest). f.label (way k)) on ∙ writes_at f2.label way turn_label count k l differ
+
+    label_missed : (x : ℕ) → ((k : ℕ) → k < count → way k ≢ x) → f6.label x ≡ f2.label x
+    label_missed x missed = ap (λ (f : Forest). f.label x) on ∙ writes_off f2.label way turn_label count x missed
+
+    abbrev sides : ℕ → ℕ
+    sides k = side_dart f2 (way (k - 1)) (way k) forward
+
+    link_at : (k : ℕ) → k < count → way k ≢ last → f6.link (way k) ≡ sides k
+    link_at k l ne = ap (λ (f : Forest). f.link (way k)) on
+        ∙ (set_there (hung matched front count forward).link last (way k) (f0.link b) ne
+        ∙ writes_at f2.link way sides count k l differ)
+
+    link_last : f6.link last ≡ f0.link b
+    link_last = ap (λ (f : Forest). f.link last) on
+        ∙ set_here (hung matched front count forward).link last (f0.link b)
+
+    label_off : (x : ℕ) → inside x ≡ false → f6.label x ≡ f2.label x
+    label_off x off = label_missed x (λ k lk e. true_false (ap inside (sym e) ∙ ring.marked k) off)
+
+    link_off : (x : ℕ) → inside x ≡ false → f6.link x ≡ f2.link x
+    link_off x off = ap (λ (f : Forest). f.link x) on
+        ∙ (set_there (hung matched front count forward).link last x (f0.link b)
+        (λ e. true_false (ap inside e ∙ last_in ready parted) off)
+        ∙ writes_off f2.link way sides count x (λ k lk e. true_false (ap inside (sym e) ∙ ring.marked k) off))
 
     -- Where the parts stand, and how they are joined, in the order of a route.
     record HasPlaces (q e : ℕ → ℕ) (turns : ℕ) : Type 0 where
@@ -185,18 +214,16 @@ module _ (g : WeightedGraph) (is : IsSmallGraph g) (t0 : ForestTables) (valid : 
       odd_mate : (i : ℕ) → i < half → f6.mate (q (2 * i + 1)) ≡ Some (e (2 * i + 1))
       even_mate : (i : ℕ) → i < half → f6.mate (q (2 * i + 2)) ≡ Some (d.twin (e (2 * i + 1)))
       links : (i : ℕ) → i < turns → f6.link (q (2 * i)) ≡ e (2 * i)
-      last_link : f6.link (q (2 * turns)) ≡ f0.link b
-      label_off : (x : ℕ) → inside x ≡ false → f6.label x ≡ f2.label x
-      link_off : (x : ℕ) → inside x ≡ false → f6.link x ≡ f2.link x
+      ends : q (2 * turns) ≡ last
 
     opened_is : {q e : ℕ → ℕ} {turns : ℕ} → HasPlaces q e turns
-        → IsOpened d f0 f6 (the_opening_at g is t0 valid b high inner weightless parted q e turns)
-    opened_is {e} places = record {
-      size = ap (λ (f : Forest). f.size) done ∙ parted.size;
-      weight = λ x. ap (λ (f : Forest). f.weight x) done ∙ ap (λ h. h x) parted.weight;
-      holds = λ x v ne l. ap (λ (f : Forest). f.holds x v) done ∙ parted.holds x v ne l;
-      holds_none = λ v l. ap (λ (f : Forest). f.holds b v) done ∙ parted.holds_none v l;
-      out = λ v l. ap (λ (f : Forest). f.out v) done ∙ out_is g is t0 valid b high inner weightless parted v l;
+        → IsOpened d f0 f6 (opening_at ready parted q e turns)
+    opened_is places = record {
+      size = ap (λ (f : Forest). f.size) on ∙ parted.size;
+      weight = λ x. ap (λ (f : Forest). f.weight x) on ∙ ap (λ h. h x) parted.weight;
+      holds = λ x v ne l. ap (λ (f : Forest). f.holds x v) on ∙ parted.holds x v ne l;
+      holds_none = λ v l. ap (λ (f : Forest). f.holds b v) on ∙ parted.holds_none v l;
+      out = λ v l. ap (λ (f : Forest). f.out v) on ∙ out_is ready parted v l;
       inner = places.inners;
       outer = places.outers;
       off = places.off;
@@ -204,28 +231,27 @@ module _ (g : WeightedGraph) (is : IsSmallGraph g) (t0 : ForestTables) (valid : 
       odd_mate = places.odd_mate;
       even_mate = places.even_mate;
       link = places.links;
-      last_link = places.last_link;
+      last_link = ap f6.link places.ends ∙ link_last;
       gone = (
-        places.label_off b b_off ∙ (ap (λ (h : ℕ → Label). h b) parted.label ∙ set_here f0.label b Outside),
+        label_off b b_off ∙ (ap (λ (h : ℕ → Label). h b) parted.label ∙ set_here f0.label b Outside),
         mate_off b b_off ∙ (ap (λ (h : ℕ → Option ℕ). h b) parted.mate ∙ set_here f0.mate b None),
       );
       others = λ x ne. record {
-        label = places.label_off x (other_off x ne)
+        label = label_off x (other_off x ne)
             ∙ (ap (λ (h : ℕ → Label). h x) parted.label ∙ set_there f0.label b x Outside (other_b x ne));
-        mate = mate_off x (other_off x ne) ∙ (ap (λ (h : ℕ → Option ℕ). h x) parted.mate
-            ∙ set_there f0.mate b x None (other_b x ne));
-        link = places.link_off x (other_off x ne) ∙ ap (λ (h : ℕ → ℕ). h x) parted.link;
-        up = ap (λ (f : Forest). f.nest.up x) done
-            ∙ (parted.up x ∙ cond-false (inside x) x (f0.nest.up x) (other_off x ne));
-        after = ap (λ (f : Forest). f.nest.after x) done ∙ ap (λ (h : ℕ → ℕ). h x) parted.after;
-        joint = ap (λ (f : Forest). f.nest.joint x) done ∙ ap (λ (h : ℕ → ℕ). h x) parted.joint;
+        mate = mate_off x (other_off x ne)
+            ∙ (ap (λ (h : ℕ → Option ℕ). h x) parted.mate ∙ set_there f0.mate b x None (other_b x ne));
+        link = link_off x (other_off x ne) ∙ ap (λ (h : ℕ → ℕ). h x) parted.link;
+        up = ap (λ (f : Forest). f.nest.up x) on ∙ (parted.up x ∙ cond-false _ _ _ (other_off x ne));
+        after = ap (λ (f : Forest). f.nest.after x) on ∙ ap (λ (h : ℕ → ℕ). h x) parted.after;
+        joint = ap (λ (f : Forest). f.nest.joint x) on ∙ ap (λ (h : ℕ → ℕ). h x) parted.joint;
       };
-      parts_out = λ x up. ap (λ (f : Forest). f.nest.up x) done ∙ (parted.up x ∙ part_top x up (cases_eq x b));
-      no_parts = ap (λ (f : Forest). f.nest.parts b) done ∙ (parted.parts b ∙ set_here f0.nest.parts b 0);
+      parts_out = λ x up. ap (λ (f : Forest). f.nest.up x) on ∙ (parted.up x ∙ part_top x up (cases_eq x b));
+      no_parts = ap (λ (f : Forest). f.nest.parts b) on ∙ (parted.parts b ∙ set_here f0.nest.parts b 0);
       sets = λ x ne. record {
-        head = ap (λ (f : Forest). f.nest.head x) done ∙ ap (λ (h : ℕ → ℕ). h x) parted.head;
-        many = ap (λ (f : Forest). f.nest.parts x) done ∙ (parted.parts x ∙ set_there f0.nest.parts b x 0 ne);
-        rank = ap (λ (f : Forest). f.nest.rank x) done ∙ ap (λ (h : ℕ → ℕ). h x) parted.rank;
+        head = ap (λ (f : Forest). f.nest.head x) on ∙ ap (λ (h : ℕ → ℕ). h x) parted.head;
+        many = ap (λ (f : Forest). f.nest.parts x) on ∙ (parted.parts x ∙ set_there f0.nest.parts b x 0 ne);
+        rank = ap (λ (f : Forest). f.nest.rank x) on ∙ ap (λ (h : ℕ → ℕ). h x) parted.rank;
       };
     }
       where
@@ -233,153 +259,90 @@ module _ (g : WeightedGraph) (is : IsSmallGraph g) (t0 : ForestTables) (valid : 
         other_b x ne e = ne (ap f0.nest.up e ∙ b_top)
 
         part_top : (x : ℕ) → f0.nest.up x ≡ b → (x ≡ b) ⊎ (x ≢ b) → cond (inside x) x (f0.nest.up x) ≡ x
-        part_top x up (inl e) = cond-false (inside x) x (f0.nest.up x) (ap inside e ∙ b_off) ∙ (up ∙ sym e)
-        part_top x up (inr ne) =
-            cond-true (inside x) x (f0.nest.up x) (around_part g is t0 valid b high inner weightless x up ne)
+        part_top x up (inl e) = cond-false _ _ _ (ap inside e ∙ b_off) ∙ (up ∙ sym e)
+        part_top x up (inr ne) = cond-true _ _ _ (around_part ready x up ne)
 
-    -- The tree goes along the ring.
-    module _ (steps : ℕ) (low : steps < many) (ends : at steps ≡ last) (even : steps % 2 ≡ 0) (on : f6
-        ≡ linked (hung (mated (paired f2 first many) first (Some m)) first (steps + 1) true) last (f0.link b)) where
-      label_on : (k : ℕ) → k < steps + 1 → f6.label (at k) ≡ turn_label k
-      label_on k l = ap (λ (f : Forest). f.label (at k)) on ∙ writes_at f2.label at turn_label (steps + 1) k l
-          (λ i j lij lj. circle.distinct i j lij (omega (arith, lj, low)))
+    expanding_at : {q e : ℕ → ℕ} {turns : ℕ} → IsRoute ready parted q e → turns ≤ half → HasPlaces q e turns
+        → IsExpanding d f0 f6 b
+    expanding_at {q} {e} {turns} route short places = record {
+      o = opening_at ready parted q e turns;
+      is = refl;
+      opening = opening_is ready parted turns route short places.ends;
+      opened = opened_is places;
+    }
 
-      places_on : HasPlaces at (λ j. joint (at j)) (steps / 2)
-      places_on = record {
-        inners = λ i l. label_on (2 * i) (omega (arith, l)) ∙ even_is (2 * i) i refl;
-        outers = λ i l. label_on (2 * i + 1) (omega (arith, l)) ∙ odd_is (2 * i + 1) i refl;
-        off = λ j more l. ap (λ (f : Forest). f.label (at j)) on ∙ (writes_off f2.label at turn_label (steps + 1) (at j)
-            (λ k lk e. circle.distinct k j (omega (arith, lk, more, even)) (omega (arith, l, odd)) e)
-            ∙ part_label (at j) (circle.marked j));
-        first_mate = mate_first;
-        odd_mate = λ i l. mate_odd (2 * i + 1) i refl (omega (arith, odd, l));
-        even_mate = λ i l. mate_even (2 * i + 2) (2 * i + 1) i refl (omega arith) (omega (arith, odd, l));
-        links = λ i l. ap (λ (f : Forest). f.link (at (2 * i))) on
-            ∙ (set_there (hung (mated (paired f2 first many) first (Some m)) first (steps + 1) true).link last
-            (at (2 * i)) (f0.link b) (λ e. circle.distinct (2 * i) steps (omega (arith, l)) low (e ∙ sym ends))
-            ∙ writes_at f2.link at (λ k. joint (at k)) (steps + 1) (2 * i) (omega (arith, l))
-            (λ i j lij lj. circle.distinct i j lij (omega (arith, lj, low))));
-        last_link = ap f6.link ((let e : 2 * (steps / 2) ≡ steps = omega (arith, even) in ap at e) ∙ ends)
-            ∙ (ap (λ (f : Forest). f.link last) on
-            ∙ set_here (hung (mated (paired f2 first many) first (Some m)) first (steps + 1) true).link last
-            (f0.link b));
-        label_off = λ x off. ap (λ (f : Forest). f.label x) on ∙ writes_off f2.label at turn_label (steps + 1) x
-            (λ k lk e. true_false (ap inside (sym e) ∙ circle.marked k) off);
-        link_off = λ x off. ap (λ (f : Forest). f.link x) on
-            ∙ (set_there (hung (mated (paired f2 first many) first (Some m)) first (steps + 1) true).link last x
-            (f0.link b) (λ e. true_false (ap inside (e ∙ sym ends) ∙ circle.marked steps) off)
-            ∙ writes_off f2.link at (λ k. joint (at k)) (steps + 1) x
-            (λ k lk e. true_false (ap inside (sym e) ∙ circle.marked k) off));
-      }
+  -- The tree goes along the ring.
+  expanding_on : {f6 : Forest} {steps : ℕ} → steps < many → at steps ≡ last → steps % 2 ≡ 0
+      → f6 ≡ laid first (steps + 1) true → IsExpanding d f0 f6 b
+  expanding_on {f6} {steps} low ends even on = expanding_at lies route_on (omega (arith, low, odd)) (record {
+    inners = λ i l. label_at lies (2 * i) (omega (arith, l)) ∙ even_is (2 * i) i refl;
+    outers = λ i l. label_at lies (2 * i + 1) (omega (arith, l)) ∙ odd_is (2 * i + 1) i refl;
+    off = λ j more l. label_missed lies (at j) (λ k lk. circle.distinct k j (omega (arith, lk, more, even))
+        (omega (arith, l, odd))) ∙ part_label (at j) (circle.marked j);
+    first_mate = mate_first lies;
+    odd_mate = λ i l. mate_odd lies (2 * i + 1) i refl (omega (arith, odd, l));
+    even_mate = λ i l. mate_even lies (2 * i + 2) (2 * i + 1) i refl (omega arith) (omega (arith, odd, l));
+    links = λ i l. link_at lies (2 * i) (omega (arith, l))
+        (λ e. circle.distinct (2 * i) steps (omega (arith, l)) low (e ∙ sym ends));
+    ends = at_same (2 * (steps / 2)) steps (omega (arith, even)) ∙ ends;
+  })
+    where
+      lies : IsLaid f6 first (steps + 1) true
+      lies = record { on = on; marked = first_in ready parted; few = omega (arith, low) }
 
-      expanding_on : IsExpanding d f0 f6 b
-      expanding_on = record {
-        o = the_opening_at g is t0 valid b high inner weightless parted at (λ j. joint (at j)) (steps / 2);
-        is = refl;
-        opening = the_opening_is g is t0 valid b high inner weightless parted (steps / 2) route_on
-            (omega (arith, low, odd)) ((let e : 2 * (steps / 2) ≡ steps = omega (arith, even) in ap at e) ∙ ends);
-        opened = opened_is places_on;
-      }
+  -- The tree goes against the ring.
+  module _ {f6 : Forest} {steps : ℕ} (low : steps < many) (ends : at steps ≡ last) (uneven : steps % 2 ≡ 1)
+      (on : f6 ≡ laid last (many - steps + 1) false) where
+    abbrev turns : ℕ
+    turns = (many - steps) / 2
 
-    -- The tree goes against the ring.
-    module _ (steps : ℕ) (low : steps < many) (ends : at steps ≡ last) (uneven : steps % 2 ≡ 1) (on : f6
-        ≡ linked (hung (mated (paired f2 first many) first (Some m)) last (many - steps + 1) false) last
-        (f0.link b)) where
-      abbrev bt : ℕ → ℕ
-      bt k = walk next last k
+    twice : 2 * turns ≡ many - steps
+    twice = omega (arith, odd, uneven, low)
 
-      abbrev turns : ℕ
-      turns = (many - steps) / 2
+    lies : IsLaid f6 last (many - steps + 1) false
+    lies = record { on = on; marked = last_in ready parted; few = omega (arith, uneven, low) }
 
-      circle_back : IsCircle next last many inside
-      circle_back = the_ring_from g is t0 valid b high inner weightless parted last
-          (last_in g is t0 valid b high inner weightless parted)
+    way_at : (k j : ℕ) → steps + k ≡ j → walk next last k ≡ at j
+    way_at k j e = ap (λ x. walk next x k) (sym ends) ∙ (sym (walk_sum next first steps k) ∙ ap at e)
 
-      bt_at : (k j : ℕ) → steps + k ≡ j → bt k ≡ at j
-      bt_at k j e = ap (λ x. walk next x k) (sym ends) ∙ (sym (walk_sum next first steps k) ∙ ap at e)
+    label_back : (k j : ℕ) → k < many - steps + 1 → steps + k ≡ j → f6.label (at j) ≡ turn_label k
+    label_back k j l e = ap f6.label (sym (way_at k j e)) ∙ label_at lies k l
 
-      twice : 2 * turns ≡ many - steps
-      twice = omega (arith, odd, uneven, low)
+    missed : (k j : ℕ) → k < many - steps + 1 → 2 * turns < j → j ≤ 2 * half → walk next last k ≢ at (many - j)
+    missed k j lk more lj e = elim (cases_lt (steps + k) many) [
+      | inl l ↦ circle.distinct (many - j) (steps + k) (omega (arith, more, twice, lj, odd)) l
+          (sym e ∙ way_at k (steps + k) refl)
+      | inr h ↦ circle.distinct 0 (many - j) (omega (arith, lj, odd)) (omega (arith, more, low))
+          (sym circle.closed ∙ (sym (way_at k many (omega (arith, h, lk))) ∙ e))
+    ]
 
-      differ : (i j : ℕ) → i < j → j < many - steps + 1 → bt i ≢ bt j
-      differ i j lij lj = circle_back.distinct i j lij (omega (arith, lj, uneven))
+    expanding_back : IsExpanding d f0 f6 b
+    expanding_back = expanding_at lies route_back (omega (arith, twice, odd, uneven)) (record {
+      inners = λ i l. label_back (many - steps - 2 * i) (many - 2 * i) (omega (arith, low))
+          (omega (arith, l, twice, low)) ∙ even_is (many - steps - 2 * i) (turns - i) (omega (arith, l, twice));
+      outers = λ i l. label_back (many - steps - (2 * i + 1)) (many - (2 * i + 1)) (omega (arith, low))
+          (omega (arith, l, twice, low)) ∙ odd_is (many - steps - (2 * i + 1)) (turns - suc i)
+          (omega (arith, l, twice));
+      off = λ j more l. label_missed lies (at (many - j)) (λ k lk. missed k j lk more l)
+          ∙ part_label (at (many - j)) (circle.marked (many - j));
+      first_mate = ap f6.mate (at_same (many - 0) many (omega arith) ∙ circle.closed) ∙ mate_first lies;
+      odd_mate = λ i l. mate_even lies (many - (2 * i + 1)) (many - suc (2 * i + 1)) (half - suc i)
+          (omega (arith, odd, l)) (omega (arith, odd, l)) (omega (arith, odd));
+      even_mate = λ i l. mate_odd lies (many - (2 * i + 2)) (half - suc i) (omega (arith, odd, l)) (omega (arith, odd))
+          ∙ ap (λ (x : ℕ). Some x) (ap joint (at_same (many - (2 * i + 2)) (many - suc (2 * i + 1)) (omega arith))
+          ∙ sym ((are ready).twin_twin (joint (at (many - suc (2 * i + 1))))));
+      links = λ i l. ap f6.link (sym (way_at (many - steps - 2 * i) (many - 2 * i) (omega (arith, l, twice, low))))
+          ∙ (link_at lies (many - steps - 2 * i) (omega arith)
+          (λ e. differ lies 0 (many - steps - 2 * i) (omega (arith, l, twice)) (omega arith) (sym e))
+          ∙ ap (λ x. d.twin (joint x)) (way_at (many - steps - 2 * i - 1) (many - suc (2 * i))
+          (omega (arith, l, twice, low))));
+      ends = at_same (many - 2 * turns) steps (omega (arith, twice, low)) ∙ ends;
+    })
 
-      label_back : (k j : ℕ) → k < many - steps + 1 → steps + k ≡ j → f6.label (at j) ≡ turn_label k
-      label_back k j l e = ap f6.label (sym (bt_at k j e))
-          ∙ (ap (λ (f : Forest). f.label (bt k)) on ∙ writes_at f2.label bt turn_label (many - steps + 1) k l differ)
-
-      missed : (k j : ℕ) → k < many - steps + 1 → 2 * turns < j → j ≤ 2 * half → bt k ≢ at (many - j)
-      missed k j lk more lj e = by_end (cases_lt (steps + k) many)
-        where
-          by_end : (steps + k < many) ⊎ (many ≤ steps + k) → ⊥
-          by_end (inl l) = circle.distinct (many - j) (steps + k) (omega (arith, more, twice, lj, odd)) l (sym e
-              ∙ bt_at k (steps + k) refl)
-          by_end (inr h) = (let all : steps + k ≡ many = omega (arith, h, lk) in
-              circle.distinct 0 (many - j) (omega (arith, lj, odd)) (omega (arith, more, low)) (sym circle.closed
-              ∙ (sym (bt_at k many all) ∙ e)))
-
-      places_back : HasPlaces (λ j. at (many - j)) (λ j. d.twin (joint (at (many - suc j)))) turns
-      places_back = record {
-        inners = λ i l. label_back (many - steps - 2 * i) (many - 2 * i) (omega (arith, low))
-            (omega (arith, l, twice, low)) ∙ even_is (many - steps - 2 * i) (turns - i) (omega (arith, l, twice));
-        outers = λ i l. label_back (many - steps - (2 * i + 1)) (many - (2 * i + 1)) (omega (arith, low))
-            (omega (arith, l, twice, low)) ∙ odd_is (many - steps - (2 * i + 1)) (turns - suc i)
-            (omega (arith, l, twice));
-        off = λ j more l. ap (λ (f : Forest). f.label (at (many - j))) on
-            ∙ (writes_off f2.label bt turn_label (many - steps + 1) (at (many - j)) (λ k lk. missed k j lk more l)
-            ∙ part_label (at (many - j)) (circle.marked (many - j)));
-        first_mate = ap f6.mate ((let e : many - 0 ≡ many = omega arith in ap at e) ∙ circle.closed) ∙ mate_first;
-        odd_mate = λ i l. mate_even (many - (2 * i + 1)) (many - suc (2 * i + 1)) (half - suc i) (omega (arith, odd, l))
-            (omega (arith, odd, l)) (omega (arith, odd));
-        even_mate = λ i l. mate_odd (many - (2 * i + 2)) (half - suc i) (omega (arith, odd, l)) (omega (arith, odd))
-            ∙ ap (λ (x : ℕ). Some x) ((let e : many - (2 * i + 2) ≡ many - suc (2 * i + 1) = omega arith in
-            ap (λ k. joint (at k)) e) ∙ sym ((the_are g is t0 valid b high inner weightless).twin_twin
-            (joint (at (many - suc (2 * i + 1))))));
-        links = λ i l. ap f6.link (sym (bt_at (many - steps - 2 * i) (many - 2 * i) (omega (arith, l, twice, low))))
-            ∙ (ap (λ (f : Forest). f.link (bt (many - steps - 2 * i))) on
-            ∙ (set_there (hung (mated (paired f2 first many) first (Some m)) last (many - steps + 1) false).link last
-            (bt (many - steps - 2 * i)) (f0.link b) (λ e. differ 0 (many - steps - 2 * i) (omega (arith, l, twice))
-            (omega arith) (sym e)) ∙ (writes_at f2.link bt (λ k. d.twin (joint (bt (k - 1)))) (many - steps + 1)
-            (many - steps - 2 * i) (omega arith) differ ∙ ap (λ x. d.twin (joint x))
-            (bt_at (many - steps - 2 * i - 1) (many - suc (2 * i)) (omega (arith, l, twice, low))))));
-        last_link = ap f6.link ((let e : many - 2 * turns ≡ steps = omega (arith, twice, low) in ap at e) ∙ ends)
-            ∙ (ap (λ (f : Forest). f.link last) on
-            ∙ set_here (hung (mated (paired f2 first many) first (Some m)) last (many - steps + 1) false).link last
-            (f0.link b));
-        label_off = λ x off. ap (λ (f : Forest). f.label x) on ∙ writes_off f2.label bt turn_label (many - steps + 1) x
-            (λ k lk e. true_false (ap inside (sym e) ∙ circle_back.marked k) off);
-        link_off = λ x off. ap (λ (f : Forest). f.link x) on
-            ∙ (set_there (hung (mated (paired f2 first many) first (Some m)) last (many - steps + 1) false).link last x
-            (f0.link b) (λ e. true_false (ap inside e ∙ circle_back.marked 0) off)
-            ∙ writes_off f2.link bt (λ k. d.twin (joint (bt (k - 1)))) (many - steps + 1) x
-            (λ k lk e. true_false (ap inside (sym e) ∙ circle_back.marked k) off));
-      }
-
-      expanding_back : IsExpanding d f0 f6 b
-      expanding_back = record {
-        o = the_opening_at g is t0 valid b high inner weightless parted (λ j. at (many - j))
-            (λ j. d.twin (joint (at (many - suc j)))) turns;
-        is = refl;
-        opening = the_opening_is g is t0 valid b high inner weightless parted turns route_back
-            (omega (arith, twice, odd, uneven)) ((let e : many - 2 * turns
-            ≡ steps = omega (arith, twice, low) in ap at e) ∙ ends);
-        opened = opened_is places_back;
-      }
-
-    pub expanding : IsExpanding d f0 f6 b
-    expanding = by_way way.way
-      where
-        turned : (front cm : ℕ) (forward : Bool) → course.front ≡ front → course.many ≡ cm → course.forward ≡ forward
-            → f6 ≡ linked (hung (mated (paired f2 first many) first (Some m)) front cm forward) last (f0.link b)
-        turned front cm forward ef em eb = done ∙ (ap (λ x. linked (hung (mated (paired f2 first many) first (Some m)) x
-            course.many course.forward) last (f0.link b)) ef ∙ (ap (λ x. linked
-            (hung (mated (paired f2 first many) first (Some m)) front x course.forward) last (f0.link b)) em
-            ∙ ap (λ (x : Bool). linked (hung (mated (paired f2 first many) first (Some m)) front cm x) last (f0.link b))
-            eb))
-
-        by_way : ((course.forward ≡ true) × (course.front ≡ first) × (course.many ≡ way.steps + 1)
-            × (way.steps % 2 ≡ 0)) ⊎ ((course.forward ≡ false) × (course.front ≡ last)
-            × (course.many ≡ (many - way.steps) + 1) × (way.steps % 2 ≡ 1)) → IsExpanding d f0 f6 b
-        by_way (inl w) = expanding_on way.steps way.low way.at w.3 (turned first (way.steps + 1) true w.1 w.2 w.0)
-        by_way (inr w) = expanding_back way.steps way.low way.at w.3 (turned last (many - way.steps + 1) false w.1 w.2
-            w.0)
+  -- A course goes one way or the other.
+  pub expanding : {course : Course} → IsCourse next first last many course → {f6 : Forest}
+      → f6 ≡ laid course.front course.many course.forward → IsExpanding d f0 f6 b
+  expanding {course} way {f6} done = elim way.way [
+    | inl w ↦ expanding_on way.low way.at w.3 (done ∙ rw (w.1, w.2, w.0))
+    | inr w ↦ expanding_back way.low way.at w.3 (done ∙ rw (w.1, w.2, w.0))
+  ]

@@ -16,8 +16,16 @@ use Rattle.qm_forest.specs.{Parts.IsPartable, Parts.IsParted, Ties.HasSameNest, 
 use Rattle.qm_forest.proofs.Increases.{named_low}
 
 -- An inner set of weight 0 of a valid forest.
-module _ (g : WeightedGraph) (is : IsSmallGraph g) (t0 : ForestTables) (valid : IsValidFor g t0) (b : ℕ)
-    (high : g.n ≤ b) (inner : (forest_of t0).label b ≡ Inner) (weightless : (forest_of t0).weight b ≡ pos 0) where
+pub record CanOpen (g : WeightedGraph) (t0 : ForestTables) (b : ℕ) : Type 0 where
+  pub is : IsSmallGraph g
+  pub valid : IsValidFor g t0
+  pub high : g.n ≤ b
+  pub inner : (forest_of t0).label b ≡ Inner
+  pub weightless : (forest_of t0).weight b ≡ pos 0
+
+module _ {g : WeightedGraph} {t0 : ForestTables} {b : ℕ} (ready : CanOpen g t0 b) where
+  open ready use {is, valid, high, inner, weightless}
+
   abbrev d : Darts
   d = darts_of g
 
@@ -37,7 +45,7 @@ module _ (g : WeightedGraph) (is : IsSmallGraph g) (t0 : ForestTables) (valid : 
   top_is = valid.valid.outermost.named b (inner_named inner)
 
   pub set_top : IsOutermostIn t0 b
-  set_top = (top_is.0, subst (λ n. top_is.0 < n) (sym valid.vertices) top_is.1, top_is.2)
+  set_top = (top_is.0, rw valid.vertices top_is.1, top_is.2)
 
   pub set_low : b < length t0.up
   set_low = named_low g is t0 valid b (inner_named inner)
@@ -61,37 +69,34 @@ module _ (g : WeightedGraph) (is : IsSmallGraph g) (t0 : ForestTables) (valid : 
   pub mate_is : IsMate d f0 b in_tree.dart
   mate_is = valid.valid.matched b in_tree.dart in_tree.mate
 
+  -- The parts are at the places of the ring.
+  part_place : (x : ℕ) → inside x ≡ true → (k : ℕ) × (k < many) × (walk f0.nest.after (f0.nest.head b) k ≡ x)
+  part_place x on = listed_place f0.nest.after (f0.nest.head b) many x on
+
   pub part_around : (x : ℕ) → inside x ≡ true → f0.nest.up x ≡ b
-  part_around x on = (let w : (k : ℕ) × (k < many) × (walk f0.nest.after (f0.nest.head b) k ≡ x) =
-      listed_place f0.nest.after (f0.nest.head b) many x on in ap f0.nest.up (sym w.2) ∙ ring_is.inside w.0)
+  part_around x on = ap f0.nest.up (sym (part_place x on).2) ∙ ring_is.inside (part_place x on).0
 
   pub part_other : (x : ℕ) → inside x ≡ true → x ≢ b
   part_other x on e =
-      let w : (k : ℕ) × (k < many) × (walk f0.nest.after (f0.nest.head b) k ≡ x) =
-      listed_place f0.nest.after (f0.nest.head b) many x on in
-      let low : f0.nest.rank (walk f0.nest.after (f0.nest.head b) w.0) < f0.nest.rank b = ring_is.lower w.0 in
-      let same : f0.nest.rank (walk f0.nest.after (f0.nest.head b) w.0) ≡ f0.nest.rank b = ap f0.nest.rank (w.2 ∙ e) in
-      absurd (omega (arith, low, same))
+      absurd (omega (arith, ring_is.lower (part_place x on).0, ap f0.nest.rank ((part_place x on).2 ∙ e)))
 
   pub part_low : (x : ℕ) → inside x ≡ true → x < f0.size
-  part_low x on = (let w : (k : ℕ) × (k < many) × (walk f0.nest.after (f0.nest.head b) k ≡ x) =
-      listed_place f0.nest.after (f0.nest.head b) many x on in subst (λ y. y < f0.size) w.2 (ring_is.below w.0))
+  part_low x on = subst (λ y. y < f0.size) (part_place x on).2 (ring_is.below (part_place x on).0)
 
   pub around_part : (x : ℕ) → f0.nest.up x ≡ b → x ≢ b → inside x ≡ true
   around_part x up ne = (let w : (k : ℕ) × (k < many) × (walk f0.nest.after (f0.nest.head b) k ≡ x) =
-      ring_is.all x up ne in subst (λ y. inside y ≡ true) w.2 (listed_at f0.nest.after (f0.nest.head b) many w.0 w.1))
+      ring_is.all x up ne in ap inside (sym w.2) ∙ listed_at f0.nest.after (f0.nest.head b) many w.0 w.1)
 
   part_inner : (x : ℕ) → inside x ≡ true → f0.nest.up x ≢ x
   part_inner x on e = part_other x on (sym e ∙ part_around x on)
 
   -- Parts are outside the tree.
   pub part_outside : (x : ℕ) → inside x ≡ true → f0.label x ≡ Outside
-  part_outside x on = by_label (label_cases (f0.label x))
-    where
-      by_label : (f0.label x ≡ Outside) ⊎ (f0.label x ≢ Outside) → f0.label x ≡ Outside
-      by_label (inl e) = e
-      by_label (inr named) = (let w : IsOutermost g.n f0 x = valid.valid.outermost.named x named in
-          absurd (part_inner x on (ap f0.nest.up (sym w.2) ∙ (valid.valid.outermost.tops w.0 w.1 ∙ w.2))))
+  part_outside x on = elim (label_cases (f0.label x)) [
+    | inl e ↦ e
+    | inr named ↦ (let w : IsOutermost g.n f0 x = valid.valid.outermost.named x named in
+        absurd (part_inner x on (ap f0.nest.up (sym w.2) ∙ (valid.valid.outermost.tops w.0 w.1 ∙ w.2))))
+  ]
 
   pub circle_is : IsCircle f0.nest.after (f0.nest.head b) many inside
   circle_is = record {
@@ -99,44 +104,37 @@ module _ (g : WeightedGraph) (is : IsSmallGraph g) (t0 : ForestTables) (valid : 
     closed = ring_is.closed;
     distinct = ring_is.distinct;
     marked = listed_closed f0.nest.after many (omega (arith, ring_is.odd)) ring_is.closed;
-    all = λ x on. listed_place f0.nest.after (f0.nest.head b) many x on;
+    all = part_place;
   }
 
   pub next_part : (x : ℕ) → inside x ≡ true → inside (f0.nest.after x) ≡ true
-  next_part x on = (let w : (k : ℕ) × (k < many) × (walk f0.nest.after (f0.nest.head b) k ≡ x) = circle_is.all x on in
-      subst (λ y. inside (f0.nest.after y) ≡ true) w.2 (circle_is.marked (suc w.0)))
+  next_part x on = subst (λ y. inside (f0.nest.after y) ≡ true) (part_place x on).2
+      (circle_is.marked (suc (part_place x on).0))
 
   -- What a part holds is in the set.
   part_in : (x v : ℕ) → inside x ≡ true → v < g.n → f0.holds x v ≡ true → f0.out v ≡ b
-  part_in x v on l held = (let up : f0.holds (f0.nest.up x) v ≡ true =
-      holds_up valid.valid.nested x v l (part_inner x on) held in
-      eqb-true (f0.out v) b (sym (held_b v l) ∙ subst (λ y. f0.holds y v ≡ true) (part_around x on) up))
+  part_in x v on l held = eqb-true (f0.out v) b (sym (held_b v l) ∙ subst (λ y. f0.holds y v ≡ true)
+      (part_around x on) (holds_up valid.valid.nested x v l (part_inner x on) held))
 
   -- The tables, once the set has left the tree, can be parted.
-  pub partable : (t1 : ForestTables) → forest_of t1 ≡ mated (labelled f0 b Outside) b None → HasSameNest t0 t1
+  partable_after : (t1 : ForestTables) → forest_of t1 ≡ mated (labelled f0 b Outside) b None → HasSameNest t0 t1
       → IsPartable t1 b
-  partable t1 gone same = record {
-    high = subst (λ n. n ≤ b) (sym (ap length same.hand ∙ valid.vertices)) high;
-    low = subst (λ n. b < n) (sym (ap length same.up)) set_low;
-    top = (
-      set_top.0,
-      subst (λ xs. set_top.0 < length xs) (sym same.hand) set_top.1,
-      ap (λ (f : Forest). f.out set_top.0) gone ∙ set_top.2,
-    );
+  partable_after t1 gone same = record {
+    high = rw (same.hand, valid.vertices) high;
+    low = rw same.up set_low;
+    top = (set_top.0, rw same.hand set_top.1, ap (λ (f : Forest). f.out set_top.0) gone ∙ set_top.2);
     outside = ap (λ (f : Forest). f.label b) gone ∙ set_here f0.label b Outside;
     weightless = ap (λ (f : Forest). f.weight b) gone ∙ weightless;
-    live = λ none. set_live (sym (ap (λ (f : Forest). f.nest.parts b) gone) ∙ none);
+    live = λ none. set_live (sym many1 ∙ none);
     row = record {
-      some = subst (λ m. 1 ≤ m) (sym many1) circle_is.some;
-      low = λ k l. subst (λ x. x < length t1.up) (sym (at1 k)) (subst (λ m. walk f0.nest.after (f0.nest.head b) k < m)
-          (sym (ap length same.up)) (ring_is.below k));
-      distinct = λ i j lij lj e. ring_is.distinct i j lij (subst (λ m. j < m) many1 lj) (sym (at1 i) ∙ (e ∙ at1 j));
+      some = rw many1 circle_is.some;
+      low = λ k l. rw (at1 k, same.up) (ring_is.below k);
+      distinct = λ i j lij lj e. ring_is.distinct i j lij (rw many1 at lj) (sym (at1 i) ∙ (e ∙ at1 j));
     };
     around = λ k l. ap (λ (f : Forest). f.nest.up (walk f.nest.after (f.nest.head b) k)) gone ∙ ring_is.inside k;
     other = λ k l e. part_other (walk f0.nest.after (f0.nest.head b) k) (circle_is.marked k) (sym (at1 k) ∙ e);
     all = λ p up ne. (let w : (k : ℕ) × (k < many) × (walk f0.nest.after (f0.nest.head b) k ≡ p) =
-        ring_is.all p (sym (ap (λ (f : Forest). f.nest.up p) gone) ∙ up) ne in
-        (w.0, subst (λ m. w.0 < m) (sym many1) w.1, at1 w.0 ∙ w.2));
+        ring_is.all p (sym (ap (λ (f : Forest). f.nest.up p) gone) ∙ up) ne in (w.0, rw many1 w.1, at1 w.0 ∙ w.2));
   }
     where
       many1 : (forest_of t1).nest.parts b ≡ many
@@ -145,6 +143,14 @@ module _ (g : WeightedGraph) (is : IsSmallGraph g) (t0 : ForestTables) (valid : 
       at1 : (k : ℕ) → walk (forest_of t1).nest.after ((forest_of t1).nest.head b) k
           ≡ walk f0.nest.after (f0.nest.head b) k
       at1 k = ap (λ (f : Forest). walk f.nest.after (f.nest.head b) k) gone
+
+  -- The joint of a part is tight, and leads from it to the next.
+  pub record IsJoined (part after darts : ℕ → ℕ) (x : ℕ) : Type 0 where
+    pub tight : IsTight d f0 (darts x)
+    pub near_in : f0.out (d.near (darts x)) ≡ b
+    pub near_part : part (d.near (darts x)) ≡ x
+    pub far_in : f0.out (far d (darts x)) ≡ b
+    pub far_part : part (far d (darts x)) ≡ after x
 
   -- The set is parted.
   module _ {f2 : Forest} (parted : IsParted g.n (mated (labelled f0 b Outside) b None) f2
@@ -158,23 +164,14 @@ module _ (g : WeightedGraph) (is : IsSmallGraph g) (t0 : ForestTables) (valid : 
     abbrev part : ℕ → ℕ
     part = f2.out
 
-    -- The joint of a part is tight, and leads from it to the next.
-    pub record IsJoined (after darts : ℕ → ℕ) (x : ℕ) : Type 0 where
-      pub tight : IsTight d f0 (darts x)
-      pub near_in : f0.out (d.near (darts x)) ≡ b
-      pub near_part : part (d.near (darts x)) ≡ x
-      pub far_in : f0.out (far d (darts x)) ≡ b
-      pub far_part : part (far d (darts x)) ≡ after x
-
-    pub joined : (x : ℕ) → inside x ≡ true → IsJoined next joint x
-    joined x on = subst (λ (h : ℕ → ℕ). IsJoined next h x) (sym parted.joint)
-        (subst (λ (h : ℕ → ℕ). IsJoined h f0.nest.joint x) (sym parted.after) (record {
-          tight = old.tight;
-          near_in = part_in x (d.near (f0.nest.joint x)) on near_low old.begins;
-          near_part = parted.own x (d.near (f0.nest.joint x)) on near_low old.begins;
-          far_in = part_in (f0.nest.after x) (far d (f0.nest.joint x)) (next_part x on) far_is_low old.ends;
-          far_part = parted.own (f0.nest.after x) (far d (f0.nest.joint x)) (next_part x on) far_is_low old.ends;
-        }))
+    pub joined : (x : ℕ) → inside x ≡ true → IsJoined part next joint x
+    joined x on = rw (parted.joint, parted.after) (record {
+      tight = old.tight;
+      near_in = part_in x (d.near (f0.nest.joint x)) on near_low old.begins;
+      near_part = parted.own x (d.near (f0.nest.joint x)) on near_low old.begins;
+      far_in = part_in (f0.nest.after x) (far d (f0.nest.joint x)) (next_part x on) far_is_low old.ends;
+      far_part = parted.own (f0.nest.after x) (far d (f0.nest.joint x)) (next_part x on) far_is_low old.ends;
+    })
       where
         old : IsJoint d f0 x
         old = valid.valid.nested.joints x (part_inner x on)
@@ -187,22 +184,20 @@ module _ (g : WeightedGraph) (is : IsSmallGraph g) (t0 : ForestTables) (valid : 
 
     -- The vertices of the set are those of its parts.
     pub in_part : (v : ℕ) → v < g.n → f0.out v ≡ b → inside (part v) ≡ true
-    in_part v l e = by_test (cases_Bool (inside (part v)))
-      where
-        by_test : (inside (part v) ≡ true) ⊎ (inside (part v) ≡ false) → inside (part v) ≡ true
-        by_test (inl on) = on
-        by_test (inr off) = absurd (parted.ended v l (sym (parted.out v l ∙ cond-false (inside (part v)) b (part v) off)
-            ∙ e))
+    in_part v l e = elim (cases_Bool (inside (part v))) [
+      | inl on ↦ on
+      | inr off ↦ absurd (parted.ended v l (sym (parted.out v l ∙ cond-false _ _ _ off) ∙ e))
+    ]
 
     pub out_is : (v : ℕ) → v < g.n → f2.out v ≡ cond (eqb (f0.out v) b) (part v) (f0.out v)
     out_is v l = by_test (cases_eq (f0.out v) b) (cases_Bool (inside (part v)))
       where
         by_test : (f0.out v ≡ b) ⊎ (f0.out v ≢ b) → (inside (part v) ≡ true) ⊎ (inside (part v) ≡ false)
             → part v ≡ cond (eqb (f0.out v) b) (part v) (f0.out v)
-        by_test (inl e) x = sym (cond-true (eqb (f0.out v) b) (part v) (f0.out v) (eq-eqb (f0.out v) b e))
-        by_test (inr ne) (inl on) = absurd (ne (parted.out v l ∙ cond-true (inside (part v)) b (part v) on))
-        by_test (inr ne) (inr off) = sym (parted.out v l ∙ cond-false (inside (part v)) b (part v) off)
-            ∙ sym (cond-false (eqb (f0.out v) b) (part v) (f0.out v) (ne_eqb (f0.out v) b ne))
+        by_test (inl e) x = sym (cond-true _ _ _ (eq-eqb (f0.out v) b e))
+        by_test (inr ne) (inl on) = absurd (ne (parted.out v l ∙ cond-true _ _ _ on))
+        by_test (inr ne) (inr off) = sym (parted.out v l ∙ cond-false _ _ _ off)
+            ∙ sym (cond-false _ _ _ (ne_eqb (f0.out v) b ne))
 
     held_part : (x v : ℕ) → inside x ≡ true → v < g.n → f0.holds x v ≡ eqb (part v) x
     held_part x v on l = by_test (cases_Bool (f0.holds x v)) (cases_eq (part v) x)
@@ -227,8 +222,7 @@ module _ (g : WeightedGraph) (is : IsSmallGraph g) (t0 : ForestTables) (valid : 
     last_in = in_part (d.near (f0.link b)) (are.near_low (f0.link b) in_tree.tight.low) in_tree.here
 
     pub ring_from : (x : ℕ) → inside x ≡ true → IsCircle next x many inside
-    ring_from x on = subst (λ (h : ℕ → ℕ). IsCircle h x many inside) (sym parted.after)
-        (circle_from f0.nest.after (f0.nest.head b) many inside circle_is x on)
+    ring_from x on = rw parted.after (circle_from f0.nest.after (f0.nest.head b) many inside circle_is x on)
 
     -- The parts in the order in which the tree goes through them, and the darts between them.
     pub record IsRoute (q e : ℕ → ℕ) : Type 0 where
@@ -276,3 +270,10 @@ module _ (g : WeightedGraph) (is : IsSmallGraph g) (t0 : ForestTables) (valid : 
       first = sym route.begins;
       last = sym ends;
     }
+
+pub partable : (g : WeightedGraph) (is : IsSmallGraph g) (t0 : ForestTables) (valid : IsValidFor g t0) (b : ℕ)
+    (high : g.n ≤ b) (inner : (forest_of t0).label b ≡ Inner) (weightless : (forest_of t0).weight b ≡ pos 0)
+    (t1 : ForestTables) → forest_of t1 ≡ mated (labelled (forest_of t0) b Outside) b None → HasSameNest t0 t1
+    → IsPartable t1 b
+partable g is t0 valid b high inner weightless =
+    partable_after (record { is = is; valid = valid; high = high; inner = inner; weightless = weightless })
