@@ -54,11 +54,11 @@ module _ {n : ℕ} {up : ℕ → ℕ} (rank : ℕ → ℕ) {out : ℕ → ℕ} (
     where
       climbing : (up from ≡ b) ⊎ (up from ≢ b) → (climbs up k b (up from) ≡ true → up from ≢ b
           → rank (up from) < rank b) → climbs up k b (up from) ≡ true → rank from < rank b
-      climbing (inl e) more on' = subst (λ x. rank from < rank x) e (rises from (λ s. ne (sym s ∙ e)))
+      climbing (inl e) more on' = rw e at (rises from (λ s. ne (sym s ∙ e)))
       climbing (inr nb) more on' = by_step (cases_eq (up from) from) (more on' nb)
         where
           by_step : (up from ≡ from) ⊎ (up from ≢ from) → rank (up from) < rank b → rank from < rank b
-          by_step (inl s) l = subst (λ x. rank x < rank b) s l
+          by_step (inl s) l = rw s at l
           by_step (inr ns) l = let h : rank from < rank (up from) = rises from ns in omega arith
 
       by_or : (eqb from b ≡ true) ⊎ (climbs up k b (up from) ≡ true) → (climbs up k b (up from) ≡ true → up from ≢ b
@@ -89,7 +89,7 @@ module _ {n : ℕ} {up : ℕ → ℕ} (rank : ℕ → ℕ) {out : ℕ → ℕ} (
       ∙ (walk_sum up v n w.0 ∙ (ap (λ y. walk up y w.0) (climb.ends v l) ∙ walk_stays up w.0 (climb.tops v l)))))
 
   pub rank_low : (v x : ℕ) → v < n → OnWayFrom v x → rank x ≤ rank (out v)
-  rank_low v x l w = subst (λ y. rank x ≤ rank y) (comes_out v x l w) (rank_walk x n)
+  rank_low v x l w = rw (comes_out v x l w) at (rank_walk x n)
 
   -- Where one stays is the outermost blossom.
   pub fixed_top : (v : ℕ) {x : ℕ} → v < n → OnWayFrom v x → up x ≡ x → x ≡ out v
@@ -152,30 +152,25 @@ module _ {n : ℕ} {up : ℕ → ℕ} (rank : ℕ → ℕ) {out : ℕ → ℕ} (
 
     term : (b : ℕ) → cond (splits (climbs up n b) x y) (weight b) (pos 0) ≡ cond (splits (climbs up n b) (up x) y)
         (weight b) (pos 0) +ℤ cond (eqb b x) (weight x) (pos 0)
-    term b = by_place (cases_eq b x)
-      where
-        by_place : (b ≡ x) ⊎ (b ≢ x) → cond (splits (climbs up n b) x y) (weight b) (pos 0)
-            ≡ cond (splits (climbs up n b) (up x) y) (weight b) (pos 0) +ℤ cond (eqb b x) (weight x) (pos 0)
-        by_place (inl e) = subst (λ k. cond (splits (climbs up n k) x y) (weight k) (pos 0)
-            ≡ cond (splits (climbs up n k) (up x) y) (weight k) (pos 0) +ℤ cond (eqb k x) (weight x) (pos 0)) (sym e)
-            (let left : cond (splits (climbs up n x) x y) (weight x) (pos 0)
-            ≡ weight x = ap (λ (s : Bool). cond (cond s (not (climbs up n x y)) (climbs up n x y)) (weight x) (pos 0))
-            here_true ∙ ap (λ (s : Bool). cond (not s) (weight x) (pos 0)) not_from_y in
-            let right : cond (splits (climbs up n x) (up x) y) (weight x) (pos 0) ≡ pos 0 =
-            ap (λ (s : Bool). cond (cond s (not (climbs up n x y)) (climbs up n x y)) (weight x) (pos 0))
-            not_further ∙ ap (λ (s : Bool). cond s (weight x) (pos 0)) not_from_y in
-            let one : cond (eqb x x) (weight x) (pos 0) ≡ weight x =
-            cond-true (eqb x x) (weight x) (pos 0) (eq-eqb x x refl) in
-            omega (arith, ints, left, right, one))
-        by_place (inr nb) =
-            let same : climbs up n b x ≡ climbs up n b (up x) = climbs_step u x b lu wx
-            ∙ or_first (eqb x b) (climbs up n b (up x)) (ne_eqb x b (λ e. nb (sym e))) in
-            let left : cond (splits (climbs up n b) x y) (weight b) (pos 0) ≡ cond (splits (climbs up n b) (up x) y)
-            (weight b) (pos 0) = ap (λ (s : Bool). cond (cond s (not (climbs up n b y)) (climbs up n b y))
-            (weight b) (pos 0)) same in
-            let none : cond (eqb b x) (weight x) (pos 0) ≡ pos 0 =
-            cond-false (eqb b x) (weight x) (pos 0) (ne_eqb b x nb) in
-            omega (arith, ints, left, none)
+    term b = elim (cases_eq b x) [
+      | inl e ↦ rw e (let left : cond (splits (climbs up n x) x y) (weight x) (pos 0)
+          ≡ weight x = ap (λ (s : Bool). cond (cond s (not (climbs up n x y)) (climbs up n x y)) (weight x) (pos 0))
+          here_true ∙ ap (λ (s : Bool). cond (not s) (weight x) (pos 0)) not_from_y in
+          let right : cond (splits (climbs up n x) (up x) y) (weight x) (pos 0) ≡ pos 0 =
+          ap (λ (s : Bool). cond (cond s (not (climbs up n x y)) (climbs up n x y)) (weight x) (pos 0))
+          not_further ∙ ap (λ (s : Bool). cond s (weight x) (pos 0)) not_from_y in
+          let one : cond (eqb x x) (weight x) (pos 0) ≡ weight x =
+          cond-true _ _ _ (eq-eqb x x refl) in
+          omega (arith, ints, left, right, one))
+      | inr nb ↦ (let same : climbs up n b x ≡ climbs up n b (up x) = climbs_step u x b lu wx
+          ∙ or_first (eqb x b) (climbs up n b (up x)) (ne_eqb x b (λ e. nb (sym e))) in
+          let left : cond (splits (climbs up n b) x y) (weight b) (pos 0) ≡ cond (splits (climbs up n b) (up x) y)
+          (weight b) (pos 0) = ap (λ (s : Bool). cond (cond s (not (climbs up n b y)) (climbs up n b y))
+          (weight b) (pos 0)) same in
+          let none : cond (eqb b x) (weight x) (pos 0) ≡ pos 0 =
+          cond-false _ _ _ (ne_eqb b x nb) in
+          omega (arith, ints, left, none))
+    ]
 
     -- The lower climbs: its weight is passed.
     pub apart_step : apart n up weight size x y ≡ apart n up weight size (up x) y +ℤ weight x
@@ -186,8 +181,7 @@ module _ {n : ℕ} {up : ℕ → ℕ} (rank : ℕ → ℕ) {out : ℕ → ℕ} (
         (weight b) (pos 0) +ℤ cond (eqb b x) (weight x) (pos 0)) size (λ b l. term b) in
         let one : total_below (λ b. cond (eqb b x) (weight x) (pos 0)) size ≡ weight x =
         total_below_one (λ b. cond (eqb b x) (weight x) (pos 0)) size x low
-        (λ k l nk. cond-false (eqb k x) (weight x) (pos 0) (ne_eqb k x nk)) ∙ cond-true (eqb x x) (weight x) (pos 0)
-        (eq-eqb x x refl) in
+        (λ k l nk. cond-false _ _ _ (ne_eqb k x nk)) ∙ cond-true _ _ _ (eq-eqb x x refl) in
         omega (
           arith,
           ints,

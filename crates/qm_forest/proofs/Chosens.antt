@@ -37,7 +37,7 @@ marked_more {marks} {e} {xs} on are = record {
   increasing = increasing_more 0 e xs (omega arith) are.increasing;
   each = λ k l. each k l (cases_lt k (length xs));
   counts = λ f. (let s : count f (xs ++ e ∷ []) ≡ count f xs + count f (e ∷ []) = count_append f xs (e ∷ []) in
-      let one : cond (get_or marks e false) (f e) 0 ≡ f e = cond-true (get_or marks e false) (f e) 0 on in
+      let one : cond (get_or marks e false) (f e) 0 ≡ f e = cond-true _ _ _ on in
       let up : count_below (λ k. cond (get_or marks k false) (f k) 0) (e + 1)
       ≡ count_below (λ k. cond (get_or marks k false) (f k) 0) (suc e) =
       (let o : e + 1 ≡ suc e = omega arith in ap (count_below (λ k. cond (get_or marks k false) (f k) 0)) o) in
@@ -58,7 +58,7 @@ pub marked_same : {marks : List Bool} {e : ℕ} {xs : List ℕ} → get_or marks
 marked_same {marks} {e} {xs} off are = record {
   increasing = increasing_higher 0 e xs are.increasing;
   each = are.each;
-  counts = λ f. (let none : cond (get_or marks e false) (f e) 0 ≡ 0 = cond-false (get_or marks e false) (f e) 0 off in
+  counts = λ f. (let none : cond (get_or marks e false) (f e) 0 ≡ 0 = cond-false _ _ _ off in
       let up : count_below (λ k. cond (get_or marks k false) (f k) 0) (e + 1)
       ≡ count_below (λ k. cond (get_or marks k false) (f k) 0) (suc e) =
       (let o : e + 1 ≡ suc e = omega arith in ap (count_below (λ k. cond (get_or marks k false) (f k) 0)) o) in
@@ -90,8 +90,7 @@ pub room_begins : {E : Type 0} {t : ForestTables} (r : Result Round E) (m size :
     → IfOk r (λ round. round.left_out.items ≡ replicate size None) → IfOk r (λ round. HasRoom t round)
 room_begins (Ok round) m size known near up marks left = record {
   laminar = known;
-  marks = (let s : length round.marks.items ≡ length (replicate m false) = ap length marks in
-      omega (arith, s, length-replicate m false, near));
+  marks = omega (arith, ap length marks, length-replicate m false, near);
   left_out = ap length left ∙ (length-replicate size None ∙ up);
 }
 room_begins (Err e) m size known near up marks left = tt
@@ -158,7 +157,7 @@ module _ {t : ForestTables} (known : IsLaminar t) {g : WeightedGraph} (is : IsSm
   met_as_left w lw = sym (leaving_listed w ∙ (counted 0 list increasing ∙ sym (count_map (ends_at w) (edge_at g) list)))
     where
       increasing : IsIncreasing 0 (length g.edges) list
-      increasing = subst (λ m. IsIncreasing 0 m list) edges_is are.increasing
+      increasing = rw edges_is at are.increasing
 
       counted : (low : ℕ) (xs : List ℕ) → IsIncreasing low (length g.edges) xs
           → count (λ e. bool_number (splits ((forest_of t).holds w) (edge_at g e).u (edge_at g e).v)) xs
@@ -166,24 +165,21 @@ module _ {t : ForestTables} (known : IsLaminar t) {g : WeightedGraph} (is : IsSm
       counted low [] r = refl
       counted low (x ∷ xs) r =
           let here : bool_number (splits ((forest_of t).holds w) (edge_at g x).u (edge_at g x).v)
-          ≡ ends_at w (edge_at g x) = leaves_vertex is.lawful (subst (λ m. m ≤ length t.up) valid.vertices
-          known.vertices) valid.valid.nested w x (subst (λ m. w < m) valid.vertices lw) r.1 in
-          let rest : count (λ e. bool_number (splits ((forest_of t).holds w) (edge_at g e).u (edge_at g e).v)) xs
-          ≡ count (λ e. ends_at w (edge_at g e)) xs = counted (x + 1) xs r.2 in
-          omega (arith, here, rest)
+          ≡ ends_at w (edge_at g x) = leaves_vertex is.lawful
+          (rw valid.vertices at known.vertices) valid.valid.nested w x (rw valid.vertices at lw) r.1 in
+          omega (arith, here, counted (x + 1) xs r.2)
 
   -- The edges match all vertices of a blossom but one.
   pub matches_but : {left : List (Option ℕ)} (b v : ℕ) → v < length t.hand
       → IsRound t marks left (λ c. 0) (λ c. waits_but t c b v + 0) → ((c : ℕ) → get_or left c None ≡ None)
       → MatchesBut g (forest_of t) b v list
   matches_but b v lv round ended = record {
-    increasing = subst (λ m. IsIncreasing 0 m list) edges_is are.increasing;
+    increasing = rw edges_is at are.increasing;
     tight = λ k l. round.tight g is valid (get_or list k 0) (are.each k l);
     once = λ w lw. (
-        let low : w < length t.hand = subst (λ m. w < m) (sym valid.vertices) lw in
+        let low : w < length t.hand = (rw valid.vertices lw) in
         let low_up : w < length t.up = omega (arith, low, known.vertices) in
-        let due : leaving t marks w ≡ waits_but t w b v + 0 = round_ends round ended w low_up in
         let other : waits_but t w b v ≡ cond ((forest_of t).holds b w) (cond (eqb w v) 0 1) 0 =
         ap (λ (s : Bool). cond ((forest_of t).holds b w) (cond s 0 1) 0) (alone t known w v low lv) in
-        omega (arith, met_as_left w low, due, other));
+        omega (arith, met_as_left w low, round_ends round ended w low_up, other));
   }

@@ -13,14 +13,11 @@ use Rattle.qm_forest.proofs.JoinedLists.{list_few}
 pub copied_more : (list : List ℕ) {pushed : List ℕ} (next : ℕ → ℕ) (from : ℕ) {k v : ℕ} → pushed ≡ list ++ v ∷ []
     → length list ≡ k → v ≡ walk next from k → ((j : ℕ) → j < k → get_or list j 0 ≡ walk next from j) → (j : ℕ)
     → j < k + 1 → get_or pushed j 0 ≡ walk next from j
-copied_more list {pushed} next from {k} {v} is size here each j l = by_place (cases_lt j k)
-  where
-    by_place : (j < k) ⊎ (k ≤ j) → get_or pushed j 0 ≡ walk next from j
-    by_place (inl lt) = ap (λ xs. get_or xs j 0) is ∙ (get_or_append_left list (v ∷ []) 0 j (omega (arith, lt, size))
-        ∙ each j lt)
-    by_place (inr ge) =
-        let e : k ≡ j = omega (arith, ge, l) in
-        ap (λ xs. get_or xs j 0) is ∙ (get_or_push list v 0 j (size ∙ e) ∙ (here ∙ ap (walk next from) e))
+copied_more list {pushed} next from {k} {v} is size here each j l = elim (cases_lt j k) [
+  | inl lt ↦ ap (λ xs. get_or xs j 0) is ∙ (get_or_append_left list (v ∷ []) 0 j (omega (arith, lt, size)) ∙ each j lt)
+  | inr ge ↦ (let e : k ≡ j = omega (arith, ge, l) in
+      ap (λ xs. get_or xs j 0) is ∙ (get_or_push list v 0 j (size ∙ e) ∙ (here ∙ ap (walk next from) e)))
+]
 
 -- The list of a blossom that is in use.
 pub list_at : {t : ForestTables} {hid : HiddenTables} → AreTied t hid → (l : Lists) → hid.first ≡ l.first.items

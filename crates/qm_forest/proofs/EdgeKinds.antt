@@ -48,10 +48,10 @@ module _ {g : WeightedGraph} (is : IsSmallGraph g) {f : Forest} (feasible : IsFe
     where
       by_test : (int_lt (pos 0) (slack_of g f e) ≡ true) ⊎ (int_lt (pos 0) (slack_of g f e) ≡ false)
           → IsTight (darts_of g) f first × (by_labels ≡ k)
-      by_test (inl on) = absurd (ne (sym is_k ∙ cond-true (int_lt (pos 0) (slack_of g f e)) Loose by_labels on))
+      by_test (inl on) = absurd (ne (sym is_k ∙ cond-true _ _ _ on))
       by_test (inr off) = (
         not_loose_tight off,
-        sym (cond-false (int_lt (pos 0) (slack_of g f e)) Loose by_labels off) ∙ is_k,
+        sym (cond-false _ _ _ off) ∙ is_k,
       )
 
   -- The dart from the one end, and from the other.
@@ -86,7 +86,7 @@ module _ {g : WeightedGraph} (is : IsSmallGraph g) {f : Forest} (feasible : IsFe
       → f.label (f.out (edge_at g e).v) ≡ Outside → is_some (f.mate (f.out (edge_at g e).v)) ≡ some → Leads some
   leads_u tight lu lv m =
       let d : outer_dart g f e ≡ 2 * e = ap (λ (l : Label). dart_by l e) lu in (
-        subst (λ x. Reaches (darts_of g) f x) (sym d) (from_u tight lu lv),
+        (rw d (from_u tight lu lv)),
         ap (λ x. is_some (f.mate (f.out (far (darts_of g) x)))) d
             ∙ (ap (λ v. is_some (f.mate (f.out v))) (dart_far g e) ∙ m),
       )
@@ -95,7 +95,7 @@ module _ {g : WeightedGraph} (is : IsSmallGraph g) {f : Forest} (feasible : IsFe
       → f.label (f.out (edge_at g e).v) ≡ Outer → is_some (f.mate (f.out (edge_at g e).u)) ≡ some → Leads some
   leads_v tight lu lv m =
       let d : outer_dart g f e ≡ 2 * e + 1 = ap (λ (l : Label). dart_by l e) lu in (
-        subst (λ x. Reaches (darts_of g) f x) (sym d) (from_v tight lu lv),
+        (rw d (from_v tight lu lv)),
         ap (λ x. is_some (f.mate (f.out (far (darts_of g) x)))) d ∙ (ap (λ v. is_some (f.mate (f.out v))) far_second
             ∙ m),
       )

@@ -48,7 +48,7 @@ module _ (t : ForestTables) (known : IsLaminar t) (g : WeightedGraph) (is : IsSm
 
   left_once : (w : ℕ) → w < length t.hand → leaving t marks w ≡ 1
   left_once w l = round_ends round ended w (omega (arith, l, known.vertices))
-      ∙ due_one known is valid w l (edges_is known is valid size are) (matched w (subst (λ m. w < m) valid.vertices l))
+      ∙ due_one known is valid w l (edges_is known is valid size are) (matched w (rw valid.vertices at l))
 
   set_once : (b : ℕ) → length t.hand ≤ b → b < length t.up → get_or t.parts b 0 ≢ 0 → leaving t marks b ≡ 1
   set_once b high low live =
@@ -56,12 +56,12 @@ module _ (t : ForestTables) (known : IsLaminar t) (g : WeightedGraph) (is : IsSm
       another t known g is valid b 0 high low live in
       round_ends round ended b low
       ∙ (due_same known is valid b w.0 (length marks) w.1 w.3 ∙ due_one known is valid w.0 w.1
-      (edges_is known is valid size are) (matched w.0 (subst (λ m. w.0 < m) valid.vertices w.1)))
+      (edges_is known is valid size are) (matched w.0 (rw valid.vertices at w.1)))
 
   pub perfect : IsPerfect g list
   perfect = record {
-    increasing = subst (λ m. IsIncreasing 0 m list) (edges_is known is valid size are) are.increasing;
-    once = λ w l. (let lw : w < length t.hand = subst (λ m. w < m) (sym valid.vertices) l in
+    increasing = rw (edges_is known is valid size are) at are.increasing;
+    once = λ w l. (let lw : w < length t.hand = (rw valid.vertices l) in
         met_as_left known is valid size are w lw ∙ left_once w lw);
   }
 
@@ -80,7 +80,7 @@ module _ (t : ForestTables) (known : IsLaminar t) (g : WeightedGraph) (is : IsSm
   each b l (inl low) y = sym (counted b (left_once b low))
   each b l (inr high) (inr live) = sym (counted b (set_once b high l live))
   each b l (inr high) (inl dead) =
-      (let z : f.weight b ≡ pos 0 = valid.valid.nested.weightless b (subst (λ m. m ≤ b) valid.vertices high) dead in
+      (let z : f.weight b ≡ pos 0 = valid.valid.nested.weightless b (rw valid.vertices at high) dead in
       z ∙ sym (none_added (f.holds b) es z))
 
   -- The sum of the weights is the sum of the loads.

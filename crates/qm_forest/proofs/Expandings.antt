@@ -147,8 +147,10 @@ module _ {g : WeightedGraph} (is : IsSmallGraph g) {t0 : ForestTables} (valid : 
 
           pub joints3 : (k : ℕ) → k < course.many
               → (forest_of t3).nest.joint (walk (forest_of t3).nest.after course.front k) < 2 ^ 31
-          joints3 k l = rw (at3 course.front k,
-              ap (λ (f : Forest). f.nest.joint (walk f2.nest.after course.front k)) seen3)
+          joints3 k l = rw (
+            at3 course.front k,
+            ap (λ (f : Forest). f.nest.joint (walk f2.nest.after course.front k)) seen3,
+          )
               (joint_low (walk f2.nest.after course.front k) ((circle_at course.front front_marked).marked k))
 
           way2 : IsCourse f2.nest.after (f2.out (d.near m)) (f2.out (d.near (f0.link b))) (f0.nest.parts b) course
@@ -175,8 +177,7 @@ module _ {g : WeightedGraph} (is : IsSmallGraph g) {t0 : ForestTables} (valid : 
               ends = ends_kept t6 valid (fixed ∙ (opened.fixed ∙ opened.same.fixed));
               room = room_kept t6 valid (fixed ∙ (opened.fixed ∙ opened.same.fixed));
               vertices = hand ∙ hand2;
-              valid = rw (root, tree.1) (subst (λ (f : Forest). IsValid d f (Some tree.0)) (sym seen)
-                  (opened_valid (record {
+              valid = rw (root, tree.1) (rw seen (opened_valid (record {
                     are = are ready;
                     valid = rw tree.1 at valid.valid;
                     tree = tree.2;

@@ -27,12 +27,11 @@ module _ {t : ForestTables} {hid : HiddenTables} (tied : AreTied t hid)
     ≡ false) (trail : List ℕ) (empty : length trail ≡ 0) (room : ℕ) (more : hid.room ≤ room) where
   -- All blossoms are outside: those that are not outermost have no place in the tree.
   all_outside : (b : ℕ) → label_at t.label b ≡ Outside
-  all_outside b = by_label (label_cases (label_at t.label b))
-    where
-      by_label : (label_at t.label b ≡ Outside) ⊎ (label_at t.label b ≢ Outside) → label_at t.label b ≡ Outside
-      by_label (inl off') = off'
-      by_label (inr named) = let w : (k : ℕ) × (k < length t.trail) × (out_of t.hand t.top (get_or t.trail k 0) ≡ b) =
-          tied.trail.named b named in absurd (named (ap (label_at t.label) (sym w.2) ∙ outside w.0 w.1))
+  all_outside b = elim (label_cases (label_at t.label b)) [
+    | inl off' ↦ off'
+    | inr named ↦ (let w : (k : ℕ) × (k < length t.trail) × (out_of t.hand t.top (get_or t.trail k 0) ≡ b) =
+        tied.trail.named b named in absurd (named (ap (label_at t.label) (sym w.2) ∙ outside w.0 w.1)))
+  ]
 
   abbrev pub forgotten : ForestTables
   forgotten = record t { root = None; delta = pos 0; trail = trail }
@@ -40,8 +39,7 @@ module _ {t : ForestTables} {hid : HiddenTables} (tied : AreTied t hid)
   -- No mark is left.
   none_marked : (v : ℕ) → get_or marks v false ≡ false
   none_marked v = elim (cases_Bool (get_or marks v false)) [
-    | inl on ↦ (let w : IsOnTrail t.trail v =
-        tied.trail.marked v (old v on) in subst (λ u. get_or marks u false ≡ false) w.2 (gone w.0 w.1))
+    | inl on ↦ (let w : IsOnTrail t.trail v = tied.trail.marked v (old v on) in (rw w.2 at (gone w.0 w.1)))
     | inr off ↦ off
   ]
 

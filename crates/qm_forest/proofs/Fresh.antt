@@ -28,11 +28,11 @@ same_everywhere n x e k = ap (λ ys. get_or ys k x) e ∙ by_place (cases_lt k n
   where
     by_place : (k < n) ⊎ (n ≤ k) → get_or (replicate n x) k x ≡ x
     by_place (inl l) = get_or-replicate n k x x l
-    by_place (inr h) = get_or_past (replicate n x) k x (subst (λ m. m ≤ k) (sym (length-replicate n x)) h)
+    by_place (inr h) = get_or_past (replicate n x) k x (rw (length-replicate n x) h)
 
 -- The numbers from 0 on, where the bound is told otherwise.
 pub counted_as : {m : ℕ} {n : ℕ} {xs : List ℕ} → m ≡ n → IsCounted m xs → IsCounted n xs
-counted_as {xs} e counted = subst (λ k. IsCounted k xs) e counted
+counted_as {xs} e counted = rw e at counted
 
 or_same : (a : Bool) → (a || a) ≡ a
 or_same true = refl
@@ -55,11 +55,11 @@ module _ (n size : ℕ) (lows : List ℤ) (t : ForestTables) (hid : HiddenTables
   up_self b = by_size (cases_lt b size)
     where
       by_size : (b < size) ⊎ (size ≤ b) → get_or t.up b b ≡ b
-      by_size (inl l) = default_is (subst (λ m. b < m) (sym size_up) l) ∙ fresh.up.each b l
+      by_size (inl l) = default_is (rw size_up l) ∙ fresh.up.each b l
         where
           default_is : b < length t.up → get_or t.up b b ≡ get_or t.up b 0
           default_is lb = read_nat t.up b b 0 lb
-      by_size (inr h) = get_or_past t.up b b (subst (λ m. m ≤ b) (sym size_up) h)
+      by_size (inr h) = get_or_past t.up b b (rw size_up h)
 
   hand_is : (v : ℕ) → v < n → get_or t.hand v 0 ≡ v
   hand_is v l = fresh.hand.each v l
@@ -68,7 +68,7 @@ module _ (n size : ℕ) (lows : List ℤ) (t : ForestTables) (hid : HiddenTables
   out_is v l = ap (λ k. get_or t.top k 0) (hand_is v l) ∙ fresh.top.each v l
 
   in_n : (v : ℕ) → v < length t.hand → v < n
-  in_n v l = subst (λ m. v < m) fresh.hand.size l
+  in_n v l = rw fresh.hand.size at l
 
   label_is : (b : ℕ) → label_at t.label b ≡ Outside
   label_is b = same_everywhere size Outside fresh.label b
@@ -84,16 +84,13 @@ module _ (n size : ℕ) (lows : List ℤ) (t : ForestTables) (hid : HiddenTables
 
   potential_is : (v : ℕ) → v < n → potential (forest_of t) v ≡ get_or lows v (pos 0)
   potential_is v l = total_below_one (λ b. cond ((forest_of t).holds b v) ((forest_of t).weight b) (pos 0))
-      (length t.up) v (subst (λ m. v < m) (sym size_up) (omega (arith, vertices)))
-      (λ k lk ne. cond-false ((forest_of t).holds k v) ((forest_of t).weight k) (pos 0)
-      (holds_is k v ∙ ne_eqb v k (λ e. ne (sym e)))) ∙ (cond-true ((forest_of t).holds v v) ((forest_of t).weight v)
-      (pos 0) (holds_is v v ∙ eq-eqb v v refl) ∙ weight_is v)
+      (length t.up) v (rw size_up (omega (arith, vertices))) (λ k lk ne. cond-false _ _ _
+      (holds_is k v ∙ ne_eqb v k (λ e. ne (sym e)))) ∙ (cond-true _ _ _ (holds_is v v ∙ eq-eqb v v refl) ∙ weight_is v)
 
   added_is : (v : ℕ) → v < n → added t.hand t.top hid.off t.label t.delta v ≡ pos 0
   added_is v l =
-      let o : get_or hid.off (get_or t.hand v 0) (pos 0) ≡ pos 0 =
-      same_everywhere n (pos 0) fresh.offs (get_or t.hand v 0) in
-      omega (arith, ints, o, change_none (out_of t.hand t.top v) t.delta)
+      omega (arith, ints, same_everywhere n (pos 0) fresh.offs (get_or t.hand v 0), change_none
+          (out_of t.hand t.top v) t.delta)
 
   -- Each is the list of itself.
   list_at : {xs : List ℕ} (x : ℕ) → IsCounted size xs → x < n → get_or xs x 0 ≡ x
@@ -108,17 +105,13 @@ module _ (n size : ℕ) (lows : List ℤ) (t : ForestTables) (hid : HiddenTables
 
   listed_self : (x : ℕ) → x < n → IsListed n (λ k. get_or hid.following k 0) (get_or hid.first x 0)
       (get_or hid.last x 0) (get_or t.rank x 0) (climbs (up_at t.up) n x)
-  listed_self x l = subst (λ k. IsListed n (λ k. get_or hid.following k 0) (get_or hid.first x 0) (get_or hid.last x 0)
-      k (climbs (up_at t.up) n x)) (sym (rank_is x l)) (subst (λ k. IsListed n (λ k. get_or hid.following k 0)
-      (get_or hid.first x 0) k 1 (climbs (up_at t.up) n x)) (sym (list_at x fresh.lists.2 l))
-      (subst (λ k. IsListed n (λ k. get_or hid.following k 0) k x 1 (climbs (up_at t.up) n x))
-      (sym (list_at x fresh.lists.1 l)) (record {
+  listed_self x l = (rw ((rank_is x l), (list_at x fresh.lists.2 l), (list_at x fresh.lists.1 l)) (record {
         all = λ v lv. eqb_order x v ∙ sym (climbs_self (up_at t.up) n x (up_self v));
         low = λ k lk. first_low k lk;
         distinct = λ i j lij lj. absurd (omega (arith, lij, lj));
         ends = λ k e. first_is k e;
         some = omega arith;
-      })))
+      }))
     where
       first_low : (k : ℕ) → k < 1 → walk (λ k. get_or hid.following k 0) x k < n
       first_low zero lk = l
@@ -152,15 +145,15 @@ module _ (n size : ℕ) (lows : List ℤ) (t : ForestTables) (hid : HiddenTables
     leader = fresh.lists.0.size ∙ sym size_up;
     first = fresh.lists.1.size ∙ sym size_up;
     last = fresh.lists.2.size ∙ sym size_up;
-    room = subst (λ m. m ≤ hid.room) (sym fresh.hand.size) fresh.room;
+    room = rw fresh.hand.size fresh.room;
   }
 
   fresh_nest : IsLaidOut n size t.hand t.top t.up t.rank t.parts hid.leader hid.first hid.last hid.following
   fresh_nest = record {
-    hands = λ v l. subst (λ k. k < length t.top) (sym (hand_is v l)) (subst (λ m. v < m) (sym fresh.top.size) l);
-    outs = λ h l. (let lh : h < n = subst (λ m. h < m) fresh.top.size l in
-        subst (λ k. k < size) (sym (fresh.top.each h lh)) (omega (arith, vertices)));
-    ups = λ b l. subst (λ k. k < size) (sym (fresh.up.each b l)) l;
+    hands = λ v l. (rw ((hand_is v l), fresh.top.size) l);
+    outs = λ h l. (let lh : h < n = (rw fresh.top.size at l) in
+        (rw (fresh.top.each h lh) (omega (arith, vertices))));
+    ups = λ b l. (rw (fresh.up.each b l) l);
     climb = record {
       ends = λ v l. walk_stays (up_at t.up) n (up_self v) ∙ sym (out_is v l);
       tops = λ v l. up_self (out_of t.hand t.top v);
@@ -168,12 +161,11 @@ module _ (n size : ℕ) (lows : List ℤ) (t : ForestTables) (hid : HiddenTables
     led = λ v l. hand_is v l ∙ (sym (list_at v fresh.lists.0 l) ∙ ap (λ b. get_or hid.leader b 0) (sym (out_is v l)));
     leaders = λ x lx used. (let l : x < n = used_low x used in let e : get_or hid.leader x 0 ≡ x =
         list_at x fresh.lists.0 l in (
-          subst (λ k. k < n) (sym e) l,
+          (rw e l),
           climbs_self (up_at t.up) n x (up_self (get_or hid.leader x 0)) ∙ eq-eqb (get_or hid.leader x 0) x e,
         ));
     members = λ x lx used. listed_self x (used_low x used);
-    ended = λ x y k lx ly ux uy l e. (let one : get_or t.rank y 0 ≡ 1 = rank_is y (used_low y uy) in
-        absurd (omega (arith, one, l)));
+    ended = λ x y k lx ly ux uy l e. (absurd (omega (arith, rank_is y (used_low y uy), l)));
     idle = λ x high none. up_self x;
     rises = λ x inner. absurd (inner (up_self x));
     around = λ x inner. absurd (inner (up_self x));
@@ -240,7 +232,7 @@ module _ (n size : ℕ) (lows : List ℤ) (t : ForestTables) (hid : HiddenTables
 
   module _ (g : WeightedGraph) (is : IsGraph g) (n_is : n ≡ g.n) (costs : AreFeasible g lows) where
     up_to : (v : ℕ) → v < g.n → v < n
-    up_to v l = subst (λ m. v < m) (sym n_is) l
+    up_to v l = rw n_is l
 
     outs : (v : ℕ) → v < g.n → (forest_of t).out v ≡ v
     outs v l = out_is v (up_to v l)
@@ -248,7 +240,7 @@ module _ (n size : ℕ) (lows : List ℤ) (t : ForestTables) (hid : HiddenTables
     outermost : AreOutermost g.n (forest_of t)
     outermost = record {
       vertices = omega (arith, size_up, vertices, n_is);
-      out_low = λ v l. subst (λ k. k < length t.up) (sym (outs v l)) (omega (arith, size_up, vertices, n_is));
+      out_low = λ v l. (rw (outs v l) (omega (arith, size_up, vertices, n_is)));
       held = λ u v lu lv. holds_is ((forest_of t).out u) v ∙ ap (λ k. eqb k ((forest_of t).out u)) (sym (outs v lv));
       tops = λ v l. up_self ((forest_of t).out v);
       together = λ b u v lu lv hu hv. outs u lu
@@ -261,8 +253,7 @@ module _ (n size : ℕ) (lows : List ℤ) (t : ForestTables) (hid : HiddenTables
       alone = λ v w lv lw. holds_is v w ∙ eqb_order w v;
       rings = λ b high live. absurd (live (same_everywhere size 0 fresh.parts b));
       empty = λ b v high low none. holds_is b v ∙ ne_eqb v b (λ e. absurd (omega arith));
-      weightless = λ b high none. weight_is b
-          ∙ get_or_past lows b (pos 0) (subst (λ m. m ≤ b) (sym (fresh.size_lows ∙ n_is)) high);
+      weightless = λ b high none. weight_is b ∙ get_or_past lows b (pos 0) (rw (fresh.size_lows ∙ n_is) high);
       live = λ p inner. absurd (inner (up_self p));
       joints = λ p inner. absurd (inner (up_self p));
     }
@@ -280,9 +271,8 @@ module _ (n size : ℕ) (lows : List ℤ) (t : ForestTables) (hid : HiddenTables
 
     feasible : IsFeasible (darts_of g) (forest_of t)
     feasible = record {
-      sets = λ b high low. subst (λ x. pos 0 ≤ℤ x)
-          (sym (weight_is b ∙ get_or_past lows b (pos 0) (subst (λ m. m ≤ b) (sym (fresh.size_lows ∙ n_is)) high)))
-          (omega (arith, ints));
+      sets = λ b high low. (rw (weight_is b ∙ get_or_past lows b (pos 0) (rw (fresh.size_lows ∙ n_is) high)) (omega
+          (arith, ints)));
       darts = λ d low. by_side d low (cases_eq (d % 2) 0);
     }
       where
@@ -290,10 +280,7 @@ module _ (n size : ℕ) (lows : List ℤ) (t : ForestTables) (hid : HiddenTables
             → u ≢ v → (get_or lows u (pos 0) +ℤ get_or lows v (pos 0)) ≤ℤ (pos 2 *ℤ (edge_at g (d / 2)).cost)
             → weight_between (forest_of t) ((darts_of g).near d) (far (darts_of g) d) ≤ℤ
             ((edge_at g (d / 2)).cost +ℤ (edge_at g (d / 2)).cost)
-        at d u v l eu ev lu lv ne h = subst (λ k. weight_between (forest_of t) k (far (darts_of g) d) ≤ℤ
-            ((edge_at g (d / 2)).cost +ℤ (edge_at g (d / 2)).cost)) (sym eu)
-            (subst (λ k. weight_between (forest_of t) u k ≤ℤ ((edge_at g (d / 2)).cost +ℤ (edge_at g (d / 2)).cost))
-            (sym ev) (feasible_dart u v (edge_at g (d / 2)).cost lu lv ne h))
+        at d u v l eu ev lu lv ne h = rw (eu, ev) (feasible_dart u v (edge_at g (d / 2)).cost lu lv ne h)
 
         by_side : (d : ℕ) → d < 2 * length g.edges → (d % 2 ≡ 0) ⊎ (d % 2 ≢ 0)
             → weight_between (forest_of t) ((darts_of g).near d) (far (darts_of g) d) ≤ℤ

@@ -211,8 +211,7 @@ module _ {h h2 : Handles} {l l2 : Lists} {r r2 : Rings} {trail : Trail} {w : Wei
   row_rank : (x : ℕ) → inside x ≡ true → rank x < total
   row_rank x on =
       let p : (k : ℕ) × (k < many) × (at k ≡ x) = listed_place _ front many x on in
-      subst (λ y. rank y < total) p.2
-      (ring_sum_above _ rank front many ring.two (λ j lj. (row_list free j lj).some) p.0 p.1)
+      (rw p.2 at (ring_sum_above _ rank front many ring.two (λ j lj. (row_list free j lj).some) p.0 p.1))
 
   -- A blossom whose last vertex is on the list of the new set is within one of the row's.
   within : (x k : ℕ) → x < length t.up → IsInUse n t.parts x → k < total → walk next2 (first front) k ≡ last x
@@ -223,7 +222,7 @@ module _ {h h2 : Handles} {l l2 : Lists} {r r2 : Rings} {trail : Trail} {w : Wei
       omega (
         arith,
         rank_passed tied.nest (last x) x mine.0 mine.1,
-        row_rank (out (last x)) (subst (λ v. inside (out v) ≡ true) same (list_member new_list k lk)),
+        row_rank (out (last x)) (rw same at (list_member new_list k lk)),
       )
 
   nest_new : IsLaidOut n (length t.up) h2.hand.items (set t.top handle b) r2.up.items l2.rank.items r2.parts.items
@@ -247,8 +246,12 @@ module _ {h h2 : Handles} {l l2 : Lists} {r r2 : Rings} {trail : Trail} {w : Wei
     };
     led = λ v lv. elim (cases_Bool (inside (out v))) [
       | inl on ↦ rw (out_in v lv on, hand_in v lv on) (sym leader_b)
-      | inr off ↦ rw (out_off v lv off, hand_off v lv off, get_or-set_other hid.leader b (out v) handle 0
-          (no_out free v lv)) (tied.nest.led v lv)
+      | inr off ↦ rw (
+        out_off v lv off,
+        hand_off v lv off,
+        get_or-set_other hid.leader b (out v) handle 0
+            (no_out free v lv),
+      ) (tied.nest.led v lv)
     ];
     leaders = λ x lx used. elim (cases_eq x b) [
       | inl same ↦ rw (same, leader_b) (
@@ -281,24 +284,20 @@ module _ {h h2 : Handles} {l l2 : Lists} {r r2 : Rings} {trail : Trail} {w : Wei
       in_ne x on same = true_false (ap inside (sym same) ∙ on) (b_off free)
 
       ended : (x y k : ℕ) → x < length t.up → y < length t.up → IsInUse n r2.parts.items x → IsInUse n r2.parts.items y
-          → suc k < get_or l2.rank.items y 0
-          → walk next2 (get_or l2.first.items y 0) k ≡ get_or l2.last.items x 0
+          → suc k < get_or l2.rank.items y 0 → walk next2 (get_or l2.first.items y 0) k ≡ get_or l2.last.items x 0
           → (x ≡ b) ⊎ (x ≢ b) → (y ≡ b) ⊎ (y ≢ b) → get_or l2.rank.items x 0 < get_or l2.rank.items y 0
       ended x y k lx ly ux uy lk same (inl xb) (inl yb) =
           let p : (j : ℕ) × (suc j ≡ total) × (walk next2 (first front) j ≡ last (at (many - 1))) =
           list_last total new_list in
-          let few : suc k < total = rw (yb, rank_b) at lk in
-          absurd (new_list.distinct k p.0 (omega (arith, few, p.1)) (omega (arith, p.1))
+          absurd (new_list.distinct k p.0 (omega (arith, rw (yb, rank_b) at lk, p.1)) (omega (arith, p.1))
           ((rw (yb, xb, first_b, last_b) at same) ∙ sym p.2))
       ended x y k lx ly ux uy lk same (inr nx) (inl yb) =
-          let few : suc k < total = rw (yb, rank_b) at lk in
-          rw (yb, rank_b, rank_old x nx) (within x k lx (still_used x nx ux) (omega (arith, few))
+          rw (yb, rank_b, rank_old x nx) (within x k lx (still_used x nx ux) (omega (arith, rw (yb, rank_b) at lk))
           (rw (yb, first_b, last_old x nx) at same))
       ended x y k lx ly ux uy lk same (inl xb) (inr ny) =
           let few : suc k < rank y = rw (rank_old y ny) at lk in
           absurd (row_ended free (many - 1) y k (omega (arith, ring.two)) ly (still_used y ny uy) few
-          (sym (old_walk y k ly (still_used y ny uy) (omega (arith, few)))
-          ∙ (rw (xb, first_old y ny, last_b) at same)))
+          (sym (old_walk y k ly (still_used y ny uy) (omega (arith, few))) ∙ (rw (xb, first_old y ny, last_b) at same)))
       ended x y k lx ly ux uy lk same (inr nx) (inr ny) =
           let few : suc k < rank y = rw (rank_old y ny) at lk in
           rw (rank_old x nx, rank_old y ny) (tied.nest.ended x y k lx ly (still_used x nx ux) (still_used y ny uy) few
@@ -333,11 +332,9 @@ module _ {h h2 : Handles} {l l2 : Lists} {r r2 : Rings} {trail : Trail} {w : Wei
       ≡ told hid.q t.hand t.top hid.off t.label t.delta v
   told_new v lv = elim (cases_Bool (inside (out v))) [
     | inl on ↦
-        (let q : get_or h2.q.items v (pos 0) ≡ (get_or hid.q v (pos 0) +ℤ get_or hid.off (get_or t.hand v 0) (pos 0)) -ℤ
-        get_or hid.off handle (pos 0) = renamed.q v lv ∙ cond-true _ _ _ on in
-        rw (out_in v lv on, hand_in v lv on, b_outside free, row_outside free (out v) on) (omega (arith, ints, q)))
-    | inr off ↦
-        (let q : get_or h2.q.items v (pos 0) ≡ get_or hid.q v (pos 0) = renamed.q v lv ∙ cond-false _ _ _ off in
+        (rw (out_in v lv on, hand_in v lv on, b_outside free, row_outside free (out v) on) (omega
+        (arith, ints, renamed.q v lv ∙ cond-true _ _ _ on)))
+    | inr off ↦ (let q : get_or h2.q.items v (pos 0) ≡ get_or hid.q v (pos 0) = renamed.q v lv ∙ cond-false _ _ _ off in
         rw (out_off v lv off, hand_off v lv off, q))
   ]
 

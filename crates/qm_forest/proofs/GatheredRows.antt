@@ -71,7 +71,7 @@ module _ {t : ForestTables} {hid : HiddenTables} {front many b big : ℕ} (free 
 
   pub row_top : (x : ℕ) → inside x ≡ true → up_at t.up x ≡ x
   row_top x yes' = let w : (v : ℕ) × (v < n) × (out v ≡ x) = in_row_out x yes' in
-      subst (λ y. up_at t.up y ≡ y) w.2 (tied.nest.climb.tops w.0 w.1)
+      (rw w.2 at (tied.nest.climb.tops w.0 w.1))
 
   pub row_outside : (x : ℕ) → inside x ≡ true → label_at t.label x ≡ Outside
   row_outside x yes' = let w : (k : ℕ) × (k < many) × (at k ≡ x) = listed_place _ front many x yes' in
@@ -85,17 +85,16 @@ module _ {t : ForestTables} {hid : HiddenTables} {front many b big : ℕ} (free 
   big_in = ap inside (sym on.2) ∙ listed_at _ front many on.0 on.1
 
   -- The leader of a blossom of the row is a vertex of it whose handle it is.
-  pub leader_at : (k : ℕ) → k < many → (leader k < n) × (out (leader k) ≡ at k) × (get_or t.hand (leader k) 0 ≡ leader k)
+  pub leader_at : (k : ℕ) → k < many → (leader k < n) × (out (leader k) ≡ at k) × (get_or t.hand (leader k) 0
+      ≡ leader k)
   leader_at k l =
       let v : (v : ℕ) × (v < n) × (out v ≡ at k) = ring.tops k l in
-      let lv : leader k < n = subst (λ x. get_or hid.leader x 0 < n) v.2 (leader_low tied.nest v.0 v.1) in
-      let own : out (leader k) ≡ at k =
-          subst (λ x. out (get_or hid.leader x 0) ≡ x) v.2 (leader_out tied.nest v.0 v.1) in
+      let lv : leader k < n = (rw v.2 at (leader_low tied.nest v.0 v.1)) in
+      let own : out (leader k) ≡ at k = (rw v.2 at (leader_out tied.nest v.0 v.1)) in
       (lv, own, tied.nest.led (leader k) lv ∙ ap (λ x. get_or hid.leader x 0) own)
 
   pub handle_at : (handle < n) × (out handle ≡ big) × (get_or t.hand handle 0 ≡ handle)
-  handle_at = subst (λ x. (get_or hid.leader x 0 < n) × (out (get_or hid.leader x 0) ≡ x)
-      × (get_or t.hand (get_or hid.leader x 0) 0 ≡ get_or hid.leader x 0)) on.2 (leader_at on.0 on.1)
+  handle_at = rw on.2 at (leader_at on.0 on.1)
 
   pub handle_top : handle < length t.top
   handle_top = rw tied.sizes.top handle_at.0

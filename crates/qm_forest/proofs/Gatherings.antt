@@ -46,15 +46,13 @@ module _ (h : Handles) (l : Lists) (r : Rings) (trail : Trail) (w : Weights) (e 
       ))
 
   pub q_small : (v : ℕ) → unsigned_abs (get_or h.q.items v (pos 0)) ≤ 2 ^ 97
-  q_small v = by_size (cases_lt v (length h.hand.items))
-    where
-      by_size : (v < length h.hand.items) ⊎ (length h.hand.items ≤ v) → unsigned_abs (get_or h.q.items v (pos 0))
-          ≤ 2 ^ 97
-      by_size (inl lv) = (let is : told h.q.items h.hand.items h.top.items h.off.items e.label.items w.delta v
-          ≡ get_or h.q.items v (pos 0) +ℤ added h.hand.items h.top.items h.off.items e.label.items w.delta v = refl in
-          omega (arith, ints, is, told_small tied v lv, added_small tied v lv))
-      by_size (inr past) = (let z : get_or h.q.items v (pos 0) ≡ pos 0 =
-          get_or_past h.q.items v (pos 0) (subst (λ m. m ≤ v) (sym tied.sizes.q) past) in omega (arith, ints, z))
+  q_small v = elim (cases_lt v (length h.hand.items)) [
+    | inl lv ↦ (let is : told h.q.items h.hand.items h.top.items h.off.items e.label.items w.delta v
+        ≡ get_or h.q.items v (pos 0) +ℤ added h.hand.items h.top.items h.off.items e.label.items w.delta v = refl in
+        omega (arith, ints, is, told_small tied v lv, added_small tied v lv))
+    | inr past ↦ (let z : get_or h.q.items v (pos 0) ≡ pos 0 =
+        get_or_past h.q.items v (pos 0) (rw tied.sizes.q past) in omega (arith, ints, z))
+  ]
 
   module _ {front many : ℕ} (ring : IsFreeRing (tables_of h l r trail w e room) front many) where
     abbrev at : ℕ → ℕ
@@ -88,8 +86,8 @@ module _ (h : Handles) (l : Lists) (r : Rings) (trail : Trail) (w : Weights) (e 
         led = tied.nest.led;
         small_q = q_small;
         small_off = off_small;
-        small_leaders = λ k lk. subst (λ i. unsigned_abs (get_or h.off.items i (pos 0)) ≤ 2 ^ 97) (leader_at free k lk).2
-            (off_small (get_or l.leader.items (at k) 0) (leader_at free k lk).0);
+        small_leaders = λ k lk. (rw (leader_at free k lk).2 at (off_small (get_or l.leader.items (at k) 0)
+            (leader_at free k lk).0));
       }
 
       pub joinable : AreJoinable l r.after.items front many
@@ -98,9 +96,14 @@ module _ (h : Handles) (l : Lists) (r : Rings) (trail : Trail) (w : Weights) (e 
         last = tied.sizes.last ∙ sym tied.sizes.after;
         rank = tied.sizes.rank ∙ sym tied.sizes.after;
         ends = λ k lk. rw tied.sizes.following (last_in free k lk).0;
-        few = omega (arith, row_few (length h.hand.items) _ (λ i. get_or r.after.items i 0)
-            (λ x. get_or l.first.items x 0) (λ x. get_or l.last.items x 0) (λ x. get_or l.rank.items x 0) front many
-            (out_of h.hand.items h.top.items) ring.row.distinct (own_list free), tied.sizes.few, tied.sizes.vertices);
+        few = omega (
+          arith,
+          row_few (length h.hand.items) _ (λ i. get_or r.after.items i 0)
+              (λ x. get_or l.first.items x 0) (λ x. get_or l.last.items x 0) (λ x. get_or l.rank.items x 0) front many
+              (out_of h.hand.items h.top.items) ring.row.distinct (own_list free),
+          tied.sizes.few,
+          tied.sizes.vertices,
+        );
       }
 
     -- The number that is taken.
@@ -119,7 +122,7 @@ module _ (h : Handles) (l : Lists) (r : Rings) (trail : Trail) (w : Weights) (e 
         row = record { tied = tied; ring = ring; high = set_high; low = set_low; dead = set_dead; on = on }
 
         pub big_low : big < length l.leader.items
-        big_low = rw tied.sizes.leader (subst (λ x. x < length r.up.items) on.2 (ring.row.low on.0 on.1))
+        big_low = rw tied.sizes.leader (rw on.2 at (ring.row.low on.0 on.1))
 
         pub big_handle : get_or l.leader.items big 0 < length h.top.items
         big_handle = handle_top row

@@ -23,7 +23,7 @@ in_some {X = X} x y e f = inside (sym e ∙ f)
 module _ (t : ForestTables) {u : ForestTables} (room : Option GraphSize) (same : u ≡ record t { room = room }) where
   -- It stays sound.
   pub sound_still : {g : WeightedGraph} → IsValidFor g t → IsSoundFor g u
-  sound_still {g} valid = subst (λ (w : ForestTables). IsSoundFor g w) (sym same)
+  sound_still {g} valid = rw same
       (record { vertices = valid.vertices; darts = valid.darts; ends = valid.ends; valid = valid.valid })
 
   module _ (known : IsLaminar u) {sets : List (ℕ × ℕ)} {d : DualLists} (outline : IsOutline u sets d) where
@@ -31,11 +31,10 @@ module _ (t : ForestTables) {u : ForestTables} (room : Option GraphSize) (same :
     yes_handed g small valid = says_yes u known sets d outline small (sound_still valid)
 
     pub dual_handed : {g : WeightedGraph} → IsSmallGraph g → IsValidFor g t → IsDualOf (length t.hand) (forest_of t) d
-    dual_handed small valid = subst (λ (w : ForestTables). IsDualOf (length w.hand) (forest_of w) d) same
-        (dual_is u known sets d outline small (sound_still valid))
+    dual_handed small valid = rw same at (dual_is u known sets d outline small (sound_still valid))
 
     pub few_handed : 2 * length d.z ≤ length t.hand
-    few_handed = subst (λ (w : ForestTables). 2 * length d.z ≤ length w.hand) same (few_is u known sets d outline)
+    few_handed = rw same at (few_is u known sets d outline)
 
     pub perfect_handed : {round : Round} → IsChosen u round → {list : List ℕ}
         → AreMarked round.marks.items (length round.marks.items) list → (g : WeightedGraph) → IsSmallGraph g
@@ -49,5 +48,4 @@ module _ (t : ForestTables) {u : ForestTables} (room : Option GraphSize) (same :
     )
       where
         still : (v : ℕ) → v < g.n → (forest_of u).mate ((forest_of u).out v) ≢ None
-        still = subst (λ (w : ForestTables). (v : ℕ) → v < g.n → (forest_of w).mate ((forest_of w).out v) ≢ None)
-            (sym same) matched
+        still = rw same matched

@@ -33,65 +33,63 @@ module _ (h0 h1 : Handles) (lists : Lists) (after : List ℕ) (front many set' k
   was = has.each k l
 
   pub part_list : HasListAt h1 lists x
-  part_list = subst (λ y. HasListAt h1 lists y) (sym x_is) (record {
+  part_list = rw x_is (record {
     first = was.first;
     rank = was.rank;
     q = done.qs ∙ (was.q ∙ sym done.hands);
     following = was.following ∙ sym done.hands;
     few = omega (arith, was.few, done.hands);
     many = omega (arith, was.many, done.hands);
-    low = λ j lj. subst (λ n. walk (λ i. get_or lists.following.items i 0) (get_or lists.first.items (at k) 0) j < n)
-        (sym done.hands) (was.low j lj);
+    low = λ j lj. (rw done.hands (was.low j lj));
     distinct = was.distinct;
   })
 
   -- A vertex of this part is in none before.
   first_off : (v : ℕ) → lists_at lists (at k) v ≡ true → (i : ℕ) → i < k → lists_at lists (at i) v ≡ false
-  first_off v on i li = by_test (cases_Bool (lists_at lists (at i) v))
-    where
-      by_test : (lists_at lists (at i) v ≡ true) ⊎ (lists_at lists (at i) v ≡ false) → lists_at lists (at i) v ≡ false
-      by_test (inl e) = (let s : i ≡ k = has.apart i k v (omega (arith, li, l)) l e on in absurd (omega (arith, s, li)))
-      by_test (inr e) = e
+  first_off v on i li = elim (cases_Bool (lists_at lists (at i) v)) [
+    | inl e ↦ (let s : i ≡ k = has.apart i k v (omega (arith, li, l)) l e on in absurd (omega (arith, s, li)))
+    | inr e ↦ e
+  ]
 
   pub part_leader : HasOwnLeader h1 lists x set'
-  part_leader = subst (λ y. HasOwnLeader h1 lists y set') (sym x_is) (record {
-    low_x = subst (λ n. at k < n) (sym has.leader) (row.low k l);
-    low_set = subst (λ n. set' < n) (sym has.leader) has.set_low;
-    top = subst (λ n. get_or lists.leader.items (at k) 0 < n) (sym done.tops) (has.tops k l);
-    off = subst (λ n. get_or lists.leader.items (at k) 0 < n) (sym (done.offs ∙ has.offs)) (has.tops k l);
-    set_off = subst (λ n. get_or lists.leader.items set' 0 < n) (sym (done.offs ∙ has.offs)) has.set_top;
+  part_leader = rw x_is (record {
+    low_x = rw has.leader (row.low k l);
+    low_set = rw has.leader has.set_low;
+    top = rw done.tops (has.tops k l);
+    off = rw (done.offs ∙ has.offs) (has.tops k l);
+    set_off = rw (done.offs ∙ has.offs) has.set_top;
     same = λ e v on. done.other v (first_off v on) ∙ (has.led k v l on ∙ sym e);
   })
 
   pub part_small : (v : ℕ) → unsigned_abs (get_or h1.q.items v (pos 0)) ≤ 2 ^ 100
-  part_small v = subst (λ (z : ℤ). unsigned_abs z ≤ 2 ^ 100) (sym (done.q v)) (has.small v)
+  part_small v = rw (done.q v) (has.small v)
 
   -- One part more.
   pub row_more : {h2 : Handles} {j : ℕ} → j ≡ suc k → HasHandedOver h1 h2 lists x set'
       → HasHandedRow h0 h2 lists after front j set'
-  row_more {h2} {j} j_is one' = subst (λ m. HasHandedRow h0 h2 lists after front m set') (sym j_is) (record {
+  row_more {h2} {j} j_is one' = (rw j_is (record {
     own = λ i v li on. own i v li on (cases_eq i k);
-    other = λ v off. one.hand v ∙ (cond-false (lists_at lists (at k) v) (get_or lists.leader.items (at k) 0)
-        (get_or h1.hand.items v 0) (off k (omega arith)) ∙ done.other v (λ i li. off i (omega (arith, li))));
+    other = λ v off. one.hand v ∙ (cond-false _ _ _ (off k (omega arith)) ∙ done.other v (λ i li. off i (omega
+        (arith, li))));
     q = λ v. one.q v ∙ done.q v;
     hands = one.hands ∙ done.hands;
     qs = one.qs ∙ done.qs;
     top = ap (λ xs i. get_or xs i 0) one.top ∙ (entry_set h1.top.items (get_or lists.leader.items (at k) 0) (at k) 0
-        (subst (λ n. get_or lists.leader.items (at k) 0 < n) (sym done.tops) (has.tops k l))
+        (rw done.tops (has.tops k l))
         ∙ ap (λ (f : ℕ → ℕ). set_at f (get_or lists.leader.items (at k) 0) (at k)) done.top);
     tops = ap length one.top ∙ (length-set h1.top.items (get_or lists.leader.items (at k) 0) (at k) ∙ done.tops);
     off = off_set ∙ (entry_set h1.off.items (get_or lists.leader.items (at k) 0)
         (get_or h1.off.items (get_or lists.leader.items set' 0) (pos 0)) (pos 0)
-        (subst (λ n. get_or lists.leader.items (at k) 0 < n) (sym (done.offs ∙ has.offs)) (has.tops k l))
+        (rw (done.offs ∙ has.offs) (has.tops k l))
         ∙ (ap (λ (z : ℤ). set_at (λ i. get_or h1.off.items i (pos 0)) (get_or lists.leader.items (at k) 0) z) set_off
         ∙ ap (λ (f : ℕ → ℤ). set_at f (get_or lists.leader.items (at k) 0)
         (get_or h0.off.items (get_or lists.leader.items set' 0) (pos 0))) done.off));
     offs = ap length one.off ∙ (length-set h1.off.items (get_or lists.leader.items (at k) 0)
         (get_or h1.off.items (get_or lists.leader.items set' 0) (pos 0)) ∙ done.offs);
-  })
+  }))
     where
       one : HasHandedOver h1 h2 lists (at k) set'
-      one = subst (λ y. HasHandedOver h1 h2 lists y set') x_is one'
+      one = rw x_is at one'
 
       read : List ℤ → ℕ → ℤ
       read xs i = get_or xs i (pos 0)
@@ -108,11 +106,9 @@ module _ (h0 h1 : Handles) (lists : Lists) (after : List ℕ) (front many set' k
 
       own : (i v : ℕ) → i < suc k → lists_at lists (at i) v ≡ true → (i ≡ k) ⊎ (i ≢ k) → get_or h2.hand.items v 0
           ≡ get_or lists.leader.items (at i) 0
-      own i v li on (inl e) = one.hand v ∙ (cond-true (lists_at lists (at k) v) (get_or lists.leader.items (at k) 0)
-          (get_or h1.hand.items v 0) (subst (λ j. lists_at lists (at j) v ≡ true) e on)
+      own i v li on (inl e) = one.hand v ∙ (cond-true _ _ _ (rw e at on)
           ∙ ap (λ j. get_or lists.leader.items (at j) 0) (sym e))
-      own i v li on (inr ne) = one.hand v ∙ (cond-false (lists_at lists (at k) v) (get_or lists.leader.items (at k) 0)
-          (get_or h1.hand.items v 0) (off (cases_Bool (lists_at lists (at k) v)))
+      own i v li on (inr ne) = one.hand v ∙ (cond-false _ _ _ (off (cases_Bool (lists_at lists (at k) v)))
           ∙ done.own i v (omega (arith, li, ne)) on)
         where
           off : (lists_at lists (at k) v ≡ true) ⊎ (lists_at lists (at k) v ≡ false) → lists_at lists (at k) v ≡ false

@@ -38,9 +38,8 @@ hung_more f0 {f1} {f2} front k {x} v {dart} {l} s e1 e2 e3 v_is l_is dart_is x_i
 
 -- A place of the ring is the number of a blossom, and its dart is small.
 pub place_low : {t u : ForestTables} (x y : ℕ) → HasSameNest t u → x ≡ y → y < length t.up → x < length u.up
-place_low {u} x y same e l = subst (λ z. z < length u.up) (sym e) (subst (λ xs. y < length xs) (sym same.up) l)
+place_low {u} x y same e l = rw (e, same.up) l
 
 pub dart_low : (f u : Forest) {x y : ℕ} (most : ℕ) → u.nest.joint ≡ f.nest.joint → x ≡ y → f.nest.joint y < most
     → u.nest.joint x < most
-dart_low f u {y} most same e l =
-    subst (λ z. u.nest.joint z < most) (sym e) (subst (λ (h : ℕ → ℕ). h y < most) (sym same) l)
+dart_low f u {y} most same e l = (rw (e, same) l)

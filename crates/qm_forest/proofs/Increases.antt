@@ -22,12 +22,12 @@ module _ (g : WeightedGraph) (is : IsSmallGraph g) (s : ForestTables) (valid : I
     the_tree = tree_of are valid.valid b named
 
     pub rooted_here : IsValid (darts_of g) (forest_of s) (Some the_tree.0)
-    rooted_here = subst (λ (o : Option ℕ). IsValid (darts_of g) (forest_of s) o) the_tree.1 valid.valid
+    rooted_here = rw the_tree.1 at valid.valid
 
     -- A blossom of the tree is outermost, so its number is low.
     pub named_low : b < length s.up
     named_low = let w : IsOutermost g.n (forest_of s) b = valid.valid.outermost.named b named in
-        subst (λ x. x < length s.up) w.2 (valid.valid.outermost.out_low w.0 w.1)
+        (rw w.2 at (valid.valid.outermost.out_low w.0 w.1))
 
     -- The dart up is one of the graph, and ends at a vertex.
     pub rise_low : (d : ℕ) → rise_of (forest_of s) b ≡ Some d → d < 2 * length g.edges
@@ -78,14 +78,12 @@ module _ (g : WeightedGraph) (is : IsSmallGraph g) (s : ForestTables) (valid : I
     next_low = named_low (way_of (darts_of g) (forest_of s) a (suc i)) (way_named a named (suc i) l)
 
     pub place_dart : dart_or (rise_of (forest_of s) place) < 2 * length g.edges
-    place_dart = subst (λ x. x < 2 * length g.edges) (sym (ap dart_or place_rise.1))
-        (rise_low place place_named place_rise.0 place_rise.1)
+    place_dart = rw (ap dart_or place_rise.1) (rise_low place place_named place_rise.0 place_rise.1)
 
   -- A climber is in the tree, and so many levels nearer to the root.
   pub climbed_named : {b : ℕ} → (forest_of s).label b ≢ Outside → {at count : ℕ}
       → HasClimbed (darts_of g) (forest_of s) b at count → (forest_of s).label at ≢ Outside
-  climbed_named {b} named {count} is =
-      subst (λ z. (forest_of s).label z ≢ Outside) (sym is.way) (way_named b named count is.low)
+  climbed_named {b} named {count} is = (rw is.way (way_named b named count is.low))
 
   pub climbed_level : (b : ℕ) → (forest_of s).label b ≢ Outside → (at count : ℕ)
       → HasClimbed (darts_of g) (forest_of s) b at count → level_of (darts_of g) (forest_of s) at + count
@@ -100,7 +98,7 @@ module _ (g : WeightedGraph) (is : IsSmallGraph g) (s : ForestTables) (valid : I
   far_level b named d rise {x} x_is =
       let up : x ≡ above_of (darts_of g) (forest_of s) b =
       x_is ∙ sym (ap (λ o. (forest_of s).out (far (darts_of g) (dart_or o))) rise) in (
-        subst (λ y. (forest_of s).label y ≢ Outside) (sym up) (rise_named b named d rise),
+        (rw up (rise_named b named d rise)),
         rise_level b named d rise ∙ ap (λ y. suc (level_of (darts_of g) (forest_of s) y)) (sym up),
       )
 
@@ -122,7 +120,7 @@ module _ (g : WeightedGraph) (is : IsSmallGraph g) (s : ForestTables) (valid : I
     -- A climber is in the tree.
     pub climb_named : {x y i j : ℕ} → IsClimbing (darts_of g) (forest_of s) a c x y i j
         → (forest_of s).label x ≢ Outside
-    climb_named {i} is = subst (λ z. (forest_of s).label z ≢ Outside) (sym is.x_is) (way_named a named_a i is.x_low)
+    climb_named {i} is = rw is.x_is (way_named a named_a i is.x_low)
 
     module _ (named_c : (forest_of s).label c ≢ Outside) where
       pub climb_low : {x y i j : ℕ} → IsClimbing (darts_of g) (forest_of s) a c x y i j → x ≢ y
@@ -133,26 +131,22 @@ module _ (g : WeightedGraph) (is : IsSmallGraph g) (s : ForestTables) (valid : I
       pub climb_rises : {x y i j : ℕ} → IsClimbing (darts_of g) (forest_of s) a c x y i j → x ≢ y
           → level_of (darts_of g) (forest_of s) c - j ≤ level_of (darts_of g) (forest_of s) a - i
           → rise_of (forest_of s) x ≢ None
-      climb_rises {i} is ne high = subst (λ z. rise_of (forest_of s) z ≢ None) (sym is.x_is)
-          (place_rises a named_a i (climb_low is ne high))
+      climb_rises {i} is ne high = rw is.x_is (place_rises a named_a i (climb_low is ne high))
 
       pub climb_turn : {x y : ℕ} {x2 : ℕ} {i j : ℕ} → IsClimbing (darts_of g) (forest_of s) a c x y i j → x ≢ y
           → level_of (darts_of g) (forest_of s) c - j ≤ level_of (darts_of g) (forest_of s) a - i
           → x2 ≡ above_of (darts_of g) (forest_of s) x → IsClimbing (darts_of g) (forest_of s) a c x2 y (i + 1) j
       climb_turn {y} {x2} {i} {j} is ne high x2_is =
           let one : suc i ≡ i + 1 = omega arith in
-          subst (λ k. IsClimbing (darts_of g) (forest_of s) a c x2 y k j) one
-          (climb_on are (rooted_here a named_a) (the_tree a named_a).2 a c named_a named_c is ne high x2_is)
+          (rw one at (climb_on are (rooted_here a named_a) (the_tree a named_a).2 a c named_a named_c is ne high x2_is))
 
   -- Each climber's level tells how far the other has come, where there is a blossom that both come to.
   module _ {a c high low : ℕ} (named_a : (forest_of s).label a ≢ Outside) (named_c : (forest_of s).label c ≢ Outside)
       (both : AreOnBoth (darts_of g) (forest_of s) a c high low) where
     both_level : level_of (darts_of g) (forest_of s) a + low ≡ level_of (darts_of g) (forest_of s) c + high
     both_level =
-        let same : level_of (darts_of g) (forest_of s) (way_of (darts_of g) (forest_of s) a high)
-        ≡ level_of (darts_of g) (forest_of s) (way_of (darts_of g) (forest_of s) c low) =
-        ap (level_of (darts_of g) (forest_of s)) both.met in
-        omega (arith, same, way_level a named_a high both.left_low, way_level c named_c low both.right_low)
+        omega (arith, ap (level_of (darts_of g)
+            (forest_of s)) both.met, way_level a named_a high both.left_low, way_level c named_c low both.right_low)
 
     -- No climber goes past it.
     pub both_last : {x y i j : ℕ} → IsClimbing (darts_of g) (forest_of s) a c x y i j → (i ≤ high) × (j ≤ low)
@@ -235,5 +229,4 @@ both_swapped both = record {
 -- Where two ways meet, their beginnings told otherwise.
 pub met_at : {d : Darts} {f : Forest} {a c : ℕ} {b e : ℕ} {top left right : ℕ} → a ≡ b → c ≡ e
     → IsClimbing d f a c top top left right → IsClimbing d f b e top top left right
-met_at {d} {f} {a} {e} {top} {left} {right} a_is c_is is =
-    subst (λ x. IsClimbing d f x e top top left right) a_is (subst (λ x. IsClimbing d f a x top top left right) c_is is)
+met_at {d} {f} {a} {e} {top} {left} {right} a_is c_is is = (rw a_is at (rw c_is at is))

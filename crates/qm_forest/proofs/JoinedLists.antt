@@ -29,7 +29,7 @@ pub list_agrees : {n : ℕ} {next : ℕ → ℕ} (other : ℕ → ℕ) {from to 
     → IsListed n other from to many set
 list_agrees {n} {next} other {from} {many} is same = record {
   all = λ v l. listed_agrees next other from many walks v many (omega arith) ∙ is.all v l;
-  low = λ k l. subst (λ x. x < n) (sym (walks k l)) (is.low k l);
+  low = λ k l. (rw (walks k l) (is.low k l));
   distinct = λ i j lij lj e. is.distinct i j lij lj (sym (walks i (omega (arith, lij, lj))) ∙ (e ∙ walks j lj));
   ends = λ k e. walks k (omega (arith, e)) ∙ is.ends k e;
   some = is.some;
@@ -63,8 +63,8 @@ pub list_has_last : {n : ℕ} {next : ℕ → ℕ} {from to many : ℕ} {set : �
     → (to < n) × (set to ≡ true)
 list_has_last {n} {next} {from} {to} {many} {set} is =
     let w : (k : ℕ) × (suc k ≡ many) × (walk next from k ≡ to) = list_last many is in (
-      subst (λ x. x < n) w.2 (is.low w.0 (omega (arith, w.1))),
-      subst (λ x. set x ≡ true) w.2 (list_member is w.0 (omega (arith, w.1))),
+      (rw w.2 at (is.low w.0 (omega (arith, w.1)))),
+      (rw w.2 at (list_member is w.0 (omega (arith, w.1)))),
     )
 
 -- A list as many members as it counts.
@@ -118,12 +118,11 @@ list_joined {n} {next} {a} {b} {m} {c} {d} {k} {s} {t} one two seam apart = reco
 
     by_place : (P : ℕ → Type 0) (i : ℕ) → i < m + k → ((j : ℕ) → j < m → P (walk next a j))
         → ((j : ℕ) → j < k → P (walk next c j)) → P (walk next a i)
-    by_place P i l first rest = by_side (cases_lt i m)
-      where
-        by_side : (i < m) ⊎ (m ≤ i) → P (walk next a i)
-        by_side (inl li) = first i li
-        by_side (inr h) = (let e : m + (i - m) ≡ i = omega (arith, h) in
-            subst (λ j. P (walk next a j)) e (subst P (sym (second (i - m))) (rest (i - m) (omega (arith, h, l)))))
+    by_place P i l first rest = elim (cases_lt i m) [
+      | inl li ↦ first i li
+      | inr h ↦ (let e : m + (i - m) ≡ i = omega (arith, h) in
+          (rw e at (subst P (sym (second (i - m))) (rest (i - m) (omega (arith, h, l))))))
+    ]
 
     differ : (i j : ℕ) → i < j → j < m + k → walk next a i ≡ walk next a j → (i < m) ⊎ (m ≤ i) → (j < m) ⊎ (m ≤ j) → ⊥
     differ i j lij lj e (inl li) (inl lj') = one.distinct i j lij lj' e
@@ -153,9 +152,8 @@ module _ (n : ℕ) (next after first last rank : ℕ → ℕ) (front many : ℕ)
   pub row_joined : (k : ℕ) → k < many → IsListed n next (first front) (last (walk after front k))
       (ring_sum after rank front (suc k)) (λ v. listed after front (suc k) (out v))
   row_joined zero l = (let one : rank front ≡ 0 + rank front = omega arith in
-      subst (λ m. IsListed n next (first front) (last front) m (λ v. listed after front 1 (out v))) one
-      (list_renamed (λ v. false
-      || eqb front (out v)) (each 0 l) (λ v lv. turned (out v) front)))
+      (rw one at (list_renamed (λ v. false
+      || eqb front (out v)) (each 0 l) (λ v lv. turned (out v) front))))
     where
       turned : (a b : ℕ) → eqb a b ≡ (false || eqb b a)
       turned a b = elim (cases_eq a b) [
@@ -206,6 +204,4 @@ module _ (n : ℕ) (next after first last rank : ℕ → ℕ) (front many : ℕ)
       by_test false = omega arith
 
       one : (v : ℕ) → ring_sum after (λ p. bool_number (eqb (out v) p)) front many ≤ 1
-      one v = (let s : bool_number (listed after front many (out v)) ≡ ring_sum after (λ p. bool_number (eqb (out v) p))
-          front many = listed_sum after front many (out v) distinct in
-          omega (arith, s, by_test (listed after front many (out v))))
+      one v = omega (arith, listed_sum after front many (out v) distinct, by_test (listed after front many (out v)))

@@ -9,17 +9,14 @@ use Rattle.qm_forest.proofs.TiedWrites.{entry_set}
 
 -- A sum over fewer places is no greater.
 pub ring_sum_low : (next f : ℕ → ℕ) (from k m : ℕ) → ring_sum next f from k ≤ ring_sum next f from (k + m)
-ring_sum_low next f from k zero = (let e : k + 0 ≡ k = omega arith in let s : ring_sum next f from (k + 0)
-    ≡ ring_sum next f from k = ap (ring_sum next f from) e in omega (arith, s))
+ring_sum_low next f from k zero = (let e : k + 0 ≡ k = omega arith in omega (arith, ap (ring_sum next f from) e))
 ring_sum_low next f from k (suc m) =
     let e : k + suc m ≡ suc (k + m) = omega arith in
-    let s : ring_sum next f from (k + suc m) ≡ ring_sum next f from (k + m) + f (walk next from (k + m)) =
-    ap (ring_sum next f from) e in
-    omega (arith, s, ring_sum_low next f from k m)
+    omega (arith, ap (ring_sum next f from) e, ring_sum_low next f from k m)
 
 pub ring_sum_below : (next f : ℕ → ℕ) (from k n : ℕ) → k ≤ n → ring_sum next f from k ≤ ring_sum next f from n
 ring_sum_below next f from k n l = (let e : k + (n - k) ≡ n = omega (arith, l) in
-    subst (λ m. ring_sum next f from k ≤ ring_sum next f from m) e (ring_sum_low next f from k (n - k)))
+    (rw e at (ring_sum_low next f from k (n - k))))
 
 -- Each of two or more numbers along a row, none of them 0, is less than their sum.
 pub ring_sum_above : (next f : ℕ → ℕ) (from many : ℕ) → 2 ≤ many → ((j : ℕ) → j < many → 1 ≤ f (walk next from j))
@@ -32,8 +29,8 @@ ring_sum_above next f from many two some k l = by_first (cases_eq k 0)
 
     by_first : (k ≡ 0) ⊎ (k ≢ 0) → f (walk next from k) < ring_sum next f from many
     by_first (inl z) =
-        let first : f (walk next from k) ≡ f from = ap (λ j. f (walk next from j)) z in
-        omega (arith, first, some 1 (omega (arith, two)), ring_sum_below next f from (suc 1) many two)
+        omega (arith, ap (λ j. f (walk next from j)) z, some 1 (omega (arith, two)), ring_sum_below next f from
+            (suc 1) many two)
     by_first (inr nz) = omega (
       arith,
       ring_sum_below next f from (suc k) many (omega (arith, l)),

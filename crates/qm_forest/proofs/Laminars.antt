@@ -20,10 +20,9 @@ laminar {t} {hid} tied = record {
   rises = tied.nest.rises;
   low = λ x l used. list_few (tied.nest.members x l used);
   passed = λ b v l on. (
-      let low : get_or t.rank b 0 ≤ get_or t.rank (out_of t.hand t.top v) 0 = rank_passed tied.nest v b l on in
       omega (
         arith,
-        low,
+        rank_passed tied.nest v b l on,
         rank_few tied.nest v l,
       ));
   own = λ b x l on. own b x l (climbs_place (up_at t.up) (length t.hand) x b on) (cases_eq b x);
@@ -37,8 +36,7 @@ laminar {t} {hid} tied = record {
         let y : (y : ℕ) × (up_at t.up y ≡ x) × (y ≢ x) = comes_by (up_at t.up) b w.0 w.1 ne in
         let around : (length t.hand ≤ up_at t.up y.0) × (get_or t.parts (up_at t.up y.0) 0 ≢ 0) =
         tied.nest.around y.0 (λ s. y.2 (sym s ∙ y.1)) in
-        let high : length t.hand ≤ x = subst (λ z. length t.hand ≤ z) y.1 around.0 in
-        absurd (omega (arith, l, high))
+        absurd (omega (arith, l, (rw y.1 at around.0)))
 
     two : (x : ℕ) → 2 ≤ get_or t.rank x 0 → IsListed (length t.hand) (λ k. get_or hid.following k 0)
         (get_or hid.first x 0) (get_or hid.last x 0) (get_or t.rank x 0) (climbs (up_at t.up) (length t.hand) x)
@@ -64,13 +62,12 @@ module _ (t : ForestTables) (known : IsLaminar t) where
 
   -- A vertex holds itself alone.
   pub alone : (v w : ℕ) → v < length t.hand → w < length t.hand → (forest_of t).holds v w ≡ eqb v w
-  alone v w lv lw = by_eq (cases_eq v w)
-    where
-      by_eq : (v ≡ w) ⊎ (v ≢ w) → (forest_of t).holds v w ≡ eqb v w
-      by_eq (inl e) = ap (λ x. climbs (up_at t.up) (length t.hand) v x) (sym e)
-          ∙ (climbs_here (up_at t.up) (length t.hand) v ∙ sym (eq-eqb v w e))
-      by_eq (inr ne) = off_where (climbs (up_at t.up) (length t.hand) v w) (λ on. ne (sym (known.own w v lv on)))
-          ∙ sym (ne_eqb v w ne)
+  alone v w lv lw = elim (cases_eq v w) [
+    | inl e ↦ ap (λ x. climbs (up_at t.up) (length t.hand) v x) (sym e)
+        ∙ (climbs_here (up_at t.up) (length t.hand) v ∙ sym (eq-eqb v w e))
+    | inr ne ↦ off_where (climbs (up_at t.up) (length t.hand) v w) (λ on. ne (sym (known.own w v lv on)))
+        ∙ sym (ne_eqb v w ne)
+  ]
 
   module _ (g : WeightedGraph) (is : IsSmallGraph g) (valid : IsSoundFor g t) where
     abbrev are : AreDarts (darts_of g)
@@ -86,15 +83,13 @@ module _ (t : ForestTables) (known : IsLaminar t) where
     )))
       where
         ring : IsRing (darts_of g) (forest_of t) x
-        ring = valid.valid.nested.rings x (subst (λ m. m ≤ x) valid.vertices high) live
+        ring = valid.valid.nested.rings x (rw valid.vertices at high) live
 
         part_used : IsInUse (length t.hand) t.parts (get_or t.head x 0)
         part_used = by_size (cases_lt (get_or t.head x 0) (length t.hand))
           where
             inner : (forest_of t).nest.up (get_or t.head x 0) ≢ get_or t.head x 0
-            inner e = (let r : get_or t.rank (get_or t.head x 0) 0 < get_or t.rank x 0 = ring.lower 0 in
-                let s : get_or t.rank x 0 ≡ get_or t.rank (get_or t.head x 0) 0 =
-                ap (λ y. get_or t.rank y 0) (sym (ring.inside 0) ∙ e) in absurd (omega (arith, r, s)))
+            inner e = absurd (omega (arith, ring.lower 0, ap (λ y. get_or t.rank y 0) (sym (ring.inside 0) ∙ e)))
 
             joint : IsJoint (darts_of g) (forest_of t) (get_or t.head x 0)
             joint = valid.valid.nested.joints (get_or t.head x 0) inner
@@ -102,11 +97,9 @@ module _ (t : ForestTables) (known : IsLaminar t) where
             by_size : (get_or t.head x 0 < length t.hand) ⊎ (length t.hand ≤ get_or t.head x 0)
                 → IsInUse (length t.hand) t.parts (get_or t.head x 0)
             by_size (inl l) = inl l
-            by_size (inr h) = inr (λ none. true_false
-                joint.begins
+            by_size (inr h) = inr (λ none. true_false joint.begins
                 (valid.valid.nested.empty (get_or t.head x 0) ((darts_of g).near (get_or t.joint (get_or t.head x 0) 0))
-                (subst (λ m. m ≤ get_or t.head x 0) valid.vertices h)
-                (are.near_low (get_or t.joint (get_or t.head x 0) 0) joint.tight.low) none))
+                (rw valid.vertices at h) (are.near_low (get_or t.joint (get_or t.head x 0) 0) joint.tight.low) none))
 
         by_two : (u : ℕ) × (v : ℕ) × (u < length t.hand) × (v < length t.hand) × (u ≢ v) × (within t u x ≡ true)
             × (within t v x ≡ true) → (v : ℕ) × (v < length t.hand) × (v ≢ w) × ((forest_of t).holds x v ≡ true)
@@ -143,19 +136,16 @@ module _ (t : ForestTables) (known : IsLaminar t) where
 
       part_other : {z : ℕ} → up_at t.up z ≡ q → (k : ℕ) → walk (λ i. get_or t.after i 0) (get_or t.head q 0) k ≡ z
           → z ≢ q
-      part_other e k at s = (let r : get_or t.rank (walk (λ i. get_or t.after i 0) (get_or t.head q 0) k) 0
-          < get_or t.rank q 0 = ring_around.lower k in
-          let same : get_or t.rank (walk (λ i. get_or t.after i 0) (get_or t.head q 0) k) 0 ≡ get_or t.rank q 0 =
-          ap (λ w. get_or t.rank w 0) (at ∙ s) in absurd (omega (arith, r, same)))
+      part_other e k at s = absurd (omega (arith, ring_around.lower k, ap (λ w. get_or t.rank w 0) (at ∙ s)))
 
       pub next_other : y ≢ q
       next_other = part_other next_around (suc x_place.0) (ap (λ z. get_or t.after z 0) x_place.2)
 
       pub x_low : x < length t.up
-      x_low = subst (λ z. z < length t.up) x_place.2 (ring_around.below x_place.0)
+      x_low = rw x_place.2 at (ring_around.below x_place.0)
 
       pub y_low : y < length t.up
-      y_low = subst (λ z. z < length t.up) (ap (λ z. get_or t.after z 0) x_place.2) (ring_around.below (suc x_place.0))
+      y_low = rw (ap (λ z. get_or t.after z 0) x_place.2) at (ring_around.below (suc x_place.0))
 
       differ : x ≢ y
       differ e = by_end (cases_eq (suc x_place.0) (get_or t.parts q 0))
@@ -181,34 +171,31 @@ module _ (t : ForestTables) (known : IsLaminar t) where
       far_is = valid.ends (other_dart d) (are.twin_low d d_low)
 
       near_ok : near_at t d < length t.hand
-      near_ok = subst (λ m. near_at t d < m) (sym valid.vertices)
-          (subst (λ v. v < g.n) (sym near_is) (are.near_low d d_low))
+      near_ok = rw (valid.vertices, near_is) (are.near_low d d_low)
 
       far_ok : far_at t d < length t.hand
-      far_ok = subst (λ m. far_at t d < m) (sym valid.vertices)
-          (subst (λ v. v < g.n) (sym far_is) (far_low (darts_of g) are d d_low))
+      far_ok = rw (valid.vertices, far_is) (far_low (darts_of g) are d d_low)
 
       near_in : within t (near_at t d) x ≡ true
-      near_in = subst (λ v. (forest_of t).holds x v ≡ true) (sym near_is) joint_is.begins
+      near_in = rw near_is joint_is.begins
 
       far_in : within t (far_at t d) y ≡ true
-      far_in = subst (λ v. (forest_of t).holds y v ≡ true) (sym far_is) joint_is.ends
+      far_in = rw far_is joint_is.ends
 
       used : (z v : ℕ) → v < length t.hand → within t v z ≡ true → length t.hand ≤ z → get_or t.parts z 0 ≢ 0
-      used z v l on high none = true_false on (valid.valid.nested.empty z v (subst (λ m. m ≤ z) valid.vertices high)
-          (subst (λ m. v < m) valid.vertices l) none)
+      used z v l on high none = true_false on (valid.valid.nested.empty z v (rw valid.vertices at high)
+          (rw valid.vertices at l) none)
 
       -- The two are a pair.
       pub ring_pairing : IsPairing t x y d
       ring_pairing = record {
-        dart = subst (λ m. d < m) (sym valid.darts) d_low;
+        dart = rw valid.darts d_low;
         small = omega (arith, d_low, is.edges);
         low_x = x_low;
         low_y = y_low;
         other = differ;
         apart = λ e. none_in_both (length t.hand) (up_at t.up) (λ z. get_or t.rank z 0) known.rises (near_at t d) x y
-            refl next_around (λ s. inner (sym s)) next_other differ near_in
-            (subst (λ v. within t v y ≡ true) (sym e) far_in);
+            refl next_around (λ s. inner (sym s)) next_other differ near_in (rw e far_in);
         near_low = near_ok;
         far_low = far_ok;
         near_held = near_in;

@@ -45,15 +45,13 @@ laid_place {g} is t0 a steps may i l {x} x_is t alike = by_first may.0 may.1 may
         let next_is : way_of (darts_of g) (forest_of t0) a (suc i) ≡ way_of (darts_of g) (forest_of s) a (suc i) =
         ap (λ (u : ForestTables). way_of (darts_of g) (forest_of u) a (suc i)) first in
         record {
-          low = subst (λ xs. x < length xs) (sym up)
-              (subst (λ y. y < length s.up) (sym here) (place_low g is s valid a named i li));
+          low = rw (up, here) (place_low g is s valid a named i li);
           some = λ e. place_rises g is s valid a named i li (sym rise ∙ e);
           vertices = ap length hand ∙ valid.vertices;
-          dart = subst (λ o. dart_or o < 2 * length g.edges) (sym rise) (place_dart g is s valid a named i li);
+          dart = rw rise (place_dart g is s valid a named i li);
           next = ap (λ (u : ForestTables). (forest_of u).out (far (darts_of g) (dart_or (rise_of (forest_of t) x))))
               both ∙ (ap (λ o. (forest_of s).out (far (darts_of g) (dart_or o))) rise ∙ sym next_is);
-          next_low = subst (λ xs. way_of (darts_of g) (forest_of t0) a (suc i) < length xs) (sym up)
-              (subst (λ y. y < length s.up) (sym next_is) (next_low g is s valid a named i li));
+          next_low = rw (up, next_is) (next_low g is s valid a named i li);
           same = ap (λ (u : ForestTables). rise_of (forest_of u) x) alike ∙ ap (rise_of (forest_of t0)) x_is;
         }
 

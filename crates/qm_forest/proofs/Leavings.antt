@@ -13,7 +13,7 @@ use Rattle.qm_forest.proofs.{Nests.leader_out, Ranges.outermost_low}
 pub outermost_kept : {t u : ForestTables} {x y : ℕ} → HasSameNest t u → x ≡ y → IsOutermostIn t y → IsOutermostIn u x
 outermost_kept {t} {u} same e w = (
   w.0,
-  subst (λ xs. w.0 < length xs) (sym same.hand) w.1,
+  (rw same.hand w.1),
   ap (λ h. out_of h u.top w.0) same.hand ∙ (ap (λ o. out_of t.hand o w.0) same.top ∙ (w.2 ∙ sym e)),
 )
 
@@ -35,9 +35,8 @@ gathered_outermost {t} u {front} {many} {b} ring is size = by_first (ring.tops 0
     by_first : IsOutermostIn t front → IsOutermostIn u b
     by_first w = (
       w.0,
-      subst (λ n. w.0 < n) (sym size) w.1,
-      is.out w.0 w.1 ∙ cond-true (listed (λ i. get_or t.after i 0) front many ((forest_of t).out w.0)) b
-          ((forest_of t).out w.0) (ap (listed (λ i. get_or t.after i 0) front many) w.2
+      (rw size w.1),
+      is.out w.0 w.1 ∙ cond-true _ _ _ (ap (listed (λ i. get_or t.after i 0) front many) w.2
           ∙ listed_at (λ i. get_or t.after i 0) front many 0 ring.row.some),
     )
 
@@ -45,7 +44,7 @@ gathered_outermost {t} u {front} {many} {b} ring is size = by_first (ring.tops 0
 pub leader_of : {t : ForestTables} {hid : HiddenTables} → AreTied t hid → (b : ℕ) {v : ℕ} {u : ForestTables} → t ≡ u
     → IsOutermostIn t b → v ≡ get_or hid.leader b v → out_of u.hand u.top v ≡ b
 leader_of {t} {hid} tied b {v} e w read =
-    let low : b < length hid.leader = subst (λ n. b < n) (sym tied.sizes.leader) (outermost_low tied b w) in
+    let low : b < length hid.leader = (rw tied.sizes.leader (outermost_low tied b w)) in
     let v_is : v ≡ get_or hid.leader b 0 = get_or_read hid.leader b v low read 0 in
-    subst (λ (x : ForestTables). out_of x.hand x.top v ≡ b) e (ap (out_of t.hand t.top) v_is
-    ∙ (ap (λ x. out_of t.hand t.top (get_or hid.leader x 0)) (sym w.2) ∙ (leader_out tied.nest w.0 w.1 ∙ w.2)))
+    (rw e at (ap (out_of t.hand t.top) v_is
+    ∙ (ap (λ x. out_of t.hand t.top (get_or hid.leader x 0)) (sym w.2) ∙ (leader_out tied.nest w.0 w.1 ∙ w.2))))

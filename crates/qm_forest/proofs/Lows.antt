@@ -39,17 +39,14 @@ one_more_edge {g} {most} {e} {a} {b} {d} {x} {c1} {c2} has x_is e1 e2 bound l1 l
         let place : (edge_at g k).u ≡ x.u = ap (λ (y : WEdge). y.u) (ap (edge_at g) at ∙ sym x_is) in
         let cost : (edge_at g k).cost ≡ c1 = ap (λ j. (edge_at g j).cost) at ∙ sym cost1 in
         let h : get_or d x.u (pos 0) ≤ℤ c1 = omega (arith, ints, l1.least, l2.below x.u) in
-        let same : get_or d (edge_at g k).u (pos 0) ≡ get_or d x.u (pos 0) = ap (λ j. get_or d j (pos 0)) place in
-        omega (arith, ints, h, same, cost)
+        omega (arith, ints, h, ap (λ j. get_or d j (pos 0)) place, cost)
 
     second : (k : ℕ) → k < e + 1 → (k ≡ e) ⊎ (k ≢ e) → get_or d (edge_at g k).v (pos 0) ≤ℤ (edge_at g k).cost
     second k l (inr ne) = let h : get_or a (edge_at g k).v (pos 0) ≤ℤ (edge_at g k).cost = has.second k (omega arith) in
         omega (arith, ints, h, low (edge_at g k).v)
     second k l (inl at) =
         let place : (edge_at g k).v ≡ x.v = ap (λ (y : WEdge). y.v) (ap (edge_at g) at ∙ sym x_is) in
-        let cost : (edge_at g k).cost ≡ c2 = ap (λ j. (edge_at g j).cost) at ∙ sym cost2 in
-        let same : get_or d (edge_at g k).v (pos 0) ≡ get_or d x.v (pos 0) = ap (λ j. get_or d j (pos 0)) place in
-        omega (arith, ints, l2.least, same, cost)
+        omega (arith, ints, l2.least, ap (λ j. get_or d j (pos 0)) place, ap (λ j. (edge_at g j).cost) at ∙ sym cost2)
 
 -- The greatest of one cost more.
 pub one_more_cost : {g : WeightedGraph} {e most : ℕ} {new : ℕ} (cost : ℕ) → cost ≡ unsigned_abs (edge_at g e).cost
@@ -61,7 +58,6 @@ one_more_cost {g} {e} {most} {new} cost cost_is new_is was = record {
 }
   where
     by_place : (k : ℕ) → k < e + 1 → (k ≡ e) ⊎ (k ≢ e) → unsigned_abs (edge_at g k).cost ≤ new
-    by_place k l (inl at) = (let s : unsigned_abs (edge_at g k).cost ≡ unsigned_abs (edge_at g e).cost =
-        ap (λ j. unsigned_abs (edge_at g j).cost) at in omega (arith, s, new_is, cost_is))
+    by_place k l (inl at) = omega (arith, ap (λ j. unsigned_abs (edge_at g j).cost) at, new_is, cost_is)
     by_place k l (inr ne) = (let s : unsigned_abs (edge_at g k).cost ≤ most = was.above k (omega (arith, l, ne)) in
         omega (arith, s, new_is))

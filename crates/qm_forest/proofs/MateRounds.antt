@@ -25,7 +25,7 @@ module _ {t : ForestTables} (known : IsLaminar t) {g : WeightedGraph} (is : IsSm
   are = are_darts is.lawful
 
   low_in : (v : ℕ) → v < length t.hand → v < g.n
-  low_in v l = subst (λ m. v < m) valid.vertices l
+  low_in v l = rw valid.vertices at l
 
   -- A vertex lies in just its own outermost blossom.
   pub within_out : (w u : ℕ) → w < length t.hand → u < length t.hand → within t w (f.out u) ≡ eqb (f.out w) (f.out u)
@@ -102,12 +102,11 @@ module _ {t : ForestTables} (known : IsLaminar t) {g : WeightedGraph} (is : IsSm
   twin_is e = twin_even (2 * e) (omega arith)
 
   pub vertex_low : (d : ℕ) → d < 2 * length g.edges → near_at t d < length t.hand
-  vertex_low d l = subst (λ m. near_at t d < m) (sym valid.vertices)
-      (subst (λ v. v < g.n) (sym (valid.ends d l)) (are.near_low d l))
+  vertex_low d l = rw (valid.vertices, (valid.ends d l)) (are.near_low d l)
 
   used_at : (u : ℕ) → u < length t.hand → length t.hand ≤ f.out u → get_or t.parts (f.out u) 0 ≢ 0
   used_at u lu high none = true_false (within_out u u lu lu ∙ eq-eqb (f.out u) (f.out u) refl)
-      (valid.valid.nested.empty (f.out u) u (subst (λ m. m ≤ f.out u) valid.vertices high) (low_in u lu) none)
+      (valid.valid.nested.empty (f.out u) u (rw valid.vertices at high) (low_in u lu) none)
 
   pub mate_edge : (e : ℕ) → f.mate (f.out (near_at t (2 * e))) ≡ Some (2 * e) → IsMateEdge e
   mate_edge e mate = record {
@@ -118,14 +117,14 @@ module _ {t : ForestTables} (known : IsLaminar t) {g : WeightedGraph} (is : IsSm
     back = ap (λ v. f.mate (f.out v)) (sym far_is) ∙ (m.back ∙ ap (λ (x : ℕ). Some x) (twin_is e));
     other = apart;
     pairing = record {
-      dart = subst (λ k. 2 * e < k) (sym valid.darts) m.tight.low;
-      small = (let l : 2 * e < 2 * length g.edges = m.tight.low in omega (arith, l, is.edges));
+      dart = rw valid.darts m.tight.low;
+      small = omega (arith, m.tight.low, is.edges);
       low_x = valid.valid.outermost.out_low (near_at t (2 * e)) (low_in (near_at t (2 * e)) nl);
       low_y = valid.valid.outermost.out_low (near_at t (2 * e + 1)) (low_in (near_at t (2 * e + 1)) fl);
       other = apart;
       apart = λ s. apart (ap f.out (s ∙ far_same));
       near_low = nl;
-      far_low = subst (λ v. v < length t.hand) (sym far_same) fl;
+      far_low = rw far_same fl;
       near_held = within_out (near_at t (2 * e)) (near_at t (2 * e)) nl nl
           ∙ eq-eqb (f.out (near_at t (2 * e))) (f.out (near_at t (2 * e))) refl;
       far_held = ap (λ v. within t v (f.out (near_at t (2 * e + 1)))) far_same
@@ -133,11 +132,7 @@ module _ {t : ForestTables} (known : IsLaminar t) {g : WeightedGraph} (is : IsSm
           (f.out (near_at t (2 * e + 1))) refl);
       live_x = used_at (near_at t (2 * e)) nl;
       live_y = used_at (near_at t (2 * e + 1)) fl;
-      law = λ b l. subst (λ v. bool_number (splits (f.holds b) (near_at t (2 * e)) v)
-          + (waits_but t b (f.out (near_at t (2 * e))) (near_at t (2 * e)) + waits_but t b
-          (f.out (near_at t (2 * e + 1))) v) ≡ bool_number (within t b (f.out (near_at t (2 * e)))) + bool_number
-          (within t b (f.out (near_at t (2 * e + 1))))) (sym far_same)
-          (tops_law (near_at t (2 * e)) (near_at t (2 * e + 1)) b nl fl apart);
+      law = λ b l. (rw far_same (tops_law (near_at t (2 * e)) (near_at t (2 * e + 1)) b nl fl apart));
       tight = λ h is' valid'. (valid'.valid.matched (f.out (near_at t (2 * e))) (2 * e) mate).tight;
     };
   }
@@ -149,7 +144,7 @@ module _ {t : ForestTables} (known : IsLaminar t) {g : WeightedGraph} (is : IsSm
       nl = vertex_low (2 * e) m.tight.low
 
       fl : near_at t (2 * e + 1) < length t.hand
-      fl = (let l : 2 * e < 2 * length g.edges = m.tight.low in vertex_low (2 * e + 1) (omega (arith, l)))
+      fl = (vertex_low (2 * e + 1) (omega (arith, m.tight.low)))
 
       far_same : far_at t (2 * e) ≡ near_at t (2 * e + 1)
       far_same = ap (near_at t) (twin_is e)
@@ -176,25 +171,19 @@ module _ {t : ForestTables} (known : IsLaminar t) {g : WeightedGraph} (is : IsSm
 
   -- An edge that matches the outermost blossom of a vertex is that of its mate.
   term_none : (w e : ℕ) → w < length t.hand → ((d : ℕ) → f.mate (f.out w) ≡ Some d → e ≢ d / 2) → term w e ≡ 0
-  term_none w e lw other = by_test (cases_Bool (matches t e))
-    where
-      by_test : (matches t e ≡ true) ⊎ (matches t e ≡ false) → term w e ≡ 0
-      by_test (inr off) = cond-false (matches t e) (bool_number (within t w (f.out (near_at t (2 * e)))) + bool_number
-          (within t w (f.out (near_at t (2 * e + 1))))) 0 off
-      by_test (inl on) =
-          let m : IsMateEdge e = matches_is e on in
-          let first : within t w (f.out (near_at t (2 * e))) ≡ false =
-          off_where (within t w (f.out (near_at t (2 * e))))
-          (λ o. other (2 * e) (ap f.mate (eqb-true (f.out w) (f.out (near_at t (2 * e)))
-          (sym (within_out w (near_at t (2 * e)) lw m.near_low) ∙ o)) ∙ m.mate) (omega arith)) in
-          let second : within t w (f.out (near_at t (2 * e + 1))) ≡ false =
-          off_where (within t w (f.out (near_at t (2 * e + 1))))
-          (λ o. other (2 * e + 1) (ap f.mate (eqb-true (f.out w) (f.out (near_at t (2 * e + 1)))
-          (sym (within_out w (near_at t (2 * e + 1)) lw m.far_low) ∙ o)) ∙ m.back) (omega arith)) in
-          let one : bool_number (within t w (f.out (near_at t (2 * e)))) ≡ 0 = ap bool_number first in
-          let two : bool_number (within t w (f.out (near_at t (2 * e + 1)))) ≡ 0 = ap bool_number second in
-          cond-true (matches t e) (bool_number (within t w (f.out (near_at t (2 * e)))) + bool_number
-          (within t w (f.out (near_at t (2 * e + 1))))) 0 on ∙ omega (arith, one, two)
+  term_none w e lw other = elim (cases_Bool (matches t e)) [
+    | inr off ↦ cond-false _ _ _ off
+    | inl on ↦ (let m : IsMateEdge e = matches_is e on in
+        let first : within t w (f.out (near_at t (2 * e))) ≡ false =
+        off_where (within t w (f.out (near_at t (2 * e))))
+        (λ o. other (2 * e) (ap f.mate (eqb-true (f.out w) (f.out (near_at t (2 * e)))
+        (sym (within_out w (near_at t (2 * e)) lw m.near_low) ∙ o)) ∙ m.mate) (omega arith)) in
+        let second : within t w (f.out (near_at t (2 * e + 1))) ≡ false =
+        off_where (within t w (f.out (near_at t (2 * e + 1))))
+        (λ o. other (2 * e + 1) (ap f.mate (eqb-true (f.out w) (f.out (near_at t (2 * e + 1)))
+        (sym (within_out w (near_at t (2 * e + 1)) lw m.far_low) ∙ o)) ∙ m.back) (omega arith)) in
+        cond-true _ _ _ on ∙ omega (arith, ap bool_number first, ap bool_number second))
+  ]
 
   term_one : (w d : ℕ) → w < length t.hand → f.mate (f.out w) ≡ Some d → (term w (d / 2) ≡ 1) × (d / 2 < length g.edges)
   term_one w d lw mate = by_side (cases_eq (d % 2) 0)
@@ -207,8 +196,7 @@ module _ {t : ForestTables} (known : IsLaminar t) {g : WeightedGraph} (is : IsSm
 
       value : (e : ℕ) → matches t e ≡ true → (f.out w ≡ f.out (near_at t (2 * e)))
           ⊎ (f.out w ≡ f.out (near_at t (2 * e + 1))) → term w e ≡ 1
-      value e on side = cond-true (matches t e) (bool_number (within t w (f.out (near_at t (2 * e)))) + bool_number
-          (within t w (f.out (near_at t (2 * e + 1))))) 0 on ∙ by_end side
+      value e on side = cond-true _ _ _ on ∙ by_end side
         where
           me : IsMateEdge e
           me = matches_is e on
@@ -280,14 +268,12 @@ module _ {t : ForestTables} (known : IsLaminar t) {g : WeightedGraph} (is : IsSm
 
   pub due_one : (w : ℕ) {edges : ℕ} → w < length t.hand → edges ≡ length g.edges → f.mate (f.out w) ≢ None
       → matched_by t edges w ≡ 1
-  due_one w {edges} lw all matched = by_mate (option_cases (f.mate (f.out w)))
-    where
-      by_mate : (f.mate (f.out w) ≡ None) ⊎ ((d : ℕ) × (f.mate (f.out w) ≡ Some d)) → matched_by t edges w ≡ 1
-      by_mate (inl none) = absurd (matched none)
-      by_mate (inr s) = count_below_one (term w) edges (s.0 / 2)
-          (subst (λ m. s.0 / 2 < m) (sym all) (term_one w s.0 lw s.1).1)
-          (λ k lk ne. term_none w k lw (λ d e at. ne (at ∙ ap (λ x. x / 2) (some_is d s.0 (sym e ∙ s.1)))))
-          ∙ (term_one w s.0 lw s.1).0
+  due_one w {edges} lw all matched = elim (option_cases (f.mate (f.out w))) [
+    | inl none ↦ absurd (matched none)
+    | inr s ↦ count_below_one (term w) edges (s.0 / 2) (rw all (term_one w s.0 lw s.1).1)
+        (λ k lk ne. term_none w k lw (λ d e at. ne (at ∙ ap (λ x. x / 2) (some_is d s.0 (sym e ∙ s.1)))))
+        ∙ (term_one w s.0 lw s.1).0
+  ]
 
   -- A blossom is met as its vertices are.
   pub due_same : (b w edges : ℕ) → w < length t.hand → within t w b ≡ true → matched_by t edges b ≡ matched_by t edges w
@@ -305,10 +291,7 @@ module _ {t : ForestTables} (known : IsLaminar t) {g : WeightedGraph} (is : IsSm
               absurd (true_false (ap (within t b) (sym here) ∙ around_in b w lw held) off)
 
       each : (e : ℕ) → (matches t e ≡ true) ⊎ (matches t e ≡ false) → term b e ≡ term w e
-      each e (inr off) = cond-false (matches t e) (bool_number (within t b (f.out (near_at t (2 * e)))) + bool_number
-          (within t b (f.out (near_at t (2 * e + 1))))) 0 off
-          ∙ sym (cond-false (matches t e) (bool_number (within t w (f.out (near_at t (2 * e)))) + bool_number
-          (within t w (f.out (near_at t (2 * e + 1))))) 0 off)
+      each e (inr off) = cond-false _ _ _ off ∙ sym (cond-false _ _ _ off)
       each e (inl on) =
           let m : IsMateEdge e = matches_is e on in
           ap (λ (s : Bool). cond (matches t e)
@@ -325,9 +308,8 @@ module _ {t : ForestTables} (known : IsLaminar t) {g : WeightedGraph} (is : IsSm
       (far_at t (2 * e)) → IsRound t marks left (λ b. 0) (matched_by t e)
       → IsRound t marks2 left2 (λ b. 0) (matched_by t j)
   edge_more {marks} {left} {left2} e j j_is size_marks size_left mate marks_is left_is round =
-      subst (λ ms. IsRound t ms left2 (λ b. 0) (matched_by t j)) (sym marks_is)
-      (subst (λ ls. IsRound t (set marks (2 * e / 2) true) ls (λ b. 0) (matched_by t j)) (sym left_is)
-      (paired_round t known.vertices (alone t known) known.own (another t known g is valid) marks left
+      (rw (marks_is, left_is) (paired_round t known.vertices (alone t known) known.own
+      (another t known g is valid) marks left
       (f.out (near_at t (2 * e))) (f.out (near_at t (2 * e + 1))) (2 * e) (λ b. 0) (matched_by t j) size_marks
       size_left (record {
         each = λ b l. omega (arith, round.each b l, step b);
@@ -339,9 +321,7 @@ module _ {t : ForestTables} (known : IsLaminar t) {g : WeightedGraph} (is : IsSm
       step : (b : ℕ) → matched_by t j b ≡ matched_by t e b + (bool_number (within t b (f.out (near_at t (2 * e)))) +
           bool_number (within t b (f.out (near_at t (2 * e + 1)))))
       step b = ap (λ k. matched_by t k b) (j_is ∙ (let o : e + 1 ≡ suc e = omega arith in o))
-          ∙ ap (λ m. matched_by t e b + m) (cond-true (matches t e) (bool_number
-          (within t b (f.out (near_at t (2 * e)))) + bool_number (within t b (f.out (near_at t (2 * e + 1))))) 0
-          (dart_is (2 * e) mate))
+          ∙ ap (λ m. matched_by t e b + m) (cond-true _ _ _ (dart_is (2 * e) mate))
 
   pub edge_same : {marks : List Bool} {left : List (Option ℕ)} (e j : ℕ) → j ≡ e + 1
       → f.mate (f.out (near_at t (2 * e))) ≢ Some (2 * e) → IsRound t marks left (λ b. 0) (matched_by t e)
@@ -355,7 +335,6 @@ module _ {t : ForestTables} (known : IsLaminar t) {g : WeightedGraph} (is : IsSm
     where
       step : (b : ℕ) → matched_by t j b ≡ matched_by t e b
       step b = ap (λ k. matched_by t k b) (j_is ∙ (let o : e + 1 ≡ suc e = omega arith in o))
-          ∙ (ap (λ m. matched_by t e b + m) (cond-false (matches t e) (bool_number
-          (within t b (f.out (near_at t (2 * e)))) + bool_number (within t b (f.out (near_at t (2 * e + 1))))) 0
+          ∙ (ap (λ m. matched_by t e b + m) (cond-false _ _ _
           (off_where (matches t e) (λ on. off (dart_true (f.mate (f.out (near_at t (2 * e)))) (2 * e) on))))
           ∙ (let o : matched_by t e b + 0 ≡ matched_by t e b = omega arith in o))

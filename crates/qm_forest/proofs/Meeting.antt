@@ -32,18 +32,15 @@ module _ {g : WeightedGraph} {t : ForestTables} (valid : IsValidFor g t) (climb 
           let w : (k : ℕ) × (k < (forest_of t).nest.parts (up_at t.up x))
           × (walk (forest_of t).nest.after ((forest_of t).nest.head (up_at t.up x)) k ≡ x) =
           ring.all x refl (λ e. inner (sym e)) in
-          subst (λ y. slice_index t.rank y < slice_index t.rank (up_at t.up x)) w.2 (ring.lower w.0)
+          (rw w.2 at (ring.lower w.0))
 
   -- The weight of a blossom that is not outermost is as it is kept.
   base_is : (x : ℕ) → up x ≢ x → get_or t.base x (pos 0) ≡ (forest_of t).weight x
-  base_is x inner = by_label (label_cases (label_at t.label x))
-    where
-      by_label : (label_at t.label x ≡ Outside) ⊎ (label_at t.label x ≢ Outside) → get_or t.base x (pos 0)
-          ≡ (forest_of t).weight x
-      by_label (inl off) = let z : weight_change (label_at t.label x) t.delta ≡ pos 0 =
-          ap (λ (l : Label). weight_change l t.delta) off in omega (arith, ints, z)
-      by_label (inr named) = let w : IsOutermost g.n (forest_of t) x = valid.valid.outermost.named x named in
-          absurd (inner (ap (up_at t.up) (sym w.2) ∙ (valid.valid.outermost.tops w.0 w.1 ∙ w.2)))
+  base_is x inner = elim (label_cases (label_at t.label x)) [
+    | inl off ↦ (omega (arith, ints, ap (λ (l : Label). weight_change l t.delta) off))
+    | inr named ↦ (let w : IsOutermost g.n (forest_of t) x = valid.valid.outermost.named x named in
+        absurd (inner (ap (up_at t.up) (sym w.2) ∙ (valid.valid.outermost.tops w.0 w.1 ∙ w.2))))
+  ]
 
   abbrev passing : ℕ → ℕ → ℤ
   passing x y = apart (length t.hand) up (forest_of t).weight (length t.up) x y
@@ -54,7 +51,7 @@ module _ {g : WeightedGraph} {t : ForestTables} (valid : IsValidFor g t) (climb 
   within_up b x w = (w.0, w.1, w.2, suc w.3, ap up w.4)
 
   within_rank : (b x : ℕ) → IsWithin t b x → rank x ≤ rank b
-  within_rank b x w = subst (λ k. rank x ≤ rank k) w.2 (rank_low rank climb rises w.0 x w.1 (w.3, w.4))
+  within_rank b x w = rw w.2 at (rank_low rank climb rises w.0 x w.1 (w.3, w.4))
 
   within_climbs : (b x y : ℕ) → IsWithin t b x → IsWithin t b y → x ≢ y → rank x ≤ rank y → up x ≢ x
   within_climbs b x y wx wy ne le = can_climb rank climb rises wx.0 wy.0 x y wx.1
@@ -83,14 +80,12 @@ module _ {g : WeightedGraph} {t : ForestTables} (valid : IsValidFor g t) (climb 
         build : IsWithin t top low → IsWithin t top high → low ≢ high → low < length t.up → high < length t.up
             → passing x y ≡ passing low high → IsMeeting t u v x2 high load2
         build wl wh nlh ll lh same =
-            let step : passing low high ≡ passing (up low) high +ℤ get_or t.base low (pos 0) =
-            within_step top low high wl wh nlh order ll in
-            let next : passing x2 high ≡ passing (up low) high = ap (λ k. passing k high) x2_is in
             let sum : load2 +ℤ passing x2 high ≡ passing u v =
-            omega (arith, ints, step, next, load_is, same, meet.sum) in
+            omega (arith, ints, within_step top low high wl wh nlh order ll, ap
+                (λ k. passing k high) x2_is, load_is, same, meet.sum) in
             record {
               sum = sum;
-              first = subst (λ k. IsWithin t top k) (sym x2_is) (within_up top low wl);
+              first = rw x2_is (within_up top low wl);
               second = wh;
               low_x = x2_low;
               low_y = lh;
@@ -98,13 +93,10 @@ module _ {g : WeightedGraph} {t : ForestTables} (valid : IsValidFor g t) (climb 
             }
 
         by_side : ((low ≡ x) × (high ≡ y)) ⊎ ((low ≡ y) × (high ≡ x)) → IsMeeting t u v x2 high load2
-        by_side (inl e) = build (subst (λ k. IsWithin t top k) (sym e.0) meet.first)
-            (subst (λ k. IsWithin t top k) (sym e.1) meet.second) (λ s. ne (sym e.0 ∙ (s ∙ e.1)))
-            (subst (λ k. k < length t.up) (sym e.0) meet.low_x) (subst (λ k. k < length t.up) (sym e.1) meet.low_y)
-            (ap (λ k. passing k y) (sym e.0) ∙ ap (passing low) (sym e.1))
-        by_side (inr e) = build (subst (λ k. IsWithin t top k) (sym e.0) meet.second)
-            (subst (λ k. IsWithin t top k) (sym e.1) meet.first) (λ s. ne (sym (sym e.0 ∙ (s ∙ e.1))))
-            (subst (λ k. k < length t.up) (sym e.0) meet.low_y) (subst (λ k. k < length t.up) (sym e.1) meet.low_x)
+        by_side (inl e) = build (rw e.0 meet.first) (rw e.1 meet.second) (λ s. ne (sym e.0 ∙ (s ∙ e.1)))
+            (rw e.0 meet.low_x) (rw e.1 meet.low_y) (ap (λ k. passing k y) (sym e.0) ∙ ap (passing low) (sym e.1))
+        by_side (inr e) = build (rw e.0 meet.second) (rw e.1 meet.first) (λ s. ne (sym (sym e.0 ∙ (s ∙ e.1))))
+            (rw e.0 meet.low_y) (rw e.1 meet.low_x)
             (apart_order (length t.hand) up (forest_of t).weight (length t.up) x y
             ∙ (ap (λ k. passing k x) (sym e.0) ∙ ap (passing low) (sym e.1)))
 
@@ -117,8 +109,8 @@ module _ {g : WeightedGraph} {t : ForestTables} (valid : IsValidFor g t) (climb 
         increasing : IsWithin t top low → IsWithin t top high → low ≢ high → (rank low < rank x2) × (rank x2 ≤ rank top)
             × (rank high ≤ rank top)
         increasing wl wh nlh = (
-          subst (λ k. rank low < rank k) (sym x2_is) (rises low (within_climbs top low high wl wh nlh order)),
-          subst (λ k. rank k ≤ rank top) (sym x2_is) (within_rank top (up low) (within_up top low wl)),
+          (rw x2_is (rises low (within_climbs top low high wl wh nlh order))),
+          (rw x2_is (within_rank top (up low) (within_up top low wl))),
           within_rank top high wh,
         )
 
@@ -126,15 +118,13 @@ module _ {g : WeightedGraph} {t : ForestTables} (valid : IsValidFor g t) (climb 
             < (rank top + rank top) - (rank x + rank y)
         by_side (inl e) =
             let r : (rank low < rank x2) × (rank x2 ≤ rank top) × (rank high ≤ rank top) =
-            increasing (subst (λ k. IsWithin t top k) (sym e.0) meet.first)
-            (subst (λ k. IsWithin t top k) (sym e.1) meet.second) (λ s. ne (sym e.0 ∙ (s ∙ e.1))) in
+            increasing (rw e.0 meet.first) (rw e.1 meet.second) (λ s. ne (sym e.0 ∙ (s ∙ e.1))) in
             let a : rank low ≡ rank x = ap rank e.0 in
             let b : rank high ≡ rank y = ap rank e.1 in
             omega (arith, r.0, r.1, r.2)
         by_side (inr e) =
             let r : (rank low < rank x2) × (rank x2 ≤ rank top) × (rank high ≤ rank top) =
-            increasing (subst (λ k. IsWithin t top k) (sym e.0) meet.second)
-            (subst (λ k. IsWithin t top k) (sym e.1) meet.first) (λ s. ne (sym (sym e.0 ∙ (s ∙ e.1)))) in
+            increasing (rw e.0 meet.second) (rw e.1 meet.first) (λ s. ne (sym (sym e.0 ∙ (s ∙ e.1)))) in
             let a : rank low ≡ rank y = ap rank e.0 in
             let b : rank high ≡ rank x = ap rank e.1 in
             omega (arith, r.0, r.1, r.2)

@@ -38,12 +38,11 @@ module _ {n size : ℕ} {hand top up rank parts leader first last following : Li
 
   -- What one comes to is in use.
   pub reached_used : (v i : ℕ) {x : ℕ} → v < n → walk (up_at up) v i ≡ x → IsInUse n parts x
-  reached_used v i {x} l e = by_place (cases_eq v x)
-    where
-      by_place : (v ≡ x) ⊎ (v ≢ x) → IsInUse n parts x
-      by_place (inl at) = inl (subst (λ y. y < n) at l)
-      by_place (inr ne) = (let w : (y : ℕ) × (up_at up y ≡ x) × (y ≢ x) = comes_by (up_at up) v i e ne in
-          inr (subst (λ y. get_or parts y 0 ≢ 0) w.1 (nest.around w.0 (λ s. w.2 (sym s ∙ w.1))).1))
+  reached_used v i {x} l e = elim (cases_eq v x) [
+    | inl at ↦ inl (subst (λ y. y < n) at l)
+    | inr ne ↦ (let w : (y : ℕ) × (up_at up y ≡ x) × (y ≢ x) = comes_by (up_at up) v i e ne in
+        inr (rw w.1 at (nest.around w.0 (λ s. w.2 (sym s ∙ w.1))).1))
+  ]
 
   pub out_used : (v : ℕ) → v < n → IsInUse n parts (out v)
   out_used v l = reached_used v n l (nest.climb.ends v l)
@@ -87,8 +86,8 @@ module _ {n size : ℕ} {hand top up rank parts leader first last following : Li
       let mine : (get_or last (out v) 0 < n) × (climbs (up_at up) n (out v) (get_or last (out v) 0) ≡ true) =
       list_has_last (list_of v lv) in
       let low : get_or rank y 0 ≤ get_or rank (out (get_or last (out v) 0)) 0 =
-      rank_passed (get_or last (out v) 0) y mine.0 (subst (λ w. climbs (up_at up) n y w ≡ true) e
-      (list_member (nest.members y ly used) j (omega (arith, l)))) in
+      rank_passed (get_or last (out v) 0) y mine.0 (rw e at (list_member (nest.members y ly used) j (omega
+          (arith, l)))) in
       let same : get_or rank (out (get_or last (out v) 0)) 0 ≡ get_or rank (out v) 0 =
       ap (λ x. get_or rank x 0) (held_out v (get_or last (out v) 0) lv mine.0 mine.1) in
       omega (arith, more, low, same)

@@ -60,10 +60,8 @@ valid_grown {t} u {g} is valid {d} m reach mate seen hand root fixed = record {
 
     by_tree : (r : ℕ) × (t.root ≡ Some r) × IsTree (darts_of g) (forest_of t) r
         → IsValid (darts_of g) (forest_of u) u.root
-    by_tree w = subst (λ (f : Forest). IsValid (darts_of g) f u.root) (sym seen)
-        (subst (λ (o : Option ℕ). IsValid (darts_of g) (grown (darts_of g) (forest_of t) d m) o) (sym (root ∙ w.1))
-        (grown_valid (darts_of g) (are_darts is.lawful) (forest_of t) w.0
-        (subst (λ (o : Option ℕ). IsValid (darts_of g) (forest_of t) o) w.1 valid.valid) d m reach mate))
+    by_tree w = rw (seen, (root ∙ w.1)) (grown_valid (darts_of g) (are_darts is.lawful) (forest_of t) w.0
+        (rw w.1 at valid.valid) d m reach mate)
 
 -- Another mate, seen in a forest whose mates were changed.
 pub remated_more : (f0 : Forest) {f1 f2 : Forest} (mate : ℕ → Option ℕ) (b : ℕ) (m : Option ℕ) → f1 ≡ remated f0 mate
@@ -96,17 +94,13 @@ way_begins {g} {t} is valid {start} reach free {mate} {a} mate_is a_is =
       top = w.0;
       root = w.1;
       tree = w.2;
-      almost = subst (λ x. IsAlmost (darts_of g) (forest_of t) w.2.depth start mate x start) (sym a_is)
-          (subst (λ (x : ℕ → Option ℕ). IsAlmost (darts_of g) (forest_of t) w.2.depth start x
-          ((forest_of t).out ((darts_of g).near start)) start) (sym mate_is)
-          (begin (are_darts is.lawful)
-          (subst (λ (o : Option ℕ). IsValid (darts_of g) (forest_of t) o) w.1 valid.valid) w.2 start reach free));
+      almost = rw (a_is, mate_is) (begin (are_darts is.lawful) (rw w.1 at valid.valid) w.2 start reach free);
     }
 
 module _ {g : WeightedGraph} {t : ForestTables} {start : ℕ} {mate : ℕ → Option ℕ} {a e : ℕ}
     (way : IsOnWay g t start mate a e) where
   valid_top : IsValid (darts_of g) (forest_of t) (Some way.top)
-  valid_top = subst (λ (o : Option ℕ). IsValid (darts_of g) (forest_of t) o) way.root way.valid.valid
+  valid_top = rw way.root at way.valid.valid
 
   -- The blossom at hand still has its own mate.
   own_mate : mate a ≡ (forest_of t).mate a
@@ -126,14 +120,10 @@ module _ {g : WeightedGraph} {t : ForestTables} {start : ℕ} {mate : ℕ → Op
     top = way.top;
     root = way.root;
     tree = way.tree;
-    almost = subst (λ (x : ℕ → Option ℕ). IsAlmost (darts_of g) (forest_of t) way.tree.depth start x a2 e2)
-        (sym (mate_is ∙ (ap (λ x. set_at (set_at mate a (Some e)) x (Some up)) inner_is'
-        ∙ ap (λ x. set_at (set_at mate a (Some e)) inn (Some x)) link_is)))
-        (subst (λ x. IsAlmost (darts_of g) (forest_of t) way.tree.depth start next x e2)
-        (sym (a_is ∙ ap (λ x. (forest_of t).out (far (darts_of g) x)) link_is))
-        (subst (λ x. IsAlmost (darts_of g) (forest_of t) way.tree.depth start next
-        ((forest_of t).out (far (darts_of g) ((forest_of t).link inn))) x) (sym (e_is ∙ ap (darts_of g).twin link_is))
-        (turn (are_darts way.is.lawful) valid_top way.tree start way.almost old (sym own_mate ∙ was))));
+    almost = rw ((mate_is ∙ (ap (λ x. set_at (set_at mate a (Some e)) x (Some up)) inner_is'
+        ∙ ap (λ x. set_at (set_at mate a (Some e)) inn (Some x)) link_is)), (a_is ∙ ap (λ x. (forest_of t).out (far
+        (darts_of g) x)) link_is), (e_is ∙ ap (darts_of g).twin link_is)) (turn
+        (are_darts way.is.lawful) valid_top way.tree start way.almost old (sym own_mate ∙ was));
   }
     where
       inn : ℕ
@@ -168,7 +158,7 @@ module _ {g : WeightedGraph} {t : ForestTables} {start : ℕ} {mate : ℕ → Op
   pub way_low : a < length t.up
   way_low = let w : IsOutermost (darts_of g).n (forest_of t) a =
       way.valid.valid.outermost.named a (named way.almost.outer) in
-      subst (λ x. x < length t.up) w.2 (way.valid.valid.outermost.out_low w.0 w.1)
+      (rw w.2 at (way.valid.valid.outermost.out_low w.0 w.1))
     where
       named : {l : Label} → l ≡ Outer → l ≢ Outside
       named x y = let h : Outer ≡ Outside = sym x ∙ y in cc
@@ -179,8 +169,8 @@ module _ {g : WeightedGraph} {t : ForestTables} {start : ℕ} {mate : ℕ → Op
 
   pub up_low : (old : ℕ) {inner up : ℕ} → mate a ≡ Some old → inner ≡ (forest_of t).out (far (darts_of g) old)
       → up ≡ (forest_of t).link inner → up < 2 * length g.edges
-  up_low old was inner_is' up_is = subst (λ x. x < 2 * length g.edges)
-      (sym (up_is ∙ ap (forest_of t).link inner_is')) (way.tree.inner ((forest_of t).out (far (darts_of g) old))
+  up_low old was inner_is' up_is = rw (up_is ∙ ap (forest_of t).link inner_is') (way.tree.inner ((forest_of t).out (far
+      (darts_of g) old))
       (outer_mate (are_darts way.is.lawful) valid_top a old way.almost.outer (sym own_mate ∙ was))).tight.low
 
   -- It ends where the blossom at hand is not matched.
@@ -190,12 +180,10 @@ module _ {g : WeightedGraph} {t : ForestTables} {start : ℕ} {mate : ℕ → Op
   way_ends free r root is_mate =
       let own : (forest_of t).mate a ≡ None = sym own_mate ∙ free in
       let r_is : way.top ≡ r = same (sym way.root ∙ root) in
-      subst (λ (x : ℕ → Option ℕ). IsValid (darts_of g) (with_mates (forest_of t) x) None
-      × IsAugmented (darts_of g) (forest_of t) (with_mates (forest_of t) x) r start) (sym is_mate) (
+      (rw is_mate (
         end_valid (are_darts way.is.lawful) valid_top way.tree start way.almost own,
-        subst (λ x. IsAugmented (darts_of g) (forest_of t) (with_mates (forest_of t) (set_at mate a (Some e))) x start)
-            r_is (end_augmented (are_darts way.is.lawful) valid_top way.tree start way.almost own),
-      )
+        (rw r_is at (end_augmented (are_darts way.is.lawful) valid_top way.tree start way.almost own)),
+      ))
     where
       same : {x y : ℕ} → Some x ≡ Some y → x ≡ y
       same p = cc
@@ -203,12 +191,11 @@ module _ {g : WeightedGraph} {t : ForestTables} {start : ℕ} {mate : ℕ → Op
 -- The twin of a dart is one, and what begins a dart is a vertex.
 pub twin_dart : {g : WeightedGraph} → IsSmallGraph g → (d : ℕ) {e : ℕ} → d < 2 * length g.edges → e
     ≡ (darts_of g).twin d → e < 2 * length g.edges
-twin_dart {g} is d low e_is = subst (λ x. x < 2 * length g.edges) (sym e_is) ((are_darts is.lawful).twin_low d low)
+twin_dart {g} is d low e_is = rw e_is ((are_darts is.lawful).twin_low d low)
 
 pub near_in : {g : WeightedGraph} {t : ForestTables} → IsSmallGraph g → IsValidFor g t → (d : ℕ) {v : ℕ}
     → d < 2 * length g.edges → v ≡ (darts_of g).near d → v < length t.hand
-near_in {g} is valid d {v} low v_is =
-    subst (λ n. v < n) (sym valid.vertices) (subst (λ x. x < g.n) (sym v_is) ((are_darts is.lawful).near_low d low))
+near_in {g} is valid d {v} low v_is = (rw (valid.vertices, v_is) ((are_darts is.lawful).near_low d low))
 
 -- The same blossoms, over two changes.
 pub same_nest : {a b c : ForestTables} → HasSameNest a b → HasSameNest b c → HasSameNest a c
@@ -254,8 +241,7 @@ valid_augmented {t} u {g} valid mate whole seen hand root fixed = record {
   darts = darts_kept u valid fixed;
   ends = ends_kept u valid fixed;
   room = room_kept u valid fixed;
-  valid = subst (λ (f : Forest). IsValid (darts_of g) f u.root) (sym seen)
-      (subst (λ (o : Option ℕ). IsValid (darts_of g) (with_mates (forest_of t) mate) o) (sym root) whole);
+  valid = rw (seen, root) whole;
 }
 
 -- What has come of an augmentation.
@@ -282,7 +268,7 @@ augmented {t} s u {g} is valid {start} reach done seen ended hand root fixed =
       (
         w.0,
         w.1,
-        subst (λ (f : Forest). IsAugmented (darts_of g) (forest_of t) f w.0 start) (sym whole) (done w.0 w.1).1,
+        (rw whole (done w.0 w.1).1),
       ),
       valid_augmented u valid (forest_of s).mate (done w.0 w.1).0 whole hand root fixed,
     )

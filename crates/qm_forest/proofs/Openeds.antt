@@ -17,10 +17,10 @@ use Rattle.qm_forest.proofs.Openings.{opening_at, opening_is, out_is, part_aroun
 use Rattle.qm_forest.proofs.Openings.{ring_is, set_top}
 
 even_is : (k i : ℕ) → k ≡ 2 * i → turn_label k ≡ Inner
-even_is k i e = cond-true (eqb (k % 2) 0) Inner Outer (eq-eqb (k % 2) 0 (omega (arith, e)))
+even_is k i e = cond-true _ _ _ (eq-eqb (k % 2) 0 (omega (arith, e)))
 
 odd_is : (k i : ℕ) → k ≡ 2 * i + 1 → turn_label k ≡ Outer
-odd_is k i e = cond-false (eqb (k % 2) 0) Inner Outer (ne_eqb (k % 2) 0 (λ z. absurd (omega (arith, e, z))))
+odd_is k i e = cond-false _ _ _ (ne_eqb (k % 2) 0 (λ z. absurd (omega (arith, e, z))))
 
 module _ {g : WeightedGraph} {t0 : ForestTables} {b : ℕ} (ready : CanOpen g t0 b) {f2 : Forest}
     (parted : IsParted g.n (mated (labelled (forest_of t0) b Outside) b None) f2
@@ -122,7 +122,7 @@ module _ {g : WeightedGraph} {t0 : ForestTables} {b : ℕ} (ready : CanOpen g t0
 
   b_top : f0.nest.up b ≡ b
   b_top = (let w : (v : ℕ) × (v < length t0.hand) × (f0.out v ≡ b) = set_top ready in
-      subst (λ x. f0.nest.up x ≡ x) w.2 (ready.valid.valid.outermost.tops w.0 (rw ready.valid.vertices at w.1)))
+      (rw w.2 at (ready.valid.valid.outermost.tops w.0 (rw ready.valid.vertices at w.1))))
 
   part_label : (x : ℕ) → inside x ≡ true → f2.label x ≡ Outside
   part_label x on = ap (λ (h : ℕ → Label). h x) parted.label
@@ -152,11 +152,11 @@ module _ {g : WeightedGraph} {t0 : ForestTables} {b : ℕ} (ready : CanOpen g t0
 
     mate_odd : (k i : ℕ) → k ≡ 2 * i + 1 → k < many → f6.mate (at k) ≡ Some (joint (at k))
     mate_odd k i e l = mate_at k (omega (arith, e)) l ∙ ap (λ (x : ℕ). Some x)
-        (cond-true (eqb (k % 2) 1) _ _ (eq-eqb (k % 2) 1 (omega (arith, e))))
+        (cond-true _ _ _ (eq-eqb (k % 2) 1 (omega (arith, e))))
 
     mate_even : (k j i : ℕ) → k ≡ 2 * i + 2 → k ≡ suc j → k < many → f6.mate (at k) ≡ Some (d.twin (joint (at j)))
     mate_even k j i e ej l = mate_at k (omega (arith, e)) l
-        ∙ ap (λ (x : ℕ). Some x) (cond-false (eqb (k % 2) 1) _ _ (ne_eqb (k % 2) 1 (λ z. absurd (omega (arith, e, z))))
+        ∙ ap (λ (x : ℕ). Some x) (cond-false _ _ _ (ne_eqb (k % 2) 1 (λ z. absurd (omega (arith, e, z))))
         ∙ ap (λ x. d.twin (joint x)) (at_same (k - 1) j (omega (arith, ej))))
 
     mate_first : f6.mate first ≡ Some m

@@ -51,7 +51,7 @@ module _ {g : WeightedGraph} {t0 : ForestTables} {b : ℕ} (ready : CanOpen g t0
   set_low = named_low g is t0 valid b (inner_named inner)
 
   held_b : (v : ℕ) → v < g.n → f0.holds b v ≡ eqb (f0.out v) b
-  held_b v l = subst (λ x. f0.holds x v ≡ eqb (f0.out v) x) top_is.2 (valid.valid.outermost.held top_is.0 v top_is.1 l)
+  held_b v l = rw top_is.2 at (valid.valid.outermost.held top_is.0 v top_is.1 l)
 
   pub set_live : many ≢ 0
   set_live none = true_false (held_b top_is.0 top_is.1 ∙ eq-eqb (f0.out top_is.0) b top_is.2)
@@ -81,7 +81,7 @@ module _ {g : WeightedGraph} {t0 : ForestTables} {b : ℕ} (ready : CanOpen g t0
       absurd (omega (arith, ring_is.lower (part_place x on).0, ap f0.nest.rank ((part_place x on).2 ∙ e)))
 
   pub part_low : (x : ℕ) → inside x ≡ true → x < f0.size
-  part_low x on = subst (λ y. y < f0.size) (part_place x on).2 (ring_is.below (part_place x on).0)
+  part_low x on = rw (part_place x on).2 at (ring_is.below (part_place x on).0)
 
   pub around_part : (x : ℕ) → f0.nest.up x ≡ b → x ≢ b → inside x ≡ true
   around_part x up ne = (let w : (k : ℕ) × (k < many) × (walk f0.nest.after (f0.nest.head b) k ≡ x) =
@@ -108,13 +108,12 @@ module _ {g : WeightedGraph} {t0 : ForestTables} {b : ℕ} (ready : CanOpen g t0
   }
 
   pub next_part : (x : ℕ) → inside x ≡ true → inside (f0.nest.after x) ≡ true
-  next_part x on = subst (λ y. inside (f0.nest.after y) ≡ true) (part_place x on).2
-      (circle_is.marked (suc (part_place x on).0))
+  next_part x on = rw (part_place x on).2 at (circle_is.marked (suc (part_place x on).0))
 
   -- What a part holds is in the set.
   part_in : (x v : ℕ) → inside x ≡ true → v < g.n → f0.holds x v ≡ true → f0.out v ≡ b
-  part_in x v on l held = eqb-true (f0.out v) b (sym (held_b v l) ∙ subst (λ y. f0.holds y v ≡ true)
-      (part_around x on) (holds_up valid.valid.nested x v l (part_inner x on) held))
+  part_in x v on l held = eqb-true (f0.out v) b (sym (held_b v l) ∙ (rw (part_around x on) at
+      (holds_up valid.valid.nested x v l (part_inner x on) held)))
 
   -- The tables, once the set has left the tree, can be parted.
   partable_after : (t1 : ForestTables) → forest_of t1 ≡ mated (labelled f0 b Outside) b None → HasSameNest t0 t1
@@ -205,8 +204,7 @@ module _ {g : WeightedGraph} {t0 : ForestTables} {b : ℕ} (ready : CanOpen g t0
         by_test : (f0.holds x v ≡ true) ⊎ (f0.holds x v ≡ false) → (part v ≡ x) ⊎ (part v ≢ x)
             → f0.holds x v ≡ eqb (part v) x
         by_test (inl held) y = held ∙ sym (eq-eqb (part v) x (parted.own x v on l held))
-        by_test (inr free) (inl e) =
-            absurd (true_false (subst (λ y. f0.holds y v ≡ true) e (parted.holds_out v l)) free)
+        by_test (inr free) (inl e) = absurd (true_false (rw e at (parted.holds_out v l)) free)
         by_test (inr free) (inr ne) = free ∙ sym (ne_eqb (part v) x ne)
 
     abbrev pub first : ℕ

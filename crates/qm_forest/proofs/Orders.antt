@@ -36,13 +36,13 @@ first_terms f n (suc m) l = by_size (cases_lt m n) (λ h. first_terms f n m h)
         → total_below (λ b. cond (nat_lt b n) (f b) (pos 0)) m +ℤ cond (nat_lt m n) (f m) (pos 0) ≡ total_below f n
     by_size (inl h) more =
         let all : total_below (λ b. cond (nat_lt b n) (f b) (pos 0)) m ≡ total_below f m =
-        total_below_same (λ b. cond (nat_lt b n) (f b) (pos 0)) f m (λ b lb. cond-true (nat_lt b n) (f b) (pos 0)
+        total_below_same (λ b. cond (nat_lt b n) (f b) (pos 0)) f m (λ b lb. cond-true _ _ _
         (lt-ltb b n (omega (arith, lb, h)))) in
-        let here : cond (nat_lt m n) (f m) (pos 0) ≡ f m = cond-true (nat_lt m n) (f m) (pos 0) (lt-ltb m n h) in
+        let here : cond (nat_lt m n) (f m) (pos 0) ≡ f m = cond-true _ _ _ (lt-ltb m n h) in
         let e : suc m ≡ n = omega (arith, l, h) in
         omega (arith, ints, all, here) ∙ ap (total_below f) e
     by_size (inr h) more =
-        let here : cond (nat_lt m n) (f m) (pos 0) ≡ pos 0 = cond-false (nat_lt m n) (f m) (pos 0) (le-ltb m n h) in
+        let here : cond (nat_lt m n) (f m) (pos 0) ≡ pos 0 = cond-false _ _ _ (le-ltb m n h) in
         omega (arith, ints, here, more h)
 
 split_at : (f : ℕ → ℤ) (n m : ℕ) → n ≤ m → total_below f n +ℤ total_below (λ b. cond (nat_lt b n) (pos 0) (f b)) m
@@ -69,8 +69,8 @@ module _ {t : ForestTables} {sets : List (ℕ × ℕ)} (order : AreInOrder t set
 
   pub live_one : (b : ℕ) → length t.hand ≤ b → get_or t.parts b 0 ≢ 0
       → live_at (length t.hand) (λ k. get_or t.parts k 0) b ≡ 1
-  live_one b high live = cond-false (nat_lt b (length t.hand)) 0 (cond (eqb (get_or t.parts b 0) 0) 0 1)
-      (le-ltb b (length t.hand) high) ∙ cond-false (eqb (get_or t.parts b 0) 0) 0 1 (ne_eqb (get_or t.parts b 0) 0 live)
+  live_one b high live = cond-false _ _ _
+      (le-ltb b (length t.hand) high) ∙ cond-false _ _ _ (ne_eqb (get_or t.parts b 0) 0 live)
 
   live_low : (b : ℕ) → live_at (length t.hand) (λ k. get_or t.parts k 0) b ≤ 1
   live_low b = low (nat_lt b (length t.hand)) (eqb (get_or t.parts b 0) 0)
@@ -136,11 +136,6 @@ module _ {t : ForestTables} {sets : List (ℕ × ℕ)} (order : AreInOrder t set
       let same : total_below (λ k. f (set_in sets k)) (length sets) ≡ total_below (λ k. pos (size (set_in sets k)))
       (length sets) = total_below_same (λ k. f (set_in sets k)) (λ k. pos (size (set_in sets k))) (length sets)
       (λ k l. is_size (f (set_in sets k)) (high (set_in sets k) (sized k l).high (set_low k l))) in
-      let counted : pos (count (λ (set : ℕ × ℕ). size set.1) sets) ≡ total (λ (set : ℕ × ℕ). pos (size set.1)) sets =
-      count_total (λ (set : ℕ × ℕ). size set.1) sets in
-      let all : pos (count (λ (set : ℕ × ℕ). size set.1) sets)
-      ≡ pos (count_below (λ b. live_at (length t.hand) (λ i. get_or t.parts i 0) b * size b) (length t.up)) =
-      ap (λ (m : ℕ). pos m) (order.has.counts size) in
       let below : pos (count_below (λ b. live_at (length t.hand) (λ i. get_or t.parts i 0) b * size b) (length t.up))
       ≡ total_below (λ b. pos (live_at (length t.hand) (λ i. get_or t.parts i 0) b * size b)) (length t.up) =
       count_below_total (λ b. live_at (length t.hand) (λ i. get_or t.parts i 0) b * size b) (length t.up) in
@@ -149,7 +144,8 @@ module _ {t : ForestTables} {sets : List (ℕ × ℕ)} (order : AreInOrder t set
       total_below_same (λ b. pos (live_at (length t.hand) (λ i. get_or t.parts i 0) b * size b))
       (λ b. cond (nat_lt b (length t.hand)) (pos 0) (f b)) (length t.up)
       (λ b l. term b l (cases_lt b (length t.hand)) (cases_eq (get_or t.parts b 0) 0)) in
-      omega (arith, ints, places, same, counted, all, below, terms, split_at f (length t.hand) (length t.up) vertices)
+      omega (arith, ints, places, same, count_total (λ (set : ℕ × ℕ). size set.1) sets, ap (λ (m : ℕ). pos m)
+          (order.has.counts size), below, terms, split_at f (length t.hand) (length t.up) vertices)
     where
       size : ℕ → ℕ
       size b = unsigned_abs (f b)
@@ -172,16 +168,13 @@ module _ {t : ForestTables} {sets : List (ℕ × ℕ)} (order : AreInOrder t set
           ⊎ (get_or t.parts b 0 ≢ 0) → pos (live_at (length t.hand) (λ i. get_or t.parts i 0) b * size b)
           ≡ cond (nat_lt b (length t.hand)) (pos 0) (f b)
       term b l (inl low) y = nothing b (dead (nat_lt b (length t.hand)) (eqb (get_or t.parts b 0) 0)
-          (inl (lt-ltb b (length t.hand) low)))
-          ∙ sym (cond-true (nat_lt b (length t.hand)) (pos 0) (f b) (lt-ltb b (length t.hand) low))
+          (inl (lt-ltb b (length t.hand) low))) ∙ sym (cond-true _ _ _ (lt-ltb b (length t.hand) low))
       term b l (inr h) (inl off) = nothing b (dead (nat_lt b (length t.hand)) (eqb (get_or t.parts b 0) 0)
           (inr (eq-eqb (get_or t.parts b 0) 0 off))) ∙ (sym (none b h off)
-          ∙ sym (cond-false (nat_lt b (length t.hand)) (pos 0) (f b) (le-ltb b (length t.hand) h)))
-      term b l (inr h) (inr live) =
-          ap (λ (m : ℕ). pos (m * size b)) (live_one b h live)
-          ∙ ((let e : 1 * size b ≡ size b = omega arith in ap (λ (m : ℕ). pos m) e)
-          ∙ (sym (is_size (f b) (high b h l))
-          ∙ sym (cond-false (nat_lt b (length t.hand)) (pos 0) (f b) (le-ltb b (length t.hand) h))))
+          ∙ sym (cond-false _ _ _ (le-ltb b (length t.hand) h)))
+      term b l (inr h) (inr live) = ap (λ (m : ℕ). pos (m * size b)) (live_one b h live)
+          ∙ ((let e : 1 * size b ≡ size b = omega arith in ap (λ (m : ℕ). pos m) e) ∙ (sym (is_size (f b) (high b h l))
+          ∙ sym (cond-false _ _ _ (le-ltb b (length t.hand) h))))
 
 -- A list of entries was made in two parts.
 pub list_made : {up up1 up2 names names1 names2 : List ℕ} {n count : ℕ} (many : ℕ) (place : ℕ → ℕ) (old new : List ℕ)

@@ -77,10 +77,10 @@ module _ (t : ForestTables) (known : IsLaminar t) (sets : List (ℕ × ℕ)) (d 
   around_place x ne = place_of is.order (up x) (is.around x ne).0 (is.around x ne).1 (is.around x ne).2
 
   entry_none : {x : ℕ} → up x ≡ x → entry x ≡ 0
-  entry_none {x} e = cond-true (eqb (up x) x) 0 (get_or is.names (up x) 0) (eq-eqb (up x) x e)
+  entry_none {x} e = cond-true _ _ _ (eq-eqb (up x) x e)
 
   entry_some : (x k : ℕ) → up x ≢ x → k < m → set_in sets k ≡ up x → entry x ≡ suc k
-  entry_some x k ne l at = cond-false (eqb (up x) x) 0 (get_or is.names (up x) 0) (ne_eqb (up x) x ne)
+  entry_some x k ne l at = cond-false _ _ _ (ne_eqb (up x) x ne)
       ∙ (ap (λ b. get_or is.names b 0) (sym at) ∙ is.named k l)
 
   vertex_entry : (v : ℕ) → v < n → get_or d.up v 0 ≡ entry v
@@ -91,25 +91,23 @@ module _ (t : ForestTables) (known : IsLaminar t) (sets : List (ℕ × ℕ)) (d 
   name x = cond (nat_lt x n) 0 (get_or is.names x 0)
 
   name_vertex : (x : ℕ) → x < n → name x ≡ 0
-  name_vertex x l = cond-true (nat_lt x n) 0 (get_or is.names x 0) (lt-ltb x n l)
+  name_vertex x l = cond-true _ _ _ (lt-ltb x n l)
 
   name_set : (k : ℕ) → k < m → name (set_in sets k) ≡ suc k
-  name_set k l = cond-false (nat_lt (set_in sets k) n) 0 (get_or is.names (set_in sets k) 0)
-      (le-ltb (set_in sets k) n (sized is.order k l).high) ∙ is.named k l
+  name_set k l = cond-false _ _ _ (le-ltb (set_in sets k) n (sized is.order k l).high) ∙ is.named k l
 
   later : (j k : ℕ) → j < m → k < m → get_or t.rank (set_in sets j) 0 < get_or t.rank (set_in sets k) 0 → j < k
-  later j k lj lk less = by_order (cases_lt j k)
-    where
-      by_order : (j < k) ⊎ (k ≤ j) → j < k
-      by_order (inl l) = l
-      by_order (inr h) =
-          let rise : (get_or sets k (0, 0)).0 ≤ (get_or sets j (0, 0)).0 = is.order.increasing k j (0, 0) h lj in
-          absurd (omega (arith, rise, (sized is.order k lk).rank, (sized is.order j lj).rank, less))
+  later j k lj lk less = elim (cases_lt j k) [
+    | inl l ↦ l
+    | inr h ↦
+        (absurd (omega (arith, is.order.increasing k j (0, 0) h lj, (sized is.order k lk).rank,
+        (sized is.order j lj).rank, less)))
+  ]
 
   inner_later : (j x : ℕ) → j < m → set_in sets j ≡ x → (ne : up x ≢ x) → j < (around_place x ne).0
   inner_later j x l at ne = later j (around_place x ne).0 l (around_place x ne).1
       (subst (λ b. get_or t.rank b 0 < get_or t.rank (set_in sets (around_place x ne).0) 0) (sym at)
-      (subst (λ b. get_or t.rank x 0 < get_or t.rank b 0) (sym (around_place x ne).2) (known.rises x ne)))
+      (rw (around_place x ne).2 (known.rises x ne)))
 
   name_rises : (x : ℕ) → up x ≢ x → name x < name (up x)
   name_rises x ne = by_size (cases_lt x n)
@@ -118,12 +116,11 @@ module _ (t : ForestTables) (known : IsLaminar t) (sets : List (ℕ × ℕ)) (d 
       outer = ap name (sym (around_place x ne).2) ∙ name_set (around_place x ne).0 (around_place x ne).1
 
       by_size : (x < n) ⊎ (n ≤ x) → name x < name (up x)
-      by_size (inl l) = (let z : name x ≡ 0 = name_vertex x l in omega (arith, outer, z))
+      by_size (inl l) = omega (arith, outer, name_vertex x l)
       by_size (inr h) = placed (place_of is.order x h (is.inner x ne) (is.live x ne h))
         where
           placed : (j : ℕ) × (j < m) × (set_in sets j ≡ x) → name x < name (up x)
-          placed w = (let here : name x ≡ suc w.0 = ap name (sym w.2) ∙ name_set w.0 w.1 in
-              omega (arith, outer, here, inner_later w.0 x w.1 w.2 ne))
+          placed w = omega (arith, outer, ap name (sym w.2) ∙ name_set w.0 w.1, inner_later w.0 x w.1 w.2 ne)
 
   module _ (k : ℕ) (low : k < m) where
     abbrev b : ℕ
@@ -147,7 +144,7 @@ module _ (t : ForestTables) (known : IsLaminar t) (sets : List (ℕ × ℕ)) (d 
         placed ne w = ap (λ z. list_any here (sets_from n d.up (suc most) z)) (entry_some x w.0 ne w.1 w.2)
             ∙ (ap (λ z. here w.0 || list_any here (sets_from n d.up most z)) (is.entries.sets w.0 w.1 ∙ ap entry w.2)
             ∙ (ap (λ s. s || list_any here (sets_from n d.up most (entry (up x)))) same
-            ∙ (rest ∙ sym (cond-false (eqb (up x) x) false (climbs up most b (up x)) (ne_eqb (up x) x ne)))))
+            ∙ (rest ∙ sym (cond-false _ _ _ (ne_eqb (up x) x ne)))))
           where
             same : here w.0 ≡ eqb (up x) b
             same = same_test (here w.0) (eqb (up x) b)
@@ -159,7 +156,7 @@ module _ (t : ForestTables) (known : IsLaminar t) (sets : List (ℕ × ℕ)) (d 
         by_up : (up x ≡ x) ⊎ (up x ≢ x) → list_any here (sets_from n d.up (suc most) (entry x))
             ≡ cond (eqb (up x) x) false (climbs up most b (up x))
         by_up (inl e) = ap (λ z. list_any here (sets_from n d.up (suc most) z)) (entry_none e)
-            ∙ sym (cond-true (eqb (up x) x) false (climbs up most b (up x)) (eq-eqb (up x) x e))
+            ∙ sym (cond-true _ _ _ (eq-eqb (up x) x e))
         by_up (inr ne) = placed ne (around_place x ne)
 
     any_rest : (more x : ℕ) → leads more (up x)
@@ -168,11 +165,9 @@ module _ (t : ForestTables) (known : IsLaminar t) (sets : List (ℕ × ℕ)) (d 
       where
         by_next : (up (up x) ≡ up x) ⊎ (up (up x) ≢ up x) → (eqb (up x) b || cond (eqb (up (up x)) (up x)) false
             (climbs up more b (up (up x)))) ≡ climbs up (suc more) b (up x)
-        by_next (inl e) = ap (λ s. eqb (up x) b || s) (cond-true (eqb (up (up x)) (up x)) false
-            (climbs up more b (up (up x))) (eq-eqb (up (up x)) (up x) e))
+        by_next (inl e) = ap (λ s. eqb (up x) b || s) (cond-true _ _ _ (eq-eqb (up (up x)) (up x) e))
             ∙ (or_false (eqb (up x) b) ∙ sym (climbs_still up (suc more) b e))
-        by_next (inr ne) = ap (λ s. eqb (up x) b || s)
-            (cond-false (eqb (up (up x)) (up x)) false (climbs up more b (up (up x))) (ne_eqb (up (up x)) (up x) ne))
+        by_next (inr ne) = ap (λ s. eqb (up x) b || s) (cond-false _ _ _ (ne_eqb (up (up x)) (up x) ne))
 
     any_is : (most x : ℕ) → leads most x
     any_is zero x = any_step zero x (or_false (eqb (up x) b))
@@ -192,9 +187,9 @@ module _ (t : ForestTables) (known : IsLaminar t) (sets : List (ℕ × ℕ)) (d 
             ∙ (by_up (cases_eq (up v) v) ∙ sym (ap (λ s. s || climbs up z b (up v)) (ne_eqb v b other)))
           where
             by_up : (up v ≡ v) ⊎ (up v ≢ v) → cond (eqb (up v) v) false (climbs up z b (up v)) ≡ climbs up z b (up v)
-            by_up (inl s) = cond-true (eqb (up v) v) false (climbs up z b (up v)) (eq-eqb (up v) v s)
+            by_up (inl s) = cond-true _ _ _ (eq-eqb (up v) v s)
                 ∙ sym (climbs_still up z b (ap up s) ∙ ne_eqb (up v) b (λ x. other (sym s ∙ x)))
-            by_up (inr ne) = cond-false (eqb (up v) v) false (climbs up z b (up v)) (ne_eqb (up v) v ne)
+            by_up (inr ne) = cond-false _ _ _ (ne_eqb (up v) v ne)
 
         enough : climbs up m b v ≡ climbs up n b v
         enough = same_test (climbs up m b v) (climbs up n b v)
@@ -202,8 +197,7 @@ module _ (t : ForestTables) (known : IsLaminar t) (sets : List (ℕ × ℕ)) (d 
             in_where n up (λ z. get_or t.rank z 0) known.rises v w.0
             (known.low b (set_low is.order k low) (inr (sized is.order k low).live)) w.1))
             (λ on. (let w : (i : ℕ) × (walk up v i ≡ b) = climbs_place up n b v on in
-            in_where m up name name_rises v w.0 (let e : name b ≡ suc k = name_set k low in
-            omega (arith, e, low)) w.1))
+            in_where m up name name_rises v w.0 (omega (arith, name_set k low, low)) w.1))
 
     pub z_is : z_at d k ≡ f.weight b
     z_is = is.z.each k low
@@ -219,10 +213,10 @@ module _ (t : ForestTables) (known : IsLaminar t) (sets : List (ℕ × ℕ)) (d 
     are = are_darts small.lawful
 
     high_in : (b : ℕ) → n ≤ b → g.n ≤ b
-    high_in b h = subst (λ x. x ≤ b) valid.vertices h
+    high_in b h = rw valid.vertices at h
 
     low_in : (v : ℕ) → v < g.n → v < n
-    low_in v l = subst (λ x. v < x) (sym valid.vertices) l
+    low_in v l = rw valid.vertices l
 
     weights_high : (b : ℕ) → n ≤ b → b < length t.up → pos 0 ≤ℤ f.weight b
     weights_high b h l = valid.valid.feasible.sets b (high_in b h) l
@@ -245,7 +239,7 @@ module _ (t : ForestTables) (known : IsLaminar t) (sets : List (ℕ × ℕ)) (d 
     dual_is = record {
       vertices = is.y.size;
       y = y_is;
-      sets = λ k l. (let low : k < m = subst (λ x. k < x) sets_many l in (
+      sets = λ k l. (let low : k < m = (rw sets_many at l) in (
         set_in sets k,
         (sized is.order k low).high,
         (sized is.order k low).live,
@@ -305,8 +299,7 @@ module _ (t : ForestTables) (known : IsLaminar t) (sets : List (ℕ × ℕ)) (d 
       where
         only : (a : ℕ) → a < n → total_below (λ w. cond (eqb w a) (f.weight w) (pos 0)) n ≡ f.weight a
         only a l = total_below_one (λ w. cond (eqb w a) (f.weight w) (pos 0)) n a l
-            (λ k lk off. cond-false (eqb k a) (f.weight k) (pos 0) (ne_eqb k a off))
-            ∙ cond-true (eqb a a) (f.weight a) (pos 0) (eq-eqb a a refl)
+            (λ k lk off. cond-false _ _ _ (ne_eqb k a off)) ∙ cond-true _ _ _ (eq-eqb a a refl)
 
         each : (w : ℕ) → w < n → cond (splits (f.holds w) u v) (f.weight w) (pos 0)
             ≡ cond (eqb w u) (f.weight w) (pos 0) +ℤ cond (eqb w v) (f.weight w) (pos 0)
@@ -374,23 +367,19 @@ module _ (t : ForestTables) (known : IsLaminar t) (sets : List (ℕ × ℕ)) (d 
     edge_loaded : (e : ℕ) → e < length g.edges → dual_load g.n d (edge_at g e) ≤ℤ (pos 2 *ℤ (edge_at g e).cost)
     edge_loaded e l =
         let low : 2 * e < (darts_of g).count = omega (arith, l) in
-        let here : weight_between f ((darts_of g).near (2 * e)) ((darts_of g).near ((darts_of g).twin (2 * e))) ≤ℤ
-        ((darts_of g).cost (2 * e) +ℤ (darts_of g).cost (2 * e)) = valid.valid.feasible.darts (2 * e) low in
         let ends : weight_between f ((darts_of g).near (2 * e)) ((darts_of g).near ((darts_of g).twin (2 * e)))
         ≡ weight_between f (edge_at g e).u (edge_at g e).v =
         ap (λ x. weight_between f x ((darts_of g).near ((darts_of g).twin (2 * e)))) (dart_near g e)
         ∙ ap (weight_between f (edge_at g e).u) (dart_far g e) in
-        let cost : (darts_of g).cost (2 * e) ≡ (edge_at g e).cost = dart_cost g e in
-        omega (arith, ints, here, ends, cost, load_is e l)
+        omega (arith, ints, valid.valid.feasible.darts (2 * e) low, ends, dart_cost g e, load_is e l)
 
     -- The dual says yes.
     pub says_yes : SaysYes g d
     says_yes = record {
       numbers = is.y.size ∙ valid.vertices;
       nested = nested;
-      odd = λ k l. size_odd k (subst (λ x. k < x) sets_many l);
-      positive = λ k l. (let low : k < m = subst (λ x. k < x) sets_many l in
-          subst (λ (x : ℤ). pos 0 ≤ℤ x) (sym (z_is k low))
-          (weights_high (set_in sets k) (sized is.order k low).high (set_low is.order k low)));
+      odd = λ k l. size_odd k (rw sets_many at l);
+      positive = λ k l. (let low : k < m = (rw sets_many at l) in
+          (rw (z_is k low) (weights_high (set_in sets k) (sized is.order k low).high (set_low is.order k low))));
       loaded = edge_loaded;
     }

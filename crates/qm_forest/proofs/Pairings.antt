@@ -22,7 +22,7 @@ term_low f zero k l = absurd (omega (arith, l))
 term_low f (suc n) k l = by_last (cases_eq k n) (λ lk. term_low f n k lk)
   where
     by_last : (k ≡ n) ⊎ (k ≢ n) → (k < n → f k ≤ count_below f n) → f k ≤ count_below f n + f n
-    by_last (inl e) more = (let same : f k ≡ f n = ap f e in omega (arith, same))
+    by_last (inl e) more = omega (arith, ap f e)
     by_last (inr ne) more = (let h : f k ≤ count_below f n = more (omega (arith, l, ne)) in omega (arith, h))
 
 pub count_more : (f g : ℕ → ℕ) (n x : ℕ) → x < n → f x ≡ 0 → ((k : ℕ) → k < n → k ≢ x → g k ≡ f k)
@@ -30,13 +30,13 @@ pub count_more : (f g : ℕ → ℕ) (n x : ℕ) → x < n → f x ≡ 0 → ((k
 count_more f g n x l none same = count_below_same g (λ k. f k + cond (eqb k x) (g k) 0) n
     (λ k lk. each k lk (cases_eq k x)) ∙ (count_below_sum f (λ k. cond (eqb k x) (g k) 0) n
     ∙ ap (λ m. count_below f n + m) (count_below_one (λ k. cond (eqb k x) (g k) 0) n x l
-    (λ k lk ne. cond-false (eqb k x) (g k) 0 (ne_eqb k x ne)) ∙ cond-true (eqb x x) (g x) 0 (eq-eqb x x refl)))
+    (λ k lk ne. cond-false _ _ _ (ne_eqb k x ne)) ∙ cond-true _ _ _ (eq-eqb x x refl)))
   where
     each : (k : ℕ) → k < n → (k ≡ x) ⊎ (k ≢ x) → g k ≡ f k + cond (eqb k x) (g k) 0
     each k lk (inl e) = (let z : f k ≡ 0 = ap f e ∙ none in let s : cond (eqb k x) (g k) 0 ≡ g k =
-        cond-true (eqb k x) (g k) 0 (eq-eqb k x e) in omega (arith, z, s))
+        cond-true _ _ _ (eq-eqb k x e) in omega (arith, z, s))
     each k lk (inr ne) = (let h : g k ≡ f k = same k lk ne in let s : cond (eqb k x) (g k) 0 ≡ 0 =
-        cond-false (eqb k x) (g k) 0 (ne_eqb k x ne) in omega (arith, h, s))
+        cond-false _ _ _ (ne_eqb k x ne) in omega (arith, h, s))
 
 pub option_cases : (o : Option ℕ) → (o ≡ None) ⊎ ((v : ℕ) × (o ≡ Some v))
 option_cases None = inl refl
@@ -53,28 +53,22 @@ module _ (t : ForestTables) (vertices : length t.hand ≤ length t.up)
   -- One set more waits.
   entered_more : (left : List (Option ℕ)) (x u b : ℕ) → x < length left → (n ≤ x → get_or left x None ≡ None)
       → (x < n → waits_but t b x u ≡ 0) → waiting t (entered n left x u) b ≡ waiting t left b + waits_but t b x u
-  entered_more left x u b low free zero' = by_size (cases_lt x n)
-    where
-      by_size : (x < n) ⊎ (n ≤ x) → waiting t (entered n left x u) b ≡ waiting t left b + waits_but t b x u
-      by_size (inl l) = (let z : waits_but t b x u ≡ 0 = zero' l in
-          ap (λ xs. waiting t xs b) (cond-true (nat_lt x n) left (set left x (Some u)) (lt-ltb x n l))
-          ∙ (let e : waiting t left b ≡ waiting t left b + waits_but t b x u = omega (arith, z) in e))
-      by_size (inr h) =
-          ap (λ xs. waiting t xs b) (cond-false (nat_lt x n) left (set left x (Some u)) (le-ltb x n h))
-          ∙ (ap (count_below (λ c. waits_for t b c (get_or (set left x (Some u)) c None))) (length-set left x (Some u))
-          ∙ (count_more (λ c. waits_for t b c (get_or left c None))
-          (λ c. waits_for t b c (get_or (set left x (Some u)) c None)) (length left) x low
-          (ap (waits_for t b x) (free h))
-          (λ c lc ne. ap (waits_for t b c) (get_or-set_other left x c (Some u) None ne))
-          ∙ ap (λ (o : Option ℕ). waiting t left b + waits_for t b x o) (get_or-set_same left x (Some u) None low)))
+  entered_more left x u b low free zero' = elim (cases_lt x n) [
+    | inl l ↦ (ap (λ xs. waiting t xs b) (cond-true _ _ _ (lt-ltb x n l))
+        ∙ (let e : waiting t left b ≡ waiting t left b + waits_but t b x u = omega (arith, zero' l) in e))
+    | inr h ↦ ap (λ xs. waiting t xs b) (cond-false _ _ _ (le-ltb x n h))
+        ∙ (ap (count_below (λ c. waits_for t b c (get_or (set left x (Some u)) c None))) (length-set left x (Some u))
+        ∙ (count_more (λ c. waits_for t b c (get_or left c None))
+        (λ c. waits_for t b c (get_or (set left x (Some u)) c None)) (length left) x low (ap (waits_for t b x) (free h))
+        (λ c lc ne. ap (waits_for t b c) (get_or-set_other left x c (Some u) None ne))
+        ∙ ap (λ (o : Option ℕ). waiting t left b + waits_for t b x o) (get_or-set_same left x (Some u) None low)))
+  ]
 
   pub entered_size : (left : List (Option ℕ)) (x u : ℕ) → length (entered n left x u) ≡ length left
-  entered_size left x u = by_size (cases_lt x n)
-    where
-      by_size : (x < n) ⊎ (n ≤ x) → length (entered n left x u) ≡ length left
-      by_size (inl l) = ap length (cond-true (nat_lt x n) left (set left x (Some u)) (lt-ltb x n l))
-      by_size (inr h) = ap length (cond-false (nat_lt x n) left (set left x (Some u)) (le-ltb x n h))
-          ∙ length-set left x (Some u)
+  entered_size left x u = elim (cases_lt x n) [
+    | inl l ↦ ap length (cond-true _ _ _ (lt-ltb x n l))
+    | inr h ↦ ap length (cond-false _ _ _ (le-ltb x n h)) ∙ length-set left x (Some u)
+  ]
 
   -- Each entry is the new one, or was there.
   pub entry_cases : (left : List (Option ℕ)) (x u c : ℕ) → x < length left
@@ -84,16 +78,14 @@ module _ (t : ForestTables) (vertices : length t.hand ≤ length t.up)
     where
       by_size : (x < n) ⊎ (n ≤ x) → (c ≡ x) ⊎ (c ≢ x) → ((n ≤ x) × (c ≡ x)
           × (get_or (entered n left x u) c None ≡ Some u)) ⊎ (get_or (entered n left x u) c None ≡ get_or left c None)
-      by_size (inl l) y = inr (ap (λ xs. get_or xs c None) (cond-true (nat_lt x n) left (set left x (Some u))
-          (lt-ltb x n l)))
+      by_size (inl l) y = inr (ap (λ xs. get_or xs c None) (cond-true _ _ _ (lt-ltb x n l)))
       by_size (inr h) (inl e) = inl (
         h,
         e,
-        ap (λ xs. get_or xs c None) (cond-false (nat_lt x n) left (set left x (Some u)) (le-ltb x n h))
+        ap (λ xs. get_or xs c None) (cond-false _ _ _ (le-ltb x n h))
             ∙ (ap (λ k. get_or (set left x (Some u)) k None) e ∙ get_or-set_same left x (Some u) None low),
       )
-      by_size (inr h) (inr ne) =
-          inr (ap (λ xs. get_or xs c None) (cond-false (nat_lt x n) left (set left x (Some u)) (le-ltb x n h))
+      by_size (inr h) (inr ne) = inr (ap (λ xs. get_or xs c None) (cond-false _ _ _ (le-ltb x n h))
           ∙ get_or-set_other left x c (Some u) None ne)
 
   module _ (marks : List Bool) (left : List (Option ℕ)) (x y d : ℕ) (rest due : ℕ → ℕ) (size_marks : length t.near
@@ -115,76 +107,67 @@ module _ (t : ForestTables) (vertices : length t.hand ≤ length t.up)
     -- The edge's ends are those of the dart, in one order or the other.
     sides : (b : ℕ) → splits ((forest_of t).holds b) (near_at t (2 * e)) (near_at t (2 * e + 1))
         ≡ splits ((forest_of t).holds b) u v
-    sides b = by_side (cases_eq (d % 2) 0)
-      where
-        by_side : (d % 2 ≡ 0) ⊎ (d % 2 ≢ 0) → splits ((forest_of t).holds b) (near_at t (2 * e)) (near_at t (2 * e + 1))
-            ≡ splits ((forest_of t).holds b) u v
-        by_side (inl z) =
-            let first : 2 * e ≡ d = omega (arith, z) in
-            let second : 2 * e + 1 ≡ other_dart d = (let s : 2 * e + 1 ≡ d + 1 = omega (arith, z) in
-            s ∙ sym (twin_even d z)) in
-            ap (λ k. splits ((forest_of t).holds b) (near_at t k) (near_at t (2 * e + 1))) first
-            ∙ ap (λ k. splits ((forest_of t).holds b) u (near_at t k)) second
-        by_side (inr nz) =
-            let first : 2 * e ≡ other_dart d = (let s : 2 * e ≡ d - 1 = omega (arith, nz) in s ∙ sym (twin_odd d nz)) in
-            let second : 2 * e + 1 ≡ d = omega (arith, nz) in
-            ap (λ k. splits ((forest_of t).holds b) (near_at t k) (near_at t (2 * e + 1))) first
-            ∙ (ap (λ k. splits ((forest_of t).holds b) v (near_at t k)) second
-            ∙ by_order ((forest_of t).holds b v) ((forest_of t).holds b u))
+    sides b = elim (cases_eq (d % 2) 0) [
+      | inl z ↦ (let first : 2 * e ≡ d = omega (arith, z) in
+          let second : 2 * e + 1 ≡ other_dart d = (let s : 2 * e + 1 ≡ d + 1 = omega (arith, z) in
+          s ∙ sym (twin_even d z)) in
+          ap (λ k. splits ((forest_of t).holds b) (near_at t k) (near_at t (2 * e + 1))) first
+          ∙ ap (λ k. splits ((forest_of t).holds b) u (near_at t k)) second)
+      | inr nz ↦
+          (let first : 2 * e ≡ other_dart d = (let s : 2 * e ≡ d - 1 = omega (arith, nz) in s ∙ sym (twin_odd d nz)) in
+          let second : 2 * e + 1 ≡ d = omega (arith, nz) in
+          ap (λ k. splits ((forest_of t).holds b) (near_at t k) (near_at t (2 * e + 1))) first
+          ∙ (ap (λ k. splits ((forest_of t).holds b) v (near_at t k)) second
+          ∙ by_order ((forest_of t).holds b v) ((forest_of t).holds b u)))
+    ]
 
     low_u : u < length t.up
     low_u = omega (arith, pairing.near_low, vertices)
 
     -- The edge was not chosen.
     fresh : get_or marks e false ≡ false
-    fresh = by_test (cases_Bool (get_or marks e false))
-      where
-        by_test : (get_or marks e false ≡ true) ⊎ (get_or marks e false ≡ false) → get_or marks e false ≡ false
-        by_test (inr off) = off
-        by_test (inl on) =
-            let at_u : splits ((forest_of t).holds u) u v ≡ true = ap (λ (s : Bool). cond s
-            (not ((forest_of t).holds u v)) ((forest_of t).holds u v)) (alone u u pairing.near_low pairing.near_low
-            ∙ eq-eqb u u refl) ∙ ap not (alone u v pairing.near_low pairing.far_low ∙ ne_eqb u v pairing.apart) in
-            let one : bool_number (get_or marks e false && splits ((forest_of t).holds u) (near_at t (2 * e))
-            (near_at t (2 * e + 1))) ≡ 1 =
-            ap (λ (s : Bool). bool_number (s && splits ((forest_of t).holds u) (near_at t (2 * e))
-            (near_at t (2 * e + 1)))) on ∙ ap bool_number (sides u ∙ at_u) in
-            let some : bool_number (get_or marks e false && splits ((forest_of t).holds u) (near_at t (2 * e))
-            (near_at t (2 * e + 1))) ≤ leaving t marks u =
-            term_low (λ k. bool_number (get_or marks k false && splits ((forest_of t).holds u) (near_at t (2 * k))
-            (near_at t (2 * k + 1)))) (length marks) e e_low in
-            let in_x : bool_number (within t u x) ≡ 1 = ap bool_number pairing.near_held in
-            absurd (omega (arith, one, some, in_x, round.each u low_u, round.once u pairing.near_low))
+    fresh = elim (cases_Bool (get_or marks e false)) [
+      | inr off ↦ off
+      | inl on ↦ (let at_u : splits ((forest_of t).holds u) u v ≡ true = ap (λ (s : Bool). cond s
+          (not ((forest_of t).holds u v)) ((forest_of t).holds u v)) (alone u u pairing.near_low pairing.near_low
+          ∙ eq-eqb u u refl) ∙ ap not (alone u v pairing.near_low pairing.far_low ∙ ne_eqb u v pairing.apart) in
+          let one : bool_number (get_or marks e false && splits ((forest_of t).holds u) (near_at t (2 * e))
+          (near_at t (2 * e + 1))) ≡ 1 =
+          ap (λ (s : Bool). bool_number (s && splits ((forest_of t).holds u) (near_at t (2 * e))
+          (near_at t (2 * e + 1)))) on ∙ ap bool_number (sides u ∙ at_u) in
+          let some : bool_number (get_or marks e false && splits ((forest_of t).holds u) (near_at t (2 * e))
+          (near_at t (2 * e + 1))) ≤ leaving t marks u =
+          term_low (λ k. bool_number (get_or marks k false && splits ((forest_of t).holds u) (near_at t (2 * k))
+          (near_at t (2 * k + 1)))) (length marks) e e_low in
+          absurd (omega (arith, one, some, ap bool_number pairing.near_held, round.each u low_u, round.once u pairing.near_low)))
+    ]
 
     -- Neither blossom waited.
     free_of : (c w : ℕ) → c < length t.up → (n ≤ c → get_or t.parts c 0 ≢ 0)
         → ((b : ℕ) → bool_number (within t b c) ≤ bool_number (within t b x) + bool_number (within t b y)) → n ≤ c
         → get_or left c None ≡ None
-    free_of c w low live covered high = by_entry (option_cases (get_or left c None))
-      where
-        by_entry : (get_or left c None ≡ None) ⊎ ((s : ℕ) × (get_or left c None ≡ Some s)) → get_or left c None ≡ None
-        by_entry (inl none) = none
-        by_entry (inr s) =
-            let other : (z : ℕ) × (z < n) × (z ≢ s.0) × ((forest_of t).holds c z ≡ true) =
-            more c s.0 high low (live high) in
-            let entry : IsEntry t c s.0 = round.entry c s.0 s.1 in
-            let waits : waits_for t other.0 c (get_or left c None) ≡ 1 = ap (waits_for t other.0 c) s.1
-            ∙ (ap (λ (q : Bool). cond q (cond ((forest_of t).holds other.0 s.0) 0 1) 0) other.3
-            ∙ ap (λ (q : Bool). cond q 0 1) (alone other.0 s.0 other.1 entry.low ∙ ne_eqb other.0 s.0 other.2)) in
-            let some : waits_for t other.0 c (get_or left c None) ≤ waiting t left other.0 =
-            term_low (λ k. waits_for t other.0 k (get_or left k None)) (length left) c
-            (subst (λ m. c < m) (sym size_left) low) in
-            let in_c : bool_number (within t other.0 c) ≡ 1 = ap bool_number other.3 in
-            let low_z : other.0 < length t.up = omega (arith, other.1, vertices) in
-            absurd (omega (
-              arith,
-              waits,
-              some,
-              in_c,
-              covered other.0,
-              round.each other.0 low_z,
-              round.once other.0 other.1,
-            ))
+    free_of c w low live covered high = elim (option_cases (get_or left c None)) [
+      | inl none ↦ none
+      | inr s ↦ (let other : (z : ℕ) × (z < n) × (z ≢ s.0) × ((forest_of t).holds c z ≡ true) =
+          more c s.0 high low (live high) in
+          let entry : IsEntry t c s.0 = round.entry c s.0 s.1 in
+          let waits : waits_for t other.0 c (get_or left c None) ≡ 1 = ap (waits_for t other.0 c) s.1
+          ∙ (ap (λ (q : Bool). cond q (cond ((forest_of t).holds other.0 s.0) 0 1) 0) other.3
+          ∙ ap (λ (q : Bool). cond q 0 1) (alone other.0 s.0 other.1 entry.low ∙ ne_eqb other.0 s.0 other.2)) in
+          let some : waits_for t other.0 c (get_or left c None) ≤ waiting t left other.0 =
+          term_low (λ k. waits_for t other.0 k (get_or left k None)) (length left) c (rw size_left low) in
+          let in_c : bool_number (within t other.0 c) ≡ 1 = ap bool_number other.3 in
+          let low_z : other.0 < length t.up = omega (arith, other.1, vertices) in
+          absurd (omega (
+          arith,
+          waits,
+          some,
+          in_c,
+          covered other.0,
+          round.each other.0 low_z,
+          round.once other.0 other.1,
+          )))
+    ]
 
     free_x : n ≤ x → get_or left x None ≡ None
     free_x = free_of x u pairing.low_x pairing.live_x (λ b. omega arith)
@@ -193,26 +176,24 @@ module _ (t : ForestTables) (vertices : length t.hand ≤ length t.up)
     free_y = free_of y v pairing.low_y pairing.live_y (λ b. omega arith)
 
     zero_at : (c w b : ℕ) → (forest_of t).holds c w ≡ true → c < n → waits_but t b c w ≡ 0
-    zero_at c w b held low = by_test (cases_Bool (within t b c))
-      where
-        by_test : (within t b c ≡ true) ⊎ (within t b c ≡ false) → waits_but t b c w ≡ 0
-        by_test (inr off) = ap (λ (s : Bool). cond s (cond ((forest_of t).holds b w) 0 1) 0) off
-        by_test (inl on) = ap (λ (s : Bool). cond s (cond ((forest_of t).holds b w) 0 1) 0) on
-            ∙ ap (λ (s : Bool). cond s 0 1) (ap (λ z. (forest_of t).holds z w) (own b c low on) ∙ held)
+    zero_at c w b held low = elim (cases_Bool (within t b c)) [
+      | inr off ↦ ap (λ (s : Bool). cond s (cond ((forest_of t).holds b w) 0 1) 0) off
+      | inl on ↦ ap (λ (s : Bool). cond s (cond ((forest_of t).holds b w) 0 1) 0) on
+          ∙ ap (λ (s : Bool). cond s 0 1) (ap (λ z. (forest_of t).holds z w) (own b c low on) ∙ held)
+    ]
 
     abbrev first_left : List (Option ℕ)
     first_left = entered n left x u
 
     free_y2 : n ≤ y → get_or first_left y None ≡ None
-    free_y2 high = elim (entry_cases left x u y (subst (λ m. x < m) (sym size_left) pairing.low_x))
+    free_y2 high = elim (entry_cases left x u y (rw size_left pairing.low_x))
         [ inl w ↦ absurd (pairing.other (sym w.1)) | inr same ↦ same ∙ free_y high ]
 
     waiting_now : (b : ℕ) → waiting t (entered n first_left y v) b ≡ (waiting t left b + waits_but t b x u) + waits_but
         t b y v
-    waiting_now b = entered_more first_left y v b (subst (λ m. y < m) (sym (entered_size left x u ∙ size_left))
-        pairing.low_y) free_y2 (zero_at y v b pairing.far_held) ∙ ap (λ m. m + waits_but t b y v)
-        (entered_more left x u b (subst (λ m. x < m) (sym size_left) pairing.low_x) free_x
-        (zero_at x u b pairing.near_held))
+    waiting_now b = entered_more first_left y v b (rw (entered_size left x u ∙ size_left) pairing.low_y) free_y2
+        (zero_at y v b pairing.far_held) ∙ ap (λ m. m + waits_but t b y v)
+        (entered_more left x u b (rw size_left pairing.low_x) free_x (zero_at x u b pairing.near_held))
 
     leaving_now : (b : ℕ) → leaving t (set marks e true) b
         ≡ leaving t marks b + bool_number (splits ((forest_of t).holds b) u v)
@@ -229,8 +210,7 @@ module _ (t : ForestTables) (vertices : length t.hand ≤ length t.up)
         (near_at t (2 * e + 1)))) (get_or-set_same marks e true false e_low) ∙ ap bool_number (sides b)))
 
     entry_now : (c w : ℕ) → get_or (entered n first_left y v) c None ≡ Some w → IsEntry t c w
-    entry_now c w is = by_last
-        (entry_cases first_left y v c (subst (λ m. y < m) (sym (entered_size left x u ∙ size_left)) pairing.low_y))
+    entry_now c w is = by_last (entry_cases first_left y v c (rw (entered_size left x u ∙ size_left) pairing.low_y))
       where
         made : (z s : ℕ) → (n ≤ z) → c ≡ z → (n ≤ z → get_or t.parts z 0 ≢ 0) → s < n → (forest_of t).holds z s ≡ true
             → s ≡ w → IsEntry t c w
@@ -246,19 +226,12 @@ module _ (t : ForestTables) (vertices : length t.hand ≤ length t.up)
         by_last : ((n ≤ y) × (c ≡ y) × (get_or (entered n first_left y v) c None ≡ Some v))
             ⊎ (get_or (entered n first_left y v) c None ≡ get_or first_left c None) → IsEntry t c w
         by_last (inl s) = made y v s.0 s.1 pairing.live_y pairing.far_low pairing.far_held (some_is v w (sym s.2 ∙ is))
-        by_last (inr same) = by_first (sym same ∙ is)
-            (entry_cases left x u c (subst (λ m. x < m) (sym size_left) pairing.low_x))
+        by_last (inr same) = by_first (sym same ∙ is) (entry_cases left x u c (rw size_left pairing.low_x))
 
     pub paired_round : IsRound t (set marks (d / 2) true)
         (entered (length t.hand) (entered (length t.hand) left x (near_at t d)) y (far_at t d)) rest due
     paired_round = record {
-      each = λ b l. (let law : bool_number (splits ((forest_of t).holds b) u v)
-          + (waits_but t b x u + waits_but t b y v) ≡ bool_number (within t b x) + bool_number (within t b y) =
-          pairing.law b l in
-          let was : leaving t marks b
-          + (waiting t left b + ((bool_number (within t b x) + bool_number (within t b y)) + rest b)) ≡ due b =
-          round.each b l in
-          omega (arith, law, was, leaving_now b, waiting_now b));
+      each = λ b l. (omega (arith, pairing.law b l, round.each b l, leaving_now b, waiting_now b));
       entry = entry_now;
       once = round.once;
       tight = λ g is valid k on. tight_now g is valid k on (cases_eq k e);
@@ -268,11 +241,10 @@ module _ (t : ForestTables) (vertices : length t.hand ≤ length t.up)
             ≡ true → (k ≡ e) ⊎ (k ≢ e) → IsTight (darts_of g) (forest_of t) (2 * k)
         tight_now g is valid k on (inr ne) = round.tight g is valid k (sym (get_or-set_other marks e k true false ne)
             ∙ on)
-        tight_now g is valid k on (inl at) = by_side (cases_eq (d % 2) 0)
-          where
-            by_side : (d % 2 ≡ 0) ⊎ (d % 2 ≢ 0) → IsTight (darts_of g) (forest_of t) (2 * k)
-            by_side (inl z) = (let s : d ≡ 2 * k = omega (arith, z, at) in
-                subst (IsTight (darts_of g) (forest_of t)) s (pairing.tight g is valid))
-            by_side (inr nz) = (let s : d - 1 ≡ 2 * k = omega (arith, nz, at) in
-                subst (IsTight (darts_of g) (forest_of t)) (twin_odd d nz ∙ s)
-                (tight_twin (are_darts is.lawful) (pairing.tight g is valid)))
+        tight_now g is valid k on (inl at) = elim (cases_eq (d % 2) 0) [
+          | inl z ↦ (let s : d ≡ 2 * k = omega (arith, z, at) in
+              subst (IsTight (darts_of g) (forest_of t)) s (pairing.tight g is valid))
+          | inr nz ↦ (let s : d - 1 ≡ 2 * k = omega (arith, nz, at) in
+              subst (IsTight (darts_of g) (forest_of t)) (twin_odd d nz ∙ s)
+              (tight_twin (are_darts is.lawful) (pairing.tight g is valid)))
+        ]

@@ -114,7 +114,7 @@ module _ {h h2 : Handles} {l : Lists} {r r2 : Rings} {trail : Trail} {w : Weight
   hand_apart : (v k : ℕ) → v < n → inside (fresh v) ≡ false → k < many → leader k ≢ get_or t.hand v 0
   hand_apart v k lv off lk same =
       let in_b : out (leader k) ≡ b = out_in way (leader k) (leader_in way k lk).0
-          (ap inside (leader_fresh way k lk) ∙ at_in way k lk) in
+      (ap inside (leader_fresh way k lk) ∙ at_in way k lk) in
       never way v n lv (sym (out_off way v lv off)
       ∙ (sym (leader_out tied.nest v lv) ∙ (ap out (sym (same ∙ tied.nest.led v lv)) ∙ in_b)))
 
@@ -185,9 +185,9 @@ module _ {h h2 : Handles} {l : Lists} {r r2 : Rings} {trail : Trail} {w : Weight
           rw (p.hand, tied.sizes.top) (leader_in way p.place p.low).0)
       | inr off ↦ rw (hand_off v lv off) (tied.nest.hands v lv)
     ]);
-    outs = λ k lk. subst (λ x. x < length t.up) (sym (ap (λ (f : ℕ → ℕ). f k) handed.top))
-        (writes_has (λ x. x < length t.up) _ leader at many k ready.row.low
-        (tied.nest.outs k (rw handed.tops at lk)));
+    outs = λ k lk. (rw (ap (λ (f : ℕ → ℕ). f k) handed.top) (writes_has
+        (λ x. x < length t.up) _ leader at many k ready.row.low
+        (tied.nest.outs k (rw handed.tops at lk))));
     ups = λ x lx. rw (read_nat r2.up.items x 0 x (rw opened.size lx)) (elim (cases_Bool (inside x)) [
       | inl on ↦ rw (up_in way x on) lx
       | inr off ↦ rw (up_off way x off, read_nat t.up x x 0 lx) (tied.nest.ups x lx)

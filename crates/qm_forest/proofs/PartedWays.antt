@@ -208,10 +208,9 @@ module _ {t : ForestTables} {hid : HiddenTables} {b : ℕ} {up2 : List ℕ} (way
   pub part_outside : (x : ℕ) → inside x ≡ true → label_at t.label x ≡ Outside
   part_outside x on = elim (label_cases (label_at t.label x)) [
     | inl e ↦ e
-    | inr named ↦
-        (let w : (k : ℕ) × (k < length t.trail) × (out (get_or t.trail k 0) ≡ x) = tied.trail.named x named in
-        let top : up_at t.up x ≡ x = subst (λ y. up_at t.up y ≡ y) w.2
-            (tied.nest.climb.tops (get_or t.trail w.0 0) (tied.trail.low w.0 w.1)) in
+    | inr named ↦ (let w : (k : ℕ) × (k < length t.trail) × (out (get_or t.trail k 0) ≡ x) = tied.trail.named x named in
+        let top : up_at t.up x ≡ x = (rw w.2 at (tied.nest.climb.tops (get_or t.trail w.0 0)
+            (tied.trail.low w.0 w.1))) in
         let set : x ≡ b = sym top ∙ in_around x on in
         absurd (true_false (ap inside (sym set) ∙ on) b_off))
   ]

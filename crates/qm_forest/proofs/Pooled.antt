@@ -29,23 +29,22 @@ module _ (n size : ℕ) (parts : List ℕ) (pool : List (Option Node)) (pooled :
   pool_size = length-set pool id (Some node)
 
   at_b : get_or parts2 b 0 ≡ many
-  at_b = get_or-set_same parts b many 0 (subst (λ m. b < m) (sym wide) low)
+  at_b = get_or-set_same parts b many 0 (rw wide low)
 
   at_old : (x : ℕ) → x ≢ b → get_or parts2 x 0 ≡ get_or parts x 0
   at_old x ne = get_or-set_other parts b x many 0 ne
 
   here : slice_get pool2 id ≡ Some (Some node)
-  here = slice_get-get_or pool2 id None (subst (λ m. id < m) (sym pool_size) id_low)
+  here = slice_get-get_or pool2 id None (rw pool_size id_low)
       ∙ ap (λ (o : Option Node). Some o) (get_or-set_same pool id (Some node) None id_low)
 
   there : (k : ℕ) → k ≢ id → slice_get pool2 k ≡ slice_get pool k
-  there k ne = by_size (cases_lt k (length pool))
-    where
-      by_size : (k < length pool) ⊎ (length pool ≤ k) → slice_get pool2 k ≡ slice_get pool k
-      by_size (inl l) = slice_get-get_or pool2 k None (subst (λ m. k < m) (sym pool_size) l)
-          ∙ (ap (λ (o : Option Node). Some o) (get_or-set_other pool id k (Some node) None ne)
-          ∙ sym (slice_get-get_or pool k None l))
-      by_size (inr h) = slice_get_past pool2 k (subst (λ m. m ≤ k) (sym pool_size) h) ∙ sym (slice_get_past pool k h)
+  there k ne = elim (cases_lt k (length pool)) [
+    | inl l ↦ slice_get-get_or pool2 k None (rw pool_size l)
+        ∙ (ap (λ (o : Option Node). Some o) (get_or-set_other pool id k (Some node) None ne)
+        ∙ sym (slice_get-get_or pool k None l))
+    | inr h ↦ slice_get_past pool2 k (rw pool_size h) ∙ sym (slice_get_past pool k h)
+  ]
 
   other : (k : ℕ) → k ≢ id → n + k ≢ b
   other k ne e = ne (omega (arith, e, id_is))
@@ -65,13 +64,12 @@ module _ (n size : ℕ) (parts : List ℕ) (pool : List (Option Node)) (pooled :
 
   -- The number that was taken is in use from then on, and was not before.
   live_b : (parts' : List ℕ) {m : ℕ} → get_or parts' b 0 ≡ m → live_at n (λ i. get_or parts' i 0) b ≡ cond (eqb m 0) 0 1
-  live_b parts' is = cond-false (nat_lt b n) 0 (cond (eqb (get_or parts' b 0) 0) 0 1) (le-ltb b n high)
-      ∙ ap (λ k. cond (eqb k 0) 0 1) is
+  live_b parts' is = cond-false _ _ _ (le-ltb b n high) ∙ ap (λ k. cond (eqb k 0) 0 1) is
 
   live_new : (x : ℕ) → (x ≡ b) ⊎ (x ≢ b) → live_at n (λ i. get_or parts2 i 0) x ≡ live_at n (λ i. get_or parts i 0) x
       + bool_number (eqb x b)
   live_new x (inl e) =
-      let some' : ◌≡◌ {A = ℕ} (cond (eqb many 0) 0 1) 1 = cond-false (eqb many 0) 0 1 (ne_eqb many 0 some) in
+      let some' : ◌≡◌ {A = ℕ} (cond (eqb many 0) 0 1) 1 = cond-false _ _ _ (ne_eqb many 0 some) in
       let here' : live_at n (λ i. get_or parts2 i 0) x ≡ cond (eqb many 0) 0 1 =
       ap (live_at n (λ i. get_or parts2 i 0)) e ∙ live_b parts2 at_b in
       let gone : live_at n (λ i. get_or parts i 0) x ≡ 0 = ap (live_at n (λ i. get_or parts i 0)) e
@@ -129,19 +127,18 @@ module _ {n size : ℕ} {parts : List ℕ} {pool : List (Option Node)} (pooled :
   size_kept = length-set pool id None
 
   none_b : get_or parts3 b 0 ≡ 0
-  none_b = get_or-set_same parts b 0 0 (subst (λ m. b < m) (sym wide) low)
+  none_b = get_or-set_same parts b 0 0 (rw wide low)
 
   old_at : (x : ℕ) → x ≢ b → get_or parts3 x 0 ≡ get_or parts x 0
   old_at x ne = get_or-set_other parts b x 0 0 ne
 
   there3 : (k : ℕ) → k ≢ id → slice_get pool3 k ≡ slice_get pool k
-  there3 k ne = by_size (cases_lt k (length pool))
-    where
-      by_size : (k < length pool) ⊎ (length pool ≤ k) → slice_get pool3 k ≡ slice_get pool k
-      by_size (inl l) = slice_get-get_or pool3 k None (subst (λ m. k < m) (sym size_kept) l)
-          ∙ (ap (λ (o : Option Node). Some o) (get_or-set_other pool id k None None ne)
-          ∙ sym (slice_get-get_or pool k None l))
-      by_size (inr h) = slice_get_past pool3 k (subst (λ m. m ≤ k) (sym size_kept) h) ∙ sym (slice_get_past pool k h)
+  there3 k ne = elim (cases_lt k (length pool)) [
+    | inl l ↦ slice_get-get_or pool3 k None (rw size_kept l)
+        ∙ (ap (λ (o : Option Node). Some o) (get_or-set_other pool id k None None ne)
+        ∙ sym (slice_get-get_or pool k None l))
+    | inr h ↦ slice_get_past pool3 k (rw size_kept h) ∙ sym (slice_get_past pool k h)
+  ]
 
   apart3 : (k : ℕ) → k ≢ id → n + k ≢ b
   apart3 k ne e = ne (omega (arith, e, id_is))
@@ -160,14 +157,13 @@ module _ {n size : ℕ} {parts : List ℕ} {pool : List (Option Node)} (pooled :
       (w.0, there3 k ne ∙ w.1)
 
   mark_b : (parts' : List ℕ) (m : ℕ) → get_or parts' b 0 ≡ m → live_at n (λ i. get_or parts' i 0) b ≡ cond (eqb m 0) 0 1
-  mark_b parts' m is = cond-false (nat_lt b n) 0 (cond (eqb (get_or parts' b 0) 0) 0 1) (le-ltb b n high)
-      ∙ ap (λ k. cond (eqb k 0) 0 1) is
+  mark_b parts' m is = cond-false _ _ _ (le-ltb b n high) ∙ ap (λ k. cond (eqb k 0) 0 1) is
 
   live_old : (x : ℕ) → (x ≡ b) ⊎ (x ≢ b) → live_at n (λ i. get_or parts i 0) x ≡ live_at n (λ i. get_or parts3 i 0) x
       + bool_number (eqb x b)
   live_old x (inl e) =
       let some' : ◌≡◌ {A = ℕ} (cond (eqb (get_or parts b 0) 0) 0 1) 1 =
-      cond-false (eqb (get_or parts b 0) 0) 0 1 (ne_eqb (get_or parts b 0) 0 live') in
+      cond-false _ _ _ (ne_eqb (get_or parts b 0) 0 live') in
       let was : live_at n (λ i. get_or parts i 0) x ≡ cond (eqb (get_or parts b 0) 0) 0 1 =
       ap (live_at n (λ i. get_or parts i 0)) e ∙ mark_b parts (get_or parts b 0) refl in
       let gone : live_at n (λ i. get_or parts3 i 0) x ≡ 0 = ap (live_at n (λ i. get_or parts3 i 0)) e

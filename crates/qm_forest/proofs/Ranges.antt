@@ -54,11 +54,11 @@ module _ {t : ForestTables} {hid : HiddenTables} (tied : AreTied t hid) where
 
   pub told_small : (v : ℕ) → v < length t.hand → unsigned_abs (told hid.q t.hand t.top hid.off t.label t.delta v)
       ≤ 2 ^ 88
-  told_small v l = subst (λ (x : ℤ). unsigned_abs x ≤ 2 ^ 88) (tied.numbers.potentials v l) (potential_small v)
+  told_small v l = rw (tied.numbers.potentials v l) at (potential_small v)
 
   -- An outermost blossom has a number below the size.
   pub outermost_low : (b : ℕ) → IsOutermostIn t b → b < length t.up
-  outermost_low b w = subst (λ x. x < length t.up) w.2 (tied.nest.outs (get_or t.hand w.0 0) (tied.nest.hands w.0 w.1))
+  outermost_low b w = rw w.2 at (tied.nest.outs (get_or t.hand w.0 0) (tied.nest.hands w.0 w.1))
 
   -- A blossom with a place in the tree is outermost.
 

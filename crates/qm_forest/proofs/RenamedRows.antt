@@ -24,24 +24,20 @@ pub one_more : {X : Type 0} (xs : List X) (d : X) (next : ℕ → ℕ) (from k :
     → walk next from k < length xs → ((i j : ℕ) → i < j → j < suc k → walk next from i ≢ walk next from j)
     → ((v : ℕ) → get_or xs v d ≡ cond (listed next from k v) (new v) (old v)) → {x : X} → x ≡ new (walk next from k)
     → (v : ℕ) → get_or (set xs (walk next from k) x) v d ≡ cond (listed next from (suc k) v) (new v) (old v)
-one_more xs d next from k new old low distinct was {x} x_is v = by_place (cases_eq v (walk next from k))
-  where
-    by_place : (v ≡ walk next from k) ⊎ (v ≢ walk next from k) → get_or (set xs (walk next from k) x) v d
-        ≡ cond (listed next from k v || eqb (walk next from k) v) (new v) (old v)
-    by_place (inl e) = ap (λ j. get_or (set xs (walk next from k) x) j d) e
-        ∙ (get_or-set_same xs (walk next from k) x d low ∙ (x_is ∙ (ap new (sym e)
-        ∙ sym (cond-true (listed next from k v || eqb (walk next from k) v) (new v) (old v)
-        (or_right (listed next from k v) (eqb (walk next from k) v) (eq-eqb (walk next from k) v (sym e)))))))
-    by_place (inr ne) = get_or-set_other xs (walk next from k) v x d ne
-        ∙ (was v ∙ ap (λ (s : Bool). cond s (new v) (old v)) (sym (or_same (listed next from k v)
-        (ne_eqb (walk next from k) v (λ e. ne (sym e))))))
+one_more xs d next from k new old low distinct was {x} x_is v = elim (cases_eq v (walk next from k)) [
+  | inl e ↦ ap (λ j. get_or (set xs (walk next from k) x) j d) e
+      ∙ (get_or-set_same xs (walk next from k) x d low ∙ (x_is ∙ (ap new (sym e) ∙ sym (cond-true _ _ _
+      (or_right (listed next from k v) (eqb (walk next from k) v) (eq-eqb (walk next from k) v (sym e)))))))
+  | inr ne ↦ get_or-set_other xs (walk next from k) v x d ne
+      ∙ (was v ∙ ap (λ (s : Bool). cond s (new v) (old v)) (sym (or_same (listed next from k v)
+      (ne_eqb (walk next from k) v (λ e. ne (sym e))))))
+]
 
 -- What stands at the next place of a walk has not been changed.
 pub next_old : {X : Type 0} (f : ℕ → X) (next : ℕ → ℕ) (from k : ℕ) (new old : ℕ → X)
     → ((i j : ℕ) → i < j → j < suc k → walk next from i ≢ walk next from j)
     → ((v : ℕ) → f v ≡ cond (listed next from k v) (new v) (old v)) → f (walk next from k) ≡ old (walk next from k)
-next_old f next from k new old distinct was = was (walk next from k)
-    ∙ cond-false (listed next from k (walk next from k)) (new (walk next from k)) (old (walk next from k))
+next_old f next from k new old distinct was = was (walk next from k) ∙ cond-false _ _ _
     (listed_off next from k (walk next from k) (λ j l. distinct j k l (omega arith)))
 
 -- What is added is told otherwise.
@@ -57,7 +53,7 @@ pub next_small : (xs ys : List ℤ) (next : ℕ → ℕ) (from k : ℕ) {v : ℕ
 next_small xs ys next from k {v} new v_is distinct was small =
     let e : get_or xs v (pos 0) ≡ get_or ys (walk next from k) (pos 0) = ap (λ j. get_or xs j (pos 0)) v_is
     ∙ next_old (λ j. get_or xs j (pos 0)) next from k new (λ j. get_or ys j (pos 0)) distinct was in
-    subst (λ z. unsigned_abs z ≤ 2 ^ 100) (sym e) (small (walk next from k))
+    (rw e (small (walk next from k)))
 
 module _ {h0 : Handles} {lists : Lists} {after : List ℕ} {front many : ℕ} (big k : ℕ)
     (has : HasListsOf h0 lists after front many) (l : k < many) (distinct : (i j : ℕ) → i < j → j < many
@@ -95,9 +91,9 @@ module _ {h0 : Handles} {lists : Lists} {after : List ℕ} {front many : ℕ} (b
       let w : (j : ℕ) × (j < get_or lists.rank.items (at k) 0) × (walk (λ i. get_or lists.following.items i 0)
       (get_or lists.first.items (at k) 0) j ≡ v) = listed_place (λ i. get_or lists.following.items i 0)
       (get_or lists.first.items (at k) 0) (get_or lists.rank.items (at k) 0) v on in
-      let lv : v < length h0.hand.items = subst (λ y. y < length h0.hand.items) w.2 ((has.each k l).low w.0 w.1) in
+      let lv : v < length h0.hand.items = (rw w.2 at ((has.each k l).low w.0 w.1)) in
       let e : out v ≡ at k = eqb-true (out v) (at k) (sym (own v lv) ∙ on) in
-      hand1 v lv ∙ (cond-false (in_row h0 after front k v) handle (get_or h0.hand.items v 0) (before_off v e)
+      hand1 v lv ∙ (cond-false _ _ _ (before_off v e)
       ∙ (has.led v lv ∙ ap (λ b. get_or lists.leader.items b 0) (e ∙ at_big)))
 
   module _ (h1 : Handles) (hand1 : (v : ℕ) → v < length h0.hand.items → get_or h1.hand.items v 0
@@ -113,10 +109,9 @@ module _ {h0 : Handles} {lists : Lists} {after : List ℕ} {front many : ℕ} (b
       where
         by_place : (at k ≡ out v) ⊎ (at k ≢ out v) → cond (eqb (at k) (out v)) handle (get_or h1.hand.items v 0)
             ≡ cond (in_row h0 after front k v || eqb (at k) (out v)) handle (get_or h0.hand.items v 0)
-        by_place (inl e) = cond-true (eqb (at k) (out v)) handle (get_or h1.hand.items v 0) (eq-eqb (at k) (out v) e)
-            ∙ sym (cond-true (in_row h0 after front k v || eqb (at k) (out v)) handle (get_or h0.hand.items v 0)
+        by_place (inl e) = cond-true _ _ _ (eq-eqb (at k) (out v) e) ∙ sym (cond-true _ _ _
             (or_right (in_row h0 after front k v) (eqb (at k) (out v)) (eq-eqb (at k) (out v) e)))
-        by_place (inr ne) = cond-false (eqb (at k) (out v)) handle (get_or h1.hand.items v 0) (ne_eqb (at k) (out v) ne)
+        by_place (inr ne) = cond-false _ _ _ (ne_eqb (at k) (out v) ne)
             ∙ (hand1 v lv ∙ ap (λ (s : Bool). cond s handle (get_or h0.hand.items v 0))
             (sym (or_same (in_row h0 after front k v) (ne_eqb (at k) (out v) ne))))
 
@@ -134,17 +129,16 @@ module _ {h0 : Handles} {lists : Lists} {after : List ℕ} {front many : ℕ} (b
         by_place (inl e) =
             let off : in_row h0 after front k v ≡ false = before_off v (sym e) in
             let was : get_or h1.q.items v (pos 0) ≡ get_or h0.q.items v (pos 0) =
-            q1 v lv ∙ cond-false (in_row h0 after front k v) (moved v) (get_or h0.q.items v (pos 0)) off in
+            q1 v lv ∙ cond-false _ _ _ off in
             let lead : get_or h0.off.items (get_or h0.hand.items v 0) (pos 0)
             ≡ get_or h0.off.items (get_or lists.leader.items (at k) 0) (pos 0) = ap (λ j. get_or h0.off.items j (pos 0))
             (has.led v lv ∙ ap (λ b. get_or lists.leader.items b 0) (sym e)) in
             let new : get_or h1.q.items v (pos 0) +ℤ more ≡ moved v = omega (arith, ints, was, lead, more_is) in
-            cond-true (eqb (at k) (out v)) (get_or h1.q.items v (pos 0) +ℤ more) (get_or h1.q.items v (pos 0))
-            (eq-eqb (at k) (out v) e) ∙ (new ∙ sym (cond-true (in_row h0 after front k v || eqb (at k) (out v))
-            (moved v) (get_or h0.q.items v (pos 0)) (or_right (in_row h0 after front k v) (eqb (at k) (out v))
+            cond-true _ _ _
+            (eq-eqb (at k) (out v) e) ∙ (new ∙ sym (cond-true _ _ _ (or_right (in_row h0 after front k v) (eqb (at k)
+            (out v))
             (eq-eqb (at k) (out v) e))))
-        by_place (inr ne) = cond-false (eqb (at k) (out v)) (get_or h1.q.items v (pos 0) +ℤ more)
-            (get_or h1.q.items v (pos 0)) (ne_eqb (at k) (out v) ne) ∙ (q1 v lv
+        by_place (inr ne) = cond-false _ _ _ (ne_eqb (at k) (out v) ne) ∙ (q1 v lv
             ∙ ap (λ (s : Bool). cond s (moved v) (get_or h0.q.items v (pos 0)))
             (sym (or_same (in_row h0 after front k v) (ne_eqb (at k) (out v) ne))))
 
@@ -154,8 +148,7 @@ module _ {h0 : Handles} {lists : Lists} {after : List ℕ} {front many : ℕ} (b
     q_small on v lv = by_test (in_row h0 after front k v) (q1 v lv)
       where
         small_handle : unsigned_abs (get_or h0.off.items handle (pos 0)) ≤ 2 ^ 97
-        small_handle = subst (λ y. unsigned_abs (get_or h0.off.items (get_or lists.leader.items y 0) (pos 0)) ≤ 2 ^ 97)
-            on.2 (has.small_leaders on.0 on.1)
+        small_handle = rw on.2 at (has.small_leaders on.0 on.1)
 
         by_test : (s : Bool) → get_or h1.q.items v (pos 0) ≡ cond s (moved v) (get_or h0.q.items v (pos 0))
             → unsigned_abs (get_or h1.q.items v (pos 0)) ≤ 2 ^ 99
@@ -165,7 +158,7 @@ module _ {h0 : Handles} {lists : Lists} {after : List ℕ} {front many : ℕ} (b
 -- A place of a row is low.
 pub row_place : {after : List ℕ} {front many : ℕ} (k : ℕ) {x : ℕ} → IsRow (length after) after front many → k < many
     → x ≡ walk (λ i. get_or after i 0) front k → x < length after
-row_place {after} k row l x_is = subst (λ y. y < length after) (sym x_is) (row.low k l)
+row_place {after} k row l x_is = rw x_is (row.low k l)
 
 -- The larger of two blossoms of a row is one of it, and no blossom so far has more vertices.
 pub row_larger : (after : List ℕ) (front many k best : ℕ) {x : ℕ} (r : ℕ) → k < many → x
@@ -178,13 +171,11 @@ pub row_most : (after rank : List ℕ) (front k best : ℕ) {x : ℕ} (r : ℕ) 
     → ((j : ℕ) → j < k → get_or rank (walk (λ i. get_or after i 0) front j) 0 ≤ get_or rank best 0)
     → get_or rank best 0 ≤ get_or rank r 0 → get_or rank x 0 ≤ get_or rank r 0
     → (j : ℕ) → j < k + 1 → get_or rank (walk (λ i. get_or after i 0) front j) 0 ≤ get_or rank r 0
-row_most after rank front k best r x_is was lb lx j l = by_place (cases_eq j k)
-  where
-    by_place : (j ≡ k) ⊎ (j ≢ k) → get_or rank (walk (λ i. get_or after i 0) front j) 0 ≤ get_or rank r 0
-    by_place (inl e) = subst (λ y. get_or rank y 0 ≤ get_or rank r 0) (x_is ∙ ap (walk (λ i. get_or after i 0) front)
-        (sym e)) lx
-    by_place (inr ne) = (let h : get_or rank (walk (λ i. get_or after i 0) front j) 0 ≤ get_or rank best 0 =
-        was j (omega (arith, l, ne)) in omega (arith, h, lb))
+row_most after rank front k best r x_is was lb lx j l = elim (cases_eq j k) [
+  | inl e ↦ rw (x_is ∙ ap (walk (λ i. get_or after i 0) front) (sym e)) at lx
+  | inr ne ↦ (let h : get_or rank (walk (λ i. get_or after i 0) front j) 0 ≤ get_or rank best 0 =
+      was j (omega (arith, l, ne)) in omega (arith, h, lb))
+]
 
 -- A table that is written at a place that is told by an equation.
 pub one_more_at : {X : Type 0} (xs : List X) (d : X) (next : ℕ → ℕ) (from k : ℕ) {j y : ℕ} (new old : ℕ → X)
@@ -199,12 +190,10 @@ one_more_at xs d next from k new old y_is j_is low distinct was x x_is v =
 -- A number past the end is 0.
 pub all_small : (xs : List ℤ) {n : ℕ} → length xs ≡ n → ((v : ℕ) → v < n → unsigned_abs (get_or xs v (pos 0)) ≤ 2 ^ 99)
     → (v : ℕ) → unsigned_abs (get_or xs v (pos 0)) ≤ 2 ^ 100
-all_small xs {n} size each v = by_size (cases_lt v n)
-  where
-    by_size : (v < n) ⊎ (n ≤ v) → unsigned_abs (get_or xs v (pos 0)) ≤ 2 ^ 100
-    by_size (inl l) = (let h : unsigned_abs (get_or xs v (pos 0)) ≤ 2 ^ 99 = each v l in omega (arith, h))
-    by_size (inr h) = (let e : get_or xs v (pos 0) ≡ pos 0 =
-        get_or_past xs v (pos 0) (subst (λ m. m ≤ v) (sym size) h) in omega (arith, ints, e))
+all_small xs {n} size each v = elim (cases_lt v n) [
+  | inl l ↦ omega (arith, each v l)
+  | inr h ↦ omega (arith, ints, get_or_past xs v (pos 0) (rw size h))
+]
 
 -- A blossom that keeps its handle is as if renamed.
 pub kept_handle : (h : Handles) (lists : Lists) {x big : ℕ} → x ≡ big
@@ -226,35 +215,29 @@ kept_handle h lists {x} {big} e same = record {
 
     by_hand : (v : ℕ) → (lists_at lists x v ≡ true) ⊎ (lists_at lists x v ≡ false) → get_or h.hand.items v 0
         ≡ cond (lists_at lists x v) (get_or lists.leader.items big 0) (get_or h.hand.items v 0)
-    by_hand v (inl on) = same v on
-        ∙ sym (cond-true (lists_at lists x v) (get_or lists.leader.items big 0) (get_or h.hand.items v 0) on)
-    by_hand v (inr off) = sym (cond-false (lists_at lists x v) (get_or lists.leader.items big 0)
-        (get_or h.hand.items v 0) off)
+    by_hand v (inl on) = same v on ∙ sym (cond-true _ _ _ on)
+    by_hand v (inr off) = sym (cond-false _ _ _ off)
 
     by_q : (v : ℕ) → (lists_at lists x v ≡ true) ⊎ (lists_at lists x v ≡ false) → get_or h.q.items v (pos 0)
         ≡ cond (lists_at lists x v) (get_or h.q.items v (pos 0) +ℤ differ_by h lists x big) (get_or h.q.items v (pos 0))
     by_q v (inl on) = (let s : get_or h.q.items v (pos 0) ≡ get_or h.q.items v (pos 0) +ℤ differ_by h lists x big =
-        omega (arith, ints, none) in s) ∙ sym (cond-true (lists_at lists x v)
-        (get_or h.q.items v (pos 0) +ℤ differ_by h lists x big) (get_or h.q.items v (pos 0)) on)
-    by_q v (inr off) = sym (cond-false (lists_at lists x v) (get_or h.q.items v (pos 0) +ℤ differ_by h lists x big)
-        (get_or h.q.items v (pos 0)) off)
+        omega (arith, ints, none) in s) ∙ sym (cond-true _ _ _ on)
+    by_q v (inr off) = sym (cond-false _ _ _ off)
 
 -- What a turn of the loop over a row has before it.
 pub row_lists : {h0 : Handles} (h1 : Handles) {lists : Lists} {after : List ℕ} {front many : ℕ} (k : ℕ) {x : ℕ}
     → HasListsOf h0 lists after front many → k < many → x ≡ walk (λ i. get_or after i 0) front k → length h1.hand.items
     ≡ length h0.hand.items → length h1.q.items ≡ length h0.q.items → HasListAt h1 lists x
-row_lists {h0} h1 {lists} {after} {front} {many} k has l x_is hands qs = subst (λ y. HasListAt h1 lists y) (sym x_is)
-    (record {
+row_lists {h0} h1 {lists} {after} {front} {many} k has l x_is hands qs = (rw x_is (record {
       first = was.first;
       rank = was.rank;
       q = qs ∙ (was.q ∙ sym hands);
       following = was.following ∙ sym hands;
       few = omega (arith, was.few, hands);
       many = omega (arith, was.many, hands);
-      low = λ j lj. subst (λ n. walk (λ i. get_or lists.following.items i 0)
-          (get_or lists.first.items (walk (λ i. get_or after i 0) front k) 0) j < n) (sym hands) (was.low j lj);
+      low = λ j lj. (rw hands (was.low j lj));
       distinct = was.distinct;
-    })
+    }))
   where
     was : HasListAt h0 lists (walk (λ i. get_or after i 0) front k)
     was = has.each k l
@@ -331,5 +314,4 @@ module _ {h0 h1 h2 : Handles} {lists : Lists} {after : List ℕ} {front many : �
 -- The handle and what it adds are told otherwise.
 pub renamed_as : {h0 h1 : Handles} {lists : Lists} {x a : ℕ} {b : ℕ} {m : ℤ} (n : ℤ) → HasRenamed h0 h1 lists x a m → a
     ≡ b → m ≡ n → HasRenamed h0 h1 lists x b n
-renamed_as {h0} {h1} {lists} {x} {a} n is e f =
-    subst (λ k. HasRenamed h0 h1 lists x k n) e (subst (λ (z : ℤ). HasRenamed h0 h1 lists x a z) f is)
+renamed_as {h0} {h1} {lists} {x} {a} n is e f = (rw e at (rw f at is))

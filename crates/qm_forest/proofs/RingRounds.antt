@@ -49,14 +49,12 @@ module _ {t : ForestTables} (known : IsLaminar t) {g : WeightedGraph} (is_small 
       let w : (k : ℕ) × (k < many) × (walk after (get_or t.head q 0) k ≡ x) =
       listed_place after (get_or t.head q 0) many x on in (
         ap (up_at t.up) (sym w.2) ∙ ring.inside w.0,
-        (λ e. (let r : get_or t.rank (walk after (get_or t.head q 0) w.0) 0 < get_or t.rank q 0 = ring.lower w.0 in
-            let same : get_or t.rank (walk after (get_or t.head q 0) w.0) 0 ≡ get_or t.rank q 0 =
-            ap (λ z. get_or t.rank z 0) (w.2 ∙ e) in absurd (omega (arith, r, same)))),
+        (λ e. (absurd (omega (arith, ring.lower w.0, ap (λ z. get_or t.rank z 0) (w.2 ∙ e))))),
       )
 
   parts : (x : ℕ) → up_at t.up x ≡ q → x ≢ q → inside x ≡ true
   parts x e ne = (let w : (k : ℕ) × (k < many) × (walk after (get_or t.head q 0) k ≡ x) = ring.all x e ne in
-      subst (λ y. inside y ≡ true) w.2 (listed_at after (get_or t.head q 0) many w.0 w.1))
+      (rw w.2 at (listed_at after (get_or t.head q 0) many w.0 w.1)))
 
   inner_part : (x : ℕ) → inside x ≡ true → up_at t.up x ≢ x
   inner_part x on e = (part x on).1 (sym e ∙ (part x on).0)
@@ -74,7 +72,7 @@ module _ {t : ForestTables} (known : IsLaminar t) {g : WeightedGraph} (is_small 
   at k = walk after (after p) k
 
   at_in : (k : ℕ) → inside (at k) ≡ true
-  at_in k = subst (λ x. inside x ≡ true) (walk_front after p k) (circle.marked (suc k))
+  at_in k = rw (walk_front after p k) at (circle.marked (suc k))
 
   pub at_low : (k : ℕ) → at k < length t.up
   at_low k = x_low t known g is_small valid (at k) (inner_part (at k) (at_in k))
@@ -90,9 +88,7 @@ module _ {t : ForestTables} (known : IsLaminar t) {g : WeightedGraph} (is_small 
 
   -- Each part and the next are a pair.
   pub turn_pairing : (k : ℕ) {x y d : ℕ} → x ≡ at (2 * k) → y ≡ after x → d ≡ get_or t.joint x 0 → IsPairing t x y d
-  turn_pairing k {x} {y} x_is y_is d_is =
-      subst (λ e. IsPairing t x y e) (sym d_is) (subst (λ z. IsPairing t x z (get_or t.joint x 0)) (sym y_is)
-      (subst (λ z. IsPairing t z (after z) (get_or t.joint z 0)) (sym x_is) (at_pairing (2 * k))))
+  turn_pairing k {x} {y} x_is y_is d_is = (rw (d_is, y_is, x_is) (at_pairing (2 * k)))
 
   -- Before the first pair.
   pub ring_begun : {marks : List Bool} {left : List (Option ℕ)} (rest : ℕ → ℕ) {due : ℕ → ℕ} {x : ℕ} (k : ℕ) → x
@@ -114,8 +110,8 @@ module _ {t : ForestTables} (known : IsLaminar t) {g : WeightedGraph} (is_small 
   turn_entries left k {x} {y} d c v x_is y_is size is low_x low_y e =
       by_last (entry_cases t known.vertices (alone t known) known.own (another t known g is_small valid)
       (entered (length t.hand) left x (near_at t d)) y (far_at t d) c
-      (subst (λ m. y < m) (sym (entered_size t known.vertices (alone t known) known.own
-      (another t known g is_small valid) left x (near_at t d) ∙ size)) low_y))
+      (rw (entered_size t known.vertices (alone t known) known.own
+      (another t known g is_small valid) left x (near_at t d) ∙ size) low_y))
     where
       now : get_or (entered (length t.hand) (entered (length t.hand) left x (near_at t d)) y (far_at t d)) c None
           ≡ Some v
@@ -123,12 +119,8 @@ module _ {t : ForestTables} (known : IsLaminar t) {g : WeightedGraph} (is_small 
 
       below : (z j : ℕ) → z ≡ at j → c ≡ z → get_or t.rank c 0 < get_or t.rank (up_at t.up p) 0
       below z j z_is c_is =
-          let r : get_or t.rank (at j) 0 < get_or t.rank (up_at t.up (at j)) 0 =
-          known.rises (at j) (inner_part (at j) (at_in j)) in
-          let a : get_or t.rank (up_at t.up (at j)) 0 ≡ get_or t.rank (up_at t.up p) 0 =
-          ap (λ w. get_or t.rank w 0) (at_around j) in
-          let s : get_or t.rank c 0 ≡ get_or t.rank (at j) 0 = ap (λ w. get_or t.rank w 0) (c_is ∙ z_is) in
-          omega (arith, r, a, s)
+          omega (arith, known.rises (at j) (inner_part (at j) (at_in j)), ap (λ w. get_or t.rank w 0) (at_around j), ap
+              (λ w. get_or t.rank w 0) (c_is ∙ z_is))
 
       by_first : ((length t.hand ≤ x) × (c ≡ x) × (get_or (entered (length t.hand) left x (near_at t d)) c None
           ≡ Some (near_at t d))) ⊎ (get_or (entered (length t.hand) left x (near_at t d)) c None ≡ get_or left c None)
@@ -144,8 +136,7 @@ module _ {t : ForestTables} (known : IsLaminar t) {g : WeightedGraph} (is_small 
           → (get_or left c None ≡ Some v) ⊎ (get_or t.rank c 0 < get_or t.rank (up_at t.up p) 0)
       by_last (inl w) = inr (below y (suc (2 * k)) (y_is ∙ ap after x_is) w.1)
       by_last (inr same) = by_first (entry_cases t known.vertices (alone t known) known.own
-          (another t known g is_small valid) left x (near_at t d) c (subst (λ m. x < m) (sym size) low_x)) (sym same
-          ∙ now)
+          (another t known g is_small valid) left x (near_at t d) c (rw size low_x)) (sym same ∙ now)
 
   -- One pair more.
   pub ring_turn : {marks : List Bool} {marks2 : List Bool} {left : List (Option ℕ)} {left2 : List (Option ℕ)}
@@ -155,30 +146,23 @@ module _ {t : ForestTables} (known : IsLaminar t) {g : WeightedGraph} (is_small 
       (far_at t d) → IsRound t marks left (λ b. sum_from x (many - 1 - 2 * k) b + rest b) due
       → IsRound t marks2 left2 (λ b. sum_from (after y) (many - 1 - 2 * j) b + rest b) due
   ring_turn {marks} {left} {left2} rest {due} k j {x} {y} {d} x_is low y_is d_is j_is size_marks size_left marks_is
-      left_is round = subst (λ ms. IsRound t ms left2 (λ b. sum_from (after y) (many - 1 - 2 * j) b + rest b) due)
-      (sym marks_is) (subst (λ ls. IsRound t (set marks (d / 2) true) ls
-      (λ b. sum_from (after y) (many - 1 - 2 * j) b + rest b) due) (sym left_is)
-      (paired_round t known.vertices (alone t known) known.own (another t known g is_small valid) marks left x y d
+      left_is round = rw (marks_is, left_is) (paired_round t known.vertices (alone t known) known.own
+          (another t known g is_small valid) marks left x y d
       (λ b. sum_from (after y) (many - 1 - 2 * j) b + rest b) due size_marks size_left
       (round_rest (λ b. (bool_number (within t b x) + bool_number (within t b y)) +
-      (sum_from (after y) (many - 1 - 2 * j) b + rest b)) (λ b l. peeled b) round) (turn_pairing k x_is y_is d_is)))
+      (sum_from (after y) (many - 1 - 2 * j) b + rest b)) (λ b l. peeled b) round) (turn_pairing k x_is y_is d_is))
     where
       peeled : (b : ℕ) → sum_from x (many - 1 - 2 * k) b + rest b ≡ (bool_number (within t b x) + bool_number
           (within t b y)) + (sum_from (after y) (many - 1 - 2 * j) b + rest b)
       peeled b =
           let two : many - 1 - 2 * k ≡ suc (suc (many - 1 - 2 * j)) = omega (arith, ring.odd, low, j_is) in
-          let one : sum_from x (many - 1 - 2 * k) b ≡ sum_from x (suc (suc (many - 1 - 2 * j))) b =
-          ap (λ m. sum_from x m b) two in
           let first : sum_from x (suc (suc (many - 1 - 2 * j))) b ≡ bool_number (within t b x) + sum_from (after x)
           (suc (many - 1 - 2 * j)) b = ring_front after (λ r. bool_number (within t b r)) x (suc (many - 1 - 2 * j)) in
           let second : sum_from (after x) (suc (many - 1 - 2 * j)) b ≡ bool_number (within t b (after x)) + sum_from
           (after (after x)) (many - 1 - 2 * j) b = ring_front after (λ r. bool_number (within t b r)) (after x)
           (many - 1 - 2 * j) in
-          let next : bool_number (within t b (after x)) ≡ bool_number (within t b y) =
-          ap (λ z. bool_number (within t b z)) (sym y_is) in
-          let more : sum_from (after (after x)) (many - 1 - 2 * j) b ≡ sum_from (after y) (many - 1 - 2 * j) b =
-          ap (λ z. sum_from (after z) (many - 1 - 2 * j) b) (sym y_is) in
-          omega (arith, one, first, second, next, more)
+          omega (arith, ap (λ m. sum_from x m b) two, first, second, ap (λ z. bool_number (within t b z))
+              (sym y_is), ap (λ z. sum_from (after z) (many - 1 - 2 * j) b) (sym y_is))
 
   -- All pairs.
   pub ring_ended : {marks : List Bool} {left : List (Option ℕ)} (rest : ℕ → ℕ) {due : ℕ → ℕ} (k x : ℕ) → k ≡ many / 2
@@ -186,8 +170,8 @@ module _ {t : ForestTables} (known : IsLaminar t) {g : WeightedGraph} (is_small 
   ring_ended rest k x k_is round = round_rest rest (λ b l. none b) round
     where
       none : (b : ℕ) → sum_from x (many - 1 - 2 * k) b + rest b ≡ rest b
-      none b = (let z : many - 1 - 2 * k ≡ 0 = omega (arith, ring.odd, k_is) in let s : sum_from x (many - 1 - 2 * k) b
-          ≡ 0 = ap (λ m. sum_from x m b) z in omega (arith, s))
+      none b = (let z : many - 1 - 2 * k ≡ 0 = omega (arith, ring.odd, k_is) in omega (arith, ap
+          (λ m. sum_from x m b) z))
 
   -- From a part to its set.
   pub ring_climb : {marks : List Bool} {left : List (Option ℕ)} (rest : ℕ → ℕ) {due : ℕ → ℕ} (v : ℕ) {c : ℕ} (j : ℕ)
@@ -203,9 +187,7 @@ module _ {t : ForestTables} (known : IsLaminar t) {g : WeightedGraph} (is_small 
       omega (arith, law))) round
     where
       low : (x : ℕ) → inside x ≡ true → get_or t.rank x 0 ≤ length t.hand
-      low x on = (let r : get_or t.rank x 0 < get_or t.rank (up_at t.up x) 0 = known.rises x (inner_part x on) in
-          let s : get_or t.rank (up_at t.up x) 0 ≡ get_or t.rank q 0 = ap (λ z. get_or t.rank z 0) (part x on).0 in
-          omega (arith, r, s, low_q))
+      low x on = omega (arith, known.rises x (inner_part x on), ap (λ z. get_or t.rank z 0) (part x on).0, low_q)
 
 -- Going up from a vertex: at it, at each step, and at the end.
 module _ {t : ForestTables} (known : IsLaminar t) (v c : ℕ) (lv : v < length t.hand) (held : within t v c ≡ true) where
@@ -224,20 +206,18 @@ module _ {t : ForestTables} (known : IsLaminar t) (v c : ℕ) (lv : v < length t
 
       same : (b : ℕ) → (within t b v ≡ true) ⊎ (within t b v ≡ false)
           → waits_but t b c v ≡ cond (within t b v) 0 (waits_but t b c v)
-      same b (inr off) = sym (cond-false (within t b v) 0 (waits_but t b c v) off)
+      same b (inr off) = sym (cond-false _ _ _ off)
       same b (inl on) =
           let own : (forest_of t).holds b v ≡ true = ap (λ z. (forest_of t).holds z v) (known.own b v lv on)
           ∙ climbs_here (up_at t.up) (length t.hand) v in
           ap (λ (s : Bool). cond (within t b c) (cond s 0 1) 0) own
-          ∙ (nothing (within t b c) ∙ sym (cond-true (within t b v) 0 (waits_but t b c v) on))
+          ∙ (nothing (within t b c) ∙ sym (cond-true _ _ _ on))
 
   pub climb_ends : {marks : List Bool} {left : List (Option ℕ)} (rest : ℕ → ℕ) {due : ℕ → ℕ} {p : ℕ} → p ≡ c
       → IsRound t marks left (λ b. cond (within t b p) 0 (waits_but t b c v) + rest b) due
       → IsRound t marks left rest due
-  climb_ends rest {p} p_is round = round_rest rest (λ b l. (let first : cond (within t b p) 0 (waits_but t b c v)
-      ≡ cond (within t b c) 0 (waits_but t b c v) = ap (λ z. cond (within t b z) 0 (waits_but t b c v)) p_is in
-      let second : ◌≡◌ {A = ℕ} (cond (within t b c) 0 (waits_but t b c v)) 0 = none b (within t b c) in
-      omega (arith, first, second))) round
+  climb_ends rest {p} p_is round = round_rest rest (λ b l. (omega (arith, ap (λ z. cond (within t b z) 0
+      (waits_but t b c v)) p_is, none b (within t b c)))) round
     where
       none : (b : ℕ) (s : Bool) → ◌≡◌ {A = ℕ} (cond s 0 (cond s (cond ((forest_of t).holds b v) 0 1) 0)) 0
       none b true = refl
@@ -258,9 +238,7 @@ module _ {t : ForestTables} (known : IsLaminar t) (v c : ℕ) (lv : v < length t
     next_rank =
         let h : get_or t.rank (up_at t.up p) 0 ≤ get_or t.rank (walk (up_at t.up) (up_at t.up p) above_more.0) 0 =
         rank_walk (length t.hand) (up_at t.up) (λ z. get_or t.rank z 0) known.rises (up_at t.up p) above_more.0 in
-        let s : get_or t.rank (walk (up_at t.up) (up_at t.up p) above_more.0) 0 ≡ get_or t.rank c 0 =
-        ap (λ z. get_or t.rank z 0) above_more.1 in
-        omega (arith, h, s)
+        omega (arith, h, ap (λ z. get_or t.rank z 0) above_more.1)
 
     pub rises_here : get_or t.rank p 0 < get_or t.rank (up_at t.up p) 0
     rises_here = known.rises p climbs_on

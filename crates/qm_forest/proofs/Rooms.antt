@@ -46,8 +46,7 @@ module _ {t : ForestTables} {hid : HiddenTables} (tied : AreTied t hid) where
       × (get_or t.parts (up_at t.up x) 0 ≢ 0)
   around_used x ne = (
     (tied.nest.around x ne).0,
-    subst (λ b. b < length t.up) (sym (get_or_default_zero t.up x x (inner_low x ne)))
-        (tied.nest.ups x (inner_low x ne)),
+    (rw (get_or_default_zero t.up x x (inner_low x ne)) (tied.nest.ups x (inner_low x ne))),
     (tied.nest.around x ne).1,
   )
 

@@ -67,7 +67,7 @@ module _ {t : ForestTables} {hid : HiddenTables} (tied : AreTied t hid) {g : Wei
     (valid : IsValidFor g t) (r : ℕ) (root : t.root ≡ Some r) (s d : ℤ) (d_is : d ≡ t.delta +ℤ s) (high : pos 0 ≤ℤ s)
     (small : (b : ℕ) → unsigned_abs ((shifted (forest_of t) s).weight b) ≤ 2 ^ 62) where
   valid_root : IsValid (darts_of g) (forest_of t) (Some r)
-  valid_root = subst (λ (o : Option ℕ). IsValid (darts_of g) (forest_of t) o) root valid.valid
+  valid_root = rw root at valid.valid
 
   sum_is : dual_sum_of (forest_of (record t { delta = d })) ≡ dual_sum_of (forest_of t) +ℤ s
   sum_is = ap dual_sum_of (seen_shift t s d_is) ∙ sum_rises (are_darts is) valid_root (valid_root.tree r refl) s
@@ -113,12 +113,11 @@ module _ {t : ForestTables} {hid : HiddenTables} (tied : AreTied t hid) {g : Wei
       potentials : (v : ℕ) → v < length t.hand → potential (forest_of (record t { delta = d })) v
           ≡ told hid.q t.hand t.top hid.off t.label d v
       potentials v lv =
-          let p : potential (forest_of (record t { delta = d })) v ≡ potential (shifted (forest_of t) s) v =
-          ap (λ (f : Forest). potential f v) (seen_shift t s d_is) in
           let h : potential (shifted (forest_of t) s) v ≡ potential (forest_of t) v +ℤ weight_change
           (label_at t.label (out_of t.hand t.top v)) s =
-          potential_shifted valid.valid.outermost s v (subst (λ n. v < n) valid.vertices lv) in
-          omega (arith, ints, p, h, tied.numbers.potentials v lv, added_is v)
+          potential_shifted valid.valid.outermost s v (rw valid.vertices at lv) in
+          omega (arith, ints, ap (λ (f : Forest). potential f v)
+              (seen_shift t s d_is), h, tied.numbers.potentials v lv, added_is v)
 
 -- The forest is valid after a shift whose end is feasible.
 pub valid_shift : {t : ForestTables} (u : ForestTables) {g : WeightedGraph} (s : ℤ) → IsGraph g → IsValidFor g t
@@ -129,9 +128,7 @@ valid_shift {t} u {g} s is valid feasible seen hand root fixed = record {
   darts = darts_kept u valid fixed;
   ends = ends_kept u valid fixed;
   room = room_kept u valid fixed;
-  valid = subst (λ (f : Forest). IsValid (darts_of g) f u.root) (sym seen)
-      (subst (λ (o : Option ℕ). IsValid (darts_of g) (shifted (forest_of t) s) o) (sym root)
-      (shift_valid (are_darts is) valid.valid s feasible));
+  valid = rw (seen, root) (shift_valid (are_darts is) valid.valid s feasible);
 }
 
 -- The forest is valid after a blossom has become the root.
@@ -144,14 +141,11 @@ valid_rooted {t} u {g} is valid v low none free seen hand root fixed = record {
   darts = darts_kept u valid fixed;
   ends = ends_kept u valid fixed;
   room = room_kept u valid fixed;
-  valid = subst (λ (f : Forest). IsValid (darts_of g) f u.root) (sym seen)
-      (subst (λ (o : Option ℕ). IsValid (darts_of g) (rooted (forest_of t) ((forest_of t).out v)) o) (sym root)
-      (rooted_valid (are_darts is)
-      (subst (λ (o : Option ℕ). IsValid (darts_of g) (forest_of t) o) none valid.valid) ((forest_of t).out v) (
+  valid = rw (seen, root) (rooted_valid (are_darts is) (rw none at valid.valid) ((forest_of t).out v) (
         v,
-        subst (λ n. v < n) valid.vertices low,
+        (rw valid.vertices at low),
         refl,
-      ) free));
+      ) free);
 }
 
 -- An option that is not empty has something in it.

@@ -64,7 +64,7 @@ module _ (g : WeightedGraph) (is : IsSmallGraph g) (t0 : ForestTables) (valid : 
   tree_is = the_tree g is t0 valid a named_a
 
   whole : IsValid (darts_of g) (forest_of t0) (Some tree_is.0)
-  whole = subst (λ (o : Option ℕ). IsValid (darts_of g) (forest_of t0) o) tree_is.1 valid.valid
+  whole = rw tree_is.1 at valid.valid
 
   abbrev many : ℕ
   many = left + right + 1
@@ -157,7 +157,7 @@ module _ (g : WeightedGraph) (is : IsSmallGraph g) (t0 : ForestTables) (valid : 
       refl refl after joint after_at joint_at apart
 
   walk_named : (k : ℕ) → k < many → f.label (walk after top k) ≢ Outside
-  walk_named k l = subst (λ x. f.label x ≢ Outside) (sym (walk_at k (omega (arith, l))))
+  walk_named k l = rw (walk_at k (omega (arith, l)))
       (at_named are whole tree_is.2 a c named_a named_c top left right met outer_a outer_c k l)
 
   missed : (x : ℕ) → inside x ≡ false → (k : ℕ) → k < many → at k ≢ x
@@ -184,15 +184,14 @@ module _ (g : WeightedGraph) (is : IsSmallGraph g) (t0 : ForestTables) (valid : 
 
   spot_top : (k : ℕ) → k < many → (forest_of t0).nest.up (walk after top k) ≡ walk after top k
   spot_top k l = (let w : IsOutermost g.n (forest_of t0) (walk after top k) = spot_out k l in
-      subst (λ x. f.nest.up x ≡ x) w.2 (valid.valid.outermost.tops w.0 w.1))
+      (rw w.2 at (valid.valid.outermost.tops w.0 w.1)))
 
   spot_used : (k : ℕ) → k < many → IsBlossom (darts_of g) (forest_of t0) (walk after top k)
   spot_used k l = elim (cases_lt (walk after top k) g.n) [
     | inl low ↦ inl low
     | inr high ↦ (let w : IsOutermost g.n (forest_of t0) (walk after top k) = spot_out k l in inr (
       high,
-      (λ none. true_false (subst (λ x. f.holds x w.0 ≡ true) w.2
-          (valid.valid.outermost.held w.0 w.0 w.1 w.1 ∙ eq-eqb (f.out w.0) (f.out w.0) refl))
+      (λ none. true_false (rw w.2 at (valid.valid.outermost.held w.0 w.0 w.1 w.1 ∙ eq-eqb (f.out w.0) (f.out w.0) refl))
           (valid.valid.nested.empty (walk after top k) w.0 high w.1 none)),
     ))
   ]
@@ -279,8 +278,7 @@ module _ (g : WeightedGraph) (is : IsSmallGraph g) (t0 : ForestTables) (valid : 
         distinct = λ i j lij lj e. ring_is.distinct i j lij lj (sym (spot_is i) ∙ (e ∙ spot_is j));
       };
       two = omega (arith, three_many);
-      tops = λ k l. subst (λ x. IsOutermostIn t2 x) (sym (spot_is k))
-          (outermost_same (walk after top k) (walk_named k l));
+      tops = λ k l. (rw (spot_is k) (outermost_same (walk after top k) (walk_named k l)));
       outside = λ k l. ap (label_at t2.label) (spot_is k) ∙ (label_is (walk after top k)
           ∙ cond-true _ _ _ (listed_at after top many k l));
       weightless = λ x high none. ap (λ (y : Forest). y.weight x) was ∙ no_weight x high none;

@@ -100,8 +100,7 @@ module _ (t : ForestTables) (hid : HiddenTables) (tied : AreTied t hid) (v : ℕ
 
   label_here : label_at moved_label.label b ≡ l
   unfolding b
-  label_here = get_or-set_same t.label (out_of t.hand t.top v) l Outside
-      (subst (λ n. out_of t.hand t.top v < n) (sym tied.sizes.label) b_low)
+  label_here = get_or-set_same t.label (out_of t.hand t.top v) l Outside (rw tied.sizes.label b_low)
 
   label_there : (k : ℕ) → k ≢ b → label_at moved_label.label k ≡ label_at t.label k
   unfolding b
@@ -114,7 +113,7 @@ module _ (t : ForestTables) (hid : HiddenTables) (tied : AreTied t hid) (v : ℕ
       at : (k ≡ b) ⊎ (k ≢ b) → weight_at moved_label.base moved_label.label t.delta k ≡ (forest_of t).weight k
       at (inl e) = ap (weight_at moved_label.base moved_label.label t.delta) e
           ∙ (ap (λ (z : ℤ). z +ℤ weight_change (label_at moved_label.label b) t.delta)
-          (get_or-set_same t.base b x (pos 0) (subst (λ n. b < n) (sym tied.sizes.base) b_low))
+          (get_or-set_same t.base b x (pos 0) (rw tied.sizes.base b_low))
           ∙ (ap (λ (z : Label). x +ℤ weight_change z t.delta) label_here ∙ (base_is ∙ ap (forest_of t).weight (sym e))))
       at (inr ne) = ap (λ (z : ℤ). z +ℤ weight_change (label_at moved_label.label k) t.delta)
           (get_or-set_other t.base b k x (pos 0) ne) ∙ ap (λ (z : Label). get_or t.base k (pos 0) +ℤ weight_change z
@@ -127,8 +126,7 @@ module _ (t : ForestTables) (hid : HiddenTables) (tied : AreTied t hid) (v : ℕ
     holds = (forest_of t).holds;
     out = (forest_of t).out;
     weight = λ k. weight_same k i;
-    label = entry_set t.label (out_of t.hand t.top v) l Outside
-        (subst (λ n. out_of t.hand t.top v < n) (sym tied.sizes.label) b_low) i;
+    label = entry_set t.label (out_of t.hand t.top v) l Outside (rw tied.sizes.label b_low) i;
     mate = (forest_of t).mate;
     link = (forest_of t).link;
     nest = (forest_of t).nest;
@@ -140,7 +138,7 @@ module _ (t : ForestTables) (hid : HiddenTables) (tied : AreTied t hid) (v : ℕ
   added_same u lu = at (cases_eq (get_or t.hand u 0) h)
     where
       h_low : h < length hid.off
-      h_low = subst (λ n. h < n) (sym tied.sizes.off) (tied.nest.hands v low)
+      h_low = rw tied.sizes.off (tied.nest.hands v low)
 
       at : (get_or t.hand u 0 ≡ h) ⊎ (get_or t.hand u 0 ≢ h) → added t.hand t.top (set hid.off h y) moved_label.label
           t.delta u ≡ added t.hand t.top hid.off t.label t.delta u
@@ -197,16 +195,13 @@ module _ (t : ForestTables) (hid : HiddenTables) (tied : AreTied t hid) (v : ℕ
     numbers = record {
       potentials = λ u lu. potential_same u
           ∙ (tied.numbers.potentials u lu ∙ ap (λ (z : ℤ). get_or hid.q u (pos 0) +ℤ z) (sym (added_same u lu)));
-      small = λ k. subst (λ (z : ℤ). unsigned_abs z ≤ 2 ^ 62) (sym (weight_same k)) (tied.numbers.small k);
+      small = λ k. (rw (weight_same k) (tied.numbers.small k));
       start = tied.numbers.start;
       small_start = tied.numbers.small_start;
-      moved = λ u lu. subst (λ (z : ℤ). pos (unsigned_abs z) ≤ℤ
-          (dual_sum_of (forest_of moved_label) -ℤ tied.numbers.start)) (sym (added_same u lu))
-          (subst (λ (z : ℤ). pos (unsigned_abs (added t.hand t.top hid.off t.label t.delta u)) ≤ℤ
-          (z -ℤ tied.numbers.start)) (sym sum_same) (tied.numbers.moved u lu));
+      moved = λ u lu. (rw ((added_same u lu), sum_same) (tied.numbers.moved u lu));
       risen = (
         tied.numbers.risen.0,
-        subst (λ (z : ℤ). t.delta ≤ℤ (z -ℤ tied.numbers.start)) (sym sum_same) tied.numbers.risen.1,
+        (rw sum_same tied.numbers.risen.1),
       );
       still = tied.numbers.still;
     };
@@ -245,12 +240,8 @@ pub tied_label_at : {t : ForestTables} {hid : HiddenTables} → AreTied t hid �
     → x +ℤ weight_change l t.delta ≡ (forest_of t).weight (out_of t.hand t.top v) → y +ℤ weight_change l t.delta
     ≡ added t.hand t.top hid.off t.label t.delta v
     → AreTied (record t { base = set t.base b x; label = set t.label b l }) (record hid { off = set hid.off h y })
-tied_label_at {t} {hid} tied v low l here x y {h} b_is h_is base_is off_is = subst
-    (λ k. AreTied (record t { base = set t.base k x; label = set t.label k l }) (record hid { off = set hid.off h y }))
-    (sym b_is) (subst (λ k. AreTied (record t {
-      base = set t.base (out_of t.hand t.top v) x;
-      label = set t.label (out_of t.hand t.top v) l;
-    }) (record hid { off = set hid.off k y })) (sym h_is) (tied_label t hid tied v low l x y here base_is off_is))
+tied_label_at {t} {hid} tied v low l here x y {h} b_is h_is base_is off_is = rw (b_is, h_is)
+    (tied_label t hid tied v low l x y here base_is off_is)
 
 pub seen_label_at : {t : ForestTables} {hid : HiddenTables} → AreTied t hid → (v : ℕ) → v < length t.hand → (l : Label)
     → (l ≢ Outside → IsOnTrail t.trail v) → (x y : ℤ) {b : ℕ} → b ≡ out_of t.hand t.top v → x +ℤ weight_change l t.delta
@@ -258,6 +249,5 @@ pub seen_label_at : {t : ForestTables} {hid : HiddenTables} → AreTied t hid �
     ≡ added t.hand t.top hid.off t.label t.delta v → forest_of (record t
     { base = set t.base b x; label = set t.label b l }) ≡ labelled (forest_of t) (out_of t.hand t.top v) l
 seen_label_at {t} {hid} tied v low l here x y b_is base_is off_is =
-    subst (λ k. forest_of (record t { base = set t.base k x; label = set t.label k l })
-    ≡ labelled (forest_of t) (out_of t.hand t.top v) l) (sym b_is) (seen_label t hid tied v low l x y here base_is
-    off_is)
+    (rw b_is (seen_label t hid tied v low l x y here base_is
+    off_is))

@@ -37,7 +37,7 @@ now_on trail v = (length trail, omega (arith, length_push trail v), get_or_push 
 module _ {t : ForestTables} {hid : HiddenTables} (tied : AreTied t hid) (v : ℕ) (low : v < length t.hand)
     (off : get_or hid.touched v false ≡ false) where
   v_low : v < length hid.touched
-  v_low = subst (λ n. v < n) (sym tied.sizes.touched) low
+  v_low = rw tied.sizes.touched low
 
   -- There is room for it.
   pub trail_room : length t.trail < hid.room
@@ -52,9 +52,9 @@ module _ {t : ForestTables} {hid : HiddenTables} (tied : AreTied t hid) (v : ℕ
     numbers = tied.numbers;
     trail = record {
       low = λ k l. low_at k l (cases_lt k (length t.trail));
-      counted = (let e : length trail ≡ length t.trail + 1 = ap length trail_is ∙ length_push t.trail v in
-          omega (arith, e, tied.trail.counted, marks_more hid.touched v v_low off));
-      marked = λ u on. subst (λ xs. IsOnTrail xs u) (sym trail_is) (marked u on (cases_eq u v));
+      counted = omega (arith, ap length trail_is
+          ∙ length_push t.trail v, tied.trail.counted, marks_more hid.touched v v_low off);
+      marked = λ u on. (rw trail_is (marked u on (cases_eq u v)));
       named = λ b n. named b (tied.trail.named b n);
     };
     pool = tied.pool;
@@ -63,26 +63,24 @@ module _ {t : ForestTables} {hid : HiddenTables} (tied : AreTied t hid) (v : ℕ
       low_at : (k : ℕ) → k < length trail → (k < length t.trail) ⊎ (length t.trail ≤ k)
           → get_or trail k 0 < length t.hand
       low_at k l (inl in_old) =
-          subst (λ x. x < length t.hand)
-          (sym (ap (λ xs. get_or xs k 0) trail_is ∙ get_or_append_left t.trail (v ∷ []) 0 k in_old))
-          (tied.trail.low k in_old)
+          (rw (ap (λ xs. get_or xs k 0) trail_is ∙ get_or_append_left t.trail (v ∷ []) 0 k in_old)
+          (tied.trail.low k in_old))
       low_at k l (inr past) =
           let e : length trail ≡ length t.trail + 1 = ap length trail_is ∙ length_push t.trail v in
           let at : length t.trail ≡ k = omega (arith, e, l, past) in
-          subst (λ x. x < length t.hand) (sym (ap (λ xs. get_or xs k 0) trail_is ∙ get_or_push t.trail v 0 k at)) low
+          (rw (ap (λ xs. get_or xs k 0) trail_is ∙ get_or_push t.trail v 0 k at) low)
 
       marked : (u : ℕ) → get_or (set hid.touched v true) u false ≡ true → (u ≡ v) ⊎ (u ≢ v)
           → IsOnTrail (t.trail ++ v ∷ []) u
-      marked u on (inl e) = subst (λ x. IsOnTrail (t.trail ++ v ∷ []) x) (sym e) (now_on t.trail v)
+      marked u on (inl e) = rw e (now_on t.trail v)
       marked u on (inr ne) = still_on t.trail v u
           (tied.trail.marked u (sym (get_or-set_other hid.touched v u true false ne) ∙ on))
 
       named : (b : ℕ) → (k : ℕ) × (k < length t.trail) × (out_of t.hand t.top (get_or t.trail k 0) ≡ b)
           → (k : ℕ) × (k < length trail) × (out_of t.hand t.top (get_or trail k 0) ≡ b)
-      named b w =
-          let e : length trail ≡ length t.trail + 1 = ap length trail_is ∙ length_push t.trail v in (
+      named b w = (
             w.0,
-            omega (arith, e, w.1),
+            omega (arith, ap length trail_is ∙ length_push t.trail v, w.1),
             ap (out_of t.hand t.top) (ap (λ xs. get_or xs w.0 0) trail_is
                 ∙ get_or_append_left t.trail (v ∷ []) 0 w.0 w.1) ∙ w.2,
           )

@@ -46,12 +46,11 @@ taken {t} {left} c v low here round = record {
 -- Others that wait did before.
 pub taken_entries : (left : List (Option ℕ)) (c b w : ℕ) → c < length left → get_or (set left c None) b None ≡ Some w
     → (get_or left b None ≡ Some w) × (b ≢ c)
-taken_entries left c b w low is = by_place (cases_eq b c)
-  where
-    by_place : (b ≡ c) ⊎ (b ≢ c) → (get_or left b None ≡ Some w) × (b ≢ c)
-    by_place (inl e) = (let clash : ◌≡◌ {A = Option ℕ} None (Some w) = sym (get_or-set_same left c None None low)
-        ∙ (ap (λ j. get_or (set left c None) j None) (sym e) ∙ is) in absurd (cc clash))
-    by_place (inr ne) = (sym (get_or-set_other left c b None None ne) ∙ is, ne)
+taken_entries left c b w low is = elim (cases_eq b c) [
+  | inl e ↦ (let clash : ◌≡◌ {A = Option ℕ} None (Some w) = sym (get_or-set_same left c None None low)
+      ∙ (ap (λ j. get_or (set left c None) j None) (sym e) ∙ is) in absurd (cc clash))
+  | inr ne ↦ (sym (get_or-set_other left c b None None ne) ∙ is, ne)
+]
 
 -- Pairs that are sorted have first parts that do not fall.
 pub firsts_rise : (xs : List (ℕ × ℕ)) → IsSorted (λ (x y : ℕ × ℕ). ordering_then (nat_cmp x.0 y.0) (nat_cmp x.1 y.1)) xs
@@ -110,27 +109,22 @@ wait_before {t} {sets} left left2 k {c} order low at within entries lawful b w i
             by_order : (s.0 < k) ⊎ (k ≤ s.0) → (j : ℕ) × (j < k) × (j < length sets) × ((get_or sets j (0, 0)).1 ≡ b)
             by_order (inl l) = (s.0, l, s.1, ap (λ (x : ℕ × ℕ). x.1) here)
             by_order (inr h) =
-                let rise : (get_or sets k (0, 0)).0 ≤ (get_or sets s.0 (0, 0)).0 =
-                order.increasing k s.0 (0, 0) h s.1 in
-                let first : (get_or sets k (0, 0)).0 ≡ get_or t.rank c 0 =
-                rank_at k low ∙ ap (λ z. get_or t.rank z 0) at in
-                let second : (get_or sets s.0 (0, 0)).0 ≡ get_or t.rank b 0 = ap (λ (x : ℕ × ℕ). x.0) here in
-                absurd (omega (arith, rise, first, second, less))
+                absurd (omega (arith, order.increasing k s.0 (0, 0) h s.1, rank_at k low ∙ ap
+                    (λ z. get_or t.rank z 0) at, ap (λ (x : ℕ × ℕ). x.0) here, less))
 
 -- What waits has an entry, so that its number is one.
 pub entry_low : (left : List (Option ℕ)) (c v : ℕ) → get_or left c None ≡ Some v → c < length left
-entry_low left c v is = by_size (cases_lt c (length left))
-  where
-    by_size : (c < length left) ⊎ (length left ≤ c) → c < length left
-    by_size (inl l) = l
-    by_size (inr h) = (let clash : ◌≡◌ {A = Option ℕ} None (Some v) = sym (get_or_past left c None h) ∙ is in
-        absurd (cc clash))
+entry_low left c v is = elim (cases_lt c (length left)) [
+  | inl l ↦ l
+  | inr h ↦ (let clash : ◌≡◌ {A = Option ℕ} None (Some v) = sym (get_or_past left c None h) ∙ is in
+      absurd (cc clash))
+]
 
 pub wait_begins : {t : ForestTables} {sets : List (ℕ × ℕ)} (left : List (Option ℕ)) (many : ℕ) → AreInOrder t sets
     → many ≡ length sets → length left ≡ length t.up → ((c v : ℕ) → get_or left c None ≡ Some v → IsEntry t c v)
     → WaitWithin left sets many
 wait_begins {t} {sets} left many order all size lawful c v is =
-    found (order.has.all c (lawful c v is).high (subst (λ m. c < m) size (entry_low left c v is)) (lawful c v is).live)
+    found (order.has.all c (lawful c v is).high (rw size at (entry_low left c v is)) (lawful c v is).live)
   where
     found : Contains sets (get_or t.rank c 0, c) → (j : ℕ) × (j < many) × (j < length sets)
         × ((get_or sets j (0, 0)).1 ≡ c)
@@ -157,8 +151,7 @@ sets_more {t} {b} {xs} high live has = record {
       ≡ count (λ (set : ℕ × ℕ). f set.1) xs + (f b + 0) =
       count_append (λ (set : ℕ × ℕ). f set.1) xs ((get_or t.rank b 0, b) ∷ []) in
       let here : live_at (length t.hand) (λ k. get_or t.parts k 0) b * f b ≡ 1 * f b =
-      ap (λ (m : ℕ). m * f b) (cond-false (nat_lt b (length t.hand)) 0 (cond (eqb (get_or t.parts b 0) 0) 0 1)
-      (le-ltb b (length t.hand) high) ∙ cond-false (eqb (get_or t.parts b 0) 0) 0 1
+      ap (λ (m : ℕ). m * f b) (cond-false _ _ _ (le-ltb b (length t.hand) high) ∙ cond-false _ _ _
       (ne_eqb (get_or t.parts b 0) 0 live)) in
       let up : count_below (λ c. live_at (length t.hand) (λ k. get_or t.parts k 0) c * f c) (b + 1)
       ≡ count_below (λ c. live_at (length t.hand) (λ k. get_or t.parts k 0) c * f c) (suc b) =
@@ -169,8 +162,7 @@ sets_more {t} {b} {xs} high live has = record {
   where
     by_place : (c : ℕ) → length t.hand ≤ c → c < b + 1 → get_or t.parts c 0 ≢ 0 → (c ≡ b) ⊎ (c ≢ b)
         → Contains (xs ++ (get_or t.rank b 0, b) ∷ []) (get_or t.rank c 0, c)
-    by_place c hc lc used (inl e) = subst (λ z. Contains (xs ++ (get_or t.rank b 0, b) ∷ []) (get_or t.rank z 0, z))
-        (sym e) (Contains-push xs (get_or t.rank b 0, b))
+    by_place c hc lc used (inl e) = rw e (Contains-push xs (get_or t.rank b 0, b))
     by_place c hc lc used (inr ne) = Contains-append_left xs ((get_or t.rank b 0, b) ∷ []) (
       get_or t.rank c 0,
       c,
@@ -183,8 +175,7 @@ sets_none t xs none = record {
   all = λ b high low live. absurd (omega (arith, high, low));
   counts = λ f. none_in f xs none ∙ sym (count_below_none (λ b. live_at (length t.hand) (λ k. get_or t.parts k 0) b * f
       b) (length t.hand) (λ b l. (let z : live_at (length t.hand) (λ k. get_or t.parts k 0) b * f b
-      ≡ 0 * f b = ap (λ (m : ℕ). m * f b) (cond-true (nat_lt b (length t.hand)) 0
-      (cond (eqb (get_or t.parts b 0) 0) 0 1) (lt-ltb b (length t.hand) l)) in omega (arith, z))));
+      ≡ 0 * f b = ap (λ (m : ℕ). m * f b) (cond-true _ _ _ (lt-ltb b (length t.hand) l)) in omega (arith, z))));
 }
   where
     none_in : (f : ℕ → ℕ) (ys : List (ℕ × ℕ)) → length ys ≡ 0 → count (λ (set : ℕ × ℕ). f set.1) ys ≡ 0

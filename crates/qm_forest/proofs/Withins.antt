@@ -22,10 +22,7 @@ off_where false no' = refl
 -- A sum along a ring: without its front, of nothing, and of one place alone.
 pub ring_front : (next f : ℕ → ℕ) (from k : ℕ) → ring_sum next f from (suc k) ≡ f from + ring_sum next f (next from) k
 ring_front next f from zero = omega arith
-ring_front next f from (suc k) =
-    let h : ring_sum next f from (suc k) ≡ f from + ring_sum next f (next from) k = ring_front next f from k in
-    let last : f (walk next from (suc k)) ≡ f (walk next (next from) k) = ap f (walk_front next from k) in
-    omega (arith, h, last)
+ring_front next f from (suc k) = omega (arith, ring_front next f from k, ap f (walk_front next from k))
 
 pub ring_none : (next f : ℕ → ℕ) (from k : ℕ) → ((j : ℕ) → j < k → f (walk next from j) ≡ 0) → ring_sum next f from k
     ≡ 0
@@ -44,12 +41,11 @@ ring_one next f from (suc k) j l one others =
   where
     by_last : (j ≡ k) ⊎ (j ≢ k) → (j < k → ring_sum next f from k ≡ 1) → ring_sum next f from k + f (walk next from k)
         ≡ 1
-    by_last (inl e) more = (let here : f (walk next from k) ≡ 1 = ap (λ i. f (walk next from i)) (sym e) ∙ one in
-        omega (
+    by_last (inl e) more = omega (
           arith,
-          here,
+          ap (λ i. f (walk next from i)) (sym e) ∙ one,
           ring_none next f from k (λ i li. others i (omega (arith, li)) (λ s. absurd (omega (arith, li, s, e)))),
-        ))
+        )
     by_last (inr ne) more = omega (arith, more (omega (arith, l, ne)), others k (omega arith) (λ s. ne (sym s)))
 
 module _ (n : ℕ) (up rank : ℕ → ℕ) (rises : (x : ℕ) → up x ≢ x → rank x < rank (up x)) where
@@ -59,9 +55,8 @@ module _ (n : ℕ) (up rank : ℕ → ℕ) (rises : (x : ℕ) → up x ≢ x →
   pub rank_walk : (x k : ℕ) → rank x ≤ rank (walk up x k)
   rank_walk x zero = omega arith
   rank_walk x (suc k) = elim (cases_eq (up (walk up x k)) (walk up x k)) [
-    | inl e ↦ (let s : rank (up (walk up x k)) ≡ rank (walk up x k) = ap rank e in omega (arith, rank_walk x k, s))
-    | inr ne ↦ (let r : rank (walk up x k) < rank (up (walk up x k)) = rises (walk up x k) ne in
-        omega (arith, rank_walk x k, r))
+    | inl e ↦ omega (arith, rank_walk x k, ap rank e)
+    | inr ne ↦ omega (arith, rank_walk x k, rises (walk up x k) ne)
   ]
 
   -- What one comes to one comes past, if there are steps enough.
@@ -77,10 +72,7 @@ module _ (n : ℕ) (up rank : ℕ → ℕ) (rises : (x : ℕ) → up x ≢ x →
           by_steps zero s = absurd (ne s)
           by_steps (suc i) s =
               let there : walk up (up from) i ≡ c = sym (walk_front up from i) ∙ s in
-              let r : rank from < rank (up from) = rises from goes in
-              let h : rank (up from) ≤ rank (walk up (up from) i) = rank_walk (up from) i in
-              let same : rank (walk up (up from) i) ≡ rank c = ap rank there in
-              absurd (omega (arith, r, h, same, low))
+              absurd (omega (arith, rises from goes, rank_walk (up from) i, ap rank there, low))
   reach (suc k) {c} from j e low = by_eq (cases_eq from c) (cases_eq (up from) from) (λ i s l. reach k (up from) i s l)
     where
       by_eq : (from ≡ c) ⊎ (from ≢ c) → (up from ≡ from) ⊎ (up from ≢ from)
@@ -92,8 +84,8 @@ module _ (n : ℕ) (up rank : ℕ → ℕ) (rises : (x : ℕ) → up x ≢ x →
         where
           by_steps : (i : ℕ) → walk up from i ≡ c → (eqb from c || climbs up k c (up from)) ≡ true
           by_steps zero s = absurd (ne s)
-          by_steps (suc i) s = (let r : rank from < rank (up from) = rises from goes in
-              or_right (eqb from c) (more i (sym (walk_front up from i) ∙ s) (omega (arith, r, low))))
+          by_steps (suc i) s = (or_right (eqb from c) (more i (sym (walk_front up from i) ∙ s) (omega
+              (arith, rises from goes, low))))
 
   pub in_where : (b : ℕ) {c : ℕ} (j : ℕ) → rank c ≤ n → walk up b j ≡ c → in_it b c ≡ true
   in_where b j low e = reach n b j e (omega (arith, low))
@@ -124,10 +116,7 @@ module _ (n : ℕ) (up rank : ℕ → ℕ) (rises : (x : ℕ) → up x ≢ x →
   parts_apart x {y} {q} (suc m) ex ey nq ne e =
       let h : rank q ≤ rank (walk up q m) = rank_walk q m in
       let there : walk up q m ≡ y = ap (λ z. walk up z m) (sym ex) ∙ (sym (walk_front up x m) ∙ e) in
-      let same : rank (walk up q m) ≡ rank y = ap rank there in
-      let r : rank y < rank (up y) = rises y (λ s. nq (sym s ∙ ey)) in
-      let up_same : rank (up y) ≡ rank q = ap rank ey in
-      absurd (omega (arith, h, same, r, up_same))
+      absurd (omega (arith, h, ap rank there, rises y (λ s. nq (sym s ∙ ey)), ap rank ey))
 
   -- Two parts have nothing in common.
   pub none_in_both : (w x y : ℕ) {q : ℕ} → up x ≡ q → up y ≡ q → x ≢ q → y ≢ q → x ≢ y → in_it w x ≡ true → in_it w y
@@ -225,8 +214,7 @@ module _ (n : ℕ) (up rank : ℕ → ℕ) (rises : (x : ℕ) → up x ≢ x →
     p_part = part p (circle.marked 0)
 
     at_part : (k : ℕ) → (up (walk after (after p) k) ≡ q) × (walk after (after p) k ≢ q)
-    at_part k = subst (λ x. (up x ≡ q) × (x ≢ q)) (walk_front after p k)
-        (part (walk after p (suc k)) (circle.marked (suc k)))
+    at_part k = rw (walk_front after p k) at (part (walk after p (suc k)) (circle.marked (suc k)))
 
     at_other : (k : ℕ) → k < many - 1 → p ≢ walk after (after p) k
     at_other k l e = circle.distinct 0 (suc k) (omega arith) (omega (arith, l)) (e ∙ sym (walk_front after p k))
@@ -239,12 +227,7 @@ module _ (n : ℕ) (up rank : ℕ → ℕ) (rises : (x : ℕ) → up x ≢ x →
     q_free r er nr = off_where (in_it q r) (λ on. at_rank (where_in q r on))
       where
         at_rank : (i : ℕ) × (walk up q i ≡ r) → ⊥
-        at_rank w =
-            let h : rank q ≤ rank (walk up q w.0) = rank_walk q w.0 in
-            let same : rank (walk up q w.0) ≡ rank r = ap rank w.1 in
-            let r' : rank r < rank (up r) = rises r (λ s. nr (sym s ∙ er)) in
-            let s : rank (up r) ≡ rank q = ap rank er in
-            absurd (omega (arith, h, same, r', s))
+        at_rank w = absurd (omega (arith, rank_walk q w.0, ap rank w.1, rises r (λ s. nr (sym s ∙ er)), ap rank er))
 
     none_after : (b : ℕ) → ((k : ℕ) → k < many - 1 → in_it b (walk after (after p) k) ≡ false)
         → ring_sum after (λ r. bool_number (in_it b r)) (after p) (many - 1) ≡ 0
@@ -272,7 +255,7 @@ module _ (n : ℕ) (up rank : ℕ → ℕ) (rises : (x : ℕ) → up x ≢ x →
             in_r = in_where b w.3 (low w.0 (parts w.0 w.1 w.2)) w.4
 
             other_p : w.0 ≢ p
-            other_p e = true_false (subst (λ x. in_it b x ≡ true) e in_r) off
+            other_p e = true_false (rw e at in_r) off
 
             in_c : in_it b c ≡ true
             in_c = (let s : (i : ℕ) × (walk up b i ≡ q) = where_in b q on in
