@@ -1,7 +1,7 @@
 -- The edges that are chosen in the end, as a list.
 use Rattle.std.proofs.Common.{◌≡◌, ℕ, suc, ◌+◌, ◌-◌, ◌*◌, ◌<◌, ◌≤◌, Bool, true, false, cond, eqb, ◌&&◌, List, [], ◌∷◌}
 use Rattle.std.proofs.Common.{◌++◌, map, length, get_or, replicate, Option, Some, None, Result, Ok, Err, IfOk, ◌⊎◌}
-use Rattle.std.proofs.Common.{refl, sym, ◌∙◌, ap, subst, inl, inr, arith, length-append}
+use Rattle.std.proofs.Common.{refl, sym, ◌∙◌, ap, inl, inr, arith, length-append}
 use Rattle.std.proofs.lemmas.Bool.{cases_lt, cond-true, cond-false}
 use Rattle.std.proofs.lemmas.List.{get_or_append_left, get_or-append_right, length-replicate}
 use Rattle.def_math.specs.{Counts.count, Counts.count_below, Increasing.IsIncreasing}
@@ -177,7 +177,7 @@ module _ {t : ForestTables} (known : IsLaminar t) {g : WeightedGraph} (is : IsSm
     increasing = rw edges_is at are.increasing;
     tight = λ k l. round.tight g is valid (get_or list k 0) (are.each k l);
     once = λ w lw. (
-        let low : w < length t.hand = (rw valid.vertices lw) in
+        let low : w < length t.hand = rw valid.vertices lw in
         let low_up : w < length t.up = omega (arith, low, known.vertices) in
         let other : waits_but t w b v ≡ cond ((forest_of t).holds b w) (cond (eqb w v) 0 1) 0 =
         ap (λ (s : Bool). cond ((forest_of t).holds b w) (cond s 0 1) 0) (alone t known w v low lv) in

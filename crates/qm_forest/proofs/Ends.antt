@@ -2,8 +2,8 @@
 use Rattle.std.proofs.Common.{◌≡◌, ◌≢◌, ℕ, suc, ◌*◌, ◌<◌, ◌≤◌, Bool, true, false, cond, List, [], ◌∷◌, map, length}
 use Rattle.std.proofs.lemmas.Int.{ints}
 use Rattle.std.proofs.lemmas.Bool.{cases_eq, cases_lt}
-use Rattle.std.proofs.Common.{get_or, ℤ, pos, ◌+ℤ◌, ◌*ℤ◌, Option, None, ◌⊎◌, refl, sym, ◌∙◌, ap, subst, inl, inr, arith}
-use Rattle.def_math.specs.{Increasing.IsIncreasing, Sums.total}
+use Rattle.std.proofs.Common.{get_or, ℤ, pos, ◌+ℤ◌, ◌*ℤ◌, Option, None, ◌⊎◌, refl, sym, ◌∙◌, ap, inl, inr, arith}
+use Rattle.def_math.specs.{Sums.total}
 use Rattle.sum_laws.proofs.Sums.{total_below_same, two_orders}
 use Rattle.def_matching.specs.Matching.{WeightedGraph, IsSmallGraph, IsPerfect, edge_at}
 use Rattle.def_matching.specs.{Matching.matching_cost, Dual.crosses, declared.weighted.WEdge.WEdge}
@@ -61,7 +61,7 @@ module _ (t : ForestTables) (known : IsLaminar t) (g : WeightedGraph) (is : IsSm
   pub perfect : IsPerfect g list
   perfect = record {
     increasing = rw (edges_is known is valid size are) at are.increasing;
-    once = λ w l. (let lw : w < length t.hand = (rw valid.vertices l) in
+    once = λ w l. (let lw : w < length t.hand = rw valid.vertices l in
         met_as_left known is valid size are w lw ∙ left_once w lw);
   }
 

@@ -1,10 +1,10 @@
 -- Expanding, step by step: what each of its calls needs, and the forest after all of them.
-use Rattle.std.proofs.Common.{◌≡◌, ◌≢◌, ℕ, ◌+◌, ◌*◌, ◌<◌, ◌≤◌, ◌^◌, ◌-◌, ◌%◌, Bool, true, false, length, pos, Option}
-use Rattle.std.proofs.Common.{Some, None, ◌⊎◌, refl, sym, ◌∙◌, ap, subst, inl, inr, arith}
+use Rattle.std.proofs.Common.{◌≡◌, ◌≢◌, ℕ, ◌*◌, ◌<◌, ◌≤◌, ◌^◌, Bool, true, length, pos, Option}
+use Rattle.std.proofs.Common.{Some, None, refl, sym, ◌∙◌, ap, subst, inl, inr, arith}
 use Rattle.def_matching.specs.Matching.{WeightedGraph, IsSmallGraph}
 use Rattle.def_forest.specs.{Darts.Darts, Darts.darts_of, Forests.Forest, Forests.walk, Opened.IsExpanding}
 use Rattle.def_forest.specs.Tables.{ForestTables, forest_of, IsOutermostIn, IsValidFor}
-use Rattle.def_forest.specs.{Valid.IsTree, Valid.IsValid, Ways.dart_or, declared.kinds.Label.TheVariants.Inner}
+use Rattle.def_forest.specs.{Valid.IsTree, Ways.dart_or, declared.kinds.Label.TheVariants.Inner}
 use Rattle.def_forest.specs.declared.kinds.Label.TheVariants.{Outside}
 use Rattle.forest_laws.specs.Walks.{listed}
 use Rattle.forest_laws.proofs.{Circles.IsCircle, ExpandedTrees.opened_valid}
@@ -178,10 +178,10 @@ module _ {g : WeightedGraph} (is : IsSmallGraph g) {t0 : ForestTables} (valid : 
               room = room_kept t6 valid (fixed ∙ (opened.fixed ∙ opened.same.fixed));
               vertices = hand ∙ hand2;
               valid = rw (root, tree.1) (rw seen (opened_valid (record {
-                    are = are ready;
-                    valid = rw tree.1 at valid.valid;
-                    tree = tree.2;
-                    opening = expanded.opening;
-                    is = expanded.opened;
-                  })));
+                are = are ready;
+                valid = rw tree.1 at valid.valid;
+                tree = tree.2;
+                opening = expanded.opening;
+                is = expanded.opened;
+              })));
             }

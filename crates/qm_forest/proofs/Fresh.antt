@@ -89,8 +89,13 @@ module _ (n size : ℕ) (lows : List ℤ) (t : ForestTables) (hid : HiddenTables
 
   added_is : (v : ℕ) → v < n → added t.hand t.top hid.off t.label t.delta v ≡ pos 0
   added_is v l =
-      omega (arith, ints, same_everywhere n (pos 0) fresh.offs (get_or t.hand v 0), change_none
-          (out_of t.hand t.top v) t.delta)
+      omega (
+        arith,
+        ints,
+        same_everywhere n (pos 0) fresh.offs (get_or t.hand v 0),
+        change_none
+            (out_of t.hand t.top v) t.delta,
+      )
 
   -- Each is the list of itself.
   list_at : {xs : List ℕ} (x : ℕ) → IsCounted size xs → x < n → get_or xs x 0 ≡ x
@@ -105,13 +110,13 @@ module _ (n size : ℕ) (lows : List ℤ) (t : ForestTables) (hid : HiddenTables
 
   listed_self : (x : ℕ) → x < n → IsListed n (λ k. get_or hid.following k 0) (get_or hid.first x 0)
       (get_or hid.last x 0) (get_or t.rank x 0) (climbs (up_at t.up) n x)
-  listed_self x l = (rw ((rank_is x l), (list_at x fresh.lists.2 l), (list_at x fresh.lists.1 l)) (record {
-        all = λ v lv. eqb_order x v ∙ sym (climbs_self (up_at t.up) n x (up_self v));
-        low = λ k lk. first_low k lk;
-        distinct = λ i j lij lj. absurd (omega (arith, lij, lj));
-        ends = λ k e. first_is k e;
-        some = omega arith;
-      }))
+  listed_self x l = (rw (rank_is x l, list_at x fresh.lists.2 l, list_at x fresh.lists.1 l) (record {
+    all = λ v lv. eqb_order x v ∙ sym (climbs_self (up_at t.up) n x (up_self v));
+    low = λ k lk. first_low k lk;
+    distinct = λ i j lij lj. absurd (omega (arith, lij, lj));
+    ends = λ k e. first_is k e;
+    some = omega arith;
+  }))
     where
       first_low : (k : ℕ) → k < 1 → walk (λ k. get_or hid.following k 0) x k < n
       first_low zero lk = l
@@ -150,10 +155,10 @@ module _ (n size : ℕ) (lows : List ℤ) (t : ForestTables) (hid : HiddenTables
 
   fresh_nest : IsLaidOut n size t.hand t.top t.up t.rank t.parts hid.leader hid.first hid.last hid.following
   fresh_nest = record {
-    hands = λ v l. (rw ((hand_is v l), fresh.top.size) l);
-    outs = λ h l. (let lh : h < n = (rw fresh.top.size at l) in
+    hands = λ v l. rw (hand_is v l, fresh.top.size) l;
+    outs = λ h l. (let lh : h < n = rw fresh.top.size at l in
         (rw (fresh.top.each h lh) (omega (arith, vertices))));
-    ups = λ b l. (rw (fresh.up.each b l) l);
+    ups = λ b l. rw (fresh.up.each b l) l;
     climb = record {
       ends = λ v l. walk_stays (up_at t.up) n (up_self v) ∙ sym (out_is v l);
       tops = λ v l. up_self (out_of t.hand t.top v);
@@ -240,7 +245,7 @@ module _ (n size : ℕ) (lows : List ℤ) (t : ForestTables) (hid : HiddenTables
     outermost : AreOutermost g.n (forest_of t)
     outermost = record {
       vertices = omega (arith, size_up, vertices, n_is);
-      out_low = λ v l. (rw (outs v l) (omega (arith, size_up, vertices, n_is)));
+      out_low = λ v l. rw (outs v l) (omega (arith, size_up, vertices, n_is));
       held = λ u v lu lv. holds_is ((forest_of t).out u) v ∙ ap (λ k. eqb k ((forest_of t).out u)) (sym (outs v lv));
       tops = λ v l. up_self ((forest_of t).out v);
       together = λ b u v lu lv hu hv. outs u lu
@@ -271,8 +276,8 @@ module _ (n size : ℕ) (lows : List ℤ) (t : ForestTables) (hid : HiddenTables
 
     feasible : IsFeasible (darts_of g) (forest_of t)
     feasible = record {
-      sets = λ b high low. (rw (weight_is b ∙ get_or_past lows b (pos 0) (rw (fresh.size_lows ∙ n_is) high)) (omega
-          (arith, ints)));
+      sets = λ b high low. rw (weight_is b ∙ get_or_past lows b (pos 0) (rw (fresh.size_lows ∙ n_is) high)) (
+          omega (arith, ints));
       darts = λ d low. by_side d low (cases_eq (d % 2) 0);
     }
       where

@@ -1,6 +1,6 @@
 -- The tables after a ring of outermost blossoms was gathered into a set.
-use Rattle.std.proofs.Common.{◌≡◌, ◌≢◌, ℕ, suc, ◌+◌, ◌-◌, ◌<◌, ◌≤◌, Bool, true, false, cond, eqb, List, length, get_or}
-use Rattle.std.proofs.Common.{ℤ, pos, ◌+ℤ◌, ◌-ℤ◌, ◌⊎◌, Option, None, refl, sym, ◌∙◌, ap, subst, inl, inr}
+use Rattle.std.proofs.Common.{◌≡◌, ◌≢◌, ℕ, suc, ◌-◌, ◌<◌, ◌≤◌, Bool, true, false, cond, eqb, List, length, get_or}
+use Rattle.std.proofs.Common.{pos, ◌⊎◌, Option, Some, None, refl, sym, ◌∙◌, ap, subst, inl, inr}
 use Rattle.std.proofs.Common.{length-set, get_or-set_same, get_or-set_other, arith}
 use Rattle.std.proofs.Math.ListN.{set}
 use Rattle.std.proofs.lemmas.Int.{ints}
@@ -25,10 +25,10 @@ use Rattle.qm_forest.proofs.GatheredRows.{row_top, unused}
 use Rattle.qm_forest.proofs.JoinedLists.{list_agrees, list_has_last, list_last, list_member, list_renamed, row_joined}
 use Rattle.qm_forest.proofs.{JoinedLists.walk_agrees, JoinedRows.ring_sum_above, KeptTies.numbers_kept}
 use Rattle.qm_forest.proofs.{KeptTies.tied_as, KeptTies.trail_kept, Nests.out_used, Nests.rank_few, Nests.rank_passed}
-use Rattle.qm_forest.proofs.{Nests.rank_some, Pooled.pool_taken, Ranges.read_nat, TiedWrites.entry_set}
+use Rattle.qm_forest.proofs.{Nests.rank_some, Pooled.pool_changed, Ranges.read_nat, TiedWrites.entry_set}
 
--- A free ring that is gathered: its vertices got one handle, its lists were joined, and set b, which was free, is around
--- its blossoms.
+-- A free ring that is gathered: its vertices got one handle, its lists were joined, and set b, which was free, is
+-- around its blossoms.
 pub record Gathering (h h2 : Handles) (l l2 : Lists) (r r2 : Rings) (trail : Trail) (w : Weights) (e : Tree)
     (pool pool2 : List (Option Node)) (room : Option GraphSize) (root2 : Option ℕ) (front many b big : ℕ)
     : Type 0 where
@@ -332,15 +332,16 @@ module _ {h h2 : Handles} {l l2 : Lists} {r r2 : Rings} {trail : Trail} {w : Wei
       ≡ told hid.q t.hand t.top hid.off t.label t.delta v
   told_new v lv = elim (cases_Bool (inside (out v))) [
     | inl on ↦
-        (rw (out_in v lv on, hand_in v lv on, b_outside free, row_outside free (out v) on) (omega
-        (arith, ints, renamed.q v lv ∙ cond-true _ _ _ on)))
+        (rw (out_in v lv on, hand_in v lv on, b_outside free, row_outside free (out v) on) (
+        omega (arith, ints, renamed.q v lv ∙ cond-true _ _ _ on)))
     | inr off ↦ (let q : get_or h2.q.items v (pos 0) ≡ get_or hid.q v (pos 0) = renamed.q v lv ∙ cond-false _ _ _ off in
         rw (out_off v lv off, hand_off v lv off, q))
   ]
 
   -- What the handle of a vertex adds is what some handle added.
   moved_new : (v : ℕ) → v < n → (u : ℕ) × (u < n)
-      × (added h2.hand.items (set t.top handle b) hid.off t.label t.delta v ≡ added t.hand t.top hid.off t.label t.delta u)
+      × (added h2.hand.items (set t.top handle b) hid.off t.label t.delta v
+      ≡ added t.hand t.top hid.off t.label t.delta u)
   moved_new v lv = elim (cases_Bool (inside (out v))) [
     | inl on ↦ (
       handle,
@@ -350,7 +351,8 @@ module _ {h h2 : Handles} {l l2 : Lists} {r r2 : Rings} {trail : Trail} {w : Wei
     | inr off ↦ (v, lv, rw (out_off v lv off, hand_off v lv off))
   ]
 
-  numbers_new : HasNumbers h2.hand.items (set t.top handle b) r2.up.items t.base t.label t.delta root2 h2.q.items hid.off
+  numbers_new : HasNumbers h2.hand.items (set t.top handle b) r2.up.items t.base t.label t.delta root2 h2.q.items
+      hid.off
   numbers_new = numbers_kept tied (ring.weightless b high dead) renamed.hands enclosed.size holds_old root_is told_new
       moved_new
 
@@ -361,8 +363,8 @@ module _ {h h2 : Handles} {l l2 : Lists} {r r2 : Rings} {trail : Trail} {w : Wei
   ])
 
   pool_new : IsPooled n (length t.up) r2.parts.items pool2
-  pool_new = rw (enclosed.parts, took.taken) (pool_taken n (length t.up) t.parts hid.pool tied.pool b many took.id
-      took.node high low tied.sizes.parts dead (λ z. absurd (omega (arith, z, ring.two))) took.is took.free)
+  pool_new = rw (enclosed.parts, took.taken) (pool_changed tied.pool took.id high low tied.sizes.parts took.is took.free
+      (inl (refl, dead)) (Some took.node) many (inr (took.node, refl, (λ z. absurd (omega (arith, z, ring.two))))))
 
   abbrev pub gathered : ForestTables
   gathered = record t {

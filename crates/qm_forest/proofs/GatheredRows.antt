@@ -8,8 +8,8 @@ use Rattle.forest_laws.specs.Walks.{listed}
 use Rattle.forest_laws.proofs.{Walks.listed_at, Walks.listed_place, Walks.listed_off, Writes.label_cases}
 use Rattle.forest_laws.proofs.Writes.{true_false}
 use Rattle.qm_forest.specs.{Gathers.IsFreeRing, Ties.AreTied, Ties.HiddenTables, Ties.IsInUse, Ties.IsListed}
-use Rattle.qm_forest.proofs.{JoinedLists.list_has_last, JoinedLists.list_renamed, Nests.came_past, Nests.last_free, Nests.out_used}
-use Rattle.qm_forest.proofs.Nests.{reached_used, held_out, leader_low, leader_out}
+use Rattle.qm_forest.proofs.{JoinedLists.list_has_last, JoinedLists.list_renamed, Nests.came_past, Nests.last_free}
+use Rattle.qm_forest.proofs.Nests.{out_used, reached_used, held_out, leader_low, leader_out}
 
 -- A ring that is free to be gathered, a number for its set, and one of its blossoms.
 pub record FreeRow (t : ForestTables) (hid : HiddenTables) (front many b big : ℕ) : Type 0 where
@@ -89,8 +89,8 @@ module _ {t : ForestTables} {hid : HiddenTables} {front many b big : ℕ} (free 
       ≡ leader k)
   leader_at k l =
       let v : (v : ℕ) × (v < n) × (out v ≡ at k) = ring.tops k l in
-      let lv : leader k < n = (rw v.2 at (leader_low tied.nest v.0 v.1)) in
-      let own : out (leader k) ≡ at k = (rw v.2 at (leader_out tied.nest v.0 v.1)) in
+      let lv : leader k < n = rw v.2 at (leader_low tied.nest v.0 v.1) in
+      let own : out (leader k) ≡ at k = rw v.2 at (leader_out tied.nest v.0 v.1) in
       (lv, own, tied.nest.led (leader k) lv ∙ ap (λ x. get_or hid.leader x 0) own)
 
   pub handle_at : (handle < n) × (out handle ≡ big) × (get_or t.hand handle 0 ≡ handle)

@@ -1,11 +1,11 @@
 -- Gathering a ring, step by step: what each of its loops needs, and the tie and the forest after all of them.
-use Rattle.std.proofs.Common.{◌≡◌, ◌≢◌, ℕ, ◌<◌, ◌≤◌, ◌^◌, cond, eqb}
-use Rattle.std.proofs.Common.{List, length, get_or, pos, ◌+ℤ◌, ◌⊎◌, Option}
-use Rattle.std.proofs.Common.{Some, None, refl, sym, ◌∙◌, ap, subst}
+use Rattle.std.proofs.Common.{◌≡◌, ℕ, ◌<◌, ◌≤◌, ◌^◌, cond}
+use Rattle.std.proofs.Common.{List, length, get_or, pos, ◌+ℤ◌, Option}
+use Rattle.std.proofs.Common.{Some, None, refl, sym, ◌∙◌, ap}
 use Rattle.std.proofs.{Common.inl, Common.inr, Common.arith, Math.ListN.set, lemmas.Int.ints, lemmas.Bool.cases_lt}
 use Rattle.std.proofs.{lemmas.List.get_or_past, lemmas.Option.slice_get_within}
 use Rattle.std.specs.Prelude.{unsigned_abs}
-use Rattle.def_forest.specs.Forests.{Forest, walk, ring_sum}
+use Rattle.def_forest.specs.Forests.{Forest, walk}
 use Rattle.def_forest.specs.Steps.{weight_change}
 use Rattle.def_forest.specs.Tables.{GraphSize, ForestTables, forest_of, label_at, out_of, IsOutermostIn}
 use Rattle.forest_laws.specs.Walks.{listed}
@@ -86,8 +86,8 @@ module _ (h : Handles) (l : Lists) (r : Rings) (trail : Trail) (w : Weights) (e 
         led = tied.nest.led;
         small_q = q_small;
         small_off = off_small;
-        small_leaders = λ k lk. (rw (leader_at free k lk).2 at (off_small (get_or l.leader.items (at k) 0)
-            (leader_at free k lk).0));
+        small_leaders = λ k lk. rw (leader_at free k lk).2 at (off_small (get_or l.leader.items (at k) 0)
+            (leader_at free k lk).0);
       }
 
       pub joinable : AreJoinable l r.after.items front many

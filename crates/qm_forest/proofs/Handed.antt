@@ -1,6 +1,5 @@
 -- What a forest hands out, whose room was taken out before.
 use Rattle.std.proofs.Common.{◌≡◌, ◌≢◌, ℕ, ◌*◌, ◌<◌, ◌≤◌, List, length, Option, Some, None, pos, ◌*ℤ◌, sym, ◌∙◌, ap}
-use Rattle.std.proofs.Common.{subst}
 use Rattle.def_matching.specs.Matching.{WeightedGraph, IsSmallGraph, IsPerfect, matching_cost}
 use Rattle.def_matching.specs.Dual.{DualLists, SaysYes, dual_sum}
 use Rattle.def_forest.specs.Tables.{ForestTables, GraphSize, forest_of, IsValidFor}

@@ -1,6 +1,6 @@
 -- Handing the vertices of the parts of a set over to their own leaders, one part after another.
 use Rattle.std.proofs.Common.{◌≡◌, ◌≢◌, ℕ, zero, suc, ◌<◌, ◌≤◌, ◌^◌, true, false, List, length, get_or, ℤ, pos}
-use Rattle.std.proofs.Common.{◌⊎◌, refl, sym, ◌∙◌, ap, subst, inl, inr, arith, length-set}
+use Rattle.std.proofs.Common.{◌⊎◌, refl, sym, ◌∙◌, ap, inl, inr, arith, length-set}
 use Rattle.std.proofs.Math.ListN.{set}
 use Rattle.std.proofs.lemmas.Bool.{cases_eq, cases_Bool, cond-true, cond-false}
 use Rattle.std.specs.Prelude.{unsigned_abs}
@@ -40,7 +40,7 @@ module _ (h0 h1 : Handles) (lists : Lists) (after : List ℕ) (front many set' k
     following = was.following ∙ sym done.hands;
     few = omega (arith, was.few, done.hands);
     many = omega (arith, was.many, done.hands);
-    low = λ j lj. (rw done.hands (was.low j lj));
+    low = λ j lj. rw done.hands (was.low j lj);
     distinct = was.distinct;
   })
 
@@ -69,8 +69,8 @@ module _ (h0 h1 : Handles) (lists : Lists) (after : List ℕ) (front many set' k
       → HasHandedRow h0 h2 lists after front j set'
   row_more {h2} {j} j_is one' = (rw j_is (record {
     own = λ i v li on. own i v li on (cases_eq i k);
-    other = λ v off. one.hand v ∙ (cond-false _ _ _ (off k (omega arith)) ∙ done.other v (λ i li. off i (omega
-        (arith, li))));
+    other = λ v off. one.hand v ∙ (cond-false _ _ _ (off k (omega arith)) ∙ done.other v (λ i li. off i (
+        omega (arith, li))));
     q = λ v. one.q v ∙ done.q v;
     hands = one.hands ∙ done.hands;
     qs = one.qs ∙ done.qs;

@@ -1,5 +1,5 @@
 -- The parts of a set that is opened, one more of them matched, or hung into the tree.
-use Rattle.std.proofs.Common.{◌≡◌, ℕ, suc, ◌-◌, ◌%◌, ◌<◌, Bool, eqb, length, Some, sym, ◌∙◌, ap, subst}
+use Rattle.std.proofs.Common.{◌≡◌, ℕ, suc, ◌-◌, ◌%◌, ◌<◌, Bool, eqb, length, Some, sym, ◌∙◌, ap}
 use Rattle.def_forest.specs.{Forests.Forest, Forests.walk, Tables.ForestTables, declared.kinds.Label.Label}
 use Rattle.qm_forest.specs.Parts.{hung, paired, side_dart, turn_label}
 use Rattle.qm_forest.specs.Ties.{HasSameNest, labelled, linked, mated}
@@ -42,4 +42,4 @@ place_low {u} x y same e l = rw (e, same.up) l
 
 pub dart_low : (f u : Forest) {x y : ℕ} (most : ℕ) → u.nest.joint ≡ f.nest.joint → x ≡ y → f.nest.joint y < most
     → u.nest.joint x < most
-dart_low f u {y} most same e l = (rw (e, same) l)
+dart_low f u {y} most same e l = rw (e, same) l

@@ -14,150 +14,154 @@ use Rattle.forest_laws.proofs.WayLaws.{some_none}
 use Rattle.qm_forest.specs.Rings.{AreOnBoth, HasClimbed}
 
 module _ (g : WeightedGraph) (is : IsSmallGraph g) (s : ForestTables) (valid : IsValidFor g s) where
-  are : AreDarts (darts_of g)
+  abbrev pub darts : Darts
+  darts = darts_of g
+
+  abbrev pub f : Forest
+  f = forest_of s
+
+  -- The dart up from a blossom, the blossom there, so many steps up, and how many steps the root is away.
+  abbrev pub rise : ℕ → Option ℕ
+  rise = rise_of f
+
+  abbrev pub above : ℕ → ℕ
+  above = above_of darts f
+
+  abbrev pub way : ℕ → ℕ → ℕ
+  way = way_of darts f
+
+  abbrev pub level : ℕ → ℕ
+  level = level_of darts f
+
+  are : AreDarts darts
   are = are_darts is.lawful
 
-  module _ (b : ℕ) (named : (forest_of s).label b ≢ Outside) where
-    pub the_tree : (r : ℕ) × (s.root ≡ Some r) × IsTree (darts_of g) (forest_of s) r
+  module _ (b : ℕ) (named : f.label b ≢ Outside) where
+    pub the_tree : (r : ℕ) × (s.root ≡ Some r) × IsTree darts f r
     the_tree = tree_of are valid.valid b named
 
-    pub rooted_here : IsValid (darts_of g) (forest_of s) (Some the_tree.0)
+    pub rooted_here : IsValid darts f (Some the_tree.0)
     rooted_here = rw the_tree.1 at valid.valid
 
     -- A blossom of the tree is outermost, so its number is low.
     pub named_low : b < length s.up
-    named_low = let w : IsOutermost g.n (forest_of s) b = valid.valid.outermost.named b named in
+    named_low = let w : IsOutermost g.n f b = valid.valid.outermost.named b named in
         (rw w.2 at (valid.valid.outermost.out_low w.0 w.1))
 
     -- The dart up is one of the graph, and ends at a vertex.
-    pub rise_low : (d : ℕ) → rise_of (forest_of s) b ≡ Some d → d < 2 * length g.edges
+    pub rise_low : (d : ℕ) → rise b ≡ Some d → d < 2 * length g.edges
     rise_low d e = (step_up are rooted_here the_tree.2 b d named e).tight.low
 
-    pub rise_named : (d : ℕ) → rise_of (forest_of s) b ≡ Some d
-        → (forest_of s).label (above_of (darts_of g) (forest_of s) b) ≢ Outside
+    pub rise_named : (d : ℕ) → rise b ≡ Some d → f.label (above b) ≢ Outside
     rise_named d e = (step_up are rooted_here the_tree.2 b d named e).named
 
-    pub rise_level : (d : ℕ) → rise_of (forest_of s) b ≡ Some d → level_of (darts_of g) (forest_of s) b
-        ≡ suc (level_of (darts_of g) (forest_of s) (above_of (darts_of g) (forest_of s) b))
+    pub rise_level : (d : ℕ) → rise b ≡ Some d → level b ≡ suc (level (above b))
     rise_level d e = (step_up are rooted_here the_tree.2 b d named e).lower
 
-    pub root_level : rise_of (forest_of s) b ≡ None → level_of (darts_of g) (forest_of s) b ≡ 0
+    pub root_level : rise b ≡ None → level b ≡ 0
     root_level e = (at_root are rooted_here the_tree.2 b named e).1
 
-    pub rise_some : 1 ≤ level_of (darts_of g) (forest_of s) b → (d : ℕ) × (rise_of (forest_of s) b ≡ Some d)
+    pub rise_some : 1 ≤ level b → (d : ℕ) × (rise b ≡ Some d)
     rise_some l = level_some are rooted_here the_tree.2 b named l
 
     -- Places on the way from it.
-    pub way_named : (i : ℕ) → i ≤ level_of (darts_of g) (forest_of s) b
-        → (forest_of s).label (way_of (darts_of g) (forest_of s) b i) ≢ Outside
+    pub way_named : (i : ℕ) → i ≤ level b → f.label (way b i) ≢ Outside
     way_named i l = (on_way are rooted_here the_tree.2 b i named l).0
 
-    pub way_level : (i : ℕ) → i ≤ level_of (darts_of g) (forest_of s) b
-        → level_of (darts_of g) (forest_of s) (way_of (darts_of g) (forest_of s) b i) + i
-        ≡ level_of (darts_of g) (forest_of s) b
+    pub way_level : (i : ℕ) → i ≤ level b → level (way b i) + i ≡ level b
     way_level i l = (on_way are rooted_here the_tree.2 b i named l).1
 
-  module _ (a : ℕ) (named : (forest_of s).label a ≢ Outside) (i : ℕ)
-      (l : i < level_of (darts_of g) (forest_of s) a) where
+  module _ (a : ℕ) (named : f.label a ≢ Outside) (i : ℕ) (l : i < level a) where
     abbrev place : ℕ
-    place = way_of (darts_of g) (forest_of s) a i
+    place = way a i
 
-    place_named : (forest_of s).label place ≢ Outside
+    place_named : f.label place ≢ Outside
     place_named = way_named a named i (omega (arith, l))
 
-    pub place_rise : (d : ℕ) × (rise_of (forest_of s) place ≡ Some d)
+    pub place_rise : (d : ℕ) × (rise place ≡ Some d)
     place_rise = rise_some place place_named (omega (arith, l, way_level a named i (omega (arith, l))))
 
-    pub place_rises : rise_of (forest_of s) place ≢ None
-    place_rises = some_none (rise_of (forest_of s) place) place_rise.0 place_rise.1
+    pub place_rises : rise place ≢ None
+    place_rises = some_none (rise place) place_rise.0 place_rise.1
 
     pub place_low : place < length s.up
     place_low = named_low place place_named
 
-    pub next_low : way_of (darts_of g) (forest_of s) a (suc i) < length s.up
-    next_low = named_low (way_of (darts_of g) (forest_of s) a (suc i)) (way_named a named (suc i) l)
+    pub next_low : way a (suc i) < length s.up
+    next_low = named_low (way a (suc i)) (way_named a named (suc i) l)
 
-    pub place_dart : dart_or (rise_of (forest_of s) place) < 2 * length g.edges
+    pub place_dart : dart_or (rise place) < 2 * length g.edges
     place_dart = rw (ap dart_or place_rise.1) (rise_low place place_named place_rise.0 place_rise.1)
 
   -- A climber is in the tree, and so many levels nearer to the root.
-  pub climbed_named : {b : ℕ} → (forest_of s).label b ≢ Outside → {at count : ℕ}
-      → HasClimbed (darts_of g) (forest_of s) b at count → (forest_of s).label at ≢ Outside
-  climbed_named {b} named {count} is = (rw is.way (way_named b named count is.low))
+  pub climbed_named : {b : ℕ} → f.label b ≢ Outside → {at count : ℕ}
+      → HasClimbed darts f b at count → f.label at ≢ Outside
+  climbed_named {b} named {count} is = rw is.way (way_named b named count is.low)
 
-  pub climbed_level : (b : ℕ) → (forest_of s).label b ≢ Outside → (at count : ℕ)
-      → HasClimbed (darts_of g) (forest_of s) b at count → level_of (darts_of g) (forest_of s) at + count
-      ≡ level_of (darts_of g) (forest_of s) b
-  climbed_level b named at count is = ap (λ z. level_of (darts_of g) (forest_of s) z + count) is.way
-      ∙ way_level b named count is.low
+  pub climbed_level : (b : ℕ) → f.label b ≢ Outside → (at count : ℕ) → HasClimbed darts f b at count → level at + count
+      ≡ level b
+  climbed_level b named at count is = ap (λ z. level z + count) is.way ∙ way_level b named count is.low
 
   -- The blossom that the dart up reaches is one level nearer to the root.
-  pub far_level : (b : ℕ) → (forest_of s).label b ≢ Outside → (d : ℕ) → rise_of (forest_of s) b ≡ Some d → {x : ℕ}
-      → x ≡ (forest_of s).out (far (darts_of g) d) → ((forest_of s).label x ≢ Outside)
-      × (level_of (darts_of g) (forest_of s) b ≡ suc (level_of (darts_of g) (forest_of s) x))
-  far_level b named d rise {x} x_is =
-      let up : x ≡ above_of (darts_of g) (forest_of s) b =
-      x_is ∙ sym (ap (λ o. (forest_of s).out (far (darts_of g) (dart_or o))) rise) in (
-        (rw up (rise_named b named d rise)),
-        rise_level b named d rise ∙ ap (λ y. suc (level_of (darts_of g) (forest_of s) y)) (sym up),
+  pub far_level : (b : ℕ) → f.label b ≢ Outside → (d : ℕ) → rise b ≡ Some d → {x : ℕ}
+      → x ≡ f.out (far darts d) → (f.label x ≢ Outside) × (level b ≡ suc (level x))
+  far_level b named d rises {x} x_is =
+      let up : x ≡ above b =
+      x_is ∙ sym (ap (λ o. f.out (far darts (dart_or o))) rises) in (
+        (rw up (rise_named b named d rises)),
+        rise_level b named d rises ∙ ap (λ y. suc (level y)) (sym up),
       )
 
   -- So it is where a climber from below comes to next.
-  pub far_way : {b : ℕ} → (forest_of s).label b ≢ Outside → {at count : ℕ} (d : ℕ) {x : ℕ}
-      → HasClimbed (darts_of g) (forest_of s) b at count → rise_of (forest_of s) at ≡ Some d
-      → x ≡ (forest_of s).out (far (darts_of g) d) → HasClimbed (darts_of g) (forest_of s) b x (count + 1)
-  far_way {b} named {at} {count} d {x} is rise x_is =
-      let next : level_of (darts_of g) (forest_of s) at ≡ suc (level_of (darts_of g) (forest_of s) x) =
-      (far_level at (climbed_named named is) d rise x_is).1 in
+  pub far_way : {b : ℕ} → f.label b ≢ Outside → {at count : ℕ} (d : ℕ) {x : ℕ}
+      → HasClimbed darts f b at count → rise at ≡ Some d → x ≡ f.out (far darts d) → HasClimbed darts f b x (count + 1)
+  far_way {b} named {at} {count} d {x} is rises x_is =
+      let next : level at ≡ suc (level x) = (far_level at (climbed_named named is) d rises x_is).1 in
       let one : suc count ≡ count + 1 = omega arith in
-      subst (λ k. HasClimbed (darts_of g) (forest_of s) b x k) one (record {
-        way = x_is ∙ (sym (ap (λ o. (forest_of s).out (far (darts_of g) (dart_or o))) rise)
-            ∙ ap (above_of (darts_of g) (forest_of s)) is.way);
+      subst (λ k. HasClimbed darts f b x k) one (record {
+        way = x_is ∙ (sym (ap (λ o. f.out (far darts (dart_or o))) rises) ∙ ap (above) is.way);
         low = omega (arith, climbed_level b named at count is, next);
       })
 
-  module _ (a c : ℕ) (named_a : (forest_of s).label a ≢ Outside) where
+  module _ (a c : ℕ) (named_a : f.label a ≢ Outside) where
     -- A climber is in the tree.
-    pub climb_named : {x y i j : ℕ} → IsClimbing (darts_of g) (forest_of s) a c x y i j
-        → (forest_of s).label x ≢ Outside
+    pub climb_named : {x y i j : ℕ} → IsClimbing darts f a c x y i j → f.label x ≢ Outside
     climb_named {i} is = rw is.x_is (way_named a named_a i is.x_low)
 
-    module _ (named_c : (forest_of s).label c ≢ Outside) where
-      pub climb_low : {x y i j : ℕ} → IsClimbing (darts_of g) (forest_of s) a c x y i j → x ≢ y
-          → level_of (darts_of g) (forest_of s) c - j ≤ level_of (darts_of g) (forest_of s) a - i
-          → i < level_of (darts_of g) (forest_of s) a
+    module _ (named_c : f.label c ≢ Outside) where
+      pub climb_low : {x y i j : ℕ} → IsClimbing darts f a c x y i j → x ≢ y → level c - j ≤ level a - i → i < level a
       climb_low is ne high = can_climb are (rooted_here a named_a) (the_tree a named_a).2 a c named_a named_c is ne high
 
-      pub climb_rises : {x y i j : ℕ} → IsClimbing (darts_of g) (forest_of s) a c x y i j → x ≢ y
-          → level_of (darts_of g) (forest_of s) c - j ≤ level_of (darts_of g) (forest_of s) a - i
-          → rise_of (forest_of s) x ≢ None
+      pub climb_rises : {x y i j : ℕ} → IsClimbing darts f a c x y i j → x ≢ y → level c - j ≤ level a - i
+          → rise x ≢ None
       climb_rises {i} is ne high = rw is.x_is (place_rises a named_a i (climb_low is ne high))
 
-      pub climb_turn : {x y : ℕ} {x2 : ℕ} {i j : ℕ} → IsClimbing (darts_of g) (forest_of s) a c x y i j → x ≢ y
-          → level_of (darts_of g) (forest_of s) c - j ≤ level_of (darts_of g) (forest_of s) a - i
-          → x2 ≡ above_of (darts_of g) (forest_of s) x → IsClimbing (darts_of g) (forest_of s) a c x2 y (i + 1) j
+      pub climb_turn : {x y : ℕ} {x2 : ℕ} {i j : ℕ} → IsClimbing darts f a c x y i j → x ≢ y → level c - j ≤ level a - i
+          → x2 ≡ above x → IsClimbing darts f a c x2 y (i + 1) j
       climb_turn {y} {x2} {i} {j} is ne high x2_is =
           let one : suc i ≡ i + 1 = omega arith in
           (rw one at (climb_on are (rooted_here a named_a) (the_tree a named_a).2 a c named_a named_c is ne high x2_is))
 
   -- Each climber's level tells how far the other has come, where there is a blossom that both come to.
-  module _ {a c high low : ℕ} (named_a : (forest_of s).label a ≢ Outside) (named_c : (forest_of s).label c ≢ Outside)
-      (both : AreOnBoth (darts_of g) (forest_of s) a c high low) where
-    both_level : level_of (darts_of g) (forest_of s) a + low ≡ level_of (darts_of g) (forest_of s) c + high
-    both_level =
-        omega (arith, ap (level_of (darts_of g)
-            (forest_of s)) both.met, way_level a named_a high both.left_low, way_level c named_c low both.right_low)
+  module _ {a c high low : ℕ} (named_a : f.label a ≢ Outside) (named_c : f.label c ≢ Outside)
+      (both : AreOnBoth darts f a c high low) where
+    both_level : level a + low ≡ level c + high
+    both_level = omega (
+      arith,
+      ap level both.met,
+      way_level a named_a high both.left_low,
+      way_level c named_c low both.right_low,
+    )
 
     -- No climber goes past it.
-    pub both_last : {x y i j : ℕ} → IsClimbing (darts_of g) (forest_of s) a c x y i j → (i ≤ high) × (j ≤ low)
+    pub both_last : {x y i j : ℕ} → IsClimbing darts f a c x y i j → (i ≤ high) × (j ≤ low)
     both_last is = (
       is.left high low both.left_low both.right_low both.met,
       is.right high low both.left_low both.right_low both.met,
     )
 
     -- The higher climber.
-    pub both_order : {x y i j : ℕ} → IsClimbing (darts_of g) (forest_of s) a c x y i j → low - j ≤ high - i
-        → level_of (darts_of g) (forest_of s) c - j ≤ level_of (darts_of g) (forest_of s) a - i
+    pub both_order : {x y i j : ℕ} → IsClimbing darts f a c x y i j → low - j ≤ high - i → level c - j ≤ level a - i
     both_order is order = omega (
       arith,
       order,
@@ -169,22 +173,19 @@ module _ (g : WeightedGraph) (is : IsSmallGraph g) (s : ForestTables) (valid : I
     )
 
   -- One climb after another.
-  pub climbed_on : {b : ℕ} → (forest_of s).label b ≢ Outside → {at first : ℕ} {x : ℕ} (more : ℕ)
-      → HasClimbed (darts_of g) (forest_of s) b at first → x ≡ way_of (darts_of g) (forest_of s) at more
-      → more ≤ level_of (darts_of g) (forest_of s) at → HasClimbed (darts_of g) (forest_of s) b x (first + more)
+  pub climbed_on : {b : ℕ} → f.label b ≢ Outside → {at first : ℕ} {x : ℕ} (more : ℕ)
+      → HasClimbed darts f b at first → x ≡ way at more → more ≤ level at → HasClimbed darts f b x (first + more)
   climbed_on {b} named {at} {first} more is x_is low = record {
-    way = x_is ∙ (ap (λ y. way_of (darts_of g) (forest_of s) y more) is.way
-        ∙ sym (walk_sum (above_of (darts_of g) (forest_of s)) b first more));
+    way = x_is ∙ (ap (λ y. way y more) is.way ∙ sym (walk_sum (above) b first more));
     low = omega (arith, climbed_level b named at first is, low);
   }
 
   -- Where a climber is not at the root, some steps bring him nearer.
-  pub climbed_nearer : (at : ℕ) {next steps : ℕ} (reach : ℕ) → (forest_of s).label at ≢ Outside
-      → (d : ℕ) × (rise_of (forest_of s) at ≡ Some d) → next ≡ way_of (darts_of g) (forest_of s) at steps
-      → steps ≡ min reach (level_of (darts_of g) (forest_of s) at) → 1 ≤ reach
-      → level_of (darts_of g) (forest_of s) next < level_of (darts_of g) (forest_of s) at
+  pub climbed_nearer : (at : ℕ) {next steps : ℕ} (reach : ℕ) → f.label at ≢ Outside
+      → (d : ℕ) × (rise at ≡ Some d) → next ≡ way at steps → steps ≡ min reach (level at) → 1 ≤ reach
+      → level next < level at
   climbed_nearer at {next} {steps} reach named up next_is steps_is some =
-      let low : steps ≤ level_of (darts_of g) (forest_of s) at = omega (arith, steps_is) in
+      let low : steps ≤ level at = omega (arith, steps_is) in
       omega (
         arith,
         steps_is,
@@ -194,17 +195,15 @@ module _ (g : WeightedGraph) (is : IsSmallGraph g) (s : ForestTables) (valid : I
       )
 
   -- The root is on all ways.
-  pub root_on_both : {a : ℕ} (c : ℕ) {at left : ℕ} → (forest_of s).label a ≢ Outside → (forest_of s).label c ≢ Outside
-      → HasClimbed (darts_of g) (forest_of s) a at left → rise_of (forest_of s) at ≡ None
-      → AreOnBoth (darts_of g) (forest_of s) a c left (level_of (darts_of g) (forest_of s) c)
+  pub root_on_both : {a : ℕ} (c : ℕ) {at left : ℕ} → f.label a ≢ Outside → f.label c ≢ Outside
+      → HasClimbed darts f a at left → rise at ≡ None → AreOnBoth darts f a c left (level c)
   root_on_both {a} c {at} named_a named_c is off =
       let r : ℕ = (the_tree a named_a).0 in
-      let on : (forest_of s).label (way_of (darts_of g) (forest_of s) c (level_of (darts_of g) (forest_of s) c)) ≢
-      Outside = way_named c named_c (level_of (darts_of g) (forest_of s) c) (omega arith) in
-      let end : way_of (darts_of g) (forest_of s) c (level_of (darts_of g) (forest_of s) c) ≡ r =
-      level_zero are (rooted_here a named_a) (the_tree a named_a).2
-      (way_of (darts_of g) (forest_of s) c (level_of (darts_of g) (forest_of s) c)) on
-      (omega (arith, way_level c named_c (level_of (darts_of g) (forest_of s) c) (omega arith))) in
+      let on : f.label (way c (level c)) ≢
+      Outside = way_named c named_c (level c) (omega arith) in
+      let end : way c (level c) ≡ r =
+      level_zero are (rooted_here a named_a) (the_tree a named_a).2 (way c (level c)) on
+      (omega (arith, way_level c named_c (level c) (omega arith))) in
       let here : at ≡ r = (at_root are (rooted_here a named_a) (the_tree a named_a).2 at
       (climbed_named named_a is) off).0 in
       record { met = sym is.way ∙ (here ∙ sym end); left_low = is.low; right_low = omega arith }
@@ -229,4 +228,4 @@ both_swapped both = record {
 -- Where two ways meet, their beginnings told otherwise.
 pub met_at : {d : Darts} {f : Forest} {a c : ℕ} {b e : ℕ} {top left right : ℕ} → a ≡ b → c ≡ e
     → IsClimbing d f a c top top left right → IsClimbing d f b e top top left right
-met_at {d} {f} {a} {e} {top} {left} {right} a_is c_is is = (rw a_is at (rw c_is at is))
+met_at {d} {f} {a} {e} {top} {left} {right} a_is c_is is = rw a_is at (rw c_is at is)

@@ -1,13 +1,14 @@
 -- Lists of vertices that are joined one after another.
 use Rattle.std.proofs.Common.{◌≡◌, ◌≢◌, ℕ, zero, suc, ◌+◌, ◌-◌, ◌<◌, ◌≤◌, Bool, true, false, eqb, ◌||◌, ◌⊎◌, refl, sym}
 use Rattle.std.proofs.Common.{◌∙◌, ap, subst, inl, inr, arith}
-use Rattle.std.proofs.lemmas.Bool.{cases_eq, cases_lt, eq-eqb, ne_eqb, eqb-true}
+use Rattle.std.proofs.lemmas.Bool.{cases_lt, eq-eqb, ne_eqb, eqb-true}
 use Rattle.def_math.specs.Counts.{count_below}
 use Rattle.sum_laws.proofs.Counts.{count_below_le, count_below_one, count_below_ones, count_below_same}
 use Rattle.def_forest.specs.Forests.{bool_number, walk, ring_sum}
 use Rattle.forest_laws.specs.Walks.{listed}
 use Rattle.forest_laws.proofs.Odds.{counts_exchanged}
 use Rattle.forest_laws.proofs.Walks.{walk_sum, listed_at, listed_place, listed_parts, listed_sum}
+use Rattle.forest_laws.proofs.Bounds.{eqb_order}
 use Rattle.qm_forest.specs.Ties.{IsListed}
 
 -- A list is the same over tables that agree on it.
@@ -29,7 +30,7 @@ pub list_agrees : {n : ℕ} {next : ℕ → ℕ} (other : ℕ → ℕ) {from to 
     → IsListed n other from to many set
 list_agrees {n} {next} other {from} {many} is same = record {
   all = λ v l. listed_agrees next other from many walks v many (omega arith) ∙ is.all v l;
-  low = λ k l. (rw (walks k l) (is.low k l));
+  low = λ k l. rw (walks k l) (is.low k l);
   distinct = λ i j lij lj e. is.distinct i j lij lj (sym (walks i (omega (arith, lij, lj))) ∙ (e ∙ walks j lj));
   ends = λ k e. walks k (omega (arith, e)) ∙ is.ends k e;
   some = is.some;
@@ -63,8 +64,8 @@ pub list_has_last : {n : ℕ} {next : ℕ → ℕ} {from to many : ℕ} {set : �
     → (to < n) × (set to ≡ true)
 list_has_last {n} {next} {from} {to} {many} {set} is =
     let w : (k : ℕ) × (suc k ≡ many) × (walk next from k ≡ to) = list_last many is in (
-      (rw w.2 at (is.low w.0 (omega (arith, w.1)))),
-      (rw w.2 at (list_member is w.0 (omega (arith, w.1)))),
+      rw w.2 at (is.low w.0 (omega (arith, w.1))),
+      rw w.2 at (list_member is w.0 (omega (arith, w.1))),
     )
 
 -- A list as many members as it counts.
@@ -152,25 +153,12 @@ module _ (n : ℕ) (next after first last rank : ℕ → ℕ) (front many : ℕ)
   pub row_joined : (k : ℕ) → k < many → IsListed n next (first front) (last (walk after front k))
       (ring_sum after rank front (suc k)) (λ v. listed after front (suc k) (out v))
   row_joined zero l = (let one : rank front ≡ 0 + rank front = omega arith in
-      (rw one at (list_renamed (λ v. false
-      || eqb front (out v)) (each 0 l) (λ v lv. turned (out v) front))))
-    where
-      turned : (a b : ℕ) → eqb a b ≡ (false || eqb b a)
-      turned a b = elim (cases_eq a b) [
-        | inl e ↦ eq-eqb a b e ∙ sym (eq-eqb b a (sym e))
-        | inr ne ↦ ne_eqb a b ne ∙ sym (ne_eqb b a (λ e. ne (sym e)))
-      ]
+      rw one at (list_renamed (λ v. false || eqb front (out v)) (each 0 l) (λ v lv. eqb_order (out v) front)))
   row_joined (suc k) l = list_renamed (λ v. listed after front (suc k) (out v)
       || eqb (walk after front (suc k)) (out v)) (list_joined (row_joined k (omega (arith, l))) (each (suc k) l)
       (seams k l) (λ v on too. apart v on too)) (λ v lv. ap (λ (s : Bool). listed after front (suc k) (out v) || s)
-      (turned (out v) (walk after front (suc k))))
+      (eqb_order (out v) (walk after front (suc k))))
     where
-      turned : (a b : ℕ) → eqb a b ≡ eqb b a
-      turned a b = elim (cases_eq a b) [
-        | inl e ↦ eq-eqb a b e ∙ sym (eq-eqb b a (sym e))
-        | inr ne ↦ ne_eqb a b ne ∙ sym (ne_eqb b a (λ e. ne (sym e)))
-      ]
-
       apart : (v : ℕ) → listed after front (suc k) (out v) ≡ true → eqb (out v) (walk after front (suc k)) ≡ true → ⊥
       apart v on too = let w : (j : ℕ) × (j < suc k) × (walk after front j ≡ out v) =
           listed_place after front (suc k) (out v) on in

@@ -1,6 +1,6 @@
 -- One list of a row more is joined.
 use Rattle.std.proofs.Common.{◌≡◌, ◌≢◌, ℕ, zero, suc, ◌+◌, ◌-◌, ◌<◌, ◌≤◌, ◌⊎◌, List, length, get_or, sym, ◌∙◌, ap}
-use Rattle.std.proofs.Common.{subst, inl, inr, arith}
+use Rattle.std.proofs.Common.{inl, inr, arith}
 use Rattle.std.proofs.Math.ListN.{set}
 use Rattle.std.proofs.lemmas.Bool.{cases_eq}
 use Rattle.def_forest.specs.Forests.{walk, ring_sum, set_at}
@@ -29,8 +29,13 @@ ring_sum_above next f from many two some k l = by_first (cases_eq k 0)
 
     by_first : (k ≡ 0) ⊎ (k ≢ 0) → f (walk next from k) < ring_sum next f from many
     by_first (inl z) =
-        omega (arith, ap (λ j. f (walk next from j)) z, some 1 (omega (arith, two)), ring_sum_below next f from
-            (suc 1) many two)
+        omega (
+          arith,
+          ap (λ j. f (walk next from j)) z,
+          some 1 (omega (arith, two)),
+          ring_sum_below next f from
+              (suc 1) many two,
+        )
     by_first (inr nz) = omega (
       arith,
       ring_sum_below next f from (suc k) many (omega (arith, l)),

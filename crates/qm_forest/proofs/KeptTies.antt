@@ -1,5 +1,5 @@
 -- What stays of the tie where the nest changes, and no blossom has another weight.
-use Rattle.std.proofs.Common.{◌≡◌, ◌≢◌, ℕ, ◌<◌, cond, List, length, get_or, ℤ, pos, ◌⊎◌, Option, None, sym, ◌∙◌, ap}
+use Rattle.std.proofs.Common.{◌≡◌, ◌≢◌, ℕ, ◌<◌, cond, List, length, get_or, ℤ, pos, Option, None, sym, ◌∙◌, ap}
 use Rattle.std.proofs.Common.{inl, inr, Bool}
 use Rattle.std.proofs.lemmas.Bool.{cases_eq}
 use Rattle.sum_laws.proofs.Sums.{total_below_same}

@@ -1,17 +1,17 @@
 -- What tied tables say of how blossoms lie in each other, and the two parts that a joint joins.
 use Rattle.std.proofs.Common.{◌≡◌, ◌≢◌, ℕ, suc, ◌*◌, ◌<◌, ◌≤◌, true, eqb, length, get_or, ◌⊎◌, refl, sym, ◌∙◌, ap}
-use Rattle.std.proofs.Common.{subst, inl, inr, arith}
-use Rattle.std.proofs.lemmas.Bool.{cases_eq, cases_lt, eq-eqb, ne_eqb}
+use Rattle.std.proofs.Common.{inl, inr, arith}
+use Rattle.std.proofs.lemmas.Bool.{cases_eq, cases_lt, eq-eqb, false_from_ne_true, ne_eqb}
 use Rattle.def_matching.specs.Matching.{WeightedGraph, IsSmallGraph}
 use Rattle.def_forest.specs.{Darts.AreDarts, Darts.darts_of, Darts.other_dart, Forests.walk, Tables.ForestTables}
-use Rattle.def_forest.specs.Tables.{forest_of, climbs, out_of, up_at, IsValidFor}
+use Rattle.def_forest.specs.Tables.{forest_of, climbs, up_at, IsValidFor}
 use Rattle.def_forest.specs.Valid.{IsJoint, IsRing}
 use Rattle.forest_laws.proofs.{Facts.far_low, Graphs.are_darts, Writes.true_false}
 use Rattle.qm_forest.specs.Rounds.{IsSoundFor, IsLaminar, IsPairing, far_at, near_at, within}
 use Rattle.qm_forest.specs.Ties.{AreTied, HiddenTables, IsInUse, IsListed}
 use Rattle.qm_forest.proofs.{Enclosed.climbs_here, JoinedLists.list_few, JoinedLists.list_member, Nests.climbs_place}
-use Rattle.qm_forest.proofs.{Nests.comes_by, Nests.rank_few, Nests.rank_passed, Withins.none_in_both, Withins.off_where}
-use Rattle.qm_forest.proofs.Withins.{pair_law}
+use Rattle.qm_forest.proofs.{Nests.comes_by, Nests.rank_few, Nests.rank_passed, Withins.none_in_both}
+use Rattle.qm_forest.proofs.Withins.{IsRising, pair_law}
 
 pub laminar : {t : ForestTables} {hid : HiddenTables} → AreTied t hid → IsLaminar t
 laminar {t} {hid} tied = record {
@@ -52,6 +52,10 @@ laminar {t} {hid} tied = record {
       list_member list 1 (omega (arith, more)),
     )
 
+-- The way out of a blossom rises.
+pub rising : {t : ForestTables} → IsLaminar t → IsRising (length t.hand) (up_at t.up) (λ z. get_or t.rank z 0)
+rising known = record { rises = known.rises }
+
 -- A valid forest is sound.
 pub sound : {g : WeightedGraph} {t : ForestTables} → IsValidFor g t → IsSoundFor g t
 sound valid = record { vertices = valid.vertices; darts = valid.darts; ends = valid.ends; valid = valid.valid }
@@ -65,7 +69,7 @@ module _ (t : ForestTables) (known : IsLaminar t) where
   alone v w lv lw = elim (cases_eq v w) [
     | inl e ↦ ap (λ x. climbs (up_at t.up) (length t.hand) v x) (sym e)
         ∙ (climbs_here (up_at t.up) (length t.hand) v ∙ sym (eq-eqb v w e))
-    | inr ne ↦ off_where (climbs (up_at t.up) (length t.hand) v w) (λ on. ne (sym (known.own w v lv on)))
+    | inr ne ↦ false_from_ne_true (climbs (up_at t.up) (length t.hand) v w) (λ on. ne (sym (known.own w v lv on)))
         ∙ sym (ne_eqb v w ne)
   ]
 
@@ -194,7 +198,7 @@ module _ (t : ForestTables) (known : IsLaminar t) where
         low_x = x_low;
         low_y = y_low;
         other = differ;
-        apart = λ e. none_in_both (length t.hand) (up_at t.up) (λ z. get_or t.rank z 0) known.rises (near_at t d) x y
+        apart = λ e. none_in_both (rising known) (near_at t d) x y
             refl next_around (λ s. inner (sym s)) next_other differ near_in (rw e far_in);
         near_low = near_ok;
         far_low = far_ok;
@@ -202,7 +206,7 @@ module _ (t : ForestTables) (known : IsLaminar t) where
         far_held = far_in;
         live_x = used x (near_at t d) near_ok near_in;
         live_y = used y (far_at t d) far_ok far_in;
-        law = λ b l. pair_law (length t.hand) (up_at t.up) (λ z. get_or t.rank z 0) known.rises x y (near_at t d)
+        law = λ b l. pair_law (rising known) x y (near_at t d)
             (far_at t d) refl next_around (λ s. inner (sym s)) next_other differ near_in far_in
             (known.passed x (near_at t d) near_ok near_in) (known.passed y (far_at t d) far_ok far_in) b
             (λ on. known.passed b (near_at t d) near_ok on) (λ on. known.passed b (far_at t d) far_ok on);

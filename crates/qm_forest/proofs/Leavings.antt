@@ -1,6 +1,6 @@
 -- Blossoms of a ring that leave the tree, and the set that is closed of them.
 use Rattle.std.proofs.Common.{◌≡◌, ℕ, suc, ◌<◌, length, get_or, None}
-use Rattle.std.proofs.{Common.sym, Common.◌∙◌, Common.ap, Common.subst, lemmas.Bool.cond-true, lemmas.List.get_or_read}
+use Rattle.std.proofs.{Common.sym, Common.◌∙◌, Common.ap, lemmas.Bool.cond-true, lemmas.List.get_or_read}
 use Rattle.def_forest.specs.{Forests.Forest, Forests.walk, Tables.ForestTables, Tables.forest_of, Tables.out_of}
 use Rattle.def_forest.specs.{Tables.IsOutermostIn, declared.kinds.Label.TheVariants.Outside}
 use Rattle.forest_laws.specs.Walks.{listed}
@@ -44,7 +44,7 @@ gathered_outermost {t} u {front} {many} {b} ring is size = by_first (ring.tops 0
 pub leader_of : {t : ForestTables} {hid : HiddenTables} → AreTied t hid → (b : ℕ) {v : ℕ} {u : ForestTables} → t ≡ u
     → IsOutermostIn t b → v ≡ get_or hid.leader b v → out_of u.hand u.top v ≡ b
 leader_of {t} {hid} tied b {v} e w read =
-    let low : b < length hid.leader = (rw tied.sizes.leader (outermost_low tied b w)) in
+    let low : b < length hid.leader = rw tied.sizes.leader (outermost_low tied b w) in
     let v_is : v ≡ get_or hid.leader b 0 = get_or_read hid.leader b v low read 0 in
     (rw e at (ap (out_of t.hand t.top) v_is
     ∙ (ap (λ x. out_of t.hand t.top (get_or hid.leader x 0)) (sym w.2) ∙ (leader_out tied.nest w.0 w.1 ∙ w.2))))

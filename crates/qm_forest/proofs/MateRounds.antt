@@ -1,28 +1,39 @@
 -- The outermost blossoms are matched as they are: each is met once.
 use Rattle.std.proofs.Common.{◌≡◌, ◌≢◌, ℕ, suc, ◌+◌, ◌-◌, ◌*◌, ◌/◌, ◌%◌, ◌<◌, ◌≤◌, Bool, true, false, cond, eqb, List}
-use Rattle.std.proofs.Common.{length, get_or, Option, Some, None, ◌⊎◌, refl, sym, ◌∙◌, ap, subst, inl, inr, arith}
-use Rattle.std.proofs.Math.ListN.{set}
+use Rattle.std.proofs.Common.{length, get_or, Option, Some, None, ◌⊎◌, refl, sym, ◌∙◌, ap, inl, inr, arith}
+use Rattle.std.proofs.{Math.ListN.set, lemmas.Option.none-some}
 use Rattle.std.proofs.lemmas.Bool.{cases_Bool, cases_eq, cases_lt, cond-true, cond-false, eq-eqb, eqb-true, ne_eqb}
+use Rattle.std.proofs.lemmas.Bool.{false_from_ne_true}
 use Rattle.sum_laws.proofs.Counts.{count_below_none, count_below_one, count_below_same}
 use Rattle.def_matching.specs.Matching.{WeightedGraph, IsSmallGraph}
 use Rattle.def_forest.specs.{Darts.AreDarts, Darts.darts_of, Darts.far, Darts.other_dart, Forests.Forest}
 use Rattle.def_forest.specs.{Forests.bool_number, Forests.splits, Forests.walk, Tables.ForestTables, Tables.forest_of}
 use Rattle.def_forest.specs.{Tables.up_at, Valid.IsMate}
 use Rattle.forest_laws.proofs.{Graphs.are_darts, Graphs.twin_even, Graphs.twin_odd, Writes.some_is, Writes.true_false}
-use Rattle.forest_laws.proofs.Walks.{walk_sum}
+use Rattle.forest_laws.proofs.Walks.{walk_fixed, walk_sum}
 use Rattle.qm_forest.specs.Rounds.{IsSoundFor, IsLaminar, IsPairing, IsRound, entered, far_at, is_dart, matched_by}
 use Rattle.qm_forest.specs.Rounds.{matches, near_at, waits_but, within}
-use Rattle.qm_forest.proofs.{Apart.walk_stays, Laminars.alone, Laminars.another, Pairings.option_cases}
+use Rattle.qm_forest.proofs.{Laminars.alone, Laminars.another, Laminars.rising, Pairings.option_cases}
 use Rattle.qm_forest.proofs.{Pairings.paired_round, Withins.by_pair, Withins.in_line, Withins.in_where}
-use Rattle.qm_forest.proofs.Withins.{off_where, where_in}
+use Rattle.qm_forest.proofs.Withins.{where_in}
 
 module _ {t : ForestTables} (known : IsLaminar t) {g : WeightedGraph} (is : IsSmallGraph g)
     (valid : IsSoundFor g t) where
-  abbrev f : Forest
+  abbrev pub f : Forest
   f = forest_of t
 
   abbrev are : AreDarts (darts_of g)
   are = are_darts is.lawful
+
+  -- The ends of an edge.
+  abbrev pub from : ℕ → ℕ
+  from e = near_at t (2 * e)
+
+  abbrev pub to : ℕ → ℕ
+  to e = near_at t (2 * e + 1)
+
+  abbrev pub out : ℕ → ℕ
+  out = f.out
 
   low_in : (v : ℕ) → v < length t.hand → v < g.n
   low_in v l = rw valid.vertices at l
@@ -31,34 +42,33 @@ module _ {t : ForestTables} (known : IsLaminar t) {g : WeightedGraph} (is : IsSm
   pub within_out : (w u : ℕ) → w < length t.hand → u < length t.hand → within t w (f.out u) ≡ eqb (f.out w) (f.out u)
   within_out w u lw lu = valid.valid.outermost.held u w (low_in u lu) (low_in w lw)
 
+  own : (u : ℕ) → u < length t.hand → within t u (f.out u) ≡ true
+  own u lu = within_out u u lu lu ∙ eq-eqb (f.out u) (f.out u) refl
+
   top_stays : (u : ℕ) → u < length t.hand → up_at t.up (f.out u) ≡ f.out u
   top_stays u lu = valid.valid.outermost.tops u (low_in u lu)
 
   top_rank : (u : ℕ) → u < length t.hand → get_or t.rank (f.out u) 0 ≤ length t.hand
-  top_rank u lu = known.passed (f.out u) u lu (within_out u u lu lu ∙ eq-eqb (f.out u) (f.out u) refl)
+  top_rank u lu = known.passed (f.out u) u lu (own u lu)
 
   -- What holds a vertex lies in its outermost blossom.
   around_in : (b u : ℕ) → u < length t.hand → within t u b ≡ true → within t b (f.out u) ≡ true
   around_in b u lu on =
-      let wb : (j : ℕ) × (walk (up_at t.up) u j ≡ b) = where_in (length t.hand) (up_at t.up) (λ z. get_or t.rank z 0)
-      known.rises u b on in
+      let wb : (j : ℕ) × (walk (up_at t.up) u j ≡ b) = where_in (rising known) u b on in
       let wo : (j : ℕ) × (walk (up_at t.up) u j ≡ f.out u) =
-      where_in (length t.hand) (up_at t.up) (λ z. get_or t.rank z 0) known.rises u (f.out u) (within_out u u lu lu
-      ∙ eq-eqb (f.out u) (f.out u) refl) in
-      elim (in_line (length t.hand) (up_at t.up) (λ z. get_or t.rank z 0) known.rises u wb.0 wo.0 wb.1 wo.1) [
-        | inl m ↦ in_where (length t.hand) (up_at t.up) (λ z. get_or t.rank z 0) known.rises b m.0 (top_rank u lu) m.1
-        | inr m ↦ in_where (length t.hand) (up_at t.up) (λ z. get_or t.rank z 0) known.rises b 0
-            (top_rank u lu) (sym m.1 ∙ walk_stays (up_at t.up) m.0 (top_stays u lu))
+      where_in (rising known) u (f.out u) (own u lu) in
+      elim (in_line (rising known) u wb.0 wo.0 wb.1 wo.1) [
+        | inl m ↦ in_where (rising known) b m.0 (top_rank u lu) m.1
+        | inr m ↦ in_where (rising known) b 0 (top_rank u lu) (sym m.1 ∙ walk_fixed (up_at t.up) m.0 (top_stays u lu))
       ]
 
   through : (b u w : ℕ) → u < length t.hand → within t w b ≡ true → within t b (f.out u) ≡ true → within t w (f.out u)
       ≡ true
   through b u w lu first second =
-      let wb : (j : ℕ) × (walk (up_at t.up) w j ≡ b) = where_in (length t.hand) (up_at t.up) (λ z. get_or t.rank z 0)
-      known.rises w b first in
+      let wb : (j : ℕ) × (walk (up_at t.up) w j ≡ b) = where_in (rising known) w b first in
       let wo : (j : ℕ) × (walk (up_at t.up) b j ≡ f.out u) =
-      where_in (length t.hand) (up_at t.up) (λ z. get_or t.rank z 0) known.rises b (f.out u) second in
-      in_where (length t.hand) (up_at t.up) (λ z. get_or t.rank z 0) known.rises w (wb.0 + wo.0)
+      where_in (rising known) b (f.out u) second in
+      in_where (rising known) w (wb.0 + wo.0)
       (top_rank u lu) (walk_sum (up_at t.up) w wb.0 wo.0 ∙ (ap (λ x. walk (up_at t.up) x wo.0) wb.1 ∙ wo.1))
 
   -- No blossom lies in two outermost ones.
@@ -66,49 +76,49 @@ module _ {t : ForestTables} (known : IsLaminar t) {g : WeightedGraph} (is : IsSm
       → within t b (f.out v) ≡ true → ⊥
   not_both b u v lu lv ne on other =
       let wu : (j : ℕ) × (walk (up_at t.up) b j ≡ f.out u) =
-      where_in (length t.hand) (up_at t.up) (λ z. get_or t.rank z 0) known.rises b (f.out u) on in
+      where_in (rising known) b (f.out u) on in
       let wv : (j : ℕ) × (walk (up_at t.up) b j ≡ f.out v) =
-      where_in (length t.hand) (up_at t.up) (λ z. get_or t.rank z 0) known.rises b (f.out v) other in
-      elim (in_line (length t.hand) (up_at t.up) (λ z. get_or t.rank z 0) known.rises b wu.0 wv.0 wu.1 wv.1) [
-        | inl m ↦ ne (sym (walk_stays (up_at t.up) m.0 (top_stays u lu)) ∙ m.1)
-        | inr m ↦ ne (sym m.1 ∙ walk_stays (up_at t.up) m.0 (top_stays v lv))
+      where_in (rising known) b (f.out v) other in
+      elim (in_line (rising known) b wu.0 wv.0 wu.1 wv.1) [
+        | inl m ↦ ne (sym (walk_fixed (up_at t.up) m.0 (top_stays u lu)) ∙ m.1)
+        | inr m ↦ ne (sym m.1 ∙ walk_fixed (up_at t.up) m.0 (top_stays v lv))
       ]
 
   -- Two outermost blossoms are a pair.
   tops_law : (u v b : ℕ) → u < length t.hand → v < length t.hand → f.out u ≢ f.out v
       → bool_number (splits (f.holds b) u v) + (waits_but t b (f.out u) u + waits_but t b (f.out v) v)
       ≡ bool_number (within t b (f.out u)) + bool_number (within t b (f.out v))
-  tops_law u v b lu lv ne = by_pair (length t.hand) (up_at t.up) (λ z. get_or t.rank z 0) known.rises
+  tops_law u v b lu lv ne = by_pair (rising known)
       (within t b (f.out u)) (within t b (f.out v)) (f.holds b u) (f.holds b v) (λ on. (
-        off_where (within t b (f.out v)) (λ o. not_both b u v lu lv ne on o),
-        off_where (f.holds b v) (λ o. not_both b u v lu lv ne on (around_in b v lv o)),
+        false_from_ne_true (within t b (f.out v)) (λ o. not_both b u v lu lv ne on o),
+        false_from_ne_true (f.holds b v) (λ o. not_both b u v lu lv ne on (around_in b v lv o)),
       )) (λ on. (
-        off_where (within t b (f.out u)) (λ o. not_both b u v lu lv ne o on),
-        off_where (f.holds b u) (λ o. not_both b u v lu lv ne (around_in b u lu o) on),
-      )) (λ ou ov. off_where (f.holds b u) (λ o. true_false (around_in b u lu o) ou)
-      ∙ sym (off_where (f.holds b v) (λ o. true_false (around_in b v lv o) ov)))
+        false_from_ne_true (within t b (f.out u)) (λ o. not_both b u v lu lv ne o on),
+        false_from_ne_true (f.holds b u) (λ o. not_both b u v lu lv ne (around_in b u lu o) on),
+      )) (λ ou ov. false_from_ne_true (f.holds b u) (λ o. true_false (around_in b u lu o) ou)
+      ∙ sym (false_from_ne_true (f.holds b v) (λ o. true_false (around_in b v lv o) ov)))
 
   -- What an edge that matches says.
   pub record IsMateEdge (e : ℕ) : Type 0 where
     pub low : 2 * e < 2 * length g.edges
-    pub near_low : near_at t (2 * e) < length t.hand
-    pub far_low : near_at t (2 * e + 1) < length t.hand
-    pub mate : f.mate (f.out (near_at t (2 * e))) ≡ Some (2 * e)
-    pub back : f.mate (f.out (near_at t (2 * e + 1))) ≡ Some (2 * e + 1)
-    pub other : f.out (near_at t (2 * e)) ≢ f.out (near_at t (2 * e + 1))
-    pub pairing : IsPairing t (f.out (near_at t (2 * e))) (f.out (near_at t (2 * e + 1))) (2 * e)
+    pub near_low : from e < length t.hand
+    pub far_low : to e < length t.hand
+    pub mate : f.mate (out (from e)) ≡ Some (2 * e)
+    pub back : f.mate (out (to e)) ≡ Some (2 * e + 1)
+    pub other : out (from e) ≢ out (to e)
+    pub pairing : IsPairing t (out (from e)) (out (to e)) (2 * e)
 
   twin_is : (e : ℕ) → other_dart (2 * e) ≡ 2 * e + 1
   twin_is e = twin_even (2 * e) (omega arith)
 
   pub vertex_low : (d : ℕ) → d < 2 * length g.edges → near_at t d < length t.hand
-  vertex_low d l = rw (valid.vertices, (valid.ends d l)) (are.near_low d l)
+  vertex_low d l = rw (valid.vertices, valid.ends d l) (are.near_low d l)
 
   used_at : (u : ℕ) → u < length t.hand → length t.hand ≤ f.out u → get_or t.parts (f.out u) 0 ≢ 0
-  used_at u lu high none = true_false (within_out u u lu lu ∙ eq-eqb (f.out u) (f.out u) refl)
+  used_at u lu high none = true_false (own u lu)
       (valid.valid.nested.empty (f.out u) u (rw valid.vertices at high) (low_in u lu) none)
 
-  pub mate_edge : (e : ℕ) → f.mate (f.out (near_at t (2 * e))) ≡ Some (2 * e) → IsMateEdge e
+  pub mate_edge : (e : ℕ) → f.mate (out (from e)) ≡ Some (2 * e) → IsMateEdge e
   mate_edge e mate = record {
     low = m.tight.low;
     near_low = nl;
@@ -119,40 +129,37 @@ module _ {t : ForestTables} (known : IsLaminar t) {g : WeightedGraph} (is : IsSm
     pairing = record {
       dart = rw valid.darts m.tight.low;
       small = omega (arith, m.tight.low, is.edges);
-      low_x = valid.valid.outermost.out_low (near_at t (2 * e)) (low_in (near_at t (2 * e)) nl);
-      low_y = valid.valid.outermost.out_low (near_at t (2 * e + 1)) (low_in (near_at t (2 * e + 1)) fl);
+      low_x = valid.valid.outermost.out_low (from e) (low_in (from e) nl);
+      low_y = valid.valid.outermost.out_low (to e) (low_in (to e) fl);
       other = apart;
       apart = λ s. apart (ap f.out (s ∙ far_same));
       near_low = nl;
       far_low = rw far_same fl;
-      near_held = within_out (near_at t (2 * e)) (near_at t (2 * e)) nl nl
-          ∙ eq-eqb (f.out (near_at t (2 * e))) (f.out (near_at t (2 * e))) refl;
-      far_held = ap (λ v. within t v (f.out (near_at t (2 * e + 1)))) far_same
-          ∙ (within_out (near_at t (2 * e + 1)) (near_at t (2 * e + 1)) fl fl ∙ eq-eqb (f.out (near_at t (2 * e + 1)))
-          (f.out (near_at t (2 * e + 1))) refl);
-      live_x = used_at (near_at t (2 * e)) nl;
-      live_y = used_at (near_at t (2 * e + 1)) fl;
-      law = λ b l. (rw far_same (tops_law (near_at t (2 * e)) (near_at t (2 * e + 1)) b nl fl apart));
-      tight = λ h is' valid'. (valid'.valid.matched (f.out (near_at t (2 * e))) (2 * e) mate).tight;
+      near_held = own (from e) nl;
+      far_held = ap (λ v. within t v (out (to e))) far_same ∙ own (to e) fl;
+      live_x = used_at (from e) nl;
+      live_y = used_at (to e) fl;
+      law = λ b l. rw far_same (tops_law (from e) (to e) b nl fl apart);
+      tight = λ h is' valid'. (valid'.valid.matched (out (from e)) (2 * e) mate).tight;
     };
   }
     where
-      m : IsMate (darts_of g) f (f.out (near_at t (2 * e))) (2 * e)
-      m = valid.valid.matched (f.out (near_at t (2 * e))) (2 * e) mate
+      m : IsMate (darts_of g) f (out (from e)) (2 * e)
+      m = valid.valid.matched (out (from e)) (2 * e) mate
 
-      nl : near_at t (2 * e) < length t.hand
+      nl : from e < length t.hand
       nl = vertex_low (2 * e) m.tight.low
 
-      fl : near_at t (2 * e + 1) < length t.hand
-      fl = (vertex_low (2 * e + 1) (omega (arith, m.tight.low)))
+      fl : to e < length t.hand
+      fl = vertex_low (2 * e + 1) (omega (arith, m.tight.low))
 
-      far_same : far_at t (2 * e) ≡ near_at t (2 * e + 1)
+      far_same : far_at t (2 * e) ≡ to e
       far_same = ap (near_at t) (twin_is e)
 
-      far_is : far (darts_of g) (2 * e) ≡ near_at t (2 * e + 1)
+      far_is : far (darts_of g) (2 * e) ≡ to e
       far_is = sym (valid.ends (other_dart (2 * e)) (are.twin_low (2 * e) m.tight.low)) ∙ far_same
 
-      apart : f.out (near_at t (2 * e)) ≢ f.out (near_at t (2 * e + 1))
+      apart : out (from e) ≢ out (to e)
       apart s = m.other (ap f.out far_is ∙ sym s)
 
   dart_true : (o : Option ℕ) (d : ℕ) → is_dart o d ≡ true → o ≡ Some d
@@ -163,25 +170,22 @@ module _ {t : ForestTables} (known : IsLaminar t) {g : WeightedGraph} (is : IsSm
   dart_is d e = ap (λ (x : Option ℕ). is_dart x d) e ∙ eq-eqb d d refl
 
   pub matches_is : (e : ℕ) → matches t e ≡ true → IsMateEdge e
-  matches_is e on = mate_edge e (dart_true (f.mate (f.out (near_at t (2 * e)))) (2 * e) on)
+  matches_is e on = mate_edge e (dart_true (f.mate (out (from e))) (2 * e) on)
 
   abbrev term : ℕ → ℕ → ℕ
-  term b e = cond (matches t e) (bool_number (within t b (f.out (near_at t (2 * e)))) + bool_number
-      (within t b (f.out (near_at t (2 * e + 1))))) 0
+  term b e = cond (matches t e) (bool_number (within t b (out (from e))) + bool_number (within t b (out (to e)))) 0
 
   -- An edge that matches the outermost blossom of a vertex is that of its mate.
   term_none : (w e : ℕ) → w < length t.hand → ((d : ℕ) → f.mate (f.out w) ≡ Some d → e ≢ d / 2) → term w e ≡ 0
   term_none w e lw other = elim (cases_Bool (matches t e)) [
     | inr off ↦ cond-false _ _ _ off
     | inl on ↦ (let m : IsMateEdge e = matches_is e on in
-        let first : within t w (f.out (near_at t (2 * e))) ≡ false =
-        off_where (within t w (f.out (near_at t (2 * e))))
-        (λ o. other (2 * e) (ap f.mate (eqb-true (f.out w) (f.out (near_at t (2 * e)))
-        (sym (within_out w (near_at t (2 * e)) lw m.near_low) ∙ o)) ∙ m.mate) (omega arith)) in
-        let second : within t w (f.out (near_at t (2 * e + 1))) ≡ false =
-        off_where (within t w (f.out (near_at t (2 * e + 1))))
-        (λ o. other (2 * e + 1) (ap f.mate (eqb-true (f.out w) (f.out (near_at t (2 * e + 1)))
-        (sym (within_out w (near_at t (2 * e + 1)) lw m.far_low) ∙ o)) ∙ m.back) (omega arith)) in
+        let first : within t w (out (from e)) ≡ false =
+        false_from_ne_true (within t w (out (from e))) (λ o. other (2 * e) (ap f.mate (eqb-true (f.out w) (out (from e))
+        (sym (within_out w (from e) lw m.near_low) ∙ o)) ∙ m.mate) (omega arith)) in
+        let second : within t w (out (to e)) ≡ false =
+        false_from_ne_true (within t w (out (to e))) (λ o. other (2 * e + 1) (ap f.mate (eqb-true (f.out w) (out (to e))
+        (sym (within_out w (to e) lw m.far_low) ∙ o)) ∙ m.back) (omega arith)) in
         cond-true _ _ _ on ∙ omega (arith, ap bool_number first, ap bool_number second))
   ]
 
@@ -194,8 +198,7 @@ module _ {t : ForestTables} (known : IsLaminar t) {g : WeightedGraph} (is : IsSm
       d_low : d < 2 * length g.edges
       d_low = m.tight.low
 
-      value : (e : ℕ) → matches t e ≡ true → (f.out w ≡ f.out (near_at t (2 * e)))
-          ⊎ (f.out w ≡ f.out (near_at t (2 * e + 1))) → term w e ≡ 1
+      value : (e : ℕ) → matches t e ≡ true → (f.out w ≡ out (from e)) ⊎ (f.out w ≡ out (to e)) → term w e ≡ 1
       value e on side = cond-true _ _ _ on ∙ by_end side
         where
           me : IsMateEdge e
@@ -207,18 +210,17 @@ module _ {t : ForestTables} (known : IsLaminar t) {g : WeightedGraph} (is : IsSm
           off : (v : ℕ) → v < length t.hand → f.out w ≢ f.out v → bool_number (within t w (f.out v)) ≡ 0
           off v lv s = ap bool_number (within_out w v lw lv ∙ ne_eqb (f.out w) (f.out v) s)
 
-          by_end : (f.out w ≡ f.out (near_at t (2 * e))) ⊎ (f.out w ≡ f.out (near_at t (2 * e + 1)))
-              → bool_number (within t w (f.out (near_at t (2 * e)))) + bool_number
-              (within t w (f.out (near_at t (2 * e + 1)))) ≡ 1
+          by_end : (f.out w ≡ out (from e)) ⊎ (f.out w ≡ out (to e))
+              → bool_number (within t w (out (from e))) + bool_number (within t w (out (to e))) ≡ 1
           by_end (inl s) = omega (
             arith,
-            at (near_at t (2 * e)) me.near_low s,
-            off (near_at t (2 * e + 1)) me.far_low (λ z. me.other (sym s ∙ z)),
+            at (from e) me.near_low s,
+            off (to e) me.far_low (λ z. me.other (sym s ∙ z)),
           )
           by_end (inr s) = omega (
             arith,
-            off (near_at t (2 * e)) me.near_low (λ z. me.other (sym z ∙ s)),
-            at (near_at t (2 * e + 1)) me.far_low s,
+            off (from e) me.near_low (λ z. me.other (sym z ∙ s)),
+            at (to e) me.far_low s,
           )
 
       near_is : f.out (near_at t d) ≡ f.out w
@@ -247,24 +249,27 @@ module _ {t : ForestTables} (known : IsLaminar t) {g : WeightedGraph} (is : IsSm
   due_low w edges lw = by_mate (option_cases (f.mate (f.out w)))
     where
       by_mate : (f.mate (f.out w) ≡ None) ⊎ ((d : ℕ) × (f.mate (f.out w) ≡ Some d)) → matched_by t edges w ≤ 1
-      by_mate (inl none) = (let z : matched_by t edges w ≡ 0 =
-          count_below_none (term w) edges (λ k l. term_none w k lw (λ d s. absurd (clash (sym none ∙ s)))) in
-          omega (arith, z))
-        where
-          clash : {d : ℕ} → ◌≡◌ {A = Option ℕ} None (Some d) → ⊥
-          clash s = cc s
+      by_mate (inl none) = omega (
+        arith,
+        count_below_none (term w) edges
+            (λ k l. term_none w k lw (λ d s. absurd (none-some d (sym none ∙ s)))),
+      )
       by_mate (inr s) = by_place (cases_lt (s.0 / 2) edges)
         where
           others : (k : ℕ) → k ≢ s.0 / 2 → term w k ≡ 0
           others k ne = term_none w k lw (λ d e at. ne (at ∙ ap (λ x. x / 2) (some_is d s.0 (sym e ∙ s.1))))
 
           by_place : (s.0 / 2 < edges) ⊎ (edges ≤ s.0 / 2) → matched_by t edges w ≤ 1
-          by_place (inl l) = (let o : matched_by t edges w ≡ term w (s.0 / 2) =
-              count_below_one (term w) edges (s.0 / 2) l (λ k lk ne. others k ne) in
-              omega (arith, o, (term_one w s.0 lw s.1).0))
-          by_place (inr h) = (let z : matched_by t edges w ≡ 0 =
-              count_below_none (term w) edges (λ k l. others k (λ e. absurd (omega (arith, l, h, e)))) in
-              omega (arith, z))
+          by_place (inl l) = omega (
+            arith,
+            count_below_one (term w) edges (s.0 / 2) l (λ k lk ne. others k ne),
+            (term_one w s.0 lw s.1).0,
+          )
+          by_place (inr h) = omega (
+            arith,
+            count_below_none (term w) edges
+                (λ k l. others k (λ e. absurd (omega (arith, l, h, e)))),
+          )
 
   pub due_one : (w : ℕ) {edges : ℕ} → w < length t.hand → edges ≡ length g.edges → f.mate (f.out w) ≢ None
       → matched_by t edges w ≡ 1
@@ -294,37 +299,31 @@ module _ {t : ForestTables} (known : IsLaminar t) {g : WeightedGraph} (is : IsSm
       each e (inr off) = cond-false _ _ _ off ∙ sym (cond-false _ _ _ off)
       each e (inl on) =
           let m : IsMateEdge e = matches_is e on in
-          ap (λ (s : Bool). cond (matches t e)
-          (bool_number s + bool_number (within t b (f.out (near_at t (2 * e + 1))))) 0)
-          (same (near_at t (2 * e)) m.near_low)
-          ∙ ap (λ (s : Bool). cond (matches t e) (bool_number (within t w (f.out (near_at t (2 * e)))) + bool_number s)
-          0) (same (near_at t (2 * e + 1)) m.far_low)
+          rw (same (from e) m.near_low, same (to e) m.far_low)
 
   -- One edge more.
   pub edge_more : {marks : List Bool} {marks2 : List Bool} {left : List (Option ℕ)} {left2 : List (Option ℕ)} (e j : ℕ)
-      → j ≡ e + 1 → length t.near ≡ 2 * length marks → length left ≡ length t.up → f.mate (f.out (near_at t (2 * e)))
+      → j ≡ e + 1 → length t.near ≡ 2 * length marks → length left ≡ length t.up → f.mate (out (from e))
       ≡ Some (2 * e) → marks2 ≡ set marks (2 * e / 2) true → left2 ≡ entered (length t.hand)
-      (entered (length t.hand) left (f.out (near_at t (2 * e))) (near_at t (2 * e))) (f.out (near_at t (2 * e + 1)))
+      (entered (length t.hand) left (out (from e)) (from e)) (out (to e))
       (far_at t (2 * e)) → IsRound t marks left (λ b. 0) (matched_by t e)
       → IsRound t marks2 left2 (λ b. 0) (matched_by t j)
   edge_more {marks} {left} {left2} e j j_is size_marks size_left mate marks_is left_is round =
-      (rw (marks_is, left_is) (paired_round t known.vertices (alone t known) known.own
-      (another t known g is valid) marks left
-      (f.out (near_at t (2 * e))) (f.out (near_at t (2 * e + 1))) (2 * e) (λ b. 0) (matched_by t j) size_marks
-      size_left (record {
+      rw (marks_is, left_is) (paired_round t known.vertices (alone t known) known.own (another t known g is valid) marks
+      left (out (from e)) (out (to e)) (2 * e) (λ b. 0) (matched_by t j) size_marks size_left (record {
         each = λ b l. omega (arith, round.each b l, step b);
         entry = round.entry;
         once = λ v l. due_low v j l;
         tight = round.tight;
-      }) (mate_edge e mate).pairing))
+      }) (mate_edge e mate).pairing)
     where
-      step : (b : ℕ) → matched_by t j b ≡ matched_by t e b + (bool_number (within t b (f.out (near_at t (2 * e)))) +
-          bool_number (within t b (f.out (near_at t (2 * e + 1)))))
+      step : (b : ℕ) → matched_by t j b ≡ matched_by t e b + (bool_number (within t b (out (from e))) +
+          bool_number (within t b (out (to e))))
       step b = ap (λ k. matched_by t k b) (j_is ∙ (let o : e + 1 ≡ suc e = omega arith in o))
           ∙ ap (λ m. matched_by t e b + m) (cond-true _ _ _ (dart_is (2 * e) mate))
 
   pub edge_same : {marks : List Bool} {left : List (Option ℕ)} (e j : ℕ) → j ≡ e + 1
-      → f.mate (f.out (near_at t (2 * e))) ≢ Some (2 * e) → IsRound t marks left (λ b. 0) (matched_by t e)
+      → f.mate (out (from e)) ≢ Some (2 * e) → IsRound t marks left (λ b. 0) (matched_by t e)
       → IsRound t marks left (λ b. 0) (matched_by t j)
   edge_same e j j_is off round = record {
     each = λ b l. omega (arith, round.each b l, step b);
@@ -336,5 +335,5 @@ module _ {t : ForestTables} (known : IsLaminar t) {g : WeightedGraph} (is : IsSm
       step : (b : ℕ) → matched_by t j b ≡ matched_by t e b
       step b = ap (λ k. matched_by t k b) (j_is ∙ (let o : e + 1 ≡ suc e = omega arith in o))
           ∙ (ap (λ m. matched_by t e b + m) (cond-false _ _ _
-          (off_where (matches t e) (λ on. off (dart_true (f.mate (f.out (near_at t (2 * e)))) (2 * e) on))))
+          (false_from_ne_true (matches t e) (λ on. off (dart_true (f.mate (out (from e))) (2 * e) on))))
           ∙ (let o : matched_by t e b + 0 ≡ matched_by t e b = omega arith in o))

@@ -1,13 +1,12 @@
 -- Two climbers in a valid forest: each turn keeps what they know, and brings them nearer.
 use Rattle.std.proofs.Common.{◌≡◌, ◌≢◌, ℕ, suc, ◌+◌, ◌-◌, ◌<◌, ◌≤◌, ◌^◌, length, get_or, ℤ, pos, ◌+ℤ◌, ◌⊎◌, refl, sym}
-use Rattle.std.proofs.Common.{◌∙◌, ap, subst, inl, inr, arith}
+use Rattle.std.proofs.Common.{◌∙◌, ap, inl, inr, arith}
 use Rattle.std.proofs.lemmas.Int.{ints}
 use Rattle.std.specs.Prelude.{unsigned_abs, slice_index}
 use Rattle.def_matching.specs.Matching.{WeightedGraph}
 use Rattle.def_forest.specs.{Darts.darts_of, Forests.IsOutermost, Forests.walk, Forests.weight_between}
 use Rattle.def_forest.specs.{Steps.weight_change, Tables.up_at, Tables.ForestTables, Tables.forest_of, Tables.label_at}
 use Rattle.def_forest.specs.{Tables.IsValidFor, Valid.IsRing, declared.kinds.Label.Label}
-use Rattle.def_forest.specs.declared.kinds.Label.TheVariants.{Outside}
 use Rattle.forest_laws.proofs.Writes.{label_cases}
 use Rattle.qm_forest.specs.Ties.{IsClimb, IsWithin, IsMeeting, apart}
 use Rattle.qm_forest.proofs.Apart.{can_climb, rank_low, apart_step, apart_order, apart_met, apart_small}
@@ -37,7 +36,7 @@ module _ {g : WeightedGraph} {t : ForestTables} (valid : IsValidFor g t) (climb 
   -- The weight of a blossom that is not outermost is as it is kept.
   base_is : (x : ℕ) → up x ≢ x → get_or t.base x (pos 0) ≡ (forest_of t).weight x
   base_is x inner = elim (label_cases (label_at t.label x)) [
-    | inl off ↦ (omega (arith, ints, ap (λ (l : Label). weight_change l t.delta) off))
+    | inl off ↦ omega (arith, ints, ap (λ (l : Label). weight_change l t.delta) off)
     | inr named ↦ (let w : IsOutermost g.n (forest_of t) x = valid.valid.outermost.named x named in
         absurd (inner (ap (up_at t.up) (sym w.2) ∙ (valid.valid.outermost.tops w.0 w.1 ∙ w.2))))
   ]
@@ -81,8 +80,15 @@ module _ {g : WeightedGraph} {t : ForestTables} (valid : IsValidFor g t) (climb 
             → passing x y ≡ passing low high → IsMeeting t u v x2 high load2
         build wl wh nlh ll lh same =
             let sum : load2 +ℤ passing x2 high ≡ passing u v =
-            omega (arith, ints, within_step top low high wl wh nlh order ll, ap
-                (λ k. passing k high) x2_is, load_is, same, meet.sum) in
+            omega (
+              arith,
+              ints,
+              within_step top low high wl wh nlh order ll,
+              ap (λ k. passing k high) x2_is,
+              load_is,
+              same,
+              meet.sum,
+            ) in
             record {
               sum = sum;
               first = rw x2_is (within_up top low wl);

@@ -86,8 +86,8 @@ module _ {n size : ℕ} {hand top up rank parts leader first last following : Li
       let mine : (get_or last (out v) 0 < n) × (climbs (up_at up) n (out v) (get_or last (out v) 0) ≡ true) =
       list_has_last (list_of v lv) in
       let low : get_or rank y 0 ≤ get_or rank (out (get_or last (out v) 0)) 0 =
-      rank_passed (get_or last (out v) 0) y mine.0 (rw e at (list_member (nest.members y ly used) j (omega
-          (arith, l)))) in
+      rank_passed (get_or last (out v) 0) y mine.0 (rw e at (list_member (nest.members y ly used) j (
+      omega (arith, l)))) in
       let same : get_or rank (out (get_or last (out v) 0)) 0 ≡ get_or rank (out v) 0 =
       ap (λ x. get_or rank x 0) (held_out v (get_or last (out v) 0) lv mine.0 mine.1) in
       omega (arith, more, low, same)

@@ -1,13 +1,13 @@
 -- Steps of the tree in the tables: growing, and changing the matching along the way to the root.
 use Rattle.std.proofs.Common.{◌≡◌, ◌≢◌, ℕ, suc, ◌+◌, ◌*◌, ◌<◌, List, length, get_or, Option, Some, None, true, false}
-use Rattle.std.proofs.Common.{is_some, refl, sym, ◌∙◌, ap, subst, ◌⊎◌, inl, inr, arith}
+use Rattle.std.proofs.Common.{is_some, refl, sym, ◌∙◌, ap, ◌⊎◌, inl, inr, arith}
 use Rattle.std.proofs.lemmas.Bool.{cases_eq}
 use Rattle.def_matching.specs.Matching.{IsSmallGraph, WeightedGraph}
 use Rattle.def_forest.specs.{Darts.darts_of, Darts.far, Forests.Forest, Forests.IsOutermost, Forests.set_at}
 use Rattle.def_forest.specs.{Steps.grown, Steps.with_mates, Steps.IsAugmented, Tables.GraphSize, Tables.size_of}
 use Rattle.def_forest.specs.{Tables.ForestTables, Tables.forest_of, Tables.IsValidFor, Valid.IsValid, Valid.IsTree}
 use Rattle.def_forest.specs.{declared.kinds.Label.Label, declared.kinds.Label.TheVariants.Outer}
-use Rattle.def_forest.specs.{declared.kinds.Label.TheVariants.Outside, Ways.Reaches, Ways.IsAlmost, Ways.steps}
+use Rattle.def_forest.specs.{declared.kinds.Label.TheVariants.Outside, Ways.Reaches, Ways.steps}
 use Rattle.def_forest.specs.Ways.{parent_of}
 use Rattle.forest_laws.proofs.{Climbs.fewer_steps, Climbs.inner_is, Facts.tree_of, Facts.outer_mate, Graphs.are_darts}
 use Rattle.forest_laws.proofs.{Grows.grown_valid, WayLaws.begin, WayLaws.turn, WayLaws.end_valid, WayLaws.end_augmented}
@@ -120,9 +120,13 @@ module _ {g : WeightedGraph} {t : ForestTables} {start : ℕ} {mate : ℕ → Op
     top = way.top;
     root = way.root;
     tree = way.tree;
-    almost = rw ((mate_is ∙ (ap (λ x. set_at (set_at mate a (Some e)) x (Some up)) inner_is'
-        ∙ ap (λ x. set_at (set_at mate a (Some e)) inn (Some x)) link_is)), (a_is ∙ ap (λ x. (forest_of t).out (far
-        (darts_of g) x)) link_is), (e_is ∙ ap (darts_of g).twin link_is)) (turn
+    almost = rw (
+      mate_is ∙ (ap (λ x. set_at (set_at mate a (Some e)) x (Some up)) inner_is'
+          ∙ ap (λ x. set_at (set_at mate a (Some e)) inn (Some x)) link_is),
+      a_is ∙ ap (λ x. (forest_of t).out (far
+          (darts_of g) x)) link_is,
+      e_is ∙ ap (darts_of g).twin link_is,
+    ) (turn
         (are_darts way.is.lawful) valid_top way.tree start way.almost old (sym own_mate ∙ was));
   }
     where
@@ -195,7 +199,7 @@ twin_dart {g} is d low e_is = rw e_is ((are_darts is.lawful).twin_low d low)
 
 pub near_in : {g : WeightedGraph} {t : ForestTables} → IsSmallGraph g → IsValidFor g t → (d : ℕ) {v : ℕ}
     → d < 2 * length g.edges → v ≡ (darts_of g).near d → v < length t.hand
-near_in {g} is valid d {v} low v_is = (rw (valid.vertices, v_is) ((are_darts is.lawful).near_low d low))
+near_in {g} is valid d {v} low v_is = rw (valid.vertices, v_is) ((are_darts is.lawful).near_low d low)
 
 -- The same blossoms, over two changes.
 pub same_nest : {a b c : ForestTables} → HasSameNest a b → HasSameNest b c → HasSameNest a c

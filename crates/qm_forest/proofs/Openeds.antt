@@ -1,6 +1,6 @@
 -- An inner set that is opened: labels, mates and links of its parts, along the ring and against it.
 use Rattle.std.proofs.Common.{◌≡◌, ◌≢◌, ℕ, suc, ◌+◌, ◌-◌, ◌*◌, ◌/◌, ◌%◌, ◌<◌, ◌≤◌, Bool, true, false, cond, eqb, length}
-use Rattle.std.proofs.Common.{pos, Option, Some, None, ◌⊎◌, refl, sym, ◌∙◌, ap, subst, inl, inr, arith}
+use Rattle.std.proofs.Common.{Option, Some, None, ◌⊎◌, refl, sym, ◌∙◌, ap, inl, inr, arith}
 use Rattle.std.proofs.lemmas.Bool.{cases_Bool, cases_eq, cases_lt, cond-true, cond-false, eq-eqb, ne_eqb}
 use Rattle.def_matching.specs.Matching.{WeightedGraph}
 use Rattle.def_forest.specs.{Darts.Darts, Darts.darts_of, Forests.Forest, Forests.walk, Opened.IsOpened}
@@ -110,7 +110,8 @@ module _ {g : WeightedGraph} {t0 : ForestTables} {b : ℕ} (ready : CanOpen g t0
 
       found : (x : ℕ) (w : (k : ℕ) × (k < many) × (at k ≡ x)) → (w.0 ≡ 0) ⊎ (w.0 ≢ 0)
           → (j : ℕ) × (j ≤ 2 * half) × (at (many - j) ≡ x)
-      found x w (inl z) = (0, omega arith, at_same (many - 0) many (omega arith) ∙ (circle.closed ∙ (ap at (sym z) ∙ w.2)))
+      found x w (inl z) =
+          (0, omega arith, at_same (many - 0) many (omega arith) ∙ (circle.closed ∙ (ap at (sym z) ∙ w.2)))
       found x w (inr nz) =
           (many - w.0, omega (arith, odd, nz), at_same (many - (many - w.0)) w.0 (omega (arith, w.1)) ∙ w.2)
 

@@ -105,8 +105,8 @@ module _ {t : ForestTables} {sets : List (ℕ × ℕ)} (order : AreInOrder t set
           (λ b. live_at (length t.hand) (λ i. get_or t.parts i 0) b * bool_number (eqb b x)) (length t.up) x
           (set_low k l) (λ b lb ne. (let z : live_at (length t.hand) (λ i. get_or t.parts i 0) b * bool_number (eqb b x)
           ≡ live_at (length t.hand) (λ i. get_or t.parts i 0) b * 0 = ap
-          (λ (m : ℕ). live_at (length t.hand) (λ i. get_or t.parts i 0) b * m) (ap bool_number (ne_eqb b x ne)) in omega
-          (arith, z))) in
+          (λ (m : ℕ). live_at (length t.hand) (λ i. get_or t.parts i 0) b * m) (ap bool_number (ne_eqb b x ne)) in
+          omega (arith, z))) in
           let here : live_at (length t.hand) (λ i. get_or t.parts i 0) x * bool_number (eqb x x)
           ≡ live_at (length t.hand) (λ i. get_or t.parts i 0) x * 1 = ap
           (λ (m : ℕ). live_at (length t.hand) (λ i. get_or t.parts i 0) x * m) (ap bool_number (eq-eqb x x refl)) in
@@ -144,8 +144,18 @@ module _ {t : ForestTables} {sets : List (ℕ × ℕ)} (order : AreInOrder t set
       total_below_same (λ b. pos (live_at (length t.hand) (λ i. get_or t.parts i 0) b * size b))
       (λ b. cond (nat_lt b (length t.hand)) (pos 0) (f b)) (length t.up)
       (λ b l. term b l (cases_lt b (length t.hand)) (cases_eq (get_or t.parts b 0) 0)) in
-      omega (arith, ints, places, same, count_total (λ (set : ℕ × ℕ). size set.1) sets, ap (λ (m : ℕ). pos m)
-          (order.has.counts size), below, terms, split_at f (length t.hand) (length t.up) vertices)
+      omega (
+        arith,
+        ints,
+        places,
+        same,
+        count_total (λ (set : ℕ × ℕ). size set.1) sets,
+        ap (λ (m : ℕ). pos m)
+            (order.has.counts size),
+        below,
+        terms,
+        split_at f (length t.hand) (length t.up) vertices,
+      )
     where
       size : ℕ → ℕ
       size b = unsigned_abs (f b)

@@ -1,6 +1,7 @@
 -- A forest that is written down as a dual: the sets hold what they held, and the dual says yes.
 use Rattle.std.proofs.Common.{◌≡◌, ◌≢◌, ℕ, zero, suc, ◌+◌, ◌-◌, ◌*◌, ◌%◌, ◌<◌, ◌≤◌, Bool, true, false, not, cond, eqb}
 use Rattle.std.proofs.Common.{subst, inl, inr, arith}
+use Rattle.std.proofs.Math.Bool.{or-false}
 use Rattle.std.proofs.lemmas.Int.{ints}
 use Rattle.std.proofs.lemmas.Bool.{cases_eq, cases_lt, cond-false, cond-true, eq-eqb, eqb-true, le-leb, le-ltb, lt-ltb}
 use Rattle.std.proofs.lemmas.Bool.{ne_eqb}
@@ -20,22 +21,9 @@ use Rattle.def_forest.specs.Written.{IsDualOf}
 use Rattle.forest_laws.proofs.{Graphs.are_darts, Graphs.dart_cost, Graphs.dart_far, Graphs.dart_near, Odds.large_set}
 use Rattle.forest_laws.proofs.{Odds.odd_blossom, Writes.by_two}
 use Rattle.qm_forest.specs.{Outlines.IsOutline, Outlines.entry_of, Outlines.set_in, Rounds.IsLaminar, Rounds.IsSoundFor}
-use Rattle.qm_forest.proofs.{Laminars.alone, Nests.climbs_place, Orders.place_of, Orders.set_low, Orders.sized}
-use Rattle.qm_forest.proofs.{Orders.sum_parts, Withins.in_where}
-
--- Where one stays one passes nothing else.
-climbs_still : (up : ℕ → ℕ) (m b : ℕ) {y : ℕ} → up y ≡ y → climbs up m b y ≡ eqb y b
-climbs_still up zero b e = refl
-climbs_still up (suc m) b {y} e = ap (λ x. eqb y b || climbs up m b x) e
-    ∙ (ap (λ x. eqb y b || x) (climbs_still up m b e) ∙ twice (eqb y b))
-  where
-    twice : (s : Bool) → (s || s) ≡ s
-    twice true = refl
-    twice false = refl
-
-or_false : (s : Bool) → (s || false) ≡ s
-or_false true = refl
-or_false false = refl
+use Rattle.qm_forest.proofs.{Fresh.climbs_self, Laminars.alone, Laminars.rising, Nests.climbs_place}
+use Rattle.qm_forest.proofs.{Orders.place_of, Orders.set_low, Orders.sized}
+use Rattle.qm_forest.proofs.{Orders.sum_parts, Withins.IsRising, Withins.in_where}
 
 -- A lawful entry, and a lawful size.
 entry_lawful : (n m i entry : ℕ) → (entry ≡ 0) ⊎ ((i + 1 < n + entry) × (entry ≤ m)) → is_up n m i entry ≡ true
@@ -99,9 +87,13 @@ module _ (t : ForestTables) (known : IsLaminar t) (sets : List (ℕ × ℕ)) (d 
   later : (j k : ℕ) → j < m → k < m → get_or t.rank (set_in sets j) 0 < get_or t.rank (set_in sets k) 0 → j < k
   later j k lj lk less = elim (cases_lt j k) [
     | inl l ↦ l
-    | inr h ↦
-        (absurd (omega (arith, is.order.increasing k j (0, 0) h lj, (sized is.order k lk).rank,
-        (sized is.order j lj).rank, less)))
+    | inr h ↦ absurd (omega (
+      arith,
+      is.order.increasing k j (0, 0) h lj,
+      (sized is.order k lk).rank,
+      (sized is.order j lj).rank,
+      less,
+    ))
   ]
 
   inner_later : (j x : ℕ) → j < m → set_in sets j ≡ x → (ne : up x ≢ x) → j < (around_place x ne).0
@@ -121,6 +113,9 @@ module _ (t : ForestTables) (known : IsLaminar t) (sets : List (ℕ × ℕ)) (d 
         where
           placed : (j : ℕ) × (j < m) × (set_in sets j ≡ x) → name x < name (up x)
           placed w = omega (arith, outer, ap name (sym w.2) ∙ name_set w.0 w.1, inner_later w.0 x w.1 w.2 ne)
+
+  names : IsRising m up name
+  names = record { rises = name_rises }
 
   module _ (k : ℕ) (low : k < m) where
     abbrev b : ℕ
@@ -166,11 +161,11 @@ module _ (t : ForestTables) (known : IsLaminar t) (sets : List (ℕ × ℕ)) (d 
         by_next : (up (up x) ≡ up x) ⊎ (up (up x) ≢ up x) → (eqb (up x) b || cond (eqb (up (up x)) (up x)) false
             (climbs up more b (up (up x)))) ≡ climbs up (suc more) b (up x)
         by_next (inl e) = ap (λ s. eqb (up x) b || s) (cond-true _ _ _ (eq-eqb (up (up x)) (up x) e))
-            ∙ (or_false (eqb (up x) b) ∙ sym (climbs_still up (suc more) b e))
+            ∙ (or-false (eqb (up x) b) ∙ sym (climbs_self up (suc more) b e))
         by_next (inr ne) = ap (λ s. eqb (up x) b || s) (cond-false _ _ _ (ne_eqb (up (up x)) (up x) ne))
 
     any_is : (most x : ℕ) → leads most x
-    any_is zero x = any_step zero x (or_false (eqb (up x) b))
+    any_is zero x = any_step zero x (or-false (eqb (up x) b))
     any_is (suc more) x = any_step (suc more) x (any_rest more x (any_is more (up x)))
 
     -- A set holds what it held.
@@ -188,16 +183,15 @@ module _ (t : ForestTables) (known : IsLaminar t) (sets : List (ℕ × ℕ)) (d 
           where
             by_up : (up v ≡ v) ⊎ (up v ≢ v) → cond (eqb (up v) v) false (climbs up z b (up v)) ≡ climbs up z b (up v)
             by_up (inl s) = cond-true _ _ _ (eq-eqb (up v) v s)
-                ∙ sym (climbs_still up z b (ap up s) ∙ ne_eqb (up v) b (λ x. other (sym s ∙ x)))
+                ∙ sym (climbs_self up z b (ap up s) ∙ ne_eqb (up v) b (λ x. other (sym s ∙ x)))
             by_up (inr ne) = cond-false _ _ _ (ne_eqb (up v) v ne)
 
         enough : climbs up m b v ≡ climbs up n b v
         enough = same_test (climbs up m b v) (climbs up n b v)
             (λ on. (let w : (i : ℕ) × (walk up v i ≡ b) = climbs_place up m b v on in
-            in_where n up (λ z. get_or t.rank z 0) known.rises v w.0
-            (known.low b (set_low is.order k low) (inr (sized is.order k low).live)) w.1))
+            in_where (rising known) v w.0 (known.low b (set_low is.order k low) (inr (sized is.order k low).live)) w.1))
             (λ on. (let w : (i : ℕ) × (walk up v i ≡ b) = climbs_place up n b v on in
-            in_where m up name name_rises v w.0 (omega (arith, name_set k low, low)) w.1))
+            in_where names v w.0 (omega (arith, name_set k low, low)) w.1))
 
     pub z_is : z_at d k ≡ f.weight b
     z_is = is.z.each k low
@@ -239,7 +233,7 @@ module _ (t : ForestTables) (known : IsLaminar t) (sets : List (ℕ × ℕ)) (d 
     dual_is = record {
       vertices = is.y.size;
       y = y_is;
-      sets = λ k l. (let low : k < m = (rw sets_many at l) in (
+      sets = λ k l. (let low : k < m = rw sets_many at l in (
         set_in sets k,
         (sized is.order k low).high,
         (sized is.order k low).live,
@@ -281,8 +275,7 @@ module _ (t : ForestTables) (known : IsLaminar t) (sets : List (ℕ × ℕ)) (d 
         (λ v lv. ap bool_number (ap (λ x. holds x d k v) (sym valid.vertices) ∙ holds_is k l v (low_in v lv)))
 
     size_odd : (k : ℕ) → k < m → is_odd_size (set_size g.n d k) ≡ true
-    size_odd k l =
-        ap is_odd_size (size_is k l) ∙ size_lawful (blossom_size g.n f (set_in sets k))
+    size_odd k l = ap is_odd_size (size_is k l) ∙ size_lawful (blossom_size g.n f (set_in sets k))
         (odd_blossom are valid.valid.nested (set_in sets k)
         (inr (high_in (set_in sets k) (sized is.order k l).high, (sized is.order k l).live)))
         (large_set are valid.valid.nested (set_in sets k)
@@ -314,8 +307,7 @@ module _ (t : ForestTables) (known : IsLaminar t) (sets : List (ℕ × ℕ)) (d 
     load_is e l =
         let parts : total_below added n +ℤ total_below (λ k. added (set_in sets k)) m ≡ weight_between f u v =
         sum_parts is.order added known.vertices (λ b h lb. high_term (splits (f.holds b) u v) (f.weight b)
-        (weights_high b h lb)) (λ b h dead. no_term (splits (f.holds b) u v) (f.weight b)
-        (weights_none b h dead)) in
+        (weights_high b h lb)) (λ b h dead. no_term (splits (f.holds b) u v) (f.weight b) (weights_none b h dead)) in
         let sets_load : total_below (λ k. cond (crosses (holds g.n d k) (edge_at g e)) (z_at d k) (pos 0)) (length d.z)
         ≡ total_below (λ k. added (set_in sets k)) m =
         ap (total_below (λ k. cond (crosses (holds g.n d k) (edge_at g e)) (z_at d k) (pos 0))) sets_many
@@ -361,8 +353,7 @@ module _ (t : ForestTables) (known : IsLaminar t) (sets : List (ℕ × ℕ)) (d 
         term k lk = ap (λ (s : Bool). cond (cond s (not (holds g.n d k v)) (holds g.n d k v)) (z_at d k) (pos 0))
             (held k u lk u_low)
             ∙ (ap (λ (s : Bool). cond (cond (f.holds (set_in sets k) u) (not s) s) (z_at d k) (pos 0))
-            (held k v lk v_low)
-            ∙ ap (λ (z : ℤ). cond (splits (f.holds (set_in sets k)) u v) z (pos 0)) (z_is k lk))
+            (held k v lk v_low) ∙ ap (λ (z : ℤ). cond (splits (f.holds (set_in sets k)) u v) z (pos 0)) (z_is k lk))
 
     edge_loaded : (e : ℕ) → e < length g.edges → dual_load g.n d (edge_at g e) ≤ℤ (pos 2 *ℤ (edge_at g e).cost)
     edge_loaded e l =
@@ -379,7 +370,7 @@ module _ (t : ForestTables) (known : IsLaminar t) (sets : List (ℕ × ℕ)) (d 
       numbers = is.y.size ∙ valid.vertices;
       nested = nested;
       odd = λ k l. size_odd k (rw sets_many at l);
-      positive = λ k l. (let low : k < m = (rw sets_many at l) in
+      positive = λ k l. (let low : k < m = rw sets_many at l in
           (rw (z_is k low) (weights_high (set_in sets k) (sized is.order k low).high (set_low is.order k low))));
       loaded = edge_loaded;
     }

@@ -5,9 +5,8 @@ use Rattle.std.proofs.Common.{inr, arith, length-set, get_or-set_same, get_or-se
 use Rattle.std.proofs.Math.ListN.{set}
 use Rattle.std.proofs.lemmas.Bool.{cases_eq, cases_lt, cases_Bool, cond-true, cond-false, eq-eqb, ne_eqb, lt-ltb}
 use Rattle.std.proofs.lemmas.Bool.{le-ltb}
-use Rattle.std.specs.Prelude.{nat_lt}
 use Rattle.def_math.specs.Counts.{count_below}
-use Rattle.sum_laws.proofs.Counts.{count_below_same, count_below_sum, count_below_one}
+use Rattle.sum_laws.proofs.Counts.{count_below_same}
 use Rattle.def_matching.specs.Matching.{WeightedGraph, IsSmallGraph}
 use Rattle.def_forest.specs.{Darts.darts_of, Darts.other_dart, Forests.IsTight, Forests.bool_number, Forests.splits}
 use Rattle.def_forest.specs.Tables.{ForestTables, forest_of}
@@ -16,7 +15,7 @@ use Rattle.forest_laws.proofs.Writes.{some_is}
 use Rattle.qm_forest.specs.Rounds.{IsSoundFor, IsEntry, IsPairing, IsRound, entered, far_at, leaving, near_at, waiting}
 use Rattle.qm_forest.specs.Rounds.{waits_but, waits_for, within}
 
--- A term of a count, and a count with more at one place.
+-- A term of a count.
 pub term_low : (f : ℕ → ℕ) (n k : ℕ) → k < n → f k ≤ count_below f n
 term_low f zero k l = absurd (omega (arith, l))
 term_low f (suc n) k l = by_last (cases_eq k n) (λ lk. term_low f n k lk)
@@ -25,18 +24,27 @@ term_low f (suc n) k l = by_last (cases_eq k n) (λ lk. term_low f n k lk)
     by_last (inl e) more = omega (arith, ap f e)
     by_last (inr ne) more = (let h : f k ≤ count_below f n = more (omega (arith, l, ne)) in omega (arith, h))
 
+-- Two counts that differ at one place alone.
+pub count_changed : (f g : ℕ → ℕ) (n x : ℕ) → x < n → ((k : ℕ) → k < n → k ≢ x → g k ≡ f k)
+    → count_below g n + f x ≡ count_below f n + g x
+count_changed f g zero x l same = absurd (omega (arith, l))
+count_changed f g (suc n) x l same =
+    by_last (cases_eq x n) (λ lx. count_changed f g n x lx (λ k lk. same k (omega (arith, lk))))
+  where
+    by_last : (x ≡ n) ⊎ (x ≢ n) → (x < n → count_below g n + f x ≡ count_below f n + g x)
+        → (count_below g n + g n) + f x ≡ (count_below f n + f n) + g x
+    by_last (inl e) more = omega (
+      arith,
+      ap f e,
+      ap g e,
+      count_below_same g f n
+          (λ k lk. same k (omega (arith, lk)) (λ at. absurd (omega (arith, at, e, lk)))),
+    )
+    by_last (inr ne) more = omega (arith, more (omega (arith, l, ne)), same n (omega arith) (λ at. ne (sym at)))
+
 pub count_more : (f g : ℕ → ℕ) (n x : ℕ) → x < n → f x ≡ 0 → ((k : ℕ) → k < n → k ≢ x → g k ≡ f k)
     → count_below g n ≡ count_below f n + g x
-count_more f g n x l none same = count_below_same g (λ k. f k + cond (eqb k x) (g k) 0) n
-    (λ k lk. each k lk (cases_eq k x)) ∙ (count_below_sum f (λ k. cond (eqb k x) (g k) 0) n
-    ∙ ap (λ m. count_below f n + m) (count_below_one (λ k. cond (eqb k x) (g k) 0) n x l
-    (λ k lk ne. cond-false _ _ _ (ne_eqb k x ne)) ∙ cond-true _ _ _ (eq-eqb x x refl)))
-  where
-    each : (k : ℕ) → k < n → (k ≡ x) ⊎ (k ≢ x) → g k ≡ f k + cond (eqb k x) (g k) 0
-    each k lk (inl e) = (let z : f k ≡ 0 = ap f e ∙ none in let s : cond (eqb k x) (g k) 0 ≡ g k =
-        cond-true _ _ _ (eq-eqb k x e) in omega (arith, z, s))
-    each k lk (inr ne) = (let h : g k ≡ f k = same k lk ne in let s : cond (eqb k x) (g k) 0 ≡ 0 =
-        cond-false _ _ _ (ne_eqb k x ne) in omega (arith, h, s))
+count_more f g n x l none same = omega (arith, none, count_changed f g n x l same)
 
 pub option_cases : (o : Option ℕ) → (o ≡ None) ⊎ ((v : ℕ) × (o ≡ Some v))
 option_cases None = inl refl
@@ -139,7 +147,14 @@ module _ (t : ForestTables) (vertices : length t.hand ≤ length t.up)
           (near_at t (2 * e + 1))) ≤ leaving t marks u =
           term_low (λ k. bool_number (get_or marks k false && splits ((forest_of t).holds u) (near_at t (2 * k))
           (near_at t (2 * k + 1)))) (length marks) e e_low in
-          absurd (omega (arith, one, some, ap bool_number pairing.near_held, round.each u low_u, round.once u pairing.near_low)))
+          absurd (omega (
+            arith,
+            one,
+            some,
+            ap bool_number pairing.near_held,
+            round.each u low_u,
+            round.once u pairing.near_low,
+          )))
     ]
 
     -- Neither blossom waited.
@@ -159,13 +174,13 @@ module _ (t : ForestTables) (vertices : length t.hand ≤ length t.up)
           let in_c : bool_number (within t other.0 c) ≡ 1 = ap bool_number other.3 in
           let low_z : other.0 < length t.up = omega (arith, other.1, vertices) in
           absurd (omega (
-          arith,
-          waits,
-          some,
-          in_c,
-          covered other.0,
-          round.each other.0 low_z,
-          round.once other.0 other.1,
+            arith,
+            waits,
+            some,
+            in_c,
+            covered other.0,
+            round.each other.0 low_z,
+            round.once other.0 other.1,
           )))
     ]
 

@@ -1,12 +1,11 @@
 -- The tables after a set was parted into the blossoms of its ring.
-use Rattle.std.proofs.Common.{◌≡◌, ◌≢◌, ℕ, zero, suc, ◌+◌, ◌<◌, ◌≤◌, true, false, cond, List, length, get_or, Bool}
-use Rattle.std.proofs.Common.{ℤ, pos, ◌⊎◌, Option, Some, None, refl, sym, ◌∙◌, ap, subst, inl}
+use Rattle.std.proofs.Common.{◌≡◌, ◌≢◌, ℕ, zero, suc, ◌+◌, ◌<◌, ◌≤◌, true, false, List, length, get_or, Bool}
+use Rattle.std.proofs.Common.{ℤ, pos, ◌⊎◌, Option, Some, None, refl, sym, ◌∙◌, ap, inl}
 use Rattle.std.proofs.Common.{inr, arith, length-set, get_or-set_same, get_or-set_other}
-use Rattle.std.proofs.{Math.ListN.set, lemmas.Int.ints, lemmas.Bool.cases_eq, lemmas.Bool.cases_Bool}
+use Rattle.std.proofs.{Math.ListN.set, lemmas.Bool.cases_eq, lemmas.Bool.cases_Bool}
 use Rattle.std.specs.Prelude.{slice_get}
-use Rattle.def_forest.specs.{Forests.walk, Forests.set_at, Steps.weight_change}
+use Rattle.def_forest.specs.{Forests.walk, Forests.set_at}
 use Rattle.def_forest.specs.Tables.{GraphSize, ForestTables, forest_of, climbs, label_at, out_of, up_at}
-use Rattle.def_forest.specs.declared.kinds.Label.TheVariants.{Outside}
 use Rattle.forest_laws.specs.Walks.{listed, writes}
 use Rattle.forest_laws.proofs.Walks.{listed_place, writes_at, writes_off}
 use Rattle.forest_laws.proofs.Writes.{set_here, set_there, true_false}
@@ -17,7 +16,7 @@ use Rattle.qm_forest.specs.{Ties.added, Ties.told, Views.tables_of, Views.hidden
 use Rattle.qm_forest.specs.{declared.tables.Lists.Lists, declared.tables.Rings.Rings, declared.tables.Trail.Trail}
 use Rattle.qm_forest.specs.{declared.tables.Tree.Tree, declared.tables.Weights.Weights}
 use Rattle.qm_forest.proofs.{JoinedLists.list_renamed, KeptTies.numbers_kept, KeptTies.tied_as, KeptTies.trail_kept}
-use Rattle.qm_forest.proofs.{Nests.came_past, Nests.leader_out, Pooled.pool_given, Ranges.read_nat}
+use Rattle.qm_forest.proofs.{Nests.came_past, Nests.leader_out, Pooled.pool_changed, Ranges.read_nat}
 use Rattle.qm_forest.proofs.{TiedWrites.entry_set, PartedWays.PartedWay, PartedWays.alone, PartedWays.at_in}
 use Rattle.qm_forest.proofs.PartedWays.{climb_parted, fresh_part, fresh_place, fresh_together, holds_none, holds_old}
 use Rattle.qm_forest.proofs.PartedWays.{leader_fresh, leader_in, leaders_differ, never, out_in, out_is, out_off}
@@ -185,9 +184,9 @@ module _ {h h2 : Handles} {l : Lists} {r r2 : Rings} {trail : Trail} {w : Weight
           rw (p.hand, tied.sizes.top) (leader_in way p.place p.low).0)
       | inr off ↦ rw (hand_off v lv off) (tied.nest.hands v lv)
     ]);
-    outs = λ k lk. (rw (ap (λ (f : ℕ → ℕ). f k) handed.top) (writes_has
+    outs = λ k lk. rw (ap (λ (f : ℕ → ℕ). f k) handed.top) (writes_has
         (λ x. x < length t.up) _ leader at many k ready.row.low
-        (tied.nest.outs k (rw handed.tops at lk))));
+        (tied.nest.outs k (rw handed.tops at lk)));
     ups = λ x lx. rw (read_nat r2.up.items x 0 x (rw opened.size lx)) (elim (cases_Bool (inside x)) [
       | inl on ↦ rw (up_in way x on) lx
       | inr off ↦ rw (up_off way x off, read_nat t.up x x 0 lx) (tied.nest.ups x lx)
@@ -263,13 +262,14 @@ module _ {h h2 : Handles} {l : Lists} {r r2 : Rings} {trail : Trail} {w : Weight
   }
 
   pool_new : IsPooled n (length t.up) r2.parts.items pool2
-  pool_new = rw (opened.parts, parting.gave) (pool_given tied.pool parting.id parting.node ready.high ready.low
-      tied.sizes.parts ready.live parting.is parting.was)
+  pool_new = rw (opened.parts, parting.gave) (pool_changed tied.pool parting.id ready.high ready.low tied.sizes.parts
+      parting.is parting.was (inr (parting.node, refl, ready.live)) None 0 (inl (refl, refl)))
 
   -- The tie after a set was parted.
   pub tied_parted : AreTied (tables_of h2 l r2 trail w e room) (hidden_of h2 l trail pool2)
   tied_parted = rw (opened.after, opened.joint, opened.head)
-      (tied_as {t = parted} {hid = parted_hidden} handed.hands opened.size sizes_new nest_new numbers_new trail_new pool_new)
+      (tied_as {t = parted} {hid = parted_hidden} handed.hands opened.size sizes_new nest_new numbers_new trail_new
+      pool_new)
 
   -- What the forest sees.
   pub parted_is : IsParted n (forest_of t) (forest_of (tables_of h2 l r2 trail w e room)) inside b

@@ -1,10 +1,10 @@
 -- Climbing after a set was parted: one comes past the same blossoms but for the set.
 use Rattle.std.proofs.Common.{◌≡◌, ◌≢◌, ℕ, zero, suc, ◌<◌, ◌≤◌, Bool, true, false, cond, List, length, get_or, ◌⊎◌}
 use Rattle.std.proofs.Common.{refl, sym}
-use Rattle.std.proofs.Common.{◌∙◌, ap, subst, inl, inr, arith}
+use Rattle.std.proofs.Common.{◌∙◌, ap, inl, inr, arith}
 use Rattle.std.proofs.lemmas.Bool.{cases_eq, cases_lt, cases_Bool, ne_eqb}
 use Rattle.std.proofs.Math.Bool.{or-false}
-use Rattle.def_forest.specs.{Forests.walk, Forests.set_at, Tables.ForestTables, Tables.climbs, Tables.label_at}
+use Rattle.def_forest.specs.{Forests.walk, Tables.ForestTables, Tables.climbs, Tables.label_at}
 use Rattle.def_forest.specs.{Tables.out_of, Tables.up_at, declared.kinds.Label.TheVariants.Outside}
 use Rattle.forest_laws.specs.Walks.{listed, writes}
 use Rattle.forest_laws.proofs.Walks.{listed_at, listed_place, listed_off}
@@ -210,7 +210,7 @@ module _ {t : ForestTables} {hid : HiddenTables} {b : ℕ} {up2 : List ℕ} (way
     | inl e ↦ e
     | inr named ↦ (let w : (k : ℕ) × (k < length t.trail) × (out (get_or t.trail k 0) ≡ x) = tied.trail.named x named in
         let top : up_at t.up x ≡ x = (rw w.2 at (tied.nest.climb.tops (get_or t.trail w.0 0)
-            (tied.trail.low w.0 w.1))) in
+        (tied.trail.low w.0 w.1))) in
         let set : x ≡ b = sym top ∙ in_around x on in
         absurd (true_false (ap inside (sym set) ∙ on) b_off))
   ]

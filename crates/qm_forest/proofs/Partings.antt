@@ -1,16 +1,16 @@
 -- Parting a set, step by step: what each of its loops needs, and the tie and the forest after all of them.
-use Rattle.std.proofs.Common.{◌≡◌, ◌≢◌, ℕ, ◌+◌, ◌-◌, ◌<◌, ◌≤◌, ◌^◌, true, List, length, get_or, pos, ◌⊎◌, Option}
-use Rattle.std.proofs.Common.{Some, None, sym, ◌∙◌, ap, subst, inl, inr, arith}
+use Rattle.std.proofs.Common.{◌≡◌, ◌≢◌, ℕ, ◌+◌, ◌-◌, ◌<◌, ◌≤◌, true, List, length, get_or, ◌⊎◌, Option}
+use Rattle.std.proofs.Common.{Some, None, sym, ◌∙◌, ap, inl, inr, arith}
 use Rattle.std.proofs.Math.ListN.{set}
 use Rattle.std.proofs.lemmas.Bool.{cases_eq, cases_lt}
-use Rattle.std.specs.Prelude.{slice_get, unsigned_abs}
+use Rattle.std.specs.Prelude.{slice_get}
 use Rattle.def_forest.specs.Forests.{Forest, walk}
 use Rattle.def_forest.specs.Tables.{GraphSize, ForestTables, forest_of, climbs, up_at}
 use Rattle.forest_laws.specs.Walks.{listed}
 use Rattle.forest_laws.proofs.Walks.{listed_place}
 use Rattle.qm_pool.specs.declared.pool.Node.{Node}
 use Rattle.qm_forest.specs.{Gathers.lists_at, Parts.HasHandedRow, Parts.HasPartLists, Parts.AreOpened, Parts.IsPartable}
-use Rattle.qm_forest.specs.{Parts.IsParted, Ties.AreTied, Ties.HiddenTables, Ties.IsInUse, Ties.IsListed}
+use Rattle.qm_forest.specs.{Parts.IsParted, Ties.AreTied, Ties.HiddenTables, Ties.IsListed}
 use Rattle.qm_forest.specs.{Views.tables_of, Views.hidden_of, declared.tables.Handles.Handles}
 use Rattle.qm_forest.specs.{declared.tables.Lists.Lists, declared.tables.Rings.Rings, declared.tables.Trail.Trail}
 use Rattle.qm_forest.specs.{declared.tables.Tree.Tree, declared.tables.Weights.Weights}

@@ -1,6 +1,6 @@
 -- The numbers of a forest stay small.
 use Rattle.std.proofs.Common.{Some, ◌≡◌, ℕ, zero, suc, ◌*◌, ◌<◌, ◌≤◌, ◌^◌, Bool, true, false, cond, List, length}
-use Rattle.std.proofs.Common.{get_or, ℤ, pos, ◌+ℤ◌, sym, ◌∙◌, ap, subst, arith}
+use Rattle.std.proofs.Common.{get_or, ℤ, pos, ◌+ℤ◌, sym, ◌∙◌, ap, arith}
 use Rattle.std.proofs.lemmas.Int.{ints}
 use Rattle.std.proofs.lemmas.Option.{slice_get-get_or}
 use Rattle.std.specs.Prelude.{unsigned_abs}

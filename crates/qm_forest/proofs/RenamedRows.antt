@@ -1,23 +1,19 @@
 -- One vertex of a list, or one blossom of a row, more.
-use Rattle.std.proofs.Common.{◌≡◌, ◌≢◌, ℕ, suc, ◌+◌, ◌<◌, ◌≤◌, ◌^◌, Bool, true, false, cond, eqb, ◌||◌, List, length}
+use Rattle.std.proofs.Common.{◌≡◌, ◌≢◌, ℕ, suc, ◌+◌, ◌<◌, ◌≤◌, ◌^◌, Bool, true, false, cond, eqb, List, length}
 use Rattle.std.proofs.Common.{get_or, ℤ, pos, ◌+ℤ◌, ◌-ℤ◌, ◌⊎◌, refl, sym, ◌∙◌, ap, subst, inl, inr, arith}
 use Rattle.std.proofs.Common.{get_or-set_same, get_or-set_other}
 use Rattle.std.proofs.Math.ListN.{set}
 use Rattle.std.proofs.lemmas.Int.{ints}
 use Rattle.std.proofs.lemmas.Bool.{cases_eq, cases_lt, cases_Bool, cond-true, cond-false, eq-eqb, ne_eqb, eqb-true}
-use Rattle.std.proofs.lemmas.Bool.{or_right}
+use Rattle.std.proofs.Math.Bool.{or-false, or-true}
 use Rattle.std.proofs.lemmas.List.{get_or_past}
 use Rattle.std.specs.Prelude.{unsigned_abs}
 use Rattle.def_forest.specs.{Forests.walk, Tables.out_of}
 use Rattle.forest_laws.specs.Walks.{listed}
-use Rattle.forest_laws.proofs.Walks.{listed_off, listed_place}
+use Rattle.forest_laws.proofs.{Bounds.eqb_order, Walks.listed_at, Walks.listed_off, Walks.listed_place}
 use Rattle.qm_forest.specs.Gathers.{lists_at, differ_by, in_row, HasListAt, HasListsOf, HasLeaders, HasRenamed, IsRow}
 use Rattle.qm_forest.specs.declared.tables.Handles.{Handles}
 use Rattle.qm_forest.specs.declared.tables.Lists.{Lists}
-
-or_same : (a : Bool) {b : Bool} → b ≡ false → (a || b) ≡ a
-or_same true e = refl
-or_same false e = e
 
 -- A table that is written at one more place of a walk, each place with its value: what is listed has it.
 pub one_more : {X : Type 0} (xs : List X) (d : X) (next : ℕ → ℕ) (from k : ℕ) (new old : ℕ → X)
@@ -25,12 +21,9 @@ pub one_more : {X : Type 0} (xs : List X) (d : X) (next : ℕ → ℕ) (from k :
     → ((v : ℕ) → get_or xs v d ≡ cond (listed next from k v) (new v) (old v)) → {x : X} → x ≡ new (walk next from k)
     → (v : ℕ) → get_or (set xs (walk next from k) x) v d ≡ cond (listed next from (suc k) v) (new v) (old v)
 one_more xs d next from k new old low distinct was {x} x_is v = elim (cases_eq v (walk next from k)) [
-  | inl e ↦ ap (λ j. get_or (set xs (walk next from k) x) j d) e
-      ∙ (get_or-set_same xs (walk next from k) x d low ∙ (x_is ∙ (ap new (sym e) ∙ sym (cond-true _ _ _
-      (or_right (listed next from k v) (eqb (walk next from k) v) (eq-eqb (walk next from k) v (sym e)))))))
-  | inr ne ↦ get_or-set_other xs (walk next from k) v x d ne
-      ∙ (was v ∙ ap (λ (s : Bool). cond s (new v) (old v)) (sym (or_same (listed next from k v)
-      (ne_eqb (walk next from k) v (λ e. ne (sym e))))))
+  | inl e ↦ rw (e, listed_at next from (suc k) k (omega arith)) (get_or-set_same xs (walk next from k) x d low ∙ x_is)
+  | inr ne ↦ rw (ne_eqb (walk next from k) v (λ e. ne (sym e)), or-false (listed next from k v))
+      (get_or-set_other xs (walk next from k) v x d ne ∙ was v)
 ]
 
 -- What stands at the next place of a walk has not been changed.
@@ -74,12 +67,6 @@ module _ {h0 : Handles} {lists : Lists} {after : List ℕ} {front many : ℕ} (b
   own : (v : ℕ) → v < length h0.hand.items → lists_at lists (at k) v ≡ eqb (out v) (at k)
   own v lv = has.own k v l lv
 
-  turned : (v : ℕ) → eqb (out v) (at k) ≡ eqb (at k) (out v)
-  turned v = elim (cases_eq (out v) (at k)) [
-    | inl e ↦ eq-eqb (out v) (at k) e ∙ sym (eq-eqb (at k) (out v) (sym e))
-    | inr ne ↦ ne_eqb (out v) (at k) ne ∙ sym (ne_eqb (at k) (out v) (λ e. ne (sym e)))
-  ]
-
   before_off : (v : ℕ) → out v ≡ at k → in_row h0 after front k v ≡ false
   before_off v e = listed_off (λ i. get_or after i 0) front k (out v) (λ j lj w. distinct j k lj l (w ∙ e))
 
@@ -91,7 +78,7 @@ module _ {h0 : Handles} {lists : Lists} {after : List ℕ} {front many : ℕ} (b
       let w : (j : ℕ) × (j < get_or lists.rank.items (at k) 0) × (walk (λ i. get_or lists.following.items i 0)
       (get_or lists.first.items (at k) 0) j ≡ v) = listed_place (λ i. get_or lists.following.items i 0)
       (get_or lists.first.items (at k) 0) (get_or lists.rank.items (at k) 0) v on in
-      let lv : v < length h0.hand.items = (rw w.2 at ((has.each k l).low w.0 w.1)) in
+      let lv : v < length h0.hand.items = rw w.2 at ((has.each k l).low w.0 w.1) in
       let e : out v ≡ at k = eqb-true (out v) (at k) (sym (own v lv) ∙ on) in
       hand1 v lv ∙ (cond-false _ _ _ (before_off v e)
       ∙ (has.led v lv ∙ ap (λ b. get_or lists.leader.items b 0) (e ∙ at_big)))
@@ -104,43 +91,29 @@ module _ {h0 : Handles} {lists : Lists} {after : List ℕ} {front many : ℕ} (b
     pub hand_more : {h2 : Handles} {more : ℤ} → HasRenamed h1 h2 lists (at k) handle more → (v : ℕ)
         → v < length h0.hand.items → get_or h2.hand.items v 0 ≡ cond (in_row h0 after front (suc k) v) handle
         (get_or h0.hand.items v 0)
-    hand_more renamed v lv = renamed.hand v ∙ (ap (λ (s : Bool). cond s handle (get_or h1.hand.items v 0))
-        (own v lv ∙ turned v) ∙ by_place (cases_eq (at k) (out v)))
-      where
-        by_place : (at k ≡ out v) ⊎ (at k ≢ out v) → cond (eqb (at k) (out v)) handle (get_or h1.hand.items v 0)
-            ≡ cond (in_row h0 after front k v || eqb (at k) (out v)) handle (get_or h0.hand.items v 0)
-        by_place (inl e) = cond-true _ _ _ (eq-eqb (at k) (out v) e) ∙ sym (cond-true _ _ _
-            (or_right (in_row h0 after front k v) (eqb (at k) (out v)) (eq-eqb (at k) (out v) e)))
-        by_place (inr ne) = cond-false _ _ _ (ne_eqb (at k) (out v) ne)
-            ∙ (hand1 v lv ∙ ap (λ (s : Bool). cond s handle (get_or h0.hand.items v 0))
-            (sym (or_same (in_row h0 after front k v) (ne_eqb (at k) (out v) ne))))
+    hand_more renamed v lv = renamed.hand v
+        ∙ rw (own v lv ∙ eqb_order (out v) (at k)) (elim (cases_eq (at k) (out v)) [
+          | inl e ↦ rw (eq-eqb (at k) (out v) e, or-true (in_row h0 after front k v))
+          | inr ne ↦ rw (ne_eqb (at k) (out v) ne, or-false (in_row h0 after front k v)) (hand1 v lv)
+        ])
 
     pub q_more : {h2 : Handles} {more : ℤ} → more ≡ (get_or h0.off.items (get_or lists.leader.items (at k) 0) (pos 0) -ℤ
         get_or h0.off.items handle (pos 0)) → HasRenamed h1 h2 lists (at k) handle more → (v : ℕ)
         → v < length h0.hand.items → get_or h2.q.items v (pos 0) ≡ cond (in_row h0 after front (suc k) v) (moved v)
         (get_or h0.q.items v (pos 0))
-    q_more {more} more_is renamed v lv =
-        renamed.q v ∙ (ap (λ (s : Bool). cond s (get_or h1.q.items v (pos 0) +ℤ more) (get_or h1.q.items v (pos 0)))
-        (own v lv ∙ turned v) ∙ by_place (cases_eq (at k) (out v)))
-      where
-        by_place : (at k ≡ out v) ⊎ (at k ≢ out v) → cond (eqb (at k) (out v)) (get_or h1.q.items v (pos 0) +ℤ more)
-            (get_or h1.q.items v (pos 0)) ≡ cond (in_row h0 after front k v || eqb (at k) (out v)) (moved v)
-            (get_or h0.q.items v (pos 0))
-        by_place (inl e) =
-            let off : in_row h0 after front k v ≡ false = before_off v (sym e) in
-            let was : get_or h1.q.items v (pos 0) ≡ get_or h0.q.items v (pos 0) =
-            q1 v lv ∙ cond-false _ _ _ off in
-            let lead : get_or h0.off.items (get_or h0.hand.items v 0) (pos 0)
-            ≡ get_or h0.off.items (get_or lists.leader.items (at k) 0) (pos 0) = ap (λ j. get_or h0.off.items j (pos 0))
-            (has.led v lv ∙ ap (λ b. get_or lists.leader.items b 0) (sym e)) in
-            let new : get_or h1.q.items v (pos 0) +ℤ more ≡ moved v = omega (arith, ints, was, lead, more_is) in
-            cond-true _ _ _
-            (eq-eqb (at k) (out v) e) ∙ (new ∙ sym (cond-true _ _ _ (or_right (in_row h0 after front k v) (eqb (at k)
-            (out v))
-            (eq-eqb (at k) (out v) e))))
-        by_place (inr ne) = cond-false _ _ _ (ne_eqb (at k) (out v) ne) ∙ (q1 v lv
-            ∙ ap (λ (s : Bool). cond s (moved v) (get_or h0.q.items v (pos 0)))
-            (sym (or_same (in_row h0 after front k v) (ne_eqb (at k) (out v) ne))))
+    q_more {more} more_is renamed v lv = renamed.q v
+        ∙ rw (own v lv ∙ eqb_order (out v) (at k)) (elim (cases_eq (at k) (out v)) [
+          | inl e ↦
+              (let was : get_or h1.q.items v (pos 0) ≡ get_or h0.q.items v (pos 0) =
+              q1 v lv ∙ cond-false _ _ _ (before_off v (sym e)) in
+              let lead : get_or h0.off.items (get_or h0.hand.items v 0) (pos 0)
+              ≡ get_or h0.off.items (get_or lists.leader.items (at k) 0) (pos 0) =
+              ap (λ j. get_or h0.off.items j (pos 0)) (has.led v lv
+              ∙ ap (λ b. get_or lists.leader.items b 0) (sym e)) in
+              rw (eq-eqb (at k) (out v) e, or-true (in_row h0 after front k v))
+              (omega (arith, ints, was, lead, more_is)))
+          | inr ne ↦ rw (ne_eqb (at k) (out v) ne, or-false (in_row h0 after front k v)) (q1 v lv)
+        ])
 
     -- The numbers stay small all the while.
     pub q_small : ((j : ℕ) × (j < many) × (at j ≡ big)) → (v : ℕ) → v < length h0.hand.items
@@ -229,15 +202,15 @@ pub row_lists : {h0 : Handles} (h1 : Handles) {lists : Lists} {after : List ℕ}
     → HasListsOf h0 lists after front many → k < many → x ≡ walk (λ i. get_or after i 0) front k → length h1.hand.items
     ≡ length h0.hand.items → length h1.q.items ≡ length h0.q.items → HasListAt h1 lists x
 row_lists {h0} h1 {lists} {after} {front} {many} k has l x_is hands qs = (rw x_is (record {
-      first = was.first;
-      rank = was.rank;
-      q = qs ∙ (was.q ∙ sym hands);
-      following = was.following ∙ sym hands;
-      few = omega (arith, was.few, hands);
-      many = omega (arith, was.many, hands);
-      low = λ j lj. (rw hands (was.low j lj));
-      distinct = was.distinct;
-    }))
+  first = was.first;
+  rank = was.rank;
+  q = qs ∙ (was.q ∙ sym hands);
+  following = was.following ∙ sym hands;
+  few = omega (arith, was.few, hands);
+  many = omega (arith, was.many, hands);
+  low = λ j lj. rw hands (was.low j lj);
+  distinct = was.distinct;
+}))
   where
     was : HasListAt h0 lists (walk (λ i. get_or after i 0) front k)
     was = has.each k l
@@ -314,4 +287,4 @@ module _ {h0 h1 h2 : Handles} {lists : Lists} {after : List ℕ} {front many : �
 -- The handle and what it adds are told otherwise.
 pub renamed_as : {h0 h1 : Handles} {lists : Lists} {x a : ℕ} {b : ℕ} {m : ℤ} (n : ℤ) → HasRenamed h0 h1 lists x a m → a
     ≡ b → m ≡ n → HasRenamed h0 h1 lists x b n
-renamed_as {h0} {h1} {lists} {x} {a} n is e f = (rw e at (rw f at is))
+renamed_as {h0} {h1} {lists} {x} {a} n is e f = rw e at (rw f at is)

@@ -1,6 +1,6 @@
 -- A ring is matched in pairs, but for one part; and the round goes on to the set around it.
 use Rattle.std.proofs.Common.{◌≡◌, ◌≢◌, ℕ, zero, suc, ◌+◌, ◌-◌, ◌*◌, ◌/◌, ◌<◌, ◌≤◌, Bool, true, false, cond, List}
-use Rattle.std.proofs.Common.{length, get_or, Option, Some, None, ◌⊎◌, refl, sym, ◌∙◌, ap, subst, inl, inr, arith}
+use Rattle.std.proofs.Common.{length, get_or, Option, Some, None, ◌⊎◌, refl, sym, ◌∙◌, ap, inl, inr, arith}
 use Rattle.std.proofs.Math.ListN.{set}
 use Rattle.std.proofs.lemmas.Bool.{cases_Bool, cond-true, cond-false}
 use Rattle.def_matching.specs.Matching.{WeightedGraph, IsSmallGraph}
@@ -8,11 +8,11 @@ use Rattle.def_forest.specs.{Darts.darts_of, Forests.bool_number, Forests.walk, 
 use Rattle.def_forest.specs.{Tables.forest_of, Tables.up_at, Valid.IsRing}
 use Rattle.forest_laws.specs.Walks.{listed}
 use Rattle.forest_laws.proofs.Circles.{IsCircle, circle_from}
-use Rattle.forest_laws.proofs.Walks.{listed_at, listed_closed, listed_place, walk_front}
+use Rattle.forest_laws.proofs.Walks.{listed_at, listed_closed, listed_place, walk_fixed, walk_front}
 use Rattle.qm_forest.specs.Rounds.{IsSoundFor, IsLaminar, IsPairing, IsRound, entered, far_at, near_at, waits_but}
 use Rattle.qm_forest.specs.Rounds.{within}
-use Rattle.qm_forest.proofs.{Apart.walk_stays, Enclosed.climbs_here, Nests.climbs_place, Laminars.alone}
-use Rattle.qm_forest.proofs.Laminars.{another, ring_around, ring_pairing, x_low}
+use Rattle.qm_forest.proofs.{Enclosed.climbs_here, Nests.climbs_place, Laminars.alone}
+use Rattle.qm_forest.proofs.Laminars.{another, ring_around, ring_pairing, rising, x_low}
 use Rattle.qm_forest.proofs.{Pairings.entered_size, Pairings.entry_cases, Pairings.paired_round, Withins.climb_law}
 use Rattle.qm_forest.proofs.Withins.{in_where, rank_walk, ring_front}
 
@@ -88,7 +88,7 @@ module _ {t : ForestTables} (known : IsLaminar t) {g : WeightedGraph} (is_small 
 
   -- Each part and the next are a pair.
   pub turn_pairing : (k : ℕ) {x y d : ℕ} → x ≡ at (2 * k) → y ≡ after x → d ≡ get_or t.joint x 0 → IsPairing t x y d
-  turn_pairing k {x} {y} x_is y_is d_is = (rw (d_is, y_is, x_is) (at_pairing (2 * k)))
+  turn_pairing k {x} {y} x_is y_is d_is = rw (d_is, y_is, x_is) (at_pairing (2 * k))
 
   -- Before the first pair.
   pub ring_begun : {marks : List Bool} {left : List (Option ℕ)} (rest : ℕ → ℕ) {due : ℕ → ℕ} {x : ℕ} (k : ℕ) → x
@@ -119,8 +119,12 @@ module _ {t : ForestTables} (known : IsLaminar t) {g : WeightedGraph} (is_small 
 
       below : (z j : ℕ) → z ≡ at j → c ≡ z → get_or t.rank c 0 < get_or t.rank (up_at t.up p) 0
       below z j z_is c_is =
-          omega (arith, known.rises (at j) (inner_part (at j) (at_in j)), ap (λ w. get_or t.rank w 0) (at_around j), ap
-              (λ w. get_or t.rank w 0) (c_is ∙ z_is))
+          omega (
+            arith,
+            known.rises (at j) (inner_part (at j) (at_in j)),
+            ap (λ w. get_or t.rank w 0) (at_around j),
+            ap (λ w. get_or t.rank w 0) (c_is ∙ z_is),
+          )
 
       by_first : ((length t.hand ≤ x) × (c ≡ x) × (get_or (entered (length t.hand) left x (near_at t d)) c None
           ≡ Some (near_at t d))) ⊎ (get_or (entered (length t.hand) left x (near_at t d)) c None ≡ get_or left c None)
@@ -147,7 +151,7 @@ module _ {t : ForestTables} (known : IsLaminar t) {g : WeightedGraph} (is_small 
       → IsRound t marks2 left2 (λ b. sum_from (after y) (many - 1 - 2 * j) b + rest b) due
   ring_turn {marks} {left} {left2} rest {due} k j {x} {y} {d} x_is low y_is d_is j_is size_marks size_left marks_is
       left_is round = rw (marks_is, left_is) (paired_round t known.vertices (alone t known) known.own
-          (another t known g is_small valid) marks left x y d
+      (another t known g is_small valid) marks left x y d
       (λ b. sum_from (after y) (many - 1 - 2 * j) b + rest b) due size_marks size_left
       (round_rest (λ b. (bool_number (within t b x) + bool_number (within t b y)) +
       (sum_from (after y) (many - 1 - 2 * j) b + rest b)) (λ b l. peeled b) round) (turn_pairing k x_is y_is d_is))
@@ -161,8 +165,15 @@ module _ {t : ForestTables} (known : IsLaminar t) {g : WeightedGraph} (is_small 
           let second : sum_from (after x) (suc (many - 1 - 2 * j)) b ≡ bool_number (within t b (after x)) + sum_from
           (after (after x)) (many - 1 - 2 * j) b = ring_front after (λ r. bool_number (within t b r)) (after x)
           (many - 1 - 2 * j) in
-          omega (arith, ap (λ m. sum_from x m b) two, first, second, ap (λ z. bool_number (within t b z))
-              (sym y_is), ap (λ z. sum_from (after z) (many - 1 - 2 * j) b) (sym y_is))
+          omega (
+            arith,
+            ap (λ m. sum_from x m b) two,
+            first,
+            second,
+            ap (λ z. bool_number (within t b z))
+                (sym y_is),
+            ap (λ z. sum_from (after z) (many - 1 - 2 * j) b) (sym y_is),
+          )
 
   -- All pairs.
   pub ring_ended : {marks : List Bool} {left : List (Option ℕ)} (rest : ℕ → ℕ) {due : ℕ → ℕ} (k x : ℕ) → k ≡ many / 2
@@ -170,8 +181,10 @@ module _ {t : ForestTables} (known : IsLaminar t) {g : WeightedGraph} (is_small 
   ring_ended rest k x k_is round = round_rest rest (λ b l. none b) round
     where
       none : (b : ℕ) → sum_from x (many - 1 - 2 * k) b + rest b ≡ rest b
-      none b = (let z : many - 1 - 2 * k ≡ 0 = omega (arith, ring.odd, k_is) in omega (arith, ap
-          (λ m. sum_from x m b) z))
+      none b = (let z : many - 1 - 2 * k ≡ 0 = omega (arith, ring.odd, k_is) in omega (
+        arith,
+        ap (λ m. sum_from x m b) z,
+      ))
 
   -- From a part to its set.
   pub ring_climb : {marks : List Bool} {left : List (Option ℕ)} (rest : ℕ → ℕ) {due : ℕ → ℕ} (v : ℕ) {c : ℕ} (j : ℕ)
@@ -182,7 +195,7 @@ module _ {t : ForestTables} (known : IsLaminar t) {g : WeightedGraph} (is_small 
   ring_climb rest v {c} j held lv climbs' low_c low_q round = round_rest
       (λ b. sum_from (after p) (many - 1) b + (cond (within t b q) 0 (waits_but t b c v) + rest b))
       (λ b l. (let law : cond (within t b p) 0 (waits_but t b c v) ≡ sum_from (after p) (many - 1) b + cond
-      (within t b q) 0 (waits_but t b c v) = climb_law (length t.hand) (up_at t.up) (λ z. get_or t.rank z 0) known.rises
+      (within t b q) 0 (waits_but t b c v) = climb_law (rising known)
       q v circle part parts low low_q low_c held j climbs' b in
       omega (arith, law))) round
     where
@@ -216,8 +229,12 @@ module _ {t : ForestTables} (known : IsLaminar t) (v c : ℕ) (lv : v < length t
   pub climb_ends : {marks : List Bool} {left : List (Option ℕ)} (rest : ℕ → ℕ) {due : ℕ → ℕ} {p : ℕ} → p ≡ c
       → IsRound t marks left (λ b. cond (within t b p) 0 (waits_but t b c v) + rest b) due
       → IsRound t marks left rest due
-  climb_ends rest {p} p_is round = round_rest rest (λ b l. (omega (arith, ap (λ z. cond (within t b z) 0
-      (waits_but t b c v)) p_is, none b (within t b c)))) round
+  climb_ends rest {p} p_is round = round_rest rest (λ b l. (omega (
+    arith,
+    ap (λ z. cond (within t b z) 0
+        (waits_but t b c v)) p_is,
+    none b (within t b c),
+  ))) round
     where
       none : (b : ℕ) (s : Bool) → ◌≡◌ {A = ℕ} (cond s 0 (cond s (cond ((forest_of t).holds b v) 0 1) 0)) 0
       none b true = refl
@@ -225,7 +242,7 @@ module _ {t : ForestTables} (known : IsLaminar t) (v c : ℕ) (lv : v < length t
 
   module _ (p : ℕ) (above : (j : ℕ) × (walk (up_at t.up) p j ≡ c)) (below : p ≢ c) where
     pub climbs_on : up_at t.up p ≢ p
-    climbs_on e = below (sym (walk_stays (up_at t.up) above.0 e) ∙ above.1)
+    climbs_on e = below (sym (walk_fixed (up_at t.up) above.0 e) ∙ above.1)
 
     pub above_more : (j : ℕ) × (walk (up_at t.up) (up_at t.up p) j ≡ c)
     above_more = by_steps above.0 above.1
@@ -237,7 +254,7 @@ module _ {t : ForestTables} (known : IsLaminar t) (v c : ℕ) (lv : v < length t
     pub next_rank : get_or t.rank (up_at t.up p) 0 ≤ get_or t.rank c 0
     next_rank =
         let h : get_or t.rank (up_at t.up p) 0 ≤ get_or t.rank (walk (up_at t.up) (up_at t.up p) above_more.0) 0 =
-        rank_walk (length t.hand) (up_at t.up) (λ z. get_or t.rank z 0) known.rises (up_at t.up p) above_more.0 in
+        rank_walk (rising known) (up_at t.up p) above_more.0 in
         omega (arith, h, ap (λ z. get_or t.rank z 0) above_more.1)
 
     pub rises_here : get_or t.rank p 0 < get_or t.rank (up_at t.up p) 0
@@ -245,5 +262,4 @@ module _ {t : ForestTables} (known : IsLaminar t) (v c : ℕ) (lv : v < length t
 
     pub held_more : within t v p ≡ true → within t v (up_at t.up p) ≡ true
     held_more on = (let w : (i : ℕ) × (walk (up_at t.up) v i ≡ p) = climbs_place (up_at t.up) (length t.hand) p v on in
-        in_where (length t.hand) (up_at t.up) (λ z. get_or t.rank z 0) known.rises v (suc w.0)
-        (omega (arith, next_rank, top_rank)) (ap (up_at t.up) w.1))
+        in_where (rising known) v (suc w.0) (omega (arith, next_rank, top_rank)) (ap (up_at t.up) w.1))

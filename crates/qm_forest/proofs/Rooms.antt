@@ -1,7 +1,7 @@
 -- Tied tables with another room, and room that is blank.
 use Rattle.std.proofs.Common.{◌≡◌, ◌≢◌, ℕ, ◌+◌, ◌/◌, ◌<◌, ◌≤◌, length}
 use Rattle.std.proofs.Common.{get_or, None, inl, inr, sym, ◌∙◌, ap}
-use Rattle.std.proofs.{Common.subst, Common.arith, lemmas.Bool.cases_lt, lemmas.Grind.get_or_default_zero}
+use Rattle.std.proofs.{Common.arith, lemmas.Bool.cases_lt, lemmas.Grind.get_or_default_zero}
 use Rattle.std.proofs.lemmas.List.{get_or_past, length-replicate}
 use Rattle.def_matching.specs.Matching.{WeightedGraph}
 use Rattle.def_forest.specs.Tables.{ForestTables, GraphSize, size_of, up_at}

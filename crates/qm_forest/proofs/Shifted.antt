@@ -116,8 +116,15 @@ module _ {t : ForestTables} {hid : HiddenTables} (tied : AreTied t hid) {g : Wei
           let h : potential (shifted (forest_of t) s) v ≡ potential (forest_of t) v +ℤ weight_change
           (label_at t.label (out_of t.hand t.top v)) s =
           potential_shifted valid.valid.outermost s v (rw valid.vertices at lv) in
-          omega (arith, ints, ap (λ (f : Forest). potential f v)
-              (seen_shift t s d_is), h, tied.numbers.potentials v lv, added_is v)
+          omega (
+            arith,
+            ints,
+            ap (λ (f : Forest). potential f v)
+                (seen_shift t s d_is),
+            h,
+            tied.numbers.potentials v lv,
+            added_is v,
+          )
 
 -- The forest is valid after a shift whose end is feasible.
 pub valid_shift : {t : ForestTables} (u : ForestTables) {g : WeightedGraph} (s : ℤ) → IsGraph g → IsValidFor g t
@@ -142,10 +149,10 @@ valid_rooted {t} u {g} is valid v low none free seen hand root fixed = record {
   ends = ends_kept u valid fixed;
   room = room_kept u valid fixed;
   valid = rw (seen, root) (rooted_valid (are_darts is) (rw none at valid.valid) ((forest_of t).out v) (
-        v,
-        (rw valid.vertices at low),
-        refl,
-      ) free);
+    v,
+    (rw valid.vertices at low),
+    refl,
+  ) free);
 }
 
 -- An option that is not empty has something in it.

@@ -1,11 +1,10 @@
 -- Shrinking, step by step: the ring that is laid is a cycle of the tree, and what comes of it is one blossom.
-use Rattle.std.proofs.Common.{◌≡◌, ◌≢◌, ℕ, suc, ◌+◌, ◌-◌, ◌*◌, ◌<◌, ◌≤◌, Bool, true, false, cond, eqb, length, get_or}
-use Rattle.std.proofs.Common.{ℤ, pos, ◌⊎◌, Option, Some, None, refl, sym, ◌∙◌, ap, subst, inl, inr, arith}
+use Rattle.std.proofs.Common.{◌≡◌, ◌≢◌, ℕ, suc, ◌+◌, ◌-◌, ◌*◌, ◌<◌, ◌≤◌, Bool, true, false, cond, length, get_or}
+use Rattle.std.proofs.Common.{ℤ, pos, ◌⊎◌, Option, Some, None, refl, sym, ◌∙◌, ap, inl, inr, arith}
 use Rattle.std.proofs.lemmas.Bool.{cases_eq, cases_lt, cond-true, eq-eqb}
-use Rattle.def_math.specs.Counts.{count_below}
 use Rattle.def_matching.specs.Matching.{WeightedGraph, IsSmallGraph}
 use Rattle.def_forest.specs.{Darts.Darts, Darts.AreDarts, Darts.darts_of, Darts.far, Forests.Forest, Forests.IsTight}
-use Rattle.def_forest.specs.{Forests.IsOutermost, Forests.live_at, Forests.set_at, Forests.walk, Shrunk.IsClosedRow}
+use Rattle.def_forest.specs.{Forests.IsOutermost, Forests.set_at, Forests.walk, Shrunk.IsClosedRow}
 use Rattle.def_forest.specs.{Shrunk.IsCycle, Shrunk.IsShrunk, Shrunk.IsShrinking, Shrunk.IsUnused, Tables.ForestTables}
 use Rattle.def_forest.specs.{Tables.forest_of, Tables.label_at, Tables.IsOutermostIn, Tables.IsValidFor, Valid.IsMate}
 use Rattle.def_forest.specs.{Valid.IsValid, Valid.IsTree, Ways.dart_or, declared.kinds.Label.Label}
@@ -39,19 +38,19 @@ module _ (g : WeightedGraph) (is : IsSmallGraph g) (t0 : ForestTables) (valid : 
     (apart : (forest_of t0).out ((darts_of g).near start) ≢ (forest_of t0).out (far (darts_of g) start))
     (top left right : ℕ) (met : IsClimbing (darts_of g) (forest_of t0) ((forest_of t0).out ((darts_of g).near start))
     ((forest_of t0).out (far (darts_of g) start)) top top left right) where
-  abbrev d : Darts
+  abbrev pub d : Darts
   d = darts_of g
 
-  abbrev f : Forest
+  abbrev pub f : Forest
   f = forest_of t0
 
-  abbrev a : ℕ
+  abbrev pub a : ℕ
   a = (forest_of t0).out ((darts_of g).near start)
 
-  abbrev c : ℕ
+  abbrev pub c : ℕ
   c = (forest_of t0).out (far (darts_of g) start)
 
-  are : AreDarts (darts_of g)
+  are : AreDarts d
   are = are_darts is.lawful
 
   named_a : f.label a ≢ Outside
@@ -60,10 +59,10 @@ module _ (g : WeightedGraph) (is : IsSmallGraph g) (t0 : ForestTables) (valid : 
   named_c : f.label c ≢ Outside
   named_c = outer_named outer_c
 
-  pub tree_is : (r : ℕ) × (t0.root ≡ Some r) × IsTree (darts_of g) (forest_of t0) r
+  pub tree_is : (r : ℕ) × (t0.root ≡ Some r) × IsTree d f r
   tree_is = the_tree g is t0 valid a named_a
 
-  whole : IsValid (darts_of g) (forest_of t0) (Some tree_is.0)
+  whole : IsValid d f (Some tree_is.0)
   whole = rw tree_is.1 at valid.valid
 
   abbrev many : ℕ
@@ -72,28 +71,41 @@ module _ (g : WeightedGraph) (is : IsSmallGraph g) (t0 : ForestTables) (valid : 
   abbrev at : ℕ → ℕ
   at = ring_at d f a c left
 
-  left_is : (k : ℕ) → k ≤ left → at k ≡ way_of d f a (left - k)
+  -- The two ways to the root, and the darts of the ring along them: down the one, and up the other.
+  abbrev pub way_a : ℕ → ℕ
+  way_a = way_of d f a
+
+  abbrev pub way_c : ℕ → ℕ
+  way_c = way_of d f c
+
+  abbrev downs : ℕ → ℕ
+  downs i = d.twin (dart_or (rise_of f (way_a i)))
+
+  abbrev ups : ℕ → ℕ
+  ups i = dart_or (rise_of f (way_c i))
+
+  left_is : (k : ℕ) → k ≤ left → at k ≡ way_a (left - k)
   left_is = at_left are whole tree_is.2 a c named_a named_c top left right met outer_a outer_c
 
-  right_is : (k m : ℕ) → k ≡ left + 1 + m → at k ≡ way_of d f c m
+  right_is : (k m : ℕ) → k ≡ left + 1 + m → at k ≡ way_c m
   right_is = at_right are whole tree_is.2 a c named_a named_c top left right met outer_a outer_c
 
   -- The two ways differ but for where they meet.
-  ways_differ : (i m : ℕ) → i ≤ left → m < right → way_of d f c m ≢ way_of d f a i
+  ways_differ : (i m : ℕ) → i ≤ left → m < right → way_c m ≢ way_a i
   ways_differ i m li lm e =
       (let h : right ≤ m = met.right i m (omega (arith, li, met.x_low)) (omega (arith, lm, met.y_low)) (sym e) in
       omega (arith, h, lm))
 
-  left_differs : (i j : ℕ) → i < j → j ≤ left → way_of d f a i ≢ way_of d f a j
+  left_differs : (i j : ℕ) → i < j → j ≤ left → way_a i ≢ way_a j
   left_differs i j lij lj e = (let s : i ≡ j = way_differs are whole tree_is.2 a i j named_a
       (omega (arith, lij, lj, met.x_low)) (omega (arith, lj, met.x_low)) e in omega (arith, s, lij))
 
-  right_differs : (i j : ℕ) → i < j → j < right → way_of d f c i ≢ way_of d f c j
+  right_differs : (i j : ℕ) → i < j → j < right → way_c i ≢ way_c j
   right_differs i j lij lj e = (let s : i ≡ j = way_differs are whole tree_is.2 c i j named_c
       (omega (arith, lij, lj, met.y_low)) (omega (arith, lj, met.y_low)) e in omega (arith, s, lij))
 
   -- The ring is one of two ways, along which its tables are written.
-  ways : IsForked (way_of d f a) (way_of d f c) at left right
+  ways : IsForked way_a way_c at left right
   ways = record {
     left_is = left_is;
     right_is = right_is;
@@ -112,43 +124,39 @@ module _ (g : WeightedGraph) (is : IsSmallGraph g) (t0 : ForestTables) (valid : 
   after_at k l = by_place (cases_lt k left) (cases_eq k left)
     where
       by_place : (k < left) ⊎ (left ≤ k) → (k ≡ left) ⊎ (k ≢ left) → after (at k) ≡ at (suc k)
-      by_place (inl lk) x = lain_left ways f.nest.after (way_of d f a) c
-          (λ i. way_of d f c (suc i)) k lk ∙ (let s : left - k - 1 ≡ left - suc k = omega (arith, lk) in
-          ap (way_of d f a) s ∙ sym (left_is (suc k) (omega (arith, lk))))
-      by_place (inr h) (inl e) = ap (λ j. after (at j)) e ∙ (lain_over ways f.nest.after (way_of d f a) c
-          (λ i. way_of d f c (suc i)) ∙ sym (right_is (suc k) 0 (omega (arith, e))))
+      by_place (inl lk) x = lain_left ways f.nest.after way_a c
+          (λ i. way_c (suc i)) k lk ∙ (let s : left - k - 1 ≡ left - suc k = omega (arith, lk) in
+          ap way_a s ∙ sym (left_is (suc k) (omega (arith, lk))))
+      by_place (inr h) (inl e) = ap (λ j. after (at j)) e ∙ (lain_over ways f.nest.after way_a c
+          (λ i. way_c (suc i)) ∙ sym (right_is (suc k) 0 (omega (arith, e))))
       by_place (inr h) (inr ne) = (let m : k ≡ left + 1 + (k - left - 1) = omega (arith, h, ne) in
-          lain_right ways f.nest.after (way_of d f a) c (λ i. way_of d f c (suc i)) (k - left - 1) m
+          lain_right ways f.nest.after way_a c (λ i. way_c (suc i)) (k - left - 1) m
           (omega (arith, h, ne, l)) ∙ sym (right_is (suc k) (suc (k - left - 1)) (omega (arith, h, ne))))
 
   joint_at : (k : ℕ) → k < left + right + 1 → joint (at k) ≡ ring_dart d f a c left start k
   joint_at k l = by_place (cases_lt k left) (cases_eq k left)
     where
-      downs : ℕ → ℕ
-      downs i = d.twin (dart_or (rise_of f (way_of d f a i)))
-
       by_place : (k < left) ⊎ (left ≤ k) → (k ≡ left) ⊎ (k ≢ left) → joint (at k) ≡ ring_dart d f a c left start k
-      by_place (inl lk) x = lain_left ways f.nest.joint (λ i. d.twin (dart_or (rise_of f (way_of d f a i)))) start
-          (λ i. dart_or (rise_of f (way_of d f c i))) k lk ∙ sym (dart_left are whole tree_is.2 a c named_a named_c top
+      by_place (inl lk) x = lain_left ways f.nest.joint downs start
+          ups k lk ∙ sym (dart_left are whole tree_is.2 a c named_a named_c top
           left right met outer_a outer_c tight refl refl k lk)
-      by_place (inr h) (inl e) = ap (λ j. joint (at j)) e ∙ (lain_over ways f.nest.joint
-          (λ i. d.twin (dart_or (rise_of f (way_of d f a i)))) start (λ i. dart_or (rise_of f (way_of d f c i)))
+      by_place (inr h) (inl e) = ap (λ j. joint (at j)) e ∙ (lain_over ways f.nest.joint downs start ups
           ∙ sym (dart_over are whole tree_is.2 a c named_a named_c top left right met outer_a outer_c tight refl refl
           e))
       by_place (inr h) (inr ne) = (let m : k ≡ left + 1 + (k - left - 1) = omega (arith, h, ne) in
-          lain_right ways f.nest.joint (λ i. d.twin (dart_or (rise_of f (way_of d f a i)))) start
-          (λ i. dart_or (rise_of f (way_of d f c i))) (k - left - 1) m (omega (arith, h, ne, l))
+          lain_right ways f.nest.joint downs start
+          ups (k - left - 1) m (omega (arith, h, ne, l))
           ∙ sym (dart_right are whole tree_is.2 a c named_a named_c top left right met outer_a outer_c tight refl refl
           (k - left - 1) m))
 
   abbrev pub inside : ℕ → Bool
   inside = listed after top many
 
-  pub ring_is : IsClosedRow (darts_of g) (forest_of t0) after joint inside top many
+  pub ring_is : IsClosedRow d f after joint inside top many
   ring_is = closed_row are whole tree_is.2 a c named_a named_c top left right met outer_a outer_c
       tight refl refl after joint after_at joint_at apart
 
-  pub cycle_is : IsCycle (darts_of g) (forest_of t0) tree_is.0 tree_is.2.depth inside top
+  pub cycle_is : IsCycle d f tree_is.0 tree_is.2.depth inside top
   cycle_is = ring_cycle are whole tree_is.2 a c named_a named_c top left right met outer_a outer_c
       tight refl refl after joint after_at joint_at apart
 
@@ -165,31 +173,29 @@ module _ (g : WeightedGraph) (is : IsSmallGraph g) (t0 : ForestTables) (valid : 
       (ap inside (sym (walk_at k (omega (arith, l)) ∙ e)) ∙ listed_at after top many k l) off
 
   after_off : (x : ℕ) → inside x ≡ false → after x ≡ f.nest.after x
-  after_off x off = lain_off ways f.nest.after (way_of d f a) c (λ i. way_of d f c (suc i)) x (missed x off)
+  after_off x off = lain_off ways f.nest.after way_a c (λ i. way_c (suc i)) x (missed x off)
 
   joint_off : (x : ℕ) → inside x ≡ false → joint x ≡ f.nest.joint x
-  joint_off x off = lain_off ways f.nest.joint
-      (λ i. d.twin (dart_or (rise_of f (way_of d f a i)))) start (λ i. dart_or (rise_of f (way_of d f c i))) x
-      (missed x off)
+  joint_off x off = lain_off ways f.nest.joint downs start ups x (missed x off)
 
   -- Three blossoms of the ring, so that there is room for a set more.
   abbrev spot : ℕ → ℕ
   spot k = walk after top k
 
-  spot_out : (k : ℕ) → k < many → IsOutermost g.n (forest_of t0) (walk after top k)
+  spot_out : (k : ℕ) → k < many → IsOutermost g.n f (walk after top k)
   spot_out k l = valid.valid.outermost.named (walk after top k) (walk_named k l)
 
   spot_low : (k : ℕ) → k < many → walk after top k < length t0.up
   spot_low k l = named_low g is t0 valid (walk after top k) (walk_named k l)
 
-  spot_top : (k : ℕ) → k < many → (forest_of t0).nest.up (walk after top k) ≡ walk after top k
-  spot_top k l = (let w : IsOutermost g.n (forest_of t0) (walk after top k) = spot_out k l in
+  spot_top : (k : ℕ) → k < many → f.nest.up (walk after top k) ≡ walk after top k
+  spot_top k l = (let w : IsOutermost g.n f (walk after top k) = spot_out k l in
       (rw w.2 at (valid.valid.outermost.tops w.0 w.1)))
 
-  spot_used : (k : ℕ) → k < many → IsBlossom (darts_of g) (forest_of t0) (walk after top k)
+  spot_used : (k : ℕ) → k < many → IsBlossom d f (walk after top k)
   spot_used k l = elim (cases_lt (walk after top k) g.n) [
     | inl low ↦ inl low
-    | inr high ↦ (let w : IsOutermost g.n (forest_of t0) (walk after top k) = spot_out k l in inr (
+    | inr high ↦ (let w : IsOutermost g.n f (walk after top k) = spot_out k l in inr (
       high,
       (λ none. true_false (rw w.2 at (valid.valid.outermost.held w.0 w.0 w.1 w.1 ∙ eq-eqb (f.out w.0) (f.out w.0) refl))
           (valid.valid.nested.empty (walk after top k) w.0 high w.1 none)),
@@ -205,7 +211,7 @@ module _ (g : WeightedGraph) (is : IsSmallGraph g) (t0 : ForestTables) (valid : 
   three_many = omega (arith, ring_is.odd, ring_is.some)
 
   pub room_is : 2 * live_sets t0 + 3 ≤ length t0.hand
-  room_is = rw valid.vertices (sets_few (darts_of g) are (forest_of t0) valid.valid.nested
+  room_is = rw valid.vertices (sets_few d are f valid.valid.nested
       valid.valid.outermost.vertices (spot 0) (spot 1) (spot 2) (spot_low 0 (here 0 (omega arith)))
       (spot_low 1 (here 1 (omega arith))) (spot_low 2 (here 2 (omega arith)))
       (ring_is.distinct 0 1 (omega arith) (here 1 (omega arith)))
@@ -218,20 +224,20 @@ module _ (g : WeightedGraph) (is : IsSmallGraph g) (t0 : ForestTables) (valid : 
       here k l = omega (arith, l, three_many)
 
   -- The ring that is laid is one of outermost blossoms.
-  pub tops_laid : (t1 : ForestTables) → forest_of t1 ≡ laid_ring (darts_of g) (forest_of t0) start left right
+  pub tops_laid : (t1 : ForestTables) → forest_of t1 ≡ laid_ring d f start left right
       → IsRingedAlike t0 t1 → (k : ℕ) → k < left + right + 1 → IsOutermostIn t1 (walk (λ i. get_or t1.after i 0) top k)
   tops_laid t1 laid alike k l =
-      let w : IsOutermost g.n (forest_of t0) (walk after top k) = spot_out k l in (
+      let w : IsOutermost g.n f (walk after top k) = spot_out k l in (
         w.0,
         rw (ap (λ (t : ForestTables). t.hand) alike, valid.vertices) w.1,
         ap (λ (x : Forest). x.out w.0) laid ∙ (w.2 ∙ sym (ap (λ (x : Forest). walk x.nest.after top k) laid)),
       )
 
   -- The tables after the ring is laid, and after its blossoms have left the tree.
-  module _ (t1 t2 : ForestTables) (laid : forest_of t1 ≡ laid_ring (darts_of g) (forest_of t0) start left right)
+  module _ (t1 t2 : ForestTables) (laid : forest_of t1 ≡ laid_ring d f start left right)
       (alike : IsRingedAlike t0 t1) (gone : forest_of t2 ≡ left_alone (forest_of t1) top (left + right + 1))
       (same : HasSameNest t1 t2) where
-    was : forest_of t2 ≡ left_alone (laid_ring (darts_of g) (forest_of t0) start left right) top (left + right + 1)
+    was : forest_of t2 ≡ left_alone (laid_ring d f start left right) top (left + right + 1)
     was = gone ∙ ap (λ (x : Forest). left_alone x top (left + right + 1)) laid
 
     after_is : (λ k. get_or t2.after k 0) ≡ after
@@ -253,7 +259,7 @@ module _ (g : WeightedGraph) (is : IsSmallGraph g) (t0 : ForestTables) (valid : 
     root_same = same.root ∙ ap (λ (t : ForestTables). t.root) alike
 
     outermost_same : (x : ℕ) → f.label x ≢ Outside → IsOutermostIn t2 x
-    outermost_same x named = (let w : IsOutermost g.n (forest_of t0) x = valid.valid.outermost.named x named in
+    outermost_same x named = (let w : IsOutermost g.n f x = valid.valid.outermost.named x named in
         (w.0, rw n_is w.1, ap (λ (y : Forest). y.out w.0) was ∙ w.2))
 
     label_is : (x : ℕ) → (forest_of t2).label x ≡ cond (inside x) Outside (f.label x)
@@ -278,7 +284,7 @@ module _ (g : WeightedGraph) (is : IsSmallGraph g) (t0 : ForestTables) (valid : 
         distinct = λ i j lij lj e. ring_is.distinct i j lij lj (sym (spot_is i) ∙ (e ∙ spot_is j));
       };
       two = omega (arith, three_many);
-      tops = λ k l. (rw (spot_is k) (outermost_same (walk after top k) (walk_named k l)));
+      tops = λ k l. rw (spot_is k) (outermost_same (walk after top k) (walk_named k l));
       outside = λ k l. ap (label_at t2.label) (spot_is k) ∙ (label_is (walk after top k)
           ∙ cond-true _ _ _ (listed_at after top many k l));
       weightless = λ x high none. ap (λ (y : Forest). y.weight x) was ∙ no_weight x high none;
@@ -287,7 +293,7 @@ module _ (g : WeightedGraph) (is : IsSmallGraph g) (t0 : ForestTables) (valid : 
     }
 
     -- And what has come of it is one outer blossom, matched as the top was.
-    module _ (t5 : ForestTables) {mate : Option ℕ} (mate_was : mate ≡ (forest_of t0).mate top) (t3 : ForestTables)
+    module _ (t5 : ForestTables) {mate : Option ℕ} (mate_was : mate ≡ f.mate top) (t3 : ForestTables)
         {b : ℕ} (v : ℕ) (gathered : IsGathered (length t2.hand) (forest_of t2) (forest_of t3)
         (listed (λ i. get_or t2.after i 0) top (left + right + 1)) top (left + right + 1) b)
         (v_is : (forest_of t3).out v ≡ b) (done : forest_of t5
@@ -306,7 +312,7 @@ module _ (g : WeightedGraph) (is : IsSmallGraph g) (t0 : ForestTables) (valid : 
       joint_now : (forest_of t5).nest.joint ≡ joint
       joint_now = ap (λ (y : Forest). y.nest.joint) done ∙ (gathered.joint ∙ ap (λ (y : Forest). y.nest.joint) was)
 
-      shrunk : IsShrunk g.n (forest_of t0) (forest_of t5) inside top b top (left + right + 1)
+      shrunk : IsShrunk g.n f (forest_of t5) inside top b top (left + right + 1)
       shrunk = record {
         size = ap (λ (y : Forest). y.size) now ∙ (gathered.size ∙ ap (λ (y : Forest). y.size) was);
         holds_new = λ u l. ap (λ (y : Forest). y.holds b u) now ∙ (gathered.holds_new u (low u l)
@@ -351,11 +357,10 @@ module _ (g : WeightedGraph) (is : IsSmallGraph g) (t0 : ForestTables) (valid : 
           low : (u : ℕ) → u < g.n → u < length t2.hand
           low u l = rw n_is l
 
-      row_is : IsClosedRow (darts_of g) (forest_of t0) (forest_of t5).nest.after (forest_of t5).nest.joint inside top
-          (left + right + 1)
+      row_is : IsClosedRow d f (forest_of t5).nest.after (forest_of t5).nest.joint inside top (left + right + 1)
       row_is = rw (after_now, joint_now) ring_is
 
-      unused : IsUnused g.n (forest_of t0) b
+      unused : IsUnused g.n f b
       unused = record {
         high = rw n_is at gathered.high;
         low = rw (ap (λ (y : Forest). y.size) was) at gathered.low;
@@ -377,21 +382,21 @@ module _ (g : WeightedGraph) (is : IsSmallGraph g) (t0 : ForestTables) (valid : 
           outside_b : f.label b ≡ Outside
           outside_b = elim (label_cases (f.label b)) [
             | inl e ↦ e
-            | inr named ↦ (let w : IsOutermost g.n (forest_of t0) b = valid.valid.outermost.named b named in
+            | inr named ↦ (let w : IsOutermost g.n f b = valid.valid.outermost.named b named in
                 absurd (no_out_b w.0 w.1 w.2))
           ]
 
           mate_b : (o : Option ℕ) → f.mate b ≡ o → f.mate b ≡ None
           mate_b None e = e
-          mate_b (Some m) e = (let pair : IsMate (darts_of g) (forest_of t0) b m = valid.valid.matched b m e in
-              absurd (no_out_b ((darts_of g).near m) (are.near_low m pair.tight.low) pair.here))
+          mate_b (Some m) e = (let pair : IsMate d f b m = valid.valid.matched b m e in
+              absurd (no_out_b (d.near m) (are.near_low m pair.tight.low) pair.here))
 
       new_root : t5.root ≡ Some (cond (inside tree_is.0) b tree_is.0)
       new_root = root tree_is.0 (ap (λ (t : ForestTables). t.root) alike ∙ tree_is.1)
           ∙ ap (λ (s : Bool). Some (cond s b tree_is.0)) (marks tree_is.0)
 
       -- The cycle has become one blossom.
-      pub shrinking : IsShrinking (darts_of g) (forest_of t0) (forest_of t5) t0.root t5.root start
+      pub shrinking : IsShrinking d f (forest_of t5) t0.root t5.root start
       shrinking = record {
         r = tree_is.0;
         old_root = tree_is.1;
@@ -401,9 +406,9 @@ module _ (g : WeightedGraph) (is : IsSmallGraph g) (t0 : ForestTables) (valid : 
         set = b;
         many = left + right + 1;
         begins = marked left a (omega arith)
-            (left_is left (omega arith) ∙ ap (way_of d f a) (let z : left - left ≡ 0 = omega arith in z));
+            (left_is left (omega arith) ∙ ap way_a (let z : left - left ≡ 0 = omega arith in z));
         ends = elim (cases_eq right 0) [
-          | inl z ↦ ap inside (ap (way_of d f c) (sym z) ∙ sym met.y_is) ∙ listed_at after top many 0 (omega arith)
+          | inl z ↦ ap inside (ap way_c (sym z) ∙ sym met.y_is) ∙ listed_at after top many 0 (omega arith)
           | inr nz ↦ marked (left + 1) c (omega (arith, nz)) (right_is (left + 1) 0 (omega arith))
         ];
         cycle = cycle_is;

@@ -1,10 +1,9 @@
 -- One write to a table, and what it leaves of the tie.
-use Rattle.std.proofs.Common.{Bool, ◌≡◌, ◌≢◌, ℕ, ◌<◌, ◌≤◌, ◌^◌, List}
-use Rattle.std.proofs.Common.{length, get_or, ℤ, pos, ◌+ℤ◌, ◌-ℤ◌, ◌≤ℤ◌}
-use Rattle.std.proofs.Common.{◌⊎◌, Option, None, sym, ◌∙◌, ap, subst}
+use Rattle.std.proofs.Common.{Bool, ◌≡◌, ◌≢◌, ℕ, ◌<◌, ◌≤◌, List}
+use Rattle.std.proofs.Common.{length, get_or, ℤ, pos, ◌+ℤ◌, ◌-ℤ◌}
+use Rattle.std.proofs.Common.{◌⊎◌, Option, None, sym, ◌∙◌, ap}
 use Rattle.std.proofs.Common.{inl, inr, length-set, get_or-set_same, get_or-set_other}
 use Rattle.std.proofs.{Common.arith, Common.cond, Math.ListN.set, lemmas.Int.ints, lemmas.Bool.cases_eq}
-use Rattle.std.specs.Prelude.{unsigned_abs}
 use Rattle.sum_laws.proofs.Sums.{total_below_same}
 use Rattle.def_forest.specs.{Forests.dual_sum_of, Forests.set_at, Steps.weight_change, Tables.ForestTables}
 use Rattle.def_forest.specs.Tables.{forest_of, label_at, weight_at, out_of}
@@ -195,10 +194,10 @@ module _ (t : ForestTables) (hid : HiddenTables) (tied : AreTied t hid) (v : ℕ
     numbers = record {
       potentials = λ u lu. potential_same u
           ∙ (tied.numbers.potentials u lu ∙ ap (λ (z : ℤ). get_or hid.q u (pos 0) +ℤ z) (sym (added_same u lu)));
-      small = λ k. (rw (weight_same k) (tied.numbers.small k));
+      small = λ k. rw (weight_same k) (tied.numbers.small k);
       start = tied.numbers.start;
       small_start = tied.numbers.small_start;
-      moved = λ u lu. (rw ((added_same u lu), sum_same) (tied.numbers.moved u lu));
+      moved = λ u lu. rw (added_same u lu, sum_same) (tied.numbers.moved u lu);
       risen = (
         tied.numbers.risen.0,
         (rw sum_same tied.numbers.risen.1),

@@ -1,6 +1,6 @@
 -- A vertex that is put on the trail.
 use Rattle.std.proofs.Common.{◌≡◌, ◌≢◌, ℕ, ◌+◌, ◌<◌, ◌≤◌, Bool, true, false, cond, List, [], ◌∷◌, ◌++◌, length}
-use Rattle.std.proofs.Common.{count_by, get_or, ◌⊎◌, refl, sym, ◌∙◌, ap, subst, inl, inr, length-set, get_or-set_other}
+use Rattle.std.proofs.Common.{count_by, get_or, ◌⊎◌, refl, sym, ◌∙◌, ap, inl, inr, length-set, get_or-set_other}
 use Rattle.std.proofs.Common.{arith}
 use Rattle.std.proofs.Math.ListN.{set}
 use Rattle.std.proofs.lemmas.Bool.{cases_eq, cases_lt}
@@ -52,9 +52,14 @@ module _ {t : ForestTables} {hid : HiddenTables} (tied : AreTied t hid) (v : ℕ
     numbers = tied.numbers;
     trail = record {
       low = λ k l. low_at k l (cases_lt k (length t.trail));
-      counted = omega (arith, ap length trail_is
-          ∙ length_push t.trail v, tied.trail.counted, marks_more hid.touched v v_low off);
-      marked = λ u on. (rw trail_is (marked u on (cases_eq u v)));
+      counted = omega (
+        arith,
+        ap length trail_is
+            ∙ length_push t.trail v,
+        tied.trail.counted,
+        marks_more hid.touched v v_low off,
+      );
+      marked = λ u on. rw trail_is (marked u on (cases_eq u v));
       named = λ b n. named b (tied.trail.named b n);
     };
     pool = tied.pool;
@@ -79,8 +84,8 @@ module _ {t : ForestTables} {hid : HiddenTables} (tied : AreTied t hid) (v : ℕ
       named : (b : ℕ) → (k : ℕ) × (k < length t.trail) × (out_of t.hand t.top (get_or t.trail k 0) ≡ b)
           → (k : ℕ) × (k < length trail) × (out_of t.hand t.top (get_or trail k 0) ≡ b)
       named b w = (
-            w.0,
-            omega (arith, ap length trail_is ∙ length_push t.trail v, w.1),
-            ap (out_of t.hand t.top) (ap (λ xs. get_or xs w.0 0) trail_is
-                ∙ get_or_append_left t.trail (v ∷ []) 0 w.0 w.1) ∙ w.2,
-          )
+        w.0,
+        omega (arith, ap length trail_is ∙ length_push t.trail v, w.1),
+        ap (out_of t.hand t.top) (ap (λ xs. get_or xs w.0 0) trail_is
+            ∙ get_or_append_left t.trail (v ∷ []) 0 w.0 w.1) ∙ w.2,
+      )

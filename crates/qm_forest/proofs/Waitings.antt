@@ -1,6 +1,6 @@
 -- Sets that wait, from the one with the most vertices on, and the sets in order.
-use Rattle.std.proofs.Common.{◌≡◌, ◌≢◌, ℕ, suc, ◌+◌, ◌*◌, ◌<◌, ◌≤◌, Bool, false, cond, eqb, sum_by, List, ◌∷◌, [], ◌++◌}
-use Rattle.std.proofs.Common.{length, get_or, Option, Some, None, ◌⊎◌, refl, sym, ◌∙◌, ap, subst, inl, inr, arith}
+use Rattle.std.proofs.Common.{◌≡◌, ◌≢◌, ℕ, suc, ◌+◌, ◌*◌, ◌<◌, ◌≤◌, Bool, false, sum_by, List, ◌∷◌, [], ◌++◌}
+use Rattle.std.proofs.Common.{length, get_or, Option, Some, None, ◌⊎◌, refl, sym, ◌∙◌, ap, inl, inr, arith}
 use Rattle.std.proofs.Common.{length-set, get_or-set_same, get_or-set_other}
 use Rattle.std.proofs.Math.ListN.{set}
 use Rattle.std.proofs.lemmas.Bool.{cases_eq, cases_lt, cond-false, cond-true, le-ltb, lt-ltb, ne_eqb}
@@ -11,7 +11,7 @@ use Rattle.std.proofs.lemmas.List.Sums.{sum_by-cons}
 use Rattle.std.proofs.lemmas.List.Sorted.{sum_by-IsPermutation, All-permutation, Contains-permutation}
 use Rattle.std.proofs.lemmas.List.Sorted.{IsNonDecreasingBy-from_all_adjacent}
 use Rattle.std.specs.{List.Contains, List.Sorted.IsNonDecreasingBy, List.Sorted.IsPermutation, List.Sorted.IsSorted}
-use Rattle.std.specs.{Ordering.is_lt, Ordering.nat_cmp, Ordering.ordering_then, Prelude.nat_lt}
+use Rattle.std.specs.{Ordering.is_lt, Ordering.nat_cmp, Ordering.ordering_then}
 use Rattle.def_math.specs.Counts.{count, count_below}
 use Rattle.sum_laws.proofs.Counts.{count_append, count_below_none}
 use Rattle.def_forest.specs.{Forests.live_at, Tables.ForestTables}
@@ -109,8 +109,13 @@ wait_before {t} {sets} left left2 k {c} order low at within entries lawful b w i
             by_order : (s.0 < k) ⊎ (k ≤ s.0) → (j : ℕ) × (j < k) × (j < length sets) × ((get_or sets j (0, 0)).1 ≡ b)
             by_order (inl l) = (s.0, l, s.1, ap (λ (x : ℕ × ℕ). x.1) here)
             by_order (inr h) =
-                absurd (omega (arith, order.increasing k s.0 (0, 0) h s.1, rank_at k low ∙ ap
-                    (λ z. get_or t.rank z 0) at, ap (λ (x : ℕ × ℕ). x.0) here, less))
+                absurd (omega (
+                  arith,
+                  order.increasing k s.0 (0, 0) h s.1,
+                  rank_at k low ∙ ap (λ z. get_or t.rank z 0) at,
+                  ap (λ (x : ℕ × ℕ). x.0) here,
+                  less,
+                ))
 
 -- What waits has an entry, so that its number is one.
 pub entry_low : (left : List (Option ℕ)) (c v : ℕ) → get_or left c None ≡ Some v → c < length left

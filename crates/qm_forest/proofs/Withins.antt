@@ -1,23 +1,10 @@
 -- Blossoms within each other: climbing from one, one comes past the other.
 use Rattle.std.proofs.Common.{◌≡◌, ◌≢◌, ℕ, zero, suc, ◌+◌, ◌-◌, ◌<◌, ◌≤◌, Bool, true, false, not, cond, eqb, ◌||◌, ◌⊎◌}
-use Rattle.std.proofs.Common.{refl, sym, ◌∙◌, ap, subst, inl, inr, arith}
-use Rattle.std.proofs.lemmas.Bool.{cases_eq, cases_lt, cases_Bool, eq-eqb}
+use Rattle.std.proofs.Common.{refl, sym, ◌∙◌, ap, inl, inr, arith}
+use Rattle.std.proofs.lemmas.Bool.{cases_eq, cases_lt, cases_Bool, eq-eqb, false_from_ne_true, or_left, or_right}
 use Rattle.def_forest.specs.{Forests.bool_number, Forests.walk, Forests.ring_sum, Tables.climbs}
-use Rattle.forest_laws.proofs.{Circles.IsCircle, Walks.walk_front, Walks.walk_sum, Writes.true_false}
-use Rattle.qm_forest.proofs.{Apart.walk_stays, Nests.climbs_place}
-
-or_right : (p : Bool) {q : Bool} → q ≡ true → (p || q) ≡ true
-or_right true f = refl
-or_right false f = f
-
-or_left : (p q : Bool) → p ≡ true → (p || q) ≡ true
-or_left true q e = refl
-or_left false q e = absurd (cc e)
-
--- A test that does not pass is false.
-pub off_where : (b : Bool) → (b ≡ true → ⊥) → b ≡ false
-off_where true no' = absurd (no' refl)
-off_where false no' = refl
+use Rattle.forest_laws.proofs.{Circles.IsCircle, Walks.walk_fixed, Walks.walk_front, Walks.walk_sum, Writes.true_false}
+use Rattle.qm_forest.proofs.Nests.{climbs_place}
 
 -- A sum along a ring: without its front, of nothing, and of one place alone.
 pub ring_front : (next f : ℕ → ℕ) (from k : ℕ) → ring_sum next f from (suc k) ≡ f from + ring_sum next f (next from) k
@@ -42,13 +29,19 @@ ring_one next f from (suc k) j l one others =
     by_last : (j ≡ k) ⊎ (j ≢ k) → (j < k → ring_sum next f from k ≡ 1) → ring_sum next f from k + f (walk next from k)
         ≡ 1
     by_last (inl e) more = omega (
-          arith,
-          ap (λ i. f (walk next from i)) (sym e) ∙ one,
-          ring_none next f from k (λ i li. others i (omega (arith, li)) (λ s. absurd (omega (arith, li, s, e)))),
-        )
+      arith,
+      ap (λ i. f (walk next from i)) (sym e) ∙ one,
+      ring_none next f from k (λ i li. others i (omega (arith, li)) (λ s. absurd (omega (arith, li, s, e)))),
+    )
     by_last (inr ne) more = omega (arith, more (omega (arith, l, ne)), others k (omega arith) (λ s. ne (sym s)))
 
-module _ (n : ℕ) (up rank : ℕ → ℕ) (rises : (x : ℕ) → up x ≢ x → rank x < rank (up x)) where
+-- The way out rises in rank.
+pub record IsRising (n : ℕ) (up rank : ℕ → ℕ) : Type 0 where
+  pub rises : (x : ℕ) → up x ≢ x → rank x < rank (up x)
+
+module _ {n : ℕ} {up rank : ℕ → ℕ} (rising : IsRising n up rank) where
+  open rising use {rises}
+
   abbrev pub in_it : ℕ → ℕ → Bool
   in_it b c = climbs up n c b
 
@@ -65,7 +58,7 @@ module _ (n : ℕ) (up rank : ℕ → ℕ) (rises : (x : ℕ) → up x ≢ x →
     where
       by_eq : (from ≡ c) ⊎ (from ≢ c) → (up from ≡ from) ⊎ (up from ≢ from) → climbs up zero c from ≡ true
       by_eq (inl s) x = eq-eqb from c s
-      by_eq (inr ne) (inl stays) = absurd (ne (sym (walk_stays up j stays) ∙ e))
+      by_eq (inr ne) (inl stays) = absurd (ne (sym (walk_fixed up j stays) ∙ e))
       by_eq (inr ne) (inr goes) = by_steps j e
         where
           by_steps : (i : ℕ) → walk up from i ≡ c → climbs up zero c from ≡ true
@@ -79,13 +72,13 @@ module _ (n : ℕ) (up rank : ℕ → ℕ) (rises : (x : ℕ) → up x ≢ x →
           → ((i : ℕ) → walk up (up from) i ≡ c → rank c ≤ rank (up from) + k → climbs up k c (up from) ≡ true)
           → (eqb from c || climbs up k c (up from)) ≡ true
       by_eq (inl s) x more = or_left (eqb from c) (climbs up k c (up from)) (eq-eqb from c s)
-      by_eq (inr ne) (inl stays) more = absurd (ne (sym (walk_stays up j stays) ∙ e))
+      by_eq (inr ne) (inl stays) more = absurd (ne (sym (walk_fixed up j stays) ∙ e))
       by_eq (inr ne) (inr goes) more = by_steps j e
         where
           by_steps : (i : ℕ) → walk up from i ≡ c → (eqb from c || climbs up k c (up from)) ≡ true
           by_steps zero s = absurd (ne s)
-          by_steps (suc i) s = (or_right (eqb from c) (more i (sym (walk_front up from i) ∙ s) (omega
-              (arith, rises from goes, low))))
+          by_steps (suc i) s = (or_right (eqb from c) _ (more i (sym (walk_front up from i) ∙ s) (
+              omega (arith, rises from goes, low))))
 
   pub in_where : (b : ℕ) {c : ℕ} (j : ℕ) → rank c ≤ n → walk up b j ≡ c → in_it b c ≡ true
   in_where b j low e = reach n b j e (omega (arith, low))
@@ -179,11 +172,11 @@ module _ (n : ℕ) (up rank : ℕ → ℕ) (rises : (x : ℕ) → up x ≢ x →
         + (cond (in_it b x) (cond (in_it u b) 0 1) 0 + cond (in_it b y) (cond (in_it v b) 0 1) 0)
         ≡ bool_number (in_it b x) + bool_number (in_it b y)
     pair_law b low_u low_v = by_pair (in_it b x) (in_it b y) (in_it u b) (in_it v b) (λ on. (
-      off_where (in_it b y) (λ o. none_in_both b x y ex ey nx ny ne on o),
-      off_where (in_it v b) (λ o. none_in_both v x y ex ey nx ny ne (through v b x low_x o on) hv),
+      false_from_ne_true (in_it b y) (λ o. none_in_both b x y ex ey nx ny ne on o),
+      false_from_ne_true (in_it v b) (λ o. none_in_both v x y ex ey nx ny ne (through v b x low_x o on) hv),
     )) (λ on. (
-      off_where (in_it b x) (λ o. none_in_both b x y ex ey nx ny ne o on),
-      off_where (in_it u b) (λ o. none_in_both u x y ex ey nx ny ne hu (through u b y low_y o on)),
+      false_from_ne_true (in_it b x) (λ o. none_in_both b x y ex ey nx ny ne o on),
+      false_from_ne_true (in_it u b) (λ o. none_in_both u x y ex ey nx ny ne hu (through u b y low_y o on)),
     )) (λ ox oy. both ox oy (cases_Bool (in_it u b)) (cases_Bool (in_it v b)))
       where
         through : (w b c : ℕ) → rank c ≤ n → in_it w b ≡ true → in_it b c ≡ true → in_it w c ≡ true
@@ -224,7 +217,7 @@ module _ (n : ℕ) (up rank : ℕ → ℕ) (rises : (x : ℕ) → up x ≢ x →
         in_where b (suc w.0) low_q (ap up w.1 ∙ er))
 
     q_free : (r : ℕ) → up r ≡ q → r ≢ q → in_it q r ≡ false
-    q_free r er nr = off_where (in_it q r) (λ on. at_rank (where_in q r on))
+    q_free r er nr = false_from_ne_true (in_it q r) (λ on. at_rank (where_in q r on))
       where
         at_rank : (i : ℕ) × (walk up q i ≡ r) → ⊥
         at_rank w = absurd (omega (arith, rank_walk q w.0, ap rank w.1, rises r (λ s. nr (sym s ∙ er)), ap rank er))
@@ -262,7 +255,7 @@ module _ (n : ℕ) (up rank : ℕ → ℕ) (rises : (x : ℕ) → up x ≢ x →
                 in_where b (s.0 + j) low_c (walk_sum up b s.0 j ∙ (ap (λ x. walk up x j) s.1 ∙ hq)))
 
             v_off : in_it v b ≡ false
-            v_off = off_where (in_it v b) (λ o. (let s : (i : ℕ) × (walk up v i ≡ b) = where_in v b o in
+            v_off = false_from_ne_true (in_it v b) (λ o. (let s : (i : ℕ) × (walk up v i ≡ b) = where_in v b o in
                 none_in_both v w.0 p w.1 p_part.0 w.2 p_part.1 other_p (in_where v (s.0 + w.3)
                 (low w.0 (parts w.0 w.1 w.2)) (walk_sum up v s.0 w.3 ∙ (ap (λ x. walk up x w.3) s.1 ∙ w.4))) hv))
 
@@ -282,7 +275,7 @@ module _ (n : ℕ) (up rank : ℕ → ℕ) (rises : (x : ℕ) → up x ≢ x →
                     let one : ring_sum after (λ r. bool_number (in_it b r)) (after p) (many - 1) ≡ 1 =
                     ring_one after (λ r. bool_number (in_it b r)) (after p) (many - 1) k (omega (arith, l))
                     (ap (λ x. bool_number (in_it b x)) here ∙ ap bool_number in_r)
-                    (λ i li ne. ap bool_number (off_where (in_it b (walk after (after p) i))
+                    (λ i li ne. ap bool_number (false_from_ne_true (in_it b (walk after (after p) i))
                     (λ o. none_in_both b (walk after (after p) i) w.0 (at_part i).0 w.1 (at_part i).1 w.2
                     (λ same. apart i k li (omega (arith, l)) ne (same ∙ sym here)) o in_r))) in
                     omega (arith, one_left, one, zero_in b q on)
@@ -300,13 +293,13 @@ module _ (n : ℕ) (up rank : ℕ → ℕ) (rises : (x : ℕ) → up x ≢ x →
             ⊎ (b ≢ q) → rest_at p b ≡ ring_sum after (λ r. bool_number (in_it b r)) (after p) (many - 1) + rest_at q b
         by_part (inl on) y z =
             let none : ring_sum after (λ r. bool_number (in_it b r)) (after p) (many - 1) ≡ 0 =
-            none_after b (λ k l. off_where (in_it b (walk after (after p) k))
+            none_after b (λ k l. false_from_ne_true (in_it b (walk after (after p) k))
             (λ o. none_in_both b p (walk after (after p) k) p_part.0 (at_part k).0 p_part.1 (at_part k).1
             (at_other k l) on o)) in
             omega (arith, zero_in b p on, none, zero_in b q (in_set b p p_part.0 on))
         by_part (inr off) (inr free) z =
             let none : ring_sum after (λ r. bool_number (in_it b r)) (after p) (many - 1) ≡ 0 =
-            none_after b (λ k l. off_where (in_it b (walk after (after p) k))
+            none_after b (λ k l. false_from_ne_true (in_it b (walk after (after p) k))
             (λ o. true_false (in_set b (walk after (after p) k) (at_part k).0 o) free)) in
             omega (arith, none, out_of b p off, out_of b q free)
         by_part (inr off) (inl on) (inl e) =
