@@ -2,34 +2,18 @@
 use Rattle.std.proofs.Common.{◌≡◌, ◌≢◌, ℕ, zero, suc, ◌+◌, ◌*◌, ◌<◌, ◌≤◌, ◌^◌, Bool, true, false, not, cond, eqb, ◌||◌}
 use Rattle.std.proofs.Common.{ℤ, pos, ◌+ℤ◌, ◌⊎◌, refl, sym, ◌∙◌, ap, inl, inr, arith}
 use Rattle.std.proofs.lemmas.Int.{ints}
-use Rattle.std.proofs.lemmas.Bool.{cases_eq, cases_Bool, cond-true, cond-false, eq-eqb, ne_eqb, eqb-true, or_cases}
-use Rattle.std.proofs.lemmas.Bool.{or_left}
+use Rattle.std.proofs.lemmas.Bool.{cases_eq, cond-true, cond-false, eq-eqb, ne_eqb, eqb-true, or_cases}
+use Rattle.std.proofs.lemmas.Bool.{false_from_ne_true, or_left}
 use Rattle.std.specs.Prelude.{unsigned_abs}
 use Rattle.def_math.specs.Sums.{total_below}
 use Rattle.sum_laws.proofs.Sums.{total_below_same, total_below_sum, total_below_one, total_below_none}
 use Rattle.def_forest.specs.{Forests.splits, Forests.walk, Tables.climbs}
+use Rattle.forest_laws.proofs.Walks.{walk_fixed, walk_front, walk_sum}
 use Rattle.forest_laws.proofs.Writes.{by_order, by_same}
 use Rattle.qm_forest.specs.Ties.{IsClimb, apart}
 use Rattle.qm_forest.proofs.Ranges.{sum_small}
 
--- A walk in two parts.
-pub walk_sum : (f : ℕ → ℕ) (a i j : ℕ) → walk f a (i + j) ≡ walk f (walk f a i) j
-walk_sum f a i zero = let e : i + 0 ≡ i = omega arith in ap (walk f a) e
-walk_sum f a i (suc j) = let e : i + suc j ≡ suc (i + j) = omega arith in ap (walk f a) e ∙ ap f (walk_sum f a i j)
-
--- Where one stays, one stays.
-pub walk_stays : (f : ℕ → ℕ) {a : ℕ} (k : ℕ) → f a ≡ a → walk f a k ≡ a
-walk_stays f zero e = refl
-walk_stays f (suc k) e = ap f (walk_stays f k e) ∙ e
-
--- What is passed from where one is, or further on.
-or_first : (a b : Bool) → a ≡ false → (a || b) ≡ b
-or_first true b e = absurd (clash e)
-  where
-    clash : true ≡ false → ⊥
-    clash x = cc
-or_first false b e = refl
-
+-- What is passed twice.
 pub or_twice : (a : Bool) → (a || a) ≡ a
 or_twice true = refl
 or_twice false = refl
@@ -37,12 +21,8 @@ or_twice false = refl
 -- One step more passes nothing new where one has come to stay.
 climbs_last : (up : ℕ → ℕ) (m b y : ℕ) → up (walk up y m) ≡ walk up y m → climbs up (suc m) b y ≡ climbs up m b y
 climbs_last up zero b y e = ap (λ x. eqb y b || eqb x b) e ∙ or_twice (eqb y b)
-climbs_last up (suc m) b y e =
-    ap (λ x. eqb y b || x) (climbs_last up m b (up y) (ap up (shifted y m) ∙ (e ∙ sym (shifted y m))))
-  where
-    shifted : (y m : ℕ) → walk up (up y) m ≡ walk up y (suc m)
-    shifted y zero = refl
-    shifted y (suc k) = ap up (shifted y k)
+climbs_last up (suc m) b y e = ap (λ x. eqb y b || x)
+    (climbs_last up m b (up y) (ap up (sym (walk_front up y m)) ∙ (e ∙ walk_front up y m)))
 
 module _ {n : ℕ} {up : ℕ → ℕ} (rank : ℕ → ℕ) {out : ℕ → ℕ} (climb : IsClimb n up out) (rises : (x : ℕ) → up x ≢ x
     → rank x < rank (up x)) where
@@ -86,14 +66,14 @@ module _ {n : ℕ} {up : ℕ → ℕ} (rank : ℕ → ℕ) {out : ℕ → ℕ} (
   comes_out v x l w =
       let order : w.0 + n ≡ n + w.0 = omega arith in
       ap (λ y. walk up y n) (sym w.1) ∙ (sym (walk_sum up v w.0 n) ∙ (ap (walk up v) order
-      ∙ (walk_sum up v n w.0 ∙ (ap (λ y. walk up y w.0) (climb.ends v l) ∙ walk_stays up w.0 (climb.tops v l)))))
+      ∙ (walk_sum up v n w.0 ∙ (ap (λ y. walk up y w.0) (climb.ends v l) ∙ walk_fixed up w.0 (climb.tops v l)))))
 
   pub rank_low : (v x : ℕ) → v < n → OnWayFrom v x → rank x ≤ rank (out v)
   rank_low v x l w = rw (comes_out v x l w) at (rank_walk x n)
 
   -- Where one stays is the outermost blossom.
   pub fixed_top : (v : ℕ) {x : ℕ} → v < n → OnWayFrom v x → up x ≡ x → x ≡ out v
-  fixed_top v {x} l w e = sym (walk_stays up n e) ∙ comes_out v x l w
+  fixed_top v {x} l w e = sym (walk_fixed up n e) ∙ comes_out v x l w
 
   pub goes_on : (v x : ℕ) → OnWayFrom v x → OnWayFrom v (up x)
   goes_on v x w = (suc w.0, ap up w.1)
@@ -122,30 +102,21 @@ module _ {n : ℕ} {up : ℕ → ℕ} (rank : ℕ → ℕ) {out : ℕ → ℕ} (
       by_size zero e = absurd (omega (arith, e, l))
       by_size (suc m) e =
           let fuel : climbs up n b x ≡ (eqb x b || climbs up m b (up x)) = ap (λ k. climbs up k b x) e in
-          let here : walk up (up x) m ≡ walk up x n = shift x m ∙ ap (walk up x) (sym e) in
+          let here : walk up (up x) m ≡ walk up x n = sym (walk_front up x m) ∙ ap (walk up x) (sym e) in
           let top : up (walk up (up x) m) ≡ walk up (up x) m = ap up (here ∙ comes_out v x l w)
           ∙ (climb.tops v l ∙ sym (here ∙ comes_out v x l w)) in
           fuel ∙ ap (λ (s : Bool). eqb x b || s) (sym (climbs_last up m b (up x) top)
           ∙ ap (λ k. climbs up k b (up x)) (sym e))
-        where
-          shift : (y k : ℕ) → walk up (up y) k ≡ walk up y (suc k)
-          shift y zero = refl
-          shift y (suc k) = ap up (shift y k)
 
   module _ (weight : ℕ → ℤ) (size : ℕ) (u v x y : ℕ) (lu : u < n) (wx : OnWayFrom u x) (ne : x ≢ y)
       (le : rank x ≤ rank y) (inner : up x ≢ x) (low : x < size) where
     not_from_y : climbs up n x y ≡ false
-    not_from_y = elim (cases_Bool (climbs up n x y)) [
-      | inl on ↦ (let h : rank y < rank x = passed_rank n x y on (λ e. ne (sym e)) in absurd (omega arith))
-      | inr off ↦ off
-    ]
+    not_from_y = false_from_ne_true (climbs up n x y)
+        (λ on. absurd (omega (arith, le, passed_rank n x y on (λ e. ne (sym e)))))
 
     not_further : climbs up n x (up x) ≡ false
-    not_further = elim (cases_Bool (climbs up n x (up x))) [
-      | inl on ↦ (let h : rank (up x) < rank x =
-          passed_rank n x (up x) on inner in let r : rank x < rank (up x) = rises x inner in absurd (omega arith))
-      | inr off ↦ off
-    ]
+    not_further = false_from_ne_true (climbs up n x (up x))
+        (λ on. absurd (omega (arith, passed_rank n x (up x) on inner, rises x inner)))
 
     here_true : climbs up n x x ≡ true
     here_true = climbs_step u x x lu wx ∙ or_left (eqb x x) (climbs up n x (up x)) (eq-eqb x x refl)
@@ -163,7 +134,7 @@ module _ {n : ℕ} {up : ℕ → ℕ} (rank : ℕ → ℕ) {out : ℕ → ℕ} (
           cond-true _ _ _ (eq-eqb x x refl) in
           omega (arith, ints, left, right, one))
       | inr nb ↦ (let same : climbs up n b x ≡ climbs up n b (up x) = climbs_step u x b lu wx
-          ∙ or_first (eqb x b) (climbs up n b (up x)) (ne_eqb x b (λ e. nb (sym e))) in
+          ∙ rw (ne_eqb x b (λ e. nb (sym e))) in
           let left : cond (splits (climbs up n b) x y) (weight b) (pos 0) ≡ cond (splits (climbs up n b) (up x) y)
           (weight b) (pos 0) = ap (λ (s : Bool). cond (cond s (not (climbs up n b y)) (climbs up n b y))
           (weight b) (pos 0)) same in

@@ -1,8 +1,9 @@
 -- The edges that are chosen in the end, as a list.
 use Rattle.std.proofs.Common.{◌≡◌, ℕ, suc, ◌+◌, ◌-◌, ◌*◌, ◌<◌, ◌≤◌, Bool, true, false, cond, eqb, ◌&&◌, List, [], ◌∷◌}
-use Rattle.std.proofs.Common.{◌++◌, map, length, get_or, replicate, Option, Some, None, Result, Ok, Err, IfOk, ◌⊎◌}
+use Rattle.std.proofs.Common.{◌++◌, map, length, get_or, replicate, Option, None, Result, Ok, Err, IfOk, ◌⊎◌}
 use Rattle.std.proofs.Common.{refl, sym, ◌∙◌, ap, inl, inr, arith, length-append}
 use Rattle.std.proofs.lemmas.Bool.{cases_lt, cond-true, cond-false}
+use Rattle.std.proofs.lemmas.Option.{none-some}
 use Rattle.std.proofs.lemmas.List.{get_or_append_left, get_or-append_right, length-replicate}
 use Rattle.def_math.specs.{Counts.count, Counts.count_below, Increasing.IsIncreasing}
 use Rattle.sum_laws.proofs.Counts.{count_append, count_below_none, count_below_same}
@@ -10,6 +11,7 @@ use Rattle.def_matching.specs.Matching.{WeightedGraph, IsSmallGraph, edge_at, en
 use Rattle.def_forest.specs.Forests.{bool_number, splits}
 use Rattle.def_forest.specs.Tables.{ForestTables, forest_of, MatchesBut}
 use Rattle.forest_laws.proofs.{Bounds.leaves_vertex, Graphs.dart_near, Graphs.near_odd}
+use Rattle.forest_laws.proofs.Writes.{true_false}
 use Rattle.qm_forest.specs.Rounds.{IsSoundFor, AreMarked, HasRoom, IsLaminar, IsRound, leaving, near_at, waiting}
 use Rattle.qm_forest.specs.Rounds.{waits_but, waits_for, within}
 use Rattle.qm_forest.specs.declared.rounds.Round.{Round}
@@ -78,11 +80,9 @@ round_begins t {marks} {left} m size rest marks_is left_is once = record {
       let calm : waiting t left b ≡ 0 = count_below_none (λ c. waits_for t b c (get_or left c None)) (length left)
       (λ c lc. ap (waits_for t b c) (same_everywhere size None left_is c)) in
       omega (arith, none, calm));
-  entry = λ c v is. (let clash : ◌≡◌ {A = Option ℕ} None (Some v) = sym (same_everywhere size None left_is c)
-      ∙ is in absurd (cc clash));
+  entry = λ c v is. absurd (none-some v (sym (same_everywhere size None left_is c) ∙ is));
   once = once;
-  tight = λ g is valid e on. (let clash : false ≡ true = sym (same_everywhere m false marks_is e) ∙ on in
-      absurd (cc clash));
+  tight = λ g is valid e on. absurd (true_false on (same_everywhere m false marks_is e));
 }
 
 pub room_begins : {E : Type 0} {t : ForestTables} (r : Result Round E) (m size : ℕ) → IsLaminar t

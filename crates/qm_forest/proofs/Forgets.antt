@@ -50,16 +50,7 @@ module _ {t : ForestTables} {hid : HiddenTables} (tied : AreTied t hid)
   weight_same b = ap (λ (x : ℤ). get_or t.base b (pos 0) +ℤ x) (change_none b (pos 0) ∙ sym (change_none b t.delta))
 
   pub seen_forgotten : forest_of forgotten ≡ relabelled (forest_of t) (λ b. Outside)
-  seen_forgotten i = record {
-    size = (forest_of t).size;
-    holds = (forest_of t).holds;
-    out = (forest_of t).out;
-    weight = λ b. weight_same b i;
-    label = λ b. all_outside b i;
-    mate = (forest_of t).mate;
-    link = (forest_of t).link;
-    nest = (forest_of t).nest;
-  }
+  seen_forgotten i = record (forest_of t) { weight = λ b. weight_same b i; label = λ b. all_outside b i }
 
   added_same : (v : ℕ) → added t.hand t.top hid.off t.label (pos 0) v ≡ added t.hand t.top hid.off t.label t.delta v
   added_same v = ap (λ (x : ℤ). get_or hid.off (get_or t.hand v 0) (pos 0) +ℤ x)

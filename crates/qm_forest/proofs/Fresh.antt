@@ -1,11 +1,11 @@
 -- The tables of a forest of single vertices are tied, and valid for a graph whose costs the weights stay below.
 use Rattle.std.proofs.Common.{count_by, is_some, ◌≡◌, ◌≢◌, ℕ, zero, suc, ◌+◌, ◌-◌, ◌*◌, ◌/◌, ◌%◌, ◌<◌, ◌≤◌, ◌^◌, Bool}
-use Rattle.std.proofs.Common.{◌⊎◌, Option, Some, None, refl, sym, ◌∙◌, ap, subst, inl, inr, arith}
+use Rattle.std.proofs.Common.{◌⊎◌, Option, Some, None, refl, sym, ◌∙◌, ap, inl, inr, arith}
 use Rattle.std.proofs.lemmas.Int.{ints}
 use Rattle.std.proofs.lemmas.List.{get_or-replicate, length-replicate, get_or_past}
 use Rattle.std.proofs.lemmas.List.Folds.{sum_by-replicate}
 use Rattle.std.proofs.lemmas.Bool.{cases_eq, cases_lt, cond-true, cond-false, eq-eqb, ne_eqb, eqb-true}
-use Rattle.std.proofs.Common.{true, false, cond, eqb, ◌||◌, List, length, get_or, replicate, ℤ, pos, ◌+ℤ◌, ◌*ℤ◌, ◌≤ℤ◌}
+use Rattle.std.proofs.Common.{true, false, cond, eqb, List, length, get_or, replicate, ℤ, pos, ◌+ℤ◌, ◌*ℤ◌, ◌≤ℤ◌}
 use Rattle.std.specs.Prelude.{unsigned_abs, nat_lt}
 use Rattle.sum_laws.proofs.{Sums.total_below_one, Counts.count_below_none}
 use Rattle.def_math.specs.Counts.{count_below}
@@ -16,11 +16,12 @@ use Rattle.def_forest.specs.Tables.{forest_of, up_at, label_at, out_of, climbs}
 use Rattle.def_forest.specs.{Tables.IsValidFor, Valid.AreOutermost, Valid.IsNested, Valid.IsFeasible}
 use Rattle.def_forest.specs.{declared.kinds.Label.Label, declared.kinds.Label.TheVariants.Outside}
 use Rattle.forest_laws.proofs.{Bounds.eqb_order, Graphs.near_even, Graphs.near_odd, Graphs.twin_even, Graphs.twin_odd}
-use Rattle.forest_laws.proofs.{Writes.true_false, Loads.load_across}
+use Rattle.forest_laws.proofs.{Loads.load_across, Walks.walk_fixed, Writes.true_false}
 use Rattle.qm_pool.specs.declared.pool.Node.{Node}
 use Rattle.qm_forest.specs.Ties.{AreTied, HasSizes, IsLaidOut, IsListed, HiddenTables, IsCounted, IsFresh, AreFeasible}
 use Rattle.qm_forest.specs.Ties.{AreStarts, potential, added}
-use Rattle.qm_forest.proofs.{Forgets.none_counted, Apart.walk_stays, Ranges.sum_small, Ranges.read_nat}
+use Rattle.qm_forest.proofs.{Apart.or_twice, Forgets.none_counted, KeptTies.tied_as, Ranges.sum_small}
+use Rattle.qm_forest.proofs.Ranges.{read_nat}
 
 -- A list of one value has it everywhere, if it stands past the end too.
 pub same_everywhere : {X : Type 0} {xs : List X} (n : ℕ) (x : X) → xs ≡ replicate n x → (k : ℕ) → get_or xs k x ≡ x
@@ -34,15 +35,10 @@ same_everywhere n x e k = ap (λ ys. get_or ys k x) e ∙ by_place (cases_lt k n
 pub counted_as : {m : ℕ} {n : ℕ} {xs : List ℕ} → m ≡ n → IsCounted m xs → IsCounted n xs
 counted_as {xs} e counted = rw e at counted
 
-or_same : (a : Bool) → (a || a) ≡ a
-or_same true = refl
-or_same false = refl
-
 -- Where each is around itself, one climbs past oneself alone.
 pub climbs_self : (up : ℕ → ℕ) (k b : ℕ) {v : ℕ} → up v ≡ v → climbs up k b v ≡ eqb v b
 climbs_self up zero b e = refl
-climbs_self up (suc k) b {v} e = ap (λ (x : ℕ). eqb v b || climbs up k b x) e
-    ∙ (ap (λ (x : Bool). eqb v b || x) (climbs_self up k b e) ∙ or_same (eqb v b))
+climbs_self up (suc k) b {v} e = rw (e, climbs_self up k b e) (or_twice (eqb v b))
 
 module _ (n size : ℕ) (lows : List ℤ) (t : ForestTables) (hid : HiddenTables) (fresh : IsFresh n size lows t hid) where
   vertices : n ≤ size
@@ -52,14 +48,10 @@ module _ (n size : ℕ) (lows : List ℤ) (t : ForestTables) (hid : HiddenTables
   size_up = fresh.up.size
 
   up_self : (b : ℕ) → up_at t.up b ≡ b
-  up_self b = by_size (cases_lt b size)
-    where
-      by_size : (b < size) ⊎ (size ≤ b) → get_or t.up b b ≡ b
-      by_size (inl l) = default_is (rw size_up l) ∙ fresh.up.each b l
-        where
-          default_is : b < length t.up → get_or t.up b b ≡ get_or t.up b 0
-          default_is lb = read_nat t.up b b 0 lb
-      by_size (inr h) = get_or_past t.up b b (rw size_up h)
+  up_self b = elim (cases_lt b size) [
+    | inl l ↦ read_nat t.up b b 0 (rw size_up l) ∙ fresh.up.each b l
+    | inr h ↦ get_or_past t.up b b (rw size_up h)
+  ]
 
   hand_is : (v : ℕ) → v < n → get_or t.hand v 0 ≡ v
   hand_is v l = fresh.hand.each v l
@@ -88,14 +80,12 @@ module _ (n size : ℕ) (lows : List ℤ) (t : ForestTables) (hid : HiddenTables
       (holds_is k v ∙ ne_eqb v k (λ e. ne (sym e)))) ∙ (cond-true _ _ _ (holds_is v v ∙ eq-eqb v v refl) ∙ weight_is v)
 
   added_is : (v : ℕ) → v < n → added t.hand t.top hid.off t.label t.delta v ≡ pos 0
-  added_is v l =
-      omega (
-        arith,
-        ints,
-        same_everywhere n (pos 0) fresh.offs (get_or t.hand v 0),
-        change_none
-            (out_of t.hand t.top v) t.delta,
-      )
+  added_is v l = omega (
+    arith,
+    ints,
+    same_everywhere n (pos 0) fresh.offs (get_or t.hand v 0),
+    change_none (out_of t.hand t.top v) t.delta,
+  )
 
   -- Each is the list of itself.
   list_at : {xs : List ℕ} (x : ℕ) → IsCounted size xs → x < n → get_or xs x 0 ≡ x
@@ -110,13 +100,13 @@ module _ (n size : ℕ) (lows : List ℤ) (t : ForestTables) (hid : HiddenTables
 
   listed_self : (x : ℕ) → x < n → IsListed n (λ k. get_or hid.following k 0) (get_or hid.first x 0)
       (get_or hid.last x 0) (get_or t.rank x 0) (climbs (up_at t.up) n x)
-  listed_self x l = (rw (rank_is x l, list_at x fresh.lists.2 l, list_at x fresh.lists.1 l) (record {
+  listed_self x l = rw (rank_is x l, list_at x fresh.lists.2 l, list_at x fresh.lists.1 l) (record {
     all = λ v lv. eqb_order x v ∙ sym (climbs_self (up_at t.up) n x (up_self v));
-    low = λ k lk. first_low k lk;
+    low = first_low;
     distinct = λ i j lij lj. absurd (omega (arith, lij, lj));
-    ends = λ k e. first_is k e;
+    ends = first_is;
     some = omega arith;
-  }))
+  })
     where
       first_low : (k : ℕ) → k < 1 → walk (λ k. get_or hid.following k 0) x k < n
       first_low zero lk = l
@@ -156,21 +146,20 @@ module _ (n size : ℕ) (lows : List ℤ) (t : ForestTables) (hid : HiddenTables
   fresh_nest : IsLaidOut n size t.hand t.top t.up t.rank t.parts hid.leader hid.first hid.last hid.following
   fresh_nest = record {
     hands = λ v l. rw (hand_is v l, fresh.top.size) l;
-    outs = λ h l. (let lh : h < n = rw fresh.top.size at l in
-        (rw (fresh.top.each h lh) (omega (arith, vertices))));
+    outs = λ h l. (let lh : h < n = rw fresh.top.size at l in rw (fresh.top.each h lh) (omega (arith, vertices)));
     ups = λ b l. rw (fresh.up.each b l) l;
     climb = record {
-      ends = λ v l. walk_stays (up_at t.up) n (up_self v) ∙ sym (out_is v l);
+      ends = λ v l. walk_fixed (up_at t.up) n (up_self v) ∙ sym (out_is v l);
       tops = λ v l. up_self (out_of t.hand t.top v);
     };
     led = λ v l. hand_is v l ∙ (sym (list_at v fresh.lists.0 l) ∙ ap (λ b. get_or hid.leader b 0) (sym (out_is v l)));
     leaders = λ x lx used. (let l : x < n = used_low x used in let e : get_or hid.leader x 0 ≡ x =
         list_at x fresh.lists.0 l in (
-          (rw e l),
+          rw e l,
           climbs_self (up_at t.up) n x (up_self (get_or hid.leader x 0)) ∙ eq-eqb (get_or hid.leader x 0) x e,
         ));
     members = λ x lx used. listed_self x (used_low x used);
-    ended = λ x y k lx ly ux uy l e. (absurd (omega (arith, rank_is y (used_low y uy), l)));
+    ended = λ x y k lx ly ux uy l e. absurd (omega (arith, rank_is y (used_low y uy), l));
     idle = λ x high none. up_self x;
     rises = λ x inner. absurd (inner (up_self x));
     around = λ x inner. absurd (inner (up_self x));
@@ -180,10 +169,9 @@ module _ (n size : ℕ) (lows : List ℤ) (t : ForestTables) (hid : HiddenTables
   none_some = ap (count_by is_some) fresh.pool ∙ (sum_by-replicate (λ (o : Option Node). cond (is_some o) 1 0) (n / 2)
       None ∙ (let e : (n / 2) * 0 ≡ 0 = omega arith in e))
 
-  none_many : count_below (live_at (length t.hand) (λ i. get_or t.parts i 0)) (length t.up) ≡ 0
-  none_many = count_below_none (live_at (length t.hand) (λ i. get_or t.parts i 0)) (length t.up)
-      (λ x l. ap (λ m. cond (nat_lt x (length t.hand)) 0 (cond (eqb m 0) 0 1))
-      (same_everywhere size 0 fresh.parts x) ∙ none (nat_lt x (length t.hand)))
+  none_many : count_below (live_at n (λ i. get_or t.parts i 0)) size ≡ 0
+  none_many = count_below_none (live_at n (λ i. get_or t.parts i 0)) size
+      (λ x l. rw (same_everywhere size 0 fresh.parts x) (none (nat_lt x n)))
     where
       none : (s : Bool) → ◌≡◌ {A = ℕ} (cond s 0 0) 0
       none true = refl
@@ -194,46 +182,34 @@ module _ (n size : ℕ) (lows : List ℤ) (t : ForestTables) (hid : HiddenTables
 
   -- The tie, where the weights are small.
   pub fresh_tied : ((v : ℕ) → unsigned_abs (get_or lows v (pos 0)) ≤ 2 ^ 60) → AreTied t hid
-  fresh_tied small = record {
-    sizes = fresh_sizes;
-    nest = subst (λ m. IsLaidOut m (length t.up) t.hand t.top t.up t.rank t.parts hid.leader hid.first hid.last
-        hid.following) (sym fresh.hand.size)
-        (subst (λ m. IsLaidOut n m t.hand t.top t.up t.rank t.parts hid.leader hid.first hid.last hid.following)
-        (sym size_up) fresh_nest);
-    numbers = record {
-      potentials = λ v l. potential_is v (in_n v l) ∙ (let e : get_or hid.q v (pos 0) ≡ get_or lows v (pos 0) =
-          ap (λ (xs : List ℤ). get_or xs v (pos 0)) fresh.kept in omega (arith, ints, e, added_is v (in_n v l)));
-      small = λ b. (let e : (forest_of t).weight b ≡ get_or lows b (pos 0) = weight_is b in
-          omega (arith, ints, e, small b));
-      start = dual_sum_of (forest_of t);
-      small_start = omega (
-        arith,
-        ints,
-        sum_small (forest_of t).weight (length t.up)
-            (λ k l. (let e : (forest_of t).weight k ≡ get_or lows k (pos 0) = weight_is k in
-            omega (arith, ints, e, small k))),
-        size_up,
-        fresh.few,
-      );
-      moved = λ v l. omega (arith, ints, added_is v (in_n v l));
-      risen = (omega (arith, ints, fresh.delta), omega (arith, ints, fresh.delta));
-      still = λ none. fresh.delta;
-    };
-    trail = record {
-      low = λ k l. absurd (omega (arith, l, fresh.trail));
-      counted = fresh.trail ∙ sym (none_counted hid.touched none_touched);
-      marked = λ v on. absurd (true_false on (none_touched v));
-      named = λ b named. absurd (named (label_is b));
-    };
-    pool = record {
-      room = omega (arith, pool_size, fresh.size_is, fresh.hand.size, size_up);
-      half = pool_size ∙ ap (λ m. m / 2) (sym fresh.hand.size);
-      free = λ k is. same_everywhere size 0 fresh.parts (length t.hand + k);
-      live = λ k live. absurd (live (same_everywhere size 0 fresh.parts (length t.hand + k)));
-      vertices = λ v l. same_everywhere size 0 fresh.parts v;
-      counted = none_some ∙ sym none_many;
-    };
-  }
+  fresh_tied small = tied_as fresh.hand.size size_up fresh_sizes fresh_nest (record {
+    potentials = λ v l. potential_is v (in_n v l) ∙ (let e : get_or hid.q v (pos 0) ≡ get_or lows v (pos 0) =
+        ap (λ (xs : List ℤ). get_or xs v (pos 0)) fresh.kept in omega (arith, ints, e, added_is v (in_n v l)));
+    small = λ b. omega (arith, ints, weight_is b, small b);
+    start = dual_sum_of (forest_of t);
+    small_start = omega (
+      arith,
+      ints,
+      sum_small (forest_of t).weight (length t.up) (λ k l. omega (arith, ints, weight_is k, small k)),
+      size_up,
+      fresh.few,
+    );
+    moved = λ v l. omega (arith, ints, added_is v (in_n v l));
+    risen = (omega (arith, ints, fresh.delta), omega (arith, ints, fresh.delta));
+    still = λ none. fresh.delta;
+  }) (record {
+    low = λ k l. absurd (omega (arith, l, fresh.trail));
+    counted = fresh.trail ∙ sym (none_counted hid.touched none_touched);
+    marked = λ v on. absurd (true_false on (none_touched v));
+    named = λ b named. absurd (named (label_is b));
+  }) (record {
+    room = omega (arith, pool_size, fresh.size_is);
+    half = pool_size;
+    free = λ k is. same_everywhere size 0 fresh.parts (n + k);
+    live = λ k live. absurd (live (same_everywhere size 0 fresh.parts (n + k)));
+    vertices = λ v l. same_everywhere size 0 fresh.parts v;
+    counted = none_some ∙ sym none_many;
+  })
 
   module _ (g : WeightedGraph) (is : IsGraph g) (n_is : n ≡ g.n) (costs : AreFeasible g lows) where
     up_to : (v : ℕ) → v < g.n → v < n
@@ -276,8 +252,8 @@ module _ (n size : ℕ) (lows : List ℤ) (t : ForestTables) (hid : HiddenTables
 
     feasible : IsFeasible (darts_of g) (forest_of t)
     feasible = record {
-      sets = λ b high low. rw (weight_is b ∙ get_or_past lows b (pos 0) (rw (fresh.size_lows ∙ n_is) high)) (
-          omega (arith, ints));
+      sets = λ b high low. rw (weight_is b ∙ get_or_past lows b (pos 0) (rw (fresh.size_lows ∙ n_is) high))
+          (omega (arith, ints));
       darts = λ d low. by_side d low (cases_eq (d % 2) 0);
     }
       where

@@ -162,15 +162,7 @@ module _ (g : WeightedGraph) (is : IsSmallGraph g) (s : ForestTables) (valid : I
 
     -- The higher climber.
     pub both_order : {x y i j : ℕ} → IsClimbing darts f a c x y i j → low - j ≤ high - i → level c - j ≤ level a - i
-    both_order is order = omega (
-      arith,
-      order,
-      both_level,
-      (both_last is).0,
-      (both_last is).1,
-      is.x_low,
-      is.y_low,
-    )
+    both_order is order = omega (arith, order, both_level, (both_last is).0, (both_last is).1, is.x_low, is.y_low)
 
   -- One climb after another.
   pub climbed_on : {b : ℕ} → f.label b ≢ Outside → {at first : ℕ} {x : ℕ} (more : ℕ)

@@ -33,8 +33,7 @@ ring_sum_above next f from many two some k l = by_first (cases_eq k 0)
           arith,
           ap (λ j. f (walk next from j)) z,
           some 1 (omega (arith, two)),
-          ring_sum_below next f from
-              (suc 1) many two,
+          ring_sum_below next f from (suc 1) many two,
         )
     by_first (inr nz) = omega (
       arith,

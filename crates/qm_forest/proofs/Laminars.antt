@@ -20,11 +20,7 @@ laminar {t} {hid} tied = record {
   rises = tied.nest.rises;
   low = λ x l used. list_few (tied.nest.members x l used);
   passed = λ b v l on. (
-      omega (
-        arith,
-        rank_passed tied.nest v b l on,
-        rank_few tied.nest v l,
-      ));
+      omega (arith, rank_passed tied.nest v b l on, rank_few tied.nest v l));
   own = λ b x l on. own b x l (climbs_place (up_at t.up) (length t.hand) x b on) (cases_eq b x);
   two = λ x l used more. two x more (tied.nest.members x l used);
   some = λ x l used. (tied.nest.members x l used).some;

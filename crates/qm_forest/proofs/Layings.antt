@@ -82,14 +82,7 @@ laid_more_up g f0 c i {x} {y} {d} e1 e2 x_is y_is d_is = e2 ∙ (ap (λ (f : For
 pub seen_lay : {t : ForestTables} {hid : HiddenTables} → AreTied t hid → (x next dart : ℕ) → x < length t.up
     → forest_of (record t { after = set t.after x next; joint = set t.joint x dart })
     ≡ ringed (forest_of t) (set_at (forest_of t).nest.after x next) (set_at (forest_of t).nest.joint x dart)
-seen_lay {t} tied x next dart low i = record {
-  size = (forest_of t).size;
-  holds = (forest_of t).holds;
-  out = (forest_of t).out;
-  weight = (forest_of t).weight;
-  label = (forest_of t).label;
-  mate = (forest_of t).mate;
-  link = (forest_of t).link;
+seen_lay {t} tied x next dart low i = record (forest_of t) {
   nest = record {
     up = (forest_of t).nest.up;
     after = entry_set t.after x next 0 (omega (arith, tied.sizes.after)) i;

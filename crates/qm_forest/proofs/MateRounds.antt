@@ -212,16 +212,8 @@ module _ {t : ForestTables} (known : IsLaminar t) {g : WeightedGraph} (is : IsSm
 
           by_end : (f.out w ≡ out (from e)) ⊎ (f.out w ≡ out (to e))
               → bool_number (within t w (out (from e))) + bool_number (within t w (out (to e))) ≡ 1
-          by_end (inl s) = omega (
-            arith,
-            at (from e) me.near_low s,
-            off (to e) me.far_low (λ z. me.other (sym s ∙ z)),
-          )
-          by_end (inr s) = omega (
-            arith,
-            off (from e) me.near_low (λ z. me.other (sym z ∙ s)),
-            at (to e) me.far_low s,
-          )
+          by_end (inl s) = omega (arith, at (from e) me.near_low s, off (to e) me.far_low (λ z. me.other (sym s ∙ z)))
+          by_end (inr s) = omega (arith, off (from e) me.near_low (λ z. me.other (sym z ∙ s)), at (to e) me.far_low s)
 
       near_is : f.out (near_at t d) ≡ f.out w
       near_is = ap f.out (valid.ends d d_low) ∙ m.here
@@ -251,8 +243,7 @@ module _ {t : ForestTables} (known : IsLaminar t) {g : WeightedGraph} (is : IsSm
       by_mate : (f.mate (f.out w) ≡ None) ⊎ ((d : ℕ) × (f.mate (f.out w) ≡ Some d)) → matched_by t edges w ≤ 1
       by_mate (inl none) = omega (
         arith,
-        count_below_none (term w) edges
-            (λ k l. term_none w k lw (λ d s. absurd (none-some d (sym none ∙ s)))),
+        count_below_none (term w) edges (λ k l. term_none w k lw (λ d s. absurd (none-some d (sym none ∙ s)))),
       )
       by_mate (inr s) = by_place (cases_lt (s.0 / 2) edges)
         where
@@ -267,8 +258,7 @@ module _ {t : ForestTables} (known : IsLaminar t) {g : WeightedGraph} (is : IsSm
           )
           by_place (inr h) = omega (
             arith,
-            count_below_none (term w) edges
-                (λ k l. others k (λ e. absurd (omega (arith, l, h, e)))),
+            count_below_none (term w) edges (λ k l. others k (λ e. absurd (omega (arith, l, h, e)))),
           )
 
   pub due_one : (w : ℕ) {edges : ℕ} → w < length t.hand → edges ≡ length g.edges → f.mate (f.out w) ≢ None

@@ -3,15 +3,17 @@ use Rattle.std.proofs.Common.{◌≡◌, ◌≢◌, ℕ, suc, ◌+◌, ◌*◌, 
 use Rattle.std.proofs.Common.{is_some, refl, sym, ◌∙◌, ap, ◌⊎◌, inl, inr, arith}
 use Rattle.std.proofs.lemmas.Bool.{cases_eq}
 use Rattle.def_matching.specs.Matching.{IsSmallGraph, WeightedGraph}
-use Rattle.def_forest.specs.{Darts.darts_of, Darts.far, Forests.Forest, Forests.IsOutermost, Forests.set_at}
+use Rattle.def_forest.specs.{Darts.Darts, Darts.AreDarts, Darts.darts_of, Darts.far, Forests.Forest}
+use Rattle.def_forest.specs.{Forests.IsOutermost, Forests.set_at}
 use Rattle.def_forest.specs.{Steps.grown, Steps.with_mates, Steps.IsAugmented, Tables.GraphSize, Tables.size_of}
 use Rattle.def_forest.specs.{Tables.ForestTables, Tables.forest_of, Tables.IsValidFor, Valid.IsValid, Valid.IsTree}
-use Rattle.def_forest.specs.{declared.kinds.Label.Label, declared.kinds.Label.TheVariants.Outer}
+use Rattle.def_forest.specs.{declared.kinds.Label.Label}
 use Rattle.def_forest.specs.{declared.kinds.Label.TheVariants.Outside, Ways.Reaches, Ways.steps}
 use Rattle.def_forest.specs.Ways.{parent_of}
 use Rattle.forest_laws.proofs.{Climbs.fewer_steps, Climbs.inner_is, Facts.tree_of, Facts.outer_mate, Graphs.are_darts}
 use Rattle.forest_laws.proofs.{Grows.grown_valid, WayLaws.begin, WayLaws.turn, WayLaws.end_valid, WayLaws.end_augmented}
-use Rattle.forest_laws.proofs.{WayLaws.some_none, Writes.set_here, Writes.set_there}
+use Rattle.forest_laws.proofs.{WayLaws.some_none, Writes.outer_named, Writes.set_here}
+use Rattle.forest_laws.proofs.Writes.{set_there, some_is}
 use Rattle.qm_forest.specs.Ties.{fixed_of, IsOnWay, HasSameNest, mated, remated, labelled, relabelled}
 
 -- A mate is a dart of the graph.
@@ -52,12 +54,9 @@ valid_grown {t} u {g} is valid {d} m reach mate seen hand root fixed = record {
   ends = ends_kept u valid fixed;
   room = room_kept u valid fixed;
   valid = by_tree (tree_of (are_darts is.lawful) valid.valid
-      ((forest_of t).out ((darts_of g).near d)) (λ off. outer off reach.outer));
+      ((forest_of t).out ((darts_of g).near d)) (outer_named reach.outer));
 }
   where
-    outer : {l : Label} → l ≡ Outside → l ≡ Outer → ⊥
-    outer a b = let h : Outside ≡ Outer = sym a ∙ b in cc
-
     by_tree : (r : ℕ) × (t.root ≡ Some r) × IsTree (darts_of g) (forest_of t) r
         → IsValid (darts_of g) (forest_of u) u.root
     by_tree w = rw (seen, (root ∙ w.1)) (grown_valid (darts_of g) (are_darts is.lawful) (forest_of t) w.0
@@ -82,11 +81,8 @@ pub way_begins : {g : WeightedGraph} {t : ForestTables} → IsSmallGraph g → I
     (Some ((darts_of g).twin start)) → a ≡ (forest_of t).out ((darts_of g).near start) → IsOnWay g t start mate a start
 way_begins {g} {t} is valid {start} reach free {mate} {a} mate_is a_is =
     by_tree (tree_of (are_darts is.lawful) valid.valid
-    ((forest_of t).out ((darts_of g).near start)) (λ off. outer off reach.outer))
+    ((forest_of t).out ((darts_of g).near start)) (outer_named reach.outer))
   where
-    outer : {l : Label} → l ≡ Outside → l ≡ Outer → ⊥
-    outer x y = let h : Outside ≡ Outer = sym x ∙ y in cc
-
     by_tree : (r : ℕ) × (t.root ≡ Some r) × IsTree (darts_of g) (forest_of t) r → IsOnWay g t start mate a start
     by_tree w = record {
       is = is;
@@ -99,20 +95,29 @@ way_begins {g} {t} is valid {start} reach free {mate} {a} mate_is a_is =
 
 module _ {g : WeightedGraph} {t : ForestTables} {start : ℕ} {mate : ℕ → Option ℕ} {a e : ℕ}
     (way : IsOnWay g t start mate a e) where
-  valid_top : IsValid (darts_of g) (forest_of t) (Some way.top)
+  abbrev pub d : Darts
+  d = darts_of g
+
+  abbrev pub f : Forest
+  f = forest_of t
+
+  are : AreDarts d
+  are = are_darts way.is.lawful
+
+  -- How many steps the root is away.
+  abbrev pub far_up : ℕ → ℕ
+  far_up = steps d f (f.size + 1)
+
+  valid_top : IsValid d f (Some way.top)
   valid_top = rw way.root at way.valid.valid
 
   -- The blossom at hand still has its own mate.
-  own_mate : mate a ≡ (forest_of t).mate a
-  own_mate = way.almost.kept a (named way.almost.outer) (omega arith)
-    where
-      named : {l : Label} → l ≡ Outer → l ≢ Outside
-      named x y = let h : Outer ≡ Outside = sym x ∙ y in cc
+  own_mate : mate a ≡ f.mate a
+  own_mate = way.almost.kept a (outer_named way.almost.outer) (omega arith)
 
   -- The way goes on, past a blossom that is matched.
   pub way_goes_on : (old : ℕ) {inner up a2 e2 : ℕ} {mate2 : ℕ → Option ℕ} → mate a ≡ Some old → inner
-      ≡ (forest_of t).out (far (darts_of g) old) → up ≡ (forest_of t).link inner → a2
-      ≡ (forest_of t).out (far (darts_of g) up) → e2 ≡ (darts_of g).twin up → mate2
+      ≡ f.out (far d old) → up ≡ f.link inner → a2 ≡ f.out (far d up) → e2 ≡ d.twin up → mate2
       ≡ set_at (set_at mate a (Some e)) inner (Some up) → IsOnWay g t start mate2 a2 e2
   way_goes_on old {up} {a2} {e2} was inner_is' up_is a_is e_is mate_is = record {
     is = way.is;
@@ -123,74 +128,54 @@ module _ {g : WeightedGraph} {t : ForestTables} {start : ℕ} {mate : ℕ → Op
     almost = rw (
       mate_is ∙ (ap (λ x. set_at (set_at mate a (Some e)) x (Some up)) inner_is'
           ∙ ap (λ x. set_at (set_at mate a (Some e)) inn (Some x)) link_is),
-      a_is ∙ ap (λ x. (forest_of t).out (far
-          (darts_of g) x)) link_is,
-      e_is ∙ ap (darts_of g).twin link_is,
-    ) (turn
-        (are_darts way.is.lawful) valid_top way.tree start way.almost old (sym own_mate ∙ was));
+      a_is ∙ ap (λ x. f.out (far d x)) link_is,
+      e_is ∙ ap d.twin link_is,
+    ) (turn are valid_top way.tree start way.almost old (sym own_mate ∙ was));
   }
     where
       inn : ℕ
-      inn = (forest_of t).out (far (darts_of g) old)
+      inn = f.out (far d old)
 
-      next : ℕ → Option ℕ
-      next = set_at (set_at mate a (Some e)) ((forest_of t).out (far (darts_of g) old))
-          (Some ((forest_of t).link ((forest_of t).out (far (darts_of g) old))))
-
-      link_is : up ≡ (forest_of t).link inn
-      link_is = up_is ∙ ap (forest_of t).link inner_is'
+      link_is : up ≡ f.link inn
+      link_is = up_is ∙ ap f.link inner_is'
 
   -- And gets shorter.
-  pub way_shorter : (old : ℕ) {inner up a2 : ℕ} → mate a ≡ Some old → inner ≡ (forest_of t).out (far (darts_of g) old)
-      → up ≡ (forest_of t).link inner → a2 ≡ (forest_of t).out (far (darts_of g) up)
-      → steps (darts_of g) (forest_of t) ((forest_of t).size + 1) a2 < steps (darts_of g) (forest_of t)
-      ((forest_of t).size + 1) a
+  pub way_shorter : (old : ℕ) {inner up a2 : ℕ} → mate a ≡ Some old → inner ≡ f.out (far d old)
+      → up ≡ f.link inner → a2 ≡ f.out (far d up) → far_up a2 < far_up a
   way_shorter old {a2} was inner_is' up_is a_is =
-      let own : (forest_of t).mate a ≡ Some old = sym own_mate ∙ was in
-      let parent : a2 ≡ parent_of (darts_of g) (forest_of t) a = a_is
-      ∙ ap (λ x. (forest_of t).out (far (darts_of g) x)) (up_is ∙ ap (forest_of t).link
-      (inner_is' ∙ sym (inner_is (are_darts way.is.lawful) valid_top way.tree a old way.almost.outer own))) in
-      let less : steps (darts_of g) (forest_of t) ((forest_of t).size + 1) a
-      ≡ suc (steps (darts_of g) (forest_of t) ((forest_of t).size + 1) (parent_of (darts_of g) (forest_of t) a)) =
-      fewer_steps (are_darts way.is.lawful) valid_top way.tree a old way.almost.outer own in
-      let same : steps (darts_of g) (forest_of t) ((forest_of t).size + 1) a2
-      ≡ steps (darts_of g) (forest_of t) ((forest_of t).size + 1) (parent_of (darts_of g) (forest_of t) a) =
-      ap (steps (darts_of g) (forest_of t) ((forest_of t).size + 1)) parent in
+      let own : f.mate a ≡ Some old = sym own_mate ∙ was in
+      let parent : a2 ≡ parent_of d f a = a_is ∙ ap (λ x. f.out (far d x)) (up_is ∙ ap f.link
+      (inner_is' ∙ sym (inner_is are valid_top way.tree a old way.almost.outer own))) in
+      let less : far_up a ≡ suc (far_up (parent_of d f a)) =
+      fewer_steps are valid_top way.tree a old way.almost.outer own in
+      let same : far_up a2 ≡ far_up (parent_of d f a) =
+      ap far_up parent in
       omega arith
 
   -- The blossom at hand is outermost, and its number low.
   pub way_low : a < length t.up
-  way_low = let w : IsOutermost (darts_of g).n (forest_of t) a =
-      way.valid.valid.outermost.named a (named way.almost.outer) in
+  way_low = let w : IsOutermost d.n f a = way.valid.valid.outermost.named a (outer_named way.almost.outer) in
       (rw w.2 at (way.valid.valid.outermost.out_low w.0 w.1))
-    where
-      named : {l : Label} → l ≡ Outer → l ≢ Outside
-      named x y = let h : Outer ≡ Outside = sym x ∙ y in cc
 
   -- Darts met on the way are darts of the graph.
   pub old_low : (old : ℕ) → mate a ≡ Some old → old < 2 * length g.edges
   old_low old was = (way.valid.valid.matched a old (sym own_mate ∙ was)).tight.low
 
-  pub up_low : (old : ℕ) {inner up : ℕ} → mate a ≡ Some old → inner ≡ (forest_of t).out (far (darts_of g) old)
-      → up ≡ (forest_of t).link inner → up < 2 * length g.edges
-  up_low old was inner_is' up_is = rw (up_is ∙ ap (forest_of t).link inner_is') (way.tree.inner ((forest_of t).out (far
-      (darts_of g) old))
-      (outer_mate (are_darts way.is.lawful) valid_top a old way.almost.outer (sym own_mate ∙ was))).tight.low
+  pub up_low : (old : ℕ) {inner up : ℕ} → mate a ≡ Some old → inner ≡ f.out (far d old)
+      → up ≡ f.link inner → up < 2 * length g.edges
+  up_low old was inner_is' up_is = rw (up_is ∙ ap f.link inner_is') (way.tree.inner (f.out (far d old))
+      (outer_mate are valid_top a old way.almost.outer (sym own_mate ∙ was))).tight.low
 
   -- It ends where the blossom at hand is not matched.
   pub way_ends : mate a ≡ None → (r : ℕ) → t.root ≡ Some r → {mate2 : ℕ → Option ℕ} → mate2 ≡ set_at mate a (Some e)
-      → IsValid (darts_of g) (with_mates (forest_of t) mate2) None
-      × IsAugmented (darts_of g) (forest_of t) (with_mates (forest_of t) mate2) r start
+      → IsValid d (with_mates f mate2) None × IsAugmented d f (with_mates f mate2) r start
   way_ends free r root is_mate =
-      let own : (forest_of t).mate a ≡ None = sym own_mate ∙ free in
-      let r_is : way.top ≡ r = same (sym way.root ∙ root) in
+      let own : f.mate a ≡ None = sym own_mate ∙ free in
+      let r_is : way.top ≡ r = some_is way.top r (sym way.root ∙ root) in
       (rw is_mate (
-        end_valid (are_darts way.is.lawful) valid_top way.tree start way.almost own,
-        (rw r_is at (end_augmented (are_darts way.is.lawful) valid_top way.tree start way.almost own)),
+        end_valid are valid_top way.tree start way.almost own,
+        (rw r_is at (end_augmented are valid_top way.tree start way.almost own)),
       ))
-    where
-      same : {x y : ℕ} → Some x ≡ Some y → x ≡ y
-      same p = cc
 
 -- The twin of a dart is one, and what begins a dart is a vertex.
 pub twin_dart : {g : WeightedGraph} → IsSmallGraph g → (d : ℕ) {e : ℕ} → d < 2 * length g.edges → e
@@ -258,11 +243,8 @@ pub augmented : {t : ForestTables} (s u : ForestTables) {g : WeightedGraph} → 
     × IsAugmented (darts_of g) (forest_of t) (forest_of u) r start) × IsValidFor g u
 augmented {t} s u {g} is valid {start} reach done seen ended hand root fixed =
     by_tree (tree_of (are_darts is.lawful) valid.valid
-    ((forest_of t).out ((darts_of g).near start)) (λ off. outer off reach.outer))
+    ((forest_of t).out ((darts_of g).near start)) (outer_named reach.outer))
   where
-    outer : {l : Label} → l ≡ Outside → l ≡ Outer → ⊥
-    outer x y = let h : Outside ≡ Outer = sym x ∙ y in cc
-
     whole : forest_of u ≡ with_mates (forest_of t) (forest_of s).mate
     whole = ended ∙ ap (λ (f : Forest). with_mates f (forest_of s).mate) seen
 

@@ -150,8 +150,7 @@ module _ {t : ForestTables} {sets : List (ℕ × ℕ)} (order : AreInOrder t set
         places,
         same,
         count_total (λ (set : ℕ × ℕ). size set.1) sets,
-        ap (λ (m : ℕ). pos m)
-            (order.has.counts size),
+        ap (λ (m : ℕ). pos m) (order.has.counts size),
         below,
         terms,
         split_at f (length t.hand) (length t.up) vertices,

@@ -37,8 +37,7 @@ count_changed f g (suc n) x l same =
       arith,
       ap f e,
       ap g e,
-      count_below_same g f n
-          (λ k lk. same k (omega (arith, lk)) (λ at. absurd (omega (arith, at, e, lk)))),
+      count_below_same g f n (λ k lk. same k (omega (arith, lk)) (λ at. absurd (omega (arith, at, e, lk)))),
     )
     by_last (inr ne) more = omega (arith, more (omega (arith, l, ne)), same n (omega arith) (λ at. ne (sym at)))
 

@@ -49,7 +49,7 @@ module _ {t : ForestTables} (known : IsLaminar t) {g : WeightedGraph} (is_small 
       let w : (k : ℕ) × (k < many) × (walk after (get_or t.head q 0) k ≡ x) =
       listed_place after (get_or t.head q 0) many x on in (
         ap (up_at t.up) (sym w.2) ∙ ring.inside w.0,
-        (λ e. (absurd (omega (arith, ring.lower w.0, ap (λ z. get_or t.rank z 0) (w.2 ∙ e))))),
+        (λ e. absurd (omega (arith, ring.lower w.0, ap (λ z. get_or t.rank z 0) (w.2 ∙ e)))),
       )
 
   parts : (x : ℕ) → up_at t.up x ≡ q → x ≢ q → inside x ≡ true
@@ -170,8 +170,7 @@ module _ {t : ForestTables} (known : IsLaminar t) {g : WeightedGraph} (is_small 
             ap (λ m. sum_from x m b) two,
             first,
             second,
-            ap (λ z. bool_number (within t b z))
-                (sym y_is),
+            ap (λ z. bool_number (within t b z)) (sym y_is),
             ap (λ z. sum_from (after z) (many - 1 - 2 * j) b) (sym y_is),
           )
 
@@ -231,8 +230,7 @@ module _ {t : ForestTables} (known : IsLaminar t) (v c : ℕ) (lv : v < length t
       → IsRound t marks left rest due
   climb_ends rest {p} p_is round = round_rest rest (λ b l. (omega (
     arith,
-    ap (λ z. cond (within t b z) 0
-        (waits_but t b c v)) p_is,
+    ap (λ z. cond (within t b z) 0 (waits_but t b c v)) p_is,
     none b (within t b c),
   ))) round
     where

@@ -28,16 +28,7 @@ change_low Outside s h = omega (arith, ints)
 -- The forest sees the shift.
 pub seen_shift : (t : ForestTables) (s : ℤ) {d : ℤ} → d ≡ t.delta +ℤ s → forest_of (record t { delta = d })
     ≡ shifted (forest_of t) s
-seen_shift t s {d} e i = record {
-  size = (forest_of t).size;
-  holds = (forest_of t).holds;
-  out = (forest_of t).out;
-  weight = λ b. weight b i;
-  label = (forest_of t).label;
-  mate = (forest_of t).mate;
-  link = (forest_of t).link;
-  nest = (forest_of t).nest;
-}
+seen_shift t s {d} e i = record (forest_of t) { weight = λ b. weight b i }
   where
     weight : (b : ℕ) → (forest_of (record t { delta = d })).weight b ≡ (forest_of t).weight b +ℤ weight_change
         (label_at t.label b) s
@@ -48,16 +39,7 @@ seen_shift t s {d} e i = record {
 -- Where no tree stands a shift changes nothing.
 pub seen_still : {g : WeightedGraph} {t : ForestTables} (s : ℤ) → IsValidFor g t → t.root ≡ None
     → forest_of t ≡ shifted (forest_of t) s
-seen_still {t} s valid none i = record {
-  size = (forest_of t).size;
-  holds = (forest_of t).holds;
-  out = (forest_of t).out;
-  weight = λ b. weight b i;
-  label = (forest_of t).label;
-  mate = (forest_of t).mate;
-  link = (forest_of t).link;
-  nest = (forest_of t).nest;
-}
+seen_still {t} s valid none i = record (forest_of t) { weight = λ b. weight b i }
   where
     weight : (b : ℕ) → (forest_of t).weight b ≡ (forest_of t).weight b +ℤ weight_change (label_at t.label b) s
     weight b = let h : weight_change (label_at t.label b) s ≡ pos 0 =
@@ -119,8 +101,7 @@ module _ {t : ForestTables} {hid : HiddenTables} (tied : AreTied t hid) {g : Wei
           omega (
             arith,
             ints,
-            ap (λ (f : Forest). potential f v)
-                (seen_shift t s d_is),
+            ap (λ (f : Forest). potential f v) (seen_shift t s d_is),
             h,
             tied.numbers.potentials v lv,
             added_is v,

@@ -55,29 +55,13 @@ sizes_kept s d r trail marks room size more = record {
 -- The forest sees a mate that is written, and a link.
 pub seen_mate : {t : ForestTables} {hid : HiddenTables} → AreTied t hid → (b : ℕ) (m : Option ℕ) → b < length t.up
     → forest_of (record t { mate = set t.mate b m }) ≡ mated (forest_of t) b m
-seen_mate {t} tied b m low i = record {
-  size = (forest_of t).size;
-  holds = (forest_of t).holds;
-  out = (forest_of t).out;
-  weight = (forest_of t).weight;
-  label = (forest_of t).label;
+seen_mate {t} tied b m low i = record (forest_of t) {
   mate = entry_set t.mate b m None (omega (arith, tied.sizes.mate)) i;
-  link = (forest_of t).link;
-  nest = (forest_of t).nest;
 }
 
 pub seen_link : {t : ForestTables} {hid : HiddenTables} → AreTied t hid → (b d : ℕ) → b < length t.up
     → forest_of (record t { link = set t.link b d }) ≡ linked (forest_of t) b d
-seen_link {t} tied b d low i = record {
-  size = (forest_of t).size;
-  holds = (forest_of t).holds;
-  out = (forest_of t).out;
-  weight = (forest_of t).weight;
-  label = (forest_of t).label;
-  mate = (forest_of t).mate;
-  link = entry_set t.link b d 0 (omega (arith, tied.sizes.link)) i;
-  nest = (forest_of t).nest;
-}
+seen_link {t} tied b d low i = record (forest_of t) { link = entry_set t.link b d 0 (omega (arith, tied.sizes.link)) i }
 
 module _ (t : ForestTables) (hid : HiddenTables) (tied : AreTied t hid) (v : ℕ) (low : v < length t.hand) (l : Label)
     (x y : ℤ) (here : l ≢ Outside → IsOnTrail t.trail v) (base_is : x +ℤ weight_change l t.delta
@@ -107,54 +91,28 @@ module _ (t : ForestTables) (hid : HiddenTables) (tied : AreTied t hid) (v : ℕ
 
   weight_same : (k : ℕ) → weight_at moved_label.base moved_label.label t.delta k ≡ (forest_of t).weight k
   unfolding b
-  weight_same k = at (cases_eq k b)
-    where
-      at : (k ≡ b) ⊎ (k ≢ b) → weight_at moved_label.base moved_label.label t.delta k ≡ (forest_of t).weight k
-      at (inl e) = ap (weight_at moved_label.base moved_label.label t.delta) e
-          ∙ (ap (λ (z : ℤ). z +ℤ weight_change (label_at moved_label.label b) t.delta)
-          (get_or-set_same t.base b x (pos 0) (rw tied.sizes.base b_low))
-          ∙ (ap (λ (z : Label). x +ℤ weight_change z t.delta) label_here ∙ (base_is ∙ ap (forest_of t).weight (sym e))))
-      at (inr ne) = ap (λ (z : ℤ). z +ℤ weight_change (label_at moved_label.label k) t.delta)
-          (get_or-set_other t.base b k x (pos 0) ne) ∙ ap (λ (z : Label). get_or t.base k (pos 0) +ℤ weight_change z
-          t.delta) (label_there k ne)
+  weight_same k = elim (cases_eq k b) [
+    | inl e ↦ rw (e, get_or-set_same t.base b x (pos 0) (rw tied.sizes.base b_low), label_here) base_is
+    | inr ne ↦ rw (get_or-set_other t.base b k x (pos 0) ne, label_there k ne)
+  ]
 
   pub seen_label : forest_of moved_label ≡ labelled (forest_of t) (out_of t.hand t.top v) l
   unfolding b
-  seen_label i = record {
-    size = (forest_of t).size;
-    holds = (forest_of t).holds;
-    out = (forest_of t).out;
+  seen_label i = record (forest_of t) {
     weight = λ k. weight_same k i;
     label = entry_set t.label (out_of t.hand t.top v) l Outside (rw tied.sizes.label b_low) i;
-    mate = (forest_of t).mate;
-    link = (forest_of t).link;
-    nest = (forest_of t).nest;
   }
 
   added_same : (u : ℕ) → u < length t.hand → added t.hand t.top (set hid.off h y) moved_label.label t.delta u
       ≡ added t.hand t.top hid.off t.label t.delta u
   unfolding b h
-  added_same u lu = at (cases_eq (get_or t.hand u 0) h)
-    where
-      h_low : h < length hid.off
-      h_low = rw tied.sizes.off (tied.nest.hands v low)
-
-      at : (get_or t.hand u 0 ≡ h) ⊎ (get_or t.hand u 0 ≢ h) → added t.hand t.top (set hid.off h y) moved_label.label
-          t.delta u ≡ added t.hand t.top hid.off t.label t.delta u
-      at (inl e) =
-          let out_is : out_of t.hand t.top u ≡ b = ap (λ k. get_or t.top k 0) e in
-          ap (λ k. get_or (set hid.off h y) k (pos 0) +ℤ weight_change (label_at moved_label.label
-          (out_of t.hand t.top u)) t.delta) e ∙ (ap (λ (z : ℤ). z +ℤ weight_change
-          (label_at moved_label.label (out_of t.hand t.top u)) t.delta) (get_or-set_same hid.off h y (pos 0) h_low)
-          ∙ (ap (λ k. y +ℤ weight_change (label_at moved_label.label k) t.delta) out_is
-          ∙ (ap (λ (z : Label). y +ℤ weight_change z t.delta) label_here
-          ∙ (off_is ∙ (ap (λ k. get_or hid.off k (pos 0) +ℤ weight_change (label_at t.label b) t.delta) (sym e)
-          ∙ ap (λ k. get_or hid.off (get_or t.hand u 0) (pos 0) +ℤ weight_change (label_at t.label k) t.delta)
-          (sym out_is))))))
-      at (inr ne) = ap (λ (z : ℤ). z +ℤ weight_change (label_at moved_label.label (out_of t.hand t.top u)) t.delta)
-          (get_or-set_other hid.off h (get_or t.hand u 0) y (pos 0) ne)
-          ∙ ap (λ (z : Label). get_or hid.off (get_or t.hand u 0) (pos 0) +ℤ weight_change z t.delta)
-          (label_there (out_of t.hand t.top u) (λ e. ne (one_hand tied u v lu low e)))
+  added_same u lu = elim (cases_eq (get_or t.hand u 0) h) [
+    | inl e ↦ rw (e, get_or-set_same hid.off h y (pos 0) (rw tied.sizes.off (tied.nest.hands v low)), label_here) off_is
+    | inr ne ↦ rw (
+      get_or-set_other hid.off h (get_or t.hand u 0) y (pos 0) ne,
+      label_there (out_of t.hand t.top u) (λ e. ne (one_hand tied u v lu low e)),
+    )
+  ]
 
   potential_same : (u : ℕ) → potential (forest_of moved_label) u ≡ potential (forest_of t) u
   potential_same u = total_below_same (λ k. cond ((forest_of t).holds k u) ((forest_of moved_label).weight k) (pos 0))

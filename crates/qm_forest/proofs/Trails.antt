@@ -54,8 +54,7 @@ module _ {t : ForestTables} {hid : HiddenTables} (tied : AreTied t hid) (v : ℕ
       low = λ k l. low_at k l (cases_lt k (length t.trail));
       counted = omega (
         arith,
-        ap length trail_is
-            ∙ length_push t.trail v,
+        ap length trail_is ∙ length_push t.trail v,
         tied.trail.counted,
         marks_more hid.touched v v_low off,
       );

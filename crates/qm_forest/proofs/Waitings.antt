@@ -5,6 +5,7 @@ use Rattle.std.proofs.Common.{length-set, get_or-set_same, get_or-set_other}
 use Rattle.std.proofs.Math.ListN.{set}
 use Rattle.std.proofs.lemmas.Bool.{cases_eq, cases_lt, cond-false, cond-true, le-ltb, lt-ltb, ne_eqb}
 use Rattle.std.proofs.lemmas.Bool.Decides.{nat_tests}
+use Rattle.std.proofs.lemmas.Option.{none-some}
 use Rattle.std.proofs.lemmas.List.{get_or_read, get_or_past}
 use Rattle.std.proofs.lemmas.List.Elements.{All-push, Contains-push, Contains-append_left}
 use Rattle.std.proofs.lemmas.List.Sums.{sum_by-cons}
@@ -19,13 +20,22 @@ use Rattle.qm_forest.specs.Rounds.{AreInOrder, HasSets, IsEntry, IsRound, IsSize
 use Rattle.qm_forest.specs.Rounds.{waits_for}
 use Rattle.qm_forest.proofs.Pairings.{count_more}
 
+-- Others that wait where one does not any more did before.
+pub taken_entries : (left : List (Option ℕ)) (c b w : ℕ) → c < length left → get_or (set left c None) b None ≡ Some w
+    → (get_or left b None ≡ Some w) × (b ≢ c)
+taken_entries left c b w low is = elim (cases_eq b c) [
+  | inl e ↦ absurd (none-some w (sym (get_or-set_same left c None None low)
+      ∙ (ap (λ j. get_or (set left c None) j None) (sym e) ∙ is)))
+  | inr ne ↦ (sym (get_or-set_other left c b None None ne) ∙ is, ne)
+]
+
 -- A set does not wait any more: what waited in it is the rest.
 pub taken : {t : ForestTables} {marks : List Bool} {left : List (Option ℕ)} {rest due : ℕ → ℕ} (c v : ℕ)
     → c < length left → get_or left c None ≡ Some v → IsRound t marks left rest due
     → IsRound t marks (set left c None) (λ b. waits_but t b c v + rest b) due
 taken {t} {left} c v low here round = record {
   each = λ b l. omega (arith, round.each b l, less b);
-  entry = λ k w is. by_place k w is (cases_eq k c);
+  entry = λ k w is. round.entry k w (taken_entries left c k w low is).0;
   once = round.once;
   tight = round.tight;
 }
@@ -37,20 +47,6 @@ taken {t} {left} c v low here round = record {
         (sym (get_or-set_other left c k None None ne))) ∙ (ap (λ m. m + waits_for t b c (get_or left c None))
         (ap (count_below (λ k. waits_for t b k (get_or (set left c None) k None))) (sym (length-set left c None)))
         ∙ ap (λ (o : Option ℕ). waiting t (set left c None) b + waits_for t b c o) here)
-
-    by_place : (k w : ℕ) → get_or (set left c None) k None ≡ Some w → (k ≡ c) ⊎ (k ≢ c) → IsEntry t k w
-    by_place k w is (inl e) = (let clash : ◌≡◌ {A = Option ℕ} None (Some w) = sym (get_or-set_same left c None None low)
-        ∙ (ap (λ j. get_or (set left c None) j None) (sym e) ∙ is) in absurd (cc clash))
-    by_place k w is (inr ne) = round.entry k w (sym (get_or-set_other left c k None None ne) ∙ is)
-
--- Others that wait did before.
-pub taken_entries : (left : List (Option ℕ)) (c b w : ℕ) → c < length left → get_or (set left c None) b None ≡ Some w
-    → (get_or left b None ≡ Some w) × (b ≢ c)
-taken_entries left c b w low is = elim (cases_eq b c) [
-  | inl e ↦ (let clash : ◌≡◌ {A = Option ℕ} None (Some w) = sym (get_or-set_same left c None None low)
-      ∙ (ap (λ j. get_or (set left c None) j None) (sym e) ∙ is) in absurd (cc clash))
-  | inr ne ↦ (sym (get_or-set_other left c b None None ne) ∙ is, ne)
-]
 
 -- Pairs that are sorted have first parts that do not fall.
 pub firsts_rise : (xs : List (ℕ × ℕ)) → IsSorted (λ (x y : ℕ × ℕ). ordering_then (nat_cmp x.0 y.0) (nat_cmp x.1 y.1)) xs
@@ -121,8 +117,7 @@ wait_before {t} {sets} left left2 k {c} order low at within entries lawful b w i
 pub entry_low : (left : List (Option ℕ)) (c v : ℕ) → get_or left c None ≡ Some v → c < length left
 entry_low left c v is = elim (cases_lt c (length left)) [
   | inl l ↦ l
-  | inr h ↦ (let clash : ◌≡◌ {A = Option ℕ} None (Some v) = sym (get_or_past left c None h) ∙ is in
-      absurd (cc clash))
+  | inr h ↦ absurd (none-some v (sym (get_or_past left c None h) ∙ is))
 ]
 
 pub wait_begins : {t : ForestTables} {sets : List (ℕ × ℕ)} (left : List (Option ℕ)) (many : ℕ) → AreInOrder t sets
