@@ -2,8 +2,8 @@
 use Rattle.std.proofs.Common.{◌≡◌, ◌≢◌, ℕ, ◌+◌, ◌*◌, ◌<◌, ◌≤◌, Bool, true, false, not, cond, eqb, List, [], ◌∷◌, map}
 use Rattle.std.proofs.lemmas.Int.{ints}
 use Rattle.std.proofs.lemmas.Bool.{cases_eq, cases_lt, eq-eqb, ne_eqb, eqb-true}
-use Rattle.std.proofs.Common.{length, ℤ, pos, ◌+ℤ◌, ◌*ℤ◌, ◌≤ℤ◌, ◌⊎◌, refl, sym, ◌∙◌, ap, subst, inl, inr, arith}
-use Rattle.def_math.specs.{Counts.count, Increasing.IsIncreasing, Sums.total, Sums.total_below}
+use Rattle.std.proofs.Common.{length, ℤ, pos, ◌+ℤ◌, ◌*ℤ◌, ◌≤ℤ◌, refl, sym, ◌∙◌, ap, subst, inl, inr, arith}
+use Rattle.def_math.specs.{Counts.count, Increasing.IsIncreasing, Sums.total}
 use Rattle.sum_laws.proofs.Sums.{total_below_le, two_orders}
 use Rattle.def_matching.specs.Matching.{WeightedGraph, IsGraph, edge_at, ends_at}
 use Rattle.def_matching.specs.{Matching.IsPerfect, Matching.matching_cost, Dual.crosses, declared.weighted.WEdge.WEdge}
@@ -71,11 +71,7 @@ module _ {g : WeightedGraph} (is : IsGraph g) {f : Forest} (vertices : g.n ≤ f
       ≡ count (ends_at v) (map (edge_at g) m)
   counts_vertex v low [] lv increasing = refl
   counts_vertex v low (k ∷ ks) lv increasing =
-      let here : ◌≡◌ {A = ℕ} (cond (crosses (f.holds v) (edge_at g k)) 1 0) (ends_at v (edge_at g k)) =
-      leaves_vertex v k lv increasing.1 in
-      let rest : count (λ (e : WEdge). cond (crosses (f.holds v) e) 1 0) (map (edge_at g) ks)
-      ≡ count (ends_at v) (map (edge_at g) ks) = counts_vertex v (k + 1) ks lv increasing.2 in
-      omega (arith, here, rest)
+      omega (arith, leaves_vertex v k lv increasing.1, counts_vertex v (k + 1) ks lv increasing.2)
 
   module _ (feasible : IsFeasible (darts_of g) f) where
     edge_low : (k : ℕ) → k < length g.edges
@@ -94,11 +90,13 @@ module _ {g : WeightedGraph} (is : IsGraph g) {f : Forest} (vertices : g.n ≤ f
     -- Twice the cost of a perfect matching is at least the sum.
     pub sum_bounds : {m : List ℕ} → IsPerfect g m → dual_sum_of f ≤ℤ (pos 2 *ℤ matching_cost g m)
     sum_bounds {m} perfect =
-        let swap : total (λ (e : WEdge). total_below (λ b. adds b e) f.size) es
-        ≡ total_below (λ b. total (adds b) es) f.size = two_orders adds f.size es in
-        let each : total_below f.weight f.size ≤ℤ total_below (λ b. total (adds b) es) f.size =
-        total_below_le f.weight (λ b. total (adds b) es) f.size (λ b l. at_blossom b l (cases_lt b g.n)) in
-        omega (arith, ints, loads_low 0 m perfect.increasing, swap, each)
+        omega (
+          arith,
+          ints,
+          loads_low 0 m perfect.increasing,
+          two_orders adds f.size es,
+          total_below_le f.weight (λ b. total (adds b) es) f.size at_blossom,
+        )
       where
         es : List WEdge
         es = map (edge_at g) m
@@ -128,12 +126,12 @@ module _ {g : WeightedGraph} (is : IsGraph g) {f : Forest} (vertices : g.n ≤ f
             by_test true rest = omega (arith, ints)
             by_test false rest = omega (arith, ints)
 
-        by_parts : (b : ℕ) → g.n ≤ b → b < f.size → (f.nest.parts b ≡ 0) ⊎ (f.nest.parts b ≢ 0)
+        at_blossom : (b : ℕ) → b < f.size
             → f.weight b ≤ℤ total (λ (e : WEdge). cond (crosses (f.holds b) e) (f.weight b) (pos 0)) (map (edge_at g) m)
-        by_parts b high l (inl none) = unused b high (nested.weightless b high none) (map (edge_at g) m)
-        by_parts b high l (inr live) = used b high l live
-
-        at_blossom : (b : ℕ) → b < f.size → (b < g.n) ⊎ (g.n ≤ b)
-            → f.weight b ≤ℤ total (λ (e : WEdge). cond (crosses (f.holds b) e) (f.weight b) (pos 0)) (map (edge_at g) m)
-        at_blossom b l (inl low) = omega (arith, ints, exact b low)
-        at_blossom b l (inr high) = by_parts b high l (cases_eq (f.nest.parts b) 0)
+        at_blossom b l = elim (cases_lt b g.n) [
+          | inl low ↦ omega (arith, ints, exact b low)
+          | inr high ↦ elim (cases_eq (f.nest.parts b) 0) [
+            | inl none ↦ unused b high (nested.weightless b high none) (map (edge_at g) m)
+            | inr live ↦ used b high l live
+          ]
+        ]

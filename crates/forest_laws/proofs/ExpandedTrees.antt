@@ -6,14 +6,15 @@ use Rattle.std.proofs.lemmas.Bool.{cases_eq, cases_lt, cond-true, cond-false, eq
 use Rattle.def_math.specs.Searches.{least}
 use Rattle.qm_dual.proofs.Searches.{least_some}
 use Rattle.def_forest.specs.{Darts.Darts, Darts.far, Forests.Forest, Forests.IsTight, Forests.IsOutermost}
-use Rattle.def_forest.specs.{Opened.Opening, Opened.StaysAt, Valid.IsMate, Valid.IsMatched, Valid.IsTree, Valid.IsInner}
+use Rattle.def_forest.specs.{Opened.Opening, Valid.IsMate, Valid.IsMatched, Valid.IsTree, Valid.IsInner}
 use Rattle.def_forest.specs.{Valid.IsOuter, Valid.IsValid, Valid.KeepsOutside, declared.kinds.Label.TheVariants.Outer}
 use Rattle.def_forest.specs.declared.kinds.Label.TheVariants.{Inner, Outside}
 use Rattle.def_forest.specs.Ways.{dart_or}
 use Rattle.forest_laws.proofs.{Writes.some_is, Facts.far_low, Facts.far_twin, Facts.tight_twin, WayLaws.some_none}
 use Rattle.forest_laws.proofs.Expands.{Expansion, Place, place, halves, b_named}
 use Rattle.forest_laws.proofs.Expands.{out_not_part, out_in, out_old, other_not_b}
-use Rattle.forest_laws.proofs.Expands.{same_tight, new_outermost, new_nested, new_feasible}
+use Rattle.forest_laws.proofs.Expands.{changes, same_tight, new_outermost, new_nested}
+use Rattle.forest_laws.proofs.Beside.{same_feasible}
 
 module _ {g : Darts} {f : Forest} {r : ℕ} {new : Forest} {o : Opening} (opened : Expansion g f r new o) where
   open opened use {are, valid, tree, opening, is}
@@ -385,7 +386,7 @@ module _ {g : Darts} {f : Forest} {r : ℕ} {new : Forest} {o : Opening} (opened
   opened_valid = record {
     outermost = new_outermost opened;
     nested = new_nested opened;
-    feasible = new_feasible opened;
+    feasible = same_feasible are (changes opened) valid.feasible;
     matched = new_matched;
     tree = λ x e. subst (λ y. IsTree g new y) (some_is r x e) new_tree;
     no_tree = λ e. absurd (none e);

@@ -2,7 +2,7 @@
 use Rattle.std.proofs.Common.{◌≡◌, ◌≢◌, ℕ, zero, suc, ◌+◌, ◌-◌, ◌*◌, ◌<◌, ◌≤◌, Option, Some, None, ◌⊎◌, refl, sym, ◌∙◌}
 use Rattle.std.proofs.Common.{ap, subst, inl, inr, arith}
 use Rattle.def_forest.specs.{Darts.Darts, Darts.AreDarts, Darts.far, Forests.Forest, Forests.IsTight, Valid.IsValid}
-use Rattle.def_forest.specs.{Valid.IsTree, Valid.IsInner, Valid.IsOuter, Valid.IsMate, Ways.dart_or, Ways.inner_of}
+use Rattle.def_forest.specs.{Valid.IsTree, Valid.IsOuter, Ways.dart_or, Ways.inner_of}
 use Rattle.def_forest.specs.{Ways.parent_of, Ways.steps_by, Ways.steps, declared.kinds.Label.Label}
 use Rattle.def_forest.specs.declared.kinds.Label.TheVariants.{Outer, Inner}
 use Rattle.def_forest.specs.declared.kinds.Label.TheVariants.{Outside}
@@ -59,33 +59,34 @@ module _ {g : Darts} (are : AreDarts g) {f : Forest} {r : ℕ} (valid : IsValid 
 
   step_outer : (b d : ℕ) → f.label b ≡ Outer → f.mate b ≡ Some d → IsStep b d
   step_outer b d outer mate =
-      let up : above b ≡ inner_of g f b = above_is b d (outer_rise b outer ∙ mate)
-      ∙ sym (inner_is are valid tree b d outer mate) in
-      let label : f.label (inner_of g f b) ≡ Inner = inner_label are valid tree b d outer mate in
-      let pair : IsMate g f b d = valid.matched b d mate in
+      let up : above b ≡ inner_of g f b =
+      above_is b d (outer_rise b outer ∙ mate) ∙ sym (inner_is are valid tree b d outer mate) in
+      let label = inner_label are valid tree b d outer mate in
+      let pair = valid.matched b d mate in
       let back : inner_of g f (inner_of g f b) ≡ b = ap (λ o. f.out (far g (dart_or o)))
-      (inner_back are valid tree b d outer mate) ∙ (ap f.out (far_twin are d) ∙ pair.here) in
-      let one : steps g f (f.size + 1) b ≡ suc (steps g f (f.size + 1) (parent_of g f b)) =
-      fewer_steps are valid tree b d outer mate in
-      let higher : level (inner_of g f b) ≡ 2 * steps g f (f.size + 1) b - 1 = inner_level (inner_of g f b) label
-      ∙ ap (λ x. 2 * steps g f (f.size + 1) x - 1) back in
-      let up_level : level (above b) ≡ level (inner_of g f b) = ap level up in
-      let deep : tree.depth (above b) ≡ tree.depth b = ap tree.depth up ∙ inner_depth are valid tree b d outer mate in
+      (inner_back are valid tree b d outer mate) ∙ ap f.out (far_twin are d) ∙ pair.here in
       record {
         tight = pair.tight;
         here = pair.here;
         there = sym (above_is b d (outer_rise b outer ∙ mate));
         named = inner_named (ap f.label up ∙ label);
-        lower = omega (arith, outer_level b outer, one, higher, up_level);
-        depth = omega (arith, deep);
+        lower = omega (
+          arith,
+          outer_level b outer,
+          fewer_steps are valid tree b d outer mate,
+          inner_level (inner_of g f b) label,
+          ap (λ x. 2 * steps g f (f.size + 1) x - 1) back,
+          ap level up,
+        );
+        depth = omega (arith, ap tree.depth up, inner_depth are valid tree b d outer mate);
       }
 
   -- The child of an inner blossom.
   child_of : (b : ℕ) → f.label b ≡ Inner → (d : ℕ) × (f.label (inner_of g f b) ≡ Outer)
       × (f.mate (inner_of g f b) ≡ Some d) × (f.out (far g d) ≡ b)
   child_of b label =
-      let is : IsInner g f tree.depth b = tree.inner b label in
-      let pair : IsMate g f b is.dart = valid.matched b is.dart is.mate in
+      let is = tree.inner b label in
+      let pair = valid.matched b is.dart is.mate in
       let same : inner_of g f b ≡ f.out (far g is.dart) = ap (λ o. f.out (far g (dart_or o))) is.mate in (
         g.twin is.dart,
         ap f.label same ∙ is.child,
@@ -95,35 +96,33 @@ module _ {g : Darts} (are : AreDarts g) {f : Forest} {r : ℕ} (valid : IsValid 
 
   step_inner : (b : ℕ) → f.label b ≡ Inner → IsStep b (f.link b)
   step_inner b label =
-      let is : IsInner g f tree.depth b = tree.inner b label in
-      let c : (d : ℕ) × (f.label (inner_of g f b) ≡ Outer) × (f.mate (inner_of g f b) ≡ Some d)
-      × (f.out (far g d) ≡ b) = child_of b label in
+      let is = tree.inner b label in
+      let c = child_of b label in
       let up : above b ≡ f.out (far g (f.link b)) = above_is b (f.link b) (inner_rise b label) in
       let back : inner_of g f (inner_of g f b) ≡ b = ap (λ o. f.out (far g (dart_or o))) c.2 ∙ c.3 in
       let parent : parent_of g f (inner_of g f b) ≡ above b = ap (λ x. f.out (far g (f.link x))) back ∙ sym up in
-      let one : steps g f (f.size + 1) (inner_of g f b) ≡ suc (steps g f (f.size + 1) (parent_of g f (inner_of g f b)))
-      = fewer_steps are valid tree (inner_of g f b) c.0 c.1 c.2 in
-      let same : steps g f (f.size + 1) (parent_of g f (inner_of g f b)) ≡ steps g f (f.size + 1) (above b) =
-      ap (steps g f (f.size + 1)) parent in
       let outer : f.label (above b) ≡ Outer = ap f.label up ∙ is.above in
-      let deep : tree.depth (above b) ≡ tree.depth (f.out (far g (f.link b))) = ap tree.depth up in
       record {
         tight = is.tight;
         here = is.here;
         there = sym up;
         named = outer_named outer;
-        lower = omega (arith, inner_level b label, one, same, outer_level (above b) outer);
-        depth = omega (arith, deep, is.nearer);
+        lower = omega (
+          arith,
+          inner_level b label,
+          fewer_steps are valid tree (inner_of g f b) c.0 c.1 c.2,
+          ap (steps g f (f.size + 1)) parent,
+          outer_level (above b) outer,
+        );
+        depth = omega (arith, ap tree.depth up, is.nearer);
       }
 
   -- A step up from a blossom of the tree.
   pub step_up : (b d : ℕ) → f.label b ≢ Outside → rise_of f b ≡ Some d → IsStep b d
-  step_up b d named rise = by_label (tree_cases (f.label b) named)
-    where
-      by_label : (f.label b ≡ Outer) ⊎ (f.label b ≡ Inner) → IsStep b d
-      by_label (inl outer) = step_outer b d outer (sym (outer_rise b outer) ∙ rise)
-      by_label (inr inner) = subst (λ x. IsStep b x) (some_is (f.link b) d (sym (inner_rise b inner) ∙ rise))
-          (step_inner b inner)
+  step_up b d named rise = elim (tree_cases (f.label b) named) [
+    | inl outer ↦ step_outer b d outer (sym (outer_rise b outer) ∙ rise)
+    | inr inner ↦ rw (some_is d (f.link b) (sym rise ∙ inner_rise b inner)) (step_inner b inner)
+  ]
 
   -- Where there is none one is at the root.
   pub at_root : (b : ℕ) → f.label b ≢ Outside → rise_of f b ≡ None → (b ≡ r) × (level b ≡ 0)
@@ -143,18 +142,16 @@ module _ {g : Darts} (are : AreDarts g) {f : Forest} {r : ℕ} (valid : IsValid 
       by_label (inr inner) = absurd (some_none (rise_of f b) (f.link b) (inner_rise b inner) rise)
 
   pub level_zero : (b : ℕ) → f.label b ≢ Outside → level b ≡ 0 → b ≡ r
-  level_zero b named e = by_rise (option_cases (rise_of f b))
-    where
-      by_rise : (rise_of f b ≡ None) ⊎ ((d : ℕ) × (rise_of f b ≡ Some d)) → b ≡ r
-      by_rise (inl off) = (at_root b named off).0
-      by_rise (inr w) = absurd (omega (arith, e, (step_up b w.0 named w.1).lower))
+  level_zero b named e = elim (option_cases (rise_of f b)) [
+    | inl off ↦ (at_root b named off).0
+    | inr w ↦ absurd (omega (arith, e, (step_up b w.0 named w.1).lower))
+  ]
 
   pub level_some : (b : ℕ) → f.label b ≢ Outside → 1 ≤ level b → (d : ℕ) × (rise_of f b ≡ Some d)
-  level_some b named some = by_rise (option_cases (rise_of f b))
-    where
-      by_rise : (rise_of f b ≡ None) ⊎ ((d : ℕ) × (rise_of f b ≡ Some d)) → (d : ℕ) × (rise_of f b ≡ Some d)
-      by_rise (inl off) = absurd (omega (arith, some, (at_root b named off).1))
-      by_rise (inr w) = w
+  level_some b named some = elim (option_cases (rise_of f b)) [
+    | inl off ↦ absurd (omega (arith, some, (at_root b named off).1))
+    | inr w ↦ w
+  ]
 
   pub root_level : level r ≡ 0
   root_level = (at_root r (outer_named tree.root_outer) (outer_rise r tree.root_outer ∙ tree.root_free)).1
@@ -164,16 +161,16 @@ module _ {g : Darts} (are : AreDarts g) {f : Forest} {r : ℕ} (valid : IsValid 
       × (level (way a m) + m ≡ level a)
   on_way a zero named l = (named, omega arith)
   on_way a (suc m) named l =
-      let was : (f.label (way a m) ≢ Outside) × (level (way a m) + m ≡ level a) = on_way a m named (omega (arith, l)) in
-      let d : (d : ℕ) × (rise_of f (way a m) ≡ Some d) = level_some (way a m) was.0 (omega (arith, was.1, l)) in
-      let step : IsStep (way a m) d.0 = step_up (way a m) d.0 was.0 d.1 in
+      let was = on_way a m named (omega (arith, l)) in
+      let d = level_some (way a m) was.0 (omega (arith, was.1, l)) in
+      let step = step_up (way a m) d.0 was.0 d.1 in
       (step.named, omega (arith, was.1, step.lower))
 
   -- The step up from a place on a way.
   pub way_step : (a m : ℕ) → f.label a ≢ Outside → m < level a → IsStep (way a m) (dart_or (rise_of f (way a m)))
   way_step a m named l =
-      let was : (f.label (way a m) ≢ Outside) × (level (way a m) + m ≡ level a) = on_way a m named (omega (arith, l)) in
-      let d : (d : ℕ) × (rise_of f (way a m) ≡ Some d) = level_some (way a m) was.0 (omega (arith, was.1, l)) in
+      let was = on_way a m named (omega (arith, l)) in
+      let d = level_some (way a m) was.0 (omega (arith, was.1, l)) in
       subst (λ x. IsStep (way a m) x) (sym (ap dart_or d.1)) (step_up (way a m) d.0 was.0 d.1)
 
   -- A way leads to no deeper blossoms.
@@ -183,9 +180,7 @@ module _ {g : Darts} (are : AreDarts g) {f : Forest} {r : ℕ} (valid : IsValid 
 
   -- Two places of one way differ.
   pub way_differs : (a i j : ℕ) → f.label a ≢ Outside → i ≤ level a → j ≤ level a → way a i ≡ way a j → i ≡ j
-  way_differs a i j named li lj e =
-      let s : level (way a i) ≡ level (way a j) = ap level e in
-      omega (arith, s, (on_way a i named li).1, (on_way a j named lj).1)
+  way_differs a i j named li lj e = omega (arith, ap level e, (on_way a i named li).1, (on_way a j named lj).1)
 
   -- What one comes to from an inner blossom is outer, and an inner blossom is come to from what it is matched to.
   pub above_inner : (b : ℕ) → f.label b ≡ Inner → f.label (above b) ≡ Outer
@@ -193,17 +188,13 @@ module _ {g : Darts} (are : AreDarts g) {f : Forest} {r : ℕ} (valid : IsValid 
 
   pub come_from : (b e : ℕ) → f.label b ≢ Outside → 1 ≤ level b → f.label (above b) ≡ Inner → f.mate (above b) ≡ Some e
       → f.out (far g e) ≡ b
-  come_from b e named some inner mate = by_label (tree_cases (f.label b) named)
-    where
-      by_label : (f.label b ≡ Outer) ⊎ (f.label b ≡ Inner) → f.out (far g e) ≡ b
-      by_label (inr low) = let h : ◌≡◌ {A = Label} Outer Inner = sym (above_inner b low) ∙ inner in absurd (cc h)
-      by_label (inl outer) =
-          let d : (d : ℕ) × (rise_of f b ≡ Some d) = level_some b named some in
-          let was : f.mate b ≡ Some d.0 = sym (outer_rise b outer) ∙ d.1 in
-          let pair : IsMate g f b d.0 = valid.matched b d.0 was in
-          let back : f.mate (above b) ≡ Some (g.twin d.0) = ap f.mate (above_is b d.0 d.1) ∙ pair.back in
-          ap (λ x. f.out (far g x)) (some_is e (g.twin d.0) (sym mate ∙ back))
-          ∙ (ap f.out (far_twin are d.0) ∙ pair.here)
+  come_from b e named some inner mate = elim (tree_cases (f.label b) named) [
+    | inr low ↦ (let h : ◌≡◌ {A = Label} Outer Inner = sym (above_inner b low) ∙ inner in absurd (cc h))
+    | inl outer ↦ (let d = level_some b named some in
+        let pair = valid.matched b d.0 (sym (outer_rise b outer) ∙ d.1) in
+        let back = ap f.mate (above_is b d.0 d.1) ∙ pair.back in
+        ap (λ x. f.out (far g x)) (some_is e (g.twin d.0) (sym mate ∙ back)) ∙ ap f.out (far_twin are d.0) ∙ pair.here)
+  ]
 
   -- Levels of outer blossoms are even.
   pub outer_even : (b : ℕ) → f.label b ≡ Outer → (k : ℕ) × (level b ≡ 2 * k)

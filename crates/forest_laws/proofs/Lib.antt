@@ -10,7 +10,7 @@ pub mod Loads
 pub mod Odds
 pub mod Parities
 pub mod Rises
-mod SameLoads
+pub mod Beside
 pub mod Shifts
 pub mod Shrinks
 pub mod ShrunkTrees

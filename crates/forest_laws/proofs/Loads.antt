@@ -1,12 +1,12 @@
 -- How a shift changes loads, and that a load across two outermost blossoms is a sum of two potentials.
-use Rattle.std.proofs.Common.{◌≡◌, ◌≢◌, ℕ, ◌<◌, Bool, not, cond, eqb, ℤ, pos, ◌+ℤ◌, ◌⊎◌, refl, sym, ◌∙◌, ap, subst, inl}
+use Rattle.std.proofs.Common.{◌≡◌, ◌≢◌, ℕ, ◌<◌, Bool, not, cond, eqb, ℤ, pos, ◌+ℤ◌, refl, sym, ◌∙◌, ap, subst, inl}
 use Rattle.std.proofs.Common.{inr, arith}
 use Rattle.std.proofs.lemmas.Int.{ints}
 use Rattle.std.proofs.lemmas.Bool.{cond-true, cond-false, eq-eqb, ne_eqb, eqb-true}
 use Rattle.def_math.specs.Sums.{total_below}
 use Rattle.sum_laws.proofs.Sums.{total_below_same, total_below_sum, total_below_none, total_below_one}
 use Rattle.def_forest.specs.Forests.{Forest, weight_between, splits, IsOutermost}
-use Rattle.def_forest.specs.{Steps.weight_change, Steps.shifted, Valid.AreOutermost, declared.kinds.Label.Label}
+use Rattle.def_forest.specs.{Steps.weight_change, Steps.shifted, Valid.AreOutermost}
 use Rattle.def_forest.specs.declared.kinds.Label.TheVariants.{Outside}
 use Rattle.forest_laws.proofs.Writes.{label_cases, by_two, by_same, by_none, by_sum, by_order}
 
@@ -53,50 +53,44 @@ module _ {n : ℕ} {f : Forest} (top : AreOutermost n f) where
       ∙ ap (λ (s : Bool). cond (cond (eqb (f.out u) b) (not s) s) (weight_change (f.label b) t) (pos 0))
       (named_holds b v lv named)
 
-  still : (t : ℤ) (b : ℕ) → f.label b ≡ Outside → weight_change (f.label b) t ≡ pos 0
-  still t b off = ap (λ (l : Label). weight_change l t) off
-
   moved_apart : (t : ℤ) (u v : ℕ) → u < n → v < n → f.out u ≢ f.out v → (b : ℕ)
       → moved t u v b ≡ at_end t u b +ℤ at_end t v b
-  moved_apart t u v lu lv ne b = by_label (label_cases (f.label b))
-    where
-      by_label : (f.label b ≡ Outside) ⊎ (f.label b ≢ Outside) → moved t u v b ≡ at_end t u b +ℤ at_end t v b
-      by_label (inl off) = subst (λ (x : ℤ). cond (splits (f.holds b) u v) x (pos 0)
-          ≡ cond (eqb (f.out u) b) x (pos 0) +ℤ cond (eqb (f.out v) b) x (pos 0)) (sym (still t b off))
-          (omega (arith, ints, by_none (splits (f.holds b) u v), by_none (eqb (f.out u) b), by_none (eqb (f.out v) b)))
-      by_label (inr named) = tested t u v b lu lv named ∙ by_two (eqb (f.out u) b) (eqb (f.out v) b)
-          (weight_change (f.label b) t) (λ p q. ne (eqb-true (f.out u) b p ∙ sym (eqb-true (f.out v) b q)))
+  moved_apart t u v lu lv ne b = elim (label_cases (f.label b)) [
+    | inl off ↦ rw off (omega (
+      arith,
+      ints,
+      by_none (splits (f.holds b) u v),
+      by_none (eqb (f.out u) b),
+      by_none (eqb (f.out v) b),
+    ))
+    | inr named ↦ tested t u v b lu lv named ∙ by_two (eqb (f.out u) b) (eqb (f.out v) b) (weight_change (f.label b) t)
+        (λ p q. ne (eqb-true (f.out u) b p ∙ sym (eqb-true (f.out v) b q)))
+  ]
 
   moved_within : (t : ℤ) (u v : ℕ) → u < n → v < n → f.out u ≡ f.out v → (b : ℕ) → moved t u v b ≡ pos 0
-  moved_within t u v lu lv same b = by_label (label_cases (f.label b))
-    where
-      by_label : (f.label b ≡ Outside) ⊎ (f.label b ≢ Outside) → moved t u v b ≡ pos 0
-      by_label (inl off) = subst (λ (x : ℤ). cond (splits (f.holds b) u v) x (pos 0) ≡ pos 0) (sym (still t b off))
-          (by_none (splits (f.holds b) u v))
-      by_label (inr named) = tested t u v b lu lv named ∙ by_same (eqb (f.out u) b) (eqb (f.out v) b)
-          (weight_change (f.label b) t) (ap (λ x. eqb x b) same)
+  moved_within t u v lu lv same b = elim (label_cases (f.label b)) [
+    | inl off ↦ rw off (by_none (splits (f.holds b) u v))
+    | inr named ↦ tested t u v b lu lv named ∙ by_same (eqb (f.out u) b) (eqb (f.out v) b) (weight_change (f.label b) t)
+        (ap (λ x. eqb x b) same)
+  ]
 
   ends_sum : (t : ℤ) (u : ℕ) → u < n → total_below (at_end t u) f.size ≡ weight_change (f.label (f.out u)) t
   ends_sum t u lu = total_below_one (at_end t u) f.size (f.out u) (top.out_low u lu)
-      (λ k l ne. cond-false (eqb (f.out u) k) (weight_change (f.label k) t) (pos 0)
-      (ne_eqb (f.out u) k (λ e. ne (sym e)))) ∙ cond-true (eqb (f.out u) (f.out u))
-      (weight_change (f.label (f.out u)) t) (pos 0) (eq-eqb (f.out u) (f.out u) refl)
+      (λ k l ne. cond-false _ _ _ (ne_eqb (f.out u) k (λ e. ne (sym e))))
+      ∙ cond-true _ _ _ (eq-eqb (f.out u) (f.out u) refl)
 
   -- A shift changes the load across two outermost blossoms by what it changes of both.
   pub load_apart : (t : ℤ) (u v : ℕ) → u < n → v < n → f.out u ≢ f.out v → weight_between (shifted f t) u v
       ≡ weight_between f u v +ℤ (weight_change (f.label (f.out u)) t +ℤ weight_change (f.label (f.out v)) t)
-  load_apart t u v lu lv ne =
-      let parted : total_below (moved t u v) f.size ≡ total_below (λ b. at_end t u b +ℤ at_end t v b) f.size =
-      total_below_same (moved t u v) (λ b. at_end t u b +ℤ at_end t v b) f.size (λ b l. moved_apart t u v lu lv ne b) in
-      omega (
-        arith,
-        ints,
-        load_sum f (λ b. weight_change (f.label b) t) u v,
-        parted,
-        total_below_sum (at_end t u) (at_end t v) f.size,
-        ends_sum t u lu,
-        ends_sum t v lv,
-      )
+  load_apart t u v lu lv ne = omega (
+    arith,
+    ints,
+    load_sum f (λ b. weight_change (f.label b) t) u v,
+    total_below_same (moved t u v) (λ b. at_end t u b +ℤ at_end t v b) f.size (λ b l. moved_apart t u v lu lv ne b),
+    total_below_sum (at_end t u) (at_end t v) f.size,
+    ends_sum t u lu,
+    ends_sum t v lv,
+  )
 
   -- A shift changes no load inside an outermost blossom.
   pub load_within : (t : ℤ) (u v : ℕ) → u < n → v < n → f.out u ≡ f.out v → weight_between (shifted f t) u v
@@ -120,27 +114,24 @@ module _ {n : ℕ} {f : Forest} (top : AreOutermost n f) where
   -- A shift changes the potential of a vertex as it changes the weight of its outermost blossom.
   pub potential_shifted : (t : ℤ) (v : ℕ) → v < n → potential (shifted f t) v
       ≡ potential f v +ℤ weight_change (f.label (f.out v)) t
-  potential_shifted t v l =
-      let split : potential (shifted f t) v ≡ total_below (λ b. cond (f.holds b v) (f.weight b) (pos 0) +ℤ cond
-      (f.holds b v) (weight_change (f.label b) t) (pos 0)) f.size = total_below_same
-      (λ b. cond (f.holds b v) (f.weight b +ℤ weight_change (f.label b) t) (pos 0))
-      (λ b. cond (f.holds b v) (f.weight b) (pos 0) +ℤ cond (f.holds b v) (weight_change (f.label b) t) (pos 0)) f.size
-      (λ b lb. by_sum (f.holds b v) (f.weight b) (weight_change (f.label b) t)) in
-      let ends : total_below (λ b. cond (f.holds b v) (weight_change (f.label b) t) (pos 0)) f.size
-      ≡ total_below (at_end t v) f.size = total_below_same (λ b. cond (f.holds b v) (weight_change (f.label b) t)
-      (pos 0)) (at_end t v) f.size (λ b lb. by_label b (label_cases (f.label b))) in
-      omega (
-        arith,
-        ints,
-        split,
-        ends,
-        total_below_sum (λ b. cond (f.holds b v) (f.weight b) (pos 0))
-            (λ b. cond (f.holds b v) (weight_change (f.label b) t) (pos 0)) f.size,
-        ends_sum t v l,
-      )
+  potential_shifted t v l = omega (
+    arith,
+    ints,
+    total_below_same (λ b. cond (f.holds b v) (f.weight b +ℤ weight_change (f.label b) t) (pos 0))
+        (λ b. around b +ℤ change b) f.size (λ b lb. by_sum (f.holds b v) (f.weight b) (weight_change (f.label b) t)),
+    total_below_same change (at_end t v) f.size (λ b lb. at_one b),
+    total_below_sum around change f.size,
+    ends_sum t v l,
+  )
     where
-      by_label : (b : ℕ) → (f.label b ≡ Outside) ⊎ (f.label b ≢ Outside)
-          → cond (f.holds b v) (weight_change (f.label b) t) (pos 0) ≡ at_end t v b
-      by_label b (inl off) = subst (λ (x : ℤ). cond (f.holds b v) x (pos 0) ≡ cond (eqb (f.out v) b) x (pos 0))
-          (sym (still t b off)) (by_none (f.holds b v) ∙ sym (by_none (eqb (f.out v) b)))
-      by_label b (inr named) = ap (λ (s : Bool). cond s (weight_change (f.label b) t) (pos 0)) (named_holds b v l named)
+      around : ℕ → ℤ
+      around b = cond (f.holds b v) (f.weight b) (pos 0)
+
+      change : ℕ → ℤ
+      change b = cond (f.holds b v) (weight_change (f.label b) t) (pos 0)
+
+      at_one : (b : ℕ) → cond (f.holds b v) (weight_change (f.label b) t) (pos 0) ≡ at_end t v b
+      at_one b = elim (label_cases (f.label b)) [
+        | inl off ↦ rw off (by_none (f.holds b v) ∙ sym (by_none (eqb (f.out v) b)))
+        | inr named ↦ ap (λ (s : Bool). cond s (weight_change (f.label b) t) (pos 0)) (named_holds b v l named)
+      ]

@@ -12,18 +12,17 @@ pub counts_exchanged : (next : ℕ → ℕ) (f : ℕ → ℕ → ℕ) (front n k
     → count_below (λ w. ring_sum next (λ p. f p w) front k) n ≡ ring_sum next (λ p. count_below (f p) n) front k
 counts_exchanged next f front n zero = count_below_none (λ w. 0) n (λ j l. refl)
 counts_exchanged next f front n (suc k) =
-    let h : count_below (λ w. ring_sum next (λ p. f p w) front k) n ≡ ring_sum next (λ p. count_below (f p) n) front k =
-    counts_exchanged next f front n k in
-    omega (arith, h, count_below_sum (λ w. ring_sum next (λ p. f p w) front k) (f (walk next front k)) n)
+    omega (
+      arith,
+      counts_exchanged next f front n k,
+      count_below_sum (λ w. ring_sum next (λ p. f p w) front k) (f (walk next front k)) n,
+    )
 
 -- A sum of odd numbers is odd where there is an odd number of them.
 pub odd_sum : (next f : ℕ → ℕ) (front k : ℕ) → ((j : ℕ) → f (walk next front j) % 2 ≡ 1) → ring_sum next f front k % 2
     ≡ k % 2
 odd_sum next f front zero odd = refl
-odd_sum next f front (suc k) odd =
-    let h : ring_sum next f front k % 2 ≡ k % 2 = odd_sum next f front k odd in
-    let one : f (walk next front k) % 2 ≡ 1 = odd k in
-    omega (arith, h, one)
+odd_sum next f front (suc k) odd = omega (arith, odd_sum next f front k odd, odd k)
 
 -- A number that is in use is a vertex's or that of a ring.
 abbrev pub IsBlossom : (g : Darts) (f : Forest) (b : ℕ) → Type 0
@@ -37,27 +36,20 @@ module _ {g : Darts} (are : AreDarts g) {f : Forest} (nested : IsNested g f) whe
 
   -- A part is in use.
   pub part_used : {b : ℕ} → IsRing g f b → (k : ℕ) → IsBlossom g f (walk f.nest.after (f.nest.head b) k)
-  part_used {b} ring k = by_size (cases_lt p g.n)
+  part_used {b} ring k = elim (cases_lt p g.n) [
+    | inl l ↦ inl l
+    | inr h ↦ inr (
+      h,
+      λ none. true_false joint.begins (nested.empty p (g.near (f.nest.joint p)) h
+          (are.near_low (f.nest.joint p) joint.tight.low) none),
+    )
+  ]
     where
       p : ℕ
       p = walk f.nest.after (f.nest.head b) k
 
-      inner : f.nest.up p ≢ p
-      inner e = let h : f.nest.rank p < f.nest.rank b = ring.lower k in let same : f.nest.rank b ≡ f.nest.rank p =
-          ap f.nest.rank (sym (ring.inside k) ∙ e) in omega arith
-
       joint : IsJoint g f p
-      joint = nested.joints p inner
-
-      near_low : g.near (f.nest.joint p) < g.n
-      near_low = are.near_low (f.nest.joint p) joint.tight.low
-
-      by_size : (p < g.n) ⊎ (g.n ≤ p) → IsBlossom g f p
-      by_size (inl l) = inl l
-      by_size (inr h) = inr (
-        h,
-        λ none. true_false joint.begins (nested.empty p (g.near (f.nest.joint p)) h near_low none),
-      )
+      joint = nested.joints p (λ e. absurd (omega (arith, ring.lower k, ap f.nest.rank (sym (ring.inside k) ∙ e))))
 
   -- A set has the vertices of its parts.
   set_sum : {b : ℕ} → IsRing g f b → blossom_size g.n f b ≡ ring_sum f.nest.after (blossom_size g.n f) (f.nest.head b)
@@ -68,11 +60,12 @@ module _ {g : Darts} (are : AreDarts g) {f : Forest} (nested : IsNested g f) whe
 
   set_odd : {b : ℕ} → IsRing g f b → ((k : ℕ) → blossom_size g.n f (walk f.nest.after (f.nest.head b) k) % 2 ≡ 1)
       → blossom_size g.n f b % 2 ≡ 1
-  set_odd {b} ring odd =
-      let parity : ring_sum f.nest.after (blossom_size g.n f) (f.nest.head b) (f.nest.parts b) % 2
-      ≡ f.nest.parts b % 2 = odd_sum f.nest.after (blossom_size g.n f) (f.nest.head b) (f.nest.parts b) odd in
-      let whole : blossom_size g.n f b % 2 ≡ f.nest.parts b % 2 = ap (λ x. x % 2) (set_sum ring) ∙ parity in
-      omega (arith, whole, ring.odd)
+  set_odd {b} ring odd = omega (
+    arith,
+    set_sum ring,
+    odd_sum f.nest.after (blossom_size g.n f) (f.nest.head b) (f.nest.parts b) odd,
+    ring.odd,
+  )
 
   odd_below : (fuel b : ℕ) → f.nest.rank b < fuel → IsBlossom g f b → blossom_size g.n f b % 2 ≡ 1
   odd_below zero b l used = absurd (omega arith)
@@ -83,8 +76,7 @@ module _ {g : Darts} (are : AreDarts g) {f : Forest} (nested : IsNested g f) whe
       by_ring : IsRing g f b → ((p : ℕ) → f.nest.rank p < fuel → IsBlossom g f p → blossom_size g.n f p % 2 ≡ 1)
           → blossom_size g.n f b % 2 ≡ 1
       by_ring ring more = set_odd ring (λ k. more (walk f.nest.after (f.nest.head b) k)
-          (let h : f.nest.rank (walk f.nest.after (f.nest.head b) k) < f.nest.rank b = ring.lower k in
-          omega arith) (part_used ring k))
+          (omega (arith, ring.lower k, l)) (part_used ring k))
 
   -- A blossom holds an odd number of vertices.
   pub odd_blossom : (b : ℕ) → IsBlossom g f b → blossom_size g.n f b % 2 ≡ 1
@@ -92,13 +84,12 @@ module _ {g : Darts} (are : AreDarts g) {f : Forest} (nested : IsNested g f) whe
 
   -- A set holds at least as many vertices as it has parts.
   pub large_set : (b : ℕ) → g.n ≤ b → f.nest.parts b ≢ 0 → 3 ≤ blossom_size g.n f b
-  large_set b high live = by_ring (nested.rings b high live)
+  large_set b high live = omega (arith, set_sum ring, each (f.nest.parts b), ring.odd, ring.some)
     where
-      by_ring : IsRing g f b → 3 ≤ blossom_size g.n f b
-      by_ring ring = (let sum : blossom_size g.n f b ≡ ring_sum f.nest.after (blossom_size g.n f) (f.nest.head b)
-          (f.nest.parts b) = set_sum ring in omega (arith, sum, each (f.nest.parts b), ring.odd, ring.some))
-        where
-          each : (k : ℕ) → k ≤ ring_sum f.nest.after (blossom_size g.n f) (f.nest.head b) k
-          each zero = omega arith
-          each (suc k) = (let one : blossom_size g.n f (walk f.nest.after (f.nest.head b) k) % 2 ≡ 1 =
-              odd_blossom (walk f.nest.after (f.nest.head b) k) (part_used ring k) in omega (arith, each k, one))
+      ring : IsRing g f b
+      ring = nested.rings b high live
+
+      each : (k : ℕ) → k ≤ ring_sum f.nest.after (blossom_size g.n f) (f.nest.head b) k
+      each zero = omega arith
+      each (suc k) =
+          omega (arith, each k, odd_blossom (walk f.nest.after (f.nest.head b) k) (part_used ring k))

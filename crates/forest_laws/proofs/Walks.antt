@@ -3,7 +3,7 @@ use Rattle.std.proofs.Common.{◌≡◌, ◌≢◌, ℕ, zero, suc, ◌+◌, ◌
 use Rattle.std.proofs.Common.{◌∙◌, ap, subst, inl, inr, arith}
 use Rattle.std.proofs.lemmas.Bool.{cases_eq, cases_lt, cond-true, eq-eqb, ne_eqb, eqb-true, or_right, or_left, or_cases}
 use Rattle.std.proofs.lemmas.Bool.{or_from}
-use Rattle.def_forest.specs.Forests.{bool_number, walk, ring_sum, set_at}
+use Rattle.def_forest.specs.Forests.{bool_number, walk, ring_sum}
 use Rattle.forest_laws.specs.Walks.{listed, writes}
 use Rattle.forest_laws.proofs.Writes.{set_here, set_there}
 
@@ -12,32 +12,29 @@ pub walk_sum : (f : ℕ → ℕ) (a i j : ℕ) → walk f a (i + j) ≡ walk f (
 walk_sum f a i zero = let e : i + 0 ≡ i = omega arith in ap (walk f a) e
 walk_sum f a i (suc j) = let e : i + suc j ≡ suc (i + j) = omega arith in ap (walk f a) e ∙ ap f (walk_sum f a i j)
 
+-- A test or nothing.
+or_none : (a : Bool) → (a || false) ≡ a
+or_none true = refl
+or_none false = refl
+
 -- One comes past each place of the walk.
 pub listed_at : (next : ℕ → ℕ) (from many k : ℕ) → k < many → listed next from many (walk next from k) ≡ true
 listed_at next from zero k l = absurd (omega arith)
-listed_at next from (suc many) k l = by_place (cases_eq k many) (listed_at next from many k)
-  where
-    by_place : (k ≡ many) ⊎ (k ≢ many) → (k < many → listed next from many (walk next from k) ≡ true)
-        → (listed next from many (walk next from k) || eqb (walk next from many) (walk next from k)) ≡ true
-    by_place (inl e) more = or_right (listed next from many (walk next from k))
-        (eqb (walk next from many) (walk next from k)) (eq-eqb (walk next from many) (walk next from k)
-        (ap (walk next from) (sym e)))
-    by_place (inr ne) more = or_left (listed next from many (walk next from k))
-        (eqb (walk next from many) (walk next from k)) (more (omega arith))
+listed_at next from (suc many) k l = elim (cases_eq k many) [
+  | inl e ↦ or_right (listed next from many (walk next from k)) (eqb (walk next from many) (walk next from k))
+      (eq-eqb (walk next from many) (walk next from k) (ap (walk next from) (sym e)))
+  | inr ne ↦ or_left (listed next from many (walk next from k)) (eqb (walk next from many) (walk next from k))
+      (listed_at next from many k (omega arith))
+]
 
 -- And past no other.
 pub listed_place : (next : ℕ → ℕ) (from many x : ℕ) → listed next from many x ≡ true → (k : ℕ) × (k < many)
     × (walk next from k ≡ x)
 listed_place next from zero x on = absurd (cc on)
-listed_place next from (suc many) x on = by_or (or_cases (listed next from many x) (eqb (walk next from many) x) on)
-    (listed_place next from many x)
-  where
-    by_or : (listed next from many x ≡ true) ⊎ (eqb (walk next from many) x ≡ true)
-        → (listed next from many x ≡ true → (k : ℕ) × (k < many) × (walk next from k ≡ x)) → (k : ℕ) × (k < suc many)
-        × (walk next from k ≡ x)
-    by_or (inl e) more = let w : (k : ℕ) × (k < many) × (walk next from k ≡ x) = more e in
-        (w.0, omega (arith, w.1), w.2)
-    by_or (inr e) more = (many, omega arith, eqb-true (walk next from many) x e)
+listed_place next from (suc many) x on = elim (or_cases (listed next from many x) (eqb (walk next from many) x) on) [
+  | inl e ↦ (let w = listed_place next from many x e in (w.0, omega (arith, w.1), w.2))
+  | inr e ↦ (many, omega arith, eqb-true (walk next from many) x e)
+]
 
 pub listed_off : (next : ℕ → ℕ) (from many x : ℕ) → ((k : ℕ) → k < many → walk next from k ≢ x)
     → listed next from many x ≡ false
@@ -69,47 +66,26 @@ listed_closed next {from} many some closed k = let w : (j : ℕ) × (j < many) �
 pub listed_sum : (next : ℕ → ℕ) (from many y : ℕ) → ((i j : ℕ) → i < j → j < many → walk next from i ≢ walk next from j)
     → bool_number (listed next from many y) ≡ ring_sum next (λ p. bool_number (eqb y p)) from many
 listed_sum next from zero y distinct = refl
-listed_sum next from (suc many) y distinct = by_place (cases_eq y (walk next from many))
-    (listed_sum next from many y (λ i j lij lj. distinct i j lij (omega arith)))
-  where
-    by_place : (y ≡ walk next from many) ⊎ (y ≢ walk next from many) → bool_number (listed next from many y)
-        ≡ ring_sum next (λ p. bool_number (eqb y p)) from many
-        → bool_number (listed next from many y || eqb (walk next from many) y)
-        ≡ ring_sum next (λ p. bool_number (eqb y p)) from many + bool_number (eqb y (walk next from many))
-    by_place (inl e) more =
-        let off : listed next from many y ≡ false =
-        listed_off next from many y (λ k l w. distinct k many l (omega arith) (w ∙ e)) in
-        let left : bool_number (listed next from many y || eqb (walk next from many) y) ≡ 1 =
-        ap bool_number (or_right (listed next from many y) (eqb (walk next from many) y)
-        (eq-eqb (walk next from many) y (sym e))) in
-        let none : bool_number (listed next from many y) ≡ 0 = ap bool_number off in
-        let right : bool_number (eqb y (walk next from many)) ≡ 1 = ap bool_number (eq-eqb y (walk next from many) e) in
-        omega (arith, left, none, right, more)
-    by_place (inr ne) more =
-        let left : bool_number (listed next from many y || eqb (walk next from many) y)
-        ≡ bool_number (listed next from many y) = ap bool_number (or_off (listed next from many y)
-        (eqb (walk next from many) y) (ne_eqb (walk next from many) y (λ e. ne (sym e)))) in
-        let right : bool_number (eqb y (walk next from many)) ≡ 0 =
-        ap bool_number (ne_eqb y (walk next from many) ne) in
-        omega (arith, left, right, more)
-      where
-        or_off : (a b : Bool) → b ≡ false → (a || b) ≡ a
-        or_off true b e = refl
-        or_off false b e = e
+listed_sum next from (suc many) y distinct =
+    let more = listed_sum next from many y (λ i j lij lj. distinct i j lij (omega arith)) in
+    elim (cases_eq y (walk next from many)) [
+      | inl e ↦ (let off = listed_off next from many y (λ k l w. distinct k many l (omega arith) (w ∙ e)) in
+          rw (off, eq-eqb (walk next from many) y (sym e), eq-eqb y (walk next from many) e)
+          (omega (arith, ap bool_number off, more)))
+      | inr ne ↦ rw (ne_eqb (walk next from many) y (λ e. ne (sym e)), ne_eqb y (walk next from many) ne)
+          (omega (arith, ap bool_number (or_none (listed next from many y)), more))
+    ]
 
 -- What is written at one of different places stands there, and elsewhere nothing is changed.
 pub writes_at : {X : Type 0} (f : ℕ → X) (place : ℕ → ℕ) (value : ℕ → X) (many k : ℕ) → k < many
     → ((i j : ℕ) → i < j → j < many → place i ≢ place j) → writes f place value many (place k) ≡ value k
 writes_at f place value zero k l distinct = absurd (omega arith)
-writes_at f place value (suc many) k l distinct =
-    by_place (cases_eq k many) (λ lk. writes_at f place value many k lk (λ i j lij lj. distinct i j lij (omega arith)))
-  where
-    by_place : (k ≡ many) ⊎ (k ≢ many) → (k < many → writes f place value many (place k) ≡ value k)
-        → set_at (writes f place value many) (place many) (value many) (place k) ≡ value k
-    by_place (inl e) more = ap (λ j. set_at (writes f place value many) (place many) (value many) (place j)) e
-        ∙ (set_here (writes f place value many) (place many) (value many) ∙ ap value (sym e))
-    by_place (inr ne) more = set_there (writes f place value many) (place many) (place k) (value many)
-        (distinct k many (omega arith) (omega arith)) ∙ more (omega arith)
+writes_at f place value (suc many) k l distinct = elim (cases_eq k many) [
+  | inl e ↦ rw e (set_here (writes f place value many) (place many) (value many))
+  | inr ne ↦ set_there (writes f place value many) (place many) (place k) (value many)
+      (distinct k many (omega arith) (omega arith))
+      ∙ writes_at f place value many k (omega arith) (λ i j lij lj. distinct i j lij (omega arith))
+]
 
 pub writes_off : {X : Type 0} (f : ℕ → X) (place : ℕ → ℕ) (value : ℕ → X) (many x : ℕ)
     → ((k : ℕ) → k < many → place k ≢ x) → writes f place value many x ≡ f x
@@ -130,11 +106,7 @@ walk_fixed f (suc k) e = ap f (walk_fixed f k e) ∙ e
 pub listed_parts : (next : ℕ → ℕ) (from m k x : ℕ) → listed next from (m + k) x
     ≡ (listed next from m x || listed next (walk next from m) k x)
 listed_parts next from m zero x = (let e : m + 0 ≡ m = omega arith in ap (λ j. listed next from j x) e)
-    ∙ sym (or_no (listed next from m x))
-  where
-    or_no : (a : Bool) → (a || false) ≡ a
-    or_no true = refl
-    or_no false = refl
+    ∙ sym (or_none (listed next from m x))
 listed_parts next from m (suc k) x = (let e : m + suc k ≡ suc (m + k) = omega arith in ap (λ j. listed next from j x) e)
     ∙ (ap (λ (s : Bool). s || eqb (walk next from (m + k)) x) (listed_parts next from m k x)
     ∙ (ap (λ y. (listed next from m x || listed next (walk next from m) k x) || eqb y x) (walk_sum next from m k)
@@ -148,19 +120,12 @@ listed_parts next from m (suc k) x = (let e : m + suc k ≡ suc (m + k) = omega 
 pub writes_all : {X : Type 0} (f : ℕ → X) (next : ℕ → ℕ) (from many : ℕ) (y : X) (x : ℕ)
     → writes f (walk next from) (λ j. y) many x ≡ cond (listed next from many x) y (f x)
 writes_all f next from zero y x = refl
-writes_all f next from (suc k) y x = by_place (cases_eq x (walk next from k)) (writes_all f next from k y x)
-  where
-    or_off : (a b : Bool) → b ≡ false → (a || b) ≡ a
-    or_off true b e = refl
-    or_off false b e = e
-
-    by_place : (x ≡ walk next from k) ⊎ (x ≢ walk next from k) → writes f (walk next from) (λ j. y) k x
-        ≡ cond (listed next from k x) y (f x) → set_at (writes f (walk next from) (λ j. y) k) (walk next from k) y x
-        ≡ cond (listed next from k x || eqb (walk next from k) x) y (f x)
-    by_place (inl e) more = ap (set_at (writes f (walk next from) (λ j. y) k) (walk next from k) y) e
-        ∙ (set_here (writes f (walk next from) (λ j. y) k) (walk next from k) y
-        ∙ sym (cond-true (listed next from k x || eqb (walk next from k) x) y (f x)
-        (or_right (listed next from k x) (eqb (walk next from k) x) (eq-eqb (walk next from k) x (sym e)))))
-    by_place (inr ne) more = set_there (writes f (walk next from) (λ j. y) k) (walk next from k) x y ne
-        ∙ (more ∙ ap (λ (s : Bool). cond s y (f x)) (sym (or_off (listed next from k x) (eqb (walk next from k) x)
-        (ne_eqb (walk next from k) x (λ e. ne (sym e))))))
+writes_all f next from (suc k) y x = elim (cases_eq x (walk next from k)) [
+  | inl e ↦ rw (eq-eqb x (walk next from k) e) (sym (cond-true (listed next from k x || eqb (walk next from k) x) y
+      (f x) (or_right (listed next from k x) (eqb (walk next from k) x) (eq-eqb (walk next from k) x (sym e)))))
+  | inr ne ↦ rw (
+    ne_eqb x (walk next from k) ne,
+    ne_eqb (walk next from k) x (λ e. ne (sym e)),
+    or_none (listed next from k x),
+  ) (writes_all f next from k y x)
+]

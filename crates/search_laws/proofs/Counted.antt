@@ -1,9 +1,9 @@
 -- Each step lessens what is left of a search.
-use Rattle.std.proofs.Common.{◌≡◌, ◌≢◌, ℕ, zero, suc, ◌+◌, ◌*◌, ◌<◌, ◌≤◌, Bool, true, false, cond, eqb, List, length}
-use Rattle.std.proofs.Common.{get_or, Option, Some, ◌⊎◌, refl, sym, ◌∙◌, ap, subst, inl, inr, arith}
+use Rattle.std.proofs.Common.{◌≡◌, ◌≢◌, ℕ, ◌+◌, ◌*◌, ◌<◌, ◌≤◌, Bool, true, false, cond, eqb, List, length}
+use Rattle.std.proofs.Common.{mul-le-mul_right, get_or, Option, Some, ◌⊎◌, refl, sym, ◌∙◌, ap, subst, inl, inr, arith}
 use Rattle.std.proofs.Math.ListN.{set}
 use Rattle.std.proofs.lemmas.List.{length-set, get_or-set_same, get_or-set_other}
-use Rattle.std.proofs.lemmas.Bool.{cases_eq, cases_lt, cases_Bool, cond-true, cond-false, eq-eqb, ne_eqb, le-ltb}
+use Rattle.std.proofs.lemmas.Bool.{cases_eq, cases_lt, cases_Bool, cond-true, cond-false, eq-eqb, ne_eqb}
 use Rattle.std.specs.Prelude.{nat_lt}
 use Rattle.def_math.specs.Counts.{count_below}
 use Rattle.sum_laws.proofs.Counts.{count_below_le, count_below_lt, count_below_ones}
@@ -13,7 +13,7 @@ use Rattle.def_forest.specs.{Forests.set_at, Forests.sets_of, Forests.walk, Open
 use Rattle.def_forest.specs.{Opened.IsOpened, Shrunk.IsShrinking, Steps.grown, Valid.IsMate, Valid.IsOuter}
 use Rattle.def_forest.specs.{Valid.IsValid, declared.kinds.Label.Label, declared.kinds.Label.TheVariants.Outer}
 use Rattle.def_forest.specs.declared.kinds.Label.TheVariants.{Inner, Outside}
-use Rattle.forest_laws.proofs.{Facts.far_low, Graphs.are_darts, Writes.set_here, Writes.set_there, Writes.inner_named}
+use Rattle.forest_laws.proofs.{Facts.far_low, Graphs.are_darts, Rooms.live_none, Rooms.live_some, Writes.inner_named}
 use Rattle.search_laws.specs.Keys.{is_stale, true_key}
 use Rattle.search_laws.specs.Searches.{not_outer, vertices_left, steps_left, turns_left}
 use Rattle.search_laws.proofs.Kept.{on_cycle, opened_old, opened_label, shrunk_on, shrunk_off, shrunk_set, shrunk_label}
@@ -37,23 +37,13 @@ sets_low n f = omega (
     one b false false = omega arith
 
 -- So many times as much.
-times_more : (w a b : ℕ) → a < b → a * w + w ≤ b * w
-times_more w a zero l = absurd (omega (arith, l))
-times_more w a (suc b) l = by_order (cases_lt a b) (times_more w a b)
-  where
-    next : suc b * w ≡ b * w + w
-    next = omega arith
-
-    by_order : (a < b) ⊎ (b ≤ a) → (a < b → a * w + w ≤ b * w) → a * w + w ≤ suc b * w
-    by_order (inl h) more = omega (arith, next, more h)
-    by_order (inr h) more = let e : a ≡ b = omega (arith, h, l) in let same : a * w ≡ b * w = ap (λ x. x * w) e in
-        omega (arith, next, same)
+times_more : (w : ℕ) {a b : ℕ} → a < b → a * w + w ≤ b * w
+times_more w l = omega (arith, mul-le-mul_right w l)
 
 fewer_vertices : (n : ℕ) (f new : Forest) → new.size ≡ f.size → vertices_left n new < vertices_left n f
     → steps_left n new < steps_left n f
 fewer_vertices n f new size l =
-    let step : vertices_left n new * (f.size + 1) + (f.size + 1) ≤ vertices_left n f * (f.size + 1) =
-    times_more (f.size + 1) (vertices_left n new) (vertices_left n f) l in
+    let step = times_more (f.size + 1) l in
     let few : sets_of n new ≤ f.size = subst (λ s. sets_of n new ≤ s) size (sets_low n new) in
     subst (λ s. vertices_left n new * (s + 1) + sets_of n new < steps_left n f) (sym size) (omega (arith, step, few))
 
@@ -64,7 +54,7 @@ fewer_sets n f new size h l = subst (λ s. vertices_left n new * (s + 1) + sets_
   where
     by_order : (vertices_left n new < vertices_left n f) ⊎ (vertices_left n f ≤ vertices_left n new)
         → vertices_left n new * (f.size + 1) + sets_of n new < steps_left n f
-    by_order (inl lt) = omega (arith, times_more (f.size + 1) (vertices_left n new) (vertices_left n f) lt, l)
+    by_order (inl lt) = omega (arith, times_more (f.size + 1) lt, l)
     by_order (inr ge) = let e : vertices_left n new ≡ vertices_left n f = omega (arith, h, ge) in
         let same : vertices_left n new * (f.size + 1) ≡ vertices_left n f * (f.size + 1) =
         ap (λ x. x * (f.size + 1)) e in omega (arith, same, l)
@@ -86,15 +76,10 @@ module _ (g : WeightedGraph) (is : IsGraph g) (f : Forest) (root : Option ℕ) (
 
   now : (w : ℕ) → (f.out w ≡ outer) ⊎ (f.out w ≢ outer) → (f.out w ≡ inn) ⊎ (f.out w ≢ inn)
       → not_outer (set_at (set_at f.label inn Inner) outer Outer (f.out w)) ≤ not_outer (f.label (f.out w))
-  now w (inl e) y = (let x : not_outer (set_at (set_at f.label inn Inner) outer Outer (f.out w)) ≡ 0 =
-      ap (λ b. not_outer (set_at (set_at f.label inn Inner) outer Outer b)) e
-      ∙ ap not_outer (set_here (set_at f.label inn Inner) outer Outer) in omega (arith, x))
+  now w (inl e) y = rw (e, eq-eqb outer outer refl) (omega arith)
   now w (inr nu) (inl e) =
-      let x : not_outer (f.label (f.out w)) ≡ 1 = ap (λ b. not_outer (f.label b)) e ∙ ap not_outer off in
-      omega (arith, x, not_outer_low (set_at (set_at f.label inn Inner) outer Outer (f.out w)))
-  now w (inr nu) (inr ni) = let x : not_outer (set_at (set_at f.label inn Inner) outer Outer (f.out w))
-      ≡ not_outer (f.label (f.out w)) = ap not_outer (set_there (set_at f.label inn Inner) outer (f.out w) Outer nu
-      ∙ set_there f.label inn (f.out w) Inner ni) in omega (arith, x)
+      rw (ne_eqb (f.out w) outer nu, eq-eqb (f.out w) inn e) (omega (arith, ap not_outer (ap f.label e ∙ off)))
+  now w (inr nu) (inr ni) = rw (ne_eqb (f.out w) outer nu, ne_eqb (f.out w) inn ni) (omega arith)
 
   -- A tree that grows.
   pub grown_fewer : steps_left g.n (grown (darts_of g) f d m) < steps_left g.n f
@@ -102,9 +87,7 @@ module _ (g : WeightedGraph) (is : IsGraph g) (f : Forest) (root : Option ℕ) (
       (count_below_lt (λ w. not_outer (set_at (set_at f.label inn Inner) outer Outer (f.out w)))
       (λ w. not_outer (f.label (f.out w))) g.n (far (darts_of g) m) (far_low (darts_of g) (are_darts is) m
       pair.tight.low) (λ w l. now w (cases_eq (f.out w) outer) (cases_eq (f.out w) inn))
-      (let x : not_outer (set_at (set_at f.label inn Inner) outer Outer outer)
-      ≡ 0 = ap not_outer (set_here (set_at f.label inn Inner) outer Outer) in let y : not_outer (f.label outer)
-      ≡ 1 = ap not_outer outer_off in omega (arith, x, y)))
+      (rw (eq-eqb outer outer refl) (omega (arith, ap not_outer outer_off))))
 
 module _ (g : WeightedGraph) (is : IsGraph g) (f new : Forest) (root after : Option ℕ) (d : ℕ)
     (valid : IsValid (darts_of g) f root) (s : IsShrinking (darts_of g) f new root after d) where
@@ -128,16 +111,15 @@ module _ (g : WeightedGraph) (is : IsGraph g) (f new : Forest) (root after : Opt
       by_label (inr inner) = (second, s.row.marked 1, inner)
 
   now_outer : (w : ℕ) → w < g.n → s.inside (f.out w) ≡ true → not_outer (new.label (new.out w)) ≡ 0
-  now_outer w l on = ap (λ b. not_outer (new.label b)) (shrunk_on is valid s w l on)
-      ∙ ap not_outer (shrunk_set is valid s)
+  now_outer w l on = rw (shrunk_on is valid s w l on, shrunk_set is valid s)
 
   each : (w : ℕ) → w < g.n → (s.inside (f.out w) ≡ true) ⊎ (s.inside (f.out w) ≡ false)
       → not_outer (new.label (new.out w)) ≤ not_outer (f.label (f.out w))
   each w l (inl on) = omega (arith, now_outer w l on)
-  each w l (inr off) = let e : not_outer (new.label (new.out w)) ≡ not_outer (f.label (f.out w)) =
-      ap (λ b. not_outer (new.label b)) (shrunk_off is valid s w l off)
-      ∙ ap not_outer (shrunk_label is valid s (f.out w) (s.unused.no_out w l) off) in
-      omega (arith, e)
+  each w l (inr off) = rw (
+    shrunk_off is valid s w l off,
+    shrunk_label is valid s (f.out w) (s.unused.no_out w l) off,
+  ) (omega arith)
 
   -- A cycle that becomes one blossom.
   pub shrunk_fewer : steps_left g.n new < steps_left g.n f
@@ -167,11 +149,9 @@ module _ {g : WeightedGraph} (is : IsGraph g) {f new : Forest} {r : ℕ} {o : Op
     where
       vertex : (w : ℕ) → w < g.n → (f.out w ≡ o.b) ⊎ (f.out w ≢ o.b) → not_outer (new.label (new.out w))
           ≤ not_outer (f.label (f.out w))
-      vertex w l (inl e) = let x : not_outer (f.label (f.out w)) ≡ 1 = ap (λ b. not_outer (f.label b)) e
-          ∙ ap not_outer opening.label in omega (arith, x, not_outer_low (new.label (new.out w)))
-      vertex w l (inr ne) = let x : not_outer (new.label (new.out w)) ≡ not_outer (f.label (f.out w)) =
-          ap (λ b. not_outer (new.label b)) (opened_old is valid opening opened w l ne)
-          ∙ ap not_outer (opened_label is valid opening opened w l ne) in omega (arith, x)
+      vertex w l (inl e) = rw (e, opening.label) (not_outer_low (new.label (new.out w)))
+      vertex w l (inr ne) =
+          rw (opened_old is valid opening opened w l ne, opened_label is valid opening opened w l ne) (omega arith)
 
       b_low : o.b < f.size
       b_low = by_vertex (valid.outermost.named o.b (inner_named opening.label))
@@ -185,26 +165,16 @@ module _ {g : WeightedGraph} (is : IsGraph g) {f new : Forest} {r : ℕ} {o : Op
           let inner : f.nest.up (o.q 0) ≢ o.q 0 = λ e. p.1 (sym e ∙ p.0) in
           λ none. (valid.nested.live (o.q 0) inner).1 (ap f.nest.parts p.0 ∙ none)
 
-      live_is : (parts : ℕ → ℕ) (x : ℕ) → g.n ≤ x → parts x ≢ 0 → live_at g.n parts x ≡ 1
-      live_is parts x h ne = cond-false (nat_lt x g.n) 0 (cond (eqb (parts x) 0) 0 1) (le-ltb x g.n h)
-          ∙ cond-false (eqb (parts x) 0) 0 1 (ne_eqb (parts x) 0 ne)
-
-      none_is : (parts : ℕ → ℕ) (x : ℕ) → g.n ≤ x → parts x ≡ 0 → live_at g.n parts x ≡ 0
-      none_is parts x h e = cond-false (nat_lt x g.n) 0 (cond (eqb (parts x) 0) 0 1) (le-ltb x g.n h)
-          ∙ cond-true (eqb (parts x) 0) 0 1 (eq-eqb (parts x) 0 e)
-
       here : live_at g.n new.nest.parts o.b < live_at g.n f.nest.parts o.b
       here = omega (
         arith,
-        none_is new.nest.parts o.b opening.high opened.no_parts,
-        live_is f.nest.parts o.b opening.high live,
+        live_none new.nest.parts opening.high opened.no_parts,
+        live_some f.nest.parts opening.high live,
       )
 
       set : (x : ℕ) → (x ≡ o.b) ⊎ (x ≢ o.b) → live_at g.n new.nest.parts x ≤ live_at g.n f.nest.parts x
-      set x (inl e) = let z : live_at g.n new.nest.parts x ≡ 0 = ap (live_at g.n new.nest.parts) e
-          ∙ none_is new.nest.parts o.b opening.high opened.no_parts in omega (arith, z)
-      set x (inr ne) = let z : live_at g.n new.nest.parts x ≡ live_at g.n f.nest.parts x =
-          ap (λ (y : ℕ). cond (nat_lt x g.n) 0 (cond (eqb y 0) 0 1)) (opened.sets x ne).many in omega (arith, z)
+      set x (inl e) = rw e (omega (arith, live_none new.nest.parts opening.high opened.no_parts))
+      set x (inr ne) = rw (opened.sets x ne).many (omega arith)
 
 -- Where fewer steps are left, or one leaf less is stale, fewer turns are left.
 stale_low : (g : WeightedGraph) (f : Forest) (risen : ℕ) (keys : List ℕ) (n : ℕ)
@@ -224,7 +194,7 @@ pub fewer_turns : (g : WeightedGraph) (f new : Forest) (risen after : ℕ) (old 
 fewer_turns g f new risen after old keys size l = subst (λ n. steps_left g.n new * (n + 1) + count_below
     (is_stale g new after keys) n < turns_left g f risen old) (sym size) (omega (
       arith,
-      times_more (length old + 1) (steps_left g.n new) (steps_left g.n f) l,
+      times_more (length old + 1) l,
       stale_low g new after keys (length old),
     ))
 
@@ -242,12 +212,10 @@ fewer_stale g f risen leaf keys new l ne is =
     right = ap (λ xs. get_or xs leaf 0) is ∙ get_or-set_same keys leaf (true_key g f risen leaf) 0 l
 
     none : is_stale g f risen new leaf ≡ 0
-    none = cond-true (eqb (get_or new leaf 0) (true_key g f risen leaf)) 0 1
-        (eq-eqb (get_or new leaf 0) (true_key g f risen leaf) right)
+    none = cond-true _ _ _ (eq-eqb (get_or new leaf 0) (true_key g f risen leaf) right)
 
     one : is_stale g f risen keys leaf ≡ 1
-    one = cond-false (eqb (get_or keys leaf 0) (true_key g f risen leaf)) 0 1
-        (ne_eqb (get_or keys leaf 0) (true_key g f risen leaf) ne)
+    one = cond-false _ _ _ (ne_eqb (get_or keys leaf 0) (true_key g f risen leaf) ne)
 
     here : is_stale g f risen new leaf < is_stale g f risen keys leaf
     here = omega (arith, none, one)

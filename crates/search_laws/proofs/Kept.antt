@@ -4,16 +4,16 @@ use Rattle.std.proofs.lemmas.Bool.{cases_eq, cases_lt, cases_Bool, eq-eqb, eqb-t
 use Rattle.std.proofs.Common.{Some, None, ℤ, pos, ◌-ℤ◌, ◌*ℤ◌, ◌⊎◌, refl, sym, ◌∙◌, ap, subst, inl, inr, arith}
 use Rattle.std.specs.Int.RustNames.{unsigned_abs}
 use Rattle.def_matching.specs.Matching.{WeightedGraph, IsGraph, edge_at}
-use Rattle.def_forest.specs.{Darts.darts_of, Darts.far, Forests.Forest, Forests.weight_between, Forests.set_at}
+use Rattle.def_forest.specs.{Darts.darts_of, Darts.far, Forests.Forest, Forests.set_at}
 use Rattle.def_forest.specs.{Opened.Opening, Opened.IsOpening, Opened.IsOpened, Shrunk.IsShrinking, Steps.grown}
 use Rattle.def_forest.specs.{Steps.rooted, Tables.slack_of, Valid.IsValid, declared.kinds.Label.Label}
 use Rattle.def_forest.specs.declared.kinds.Label.TheVariants.{Outer, Inner}
 use Rattle.def_forest.specs.declared.kinds.Label.TheVariants.{Outside}
 use Rattle.forest_laws.proofs.{Graphs.are_darts, Levels.tree_cases, Writes.set_here, Writes.set_there}
-use Rattle.forest_laws.proofs.Expands.{Expansion}
+use Rattle.forest_laws.proofs.{Beside.same_load, Expands.Expansion, Shrinks.Shrink}
 use Rattle.forest_laws.proofs.Shrinks as shrinks
 use Rattle.forest_laws.proofs.Expands as expands
-use Rattle.search_laws.specs.Keys.{no_key, edge_key_by, edge_key, set_key_by, set_of, leaf_of, true_key, AreLow}
+use Rattle.search_laws.specs.Keys.{no_key, edge_key_by, set_key_by, set_of, leaf_of, true_key, AreLow}
 use Rattle.search_laws.specs.Keys.{IsMended, AreRightAt}
 use Rattle.search_laws.proofs.Keys.{at_edge, at_set, edge_key_low}
 
@@ -39,17 +39,12 @@ same_labels Inner b s t slack risen on = omega arith
 same_labels Outside Inner s t slack risen on = omega arith
 same_labels Outside Outside s t slack risen on = omega arith
 
-quiet_key : (a b c d : Label) (s t : Bool) (slack risen : ℕ) → (c ≡ a) ⊎ (c ≡ Inner) → (d ≡ b) ⊎ (d ≡ Inner)
+quiet_key : {a b c d : Label} (s t : Bool) (slack risen : ℕ) → (c ≡ a) ⊎ (c ≡ Inner) → (d ≡ b) ⊎ (d ≡ Inner)
     → (a ≡ Outer → s ≡ true → t ≡ true) → edge_key_by a b s slack risen ≤ edge_key_by c d t slack risen
-quiet_key a b c d s t slack risen (inr e) y on = subst (λ (x : Label). edge_key_by a b s slack risen ≤ edge_key_by x d t
-    slack risen) (sym e) (edge_key_low a b s slack risen)
-quiet_key a b c d s t slack risen (inl e) (inr e') on = subst (λ (x : Label). edge_key_by a b s slack risen ≤
-    edge_key_by c x t slack risen) (sym e') (subst (λ x. edge_key_by a b s slack risen ≤ x)
-    (sym (inner_right c t slack risen)) (edge_key_low a b s slack risen))
-quiet_key a b c d s t slack risen (inl e) (inl e') on =
-    subst (λ (x : Label). edge_key_by a b s slack risen ≤ edge_key_by x d t slack risen) (sym e)
-    (subst (λ (x : Label). edge_key_by a b s slack risen ≤ edge_key_by a x t slack risen) (sym e')
-    (same_labels a b s t slack risen on))
+quiet_key {a} {b} {d = d} s t slack risen (inr e) y on = rw e (edge_key_low a b s slack risen)
+quiet_key {a} {b} {c} s t slack risen (inl e) (inr e') on =
+    rw (e', inner_right c t slack risen) (edge_key_low a b s slack risen)
+quiet_key {a} {b} s t slack risen (inl e) (inl e') on = rw (e, e') (same_labels a b s t slack risen on)
 
 set_key_none : (l : Label) (w : ℤ) (risen : ℕ) → l ≢ Inner → set_key_by l w risen ≡ no_key
 set_key_none Outer w risen ne = refl
@@ -66,14 +61,22 @@ inner_cases Inner = inl refl
 inner_cases Outer = inr (λ e. cc e)
 inner_cases Outside = inr (λ e. cc e)
 
+-- The edges at vertex w have the keys that they ought to have.
+abbrev pub AreRight : (g : WeightedGraph) (f : Forest) (risen : ℕ) (keys : List ℕ) (w : ℕ) → Type 0
+AreRight g f risen keys w = (e : ℕ) → e < length g.edges → ((edge_at g e).u ≡ w) ⊎ ((edge_at g e).v ≡ w)
+    → get_or keys e 0 ≡ true_key g f risen e
+
+-- A set that is inner was, with the same weight, or has the key that it ought to have.
+abbrev pub IsSetRight : (g : WeightedGraph) (f new : Forest) (risen : ℕ) (keys : List ℕ) (b : ℕ) → Type 0
+IsSetRight g f new risen keys b = ((f.label b ≡ Inner) × (new.weight b ≡ f.weight b))
+    ⊎ (get_or keys (leaf_of g b) 0 ≡ true_key g new risen (leaf_of g b))
+
 -- What a step changes at the ends of edges and at sets.
 pub record IsTurned (g : WeightedGraph) (f new : Forest) (risen : ℕ) (keys : List ℕ) : Type 0 where
   pub slacks : (e : ℕ) → e < length g.edges → slack_of g new e ≡ slack_of g f e
-  pub ends : (w : ℕ) → w < g.n → IsQuiet f new w ⊎ ((e : ℕ) → e < length g.edges → ((edge_at g e).u ≡ w)
-      ⊎ ((edge_at g e).v ≡ w) → get_or keys e 0 ≡ true_key g new risen e)
+  pub ends : (w : ℕ) → w < g.n → IsQuiet f new w ⊎ AreRight g new risen keys w
   pub same : (u v : ℕ) → u < g.n → v < g.n → f.label (f.out u) ≡ Outer → f.out u ≡ f.out v → new.out u ≡ new.out v
-  pub sets : (b : ℕ) → g.n ≤ b → new.label b ≡ Inner → ((f.label b ≡ Inner) × (new.weight b ≡ f.weight b))
-      ⊎ (get_or keys (leaf_of g b) 0 ≡ true_key g new risen (leaf_of g b))
+  pub sets : (b : ℕ) → g.n ≤ b → new.label b ≡ Inner → IsSetRight g f new risen keys b
 
 -- Keys stay low.
 pub stay_low : {g : WeightedGraph} → IsGraph g → {f new : Forest} {risen : ℕ} {old keys : List ℕ} → AreLow g f risen old
@@ -90,54 +93,39 @@ stay_low {g} is {f} {new} {risen} {old} {keys} low mended turned k l = by_mended
     at_ends : k < length g.edges → IsQuiet f new (edge_at g k).u → IsQuiet f new (edge_at g k).v
         → true_key g f risen k ≤ true_key g new risen k
     at_ends le qu qv =
-        let step : edge_key g f risen k ≤ edge_key_by (new.label (new.out (edge_at g k).u))
-        (new.label (new.out (edge_at g k).v)) (eqb (new.out (edge_at g k).u) (new.out (edge_at g k).v))
-        (unsigned_abs (slack_of g f k)) risen = quiet_key (f.label (f.out (edge_at g k).u))
-        (f.label (f.out (edge_at g k).v)) (new.label (new.out (edge_at g k).u)) (new.label (new.out (edge_at g k).v))
+        rw (at_edge g f risen k le, at_edge g new risen k le, turned.slacks k le) (quiet_key
         (eqb (f.out (edge_at g k).u) (f.out (edge_at g k).v)) (eqb (new.out (edge_at g k).u) (new.out (edge_at g k).v))
         (unsigned_abs (slack_of g f k)) risen qu qv (λ outer on. eq-eqb (new.out (edge_at g k).u)
         (new.out (edge_at g k).v) (turned.same (edge_at g k).u (edge_at g k).v (is.left k le) (is.right k le) outer
-        (eqb-true (f.out (edge_at g k).u) (f.out (edge_at g k).v) on))) in
-        subst (λ x. x ≤ true_key g new risen k) (sym (at_edge g f risen k le))
-        (subst (λ x. edge_key g f risen k ≤ x) (sym (at_edge g new risen k le))
-        (subst (λ (x : ℤ). edge_key g f risen k ≤ edge_key_by (new.label (new.out (edge_at g k).u))
-        (new.label (new.out (edge_at g k).v)) (eqb (new.out (edge_at g k).u) (new.out (edge_at g k).v))
-        (unsigned_abs x) risen) (sym (turned.slacks k le)) step))
+        (eqb-true (f.out (edge_at g k).u) (f.out (edge_at g k).v) on))))
 
     by_ends : get_or keys k 0 ≡ get_or old k 0 → k < length g.edges → IsQuiet f new (edge_at g k).u
-        ⊎ ((e : ℕ) → e < length g.edges → ((edge_at g e).u ≡ (edge_at g k).u) ⊎ ((edge_at g e).v ≡ (edge_at g k).u)
-        → get_or keys e 0 ≡ true_key g new risen e) → IsQuiet f new (edge_at g k).v
-        ⊎ ((e : ℕ) → e < length g.edges → ((edge_at g e).u ≡ (edge_at g k).v) ⊎ ((edge_at g e).v ≡ (edge_at g k).v)
-        → get_or keys e 0 ≡ true_key g new risen e) → get_or keys k 0 ≤ true_key g new risen k
+        ⊎ AreRight g new risen keys (edge_at g k).u → IsQuiet f new (edge_at g k).v
+        ⊎ AreRight g new risen keys (edge_at g k).v → get_or keys k 0 ≤ true_key g new risen k
     by_ends same le (inr right) y = exact (right k le (inl refl))
     by_ends same le (inl qu) (inr right) = exact (right k le (inr refl))
     by_ends same le (inl qu) (inl qv) = kept same (at_ends le qu qv)
 
-    set_b : ℕ
-    set_b = set_of g k
-
     by_set : get_or keys k 0 ≡ get_or old k 0 → length g.edges ≤ k → (new.label (set_of g k) ≡ Inner)
         ⊎ (new.label (set_of g k) ≢ Inner) → get_or keys k 0 ≤ true_key g new risen k
-    by_set same he (inr ne) =
-        kept same (subst (λ x. true_key g f risen k ≤ x)
-        (sym (at_set g new risen k he ∙ set_key_none (new.label (set_of g k)) (new.weight (set_of g k)) risen ne))
-        (subst (λ x. x ≤ no_key) (sym (at_set g f risen k he))
-        (set_key_low (f.label (set_of g k)) (f.weight (set_of g k)) risen)))
+    by_set same he (inr ne) = kept same (rw (
+      at_set g new risen k he,
+      set_key_none (new.label (set_of g k)) (new.weight (set_of g k)) risen ne,
+      at_set g f risen k he,
+    )
+        (set_key_low (f.label (set_of g k)) (f.weight (set_of g k)) risen))
     by_set same he (inl inner) = by_sets (turned.sets (set_of g k) (omega arith) inner)
       where
         leaf_is : leaf_of g (set_of g k) ≡ k
         leaf_is = omega (arith, he)
 
-        by_sets : ((f.label (set_of g k) ≡ Inner) × (new.weight (set_of g k) ≡ f.weight (set_of g k)))
-            ⊎ (get_or keys (leaf_of g (set_of g k)) 0 ≡ true_key g new risen (leaf_of g (set_of g k)))
+        by_sets : IsSetRight g f new risen keys (set_of g k)
             → get_or keys k 0 ≤ true_key g new risen k
         by_sets (inr right) = exact (ap (λ x. get_or keys x 0) (sym leaf_is)
             ∙ (right ∙ ap (true_key g new risen) leaf_is))
         by_sets (inl w) =
-            let keys_are : true_key g f risen k ≡ true_key g new risen k = at_set g f risen k he
-            ∙ (ap (λ (x : Label). set_key_by x (f.weight (set_of g k)) risen) (w.0 ∙ sym inner)
-            ∙ (ap (λ (x : ℤ). set_key_by (new.label (set_of g k)) x risen) (sym w.1)
-            ∙ sym (at_set g new risen k he))) in
+            let keys_are : true_key g f risen k ≡ true_key g new risen k =
+            rw (at_set g f risen k he, at_set g new risen k he, w.0, inner, w.1) refl in
             kept same (omega (arith, keys_are))
 
     by_leaf : get_or keys k 0 ≡ get_or old k 0 → (k < length g.edges) ⊎ (length g.edges ≤ k)
@@ -156,18 +144,17 @@ pub true_key_low : (g : WeightedGraph) (f : Forest) (risen k : ℕ) → true_key
 true_key_low g f risen k = by_leaf (cases_lt k (length g.edges))
   where
     by_leaf : (k < length g.edges) ⊎ (length g.edges ≤ k) → true_key g f risen k ≤ no_key
-    by_leaf (inl le) = subst (λ x. x ≤ no_key) (sym (at_edge g f risen k le))
-        (edge_key_low (f.label (f.out (edge_at g k).u)) (f.label (f.out (edge_at g k).v))
-        (eqb (f.out (edge_at g k).u) (f.out (edge_at g k).v)) (unsigned_abs (slack_of g f k)) risen)
-    by_leaf (inr he) = subst (λ x. x ≤ no_key) (sym (at_set g f risen k he))
-        (set_key_low (f.label (set_of g k)) (f.weight (set_of g k)) risen)
+    by_leaf (inl le) = rw (at_edge g f risen k le) (edge_key_low (f.label (f.out (edge_at g k).u))
+        (f.label (f.out (edge_at g k).v)) (eqb (f.out (edge_at g k).u) (f.out (edge_at g k).v))
+        (unsigned_abs (slack_of g f k)) risen)
+    by_leaf (inr he) =
+        rw (at_set g f risen k he) (set_key_low (f.label (set_of g k)) (f.weight (set_of g k)) risen)
 
 -- The edges at a vertex of a set of vertices.
-right_at : (g : WeightedGraph) (f : Forest) (risen : ℕ) (keys : List ℕ) (set : ℕ → Bool) (w : ℕ)
-    → AreRightAt g f risen keys set → set w ≡ true → (e : ℕ) → e < length g.edges → ((edge_at g e).u ≡ w)
-    ⊎ ((edge_at g e).v ≡ w) → get_or keys e 0 ≡ true_key g f risen e
-right_at g f risen keys set w right on e l (inl eu) = right e l (inl (ap set eu ∙ on))
-right_at g f risen keys set w right on e l (inr ev) = right e l (inr (ap set ev ∙ on))
+right_at : (g : WeightedGraph) (f : Forest) (risen : ℕ) (keys : List ℕ) (set : ℕ → Bool) {w : ℕ}
+    → AreRightAt g f risen keys set → set w ≡ true → AreRight g f risen keys w
+right_at g f risen keys set right on e l (inl eu) = right e l (inl (ap set eu ∙ on))
+right_at g f risen keys set right on e l (inr ev) = right e l (inr (ap set ev ∙ on))
 
 -- A vertex is held by its outermost blossom.
 pub held_out : (g : WeightedGraph) {f : Forest} {root : Option ℕ} → IsValid (darts_of g) f root → (w : ℕ) → w < g.n
@@ -181,17 +168,8 @@ idle_low g f risen keys outside few k l = by_leaf (cases_lt k (length g.edges))
   where
     by_leaf : (k < length g.edges) ⊎ (length g.edges ≤ k) → get_or keys k 0 ≤ true_key g f risen k
     by_leaf (inl le) =
-        let e : true_key g f risen k ≡ no_key = at_edge g f risen k le
-        ∙ (ap (λ (x : Label). edge_key_by x (f.label (f.out (edge_at g k).v))
-        (eqb (f.out (edge_at g k).u) (f.out (edge_at g k).v)) (unsigned_abs (slack_of g f k)) risen)
-        (outside (f.out (edge_at g k).u))
-        ∙ ap (λ (x : Label). edge_key_by Outside x (eqb (f.out (edge_at g k).u) (f.out (edge_at g k).v))
-        (unsigned_abs (slack_of g f k)) risen) (outside (f.out (edge_at g k).v))) in
-        omega (arith, e, few k l)
-    by_leaf (inr he) =
-        let e : true_key g f risen k ≡ no_key = at_set g f risen k he
-        ∙ ap (λ (x : Label). set_key_by x (f.weight (set_of g k)) risen) (outside (set_of g k)) in
-        omega (arith, e, few k l)
+        rw (at_edge g f risen k le, outside (f.out (edge_at g k).u), outside (f.out (edge_at g k).v)) (few k l)
+    by_leaf (inr he) = rw (at_set g f risen k he, outside (set_of g k)) (few k l)
 
 -- A tree begins.
 pub rooted_turned : (g : WeightedGraph) {f : Forest} (b risen : ℕ) (keys : List ℕ) → IsValid (darts_of g) f None
@@ -204,9 +182,8 @@ rooted_turned g {f} b risen keys valid right = record {
 }
   where
     ends : (w : ℕ) → w < g.n → (f.out w ≡ b) ⊎ (f.out w ≢ b) → IsQuiet f (rooted f b) w
-        ⊎ ((e : ℕ) → e < length g.edges → ((edge_at g e).u ≡ w) ⊎ ((edge_at g e).v ≡ w)
-        → get_or keys e 0 ≡ true_key g (rooted f b) risen e)
-    ends w l (inl at) = inr (right_at g (rooted f b) risen keys (f.holds b) w right (ap (λ x. f.holds x w) (sym at)
+        ⊎ AreRight g (rooted f b) risen keys w
+    ends w l (inl at) = inr (right_at g (rooted f b) risen keys (f.holds b) right (ap (λ x. f.holds x w) (sym at)
         ∙ held_out g valid w l))
     ends w l (inr ne) = inl (inl (set_there f.label b (f.out w) Outer ne))
 
@@ -243,16 +220,14 @@ module _ (g : WeightedGraph) (f : Forest) (root : Option ℕ) (valid : IsValid (
           ∙ (ap (set_at f.label inn Inner) e ∙ set_here f.label inn Inner)
 
       ends : (w : ℕ) → w < g.n → (f.out w ≡ outer) ⊎ (f.out w ≢ outer) → (f.out w ≡ inn) ⊎ (f.out w ≢ inn)
-          → IsQuiet f (grown (darts_of g) f d m) w ⊎ ((e : ℕ) → e < length g.edges → ((edge_at g e).u ≡ w)
-          ⊎ ((edge_at g e).v ≡ w) → get_or keys e 0 ≡ true_key g (grown (darts_of g) f d m) risen e)
-      ends w l (inl at) y = inr (right_at g (grown (darts_of g) f d m) risen keys (f.holds outer) w right
+          → IsQuiet f (grown (darts_of g) f d m) w ⊎ AreRight g (grown (darts_of g) f d m) risen keys w
+      ends w l (inl at) y = inr (right_at g (grown (darts_of g) f d m) risen keys (f.holds outer) right
           (ap (λ x. f.holds x w) (sym at) ∙ held_out g valid w l))
       ends w l (inr nu) (inl at) = inl (inr (inner_now (f.out w) nu at))
       ends w l (inr nu) (inr ni) = inl (inl (other (f.out w) nu ni))
 
       sets : (x : ℕ) → g.n ≤ x → (grown (darts_of g) f d m).label x ≡ Inner → (x ≡ outer) ⊎ (x ≢ outer) → (x ≡ inn)
-          ⊎ (x ≢ inn) → ((f.label x ≡ Inner) × (f.weight x ≡ f.weight x))
-          ⊎ (get_or keys (leaf_of g x) 0 ≡ true_key g (grown (darts_of g) f d m) risen (leaf_of g x))
+          ⊎ (x ≢ inn) → IsSetRight g f (grown (darts_of g) f d m) risen keys x
       sets x h inner (inl e) y = absurd (let c : Outer ≡ Inner = sym (set_here (set_at f.label inn Inner) outer Outer)
           ∙ (ap (grown (darts_of g) f d m).label (sym e) ∙ inner) in cc)
       sets x h inner (inr nu) (inl e) =
@@ -263,26 +238,28 @@ module _ (g : WeightedGraph) (f : Forest) (root : Option ℕ) (valid : IsValid (
 -- A cycle becomes one blossom.
 module _ {g : WeightedGraph} (is : IsGraph g) {f new : Forest} {root after : Option ℕ} {d : ℕ}
     (valid : IsValid (darts_of g) f root) (s : IsShrinking (darts_of g) f new root after d) where
-  shrunk_root : IsValid (darts_of g) f (Some s.r)
-  shrunk_root = subst (λ (x : Option ℕ). IsValid (darts_of g) f x) s.old_root valid
+  pub shrink : Shrink (darts_of g) f s.r new s.inside s.top s.set s.top s.many
+  shrink = record {
+    are = are_darts is;
+    valid = subst (λ (x : Option ℕ). IsValid (darts_of g) f x) s.old_root valid;
+    tree = s.tree;
+    cycle = s.cycle;
+    unused = s.unused;
+    row = s.row;
+    is = s.shrunk;
+  }
 
   pub shrunk_on : (w : ℕ) → w < g.n → s.inside (f.out w) ≡ true → new.out w ≡ s.set
-  shrunk_on = shrinks.out_on (are_darts is) shrunk_root s.tree s.cycle s.unused s.row s.shrunk
+  shrunk_on = shrinks.out_on shrink
 
   pub shrunk_off : (w : ℕ) → w < g.n → s.inside (f.out w) ≡ false → new.out w ≡ f.out w
-  shrunk_off = shrinks.out_off (are_darts is) shrunk_root s.tree s.cycle s.unused s.row s.shrunk
+  shrunk_off = shrinks.out_off shrink
 
   pub shrunk_set : new.label s.set ≡ Outer
-  shrunk_set = shrinks.label_b (are_darts is) shrunk_root s.tree s.cycle s.unused s.row s.shrunk
-
-  shrunk_inside : (x : ℕ) → s.inside x ≡ true → new.label x ≡ Outside
-  shrunk_inside = shrinks.label_on (are_darts is) shrunk_root s.tree s.cycle s.unused s.row s.shrunk
+  shrunk_set = shrinks.label_b shrink
 
   pub shrunk_label : (x : ℕ) → x ≢ s.set → s.inside x ≡ false → new.label x ≡ f.label x
-  shrunk_label = shrinks.label_off (are_darts is) shrunk_root s.tree s.cycle s.unused s.row s.shrunk
-
-  shrunk_load : (u v : ℕ) → u < g.n → v < g.n → weight_between new u v ≡ weight_between f u v
-  shrunk_load = shrinks.same_load (are_darts is) shrunk_root s.tree s.cycle s.unused s.row s.shrunk
+  shrunk_label = shrinks.label_off shrink
 
   -- A blossom on the cycle was outer or inner.
   pub on_cycle : (x : ℕ) → s.inside x ≡ true → (f.label x ≡ Outer) ⊎ (f.label x ≡ Inner)
@@ -298,29 +275,28 @@ module _ {g : WeightedGraph} (is : IsGraph g) {f new : Forest} {root after : Opt
     where
       by_place : (x ≡ s.set) ⊎ (x ≢ s.set) → (s.inside x ≡ true) ⊎ (s.inside x ≡ false) → f.label x ≡ Inner
       by_place (inl e) y = absurd (let c : Outer ≡ Inner = sym shrunk_set ∙ (ap new.label (sym e) ∙ inner) in cc c)
-      by_place (inr ne) (inl on) = absurd (let c : Outside ≡ Inner = sym (shrunk_inside x on) ∙ inner in cc c)
+      by_place (inr ne) (inl on) = absurd (let c : Outside ≡ Inner = sym (shrinks.label_on shrink x on) ∙ inner in cc c)
       by_place (inr ne) (inr off) = sym (shrunk_label x ne off) ∙ inner
 
   pub shrunk_turned : (risen : ℕ) (keys : List ℕ) → ((p : ℕ) → s.inside p ≡ true → f.label p ≡ Inner
       → AreRightAt g new risen keys (new.holds p)) → IsTurned g f new risen keys
   shrunk_turned risen keys right = record {
     slacks = λ e l. ap (λ x. (pos 2 *ℤ (edge_at g e).cost) -ℤ x)
-        (shrunk_load (edge_at g e).u (edge_at g e).v (is.left e l) (is.right e l));
+        (same_load (are_darts is) (shrinks.changes shrink) (edge_at g e).u (edge_at g e).v (is.left e l)
+        (is.right e l));
     ends = λ w l. ends w l (cases_Bool (s.inside (f.out w)));
     same = λ u v lu lv on e. s.shrunk.out u lu ∙ (ap (λ x. cond (s.inside x) s.set x) e ∙ sym (s.shrunk.out v lv));
     sets = λ x h inner. inl (shrunk_inner x inner, s.shrunk.weight x);
   }
     where
       by_label : (w : ℕ) → w < g.n → s.inside (f.out w) ≡ true → (f.label (f.out w) ≡ Outer)
-          ⊎ (f.label (f.out w) ≡ Inner) → IsQuiet f new w ⊎ ((e : ℕ) → e < length g.edges → ((edge_at g e).u ≡ w)
-          ⊎ ((edge_at g e).v ≡ w) → get_or keys e 0 ≡ true_key g new risen e)
+          ⊎ (f.label (f.out w) ≡ Inner) → IsQuiet f new w ⊎ AreRight g new risen keys w
       by_label w l on (inl outer) = inl (inl (ap new.label (shrunk_on w l on) ∙ (shrunk_set ∙ sym outer)))
       by_label w l on (inr inner) =
-          inr (right_at g new risen keys (new.holds (f.out w)) w (right (f.out w) on inner) (part_holds w l))
+          inr (right_at g new risen keys (new.holds (f.out w)) (right (f.out w) on inner) (part_holds w l))
 
       ends : (w : ℕ) → w < g.n → (s.inside (f.out w) ≡ true) ⊎ (s.inside (f.out w) ≡ false) → IsQuiet f new w
-          ⊎ ((e : ℕ) → e < length g.edges → ((edge_at g e).u ≡ w) ⊎ ((edge_at g e).v ≡ w)
-          → get_or keys e 0 ≡ true_key g new risen e)
+          ⊎ AreRight g new risen keys w
       ends w l (inl on) = by_label w l on (on_cycle (f.out w) on)
       ends w l (inr off) = inl
           (inl (ap new.label (shrunk_off w l off) ∙ shrunk_label (f.out w) (s.unused.no_out w l) off))
@@ -337,9 +313,6 @@ module _ {g : WeightedGraph} (is : IsGraph g) {f new : Forest} {r : ℕ} {o : Op
 
   pub opened_old : (w : ℕ) → w < g.n → f.out w ≢ o.b → new.out w ≡ f.out w
   opened_old = expands.out_old expansion
-
-  opened_load : (u v : ℕ) → u < g.n → v < g.n → weight_between new u v ≡ weight_between f u v
-  opened_load = expands.same_load expansion
 
   -- A blossom beside the opened one stays as it was.
   pub opened_label : (w : ℕ) → w < g.n → f.out w ≢ o.b → new.label (f.out w) ≡ f.label (f.out w)
@@ -365,22 +338,21 @@ module _ {g : WeightedGraph} (is : IsGraph g) {f new : Forest} {r : ℕ} {o : Op
       ≡ true_key g new risen (leaf_of g (o.q j))) → IsTurned g f new risen keys
   opened_turned risen keys right leaves = record {
     slacks = λ e l. ap (λ x. (pos 2 *ℤ (edge_at g e).cost) -ℤ x)
-        (opened_load (edge_at g e).u (edge_at g e).v (is.left e l) (is.right e l));
+        (same_load (are_darts is) (expands.changes expansion) (edge_at g e).u (edge_at g e).v (is.left e l)
+        (is.right e l));
     ends = λ w l. ends w l (cases_eq (f.out w) o.b);
     same = λ u v lu lv outer e. same u v lu lv outer e;
     sets = λ x h inner. sets x h inner (opened_inner x inner);
   }
     where
       by_label : (w j : ℕ) → w < g.n → f.out w ≡ o.b → j ≤ 2 * o.half → o.q j ≡ o.part w → (new.label (o.q j) ≡ Inner)
-          ⊎ (new.label (o.q j) ≢ Inner) → IsQuiet f new w ⊎ ((e : ℕ) → e < length g.edges → ((edge_at g e).u ≡ w)
-          ⊎ ((edge_at g e).v ≡ w) → get_or keys e 0 ≡ true_key g new risen e)
+          ⊎ (new.label (o.q j) ≢ Inner) → IsQuiet f new w ⊎ AreRight g new risen keys w
       by_label w j l at lj e (inl inner) = inl (inr (ap new.label (opened_in w l at ∙ sym e) ∙ inner))
       by_label w j l at lj e (inr ne) =
-          inr (right_at g new risen keys (new.holds (o.q j)) w (right j lj ne) (part_held w j l at lj e))
+          inr (right_at g new risen keys (new.holds (o.q j)) (right j lj ne) (part_held w j l at lj e))
 
       ends : (w : ℕ) → w < g.n → (f.out w ≡ o.b) ⊎ (f.out w ≢ o.b) → IsQuiet f new w
-          ⊎ ((e : ℕ) → e < length g.edges → ((edge_at g e).u ≡ w) ⊎ ((edge_at g e).v ≡ w)
-          → get_or keys e 0 ≡ true_key g new risen e)
+          ⊎ AreRight g new risen keys w
       ends w l (inl at) = let p : (j : ℕ) × (j ≤ 2 * o.half) × (o.q j ≡ o.part w) = opening.part_of w l at in
           by_label w p.0 l at p.1 p.2 (inner_cases (new.label (o.q p.0)))
       ends w l (inr ne) = inl (inl (ap new.label (opened_old w l ne) ∙ opened_label w l ne))
@@ -393,8 +365,7 @@ module _ {g : WeightedGraph} (is : IsGraph g) {f new : Forest} {r : ℕ} {o : Op
           ∙ (e ∙ sym (opened_old v lv (λ x. not_b u outer (e ∙ x))))
 
       sets : (x : ℕ) → g.n ≤ x → new.label x ≡ Inner → ((j : ℕ) × (j ≤ 2 * o.half) × (o.q j ≡ x)) ⊎ (f.label x ≡ Inner)
-          → ((f.label x ≡ Inner) × (new.weight x ≡ f.weight x))
-          ⊎ (get_or keys (leaf_of g x) 0 ≡ true_key g new risen (leaf_of g x))
+          → IsSetRight g f new risen keys x
       sets x h inner (inl p) = inr (subst (λ y. get_or keys (leaf_of g y) 0 ≡ true_key g new risen (leaf_of g y)) p.2
           (leaves p.0 p.1 (ap new.label p.2 ∙ inner) (subst (λ y. g.n ≤ y) (sym p.2) h)))
       sets x h inner (inr was) = inl (was, opened.weight x)

@@ -1,11 +1,11 @@
 -- Keys do not change with a shift, and what they say is lawful.
-use Rattle.std.proofs.Common.{◌≡◌, ◌≢◌, ℕ, ◌+◌, ◌-◌, ◌*◌, ◌/◌, ◌%◌, ◌<◌, ◌≤◌, Bool, true, false, eqb, length, ℤ, pos}
+use Rattle.std.proofs.Common.{◌≡◌, ◌≢◌, ℕ, ◌+◌, ◌-◌, ◌*◌, ◌/◌, ◌%◌, ◌<◌, ◌≤◌, Bool, true, false, length, ℤ, pos}
 use Rattle.std.proofs.lemmas.Int.{ints}
 use Rattle.std.proofs.lemmas.Bool.{cases_eq, cases_lt, cond-true, cond-false, eq-eqb, ne_eqb, lt-ltb, le-ltb}
 use Rattle.std.proofs.Common.{◌+ℤ◌, ◌-ℤ◌, ◌*ℤ◌, ◌≤ℤ◌, ◌⊎◌, refl, sym, ◌∙◌, ap, subst, inl, inr, arith}
-use Rattle.std.specs.{Int.RustNames.unsigned_abs, Prelude.nat_lt}
+use Rattle.std.specs.{Int.RustNames.unsigned_abs}
 use Rattle.def_matching.specs.Matching.{WeightedGraph, IsGraph, edge_at}
-use Rattle.def_forest.specs.{Darts.darts_of, Darts.far, Forests.Forest, Forests.IsOutermost, Forests.weight_between}
+use Rattle.def_forest.specs.{Darts.darts_of, Darts.far, Forests.Forest, Forests.weight_between}
 use Rattle.def_forest.specs.{Steps.weight_change, Steps.shifted, Tables.slack_of, Valid.AreOutermost, Valid.IsFeasible}
 use Rattle.def_forest.specs.{declared.kinds.Label.Label, declared.kinds.Label.TheVariants.Outer}
 use Rattle.def_forest.specs.declared.kinds.Label.TheVariants.{Inner, Outside}
@@ -28,13 +28,11 @@ edge_key_low Outside Outside same slack risen = omega arith
 -- The key of an edge, and that of a set.
 pub at_edge : (g : WeightedGraph) (f : Forest) (risen k : ℕ) → k < length g.edges → true_key g f risen k
     ≡ edge_key g f risen k
-at_edge g f risen k l = cond-true (nat_lt k (length g.edges)) (edge_key g f risen k) (set_key f risen (set_of g k))
-    (lt-ltb k (length g.edges) l)
+at_edge g f risen k l = cond-true _ _ _ (lt-ltb k (length g.edges) l)
 
 pub at_set : (g : WeightedGraph) (f : Forest) (risen k : ℕ) → length g.edges ≤ k → true_key g f risen k
     ≡ set_key f risen (set_of g k)
-at_set g f risen k h = cond-false (nat_lt k (length g.edges)) (edge_key g f risen k) (set_key f risen (set_of g k))
-    (le-ltb k (length g.edges) h)
+at_set g f risen k h = cond-false _ _ _ (le-ltb k (length g.edges) h)
 
 pub set_leaf : (g : WeightedGraph) (b : ℕ) → g.n ≤ b → set_of g (leaf_of g b) ≡ b
 set_leaf g b h = omega (arith, h)
@@ -43,12 +41,14 @@ set_leaf g b h = omega (arith, h)
 pub slack_high : (g : WeightedGraph) {f : Forest} (e : ℕ) → IsFeasible (darts_of g) f → e < length g.edges
     → pos 0 ≤ℤ slack_of g f e
 slack_high g {f} e feasible l =
-    let low_load : weight_between f ((darts_of g).near (2 * e)) (far (darts_of g) (2 * e)) ≤ℤ
-    ((darts_of g).cost (2 * e) +ℤ (darts_of g).cost (2 * e)) = feasible.darts (2 * e) (omega (arith, l)) in
-    let same : weight_between f ((darts_of g).near (2 * e)) (far (darts_of g) (2 * e))
-    ≡ weight_between f (edge_at g e).u (edge_at g e).v = ap (λ u. weight_between f u (far (darts_of g) (2 * e)))
-    (dart_near g e) ∙ ap (weight_between f (edge_at g e).u) (dart_far g e) in
-    omega (arith, ints, low_load, same, dart_cost g e)
+    omega (
+      arith,
+      ints,
+      feasible.darts (2 * e) (omega (arith, l)),
+      ap (λ u. weight_between f u (far (darts_of g) (2 * e))) (dart_near g e),
+      ap (weight_between f (edge_at g e).u) (dart_far g e),
+      dart_cost g e,
+    )
 
 -- Where no edge's load is above twice its cost, no dart's is.
 pub darts_low : (g : WeightedGraph) (f : Forest) → ((e : ℕ) → e < length g.edges → pos 0 ≤ℤ slack_of g f e) → (d : ℕ)
@@ -56,27 +56,29 @@ pub darts_low : (g : WeightedGraph) (f : Forest) → ((e : ℕ) → e < length g
     → weight_between f ((darts_of g).near d) (far (darts_of g) d) ≤ℤ ((darts_of g).cost d +ℤ (darts_of g).cost d)
 darts_low g f slacks d l = by_parity (cases_eq (d % 2) 0)
   where
-    e : ℕ
-    e = d / 2
-
     le : d / 2 < length g.edges
     le = omega (arith, l)
 
     at_u : (darts_of g).near d ≡ (edge_at g (d / 2)).u → far (darts_of g) d ≡ (edge_at g (d / 2)).v
         → weight_between f ((darts_of g).near d) (far (darts_of g) d) ≤ℤ ((darts_of g).cost d +ℤ (darts_of g).cost d)
-    at_u eu ev =
-        let same : weight_between f ((darts_of g).near d) (far (darts_of g) d) ≡ weight_between f (edge_at g (d / 2)).u
-        (edge_at g (d / 2)).v = ap (λ u. weight_between f u (far (darts_of g) d)) eu
-        ∙ ap (weight_between f (edge_at g (d / 2)).u) ev in
-        omega (arith, ints, same, slacks (d / 2) le)
+    at_u eu ev = omega (
+      arith,
+      ints,
+      ap (λ u. weight_between f u (far (darts_of g) d)) eu,
+      ap (weight_between f (edge_at g (d / 2)).u) ev,
+      slacks (d / 2) le,
+    )
 
     at_v : (darts_of g).near d ≡ (edge_at g (d / 2)).v → far (darts_of g) d ≡ (edge_at g (d / 2)).u
         → weight_between f ((darts_of g).near d) (far (darts_of g) d) ≤ℤ ((darts_of g).cost d +ℤ (darts_of g).cost d)
-    at_v eu ev =
-        let same : weight_between f ((darts_of g).near d) (far (darts_of g) d) ≡ weight_between f (edge_at g (d / 2)).v
-        (edge_at g (d / 2)).u = ap (λ u. weight_between f u (far (darts_of g) d)) eu
-        ∙ ap (weight_between f (edge_at g (d / 2)).v) ev in
-        omega (arith, ints, same, load_order f (edge_at g (d / 2)).v (edge_at g (d / 2)).u, slacks (d / 2) le)
+    at_v eu ev = omega (
+      arith,
+      ints,
+      ap (λ u. weight_between f u (far (darts_of g) d)) eu,
+      ap (weight_between f (edge_at g (d / 2)).v) ev,
+      load_order f (edge_at g (d / 2)).v (edge_at g (d / 2)).u,
+      slacks (d / 2) le,
+    )
 
     by_parity : (d % 2 ≡ 0) ⊎ (d % 2 ≢ 0) → weight_between f ((darts_of g).near d) (far (darts_of g) d) ≤ℤ
         ((darts_of g).cost d +ℤ (darts_of g).cost d)
@@ -131,86 +133,61 @@ one_label _ _ slack new risen x e = absurd (cc e)
 
 -- Numbers past the end stand for no blossom.
 pub past_end : {n : ℕ} {f : Forest} → AreOutermost n f → (b : ℕ) → f.size ≤ b → f.label b ≡ Outside
-past_end {n} {f} outermost b h = by_label (label_cases (f.label b))
-  where
-    low : (v : ℕ) → v < n → f.out v ≡ b → ⊥
-    low v l e = let lv : f.out v < f.size = outermost.out_low v l in omega (arith, lv, e, h)
-
-    by_label : (f.label b ≡ Outside) ⊎ (f.label b ≢ Outside) → f.label b ≡ Outside
-    by_label (inl e) = e
-    by_label (inr named) = let w : IsOutermost n f b = outermost.named b named in absurd (low w.0 w.1 w.2)
+past_end {f = f} outermost b h = elim (label_cases (f.label b)) [
+  | inl off ↦ off
+  | inr named ↦ (let w = outermost.named b named in absurd (omega (arith, outermost.out_low w.0 w.1, w.2, h)))
+]
 
 module _ (g : WeightedGraph) (is : IsGraph g) (f : Forest) (outermost : AreOutermost g.n f)
     (feasible : IsFeasible (darts_of g) f) (risen x : ℕ) where
   module _ (e : ℕ) (le : e < length g.edges) (room : risen + x ≤ true_key g f risen e) where
-    u : ℕ
-    u = (edge_at g e).u
+    -- The blossoms at its ends, and its slack before and after a shift.
+    abbrev u : ℕ
+    u = f.out (edge_at g e).u
 
-    v : ℕ
-    v = (edge_at g e).v
+    abbrev v : ℕ
+    v = f.out (edge_at g e).v
 
-    apart_key : f.out (edge_at g e).u ≢ f.out (edge_at g e).v → edge_key g f risen e
-        ≡ edge_key_by (f.label (f.out (edge_at g e).u)) (f.label (f.out (edge_at g e).v)) false
-        (unsigned_abs (slack_of g f e)) risen
-    apart_key ne = ap (λ (s : Bool). edge_key_by (f.label (f.out (edge_at g e).u)) (f.label (f.out (edge_at g e).v)) s
-        (unsigned_abs (slack_of g f e)) risen) (ne_eqb (f.out (edge_at g e).u) (f.out (edge_at g e).v) ne)
+    abbrev slack : ℕ
+    slack = unsigned_abs (slack_of g f e)
 
-    slack_within : f.out (edge_at g e).u ≡ f.out (edge_at g e).v → slack_of g (shifted f (pos x)) e ≡ slack_of g f e
+    abbrev later : ℕ
+    later = unsigned_abs (slack_of g (shifted f (pos x)) e)
+
+    slack_within : u ≡ v → slack_of g (shifted f (pos x)) e ≡ slack_of g f e
     slack_within same = ap (λ y. (pos 2 *ℤ (edge_at g e).cost) -ℤ y)
         (load_within outermost (pos x) (edge_at g e).u (edge_at g e).v (is.left e le) (is.right e le) same)
 
-    slack_apart : f.out (edge_at g e).u ≢ f.out (edge_at g e).v → slack_of g (shifted f (pos x)) e
-        ≡ slack_of g f e -ℤ (weight_change (f.label (f.out (edge_at g e).u)) (pos x) +ℤ weight_change
-        (f.label (f.out (edge_at g e).v)) (pos x))
+    slack_apart : u ≢ v → slack_of g (shifted f (pos x)) e
+        ≡ slack_of g f e -ℤ (weight_change (f.label u) (pos x) +ℤ weight_change (f.label v) (pos x))
     slack_apart ne = omega (
       arith,
       ints,
       load_apart outermost (pos x) (edge_at g e).u (edge_at g e).v (is.left e le) (is.right e le) ne,
     )
 
-    room_apart : f.out (edge_at g e).u ≢ f.out (edge_at g e).v → risen + x ≤ edge_key_by
-        (f.label (f.out (edge_at g e).u)) (f.label (f.out (edge_at g e).v)) false (unsigned_abs (slack_of g f e)) risen
-    room_apart ne = subst (λ y. risen + x ≤ y) (at_edge g f risen e le ∙ apart_key ne) room
+    room_apart : u ≢ v → risen + x ≤ edge_key_by (f.label u) (f.label v) false slack risen
+    room_apart ne = subst (λ y. risen + x ≤ y) (at_edge g f risen e le ∙ ap (λ (s : Bool). edge_key_by (f.label u)
+        (f.label v) s slack risen) (ne_eqb u v ne)) room
 
     edge_lawful : pos 0 ≤ℤ slack_of g (shifted f (pos x)) e
-    edge_lawful = by_ends (cases_eq (f.out (edge_at g e).u) (f.out (edge_at g e).v))
-      where
-        by_ends : (f.out (edge_at g e).u ≡ f.out (edge_at g e).v) ⊎ (f.out (edge_at g e).u ≢ f.out (edge_at g e).v)
-            → pos 0 ≤ℤ slack_of g (shifted f (pos x)) e
-        by_ends (inl same) = subst (λ y. pos 0 ≤ℤ y) (sym (slack_within same)) (slack_high g e feasible le)
-        by_ends (inr ne) =
-            let more : (weight_change (f.label (f.out (edge_at g e).u)) (pos x) +ℤ weight_change
-            (f.label (f.out (edge_at g e).v)) (pos x)) ≤ℤ pos (unsigned_abs (slack_of g f e)) =
-            edge_room (f.label (f.out (edge_at g e).u)) (f.label (f.out (edge_at g e).v))
-            (unsigned_abs (slack_of g f e)) risen x (room_apart ne) in
-            omega (arith, ints, more, slack_apart ne, slack_high g e feasible le)
+    edge_lawful = elim (cases_eq u v) [
+      | inl same ↦ subst (λ y. pos 0 ≤ℤ y) (sym (slack_within same)) (slack_high g e feasible le)
+      | inr ne ↦ omega (
+        arith,
+        ints,
+        edge_room (f.label u) (f.label v) slack risen x (room_apart ne),
+        slack_apart ne,
+        slack_high g e feasible le,
+      )
+    ]
 
     edge_key_same : edge_key g (shifted f (pos x)) (risen + x) e ≡ edge_key g f risen e
-    edge_key_same = by_ends (cases_eq (f.out (edge_at g e).u) (f.out (edge_at g e).v))
-      where
-        by_ends : (f.out (edge_at g e).u ≡ f.out (edge_at g e).v) ⊎ (f.out (edge_at g e).u ≢ f.out (edge_at g e).v)
-            → edge_key g (shifted f (pos x)) (risen + x) e ≡ edge_key g f risen e
-        by_ends (inl same) =
-            let on : eqb (f.out (edge_at g e).u) (f.out (edge_at g e).v) ≡ true =
-            eq-eqb (f.out (edge_at g e).u) (f.out (edge_at g e).v) same in
-            ap (λ (s : Bool). edge_key_by (f.label (f.out (edge_at g e).u)) (f.label (f.out (edge_at g e).v)) s
-            (unsigned_abs (slack_of g (shifted f (pos x)) e)) (risen + x)) on
-            ∙ (one_label (f.label (f.out (edge_at g e).u)) (f.label (f.out (edge_at g e).v))
-            (unsigned_abs (slack_of g f e)) (unsigned_abs (slack_of g (shifted f (pos x)) e)) risen x (ap f.label same)
-            ∙ ap (λ (s : Bool). edge_key_by (f.label (f.out (edge_at g e).u)) (f.label (f.out (edge_at g e).v)) s
-            (unsigned_abs (slack_of g f e)) risen) (sym on))
-        by_ends (inr ne) =
-            let off : eqb (f.out (edge_at g e).u) (f.out (edge_at g e).v) ≡ false =
-            ne_eqb (f.out (edge_at g e).u) (f.out (edge_at g e).v) ne in
-            let moved : pos (unsigned_abs (slack_of g (shifted f (pos x)) e)) ≡ pos (unsigned_abs (slack_of g f e)) -ℤ
-            (weight_change (f.label (f.out (edge_at g e).u)) (pos x) +ℤ weight_change
-            (f.label (f.out (edge_at g e).v)) (pos x)) =
-            omega (arith, ints, slack_apart ne, slack_high g e feasible le, edge_lawful) in
-            ap (λ (s : Bool). edge_key_by (f.label (f.out (edge_at g e).u)) (f.label (f.out (edge_at g e).v)) s
-            (unsigned_abs (slack_of g (shifted f (pos x)) e)) (risen + x)) off
-            ∙ (edge_same (f.label (f.out (edge_at g e).u)) (f.label (f.out (edge_at g e).v))
-            (unsigned_abs (slack_of g f e)) (unsigned_abs (slack_of g (shifted f (pos x)) e)) risen x (room_apart ne)
-            moved ∙ sym (apart_key ne))
+    edge_key_same = elim (cases_eq u v) [
+      | inl same ↦ rw (eq-eqb u v same) (one_label (f.label u) (f.label v) slack later risen x (ap f.label same))
+      | inr ne ↦ rw (ne_eqb u v ne) (edge_same (f.label u) (f.label v) slack later risen x (room_apart ne)
+          (omega (arith, ints, slack_apart ne, slack_high g e feasible le, edge_lawful)))
+    ]
 
   module _ (most : ℕ) (sets : length g.edges + (f.size - g.n) ≤ most) (room : (k : ℕ) → k < most
       → risen + x ≤ true_key g f risen k) where

@@ -1,6 +1,6 @@
 -- What each step leaves of a search, and which step a key names.
 use Rattle.std.proofs.Common.{◌≡◌, ◌≢◌, ℕ, ◌+◌, ◌-◌, ◌*◌, ◌/◌, ◌<◌, ◌≤◌, Bool, true, false, cond, eqb, length, Option}
-use Rattle.std.proofs.Common.{Some, None, is_some, ℤ, pos, ◌+ℤ◌, ◌≤ℤ◌, ◌⊎◌, refl, sym, ◌∙◌, ap, subst, inl, inr, arith}
+use Rattle.std.proofs.Common.{Some, None, is_some, ℤ, pos, ◌≤ℤ◌, ◌⊎◌, refl, sym, ◌∙◌, ap, subst, inl, inr, arith}
 use Rattle.std.proofs.lemmas.Int.{ints}
 use Rattle.std.proofs.lemmas.Bool.{cases_eq, cases_lt, cases_Bool, cond-false}
 use Rattle.std.specs.{Int.RustNames.unsigned_abs, Prelude.int_lt}
@@ -14,14 +14,14 @@ use Rattle.def_forest.specs.{declared.kinds.EdgeKind.TheVariants.Shrink, declare
 use Rattle.def_forest.specs.declared.kinds.Label.TheVariants.{Outer, Inner}
 use Rattle.def_forest.specs.declared.kinds.Label.TheVariants.{Outside}
 use Rattle.sum_laws.proofs.Sums.{total_below_same}
-use Rattle.forest_laws.proofs.{Expands.Expansion, Expands.halves, Graphs.are_darts, Parities.slack_even}
+use Rattle.forest_laws.proofs.{Expands.Expansion, Expands.halves, Parities.slack_even}
 use Rattle.forest_laws.proofs.{WayLaws.some_none, Writes.some_is}
 use Rattle.forest_laws.proofs.Expands as expands
 use Rattle.forest_laws.proofs.Shrinks as shrinks
 use Rattle.search_laws.specs.Keys.{no_key, edge_key_by, set_key_by, set_of, true_key}
 use Rattle.search_laws.specs.Searches.{IsSeeking, AreMatchedBefore, IsInRange}
 use Rattle.search_laws.proofs.Keys.{at_edge, at_set, slack_high}
-use Rattle.search_laws.proofs.Kept.{expansion as the_expansion, shrunk_on, shrunk_off}
+use Rattle.search_laws.proofs.Kept.{expansion as the_expansion, shrink, shrunk_on, shrunk_off}
 
 -- Where the weights and their sum are the same they stay in range.
 pub range_same : {n first : ℕ} {f : Forest} (new : Forest) {risen : ℕ} → new.size ≡ f.size
@@ -59,9 +59,6 @@ seeking_shrunk {g} is {f} {new} {v} valid s seeking = record {
     low : (u : ℕ) → u < v → u < g.n
     low u l = omega (arith, l, seeking.vertex)
 
-    valid_r : IsValid (darts_of g) f (Some s.r)
-    valid_r = subst (λ (x : Option ℕ). IsValid (darts_of g) f x) s.old_root valid
-
     by_top : f.mate s.top ≡ None → IsOuter (darts_of g) f s.r s.top → s.top ≡ s.r
     by_top none (inl e) = e
     by_top none (inr w) = absurd (some_none (f.mate s.top) w.0 w.1 none)
@@ -70,15 +67,14 @@ seeking_shrunk {g} is {f} {new} {v} valid s seeking = record {
         → new.out u ≡ new.out v
     before u lu none (inl on) =
         let here : new.out u ≡ s.set = shrunk_on is valid s u (low u lu) on in
-        let mate : f.mate s.top ≡ None = sym (shrinks.mate_b (are_darts is) valid_r s.tree s.cycle s.unused s.row
-        s.shrunk) ∙ (ap new.mate (sym here) ∙ none) in
+        let mate = sym (shrinks.mate_b (shrink is valid s)) ∙ ap new.mate (sym here) ∙ none in
         let top_r : s.top ≡ s.r = by_top mate (s.tree.outer s.top s.cycle.top_outer) in
         let on_v : s.inside (f.out v) ≡ true = ap s.inside (sym (top_r ∙ r_is)) ∙ s.cycle.top_in in
         here ∙ sym (shrunk_on is valid s v seeking.vertex on_v)
     before u lu none (inr off) =
         let here : new.out u ≡ f.out u = shrunk_off is valid s u (low u lu) off in
-        let mate : f.mate (f.out u) ≡ None = sym (shrinks.mate_off (are_darts is) valid_r s.tree s.cycle s.unused s.row
-        s.shrunk (f.out u) (s.unused.no_out u (low u lu)) off) ∙ (ap new.mate (sym here) ∙ none) in
+        let mate = sym (shrinks.mate_off (shrink is valid s) (f.out u) (s.unused.no_out u (low u lu)) off)
+        ∙ ap new.mate (sym here) ∙ none in
         let same : f.out u ≡ f.out v = seeking.before u lu mate in
         here ∙ (same ∙ sym (shrunk_off is valid s v seeking.vertex (ap s.inside (sym same) ∙ off)))
 
@@ -173,42 +169,22 @@ not_loose e = subst (λ y. int_lt (pos 0) y ≡ false) (sym e) refl
 pub edge_step : {g : WeightedGraph} → IsGraph g → {f : Forest} {root : Option ℕ} {risen : ℕ} (e : ℕ)
     → IsValid (darts_of g) f root → e < length g.edges → true_key g f risen e ≡ risen → risen < no_key
     → IsStep (edge_kind g f e)
-edge_step {g} is {f} {root} {risen} e valid low key few = by_key (key_step (f.label (f.out (edge_at g e).u))
-    (f.label (f.out (edge_at g e).v)) (f.mate (f.out (edge_at g e).u)) (f.mate (f.out (edge_at g e).v))
-    (eqb (f.out (edge_at g e).u) (f.out (edge_at g e).v)) (unsigned_abs (slack_of g f e))
-    (sym (at_edge g f risen e low) ∙ key) few)
+edge_step {g} is {f} {root} {risen} e valid low key few =
+    let u = f.out (edge_at g e).u in
+    let v = f.out (edge_at g e).v in
+    let step = key_step (f.label u) (f.label v) (f.mate u) (f.mate v) (eqb u v) (unsigned_abs (slack_of g f e))
+    (sym (at_edge g f risen e low) ∙ key) few in
+    subst IsStep (sym (cond-false (int_lt (pos 0) (slack_of g f e)) Loose
+    (kind_by (f.label u) (f.label v) (f.mate u) (f.mate v) (eqb u v)) (not_loose (tight step.1)))) step.0
   where
-    by_labels : EdgeKind
-    by_labels = kind_by (f.label (f.out (edge_at g e).u)) (f.label (f.out (edge_at g e).v))
-        (f.mate (f.out (edge_at g e).u)) (f.mate (f.out (edge_at g e).v))
-        (eqb (f.out (edge_at g e).u) (f.out (edge_at g e).v))
-
     high : pos 0 ≤ℤ slack_of g f e
     high = slack_high g e valid.feasible low
 
-    tight : slack_of g f e ≡ pos 0 → IsStep (kind_by (f.label (f.out (edge_at g e).u)) (f.label (f.out (edge_at g e).v))
-        (f.mate (f.out (edge_at g e).u)) (f.mate (f.out (edge_at g e).v))
-        (eqb (f.out (edge_at g e).u) (f.out (edge_at g e).v))) → IsStep (edge_kind g f e)
-    tight z step = subst IsStep (sym (cond-false (int_lt (pos 0) (slack_of g f e)) Loose
-        (kind_by (f.label (f.out (edge_at g e).u)) (f.label (f.out (edge_at g e).v)) (f.mate (f.out (edge_at g e).u))
-        (f.mate (f.out (edge_at g e).v)) (eqb (f.out (edge_at g e).u) (f.out (edge_at g e).v))) (not_loose z))) step
-
-    by_half : (half : ℤ) × (slack_of g f e ≡ half +ℤ half) → unsigned_abs (slack_of g f e) / 2 ≡ 0
-        → slack_of g f e ≡ pos 0
-    by_half w h = omega (arith, ints, w.1, h, high)
-
-    by_key : IsStep (kind_by (f.label (f.out (edge_at g e).u)) (f.label (f.out (edge_at g e).v))
-        (f.mate (f.out (edge_at g e).u)) (f.mate (f.out (edge_at g e).v))
-        (eqb (f.out (edge_at g e).u) (f.out (edge_at g e).v))) × ((unsigned_abs (slack_of g f e) ≡ 0)
+    tight : (unsigned_abs (slack_of g f e) ≡ 0)
         ⊎ ((unsigned_abs (slack_of g f e) / 2 ≡ 0) × (f.label (f.out (edge_at g e).u) ≡ Outer)
-        × (f.label (f.out (edge_at g e).v) ≡ Outer))) → IsStep (edge_kind g f e)
-    by_key p = by_slack p.1
-      where
-        by_slack : (unsigned_abs (slack_of g f e) ≡ 0)
-            ⊎ ((unsigned_abs (slack_of g f e) / 2 ≡ 0) × (f.label (f.out (edge_at g e).u) ≡ Outer)
-            × (f.label (f.out (edge_at g e).v) ≡ Outer)) → IsStep (edge_kind g f e)
-        by_slack (inl z) = tight (omega (arith, ints, z, high)) p.0
-        by_slack (inr w) = tight (by_half (slack_even g f root e is valid low w.1 w.2) w.0) p.0
+        × (f.label (f.out (edge_at g e).v) ≡ Outer)) → slack_of g f e ≡ pos 0
+    tight (inl none) = omega (arith, ints, none, high)
+    tight (inr w) = omega (arith, ints, (slack_even g f root e is valid low w.1 w.2).1, w.0, high)
 
 set_step_by : (l : Label) (w : ℤ) {risen : ℕ} → set_key_by l w risen ≡ risen → risen < no_key → (l ≡ Inner)
     × (w ≡ pos 0)
