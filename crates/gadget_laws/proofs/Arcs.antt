@@ -1,8 +1,8 @@
 -- Any states of the units tell a list of the box: the cost of the units that are on is at least its deviation.
-use Rattle.std.proofs.Common.{◌≡◌, ℕ, zero, suc, ◌+◌, ◌-◌, ◌*◌, ◌%◌, ◌/◌, ◌<◌, ◌≤◌, Bool, true, false, ◌==◌, List, []}
+use Rattle.std.proofs.Common.{◌≡◌, ℕ, zero, suc, ◌+◌, ◌*◌, ◌%◌, ◌<◌, ◌≤◌, Bool, true, false, ◌==◌, List, []}
 use Rattle.std.proofs.Common.{◌∷◌, ◌++◌, length, take, drop, Option, ℤ, pos, ◌+ℤ◌, ◌-ℤ◌, ◌≤ℤ◌, refl, sym, ◌∙◌, ap}
-use Rattle.std.proofs.Common.{inl, inr, ◌⊎◌, add-mul, mul-add, one-mul, zero-mul, zero-add, add-zero, div-mul-le_self}
-use Rattle.std.proofs.Common.{mul-le-mul_right, length-append, arith}
+use Rattle.std.proofs.Common.{inl, inr, ◌⊎◌, add-mul, mul-add, one-mul, zero-mul, zero-add, add-zero}
+use Rattle.std.proofs.Common.{length-append, arith}
 use Rattle.std.proofs.lemmas.Int.{ints}
 use Rattle.std.proofs.lemmas.Bool.{cases_lt}
 use Rattle.std.proofs.lemmas.List.{length-take-le, length-drop}
@@ -17,6 +17,7 @@ use Rattle.network_laws.proofs.Lift.{arc_convex}
 use Rattle.gadget_laws.specs.{Marks.trues, Box.IsRaised, Told.marks_from, Told.states_told, Told.steps_told}
 use Rattle.gadget_laws.specs.Told.{lengths_on, lengths_told}
 use Rattle.gadget_laws.proofs.{Unit.ends_active, Units.UnitsAt, Box.own_box, Box.arcwise_length, Box.box_length}
+use Rattle.gadget_laws.proofs.Box.{down_fits}
 use Rattle.gadget_laws.proofs.Box.{arc_active, weighted_ends, units_length, box_active, box_ends}
 use Rattle.gadget_laws.proofs.{Box.side_list, Box.balanced_list, Box.deviations, Box.deviation_list, Law.arcs_at}
 use Rattle.gadget_laws.proofs.{Law.units_at, Steps.raised_in_box, Reading.told_length, Reading.told_fills}
@@ -76,14 +77,16 @@ any_cost : (net : Network) (step : ℕ) (a : Arc) (x k n : ℕ) (os : List Bool)
 any_cost net step a x k zero [] l = rw (add-zero k) (omega (arith, ints))
 any_cost net step a x k (suc n) (true ∷ os) l =
     let past : k + (1 + trues os) ≡ k + 1 + trues os = omega arith in
-    let same : at_step net step a x (k + (1 + trues os)) ≡ at_step net step a x (k + 1 + trues os) =
-    ap (at_step net step a x) past in
-    omega (arith, ints, same, any_cost net step a x (k + 1) n os (omega arith))
+    omega (arith, ints, ap (at_step net step a x) past, any_cost net step a x (k + 1) n os (omega arith))
 any_cost net step a x k (suc n) (false ∷ os) l =
     let none : k + (0 + trues os) ≡ k + trues os = omega arith in
-    let same : at_step net step a x (k + (0 + trues os)) ≡ at_step net step a x (k + trues os) =
-    ap (at_step net step a x) none in
-    omega (arith, ints, same, increments net step a x k (trues os), any_cost net step a x (k + 1) n os (omega arith))
+    omega (
+      arith,
+      ints,
+      ap (at_step net step a x) none,
+      increments net step a x k (trues os),
+      any_cost net step a x (k + 1) n os (omega arith),
+    )
 any_cost net step a x k _ _ l = absurd (omega arith)
 
 -- Units in a row take their states in a row.
@@ -91,21 +94,23 @@ active_none : (v : ℕ) (us : List ArcUnit) → active v us [] ≡ 0
 active_none v [] = refl
 active_none v (u ∷ us) = refl
 
-active_split : (v : ℕ) (us vs : List ArcUnit) (ons : List Bool) → active v (us ++ vs) ons
-    ≡ active v us (take (length us) ons) + active v vs (drop (length us) ons)
-active_split v [] vs ons = omega arith
-active_split v (u ∷ us) vs [] = omega (arith, active_none v vs)
-active_split v (u ∷ us) vs (on ∷ ons) = omega (arith, active_split v us vs ons)
+active_split : (v : ℕ) (us vs : List ArcUnit) (ons : List Bool) {n : ℕ} → length us ≡ n → active v (us ++ vs) ons
+    ≡ active v us (take n ons) + active v vs (drop n ons)
+active_split v [] vs ons {n = zero} l = omega arith
+active_split v (u ∷ us) vs [] {n = suc n} l = omega (arith, active_none v vs)
+active_split v (u ∷ us) vs (on ∷ ons) {n = suc n} l = omega (arith, active_split v us vs ons {n = n} (omega arith))
+active_split v _ vs ons l = absurd (omega arith)
 
 cost_none : (us : List ArcUnit) → cost_on us [] ≡ pos 0
 cost_none [] = refl
 cost_none (u ∷ us) = refl
 
-cost_split : (us vs : List ArcUnit) (ons : List Bool) → cost_on (us ++ vs) ons
-    ≡ cost_on us (take (length us) ons) +ℤ cost_on vs (drop (length us) ons)
-cost_split [] vs ons = omega (arith, ints)
-cost_split (u ∷ us) vs [] = omega (arith, ints, cost_none vs)
-cost_split (u ∷ us) vs (on ∷ ons) = omega (arith, ints, cost_split us vs ons)
+cost_split : (us vs : List ArcUnit) (ons : List Bool) {n : ℕ} → length us ≡ n → cost_on (us ++ vs) ons
+    ≡ cost_on us (take n ons) +ℤ cost_on vs (drop n ons)
+cost_split [] vs ons {n = zero} l = omega (arith, ints)
+cost_split (u ∷ us) vs [] {n = suc n} l = omega (arith, ints, cost_none vs)
+cost_split (u ∷ us) vs (on ∷ ons) {n = suc n} l = omega (arith, ints, cost_split us vs ons {n = n} (omega arith))
+cost_split _ vs ons l = absurd (omega arith)
 
 trues_take : (n : ℕ) (ms : List Bool) → trues (take n ms) ≤ n
 trues_take zero ms = omega arith
@@ -127,12 +132,10 @@ first_length : (net : Network) (step : ℕ) (a : Arc) (arcs : List Arc) (x : ℕ
     → length ons ≡ length (units net step (a ∷ arcs) (x ∷ xs)) → (length (take (cap step a x) ons) ≡ cap step a x)
     × (length (drop (cap step a x) ons) ≡ length (units net step arcs xs))
 first_length net step a arcs x xs ons l =
-    let whole : length ons ≡ cap step a x + length (units net step arcs xs) =
-    omega (
+    let whole : length ons ≡ cap step a x + length (units net step arcs xs) = omega (
       arith,
       l,
-      length-append (units_from net step a (low step a x) 0 (cap step a x))
-          (units net step arcs xs),
+      length-append (units_from net step a (low step a x) 0 (cap step a x)) (units net step arcs xs),
       units_length net step a x 0 (cap step a x),
     ) in
     (length-take-le (cap step a x) ons (omega (arith, whole)), omega (arith, whole, length-drop (cap step a x) ons))
@@ -143,22 +146,12 @@ told_active : (net : Network) (step v : ℕ) (arcs : List Arc) (xs : List ℕ) (
     (arcwise (cap step) arcs xs)
 told_active net step v [] [] ons l m = refl
 told_active net step v (a ∷ arcs) (x ∷ xs) ons l m =
-    let n : ℕ = cap step a x in
-    let ls : (length (take n ons) ≡ n) × (length (drop n ons) ≡ length (units net step arcs xs)) =
-    first_length net step a arcs x xs ons m in
-    let len : length (units_from net step a (low step a x) 0 n) ≡ n = units_length net step a x 0 n in
-    let first : active v (units_from net step a (low step a x) 0 n)
-    (take (length (units_from net step a (low step a x) 0 n)) ons)
-    ≡ active v (units_from net step a (low step a x) 0 n) (take n ons) =
-    ap (λ k. active v (units_from net step a (low step a x) 0 n) (take k ons)) len in
-    let others : active v (units net step arcs xs) (drop (length (units_from net step a (low step a x) 0 n)) ons)
-    ≡ active v (units net step arcs xs) (drop n ons) =
-    ap (λ k. active v (units net step arcs xs) (drop k ons)) len in
+    let n = cap step a x in
+    let ls = first_length net step a arcs x xs ons m in
     omega (
       arith,
-      first,
-      others,
-      active_split v (units_from net step a (low step a x) 0 n) (units net step arcs xs) ons,
+      active_split v (units_from net step a (low step a x) 0 n) (units net step arcs xs) ons
+          (units_length net step a x 0 n),
       any_active net step v a x 0 n (take n ons) ls.0,
       told_active net step v arcs xs (drop n ons) (omega arith) ls.1,
     )
@@ -173,29 +166,16 @@ told_dear net step [] [] ons l m = omega (arith, ints, none ons)
     none : (os : List Bool) → cost_on [] os ≡ pos 0
     none os = refl
 told_dear net step (a ∷ arcs) (x ∷ xs) ons l m =
-    let n : ℕ = cap step a x in
-    let t : ℕ = trues (take n ons) in
-    let ls : (length (take n ons) ≡ n) × (length (drop n ons) ≡ length (units net step arcs xs)) =
-    first_length net step a arcs x xs ons m in
-    let len : length (units_from net step a (low step a x) 0 n) ≡ n = units_length net step a x 0 n in
-    let first : cost_on (units_from net step a (low step a x) 0 n)
-    (take (length (units_from net step a (low step a x) 0 n)) ons)
-    ≡ cost_on (units_from net step a (low step a x) 0 n) (take n ons) =
-    ap (λ k. cost_on (units_from net step a (low step a x) 0 n) (take k ons)) len in
-    let others : cost_on (units net step arcs xs) (drop (length (units_from net step a (low step a x) 0 n)) ons)
-    ≡ cost_on (units net step arcs xs) (drop n ons) = ap (λ k. cost_on (units net step arcs xs) (drop k ons)) len in
+    let n = cap step a x in
+    let ls = first_length net step a arcs x xs ons m in
     let begin : low step a x + 0 * step ≡ low step a x = omega (arith, zero-mul step) in
-    let bottom : at_step net step a x 0 ≡ arc_deviation net a (pos (low step a x)) =
-    ap (λ k. arc_deviation net a (pos k)) begin in
-    let top : at_step net step a x (0 + t) ≡ at_step net step a x t = ap (at_step net step a x) (zero-add t) in
     omega (
       arith,
       ints,
-      first,
-      others,
-      bottom,
-      top,
-      cost_split (units_from net step a (low step a x) 0 n) (units net step arcs xs) ons,
+      ap (λ k. arc_deviation net a (pos k)) begin,
+      ap (at_step net step a x) (zero-add (trues (take n ons))),
+      cost_split (units_from net step a (low step a x) 0 n) (units net step arcs xs) ons
+          (units_length net step a x 0 n),
       any_cost net step a x 0 n (take n ons) ls.0,
       told_dear net step arcs xs (drop n ons) (omega arith) ls.1,
     )
@@ -217,10 +197,7 @@ active_past nodes v (u ∷ us) (on ∷ ons) le at = omega (
 
 -- The lows are as high as the floors, and so is each list of the box.
 low_high : (step : ℕ) (a : Arc) (x : ℕ) → a.floor ≤ x → a.floor ≤ low step a x
-low_high step a x le =
-    let h : down step a x * step ≤ ((x - a.floor) / step) * step = mul-le-mul_right step (omega arith) in
-    let g : ((x - a.floor) / step) * step ≤ x - a.floor = div-mul-le_self (x - a.floor) step in
-    omega (arith, h, g)
+low_high step a x le = omega (arith, down_fits step a x)
 
 box_high : (step : ℕ) (arcs : List Arc) (xs js ys : List ℕ) → IsRaised step arcs xs js ys
     → ((k : ℕ) → k < length arcs → pos (arc_at arcs k).floor ≤ℤ entries xs k) → (k : ℕ) → k < length arcs

@@ -15,12 +15,15 @@ use Rattle.def_flow.specs.{Units.is_active, Units.active, Units.cost_on, declare
 use Rattle.def_flow.specs.declared.units.ArcUnit.{ArcUnit}
 use Rattle.gadget_laws.specs.Box.{IsRaised}
 
+-- The steps down from an entry lead no lower than its floor.
+pub down_fits : (step : ℕ) (a : Arc) (x : ℕ) → down step a x * step ≤ x - a.floor
+down_fits step a x =
+    let h : down step a x * step ≤ ((x - a.floor) / step) * step = mul-le-mul_right step (omega arith) in
+    omega (arith, h, div-mul-le_self (x - a.floor) step)
+
 -- A list is its lows and as many steps as it can give up.
 pub low_is : (step : ℕ) (a : Arc) (x : ℕ) → low step a x + down step a x * step ≡ x
-low_is step a x =
-    let h : down step a x * step ≤ ((x - a.floor) / step) * step = mul-le-mul_right step (omega arith) in
-    let g : ((x - a.floor) / step) * step ≤ x - a.floor = div-mul-le_self (x - a.floor) step in
-    omega (arith, h, g)
+low_is step a x = omega (arith, down_fits step a x)
 
 pub own_box : (step : ℕ) (arcs : List Arc) (xs : List ℕ) → length xs ≡ length arcs
     → IsRaised step arcs xs (arcwise (down step) arcs xs) xs

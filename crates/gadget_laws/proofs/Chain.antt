@@ -31,9 +31,13 @@ two_more : (w : ℕ → ℤ) (fresh n : ℕ) → span w fresh (pairs (suc (suc n
 two_more w fresh n =
     let more : pairs (suc (suc n)) ≡ suc (suc (pairs (suc n))) = omega arith in
     let past : fresh + 1 + 1 ≡ fresh + 2 = omega arith in
-    let same : span w (fresh + 1 + 1) (pairs (suc n)) ≡ span w (fresh + 2) (pairs (suc n)) =
-    ap (λ a. span w a (pairs (suc n))) past in
-    ap (span w fresh) more ∙ omega (arith, ints, same)
+    ap (span w fresh) more ∙ omega (arith, ints, ap (λ a. span w a (pairs (suc n))) past)
+
+still_even : (a b : Bool) (n : ℕ) → (cond a 1 0 + (cond b 1 0 + n)) % 2 ≡ 0 → (cond (differ a b) 1 0 + n) % 2 ≡ 0
+still_even true true n even = omega arith
+still_even true false n even = omega arith
+still_even false true n even = omega arith
+still_even false false n even = omega arith
 
 -- What is picked at the rim weighs what waits and what is fresh.
 pub chain_sum : (w : ℕ → ℤ) (before : Option ℕ) (waits : Bool) (fresh : ℕ) (rs : List ℕ) (os : List Bool)
@@ -43,10 +47,6 @@ pub chain_sum : (w : ℕ → ℤ) (before : Option ℕ) (waits : Bool) (fresh : 
 chain_sum w None waits fresh [] [] l there even = refl
 chain_sum w (Some b) true fresh [] [] l there even = absurd (omega arith)
 chain_sum w (Some b) false fresh [] [] l there even = refl
-chain_sum w before waits fresh [] (o ∷ os) l there even = absurd (omega arith)
-chain_sum w before waits fresh (r ∷ rs) [] l there even = absurd (omega arith)
-chain_sum w before waits fresh (r ∷ []) (o ∷ p ∷ os) l there even = absurd (omega arith)
-chain_sum w before waits fresh (r ∷ s ∷ rs) (o ∷ []) l there even = absurd (omega arith)
 chain_sum w None true fresh (r ∷ []) (o ∷ []) l there even = absurd (true≢false there)
 chain_sum w None false fresh (r ∷ []) (true ∷ []) l there even = absurd (omega arith)
 chain_sum w None false fresh (r ∷ []) (false ∷ []) l there even = omega (arith, ints)
@@ -54,55 +54,26 @@ chain_sum w (Some b) true fresh (r ∷ []) (true ∷ []) l there even = omega (a
 chain_sum w (Some b) true fresh (r ∷ []) (false ∷ []) l there even = absurd (omega arith)
 chain_sum w (Some b) false fresh (r ∷ []) (true ∷ []) l there even = absurd (omega arith)
 chain_sum w (Some b) false fresh (r ∷ []) (false ∷ []) l there even = omega (arith, ints)
-chain_sum w None true fresh (r ∷ s ∷ rs) (o ∷ p ∷ os) l there even = absurd (true≢false there)
-chain_sum w None false fresh (r ∷ s ∷ rs) (true ∷ p ∷ os) l there even =
-    omega (
-      arith,
-      ints,
-      two_more w fresh (length rs),
-      chain_sum w (Some (fresh + 1)) true (fresh + 2) (s ∷ rs) (p ∷ os)
-          (omega arith) tt (omega arith),
-    )
-chain_sum w None false fresh (r ∷ s ∷ rs) (false ∷ p ∷ os) l there even =
-    omega (
-      arith,
-      ints,
-      two_more w fresh (length rs),
-      chain_sum w (Some (fresh + 1)) false (fresh + 2) (s ∷ rs) (p ∷ os)
-          (omega arith) tt (omega arith),
-    )
-chain_sum w (Some b) true fresh (r ∷ s ∷ rs) (true ∷ p ∷ os) l there even =
-    omega (
-      arith,
-      ints,
-      two_more w fresh (length rs),
-      chain_sum w (Some (fresh + 1)) false (fresh + 2) (s ∷ rs) (p ∷ os)
-          (omega arith) tt (omega arith),
-    )
-chain_sum w (Some b) true fresh (r ∷ s ∷ rs) (false ∷ p ∷ os) l there even =
-    omega (
-      arith,
-      ints,
-      two_more w fresh (length rs),
-      chain_sum w (Some (fresh + 1)) true (fresh + 2) (s ∷ rs) (p ∷ os)
-          (omega arith) tt (omega arith),
-    )
-chain_sum w (Some b) false fresh (r ∷ s ∷ rs) (true ∷ p ∷ os) l there even =
-    omega (
-      arith,
-      ints,
-      two_more w fresh (length rs),
-      chain_sum w (Some (fresh + 1)) true (fresh + 2) (s ∷ rs) (p ∷ os)
-          (omega arith) tt (omega arith),
-    )
-chain_sum w (Some b) false fresh (r ∷ s ∷ rs) (false ∷ p ∷ os) l there even =
-    omega (
-      arith,
-      ints,
-      two_more w fresh (length rs),
-      chain_sum w (Some (fresh + 1)) false (fresh + 2) (s ∷ rs) (p ∷ os)
-          (omega arith) tt (omega arith),
-    )
+chain_sum w before waits fresh (r ∷ s ∷ rs) (o ∷ p ∷ os) l there even =
+    step before waits o there (chain_sum w (Some (fresh + 1)) (differ waits o) (fresh + 2) (s ∷ rs) (p ∷ os)
+    (omega arith) tt (still_even waits o (trues (p ∷ os)) even))
+  where
+    step : (before : Option ℕ) (waits o : Bool) → IsThere before waits
+        → picked (at_ends w) (rim_marks (Some (fresh + 1)) (differ waits o) (fresh + 2) (p ∷ os))
+        (rim_links (Some (fresh + 1)) (fresh + 2) (s ∷ rs))
+        ≡ waiting w (Some (fresh + 1)) (differ waits o) +ℤ (picked w (p ∷ os) (s ∷ rs) +ℤ span w (fresh + 2)
+        (pairs (length (s ∷ rs))))
+        → picked (at_ends w) (rim_marks before waits fresh (o ∷ p ∷ os)) (rim_links before fresh (r ∷ s ∷ rs))
+        ≡ waiting w before waits +ℤ (picked w (o ∷ p ∷ os) (r ∷ s ∷ rs) +ℤ span w fresh
+        (pairs (length (r ∷ s ∷ rs))))
+    step None true o there more = absurd (true≢false there)
+    step None false true there more = omega (arith, ints, two_more w fresh (length rs), more)
+    step None false false there more = omega (arith, ints, two_more w fresh (length rs), more)
+    step (Some b) true true there more = omega (arith, ints, two_more w fresh (length rs), more)
+    step (Some b) true false there more = omega (arith, ints, two_more w fresh (length rs), more)
+    step (Some b) false true there more = omega (arith, ints, two_more w fresh (length rs), more)
+    step (Some b) false false there more = omega (arith, ints, two_more w fresh (length rs), more)
+chain_sum w before waits fresh _ _ l there even = absurd (omega arith)
 
 -- Edges that cost nothing.
 abbrev pub AreFree : List WEdge → Type 0

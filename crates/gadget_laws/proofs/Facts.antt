@@ -2,10 +2,11 @@
 use Rattle.std.proofs.Common.{◌≡◌, ℕ, ◌+◌, ◌<◌, ◌≤◌, Bool, true, false, cond, not, nat_lt, List, [], ◌∷◌, ◌++◌, length}
 use Rattle.std.proofs.lemmas.Int.{ints}
 use Rattle.std.proofs.lemmas.Bool.{cases_lt}
-use Rattle.std.proofs.Common.{take, drop, Option, Some, None, ℤ, pos, ◌+ℤ◌, ◌*ℤ◌, ap, length-append, arith}
+use Rattle.std.proofs.Common.{take, drop, Option, Some, None, ℤ, pos, ◌+ℤ◌, ◌*ℤ◌, ◌∙◌, ap, length-append, arith}
 use Rattle.def_math.specs.Counts.{count_below}
 use Rattle.def_flow.specs.{Units.is_active, MatchingGraph.link, MatchingGraph.to_copies, MatchingGraph.inner_link}
-use Rattle.def_flow.specs.{MatchingGraph.are_alike, MatchingGraph.links_by, declared.net.End.End}
+use Rattle.def_flow.specs.MatchingGraph.{are_alike, links_by, unit_links, unit_size, units_links}
+use Rattle.def_flow.specs.{declared.net.End.End, declared.units.ArcUnit.ArcUnit}
 use Rattle.def_matching.specs.declared.weighted.WEdge.{WEdge}
 use Rattle.gadget_laws.specs.{Marks.trues, Told.width_by, Told.state_told}
 use Rattle.gadget_laws.proofs.{Pick.picked, Pick.fan_length, Unit.alike_active, Unit.unlike_active, Touch.head_mark}
@@ -29,59 +30,56 @@ abbrev pub IsWorth : (WEdge → ℤ) → (ℕ → ℕ) → ℕ → ℤ → End �
 IsWorth f copies_at b c e s = (i : ℕ) → i < copies_at e.node
     → f (link b (count_below copies_at e.node + i) (cond e.plus c (pos 0))) ≡ s
 
-end_pick : (f : WEdge → ℤ) (copies_at : ℕ → ℕ) (b : ℕ) (c : ℤ) (e : End) (s : ℤ) (ms : List Bool)
-    → IsWorth f copies_at b c e s → picked f ms (to_copies copies_at b c e) ≡ pos (trues (take (copies_at e.node) ms))
-    *ℤ s
-end_pick f copies_at b c e s ms worth = fan_pick f ms b (cond e.plus c (pos 0)) (count_below copies_at e.node)
-    (copies_at e.node) s worth
+module _ (f : WEdge → ℤ) (copies_at : ℕ → ℕ) where
+  end_pick : (b : ℕ) (c : ℤ) (e : End) (s : ℤ) (ms : List Bool) → IsWorth f copies_at b c e s
+      → picked f ms (to_copies copies_at b c e) ≡ pos (trues (take (copies_at e.node) ms)) *ℤ s
+  end_pick b c e s ms worth =
+      fan_pick f ms b (cond e.plus c (pos 0)) (count_below copies_at e.node) (copies_at e.node) s worth
 
-end_split : (f : WEdge → ℤ) (copies_at : ℕ → ℕ) (b : ℕ) (c : ℤ) (e : End) (ms : List Bool) (es : List WEdge)
-    → picked f ms (to_copies copies_at b c e ++ es) ≡ picked f ms (to_copies copies_at b c e) +ℤ picked f
-    (drop (copies_at e.node) ms) es
-end_split f copies_at b c e ms es =
-    let same : picked f (drop (length (to_copies copies_at b c e)) ms) es ≡ picked f (drop (copies_at e.node) ms) es =
-    ap (λ n. picked f (drop n ms) es) (fan_length b (cond e.plus c (pos 0)) (count_below copies_at e.node)
-    (copies_at e.node)) in
-    omega (arith, ints, pick_split f ms (to_copies copies_at b c e) es, same)
+  end_split : (b : ℕ) (c : ℤ) (e : End) (ms : List Bool) (es : List WEdge)
+      → picked f ms (to_copies copies_at b c e ++ es)
+      ≡ picked f ms (to_copies copies_at b c e) +ℤ picked f (drop (copies_at e.node) ms) es
+  end_split b c e ms es = pick_split f ms (to_copies copies_at b c e) es
+      ∙ ap (λ n. picked f ms (to_copies copies_at b c e) +ℤ picked f (drop n ms) es)
+      (fan_length b (cond e.plus c (pos 0)) (count_below copies_at e.node) (copies_at e.node))
 
-pub lone_pick : (f : WEdge → ℤ) (copies_at : ℕ → ℕ) (b : ℕ) (c : ℤ) (left : End) (s : ℤ) (ms : List Bool)
-    → IsWorth f copies_at b c left s → picked f ms (to_copies copies_at b c left ++ inner_link b c left ∷ [])
-    ≡ pos (left_marks copies_at ms left) *ℤ s +ℤ cond (lone_inner copies_at ms left) (f (inner_link b c left)) (pos 0)
-lone_pick f copies_at b c left s ms worth =
-    omega (
-      arith,
-      ints,
-      end_split f copies_at b c left ms (inner_link b c left ∷ []),
-      end_pick f copies_at b c left s ms worth,
-      pick_last f (drop (copies_at left.node) ms) (inner_link b c left),
-    )
+  pub lone_pick : (b : ℕ) (c : ℤ) (left : End) (s : ℤ) (ms : List Bool) → IsWorth f copies_at b c left s
+      → picked f ms (to_copies copies_at b c left ++ inner_link b c left ∷ [])
+      ≡ pos (left_marks copies_at ms left) *ℤ s +ℤ cond (lone_inner copies_at ms left) (f (inner_link b c left))
+      (pos 0)
+  lone_pick b c left s ms worth = omega (
+    arith,
+    ints,
+    end_split b c left ms (inner_link b c left ∷ []),
+    end_pick b c left s ms worth,
+    pick_last f (drop (copies_at left.node) ms) (inner_link b c left),
+  )
 
-pub alike_pick : (f : WEdge → ℤ) (copies_at : ℕ → ℕ) (b : ℕ) (c : ℤ) (left right : End) (s t : ℤ) (ms : List Bool)
-    → IsWorth f copies_at b c left s → IsWorth f copies_at (b + 1) (pos 0) right t
-    → picked f ms (to_copies copies_at b c left ++ (to_copies copies_at (b + 1) (pos 0) right ++ inner_link b c left
-    ∷ [])) ≡ pos (left_marks copies_at ms left) *ℤ s +ℤ (pos (right_marks copies_at ms left right) *ℤ t +ℤ cond
-    (alike_inner copies_at ms left right) (f (inner_link b c left)) (pos 0))
-alike_pick f copies_at b c left right s t ms worth other = omega (
-  arith,
-  ints,
-  end_split f copies_at b c left ms (to_copies copies_at (b + 1) (pos 0) right ++ inner_link b c left ∷ []),
-  end_pick f copies_at b c left s ms worth,
-  end_split f copies_at (b + 1) (pos 0) right (drop (copies_at left.node) ms) (inner_link b c left ∷ []),
-  end_pick f copies_at (b + 1) (pos 0) right t (drop (copies_at left.node) ms) other,
-  pick_last f (drop (copies_at right.node) (drop (copies_at left.node) ms)) (inner_link b c left),
-)
+  pub alike_pick : (b : ℕ) (c : ℤ) (left right : End) (s t : ℤ) (ms : List Bool) → IsWorth f copies_at b c left s
+      → IsWorth f copies_at (b + 1) (pos 0) right t
+      → picked f ms (to_copies copies_at b c left ++ (to_copies copies_at (b + 1) (pos 0) right ++ inner_link b c left
+      ∷ [])) ≡ pos (left_marks copies_at ms left) *ℤ s +ℤ (pos (right_marks copies_at ms left right) *ℤ t +ℤ cond
+      (alike_inner copies_at ms left right) (f (inner_link b c left)) (pos 0))
+  alike_pick b c left right s t ms worth other = omega (
+    arith,
+    ints,
+    end_split b c left ms (to_copies copies_at (b + 1) (pos 0) right ++ inner_link b c left ∷ []),
+    end_pick b c left s ms worth,
+    end_split (b + 1) (pos 0) right (drop (copies_at left.node) ms) (inner_link b c left ∷ []),
+    end_pick (b + 1) (pos 0) right t (drop (copies_at left.node) ms) other,
+    pick_last f (drop (copies_at right.node) (drop (copies_at left.node) ms)) (inner_link b c left),
+  )
 
-pub unlike_pick : (f : WEdge → ℤ) (copies_at : ℕ → ℕ) (b : ℕ) (c : ℤ) (left right : End) (s t : ℤ) (ms : List Bool)
-    → IsWorth f copies_at b c left s → IsWorth f copies_at b c right t
-    → picked f ms (to_copies copies_at b c left ++ to_copies copies_at b c right)
-    ≡ pos (left_marks copies_at ms left) *ℤ s +ℤ pos (right_marks copies_at ms left right) *ℤ t
-unlike_pick f copies_at b c left right s t ms worth other = omega (
-  arith,
-  ints,
-  end_split f copies_at b c left ms (to_copies copies_at b c right),
-  end_pick f copies_at b c left s ms worth,
-  end_pick f copies_at b c right t (drop (copies_at left.node) ms) other,
-)
+  pub unlike_pick : (b : ℕ) (c : ℤ) (left right : End) (s t : ℤ) (ms : List Bool) → IsWorth f copies_at b c left s
+      → IsWorth f copies_at b c right t → picked f ms (to_copies copies_at b c left ++ to_copies copies_at b c right)
+      ≡ pos (left_marks copies_at ms left) *ℤ s +ℤ pos (right_marks copies_at ms left right) *ℤ t
+  unlike_pick b c left right s t ms worth other = omega (
+    arith,
+    ints,
+    end_split b c left ms (to_copies copies_at b c right),
+    end_pick b c left s ms worth,
+    end_pick b c right t (drop (copies_at left.node) ms) other,
+  )
 
 -- A unit has as many edges as its width says.
 pub links_width : (copies_at : ℕ → ℕ) (b : ℕ) (c : ℤ) (left : End) (right : Option End)
@@ -111,6 +109,15 @@ links_width copies_at b c left (Some right) =
 
     second : (u : ℕ) (d : ℤ) → length (to_copies copies_at u d right) ≡ copies_at right.node
     second u d = fan_length u (cond right.plus d (pos 0)) (count_below copies_at right.node) (copies_at right.node)
+
+-- What is picked at units is what is picked at the first one, and past its edges at the others.
+pub pick_units : (f : WEdge → ℤ) (copies_at : ℕ → ℕ) (b : ℕ) (u : ArcUnit) (us : List ArcUnit) (ms : List Bool)
+    → picked f ms (units_links copies_at b (u ∷ us)) ≡ picked f ms (unit_links copies_at b u) +ℤ picked f
+    (drop (width_by copies_at u.left u.right) ms) (units_links copies_at (b + unit_size u) us)
+pick_units f copies_at b u us ms =
+    pick_split f ms (unit_links copies_at b u) (units_links copies_at (b + unit_size u) us)
+    ∙ ap (λ n. picked f ms (unit_links copies_at b u) +ℤ picked f (drop n ms)
+    (units_links copies_at (b + unit_size u) us)) (links_width copies_at b u.cost u.left u.right)
 
 -- Each own vertex of a unit has one mate among the unit's edges, but for the one at the rim.
 pub record IsPairOk (copies_at : ℕ → ℕ) (ms : List Bool) (left right : End) : Type 0 where
@@ -145,8 +152,7 @@ pub lone_told : (copies_at : ℕ → ℕ) (ms : List Bool) (left : End) → IsUn
     → (left_marks copies_at ms left ≡ cond (told copies_at ms left left) 1 0)
     × (lone_inner copies_at ms left ≡ not (told copies_at ms left left))
 lone_told copies_at ms left ok =
-    let first : left_marks copies_at ms left ≡ cond (told copies_at ms left left) 1 0 =
-    left_told copies_at ms left (omega (arith, ok)) in (
+    let first = left_told copies_at ms left (omega (arith, ok)) in (
       first,
       mark_rest (lone_inner copies_at ms left) (told copies_at ms left left) (left_marks copies_at ms left) first
           ok,
@@ -157,10 +163,8 @@ pub alike_told : (copies_at : ℕ → ℕ) (ms : List Bool) (left right : End) �
     × (right_marks copies_at ms left right ≡ cond (told copies_at ms left right) 1 0)
     × (alike_inner copies_at ms left right ≡ not (told copies_at ms left left))
 alike_told copies_at ms left right ok alike =
-    let first : left_marks copies_at ms left ≡ cond (told copies_at ms left left) 1 0 =
-    left_told copies_at ms left (omega (arith, ok.alike_left alike)) in
-    let same : told copies_at ms left left ≡ told copies_at ms left right =
-    alike_active (state_told copies_at ms left) left right alike in
+    let first = left_told copies_at ms left (omega (arith, ok.alike_left alike)) in
+    let same = alike_active (state_told copies_at ms left) left right alike in
     let equal : ◌≡◌ {A = ℕ} (cond (told copies_at ms left left) 1 0) (cond (told copies_at ms left right) 1 0) =
     ap (λ a. cond a 1 0) same in (
       first,
@@ -173,10 +177,8 @@ pub unlike_told : (copies_at : ℕ → ℕ) (ms : List Bool) (left right : End) 
     → are_alike left right ≡ false → (left_marks copies_at ms left ≡ cond (told copies_at ms left left) 1 0)
     × (right_marks copies_at ms left right ≡ cond (told copies_at ms left right) 1 0)
 unlike_told copies_at ms left right ok unlike =
-    let first : left_marks copies_at ms left ≡ cond (told copies_at ms left left) 1 0 =
-    left_told copies_at ms left (omega (arith, ok.unlike unlike)) in
-    let other : told copies_at ms left left ≡ not (told copies_at ms left right) =
-    unlike_active (state_told copies_at ms left) left right unlike in
+    let first = left_told copies_at ms left (omega (arith, ok.unlike unlike)) in
+    let other = unlike_active (state_told copies_at ms left) left right unlike in
     let equal : ◌≡◌ {A = ℕ} (cond (told copies_at ms left left) 1 0) (cond (not (told copies_at ms left right)) 1 0) =
     ap (λ a. cond a 1 0) other in
     (first, grind (arith, first, equal, ok.unlike unlike))

@@ -1,5 +1,5 @@
 -- The matching graph is a graph: each edge has two different ends among the vertices.
-use Rattle.std.proofs.Common.{◌≡◌, ◌≢◌, ℕ, zero, suc, ◌+◌, ◌<◌, ◌≤◌, Bool, true, false, cond, List, [], ◌∷◌, ◌++◌}
+use Rattle.std.proofs.Common.{◌≢◌, ℕ, zero, suc, ◌+◌, ◌<◌, ◌≤◌, Bool, true, false, cond, List, [], ◌∷◌, ◌++◌}
 use Rattle.std.proofs.Common.{length, get_or, Option, Some, None, ℤ, pos, ap, inl, inr, ◌⊎◌, arith}
 use Rattle.std.proofs.lemmas.Bool.{cases_eq}
 use Rattle.def_math.specs.Counts.{count, count_below}
@@ -29,13 +29,10 @@ fan_links n u c a (suc m) le lt = ((lt, omega arith, λ e. omega arith), fan_lin
 pub copies_below : (copies_at : ℕ → ℕ) (v nodes : ℕ) → v < nodes → count_below copies_at v + copies_at v
     ≤ count_below copies_at nodes
 copies_below copies_at v zero l = absurd (omega arith)
-copies_below copies_at v (suc n) l = by_last (cases_eq v n) (copies_below copies_at v n)
-  where
-    by_last : (v ≡ n) ⊎ (v ≢ n) → (v < n → count_below copies_at v + copies_at v ≤ count_below copies_at n)
-        → count_below copies_at v + copies_at v ≤ count_below copies_at n + copies_at n
-    by_last (inl e) rest = (let h : count_below copies_at v + copies_at v ≡ count_below copies_at n + copies_at n =
-        ap (λ u. count_below copies_at u + copies_at u) e in omega (arith, h))
-    by_last (inr ne) rest = omega (arith, rest (omega arith))
+copies_below copies_at v (suc n) l = elim (cases_eq v n) [
+  | inl e ↦ omega (arith, ap (λ u. count_below copies_at u + copies_at u) e)
+  | inr ne ↦ omega (arith, copies_below copies_at v n (omega arith))
+]
 
 copies_links : (n nodes : ℕ) (copies_at : ℕ → ℕ) (b : ℕ) (c : ℤ) (e : End) → e.node < nodes
     → count_below copies_at nodes ≤ b → b < n → AreLinks n (to_copies copies_at b c e)

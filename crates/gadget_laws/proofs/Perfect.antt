@@ -1,8 +1,9 @@
 -- In a perfect matching each own vertex of each unit has one mate.
 use Rattle.std.proofs.Common.{◌≡◌, ◌≢◌, ℕ, ◌+◌, ◌<◌, ◌≤◌, Bool, true, false, cond, ◌==◌, List, [], ◌∷◌, ◌++◌, length}
 use Rattle.std.proofs.Common.{append_assoc, arith}
-use Rattle.std.proofs.lemmas.Int.{ints}
+use Rattle.std.proofs.lemmas.{Bool.cases_Bool, Int.ints}
 use Rattle.std.proofs.Common.{drop, Option, Some, None, ℤ, pos, ◌+ℤ◌, ◌*ℤ◌, refl, sym, ◌∙◌, ap, subst, eq-eqb, ne_eqb}
+use Rattle.std.proofs.Common.{inl, inr}
 use Rattle.std.proofs.Math.IntN.{*ℤ-zero}
 use Rattle.def_math.specs.{Sums.total_below, Counts.count, Counts.count_below}
 use Rattle.sum_laws.proofs.Sums.{total_below_one}
@@ -16,7 +17,7 @@ use Rattle.gadget_laws.specs.Told.{width_by}
 use Rattle.gadget_laws.proofs.{Pick.picked, Chain.at_ends, Units.UnitsAt, Links.copies_below, Links.AreBelow}
 use Rattle.gadget_laws.proofs.{Links.IsPast, Touch.pick_split, Touch.AreZero, Touch.zero_append, Touch.picked_zero}
 use Rattle.gadget_laws.proofs.{Touch.fan_zero, Facts.left_marks, Facts.right_marks, Facts.lone_inner, Facts.alike_inner}
-use Rattle.gadget_laws.proofs.Facts.{IsWorth, lone_pick, alike_pick, unlike_pick, links_width}
+use Rattle.gadget_laws.proofs.Facts.{IsWorth, lone_pick, alike_pick, unlike_pick, pick_units}
 use Rattle.gadget_laws.proofs.Facts.{IsPairOk, IsUnitOk}
 
 -- All units' own vertices have one mate.
@@ -35,16 +36,51 @@ only_here b = rw (eq-eqb b b refl) refl
 only_there : (b k : ℕ) → k ≢ b → only b k ≡ pos 0
 only_there b k ne = rw (ne_eqb k b ne) refl
 
--- Where the copies weigh nothing, the edges of an end are worth the weight of its vertex.
-copies_worth : (w : ℕ → ℤ) (nodes : ℕ) (copies_at : ℕ → ℕ) (b : ℕ) (c : ℤ) (e : End) (s : ℤ) → e.node < nodes
-    → ((k : ℕ) → k < count_below copies_at nodes → w k ≡ pos 0) → w b ≡ s → IsWorth (at_ends w) copies_at b c e s
-copies_worth w nodes copies_at b c e s l zero_copies here i li =
-    omega (
-      arith,
-      ints,
-      here,
-      zero_copies (count_below copies_at e.node + i) (omega (arith, copies_below copies_at e.node nodes l)),
-    )
+-- A unit has a vertex of its own.
+size_low : (left : End) (right : Option End) → 1 ≤ size_by left right
+size_low left right = grind (arith)
+
+-- A weight of which the copies have nothing.
+module _ (w : ℕ → ℤ) (nodes : ℕ) (copies_at : ℕ → ℕ)
+    (none : (k : ℕ) → k < count_below copies_at nodes → w k ≡ pos 0) where
+  none_at : (e : End) (i : ℕ) → e.node < nodes → i < copies_at e.node → w (count_below copies_at e.node + i) ≡ pos 0
+  none_at e i l li = none (count_below copies_at e.node + i) (omega (arith, copies_below copies_at e.node nodes l))
+
+  -- The edges of an end are worth the weight of its vertex.
+  copies_worth : (b : ℕ) (c : ℤ) (e : End) (s : ℤ) → e.node < nodes → w b ≡ s → IsWorth (at_ends w) copies_at b c e s
+  copies_worth b c e s l here i li = omega (arith, ints, here, none_at e i l li)
+
+  -- Units whose vertices weigh nothing have edges that weigh nothing.
+  copies_zero : (b : ℕ) (c : ℤ) (e : End) → e.node < nodes → w b ≡ pos 0 → AreZero w (to_copies copies_at b c e)
+  copies_zero b c e l here = fan_zero w b (cond e.plus c (pos 0)) (count_below copies_at e.node) (copies_at e.node) here
+      (λ k lk. none k (omega (arith, copies_below copies_at e.node nodes l)))
+
+  unit_zero : (b : ℕ) (c : ℤ) (left : End) (right : Option End) → EndsBelow nodes left right
+      → ((k : ℕ) → b ≤ k → k < b + size_by left right → w k ≡ pos 0) → AreZero w (links_by copies_at b c left right)
+  unit_zero b c left None at own =
+      let first = own b (omega arith) (omega arith) in
+      zero_append w (to_copies copies_at b c left) _ (copies_zero b c left at first)
+      (first, own (b + 1) (omega arith) (omega arith), tt)
+  unit_zero b c left (Some right) at own = elim (cases_Bool (are_alike left right)) [
+    | inl e ↦ (let two = second e in rw e (zero_append w (to_copies copies_at b c left) _
+        (copies_zero b c left at.0 first) (zero_append w (to_copies copies_at (b + 1) (pos 0) right) _
+        (copies_zero (b + 1) (pos 0) right at.1 two) (first, two, tt))))
+    | inr e ↦ rw e (zero_append w (to_copies copies_at b c left) _ (copies_zero b c left at.0 first)
+        (copies_zero b c right at.1 first))
+  ]
+    where
+      first : w b ≡ pos 0
+      first = own b (omega arith) (omega (arith, size_low left (Some right)))
+
+      second : are_alike left right ≡ true → w (b + 1) ≡ pos 0
+      second e = own (b + 1) (omega arith) (rw e (omega arith))
+
+  units_zero : (b : ℕ) (us : List ArcUnit) → UnitsAt nodes us → ((k : ℕ) → b ≤ k → w k ≡ pos 0)
+      → AreZero w (units_links copies_at b us)
+  units_zero b [] at high = tt
+  units_zero b (u ∷ us) at high =
+      zero_append w (unit_links copies_at b u) _ (unit_zero b u.cost u.left u.right at.0 (λ k l h. high k l))
+      (units_zero (b + unit_size u) us at.1 (λ k l. high k (omega arith)))
 
 -- n edges worth 1, and one more where it is marked.
 one_more : (n : ℕ) (i : Bool) (x : ℤ) → x ≡ pos 1 → pos n *ℤ pos 1 +ℤ cond i x (pos 0) ≡ pos (n + cond i 1 0)
@@ -61,8 +97,7 @@ lone_ok : (nodes : ℕ) (copies_at : ℕ → ℕ) (b : ℕ) (c : ℤ) (left : En
     → count_below copies_at nodes ≤ b → picked (at_ends (only b)) ms (links_by copies_at b c left None) ≡ pos 1
     → IsUnitOk copies_at ms left None
 lone_ok nodes copies_at b c left ms at le first =
-    let worth : IsWorth (at_ends (only b)) copies_at b c left (pos 1) =
-    copies_worth (only b) nodes copies_at b c left (pos 1) at (λ k l. only_there b k (λ e. omega arith))
+    let worth = copies_worth (only b) nodes copies_at (λ k l. only_there b k (λ e. omega arith)) b c left (pos 1) at
     (only_here b) in
     omega (
       arith,
@@ -114,14 +149,14 @@ pair_ok nodes copies_at b c left right ms at le first second = record {
     low d h k l = only_there d k (λ e. omega arith)
 
     left_worth : (d : ℕ) (s : ℤ) → b ≤ d → only d b ≡ s → IsWorth (at_ends (only d)) copies_at b c left s
-    left_worth d s h e = copies_worth (only d) nodes copies_at b c left s at.0 (low d h) e
+    left_worth d s h e = copies_worth (only d) nodes copies_at (low d h) b c left s at.0 e
 
     right_worth : (d : ℕ) (s : ℤ) → b ≤ d → only d (b + 1) ≡ s
         → IsWorth (at_ends (only d)) copies_at (b + 1) (pos 0) right s
-    right_worth d s h e = copies_worth (only d) nodes copies_at (b + 1) (pos 0) right s at.1 (low d h) e
+    right_worth d s h e = copies_worth (only d) nodes copies_at (low d h) (b + 1) (pos 0) right s at.1 e
 
     unlike_worth : IsWorth (at_ends (only b)) copies_at b c right (pos 1)
-    unlike_worth = copies_worth (only b) nodes copies_at b c right (pos 1) at.1 (low b (omega arith)) (only_here b)
+    unlike_worth = copies_worth (only b) nodes copies_at (low b (omega arith)) b c right (pos 1) at.1 (only_here b)
 
     alike_edges : List WEdge
     alike_edges = to_copies copies_at b c left ++ (to_copies copies_at (b + 1) (pos 0) right ++ inner_link b c left
@@ -142,43 +177,6 @@ pair_ok nodes copies_at b c left right ms at le first second = record {
 
     unlike_first : are_alike left right ≡ false → picked (at_ends (only b)) ms unlike_edges ≡ pos 1
     unlike_first e = ap (picked (at_ends (only b)) ms) (sym (edges false e)) ∙ first
-
--- Units whose vertices and copies weigh nothing have edges that weigh nothing.
-copies_zero : (w : ℕ → ℤ) (nodes : ℕ) (copies_at : ℕ → ℕ) (b : ℕ) (c : ℤ) (e : End) → e.node < nodes
-    → ((k : ℕ) → k < count_below copies_at nodes → w k ≡ pos 0) → w b ≡ pos 0 → AreZero w (to_copies copies_at b c e)
-copies_zero w nodes copies_at b c e l low here = fan_zero w b (cond e.plus c (pos 0)) (count_below copies_at e.node)
-    (copies_at e.node) here (λ k lk. low k (omega (arith, copies_below copies_at e.node nodes l)))
-
-pub unit_zero : (w : ℕ → ℤ) (nodes : ℕ) (copies_at : ℕ → ℕ) (b : ℕ) (c : ℤ) (left : End) (right : Option End)
-    → EndsBelow nodes left right → ((k : ℕ) → k < count_below copies_at nodes → w k ≡ pos 0)
-    → ((k : ℕ) → b ≤ k → k < b + size_by left right → w k ≡ pos 0) → AreZero w (links_by copies_at b c left right)
-unit_zero w nodes copies_at b c left None at low own =
-    zero_append w (to_copies copies_at b c left) _ (copies_zero w nodes copies_at b c left at low
-    (own b (omega arith) (omega arith))) (
-      own b (omega arith) (omega arith),
-      own (b + 1) (omega arith) (omega arith),
-      tt,
-    )
-unit_zero w nodes copies_at b c left (Some right) at low own = by_alike (are_alike left right) own
-  where
-    by_alike : (a : Bool) → ((k : ℕ) → b ≤ k → k < b + cond a 2 1 → w k ≡ pos 0)
-        → AreZero w (cond a (to_copies copies_at b c left ++ (to_copies copies_at (b + 1) (pos 0) right
-        ++ inner_link b c left ∷ [])) (to_copies copies_at b c left ++ to_copies copies_at b c right))
-    by_alike true h = zero_append w (to_copies copies_at b c left) _ (copies_zero w nodes copies_at b c left at.0 low
-        (h b (omega arith) (omega arith))) (zero_append w (to_copies copies_at (b + 1) (pos 0) right) _
-        (copies_zero w nodes copies_at (b + 1) (pos 0) right at.1 low (h (b + 1) (omega arith) (omega arith)))
-        (h b (omega arith) (omega arith), h (b + 1) (omega arith) (omega arith), tt))
-    by_alike false h = zero_append w (to_copies copies_at b c left) _ (copies_zero w nodes copies_at b c left at.0 low
-        (h b (omega arith) (omega arith))) (copies_zero w nodes copies_at b c right at.1 low
-        (h b (omega arith) (omega arith)))
-
-units_zero : (w : ℕ → ℤ) (nodes : ℕ) (copies_at : ℕ → ℕ) (b : ℕ) (us : List ArcUnit) → UnitsAt nodes us
-    → ((k : ℕ) → k < count_below copies_at nodes → w k ≡ pos 0) → ((k : ℕ) → b ≤ k → w k ≡ pos 0)
-    → AreZero w (units_links copies_at b us)
-units_zero w nodes copies_at b [] at low high = tt
-units_zero w nodes copies_at b (u ∷ us) at low high =
-    zero_append w (unit_links copies_at b u) _ (unit_zero w nodes copies_at b u.cost u.left u.right at.0 low
-    (λ k l h. high k l)) (units_zero w nodes copies_at (b + unit_size u) us at.1 low (λ k l. high k (omega arith)))
 
 -- Rim vertices that weigh nothing.
 abbrev pub AreNil : (ℕ → ℤ) → List ℕ → Type 0
@@ -240,29 +238,6 @@ IsFull n copies_at b us ms rest rms = (w : ℕ → ℤ) → ((k : ℕ) → k < b
 only_total : (n b : ℕ) → b < n → total_below (only b) n ≡ pos 1
 only_total n b l = total_below_one (only b) n b l (λ k lk ne. only_there b k ne) ∙ only_here b
 
--- What is picked at the first unit for a weight that is 1 at one of its vertices and 0 at all others.
-first_unit : (n nodes : ℕ) (copies_at : ℕ → ℕ) (b m d : ℕ) (u : ArcUnit) (us : List ArcUnit) (ms : List Bool)
-    (prefix rs : List ℕ) (rest : List WEdge) (rms : List Bool) → UnitsAt nodes us → count_below copies_at nodes ≤ b
-    → b ≤ d → d < b + unit_size u → b + (unit_size u + count unit_size us) ≤ m → m ≤ n → AreBelow b prefix
-    → rs ≡ prefix ++ with_rim u.right (b + 1) (rim (b + unit_size u) us)
-    → AreNil (only d) (with_rim u.right (b + 1) (rim (b + unit_size u) us)) → RestZero m rs rest
-    → IsFull n copies_at b (u ∷ us) ms rest rms → picked (at_ends (only d)) ms (unit_links copies_at b u) ≡ pos 1
-first_unit n nodes copies_at b m d u us ms prefix rs rest rms at le low high fits within below is nil nothing full =
-    omega (
-      arith,
-      ints,
-      full (only d) (λ k l. only_there d k (λ e. omega arith)),
-      pick_split (at_ends (only d)) ms (unit_links copies_at b u) (units_links copies_at (b + unit_size u) us),
-      picked_zero (only d) (drop (length (unit_links copies_at b u)) ms) (units_links copies_at (b + unit_size u) us)
-          (units_zero (only d) nodes copies_at (b + unit_size u) us at (λ k l. only_there d k (λ e. omega arith))
-          (λ k l. only_there d k (λ e. omega arith))),
-      picked_zero (only d) rms rest
-          (nothing (only d) (subst (λ (xs : List ℕ). AreNil (only d) xs) (sym is)
-          (nil_append (only d) prefix _ (nil_below (only d) b prefix below (λ k l. only_there d k (λ e. omega arith)))
-          nil)) (λ k l. only_there d k (λ e. omega arith))),
-      only_total n d (omega arith),
-    )
-
 -- The rest of the graph holds the rim of these units, and before it vertices below b.
 pub record HasRim (b : ℕ) (us : List ArcUnit) (rs : List ℕ) : Type 0 where
   pub prefix : List ℕ
@@ -296,54 +271,63 @@ next_rim b u us rs h = by_right u.right h.is
           e;
     }
 
-size_low : (left : End) (right : Option End) → 1 ≤ size_by left right
-size_low left right = grind (arith)
+-- The units from b on, with what stays the same from unit to unit: the rest of the graph.
+module _ (n nodes : ℕ) (copies_at : ℕ → ℕ) (m : ℕ) (rs : List ℕ) (rest : List WEdge) (rms : List Bool) (within : m ≤ n)
+    (nothing : RestZero m rs rest) where
+  -- What is picked at the first unit for a weight that is 1 at one of its vertices and 0 at all others.
+  first_unit : (b d : ℕ) (u : ArcUnit) (us : List ArcUnit) (ms : List Bool) → UnitsAt nodes us
+      → count_below copies_at nodes ≤ b → b ≤ d → d < b + unit_size u → b + (unit_size u + count unit_size us) ≤ m
+      → HasRim b (u ∷ us) rs → AreNil (only d) (with_rim u.right (b + 1) (rim (b + unit_size u) us))
+      → IsFull n copies_at b (u ∷ us) ms rest rms → picked (at_ends (only d)) ms (unit_links copies_at b u) ≡ pos 1
+  first_unit b d u us ms at le low high fits has nil full = omega (
+    arith,
+    ints,
+    full (only d) (λ k l. only_there d k (λ e. omega arith)),
+    pick_split (at_ends (only d)) ms (unit_links copies_at b u) (units_links copies_at (b + unit_size u) us),
+    picked_zero (only d) (drop (length (unit_links copies_at b u)) ms) (units_links copies_at (b + unit_size u) us)
+        (units_zero (only d) nodes copies_at (λ k l. only_there d k (λ e. omega arith)) (b + unit_size u) us at
+        (λ k l. only_there d k (λ e. omega arith))),
+    picked_zero (only d) rms rest
+        (nothing (only d) (subst (λ (xs : List ℕ). AreNil (only d) xs) (sym has.is)
+        (nil_append (only d) has.prefix _ (nil_below (only d) b has.prefix has.below
+        (λ k l. only_there d k (λ e. omega arith))) nil)) (λ k l. only_there d k (λ e. omega arith))),
+    only_total n d (omega arith),
+  )
 
--- Each own vertex of each unit has one mate.
-pub units_ok : (n nodes : ℕ) (copies_at : ℕ → ℕ) (b m : ℕ) (us : List ArcUnit) (ms : List Bool) (rs : List ℕ)
-    (rest : List WEdge) (rms : List Bool) → UnitsAt nodes us → count_below copies_at nodes ≤ b
-    → b + count unit_size us ≤ m → m ≤ n → HasRim b us rs → RestZero m rs rest → IsFull n copies_at b us ms rest rms
-    → UnitsOk copies_at us ms
-units_ok n nodes copies_at b m [] ms rs rest rms at le fits within has nothing full = tt
-units_ok n nodes copies_at b m (u ∷ us) ms rs rest rms at le fits within has nothing full = (
-  by_right u.right at.0 (first b (omega arith) (omega (arith, size_low u.left u.right))
-      (nil_rim (only b) b (u ∷ us) (λ k l. only_there b k (λ e. omega arith))))
-      (λ two. first (b + 1) (omega arith) (omega (arith, two))),
-  units_ok n nodes copies_at (b + unit_size u) m us (drop (width_by copies_at u.left u.right) ms) rs rest rms at.1
-      (omega arith) (omega arith) within (next_rim b u us rs has) nothing later,
-)
-  where
-    first : (d : ℕ) → b ≤ d → d < b + unit_size u
-        → AreNil (only d) (with_rim u.right (b + 1) (rim (b + unit_size u) us))
-        → picked (at_ends (only d)) ms (unit_links copies_at b u) ≡ pos 1
-    first d low high nil = first_unit n nodes copies_at b m d u us ms has.prefix rs rest rms at.1 le low high fits
-        within has.below has.is nil nothing full
+  -- Each own vertex of each unit has one mate.
+  pub units_ok : (b : ℕ) (us : List ArcUnit) (ms : List Bool) → UnitsAt nodes us → count_below copies_at nodes ≤ b
+      → b + count unit_size us ≤ m → HasRim b us rs → IsFull n copies_at b us ms rest rms → UnitsOk copies_at us ms
+  units_ok b [] ms at le fits has full = tt
+  units_ok b (u ∷ us) ms at le fits has full = (
+    by_right u.right at.0 (first b (omega arith) (omega (arith, size_low u.left u.right))
+        (nil_rim (only b) b (u ∷ us) (λ k l. only_there b k (λ e. omega arith))))
+        (λ two. first (b + 1) (omega arith) (omega (arith, two))),
+    units_ok (b + unit_size u) us (drop (width_by copies_at u.left u.right) ms) at.1 (omega arith) (omega arith)
+        (next_rim b u us rs has) later,
+  )
+    where
+      first : (d : ℕ) → b ≤ d → d < b + unit_size u
+          → AreNil (only d) (with_rim u.right (b + 1) (rim (b + unit_size u) us))
+          → picked (at_ends (only d)) ms (unit_links copies_at b u) ≡ pos 1
+      first d low high nil = first_unit b d u us ms at.1 le low high fits has nil full
 
-    by_right : (right : Option End) → EndsBelow nodes u.left right
-        → picked (at_ends (only b)) ms (links_by copies_at b u.cost u.left right) ≡ pos 1
-        → (size_by u.left right ≡ 2 → AreNil (only (b + 1)) (with_rim right (b + 1) (rim (b + size_by u.left right) us))
-        → picked (at_ends (only (b + 1))) ms (links_by copies_at b u.cost u.left right) ≡ pos 1)
-        → IsUnitOk copies_at ms u.left right
-    by_right None a one two = lone_ok nodes copies_at b u.cost u.left ms a le one
-    by_right (Some right) a one two =
-        pair_ok nodes copies_at b u.cost u.left right ms a le one
-        (λ e. two (ap (λ t. cond t 2 1) e) (nil_rim (only (b + 1)) (b + size_by u.left (Some right)) us
-        (λ k l. only_there (b + 1) k (λ q. omega (arith, size_low u.left (Some right))))))
+      by_right : (right : Option End) → EndsBelow nodes u.left right
+          → picked (at_ends (only b)) ms (links_by copies_at b u.cost u.left right) ≡ pos 1
+          → (size_by u.left right ≡ 2 → AreNil (only (b + 1)) (with_rim right (b + 1)
+          (rim (b + size_by u.left right) us))
+          → picked (at_ends (only (b + 1))) ms (links_by copies_at b u.cost u.left right) ≡ pos 1)
+          → IsUnitOk copies_at ms u.left right
+      by_right None a one two = lone_ok nodes copies_at b u.cost u.left ms a le one
+      by_right (Some right) a one two = pair_ok nodes copies_at b u.cost u.left right ms a le one
+          (λ e. two (ap (λ t. cond t 2 1) e) (nil_rim (only (b + 1)) (b + size_by u.left (Some right)) us
+          (λ k l. only_there (b + 1) k (λ q. omega (arith, size_low u.left (Some right))))))
 
-    later : IsFull n copies_at (b + unit_size u) us (drop (width_by copies_at u.left u.right) ms) rest rms
-    later w low =
-        let here : picked (at_ends w) (drop (length (unit_links copies_at b u)) ms)
-        (units_links copies_at (b + unit_size u) us)
-        ≡ picked (at_ends w) (drop (width_by copies_at u.left u.right) ms)
-        (units_links copies_at (b + unit_size u) us) =
-        ap (λ k. picked (at_ends w) (drop k ms) (units_links copies_at (b + unit_size u) us))
-        (links_width copies_at b u.cost u.left u.right) in
-        omega (
-          arith,
-          ints,
-          here,
-          full w (λ k l. low k (omega arith)),
-          pick_split (at_ends w) ms (unit_links copies_at b u) (units_links copies_at (b + unit_size u) us),
-          picked_zero w ms (unit_links copies_at b u) (unit_zero w nodes copies_at b u.cost u.left u.right at.0
-              (λ k l. low k (omega arith)) (λ k l h. low k h)),
-        )
+      later : IsFull n copies_at (b + unit_size u) us (drop (width_by copies_at u.left u.right) ms) rest rms
+      later w low = omega (
+        arith,
+        ints,
+        full w (λ k l. low k (omega arith)),
+        pick_units (at_ends w) copies_at b u us ms,
+        picked_zero w ms (unit_links copies_at b u) (unit_zero w nodes copies_at (λ k l. low k (omega arith)) b u.cost
+            u.left u.right at.0 (λ k l h. low k h)),
+      )

@@ -1,8 +1,8 @@
 -- What is picked at a unit: the edges of its own vertices, and copies that it takes.
 use Rattle.std.proofs.Common.{◌≡◌, ℕ, ◌+◌, ◌<◌, ◌≤◌, Bool, true, false, cond, not, ◌&&◌, ◌==◌, [], ◌∷◌, ◌++◌, length}
 use Rattle.std.proofs.Common.{Option, Some, None, option_to_list, ℤ, pos, ◌+ℤ◌, refl, sym, ◌∙◌, ap, true≢false, eq-eqb}
-use Rattle.std.proofs.Common.{ne_eqb, length-append, arith}
-use Rattle.std.proofs.lemmas.Int.{ints}
+use Rattle.std.proofs.Common.{List, ne_eqb, inl, inr, length-append, arith}
+use Rattle.std.proofs.lemmas.{Bool.cases_Bool, Int.ints}
 use Rattle.def_math.specs.{Sums.total_below, Sums.span, Counts.count, Counts.count_below}
 use Rattle.sum_laws.proofs.Sums.{total_below_same, total_below_sum, total_below_one, span_sum}
 use Rattle.def_flow.specs.{Network.EndsBelow, Units.is_active, MatchingGraph.link, MatchingGraph.to_copies}
@@ -106,60 +106,49 @@ pick_unit f copies_at used b c on left None free =
           b c),
       pick_end f copies_at used (is_active on left) left b c (left_free copies_at used on left None free),
     )
-pick_unit f copies_at used b c on left (Some right) free = by_alike (are_alike left right)
+pick_unit f copies_at used b c on left (Some right) free = elim (cases_Bool (are_alike left right)) [
+  | inl e ↦ rw e (omega (
+    arith,
+    ints,
+    pick_append f first (second ++ not (is_active on left) ∷ []) (to_copies copies_at b c left)
+        (to_copies copies_at (b + 1) (pos 0) right ++ inner_link b c left ∷ [])
+        (end_length copies_at used (is_active on left) left b c),
+    pick_append f second (not (is_active on left) ∷ []) (to_copies copies_at (b + 1) (pos 0) right)
+        (inner_link b c left ∷ []) (end_length copies_at next (is_active on right) right (b + 1) (pos 0)),
+    first_picked,
+    second_picked (b + 1) (pos 0),
+  ))
+  | inr e ↦ rw e (omega (
+    arith,
+    ints,
+    pick_append f first second (to_copies copies_at b c left) (to_copies copies_at b c right)
+        (end_length copies_at used (is_active on left) left b c),
+    first_picked,
+    second_picked b c,
+  ))
+]
   where
     next : ℕ → ℕ
     next = take_end used (is_active on left) left
 
-    first : (d : ℤ) → picked f (end_marks copies_at used (is_active on left) left) (to_copies copies_at b d left)
+    first : List Bool
+    first = end_marks copies_at used (is_active on left) left
+
+    second : List Bool
+    second = end_marks copies_at (take_end used (is_active on left) left) (is_active on right) right
+
+    first_picked : picked f (end_marks copies_at used (is_active on left) left) (to_copies copies_at b c left)
         ≡ cond (is_active on left)
-        (f (link b (count_below copies_at left.node + used left.node) (cond left.plus d (pos 0)))) (pos 0)
-    first d = pick_end f copies_at used (is_active on left) left b d (left_free copies_at used on left (Some right)
+        (f (link b (count_below copies_at left.node + used left.node) (cond left.plus c (pos 0)))) (pos 0)
+    first_picked = pick_end f copies_at used (is_active on left) left b c (left_free copies_at used on left (Some right)
         free)
 
-    second : (u : ℕ) (d : ℤ) → picked f (end_marks copies_at next (is_active on right) right)
+    second_picked : (u : ℕ) (d : ℤ) → picked f (end_marks copies_at next (is_active on right) right)
         (to_copies copies_at u d right)
         ≡ cond (is_active on right)
         (f (link u (count_below copies_at right.node + next right.node) (cond right.plus d (pos 0)))) (pos 0)
-    second u d = pick_end f copies_at next (is_active on right) right u d (right_free copies_at used on left right free)
-
-    by_alike : (alike : Bool)
-        → picked f (cond alike (end_marks copies_at used (is_active on left) left
-        ++ (end_marks copies_at next (is_active on right) right ++ not (is_active on left) ∷ []))
-        (end_marks copies_at used (is_active on left) left ++ end_marks copies_at next (is_active on right) right))
-        (cond alike (to_copies copies_at b c left ++ (to_copies copies_at (b + 1) (pos 0) right ++ inner_link b c left
-        ∷ [])) (to_copies copies_at b c left ++ to_copies copies_at b c right))
-        ≡ cond alike (cond (is_active on left)
-        (f (link b (count_below copies_at left.node + used left.node) (cond left.plus c (pos 0)))) (pos 0) +ℤ
-        (cond (is_active on right)
-        (f (link (b + 1) (count_below copies_at right.node + next right.node) (cond right.plus (pos 0) (pos 0))))
-        (pos 0) +ℤ cond (not (is_active on left)) (f (inner_link b c left)) (pos 0)))
-        (cond (is_active on left)
-        (f (link b (count_below copies_at left.node + used left.node) (cond left.plus c (pos 0)))) (pos 0) +ℤ cond
-        (is_active on right) (f (link b (count_below copies_at right.node + next right.node)
-        (cond right.plus c (pos 0)))) (pos 0))
-    by_alike true = omega (
-      arith,
-      ints,
-      pick_append f (end_marks copies_at used (is_active on left) left) (end_marks copies_at next (is_active on right)
-          right ++ not (is_active on left) ∷ []) (to_copies copies_at b c left)
-          (to_copies copies_at (b + 1) (pos 0) right ++ inner_link b c left ∷ [])
-          (end_length copies_at used (is_active on left) left b c),
-      pick_append f (end_marks copies_at next (is_active on right) right) (not (is_active on left) ∷ [])
-          (to_copies copies_at (b + 1) (pos 0) right) (inner_link b c left ∷ [])
-          (end_length copies_at next (is_active on right) right (b + 1) (pos 0)),
-      first c,
-      second (b + 1) (pos 0),
-    )
-    by_alike false = omega (
-      arith,
-      ints,
-      pick_append f (end_marks copies_at used (is_active on left) left) (end_marks copies_at next (is_active on right)
-          right) (to_copies copies_at b c left) (to_copies copies_at b c right)
-          (end_length copies_at used (is_active on left) left b c),
-      first c,
-      second b c,
-    )
+    second_picked u d =
+        pick_end f copies_at next (is_active on right) right u d (right_free copies_at used on left right free)
 
 -- The signs decide which ends are active together.
 pub alike_active : (on : Bool) (left right : End) → are_alike left right ≡ true → is_active on left ≡ is_active on right

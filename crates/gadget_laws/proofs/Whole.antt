@@ -1,12 +1,13 @@
 -- The whole matching of states: each vertex gets one mate, and the cost is that of the units that are on.
 use Rattle.std.proofs.Common.{◌≡◌, ℕ, zero, suc, ◌+◌, ◌*◌, ◌%◌, ◌<◌, ◌≤◌, Bool, true, false, cond, ◌==◌, List, [], ◌∷◌}
-use Rattle.std.proofs.Common.{length, map, Some, None, ℤ, pos, ◌+ℤ◌, refl, ◌∙◌, ap, zero-add, add-zero, length-append}
+use Rattle.std.proofs.Common.{length, map, Option, Some, None, ℤ, pos, ◌+ℤ◌, refl, ◌∙◌, ap, zero-add, add-zero}
+use Rattle.std.proofs.Common.{length-append}
 use Rattle.std.proofs.Common.{eq-eqb, ne_eqb, arith}
 use Rattle.std.proofs.lemmas.Int.{ints}
 use Rattle.def_math.specs.{Sums.total, Sums.total_below, Sums.span, Counts.count, Counts.count_below}
 use Rattle.sum_laws.proofs.Sums.{total_below_none, total_below_one, total_below_span, total_same}
 use Rattle.sum_laws.proofs.Counts.{count_total}
-use Rattle.def_matching.specs.Matching.{IsPerfect, edge_at, ends_at, matching_cost}
+use Rattle.def_matching.specs.Matching.{WeightedGraph, IsPerfect, edge_at, ends_at, matching_cost}
 use Rattle.def_matching.specs.declared.weighted.WEdge.{WEdge}
 use Rattle.def_flow.specs.Units.{active, rim_active, cost_on}
 use Rattle.def_flow.specs.MatchingGraph.{unit_size, units_links, rim, rim_links, first_fresh, lone_vertex, graph_by}
@@ -68,101 +69,95 @@ lone_there nodes copies_at false us = refl
 
 module _ (nodes : ℕ) (copies_at : ℕ → ℕ) (lone : Bool) (us : List ArcUnit) (ons : List Bool)
     (fit : StatesFit nodes copies_at lone us ons) where
+  -- The graph and its rim, and the marks of its edges.
+  abbrev g : WeightedGraph
+  g = graph_by nodes copies_at lone us
+
+  abbrev marks : List Bool
+  marks = states_marks nodes copies_at lone us ons
+
+  abbrev copies : ℕ
+  copies = count_below copies_at nodes
+
+  abbrev before : Option ℕ
+  before = lone_vertex nodes copies_at lone us
+
+  abbrev fresh : ℕ
+  fresh = first_fresh nodes copies_at lone us
+
+  abbrev at_units : List Bool
+  at_units = units_marks copies_at (λ v. 0) us ons
+
+  abbrev at_rim : List Bool
+  at_rim = rim_marks before lone fresh (rim_states us ons)
+
+  abbrev rim_edges : List WEdge
+  rim_edges = rim_links before fresh (rim copies us)
+
   -- There are as many marks as edges.
-  marks_length : length (states_marks nodes copies_at lone us ons) ≡ length (graph_by nodes copies_at lone us).edges
+  marks_length : length marks ≡ length g.edges
   marks_length = omega (
     arith,
-    length-append (units_marks copies_at (λ v. 0) us ons) (rim_marks (lone_vertex nodes copies_at lone us) lone
-        (first_fresh nodes copies_at lone us) (rim_states us ons)),
-    length-append (units_links copies_at (count_below copies_at nodes) us)
-        (rim_links (lone_vertex nodes copies_at lone us) (first_fresh nodes copies_at lone us)
-        (rim (count_below copies_at nodes) us)),
-    units_length copies_at (λ v. 0) (count_below copies_at nodes) us ons fit.count,
-    rim_length (lone_vertex nodes copies_at lone us) lone (first_fresh nodes copies_at lone us)
-        (rim (count_below copies_at nodes) us) (rim_states us ons) (states_length (count_below copies_at nodes) us ons
-        fit.count),
+    length-append at_units at_rim,
+    length-append (units_links copies_at copies us) rim_edges,
+    units_length copies_at (λ v. 0) copies us ons fit.count,
+    rim_length before lone fresh (rim copies us) (rim_states us ons) (states_length copies us ons fit.count),
   )
 
-  split : (f : WEdge → ℤ) → picked f (states_marks nodes copies_at lone us ons) (graph_by nodes copies_at lone us).edges
-      ≡ picked f (units_marks copies_at (λ v. 0) us ons) (units_links copies_at (count_below copies_at nodes) us) +ℤ
-      picked f (rim_marks (lone_vertex nodes copies_at lone us) lone (first_fresh nodes copies_at lone us)
-      (rim_states us ons)) (rim_links (lone_vertex nodes copies_at lone us) (first_fresh nodes copies_at lone us)
-      (rim (count_below copies_at nodes) us))
-  split f = pick_append f (units_marks copies_at (λ v. 0) us ons) _ (units_links copies_at (count_below copies_at nodes)
-      us) _ (units_length copies_at (λ v. 0) (count_below copies_at nodes) us ons fit.count)
+  split : (f : WEdge → ℤ) → picked f marks g.edges
+      ≡ picked f at_units (units_links copies_at copies us) +ℤ picked f at_rim rim_edges
+  split f = pick_append f at_units _ (units_links copies_at copies us) _
+      (units_length copies_at (λ v. 0) copies us ons fit.count)
 
   free : (v : ℕ) → 0 + active v us ons ≤ copies_at v
   free v = omega (arith, fit.fills v)
 
   -- For each weight the ends of the chosen edges weigh what all vertices weigh.
-  marks_weight : (w : ℕ → ℤ) → picked (at_ends w) (states_marks nodes copies_at lone us ons)
-      (graph_by nodes copies_at lone us).edges ≡ total_below w (graph_by nodes copies_at lone us).n
+  marks_weight : (w : ℕ → ℤ) → picked (at_ends w) marks g.edges ≡ total_below w g.n
   marks_weight w = omega (
     arith,
     ints,
     split (at_ends w),
-    units_weight w nodes copies_at (λ v. 0) (count_below copies_at nodes) us ons fit.count fit.at_nodes free,
+    units_weight w nodes copies_at (λ v. 0) copies us ons fit.count fit.at_nodes free,
     held_none w copies_at nodes,
-    full,
+    held_same nodes copies_at w (λ v. 0 + active v us ons) copies_at (λ v l. omega (arith, fit.fills v)),
     copies_weight w copies_at nodes,
-    chain_sum w (lone_vertex nodes copies_at lone us) lone (first_fresh nodes copies_at lone us)
-        (rim (count_below copies_at nodes) us) (rim_states us ons) (states_length (count_below copies_at nodes) us ons
-        fit.count) (lone_there nodes copies_at lone us) even,
+    chain_sum w before lone fresh (rim copies us) (rim_states us ons) (states_length copies us ons fit.count)
+        (lone_there nodes copies_at lone us) (omega (arith, rim_trues us ons, fit.even)),
     graph_total w nodes copies_at lone us,
   )
-    where
-      full : held nodes copies_at w (λ v. 0 + active v us ons) ≡ held nodes copies_at w copies_at
-      full = held_same nodes copies_at w _ copies_at (λ v l. omega (arith, fit.fills v))
-
-      even : (cond lone 1 0 + trues (rim_states us ons)) % 2 ≡ 0
-      even = omega (arith, rim_trues us ons, fit.even)
 
   -- The cost of the chosen edges.
-  marks_cost : picked (λ e. e.cost) (states_marks nodes copies_at lone us ons) (graph_by nodes copies_at lone us).edges
-      ≡ cost_on us ons
+  marks_cost : picked (λ e. e.cost) marks g.edges ≡ cost_on us ons
   marks_cost = omega (
     arith,
     ints,
     split (λ e. e.cost),
-    units_cost copies_at (λ v. 0) (count_below copies_at nodes) us ons fit.count free,
-    picked_free (rim_marks (lone_vertex nodes copies_at lone us) lone (first_fresh nodes copies_at lone us)
-        (rim_states us ons)) (rim_links (lone_vertex nodes copies_at lone us) (first_fresh nodes copies_at lone us)
-        (rim (count_below copies_at nodes) us)) (rim_free (lone_vertex nodes copies_at lone us)
-        (first_fresh nodes copies_at lone us) (rim (count_below copies_at nodes) us)),
+    units_cost copies_at (λ v. 0) copies us ons fit.count free,
+    picked_free at_rim rim_edges (rim_free before fresh (rim copies us)),
   )
 
-  chosen_is : map (edge_at (graph_by nodes copies_at lone us)) (places 0 (states_marks nodes copies_at lone us ons))
-      ≡ chosen (states_marks nodes copies_at lone us ons) (graph_by nodes copies_at lone us).edges
-  chosen_is = at_places (edge_at (graph_by nodes copies_at lone us)) (record { u = 0; v = 0; cost = pos 0 }) 0
-      (states_marks nodes copies_at lone us ons) (graph_by nodes copies_at lone us).edges marks_length
-      (λ j. ap (edge_at (graph_by nodes copies_at lone us)) (zero-add j))
+  chosen_is : map (edge_at g) (places 0 marks) ≡ chosen marks g.edges
+  chosen_is = at_places (edge_at g) (record { u = 0; v = 0; cost = pos 0 }) 0 marks g.edges marks_length
+      (λ j. ap (edge_at g) (zero-add j))
 
   -- The places of the marks are a perfect matching.
   pub states_perfect : IsPerfect (graph_by nodes copies_at lone us)
       (places 0 (states_marks nodes copies_at lone us ons))
   states_perfect = record {
-    increasing = places_rise 0 (length (graph_by nodes copies_at lone us).edges)
-        (states_marks nodes copies_at lone us ons) (omega (arith, marks_length));
-    once = λ v l. (let e : count (ends_at v) (map (edge_at (graph_by nodes copies_at lone us))
-        (places 0 (states_marks nodes copies_at lone us ons)))
-        ≡ count (ends_at v) (chosen (states_marks nodes copies_at lone us ons)
-        (graph_by nodes copies_at lone us).edges) = ap (count (ends_at v)) chosen_is in e ∙ once v l);
+    increasing = places_rise 0 (length g.edges) marks (omega (arith, marks_length));
+    once = λ v l. ap (count (ends_at v)) chosen_is ∙ once v l;
   }
     where
-      once : (v : ℕ) → v < (graph_by nodes copies_at lone us).n
-          → count (ends_at v) (chosen (states_marks nodes copies_at lone us ons)
-          (graph_by nodes copies_at lone us).edges) ≡ 1
+      once : (v : ℕ) → v < g.n → count (ends_at v) (chosen marks g.edges) ≡ 1
       once v l = omega (
         arith,
         ints,
-        count_total (ends_at v) (chosen (states_marks nodes copies_at lone us ons)
-            (graph_by nodes copies_at lone us).edges),
-        total_same (λ e. pos (ends_at v e)) (at_ends is_v) (chosen (states_marks nodes copies_at lone us ons)
-            (graph_by nodes copies_at lone us).edges) (λ e. omega (arith, ints)),
-        picked_chosen (at_ends is_v) (states_marks nodes copies_at lone us ons)
-            (graph_by nodes copies_at lone us).edges,
+        count_total (ends_at v) (chosen marks g.edges),
+        total_same (λ e. pos (ends_at v e)) (at_ends is_v) (chosen marks g.edges) (λ e. omega (arith, ints)),
+        picked_chosen (at_ends is_v) marks g.edges,
         marks_weight is_v,
-        total_below_one is_v (graph_by nodes copies_at lone us).n v l (λ k lk ne. rw (ne_eqb k v ne) refl),
+        total_below_one is_v g.n v l (λ k lk ne. rw (ne_eqb k v ne) refl),
         here,
       )
         where
@@ -176,8 +171,7 @@ module _ (nodes : ℕ) (copies_at : ℕ → ℕ) (lone : Bool) (us : List ArcUni
   pub states_cost : matching_cost (graph_by nodes copies_at lone us)
       (places 0 (states_marks nodes copies_at lone us ons)) ≡ cost_on us ons
   states_cost = ap (total (λ (e : WEdge). e.cost)) chosen_is
-      ∙ (picked_chosen (λ (e : WEdge). e.cost) (states_marks nodes copies_at lone us ons)
-      (graph_by nodes copies_at lone us).edges ∙ marks_cost)
+      ∙ picked_chosen (λ (e : WEdge). e.cost) marks g.edges ∙ marks_cost
 
 -- Twice as many ends as chosen edges.
 twice : (ms : List Bool) (es : List WEdge) → (k : ℕ) × (picked (at_ends (λ v. pos 1)) ms es ≡ pos (2 * k))
