@@ -5,7 +5,7 @@ ghost use Rattle.std.specs.List.{list_all};
 
 use crate::graphs::{are_edges, triangles};
 use def_matching::{Dual, Verdict};
-use qm_dual::dual_ok;
+use qm_dual::{SmallGraph, dual_ok};
 use std::alloc::Global;
 use std::process::Abort;
 use std::test::Fail;
@@ -35,7 +35,7 @@ fn check(
     };
     assert!(rt; graph.n <= 12 && are_edges(graph.n, &graph.edges) && graph.edges.len() < 100);
     assert!(rt; are_small(&dual.y) && are_small(&dual.z) && dual.z.len() < 8);
-    Ok(dual_ok(alloc, &graph, &dual)?)
+    Ok(dual_ok(alloc, &SmallGraph { whole: &graph }, &dual)?)
 }
 
 /// Numbers of vertices, numbers of sets, the entries of both, and the verdict.

@@ -6,6 +6,7 @@ ghost use Rattle.std.specs.List.{list_all};
 use crate::known::{read_task, task_text};
 use def_flow::{MAX_TANGLE, Net};
 use def_matching::{MAX_EDGES, MAX_VERTICES, WEdge, WGraph};
+use qm_dual::SmallGraph;
 use qm_gadget::{graph_of, matching_of};
 use qm_match::{best, is_perfect};
 use qm_net::{admissible, are_lengths, is_within_bounds, tangle_of};
@@ -36,12 +37,13 @@ pub(crate) fn match_text(
     if g.n > MAX_VERTICES || g.edges.len() > MAX_EDGES as usize || !are_edges(g.n, &g.edges) {
         return Ok(None);
     }
-    if !is_perfect(alloc, &g, &task.known)? {
+    let small = SmallGraph { whole: &g };
+    if !is_perfect(alloc, &small, &task.known)? {
         return Ok(None);
     }
     let mut told = String::new(alloc);
     for _ in 0..times {
-        let (edges, dual) = best(alloc, &g, &task.known)?;
+        let (edges, dual) = best(alloc, &small, &task.known)?;
         told = format!(in alloc; "cost {} sets {}\n", cost_of(&g, &edges), dual.z.len())?;
     }
     Ok(Some(told))

@@ -7,6 +7,7 @@ ghost use Rattle.def_flow.specs.Descent.{IsStartOf};
 
 use def_flow::{MAX_STEP, MAX_TANGLE, Net};
 use def_matching::WGraph;
+use qm_dual::SmallGraph;
 use qm_fraction::{Fraction, least_fraction};
 use qm_gadget::{graph_of, matching_of};
 use qm_initial::initial_dual;
@@ -25,8 +26,11 @@ pub(crate) fn searches_left(alloc: Global, net: &Net, descent: &Descent) -> Resu
     let gadget = graph_of(alloc, net, &descent.x, descent.step)?;
     let known = matching_of(alloc, net, &gadget, &descent.x)?;
     let wish = first_wishes(alloc, net, &gadget, &descent.prices)?;
-    let y = initial_dual(alloc, &gadget.graph, &wish)?;
-    let Fraction { numbers, edges } = match least_fraction(alloc, &gadget.graph, &y, &known)? {
+    let graph = SmallGraph {
+        whole: &gadget.graph,
+    };
+    let y = initial_dual(alloc, &graph, &wish)?;
+    let Fraction { numbers, edges } = match least_fraction(alloc, &graph, &y, &known)? {
         Some(fraction) => fraction,
         None => Fraction {
             numbers: y,

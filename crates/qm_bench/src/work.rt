@@ -3,14 +3,12 @@
 ghost use Rattle.std.specs.Prelude.{◌≤◌};
 ghost use Rattle.def_flow.specs.Network.{network, tangle_number, IsWithinBounds};
 ghost use Rattle.def_flow.specs.Admissible.{entries, IsAdmissible};
-ghost use Rattle.def_matching.specs.Matching.{graph, IsSmallGraph};
 ghost use Rattle.def_flow.specs.Admissible.{AreNetLengths};
 
 use crate::network::{lengths, network as measured};
 use crate::sets::{Shape, dual_of};
 use def_flow::{MAX_TANGLE, Net};
-use def_matching::WGraph;
-use qm_dual::dual_ok;
+use qm_dual::{SmallGraph, dual_ok};
 use qm_gadget::graph_of;
 use qm_net::{admissible, are_lengths, is_within_bounds, tangle_of};
 use std::alloc::{AllocError, Global};
@@ -65,7 +63,14 @@ fn run(alloc: Global, net: &Net, x: &[u64], task: Task, times: u32) -> Result<St
         Task::Graph => build(alloc, net, x, times),
         Task::DualOk(shape) => {
             let gadget = graph_of(alloc, net, x, 1)?;
-            check_dual(alloc, &gadget.graph, shape, times)
+            check_dual(
+                alloc,
+                &SmallGraph {
+                    whole: &gadget.graph,
+                },
+                shape,
+                times,
+            )
         }
     }
 }
@@ -88,10 +93,13 @@ fn build(alloc: Global, net: &Net, x: &[u64], times: u32) -> Result<String, Allo
 }
 
 /// Checks a dual over the graph, and tells the verdict.
-fn check_dual(alloc: Global, g: &WGraph, shape: Shape, times: u32) -> Result<String, AllocError>
-    requires { IsSmallGraph (graph g.now) }
-{
-    let dual = dual_of(alloc, g.n, shape)?;
+fn check_dual(
+    alloc: Global,
+    g: &SmallGraph,
+    shape: Shape,
+    times: u32,
+) -> Result<String, AllocError> {
+    let dual = dual_of(alloc, g.n(), shape)?;
     let mut verdict = dual_ok(alloc, g, &dual)?;
     for _ in 1..times {
         verdict = dual_ok(alloc, g, &dual)?;

@@ -13,7 +13,7 @@ use crate::list::list_fault;
 use crate::sum::sum_verdict;
 use def_flow::{Cert, CertVerdict, MAX_LENGTH, MAX_TANGLE, Net};
 use def_matching::Verdict;
-use qm_dual::dual_ok;
+use qm_dual::{SmallGraph, dual_ok};
 use qm_gadget::graph_of;
 use std::alloc::Global;
 
@@ -54,7 +54,13 @@ fn check_dual(alloc: Global, net: &Net, cert: &Cert) -> Result<CertVerdict, Memo
         (sums_verdict (network net.now) (certificate cert.now))) }
 {
     let gadget = graph_of(alloc, net, &cert.x, 1)?;
-    let verdict = dual_ok(alloc, &gadget.graph, &cert.dual)?;
+    let verdict = dual_ok(
+        alloc,
+        &SmallGraph {
+            whole: &gadget.graph,
+        },
+        &cert.dual,
+    )?;
     match verdict {
         Verdict::Yes { sum } => Ok(sum_verdict(net, cert, &gadget.low, sum)),
         _ => Ok(CertVerdict::Dual { verdict }),

@@ -4,14 +4,15 @@ ghost use Rattle.std.specs.Prelude.{◌≡◌, ◌+◌, ◌^◌, ◌<◌, ◌≤
 ghost use Rattle.std.specs.Prelude.{slice_index_or, int_lt, IfOk, IfNone, IfSome};
 ghost use Rattle.def_math.specs.Searches.{least};
 ghost use Rattle.def_matching.specs.Dual.{dual, verdict, shape_fault, is_odd_size, is_up, IsSmallDual};
-ghost use Rattle.def_matching.specs.Matching.{graph, matching_cost, IsPerfect, IsSmallGraph};
+ghost use Rattle.def_matching.specs.Matching.{matching_cost, IsPerfect};
 ghost use Rattle.qm_dual.specs.Nest.{IsNest};
 
 use crate::loads::{Tables, check_loads};
 use crate::paths::path_heads;
 use crate::sizes::set_sizes;
+use crate::small::SmallGraph;
 use crate::sums::nested_sums;
-use def_matching::{Dual, MAX_SETS, MAX_VERTICES, Verdict, WGraph};
+use def_matching::{Dual, MAX_SETS, MAX_VERTICES, Verdict};
 use std::alloc::{AllocError, Global};
 
 /// Want of memory.
@@ -20,30 +21,28 @@ pub type Memory = AllocError;
 /// The verdict on a dual of a graph. After `Yes` twice the cost of each perfect matching is at least the sum.
 ///
 /// Linear in the vertices and sets, and logarithmic in them for each edge.
-pub fn dual_ok(alloc: Global, g: &WGraph, d: &Dual) -> Result<Verdict, Memory>
-    requires graph { IsSmallGraph (graph g.now) }
+pub fn dual_ok(alloc: Global, g: &SmallGraph, d: &Dual) -> Result<Verdict, Memory>
     requires small { IsSmallDual (dual d.now) }
-    ensures exact { IfOk result (λ v. v ≡ verdict (graph g.now) (dual d.now)) }
+    ensures exact { IfOk result (λ v. v ≡ verdict g.now.graph (dual d.now)) }
     // No perfect matching is cheaper than half of the sum.
     ensures bound { IfOk result (λ v.
-        (sum : ℤ) → v ≡ Verdict.Yes sum → (m : List ℕ) → IsPerfect (graph g.now) m
-        → sum ≤ℤ (pos 2 *ℤ matching_cost (graph g.now) m)) }
+        (sum : ℤ) → v ≡ Verdict.Yes sum → (m : List ℕ) → IsPerfect g.now.graph m
+        → sum ≤ℤ (pos 2 *ℤ matching_cost g.now.graph m)) }
 {
-    if let Some(index) = shape_fault_of(g.n, d) {
+    if let Some(index) = shape_fault_of(g.n(), d) {
         return Ok(Verdict::Shape { index });
     }
     check_sets(alloc, g, d)
 }
 
 /// The verdict on a dual of the right shape.
-fn check_sets(alloc: Global, g: &WGraph, d: &Dual) -> Result<Verdict, Memory>
-    requires graph { IsSmallGraph (graph g.now) }
+fn check_sets(alloc: Global, g: &SmallGraph, d: &Dual) -> Result<Verdict, Memory>
     requires small { IsSmallDual (dual d.now) }
-    requires numbers { length d.now.y.items ≡ g.now.n }
-    requires nest { IsNest g.now.n (dual d.now) }
-    ensures { IfOk result (λ v. v ≡ verdict (graph g.now) (dual d.now)) }
+    requires numbers { length d.now.y.items ≡ g.now.graph.n }
+    requires nest { IsNest g.now.graph.n (dual d.now) }
+    ensures { IfOk result (λ v. v ≡ verdict g.now.graph (dual d.now)) }
 {
-    let sizes = set_sizes(alloc, g.n, d)?;
+    let sizes = set_sizes(alloc, g.n(), d)?;
     if let Some(set) = even_set(&sizes) {
         let size = sizes[set as usize];
         return Ok(Verdict::Even { set, size });
@@ -51,8 +50,8 @@ fn check_sets(alloc: Global, g: &WGraph, d: &Dual) -> Result<Verdict, Memory>
     if let Some(set) = negative_set(&d.z) {
         return Ok(Verdict::Negative { set });
     }
-    let sums = nested_sums(alloc, g.n, d)?;
-    let heads = path_heads(alloc, g.n, d, &sizes)?;
+    let sums = nested_sums(alloc, g.n(), d)?;
+    let heads = path_heads(alloc, g.n(), d, &sizes)?;
     Ok(check_loads(g, d, &Tables { sums, heads }))
 }
 

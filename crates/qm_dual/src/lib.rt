@@ -6,7 +6,9 @@ mod loads;
 mod nest;
 mod paths;
 mod sizes;
+mod small;
 mod sums;
 
 pub use check::{Memory, dual_ok};
 pub use def_matching::{Dual, Verdict, WEdge, WGraph};
+pub use small::SmallGraph;

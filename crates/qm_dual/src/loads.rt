@@ -2,13 +2,14 @@
 
 ghost use Rattle.std.specs.Prelude.{◌≡◌, ◌^◌, ◌<◌, ◌≤◌, ◌*ℤ◌, ℕ, pos, length, unsigned_abs};
 ghost use Rattle.def_matching.specs.Dual.{dual, dual_sum, load, IsSmallDual, short_fault, refuse};
-ghost use Rattle.def_matching.specs.Matching.{graph, edge_at, IsSmallGraph};
+ghost use Rattle.def_matching.specs.Matching.{edge_at};
 ghost use Rattle.qm_dual.specs.Nest.{apart, named_sum, AreTables, IsNest};
 
 use crate::nest::set_around_vertex;
 use crate::paths::meeting;
+use crate::small::SmallGraph;
 use crate::sums::{sum_of, sum_of_dual};
-use def_matching::{Dual, Verdict, WEdge, WGraph};
+use def_matching::{Dual, Verdict, WEdge};
 
 /// For each set the sum of the numbers around it, and the head of its path.
 #[derive(Drop)]
@@ -18,23 +19,23 @@ pub(crate) struct Tables {
 }
 
 /// The verdict on a dual whose sets are in order: the least edge whose load is above twice its cost, or the sum.
-pub(crate) fn check_loads(g: &WGraph, d: &Dual, tables: &Tables) -> Verdict
-    requires graph { IsSmallGraph (graph g.now) }
+pub(crate) fn check_loads(g: &SmallGraph, d: &Dual, tables: &Tables) -> Verdict
     requires small { IsSmallDual (dual d.now) }
-    requires numbers { length d.now.y.items ≡ g.now.n }
-    requires nest { IsNest g.now.n (dual d.now) }
-    requires tables { AreTables g.now.n (dual d.now) tables.now.sums.items tables.now.heads.items }
-    ensures { result ≡ refuse (short_fault (graph g.now) (dual d.now))
-        (λ k. Verdict.Short k (load g.now.n (dual d.now) (edge_at (graph g.now) k))
-        (pos 2 *ℤ (edge_at (graph g.now) k).cost))
+    requires numbers { length d.now.y.items ≡ g.now.graph.n }
+    requires nest { IsNest g.now.graph.n (dual d.now) }
+    requires tables { AreTables g.now.graph.n (dual d.now) tables.now.sums.items tables.now.heads.items }
+    ensures { result ≡ refuse (short_fault g.now.graph (dual d.now))
+        (λ k. Verdict.Short k (load g.now.graph.n (dual d.now) (edge_at g.now.graph k))
+        (pos 2 *ℤ (edge_at g.now.graph k).cost))
         (Verdict.Yes (dual_sum (dual d.now))) }
 {
-    for (k, edge) in g.edges.iter().enumerate() {
-        let load = load_of(g.n, d, tables, edge);
+    for k in 0..g.edge_count() {
+        let edge = g.edge(k);
+        let load = load_of(g.n(), d, tables, &edge);
         let cost = 2 * i128::from(edge.cost);
         if load > cost {
             return Verdict::Short {
-                edge: k as u32,
+                edge: k,
                 load,
                 cost,
             };

@@ -2,7 +2,6 @@
 
 ghost use Rattle.std.specs.Prelude.{◌≡◌, ◌<◌, ℕ, length, slice_index, slice_index_or, true, false, Some};
 ghost use Rattle.std.specs.Prelude.{None};
-ghost use Rattle.def_matching.specs.Matching.{IsSmallGraph, graph};
 ghost use Rattle.def_forest.specs.Darts.{darts_of, far};
 ghost use Rattle.def_forest.specs.Forests.{Blossom};
 ghost use Rattle.def_forest.specs.Steps.{with_mates, IsAugmented};
@@ -16,20 +15,19 @@ ghost use Rattle.qm_forest.specs.Ties.{fixed_of, HasSameNest, relabelled, remate
 use crate::darts::{near, twin};
 use crate::forest::Forest;
 use def_forest::Label;
-use def_matching::WGraph;
+use qm_dual::SmallGraph;
 
 impl Forest {
     /// The root and the unmatched blossom that an edge reaches become matched; no tree stands any more.
-    pub fn augment(&mut self, g: &WGraph, e: u32)
-        requires graph { IsSmallGraph (graph g.now) }
-        requires valid { IsValidFor (graph g.now) self.old }
-        requires edge { e < length g.now.edges.items }
-        requires kind { edge_kind (graph g.now) (forest_of self.old) e ≡ Augment }
+    pub fn augment(&mut self, g: &SmallGraph, e: u32)
+        requires valid { IsValidFor g.now.graph self.old }
+        requires edge { e < length g.now.graph.edges }
+        requires kind { edge_kind g.now.graph (forest_of self.old) e ≡ Augment }
         ensures changed { (r : Blossom) × (self.old.root ≡ Some r)
-            × IsAugmented (darts_of (graph g.now)) (forest_of self.old) (forest_of self.new) r
-            (outer_dart (graph g.now) (forest_of self.old) e) }
+            × IsAugmented (darts_of g.now.graph) (forest_of self.old) (forest_of self.new) r
+            (outer_dart g.now.graph (forest_of self.old) e) }
         ensures root { self.new.root ≡ None }
-        ensures valid { IsValidFor (graph g.now) self.new }
+        ensures valid { IsValidFor g.now.graph self.new }
     {
         let start = self.outer_dart(g, e);
         self.rematch(g, start);
@@ -37,17 +35,16 @@ impl Forest {
     }
 
     /// Changes the matching along the way from a dart that reaches an unmatched blossom up to the root.
-    fn rematch(&mut self, g: &WGraph, start: u32)
-        requires graph { IsSmallGraph (graph g.now) }
-        requires valid { IsValidFor (graph g.now) self.old }
-        requires reaches { Reaches (darts_of (graph g.now)) (forest_of self.old) start }
-        requires free { (forest_of self.old).mate ((forest_of self.old).out (far (darts_of (graph g.now)) start))
+    fn rematch(&mut self, g: &SmallGraph, start: u32)
+        requires valid { IsValidFor g.now.graph self.old }
+        requires reaches { Reaches (darts_of g.now.graph) (forest_of self.old) start }
+        requires free { (forest_of self.old).mate ((forest_of self.old).out (far (darts_of g.now.graph) start))
             ≡ None }
         ensures seen { forest_of self.new ≡ remated (forest_of self.old) (forest_of self.new).mate }
         ensures same { HasSameNest self.old self.new }
         ensures done { let rematched = with_mates (forest_of self.old) (forest_of self.new).mate in
-            (r : Blossom) → self.old.root ≡ Some r → IsValid (darts_of (graph g.now)) rematched None
-            × IsAugmented (darts_of (graph g.now)) (forest_of self.old) rematched r start }
+            (r : Blossom) → self.old.root ≡ Some r → IsValid (darts_of g.now.graph) rematched None
+            × IsAugmented (darts_of g.now.graph) (forest_of self.old) rematched r start }
     {
         let reached = self.outermost(near(g, twin(start)));
         self.set_mate(reached, Some(twin(start)));

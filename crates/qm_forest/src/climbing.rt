@@ -1,7 +1,6 @@
 //! Climbing the tree one blossom at a time, and where two ways to the root meet.
 
 ghost use Rattle.std.specs.Prelude.{◌≡◌, ◌≢◌, ◌*◌, ◌^◌, ◌<◌, ◌≤◌, ℕ, length, min, Some, None};
-ghost use Rattle.def_matching.specs.Matching.{IsSmallGraph, graph};
 ghost use Rattle.def_forest.specs.Darts.{darts_of, far};
 ghost use Rattle.def_forest.specs.Tables.{forest_of, IsValidFor};
 ghost use Rattle.def_forest.specs.declared.kinds.Label.TheVariants.{Outside};
@@ -11,7 +10,7 @@ ghost use Rattle.qm_forest.specs.Rings.{AreOnBoth, HasClimbed};
 use crate::darts::{near, twin};
 use crate::forest::Forest;
 use def_forest::Label;
-use def_matching::WGraph;
+use qm_dual::SmallGraph;
 
 /// Where two ways to the root meet, and how many steps it is from where each begins.
 #[derive(Clone, Copy, Debug)]
@@ -45,23 +44,21 @@ impl Forest {
     }
 
     /// The outermost blossom that a dart reaches.
-    pub fn far_blossom(&self, g: &WGraph, d: u32) -> u32
-        requires graph { IsSmallGraph (graph g.now) }
-        requires vertices { length self.now.hand ≡ g.now.n }
-        requires dart { d < 2 * length g.now.edges.items }
-        ensures value { result ≡ (forest_of self.now).out (far (darts_of (graph g.now)) d) }
+    pub fn far_blossom(&self, g: &SmallGraph, d: u32) -> u32
+        requires vertices { length self.now.hand ≡ g.now.graph.n }
+        requires dart { d < 2 * length g.now.graph.edges }
+        ensures value { result ≡ (forest_of self.now).out (far (darts_of g.now.graph) d) }
         ensures low { result < length self.now.up }
     {
         self.outermost(near(g, twin(d)))
     }
 
     /// The next blossom towards the root, seen from a blossom of the tree that is not the root.
-    pub(crate) fn above(&self, g: &WGraph, b: u32) -> u32
-        requires graph { IsSmallGraph (graph g.now) }
-        requires valid { IsValidFor (graph g.now) self.now }
+    pub(crate) fn above(&self, g: &SmallGraph, b: u32) -> u32
+        requires valid { IsValidFor g.now.graph self.now }
         requires named { (forest_of self.now).label b ≢ Outside }
         requires below { rise_of (forest_of self.now) b ≢ None }
-        ensures value { result ≡ above_of (darts_of (graph g.now)) (forest_of self.now) b }
+        ensures value { result ≡ above_of (darts_of g.now.graph) (forest_of self.now) b }
         ensures low { result < length self.now.up }
     {
         match self.rise(b) {
@@ -71,12 +68,11 @@ impl Forest {
     }
 
     /// The blossom so many steps towards the root, or the root where the way is shorter; and how many steps it is.
-    fn climb(&self, g: &WGraph, b: u32, most: u32) -> (u32, u32)
-        requires graph { IsSmallGraph (graph g.now) }
-        requires valid { IsValidFor (graph g.now) self.now }
+    fn climb(&self, g: &SmallGraph, b: u32, most: u32) -> (u32, u32)
+        requires valid { IsValidFor g.now.graph self.now }
         requires named { (forest_of self.now).label b ≢ Outside }
-        ensures way { result.0 ≡ way_of (darts_of (graph g.now)) (forest_of self.now) b result.1 }
-        ensures steps { result.1 ≡ min most (level_of (darts_of (graph g.now)) (forest_of self.now) b) }
+        ensures way { result.0 ≡ way_of (darts_of g.now.graph) (forest_of self.now) b result.1 }
+        ensures steps { result.1 ≡ min most (level_of (darts_of g.now.graph) (forest_of self.now) b) }
     {
         let mut at = b;
         let mut count = 0;
@@ -91,12 +87,11 @@ impl Forest {
     }
 
     /// How many steps it is from a blossom of the tree to one towards the root, where it is at most so many.
-    fn steps_to(&self, g: &WGraph, b: u32, goal: u32, most: u32) -> Option<u32>
-        requires graph { IsSmallGraph (graph g.now) }
-        requires valid { IsValidFor (graph g.now) self.now }
+    fn steps_to(&self, g: &SmallGraph, b: u32, goal: u32, most: u32) -> Option<u32>
+        requires valid { IsValidFor g.now.graph self.now }
         requires named { (forest_of self.now).label b ≢ Outside }
         ensures { (k : ℕ) → result ≡ Some k
-            → HasClimbed (darts_of (graph g.now)) (forest_of self.now) b goal k }
+            → HasClimbed (darts_of g.now.graph) (forest_of self.now) b goal k }
     {
         let mut at = b;
         let mut count = 0;
@@ -113,12 +108,11 @@ impl Forest {
     /// How many steps it is from two blossoms of the tree to one that is on the ways of both to the root. One climber
     /// waits, each time twice as far up, and the other looks for it from below, twice as far. So it takes the time of
     /// the steps to where the ways meet, and not of those to the root.
-    fn meeting(&self, g: &WGraph, a: u32, c: u32) -> (u32, u32)
-        requires graph { IsSmallGraph (graph g.now) }
-        requires valid { IsValidFor (graph g.now) self.now }
+    fn meeting(&self, g: &SmallGraph, a: u32, c: u32) -> (u32, u32)
+        requires valid { IsValidFor g.now.graph self.now }
         requires first { (forest_of self.now).label a ≢ Outside }
         requires second { (forest_of self.now).label c ≢ Outside }
-        ensures both { AreOnBoth (darts_of (graph g.now)) (forest_of self.now) a c result.0 result.1 }
+        ensures both { AreOnBoth (darts_of g.now.graph) (forest_of self.now) a c result.0 result.1 }
         ensures few { length self.now.up ≤ 2 ^ 26 }
     {
         let mut at = a;
@@ -137,12 +131,11 @@ impl Forest {
     }
 
     /// Where the ways from two blossoms of the tree to the root meet: the higher climber goes on.
-    pub(crate) fn fork(&self, g: &WGraph, a: u32, c: u32) -> Fork
-        requires graph { IsSmallGraph (graph g.now) }
-        requires valid { IsValidFor (graph g.now) self.now }
+    pub(crate) fn fork(&self, g: &SmallGraph, a: u32, c: u32) -> Fork
+        requires valid { IsValidFor g.now.graph self.now }
         requires first { (forest_of self.now).label a ≢ Outside }
         requires second { (forest_of self.now).label c ≢ Outside }
-        ensures meeting { IsClimbing (darts_of (graph g.now)) (forest_of self.now) a c result.top result.top
+        ensures meeting { IsClimbing (darts_of g.now.graph) (forest_of self.now) a c result.top result.top
             result.left result.right }
         ensures few { length self.now.up ≤ 2 ^ 26 }
     {

@@ -2,7 +2,6 @@
 
 ghost use Rattle.std.specs.Prelude.{◌≡◌, ◌≢◌, ◌+◌, ◌%◌, ◌^◌, ◌<◌, ◌≤◌, ◌==◌, ℕ, pos, length, slice_index};
 ghost use Rattle.std.specs.Prelude.{Some, None};
-ghost use Rattle.def_matching.specs.Matching.{IsSmallGraph, graph};
 ghost use Rattle.def_forest.specs.Darts.{darts_of};
 ghost use Rattle.def_forest.specs.Forests.{walk};
 ghost use Rattle.def_forest.specs.Opened.{IsExpanding};
@@ -15,7 +14,7 @@ ghost use Rattle.qm_forest.specs.Ties.{HasSameNest, labelled, mated};
 use crate::darts::{near, twin};
 use crate::forest::Forest;
 use def_forest::Label;
-use def_matching::WGraph;
+use qm_dual::SmallGraph;
 
 /// A way along a ring: where it begins, how many blossoms it has, and whether the tree goes up along the ring.
 #[derive(Clone, Copy, Debug, PartialEq, Eq)]
@@ -29,15 +28,14 @@ impl Forest {
     /// An inner set of weight 0 ends, and its parts become outermost, all of them matched. Those on the way of even
     /// length from its link to its mate become inner and outer by turns, the others are outside the tree.
     /// Takes the time of the parts, and of the vertices in them that do not keep their handle.
-    pub fn expand(&mut self, g: &WGraph, b: u32)
-        requires graph { IsSmallGraph (graph g.now) }
-        requires valid { IsValidFor (graph g.now) self.old }
-        requires set { g.now.n ≤ b }
+    pub fn expand(&mut self, g: &SmallGraph, b: u32)
+        requires valid { IsValidFor g.now.graph self.old }
+        requires set { g.now.graph.n ≤ b }
         requires inner { (forest_of self.old).label b ≡ Inner }
         requires weightless { (forest_of self.old).weight b ≡ pos 0 }
-        ensures changed { IsExpanding (darts_of (graph g.now)) (forest_of self.old) (forest_of self.new) b }
+        ensures changed { IsExpanding (darts_of g.now.graph) (forest_of self.old) (forest_of self.new) b }
         ensures root { self.new.root ≡ self.old.root }
-        ensures valid { IsValidFor (graph g.now) self.new }
+        ensures valid { IsValidFor g.now.graph self.new }
     {
         let many = self.parts(b);
         let mate = self.mate_dart(b);

@@ -2,31 +2,28 @@
 
 ghost use Rattle.std.specs.Prelude.{◌≡◌, ◌≢◌, ◌^◌, ◌<◌, ◌≤◌, ◌⊎◌, ◌==◌, ℕ, pos, length, slice_index};
 ghost use Rattle.std.specs.Prelude.{slice_index_or, unsigned_abs};
-ghost use Rattle.def_matching.specs.Matching.{IsSmallGraph, graph};
 ghost use Rattle.def_forest.specs.Forests.{Blossom, weight_between};
 ghost use Rattle.qm_forest.specs.Ties.{IsClimb};
 ghost use Rattle.def_forest.specs.Tables.{up_at, forest_of, slack_of, edge_kind, kind_by, IsValidFor, IsOutermostIn};
 
-use crate::darts::edge_of;
 use crate::forest::Forest;
 use def_forest::{EdgeKind, Label};
-use def_matching::WGraph;
+use qm_dual::SmallGraph;
 
 impl Forest {
     /// Twice the cost of an edge less its load. Constant between two outermost blossoms; within one it climbs.
-    pub fn slack(&self, g: &WGraph, e: u32) -> i128
-        requires graph { IsSmallGraph (graph g.now) }
-        requires valid { IsValidFor (graph g.now) self.now }
-        requires edge { e < length g.now.edges.items }
-        ensures { result ≡ slack_of (graph g.now) (forest_of self.now) e }
+    pub fn slack(&self, g: &SmallGraph, e: u32) -> i128
+        requires valid { IsValidFor g.now.graph self.now }
+        requires edge { e < length g.now.graph.edges }
+        ensures { result ≡ slack_of g.now.graph (forest_of self.now) e }
     {
-        let edge = edge_of(g, e);
+        let edge = g.edge(e);
         2 * i128::from(edge.cost) - self.load_between(g, edge.u, edge.v)
     }
 
     /// The load between two vertices.
-    fn load_between(&self, g: &WGraph, u: u32, v: u32) -> i128
-        requires valid { IsValidFor (graph g.now) self.now }
+    fn load_between(&self, g: &SmallGraph, u: u32, v: u32) -> i128
+        requires valid { IsValidFor g.now.graph self.now }
         requires vertices { (u < length self.now.hand) × (v < length self.now.hand) }
         ensures value { result ≡ weight_between (forest_of self.now) u v }
         ensures small { unsigned_abs result ≤ 2 ^ 92 }
@@ -39,8 +36,8 @@ impl Forest {
     }
 
     /// The load between two vertices of different outermost blossoms.
-    fn load_across(&self, g: &WGraph, u: u32, v: u32) -> i128
-        requires valid { IsValidFor (graph g.now) self.now }
+    fn load_across(&self, g: &SmallGraph, u: u32, v: u32) -> i128
+        requires valid { IsValidFor g.now.graph self.now }
         requires vertices { (u < length self.now.hand) × (v < length self.now.hand) }
         requires apart { (forest_of self.now).out u ≢ (forest_of self.now).out v }
         ensures value { result ≡ weight_between (forest_of self.now) u v }
@@ -51,8 +48,8 @@ impl Forest {
     }
 
     /// The load between two vertices of one outermost blossom.
-    fn load_within(&self, g: &WGraph, u: u32, v: u32) -> i128
-        requires valid { IsValidFor (graph g.now) self.now }
+    fn load_within(&self, g: &SmallGraph, u: u32, v: u32) -> i128
+        requires valid { IsValidFor g.now.graph self.now }
         requires vertices { (u < length self.now.hand) × (v < length self.now.hand) }
         requires same { (forest_of self.now).out u ≡ (forest_of self.now).out v }
         ensures value { result ≡ weight_between (forest_of self.now) u v }
@@ -106,16 +103,15 @@ impl Forest {
     }
 
     /// The step that an edge allows.
-    pub fn kind(&self, g: &WGraph, e: u32) -> EdgeKind
-        requires graph { IsSmallGraph (graph g.now) }
-        requires valid { IsValidFor (graph g.now) self.now }
-        requires edge { e < length g.now.edges.items }
-        ensures { result ≡ edge_kind (graph g.now) (forest_of self.now) e }
+    pub fn kind(&self, g: &SmallGraph, e: u32) -> EdgeKind
+        requires valid { IsValidFor g.now.graph self.now }
+        requires edge { e < length g.now.graph.edges }
+        ensures { result ≡ edge_kind g.now.graph (forest_of self.now) e }
     {
         if self.slack(g, e) > 0 {
             return EdgeKind::Loose;
         }
-        let edge = edge_of(g, e);
+        let edge = g.edge(e);
         self.kind_between(self.outermost(edge.u), self.outermost(edge.v))
     }
 

@@ -1,7 +1,6 @@
 //! Laying the ring that an edge between two outer blossoms closes in the tree.
 
 ghost use Rattle.std.specs.Prelude.{◌≡◌, ◌≢◌, ◌*◌, ◌<◌, length, None};
-ghost use Rattle.def_matching.specs.Matching.{IsSmallGraph, graph};
 ghost use Rattle.def_forest.specs.Darts.{darts_of, far};
 ghost use Rattle.def_forest.specs.Forests.{set_at};
 ghost use Rattle.def_forest.specs.Tables.{forest_of, IsValidFor};
@@ -13,20 +12,19 @@ ghost use Rattle.qm_forest.specs.Rings.{ringed, IsRingedAlike, MayClimb, laid_do
 use crate::climbing::Fork;
 use crate::darts::{near, twin};
 use crate::forest::Forest;
-use def_matching::WGraph;
+use qm_dual::SmallGraph;
 
 impl Forest {
     /// Lays the way down from where two ways meet to where the first begins, the edge over, and the second way up.
-    pub(crate) fn lay_ring(&mut self, g: &WGraph, start: u32, fork: Fork)
-        requires graph { IsSmallGraph (graph g.now) }
-        requires valid { IsValidFor (graph g.now) self.old }
-        requires start { start < 2 * length g.now.edges.items }
-        requires ways { let f = forest_of self.old in let d = darts_of (graph g.now) in
+    pub(crate) fn lay_ring(&mut self, g: &SmallGraph, start: u32, fork: Fork)
+        requires valid { IsValidFor g.now.graph self.old }
+        requires start { start < 2 * length g.now.graph.edges }
+        requires ways { let f = forest_of self.old in let d = darts_of g.now.graph in
             (f.label (f.out (d.near start)) ≢ Outside) × (f.label (f.out (far d start)) ≢ Outside) }
-        requires fork { let f = forest_of self.old in let d = darts_of (graph g.now) in
+        requires fork { let f = forest_of self.old in let d = darts_of g.now.graph in
             IsClimbing d f (f.out (d.near start)) (f.out (far d start)) fork.top fork.top fork.left fork.right }
         ensures seen { forest_of self.new
-            ≡ laid_ring (darts_of (graph g.now)) (forest_of self.old) start fork.left fork.right }
+            ≡ laid_ring (darts_of g.now.graph) (forest_of self.old) start fork.left fork.right }
         ensures same { IsRingedAlike self.old self.new }
     {
         let a = self.outermost(near(g, start));
@@ -37,10 +35,9 @@ impl Forest {
     }
 
     /// Lays so many steps of a way to the root, downwards.
-    fn lay_down(&mut self, g: &WGraph, a: u32, steps: u32)
-        requires graph { IsSmallGraph (graph g.now) }
-        requires from { MayClimb (graph g.now) self.old a steps }
-        ensures seen { forest_of self.new ≡ laid_down (darts_of (graph g.now)) (forest_of self.old) a steps }
+    fn lay_down(&mut self, g: &SmallGraph, a: u32, steps: u32)
+        requires from { MayClimb g.now.graph self.old a steps }
+        ensures seen { forest_of self.new ≡ laid_down (darts_of g.now.graph) (forest_of self.old) a steps }
         ensures same { IsRingedAlike self.old self.new }
     {
         let mut x = a;
@@ -53,10 +50,9 @@ impl Forest {
     }
 
     /// Lays so many steps of a way to the root, upwards.
-    fn lay_up(&mut self, g: &WGraph, c: u32, steps: u32)
-        requires graph { IsSmallGraph (graph g.now) }
-        requires from { MayClimb (graph g.now) self.old c steps }
-        ensures seen { forest_of self.new ≡ laid_up (darts_of (graph g.now)) (forest_of self.old) c steps }
+    fn lay_up(&mut self, g: &SmallGraph, c: u32, steps: u32)
+        requires from { MayClimb g.now.graph self.old c steps }
+        ensures seen { forest_of self.new ≡ laid_up (darts_of g.now.graph) (forest_of self.old) c steps }
         ensures same { IsRingedAlike self.old self.new }
     {
         let mut x = c;

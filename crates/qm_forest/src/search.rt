@@ -2,7 +2,7 @@
 
 ghost use Rattle.std.specs.Prelude.{◌≡◌, ◌≤ℤ◌, ◌^◌, ◌<◌, ◌≤◌, ℕ, pos, length, unsigned_abs, Some};
 ghost use Rattle.std.specs.Prelude.{None};
-ghost use Rattle.def_matching.specs.Matching.{IsSmallGraph, WeightedGraph, graph, IsGraph};
+ghost use Rattle.def_matching.specs.Matching.{WeightedGraph, IsGraph};
 ghost use Rattle.def_forest.specs.Darts.{darts_of};
 ghost use Rattle.def_forest.specs.Forests.{Blossom};
 ghost use Rattle.def_forest.specs.Steps.{rooted, shifted};
@@ -12,7 +12,7 @@ ghost use Rattle.qm_forest.specs.Ties.{fixed_of};
 
 use crate::forest::Forest;
 use def_forest::Label;
-use def_matching::WGraph;
+use qm_dual::SmallGraph;
 
 impl Forest {
     /// Begins a search: the outermost blossom of a vertex, which is not matched, becomes the root and the whole tree.
@@ -40,15 +40,14 @@ impl Forest {
     }
 
     /// Adds `t` at outer blossoms, and takes it away at inner ones.
-    pub fn shift(&mut self, g: &WGraph, t: i64)
-        requires graph { IsSmallGraph (graph g.now) }
-        requires valid { IsValidFor (graph g.now) self.old }
+    pub fn shift(&mut self, g: &SmallGraph, t: i64)
+        requires valid { IsValidFor g.now.graph self.old }
         requires positive { pos 0 ≤ℤ t }
-        requires feasible { IsFeasible (darts_of (graph g.now)) (shifted (forest_of self.old) t) }
+        requires feasible { IsFeasible (darts_of g.now.graph) (shifted (forest_of self.old) t) }
         requires small { (b : Blossom) → unsigned_abs ((shifted (forest_of self.old) t).weight b) ≤ 2 ^ 62 }
         ensures changed { forest_of self.new ≡ shifted (forest_of self.old) t }
         ensures root { self.new.root ≡ self.old.root }
-        ensures valid { IsValidFor (graph g.now) self.new }
+        ensures valid { IsValidFor g.now.graph self.new }
     {
         let _ = g;
         if self.tree.root.is_some() {

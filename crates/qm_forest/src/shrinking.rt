@@ -1,7 +1,6 @@
 //! Shrinking: the blossoms of a cycle of the tree become one.
 
 ghost use Rattle.std.specs.Prelude.{◌≡◌, ◌*◌, ◌<◌, ℕ, length, slice_index};
-ghost use Rattle.def_matching.specs.Matching.{IsSmallGraph, graph};
 ghost use Rattle.def_forest.specs.Darts.{darts_of};
 ghost use Rattle.def_forest.specs.Forests.{walk};
 ghost use Rattle.def_forest.specs.Shrunk.{IsShrinking};
@@ -13,19 +12,18 @@ ghost use Rattle.qm_forest.specs.Ties.{HasSameNest, left_alone};
 use crate::darts::near;
 use crate::forest::Forest;
 use def_forest::Label;
-use def_matching::WGraph;
+use qm_dual::SmallGraph;
 
 impl Forest {
     /// The outermost blossoms on the cycle that an edge closes in the tree become one outer blossom of weight 0.
     /// Takes the time of the two ways from the edge to where they meet, and of the vertices in the smaller parts.
-    pub fn shrink(&mut self, g: &WGraph, e: u32)
-        requires graph { IsSmallGraph (graph g.now) }
-        requires valid { IsValidFor (graph g.now) self.old }
-        requires edge { e < length g.now.edges.items }
-        requires kind { edge_kind (graph g.now) (forest_of self.old) e ≡ Shrink }
-        ensures changed { IsShrinking (darts_of (graph g.now)) (forest_of self.old) (forest_of self.new) self.old.root
+    pub fn shrink(&mut self, g: &SmallGraph, e: u32)
+        requires valid { IsValidFor g.now.graph self.old }
+        requires edge { e < length g.now.graph.edges }
+        requires kind { edge_kind g.now.graph (forest_of self.old) e ≡ Shrink }
+        ensures changed { IsShrinking (darts_of g.now.graph) (forest_of self.old) (forest_of self.new) self.old.root
             self.new.root (2 * e) }
-        ensures valid { IsValidFor (graph g.now) self.new }
+        ensures valid { IsValidFor g.now.graph self.new }
     {
         let start = 2 * e;
         let a = self.outermost(near(g, start));

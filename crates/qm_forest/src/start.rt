@@ -3,18 +3,18 @@
 ghost use Rattle.std.specs.Prelude.{◌≡◌, ◌+◌, ◌*◌, ◌/◌, ◌^◌, ◌<◌, ◌≤◌, ◌+ℤ◌, ◌*ℤ◌, ◌≤ℤ◌, ℕ, pos, length};
 ghost use Rattle.std.specs.Prelude.{slice_index_or, unsigned_abs, max, replicate, false, IfOk, None};
 ghost use Rattle.std.specs.Vec.{vec_capacity};
-ghost use Rattle.def_matching.specs.Matching.{graph, edge_at, IsSmallGraph, Vertex};
+ghost use Rattle.def_matching.specs.Matching.{edge_at, Vertex};
 ghost use Rattle.def_forest.specs.Forests.{Blossom};
 ghost use Rattle.def_forest.specs.Tables.{forest_of, IsValidFor};
 ghost use Rattle.def_forest.specs.declared.kinds.Label.TheVariants.{Outside};
 ghost use Rattle.qm_forest.specs.Ties.{AreFeasible, AreStarts, IsCounted, IsLowered};
 
-use crate::darts::{edge_of, near};
+use crate::darts::near;
 use crate::forest::Forest;
 use crate::room::Room;
 use crate::tables::{Handles, Lists, Rings, Trail, Tree, Weights};
 use def_forest::Label;
-use def_matching::WGraph;
+use qm_dual::SmallGraph;
 use qm_pool::Pool;
 use std::alloc::{AllocError, Global};
 
@@ -24,16 +24,15 @@ pub type Memory = AllocError;
 impl Forest {
     /// A forest without matching, sets and tree. The weight of a vertex is the least cost at it, or where it has no
     /// edge, the greatest cost: no weight is above all costs, up or down.
-    pub fn new(alloc: Global, g: &WGraph) -> Result<Forest, Memory>
-        requires graph { IsSmallGraph (graph g.now) }
-        requires costs { (e : ℕ) → e < length g.now.edges.items → unsigned_abs (edge_at (graph g.now) e).cost ≤ 2 ^ 60 }
-        ensures valid { IfOk result (λ f. IsValidFor (graph g.now) f) }
+    pub fn new(alloc: Global, g: &SmallGraph) -> Result<Forest, Memory>
+        requires costs { (e : ℕ) → e < length g.now.graph.edges → unsigned_abs (edge_at g.now.graph e).cost ≤ 2 ^ 60 }
+        ensures valid { IfOk result (λ f. IsValidFor g.now.graph f) }
         ensures empty { IfOk result (λ f. (b : Blossom) → (forest_of f).mate b ≡ None) }
         ensures no_tree { IfOk result (λ f. f.root ≡ None) }
-        ensures size { IfOk result (λ f. length f.up ≡ g.now.n + g.now.n / 2) }
-        ensures sets { IfOk result (λ f. (b : Blossom) → g.now.n ≤ b → (forest_of f).weight b ≡ pos 0) }
+        ensures size { IfOk result (λ f. length f.up ≡ g.now.graph.n + g.now.graph.n / 2) }
+        ensures sets { IfOk result (λ f. (b : Blossom) → g.now.graph.n ≤ b → (forest_of f).weight b ≡ pos 0) }
         ensures small { IfOk result (λ f. (c : ℕ)
-            → ((e : ℕ) → e < length g.now.edges.items → unsigned_abs (edge_at (graph g.now) e).cost ≤ c)
+            → ((e : ℕ) → e < length g.now.graph.edges → unsigned_abs (edge_at g.now.graph e).cost ≤ c)
             → (b : Blossom) → unsigned_abs ((forest_of f).weight b) ≤ c) }
     {
         let most = greatest_cost(g);
@@ -42,19 +41,18 @@ impl Forest {
     }
 
     /// A forest without matching, sets and tree. The weights of the vertices are given: a feasible dual.
-    pub fn new_from(alloc: Global, g: &WGraph, y: &[i64]) -> Result<Forest, Memory>
-        requires graph { IsSmallGraph (graph g.now) }
-        requires numbers { length y.now ≡ g.now.n }
+    pub fn new_from(alloc: Global, g: &SmallGraph, y: &[i64]) -> Result<Forest, Memory>
+        requires numbers { length y.now ≡ g.now.graph.n }
         requires small { (v : Vertex) → unsigned_abs (slice_index_or y.now v (pos 0)) ≤ 2 ^ 60 }
-        requires feasible { (e : ℕ) → e < length g.now.edges.items
-            → (slice_index_or y.now (edge_at (graph g.now) e).u (pos 0)
-            +ℤ slice_index_or y.now (edge_at (graph g.now) e).v (pos 0))
-            ≤ℤ (pos 2 *ℤ (edge_at (graph g.now) e).cost) }
-        ensures valid { IfOk result (λ f. IsValidFor (graph g.now) f) }
+        requires feasible { (e : ℕ) → e < length g.now.graph.edges
+            → (slice_index_or y.now (edge_at g.now.graph e).u (pos 0)
+            +ℤ slice_index_or y.now (edge_at g.now.graph e).v (pos 0))
+            ≤ℤ (pos 2 *ℤ (edge_at g.now.graph e).cost) }
+        ensures valid { IfOk result (λ f. IsValidFor g.now.graph f) }
         ensures empty { IfOk result (λ f. (b : Blossom) → (forest_of f).mate b ≡ None) }
         ensures no_tree { IfOk result (λ f. f.root ≡ None) }
-        ensures size { IfOk result (λ f. length f.up ≡ g.now.n + g.now.n / 2) }
-        ensures single { IfOk result (λ f. (v : Vertex) → v < g.now.n → (forest_of f).out v ≡ v) }
+        ensures size { IfOk result (λ f. length f.up ≡ g.now.graph.n + g.now.graph.n / 2) }
+        ensures single { IfOk result (λ f. (v : Vertex) → v < g.now.graph.n → (forest_of f).out v ≡ v) }
         ensures weights { IfOk result (λ f.
             (b : Blossom) → (forest_of f).weight b ≡ slice_index_or y.now b (pos 0)) }
     {
@@ -64,18 +62,17 @@ impl Forest {
 }
 
 /// A forest of single vertices, of given weights.
-fn single_vertices(alloc: Global, g: &WGraph, lows: Vec<i128>) -> Result<Forest, Memory>
-    requires graph { IsSmallGraph (graph g.now) }
-    requires weights { AreFeasible (graph g.now) lows.items }
-    ensures valid { IfOk result (λ f. IsValidFor (graph g.now) f) }
+fn single_vertices(alloc: Global, g: &SmallGraph, lows: Vec<i128>) -> Result<Forest, Memory>
+    requires weights { AreFeasible g.now.graph lows.items }
+    ensures valid { IfOk result (λ f. IsValidFor g.now.graph f) }
     ensures empty { IfOk result (λ f. (b : Blossom) → (forest_of f).mate b ≡ None) }
     ensures no_tree { IfOk result (λ f. f.root ≡ None) }
-    ensures size { IfOk result (λ f. length f.up ≡ g.now.n + g.now.n / 2) }
-    ensures single { IfOk result (λ f. (v : Vertex) → v < g.now.n → (forest_of f).out v ≡ v) }
+    ensures size { IfOk result (λ f. length f.up ≡ g.now.graph.n + g.now.graph.n / 2) }
+    ensures single { IfOk result (λ f. (v : Vertex) → v < g.now.graph.n → (forest_of f).out v ≡ v) }
     ensures weights { IfOk result (λ f.
         (b : Blossom) → (forest_of f).weight b ≡ slice_index_or lows.items b (pos 0)) }
 {
-    let n = g.n as usize;
+    let n = g.n() as usize;
     let size = n + n / 2;
     let near = dart_starts(alloc, g)?;
     Ok(Forest {
@@ -89,34 +86,32 @@ fn single_vertices(alloc: Global, g: &WGraph, lows: Vec<i128>) -> Result<Forest,
         trail: empty_trail(alloc, n)?,
         tree: no_tree(alloc, size, near)?,
         pool: empty_pool(alloc, n / 2)?,
-        room: Some(Room::new(alloc, n, g.edges.len())?),
+        room: Some(Room::new(alloc, n, g.edge_count() as usize)?),
     })
 }
 
 /// Where each dart of a graph begins.
-fn dart_starts(alloc: Global, g: &WGraph) -> Result<Vec<u32>, Memory>
-    requires { IsSmallGraph (graph g.now) }
-    ensures { IfOk result (λ v. AreStarts (graph g.now) (2 * length g.now.edges.items) v.items) }
+fn dart_starts(alloc: Global, g: &SmallGraph) -> Result<Vec<u32>, Memory>
+    ensures { IfOk result (λ v. AreStarts g.now.graph (2 * length g.now.graph.edges) v.items) }
 {
-    let count = 2 * g.edges.len();
-    let mut starts = Vec::with_capacity(alloc, count)?;
+    let count = 2 * g.edge_count();
+    let mut starts = Vec::with_capacity(alloc, count as usize)?;
     for d in 0..count {
-        starts.push(near(g, d as u32))?;
+        starts.push(near(g, d))?;
     }
     Ok(starts)
 }
 
 /// The greatest cost, up or down.
-pub fn greatest_cost(g: &WGraph) -> u64
-    requires graph { IsSmallGraph (graph g.now) }
-    requires costs { (e : ℕ) → e < length g.now.edges.items → unsigned_abs (edge_at (graph g.now) e).cost ≤ 2 ^ 60 }
-    ensures above { (e : ℕ) → e < length g.now.edges.items → unsigned_abs (edge_at (graph g.now) e).cost ≤ result }
-    ensures least { (c : ℕ) → ((e : ℕ) → e < length g.now.edges.items → unsigned_abs (edge_at (graph g.now) e).cost ≤ c)
+pub fn greatest_cost(g: &SmallGraph) -> u64
+    requires costs { (e : ℕ) → e < length g.now.graph.edges → unsigned_abs (edge_at g.now.graph e).cost ≤ 2 ^ 60 }
+    ensures above { (e : ℕ) → e < length g.now.graph.edges → unsigned_abs (edge_at g.now.graph e).cost ≤ result }
+    ensures least { (c : ℕ) → ((e : ℕ) → e < length g.now.graph.edges → unsigned_abs (edge_at g.now.graph e).cost ≤ c)
         → result ≤ c }
 {
     let mut most = 0;
-    for e in 0..g.edges.len() {
-        most = greater_of(most, edge_of(g, e as u32).cost.unsigned_abs());
+    for e in 0..g.edge_count() {
+        most = greater_of(most, g.edge(e).cost.unsigned_abs());
     }
     most
 }
@@ -232,20 +227,19 @@ fn empty_pool(alloc: Global, room: usize) -> Result<Pool, Memory>
 }
 
 /// The least cost at each vertex, or where it has no edge, the greatest one: a feasible dual.
-pub fn least_costs(alloc: Global, g: &WGraph, most: u64) -> Result<Vec<i64>, Memory>
-    requires graph { IsSmallGraph (graph g.now) }
-    requires costs { (e : ℕ) → e < length g.now.edges.items → unsigned_abs (edge_at (graph g.now) e).cost ≤ most }
+pub fn least_costs(alloc: Global, g: &SmallGraph, most: u64) -> Result<Vec<i64>, Memory>
+    requires costs { (e : ℕ) → e < length g.now.graph.edges → unsigned_abs (edge_at g.now.graph e).cost ≤ most }
     requires few { most ≤ 2 ^ 60 }
-    ensures numbers { IfOk result (λ lows. length lows.items ≡ g.now.n) }
+    ensures numbers { IfOk result (λ lows. length lows.items ≡ g.now.graph.n) }
     ensures small { IfOk result (λ lows. (v : Vertex) → unsigned_abs (slice_index_or lows.items v (pos 0)) ≤ most) }
-    ensures feasible { IfOk result (λ lows. (e : ℕ) → e < length g.now.edges.items
-        → (slice_index_or lows.items (edge_at (graph g.now) e).u (pos 0)
-        +ℤ slice_index_or lows.items (edge_at (graph g.now) e).v (pos 0))
-        ≤ℤ (pos 2 *ℤ (edge_at (graph g.now) e).cost)) }
+    ensures feasible { IfOk result (λ lows. (e : ℕ) → e < length g.now.graph.edges
+        → (slice_index_or lows.items (edge_at g.now.graph e).u (pos 0)
+        +ℤ slice_index_or lows.items (edge_at g.now.graph e).v (pos 0))
+        ≤ℤ (pos 2 *ℤ (edge_at g.now.graph e).cost)) }
 {
-    let mut lows = vec![in alloc; most as i64; g.n as usize]?;
-    for e in 0..g.edges.len() as u32 {
-        let edge = edge_of(g, e);
+    let mut lows = vec![in alloc; most as i64; g.n() as usize]?;
+    for e in 0..g.edge_count() {
+        let edge = g.edge(e);
         lower(&mut lows, edge.u, edge.cost);
         lower(&mut lows, edge.v, edge.cost);
     }

@@ -4,8 +4,8 @@ ghost use Rattle.std.specs.Prelude.{◌≡◌, ◌<◌, length, OnOk};
 
 use crate::Memory;
 use crate::exits::{Dart, dart_at};
-use crate::graph::SmallGraph;
 use crate::vertices::Vertex;
+use qm_dual::SmallGraph;
 use std::alloc::Global;
 
 /// Edges of which no two meet: those of the pairs, and each second one of the odd cycles.
@@ -14,11 +14,11 @@ pub(crate) fn edges_of(
     g: &SmallGraph,
     vertices: &[Vertex],
 ) -> Result<Vec<u32>, Memory>
-    requires vertices { length vertices.now ≡ g.now.n }
+    requires vertices { length vertices.now ≡ g.now.graph.n }
 {
-    let mut taken = vec![in alloc; false; g.n as usize]?;
+    let mut taken = vec![in alloc; false; g.n() as usize]?;
     let mut edges = Vec::new(alloc);
-    for v in 0..g.n {
+    for v in 0..g.n() {
         follow(g, vertices, v, &mut taken, &mut edges)?;
     }
     Ok(edges)
@@ -32,13 +32,13 @@ fn follow(
     taken: &mut [bool],
     edges: &mut Vec<u32>,
 ) -> Result<(), Memory>
-    requires vertices { length vertices.now ≡ g.now.n }
-    requires first { first < g.now.n }
-    requires taken { length taken.old ≡ g.now.n }
-    ensures { OnOk result (length taken.new ≡ g.now.n) }
+    requires vertices { length vertices.now ≡ g.now.graph.n }
+    requires first { first < g.now.graph.n }
+    requires taken { length taken.old ≡ g.now.graph.n }
+    ensures { OnOk result (length taken.new ≡ g.now.graph.n) }
 {
     let mut at = first;
-    for _ in 0..g.n {
+    for _ in 0..g.n() {
         let dart = vertices[at as usize].next;
         let Some(Dart { to, .. }) = dart_at(g, dart) else {
             return Ok(());

@@ -5,8 +5,8 @@ ghost use Rattle.std.specs.List.{All};
 ghost use Rattle.qm_fraction.specs.Exits.{AreExits, IsDartWithin, IsExitWithin};
 
 use crate::Memory;
-use crate::graph::SmallGraph;
 use def_matching::WEdge;
+use qm_dual::SmallGraph;
 use std::alloc::Global;
 
 /// A dart: where it begins and where it ends, and what its edge costs. That of edge `e` from its first end to its
@@ -57,12 +57,12 @@ impl Exits {
 
 /// The dart with a number, if there is one.
 pub(crate) fn dart_at(g: &SmallGraph, d: u32) -> Option<Dart>
-    ensures { IfSome result (IsDartWithin g.now.n) }
+    ensures { IfSome result (IsDartWithin g.now.graph.n) }
 {
-    if (d / 2) as usize >= g.edges.len() {
+    if d / 2 >= g.edge_count() {
         return None;
     }
-    let WEdge { u, v, cost } = edge_at(g, d / 2);
+    let WEdge { u, v, cost } = g.edge(d / 2);
     let (from, to) = if d % 2 == 0 { (u, v) } else { (v, u) };
     Some(Dart { from, to, cost })
 }
@@ -72,18 +72,10 @@ pub(crate) fn twin(d: u32) -> u32 {
     if d % 2 == 0 { d + 1 } else { d - 1 }
 }
 
-/// An edge.
-fn edge_at(g: &SmallGraph, e: u32) -> WEdge
-    requires edge { e < length g.now.edges.now }
-    ensures { (result.u < g.now.n) × (result.v < g.now.n) }
-{
-    g.edges[e as usize]
-}
-
 /// The exits of a graph that has vertices. Linear.
 pub(crate) fn exits_of(alloc: Global, g: &SmallGraph) -> Result<Exits, Memory>
-    requires some { 1 ≤ g.now.n }
-    ensures vertices { IfOk result (λ exits. exits.vertices ≡ g.now.n) }
+    requires some { 1 ≤ g.now.graph.n }
+    ensures vertices { IfOk result (λ exits. exits.vertices ≡ g.now.graph.n) }
 {
     let firsts = firsts_of(alloc, g)?;
     let none = Exit {
@@ -91,13 +83,13 @@ pub(crate) fn exits_of(alloc: Global, g: &SmallGraph) -> Result<Exits, Memory>
         dart: 0,
         twice: 0,
     };
-    let mut all = vec![in alloc; none; 2 * g.edges.len()]?;
+    let mut all = vec![in alloc; none; 2 * g.edge_count() as usize]?;
     let mut free = Vec::from_slice(alloc, &firsts)?;
-    for d in 0..2 * g.edges.len() as u32 {
+    for d in 0..2 * g.edge_count() {
         put(g, &mut all, &mut free, d);
     }
     Ok(Exits {
-        vertices: g.n,
+        vertices: g.n(),
         all,
         firsts,
     })
@@ -105,17 +97,17 @@ pub(crate) fn exits_of(alloc: Global, g: &SmallGraph) -> Result<Exits, Memory>
 
 /// For each vertex how many darts leave those before it, and at the end how many there are in all.
 fn firsts_of(alloc: Global, g: &SmallGraph) -> Result<Vec<u32>, Memory>
-    ensures count { IfOk result (λ firsts. length firsts.items ≡ g.now.n + 1) }
-    ensures within { IfOk result (λ firsts. All (λ first. first ≤ 2 * length g.now.edges.now) firsts.items) }
+    ensures count { IfOk result (λ firsts. length firsts.items ≡ g.now.graph.n + 1) }
+    ensures within { IfOk result (λ firsts. All (λ first. first ≤ 2 * length g.now.graph.edges) firsts.items) }
 {
-    let all = 2 * g.edges.len() as u32;
-    let mut counts = vec![in alloc; 0u32; g.n as usize]?;
+    let all = 2 * g.edge_count();
+    let mut counts = vec![in alloc; 0u32; g.n() as usize]?;
     for d in 0..all {
         if let Some(Dart { from, .. }) = dart_at(g, d) {
             counts[from as usize] = counts[from as usize].saturating_add(1);
         }
     }
-    let mut firsts = Vec::with_capacity(alloc, g.n as usize + 1)?;
+    let mut firsts = Vec::with_capacity(alloc, g.n() as usize + 1)?;
     firsts.push(0)?;
     let mut before = 0u32;
     for count in &counts {
@@ -127,12 +119,12 @@ fn firsts_of(alloc: Global, g: &SmallGraph) -> Result<Vec<u32>, Memory>
 
 /// Puts a dart at the first free place of the vertex where it begins.
 fn put(g: &SmallGraph, all: &mut [Exit], free: &mut [u32], d: u32)
-    requires free { length free.old ≡ g.now.n + 1 }
+    requires free { length free.old ≡ g.now.graph.n + 1 }
     requires few { length all.old ≤ 2 ^ 31 }
-    requires all { All (IsExitWithin g.now.n) all.old }
+    requires all { All (IsExitWithin g.now.graph.n) all.old }
     ensures free { length free.new ≡ length free.old }
     ensures long { length all.new ≡ length all.old }
-    ensures all { All (IsExitWithin g.now.n) all.new }
+    ensures all { All (IsExitWithin g.now.graph.n) all.new }
 {
     let Some(Dart { from, to, cost }) = dart_at(g, d) else {
         return;

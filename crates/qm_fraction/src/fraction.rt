@@ -1,16 +1,14 @@
 //! The least fractional matching of a graph, from a feasible dual on.
 
 ghost use Rattle.std.specs.Prelude.{◌≡◌, length, IfOk, IfSome};
-ghost use Rattle.def_matching.specs.Matching.{graph, IsSmallGraph};
 
 use crate::Memory;
 use crate::cycles::edges_of;
 use crate::exits::exits_of;
-use crate::graph::SmallGraph;
 use crate::paths::match_all;
 use crate::search::no_search;
 use crate::vertices::{free_count, numbers_of, pair_tight, vertices_of};
-use def_matching::WGraph;
+use qm_dual::SmallGraph;
 use std::alloc::Global;
 
 /// How many exits the searches may look at: some seconds of work.
@@ -36,31 +34,26 @@ pub struct Fraction {
 /// Who begins with the numbers has to test them, and so has who matches the edges.
 pub fn least_fraction(
     alloc: Global,
-    g: &WGraph,
+    g: &SmallGraph,
     y: &[i64],
     known: &[u32],
 ) -> Result<Option<Fraction>, Memory>
-    requires graph { IsSmallGraph (graph g.now) }
-    requires long { length y.now ≡ g.now.n }
-    ensures { IfOk result (λ found. IfSome found (λ fraction. length fraction.numbers.items ≡ g.now.n)) }
+    requires long { length y.now ≡ g.now.graph.n }
+    ensures { IfOk result (λ found. IfSome found (λ fraction. length fraction.numbers.items ≡ g.now.graph.n)) }
 {
-    let small = SmallGraph {
-        n: g.n,
-        edges: &g.edges,
-    };
     let mut vertices = vertices_of(alloc, y)?;
-    pair_tight(&small, &mut vertices, known);
-    if g.n == 0 || free_count(&vertices) <= FEW.min(g.n as usize / SHARE) {
+    pair_tight(g, &mut vertices, known);
+    if g.n() == 0 || free_count(&vertices) <= FEW.min(g.n() as usize / SHARE) {
         return Ok(None);
     }
-    let exits = exits_of(alloc, &small)?;
+    let exits = exits_of(alloc, g)?;
     let mut search = no_search(alloc, &exits);
     let mut fuel = FUEL;
-    match_all(&small, &exits, &mut vertices, &mut search, &mut fuel)?;
+    match_all(g, &exits, &mut vertices, &mut search, &mut fuel)?;
     drop(search);
     drop(exits);
     Ok(Some(Fraction {
         numbers: numbers_of(alloc, &vertices)?,
-        edges: edges_of(alloc, &small, &vertices)?,
+        edges: edges_of(alloc, g, &vertices)?,
     }))
 }

@@ -11,7 +11,6 @@ mod cycles;
 mod ends;
 mod exits;
 mod fraction;
-mod graph;
 mod paths;
 mod search;
 mod vertices;

@@ -6,9 +6,9 @@ ghost use Rattle.qm_fraction.specs.Tables.{IsSearch};
 use crate::Memory;
 use crate::ends::end_way;
 use crate::exits::Exits;
-use crate::graph::SmallGraph;
 use crate::search::{Search, clear, count_look, is_over, make_outer, next_of, reach};
 use crate::vertices::{FAR, NONE, Vertex};
+use qm_dual::SmallGraph;
 
 /// Matches each free vertex, or puts it on an odd cycle, as far as the fuel goes: each exit that is looked at takes
 /// one.
@@ -19,12 +19,12 @@ pub(crate) fn match_all(
     search: &mut Search,
     fuel: &mut u32,
 ) -> Result<(), Memory>
-    requires same { exits.now.vertices ≡ g.now.n }
-    requires vertices { length vertices.old ≡ g.now.n }
-    requires search { IsSearch g.now.n search.old }
-    ensures { OnOk result (length vertices.new ≡ g.now.n) }
+    requires same { exits.now.vertices ≡ g.now.graph.n }
+    requires vertices { length vertices.old ≡ g.now.graph.n }
+    requires search { IsSearch g.now.graph.n search.old }
+    ensures { OnOk result (length vertices.new ≡ g.now.graph.n) }
 {
-    for v in 0..g.n {
+    for v in 0..g.n() {
         if vertices[v as usize].mate == NONE {
             if !find(exits, vertices, search, v, fuel)? {
                 return Ok(());

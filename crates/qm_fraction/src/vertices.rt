@@ -4,7 +4,7 @@ ghost use Rattle.std.specs.Prelude.{◌≡◌, ◌<◌, length, IfOk};
 
 use crate::Memory;
 use crate::exits::{Dart, dart_at, twin};
-use crate::graph::SmallGraph;
+use qm_dual::SmallGraph;
 use std::alloc::Global;
 
 /// No dart, and no vertex.
@@ -55,21 +55,21 @@ pub(crate) fn vertices_of(alloc: Global, numbers: &[i64]) -> Result<Vec<Vertex>,
 
 /// Matches the ends of tight edges to each other, where both are free: first of known ones, then of all.
 pub(crate) fn pair_tight(g: &SmallGraph, vertices: &mut [Vertex], known: &[u32])
-    requires vertices { length vertices.old ≡ g.now.n }
-    ensures { length vertices.new ≡ g.now.n }
+    requires vertices { length vertices.old ≡ g.now.graph.n }
+    ensures { length vertices.new ≡ g.now.graph.n }
 {
     for e in known {
         pair(g, vertices, *e);
     }
-    for e in 0..g.edges.len() as u32 {
+    for e in 0..g.edge_count() {
         pair(g, vertices, e);
     }
 }
 
 /// Matches the ends of an edge to each other, where it is tight and both are free.
 fn pair(g: &SmallGraph, vertices: &mut [Vertex], e: u32)
-    requires vertices { length vertices.old ≡ g.now.n }
-    ensures { length vertices.new ≡ g.now.n }
+    requires vertices { length vertices.old ≡ g.now.graph.n }
+    ensures { length vertices.new ≡ g.now.graph.n }
 {
     let dart = e.saturating_mul(2);
     let Some(Dart { from, to, cost }) = dart_at(g, dart) else {

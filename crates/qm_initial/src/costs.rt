@@ -1,23 +1,23 @@
 //! A wish that serves where nothing is known: the least cost at each vertex.
 
 ghost use Rattle.std.specs.Prelude.{◌≡◌, ◌<◌, ◌≤◌, ℕ, pos, length, slice_index_or, unsigned_abs, IfOk};
-ghost use Rattle.def_matching.specs.Matching.{graph, IsGraph};
 ghost use Rattle.qm_initial.specs.Lowered.{AreNear};
 
 use crate::initial::{MAX_WISH, Memory};
-use def_matching::{WEdge, WGraph};
+use def_matching::WEdge;
+use qm_dual::SmallGraph;
 use std::alloc::Global;
 
 /// For each vertex the least cost of its edges, as far as a wish goes. No two of these have a sum above twice the cost
 /// of an edge between them. Linear in the graph.
-pub fn least_costs(alloc: Global, g: &WGraph) -> Result<Vec<i64>, Memory>
-    requires { IsGraph (graph g.now) }
-    ensures long { IfOk result (λ costs. length costs.items ≡ g.now.n) }
+pub fn least_costs(alloc: Global, g: &SmallGraph) -> Result<Vec<i64>, Memory>
+    ensures long { IfOk result (λ costs. length costs.items ≡ g.now.graph.n) }
     ensures near { IfOk result (λ costs. (v : ℕ) → unsigned_abs (slice_index_or costs.items v (pos 0)) ≤ MAX_WISH) }
 {
-    let mut costs = vec![in alloc; MAX_WISH as i64; g.n as usize]?;
-    for edge in &g.edges {
-        take_cost(&mut costs, edge);
+    let mut costs = vec![in alloc; MAX_WISH as i64; g.n() as usize]?;
+    for e in 0..g.edge_count() {
+        let edge = g.edge(e);
+        take_cost(&mut costs, &edge);
     }
     Ok(costs)
 }

@@ -3,10 +3,11 @@
 ghost use Rattle.std.specs.Prelude.{◌≡◌, ◌+◌, ◌*◌, ◌<◌, ◌≤◌, ◌^◌, ◌+ℤ◌};
 ghost use Rattle.std.specs.Prelude.{◌-ℤ◌, ◌*ℤ◌, ◌≤ℤ◌, ℕ, pos, length, slice_index_or};
 ghost use Rattle.std.specs.Prelude.{unsigned_abs, if◌then◌else◌, IfOk};
-ghost use Rattle.def_matching.specs.Matching.{edge_at, graph, IsGraph};
+ghost use Rattle.def_matching.specs.Matching.{edge_at};
 ghost use Rattle.qm_initial.specs.Lowered.{with_room, with_room_on, AreWithin, AreWished};
 
-use def_matching::{WEdge, WGraph};
+use def_matching::WEdge;
+use qm_dual::SmallGraph;
 use std::alloc::{AllocError, Global};
 
 /// Memory was refused.
@@ -19,20 +20,19 @@ pub const MAX_WISH: u64 = 2_147_483_648;
 /// its cost. A vertex is lowered by no more than its edges to lesser vertices ask for. One pass over the edges.
 ///
 /// Any wish will do; one near a least dual leaves a matching little to do.
-pub fn initial_dual(alloc: Global, g: &WGraph, wish: &[i64]) -> Result<Vec<i64>, Memory>
-    requires graph { IsGraph (graph g.now) }
-    requires cheap { (e : ℕ) → e < length g.now.edges.items → unsigned_abs (edge_at (graph g.now) e).cost ≤ 2 ^ 57 }
-    requires long { length wish.now ≡ g.now.n }
+pub fn initial_dual(alloc: Global, g: &SmallGraph, wish: &[i64]) -> Result<Vec<i64>, Memory>
+    requires cheap { (e : ℕ) → e < length g.now.graph.edges → unsigned_abs (edge_at g.now.graph e).cost ≤ 2 ^ 57 }
+    requires long { length wish.now ≡ g.now.graph.n }
     requires wish { (v : ℕ) → unsigned_abs (slice_index_or wish.now v (pos 0)) ≤ MAX_WISH }
-    ensures long { IfOk result (λ y. length y.items ≡ g.now.n) }
-    ensures feasible { IfOk result (λ y. (e : ℕ) → e < length g.now.edges.items
-        → (slice_index_or y.items (edge_at (graph g.now) e).u (pos 0)
-        +ℤ slice_index_or y.items (edge_at (graph g.now) e).v (pos 0))
-        ≤ℤ (pos 2 *ℤ (edge_at (graph g.now) e).cost)) }
+    ensures long { IfOk result (λ y. length y.items ≡ g.now.graph.n) }
+    ensures feasible { IfOk result (λ y. (e : ℕ) → e < length g.now.graph.edges
+        → (slice_index_or y.items (edge_at g.now.graph e).u (pos 0)
+        +ℤ slice_index_or y.items (edge_at g.now.graph e).v (pos 0))
+        ≤ℤ (pos 2 *ℤ (edge_at g.now.graph e).cost)) }
     ensures wished { IfOk result (λ y. (v : ℕ)
         → slice_index_or y.items v (pos 0) ≤ℤ slice_index_or wish.now v (pos 0)) }
     ensures small { IfOk result (λ y. (most : ℕ)
-        → ((e : ℕ) → e < length g.now.edges.items → unsigned_abs (edge_at (graph g.now) e).cost ≤ most)
+        → ((e : ℕ) → e < length g.now.graph.edges → unsigned_abs (edge_at g.now.graph e).cost ≤ most)
         → (v : ℕ) → unsigned_abs (slice_index_or y.items v (pos 0)) ≤ 2 * most + MAX_WISH) }
 {
     let mut y = Vec::from_slice(alloc, wish)?;
@@ -41,15 +41,15 @@ pub fn initial_dual(alloc: Global, g: &WGraph, wish: &[i64]) -> Result<Vec<i64>,
 }
 
 /// Lowers numbers until each edge has room, edge by edge.
-fn lower_all(y: &mut [i64], g: &WGraph)
-    requires graph { IsGraph (graph g.now) }
-    requires cheap { (e : ℕ) → e < length g.now.edges.items → unsigned_abs (edge_at (graph g.now) e).cost ≤ 2 ^ 57 }
-    requires long { length y.old ≡ g.now.n }
+fn lower_all(y: &mut [i64], g: &SmallGraph)
+    requires cheap { (e : ℕ) → e < length g.now.graph.edges → unsigned_abs (edge_at g.now.graph e).cost ≤ 2 ^ 57 }
+    requires long { length y.old ≡ g.now.graph.n }
     requires wish { (v : ℕ) → unsigned_abs (slice_index_or y.old v (pos 0)) ≤ MAX_WISH }
-    ensures { AreWished (graph g.now) y.old y.new (length g.now.edges.items) }
+    ensures { AreWished g.now.graph y.old y.new (length g.now.graph.edges) }
 {
-    for edge in &g.edges {
-        make_room(y, edge);
+    for e in 0..g.edge_count() {
+        let edge = g.edge(e);
+        make_room(y, &edge);
     }
 }
 

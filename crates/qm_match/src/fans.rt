@@ -1,11 +1,10 @@
 //! The edges at each vertex, as chains of darts.
 
 ghost use Rattle.std.specs.Prelude.{◌^◌, ◌<◌, ◌≤◌, length, IfOk};
-ghost use Rattle.def_matching.specs.Matching.{graph, IsSmallGraph};
 ghost use Rattle.qm_match.specs.Fans.{AreFans, HasPut};
 
 use crate::Memory;
-use def_matching::WGraph;
+use qm_dual::SmallGraph;
 use std::alloc::Global;
 
 /// The darts that begin at each vertex, each chain from the latest to the first. An entry is one more than a dart's
@@ -17,16 +16,15 @@ pub(crate) struct Fans {
 }
 
 /// The fans of a graph.
-pub(crate) fn fans_of(alloc: Global, g: &WGraph) -> Result<Fans, Memory>
-    requires { IsSmallGraph (graph g.now) }
-    ensures { IfOk result (λ fans. AreFans (graph g.now) fans.first.items fans.next.items) }
+pub(crate) fn fans_of(alloc: Global, g: &SmallGraph) -> Result<Fans, Memory>
+    ensures { IfOk result (λ fans. AreFans g.now.graph fans.first.items fans.next.items) }
 {
     let mut fans = Fans {
-        first: vec![in alloc; 0u32; g.n as usize]?,
-        next: vec![in alloc; 0u32; 2 * g.edges.len()]?,
+        first: vec![in alloc; 0u32; g.n() as usize]?,
+        next: vec![in alloc; 0u32; 2 * g.edge_count() as usize]?,
     };
-    for e in 0..g.edges.len() as u32 {
-        let edge = g.edges[e as usize];
+    for e in 0..g.edge_count() {
+        let edge = g.edge(e);
         put(&mut fans, edge.u, 2 * e);
         put(&mut fans, edge.v, 2 * e + 1);
     }

@@ -2,12 +2,12 @@
 
 ghost use Rattle.std.specs.Prelude.{◌≡◌, ◌*◌, ◌<◌, ◌≤◌, ◌+ℤ◌, ◌*ℤ◌, ℕ, pos, true, length, unsigned_abs};
 ghost use Rattle.std.specs.Prelude.{slice_index_or, IfOk};
-ghost use Rattle.def_matching.specs.Matching.{graph, IsSmallGraph};
 ghost use Rattle.def_forest.specs.Made.{AreFirst, MAX_FIRST};
 ghost use Rattle.qm_match.specs.Weights.{HasRoom};
 
 use crate::Memory;
-use def_matching::{MAX_PRODUCT, WEdge, WGraph};
+use def_matching::{MAX_PRODUCT, WEdge};
+use qm_dual::SmallGraph;
 use qm_fraction::{Fraction, least_fraction};
 use std::alloc::Global;
 
@@ -20,10 +20,14 @@ pub(crate) struct First {
 
 /// The numbers and the edges of a least fractional matching, if they may be first weights, and else those from which it
 /// was found. They are these also where tight edges match all vertices already.
-pub(crate) fn led(alloc: Global, g: &WGraph, known: &[u32], y: Vec<i64>) -> Result<First, Memory>
-    requires graph { IsSmallGraph (graph g.now) }
-    requires first { AreFirst (graph g.now) y.items }
-    ensures { IfOk result (λ first. AreFirst (graph g.now) first.y.items) }
+pub(crate) fn led(
+    alloc: Global,
+    g: &SmallGraph,
+    known: &[u32],
+    y: Vec<i64>,
+) -> Result<First, Memory>
+    requires first { AreFirst g.now.graph y.items }
+    ensures { IfOk result (λ first. AreFirst g.now.graph first.y.items) }
 {
     if let Some(Fraction { numbers, edges }) = least_fraction(alloc, g, &y, known)? {
         if are_first(g, &numbers) {
@@ -37,12 +41,11 @@ pub(crate) fn led(alloc: Global, g: &WGraph, known: &[u32], y: Vec<i64>) -> Resu
 }
 
 /// Whether numbers may be first weights. Linear in the graph.
-fn are_first(g: &WGraph, numbers: &[i64]) -> bool
-    requires graph { IsSmallGraph (graph g.now) }
-    requires long { length numbers.now ≡ g.now.n }
-    ensures { result ≡ true → AreFirst (graph g.now) numbers.now }
+fn are_first(g: &SmallGraph, numbers: &[i64]) -> bool
+    requires long { length numbers.now ≡ g.now.graph.n }
+    ensures { result ≡ true → AreFirst g.now.graph numbers.now }
 {
-    are_small(numbers, widest(g.n)) && have_room(g, numbers)
+    are_small(numbers, widest(g.n())) && have_room(g, numbers)
 }
 
 /// How far a first weight may be from 0.
@@ -63,12 +66,11 @@ pub(crate) fn are_small(numbers: &[i64], most: u64) -> bool
 }
 
 /// Whether no edge has more at its ends than twice its cost.
-fn have_room(g: &WGraph, numbers: &[i64]) -> bool
-    requires graph { IsSmallGraph (graph g.now) }
-    requires long { length numbers.now ≡ g.now.n }
-    ensures { result ≡ true → (e : ℕ) → e < length g.now.edges.items → HasRoom (graph g.now) numbers.now e }
+fn have_room(g: &SmallGraph, numbers: &[i64]) -> bool
+    requires long { length numbers.now ≡ g.now.graph.n }
+    ensures { result ≡ true → (e : ℕ) → e < length g.now.graph.edges → HasRoom g.now.graph numbers.now e }
 {
-    for e in 0..g.edges.len() {
+    for e in 0..g.edge_count() {
         if !has_room(g, numbers, e) {
             return false;
         }
@@ -77,13 +79,12 @@ fn have_room(g: &WGraph, numbers: &[i64]) -> bool
 }
 
 /// Whether an edge has no more at its ends than twice its cost.
-fn has_room(g: &WGraph, numbers: &[i64], e: usize) -> bool
-    requires graph { IsSmallGraph (graph g.now) }
-    requires long { length numbers.now ≡ g.now.n }
-    requires edge { e < length g.now.edges.items }
-    ensures { result ≡ true → HasRoom (graph g.now) numbers.now e }
+fn has_room(g: &SmallGraph, numbers: &[i64], e: u32) -> bool
+    requires long { length numbers.now ≡ g.now.graph.n }
+    requires edge { e < length g.now.graph.edges }
+    ensures { result ≡ true → HasRoom g.now.graph numbers.now e }
 {
-    let WEdge { u, v, cost } = g.edges[e];
+    let WEdge { u, v, cost } = g.edge(e);
     sum_of(numbers[u as usize], numbers[v as usize]) <= twice(cost)
 }
 

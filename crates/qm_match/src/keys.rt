@@ -1,14 +1,13 @@
 //! The keys that the leaves ought to have.
 
 ghost use Rattle.std.specs.Prelude.{◌≡◌, ◌+◌, ◌^◌, ◌<◌, ◌≤◌, length, slice_set, unsigned_abs};
-ghost use Rattle.def_matching.specs.Matching.{graph};
 ghost use Rattle.def_forest.specs.Tables.{forest_of, slack_of, IsValidFor};
 ghost use Rattle.search_laws.specs.Keys.{key_after, edge_key, set_key, true_key};
 ghost use Rattle.qm_match.specs.States.{IsMade};
 
 use crate::search::Search;
 use def_forest::Label;
-use def_matching::WGraph;
+use qm_dual::SmallGraph;
 
 /// The key of what happens when the sum has risen by so much more. What does not fit never happens.
 fn key_after(gap: u128, risen: u64) -> u64
@@ -20,24 +19,22 @@ fn key_after(gap: u128, risen: u64) -> u64
 
 impl Search {
     /// The slack of an edge.
-    pub(crate) fn gap(&self, g: &WGraph, e: u32) -> u128
-        requires made { IsMade (graph g.now) self.now }
-        requires valid { IsValidFor (graph g.now) self.now.forest }
-        requires edge { e < length g.now.edges.items }
-        ensures value { result ≡ unsigned_abs (slack_of (graph g.now) (forest_of self.now.forest) e) }
+    pub(crate) fn gap(&self, g: &SmallGraph, e: u32) -> u128
+        requires valid { IsValidFor g.now.graph self.now.forest }
+        requires edge { e < length g.now.graph.edges }
+        ensures value { result ≡ unsigned_abs (slack_of g.now.graph (forest_of self.now.forest) e) }
         ensures small { result ≤ 2 ^ 127 }
     {
         self.forest.slack(g, e).unsigned_abs()
     }
 
     /// The key of an edge.
-    fn edge_key(&self, g: &WGraph, e: u32) -> u64
-        requires made { IsMade (graph g.now) self.now }
-        requires valid { IsValidFor (graph g.now) self.now.forest }
-        requires edge { e < length g.now.edges.items }
-        ensures { result ≡ edge_key (graph g.now) (forest_of self.now.forest) self.now.risen e }
+    fn edge_key(&self, g: &SmallGraph, e: u32) -> u64
+        requires valid { IsValidFor g.now.graph self.now.forest }
+        requires edge { e < length g.now.graph.edges }
+        ensures { result ≡ edge_key g.now.graph (forest_of self.now.forest) self.now.risen e }
     {
-        let edge = g.edges[e as usize];
+        let edge = g.edge(e);
         let a = self.forest.outermost(edge.u);
         let b = self.forest.outermost(edge.v);
         match (self.forest.label(a), self.forest.label(b)) {
@@ -53,8 +50,8 @@ impl Search {
     }
 
     /// The key of a set.
-    fn set_key(&self, g: &WGraph, b: u32) -> u64
-        requires valid { IsValidFor (graph g.now) self.now.forest }
+    fn set_key(&self, g: &SmallGraph, b: u32) -> u64
+        requires valid { IsValidFor g.now.graph self.now.forest }
         ensures { result ≡ set_key (forest_of self.now.forest) self.now.risen b }
     {
         match self.label_of(g, b) {
@@ -64,8 +61,8 @@ impl Search {
     }
 
     /// Where a blossom stands. Numbers past the end are outside.
-    pub(crate) fn label_of(&self, g: &WGraph, b: u32) -> Label
-        requires valid { IsValidFor (graph g.now) self.now.forest }
+    pub(crate) fn label_of(&self, g: &SmallGraph, b: u32) -> Label
+        requires valid { IsValidFor g.now.graph self.now.forest }
         ensures { result ≡ (forest_of self.now.forest).label b }
     {
         let _ = g;
@@ -77,28 +74,28 @@ impl Search {
     }
 
     /// The key that a leaf ought to have.
-    pub(crate) fn true_key(&self, g: &WGraph, leaf: usize) -> u64
-        requires made { IsMade (graph g.now) self.now }
-        requires valid { IsValidFor (graph g.now) self.now.forest }
+    pub(crate) fn true_key(&self, g: &SmallGraph, leaf: usize) -> u64
+        requires made { IsMade g.now.graph self.now }
+        requires valid { IsValidFor g.now.graph self.now.forest }
         requires leaf { leaf < length self.now.tour }
-        ensures { result ≡ true_key (graph g.now) (forest_of self.now.forest) self.now.risen leaf }
+        ensures { result ≡ true_key g.now.graph (forest_of self.now.forest) self.now.risen leaf }
     {
-        let edges = g.edges.len();
+        let edges = g.edge_count() as usize;
         if leaf < edges {
             self.edge_key(g, leaf as u32)
         } else {
-            self.set_key(g, g.n + (leaf - edges) as u32)
+            self.set_key(g, g.n() + (leaf - edges) as u32)
         }
     }
 
     /// Gives a leaf the key that it ought to have.
-    pub(crate) fn mend(&mut self, g: &WGraph, leaf: usize)
-        requires made { IsMade (graph g.now) self.old }
-        requires valid { IsValidFor (graph g.now) self.old.forest }
+    pub(crate) fn mend(&mut self, g: &SmallGraph, leaf: usize)
+        requires made { IsMade g.now.graph self.old }
+        requires valid { IsValidFor g.now.graph self.old.forest }
         requires leaf { leaf < length self.old.tour }
         ensures { self.new ≡ record self.old {
           tour = slice_set self.old.tour leaf
-              (true_key (graph g.now) (forest_of self.old.forest) self.old.risen leaf);
+              (true_key g.now.graph (forest_of self.old.forest) self.old.risen leaf);
         } }
     {
         let key = self.true_key(g, leaf);

@@ -2,7 +2,6 @@
 
 ghost use Rattle.std.specs.Prelude.{◌≡◌, ◌≢◌, ◌<◌, ◌≤◌, ◌==◌, ℕ, length, slice_index};
 ghost use Rattle.std.specs.Vec.{vec_capacity};
-ghost use Rattle.def_matching.specs.Matching.{graph};
 ghost use Rattle.def_forest.specs.Tables.{forest_of, IsValidFor};
 ghost use Rattle.def_forest.specs.declared.kinds.Label.TheVariants.{Inner};
 ghost use Rattle.search_laws.specs.Keys.{AreRightAt, IsMended};
@@ -10,17 +9,17 @@ ghost use Rattle.qm_match.specs.States.{IsMade, IsRefreshed, IsFreshAt, MayRefre
 
 use crate::search::Search;
 use def_forest::Label;
-use def_matching::WGraph;
+use qm_dual::SmallGraph;
 
 impl Search {
     /// Mends the keys of all edges at a vertex. Linear in them but for a logarithm.
-    fn mend_vertex(&mut self, g: &WGraph, v: u32)
-        requires made { IsMade (graph g.now) self.old }
-        requires valid { IsValidFor (graph g.now) self.old.forest }
-        requires vertex { v < g.now.n }
+    fn mend_vertex(&mut self, g: &SmallGraph, v: u32)
+        requires made { IsMade g.now.graph self.old }
+        requires valid { IsValidFor g.now.graph self.old.forest }
+        requires vertex { v < g.now.graph.n }
         ensures same { self.new ≡ record self.old { tour = self.new.tour } }
-        ensures mended { IsMended (graph g.now) (forest_of self.old.forest) self.old.risen self.old.tour self.new.tour }
-        ensures right { AreRightAt (graph g.now) (forest_of self.old.forest) self.old.risen self.new.tour
+        ensures mended { IsMended g.now.graph (forest_of self.old.forest) self.old.risen self.old.tour self.new.tour }
+        ensures right { AreRightAt g.now.graph (forest_of self.old.forest) self.old.risen self.new.tour
             (λ w. w == v) }
     {
         let mut entry = self.fans.first[v as usize];
@@ -32,12 +31,12 @@ impl Search {
     }
 
     /// Mends the keys of all edges at the vertices of a blossom.
-    pub(crate) fn mend_blossom(&mut self, g: &WGraph, b: u32)
-        requires { MayRefresh (graph g.now) self.old b }
+    pub(crate) fn mend_blossom(&mut self, g: &SmallGraph, b: u32)
+        requires { MayRefresh g.now.graph self.old b }
         ensures same { self.new ≡ record self.old { tour = self.new.tour; members = self.new.members } }
-        ensures room { g.now.n ≤ vec_capacity self.new.members }
-        ensures mended { IsMended (graph g.now) (forest_of self.old.forest) self.old.risen self.old.tour self.new.tour }
-        ensures right { AreRightAt (graph g.now) (forest_of self.old.forest) self.old.risen self.new.tour
+        ensures room { g.now.graph.n ≤ vec_capacity self.new.members }
+        ensures mended { IsMended g.now.graph (forest_of self.old.forest) self.old.risen self.old.tour self.new.tour }
+        ensures right { AreRightAt g.now.graph (forest_of self.old.forest) self.old.risen self.new.tour
             ((forest_of self.old.forest).holds b) }
     {
         self.forest.members(b, &mut self.members);
@@ -45,14 +44,15 @@ impl Search {
     }
 
     /// Mends the keys of all edges at the vertices of a list.
-    fn mend_members(&mut self, g: &WGraph)
-        requires made { IsMade (graph g.now) self.old }
-        requires valid { IsValidFor (graph g.now) self.old.forest }
-        requires low { (k : ℕ) → k < length self.old.members.items → slice_index self.old.members.items k < g.now.n }
+    fn mend_members(&mut self, g: &SmallGraph)
+        requires made { IsMade g.now.graph self.old }
+        requires valid { IsValidFor g.now.graph self.old.forest }
+        requires low { (k : ℕ) → k < length self.old.members.items → slice_index self.old.members.items k
+            < g.now.graph.n }
         ensures same { self.new ≡ record self.old { tour = self.new.tour } }
-        ensures mended { IsMended (graph g.now) (forest_of self.old.forest) self.old.risen self.old.tour self.new.tour }
+        ensures mended { IsMended g.now.graph (forest_of self.old.forest) self.old.risen self.old.tour self.new.tour }
         ensures right { (k : ℕ) → k < length self.old.members.items
-            → AreRightAt (graph g.now) (forest_of self.old.forest) self.old.risen self.new.tour
+            → AreRightAt g.now.graph (forest_of self.old.forest) self.old.risen self.new.tour
             (λ w. w == slice_index self.old.members.items k) }
     {
         for k in 0..self.members.len() {
@@ -62,36 +62,36 @@ impl Search {
     }
 
     /// Makes the key and the mark of an inner blossom right.
-    fn refresh_inner(&mut self, g: &WGraph, b: u32)
-        requires made { IsMade (graph g.now) self.old }
-        requires valid { IsValidFor (graph g.now) self.old.forest }
+    fn refresh_inner(&mut self, g: &SmallGraph, b: u32)
+        requires made { IsMade g.now.graph self.old }
+        requires valid { IsValidFor g.now.graph self.old.forest }
         requires low { b < length self.old.forest.up }
         requires inner { (forest_of self.old.forest).label b ≡ Inner }
-        ensures refreshed { IsRefreshed (graph g.now) self.old self.new }
-        ensures here { IsFreshAt (graph g.now) self.new b }
+        ensures refreshed { IsRefreshed g.now.graph self.old self.new }
+        ensures here { IsFreshAt g.now.graph self.new b }
     {
         self.inner[b as usize] = true;
-        if b >= g.n {
-            self.mend(g, g.edges.len() + (b - g.n) as usize);
+        if b >= g.n() {
+            self.mend(g, g.edge_count() as usize + (b - g.n()) as usize);
         }
     }
 
     /// Makes the keys and the mark of any other blossom right.
-    fn refresh_other(&mut self, g: &WGraph, b: u32)
-        requires may { MayRefresh (graph g.now) self.old b }
+    fn refresh_other(&mut self, g: &SmallGraph, b: u32)
+        requires may { MayRefresh g.now.graph self.old b }
         requires other { (forest_of self.old.forest).label b ≢ Inner }
-        ensures refreshed { IsRefreshed (graph g.now) self.old self.new }
-        ensures here { IsFreshAt (graph g.now) self.new b }
+        ensures refreshed { IsRefreshed g.now.graph self.old self.new }
+        ensures here { IsFreshAt g.now.graph self.new b }
     {
         self.inner[b as usize] = false;
         self.mend_blossom(g, b);
     }
 
     /// Makes the keys and the mark of an outermost blossom right.
-    pub(crate) fn refresh(&mut self, g: &WGraph, b: u32)
-        requires { MayRefresh (graph g.now) self.old b }
-        ensures refreshed { IsRefreshed (graph g.now) self.old self.new }
-        ensures here { IsFreshAt (graph g.now) self.new b }
+    pub(crate) fn refresh(&mut self, g: &SmallGraph, b: u32)
+        requires { MayRefresh g.now.graph self.old b }
+        ensures refreshed { IsRefreshed g.now.graph self.old self.new }
+        ensures here { IsFreshAt g.now.graph self.new b }
     {
         match self.label_of(g, b) {
             Label::Inner => self.refresh_inner(g, b),

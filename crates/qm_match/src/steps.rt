@@ -3,7 +3,6 @@
 ghost use Rattle.std.specs.Prelude.{◌≡◌, ◌≢◌, ◌<◌, ◌≤◌, ℕ, pos, length, slice_index};
 ghost use Rattle.std.specs.Prelude.{slice_index_or, true, false, Some, None};
 ghost use Rattle.std.specs.Vec.{vec_capacity};
-ghost use Rattle.def_matching.specs.Matching.{graph};
 ghost use Rattle.def_forest.specs.Darts.{Dart, darts_of, far};
 ghost use Rattle.def_forest.specs.Forests.{walk};
 ghost use Rattle.def_forest.specs.Tables.{forest_of, edge_kind, IsValidFor};
@@ -15,18 +14,18 @@ ghost use Rattle.qm_match.specs.States.{GoesOn, HasEnded, IsFreshAt, IsIdle, IsM
 ghost use Rattle.qm_match.specs.States.{MayRefresh};
 
 use crate::search::Search;
-use def_matching::WGraph;
+use qm_dual::SmallGraph;
 
 impl Search {
     /// The tree grows along an edge.
-    pub(crate) fn grow(&mut self, g: &WGraph, e: u32)
-        requires way { IsUnderWay (graph g.now) self.old }
-        requires edge { e < length g.now.edges.items }
-        requires kind { edge_kind (graph g.now) (forest_of self.old.forest) e ≡ Grow }
-        ensures way { IsUnderWay (graph g.now) self.new }
-        ensures goes_on { GoesOn g.now.n self.old.forest self.new.forest }
-        ensures fewer { steps_left g.now.n (forest_of self.new.forest)
-            < steps_left g.now.n (forest_of self.old.forest) }
+    pub(crate) fn grow(&mut self, g: &SmallGraph, e: u32)
+        requires way { IsUnderWay g.now.graph self.old }
+        requires edge { e < length g.now.graph.edges }
+        requires kind { edge_kind g.now.graph (forest_of self.old.forest) e ≡ Grow }
+        ensures way { IsUnderWay g.now.graph self.new }
+        ensures goes_on { GoesOn g.now.graph.n self.old.forest self.new.forest }
+        ensures fewer { steps_left g.now.graph.n (forest_of self.new.forest)
+            < steps_left g.now.graph.n (forest_of self.old.forest) }
         ensures first { self.new.first ≡ self.old.first }
     {
         let d = self.forest.outer_dart(g, e);
@@ -38,12 +37,11 @@ impl Search {
     }
 
     /// The blossom to which an outermost one is matched; itself where it has no mate.
-    fn partner(&self, g: &WGraph, b: u32) -> u32
-        requires made { IsMade (graph g.now) self.now }
-        requires valid { IsValidFor (graph g.now) self.now.forest }
+    fn partner(&self, g: &SmallGraph, b: u32) -> u32
+        requires valid { IsValidFor g.now.graph self.now.forest }
         requires low { b < length self.now.forest.up }
         ensures value { (m : Dart) → (forest_of self.now.forest).mate b ≡ Some m
-            → result ≡ (forest_of self.now.forest).out (far (darts_of (graph g.now)) m) }
+            → result ≡ (forest_of self.now.forest).out (far (darts_of g.now.graph) m) }
         ensures low { result < length self.now.forest.up }
     {
         match self.forest.mate(b) {
@@ -53,36 +51,36 @@ impl Search {
     }
 
     /// The cycle that an edge closes in the tree becomes one blossom.
-    pub(crate) fn shrink(&mut self, g: &WGraph, e: u32)
-        requires way { IsUnderWay (graph g.now) self.old }
-        requires edge { e < length g.now.edges.items }
-        requires kind { edge_kind (graph g.now) (forest_of self.old.forest) e ≡ Shrink }
-        ensures way { IsUnderWay (graph g.now) self.new }
-        ensures goes_on { GoesOn g.now.n self.old.forest self.new.forest }
-        ensures fewer { steps_left g.now.n (forest_of self.new.forest)
-            < steps_left g.now.n (forest_of self.old.forest) }
+    pub(crate) fn shrink(&mut self, g: &SmallGraph, e: u32)
+        requires way { IsUnderWay g.now.graph self.old }
+        requires edge { e < length g.now.graph.edges }
+        requires kind { edge_kind g.now.graph (forest_of self.old.forest) e ≡ Shrink }
+        ensures way { IsUnderWay g.now.graph self.new }
+        ensures goes_on { GoesOn g.now.graph.n self.old.forest self.new.forest }
+        ensures fewer { steps_left g.now.graph.n (forest_of self.new.forest)
+            < steps_left g.now.graph.n (forest_of self.old.forest) }
         ensures first { self.new.first ≡ self.old.first }
     {
         self.forest.shrink(g, e);
-        let set = self.forest.outermost(g.edges[e as usize].u);
+        let set = self.forest.outermost(g.edge(e).u);
         self.mend_parts(g, set);
         self.inner[set as usize] = false;
     }
 
     /// Mends the keys at the parts of a set that have marks: they were inner.
-    fn mend_parts(&mut self, g: &WGraph, set: u32)
-        requires made { IsMade (graph g.now) self.old }
-        requires valid { IsValidFor (graph g.now) self.old.forest }
-        requires set { g.now.n ≤ set }
+    fn mend_parts(&mut self, g: &SmallGraph, set: u32)
+        requires made { IsMade g.now.graph self.old }
+        requires valid { IsValidFor g.now.graph self.old.forest }
+        requires set { g.now.graph.n ≤ set }
         requires low { set < length self.old.forest.up }
         requires live { slice_index self.old.forest.parts set ≢ 0 }
         ensures same { self.new ≡ record self.old { tour = self.new.tour; members = self.new.members } }
-        ensures room { g.now.n ≤ vec_capacity self.new.members }
-        ensures mended { IsMended (graph g.now) (forest_of self.old.forest) self.old.risen self.old.tour self.new.tour }
+        ensures room { g.now.graph.n ≤ vec_capacity self.new.members }
+        ensures mended { IsMended g.now.graph (forest_of self.old.forest) self.old.risen self.old.tour self.new.tour }
         ensures right { let part = walk (slice_index self.old.forest.after) (slice_index self.old.forest.head set) in
             (k : ℕ) → k < slice_index self.old.forest.parts set
             → slice_index_or self.old.inner.items (part k) false ≡ true
-            → AreRightAt (graph g.now) (forest_of self.old.forest) self.old.risen self.new.tour
+            → AreRightAt g.now.graph (forest_of self.old.forest) self.old.risen self.new.tour
             ((forest_of self.old.forest).holds (part k)) }
     {
         let mut part = self.forest.head(set);
@@ -93,13 +91,13 @@ impl Search {
     }
 
     /// Mends the keys at a blossom that has a mark.
-    fn mend_marked(&mut self, g: &WGraph, b: u32)
-        requires { MayRefresh (graph g.now) self.old b }
+    fn mend_marked(&mut self, g: &SmallGraph, b: u32)
+        requires { MayRefresh g.now.graph self.old b }
         ensures same { self.new ≡ record self.old { tour = self.new.tour; members = self.new.members } }
-        ensures room { g.now.n ≤ vec_capacity self.new.members }
-        ensures mended { IsMended (graph g.now) (forest_of self.old.forest) self.old.risen self.old.tour self.new.tour }
+        ensures room { g.now.graph.n ≤ vec_capacity self.new.members }
+        ensures mended { IsMended g.now.graph (forest_of self.old.forest) self.old.risen self.old.tour self.new.tour }
         ensures right { slice_index_or self.old.inner.items b false ≡ true
-            → AreRightAt (graph g.now) (forest_of self.old.forest) self.old.risen self.new.tour
+            → AreRightAt g.now.graph (forest_of self.old.forest) self.old.risen self.new.tour
             ((forest_of self.old.forest).holds b) }
     {
         if self.inner[b as usize] {
@@ -108,15 +106,15 @@ impl Search {
     }
 
     /// An inner set of weight 0 is opened.
-    pub(crate) fn expand(&mut self, g: &WGraph, b: u32)
-        requires way { IsUnderWay (graph g.now) self.old }
-        requires set { g.now.n ≤ b }
+    pub(crate) fn expand(&mut self, g: &SmallGraph, b: u32)
+        requires way { IsUnderWay g.now.graph self.old }
+        requires set { g.now.graph.n ≤ b }
         requires inner { (forest_of self.old.forest).label b ≡ Inner }
         requires weightless { (forest_of self.old.forest).weight b ≡ pos 0 }
-        ensures way { IsUnderWay (graph g.now) self.new }
-        ensures goes_on { GoesOn g.now.n self.old.forest self.new.forest }
-        ensures fewer { steps_left g.now.n (forest_of self.new.forest)
-            < steps_left g.now.n (forest_of self.old.forest) }
+        ensures way { IsUnderWay g.now.graph self.new }
+        ensures goes_on { GoesOn g.now.graph.n self.old.forest self.new.forest }
+        ensures fewer { steps_left g.now.graph.n (forest_of self.new.forest)
+            < steps_left g.now.graph.n (forest_of self.old.forest) }
         ensures first { self.new.first ≡ self.old.first }
     {
         self.list_parts(g, b);
@@ -125,14 +123,14 @@ impl Search {
     }
 
     /// Lists the parts of a set.
-    fn list_parts(&mut self, g: &WGraph, b: u32)
-        requires made { IsMade (graph g.now) self.old }
-        requires valid { IsValidFor (graph g.now) self.old.forest }
-        requires set { g.now.n ≤ b }
+    fn list_parts(&mut self, g: &SmallGraph, b: u32)
+        requires made { IsMade g.now.graph self.old }
+        requires valid { IsValidFor g.now.graph self.old.forest }
+        requires set { g.now.graph.n ≤ b }
         requires low { b < length self.old.forest.up }
         requires live { slice_index self.old.forest.parts b ≢ 0 }
         ensures same { self.new ≡ record self.old { parts = self.new.parts } }
-        ensures room { g.now.n ≤ vec_capacity self.new.parts }
+        ensures room { g.now.graph.n ≤ vec_capacity self.new.parts }
         ensures count { length self.new.parts.items ≡ slice_index self.old.forest.parts b }
         ensures each { (k : ℕ) → k < slice_index self.old.forest.parts b → slice_index self.new.parts.items k
             ≡ walk (slice_index self.old.forest.after) (slice_index self.old.forest.head b) k }
@@ -147,13 +145,13 @@ impl Search {
     }
 
     /// Makes the keys and marks of the listed blossoms right.
-    fn refresh_parts(&mut self, g: &WGraph)
-        requires made { IsMade (graph g.now) self.old }
+    fn refresh_parts(&mut self, g: &SmallGraph)
+        requires made { IsMade g.now.graph self.old }
         requires may { (k : ℕ) → k < length self.old.parts.items
-            → MayRefresh (graph g.now) self.old (slice_index self.old.parts.items k) }
-        ensures refreshed { IsRefreshed (graph g.now) self.old self.new }
+            → MayRefresh g.now.graph self.old (slice_index self.old.parts.items k) }
+        ensures refreshed { IsRefreshed g.now.graph self.old self.new }
         ensures here { (k : ℕ) → k < length self.old.parts.items
-            → IsFreshAt (graph g.now) self.new (slice_index self.old.parts.items k) }
+            → IsFreshAt g.now.graph self.new (slice_index self.old.parts.items k) }
     {
         for k in 0..self.parts.len() {
             let p = self.parts[k];
@@ -162,25 +160,25 @@ impl Search {
     }
 
     /// The matching grows along an edge, and the search ends.
-    pub(crate) fn augment(&mut self, g: &WGraph, e: u32)
-        requires way { IsUnderWay (graph g.now) self.old }
-        requires edge { e < length g.now.edges.items }
-        requires kind { edge_kind (graph g.now) (forest_of self.old.forest) e ≡ Augment }
-        ensures idle { IsIdle (graph g.now) self.new }
-        ensures ended { HasEnded g.now.n self.old.forest self.new.forest }
+    pub(crate) fn augment(&mut self, g: &SmallGraph, e: u32)
+        requires way { IsUnderWay g.now.graph self.old }
+        requires edge { e < length g.now.graph.edges }
+        requires kind { edge_kind g.now.graph (forest_of self.old.forest) e ≡ Augment }
+        ensures idle { IsIdle g.now.graph self.new }
+        ensures ended { HasEnded g.now.graph.n self.old.forest self.new.forest }
         ensures first { self.new.first ≡ self.old.first }
     {
         self.forest.augment(g, e);
     }
 
     /// A search begins at a vertex that is not matched.
-    pub(crate) fn begin(&mut self, g: &WGraph, v: u32)
-        requires idle { IsIdle (graph g.now) self.old }
-        requires vertex { v < g.now.n }
+    pub(crate) fn begin(&mut self, g: &SmallGraph, v: u32)
+        requires idle { IsIdle g.now.graph self.old }
+        requires vertex { v < g.now.graph.n }
         requires free { (forest_of self.old.forest).mate ((forest_of self.old.forest).out v) ≡ None }
         requires before { AreMatchedBefore (forest_of self.old.forest) v }
-        ensures way { IsUnderWay (graph g.now) self.new }
-        ensures seeking { IsSeeking g.now.n (forest_of self.new.forest) self.new.forest.root v }
+        ensures way { IsUnderWay g.now.graph self.new }
+        ensures seeking { IsSeeking g.now.graph.n (forest_of self.new.forest) self.new.forest.root v }
         ensures first { self.new.first ≡ self.old.first }
     {
         let b = self.forest.outermost(v);

@@ -1,7 +1,7 @@
 //! Searches: the step with the least key is taken, again and again, until the matching grows.
 
 ghost use Rattle.std.specs.Prelude.{◌≡◌, ◌≢◌, ◌+◌, ◌*◌, ◌*ℤ◌, ◌<◌, ◌≤◌, ℕ, pos, length, true, false};
-ghost use Rattle.def_matching.specs.Matching.{graph, matching_cost, IsPerfect};
+ghost use Rattle.def_matching.specs.Matching.{matching_cost, IsPerfect};
 ghost use Rattle.def_matching.specs.Dual.{dual, verdict, IsSmallDual};
 ghost use Rattle.def_forest.specs.Tables.{forest_of, edge_kind};
 ghost use Rattle.def_forest.specs.declared.kinds.EdgeKind.TheVariants.{Idle, Loose};
@@ -12,23 +12,24 @@ ghost use Rattle.qm_match.specs.States.{GoesOn, HasEnded, HasPerfect, IsIdle, Is
 
 use crate::search::Search;
 use def_forest::EdgeKind;
-use def_matching::{Dual, Verdict, WGraph};
+use def_matching::{Dual, Verdict};
+use qm_dual::SmallGraph;
 
 impl Search {
     /// Shifts the dual until the sum of the weights has risen to a key that is the least.
-    fn rise_to(&mut self, g: &WGraph, key: u64)
-        requires way { IsUnderWay (graph g.now) self.old }
-        requires known { HasPerfect (graph g.now) }
+    fn rise_to(&mut self, g: &SmallGraph, key: u64)
+        requires way { IsUnderWay g.now.graph self.old }
+        requires known { HasPerfect g.now.graph }
         requires high { self.old.risen ≤ key }
         requires least { (k : Leaf) → k < length self.old.tour
-            → key ≤ true_key (graph g.now) (forest_of self.old.forest) self.old.risen k }
-        ensures way { IsUnderWay (graph g.now) self.new }
-        ensures goes_on { GoesOn g.now.n self.old.forest self.new.forest }
-        ensures steps { steps_left g.now.n (forest_of self.new.forest)
-            ≡ steps_left g.now.n (forest_of self.old.forest) }
+            → key ≤ true_key g.now.graph (forest_of self.old.forest) self.old.risen k }
+        ensures way { IsUnderWay g.now.graph self.new }
+        ensures goes_on { GoesOn g.now.graph.n self.old.forest self.new.forest }
+        ensures steps { steps_left g.now.graph.n (forest_of self.new.forest)
+            ≡ steps_left g.now.graph.n (forest_of self.old.forest) }
         ensures keys { (k : Leaf) → k < length self.old.tour
-            → true_key (graph g.now) (forest_of self.new.forest) self.new.risen k
-            ≡ true_key (graph g.now) (forest_of self.old.forest) self.old.risen k }
+            → true_key g.now.graph (forest_of self.new.forest) self.new.risen k
+            ≡ true_key g.now.graph (forest_of self.old.forest) self.old.risen k }
         ensures tour { self.new.tour ≡ self.old.tour }
         ensures risen { self.new.risen ≡ key }
         ensures first { self.new.first ≡ self.old.first }
@@ -39,17 +40,17 @@ impl Search {
     }
 
     /// Takes the step that an edge allows whose key has come. Whether it ended the search.
-    fn step_along(&mut self, g: &WGraph, e: u32) -> bool
-        requires way { IsUnderWay (graph g.now) self.old }
-        requires edge { e < length g.now.edges.items }
-        requires some { edge_kind (graph g.now) (forest_of self.old.forest) e ≢ Loose }
-        requires step { edge_kind (graph g.now) (forest_of self.old.forest) e ≢ Idle }
-        ensures way { result ≡ false → IsUnderWay (graph g.now) self.new }
-        ensures goes_on { result ≡ false → GoesOn g.now.n self.old.forest self.new.forest }
-        ensures fewer { result ≡ false → steps_left g.now.n (forest_of self.new.forest)
-            < steps_left g.now.n (forest_of self.old.forest) }
-        ensures idle { result ≡ true → IsIdle (graph g.now) self.new }
-        ensures ended { result ≡ true → HasEnded g.now.n self.old.forest self.new.forest }
+    fn step_along(&mut self, g: &SmallGraph, e: u32) -> bool
+        requires way { IsUnderWay g.now.graph self.old }
+        requires edge { e < length g.now.graph.edges }
+        requires some { edge_kind g.now.graph (forest_of self.old.forest) e ≢ Loose }
+        requires step { edge_kind g.now.graph (forest_of self.old.forest) e ≢ Idle }
+        ensures way { result ≡ false → IsUnderWay g.now.graph self.new }
+        ensures goes_on { result ≡ false → GoesOn g.now.graph.n self.old.forest self.new.forest }
+        ensures fewer { result ≡ false → steps_left g.now.graph.n (forest_of self.new.forest)
+            < steps_left g.now.graph.n (forest_of self.old.forest) }
+        ensures idle { result ≡ true → IsIdle g.now.graph self.new }
+        ensures ended { result ≡ true → HasEnded g.now.graph.n self.old.forest self.new.forest }
         ensures first { self.new.first ≡ self.old.first }
     {
         match self.forest.kind(g, e) {
@@ -65,38 +66,38 @@ impl Search {
     }
 
     /// Takes the step of a leaf whose key has come. Whether it ended the search.
-    fn step(&mut self, g: &WGraph, leaf: usize) -> bool
-        requires way { IsUnderWay (graph g.now) self.old }
+    fn step(&mut self, g: &SmallGraph, leaf: usize) -> bool
+        requires way { IsUnderWay g.now.graph self.old }
         requires leaf { leaf < length self.old.tour }
-        requires here { true_key (graph g.now) (forest_of self.old.forest) self.old.risen leaf ≡ self.old.risen }
+        requires here { true_key g.now.graph (forest_of self.old.forest) self.old.risen leaf ≡ self.old.risen }
         requires few { self.old.risen < no_key }
-        ensures way { result ≡ false → IsUnderWay (graph g.now) self.new }
-        ensures goes_on { result ≡ false → GoesOn g.now.n self.old.forest self.new.forest }
-        ensures fewer { result ≡ false → steps_left g.now.n (forest_of self.new.forest)
-            < steps_left g.now.n (forest_of self.old.forest) }
-        ensures idle { result ≡ true → IsIdle (graph g.now) self.new }
-        ensures ended { result ≡ true → HasEnded g.now.n self.old.forest self.new.forest }
+        ensures way { result ≡ false → IsUnderWay g.now.graph self.new }
+        ensures goes_on { result ≡ false → GoesOn g.now.graph.n self.old.forest self.new.forest }
+        ensures fewer { result ≡ false → steps_left g.now.graph.n (forest_of self.new.forest)
+            < steps_left g.now.graph.n (forest_of self.old.forest) }
+        ensures idle { result ≡ true → IsIdle g.now.graph self.new }
+        ensures ended { result ≡ true → HasEnded g.now.graph.n self.old.forest self.new.forest }
         ensures first { self.new.first ≡ self.old.first }
     {
-        let edges = g.edges.len();
+        let edges = g.edge_count() as usize;
         if leaf < edges {
             return self.step_along(g, leaf as u32);
         }
-        self.expand(g, g.n + (leaf - edges) as u32);
+        self.expand(g, g.n() + (leaf - edges) as u32);
         false
     }
 
     /// Mends the least key, or takes its step where it is right. Whether that ended the search.
-    fn turn(&mut self, g: &WGraph) -> bool
-        requires way { IsUnderWay (graph g.now) self.old }
-        requires known { HasPerfect (graph g.now) }
-        ensures way { result ≡ false → IsUnderWay (graph g.now) self.new }
-        ensures goes_on { result ≡ false → GoesOn g.now.n self.old.forest self.new.forest }
+    fn turn(&mut self, g: &SmallGraph) -> bool
+        requires way { IsUnderWay g.now.graph self.old }
+        requires known { HasPerfect g.now.graph }
+        ensures way { result ≡ false → IsUnderWay g.now.graph self.new }
+        ensures goes_on { result ≡ false → GoesOn g.now.graph.n self.old.forest self.new.forest }
         ensures fewer { result ≡ false
-            → turns_left (graph g.now) (forest_of self.new.forest) self.new.risen self.new.tour
-            < turns_left (graph g.now) (forest_of self.old.forest) self.old.risen self.old.tour }
-        ensures idle { result ≡ true → IsIdle (graph g.now) self.new }
-        ensures ended { result ≡ true → HasEnded g.now.n self.old.forest self.new.forest }
+            → turns_left g.now.graph (forest_of self.new.forest) self.new.risen self.new.tour
+            < turns_left g.now.graph (forest_of self.old.forest) self.old.risen self.old.tour }
+        ensures idle { result ≡ true → IsIdle g.now.graph self.new }
+        ensures ended { result ≡ true → HasEnded g.now.graph.n self.old.forest self.new.forest }
         ensures first { self.new.first ≡ self.old.first }
     {
         let leaf = self.tour.least_leaf();
@@ -110,11 +111,11 @@ impl Search {
     }
 
     /// Searches until the matching grows.
-    fn search(&mut self, g: &WGraph)
-        requires way { IsUnderWay (graph g.now) self.old }
-        requires known { HasPerfect (graph g.now) }
-        ensures idle { IsIdle (graph g.now) self.new }
-        ensures ended { HasEnded g.now.n self.old.forest self.new.forest }
+    fn search(&mut self, g: &SmallGraph)
+        requires way { IsUnderWay g.now.graph self.old }
+        requires known { HasPerfect g.now.graph }
+        ensures idle { IsIdle g.now.graph self.new }
+        ensures ended { HasEnded g.now.graph.n self.old.forest self.new.forest }
         ensures first { self.new.first ≡ self.old.first }
     {
         let mut ended = false;
@@ -124,12 +125,12 @@ impl Search {
     }
 
     /// Searches from a vertex, if it is not matched.
-    fn match_vertex(&mut self, g: &WGraph, v: u32)
-        requires idle { IsIdle (graph g.now) self.old }
-        requires known { HasPerfect (graph g.now) }
-        requires vertex { v < g.now.n }
+    fn match_vertex(&mut self, g: &SmallGraph, v: u32)
+        requires idle { IsIdle g.now.graph self.old }
+        requires known { HasPerfect g.now.graph }
+        requires vertex { v < g.now.graph.n }
         requires before { AreMatchedBefore (forest_of self.old.forest) v }
-        ensures idle { IsIdle (graph g.now) self.new }
+        ensures idle { IsIdle g.now.graph self.new }
         ensures after { AreMatchedBefore (forest_of self.new.forest) (v + 1) }
         ensures first { self.new.first ≡ self.old.first }
     {
@@ -140,28 +141,28 @@ impl Search {
     }
 
     /// Searches from each vertex in turn, so that all are matched.
-    pub(crate) fn match_all(&mut self, g: &WGraph)
-        requires idle { IsIdle (graph g.now) self.old }
-        requires known { HasPerfect (graph g.now) }
-        ensures idle { IsIdle (graph g.now) self.new }
-        ensures all { AreMatchedBefore (forest_of self.new.forest) g.now.n }
+    pub(crate) fn match_all(&mut self, g: &SmallGraph)
+        requires idle { IsIdle g.now.graph self.old }
+        requires known { HasPerfect g.now.graph }
+        ensures idle { IsIdle g.now.graph self.new }
+        ensures all { AreMatchedBefore (forest_of self.new.forest) g.now.graph.n }
         ensures first { self.new.first ≡ self.old.first }
     {
-        for v in 0..g.n {
+        for v in 0..g.n() {
             self.match_vertex(g, v);
         }
     }
     /// The matching and the dual, where all searches are done.
-    pub(crate) fn into_parts(self, g: &WGraph) -> (Vec<u32>, Dual)
-        requires idle { IsIdle (graph g.now) self }
-        requires known { HasPerfect (graph g.now) }
-        requires all { AreMatchedBefore (forest_of self.forest) g.now.n }
-        ensures perfect { IsPerfect (graph g.now) result.0.items }
+    pub(crate) fn into_parts(self, g: &SmallGraph) -> (Vec<u32>, Dual)
+        requires idle { IsIdle g.now.graph self }
+        requires known { HasPerfect g.now.graph }
+        requires all { AreMatchedBefore (forest_of self.forest) g.now.graph.n }
+        ensures perfect { IsPerfect g.now.graph result.0.items }
         ensures dual { IsSmallDual (dual result.1) }
-        ensures bounded { (most : ℕ) → AreCostsBelow (graph g.now) most
-            → AreAtMost (2 * (g.now.n * self.first) + g.now.n * most) (dual result.1) }
-        ensures least { verdict (graph g.now) (dual result.1)
-            ≡ Verdict.Yes (pos 2 *ℤ matching_cost (graph g.now) result.0.items) }
+        ensures bounded { (most : ℕ) → AreCostsBelow g.now.graph most
+            → AreAtMost (2 * (g.now.graph.n * self.first) + g.now.graph.n * most) (dual result.1) }
+        ensures least { verdict g.now.graph (dual result.1)
+            ≡ Verdict.Yes (pos 2 *ℤ matching_cost g.now.graph result.0.items) }
     {
         let Search {
             forest,

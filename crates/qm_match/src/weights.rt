@@ -1,24 +1,22 @@
 //! The first weights: the least costs, each raised as far as the edges at its vertex allow.
 
 ghost use Rattle.std.specs.Prelude.{◌≡◌, ◌*◌, ◌^◌, ◌<◌, ◌≤◌, ◌-ℤ◌, ◌*ℤ◌, ℕ, pos, length, unsigned_abs, IfOk};
-ghost use Rattle.def_matching.specs.Matching.{graph, IsSmallGraph};
 ghost use Rattle.def_forest.specs.Made.{AreCostsBelow};
 ghost use Rattle.qm_match.specs.Fans.{AreFans};
 ghost use Rattle.qm_match.specs.Weights.{left_to, IsRoom, HaveRoom, MayRise};
 
 use crate::Memory;
 use crate::fans::Fans;
-use def_matching::WGraph;
+use qm_dual::SmallGraph;
 use qm_forest::{greatest_cost, least_costs, near, twin};
 use std::alloc::Global;
 
 /// A feasible dual, in which no number is above the greatest cost, up or down: the least costs, each raised in turn.
 /// Where a vertex can be raised no more, an edge at it is tight, and may be matched at once. Linear in the graph.
-pub(crate) fn first_weights(alloc: Global, g: &WGraph, fans: &Fans) -> Result<Vec<i64>, Memory>
-    requires graph { IsSmallGraph (graph g.now) }
-    requires costs { AreCostsBelow (graph g.now) (2 ^ 60) }
-    requires fans { AreFans (graph g.now) fans.now.first.items fans.now.next.items }
-    ensures { IfOk result (λ y. (most : ℕ) → AreCostsBelow (graph g.now) most → HaveRoom (graph g.now) most y.items) }
+pub(crate) fn first_weights(alloc: Global, g: &SmallGraph, fans: &Fans) -> Result<Vec<i64>, Memory>
+    requires costs { AreCostsBelow g.now.graph (2 ^ 60) }
+    requires fans { AreFans g.now.graph fans.now.first.items fans.now.next.items }
+    ensures { IfOk result (λ y. (most : ℕ) → AreCostsBelow g.now.graph most → HaveRoom g.now.graph most y.items) }
 {
     let most = greatest_cost(g);
     let mut y = least_costs(alloc, g, most)?;
@@ -27,24 +25,22 @@ pub(crate) fn first_weights(alloc: Global, g: &WGraph, fans: &Fans) -> Result<Ve
 }
 
 /// Raises the number of each vertex in turn.
-fn raise_all(y: &mut [i64], g: &WGraph, fans: &Fans, most: u64)
-    requires graph { IsSmallGraph (graph g.now) }
-    requires fans { AreFans (graph g.now) fans.now.first.items fans.now.next.items }
-    requires ready { MayRise (graph g.now) most y.old }
-    ensures { MayRise (graph g.now) most y.new }
+fn raise_all(y: &mut [i64], g: &SmallGraph, fans: &Fans, most: u64)
+    requires fans { AreFans g.now.graph fans.now.first.items fans.now.next.items }
+    requires ready { MayRise g.now.graph most y.old }
+    ensures { MayRise g.now.graph most y.new }
 {
-    for v in 0..g.n {
+    for v in 0..g.n() {
         raise(y, g, fans, v, most);
     }
 }
 
 /// Raises the number of a vertex as far as the edges there allow, and at most to a bound.
-fn raise(y: &mut [i64], g: &WGraph, fans: &Fans, v: u32, most: u64)
-    requires graph { IsSmallGraph (graph g.now) }
-    requires fans { AreFans (graph g.now) fans.now.first.items fans.now.next.items }
-    requires ready { MayRise (graph g.now) most y.old }
-    requires vertex { v < g.now.n }
-    ensures { MayRise (graph g.now) most y.new }
+fn raise(y: &mut [i64], g: &SmallGraph, fans: &Fans, v: u32, most: u64)
+    requires fans { AreFans g.now.graph fans.now.first.items fans.now.next.items }
+    requires ready { MayRise g.now.graph most y.old }
+    requires vertex { v < g.now.graph.n }
+    ensures { MayRise g.now.graph most y.new }
 {
     let room = room_at(y, g, fans, v, most);
     if y[v as usize] < room {
@@ -53,12 +49,11 @@ fn raise(y: &mut [i64], g: &WGraph, fans: &Fans, v: u32, most: u64)
 }
 
 /// How great the number of a vertex may be: what each edge leaves to it, and at most a bound.
-fn room_at(y: &[i64], g: &WGraph, fans: &Fans, v: u32, most: u64) -> i64
-    requires graph { IsSmallGraph (graph g.now) }
-    requires fans { AreFans (graph g.now) fans.now.first.items fans.now.next.items }
-    requires ready { MayRise (graph g.now) most y.now }
-    requires vertex { v < g.now.n }
-    ensures { IsRoom (graph g.now) most y.now v result }
+fn room_at(y: &[i64], g: &SmallGraph, fans: &Fans, v: u32, most: u64) -> i64
+    requires fans { AreFans g.now.graph fans.now.first.items fans.now.next.items }
+    requires ready { MayRise g.now.graph most y.now }
+    requires vertex { v < g.now.graph.n }
+    ensures { IsRoom g.now.graph most y.now v result }
 {
     let mut room = most as i64;
     let mut entry = fans.first[v as usize];
@@ -71,14 +66,13 @@ fn room_at(y: &[i64], g: &WGraph, fans: &Fans, v: u32, most: u64) -> i64
 }
 
 /// What the far end of a dart leaves to the vertex where it begins.
-fn left_by(y: &[i64], g: &WGraph, d: u32) -> i64
-    requires graph { IsSmallGraph (graph g.now) }
-    requires ready { (most : ℕ) × MayRise (graph g.now) most y.now }
-    requires dart { d < 2 * length g.now.edges.items }
-    ensures value { result ≡ left_to (graph g.now) y.now d }
+fn left_by(y: &[i64], g: &SmallGraph, d: u32) -> i64
+    requires ready { (most : ℕ) × MayRise g.now.graph most y.now }
+    requires dart { d < 2 * length g.now.graph.edges }
+    ensures value { result ≡ left_to g.now.graph y.now d }
     ensures small { unsigned_abs result ≤ 2 ^ 62 }
 {
-    let cost = g.edges[(d / 2) as usize].cost;
+    let cost = g.edge(d / 2).cost;
     let number = y[near(g, twin(d)) as usize];
     left_of(cost, number)
 }

@@ -1,21 +1,19 @@
 //! A dual without the sets that say nothing, those whose number is 0.
 
 ghost use Rattle.std.specs.Prelude.{◌≡◌, ◌+◌, ◌≤◌, ℕ, length, IfOk};
-ghost use Rattle.def_matching.specs.Matching.{graph, IsSmallGraph};
 ghost use Rattle.def_matching.specs.Dual.{dual, verdict, AreSmall, IsSmallDual};
 ghost use Rattle.qm_solve.specs.Idle.{AreNamed};
 
 use crate::Memory;
-use def_matching::{Dual, Verdict, WGraph};
-use qm_dual::dual_ok;
+use def_matching::{Dual, Verdict};
+use qm_dual::{SmallGraph, dual_ok};
 use std::alloc::Global;
 
 /// The dual without the sets whose number is 0, if both have one verdict: so a mistake here could keep sets, and never
 /// cost an answer. Linear, but for the check.
-pub(crate) fn without_idle_sets(alloc: Global, g: &WGraph, d: Dual) -> Result<Dual, Memory>
-    requires graph { IsSmallGraph (graph g.now) }
+pub(crate) fn without_idle_sets(alloc: Global, g: &SmallGraph, d: Dual) -> Result<Dual, Memory>
     requires small { IsSmallDual (dual d) }
-    ensures same { IfOk result (λ kept. verdict (graph g.now) (dual kept) ≡ verdict (graph g.now) (dual d)) }
+    ensures same { IfOk result (λ kept. verdict g.now.graph (dual kept) ≡ verdict g.now.graph (dual d)) }
     ensures small { IfOk result (λ kept. IsSmallDual (dual kept)) }
 {
     if d.z.is_empty() {
@@ -32,9 +30,9 @@ pub(crate) fn without_idle_sets(alloc: Global, g: &WGraph, d: Dual) -> Result<Du
 }
 
 /// The dual with new names for the sets that are kept.
-fn kept_sets(alloc: Global, g: &WGraph, d: &Dual, sum: i128) -> Result<Dual, Memory>
+fn kept_sets(alloc: Global, g: &SmallGraph, d: &Dual, sum: i128) -> Result<Dual, Memory>
     requires small { IsSmallDual (dual d.now) }
-    requires yes { verdict (graph g.now) (dual d.now) ≡ Verdict.Yes sum }
+    requires yes { verdict g.now.graph (dual d.now) ≡ Verdict.Yes sum }
     ensures small { IfOk result (λ kept. IsSmallDual (dual kept)) }
 {
     let names = new_names(alloc, &d.z, &d.up)?;

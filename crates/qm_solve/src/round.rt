@@ -2,7 +2,7 @@
 
 ghost use Rattle.std.specs.Prelude.{◌≡◌, ◌≤◌, ◌<◌, ◌^◌, ◌*◌, ℕ, pos, length, slice_index_or};
 ghost use Rattle.std.specs.Prelude.{unsigned_abs, IfOk};
-ghost use Rattle.def_matching.specs.Matching.{graph, IsGraph};
+ghost use Rattle.def_matching.specs.Matching.{graph, IsSmallGraph};
 ghost use Rattle.def_flow.specs.Network.{network, tangle_number, IsWithinBounds};
 ghost use Rattle.def_flow.specs.Admissible.{entries, AreNetLengths, IsAdmissible};
 ghost use Rattle.qm_solve.specs.Rounds.{IsRound};
@@ -12,6 +12,7 @@ use crate::idle::without_idle_sets;
 use crate::priced::wishes_of;
 use def_flow::{Gadget, MAX_STEP, MAX_TANGLE, Net};
 use def_matching::Dual;
+use qm_dual::SmallGraph;
 use qm_gadget::{graph_of, lengths_of, matching_of};
 use qm_initial::{MAX_WISH, least_costs};
 use qm_match::{best_near, cost_of};
@@ -40,14 +41,17 @@ pub(crate) fn improve(
     ensures { IfOk result (λ round. IsRound (network net.now) step x.now round) }
 {
     let gadget = graph_of(alloc, net, x, step)?;
+    let graph = SmallGraph {
+        whole: &gadget.graph,
+    };
     let known = matching_of(alloc, net, &gadget, x)?;
     let wish = first_wishes(alloc, net, &gadget, prices)?;
-    let (edges, dual) = best_near(alloc, &gadget.graph, &known, &wish)?;
-    if cost_of(&gadget.graph, &edges) < cost_of(&gadget.graph, &known) {
+    let (edges, dual) = best_near(alloc, &graph, &known, &wish)?;
+    if cost_of(&graph, &edges) < cost_of(&graph, &known) {
         let x = lengths_of(alloc, net, &gadget, &edges)?;
         Ok(Round::Better { x })
     } else {
-        let dual = without_idle_sets(alloc, &gadget.graph, dual)?;
+        let dual = without_idle_sets(alloc, &graph, dual)?;
         Ok(Round::Least { dual })
     }
 }
@@ -60,13 +64,18 @@ pub fn first_wishes(
     gadget: &Gadget,
     prices: &[i64],
 ) -> Result<Vec<i64>, Memory>
-    requires { IsGraph (graph gadget.now.graph) }
+    requires { IsSmallGraph (graph gadget.now.graph) }
     ensures long { IfOk result (λ wish. length wish.items ≡ gadget.now.graph.n) }
     ensures near { IfOk result (λ wish. (v : ℕ) → unsigned_abs (slice_index_or wish.items v (pos 0)) ≤ MAX_WISH) }
 {
     if gadget.step == 1 && !prices.is_empty() {
         wishes_of(alloc, net, gadget, prices)
     } else {
-        least_costs(alloc, &gadget.graph)
+        least_costs(
+            alloc,
+            &SmallGraph {
+                whole: &gadget.graph,
+            },
+        )
     }
 }

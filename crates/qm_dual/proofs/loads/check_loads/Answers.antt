@@ -1,9 +1,9 @@
-use Rattle.std.proofs.Common.{◌≡◌, ◌^◌, ◌<◌, length, ℤ, pos, ◌*ℤ◌, slice_index_or, ◌∙◌, ap, FitsSigned, below_more}
+use Rattle.std.proofs.Common.{◌≡◌, ◌^◌, ◌<◌, ℤ, pos, ◌*ℤ◌, ◌∙◌, ap, FitsSigned, below_more}
 use Rattle.std.proofs.{Common.rules, Common.arith, lemmas.Int.ints, lemmas.Int.to_z-of_z}
 use mir.Syntax.{w64, w128}
 use mir.Val.{to_z, of_z}
 use lib.Signed.{mag}
-use Rattle.def_matching.specs.{declared.weighted.WEdge.WEdge, Matching.graph, Matching.edge_at, Dual.dual, Dual.load}
+use Rattle.def_matching.specs.{declared.weighted.WEdge.WEdge, Matching.edge_at, Dual.dual, Dual.load}
 use Rattle.qm_dual.proofs.Verdicts.{short_found, none_short}
 use Rattle.qm_dual.proofs.loads.check_loads.Goals as goal
 
@@ -12,47 +12,31 @@ plain z small = to_z-of_z w128 z (record { sfits = small })
 
 pub returns-then-load-cost : goal.returns-then-load-cost
 returns-then-load-cost c =
-    let here : slice_index_or c.deref-edge-items.result.now c.loop-k.k (record { u = 0; v = 0; cost = pos 0 })
-    ≡ edge_at (graph c.args.g.now) c.loop-k.k =
-    ap (λ es. slice_index_or es c.loop-k.k (record { u = 0; v = 0; cost = pos 0 }))
-    c.deref-edge-items.ensures.value in
-    let fits : FitsSigned w64 (slice_index_or c.deref-edge-items.result.now c.loop-k.k (record {
-      u = 0;
-      v = 0;
-      cost =
-          pos 0;
-    })).cost = search rules in
+    let fits : FitsSigned w64 c.edge-edge.result.cost = search rules in
     let cost : to_z w128 (of_z w128 (pos 2 *ℤ to_z w128 (of_z w128 c.from-cost.result)))
-    ≡ pos 2 *ℤ (edge_at (graph c.args.g.now) c.loop-k.k).cost =
-    omega (arith, ints, c.from-cost.ensures, ap (λ (e : WEdge). e.cost) here) in
-    let sum : to_z w128 (of_z w128 c.load_of-load.result) ≡ load c.args.g.now.n (dual c.args.d.now)
-    (edge_at (graph c.args.g.now) c.loop-k.k) = plain c.load_of-load.result c.load_of-load.type_inv
-    ∙ (c.load_of-load.ensures ∙ ap (load c.args.g.now.n (dual c.args.d.now)) here) in
-    short_found (graph c.args.g.now) (dual c.args.d.now) c.loop-k.k (to_z w128 (of_z w128 c.load_of-load.result))
+    ≡ pos 2 *ℤ (edge_at c.args.g.now.graph c.loop-k.k).cost =
+    omega (arith, ints, c.from-cost.ensures, ap (λ (e : WEdge). e.cost) c.edge-edge.ensures.value) in
+    let sum : to_z w128 (of_z w128 c.load_of-load.result) ≡ load c.args.g.now.graph.n (dual c.args.d.now)
+    (edge_at c.args.g.now.graph c.loop-k.k) = plain c.load_of-load.result c.load_of-load.type_inv
+    ∙ (c.load_of-load.ensures ∙ (ap (λ n. load n (dual c.args.d.now) c.edge-edge.result) c.n.ensures.value
+    ∙ ap (load c.args.g.now.graph.n (dual c.args.d.now)) c.edge-edge.ensures.value)) in
+    short_found c.args.g.now.graph (dual c.args.d.now) c.loop-k.k (to_z w128 (of_z w128 c.load_of-load.result))
     (to_z w128 (of_z w128 (pos 2 *ℤ to_z w128 (of_z w128 c.from-cost.result))))
-    (omega (arith, ap length c.deref-edge-items.ensures.value)) c.loop-k.invariant sum cost c.if-load-cost.true
+    (omega (arith, c.edge_count-k-end.ensures.value)) c.loop-k.invariant sum cost c.if-load-cost.true
 
 pub loop-k-preserved : goal.loop-k-preserved
 loop-k-preserved c =
-    let here : slice_index_or c.deref-edge-items.result.now c.loop-k.k (record { u = 0; v = 0; cost = pos 0 })
-    ≡ edge_at (graph c.args.g.now) c.loop-k.k =
-    ap (λ es. slice_index_or es c.loop-k.k (record { u = 0; v = 0; cost = pos 0 }))
-    c.deref-edge-items.ensures.value in
-    let fits : FitsSigned w64 (slice_index_or c.deref-edge-items.result.now c.loop-k.k (record {
-      u = 0;
-      v = 0;
-      cost =
-          pos 0;
-    })).cost = search rules in
+    let fits : FitsSigned w64 c.edge-edge.result.cost = search rules in
     let cost : to_z w128 (of_z w128 (pos 2 *ℤ to_z w128 (of_z w128 c.from-cost.result)))
-    ≡ pos 2 *ℤ (edge_at (graph c.args.g.now) c.loop-k.k).cost =
-    omega (arith, ints, c.from-cost.ensures, ap (λ (e : WEdge). e.cost) here) in
-    let sum : to_z w128 (of_z w128 c.load_of-load.result) ≡ load c.args.g.now.n (dual c.args.d.now)
-    (edge_at (graph c.args.g.now) c.loop-k.k) = plain c.load_of-load.result c.load_of-load.type_inv
-    ∙ (c.load_of-load.ensures ∙ ap (load c.args.g.now.n (dual c.args.d.now)) here) in
+    ≡ pos 2 *ℤ (edge_at c.args.g.now.graph c.loop-k.k).cost =
+    omega (arith, ints, c.from-cost.ensures, ap (λ (e : WEdge). e.cost) c.edge-edge.ensures.value) in
+    let sum : to_z w128 (of_z w128 c.load_of-load.result) ≡ load c.args.g.now.graph.n (dual c.args.d.now)
+    (edge_at c.args.g.now.graph c.loop-k.k) = plain c.load_of-load.result c.load_of-load.type_inv
+    ∙ (c.load_of-load.ensures ∙ (ap (λ n. load n (dual c.args.d.now) c.edge-edge.result) c.n.ensures.value
+    ∙ ap (load c.args.g.now.graph.n (dual c.args.d.now)) c.edge-edge.ensures.value)) in
     below_more _ _ c.loop-k.invariant (rw (← cost, ← sum) c.if-load-cost.false)
 
 pub returns : goal.returns
-returns c = none_short (graph c.args.g.now) (dual c.args.d.now) (to_z w128 (of_z w128 c.sum_of_dual.result))
-    (λ j l. c.loop-k.invariant j (omega (arith, ap length c.deref-edge-items.ensures.value)))
+returns c = none_short c.args.g.now.graph (dual c.args.d.now) (to_z w128 (of_z w128 c.sum_of_dual.result))
+    (λ j l. c.loop-k.invariant j (omega (arith, c.edge_count-k-end.ensures.value, c.loop-k-test.false, l)))
     (plain c.sum_of_dual.result c.sum_of_dual.type_inv ∙ c.sum_of_dual.ensures)

@@ -1,7 +1,6 @@
 use Rattle.std.proofs.Common.{◌≡◌, ℕ, ◌+◌, ◌*◌, ◌/◌, length, subst, sym, ◌∙◌, ap, refl, arith, get_or, replicate, pos}
 use Rattle.std.proofs.Common.{List, ℤ, Some}
 use Rattle.std.proofs.lemmas.Int.{ints}
-use Rattle.def_matching.specs.Matching.{graph}
 use Rattle.def_forest.specs.{Steps.weight_change, Tables.GraphSize, Tables.label_at, declared.kinds.Label.Label}
 use Rattle.def_forest.specs.declared.kinds.Label.TheVariants.{Outside}
 use Rattle.qm_forest.specs.Ties.{AreStarts}
@@ -9,11 +8,11 @@ use Rattle.qm_forest.proofs.Fresh.{counted_as, fresh_tied, fresh_valid, same_eve
 use Rattle.qm_forest.proofs.start.single_vertices.Goals as goal
 
 pub invariant_of-result : goal.invariant_of-result
-invariant_of-result c = fresh_tied c.args.g.now.n (c.args.g.now.n + c.args.g.now.n / 2) c.args.lows.items _ _ (record {
+invariant_of-result c = fresh_tied c.n-n.result (c.n-n.result + c.n-n.result / 2) c.args.lows.items _ _ (record {
   size_is = refl;
-  few = omega (arith, c.requires.graph.vertices);
-  hand = counted_as c.requires.weights.size c.in_ok-single_handles.ensures.hand;
-  top = counted_as c.requires.weights.size c.in_ok-single_handles.ensures.top;
+  few = omega (arith, c.n-n.ensures.few);
+  hand = counted_as (c.requires.weights.size ∙ sym c.n-n.ensures.value) c.in_ok-single_handles.ensures.hand;
+  top = counted_as (c.requires.weights.size ∙ sym c.n-n.ensures.value) c.in_ok-single_handles.ensures.top;
   up = c.in_ok-no_rings.ensures.up;
   lists = (
     c.in_ok-single_lists.ensures.leader,
@@ -21,9 +20,10 @@ invariant_of-result c = fresh_tied c.args.g.now.n (c.args.g.now.n + c.args.g.now
     c.in_ok-single_lists.ensures.last,
     c.in_ok-single_lists.ensures.following,
   );
-  size_lows = c.requires.weights.size;
+  size_lows = c.requires.weights.size ∙ sym c.n-n.ensures.value;
   kept = c.in_ok-single_handles.ensures.q;
-  offs = c.in_ok-single_handles.ensures.off ∙ ap (λ k. replicate k (pos 0)) c.requires.weights.size;
+  offs = c.in_ok-single_handles.ensures.off ∙ ap (λ k. replicate k (pos 0))
+      (c.requires.weights.size ∙ sym c.n-n.ensures.value);
   size_base = c.in_ok-pad.ensures.size;
   base = λ k. c.in_ok-pad.ensures.each k ∙ ap (λ (xs : List ℤ). get_or xs k (pos 0)) c.deref.ensures.value;
   label = c.in_ok-no_tree.ensures.label;
@@ -45,45 +45,45 @@ invariant_of-result c = fresh_tied c.args.g.now.n (c.args.g.now.n + c.args.g.now
 }) c.requires.weights.small
 
 pub returns-clause-valid : goal.returns-clause-valid
-returns-clause-valid c = fresh_valid c.args.g.now.n (c.args.g.now.n + c.args.g.now.n / 2) c.args.lows.items _ _
-    (record {
-      size_is = refl;
-      few = omega (arith, c.requires.graph.vertices);
-      hand = counted_as c.requires.weights.size c.in_ok-single_handles.ensures.hand;
-      top = counted_as c.requires.weights.size c.in_ok-single_handles.ensures.top;
-      up = c.in_ok-no_rings.ensures.up;
-      lists = (
-        c.in_ok-single_lists.ensures.leader,
-        c.in_ok-single_lists.ensures.first,
-        c.in_ok-single_lists.ensures.last,
-        c.in_ok-single_lists.ensures.following,
-      );
-      size_lows = c.requires.weights.size;
-      kept = c.in_ok-single_handles.ensures.q;
-      offs = c.in_ok-single_handles.ensures.off ∙ ap (λ k. replicate k (pos 0)) c.requires.weights.size;
-      size_base = c.in_ok-pad.ensures.size;
-      base = λ k. c.in_ok-pad.ensures.each k ∙ ap (λ (xs : List ℤ). get_or xs k (pos 0)) c.deref.ensures.value;
-      label = c.in_ok-no_tree.ensures.label;
-      mate = c.in_ok-no_tree.ensures.mate;
-      parts = c.in_ok-no_rings.ensures.parts;
-      rank = c.in_ok-single_lists.ensures.rank;
-      sizes = (
-        c.in_ok-no_tree.ensures.link,
-        c.in_ok-no_rings.ensures.after,
-        c.in_ok-no_rings.ensures.joint,
-        c.in_ok-no_rings.ensures.head,
-      );
-      delta = refl;
-      root = c.in_ok-no_tree.ensures.root;
-      trail = c.in_ok-empty_trail.ensures.vertices;
-      touched = c.in_ok-empty_trail.ensures.touched;
-      room = c.in_ok-empty_trail.ensures.room;
-      pool = c.in_ok-empty_pool.ensures;
-    }) (graph c.args.g.now) c.requires.graph.lawful refl c.requires.weights
-    (subst (λ xs. AreStarts (graph c.args.g.now) (2 * length c.args.g.now.edges.items) xs)
+returns-clause-valid c = fresh_valid c.n-n.result (c.n-n.result + c.n-n.result / 2) c.args.lows.items _ _ (record {
+  size_is = refl;
+  few = omega (arith, c.n-n.ensures.few);
+  hand = counted_as (c.requires.weights.size ∙ sym c.n-n.ensures.value) c.in_ok-single_handles.ensures.hand;
+  top = counted_as (c.requires.weights.size ∙ sym c.n-n.ensures.value) c.in_ok-single_handles.ensures.top;
+  up = c.in_ok-no_rings.ensures.up;
+  lists = (
+    c.in_ok-single_lists.ensures.leader,
+    c.in_ok-single_lists.ensures.first,
+    c.in_ok-single_lists.ensures.last,
+    c.in_ok-single_lists.ensures.following,
+  );
+  size_lows = c.requires.weights.size ∙ sym c.n-n.ensures.value;
+  kept = c.in_ok-single_handles.ensures.q;
+  offs = c.in_ok-single_handles.ensures.off ∙ ap (λ k. replicate k (pos 0))
+      (c.requires.weights.size ∙ sym c.n-n.ensures.value);
+  size_base = c.in_ok-pad.ensures.size;
+  base = λ k. c.in_ok-pad.ensures.each k ∙ ap (λ (xs : List ℤ). get_or xs k (pos 0)) c.deref.ensures.value;
+  label = c.in_ok-no_tree.ensures.label;
+  mate = c.in_ok-no_tree.ensures.mate;
+  parts = c.in_ok-no_rings.ensures.parts;
+  rank = c.in_ok-single_lists.ensures.rank;
+  sizes = (
+    c.in_ok-no_tree.ensures.link,
+    c.in_ok-no_rings.ensures.after,
+    c.in_ok-no_rings.ensures.joint,
+    c.in_ok-no_rings.ensures.head,
+  );
+  delta = refl;
+  root = c.in_ok-no_tree.ensures.root;
+  trail = c.in_ok-empty_trail.ensures.vertices;
+  touched = c.in_ok-empty_trail.ensures.touched;
+  room = c.in_ok-empty_trail.ensures.room;
+  pool = c.in_ok-empty_pool.ensures;
+}) c.args.g.now.graph c.args.g.now.small.lawful c.n-n.ensures.value c.requires.weights
+    (subst (λ xs. AreStarts c.args.g.now.graph (2 * length c.args.g.now.graph.edges) xs)
     (sym c.in_ok-no_tree.ensures.near) c.in_ok-near.ensures) (ap (λ (z : GraphSize). Some z) (c.in_ok-new.ensures
-    ∙ (let e : c.len.result ≡ length c.args.g.now.edges.items = omega (arith, c.len.ensures, c.args.g.now.edges.ok.0) in
-    ap (λ (m : ℕ). record { vertices = c.args.g.now.n; edges = m }) e)))
+    ∙ (ap (λ (m : ℕ). record { vertices = c.n-n.result; edges = m }) c.edge_count.ensures.value
+    ∙ ap (λ (n : ℕ). record { vertices = n; edges = length c.args.g.now.graph.edges }) c.n-n.ensures.value)))
 
 pub returns-clause-weights : goal.returns-clause-weights
 returns-clause-weights c = λ b. (

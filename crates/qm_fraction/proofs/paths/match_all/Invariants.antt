@@ -3,4 +3,4 @@ use Rattle.qm_fraction.specs.Tables.{IsSearch}
 use Rattle.qm_fraction.proofs.paths.match_all.Given as goal
 
 abbrev pub invariant-loop-v : goal.invariant-loop-v
-invariant-loop-v l = (length l.vertices ≡ l.g.n) × IsSearch l.g.n l.search
+invariant-loop-v l = (length l.vertices ≡ l.g.graph.n) × IsSearch l.g.graph.n l.search

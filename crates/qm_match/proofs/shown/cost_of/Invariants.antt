@@ -1,10 +1,10 @@
 use Rattle.std.proofs.Common.{◌≡◌, ◌*◌, ◌^◌, ◌≤◌, take}
 use Rattle.std.specs.Prelude.{unsigned_abs}
-use Rattle.def_matching.specs.Matching.{graph, matching_cost}
+use Rattle.def_matching.specs.Matching.{matching_cost}
 use Rattle.qm_match.proofs.shown.cost_of.Given as goal
 
 abbrev pub invariant-loop-edge : goal.invariant-loop-edge
 invariant-loop-edge l = record {
-  value : l.cost ≡ matching_cost (graph l.g) (take l.edge-index l.matching);
+  value : l.cost ≡ matching_cost l.g.graph (take l.edge-index l.matching);
   small : unsigned_abs l.cost ≤ l.edge-index * 2 ^ 63;
 }

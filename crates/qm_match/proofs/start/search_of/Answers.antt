@@ -7,10 +7,10 @@ use Rattle.qm_match.proofs.start.search_of.Goals as goal
 
 pub returns-clause-ready : goal.returns-clause-ready
 returns-clause-ready c =
-    let many : c.len.result ≡ length c.args.g.now.edges.items = omega (arith, c.len.ensures, c.args.g.now.edges.ok.0) in
-    let size : length c.in_ok-new.field-0 ≡ c.len.result + (c.args.g.now.n / 2 + 1) = ap length c.in_ok-new.ensures
-    ∙ length-replicate (c.len.result + (c.args.g.now.n / 2 + 1)) (2 ^ 64 - 1) in
-    let halves : length c.args.forest.hand / 2 ≡ c.args.g.now.n / 2 = ap (λ n. n / 2) c.requires.valid.vertices in
+    let size : length c.in_ok-new.field-0 ≡ c.edge_count.result + (c.n-n.result / 2 + 1) = ap length c.in_ok-new.ensures
+    ∙ length-replicate (c.edge_count.result + (c.n-n.result / 2 + 1)) (2 ^ 64 - 1) in
+    let halves : length c.args.forest.hand / 2 ≡ c.n-n.result / 2 =
+    ap (λ n. n / 2) (c.requires.valid.vertices ∙ sym c.n-n.ensures.value) in
     record {
       vertices = c.requires.fans.vertices ∙ sym c.requires.valid.vertices;
       darts = c.requires.fans.darts ∙ sym c.requires.valid.darts;
@@ -18,14 +18,14 @@ returns-clause-ready c =
           (c.requires.fans.firsts v);
       nexts = c.requires.fans.nexts;
       all = chains_ready c.args.fans.first.items c.args.fans.next.items c.requires.fans c.requires.valid;
-      leaves = omega (arith, size, many, halves, c.requires.valid.darts);
+      leaves = omega (arith, size, c.edge_count.ensures.value, halves, c.requires.valid.darts);
       marks = subst (λ n. length c.in_ok-vec.field-0.items ≡ n + n / 2) (sym c.requires.valid.vertices)
-          (omega (arith, c.in_ok-vec.ensures.len, c.in_ok-vec.field-0.ok.0));
-      members = omega (arith, c.in_ok-with_capacity.ensures.capacity, c.requires.valid.vertices);
-      parts = omega (arith, c.in_ok-with_capacity-2.ensures.capacity, c.requires.valid.vertices);
+          (omega (arith, c.in_ok-vec.ensures.len, c.in_ok-vec.field-0.ok.0, c.n-n.ensures.value));
+      members = omega (arith, c.in_ok-with_capacity.ensures.capacity, c.requires.valid.vertices, c.n-n.ensures.value);
+      parts = omega (arith, c.in_ok-with_capacity-2.ensures.capacity, c.requires.valid.vertices, c.n-n.ensures.value);
       few = λ k l. omega (
         arith,
-        same_everywhere (c.len.result + (c.args.g.now.n / 2 + 1)) (2 ^ 64 - 1) c.in_ok-new.ensures k,
+        same_everywhere (c.edge_count.result + (c.n-n.result / 2 + 1)) (2 ^ 64 - 1) c.in_ok-new.ensures k,
         get_or_default_zero c.in_ok-new.field-0 k (2 ^ 64 - 1) l,
       );
       risen = refl;

@@ -1,6 +1,5 @@
 use Rattle.std.proofs.Common.{◌≡◌, ℤ, refl, subst, sym, arith}
 use Rattle.std.proofs.lemmas.Int.{ints, to_z-of_z}
-use Rattle.def_matching.specs.Matching.{graph}
 use Rattle.qm_match.specs.Weights.{IsRoom}
 use Rattle.qm_match.proofs.Raised.{raised_room}
 use Rattle.qm_match.proofs.weights.raise.Goals as goal
@@ -11,8 +10,8 @@ pub returns-then-y-v : goal.returns-then-y-v
 returns-then-y-v c =
     let kept : to_z w64 (of_z w64 c.room_at-room.result) ≡ c.room_at-room.result =
     to_z-of_z w64 c.room_at-room.result (record { sfits = c.room_at-room.type_inv }) in
-    let room = raised_room c.requires.graph.lawful c.requires.ready.room c.requires.vertex
-    (subst (λ (z : ℤ). IsRoom (graph c.args.g.now) c.args.most c.args.y.now c.args.v z) (sym kept)
+    let room = raised_room c.args.g.now.small.lawful c.requires.ready.room c.requires.vertex
+    (subst (λ (z : ℤ). IsRoom c.args.g.now.graph c.args.most c.args.y.now c.args.v z) (sym kept)
     c.room_at-room.ensures) (omega (
       arith,
       ints,

@@ -1,6 +1,5 @@
 use Rattle.std.proofs.{Common.◌≡◌, Common.◌-◌, Common.◌<◌, Common.length, Common.get_or, Common.arith, lemmas.Int.ints}
 use Rattle.std.proofs.lemmas.List.{get_or_read}
-use Rattle.def_matching.specs.Matching.{graph}
 use Rattle.qm_match.specs.Weights.{left_to}
 use Rattle.qm_match.proofs.Raised.{chain_room, chain_end}
 use Rattle.qm_match.proofs.weights.room_at.Goals as goal
@@ -31,7 +30,7 @@ loop-entry-preserved c =
         c.loop-entry.invariant.low,
         c.loop-entry-test.true,
       );
-      done = chain_room c.args.fans.now.next.items (left_to (graph c.args.g.now) c.args.y.now) _ _ c.loop-entry.entry
+      done = chain_room c.args.fans.now.next.items (left_to c.args.g.now.graph c.args.y.now) _ _ c.loop-entry.entry
           (c.loop-entry.entry - 1) _ (omega (arith, c.loop-entry-test.true)) read
           (omega (arith, ints, c.min-room.ensures.self_bound)) (omega (
             arith,
@@ -43,6 +42,6 @@ loop-entry-preserved c =
     }
 
 pub returns : goal.returns
-returns c = chain_end (graph c.args.g.now) c.args.most c.args.y.now c.args.v _ c.args.fans.now.first.items
+returns c = chain_end c.args.g.now.graph c.args.most c.args.y.now c.args.v _ c.args.fans.now.first.items
     c.args.fans.now.next.items c.loop-entry.entry c.requires.fans (omega (arith, c.loop-entry-test.false))
     c.loop-entry.invariant.few c.loop-entry.invariant.done

@@ -1,8 +1,7 @@
 use Rattle.std.proofs.Common.{◌∙◌, sym}
-use Rattle.def_matching.specs.Matching.{graph}
 use Rattle.qm_forest.proofs.Increases.{rise_low}
 use Rattle.qm_forest.proofs.forest.Forest.above.Goals as goal
 
 pub far_blossom-requires-clause-dart : goal.far_blossom-requires-clause-dart
-far_blossom-requires-clause-dart c = rise_low (graph c.args.g.now) c.requires.graph c.args.self.now c.requires.valid
+far_blossom-requires-clause-dart c = rise_low _ c.args.g.now.small _ c.requires.valid
     c.args.b c.requires.named c.in-Some.d (sym c.rise.ensures.value ∙ c.in-Some.is)

@@ -1,31 +1,30 @@
 use Rattle.std.proofs.Common.{◌∙◌, sym, arith}
-use Rattle.def_matching.specs.Matching.{graph}
 use Rattle.qm_forest.proofs.Increases.{named_low, rise_low, root_level, far_level, far_way, climbed_named}
 use Rattle.qm_forest.proofs.Increases.{climbed_level}
 use Rattle.qm_forest.proofs.forest.Forest.climb.Goals as goal
 
 pub rise-requires : goal.rise-requires
-rise-requires c = named_low (graph c.args.g.now) c.requires.graph c.args.self.now c.requires.valid c.loop-d.at
-    (climbed_named (graph c.args.g.now) c.requires.graph c.args.self.now c.requires.valid c.requires.named
+rise-requires c = named_low _ c.args.g.now.small _ c.requires.valid c.loop-d.at
+    (climbed_named _ c.args.g.now.small _ c.requires.valid c.requires.named
     c.loop-d.invariant.climbed)
 
 pub far_blossom-at-requires-clause-dart : goal.far_blossom-at-requires-clause-dart
-far_blossom-at-requires-clause-dart c = rise_low (graph c.args.g.now) c.requires.graph c.args.self.now c.requires.valid
-    c.loop-d.at (climbed_named (graph c.args.g.now) c.requires.graph c.args.self.now c.requires.valid c.requires.named
+far_blossom-at-requires-clause-dart c = rise_low _ c.args.g.now.small _ c.requires.valid
+    c.loop-d.at (climbed_named _ c.args.g.now.small _ c.requires.valid c.requires.named
     c.loop-d.invariant.climbed) c.in-Some.d (sym c.rise.ensures.value ∙ c.in-Some.is)
 
 pub loop-d-smaller : goal.loop-d-smaller
 loop-d-smaller c = omega (
   arith,
-  (far_level (graph c.args.g.now) c.requires.graph c.args.self.now c.requires.valid c.loop-d.at
-      (climbed_named (graph c.args.g.now) c.requires.graph c.args.self.now c.requires.valid c.requires.named
+  (far_level _ c.args.g.now.small _ c.requires.valid c.loop-d.at
+      (climbed_named _ c.args.g.now.small _ c.requires.valid c.requires.named
       c.loop-d.invariant.climbed) c.in-Some.d (sym c.rise.ensures.value ∙ c.in-Some.is)
       c.far_blossom-at.ensures.value).1,
 )
 
 pub loop-d-preserved : goal.loop-d-preserved
 loop-d-preserved c = record {
-  climbed = far_way (graph c.args.g.now) c.requires.graph c.args.self.now c.requires.valid c.requires.named c.in-Some.d
+  climbed = far_way _ c.args.g.now.small _ c.requires.valid c.requires.named c.in-Some.d
       c.loop-d.invariant.climbed (sym c.rise.ensures.value ∙ c.in-Some.is) c.far_blossom-at.ensures.value;
   few = omega (arith, c.loop-d.invariant.few, c.if-count-most.false);
 }
@@ -34,9 +33,9 @@ pub returns-clause-steps : goal.returns-clause-steps
 returns-clause-steps c = omega (
   arith,
   c.loop-d.invariant.few,
-  climbed_level (graph c.args.g.now) c.requires.graph
-      c.args.self.now c.requires.valid c.args.b c.requires.named c.loop-d.at c.loop-d.count c.loop-d.invariant.climbed,
-  root_level (graph c.args.g.now) c.requires.graph c.args.self.now c.requires.valid c.loop-d.at
-      (climbed_named (graph c.args.g.now) c.requires.graph c.args.self.now c.requires.valid c.requires.named
+  climbed_level _ c.args.g.now.small
+      _ c.requires.valid c.args.b c.requires.named c.loop-d.at c.loop-d.count c.loop-d.invariant.climbed,
+  root_level _ c.args.g.now.small _ c.requires.valid c.loop-d.at
+      (climbed_named _ c.args.g.now.small _ c.requires.valid c.requires.named
       c.loop-d.invariant.climbed) (sym c.rise.ensures.value ∙ c.in_default.is),
 )

@@ -1,5 +1,4 @@
 use Rattle.std.proofs.Common.{◌≤◌}
-use Rattle.def_matching.specs.Matching.{graph}
 use Rattle.def_forest.specs.{Darts.darts_of, Tables.forest_of}
 use Rattle.forest_laws.specs.Climbing.{level_of}
 use Rattle.qm_forest.specs.Rings.{HasClimbed}
@@ -7,9 +6,9 @@ use Rattle.qm_forest.proofs.forest.Forest.climb.Given as goal
 
 abbrev pub invariant-loop-d : goal.invariant-loop-d
 invariant-loop-d l = record {
-  climbed : HasClimbed (darts_of (graph l.g)) (forest_of l.self) l.b l.at l.count;
+  climbed : HasClimbed (darts_of l.g.graph) (forest_of l.self) l.b l.at l.count;
   few : l.count ≤ l.most;
 }
 
 abbrev pub decreases-loop-d : goal.decreases-loop-d
-decreases-loop-d l = level_of (darts_of (graph l.g)) (forest_of l.self) l.at
+decreases-loop-d l = level_of (darts_of l.g.graph) (forest_of l.self) l.at

@@ -1,11 +1,10 @@
 use Rattle.std.proofs.Common.{◌+◌, ◌-◌}
-use Rattle.def_matching.specs.Matching.{graph}
 use Rattle.def_forest.specs.{Darts.darts_of, Tables.forest_of}
 use Rattle.forest_laws.specs.Climbing.{IsClimbing}
 use Rattle.qm_forest.proofs.forest.Forest.fork.Given as goal
 
 abbrev pub invariant-loop-x : goal.invariant-loop-x
-invariant-loop-x l = IsClimbing (darts_of (graph l.g)) (forest_of l.self) l.a l.c l.x l.y l.left l.right
+invariant-loop-x l = IsClimbing (darts_of l.g.graph) (forest_of l.self) l.a l.c l.x l.y l.left l.right
 
 abbrev pub decreases-loop-x : goal.decreases-loop-x
 decreases-loop-x l = (l.high - l.left) + (l.low - l.right)

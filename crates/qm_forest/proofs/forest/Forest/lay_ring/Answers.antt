@@ -1,13 +1,12 @@
 use Rattle.std.proofs.Common.{◌∙◌, ap}
-use Rattle.def_matching.specs.Matching.{graph}
 use Rattle.def_forest.specs.{Darts.darts_of, Tables.forest_of}
 use Rattle.qm_forest.proofs.{Layings.laid_whole, OnWays.near_in}
 use Rattle.qm_forest.proofs.forest.Forest.lay_ring.Goals as goal
 
 pub outermost-a-requires : goal.outermost-a-requires
-outermost-a-requires c = near_in c.requires.graph c.requires.valid c.args.start c.requires.start c.near.ensures
+outermost-a-requires c = near_in c.args.g.now.small c.requires.valid c.args.start c.requires.start c.near.ensures
 
 pub returns-clause-seen : goal.returns-clause-seen
-returns-clause-seen c = laid_whole (darts_of (graph c.args.g.now)) (forest_of c.args.self.now) c.args.start
+returns-clause-seen c = laid_whole (darts_of c.args.g.now.graph) (forest_of c.args.self.now) c.args.start
     c.args.fork.left c.args.fork.right (c.outermost-a.ensures.value ∙ ap (forest_of c.args.self.now).out c.near.ensures)
     c.far_blossom-c.ensures.value c.lay_down.ensures.seen c.lay.ensures.seen c.lay_up.ensures.seen

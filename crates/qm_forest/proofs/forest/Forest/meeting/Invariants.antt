@@ -1,5 +1,4 @@
 use Rattle.std.proofs.Common.{◌≤◌}
-use Rattle.def_matching.specs.Matching.{graph}
 use Rattle.def_forest.specs.{Darts.darts_of, Tables.forest_of}
 use Rattle.forest_laws.specs.Climbing.{level_of}
 use Rattle.qm_forest.specs.Rings.{HasClimbed}
@@ -7,9 +6,9 @@ use Rattle.qm_forest.proofs.forest.Forest.meeting.Given as goal
 
 abbrev pub invariant-loop-right : goal.invariant-loop-right
 invariant-loop-right l = record {
-  climbed : HasClimbed (darts_of (graph l.g)) (forest_of l.self) l.a l.at l.left;
+  climbed : HasClimbed (darts_of l.g.graph) (forest_of l.self) l.a l.at l.left;
   some : 1 ≤ l.reach;
 }
 
 abbrev pub decreases-loop-right : goal.decreases-loop-right
-decreases-loop-right l = level_of (darts_of (graph l.g)) (forest_of l.self) l.at
+decreases-loop-right l = level_of (darts_of l.g.graph) (forest_of l.self) l.at

@@ -1,5 +1,4 @@
 use Rattle.std.proofs.Common.{◌<◌, ℕ, List, length, Some, ◌∙◌, sym, ap, subst, arith}
-use Rattle.def_matching.specs.Matching.{graph}
 use Rattle.def_forest.specs.{Darts.darts_of, Darts.far, Forests.Forest, Forests.set_at, Tables.forest_of}
 use Rattle.qm_forest.proofs.OnWays.{way_begins, way_goes_on, way_shorter, way_low, way_ends, old_low, up_low, twin_dart}
 use Rattle.qm_forest.proofs.OnWays.{near_in, remated_more, out_same, link_same, same_nest, seen_own}
@@ -7,12 +6,12 @@ use Rattle.qm_forest.proofs.forest.Forest.rematch.Goals as goal
 
 pub loop-old-init : goal.loop-old-init
 loop-old-init c = record {
-  way = way_begins c.requires.graph c.requires.valid c.requires.reaches c.requires.free
+  way = way_begins c.args.g.now.small c.requires.valid c.requires.reaches c.requires.free
       (ap (λ (f : Forest). f.mate) c.set_mate.ensures.seen ∙ (ap (λ b. set_at (forest_of c.args.self.now).mate b
       (Some c.twin-2.result)) (c.outermost-reached.ensures.value ∙ ap (forest_of c.args.self.now).out
-      (c.near.ensures ∙ ap (darts_of (graph c.args.g.now)).near c.twin.ensures))
+      (c.near.ensures ∙ ap (darts_of c.args.g.now.graph).near c.twin.ensures))
       ∙ ap (λ d. set_at (forest_of c.args.self.now).mate ((forest_of c.args.self.now).out
-      (far (darts_of (graph c.args.g.now)) c.args.start)) (Some d)) c.twin-2.ensures))
+      (far (darts_of c.args.g.now.graph) c.args.start)) (Some d)) c.twin-2.ensures))
       (c.outermost-at.ensures.value ∙ (ap (λ (f : Forest). f.out c.near-2.result) c.set_mate.ensures.seen
       ∙ ap (forest_of c.args.self.now).out c.near-2.ensures));
   seen = seen_own c.args.self.now c.set_mate.new.self _ c.set_mate.ensures.seen;
@@ -54,7 +53,7 @@ twin-requires-in-Some-2 c = omega (
       (c.outermost-inner.ensures.value ∙ (out_same (forest_of c.args.self.now) _ c.near-in-Some.result
       (remated_more (forest_of c.args.self.now) (forest_of c.loop-old.self).mate c.loop-old.at _
       c.loop-old.invariant.seen c.set_mate-in-Some.ensures.seen) ∙ ap (forest_of c.args.self.now).out
-      (c.near-in-Some.ensures ∙ ap (darts_of (graph c.args.g.now)).near c.twin-in-Some.ensures)))
+      (c.near-in-Some.ensures ∙ ap (darts_of c.args.g.now.graph).near c.twin-in-Some.ensures)))
       (c.link-up.ensures ∙ link_same (forest_of c.args.self.now) _ c.outermost-inner.result
       (remated_more (forest_of c.args.self.now) (forest_of c.loop-old.self).mate c.loop-old.at _
       c.loop-old.invariant.seen c.set_mate-in-Some.ensures.seen))),
@@ -66,7 +65,7 @@ near-requires-in-Some-2 c = (twin_dart c.loop-old.invariant.way.is c.link-up.res
     (c.outermost-inner.ensures.value ∙ (out_same (forest_of c.args.self.now) _ c.near-in-Some.result
     (remated_more (forest_of c.args.self.now) (forest_of c.loop-old.self).mate c.loop-old.at _ c.loop-old.invariant.seen
     c.set_mate-in-Some.ensures.seen) ∙ ap (forest_of c.args.self.now).out
-    (c.near-in-Some.ensures ∙ ap (darts_of (graph c.args.g.now)).near c.twin-in-Some.ensures)))
+    (c.near-in-Some.ensures ∙ ap (darts_of c.args.g.now.graph).near c.twin-in-Some.ensures)))
     (c.link-up.ensures ∙ link_same (forest_of c.args.self.now) _ c.outermost-inner.result
     (remated_more (forest_of c.args.self.now) (forest_of c.loop-old.self).mate c.loop-old.at _ c.loop-old.invariant.seen
     c.set_mate-in-Some.ensures.seen))) c.twin-in-Some-2.ensures)
@@ -80,7 +79,7 @@ outermost-at-requires-in-Some c = subst (λ (xs : List ℕ). c.near-in-Some-2.re
     (c.outermost-inner.ensures.value ∙ (out_same (forest_of c.args.self.now) _ c.near-in-Some.result
     (remated_more (forest_of c.args.self.now) (forest_of c.loop-old.self).mate c.loop-old.at _ c.loop-old.invariant.seen
     c.set_mate-in-Some.ensures.seen) ∙ ap (forest_of c.args.self.now).out
-    (c.near-in-Some.ensures ∙ ap (darts_of (graph c.args.g.now)).near c.twin-in-Some.ensures)))
+    (c.near-in-Some.ensures ∙ ap (darts_of c.args.g.now.graph).near c.twin-in-Some.ensures)))
     (c.link-up.ensures ∙ link_same (forest_of c.args.self.now) _ c.outermost-inner.result
     (remated_more (forest_of c.args.self.now) (forest_of c.loop-old.self).mate c.loop-old.at _ c.loop-old.invariant.seen
     c.set_mate-in-Some.ensures.seen))) c.twin-in-Some-2.ensures) c.near-in-Some-2.ensures)
@@ -93,7 +92,7 @@ twin-next-requires c = omega (
       (c.outermost-inner.ensures.value ∙ (out_same (forest_of c.args.self.now) _ c.near-in-Some.result
       (remated_more (forest_of c.args.self.now) (forest_of c.loop-old.self).mate c.loop-old.at _
       c.loop-old.invariant.seen c.set_mate-in-Some.ensures.seen) ∙ ap (forest_of c.args.self.now).out
-      (c.near-in-Some.ensures ∙ ap (darts_of (graph c.args.g.now)).near c.twin-in-Some.ensures)))
+      (c.near-in-Some.ensures ∙ ap (darts_of c.args.g.now.graph).near c.twin-in-Some.ensures)))
       (c.link-up.ensures ∙ link_same (forest_of c.args.self.now) _ c.outermost-inner.result
       (remated_more (forest_of c.args.self.now) (forest_of c.loop-old.self).mate c.loop-old.at _
       c.loop-old.invariant.seen c.set_mate-in-Some.ensures.seen))),
@@ -104,7 +103,7 @@ loop-old-smaller c = way_shorter c.loop-old.invariant.way c.in-Some.old (sym c.m
     (c.outermost-inner.ensures.value ∙ (out_same (forest_of c.args.self.now) _ c.near-in-Some.result
     (remated_more (forest_of c.args.self.now) (forest_of c.loop-old.self).mate
     c.loop-old.at _ c.loop-old.invariant.seen c.set_mate-in-Some.ensures.seen)
-    ∙ ap (forest_of c.args.self.now).out (c.near-in-Some.ensures ∙ ap (darts_of (graph c.args.g.now)).near
+    ∙ ap (forest_of c.args.self.now).out (c.near-in-Some.ensures ∙ ap (darts_of c.args.g.now.graph).near
     c.twin-in-Some.ensures))) (c.link-up.ensures ∙ link_same (forest_of c.args.self.now) _ c.outermost-inner.result
     (remated_more (forest_of c.args.self.now) (forest_of c.loop-old.self).mate
     c.loop-old.at _ c.loop-old.invariant.seen c.set_mate-in-Some.ensures.seen))
@@ -112,7 +111,7 @@ loop-old-smaller c = way_shorter c.loop-old.invariant.way c.in-Some.old (sym c.m
     (remated_more (forest_of c.args.self.now) _ c.outermost-inner.result _
     (remated_more (forest_of c.args.self.now) (forest_of c.loop-old.self).mate
     c.loop-old.at _ c.loop-old.invariant.seen c.set_mate-in-Some.ensures.seen) c.set_mate-in-Some-2.ensures.seen)
-    ∙ ap (forest_of c.args.self.now).out (c.near-in-Some-2.ensures ∙ ap (darts_of (graph c.args.g.now)).near
+    ∙ ap (forest_of c.args.self.now).out (c.near-in-Some-2.ensures ∙ ap (darts_of c.args.g.now.graph).near
     c.twin-in-Some-2.ensures)))
 
 pub loop-old-preserved : goal.loop-old-preserved
@@ -121,7 +120,7 @@ loop-old-preserved c = record {
       (c.outermost-inner.ensures.value ∙ (out_same (forest_of c.args.self.now) _ c.near-in-Some.result
       (remated_more (forest_of c.args.self.now) (forest_of c.loop-old.self).mate
       c.loop-old.at _ c.loop-old.invariant.seen c.set_mate-in-Some.ensures.seen)
-      ∙ ap (forest_of c.args.self.now).out (c.near-in-Some.ensures ∙ ap (darts_of (graph c.args.g.now)).near
+      ∙ ap (forest_of c.args.self.now).out (c.near-in-Some.ensures ∙ ap (darts_of c.args.g.now.graph).near
       c.twin-in-Some.ensures))) (c.link-up.ensures ∙ link_same (forest_of c.args.self.now) _ c.outermost-inner.result
       (remated_more (forest_of c.args.self.now) (forest_of c.loop-old.self).mate
       c.loop-old.at _ c.loop-old.invariant.seen c.set_mate-in-Some.ensures.seen))
@@ -129,7 +128,7 @@ loop-old-preserved c = record {
       (remated_more (forest_of c.args.self.now) _ c.outermost-inner.result _
       (remated_more (forest_of c.args.self.now) (forest_of c.loop-old.self).mate
       c.loop-old.at _ c.loop-old.invariant.seen c.set_mate-in-Some.ensures.seen) c.set_mate-in-Some-2.ensures.seen)
-      ∙ ap (forest_of c.args.self.now).out (c.near-in-Some-2.ensures ∙ ap (darts_of (graph c.args.g.now)).near
+      ∙ ap (forest_of c.args.self.now).out (c.near-in-Some-2.ensures ∙ ap (darts_of c.args.g.now.graph).near
       c.twin-in-Some-2.ensures))) c.twin-next.ensures (ap (λ (f : Forest). f.mate)
       (remated_more (forest_of c.args.self.now) _ c.outermost-inner.result _
       (remated_more (forest_of c.args.self.now) (forest_of c.loop-old.self).mate

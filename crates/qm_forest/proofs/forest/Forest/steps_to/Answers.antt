@@ -1,26 +1,25 @@
 use Rattle.std.proofs.Common.{◌∙◌, sym, arith}
-use Rattle.def_matching.specs.Matching.{graph}
 use Rattle.qm_forest.proofs.Increases.{named_low, rise_low, far_level, far_way, climbed_named}
 use Rattle.qm_forest.proofs.forest.Forest.steps_to.Goals as goal
 
 pub rise-requires : goal.rise-requires
-rise-requires c = named_low (graph c.args.g.now) c.requires.graph c.args.self.now c.requires.valid c.loop-at.at
-    (climbed_named (graph c.args.g.now) c.requires.graph c.args.self.now c.requires.valid c.requires.named
+rise-requires c = named_low _ c.args.g.now.small _ c.requires.valid c.loop-at.at
+    (climbed_named _ c.args.g.now.small _ c.requires.valid c.requires.named
     c.loop-at.invariant)
 
 pub far_blossom-at-requires-clause-dart : goal.far_blossom-at-requires-clause-dart
-far_blossom-at-requires-clause-dart c = rise_low (graph c.args.g.now) c.requires.graph c.args.self.now c.requires.valid
-    c.loop-at.at (climbed_named (graph c.args.g.now) c.requires.graph c.args.self.now c.requires.valid c.requires.named
+far_blossom-at-requires-clause-dart c = rise_low _ c.args.g.now.small _ c.requires.valid
+    c.loop-at.at (climbed_named _ c.args.g.now.small _ c.requires.valid c.requires.named
     c.loop-at.invariant) c.in-Some.d (sym c.rise.ensures.value ∙ c.in-Some.is)
 
 pub loop-at-smaller : goal.loop-at-smaller
 loop-at-smaller c = omega (
   arith,
-  (far_level (graph c.args.g.now) c.requires.graph c.args.self.now c.requires.valid c.loop-at.at
-      (climbed_named (graph c.args.g.now) c.requires.graph c.args.self.now c.requires.valid c.requires.named
+  (far_level _ c.args.g.now.small _ c.requires.valid c.loop-at.at
+      (climbed_named _ c.args.g.now.small _ c.requires.valid c.requires.named
       c.loop-at.invariant) c.in-Some.d (sym c.rise.ensures.value ∙ c.in-Some.is) c.far_blossom-at.ensures.value).1,
 )
 
 pub loop-at-preserved : goal.loop-at-preserved
-loop-at-preserved c = far_way (graph c.args.g.now) c.requires.graph c.args.self.now c.requires.valid c.requires.named
+loop-at-preserved c = far_way _ c.args.g.now.small _ c.requires.valid c.requires.named
     c.in-Some.d c.loop-at.invariant (sym c.rise.ensures.value ∙ c.in-Some.is) c.far_blossom-at.ensures.value

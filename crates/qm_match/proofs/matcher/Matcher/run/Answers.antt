@@ -1,20 +1,19 @@
 use Rattle.std.proofs.Common.{ℕ, ◌≤◌, ◌∙◌, length, subst, sym}
 use Rattle.std.specs.Prelude.{unsigned_abs}
-use Rattle.def_matching.specs.Matching.{graph}
 use Rattle.def_forest.specs.{Tables.ForestTables, Tables.forest_of, Made.IsMadeFor}
 use Rattle.qm_match.proofs.{Outcomes.increasing_low, Outcomes.run_bounded, Ready.ready_idle}
 use Rattle.qm_match.proofs.matcher.Matcher.run.Goals as goal
 
 pub match_tight-requires-clause-idle : goal.match_tight-requires-clause-idle
-match_tight-requires-clause-idle c = ready_idle c.requires.small c.requires.cheap c.self.invariant
-    (subst (λ (t : ForestTables). IsMadeFor (graph c.args.g.now) t) (sym c.self.view_is) c.requires.made)
+match_tight-requires-clause-idle c = ready_idle c.args.g.now.small c.requires.cheap c.self.invariant
+    (subst (λ (t : ForestTables). IsMadeFor c.args.g.now.graph t) (sym c.self.view_is) c.requires.made)
 
 pub match_tight-requires-clause-known : goal.match_tight-requires-clause-known
-match_tight-requires-clause-known c = increasing_low 0 (length c.args.g.now.edges.items) c.args.known.now
+match_tight-requires-clause-known c = increasing_low 0 (length c.args.g.now.graph.edges) c.args.known.now
     c.requires.known.increasing
 
 pub returns-clause-bounded : goal.returns-clause-bounded
-returns-clause-bounded c = λ first most each costs. run_bounded (graph c.args.g.now) c.match_all.new.self
+returns-clause-bounded c = λ first most each costs. run_bounded c.args.g.now.graph c.match_all.new.self
     c.self.invariant (c.match_all.ensures.first ∙ c.match_tight.ensures.first) first most
     (subst (λ (t : ForestTables). (b : ℕ) → unsigned_abs ((forest_of t).weight b) ≤ first) (sym c.self.view_is) each)
     (c.into_parts.ensures.bounded most costs)

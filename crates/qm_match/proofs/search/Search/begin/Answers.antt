@@ -1,5 +1,4 @@
 use Rattle.std.proofs.Common.{◌∙◌, sym, subst, ap}
-use Rattle.def_matching.specs.Matching.{graph}
 use Rattle.def_forest.specs.{Forests.Forest, Tables.IsValidFor}
 use Rattle.qm_match.specs.States.{IsFreshAt}
 use Rattle.qm_match.proofs.Taken.{begun_seeking, begun_way, made_after, may_vertex, right_in}
@@ -7,25 +6,25 @@ use Rattle.qm_match.proofs.search.Search.begin.Goals as goal
 
 pub refresh-requires : goal.refresh-requires
 refresh-requires c =
-    let valid : IsValidFor (graph c.args.g.now) c.root.new.self =
-    c.root.ensures.valid (graph c.args.g.now) c.requires.idle.made.small.lawful c.requires.idle.valid in
+    let valid : IsValidFor c.args.g.now.graph c.root.new.self =
+    c.root.ensures.valid c.args.g.now.graph c.requires.idle.made.small.lawful c.requires.idle.valid in
     may_vertex c.args.v (made_after c.root.new.self c.requires.idle.made
     (ap (λ (f : Forest). f.size) c.root.ensures.changed)) valid c.requires.vertex
     (ap (λ (f : Forest). f.out c.args.v) c.root.ensures.changed ∙ sym c.outermost-b.ensures.value)
 
 pub returns-clause-way : goal.returns-clause-way
 returns-clause-way c =
-    let valid : IsValidFor (graph c.args.g.now) c.root.new.self =
-    c.root.ensures.valid (graph c.args.g.now) c.requires.idle.made.small.lawful c.requires.idle.valid in
-    begun_way (graph c.args.g.now) c.args.self.now c.root.new.self c.refresh.new.self c.args.v c.requires.idle valid
+    let valid : IsValidFor c.args.g.now.graph c.root.new.self =
+    c.root.ensures.valid c.args.g.now.graph c.requires.idle.made.small.lawful c.requires.idle.valid in
+    begun_way c.args.g.now.graph c.args.self.now c.root.new.self c.refresh.new.self c.args.v c.requires.idle valid
     c.refresh.ensures.refreshed c.root.ensures.changed c.root.ensures.root
     (right_in c.args.self.now c.root.new.self c.refresh.ensures.refreshed
-    (subst (λ x. IsFreshAt (graph c.args.g.now) c.refresh.new.self x) c.outermost-b.ensures.value
+    (subst (λ x. IsFreshAt c.args.g.now.graph c.refresh.new.self x) c.outermost-b.ensures.value
     c.refresh.ensures.here))
 
 pub returns-clause-seeking : goal.returns-clause-seeking
 returns-clause-seeking c =
-    let valid : IsValidFor (graph c.args.g.now) c.root.new.self =
-    c.root.ensures.valid (graph c.args.g.now) c.requires.idle.made.small.lawful c.requires.idle.valid in
-    begun_seeking (graph c.args.g.now) c.args.self.now c.root.new.self c.refresh.new.self c.args.v c.requires.idle valid
+    let valid : IsValidFor c.args.g.now.graph c.root.new.self =
+    c.root.ensures.valid c.args.g.now.graph c.requires.idle.made.small.lawful c.requires.idle.valid in
+    begun_seeking c.args.g.now.graph c.args.self.now c.root.new.self c.refresh.new.self c.args.v c.requires.idle valid
     c.refresh.ensures.refreshed c.root.ensures.changed c.requires.vertex c.requires.before c.root.ensures.root

@@ -1,4 +1,4 @@
-use Rattle.def_matching.specs.{Matching.graph, Dual.dual}
+use Rattle.def_matching.specs.{Dual.dual}
 use Rattle.qm_match.proofs.Outcomes.{bounded_dual, met_verdict, small_dual}
 use Rattle.qm_match.proofs.search.Search.into_parts.Goals as goal
 
@@ -10,6 +10,6 @@ returns-clause-bounded c = bounded_dual c.requires.idle
     c.requires.known c.into_parts.ensures.dual c.into_parts.ensures.few
 
 pub returns-clause-least : goal.returns-clause-least
-returns-clause-least c = met_verdict (c.into_parts.ensures.yes (graph c.args.g.now) c.requires.idle.made.small
-    c.requires.idle.valid) (c.into_parts.ensures.perfect (graph c.args.g.now) c.requires.idle.made.small
+returns-clause-least c = met_verdict (c.into_parts.ensures.yes c.args.g.now.graph c.requires.idle.made.small
+    c.requires.idle.valid) (c.into_parts.ensures.perfect c.args.g.now.graph c.requires.idle.made.small
     c.requires.idle.valid c.requires.all).1

@@ -1,5 +1,4 @@
 use Rattle.std.proofs.Common.{◌≡◌}
-use Rattle.def_matching.specs.Matching.{graph}
 use Rattle.def_forest.specs.Tables.{forest_of}
 use Rattle.search_laws.specs.Searches.{AreMatchedBefore}
 use Rattle.qm_match.specs.States.{IsIdle}
@@ -7,7 +6,7 @@ use Rattle.qm_match.proofs.search.Search.match_all.Given as goal
 
 abbrev pub invariant-loop-v : goal.invariant-loop-v
 invariant-loop-v l = record {
-  idle : IsIdle (graph l.g) l.self;
+  idle : IsIdle l.g.graph l.self;
   done : AreMatchedBefore (forest_of l.self.forest) l.v;
   first : l.self.first ≡ l.fn.self.first;
 }

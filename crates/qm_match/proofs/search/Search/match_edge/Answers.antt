@@ -1,29 +1,22 @@
 use Rattle.std.proofs.Common.{refl, ◌≡◌, ◌∙◌, pos, None, Option, ℕ, subst, ap}
-use Rattle.std.proofs.lemmas.List.{get_or_read}
-use Rattle.def_matching.specs.{Matching.edge_at, Matching.graph, declared.weighted.WEdge.WEdge}
+use Rattle.def_matching.specs.{Matching.graph, declared.weighted.WEdge.WEdge}
 use Rattle.def_forest.specs.{Darts.darts_of, Forests.Forest, Steps.rooted, Tables.forest_of, Tables.edge_kind}
 use Rattle.def_forest.specs.Valid.{IsValid}
 use Rattle.qm_match.proofs.Ready.{free_augments, matched_idle}
 use Rattle.qm_match.proofs.search.Search.match_edge.Goals as goal
 
 pub augment-requires-clause-valid : goal.augment-requires-clause-valid
-augment-requires-clause-valid c = c.root.ensures.valid (graph c.args.g.now) c.requires.idle.made.small.lawful
+augment-requires-clause-valid c = c.root.ensures.valid c.args.g.now.graph c.requires.idle.made.small.lawful
     c.requires.idle.valid
 
 pub augment-requires-clause-kind : goal.augment-requires-clause-kind
 augment-requires-clause-kind c =
-    let edge : c.index.result.now ≡ edge_at (graph c.args.g.now) c.args.e =
-    get_or_read c.args.g.now.edges.items c.args.e _ c.requires.edge c.index.ensures (record {
-      u = 0;
-      v = 0;
-      cost = pos 0;
-    }) in
-    let valid : IsValid (darts_of (graph c.args.g.now)) (forest_of c.args.self.now.forest) None =
-    subst (λ (o : Option ℕ). IsValid (darts_of (graph c.args.g.now)) (forest_of c.args.self.now.forest) o)
+    let valid : IsValid (darts_of c.args.g.now.graph) (forest_of c.args.self.now.forest) None =
+    subst (λ (o : Option ℕ). IsValid (darts_of c.args.g.now.graph) (forest_of c.args.self.now.forest) o)
     c.requires.idle.no_tree c.requires.idle.valid.valid in
-    ap (λ (f : Forest). edge_kind (graph c.args.g.now) f c.args.e) (c.root.ensures.changed
-    ∙ ap (λ (x : WEdge). rooted (forest_of c.args.self.now.forest) ((forest_of c.args.self.now.forest).out x.u)) edge)
-    ∙ free_augments valid c.requires.free
+    ap (λ (f : Forest). edge_kind c.args.g.now.graph f c.args.e) (c.root.ensures.changed
+    ∙ ap (λ (x : WEdge). rooted (forest_of c.args.self.now.forest) ((forest_of c.args.self.now.forest).out x.u))
+    c.edge.ensures.value) ∙ free_augments valid c.requires.free
 
 pub returns : goal.returns
 returns c = record {

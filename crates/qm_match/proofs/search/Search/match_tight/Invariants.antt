@@ -1,13 +1,12 @@
 use Rattle.std.proofs.Common.{◌≡◌}
-use Rattle.def_matching.specs.Matching.{graph}
 use Rattle.qm_match.specs.States.{IsIdle}
 use Rattle.qm_match.proofs.search.Search.match_tight.Given as goal
 
 abbrev pub invariant-loop-e : goal.invariant-loop-e
-invariant-loop-e l = record { idle : IsIdle (graph l.g) l.self; first : l.self.first ≡ l.fn.self.first }
+invariant-loop-e l = record { idle : IsIdle l.g.graph l.self; first : l.self.first ≡ l.fn.self.first }
 
 abbrev pub invariant-loop-e-2 : goal.invariant-loop-e-2
-invariant-loop-e-2 l = record { idle : IsIdle (graph l.g) l.self; first : l.self.first ≡ l.fn.self.first }
+invariant-loop-e-2 l = record { idle : IsIdle l.g.graph l.self; first : l.self.first ≡ l.fn.self.first }
 
 abbrev pub invariant-loop-e-3 : goal.invariant-loop-e-3
-invariant-loop-e-3 l = record { idle : IsIdle (graph l.g) l.self; first : l.self.first ≡ l.fn.self.first }
+invariant-loop-e-3 l = record { idle : IsIdle l.g.graph l.self; first : l.self.first ≡ l.fn.self.first }

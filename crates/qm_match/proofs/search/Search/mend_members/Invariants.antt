@@ -1,5 +1,4 @@
 use Rattle.std.proofs.Common.{◌≡◌, ℕ, ◌<◌, eqb, get_or}
-use Rattle.def_matching.specs.Matching.{graph}
 use Rattle.def_forest.specs.Tables.{forest_of}
 use Rattle.search_laws.specs.Keys.{AreRightAt, IsMended}
 use Rattle.qm_match.proofs.search.Search.mend_members.Given as goal
@@ -7,7 +6,7 @@ use Rattle.qm_match.proofs.search.Search.mend_members.Given as goal
 abbrev pub invariant-loop-k : goal.invariant-loop-k
 invariant-loop-k l = record {
   same : l.self ≡ record l.fn.self { tour = l.self.tour };
-  mended : IsMended (graph l.g) (forest_of l.fn.self.forest) l.fn.self.risen l.fn.self.tour l.self.tour;
-  done : (j : ℕ) → j < l.k → AreRightAt (graph l.g) (forest_of l.fn.self.forest) l.fn.self.risen l.self.tour
+  mended : IsMended l.g.graph (forest_of l.fn.self.forest) l.fn.self.risen l.fn.self.tour l.self.tour;
+  done : (j : ℕ) → j < l.k → AreRightAt l.g.graph (forest_of l.fn.self.forest) l.fn.self.risen l.self.tour
       (λ w. eqb w (get_or l.fn.self.members.items j 0));
 }

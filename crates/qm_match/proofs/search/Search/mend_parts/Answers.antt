@@ -1,6 +1,5 @@
 use Rattle.std.proofs.Common.{◌≡◌, suc, ◌+◌, ◌<◌, ◌∙◌, length, get_or, true, false, inl, inr, sym, subst, ap, arith}
 use Rattle.std.proofs.lemmas.Bool.{cases_lt}
-use Rattle.def_matching.specs.Matching.{graph}
 use Rattle.def_forest.specs.Tables.{forest_of}
 use Rattle.search_laws.specs.Keys.{AreRightAt, IsMended}
 use Rattle.qm_match.specs.{States.IsMade, States.MayRefresh, declared.search.Search.Search}
@@ -10,16 +9,16 @@ use Rattle.qm_match.proofs.search.Search.mend_parts.Goals as goal
 
 pub mend_marked-requires : goal.mend_marked-requires
 mend_marked-requires c =
-    let made : IsMade (graph c.args.g.now) c.loop.self = made_members
+    let made : IsMade c.args.g.now.graph c.loop.self = made_members
     c.requires.made c.loop.invariant.same c.loop.invariant.mended.size c.loop.invariant.room in
     may_part_in c.args.self.now c.args.set c.loop.counter made c.requires.valid c.requires.set
     c.requires.live (ap (λ (s : Search). s.forest) c.loop.invariant.same) c.loop.invariant.here
 
 pub next-part-requires : goal.next-part-requires
 next-part-requires c =
-    let made : IsMade (graph c.args.g.now) c.loop.self = made_members
+    let made : IsMade c.args.g.now.graph c.loop.self = made_members
     c.requires.made c.loop.invariant.same c.loop.invariant.mended.size c.loop.invariant.room in
-    let may : MayRefresh (graph c.args.g.now) c.loop.self c.loop.part = may_part_in c.args.self.now c.args.set
+    let may : MayRefresh c.args.g.now.graph c.loop.self c.loop.part = may_part_in c.args.self.now c.args.set
     c.loop.counter made c.requires.valid c.requires.set c.requires.live
     (ap (λ (s : Search). s.forest) c.loop.invariant.same) c.loop.invariant.here in
     subst (λ (s : Search). c.loop.part < length s.forest.up) (sym c.mend_marked.ensures.same) may.low
@@ -27,14 +26,14 @@ next-part-requires c =
 pub loop-preserved : goal.loop-preserved
 loop-preserved c =
     let one : suc c.loop.counter ≡ c.loop.counter + 1 = omega arith in
-    let mended : IsMended (graph c.args.g.now) (forest_of c.args.self.now.forest) c.args.self.now.risen c.loop.self.tour
-    c.mend_marked.new.self.tour = subst (λ (s : Search). IsMended (graph c.args.g.now) (forest_of s.forest) s.risen
+    let mended : IsMended c.args.g.now.graph (forest_of c.args.self.now.forest) c.args.self.now.risen c.loop.self.tour
+    c.mend_marked.new.self.tour = subst (λ (s : Search). IsMended c.args.g.now.graph (forest_of s.forest) s.risen
     c.loop.self.tour c.mend_marked.new.self.tour) c.loop.invariant.same c.mend_marked.ensures.mended in
     let right : get_or c.args.self.now.inner.items c.loop.part false ≡ true
-    → AreRightAt (graph c.args.g.now) (forest_of c.args.self.now.forest) c.args.self.now.risen
+    → AreRightAt c.args.g.now.graph (forest_of c.args.self.now.forest) c.args.self.now.risen
     c.mend_marked.new.self.tour ((forest_of c.args.self.now.forest).holds c.loop.part) =
     subst (λ (s : Search). get_or s.inner.items c.loop.part false ≡ true
-    → AreRightAt (graph c.args.g.now) (forest_of s.forest) s.risen c.mend_marked.new.self.tour
+    → AreRightAt c.args.g.now.graph (forest_of s.forest) s.risen c.mend_marked.new.self.tour
     ((forest_of s.forest).holds c.loop.part)) c.loop.invariant.same c.mend_marked.ensures.right in
     record {
       same = members_twice c.args.self.now c.loop.invariant.same c.mend_marked.ensures.same;
@@ -43,15 +42,15 @@ loop-preserved c =
           ∙ (ap (λ (s : Search). get_or s.forest.after c.loop.part 0) c.loop.invariant.same
           ∙ (ap (λ p. get_or c.args.self.now.forest.after p 0) c.loop.invariant.here
           ∙ ap (part_of c.args.self.now.forest c.args.set) one)));
-      mended = mended_on (graph c.args.g.now) (forest_of c.args.self.now.forest) c.args.self.now.risen
+      mended = mended_on c.args.g.now.graph (forest_of c.args.self.now.forest) c.args.self.now.risen
           c.loop.invariant.mended mended;
       right = λ k l. elim (cases_lt k c.loop.counter) [
-        | inl lt ↦ (λ mark. stay_right (graph c.args.g.now) (forest_of c.args.self.now.forest) c.args.self.now.risen
+        | inl lt ↦ (λ mark. stay_right c.args.g.now.graph (forest_of c.args.self.now.forest) c.args.self.now.risen
             ((forest_of c.args.self.now.forest).holds (part_of c.args.self.now.forest c.args.set k)) mended
             (c.loop.invariant.right k lt mark))
         | inr ge ↦ (let e : c.loop.counter ≡ k = omega (arith, ge, l) in
             subst (λ p. get_or c.args.self.now.inner.items p false ≡ true
-            → AreRightAt (graph c.args.g.now) (forest_of c.args.self.now.forest) c.args.self.now.risen
+            → AreRightAt c.args.g.now.graph (forest_of c.args.self.now.forest) c.args.self.now.risen
             c.mend_marked.new.self.tour ((forest_of c.args.self.now.forest).holds p)) (c.loop.invariant.here
             ∙ ap (part_of c.args.self.now.forest c.args.set) e) right)
       ];

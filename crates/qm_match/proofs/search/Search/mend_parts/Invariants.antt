@@ -1,6 +1,5 @@
 use Rattle.std.proofs.Common.{◌≡◌, ℕ, ◌<◌, ◌≤◌, get_or, true, false}
 use Rattle.std.specs.Vec.{vec_capacity}
-use Rattle.def_matching.specs.Matching.{graph}
 use Rattle.def_forest.specs.Tables.{forest_of}
 use Rattle.search_laws.specs.Keys.{AreRightAt, IsMended}
 use Rattle.qm_match.proofs.Taken.{part_of}
@@ -9,10 +8,10 @@ use Rattle.qm_match.proofs.search.Search.mend_parts.Given as goal
 abbrev pub invariant-loop : goal.invariant-loop
 invariant-loop l = record {
   same : l.self ≡ record l.fn.self { tour = l.self.tour; members = l.self.members };
-  room : l.g.n ≤ vec_capacity l.self.members;
+  room : l.g.graph.n ≤ vec_capacity l.self.members;
   here : l.part ≡ part_of l.fn.self.forest l.set l.counter;
-  mended : IsMended (graph l.g) (forest_of l.fn.self.forest) l.fn.self.risen l.fn.self.tour l.self.tour;
+  mended : IsMended l.g.graph (forest_of l.fn.self.forest) l.fn.self.risen l.fn.self.tour l.self.tour;
   right : (k : ℕ) → k < l.counter → get_or l.fn.self.inner.items (part_of l.fn.self.forest l.set k) false ≡ true
-      → AreRightAt (graph l.g) (forest_of l.fn.self.forest) l.fn.self.risen l.self.tour
+      → AreRightAt l.g.graph (forest_of l.fn.self.forest) l.fn.self.risen l.self.tour
       ((forest_of l.fn.self.forest).holds (part_of l.fn.self.forest l.set k));
 }

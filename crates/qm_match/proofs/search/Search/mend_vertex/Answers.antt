@@ -1,7 +1,6 @@
 use Rattle.std.proofs.Common.{◌≡◌, ℕ, ◌-◌, ◌/◌, ◌<◌, ◌⊎◌, ◌∙◌, List, length, get_or, sym, ap, subst, arith}
 use Rattle.std.proofs.Math.ListN.{set}
 use Rattle.std.proofs.lemmas.List.{get_or_read}
-use Rattle.def_matching.specs.Matching.{graph}
 use Rattle.def_forest.specs.Tables.{forest_of}
 use Rattle.search_laws.specs.Keys.{true_key}
 use Rattle.qm_match.specs.{Fans.IsOn, States.IsMade, declared.search.Search.Search}
@@ -9,7 +8,7 @@ use Rattle.qm_match.proofs.Mended.{chain_mended, keys_twice, made_with, mended_o
 use Rattle.qm_match.proofs.search.Search.mend_vertex.Goals as goal
 
 pub mend-requires-clause-made : goal.mend-requires-clause-made
-mend-requires-clause-made c = subst (λ (s : Search). IsMade (graph c.args.g.now) s) (sym c.loop-entry.invariant.same)
+mend-requires-clause-made c = subst (λ (s : Search). IsMade c.args.g.now.graph s) (sym c.loop-entry.invariant.same)
     (made_with c.loop-entry.self.tour c.requires.made c.loop-entry.invariant.mended.size)
 
 pub loop-entry-smaller : goal.loop-entry-smaller
@@ -37,10 +36,10 @@ loop-entry-preserved c =
     0 = get_or_read c.mend.new.self.fans.next.items (c.loop-entry.entry - 1) _ low
     c.index-entry-in-loop-entry.ensures 0 ∙ ap (λ (xs : List ℕ). get_or xs (c.loop-entry.entry - 1) 0) fans_is in
     let tour_is : c.mend.new.self.tour ≡ set c.loop-entry.self.tour ((c.loop-entry.entry - 1) / 2)
-    (true_key (graph c.args.g.now) (forest_of c.args.self.now.forest) c.args.self.now.risen
+    (true_key c.args.g.now.graph (forest_of c.args.self.now.forest) c.args.self.now.risen
     ((c.loop-entry.entry - 1) / 2)) = ap (λ (s : Search). s.tour) c.mend.ensures
     ∙ ap (λ (s : Search). set c.loop-entry.self.tour ((c.loop-entry.entry - 1) / 2)
-    (true_key (graph c.args.g.now) (forest_of s.forest) s.risen ((c.loop-entry.entry - 1) / 2)))
+    (true_key c.args.g.now.graph (forest_of s.forest) s.risen ((c.loop-entry.entry - 1) / 2)))
     c.loop-entry.invariant.same in
     let leaf : (c.loop-entry.entry - 1) / 2 < length c.loop-entry.self.tour = omega (
       arith,
@@ -58,13 +57,13 @@ loop-entry-preserved c =
         c.loop-entry.invariant.low,
         c.loop-entry-test.true,
       );
-      mended = mended_on (graph c.args.g.now) (forest_of c.args.self.now.forest) c.args.self.now.risen
-          c.loop-entry.invariant.mended (mended_one (graph c.args.g.now) (forest_of c.args.self.now.forest)
+      mended = mended_on c.args.g.now.graph (forest_of c.args.self.now.forest) c.args.self.now.risen
+          c.loop-entry.invariant.mended (mended_one c.args.g.now.graph (forest_of c.args.self.now.forest)
           c.args.self.now.risen c.loop-entry.self.tour c.mend.new.self.tour ((c.loop-entry.entry - 1) / 2) leaf
           tour_is);
       done = λ x on. subst (λ y. (get_or c.mend.new.self.tour (x / 2) 0
-          ≡ true_key (graph c.args.g.now) (forest_of c.args.self.now.forest) c.args.self.now.risen (x / 2))
-          ⊎ IsOn c.args.self.now.fans.next.items y x) (sym read) (chain_mended (graph c.args.g.now)
+          ≡ true_key c.args.g.now.graph (forest_of c.args.self.now.forest) c.args.self.now.risen (x / 2))
+          ⊎ IsOn c.args.self.now.fans.next.items y x) (sym read) (chain_mended c.args.g.now.graph
           (forest_of c.args.self.now.forest) c.args.self.now.risen c.args.self.now.fans.next.items
           c.loop-entry.self.tour c.loop-entry.entry (c.loop-entry.entry - 1) _
           (omega (arith, c.loop-entry-test.true)) leaf tour_is c.loop-entry.invariant.done x on);
@@ -73,8 +72,8 @@ loop-entry-preserved c =
 pub returns-clause-right : goal.returns-clause-right
 returns-clause-right c =
     let zero_is : c.loop-entry.entry ≡ 0 = omega (arith, c.loop-entry-test.false) in
-    vertex_right (graph c.args.g.now) (forest_of c.args.self.now.forest) c.args.self.now.risen
+    vertex_right c.args.g.now.graph (forest_of c.args.self.now.forest) c.args.self.now.risen
     c.args.self.now.fans.first.items c.args.self.now.fans.next.items c.loop-entry.self.tour c.args.v
     c.requires.made.fans (λ x on. subst (λ y. (get_or c.loop-entry.self.tour (x / 2) 0
-    ≡ true_key (graph c.args.g.now) (forest_of c.args.self.now.forest) c.args.self.now.risen (x / 2))
+    ≡ true_key c.args.g.now.graph (forest_of c.args.self.now.forest) c.args.self.now.risen (x / 2))
     ⊎ IsOn c.args.self.now.fans.next.items y x) zero_is (c.loop-entry.invariant.done x on))

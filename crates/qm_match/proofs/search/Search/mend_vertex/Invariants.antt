@@ -1,5 +1,4 @@
 use Rattle.std.proofs.Common.{◌≡◌, ℕ, ◌*◌, ◌/◌, ◌≤◌, ◌⊎◌, length, get_or}
-use Rattle.def_matching.specs.Matching.{graph}
 use Rattle.def_forest.specs.Tables.{forest_of}
 use Rattle.search_laws.specs.Keys.{true_key, IsMended}
 use Rattle.qm_match.specs.Fans.{IsOn}
@@ -8,10 +7,10 @@ use Rattle.qm_match.proofs.search.Search.mend_vertex.Given as goal
 abbrev pub invariant-loop-entry : goal.invariant-loop-entry
 invariant-loop-entry l = record {
   same : l.self ≡ record l.fn.self { tour = l.self.tour };
-  low : l.entry ≤ 2 * length l.g.edges.items;
-  mended : IsMended (graph l.g) (forest_of l.fn.self.forest) l.fn.self.risen l.fn.self.tour l.self.tour;
+  low : l.entry ≤ 2 * length l.g.graph.edges;
+  mended : IsMended l.g.graph (forest_of l.fn.self.forest) l.fn.self.risen l.fn.self.tour l.self.tour;
   done : (x : ℕ) → IsOn l.fn.self.fans.next.items (get_or l.fn.self.fans.first.items l.v 0) x
-      → (get_or l.self.tour (x / 2) 0 ≡ true_key (graph l.g) (forest_of l.fn.self.forest) l.fn.self.risen (x / 2))
+      → (get_or l.self.tour (x / 2) 0 ≡ true_key l.g.graph (forest_of l.fn.self.forest) l.fn.self.risen (x / 2))
       ⊎ IsOn l.fn.self.fans.next.items l.entry x;
 }
 

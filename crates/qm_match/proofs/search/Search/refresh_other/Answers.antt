@@ -1,5 +1,4 @@
 use Rattle.std.proofs.Common.{◌≡◌, ◌∙◌, sym, ap, subst}
-use Rattle.def_matching.specs.Matching.{graph}
 use Rattle.def_forest.specs.Tables.{ForestTables, forest_of}
 use Rattle.search_laws.specs.Keys.{AreRightAt}
 use Rattle.qm_match.specs.declared.search.Search.{Search}
@@ -16,8 +15,8 @@ returns-clause-here c =
           ∙ inner));
       leaf = λ inner h. absurd
           (c.requires.other (ap (λ (t : ForestTables). (forest_of t).label c.args.b) (sym forest_is) ∙ inner));
-      edges = λ other. subst (λ (t : ForestTables). AreRightAt (graph c.args.g.now) (forest_of t)
+      edges = λ other. subst (λ (t : ForestTables). AreRightAt c.args.g.now.graph (forest_of t)
           c.mend_blossom.new.self.risen c.mend_blossom.new.self.tour ((forest_of t).holds c.args.b)) (sym forest_is)
-          (subst (λ r. AreRightAt (graph c.args.g.now) (forest_of c.args.self.now.forest) r c.mend_blossom.new.self.tour
+          (subst (λ r. AreRightAt c.args.g.now.graph (forest_of c.args.self.now.forest) r c.mend_blossom.new.self.tour
           ((forest_of c.args.self.now.forest).holds c.args.b)) (sym risen_is) c.mend_blossom.ensures.right);
     }

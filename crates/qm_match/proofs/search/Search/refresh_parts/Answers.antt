@@ -1,7 +1,6 @@
 use Rattle.std.proofs.Common.{◌≡◌, ◌<◌, ◌∙◌, List, ℕ, length, get_or, inl, inr, sym, subst, ap, arith}
 use Rattle.std.proofs.lemmas.Bool.{cases_lt}
 use Rattle.std.proofs.lemmas.List.{get_or_read}
-use Rattle.def_matching.specs.Matching.{graph}
 use Rattle.qm_match.specs.States.{IsFreshAt, MayRefresh}
 use Rattle.qm_match.proofs.Refreshed.{may_later, refreshed_on, stays_fresh}
 use Rattle.qm_match.proofs.search.Search.refresh_parts.Goals as goal
@@ -14,7 +13,7 @@ refresh-requires c =
     get_or_read c.loop-k.self.parts.items c.loop-k.k _ (subst (λ (xs : List ℕ). c.loop-k.k < length xs)
     (sym c.loop-k.invariant.refreshed.parts) low) c.index-p.ensures 0
     ∙ ap (λ (xs : List ℕ). get_or xs c.loop-k.k 0) c.loop-k.invariant.refreshed.parts in
-    subst (λ p. MayRefresh (graph c.args.g.now) c.loop-k.self p) (sym p_is)
+    subst (λ p. MayRefresh c.args.g.now.graph c.loop-k.self p) (sym p_is)
     (may_later c.loop-k.invariant.refreshed (c.requires.may c.loop-k.k low))
 
 pub loop-k-preserved : goal.loop-k-preserved
@@ -30,7 +29,7 @@ loop-k-preserved c =
       here = λ j l. elim (cases_lt j c.loop-k.k) [
         | inl lt ↦ stays_fresh c.refresh.ensures.refreshed (c.loop-k.invariant.here j lt)
         | inr ge ↦ (let e : c.loop-k.k ≡ j = omega (arith, ge, l) in
-            subst (λ p. IsFreshAt (graph c.args.g.now) c.refresh.new.self p) (p_is
+            subst (λ p. IsFreshAt c.args.g.now.graph c.refresh.new.self p) (p_is
             ∙ ap (λ i. get_or c.args.self.now.parts.items i 0) e) c.refresh.ensures.here)
       ];
     }

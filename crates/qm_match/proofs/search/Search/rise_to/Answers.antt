@@ -2,7 +2,6 @@ use Rattle.std.proofs.Common.{◌≡◌, ◌+◌, ◌-◌, ◌^◌, ◌<◌, ◌
 use Rattle.std.proofs.Common.{to_z, w64}
 use Rattle.std.proofs.lemmas.Int.{ints, to_z_pos}
 use Rattle.std.specs.Int.RustNames.{unsigned_abs}
-use Rattle.def_matching.specs.Matching.{graph}
 use Rattle.def_forest.specs.{Darts.darts_of, Forests.Forest, Steps.shifted, Tables.forest_of, Valid.IsFeasible}
 use Rattle.search_laws.specs.{Keys.true_key, Searches.risen_limit, Searches.steps_left}
 use Rattle.qm_match.proofs.Turned.{shift_feasible, shift_keys, shift_small, shifted_on, shifted_way, soon}
@@ -29,9 +28,9 @@ shift-requires-clause-feasible c =
     let t_is : to_z w64 (c.args.key - c.args.self.now.risen) ≡ pos (c.args.key - c.args.self.now.risen) =
     to_z_pos w64 (c.args.key - c.args.self.now.risen) (omega (arith, few)) in
     let room : (k : ℕ) → k < length c.args.self.now.tour → c.args.self.now.risen + (c.args.key - c.args.self.now.risen)
-    ≤ true_key (graph c.args.g.now) (forest_of c.args.self.now.forest) c.args.self.now.risen k =
+    ≤ true_key c.args.g.now.graph (forest_of c.args.self.now.forest) c.args.self.now.risen k =
     λ k l. omega (arith, c.requires.high, c.requires.least k l) in
-    subst (λ z. IsFeasible (darts_of (graph c.args.g.now)) (shifted (forest_of c.args.self.now.forest) z)) (sym t_is)
+    subst (λ z. IsFeasible (darts_of c.args.g.now.graph) (shifted (forest_of c.args.self.now.forest) z)) (sym t_is)
     (shift_feasible c.requires.way.tree.0 c.requires.way.tree.1 c.requires.way
     c.requires.known (c.args.key - c.args.self.now.risen) room)
 
@@ -42,7 +41,7 @@ shift-requires-clause-small c =
     let t_is : to_z w64 (c.args.key - c.args.self.now.risen) ≡ pos (c.args.key - c.args.self.now.risen) =
     to_z_pos w64 (c.args.key - c.args.self.now.risen) (omega (arith, few)) in
     let room : (k : ℕ) → k < length c.args.self.now.tour → c.args.self.now.risen + (c.args.key - c.args.self.now.risen)
-    ≤ true_key (graph c.args.g.now) (forest_of c.args.self.now.forest) c.args.self.now.risen k =
+    ≤ true_key c.args.g.now.graph (forest_of c.args.self.now.forest) c.args.self.now.risen k =
     λ k l. omega (arith, c.requires.high, c.requires.least k l) in
     subst (λ z. (b : ℕ) → unsigned_abs ((shifted (forest_of c.args.self.now.forest) z).weight b) ≤ 2 ^ 62) (sym t_is)
     (shift_small c.requires.way.tree.0 c.requires.way.tree.1 c.requires.way
@@ -55,7 +54,7 @@ returns-clause-way c =
     let t_is : to_z w64 (c.args.key - c.args.self.now.risen) ≡ pos (c.args.key - c.args.self.now.risen) =
     to_z_pos w64 (c.args.key - c.args.self.now.risen) (omega (arith, few)) in
     let room : (k : ℕ) → k < length c.args.self.now.tour → c.args.self.now.risen + (c.args.key - c.args.self.now.risen)
-    ≤ true_key (graph c.args.g.now) (forest_of c.args.self.now.forest) c.args.self.now.risen k =
+    ≤ true_key c.args.g.now.graph (forest_of c.args.self.now.forest) c.args.self.now.risen k =
     λ k l. omega (arith, c.requires.high, c.requires.least k l) in
     let changed : forest_of c.shift.new.self ≡ shifted (forest_of c.args.self.now.forest)
     (pos (c.args.key - c.args.self.now.risen)) = c.shift.ensures.changed
@@ -73,11 +72,11 @@ returns-clause-goes_on c =
     let changed : forest_of c.shift.new.self ≡ shifted (forest_of c.args.self.now.forest)
     (pos (c.args.key - c.args.self.now.risen)) = c.shift.ensures.changed
     ∙ ap (shifted (forest_of c.args.self.now.forest)) t_is in
-    shifted_on (graph c.args.g.now) c.args.self.now.forest c.shift.new.self (c.args.key - c.args.self.now.risen) changed
+    shifted_on c.args.g.now.graph c.args.self.now.forest c.shift.new.self (c.args.key - c.args.self.now.risen) changed
     c.shift.ensures.root
 
 pub returns-clause-steps : goal.returns-clause-steps
-returns-clause-steps c = ap (steps_left c.args.g.now.n) c.shift.ensures.changed
+returns-clause-steps c = ap (steps_left c.args.g.now.graph.n) c.shift.ensures.changed
 
 pub returns-clause-keys : goal.returns-clause-keys
 returns-clause-keys c =
@@ -86,15 +85,15 @@ returns-clause-keys c =
     let t_is : to_z w64 (c.args.key - c.args.self.now.risen) ≡ pos (c.args.key - c.args.self.now.risen) =
     to_z_pos w64 (c.args.key - c.args.self.now.risen) (omega (arith, few)) in
     let room : (k : ℕ) → k < length c.args.self.now.tour → c.args.self.now.risen + (c.args.key - c.args.self.now.risen)
-    ≤ true_key (graph c.args.g.now) (forest_of c.args.self.now.forest) c.args.self.now.risen k =
+    ≤ true_key c.args.g.now.graph (forest_of c.args.self.now.forest) c.args.self.now.risen k =
     λ k l. omega (arith, c.requires.high, c.requires.least k l) in
     let changed : forest_of c.shift.new.self ≡ shifted (forest_of c.args.self.now.forest)
     (pos (c.args.key - c.args.self.now.risen)) = c.shift.ensures.changed
     ∙ ap (shifted (forest_of c.args.self.now.forest)) t_is in
     let key_is : c.args.self.now.risen + (c.args.key - c.args.self.now.risen) ≡ c.args.key =
     omega (arith, c.requires.high) in
-    λ k l. ap (λ (f : Forest). true_key (graph c.args.g.now) f c.args.key k) changed
-    ∙ (ap (λ y. true_key (graph c.args.g.now)
+    λ k l. ap (λ (f : Forest). true_key c.args.g.now.graph f c.args.key k) changed
+    ∙ (ap (λ y. true_key c.args.g.now.graph
     (shifted (forest_of c.args.self.now.forest) (pos (c.args.key - c.args.self.now.risen))) y k) (sym key_is)
     ∙ shift_keys c.requires.way.tree.0 c.requires.way.tree.1 c.requires.way
     c.requires.known (c.args.key - c.args.self.now.risen) room k l)

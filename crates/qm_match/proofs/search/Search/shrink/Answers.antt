@@ -1,7 +1,7 @@
 use Rattle.std.proofs.Common.{◌≡◌, ◌<◌, pos, refl, sym, subst, ap}
-use Rattle.std.proofs.{lemmas.List.get_or_read, Common.false}
+use Rattle.std.proofs.{Common.false}
 use Rattle.std.specs.Vec.{with_item}
-use Rattle.def_matching.specs.{Matching.edge_at, Matching.graph, declared.weighted.WEdge.WEdge}
+use Rattle.def_matching.specs.{Matching.graph, declared.weighted.WEdge.WEdge}
 use Rattle.qm_match.specs.States.{IsMade, IsRefreshed}
 use Rattle.qm_match.proofs.Taken.{closed_high, closed_live, closed_right, closed_set, made_after, shrunk_goes_on}
 use Rattle.qm_match.proofs.Taken.{shrunk_less, shrunk_way, unmarked}
@@ -9,56 +9,30 @@ use Rattle.qm_match.proofs.search.Search.shrink.Goals as goal
 
 pub outermost-set-requires : goal.outermost-set-requires
 outermost-set-requires c =
-    let edge : c.index.result.now ≡ edge_at (graph c.args.g.now) c.args.e =
-    get_or_read c.args.g.now.edges.items c.args.e _ c.requires.edge c.index.ensures (record {
-      u = 0;
-      v = 0;
-      cost = pos 0;
-    }) in
-    subst (λ n. c.index.result.now.u < n) (sym c.shrink.ensures.valid.vertices)
-    (subst (λ (x : WEdge). x.u < c.args.g.now.n) (sym edge) (c.requires.way.made.small.lawful.left c.args.e
-    c.requires.edge))
+    subst (λ n. c.edge.result.u < n) (sym c.shrink.ensures.valid.vertices) c.edge.ensures.ends.0
 
 pub mend_parts-requires-clause-set : goal.mend_parts-requires-clause-set
 mend_parts-requires-clause-set c =
-    let edge : c.index.result.now ≡ edge_at (graph c.args.g.now) c.args.e =
-    get_or_read c.args.g.now.edges.items c.args.e _ c.requires.edge c.index.ensures (record {
-      u = 0;
-      v = 0;
-      cost = pos 0;
-    }) in
     let s = c.shrink.ensures.changed in
     let set_is : c.outermost-set.result ≡ s.set = closed_set c.shrink.new.self c.args.e c.requires.way s c.requires.edge
-    (ap (λ (x : WEdge). x.u) edge) c.outermost-set.ensures.value in
+    (ap (λ (x : WEdge). x.u) c.edge.ensures.value) c.outermost-set.ensures.value in
     closed_high c.shrink.new.self c.requires.way s set_is
 
 pub mend_parts-requires-clause-live : goal.mend_parts-requires-clause-live
 mend_parts-requires-clause-live c =
-    let edge : c.index.result.now ≡ edge_at (graph c.args.g.now) c.args.e =
-    get_or_read c.args.g.now.edges.items c.args.e _ c.requires.edge c.index.ensures (record {
-      u = 0;
-      v = 0;
-      cost = pos 0;
-    }) in
     let s = c.shrink.ensures.changed in
     let set_is : c.outermost-set.result ≡ s.set = closed_set c.shrink.new.self c.args.e c.requires.way s c.requires.edge
-    (ap (λ (x : WEdge). x.u) edge) c.outermost-set.ensures.value in
+    (ap (λ (x : WEdge). x.u) c.edge.ensures.value) c.outermost-set.ensures.value in
     closed_live c.shrink.new.self c.requires.way s set_is
 
 pub returns-clause-way : goal.returns-clause-way
 returns-clause-way c =
-    let edge : c.index.result.now ≡ edge_at (graph c.args.g.now) c.args.e =
-    get_or_read c.args.g.now.edges.items c.args.e _ c.requires.edge c.index.ensures (record {
-      u = 0;
-      v = 0;
-      cost = pos 0;
-    }) in
     let s = c.shrink.ensures.changed in
     let set_is : c.outermost-set.result ≡ s.set = closed_set c.shrink.new.self c.args.e c.requires.way s c.requires.edge
-    (ap (λ (x : WEdge). x.u) edge) c.outermost-set.ensures.value in
-    let made : IsMade (graph c.args.g.now) (record c.args.self.now { forest = c.shrink.new.self }) =
+    (ap (λ (x : WEdge). x.u) c.edge.ensures.value) c.outermost-set.ensures.value in
+    let made : IsMade c.args.g.now.graph (record c.args.self.now { forest = c.shrink.new.self }) =
     made_after c.shrink.new.self c.requires.way.made s.shrunk.size in
-    let refreshed : IsRefreshed (graph c.args.g.now) (record c.args.self.now { forest = c.shrink.new.self })
+    let refreshed : IsRefreshed c.args.g.now.graph (record c.args.self.now { forest = c.shrink.new.self })
     (record c.mend_parts.new.self { inner = with_item c.mend_parts.new.self.inner c.outermost-set.result false }) =
     unmarked c.shrink.new.self c.requires.way s set_is (record c.mend_parts.new.self {
       inner = with_item c.mend_parts.new.self.inner c.outermost-set.result false;
@@ -68,18 +42,12 @@ returns-clause-way c =
 
 pub returns-clause-goes_on : goal.returns-clause-goes_on
 returns-clause-goes_on c =
-    let edge : c.index.result.now ≡ edge_at (graph c.args.g.now) c.args.e =
-    get_or_read c.args.g.now.edges.items c.args.e _ c.requires.edge c.index.ensures (record {
-      u = 0;
-      v = 0;
-      cost = pos 0;
-    }) in
     let s = c.shrink.ensures.changed in
     let set_is : c.outermost-set.result ≡ s.set = closed_set c.shrink.new.self c.args.e c.requires.way s c.requires.edge
-    (ap (λ (x : WEdge). x.u) edge) c.outermost-set.ensures.value in
-    let made : IsMade (graph c.args.g.now) (record c.args.self.now { forest = c.shrink.new.self }) =
+    (ap (λ (x : WEdge). x.u) c.edge.ensures.value) c.outermost-set.ensures.value in
+    let made : IsMade c.args.g.now.graph (record c.args.self.now { forest = c.shrink.new.self }) =
     made_after c.shrink.new.self c.requires.way.made s.shrunk.size in
-    let refreshed : IsRefreshed (graph c.args.g.now) (record c.args.self.now { forest = c.shrink.new.self })
+    let refreshed : IsRefreshed c.args.g.now.graph (record c.args.self.now { forest = c.shrink.new.self })
     (record c.mend_parts.new.self { inner = with_item c.mend_parts.new.self.inner c.outermost-set.result false }) =
     unmarked c.shrink.new.self c.requires.way s set_is (record c.mend_parts.new.self {
       inner = with_item c.mend_parts.new.self.inner c.outermost-set.result false;
@@ -88,18 +56,12 @@ returns-clause-goes_on c =
 
 pub returns-clause-fewer : goal.returns-clause-fewer
 returns-clause-fewer c =
-    let edge : c.index.result.now ≡ edge_at (graph c.args.g.now) c.args.e =
-    get_or_read c.args.g.now.edges.items c.args.e _ c.requires.edge c.index.ensures (record {
-      u = 0;
-      v = 0;
-      cost = pos 0;
-    }) in
     let s = c.shrink.ensures.changed in
     let set_is : c.outermost-set.result ≡ s.set = closed_set c.shrink.new.self c.args.e c.requires.way s c.requires.edge
-    (ap (λ (x : WEdge). x.u) edge) c.outermost-set.ensures.value in
-    let made : IsMade (graph c.args.g.now) (record c.args.self.now { forest = c.shrink.new.self }) =
+    (ap (λ (x : WEdge). x.u) c.edge.ensures.value) c.outermost-set.ensures.value in
+    let made : IsMade c.args.g.now.graph (record c.args.self.now { forest = c.shrink.new.self }) =
     made_after c.shrink.new.self c.requires.way.made s.shrunk.size in
-    let refreshed : IsRefreshed (graph c.args.g.now) (record c.args.self.now { forest = c.shrink.new.self })
+    let refreshed : IsRefreshed c.args.g.now.graph (record c.args.self.now { forest = c.shrink.new.self })
     (record c.mend_parts.new.self { inner = with_item c.mend_parts.new.self.inner c.outermost-set.result false }) =
     unmarked c.shrink.new.self c.requires.way s set_is (record c.mend_parts.new.self {
       inner = with_item c.mend_parts.new.self.inner c.outermost-set.result false;

@@ -1,5 +1,4 @@
 use Rattle.std.proofs.{Common.◌≡◌, Common.◌<◌, Common.◌∙◌, Common.sym, Common.subst, Common.arith, Math.ListN.set}
-use Rattle.def_matching.specs.Matching.{graph}
 use Rattle.def_forest.specs.Tables.{forest_of}
 use Rattle.search_laws.specs.Searches.{steps_left}
 use Rattle.search_laws.proofs.{Counted.fewer_turns, Risen.key_high}
@@ -13,7 +12,7 @@ returns-then-key-clause-way c = λ e. mended_way c.least_leaf-leaf.result c.requ
     }) c.true_key-key.ensures c.set_leaf.ensures)
 
 pub returns-then-key-clause-fewer : goal.returns-then-key-clause-fewer
-returns-then-key-clause-fewer c = λ e. mended_fewer (graph c.args.g.now) c.args.self.now
+returns-then-key-clause-fewer c = λ e. mended_fewer c.args.g.now.graph c.args.self.now
     c.least_leaf-leaf.result c.least_leaf-leaf.ensures.low (λ same. c.if-key.true
     (c.key.ensures ∙ (same ∙ sym c.true_key-key.ensures))) (subst (λ key. c.set_leaf.new.self ≡ record c.args.self.now {
       tour = set c.args.self.now.tour c.least_leaf-leaf.result key;
@@ -23,7 +22,7 @@ pub rise_to-requires-clause-high : goal.rise_to-requires-clause-high
 rise_to-requires-clause-high c = omega (
   arith,
   c.true_key-key.ensures,
-  key_high (graph c.args.g.now) (forest_of c.args.self.now.forest) c.args.self.now.risen c.least_leaf-leaf.result
+  key_high c.args.g.now.graph (forest_of c.args.self.now.forest) c.args.self.now.risen c.least_leaf-leaf.result
       (omega (
         arith,
         risen_few c.requires.way.tree.0 c.requires.way.tree.1 c.requires.way c.requires.known,
@@ -40,8 +39,8 @@ pub returns-clause-goes_on : goal.returns-clause-goes_on
 returns-clause-goes_on c = λ e v seeking. c.step.ensures.goes_on e v (c.rise_to.ensures.goes_on v seeking)
 
 pub returns-clause-fewer : goal.returns-clause-fewer
-returns-clause-fewer c = λ e. fewer_turns (graph c.args.g.now) (forest_of c.args.self.now.forest)
+returns-clause-fewer c = λ e. fewer_turns c.args.g.now.graph (forest_of c.args.self.now.forest)
     (forest_of c.step.new.self.forest) c.args.self.now.risen c.step.new.self.risen c.args.self.now.tour
     c.step.new.self.tour ((c.step.ensures.way e).made.leaves ∙ sym c.requires.way.made.leaves)
-    (subst (λ n. steps_left c.args.g.now.n (forest_of c.step.new.self.forest) < n) c.rise_to.ensures.steps
+    (subst (λ n. steps_left c.args.g.now.graph.n (forest_of c.step.new.self.forest) < n) c.rise_to.ensures.steps
     (c.step.ensures.fewer e))
