@@ -22,6 +22,7 @@ GREATEST = 3
 CUT = ["--keep", "none", "--patches", "merged"]
 SCALES = [(1, 10), (1, 3), (1, 2), (2, 3)]
 Point = tuple[object, ...]
+Run = tuple[int, ...]
 Round = tuple[list[int], list[tuple[int, int]]]
 """The lengths of a round, and the floors that rise behind it: arcs from 0."""
 
@@ -97,28 +98,30 @@ class Patches:
             points += [self.on_arc(arc, lengths, at) for at in steps][1 if points else 0:]
         return points
 
-    def edges(self, lengths: Sequence[int]) -> Iterator[tuple[Point, Point, frozenset[int]]]:
-        """Each edge of the new mesh: its ends, and the arcs along which it runs."""
+    def edges(self, lengths: Sequence[int]) -> Iterator[tuple[Point, Point, list[Run]]]:
+        """Each edge of the new mesh: its ends, and the runs of arcs along it, the arc on which it lies or those on each
+        of the two sides of its patch."""
         for arc, length in enumerate(lengths):
             for at in range(length):
-                yield self.on_arc(arc, lengths, at), self.on_arc(arc, lengths, at + 1), frozenset([arc])
+                yield self.on_arc(arc, lengths, at), self.on_arc(arc, lengths, at + 1), [(arc,)]
         for patch, four in enumerate(self.sides):
             south, east, north, west = (self.along(side, lengths) for side in four)
-            lower, upper = (frozenset(arc for arc, _ in four[k] + four[k + 2]) for k in (0, 1))
+            lower, upper = ([tuple(arc for arc, _ in four[side]) for side in (k, k + 2)] for k in (0, 1))
             wide, high = len(south) - 1, len(east) - 1
             inside = [[("patch", patch, i, j) for j in range(1, high)] for i in range(1, wide)]
             columns = [[low, *between, up] for low, between, up in zip(south[1:], inside, north[-2:0:-1])]
             rows = zip(west[-2:0:-1], *(column[1:-1] for column in columns), east[1:])
-            for arcs, lines in ((upper, columns), (lower, rows)):
-                yield from ((one, other, arcs) for line in lines for one, other in zip(line, line[1:]))
+            for runs, lines in ((upper, columns), (lower, rows)):
+                yield from ((one, other, runs) for line in lines for one, other in zip(line, line[1:]))
 
-    def tight(self, lengths: Sequence[int]) -> set[int]:
-        """The arcs along edges that join the same points as another, or a point with itself."""
-        found: dict[frozenset[Point], list[frozenset[int]]] = {}
-        for one, other, arcs in self.edges(lengths):
-            found.setdefault(frozenset([one, other]), []).append(arcs)
-        doubled = (twice for ends, twice in found.items() if len(twice) > 1 or len(ends) == 1)
-        return set().union(*itertools.chain.from_iterable(doubled))
+    def doubled(self, lengths: Sequence[int]) -> list[list[Run]]:
+        """The runs along all edges of each doubled pair: that join the same points as another, or a point with
+        itself."""
+        found: dict[frozenset[Point], list[list[Run]]] = {}
+        for one, other, runs in self.edges(lengths):
+            found.setdefault(frozenset([one, other]), []).append(runs)
+        return [[run for runs in twice for run in runs] for ends, twice in found.items()
+                if len(twice) > 1 or len(ends) == 1]
 
     def are_equal(self, lengths: Sequence[int]) -> bool:
         """Whether opposite sides have equal sums."""
@@ -140,51 +143,84 @@ def rounds_of(written: str) -> list[Round]:
     return found
 
 
+@dataclass
+class Wishes:
+    """What is wished of the arcs: `p / q` times their old lengths, by weights."""
+
+    p: int
+    q: int
+    old: list[int]
+    weights: list[int]
+
+    def off(self, arc: int, length: int) -> int:
+        """How far an arc of this length is from its wish."""
+        return self.weights[arc] * abs(self.q * length - self.p * self.old[arc])
+
+    def deviation(self, lengths: Sequence[int]) -> int:
+        return sum(self.off(arc, length) for arc, length in enumerate(lengths))
+
+    def price(self, run: Run, lengths: Sequence[int]) -> int:
+        """What one edge more costs on each short arc of a run."""
+        return sum(self.off(arc, lengths[arc] + 1) - self.off(arc, lengths[arc]) for arc in run
+                   if lengths[arc] < GREATEST)
+
+
 class TestRounds(unittest.TestCase):
-    """Each round has lengths that are least among all with its floors, and floors rise where an edge is doubled."""
+    """Each round has lengths that are least among all with its floors, and floors rise where an edge is doubled, along
+    the cheapest run of each doubled pair."""
 
     MESHES = {"cylinder": rolled(5, 3, False), "torus": rolled(4, 3, True), "pillow": pillow(3),
               "long": rolled(7, 2, False)}
 
-    def least(self, patches: Patches, floors: Sequence[int], scale: tuple[int, int], weight: str) -> list[list[int]]:
+    def least(self, patches: Patches, floors: Sequence[int], wishes: Wishes) -> list[list[int]]:
         """All lists of least deviation."""
-        p, q = scale
-        old = patches.layout.old_lengths()
-        ranges = [range(floor, max(GREATEST, p * long // q + 1) + 2) for floor, long in zip(floors, old)]
-        weights = old if weight == "length" else [1] * len(old)
-        off = {lengths: sum(w * abs(q * x - p * long) for x, long, w in zip(lengths, old, weights))
+        ranges = [range(floor, max(GREATEST, wishes.p * long // wishes.q + 1) + 2)
+                  for floor, long in zip(floors, wishes.old)]
+        off = {lengths: wishes.deviation(lengths)
                for lengths in itertools.product(*ranges) if patches.are_equal(lengths)}
         return [list(lengths) for lengths, far in off.items() if far == min(off.values())]
 
-    def assert_risen(self, patches: Patches, lengths: Sequence[int], rises: Sequence[tuple[int, int]]) -> None:
-        """Floors rise along doubled edges by one, or all to the greatest where no arc along them is short."""
-        tight = patches.tight(lengths)
-        short = {arc for arc in tight if lengths[arc] < GREATEST}
-        self.assertTrue(tight and rises)
+    def assert_risen(self, patches: Patches, lengths: Sequence[int], rises: Sequence[tuple[int, int]],
+                     wishes: Wishes) -> None:
+        """From each doubled pair a cheapest run of those with a short arc is taken: its short arcs rise by one. Where
+        there is none, all short arcs rise to the greatest."""
+        pairs = patches.doubled(lengths)
+        self.assertTrue(pairs and rises)
         self.assertEqual(rises, sorted(set(rises)))
-        for arc, floor in rises:
-            self.assertLess(lengths[arc], GREATEST)
-            self.assertTrue((arc in short and floor == lengths[arc] + 1) or (not short and floor == GREATEST))
+        short = {arc for arc, length in enumerate(lengths) if length < GREATEST}
+        cheapest = []
+        for runs in pairs:
+            prices = {run: wishes.price(run, lengths) for run in runs if short & set(run)}
+            cheapest.append([short & set(run) for run, price in prices.items() if price == min(prices.values())])
+        if not any(cheapest):
+            self.assertEqual(rises, [(arc, GREATEST) for arc in sorted(short)])
+            return
+        rising = {arc for arc, _ in rises}
+        self.assertEqual(rises, [(arc, lengths[arc] + 1) for arc in sorted(rising)])
+        taken = [[arcs for arcs in choices if arcs <= rising] for choices in cheapest if choices]
+        self.assertTrue(all(taken))
+        self.assertEqual(rising, set().union(*itertools.chain.from_iterable(taken)))
 
     def test_all_lists(self) -> None:
         risen = 0
-        for (name, text), scale, weight in itertools.product(self.MESHES.items(), SCALES, ("plain", "length")):
+        for (name, text), (p, q), weight in itertools.product(self.MESHES.items(), SCALES, ("plain", "length")):
             patches = Patches.of(text)
-            self.assertLessEqual(len(patches.layout.arcs), 10)
-            words = ["fit", *CUT, "--aim", "scale:{}/{}".format(*scale), "--floor", "auto", "--weight", weight,
-                     "--spacing", "even"]
-            with self.subTest(mesh=name, scale=scale, weight=weight):
+            old = patches.layout.old_lengths()
+            self.assertLessEqual(len(old), 10)
+            wishes = Wishes(p, q, old, old if weight == "length" else [1] * len(old))
+            words = ["fit", *CUT, "--aim", f"scale:{p}/{q}", "--floor", "auto", "--weight", weight, "--spacing", "even"]
+            with self.subTest(mesh=name, scale=(p, q), weight=weight):
                 written = ran(words, text)
-                floors = [1] * len(patches.layout.arcs)
+                floors = [1] * len(old)
                 for lengths, rises in rounds_of(written):
-                    self.assertIn(lengths, self.least(patches, floors, scale, weight))
+                    self.assertIn(lengths, self.least(patches, floors, wishes))
                     if rises:
                         risen += 1
-                        self.assert_risen(patches, lengths, rises)
+                        self.assert_risen(patches, lengths, rises, wishes)
                         for arc, floor in rises:
                             floors[arc] = floor
                     else:
-                        self.assertEqual(patches.tight(lengths), set())
+                        self.assertEqual(patches.doubled(lengths), [])
                         faces = sum(wide * high for wide, high in patches.layout.sizes(lengths))
                         self.assertEqual(written.count("\nf "), faces)
         self.assertGreater(risen, 10)

@@ -1,13 +1,14 @@
 -- The floors of a fit, and rounds in which they rise.
-use Rattle.std.specs.Prelude.{◌≡◌, ◌-◌, ℕ, if◌then◌else◌, List, length}
+use Rattle.std.specs.Prelude.{◌≡◌, ◌+◌, ◌-◌, ◌<◌, ℕ, if◌then◌else◌, List, length, slice_index, slice_index_or}
+use Rattle.std.specs.Prelude.{ℤ, pos, ◌-ℤ◌}
 use Rattle.def_certtext.specs.declared.certs.Round.{Round}
 use Rattle.def_fit.specs.Aims.{fit_settings, AreAimedNear}
 use Rattle.def_fit.specs.declared.fit.Aim.TheVariants.{Scale}
 use Rattle.def_fit.specs.declared.fit.Fit.{Fit}
 use Rattle.def_flow.specs.Accepted.{certificate}
-use Rattle.def_flow.specs.Admissible.{IsEven}
+use Rattle.def_flow.specs.Admissible.{arc_deviation, IsEven}
 use Rattle.def_flow.specs.Descent.{IsSolution}
-use Rattle.def_flow.specs.Network.{Network}
+use Rattle.def_flow.specs.Network.{arc_at, Network}
 use Rattle.def_flow.specs.declared.cert.Cert.{Cert}
 use Rattle.def_flow.specs.declared.limits.TheConstants.{MAX_FLOOR}
 use Rattle.def_flow.specs.declared.net.Arc.{Arc}
@@ -46,3 +47,12 @@ pub record IsLedBy
 -- How far the floors of arcs are below the greatest, in all.
 abbrev pub room_of : (arcs : List Arc) → ℕ
 room_of arcs = count_below (λ a. MAX_FLOOR - floor_of arcs a) (length arcs)
+
+-- What one edge more on an arc of this length costs: how much farther the arc gets from what is wanted of it.
+abbrev pub price_at : (net : Network) (arc : Arc) (long : ℕ) → ℤ
+price_at net arc long = pos (arc_deviation net arc (pos (long + 1))) -ℤ pos (arc_deviation net arc (pos long))
+
+-- Each of the first arcs has its price.
+pub record ArePrices (net : Network) (xs : List ℕ) (arcs : ℕ) (prices : List ℤ) : Type 0 where
+  pub long : length prices ≡ arcs
+  pub each : (k : ℕ) → k < arcs → slice_index_or prices k (pos 0) ≡ price_at net (arc_at net.arcs k) (slice_index xs k)

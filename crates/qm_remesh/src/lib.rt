@@ -3,6 +3,7 @@
 
 mod fitted;
 mod keeping;
+mod prices;
 mod rounds;
 mod sized;
 

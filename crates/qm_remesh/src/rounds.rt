@@ -14,6 +14,7 @@ ghost use Rattle.def_remesh.specs.Tasks.{Wish};
 ghost use Rattle.qm_remesh.specs.Rounds.{room_of, IsFitNet, IsLedBy};
 
 use crate::fitted::solve_fit;
+use crate::prices::prices_of;
 use def_certtext::{Certs, Rise, Rising, Round, Terms};
 use def_fit::Fit;
 use def_flow::{Cert, Net};
@@ -110,7 +111,8 @@ fn next_round(alloc: Global, cut: &CutMesh, fit: &Fit, led: Led) -> Result<Led, 
     ensures risen { IfOk result (λ next. room_of next.net.arcs.items < room_of led.net.arcs.items) }
 {
     let Led { rounds, net, cert } = led;
-    let rises = rises_over(alloc, cut, &cert.x)?;
+    let prices = prices_of(alloc, &net, &cert.x)?;
+    let rises = rises_over(alloc, cut, &cert.x, &prices)?;
     let higher = with_rises(net, &rises);
     let next = solve_fit(alloc, cut, fit, &higher)?;
     let mut more = rounds;

@@ -12,16 +12,22 @@ use def_certtext::Rise;
 use qm_stitch::{are_needed, needed_rises};
 use std::alloc::{AllocError, Global};
 
-/// The floors that rise for lengths that double an edge, as `needed_rises` has them.
-pub fn rises_over(alloc: Global, cut: &CutMesh, lengths: &[u64]) -> Result<Vec<Rise>, AllocError>
+/// The floors that rise for lengths that double an edge, as `needed_rises` has them by the prices of arcs.
+pub fn rises_over(
+    alloc: Global,
+    cut: &CutMesh,
+    lengths: &[u64],
+    prices: &[i64],
+) -> Result<Vec<Rise>, AllocError>
     requires long { length lengths.now ≡ length cut.now.plan.arcs }
     requires lengths { AreLengths (layout_of cut.now.plan) (lengths_in lengths.now) }
     requires few { length lengths.now < 2 ^ 32 }
     requires coarse { AreCoarse cut.now.plan lengths.now }
     requires doubled { AreDoubled cut.now.plan lengths.now }
+    requires prices { length prices.now ≡ length lengths.now }
     ensures { IfOk result (λ rises. AreNeeded (layout_of cut.now.plan) (lengths_in lengths.now) rises.items) }
 {
-    needed_rises(alloc, cut.layout(), lengths)
+    needed_rises(alloc, cut.layout(), lengths, prices)
 }
 
 /// Whether floors rise as they have to for these lengths.

@@ -26,9 +26,9 @@ module _ (some : Bool) (tight : List Bool) (xs : List ℕ) where
     below = λ k low. omega (arith, are.below k low);
     ordered = are.ordered;
     floors = are.floors;
-    none_left = λ a floor low is. elim (cases_eq a arc) [
+    each = λ a floor low is. elim (cases_eq a arc) [
       | inl same ↦ absurd (none floor (subst (λ (b : ℕ). IsFloorOf some tight xs b floor) same is))
-      | inr other ↦ are.none_left a floor (omega (arith, low, other)) is
+      | inr other ↦ are.each a floor (omega (arith, low, other)) is
     ];
   }
 
@@ -52,7 +52,17 @@ module _ (some : Bool) (tight : List Bool) (xs : List ℕ) where
     floors = λ k k_low. by_place
         (λ r. (r.arc < length xs) × IsFloorOf some tight xs r.arc r.floor) k k_low
         (are.floors k) (omega (arith, same, low), is);
-    none_left = λ a floor a_low has. omega (arith, longer);
+    each = λ a floor a_low has. elim (cases_eq a arc) [
+      | inl this ↦ (
+        length rises,
+        omega (arith, longer),
+        ap (λ (r : Rise). r.arc) (at_new (length rises) refl)
+            ∙ same ∙ sym this,
+      )
+      | inr other ↦
+          let old = are.each a floor (omega (arith, a_low, other)) has in
+          (old.0, omega (arith, old.1, longer), ap (λ (r : Rise). r.arc) (at_old old.0 old.1) ∙ old.2)
+    ];
   }
     where
       longer : length (rises ++ rise ∷ []) ≡ length rises + 1
@@ -154,18 +164,40 @@ module _
         ↔ AreNeeded l (lengths_in xs) rises
     needed_are rises = (λ all. is_needed rises all.0 all.1 all.2, needed_is rises)
 
-    -- The rises of all arcs are needed where an arc is short.
-    pub all_needed : (rises : List Rise) → AreRisesUpto some tight xs (length xs) rises
-        → ¬ ((arc : ℕ) → arc < l.arcs → MAX_FLOOR ≤ lengths_in xs arc) → AreNeeded l (lengths_in xs) rises
-    all_needed rises are not_long = is_needed rises (by_some some refl) are.ordered are.floors
-      where
-        by_some : (b : Bool) → some ≡ b → 0 < length rises
-        by_some true on =
-            let s = told.0 on in
-            are.none_left s.0 (lengths_in xs s.0 + 1) s.1
-            (subst (λ (b : Bool). IsFloorOf b tight xs s.0 (lengths_in xs s.0 + 1)) (sym on) (s.2.1, s.2.0, refl))
-        by_some false off = elim (find_short xs l.arcs) [
-          | inl (arc, low, short) ↦ are.none_left arc MAX_FLOOR (omega (arith, low, long))
-              (subst (λ (b : Bool). IsFloorOf b tight xs arc MAX_FLOOR) (sym off) (short, refl))
-          | inr all ↦ absurd (not_long all)
-        ]
+-- Rises of tight arcs are needed, and where no tight arc is short those of all short arcs.
+module _ (l : Layout) (xs : List ℕ) (chosen : List Bool) (long : length xs ≡ l.arcs) (rises : List Rise) where
+  pub chosen_needed : ((arc : ℕ) → arc < l.arcs → get_or chosen arc false ≡ true → IsTightArc l (lengths_in xs) arc)
+      → AreRisesUpto true chosen xs (length xs) rises
+      → (arc : ℕ) × (arc < length xs) × IsShortTight chosen xs arc
+      → AreNeeded l (lengths_in xs) rises
+  chosen_needed sound are (arc, low, (marked, short)) = record {
+    some = let has = are.each arc (lengths_in xs arc + 1) low (short, marked, refl) in omega (arith, has.1);
+    ordered = are.ordered;
+    each = λ k k_low.
+        let floor = are.floors k k_low in
+        let there : (rise_at rises k).arc < l.arcs = omega (arith, floor.0, long) in
+        record {
+          there = there;
+          short = omega (arith, floor.1.2);
+          low = omega (arith, floor.1.0, floor.1.2);
+          reason = inl (sound (rise_at rises k).arc there floor.1.1, floor.1.2);
+        };
+  }
+
+  pub all_needed : AreTightLong l (lengths_in xs) → AreRisesUpto false chosen xs (length xs) rises
+      → ¬ ((arc : ℕ) → arc < length xs → MAX_FLOOR ≤ lengths_in xs arc) → AreNeeded l (lengths_in xs) rises
+  all_needed tight_long are some_short = record {
+    some = elim (find_short xs (length xs)) [
+      | inl (arc, low, short) ↦ let has = are.each arc MAX_FLOOR low (short, refl) in omega (arith, has.1)
+      | inr all ↦ absurd (some_short all)
+    ];
+    ordered = are.ordered;
+    each = λ k k_low.
+        let floor = are.floors k k_low in
+        record {
+          there = omega (arith, floor.0, long);
+          short = omega (arith, floor.1.0, floor.1.1);
+          low = omega (arith, floor.1.1);
+          reason = inr (tight_long, floor.1.1);
+        };
+  }

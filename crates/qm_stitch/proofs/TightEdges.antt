@@ -14,7 +14,7 @@ use Rattle.qm_stitch.proofs.Repeats.{repeat_moved}
 use Rattle.qm_stitch.proofs.RimEdges.{IsDeep}
 
 -- An edge of a line is one of the layout exactly where its numbers are.
-line_is : (l : Layout) (x : Lengths) (u : Bool) (p n k : ℕ) → p < l.patches → 0 < n
+pub line_is : (l : Layout) (x : Lengths) (u : Bool) (p n k : ℕ) → p < l.patches → 0 < n
     → n < size l x p (along_lines (not u)) → k < size l x p (along_lines u) → IsEdge l x (line_edge u p n k)
 line_is l x false p n k low some up less = (low, less, some, up)
 line_is l x true p n k low some up less = (low, some, up, less)

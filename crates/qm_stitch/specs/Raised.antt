@@ -27,10 +27,14 @@ AreFloors some tight lengths rises = (k : ℕ) → k < length rises → ((rise_a
 abbrev pub AreOrdered : (rises : List Rise) → Type 0
 AreOrdered rises = (k : ℕ) → k + 1 < length rises → (rise_at rises k).arc < (rise_at rises (k + 1)).arc
 
+-- The floor of an arc rises.
+abbrev pub HasRise : (rises : List Rise) (arc : ℕ) → Type 0
+HasRise rises arc = (k : ℕ) × (k < length rises) × ((rise_at rises k).arc ≡ arc)
+
 -- The rises of the arcs before one.
 pub record AreRisesUpto (some : Bool) (tight : List Bool) (lengths : List ℕ) (arcs : ℕ) (rises : List Rise) : Type 0
   where
     pub below : (k : ℕ) → k < length rises → (rise_at rises k).arc < arcs
     pub ordered : AreOrdered rises
     pub floors : AreFloors some tight lengths rises
-    pub none_left : (arc floor : ℕ) → arc < arcs → IsFloorOf some tight lengths arc floor → 0 < length rises
+    pub each : (arc floor : ℕ) → arc < arcs → IsFloorOf some tight lengths arc floor → HasRise rises arc

@@ -3,6 +3,7 @@
 #![tactic(auto)]
 
 mod build;
+mod cheapest;
 mod count;
 mod doubled;
 mod face;
@@ -10,6 +11,8 @@ mod numbered;
 mod numbering;
 mod planning;
 mod point;
+mod remedies;
+mod remedy;
 mod repeat;
 mod rim;
 mod rises;

@@ -1,6 +1,6 @@
 //! The floors that have to rise where lengths double an edge.
 
-ghost use Rattle.std.specs.Prelude.{◌≡◌, ◌↔◌, ◌<◌, ◌^◌, ℕ, length, IfOk, IsTrue, Some};
+ghost use Rattle.std.specs.Prelude.{◌≡◌, ◌↔◌, ◌<◌, ◌≤◌, ◌^◌, ℕ, length, IfOk, IsTrue, Some};
 ghost use Rattle.def_flow.specs.declared.limits.TheConstants.{MAX_FLOOR};
 ghost use Rattle.def_layout.specs.Lengths.{AreLengths};
 ghost use Rattle.def_layout.specs.Plans.{layout_of, plan};
@@ -8,28 +8,77 @@ ghost use Rattle.def_layoutnet.specs.MeshLayouts.{IsSomeLayout};
 ghost use Rattle.def_remesh.specs.NewPoints.{lengths_in};
 ghost use Rattle.def_remesh.specs.Remeshed.{AreCoarse, AreDoubled};
 ghost use Rattle.def_remesh.specs.Rises.{AreNeeded};
+ghost use Rattle.qm_stitch.specs.Lengthened.{layout_in};
 ghost use Rattle.qm_stitch.specs.Raised.{AreFloors, AreOrdered, AreRisesUpto, IsFloorFor, IsFloorOf};
 ghost use Rattle.qm_stitch.specs.Raised.{IsShortTight};
+ghost use Rattle.qm_stitch.specs.Remedies.{FollowCheapest, IsPriced};
 
+use crate::build::tables;
+use crate::cheapest::cheapest_arcs;
+use crate::numbered::Numbered;
+use crate::remedies::{Priced, remedies};
+use crate::remedy::Remedy;
+use crate::repeat::sort;
+use crate::rim::rim_keys;
 use crate::tight::tight_arcs;
 use def_certtext::Rise;
 use def_flow::MAX_FLOOR;
 use def_layout::TMesh;
 use std::alloc::{AllocError, Global};
 
-/// The floors that rise for lengths that double an edge: of each tight arc that is shorter than the greatest floor to
-/// one more than its length; where there is none, of each short arc to the greatest. Of the cost of `tight_arcs`.
-pub fn needed_rises(alloc: Global, t: &TMesh, lengths: &[u64]) -> Result<Vec<Rise>, AllocError>
+/// The floors that rise for lengths that double an edge. From each doubled pair one of its edges is taken, and one run
+/// of arcs along it, those whose short arcs cost least to be one edge longer by these prices: the floors of these arcs
+/// get one more than their lengths. Where no run along doubled edges has a short arc, each short arc gets the greatest
+/// floor. Of the cost of `tight_arcs`.
+pub fn needed_rises(
+    alloc: Global,
+    t: &TMesh,
+    lengths: &[u64],
+    prices: &[i64],
+) -> Result<Vec<Rise>, AllocError>
     requires layout { IsSomeLayout (plan t.now) }
     requires long { length lengths.now ≡ length t.now.arcs.items }
     requires lengths { AreLengths (layout_of (plan t.now)) (lengths_in lengths.now) }
     requires few { length lengths.now < 2 ^ 32 }
     requires coarse { AreCoarse (plan t.now) lengths.now }
     requires doubled { AreDoubled (plan t.now) lengths.now }
+    requires prices { length prices.now ≡ length lengths.now }
     ensures { IfOk result (λ rises. AreNeeded (layout_of (plan t.now)) (lengths_in lengths.now) rises.items) }
 {
-    let tight = tight_arcs(alloc, t, lengths)?;
-    rises_by(alloc, lengths, &tight, is_some_short(lengths, &tight))
+    let tables = tables(alloc, t, lengths)?;
+    let numbered = Numbered { t, tables: &tables };
+    let mut keys = rim_keys(alloc, &numbered)?;
+    sort(&mut keys);
+    let priced = Priced {
+        numbered,
+        prices,
+        keys: &keys,
+    };
+    cheapest_rises(alloc, &priced, lengths)
+}
+
+/// The rises by the cheapest remedy of each doubled pair.
+fn cheapest_rises(alloc: Global, priced: &Priced, lengths: &[u64]) -> Result<Vec<Rise>, AllocError>
+    requires priced { IsPriced priced.now }
+    requires same { priced.now.numbered.tables.now.lengths.items ≡ lengths.now }
+    requires few { length lengths.now < 2 ^ 32 }
+    requires short { ¬ ((arc : ℕ) → arc < length lengths.now → MAX_FLOOR ≤ lengths_in lengths.now arc) }
+    ensures needed { IfOk result (λ rises.
+        AreNeeded (layout_in priced.now.numbered) (lengths_in lengths.now) rises.items) }
+    ensures cheapest { IfOk result (λ rises.
+        FollowCheapest (plan priced.now.numbered.t.now) (lengths_in lengths.now) priced.now.prices.now rises.items) }
+{
+    let remedies = remedies(alloc, priced)?;
+    let some = is_any(&remedies);
+    let chosen = cheapest_arcs(alloc, &priced.numbered, remedies)?;
+    rises_by(alloc, lengths, &chosen, some)
+}
+
+/// Whether there is a remedy.
+fn is_any(remedies: &[Remedy]) -> bool
+    ensures { IsTrue result ↔ (0 < length remedies.now) }
+{
+    !remedies.is_empty()
 }
 
 /// The rises of all arcs.
@@ -107,7 +156,7 @@ fn is_short_tight(lengths: &[u64], tight: &[bool], arc: usize) -> bool
 }
 
 /// Whether a length is less than the greatest floor.
-fn is_short(length: u64) -> bool
+pub(crate) fn is_short(length: u64) -> bool
     ensures { IsTrue result ↔ (length < MAX_FLOOR) }
 {
     length < u64::from(MAX_FLOOR)

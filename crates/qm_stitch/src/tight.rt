@@ -108,7 +108,7 @@ fn mark_lines(tight: &mut [bool], numbered: &Numbered, keys: &[u64], patch: usiz
 }
 
 /// Marks the arcs on a side of a patch.
-fn mark_side(tight: &mut [bool], numbered: &Numbered, patch: usize, side: usize)
+pub(crate) fn mark_side(tight: &mut [bool], numbered: &Numbered, patch: usize, side: usize)
     requires patch { patch < length numbered.now.t.now.patches.items }
     requires side { side < 4 }
     requires long { length tight.old ≡ length numbered.now.t.now.arcs.items }

@@ -1,7 +1,7 @@
-use Rattle.std.proofs.Common.{◌≡◌, ℕ, List, length, sym, subst, arith}
+use Rattle.std.proofs.Common.{◌≡◌, ℕ, List, length, sym, ◌∙◌, ap, subst, arith}
 use Rattle.def_certtext.specs.{declared.certs.Rise.Rise, declared.certs.Round.Round}
 use Rattle.def_fit.specs.Aims.{fit_settings}
-use Rattle.def_flow.specs.Network.{network}
+use Rattle.def_flow.specs.{Admissible.AreNetLengths, Network.network}
 use Rattle.def_layout.specs.Plans.{layout_of}
 use Rattle.def_layoutnet.specs.Floors.{floor_of, HasFloors}
 use Rattle.def_remesh.specs.{Keeping.IsNetWith, NewPoints.lengths_in, Remeshed.AreDoubled, Rises.risen_floors}
@@ -11,7 +11,7 @@ use Rattle.remesh_laws.proofs.{Rounds.net_risen, Writable.arcs_few}
 use Rattle.remesh_laws.specs.Keeps.{floors_behind}
 use Rattle.qm_remesh.specs.Rounds.{IsLedBy}
 use Rattle.qm_remesh.proofs.Leading.{all_there, led_lengths, led_long, led_on, net_behind, room_less}
-use Rattle.qm_remesh.proofs.rounds.next_round.Goals.{After-deref, After-with_rises-higher, In_ok-rises}
+use Rattle.qm_remesh.proofs.rounds.next_round.Goals.{After-deref, After-deref-2, After-with_rises-higher, In_ok-rises}
 use Rattle.qm_remesh.proofs.rounds.next_round.Goals as goal
 
 -- The network with the floors that rose before.
@@ -21,27 +21,39 @@ before c =
     net_behind c.args.fit.now c.args.cut.now.plan c.requires.led.0 (network c.args.led.net) c.args.led.rounds.items
     c.args.led.cert c.requires.led.1 c.requires.led.2
 
-long : (c : After-deref) → length c.deref.result.now ≡ length c.args.cut.now.plan.arcs
+pub prices_of-requires-clause-bounds : goal.prices_of-requires-clause-bounds
+prices_of-requires-clause-bounds c = (before (goal.at.prices_of-requires-clause-bounds c).After-deref).bounds
+
+pub prices_of-requires-clause-lengths : goal.prices_of-requires-clause-lengths
+prices_of-requires-clause-lengths c =
+    subst (AreNetLengths c.args.led.net.arcs.items) (sym c.deref.ensures.value) c.requires.led.2.solved.lengths
+
+pub rises_over-requires-clause-prices : goal.rises_over-requires-clause-prices
+rises_over-requires-clause-prices c =
+    ap length c.deref-3.ensures.value ∙ c.in_ok-prices.ensures.long ∙ sym c.requires.led.2.solved.accepted.count
+    ∙ ap length (sym c.deref-2.ensures.value)
+
+long : (c : After-deref-2) → length c.deref-2.result.now ≡ length c.args.cut.now.plan.arcs
 long c =
     led_long c.args.fit.now c.args.cut.now.plan c.requires.led.0 (network c.args.led.net) c.args.led.rounds.items
-    c.args.led.cert c.requires.led.1 c.requires.led.2 c.deref.result.now c.deref.ensures.value
+    c.args.led.cert c.requires.led.1 c.requires.led.2 c.deref-2.result.now c.deref-2.ensures.value
 
 pub rises_over-requires-clause-long : goal.rises_over-requires-clause-long
-rises_over-requires-clause-long c = long (goal.at.rises_over-requires-clause-long c).After-deref
+rises_over-requires-clause-long c = long (goal.at.rises_over-requires-clause-long c).After-deref-2
 
 pub rises_over-requires-clause-lengths : goal.rises_over-requires-clause-lengths
 rises_over-requires-clause-lengths c =
     led_lengths c.args.fit.now c.args.cut.now.plan c.requires.led.0 (network c.args.led.net) c.args.led.rounds.items
-    c.args.led.cert c.requires.led.1 c.requires.led.2 c.deref.result.now c.deref.ensures.value
+    c.args.led.cert c.requires.led.1 c.requires.led.2 c.deref-2.result.now c.deref-2.ensures.value
 
 pub rises_over-requires-clause-few : goal.rises_over-requires-clause-few
 rises_over-requires-clause-few c =
-    let at = (goal.at.rises_over-requires-clause-few c).After-deref in
-    omega (arith, long at, arcs_few c.args.cut.now.plan (before at).mesh)
+    let at = goal.at.rises_over-requires-clause-few c in
+    omega (arith, long at.After-deref-2, arcs_few c.args.cut.now.plan (before at.After-deref).mesh)
 
 pub rises_over-requires-clause-doubled : goal.rises_over-requires-clause-doubled
 rises_over-requires-clause-doubled c =
-    subst (AreDoubled c.args.cut.now.plan) (sym c.deref.ensures.value) c.requires.doubled
+    subst (AreDoubled c.args.cut.now.plan) (sym c.deref-2.ensures.value) c.requires.doubled
 
 -- The floors rise as the lengths need it.
 needed : (c : In_ok-rises) → AreNeeded (layout_of c.args.cut.now.plan) (lengths_in c.args.led.cert.x.items)
@@ -49,15 +61,15 @@ needed : (c : In_ok-rises) → AreNeeded (layout_of c.args.cut.now.plan) (length
 needed c =
     subst
     (λ (xs : List ℕ). AreNeeded (layout_of c.args.cut.now.plan) (lengths_in xs) c.in_ok-rises.rises.items)
-    c.deref.ensures.value c.in_ok-rises.ensures
+    c.deref-2.ensures.value c.in_ok-rises.ensures
 
 pub with_rises-higher-requires : goal.with_rises-higher-requires
 with_rises-higher-requires c =
     let at = goal.at.with_rises-higher-requires c in
-    all_there c.args.cut.now.plan c.args.led.cert.x.items c.deref-2.result.now (length c.args.led.net.arcs.items)
+    all_there c.args.cut.now.plan c.args.led.cert.x.items c.deref-4.result.now (length c.args.led.net.arcs.items)
     (before at.After-deref).is.long
     (subst (AreNeeded (layout_of c.args.cut.now.plan) (lengths_in c.args.led.cert.x.items))
-    (sym c.deref-2.ensures.value) (needed at.In_ok-rises))
+    (sym c.deref-4.ensures.value) (needed at.In_ok-rises))
 
 -- So they do in the network.
 has : (c : After-with_rises-higher) → HasFloors (network c.args.led.net)
@@ -66,7 +78,7 @@ has c =
     subst
     (λ (rises : List Rise). HasFloors (network c.args.led.net)
     (risen_floors rises (floor_of c.args.led.net.arcs.items)) (network c.with_rises-higher.result))
-    c.deref-2.ensures.value c.with_rises-higher.ensures
+    c.deref-4.ensures.value c.with_rises-higher.ensures
 
 -- It is the network with these floors.
 after : (c : After-with_rises-higher)

@@ -1,24 +1,36 @@
-use Rattle.std.proofs.Common.{◌≡◌, ◌↔◌, ◌<◌, ℕ, Bool, List, true, false, get_or, length, sym, ◌∙◌, subst, inl, arith}
+use Rattle.std.proofs.Common.{◌≡◌, ℕ, List, sym, ◌∙◌, subst, inl, arith}
 use Rattle.std.proofs.lemmas.List.{length-map}
-use Rattle.std.proofs.lemmas.Result.{IfOk-weaker}
-use Rattle.def_layout.specs.{Arcs.path, Plans.layout_of, Plans.plan}
-use Rattle.def_remesh.specs.{NewPoints.lengths_in, Rises.IsTightArc}
-use Rattle.qm_stitch.specs.Raised.{AreRisesUpto, IsShortTight}
-use Rattle.qm_stitch.proofs.{RiseLists.all_needed, SafeLengths.safe_undoubled}
+use Rattle.std.specs.List.Sorted.{IsNonDecreasing, IsPermutation}
+use Rattle.def_layout.specs.{Arcs.path, Layouts.Layout, Lengths.Lengths, Plans.layout_of, Plans.plan}
+use Rattle.def_remesh.specs.NewPoints.{lengths_in}
+use Rattle.plan_laws.proofs.MeshLayouts.{laid_of}
+use Rattle.qm_stitch.specs.{Rims.keys_of, Rims.rim_edges, Tight.AreRimKeys}
+use Rattle.qm_stitch.proofs.{Grids.tables_are, SafeLengths.safe_undoubled}
 use Rattle.qm_stitch.proofs.rises.needed_rises.Goals as goal
 
-pub returns : goal.returns
-returns c =
-    let arcs : length (plan c.args.t.now).arcs ≡ length c.args.t.now.arcs.items =
-    length-map c.args.t.now.arcs.items path in
-    let long : length c.args.lengths.now ≡ length (plan c.args.t.now).arcs = c.requires.long ∙ sym arcs in
-    IfOk-weaker c.rises_by.result _ _
-    (λ rises are. all_needed (layout_of (plan c.args.t.now)) c.args.lengths.now c.in_ok-tight.tight.items long
-    (λ arc low. c.in_ok-tight.ensures.each arc (omega (arith, low, arcs))) c.is_some_short.result
-    (subst (λ (tight : List Bool). (c.is_some_short.result ≡ true)
-    ↔ ((arc : ℕ) × (arc < length c.args.lengths.now) × IsShortTight tight c.args.lengths.now arc))
-    c.deref-2.ensures.value c.is_some_short.ensures) rises.items
-    (subst (λ (tight : List Bool). AreRisesUpto c.is_some_short.result tight c.args.lengths.now
-    (length c.args.lengths.now) rises.items) c.deref.ensures.value are)
-    (λ all. safe_undoubled (plan c.args.t.now) c.args.lengths.now long c.requires.layout c.requires.lengths (inl all)
-    c.requires.doubled.0 c.requires.doubled.1 c.requires.doubled.2)) c.rises_by.ensures
+pub invariant_of-numbered : goal.invariant_of-numbered
+invariant_of-numbered c =
+    record { numbers = tables_are (plan c.args.t.now) c.in_ok-tables.tables c.in_ok-tables.ensures.numbering }
+
+sorted_keys : (l : Layout) (x : Lengths) (keys sorted given : List ℕ) → keys ≡ keys_of l x (rim_edges l x)
+    → IsPermutation keys sorted → IsNonDecreasing sorted → given ≡ sorted → AreRimKeys l x given
+sorted_keys l x keys sorted given are moved increasing same = subst (AreRimKeys l x) (sym same) (record {
+  increasing = increasing;
+  moved = subst (λ (ks : List ℕ). IsPermutation ks sorted) are moved;
+})
+
+pub cheapest_rises-requires-clause-priced : goal.cheapest_rises-requires-clause-priced
+cheapest_rises-requires-clause-priced c = record {
+  laid = laid_of (plan c.args.t.now) c.requires.layout;
+  keys = sorted_keys (layout_of (plan c.args.t.now)) (lengths_in c.in_ok-tables.tables.lengths.items)
+      c.in_ok-keys.keys.items c.sort.new.keys.items c.deref.result.now c.in_ok-keys.ensures c.sort.ensures.moved
+      c.sort.ensures.increasing c.deref.ensures.value;
+  many = c.requires.prices ∙ c.requires.long;
+}
+
+pub cheapest_rises-requires-clause-short : goal.cheapest_rises-requires-clause-short
+cheapest_rises-requires-clause-short c = λ all.
+    let long = c.requires.long ∙ sym (length-map c.args.t.now.arcs.items path) in
+    safe_undoubled (plan c.args.t.now) c.args.lengths.now long c.requires.layout c.requires.lengths
+    (inl (λ arc low. all arc (omega (arith, low, long))))
+    c.requires.doubled.0 c.requires.doubled.1 c.requires.doubled.2

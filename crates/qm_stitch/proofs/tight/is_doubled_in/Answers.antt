@@ -1,4 +1,4 @@
-use Rattle.std.proofs.Common.{◌<◌, ◌+◌, ℕ, not, sym, ◌∙◌, inl, inr, subst, arith}
+use Rattle.std.proofs.Common.{not, sym, ◌∙◌, inl, inr, subst, arith}
 use Rattle.std.proofs.lemmas.Bool.{cases_eq, false≢true}
 use Rattle.qm_stitch.specs.{Lengthened.layout_in, Lengthened.lengths_by, Rims.along_lines, Tight.IsLineDoubled}
 use Rattle.qm_stitch.proofs.TightEdges.{line_parts}

@@ -1,4 +1,4 @@
-use Rattle.std.proofs.Common.{◌≡◌, ◌+◌, ◌%◌, ℕ, Bool, true, false, refl, sym, ◌∙◌, ap}
+use Rattle.std.proofs.Common.{◌≡◌, ◌+◌, ◌%◌, ℕ, Bool, true, false, refl, ◌∙◌, ap}
 use Rattle.def_layout.specs.Plans.{way_number}
 use Rattle.qm_stitch.specs.{Lengthened.layout_in, Lengthened.lengths_by, Rims.along_lines}
 use Rattle.qm_stitch.proofs.Marks.{across, adds_lines}

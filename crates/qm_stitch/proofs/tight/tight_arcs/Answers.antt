@@ -1,4 +1,4 @@
-use Rattle.std.proofs.Common.{◌≡◌, ◌↔◌, ℕ, Bool, List, true, false, get_or, length, sym, ap, ◌∙◌, subst, arith}
+use Rattle.std.proofs.Common.{◌≡◌, ◌↔◌, ℕ, Bool, List, true, false, get_or, length, sym, ◌∙◌, subst, arith}
 use Rattle.std.proofs.lemmas.List.{length-map, with_items_is}
 use Rattle.def_cut.specs.Grids.{rectangle}
 use Rattle.def_layout.specs.{Arcs.path, Plans.layout_of, Plans.plan}

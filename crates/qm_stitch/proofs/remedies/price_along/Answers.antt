@@ -1,0 +1,39 @@
+use Rattle.std.proofs.Common.{◌≡◌, ◌+◌, ◌∷◌, [], ◌<◌, ℕ, List, take, get_or, length, false, ◌∙◌, ap, arith, pos, ◌+ℤ◌}
+use Rattle.std.proofs.Common.{rules, w64, to_z, of_z}
+use Rattle.std.proofs.lemmas.Int.{ints, to_z-of_z}
+use Rattle.std.proofs.lemmas.List.{take_more}
+use Rattle.std.specs.Prelude.{ℤ}
+use Rattle.def_layout.specs.{Lengths.Lengths, declared.tmesh.SideArc.SideArc}
+use Rattle.sum_laws.proofs.Sums.{total_append}
+use Rattle.qm_stitch.specs.{Lengthened.lengths_by, Remedies.price_along, Remedies.short_price}
+use Rattle.qm_stitch.proofs.remedies.price_along.Goals as goal
+
+more : (x : Lengths) (prices : List ℤ) (uses : List SideArc) (i : ℕ) (d : SideArc) → i < length uses
+    → price_along x prices (take (i + 1) uses)
+    ≡ price_along x prices (take i uses) +ℤ (short_price x prices (get_or uses i d).arc +ℤ pos 0)
+more x prices uses i d low =
+    ap (price_along x prices) (take_more uses i d low)
+    ∙ total_append (λ (u : SideArc). short_price x prices u.arc) (take i uses) (get_or uses i d ∷ [])
+
+pub loop-used-preserved : goal.loop-used-preserved
+loop-used-preserved c =
+    let x = lengths_by c.args.priced.now.numbered in
+    let e = more x c.args.priced.now.prices.now c.args.uses.now c.loop-used.used-index
+    (record { arc = 0; forward = false }) c.loop-used-test.true in
+    let back : to_z w64 (of_z w64 c.short_price.result) ≡ c.short_price.result =
+    to_z-of_z w64 c.short_price.result (search rules) in
+    record {
+      sum = omega (
+        arith,
+        ints,
+        e,
+        back,
+        c.loop-used.invariant.sum,
+        c.loop-used.invariant.low,
+        c.loop-used.invariant.high,
+        c.short_price.ensures,
+        c.from-price.ensures,
+      );
+      low = omega (arith, ints);
+      high = omega (arith, ints);
+    }

@@ -1,0 +1,64 @@
+use Rattle.std.proofs.Common.{◌≡◌, ◌↔◌, ◌<◌, ℕ, List, true, false, length, sym, ◌∙◌, ap, subst, inl, inr, arith}
+use Rattle.std.proofs.lemmas.Bool.{cases_eq, false≢true}
+use Rattle.std.proofs.lemmas.List.Elements.{Contains-get_or}
+use Rattle.std.proofs.lemmas.Result.{IfOk-weaker}
+use Rattle.std.specs.List.{Contains}
+use Rattle.def_layout.specs.Plans.{plan}
+use Rattle.def_remesh.specs.NewPoints.{lengths_in}
+use Rattle.qm_stitch.specs.Remedies.{AreMarksOf, IsRemedy}
+use Rattle.qm_stitch.specs.declared.remedy.Remedy.{Remedy}
+use Rattle.qm_stitch.proofs.{Chosen.choice_follows, Chosen.choice_needed, Runs.remedy_in}
+use Rattle.qm_stitch.proofs.rises.cheapest_rises.Goals.{After-is_any-some, In_ok-remedies}
+use Rattle.qm_stitch.proofs.rises.cheapest_rises.Goals as goal
+
+-- The remedies are those at these lengths.
+found : (c : In_ok-remedies) → (r : Remedy) → Contains c.in_ok-remedies.remedies.items r
+    ↔ IsRemedy (plan c.args.priced.now.numbered.t.now) (lengths_in c.args.lengths.now) c.args.priced.now.prices.now r
+found c =
+    subst (λ (xs : List ℕ). (r : Remedy) → Contains c.in_ok-remedies.remedies.items r
+    ↔ IsRemedy (plan c.args.priced.now.numbered.t.now) (lengths_in xs) c.args.priced.now.prices.now r)
+    c.requires.same c.in_ok-remedies.ensures
+
+pub cheapest_arcs-requires : goal.cheapest_arcs-requires
+cheapest_arcs-requires c k d low =
+    let w = (goal.at.cheapest_arcs-requires c).In_ok-remedies in
+    remedy_in (plan c.args.priced.now.numbered.t.now) (lengths_in c.args.lengths.now) c.args.priced.now.prices.now _
+    ((found w _).0 (Contains-get_or c.in_ok-remedies.remedies.items k d low))
+
+long : (c : In_ok-remedies) → length c.args.lengths.now ≡ length (plan c.args.priced.now.numbered.t.now).arcs
+long c = ap length (sym c.requires.same) ∙ c.args.priced.now.numbered.numbers.long
+
+-- Whether there is one.
+any : (c : After-is_any-some) → c.is_any-some.result ≡ true → 0 < length c.in_ok-remedies.remedies.items
+any c on = omega (arith, c.is_any-some.ensures.0 on, ap length c.deref.ensures.value)
+
+none : (c : After-is_any-some) → c.is_any-some.result ≡ false → length c.in_ok-remedies.remedies.items ≡ 0
+none c off = elim (cases_eq (length c.in_ok-remedies.remedies.items) 0) [
+  | inl same ↦ same
+  | inr some ↦ absurd (false≢true (sym off
+      ∙ c.is_any-some.ensures.1 (omega (arith, some, ap length c.deref.ensures.value))))
+]
+
+pub returns-clause-needed : goal.returns-clause-needed
+returns-clause-needed c =
+    let at = goal.at.returns-clause-needed c in
+    IfOk-weaker c.rises_by.result _ _
+    (λ rises risen. choice_needed (plan c.args.priced.now.numbered.t.now) c.args.lengths.now
+    c.args.priced.now.prices.now c.in_ok-remedies.remedies.items c.deref-2.result.now rises.items
+    c.args.priced.now.numbered.numbers.paved (long at.In_ok-remedies) (found at.In_ok-remedies)
+    (subst (AreMarksOf (plan c.args.priced.now.numbered.t.now) c.in_ok-remedies.remedies.items)
+    (sym c.deref-2.ensures.value) c.in_ok-chosen.ensures)
+    c.is_any-some.result (any at.After-is_any-some) (none at.After-is_any-some) risen c.requires.short)
+    c.rises_by.ensures
+
+pub returns-clause-cheapest : goal.returns-clause-cheapest
+returns-clause-cheapest c =
+    let at = goal.at.returns-clause-cheapest c in
+    IfOk-weaker c.rises_by.result _ _
+    (λ rises risen. choice_follows (plan c.args.priced.now.numbered.t.now) c.args.lengths.now
+    c.args.priced.now.prices.now c.in_ok-remedies.remedies.items c.deref-2.result.now rises.items
+    c.args.priced.now.numbered.numbers.paved (long at.In_ok-remedies) (found at.In_ok-remedies)
+    (subst (AreMarksOf (plan c.args.priced.now.numbered.t.now) c.in_ok-remedies.remedies.items)
+    (sym c.deref-2.ensures.value) c.in_ok-chosen.ensures)
+    c.is_any-some.result (any at.After-is_any-some) (none at.After-is_any-some) risen)
+    c.rises_by.ensures
