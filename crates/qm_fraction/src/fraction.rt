@@ -3,16 +3,11 @@
 ghost use Rattle.std.specs.Prelude.{◌≡◌, length, IfOk, IfSome};
 
 use crate::Memory;
-use crate::cycles::edges_of;
 use crate::exits::exits_of;
-use crate::paths::match_all;
-use crate::search::no_search;
-use crate::vertices::{free_count, numbers_of, pair_tight, vertices_of};
+use crate::search::{search_in, vertices_after};
+use crate::vertices::vertices_of;
 use qm_dual::SmallGraph;
 use std::alloc::Global;
-
-/// How many exits the searches may look at: some seconds of work.
-const FUEL: u32 = 268_435_456;
 
 /// Where no more vertices are free, and no more than one of so many, a search from each of them costs less than to lead
 /// the numbers first.
@@ -41,19 +36,17 @@ pub fn least_fraction(
     requires long { length y.now ≡ g.now.graph.n }
     ensures { IfOk result (λ found. IfSome found (λ fraction. length fraction.numbers.items ≡ g.now.graph.n)) }
 {
-    let mut vertices = vertices_of(alloc, y)?;
-    pair_tight(g, &mut vertices, known);
-    if g.n() == 0 || free_count(&vertices) <= FEW.min(g.n() as usize / SHARE) {
+    let mut vertices = vertices_of(alloc, g, y)?;
+    vertices.pair_tight(known);
+    if g.n() == 0 || vertices.free_count() <= FEW.min(g.n() as usize / SHARE) {
         return Ok(None);
     }
     let exits = exits_of(alloc, g)?;
-    let mut search = no_search(alloc, &exits);
-    let mut fuel = FUEL;
-    match_all(g, &exits, &mut vertices, &mut search, &mut fuel)?;
-    drop(search);
-    drop(exits);
+    let mut search = search_in(alloc, vertices, exits);
+    search.match_all()?;
+    let vertices = vertices_after(search);
     Ok(Some(Fraction {
-        numbers: numbers_of(alloc, &vertices)?,
-        edges: edges_of(alloc, g, &vertices)?,
+        numbers: vertices.numbers(alloc)?,
+        edges: vertices.edges(alloc)?,
     }))
 }

@@ -34,13 +34,26 @@ pub(crate) struct Vertex {
     pub(crate) is_marked: bool,
 }
 
+/// The vertices of a graph.
+#[derive(Debug, Drop)]
+pub(crate) struct Vertices<'a> {
+    pub(crate) g: &'a SmallGraph<'a>,
+    pub(crate) all: Vec<Vertex>,
+    pub(crate) ghost each: { length all.items ≡ g.now.graph.n },
+}
+
 /// Vertices with these numbers, none of them matched.
-pub(crate) fn vertices_of(alloc: Global, numbers: &[i64]) -> Result<Vec<Vertex>, Memory>
-    ensures { IfOk result (λ vertices. length vertices.items ≡ length numbers.now) }
+pub(crate) fn vertices_of<'a>(
+    alloc: Global,
+    g: &'a SmallGraph<'a>,
+    numbers: &[i64],
+) -> Result<Vertices<'a>, Memory>
+    requires { length numbers.now ≡ g.now.graph.n }
+    ensures { IfOk result (λ vertices. vertices.g.now ≡ g.now) }
 {
-    let mut vertices = Vec::with_capacity(alloc, numbers.len())?;
+    let mut all = Vec::with_capacity(alloc, numbers.len())?;
     for number in numbers {
-        vertices.push(Vertex {
+        all.push(Vertex {
             number: *number,
             distance: FAR,
             by: NONE,
@@ -50,63 +63,63 @@ pub(crate) fn vertices_of(alloc: Global, numbers: &[i64]) -> Result<Vec<Vertex>,
             is_marked: false,
         })?;
     }
-    Ok(vertices)
+    Ok(Vertices { g, all })
 }
 
-/// Matches the ends of tight edges to each other, where both are free: first of known ones, then of all.
-pub(crate) fn pair_tight(g: &SmallGraph, vertices: &mut [Vertex], known: &[u32])
-    requires vertices { length vertices.old ≡ g.now.graph.n }
-    ensures { length vertices.new ≡ g.now.graph.n }
-{
-    for e in known {
-        pair(g, vertices, *e);
+impl Vertices<'_> {
+    /// Matches the ends of tight edges to each other, where both are free: first of known ones, then of all.
+    pub(crate) fn pair_tight(&mut self, known: &[u32])
+        ensures { self.new.g ≡ self.old.g }
+    {
+        for e in known {
+            self.pair(*e);
+        }
+        for e in 0..self.g.edge_count() {
+            self.pair(e);
+        }
     }
-    for e in 0..g.edge_count() {
-        pair(g, vertices, e);
-    }
-}
 
-/// Matches the ends of an edge to each other, where it is tight and both are free.
-fn pair(g: &SmallGraph, vertices: &mut [Vertex], e: u32)
-    requires vertices { length vertices.old ≡ g.now.graph.n }
-    ensures { length vertices.new ≡ g.now.graph.n }
-{
-    let dart = e.saturating_mul(2);
-    let Some(Dart { from, to, cost }) = dart_at(g, dart) else {
-        return;
-    };
-    let (u, v) = (vertices[from as usize], vertices[to as usize]);
-    if u.mate != NONE || v.mate != NONE {
-        return;
+    /// Matches the ends of an edge to each other, where it is tight and both are free.
+    fn pair(&mut self, e: u32)
+        ensures { self.new.g ≡ self.old.g }
+    {
+        let dart = e.saturating_mul(2);
+        let Some(Dart { from, to, cost }) = dart_at(self.g, dart) else {
+            return;
+        };
+        let (u, v) = (self.all[from as usize], self.all[to as usize]);
+        if u.mate != NONE || v.mate != NONE {
+            return;
+        }
+        if u.number.saturating_add(v.number) == cost.saturating_add(cost) {
+            self.join(from, to, dart);
+        }
     }
-    if u.number.saturating_add(v.number) == cost.saturating_add(cost) {
-        join(vertices, from, to, dart);
+
+    /// Matches the ends of a dart to each other.
+    pub(crate) fn join(&mut self, from: u32, to: u32, dart: u32)
+        requires { (from < self.old.g.now.graph.n) × (to < self.old.g.now.graph.n) }
+        ensures { self.new.g ≡ self.old.g }
+    {
+        self.all[from as usize].mate = to;
+        self.all[from as usize].next = dart;
+        self.all[to as usize].mate = from;
+        self.all[to as usize].next = twin(dart);
     }
-}
 
-/// Matches the ends of a dart to each other.
-pub(crate) fn join(vertices: &mut [Vertex], from: u32, to: u32, dart: u32)
-    requires { (from < length vertices.old) × (to < length vertices.old) }
-    ensures { length vertices.new ≡ length vertices.old }
-{
-    vertices[from as usize].mate = to;
-    vertices[from as usize].next = dart;
-    vertices[to as usize].mate = from;
-    vertices[to as usize].next = twin(dart);
-}
-
-/// How many vertices are free.
-pub(crate) fn free_count(vertices: &[Vertex]) -> usize {
-    vertices.iter().filter(|vertex| vertex.mate == NONE).count()
-}
-
-/// The number of each vertex.
-pub(crate) fn numbers_of(alloc: Global, vertices: &[Vertex]) -> Result<Vec<i64>, Memory>
-    ensures { IfOk result (λ numbers. length numbers.items ≡ length vertices.now) }
-{
-    let mut numbers = Vec::with_capacity(alloc, vertices.len())?;
-    for vertex in vertices {
-        numbers.push(vertex.number)?;
+    /// How many vertices are free.
+    pub(crate) fn free_count(&self) -> usize {
+        self.all.iter().filter(|vertex| vertex.mate == NONE).count()
     }
-    Ok(numbers)
+
+    /// The number of each vertex.
+    pub(crate) fn numbers(&self, alloc: Global) -> Result<Vec<i64>, Memory>
+        ensures { IfOk result (λ numbers. length numbers.items ≡ self.now.g.now.graph.n) }
+    {
+        let mut numbers = Vec::with_capacity(alloc, self.all.len())?;
+        for vertex in &self.all {
+            numbers.push(vertex.number)?;
+        }
+        Ok(numbers)
+    }
 }

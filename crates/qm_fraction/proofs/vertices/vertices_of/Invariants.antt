@@ -2,4 +2,4 @@ use Rattle.std.proofs.Common.{◌≡◌, length}
 use Rattle.qm_fraction.proofs.vertices.vertices_of.Given as goal
 
 abbrev pub invariant-loop-number : goal.invariant-loop-number
-invariant-loop-number l = length l.vertices.items ≡ l.number-index
+invariant-loop-number l = length l.all.items ≡ l.number-index

@@ -1,5 +1,0 @@
-use Rattle.std.proofs.Common.{◌<◌}
-use Rattle.qm_fraction.proofs.ends.first_marked.Given as goal
-
-abbrev pub invariant-loop : goal.invariant-loop
-invariant-loop l = l.at < l.g.graph.n
