@@ -1,6 +1,6 @@
 -- The twin of a new dart is the dart that runs the other way along its edge. There is none where the arc stands once.
 use Rattle.std.proofs.Common.{◌≡◌, ◌⊎◌, ℕ, ◌+◌, ◌-◌, ◌<◌, Bool, true, false, not, cond, Some, None, refl, sym, ◌∙◌, ap}
-use Rattle.std.proofs.Common.{subst, inl, inr, arith}
+use Rattle.std.proofs.Common.{inl, inr, arith}
 use Rattle.std.proofs.lemmas.Bool.{cond-false, ne_eqb, false≢true}
 use Rattle.std.specs.Prelude.{◌==◌}
 use Rattle.def_mesh.specs.Darts.{from_of, to_of, twin_of, IsTwin}
@@ -44,22 +44,19 @@ module _ (l : Layout) (x : Lengths) (laid : IsSurface l) (len : AreLengths l x) 
       here : course_of l x (slot_dart l x w o) ≡ use_course l x (use_of l w) o
       here = at_course l x laid len w o is less
 
-      edges : (f g : Bool) → g ≡ not f
-          → on_arc (use_of l v).arc
-          (cond g (x (use_of l w).arc - 1 - o) (x (use_of l v).arc - 1 - (x (use_of l w).arc - 1 - o)))
-          ≡ on_arc (use_of l w).arc (cond f o (x (use_of l w).arc - 1 - o))
+      edges : (f g : Bool) → g ≡ not f → on_arc (use_of l v).arc
+          (cond g (x (use_of l w).arc - 1 - o) (x (use_of l v).arc - 1 - (x (use_of l w).arc - 1 - o))) ≡ on_arc
+          (use_of l w).arc (cond f o (x (use_of l w).arc - 1 - o))
       edges true g e =
           let p : x (use_of l v).arc - 1 - (x (use_of l w).arc - 1 - o) ≡ o =
           omega (arith, other_long l x laid len w v other) in
           (λ t. on_arc (other.1.arc t) (cond (e t) (x (use_of l w).arc - 1 - o) (p t)))
-      edges false g e =
-          λ t. on_arc (other.1.arc t)
+      edges false g e = λ t. on_arc (other.1.arc t)
           (cond (e t) (x (use_of l w).arc - 1 - o) (x (other.1.arc t) - 1 - (x (use_of l w).arc - 1 - o)))
 
   -- The dart over an edge inside a patch leaves the grid point where the other one ends.
-  pub across_within : (d : CellDart) → IsWithin l x d → (e : CellDart) × IsAcross l x laid len d e
-      × (e.patch ≡ d.patch) × (column e.i e.way ≡ column d.i (side_after d.way))
-      × (row e.j e.way ≡ row d.j (side_after d.way))
+  pub across_within : (d : CellDart) → IsWithin l x d → (e : CellDart) × IsAcross l x laid len d e × (e.patch ≡ d.patch)
+      × (column e.i e.way ≡ column d.i (side_after d.way)) × (row e.j e.way ≡ row d.j (side_after d.way))
   across_within d i = by_way d.patch d.i d.j d.way i
     where
       by_way : (p i j : ℕ) (w : Way) → IsWithin l x (dart p i j w) → (e : CellDart)
@@ -135,9 +132,7 @@ module _ (l : Layout) (x : Lengths) (laid : IsSurface l) (len : AreLengths l x) 
     | inr b ↦ elim (laid.other b.0 b.2.is_slot) [
       | inl v ↦ inl (
         slot_dart l x v.0 (x (use_of l b.0).arc - 1 - b.1),
-        subst (λ (e : CellDart). IsAcross l x laid len e (slot_dart l x v.0 (x (use_of l b.0).arc - 1 - b.1)))
-            (sym b.2.dart)
-            (across_border b.0 v.0 b.1 b.2.is_slot v.1 b.2.low),
+        rw b.2.dart (across_border b.0 v.0 b.1 b.2.is_slot v.1 b.2.low),
       )
       | inr none ↦ inr (b.0, b.1, record { on_border = b.2; alone = none })
     ]
@@ -145,7 +140,12 @@ module _ (l : Layout) (x : Lengths) (laid : IsSurface l) (len : AreLengths l x) 
 
   -- No dart runs the other way along such an arc.
   pub alone_not_across : (d e : CellDart) (w : Slot) (o : ℕ) → IsAlone d w o → ¬ IsAcross l x laid len d e
-  alone_not_across d e w o alone across = by_sight (sees l x laid len e across.is_dart)
+  alone_not_across d e w o alone across = elim (sees l x laid len e across.is_dart) [
+    | inl i ↦ false≢true (sym (inner_no_arc l x laid len e.patch e.i e.j e.way)
+        ∙ ap (λ (c : Course). is_arc c.edge) (sym i.course) ∙ ap is_arc across.edge
+        ∙ ap (λ (c : Course). is_arc c.edge) here)
+    | inr b ↦ by_slot b.0 b.1 b.2
+  ]
     where
       here : course_of l x d ≡ use_course l x (use_of l w) o
       here = border_is l x laid len d w o alone.on_border
@@ -153,9 +153,7 @@ module _ (l : Layout) (x : Lengths) (laid : IsSurface l) (len : AreLengths l x) 
       by_slot : (v : Slot) (k : ℕ) → IsOnBorder l x e v k → ⊥
       by_slot v k b =
           let there : course_of l x e ≡ use_course l x (use_of l v) k = border_is l x laid len e v k b in
-          let same : on_arc (use_of l v).arc (cond (use_of l v).forward k (x (use_of l v).arc - 1 - k))
-          ≡ on_arc (use_of l w).arc (cond (use_of l w).forward o (x (use_of l w).arc - 1 - o)) =
-          ap (λ (c : Course). c.edge) (sym there) ∙ across.edge ∙ ap (λ (c : Course). c.edge) here in
+          let same = ap (λ (c : Course). c.edge) (sym there) ∙ across.edge ∙ ap (λ (c : Course). c.edge) here in
           let arcs : (use_of l v).arc ≡ (use_of l w).arc = cc in
           alone.alone v (
             b.is_slot,
@@ -164,13 +162,6 @@ module _ (l : Layout) (x : Lengths) (laid : IsSurface l) (len : AreLengths l x) 
               turned = ap (λ (c : Course). c.ahead) (sym there) ∙ across.turned ∙ ap (λ (c : Course). not c.ahead) here;
             },
           )
-
-      by_sight : IsWithin l x e ⊎ ((v : Slot) × (k : ℕ) × IsOnBorder l x e v k) → ⊥
-      by_sight (inl i) =
-          false≢true (sym (inner_no_arc l x laid len e.patch e.i e.j e.way)
-          ∙ ap (λ (c : Course). is_arc c.edge) (sym i.course)
-          ∙ ap is_arc across.edge ∙ ap (λ (c : Course). is_arc c.edge) here)
-      by_sight (inr b) = by_slot b.0 b.1 b.2
 
   -- A dart across begins where the other one ends.
   pub across_ends : (d e : CellDart) → IsDart l x d → IsAcross l x laid len d e → (dart_start l x e ≡ dart_end l x d)
@@ -184,13 +175,11 @@ module _ (l : Layout) (x : Lengths) (laid : IsSurface l) (len : AreLengths l x) 
     where
       starts : (b : Bool) → start_at l x (course (course_of l x d).edge (not b))
           ≡ end_at l x (course (course_of l x d).edge b)
-      starts true = refl
-      starts false = refl
+      starts = elim [ true ↦ refl | false ↦ refl ]
 
       ends : (b : Bool) → end_at l x (course (course_of l x d).edge (not b))
           ≡ start_at l x (course (course_of l x d).edge b)
-      ends true = refl
-      ends false = refl
+      ends = elim [ true ↦ refl | false ↦ refl ]
 
   -- The dart across is a twin.
   pub across_is_twin : (d e : CellDart) → IsDart l x d → IsAcross l x laid len d e
@@ -204,45 +193,31 @@ module _ (l : Layout) (x : Lengths) (laid : IsSurface l) (len : AreLengths l x) 
   module _ (simple : IsSimple l x) where
     pub across_twin : (d e : CellDart) → IsDart l x d → IsAcross l x laid len d e
         → twin_of (new_faces l x) (dart_number l x d) ≡ Some (dart_number l x e)
-    across_twin d e is a =
-        twin_found (new_faces l x) (edges_once l x laid len simple) (dart_number l x d) (dart_number l x e)
-        (across_is_twin d e is a)
+    across_twin d e is a = twin_found (new_faces l x) (edges_once l x laid len simple) (dart_number l x d)
+        (dart_number l x e) (across_is_twin d e is a)
 
     pub twin_across : (d : CellDart) (n : ℕ) → IsDart l x d → twin_of (new_faces l x) (dart_number l x d) ≡ Some n
         → (e : CellDart) × IsAcross l x laid len d e × (dart_number l x e ≡ n)
-    twin_across d n is found = by_twin (twin_is (new_faces l x) (dart_number l x d) n found)
-      where
-        by_dart : (e : CellDart) → IsDart l x e → dart_number l x e ≡ n → IsTwin (new_faces l x) (dart_number l x d) n
-            → (e : CellDart) × IsAcross l x laid len d e × (dart_number l x e ≡ n)
-        by_dart e is_e e_is t =
-            let starts : dart_start l x e ≡ dart_end l x d =
-            number_same l x (dart_start l x e) (dart_end l x d) (from_is l x laid len e is_e)
-            (from_is l x laid len (next d) (next_is l x d is))
-            (sym (number_from l x e is_e) ∙ ap (from_of (new_faces l x)) e_is ∙ t.1 ∙ number_to l x d is) in
-            let ends : dart_end l x e ≡ dart_start l x d =
-            number_same l x (dart_end l x e) (dart_start l x d) (from_is l x laid len (next e) (next_is l x e is_e))
-            (from_is l x laid len d is)
-            (sym (number_to l x e is_e) ∙ ap (to_of (new_faces l x)) e_is ∙ t.2 ∙ number_from l x d is) in
-            let r : ((course_of l x e).edge ≡ (course_of l x d).edge)
-            × ((course_of l x e).ahead ≡ not (course_of l x d).ahead) =
-            reversed l x simple (course_of l x d) (course_of l x e) (course_is l x laid len d is)
-            (course_is l x laid len e is_e)
-            (sym (course_from l x laid len e is_e) ∙ starts ∙ course_to l x laid len d is)
-            (sym (course_to l x laid len e is_e) ∙ ends ∙ course_from l x laid len d is) in
-            (e, record { is_dart = is_e; edge = r.0; turned = r.1 }, e_is)
-
-        by_twin : IsTwin (new_faces l x) (dart_number l x d) n → (e : CellDart) × IsAcross l x laid len d e
-            × (dart_number l x e ≡ n)
-        by_twin t = let a : (e : CellDart) × IsDart l x e × (dart_number l x e ≡ n) = at_number l x laid len n t.0 in
-            by_dart a.0 a.1 a.2 t
+    twin_across d n is found =
+        let t = twin_is (new_faces l x) (dart_number l x d) n found in
+        let a : (e : CellDart) × IsDart l x e × (dart_number l x e ≡ n) = at_number l x laid len n t.0 in
+        let starts = number_same l x (dart_start l x a.0) (dart_end l x d) (from_is l x laid len a.0 a.1)
+        (from_is l x laid len (next d) (next_is l x d is))
+        (sym (number_from l x a.0 a.1) ∙ ap (from_of (new_faces l x)) a.2 ∙ t.1 ∙ number_to l x d is) in
+        let ends = number_same l x (dart_end l x a.0) (dart_start l x d)
+        (from_is l x laid len (next a.0) (next_is l x a.0 a.1)) (from_is l x laid len d is)
+        (sym (number_to l x a.0 a.1) ∙ ap (to_of (new_faces l x)) a.2 ∙ t.2 ∙ number_from l x d is) in
+        let r = reversed l x simple (course_of l x d) (course_of l x a.0) (course_is l x laid len d is)
+        (course_is l x laid len a.0 a.1) (sym (course_from l x laid len a.0 a.1) ∙ starts ∙ course_to l x laid len d is)
+        (sym (course_to l x laid len a.0 a.1) ∙ ends ∙ course_from l x laid len d is) in
+        (a.0, record { is_dart = a.1; edge = r.0; turned = r.1 }, a.2)
 
     pub alone_no_twin : (d : CellDart) (w : Slot) (o : ℕ) → IsDart l x d → IsAlone d w o
         → twin_of (new_faces l x) (dart_number l x d) ≡ None
-    alone_no_twin d w o is alone =
-        twin_none (new_faces l x) (dart_number l x d) (λ n t. by_twin n t)
+    alone_no_twin d w o is alone = twin_none (new_faces l x) (dart_number l x d) (λ n t. by_twin n t)
       where
         by_twin : (n : ℕ) → ¬ IsTwin (new_faces l x) (dart_number l x d) n
         by_twin n t =
-            let a : (e : CellDart) × IsAcross l x laid len d e × (dart_number l x e ≡ n) =
+            let a =
             twin_across d n is (twin_found (new_faces l x) (edges_once l x laid len simple) (dart_number l x d) n t) in
             alone_not_across d a.0 w o alone a.1

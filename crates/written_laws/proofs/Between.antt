@@ -2,14 +2,14 @@
 use Rattle.std.proofs.Common.{◌≡◌, ℕ, zero, suc, ◌+◌, ◌-◌, ◌*◌, ◌/◌}
 use Rattle.std.proofs.Common.{◌%◌, ◌^◌, ◌<◌, ◌≤◌, ℤ, pos, negsuc, ◌+ℤ◌}
 use Rattle.std.proofs.{Common.◌-ℤ◌, Math.Nat.mod-lt, Math.Nat.div-add-mod, Math.Nat.div-lt_iff_lt-mul}
-use Rattle.std.proofs.{Math.Nat.mul_comm, lemmas.Bool.cases_eq, lemmas.Int.ints, lemmas.Int.by_lt_z, lemmas.Nat.mul-le}
-use Rattle.std.proofs.Common.{◌*ℤ◌, Bool, not, sym, ◌∙◌, ap, subst, inl, inr, arith}
+use Rattle.std.proofs.{lemmas.Bool.cases_eq, lemmas.Int.ints, lemmas.Int.by_lt_z, lemmas.Nat.mul-le}
+use Rattle.std.proofs.Common.{◌*ℤ◌, Bool, not, sym, ◌∙◌, ap, inl, inr, arith}
 use Rattle.std.specs.{Prelude.◌≤ℤ◌, Prelude.◌<ℤ◌, Int.int_div_euclid}
 use Rattle.def_layout.specs.{declared.tmesh.SideArc.SideArc, Layouts.Way, Layouts.south, Layouts.east, Layouts.north}
 use Rattle.def_layout.specs.{Layouts.west, Layouts.Layout, Surfaces.IsSurface, Lengths.Lengths, Lengths.reach}
 use Rattle.def_layout.specs.{Lengths.size, Lengths.wide, Lengths.high, Lengths.AreLengths, Cells.IsDart, Cells.dart}
 use Rattle.def_written.specs.Points.{Point, node, along, inside, IsPoint, arc_point, use_over, offset_at, point}
-use Rattle.def_written.specs.Edges.{on_arc, edge_start, edge_end}
+use Rattle.def_written.specs.Edges.{on_arc}
 use Rattle.def_written.specs.Places.{
   Coordinate,
   on_the_way,
@@ -49,8 +49,7 @@ sum_times (suc k) m a =
 -- What a quotient leaves.
 quotient_rest : (a : ℤ) (b : ℕ) → 0 < b → (r : ℕ) × (r < b) × (a ≡ (pos b *ℤ int_div_euclid a (pos b)) +ℤ pos r)
 quotient_rest (pos a) b some = (a % b, mod-lt a some, ap pos (sym (div-add-mod a b)))
-quotient_rest (negsuc a) b some =
-    (b - 1 - a % b, omega arith, omega (arith, ints, div-add-mod a b, mod-lt a some))
+quotient_rest (negsuc a) b some = (b - 1 - a % b, omega arith, omega (arith, ints, div-add-mod a b, mod-lt a some))
 
 -- A quotient between two whole numbers.
 quotient_within : (a lo hi : ℤ) (b : ℕ) → 0 < b → (pos b *ℤ lo) ≤ℤ a → a <ℤ ((pos b *ℤ hi) +ℤ pos b)
@@ -62,46 +61,37 @@ quotient_within a lo hi b some above below = by_rest (int_div_euclid a (pos b)) 
 
     by_rest : (q : ℤ) → (r : ℕ) × (r < b) × (a ≡ (pos b *ℤ q) +ℤ pos r) → (lo ≤ℤ q) × (q ≤ℤ hi)
     by_rest q r = (
-      by_lt_z q lo
-          (λ less. let le : (q +ℤ pos 1) ≤ℤ lo = omega (arith, ints) in
+      by_lt_z q lo (λ less. let le : (q +ℤ pos 1) ≤ℤ lo = omega (arith, ints) in
           absurd (omega (arith, ints, times_le b (q +ℤ pos 1) lo le, one q, r.1, r.2, above)))
           (λ le. le),
-      by_lt_z hi q
-          (λ less. let le : (hi +ℤ pos 1) ≤ℤ q = omega (arith, ints) in
+      by_lt_z hi q (λ less. let le : (hi +ℤ pos 1) ≤ℤ q = omega (arith, ints) in
           absurd (omega (arith, ints, times_le b (hi +ℤ pos 1) q le, one hi, r.2, below)))
           (λ le. le),
     )
 
 -- A part of the way lies between its ends.
 pub way_within : (p q least greatest : ℤ) (r x : ℕ) → r ≤ x → 0 < x → least ≤ℤ p → p ≤ℤ greatest → least ≤ℤ q
-    → q ≤ℤ greatest
-    → (least ≤ℤ on_the_way p q r x) × (on_the_way p q r x ≤ℤ greatest)
-way_within p q least greatest r x le some p_low p_high q_low q_high = by_bounds bounds
+    → q ≤ℤ greatest → (least ≤ℤ on_the_way p q r x) × (on_the_way p q r x ≤ℤ greatest)
+way_within p q least greatest r x le some p_low p_high q_low q_high =
+    (omega (arith, ints, bounds.0), omega (arith, ints, bounds.1))
   where
     split : 2 * x ≡ 2 * r + 2 * (x - r)
     split = omega arith
 
     lows : (pos (2 * x) *ℤ (least -ℤ p)) ≤ℤ (pos (2 * r) *ℤ (q -ℤ p))
     lows =
-        let a : (pos (2 * r) *ℤ (least -ℤ p)) ≤ℤ (pos (2 * r) *ℤ (q -ℤ p)) =
-        times_le (2 * r) (least -ℤ p) (q -ℤ p) (omega (arith, ints)) in
-        let b : (pos (2 * (x - r)) *ℤ (least -ℤ p)) ≤ℤ (pos (2 * (x - r)) *ℤ pos 0) =
-        times_le (2 * (x - r)) (least -ℤ p) (pos 0) (omega (arith, ints)) in
+        let a = times_le (2 * r) (least -ℤ p) (q -ℤ p) (omega (arith, ints)) in
+        let b = times_le (2 * (x - r)) (least -ℤ p) (pos 0) (omega (arith, ints)) in
         let z : (2 * (x - r)) * 0 ≡ 0 = omega arith in
-        let c : pos (2 * x) *ℤ (least -ℤ p) ≡ (pos (2 * r) *ℤ (least -ℤ p)) +ℤ (pos (2 * (x - r)) *ℤ (least -ℤ p)) =
-        ap (λ n. pos n *ℤ (least -ℤ p)) split ∙ sum_times (2 * r) (2 * (x - r)) (least -ℤ p) in
+        let c = ap (λ n. pos n *ℤ (least -ℤ p)) split ∙ sum_times (2 * r) (2 * (x - r)) (least -ℤ p) in
         omega (arith, ints, a, b, c, z)
 
     highs : (pos (2 * r) *ℤ (q -ℤ p)) ≤ℤ (pos (2 * x) *ℤ (greatest -ℤ p))
     highs =
-        let a : (pos (2 * r) *ℤ (q -ℤ p)) ≤ℤ (pos (2 * r) *ℤ (greatest -ℤ p)) =
-        times_le (2 * r) (q -ℤ p) (greatest -ℤ p) (omega (arith, ints)) in
-        let b : (pos (2 * (x - r)) *ℤ pos 0) ≤ℤ (pos (2 * (x - r)) *ℤ (greatest -ℤ p)) =
-        times_le (2 * (x - r)) (pos 0) (greatest -ℤ p) (omega (arith, ints)) in
+        let a = times_le (2 * r) (q -ℤ p) (greatest -ℤ p) (omega (arith, ints)) in
+        let b = times_le (2 * (x - r)) (pos 0) (greatest -ℤ p) (omega (arith, ints)) in
         let z : (2 * (x - r)) * 0 ≡ 0 = omega arith in
-        let c : pos (2 * x) *ℤ (greatest -ℤ p)
-        ≡ (pos (2 * r) *ℤ (greatest -ℤ p)) +ℤ (pos (2 * (x - r)) *ℤ (greatest -ℤ p)) =
-        ap (λ n. pos n *ℤ (greatest -ℤ p)) split ∙ sum_times (2 * r) (2 * (x - r)) (greatest -ℤ p) in
+        let c = ap (λ n. pos n *ℤ (greatest -ℤ p)) split ∙ sum_times (2 * r) (2 * (x - r)) (greatest -ℤ p) in
         omega (arith, ints, a, b, c, z)
 
     bounds : ((least -ℤ p) ≤ℤ int_div_euclid ((pos (2 * r) *ℤ (q -ℤ p)) +ℤ pos x) (pos (2 * x)))
@@ -109,18 +99,13 @@ way_within p q least greatest r x le some p_low p_high q_low q_high = by_bounds 
     bounds = quotient_within ((pos (2 * r) *ℤ (q -ℤ p)) +ℤ pos x) (least -ℤ p) (greatest -ℤ p) (2 * x) (omega arith)
         (omega (arith, ints, lows)) (omega (arith, ints, highs))
 
-    by_bounds : {d : ℤ} → ((least -ℤ p) ≤ℤ d) × (d ≤ℤ (greatest -ℤ p)) → (least ≤ℤ (p +ℤ d)) × ((p +ℤ d) ≤ℤ greatest)
-    by_bounds b = (omega (arith, ints, b.0), omega (arith, ints, b.1))
-
 -- A mean lies between the corners.
 pub blend_within : (s t : ℕ) (a b c d least greatest : ℤ) → s ≤ ONE → t ≤ ONE
     → least ≤ℤ a → least ≤ℤ b → least ≤ℤ c → least ≤ℤ d → a ≤ℤ greatest → b ≤ℤ greatest → c ≤ℤ greatest → d ≤ℤ greatest
     → (least ≤ℤ blend s t a b c d) × (blend s t a b c d ≤ℤ greatest)
-blend_within s t a b c d least greatest s_le t_le a_low b_low c_low d_low a_high b_high c_high d_high =
-    quotient_within (((((pos ((ONE - s) * (ONE - t)) *ℤ a) +ℤ (pos (s * (ONE - t)) *ℤ b)) +ℤ
-    ((pos ((ONE - s) * t) *ℤ c) +ℤ (pos (s * t) *ℤ d)))) +ℤ pos (2 ^ 63))
-    least greatest (2 ^ 64) (omega arith)
-    (omega (
+blend_within s t a b c d least greatest s_le t_le a_low b_low c_low d_low a_high b_high c_high d_high = quotient_within
+    (((((pos ((ONE - s) * (ONE - t)) *ℤ a) +ℤ (pos (s * (ONE - t)) *ℤ b)) +ℤ
+    ((pos ((ONE - s) * t) *ℤ c) +ℤ (pos (s * t) *ℤ d)))) +ℤ pos (2 ^ 63)) least greatest (2 ^ 64) (omega arith) (omega (
       arith,
       ints,
       total least,
@@ -143,17 +128,12 @@ blend_within s t a b c d least greatest s_le t_le a_low b_low c_low d_low a_high
     weights =
         let u : ONE - s + s ≡ ONE = omega arith in
         let v : ONE - t + t ≡ ONE = omega arith in
-        let e : (ONE - s + s) * (ONE - t + t) ≡ ONE * ONE = λ k. u k * v k in
-        by_parts (ONE - s) s (ONE - t) t e
-      where
-        by_parts : (m n j k : ℕ) → (m + n) * (j + k) ≡ ONE * ONE → (m * j + n * j) + (m * k + n * k) ≡ 2 ^ 64
-        by_parts m n j k e = omega (arith, e)
+        let e : (ONE - s + s) * (ONE - t + t) ≡ ONE * ONE = λ k. u k * v k in omega (arith, e)
 
     total : (z : ℤ) → ((pos ((ONE - s) * (ONE - t)) *ℤ z) +ℤ (pos (s * (ONE - t)) *ℤ z)) +ℤ
         ((pos ((ONE - s) * t) *ℤ z) +ℤ (pos (s * t) *ℤ z)) ≡ pos (2 ^ 64) *ℤ z
-    total z =
-        (λ k. sym (sum_times ((ONE - s) * (ONE - t)) (s * (ONE - t)) z) k +ℤ sym (sum_times ((ONE - s) * t) (s * t) z)
-        k)
+    total z = (λ k. sym (sum_times ((ONE - s) * (ONE - t)) (s * (ONE - t)) z) k +ℤ
+        sym (sum_times ((ONE - s) * t) (s * t) z) k)
         ∙ sym (sum_times ((ONE - s) * (ONE - t) + s * (ONE - t)) ((ONE - s) * t + s * t) z)
         ∙ ap (λ n. pos n *ℤ z) weights
 
@@ -180,11 +160,10 @@ module _ (l : Layout) (old new : Lengths) (spacing : ArcSpacing) (laid : IsSurfa
       → parameter l old new spacing p s t ≤ ONE * size l old p s
   ahead_most p s t p_low less =
       let on : IsOn l new p s t (use_over l new p s t) (offset_at l new p s t) = place_on l new p s t p_low less in
-      let upto : reach l old p s (suc (use_over l new p s t)) ≤ size l old p s =
+      let upto =
       count_rises (long_at l old p s) (suc (use_over l new p s t)) (l.many p s) (omega (arith, on.is_slot.low)) in
       let used : SideArc = l.use_at p s (use_over l new p s t) in
-      let part : spacing.parameter_of used.arc used.forward (offset_at l new p s t) ≤ ONE * old used.arc =
-      arc_most used.arc used.forward (offset_at l new p s t)
+      let part = arc_most used.arc used.forward (offset_at l new p s t)
       (laid.paved.arc_low (record { patch = p; side = s; at = use_over l new p s t }) on.is_slot)
       (omega (arith, on.inside)) in
       omega (arith, upto, part)
@@ -193,15 +172,12 @@ module _ (l : Layout) (old new : Lengths) (spacing : ArcSpacing) (laid : IsSurfa
       → parameter_back l old new spacing p s t ≤ ONE * size l old p s
   back_most p s t p_low less =
       let on : IsOn l new p s t (use_over l new p s t) (offset_at l new p s t) = place_on l new p s t p_low less in
-      let upto : reach l old p s (suc (use_over l new p s t)) ≤ size l old p s =
+      let upto =
       count_rises (long_at l old p s) (suc (use_over l new p s t)) (l.many p s) (omega (arith, on.is_slot.low)) in
       let one : use_over l new p s t + 1 ≡ suc (use_over l new p s t) = omega arith in
-      let reaches : reach l old p s (use_over l new p s t + 1) ≡ reach l old p s (suc (use_over l new p s t)) =
-      ap (reach l old p s) one in
+      let reaches = ap (reach l old p s) one in
       let used : SideArc = l.use_at p s (use_over l new p s t) in
-      let part : spacing.parameter_of used.arc (not used.forward) (new used.arc - offset_at l new p s t)
-      ≤ ONE * old used.arc =
-      arc_most used.arc (not used.forward) (new used.arc - offset_at l new p s t)
+      let part = arc_most used.arc (not used.forward) (new used.arc - offset_at l new p s t)
       (laid.paved.arc_low (record { patch = p; side = s; at = use_over l new p s t }) on.is_slot) (omega arith) in
       omega (arith, upto, reaches, part)
 
@@ -219,23 +195,18 @@ module _ (l : Layout) (old new : Lengths) (spacing : ArcSpacing) (laid : IsSurfa
 
   -- The parameters of grid points inside a patch are at most the old sizes.
   pub u_most : (p i j : ℕ) → IsPoint l new (inside p i j) → parameter_u l old new spacing p i j ≤ ONE * wide l old p
-  u_most p i j is =
-      mean_most (parameter l old new spacing p south i) (parameter_back l old new spacing p north (wide l new p - i))
-      (ONE * wide l old p) (high l new p) j
-      (omega (arith, is.3, is.4)) (omega (arith, is.4)) (ahead_most p south i is.0 is.2)
-      (omega (
+  u_most p i j is = mean_most (parameter l old new spacing p south i)
+      (parameter_back l old new spacing p north (wide l new p - i)) (ONE * wide l old p) (high l new p) j
+      (omega (arith, is.3, is.4)) (omega (arith, is.4)) (ahead_most p south i is.0 is.2) (omega (
         arith,
         o_len.across p is.0,
         back_most p north (wide l new p - i) is.0 (omega (arith, is.1, is.2, n_len.across p is.0)),
       ))
 
   pub v_most : (p i j : ℕ) → IsPoint l new (inside p i j) → parameter_v l old new spacing p i j ≤ ONE * high l old p
-  v_most p i j is =
-      mean_most (parameter_back l old new spacing p west (high l new p - j)) (parameter l old new spacing p east j)
-      (ONE * high l old p)
-      (wide l new p) i
-      (omega (arith, is.1, is.2)) (omega (arith, is.2))
-      (back_most p west (high l new p - j) is.0 (omega (arith, is.3, is.4)))
+  v_most p i j is = mean_most (parameter_back l old new spacing p west (high l new p - j))
+      (parameter l old new spacing p east j) (ONE * high l old p) (wide l new p) i (omega (arith, is.1, is.2))
+      (omega (arith, is.2)) (back_most p west (high l new p - j) is.0 (omega (arith, is.3, is.4)))
       (omega (arith, o_len.upright p is.0, ahead_most p east j is.0 (omega (arith, is.4, n_len.upright p is.0))))
 
   module _ (at : Coordinate) (least greatest : ℤ) (bound : (a : Point) → IsPoint l old a → (least ≤ℤ at a)
@@ -244,27 +215,20 @@ module _ (l : Layout) (old new : Lengths) (spacing : ArcSpacing) (laid : IsSurfa
         × (arc_place l old spacing at a k ≤ℤ greatest)
     arc_within a k is =
         let step : Step = spacing.step a k in
-        let ends : IsPoint l old (edge_start l old (on_arc a step.edge))
-        × IsPoint l old (edge_end l old (on_arc a step.edge)) =
-        edge_points l old laid o_len (on_arc a step.edge) (is.0, spaced.edges a k is.0 is.2) in
+        let ends = edge_points l old laid o_len (on_arc a step.edge) (is.0, spaced.edges a k is.0 is.2) in
         let part : step.some < step.parts = spaced.parts a k is.0 is.2 in
-        let p : (least ≤ℤ at (arc_point l old a step.edge)) × (at (arc_point l old a step.edge) ≤ℤ greatest) =
-        bound (arc_point l old a step.edge) ends.0 in
-        let q : (least ≤ℤ at (arc_point l old a (step.edge + 1)))
-        × (at (arc_point l old a (step.edge + 1)) ≤ℤ greatest) =
-        bound (arc_point l old a (step.edge + 1)) ends.1 in
+        let p = bound (arc_point l old a step.edge) ends.0 in
+        let q = bound (arc_point l old a (step.edge + 1)) ends.1 in
         way_within (at (arc_point l old a step.edge)) (at (arc_point l old a (step.edge + 1))) least greatest step.some
         step.parts (omega (arith, part)) (omega (arith, part)) p.0 p.1 q.0 q.1
 
     grid_within : (p a b : ℕ) (s t : ℕ) → p < l.patches → a < wide l old p → b < high l old p → s ≤ ONE → t ≤ ONE
         → (least ≤ℤ blend s t (at (point l old p a b)) (at (point l old p (a + 1) b)) (at (point l old p a (b + 1)))
-        (at (point l old p (a + 1) (b + 1))))
-        × (blend s t (at (point l old p a b)) (at (point l old p (a + 1) b)) (at (point l old p a (b + 1)))
-        (at (point l old p (a + 1) (b + 1))) ≤ℤ greatest)
-    grid_within p a b s t p_low a_low b_low s_le t_le =
-        blend_within s t (at (point l old p a b)) (at (point l old p (a + 1) b)) (at (point l old p a (b + 1)))
-        (at (point l old p (a + 1) (b + 1)))
-        least greatest s_le t_le (sw.0) (se.0) (nw.0) (ne.0) (sw.1) (se.1) (nw.1) (ne.1)
+        (at (point l old p (a + 1) (b + 1)))) × (blend s t (at (point l old p a b)) (at (point l old p (a + 1) b))
+        (at (point l old p a (b + 1))) (at (point l old p (a + 1) (b + 1))) ≤ℤ greatest)
+    grid_within p a b s t p_low a_low b_low s_le t_le = blend_within s t (at (point l old p a b))
+        (at (point l old p (a + 1) b)) (at (point l old p a (b + 1))) (at (point l old p (a + 1) (b + 1))) least
+        greatest s_le t_le (sw.0) (se.0) (nw.0) (ne.0) (sw.1) (se.1) (nw.1) (ne.1)
       where
         is : (w : Way) → IsDart l old (dart p a b w)
         is w = record { patch_low = p_low; i_low = a_low; j_low = b_low }
@@ -283,18 +247,15 @@ module _ (l : Layout) (old new : Lengths) (spacing : ArcSpacing) (laid : IsSurfa
 
     inside_within : (p i j : ℕ) → IsPoint l new (inside p i j) → (least ≤ℤ inside_place l old new spacing at p i j)
         × (inside_place l old new spacing at p i j ≤ℤ greatest)
-    inside_within p i j is =
-        grid_within p (cell_at (wide l old p) (parameter_u l old new spacing p i j))
+    inside_within p i j is = grid_within p (cell_at (wide l old p) (parameter_u l old new spacing p i j))
         (cell_at (high l old p) (parameter_v l old new spacing p i j))
         (rest_at (wide l old p) (parameter_u l old new spacing p i j))
-        (rest_at (high l old p) (parameter_v l old new spacing p i j))
-        is.0
+        (rest_at (high l old p) (parameter_v l old new spacing p i j)) is.0
         (omega (arith, wide_some l old laid.paved o_len p is.0))
         (omega (arith, high_some l old laid.paved o_len p is.0))
         (rest_most (wide l old p) (parameter_u l old new spacing p i j) (wide_some l old laid.paved o_len p is.0)
-        (u_most p i j is))
-        (rest_most (high l old p) (parameter_v l old new spacing p i j) (high_some l old laid.paved o_len p is.0)
-        (v_most p i j is))
+        (u_most p i j is)) (rest_most (high l old p) (parameter_v l old new spacing p i j)
+        (high_some l old laid.paved o_len p is.0) (v_most p i j is))
 
     place_within : (a : Point) → IsPoint l new a → (least ≤ℤ place_of l old new spacing at a)
         × (place_of l old new spacing at a ≤ℤ greatest)

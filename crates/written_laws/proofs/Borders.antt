@@ -10,7 +10,7 @@ use Rattle.def_layout.specs.Cells.{IsDart, slot_dart}
 use Rattle.def_written.specs.Points.{node, along, inside, IsPoint, arc_point, use_point, use_over, offset_at}
 use Rattle.def_written.specs.Points.{side_point, point}
 use Rattle.def_written.specs.NewFaces.{dart_start, dart_end}
-use Rattle.written_laws.proofs.Sides.{slot, use_begins, use_inner, IsOn, place_on, side_in, side_upto, reach_low}
+use Rattle.written_laws.proofs.Sides.{slot, use_begins, use_inner, place_on, side_in, side_upto, reach_low}
 use Rattle.written_laws.proofs.Grid.{point_inside}
 use Rattle.written_laws.proofs.Rims.{column_of, row_of, side_column, side_row, border_point, rim_is, rim_from, rim_to}
 use Rattle.written_laws.proofs.Rims.{IsInner, IsBorder, dart_on_rim}
@@ -24,9 +24,8 @@ module _ (l : Layout) (x : Lengths) where
       same : v ≡ record { arc = u.arc; forward = not u.forward }
       same = λ t. record { arc = rev.arc t; forward = rev.turned t }
 
-      by_way : (a : ℕ) (b : Bool) → k ≤ x a
-          → use_point l x (record { arc = a; forward = not b }) k ≡ use_point l x (record { arc = a; forward = b })
-          (x a - k)
+      by_way : (a : ℕ) (b : Bool) → k ≤ x a → use_point l x (record { arc = a; forward = not b }) k ≡ use_point l x
+          (record { arc = a; forward = b }) (x a - k)
       by_way a true low = refl
       by_way a false low = let e : k ≡ x a - (x a - k) = omega arith in ap (arc_point l x a) e
 
@@ -37,8 +36,7 @@ module _ (l : Layout) (x : Lengths) where
         let b : use_point l x u o ≡ node (start_node l u) = ap (use_point l x u) z ∙ use_begins l x u (omega arith) in
         absurd cc
     | inr some ↦
-        let b : use_point l x u o ≡ along u.arc (cond u.forward o (x u.arc - o)) =
-        use_inner l x u o (omega arith) less in
+        let b = use_inner l x u o (omega arith) less in
         absurd cc
   ]
 
@@ -57,12 +55,10 @@ module _ (l : Layout) (x : Lengths) where
     before_is w is = by_place w.at is.low
       where
         by_place : (m : ℕ) → m < l.many w.patch w.side → IsSlot l (slot_before l w.patch w.side m)
-        by_place zero low =
-            record {
-              patch_low = is.patch_low;
-              low =
-                  omega (arith, paved.sides_full w.patch (side_before w.side) is.patch_low);
-            }
+        by_place zero low = record {
+          patch_low = is.patch_low;
+          low = omega (arith, paved.sides_full w.patch (side_before w.side) is.patch_low);
+        }
         by_place (suc m) low = record { patch_low = is.patch_low; low = omega arith }
 
   module _ (laid : IsSurface l) (len : AreLengths l x) where
@@ -70,15 +66,13 @@ module _ (l : Layout) (x : Lengths) where
     start_low u low = by_way u.arc u.forward low
       where
         by_way : (a : ℕ) (b : Bool) → a < l.arcs → start_node l (record { arc = a; forward = b }) < l.nodes
-        by_way a true less = laid.paved.first_low a less
-        by_way a false less = laid.paved.last_low a less
+        by_way a = elim [ true ↦ λ less. laid.paved.first_low a less | false ↦ λ less. laid.paved.last_low a less ]
 
     pub use_is_point : (w : Slot) (o : ℕ) → IsSlot l w → o < x (use_of l w).arc
         → IsPoint l x (use_point l x (use_of l w) o)
     use_is_point w o is less = elim (cases_eq o 0) [
-      | inl z ↦ subst (IsPoint l x)
-          (sym (ap (use_point l x (use_of l w)) z ∙ use_begins l x (use_of l w) (omega arith)))
-          (start_low (use_of l w) (laid.paved.arc_low w is))
+      | inl z ↦ subst (IsPoint l x) (sym (ap (use_point l x (use_of l w)) z
+          ∙ use_begins l x (use_of l w) (omega arith))) (start_low (use_of l w) (laid.paved.arc_low w is))
       | inr some ↦ subst (IsPoint l x) (sym (use_inner l x (use_of l w) o (omega arith) less))
           (by_way (use_of l w).arc (use_of l w).forward (laid.paved.arc_low w is) (omega arith) less)
     ]
@@ -89,17 +83,14 @@ module _ (l : Layout) (x : Lengths) where
 
     pub at_from : (w : Slot) (o : ℕ) → IsSlot l w → o < x (use_of l w).arc
         → dart_start l x (slot_dart l x w o) ≡ use_point l x (use_of l w) o
-    at_from w o is less =
-        rim_from l x laid len w.patch w.side (reach l x w.patch w.side w.at + o) is.patch_low
-        (at_low laid.paved len w o is less)
-        ∙ side_in l x w o is less
+    at_from w o is less = rim_from l x laid len w.patch w.side (reach l x w.patch w.side w.at + o) is.patch_low
+        (at_low laid.paved len w o is less) ∙ side_in l x w o is less
 
     pub at_to : (w : Slot) (o : ℕ) → IsSlot l w → o < x (use_of l w).arc
         → dart_end l x (slot_dart l x w o) ≡ use_point l x (use_of l w) (o + 1)
-    at_to w o is less =
-        rim_to l x laid len w.patch w.side (reach l x w.patch w.side w.at + o) is.patch_low
-        (at_low laid.paved len w o is less)
-        ∙ side_upto l x laid len w (o + 1) (reach l x w.patch w.side w.at + o + 1) is (omega arith) (omega arith)
+    at_to w o is less = rim_to l x laid len w.patch w.side (reach l x w.patch w.side w.at + o) is.patch_low
+        (at_low laid.paved len w o is less) ∙ side_upto l x laid len w (o + 1) (reach l x w.patch w.side w.at + o + 1)
+        is (omega arith) (omega arith)
 
     -- Over the border the dart runs the other way round.
     pub other_long : (w v : Slot) → IsOtherSlot l w v → x (use_of l v).arc ≡ x (use_of l w).arc
@@ -138,8 +129,7 @@ module _ (l : Layout) (x : Lengths) where
         on_border : (s : Way) (t : ℕ) → IsBorder l x laid.paved len d.patch (column_of d) (row_of d) s t → (w : Slot)
             × (o : ℕ) × IsAt d w o
         on_border s t b =
-            let on : IsOn l x d.patch s t (use_over l x d.patch s t) (offset_at l x d.patch s t) =
-            place_on l x d.patch s t is.patch_low b.low in
+            let on = place_on l x d.patch s t is.patch_low b.low in
             let w : Slot = slot d.patch s (use_over l x d.patch s t) in (
               w,
               offset_at l x d.patch s t,

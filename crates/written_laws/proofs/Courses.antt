@@ -1,5 +1,5 @@
 -- Each dart of a new cell runs along one edge, in its direction or against it, and no other dart does.
-use Rattle.std.proofs.Common.{◌≡◌, ◌⊎◌, ℕ, ◌+◌, ◌-◌, ◌<◌, Bool, true, false, not, cond, refl, sym, ◌∙◌, ap, subst, inl}
+use Rattle.std.proofs.Common.{◌≡◌, ◌⊎◌, ℕ, ◌+◌, ◌-◌, ◌<◌, Bool, true, false, not, cond, refl, sym, ◌∙◌, ap, inl}
 use Rattle.std.proofs.Common.{inr, arith}
 use Rattle.std.proofs.lemmas.Bool.{cases_eq, cond-true, cond-false, eq-eqb, ne_eqb, false≢true}
 use Rattle.std.specs.Prelude.{◌==◌}
@@ -138,20 +138,13 @@ module _ (l : Layout) (x : Lengths) where
     rim_course : (p : ℕ) (s : Way) (t : ℕ) → p < l.patches → t < size l x p s → course_of (dart_along l x p s t)
         ≡ border_course p s t
     rim_course p south t p_low less = refl
-    rim_course p east t p_low less =
-        cond-true (wide l x p - 1 + 1 == wide l x p) _ _
-        (eq-eqb (wide l x p - 1 + 1) (wide l x p) (omega (arith, some)))
-      where
-        some : 0 < wide l x p
-        some = size_some l x laid.paved len p south p_low
+    rim_course p east t p_low less = cond-true (wide l x p - 1 + 1 == wide l x p) _ _
+        (eq-eqb (wide l x p - 1 + 1) (wide l x p) (omega (arith, size_some l x laid.paved len p south p_low)))
     rim_course p north t p_low less =
         let e : wide l x p - 1 - (wide l x p - 1 - t) ≡ t = omega (arith, len.across p p_low, less) in
         cond-true (high l x p - 1 + 1 == high l x p) _ _
-        (eq-eqb (high l x p - 1 + 1) (high l x p) (omega (arith, some)))
+        (eq-eqb (high l x p - 1 + 1) (high l x p) (omega (arith, size_some l x laid.paved len p west p_low)))
         ∙ ap (border_course p north) e
-      where
-        some : 0 < high l x p
-        some = size_some l x laid.paved len p west p_low
     rim_course p west t p_low less =
         let e : high l x p - 1 - (high l x p - 1 - t) ≡ t = omega (arith, less) in ap (border_course p west) e
 
@@ -173,28 +166,20 @@ module _ (l : Layout) (x : Lengths) where
     use_edge w o is less = by_way (use_of l w).arc (use_of l w).forward (laid.paved.arc_low w is) less
       where
         by_way : (a : ℕ) (b : Bool) → a < l.arcs → o < x a → IsEdge l x (on_arc a (cond b o (x a - 1 - o)))
-        by_way a true a_low o_low = (a_low, o_low)
-        by_way a false a_low o_low = (a_low, omega arith)
+        by_way a = elim [ true ↦ λ a_low o_low. (a_low, o_low) | false ↦ λ a_low o_low. (a_low, omega arith) ]
 
     pub course_is : (d : CellDart) → IsDart l x d → IsEdge l x (course_of d).edge
     course_is d is = elim (sees d is) [
-      | inl i ↦ subst (λ (c : Course). IsEdge l x c.edge) (sym i.course) i.is_edge
-      | inr b ↦ subst (λ (c : Course). IsEdge l x c.edge) (sym (border_is d b.0 b.1 b.2))
-          (use_edge b.0 b.1 b.2.is_slot b.2.low)
+      | inl i ↦ rw i.course i.is_edge
+      | inr b ↦ rw (border_is d b.0 b.1 b.2) (use_edge b.0 b.1 b.2.is_slot b.2.low)
     ]
 
     -- A dart begins and ends where its course does.
     inner_from : (p i j : ℕ) (w : Way) → dart_start l x (dart p i j w) ≡ start_at (inner_course p i j w)
-    inner_from p i j south = refl
-    inner_from p i j east = refl
-    inner_from p i j north = refl
-    inner_from p i j west = refl
+    inner_from p i j = elim [ south ↦ refl | east ↦ refl | north ↦ refl | west ↦ refl ]
 
     inner_to : (p i j : ℕ) (w : Way) → dart_end l x (dart p i j w) ≡ end_at (inner_course p i j w)
-    inner_to p i j south = refl
-    inner_to p i j east = refl
-    inner_to p i j north = refl
-    inner_to p i j west = refl
+    inner_to p i j = elim [ south ↦ refl | east ↦ refl | north ↦ refl | west ↦ refl ]
 
     use_from : (u : SideArc) (o : ℕ) → o < x u.arc → use_point l x u o ≡ start_at (use_course u o)
     use_from u o less = by_way u.arc u.forward less
@@ -234,10 +219,7 @@ module _ (l : Layout) (x : Lengths) where
     inner_back p i j west = refl
 
     pub inner_no_arc : (p i j : ℕ) (w : Way) → is_arc (inner_course p i j w).edge ≡ false
-    inner_no_arc p i j south = refl
-    inner_no_arc p i j east = refl
-    inner_no_arc p i j north = refl
-    inner_no_arc p i j west = refl
+    inner_no_arc p i j = elim [ south ↦ refl | east ↦ refl | north ↦ refl | west ↦ refl ]
 
     -- A course on an arc tells the slot and the place.
     pub use_once : (v w : Slot) (o k : ℕ) → IsSlot l v → IsSlot l w → o < x (use_of l v).arc → k < x (use_of l w).arc
@@ -269,8 +251,7 @@ module _ (l : Layout) (x : Lengths) where
 
         places : (b : Bool) → b ≡ (use_of l w).forward → cond b o (x (use_of l v).arc - 1 - o)
             ≡ cond b k (x (use_of l w).arc - 1 - k) → o ≡ k
-        places true e at = at
-        places false e at = omega (arith, at, ap x arcs)
+        places = elim [ true ↦ λ e at. at | false ↦ λ e at. omega (arith, at, ap x arcs) ]
 
     pub course_once : (d e : CellDart) → IsDart l x d → IsDart l x e → course_of d ≡ course_of e → d ≡ e
     course_once d e is_d is_e same = elim (sees d is_d) [
@@ -283,10 +264,8 @@ module _ (l : Layout) (x : Lengths) where
       | inr a ↦ elim (sees e is_e) [
         | inl j ↦ absurd (false≢true (sym (inner_no_arc e.patch e.i e.j e.way)
             ∙ ap (λ (c : Course). is_arc c.edge) (sym j.course ∙ sym same ∙ border_is d a.0 a.1 a.2)))
-        | inr b ↦ a.2.dart
-            ∙ use_once a.0 b.0 a.1 b.1 a.2.is_slot b.2.is_slot a.2.low b.2.low (sym (border_is d a.0 a.1 a.2) ∙ same
-            ∙ border_is e b.0 b.1 b.2)
-            ∙ sym b.2.dart
+        | inr b ↦ a.2.dart ∙ use_once a.0 b.0 a.1 b.1 a.2.is_slot b.2.is_slot a.2.low b.2.low
+            (sym (border_is d a.0 a.1 a.2) ∙ same ∙ border_is e b.0 b.1 b.2) ∙ sym b.2.dart
       ]
     ]
 

@@ -64,23 +64,20 @@ module _ (l : Layout) (y : Lengths) where
     | inl e ↦ cond-true (2 * k == 0) _ _ (eq-eqb (2 * k) 0 (omega arith))
         ∙ ap double (sym (cond-true (k == 0) (node (l.first a)) (cond (k == y a) (node (l.last a)) (along a k))
         (eq-eqb k 0 e)))
-    | inr some ↦ cond-false (2 * k == 0) _ _ (ne_eqb (2 * k) 0 (λ z. some (omega arith)))
-        ∙ elim (cases_eq k (y a)) [
-          | inl e ↦ cond-true (2 * k == 2 * y a) _ _ (eq-eqb (2 * k) (2 * y a) (ap (λ n. 2 * n) e))
-              ∙ ap double (sym (cond-true (k == y a) (node (l.last a)) (along a k) (eq-eqb k (y a) e)))
-          | inr less ↦ cond-false (2 * k == 2 * y a) _ _ (ne_eqb (2 * k) (2 * y a) (λ z. less (omega (arith, z))))
-              ∙ ap double (sym (cond-false (k == y a) (node (l.last a)) (along a k) (ne_eqb k (y a) less)))
-        ]
-        ∙ ap double (sym (cond-false (k == 0) (node (l.first a)) (cond (k == y a) (node (l.last a)) (along a k))
+    | inr some ↦ cond-false (2 * k == 0) _ _ (ne_eqb (2 * k) 0 (λ z. some (omega arith))) ∙ elim (cases_eq k (y a)) [
+      | inl e ↦ cond-true (2 * k == 2 * y a) _ _ (eq-eqb (2 * k) (2 * y a) (ap (λ n. 2 * n) e))
+          ∙ ap double (sym (cond-true (k == y a) (node (l.last a)) (along a k) (eq-eqb k (y a) e)))
+      | inr less ↦ cond-false (2 * k == 2 * y a) _ _ (ne_eqb (2 * k) (2 * y a) (λ z. less (omega (arith, z))))
+          ∙ ap double (sym (cond-false (k == y a) (node (l.last a)) (along a k) (ne_eqb k (y a) less)))
+    ] ∙ ap double (sym (cond-false (k == 0) (node (l.first a)) (cond (k == y a) (node (l.last a)) (along a k))
         (ne_eqb k 0 some)))
   ]
 
   use_double : (u : SideArc) (o : ℕ) → o ≤ y u.arc → use_point l (scale 2 y) u (2 * o) ≡ double (use_point l y u o)
   use_double u o le = by_way u.arc u.forward le
     where
-      by_way : (a : ℕ) (b : Bool) → o ≤ y a
-          → use_point l (scale 2 y) (record { arc = a; forward = b }) (2 * o)
-          ≡ double (use_point l y (record { arc = a; forward = b }) o)
+      by_way : (a : ℕ) (b : Bool) → o ≤ y a → use_point l (scale 2 y) (record { arc = a; forward = b }) (2 * o) ≡ double
+          (use_point l y (record { arc = a; forward = b }) o)
       by_way a true low = arc_double a o
       by_way a false low =
           let e : 2 * y a - 2 * o ≡ 2 * (y a - o) = omega (arith, low) in
@@ -139,16 +136,14 @@ module _ (l : Layout) (y : Lengths) where
         alike : (course_of l y e).ahead ≡ (course_of l y d).ahead → ⊥
         alike ways = apart (course_once l y laid len d e is_d is_e (λ t. record {
           edge = sym edges t;
-          ahead =
-              sym ways t;
+          ahead = sym ways t;
         }))
 
         turned : (course_of l y e).ahead ≡ not (course_of l y d).ahead → ⊥
         turned ways = ends (across_ends l y laid len d e is_d (record {
           is_dart = is_e;
           edge = edges;
-          turned =
-              ways;
+          turned = ways;
         })).0
 
         by_ways : (a b : Bool) → (course_of l y d).ahead ≡ a → (course_of l y e).ahead ≡ b → ⊥
@@ -175,8 +170,7 @@ module _ (l : Layout) (y : Lengths) where
         even e =
             let half : j ≡ 2 * (j / 2) = omega arith in
             let rest : high l (scale 2 y) p - j ≡ 2 * (high l y p - j / 2) = omega (arith, rows) in
-            let points : double (side_point l y p west (high l y p - j / 2)) ≡ double (side_point l y p east (j / 2)) =
-            sym (side_double p west (high l y p - j / 2) low (omega (arith, rows)))
+            let points = sym (side_double p west (high l y p - j / 2) low (omega (arith, rows)))
             ∙ ap (side_point l (scale 2 y) p west) (sym rest) ∙ sides ∙ ap (side_point l (scale 2 y) p east) half
             ∙ side_double p east (j / 2) low (omega (arith, rows, len.upright p low)) in
             simple.no_loop (flat p 0 (j / 2)) (low, omega (arith, one), omega (arith, rows), omega (arith, rows))
@@ -188,9 +182,7 @@ module _ (l : Layout) (y : Lengths) where
         odd e =
             let half : j ≡ 2 * (j / 2) + 1 = omega arith in
             let rest : high l (scale 2 y) p - j ≡ 2 * (high l y p - 1 - j / 2) + 1 = omega (arith, rows) in
-            let edges : (border_course l y p east (j / 2)).edge
-            ≡ (border_course l y p west (high l y p - 1 - j / 2)).edge =
-            middle_same p p east west (j / 2) (high l y p - 1 - j / 2)
+            let edges = middle_same p p east west (j / 2) (high l y p - 1 - j / 2)
             (sym (side_odd p east (j / 2) low (omega (arith, rows, len.upright p low)))
             ∙ ap (side_point l (scale 2 y) p east) (sym half) ∙ sym sides ∙ ap (side_point l (scale 2 y) p west) rest
             ∙ side_odd p west (high l y p - 1 - j / 2) low (omega (arith, rows))) in
@@ -219,9 +211,7 @@ module _ (l : Layout) (y : Lengths) where
         even e =
             let half : i ≡ 2 * (i / 2) = omega arith in
             let rest : wide l (scale 2 y) p - i ≡ 2 * (wide l y p - i / 2) = omega (arith, columns) in
-            let points : double (side_point l y p south (i / 2))
-            ≡ double (side_point l y p north (wide l y p - i / 2)) =
-            sym (side_double p south (i / 2) low (omega (arith, columns)))
+            let points = sym (side_double p south (i / 2) low (omega (arith, columns)))
             ∙ ap (side_point l (scale 2 y) p south) (sym half) ∙ sides ∙ ap (side_point l (scale 2 y) p north) rest
             ∙ side_double p north (wide l y p - i / 2) low (omega (arith, columns, len.across p low)) in
             simple.no_loop (steep p (i / 2) 0) (low, omega (arith, columns), omega (arith, columns), omega (arith, one))
@@ -232,9 +222,7 @@ module _ (l : Layout) (y : Lengths) where
         odd e =
             let half : i ≡ 2 * (i / 2) + 1 = omega arith in
             let rest : wide l (scale 2 y) p - i ≡ 2 * (wide l y p - 1 - i / 2) + 1 = omega (arith, columns) in
-            let edges : (border_course l y p north (wide l y p - 1 - i / 2)).edge
-            ≡ (border_course l y p south (i / 2)).edge =
-            middle_same p p north south (wide l y p - 1 - i / 2) (i / 2)
+            let edges = middle_same p p north south (wide l y p - 1 - i / 2) (i / 2)
             (sym (side_odd p north (wide l y p - 1 - i / 2) low (omega (arith, columns, len.across p low)))
             ∙ ap (side_point l (scale 2 y) p north) (sym rest) ∙ sym sides ∙ ap (side_point l (scale 2 y) p south) half
             ∙ side_odd p south (i / 2) low (omega (arith, columns))) in

@@ -2,8 +2,8 @@
 use Rattle.std.proofs.Common.{◌≡◌, ◌<◌, Bool, true, false, ◌∙◌, ap, subst, arith}
 use Rattle.std.proofs.lemmas.Bool.{cond-false, ne_eqb}
 use Rattle.std.specs.Prelude.{◌==◌}
-use Rattle.def_layout.specs.{declared.tmesh.SideArc.SideArc, Layouts.south, Layouts.west, Layouts.Layout, Layouts.Slot}
-use Rattle.def_layout.specs.{Layouts.IsSlot, Layouts.use_of, Surfaces.IsSurface, Lengths.Lengths, Lengths.AreLengths}
+use Rattle.def_layout.specs.{declared.tmesh.SideArc.SideArc, Layouts.south, Layouts.west, Layouts.Layout}
+use Rattle.def_layout.specs.{Layouts.use_of, Surfaces.IsSurface, Lengths.Lengths, Lengths.AreLengths}
 use Rattle.def_layout.specs.Cells.{CellDart, IsDart, dart, next, slot_dart}
 use Rattle.def_written.specs.Points.{IsPoint}
 use Rattle.def_written.specs.Edges.{Edge, on_arc, flat, steep, IsEdge, edge_start, edge_end}
@@ -13,18 +13,15 @@ use Rattle.written_laws.proofs.Courses.{at_course, course_from, course_to}
 
 module _ (l : Layout) (x : Lengths) (laid : IsSurface l) (len : AreLengths l x) where
   pub edge_dart : (e : Edge) → IsEdge l x e → (d : CellDart) × IsDart l x d × ((course_of l x d).edge ≡ e)
-  edge_dart (on_arc a k) is = by_slot (laid.forward a is.0)
-    where
-      by_slot : (w : Slot) × IsSlot l w × (use_of l w ≡ record { arc = a; forward = true })
-          → (d : CellDart) × IsDart l x d × ((course_of l x d).edge ≡ on_arc a k)
-      by_slot f =
-          let long : x (use_of l f.0).arc ≡ x a = ap (λ (u : SideArc). x u.arc) f.2 in
-          let less : k < x (use_of l f.0).arc = omega (arith, is.1) in (
-            slot_dart l x f.0 k,
-            at_is l x laid.paved len f.0 k f.1 less,
-            ap (λ (c : Course). c.edge) (at_course l x laid len f.0 k f.1 less)
-                ∙ ap (λ (u : SideArc). (use_course l x u k).edge) f.2,
-          )
+  edge_dart (on_arc a k) is =
+      let f = laid.forward a is.0 in
+      let long : x (use_of l f.0).arc ≡ x a = ap (λ (u : SideArc). x u.arc) f.2 in
+      let less : k < x (use_of l f.0).arc = omega (arith, is.1) in (
+        slot_dart l x f.0 k,
+        at_is l x laid.paved len f.0 k f.1 less,
+        ap (λ (c : Course). c.edge) (at_course l x laid len f.0 k f.1 less)
+            ∙ ap (λ (u : SideArc). (use_course l x u k).edge) f.2,
+      )
   edge_dart (flat p i j) is = (
     dart p i j south,
     record { patch_low = is.0; i_low = is.1; j_low = is.3 },
@@ -44,13 +41,11 @@ module _ (l : Layout) (x : Lengths) (laid : IsSurface l) (len : AreLengths l x) 
           × IsPoint l x (edge_end l x e)
       by_dart f = by_way (course_of l x f.0).ahead
           (subst (IsPoint l x) (course_from l x laid len f.0 f.1
-          ∙ ap (λ (g : Edge). start_at l x (course g (course_of l x f.0).ahead)) f.2)
-          (from_is l x laid len f.0 f.1))
+          ∙ ap (λ (g : Edge). start_at l x (course g (course_of l x f.0).ahead)) f.2) (from_is l x laid len f.0 f.1))
           (subst (IsPoint l x) (course_to l x laid len f.0 f.1
           ∙ ap (λ (g : Edge). end_at l x (course g (course_of l x f.0).ahead)) f.2)
           (from_is l x laid len (next f.0) (next_is l x f.0 f.1)))
         where
           by_way : (b : Bool) → IsPoint l x (start_at l x (course e b)) → IsPoint l x (end_at l x (course e b))
               → IsPoint l x (edge_start l x e) × IsPoint l x (edge_end l x e)
-          by_way true s t = (s, t)
-          by_way false s t = (t, s)
+          by_way = elim [ true ↦ λ s t. (s, t) | false ↦ λ s t. (t, s) ]

@@ -38,13 +38,11 @@ module _ (l : Layout) (x : Lengths) where
   edge_total = count_below x l.arcs + count_below flats l.patches + count_below steeps l.patches
 
   flat_place : (p i j : ℕ) → IsEdge l x (flat p i j) → (j - 1) * wide l x p + i < flats p
-  flat_place p i j is =
-      subst (λ n. (j - 1) * wide l x p + i < n) (mul_comm (wide l x p) (high l x p - 1))
+  flat_place p i j is = subst (λ n. (j - 1) * wide l x p + i < n) (mul_comm (wide l x p) (high l x p - 1))
       (mul-add-lt (j - 1) (wide l x p) i (high l x p - 1) (omega (arith, is.2, is.3)) is.1)
 
   steep_place : (p i j : ℕ) → IsEdge l x (steep p i j) → j * (wide l x p - 1) + (i - 1) < steeps p
-  steep_place p i j is =
-      subst (λ n. j * (wide l x p - 1) + (i - 1) < n) (mul_comm (wide l x p - 1) (high l x p))
+  steep_place p i j is = subst (λ n. j * (wide l x p - 1) + (i - 1) < n) (mul_comm (wide l x p - 1) (high l x p))
       (mul-add-lt j (wide l x p - 1) (i - 1) (high l x p) is.3 (omega (arith, is.1, is.2)))
 
   arc_place : (a k : ℕ) → IsEdge l x (on_arc a k) → count_below x a + k < count_below x l.arcs
@@ -69,32 +67,28 @@ module _ (l : Layout) (x : Lengths) where
       λ t. on_arc (s.0 t) (s.1 t)
   edge_same (flat p i j) (on_arc b m) is_e is_f same = absurd (omega (arith, arc_place b m is_f, same))
   edge_same (flat p i j) (flat q c d) is_e is_f same =
-      let s : (p ≡ q) × ((j - 1) * wide l x p + i ≡ (d - 1) * wide l x q + c) =
-      place_same flats l.patches p ((j - 1) * wide l x p + i) q ((d - 1) * wide l x q + c) is_e.0 is_f.0
+      let s = place_same flats l.patches p ((j - 1) * wide l x p + i) q ((d - 1) * wide l x q + c) is_e.0 is_f.0
       (flat_place p i j is_e) (flat_place q c d is_f) (omega (arith, same)) in
       by_place s.0 (s.1 ∙ ap (λ r. (d - 1) * wide l x r + c) (sym s.0))
     where
       by_place : p ≡ q → (j - 1) * wide l x p + i ≡ (d - 1) * wide l x p + c → flat p i j ≡ flat q c d
       by_place patch place =
           let w : wide l x q ≡ wide l x p = ap (wide l x) (sym patch) in
-          let s : (j - 1 ≡ d - 1) × (i ≡ c) =
-          same_from_place (j - 1) i (d - 1) c (wide l x p) is_e.1 (omega (arith, is_f.1, w)) place in
+          let s = same_from_place (j - 1) i (d - 1) c (wide l x p) is_e.1 (omega (arith, is_f.1, w)) place in
           let rows : j ≡ d = omega (arith, s.0, is_e.2, is_f.2) in
           λ t. flat (patch t) (s.1 t) (rows t)
   edge_same (flat p i j) (steep q c d) is_e is_f same = absurd (omega (arith, flat_low p i j is_e, same))
   edge_same (steep p i j) (on_arc b m) is_e is_f same = absurd (omega (arith, arc_place b m is_f, same))
   edge_same (steep p i j) (flat q c d) is_e is_f same = absurd (omega (arith, flat_low q c d is_f, same))
   edge_same (steep p i j) (steep q c d) is_e is_f same =
-      let s : (p ≡ q) × (j * (wide l x p - 1) + (i - 1) ≡ d * (wide l x q - 1) + (c - 1)) =
-      place_same steeps l.patches p (j * (wide l x p - 1) + (i - 1)) q (d * (wide l x q - 1) + (c - 1)) is_e.0 is_f.0
-      (steep_place p i j is_e) (steep_place q c d is_f) (omega (arith, same)) in
+      let s = place_same steeps l.patches p (j * (wide l x p - 1) + (i - 1)) q (d * (wide l x q - 1) + (c - 1)) is_e.0
+      is_f.0 (steep_place p i j is_e) (steep_place q c d is_f) (omega (arith, same)) in
       by_place s.0 (s.1 ∙ ap (λ r. d * (wide l x r - 1) + (c - 1)) (sym s.0))
     where
       by_place : p ≡ q → j * (wide l x p - 1) + (i - 1) ≡ d * (wide l x p - 1) + (c - 1) → steep p i j ≡ steep q c d
       by_place patch place =
           let w : wide l x q ≡ wide l x p = ap (wide l x) (sym patch) in
-          let s : (j ≡ d) × (i - 1 ≡ c - 1) =
-          same_from_place j (i - 1) d (c - 1) (wide l x p - 1) (omega (arith, is_e.1, is_e.2))
+          let s = same_from_place j (i - 1) d (c - 1) (wide l x p - 1) (omega (arith, is_e.1, is_e.2))
           (omega (arith, is_f.1, is_f.2, w)) place in
           let columns : i ≡ c = omega (arith, s.1, is_e.1, is_f.1) in
           λ t. steep (patch t) (columns t) (s.0 t)
@@ -122,9 +116,7 @@ module _ (l : Layout) (x : Lengths) where
       by_flat : (m p o : ℕ) → n ≡ count_below x l.arcs + m → IsInRun flats l.patches m p o → (e : Edge) × IsEdge l x e
           × (edge_number e ≡ n)
       by_flat m p o is h =
-          let r : (o % wide l x p < wide l x p) × (o / wide l x p < high l x p - 1)
-          × (o / wide l x p * wide l x p + o % wide l x p ≡ o) =
-          in_rows (wide l x p) (high l x p - 1) o h.inside in
+          let r = in_rows (wide l x p) (high l x p - 1) o h.inside in
           let row : o / wide l x p + 1 - 1 ≡ o / wide l x p = omega arith in
           let place : (o / wide l x p + 1 - 1) * wide l x p ≡ o / wide l x p * wide l x p =
           ap (λ k. k * wide l x p) row in (
@@ -142,12 +134,9 @@ module _ (l : Layout) (x : Lengths) where
           (omega (arith, more)) (run_here flats l.patches (n - count_below x l.arcs) (omega (arith, more, less)))
 
       by_steep : (m p o : ℕ) → n ≡ count_below x l.arcs + count_below flats l.patches + m
-          → IsInRun steeps l.patches m p o
-          → (e : Edge) × IsEdge l x e × (edge_number e ≡ n)
+          → IsInRun steeps l.patches m p o → (e : Edge) × IsEdge l x e × (edge_number e ≡ n)
       by_steep m p o is h =
-          let r : (o % (wide l x p - 1) < wide l x p - 1) × (o / (wide l x p - 1) < high l x p)
-          × (o / (wide l x p - 1) * (wide l x p - 1) + o % (wide l x p - 1) ≡ o) =
-          in_rows (wide l x p - 1) (high l x p) o h.inside in
+          let r = in_rows (wide l x p - 1) (high l x p) o h.inside in
           let column : o % (wide l x p - 1) + 1 - 1 ≡ o % (wide l x p - 1) = omega arith in (
             steep p (o % (wide l x p - 1) + 1) (o / (wide l x p - 1)),
             (h.low, omega arith, omega (arith, r.0), r.1),
@@ -156,12 +145,10 @@ module _ (l : Layout) (x : Lengths) where
 
       on_steeps : count_below x l.arcs + count_below flats l.patches ≤ n → (e : Edge) × IsEdge l x e
           × (edge_number e ≡ n)
-      on_steeps most =
-          by_steep (n - (count_below x l.arcs + count_below flats l.patches))
+      on_steeps most = by_steep (n - (count_below x l.arcs + count_below flats l.patches))
           (run_at (count_below steeps) l.patches (n - (count_below x l.arcs + count_below flats l.patches)))
-          (n - (count_below x l.arcs + count_below flats l.patches)
-          - count_below steeps (run_at (count_below steeps) l.patches
-          (n - (count_below x l.arcs + count_below flats l.patches))))
+          (n - (count_below x l.arcs + count_below flats l.patches) - count_below steeps
+          (run_at (count_below steeps) l.patches (n - (count_below x l.arcs + count_below flats l.patches))))
           (omega (arith, most)) (run_here steeps l.patches (n - (count_below x l.arcs + count_below flats l.patches))
           (omega (arith, most, low)))
 
@@ -181,19 +168,15 @@ module _ (l : Layout) (x : Lengths) where
 
       on_arcs : l.nodes ≤ n → n < l.nodes + before_arc x l.arcs → (a : Point) × IsPoint l x a
           × (vertex_number l x a ≡ n)
-      on_arcs more less =
-          by_arc (n - l.nodes) (run_at (count_below (λ b. x b - 1)) l.arcs (n - l.nodes))
+      on_arcs more less = by_arc (n - l.nodes) (run_at (count_below (λ b. x b - 1)) l.arcs (n - l.nodes))
           (n - l.nodes - count_below (λ b. x b - 1) (run_at (count_below (λ b. x b - 1)) l.arcs (n - l.nodes)))
           (omega (arith, more)) (run_here (λ b. x b - 1) l.arcs (n - l.nodes) (omega (arith, more, less)))
 
       by_patch : (m p o : ℕ) → n ≡ l.nodes + before_arc x l.arcs + m → IsInRun (inner_points l x) l.patches m p o
           → (a : Point) × IsPoint l x a × (vertex_number l x a ≡ n)
       by_patch m p o is h =
-          let less : o < (high l x p - 1) * (wide l x p - 1) =
-          subst (λ k. o < k) (mul_comm (wide l x p - 1) (high l x p - 1)) h.inside in
-          let r : (o % (wide l x p - 1) < wide l x p - 1) × (o / (wide l x p - 1) < high l x p - 1)
-          × (o / (wide l x p - 1) * (wide l x p - 1) + o % (wide l x p - 1) ≡ o) =
-          in_rows (wide l x p - 1) (high l x p - 1) o less in
+          let less = rw (mul_comm (wide l x p - 1) (high l x p - 1)) at h.inside in
+          let r = in_rows (wide l x p - 1) (high l x p - 1) o less in
           let row : o / (wide l x p - 1) + 1 - 1 ≡ o / (wide l x p - 1) = omega arith in
           let place : (o / (wide l x p - 1) + 1 - 1) * (wide l x p - 1) ≡ o / (wide l x p - 1) * (wide l x p - 1) =
           ap (λ k. k * (wide l x p - 1)) row in (
@@ -203,11 +186,9 @@ module _ (l : Layout) (x : Lengths) where
           )
 
       on_patches : l.nodes + before_arc x l.arcs ≤ n → (a : Point) × IsPoint l x a × (vertex_number l x a ≡ n)
-      on_patches most =
-          by_patch (n - (l.nodes + before_arc x l.arcs))
+      on_patches most = by_patch (n - (l.nodes + before_arc x l.arcs))
           (run_at (count_below (inner_points l x)) l.patches (n - (l.nodes + before_arc x l.arcs)))
-          (n - (l.nodes + before_arc x l.arcs)
-          - count_below (inner_points l x) (run_at (count_below (inner_points l x)) l.patches
-          (n - (l.nodes + before_arc x l.arcs))))
+          (n - (l.nodes + before_arc x l.arcs) - count_below (inner_points l x)
+          (run_at (count_below (inner_points l x)) l.patches (n - (l.nodes + before_arc x l.arcs))))
           (omega (arith, most)) (run_here (inner_points l x) l.patches (n - (l.nodes + before_arc x l.arcs))
           (omega (arith, most, low)))

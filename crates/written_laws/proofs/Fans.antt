@@ -1,5 +1,5 @@
 -- Points are the classes of corners under turns: what holds for turns holds for all darts that leave one point.
-use Rattle.std.proofs.Common.{◌≡◌, ◌⊎◌, ℕ, zero, suc, ◌+◌, ◌-◌, ◌<◌, ◌≤◌, Bool, true, false, not, cond, refl, sym, ◌∙◌}
+use Rattle.std.proofs.Common.{◌≡◌, ◌⊎◌, ℕ, zero, suc, ◌+◌, ◌-◌, ◌<◌, Bool, true, false, not, cond, refl, sym, ◌∙◌}
 use Rattle.std.proofs.Common.{ap, subst, inl, inr, arith}
 use Rattle.std.proofs.lemmas.Bool.{cases_eq}
 use Rattle.def_layout.specs.Layouts.{Way, south, east, north, west, side_before, Layout, Slot, IsSlot, use_of}
@@ -8,7 +8,7 @@ use Rattle.def_layout.specs.Surfaces.{HasWholeSides, IsSurface}
 use Rattle.def_layout.specs.Fans.{IsTurn, SlotTurns, HasFans}
 use Rattle.def_layout.specs.Lengths.{Lengths, reach, size, AreLengths}
 use Rattle.def_layout.specs.Cells.{CellDart, IsDart, next, dart_along, slot_dart}
-use Rattle.def_written.specs.{Points.node, Points.along, Points.inside, Points.use_point, NewFaces.dart_start}
+use Rattle.def_written.specs.{Points.along, Points.use_point, NewFaces.dart_start}
 use Rattle.written_laws.proofs.Sides.{slot, use_begins, use_inner, reach_low, use_some, last_reach, size_some}
 use Rattle.written_laws.proofs.Turning.{IsTurning}
 use Rattle.written_laws.proofs.Rims.{column_of, row_of, rim_patch, rim_column, rim_row, rim_on, rim_round}
@@ -22,9 +22,7 @@ module _ (l : Layout) (x : Lengths) (paved : HasWholeSides l) (len : AreLengths 
 
   pub rim_then : (p : ℕ) (s : Way) (t u : ℕ) → p < l.patches → u ≡ t + 1 → u < size l x p s
       → R (next (dart_along l x p s t)) (dart_along l x p s u)
-  rim_then p s t u low e less =
-      subst (λ (v : ℕ). R (next (dart_along l x p s t)) (dart_along l x p s v)) (sym e)
-      (rim_on l x paved len R turning p s t low (omega arith))
+  rim_then p s t u low e less = rw e (rim_on l x paved len R turning p s t low (omega arith))
 
   -- The dart after the last one of an arc, and the first one of the next arc.
   pub before_related : (w : Slot) → IsSlot l w
@@ -43,26 +41,21 @@ module _ (l : Layout) (x : Lengths) (paved : HasWholeSides l) (len : AreLengths 
           (size_some l x paved len w.patch west is.patch_low)
 
       by_place : (m : ℕ) → m < l.many w.patch w.side
-          → R (next (slot_dart l x (slot_before l w.patch w.side m) (x (use_of l (slot_before l w.patch w.side m)).arc -
-          1)))
-          (slot_dart l x (slot w.patch w.side m) 0)
-      by_place zero low =
-          round w.side
-          (reach l x w.patch (side_before w.side) (l.many w.patch (side_before w.side) - 1)
-          + (x (l.use_at w.patch (side_before w.side) (l.many w.patch (side_before w.side) - 1)).arc - 1))
-          (omega (
+          → R (next (slot_dart l x (slot_before l w.patch w.side m)
+          (x (use_of l (slot_before l w.patch w.side m)).arc - 1))) (slot_dart l x (slot w.patch w.side m) 0)
+      by_place zero low = round w.side (reach l x w.patch (side_before w.side)
+          (l.many w.patch (side_before w.side) - 1) + (x
+          (l.use_at w.patch (side_before w.side) (l.many w.patch (side_before w.side) - 1)).arc - 1)) (omega (
             arith,
             last_reach l x paved len w.patch (side_before w.side) is.patch_low,
             use_some l x paved len (slot_before l w.patch w.side zero)
                 (before_is l x paved len (slot w.patch w.side zero) (record { patch_low = is.patch_low; low = low })),
           ))
       by_place (suc m) low =
-          let some : 0 < x (l.use_at w.patch w.side m).arc =
+          let some =
           use_some l x paved len (slot w.patch w.side m) (record { patch_low = is.patch_low; low = omega arith }) in
-          let next_low : reach l x w.patch w.side (suc m) + x (l.use_at w.patch w.side (suc m)).arc
-          ≤ size l x w.patch w.side =
-          reach_low l x (slot w.patch w.side (suc m)) (record { patch_low = is.patch_low; low = low }) in
-          let next_some : 0 < x (l.use_at w.patch w.side (suc m)).arc =
+          let next_low = reach_low l x (slot w.patch w.side (suc m)) (record { patch_low = is.patch_low; low = low }) in
+          let next_some =
           use_some l x paved len (slot w.patch w.side (suc m)) (record { patch_low = is.patch_low; low = low }) in
           rim_then w.patch w.side (reach l x w.patch w.side m + (x (l.use_at w.patch w.side m).arc - 1))
           (reach l x w.patch w.side (suc m) + 0) is.patch_low (omega arith) (omega arith)
@@ -77,26 +70,23 @@ module _ (l : Layout) (x : Lengths) (laid : IsSurface l) (len : AreLengths l x) 
       let k : ℕ = x (use_of l b).arc - 1 in
       let some : 0 < x (use_of l b).arc = use_some l x laid.paved len b is_b in
       let zero_is : x (use_of l b).arc - 1 - k ≡ 0 = omega arith in
-      let over : R (next (slot_dart l x b k)) (slot_dart l x w (x (use_of l b).arc - 1 - k)) =
-      turning.over b w k is_b (turn.is_slot, turn.reverse) (omega arith) in
+      let over = turning.over b w k is_b (turn.is_slot, turn.reverse) (omega arith) in
       turning.on (slot_dart l x v 0) (next (slot_dart l x b k)) (slot_dart l x w 0)
       (turning.back (next (slot_dart l x b k)) (slot_dart l x v 0)
       (next_is l x laid.paved len R turning (slot_dart l x b k) (at_is l x laid.paved len b k is_b (omega arith)))
       (before_related l x laid.paved len R turning v is))
-      (subst (λ (i : ℕ). R (next (slot_dart l x b k)) (slot_dart l x w i)) zero_is over)
+      (rw zero_is at over)
 
   pub turns_related : (v w : Slot) (n : ℕ) → IsSlot l v → IsSlot l w → SlotTurns l v w n
       → R (slot_dart l x v 0) (slot_dart l x w 0)
   turns_related v w zero is_v is_w same =
       turning.self (slot_dart l x v 0) (slot_dart l x w 0) (ap (λ (u : Slot). slot_dart l x u 0) same)
-  turns_related v w (suc n) is_v is_w turns =
-      turning.on (slot_dart l x v 0) (slot_dart l x turns.0 0) (slot_dart l x w 0)
-      (turns_related v turns.0 n is_v turns.1 turns.2) (by_turn turns.3)
+  turns_related v w (suc n) is_v is_w turns = turning.on (slot_dart l x v 0) (slot_dart l x turns.0 0)
+      (slot_dart l x w 0) (turns_related v turns.0 n is_v turns.1 turns.2) (by_turn turns.3)
     where
       by_turn : IsTurn l turns.0 w ⊎ IsTurn l w turns.0 → R (slot_dart l x turns.0 0) (slot_dart l x w 0)
       by_turn (inl t) = turn_related turns.0 w turns.1 t
-      by_turn (inr t) =
-          turning.back (slot_dart l x w 0) (slot_dart l x turns.0 0)
+      by_turn (inr t) = turning.back (slot_dart l x w 0) (slot_dart l x turns.0 0)
           (at_is l x laid.paved len w 0 is_w (use_some l x laid.paved len w is_w)) (turn_related w turns.0 is_w t)
 
   -- It holds for the first darts of arcs that begin at one node.
@@ -137,17 +127,14 @@ module _ (l : Layout) (x : Lengths) (laid : IsSurface l) (len : AreLengths l x) 
           → R (slot_dart l x w o) (slot_dart l x v k)
       turned ways e =
           let place_is : x (use_of l w).arc - 1 - (o - 1) ≡ k = omega arith in
-          let over : R (next (slot_dart l x w (o - 1))) (slot_dart l x v (x (use_of l w).arc - 1 - (o - 1))) =
-          turning.over w v (o - 1) is_w (is_v, record { arc = sym arcs; turned = ways }) (omega arith) in
-          let on : R (next (slot_dart l x w (o - 1))) (slot_dart l x w o) =
-          rim_then l x laid.paved len R turning w.patch w.side (reach l x w.patch w.side w.at + (o - 1))
-          (reach l x w.patch w.side w.at + o)
-          is_w.patch_low (omega arith) (omega (arith, reach_low l x w is_w)) in
+          let over = turning.over w v (o - 1) is_w (is_v, record { arc = sym arcs; turned = ways }) (omega arith) in
+          let on = rim_then l x laid.paved len R turning w.patch w.side (reach l x w.patch w.side w.at + (o - 1))
+          (reach l x w.patch w.side w.at + o) is_w.patch_low (omega arith) (omega (arith, reach_low l x w is_w)) in
           turning.on (slot_dart l x w o) (next (slot_dart l x w (o - 1))) (slot_dart l x v k)
           (turning.back (next (slot_dart l x w (o - 1))) (slot_dart l x w o)
           (next_is l x laid.paved len R turning (slot_dart l x w (o - 1))
           (at_is l x laid.paved len w (o - 1) is_w (omega arith))) on)
-          (subst (λ (i : ℕ). R (next (slot_dart l x w (o - 1))) (slot_dart l x v i)) place_is over)
+          (rw place_is at over)
 
       by_ways : (f g : Bool) → (use_of l w).forward ≡ f → (use_of l v).forward ≡ g
           → cond (use_of l w).forward o (x (use_of l w).arc - o) ≡ cond (use_of l v).forward k (x (use_of l v).arc - k)
@@ -156,18 +143,15 @@ module _ (l : Layout) (x : Lengths) (laid : IsSurface l) (len : AreLengths l x) 
           alike (f ∙ sym g) (ap (λ (h : Bool). cond h o (x (use_of l w).arc - o)) (sym f) ∙ e
           ∙ ap (λ (h : Bool). cond h k (x (use_of l v).arc - k)) g)
       by_ways false false f g e =
-          let q : x (use_of l w).arc - o ≡ x (use_of l v).arc - k =
-          ap (λ (h : Bool). cond h o (x (use_of l w).arc - o)) (sym f) ∙ e
+          let q = ap (λ (h : Bool). cond h o (x (use_of l w).arc - o)) (sym f) ∙ e
           ∙ ap (λ (h : Bool). cond h k (x (use_of l v).arc - k)) g in
           alike (f ∙ sym g) (omega (arith, q, ap x arcs))
       by_ways true false f g e =
-          let q : o ≡ x (use_of l v).arc - k =
-          ap (λ (h : Bool). cond h o (x (use_of l w).arc - o)) (sym f) ∙ e
+          let q = ap (λ (h : Bool). cond h o (x (use_of l w).arc - o)) (sym f) ∙ e
           ∙ ap (λ (h : Bool). cond h k (x (use_of l v).arc - k)) g in
           turned (g ∙ ap not (sym f)) (omega (arith, q, ap x arcs))
       by_ways false true f g e =
-          let q : x (use_of l w).arc - o ≡ k =
-          ap (λ (h : Bool). cond h o (x (use_of l w).arc - o)) (sym f) ∙ e
+          let q = ap (λ (h : Bool). cond h o (x (use_of l w).arc - o)) (sym f) ∙ e
           ∙ ap (λ (h : Bool). cond h k (x (use_of l v).arc - k)) g in
           turned (g ∙ ap not (sym f)) (sym q)
 
@@ -178,20 +162,14 @@ module _ (l : Layout) (x : Lengths) (laid : IsSurface l) (len : AreLengths l x) 
       | inl o_zero ↦ elim (cases_eq k 0) [
         | inl k_zero ↦ at_node o_zero k_zero
         | inr k_some ↦
-            let a : use_point l x (use_of l w) o ≡ node (start_node l (use_of l w)) =
-            ap (use_point l x (use_of l w)) o_zero ∙ use_begins l x (use_of l w) (omega arith) in
-            let b : use_point l x (use_of l v) k
-            ≡ along (use_of l v).arc (cond (use_of l v).forward k (x (use_of l v).arc - k)) =
-            use_inner l x (use_of l v) k (omega arith) k_low in
+            let a = ap (use_point l x (use_of l w)) o_zero ∙ use_begins l x (use_of l w) (omega arith) in
+            let b = use_inner l x (use_of l v) k (omega arith) k_low in
             absurd cc
       ]
       | inr o_some ↦ elim (cases_eq k 0) [
         | inl k_zero ↦
-            let a : use_point l x (use_of l v) k ≡ node (start_node l (use_of l v)) =
-            ap (use_point l x (use_of l v)) k_zero ∙ use_begins l x (use_of l v) (omega arith) in
-            let b : use_point l x (use_of l w) o
-            ≡ along (use_of l w).arc (cond (use_of l w).forward o (x (use_of l w).arc - o)) =
-            use_inner l x (use_of l w) o (omega arith) o_low in
+            let a = ap (use_point l x (use_of l v)) k_zero ∙ use_begins l x (use_of l v) (omega arith) in
+            let b = use_inner l x (use_of l w) o (omega arith) o_low in
             absurd cc
         | inr k_some ↦ along_related w v o k is_w is_v (omega arith) o_low (omega arith) k_low same
       ]
@@ -199,13 +177,11 @@ module _ (l : Layout) (x : Lengths) (laid : IsSurface l) (len : AreLengths l x) 
       where
         at_node : o ≡ 0 → k ≡ 0 → R (slot_dart l x w o) (slot_dart l x v k)
         at_node o_zero k_zero =
-            let a : use_point l x (use_of l w) o ≡ node (start_node l (use_of l w)) =
-            ap (use_point l x (use_of l w)) o_zero ∙ use_begins l x (use_of l w) (omega arith) in
-            let b : use_point l x (use_of l v) k ≡ node (start_node l (use_of l v)) =
-            ap (use_point l x (use_of l v)) k_zero ∙ use_begins l x (use_of l v) (omega arith) in
+            let a = ap (use_point l x (use_of l w)) o_zero ∙ use_begins l x (use_of l w) (omega arith) in
+            let b = ap (use_point l x (use_of l v)) k_zero ∙ use_begins l x (use_of l v) (omega arith) in
             let e : start_node l (use_of l w) ≡ start_node l (use_of l v) = cc in
             subst (λ (i : ℕ). R (slot_dart l x w i) (slot_dart l x v k)) (sym o_zero)
-            (subst (λ (i : ℕ). R (slot_dart l x w 0) (slot_dart l x v i)) (sym k_zero) (nodes w v is_w is_v e))
+            (rw k_zero (nodes w v is_w is_v e))
 
     at_related : (d : CellDart) (w : Slot) (o : ℕ) → IsDart l x d → IsAt l x laid len d w o → R d (slot_dart l x w o)
     at_related d w o is a =
@@ -237,8 +213,7 @@ module _ (l : Layout) (x : Lengths) (laid : IsSurface l) (len : AreLengths l x) 
         both_inner : IsInner l x laid.paved len d.patch (column_of d) (row_of d)
             → IsInner l x laid.paved len e.patch (column_of e) (row_of e) → R d e
         both_inner i j =
-            let a : inside d.patch (column_of d) (row_of d) ≡ inside e.patch (column_of e) (row_of e) =
-            sym (inner_from l x laid len d i) ∙ same ∙ inner_from l x laid len e j in
+            let a = sym (inner_from l x laid len d i) ∙ same ∙ inner_from l x laid len e j in
             let p : d.patch ≡ e.patch = cc in
             let c : column_of d ≡ column_of e = cc in
             let r : row_of d ≡ row_of e = cc in
@@ -246,8 +221,7 @@ module _ (l : Layout) (x : Lengths) (laid : IsSurface l) (len : AreLengths l x) 
 
         both_border : (w : Slot) (o : ℕ) → IsAt l x laid len d w o → (v : Slot) (k : ℕ) → IsAt l x laid len e v k
             → R d e
-        both_border w o a v k b =
-            turning.on d (slot_dart l x w o) e (at_related d w o is_d a)
+        both_border w o a v k b = turning.on d (slot_dart l x w o) e (at_related d w o is_d a)
             (turning.on (slot_dart l x w o) (slot_dart l x v k) e
             (use_related w v o k a.is_slot b.is_slot a.low b.low (sym a.leaves ∙ same ∙ b.leaves))
             (turning.back e (slot_dart l x v k) is_e (at_related e v k is_e b)))

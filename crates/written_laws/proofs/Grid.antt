@@ -22,14 +22,12 @@ module _ (l : Layout) (x : Lengths) (laid : IsSurface l) (len : AreLengths l x) 
       cond-false (j == 0) _ _ (ne_eqb j 0 (λ z. omega (arith, high_some l x laid.paved len p low)))
       ∙ cond-true (j == high l x p) _ _ (eq-eqb j (high l x p) e)
 
-  pub point_west : (p j : ℕ) → p < l.patches → j ≤ high l x p
-      → point l x p 0 j ≡ side_point l x p west (high l x p - j)
+  pub point_west : (p j : ℕ) → p < l.patches → j ≤ high l x p → point l x p 0 j ≡ side_point l x p west (high l x p - j)
   point_west p j low le = elim (cases_eq j 0) [
     | inl e ↦ ap (point l x p 0) e ∙ sym (corner_meets l x laid len p west (high l x p - j) low (omega arith))
     | inr some ↦ elim (cases_eq j (high l x p)) [
-      | inl e ↦ point_north p 0 j low e
-          ∙ corner_meets l x laid len p north (wide l x p - 0) low (omega (arith, len.across p low))
-          ∙ ap (side_point l x p west) (omega arith)
+      | inl e ↦ point_north p 0 j low e ∙ corner_meets l x laid len p north (wide l x p - 0) low
+          (omega (arith, len.across p low)) ∙ ap (side_point l x p west) (omega arith)
       | inr less ↦
           cond-false (j == 0) _ _ (ne_eqb j 0 some) ∙ cond-false (j == high l x p) _ _ (ne_eqb j (high l x p) less)
     ]
@@ -40,8 +38,7 @@ module _ (l : Layout) (x : Lengths) (laid : IsSurface l) (len : AreLengths l x) 
   point_east p i j low wide_i le = elim (cases_eq j 0) [
     | inl e ↦ ap (point l x p i) e ∙ corner_meets l x laid len p south i low wide_i ∙ ap (side_point l x p east) (sym e)
     | inr some ↦ elim (cases_eq j (high l x p)) [
-      | inl e ↦ point_north p i j low e
-          ∙ ap (side_point l x p north) (omega arith)
+      | inl e ↦ point_north p i j low e ∙ ap (side_point l x p north) (omega arith)
           ∙ sym (corner_meets l x laid len p east j low (omega (arith, len.upright p low)))
       | inr less ↦
           cond-false (j == 0) _ _ (ne_eqb j 0 some) ∙ cond-false (j == high l x p) _ _ (ne_eqb j (high l x p) less)
@@ -51,8 +48,7 @@ module _ (l : Layout) (x : Lengths) (laid : IsSurface l) (len : AreLengths l x) 
   ]
 
   pub point_inside : (p i j : ℕ) → 0 < i → i < wide l x p → 0 < j → j < high l x p → point l x p i j ≡ inside p i j
-  point_inside p i j i_some i_low j_some j_low =
-      cond-false (j == 0) _ _ (ne_eqb j 0 (λ z. omega arith))
+  point_inside p i j i_some i_low j_some j_low = cond-false (j == 0) _ _ (ne_eqb j 0 (λ z. omega arith))
       ∙ cond-false (j == high l x p) _ _ (ne_eqb j (high l x p) (λ z. omega arith))
       ∙ cond-false (i == 0) _ _ (ne_eqb i 0 (λ z. omega arith))
       ∙ cond-false (i == wide l x p) _ _ (ne_eqb i (wide l x p) (λ z. omega arith))

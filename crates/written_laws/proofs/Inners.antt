@@ -10,7 +10,7 @@ use Rattle.def_layout.specs.{Surfaces.IsOtherSlot, Lengths.Lengths, Lengths.AreL
 use Rattle.def_layout.specs.Cells.{next, slot_dart}
 use Rattle.def_written.specs.{Points.Point, Points.use_point, NewFaces.dart_start, NewFaces.dart_end}
 use Rattle.written_laws.proofs.Tallies.{passing, passing_le, passing_all, filter_long}
-use Rattle.written_laws.proofs.{Borders.at_is, Borders.at_from, Borders.at_to, NewDarts.next_is, Courses.IsAcross}
+use Rattle.written_laws.proofs.{Borders.at_is, Borders.at_from, Borders.at_to, NewDarts.next_is}
 use Rattle.written_laws.proofs.{Across.across_or_alone, Across.IsAlone, Across.alone_not_across, Models.IsModel}
 use Rattle.face_laws.proofs.Fans.{inner_from, inner_twin}
 
@@ -45,7 +45,10 @@ module _ (l : Layout) (x : Lengths) (laid : IsSurface l) (len : AreLengths l x) 
       where
         by_dart : (d : CellDart) → IsDart l x d → (dart_start l x d ≡ a) ⊎ (dart_end l x d ≡ a)
             → (t : ℕ) × (twin_of F (cell d) ≡ Some t)
-        by_dart d is ends = by_case (across_or_alone l x laid len d is)
+        by_dart d is ends = elim (across_or_alone l x laid len d is) [
+          | inl e ↦ (cell e.0, model.across d e.0 is e.1)
+          | inr s ↦ absurd (alone s.0 s.1 s.2)
+        ]
           where
             alone : (w : Slot) (o : ℕ) → IsAlone l x laid len d w o → ⊥
             alone w o s =
@@ -59,11 +62,6 @@ module _ (l : Layout) (x : Lengths) (laid : IsSurface l) (len : AreLengths l x) 
                 at (inr e) = inr (sym (at_to l x laid len w o s.on_border.is_slot s.on_border.low)
                     ∙ ap (dart_end l x) (sym s.on_border.dart) ∙ e)
 
-            by_case : ((e : CellDart) × IsAcross l x laid len d e) ⊎ ((w : Slot) × (o : ℕ) × IsAlone l x laid len d w o)
-                → (t : ℕ) × (twin_of F (cell d) ≡ Some t)
-            by_case (inl e) = (cell e.0, model.across d e.0 is e.1)
-            by_case (inr s) = absurd (alone s.0 s.1 s.2)
-
         at : (k : ℕ) → k < darts F → (from_of F k ≡ v) ⊎ (to_of F k ≡ v) → (t : ℕ) × (twin_of F k ≡ Some t)
         at k low ends =
             let d : (d : CellDart) × IsDart l x d × (cell d ≡ k) = model.onto k low in
@@ -76,7 +74,16 @@ module _ (l : Layout) (x : Lengths) (laid : IsSurface l) (len : AreLengths l x) 
             sort d is s (inr e) = inr (ends_there d is (ap (to_of F) s ∙ e))
 
     pub inner_only : is_inner F v ≡ true → AreShared l x a
-    inner_only inner w o is less ends = by_other (laid.other w is)
+    inner_only inner w o is less ends = elim (laid.other w is) [
+      | inl u ↦ u
+      | inr none ↦
+          let t = inner_twin F v inner (cell (slot_dart l x w o)) (model.low (slot_dart l x w o) is_d) (at ends) in
+          let s : IsAlone l x laid len (slot_dart l x w o) w o =
+          record { on_border = record { is_slot = is; low = less; dart = refl }; alone = none } in
+          absurd (none-some t.0 (sym
+          (model.alone (slot_dart l x w o) is_d (λ e. alone_not_across l x laid len (slot_dart l x w o) e w o
+          s)) ∙ t.1))
+    ]
       where
         is_d : IsDart l x (slot_dart l x w o)
         is_d = at_is l x laid.paved len w o is less
@@ -86,30 +93,15 @@ module _ (l : Layout) (x : Lengths) (laid : IsSurface l) (len : AreLengths l x) 
         at (inl e) = inl (is_v.there (slot_dart l x w o) is_d (at_from l x laid len w o is less ∙ e))
         at (inr e) = inr (ends_back (slot_dart l x w o) is_d (at_to l x laid len w o is less ∙ e))
 
-        by_other : ((u : Slot) × IsOtherSlot l w u) ⊎ ((u : Slot) → ¬ IsOtherSlot l w u) → (u : Slot)
-            × IsOtherSlot l w u
-        by_other (inl u) = u
-        by_other (inr none) =
-            let t : (t : ℕ) × (twin_of F (cell (slot_dart l x w o)) ≡ Some t) =
-            inner_twin F v inner (cell (slot_dart l x w o)) (model.low (slot_dart l x w o) is_d) (at ends) in
-            let s : IsAlone l x laid len (slot_dart l x w o) w o =
-            record { on_border = record { is_slot = is; low = less; dart = refl }; alone = none } in
-            absurd (none-some t.0 (sym
-            (model.alone (slot_dart l x w o) is_d (λ e. alone_not_across l x laid len (slot_dart l x w o) e w o
-            s)) ∙ t.1))
-
     -- So many darts leave the vertex, where they are told by numbers.
     pub fan_most : (n : ℕ) (code : (d : CellDart) → IsDart l x d → dart_start l x d ≡ a → (k : ℕ) × (k < n))
         → ((d e : CellDart) (b : IsDart l x d) (c : IsDart l x e) (f : dart_start l x d ≡ a) (g : dart_start l x e ≡ a)
-        → (code d b f).0 ≡ (code e c g).0 → d ≡ e)
-        → faces_at F v ≤ n
-    fan_most n code once =
-        omega (arith, filter_long (λ d. from_of F d == v) (darts F), passing_all n, most)
+        → (code d b f).0 ≡ (code e c g).0 → d ≡ e) → faces_at F v ≤ n
+    fan_most n code once = omega (arith, filter_long (λ d. from_of F d == v) (darts F), passing_all n, most)
       where
         leaves : (k : ℕ) (low : k < darts F) → (from_of F k == v) ≡ true → dart_start l x (model.onto k low).0 ≡ a
-        leaves k low s =
-            is_v.back (model.onto k low).0 (model.onto k low).1 (ap (from_of F) (model.onto k low).2
-            ∙ eqb-true (from_of F k) v s)
+        leaves k low s = is_v.back (model.onto k low).0 (model.onto k low).1
+            (ap (from_of F) (model.onto k low).2 ∙ eqb-true (from_of F k) v s)
 
         most : passing (λ d. from_of F d == v) (darts F) ≤ passing (λ k. true) n
         most = passing_le (λ d. from_of F d == v) (λ k. true) (darts F) n
@@ -122,15 +114,12 @@ module _ (l : Layout) (x : Lengths) (laid : IsSurface l) (len : AreLengths l x) 
 
     pub fan_least : (n : ℕ) (at : (k : ℕ) → k < n → (d : CellDart) × IsDart l x d × (dart_start l x d ≡ a))
         → ((k m : ℕ) (b : k < n) (c : m < n) → (at k b).0 ≡ (at m c).0 → k ≡ m) → n ≤ faces_at F v
-    fan_least n at once =
-        omega (arith, filter_long (λ d. from_of F d == v) (darts F), passing_all n, least)
+    fan_least n at once = omega (arith, filter_long (λ d. from_of F d == v) (darts F), passing_all n, least)
       where
         least : passing (λ k. true) n ≤ passing (λ d. from_of F d == v) (darts F)
-        least = passing_le (λ k. true) (λ d. from_of F d == v) n (darts F)
-            (λ k low on. (
-              cell (at k low).0,
-              model.low (at k low).0 (at k low).1,
-              eq-eqb (from_of F (cell (at k low).0)) v (is_v.there (at k low).0 (at k low).1 (at k low).2),
-            ))
-            (λ k m low on less off same. once k m low less (model.same (at k low).0 (at m less).0 (at k low).1
-            (at m less).1 same))
+        least = passing_le (λ k. true) (λ d. from_of F d == v) n (darts F) (λ k low on. (
+          cell (at k low).0,
+          model.low (at k low).0 (at k low).1,
+          eq-eqb (from_of F (cell (at k low).0)) v (is_v.there (at k low).0 (at k low).1 (at k low).2),
+        )) (λ k m low on less off same. once k m low less
+            (model.same (at k low).0 (at m less).0 (at k low).1 (at m less).1 same))

@@ -1,16 +1,16 @@
 -- Where no edge is doubled, the new faces are a manifold.
-use Rattle.std.proofs.Common.{◌≡◌, ◌≢◌, ◌⊎◌, ℕ, zero, suc, ◌+◌, ◌-◌, ◌<◌, not, cond, refl, sym, ◌∙◌, ap, subst, inl}
+use Rattle.std.proofs.Common.{◌≡◌, ◌≢◌, ◌⊎◌, ℕ, zero, suc, ◌+◌, ◌-◌, ◌<◌, not, refl, sym, ◌∙◌, ap, subst, inl}
 use Rattle.std.proofs.Common.{inr, arith}
 use Rattle.std.proofs.lemmas.Bool.{false≢true}
 use Rattle.def_mesh.specs.{Faces.corner, Darts.from_of, Darts.to_of, Manifold.IsManifold, Manifold.IsRepeatFree}
 use Rattle.def_mesh.specs.Manifold.{HasEdgesOnce}
 use Rattle.def_layout.specs.Layouts.{Way, south, east, north, west, side_after}
-use Rattle.def_layout.specs.Layouts.{side_before, Layout, Slot, AreReverse, use_of}
+use Rattle.def_layout.specs.Layouts.{side_before, Layout, Slot, use_of}
 use Rattle.def_layout.specs.{Layouts.slot_before, Surfaces.IsSurface, Fans.HasFans, Lengths.Lengths, Lengths.reach}
 use Rattle.def_layout.specs.{Lengths.size, Lengths.AreLengths, Cells.CellDart, Cells.IsDart, Cells.next}
 use Rattle.def_layout.specs.Cells.{dart_along, slot_dart}
 use Rattle.def_written.specs.{Numbers.vertex_number, NewFaces.dart_start, NewFaces.dart_end, NewFaces.face_count}
-use Rattle.def_written.specs.{NewFaces.dart_of, NewFaces.cell_vertex, NewFaces.new_faces, Edges.on_arc}
+use Rattle.def_written.specs.{NewFaces.dart_of, NewFaces.cell_vertex, NewFaces.new_faces}
 use Rattle.written_laws.proofs.{Sides.slot, Sides.first_is, Sides.last_is, Rims.corner_cell, Rims.rim_way}
 use Rattle.written_laws.proofs.{Rims.rim_patch, Numbers.number_same, Borders.from_is, Borders.at_low, NewDarts.turn}
 use Rattle.written_laws.proofs.NewDarts.{way_of, turn_way, dart_number, corner_is}
@@ -29,10 +29,7 @@ flat_or_steep p i j north e = cc
 flat_or_steep p i j west e = cc
 
 pub before_after : (w : Way) → side_before (side_after w) ≡ w
-before_after south = refl
-before_after east = refl
-before_after north = refl
-before_after west = refl
+before_after = elim [ south ↦ refl | east ↦ refl | north ↦ refl | west ↦ refl ]
 
 module _ (l : Layout) (x : Lengths) (laid : IsSurface l) (len : AreLengths l x) where
   -- Two border darts in a row lie on the last arc of a side and the first of the next one.
@@ -42,14 +39,12 @@ module _ (l : Layout) (x : Lengths) (laid : IsSurface l) (len : AreLengths l x) 
     where
       patches : v.patch ≡ w.patch
       patches = sym (rim_patch l x laid.paved len v.patch v.side (reach l x v.patch v.side v.at + k))
-          ∙ ap (λ (e : CellDart). e.patch) (sym at_v.dart)
-          ∙ ap (λ (e : CellDart). e.patch) at_w.dart ∙ rim_patch l x laid.paved len w.patch w.side
-          (reach l x w.patch w.side w.at + o)
+          ∙ ap (λ (e : CellDart). e.patch) (sym at_v.dart) ∙ ap (λ (e : CellDart). e.patch) at_w.dart
+          ∙ rim_patch l x laid.paved len w.patch w.side (reach l x w.patch w.side w.at + o)
 
       sides : v.side ≡ side_after w.side
       sides = sym (rim_way l x laid.paved len v.patch v.side (reach l x v.patch v.side v.at + k))
-          ∙ ap (λ (e : CellDart). e.way) (sym at_v.dart)
-          ∙ ap (λ (e : CellDart). side_after e.way) at_w.dart
+          ∙ ap (λ (e : CellDart). e.way) (sym at_v.dart) ∙ ap (λ (e : CellDart). side_after e.way) at_w.dart
           ∙ ap side_after (rim_way l x laid.paved len w.patch w.side (reach l x w.patch w.side w.at + o))
 
       same_rim : slot_dart l x v k ≡ dart_along l x w.patch (side_after w.side) (reach l x v.patch v.side v.at + k)
@@ -86,8 +81,7 @@ module _ (l : Layout) (x : Lengths) (laid : IsSurface l) (len : AreLengths l x) 
 
   module _ (simple : IsSimple l x) where
     pub ends_differ : (d : CellDart) → IsDart l x d → dart_start l x d ≢ dart_end l x d
-    ends_differ d is same =
-        ends_apart l x simple (course_of l x d) (course_is l x laid len d is)
+    ends_differ d is same = ends_apart l x simple (course_of l x d) (course_is l x laid len d is)
         (sym (course_from l x laid len d is) ∙ same ∙ course_to l x laid len d is)
 
     pub opposite_differ : (d : CellDart) → IsDart l x d → dart_start l x d ≢ dart_end l x (next d)
@@ -106,35 +100,24 @@ module _ (l : Layout) (x : Lengths) (laid : IsSurface l) (len : AreLengths l x) 
         by_corner : (w v : Slot) (o k : ℕ) → IsOnBorder l x d w o → IsOnBorder l x (next d) v k → ⊥
         by_corner w v o k at_w at_v =
             let c : (v.at ≡ 0) × (slot_before l v.patch v.side v.at ≡ w) = corner_slots d w v o k at_w at_v in
-            let e : on_arc (use_of l v).arc (cond (use_of l v).forward k (x (use_of l v).arc - 1 - k))
-            ≡ on_arc (use_of l w).arc (cond (use_of l w).forward o (x (use_of l w).arc - 1 - o)) =
-            ap (λ (g : Course). g.edge) (sym (border_is l x laid len (next d) v k at_v)) ∙ turned.0
+            let e = ap (λ (g : Course). g.edge) (sym (border_is l x laid len (next d) v k at_v)) ∙ turned.0
             ∙ ap (λ (g : Course). g.edge) (border_is l x laid len d w o at_w) in
             let arcs : (use_of l v).arc ≡ (use_of l w).arc = cc in
-            let ways : (use_of l v).forward ≡ not (use_of l w).forward =
-            ap (λ (g : Course). g.ahead) (sym (border_is l x laid len (next d) v k at_v)) ∙ turned.1
+            let ways = ap (λ (g : Course). g.ahead) (sym (border_is l x laid len (next d) v k at_v)) ∙ turned.1
             ∙ ap (λ (g : Course). not g.ahead) (border_is l x laid len d w o at_w) in
             laid.no_fold v at_v.is_slot c.0
-            (subst (λ (u : Slot). AreReverse (use_of l u) (use_of l v)) (sym c.1) (record {
-              arc = arcs;
-              turned =
-                  ways;
-            }))
+            (rw c.1 (record { arc = arcs; turned = ways }))
 
         by_sight : IsWithin l x d ⊎ ((w : Slot) × (o : ℕ) × IsOnBorder l x d w o)
             → IsWithin l x (next d) ⊎ ((w : Slot) × (o : ℕ) × IsOnBorder l x (next d) w o) → ⊥
-        by_sight (inl i) (inl j) =
-            flat_or_steep d.patch d.i d.j d.way
+        by_sight (inl i) (inl j) = flat_or_steep d.patch d.i d.j d.way
             (ap (λ (g : Course). g.edge) (sym j.course) ∙ turned.0 ∙ ap (λ (g : Course). g.edge) i.course)
-        by_sight (inl i) (inr b) =
-            false≢true (sym (inner_no_arc l x laid len d.patch d.i d.j d.way)
-            ∙ ap (λ (g : Course). is_arc g.edge) (sym i.course)
-            ∙ ap is_arc (sym turned.0)
+        by_sight (inl i) (inr b) = false≢true (sym (inner_no_arc l x laid len d.patch d.i d.j d.way)
+            ∙ ap (λ (g : Course). is_arc g.edge) (sym i.course) ∙ ap is_arc (sym turned.0)
             ∙ ap (λ (g : Course). is_arc g.edge) (border_is l x laid len (next d) b.0 b.1 b.2))
-        by_sight (inr a) (inl j) =
-            false≢true (sym (inner_no_arc l x laid len d.patch d.i d.j (side_after d.way))
-            ∙ ap (λ (g : Course). is_arc g.edge) (sym j.course)
-            ∙ ap is_arc turned.0 ∙ ap (λ (g : Course). is_arc g.edge) (border_is l x laid len d a.0 a.1 a.2))
+        by_sight (inr a) (inl j) = false≢true (sym (inner_no_arc l x laid len d.patch d.i d.j (side_after d.way))
+            ∙ ap (λ (g : Course). is_arc g.edge) (sym j.course) ∙ ap is_arc turned.0
+            ∙ ap (λ (g : Course). is_arc g.edge) (border_is l x laid len d a.0 a.1 a.2))
         by_sight (inr a) (inr b) = by_corner a.0 b.0 a.1 b.1 a.2 b.2
 
     -- Points apart have numbers apart.
@@ -176,28 +159,21 @@ module _ (l : Layout) (x : Lengths) (laid : IsSurface l) (len : AreLengths l x) 
         ∙ ap (corner (new_faces l x) f) (sym j_is) ∙ corner_is l x f (way_of j) f_low)
 
     pub edges_once : HasEdgesOnce (new_faces l x)
-    edges_once d e d_low e_low same = by_darts (at_number l x laid len d d_low) (at_number l x laid len e e_low)
-      where
-        by_darts : (c : CellDart) × IsDart l x c × (dart_number l x c ≡ d) → (c : CellDart) × IsDart l x c
-            × (dart_number l x c ≡ e) → d ≡ e
-        by_darts a b =
-            let starts : dart_start l x a.0 ≡ dart_start l x b.0 =
-            number_same l x (dart_start l x a.0) (dart_start l x b.0) (from_is l x laid len a.0 a.1)
-            (from_is l x laid len b.0 b.1)
-            (sym (number_from l x a.0 a.1) ∙ ap (from_of (new_faces l x)) a.2 ∙ same.0
-            ∙ ap (from_of (new_faces l x)) (sym b.2) ∙ number_from l x b.0 b.1) in
-            let ends : dart_end l x a.0 ≡ dart_end l x b.0 =
-            number_same l x (dart_end l x a.0) (dart_end l x b.0)
-            (from_is l x laid len (next a.0) (next_is l x a.0 a.1))
-            (from_is l x laid len (next b.0) (next_is l x b.0 b.1))
-            (sym (number_to l x a.0 a.1) ∙ ap (to_of (new_faces l x)) a.2 ∙ same.1
-            ∙ ap (to_of (new_faces l x)) (sym b.2) ∙ number_to l x b.0 b.1) in
-            let one : course_of l x a.0 ≡ course_of l x b.0 =
-            one_course l x simple (course_of l x a.0) (course_of l x b.0) (course_is l x laid len a.0 a.1)
-            (course_is l x laid len b.0 b.1)
-            (sym (course_from l x laid len a.0 a.1) ∙ starts ∙ course_from l x laid len b.0 b.1)
-            (sym (course_to l x laid len a.0 a.1) ∙ ends ∙ course_to l x laid len b.0 b.1) in
-            sym a.2 ∙ ap (dart_number l x) (course_once l x laid len a.0 b.0 a.1 b.1 one) ∙ b.2
+    edges_once d e d_low e_low same =
+        let a = at_number l x laid len d d_low in
+        let b = at_number l x laid len e e_low in
+        let starts = number_same l x (dart_start l x a.0) (dart_start l x b.0) (from_is l x laid len a.0 a.1)
+        (from_is l x laid len b.0 b.1) (sym (number_from l x a.0 a.1) ∙ ap (from_of (new_faces l x)) a.2 ∙ same.0
+        ∙ ap (from_of (new_faces l x)) (sym b.2) ∙ number_from l x b.0 b.1) in
+        let ends = number_same l x (dart_end l x a.0) (dart_end l x b.0)
+        (from_is l x laid len (next a.0) (next_is l x a.0 a.1)) (from_is l x laid len (next b.0) (next_is l x b.0 b.1))
+        (sym (number_to l x a.0 a.1) ∙ ap (to_of (new_faces l x)) a.2 ∙ same.1 ∙ ap (to_of (new_faces l x)) (sym b.2)
+        ∙ number_to l x b.0 b.1) in
+        let one = one_course l x simple (course_of l x a.0) (course_of l x b.0) (course_is l x laid len a.0 a.1)
+        (course_is l x laid len b.0 b.1) (sym (course_from l x laid len a.0 a.1) ∙ starts
+        ∙ course_from l x laid len b.0 b.1) (sym (course_to l x laid len a.0 a.1) ∙ ends
+        ∙ course_to l x laid len b.0 b.1) in
+        sym a.2 ∙ ap (dart_number l x) (course_once l x laid len a.0 b.0 a.1 b.1 one) ∙ b.2
 
     pub manifold : HasFans l → IsManifold (new_faces l x)
     manifold fans = record { repeat_free = repeat_free; edges_once = edges_once; one_fan = one_fan l x laid len fans }

@@ -1,5 +1,5 @@
 -- How many vertices, edges and faces a model has, and Euler's number.
-use Rattle.std.proofs.Common.{◌≡◌, ◌≢◌, ◌⊎◌, ℕ, zero, suc, ◌+◌, ◌-◌, ◌*◌, ◌<◌, ◌≤◌, Bool, true, false, not, length}
+use Rattle.std.proofs.Common.{◌≡◌, ◌≢◌, ℕ, zero, suc, ◌+◌, ◌-◌, ◌*◌, ◌<◌, ◌≤◌, Bool, true, false, not, length}
 use Rattle.std.proofs.Common.{Option, Some, pos, ◌+ℤ◌, ◌-ℤ◌, refl, sym, ◌∙◌, ap, subst, inl, inr, arith}
 use Rattle.std.proofs.lemmas.Int.{ints}
 use Rattle.std.proofs.lemmas.Bool.{cases_order, ltb-true, lt-ltb}
@@ -7,17 +7,17 @@ use Rattle.def_math.specs.Counts.{count_below}
 use Rattle.def_mesh.specs.{Faces.Faces, Darts.darts, Darts.from_of, Darts.twin_of, Vertices.is_used}
 use Rattle.def_mesh.specs.{Vertices.vertex_count, Components.is_lesser, Components.edge_count, Components.used_count}
 use Rattle.def_mesh.specs.Components.{euler}
-use Rattle.def_layout.specs.{Layouts.Layout, Layouts.Slot, Surfaces.IsSurface, Lengths.Lengths, Lengths.wide}
+use Rattle.def_layout.specs.{Layouts.Layout, Surfaces.IsSurface, Lengths.Lengths, Lengths.wide}
 use Rattle.def_layout.specs.{Lengths.high, Lengths.AreLengths, Cells.CellDart, Cells.IsDart}
-use Rattle.def_written.specs.{Points.Point, Points.IsPoint, Numbers.before_patch, Numbers.vertex_number}
-use Rattle.def_written.specs.{Numbers.vertices, NewFaces.dart_start, NewFaces.cells_before, NewFaces.face_count}
+use Rattle.def_written.specs.{Points.Point, Points.IsPoint, Numbers.vertex_number}
+use Rattle.def_written.specs.{Numbers.vertices, NewFaces.dart_start, NewFaces.face_count}
 use Rattle.def_written.specs.Edges.{Edge, IsEdge}
 use Rattle.written_laws.proofs.Tallies.{passing, passing_le, passing_all, filter_long}
 use Rattle.written_laws.proofs.{Numbers.number_low, Numbers.number_same, Grid.wide_some, Grid.high_some}
 use Rattle.written_laws.proofs.{Borders.from_is, NewDarts.dart_number, NewDarts.dart_low, NewDarts.dart_same}
 use Rattle.written_laws.proofs.{NewDarts.at_number, NewDarts.faces_long, Courses.course, Courses.course_of}
 use Rattle.written_laws.proofs.{Courses.course_is, Courses.course_once, Courses.IsAcross, Across.across_or_alone}
-use Rattle.written_laws.proofs.{Across.IsAlone, Across.alone_not_across, EdgeDarts.edge_dart, EdgeNumbers.flats}
+use Rattle.written_laws.proofs.{Across.alone_not_across, EdgeDarts.edge_dart, EdgeNumbers.flats}
 use Rattle.written_laws.proofs.EdgeNumbers.{steeps, edge_number, edge_total}
 use Rattle.written_laws.proofs.EdgeNumbers.{edge_low, edge_same, edge_onto}
 use Rattle.written_laws.proofs.{EdgeNumbers.point_onto, Models.IsModel, Models.used_dart, Models.dart_used}
@@ -40,13 +40,11 @@ module _ (l : Layout) (x : Lengths) (laid : IsSurface l) (len : AreLengths l x) 
   across_back d e is a = record {
     is_dart = is;
     edge = sym a.edge;
-    turned =
-        by_way (course_of l x d).ahead (course_of l x e).ahead a.turned;
+    turned = by_way (course_of l x d).ahead (course_of l x e).ahead a.turned;
   }
     where
       by_way : (b c : Bool) → c ≡ not b → b ≡ not c
-      by_way true c s = ap not (sym s)
-      by_way false c s = ap not (sym s)
+      by_way = elim [ true ↦ λ c s. ap not (sym s) | false ↦ λ c s. ap not (sym s) ]
 
   no_self : (d : CellDart) → ¬ IsAcross l x laid len d d
   no_self d a = by_way (course_of l x d).ahead a.turned
@@ -59,11 +57,8 @@ module _ (l : Layout) (x : Lengths) (laid : IsSurface l) (len : AreLengths l x) 
   sums : vertices l x + face_count l x + l.arcs ≡ edge_total l x + l.nodes + l.patches
   sums =
       let arcs : count_below (λ a. x a - 1) l.arcs + l.arcs ≡ count_below x l.arcs = arc_sum l.arcs (λ a low. low) in
-      let cells : before_patch l x l.patches + cells_before l x l.patches ≡ count_below (flats l x) l.patches
-      + count_below (steeps l x) l.patches + l.patches =
-      count_sums (λ p. (wide l x p - 1) * (high l x p - 1)) (λ p. wide l x p * high l x p) (flats l x) (steeps l x)
-      l.patches
-      (λ p low. rectangle (wide l x p) (high l x p) (wide_some l x laid.paved len p low)
+      let cells = count_sums (λ p. (wide l x p - 1) * (high l x p - 1)) (λ p. wide l x p * high l x p) (flats l x)
+      (steeps l x) l.patches (λ p low. rectangle (wide l x p) (high l x p) (wide_some l x laid.paved len p low)
       (high_some l x laid.paved len p low)) in
       omega (arith, arcs, cells)
     where
@@ -110,8 +105,7 @@ module _ (l : Layout) (x : Lengths) (laid : IsSurface l) (len : AreLengths l x) 
             by_darts : (v w : ℕ) → (d : (d : CellDart) × IsDart l x d × (from_of F (cell d) ≡ v))
                 → (e : (d : CellDart) × IsDart l x d × (from_of F (cell d) ≡ w))
                 → vertex_number l x (dart_start l x d.0) ≡ vertex_number l x (dart_start l x e.0) → v ≡ w
-            by_darts v w d e same =
-                sym d.2 ∙ model.alike d.0 e.0 d.1 e.1
+            by_darts v w d e same = sym d.2 ∙ model.alike d.0 e.0 d.1 e.1
                 (number_same l x (dart_start l x d.0) (dart_start l x e.0) (from_is l x laid len d.0 d.1)
                 (from_is l x laid len e.0 e.1) same) ∙ e.2
 
@@ -146,7 +140,15 @@ module _ (l : Layout) (x : Lengths) (laid : IsSurface l) (len : AreLengths l x) 
       where
         by_dart : (d : CellDart) → IsDart l x d → (course_of l x d).edge ≡ e → (d : CellDart) × IsDart l x d
             × IsLesser d × ((course_of l x d).edge ≡ e)
-        by_dart d is_d edge = by_case (across_or_alone l x laid len d is_d)
+        by_dart d is_d edge = elim (across_or_alone l x laid len d is_d) [
+          | inl a ↦ by_order a.0 a.1
+          | inr a ↦ (
+            d,
+            is_d,
+            ap (is_lesser (cell d)) (model.alone d is_d (λ c. alone_not_across l x laid len d c a.0 a.1 a.2)),
+            edge,
+          )
+        ]
           where
             by_order : (c : CellDart) → IsAcross l x laid len d c → (d : CellDart) × IsDart l x d × IsLesser d
                 × ((course_of l x d).edge ≡ e)
@@ -169,17 +171,6 @@ module _ (l : Layout) (x : Lengths) (laid : IsSurface l) (len : AreLengths l x) 
               ]
             ]
 
-            by_case : ((c : CellDart) × IsAcross l x laid len d c) ⊎ ((w : Slot) × (o : ℕ) × IsAlone l x laid len d w o)
-                → (d : CellDart) × IsDart l x d × IsLesser d × ((course_of l x d).edge ≡ e)
-            by_case (inl a) = by_order a.0 a.1
-            by_case (inr a) = (
-              d,
-              is_d,
-              ap (is_lesser (cell d))
-                  (model.alone d is_d (λ c. alone_not_across l x laid len d c a.0 a.1 a.2)),
-              edge,
-            )
-
     -- Lesser darts of one edge are one.
     lesser_once : (d e : CellDart) → IsDart l x d → IsDart l x e → IsLesser d → IsLesser e → (course_of l x d).edge
         ≡ (course_of l x e).edge → d ≡ e
@@ -191,11 +182,9 @@ module _ (l : Layout) (x : Lengths) (laid : IsSurface l) (len : AreLengths l x) 
         turned : (course_of l x e).ahead ≡ not (course_of l x d).ahead → d ≡ e
         turned ways =
             let a : IsAcross l x laid len d e = record { is_dart = is_e; edge = sym edges; turned = ways } in
-            let one : cell d < cell e = lesser_less (cell d) (twin_of F (cell d)) (cell e) (model.across d e is_d a)
-            d_less in
-            let other : cell e < cell d =
-            lesser_less (cell e) (twin_of F (cell e)) (cell d) (model.across e d is_e (across_back d e is_d a))
-            e_less in
+            let one = lesser_less (cell d) (twin_of F (cell d)) (cell e) (model.across d e is_d a) d_less in
+            let other = lesser_less (cell e) (twin_of F (cell e)) (cell d)
+            (model.across e d is_e (across_back d e is_d a)) e_less in
             absurd (omega (arith, one, other))
 
         by_ways : (a b : Bool) → (course_of l x d).ahead ≡ a → (course_of l x e).ahead ≡ b → d ≡ e
@@ -213,8 +202,7 @@ module _ (l : Layout) (x : Lengths) (laid : IsSurface l) (len : AreLengths l x) 
 
     pub edges_are : edge_count F ≡ edge_total l x
     edges_are =
-        let long : edge_count F ≡ passing (λ d. is_lesser d (twin_of F d)) (darts F) =
-        filter_long (λ d. is_lesser d (twin_of F d)) (darts F) in
+        let long = filter_long (λ d. is_lesser d (twin_of F d)) (darts F) in
         let all : passing (λ k. true) (edge_total l x) ≡ edge_total l x = passing_all (edge_total l x) in
         omega (arith, long, all, most, least)
       where
@@ -231,10 +219,8 @@ module _ (l : Layout) (x : Lengths) (laid : IsSurface l) (len : AreLengths l x) 
                 → (d : (d : CellDart) × IsDart l x d × (cell d ≡ k))
                 → (e : (d : CellDart) × IsDart l x d × (cell d ≡ m))
                 → edge_number l x (course_of l x d.0).edge ≡ edge_number l x (course_of l x e.0).edge → k ≡ m
-            by_darts k m less too d e same =
-                sym d.2 ∙ ap cell (lesser_once d.0 e.0 d.1 e.1
-                (subst (λ (j : ℕ). is_lesser j (twin_of F j) ≡ true) (sym d.2) less)
-                (subst (λ (j : ℕ). is_lesser j (twin_of F j) ≡ true) (sym e.2) too)
+            by_darts k m less too d e same = sym d.2
+                ∙ ap cell (lesser_once d.0 e.0 d.1 e.1 (rw d.2 less) (rw e.2 too)
                 (edge_same l x (course_of l x d.0).edge (course_of l x e.0).edge (course_is l x laid len d.0 d.1)
                 (course_is l x laid len e.0 e.1) same)) ∙ e.2
 
@@ -265,13 +251,11 @@ module _ (l : Layout) (x : Lengths) (laid : IsSurface l) (len : AreLengths l x) 
         dart_by n low = at_number l x laid len n (omega (arith, faces_long l x))
 
         most : passing (λ k. true) (darts F) ≤ passing (λ k. true) (4 * face_count l x)
-        most = passing_le (λ k. true) (λ k. true) (darts F) (4 * face_count l x)
-            (λ k low on. (
-              dart_number l x (model.onto k low).0,
-              number_of (model.onto k low).0 (model.onto k low).1,
-              refl,
-            ))
-            (λ k m a on b too same. sym (model.onto k a).2
+        most = passing_le (λ k. true) (λ k. true) (darts F) (4 * face_count l x) (λ k low on. (
+          dart_number l x (model.onto k low).0,
+          number_of (model.onto k low).0 (model.onto k low).1,
+          refl,
+        )) (λ k m a on b too same. sym (model.onto k a).2
             ∙ ap cell (dart_same l x (model.onto k a).0 (model.onto m b).0 (model.onto k a).1 (model.onto m b).1 same)
             ∙ (model.onto m b).2)
 

@@ -1,6 +1,6 @@
 -- Lists of faces whose darts are those of the cells of a layout: the new faces, and the old ones at the old lengths.
-use Rattle.std.proofs.Common.{◌≡◌, ◌⊎◌, ℕ, ◌+◌, ◌*◌, ◌/◌, ◌%◌, ◌<◌, true, [], length, get_or, Some, None, refl, sym}
-use Rattle.std.proofs.Common.{◌∙◌, ap, subst, inl, inr, arith}
+use Rattle.std.proofs.Common.{◌≡◌, ℕ, ◌+◌, ◌*◌, ◌/◌, ◌%◌, ◌<◌, true, [], length, get_or, Some, None, refl, sym}
+use Rattle.std.proofs.Common.{◌∙◌, ap, inl, inr, arith}
 use Rattle.std.proofs.lemmas.Bool.{eqb-true, eq-eqb}
 use Rattle.std.proofs.lemmas.List.{get_or_default}
 use Rattle.std.proofs.lemmas.List.Folds.{list_any_at, Any-from_list_any}
@@ -19,7 +19,6 @@ use Rattle.written_laws.proofs.{Numbers.number_same, Borders.at_is, Borders.at_f
 use Rattle.written_laws.proofs.NewDarts.{dart_number, dart_low, dart_same, at_number}
 use Rattle.written_laws.proofs.{NewDarts.next_number, NewDarts.number_from, NewDarts.faces_long, Courses.IsAcross}
 use Rattle.written_laws.proofs.{Simple.IsSimple, Across.across_or_alone, Across.across_twin, Across.alone_no_twin}
-use Rattle.written_laws.proofs.Across.{IsAlone}
 
 -- Dart `cell d` is that of d. Darts leave one vertex where those of the cells leave one point, and have as twin that of
 -- the dart across.
@@ -55,8 +54,7 @@ used_dart F v quads used = by_face (Any-from_list_any (λ face. list_any (λ u. 
 
     by_face : Any (λ face. list_any (λ u. u == v) face ≡ true) F → (d : ℕ) × (d < darts F) × (from_of F d ≡ v)
     by_face (f, face, low, is, t) =
-        by_corner f low (Any-from_list_any (λ u. u == v) (get_or F f [])
-        (subst (λ (g : Face). list_any (λ u. u == v) g ≡ true) (sym (get_or_default F f [] face low ∙ is)) t))
+        by_corner f low (Any-from_list_any (λ u. u == v) (get_or F f []) (rw (get_or_default F f [] face low ∙ is) t))
 
 -- A vertex that a dart leaves is used.
 pub dart_used : (F : Faces) (d : ℕ) → ((f : ℕ) → f < length F → length (face_at F f) ≡ 4) → d < darts F
@@ -93,8 +91,7 @@ module _ (l : Layout) (x : Lengths) (laid : IsSurface l) (len : AreLengths l x) 
 
   -- The new faces are a model.
   pub new_quads : (f : ℕ) → f < length (new_faces l x) → length (face_at (new_faces l x) f) ≡ 4
-  new_quads f low =
-      ap (λ (face : Face). length face)
+  new_quads f low = ap (λ (face : Face). length face)
       (get_or-map-range_with_len (new_face l x) 0 (face_count l x) f f [] (omega (arith, faces_long l x)) (omega arith))
 
   pub new_model : IsSimple l x → IsModel (new_faces l x) l x laid len (dart_number l x)
@@ -106,17 +103,14 @@ module _ (l : Layout) (x : Lengths) (laid : IsSurface l) (len : AreLengths l x) 
     turned = λ d is. sym (next_number l x d);
     alike = λ d e is_d is_e s. number_from l x d is_d ∙ ap (vertex_number l x) s ∙ sym (number_from l x e is_e);
     apart = λ d e is_d is_e s. number_same l x (dart_start l x d) (dart_start l x e) (from_is l x laid len d is_d)
-        (from_is l x laid len e is_e)
-        (sym (number_from l x d is_d) ∙ s ∙ number_from l x e is_e);
+        (from_is l x laid len e is_e) (sym (number_from l x d is_d) ∙ s ∙ number_from l x e is_e);
     across = across_twin l x laid len simple;
     alone = alone;
   }
     where
       alone : (d : CellDart) → IsDart l x d → ((e : CellDart) → ¬ IsAcross l x laid len d e)
           → twin_of (new_faces l x) (dart_number l x d) ≡ None
-      alone d is none = by_case (across_or_alone l x laid len d is)
-        where
-          by_case : ((e : CellDart) × IsAcross l x laid len d e) ⊎ ((w : Slot) × (o : ℕ) × IsAlone l x laid len d w o)
-              → twin_of (new_faces l x) (dart_number l x d) ≡ None
-          by_case (inl a) = absurd (none a.0 a.1)
-          by_case (inr a) = alone_no_twin l x laid len simple d a.0 a.1 is a.2
+      alone d is none = elim (across_or_alone l x laid len d is) [
+        | inl a ↦ absurd (none a.0 a.1)
+        | inr a ↦ alone_no_twin l x laid len simple d a.0 a.1 is a.2
+      ]

@@ -1,5 +1,5 @@
 -- The darts of the new faces, by number and by cell.
-use Rattle.std.proofs.Common.{◌≡◌, ℕ, zero, suc, ◌+◌, ◌-◌, ◌*◌, ◌/◌, ◌%◌, ◌<◌, [], length, refl, sym, ◌∙◌, ap, subst}
+use Rattle.std.proofs.Common.{◌≡◌, ℕ, zero, suc, ◌+◌, ◌-◌, ◌*◌, ◌/◌, ◌%◌, ◌<◌, [], length, refl, sym, ◌∙◌, ap}
 use Rattle.std.proofs.Common.{arith}
 use Rattle.std.proofs.Math.Nat.{mod-lt, div-lt_iff_lt-mul, mul_comm}
 use Rattle.std.proofs.lemmas.Nat.{mul-add-lt, same_from_place, div-add-mod'}
@@ -31,10 +31,7 @@ way_of (suc (suc zero)) = north
 way_of (suc (suc (suc k))) = west
 
 pub way_turn : (w : Way) → way_of (turn w) ≡ w
-way_turn south = refl
-way_turn east = refl
-way_turn north = refl
-way_turn west = refl
+way_turn = elim [ south ↦ refl | east ↦ refl | north ↦ refl | west ↦ refl ]
 
 pub turn_way : (k : ℕ) → k < 4 → turn (way_of k) ≡ k
 turn_way zero low = refl
@@ -43,10 +40,7 @@ turn_way (suc (suc zero)) low = refl
 turn_way (suc (suc (suc k))) low = omega arith
 
 pub turn_low : (w : Way) → turn w < 4
-turn_low south = omega arith
-turn_low east = omega arith
-turn_low north = omega arith
-turn_low west = omega arith
+turn_low = elim [ south ↦ omega arith | east ↦ omega arith | north ↦ omega arith | west ↦ omega arith ]
 
 pub next_at : (c : ℕ) (w : Way) → next_of (4 * c + turn w) ≡ 4 * c + turn (side_after w)
 next_at c south = grind (arith, nat_tests)
@@ -126,16 +120,11 @@ module _ (l : Layout) (x : Lengths) where
 
   -- The corners of the new faces.
   pub corner_is : (f : ℕ) (w : Way) → f < face_count l x → corner (new_faces l x) f (turn w) ≡ cell_vertex l x f w
-  corner_is f w low =
-      ap (λ (face : Face). slice_index_or face (turn w) 0)
-      (get_or-map-range_with_len (new_face l x) 0 (face_count l x) f f [] low (omega arith))
-      ∙ by_way w
+  corner_is f w low = ap (λ (face : Face). slice_index_or face (turn w) 0)
+      (get_or-map-range_with_len (new_face l x) 0 (face_count l x) f f [] low (omega arith)) ∙ by_way w
     where
       by_way : (w : Way) → slice_index_or (new_face l x f) (turn w) 0 ≡ cell_vertex l x f w
-      by_way south = refl
-      by_way east = refl
-      by_way north = refl
-      by_way west = refl
+      by_way = elim [ south ↦ refl | east ↦ refl | north ↦ refl | west ↦ refl ]
 
   -- A dart's number begins at the number of its point, and ends so.
   pub number_from : (d : CellDart) → IsDart l x d → from_of (new_faces l x) (dart_number d)
@@ -162,9 +151,7 @@ module _ (l : Layout) (x : Lengths) where
     cell_is f w low =
         let h : IsInRun cells l.patches f (patch_of l x f) (cell_in l x f) = run_here cells l.patches f low in
         let some : 0 < wide l x (patch_of l x f) = wide_some l x laid.paved len (patch_of l x f) h.low in
-        let less : cell_in l x f < high l x (patch_of l x f) * wide l x (patch_of l x f) =
-        subst (λ (n : ℕ). cell_in l x f < n) (mul_comm (wide l x (patch_of l x f)) (high l x (patch_of l x f)))
-        h.inside in
+        let less = rw (mul_comm (wide l x (patch_of l x f)) (high l x (patch_of l x f))) at h.inside in
         record {
           patch_low = h.low;
           i_low = mod-lt (cell_in l x f) some;

@@ -1,5 +1,5 @@
 -- The vertex of a node has the same kind and as many faces in each model, whatever the lengths.
-use Rattle.std.proofs.Common.{◌≡◌, ◌⊎◌, ℕ, zero, suc, ◌+◌, ◌-◌, ◌<◌, ◌≤◌, Bool, true, cond, refl, sym, ◌∙◌, ap, subst}
+use Rattle.std.proofs.Common.{◌≡◌, ◌⊎◌, ℕ, zero, suc, ◌+◌, ◌-◌, ◌<◌, ◌≤◌, Bool, true, refl, sym, ◌∙◌, ap}
 use Rattle.std.proofs.Common.{inl, inr, arith}
 use Rattle.std.proofs.lemmas.Bool.{cases_eq, eqb-true, eq-eqb}
 use Rattle.std.specs.Prelude.{◌==◌}
@@ -9,10 +9,10 @@ use Rattle.def_layout.specs.{declared.tmesh.SideArc.SideArc, Layouts.Layout, Lay
 use Rattle.def_layout.specs.{Layouts.use_of, Layouts.start_node, Layouts.end_node, Surfaces.IsSurface}
 use Rattle.def_layout.specs.{Surfaces.IsOtherSlot, Lengths.Lengths, Lengths.reach, Lengths.AreLengths, Cells.CellDart}
 use Rattle.def_layout.specs.Cells.{IsDart}
-use Rattle.def_written.specs.{Points.node, Points.along, Points.inside, Points.use_point, NewFaces.dart_start}
+use Rattle.def_written.specs.{Points.node, Points.inside, Points.use_point, NewFaces.dart_start}
 use Rattle.written_laws.proofs.{Runs.count_rises, Tallies.passing, Tallies.passing_le, Tallies.filter_long, Sides.slot}
 use Rattle.written_laws.proofs.Sides.{long_at, use_begins, use_ends, use_inner, use_some}
-use Rattle.written_laws.proofs.{Rims.column_of, Rims.row_of, Rims.IsInner, Borders.IsAt, Borders.sort_dart}
+use Rattle.written_laws.proofs.{Rims.column_of, Rims.row_of, Borders.IsAt, Borders.sort_dart}
 use Rattle.written_laws.proofs.{Borders.inner_from, Spots.place_at, Spots.spot_dart, Spots.at_once, Spots.spot_is}
 use Rattle.written_laws.proofs.{Spots.spot_at, Spots.sort_spot, Spots.spot_once, Models.IsModel, Inners.AreShared}
 use Rattle.written_laws.proofs.Inners.{IsVertex, inner_if, inner_only}
@@ -30,8 +30,7 @@ module _ (l : Layout) (x : Lengths) (laid : IsSurface l) (len : AreLengths l x) 
           let b : use_point l x u o ≡ node (end_node l u) = use_ends l x u o last (omega arith) in
           let s : end_node l u ≡ n = cc in inr (last, s)
       | inr less ↦
-          let b : use_point l x u o ≡ along u.arc (cond u.forward o (x u.arc - o)) =
-          use_inner l x u o (omega arith) (omega arith) in
+          let b = use_inner l x u o (omega arith) (omega arith) in
           absurd cc
     ]
   ]
@@ -45,14 +44,21 @@ module _ (l : Layout) (x : Lengths) (laid : IsSurface l) (len : AreLengths l x) 
 
   pub node_sort : (n : ℕ) (d : CellDart) → IsDart l x d → dart_start l x d ≡ node n → (w : Slot) × (b : Bool)
       × IsAtNode n d w b
-  node_sort n d is leaves = by_case (sort_dart l x laid len d is)
+  node_sort n d is leaves = elim (sort_dart l x laid len d is) [
+    | inl i ↦ let b : dart_start l x d ≡ inside d.patch (column_of d) (row_of d) =
+        inner_from l x laid len d i in absurd cc
+    | inr s ↦ elim (node_end (use_of l s.0) s.1 n (omega (arith, s.2.low))
+        (omega (arith, s.2.low)) (sym s.2.leaves ∙ leaves)) [
+          | inl e ↦ at_slot s.0 s.1 s.2 e.0 e.1
+          | inr e ↦ absurd (omega (arith, s.2.low, e.0))
+        ]
+  ]
     where
       at_slot : (w : Slot) (o : ℕ) → IsAt l x laid len d w o → o ≡ 0 → start_node l (use_of l w) ≡ n → (w : Slot)
           × (b : Bool) × IsAtNode n d w b
       at_slot w o at z start =
-          let first : IsAt l x laid len d w 0 = subst (λ (m : ℕ). IsAt l x laid len d w m) z at in
-          let b : (b : Bool) × (d ≡ spot_dart l x w 0 b) × ((b ≡ true) → 0 < place_at l x w 0) =
-          sort_spot l x laid len d w 0 is first in
+          let first : IsAt l x laid len d w 0 = rw z at at in
+          let b = sort_spot l x laid len d w 0 is first in
           (w, b.0, record { at = first; start = start; dart = b.1; later = λ e. by_at w.at refl (b.2 e) })
         where
           by_at : (m : ℕ) → w.at ≡ m → 0 < place_at l x w 0 → 0 < w.at
@@ -60,26 +66,11 @@ module _ (l : Layout) (x : Lengths) (laid : IsSurface l) (len : AreLengths l x) 
               absurd (omega (arith, none, some))
           by_at (suc m) e some = omega (arith, e)
 
-      by_case : IsInner l x laid.paved len d.patch (column_of d) (row_of d)
-          ⊎ ((w : Slot) × (o : ℕ) × IsAt l x laid len d w o)
-          → (w : Slot) × (b : Bool) × IsAtNode n d w b
-      by_case (inl i) = let b : dart_start l x d ≡ inside d.patch (column_of d) (row_of d) =
-          inner_from l x laid len d i in absurd cc
-      by_case (inr s) = by_end s.0 s.1 s.2 (node_end (use_of l s.0) s.1 n (omega (arith, s.2.low))
-          (omega (arith, s.2.low)) (sym s.2.leaves ∙ leaves))
-        where
-          by_end : (w : Slot) (o : ℕ) → IsAt l x laid len d w o → ((o ≡ 0) × (start_node l (use_of l w) ≡ n))
-              ⊎ ((o ≡ x (use_of l w).arc) × (end_node l (use_of l w) ≡ n))
-              → (w : Slot) × (b : Bool) × IsAtNode n d w b
-          by_end w o at (inl e) = at_slot w o at e.0 e.1
-          by_end w o at (inr e) = absurd (omega (arith, at.low, e.0))
-
   -- A dart of a slot that is not first on its side has one behind it.
   pub later_place : (w : Slot) (b : Bool) → IsSlot l w → (b ≡ true → 0 < w.at) → b ≡ true → 0 < place_at l x w 0
   later_place w b is later e =
       let first : IsSlot l (slot w.patch w.side 0) = record { patch_low = is.patch_low; low = omega (arith, is.low) } in
-      let le : reach l x w.patch w.side 1 ≤ reach l x w.patch w.side w.at =
-      count_rises (long_at l x w.patch w.side) 1 w.at (later e) in
+      let le = count_rises (long_at l x w.patch w.side) 1 w.at (later e) in
       let some : 0 < long_at l x w.patch w.side 0 = use_some l x laid.paved len (slot w.patch w.side 0) first in
       omega (arith, le, some)
 
@@ -95,8 +86,7 @@ module _ (l : Layout) (laid : IsSurface l) (x y : Lengths) (len : AreLengths l x
       starts e = shared w 0 is some (inl (use_begins l x (use_of l w) some ∙ ap node e))
 
       ends : end_node l (use_of l w) ≡ n → (v : Slot) × IsOtherSlot l w v
-      ends e =
-          shared w (x (use_of l w).arc - 1) is (omega (arith, some))
+      ends e = shared w (x (use_of l w).arc - 1) is (omega (arith, some))
           (inr (use_ends l x (use_of l w) (x (use_of l w).arc - 1 + 1) (omega (arith, some)) (omega arith) ∙ ap node e))
 
       by_end : (m : ℕ) → ((m ≡ 0) × (start_node l (use_of l w) ≡ n))
@@ -126,13 +116,11 @@ module _ (l : Layout) (laid : IsSurface l) (x y : Lengths) (len : AreLengths l x
       where
         sorted : (k : ℕ) (low : k < darts F) → (from_of F k == u) ≡ true → (w : Slot) × (b : Bool)
             × IsAtNode l x laid len n (f.onto k low).0 w b
-        sorted k low s =
-            node_sort l x laid len n (f.onto k low).0 (f.onto k low).1
+        sorted k low s = node_sort l x laid len n (f.onto k low).0 (f.onto k low).1
             (is_u.back (f.onto k low).0 (f.onto k low).1 (ap (from_of F) (f.onto k low).2 ∙ eqb-true (from_of F k) u s))
 
-        image : (d : CellDart) (w : Slot) (b : Bool) → IsAtNode l x laid len n d w b
-            → IsDart l y (spot_dart l y w 0 b) × IsAt l y laid lon (spot_dart l y w 0 b) w 0
-            × (dart_start l y (spot_dart l y w 0 b) ≡ node n)
+        image : (d : CellDart) (w : Slot) (b : Bool) → IsAtNode l x laid len n d w b → IsDart l y (spot_dart l y w 0 b)
+            × IsAt l y laid lon (spot_dart l y w 0 b) w 0 × (dart_start l y (spot_dart l y w 0 b) ≡ node n)
         image d w b s =
             let some : 0 < y (use_of l w).arc = use_some l y laid.paved lon w s.at.is_slot in
             let later : b ≡ true → 0 < place_at l y w 0 = later_place l y laid lon w b s.at.is_slot s.later in
@@ -140,20 +128,16 @@ module _ (l : Layout) (laid : IsSurface l) (x y : Lengths) (len : AreLengths l x
             = spot_at l y laid lon w 0 b s.at.is_slot some later in (
               spot_is l y laid lon w 0 b s.at.is_slot some later,
               at,
-              at.leaves ∙ use_begins l y (use_of l w) some
-                  ∙ ap node s.start,
+              at.leaves ∙ use_begins l y (use_of l w) some ∙ ap node s.start,
             )
 
         once : (d e : CellDart) (s : (w : Slot) × (b : Bool) × IsAtNode l x laid len n d w b) (r : (w : Slot)
             × (b : Bool) × IsAtNode l x laid len n e w b)
             → spot_dart l y s.0 0 s.1 ≡ spot_dart l y r.0 0 r.1 → d ≡ e
         once d e s r same =
-            let slots : s.0 ≡ r.0 =
-            (at_once l y laid lon (spot_dart l y r.0 0 r.1) s.0 r.0 0 0
-            (subst (λ (c : CellDart). IsAt l y laid lon c s.0 0) same (image d s.0 s.1 s.2).1)
-            (image e r.0 r.1 r.2).1).0 in
-            let ways : s.1 ≡ r.1 =
-            spot_once l y laid lon r.0 0 s.1 r.1 ((λ t. spot_dart l y (sym slots t) 0 s.1) ∙ same) in
+            let slots : s.0 ≡ r.0 = (at_once l y laid lon (spot_dart l y r.0 0 r.1) s.0 r.0 0 0
+            (rw same at (image d s.0 s.1 s.2).1) (image e r.0 r.1 r.2).1).0 in
+            let ways = spot_once l y laid lon r.0 0 s.1 r.1 ((λ t. spot_dart l y (sym slots t) 0 s.1) ∙ same) in
             s.2.dart ∙ (λ t. spot_dart l x (slots t) 0 (ways t)) ∙ sym r.2.dart
 
         to : (k : ℕ) (low : k < darts F) → (from_of F k == u) ≡ true → (m : ℕ) × (m < darts G)
@@ -161,8 +145,7 @@ module _ (l : Layout) (laid : IsSurface l) (x y : Lengths) (len : AreLengths l x
         to k low s =
             let r : (w : Slot) × (b : Bool) × IsAtNode l x laid len n (f.onto k low).0 w b = sorted k low s in
             let i : IsDart l y (spot_dart l y r.0 0 r.1) × IsAt l y laid lon (spot_dart l y r.0 0 r.1) r.0 0
-            × (dart_start l y (spot_dart l y r.0 0 r.1) ≡ node n) =
-            image (f.onto k low).0 r.0 r.1 r.2 in (
+            × (dart_start l y (spot_dart l y r.0 0 r.1) ≡ node n) = image (f.onto k low).0 r.0 r.1 r.2 in (
               new (spot_dart l y r.0 0 r.1),
               g.low (spot_dart l y r.0 0 r.1) i.0,
               eq-eqb (from_of G (new (spot_dart l y r.0 0 r.1))) v (is_v.there (spot_dart l y r.0 0 r.1) i.0 i.2),
@@ -178,10 +161,9 @@ module _ (l : Layout) (laid : IsSurface l) (x y : Lengths) (len : AreLengths l x
             (image (f.onto m less).0 (sorted m less r).0 (sorted m less r).1 (sorted m less r).2).0 same))
             ∙ (f.onto m less).2)
 
-module _ (l : Layout) (laid : IsSurface l) (x y : Lengths) (len : AreLengths l x) (lon : AreLengths l y)
-    (F G : Faces) (cell new : CellDart → ℕ) (f : IsModel F l x laid len cell) (g : IsModel G l y laid lon new)
-    (n u v : ℕ) (is_u : IsVertex l x laid len F cell f (node n) u) (is_v : IsVertex l y laid lon G new g (node n)
-    v) where
+module _ (l : Layout) (laid : IsSurface l) (x y : Lengths) (len : AreLengths l x) (lon : AreLengths l y) (F G : Faces)
+    (cell new : CellDart → ℕ) (f : IsModel F l x laid len cell) (g : IsModel G l y laid lon new) (n u v : ℕ)
+    (is_u : IsVertex l x laid len F cell f (node n) u) (is_v : IsVertex l y laid lon G new g (node n) v) where
   pub node_faces : faces_at F u ≡ faces_at G v
   node_faces = omega (
     arith,
@@ -190,6 +172,5 @@ module _ (l : Layout) (laid : IsSurface l) (x y : Lengths) (len : AreLengths l x
   )
 
   pub node_inner : is_inner F u ≡ is_inner G v
-  node_inner = same_test (is_inner F u) (is_inner G v)
-      (inner_to l laid x y len lon F G cell new f g n u v is_u is_v) (inner_to l laid y x lon len G F new cell g f n v u
-      is_v is_u)
+  node_inner = same_test (is_inner F u) (is_inner G v) (inner_to l laid x y len lon F G cell new f g n u v is_u is_v)
+      (inner_to l laid y x lon len G F new cell g f n v u is_v is_u)

@@ -36,9 +36,8 @@ module _ (l : Layout) (x : Lengths) where
   number_same (node m) (node n) is_a is_b e = ap node e
   number_same (along a k) (node n) is_a is_b e = absurd (omega (arith, is_b, e))
   number_same (along a k) (along b j) is_a is_b e =
-      let s : (a ≡ b) × (k - 1 ≡ j - 1) =
-      place_same (λ c. x c - 1) l.arcs a (k - 1) b (j - 1) is_a.0 is_b.0
-      (omega (arith, is_a.1, is_a.2)) (omega (arith, is_b.1, is_b.2)) (omega (arith, e)) in
+      let s = place_same (λ c. x c - 1) l.arcs a (k - 1) b (j - 1) is_a.0 is_b.0 (omega (arith, is_a.1, is_a.2))
+      (omega (arith, is_b.1, is_b.2)) (omega (arith, e)) in
       let same : k ≡ j = omega (arith, s.1, is_a.1, is_b.1) in
       λ t. along (s.0 t) (same t)
   number_same (along a k) (inside q i j) is_a is_b e = absurd (omega (arith, along_low a k is_a, e))
@@ -47,17 +46,15 @@ module _ (l : Layout) (x : Lengths) where
   number_same (inside p i j) (inside q a b) is_a is_b e =
       let low_a : inner_place p i j < inner_points p = inner_low p i j is_a.1 is_a.2 is_a.3 is_a.4 in
       let low_b : inner_place q a b < inner_points q = inner_low q a b is_b.1 is_b.2 is_b.3 is_b.4 in
-      let s : (p ≡ q) × (inner_place p i j ≡ inner_place q a b) =
-      place_same inner_points l.patches p (inner_place p i j) q (inner_place q a b) is_a.0 is_b.0 low_a low_b
+      let s = place_same inner_points l.patches p (inner_place p i j) q (inner_place q a b) is_a.0 is_b.0 low_a low_b
       (omega (arith, e)) in
       by_place s.0 (s.1 ∙ ap (λ r. inner_place r a b) (sym s.0))
     where
       by_place : p ≡ q → inner_place p i j ≡ inner_place p a b → inside p i j ≡ inside q a b
       by_place same place =
           let w : wide l x q ≡ wide l x p = ap (wide l x) (sym same) in
-          let s : (j - 1 ≡ b - 1) × (i - 1 ≡ a - 1) =
-          same_from_place (j - 1) (i - 1) (b - 1) (a - 1) (wide l x p - 1)
-          (omega (arith, is_a.1, is_a.2)) (omega (arith, is_b.1, is_b.2, w)) place in
+          let s = same_from_place (j - 1) (i - 1) (b - 1) (a - 1) (wide l x p - 1) (omega (arith, is_a.1, is_a.2))
+          (omega (arith, is_b.1, is_b.2, w)) place in
           let i_same : i ≡ a = omega (arith, s.1, is_a.1, is_b.1) in
           let j_same : j ≡ b = omega (arith, s.0, is_a.3, is_b.3) in
           λ t. inside (same t) (i_same t) (j_same t)

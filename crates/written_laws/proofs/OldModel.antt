@@ -1,18 +1,18 @@
 -- A mesh in which a layout lies is a model of it at the old lengths, and the layout has fans.
-use Rattle.std.proofs.Common.{◌≡◌, ◌⊎◌, ℕ, zero, suc, ◌+◌, ◌-◌, ◌<◌, ◌≤◌, Bool, true, false, not, length, Some, None}
+use Rattle.std.proofs.Common.{◌≡◌, ◌⊎◌, ℕ, zero, suc, ◌+◌, ◌-◌, ◌<◌, ◌≤◌, true, not, length, Some, None}
 use Rattle.std.proofs.Common.{refl, sym, ◌∙◌, ap, subst, inl, inr, arith}
-use Rattle.std.proofs.lemmas.Bool.{cases_lt}
+use Rattle.std.proofs.lemmas.Bool.{cases_Bool, cases_lt}
 use Rattle.std.proofs.lemmas.Option.{none-some, same_Some}
 use Rattle.def_mesh.specs.{Faces.Faces, Faces.face_at, Manifold.IsManifold, HalfEdges.HalfEdges, HalfEdges.AreTurned}
 use Rattle.def_mesh.specs.{HalfEdges.IsQuadManifold, HalfEdges.half_edges, HalfEdges.Turns as MeshTurns}
 use Rattle.def_layout.specs.{declared.tmesh.SideArc.SideArc, Layouts.Way, Layouts.south, Layouts.east, Layouts.north}
 use Rattle.def_layout.specs.Layouts.{west, side_after, side_before, Layout, Slot}
-use Rattle.def_layout.specs.Layouts.{IsSlot, AreReverse, use_of, slot_before}
+use Rattle.def_layout.specs.Layouts.{IsSlot, use_of, slot_before}
 use Rattle.def_layout.specs.{Layouts.start_node, Surfaces.HasWholeSides, Surfaces.IsSurface, Surfaces.IsOtherSlot}
 use Rattle.def_layout.specs.{Fans.IsTurn, Fans.SlotTurns, Fans.HasFans, Lengths.Lengths, Lengths.reach, Lengths.size}
 use Rattle.def_layout.specs.{Lengths.AreLengths, Cells.CellDart, Cells.IsDart, Cells.dart, Cells.next, Cells.prev}
 use Rattle.def_layout.specs.{Cells.slot_dart, Embeddings.IsEmbedding}
-use Rattle.def_written.specs.{Points.node, NewFaces.dart_start}
+use Rattle.def_written.specs.{NewFaces.dart_start}
 use Rattle.mesh_laws.proofs.HalfEdges.{manifold_law}
 use Rattle.written_laws.proofs.{Sides.slot, Sides.use_some, Sides.use_begins, Rims.column_of, Rims.row_of}
 use Rattle.written_laws.proofs.Rims.{side_column, side_row, rim_patch, rim_next_column}
@@ -21,7 +21,7 @@ use Rattle.written_laws.proofs.{Borders.IsAt, Fans.point_related, NewDarts.next_
 use Rattle.written_laws.proofs.Courses.{course_once, IsAcross, IsWithin, IsOnBorder}
 use Rattle.written_laws.proofs.{Courses.sees, Manifold.before_after, Across.across_border, Across.across_within}
 use Rattle.written_laws.proofs.Across.{across_or_alone, across_ends, alone_not_across, IsAlone}
-use Rattle.written_laws.proofs.{Spots.place_at, Spots.at_place, Spots.at_once, Spots.rim_is_at, NodeKinds.IsAtNode}
+use Rattle.written_laws.proofs.{Spots.place_at, Spots.at_place, Spots.at_once, Spots.rim_is_at}
 use Rattle.written_laws.proofs.{NodeKinds.node_sort, Models.IsModel, Sided.AreFromOne, Sided.from_turning, Sided.starts}
 use Rattle.written_laws.proofs.Sided.{laid_in}
 
@@ -30,30 +30,21 @@ next_prev : (d : CellDart) → next (prev d) ≡ d
 next_prev d = by_way d.way
   where
     by_way : (w : Way) → dart d.patch d.i d.j (side_after (side_before w)) ≡ dart d.patch d.i d.j w
-    by_way south = refl
-    by_way east = refl
-    by_way north = refl
-    by_way west = refl
+    by_way = elim [ south ↦ refl | east ↦ refl | north ↦ refl | west ↦ refl ]
 
 module _ (l : Layout) (x : Lengths) (laid : IsSurface l) (len : AreLengths l x) where
   -- One dart lies across.
   across_unique : (d e c : CellDart) → IsAcross l x laid len d e → IsAcross l x laid len d c → e ≡ c
-  across_unique d e c a b =
-      course_once l x laid len e c a.is_dart b.is_dart
+  across_unique d e c a b = course_once l x laid len e c a.is_dart b.is_dart
       (λ t. course ((a.edge ∙ sym b.edge) t) ((a.turned ∙ sym b.turned) t))
 
   -- Inside a patch it leaves the grid point where the other dart ends.
   across_grid : (d e : CellDart) → IsWithin l x d → IsAcross l x laid len d e
       → (e.patch ≡ d.patch) × (column_of e ≡ column_of (next d)) × (row_of e ≡ row_of (next d))
-  across_grid d e i a = by_within (across_within l x laid len d i)
-    where
-      by_within : (c : CellDart) × IsAcross l x laid len d c × (c.patch ≡ d.patch) × (column_of c ≡ column_of (next d))
-          × (row_of c ≡ row_of (next d))
-          → (e.patch ≡ d.patch) × (column_of e ≡ column_of (next d)) × (row_of e ≡ row_of (next d))
-      by_within c =
-          subst (λ (b : CellDart). (b.patch ≡ d.patch) × (column_of b ≡ column_of (next d))
-          × (row_of b ≡ row_of (next d)))
-          (across_unique d c.0 e c.1 a) (c.2, c.3, c.4)
+  across_grid d e i a =
+      let c = across_within l x laid len d i in
+      subst (λ (b : CellDart). (b.patch ≡ d.patch) × (column_of b ≡ column_of (next d))
+      × (row_of b ≡ row_of (next d))) (across_unique d c.0 e c.1 a) (c.2, c.3, c.4)
 
   -- The dart after a border dart that ends at a node leaves that node: its slot is the next one.
   after_border : (b u : Slot) (o : ℕ) → IsSlot l b → o < x (use_of l b).arc
@@ -61,8 +52,7 @@ module _ (l : Layout) (x : Lengths) (laid : IsSurface l) (len : AreLengths l x) 
       → (slot_before l u.patch u.side u.at ≡ b) × (o + 1 ≡ x (use_of l b).arc)
   after_border b u o is_b less at = elim (cases_lt (o + 1) (x (use_of l b).arc)) [
     | inl more ↦
-        let here : IsAt l x laid len (next (slot_dart l x b o)) b (o + 1) =
-        at_place l x laid len (next (slot_dart l x b o)) b (o + 1) is_b more
+        let here = at_place l x laid len (next (slot_dart l x b o)) b (o + 1) is_b more
         (rim_patch l x laid.paved len b.patch b.side (place_at l x b o))
         (columns ∙ ap (side_column l x b.patch b.side) one) (rows ∙ ap (side_row l x b.patch b.side) one) in
         absurd (omega (arith, (at_once l x laid len (next (slot_dart l x b o)) u b 0 (o + 1) at here).1))
@@ -89,8 +79,7 @@ module _ (l : Layout) (x : Lengths) (laid : IsSurface l) (len : AreLengths l x) 
           let is_v : IsSlot l (slot b.patch b.side (suc b.at)) = record { patch_low = is_b.patch_low; low = another } in
           let place : place_at l x b o + 1 ≡ place_at l x (slot b.patch b.side (suc b.at)) 0 =
           omega (arith, less, none) in
-          let there : IsAt l x laid len (next (slot_dart l x b o)) (slot b.patch b.side (suc b.at)) 0 =
-          at_place l x laid len (next (slot_dart l x b o)) (slot b.patch b.side (suc b.at)) 0 is_v
+          let there = at_place l x laid len (next (slot_dart l x b o)) (slot b.patch b.side (suc b.at)) 0 is_v
           (use_some l x laid.paved len (slot b.patch b.side (suc b.at)) is_v)
           (rim_patch l x laid.paved len b.patch b.side (place_at l x b o))
           (columns ∙ ap (side_column l x b.patch b.side) place) (rows ∙ ap (side_row l x b.patch b.side) place) in
@@ -99,18 +88,15 @@ module _ (l : Layout) (x : Lengths) (laid : IsSurface l) (len : AreLengths l x) 
 
       by_corner : l.many b.patch b.side ≤ suc b.at → x (use_of l b).arc ≤ o + 1 → slot_before l u.patch u.side u.at ≡ b
       by_corner last none =
-          let is_v : IsSlot l (slot b.patch (side_after b.side) 0) =
-          record {
+          let is_v : IsSlot l (slot b.patch (side_after b.side) 0) = record {
             patch_low = is_b.patch_low;
-            low =
-                laid.paved.sides_full b.patch (side_after b.side) is_b.patch_low;
+            low = laid.paved.sides_full b.patch (side_after b.side) is_b.patch_low;
           } in
           let at_last : b.at ≡ l.many b.patch b.side - 1 = omega (arith, last, is_b.low) in
           let many : suc b.at ≡ l.many b.patch b.side = omega (arith, last, is_b.low) in
           let end : place_at l x b o + 1 ≡ size l x b.patch b.side =
           omega (arith, less, none, ap (reach l x b.patch b.side) many) in
-          let there : IsAt l x laid len (next (slot_dart l x b o)) (slot b.patch (side_after b.side) 0) 0 =
-          at_place l x laid len (next (slot_dart l x b o)) (slot b.patch (side_after b.side) 0) 0 is_v
+          let there = at_place l x laid len (next (slot_dart l x b o)) (slot b.patch (side_after b.side) 0) 0 is_v
           (use_some l x laid.paved len (slot b.patch (side_after b.side) 0) is_v)
           (rim_patch l x laid.paved len b.patch b.side (place_at l x b o))
           (columns ∙ corner_column l x laid.paved len b.patch b.side (place_at l x b o + 1) is_b.patch_low end)
@@ -122,38 +108,27 @@ module _ (l : Layout) (x : Lengths) (laid : IsSurface l) (len : AreLengths l x) 
 
   -- A turn of the mesh at a node stays at a slot, or is a turn of the layout.
   slot_turn : (d e : CellDart) (u w : Slot) → IsDart l x d → IsDart l x e → IsAt l x laid len d u 0
-      → IsAt l x laid len e w 0
-      → IsAcross l x laid len (prev d) e → (u ≡ w) ⊎ IsTurn l u w
+      → IsAt l x laid len e w 0 → IsAcross l x laid len (prev d) e → (u ≡ w) ⊎ IsTurn l u w
   slot_turn d e u w is_d is_e at_u at_w a = by_sight (sees l x laid len (prev d) (prev_is l x d is_d))
     where
       within : IsWithin l x (prev d) → u ≡ w
       within i =
-          let g : (e.patch ≡ d.patch) × (column_of e ≡ column_of (next (prev d)))
-          × (row_of e ≡ row_of (next (prev d))) = across_grid (prev d) e i a in
-          let here : IsAt l x laid len e u 0 =
-          at_place l x laid len e u 0 at_u.is_slot at_u.low (g.0 ∙ at_u.patch)
+          let g = across_grid (prev d) e i a in
+          let here = at_place l x laid len e u 0 at_u.is_slot at_u.low (g.0 ∙ at_u.patch)
           (g.1 ∙ ap column_of (next_prev d) ∙ at_u.column) (g.2 ∙ ap row_of (next_prev d) ∙ at_u.row) in
           (at_once l x laid len e u w 0 0 here at_w).0
 
       over : (b v : Slot) (o : ℕ) → IsOnBorder l x (prev d) b o → IsOtherSlot l b v → IsTurn l u w
       over b v o on other =
           let follows : d ≡ next (slot_dart l x b o) = sym (next_prev d) ∙ ap next on.dart in
-          let s : (slot_before l u.patch u.side u.at ≡ b) × (o + 1 ≡ x (use_of l b).arc) =
-          after_border b u o on.is_slot on.low (subst (λ (c : CellDart). IsAt l x laid len c u 0) follows at_u) in
+          let s = after_border b u o on.is_slot on.low (rw follows at at_u) in
           let z : x (use_of l b).arc - 1 - o ≡ 0 = omega (arith, s.1) in
-          let there : e ≡ slot_dart l x v (x (use_of l b).arc - 1 - o) =
-          across_unique (slot_dart l x b o) e (slot_dart l x v (x (use_of l b).arc - 1 - o))
-          (subst (λ (c : CellDart). IsAcross l x laid len c e) on.dart a)
-          (across_border l x laid len b v o on.is_slot other on.low) in
-          let at_v : IsAt l x laid len e v 0 =
-          subst (λ (c : CellDart). IsAt l x laid len c v 0) (sym (there ∙ ap (slot_dart l x v) z))
+          let there = across_unique (slot_dart l x b o) e (slot_dart l x v (x (use_of l b).arc - 1 - o))
+          (rw on.dart at a) (across_border l x laid len b v o on.is_slot other on.low) in
+          let at_v : IsAt l x laid len e v 0 = rw (there ∙ ap (slot_dart l x v) z)
           (rim_is_at l x laid len v 0 other.0 (use_some l x laid.paved len v other.0)) in
           let same : v ≡ w = (at_once l x laid len e v w 0 0 at_v at_w).0 in
-          record {
-            is_slot = at_w.is_slot;
-            reverse = subst (λ (c : Slot). AreReverse (use_of l c) (use_of l w)) (sym s.0)
-                (subst (λ (c : Slot). AreReverse (use_of l b) (use_of l c)) same other.1);
-          }
+          record { is_slot = at_w.is_slot; reverse = rw s.0 (rw same at other.1) }
 
       by_sight : IsWithin l x (prev d) ⊎ ((b : Slot) × (o : ℕ) × IsOnBorder l x (prev d) b o) → (u ≡ w) ⊎ IsTurn l u w
       by_sight (inl i) = inl (within i)
@@ -165,9 +140,8 @@ module _ (l : Layout) (x : Lengths) (laid : IsSurface l) (len : AreLengths l x) 
               absurd (alone_not_across l x laid len (prev d) e on.0 on.1 (record { on_border = on.2; alone = none }) a)
 
 module _ (faces : Faces) (manifold : IsManifold faces) (l : Layout) (x : Lengths) (paved : HasWholeSides l)
-    (len : AreLengths l x)
-    (cell : CellDart → ℕ) (vertex : ℕ → ℕ) (arc_dart : ℕ → ℕ
-    → ℕ) (s : IsEmbedding (half_edges faces) l x cell vertex arc_dart) where
+    (len : AreLengths l x) (cell : CellDart → ℕ) (vertex : ℕ → ℕ) (arc_dart : ℕ → ℕ → ℕ)
+    (s : IsEmbedding (half_edges faces) l x cell vertex arc_dart) where
   abbrev m : HalfEdges
   m = half_edges faces
 
@@ -179,69 +153,59 @@ module _ (faces : Faces) (manifold : IsManifold faces) (l : Layout) (x : Lengths
 
   alike : (d e : CellDart) → IsDart l x d → IsDart l x e → dart_start l x d ≡ dart_start l x e
       → m.from (cell d) ≡ m.from (cell e)
-  alike = point_related l x old_laid len
-      (AreFromOne m laws l x paved len cell vertex arc_dart s) (from_turning m laws l x paved len cell vertex arc_dart
-      s)
+  alike = point_related l x old_laid len (AreFromOne m laws l x paved len cell vertex arc_dart s)
+      (from_turning m laws l x paved len cell vertex arc_dart s)
       (λ v w is_v is_w same. starts m laws l x paved len cell vertex arc_dart s v is_v ∙ ap vertex same
       ∙ sym (starts m laws l x paved len cell vertex arc_dart s w is_w))
 
   across_twin : (d e : CellDart) → IsDart l x d → IsAcross l x old_laid len d e → m.twin (cell d) ≡ Some (cell e)
-  across_twin d e is a =
-      laws.twin_found (cell d) (cell e) (s.low d is) (s.low e a.is_dart)
+  across_twin d e is a = laws.twin_found (cell d) (cell e) (s.low d is) (s.low e a.is_dart)
       (alike e (next d) a.is_dart (next_is l x d is) (across_ends l x old_laid len d e is a).0 ∙ ap m.from (s.turned d))
       (ap m.from (sym (s.turned e)) ∙ alike (next e) d (next_is l x e a.is_dart) is
       (across_ends l x old_laid len d e is a).1)
 
   -- Where no slot uses an arc the other way round, its darts have no twin.
   alone_twin : (d : CellDart) (w : Slot) (o : ℕ) → IsAlone l x old_laid len d w o → m.twin (cell d) ≡ None
-  alone_twin d w o a =
-      ap (λ (c : CellDart). m.twin (cell c)) a.on_border.dart
+  alone_twin d w o a = ap (λ (c : CellDart). m.twin (cell c)) a.on_border.dart
       ∙ ap m.twin (s.ahead w o a.on_border.is_slot a.on_border.low w_forward)
       ∙ s.alone (use_of l w).arc o (paved.arc_low w a.on_border.is_slot) a.on_border.low all_forward
     where
       by_first : (v : Slot) × IsSlot l v × (use_of l v ≡ record { arc = (use_of l w).arc; forward = true })
           → (use_of l w).forward ≡ true
-      by_first v = by_way (use_of l w).forward refl
-        where
-          by_way : (f : Bool) → (use_of l w).forward ≡ f → (use_of l w).forward ≡ true
-          by_way true e = e
-          by_way false e = absurd (a.alone v.0 (
-            v.1,
-            record {
-              arc = ap (λ (u : SideArc). u.arc) v.2;
-              turned = ap (λ (u : SideArc). u.forward) v.2 ∙ ap not (sym e);
-            },
-          ))
+      by_first v = elim (cases_Bool (use_of l w).forward) [
+        | inl e ↦ e
+        | inr e ↦ absurd (a.alone v.0 (
+          v.1,
+          record {
+            arc = ap (λ (u : SideArc). u.arc) v.2;
+            turned = ap (λ (u : SideArc). u.forward) v.2 ∙ ap not (sym e);
+          },
+        ))
+      ]
 
       w_forward : (use_of l w).forward ≡ true
       w_forward = by_first (s.forward (use_of l w).arc (paved.arc_low w a.on_border.is_slot))
 
       all_forward : (v : Slot) → IsSlot l v → (use_of l v).arc ≡ (use_of l w).arc → (use_of l v).forward ≡ true
-      all_forward v is_v arc = by_way (use_of l v).forward refl
-        where
-          by_way : (f : Bool) → (use_of l v).forward ≡ f → (use_of l v).forward ≡ true
-          by_way true e = e
-          by_way false e = absurd (a.alone v (is_v, record { arc = arc; turned = e ∙ ap not (sym w_forward) }))
+      all_forward v is_v arc = elim (cases_Bool (use_of l v).forward) [
+        | inl e ↦ e
+        | inr e ↦ absurd (a.alone v (is_v, record { arc = arc; turned = e ∙ ap not (sym w_forward) }))
+      ]
 
   alone : (d : CellDart) → IsDart l x d → ((e : CellDart) → ¬ IsAcross l x old_laid len d e) → m.twin (cell d) ≡ None
-  alone d is none = by_case (across_or_alone l x old_laid len d is)
-    where
-      by_case : ((e : CellDart) × IsAcross l x old_laid len d e)
-          ⊎ ((w : Slot) × (o : ℕ) × IsAlone l x old_laid len d w o) → m.twin (cell d) ≡ None
-      by_case (inl a) = absurd (none a.0 a.1)
-      by_case (inr a) = alone_twin d a.0 a.1 a.2
+  alone d is none = elim (across_or_alone l x old_laid len d is) [
+    | inl a ↦ absurd (none a.0 a.1)
+    | inr a ↦ alone_twin d a.0 a.1 a.2
+  ]
 
   -- What the mesh tells to be the twin lies across.
   pub twin_is_across : (d e : CellDart) → IsDart l x d → IsDart l x e → m.twin (cell d) ≡ Some (cell e)
       → IsAcross l x old_laid len d e
-  twin_is_across d e is_d is_e twin = by_case (across_or_alone l x old_laid len d is_d)
-    where
-      by_case : ((c : CellDart) × IsAcross l x old_laid len d c)
-          ⊎ ((w : Slot) × (o : ℕ) × IsAlone l x old_laid len d w o) → IsAcross l x old_laid len d e
-      by_case (inl a) =
-          subst (IsAcross l x old_laid len d)
-          (s.same a.0 e a.1.is_dart is_e (same_Some (cell a.0) (cell e) (sym (across_twin d a.0 is_d a.1) ∙ twin))) a.1
-      by_case (inr a) = absurd (none-some (cell e) (sym (alone_twin d a.0 a.1 a.2) ∙ twin))
+  twin_is_across d e is_d is_e twin = elim (across_or_alone l x old_laid len d is_d) [
+    | inl a ↦ subst (IsAcross l x old_laid len d)
+        (s.same a.0 e a.1.is_dart is_e (same_Some (cell a.0) (cell e) (sym (across_twin d a.0 is_d a.1) ∙ twin))) a.1
+    | inr a ↦ absurd (none-some (cell e) (sym (alone_twin d a.0 a.1 a.2) ∙ twin))
+  ]
 
   prev_cell : (d : CellDart) → m.prev (cell d) ≡ cell (prev d)
   prev_cell d = ap (λ (c : CellDart). m.prev (cell c)) (sym (next_prev d)) ∙ ap m.prev (s.turned (prev d))
@@ -254,9 +218,8 @@ module _ (faces : Faces) (manifold : IsManifold faces) (l : Layout) (x : Lengths
 
   turn_point : (d e : CellDart) → IsDart l x d → IsDart l x e → m.twin (m.prev (cell d)) ≡ Some (cell e)
       → dart_start l x e ≡ dart_start l x d
-  turn_point d e is_d is_e twin =
-      (across_ends l x old_laid len (prev d) e (prev_is l x d is_d) (turn_across d e is_d is_e twin)).0
-      ∙ ap (dart_start l x) (next_prev d)
+  turn_point d e is_d is_e twin = (across_ends l x old_laid len (prev d) e (prev_is l x d is_d)
+      (turn_across d e is_d is_e twin)).0 ∙ ap (dart_start l x) (next_prev d)
 
   turned_point : (d e : CellDart) → IsDart l x d → IsDart l x e → AreTurned (half_edges faces) (cell d) (cell e)
       → dart_start l x d ≡ dart_start l x e
@@ -271,16 +234,14 @@ module _ (faces : Faces) (manifold : IsManifold faces) (l : Layout) (x : Lengths
       → MeshTurns (half_edges faces) (cell d) (cell e) n → dart_start l x d ≡ dart_start l x e
   turns_point d zero is_d e is_e t = ap (dart_start l x) (s.same d e is_d is_e t)
   turns_point d (suc n) is_d e is_e t =
-      let c : (c : CellDart) × IsDart l x c × (cell c ≡ t.0) =
-      s.onto t.0 (turns_low (cell d) t.0 n (s.low d is_d) t.1) in
-      turns_point d n is_d c.0 c.1 (subst (λ (k : ℕ). MeshTurns (half_edges faces) (cell d) k n) (sym c.2) t.1)
-      ∙ turned_point c.0 e c.1 is_e (subst (λ (k : ℕ). AreTurned (half_edges faces) k (cell e)) (sym c.2) t.3)
+      let c = s.onto t.0 (turns_low (cell d) t.0 n (s.low d is_d) t.1) in
+      turns_point d n is_d c.0 c.1 (rw c.2 t.1)
+      ∙ turned_point c.0 e c.1 is_e (rw c.2 t.3)
 
   apart : (d e : CellDart) → IsDart l x d → IsDart l x e → m.from (cell d) ≡ m.from (cell e)
       → dart_start l x d ≡ dart_start l x e
   apart d e is_d is_e same =
-      let t : (n : ℕ) × MeshTurns (half_edges faces) (cell d) (cell e) n =
-      laws.one_fan (cell d) (cell e) (s.low d is_d) (s.low e is_e) same in
+      let t = laws.one_fan (cell d) (cell e) (s.low d is_d) (s.low e is_e) same in
       turns_point d t.0 is_d e is_e t.1
 
   pub old_model : ((f : ℕ) → f < length faces → length (face_at faces f) ≡ 4) → IsModel faces l x old_laid len cell
@@ -302,54 +263,41 @@ module _ (faces : Faces) (manifold : IsManifold faces) (l : Layout) (x : Lengths
       → MeshTurns (half_edges faces) (cell (slot_dart l x v 0)) (cell d) n → (k : ℕ) × SlotTurns l v u k
   layout_turns v zero is_v d u is_d at_u t =
       let some : 0 < x (use_of l v).arc = use_some l x paved len v is_v in
-      let same : slot_dart l x v 0 ≡ d = s.same (slot_dart l x v 0) d (at_is l x paved len v 0 is_v some) is_d t in (
+      let same = s.same (slot_dart l x v 0) d (at_is l x paved len v 0 is_v some) is_d t in (
         zero,
-        (at_once l x old_laid len d v u 0 0
-            (subst (λ (c : CellDart). IsAt l x old_laid len c v 0) same (rim_is_at l x old_laid len v 0 is_v some))
-            at_u).0,
+        (at_once l x old_laid len d v u 0 0 (rw same at (rim_is_at l x old_laid len v 0 is_v some)) at_u).0,
       )
   layout_turns v (suc n) is_v d u is_d at_u t =
       let some : 0 < x (use_of l v).arc = use_some l x paved len v is_v in
-      let c : (c : CellDart) × IsDart l x c × (cell c ≡ t.0) =
-      s.onto t.0 (turns_low (cell (slot_dart l x v 0)) t.0 n
+      let c = s.onto t.0 (turns_low (cell (slot_dart l x v 0)) t.0 n
       (s.low (slot_dart l x v 0) (at_is l x paved len v 0 is_v some)) t.1) in
-      let turned : AreTurned (half_edges faces) (cell c.0) (cell d) =
-      subst (λ (k : ℕ). AreTurned (half_edges faces) k (cell d)) (sym c.2) t.3 in
-      let leaves : dart_start l x c.0 ≡ node (start_node l (use_of l u)) =
-      turned_point c.0 d c.1 is_d turned ∙ at_u.leaves ∙ use_begins l x (use_of l u) at_u.low in
-      let w : (w : Slot) × (b : Bool) × IsAtNode l x old_laid len (start_node l (use_of l u)) c.0 w b =
-      node_sort l x old_laid len (start_node l (use_of l u)) c.0 c.1 leaves in
-      let before : (k : ℕ) × SlotTurns l v w.0 k =
-      layout_turns v n is_v c.0 w.0 c.1 w.2.at
-      (subst (λ (k : ℕ). MeshTurns (half_edges faces) (cell (slot_dart l x v 0)) k n) (sym c.2) t.1) in
-      by_turn c.0 w.0 c.1 w.2.at before turned
+      let turned : AreTurned (half_edges faces) (cell c.0) (cell d) = rw c.2 t.3 in
+      let leaves = turned_point c.0 d c.1 is_d turned ∙ at_u.leaves ∙ use_begins l x (use_of l u) at_u.low in
+      let w = node_sort l x old_laid len (start_node l (use_of l u)) c.0 c.1 leaves in
+      let before = layout_turns v n is_v c.0 w.0 c.1 w.2.at (rw c.2 t.1) in
+      elim turned [
+        | inl twin ↦ step c.0 w.0 w.2.at before
+            (elim (slot_turn l x old_laid len c.0 d w.0 u c.1 is_d w.2.at at_u (turn_across c.0 d c.1 is_d twin)) [
+              | inl same ↦ inl same
+              | inr turn ↦ inr (inl turn)
+            ])
+        | inr twin ↦ step c.0 w.0 w.2.at before
+            (elim (slot_turn l x old_laid len d c.0 u w.0 is_d c.1 at_u w.2.at (turn_across d c.0 is_d c.1 twin)) [
+              | inl same ↦ inl (sym same)
+              | inr turn ↦ inr (inr turn)
+            ])
+      ]
     where
       step : (c : CellDart) (w : Slot) → IsAt l x old_laid len c w 0 → (k : ℕ) × SlotTurns l v w k
           → (w ≡ u) ⊎ (IsTurn l w u ⊎ IsTurn l u w) → (k : ℕ) × SlotTurns l v u k
-      step c w at_w before (inl same) = (before.0, subst (λ (z : Slot). SlotTurns l v z before.0) same before.1)
+      step c w at_w before (inl same) = (before.0, rw same at before.1)
       step c w at_w before (inr turn) = (suc before.0, (w, at_w.is_slot, before.1, turn))
-
-      by_turn : (c : CellDart) (w : Slot) → IsDart l x c → IsAt l x old_laid len c w 0 → (k : ℕ) × SlotTurns l v w k
-          → AreTurned (half_edges faces) (cell c) (cell d) → (k : ℕ) × SlotTurns l v u k
-      by_turn c w is_c at_w before (inl twin) =
-          step c w at_w before (elim (slot_turn l x old_laid len c d w u is_c is_d at_w at_u
-          (turn_across c d is_c is_d twin)) [
-            | inl same ↦ inl same
-            | inr turn ↦ inr (inl turn)
-          ])
-      by_turn c w is_c at_w before (inr twin) =
-          step c w at_w before (elim (slot_turn l x old_laid len d c u w is_d is_c at_u at_w
-          (turn_across d c is_d is_c twin)) [
-            | inl same ↦ inl (sym same)
-            | inr turn ↦ inr (inr turn)
-          ])
 
   pub old_fans : HasFans l
   old_fans v w is_v is_w same =
       let v_some : 0 < x (use_of l v).arc = use_some l x paved len v is_v in
       let w_some : 0 < x (use_of l w).arc = use_some l x paved len w is_w in
-      let t : (n : ℕ) × MeshTurns (half_edges faces) (cell (slot_dart l x v 0)) (cell (slot_dart l x w 0)) n =
-      laws.one_fan (cell (slot_dart l x v 0)) (cell (slot_dart l x w 0))
+      let t = laws.one_fan (cell (slot_dart l x v 0)) (cell (slot_dart l x w 0))
       (s.low (slot_dart l x v 0) (at_is l x paved len v 0 is_v v_some))
       (s.low (slot_dart l x w 0) (at_is l x paved len w 0 is_w w_some))
       (starts m laws l x paved len cell vertex arc_dart s v is_v ∙ ap vertex same

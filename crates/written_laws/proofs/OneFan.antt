@@ -62,10 +62,7 @@ module _ (l : Layout) (x : Lengths) where
     prev_next d = by_way d.way
       where
         by_way : (w : Way) → dart d.patch d.i d.j (side_before (side_after w)) ≡ dart d.patch d.i d.j w
-        by_way south = refl
-        by_way east = refl
-        by_way north = refl
-        by_way west = refl
+        by_way = elim [ south ↦ refl | east ↦ refl | north ↦ refl | west ↦ refl ]
 
     pub joins : IsTurning l x AreJoined
     joins = record {
@@ -80,31 +77,24 @@ module _ (l : Layout) (x : Lengths) where
       where
         over : (w v : Slot) (o : ℕ) → IsSlot l w → IsOtherSlot l w v → o < x (use_of l w).arc
             → AreJoined (next (slot_dart l x w o)) (slot_dart l x v (x (use_of l w).arc - 1 - o))
-        over w v o is other less =
-            join (next (slot_dart l x w o)) (slot_dart l x v (x (use_of l w).arc - 1 - o))
+        over w v o is other less = join (next (slot_dart l x w o)) (slot_dart l x v (x (use_of l w).arc - 1 - o))
             (next_is l x (slot_dart l x w o) (at_is l x laid.paved len w o is less))
             (at_is l x laid.paved len v (x (use_of l w).arc - 1 - o) other.0
-            (omega (arith, other_long l x laid len w v other)))
-            (sym (across_from l x laid len w v o is other less))
+            (omega (arith, other_long l x laid len w v other))) (sym (across_from l x laid len w v o is other less))
             (inr (across_to l x laid len w v o is other less
             ∙ ap (dart_start l x) (sym (prev_next (slot_dart l x w o)))))
 
     pub one_fan : HasFans l → (v : ℕ) → HasOneFan (new_faces l x) v
     one_fan fans v d e d_low e_low d_from e_from =
-        by_darts (at_number l x laid len d d_low) (at_number l x laid len e e_low)
-      where
-        by_darts : (c : CellDart) × IsDart l x c × (dart_number l x c ≡ d) → (c : CellDart) × IsDart l x c
-            × (dart_number l x c ≡ e)
-            → (n : ℕ) × Chain (new_faces l x) d e n
-        by_darts a b =
-            let same : vertex_number l x (dart_start l x a.0) ≡ vertex_number l x (dart_start l x b.0) =
-            sym (number_from l x a.0 a.1) ∙ ap (from_of (new_faces l x)) a.2 ∙ d_from
-            ∙ sym e_from ∙ ap (from_of (new_faces l x)) (sym b.2) ∙ number_from l x b.0 b.1 in
-            let joined : AreJoined a.0 b.0 =
-            point_related l x laid len AreJoined joins (at_nodes l x laid len AreJoined joins fans) a.0 b.0 a.1 b.1
-            (number_same l x (dart_start l x a.0) (dart_start l x b.0) (from_is l x laid len a.0 a.1)
-            (from_is l x laid len b.0 b.1) same) in (
-              joined.0,
-              subst (λ (k : ℕ). Chain (new_faces l x) k e joined.0) a.2
-                  (subst (λ (k : ℕ). Chain (new_faces l x) (dart_number l x a.0) k joined.0) b.2 joined.1),
-            )
+        let a = at_number l x laid len d d_low in
+        let b = at_number l x laid len e e_low in
+        let same = sym (number_from l x a.0 a.1) ∙ ap (from_of (new_faces l x)) a.2 ∙ d_from ∙ sym e_from
+        ∙ ap (from_of (new_faces l x)) (sym b.2) ∙ number_from l x b.0 b.1 in
+        let joined : AreJoined a.0 b.0 =
+        point_related l x laid len AreJoined joins (at_nodes l x laid len AreJoined joins fans) a.0 b.0 a.1 b.1
+        (number_same l x (dart_start l x a.0) (dart_start l x b.0) (from_is l x laid len a.0 a.1)
+        (from_is l x laid len b.0 b.1) same) in (
+          joined.0,
+          subst (λ (k : ℕ). Chain (new_faces l x) k e joined.0) a.2
+              (subst (λ (k : ℕ). Chain (new_faces l x) (dart_number l x a.0) k joined.0) b.2 joined.1),
+        )

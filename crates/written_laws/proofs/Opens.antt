@@ -2,11 +2,11 @@
 use Rattle.std.proofs.Common.{◌≡◌, ◌≢◌, ◌⊎◌, ℕ, ◌+◌, ◌-◌, ◌<◌, ◌≤◌, Bool, true, false, not, cond, refl, sym, ◌∙◌, ap}
 use Rattle.std.proofs.Common.{subst, inl, inr, arith}
 use Rattle.std.proofs.lemmas.Bool.{cases_eq}
-use Rattle.def_layout.specs.Layouts.{Way, south, east, north, west, side_after, Layout, Slot, IsSlot, AreReverse}
+use Rattle.def_layout.specs.Layouts.{Way, south, east, north, west, side_after, Layout, Slot, IsSlot}
 use Rattle.def_layout.specs.Layouts.{use_of}
 use Rattle.def_layout.specs.Surfaces.{IsSurface}
 use Rattle.def_layout.specs.Lengths.{Lengths, reach, size, wide, high, AreLengths}
-use Rattle.def_written.specs.Points.{Point, node, along, inside, arc_point, side_point, point}
+use Rattle.def_written.specs.Points.{Point, along, inside, arc_point, side_point, point}
 use Rattle.def_written.specs.Edges.{Edge, on_arc, flat, steep, IsEdge, edge_start, edge_end}
 use Rattle.written_laws.proofs.Sides.{slot, arc_last, arc_inner, use_inner, side_in}
 use Rattle.written_laws.proofs.{Sides.reach_low, Sides.first_slot, Sides.last_slot, Sides.last_reach, Grid.point_north}
@@ -53,9 +53,8 @@ module _ (l : Layout) (x : Lengths) (laid : IsSurface l) (len : AreLengths l x) 
       w_point : side_point l x p s t ≡ along (use_of l (slot p s (l.many p s - 1))).arc
           (cond (use_of l (slot p s (l.many p s - 1))).forward (x (use_of l (slot p s (l.many p s - 1))).arc - 1)
           (x (use_of l (slot p s (l.many p s - 1))).arc - (x (use_of l (slot p s (l.many p s - 1))).arc - 1)))
-      w_point = ap (side_point l x p s) place
-          ∙ side_in l x (slot p s (l.many p s - 1)) (x (use_of l (slot p s (l.many p s - 1))).arc - 1) is_w
-          (omega (arith, w_two))
+      w_point = ap (side_point l x p s) place ∙ side_in l x (slot p s (l.many p s - 1))
+          (x (use_of l (slot p s (l.many p s - 1))).arc - 1) is_w (omega (arith, w_two))
           ∙ use_inner l x (use_of l (slot p s (l.many p s - 1))) (x (use_of l (slot p s (l.many p s - 1))).arc - 1)
           (omega (arith, w_two)) (omega (arith, w_two))
 
@@ -79,17 +78,13 @@ module _ (l : Layout) (x : Lengths) (laid : IsSurface l) (len : AreLengths l x) 
       no_turn west f = cc
 
       alike : (use_of l (slot p s (l.many p s - 1))).forward ≡ (use_of l (slot p (side_after s) 0)).forward → ⊥
-      alike ways =
-          no_turn s (ap (λ (u : Slot). u.side)
+      alike ways = no_turn s (ap (λ (u : Slot). u.side)
           (laid.once (slot p s (l.many p s - 1)) (slot p (side_after s) 0) is_w is_v
           (λ r. record { arc = arcs r; forward = ways r })))
 
       turned : (use_of l (slot p (side_after s) 0)).forward ≡ not (use_of l (slot p s (l.many p s - 1))).forward → ⊥
-      turned ways =
-          laid.no_fold (slot p (side_after s) 0) is_v refl
-          (subst (λ (q : Way). AreReverse (l.use_at p q (l.many p q - 1)) (l.use_at p (side_after s) 0))
-          (sym (before_after s))
-          (record { arc = sym arcs; turned = ways }))
+      turned ways = laid.no_fold (slot p (side_after s) 0) is_v refl
+          (rw (before_after s) (record { arc = sym arcs; turned = ways }))
 
       by_ways : (f g : Bool) → (use_of l (slot p s (l.many p s - 1))).forward ≡ f
           → (use_of l (slot p (side_after s) 0)).forward ≡ g → ⊥
@@ -111,26 +106,14 @@ module _ (l : Layout) (x : Lengths) (laid : IsSurface l) (len : AreLengths l x) 
     | inl e ↦ inr e
     | inr less ↦ inl (
       n.0,
-      record {
-        a_some = omega arith;
-        a_low = omega (arith, n.1.a_low);
-        b_some = n.1.b_some;
-        b_low =
-            n.1.b_low;
-      },
+      record { a_some = omega arith; a_low = omega (arith, n.1.a_low); b_some = n.1.b_some; b_low = n.1.b_low },
     )
   ]
   tip_case p i j north n = elim (cases_eq (j + 1) (high l x p)) [
     | inl e ↦ inr e
     | inr less ↦ inl (
       n.0,
-      record {
-        a_some = n.1.a_some;
-        a_low = n.1.a_low;
-        b_some = omega arith;
-        b_low =
-            omega (arith, n.1.b_low);
-      },
+      record { a_some = n.1.a_some; a_low = n.1.a_low; b_some = omega arith; b_low = omega (arith, n.1.b_low) },
     )
   ]
   tip_case p i j west n = elim (cases_eq i 1) [
@@ -140,8 +123,7 @@ module _ (l : Layout) (x : Lengths) (laid : IsSurface l) (len : AreLengths l x) 
       record {
         a_some = omega (arith, n.1.a_some);
         a_low = omega (arith, n.1.a_low);
-        b_some =
-            n.1.b_some;
+        b_some = n.1.b_some;
         b_low = n.1.b_low;
       },
     )
@@ -154,8 +136,7 @@ module _ (l : Layout) (x : Lengths) (laid : IsSurface l) (len : AreLengths l x) 
         a_some = n.1.a_some;
         a_low = n.1.a_low;
         b_some = omega (arith, n.1.b_some);
-        b_low =
-            omega (arith, n.1.b_low);
+        b_low = omega (arith, n.1.b_low);
       },
     )
   ]
@@ -163,8 +144,7 @@ module _ (l : Layout) (x : Lengths) (laid : IsSurface l) (len : AreLengths l x) 
   near_tips : (p i j : ℕ) (w v : Way) → Inner l x laid len p i j → Inner l x laid len p (tip_column i w) (tip_row j w)
       → tip l x p i j w ≡ tip l x p i j v → w ≡ v
   near_tips p i j w v n near same =
-      let e : (p ≡ p) × (tip_column i v ≡ tip_column i w) × (tip_row j v ≡ tip_row j w) =
-      point_sort l x laid len p (tip_column i v) (tip_row j v) p (tip_column i w) (tip_row j w) n.0
+      let e = point_sort l x laid len p (tip_column i v) (tip_row j v) p (tip_column i w) (tip_row j w) n.0
       (tip_low l x laid len p i j v n).0 (tip_low l x laid len p i j v n).1
       (sym same ∙ hub l x laid len p (tip_column i w) (tip_row j w) near) in
       one_way i j w v n.1.a_some n.1.b_some (sym e.1) (sym e.2)
@@ -194,10 +174,7 @@ module _ (l : Layout) (x : Lengths) (laid : IsSurface l) (len : AreLengths l x) 
       let bottom : j - 1 ≡ 0 = omega arith in
       beside_corner p west (high l x p - j) n.0 (omega (arith, n.1.b_low))
       (sym (point_west l x laid len p j n.0 (omega (arith, n.1.b_low))) ∙ ap (λ k. point l x p k j) (sym first) ∙ same
-      ∙ ap (point l x p i) bottom ∙ ap (side_point l x p south) e')
-    where
-      e' : i ≡ 1
-      e' = e
+      ∙ ap (point l x p i) bottom ∙ ap (side_point l x p south) e)
 
   south_east : (p i j : ℕ) → Inner l x laid len p i j → Far p i j south → Far p i j east
       → tip l x p i j south ≢ tip l x p i j east
@@ -263,13 +240,7 @@ module _ (l : Layout) (x : Lengths) (laid : IsSurface l) (len : AreLengths l x) 
       west,
       (
         is.0,
-        record {
-          a_some = omega arith;
-          a_low = omega (arith, side_two p south is.0);
-          b_some = is.2;
-          b_low =
-              is.3;
-        },
+        record { a_some = omega arith; a_low = omega (arith, side_two p south is.0); b_some = is.2; b_low = is.3 },
       ),
       ap (λ k. flat p k j) z,
     )
@@ -305,8 +276,7 @@ module _ (l : Layout) (x : Lengths) (laid : IsSurface l) (len : AreLengths l x) 
   spoke_once : (e : Edge) (p i j : ℕ) (w : Way) → IsEdge l x e → Inner l x laid len p i j
       → Joins l x e (inside p i j) (tip l x p i j w) → e ≡ spoke p i j w
   spoke_once e p i j w is n joins =
-      let h : (v : Way) × (e ≡ spoke p i j v) × (tip l x p i j w ≡ tip l x p i j v) =
-      hub_edge l x laid len e p i j (tip l x p i j w) is joins in
+      let h = hub_edge l x laid len e p i j (tip l x p i j w) is joins in
       h.1 ∙ ap (spoke p i j) (sym (tips_differ p i j w h.0 n h.2))
 
   -- The points on both sides of an inner point of an arc differ.
@@ -315,18 +285,15 @@ module _ (l : Layout) (x : Lengths) (laid : IsSurface l) (len : AreLengths l x) 
     | inl last ↦ elim (cases_eq k 1) [
       | inl one ↦
           let z : k - 1 ≡ 0 = omega arith in
-          let ends : node (l.last a) ≡ node (l.first a) =
-          sym (arc_last l x a (k + 1) last (omega arith)) ∙ same ∙ ap (arc_point l x a) z in
+          let ends = sym (arc_last l x a (k + 1) last (omega arith)) ∙ same ∙ ap (arc_point l x a) z in
           let s : l.first a ≡ l.last a = cc in
           open_l.arcs_open a a_low (omega arith) s
       | inr more ↦
-          let s : (a ≡ a) × (k + 1 ≡ k - 1) =
-          arc_sort l x a (k + 1) a (k - 1) (same ∙ arc_inner l x a (k - 1) (omega arith) (omega arith)) in
+          let s = arc_sort l x a (k + 1) a (k - 1) (same ∙ arc_inner l x a (k - 1) (omega arith) (omega arith)) in
           omega (arith, s.1)
     ]
     | inr inner ↦
-        let s : (a ≡ a) × (k - 1 ≡ k + 1) =
-        arc_sort l x a (k - 1) a (k + 1) (sym same ∙ arc_inner l x a (k + 1) (omega arith) (omega arith)) in
+        let s = arc_sort l x a (k - 1) a (k + 1) (sym same ∙ arc_inner l x a (k + 1) (omega arith) (omega arith)) in
         omega (arith, s.1)
   ]
 
@@ -351,13 +318,11 @@ module _ (l : Layout) (x : Lengths) (laid : IsSurface l) (len : AreLengths l x) 
 
       at_first : m ≡ 0 → Joins l x (on_arc a k) (arc_point l x b m) (arc_point l x b (m + 1)) → on_arc a k ≡ on_arc b m
       at_first z (inl s) =
-          let e : (a ≡ b) × (k + 1 ≡ m + 1) =
-          arc_sort l x a (k + 1) b (m + 1) (s.1 ∙ arc_inner l x b (m + 1) (omega arith) (omega (arith, two))) in
+          let e = arc_sort l x a (k + 1) b (m + 1) (s.1 ∙ arc_inner l x b (m + 1) (omega arith) (omega (arith, two))) in
           let c : k ≡ m = omega (arith, e.1) in
           λ r. on_arc (e.0 r) (c r)
       at_first z (inr s) =
-          let e : (a ≡ b) × (k ≡ m + 1) =
-          arc_sort l x a k b (m + 1) (s.0 ∙ arc_inner l x b (m + 1) (omega arith) (omega (arith, two))) in
+          let e = arc_sort l x a k b (m + 1) (s.0 ∙ arc_inner l x b (m + 1) (omega arith) (omega (arith, two))) in
           let c : k + 1 ≡ m + 1 + 1 = omega (arith, e.1) in
           let d : m ≡ m + 1 - 1 = omega arith in
           absurd (arc_tips b (m + 1) is_b.0 (omega arith) (omega (arith, two))
@@ -380,13 +345,9 @@ module _ (l : Layout) (x : Lengths) (laid : IsSurface l) (len : AreLengths l x) 
 
           by_order : Joins l x (spoke p i j w) (inside p i j) (tip l x p i j w)
               → Joins l x g (inside p i j) (tip l x p i j w)
-          by_order (inl s) =
-              subst (λ (q : Point). Joins l x g q (tip l x p i j w)) s.0
-              (subst (λ (q : Point). Joins l x g (edge_start l x (spoke p i j w)) q) s.1 on_spoke)
-          by_order (inr s) =
-              joins_swap l x g (tip l x p i j w) (inside p i j)
-              (subst (λ (q : Point). Joins l x g q (inside p i j)) s.0
-              (subst (λ (q : Point). Joins l x g (edge_start l x (spoke p i j w)) q) s.1 on_spoke))
+          by_order (inl s) = subst (λ (q : Point). Joins l x g q (tip l x p i j w)) s.0 (rw s.1 at on_spoke)
+          by_order (inr s) = joins_swap l x g (tip l x p i j w) (inside p i j)
+              (subst (λ (q : Point). Joins l x g q (inside p i j)) s.0 (rw s.1 at on_spoke))
 
       flip : Joins l x e (edge_start l x f) (edge_end l x f) → Joins l x f (edge_start l x e) (edge_end l x e)
       flip (inl s) = inl (sym s.0, sym s.1)
@@ -398,35 +359,30 @@ module _ (l : Layout) (x : Lengths) (laid : IsSurface l) (len : AreLengths l x) 
       both_arcs _ _ is_g is_h g_on h_on both = absurd cc
 
       by_kinds : (b c : Bool) → is_arc e ≡ b → is_arc f ≡ c → e ≡ f
-      by_kinds b false e_kind f_kind = at (edge_spoke f is_f f_kind)
-        where
-          at : (p : ℕ) × (i : ℕ) × (j : ℕ) × (w : Way) × Inner l x laid len p i j × (f ≡ spoke p i j w) → e ≡ f
-          at s = along_spoke e f is_e joins s.0 s.1 s.2 s.3 s.4 s.5
-      by_kinds false true e_kind f_kind = at (edge_spoke e is_e e_kind)
-        where
-          at : (p : ℕ) × (i : ℕ) × (j : ℕ) × (w : Way) × Inner l x laid len p i j × (e ≡ spoke p i j w) → e ≡ f
-          at s = sym (along_spoke f e is_f (flip joins) s.0 s.1 s.2 s.3 s.4 s.5)
+      by_kinds b false e_kind f_kind =
+          let s = edge_spoke f is_f f_kind in
+          along_spoke e f is_e joins s.0 s.1 s.2 s.3 s.4 s.5
+      by_kinds false true e_kind f_kind =
+          let s = edge_spoke e is_e e_kind in
+          sym (along_spoke f e is_f (flip joins) s.0 s.1 s.2 s.3 s.4 s.5)
       by_kinds true true e_kind f_kind = both_arcs e f is_e is_f e_kind f_kind joins
 
   no_loop : (e : Edge) → IsEdge l x e → edge_start l x e ≢ edge_end l x e
   no_loop (on_arc a k) is same = elim (cases_eq k 0) [
     | inl z ↦
-        let s : (a ≡ a) × (k ≡ k + 1) =
-        arc_sort l x a k a (k + 1) (same
-        ∙ arc_inner l x a (k + 1) (omega arith) (omega (arith, open_l.two a is.0))) in
+        let s =
+        arc_sort l x a k a (k + 1) (same ∙ arc_inner l x a (k + 1) (omega arith) (omega (arith, open_l.two a is.0))) in
         omega (arith, s.1)
     | inr some ↦
         let s : (a ≡ a) × (k + 1 ≡ k) = arc_sort l x a (k + 1) a k (sym same ∙ arc_inner l x a k (omega arith) is.1) in
         omega (arith, s.1)
   ]
-  no_loop (flat p i j) is same = at_spoke (edge_spoke (flat p i j) is refl)
-    where
-      at_spoke : (q : ℕ) × (k : ℕ) × (m : ℕ) × (w : Way) × Inner l x laid len q k m × (flat p i j ≡ spoke q k m w) → ⊥
-      at_spoke s = loop_at l x laid len (flat p i j) s.0 s.1 s.2 s.3 s.4 s.5 same
-  no_loop (steep p i j) is same = at_spoke (edge_spoke (steep p i j) is refl)
-    where
-      at_spoke : (q : ℕ) × (k : ℕ) × (m : ℕ) × (w : Way) × Inner l x laid len q k m × (steep p i j ≡ spoke q k m w) → ⊥
-      at_spoke s = loop_at l x laid len (steep p i j) s.0 s.1 s.2 s.3 s.4 s.5 same
+  no_loop (flat p i j) is same =
+      let s = edge_spoke (flat p i j) is refl in
+      loop_at l x laid len (flat p i j) s.0 s.1 s.2 s.3 s.4 s.5 same
+  no_loop (steep p i j) is same =
+      let s = edge_spoke (steep p i j) is refl in
+      loop_at l x laid len (steep p i j) s.0 s.1 s.2 s.3 s.4 s.5 same
 
   pub simple_open : IsSimple l x
   simple_open = record {

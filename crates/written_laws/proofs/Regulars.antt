@@ -1,7 +1,7 @@
 -- The points inside patches and along arcs are regular.
-use Rattle.std.proofs.Common.{◌≡◌, ◌≢◌, ◌⊎◌, ℕ, zero, suc, ◌+◌, ◌-◌, ◌<◌, ◌≤◌, Bool, true, false, not, cond, refl, sym}
+use Rattle.std.proofs.Common.{◌≡◌, ◌≢◌, ℕ, zero, suc, ◌+◌, ◌-◌, ◌<◌, ◌≤◌, Bool, true, false, not, cond, refl, sym}
 use Rattle.std.proofs.Common.{◌∙◌, ap, subst, inl, inr, arith}
-use Rattle.std.proofs.lemmas.Bool.{cases_eq, eq-eqb, false_from_ne_true}
+use Rattle.std.proofs.lemmas.Bool.{cases_Bool, cases_eq, eq-eqb, false_from_ne_true}
 use Rattle.def_mesh.specs.{Faces.Faces, Vertices.faces_at, Kinds.is_inner, Kinds.is_regular}
 use Rattle.def_layout.specs.{declared.tmesh.SideArc.SideArc, Layouts.Way, Layouts.south, Layouts.east, Layouts.north}
 use Rattle.def_layout.specs.Layouts.{west, Layout, Slot, IsSlot, use_of}
@@ -10,24 +10,18 @@ use Rattle.def_layout.specs.{Lengths.Lengths, Lengths.AreLengths, Cells.CellDart
 use Rattle.def_written.specs.Points.{node, along, inside, IsPoint, use_point, point}
 use Rattle.def_written.specs.NewFaces.{column, row, dart_start}
 use Rattle.written_laws.proofs.{Sides.use_begins, Sides.use_ends, Sides.use_inner, Sides.arc_inner, Grid.point_inside}
-use Rattle.written_laws.proofs.{Rims.column_of, Rims.row_of, Rims.corner_low, Rims.IsInner, Borders.IsAt}
+use Rattle.written_laws.proofs.{Rims.column_of, Rims.row_of, Rims.corner_low, Borders.IsAt}
 use Rattle.written_laws.proofs.Borders.{sort_dart, inner_from, use_back, use_not_inside}
 use Rattle.written_laws.proofs.NewDarts.{turn, way_of, way_turn, turn_way, turn_low}
-use Rattle.written_laws.proofs.{Spokes.point_sort, Spots.place_at, Spots.spot_dart, Spots.at_once, Spots.spot_is}
+use Rattle.written_laws.proofs.{Spokes.point_sort, Spots.spot_dart, Spots.at_once, Spots.spot_is}
 use Rattle.written_laws.proofs.{Spots.spot_at, Spots.sort_spot, Spots.spot_once, Models.IsModel, Inners.AreShared}
 use Rattle.written_laws.proofs.Inners.{IsVertex, inner_if, inner_only, fan_most, fan_least}
 
 column_once : (i k : ℕ) (w : Way) → column i w ≡ column k w → i ≡ k
-column_once i k south e = e
-column_once i k east e = omega arith
-column_once i k north e = omega arith
-column_once i k west e = e
+column_once i k = elim [ south ↦ λ e. e | east ↦ λ e. omega arith | north ↦ λ e. omega arith | west ↦ λ e. e ]
 
 row_once : (j m : ℕ) (w : Way) → row j w ≡ row m w → j ≡ m
-row_once j m south e = e
-row_once j m east e = e
-row_once j m north e = omega arith
-row_once j m west e = omega arith
+row_once j m = elim [ south ↦ λ e. e | east ↦ λ e. e | north ↦ λ e. omega arith | west ↦ λ e. omega arith ]
 
 -- The four darts at an inner grid point.
 abbrev hub_dart : (p i j : ℕ) (w : Way) → CellDart
@@ -37,10 +31,7 @@ hub_dart p i j north = dart p (i - 1) (j - 1) north
 hub_dart p i j west = dart p i (j - 1) west
 
 hub_way : (p i j : ℕ) (w : Way) → (hub_dart p i j w).way ≡ w
-hub_way p i j south = refl
-hub_way p i j east = refl
-hub_way p i j north = refl
-hub_way p i j west = refl
+hub_way p i j = elim [ south ↦ refl | east ↦ refl | north ↦ refl | west ↦ refl ]
 
 -- The darts at a place of an arc by number: two beside the arc as it runs, two on its other side.
 abbrev code : (forward behind : Bool) → ℕ
@@ -79,8 +70,7 @@ code_low false false = omega arith
 code_low false true = omega arith
 
 code_first : (b : Bool) → code true b < 2
-code_first true = omega arith
-code_first false = omega arith
+code_first = elim [ true ↦ omega arith | false ↦ omega arith ]
 
 code_back : (k : ℕ) → k < 4 → code (forward_of k) (behind_of k) ≡ k
 code_back zero low = refl
@@ -111,8 +101,7 @@ module _ (l : Layout) (x : Lengths) (laid : IsSurface l) (len : AreLengths l x) 
     | inr more ↦ elim (cases_eq o (x u.arc)) [
       | inl last ↦ let b : use_point l x u o ≡ node (end_node l u) = use_ends l x u o last (omega arith) in absurd cc
       | inr less ↦
-          let b : use_point l x u o ≡ along u.arc (cond u.forward o (x u.arc - o)) =
-          use_inner l x u o (omega arith) (omega arith) in
+          let b = use_inner l x u o (omega arith) (omega arith) in
           let arc : u.arc ≡ a = cc in
           let place : cond u.forward o (x u.arc - o) ≡ k = cc in
           (arc, omega arith, omega arith, place)
@@ -136,13 +125,11 @@ module _ (l : Layout) (x : Lengths) (laid : IsSurface l) (len : AreLengths l x) 
 
         place : (d : CellDart) → IsDart l x d → dart_start l x d ≡ inside p i j → (d.patch ≡ p) × (column_of d ≡ i)
             × (row_of d ≡ j)
-        place d is_d leaves =
-            point_sort l x laid len d.patch (column_of d) (row_of d) p i j is_d.patch_low
+        place d is_d leaves = point_sort l x laid len d.patch (column_of d) (row_of d) p i j is_d.patch_low
             (corner_low l x laid.paved len d is_d).0 (corner_low l x laid.paved len d is_d).1 leaves
 
         once : (d e : CellDart) (b : IsDart l x d) (c : IsDart l x e) (f : dart_start l x d ≡ inside p i j)
-            (g : dart_start l x e ≡ inside p i j)
-            → turn d.way ≡ turn e.way → d ≡ e
+            (g : dart_start l x e ≡ inside p i j) → turn d.way ≡ turn e.way → d ≡ e
         once d e is_d is_e f g turns =
             let a : (d.patch ≡ p) × (column_of d ≡ i) × (row_of d ≡ j) = place d is_d f in
             let b : (e.patch ≡ p) × (column_of e ≡ i) × (row_of e ≡ j) = place e is_e g in
@@ -194,42 +181,32 @@ module _ (l : Layout) (x : Lengths) (laid : IsSurface l) (len : AreLengths l x) 
 
       along_sort : (d : CellDart) → IsDart l x d → dart_start l x d ≡ along a k → (w : Slot) × (o : ℕ) × (b : Bool)
           × IsAlong d w o b
-      along_sort d is_d leaves = by_case (sort_dart l x laid len d is_d)
+      along_sort d is_d leaves = elim (sort_dart l x laid len d is_d) [
+        | inl i ↦ let b : dart_start l x d ≡ inside d.patch (column_of d) (row_of d) =
+            inner_from l x laid len d i in absurd cc
+        | inr s ↦ at_slot s.0 s.1 s.2
+      ]
         where
           at_slot : (w : Slot) (o : ℕ) → IsAt l x laid len d w o → (w : Slot) × (o : ℕ) × (b : Bool) × IsAlong d w o b
           at_slot w o at =
-              let s : ((use_of l w).arc ≡ a) × (0 < o) × (o < x (use_of l w).arc)
-              × (cond (use_of l w).forward o (x (use_of l w).arc - o) ≡ k) =
+              let s =
               arc_of (use_of l w) o a k (omega (arith, at.low)) (omega (arith, at.low)) (sym at.leaves ∙ leaves) in
-              let b : (b : Bool) × (d ≡ spot_dart l x w o b) × ((b ≡ true) → 0 < place_at l x w o) =
-              sort_spot l x laid len d w o is_d at in
+              let b = sort_spot l x laid len d w o is_d at in
               (w, o, b.0, record { at = at; arc = s.0; place = s.3; dart = b.1 })
-
-          by_case : IsInner l x laid.paved len d.patch (column_of d) (row_of d)
-              ⊎ ((w : Slot) × (o : ℕ) × IsAt l x laid len d w o)
-              → (w : Slot) × (o : ℕ) × (b : Bool) × IsAlong d w o b
-          by_case (inl i) = let b : dart_start l x d ≡ inside d.patch (column_of d) (row_of d) =
-              inner_from l x laid len d i in absurd cc
-          by_case (inr s) = at_slot s.0 s.1 s.2
 
       along_once : (d e : CellDart) (w u : Slot) (o m : ℕ) (b c : Bool) → IsAlong d w o b → IsAlong e u m c
           → (use_of l w).forward ≡ (use_of l u).forward → b ≡ c → d ≡ e
       along_once d e w u o m b c s r ways same =
-          let slots : w ≡ u = laid.once w u s.at.is_slot r.at.is_slot (λ t. record {
-            arc = (s.arc ∙ sym r.arc) t;
-            forward = ways t;
-          }) in
+          let slots =
+          laid.once w u s.at.is_slot r.at.is_slot (λ t. record { arc = (s.arc ∙ sym r.arc) t; forward = ways t }) in
           let long : x (use_of l u).arc ≡ x (use_of l w).arc = ap x (r.arc ∙ sym s.arc) in
-          let places : cond (use_of l w).forward o (x (use_of l w).arc - o)
-          ≡ cond (use_of l w).forward m (x (use_of l w).arc - m) =
-          s.place ∙ sym r.place ∙ (λ t. cond (sym ways t) m (long t - m)) in
-          let offsets : o ≡ m = by_way (use_of l w).forward (x (use_of l w).arc) s.at.low
-          (omega (arith, long, r.at.low)) places in
+          let places = s.place ∙ sym r.place ∙ (λ t. cond (sym ways t) m (long t - m)) in
+          let offsets =
+          by_way (use_of l w).forward (x (use_of l w).arc) s.at.low (omega (arith, long, r.at.low)) places in
           s.dart ∙ (λ t. spot_dart l x (slots t) (offsets t) (same t)) ∙ sym r.dart
         where
           by_way : (f : Bool) (n : ℕ) → o < n → m < n → cond f o (n - o) ≡ cond f m (n - m) → o ≡ m
-          by_way true n o_low m_low e = e
-          by_way false n o_low m_low e = omega arith
+          by_way = elim [ true ↦ λ n o_low m_low e. e | false ↦ λ n o_low m_low e. omega arith ]
 
       -- The slot of the arc as it runs.
       first : (w : Slot) × IsSlot l w × (use_of l w ≡ record { arc = a; forward = true })
@@ -254,23 +231,21 @@ module _ (l : Layout) (x : Lengths) (laid : IsSurface l) (len : AreLengths l x) 
         where
           boundary : is_inner F v ≡ false
           boundary = false_from_ne_true (is_inner F v) (λ inner.
-              let u : (u : Slot) × IsOtherSlot l first.0 u =
-              inner_only l x laid len F cell model (along a k) v is_v inner first.0 k first.1
+              let u = inner_only l x laid len F cell model (along a k) v is_v inner first.0 k first.1
               (omega (arith, first_long, is.2)) (inl first_leaves) in
               none u.0 u.1)
 
           forward : (w : Slot) → IsSlot l w → (use_of l w).arc ≡ a → (use_of l w).forward ≡ true
-          forward w is_w arc = by_way (use_of l w).forward refl
-            where
-              by_way : (f : Bool) → (use_of l w).forward ≡ f → (use_of l w).forward ≡ true
-              by_way true e = e
-              by_way false e = absurd (none w (
-                is_w,
-                record {
-                  arc = arc ∙ sym (ap (λ (u : SideArc). u.arc) first.2);
-                  turned = e ∙ ap (λ (u : SideArc). not u.forward) (sym first.2);
-                },
-              ))
+          forward w is_w arc = elim (cases_Bool (use_of l w).forward) [
+            | inl e ↦ e
+            | inr e ↦ absurd (none w (
+              is_w,
+              record {
+                arc = arc ∙ sym (ap (λ (u : SideArc). u.arc) first.2);
+                turned = e ∙ ap (λ (u : SideArc). not u.forward) (sym first.2);
+              },
+            ))
+          ]
 
           two : faces_at F v ≡ 2
           two = omega (arith, most, least)
@@ -279,29 +254,23 @@ module _ (l : Layout) (x : Lengths) (laid : IsSurface l) (len : AreLengths l x) 
               coded d is_d leaves = (code true (along_sort d is_d leaves).2, code_first (along_sort d is_d leaves).2)
 
               once : (d e : CellDart) (b : IsDart l x d) (c : IsDart l x e) (f : dart_start l x d ≡ along a k)
-                  (g : dart_start l x e ≡ along a k)
-                  → (coded d b f).0 ≡ (coded e c g).0 → d ≡ e
-              once d e b c f g same = by_sort (along_sort d b f) (along_sort e c g) same
-                where
-                  by_sort : (s : (w : Slot) × (o : ℕ) × (b : Bool) × IsAlong d w o b)
-                      → (r : (w : Slot) × (o : ℕ) × (b : Bool) × IsAlong e w o b)
-                      → code true s.2 ≡ code true r.2 → d ≡ e
-                  by_sort s r same =
-                      along_once d e s.0 r.0 s.1 r.1 s.2 r.2 s.3 r.3
-                      (forward s.0 s.3.at.is_slot s.3.arc ∙ sym (forward r.0 r.3.at.is_slot r.3.arc))
-                      (sym (code_behind true s.2) ∙ ap behind_of same ∙ code_behind true r.2)
+                  (g : dart_start l x e ≡ along a k) → (coded d b f).0 ≡ (coded e c g).0 → d ≡ e
+              once d e b c f g same =
+                  let s = along_sort d b f in
+                  let r = along_sort e c g in
+                  along_once d e s.0 r.0 s.1 r.1 s.2 r.2 s.3 r.3
+                  (forward s.0 s.3.at.is_slot s.3.arc ∙ sym (forward r.0 r.3.at.is_slot r.3.arc))
+                  (sym (code_behind true s.2) ∙ ap behind_of same ∙ code_behind true r.2)
 
               most : faces_at F v ≤ 2
               most = fan_most l x laid len F cell model (along a k) v is_v 2 coded once
 
               least : 2 ≤ faces_at F v
-              least = fan_least l x laid len F cell model (along a k) v is_v 2
-                  (λ c low. (
-                    spot_dart l x first.0 k (behind_of c),
-                    (first_dart (behind_of c)).0,
-                    (first_dart (behind_of c)).1,
-                  ))
-                  (λ c m low less same. sym (code_back_first c low)
+              least = fan_least l x laid len F cell model (along a k) v is_v 2 (λ c low. (
+                spot_dart l x first.0 k (behind_of c),
+                (first_dart (behind_of c)).0,
+                (first_dart (behind_of c)).1,
+              )) (λ c m low less same. sym (code_back_first c low)
                   ∙ ap (code true) (spot_once l x laid len first.0 k (behind_of c) (behind_of m) same)
                   ∙ code_back_first m less)
 
@@ -313,25 +282,19 @@ module _ (l : Layout) (x : Lengths) (laid : IsSurface l) (len : AreLengths l x) 
           long = ap x other.1.arc ∙ first_long
 
           by_arc : (w : Slot) → IsSlot l w → (use_of l w).arc ≡ a → (z : Slot) × IsOtherSlot l w z
-          by_arc w is_w arc = by_way (use_of l w).forward refl
+          by_arc w is_w arc = elim (cases_Bool (use_of l w).forward) [
+            | inl e ↦
+                let one = laid.once first.0 w first.1 is_w
+                (λ t. record { arc = (same_arc ∙ sym arc) t; forward = (same_way ∙ sym e) t }) in
+                (u, rw one at other)
+            | inr e ↦ (first.0, (first.1, record { arc = same_arc ∙ sym arc; turned = same_way ∙ ap not (sym e) }))
+          ]
             where
               same_arc : (use_of l first.0).arc ≡ a
               same_arc = ap (λ (z : SideArc). z.arc) first.2
 
               same_way : (use_of l first.0).forward ≡ true
               same_way = ap (λ (z : SideArc). z.forward) first.2
-
-              by_way : (f : Bool) → (use_of l w).forward ≡ f → (z : Slot) × IsOtherSlot l w z
-              by_way true e =
-                  let one : first.0 ≡ w = laid.once first.0 w first.1 is_w (λ t. record {
-                    arc = (same_arc ∙ sym arc) t;
-                    forward = (same_way ∙ sym e) t;
-                  }) in
-                  (u, subst (λ (z : Slot). IsOtherSlot l z u) one other)
-              by_way false e = (
-                first.0,
-                (first.1, record { arc = same_arc ∙ sym arc; turned = same_way ∙ ap not (sym e) }),
-              )
 
           shared : AreShared l x (along a k)
           shared w o is_w less (inl e) = by_arc w is_w (arc_of (use_of l w) o a k (omega arith) (omega arith) e).0
@@ -361,8 +324,7 @@ module _ (l : Layout) (x : Lengths) (laid : IsSurface l) (len : AreLengths l x) 
               (ap (λ (z : Slot). (use_of l z).forward) e)
             where
               by_way : (f g : Bool) → g ≡ not f → f ≡ g → ⊥
-              by_way true g s r = absurd cc
-              by_way false g s r = absurd cc
+              by_way = elim [ true ↦ λ g s r. absurd cc | false ↦ λ g s r. absurd cc ]
 
           both_once : (f g b c : Bool) → both f b ≡ both g c → code f b ≡ code g c
           both_once true true b c e = ap (code true) (spot_once l x laid len first.0 k b c e)
@@ -370,8 +332,7 @@ module _ (l : Layout) (x : Lengths) (laid : IsSurface l) (len : AreLengths l x) 
           both_once true false b c e =
               absurd (apart (at_once l x laid len (both true b) first.0 u k (x a - k)
               (spot_at l x laid len first.0 k b first.1 (omega (arith, first_long, is.2)) (λ s. omega (arith, is.1)))
-              (subst (λ (d : CellDart). IsAt l x laid len d u (x a - k)) (sym e)
-              (spot_at l x laid len u (x a - k) c other.0 (omega (arith, long, is.1, is.2))
+              (rw e (spot_at l x laid len u (x a - k) c other.0 (omega (arith, long, is.1, is.2))
               (λ s. omega (arith, is.2))))).0)
           both_once false true b c e =
               absurd (apart (at_once l x laid len (both true c) first.0 u k (x a - k)
@@ -390,31 +351,25 @@ module _ (l : Layout) (x : Lengths) (laid : IsSurface l) (len : AreLengths l x) 
               )
 
               once : (d e : CellDart) (b : IsDart l x d) (c : IsDart l x e) (f : dart_start l x d ≡ along a k)
-                  (g : dart_start l x e ≡ along a k)
-                  → (coded d b f).0 ≡ (coded e c g).0 → d ≡ e
-              once d e b c f g same = by_sort (along_sort d b f) (along_sort e c g) same
-                where
-                  by_sort : (s : (w : Slot) × (o : ℕ) × (b : Bool) × IsAlong d w o b)
-                      → (r : (w : Slot) × (o : ℕ) × (b : Bool) × IsAlong e w o b)
-                      → code (use_of l s.0).forward s.2 ≡ code (use_of l r.0).forward r.2 → d ≡ e
-                  by_sort s r same =
-                      along_once d e s.0 r.0 s.1 r.1 s.2 r.2 s.3 r.3
-                      (sym (code_forward (use_of l s.0).forward s.2) ∙ ap forward_of same
-                      ∙ code_forward (use_of l r.0).forward r.2)
-                      (sym (code_behind (use_of l s.0).forward s.2) ∙ ap behind_of same
-                      ∙ code_behind (use_of l r.0).forward r.2)
+                  (g : dart_start l x e ≡ along a k) → (coded d b f).0 ≡ (coded e c g).0 → d ≡ e
+              once d e b c f g same =
+                  let s = along_sort d b f in
+                  let r = along_sort e c g in
+                  along_once d e s.0 r.0 s.1 r.1 s.2 r.2 s.3 r.3
+                  (sym (code_forward (use_of l s.0).forward s.2) ∙ ap forward_of same
+                  ∙ code_forward (use_of l r.0).forward r.2)
+                  (sym (code_behind (use_of l s.0).forward s.2) ∙ ap behind_of same
+                  ∙ code_behind (use_of l r.0).forward r.2)
 
               most : faces_at F v ≤ 4
               most = fan_most l x laid len F cell model (along a k) v is_v 4 coded once
 
               least : 4 ≤ faces_at F v
-              least = fan_least l x laid len F cell model (along a k) v is_v 4
-                  (λ c low. (
-                    both (forward_of c) (behind_of c),
-                    (both_is (forward_of c) (behind_of c)).0,
-                    (both_is (forward_of c) (behind_of c)).1,
-                  ))
-                  (λ c m low less same. sym (code_back c low)
+              least = fan_least l x laid len F cell model (along a k) v is_v 4 (λ c low. (
+                both (forward_of c) (behind_of c),
+                (both_is (forward_of c) (behind_of c)).0,
+                (both_is (forward_of c) (behind_of c)).1,
+              )) (λ c m low less same. sym (code_back c low)
                   ∙ both_once (forward_of c) (forward_of m) (behind_of c) (behind_of m) same ∙ code_back m less)
 
       pub along_regular : is_regular F v ≡ true

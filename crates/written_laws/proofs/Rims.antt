@@ -33,25 +33,21 @@ side_row l x p west t = high l x p - t
 module _ (l : Layout) (x : Lengths) (paved : HasWholeSides l) (len : AreLengths l x) where
   pub rim_is : (p : ℕ) (s : Way) (t : ℕ) → p < l.patches → t < size l x p s → IsDart l x (dart_along l x p s t)
   rim_is p south t low less = record { patch_low = low; i_low = less; j_low = high_some l x paved len p low }
-  rim_is p east t low less =
-      record {
-        patch_low = low;
-        i_low = omega (arith, wide_some l x paved len p low);
-        j_low =
-            omega (arith, len.upright p low);
-      }
+  rim_is p east t low less = record {
+    patch_low = low;
+    i_low = omega (arith, wide_some l x paved len p low);
+    j_low = omega (arith, len.upright p low);
+  }
   rim_is p north t low less = record {
     patch_low = low;
     i_low = omega (arith, wide_some l x paved len p low);
     j_low = omega (arith, high_some l x paved len p low);
   }
-  rim_is p west t low less =
-      record {
-        patch_low = low;
-        i_low = wide_some l x paved len p low;
-        j_low =
-            omega (arith, high_some l x paved len p low);
-      }
+  rim_is p west t low less = record {
+    patch_low = low;
+    i_low = wide_some l x paved len p low;
+    j_low = omega (arith, high_some l x paved len p low);
+  }
 
   -- A border dart begins at its place of the side, and ends at the next one.
   pub rim_column : (p : ℕ) (s : Way) (t : ℕ) → p < l.patches → t < size l x p s
@@ -83,10 +79,7 @@ module _ (l : Layout) (x : Lengths) (paved : HasWholeSides l) (len : AreLengths 
   rim_next_row p west t low less = omega arith
 
   pub rim_patch : (p : ℕ) (s : Way) (t : ℕ) → (dart_along l x p s t).patch ≡ p
-  rim_patch p south t = refl
-  rim_patch p east t = refl
-  rim_patch p north t = refl
-  rim_patch p west t = refl
+  rim_patch p = elim [ south ↦ λ t. refl | east ↦ λ t. refl | north ↦ λ t. refl | west ↦ λ t. refl ]
 
   -- A side ends where the next one begins.
   pub corner_column : (p : ℕ) (s : Way) (t : ℕ) → p < l.patches → t ≡ size l x p s
@@ -120,19 +113,15 @@ module _ (l : Layout) (x : Lengths) (paved : HasWholeSides l) (len : AreLengths 
 
   -- A cell with two border darts in a row lies at the corner of its patch.
   pub corner_cell : (p : ℕ) (s : Way) (t u : ℕ) → p < l.patches → t < size l x p s → u < size l x p (side_after s)
-      → (dart_along l x p s t).i ≡ (dart_along l x p (side_after s) u).i → (dart_along l x p s t).j
-      ≡ (dart_along l x p (side_after s) u).j
-      → (t + 1 ≡ size l x p s) × (u ≡ 0)
+      → (dart_along l x p s t).i ≡ (dart_along l x p (side_after s) u).i
+      → (dart_along l x p s t).j ≡ (dart_along l x p (side_after s) u).j → (t + 1 ≡ size l x p s) × (u ≡ 0)
   corner_cell p south t u low t_low u_low i j = (omega (arith, i), sym j)
   corner_cell p east t u low t_low u_low i j = (omega (arith, j, len.upright p low), omega (arith, i, len.across p low))
   corner_cell p north t u low t_low u_low i j = (omega (arith, i, len.across p low), omega (arith, j))
   corner_cell p west t u low t_low u_low i j = (omega (arith, j), sym i)
 
   pub rim_way : (p : ℕ) (s : Way) (t : ℕ) → (dart_along l x p s t).way ≡ s
-  rim_way p south t = refl
-  rim_way p east t = refl
-  rim_way p north t = refl
-  rim_way p west t = refl
+  rim_way p = elim [ south ↦ λ t. refl | east ↦ λ t. refl | north ↦ λ t. refl | west ↦ λ t. refl ]
 
   -- A grid point of a patch lies inside, or is where a border dart begins.
   pub record IsInner (p a b : ℕ) : Type 0 where
@@ -153,11 +142,7 @@ module _ (l : Layout) (x : Lengths) (paved : HasWholeSides l) (len : AreLengths 
       | inl far ↦ inr (
         east,
         0,
-        record {
-          low = omega (arith, len.upright p low, high_some l x paved len p low);
-          column = far;
-          row = bottom;
-        },
+        record { low = omega (arith, len.upright p low, high_some l x paved len p low); column = far; row = bottom },
       )
       | inr near ↦ inr (south, a, record { low = omega arith; column = refl; row = bottom })
     ]
@@ -167,11 +152,7 @@ module _ (l : Layout) (x : Lengths) (paved : HasWholeSides l) (len : AreLengths 
         | inr later ↦ inr (
           north,
           wide l x p - a,
-          record {
-            low = omega (arith, len.across p low);
-            column = omega arith;
-            row = up;
-          },
+          record { low = omega (arith, len.across p low); column = omega arith; row = up },
         )
       ]
       | inr less ↦ elim (cases_eq a 0) [
@@ -182,8 +163,7 @@ module _ (l : Layout) (x : Lengths) (paved : HasWholeSides l) (len : AreLengths 
             a_some = omega arith;
             a_low = omega arith;
             b_some = omega arith;
-            b_low =
-                omega arith;
+            b_low = omega arith;
           })
         ]
       ]
@@ -208,11 +188,9 @@ module _ (l : Layout) (x : Lengths) (paved : HasWholeSides l) (len : AreLengths 
     -- Darts of a patch that leave one grid point are related.
     pub darts_related : (d e : CellDart) → IsDart l x d → IsDart l x e → d.patch ≡ e.patch
         → column_of d ≡ column_of e → row_of d ≡ row_of e → R d e
-    darts_related d e is_d is_e same c r =
-        turning.on d (dart e.patch d.i d.j d.way) e
+    darts_related d e is_d is_e same c r = turning.on d (dart e.patch d.i d.j d.way) e
         (turning.self d (dart e.patch d.i d.j d.way) (λ t. dart (same t) d.i d.j d.way))
-        (grid_related l x R turning e.patch d.i d.j e.i e.j d.way e.way
-        (record {
+        (grid_related l x R turning e.patch d.i d.j e.i e.j d.way e.way (record {
           patch_low = is_e.patch_low;
           i_low = omega (arith, is_d.i_low, ap (wide l x) same);
           j_low = omega (arith, is_d.j_low, ap (high l x) same);
@@ -222,8 +200,7 @@ module _ (l : Layout) (x : Lengths) (paved : HasWholeSides l) (len : AreLengths 
     -- The dart after a border dart, and the next border dart.
     pub rim_on : (p : ℕ) (s : Way) (t : ℕ) → p < l.patches → t + 1 < size l x p s
         → R (next (dart_along l x p s t)) (dart_along l x p s (t + 1))
-    rim_on p s t low less =
-        darts_related (next (dart_along l x p s t)) (dart_along l x p s (t + 1))
+    rim_on p s t low less = darts_related (next (dart_along l x p s t)) (dart_along l x p s (t + 1))
         (next_is (rim_is p s t low (omega arith))) (rim_is p s (t + 1) low less)
         (rim_patch p s t ∙ sym (rim_patch p s (t + 1)))
         (rim_next_column p s t low (omega arith) ∙ sym (rim_column p s (t + 1) low less))
@@ -235,8 +212,7 @@ module _ (l : Layout) (x : Lengths) (paved : HasWholeSides l) (len : AreLengths 
     -- The same at the end of a side.
     pub rim_round : (p : ℕ) (s : Way) (t : ℕ) → p < l.patches → t + 1 ≡ size l x p s → 0 < size l x p (side_after s)
         → R (next (dart_along l x p s t)) (dart_along l x p (side_after s) 0)
-    rim_round p s t low e some =
-        darts_related (next (dart_along l x p s t)) (dart_along l x p (side_after s) 0)
+    rim_round p s t low e some = darts_related (next (dart_along l x p s t)) (dart_along l x p (side_after s) 0)
         (next_is (rim_is p s t low (omega arith))) (rim_is p (side_after s) 0 low some)
         (rim_patch p s t ∙ sym (rim_patch p (side_after s) 0))
         (rim_next_column p s t low (omega arith) ∙ corner_column p s (t + 1) low e
@@ -252,22 +228,19 @@ module _ (l : Layout) (x : Lengths) (laid : IsSurface l) (len : AreLengths l x) 
       → point l x p (side_column l x p s t) (side_row l x p s t) ≡ side_point l x p s t
   border_point p south t low le = refl
   border_point p east t low le = point_east l x laid len p (wide l x p) t low refl (omega (arith, len.upright p low))
-  border_point p north t low le =
-      point_north l x laid len p (wide l x p - t) (high l x p) low refl
+  border_point p north t low le = point_north l x laid len p (wide l x p - t) (high l x p) low refl
       ∙ ap (side_point l x p north) (omega (arith, len.across p low))
   border_point p west t low le =
       point_west l x laid len p (high l x p - t) low (omega arith) ∙ ap (side_point l x p west) (omega arith)
 
   pub rim_from : (p : ℕ) (s : Way) (t : ℕ) → p < l.patches → t < size l x p s
       → dart_start l x (dart_along l x p s t) ≡ side_point l x p s t
-  rim_from p s t low less =
-      (λ k. point l x (rim_patch l x laid.paved len p s t k) (rim_column l x laid.paved len p s t low less k)
-      (rim_row l x laid.paved len p s t low less k))
+  rim_from p s t low less = (λ k. point l x (rim_patch l x laid.paved len p s t k)
+      (rim_column l x laid.paved len p s t low less k) (rim_row l x laid.paved len p s t low less k))
       ∙ border_point p s t low (omega arith)
 
   pub rim_to : (p : ℕ) (s : Way) (t : ℕ) → p < l.patches → t < size l x p s
       → dart_end l x (dart_along l x p s t) ≡ side_point l x p s (t + 1)
-  rim_to p s t low less =
-      (λ k. point l x (rim_patch l x laid.paved len p s t k) (rim_next_column l x laid.paved len p s t low less k)
-      (rim_next_row l x laid.paved len p s t low less k))
+  rim_to p s t low less = (λ k. point l x (rim_patch l x laid.paved len p s t k)
+      (rim_next_column l x laid.paved len p s t low less k) (rim_next_row l x laid.paved len p s t low less k))
       ∙ border_point p s (t + 1) low (omega arith)

@@ -1,5 +1,5 @@
 -- Laws of runs laid end to end.
-use Rattle.std.proofs.Common.{◌≡◌, ℕ, zero, suc, ◌+◌, ◌-◌, ◌<◌, ◌≤◌, sym, ◌∙◌, ap, subst, inl, inr, arith}
+use Rattle.std.proofs.Common.{◌≡◌, ℕ, zero, suc, ◌+◌, ◌-◌, ◌<◌, ◌≤◌, sym, ◌∙◌, ap, inl, inr, arith}
 use Rattle.std.proofs.lemmas.Bool.{cases_eq, cond_both, cond-true, cond-false, ltb-true, ltb-false, lt-ltb, le-ltb}
 use Rattle.std.specs.Prelude.{nat_lt}
 use Rattle.def_math.specs.{Counts.count_below, Runs.run_at}
@@ -15,18 +15,15 @@ count_rises f a (suc b) le = elim (cases_eq a (suc b)) [
 -- Where there are runs, one of them is found.
 pub run_low : (start : ℕ → ℕ) (n t : ℕ) → 0 < n → run_at start n t < n
 run_low start zero t l = absurd (omega arith)
-run_low start (suc zero) t l =
-    cond_both (nat_lt t (start zero)) (run_at start zero t) zero (λ k. k < suc zero) (λ e. omega arith)
-    (λ e. omega arith)
-run_low start (suc (suc n)) t l =
-    cond_both (nat_lt t (start (suc n))) (run_at start (suc n) t) (suc n) (λ k. k < suc (suc n))
-    (λ e. omega (arith, run_low start (suc n) t (omega arith))) (λ e. omega arith)
+run_low start (suc zero) t l = cond_both (nat_lt t (start zero)) (run_at start zero t) zero (λ k. k < suc zero)
+    (λ e. omega arith) (λ e. omega arith)
+run_low start (suc (suc n)) t l = cond_both (nat_lt t (start (suc n))) (run_at start (suc n) t) (suc n)
+    (λ k. k < suc (suc n)) (λ e. omega (arith, run_low start (suc n) t (omega arith))) (λ e. omega arith)
 
 -- It begins at or before the place.
 pub run_from : (start : ℕ → ℕ) (n t : ℕ) → start 0 ≤ t → start (run_at start n t) ≤ t
 run_from start zero t l = l
-run_from start (suc n) t l =
-    cond_both (nat_lt t (start n)) (run_at start n t) n (λ k. start k ≤ t)
+run_from start (suc n) t l = cond_both (nat_lt t (start n)) (run_at start n t) n (λ k. start k ≤ t)
     (λ e. run_from start n t l) (λ e. ltb-false t (start n) e)
 
 -- The next one begins after it.
@@ -34,29 +31,25 @@ pub run_to : (start : ℕ → ℕ) (n t : ℕ) → 0 < n → t < start n → t <
 run_to start zero t some l = absurd (omega arith)
 run_to start (suc zero) t some l =
     cond_both (nat_lt t (start zero)) (run_at start zero t) zero (λ k. t < start (suc k)) (λ e. l) (λ e. l)
-run_to start (suc (suc n)) t some l =
-    cond_both (nat_lt t (start (suc n))) (run_at start (suc n) t) (suc n) (λ k. t < start (suc k))
-    (λ e. run_to start (suc n) t (omega arith) (ltb-true t (start (suc n)) e)) (λ e. l)
+run_to start (suc (suc n)) t some l = cond_both (nat_lt t (start (suc n))) (run_at start (suc n) t) (suc n)
+    (λ k. t < start (suc k)) (λ e. run_to start (suc n) t (omega arith) (ltb-true t (start (suc n)) e)) (λ e. l)
 
 -- From the beginning of the last one on it is found.
 pub run_last : (start : ℕ → ℕ) (n t : ℕ) → 0 < n → start (n - 1) ≤ t → run_at start n t ≡ n - 1
 run_last start zero t some l = absurd (omega arith)
 run_last start (suc n) t some l =
     let same : suc n - 1 ≡ n = omega arith in
-    let le : start n ≤ t = subst (λ (k : ℕ). start k ≤ t) same l in
+    let le : start n ≤ t = rw same at l in
     cond-false (nat_lt t (start n)) (run_at start n t) n (le-ltb t (start n) le) ∙ sym same
 
 -- Place o of run k lies in run k.
 pub run_place : (f : ℕ → ℕ) (n k o : ℕ) → k < n → o < f k → run_at (count_below f) n (count_below f k + o) ≡ k
 run_place f zero k o l in_run = absurd (omega arith)
 run_place f (suc n) k o l in_run = elim (cases_eq k n) [
-  | inl e ↦
-      cond-false (nat_lt (count_below f k + o) (count_below f n)) _ _
+  | inl e ↦ cond-false (nat_lt (count_below f k + o) (count_below f n)) _ _
       (le-ltb _ _ (omega (arith, ap (count_below f) e))) ∙ sym e
-  | inr ne ↦
-      cond-true (nat_lt (count_below f k + o) (count_below f n)) _ _
-      (lt-ltb _ _ (omega (arith, count_rises f (suc k) n (omega arith))))
-      ∙ run_place f n k o (omega arith) in_run
+  | inr ne ↦ cond-true (nat_lt (count_below f k + o) (count_below f n)) _ _
+      (lt-ltb _ _ (omega (arith, count_rises f (suc k) n (omega arith)))) ∙ run_place f n k o (omega arith) in_run
 ]
 
 -- Place t lies o after the beginning of run k.
@@ -70,12 +63,10 @@ pub run_here : (f : ℕ → ℕ) (n t : ℕ) → t < count_below f n
     → IsInRun f n t (run_at (count_below f) n t) (t - count_below f (run_at (count_below f) n t))
 run_here f zero t l = absurd (omega arith)
 run_here f (suc n) t l =
-    let from : count_below f (run_at (count_below f) (suc n) t) ≤ t =
-    run_from (count_below f) (suc n) t (omega arith) in
+    let from = run_from (count_below f) (suc n) t (omega arith) in
     record {
       low = run_low (count_below f) (suc n) t (omega arith);
-      inside =
-          omega (arith, from, run_to (count_below f) (suc n) t (omega arith) l);
+      inside = omega (arith, from, run_to (count_below f) (suc n) t (omega arith) l);
       place = omega (arith, from);
     }
 
@@ -88,6 +79,5 @@ place_low f n k o l in_run =
 pub place_same : (f : ℕ → ℕ) (n a k b o : ℕ) → a < n → b < n → k < f a → o < f b
     → count_below f a + k ≡ count_below f b + o → (a ≡ b) × (k ≡ o)
 place_same f n a k b o la lb lk lo same =
-    let e : a ≡ b =
-    sym (run_place f n a k la lk) ∙ ap (run_at (count_below f) n) same ∙ run_place f n b o lb lo in
+    let e : a ≡ b = sym (run_place f n a k la lk) ∙ ap (run_at (count_below f) n) same ∙ run_place f n b o lb lo in
     (e, omega (arith, ap (count_below f) e))

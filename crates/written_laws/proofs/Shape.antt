@@ -1,14 +1,14 @@
 -- The new mesh has the shape of the old one, and the old one doubles no edge.
-use Rattle.std.proofs.Common.{◌≡◌, ◌≢◌, ℕ, ◌<◌, ◌≤◌, Bool, true, false, cond, not, ◌&&◌, Some, refl, sym, ◌∙◌, ap}
+use Rattle.std.proofs.Common.{◌≡◌, ◌≢◌, ℕ, ◌<◌, ◌≤◌, Bool, true, false, cond, not, ◌&&◌, refl, sym, ◌∙◌, ap}
 use Rattle.std.proofs.Common.{subst, arith}
 use Rattle.std.proofs.lemmas.Bool.{false≢true}
 use Rattle.std.specs.Prelude.{◌==◌}
-use Rattle.def_mesh.specs.{Faces.Faces, Darts.darts, Darts.from_of, Darts.to_of, Darts.twin_of, Manifold.IsManifold}
+use Rattle.def_mesh.specs.{Faces.Faces, Darts.from_of, Darts.to_of, Manifold.IsManifold}
 use Rattle.def_mesh.specs.{Vertices.faces_at, Vertices.vertex_count, Kinds.is_inner, Kinds.is_regular, Kinds.kind_of}
 use Rattle.def_mesh.specs.{HalfEdges.IsQuadManifold, HalfEdges.half_edges, declared.Kind.Kind}
 use Rattle.def_mesh.specs.declared.Kind.TheVariants.{Regular, Singular}
 use Rattle.def_mesh.specs.declared.Kind.TheVariants.{Corner, Reflex}
-use Rattle.def_layout.specs.Layouts.{Layout, Slot, IsSlot, use_of, start_node}
+use Rattle.def_layout.specs.Layouts.{Layout, use_of}
 use Rattle.def_layout.specs.{Surfaces.HasWholeSides, Surfaces.IsSurface, Fans.HasFans, Lengths.Lengths}
 use Rattle.def_layout.specs.{Lengths.AreLengths, Cells.CellDart, Cells.IsDart, Cells.next, Cells.slot_dart}
 use Rattle.def_layout.specs.Embeddings.{IsEmbedding}
@@ -22,7 +22,7 @@ use Rattle.written_laws.proofs.{Sides.use_some, Sides.use_begins, Numbers.number
 use Rattle.written_laws.proofs.{Borders.at_is, Borders.at_from, Borders.from_is, NewDarts.dart_number, NewDarts.next_is}
 use Rattle.written_laws.proofs.{NewDarts.at_number, NewDarts.number_from, Courses.course, Courses.start_at}
 use Rattle.written_laws.proofs.Courses.{end_at, course_of, course_from, course_to}
-use Rattle.written_laws.proofs.{Courses.IsAcross, Simple.IsSimple, Manifold.manifold, EdgeDarts.edge_dart}
+use Rattle.written_laws.proofs.{Simple.IsSimple, Manifold.manifold, EdgeDarts.edge_dart}
 use Rattle.written_laws.proofs.{EdgeNumbers.point_onto, Undoubled.simple_from, Undoubled.undoubled_from, Doubling.scale}
 use Rattle.written_laws.proofs.{Doubling.lengths_scale, Doubling.simple_three, Doubling.simple_multiple, Models.IsModel}
 use Rattle.written_laws.proofs.{Models.used_dart, Models.point_dart, Models.new_model, ModelCounts.euler_is}
@@ -31,9 +31,8 @@ use Rattle.written_laws.proofs.{NodeKinds.node_faces, NodeKinds.node_inner, Side
 use Rattle.written_laws.proofs.OldModel.{old_model, old_fans, twin_is_across}
 
 module _ (faces : Faces) (man : IsManifold faces) (l : Layout) (x : Lengths) (paved : HasWholeSides l)
-    (len : AreLengths l x)
-    (cell : CellDart → ℕ) (vertex : ℕ → ℕ) (arc_dart : ℕ → ℕ
-    → ℕ) (s : IsEmbedding (half_edges faces) l x cell vertex arc_dart) where
+    (len : AreLengths l x) (cell : CellDart → ℕ) (vertex : ℕ → ℕ) (arc_dart : ℕ → ℕ → ℕ)
+    (s : IsEmbedding (half_edges faces) l x cell vertex arc_dart) where
   module _ (model : IsModel faces l x (old_laid faces man l x paved len cell vertex arc_dart s) len cell) where
     -- A dart that runs along an edge.
     record IsRunner (e : Edge) (d : CellDart) (a : Bool) : Type 0 where
@@ -43,11 +42,8 @@ module _ (faces : Faces) (man : IsManifold faces) (l : Layout) (x : Lengths) (pa
       pub end : dart_end l x d ≡ end_at l x (course e a)
 
     runner : (e : Edge) → IsEdge l x e → (d : CellDart) × (a : Bool) × IsRunner e d a
-    runner e is = by_dart (edge_dart l x (old_laid faces man l x paved len cell vertex arc_dart s) len e is)
-      where
-        by_dart : (d : CellDart) × IsDart l x d × ((course_of l x d).edge ≡ e) → (d : CellDart) × (a : Bool)
-            × IsRunner e d a
-        by_dart d = (
+    runner e is =
+        let d = edge_dart l x (old_laid faces man l x paved len cell vertex arc_dart s) len e is in (
           d.0,
           (course_of l x d.0).ahead,
           record {
@@ -62,31 +58,25 @@ module _ (faces : Faces) (man : IsManifold faces) (l : Layout) (x : Lengths) (pa
 
     to_is : (d e : CellDart) → IsDart l x d → IsDart l x e → dart_end l x d ≡ dart_end l x e → to_of faces (cell d)
         ≡ to_of faces (cell e)
-    to_is d e is_d is_e same =
-        ap (from_of faces) (sym (model.turned d is_d)) ∙ model.alike (next d) (next e) (next_is l x d is_d)
-        (next_is l x e is_e) same
+    to_is d e is_d is_e same = ap (from_of faces) (sym (model.turned d is_d))
+        ∙ model.alike (next d) (next e) (next_is l x d is_d) (next_is l x e is_e) same
         ∙ ap (from_of faces) (model.turned e is_e)
 
     same_way : (e f : Edge) (d c : CellDart) → (course_of l x d).edge ≡ e → (course_of l x c).edge ≡ f → IsDart l x d
-        → IsDart l x c
-        → dart_start l x d ≡ dart_start l x c → dart_end l x d ≡ dart_end l x c → e ≡ f
+        → IsDart l x c → dart_start l x d ≡ dart_start l x c → dart_end l x d ≡ dart_end l x c → e ≡ f
     same_way e f d c d_edge c_edge is_d is_c starts_same ends_same =
-        let one : d ≡ c =
-        model.same d c is_d is_c (man.edges_once (cell d) (cell c) (model.low d is_d) (model.low c is_c)
+        let one = model.same d c is_d is_c (man.edges_once (cell d) (cell c) (model.low d is_d) (model.low c is_c)
         (model.alike d c is_d is_c starts_same, to_is d c is_d is_c ends_same)) in
         sym d_edge ∙ ap (λ (q : CellDart). (course_of l x q).edge) one ∙ c_edge
 
     other_way : (e f : Edge) (d c : CellDart) → (course_of l x d).edge ≡ e → (course_of l x c).edge ≡ f → IsDart l x d
-        → IsDart l x c
-        → dart_start l x c ≡ dart_end l x d → dart_end l x c ≡ dart_start l x d → e ≡ f
+        → IsDart l x c → dart_start l x c ≡ dart_end l x d → dart_end l x c ≡ dart_start l x d → e ≡ f
     other_way e f d c d_edge c_edge is_d is_c there back =
         let laws : IsQuadManifold (half_edges faces) = manifold_law faces man in
-        let twin : twin_of faces (cell d) ≡ Some (cell c) =
-        laws.twin_found (cell d) (cell c) (model.low d is_d) (model.low c is_c)
+        let twin = laws.twin_found (cell d) (cell c) (model.low d is_d) (model.low c is_c)
         (model.alike c (next d) is_c (next_is l x d is_d) there ∙ ap (from_of faces) (model.turned d is_d))
         (ap (from_of faces) (sym (model.turned c is_c)) ∙ model.alike (next c) d (next_is l x c is_c) is_d back) in
-        let a : IsAcross l x (old_laid faces man l x paved len cell vertex arc_dart s) len d c =
-        twin_is_across faces man l x paved len cell vertex arc_dart s d c is_d is_c twin in
+        let a = twin_is_across faces man l x paved len cell vertex arc_dart s d c is_d is_c twin in
         sym d_edge ∙ sym a.edge ∙ c_edge
 
     pub old_simple : IsSimple l x
@@ -125,12 +115,8 @@ module _ (faces : Faces) (man : IsManifold faces) (l : Layout) (x : Lengths) (pa
         no_loop : (e : Edge) → IsEdge l x e → edge_start l x e ≢ edge_end l x e
         no_loop e is loop = by_runner (runner e is).0 (runner e is).1 (runner e is).2
           where
-            laws : IsQuadManifold (half_edges faces)
-            laws = manifold_law faces man
-
             apart : (d : CellDart) → IsDart l x d → dart_start l x d ≢ dart_end l x d
-            apart d is_d same =
-                (laws.corners_differ (cell d) (model.low d is_d)).0
+            apart d is_d same = ((manifold_law faces man).corners_differ (cell d) (model.low d is_d)).0
                 (model.alike d (next d) is_d (next_is l x d is_d) same ∙ ap (from_of faces) (model.turned d is_d))
 
             by_runner : (d : CellDart) (a : Bool) → IsRunner e d a → ⊥
@@ -176,18 +162,15 @@ module _ (faces : Faces) (l : Layout) (x : Lengths) (vertex : ℕ → ℕ) (lies
 
   -- The vertex of a node.
   node_vertex : (n : ℕ) → n < l.nodes → IsVertex l x the_laid lies.lengths faces lies.cell the_model (node n) (vertex n)
-  node_vertex n low = by_slot (the_laid.reached n low)
-    where
-      by_slot : (w : Slot) × IsSlot l w × (start_node l (use_of l w) ≡ n)
-          → IsVertex l x the_laid lies.lengths faces lies.cell the_model (node n) (vertex n)
-      by_slot w =
-          let some : 0 < x (use_of l w.0).arc = use_some l x lies.paved lies.lengths w.0 w.1 in
-          vertex_from l x the_laid lies.lengths faces lies.cell the_model (slot_dart l x w.0 0) (node n) (vertex n)
-          (at_is l x lies.paved lies.lengths w.0 0 w.1 some)
-          (at_from l x the_laid lies.lengths w.0 0 w.1 some ∙ use_begins l x (use_of l w.0) some ∙ ap node w.2)
-          (starts (half_edges faces) (manifold_law faces lies.manifold) l x lies.paved lies.lengths lies.cell vertex
-          lies.arc_dart lies.sided w.0 w.1
-          ∙ ap vertex w.2)
+  node_vertex n low =
+      let w = the_laid.reached n low in
+      let some : 0 < x (use_of l w.0).arc = use_some l x lies.paved lies.lengths w.0 w.1 in
+      vertex_from l x the_laid lies.lengths faces lies.cell the_model (slot_dart l x w.0 0) (node n) (vertex n)
+      (at_is l x lies.paved lies.lengths w.0 0 w.1 some)
+      (at_from l x the_laid lies.lengths w.0 0 w.1 some ∙ use_begins l x (use_of l w.0) some ∙ ap node w.2)
+      (starts (half_edges faces) (manifold_law faces lies.manifold) l x lies.paved lies.lengths lies.cell vertex
+      lies.arc_dart lies.sided w.0 w.1
+      ∙ ap vertex w.2)
 
   module _ (y : Lengths) (lon : AreLengths l y) (undoubled : IsUndoubled l y) where
     new_is : IsModel (new_faces l y) l y the_laid lon (dart_number l y)
@@ -195,27 +178,21 @@ module _ (faces : Faces) (l : Layout) (x : Lengths) (vertex : ℕ → ℕ) (lies
 
     new_vertex : (d : CellDart) (a : Point) (v : ℕ) → IsDart l y d → dart_start l y d ≡ a → vertex_number l y a ≡ v
         → IsVertex l y the_laid lon (new_faces l y) (dart_number l y) new_is a v
-    new_vertex d a v is leaves same =
-        vertex_from l y the_laid lon (new_faces l y) (dart_number l y) new_is d a v is leaves
-        (number_from l y d is ∙ ap (vertex_number l y) leaves ∙ same)
+    new_vertex d a v is leaves same = vertex_from l y the_laid lon (new_faces l y) (dart_number l y) new_is d a v is
+        leaves (number_from l y d is ∙ ap (vertex_number l y) leaves ∙ same)
 
     new_node : (n : ℕ) → n < l.nodes → IsVertex l y the_laid lon (new_faces l y) (dart_number l y) new_is (node n) n
     new_node n low =
-        let d : (d : CellDart) × IsDart l y d × (dart_start l y d ≡ node n) =
-        point_dart l y the_laid lon (node n) low in
+        let d = point_dart l y the_laid lon (node n) low in
         new_vertex d.0 (node n) n d.1 d.2 refl
 
     same_faces : (n : ℕ) → n < l.nodes → faces_at (new_faces l y) n ≡ faces_at faces (vertex n)
-    same_faces n low =
-        sym (node_faces l the_laid x y lies.lengths lon faces (new_faces l y) lies.cell (dart_number l y) the_model
-        new_is
-        n (vertex n) n (node_vertex n low) (new_node n low))
+    same_faces n low = sym (node_faces l the_laid x y lies.lengths lon faces (new_faces l y) lies.cell (dart_number l y)
+        the_model new_is n (vertex n) n (node_vertex n low) (new_node n low))
 
     same_inner : (n : ℕ) → n < l.nodes → is_inner (new_faces l y) n ≡ is_inner faces (vertex n)
-    same_inner n low =
-        sym (node_inner l the_laid x y lies.lengths lon faces (new_faces l y) lies.cell (dart_number l y) the_model
-        new_is
-        n (vertex n) n (node_vertex n low) (new_node n low))
+    same_inner n low = sym (node_inner l the_laid x y lies.lengths lon faces (new_faces l y) lies.cell (dart_number l y)
+        the_model new_is n (vertex n) n (node_vertex n low) (new_node n low))
 
     kept : (n : ℕ) → n < l.nodes → IsKeptNode faces (new_faces l y) vertex n
     kept n low = record {
@@ -226,22 +203,13 @@ module _ (faces : Faces) (l : Layout) (x : Lengths) (vertex : ℕ → ℕ) (lies
 
     irregular : (v : ℕ) → v < vertex_count faces → is_regular faces v ≡ false
         → (n : ℕ) × (n < l.nodes) × (vertex n ≡ v) × IsKeptNode faces (new_faces l y) vertex n
-    irregular v low off = by_dart (used_dart faces v lies.quads (lies.used v low))
-      where
-        by_cell : (d : CellDart) → IsDart l x d → from_of faces (lies.cell d) ≡ v
-            → (n : ℕ) × (n < l.nodes) × (vertex n ≡ v) × IsKeptNode faces (new_faces l y) vertex n
-        by_cell d is leaves = by_node (irregular_node l x the_laid lies.lengths faces lies.cell the_model d is
-            (ap (is_regular faces) leaves ∙ off))
-          where
-            by_node : (n : ℕ) × (n < l.nodes) × (dart_start l x d ≡ node n) → (n : ℕ) × (n < l.nodes) × (vertex n ≡ v)
-                × IsKeptNode faces (new_faces l y) vertex n
-            by_node n = (n.0, n.1, sym ((node_vertex n.0 n.1).there d is n.2) ∙ leaves, kept n.0 n.1)
-
-        by_dart : (k : ℕ) × (k < darts faces) × (from_of faces k ≡ v) → (n : ℕ) × (n < l.nodes) × (vertex n ≡ v)
-            × IsKeptNode faces (new_faces l y) vertex n
-        by_dart k =
-            let d : (d : CellDart) × IsDart l x d × (lies.cell d ≡ k.0) = the_model.onto k.0 k.1 in
-            by_cell d.0 d.1 (ap (from_of faces) d.2 ∙ k.2)
+    irregular v low off =
+        let k = used_dart faces v lies.quads (lies.used v low) in
+        let d : (d : CellDart) × IsDart l x d × (lies.cell d ≡ k.0) = the_model.onto k.0 k.1 in
+        let leaves = ap (from_of faces) d.2 ∙ k.2 in
+        let n = irregular_node l x the_laid lies.lengths faces lies.cell the_model d.0 d.1
+        (ap (is_regular faces) leaves ∙ off) in
+        (n.0, n.1, sym ((node_vertex n.0 n.1).there d.0 d.1 n.2) ∙ leaves, kept n.0 n.1)
 
     below : vertex_count (new_faces l y) ≤ vertices l y
     below = count_least (new_faces l y) (vertices l y) (λ k low. by_dart k (at_number l y the_laid lon k low))
@@ -254,30 +222,15 @@ module _ (faces : Faces) (l : Layout) (x : Lengths) (vertex : ℕ → ℕ) (lies
 
     regular : (v : ℕ) → v < vertex_count (new_faces l y) → is_regular (new_faces l y) v ≡ false
         → (v < l.nodes) × (is_regular faces (vertex v) ≡ false)
-    regular v low off = by_point (point_onto l y v (omega (arith, low, below)))
-      where
-        by_node : (n : ℕ) → n < l.nodes → n ≡ v → (v < l.nodes) × (is_regular faces (vertex v) ≡ false)
-        by_node n n_low e =
-            let v_low : v < l.nodes = omega (arith, n_low, e) in
-            (v_low, (λ t. (sym (same_faces v v_low) t) == cond (sym (same_inner v v_low) t) 4 2) ∙ off)
-
-        by_dart : (d : CellDart) (a : Point) → IsDart l y d → dart_start l y d ≡ a → vertex_number l y a ≡ v
-            → (v < l.nodes) × (is_regular faces (vertex v) ≡ false)
-        by_dart d a is leaves same =
-            let vertex_is : from_of (new_faces l y) (dart_number l y d) ≡ v = number_from l y d is
-            ∙ ap (vertex_number l y) leaves ∙ same in
-            at (irregular_node l y the_laid lon (new_faces l y) (dart_number l y) new_is d is
-            (ap (is_regular (new_faces l y)) vertex_is ∙ off))
-          where
-            at : (n : ℕ) × (n < l.nodes) × (dart_start l y d ≡ node n) → (v < l.nodes)
-                × (is_regular faces (vertex v) ≡ false)
-            at n = by_node n.0 n.1 (sym (ap (vertex_number l y) n.2) ∙ ap (vertex_number l y) leaves ∙ same)
-
-        by_point : (a : Point) × IsPoint l y a × (vertex_number l y a ≡ v) → (v < l.nodes)
-            × (is_regular faces (vertex v) ≡ false)
-        by_point a =
-            let d : (d : CellDart) × IsDart l y d × (dart_start l y d ≡ a.0) = point_dart l y the_laid lon a.0 a.1 in
-            by_dart d.0 a.0 d.1 d.2 a.2
+    regular v low off =
+        let a = point_onto l y v (omega (arith, low, below)) in
+        let d : (d : CellDart) × IsDart l y d × (dart_start l y d ≡ a.0) = point_dart l y the_laid lon a.0 a.1 in
+        let vertex_is = number_from l y d.0 d.1 ∙ ap (vertex_number l y) d.2 ∙ a.2 in
+        let n = irregular_node l y the_laid lon (new_faces l y) (dart_number l y) new_is d.0 d.1
+        (ap (is_regular (new_faces l y)) vertex_is ∙ off) in
+        let e = sym (ap (vertex_number l y) n.2) ∙ ap (vertex_number l y) d.2 ∙ a.2 in
+        let v_low : v < l.nodes = omega (arith, n.1, e) in
+        (v_low, (λ t. (sym (same_faces v v_low) t) == cond (sym (same_inner v v_low) t) 4 2) ∙ off)
 
     keeps : KeepsShape faces (new_faces l y) l.nodes vertex
     keeps = record {

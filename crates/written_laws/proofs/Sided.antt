@@ -1,5 +1,7 @@
 -- A layout that lies in a mesh is laid.
-use Rattle.std.proofs.Common.{◌≡◌, ℕ, zero, suc, ◌+◌, ◌-◌, ◌<◌, Bool, true, false, not, Some, refl, sym, ◌∙◌, ap, arith}
+use Rattle.std.proofs.lemmas.Bool.{cases_Bool}
+use Rattle.std.proofs.Common.{◌≡◌, ℕ, zero, suc, ◌+◌, ◌-◌, ◌<◌, Bool, true, false, not, Some, refl, sym, ◌∙◌, ap}
+use Rattle.std.proofs.Common.{arith, inl, inr}
 use Rattle.std.proofs.lemmas.Option.{same_Some}
 use Rattle.def_mesh.specs.HalfEdges.{HalfEdges, IsQuadManifold}
 use Rattle.def_layout.specs.declared.tmesh.SideArc.{SideArc}
@@ -25,31 +27,24 @@ module _ (m : HalfEdges) (laws : IsQuadManifold m) (l : Layout) (x : Lengths) (p
   -- The dart over an arc that stands twice is the twin.
   pub over_twin : (w v : Slot) (o : ℕ) → IsSlot l w → IsOtherSlot l w v → o < x (use_of l w).arc
       → m.twin (cell (slot_dart l x w o)) ≡ Some (cell (slot_dart l x v (x (use_of l w).arc - 1 - o)))
-  over_twin w v o is other less = by_way (use_of l w).forward refl
+  over_twin w v o is other less = elim (cases_Bool (use_of l w).forward) [
+    | inl e ↦
+        let back : (use_of l v).forward ≡ false = other.1.turned ∙ ap not e in
+        let place : o ≡ x (use_of l v).arc - 1 - (x (use_of l w).arc - 1 - o) = omega (arith, ap x other.1.arc) in
+        ap m.twin (s.ahead w o is less e ∙ (λ t. arc_dart (sym other.1.arc t) (place t)))
+        ∙ s.behind v (x (use_of l w).arc - 1 - o) other.0 k_low back
+    | inr e ↦
+        let on : (use_of l v).forward ≡ true = other.1.turned ∙ ap not e in
+        let there = s.ahead v (x (use_of l w).arc - 1 - o) other.0 k_low on
+        ∙ ap (λ a. arc_dart a (x (use_of l w).arc - 1 - o)) other.1.arc in
+        laws.twin_twin (arc_dart (use_of l w).arc (x (use_of l w).arc - 1 - o)) (cell (slot_dart l x w o))
+        (s.arc_low (use_of l w).arc (x (use_of l w).arc - 1 - o) (paved.arc_low w is) (omega arith))
+        (s.behind w o is less e)
+        ∙ ap Some (sym there)
+  ]
     where
-      long : x (use_of l v).arc ≡ x (use_of l w).arc
-      long = ap x other.1.arc
-
       k_low : x (use_of l w).arc - 1 - o < x (use_of l v).arc
-      k_low = omega (arith, long)
-
-      by_way : (f : Bool) → (use_of l w).forward ≡ f → m.twin (cell (slot_dart l x w o))
-          ≡ Some (cell (slot_dart l x v (x (use_of l w).arc - 1 - o)))
-      by_way true e =
-          let back : (use_of l v).forward ≡ false = other.1.turned ∙ ap not e in
-          let place : o ≡ x (use_of l v).arc - 1 - (x (use_of l w).arc - 1 - o) = omega (arith, long) in
-          ap m.twin (s.ahead w o is less e ∙ (λ t. arc_dart (sym other.1.arc t) (place t)))
-          ∙ s.behind v (x (use_of l w).arc - 1 - o) other.0 k_low back
-      by_way false e =
-          let on : (use_of l v).forward ≡ true = other.1.turned ∙ ap not e in
-          let there : cell (slot_dart l x v (x (use_of l w).arc - 1 - o))
-          ≡ arc_dart (use_of l w).arc (x (use_of l w).arc - 1 - o) =
-          s.ahead v (x (use_of l w).arc - 1 - o) other.0 k_low on ∙ ap (λ a. arc_dart a (x (use_of l w).arc - 1 - o))
-          other.1.arc in
-          laws.twin_twin (arc_dart (use_of l w).arc (x (use_of l w).arc - 1 - o)) (cell (slot_dart l x w o))
-          (s.arc_low (use_of l w).arc (x (use_of l w).arc - 1 - o) (paved.arc_low w is) (omega arith))
-          (s.behind w o is less e)
-          ∙ ap Some (sym there)
+      k_low = omega (arith, ap x other.1.arc)
 
   -- Darts of the mesh that leave one vertex.
   abbrev pub AreFromOne : (d e : CellDart) → Type 0
@@ -58,21 +53,18 @@ module _ (m : HalfEdges) (laws : IsQuadManifold m) (l : Layout) (x : Lengths) (p
   -- Where one dart is the twin of the one before another, both leave one vertex.
   twin_before : (d e : CellDart) → IsDart l x (prev d) → next (prev d) ≡ d → m.twin (cell (prev d)) ≡ Some (cell e)
       → AreFromOne d e
-  twin_before d e is back twin =
-      ap (λ (c : CellDart). m.from (cell c)) (sym back) ∙ ap m.from (s.turned (prev d))
+  twin_before d e is back twin = ap (λ (c : CellDart). m.from (cell c)) (sym back) ∙ ap m.from (s.turned (prev d))
       ∙ sym (laws.twin_ends (cell (prev d)) (cell e) (s.low (prev d) is) twin).0
 
   before_twin : (d e : CellDart) → IsDart l x e → next (prev d) ≡ d → m.twin (cell e) ≡ Some (cell (prev d))
       → AreFromOne d e
-  before_twin d e is back twin =
-      ap (λ (c : CellDart). m.from (cell c)) (sym back) ∙ ap m.from (s.turned (prev d))
+  before_twin d e is back twin = ap (λ (c : CellDart). m.from (cell c)) (sym back) ∙ ap m.from (s.turned (prev d))
       ∙ (laws.twin_ends (cell e) (cell (prev d)) (s.low e is) twin).1
 
   left_from : (p i j k n : ℕ) (w : Way) → IsDart l x (dart p i j w) → IsDart l x (dart p k n (side_after w))
       → column i w ≡ column k (side_after w) → row j w ≡ row n (side_after w)
       → AreFromOne (dart p i j w) (dart p k n (side_after w))
-  left_from p i j k n south d e c r =
-      before_twin (dart p i j south) (dart p k n east) e refl
+  left_from p i j k n south d e c r = before_twin (dart p i j south) (dart p k n east) e refl
       (s.east_of p k n d.patch_low (omega (arith, c, d.i_low)) e.j_low
       ∙ ap (λ (q : CellDart). Some (cell q)) (λ t. dart p (sym c t) (sym r t) west))
   left_from p i j k n east d e c r =
@@ -85,19 +77,15 @@ module _ (m : HalfEdges) (laws : IsQuadManifold m) (l : Layout) (x : Lengths) (p
       twin_before (dart p i j north) (dart p k n west) (record {
         patch_low = d.patch_low;
         i_low = d.i_low;
-        j_low =
-            d.j_low;
+        j_low = d.j_low;
       }) refl
       (s.east_of p i j d.patch_low (omega (arith, c, e.i_low)) d.j_low
       ∙ ap (λ (q : CellDart). Some (cell q)) (λ t. dart p (c t) (b t) west))
-  left_from p i j k n west d e c r =
-      twin_before (dart p i j west) (dart p k n south) (record {
-        patch_low = d.patch_low;
-        i_low = d.i_low;
-        j_low =
-            d.j_low;
-      }) refl
-      (s.north_of p i j d.patch_low d.i_low (omega (arith, r, e.j_low))
+  left_from p i j k n west d e c r = twin_before (dart p i j west) (dart p k n south) (record {
+    patch_low = d.patch_low;
+    i_low = d.i_low;
+    j_low = d.j_low;
+  }) refl (s.north_of p i j d.patch_low d.i_low (omega (arith, r, e.j_low))
       ∙ ap (λ (q : CellDart). Some (cell q)) (λ t. dart p (c t) (r t) south))
 
   pub from_turning : IsTurning l x AreFromOne
@@ -113,47 +101,39 @@ module _ (m : HalfEdges) (laws : IsQuadManifold m) (l : Layout) (x : Lengths) (p
 
   -- Arcs in use begin and end at the vertices of their nodes.
   pub starts : (w : Slot) → IsSlot l w → m.from (cell (slot_dart l x w 0)) ≡ vertex (start_node l (use_of l w))
-  starts w is = by_way (use_of l w).forward refl
+  starts w is = elim (cases_Bool (use_of l w).forward) [
+    | inl e ↦ ap m.from (s.ahead w 0 is (some w is) e) ∙ s.first_at (use_of l w).arc (paved.arc_low w is)
+        ∙ ap vertex (node (use_of l w) true e)
+    | inr e ↦
+        let z : x (use_of l w).arc - 1 - 0 ≡ x (use_of l w).arc - 1 = omega arith in
+        let low = s.arc_low (use_of l w).arc (x (use_of l w).arc - 1) (paved.arc_low w is) (omega (arith, some w is)) in
+        (laws.twin_ends (arc_dart (use_of l w).arc (x (use_of l w).arc - 1)) (cell (slot_dart l x w 0)) low
+        (ap (λ k. m.twin (arc_dart (use_of l w).arc k)) (sym z) ∙ s.behind w 0 is (some w is) e)).0
+        ∙ s.last_at (use_of l w).arc (paved.arc_low w is) ∙ ap vertex (node (use_of l w) false e)
+  ]
     where
       node : (u : SideArc) (f : Bool) → u.forward ≡ f → start_node l (record { arc = u.arc; forward = f })
           ≡ start_node l u
       node u f e = λ t. start_node l (record { arc = u.arc; forward = sym e t })
 
-      by_way : (f : Bool) → (use_of l w).forward ≡ f → m.from (cell (slot_dart l x w 0))
-          ≡ vertex (start_node l (use_of l w))
-      by_way true e =
-          ap m.from (s.ahead w 0 is (some w is) e) ∙ s.first_at (use_of l w).arc (paved.arc_low w is)
-          ∙ ap vertex (node (use_of l w) true e)
-      by_way false e =
-          let z : x (use_of l w).arc - 1 - 0 ≡ x (use_of l w).arc - 1 = omega arith in
-          let low : arc_dart (use_of l w).arc (x (use_of l w).arc - 1) < m.count =
-          s.arc_low (use_of l w).arc (x (use_of l w).arc - 1) (paved.arc_low w is) (omega (arith, some w is)) in
-          (laws.twin_ends (arc_dart (use_of l w).arc (x (use_of l w).arc - 1)) (cell (slot_dart l x w 0)) low
-          (ap (λ k. m.twin (arc_dart (use_of l w).arc k)) (sym z) ∙ s.behind w 0 is (some w is) e)).0
-          ∙ s.last_at (use_of l w).arc (paved.arc_low w is) ∙ ap vertex (node (use_of l w) false e)
-
   ends : (w : Slot) → IsSlot l w → m.from (m.next (cell (slot_dart l x w (x (use_of l w).arc - 1))))
       ≡ vertex (end_node l (use_of l w))
-  ends w is = by_way (use_of l w).forward refl
+  ends w is = elim (cases_Bool (use_of l w).forward) [
+    | inl e ↦ ap (λ c. m.from (m.next c)) (s.ahead w (x (use_of l w).arc - 1) is less e)
+        ∙ s.last_at (use_of l w).arc (paved.arc_low w is) ∙ ap vertex (node (use_of l w) true e)
+    | inr e ↦
+        let z : x (use_of l w).arc - 1 - (x (use_of l w).arc - 1) ≡ 0 = omega arith in
+        let low = s.arc_low (use_of l w).arc 0 (paved.arc_low w is) (some w is) in
+        (laws.twin_ends (arc_dart (use_of l w).arc 0) (cell (slot_dart l x w (x (use_of l w).arc - 1))) low
+        (ap (λ k. m.twin (arc_dart (use_of l w).arc k)) (sym z) ∙ s.behind w (x (use_of l w).arc - 1) is less e)).1
+        ∙ s.first_at (use_of l w).arc (paved.arc_low w is) ∙ ap vertex (node (use_of l w) false e)
+  ]
     where
       less : x (use_of l w).arc - 1 < x (use_of l w).arc
       less = omega (arith, some w is)
 
       node : (u : SideArc) (f : Bool) → u.forward ≡ f → end_node l (record { arc = u.arc; forward = f }) ≡ end_node l u
       node u f e = λ t. end_node l (record { arc = u.arc; forward = sym e t })
-
-      by_way : (f : Bool) → (use_of l w).forward ≡ f → m.from (m.next (cell (slot_dart l x w (x (use_of l w).arc - 1))))
-          ≡ vertex (end_node l (use_of l w))
-      by_way true e =
-          ap (λ c. m.from (m.next c)) (s.ahead w (x (use_of l w).arc - 1) is less e)
-          ∙ s.last_at (use_of l w).arc (paved.arc_low w is) ∙ ap vertex (node (use_of l w) true e)
-      by_way false e =
-          let z : x (use_of l w).arc - 1 - (x (use_of l w).arc - 1) ≡ 0 = omega arith in
-          let low : arc_dart (use_of l w).arc 0 < m.count =
-          s.arc_low (use_of l w).arc 0 (paved.arc_low w is) (some w is) in
-          (laws.twin_ends (arc_dart (use_of l w).arc 0) (cell (slot_dart l x w (x (use_of l w).arc - 1))) low
-          (ap (λ k. m.twin (arc_dart (use_of l w).arc k)) (sym z) ∙ s.behind w (x (use_of l w).arc - 1) is less e)).1
-          ∙ s.first_at (use_of l w).arc (paved.arc_low w is) ∙ ap vertex (node (use_of l w) false e)
 
   start_low : (u : SideArc) → u.arc < l.arcs → (start_node l u < l.nodes) × (end_node l u < l.nodes)
   start_low u low = by_way u.arc u.forward low
@@ -164,11 +144,9 @@ module _ (m : HalfEdges) (laws : IsQuadManifold m) (l : Layout) (x : Lengths) (p
       by_way a false less = (paved.last_low a less, paved.first_low a less)
 
   once : (v w : Slot) → IsSlot l v → IsSlot l w → use_of l v ≡ use_of l w → v ≡ w
-  once v w is_v is_w same =
-      rim_slot l x paved len v w 0 0 is_v is_w (some v is_v) (some w is_w)
+  once v w is_v is_w same = rim_slot l x paved len v w 0 0 is_v is_w (some v is_v) (some w is_w)
       (s.same (slot_dart l x v 0) (slot_dart l x w 0) (at_is l x paved len v 0 is_v (some v is_v))
-      (at_is l x paved len w 0 is_w (some w is_w))
-      (by_way (use_of l v).forward refl))
+      (at_is l x paved len w 0 is_w (some w is_w)) (by_way (use_of l v).forward refl))
     where
       arcs : (use_of l v).arc ≡ (use_of l w).arc
       arcs = ap (λ (u : SideArc). u.arc) same
@@ -177,11 +155,9 @@ module _ (m : HalfEdges) (laws : IsQuadManifold m) (l : Layout) (x : Lengths) (p
       ways = ap (λ (u : SideArc). u.forward) same
 
       by_way : (f : Bool) → (use_of l v).forward ≡ f → cell (slot_dart l x v 0) ≡ cell (slot_dart l x w 0)
-      by_way true e =
-          s.ahead v 0 is_v (some v is_v) e ∙ ap (λ a. arc_dart a 0) arcs
+      by_way true e = s.ahead v 0 is_v (some v is_v) e ∙ ap (λ a. arc_dart a 0) arcs
           ∙ sym (s.ahead w 0 is_w (some w is_w) (sym ways ∙ e))
-      by_way false e =
-          same_Some (cell (slot_dart l x v 0)) (cell (slot_dart l x w 0))
+      by_way false e = same_Some (cell (slot_dart l x v 0)) (cell (slot_dart l x w 0))
           (sym (s.behind v 0 is_v (some v is_v) e) ∙ ap (λ a. m.twin (arc_dart a (x a - 1 - 0))) arcs
           ∙ s.behind w 0 is_w (some w is_w) (sym ways ∙ e))
 
@@ -217,10 +193,9 @@ module _ (m : HalfEdges) (laws : IsQuadManifold m) (l : Layout) (x : Lengths) (p
       c_low = low_at b o is_b o_low
 
       -- The slot before the first one of a side is the last one of the side before.
-      before_first : (k : ℕ) → k ≡ 0
-          → next (slot_dart l x (slot_before l w.patch w.side k) (x (use_of l (slot_before l w.patch w.side k)).arc -
-          1))
-          ≡ dart_along l x w.patch w.side (reach l x w.patch w.side k + 0)
+      before_first : (k : ℕ) → k ≡ 0 → next (slot_dart l x (slot_before l w.patch w.side k)
+          (x (use_of l (slot_before l w.patch w.side k)).arc - 1)) ≡ dart_along l x w.patch w.side
+          (reach l x w.patch w.side k + 0)
       before_first zero e = by_side w.side
         where
           by_side : (q : Way) → next (slot_dart l x (slot w.patch (side_before q) (l.many w.patch (side_before q) - 1))
@@ -231,12 +206,10 @@ module _ (m : HalfEdges) (laws : IsQuadManifold m) (l : Layout) (x : Lengths) (p
               (omega (
                 arith,
                 last_reach l x paved len w.patch (side_before q) is.patch_low,
-                some (slot w.patch (side_before q) (l.many w.patch (side_before q) - 1))
-                    (record {
-                      patch_low = is.patch_low;
-                      low =
-                          omega (arith, paved.sides_full w.patch (side_before q) is.patch_low);
-                    }),
+                some (slot w.patch (side_before q) (l.many w.patch (side_before q) - 1)) (record {
+                  patch_low = is.patch_low;
+                  low = omega (arith, paved.sides_full w.patch (side_before q) is.patch_low);
+                }),
               ))
             where
               corner : (q : Way) (t : ℕ) → t + 1 ≡ size l x w.patch (side_before q)
@@ -247,16 +220,12 @@ module _ (m : HalfEdges) (laws : IsQuadManifold m) (l : Layout) (x : Lengths) (p
               corner west t f = corner_next l x paved len w.patch north t is.patch_low f
       before_first (suc k) e = absurd (omega arith)
 
-      follows : slot_dart l x w 0 ≡ next c
-      follows = sym (before_first w.at first)
-
       zero_is : x (use_of l b).arc - 1 - o ≡ 0
       zero_is = omega arith
 
       twin : m.twin (cell c) ≡ Some (m.next (cell c))
-      twin = over_twin b w o is_b (is, rev) o_low
-          ∙ ap (λ k. Some (cell (slot_dart l x w k))) zero_is ∙ ap (λ (d : CellDart). Some (cell d)) follows
-          ∙ ap Some (s.turned c)
+      twin = over_twin b w o is_b (is, rev) o_low ∙ ap (λ k. Some (cell (slot_dart l x w k))) zero_is
+          ∙ ap (λ (d : CellDart). Some (cell d)) (sym (before_first w.at first)) ∙ ap Some (s.turned c)
 
       back : m.from (m.next (m.next (cell c))) ≡ m.from (cell c)
       back = (laws.twin_ends (cell c) (m.next (cell c)) c_low twin).1

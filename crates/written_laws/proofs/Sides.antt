@@ -8,7 +8,7 @@ use Rattle.def_layout.specs.Layouts.{west, side_after, Layout, Slot, IsSlot}
 use Rattle.def_layout.specs.{Layouts.use_of, Layouts.start_node, Layouts.end_node, Surfaces.HasWholeSides}
 use Rattle.def_layout.specs.{Surfaces.IsSurface, Lengths.Lengths, Lengths.reach, Lengths.size, Lengths.AreLengths}
 use Rattle.def_written.specs.Points.{node, along, arc_point, use_point, use_over, offset_at, side_point}
-use Rattle.written_laws.proofs.Runs.{count_rises, run_here, run_last, run_place, IsInRun}
+use Rattle.written_laws.proofs.Runs.{count_rises, run_here, run_last, run_place}
 
 -- The slot with these parts.
 abbrev pub slot : (patch : ℕ) (side : Way) (at : ℕ) → Slot
@@ -21,8 +21,7 @@ module _ (l : Layout) (x : Lengths) where
       cond-false (k == 0) _ _ (ne_eqb k 0 (λ z. omega arith)) ∙ cond-true (k == x a) _ _ (eq-eqb k (x a) e)
 
   pub arc_inner : (a k : ℕ) → 0 < k → k < x a → arc_point l x a k ≡ along a k
-  arc_inner a k some less =
-      cond-false (k == 0) _ _ (ne_eqb k 0 (λ z. omega arith))
+  arc_inner a k some less = cond-false (k == 0) _ _ (ne_eqb k 0 (λ z. omega arith))
       ∙ cond-false (k == x a) _ _ (ne_eqb k (x a) (λ e. omega arith))
 
   -- An arc in use begins and ends at nodes.
@@ -31,8 +30,7 @@ module _ (l : Layout) (x : Lengths) where
     where
       by_way : (a : ℕ) (b : Bool) → 0 < x a
           → use_point l x (record { arc = a; forward = b }) 0 ≡ node (start_node l (record { arc = a; forward = b }))
-      by_way a true pos_a = refl
-      by_way a false pos_a = arc_last a (x a - 0) (omega arith) (omega arith)
+      by_way a = elim [ true ↦ λ pos_a. refl | false ↦ λ pos_a. arc_last a (x a - 0) (omega arith) (omega arith) ]
 
   pub use_ends : (u : SideArc) (o : ℕ) → o ≡ x u.arc → 0 < o → use_point l x u o ≡ node (end_node l u)
   use_ends u o e some = by_way u.arc u.forward e
@@ -76,13 +74,11 @@ module _ (l : Layout) (x : Lengths) where
   pub place_on : (p : ℕ) (s : Way) (t : ℕ) → p < l.patches → t < size l x p s
       → IsOn p s t (use_over l x p s t) (offset_at l x p s t)
   place_on p s t low less =
-      let h : IsInRun (long_at p s) (l.many p s) t (use_over l x p s t) (offset_at l x p s t) =
-      run_here (long_at p s) (l.many p s) t less in
+      let h = run_here (long_at p s) (l.many p s) t less in
       record { is_slot = record { patch_low = low; low = h.low }; inside = h.inside; place = h.place }
 
   -- An arc of a side ends on it.
-  pub reach_low : (w : Slot) → IsSlot l w
-      → reach l x w.patch w.side w.at + x (use_of l w).arc ≤ size l x w.patch w.side
+  pub reach_low : (w : Slot) → IsSlot l w → reach l x w.patch w.side w.at + x (use_of l w).arc ≤ size l x w.patch w.side
   reach_low w is = count_rises (long_at w.patch w.side) (suc w.at) (l.many w.patch w.side) (omega (arith, is.low))
 
   module _ (paved : HasWholeSides l) (len : AreLengths l x) where
@@ -103,14 +99,12 @@ module _ (l : Layout) (x : Lengths) where
         ap (reach l x p s) e
 
     pub size_some : (p : ℕ) (s : Way) → p < l.patches → 0 < size l x p s
-    size_some p s low =
-        omega (arith, last_reach p s low, use_some (slot p s (l.many p s - 1)) (last_slot p s low))
+    size_some p s low = omega (arith, last_reach p s low, use_some (slot p s (l.many p s - 1)) (last_slot p s low))
 
     pub side_begin : (p : ℕ) (s : Way) → p < l.patches → side_point l x p s 0 ≡ node (start_node l (l.use_at p s 0))
     side_begin p s low =
         let some : 0 < x (l.use_at p s 0).arc = use_some (slot p s 0) (first_slot p s low) in
-        let in_side : side_point l x p s (0 + 0) ≡ use_point l x (l.use_at p s 0) 0 =
-        side_in (slot p s 0) 0 (first_slot p s low) some in
+        let in_side = side_in (slot p s 0) 0 (first_slot p s low) some in
         in_side ∙ use_begins (l.use_at p s 0) some
 
     pub side_end : (p : ℕ) (s : Way) (t : ℕ) → p < l.patches → t ≡ size l x p s
@@ -118,8 +112,7 @@ module _ (l : Layout) (x : Lengths) where
     side_end p s t low e =
         let long : reach l x p s (l.many p s - 1) + long_at p s (l.many p s - 1) ≡ size l x p s = last_reach p s low in
         let some : 0 < long_at p s (l.many p s - 1) = use_some (slot p s (l.many p s - 1)) (last_slot p s low) in
-        let over : use_over l x p s t ≡ l.many p s - 1 =
-        run_last (reach l x p s) (l.many p s) t (paved.sides_full p s low) (omega (arith, long, e)) in
+        let over = run_last (reach l x p s) (l.many p s) t (paved.sides_full p s low) (omega (arith, long, e)) in
         ap (λ m. use_point l x (l.use_at p s m) (t - reach l x p s m)) over
         ∙ use_ends (l.use_at p s (l.many p s - 1)) (t - reach l x p s (l.many p s - 1)) (omega (arith, long, e))
         (omega (arith, long, e, some))
@@ -131,8 +124,7 @@ module _ (l : Layout) (x : Lengths) where
       | inr later ↦
           let first : IsSlot l (slot v.patch v.side 0) =
           record { patch_low = is.patch_low; low = omega (arith, is.low) } in
-          let le : reach l x v.patch v.side 1 ≤ reach l x v.patch v.side v.at =
-          count_rises (long_at v.patch v.side) 1 v.at (omega arith) in
+          let le = count_rises (long_at v.patch v.side) 1 v.at (omega arith) in
           let some : 0 < long_at v.patch v.side 0 = use_some (slot v.patch v.side 0) first in
           absurd (omega (arith, le, some, none))
     ]
@@ -143,8 +135,7 @@ module _ (l : Layout) (x : Lengths) where
     last_is w is end = elim (cases_lt (suc w.at) (l.many w.patch w.side)) [
       | inl more ↦
           let later : IsSlot l (slot w.patch w.side (suc w.at)) = record { patch_low = is.patch_low; low = more } in
-          let le : reach l x w.patch w.side (suc w.at) + long_at w.patch w.side (suc w.at) ≤ size l x w.patch w.side =
-          reach_low (slot w.patch w.side (suc w.at)) later in
+          let le = reach_low (slot w.patch w.side (suc w.at)) later in
           let some : 0 < long_at w.patch w.side (suc w.at) = use_some (slot w.patch w.side (suc w.at)) later in
           absurd (omega (arith, le, some, end))
       | inr none ↦ omega (arith, is.low, none)
@@ -178,8 +169,7 @@ module _ (l : Layout) (x : Lengths) where
             → side_point l x w.patch w.side t ≡ use_point l x (use_of l w) o
         at_next more next =
             let same : t ≡ reach l x w.patch w.side (suc w.at) + 0 = omega arith in
-            let some : 0 < x (l.use_at w.patch w.side (suc w.at)).arc =
-            use_some laid.paved len (slot w.patch w.side (suc w.at)) next in
+            let some = use_some laid.paved len (slot w.patch w.side (suc w.at)) next in
             ap (side_point l x w.patch w.side) same ∙ side_in (slot w.patch w.side (suc w.at)) 0 next some
             ∙ use_begins (l.use_at w.patch w.side (suc w.at)) some
             ∙ ap node (sym (laid.meet (slot w.patch w.side (suc w.at)) next))
@@ -189,13 +179,9 @@ module _ (l : Layout) (x : Lengths) where
             → side_point l x w.patch w.side t ≡ use_point l x (use_of l w) o
         at_end more last =
             let m : w.at ≡ l.many w.patch w.side - 1 = omega (arith, is.low) in
-            let long : reach l x w.patch w.side (l.many w.patch w.side - 1) + long_at w.patch w.side
-            (l.many w.patch w.side - 1) ≡ size l x w.patch w.side =
-            last_reach laid.paved len w.patch w.side is.patch_low in
-            let r : reach l x w.patch w.side w.at ≡ reach l x w.patch w.side (l.many w.patch w.side - 1) =
-            ap (reach l x w.patch w.side) m in
-            let u : long_at w.patch w.side w.at ≡ long_at w.patch w.side (l.many w.patch w.side - 1) =
-            ap (long_at w.patch w.side) m in
+            let long = last_reach laid.paved len w.patch w.side is.patch_low in
+            let r = ap (reach l x w.patch w.side) m in
+            let u = ap (long_at w.patch w.side) m in
             side_end laid.paved len w.patch w.side t is.patch_low (omega (arith, long, r, u))
             ∙ ap (λ k. node (end_node l (l.use_at w.patch w.side k))) (sym m)
             ∙ sym (use_ends (use_of l w) o (omega arith) (omega (arith, use_some laid.paved len w is)))

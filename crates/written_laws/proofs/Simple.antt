@@ -31,17 +31,15 @@ module _ (l : Layout) (x : Lengths) (simple : IsSimple l x) where
   pub reversed : (c k : Course) → IsEdge l x c.edge → IsEdge l x k.edge
       → start_at l x k ≡ end_at l x c → end_at l x k ≡ start_at l x c → (k.edge ≡ c.edge) × (k.ahead ≡ not c.ahead)
   reversed c k is_c is_k starts ends =
-      let s : k ≡ course c.edge (not c.ahead) =
+      let s =
       one_course k (course c.edge (not c.ahead)) is_k is_c (starts ∙ turn_start c.ahead) (ends ∙ turn_end c.ahead) in
       (ap (λ (g : Course). g.edge) s, ap (λ (g : Course). g.ahead) s)
     where
       turn_start : (a : Bool) → end_at l x (course c.edge a) ≡ start_at l x (course c.edge (not a))
-      turn_start true = refl
-      turn_start false = refl
+      turn_start = elim [ true ↦ refl | false ↦ refl ]
 
       turn_end : (a : Bool) → start_at l x (course c.edge a) ≡ end_at l x (course c.edge (not a))
-      turn_end true = refl
-      turn_end false = refl
+      turn_end = elim [ true ↦ refl | false ↦ refl ]
 
   pub ends_apart : (c : Course) → IsEdge l x c.edge → start_at l x c ≢ end_at l x c
   ends_apart c is same = by_way c.ahead same

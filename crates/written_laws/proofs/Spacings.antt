@@ -1,31 +1,6 @@
 -- Equal parts of the old lengths are a spacing, and equal parts of shares of the old edges.
-use Rattle.std.proofs.Common.{
-  ◌≡◌,
-  ℕ,
-  zero,
-  suc,
-  ◌+◌,
-  ◌-◌,
-  ◌*◌,
-  ◌/◌,
-  ◌%◌,
-  ◌<◌,
-  ◌≤◌,
-  Bool,
-  true,
-  false,
-  cond,
-  refl,
-  sym,
-  ◌⊎◌,
-  ◌∙◌,
-  ap,
-  subst,
-  inl,
-  inr,
-  mul-add,
-  arith,
-}
+use Rattle.std.proofs.Common.{◌≡◌, ℕ, zero, suc, ◌+◌, ◌-◌, ◌*◌, ◌/◌, ◌<◌, ◌≤◌, Bool, true, false, refl, ◌⊎◌, ◌∙◌, ap}
+use Rattle.std.proofs.Common.{inl, inr, mul-add, arith}
 use Rattle.std.specs.Prelude.{◌==◌}
 use Rattle.std.proofs.Math.Nat.{div-lt_iff_lt-mul, le-div_iff_mul-le, mod-lt, mul_comm}
 use Rattle.std.proofs.lemmas.Bool.{cases_eq, cond_both, cond-true, cond-false, eq-eqb, eqb-false, eqb-true, ne_eqb}
@@ -50,8 +25,7 @@ times_less k n m less some =
 module _ (l : Layout) (old new : Lengths) (o_len : AreLengths l old) (n_len : AreLengths l new) where
   even_none : (a : ℕ) → a < l.arcs → ONE * 0 * old a / new a ≡ 0
   even_none a low =
-      let less : ONE * 0 * old a / new a < 1 =
-      div_less (ONE * 0 * old a) 1 (new a) (n_len.some a low) (omega (arith, n_len.some a low)) in
+      let less = div_less (ONE * 0 * old a) 1 (new a) (n_len.some a low) (omega (arith, n_len.some a low)) in
       omega (arith, less)
 
   even_whole : (a : ℕ) → a < l.arcs → ONE * new a * old a / new a ≡ ONE * old a
@@ -62,17 +36,15 @@ module _ (l : Layout) (old new : Lengths) (o_len : AreLengths l old) (n_len : Ar
       by_parts n m = omega (arith, mul_comm n m)
 
   even_less : (a k : ℕ) → a < l.arcs → k < new a → ONE * k * old a / new a < ONE * old a
-  even_less a k low less =
-      div_less (ONE * k * old a) (ONE * old a) (new a) (n_len.some a low)
+  even_less a k low less = div_less (ONE * k * old a) (ONE * old a) (new a) (n_len.some a low)
       (by_parts (new a) (old a) (times_less k (new a) (old a) less (o_len.some a low)))
     where
       by_parts : (n m : ℕ) → k * m < n * m → ONE * k * m < ONE * m * n
       by_parts n m e = omega (arith, e, mul_comm n m)
 
   pub even_edge : (a k : ℕ) → a < l.arcs → k < new a → k * old a / new a < old a
-  even_edge a k low less =
-      div_less (k * old a) (old a) (new a) (n_len.some a low)
-      (subst (λ n. k * old a < n) (mul_comm (new a) (old a)) (times_less k (new a) (old a) less (o_len.some a low)))
+  even_edge a k low less = div_less (k * old a) (old a) (new a) (n_len.some a low)
+      (rw (mul_comm (new a) (old a)) at (times_less k (new a) (old a) less (o_len.some a low)))
 
   pub even_is : IsSpacing l old new (even old new)
   even_is = record {
@@ -105,10 +77,8 @@ sum_some edge part some = omega (arith, some)
 
 -- The shares that count are some.
 pub counted_some : (share : ℕ → ℕ) (m : ℕ) → 0 < m → 0 < count_below (counted share m) m
-counted_some share m some =
-    cond_both (count_below share m == 0) (λ edge. 1) share (λ f. 0 < count_below f m)
-    (λ e. omega (arith, count_ones m, some))
-    (λ e. positive (count_below share m) (eqb-false (count_below share m) 0 e))
+counted_some share m some = cond_both (count_below share m == 0) (λ edge. 1) share (λ f. 0 < count_below f m)
+    (λ e. omega (arith, count_ones m, some)) (λ e. positive (count_below share m) (eqb-false (count_below share m) 0 e))
 
 -- Where place k of n lies between the ends of an arc of m old edges.
 module _ (share : ℕ → ℕ) (m n k : ℕ) (m_some : 0 < m) (all_some : 0 < count_below share m) (less : k < n) where
@@ -130,8 +100,7 @@ module _ (share : ℕ → ℕ) (m n k : ℕ) (m_some : 0 < m) (all_some : 0 < co
   -- The rest is a part of the share of the edge.
   rest_less : before - start edge < n * share edge
   rest_less =
-      let to : before < start (suc edge) = run_to start m before m_some
-      (times_less k n (count_below share m) less all_some) in
+      let to = run_to start m before m_some (times_less k n (count_below share m) less all_some) in
       let sum : start (suc edge) ≡ start edge + n * share edge = mul-add n (count_below share edge) (share edge) in
       omega (arith, to, sum, edge_from)
 
@@ -157,22 +126,19 @@ module _ (share : ℕ → ℕ) (m n k : ℕ) (m_some : 0 < m) (all_some : 0 < co
           let one : count_below share 1 ≤ count_below share m = count_rises share 1 m (omega (arith, m_some)) in
           let same : share edge ≡ share 0 = ap share first in
           let none : start edge ≡ n * 0 = ap start first in
-          let le : 1 * count_below share m ≤ k * count_below share m =
-          mul-le 1 (count_below share m) k (count_below share m) some (omega arith) in
+          let le = mul-le 1 (count_below share m) k (count_below share m) some (omega arith) in
           omega (arith, one, same, none, le)
 
       rest_some : edge ≡ 0 → 0 < ONE * (before - start edge) / (n * share edge)
-      rest_some first =
-          (le-div_iff_mul-le {k = n * share edge} {x = 1} {y = ONE * (before - start edge)} share_some).1
-          (let le : n * share edge ≤ ONE * (before - start edge) =
-          mul-le n (share edge) ONE (before - start edge) few (share_le first) in
+      rest_some first = (le-div_iff_mul-le {k = n * share edge} {x = 1} {y = ONE * (before - start edge)} share_some).1
+          (let le : n * share edge ≤ ONE * (before - start edge) = mul-le n (share edge) ONE (before - start edge) few
+          (share_le first) in
           omega (arith, le))
 
 module _ (l : Layout) (old new : Lengths) (shares : Shares) (o_len : AreLengths l old) (n_len : AreLengths l new) where
   -- Place k of an arc before its end.
   pub step_is : (a k : ℕ) → a < l.arcs → k < new a → IsInner (old a) (shared_step old new shares a k)
-  step_is a k low less =
-      cond_both (k == 0) (edge_begin 0) _ (IsInner (old a))
+  step_is a k low less = cond_both (k == 0) (edge_begin 0) _ (IsInner (old a))
       (λ e. record { edge = o_len.some a low; part = omega arith; parts = refl })
       (λ e. cond_both (k == new a) (edge_begin (old a)) _ (IsInner (old a))
       (λ same. absurd (omega (arith, eqb-true k (new a) same, less)))
@@ -181,8 +147,7 @@ module _ (l : Layout) (old new : Lengths) (shares : Shares) (o_len : AreLengths 
 
   -- Its end.
   pub step_end : (a : ℕ) → a < l.arcs → shared_step old new shares a (new a) ≡ edge_begin (old a)
-  step_end a low =
-      cond-false (new a == 0) (edge_begin 0) _ (ne_eqb (new a) 0 (λ e. omega (arith, e, n_len.some a low)))
+  step_end a low = cond-false (new a == 0) (edge_begin 0) _ (ne_eqb (new a) 0 (λ e. omega (arith, e, n_len.some a low)))
       ∙ cond-true (new a == new a) (edge_begin (old a)) _ (eq-eqb (new a) (new a) refl)
 
   parameter_end : (a : ℕ) → a < l.arcs → step_parameter (shared_step old new shares a (new a)) ≡ ONE * old a
@@ -193,8 +158,7 @@ module _ (l : Layout) (old new : Lengths) (shares : Shares) (o_len : AreLengths 
 
   module _ (few : (a : ℕ) → a < l.arcs → new a ≤ ONE) where
     parameter_some : (a k : ℕ) → a < l.arcs → 0 < k → k ≤ new a → 0 < step_parameter (shared_step old new shares a k)
-    parameter_some a k low some le =
-        cond_both (k == 0) (edge_begin 0) _ (λ s. 0 < step_parameter s)
+    parameter_some a k low some le = cond_both (k == 0) (edge_begin 0) _ (λ s. 0 < step_parameter s)
         (λ e. absurd (omega (arith, eqb-true k 0 e, some)))
         (λ e. cond_both (k == new a) (edge_begin (old a)) _ (λ s. 0 < step_parameter s)
         (λ same. omega (arith, o_len.some a low))

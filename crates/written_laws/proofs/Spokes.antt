@@ -84,12 +84,10 @@ module _ (l : Layout) (x : Lengths) where
   module _ (laid : IsSurface l) (len : AreLengths l x) where
     -- The grid point that lies inside.
     pub point_sort : (q k m p i j : ℕ) → q < l.patches → k ≤ wide l x q → m ≤ high l x q
-        → point l x q k m ≡ inside p i j
-        → (q ≡ p) × (k ≡ i) × (m ≡ j)
+        → point l x q k m ≡ inside p i j → (q ≡ p) × (k ≡ i) × (m ≡ j)
     point_sort q k m p i j q_low k_le m_le e = elim (on_rim l x laid.paved len q k m q_low k_le m_le) [
       | inl n ↦
-          let s : inside q k m ≡ inside p i j = sym (point_inside l x laid len q k m n.a_some n.a_low n.b_some n.b_low)
-          ∙ e in
+          let s = sym (point_inside l x laid len q k m n.a_some n.a_low n.b_some n.b_low) ∙ e in
           (cc, cc, cc)
       | inr b ↦ absurd (at_border b.0 b.1 b.2)
     ]
@@ -127,37 +125,32 @@ module _ (l : Layout) (x : Lengths) where
     hub_edge (on_arc a k) p i j t is (inl s) = absurd (arc_not_inside a k p i j s.0)
     hub_edge (on_arc a k) p i j t is (inr s) = absurd (arc_not_inside a (k + 1) p i j s.1)
     hub_edge (flat q k m) p i j t is (inl s) =
-        let e : (q ≡ p) × (k ≡ i) × (m ≡ j) = point_sort q k m p i j is.0 (omega (arith, is.1)) (omega (arith, is.3))
-        s.0 in
+        let e = point_sort q k m p i j is.0 (omega (arith, is.1)) (omega (arith, is.3)) s.0 in
         (east, (λ r. flat (e.0 r) (e.1 r) (e.2 r)), sym s.1 ∙ (λ r. point l x (e.0 r) (e.1 r + 1) (e.2 r)))
     hub_edge (flat q k m) p i j t is (inr s) =
-        let e : (q ≡ p) × (k + 1 ≡ i) × (m ≡ j) =
-        point_sort q (k + 1) m p i j is.0 (omega (arith, is.1)) (omega (arith, is.3)) s.1 in
+        let e = point_sort q (k + 1) m p i j is.0 (omega (arith, is.1)) (omega (arith, is.3)) s.1 in
         let c : k ≡ i - 1 = omega (arith, e.1) in
         (west, (λ r. flat (e.0 r) (c r) (e.2 r)), sym s.0 ∙ (λ r. point l x (e.0 r) (c r) (e.2 r)))
     hub_edge (steep q k m) p i j t is (inl s) =
-        let e : (q ≡ p) × (k ≡ i) × (m ≡ j) = point_sort q k m p i j is.0 (omega (arith, is.2)) (omega (arith, is.3))
-        s.0 in
+        let e = point_sort q k m p i j is.0 (omega (arith, is.2)) (omega (arith, is.3)) s.0 in
         (north, (λ r. steep (e.0 r) (e.1 r) (e.2 r)), sym s.1 ∙ (λ r. point l x (e.0 r) (e.1 r) (e.2 r + 1)))
     hub_edge (steep q k m) p i j t is (inr s) =
-        let e : (q ≡ p) × (k ≡ i) × (m + 1 ≡ j) =
-        point_sort q k (m + 1) p i j is.0 (omega (arith, is.2)) (omega (arith, is.3)) s.1 in
+        let e = point_sort q k (m + 1) p i j is.0 (omega (arith, is.2)) (omega (arith, is.3)) s.1 in
         let c : m ≡ j - 1 = omega (arith, e.2) in
         (south, (λ r. steep (e.0 r) (e.1 r) (c r)), sym s.0 ∙ (λ r. point l x (e.0 r) (e.1 r) (c r)))
 
     -- A spoke has no equal ends.
     pub loop_at : (e : Edge) (p i j : ℕ) (w : Way) → Inner p i j → e ≡ spoke p i j w → edge_start l x e ≢ edge_end l x e
-    loop_at e p i j w n is same = by_order (spoke_joins p i j w n)
+    loop_at e p i j w n is same = elim (spoke_joins p i j w n) [
+      | inl s ↦ at_tip (sym s.1 ∙ sym equal ∙ s.0)
+      | inr s ↦ at_tip (sym s.0 ∙ equal ∙ s.1)
+    ]
       where
         equal : edge_start l x (spoke p i j w) ≡ edge_end l x (spoke p i j w)
         equal = subst (λ (f : Edge). edge_start l x f ≡ edge_end l x f) is same
 
         at_tip : tip p i j w ≡ inside p i j → ⊥
         at_tip f =
-            let s : (p ≡ p) × (tip_column i w ≡ i) × (tip_row j w ≡ j) =
+            let s =
             point_sort p (tip_column i w) (tip_row j w) p i j n.0 (tip_low p i j w n).0 (tip_low p i j w n).1 f in
             no_tip_at_hub i j w n.1.a_some n.1.b_some s.1 s.2
-
-        by_order : Joins (spoke p i j w) (inside p i j) (tip p i j w) → ⊥
-        by_order (inl s) = at_tip (sym s.1 ∙ sym equal ∙ s.0)
-        by_order (inr s) = at_tip (sym s.0 ∙ equal ∙ s.1)

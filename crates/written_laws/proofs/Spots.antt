@@ -42,8 +42,13 @@ module _ (l : Layout) (x : Lengths) (paved : HasWholeSides l) (len : AreLengths 
   pub rim_slot : (w v : Slot) (o k : ℕ) → IsSlot l w → IsSlot l v → o < x (use_of l w).arc → k < x (use_of l v).arc
       → slot_dart l x w o ≡ slot_dart l x v k → w ≡ v
   rim_slot w v o k is_w is_v o_low k_low same =
-      by_place (place_once w.patch w.side w.side t u is_w.patch_low (at_low l x paved len w o is_w o_low) u_low columns
-      rows).1
+      let e = (place_once w.patch w.side w.side t u is_w.patch_low (at_low l x paved len w o is_w o_low) u_low columns
+      rows).1 in
+      let k_inside = subst (λ (n : ℕ). k < n) (λ r. long_at l x (patches r) (sides r) v.at) k_low in
+      let v_many = subst (λ (n : ℕ). v.at < n) (λ r. l.many (patches r) (sides r)) is_v.low in
+      let r = place_same (long_at l x w.patch w.side) (l.many w.patch w.side) w.at o v.at k is_w.low v_many o_low
+      k_inside (e ∙ (λ r. reach l x (patches r) (sides r) v.at + k)) in
+      λ q. slot (sym patches q) (sym sides q) (r.0 q)
     where
       t : ℕ
       t = reach l x w.patch w.side w.at + o
@@ -72,17 +77,6 @@ module _ (l : Layout) (x : Lengths) (paved : HasWholeSides l) (len : AreLengths 
       rows : side_row l x w.patch w.side t ≡ side_row l x w.patch w.side u
       rows = sym (rim_row l x paved len w.patch w.side t is_w.patch_low (at_low l x paved len w o is_w o_low))
           ∙ ap row_of (same ∙ there) ∙ rim_row l x paved len w.patch w.side u is_w.patch_low u_low
-
-      by_place : t ≡ u → w ≡ v
-      by_place e =
-          let k_inside : k < long_at l x w.patch w.side v.at =
-          subst (λ (n : ℕ). k < n) (λ r. long_at l x (patches r) (sides r) v.at) k_low in
-          let v_many : v.at < l.many w.patch w.side = subst (λ (n : ℕ). v.at < n) (λ r. l.many (patches r) (sides r))
-          is_v.low in
-          let r : (w.at ≡ v.at) × (o ≡ k) =
-          place_same (long_at l x w.patch w.side) (l.many w.patch w.side) w.at o v.at k is_w.low v_many o_low k_inside
-          (e ∙ (λ r. reach l x (patches r) (sides r) v.at + k)) in
-          λ q. slot (sym patches q) (sym sides q) (r.0 q)
 
   -- A dart that leaves a place of a side lies on the border, or is next to the border dart before.
   border_dart : (p : ℕ) (s w : Way) (i j t : ℕ) → t < size l x p s → IsDart l x (dart p i j w)
@@ -131,8 +125,7 @@ module _ (l : Layout) (x : Lengths) (laid : IsSurface l) (len : AreLengths l x) 
   -- A dart is at a slot's place where it leaves the grid point.
   pub at_place : (d : CellDart) (w : Slot) (o : ℕ) → IsSlot l w → o < x (use_of l w).arc → d.patch ≡ w.patch
       → column_of d ≡ side_column l x w.patch w.side (place_at l x w o)
-      → row_of d ≡ side_row l x w.patch w.side (place_at l x w o)
-      → IsAt l x laid len d w o
+      → row_of d ≡ side_row l x w.patch w.side (place_at l x w o) → IsAt l x laid len d w o
   at_place d w o is less patch c r = record {
     is_slot = is;
     low = less;
@@ -141,16 +134,21 @@ module _ (l : Layout) (x : Lengths) (laid : IsSurface l) (len : AreLengths l x) 
     row = r;
     leaves = (λ k. point l x (patch k) (c k) (r k))
         ∙ border_point l x laid len w.patch w.side (place_at l x w o) is.patch_low
-        (omega (arith, at_low l x laid.paved len w o is less))
-        ∙ side_in l x w o is less;
+        (omega (arith, at_low l x laid.paved len w o is less)) ∙ side_in l x w o is less;
   }
 
   -- It is at one place of one slot.
   pub at_once : (d : CellDart) (w v : Slot) (o k : ℕ) → IsAt l x laid len d w o → IsAt l x laid len d v k
       → (w ≡ v) × (o ≡ k)
-  at_once d w v o k a b = by_place (place_once l x laid.paved len w.patch w.side v.side (place_at l x w o)
-      (place_at l x v k)
-      a.is_slot.patch_low (at_low l x laid.paved len w o a.is_slot a.low) v_low columns rows)
+  at_once d w v o k a b =
+      let s = place_once l x laid.paved len w.patch w.side v.side (place_at l x w o)
+      (place_at l x v k) a.is_slot.patch_low (at_low l x laid.paved len w o a.is_slot a.low) v_low columns rows in
+      let v_inside = subst (λ (n : ℕ). k < n) (λ t. long_at l x (patches t) (sym s.0 t) v.at) b.low in
+      let v_many = subst (λ (n : ℕ). v.at < n) (λ t. l.many (patches t) (sym s.0 t)) b.is_slot.low in
+      let place = s.1 ∙ (λ t. reach l x (patches t) (sym s.0 t) v.at + k) in
+      let r = place_same (long_at l x w.patch w.side) (l.many w.patch w.side) w.at o v.at k a.is_slot.low v_many
+      a.low v_inside place in
+      ((λ t. slot (sym patches t) (s.0 t) (r.0 t)), r.1)
     where
       patches : v.patch ≡ w.patch
       patches = sym b.patch ∙ a.patch
@@ -165,25 +163,11 @@ module _ (l : Layout) (x : Lengths) (laid : IsSurface l) (len : AreLengths l x) 
       rows : side_row l x w.patch w.side (place_at l x w o) ≡ side_row l x w.patch v.side (place_at l x v k)
       rows = sym a.row ∙ b.row ∙ (λ t. side_row l x (patches t) v.side (place_at l x v k))
 
-      by_place : (w.side ≡ v.side) × (place_at l x w o ≡ place_at l x v k) → (w ≡ v) × (o ≡ k)
-      by_place s =
-          let v_inside : k < long_at l x w.patch w.side v.at =
-          subst (λ (n : ℕ). k < n) (λ t. long_at l x (patches t) (sym s.0 t) v.at) b.low in
-          let v_many : v.at < l.many w.patch w.side = subst (λ (n : ℕ). v.at < n) (λ t. l.many (patches t) (sym s.0 t))
-          b.is_slot.low in
-          let place : reach l x w.patch w.side w.at + o ≡ reach l x w.patch w.side v.at + k =
-          s.1 ∙ (λ t. reach l x (patches t) (sym s.0 t) v.at + k) in
-          let r : (w.at ≡ v.at) × (o ≡ k) =
-          place_same (long_at l x w.patch w.side) (l.many w.patch w.side) w.at o v.at k a.is_slot.low v_many a.low
-          v_inside place in
-          ((λ t. slot (sym patches t) (s.0 t) (r.0 t)), r.1)
-
   -- The darts at a place.
   pub spot_is : (w : Slot) (o : ℕ) (b : Bool) → IsSlot l w → o < x (use_of l w).arc → (b ≡ true → 0 < place_at l x w o)
       → IsDart l x (spot_dart l x w o b)
   spot_is w o false is less some = at_is l x laid.paved len w o is less
-  spot_is w o true is less some =
-      next_is l x (dart_along l x w.patch w.side (place_at l x w o - 1))
+  spot_is w o true is less some = next_is l x (dart_along l x w.patch w.side (place_at l x w o - 1))
       (rim_is l x laid.paved len w.patch w.side (place_at l x w o - 1) is.patch_low
       (omega (arith, at_low l x laid.paved len w o is less)))
 
@@ -212,35 +196,24 @@ module _ (l : Layout) (x : Lengths) (laid : IsSurface l) (len : AreLengths l x) 
   -- A dart at a place is one of the two.
   pub sort_spot : (d : CellDart) (w : Slot) (o : ℕ) → IsDart l x d → IsAt l x laid len d w o
       → (b : Bool) × (d ≡ spot_dart l x w o b) × ((b ≡ true) → 0 < place_at l x w o)
-  sort_spot d w o is a =
-      by_border (border_dart l x laid.paved len w.patch w.side d.way d.i d.j (place_at l x w o)
-      (at_low l x laid.paved len w o a.is_slot a.low)
-      (record {
+  sort_spot d w o is a = elim (border_dart l x laid.paved len w.patch w.side d.way d.i d.j (place_at l x w o)
+      (at_low l x laid.paved len w o a.is_slot a.low) (record {
         patch_low = a.is_slot.patch_low;
-        i_low = subst (λ (n : ℕ). d.i < n) (ap (wide l x) a.patch) is.i_low;
-        j_low = subst (λ (n : ℕ). d.j < n) (ap (high l x) a.patch) is.j_low;
+        i_low = rw (ap (wide l x) a.patch) at is.i_low;
+        j_low = rw (ap (high l x) a.patch) at is.j_low;
       })
-      a.column a.row)
+      a.column a.row) [ inl e ↦ (false, here ∙ e, λ s. absurd cc) | inr e ↦ (true, here ∙ e.1, λ s. e.0) ]
     where
       here : d ≡ dart w.patch d.i d.j d.way
       here = λ t. dart (a.patch t) d.i d.j d.way
-
-      by_border : (dart w.patch d.i d.j d.way ≡ dart_along l x w.patch w.side (place_at l x w o))
-          ⊎ ((0 < place_at l x w o)
-          × (dart w.patch d.i d.j d.way ≡ next (dart_along l x w.patch w.side (place_at l x w o - 1))))
-          → (b : Bool) × (d ≡ spot_dart l x w o b) × ((b ≡ true) → 0 < place_at l x w o)
-      by_border (inl e) = (false, here ∙ e, λ s. absurd cc)
-      by_border (inr e) = (true, here ∙ e.1, λ s. e.0)
 
   -- The two differ.
   pub spot_once : (w : Slot) (o : ℕ) (b c : Bool) → spot_dart l x w o b ≡ spot_dart l x w o c → b ≡ c
   spot_once w o true true e = refl
   spot_once w o false false e = refl
-  spot_once w o true false e =
-      absurd (no_turn w.side (sym (ap (λ (d : CellDart). d.way) e ∙ rim_way l x laid.paved len w.patch w.side
-      (place_at l x w o))
+  spot_once w o true false e = absurd (no_turn w.side
+      (sym (ap (λ (d : CellDart). d.way) e ∙ rim_way l x laid.paved len w.patch w.side (place_at l x w o))
       ∙ ap side_after (rim_way l x laid.paved len w.patch w.side (place_at l x w o - 1))))
-  spot_once w o false true e =
-      absurd (no_turn w.side (sym (rim_way l x laid.paved len w.patch w.side (place_at l x w o))
-      ∙ ap (λ (d : CellDart). d.way) e
+  spot_once w o false true e = absurd (no_turn w.side
+      (sym (rim_way l x laid.paved len w.patch w.side (place_at l x w o)) ∙ ap (λ (d : CellDart). d.way) e
       ∙ ap side_after (rim_way l x laid.paved len w.patch w.side (place_at l x w o - 1))))

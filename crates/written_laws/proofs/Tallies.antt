@@ -31,8 +31,7 @@ passing_but : (p : ℕ → Bool) (n u : ℕ) → u < n → p u ≡ true → pass
 passing_but p zero u low on = absurd (omega arith)
 passing_but p (suc n) u low on = elim (cases_eq n u) [
   | inl e ↦
-      let rest : passing p n ≡ passing (but p u) n =
-      count_below_same (λ k. one_if (p k)) (λ k. one_if (but p u k)) n
+      let rest = count_below_same (λ k. one_if (p k)) (λ k. one_if (but p u k)) n
       (λ k l. ap one_if (sym (but_same p u k (λ s. omega (arith, s, e))))) in
       let last : one_if (p n) ≡ 1 = ap one_if (ap p e ∙ on) in
       let none : one_if (but p u n) ≡ 0 = ap one_if (but_none p u n e) in
@@ -43,8 +42,7 @@ passing_but p (suc n) u low on = elim (cases_eq n u) [
 ]
 
 -- Where what passes p below m is mapped one to one to what passes q below n, there is no more of it.
-pub passing_le : (p q : ℕ → Bool) (m n : ℕ)
-    → (to : (i : ℕ) → i < m → p i ≡ true → (k : ℕ) × (k < n) × (q k ≡ true))
+pub passing_le : (p q : ℕ → Bool) (m n : ℕ) → (to : (i : ℕ) → i < m → p i ≡ true → (k : ℕ) × (k < n) × (q k ≡ true))
     → ((i j : ℕ) (a : i < m) (b : p i ≡ true) (c : j < m) (d : p j ≡ true) → (to i a b).0 ≡ (to j c d).0 → i ≡ j)
     → passing p m ≤ passing q n
 passing_le p q zero n to once = omega arith
@@ -52,19 +50,16 @@ passing_le p q (suc m) n to once = elim (cases_Bool (p m)) [
   | inl on ↦ at_pass on (λ r go one. passing_le p r m n go one)
   | inr off ↦
       let none : one_if (p m) ≡ 0 = ap one_if off in
-      let rest : passing p m ≤ passing q n =
-      passing_le p q m n (λ i l s. to i (up i l) s) (λ i j a b c d e. once i j (up i a) b (up j c) d e) in
+      let rest = passing_le p q m n (λ i l s. to i (up i l) s) (λ i j a b c d e. once i j (up i a) b (up j c) d e) in
       omega (arith, none, rest)
 ]
   where
     up : (i : ℕ) → i < m → i < suc m
     up i l = omega arith
 
-    at_pass : p m ≡ true
-        → ((r : ℕ → Bool) (go : (i : ℕ) → i < m → p i ≡ true → (k : ℕ) × (k < n) × (r k ≡ true))
+    at_pass : p m ≡ true → ((r : ℕ → Bool) (go : (i : ℕ) → i < m → p i ≡ true → (k : ℕ) × (k < n) × (r k ≡ true))
         → ((i j : ℕ) (a : i < m) (b : p i ≡ true) (c : j < m) (d : p j ≡ true) → (go i a b).0 ≡ (go j c d).0 → i ≡ j)
-        → passing p m ≤ passing r n)
-        → passing p (suc m) ≤ passing q n
+        → passing p m ≤ passing r n) → passing p (suc m) ≤ passing q n
     at_pass on rest = by_image (to m (up_last m) on).0 (to m (up_last m) on).1 (to m (up_last m) on).2
         (λ i l s e. let same : i ≡ m = once i m (up i l) s (up_last m) on e in omega (arith, same))
       where
@@ -74,15 +69,11 @@ passing_le p q (suc m) n to once = elim (cases_Bool (p m)) [
         by_image : (u : ℕ) → u < n → q u ≡ true → ((i : ℕ) (l : i < m) (s : p i ≡ true) → (to i (up i l) s).0 ≢ u)
             → passing p (suc m) ≤ passing q n
         by_image u u_low u_on apart =
-            let less : passing p m ≤ passing (but q u) n =
-            rest (but q u)
-            (λ i l s. (
+            let less = rest (but q u) (λ i l s. (
               (to i (up i l) s).0,
               (to i (up i l) s).1,
-              but_same q u (to i (up i l) s).0 (apart i l s)
-                  ∙ (to i (up i l) s).2,
-            ))
-            (λ i j a b c d e. once i j (up i a) b (up j c) d e) in
+              but_same q u (to i (up i l) s).0 (apart i l s) ∙ (to i (up i l) s).2,
+            )) (λ i j a b c d e. once i j (up i a) b (up j c) d e) in
             let one : one_if (p m) ≡ 1 = ap one_if on in
             omega (arith, less, one, passing_but q n u u_low u_on)
 

@@ -27,9 +27,8 @@ module _ (l : Layout) (x : Lengths) (R : CellDart → CellDart → Type 0) (turn
 
   twice : (p i j a b k m : ℕ) (w : Way) → IsDart l x (dart p i j w) → IsDart l x (dart p a b (side_after w))
       → IsDart l x (dart p k m (side_after (side_after w))) → column i w ≡ column a (side_after w)
-      → row j w ≡ row b (side_after w)
-      → column a (side_after w) ≡ column k (side_after (side_after w)) → row b (side_after w)
-      ≡ row m (side_after (side_after w))
+      → row j w ≡ row b (side_after w) → column a (side_after w) ≡ column k (side_after (side_after w))
+      → row b (side_after w) ≡ row m (side_after (side_after w))
       → R (dart p i j w) (dart p k m (side_after (side_after w)))
   twice p i j a b k m w d c e i_a j_b a_k b_m =
       turning.on (dart p i j w) (dart p a b (side_after w)) (dart p k m (side_after (side_after w)))

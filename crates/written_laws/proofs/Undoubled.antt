@@ -3,7 +3,7 @@ use Rattle.std.proofs.Common.{◌≡◌, ◌≢◌, ◌⊎◌, ℕ, refl, sym, �
 use Rattle.std.proofs.lemmas.Bool.{cases_eq, cases_lt}
 use Rattle.def_layout.specs.{Layouts.Layout, Surfaces.IsSurface, Lengths.Lengths, Lengths.AreLengths}
 use Rattle.def_written.specs.Numbers.{vertex_number}
-use Rattle.def_written.specs.Edges.{Edge, on_arc, flat, steep, IsEdge, edge_start, edge_end, HasEnds, HasLoop, HasPair}
+use Rattle.def_written.specs.Edges.{Edge, on_arc, flat, steep, IsEdge, edge_start, edge_end, HasEnds}
 use Rattle.def_written.specs.Edges.{IsUndoubled}
 use Rattle.written_laws.proofs.{Numbers.number_same, Simple.IsSimple, EdgeDarts.edge_points}
 
@@ -68,12 +68,11 @@ module _ (l : Layout) (x : Lengths) where
   module _ (laid : IsSurface l) (len : AreLengths l x) where
     point_is : (a b : Edge) → IsEdge l x a → IsEdge l x b
         → (vertex_number l x (edge_start l x a) ≡ vertex_number l x (edge_start l x b)
-        → edge_start l x a ≡ edge_start l x b)
-        × (vertex_number l x (edge_start l x a) ≡ vertex_number l x (edge_end l x b)
-        → edge_start l x a ≡ edge_end l x b)
+        → edge_start l x a ≡ edge_start l x b) × (vertex_number l x (edge_start l x a) ≡ vertex_number l x
+        (edge_end l x b) → edge_start l x a ≡ edge_end l x b)
         × (vertex_number l x (edge_end l x a) ≡ vertex_number l x (edge_start l x b)
-        → edge_end l x a ≡ edge_start l x b)
-        × (vertex_number l x (edge_end l x a) ≡ vertex_number l x (edge_end l x b) → edge_end l x a ≡ edge_end l x b)
+        → edge_end l x a ≡ edge_start l x b) × (vertex_number l x (edge_end l x a) ≡ vertex_number l x (edge_end l x b)
+        → edge_end l x a ≡ edge_end l x b)
     point_is a b is_a is_b = (
       number_same l x (edge_start l x a) (edge_start l x b) (edge_points l x laid len a is_a).0
           (edge_points l x laid len b is_b).0,
@@ -86,26 +85,21 @@ module _ (l : Layout) (x : Lengths) where
     )
 
     pub undoubled_from : IsSimple l x → IsUndoubled l x
-    undoubled_from simple u v doubled = by_kind doubled.1
+    undoubled_from simple u v doubled = elim doubled.1 [
+      | inl h ↦ looped h.1.0 h.1.1 h.1.2
+      | inr h ↦ h.4 (paired h.0 h.1 h.2 h.3 h.5 h.6)
+    ]
       where
         looped : (e : Edge) → IsEdge l x e → HasEnds l x e u u → ⊥
         looped e is (inl s) = simple.no_loop e is ((point_is e e is is).1 (s.0 ∙ sym s.1))
         looped e is (inr s) = simple.no_loop e is ((point_is e e is is).1 (s.0 ∙ sym s.1))
 
         paired : (e f : Edge) → IsEdge l x e → IsEdge l x f → HasEnds l x e u v → HasEnds l x f u v → e ≡ f
-        paired e f is_e is_f (inl s) (inl t) =
-            simple.same e f is_e is_f ((point_is e f is_e is_f).0 (s.0 ∙ sym t.0))
+        paired e f is_e is_f (inl s) (inl t) = simple.same e f is_e is_f ((point_is e f is_e is_f).0 (s.0 ∙ sym t.0))
             ((point_is e f is_e is_f).3 (s.1 ∙ sym t.1))
-        paired e f is_e is_f (inl s) (inr t) =
-            simple.crossed e f is_e is_f ((point_is e f is_e is_f).1 (s.0 ∙ sym t.1))
+        paired e f is_e is_f (inl s) (inr t) = simple.crossed e f is_e is_f ((point_is e f is_e is_f).1 (s.0 ∙ sym t.1))
             ((point_is e f is_e is_f).2 (s.1 ∙ sym t.0))
-        paired e f is_e is_f (inr s) (inl t) =
-            simple.crossed e f is_e is_f ((point_is e f is_e is_f).1 (s.0 ∙ sym t.1))
+        paired e f is_e is_f (inr s) (inl t) = simple.crossed e f is_e is_f ((point_is e f is_e is_f).1 (s.0 ∙ sym t.1))
             ((point_is e f is_e is_f).2 (s.1 ∙ sym t.0))
-        paired e f is_e is_f (inr s) (inr t) =
-            simple.same e f is_e is_f ((point_is e f is_e is_f).0 (s.0 ∙ sym t.0))
+        paired e f is_e is_f (inr s) (inr t) = simple.same e f is_e is_f ((point_is e f is_e is_f).0 (s.0 ∙ sym t.0))
             ((point_is e f is_e is_f).3 (s.1 ∙ sym t.1))
-
-        by_kind : ((u ≡ v) × HasLoop l x u) ⊎ HasPair l x u v → ⊥
-        by_kind (inl h) = looped h.1.0 h.1.1 h.1.2
-        by_kind (inr h) = h.4 (paired h.0 h.1 h.2 h.3 h.5 h.6)
