@@ -47,7 +47,7 @@ increments : (net : Network) (step : ℕ) (a : Arc) (x k t : ℕ)
     (k + 1 + t)
 increments net step a x k t = omega (
   arith,
-  arc_convex net a here there (pos step) part,
+  arc_convex net a here there (pos step) (inl (omega (arith, ints), omega (arith, ints, spread))),
   ap (arc_deviation net a) up,
   ap (arc_deviation net a) less,
 )
@@ -60,9 +60,6 @@ increments net step a x k t = omega (
 
     spread : (k + 1 + t) * step ≡ k * step + step + t * step
     spread = omega (arith, add-mul (k + 1) t step, add-mul k 1 step, one-mul step)
-
-    part : IsPart (pos step) (there -ℤ here)
-    part = inl (omega (arith, ints), omega (arith, ints, spread))
 
     up : here +ℤ pos step ≡ pos (low step a x + (k + 1) * step)
     up = omega (arith, ints, add-mul k 1 step, one-mul step)
@@ -119,9 +116,8 @@ trues_take (suc n) (true ∷ ms) = omega (arith, trues_take n ms)
 trues_take (suc n) (false ∷ ms) = omega (arith, trues_take n ms)
 
 -- The list that states tell is in the box.
-pub told_box : (step : ℕ) (arcs : List Arc) (xs : List ℕ) (ons : List Bool)
-    → length xs ≡ length arcs → IsRaised step arcs xs (steps_told step arcs xs ons)
-    (lengths_on step arcs xs (steps_told step arcs xs ons))
+pub told_box : (step : ℕ) (arcs : List Arc) (xs : List ℕ) (ons : List Bool) → length xs ≡ length arcs
+    → IsRaised step arcs xs (steps_told step arcs xs ons) (lengths_on step arcs xs (steps_told step arcs xs ons))
 told_box step [] [] ons l = tt
 told_box step (a ∷ arcs) (x ∷ xs) ons l =
     (trues_take (cap step a x) ons, refl, told_box step arcs xs (drop (cap step a x) ons) (omega arith))
@@ -215,7 +211,7 @@ pub told_in_box : (net : Network) (step : ℕ) (xs m : List ℕ)
     → length xs ≡ length net.arcs → IsInBox step (lows net step xs) (caps net step xs) (lengths_told net step xs m)
 told_in_box net step xs m l =
     let us : List ArcUnit = units net step net.arcs xs in
-    let ons : List Bool = states_told (λ v. active v us (states_at net step xs)) us
+    let ons = states_told (λ v. active v us (states_at net step xs)) us
     (marks_from 0 (length (matching_graph net step xs).edges) m) in
     raised_in_box step net.arcs xs (steps_told step net.arcs xs ons) (lengths_told net step xs m) l
     (told_box step net.arcs xs ons l)
@@ -228,10 +224,7 @@ pub lengths_law : (net : Network) (step : ℕ) (xs m : List ℕ) → IsWithinBou
     (deviation net (entries (lows net step xs)))) ≤ℤ matching_cost (matching_graph net step xs) m)
 lengths_law net step xs m bounds positive l ax perfect = (
   count,
-  record {
-    high = box_high step net.arcs xs js ys box ax.high;
-    balanced = balanced;
-  },
+  record { high = box_high step net.arcs xs js ys box ax.high; balanced = balanced },
   dear,
 )
   where
@@ -263,13 +256,12 @@ lengths_law net step xs m bounds positive l ax perfect = (
     ons_count = told_length copies_at us (marks_from 0 (length (matching_graph net step xs).edges) m)
 
     fills : (v : ℕ) → active v us ons ≡ active v us (states_at net step xs)
-    fills v = by_node (cases_lt v net.nodes)
-      where
-        by_node : (v < net.nodes) ⊎ (net.nodes ≤ v) → active v us ons ≡ active v us (states_at net step xs)
-        by_node (inl low_node) = told_fills net.nodes copies_at (rim_active us (states_at net step xs) % 2 == 1) us at m
-            perfect v low_node
-        by_node (inr past) = active_past net.nodes v us ons past at
-            ∙ sym (active_past net.nodes v us (states_at net step xs) past at)
+    fills v = elim (cases_lt v net.nodes) [
+      | inl low_node ↦ told_fills net.nodes copies_at (rim_active us (states_at net step xs) % 2 == 1) us at m
+          perfect v low_node
+      | inr past ↦ active_past net.nodes v us ons past at
+          ∙ sym (active_past net.nodes v us (states_at net step xs) past at)
+    ]
 
     own : IsRaised step net.arcs xs (arcwise (down step) net.arcs xs) xs
     own = own_box step net.arcs xs l
@@ -277,7 +269,7 @@ lengths_law net step xs m bounds positive l ax perfect = (
     side : (v : ℕ) → weighted_ends v true net.arcs ys ≡ weighted_ends v false net.arcs ys
     side v = omega (
       arith,
-      scaled,
+      ap (λ n. step * n) equal,
       mul-add step (plus js) (minus ds),
       mul-add step (minus js) (plus ds),
       box_ends net step v true net.arcs xs js ys box,
@@ -303,9 +295,6 @@ lengths_law net step xs m bounds positive l ax perfect = (
           told_active net step v net.arcs xs ons l ons_count,
           box_active net step v net.arcs xs ds xs own,
         )
-
-        scaled : step * (plus js + minus ds) ≡ step * (minus js + plus ds)
-        scaled = ap (λ n. step * n) equal
 
     balanced : IsBalanced net.arcs (entries ys)
     balanced v = omega (arith, ints, side_list v true net.arcs ys count, side_list v false net.arcs ys count, side v)

@@ -125,12 +125,10 @@ scaled l j s a =
 pub box_ends : (net : Network) (step v : ℕ) (on : Bool) (arcs : List Arc) (xs js ys : List ℕ)
     → IsRaised step arcs xs js ys → weighted_ends v on arcs ys ≡ weighted_ends v on arcs (arcwise (low step) arcs xs)
     + step * weighted_ends v on arcs js
-box_ends net step v on =
-    by_raised step (λ arcs xs js ys. weighted_ends v on arcs ys ≡ weighted_ends v on arcs (arcwise (low step) arcs xs)
-    + step * weighted_ends v on arcs js) (omega (arith, mul_comm step 0, zero-mul step))
+box_ends net step v on = by_raised step (λ arcs xs js ys. weighted_ends v on arcs ys ≡ weighted_ends v on arcs
+    (arcwise (low step) arcs xs) + step * weighted_ends v on arcs js) (omega (arith, mul_comm step 0, zero-mul step))
     (λ a arcs x j y xs js ys box again.
-    let here : y * arc_active v on a ≡ low step a x * arc_active v on a + step * (j * arc_active v on a) =
-    ap (λ n. n * arc_active v on a) box.1 ∙ scaled (low step a x) j step (arc_active v on a) in
+    let here = ap (λ n. n * arc_active v on a) box.1 ∙ scaled (low step a x) j step (arc_active v on a) in
     omega (arith, here, mul-add step (j * arc_active v on a) (weighted_ends v on arcs js), again))
 
 -- The sum on one side of a node, along the list.
@@ -146,8 +144,7 @@ ends_side v y on (e ∷ es) = omega (
   ints,
   end_side v y on e,
   ends_side v y on es,
-  mul-add y (cond ((e.node == v) && is_active on e) 1 0) (count (λ f. cond ((f.node == v) && is_active on f) 1 0)
-      es),
+  mul-add y (cond ((e.node == v) && is_active on e) 1 0) (count (λ f. cond ((f.node == v) && is_active on f) 1 0) es),
 )
 
 pub side_list : (v : ℕ) (on : Bool) (arcs : List Arc) (ys : List ℕ) → length ys ≡ length arcs
@@ -219,12 +216,11 @@ deviations net _ _ = 0
 pub deviation_list : (net : Network) (arcs : List Arc) (ys : List ℕ) → length ys ≡ length arcs
     → count_below (λ k. arc_deviation net (arc_at arcs k) (entries ys k)) (length arcs) ≡ deviations net arcs ys
 deviation_list net [] [] l = refl
-deviation_list net (a ∷ arcs) (y ∷ ys) l =
-    omega (
-      arith,
-      count_below_prefix (λ k. arc_deviation net (arc_at (a ∷ arcs) k) (entries (y ∷ ys) k)) (length arcs),
-      deviation_list net arcs ys (omega arith),
-    )
+deviation_list net (a ∷ arcs) (y ∷ ys) l = omega (
+  arith,
+  count_below_prefix (λ k. arc_deviation net (arc_at (a ∷ arcs) k) (entries (y ∷ ys) k)) (length arcs),
+  deviation_list net arcs ys (omega arith),
+)
 deviation_list net _ _ l = absurd (omega arith)
 
 none_cost : (net : Network) (step : ℕ) (a : Arc) (x k n : ℕ)
@@ -254,10 +250,8 @@ box_cost net step = by_raised step (λ arcs xs js ys. cost_on (units net step ar
     omega (arith, units_length net step a x 0 (cap step a x), run_length j (cap step a x)) in
     let begin : low step a x + 0 * step ≡ low step a x = omega (arith, zero-mul step) in
     let end : low step a x + (0 + j) * step ≡ y = ap (λ n. low step a x + n * step) (zero-add j) ∙ sym box.1 in
-    let first : arc_deviation net a (pos (low step a x + 0 * step)) ≡ arc_deviation net a (pos (low step a x)) =
-    ap (λ n. arc_deviation net a (pos n)) begin in
-    let last : arc_deviation net a (pos (low step a x + (0 + j) * step)) ≡ arc_deviation net a (pos y) =
-    ap (λ n. arc_deviation net a (pos n)) end in
+    let first = ap (λ n. arc_deviation net a (pos n)) begin in
+    let last = ap (λ n. arc_deviation net a (pos n)) end in
     omega (
       arith,
       ints,

@@ -60,12 +60,10 @@ chain_sum w before waits fresh (r ∷ s ∷ rs) (o ∷ p ∷ os) l there even =
   where
     step : (before : Option ℕ) (waits o : Bool) → IsThere before waits
         → picked (at_ends w) (rim_marks (Some (fresh + 1)) (differ waits o) (fresh + 2) (p ∷ os))
-        (rim_links (Some (fresh + 1)) (fresh + 2) (s ∷ rs))
-        ≡ waiting w (Some (fresh + 1)) (differ waits o) +ℤ (picked w (p ∷ os) (s ∷ rs) +ℤ span w (fresh + 2)
-        (pairs (length (s ∷ rs))))
-        → picked (at_ends w) (rim_marks before waits fresh (o ∷ p ∷ os)) (rim_links before fresh (r ∷ s ∷ rs))
-        ≡ waiting w before waits +ℤ (picked w (o ∷ p ∷ os) (r ∷ s ∷ rs) +ℤ span w fresh
-        (pairs (length (r ∷ s ∷ rs))))
+        (rim_links (Some (fresh + 1)) (fresh + 2) (s ∷ rs)) ≡ waiting w (Some (fresh + 1)) (differ waits o) +ℤ
+        (picked w (p ∷ os) (s ∷ rs) +ℤ span w (fresh + 2) (pairs (length (s ∷ rs))))
+        → picked (at_ends w) (rim_marks before waits fresh (o ∷ p ∷ os)) (rim_links before fresh (r ∷ s ∷ rs)) ≡ waiting
+        w before waits +ℤ (picked w (o ∷ p ∷ os) (r ∷ s ∷ rs) +ℤ span w fresh (pairs (length (r ∷ s ∷ rs))))
     step None true o there more = absurd (true≢false there)
     step None false true there more = omega (arith, ints, two_more w fresh (length rs), more)
     step None false false there more = omega (arith, ints, two_more w fresh (length rs), more)

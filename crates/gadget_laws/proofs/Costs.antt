@@ -79,8 +79,7 @@ fan_cheap c u cost first (suc n) le = (le, fan_cheap c u cost (first + 1) n le)
 -- What is paid at one of two places.
 paid : (c : ℕ) (plus : Bool) (cost : ℤ) → unsigned_abs cost ≤ c → (unsigned_abs (cond plus cost (pos 0)) ≤ c)
     × (unsigned_abs (cond plus (pos 0) cost) ≤ c)
-paid c true cost le = (le, omega arith)
-paid c false cost le = (omega arith, le)
+paid c = elim [ true ↦ λ cost le. (le, omega arith) | false ↦ λ cost le. (omega arith, le) ]
 
 copies_cheap : (c : ℕ) (copies_at : ℕ → ℕ) (u : ℕ) (cost : ℤ) (e : End) → unsigned_abs cost ≤ c
     → AreCheap c (to_copies copies_at u cost e)
@@ -89,9 +88,8 @@ copies_cheap c copies_at u cost e le = fan_cheap c u (cond e.plus cost (pos 0)) 
 
 links_cheap : (c : ℕ) (copies_at : ℕ → ℕ) (b : ℕ) (cost : ℤ) (left : End) (right : Option End) → unsigned_abs cost ≤ c
     → AreCheap c (links_by copies_at b cost left right)
-links_cheap c copies_at b cost left None le =
-    cheap_append c (to_copies copies_at b cost left) _ (copies_cheap c copies_at b cost left le)
-    ((paid c left.plus cost le).1, tt)
+links_cheap c copies_at b cost left None le = cheap_append c (to_copies copies_at b cost left) _
+    (copies_cheap c copies_at b cost left le) ((paid c left.plus cost le).1, tt)
 links_cheap c copies_at b cost left (Some right) le = by_signs (are_alike left right)
   where
     by_signs : (s : Bool) → AreCheap c

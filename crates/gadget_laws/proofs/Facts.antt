@@ -44,9 +44,8 @@ module _ (f : WEdge → ℤ) (copies_at : ℕ → ℕ) where
       (fan_length b (cond e.plus c (pos 0)) (count_below copies_at e.node) (copies_at e.node))
 
   pub lone_pick : (b : ℕ) (c : ℤ) (left : End) (s : ℤ) (ms : List Bool) → IsWorth f copies_at b c left s
-      → picked f ms (to_copies copies_at b c left ++ inner_link b c left ∷ [])
-      ≡ pos (left_marks copies_at ms left) *ℤ s +ℤ cond (lone_inner copies_at ms left) (f (inner_link b c left))
-      (pos 0)
+      → picked f ms (to_copies copies_at b c left ++ inner_link b c left ∷ []) ≡ pos (left_marks copies_at ms left) *ℤ
+      s +ℤ cond (lone_inner copies_at ms left) (f (inner_link b c left)) (pos 0)
   lone_pick b c left s ms worth = omega (
     arith,
     ints,
@@ -84,25 +83,22 @@ module _ (f : WEdge → ℤ) (copies_at : ℕ → ℕ) where
 -- A unit has as many edges as its width says.
 pub links_width : (copies_at : ℕ → ℕ) (b : ℕ) (c : ℤ) (left : End) (right : Option End)
     → length (links_by copies_at b c left right) ≡ width_by copies_at left right
-links_width copies_at b c left None =
-    omega (
-      arith,
-      length-append (to_copies copies_at b c left) (inner_link b c left ∷ []),
-      fan_length b (cond left.plus c (pos 0)) (count_below copies_at left.node) (copies_at left.node),
-    )
-links_width copies_at b c left (Some right) =
-    grind (
-      arith,
-      ints,
-      length-append (to_copies copies_at b c left) (to_copies copies_at (b + 1) (pos 0) right
-          ++ inner_link b c left ∷ []),
-      length-append (to_copies copies_at (b + 1) (pos 0) right)
-          (inner_link b c left ∷ []),
-      first,
-      second (b + 1) (pos 0),
-      length-append (to_copies copies_at b c left) (to_copies copies_at b c right),
-      second b c,
-    )
+links_width copies_at b c left None = omega (
+  arith,
+  length-append (to_copies copies_at b c left) (inner_link b c left ∷ []),
+  fan_length b (cond left.plus c (pos 0)) (count_below copies_at left.node) (copies_at left.node),
+)
+links_width copies_at b c left (Some right) = grind (
+  arith,
+  ints,
+  length-append (to_copies copies_at b c left) (to_copies copies_at (b + 1) (pos 0) right
+      ++ inner_link b c left ∷ []),
+  length-append (to_copies copies_at (b + 1) (pos 0) right) (inner_link b c left ∷ []),
+  first,
+  second (b + 1) (pos 0),
+  length-append (to_copies copies_at b c left) (to_copies copies_at b c right),
+  second b c,
+)
   where
     first : length (to_copies copies_at b c left) ≡ copies_at left.node
     first = fan_length b (cond left.plus c (pos 0)) (count_below copies_at left.node) (copies_at left.node)
@@ -154,8 +150,7 @@ pub lone_told : (copies_at : ℕ → ℕ) (ms : List Bool) (left : End) → IsUn
 lone_told copies_at ms left ok =
     let first = left_told copies_at ms left (omega (arith, ok)) in (
       first,
-      mark_rest (lone_inner copies_at ms left) (told copies_at ms left left) (left_marks copies_at ms left) first
-          ok,
+      mark_rest (lone_inner copies_at ms left) (told copies_at ms left left) (left_marks copies_at ms left) first ok,
     )
 
 pub alike_told : (copies_at : ℕ → ℕ) (ms : List Bool) (left right : End) → IsPairOk copies_at ms left right

@@ -49,9 +49,8 @@ pub units_at : (net : Network) (step : ℕ) (arcs : List Arc) (xs : List ℕ) �
     → UnitsAt net.nodes (units net step arcs xs)
 units_at net step [] xs at = tt
 units_at net step (a ∷ arcs) [] at = tt
-units_at net step (a ∷ arcs) (x ∷ xs) at =
-    at_append net.nodes (units_from net step a (low step a x) 0 (cap step a x)) (units net step arcs xs)
-    (from_at net step a x 0 (cap step a x) at.0) (units_at net step arcs xs at.1)
+units_at net step (a ∷ arcs) (x ∷ xs) at = at_append net.nodes (units_from net step a (low step a x) 0 (cap step a x))
+    (units net step arcs xs) (from_at net step a x 0 (cap step a x) at.0) (units_at net step arcs xs at.1)
 
 -- The matching graph is a graph.
 pub graph_law : (net : Network) (step : ℕ) (xs : List ℕ) → IsWithinBounds net → IsGraph (matching_graph net step xs)
@@ -92,8 +91,7 @@ box_fits net step xs js ys bounds positive l bx by box = record {
 
     fills : (v : ℕ) → active v us (states step net.arcs xs js) ≡ active v us (states_at net step xs)
     fills v = same_active net step xs js ys (arcwise (down step) net.arcs xs) xs positive box
-        (own_box step net.arcs xs l)
-        by bx v
+        (own_box step net.arcs xs l) by bx v
 
     even : (cond (rim_active us (states_at net step xs) % 2 == 1) 1 0 + rim_active us (states step net.arcs xs js)) % 2
         ≡ 0
@@ -119,14 +117,12 @@ box_deviation net step xs js ys l box = omega (
 -- The matching law.
 pub matching_law : (net : Network) (step : ℕ) (xs js ys : List ℕ) → IsWithinBounds net → 1 ≤ step
     → length xs ≡ length net.arcs → IsAdmissible net (entries xs) → IsAdmissible net (entries ys)
-    → IsRaised step net.arcs xs js ys
-    → IsPerfect (matching_graph net step xs) (matching_told net step xs js)
-    × (matching_cost (matching_graph net step xs) (matching_told net step xs js)
-    ≡ pos (deviation net (entries ys)) -ℤ pos (deviation net (entries (lows net step xs))))
+    → IsRaised step net.arcs xs js ys → IsPerfect (matching_graph net step xs) (matching_told net step xs js)
+    × (matching_cost (matching_graph net step xs) (matching_told net step xs js) ≡ pos (deviation net (entries ys)) -ℤ
+    pos (deviation net (entries (lows net step xs))))
 matching_law net step xs js ys bounds positive l ax ay box = (
   states_perfect net.nodes copies_at lone us ons fit,
-  states_cost net.nodes copies_at lone us ons fit
-      ∙ box_deviation net step xs js ys l box,
+  states_cost net.nodes copies_at lone us ons fit ∙ box_deviation net step xs js ys l box,
 )
   where
     us : List ArcUnit

@@ -94,8 +94,7 @@ rung_links : (n m fresh r : ℕ) (before : Option ℕ) → r < m → m ≤ fresh
     → AreLinks n (rung before fresh r)
 rung_links n m fresh r before low le past lt =
     let last : AreLinks n (link fresh (fresh + 1) (pos 0) ∷ []) = ((omega arith, omega arith, λ e. omega arith), tt) in
-    let up : AreLinks n (link_from before fresh) = from_links n m fresh fresh before past (omega arith) (omega arith)
-    (inr (omega arith)) in
+    let up = from_links n m fresh fresh before past (omega arith) (omega arith) (inr (omega arith)) in
     links_append n (link_from before r) _ (from_links n m fresh r before past (omega arith) (omega arith) (inl low))
     ((omega arith, omega arith, λ e. omega arith), links_append n (link_from before fresh) _ up last)
 
@@ -125,8 +124,7 @@ pub graph_lawful : (nodes : ℕ) (copies_at : ℕ → ℕ) (lone : Bool) (us : L
 graph_lawful nodes copies_at lone us at = record {
   left = λ k l. (each k l).0;
   right = λ k l. (each k l).1;
-  apart =
-      λ k l. (each k l).2;
+  apart = λ k l. (each k l).2;
 }
   where
     n : ℕ
@@ -136,8 +134,7 @@ graph_lawful nodes copies_at lone us at = record {
     inner = count_below copies_at nodes + count unit_size us
 
     past : (o : Bool) → IsPast inner (inner + cond o 1 0) (cond o (Some inner) None)
-    past true = (omega arith, omega arith)
-    past false = tt
+    past = elim [ true ↦ (omega arith, omega arith) | false ↦ tt ]
 
     all : AreLinks n (graph_by nodes copies_at lone us).edges
     all = links_append n (units_links copies_at (count_below copies_at nodes) us) _

@@ -2,7 +2,7 @@
 use Rattle.std.proofs.Common.{◌≡◌, ◌≢◌, ℕ, ◌+◌, ◌<◌, ◌≤◌, Bool, true, false, cond, ◌==◌, List, [], ◌∷◌, ◌++◌, length}
 use Rattle.std.proofs.Common.{append_assoc, arith}
 use Rattle.std.proofs.lemmas.{Bool.cases_Bool, Int.ints}
-use Rattle.std.proofs.Common.{drop, Option, Some, None, ℤ, pos, ◌+ℤ◌, ◌*ℤ◌, refl, sym, ◌∙◌, ap, subst, eq-eqb, ne_eqb}
+use Rattle.std.proofs.Common.{drop, Option, Some, None, ℤ, pos, ◌+ℤ◌, ◌*ℤ◌, refl, sym, ◌∙◌, ap, eq-eqb, ne_eqb}
 use Rattle.std.proofs.Common.{inl, inr}
 use Rattle.std.proofs.Math.IntN.{*ℤ-zero}
 use Rattle.def_math.specs.{Sums.total_below, Counts.count, Counts.count_below}
@@ -267,8 +267,7 @@ next_rim b u us rs h = by_right u.right h.is
     by_right (Some right) e = record {
       prefix = h.prefix;
       below = below_more b _ h.prefix (omega arith) h.below;
-      is =
-          e;
+      is = e;
     }
 
 -- The units from b on, with what stays the same from unit to unit: the rest of the graph.
@@ -288,8 +287,7 @@ module _ (n nodes : ℕ) (copies_at : ℕ → ℕ) (m : ℕ) (rs : List ℕ) (re
         (units_zero (only d) nodes copies_at (λ k l. only_there d k (λ e. omega arith)) (b + unit_size u) us at
         (λ k l. only_there d k (λ e. omega arith))),
     picked_zero (only d) rms rest
-        (nothing (only d) (subst (λ (xs : List ℕ). AreNil (only d) xs) (sym has.is)
-        (nil_append (only d) has.prefix _ (nil_below (only d) b has.prefix has.below
+        (nothing (only d) (rw has.is (nil_append (only d) has.prefix _ (nil_below (only d) b has.prefix has.below
         (λ k l. only_there d k (λ e. omega arith))) nil)) (λ k l. only_there d k (λ e. omega arith))),
     only_total n d (omega arith),
   )

@@ -94,5 +94,4 @@ at_places h d k (m ∷ ms) (x ∷ xs) l same =
 
     by_mark : (b : Bool) → map h (places (k + 1) ms) ≡ chosen ms xs → map h (keep b k (places (k + 1) ms))
         ≡ keep b x (chosen ms xs)
-    by_mark true rest = rw (here, rest) refl
-    by_mark false rest = rest
+    by_mark = elim [ true ↦ λ rest. rw (here, rest) refl | false ↦ λ rest. rest ]

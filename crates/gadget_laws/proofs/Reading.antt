@@ -36,23 +36,21 @@ places_marks : (k n : ℕ) (m : List ℕ) → IsIncreasing k (k + n) m → place
 places_marks k zero [] increasing = refl
 places_marks k zero (e ∷ m) increasing = absurd (omega (arith, increasing.0, increasing.1))
 places_marks k (suc n) [] increasing = places_marks (k + 1) n [] tt
-places_marks k (suc n) (e ∷ m) increasing = by_first (cases_eq e k) (places_marks (k + 1) n)
+places_marks k (suc n) (e ∷ m) increasing =
+    let ih = places_marks (k + 1) n in
+    elim (cases_eq e k) [
+      | inl here ↦
+          let rest = subst (λ (h : ℕ). IsIncreasing (k + 1) h m) high (rw here at increasing.2) in
+          rw (eq-eqb e k here) (ap (λ l. k ∷ l) (ih m rest) ∙ ap (λ j. j ∷ m) (sym here))
+      | inr later ↦ rw (ne_eqb e k later) (ih (e ∷ m) (
+        omega (arith, increasing.0),
+        omega (arith, increasing.1),
+        rw high at increasing.2,
+      ))
+    ]
   where
     high : k + suc n ≡ k + 1 + n
     high = omega arith
-
-    by_first : (e ≡ k) ⊎ (e ≢ k) → ((l : List ℕ) → IsIncreasing (k + 1) (k + 1 + n) l
-        → places (k + 1) (marks_from (k + 1) n l) ≡ l)
-        → keep (e == k) k (places (k + 1) (marks_from (k + 1) n (past (e == k) e m))) ≡ e ∷ m
-    by_first (inl here) ih =
-        let rest = subst (λ (h : ℕ). IsIncreasing (k + 1) h m) high (subst (λ (j : ℕ). IsIncreasing (j + 1) (k + suc n)
-        m) here increasing.2) in
-        rw (eq-eqb e k here) (ap (λ l. k ∷ l) (ih m rest) ∙ ap (λ j. j ∷ m) (sym here))
-    by_first (inr later) ih = rw (ne_eqb e k later) (ih (e ∷ m) (
-      omega (arith, increasing.0),
-      omega (arith, increasing.1),
-      subst (λ (h : ℕ). IsIncreasing (e + 1) h m) high increasing.2,
-    ))
 
 -- A weight that is 1 at the copies of node v and 0 elsewhere.
 abbrev at_copies : (ℕ → ℕ) → ℕ → ℕ → ℤ
@@ -65,16 +63,14 @@ less_total a (suc n) = grind (arith, ints, cases_lt n a, less_total a n)
 
 copies_total : (copies_at : ℕ → ℕ) (v n : ℕ) → count_below copies_at v + copies_at v ≤ n
     → total_below (at_copies copies_at v) n ≡ pos (copies_at v)
-copies_total copies_at v n le =
-    omega (
-      arith,
-      ints,
-      total_below_minus (λ k. pos (cond (nat_lt k (count_below copies_at v + copies_at v)) 1 0))
-          (λ k. pos (cond (nat_lt k (count_below copies_at v)) 1 0)) n,
-      less_total (count_below copies_at v + copies_at v)
-          n,
-      less_total (count_below copies_at v) n,
-    )
+copies_total copies_at v n le = omega (
+  arith,
+  ints,
+  total_below_minus (λ k. pos (cond (nat_lt k (count_below copies_at v + copies_at v)) 1 0))
+      (λ k. pos (cond (nat_lt k (count_below copies_at v)) 1 0)) n,
+  less_total (count_below copies_at v + copies_at v) n,
+  less_total (count_below copies_at v) n,
+)
 
 copies_past : (copies_at : ℕ → ℕ) (v nodes k : ℕ) → v < nodes → count_below copies_at nodes ≤ k
     → at_copies copies_at v k ≡ pos 0
@@ -109,8 +105,7 @@ copy_weight copies_at v u i l = by_order (cases_eq u v) (cases_lt u v)
           ne_eqb u v ne,
         ) refl
     by_order (inr ne) (inr after) =
-        let end : count_below copies_at v + copies_at v ≤ count_below copies_at u =
-        copies_below copies_at v u (omega arith) in
+        let end = copies_below copies_at v u (omega arith) in
         rw (
           le-ltb k (count_below copies_at v + copies_at v) (omega arith),
           le-ltb k (count_below copies_at v) (omega arith),
@@ -289,8 +284,7 @@ module _ (nodes : ℕ) (copies_at : ℕ → ℕ) (lone : Bool) (us : List ArcUni
   chosen_is : map (edge_at g) m ≡ chosen ms edges
   unfolding ms edges
   chosen_is =
-      let same = places_marks 0 (length edges) m (subst (λ (h : ℕ). IsIncreasing 0 h m) (sym (zero-add (length edges)))
-      perfect.increasing) in
+      let same = places_marks 0 (length edges) m (rw (zero-add (length edges)) perfect.increasing) in
       ap (map (edge_at g)) (sym same) ∙ at_places (edge_at g) (record { u = 0; v = 0; cost = pos 0 }) 0 ms edges
       (marks_length 0 (length edges) m) (λ j. ap (edge_at g) (zero-add j))
 
@@ -312,8 +306,7 @@ module _ (nodes : ℕ) (copies_at : ℕ → ℕ) (lone : Bool) (us : List ArcUni
       by_lone : (o : Bool) → IsPast (count_below copies_at nodes + count unit_size us)
           (count_below copies_at nodes + count unit_size us + cond o 1 0)
           (cond o (Some (count_below copies_at nodes + count unit_size us)) None)
-      by_lone true = (omega arith, omega arith)
-      by_lone false = tt
+      by_lone = elim [ true ↦ (omega arith, omega arith) | false ↦ tt ]
 
   rest_zero : RestZero inner (rim copies us) rest
   unfolding inner copies rest
@@ -327,9 +320,8 @@ module _ (nodes : ℕ) (copies_at : ℕ → ℕ) (lone : Bool) (us : List ArcUni
       (λ w low. sym (halves (at_ends w)) ∙ ends_weight w)
 
   -- The states that it tells fill the copies.
-  pub told_fills : (v : ℕ) → v < nodes
-      → active v us (states_told copies_at us (marks_from 0 (length (graph_by nodes copies_at lone us).edges) m))
-      ≡ copies_at v
+  pub told_fills : (v : ℕ) → v < nodes → active v us
+      (states_told copies_at us (marks_from 0 (length (graph_by nodes copies_at lone us).edges) m)) ≡ copies_at v
   unfolding copies inner ms
   told_fills v l = omega (
     arith,

@@ -75,7 +75,18 @@ floor_low nodes (a ∷ arcs) h (suc k) l = floor_low nodes arcs
 -- No node has a single end: the other side would have the sum 0.
 no_single : (net : Network) (xs : List ℕ) → IsWithinBounds net → length xs ≡ length net.arcs
     → IsAdmissible net (entries xs) → (v : ℕ) → degree net.arcs v ≢ 1
-no_single net xs bounds l a v single = by_side (cases_eq (ends_on v true net.arcs) 0)
+no_single net xs bounds l a v single = elim (cases_eq (ends_on v true net.arcs) 0) [
+  | inl none ↦ omega (
+    arith,
+    single,
+    degree_sides v net.arcs,
+    equal,
+    weighted_none v true net.arcs xs none,
+    weighted_high v false net.arcs xs l high,
+  )
+  | inr some ↦ (let none : ends_on v false net.arcs ≡ 0 = omega (arith, single, some, degree_sides v net.arcs) in
+      omega (arith, equal, some, weighted_none v false net.arcs xs none, weighted_high v true net.arcs xs l high))
+]
   where
     high : (k : ℕ) → k < length xs → pos 1 ≤ℤ entries xs k
     high k lk = (let at : k < length net.arcs = omega (arith, l) in
@@ -83,19 +94,6 @@ no_single net xs bounds l a v single = by_side (cases_eq (ends_on v true net.arc
 
     equal : weighted_ends v true net.arcs xs ≡ weighted_ends v false net.arcs xs
     equal = balanced_list net.arcs xs l a.balanced v
-
-    by_side : (ends_on v true net.arcs ≡ 0) ⊎ (ends_on v true net.arcs ≢ 0) → ⊥
-    by_side (inl none) = omega (
-      arith,
-      single,
-      degree_sides v net.arcs,
-      equal,
-      weighted_none v true net.arcs xs none,
-      weighted_high v false net.arcs xs l high,
-    )
-    by_side (inr some) = (let none : ends_on v false net.arcs ≡ 0 =
-        omega (arith, single, some, degree_sides v net.arcs) in
-        omega (arith, equal, some, weighted_none v false net.arcs xs none, weighted_high v true net.arcs xs l high))
 
 -- A node has at most two copies for each of its ends.
 caps_ends : (net : Network) (step v : ℕ) (arcs : List Arc) (xs : List ℕ) → length xs ≡ length arcs
@@ -119,15 +117,13 @@ downs_ends net step v (a ∷ arcs) (x ∷ xs) =
 
 pub count_low : (net : Network) (step : ℕ) (xs : List ℕ) → length xs ≡ length net.arcs → (v : ℕ)
     → active v (units net step net.arcs xs) (states_at net step xs) ≤ 2 * degree net.arcs v
-count_low net step xs l v =
-    omega (
-      arith,
-      degree_sides v net.arcs,
-      box_active net step v net.arcs xs (arcwise (down step) net.arcs xs) xs
-          (own_box step net.arcs xs l),
-      caps_ends net step v net.arcs xs l,
-      downs_ends net step v net.arcs xs,
-    )
+count_low net step xs l v = omega (
+  arith,
+  degree_sides v net.arcs,
+  box_active net step v net.arcs xs (arcwise (down step) net.arcs xs) xs (own_box step net.arcs xs l),
+  caps_ends net step v net.arcs xs l,
+  downs_ends net step v net.arcs xs,
+)
 
 -- All ends, and what f is along them.
 abbrev along_ends : (ℕ → ℕ) → List Arc → ℕ
@@ -151,10 +147,9 @@ arc_exchange f nodes left None at =
     count_below_same _ _ nodes (λ v l. omega (arith, add-mul (cond (left.node == v) 1 0) 0 (f v))) in
     omega (arith, same, one_node f nodes left.node at)
 arc_exchange f nodes left (Some right) at =
-    let same : count_below (λ v. (cond (left.node == v) 1 0 + (cond (right.node == v) 1 0 + 0)) * f v) nodes
-    ≡ count_below (λ v. cond (left.node == v) 1 0 * f v + cond (right.node == v) 1 0 * f v) nodes =
-    count_below_same _ _ nodes
-    (λ v l. omega (
+    let same : count_below (λ v. (cond (left.node == v) 1 0 + (cond (right.node == v) 1 0 + 0)) * f v)
+    nodes ≡ count_below (λ v. cond (left.node == v) 1 0 * f v + cond (right.node == v) 1 0 * f v)
+    nodes = count_below_same _ _ nodes (λ v l. omega (
       arith,
       add-mul (cond (left.node == v) 1 0) (cond (right.node == v) 1 0 + 0) (f v),
       add-mul (cond (right.node == v) 1 0) 0 (f v),
@@ -162,8 +157,7 @@ arc_exchange f nodes left (Some right) at =
     omega (
       arith,
       same,
-      count_below_sum (λ v. cond (left.node == v) 1 0 * f v) (λ v. cond (right.node == v) 1 0 * f v)
-          nodes,
+      count_below_sum (λ v. cond (left.node == v) 1 0 * f v) (λ v. cond (right.node == v) 1 0 * f v) nodes,
       one_node f nodes left.node at.0,
       one_node f nodes right.node at.1,
     )
@@ -204,13 +198,11 @@ tangle_high net at several = omega (
 )
   where
     each : (v : ℕ) → 32 * degree net.arcs v ≤ 16 * (degree net.arcs v * degree net.arcs v)
-    each v = by_degree (cases_eq (degree net.arcs v) 0)
-      where
-        by_degree : (degree net.arcs v ≡ 0) ⊎ (degree net.arcs v ≢ 0)
-            → 32 * degree net.arcs v ≤ 16 * (degree net.arcs v * degree net.arcs v)
-        by_degree (inl none) = omega (arith, none)
-        by_degree (inr some) = (let h : 2 * degree net.arcs v ≤ degree net.arcs v * degree net.arcs v =
-            mul-le-mul_right (degree net.arcs v) (omega (arith, several v)) in omega (arith, h))
+    each v = elim (cases_eq (degree net.arcs v) 0) [
+      | inl none ↦ omega (arith, none)
+      | inr some ↦ (let h : 2 * degree net.arcs v ≤ degree net.arcs v * degree net.arcs v =
+          mul-le-mul_right (degree net.arcs v) (omega (arith, several v)) in omega (arith, h))
+    ]
 
 -- Whether a unit has one end, as 1 or 0.
 abbrev lone_by : Option End → ℕ
@@ -243,13 +235,12 @@ rung_low before fresh r = grind (arith)
 rim_low : (before : Option ℕ) (fresh : ℕ) (rs : List ℕ) → length (rim_links before fresh rs) ≤ 4 * length rs
 rim_low before fresh [] = omega arith
 rim_low before fresh (r ∷ []) = omega (arith, from_low before r)
-rim_low before fresh (r ∷ s ∷ rs) =
-    omega (
-      arith,
-      length-append (rung before fresh r) (rim_links (Some (fresh + 1)) (fresh + 2) (s ∷ rs)),
-      rung_low before fresh r,
-      rim_low (Some (fresh + 1)) (fresh + 2) (s ∷ rs),
-    )
+rim_low before fresh (r ∷ s ∷ rs) = omega (
+  arith,
+  length-append (rung before fresh r) (rim_links (Some (fresh + 1)) (fresh + 2) (s ∷ rs)),
+  rung_low before fresh r,
+  rim_low (Some (fresh + 1)) (fresh + 2) (s ∷ rs),
+)
 
 -- Of each arc there are at most four units, all of its shape.
 shape_count : (g : End → Option End → ℕ) (net : Network) (step : ℕ) (a : Arc) (x k n : ℕ)
@@ -319,13 +310,12 @@ width_low copies_at left right = grind (arith)
 widths_split : (copies_at : ℕ → ℕ) (b : ℕ) (us : List ArcUnit) → count (λ u. width_and_rim copies_at u.left u.right) us
     ≡ length (units_links copies_at b us) + 4 * count is_lone us
 widths_split copies_at b [] = refl
-widths_split copies_at b (u ∷ us) =
-    omega (
-      arith,
-      length-append (unit_links copies_at b u) (units_links copies_at (b + unit_size u) us),
-      links_width copies_at b u.cost u.left u.right,
-      widths_split copies_at (b + unit_size u) us,
-    )
+widths_split copies_at b (u ∷ us) = omega (
+  arith,
+  length-append (unit_links copies_at b u) (units_links copies_at (b + unit_size u) us),
+  links_width copies_at b u.cost u.left u.right,
+  widths_split copies_at (b + unit_size u) us,
+)
 
 -- The bounds.
 pub size_law : (net : Network) (step : ℕ) (xs : List ℕ) → IsWithinBounds net → length xs ≡ length net.arcs
@@ -354,23 +344,21 @@ size_law net step xs bounds l a = (omega (arith, copies, vertices, tangle), omeg
     copies : count_below copies_at net.nodes ≤ 2 * all_ends net.arcs
     copies = omega (
       arith,
-      count_below_le copies_at (λ v. 2 * degree net.arcs v) net.nodes
-          (λ v lv. count_low net step xs l v),
+      count_below_le copies_at (λ v. 2 * degree net.arcs v) net.nodes (λ v lv. count_low net step xs l v),
       count_below_times 2 (degree net.arcs) net.nodes,
       degrees_sum net.nodes net.arcs at,
     )
 
     pairs_low : cond lone 1 0 + 2 * (length (rim (count_below copies_at net.nodes) us) - 1) ≤ m + m
-    pairs_low = by_rim (cases_eq m 0)
-      where
-        by_rim : (m ≡ 0) ⊎ (m ≢ 0) → cond lone 1 0 + 2 * (length (rim (count_below copies_at net.nodes) us) - 1) ≤ m + m
-        by_rim (inl none) =
-            let even : ◌≡◌ {A = ℕ} (rim_active us (states_at net step xs) % 2) 0 =
-            omega (arith, none, rim_active_low us (states_at net step xs)) in
-            let off : ◌≡◌ {A = ℕ} (cond lone 1 0) 0 =
-            rw (ne_eqb (rim_active us (states_at net step xs) % 2) 1 (λ e. omega (arith, even, e))) refl in
-            omega (arith, off, none, rim_count (count_below copies_at net.nodes) us)
-        by_rim (inr some) = omega (arith, some, once_at_most lone, rim_count (count_below copies_at net.nodes) us)
+    pairs_low = elim (cases_eq m 0) [
+      | inl none ↦
+          let even : ◌≡◌ {A = ℕ} (rim_active us (states_at net step xs) % 2) 0 =
+          omega (arith, none, rim_active_low us (states_at net step xs)) in
+          let off : ◌≡◌ {A = ℕ} (cond lone 1 0) 0 =
+          rw (ne_eqb (rim_active us (states_at net step xs) % 2) 1 (λ e. omega (arith, even, e))) refl in
+          omega (arith, off, none, rim_count (count_below copies_at net.nodes) us)
+      | inr some ↦ omega (arith, some, once_at_most lone, rim_count (count_below copies_at net.nodes) us)
+    ]
 
     vertices : (matching_graph net step xs).n ≤ count_below copies_at net.nodes + 16 * all_ends net.arcs
     vertices = omega (
@@ -407,9 +395,8 @@ size_law net step xs bounds l a = (omega (arith, copies, vertices, tangle), omeg
     )
       where
         each : (v : ℕ) → 32 * (degree net.arcs v * copies_at v) ≤ 4 * (16 * (degree net.arcs v * degree net.arcs v))
-        each v =
-            omega (
-              arith,
-              mul-le-mul_left (degree net.arcs v) (count_low net step xs l v),
-              mul_left_comm (degree net.arcs v) 2 (degree net.arcs v),
-            )
+        each v = omega (
+          arith,
+          mul-le-mul_left (degree net.arcs v) (count_low net step xs l v),
+          mul_left_comm (degree net.arcs v) 2 (degree net.arcs v),
+        )

@@ -45,14 +45,12 @@ near_one a y x high own near =
     (omega (arith, ints, steps), omega (arith, ints, steps))
 
 near_box : (arcs : List Arc) (f : ℕ → ℤ) (xs : List ℕ) → length xs ≡ length arcs
-    → IsNear (λ k. (arc_at arcs k).floor) f xs
-    → IsRaised 1 arcs xs (units_on arcs f xs) (listed f xs)
+    → IsNear (λ k. (arc_at arcs k).floor) f xs → IsRaised 1 arcs xs (units_on arcs f xs) (listed f xs)
 near_box [] f [] l near = tt
 near_box (a ∷ arcs) f (x ∷ xs) l near = (
   here.0,
   here.1,
-  near_box arcs (λ k. f (suc k)) xs (omega arith)
-      (λ k lk. near (suc k) (omega arith)),
+  near_box arcs (λ k. f (suc k)) xs (omega arith) (λ k lk. near (suc k) (omega arith)),
 )
   where
     first : (pos a.floor ≤ℤ f 0) × (pos a.floor ≤ℤ pos x) × (unsigned_abs (f 0 -ℤ pos x) ≤ 2)
@@ -121,8 +119,7 @@ near_not_better net c bounds accepted f af near = omega (
 pub sound : (net : Network) (c : Certificate) → IsWithinBounds net → IsAccepted net c → IsLeast net (entries c.x)
 sound net c bounds accepted = record {
   admissible = accepted.admissible;
-  least =
-      λ other ao. least other ao (cases_lt (deviation net other) (deviation net (entries c.x)));
+  least = λ other ao. least other ao (cases_lt (deviation net other) (deviation net (entries c.x)));
 }
   where
     least : (other : ℕ → ℤ) → IsAdmissible net other → (deviation net other < deviation net (entries c.x))

@@ -39,8 +39,12 @@ in_box step [] (x ∷ xs) ys some l are = absurd (omega arith)
 in_box step (a ∷ arcs) [] ys some l are = absurd (omega arith)
 in_box step (a ∷ arcs) (x ∷ xs) [] some l are = let count : 0 ≡ suc (length (arcwise (low step) arcs xs)) = are.count in
     absurd (omega arith)
-in_box step (a ∷ arcs) (x ∷ xs) (y ∷ ys) some l are = at_head (are.each 0 (omega arith))
-    (in_box step arcs xs ys some (omega arith) rest)
+in_box step (a ∷ arcs) (x ∷ xs) (y ∷ ys) some l are =
+    let e = are.each 0 (omega arith) in
+    let up : (y - low step a x) / step ≡ e.up = step_up e.up step (low step a x) y some e.is in
+    let high : (y - low step a x) / step ≤ cap step a x = omega (arith, up, e.few) in
+    let place = e.is ∙ ap (λ j. low step a x + j * step) (sym up) in
+    (high, place, (in_box step arcs xs ys some (omega arith) rest))
   where
     rest : IsInBox step (arcwise (low step) arcs xs) (arcwise (cap step) arcs xs) ys
     rest = record {
@@ -48,16 +52,6 @@ in_box step (a ∷ arcs) (x ∷ xs) (y ∷ ys) some l are = at_head (are.each 0 
           omega arith);
       each = λ k l. are.each (suc k) (omega arith);
     }
-
-    at_head : IsStepUp (low step a x) (cap step a x) step y
-        → IsRaised step arcs xs (ups step (arcwise (low step) arcs xs) ys) ys
-        → IsRaised step (a ∷ arcs) (x ∷ xs) (ups step (arcwise (low step) (a ∷ arcs) (x ∷ xs)) (y ∷ ys)) (y ∷ ys)
-    at_head e after =
-        let up : (y - low step a x) / step ≡ e.up = step_up e.up step (low step a x) y some e.is in
-        let high : (y - low step a x) / step ≤ cap step a x = omega (arith, up, e.few) in
-        let place : y ≡ low step a x + (y - low step a x) / step * step =
-        e.is ∙ ap (λ j. low step a x + j * step) (sym up) in
-        (high, place, after)
 
 -- The other way round.
 raised_each : (step : ℕ) (arcs : List Arc) (xs js ys : List ℕ) → IsRaised step arcs xs js ys → (k : ℕ) → k < length ys
@@ -70,11 +64,8 @@ raised_each step (a ∷ arcs) (x ∷ xs) (j ∷ js) (y ∷ ys) raised (suc k) l 
 raised_each step _ _ _ _ raised k l = absurd raised
 
 pub raised_in_box : (step : ℕ) (arcs : List Arc) (xs js ys : List ℕ) → length xs ≡ length arcs
-    → IsRaised step arcs xs js ys
-    → IsInBox step (arcwise (low step) arcs xs) (arcwise (cap step) arcs xs) ys
-raised_in_box step arcs xs js ys l raised =
-    record {
-      count = box_length step arcs xs js ys raised ∙ sym (arcwise_length (low step) arcs xs l);
-      each =
-          raised_each step arcs xs js ys raised;
-    }
+    → IsRaised step arcs xs js ys → IsInBox step (arcwise (low step) arcs xs) (arcwise (cap step) arcs xs) ys
+raised_in_box step arcs xs js ys l raised = record {
+  count = box_length step arcs xs js ys raised ∙ sym (arcwise_length (low step) arcs xs l);
+  each = raised_each step arcs xs js ys raised;
+}

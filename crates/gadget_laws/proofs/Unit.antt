@@ -76,36 +76,31 @@ right_free copies_at used on left right free a =
 
 -- What is picked at a unit, for any f, by the shape of the unit.
 abbrev pub picked_unit : (WEdge → ℤ) → (ℕ → ℕ) → (ℕ → ℕ) → ℕ → ℤ → Bool → End → Option End → ℤ
-picked_unit f copies_at used b c on left None =
-    cond (is_active on left) (f (link b (count_below copies_at left.node + used left.node) (cond left.plus c (pos 0))))
-    (pos 0)
-    +ℤ cond (not (is_active on left)) (f (inner_link b c left)) (pos 0)
+picked_unit f copies_at used b c on left None = cond (is_active on left)
+    (f (link b (count_below copies_at left.node + used left.node) (cond left.plus c (pos 0)))) (pos 0) +ℤ cond
+    (not (is_active on left)) (f (inner_link b c left)) (pos 0)
 picked_unit f copies_at used b c on left (Some right) = cond (are_alike left right)
     (cond (is_active on left) (f (link b (count_below copies_at left.node + used left.node) (cond left.plus c (pos 0))))
-    (pos 0)
-    +ℤ (cond (is_active on right)
-    (f (link (b + 1) (count_below copies_at right.node + take_end used (is_active on left) left right.node)
-    (cond right.plus (pos 0) (pos 0)))) (pos 0)
-    +ℤ cond (not (is_active on left)) (f (inner_link b c left)) (pos 0)))
+    (pos 0) +ℤ (cond (is_active on right) (f (link (b + 1)
+    (count_below copies_at right.node + take_end used (is_active on left) left right.node)
+    (cond right.plus (pos 0) (pos 0)))) (pos 0) +ℤ cond (not (is_active on left)) (f (inner_link b c left)) (pos 0)))
     (cond (is_active on left) (f (link b (count_below copies_at left.node + used left.node) (cond left.plus c (pos 0))))
-    (pos 0)
-    +ℤ cond (is_active on right)
-    (f (link b (count_below copies_at right.node + take_end used (is_active on left) left right.node)
-    (cond right.plus c (pos 0)))) (pos 0))
+    (pos 0) +ℤ cond (is_active on right) (f (link b
+    (count_below copies_at right.node + take_end used (is_active on left) left right.node) (cond right.plus c (pos 0))))
+    (pos 0))
 
 pub pick_unit : (f : WEdge → ℤ) (copies_at used : ℕ → ℕ) (b : ℕ) (c : ℤ) (on : Bool) (left : End) (right : Option End)
     → ((v : ℕ) → used v + ends_active v on left right ≤ copies_at v)
     → picked f (marks_by copies_at used on left right) (links_by copies_at b c left right)
     ≡ picked_unit f copies_at used b c on left right
-pick_unit f copies_at used b c on left None free =
-    omega (
-      arith,
-      ints,
-      pick_append f (end_marks copies_at used (is_active on left) left) (not (is_active on left) ∷ [])
-          (to_copies copies_at b c left) (inner_link b c left ∷ []) (end_length copies_at used (is_active on left) left
-          b c),
-      pick_end f copies_at used (is_active on left) left b c (left_free copies_at used on left None free),
-    )
+pick_unit f copies_at used b c on left None free = omega (
+  arith,
+  ints,
+  pick_append f (end_marks copies_at used (is_active on left) left) (not (is_active on left) ∷ [])
+      (to_copies copies_at b c left) (inner_link b c left ∷ []) (end_length copies_at used (is_active on left) left
+      b c),
+  pick_end f copies_at used (is_active on left) left b c (left_free copies_at used on left None free),
+)
 pick_unit f copies_at used b c on left (Some right) free = elim (cases_Bool (are_alike left right)) [
   | inl e ↦ rw e (omega (
     arith,
@@ -144,8 +139,7 @@ pick_unit f copies_at used b c on left (Some right) free = elim (cases_Bool (are
         free)
 
     second_picked : (u : ℕ) (d : ℤ) → picked f (end_marks copies_at next (is_active on right) right)
-        (to_copies copies_at u d right)
-        ≡ cond (is_active on right)
+        (to_copies copies_at u d right) ≡ cond (is_active on right)
         (f (link u (count_below copies_at right.node + next right.node) (cond right.plus d (pos 0)))) (pos 0)
     second_picked u d =
         pick_end f copies_at next (is_active on right) right u d (right_free copies_at used on left right free)
@@ -163,15 +157,14 @@ pub unit_weight : (w : ℕ → ℤ) (nodes : ℕ) (copies_at used : ℕ → ℕ)
     (right : Option End) → EndsBelow nodes left right → ((v : ℕ) → used v + ends_active v on left right ≤ copies_at v)
     → picked (at_ends w) (marks_by copies_at used on left right) (links_by copies_at b c left right) +ℤ held nodes
     copies_at w used ≡ own w b on left right +ℤ held nodes copies_at w (λ v. used v + ends_active v on left right)
-unit_weight w nodes copies_at used b c on left None ends free =
-    omega (
-      arith,
-      ints,
-      pick_unit (at_ends w) copies_at used b c on left None free,
-      held_end nodes copies_at w used (is_active on left) left ends,
-      same,
-      by_active (is_active on left),
-    )
+unit_weight w nodes copies_at used b c on left None ends free = omega (
+  arith,
+  ints,
+  pick_unit (at_ends w) copies_at used b c on left None free,
+  held_end nodes copies_at w used (is_active on left) left ends,
+  same,
+  by_active (is_active on left),
+)
   where
     same : held nodes copies_at w (λ v. used v + ends_active v on left None)
         ≡ held nodes copies_at w (take_end used (is_active on left) left)
@@ -184,16 +177,15 @@ unit_weight w nodes copies_at used b c on left None ends free =
     by_active : (a : Bool) → cond a (w b +ℤ x) (pos 0) +ℤ cond (not a) (w b +ℤ w (b + 1)) (pos 0)
         ≡ (w b +ℤ cond a (pos 0) (w (b + 1))) +ℤ cond a x (pos 0)
     by_active a = grind (arith, ints)
-unit_weight w nodes copies_at used b c on left (Some right) ends free =
-    omega (
-      arith,
-      ints,
-      pick_unit (at_ends w) copies_at used b c on left (Some right) free,
-      held_end nodes copies_at w used (is_active on left) left ends.0,
-      held_end nodes copies_at w next (is_active on right) right ends.1,
-      same,
-      by_alike (are_alike left right) refl,
-    )
+unit_weight w nodes copies_at used b c on left (Some right) ends free = omega (
+  arith,
+  ints,
+  pick_unit (at_ends w) copies_at used b c on left (Some right) free,
+  held_end nodes copies_at w used (is_active on left) left ends.0,
+  held_end nodes copies_at w next (is_active on right) right ends.1,
+  same,
+  by_alike (are_alike left right) refl,
+)
   where
     next : ℕ → ℕ
     next = take_end used (is_active on left) left
@@ -225,11 +217,10 @@ unit_weight w nodes copies_at used b c on left (Some right) ends free =
     either false false e = absurd (true≢false (sym e))
 
     by_alike : (alike : Bool) → are_alike left right ≡ alike
-        → cond alike (cond (is_active on left) (w b +ℤ x) (pos 0) +ℤ (cond (is_active on right) (w (b + 1) +ℤ y) (pos 0)
-        +ℤ cond (not (is_active on left)) (w b +ℤ w (b + 1)) (pos 0)))
-        (cond (is_active on left) (w b +ℤ x) (pos 0) +ℤ cond (is_active on right) (w b +ℤ y) (pos 0))
-        ≡ cond alike (w b +ℤ w (b + 1)) (w b) +ℤ (cond (is_active on left) x (pos 0) +ℤ cond (is_active on right) y
-        (pos 0))
+        → cond alike (cond (is_active on left) (w b +ℤ x) (pos 0) +ℤ
+        (cond (is_active on right) (w (b + 1) +ℤ y) (pos 0) +ℤ cond (not (is_active on left)) (w b +ℤ w (b + 1))
+        (pos 0))) (cond (is_active on left) (w b +ℤ x) (pos 0) +ℤ cond (is_active on right) (w b +ℤ y) (pos 0)) ≡ cond
+        alike (w b +ℤ w (b + 1)) (w b) +ℤ (cond (is_active on left) x (pos 0) +ℤ cond (is_active on right) y (pos 0))
     by_alike true e = both (is_active on left) (is_active on right) (alike_active on left right e)
     by_alike false e = either (is_active on left) (is_active on right) (unlike_active on left right e)
 
@@ -246,31 +237,28 @@ unit_cost copies_at used b c on left (Some right) free = pick_unit (λ e. e.cost
 -- A unit has as many marks as edges.
 pub unit_length : (copies_at used : ℕ → ℕ) (b : ℕ) (c : ℤ) (on : Bool) (left : End) (right : Option End)
     → length (marks_by copies_at used on left right) ≡ length (links_by copies_at b c left right)
-unit_length copies_at used b c on left None =
-    omega (
-      arith,
-      length-append (end_marks copies_at used (is_active on left) left) (not (is_active on left) ∷ []),
-      length-append (to_copies copies_at b c left) (inner_link b c left ∷ []),
-      end_length copies_at used (is_active on left) left b c,
-    )
-unit_length copies_at used b c on left (Some right) =
-    grind (
-      arith,
-      ints,
-      length-append (end_marks copies_at used (is_active on left) left)
-          (end_marks copies_at next (is_active on right) right ++ not (is_active on left) ∷ []),
-      length-append (end_marks copies_at next (is_active on right) right) (not (is_active on left) ∷ []),
-      length-append (to_copies copies_at b c left) (to_copies copies_at (b + 1) (pos 0) right ++ inner_link b c left
-          ∷ []),
-      length-append (to_copies copies_at (b + 1) (pos 0) right) (inner_link b c left ∷ []),
-      end_length copies_at used (is_active on left) left b c,
-      end_length copies_at next (is_active on right) right
-          (b + 1) (pos 0),
-      length-append (end_marks copies_at used (is_active on left) left)
-          (end_marks copies_at next (is_active on right) right),
-      length-append (to_copies copies_at b c left) (to_copies copies_at b c right),
-      end_length copies_at next (is_active on right) right b c,
-    )
+unit_length copies_at used b c on left None = omega (
+  arith,
+  length-append (end_marks copies_at used (is_active on left) left) (not (is_active on left) ∷ []),
+  length-append (to_copies copies_at b c left) (inner_link b c left ∷ []),
+  end_length copies_at used (is_active on left) left b c,
+)
+unit_length copies_at used b c on left (Some right) = grind (
+  arith,
+  ints,
+  length-append (end_marks copies_at used (is_active on left) left)
+      (end_marks copies_at next (is_active on right) right ++ not (is_active on left) ∷ []),
+  length-append (end_marks copies_at next (is_active on right) right) (not (is_active on left) ∷ []),
+  length-append (to_copies copies_at b c left) (to_copies copies_at (b + 1) (pos 0) right ++ inner_link b c left
+      ∷ []),
+  length-append (to_copies copies_at (b + 1) (pos 0) right) (inner_link b c left ∷ []),
+  end_length copies_at used (is_active on left) left b c,
+  end_length copies_at next (is_active on right) right (b + 1) (pos 0),
+  length-append (end_marks copies_at used (is_active on left) left)
+      (end_marks copies_at next (is_active on right) right),
+  length-append (to_copies copies_at b c left) (to_copies copies_at b c right),
+  end_length copies_at next (is_active on right) right b c,
+)
   where
     next : ℕ → ℕ
     next = take_end used (is_active on left) left

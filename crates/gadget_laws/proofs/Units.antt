@@ -26,8 +26,7 @@ all_own w b on left None os rs = by_active (is_active on left)
   where
     by_active : (a : Bool) → (w b +ℤ cond a (pos 0) (w (b + 1))) +ℤ (cond a (w (b + 1)) (pos 0) +ℤ picked w os rs)
         ≡ (w b +ℤ (w (b + 1) +ℤ pos 0)) +ℤ picked w os rs
-    by_active true = omega (arith, ints)
-    by_active false = omega (arith, ints)
+    by_active = elim [ true ↦ omega (arith, ints) | false ↦ omega (arith, ints) ]
 all_own w b on left (Some right) os rs = grind (arith, ints)
 
 -- At the units all their vertices and the copies that they take get one mate each, but for those at the rim
@@ -43,9 +42,8 @@ units_weight w nodes copies_at used b (u ∷ us) (on ∷ ons) l at free =
     let next : ℕ → ℕ = λ v. used v + active_at v u on in
     let here : (v : ℕ) → used v + ends_active v on u.left u.right ≤ copies_at v = λ v. omega (arith, free v) in
     let there : (v : ℕ) → next v + active v us ons ≤ copies_at v = λ v. omega (arith, free v) in
-    let same : held nodes copies_at w (λ v. used v + (active_at v u on + active v us ons))
-    ≡ held nodes copies_at w (λ v. next v + active v us ons) =
-    held_same nodes copies_at w _ _ (λ v lv. omega arith) in
+    let same : held nodes copies_at w (λ v. used v + (active_at v u on + active v us ons)) ≡ held nodes copies_at w
+    (λ v. next v + active v us ons) = held_same nodes copies_at w _ _ (λ v lv. omega arith) in
     omega (
       arith,
       ints,

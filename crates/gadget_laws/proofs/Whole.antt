@@ -42,14 +42,13 @@ pub graph_total : (w : ℕ → ℤ) (nodes : ℕ) (copies_at : ℕ → ℕ) (lon
     ≡ ((total_below w (count_below copies_at nodes) +ℤ span w (count_below copies_at nodes) (count unit_size us)) +ℤ
     waiting w (lone_vertex nodes copies_at lone us) lone) +ℤ span w (first_fresh nodes copies_at lone us)
     (pairs (length (rim (count_below copies_at nodes) us)))
-graph_total w nodes copies_at lone us =
-    omega (
-      arith,
-      ints,
-      total_below_span w (first_fresh nodes copies_at lone us) (pairs (length (rim copies us))),
-      total_below_span w copies sizes,
-      by_lone lone,
-    )
+graph_total w nodes copies_at lone us = omega (
+  arith,
+  ints,
+  total_below_span w (first_fresh nodes copies_at lone us) (pairs (length (rim copies us))),
+  total_below_span w copies sizes,
+  by_lone lone,
+)
   where
     copies : ℕ
     copies = count_below copies_at nodes
@@ -64,8 +63,7 @@ graph_total w nodes copies_at lone us =
 
 pub lone_there : (nodes : ℕ) (copies_at : ℕ → ℕ) (lone : Bool) (us : List ArcUnit)
     → IsThere (lone_vertex nodes copies_at lone us) lone
-lone_there nodes copies_at true us = tt
-lone_there nodes copies_at false us = refl
+lone_there nodes copies_at = elim [ true ↦ λ us. tt | false ↦ λ us. refl ]
 
 module _ (nodes : ℕ) (copies_at : ℕ → ℕ) (lone : Bool) (us : List ArcUnit) (ons : List Bool)
     (fit : StatesFit nodes copies_at lone us ons) where
@@ -232,8 +230,7 @@ rim_parity nodes copies_at us ons other at l m fills fills_other = by_two (two o
           ),
         )
 
-    by_two : (k : ℕ) × (pos (2 * k) +ℤ pos (rim_active us ons) ≡ vertices)
-        → (k : ℕ) × (pos (2 * k) +ℤ pos (rim_active us other) ≡ vertices) → rim_active us ons % 2
-        ≡ rim_active us other % 2
+    by_two : (k : ℕ) × (pos (2 * k) +ℤ pos (rim_active us ons) ≡ vertices) → (k : ℕ)
+        × (pos (2 * k) +ℤ pos (rim_active us other) ≡ vertices) → rim_active us ons % 2 ≡ rim_active us other % 2
     by_two (k, e) (j, f) = (let same : 2 * k + rim_active us ons ≡ 2 * j + rim_active us other =
         omega (arith, ints, e, f) in omega (arith, same))
