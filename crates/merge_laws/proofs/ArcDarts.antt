@@ -29,12 +29,10 @@ other_way mesh s t n d o = (o.0, o.1, elim o.2 [ inl e ↦ inr e | inr e ↦ inl
 
 pub other_without : (mesh : HalfEdges) (cut rest : Cut) (s t n : ℕ) → IsWithout mesh cut rest s t n
     → IsWithout mesh cut rest t s n
-other_without mesh cut rest s t n without =
-    record {
-      gone = λ d o. without.gone d (other_way mesh t s n d o);
-      kept =
-          λ d l none. without.kept d l (λ o. none (other_way mesh s t n d o));
-    }
+other_without mesh cut rest s t n without = record {
+  gone = λ d o. without.gone d (other_way mesh t s n d o);
+  kept = λ d l none. without.kept d l (λ o. none (other_way mesh s t n d o));
+}
 
 -- Four faces go round a vertex, from wherever they are counted.
 pub cross_from : (mesh : HalfEdges) → IsQuadManifold mesh → (x d : ℕ) → x < mesh.count → d < mesh.count
@@ -57,7 +55,7 @@ cross_from mesh laws x d lx ld at cross = by_cross cross.0 cross.1 cross.2 cross
         by_one (inl e) = subst (λ (y : ℕ). HasCross mesh y) (sym e) (a, b, c, is)
         by_one (inr (inl e)) = subst (λ (y : ℕ). HasCross mesh y) (sym e) (b, c, x, second)
         by_one (inr (inr (inl e))) = subst (λ (y : ℕ). HasCross mesh y) (sym e) (c, x, a, third)
-        by_one (inr (inr (inr e))) = subst (λ (y : ℕ). HasCross mesh y) (sym e) (x, a, b, fourth)
+        by_one (inr (inr (inr e))) = rw e (x, a, b, fourth)
 
 module _ (mesh : HalfEdges) (laws : IsQuadManifold mesh) (cut : Cut) (full : IsCut mesh cut) where
   -- A joinable arc seen from its other side.
@@ -65,23 +63,20 @@ module _ (mesh : HalfEdges) (laws : IsQuadManifold mesh) (cut : Cut) (full : IsC
   turned_glued s t n g = record {
     near = g.far;
     far = g.near;
-    across =
-        λ k j e. laws.twin_twin (easts mesh s j) (easts mesh t k)
-        (side_low mesh laws cut full s n g.near j (omega arith))
-        (g.across j k (omega arith));
+    across = λ k j e. laws.twin_twin (easts mesh s j) (easts mesh t k)
+        (side_low mesh laws cut full s n g.near j (omega arith)) (g.across j k (omega arith));
   }
 
   pub turned_arc : (s t n : ℕ) → IsJoinable mesh cut s t n → IsJoinable mesh cut t s n
   turned_arc s t n arc = record {
     glued = turned_glued s t n arc.glued;
-    apart =
-        λ a. arc.apart (linked_back mesh laws cut full t s arc.glued.far.corner.0 a);
+    apart = λ a. arc.apart (linked_back mesh laws cut full t s arc.glued.far.corner.0 a);
   }
 
   pub on_low : (s t n : ℕ) → AreGlued mesh cut s t n → (d : ℕ) → IsOnArc mesh s t n d → d < mesh.count
   on_low s t n g d o = elim o.2 [
-    | inl e ↦ subst (λ (x : ℕ). x < mesh.count) (sym e) (side_low mesh laws cut full s n g.near o.0 o.1)
-    | inr e ↦ subst (λ (x : ℕ). x < mesh.count) (sym e) (side_low mesh laws cut full t n g.far o.0 o.1)
+    | inl e ↦ rw e (side_low mesh laws cut full s n g.near o.0 o.1)
+    | inr e ↦ rw e (side_low mesh laws cut full t n g.far o.0 o.1)
   ]
 
   pub on_cut : (s t n : ℕ) → AreGlued mesh cut s t n → (d : ℕ) → IsOnArc mesh s t n d → cut d ≡ true
@@ -93,21 +88,18 @@ module _ (mesh : HalfEdges) (laws : IsQuadManifold mesh) (cut : Cut) (full : IsC
   -- Its darts are paired.
   pub on_twin : (s t n : ℕ) → AreGlued mesh cut s t n → (d : ℕ) → IsOnArc mesh s t n d → (e : ℕ)
       × (mesh.twin d ≡ Some e) × IsOnArc mesh s t n e
-  on_twin s t n g d o = by_side o.0 o.1 o.2
-    where
-      by_side : (k : ℕ) → k < n → (d ≡ easts mesh s k) ⊎ (d ≡ easts mesh t k) → (e : ℕ) × (mesh.twin d ≡ Some e)
-          × IsOnArc mesh s t n e
-      by_side k l (inl e) = (
-        easts mesh t (n - suc k),
-        ap mesh.twin e ∙ g.across k (n - suc k) (omega arith),
-        (n - suc k, omega arith, inr refl),
-      )
-      by_side k l (inr e) = (
-        easts mesh s (n - suc k),
-        ap mesh.twin e
-            ∙ (turned_glued s t n g).across k (n - suc k) (omega arith),
-        (n - suc k, omega arith, inl refl),
-      )
+  on_twin s t n g d o = elim o.2 [
+    | inl e ↦ (
+      easts mesh t (n - suc o.0),
+      ap mesh.twin e ∙ g.across o.0 (n - suc o.0) (omega arith),
+      (n - suc o.0, omega arith, inr refl),
+    )
+    | inr e ↦ (
+      easts mesh s (n - suc o.0),
+      ap mesh.twin e ∙ (turned_glued s t n g).across o.0 (n - suc o.0) (omega arith),
+      (n - suc o.0, omega arith, inl refl),
+    )
+  ]
 
   -- No other side of a cell is a south side of its grid.
   pub never_south : (w h : ℕ) (cell : Cells) → IsGrid mesh cut w h cell → (q i a b : ℕ) → 0 < q → q < 4 → i < w → a < w

@@ -1,6 +1,6 @@
 -- Joinable arcs: those with a dart in common are one, each has a name, and those that come up are told by where they
 -- run.
-use Rattle.std.proofs.Common.{◌≡◌, ◌⊎◌, ℕ, zero, suc, ◌-◌, ◌<◌, ◌≤◌, Bool, true, false, sym, ◌∙◌, ap, subst, refl, inl}
+use Rattle.std.proofs.Common.{◌≡◌, ◌⊎◌, ℕ, zero, suc, ◌-◌, ◌<◌, ◌≤◌, Bool, true, false, sym, ◌∙◌, ap, refl, inl}
 use Rattle.std.proofs.Common.{inr, true≢false, arith}
 use Rattle.std.proofs.lemmas.Bool.{cases_Bool, cases_eq, cases_lt}
 use Rattle.std.proofs.lemmas.Option.{same_Some}
@@ -72,14 +72,12 @@ least_below f g (suc (suc n)) l = by_rest (least_below f g (suc n) (omega arith)
         at m is all (inl a) b (inr c) = (
           f (suc n),
           (suc n, omega arith, inl refl),
-          with_last (f (suc n)) (omega arith) c
-              (lower m (f (suc n)) (omega arith) all),
+          with_last (f (suc n)) (omega arith) c (lower m (f (suc n)) (omega arith) all),
         )
         at m is all a (inl b) (inl c) = (
           g (suc n),
           (suc n, omega arith, inr refl),
-          with_last (g (suc n)) (omega arith) (omega arith)
-              (lower m (g (suc n)) (omega arith) all),
+          with_last (g (suc n)) (omega arith) (omega arith) (lower m (g (suc n)) (omega arith) all),
         )
         at m is all (inl a) (inr b) (inl c) = absurd (omega arith)
         at m is all (inr a) (inl b) (inr c) = absurd (omega arith)
@@ -102,8 +100,7 @@ one_name mesh s t n a b one two = omega (arith, one.least b two.on, two.least a 
 pub name_other : (mesh : HalfEdges) (s t n a : ℕ) → IsNameOf mesh s t n a → IsNameOf mesh t s n a
 name_other mesh s t n a is = record {
   on = other_way mesh s t n a is.on;
-  least =
-      λ d o. is.least d (other_way mesh t s n d o);
+  least = λ d o. is.least d (other_way mesh t s n d o);
 }
 
 module _ (mesh : HalfEdges) (laws : IsQuadManifold mesh) (cut : Cut) (full : IsCut mesh cut) where
@@ -122,7 +119,7 @@ module _ (mesh : HalfEdges) (laws : IsQuadManifold mesh) (cut : Cut) (full : IsC
       → easts mesh s k ≡ easts mesh r j → (s ≡ r) × (t ≡ u) × (n ≡ m)
   one_near s t n r u m k j one two lk lj e =
       let start : s ≡ r = (one_place mesh laws cut full s n r m k j one.near two.near lk lj e).0 in
-      let f : (t ≡ u) × (n ≡ m) = one_far s t u n m one (subst (λ (x : ℕ). AreGlued mesh cut x u m) (sym start) two) in
+      let f : (t ≡ u) × (n ≡ m) = one_far s t u n m one (rw start two) in
       (start, f.0, f.1)
 
   -- Arcs with a dart in common are one.
@@ -151,62 +148,51 @@ module _ (mesh : HalfEdges) (laws : IsQuadManifold mesh) (cut : Cut) (full : IsC
     -- A cut dart that led into the arc arrived at one of its ends.
     over_end : (d : ℕ) → d < mesh.count → rest d ≡ true → IsOnArc mesh s t n (mesh.next d) → (d ≡ mesh.prev s)
         ⊎ (d ≡ mesh.prev t)
-    over_end d l on o = by_side o.0 o.1 o.2
+    over_end d l on o = elim o.2 [
+      | inl e ↦ inl (start s o.0 arc.glued.near o.1 e)
+      | inr e ↦ inr (start t o.0 arc.glued.far o.1 e)
+    ]
       where
         was : cut (mesh.prev (mesh.next d)) ≡ true
         was = ap cut (laws.prev_next d) ∙ less mesh laws cut rest s t n without d l on
 
         start : (c k : ℕ) → IsWholeSide mesh cut c n → k < n → mesh.next d ≡ easts mesh c k → d ≡ mesh.prev c
         start c k side lk e =
-            let zero_is : k ≡ 0 = first_place mesh laws cut full c n side k lk
-            (ap (λ x. cut (mesh.prev x)) (sym e) ∙ was) in
+            let zero_is = first_place mesh laws cut full c n side k lk (ap (λ x. cut (mesh.prev x)) (sym e) ∙ was) in
             sym (laws.prev_next d) ∙ ap mesh.prev (e ∙ ap (easts mesh c) zero_is)
-
-        by_side : (k : ℕ) → k < n → (mesh.next d ≡ easts mesh s k) ⊎ (mesh.next d ≡ easts mesh t k) → (d ≡ mesh.prev s)
-            ⊎ (d ≡ mesh.prev t)
-        by_side k lk (inl e) = inl (start s k arc.glued.near lk e)
-        by_side k lk (inr e) = inr (start t k arc.glued.far lk e)
 
     -- A whole side was one before, or it goes on over an end of the arc.
     side_before_or_over : (r m : ℕ) → IsWholeSide mesh rest r m → IsWholeSide mesh cut r m
         ⊎ ((k : ℕ) × (k < m) × ((mesh.prev s ≡ easts mesh r k) ⊎ (mesh.prev t ≡ easts mesh r k)))
     unfolding full_rest
-    side_before_or_over r m side = by_search (some_or_none (λ k. cut (mesh.next (easts mesh r k))) (m - 1))
+    side_before_or_over r m side = elim (some_or_none (λ k. cut (mesh.next (easts mesh r k))) (m - 1)) [
+      | inl f ↦ elim (on_or_not mesh s t n (mesh.next (easts mesh r f.0))) [
+        | inl o ↦ inr (
+          f.0,
+          omega arith,
+          elim (over_end (easts mesh r f.0) (low f.0 (omega arith))
+              (side_on mesh laws rest full_rest r m side f.0 (omega arith)) o)
+              [ inl e ↦ inl (sym e) | inr e ↦ inr (sym e) ],
+        )
+        | inr none ↦ absurd (true≢false (sym f.2
+            ∙ (sym (without.kept (mesh.next (easts mesh r f.0))
+            (laws.next_low (easts mesh r f.0) (low f.0 (omega arith))) none) ∙ side.inside f.0 (omega arith))))
+      ]
+      | inr none ↦ inl (record {
+        some = side.some;
+        corner = (
+          side.corner.0,
+          less mesh laws cut rest s t n without r side.corner.0 side.corner.1,
+          less mesh laws cut rest s t n without (mesh.prev r) (laws.prev_low r side.corner.0) side.corner.2,
+        );
+        inside = λ k l. none k (omega arith);
+        ends = λ k e. less mesh laws cut rest s t n without (mesh.next (easts mesh r k))
+            (laws.next_low (easts mesh r k) (low k (omega arith))) (side.ends k e);
+      })
+    ]
       where
         low : (k : ℕ) → k < m → easts mesh r k < mesh.count
         low k l = side_low mesh laws rest full_rest r m side k l
-
-        by_search : ((k : ℕ) × (k < m - 1) × (cut (mesh.next (easts mesh r k)) ≡ true))
-            ⊎ ((k : ℕ) → k < m - 1 → cut (mesh.next (easts mesh r k)) ≡ false) → IsWholeSide mesh cut r m
-            ⊎ ((k : ℕ) × (k < m) × ((mesh.prev s ≡ easts mesh r k) ⊎ (mesh.prev t ≡ easts mesh r k)))
-        by_search (inl f) = at f.0 f.1 f.2
-          where
-            at : (k : ℕ) → k < m - 1 → cut (mesh.next (easts mesh r k)) ≡ true → IsWholeSide mesh cut r m
-                ⊎ ((k : ℕ) × (k < m) × ((mesh.prev s ≡ easts mesh r k) ⊎ (mesh.prev t ≡ easts mesh r k)))
-            at k l on = elim (on_or_not mesh s t n (mesh.next (easts mesh r k))) [
-              | inl o ↦ inr (
-                k,
-                omega arith,
-                elim (over_end (easts mesh r k) (low k (omega arith))
-                    (side_on mesh laws rest full_rest r m side k (omega arith)) o)
-                    [ inl e ↦ inl (sym e) | inr e ↦ inr (sym e) ],
-              )
-              | inr none ↦ absurd (true≢false
-                  (sym on
-                  ∙ (sym (without.kept (mesh.next (easts mesh r k))
-                  (laws.next_low (easts mesh r k) (low k (omega arith))) none) ∙ side.inside k (omega arith))))
-            ]
-        by_search (inr none) = inl (record {
-          some = side.some;
-          corner = (
-            side.corner.0,
-            less mesh laws cut rest s t n without r side.corner.0 side.corner.1,
-            less mesh laws cut rest s t n without (mesh.prev r) (laws.prev_low r side.corner.0) side.corner.2,
-          );
-          inside = λ k l. none k (omega arith);
-          ends = λ k e. less mesh laws cut rest s t n without (mesh.next (easts mesh r k))
-              (laws.next_low (easts mesh r k) (low k (omega arith))) (side.ends k e);
-        })
 
     grown_arc : (r u m : ℕ) → IsJoinable mesh rest r u m → IsJoinable mesh cut r u m
         ⊎ (IsOnArc mesh r u m (mesh.prev s) ⊎ IsOnArc mesh r u m (mesh.prev t))
@@ -215,11 +201,10 @@ module _ (mesh : HalfEdges) (laws : IsQuadManifold mesh) (cut : Cut) (full : IsC
         apart : AreInOne mesh cut r u → ⊥
         apart a = new.apart (a.0, links_less mesh laws cut rest s t n without r u a.0 new.glued.near.corner.0 a.1)
 
-        by_sides : IsWholeSide mesh cut r m
-            ⊎ ((k : ℕ) × (k < m) × ((mesh.prev s ≡ easts mesh r k) ⊎ (mesh.prev t ≡ easts mesh r k)))
-            → IsWholeSide mesh cut u m ⊎ ((k : ℕ) × (k < m)
-            × ((mesh.prev s ≡ easts mesh u k) ⊎ (mesh.prev t ≡ easts mesh u k))) → IsJoinable mesh cut r u m
-            ⊎ (IsOnArc mesh r u m (mesh.prev s) ⊎ IsOnArc mesh r u m (mesh.prev t))
+        by_sides : IsWholeSide mesh cut r m ⊎ ((k : ℕ) × (k < m)
+            × ((mesh.prev s ≡ easts mesh r k) ⊎ (mesh.prev t ≡ easts mesh r k))) → IsWholeSide mesh cut u m
+            ⊎ ((k : ℕ) × (k < m) × ((mesh.prev s ≡ easts mesh u k) ⊎ (mesh.prev t ≡ easts mesh u k)))
+            → IsJoinable mesh cut r u m ⊎ (IsOnArc mesh r u m (mesh.prev s) ⊎ IsOnArc mesh r u m (mesh.prev t))
         by_sides (inl a) (inl b) = inl
             (record { glued = record { near = a; far = b; across = new.glued.across }; apart = apart })
         by_sides (inl a) (inr o) = inr (elim o.2 [ inl e ↦ inl (o.0, o.1, inr e) | inr e ↦ inr (o.0, o.1, inr e) ])

@@ -19,8 +19,7 @@ use Rattle.merge_laws.proofs.OneMerged.{IsCutOf, cut_reached}
 
 -- The test of an arc's darts is what it says.
 pub on_arc : (mesh : HalfEdges) (s t n d : ℕ) → IsOnArc mesh s t n d → is_on_arc mesh s t n d ≡ true
-on_arc mesh s t n d (k, l, is) =
-    any_at (λ j. eqb d (easts mesh s j) || eqb d (easts mesh t j)) k (range_with_len 0 n)
+on_arc mesh s t n d (k, l, is) = any_at (λ j. eqb d (easts mesh s j) || eqb d (easts mesh t j)) k (range_with_len 0 n)
     (among_range 0 n k (omega arith) (omega (arith, l))) (by_side is)
   where
     by_side : (d ≡ easts mesh s k) ⊎ (d ≡ easts mesh t k) → (eqb d (easts mesh s k) || eqb d (easts mesh t k)) ≡ true
@@ -38,12 +37,10 @@ of_arc mesh s t n d y = by_place
         (k, omega (arith, r.1), elim (or_cases _ _ is) [ inl e ↦ inl (eqb-true _ _ e) | inr e ↦ inr (eqb-true _ _ e) ])
 
 implied : (a b : Bool) → (a ≡ true → b ≡ true) → (not a || b) ≡ true
-implied true b f = f refl
-implied false b f = refl
+implied = elim [ true ↦ λ b f. f refl | false ↦ λ b f. refl ]
 
 implies : (a b : Bool) → (not a || b) ≡ true → a ≡ true → b ≡ true
-implies true b e is = e
-implies false b e is = absurd (false≢true is)
+implies = elim [ true ↦ λ b e is. e | false ↦ λ b e is. absurd (false≢true is) ]
 
 all_from : (p : ℕ → Bool) (ds : List ℕ) → ((d : ℕ) → is_among d ds ≡ true → p d ≡ true) → list_all p ds ≡ true
 all_from p ds each = elim (cases_Bool (list_all p ds)) [
@@ -81,31 +78,26 @@ module _ (faces : Faces) (marks cut : List Bool) (keeps : keeps_lines faces mark
 
 pub without_is : (faces : Faces) (cut : List Bool) (s t n d : ℕ) → d < darts faces
     → is_on (without faces cut s t n) d ≡ (is_on cut d && not (is_on_arc (half_edges faces) s t n d))
-without_is faces cut s t n d l =
-    get_or-map-range_with_len (λ x. is_on cut x && not (is_on_arc (half_edges faces) s t n x)) 0 (darts faces) d d false
-    l (omega arith)
+without_is faces cut s t n d l = get_or-map-range_with_len
+    (λ x. is_on cut x && not (is_on_arc (half_edges faces) s t n x)) 0 (darts faces) d d false l (omega arith)
 
 pub without_long : (faces : Faces) (cut : List Bool) (s t n : ℕ) → length (without faces cut s t n) ≡ darts faces
-without_long faces cut s t n =
-    length-map (all_darts faces) (λ x. is_on cut x && not (is_on_arc (half_edges faces) s t n x))
-    ∙ length-range_with_len 0 (darts faces)
+without_long faces cut s t n = length-map (all_darts faces)
+    (λ x. is_on cut x && not (is_on_arc (half_edges faces) s t n x)) ∙ length-range_with_len 0 (darts faces)
 
 -- The cut of a step is the one that is left.
 pub step_is : (faces : Faces) (marks cut rest : List Bool) → length cut ≡ darts faces
     → (step : IsStep faces (may_beside faces marks) cut rest) → rest ≡ without faces cut step.near step.far step.size
-step_is faces marks cut rest long step =
-    ext_get_or false rest (without faces cut step.near step.far step.size)
+step_is faces marks cut rest long step = ext_get_or false rest (without faces cut step.near step.far step.size)
     (step.long ∙ (long ∙ sym (without_long faces cut step.near step.far step.size)))
     (λ d l. each d (omega (arith, l, step.long, long))
     (cases_Bool (is_on_arc (half_edges faces) step.near step.far step.size d)))
   where
     off_test : (a b : Bool) → b ≡ true → (a && not b) ≡ false
-    off_test true b y = ap not y
-    off_test false b y = refl
+    off_test = elim [ true ↦ λ b y. ap not y | false ↦ λ b y. refl ]
 
     on_test : (a b : Bool) → b ≡ false → (a && not b) ≡ a
-    on_test true b y = ap not y
-    on_test false b y = refl
+    on_test = elim [ true ↦ λ b y. ap not y | false ↦ λ b y. refl ]
 
     each : (d : ℕ) → d < darts faces → (is_on_arc (half_edges faces) step.near step.far step.size d ≡ true)
         ⊎ (is_on_arc (half_edges faces) step.near step.far step.size d ≡ false)
@@ -127,13 +119,11 @@ module _ (faces : Faces) (laws : IsQuadManifold (half_edges faces)) (marks : Lis
 -- So many steps keep marked lines.
 pub beside_reached : (faces : Faces) (marks cut rest : List Bool) (steps : ℕ) → IsManifold faces
     → IsCutBeside faces marks cut → Steps faces (may_beside faces marks) cut rest steps → IsCutBeside faces marks rest
-beside_reached faces marks cut rest steps manifold beside reached =
-    record {
-      full = (full_cut_law faces rest manifold).1 (after.long, after.full);
-      kept =
-          kept_from faces marks rest keeps;
-      turned = turned_from faces marks rest keeps;
-    }
+beside_reached faces marks cut rest steps manifold beside reached = record {
+  full = (full_cut_law faces rest manifold).1 (after.long, after.full);
+  kept = kept_from faces marks rest keeps;
+  turned = turned_from faces marks rest keeps;
+}
   where
     laws : IsQuadManifold (half_edges faces)
     laws = manifold_law faces manifold

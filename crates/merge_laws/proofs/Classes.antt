@@ -21,6 +21,6 @@ module _ (mesh : HalfEdges) (laws : IsQuadManifold mesh) (cut : Cut) (full : IsC
   pub one_place_of : (p q x y : ℕ) → p < length ps → q < length ps → IsIn mesh ps p x → IsIn mesh ps q y
       → AreLinked mesh cut x y → p ≡ q
   one_place_of p q x y lp lq i j a =
-      let here : IsIn mesh ps p y = closed mesh laws cut full (patch_at ps p).w (patch_at ps p).h
-      (cell_of (patch_at ps p)) (grid_at p lp) x y a.0 a.1 i in
+      let here = closed mesh laws cut full (patch_at ps p).w (patch_at ps p).h (cell_of (patch_at ps p)) (grid_at p lp)
+      x y a.0 a.1 i in
       (parts.once y p here.1.a here.1.b here.0 q j.1.a j.1.b j.0 lp lq (side_of p y here) (side_of q y j)).0

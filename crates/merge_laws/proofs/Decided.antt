@@ -42,8 +42,7 @@ module _ (mesh : HalfEdges) (laws : IsQuadManifold mesh) (cut : Cut) (full : IsC
 
           none : (IsFirstDart mesh n h (grown mesh s) t → ⊥) → AreInOne mesh cut s t → ⊥
           none not_first a =
-              let i : In mesh n h (grown mesh s) t =
-              closed mesh laws cut full n h (grown mesh s) grid s t a.0 a.1
+              let i = closed mesh laws cut full n h (grown mesh s) grid s t a.0 a.1
               (first_in mesh laws cut full n h (grown mesh s) grid) in
               not_first (corner_in mesh laws cut full n h (grown mesh s) grid t i corner)
 
@@ -59,14 +58,10 @@ module _ (mesh : HalfEdges) (laws : IsQuadManifold mesh) (cut : Cut) (full : IsC
           by_tests (inr a) (inr b) (inl e) d =
               inl (linked 2 (n - 1) (h - 1) (omega (arith, grid.wide)) (omega (arith, grid.tall)) e)
           by_tests (inr a) (inr b) (inr c) (inl e) = inl (linked 3 0 (h - 1) grid.wide (omega (arith, grid.tall)) e)
-          by_tests (inr a) (inr b) (inr c) (inr d) =
-              inr
-              (none
-              (λ first. elim first [
-                | inl e ↦ a e
-                | inr f ↦ elim f
-                    [ inl e ↦ b e | inr g ↦ elim g [ inl e ↦ c e | inr e ↦ d e ] ]
-              ]))
+          by_tests (inr a) (inr b) (inr c) (inr d) = inr (none (λ first. elim first [
+            | inl e ↦ a e
+            | inr f ↦ elim f [ inl e ↦ b e | inr g ↦ elim g [ inl e ↦ c e | inr e ↦ d e ] ]
+          ]))
 
   -- The whole side that begins at a corner.
   side_there : (s : ℕ) → IsCorner mesh cut s → (n : ℕ) × IsWholeSide mesh cut s n
@@ -80,8 +75,7 @@ module _ (mesh : HalfEdges) (laws : IsQuadManifold mesh) (cut : Cut) (full : IsC
       → ((k j : ℕ) → k < m → k + suc j ≡ n → mesh.twin (easts mesh s k) ≡ Some (easts mesh t j))
       ⊎ (((k j : ℕ) → k + suc j ≡ n → mesh.twin (easts mesh s k) ≡ Some (easts mesh t j)) → ⊥)
   across_or_not s t n zero le = inl (λ k j l e. absurd (omega arith))
-  across_or_not s t n (suc m) le =
-      by_last (found_or_not (mesh.twin (easts mesh s m)) (easts mesh t (n - suc m)))
+  across_or_not s t n (suc m) le = by_last (found_or_not (mesh.twin (easts mesh s m)) (easts mesh t (n - suc m)))
       (across_or_not s t n m (omega arith))
     where
       by_last : (mesh.twin (easts mesh s m) ≡ Some (easts mesh t (n - suc m)))
@@ -122,7 +116,7 @@ module _ (mesh : HalfEdges) (laws : IsQuadManifold mesh) (cut : Cut) (full : IsC
               none : From s → ⊥
               none f =
                   let same : f.0 ≡ t = same_Some f.0 t (sym (far_is f) ∙ is) in
-                  never (subst (λ (x : ℕ). IsCorner mesh cut x) same f.2.glued.far.corner)
+                  never (rw same at f.2.glued.far.corner)
           by_far t is (inl there) = by_size (side_there t there)
             where
               by_size : (m : ℕ) × IsWholeSide mesh cut t m → From s ⊎ (From s → ⊥)
@@ -132,13 +126,11 @@ module _ (mesh : HalfEdges) (laws : IsQuadManifold mesh) (cut : Cut) (full : IsC
                   of_t : (f : From s) → (f.0 ≡ t) × (f.1 ≡ n)
                   of_t f = (
                     same_Some f.0 t (sym (far_is f) ∙ is),
-                    one_size mesh laws cut full s f.1 n f.2.glued.near
-                        side,
+                    one_size mesh laws cut full s f.1 n f.2.glued.near side,
                   )
 
                   at_t : (f : From s) → IsJoinable mesh cut s t n
-                  at_t f = subst (λ (x : ℕ). IsJoinable mesh cut s x n) (of_t f).0
-                      (subst (λ (x : ℕ). IsJoinable mesh cut s f.0 x) (of_t f).1 f.2)
+                  at_t f = subst (λ (x : ℕ). IsJoinable mesh cut s x n) (of_t f).0 (rw ((of_t f).1) at f.2)
 
                   by_tests : (m ≡ n) ⊎ (m ≡ n → ⊥)
                       → ((k j : ℕ) → k < n → k + suc j ≡ n → mesh.twin (easts mesh s k) ≡ Some (easts mesh t j))
@@ -153,7 +145,7 @@ module _ (mesh : HalfEdges) (laws : IsQuadManifold mesh) (cut : Cut) (full : IsC
                     record {
                       glued = record {
                         near = side;
-                        far = subst (λ (x : ℕ). IsWholeSide mesh cut t x) e far;
+                        far = rw e at far;
                         across = λ k j sum. across k j (omega (arith, sum)) sum;
                       };
                       apart = apart;
@@ -190,12 +182,10 @@ module _ (mesh : HalfEdges) (laws : IsQuadManifold mesh) (cut : Cut) (full : IsC
               begins : (r u m : ℕ) → IsJoinable mesh cut r u m → (j : ℕ) → j < m → d ≡ easts mesh r j → (r ≡ c)
                   × (m ≡ n)
               begins r u m arc j l e =
-                  let same : (r ≡ c) × (j ≡ k) =
-                  one_place mesh laws cut full r m c n j k arc.glued.near stand.side l stand.low
-                  (sym e ∙ sym stand.at) in (
+                  let same : (r ≡ c) × (j ≡ k) = one_place mesh laws cut full r m c n j k arc.glued.near stand.side l
+                  stand.low (sym e ∙ sym stand.at) in (
                     same.0,
-                    one_size mesh laws cut full c m n
-                        (subst (λ (x : ℕ). IsWholeSide mesh cut x m) same.0 arc.glued.near) stand.side,
+                    one_size mesh laws cut full c m n (rw same.0 at arc.glued.near) stand.side,
                   )
 
               by_from : From c ⊎ (From c → ⊥) → Over d ⊎ (Over d → ⊥)
@@ -203,13 +193,12 @@ module _ (mesh : HalfEdges) (laws : IsQuadManifold mesh) (cut : Cut) (full : IsC
                 where
                   none : Over d → ⊥
                   none (r, u, m, arc, free, (j, l, inl e)) = let same : (r ≡ c) × (m ≡ n) =
-                      begins r u m arc j l e in never (u, m, subst (λ (x : ℕ). IsJoinable mesh cut x u m) same.0 arc)
+                      begins r u m arc j l e in never (u, m, rw same.0 at arc)
                   none (r, u, m, arc, free, (j, l, inr e)) = let same : (u ≡ c) × (m ≡ n) =
                       begins u r m (turned_arc mesh laws cut full r u m arc) j l e in never (
                         r,
                         m,
-                        subst (λ (x : ℕ). IsJoinable mesh cut x r m) same.0
-                            (turned_arc mesh laws cut full r u m arc),
+                        rw same.0 at (turned_arc mesh laws cut full r u m arc),
                       )
               by_from (inl f) = by_tests (cases_Bool (may c f.0 n)) (cases_Bool (may f.0 c n))
                 where
@@ -225,37 +214,33 @@ module _ (mesh : HalfEdges) (laws : IsQuadManifold mesh) (cut : Cut) (full : IsC
                   by_tests : (may c f.0 n ≡ true) ⊎ (may c f.0 n ≡ false) → (may f.0 c n ≡ true) ⊎ (may f.0 c n ≡ false)
                       → Over d ⊎ (Over d → ⊥)
                   by_tests (inl free) other = inl (c, f.0, n, here, free, (k, stand.low, inl (sym stand.at)))
-                  by_tests (inr held) (inl free) =
-                      inl (
-                        f.0,
-                        c,
-                        n,
-                        turned_arc mesh laws cut full c f.0 n here,
-                        free,
-                        (k, stand.low, inr (sym stand.at)),
-                      )
+                  by_tests (inr held) (inl free) = inl (
+                    f.0,
+                    c,
+                    n,
+                    turned_arc mesh laws cut full c f.0 n here,
+                    free,
+                    (k, stand.low, inr (sym stand.at)),
+                  )
                   by_tests (inr held) (inr turned) = inr none
                     where
                       at : (r u m : ℕ) → IsJoinable mesh cut r u m → (r ≡ c) × (m ≡ n) → (u ≡ f.0)
-                      at r u m arc same =
-                          far_is u (subst (λ (x : ℕ). IsJoinable mesh cut c u x) same.1
-                          (subst (λ (x : ℕ). IsJoinable mesh cut x u m) same.0 arc))
+                      at r u m arc same = far_is u (subst (λ (x : ℕ). IsJoinable mesh cut c u x) same.1
+                          (rw same.0 at arc))
 
                       none : Over d → ⊥
                       none (r, u, m, arc, free, (j, l, inl e)) =
                           let same : (r ≡ c) × (m ≡ n) = begins r u m arc j l e in
                           let far : u ≡ f.0 = at r u m arc same in
                           true≢false
-                          (sym (subst (λ (x : ℕ). may c f.0 x ≡ true) same.1
-                          (subst (λ (x : ℕ). may c x m ≡ true) far
-                          (subst (λ (x : ℕ). may x u m ≡ true) same.0 free))) ∙ held)
+                          (sym (rw same.1 at (subst (λ (x : ℕ). may c x m ≡ true) far
+                          (rw same.0 at free))) ∙ held)
                       none (r, u, m, arc, free, (j, l, inr e)) =
                           let same : (u ≡ c) × (m ≡ n) = begins u r m (turned_arc mesh laws cut full r u m arc) j l e in
                           let far : r ≡ f.0 = at u r m (turned_arc mesh laws cut full r u m arc) same in
                           true≢false
-                          (sym (subst (λ (x : ℕ). may f.0 c x ≡ true) same.1
-                          (subst (λ (x : ℕ). may x c m ≡ true) far
-                          (subst (λ (x : ℕ). may r x m ≡ true) same.0 free))) ∙ turned)
+                          (sym (rw same.1 at (subst (λ (x : ℕ). may x c m ≡ true) far
+                          (rw same.0 at free))) ∙ turned)
 
   -- The first one.
   pub least_or_none : (b : ℕ) → b ≤ mesh.count → ((d : ℕ) × (d < b) × Over d × ((x : ℕ) → x < d → Over x → ⊥))
@@ -268,6 +253,5 @@ module _ (mesh : HalfEdges) (laws : IsQuadManifold mesh) (cut : Cut) (full : IsC
           → ((d : ℕ) × (d < suc b) × Over d × ((x : ℕ) → x < d → Over x → ⊥)) ⊎ ((x : ℕ) → x < suc b → Over x → ⊥)
       by_last (inl (d, l, over, before)) at = inl (d, omega arith, over, before)
       by_last (inr none) (inl over) = inl (b, omega arith, over, none)
-      by_last (inr none) (inr never) =
-          inr (λ x l o. elim (cases_eq x b)
-          [ inl e ↦ never (subst (λ (y : ℕ). Over y) e o) | inr ne ↦ none x (omega (arith, l, ne)) o ])
+      by_last (inr none) (inr never) = inr (λ x l o. elim (cases_eq x b)
+          [ inl e ↦ never (rw e at o) | inr ne ↦ none x (omega (arith, l, ne)) o ])

@@ -1,6 +1,6 @@
 -- Each full cut has a merged cut: each step leaves fewer darts.
 use Rattle.std.proofs.Common.{◌≡◌, ◌⊎◌, ℕ, zero, suc, ◌<◌, ◌≤◌, Bool, true, false, cond}
-use Rattle.std.proofs.Common.{List, map, sym, ◌∙◌, ap, subst, refl, inl, inr, arith}
+use Rattle.std.proofs.Common.{List, map, sym, ◌∙◌, ap, refl, inl, inr, arith}
 use Rattle.std.proofs.lemmas.Bool.{cases_lt}
 use Rattle.std.proofs.lemmas.List.FromFn.{get_or-map-range_with_len, length-map-range_with_len}
 use Rattle.std.specs.List.{range_with_len}
@@ -52,9 +52,8 @@ module _ (faces : Faces) (may : MayLeave) (laws : IsQuadManifold (half_edges fac
       (least_or_none mesh laws (is_on marks) cut.full (may marks) (darts faces) (omega arith))
     where
       after : (d : ℕ) → d < darts faces → (s t n : ℕ) → IsJoinable mesh (is_on marks) s t n → may marks s t n ≡ true
-          → IsOnArc mesh s t n d
-          → ((x : ℕ) → x < d → Over mesh laws (is_on marks) cut.full (may marks) x → ⊥) → (rest : List Bool)
-          × IsStep faces may marks rest × (marked rest < marked marks)
+          → IsOnArc mesh s t n d → ((x : ℕ) → x < d → Over mesh laws (is_on marks) cut.full (may marks) x → ⊥)
+          → (rest : List Bool) × IsStep faces may marks rest × (marked rest < marked marks)
       after d low s t n arc free on before = (without marks s t n, step, fewer)
         where
           value : (x : ℕ) → x < darts faces
@@ -64,12 +63,10 @@ module _ (faces : Faces) (may : MayLeave) (laws : IsQuadManifold (half_edges fac
 
           least : (r u m x : ℕ) → IsJoinable mesh (is_on marks) r u m → may marks r u m ≡ true → IsOnArc mesh r u m x
               → d ≤ x
-          least r u m x other may_too o =
-              elim (cases_lt x d) [
-                | inl l ↦ absurd (before x l (r, u, m, other, may_too, o))
-                | inr le ↦ omega
-                    (arith, le)
-              ]
+          least r u m x other may_too o = elim (cases_lt x d) [
+            | inl l ↦ absurd (before x l (r, u, m, other, may_too, o))
+            | inr le ↦ omega (arith, le)
+          ]
 
           step : IsStep faces may marks (without marks s t n)
           step = record {
@@ -94,14 +91,11 @@ module _ (faces : Faces) (may : MayLeave) (laws : IsQuadManifold (half_edges fac
 
           fewer : marked (without marks s t n) < marked marks
           fewer = count_below_lt (λ x. cond (is_on (without marks s t n) x) 1 0) (λ x. cond (is_on marks x) 1 0)
-              (darts faces) d low
-              (λ x l. subst (λ (b : Bool). cond b 1 0 ≤ cond (is_on marks x) 1 0) (sym (value x l))
-              (left_le (is_on marks x) (on_or_not mesh s t n x)))
-              (let off : is_on (without marks s t n) d ≡ false =
-              value d low ∙ left_on (is_on marks d) (on_or_not mesh s t n d) on in
+              (darts faces) d low (λ x l. rw (value x l) (left_le (is_on marks x) (on_or_not mesh s t n x)))
+              (let off : is_on (without marks s t n) d ≡ false = value d low
+              ∙ left_on (is_on marks d) (on_or_not mesh s t n d) on in
               let was : is_on marks d ≡ true = on_cut mesh laws (is_on marks) cut.full s t n arc.glued d on in
-              let zero_now : ◌≡◌ {A = ℕ} (cond (is_on (without marks s t n) d) 1 0) 0 =
-              ap (λ (b : Bool). cond {A = ℕ} b 1 0) off in
+              let zero_now = ap (λ (b : Bool). cond {A = ℕ} b 1 0) off in
               let one_before : ◌≡◌ {A = ℕ} (cond (is_on marks d) 1 0) 1 = ap (λ (b : Bool). cond {A = ℕ} b 1 0) was in
               omega (arith, zero_now, one_before))
 
@@ -111,15 +105,13 @@ module _ (faces : Faces) (may : MayLeave) (laws : IsQuadManifold (half_edges fac
           → ((rest : List Bool) × IsStep faces may marks rest × (marked rest < marked marks))
           ⊎ ((s t n : ℕ) → IsJoinable mesh (is_on marks) s t n → may marks s t n ≡ true → ⊥)
       by_least (inl (d, low, (s, t, n, arc, free, on), before)) = inl (after d low s t n arc free on before)
-      by_least (inr none) =
-          inr (λ s t n arc free. none s arc.glued.near.corner.0
+      by_least (inr none) = inr (λ s t n arc free. none s arc.glued.near.corner.0
           (s, t, n, arc, free, (0, arc.glued.near.some, inl refl)))
 
   -- A step in front of others.
   in_front : (marks between rest : List Bool) (n : ℕ) → IsStep faces may marks between → Steps faces may between rest n
       → Steps faces may marks rest (suc n)
-  in_front marks between rest zero step same =
-      (marks, refl, subst (λ (x : List Bool). IsStep faces may marks x) same step)
+  in_front marks between rest zero step same = (marks, refl, rw same at step)
   in_front marks between rest (suc n) step steps = (steps.0, in_front marks between steps.0 n step steps.1, steps.2)
 
   merged_from : (fuel : ℕ) (marks : List Bool) → IsCutOf faces marks → marked marks < fuel → (rest : List Bool)
@@ -130,8 +122,7 @@ module _ (faces : Faces) (may : MayLeave) (laws : IsQuadManifold (half_edges fac
       by_step : ((rest : List Bool) × IsStep faces may marks rest × (marked rest < marked marks))
           ⊎ ((s t n : ℕ) → IsJoinable mesh (is_on marks) s t n → may marks s t n ≡ true → ⊥)
           → ((rest : List Bool) → IsCutOf faces rest → marked rest < fuel → (last : List Bool)
-          × IsMergedBy faces may rest last)
-          → (rest : List Bool) × IsMergedBy faces may marks rest
+          × IsMergedBy faces may rest last) → (rest : List Bool) × IsMergedBy faces may marks rest
       by_step (inr none) go = (marks, record { steps = 0; reached = refl; merged = none })
       by_step (inl (between, step, fewer)) go =
           after (go between (cut_after faces may laws marks between cut step) (omega (arith, fewer, le)))

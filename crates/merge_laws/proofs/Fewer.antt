@@ -1,6 +1,6 @@
 -- Without a joinable arc there is one patch less.
 use Rattle.std.proofs.Common.{◌≡◌, ◌≢◌, ◌⊎◌, ℕ, zero, suc, ◌+◌, ◌-◌, ◌<◌, ◌≤◌, ◌==◌, Bool, true, false, not, cond, List}
-use Rattle.std.proofs.Common.{length, Some, sym, ◌∙◌, ap, subst, refl, inl, inr, true≢false, arith}
+use Rattle.std.proofs.Common.{length, Some, sym, ◌∙◌, ap, refl, inl, inr, true≢false, arith}
 use Rattle.std.proofs.lemmas.Bool.{cases_eq, cond-true, cond-false, eq-eqb, ne_eqb}
 use Rattle.std.proofs.lemmas.Option.{same_Some}
 use Rattle.def_math.specs.Counts.{count_below}
@@ -20,8 +20,7 @@ one_less : (u m : ℕ) → u < m → suc (passing (λ k. not (k == u)) m) ≡ m
 one_less u m low = omega (arith, parts, all, count_below_ones m, one)
   where
     by_test : (b : Bool) → one_if (not b) + one_if b ≡ 1
-    by_test true = refl
-    by_test false = refl
+    by_test = elim [ true ↦ refl | false ↦ refl ]
 
     parts : count_below (λ k. one_if (not (k == u)) + one_if (k == u)) m
         ≡ count_below (λ k. one_if (not (k == u))) m + count_below (λ k. one_if (k == u)) m
@@ -36,8 +35,7 @@ one_less u m low = omega (arith, parts, all, count_below_ones m, one)
 
 -- The darts beside the arc, and what is linked without it.
 module _ (mesh : HalfEdges) (laws : IsQuadManifold mesh) (cut rest : Cut) (full : IsCut mesh cut) (s t n : ℕ)
-    (arc : IsJoinable mesh cut s t n)
-    (without : IsWithout mesh cut rest s t n) where
+    (arc : IsJoinable mesh cut s t n) (without : IsWithout mesh cut rest s t n) where
   abbrev Beside : ℕ → Type 0
   Beside x = AreInOne mesh cut s x ⊎ AreInOne mesh cut t x
 
@@ -50,33 +48,30 @@ module _ (mesh : HalfEdges) (laws : IsQuadManifold mesh) (cut rest : Cut) (full 
   joined_less x y l a = (a.0, links_less mesh laws cut rest s t n without x y a.0 l a.1)
 
   along_near : (k : ℕ) → k < n → AreInOne mesh cut s (easts mesh s k)
-  along_near k l = by_grid (grid_on mesh laws cut full s n arc.glued.near)
-    where
-      by_grid : (h : ℕ) × IsGrid mesh cut n h (grown mesh s) → AreInOne mesh cut s (easts mesh s k)
-      by_grid g = linked_in mesh laws cut full n g.0 (grown mesh s) g.1 (easts mesh s k)
-          (0, record { a = k; b = 0; a_low = l; b_low = g.1.tall; is = refl })
+  along_near k l =
+      let g = grid_on mesh laws cut full s n arc.glued.near in
+      linked_in mesh laws cut full n g.0 (grown mesh s) g.1 (easts mesh s k)
+      (0, record { a = k; b = 0; a_low = l; b_low = g.1.tall; is = refl })
 
   along_far : (k : ℕ) → k < n → AreInOne mesh cut t (easts mesh t k)
-  along_far k l = by_grid (grid_on mesh laws cut full t n arc.glued.far)
-    where
-      by_grid : (h : ℕ) × IsGrid mesh cut n h (grown mesh t) → AreInOne mesh cut t (easts mesh t k)
-      by_grid g = linked_in mesh laws cut full n g.0 (grown mesh t) g.1 (easts mesh t k)
-          (0, record { a = k; b = 0; a_low = l; b_low = g.1.tall; is = refl })
+  along_far k l =
+      let g = grid_on mesh laws cut full t n arc.glued.far in
+      linked_in mesh laws cut full n g.0 (grown mesh t) g.1 (easts mesh t k)
+      (0, record { a = k; b = 0; a_low = l; b_low = g.1.tall; is = refl })
 
   beside_on : (x : ℕ) → IsOnArc mesh s t n x → Beside x
   beside_on x o = elim o.2 [
-    | inl e ↦ inl (subst (λ (y : ℕ). AreInOne mesh cut s y) (sym e) (along_near o.0 o.1))
-    | inr e ↦ inr (subst (λ (y : ℕ). AreInOne mesh cut t y) (sym e) (along_far o.0 o.1))
+    | inl e ↦ inl (rw e (along_near o.0 o.1))
+    | inr e ↦ inr (rw e (along_far o.0 o.1))
   ]
 
   -- Its two patches are linked then.
   both : AreInOne mesh rest s t
   both =
       let last : n - 1 < n = omega (arith, arc.glued.near.some) in
-      let across : mesh.twin s ≡ Some (easts mesh t (n - 1)) =
-      arc.glued.across 0 (n - 1) (omega (arith, arc.glued.near.some)) in
+      let across = arc.glued.across 0 (n - 1) (omega (arith, arc.glued.near.some)) in
       let gone : rest s ≡ false = without.gone s (0, arc.glued.near.some, inl refl) in
-      let back : AreInOne mesh cut (easts mesh t (n - 1)) t =
+      let back =
       linked_back mesh laws cut full t (easts mesh t (n - 1)) arc.glued.far.corner.0 (along_far (n - 1) last) in
       links_join mesh laws rest s (easts mesh t (n - 1)) t
       (step_over mesh laws rest s s (easts mesh t (n - 1)) (0, refl) gone across)
@@ -103,15 +98,13 @@ module _ (mesh : HalfEdges) (laws : IsQuadManifold mesh) (cut rest : Cut) (full 
 
           beside_y : Beside y
           beside_y =
-              let p : (e : ℕ) × (mesh.twin c ≡ Some e) × IsOnArc mesh s t n e =
-              on_twin mesh laws cut full s t n arc.glued c o in
-              beside_on y (subst (λ (z : ℕ). IsOnArc mesh s t n z) (same_Some p.0 y (sym p.1 ∙ is)) p.2)
+              let p = on_twin mesh laws cut full s t n arc.glued c o in
+              beside_on y (rw (same_Some p.0 y (sym p.1 ∙ is)) at p.2)
 
       by_step : (c : ℕ) → c < mesh.count → AreInOne mesh cut x c ⊎ (Beside x × Beside c)
           → ((y ≡ mesh.next c) ⊎ ((rest c ≡ false) × (mesh.twin c ≡ Some y)))
           → AreInOne mesh cut x y ⊎ (Beside x × Beside y)
-      by_step c lc was (inl e) = more c
-          (subst (λ (z : ℕ). AreInOne mesh cut c z) (sym e) (step_next mesh laws cut c c (0, refl))) was
+      by_step c lc was (inl e) = more c (rw e (step_next mesh laws cut c c (0, refl))) was
       by_step c lc was (inr p) = elim (on_or_not mesh s t n c) [
         | inl o ↦ inr (over c lc p.1 o was)
         | inr none ↦ more c (step_over mesh laws cut c c y (0, refl) (sym (without.kept c lc none) ∙ p.0) p.1) was
@@ -151,9 +144,8 @@ module _ (mesh : HalfEdges) (laws : IsQuadManifold mesh) (cut : Cut) (full : IsC
   one_of p q x y lp lq i j a = one_place_of mesh laws cut full face ps parts p q x y lp lq i j a
 
 module _ (mesh : HalfEdges) (laws : IsQuadManifold mesh) (cut rest : Cut) (full : IsCut mesh cut)
-    (after : IsCut mesh rest) (face : ℕ → ℕ) (s t n : ℕ)
-    (arc : IsJoinable mesh cut s t n) (without : IsWithout mesh cut rest s t n) (ps qs : List Rectangle)
-    (parts : IsPartition mesh cut face ps)
+    (after : IsCut mesh rest) (face : ℕ → ℕ) (s t n : ℕ) (arc : IsJoinable mesh cut s t n)
+    (without : IsWithout mesh cut rest s t n) (ps qs : List Rectangle) (parts : IsPartition mesh cut face ps)
     (whole : IsPartition mesh rest face qs) where
   -- The patches on both sides of the arc.
   near : (p : ℕ) × (p < length ps) × IsIn mesh ps p s
@@ -169,12 +161,10 @@ module _ (mesh : HalfEdges) (laws : IsQuadManifold mesh) (cut rest : Cut) (full 
   new q = first_dart mesh laws rest after face qs whole q
 
   apart : far.0 ≢ near.0
-  apart same =
-      arc.apart (links_join mesh laws cut s (old near.0) t
+  apart same = arc.apart (links_join mesh laws cut s (old near.0) t
       (linked_back mesh laws cut full (old near.0) s (first_low mesh laws cut full face ps parts near.0 near.1)
       (first_linked mesh laws cut full face ps parts near.0 s near.1 near.2))
-      (subst (λ (p : ℕ). AreInOne mesh cut (old p) t) same
-      (first_linked mesh laws cut full face ps parts far.0 t far.1 far.2)))
+      (rw same at (first_linked mesh laws cut full face ps parts far.0 t far.1 far.2)))
 
   -- A patch beside the arc is one of the two.
   beside_is : (p x : ℕ) → p < length ps → IsIn mesh ps p x → Beside mesh laws cut rest full s t n arc without x
@@ -188,12 +178,13 @@ module _ (mesh : HalfEdges) (laws : IsQuadManifold mesh) (cut rest : Cut) (full 
 
   new_once : (p r : ℕ) (lp : p < length ps) (lr : r < length ps) → p ≢ far.0 → r ≢ far.0
       → (new_of p lp).0 ≡ (new_of r lr).0 → p ≡ r
-  new_once p r lp lr np nr same =
-      by_linked (linked_or mesh laws cut rest full s t n arc without (old p) (old r) link.0 low link.1)
+  new_once p r lp lr np nr same = elim (linked_or mesh laws cut rest full s t n arc without (old p) (old r) link.0
+      (first_low mesh laws cut full face ps parts p lp) link.1) [
+        | inl a ↦ one_of mesh laws cut full face ps parts p r (old p) (old r) lp lr
+            (first_in mesh laws cut full face ps parts p lp) (first_in mesh laws cut full face ps parts r lr) a
+        | inr b ↦ is_near p lp np b.0 ∙ sym (is_near r lr nr b.1)
+      ]
     where
-      low : old p < mesh.count
-      low = first_low mesh laws cut full face ps parts p lp
-
       to_p : AreInOne mesh rest (new (new_of p lp).0) (old p)
       to_p = first_linked mesh laws rest after face qs whole (new_of p lp).0 (old p) (new_of p lp).1 (new_of p lp).2
 
@@ -203,20 +194,12 @@ module _ (mesh : HalfEdges) (laws : IsQuadManifold mesh) (cut rest : Cut) (full 
       link : AreInOne mesh rest (old p) (old r)
       link = links_join mesh laws rest (old p) (new (new_of p lp).0) (old r)
           (linked_back mesh laws rest after (new (new_of p lp).0) (old p)
-          (first_low mesh laws rest after face qs whole (new_of p lp).0 (new_of p lp).1) to_p)
-          (subst (λ (q : ℕ). AreInOne mesh rest (new q) (old r)) (sym same) to_r)
+          (first_low mesh laws rest after face qs whole (new_of p lp).0 (new_of p lp).1) to_p) (rw same to_r)
 
       is_near : (u : ℕ) (l : u < length ps) → u ≢ far.0 → Beside mesh laws cut rest full s t n arc without (old u)
           → u ≡ near.0
       is_near u l nu b = elim (beside_is u (old u) l (first_in mesh laws cut full face ps parts u l) b)
           [ inl e ↦ e | inr e ↦ absurd (nu e) ]
-
-      by_linked : AreInOne mesh cut (old p) (old r)
-          ⊎ (Beside mesh laws cut rest full s t n arc without (old p)
-          × Beside mesh laws cut rest full s t n arc without (old r)) → p ≡ r
-      by_linked (inl a) = one_of mesh laws cut full face ps parts p r (old p) (old r) lp lr
-          (first_in mesh laws cut full face ps parts p lp) (first_in mesh laws cut full face ps parts r lr) a
-      by_linked (inr b) = is_near p lp np b.0 ∙ sym (is_near r lr nr b.1)
 
   -- New patches come from different old ones, where the far one is taken for the near one.
   merged : (p : ℕ) → ℕ
@@ -236,28 +219,22 @@ module _ (mesh : HalfEdges) (laws : IsQuadManifold mesh) (cut rest : Cut) (full 
   ]
 
   stands_for : (p x : ℕ) → p < length ps → IsIn mesh ps p x → AreInOne mesh rest (old (merged p)) x
-  stands_for p x l i = by_case (merged_is p)
+  stands_for p x l i = elim (merged_is p) [
+    | inl e ↦
+        let from_t = links_join mesh laws cut t (old far.0) x
+        (linked_back mesh laws cut full (old far.0) t (first_low mesh laws cut full face ps parts far.0 far.1)
+        (first_linked mesh laws cut full face ps parts far.0 t far.1 far.2))
+        (rw e.0 at (first_linked mesh laws cut full face ps parts p x l i)) in
+        let to_s : AreInOne mesh rest (old near.0) s = linked near.0 s near.1 near.2 in
+        let to_x = links_join mesh laws rest s t x (both mesh laws cut rest full s t n arc without)
+        (joined_less mesh laws cut rest full s t n arc without t x arc.glued.far.corner.0 from_t) in
+        rw e.1 (links_join mesh laws rest (old near.0) s x to_s to_x)
+    | inr e ↦ rw e.1 (linked p x l i)
+  ]
     where
       linked : (u y : ℕ) → u < length ps → IsIn mesh ps u y → AreInOne mesh rest (old u) y
       linked u y lu j = joined_less mesh laws cut rest full s t n arc without (old u) y
           (first_low mesh laws cut full face ps parts u lu) (first_linked mesh laws cut full face ps parts u y lu j)
-
-      by_case : ((p ≡ far.0) × (merged p ≡ near.0)) ⊎ ((p ≢ far.0) × (merged p ≡ p))
-          → AreInOne mesh rest (old (merged p)) x
-      by_case (inl e) =
-          let from_t : AreInOne mesh cut t x =
-          links_join mesh laws cut t (old far.0) x
-          (linked_back mesh laws cut full (old far.0) t (first_low mesh laws cut full face ps parts far.0 far.1)
-          (first_linked mesh laws cut full face ps parts far.0 t far.1 far.2))
-          (subst (λ (u : ℕ). AreInOne mesh cut (old u) x) e.0
-          (first_linked mesh laws cut full face ps parts p x l i)) in
-          let to_s : AreInOne mesh rest (old near.0) s = linked near.0 s near.1 near.2 in
-          let to_x : AreInOne mesh rest s x =
-          links_join mesh laws rest s t x (both mesh laws cut rest full s t n arc without)
-          (joined_less mesh laws cut rest full s t n arc without t x arc.glued.far.corner.0 from_t) in
-          subst (λ (u : ℕ). AreInOne mesh rest (old u) x) (sym e.1)
-          (links_join mesh laws rest (old near.0) s x to_s to_x)
-      by_case (inr e) = subst (λ (u : ℕ). AreInOne mesh rest (old u) x) (sym e.1) (linked p x l i)
 
   old_of : (q : ℕ) → (l : q < length qs) → (p : ℕ) × (p < length ps) × IsIn mesh ps p (new q)
   old_of q l = in_patch mesh laws cut full face ps parts (new q) (first_low mesh laws rest after face qs whole q l)
@@ -277,8 +254,7 @@ module _ (mesh : HalfEdges) (laws : IsQuadManifold mesh) (cut rest : Cut) (full 
       link = links_join mesh laws rest (new q) (old (merged (old_of q lq).0)) (new r)
           (linked_back mesh laws rest after (old (merged (old_of q lq).0)) (new q)
           (first_low mesh laws cut full face ps parts (merged (old_of q lq).0)
-          (merged_low (old_of q lq).0 (old_of q lq).1).0) to_q)
-          (subst (λ (u : ℕ). AreInOne mesh rest (old u) (new r)) (sym same) to_r)
+          (merged_low (old_of q lq).0 (old_of q lq).1).0) to_q) (rw same to_r)
 
   -- So there is one less.
   pub fewer : length ps ≡ suc (length qs)
@@ -293,14 +269,11 @@ module _ (mesh : HalfEdges) (laws : IsQuadManifold mesh) (cut rest : Cut) (full 
           (λ p r lp on lr also same. new_once p r lp lr (is_other p on) (is_other r also) same)
 
       up : passing (λ q. true) (length qs) ≤ passing (λ p. not (p == far.0)) (length ps)
-      up = passing_le (λ q. true) (λ p. not (p == far.0)) (length qs) (length ps)
-          (λ q l on.
-          let low : (merged (old_of q l).0 < length ps) × (merged (old_of q l).0 ≢ far.0) =
-          merged_low (old_of q l).0 (old_of q l).1 in
+      up = passing_le (λ q. true) (λ p. not (p == far.0)) (length qs) (length ps) (λ q l on.
+          let low = merged_low (old_of q l).0 (old_of q l).1 in
           (merged (old_of q l).0, low.0, ap not (ne_eqb (merged (old_of q l).0) far.0 low.1)))
           (λ q r lq on lr also same. old_once q r lq lr same)
 
 pub fewer_law : FewerLaw
-fewer_law mesh cut rest face s t n ps qs laws full arc without parts whole =
-    fewer mesh laws cut rest full (join_law mesh cut rest s t n laws full arc without) face s t n arc without ps qs
-    parts whole
+fewer_law mesh cut rest face s t n ps qs laws full arc without parts whole = fewer mesh laws cut rest full
+    (join_law mesh cut rest s t n laws full arc without) face s t n arc without ps qs parts whole

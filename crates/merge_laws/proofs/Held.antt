@@ -30,9 +30,8 @@ turn_there faces cut v y = by_dart (any_where (λ d. is_on cut d && is_on cut (p
         (d, f.0, f.1, p.0, p.1)
 
 pub turn_from : (faces : Faces) (cut : List Bool) (v : ℕ) → Turn faces cut v → is_turn faces cut v ≡ true
-turn_from faces cut v (d, l, at, on, before) =
-    any_at (λ x. is_on cut x && is_on cut (prev_of x)) d (fan_of faces v) (in_fan faces v d l at)
-    (and_from _ _ on before)
+turn_from faces cut v (d, l, at, on, before) = any_at (λ x. is_on cut x && is_on cut (prev_of x)) d (fan_of faces v)
+    (in_fan faces v d l at) (and_from _ _ on before)
 
 -- An arc that may not leave may not leave a part of the cut.
 pub held_law : HeldLaw
@@ -45,8 +44,7 @@ held_law faces marks cut rest s t n more free = keeps_from faces marks (without 
     grows : (d : ℕ) → d < darts faces → is_on (without faces rest s t n) d ≡ true
         → is_on (without faces cut s t n) d ≡ true
     grows d l on =
-        let p : (is_on rest d ≡ true) × (not (is_on_arc (half_edges faces) s t n d) ≡ true) =
-        and_parts _ _ (sym (without_is faces rest s t n d l) ∙ on) in
+        let p = and_parts _ _ (sym (without_is faces rest s t n d l) ∙ on) in
         without_is faces cut s t n d l ∙ and_from _ _ (more d p.0) p.1
 
     turn_grows : (v : ℕ) → Turn faces (without faces rest s t n) v → Turn faces (without faces cut s t n) v
@@ -63,8 +61,7 @@ turned_may faces marks cut s t n y = ap (keeps_lines faces marks) (sym same) ∙
         (λ d l. each d (omega (arith, l, without_long faces cut s t n)))
       where
         other : (d : ℕ) → is_on_arc (half_edges faces) s t n d ≡ is_on_arc (half_edges faces) t s n d
-        other d =
-            same_test _ _ (λ o. on_arc (half_edges faces) t s n d
+        other d = same_test _ _ (λ o. on_arc (half_edges faces) t s n d
             (other_way (half_edges faces) s t n d (of_arc (half_edges faces) s t n d o)))
             (λ o. on_arc (half_edges faces) s t n d
             (other_way (half_edges faces) t s n d (of_arc (half_edges faces) t s n d o)))

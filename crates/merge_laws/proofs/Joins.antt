@@ -27,14 +27,11 @@ module _ (mesh : HalfEdges) (laws : IsQuadManifold mesh) (cut : Cut) (full : IsC
 
   -- No other side of a cell on the near side lies on the arc.
   pub clear : (q a b : ℕ) → 0 < q → q < 4 → a < n → b < h → IsOnArc mesh s t n (spin mesh q (grown mesh s a b)) → ⊥
-  clear q a b some low la lb o = by_side o.0 o.1 o.2
-    where
-      by_side : (k : ℕ) → k < n → (spin mesh q (grown mesh s a b) ≡ easts mesh s k)
-          ⊎ (spin mesh q (grown mesh s a b) ≡ easts mesh t k) → ⊥
-      by_side k l (inl e) = never_south mesh laws cut full n h (grown mesh s) grid q k a b some low l la lb (sym e)
-      by_side k l (inr e) = foreign (spin mesh q (grown mesh s a b))
-          (q, record { a = a; b = b; a_low = la; b_low = lb; is = refl })
-          (0, record { a = k; b = 0; a_low = l; b_low = other.tall; is = e })
+  clear q a b some low la lb o = elim o.2 [
+    | inl e ↦ never_south mesh laws cut full n h (grown mesh s) grid q o.0 a b some low o.1 la lb (sym e)
+    | inr e ↦ foreign (spin mesh q (grown mesh s a b)) (q, record { a = a; b = b; a_low = la; b_low = lb; is = refl })
+        (0, record { a = o.0; b = 0; a_low = o.1; b_low = other.tall; is = e })
+  ]
 
   -- Inside the arc four faces go round a vertex.
   pub crossed_at : (k : ℕ) → suc k < n → HasCross mesh (easts mesh s (suc k))
@@ -72,7 +69,7 @@ module _ (mesh : HalfEdges) (laws : IsQuadManifold mesh) (cut : Cut) (full : IsC
     pub gap_over : (d : ℕ) → d < mesh.count → cut d ≡ true → (k : ℕ) → k < n → mesh.next d ≡ easts mesh s k
         → (rest_end : rest (mesh.next (easts mesh t (n - 1))) ≡ true) → GoesOn mesh rest d
     gap_over d ld on k l e rest_end =
-        let start : k ≡ 0 = first_place mesh laws cut full s n arc.glued.near k l
+        let start = first_place mesh laws cut full s n arc.glued.near k l
         (ap (λ x. cut (mesh.prev x)) (sym e) ∙ (ap cut (laws.prev_next d) ∙ on)) in
         let is : mesh.next d ≡ s = e ∙ ap (easts mesh s) start in
         inr (
@@ -84,15 +81,13 @@ module _ (mesh : HalfEdges) (laws : IsQuadManifold mesh) (cut : Cut) (full : IsC
     -- Where it came straight on to the arc, it came along the arc.
     pub gap_on : (d e : ℕ) → d < mesh.count → cut (mesh.next d) ≡ false → mesh.twin (mesh.next d) ≡ Some e → (k : ℕ)
         → k < n → mesh.next e ≡ easts mesh s k → (j : ℕ) × (j < n) × (d ≡ easts mesh s j)
-    gap_on d e ld off tw zero l is =
-        absurd (true≢false (sym arc.glued.near.corner.2
-        ∙ (ap (λ x. cut (mesh.prev x)) (sym is)
+    gap_on d e ld off tw zero l is = absurd (true≢false
+        (sym arc.glued.near.corner.2 ∙ (ap (λ x. cut (mesh.prev x)) (sym is)
         ∙ (ap cut (laws.prev_next e) ∙ (full.alike (mesh.next d) e (laws.next_low d ld) tw ∙ off)))))
     gap_on d e ld off tw (suc k) l is =
         let before : e ≡ mesh.prev (easts mesh s (suc k)) = sym (laws.prev_next e) ∙ ap mesh.prev is in
         let lk : easts mesh s k < mesh.count = side_low mesh laws cut full s n arc.glued.near k (omega arith) in
-        let same : mesh.next d ≡ mesh.next (easts mesh s k) =
-        twin_same mesh laws (mesh.next d) (mesh.next (easts mesh s k)) e (laws.next_low d ld)
+        let same = twin_same mesh laws (mesh.next d) (mesh.next (easts mesh s k)) e (laws.next_low d ld)
         (laws.next_low (easts mesh s k) lk) tw (side_link mesh laws cut full s n arc.glued.near k l
         ∙ ap Some (sym before)) in
         (k, omega arith, next_same mesh laws d (easts mesh s k) same)
@@ -111,7 +106,7 @@ module _ (mesh : HalfEdges) (laws : IsQuadManifold mesh) (cut : Cut) (full : IsC
     pub start_stays : rest (mesh.prev s) ≡ true
     start_stays = ap rest (prev_three mesh laws s)
         ∙ still mesh laws cut rest s t n without (spin mesh 3 s)
-        (subst (λ (x : ℕ). x < mesh.count) (prev_three mesh laws s) (laws.prev_low s arc.glued.near.corner.0))
+        (rw (prev_three mesh laws s) at (laws.prev_low s arc.glued.near.corner.0))
         (clear 3 0 0 (omega arith) (omega arith) arc.glued.near.some grid.tall)
         (ap cut (sym (prev_three mesh laws s)) ∙ arc.glued.near.corner.2)
 
@@ -119,14 +114,13 @@ module _ (mesh : HalfEdges) (laws : IsQuadManifold mesh) (cut : Cut) (full : IsC
     pub cross_on : (d : ℕ) → d < mesh.count → rest (mesh.prev d) ≡ false → (k : ℕ) → k < n → d ≡ easts mesh s k
         → HasCross mesh d
     cross_on d ld off zero l e = absurd (false≢true (sym off ∙ (ap (λ x. rest (mesh.prev x)) e ∙ start_stays)))
-    cross_on d ld off (suc k) l e = subst (λ (x : ℕ). HasCross mesh x) (sym e) (crossed_at k l)
+    cross_on d ld off (suc k) l e = rw e (crossed_at k l)
 
     pub cross_before : (d : ℕ) → d < mesh.count → cut d ≡ false → (k : ℕ) → k < n → mesh.prev d ≡ easts mesh s k
         → HasCross mesh d
     cross_before d ld off k l e = elim (cases_eq (suc k) n) [
       | inl z ↦ absurd (true≢false (sym (arc.glued.near.ends k z) ∙ (ap cut (sym is) ∙ off)))
-      | inr ne ↦ let lk : suc k < n =
-          omega arith in cross_from mesh laws (easts mesh s (suc k)) d
+      | inr ne ↦ let lk : suc k < n = omega arith in cross_from mesh laws (easts mesh s (suc k)) d
           (side_low mesh laws cut full s n arc.glued.near (suc k) lk) ld
           (ap mesh.from is ∙ sym (side_from mesh laws cut full s n arc.glued.near k lk)) (crossed_at k lk)
     ]
@@ -141,12 +135,13 @@ module _ (mesh : HalfEdges) (laws : IsQuadManifold mesh) (cut : Cut) (full : IsC
     pub lost : (d e : ℕ) → d < mesh.count → AreLinked mesh cut d e → In mesh n h (grown mesh s) e → CornerOf mesh rest d
     unfolding far_corner
     lost d e ld a i =
-        by_links (links_join mesh laws cut d e far_corner a
+        let l = links_join mesh laws cut d e far_corner a
         (links_join mesh laws cut e s far_corner
         (linked_back mesh laws cut full s e arc.glued.near.corner.0
         (linked_in mesh laws cut full n h (grown mesh s) grid e i))
         (linked_in mesh laws cut full n h (grown mesh s) grid far_corner
-        (2, record { a = n - 1; b = h - 1; a_low = last; b_low = top; is = refl }))))
+        (2, record { a = n - 1; b = h - 1; a_low = last; b_low = top; is = refl }))) in
+        (far_corner, l.0, links_less mesh laws cut rest s t n without d far_corner l.0 ld l.1, corner)
       where
         last : n - 1 < n
         last = omega (arith, arc.glued.near.some)
@@ -170,9 +165,6 @@ module _ (mesh : HalfEdges) (laws : IsQuadManifold mesh) (cut : Cut) (full : IsC
               (grid.east_shut (n - 1) (h - 1) (omega (arith, arc.glued.near.some)) top),
         )
 
-        by_links : AreLinked mesh cut d far_corner → CornerOf mesh rest d
-        by_links l = (far_corner, l.0, links_less mesh laws cut rest s t n without d far_corner l.0 ld l.1, corner)
-
 module _ (mesh : HalfEdges) (laws : IsQuadManifold mesh) (cut : Cut) (full : IsCut mesh cut) (s t n : ℕ)
     (arc : IsJoinable mesh cut s t n) (h g : ℕ) (grid : IsGrid mesh cut n h (grown mesh s))
     (other : IsGrid mesh cut n g (grown mesh t)) (rest : Cut) (without : IsWithout mesh cut rest s t n) where
@@ -187,7 +179,11 @@ module _ (mesh : HalfEdges) (laws : IsQuadManifold mesh) (cut : Cut) (full : IsC
 
   gaps : (d : ℕ) → d < mesh.count → rest d ≡ true → GoesOn mesh rest d
   unfolding back without_back
-  gaps d l on = by_next (cases_Bool (cut (mesh.next d)))
+  gaps d l on = elim (cases_Bool (cut (mesh.next d))) [
+    | inl c ↦ elim (on_or_not mesh s t n (mesh.next d))
+        [ inl o ↦ over o.0 o.1 o.2 | inr none ↦ inl (keeps (mesh.next d) (laws.next_low d l) none c) ]
+    | inr off ↦ straight off (full.gaps d l was)
+  ]
     where
       was : cut d ≡ true
       was = less mesh laws cut rest s t n without d l on
@@ -213,23 +209,14 @@ module _ (mesh : HalfEdges) (laws : IsQuadManifold mesh) (cut : Cut) (full : IsC
 
       straight : cut (mesh.next d) ≡ false → GoesOn mesh cut d → GoesOn mesh rest d
       straight off (inl c) = absurd (true≢false (sym c ∙ off))
-      straight off (inr f) = at f.0 f.1 f.2 (on_or_not mesh s t n (mesh.next f.0))
-        where
-          at : (e : ℕ) → mesh.twin (mesh.next d) ≡ Some e → cut (mesh.next e) ≡ true → IsOnArc mesh s t n (mesh.next e)
-              ⊎ (IsOnArc mesh s t n (mesh.next e) → ⊥) → GoesOn mesh rest d
-          at e tw c (inl o) = absurd (true≢false (sym on ∙ without.gone d (along e off tw o.0 o.1 o.2)))
-          at e tw c (inr none) =
-              inr (
-                e,
-                tw,
-                keeps (mesh.next e) (laws.next_low e (laws.twin_low (mesh.next d) e (laws.next_low d l) tw))
-                    none c,
-              )
-
-      by_next : (cut (mesh.next d) ≡ true) ⊎ (cut (mesh.next d) ≡ false) → GoesOn mesh rest d
-      by_next (inl c) = elim (on_or_not mesh s t n (mesh.next d))
-          [ inl o ↦ over o.0 o.1 o.2 | inr none ↦ inl (keeps (mesh.next d) (laws.next_low d l) none c) ]
-      by_next (inr off) = straight off (full.gaps d l was)
+      straight off (inr f) = elim (on_or_not mesh s t n (mesh.next f.0)) [
+        | inl o ↦ absurd (true≢false (sym on ∙ without.gone d (along f.0 off f.1 o.0 o.1 o.2)))
+        | inr none ↦ inr (
+          f.0,
+          f.1,
+          keeps (mesh.next f.0) (laws.next_low f.0 (laws.twin_low (mesh.next d) f.0 (laws.next_low d l) f.1)) none f.2,
+        )
+      ]
 
   crossed : (d : ℕ) → d < mesh.count → IsUncut mesh rest (mesh.from d) → HasCross mesh d
   unfolding back without_back
@@ -271,11 +258,9 @@ module _ (mesh : HalfEdges) (laws : IsQuadManifold mesh) (cut : Cut) (full : IsC
 
       lost_after : (e : ℕ) → AreLinked mesh cut d e → (k : ℕ) → k < n → (mesh.prev e ≡ easts mesh s k)
           ⊎ (mesh.prev e ≡ easts mesh t k) → CornerOf mesh rest d
-      lost_after e a k lk (inl is) =
-          lost mesh laws cut full s t n arc h g grid other rest without d e l a
+      lost_after e a k lk (inl is) = lost mesh laws cut full s t n arc h g grid other rest without d e l a
           (1, record { a = k; b = 0; a_low = lk; b_low = grid.tall; is = sym (laws.next_prev e) ∙ ap mesh.next is })
-      lost_after e a k lk (inr is) =
-          lost mesh laws cut full t s n back g h other grid rest without_back d e l a
+      lost_after e a k lk (inr is) = lost mesh laws cut full t s n back g h other grid rest without_back d e l a
           (1, record { a = k; b = 0; a_low = lk; b_low = other.tall; is = sym (laws.next_prev e) ∙ ap mesh.next is })
 
       by_corner : CornerOf mesh cut d → CornerOf mesh rest d
@@ -321,8 +306,6 @@ module _ (mesh : HalfEdges) (laws : IsQuadManifold mesh) (cut : Cut) (full : IsC
 
 pub join_law : JoinLaw
 join_law mesh cut rest s t n laws full arc without =
-    by_grids (grid_on mesh laws cut full s n arc.glued.near) (grid_on mesh laws cut full t n arc.glued.far)
-  where
-    by_grids : (h : ℕ) × IsGrid mesh cut n h (grown mesh s) → (g : ℕ) × IsGrid mesh cut n g (grown mesh t)
-        → IsCut mesh rest
-    by_grids p q = full_rest mesh laws cut full s t n arc p.0 q.0 p.1 q.1 rest without
+    let p = grid_on mesh laws cut full s n arc.glued.near in
+    let q = grid_on mesh laws cut full t n arc.glued.far in
+    full_rest mesh laws cut full s t n arc p.0 q.0 p.1 q.1 rest without

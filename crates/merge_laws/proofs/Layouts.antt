@@ -53,30 +53,26 @@ module _ (mesh : HalfEdges) (laws : IsQuadManifold mesh) (cut : Cut) (full : IsC
     inside = λ k l. (1, record { a = p.w - 1; b = k; a_low = last_column; b_low = l; is = refl });
   }
   border north = record {
-    whole = subst (λ (x : ℕ). IsWholeSide mesh cut x p.w) north_start
-        (north_side mesh laws cut full p.w p.h (cell_of p) grid);
+    whole = rw north_start at (north_side mesh laws cut full p.w p.h (cell_of p) grid);
     along = λ k l. ap (λ x. easts mesh x k) (sym north_start)
         ∙ along_north mesh laws cut full p.w p.h (cell_of p) grid k (p.w - 1 - k) (omega arith);
     inside = λ k l. (2, record { a = p.w - 1 - k; b = p.h - 1; a_low = omega arith; b_low = last_row; is = refl });
   }
   border west = record {
-    whole = subst (λ (x : ℕ). IsWholeSide mesh cut x p.h) west_start
-        (west_side mesh laws cut full p.w p.h (cell_of p) grid);
+    whole = rw west_start at (west_side mesh laws cut full p.w p.h (cell_of p) grid);
     along = λ k l. ap (λ x. easts mesh x k) (sym west_start)
         ∙ (along_west mesh laws cut full p.w p.h (cell_of p) grid k (p.h - 1 - k) (omega arith)
         ∙ sym (prev_three mesh laws (cell_of p 0 (p.h - 1 - k))));
-    inside =
-        λ k l. (
-          3,
-          record {
-            a = 0;
-            b = p.h - 1 - k;
-            a_low = grid.wide;
-            b_low = omega arith;
-            is =
-                prev_three mesh laws (cell_of p 0 (p.h - 1 - k));
-          },
-        );
+    inside = λ k l. (
+      3,
+      record {
+        a = 0;
+        b = p.h - 1 - k;
+        a_low = grid.wide;
+        b_low = omega arith;
+        is = prev_three mesh laws (cell_of p 0 (p.h - 1 - k));
+      },
+    );
   }
 
 module _ (mesh : HalfEdges) (laws : IsQuadManifold mesh) (cut : Cut) (full : IsCut mesh cut) (node : ℕ → Bool)
@@ -109,9 +105,7 @@ module _ (mesh : HalfEdges) (laws : IsQuadManifold mesh) (cut : Cut) (full : IsC
       lies : (o : ℕ) → o < long_at plan.arcs (arc_of slot)
           → LiesAt mesh (path_at plan.arcs (arc_of slot)).darts (use_of (layout_of plan) slot).forward o
           (border_dart mesh (patch_at plan.patches slot.patch) slot.side o)
-      lies o l =
-          subst (λ (r : ℕ). LiesAt mesh (path_at plan.arcs (arc_of slot)).darts (use_of (layout_of plan) slot).forward o
-          (border_dart mesh (patch_at plan.patches slot.patch) slot.side r)) none (lay.used slot o is l)
+      lies o l = rw none at (lay.used slot o is l)
         where
           none : reach (layout_of plan) (long_at plan.arcs) slot.patch slot.side slot.at + o ≡ o
           none = let same : 0 + o ≡ o = omega arith in ap
@@ -133,8 +127,7 @@ module _ (mesh : HalfEdges) (laws : IsQuadManifold mesh) (cut : Cut) (full : IsC
     far_lies : (o : ℕ) → o < long_at plan.arcs (arc_of one)
         → LiesAt mesh (path_at plan.arcs (arc_of one)).darts (not (use_of (layout_of plan) one).forward) o
         (border_dart mesh (patch_at plan.patches other.patch) other.side o)
-    far_lies o l =
-        subst (λ (b : Bool). LiesAt mesh (path_at plan.arcs (arc_of one)).darts b o
+    far_lies o l = subst (λ (b : Bool). LiesAt mesh (path_at plan.arcs (arc_of one)).darts b o
         (border_dart mesh (patch_at plan.patches other.patch) other.side o)) are.across.1.turned
         (subst (λ (a : ℕ). LiesAt mesh (path_at plan.arcs a).darts (use_of (layout_of plan) other).forward o
         (border_dart mesh (patch_at plan.patches other.patch) other.side o)) are.across.1.arc
@@ -151,13 +144,7 @@ module _ (mesh : HalfEdges) (laws : IsQuadManifold mesh) (cut : Cut) (full : IsC
     joined : IsJoinable mesh cut (border_dart mesh (patch_at plan.patches one.patch) one.side 0)
         (border_dart mesh (patch_at plan.patches other.patch) other.side 0) (long_at plan.arcs (arc_of one))
     joined = record {
-      glued = record {
-        near = subst (λ (m : ℕ). IsWholeSide mesh cut (border_dart mesh (patch_at plan.patches one.patch) one.side 0) m)
-            near_long near.whole;
-        far = subst (λ (m : ℕ). IsWholeSide mesh cut (border_dart mesh (patch_at plan.patches other.patch) other.side 0)
-            m) far_long far.whole;
-        across = across;
-      };
+      glued = record { near = rw near_long at near.whole; far = rw far_long at far.whole; across = across };
       apart = apart;
     }
       where
@@ -166,7 +153,7 @@ module _ (mesh : HalfEdges) (laws : IsQuadManifold mesh) (cut : Cut) (full : IsC
             (easts mesh (border_dart mesh (patch_at plan.patches other.patch) other.side 0) j)
         across k j sum =
             let lj : j < side_size (patch_at plan.patches other.patch) other.side = omega (arith, far_long) in
-            let low : border_dart mesh (patch_at plan.patches other.patch) other.side j < mesh.count =
+            let low =
             in_low mesh laws cut full (patch_at plan.patches other.patch).w (patch_at plan.patches other.patch).h
             (cell_of (patch_at plan.patches other.patch)) (grid_of other are.across.0)
             (border_dart mesh (patch_at plan.patches other.patch) other.side j) (far.inside j lj) in

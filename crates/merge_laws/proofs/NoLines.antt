@@ -61,8 +61,7 @@ module _ (faces : Faces) where
       ≡ map (is_break faces (replicate (darts faces) false)) (all_vertices faces)
   none_broken = ext_get_or false (replicate (vertex_count faces) false)
       (map (is_break faces (replicate (darts faces) false)) (all_vertices faces)) long
-      (λ v l. none_on (vertex_count faces) v
-      ∙ sym (at v l))
+      (λ v l. none_on (vertex_count faces) v ∙ sym (at v l))
     where
       long : length (replicate (vertex_count faces) false)
           ≡ length (map (is_break faces (replicate (darts faces) false)) (all_vertices faces))
@@ -73,9 +72,7 @@ module _ (faces : Faces) where
       at : (v : ℕ) → v < length (replicate (vertex_count faces) false)
           → is_on (map (is_break faces (replicate (darts faces) false)) (all_vertices faces)) v ≡ false
       at v l = get_or-map-range_with_len (is_break faces (replicate (darts faces) false)) 0 (vertex_count faces) v v
-          false
-          (omega (arith, l, length-replicate (vertex_count faces) false)) (omega arith)
-          ∙ no_break faces v
+          false (omega (arith, l, length-replicate (vertex_count faces) false)) (omega arith) ∙ no_break faces v
 
   -- What is merged beside no marks is merged, and the other way round.
   pub none_merged : (cut rest : List Bool)

@@ -16,12 +16,10 @@ use Rattle.def_merge.specs.{Merged.MayLeave, Laws.OneMergedLaw}
 -- An arc has the same darts from both sides.
 pub same_darts : (mesh : HalfEdges) (s t n r u m d : ℕ) → AreOneArc s t r u → n ≡ m → IsOnArc mesh s t n d
     → IsOnArc mesh r u m d
-same_darts mesh s t n r u m d (inl p) e o =
-    subst (λ (x : ℕ). IsOnArc mesh x u m d) p.0
-    (subst (λ (x : ℕ). IsOnArc mesh s x m d) p.1 (subst (λ (x : ℕ). IsOnArc mesh s t x d) e o))
+same_darts mesh s t n r u m d (inl p) e o = subst (λ (x : ℕ). IsOnArc mesh x u m d) p.0
+    (subst (λ (x : ℕ). IsOnArc mesh s x m d) p.1 (rw e at o))
 same_darts mesh s t n r u m d (inr p) e o =
-    other_way mesh u r m d (subst (λ (x : ℕ). IsOnArc mesh x r m d) p.0
-    (subst (λ (x : ℕ). IsOnArc mesh s x m d) p.1 (subst (λ (x : ℕ). IsOnArc mesh s t x d) e o)))
+    other_way mesh u r m d (rw p.0 at (subst (λ (x : ℕ). IsOnArc mesh s x m d) p.1 (rw e at o)))
 
 -- A cut of these faces, as steps keep it.
 pub record IsCutOf (faces : Faces) (marks : List Bool) : Type 0 where
@@ -33,32 +31,26 @@ module _ (faces : Faces) (may : MayLeave) (laws : IsQuadManifold (half_edges fac
   mesh = half_edges faces
 
   pub cut_after : (marks rest : List Bool) → IsCutOf faces marks → IsStep faces may marks rest → IsCutOf faces rest
-  cut_after marks rest cut step =
-      record {
-        long = step.long ∙ cut.long;
-        full =
-            join_law mesh (is_on marks) (is_on rest) step.near step.far step.size laws cut.full step.first.joinable
-            step.without;
-      }
+  cut_after marks rest cut step = record {
+    long = step.long ∙ cut.long;
+    full = join_law mesh (is_on marks) (is_on rest) step.near step.far step.size laws cut.full step.first.joinable
+        step.without;
+  }
 
   one_step : (marks a b : List Bool) → IsCutOf faces marks → IsStep faces may marks a → IsStep faces may marks b → a ≡ b
-  one_step marks a b cut one two =
-      ext_get_or false a b (one.long ∙ sym two.long)
+  one_step marks a b cut one two = ext_get_or false a b (one.long ∙ sym two.long)
       (λ d l. each d (omega (arith, l, one.long, cut.long)) (on_or_not mesh one.near one.far one.size d))
     where
       names : one.first.name ≡ two.first.name
       names = omega (
         arith,
-        one.first.first two.near two.far two.size two.first.name two.first.joinable two.first.free
-            two.first.named.on,
-        two.first.first one.near one.far one.size one.first.name one.first.joinable one.first.free
-            one.first.named.on,
+        one.first.first two.near two.far two.size two.first.name two.first.joinable two.first.free two.first.named.on,
+        two.first.first one.near one.far one.size one.first.name one.first.joinable one.first.free one.first.named.on,
       )
 
       arcs : AreOneArc one.near one.far two.near two.far × (one.size ≡ two.size)
       arcs = one_arc mesh laws (is_on marks) cut.full one.near one.far one.size two.near two.far two.size one.first.name
-          one.first.joinable.glued two.first.joinable.glued one.first.named.on
-          (subst (λ (x : ℕ). IsOnArc mesh two.near two.far two.size x) (sym names) two.first.named.on)
+          one.first.joinable.glued two.first.joinable.glued one.first.named.on (rw names two.first.named.on)
 
       back : AreOneArc one.near one.far two.near two.far → AreOneArc two.near two.far one.near one.far
       back (inl p) = inl (sym p.0, sym p.1)
@@ -66,13 +58,11 @@ module _ (faces : Faces) (may : MayLeave) (laws : IsQuadManifold (half_edges fac
 
       each : (d : ℕ) → d < darts faces → IsOnArc mesh one.near one.far one.size d
           ⊎ (IsOnArc mesh one.near one.far one.size d → ⊥) → is_on a d ≡ is_on b d
-      each d l (inl o) = one.without.gone d o
-          ∙ sym (two.without.gone d (same_darts mesh one.near one.far one.size two.near two.far two.size d arcs.0 arcs.1
-          o))
+      each d l (inl o) = one.without.gone d o ∙ sym (two.without.gone d
+          (same_darts mesh one.near one.far one.size two.near two.far two.size d arcs.0 arcs.1 o))
       each d l (inr none) = one.without.kept d l none
-          ∙ sym
-          (two.without.kept d l (λ o. none
-          (same_darts mesh two.near two.far two.size one.near one.far one.size d (back arcs.0) (sym arcs.1) o)))
+          ∙ sym (two.without.kept d l (λ o. none (same_darts mesh two.near two.far two.size one.near one.far one.size d
+          (back arcs.0) (sym arcs.1) o)))
 
   pub cut_reached : (marks a : List Bool) (i : ℕ) → IsCutOf faces marks → Steps faces may marks a i → IsCutOf faces a
   cut_reached marks a zero cut steps = subst (λ (x : List Bool). IsCutOf faces x) steps cut
@@ -82,8 +72,7 @@ module _ (faces : Faces) (may : MayLeave) (laws : IsQuadManifold (half_edges fac
   pub part_reached : (marks a : List Bool) (i : ℕ) → IsCutOf faces marks → Steps faces may marks a i → (d : ℕ)
       → d < darts faces → is_on a d ≡ true → is_on marks d ≡ true
   part_reached marks a zero cut steps d l on = ap (λ (x : List Bool). is_on x d) steps ∙ on
-  part_reached marks a (suc i) cut steps d l on =
-      part_reached marks steps.0 i cut steps.1 d l
+  part_reached marks a (suc i) cut steps d l on = part_reached marks steps.0 i cut steps.1 d l
       (less mesh laws (is_on steps.0) (is_on a) steps.2.near steps.2.far steps.2.size steps.2.without d l on)
 
   -- So many steps lead to one cut.
@@ -93,7 +82,7 @@ module _ (faces : Faces) (may : MayLeave) (laws : IsQuadManifold (half_edges fac
   same_reached marks a b (suc i) cut one two =
       let same : two.0 ≡ one.0 = same_reached marks two.0 one.0 i cut two.1 one.1 in
       one_step one.0 a b (cut_reached marks one.0 i cut one.1) one.2
-      (subst (λ (x : List Bool). IsStep faces may x b) same two.2)
+      (rw same at two.2)
 
   -- Fewer steps lead to a cut from which one more is taken.
   NextAt : (marks : List Bool) (i : ℕ) → Type 0
@@ -103,32 +92,21 @@ module _ (faces : Faces) (may : MayLeave) (laws : IsQuadManifold (half_edges fac
   unfolding NextAt
   on_the_way marks b zero i steps l = absurd (omega arith)
   on_the_way marks b (suc j) i steps l =
-      at steps.0 steps.1 steps.2 (cases_eq i j) (λ h. on_the_way marks steps.0 j i steps.1 h)
-    where
-      at : (a : List Bool) → Steps faces may marks a j → IsStep faces may a b → (i ≡ j) ⊎ (i ≡ j → ⊥)
-          → (i < j → NextAt marks i) → NextAt marks i
-      at a before step (inl e) rest = (a, b, subst (λ (x : ℕ). Steps faces may marks a x) (sym e) before, step)
-      at a before step (inr ne) rest = rest (omega arith)
+      let rest : (i < j → NextAt marks i) = λ h. on_the_way marks steps.0 j i steps.1 h in
+      elim (cases_eq i j) [ inl e ↦ (steps.0, b, rw e steps.1, steps.2) | inr ne ↦ rest (omega arith) ]
 
   no_more : (marks a b : List Bool) (i j : ℕ) → IsCutOf faces marks → Steps faces may marks a i → IsMerged faces may a
       → Steps faces may marks b j → i < j → ⊥
   unfolding NextAt
-  no_more marks a b i j cut one merged two l = by_next (on_the_way marks b j i two l)
-    where
-      by_next : NextAt marks i → ⊥
-      by_next n = at n.0 n.1 n.2 n.3
-        where
-          at : (x c : List Bool) → Steps faces may marks x i → IsStep faces may x c → ⊥
-          at x c before step =
-              let here : IsStep faces may a c =
-              subst (λ (y : List Bool). IsStep faces may y c) (same_reached marks x a i cut before one) step in
-              merged here.near here.far here.size here.first.joinable here.first.free
+  no_more marks a b i j cut one merged two l =
+      let n = on_the_way marks b j i two l in
+      let here = rw (same_reached marks n.0 a i cut n.2 one) at n.3 in
+      merged here.near here.far here.size here.first.joinable here.first.free
 
   pub one_merged : (marks rest other : List Bool) → IsCutOf faces marks → IsMergedBy faces may marks rest
       → IsMergedBy faces may marks other → rest ≡ other
   one_merged marks rest other cut one two = elim (cases_order one.steps two.steps) [
-    | inl e ↦ same_reached marks rest other one.steps cut one.reached
-        (subst (λ (x : ℕ). Steps faces may marks other x) (sym e) two.reached)
+    | inl e ↦ same_reached marks rest other one.steps cut one.reached (rw e two.reached)
     | inr o ↦ elim o [
       | inl l ↦ absurd (no_more marks rest other one.steps two.steps cut one.reached one.merged two.reached l)
       | inr l ↦ absurd (no_more marks other rest two.steps one.steps cut two.reached two.merged one.reached l)
@@ -138,8 +116,7 @@ module _ (faces : Faces) (may : MayLeave) (laws : IsQuadManifold (half_edges fac
 pub one_merged_law : OneMergedLaw
 one_merged_law faces may marks rest other manifold full one two = (
   one_merged faces may laws marks rest other cut one two,
-  (full_cut_law faces rest manifold).1
-      (after.long, after.full),
+  (full_cut_law faces rest manifold).1 (after.long, after.full),
 )
   where
     laws : IsQuadManifold (half_edges faces)

@@ -1,5 +1,5 @@
 -- Whole sides of patches: each cut dart lies on one, at one place, and the four of a patch follow each other.
-use Rattle.std.proofs.Common.{◌≡◌, ◌⊎◌, ℕ, zero, suc, ◌+◌, ◌-◌, ◌<◌, true, false, Some, sym, ◌∙◌, ap, subst, refl, inl}
+use Rattle.std.proofs.Common.{◌≡◌, ◌⊎◌, ℕ, zero, suc, ◌+◌, ◌-◌, ◌<◌, true, false, Some, sym, ◌∙◌, ap, refl, inl}
 use Rattle.std.proofs.Common.{inr, true≢false, arith}
 use Rattle.std.proofs.lemmas.Bool.{cases_eq, cases_order}
 use Rattle.def_mesh.specs.HalfEdges.{HalfEdges, IsQuadManifold}
@@ -30,9 +30,8 @@ pub record StandsOn (mesh : HalfEdges) (cut : Cut) (c n k x : ℕ) : Type 0 wher
 
 -- The first darts of the four sides of a grid.
 abbrev pub IsFirstDart : (mesh : HalfEdges) (w h : ℕ) (cell : Cells) (c : ℕ) → Type 0
-IsFirstDart mesh w h cell c =
-    (c ≡ cell 0 0) ⊎ ((c ≡ mesh.next (cell (w - 1) 0))
-    ⊎ ((c ≡ mesh.next (mesh.next (cell (w - 1) (h - 1))))
+IsFirstDart mesh w h cell c = (c ≡ cell 0 0)
+    ⊎ ((c ≡ mesh.next (cell (w - 1) 0)) ⊎ ((c ≡ mesh.next (mesh.next (cell (w - 1) (h - 1))))
     ⊎ (c ≡ mesh.next (mesh.next (mesh.next (cell 0 (h - 1)))))))
 
 -- A side of a grid on which x stands.
@@ -82,11 +81,10 @@ module _ (mesh : HalfEdges) (laws : IsQuadManifold mesh) (cut : Cut) (full : IsC
   one_place s n r m (suc k) (suc j) one two lk lj e =
       let lx : easts mesh s k < mesh.count = side_low s n one k (omega arith) in
       let ly : easts mesh r j < mesh.count = side_low r m two j (omega arith) in
-      let same : mesh.next (easts mesh s k) ≡ mesh.next (easts mesh r j) =
-      twin_same mesh laws (mesh.next (easts mesh s k)) (mesh.next (easts mesh r j))
+      let same = twin_same mesh laws (mesh.next (easts mesh s k)) (mesh.next (easts mesh r j))
       (mesh.prev (easts mesh s (suc k))) (laws.next_low (easts mesh s k) lx) (laws.next_low (easts mesh r j) ly)
       (side_link s n one k lk) (side_link r m two j lj ∙ ap (λ x. Some (mesh.prev x)) (sym e)) in
-      let p : (s ≡ r) × (k ≡ j) = one_place s n r m k j one two (omega arith) (omega arith)
+      let p = one_place s n r m k j one two (omega arith) (omega arith)
       (next_same mesh laws (easts mesh s k) (easts mesh r j) same) in
       (p.0, ap suc p.1)
 
@@ -102,17 +100,14 @@ module _ (mesh : HalfEdges) (laws : IsQuadManifold mesh) (cut : Cut) (full : IsC
 
   -- The grid that stands on a whole side.
   pub grid_on : (s n : ℕ) → IsWholeSide mesh cut s n → (h : ℕ) × IsGrid mesh cut n h (grown mesh s)
-  grid_on s n side = by_grown (grow mesh laws cut full s side.corner)
-    where
-      by_grown : (w : ℕ) × (h : ℕ) × IsGrown mesh cut s w h → (h : ℕ) × IsGrid mesh cut n h (grown mesh s)
-      by_grown g =
-          let other : IsWholeSide mesh cut s g.0 =
-          record { some = g.2.wide; corner = side.corner; inside = g.2.row.inside; ends = g.2.row.ends } in
-          let same : g.0 ≡ n = one_size s g.0 n other side in (
-            g.1,
-            subst (λ (w : ℕ). IsGrid mesh cut w g.1 (grown mesh s)) same
-                (grown_grid mesh laws cut full s g.0 g.1 side.corner g.2),
-          )
+  grid_on s n side =
+      let g = grow mesh laws cut full s side.corner in
+      let other : IsWholeSide mesh cut s g.0 =
+      record { some = g.2.wide; corner = side.corner; inside = g.2.row.inside; ends = g.2.row.ends } in
+      let same : g.0 ≡ n = one_size s g.0 n other side in (
+        g.1,
+        rw same at (grown_grid mesh laws cut full s g.0 g.1 side.corner g.2),
+      )
 
   -- The four sides of a grid.
   module _ (w h : ℕ) (cell : Cells) (grid : IsGrid mesh cut w h cell) where
@@ -147,8 +142,7 @@ module _ (mesh : HalfEdges) (laws : IsQuadManifold mesh) (cut : Cut) (full : IsC
       corner = (
         laws.next_low (cell (w - 1) 0) (grid.low (w - 1) 0 last_column grid.tall),
         grid.east_shut (w - 1) 0 (omega (arith, grid.wide)) grid.tall,
-        ap cut (laws.prev_next (cell (w - 1) 0))
-            ∙ grid.south_shut (w - 1) last_column,
+        ap cut (laws.prev_next (cell (w - 1) 0)) ∙ grid.south_shut (w - 1) last_column,
       );
       inside = λ k l. ap (λ x. cut (mesh.next x)) (along_east k (omega arith))
           ∙ grid.north_open (w - 1) k last_column l;
@@ -206,8 +200,8 @@ module _ (mesh : HalfEdges) (laws : IsQuadManifold mesh) (cut : Cut) (full : IsC
     west_side = record {
       some = grid.tall;
       corner = (
-        subst (λ (x : ℕ). x < mesh.count) (prev_three mesh laws (cell 0 (h - 1)))
-            (laws.prev_low (cell 0 (h - 1)) (grid.low 0 (h - 1) grid.wide last_row)),
+        rw (prev_three mesh laws (cell 0 (h - 1))) at (laws.prev_low (cell 0 (h - 1))
+            (grid.low 0 (h - 1) grid.wide last_row)),
         ap cut (sym (prev_three mesh laws (cell 0 (h - 1)))) ∙ grid.west_shut (h - 1) last_row,
         ap cut (laws.prev_next (mesh.next (mesh.next (cell 0 (h - 1)))))
             ∙ grid.north_shut 0 (h - 1) grid.wide (omega (arith, grid.tall)),
@@ -231,35 +225,27 @@ module _ (mesh : HalfEdges) (laws : IsQuadManifold mesh) (cut : Cut) (full : IsC
     stands_at zero i (suc j) x li lj e on =
         absurd (true≢false (sym on ∙ (ap cut e ∙ south_open mesh laws cut full w h cell grid i j li lj)))
     stands_at (suc zero) i j x li lj e on = elim (cases_eq (suc i) w) [
-      | inl z ↦ let same : w - 1 ≡ i =
-          omega arith in (
-            mesh.next (cell (w - 1) 0),
-            h,
-            j,
-            record {
-              side = east_side;
-              low = lj;
-              at =
-                  along_east j lj ∙ (ap (λ y. mesh.next (cell y j)) same ∙ sym e);
-            },
-            inr (inl refl),
-          )
+      | inl z ↦ let same : w - 1 ≡ i = omega arith in (
+        mesh.next (cell (w - 1) 0),
+        h,
+        j,
+        record { side = east_side; low = lj; at = along_east j lj ∙ (ap (λ y. mesh.next (cell y j)) same ∙ sym e) },
+        inr (inl refl),
+      )
       | inr ne ↦ absurd (true≢false (sym on ∙ (ap cut e ∙ grid.east_open i j (omega arith) lj)))
     ]
     stands_at (suc (suc zero)) i j x li lj e on = elim (cases_eq (suc j) h) [
-      | inl z ↦ let same : h - 1 ≡ j =
-          omega arith in (
-            mesh.next (mesh.next (cell (w - 1) (h - 1))),
-            w,
-            w - suc i,
-            record {
-              side = north_side;
-              low = omega arith;
-              at = along_north (w - suc i) i (omega arith)
-                  ∙ (ap (λ y. mesh.next (mesh.next (cell i y))) same ∙ sym e);
-            },
-            inr (inr (inl refl)),
-          )
+      | inl z ↦ let same : h - 1 ≡ j = omega arith in (
+        mesh.next (mesh.next (cell (w - 1) (h - 1))),
+        w,
+        w - suc i,
+        record {
+          side = north_side;
+          low = omega arith;
+          at = along_north (w - suc i) i (omega arith) ∙ (ap (λ y. mesh.next (mesh.next (cell i y))) same ∙ sym e);
+        },
+        inr (inr (inl refl)),
+      )
       | inr ne ↦ absurd (true≢false (sym on ∙ (ap cut e ∙ grid.north_open i j li (omega arith))))
     ]
     stands_at (suc (suc (suc zero))) zero j x li lj e on = (
@@ -280,31 +266,21 @@ module _ (mesh : HalfEdges) (laws : IsQuadManifold mesh) (cut : Cut) (full : IsC
 
     -- So a corner is the first dart of one.
     pub corner_in : (x : ℕ) → In mesh w h cell x → IsCorner mesh cut x → IsFirstDart mesh w h cell x
-    corner_in x i corner = by_side (stands_in x i corner.1)
-      where
-        by_side : SideOver mesh cut w h cell x → IsFirstDart mesh w h cell x
-        by_side o = at o.0 o.1 o.2 o.3 o.4
-          where
-            at : (c n k : ℕ) → StandsOn mesh cut c n k x → IsFirstDart mesh w h cell c → IsFirstDart mesh w h cell x
-            at c n k on first =
-                let start : k ≡ 0 = first_place c n on.side k on.low (ap (λ y. cut (mesh.prev y)) on.at ∙ corner.2) in
-                let same : c ≡ x = ap (easts mesh c) (sym start) ∙ on.at in
-                subst (λ (y : ℕ). IsFirstDart mesh w h cell y) same first
+    corner_in x i corner =
+        let o = stands_in x i corner.1 in
+        let start : o.2 ≡ 0 =
+        first_place o.0 o.1 o.3.side o.2 o.3.low (ap (λ y. cut (mesh.prev y)) o.3.at ∙ corner.2) in
+        let same : o.0 ≡ x = ap (easts mesh o.0) (sym start) ∙ o.3.at in
+        rw same at o.4
 
   -- Each cut dart stands on a whole side.
   pub stands : (x : ℕ) → x < mesh.count → cut x ≡ true → (c : ℕ) × (n : ℕ) × (k : ℕ) × StandsOn mesh cut c n k x
-  stands x l on = by_corner (full.corner x l)
-    where
-      by_corner : (e : ℕ) × (n : ℕ) × Links mesh cut x e n × IsCorner mesh cut e → (c : ℕ) × (n : ℕ) × (k : ℕ)
-          × StandsOn mesh cut c n k x
-      by_corner f = at f.0 f.3 (linked_back mesh laws cut full x f.0 l (f.1, f.2)) (grow mesh laws cut full f.0 f.3)
-        where
-          at : (e : ℕ) → IsCorner mesh cut e → AreLinked mesh cut e x → (w : ℕ) × (h : ℕ) × IsGrown mesh cut e w h
-              → (c : ℕ) × (n : ℕ) × (k : ℕ) × StandsOn mesh cut c n k x
-          at e corner back g =
-              let grid : IsGrid mesh cut g.0 g.1 (grown mesh e) = grown_grid mesh laws cut full e g.0 g.1 corner g.2 in
-              let o : SideOver mesh cut g.0 g.1 (grown mesh e) x =
-              stands_in g.0 g.1 (grown mesh e) grid x
-              (closed mesh laws cut full g.0 g.1 (grown mesh e) grid e x back.0 back.1
-              (first_in mesh laws cut full g.0 g.1 (grown mesh e) grid)) on in
-              (o.0, o.1, o.2, o.3)
+  stands x l on =
+      let f = full.corner x l in
+      let back = linked_back mesh laws cut full x f.0 l (f.1, f.2) in
+      let g = grow mesh laws cut full f.0 f.3 in
+      let grid : IsGrid mesh cut g.0 g.1 (grown mesh f.0) = grown_grid mesh laws cut full f.0 g.0 g.1 f.3 g.2 in
+      let o = stands_in g.0 g.1 (grown mesh f.0) grid x
+      (closed mesh laws cut full g.0 g.1 (grown mesh f.0) grid f.0 x back.0 back.1
+      (first_in mesh laws cut full g.0 g.1 (grown mesh f.0) grid)) on in
+      (o.0, o.1, o.2, o.3)

@@ -44,12 +44,10 @@ module _ (faces : Faces) (m : IsManifold faces) (marks : List Bool) (marked : Ar
     }
       where
         off_test : (a b : Bool) → b ≡ true → (a && not b) ≡ false
-        off_test true b y = ap not y
-        off_test false b y = refl
+        off_test = elim [ true ↦ λ b y. ap not y | false ↦ λ b y. refl ]
 
         on_test : (a b : Bool) → b ≡ false → (a && not b) ≡ a
-        on_test true b y = ap not y
-        on_test false b y = refl
+        on_test = elim [ true ↦ λ b y. ap not y | false ↦ λ b y. refl ]
 
     full_left : IsCut (half_edges faces) (is_on rest)
     full_left = join_law mesh (is_on cut) (is_on rest) s t n laws full arc left
@@ -75,11 +73,8 @@ module _ (faces : Faces) (m : IsManifold faces) (marks : List Bool) (marked : Ar
         far j sum = (glued.across (suc k) j sum, glued.far.inside j (omega arith))
 
         by_cross : HasCross (half_edges faces) x → ⊥
-        by_cross (a, b, c, is) = by_place (one_of_four mesh laws x a b c lx is e (record { low = le; at = at_x }))
+        by_cross (a, b, c, is) = by_place (one_of_four mesh laws x a b c lx is e (record { low = le; at = at }))
           where
-            at_x : from_of faces e ≡ from_of faces x
-            at_x = at
-
             lc : c < darts faces
             lc = low_c mesh laws x a b c lx is
 
@@ -88,18 +83,14 @@ module _ (faces : Faces) (m : IsManifold faces) (marks : List Bool) (marked : Ar
 
             off_c : is_on cut c ≡ false
             off_c =
-                let f : (twin_of faces x ≡ Some (easts (half_edges faces) u (n - suc (suc k))))
-                × (is_on cut (next_of (easts (half_edges faces) u (n - suc (suc k)))) ≡ false) =
-                far (n - suc (suc k)) (omega (arith, l)) in
-                let same : easts (half_edges faces) u (n - suc (suc k)) ≡ prev_of c =
-                same_Some _ _ (sym f.0 ∙ laws.twin_twin (prev_of c) x (laws.prev_low c lc) is.last) in
+                let f = far (n - suc (suc k)) (omega (arith, l)) in
+                let same = same_Some _ _ (sym f.0 ∙ laws.twin_twin (prev_of c) x (laws.prev_low c lc) is.last) in
                 sym (ap (is_on cut) (ap next_of same ∙ laws.next_prev c)) ∙ f.1
 
             by_place : (e ≡ x) ⊎ ((e ≡ a) ⊎ ((e ≡ b) ⊎ (e ≡ c))) → ⊥
             by_place (inl same) = false≢true (sym west ∙ (ap (λ z. is_on cut (prev_of z)) (sym same) ∙ before))
             by_place (inr (inl same)) = false≢true (sym off_a ∙ (ap (is_on cut) (sym same) ∙ on))
-            by_place (inr (inr (inl same))) =
-                false≢true
+            by_place (inr (inr (inl same))) = false≢true
                 (sym off_c ∙ (full.alike (prev_of b) c (laws.prev_low b (low_b mesh laws x a b c lx is)) is.third
                 ∙ (ap (λ z. is_on cut (prev_of z)) (sym same) ∙ before)))
             by_place (inr (inr (inr same))) = false≢true (sym off_c ∙ (ap (is_on cut) (sym same) ∙ on))
@@ -112,10 +103,9 @@ module _ (faces : Faces) (m : IsManifold faces) (marks : List Bool) (marked : Ar
     first_at d (suc k, l, inl e) y turn =
         absurd (no_turn s t arc.glued k turn.0 l (ap (λ z. is_break faces marks (from_of faces z)) (sym e) ∙ y) turn.1
         (turn.2 ∙ ap (from_of faces) e) turn.3 turn.4)
-    first_at d (suc k, l, inr e) y turn =
-        absurd (no_turn t s (turned_glued mesh laws (is_on cut) full s t n arc.glued) k turn.0 l
-        (ap (λ z. is_break faces marks (from_of faces z)) (sym e) ∙ y) turn.1 (turn.2 ∙ ap (from_of faces) e) turn.3
-        turn.4)
+    first_at d (suc k, l, inr e) y turn = absurd (no_turn t s (turned_glued mesh laws (is_on cut) full s t n arc.glued)
+        k turn.0 l (ap (λ z. is_break faces marks (from_of faces z)) (sym e) ∙ y) turn.1 (turn.2 ∙ ap (from_of faces) e)
+        turn.3 turn.4)
 
     -- Where the edge opposite to an end stays, a corner stays.
     module _ (r u : ℕ) (lr : r < darts faces) (corner : (is_on cut r ≡ true) × (is_on cut (prev_of r) ≡ true))
@@ -144,11 +134,10 @@ module _ (faces : Faces) (m : IsManifold faces) (marks : List Bool) (marked : Ar
 
               clear : IsOnArc (half_edges faces) s t n b → ⊥
               clear o =
-                  by_end (other b (first_at b o (ap (is_break faces marks) at ∙ y) (r, lr, sym at, corner.0, corner.1)))
-                where
-                  by_end : (b ≡ r) ⊎ (b ≡ u) → ⊥
-                  by_end (inl e) = is.apart (sym e)
-                  by_end (inr e) = opposite.1 e
+                  elim (other b (first_at b o (ap (is_break faces marks) at ∙ y) (r, lr, sym at, corner.0, corner.1))) [
+                    | inl e ↦ is.apart (sym e)
+                    | inr e ↦ opposite.1 e
+                  ]
 
               on_b : is_on rest b ≡ true
               on_b = still mesh laws (is_on cut) (is_on rest) s t n left b lb clear opposite.0
@@ -162,8 +151,8 @@ module _ (faces : Faces) (m : IsManifold faces) (marks : List Bool) (marked : Ar
                   by_gap : GoesOn (half_edges faces) (is_on rest) (prev_of a) → is_on rest a ≡ true
                   by_gap (inl y) = ap (is_on rest) (sym (laws.next_prev a)) ∙ y
                   by_gap (inr (e, w, y)) =
-                      let same : e ≡ prev_of r = same_Some e (prev_of r)
-                      (sym w ∙ (ap (twin_of faces) (laws.next_prev a)
+                      let same =
+                      same_Some e (prev_of r) (sym w ∙ (ap (twin_of faces) (laws.next_prev a)
                       ∙ laws.twin_twin (prev_of r) a (laws.prev_low r lr) is.first)) in
                       absurd (false≢true (sym gone_r
                       ∙ (ap (is_on rest) (sym (ap next_of same ∙ laws.next_prev r)) ∙ y)))
@@ -199,8 +188,7 @@ module _ (faces : Faces) (m : IsManifold faces) (marks : List Bool) (marked : Ar
                   ∙ (ap (λ z. is_on rest (prev_of z)) (sym same) ∙ before)
               by_place e on before (inr (inr (inl same))) = ap (is_on rest) (sym same) ∙ on
               by_place e on before (inr (inr (inr same))) =
-                  absurd (false≢true (sym gone_r
-                  ∙ (full_left.alike (prev_of c') r (laws.prev_low c' lc) is.last
+                  absurd (false≢true (sym gone_r ∙ (full_left.alike (prev_of c') r (laws.prev_low c' lc) is.last
                   ∙ (ap (λ z. is_on rest (prev_of z)) (sym same) ∙ before))))
 
               done : Turn faces rest (from_of faces r) → (is_on cut b ≡ true) × (b ≢ u)
@@ -245,13 +233,11 @@ module _ (faces : Faces) (m : IsManifold faces) (marks : List Bool) (marked : Ar
                 across = ap (twin_of faces) (sym (ap prev_of right ∙ laws.prev_next (easts (half_edges faces) s k)))
                     ∙ is.second
 
-                by_way : (is_on marks b ≡ true)
-                    ⊎ (((is_on marks a ≡ true) × (is_on marks c ≡ true))
+                by_way : (is_on marks b ≡ true) ⊎ (((is_on marks a ≡ true) × (is_on marks c ≡ true))
                     ⊎ (is_break faces marks (from_of faces (easts (half_edges faces) s (suc k))) ≡ true)) → ⊥
                 by_way (inl on) =
                     false≢true (sym before ∙ (sym (marked.alike (easts (half_edges faces) s k) b ly across) ∙ on))
-                by_way (inr (inl both)) = false≢true
-                    (sym (arc.glued.near.inside k l)
+                by_way (inr (inl both)) = false≢true (sym (arc.glued.near.inside k l)
                     ∙ (ap (is_on cut) (sym right) ∙ beside.kept a
                     (low_a mesh laws (easts (half_edges faces) s (suc k)) a b c lx is) both.0))
                 by_way (inr (inr broken)) = by_turn
