@@ -45,8 +45,8 @@ module _ (mesh : HalfEdges) (laws : IsQuadManifold mesh) (cut : Cut) where
   step_over d e t a off is = (suc a.0, (e, a.1, inr (off, is)))
 
   pub step_prev : (d e : ℕ) → AreLinked mesh cut d e → AreLinked mesh cut d (mesh.prev e)
-  step_prev d e a = subst (λ (x : ℕ). AreLinked mesh cut d x) (sym (prev_three mesh laws e))
-      (step_next d (mesh.next (mesh.next e)) (step_next d (mesh.next e) (step_next d e a)))
+  step_prev d e a =
+      rw (prev_three mesh laws e) (step_next d (mesh.next (mesh.next e)) (step_next d (mesh.next e) (step_next d e a)))
 
   pub step_spin : (d e k : ℕ) → AreLinked mesh cut d e → AreLinked mesh cut d (spin mesh k e)
   step_spin d e zero a = a
@@ -71,9 +71,8 @@ module _ (mesh : HalfEdges) (laws : IsQuadManifold mesh) (cut : Cut) (full : IsC
       by_step c lc back (inl s) =
           links_join mesh laws cut e c d (subst (λ (x : ℕ). AreLinked mesh cut e x) (ap mesh.prev s ∙ laws.prev_next c)
           (step_prev mesh laws cut e e (0, refl))) back
-      by_step c lc back (inr o) =
-          links_join mesh laws cut e c d (step_over mesh laws cut e e c (0, refl) (full.alike c e lc o.1 ∙ o.0)
-          (laws.twin_twin c e lc o.1)) back
+      by_step c lc back (inr o) = links_join mesh laws cut e c d
+          (step_over mesh laws cut e e c (0, refl) (full.alike c e lc o.1 ∙ o.0) (laws.twin_twin c e lc o.1)) back
 
   pub linked_back : (d e : ℕ) → d < mesh.count → AreLinked mesh cut d e → AreLinked mesh cut e d
   linked_back d e l a = links_back d e a.0 l a.1
@@ -88,7 +87,7 @@ module _ (mesh : HalfEdges) (laws : IsQuadManifold mesh) (cut : Cut) (full : IsC
 
   module _ (w h : ℕ) (cell : Cells) (grid : IsGrid mesh cut w h cell) where
     pub in_low : (x : ℕ) → In mesh w h cell x → x < mesh.count
-    in_low x i = subst (λ (y : ℕ). y < mesh.count) (sym i.1.is) (spun i.0)
+    in_low x i = rw i.1.is (spun i.0)
       where
         spun : (k : ℕ) → spin mesh k (cell i.1.a i.1.b) < mesh.count
         spun zero = grid.low i.1.a i.1.b i.1.a_low i.1.b_low
@@ -97,26 +96,21 @@ module _ (mesh : HalfEdges) (laws : IsQuadManifold mesh) (cut : Cut) (full : IsC
     -- A class that meets the grid stays in it.
     pub closed : (d e n : ℕ) → Links mesh cut d e n → In mesh w h cell d → In mesh w h cell e
     closed d e zero l i = subst (λ (x : ℕ). In mesh w h cell x) l i
-    closed d e (suc n) l i = by_step l.0 (closed d l.0 n l.1 i) l.2
-      where
-        by_step : (c : ℕ) → In mesh w h cell c → (e ≡ mesh.next c) ⊎ ((cut c ≡ false) × (mesh.twin c ≡ Some e))
-            → In mesh w h cell e
-        by_step c at (inl s) = subst (λ (x : ℕ). In mesh w h cell x) (sym s) (
-          suc at.0,
-          one_more mesh laws w h cell at.0 c at.1,
-        )
-        by_step c at (inr o) = (suc (suc at.0), cross_to mesh laws cut full w h cell grid at.0 c e at.1 o.0 o.1)
+    closed d e (suc n) l i =
+        let at = closed d l.0 n l.1 i in
+        elim l.2 [
+          | inl s ↦ rw s (suc at.0, one_more mesh laws w h cell at.0 l.0 at.1)
+          | inr o ↦ (suc (suc at.0), cross_to mesh laws cut full w h cell grid at.0 l.0 e at.1 o.0 o.1)
+        ]
 
     -- The whole grid is of one class.
     linked_east : (i : ℕ) → i < w → AreLinked mesh cut (cell 0 0) (cell i 0)
     linked_east zero l = (0, refl)
     linked_east (suc i) l =
-        let over : AreLinked mesh cut (cell 0 0) (mesh.prev (cell (suc i) 0)) =
-        step_over mesh laws cut (cell 0 0) (mesh.next (cell i 0)) (mesh.prev (cell (suc i) 0))
-        (step_next mesh laws cut (cell 0 0) (cell i 0) (linked_east i (omega arith)))
-        (grid.east_open i 0 l grid.tall) (grid.east i 0 l grid.tall) in
-        subst (λ (x : ℕ). AreLinked mesh cut (cell 0 0) x) (laws.next_prev (cell (suc i) 0))
-        (step_next mesh laws cut (cell 0 0) (mesh.prev (cell (suc i) 0)) over)
+        let over = step_over mesh laws cut (cell 0 0) (mesh.next (cell i 0)) (mesh.prev (cell (suc i) 0))
+        (step_next mesh laws cut (cell 0 0) (cell i 0) (linked_east i (omega arith))) (grid.east_open i 0 l grid.tall)
+        (grid.east i 0 l grid.tall) in
+        rw (laws.next_prev (cell (suc i) 0)) at (step_next mesh laws cut (cell 0 0) (mesh.prev (cell (suc i) 0)) over)
 
     pub linked_cell : (i j : ℕ) → i < w → j < h → AreLinked mesh cut (cell 0 0) (cell i j)
     linked_cell i zero li lj = linked_east i li
@@ -125,8 +119,8 @@ module _ (mesh : HalfEdges) (laws : IsQuadManifold mesh) (cut : Cut) (full : IsC
         (linked_cell i j li (omega arith)))) (grid.north_open i j li lj) (grid.north i j li lj)
 
     pub linked_in : (x : ℕ) → In mesh w h cell x → AreLinked mesh cut (cell 0 0) x
-    linked_in x i = subst (λ (y : ℕ). AreLinked mesh cut (cell 0 0) y) (sym i.1.is)
-        (step_spin mesh laws cut (cell 0 0) (cell i.1.a i.1.b) i.0 (linked_cell i.1.a i.1.b i.1.a_low i.1.b_low))
+    linked_in x i = rw i.1.is (step_spin mesh laws cut (cell 0 0) (cell i.1.a i.1.b) i.0
+        (linked_cell i.1.a i.1.b i.1.a_low i.1.b_low))
 
     pub first_in : In mesh w h cell (cell 0 0)
     first_in = (0, record { a = 0; b = 0; a_low = grid.wide; b_low = grid.tall; is = refl })
@@ -141,16 +135,15 @@ module _ (mesh : HalfEdges) (laws : IsQuadManifold mesh) (cut : Cut) (full : IsC
     least_corner m least zero zero (suc b) x la lb e on before =
         absurd (true≢false (sym on ∙ (ap cut e ∙ south_open mesh laws cut full w h cell grid 0 b la lb)))
     least_corner m least (suc zero) a zero x la lb e on before = elim (cases_eq (suc a) w) [
-      | inl z ↦ subst (λ (y : ℕ). m ≤ y) (sym e) (least.east a z)
+      | inl z ↦ rw e (least.east a z)
       | inr ne ↦ absurd (true≢false (sym on ∙ (ap cut e ∙ grid.east_open a 0 (omega arith) lb)))
     ]
     least_corner m least (suc zero) a (suc b) x la lb e on before =
-        absurd (true≢false (sym before
-        ∙ (ap (λ y. cut (mesh.prev y)) e
+        absurd (true≢false (sym before ∙ (ap (λ y. cut (mesh.prev y)) e
         ∙ (ap cut (laws.prev_next (cell a (suc b))) ∙ south_open mesh laws cut full w h cell grid a b la lb))))
     least_corner m least (suc (suc zero)) a b x la lb e on before = elim (cases_eq (suc a) w) [
       | inl z ↦ elim (cases_eq (suc b) h) [
-        | inl y ↦ subst (λ (y : ℕ). m ≤ y) (sym e) (least.far a b z y)
+        | inl y ↦ rw e (least.far a b z y)
         | inr ne ↦ absurd (true≢false (sym on ∙ (ap cut e ∙ grid.north_open a b la (omega arith))))
       ]
       | inr ne ↦ absurd (true≢false (sym before
@@ -158,7 +151,7 @@ module _ (mesh : HalfEdges) (laws : IsQuadManifold mesh) (cut : Cut) (full : IsC
           ∙ grid.east_open a b (omega arith) lb))))
     ]
     least_corner m least (suc (suc (suc zero))) zero b x la lb e on before = elim (cases_eq (suc b) h) [
-      | inl z ↦ subst (λ (y : ℕ). m ≤ y) (prev_three mesh laws (cell 0 b) ∙ sym e) (least.north b z)
+      | inl z ↦ rw (prev_three mesh laws (cell 0 b) ∙ sym e) at (least.north b z)
       | inr ne ↦ absurd (true≢false (sym before
           ∙ (ap (λ y. cut (mesh.prev y)) e ∙ (ap cut (laws.prev_next (mesh.next (mesh.next (cell 0 b))))
           ∙ grid.north_open 0 b la (omega arith)))))
@@ -206,18 +199,15 @@ module _ (mesh : HalfEdges) (laws : IsQuadManifold mesh) (cut : Cut) (full : IsC
     -- Grids with one first cell have the same cells.
     cells_east : (cell 0 0 ≡ tile 0 0) → (i : ℕ) → i < w → i < v → cell i 0 ≡ tile i 0
     cells_east e zero lw lv = e
-    cells_east e (suc i) lw lv =
-        prev_same mesh laws (cell (suc i) 0) (tile (suc i) 0)
+    cells_east e (suc i) lw lv = prev_same mesh laws (cell (suc i) 0) (tile (suc i) 0)
         (same_Some _ _ (sym (one.east i 0 lw one.tall)
-        ∙ (ap (λ x. mesh.twin (mesh.next x)) (cells_east e i (omega arith) (omega arith))
-        ∙ two.east i 0 lv two.tall)))
+        ∙ (ap (λ x. mesh.twin (mesh.next x)) (cells_east e i (omega arith) (omega arith)) ∙ two.east i 0 lv two.tall)))
 
     cells_north : (i j : ℕ) → i < w → i < v → cell i 0 ≡ tile i 0 → j < h → j < g → cell i j ≡ tile i j
     cells_north i zero lw lv e lh lg = e
-    cells_north i (suc j) lw lv e lh lg =
-        same_Some _ _ (sym (one.north i j lw lh)
-        ∙ (ap (λ x. mesh.twin (mesh.next (mesh.next x))) (cells_north i j lw lv e (omega arith) (omega arith))
-        ∙ two.north i j lv lg))
+    cells_north i (suc j) lw lv e lh lg = same_Some _ _
+        (sym (one.north i j lw lh) ∙ (ap (λ x. mesh.twin (mesh.next (mesh.next x)))
+        (cells_north i j lw lv e (omega arith) (omega arith)) ∙ two.north i j lv lg))
 
     not_wider : cell 0 0 ≡ tile 0 0 → (i : ℕ) → suc i ≡ w → suc i < v → ⊥
     not_wider e i z l = true≢false (sym (one.east_shut i 0 z one.tall)
@@ -277,8 +267,7 @@ module _ (mesh : HalfEdges) (laws : IsQuadManifold mesh) (cut : Cut) (full : IsC
       there : (w h v g : ℕ) (cell tile : Cells) → IsGrid mesh cut w h cell → IsGrid mesh cut v g tile
           → In mesh w h cell x → In mesh v g tile x → In mesh v g tile (cell 0 0)
       there w h v g cell tile a b i j =
-          let back : AreLinked mesh cut x (cell 0 0) =
-          linked_back (cell 0 0) x (a.low 0 0 a.wide a.tall) (linked_in w h cell a x i) in
+          let back = linked_back (cell 0 0) x (a.low 0 0 a.wide a.tall) (linked_in w h cell a x i) in
           closed v g tile b x (cell 0 0) back.0 back.1 j
 
       below : tile 0 0 ≤ cell 0 0

@@ -1,13 +1,13 @@
 -- Each class of faces of a traced cut has a corner: it lies at the start of a trail, or where another trail ends on it.
-use Rattle.std.proofs.Common.{◌≡◌, ◌⊎◌, ℕ, zero, suc, ◌<◌, Bool, true, false, Option, Some, None, sym, ◌∙◌, ap, subst}
+use Rattle.std.proofs.Common.{◌≡◌, ◌⊎◌, ℕ, zero, suc, ◌<◌, Bool, true, false, Some, sym, ◌∙◌, ap}
 use Rattle.std.proofs.Common.{refl, inl, inr}
 use Rattle.std.proofs.lemmas.Bool.{cases_Bool}
 use Rattle.std.proofs.lemmas.Option.{same_Some}
 use Rattle.def_mesh.specs.HalfEdges.{HalfEdges, IsQuadManifold}
 use Rattle.def_cut.specs.Cuts.{Cut, IsCross, Links, IsCorner}
-use Rattle.def_cut.specs.Trails.{IsStraight, Trail, IsTracked, Joins, IsSource, HasSources, IsTraced}
+use Rattle.def_cut.specs.Trails.{IsStraight, Trail, Joins, IsSource, HasSources, IsTraced}
 use Rattle.def_cut.specs.Laws.{CornerLaw}
-use Rattle.cut_laws.proofs.Darts.{turn_from, turn_low}
+use Rattle.cut_laws.proofs.Darts.{turn_low}
 use Rattle.cut_laws.proofs.Classes.{AreLinked, links_join, step_next, step_over, step_prev, links_low}
 
 -- The class of d has a corner.
@@ -30,18 +30,17 @@ module _ (mesh : HalfEdges) (laws : IsQuadManifold mesh) (start cut : ℕ → Bo
   beside : (k d : ℕ) → d < mesh.count → cut d ≡ true → Trail mesh start cut d k → CornerOf mesh cut d
   beside zero d ld on trail = corner_at d d (0, refl) (start_corner d ld trail)
   beside (suc k) d ld on trail =
-      by_before (cases_Bool (cut (mesh.prev d))) trail.0 trail.4 (beside k trail.0 trail.2 trail.3 trail.1) trail.2
-    where
-      by_before : (cut (mesh.prev d) ≡ true) ⊎ (cut (mesh.prev d) ≡ false) → (c : ℕ) → IsStraight mesh c d
-          → CornerOf mesh cut c → c < mesh.count → CornerOf mesh cut d
-      by_before (inl before) c s rest lc = corner_at d d (0, refl) (ld, on, before)
-      by_before (inr off) c s rest lc =
-          let back : mesh.twin (mesh.prev d) ≡ Some (mesh.next c) = ap mesh.twin (ap mesh.prev s.2 ∙ laws.prev_next s.0)
-          ∙ laws.twin_twin (mesh.next c) s.0 (laws.next_low c lc) s.1 in
-          let over : AreLinked mesh cut d (mesh.next c) =
-          step_over mesh laws cut d (mesh.prev d) (mesh.next c) (step_prev mesh laws cut d d (0, refl)) off back in
-          from_class d c (subst (λ (x : ℕ). AreLinked mesh cut d x) (laws.prev_next c)
-          (step_prev mesh laws cut d (mesh.next c) over)) rest
+      let rest = beside k trail.0 trail.2 trail.3 trail.1 in
+      elim (cases_Bool (cut (mesh.prev d))) [
+        | inl before ↦ corner_at d d (0, refl) (ld, on, before)
+        | inr off ↦
+            let back = ap mesh.twin (ap mesh.prev trail.4.2 ∙ laws.prev_next trail.4.0)
+            ∙ laws.twin_twin (mesh.next trail.0) trail.4.0 (laws.next_low trail.0 trail.2) trail.4.1 in
+            let over = step_over mesh laws cut d (mesh.prev d) (mesh.next trail.0)
+            (step_prev mesh laws cut d d (0, refl)) off back in
+            from_class d trail.0 (rw (laws.prev_next trail.0) at (step_prev mesh laws cut d (mesh.next trail.0) over))
+            rest
+      ]
 
   -- and back along it on the other side.
   next_corner : (d : ℕ) → d < mesh.count → cut d ≡ true → cut (mesh.next d) ≡ true → CornerOf mesh cut d
@@ -55,9 +54,8 @@ module _ (mesh : HalfEdges) (laws : IsQuadManifold mesh) (start cut : ℕ → Bo
       → CornerOf mesh cut d
   across zero d t ld on tw trail =
       next_corner d ld on (traced.beside t d (laws.twin_low d t ld tw) trail (laws.twin_twin d t ld tw))
-  across (suc k) d t ld on tw trail =
-      by_next (cases_Bool (cut (mesh.next d))) trail.0 trail.2 trail.3 trail.4 trail.5.0 trail.5.1 trail.5.2 trail.5.3
-      (λ b lb onb tb. across k b trail.0 lb onb tb trail.1)
+  across (suc k) d t ld on tw trail = by_next (cases_Bool (cut (mesh.next d))) trail.0 trail.2 trail.3 trail.4 trail.5.0
+      trail.5.1 trail.5.2 trail.5.3 (λ b lb onb tb. across k b trail.0 lb onb tb trail.1)
     where
       lt : t < mesh.count
       lt = laws.twin_low d t ld tw
@@ -67,22 +65,19 @@ module _ (mesh : HalfEdges) (laws : IsQuadManifold mesh) (start cut : ℕ → Bo
           → ((b : ℕ) → b < mesh.count → cut b ≡ true → mesh.twin b ≡ Some c → CornerOf mesh cut b) → CornerOf mesh cut d
       by_next (inl next) c lc onc s a b e is rest = next_corner d ld on next
       by_next (inr off) c lc onc s a b e is rest =
-          let first : a ≡ mesh.next c =
-          same_Some a (mesh.next c) (sym is.first ∙ (ap mesh.twin (ap mesh.prev s.2 ∙ laws.prev_next s.0)
+          let first = same_Some a (mesh.next c) (sym is.first
+          ∙ (ap mesh.twin (ap mesh.prev s.2 ∙ laws.prev_next s.0)
           ∙ laws.twin_twin (mesh.next c) s.0 (laws.next_low c lc) s.1)) in
           let second : mesh.twin c ≡ Some b = ap mesh.twin (sym (ap mesh.prev first ∙ laws.prev_next c)) ∙ is.second in
           let lb : b < mesh.count = laws.twin_low c b lc second in
           let le : e < mesh.count = turn_low mesh laws b e lb is.third in
-          let last : mesh.prev e ≡ d =
-          same_Some (mesh.prev e) d (sym (laws.twin_twin (mesh.prev e) t (laws.prev_low e le) is.last)
+          let last = same_Some (mesh.prev e) d (sym (laws.twin_twin (mesh.prev e) t (laws.prev_low e le) is.last)
           ∙ laws.twin_twin d t ld tw) in
           let right : e ≡ mesh.next d = sym (laws.next_prev e) ∙ ap mesh.next last in
-          let over : mesh.twin (mesh.next d) ≡ Some (mesh.prev b) = ap mesh.twin (sym right)
-          ∙ laws.twin_twin (mesh.prev b) e (laws.prev_low b lb) is.third in
-          let linked : AreLinked mesh cut d (mesh.prev b) =
+          let over = ap mesh.twin (sym right) ∙ laws.twin_twin (mesh.prev b) e (laws.prev_low b lb) is.third in
+          let linked =
           step_over mesh laws cut d (mesh.next d) (mesh.prev b) (step_next mesh laws cut d d (0, refl)) off over in
-          let there : AreLinked mesh cut d b = subst (λ (x : ℕ). AreLinked mesh cut d x) (laws.next_prev b)
-          (step_next mesh laws cut d (mesh.prev b) linked) in
+          let there = rw (laws.next_prev b) at (step_next mesh laws cut d (mesh.prev b) linked) in
           from_class d b there (rest b lb (traced.alike c b lc second ∙ onc) (laws.twin_twin c b lc second))
 
   -- A walk through the component stays in the class, or meets a cut edge with two darts.
@@ -91,35 +86,31 @@ module _ (mesh : HalfEdges) (laws : IsQuadManifold mesh) (start cut : ℕ → Bo
   along d (suc n) e ld j = by_step j.0 (along d n j.0 ld j.1) j.2
     where
       tracked : (c : ℕ) → c < mesh.count → mesh.twin c ≡ Some e → cut c ≡ true → CornerOf mesh cut c
-      tracked c lc tw on = by_trail (traced.tracked c e lc tw on)
-        where
-          by_trail : IsTracked mesh start cut c → CornerOf mesh cut c
-          by_trail t = elim t.1 [ inl trail ↦ beside t.0 c lc on trail | inr o ↦ across t.0 c o.0 lc on o.1 o.2 ]
+      tracked c lc tw on =
+          let t = traced.tracked c e lc tw on in
+          elim t.1 [ inl trail ↦ beside t.0 c lc on trail | inr o ↦ across t.0 c o.0 lc on o.1 o.2 ]
 
       by_step : (c : ℕ) → (AreLinked mesh cut d c) ⊎ CornerOf mesh cut d → (e ≡ mesh.next c) ⊎ (mesh.twin c ≡ Some e)
           → (AreLinked mesh cut d e) ⊎ CornerOf mesh cut d
       by_step c (inr found) s = inr found
-      by_step c (inl l) (inl s) =
-          inl (subst (λ (x : ℕ). AreLinked mesh cut d x) (sym s) (step_next mesh laws cut d c l))
+      by_step c (inl l) (inl s) = inl (rw s (step_next mesh laws cut d c l))
       by_step c (inl l) (inr tw) = elim (cases_Bool (cut c)) [
         | inl on ↦ inr (from_class d c l (tracked c (links_low mesh laws cut d c l.0 ld l.1) tw on))
         | inr off ↦ inl (step_over mesh laws cut d c e l off tw)
       ]
 
   pub corner_of : (d : ℕ) → d < mesh.count → CornerOf mesh cut d
-  corner_of d ld = by_source (sources d ld)
+  corner_of d ld =
+      let s = sources d ld in
+      elim (along d s.1 s.0 ld s.2) [
+        | inr found ↦ found
+        | inl l ↦ corner_at d s.0 l (at_source s.0 (links_low mesh laws cut d s.0 l.0 ld l.1) s.3)
+      ]
     where
       at_source : (e : ℕ) → e < mesh.count → IsSource mesh start e → IsCorner mesh cut e
       at_source e le (inl on) = start_corner e le on
       at_source e le (inr alone) =
           (le, traced.boundary e le alone.0, traced.boundary (mesh.prev e) (laws.prev_low e le) alone.1)
-
-      by_source : (e : ℕ) × (n : ℕ) × Joins mesh d e n × IsSource mesh start e → CornerOf mesh cut d
-      by_source s = at s.0 (along d s.1 s.0 ld s.2) s.3
-        where
-          at : (e : ℕ) → (AreLinked mesh cut d e) ⊎ CornerOf mesh cut d → IsSource mesh start e → CornerOf mesh cut d
-          at e (inr found) source = found
-          at e (inl l) source = corner_at d e l (at_source e (links_low mesh laws cut d e l.0 ld l.1) source)
 
 pub corner_law : CornerLaw
 corner_law mesh start cut laws sources traced d ld = corner_of mesh laws start cut sources traced d ld

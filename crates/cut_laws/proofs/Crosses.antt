@@ -44,25 +44,21 @@ module _ (mesh : HalfEdges) (laws : IsQuadManifold mesh) where
   -- A turn leads to another dart.
   pub no_fix : (d : ℕ) → d < mesh.count → mesh.twin (mesh.prev d) ≡ Some d → ⊥
   no_fix d l t =
-      let ends : (mesh.from d ≡ mesh.from (mesh.next (mesh.prev d)))
-      × (mesh.from (mesh.next d) ≡ mesh.from (mesh.prev d)) =
-      laws.twin_ends (mesh.prev d) d (laws.prev_low d l) t in
+      let ends = laws.twin_ends (mesh.prev d) d (laws.prev_low d l) t in
       (laws.corners_differ (mesh.next d) (laws.next_low d l)).1 (ends.1 ∙ ap mesh.from (prev_three mesh laws d))
 
   module _ (v : ℕ) (round : IsRound mesh v) (d : ℕ) (leaves : Leaves mesh v d) where
     turned_leaves : (n : ℕ) → Leaves mesh v (turned mesh d n)
     turned_leaves zero = leaves
-    turned_leaves (suc n) = on (turned mesh d n) (turned_leaves n)
-      where
-        on : (x : ℕ) → Leaves mesh v x → Leaves mesh v (or_zero (mesh.twin (mesh.prev x)))
-        on x l =
-            let t : (t : ℕ) × (mesh.twin (mesh.prev x) ≡ Some t) = round x l.low l.at in
-            let is : Leaves mesh v t.0 = record {
-              low = turn_low mesh laws x t.0 l.low t.1;
-              at =
-                  turn_from mesh laws x t.0 l.low t.1 ∙ l.at;
-            } in
-            subst (λ (y : ℕ). Leaves mesh v y) (ap or_zero (sym t.1)) is
+    turned_leaves (suc n) =
+        let x = turned mesh d n in
+        let l = turned_leaves n in
+        let t : (t : ℕ) × (mesh.twin (mesh.prev x) ≡ Some t) = round x l.low l.at in
+        let is : Leaves mesh v t.0 = record {
+          low = turn_low mesh laws x t.0 l.low t.1;
+          at = turn_from mesh laws x t.0 l.low t.1 ∙ l.at;
+        } in
+        subst (λ (y : ℕ). Leaves mesh v y) (ap or_zero (sym t.1)) is
 
     turned_is : (n : ℕ) → mesh.twin (mesh.prev (turned mesh d n)) ≡ Some (turned mesh d (suc n))
     turned_is n = let l : Leaves mesh v (turned mesh d n) = turned_leaves n in let t : (t : ℕ)
@@ -159,12 +155,10 @@ module _ (mesh : HalfEdges) (laws : IsQuadManifold mesh) where
             apart = λ e. two (sym e);
           },
         )
-        by_turns (inr two) (inr three) (inr four) =
-            absurd (let h : 5 ≤ 4 = fan.least 5 (turned mesh d) (record {
-              each = λ j l. turned_leaves j;
-              apart =
-                  apart two three four;
-            }) in omega arith)
+        by_turns (inr two) (inr three) (inr four) = absurd (let h : 5 ≤ 4 = fan.least 5 (turned mesh d) (record {
+          each = λ j l. turned_leaves j;
+          apart = apart two three four;
+        }) in omega arith)
 
   -- And the other way round: a cross has four darts, all with twins on both sides.
   module _ (d a b c : ℕ) (low : d < mesh.count) (cross : IsCross mesh d a b c) where

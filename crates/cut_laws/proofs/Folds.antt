@@ -1,11 +1,11 @@
 -- No grid of a full cut is folded onto itself: such a fold has a centre, which would be a face, an edge or a vertex
 -- at which no four faces meet.
 use Rattle.std.proofs.Common.{◌≡◌, ◌⊎◌, ℕ, zero, suc, ◌+◌, ◌*◌, ◌-◌, ◌/◌, ◌<◌, ◌≤◌, true, false, Some, sym, ◌∙◌, ap}
-use Rattle.std.proofs.Common.{subst, refl, inl, inr, true≢false, arith}
+use Rattle.std.proofs.Common.{refl, inl, inr, true≢false, arith}
 use Rattle.std.proofs.lemmas.Bool.{cases_eq, cases_order}
 use Rattle.std.proofs.lemmas.Option.{same_Some}
 use Rattle.def_mesh.specs.HalfEdges.{HalfEdges, Turns, IsQuadManifold}
-use Rattle.def_cut.specs.{Cuts.Cut, Cuts.IsCross, Cuts.HasCross, Cuts.IsUncut, Cuts.IsCut, Grids.Cells, Grids.IsGrid}
+use Rattle.def_cut.specs.{Cuts.Cut, Cuts.IsUncut, Cuts.IsCut, Grids.Cells, Grids.IsGrid}
 use Rattle.def_cut.specs.{Steps.spin, Laws.NoFoldLaw}
 use Rattle.cut_laws.proofs.Darts.{prev_three, prev_same, no_self, turn_low, two_darts}
 
@@ -31,8 +31,7 @@ module _ (mesh : HalfEdges) (laws : IsQuadManifold mesh) (w h : ℕ) (cell : Cel
     b = at.b;
     a_low = at.a_low;
     b_low = at.b_low;
-    is =
-        at.is ∙ laws.four_sides (spin mesh k (cell at.a at.b));
+    is = at.is ∙ laws.four_sides (spin mesh k (cell at.a at.b));
   }
 
   pub four_more : (k x : ℕ) → At mesh w h cell k x → At mesh w h cell (suc (suc (suc (suc k)))) x
@@ -41,12 +40,11 @@ module _ (mesh : HalfEdges) (laws : IsQuadManifold mesh) (w h : ℕ) (cell : Cel
     b = at.b;
     a_low = at.a_low;
     b_low = at.b_low;
-    is =
-        at.is ∙ sym (laws.four_sides (spin mesh k (cell at.a at.b)));
+    is = at.is ∙ sym (laws.four_sides (spin mesh k (cell at.a at.b)));
   }
 
   pub moved : (k x y : ℕ) → x ≡ y → At mesh w h cell k x → At mesh w h cell k y
-  moved k x y e at = subst (λ (z : ℕ). At mesh w h cell k z) e at
+  moved k x y e at = rw e at at
 
 module _ (mesh : HalfEdges) (laws : IsQuadManifold mesh) (cut : Cut) (full : IsCut mesh cut) (w h : ℕ) (cell : Cells)
     (grid : IsGrid mesh cut w h cell) where
@@ -94,14 +92,7 @@ module _ (mesh : HalfEdges) (laws : IsQuadManifold mesh) (cut : Cut) (full : IsC
     | inr ne ↦ let l : suc b < h = omega arith in (
       cell a (suc b),
       ap mesh.twin e ∙ grid.north a b la l,
-      record {
-        a = a;
-        b = suc b;
-        a_low = la;
-        b_low = l;
-        is =
-            sym (laws.four_sides (cell a (suc b)));
-      },
+      record { a = a; b = suc b; a_low = la; b_low = l; is = sym (laws.four_sides (cell a (suc b))) },
     )
   ]
   over (suc (suc (suc zero))) zero b x la lb e off =
@@ -128,17 +119,15 @@ module _ (mesh : HalfEdges) (laws : IsQuadManifold mesh) (cut : Cut) (full : IsC
   at_east : (k i j : ℕ) → suc i < w → j < h → At mesh w h cell k (cell i j) → At mesh w h cell k (cell (suc i) j)
   at_east k i j li lj at =
       let here : At mesh w h cell (suc k) (mesh.next (cell i j)) = one_more mesh laws w h cell k (cell i j) at in
-      let there : At mesh w h cell (suc (suc (suc k))) (mesh.prev (cell (suc i) j)) =
-      cross_to (suc k) (mesh.next (cell i j)) (mesh.prev (cell (suc i) j)) here (grid.east_open i j li lj)
+      let there = cross_to (suc k) (mesh.next (cell i j)) (mesh.prev (cell (suc i) j)) here (grid.east_open i j li lj)
       (grid.east i j li lj) in
-      let on : At mesh w h cell (suc (suc (suc (suc k)))) (mesh.next (mesh.prev (cell (suc i) j))) =
-      one_more mesh laws w h cell (suc (suc (suc k))) (mesh.prev (cell (suc i) j)) there in
+      let on = one_more mesh laws w h cell (suc (suc (suc k))) (mesh.prev (cell (suc i) j)) there in
       four_less mesh laws w h cell k (cell (suc i) j) (moved mesh laws w h cell (suc (suc (suc (suc k))))
       (mesh.next (mesh.prev (cell (suc i) j))) (cell (suc i) j) (laws.next_prev (cell (suc i) j)) on)
 
   at_north : (k i j : ℕ) → i < w → suc j < h → At mesh w h cell k (cell i j) → At mesh w h cell k (cell i (suc j))
   at_north k i j li lj at =
-      let here : At mesh w h cell (suc (suc k)) (mesh.next (mesh.next (cell i j))) =
+      let here =
       one_more mesh laws w h cell (suc k) (mesh.next (cell i j)) (one_more mesh laws w h cell k (cell i j) at) in
       four_less mesh laws w h cell k (cell i (suc j)) (cross_to (suc (suc k)) (mesh.next (mesh.next (cell i j)))
       (cell i (suc j)) here (grid.north_open i j li lj) (grid.north i j li lj))
@@ -146,30 +135,23 @@ module _ (mesh : HalfEdges) (laws : IsQuadManifold mesh) (cut : Cut) (full : IsC
   at_west : (k i j : ℕ) → suc i < w → j < h → At mesh w h cell k (cell (suc i) j) → At mesh w h cell k (cell i j)
   at_west k i j li lj at =
       let c : ℕ = cell (suc i) j in
-      let three : At mesh w h cell (suc (suc (suc k))) (mesh.next (mesh.next (mesh.next c))) =
-      one_more mesh laws w h cell (suc (suc k)) (mesh.next (mesh.next c))
+      let three = one_more mesh laws w h cell (suc (suc k)) (mesh.next (mesh.next c))
       (one_more mesh laws w h cell (suc k) (mesh.next c) (one_more mesh laws w h cell k c at)) in
-      let here : At mesh w h cell (suc (suc (suc k))) (mesh.prev c) =
-      moved mesh laws w h cell (suc (suc (suc k))) (mesh.next (mesh.next (mesh.next c))) (mesh.prev c)
+      let here = moved mesh laws w h cell (suc (suc (suc k))) (mesh.next (mesh.next (mesh.next c))) (mesh.prev c)
       (sym (prev_three mesh laws c)) three in
-      let there : At mesh w h cell (suc k) (mesh.next (cell i j)) =
-      four_less mesh laws w h cell (suc k) (mesh.next (cell i j))
-      (cross_to (suc (suc (suc k))) (mesh.prev c) (mesh.next (cell i j)) here (west_open i j li lj)
-      (west i j li lj)) in
-      home k (cell i j) there
-    where
-      home : (k x : ℕ) → At mesh w h cell (suc k) (mesh.next x) → At mesh w h cell k x
-      home k x at = four_less mesh laws w h cell k x (moved mesh laws w h cell (suc (suc (suc (suc k))))
-          (mesh.next (mesh.next (mesh.next (mesh.next x)))) x (laws.four_sides x)
-          (one_more mesh laws w h cell (suc (suc (suc k))) (mesh.next (mesh.next (mesh.next x)))
-          (one_more mesh laws w h cell (suc (suc k)) (mesh.next (mesh.next x))
-          (one_more mesh laws w h cell (suc k) (mesh.next x) at))))
+      let there = four_less mesh laws w h cell (suc k) (mesh.next (cell i j))
+      (cross_to (suc (suc (suc k))) (mesh.prev c) (mesh.next (cell i j)) here (west_open i j li lj) (west i j li lj)) in
+      let x = cell i j in
+      four_less mesh laws w h cell k x (moved mesh laws w h cell (suc (suc (suc (suc k))))
+      (mesh.next (mesh.next (mesh.next (mesh.next x)))) x (laws.four_sides x)
+      (one_more mesh laws w h cell (suc (suc (suc k))) (mesh.next (mesh.next (mesh.next x)))
+      (one_more mesh laws w h cell (suc (suc k)) (mesh.next (mesh.next x))
+      (one_more mesh laws w h cell (suc k) (mesh.next x) there))))
 
   at_south : (k i j : ℕ) → i < w → suc j < h → At mesh w h cell k (cell i (suc j)) → At mesh w h cell k (cell i j)
   at_south k i j li lj at =
       let x : ℕ = cell i j in
-      let there : At mesh w h cell (suc (suc k)) (mesh.next (mesh.next x)) =
-      cross_to k (cell i (suc j)) (mesh.next (mesh.next x)) at (south_open i j li lj) (south i j li lj) in
+      let there = cross_to k (cell i (suc j)) (mesh.next (mesh.next x)) at (south_open i j li lj) (south i j li lj) in
       four_less mesh laws w h cell k x (moved mesh laws w h cell (suc (suc (suc (suc k))))
       (mesh.next (mesh.next (mesh.next (mesh.next x)))) x (laws.four_sides x)
       (one_more mesh laws w h cell (suc (suc (suc k))) (mesh.next (mesh.next (mesh.next x)))
@@ -204,7 +186,7 @@ module _ (mesh : HalfEdges) (laws : IsQuadManifold mesh) (cut : Cut) (full : IsC
   column_less (suc n) i j a b far l lj lb e =
       let la : suc a < w = omega arith in
       let li : suc i < w = omega arith in
-      let same : mesh.prev (cell (suc i) j) ≡ mesh.prev (cell (suc a) b) =
+      let same =
       same_Some _ _ (sym (grid.east i j li lj) ∙ (ap (λ x. mesh.twin (mesh.next x)) e ∙ grid.east a b la lb)) in
       column_less n (suc i) j (suc a) b (omega arith) (omega arith) lj lb
       (prev_same mesh laws (cell (suc i) j) (cell (suc a) b) same)
@@ -225,9 +207,8 @@ module _ (mesh : HalfEdges) (laws : IsQuadManifold mesh) (cut : Cut) (full : IsC
   row_less (suc n) i j a b far l li la e =
       let lb : suc b < h = omega arith in
       let lj : suc j < h = omega arith in
-      let same : cell i (suc j) ≡ cell a (suc b) =
-      same_Some _ _ (sym (grid.north i j li lj) ∙ (ap (λ x. mesh.twin (mesh.next (mesh.next x))) e
-      ∙ grid.north a b la lb)) in
+      let same = same_Some _ _ (sym (grid.north i j li lj)
+      ∙ (ap (λ x. mesh.twin (mesh.next (mesh.next x))) e ∙ grid.north a b la lb)) in
       row_less n i (suc j) a (suc b) (omega arith) (omega arith) li la same
 
   pub same_row : (i j a b : ℕ) → i < w → j < h → a < w → b < h → cell i j ≡ cell a b → j ≡ b
@@ -245,20 +226,16 @@ module _ (mesh : HalfEdges) (laws : IsQuadManifold mesh) (cut : Cut) (full : IsC
   turned_column zero i j zero b far lj la lb e = refl
   turned_column zero i j (suc a) b far lj la lb e =
       absurd (true≢false (sym (grid.east_shut i j (omega arith) lj)
-      ∙ (ap (λ x. cut (mesh.next x)) e ∙ (ap cut (sym (prev_three mesh laws (cell (suc a) b)))
-      ∙ west_open a b la lb))))
+      ∙ (ap (λ x. cut (mesh.next x)) e ∙ (ap cut (sym (prev_three mesh laws (cell (suc a) b))) ∙ west_open a b la lb))))
   turned_column (suc n) i j zero b far lj la lb e =
       absurd (true≢false (sym (grid.west_shut b lb)
       ∙ (ap cut (prev_three mesh laws (cell 0 b))
       ∙ (ap (λ x. cut (mesh.next x)) (sym e) ∙ grid.east_open i j (omega arith) lj))))
   turned_column (suc n) i j (suc a) b far lj la lb e =
       let li : suc i < w = omega arith in
-      let across : mesh.next (cell i j) ≡ mesh.prev (cell (suc a) b) =
-      ap mesh.next e ∙ sym (prev_three mesh laws (cell (suc a) b)) in
-      let same : mesh.prev (cell (suc i) j) ≡ mesh.next (cell a b) =
-      same_Some _ _ (sym (grid.east i j li lj) ∙ (ap mesh.twin across ∙ west a b la lb)) in
-      let on : cell (suc i) j ≡ mesh.next (mesh.next (cell a b)) = sym (laws.next_prev (cell (suc i) j))
-      ∙ ap mesh.next same in
+      let across = ap mesh.next e ∙ sym (prev_three mesh laws (cell (suc a) b)) in
+      let same = same_Some _ _ (sym (grid.east i j li lj) ∙ (ap mesh.twin across ∙ west a b la lb)) in
+      let on = sym (laws.next_prev (cell (suc i) j)) ∙ ap mesh.next same in
       ap suc (turned_column n (suc i) j a b (omega arith) lj (omega arith) lb on)
 
   turned_row : (n i j a b : ℕ) → j + suc n ≡ h → i < w → a < w → b < h → cell i j ≡ mesh.next (mesh.next (cell a b))
@@ -273,10 +250,8 @@ module _ (mesh : HalfEdges) (laws : IsQuadManifold mesh) (cut : Cut) (full : IsC
       ∙ (ap (λ x. cut (mesh.next (mesh.next x))) (sym e) ∙ grid.north_open i j li (omega arith)))))
   turned_row (suc n) i j a (suc b) far li la lb e =
       let lj : suc j < h = omega arith in
-      let across : mesh.next (mesh.next (cell i j)) ≡ cell a (suc b) = ap (λ x. mesh.next (mesh.next x)) e
-      ∙ laws.four_sides (cell a (suc b)) in
-      let same : cell i (suc j) ≡ mesh.next (mesh.next (cell a b)) =
-      same_Some _ _ (sym (grid.north i j li lj) ∙ (ap mesh.twin across ∙ south a b la lb)) in
+      let across = ap (λ x. mesh.next (mesh.next x)) e ∙ laws.four_sides (cell a (suc b)) in
+      let same = same_Some _ _ (sym (grid.north i j li lj) ∙ (ap mesh.twin across ∙ south a b la lb)) in
       ap suc (turned_row n i (suc j) a b (omega arith) li la (omega arith) same)
 
   -- The centre of a half turn as a face, as an edge, and as a vertex.
@@ -285,48 +260,37 @@ module _ (mesh : HalfEdges) (laws : IsQuadManifold mesh) (cut : Cut) (full : IsC
 
   at_east_edge : (i j : ℕ) → suc i < w → j < h → cell i j ≡ mesh.next (mesh.next (cell (suc i) j)) → ⊥
   at_east_edge i j li lj e =
-      let self : mesh.next (cell i j) ≡ mesh.prev (cell (suc i) j) =
-      ap mesh.next e ∙ sym (prev_three mesh laws (cell (suc i) j)) in
+      let self = ap mesh.next e ∙ sym (prev_three mesh laws (cell (suc i) j)) in
       no_self mesh laws (mesh.next (cell i j)) (laws.next_low (cell i j) (grid.low i j (omega arith) lj))
       (grid.east i j li lj ∙ ap Some (sym self))
 
   at_north_edge : (i j : ℕ) → i < w → suc j < h → cell i j ≡ mesh.next (mesh.next (cell i (suc j))) → ⊥
   at_north_edge i j li lj e =
-      let self : mesh.next (mesh.next (cell i j)) ≡ cell i (suc j) = ap (λ x. mesh.next (mesh.next x)) e
-      ∙ laws.four_sides (cell i (suc j)) in
+      let self = ap (λ x. mesh.next (mesh.next x)) e ∙ laws.four_sides (cell i (suc j)) in
       no_self mesh laws (mesh.next (mesh.next (cell i j))) (north_low i j li (omega arith)) (grid.north i j li lj
       ∙ ap Some (sym self))
 
   two_turns : (d e : ℕ) → d < mesh.count → mesh.twin (mesh.prev d) ≡ Some e → mesh.twin (mesh.prev e) ≡ Some d
       → cut d ≡ false → cut (mesh.prev d) ≡ false → cut e ≡ false → cut (mesh.prev e) ≡ false → ⊥
-  two_turns d e ld one two off_d off_pd off_e off_pe = crossed (full.crossed d ld uncut)
+  two_turns d e ld one two off_d off_pd off_e off_pe =
+      let c = full.crossed d ld uncut in
+      let same : c.0 ≡ e = same_Some c.0 e (sym c.3.first ∙ one) in
+      c.3.apart (same_Some d c.1 (sym two ∙ (ap (λ z. mesh.twin (mesh.prev z)) (sym same) ∙ c.3.second)))
     where
-      le : e < mesh.count
-      le = turn_low mesh laws d e ld one
-
       off : (x : ℕ) → (x ≡ d) ⊎ (x ≡ e) → (cut x ≡ false) × (cut (mesh.prev x) ≡ false)
       off x (inl s) = (ap cut s ∙ off_d, ap (λ z. cut (mesh.prev z)) s ∙ off_pd)
       off x (inr s) = (ap cut s ∙ off_e, ap (λ z. cut (mesh.prev z)) s ∙ off_pe)
 
       uncut : IsUncut mesh cut (mesh.from d)
       uncut x lx s = let t : (n : ℕ) × Turns mesh d x n = laws.one_fan d x ld lx (sym s) in
-          off x (two_darts mesh laws d e ld le one two t.0 x t.1)
-
-      crossed : HasCross mesh d → ⊥
-      crossed c = apart c.0 c.1 c.2 c.3
-        where
-          apart : (a b x : ℕ) → IsCross mesh d a b x → ⊥
-          apart a b x is =
-              let same : a ≡ e = same_Some a e (sym is.first ∙ one) in
-              is.apart (same_Some d b (sym two ∙ (ap (λ z. mesh.twin (mesh.prev z)) (sym same) ∙ is.second)))
+          off x (two_darts mesh laws d e ld (turn_low mesh laws d e ld one) one two t.0 x t.1)
 
   at_vertex : (i j : ℕ) → suc i < w → suc j < h → cell i j ≡ mesh.next (mesh.next (cell (suc i) (suc j))) → ⊥
   at_vertex i j li lj e =
       let d : ℕ = cell (suc i) (suc j) in
       let f : ℕ = mesh.prev (cell (suc i) j) in
       let before : mesh.prev d ≡ mesh.next (cell i j) = prev_three mesh laws d ∙ ap mesh.next (sym e) in
-      let above : mesh.prev f ≡ mesh.next (mesh.next (cell (suc i) j)) = prev_three mesh laws f
-      ∙ ap (λ x. mesh.next (mesh.next x)) (laws.next_prev (cell (suc i) j)) in
+      let above = prev_three mesh laws f ∙ ap (λ x. mesh.next (mesh.next x)) (laws.next_prev (cell (suc i) j)) in
       two_turns d f (grid.low (suc i) (suc j) li lj) (ap mesh.twin before ∙ grid.east i j li (omega arith))
       (ap mesh.twin above ∙ grid.north (suc i) j li lj)
       (south_open (suc i) j li lj) (ap cut before ∙ grid.east_open i j li (omega arith))
@@ -342,17 +306,14 @@ module _ (mesh : HalfEdges) (laws : IsQuadManifold mesh) (cut : Cut) (full : IsC
         where
           by_at : At mesh w h cell 2 (cell x y) → ⊥
           by_at c =
-              let column : c.a ≡ w - suc x = turned_column (w - suc x) x y c.a c.b (omega arith) (omega arith) c.a_low
-              c.b_low c.is in
-              let row : c.b ≡ h - suc y = turned_row (h - suc y) x y c.a c.b (omega arith) (omega arith) c.a_low c.b_low
-              c.is in
+              let column = turned_column (w - suc x) x y c.a c.b (omega arith) (omega arith) c.a_low c.b_low c.is in
+              let row = turned_row (h - suc y) x y c.a c.b (omega arith) (omega arith) c.a_low c.b_low c.is in
               by_place c.a c.b column row c.is (cases_eq c.a x) (cases_eq c.b y)
             where
               by_place : (a b : ℕ) → a ≡ w - suc x → b ≡ h - suc y → cell x y ≡ mesh.next (mesh.next (cell a b))
                   → (a ≡ x) ⊎ (a ≡ x → ⊥) → (b ≡ y) ⊎ (b ≡ y → ⊥) → ⊥
-              by_place a b column row is (inl p) (inl q) =
-                  at_face x y (omega arith) (omega arith) (is ∙ ap (λ z. mesh.next (mesh.next z)) (ap (λ z. cell z b) p
-                  ∙ ap (cell x) q))
+              by_place a b column row is (inl p) (inl q) = at_face x y (omega arith) (omega arith)
+                  (is ∙ ap (λ z. mesh.next (mesh.next z)) (ap (λ z. cell z b) p ∙ ap (cell x) q))
               by_place a b column row is (inr p) (inl q) = let on : a ≡ suc x = omega arith in
                   at_east_edge x y (omega arith) (omega arith)
                   (is ∙ ap (λ z. mesh.next (mesh.next z)) (ap (λ z. cell z b) on ∙ ap (cell (suc x)) q))
@@ -367,31 +328,26 @@ module _ (mesh : HalfEdges) (laws : IsQuadManifold mesh) (cut : Cut) (full : IsC
 
   -- No quarter turn either: done twice it is a half turn.
   no_quarter : (i j : ℕ) → i < w → j < h → At mesh w h cell 1 (cell i j) → ⊥
-  no_quarter i j li lj at = by_next (carry 1 i j at.a at.b li lj at.a_low at.b_low at)
-    where
-      by_next : At mesh w h cell 1 (cell at.a at.b) → ⊥
-      by_next two = no_half_turn i j li lj (record {
+  no_quarter i j li lj at =
+      let two = carry 1 i j at.a at.b li lj at.a_low at.b_low at in
+      no_half_turn i j li lj (record {
         a = two.a;
         b = two.b;
         a_low = two.a_low;
         b_low = two.b_low;
-        is =
-            at.is ∙ ap mesh.next two.is;
+        is = at.is ∙ ap mesh.next two.is;
       })
 
   no_three : (i j : ℕ) → i < w → j < h → At mesh w h cell 3 (cell i j) → ⊥
-  no_three i j li lj at = by_next (carry 3 i j at.a at.b li lj at.a_low at.b_low at)
-    where
-      by_next : At mesh w h cell 3 (cell at.a at.b) → ⊥
-      by_next two = no_half_turn i j li lj
-          (four_less mesh laws w h cell 2 (cell i j) (record {
-            a = two.a;
-            b = two.b;
-            a_low = two.a_low;
-            b_low =
-                two.b_low;
-            is = at.is ∙ ap (λ x. mesh.next (mesh.next (mesh.next x))) two.is;
-          }))
+  no_three i j li lj at =
+      let two = carry 3 i j at.a at.b li lj at.a_low at.b_low at in
+      no_half_turn i j li lj (four_less mesh laws w h cell 2 (cell i j) (record {
+        a = two.a;
+        b = two.b;
+        a_low = two.a_low;
+        b_low = two.b_low;
+        is = at.is ∙ ap (λ x. mesh.next (mesh.next (mesh.next x))) two.is;
+      }))
 
   -- A cell with a side in common with another is that cell.
   pub no_fold : (k i j a b : ℕ) → i < w → j < h → a < w → b < h → cell i j ≡ spin mesh k (cell a b) → (i ≡ a) × (j ≡ b)

@@ -3,7 +3,7 @@ use Rattle.std.proofs.Common.{◌≡◌, ◌⊎◌, ℕ, zero, suc, ◌<◌, ◌
 use Rattle.std.proofs.Common.{arith}
 use Rattle.std.proofs.lemmas.Bool.{cases_eq, cases_Bool}
 use Rattle.def_mesh.specs.HalfEdges.{HalfEdges, IsQuadManifold}
-use Rattle.def_cut.specs.{Cuts.Cut, Cuts.IsCorner, Cuts.IsCut, Grids.Cells, Grids.IsGrid, Laws.GridLaw, Steps.step_east}
+use Rattle.def_cut.specs.{Cuts.Cut, Cuts.IsCorner, Cuts.IsCut, Grids.IsGrid, Laws.GridLaw, Steps.step_east}
 use Rattle.def_cut.specs.Steps.{easts, norths}
 use Rattle.cut_laws.specs.Grown.{grown, IsRow, IsGrown}
 use Rattle.cut_laws.proofs.Rows.{east_twin, north_twin, row_low, row_south, row_north_on, row_north_off, row_above}
@@ -44,10 +44,8 @@ module _ (mesh : HalfEdges) (laws : IsQuadManifold mesh) (cut : Cut) (full : IsC
             record {
               wide = omega arith;
               low = corner.0;
-              inside =
-                  λ i l. first.before i (omega arith);
-              ends = λ i e. ap (λ x. cut (mesh.next (easts mesh d x))) (is i e)
-                  ∙ first.on;
+              inside = λ i l. first.before i (omega arith);
+              ends = λ i e. ap (λ x. cut (mesh.next (easts mesh d x))) (is i e) ∙ first.on;
             },
           )
             where
@@ -79,10 +77,8 @@ module _ (mesh : HalfEdges) (laws : IsQuadManifold mesh) (cut : Cut) (full : IsC
               wide = row.wide;
               tall = omega arith;
               row = row;
-              inside =
-                  λ j l. first.before j (omega arith);
-              ends =
-                  λ j e. ap (λ x. cut (mesh.next (mesh.next (norths mesh d x)))) (is j e) ∙ first.on;
+              inside = λ j l. first.before j (omega arith);
+              ends = λ j e. ap (λ x. cut (mesh.next (mesh.next (norths mesh d x)))) (is j e) ∙ first.on;
             },
           )
             where
@@ -131,8 +127,6 @@ module _ (mesh : HalfEdges) (laws : IsQuadManifold mesh) (cut : Cut) (full : IsC
   grow d corner = grown_there d corner
 
 pub grid_law : GridLaw
-grid_law mesh cut laws full d corner = by_grown (grow mesh laws cut full d corner)
-  where
-    by_grown : (w : ℕ) × (h : ℕ) × IsGrown mesh cut d w h → (w : ℕ) × (h : ℕ) × (cell : Cells) × (cell 0 0 ≡ d)
-        × IsGrid mesh cut w h cell
-    by_grown g = (g.0, g.1, grown mesh d, refl, grown_grid mesh laws cut full d g.0 g.1 corner g.2)
+grid_law mesh cut laws full d corner =
+    let g = grow mesh laws cut full d corner in
+    (g.0, g.1, grown mesh d, refl, grown_grid mesh laws cut full d g.0 g.1 corner g.2)

@@ -1,5 +1,5 @@
 -- The least of a list.
-use Rattle.std.proofs.Common.{◌≡◌, ◌⊎◌, ℕ, zero, suc, ◌<◌, ◌≤◌, List, [], ◌∷◌, length, get_or, refl, ◌∙◌, inl, inr}
+use Rattle.std.proofs.Common.{◌≡◌, ℕ, zero, suc, ◌<◌, ◌≤◌, List, [], ◌∷◌, length, get_or, refl, ◌∙◌, inl, inr}
 use Rattle.std.proofs.Common.{arith}
 use Rattle.std.proofs.lemmas.Bool.{cases_lt}
 use Rattle.def_cut.specs.Grids.{least_of}
@@ -21,10 +21,9 @@ least_low (x ∷ y ∷ xs) f some each =
 pub least_there : (xs : List ℕ) → 0 < length xs → (k : ℕ) × (k < length xs) × (get_or xs k 0 ≡ least_of xs)
 least_there [] some = absurd (omega arith)
 least_there (x ∷ []) some = (0, omega arith, refl)
-least_there (x ∷ y ∷ xs) some = by_rest (least_there (y ∷ xs) (omega arith)) (cases_lt (least_of (y ∷ xs)) x)
-  where
-    by_rest : (k : ℕ) × (k < length (y ∷ xs)) × (get_or (y ∷ xs) k 0 ≡ least_of (y ∷ xs)) → (least_of (y ∷ xs) < x)
-        ⊎ (x ≤ least_of (y ∷ xs)) → (k : ℕ) × (k < length (x ∷ y ∷ xs))
-        × (get_or (x ∷ y ∷ xs) k 0 ≡ least_of (x ∷ y ∷ xs))
-    by_rest r (inl l) = (suc r.0, omega (arith, r.1), r.2 ∙ omega arith)
-    by_rest r (inr g) = (0, omega arith, omega arith)
+least_there (x ∷ y ∷ xs) some =
+    let r = least_there (y ∷ xs) (omega arith) in
+    elim (cases_lt (least_of (y ∷ xs)) x) [
+      | inl l ↦ (suc r.0, omega (arith, r.1), r.2 ∙ omega arith)
+      | inr g ↦ (0, omega arith, omega arith)
+    ]

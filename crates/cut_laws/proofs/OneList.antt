@@ -1,5 +1,5 @@
 -- At most one list of patches holds each face once.
-use Rattle.std.proofs.Common.{◌≡◌, ℕ, suc, ◌+◌, ◌*◌, ◌/◌, ◌%◌, ◌<◌, List, [], map, length, get_or, sym, ◌∙◌, ap, subst}
+use Rattle.std.proofs.Common.{◌≡◌, ℕ, suc, ◌+◌, ◌*◌, ◌/◌, ◌%◌, ◌<◌, List, [], map, length, get_or, sym, ◌∙◌, ap}
 use Rattle.std.proofs.Common.{refl, arith}
 use Rattle.std.proofs.Math.Nat.{div-lt_iff_lt-mul}
 use Rattle.std.proofs.lemmas.List.{ext_get_or}
@@ -27,8 +27,7 @@ same_rectangle p q wide lp lq one = λ i. record { w = one.wide i; h = one.tall 
     each : (k : ℕ) → k < length p.cells → get_or p.cells k 0 ≡ get_or q.cells k 0
     each k l =
         let low : k < p.h * p.w = omega (arith, lp) in
-        let here : cell_of p (k % p.w) (k / p.w) ≡ cell_of q (k % p.w) (k / p.w) =
-        one.cells (k % p.w) (k / p.w) (omega arith) (place_row k p.w p.h wide low) in
+        let here = one.cells (k % p.w) (k / p.w) (omega arith) (place_row k p.w p.h wide low) in
         ap (λ x. get_or p.cells x 0) (place_is k p.w wide)
         ∙ (here ∙ (ap (λ x. get_or q.cells (k / p.w * x + k % p.w) 0) (sym one.wide)
         ∙ ap (λ x. get_or q.cells x 0) (sym (place_is k p.w wide))))
@@ -55,17 +54,15 @@ module _ (mesh : HalfEdges) (laws : IsQuadManifold mesh) (cut : Cut) (full : IsC
   pub shared : (ps qs : List Rectangle) → AreTiles mesh cut face ps → AreTiles mesh cut face qs → (p q x : ℕ)
       → p < length ps → q < length qs → LiesInPatch mesh (patch_at ps p) x → LiesInPatch mesh (patch_at qs q) x
       → patch_at ps p ≡ patch_at qs q
-  shared ps qs a b p q x lp lq ip iq =
-      same_rectangle (patch_at ps p) (patch_at qs q) (a.patch p lp).grid.wide (a.sized p lp) (b.sized q lq)
-      (one_patch mesh laws cut full (patch_at ps p).w (patch_at ps p).h (patch_at qs q).w (patch_at qs q).h
-      (cell_of (patch_at ps p)) (cell_of (patch_at qs q)) (a.patch p lp) (b.patch q lq) x ip iq)
+  shared ps qs a b p q x lp lq ip iq = same_rectangle (patch_at ps p) (patch_at qs q) (a.patch p lp).grid.wide
+      (a.sized p lp) (b.sized q lq) (one_patch mesh laws cut full (patch_at ps p).w (patch_at ps p).h (patch_at qs q).w
+      (patch_at qs q).h (cell_of (patch_at ps p)) (cell_of (patch_at qs q)) (a.patch p lp) (b.patch q lq) x ip iq)
 
   -- So in one list they stand at one place,
   pub same_place : (ps : List Rectangle) → AreTiles mesh cut face ps → (p q x : ℕ) → p < length ps → q < length ps
       → LiesInPatch mesh (patch_at ps p) x → LiesInPatch mesh (patch_at ps q) x → p ≡ q
-  same_place ps a p q x lp lq ip iq =
-      increasing_place (least_at face ps) (length ps) (record { step = a.ordered }) p q lp lq
-      (ap (λ (r : Rectangle). least_of (map face r.cells)) (shared ps ps a a p q x lp lq ip iq))
+  same_place ps a p q x lp lq ip iq = increasing_place (least_at face ps) (length ps) (record { step = a.ordered }) p q
+      lp lq (ap (λ (r : Rectangle). least_of (map face r.cells)) (shared ps ps a a p q x lp lq ip iq))
 
   -- and each cell at one place there.
   pub once : (ps : List Rectangle) → AreTiles mesh cut face ps → (d p i j k q a b l : ℕ) → p < length ps → q < length ps
@@ -77,8 +74,7 @@ module _ (mesh : HalfEdges) (laws : IsQuadManifold mesh) (cut : Cut) (full : IsC
       inside p i j k s = (k, record { a = i; b = j; a_low = s.i_low; b_low = s.j_low; is = s.is })
 
       by_place : p ≡ q → (p ≡ q) × (i ≡ a) × (j ≡ b)
-      by_place same = let f : (i ≡ a) × (j ≡ b) =
-          at (subst (λ (r : ℕ). IsSide mesh (patch_at ps r) a b l d) (sym same) two) in (same, f.0, f.1)
+      by_place same = let f : (i ≡ a) × (j ≡ b) = at (rw same two) in (same, f.0, f.1)
         where
           at : IsSide mesh (patch_at ps p) a b l d → (i ≡ a) × (j ≡ b)
           at s = let r : (n : ℕ) × (cell_of (patch_at ps p) i j ≡ spin mesh n (cell_of (patch_at ps p) a b)) =
@@ -92,29 +88,18 @@ module _ (mesh : HalfEdges) (laws : IsQuadManifold mesh) (cut : Cut) (full : IsC
   -- Each patch of one list stands in the other.
   found : (ps qs : List Rectangle) → IsPartition mesh cut face ps → IsPartition mesh cut face qs → (p : ℕ)
       → p < length ps → (q : ℕ) × (q < length qs) × (patch_at ps p ≡ patch_at qs q)
-  found ps qs a b p lp = by_cover (b.covers (cell_of (patch_at ps p) 0 0) (grid.low 0 0 grid.wide grid.tall))
+  found ps qs a b p lp =
+      let c = b.covers (cell_of (patch_at ps p) 0 0) (grid.low 0 0 grid.wide grid.tall) in (
+        c.0,
+        c.4,
+        shared ps qs (tiles ps a) (tiles qs b) p c.0 (cell_of (patch_at ps p) 0 0) lp c.4 (
+          0,
+          record { a = 0; b = 0; a_low = grid.wide; b_low = grid.tall; is = refl },
+        ) (c.3, record { a = c.1; b = c.2; a_low = c.5.i_low; b_low = c.5.j_low; is = c.5.is }),
+      )
     where
       grid : IsGrid mesh cut (patch_at ps p).w (patch_at ps p).h (cell_of (patch_at ps p))
       grid = (a.patch p lp).grid
-
-      by_cover : (q : ℕ) × (i : ℕ) × (j : ℕ) × (k : ℕ) × (q < length qs)
-          × IsSide mesh (patch_at qs q) i j k (cell_of (patch_at ps p) 0 0) → (q : ℕ) × (q < length qs)
-          × (patch_at ps p ≡ patch_at qs q)
-      by_cover c = at c.0 c.1 c.2 c.3 c.4 c.5
-        where
-          at : (q i j k : ℕ) → q < length qs → IsSide mesh (patch_at qs q) i j k (cell_of (patch_at ps p) 0 0)
-              → (q : ℕ) × (q < length qs) × (patch_at ps p ≡ patch_at qs q)
-          at q i j k lq s = (
-            q,
-            lq,
-            shared ps qs (tiles ps a) (tiles qs b) p q (cell_of (patch_at ps p) 0 0) lp lq (
-              0,
-              record { a = 0; b = 0; a_low = grid.wide; b_low = grid.tall; is = refl },
-            ) (
-              k,
-              record { a = i; b = j; a_low = s.i_low; b_low = s.j_low; is = s.is },
-            ),
-          )
 
   pub one_list : (ps qs : List Rectangle) → IsPartition mesh cut face ps → IsPartition mesh cut face qs → ps ≡ qs
   one_list ps qs a b = ext_get_or (record { w = 0; h = 0; cells = [] }) ps qs many each
@@ -129,17 +114,14 @@ module _ (mesh : HalfEdges) (laws : IsQuadManifold mesh) (cut : Cut) (full : IsC
           (record { step = b.ordered }) (least_there ps qs a b) (least_there qs ps b a)
 
       each : (p : ℕ) → p < length ps → patch_at ps p ≡ patch_at qs p
-      each p l = by_found (found ps qs a b p l)
-        where
-          by_found : (q : ℕ) × (q < length qs) × (patch_at ps p ≡ patch_at qs q) → patch_at ps p ≡ patch_at qs p
-          by_found f =
-              let values : least_at face ps p ≡ least_at face qs p =
-              same_values (least_at face ps) (least_at face qs) (length ps) (length qs)
-              (record { step = a.ordered }) (record { step = b.ordered }) (least_there ps qs a b)
-              (least_there qs ps b a) p l in
-              let place : f.0 ≡ p = increasing_place (least_at face qs) (length qs) (record { step = b.ordered }) f.0 p
-              f.1 (omega (arith, many)) (sym (ap (λ (r : Rectangle). least_of (map face r.cells)) f.2) ∙ values) in
-              f.2 ∙ ap (patch_at qs) place
+      each p l =
+          let f = found ps qs a b p l in
+          let values =
+          same_values (least_at face ps) (least_at face qs) (length ps) (length qs) (record { step = a.ordered })
+          (record { step = b.ordered }) (least_there ps qs a b) (least_there qs ps b a) p l in
+          let place = increasing_place (least_at face qs) (length qs) (record { step = b.ordered }) f.0 p f.1
+          (omega (arith, many)) (sym (ap (λ (r : Rectangle). least_of (map face r.cells)) f.2) ∙ values) in
+          f.2 ∙ ap (patch_at qs) place
 
 pub one_list_law : OneListLaw
 one_list_law mesh cut face laws full ps qs a b = one_list mesh laws cut full face ps qs a b

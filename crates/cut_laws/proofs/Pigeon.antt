@@ -85,25 +85,21 @@ place_there g (suc m) x j l e = elim (cases_eq (g m) x) [
     by_rest ne rest =
         let later : j ≡ m → ⊥ = λ s. ne (ap g (sym s) ∙ e) in
         let r : (place_in g m x < m) × (g (place_in g m x) ≡ x) = rest j (omega arith) e in
-        let here : place_in g (suc m) x ≡ place_in g m x =
-        cond-false (eqb (g m) x) m (place_in g m x) (ne_eqb (g m) x ne) in
+        let here = cond-false (eqb (g m) x) m (place_in g m x) (ne_eqb (g m) x ne) in
         (omega (arith, r.0), ap g here ∙ r.1)
 
 -- Values of which no two are equal, and which all stand among m others, are at most m.
 pub no_more : (n m : ℕ) (f g : ℕ → ℕ) → ((i j : ℕ) → i < n → j < n → f i ≡ f j → i ≡ j)
     → ((i : ℕ) → i < n → (j : ℕ) × (j < m) × (g j ≡ f i)) → n ≤ m
-no_more n m f g apart there =
-    elim (cases_lt m n) [
-      | inl l ↦ absurd (clash l (pigeon m (λ i. place_in g m (f i)) (λ i h. (at i (omega arith)).0)))
-      | inr h ↦ h
-    ]
+no_more n m f g apart there = elim (cases_lt m n) [
+  | inl l ↦ absurd (clash l (pigeon m (λ i. place_in g m (f i)) (λ i h. (at i (omega arith)).0)))
+  | inr h ↦ h
+]
   where
     at : (i : ℕ) → i < n → (place_in g m (f i) < m) × (g (place_in g m (f i)) ≡ f i)
     at i l = let t : (j : ℕ) × (j < m) × (g j ≡ f i) = there i l in place_there g m (f i) t.0 t.1 t.2
 
     clash : m < n → Meets (λ i. place_in g m (f i)) m → ⊥
-    clash l p = pair p.0 p.1 p.2 p.3 p.4
-      where
-        pair : (i j : ℕ) → i < j → j ≤ m → place_in g m (f i) ≡ place_in g m (f j) → ⊥
-        pair i j b h e = let same : i ≡ j = apart i j (omega arith) (omega arith) (sym (at i (omega arith)).1
-            ∙ (ap g e ∙ (at j (omega arith)).1)) in omega arith
+    clash l p =
+        let same : p.0 ≡ p.1 = apart p.0 p.1 (omega arith) (omega arith) (sym (at p.0 (omega arith)).1
+        ∙ (ap g p.4 ∙ (at p.1 (omega arith)).1)) in omega arith

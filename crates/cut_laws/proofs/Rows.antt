@@ -3,8 +3,8 @@ use Rattle.std.proofs.Common.{◌≡◌, ℕ, zero, suc, ◌<◌, ◌≤◌, tru
 use Rattle.std.proofs.Common.{inl, inr, true≢false, arith}
 use Rattle.std.proofs.lemmas.Bool.{false≢true, true_from_ne_false, false_from_ne_true}
 use Rattle.std.proofs.lemmas.Option.{same_Some}
-use Rattle.def_mesh.specs.HalfEdges.{HalfEdges, AreTurned, Turns, IsQuadManifold}
-use Rattle.def_cut.specs.Cuts.{Cut, IsCross, HasCross, GoesOn, IsCut}
+use Rattle.def_mesh.specs.HalfEdges.{HalfEdges, Turns, IsQuadManifold}
+use Rattle.def_cut.specs.Cuts.{Cut, HasCross, GoesOn, IsCut}
 use Rattle.def_cut.specs.Steps.{or_zero, step_east, step_north, easts}
 use Rattle.cut_laws.specs.Grown.{IsRow}
 use Rattle.cut_laws.proofs.Darts.{prev_three, prev_twice, turn_from, turn_low, turn_same, next_same, twin_same}
@@ -36,9 +36,8 @@ module _ (mesh : HalfEdges) (laws : IsQuadManifold mesh) (cut : Cut) (full : IsC
       t.1 ∙ ap Some (ap or_zero (sym t.1))
 
   pub east_low : (d : ℕ) → d < mesh.count → cut (mesh.next d) ≡ false → step_east mesh d < mesh.count
-  east_low d l off = subst (λ (x : ℕ). x < mesh.count) (laws.next_prev (step_east mesh d))
-      (laws.next_low (mesh.prev (step_east mesh d)) (laws.twin_low (mesh.next d) (mesh.prev (step_east mesh d))
-      (laws.next_low d l) (east_twin d l off)))
+  east_low d l off = rw (laws.next_prev (step_east mesh d)) at (laws.next_low (mesh.prev (step_east mesh d))
+      (laws.twin_low (mesh.next d) (mesh.prev (step_east mesh d)) (laws.next_low d l) (east_twin d l off)))
 
   pub north_low : (d : ℕ) → d < mesh.count → cut (mesh.next (mesh.next d)) ≡ false → step_north mesh d < mesh.count
   north_low d l off = laws.twin_low (mesh.next (mesh.next d)) (step_north mesh d)
@@ -55,12 +54,12 @@ module _ (mesh : HalfEdges) (laws : IsQuadManifold mesh) (cut : Cut) (full : IsC
 
   -- Two neighbouring edges at a vertex that are not cut: then the next one is not cut either, one way round ..
   open_turn : (d e : ℕ) → d < mesh.count → IsOpen mesh cut d → mesh.twin (mesh.prev d) ≡ Some e → IsOpen mesh cut e
-  open_turn d e l free t =
-      (here, false_from_ne_true (cut (mesh.prev e)) (λ on. by_gap (full.gaps (mesh.prev e) (laws.prev_low e le) on)))
+  open_turn d e l free t = (
+    here,
+    false_from_ne_true (cut (mesh.prev e))
+        (λ on. by_gap (full.gaps (mesh.prev e) (laws.prev_low e (turn_low mesh laws d e l t)) on)),
+  )
     where
-      le : e < mesh.count
-      le = turn_low mesh laws d e l t
-
       here : cut e ≡ false
       here = full.alike (mesh.prev d) e (laws.prev_low d l) t ∙ free.1
 
@@ -70,8 +69,7 @@ module _ (mesh : HalfEdges) (laws : IsQuadManifold mesh) (cut : Cut) (full : IsC
       by_gap : GoesOn mesh cut (mesh.prev e) → ⊥
       by_gap (inl on) = true≢false (sym on ∙ (ap cut (laws.next_prev e) ∙ here))
       by_gap (inr g) =
-          let same : g.0 ≡ mesh.prev d =
-          same_Some g.0 (mesh.prev d) (sym g.1 ∙ (ap mesh.twin (laws.next_prev e) ∙ back)) in
+          let same = same_Some g.0 (mesh.prev d) (sym g.1 ∙ (ap mesh.twin (laws.next_prev e) ∙ back)) in
           true≢false (sym g.2 ∙ (ap (λ x. cut (mesh.next x)) same ∙ (ap cut (laws.next_prev d) ∙ free.0)))
 
   -- .. and so all the way round, back to the first.
@@ -91,19 +89,21 @@ module _ (mesh : HalfEdges) (laws : IsQuadManifold mesh) (cut : Cut) (full : IsC
       × IsOpen mesh cut (turns d n)
   unfolding turns
   turns_open d l free zero = (l, free)
-  turns_open d l free (suc n) = on (turns d n) (turns_open d l free n)
-    where
-      on : (x : ℕ) → (x < mesh.count) × IsOpen mesh cut x → (turn x < mesh.count) × IsOpen mesh cut (turn x)
-      on x o =
-          let is : mesh.twin (mesh.prev x) ≡ Some (turn x) = turn_is x o.0 o.1 in
-          let free : IsOpen mesh cut (turn x) = open_turn x (turn x) o.0 o.1 is in
-          (turn_low mesh laws x (turn x) o.0 is, free)
+  turns_open d l free (suc n) =
+      let x = turns d n in
+      let o = turns_open d l free n in
+      let is : mesh.twin (mesh.prev x) ≡ Some (turn x) = turn_is x o.0 o.1 in
+      let free : IsOpen mesh cut (turn x) = open_turn x (turn x) o.0 o.1 is in
+      (turn_low mesh laws x (turn x) o.0 is, free)
 
   open_back : (d e : ℕ) → d < mesh.count → e < mesh.count → IsOpen mesh cut d → mesh.twin (mesh.prev e) ≡ Some d
       → IsOpen mesh cut e
   unfolding turns
   open_back d e ld le free t =
-      by_round (comes_back mesh.count (turns d) (λ k l. (turns_open d ld free k).0) (λ i j li lj. apart i j))
+      let r = comes_back mesh.count (turns d) (λ k l. (turns_open d ld free k).0) (λ i j li lj. apart i j) in
+      let o : (turns d r.0 < mesh.count) × IsOpen mesh cut (turns d r.0) = turns_open d ld free r.0 in
+      let same : turns d r.0 ≡ e = turn_same mesh laws (turns d r.0) e d o.0 le (is r.0 ∙ ap Some r.2) t in
+      rw same at o.1
     where
       is : (k : ℕ) → mesh.twin (mesh.prev (turns d k)) ≡ Some (turns d (suc k))
       is k = let o : (turns d k < mesh.count) × IsOpen mesh cut (turns d k) = turns_open d ld free k in
@@ -113,12 +113,6 @@ module _ (mesh : HalfEdges) (laws : IsQuadManifold mesh) (cut : Cut) (full : IsC
       apart i j s = turn_same mesh laws (turns d i) (turns d j) (turns d (suc i)) (turns_open d ld free i).0
           (turns_open d ld free j).0 (is i) (is j ∙ ap Some (sym s))
 
-      by_round : (k : ℕ) × (k < mesh.count) × (turns d (suc k) ≡ d) → IsOpen mesh cut e
-      by_round r =
-          let o : (turns d r.0 < mesh.count) × IsOpen mesh cut (turns d r.0) = turns_open d ld free r.0 in
-          let same : turns d r.0 ≡ e = turn_same mesh laws (turns d r.0) e d o.0 le (is r.0 ∙ ap Some r.2) t in
-          subst (λ (x : ℕ). IsOpen mesh cut x) same o.1
-
   -- Two neighbouring edges that are not cut: no edge at the vertex is cut.
   pub no_cut : (d : ℕ) → d < mesh.count → IsOpen mesh cut d → (e : ℕ) → e < mesh.count → mesh.from e ≡ mesh.from d
       → IsOpen mesh cut e
@@ -126,32 +120,27 @@ module _ (mesh : HalfEdges) (laws : IsQuadManifold mesh) (cut : Cut) (full : IsC
     where
       along : (n x : ℕ) → Turns mesh d x n → (x < mesh.count) × (IsOpen mesh cut x)
       along zero x t = subst (λ (y : ℕ). (y < mesh.count) × (IsOpen mesh cut y)) t (l, free)
-      along (suc n) x t = by_step t.0 (along n t.0 t.1) t.2 t.3
-        where
-          by_step : (y : ℕ) → (y < mesh.count) × (IsOpen mesh cut y) → x < mesh.count → AreTurned mesh y x
-              → (x < mesh.count) × (IsOpen mesh cut x)
-          by_step y o lx (inl r) = (lx, open_turn y x o.0 o.1 r)
-          by_step y o lx (inr r) = (lx, open_back y x o.0 lx o.1 r)
+      along (suc n) x t =
+          let o = along n t.0 t.1 in
+          elim t.3 [ inl r ↦ (t.2, open_turn t.0 x o.0 o.1 r) | inr r ↦ (t.2, open_back t.0 x o.0 t.2 o.1 r) ]
 
   pub cross_at : (d : ℕ) → d < mesh.count → IsOpen mesh cut d → HasCross mesh d
   cross_at d l free = full.crossed d l (λ e le s. let o : IsOpen mesh cut e = no_cut d l free e le s in (o.0, o.1))
 
   -- The south edge goes on to the east.
   pub south_on : (d : ℕ) → d < mesh.count → cut d ≡ true → cut (mesh.next d) ≡ false → cut (step_east mesh d) ≡ true
-  south_on d l on off = by_gap (full.gaps d l on)
-    where
-      by_gap : GoesOn mesh cut d → cut (step_east mesh d) ≡ true
-      by_gap (inl c) = absurd (true≢false (sym c ∙ off))
-      by_gap (inr g) = ap (λ o. cut (mesh.next (or_zero o))) g.1 ∙ g.2
+  south_on d l on off = elim (full.gaps d l on) [
+    | inl c ↦ absurd (true≢false (sym c ∙ off))
+    | inr g ↦ ap (λ o. cut (mesh.next (or_zero o))) g.1 ∙ g.2
+  ]
 
   -- The east edge goes on to the north.
   pub east_on : (d : ℕ) → d < mesh.count → cut (mesh.next d) ≡ true → cut (mesh.next (mesh.next d)) ≡ false
       → cut (mesh.next (step_north mesh d)) ≡ true
-  east_on d l on off = by_gap (full.gaps (mesh.next d) (laws.next_low d l) on)
-    where
-      by_gap : GoesOn mesh cut (mesh.next d) → cut (mesh.next (step_north mesh d)) ≡ true
-      by_gap (inl c) = absurd (true≢false (sym c ∙ off))
-      by_gap (inr g) = ap (λ o. cut (mesh.next (or_zero o))) g.1 ∙ g.2
+  east_on d l on off = elim (full.gaps (mesh.next d) (laws.next_low d l) on) [
+    | inl c ↦ absurd (true≢false (sym c ∙ off))
+    | inr g ↦ ap (λ o. cut (mesh.next (or_zero o))) g.1 ∙ g.2
+  ]
 
   -- The west edge goes on to the north.
   pub west_on : (d : ℕ) → d < mesh.count → cut (mesh.prev d) ≡ true → cut (mesh.next (mesh.next d)) ≡ false
@@ -176,8 +165,7 @@ module _ (mesh : HalfEdges) (laws : IsQuadManifold mesh) (cut : Cut) (full : IsC
   north_off d l off up =
       let lx : mesh.next (mesh.next d) < mesh.count = laws.next_low (mesh.next d) (laws.next_low d l) in
       let free : IsOpen mesh cut (mesh.next (mesh.next d)) = (up, ap cut (laws.prev_next (mesh.next d)) ∙ off) in
-      let o : IsOpen mesh cut (mesh.prev (step_east mesh d)) =
-      no_cut (mesh.next (mesh.next d)) lx free (mesh.prev (step_east mesh d))
+      let o = no_cut (mesh.next (mesh.next d)) lx free (mesh.prev (step_east mesh d))
       (laws.prev_low (step_east mesh d) (east_low d l off)) (corner_east d l off) in
       ap cut (sym (prev_twice mesh laws (step_east mesh d))) ∙ o.1
 
@@ -193,39 +181,30 @@ module _ (mesh : HalfEdges) (laws : IsQuadManifold mesh) (cut : Cut) (full : IsC
   pub square : (d : ℕ) → d < mesh.count → cut (mesh.next d) ≡ false → cut (mesh.next (mesh.next d)) ≡ false
       → (cut (mesh.next (step_north mesh d)) ≡ false)
       × (step_east mesh (step_north mesh d) ≡ step_north mesh (step_east mesh d))
-  square d l off up = let c : HasCross mesh (mesh.next (mesh.next d)) = cross_at (mesh.next (mesh.next d)) lx free in
-      by_cross c.0 c.1 c.2 c.3
+  square d l off up =
+      let (a, b, c, is) = cross_at (mesh.next (mesh.next d)) lx free in
+      let x : ℕ = mesh.next (mesh.next d) in
+      let first = same_Some a (mesh.prev (step_east mesh d))
+      (sym is.first ∙ (ap mesh.twin (laws.prev_next (mesh.next d)) ∙ east_twin d l off)) in
+      let la : a < mesh.count = turn_low mesh laws x a lx is.first in
+      let lb : b < mesh.count = turn_low mesh laws a b la is.second in
+      let lc : c < mesh.count = turn_low mesh laws b c lb is.third in
+      let above = ap (λ y. or_zero (mesh.twin y))
+      (sym (ap mesh.prev first ∙ prev_twice mesh laws (step_east mesh d))) ∙ ap or_zero is.second in
+      let last = same_Some (mesh.prev c) (step_north mesh d)
+      (sym (laws.twin_twin (mesh.prev c) x (laws.prev_low c lc) is.last) ∙ north_twin d l up) in
+      let right : c ≡ mesh.next (step_north mesh d) = sym (laws.next_prev c) ∙ ap mesh.next last in
+      let back = ap mesh.twin (sym right) ∙ laws.twin_twin (mesh.prev b) c (laws.prev_low b lb) is.third in
+      let at = turn_from mesh laws b c lb is.third
+      ∙ (turn_from mesh laws a b la is.second ∙ turn_from mesh laws x a lx is.first) in
+      let o : IsOpen mesh cut c = no_cut x lx free c lc at in
+      (ap cut (sym right) ∙ o.0, ap (λ y. mesh.next (or_zero y)) back ∙ (laws.next_prev b ∙ sym above))
     where
       lx : mesh.next (mesh.next d) < mesh.count
       lx = laws.next_low (mesh.next d) (laws.next_low d l)
 
       free : IsOpen mesh cut (mesh.next (mesh.next d))
       free = (up, ap cut (laws.prev_next (mesh.next d)) ∙ off)
-
-      by_cross : (a b c : ℕ) → IsCross mesh (mesh.next (mesh.next d)) a b c
-          → (cut (mesh.next (step_north mesh d)) ≡ false)
-          × (step_east mesh (step_north mesh d) ≡ step_north mesh (step_east mesh d))
-      by_cross a b c is =
-          let x : ℕ = mesh.next (mesh.next d) in
-          let first : a ≡ mesh.prev (step_east mesh d) =
-          same_Some a (mesh.prev (step_east mesh d)) (sym is.first ∙ (ap mesh.twin (laws.prev_next (mesh.next d))
-          ∙ east_twin d l off)) in
-          let la : a < mesh.count = turn_low mesh laws x a lx is.first in
-          let lb : b < mesh.count = turn_low mesh laws a b la is.second in
-          let lc : c < mesh.count = turn_low mesh laws b c lb is.third in
-          let above : step_north mesh (step_east mesh d) ≡ b =
-          ap (λ y. or_zero (mesh.twin y)) (sym (ap mesh.prev first ∙ prev_twice mesh laws (step_east mesh d)))
-          ∙ ap or_zero is.second in
-          let last : mesh.prev c ≡ step_north mesh d =
-          same_Some (mesh.prev c) (step_north mesh d)
-          (sym (laws.twin_twin (mesh.prev c) x (laws.prev_low c lc) is.last) ∙ north_twin d l up) in
-          let right : c ≡ mesh.next (step_north mesh d) = sym (laws.next_prev c) ∙ ap mesh.next last in
-          let back : mesh.twin (mesh.next (step_north mesh d)) ≡ Some (mesh.prev b) = ap mesh.twin (sym right)
-          ∙ laws.twin_twin (mesh.prev b) c (laws.prev_low b lb) is.third in
-          let at : mesh.from c ≡ mesh.from x = turn_from mesh laws b c lb is.third
-          ∙ (turn_from mesh laws a b la is.second ∙ turn_from mesh laws x a lx is.first) in
-          let o : IsOpen mesh cut c = no_cut x lx free c lc at in
-          (ap cut (sym right) ∙ o.0, ap (λ y. mesh.next (or_zero y)) back ∙ (laws.next_prev b ∙ sym above))
 
   -- A row.
   pub row_low : (s w : ℕ) → IsRow mesh cut s w → (i : ℕ) → i < w → easts mesh s i < mesh.count
@@ -235,9 +214,8 @@ module _ (mesh : HalfEdges) (laws : IsQuadManifold mesh) (cut : Cut) (full : IsC
   -- Its south edges are cut if the first one is.
   pub row_south : (s w : ℕ) → IsRow mesh cut s w → cut s ≡ true → (i : ℕ) → i < w → cut (easts mesh s i) ≡ true
   row_south s w row on zero l = on
-  row_south s w row on (suc i) l =
-      south_on (easts mesh s i) (row_low s w row i (omega arith)) (row_south s w row on i (omega arith))
-      (row.inside i l)
+  row_south s w row on (suc i) l = south_on (easts mesh s i) (row_low s w row i (omega arith))
+      (row_south s w row on i (omega arith)) (row.inside i l)
 
   -- Its north edges are cut or not together.
   pub row_north_on : (s w : ℕ) → IsRow mesh cut s w → cut (mesh.next (mesh.next s)) ≡ true → (i : ℕ) → i < w
@@ -256,8 +234,7 @@ module _ (mesh : HalfEdges) (laws : IsQuadManifold mesh) (cut : Cut) (full : IsC
   pub row_above : (s w : ℕ) → IsRow mesh cut s w → cut (mesh.next (mesh.next s)) ≡ false → (i : ℕ) → i < w
       → easts mesh (step_north mesh s) i ≡ step_north mesh (easts mesh s i)
   row_above s w row off zero l = refl
-  row_above s w row off (suc i) l =
-      ap (step_east mesh) (row_above s w row off i (omega arith))
+  row_above s w row off (suc i) l = ap (step_east mesh) (row_above s w row off i (omega arith))
       ∙ (square (easts mesh s i) (row_low s w row i (omega arith)) (row.inside i l)
       (row_north_off s w row off i (omega arith))).1
 
@@ -277,22 +254,18 @@ module _ (mesh : HalfEdges) (laws : IsQuadManifold mesh) (cut : Cut) (full : IsC
   -- A row whose west edge is cut ends.
   east_same : (d e : ℕ) → d < mesh.count → e < mesh.count → cut (mesh.next d) ≡ false → cut (mesh.next e) ≡ false
       → step_east mesh d ≡ step_east mesh e → d ≡ e
-  east_same d e ld le offd offe s =
-      next_same mesh laws d e (twin_same mesh laws (mesh.next d) (mesh.next e) (mesh.prev (step_east mesh d))
-      (laws.next_low d ld) (laws.next_low e le) (east_twin d ld offd) (east_twin e le offe
-      ∙ ap (λ x. Some (mesh.prev x)) (sym s)))
+  east_same d e ld le offd offe s = next_same mesh laws d e
+      (twin_same mesh laws (mesh.next d) (mesh.next e) (mesh.prev (step_east mesh d)) (laws.next_low d ld)
+      (laws.next_low e le) (east_twin d ld offd) (east_twin e le offe ∙ ap (λ x. Some (mesh.prev x)) (sym s)))
 
   pub endless : (d : ℕ) → d < mesh.count → cut (mesh.prev d) ≡ true
       → ((i : ℕ) → i ≤ mesh.count → cut (mesh.next (easts mesh d i)) ≡ false) → ⊥
-  endless d l on off = by_round
-      (comes_back mesh.count (easts mesh d) low (λ i j li lj s. east_same (easts mesh d i) (easts mesh d j)
-      (low i (omega arith)) (low j (omega arith)) (off i (omega arith)) (off j (omega arith)) s))
+  endless d l on off =
+      let r = comes_back mesh.count (easts mesh d) low (λ i j li lj s. east_same (easts mesh d i) (easts mesh d j)
+      (low i (omega arith)) (low j (omega arith)) (off i (omega arith)) (off j (omega arith)) s) in
+      true≢false (sym on ∙ (ap (λ x. cut (mesh.prev x)) (sym r.2)
+      ∙ west_off (easts mesh d r.0) (low r.0 (omega (arith, r.1))) (off r.0 (omega (arith, r.1)))))
     where
       low : (i : ℕ) → i ≤ mesh.count → easts mesh d i < mesh.count
       low zero h = l
       low (suc i) h = east_low (easts mesh d i) (low i (omega arith)) (off i (omega arith))
-
-      by_round : (k : ℕ) × (k < mesh.count) × (easts mesh d (suc k) ≡ d) → ⊥
-      by_round r = true≢false (sym on
-          ∙ (ap (λ x. cut (mesh.prev x)) (sym r.2) ∙ west_off (easts mesh d r.0) (low r.0 (omega (arith, r.1)))
-          (off r.0 (omega (arith, r.1)))))

@@ -10,14 +10,13 @@ module _ (mesh : HalfEdges) (laws : IsQuadManifold mesh) where
 
   pub spin_back : (k x : ℕ) → (m : ℕ) × (x ≡ spin mesh m (spin mesh k x))
   spin_back zero x = (0, refl)
-  spin_back (suc k) x = on (spin_back k x)
+  spin_back (suc k) x =
+      let b = spin_back k x in
+      (suc (suc (suc b.0)), b.1 ∙ home b.0 (spin mesh k x))
     where
       home : (m y : ℕ) → spin mesh m y ≡ spin mesh (suc (suc (suc m))) (mesh.next y)
       home m y = ap (spin mesh m) (sym (laws.four_sides y)) ∙ (spin_next m (mesh.next (mesh.next (mesh.next y)))
           ∙ ap mesh.next (spin_next m (mesh.next (mesh.next y)) ∙ ap mesh.next (spin_next m (mesh.next y))))
-
-      on : (m : ℕ) × (x ≡ spin mesh m (spin mesh k x)) → (m : ℕ) × (x ≡ spin mesh m (spin mesh (suc k) x))
-      on b = (suc (suc (suc b.0)), b.1 ∙ home b.0 (spin mesh k x))
 
   pub spin_join : (m l y : ℕ) → (n : ℕ) × (spin mesh m (spin mesh l y) ≡ spin mesh n y)
   spin_join zero l y = (l, refl)
