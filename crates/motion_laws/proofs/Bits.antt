@@ -34,8 +34,7 @@ rotated mesh laws d a b c low x = record {
   second = x.third;
   third = x.last;
   last = x.first;
-  apart =
-      a_c mesh laws d a b c low x;
+  apart = a_c mesh laws d a b c low x;
 }
 
 module _ (g : Terrain) (d p q r : ℕ) (round : AreRound g d p q r) where
@@ -58,19 +57,16 @@ module _ (g : Terrain) (d p q r : ℕ) (round : AreRound g d p q r) where
     eq-eqb d x s,
     ne_eqb p x (λ k. round.d_p (s ∙ sym k)),
     ne_eqb q x (λ k. round.d_q (s ∙ sym k)),
-  )
-      (ap (λ k. gives_way g y k) (sym s) ∙ other y (not_d y (λ k. ne (sym s ∙ k)) o))
+  ) (ap (λ k. gives_way g y k) (sym s) ∙ other y (not_d y (λ k. ne (sym s ∙ k)) o))
 
   second_of_two : (x y : ℕ) → d ≡ y → x ≢ y → IsOfFour d p q r x → goes_on g (x ∷ y ∷ []) d
       ≡ (not (is_among p (x ∷ y ∷ [])) && not (is_among q (x ∷ y ∷ [])))
-  second_of_two x y s ne o =
-      rw (
-        ne_eqb d x (λ k. ne (sym k ∙ s)),
-        eq-eqb d y s,
-        ne_eqb p y (λ k. round.d_p (s ∙ sym k)),
-        ne_eqb q y (λ k. round.d_q (s ∙ sym k)),
-      )
-      (or-false (gives_way g x y) ∙ (ap (λ k. gives_way g x k) (sym s) ∙ other x (not_d x (λ k. ne (sym k ∙ s)) o)))
+  second_of_two x y s ne o = rw (
+    ne_eqb d x (λ k. ne (sym k ∙ s)),
+    eq-eqb d y s,
+    ne_eqb p y (λ k. round.d_p (s ∙ sym k)),
+    ne_eqb q y (λ k. round.d_q (s ∙ sym k)),
+  ) (or-false (gives_way g x y) ∙ (ap (λ k. gives_way g x k) (sym s) ∙ other x (not_d x (λ k. ne (sym k ∙ s)) o)))
 
   -- Of three that differ, one is p or q.
   side : (x : ℕ) → IsOfFour d p q r x → ((x ≡ p) ⊎ (x ≡ q)) ⊎ ((x ≡ d) ⊎ (x ≡ r))
@@ -93,8 +89,7 @@ module _ (g : Terrain) (d p q r : ℕ) (round : AreRound g d p q r) where
   off_by ds x m (inr e) = rw (ap (λ k. is_among k ds) (sym e) ∙ m) (by_test (is_among p ds))
     where
       by_test : (b : Bool) → false ≡ (not b && false)
-      by_test true = refl
-      by_test false = refl
+      by_test = elim [ true ↦ refl | false ↦ refl ]
 
   differ : (x y : ℕ) (ds : List ℕ) → is_among x ds ≡ false → is_among y ds ≡ true → x ≢ y
   differ x y ds off on e = false≢true (sym off ∙ (ap (λ k. is_among k ds) e ∙ on))
@@ -171,9 +166,8 @@ module _ (g : Terrain) (laws : IsQuadManifold g.half) where
   -- Each dart that arrives there is one of the four.
   pub of_round : (d a b c : ℕ) → d < g.half.count → IsCross g.half (g.half.next d) a b c → (e : ℕ) → e < g.half.count
       → end_of g e ≡ end_of g d → IsOfFour d (g.half.prev a) (g.half.prev b) (g.half.prev c) e
-  of_round d a b c low x e l s =
-      by_one (one_of_four g.half laws (g.half.next d) a b c (laws.next_low d low) x (g.half.next e)
-      (record { low = laws.next_low e l; at = s }))
+  of_round d a b c low x e l s = by_one (one_of_four g.half laws (g.half.next d) a b c (laws.next_low d low) x
+      (g.half.next e) (record { low = laws.next_low e l; at = s }))
     where
       back : (y : ℕ) → g.half.next e ≡ y → e ≡ g.half.prev y
       back y k = sym (laws.prev_next e) ∙ ap g.half.prev k

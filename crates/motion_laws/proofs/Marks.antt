@@ -1,5 +1,5 @@
 -- Lists of marks and of riders by index, and lists of darts that differ.
-use Rattle.std.proofs.Common.{◌≡◌, ◌≢◌, ◌⊎◌, ℕ, zero, suc, ◌+◌, ◌<◌, ◌≤◌, Bool, true, false, eqb, ◌||◌, List, [], ◌∷◌}
+use Rattle.std.proofs.Common.{◌≡◌, ◌⊎◌, ℕ, zero, suc, ◌<◌, ◌≤◌, Bool, true, false, eqb, ◌||◌, List, [], ◌∷◌}
 use Rattle.std.proofs.Common.{◌++◌, length, get_or, set, replicate, Option, Some, None, sym, ap, ◌∙◌, refl, inl, inr}
 use Rattle.std.proofs.Common.{arith}
 use Rattle.std.proofs.Math.Bool.{or-false}
@@ -19,8 +19,7 @@ mark_is marks k d l = elim (cases_eq d k) [
 ]
   where
     at : (b : Bool) → (b || true) ≡ true
-    at true = refl
-    at false = refl
+    at = elim [ true ↦ refl | false ↦ refl ]
 
 -- In no darts none is found.
 pub none_found : (o : Option ℕ) → is_found o [] ≡ false
@@ -54,8 +53,7 @@ twin_marks (Some t) marks d e l low =
     same : (a b : ℕ) → eqb b a ≡ eqb a b
     same a b = elim (cases_eq b a) [
       | inl s ↦ eq-eqb b a s ∙ sym (eq-eqb a b (sym s))
-      | inr ne ↦ ne_eqb b a ne
-          ∙ sym (ne_eqb a b (λ s. ne (sym s)))
+      | inr ne ↦ ne_eqb b a ne ∙ sym (ne_eqb a b (λ s. ne (sym s)))
     ]
 
     at : (a b c f : Bool) → c ≡ f → ((a || b) || c) ≡ (a || (b || (f || false)))
@@ -82,8 +80,7 @@ from_marks g (d ∷ ds) marks v low =
     same : (a b : ℕ) → eqb a b ≡ eqb b a
     same a b = elim (cases_eq a b) [
       | inl s ↦ eq-eqb a b s ∙ sym (eq-eqb b a (sym s))
-      | inr ne ↦ ne_eqb a b ne
-          ∙ sym (ne_eqb b a (λ s. ne (sym s)))
+      | inr ne ↦ ne_eqb a b ne ∙ sym (ne_eqb b a (λ s. ne (sym s)))
     ]
 
     at : (a b c f : Bool) → c ≡ f → ((a || b) || c) ≡ ((f || a) || b)
@@ -114,8 +111,7 @@ noted_more (Some x ∷ ns) (suc r) d e l none = ap (λ b. eqb e x || b) (noted_m
     ∙ at (eqb e x) (is_among e (darts_in ns)) (eqb e d)
   where
     at : (a b c : Bool) → (a || (b || c)) ≡ ((a || b) || c)
-    at true b c = refl
-    at false b c = refl
+    at = elim [ true ↦ λ b c. refl | false ↦ λ b c. refl ]
 
 pub noted_longer : (ns : List (Option ℕ)) (r d : ℕ) → r < length ns → note_at ns r ≡ None
     → length (darts_in (set ns r (Some d))) ≡ suc (length (darts_in ns))
@@ -131,8 +127,7 @@ found_more None ds es d more = refl
 found_more (Some t) ds es d more = more t ∙ ap (λ b. is_among t ds || b) (at (eqb t d))
   where
     at : (b : Bool) → b ≡ (b || false)
-    at true = refl
-    at false = refl
+    at = elim [ true ↦ refl | false ↦ refl ]
 
 -- Numbers that differ and are below n are at most n.
 pub among_at : (xs : List ℕ) (i : ℕ) → i < length xs → is_among (get_or xs i 0) xs ≡ true

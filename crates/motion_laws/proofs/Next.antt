@@ -1,5 +1,5 @@
 -- The riders after a step: which darts they ride next, and that these differ.
-use Rattle.std.proofs.Common.{◌≡◌, ◌≢◌, ◌⊎◌, ℕ, Bool, true, false, List, [], ◌∷◌, map, Option, Some, None, sym, subst}
+use Rattle.std.proofs.Common.{◌≡◌, ◌⊎◌, ℕ, Bool, true, false, List, [], ◌∷◌, map, Option, Some, None, sym, subst}
 use Rattle.std.proofs.Common.{ap, ◌∙◌, refl, inl, inr}
 use Rattle.std.proofs.lemmas.Bool.{false≢true, false_from_ne_true}
 use Rattle.def_cut.specs.{declared.graph.Stop.Stop, declared.moving.Moving.Moving, Motion.Terrain, Motion.straight}
@@ -38,35 +38,31 @@ module _ (g : Terrain) (stood : ℕ → Bool) (ds : List ℕ) where
       ⊎ (is_among e later ≡ true)
   from_rider r None later e is m = elim (from_ride r.dart r.rides e (stop_of g stood ds r.dart) later m)
       [ inl f ↦ inl (refl, f.0, f.1) | inr k ↦ inr k ]
-  from_rider r (Some s) later e is m =
-      inr (subst (λ (q : Option Stop). is_among e (with_next q r.dart later) ≡ true) is m)
+  from_rider r (Some s) later e is m = inr (rw is at m)
 
   -- What is ridden next comes from a rider that goes on.
   pub next_from : (rs : List Moving) (e : ℕ) → is_among e (ridden (map (ride g stood ds) rs)) ≡ true
       → (d : ℕ) × (is_among d (ridden rs) ≡ true) × (stop_of g stood ds d ≡ None) × (e ≡ or_else (straight g d) d)
   next_from [] e m = absurd (false≢true m)
-  next_from (r ∷ rs) e m = by_rider (from_rider r r.stop (ridden (map (ride g stood ds) rs)) e refl m) (next_from rs e)
-    where
-      by_rider : ((r.stop ≡ None) × (stop_of g stood ds r.dart ≡ None) × (e ≡ or_else (straight g r.dart) r.dart))
-          ⊎ (is_among e (ridden (map (ride g stood ds) rs)) ≡ true)
-          → (is_among e (ridden (map (ride g stood ds) rs)) ≡ true → (d : ℕ) × (is_among d (ridden rs) ≡ true)
-          × (stop_of g stood ds d ≡ None) × (e ≡ or_else (straight g d) d)) → (d : ℕ)
-          × (is_among d (ridden (r ∷ rs)) ≡ true) × (stop_of g stood ds d ≡ None) × (e ≡ or_else (straight g d) d)
-      by_rider (inl f) rest = (
-        r.dart,
-        subst (λ (q : Option Stop). is_among r.dart (with_next q r.dart (ridden rs))
-            ≡ true) (sym f.0) (among_here r.dart r.dart (ridden rs) refl),
-        f.1,
-        f.2,
-      )
-      by_rider (inr k) rest = let n : (d : ℕ) × (is_among d (ridden rs) ≡ true) × (stop_of g stood ds d ≡ None)
-          × (e ≡ or_else (straight g d) d) = rest k in (n.0, with_later r.stop r.dart n.0 (ridden rs) n.1, n.2, n.3)
+  next_from (r ∷ rs) e m =
+      let rest = next_from rs e in
+      elim (from_rider r r.stop (ridden (map (ride g stood ds) rs)) e refl m) [
+        | inl f ↦ (r.dart, rw f.0 (among_here r.dart r.dart (ridden rs) refl), f.1, f.2)
+        | inr k ↦ let n : (d : ℕ) × (is_among d (ridden rs) ≡ true) × (stop_of g stood ds d ≡ None)
+            × (e ≡ or_else (straight g d) d) = rest k in (n.0, with_later r.stop r.dart n.0 (ridden rs) n.1, n.2, n.3)
+      ]
 
   -- And each rider that goes on rides its next dart.
   pub next_to : (rs : List Moving) (d : ℕ) → is_among d (ridden rs) ≡ true → stop_of g stood ds d ≡ None
       → is_among (or_else (straight g d) d) (ridden (map (ride g stood ds) rs)) ≡ true
   next_to [] d m on = absurd (false≢true m)
-  next_to (r ∷ rs) d m on = by_rider (with_cases r.stop r.dart d (ridden rs) m) (next_to rs d)
+  next_to (r ∷ rs) d m on =
+      let rest = next_to rs d in
+      elim (with_cases r.stop r.dart d (ridden rs) m) [
+        | inl f ↦ rw f.0 (running f.1)
+        | inr k ↦ with_later (ride g stood ds r).stop (ride g stood ds r).dart (or_else (straight g d) d)
+            (ridden (map (ride g stood ds) rs)) (rest k on)
+      ]
     where
       here : d ≡ r.dart → is_among (or_else (straight g d) d) (with_next (after_ride g r.dart r.rides None).stop
           (after_ride g r.dart r.rides None).dart (ridden (map (ride g stood ds) rs))) ≡ true
@@ -79,17 +75,6 @@ module _ (g : Terrain) (stood : ℕ → Bool) (ds : List ℕ) where
       running s = subst (λ (q : Option Stop). is_among (or_else (straight g d) d)
           (with_next (after_ride g r.dart r.rides q).stop (after_ride g r.dart r.rides q).dart
           (ridden (map (ride g stood ds) rs))) ≡ true) (sym on ∙ ap (stop_of g stood ds) s) (here s)
-
-      by_rider : ((r.stop ≡ None) × (d ≡ r.dart)) ⊎ (is_among d (ridden rs) ≡ true)
-          → (is_among d (ridden rs) ≡ true → stop_of g stood ds d ≡ None
-          → is_among (or_else (straight g d) d) (ridden (map (ride g stood ds) rs)) ≡ true)
-          → is_among (or_else (straight g d) d) (with_next (ride_on g stood ds r r.stop).stop
-          (ride_on g stood ds r r.stop).dart (ridden (map (ride g stood ds) rs))) ≡ true
-      by_rider (inl f) rest = subst (λ (o : Option Stop). is_among (or_else (straight g d) d)
-          (with_next (ride_on g stood ds r o).stop (ride_on g stood ds r o).dart (ridden (map (ride g stood ds) rs)))
-          ≡ true) (sym f.0) (running f.1)
-      by_rider (inr k) rest = with_later (ride g stood ds r).stop (ride g stood ds r).dart (or_else (straight g d) d)
-          (ridden (map (ride g stood ds) rs)) (rest k on)
 
   -- Riders that go on ride different darts, where the next darts of different darts differ.
   abbrev pub NextDiffer : (rs : List Moving) → Type 0
@@ -118,18 +103,14 @@ module _ (g : Terrain) (stood : ℕ → Bool) (ds : List ℕ) where
 
           again : is_among (or_else (straight g r.dart) r.dart) (ridden (map (ride g stood ds) rs)) ≡ true → ⊥
           again m =
-              let n : (d : ℕ) × (is_among d (ridden rs) ≡ true) × (stop_of g stood ds d ≡ None)
-              × (or_else (straight g r.dart) r.dart ≡ or_else (straight g d) d) =
-              next_from rs (or_else (straight g r.dart) r.dart) m in
-              let s : r.dart ≡ n.0 = differ r.dart n.0 in_front (with_later r.stop r.dart n.0 (ridden rs) n.1) is n.2
-              n.3 in
+              let n = next_from rs (or_else (straight g r.dart) r.dart) m in
+              let s = differ r.dart n.0 in_front (with_later r.stop r.dart n.0 (ridden rs) n.1) is n.2 n.3 in
               false≢true (sym off ∙ (ap (λ x. is_among x (ridden rs)) s ∙ n.1))
 
       at_rider : (o : Option Stop) → r.stop ≡ o → AreApart (with_next o r.dart (ridden rs))
           → (AreApart (ridden rs) → NextDiffer rs → AreApart (ridden (map (ride g stood ds) rs)))
           → AreApart (with_next (ride_on g stood ds r o).stop (ride_on g stood ds r o).dart
           (ridden (map (ride g stood ds) rs)))
-      at_rider (Some s) is a rest =
-          subst (λ (q : Option Stop). AreApart (with_next q r.dart (ridden (map (ride g stood ds) rs)))) (sym is)
-          (rest a differ_later)
+      at_rider (Some s) is a rest = subst (λ (q : Option Stop). AreApart
+          (with_next q r.dart (ridden (map (ride g stood ds) rs)))) (sym is) (rest a differ_later)
       at_rider None is a rest = at_ride (stop_of g stood ds r.dart) refl is a.0 (rest a.1 differ_later)

@@ -1,14 +1,14 @@
 -- The states that the motion reaches from a first state, its end, and that what it traces is a full cut.
-use Rattle.std.proofs.Common.{◌≡◌, ◌≢◌, ◌⊎◌, ℕ, zero, suc, ◌+◌, ◌<◌, ◌≤◌, Bool, true, false, not, cond, ◌||◌, List, []}
+use Rattle.std.proofs.Common.{◌≡◌, ◌⊎◌, ℕ, zero, suc, ◌+◌, ◌<◌, ◌≤◌, Bool, true, false, not, cond, ◌||◌, List, []}
 use Rattle.std.proofs.Common.{◌∷◌, map, length, Option, Some, None, is_some, sym, subst, ap, ◌∙◌, refl, inl, inr, arith}
-use Rattle.std.proofs.lemmas.Bool.{eq-eqb, eqb-true, false≢true, cases_Bool, cases_eq, or_left, or_right, or_cases}
+use Rattle.std.proofs.lemmas.Bool.{eq-eqb, false≢true, cases_Bool, cases_eq, or_left, or_right, or_cases}
 use Rattle.def_math.specs.Counts.{count_below}
 use Rattle.sum_laws.proofs.Counts.{count_below_lt, count_below_ones}
 use Rattle.def_cut.specs.{Cuts.IsCross, Cuts.HasCross, Cuts.GoesOn as CutGoesOn, Cuts.IsUncut, Cuts.IsCut, Trails.Trail}
 use Rattle.def_cut.specs.{Trails.IsTracked, Trails.IsTraced, declared.graph.Stop.Stop, declared.moving.Moving.Moving}
 use Rattle.def_cut.specs.Motion.{Terrain, State, end_of, with_next, ridden, is_among}
 use Rattle.def_cut.specs.{Motion.ride, Motion.ride_on, Motion.step, Motion.later, Traced.finish, Traced.is_cut}
-use Rattle.cut_laws.proofs.{Corners.corner_law, Crosses.one_of_four, Crosses.low_a, Crosses.low_b, Crosses.at_b}
+use Rattle.cut_laws.proofs.{Corners.corner_law, Crosses.one_of_four, Crosses.low_b}
 use Rattle.motion_laws.proofs.Among.{among_here}
 use Rattle.motion_laws.proofs.Terrains.{IsTerrain, IsReachedFrom, IsFirst, IsKnown, IsSoon, IsShut, IsCrossedAt}
 use Rattle.motion_laws.proofs.Steps.{trail_more, IsNext, next_is, step_keeps, back, stands}
@@ -27,10 +27,7 @@ still_riders g stood ds (q ∷ rs) e = at q.stop refl e (still_riders g stood ds
 -- Where nobody runs, the motion stands still.
 pub at_rest : (g : Terrain) (k : ℕ) (s : State) → ridden s.riders ≡ [] → finish g k s ≡ s
 at_rest g zero s none = refl
-at_rest g (suc k) s none = at (ridden s.riders) none
-  where
-    at : (ds : List ℕ) → ds ≡ [] → elim ds as (λ x. State) [ [] ↦ s | d ∷ es ↦ finish g k (step g s) ] ≡ s
-    at ds is = rw is refl
+at_rest g (suc k) s none = rw (none, finish)
 
 pub runs_on : (g : Terrain) (k d : ℕ) (ds : List ℕ) (s : State) → ridden s.riders ≡ d ∷ ds → finish g (suc k) s
     ≡ finish g k (step g s)
@@ -38,7 +35,7 @@ runs_on g k d ds s is = at (ridden s.riders) is
   where
     at : (xs : List ℕ) → xs ≡ d ∷ ds → elim xs as (λ x. State) [ [] ↦ s | e ∷ es ↦ finish g k (step g s) ]
         ≡ finish g k (step g s)
-    at xs e = rw e refl
+    at xs e = rw e
 
 module _ (g : Terrain) (t : IsTerrain g) (begins : ℕ → Bool) (first : State) (begin : IsFirst g begins first) where
   pub later_reached : (n : ℕ) → IsReachedFrom g begins first (later g first n)
@@ -60,9 +57,7 @@ module _ (g : Terrain) (t : IsTerrain g) (begins : ℕ → Bool) (first : State)
       → is_among e (ridden (later g first j).riders) ≡ true → ⊥
   rides_once e i zero less m n = omega arith
   rides_once e i (suc j) less m n =
-      let x : (d : ℕ) × (is_among d (ridden (later g first j).riders) ≡ true)
-      × IsNext g t (later g first j).stood (ridden (later g first j).riders) d e =
-      next_is g t begins first (later g first j) (later_reached j) e n in
+      let x = next_is g t begins first (later g first j) (later_reached j) e n in
       false≢true (sym x.2.going.fresh
       ∙ (ap (later g first j).stood (sym x.2.at) ∙ stood_later i j (g.half.from e) (omega arith)
       ((later_reached i).left e m)))
@@ -90,8 +85,7 @@ module _ (g : Terrain) (t : IsTerrain g) (begins : ℕ → Bool) (first : State)
         by_next : (d : ℕ) × (is_among d (ridden s.riders) ≡ true) × IsNext g t s.stood (ridden s.riders) d e
             → fresh (step g s) < fresh s
         by_next (d, k, x) = count_below_lt (λ v. cond ((step g s).stood v) 0 1) (λ v. cond (s.stood v) 0 1) n
-            (end_of g d)
-            (few (g.half.next d) (t.half.next_low d (r.low d k)))
+            (end_of g d) (few (g.half.next d) (t.half.next_low d (r.low d k)))
             (λ v l. no_more_at (s.stood v) ((step g s).stood v) (λ y. or_left _ _ y))
             (less_at (s.stood (end_of g d)) ((step g s).stood (end_of g d)) x.going.fresh
             (stands g t begins first s r d k))
@@ -131,8 +125,7 @@ module _ (g : Terrain) (t : IsTerrain g) (begins : ℕ → Bool) (first : State)
     fresh_low s (suc m) = omega (arith, fresh_low s m, at (s.stood m))
       where
         at : (b : Bool) → cond b 0 1 ≤ 1
-        at true = omega arith
-        at false = omega arith
+        at = elim [ true ↦ omega arith | false ↦ omega arith ]
 
     finish_reached : (k : ℕ) (s : State) → IsReachedFrom g begins first s → IsReachedFrom g begins first (finish g k s)
     finish_reached zero s r = r
@@ -152,8 +145,7 @@ module _ (g : Terrain) (t : IsTerrain g) (begins : ℕ → Bool) (first : State)
         runs_out zero = at (ridden first.riders) refl
           where
             no_more_at : (b : Bool) → cond b 0 1 ≤ 1
-            no_more_at true = omega arith
-            no_more_at false = omega arith
+            no_more_at = elim [ true ↦ omega arith | false ↦ omega arith ]
 
             less_at : (b : Bool) → b ≡ true → cond b 0 1 < 1
             less_at b on = rw on (omega arith)
@@ -169,17 +161,14 @@ module _ (g : Terrain) (t : IsTerrain g) (begins : ℕ → Bool) (first : State)
                       (g.half.from d) (few d (begin.reached.low d m)) (λ v l. no_more_at (first.stood v))
                       (less_at (first.stood (g.half.from d)) (begin.reached.left d m)),
                 ))
-        runs_out (suc k) = by_before (runs_out k)
-          where
-            by_before : (ridden (later g first k).riders ≡ []) ⊎ (fresh (later g first k) + k < n)
-                → (ridden (later g first (suc k)).riders ≡ []) ⊎ (fresh (later g first (suc k)) + suc k < n)
-            by_before (inl none) = inl
-                (ap ridden (still_riders g (later g first k).stood (ridden (later g first k).riders)
-                (later g first k).riders none) ∙ none)
-            by_before (inr low) = elim (rests_or_falls (later g first k) (later_reached k)) [
-              | inl none ↦ inl none
-              | inr falls ↦ inr (omega (arith, low, falls))
-            ]
+        runs_out (suc k) = elim (runs_out k) [
+          | inl none ↦ inl (ap ridden (still_riders g (later g first k).stood
+              (ridden (later g first k).riders) (later g first k).riders none) ∙ none)
+          | inr low ↦ elim (rests_or_falls (later g first k) (later_reached k)) [
+            | inl none ↦ inl none
+            | inr falls ↦ inr (omega (arith, low, falls))
+          ]
+        ]
 
     -- Nobody runs in the end.
     pub nobody_runs : ridden (finish g (suc n) first).riders ≡ []
@@ -247,27 +236,24 @@ module _ (g : Terrain) (t : IsTerrain g) (begins : ℕ → Bool) (first : State)
             → cut b ≡ true → (g.half.next d ≡ x) ⊎ ((g.half.next d ≡ a) ⊎ ((g.half.next d ≡ b) ⊎ (g.half.next d ≡ f)))
             → CutGoesOn g.half cut d
         by_place x a b f x_low at k on_x on_b (inl e) = inl (ap cut e ∙ on_x)
-        by_place x a b f x_low at k on_x on_b (inr (inl e)) =
-            inr (
-              g.half.prev x,
-              ap g.half.twin e ∙ back g t (g.half.prev x) a (t.half.prev_low x x_low) k.first,
-              ap cut (t.half.next_prev x) ∙ on_x,
-            )
+        by_place x a b f x_low at k on_x on_b (inr (inl e)) = inr (
+          g.half.prev x,
+          ap g.half.twin e ∙ back g t (g.half.prev x) a (t.half.prev_low x x_low) k.first,
+          ap cut (t.half.next_prev x) ∙ on_x,
+        )
         by_place x a b f x_low at k on_x on_b (inr (inr (inl e))) = inl (ap cut e ∙ on_b)
-        by_place x a b f x_low at k on_x on_b (inr (inr (inr e))) =
-            inr (
-              g.half.prev b,
-              ap g.half.twin e
-                  ∙ back g t (g.half.prev b) f (t.half.prev_low b (low_b g.half t.half x a b f x_low k)) k.third,
-              ap cut (t.half.next_prev b) ∙ on_b,
-            )
+        by_place x a b f x_low at k on_x on_b (inr (inr (inr e))) = inr (
+          g.half.prev b,
+          ap g.half.twin e
+              ∙ back g t (g.half.prev b) f (t.half.prev_low b (low_b g.half t.half x a b f x_low k)) k.third,
+          ap cut (t.half.next_prev b) ∙ on_b,
+        )
 
         by_cross : IsCrossedAt g s (end_of g d) → CutGoesOn g.half cut d
         by_cross x = by_place x.x x.a x.b x.c x.low x.at x.cross (soon_cut x.x x.soon) (soon_cut x.b x.facing)
             (one_of_four g.half t.half x.x x.a x.b x.c x.low x.cross (g.half.next d) (record {
               low = next_low;
-              at =
-                  sym x.at;
+              at = sym x.at;
             }))
 
         by_kind : (g.boundary (end_of g d) ≡ true) ⊎ (g.boundary (end_of g d) ≡ false)

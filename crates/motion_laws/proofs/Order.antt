@@ -1,6 +1,6 @@
 -- Events keep what event states show, so every order of events has one end.
 use Rattle.std.proofs.Common.{◌≡◌, ◌≢◌, ◌⊎◌, ℕ, zero, suc, ◌+◌, ◌-◌, ◌<◌, ◌≤◌, Bool, true, false, not, cond, eqb, ◌&&◌}
-use Rattle.std.proofs.Common.{◌||◌, List, [], ◌∷◌, ◌++◌, map, length, get_or, set, replicate, Option, Some, None, sym}
+use Rattle.std.proofs.Common.{◌||◌, List, [], ◌∷◌, ◌++◌, map, length, set, replicate, Option, Some, None, sym}
 use Rattle.std.proofs.Common.{subst, ap, ◌∙◌, refl, inl, inr, arith}
 use Rattle.std.proofs.Math.Bool.{or-false}
 use Rattle.std.proofs.lemmas.Bool.{eq-eqb, eqb-true, false≢true, cases_Bool, cases_eq, cases_lt, or_right, and_parts}
@@ -8,10 +8,10 @@ use Rattle.std.proofs.lemmas.Bool.{and_from, not_from_false}
 use Rattle.std.proofs.lemmas.List.{get_or-set_same, get_or-set_other, length-set, length-replicate, length-map}
 use Rattle.std.proofs.lemmas.List.{length-append}
 use Rattle.std.specs.List.{list_any}
-use Rattle.sum_laws.proofs.{Tests.same_test, Counts.count_below_lt, Counts.count_below_ones}
+use Rattle.sum_laws.proofs.{Tests.same_test}
 use Rattle.def_cut.specs.{FullCut.is_on, declared.graph.Stop.Stop, declared.moving.Moving.Moving, Motion.Terrain}
 use Rattle.def_cut.specs.Motion.{State, end_of, with_next, ridden, is_among}
-use Rattle.def_cut.specs.Motion.{is_found, is_met, arrives_at, ride_on, ride, begun}
+use Rattle.def_cut.specs.Motion.{is_found, is_met, arrives_at, ride, begun}
 use Rattle.def_cut.specs.{Motion.step, Motion.start, Motion.after_steps, Traced.finish, Traced.end_state}
 use Rattle.def_cut.specs.Events.{EventState, waiting, darts_in, rider_at, note_at}
 use Rattle.def_cut.specs.Events.{may_ride, mark_twin, after_ride_of, leads_to, may_settle}
@@ -28,7 +28,7 @@ use Rattle.motion_laws.proofs.Shown.{ride_shown, waits_as_was, waits_not_all, so
 use Rattle.motion_laws.proofs.Shown.{none_shown, told_shown}
 use Rattle.motion_laws.proofs.Steps.{back}
 use Rattle.motion_laws.proofs.Terrains.{IsTerrain, IsStarted, IsReached}
-use Rattle.motion_laws.proofs.Traced.{start_reached, first, after_reached, ridden_once}
+use Rattle.motion_laws.proofs.Traced.{first, after_reached, ridden_once}
 
 mark_twin_long : (o : Option ℕ) (marks : List Bool) → length (mark_twin o marks) ≡ length marks
 mark_twin_long None marks = refl
@@ -62,19 +62,15 @@ module _ (g : Terrain) (t : IsTerrain g) (starts : List ℕ) (begin : IsStarted 
     stood_long = marked_long g starts (replicate n false) ∙ length-replicate n false;
     covered_long = length-replicate g.half.count false;
     settled_long = length-replicate n false;
-    stood = λ v l.
-        from_marks g starts (replicate n false) v (λ d m. omega (
-          arith,
-          few d (begin.low d m),
-          length-replicate n false,
-        ))
-        ∙ (ap (λ b. list_any (λ d. eqb (g.half.from d) v) starts || b) (none_on n v)
-        ∙ sym (ap (λ b. list_any (λ d. eqb (g.half.from d) v) starts
-        || (b && list_any (arrives_at g (ridden (map begun starts)) v) (ridden (map begun starts))))
-        (none_on n v)));
-    covered = λ d l. none_on g.half.count d
-        ∙ sym (ap (λ (ds : List ℕ). is_among d ds || is_met g ds d) (no_darts (length starts))
-        ∙ none_found (g.half.twin d));
+    stood = λ v l. from_marks g starts (replicate n false) v (λ d m. omega (
+      arith,
+      few d (begin.low d m),
+      length-replicate n false,
+    )) ∙ (ap (λ b. list_any (λ d. eqb (g.half.from d) v) starts || b) (none_on n v)
+        ∙ sym (ap (λ b. list_any (λ d. eqb (g.half.from d) v) starts ||
+        (b && list_any (arrives_at g (ridden (map begun starts)) v) (ridden (map begun starts)))) (none_on n v)));
+    covered = λ d l. none_on g.half.count d ∙ sym (ap (λ (ds : List ℕ). is_among d ds || is_met g ds d)
+        (no_darts (length starts)) ∙ none_found (g.half.twin d));
     phase = inr (none_on n);
     rest = inl (no_darts (length starts), none_on n);
   }
@@ -99,8 +95,7 @@ module _ (g : Terrain) (t : IsTerrain g) (starts : List ℕ) (begin : IsStarted 
 
       pub noted_low : r < length x.noted
       noted_low =
-          let l : (length x.riders ≡ length s.riders) × (length x.noted ≡ length s.riders) =
-          long g s.stood (ridden s.riders) (is_on x.settled) s.riders x.riders x.noted h.riders in
+          let l = long g s.stood (ridden s.riders) (is_on x.settled) s.riders x.riders x.noted h.riders in
           omega (arith, l.0, l.1)
 
       twin_test : (d e : ℕ) → d < g.half.count → e < g.half.count → is_found (g.half.twin d) (e ∷ [])
@@ -147,25 +142,22 @@ module _ (g : Terrain) (t : IsTerrain g) (starts : List ℕ) (begin : IsStarted 
         );
       }
         where
-          covers : (e : ℕ) → e < g.half.count
-              → is_on (mark_twin (g.half.twin (rider_at x.riders r).dart)
-              (set x.covered (rider_at x.riders r).dart true)) e
-              ≡ (s.covered e || (is_among e (darts_in (set x.noted r (Some (rider_at x.riders r).dart)))
-              || is_met g (darts_in (set x.noted r (Some (rider_at x.riders r).dart))) e))
-          covers e l =
-              twin_marks (g.half.twin (rider_at x.riders r).dart) x.covered (rider_at x.riders r).dart e
+          covers : (e : ℕ) → e < g.half.count → is_on
+              (mark_twin (g.half.twin (rider_at x.riders r).dart) (set x.covered (rider_at x.riders r).dart true))
+              e ≡ (s.covered e || (is_among e (darts_in (set x.noted r (Some (rider_at x.riders r).dart))) || is_met g
+              (darts_in (set x.noted r (Some (rider_at x.riders r).dart))) e))
+          covers e l = twin_marks (g.half.twin (rider_at x.riders r).dart) x.covered (rider_at x.riders r).dart e
               (omega (arith, rode_low, h.covered_long))
               (λ u w. omega (arith, t.half.twin_low (rider_at x.riders r).dart u rode_low w, h.covered_long))
               ∙ (ap (λ b. b || (eqb e (rider_at x.riders r).dart || is_found (g.half.twin (rider_at x.riders r).dart)
-              (e ∷ []))) (h.covered e l)
-              ∙ (ap (λ b. (s.covered e || (is_among e (darts_in x.noted) || is_met g (darts_in x.noted) e))
-              || (eqb e (rider_at x.riders r).dart || b)) (twin_test (rider_at x.riders r).dart e rode_low l)
+              (e ∷ []))) (h.covered e l) ∙ (ap (λ b. (s.covered e ||
+              (is_among e (darts_in x.noted) || is_met g (darts_in x.noted) e)) ||
+              (eqb e (rider_at x.riders r).dart || b)) (twin_test (rider_at x.riders r).dart e rode_low l)
               ∙ (shuffle (s.covered e) (is_among e (darts_in x.noted)) (is_met g (darts_in x.noted) e)
               (eqb e (rider_at x.riders r).dart) (is_found (g.half.twin e) ((rider_at x.riders r).dart ∷ []))
-              ∙ (ap (λ b. s.covered e || (b
-              || (is_met g (darts_in x.noted) e
-              || is_found (g.half.twin e) ((rider_at x.riders r).dart ∷ []))))
-              (sym (noted_more x.noted r (rider_at x.riders r).dart e noted_low rode.0))
+              ∙ (ap (λ b. s.covered e || (b || (is_met g (darts_in x.noted) e || is_found (g.half.twin e)
+              ((rider_at x.riders r).dart ∷ [])))) (sym
+              (noted_more x.noted r (rider_at x.riders r).dart e noted_low rode.0))
               ∙ ap (λ b. s.covered e || (is_among e (darts_in (set x.noted r (Some (rider_at x.riders r).dart))) || b))
               (sym (found_more (g.half.twin e) (darts_in x.noted)
               (darts_in (set x.noted r (Some (rider_at x.riders r).dart))) (rider_at x.riders r).dart
@@ -181,32 +173,27 @@ module _ (g : Terrain) (t : IsTerrain g) (starts : List ℕ) (begin : IsStarted 
 
       -- Where v is not settled, somebody has stood there where somebody had when the instant began.
       pub stood_then : (v : ℕ) → v < n → is_on x.settled v ≡ false → is_on x.stood v ≡ s.stood v
-      stood_then v l off = h.stood v l
-          ∙ (ap (λ b. s.stood v || (b && list_any (arrives_at g (ridden s.riders) v) (ridden s.riders))) off
-          ∙ or-false (s.stood v))
+      stood_then v l off = h.stood v l ∙ (ap (λ b. s.stood v ||
+          (b && list_any (arrives_at g (ridden s.riders) v) (ridden s.riders))) off ∙ or-false (s.stood v))
 
     -- A settling.
     module _ (v : ℕ) (may : may_settle g x v ≡ true) where
       pub parts : (waiting x.riders x.noted ≡ 0) × (list_any (leads_to g v) (darts_in x.noted) ≡ true)
           × (is_on x.settled v ≡ false)
       parts =
-          let a : (eqb (waiting x.riders x.noted) 0 ≡ true)
-          × ((list_any (leads_to g v) (darts_in x.noted) && not (is_on x.settled v)) ≡ true) = and_parts _ _ may in
-          let b : (list_any (leads_to g v) (darts_in x.noted) ≡ true) × (not (is_on x.settled v) ≡ true) =
-          and_parts _ _ a.1 in
+          let a = and_parts _ _ may in
+          let b = and_parts _ _ a.1 in
           (eqb-true _ _ a.0, b.0, unmarked (is_on x.settled v) b.1)
         where
           unmarked : (b : Bool) → not b ≡ true → b ≡ false
-          unmarked true e = absurd (false≢true e)
-          unmarked false e = refl
+          unmarked = elim [ true ↦ λ e. absurd (false≢true e) | false ↦ λ e. refl ]
 
       pub v_low : v < n
       v_low = by_dart (any_where (leads_to g v) (darts_in x.noted) parts.1)
         where
           by_dart : (d : ℕ) × (is_among d (darts_in x.noted) ≡ true) × (eqb (end_of g d) v ≡ true) → v < n
           by_dart (d, m, e) =
-              let low : d < g.half.count =
-              k.low d (noted_rides g s.stood (ridden s.riders) (is_on x.settled) s.riders x.riders x.noted d
+              let low = k.low d (noted_rides g s.stood (ridden s.riders) (is_on x.settled) s.riders x.riders x.noted d
               h.riders m) in
               omega (arith, few (g.half.next d) (t.half.next_low d low), eqb-true _ _ e)
 
@@ -225,17 +212,13 @@ module _ (g : Terrain) (t : IsTerrain g) (starts : List ℕ) (begin : IsStarted 
           ≡ (s.stood u || (is_on (set x.settled v true) u
           && list_any (arrives_at g (ridden s.riders) u) (ridden s.riders)))
       stands_now u l = elim (cases_eq u v) [
-        | inl e ↦ subst (λ (w : ℕ). is_on (decided_at g x v).stood w
-            ≡ (s.stood w || (is_on (set x.settled v true) w
-            && list_any (arrives_at g (ridden s.riders) w) (ridden s.riders)))) (sym e)
-            (get_or-set_same x.stood v (is_on x.stood v
-            || list_any (arrives_at g (darts_in x.noted) v) (darts_in x.noted)) false
-            (omega (arith, v_low, h.stood_long))
-            ∙ (ap (λ b. b || list_any (arrives_at g (darts_in x.noted) v) (darts_in x.noted))
-            (stood_then parts.0 v v_low parts.2)
-            ∙ (ap (λ (ds : List ℕ). s.stood v || list_any (arrives_at g ds v) ds) (all_ridden parts.0)
-            ∙ sym (ap (λ b. s.stood v || (b && list_any (arrives_at g (ridden s.riders) v) (ridden s.riders)))
-            now_on))))
+        | inl e ↦ rw e (get_or-set_same x.stood v
+            (is_on x.stood v || list_any (arrives_at g (darts_in x.noted) v) (darts_in x.noted)) false
+            (omega (arith, v_low, h.stood_long)) ∙ (ap
+            (λ b. b || list_any (arrives_at g (darts_in x.noted) v) (darts_in x.noted))
+            (stood_then parts.0 v v_low parts.2) ∙ (ap (λ (ds : List ℕ). s.stood v || list_any (arrives_at g ds v) ds)
+            (all_ridden parts.0) ∙ sym (ap (λ b. s.stood v ||
+            (b && list_any (arrives_at g (ridden s.riders) v) (ridden s.riders))) now_on))))
         | inr ne ↦ get_or-set_other x.stood v u (is_on x.stood v
             || list_any (arrives_at g (darts_in x.noted) v) (darts_in x.noted)) false ne
             ∙ (h.stood u l ∙ sym (ap (λ b. s.stood u
@@ -244,8 +227,7 @@ module _ (g : Terrain) (t : IsTerrain g) (starts : List ℕ) (begin : IsStarted 
 
       riders_now : AreShown g s.stood (ridden s.riders) (is_on (set x.settled v true)) s.riders
           (decided_at g x v).riders x.noted
-      riders_now = subst (λ (ds : List ℕ). AreShown g s.stood (ridden s.riders) (is_on (set x.settled v true)) s.riders
-          (all_told g (is_on x.stood) ds v x.riders x.noted) x.noted) (sym (all_ridden parts.0)) told_now
+      riders_now = rw (all_ridden parts.0) told_now
 
       -- The instant stays open.
       pub open_keeps : are_ends_settled g (set x.settled v true) (darts_in x.noted) ≡ false
@@ -265,10 +247,7 @@ module _ (g : Terrain) (t : IsTerrain g) (starts : List ℕ) (begin : IsStarted 
       pub closed_keeps : are_ends_settled g (set x.settled v true) (darts_in x.noted) ≡ true
           → IsShown g n (step g s) (closed (decided_at g x v))
       closed_keeps on = record {
-        riders = subst (λ (rs : List Moving). AreShown g (step g s).stood (ridden (step g s).riders)
-            (is_on (replicate (length (set x.settled v true)) false)) (step g s).riders rs
-            (replicate (length x.noted) None)) (sym riders_are)
-            (none_shown g (step g s).stood (ridden (step g s).riders)
+        riders = rw riders_are (none_shown g (step g s).stood (ridden (step g s).riders)
             (is_on (replicate (length (set x.settled v true)) false)) (step g s).riders (length x.noted)
             (length-map s.riders (ride g s.stood (ridden s.riders)) ∙ sym lengths.1));
         stood_long = length-set x.stood v _ ∙ h.stood_long;
@@ -276,12 +255,10 @@ module _ (g : Terrain) (t : IsTerrain g) (starts : List ℕ) (begin : IsStarted 
         settled_long = length-replicate (length (set x.settled v true)) false
             ∙ (length-set x.settled v true ∙ h.settled_long);
         stood = λ u l. stands_now u l ∙ (settled_in u (cases_Bool (is_on (set x.settled v true) u))
-            ∙ sym (ap (λ b. (step g s).stood u
-            || (b && list_any (arrives_at g (ridden (step g s).riders) u) (ridden (step g s).riders)))
-            (none_on (length (set x.settled v true)) u) ∙ or-false ((step g s).stood u)));
-        covered = λ d l. h.covered d l
-            ∙ (ap (λ (ds : List ℕ). s.covered d || (is_among d ds || is_met g ds d)) (all_ridden parts.0)
-            ∙ sym (ap (λ (ds : List ℕ). (step g s).covered d || (is_among d ds || is_met g ds d))
+            ∙ sym (ap (λ b. (step g s).stood u || (b && list_any (arrives_at g (ridden (step g s).riders) u)
+            (ridden (step g s).riders))) (none_on (length (set x.settled v true)) u) ∙ or-false ((step g s).stood u)));
+        covered = λ d l. h.covered d l ∙ (ap (λ (ds : List ℕ). s.covered d || (is_among d ds || is_met g ds d))
+            (all_ridden parts.0) ∙ sym (ap (λ (ds : List ℕ). (step g s).covered d || (is_among d ds || is_met g ds d))
             (no_darts (length x.noted)) ∙ (ap (λ b. (step g s).covered d || b) (none_found (g.half.twin d))
             ∙ or-false ((step g s).covered d))));
         phase = inr (none_on (length (set x.settled v true)));
@@ -312,10 +289,8 @@ module _ (g : Terrain) (t : IsTerrain g) (starts : List ℕ) (begin : IsStarted 
                   by_dart : (d : ℕ) × (is_among d (ridden s.riders) ≡ true)
                       × (arrives_at g (ridden s.riders) u d ≡ true) → ⊥
                   by_dart (d, m, a) =
-                      let e : (eqb (end_of g d) u ≡ true) × (not (is_met g (ridden s.riders) d) ≡ true) =
-                      and_parts _ _ a in
-                      let there : is_on (set x.settled v true) (end_of g d) ≡ true =
-                      all_at (λ f. is_on (set x.settled v true) (end_of g f)) d (darts_in x.noted) on
+                      let e = and_parts _ _ a in
+                      let there = all_at (λ f. is_on (set x.settled v true) (end_of g f)) d (darts_in x.noted) on
                       (ap (is_among d) (all_ridden parts.0) ∙ m) in
                       false≢true (sym off ∙ (ap (is_on (set x.settled v true)) (sym (eqb-true _ _ e.0)) ∙ there))
 
@@ -355,8 +330,7 @@ module _ (g : Terrain) (t : IsTerrain g) (starts : List ℕ) (begin : IsStarted 
           → IsWithin (cond b (closed (decided_at g x v)) (decided_at g x v)) c
       at false is = record {
         instant = w.instant;
-        shown = open_keeps (after_steps g starts w.instant) reached x w.shown
-            v may is;
+        shown = open_keeps (after_steps g starts w.instant) reached x w.shown v may is;
         counted = w.counted;
       }
       at true is = record {
@@ -374,7 +348,7 @@ module _ (g : Terrain) (t : IsTerrain g) (starts : List ℕ) (begin : IsStarted 
 
   within_from : (es : List Event) (x y : EventState) (c : ℕ) → IsWithin x c → Leads g x es y
       → IsWithin y (c + rides_in es)
-  within_from [] x y c w l = let e : c + 0 ≡ c = omega arith in rw e (subst (λ (z : EventState). IsWithin z c) l w)
+  within_from [] x y c w l = let e : c + 0 ≡ c = omega arith in rw e (rw l at w)
   within_from (Ride r ∷ es) x y c w l = let e : c + suc (rides_in es) ≡ suc c + rides_in es = omega arith in
       rw e (within_from es (after_ride_of g x r) y (suc c) (within_ride x c r w l.0.0 l.0.1) l.1)
   within_from (Settle v ∷ es) x y c w l = within_from es (after_settling g x v) y c (within_settle x c v w l.0) l.1
@@ -385,8 +359,7 @@ module _ (g : Terrain) (t : IsTerrain g) (starts : List ℕ) (begin : IsStarted 
       rw (← e) (within_from es (first_state g n starts) x 0 (record {
         instant = 0;
         shown = first_shown;
-        counted =
-            omega (arith, ap length (no_darts (length starts)));
+        counted = omega (arith, ap length (no_darts (length starts)));
       }) l)
 
   -- At most as many rides as darts.
@@ -439,32 +412,28 @@ module _ (g : Terrain) (t : IsTerrain g) (starts : List ℕ) (begin : IsStarted 
   -- Where a rider runs, some event is possible.
   pub possible : (x : EventState) (c : ℕ) → IsWithin x c → (r : ℕ) → r < length x.riders → (rider_at x.riders r).stop
       ≡ None → (e : Event) × May g x e
-  possible x c w r low runs =
-      by_waiting (somebody g (after_steps g starts w.instant).stood (ridden (after_steps g starts w.instant).riders)
-      (is_on x.settled) (after_steps g starts w.instant).riders x.riders x.noted w.shown.riders)
+  possible x c w r low runs = elim (somebody g (after_steps g starts w.instant).stood
+      (ridden (after_steps g starts w.instant).riders) (is_on x.settled) (after_steps g starts w.instant).riders
+      x.riders x.noted w.shown.riders) [
+        | inl done ↦ by_rest done w.shown.rest
+        | inr q ↦ (Ride q.0, (q.1, q.2))
+      ]
     where
       by_rest : waiting x.riders x.noted ≡ 0 → ((darts_in x.noted ≡ []) × ((v : ℕ) → is_on x.settled v ≡ false))
           ⊎ ((d : ℕ) × (is_among d (darts_in x.noted) ≡ true) × (is_on x.settled (end_of g d) ≡ false)) → (e : Event)
           × May g x e
       by_rest done (inl none) = absurd (
-          let same : x.riders ≡ (after_steps g starts w.instant).riders =
-          as_was g (after_steps g starts w.instant).stood (ridden (after_steps g starts w.instant).riders)
+          let same = as_was g (after_steps g starts w.instant).stood (ridden (after_steps g starts w.instant).riders)
           (is_on x.settled) (after_steps g starts w.instant).riders x.riders x.noted w.shown.riders none.0 in
-          let all : darts_in x.noted ≡ ridden (after_steps g starts w.instant).riders =
+          let all =
           all_ridden (after_steps g starts w.instant) (after_reached g t starts begin w.instant) x w.shown done in
           let m : is_among (rider_at x.riders r).dart (ridden x.riders) ≡ true = runs_ridden x.riders r low runs in
           false≢true (sym (ap (is_among (rider_at x.riders r).dart) (ap ridden same ∙ (sym all ∙ none.0))) ∙ m))
       by_rest done (inr (d, m, off)) = (
         Settle (end_of g d),
-        and_from _ _ (eq-eqb _ _ done)
-            (and_from _ _ (any_at (leads_to g (end_of g d)) d (darts_in x.noted) m (eq-eqb _ _ refl))
-            (not_from_false _ off)),
+        and_from _ _ (eq-eqb _ _ done) (and_from _ _
+            (any_at (leads_to g (end_of g d)) d (darts_in x.noted) m (eq-eqb _ _ refl)) (not_from_false _ off)),
       )
-
-      by_waiting : (waiting x.riders x.noted ≡ 0) ⊎ ((q : ℕ) × (q < length x.riders) × (may_ride x q ≡ true))
-          → (e : Event) × May g x e
-      by_waiting (inl done) = by_rest done w.shown.rest
-      by_waiting (inr q) = (Ride q.0, (q.1, q.2))
 
   -- Where nobody runs, nothing is noted, and the riders are those of the motion.
   pub nobody : (x : EventState) (c : ℕ) (w : IsWithin x c) → NobodyRuns x
@@ -477,13 +446,11 @@ module _ (g : Terrain) (t : IsTerrain g) (starts : List ℕ) (begin : IsStarted 
           → (x.riders ≡ (after_steps g starts w.instant).riders) × (ridden (after_steps g starts w.instant).riders ≡ [])
           × (darts_in x.noted ≡ [])
       by_rest (inl e) =
-          let same : x.riders ≡ (after_steps g starts w.instant).riders =
-          as_was g (after_steps g starts w.instant).stood (ridden (after_steps g starts w.instant).riders)
+          let same = as_was g (after_steps g starts w.instant).stood (ridden (after_steps g starts w.instant).riders)
           (is_on x.settled) (after_steps g starts w.instant).riders x.riders x.noted w.shown.riders e.0 in
           (same, sym (ap ridden same) ∙ nobody_rides x.riders none, e.0)
       by_rest (inr (d, m, off)) = absurd (
-          let q : (r : ℕ) × (r < length x.riders) × ((rider_at x.riders r).stop ≡ None) =
-          still_runs g (after_steps g starts w.instant).stood (ridden (after_steps g starts w.instant).riders)
+          let q = still_runs g (after_steps g starts w.instant).stood (ridden (after_steps g starts w.instant).riders)
           (is_on x.settled) (after_steps g starts w.instant).riders x.riders x.noted d w.shown.riders m off in
           none q.0 q.1 q.2)
 
@@ -494,9 +461,7 @@ module _ (g : Terrain) (t : IsTerrain g) (starts : List ℕ) (begin : IsStarted 
   rest_more k zero none = let e : 0 + k ≡ k = omega arith in rw e (refl, λ d. refl)
   rest_more k (suc j) none =
       let e : suc j + k ≡ suc (j + k) = omega arith in
-      let r : ((after_steps g starts (j + k)).riders ≡ (after_steps g starts k).riders)
-      × ((d : ℕ) → (after_steps g starts (j + k)).covered d ≡ (after_steps g starts k).covered d) =
-      rest_more k j none in
+      let r = rest_more k j none in
       let still : ridden (after_steps g starts (j + k)).riders ≡ [] = ap ridden r.0 ∙ none in
       rw e (
         still_riders g (after_steps g starts (j + k)).stood (ridden (after_steps g starts (j + k)).riders)
@@ -526,8 +491,7 @@ module _ (g : Terrain) (t : IsTerrain g) (starts : List ℕ) (begin : IsStarted 
         × ((d : ℕ) → (after_steps g starts ((j - i) + i)).covered d ≡ (after_steps g starts i).covered d) =
         rest_more i (j - i) a in (
           sym r.0 ∙ ap (λ k. (after_steps g starts k).riders) e,
-          λ d. sym (r.1 d)
-              ∙ ap (λ k. (after_steps g starts k).covered d) e,
+          λ d. sym (r.1 d) ∙ ap (λ k. (after_steps g starts k).covered d) e,
         )
     | inr l ↦ let e : (i - j) + j ≡ i = omega arith in
         let r : ((after_steps g starts ((i - j) + j)).riders ≡ (after_steps g starts j).riders)
@@ -542,18 +506,16 @@ module _ (g : Terrain) (t : IsTerrain g) (starts : List ℕ) (begin : IsStarted 
   pub one_end : (x : EventState) (c : ℕ) → IsWithin x c → NobodyRuns x → (x.riders ≡ (end_state g n starts).riders)
       × ((d : ℕ) → d < g.half.count → is_on x.covered d ≡ (end_state g n starts).covered d)
   one_end x c w none =
-      let e : (x.riders ≡ (after_steps g starts w.instant).riders)
-      × (ridden (after_steps g starts w.instant).riders ≡ []) × (darts_in x.noted ≡ []) = nobody x c w none in
+      let e = nobody x c w none in
       let f : (j : ℕ) × (end_state g n starts ≡ after_steps g starts j) = finish_is (suc n) 0 in
       let r : ((after_steps g starts w.instant).riders ≡ (after_steps g starts f.0).riders)
       × ((d : ℕ) → (after_steps g starts w.instant).covered d ≡ (after_steps g starts f.0).covered d) =
       alike w.instant f.0 e.1 (sym (ap (λ (s : State). ridden s.riders) f.1)
       ∙ nobody_runs g t (λ e. is_among e starts) (start g starts) (first g t starts begin) n few) in (
         e.0 ∙ (r.0 ∙ sym (ap (λ (s : State). s.riders) f.1)),
-        λ d l. w.shown.covered d l
-            ∙ (ap (λ (ds : List ℕ). (after_steps g starts w.instant).covered d || (is_among d ds || is_met g ds d)) e.2
-            ∙ (ap (λ b. (after_steps g starts w.instant).covered d || b) (none_found (g.half.twin d))
-            ∙ (or-false ((after_steps g starts w.instant).covered d)
+        λ d l. w.shown.covered d l ∙ (ap (λ (ds : List ℕ). (after_steps g starts w.instant).covered d ||
+            (is_among d ds || is_met g ds d)) e.2 ∙ (ap (λ b. (after_steps g starts w.instant).covered d || b)
+            (none_found (g.half.twin d)) ∙ (or-false ((after_steps g starts w.instant).covered d)
             ∙ (r.1 d ∙ sym (ap (λ (s : State). s.covered d) f.1))))),
       )
 
@@ -565,8 +527,6 @@ module _ (g : Terrain) (t : IsTerrain g) (starts : List ℕ) (begin : IsStarted 
       × ((d : ℕ) → (after_steps g starts n).covered d ≡ (end_state g n starts).covered d)
   last_is =
       let f : (j : ℕ) × (end_state g n starts ≡ after_steps g starts j) = finish_is (suc n) 0 in
-      let r : ((after_steps g starts n).riders ≡ (after_steps g starts f.0).riders)
-      × ((d : ℕ) → (after_steps g starts n).covered d ≡ (after_steps g starts f.0).covered d) =
-      alike n f.0 at_last (sym (ap (λ (s : State). ridden s.riders) f.1) ∙ nobody_runs g t (λ e. is_among e starts)
-      (start g starts) (first g t starts begin) n few) in
+      let r = alike n f.0 at_last (sym (ap (λ (s : State). ridden s.riders) f.1)
+      ∙ nobody_runs g t (λ e. is_among e starts) (start g starts) (first g t starts begin) n few) in
       (r.0 ∙ sym (ap (λ (s : State). s.riders) f.1), λ d. r.1 d ∙ sym (ap (λ (s : State). s.covered d) f.1))

@@ -1,6 +1,6 @@
 -- What an event state shows of the motion: it stands within the instant that begins with one state of the motion.
 use Rattle.std.proofs.Common.{◌≡◌, ◌≢◌, ◌⊎◌, ℕ, zero, suc, ◌<◌, Bool, true, false, cond, ◌&&◌, ◌||◌, List, [], ◌∷◌, map}
-use Rattle.std.proofs.Common.{length, set, replicate, Option, Some, None, sym, subst, ap, ◌∙◌, refl, inl, inr, arith}
+use Rattle.std.proofs.Common.{length, set, replicate, Option, Some, None, sym, ap, ◌∙◌, refl, inl, inr, arith}
 use Rattle.std.proofs.lemmas.Option.{none-some}
 use Rattle.std.proofs.lemmas.Bool.{eq-eqb, false≢true, cases_eq}
 use Rattle.def_cut.specs.FullCut.{is_on}
@@ -83,12 +83,10 @@ module _ (g : Terrain) (stood : ℕ → Bool) (ds : List ℕ) where
   )
     where
       none_of : (t : Bool) (k : ℕ) → more_if t k ≡ 0 → t ≡ false
-      none_of true k e = absurd (omega arith)
-      none_of false k e = refl
+      none_of = elim [ true ↦ λ k e. absurd (omega arith) | false ↦ λ k e. refl ]
 
       rest_of : (t : Bool) (k : ℕ) → more_if t k ≡ 0 → k ≡ 0
-      rest_of true k e = absurd (omega arith)
-      rest_of false k e = e
+      rest_of = elim [ true ↦ λ k e. absurd (omega arith) | false ↦ λ k e. e ]
 
       at : (n : Option ℕ) → IsNoted b n → r ≡ shown_by g stood ds V b n → is_waiting r.stop n ≡ false → b.stop ≡ None
           → n ≡ Some b.dart
@@ -120,11 +118,10 @@ module _ (g : Terrain) (stood : ℕ → Bool) (ds : List ℕ) where
           → is_among d (with_next o b.dart (ridden bs)) ≡ true
       at None None is i m rest = among_later d b.dart (ridden bs) (rest m)
       at None (Some s) is i m rest = rest m
-      at (Some e) None is i m rest =
-          elim (among_cases d e (darts_in ns) m) [
-            | inl s ↦ among_here d b.dart (ridden bs) (s ∙ i.1)
-            | inr k ↦ among_later d b.dart (ridden bs) (rest k)
-          ]
+      at (Some e) None is i m rest = elim (among_cases d e (darts_in ns) m) [
+        | inl s ↦ among_here d b.dart (ridden bs) (s ∙ i.1)
+        | inr k ↦ among_later d b.dart (ridden bs) (rest k)
+      ]
       at (Some e) (Some s) is i m rest = absurd (none-some s (sym i.0 ∙ is))
   noted_rides V _ _ _ d a m = absurd a
 
@@ -155,7 +152,7 @@ module _ (g : Terrain) (stood : ℕ → Bool) (ds : List ℕ) where
       (a.0, a.1, ride_shown V bs rs ns r a.2 (omega arith) w off)
   ride_shown V (b ∷ bs) (q ∷ rs) (n ∷ ns) zero a l w off =
       let p : (q.stop ≡ None) × (n ≡ None) = waits_runs q.stop n w in
-      let s : q ≡ b = subst (λ (o : Option ℕ). q ≡ shown_by g stood ds V b o) p.1 a.1 in
+      let s : q ≡ b = rw p.1 at a.1 in
       ((sym (ap (λ (m : Moving). m.stop) s) ∙ p.0, ap (λ (m : Moving). m.dart) s), rw off (ap ridden_once_more s), a.2)
   ride_shown V _ _ _ r a l w off = absurd a
 
@@ -165,16 +162,14 @@ module _ (g : Terrain) (stood : ℕ → Bool) (ds : List ℕ) where
       → (note_at ns r ≡ None) × (is_among (rider_at rs r).dart (ridden bs) ≡ true)
   waits_as_was V [] [] ns r a l w = absurd (omega arith)
   waits_as_was V (b ∷ bs) (q ∷ rs) (n ∷ ns) (suc r) a l w =
-      let p : (note_at ns r ≡ None) × (is_among (rider_at rs r).dart (ridden bs) ≡ true) =
-      waits_as_was V bs rs ns r a.2 (omega arith) w in
+      let p = waits_as_was V bs rs ns r a.2 (omega arith) w in
       (p.0, Rattle.motion_laws.proofs.Next.with_later b.stop b.dart (rider_at rs r).dart (ridden bs) p.1)
   waits_as_was V (b ∷ bs) (q ∷ rs) (n ∷ ns) zero a l w =
       let p : (q.stop ≡ None) × (n ≡ None) = waits_runs q.stop n w in
-      let s : q ≡ b = subst (λ (o : Option ℕ). q ≡ shown_by g stood ds V b o) p.1 a.1 in
+      let s : q ≡ b = rw p.1 at a.1 in
       let runs : b.stop ≡ None = sym (ap (λ (m : Moving). m.stop) s) ∙ p.0 in (
         p.1,
-        subst (λ (o : Option Stop). is_among q.dart (with_next o b.dart (ridden bs)) ≡ true) (sym runs)
-            (among_here q.dart b.dart (ridden bs) (ap (λ (m : Moving). m.dart) s)),
+        rw runs (among_here q.dart b.dart (ridden bs) (ap (λ (m : Moving). m.dart) s)),
       )
   waits_as_was V _ _ _ r a l w = absurd a
 
@@ -189,7 +184,7 @@ module _ (g : Terrain) (stood : ℕ → Bool) (ds : List ℕ) where
   waits_not_all V (b ∷ bs) (q ∷ rs) (n ∷ ns) (suc r) a l w all = waits_not_all V bs rs ns r a.2 (omega arith) w all.1
   waits_not_all V (b ∷ bs) (q ∷ rs) (n ∷ ns) zero a l w all =
       let p : (q.stop ≡ None) × (n ≡ None) = waits_runs q.stop n w in
-      let s : q ≡ b = subst (λ (o : Option ℕ). q ≡ shown_by g stood ds V b o) p.1 a.1 in
+      let s : q ≡ b = rw p.1 at a.1 in
       none-some b.dart (sym p.1 ∙ all.0 (sym (ap (λ (m : Moving). m.stop) s) ∙ p.0))
 
   -- Where somebody waits, it has a number.
@@ -237,9 +232,8 @@ module _ (g : Terrain) (stood : ℕ → Bool) (ds : List ℕ) where
         | inl q ↦ (
           0,
           omega arith,
-          ap (λ (k : Moving). k.stop) s
-              ∙ (ap (λ (t : Bool). (cond t (after_ride g e b.rides (stop_of g stood ds e)) (ridden_once_more b)).stop)
-              (ap (λ k. V (end_of g k)) (sym q) ∙ off) ∙ i.0),
+          ap (λ (k : Moving). k.stop) s ∙ (ap (λ (t : Bool). (cond t (after_ride g e b.rides (stop_of g stood ds e))
+              (ridden_once_more b)).stop) (ap (λ k. V (end_of g k)) (sym q) ∙ off) ∙ i.0),
         )
         | inr k ↦ later (rest k)
       ]
@@ -250,8 +244,7 @@ module _ (g : Terrain) (stood : ℕ → Bool) (ds : List ℕ) where
       → AllNoted bs ns → ((d : ℕ) → is_among d (darts_in ns) ≡ true → V (end_of g d) ≡ true)
       → rs ≡ map (ride g stood ds) bs
   closed_is V [] [] ns a all on = refl
-  closed_is V (b ∷ bs) (r ∷ rs) (n ∷ ns) a all on =
-      rw (at n b.stop refl a.0 a.1 all.0 on)
+  closed_is V (b ∷ bs) (r ∷ rs) (n ∷ ns) a all on = rw (at n b.stop refl a.0 a.1 all.0 on)
       (ap (λ qs. ride g stood ds b ∷ qs) (closed_is V bs rs ns a.2 all.1 (λ d m. on d (later n d m))))
     where
       later : (o : Option ℕ) (d : ℕ) → is_among d (darts_in ns) ≡ true → is_among d (with_note o (darts_in ns)) ≡ true
@@ -297,18 +290,15 @@ module _ (g : Terrain) (stood : ℕ → Bool) (ds : List ℕ) where
       where
         at : (n : Option ℕ) → r ≡ shown_by g stood ds V b n → told_at g now ds v r n ≡ shown_by g stood ds W b n
         at None s = s
-        at (Some d) s = by_end (cases_eq (end_of g d) v)
-          where
-            by_end : (end_of g d ≡ v) ⊎ (end_of g d ≡ v → ⊥) → told_at g now ds v r (Some d)
-                ≡ shown_by g stood ds W b (Some d)
-            by_end (inl e) =
-                let r_is : r ≡ ridden_once_more b =
-                s ∙ ap (λ (t : Bool). cond t (after_ride g d b.rides (stop_of g stood ds d)) (ridden_once_more b))
-                (ap V e ∙ off) in
-                let w_on : W (end_of g d) ≡ true = ap W e ∙ on in
-                rw (eq-eqb (end_of g d) v e, w_on) (ap (λ (q : Moving). told g d q (stop_of g now ds d)) r_is
-                ∙ (told_is d b (stop_of g now ds d) ∙ ap (after_ride g d b.rides) (same_stop d e)))
-            by_end (inr ne) = rw (Rattle.std.proofs.lemmas.Bool.ne_eqb (end_of g d) v ne, kept (end_of g d) ne) s
+        at (Some d) s = elim (cases_eq (end_of g d) v) [
+          | inl e ↦
+              let r_is = s ∙ ap (λ (t : Bool). cond t (after_ride g d b.rides (stop_of g stood ds d))
+              (ridden_once_more b)) (ap V e ∙ off) in
+              let w_on : W (end_of g d) ≡ true = ap W e ∙ on in
+              rw (eq-eqb (end_of g d) v e, w_on) (ap (λ (q : Moving). told g d q (stop_of g now ds d)) r_is
+              ∙ (told_is d b (stop_of g now ds d) ∙ ap (after_ride g d b.rides) (same_stop d e)))
+          | inr ne ↦ rw (Rattle.std.proofs.lemmas.Bool.ne_eqb (end_of g d) v ne, kept (end_of g d) ne) s
+        ]
     told_shown _ _ _ a = absurd a
 
   -- How many riders there are stays so.

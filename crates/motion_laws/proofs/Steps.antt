@@ -1,5 +1,5 @@
 -- Each step keeps what reached states know.
-use Rattle.std.proofs.Common.{◌≡◌, ◌≢◌, ◌⊎◌, ℕ, zero, suc, ◌<◌, Bool, true, false, not, cond, ◌&&◌, List, [], Option}
+use Rattle.std.proofs.Common.{◌≡◌, ◌⊎◌, ℕ, zero, suc, ◌<◌, Bool, true, false, not, cond, ◌&&◌, List, Option}
 use Rattle.std.proofs.Common.{Some, None, sym, subst, ap, ◌∙◌, refl, inl, inr}
 use Rattle.std.proofs.lemmas.Option.{none-some, same_Some}
 use Rattle.std.proofs.lemmas.Bool.{eq-eqb, eqb-true, false≢true, false_from_ne_true, cases_Bool, or_left, or_right}
@@ -42,9 +42,7 @@ pub record GoesOn (g : Terrain) (stood : ℕ → Bool) (ds : List ℕ) (d : ℕ)
 pub goes_from : (g : Terrain) (stood : ℕ → Bool) (ds : List ℕ) (d : ℕ) → stop_of g stood ds d ≡ None
     → GoesOn g stood ds d
 goes_from g stood ds d e =
-    let p : (is_met g ds d ≡ false) × (g.boundary (end_of g d) ≡ false) × (g.singular (end_of g d) ≡ false)
-    × (stood (end_of g d) ≡ false) × (goes_on g (arrivals g ds (end_of g d)) d ≡ true) =
-    by_tests _ _ _ _ _ _ _ _ _ _ e in
+    let p = by_tests _ _ _ _ _ _ _ _ _ _ e in
     record { unmet = p.0; inner = p.1; regular = p.2; fresh = p.3; on = p.4 }
   where
     by_tests : (a b c f h : Bool) (w x y z u : Stop)
@@ -80,8 +78,7 @@ module _ (g : Terrain) (t : IsTerrain g) where
 
     -- So those who arrive are all who come.
     pub all_arrive : (x v : ℕ) → end_of g x ≡ v → stood v ≡ false → is_among x (arrivals g ds v) ≡ is_among x ds
-    all_arrive x v at off = same_test _ _
-        (λ m. (from_filter (arrives_at g ds v) x ds m).0)
+    all_arrive x v at off = same_test _ _ (λ m. (from_filter (arrives_at g ds v) x ds m).0)
         (λ m. in_filter (arrives_at g ds v) x ds m (arrives x v m at off))
 
     -- Who goes on, by two bits.
@@ -94,8 +91,7 @@ module _ (g : Terrain) (t : IsTerrain g) where
         (in_filter (arrives_at g ds (end_of g d)) d ds m (arrives d (end_of g d) m refl off))
         (λ y n. let f : (is_among y ds ≡ true) × (arrives_at g ds (end_of g d) y ≡ true) =
         from_filter (arrives_at g ds (end_of g d)) y ds n in
-        let p : (Rattle.std.proofs.Common.eqb (end_of g y) (end_of g d) ≡ true) × (not (is_met g ds y) ≡ true) =
-        and_parts _ _ f.1 in
+        let p = and_parts _ _ f.1 in
         of_round g t.half d a b c (low d m) x y (low y f.0) (eqb-true _ _ p.0))
         ∙ (ap (λ k. not k && not (is_among (g.half.prev b) (arrivals g ds (end_of g d))))
         (all_arrive (g.half.prev a) (end_of g d) end_a off)
@@ -115,16 +111,12 @@ module _ (g : Terrain) (t : IsTerrain g) where
       × (straight g d ≡ Some c)
   goes_straight d a b c low x = (
     (g.half.prev c, over, sym (t.half.next_prev c)),
-    ap (λ o. Rattle.std.specs.Prelude.option_map g.half.next o) over
-        ∙ ap Some (t.half.next_prev c),
+    ap (λ o. Rattle.std.specs.Prelude.option_map g.half.next o) over ∙ ap Some (t.half.next_prev c),
   )
     where
-      next_low : g.half.next d < g.half.count
-      next_low = t.half.next_low d low
-
       over : g.half.twin (g.half.next d) ≡ Some (g.half.prev c)
       over = t.half.twin_twin (g.half.prev c) (g.half.next d)
-          (t.half.prev_low c (low_c g.half t.half (g.half.next d) a b c next_low x)) x.last
+          (t.half.prev_low c (low_c g.half t.half (g.half.next d) a b c (t.half.next_low d low) x)) x.last
 
   pub cross_ahead : (stood : ℕ → Bool) (ds : List ℕ) (d : ℕ) → d < g.half.count → GoesOn g stood ds d
       → HasCross g.half (g.half.next d)
@@ -152,7 +144,7 @@ module _ (g : Terrain) (t : IsTerrain g) where
           let same : e ≡ c = is ∙ ap (λ k. or_else k d) s.1 in
           let c_low : c < g.half.count = low_c g.half t.half (g.half.next d) a b c next_low x in
           let c_at : g.half.from c ≡ end_of g d = at_c g.half t.half (g.half.next d) a b c next_low x in
-          subst (λ (y : ℕ). IsNext stood ds d y) (sym same) (record {
+          rw same (record {
             low = c_low;
             straight = s.0;
             at = c_at;
@@ -206,23 +198,20 @@ module _ (g : Terrain) (t : IsTerrain g) where
 
     -- Where a ridden dart ends somebody has stood afterwards: whoever is met was there before.
     pub stands : (d : ℕ) → is_among d (ridden s.riders) ≡ true → (step g s).stood (end_of g d) ≡ true
-    stands d m = by_met (cases_Bool (is_met g (ridden s.riders) d))
+    stands d m = elim (cases_Bool (is_met g (ridden s.riders) d)) [
+      | inl y ↦ stood_old (end_of g d) (met_at (g.half.twin d) refl y)
+      | inr n ↦ or_right _ _ (any_at (arrives_at g (ridden s.riders) (end_of g d)) d (ridden s.riders) m
+          (and_from _ _ (eq-eqb _ _ refl) (not_from_false _ n)))
+    ]
       where
         met_at : (o : Option ℕ) → g.half.twin d ≡ o → is_found o (ridden s.riders) ≡ true → s.stood (end_of g d) ≡ true
         met_at None is f = absurd (false≢true f)
         met_at (Some e) is f = ap s.stood (sym (t.half.twin_ends d e (r.low d m) is).0) ∙ r.left e f
 
-        by_met : (is_met g (ridden s.riders) d ≡ true) ⊎ (is_met g (ridden s.riders) d ≡ false)
-            → (step g s).stood (end_of g d) ≡ true
-        by_met (inl y) = stood_old (end_of g d) (met_at (g.half.twin d) refl y)
-        by_met (inr n) = or_right _ _ (any_at (arrives_at g (ridden s.riders) (end_of g d)) d (ridden s.riders) m
-            (and_from _ _ (eq-eqb _ _ refl) (not_from_false _ n)))
-
     pub next_is : (e : ℕ) → is_among e (ridden (step g s).riders) ≡ true → (d : ℕ)
         × (is_among d (ridden s.riders) ≡ true) × IsNext s.stood (ridden s.riders) d e
     next_is e m =
-        let n : (d : ℕ) × (is_among d (ridden s.riders) ≡ true) × (stop_of g s.stood (ridden s.riders) d ≡ None)
-        × (e ≡ or_else (straight g d) d) = next_from g s.stood (ridden s.riders) s.riders e m in
+        let n = next_from g s.stood (ridden s.riders) s.riders e m in
         (n.0, n.1, is_next s.stood (ridden s.riders) n.0 e (r.low n.0 n.1) n.2 n.3)
 
     -- At a vertex where riders arrive first, two opposite edges are covered or ridden next.
@@ -245,17 +234,15 @@ module _ (g : Terrain) (t : IsTerrain g) where
 
     facing_too : (f a b c : ℕ) → is_among f (ridden s.riders) ≡ true → IsCross g.half (g.half.next f) a b c
         → is_among (g.half.prev b) (ridden s.riders) ≡ true → IsCrossedAt g (step g s) (end_of g f)
-    facing_too f a b c m x n =
-        opposite f a b c m x (inl
-        (covered_twin c (g.half.prev b) (back (g.half.prev b) c (r.low (g.half.prev b) n) x.third) n))
+    facing_too f a b c m x n = opposite f a b c m x
+        (inl (covered_twin c (g.half.prev b) (back (g.half.prev b) c (r.low (g.half.prev b) n) x.third) n))
 
     goes_through : (f a b c : ℕ) → is_among f (ridden s.riders) ≡ true → s.stood (end_of g f) ≡ false
         → g.boundary (end_of g f) ≡ false → g.singular (end_of g f) ≡ false → IsCross g.half (g.half.next f) a b c
         → is_among (g.half.prev a) (ridden s.riders) ≡ false → is_among (g.half.prev b) (ridden s.riders) ≡ false
         → IsCrossedAt g (step g s) (end_of g f)
     goes_through f a b c m off inner regular x no_a no_b =
-        opposite f a b c m x (inr (subst (λ (y : ℕ). is_among y (ridden (step g s).riders) ≡ true) is
-        (next_to g s.stood (ridden s.riders) s.riders f m on)))
+        opposite f a b c m x (inr (rw is at (next_to g s.stood (ridden s.riders) s.riders f m on)))
       where
         is : or_else (straight g f) f ≡ c
         is = ap (λ k. or_else k f) (goes_straight f a b c (r.low f m) x).1
@@ -299,8 +286,7 @@ module _ (g : Terrain) (t : IsTerrain g) where
             ⊎ (is_among (g.half.prev a) (ridden s.riders) ≡ false) → IsCrossedAt g (step g s) (end_of g f)
         by_bits (inl y) n = facing_too f a b c m x y
         by_bits (inr no_b) (inr no_a) = goes_through f a b c m off inner regular x no_a no_b
-        by_bits (inr no_b) (inl n) =
-            subst (λ (v : ℕ). IsCrossedAt g (step g s) v) end_a
+        by_bits (inr no_b) (inl n) = subst (λ (v : ℕ). IsCrossedAt g (step g s) v) end_a
             (by_next n no_b (cases_Bool (is_among (g.half.prev c) (ridden s.riders))))
 
     step_through : (d : ℕ) → d < g.half.count → (step g s).stood (g.half.from d) ≡ true → g.boundary (g.half.from d)
@@ -310,12 +296,10 @@ module _ (g : Terrain) (t : IsTerrain g) where
         by_rider : s.stood (g.half.from d) ≡ false → (f : ℕ) × (is_among f (ridden s.riders) ≡ true)
             × (arrives_at g (ridden s.riders) (g.half.from d) f ≡ true) → IsCrossedAt g (step g s) (g.half.from d)
         by_rider off (f, m, a) =
-            let p : (Rattle.std.proofs.Common.eqb (end_of g f) (g.half.from d) ≡ true)
-            × (not (is_met g (ridden s.riders) f) ≡ true) = and_parts _ _ a in
+            let p = and_parts _ _ a in
             let e : end_of g f ≡ g.half.from d = eqb-true _ _ p.0 in
-            let x : HasCross g.half (g.half.next f) =
-            t.crossed (g.half.next f) (t.half.next_low f (r.low f m)) (ap g.boundary e ∙ inner) (ap g.singular e
-            ∙ regular) in
+            let x = t.crossed (g.half.next f) (t.half.next_low f (r.low f m)) (ap g.boundary e ∙ inner)
+            (ap g.singular e ∙ regular) in
             subst (λ (v : ℕ). IsCrossedAt g (step g s) v) e (decided f x.0 x.1 x.2 m (ap s.stood e ∙ off)
             (ap g.boundary e ∙ inner) (ap g.singular e ∙ regular) x.3)
 
@@ -332,8 +316,7 @@ module _ (g : Terrain) (t : IsTerrain g) where
               low = x.low;
               at = x.at;
               cross = x.cross;
-              soon =
-                  inl (soon_then x.x x.soon);
+              soon = inl (soon_then x.x x.soon);
               facing = inl (soon_then x.b x.facing);
             }
         by_old (inr off) (inl y) = absurd (false≢true (sym off ∙ y))
@@ -344,8 +327,7 @@ module _ (g : Terrain) (t : IsTerrain g) where
         × IsKnown g (step g s) (end_of g d)
     step_ends d low c = by_why (why d c)
       where
-        by_why : (s.covered d ≡ true)
-            ⊎ ((is_among d (ridden s.riders) ≡ true)
+        by_why : (s.covered d ≡ true) ⊎ ((is_among d (ridden s.riders) ≡ true)
             ⊎ ((e : ℕ) × (g.half.twin d ≡ Some e) × (is_among e (ridden s.riders) ≡ true)))
             → IsKnown g (step g s) (g.half.from d) × IsKnown g (step g s) (end_of g d)
         by_why (inl o) = let e : IsKnown g s (g.half.from d) × IsKnown g s (end_of g d) = r.ends d low o in
@@ -366,10 +348,9 @@ module _ (g : Terrain) (t : IsTerrain g) where
             → (step g s).covered d ≡ true
         one_way d e low w c = by_why (why e c)
           where
-            by_why : (s.covered e ≡ true)
-                ⊎ ((is_among e (ridden s.riders) ≡ true)
-                ⊎ ((f : ℕ) × (g.half.twin e ≡ Some f) × (is_among f (ridden s.riders) ≡ true))) → (step g s).covered d
-                ≡ true
+            by_why : (s.covered e ≡ true) ⊎ ((is_among e (ridden s.riders) ≡ true)
+                ⊎ ((f : ℕ) × (g.half.twin e ≡ Some f) × (is_among f (ridden s.riders) ≡ true)))
+                → (step g s).covered d ≡ true
             by_why (inl o) = covered_old d (sym (r.alike d e low w) ∙ o)
             by_why (inr (inl m)) = covered_twin d e w m
             by_why (inr (inr (f, x, m))) =
@@ -377,10 +358,8 @@ module _ (g : Terrain) (t : IsTerrain g) where
 
     step_apart : AreApart (ridden (step g s).riders)
     step_apart = next_apart g s.stood (ridden s.riders) s.riders r.apart (λ d e m n on_d on_e same.
-        let a : IsNext s.stood (ridden s.riders) d (or_else (straight g d) d) =
-        is_next s.stood (ridden s.riders) d _ (r.low d m) on_d refl in
-        let b : IsNext s.stood (ridden s.riders) e (or_else (straight g d) d) =
-        is_next s.stood (ridden s.riders) e _ (r.low e n) on_e same in
+        let a = is_next s.stood (ridden s.riders) d _ (r.low d m) on_d refl in
+        let b = is_next s.stood (ridden s.riders) e _ (r.low e n) on_e same in
         straight_same d e _ (r.low d m) (r.low e n) a.straight b.straight)
 
     step_trails : (e : ℕ) → is_among e (ridden (step g s).riders) ≡ true → (k : ℕ)
@@ -413,8 +392,7 @@ module _ (g : Terrain) (t : IsTerrain g) where
         by_old (k, inl p) = (k, inl (more d k p))
         by_old (k, inr (e, w, p)) = (k, inr (e, w, more e k p))
 
-        by_why : (s.covered d ≡ true)
-            ⊎ ((is_among d (ridden s.riders) ≡ true)
+        by_why : (s.covered d ≡ true) ⊎ ((is_among d (ridden s.riders) ≡ true)
             ⊎ ((e : ℕ) × (g.half.twin d ≡ Some e) × (is_among e (ridden s.riders) ≡ true)))
             → IsTracked g.half begins (step g s).covered d
         by_why (inl o) = by_old (r.tracked d low o)

@@ -13,9 +13,8 @@ pub record IsTerrain (g : Terrain) : Type 0 where
       × (g.boundary (end_of g d) ≡ true)
   pub crossed : (d : ℕ) → d < g.half.count → g.boundary (g.half.from d) ≡ false → g.singular (g.half.from d) ≡ false
       → HasCross g.half d
-  pub rimmed : (d : ℕ) → d < g.half.count → g.boundary (g.half.from d) ≡ true
-      → (e : ℕ) × (e < g.half.count) × (g.half.from e ≡ g.half.from d)
-      × ((g.half.twin e ≡ None) ⊎ (g.half.twin (g.half.prev e) ≡ None))
+  pub rimmed : (d : ℕ) → d < g.half.count → g.boundary (g.half.from d) ≡ true → (e : ℕ) × (e < g.half.count)
+      × (g.half.from e ≡ g.half.from d) × ((g.half.twin e ≡ None) ⊎ (g.half.twin (g.half.prev e) ≡ None))
 
 -- The start darts differ, and each component has one or a vertex with one face. Of the darts with a twin that leave one
 -- vertex all start or none, all that leave a singular vertex do, and where a dart ends at the boundary, the next one
@@ -27,8 +26,7 @@ pub record IsStarted (g : Terrain) (starts : List ℕ) : Type 0 where
       → g.half.twin e ≡ Some t → is_among e starts ≡ true
   pub found : HasSources g.half (λ e. is_among e starts)
   pub singular : (d : ℕ) → d < g.half.count → g.singular (g.half.from d) ≡ true → is_among d starts ≡ true
-  pub sided : (d : ℕ) → d < g.half.count → g.boundary (end_of g d) ≡ true
-      → (is_among (g.half.next d) starts ≡ true)
+  pub sided : (d : ℕ) → d < g.half.count → g.boundary (end_of g d) ≡ true → (is_among (g.half.next d) starts ≡ true)
       ⊎ ((g.half.twin (g.half.next d) ≡ None) ⊎ ((t : ℕ) × (g.half.twin (g.half.next d) ≡ Some t)
       × (g.half.twin (g.half.next t) ≡ None)))
 
@@ -81,9 +79,8 @@ pub record IsFirst (g : Terrain) (begins : ℕ → Bool) (first : State) : Type 
   pub before : (d : ℕ) → d < g.half.count → begins d ≡ true → IsShut g first (g.half.prev d)
   pub beside : (d t : ℕ) → d < g.half.count → begins d ≡ true → g.half.twin d ≡ Some t → IsShut g first (g.half.next t)
   pub singular : (d : ℕ) → d < g.half.count → g.singular (g.half.from d) ≡ true → IsShut g first d
-  pub sided : (d : ℕ) → d < g.half.count → g.boundary (end_of g d) ≡ true
-      → IsShut g first (g.half.next d) ⊎ ((t : ℕ) × (g.half.twin (g.half.next d) ≡ Some t)
-      × (g.half.twin (g.half.next t) ≡ None))
+  pub sided : (d : ℕ) → d < g.half.count → g.boundary (end_of g d) ≡ true → IsShut g first (g.half.next d)
+      ⊎ ((t : ℕ) × (g.half.twin (g.half.next d) ≡ Some t) × (g.half.twin (g.half.next t) ≡ None))
 
 -- The states of the motion that starts with these darts.
 abbrev pub IsReached : (g : Terrain) (starts : List ℕ) (s : State) → Type 0

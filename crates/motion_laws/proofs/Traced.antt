@@ -34,8 +34,7 @@ module _ (g : Terrain) (t : IsTerrain g) (starts : List ℕ) (begin : IsStarted 
           let x_low : x < g.half.count = begin.low x m in
           let a_low : a < g.half.count = low_a g.half t.half x a b c x_low f in
           let b_low : b < g.half.count = low_b g.half t.half x a b c x_low f in
-          let b_twin : g.half.twin b ≡ Some (g.half.prev a) =
-          t.half.twin_twin (g.half.prev a) b (t.half.prev_low a a_low) f.second in
+          let b_twin = t.half.twin_twin (g.half.prev a) b (t.half.prev_low a a_low) f.second in
           record {
             x = x;
             a = a;
