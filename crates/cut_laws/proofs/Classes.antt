@@ -78,12 +78,8 @@ module _ (mesh : HalfEdges) (laws : IsQuadManifold mesh) (cut : Cut) (full : IsC
   linked_back d e l a = links_back d e a.0 l a.1
 
   -- The corner of a grid, and what is linked to it.
-  pub first_corner : (w h : ℕ) (cell : Cells) → IsGrid mesh cut w h cell → IsCorner mesh cut (cell 0 0)
-  first_corner w h cell grid = (
-    grid.low 0 0 grid.wide grid.tall,
-    grid.south_shut 0 grid.wide,
-    grid.west_shut 0 grid.tall,
-  )
+  pub first_corner : {w h : ℕ} {cell : Cells} → IsGrid mesh cut w h cell → IsCorner mesh cut (cell 0 0)
+  first_corner grid = (grid.low 0 0 grid.wide grid.tall, grid.south_shut 0 grid.wide, grid.west_shut 0 grid.tall)
 
   module _ (w h : ℕ) (cell : Cells) (grid : IsGrid mesh cut w h cell) where
     pub in_low : (x : ℕ) → In mesh w h cell x → x < mesh.count
@@ -99,8 +95,8 @@ module _ (mesh : HalfEdges) (laws : IsQuadManifold mesh) (cut : Cut) (full : IsC
     closed d e (suc n) l i =
         let at = closed d l.0 n l.1 i in
         elim l.2 [
-          | inl s ↦ rw s (suc at.0, one_more mesh laws w h cell at.0 l.0 at.1)
-          | inr o ↦ (suc (suc at.0), cross_to mesh laws cut full w h cell grid at.0 l.0 e at.1 o.0 o.1)
+          | inl s ↦ rw s (suc at.0, one_more laws w h cell at.1)
+          | inr o ↦ (suc (suc at.0), cross_to mesh laws cut full w h cell grid at.1 o.0 o.1)
         ]
 
     -- The whole grid is of one class.
@@ -126,22 +122,22 @@ module _ (mesh : HalfEdges) (laws : IsQuadManifold mesh) (cut : Cut) (full : IsC
     first_in = (0, record { a = 0; b = 0; a_low = grid.wide; b_low = grid.tall; is = refl })
 
     -- Each corner of the class is one of the four of the grid.
-    pub least_corner : (m : ℕ) → AtMost mesh w h cell m → (k a b x : ℕ) → a < w → b < h → x ≡ spin mesh k (cell a b)
-        → cut x ≡ true → cut (mesh.prev x) ≡ true → m ≤ x
-    least_corner m least zero zero zero x la lb e on before = subst (λ (y : ℕ). m ≤ y) (sym e) least.first
-    least_corner m least zero (suc a) b x la lb e on before =
+    pub least_corner : {m : ℕ} → AtMost mesh w h cell m → (k a b : ℕ) {x : ℕ} → a < w → b < h
+        → x ≡ spin mesh k (cell a b) → cut x ≡ true → cut (mesh.prev x) ≡ true → m ≤ x
+    least_corner {m} least zero zero zero la lb e on before = subst (λ (y : ℕ). m ≤ y) (sym e) least.first
+    least_corner least zero (suc a) b la lb e on before =
         absurd (true≢false (sym before
         ∙ (ap (λ y. cut (mesh.prev y)) e ∙ west_open mesh laws cut full w h cell grid a b la lb)))
-    least_corner m least zero zero (suc b) x la lb e on before =
+    least_corner least zero zero (suc b) la lb e on before =
         absurd (true≢false (sym on ∙ (ap cut e ∙ south_open mesh laws cut full w h cell grid 0 b la lb)))
-    least_corner m least (suc zero) a zero x la lb e on before = elim (cases_eq (suc a) w) [
+    least_corner least (suc zero) a zero la lb e on before = elim (cases_eq (suc a) w) [
       | inl z ↦ rw e (least.east a z)
       | inr ne ↦ absurd (true≢false (sym on ∙ (ap cut e ∙ grid.east_open a 0 (omega arith) lb)))
     ]
-    least_corner m least (suc zero) a (suc b) x la lb e on before =
+    least_corner least (suc zero) a (suc b) la lb e on before =
         absurd (true≢false (sym before ∙ (ap (λ y. cut (mesh.prev y)) e
         ∙ (ap cut (laws.prev_next (cell a (suc b))) ∙ south_open mesh laws cut full w h cell grid a b la lb))))
-    least_corner m least (suc (suc zero)) a b x la lb e on before = elim (cases_eq (suc a) w) [
+    least_corner least (suc (suc zero)) a b la lb e on before = elim (cases_eq (suc a) w) [
       | inl z ↦ elim (cases_eq (suc b) h) [
         | inl y ↦ rw e (least.far a b z y)
         | inr ne ↦ absurd (true≢false (sym on ∙ (ap cut e ∙ grid.north_open a b la (omega arith))))
@@ -150,26 +146,26 @@ module _ (mesh : HalfEdges) (laws : IsQuadManifold mesh) (cut : Cut) (full : IsC
           ∙ (ap (λ y. cut (mesh.prev y)) e ∙ (ap cut (laws.prev_next (mesh.next (cell a b)))
           ∙ grid.east_open a b (omega arith) lb))))
     ]
-    least_corner m least (suc (suc (suc zero))) zero b x la lb e on before = elim (cases_eq (suc b) h) [
+    least_corner least (suc (suc (suc zero))) zero b la lb e on before = elim (cases_eq (suc b) h) [
       | inl z ↦ rw (prev_three mesh laws (cell 0 b) ∙ sym e) at (least.north b z)
       | inr ne ↦ absurd (true≢false (sym before
           ∙ (ap (λ y. cut (mesh.prev y)) e ∙ (ap cut (laws.prev_next (mesh.next (mesh.next (cell 0 b))))
           ∙ grid.north_open 0 b la (omega arith)))))
     ]
-    least_corner m least (suc (suc (suc zero))) (suc a) b x la lb e on before =
+    least_corner least (suc (suc (suc zero))) (suc a) b la lb e on before =
         absurd (true≢false (sym on ∙ (ap cut (e ∙ sym (prev_three mesh laws (cell (suc a) b)))
         ∙ west_open mesh laws cut full w h cell grid a b la lb)))
-    least_corner m least (suc (suc (suc (suc k)))) a b x la lb e on before =
-        least_corner m least k a b x la lb (e ∙ laws.four_sides (spin mesh k (cell a b))) on before
+    least_corner {m} least (suc (suc (suc (suc k)))) a b {x} la lb e on before =
+        least_corner least k a b la lb (e ∙ laws.four_sides (spin mesh k (cell a b))) on before
 
-    pub least_in : (m x : ℕ) → AtMost mesh w h cell m → In mesh w h cell x → IsCorner mesh cut x → m ≤ x
-    least_in m x least i corner = least_corner m least i.0 i.1.a i.1.b x i.1.a_low i.1.b_low i.1.is corner.1 corner.2
+    pub least_in : {m : ℕ} (x : ℕ) → AtMost mesh w h cell m → In mesh w h cell x → IsCorner mesh cut x → m ≤ x
+    least_in {m} x least i corner = least_corner least i.0 i.1.a i.1.b i.1.a_low i.1.b_low i.1.is corner.1 corner.2
 
     -- The four are corners of the class.
     pub at_most : (m : ℕ) → ((x : ℕ) → AreLinked mesh cut (cell 0 0) x → IsCorner mesh cut x → m ≤ x)
         → AtMost mesh w h cell m
     at_most m least = record {
-      first = least (cell 0 0) (0, refl) (first_corner w h cell grid);
+      first = least (cell 0 0) (0, refl) (first_corner grid);
       east = λ i e. least (mesh.next (cell i 0)) (step_next mesh laws cut (cell 0 0) (cell i 0)
           (linked_cell i 0 (omega arith) grid.tall)) (
             laws.next_low (cell i 0) (grid.low i 0 (omega arith) grid.tall),
@@ -192,10 +188,10 @@ module _ (mesh : HalfEdges) (laws : IsQuadManifold mesh) (cut : Cut) (full : IsC
     }
 
   -- Two patches.
-  pub least_first : (w h : ℕ) (cell : Cells) → IsPatch mesh cut w h cell → AtMost mesh w h cell (cell 0 0)
-  least_first w h cell p = record { first = omega arith; east = p.least_east; far = p.least_far; north = p.least_north }
+  pub least_first : {w h : ℕ} {cell : Cells} → IsPatch mesh cut w h cell → AtMost mesh w h cell (cell 0 0)
+  least_first p = record { first = omega arith; east = p.least_east; far = p.least_far; north = p.least_north }
 
-  module _ (w h v g : ℕ) (cell tile : Cells) (one : IsGrid mesh cut w h cell) (two : IsGrid mesh cut v g tile) where
+  module _ {w h v g : ℕ} {cell tile : Cells} (one : IsGrid mesh cut w h cell) (two : IsGrid mesh cut v g tile) where
     -- Grids with one first cell have the same cells.
     cells_east : (cell 0 0 ≡ tile 0 0) → (i : ℕ) → i < w → i < v → cell i 0 ≡ tile i 0
     cells_east e zero lw lv = e
@@ -218,13 +214,13 @@ module _ (mesh : HalfEdges) (laws : IsQuadManifold mesh) (cut : Cut) (full : IsC
         ∙ (ap (λ x. cut (mesh.next (mesh.next x))) (cells_north 0 j one.wide two.wide e (omega arith) (omega arith))
         ∙ two.north_open 0 j two.wide l))
 
-  pub one_grid : (w h v g : ℕ) (cell tile : Cells) → IsGrid mesh cut w h cell → IsGrid mesh cut v g tile
+  pub one_grid : {w h v g : ℕ} {cell tile : Cells} → IsGrid mesh cut w h cell → IsGrid mesh cut v g tile
       → cell 0 0 ≡ tile 0 0 → AreOne w h v g cell tile
-  one_grid w h v g cell tile one two e = record {
+  one_grid {w} {h} {v} {g} one two e = record {
     wide = same_wide;
     tall = same_tall;
     cells = λ i j li lj. let lv : i < v = omega (arith, same_wide) in
-        cells_north w h v g cell tile one two i j li lv (cells_east w h v g cell tile one two e i li lv) lj
+        cells_north one two i j li lv (cells_east one two e i li lv) lj
         (omega (arith, same_tall));
   }
     where
@@ -232,8 +228,8 @@ module _ (mesh : HalfEdges) (laws : IsQuadManifold mesh) (cut : Cut) (full : IsC
       width n m zn zm = elim (cases_order w v) [
         | inl s ↦ s
         | inr o ↦ elim o [
-          | inl l ↦ absurd (not_wider w h v g cell tile one two e n zn (omega arith))
-          | inr l ↦ absurd (not_wider v g w h tile cell two one (sym e) m zm (omega arith))
+          | inl l ↦ absurd (not_wider one two e n zn (omega arith))
+          | inr l ↦ absurd (not_wider two one (sym e) m zm (omega arith))
         ]
       ]
 
@@ -241,8 +237,8 @@ module _ (mesh : HalfEdges) (laws : IsQuadManifold mesh) (cut : Cut) (full : IsC
       height n m zn zm = elim (cases_order h g) [
         | inl s ↦ s
         | inr o ↦ elim o [
-          | inl l ↦ absurd (not_taller w h v g cell tile one two e n zn (omega arith))
-          | inr l ↦ absurd (not_taller v g w h tile cell two one (sym e) m zm (omega arith))
+          | inl l ↦ absurd (not_taller one two e n zn (omega arith))
+          | inr l ↦ absurd (not_taller two one (sym e) m zm (omega arith))
         ]
       ]
 
@@ -259,21 +255,20 @@ module _ (mesh : HalfEdges) (laws : IsQuadManifold mesh) (cut : Cut) (full : IsC
           before g two.tall in height a.0 b.0 a.1 b.1
 
   -- Patches with a dart in common are one.
-  pub one_patch : (w h v g : ℕ) (cell tile : Cells) → IsPatch mesh cut w h cell → IsPatch mesh cut v g tile → (x : ℕ)
+  pub one_patch : {w h v g : ℕ} {cell tile : Cells} → IsPatch mesh cut w h cell → IsPatch mesh cut v g tile → (x : ℕ)
       → In mesh w h cell x → In mesh v g tile x → AreOne w h v g cell tile
-  one_patch w h v g cell tile one two x ix iy =
-      one_grid w h v g cell tile one.grid two.grid (omega (arith, below, above))
+  one_patch {w} {h} {v} {g} {cell} {tile} one two x ix iy = one_grid one.grid two.grid (omega (arith, below, above))
     where
-      there : (w h v g : ℕ) (cell tile : Cells) → IsGrid mesh cut w h cell → IsGrid mesh cut v g tile
+      there : {w h v g : ℕ} {cell tile : Cells} → IsGrid mesh cut w h cell → IsGrid mesh cut v g tile
           → In mesh w h cell x → In mesh v g tile x → In mesh v g tile (cell 0 0)
-      there w h v g cell tile a b i j =
+      there {w} {h} {v} {g} {cell} {tile} a b i j =
           let back = linked_back (cell 0 0) x (a.low 0 0 a.wide a.tall) (linked_in w h cell a x i) in
           closed v g tile b x (cell 0 0) back.0 back.1 j
 
       below : tile 0 0 ≤ cell 0 0
-      below = least_in v g tile two.grid (tile 0 0) (cell 0 0) (least_first v g tile two)
-          (there w h v g cell tile one.grid two.grid ix iy) (first_corner w h cell one.grid)
+      below = least_in v g tile two.grid (cell 0 0) (least_first two)
+          (there one.grid two.grid ix iy) (first_corner one.grid)
 
       above : cell 0 0 ≤ tile 0 0
-      above = least_in w h cell one.grid (cell 0 0) (tile 0 0) (least_first w h cell one)
-          (there v g w h tile cell two.grid one.grid iy ix) (first_corner v g tile two.grid)
+      above = least_in w h cell one.grid (tile 0 0) (least_first one)
+          (there two.grid one.grid iy ix) (first_corner two.grid)

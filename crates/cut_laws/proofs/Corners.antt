@@ -14,7 +14,7 @@ use Rattle.cut_laws.proofs.Classes.{AreLinked, links_join, step_next, step_over,
 abbrev pub CornerOf : (mesh : HalfEdges) (cut : Cut) (d : ℕ) → Type 0
 CornerOf mesh cut d = (e : ℕ) × (n : ℕ) × Links mesh cut d e n × IsCorner mesh cut e
 
-module _ (mesh : HalfEdges) (laws : IsQuadManifold mesh) (start cut : ℕ → Bool) (sources : HasSources mesh start)
+module _ {mesh : HalfEdges} (laws : IsQuadManifold mesh) {start cut : ℕ → Bool} (sources : HasSources mesh start)
     (traced : IsTraced mesh start cut) where
   corner_at : (d e : ℕ) → AreLinked mesh cut d e → IsCorner mesh cut e → CornerOf mesh cut d
   corner_at d e l corner = (e, l.0, l.1, corner)
@@ -44,27 +44,24 @@ module _ (mesh : HalfEdges) (laws : IsQuadManifold mesh) (start cut : ℕ → Bo
 
   -- and back along it on the other side.
   next_corner : (d : ℕ) → d < mesh.count → cut d ≡ true → cut (mesh.next d) ≡ true → CornerOf mesh cut d
-  next_corner d ld on next = corner_at d (mesh.next d) (step_next mesh laws cut d d (0, refl)) (
-    laws.next_low d ld,
-    next,
-    ap cut (laws.prev_next d) ∙ on,
-  )
+  next_corner d ld on next = corner_at d (mesh.next d) (step_next mesh laws cut d d (0, refl))
+      (laws.next_low d ld, next, ap cut (laws.prev_next d) ∙ on)
 
   across : (k d t : ℕ) → d < mesh.count → cut d ≡ true → mesh.twin d ≡ Some t → Trail mesh start cut t k
       → CornerOf mesh cut d
   across zero d t ld on tw trail =
       next_corner d ld on (traced.beside t d (laws.twin_low d t ld tw) trail (laws.twin_twin d t ld tw))
-  across (suc k) d t ld on tw trail = by_next (cases_Bool (cut (mesh.next d))) trail.0 trail.2 trail.3 trail.4 trail.5.0
-      trail.5.1 trail.5.2 trail.5.3 (λ b lb onb tb. across k b trail.0 lb onb tb trail.1)
+  across (suc k) d t ld on tw trail = by_next (cases_Bool (cut (mesh.next d))) trail.0 trail.2 trail.3 trail.4
+      trail.5.3 (λ b lb onb tb. across k b trail.0 lb onb tb trail.1)
     where
       lt : t < mesh.count
       lt = laws.twin_low d t ld tw
 
       by_next : (cut (mesh.next d) ≡ true) ⊎ (cut (mesh.next d) ≡ false) → (c : ℕ) → c < mesh.count → cut c ≡ true
-          → IsStraight mesh c t → (a b e : ℕ) → IsCross mesh t a b e
+          → IsStraight mesh c t → {a b e : ℕ} → IsCross mesh t a b e
           → ((b : ℕ) → b < mesh.count → cut b ≡ true → mesh.twin b ≡ Some c → CornerOf mesh cut b) → CornerOf mesh cut d
-      by_next (inl next) c lc onc s a b e is rest = next_corner d ld on next
-      by_next (inr off) c lc onc s a b e is rest =
+      by_next (inl next) c lc onc s is rest = next_corner d ld on next
+      by_next (inr off) c lc onc s {a} {b} {e} is rest =
           let first = same_Some a (mesh.next c) (sym is.first
           ∙ (ap mesh.twin (ap mesh.prev s.2 ∙ laws.prev_next s.0)
           ∙ laws.twin_twin (mesh.next c) s.0 (laws.next_low c lc) s.1)) in
@@ -113,4 +110,4 @@ module _ (mesh : HalfEdges) (laws : IsQuadManifold mesh) (start cut : ℕ → Bo
           (le, traced.boundary e le alone.0, traced.boundary (mesh.prev e) (laws.prev_low e le) alone.1)
 
 pub corner_law : CornerLaw
-corner_law mesh start cut laws sources traced d ld = corner_of mesh laws start cut sources traced d ld
+corner_law mesh start cut laws sources traced d ld = corner_of laws sources traced d ld

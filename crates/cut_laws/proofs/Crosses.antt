@@ -54,10 +54,8 @@ module _ (mesh : HalfEdges) (laws : IsQuadManifold mesh) where
         let x = turned mesh d n in
         let l = turned_leaves n in
         let t : (t : ℕ) × (mesh.twin (mesh.prev x) ≡ Some t) = round x l.low l.at in
-        let is : Leaves mesh v t.0 = record {
-          low = turn_low mesh laws x t.0 l.low t.1;
-          at = turn_from mesh laws x t.0 l.low t.1 ∙ l.at;
-        } in
+        let is : Leaves mesh v t.0 =
+        record { low = turn_low mesh laws x t.0 l.low t.1; at = turn_from mesh laws x t.0 l.low t.1 ∙ l.at } in
         subst (λ (y : ℕ). Leaves mesh v y) (ap or_zero (sym t.1)) is
 
     turned_is : (n : ℕ) → mesh.twin (mesh.prev (turned mesh d n)) ≡ Some (turned mesh d (suc n))
@@ -66,7 +64,7 @@ module _ (mesh : HalfEdges) (laws : IsQuadManifold mesh) where
         t.1 ∙ ap Some (ap or_zero (sym t.1))
 
     turned_same : (i j : ℕ) → turned mesh d (suc i) ≡ turned mesh d (suc j) → turned mesh d i ≡ turned mesh d j
-    turned_same i j e = turn_same mesh laws (turned mesh d i) (turned mesh d j) (turned mesh d (suc i))
+    turned_same i j e = turn_same mesh laws (turned mesh d i) (turned mesh d j)
         (turned_leaves i).low (turned_leaves j).low (turned_is i) (turned_is j ∙ ap Some (sym e))
 
     -- Where p + 1 turns lead back, all darts that leave v are among them.
@@ -88,8 +86,7 @@ module _ (mesh : HalfEdges) (laws : IsQuadManifold mesh) where
         ]
 
         to_it : (i : ℕ) → x < mesh.count → mesh.twin (mesh.prev x) ≡ Some (turned mesh d (suc i)) → turned mesh d i ≡ x
-        to_it i lx r = turn_same mesh laws (turned mesh d i) x (turned mesh d (suc i)) (turned_leaves i).low lx
-            (turned_is i) r
+        to_it i lx r = turn_same mesh laws (turned mesh d i) x (turned_leaves i).low lx (turned_is i) r
 
         back_to : (i : ℕ) → i < suc p → x < mesh.count → mesh.twin (mesh.prev x) ≡ Some (turned mesh d i)
             → (i : ℕ) × (i < suc p) × (turned mesh d i ≡ x)
@@ -155,10 +152,8 @@ module _ (mesh : HalfEdges) (laws : IsQuadManifold mesh) where
             apart = λ e. two (sym e);
           },
         )
-        by_turns (inr two) (inr three) (inr four) = absurd (let h : 5 ≤ 4 = fan.least 5 (turned mesh d) (record {
-          each = λ j l. turned_leaves j;
-          apart = apart two three four;
-        }) in omega arith)
+        by_turns (inr two) (inr three) (inr four) = absurd (let h : 5 ≤ 4 = fan.least 5 (turned mesh d)
+            (record { each = λ j l. turned_leaves j; apart = apart two three four }) in omega arith)
 
   -- And the other way round: a cross has four darts, all with twins on both sides.
   module _ (d a b c : ℕ) (low : d < mesh.count) (cross : IsCross mesh d a b c) where
@@ -188,20 +183,20 @@ module _ (mesh : HalfEdges) (laws : IsQuadManifold mesh) where
         along zero x t = inl (sym t)
         along (suc n) x t = by_step t.0 t.2 (along n t.0 t.1) t.3
           where
-            to : (y z : ℕ) → mesh.twin (mesh.prev y) ≡ Some z → (s : ℕ) → s ≡ y → mesh.twin (mesh.prev s) ≡ Some x
+            to : {y z : ℕ} → mesh.twin (mesh.prev y) ≡ Some z → {s : ℕ} → s ≡ y → mesh.twin (mesh.prev s) ≡ Some x
                 → x ≡ z
-            to y z is s e r = same_Some x z (sym r ∙ (ap (λ k. mesh.twin (mesh.prev k)) e ∙ is))
+            to {z} is e r = same_Some x z (sym r ∙ (ap (λ k. mesh.twin (mesh.prev k)) e ∙ is))
 
             of : (y z : ℕ) → y < mesh.count → x < mesh.count → mesh.twin (mesh.prev y) ≡ Some z → (s : ℕ) → s ≡ z
                 → mesh.twin (mesh.prev x) ≡ Some s → x ≡ y
-            of y z ly lx is s e r = turn_same mesh laws x y z lx ly (r ∙ ap Some e) is
+            of y z ly lx is s e r = turn_same mesh laws x y lx ly (r ∙ ap Some e) is
 
             by_step : (y : ℕ) → x < mesh.count → (y ≡ d) ⊎ ((y ≡ a) ⊎ ((y ≡ b) ⊎ (y ≡ c))) → AreTurned mesh y x
                 → (x ≡ d) ⊎ ((x ≡ a) ⊎ ((x ≡ b) ⊎ (x ≡ c)))
-            by_step y lx (inl e) (inl r) = inr (inl (to d a cross.first y e r))
-            by_step y lx (inr (inl e)) (inl r) = inr (inr (inl (to a b cross.second y e r)))
-            by_step y lx (inr (inr (inl e))) (inl r) = inr (inr (inr (to b c cross.third y e r)))
-            by_step y lx (inr (inr (inr e))) (inl r) = inl (to c d cross.last y e r)
+            by_step y lx (inl e) (inl r) = inr (inl (to cross.first e r))
+            by_step y lx (inr (inl e)) (inl r) = inr (inr (inl (to cross.second e r)))
+            by_step y lx (inr (inr (inl e))) (inl r) = inr (inr (inr (to cross.third e r)))
+            by_step y lx (inr (inr (inr e))) (inl r) = inl (to cross.last e r)
             by_step y lx (inl e) (inr r) = inr (inr (inr (of c d low_c lx cross.last y e r)))
             by_step y lx (inr (inl e)) (inr r) = inl (of d a low lx cross.first y e r)
             by_step y lx (inr (inr (inl e))) (inr r) = inr (inl (of a b low_a lx cross.second y e r))
@@ -217,28 +212,28 @@ module _ (mesh : HalfEdges) (laws : IsQuadManifold mesh) where
         by_one (inr (inr (inr e))) = (3, omega arith, sym e)
 
     -- They differ.
-    step_apart : (x y : ℕ) → x < mesh.count → mesh.twin (mesh.prev x) ≡ Some y → x ≡ y → ⊥
-    step_apart x y l is e = no_fix x l (is ∙ ap Some (sym e))
+    step_apart : {x y : ℕ} → x < mesh.count → mesh.twin (mesh.prev x) ≡ Some y → x ≡ y → ⊥
+    step_apart {x} l is e = no_fix x l (is ∙ ap Some (sym e))
 
     pub a_c : a ≡ c → ⊥
-    a_c e = cross.apart (turn_same mesh laws d b a low low_b cross.first (cross.third ∙ ap Some (sym e)))
+    a_c e = cross.apart (turn_same mesh laws d b low low_b cross.first (cross.third ∙ ap Some (sym e)))
 
     pub four_apart : (i j : ℕ) → i < 4 → j < 4 → of_four d a b c i ≡ of_four d a b c j → i ≡ j
     four_apart zero zero li lj e = refl
-    four_apart zero (suc zero) li lj e = absurd (step_apart d a low cross.first e)
+    four_apart zero (suc zero) li lj e = absurd (step_apart low cross.first e)
     four_apart zero (suc (suc zero)) li lj e = absurd (cross.apart e)
-    four_apart zero (suc (suc (suc zero))) li lj e = absurd (step_apart c d low_c cross.last (sym e))
-    four_apart (suc zero) zero li lj e = absurd (step_apart d a low cross.first (sym e))
+    four_apart zero (suc (suc (suc zero))) li lj e = absurd (step_apart low_c cross.last (sym e))
+    four_apart (suc zero) zero li lj e = absurd (step_apart low cross.first (sym e))
     four_apart (suc zero) (suc zero) li lj e = refl
-    four_apart (suc zero) (suc (suc zero)) li lj e = absurd (step_apart a b low_a cross.second e)
+    four_apart (suc zero) (suc (suc zero)) li lj e = absurd (step_apart low_a cross.second e)
     four_apart (suc zero) (suc (suc (suc zero))) li lj e = absurd (a_c e)
     four_apart (suc (suc zero)) zero li lj e = absurd (cross.apart (sym e))
-    four_apart (suc (suc zero)) (suc zero) li lj e = absurd (step_apart a b low_a cross.second (sym e))
+    four_apart (suc (suc zero)) (suc zero) li lj e = absurd (step_apart low_a cross.second (sym e))
     four_apart (suc (suc zero)) (suc (suc zero)) li lj e = refl
-    four_apart (suc (suc zero)) (suc (suc (suc zero))) li lj e = absurd (step_apart b c low_b cross.third e)
-    four_apart (suc (suc (suc zero))) zero li lj e = absurd (step_apart c d low_c cross.last e)
+    four_apart (suc (suc zero)) (suc (suc (suc zero))) li lj e = absurd (step_apart low_b cross.third e)
+    four_apart (suc (suc (suc zero))) zero li lj e = absurd (step_apart low_c cross.last e)
     four_apart (suc (suc (suc zero))) (suc zero) li lj e = absurd (a_c (sym e))
-    four_apart (suc (suc (suc zero))) (suc (suc zero)) li lj e = absurd (step_apart b c low_b cross.third (sym e))
+    four_apart (suc (suc (suc zero))) (suc (suc zero)) li lj e = absurd (step_apart low_b cross.third (sym e))
     four_apart (suc (suc (suc zero))) (suc (suc (suc zero))) li lj e = refl
     four_apart _ _ li lj e = absurd (omega arith)
 

@@ -35,9 +35,9 @@ module _ (mesh : HalfEdges) (laws : IsQuadManifold mesh) where
   turn_low d e l t = laws.twin_low (mesh.prev d) e (laws.prev_low d l) t
 
   -- Turns from two darts to one come from one.
-  pub turn_same : (d e t : ℕ) → d < mesh.count → e < mesh.count → mesh.twin (mesh.prev d) ≡ Some t
+  pub turn_same : (d e : ℕ) {t : ℕ} → d < mesh.count → e < mesh.count → mesh.twin (mesh.prev d) ≡ Some t
       → mesh.twin (mesh.prev e) ≡ Some t → d ≡ e
-  turn_same d e t ld le a b =
+  turn_same d e {t} ld le a b =
       prev_same d e (twin_same (mesh.prev d) (mesh.prev e) t (laws.prev_low d ld) (laws.prev_low e le) a b)
 
   -- Where two turns lead back, the fan has two darts.
@@ -48,6 +48,6 @@ module _ (mesh : HalfEdges) (laws : IsQuadManifold mesh) where
     where
       by_before : (y : ℕ) → x < mesh.count → (y ≡ d) ⊎ (y ≡ e) → AreTurned mesh y x → (x ≡ d) ⊎ (x ≡ e)
       by_before y lx (inl s) (inl r) = inr (same_Some x e (sym r ∙ (ap (λ z. mesh.twin (mesh.prev z)) s ∙ one)))
-      by_before y lx (inl s) (inr r) = inr (turn_same x e d lx le (r ∙ ap Some s) two)
+      by_before y lx (inl s) (inr r) = inr (turn_same x e lx le (r ∙ ap Some s) two)
       by_before y lx (inr s) (inl r) = inl (same_Some x d (sym r ∙ (ap (λ z. mesh.twin (mesh.prev z)) s ∙ two)))
-      by_before y lx (inr s) (inr r) = inl (turn_same x d e lx ld (r ∙ ap Some s) one)
+      by_before y lx (inr s) (inr r) = inl (turn_same x d lx ld (r ∙ ap Some s) one)

@@ -21,12 +21,12 @@ pub record At (mesh : HalfEdges) (w h : ℕ) (cell : Cells) (k x : ℕ) : Type 0
 abbrev pub HasOther : (mesh : HalfEdges) (w h : ℕ) (cell : Cells) (k x : ℕ) → Type 0
 HasOther mesh w h cell k x = (t : ℕ) × (mesh.twin x ≡ Some t) × At mesh w h cell (suc (suc k)) t
 
-module _ (mesh : HalfEdges) (laws : IsQuadManifold mesh) (w h : ℕ) (cell : Cells) where
-  pub one_more : (k x : ℕ) → At mesh w h cell k x → At mesh w h cell (suc k) (mesh.next x)
-  one_more k x at = record { a = at.a; b = at.b; a_low = at.a_low; b_low = at.b_low; is = ap mesh.next at.is }
+module _ {mesh : HalfEdges} (laws : IsQuadManifold mesh) (w h : ℕ) (cell : Cells) where
+  pub one_more : {k x : ℕ} → At mesh w h cell k x → At mesh w h cell (suc k) (mesh.next x)
+  one_more at = record { a = at.a; b = at.b; a_low = at.a_low; b_low = at.b_low; is = ap mesh.next at.is }
 
-  pub four_less : (k x : ℕ) → At mesh w h cell (suc (suc (suc (suc k)))) x → At mesh w h cell k x
-  four_less k x at = record {
+  pub four_less : (k : ℕ) {x : ℕ} → At mesh w h cell (suc (suc (suc (suc k)))) x → At mesh w h cell k x
+  four_less k at = record {
     a = at.a;
     b = at.b;
     a_low = at.a_low;
@@ -34,8 +34,8 @@ module _ (mesh : HalfEdges) (laws : IsQuadManifold mesh) (w h : ℕ) (cell : Cel
     is = at.is ∙ laws.four_sides (spin mesh k (cell at.a at.b));
   }
 
-  pub four_more : (k x : ℕ) → At mesh w h cell k x → At mesh w h cell (suc (suc (suc (suc k)))) x
-  four_more k x at = record {
+  pub four_more : {k x : ℕ} → At mesh w h cell k x → At mesh w h cell (suc (suc (suc (suc k)))) x
+  four_more {k} at = record {
     a = at.a;
     b = at.b;
     a_low = at.a_low;
@@ -43,8 +43,8 @@ module _ (mesh : HalfEdges) (laws : IsQuadManifold mesh) (w h : ℕ) (cell : Cel
     is = at.is ∙ sym (laws.four_sides (spin mesh k (cell at.a at.b)));
   }
 
-  pub moved : (k x y : ℕ) → x ≡ y → At mesh w h cell k x → At mesh w h cell k y
-  moved k x y e at = rw e at at
+  pub moved : {k x y : ℕ} → x ≡ y → At mesh w h cell k x → At mesh w h cell k y
+  moved e at = rw e at at
 
 module _ (mesh : HalfEdges) (laws : IsQuadManifold mesh) (cut : Cut) (full : IsCut mesh cut) (w h : ℕ) (cell : Cells)
     (grid : IsGrid mesh cut w h cell) where
@@ -69,18 +69,18 @@ module _ (mesh : HalfEdges) (laws : IsQuadManifold mesh) (cut : Cut) (full : IsC
       (grid.north i j li lj) ∙ grid.north_open i j li lj
 
   -- Over an edge of a cell that is not cut lies another cell.
-  clash : (x y : ℕ) → x ≡ y → cut y ≡ true → cut x ≡ false → ⊥
-  clash x y e on off = true≢false (sym on ∙ (ap cut (sym e) ∙ off))
+  clash : {x y : ℕ} → x ≡ y → cut y ≡ true → cut x ≡ false → ⊥
+  clash e on off = true≢false (sym on ∙ (ap cut (sym e) ∙ off))
 
   over : (k a b x : ℕ) → a < w → b < h → x ≡ spin mesh k (cell a b) → cut x ≡ false → HasOther mesh w h cell k x
-  over zero a zero x la lb e off = absurd (clash x (cell a 0) e (grid.south_shut a la) off)
+  over zero a zero x la lb e off = absurd (clash e (grid.south_shut a la) off)
   over zero a (suc b) x la lb e off = (
     mesh.next (mesh.next (cell a b)),
     ap mesh.twin e ∙ south a b la lb,
     record { a = a; b = b; a_low = la; b_low = omega arith; is = refl },
   )
   over (suc zero) a b x la lb e off = elim (cases_eq (suc a) w) [
-    | inl z ↦ absurd (clash x (mesh.next (cell a b)) e (grid.east_shut a b z lb) off)
+    | inl z ↦ absurd (clash e (grid.east_shut a b z lb) off)
     | inr ne ↦ let l : suc a < w = omega arith in (
       mesh.prev (cell (suc a) b),
       ap mesh.twin e ∙ grid.east a b l lb,
@@ -88,7 +88,7 @@ module _ (mesh : HalfEdges) (laws : IsQuadManifold mesh) (cut : Cut) (full : IsC
     )
   ]
   over (suc (suc zero)) a b x la lb e off = elim (cases_eq (suc b) h) [
-    | inl z ↦ absurd (clash x (mesh.next (mesh.next (cell a b))) e (grid.north_shut a b la z) off)
+    | inl z ↦ absurd (clash e (grid.north_shut a b la z) off)
     | inr ne ↦ let l : suc b < h = omega arith in (
       cell a (suc b),
       ap mesh.twin e ∙ grid.north a b la l,
@@ -96,7 +96,7 @@ module _ (mesh : HalfEdges) (laws : IsQuadManifold mesh) (cut : Cut) (full : IsC
     )
   ]
   over (suc (suc (suc zero))) zero b x la lb e off =
-      absurd (clash x (mesh.prev (cell 0 b)) (e ∙ sym (prev_three mesh laws (cell 0 b))) (grid.west_shut b lb) off)
+      absurd (clash (e ∙ sym (prev_three mesh laws (cell 0 b))) (grid.west_shut b lb) off)
   over (suc (suc (suc zero))) (suc a) b x la lb e off = (
     mesh.next (cell a b),
     ap mesh.twin (e ∙ sym (prev_three mesh laws (cell (suc a) b))) ∙ west a b la lb,
@@ -104,58 +104,53 @@ module _ (mesh : HalfEdges) (laws : IsQuadManifold mesh) (cut : Cut) (full : IsC
   )
   over (suc (suc (suc (suc k)))) a b x la lb e off =
       let o : HasOther mesh w h cell k x = over k a b x la lb (e ∙ laws.four_sides (spin mesh k (cell a b))) off in
-      (o.0, o.1, four_more mesh laws w h cell (suc (suc k)) o.0 o.2)
+      (o.0, o.1, four_more laws w h cell o.2)
 
   pub cross : (k x : ℕ) → At mesh w h cell k x → cut x ≡ false → HasOther mesh w h cell k x
   cross k x at off = over k at.a at.b x at.a_low at.b_low at.is off
 
   -- The twin that is known is the one that was found.
-  pub cross_to : (k x t : ℕ) → At mesh w h cell k x → cut x ≡ false → mesh.twin x ≡ Some t
+  pub cross_to : {k x t : ℕ} → At mesh w h cell k x → cut x ≡ false → mesh.twin x ≡ Some t
       → At mesh w h cell (suc (suc k)) t
-  cross_to k x t at off is = let o : HasOther mesh w h cell k x = cross k x at off in
-      moved mesh laws w h cell (suc (suc k)) o.0 t (same_Some o.0 t (sym o.1 ∙ is)) o.2
+  cross_to {k} {x} {t} at off is = let o : HasOther mesh w h cell k x = cross k x at off in
+      moved laws w h cell (same_Some o.0 t (sym o.1 ∙ is)) o.2
 
   -- What stands over one cell stands over its neighbours.
   at_east : (k i j : ℕ) → suc i < w → j < h → At mesh w h cell k (cell i j) → At mesh w h cell k (cell (suc i) j)
   at_east k i j li lj at =
-      let here : At mesh w h cell (suc k) (mesh.next (cell i j)) = one_more mesh laws w h cell k (cell i j) at in
-      let there = cross_to (suc k) (mesh.next (cell i j)) (mesh.prev (cell (suc i) j)) here (grid.east_open i j li lj)
-      (grid.east i j li lj) in
-      let on = one_more mesh laws w h cell (suc (suc (suc k))) (mesh.prev (cell (suc i) j)) there in
-      four_less mesh laws w h cell k (cell (suc i) j) (moved mesh laws w h cell (suc (suc (suc (suc k))))
-      (mesh.next (mesh.prev (cell (suc i) j))) (cell (suc i) j) (laws.next_prev (cell (suc i) j)) on)
+      let here : At mesh w h cell (suc k) (mesh.next (cell i j)) = one_more laws w h cell at in
+      let there = cross_to here (grid.east_open i j li lj) (grid.east i j li lj) in
+      let on = one_more laws w h cell there in
+      four_less laws w h cell k (moved laws w h cell
+      (laws.next_prev (cell (suc i) j)) on)
 
   at_north : (k i j : ℕ) → i < w → suc j < h → At mesh w h cell k (cell i j) → At mesh w h cell k (cell i (suc j))
   at_north k i j li lj at =
-      let here =
-      one_more mesh laws w h cell (suc k) (mesh.next (cell i j)) (one_more mesh laws w h cell k (cell i j) at) in
-      four_less mesh laws w h cell k (cell i (suc j)) (cross_to (suc (suc k)) (mesh.next (mesh.next (cell i j)))
-      (cell i (suc j)) here (grid.north_open i j li lj) (grid.north i j li lj))
+      let here = one_more laws w h cell (one_more laws w h cell at) in
+      four_less laws w h cell k (cross_to
+      here (grid.north_open i j li lj) (grid.north i j li lj))
 
   at_west : (k i j : ℕ) → suc i < w → j < h → At mesh w h cell k (cell (suc i) j) → At mesh w h cell k (cell i j)
   at_west k i j li lj at =
       let c : ℕ = cell (suc i) j in
-      let three = one_more mesh laws w h cell (suc (suc k)) (mesh.next (mesh.next c))
-      (one_more mesh laws w h cell (suc k) (mesh.next c) (one_more mesh laws w h cell k c at)) in
-      let here = moved mesh laws w h cell (suc (suc (suc k))) (mesh.next (mesh.next (mesh.next c))) (mesh.prev c)
-      (sym (prev_three mesh laws c)) three in
-      let there = four_less mesh laws w h cell (suc k) (mesh.next (cell i j))
-      (cross_to (suc (suc (suc k))) (mesh.prev c) (mesh.next (cell i j)) here (west_open i j li lj) (west i j li lj)) in
+      let three = one_more laws w h cell (one_more laws w h cell (one_more laws w h cell at)) in
+      let here = moved laws w h cell (sym (prev_three mesh laws c)) three in
+      let there = four_less laws w h cell (suc k) (cross_to here (west_open i j li lj) (west i j li lj)) in
       let x = cell i j in
-      four_less mesh laws w h cell k x (moved mesh laws w h cell (suc (suc (suc (suc k))))
-      (mesh.next (mesh.next (mesh.next (mesh.next x)))) x (laws.four_sides x)
-      (one_more mesh laws w h cell (suc (suc (suc k))) (mesh.next (mesh.next (mesh.next x)))
-      (one_more mesh laws w h cell (suc (suc k)) (mesh.next (mesh.next x))
-      (one_more mesh laws w h cell (suc k) (mesh.next x) there))))
+      four_less laws w h cell k (moved laws w h cell
+      (laws.four_sides x)
+      (one_more laws w h cell
+      (one_more laws w h cell
+      (one_more laws w h cell there))))
 
   at_south : (k i j : ℕ) → i < w → suc j < h → At mesh w h cell k (cell i (suc j)) → At mesh w h cell k (cell i j)
   at_south k i j li lj at =
       let x : ℕ = cell i j in
-      let there = cross_to k (cell i (suc j)) (mesh.next (mesh.next x)) at (south_open i j li lj) (south i j li lj) in
-      four_less mesh laws w h cell k x (moved mesh laws w h cell (suc (suc (suc (suc k))))
-      (mesh.next (mesh.next (mesh.next (mesh.next x)))) x (laws.four_sides x)
-      (one_more mesh laws w h cell (suc (suc (suc k))) (mesh.next (mesh.next (mesh.next x)))
-      (one_more mesh laws w h cell (suc (suc k)) (mesh.next (mesh.next x)) there)))
+      let there = cross_to at (south_open i j li lj) (south i j li lj) in
+      four_less laws w h cell k (moved laws w h cell
+      (laws.four_sides x)
+      (one_more laws w h cell
+      (one_more laws w h cell there)))
 
   -- So it stands over each cell.
   to_west : (k i j : ℕ) → i < w → j < h → At mesh w h cell k (cell i j) → At mesh w h cell k (cell 0 j)
@@ -331,7 +326,8 @@ module _ (mesh : HalfEdges) (laws : IsQuadManifold mesh) (cut : Cut) (full : IsC
   no_quarter i j li lj at =
       let two = carry 1 i j at.a at.b li lj at.a_low at.b_low at in
       no_half_turn i j li lj (record {
-        a = two.a;
+        a =
+            two.a;
         b = two.b;
         a_low = two.a_low;
         b_low = two.b_low;
@@ -341,7 +337,7 @@ module _ (mesh : HalfEdges) (laws : IsQuadManifold mesh) (cut : Cut) (full : IsC
   no_three : (i j : ℕ) → i < w → j < h → At mesh w h cell 3 (cell i j) → ⊥
   no_three i j li lj at =
       let two = carry 3 i j at.a at.b li lj at.a_low at.b_low at in
-      no_half_turn i j li lj (four_less mesh laws w h cell 2 (cell i j) (record {
+      no_half_turn i j li lj (four_less laws w h cell 2 {x = cell i j} (record {
         a = two.a;
         b = two.b;
         a_low = two.a_low;

@@ -87,16 +87,16 @@ module _ (mesh : HalfEdges) (laws : IsQuadManifold mesh) (cut : Cut) (full : IsC
       by_row r (inr none) = absurd (endless_north d corner.0 corner.1 (λ j l. none j (omega arith)))
 
   -- The rows of what has grown.
-  pub row_at : (d w h : ℕ) → IsGrown mesh cut d w h → (j : ℕ) → j < h → IsRow mesh cut (norths mesh d j) w
-  row_at d w h g zero l = g.row
-  row_at d w h g (suc j) l = next_row mesh laws cut full (norths mesh d j) w (row_at d w h g j (omega arith))
+  pub row_at : {d w h : ℕ} → IsGrown mesh cut d w h → (j : ℕ) → j < h → IsRow mesh cut (norths mesh d j) w
+  row_at g zero l = g.row
+  row_at {d} {w} {h} g (suc j) l = next_row mesh laws cut full (norths mesh d j) w (row_at g j (omega arith))
       (g.inside j l)
 
-  west_at : (d w h : ℕ) → IsGrown mesh cut d w h → cut (mesh.prev d) ≡ true → (j : ℕ) → j < h
+  west_at : {d w h : ℕ} → IsGrown mesh cut d w h → cut (mesh.prev d) ≡ true → (j : ℕ) → j < h
       → cut (mesh.prev (norths mesh d j)) ≡ true
-  west_at d w h g on zero l = on
-  west_at d w h g on (suc j) l = west_on mesh laws cut full (norths mesh d j) (row_at d w h g j (omega arith)).low
-      (west_at d w h g on j (omega arith)) (g.inside j l)
+  west_at g on zero l = on
+  west_at {d} {w} {h} g on (suc j) l = west_on mesh laws cut full (norths mesh d j) (row_at g j (omega arith)).low
+      (west_at g on j (omega arith)) (g.inside j l)
 
   -- What has grown from a corner is a grid.
   pub grown_grid : (d w h : ℕ) → IsCorner mesh cut d → IsGrown mesh cut d w h → IsGrid mesh cut w h (grown mesh d)
@@ -107,21 +107,19 @@ module _ (mesh : HalfEdges) (laws : IsQuadManifold mesh) (cut : Cut) (full : IsC
     east = λ i j li lj. east_twin mesh laws cut full (grown mesh d i j) (row_low mesh laws cut full (norths mesh d j) w
         (row j lj) i (omega arith)) ((row j lj).inside i li);
     north = λ i j li lj. north_twin mesh laws cut full (grown mesh d i j) (row_low mesh laws cut full (norths mesh d j)
-        w (row j (omega arith)) i li) (row_north_off mesh laws cut full (norths mesh d j) w (row j (omega arith))
+        w (row j (omega arith)) i li) (row_north_off mesh laws cut full (row j (omega arith))
         (g.inside j lj) i li) ∙ ap Some
-        (sym (row_above mesh laws cut full (norths mesh d j) w (row j (omega arith)) (g.inside j lj) i li));
+        (sym (row_above mesh laws cut full (row j (omega arith)) (g.inside j lj) i li));
     east_open = λ i j li lj. (row j lj).inside i li;
-    north_open = λ i j li lj. row_north_off mesh laws cut full (norths mesh d j) w (row j (omega arith)) (g.inside j lj)
-        i li;
+    north_open = λ i j li lj. row_north_off mesh laws cut full (row j (omega arith)) (g.inside j lj) i li;
     south_shut = λ i li. row_south mesh laws cut full d w g.row corner.1 i li;
-    west_shut = λ j lj. west_at d w h g corner.2 j lj;
+    west_shut = λ j lj. west_at g corner.2 j lj;
     east_shut = λ i j e lj. (row j lj).ends i e;
-    north_shut = λ i j li e. row_north_on mesh laws cut full (norths mesh d j) w (row j (omega arith)) (g.ends j e) i
-        li;
+    north_shut = λ i j li e. row_north_on mesh laws cut full (row j (omega arith)) (g.ends j e) i li;
   }
     where
       row : (j : ℕ) → j < h → IsRow mesh cut (norths mesh d j) w
-      row j l = row_at d w h g j l
+      row j l = row_at g j l
 
   pub grow : (d : ℕ) → IsCorner mesh cut d → (w : ℕ) × (h : ℕ) × IsGrown mesh cut d w h
   grow d corner = grown_there d corner

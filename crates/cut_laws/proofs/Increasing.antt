@@ -6,9 +6,9 @@ use Rattle.std.proofs.lemmas.Bool.{cases_eq, cases_order}
 pub record AreIncreasing (a : ℕ → ℕ) (n : ℕ) : Type 0 where
   pub step : (k : ℕ) → suc k < n → a k < a (suc k)
 
-pub increasing_less : (a : ℕ → ℕ) (n : ℕ) → AreIncreasing a n → (j k : ℕ) → j < k → k < n → a j < a k
-increasing_less a n r j zero l h = absurd (omega arith)
-increasing_less a n r j (suc k) l h = by_last (cases_eq j k) (increasing_less a n r j k)
+pub increasing_less : {a : ℕ → ℕ} {n : ℕ} → AreIncreasing a n → (j k : ℕ) → j < k → k < n → a j < a k
+increasing_less r j zero l h = absurd (omega arith)
+increasing_less {a} {n} r j (suc k) l h = by_last (cases_eq j k) (increasing_less r j k)
   where
     by_last : (j ≡ k) ⊎ (j ≡ k → ⊥) → (j < k → k < n → a j < a k) → a j < a (suc k)
     by_last (inl e) rest = let here : a j ≡ a k = ap a e in let next : a k < a (suc k) = r.step k h in omega arith
@@ -20,8 +20,8 @@ increasing_place a n r j k lj lk e = by_order (cases_order j k)
   where
     by_order : (j ≡ k) ⊎ ((j < k) ⊎ (k < j)) → j ≡ k
     by_order (inl s) = s
-    by_order (inr (inl l)) = absurd (let less : a j < a k = increasing_less a n r j k l lk in omega arith)
-    by_order (inr (inr l)) = absurd (let less : a k < a j = increasing_less a n r k j l lj in omega arith)
+    by_order (inr (inl l)) = absurd (let less : a j < a k = increasing_less r j k l lk in omega arith)
+    by_order (inr (inr l)) = absurd (let less : a k < a j = increasing_less r k j l lj in omega arith)
 
 module _ (a b : ℕ → ℕ) (n m : ℕ) (ra : AreIncreasing a n) (rb : AreIncreasing b m) (there : (k : ℕ) → k < n
     → (j : ℕ) × (j < m) × (a k ≡ b j)) (back : (k : ℕ) → k < m → (j : ℕ) × (j < n) × (b k ≡ a j)) where
@@ -33,7 +33,7 @@ module _ (a b : ℕ → ℕ) (n m : ℕ) (ra : AreIncreasing a n) (rb : AreIncre
       by_order (inl s) = let here : b j ≡ b k = ap b s in omega arith
       by_order (inr (inl l)) =
           absurd (let place : j ≡ k = increasing_place a n ra j k (omega arith) ln (same j l ∙ sym e) in omega arith)
-      by_order (inr (inr l)) = let less : b k < b j = increasing_less b m rb k j l lj in omega arith
+      by_order (inr (inr l)) = let less : b k < b j = increasing_less rb k j l lj in omega arith
 
   not_above : (k : ℕ) → k < n → k < m → ((i : ℕ) → i < k → a i ≡ b i) → (j : ℕ) → j < n → b k ≡ a j → a k ≤ b k
   not_above k ln lm same j lj e = by_order (cases_order j k)
@@ -43,7 +43,7 @@ module _ (a b : ℕ → ℕ) (n m : ℕ) (ra : AreIncreasing a n) (rb : AreIncre
       by_order (inr (inl l)) =
           absurd (let place : j ≡ k = increasing_place b m rb j k (omega arith) lm (sym (same j l) ∙ sym e) in
           omega arith)
-      by_order (inr (inr l)) = let less : a k < a j = increasing_less a n ra k j l lj in omega arith
+      by_order (inr (inr l)) = let less : a k < a j = increasing_less ra k j l lj in omega arith
 
   same_below : (k : ℕ) → k ≤ n → k ≤ m → (i : ℕ) → i < k → a i ≡ b i
   same_below zero ln lm i l = absurd (omega arith)

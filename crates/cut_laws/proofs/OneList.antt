@@ -55,8 +55,7 @@ module _ (mesh : HalfEdges) (laws : IsQuadManifold mesh) (cut : Cut) (full : IsC
       → p < length ps → q < length qs → LiesInPatch mesh (patch_at ps p) x → LiesInPatch mesh (patch_at qs q) x
       → patch_at ps p ≡ patch_at qs q
   shared ps qs a b p q x lp lq ip iq = same_rectangle (patch_at ps p) (patch_at qs q) (a.patch p lp).grid.wide
-      (a.sized p lp) (b.sized q lq) (one_patch mesh laws cut full (patch_at ps p).w (patch_at ps p).h (patch_at qs q).w
-      (patch_at qs q).h (cell_of (patch_at ps p)) (cell_of (patch_at qs q)) (a.patch p lp) (b.patch q lq) x ip iq)
+      (a.sized p lp) (b.sized q lq) (one_patch mesh laws cut full (a.patch p lp) (b.patch q lq) x ip iq)
 
   -- So in one list they stand at one place,
   pub same_place : (ps : List Rectangle) → AreTiles mesh cut face ps → (p q x : ℕ) → p < length ps → q < length ps
@@ -104,21 +103,20 @@ module _ (mesh : HalfEdges) (laws : IsQuadManifold mesh) (cut : Cut) (full : IsC
   pub one_list : (ps qs : List Rectangle) → IsPartition mesh cut face ps → IsPartition mesh cut face qs → ps ≡ qs
   one_list ps qs a b = ext_get_or (record { w = 0; h = 0; cells = [] }) ps qs many each
     where
-      least_there : (ps qs : List Rectangle) → IsPartition mesh cut face ps → IsPartition mesh cut face qs → (p : ℕ)
+      least_there : {ps qs : List Rectangle} → IsPartition mesh cut face ps → IsPartition mesh cut face qs → (p : ℕ)
           → p < length ps → (q : ℕ) × (q < length qs) × (least_at face ps p ≡ least_at face qs q)
-      least_there ps qs a b p l = let f : (q : ℕ) × (q < length qs) × (patch_at ps p ≡ patch_at qs q) =
+      least_there {ps} {qs} a b p l = let f : (q : ℕ) × (q < length qs) × (patch_at ps p ≡ patch_at qs q) =
           found ps qs a b p l in (f.0, f.1, ap (λ (r : Rectangle). least_of (map face r.cells)) f.2)
 
       many : length ps ≡ length qs
       many = same_many (least_at face ps) (least_at face qs) (length ps) (length qs) (record { step = a.ordered })
-          (record { step = b.ordered }) (least_there ps qs a b) (least_there qs ps b a)
+          (record { step = b.ordered }) (least_there a b) (least_there b a)
 
       each : (p : ℕ) → p < length ps → patch_at ps p ≡ patch_at qs p
       each p l =
           let f = found ps qs a b p l in
-          let values =
-          same_values (least_at face ps) (least_at face qs) (length ps) (length qs) (record { step = a.ordered })
-          (record { step = b.ordered }) (least_there ps qs a b) (least_there qs ps b a) p l in
+          let values = same_values (least_at face ps) (least_at face qs) (length ps) (length qs)
+          (record { step = a.ordered }) (record { step = b.ordered }) (least_there a b) (least_there b a) p l in
           let place = increasing_place (least_at face qs) (length qs) (record { step = b.ordered }) f.0 p f.1
           (omega (arith, many)) (sym (ap (λ (r : Rectangle). least_of (map face r.cells)) f.2) ∙ values) in
           f.2 ∙ ap (patch_at qs) place

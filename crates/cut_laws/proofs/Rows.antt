@@ -53,8 +53,8 @@ module _ (mesh : HalfEdges) (laws : IsQuadManifold mesh) (cut : Cut) (full : IsC
       (laws.next_low (mesh.next d) (laws.next_low d l)) (north_twin d l off) ∙ off
 
   -- Two neighbouring edges at a vertex that are not cut: then the next one is not cut either, one way round ..
-  open_turn : (d e : ℕ) → d < mesh.count → IsOpen mesh cut d → mesh.twin (mesh.prev d) ≡ Some e → IsOpen mesh cut e
-  open_turn d e l free t = (
+  open_turn : {d e : ℕ} → d < mesh.count → IsOpen mesh cut d → mesh.twin (mesh.prev d) ≡ Some e → IsOpen mesh cut e
+  open_turn {d} {e} l free t = (
     here,
     false_from_ne_true (cut (mesh.prev e))
         (λ on. by_gap (full.gaps (mesh.prev e) (laws.prev_low e (turn_low mesh laws d e l t)) on)),
@@ -80,38 +80,38 @@ module _ (mesh : HalfEdges) (laws : IsQuadManifold mesh) (cut : Cut) (full : IsC
   turns d zero = d
   turns d (suc n) = turn (turns d n)
 
-  turn_is : (d : ℕ) → d < mesh.count → IsOpen mesh cut d → mesh.twin (mesh.prev d) ≡ Some (turn d)
+  turn_is : {d : ℕ} → d < mesh.count → IsOpen mesh cut d → mesh.twin (mesh.prev d) ≡ Some (turn d)
   unfolding turn
-  turn_is d l free = let t : (t : ℕ) × (mesh.twin (mesh.prev d) ≡ Some t) =
+  turn_is {d} l free = let t : (t : ℕ) × (mesh.twin (mesh.prev d) ≡ Some t) =
       twin_there (mesh.prev d) (laws.prev_low d l) free.1 in t.1 ∙ ap Some (ap or_zero (sym t.1))
 
-  turns_open : (d : ℕ) → d < mesh.count → IsOpen mesh cut d → (n : ℕ) → (turns d n < mesh.count)
+  turns_open : {d : ℕ} → d < mesh.count → IsOpen mesh cut d → (n : ℕ) → (turns d n < mesh.count)
       × IsOpen mesh cut (turns d n)
   unfolding turns
-  turns_open d l free zero = (l, free)
-  turns_open d l free (suc n) =
+  turns_open l free zero = (l, free)
+  turns_open {d} l free (suc n) =
       let x = turns d n in
-      let o = turns_open d l free n in
-      let is : mesh.twin (mesh.prev x) ≡ Some (turn x) = turn_is x o.0 o.1 in
-      let free : IsOpen mesh cut (turn x) = open_turn x (turn x) o.0 o.1 is in
+      let o = turns_open l free n in
+      let is : mesh.twin (mesh.prev x) ≡ Some (turn x) = turn_is o.0 o.1 in
+      let free : IsOpen mesh cut (turn x) = open_turn o.0 o.1 is in
       (turn_low mesh laws x (turn x) o.0 is, free)
 
   open_back : (d e : ℕ) → d < mesh.count → e < mesh.count → IsOpen mesh cut d → mesh.twin (mesh.prev e) ≡ Some d
       → IsOpen mesh cut e
   unfolding turns
   open_back d e ld le free t =
-      let r = comes_back mesh.count (turns d) (λ k l. (turns_open d ld free k).0) (λ i j li lj. apart i j) in
-      let o : (turns d r.0 < mesh.count) × IsOpen mesh cut (turns d r.0) = turns_open d ld free r.0 in
-      let same : turns d r.0 ≡ e = turn_same mesh laws (turns d r.0) e d o.0 le (is r.0 ∙ ap Some r.2) t in
+      let r = comes_back mesh.count (turns d) (λ k l. (turns_open ld free k).0) (λ i j li lj. apart i j) in
+      let o : (turns d r.0 < mesh.count) × IsOpen mesh cut (turns d r.0) = turns_open ld free r.0 in
+      let same : turns d r.0 ≡ e = turn_same mesh laws (turns d r.0) e o.0 le (is r.0 ∙ ap Some r.2) t in
       rw same at o.1
     where
       is : (k : ℕ) → mesh.twin (mesh.prev (turns d k)) ≡ Some (turns d (suc k))
-      is k = let o : (turns d k < mesh.count) × IsOpen mesh cut (turns d k) = turns_open d ld free k in
-          turn_is (turns d k) o.0 o.1
+      is k = let o : (turns d k < mesh.count) × IsOpen mesh cut (turns d k) = turns_open ld free k in
+          turn_is o.0 o.1
 
       apart : (i j : ℕ) → turns d (suc i) ≡ turns d (suc j) → turns d i ≡ turns d j
-      apart i j s = turn_same mesh laws (turns d i) (turns d j) (turns d (suc i)) (turns_open d ld free i).0
-          (turns_open d ld free j).0 (is i) (is j ∙ ap Some (sym s))
+      apart i j s = turn_same mesh laws (turns d i) (turns d j) (turns_open ld free i).0
+          (turns_open ld free j).0 (is i) (is j ∙ ap Some (sym s))
 
   -- Two neighbouring edges that are not cut: no edge at the vertex is cut.
   pub no_cut : (d : ℕ) → d < mesh.count → IsOpen mesh cut d → (e : ℕ) → e < mesh.count → mesh.from e ≡ mesh.from d
@@ -122,7 +122,7 @@ module _ (mesh : HalfEdges) (laws : IsQuadManifold mesh) (cut : Cut) (full : IsC
       along zero x t = subst (λ (y : ℕ). (y < mesh.count) × (IsOpen mesh cut y)) t (l, free)
       along (suc n) x t =
           let o = along n t.0 t.1 in
-          elim t.3 [ inl r ↦ (t.2, open_turn t.0 x o.0 o.1 r) | inr r ↦ (t.2, open_back t.0 x o.0 t.2 o.1 r) ]
+          elim t.3 [ inl r ↦ (t.2, open_turn o.0 o.1 r) | inr r ↦ (t.2, open_back t.0 x o.0 t.2 o.1 r) ]
 
   pub cross_at : (d : ℕ) → d < mesh.count → IsOpen mesh cut d → HasCross mesh d
   cross_at d l free = full.crossed d l (λ e le s. let o : IsOpen mesh cut e = no_cut d l free e le s in (o.0, o.1))
@@ -218,37 +218,37 @@ module _ (mesh : HalfEdges) (laws : IsQuadManifold mesh) (cut : Cut) (full : IsC
       (row_south s w row on i (omega arith)) (row.inside i l)
 
   -- Its north edges are cut or not together.
-  pub row_north_on : (s w : ℕ) → IsRow mesh cut s w → cut (mesh.next (mesh.next s)) ≡ true → (i : ℕ) → i < w
+  pub row_north_on : {s w : ℕ} → IsRow mesh cut s w → cut (mesh.next (mesh.next s)) ≡ true → (i : ℕ) → i < w
       → cut (mesh.next (mesh.next (easts mesh s i))) ≡ true
-  row_north_on s w row on zero l = on
-  row_north_on s w row on (suc i) l = north_on (easts mesh s i) (row_low s w row i (omega arith)) (row.inside i l)
-      (row_north_on s w row on i (omega arith))
+  row_north_on row on zero l = on
+  row_north_on {s} {w} row on (suc i) l = north_on (easts mesh s i) (row_low s w row i (omega arith)) (row.inside i l)
+      (row_north_on row on i (omega arith))
 
-  pub row_north_off : (s w : ℕ) → IsRow mesh cut s w → cut (mesh.next (mesh.next s)) ≡ false → (i : ℕ) → i < w
+  pub row_north_off : {s w : ℕ} → IsRow mesh cut s w → cut (mesh.next (mesh.next s)) ≡ false → (i : ℕ) → i < w
       → cut (mesh.next (mesh.next (easts mesh s i))) ≡ false
-  row_north_off s w row off zero l = off
-  row_north_off s w row off (suc i) l = north_off (easts mesh s i) (row_low s w row i (omega arith)) (row.inside i l)
-      (row_north_off s w row off i (omega arith))
+  row_north_off row off zero l = off
+  row_north_off {s} {w} row off (suc i) l = north_off (easts mesh s i) (row_low s w row i (omega arith))
+      (row.inside i l) (row_north_off row off i (omega arith))
 
   -- The cells over a row are a row of the same width.
-  pub row_above : (s w : ℕ) → IsRow mesh cut s w → cut (mesh.next (mesh.next s)) ≡ false → (i : ℕ) → i < w
+  pub row_above : {s w : ℕ} → IsRow mesh cut s w → cut (mesh.next (mesh.next s)) ≡ false → (i : ℕ) → i < w
       → easts mesh (step_north mesh s) i ≡ step_north mesh (easts mesh s i)
-  row_above s w row off zero l = refl
-  row_above s w row off (suc i) l = ap (step_east mesh) (row_above s w row off i (omega arith))
+  row_above row off zero l = refl
+  row_above {s} {w} row off (suc i) l = ap (step_east mesh) (row_above row off i (omega arith))
       ∙ (square (easts mesh s i) (row_low s w row i (omega arith)) (row.inside i l)
-      (row_north_off s w row off i (omega arith))).1
+      (row_north_off row off i (omega arith))).1
 
   pub next_row : (s w : ℕ) → IsRow mesh cut s w → cut (mesh.next (mesh.next s)) ≡ false
       → IsRow mesh cut (step_north mesh s) w
   next_row s w row off = record {
     wide = row.wide;
     low = north_low s row.low off;
-    inside = λ i l. ap (λ x. cut (mesh.next x)) (row_above s w row off i (omega arith))
+    inside = λ i l. ap (λ x. cut (mesh.next x)) (row_above row off i (omega arith))
         ∙ (square (easts mesh s i) (row_low s w row i (omega arith)) (row.inside i l)
-        (row_north_off s w row off i (omega arith))).0;
-    ends = λ i e. ap (λ x. cut (mesh.next x)) (row_above s w row off i (omega arith))
+        (row_north_off row off i (omega arith))).0;
+    ends = λ i e. ap (λ x. cut (mesh.next x)) (row_above row off i (omega arith))
         ∙ east_on (easts mesh s i) (row_low s w row i (omega arith)) (row.ends i e)
-        (row_north_off s w row off i (omega arith));
+        (row_north_off row off i (omega arith));
   }
 
   -- A row whose west edge is cut ends.
