@@ -9,7 +9,8 @@ use Rattle.def_layout.specs.Surfaces.{IsSurface, IsOtherSlot}
 use Rattle.def_layout.specs.Lengths.{Lengths, wide, high, AreLengths}
 use Rattle.def_layout.specs.Cells.{CellDart, IsDart, dart, next, slot_dart}
 use Rattle.def_written.specs.{Numbers.vertex_number, NewFaces.column, NewFaces.row, NewFaces.dart_start}
-use Rattle.def_written.specs.{NewFaces.dart_end, NewFaces.new_faces, Edges.on_arc, Edges.flat, Edges.steep}
+use Rattle.def_written.specs.{NewFaces.dart_end, NewFaces.new_faces, Edges.Edge, Edges.on_arc, Edges.flat}
+use Rattle.def_written.specs.Edges.{steep}
 use Rattle.mesh_laws.proofs.Twins.{twin_found, twin_is, twin_none}
 use Rattle.written_laws.proofs.Numbers.{number_same}
 use Rattle.written_laws.proofs.Borders.{from_is, at_is, other_long}
@@ -20,13 +21,13 @@ use Rattle.written_laws.proofs.Courses.{course_from, course_to, inner_no_arc}
 use Rattle.written_laws.proofs.Simple.{IsSimple, reversed}
 use Rattle.written_laws.proofs.Manifold.{edges_once}
 
-module _ (l : Layout) (x : Lengths) (laid : IsSurface l) (len : AreLengths l x) where
+module _ {l : Layout} {x : Lengths} (laid : IsSurface l) (len : AreLengths l x) where
   -- The dart over an arc that stands twice.
   pub across_border : (w v : Slot) (o : ℕ) → IsSlot l w → IsOtherSlot l w v → o < x (use_of l w).arc
       → IsAcross l x laid len (slot_dart l x w o) (slot_dart l x v (x (use_of l w).arc - 1 - o))
   across_border w v o is other less = record {
     is_dart = at_is l x laid.paved len v k other.0 low;
-    edge = ap (λ (c : Course). c.edge) there ∙ edges (use_of l w).forward (use_of l v).forward other.1.turned
+    edge = ap (λ (c : Course). c.edge) there ∙ edges (use_of l w).forward other.1.turned
         ∙ sym (ap (λ (c : Course). c.edge) here);
     turned = ap (λ (c : Course). c.ahead) there ∙ other.1.turned ∙ sym (ap (λ (c : Course). not c.ahead) here);
   }
@@ -44,14 +45,15 @@ module _ (l : Layout) (x : Lengths) (laid : IsSurface l) (len : AreLengths l x) 
       here : course_of l x (slot_dart l x w o) ≡ use_course l x (use_of l w) o
       here = at_course l x laid len w o is less
 
-      edges : (f g : Bool) → g ≡ not f → on_arc (use_of l v).arc
-          (cond g (x (use_of l w).arc - 1 - o) (x (use_of l v).arc - 1 - (x (use_of l w).arc - 1 - o))) ≡ on_arc
-          (use_of l w).arc (cond f o (x (use_of l w).arc - 1 - o))
-      edges true g e =
+      edges : (f : Bool) {g : Bool} → g ≡ not f
+          → on_arc (use_of l v).arc (cond g (x (use_of l w).arc - 1 - o)
+          (x (use_of l v).arc - 1 - (x (use_of l w).arc - 1 - o))) ≡ on_arc (use_of l w).arc
+          (cond f o (x (use_of l w).arc - 1 - o))
+      edges true e =
           let p : x (use_of l v).arc - 1 - (x (use_of l w).arc - 1 - o) ≡ o =
           omega (arith, other_long l x laid len w v other) in
           (λ t. on_arc (other.1.arc t) (cond (e t) (x (use_of l w).arc - 1 - o) (p t)))
-      edges false g e = λ t. on_arc (other.1.arc t)
+      edges false e = λ t. on_arc (other.1.arc t)
           (cond (e t) (x (use_of l w).arc - 1 - o) (x (other.1.arc t) - 1 - (x (use_of l w).arc - 1 - o)))
 
   -- The dart over an edge inside a patch leaves the grid point where the other one ends.
@@ -59,66 +61,46 @@ module _ (l : Layout) (x : Lengths) (laid : IsSurface l) (len : AreLengths l x) 
       × (column e.i e.way ≡ column d.i (side_after d.way)) × (row e.j e.way ≡ row d.j (side_after d.way))
   across_within d i = by_way d.patch d.i d.j d.way i
     where
+      -- A dart with the course the other way round.
+      beside : {d e : CellDart} {g : Edge} {b : Bool} → IsDart l x e → course_of l x d ≡ course g b
+          → course_of l x e ≡ course g (not b) → IsAcross l x laid len d e
+      beside is from to = record {
+        is_dart = is;
+        edge = ap (λ (k : Course). k.edge) (to ∙ sym (ap (λ (k : Course). course k.edge (not k.ahead)) from));
+        turned = ap (λ (k : Course). k.ahead) (to ∙ sym (ap (λ (k : Course). course k.edge (not k.ahead)) from));
+      }
+
       by_way : (p i j : ℕ) (w : Way) → IsWithin l x (dart p i j w) → (e : CellDart)
           × IsAcross l x laid len (dart p i j w) e
           × (e.patch ≡ p) × (column e.i e.way ≡ column i (side_after w)) × (row e.j e.way ≡ row j (side_after w))
       by_way p i j south h =
+          let same : j - 1 + 1 ≡ j = omega (arith, h.is_edge.2) in
+          let at : IsDart l x (dart p i (j - 1) north) =
+          record { patch_low = h.is_edge.0; i_low = h.is_edge.1; j_low = omega (arith, h.is_edge.3) } in
           let c : course_of l x (dart p i (j - 1) north) ≡ inner_course p i (j - 1) north =
           cond-false (j - 1 + 1 == high l x p) _ _
           (ne_eqb (j - 1 + 1) (high l x p) (λ e. omega (arith, h.is_edge.2, h.is_edge.3))) in
-          let same : j - 1 + 1 ≡ j = omega (arith, h.is_edge.2) in (
-            dart p i (j - 1) north,
-            record {
-              is_dart = record { patch_low = h.is_edge.0; i_low = h.is_edge.1; j_low = omega (arith, h.is_edge.3) };
-              edge = ap (λ (k : Course). k.edge) c ∙ ap (flat p i) same ∙ sym (ap (λ (k : Course). k.edge) h.course);
-              turned = ap (λ (k : Course). k.ahead) c ∙ sym (ap (λ (k : Course). not k.ahead) h.course);
-            },
-            refl,
-            refl,
-            same,
-          )
+          (dart p i (j - 1) north, beside at h.course (c ∙ ap (λ n. course (flat p i n) false) same), refl, refl, same)
       by_way p i j east h =
+          let at : IsDart l x (dart p (i + 1) j west) =
+          record { patch_low = h.is_edge.0; i_low = h.is_edge.2; j_low = h.is_edge.3 } in
           let c : course_of l x (dart p (i + 1) j west) ≡ inner_course p (i + 1) j west =
-          cond-false (i + 1 == 0) _ _ (ne_eqb (i + 1) 0 (λ e. omega arith)) in (
-            dart p (i + 1) j west,
-            record {
-              is_dart = record { patch_low = h.is_edge.0; i_low = h.is_edge.2; j_low = h.is_edge.3 };
-              edge = ap (λ (k : Course). k.edge) c ∙ sym (ap (λ (k : Course). k.edge) h.course);
-              turned = ap (λ (k : Course). k.ahead) c ∙ sym (ap (λ (k : Course). not k.ahead) h.course);
-            },
-            refl,
-            refl,
-            refl,
-          )
+          cond-false (i + 1 == 0) _ _ (ne_eqb (i + 1) 0 (λ e. omega arith)) in
+          (dart p (i + 1) j west, beside at h.course c, refl, refl, refl)
       by_way p i j north h =
+          let at : IsDart l x (dart p i (j + 1) south) =
+          record { patch_low = h.is_edge.0; i_low = h.is_edge.1; j_low = h.is_edge.3 } in
           let c : course_of l x (dart p i (j + 1) south) ≡ inner_course p i (j + 1) south =
-          cond-false (j + 1 == 0) _ _ (ne_eqb (j + 1) 0 (λ e. omega arith)) in (
-            dart p i (j + 1) south,
-            record {
-              is_dart = record { patch_low = h.is_edge.0; i_low = h.is_edge.1; j_low = h.is_edge.3 };
-              edge = ap (λ (k : Course). k.edge) c ∙ sym (ap (λ (k : Course). k.edge) h.course);
-              turned = ap (λ (k : Course). k.ahead) c ∙ sym (ap (λ (k : Course). not k.ahead) h.course);
-            },
-            refl,
-            refl,
-            refl,
-          )
+          cond-false (j + 1 == 0) _ _ (ne_eqb (j + 1) 0 (λ e. omega arith)) in
+          (dart p i (j + 1) south, beside at h.course c, refl, refl, refl)
       by_way p i j west h =
+          let same : i - 1 + 1 ≡ i = omega (arith, h.is_edge.1) in
+          let at : IsDart l x (dart p (i - 1) j east) =
+          record { patch_low = h.is_edge.0; i_low = omega (arith, h.is_edge.2); j_low = h.is_edge.3 } in
           let c : course_of l x (dart p (i - 1) j east) ≡ inner_course p (i - 1) j east =
           cond-false (i - 1 + 1 == wide l x p) _ _
           (ne_eqb (i - 1 + 1) (wide l x p) (λ e. omega (arith, h.is_edge.1, h.is_edge.2))) in
-          let same : i - 1 + 1 ≡ i = omega (arith, h.is_edge.1) in (
-            dart p (i - 1) j east,
-            record {
-              is_dart = record { patch_low = h.is_edge.0; i_low = omega (arith, h.is_edge.2); j_low = h.is_edge.3 };
-              edge = ap (λ (k : Course). k.edge) c ∙ ap (λ (n : ℕ). steep p n j) same
-                  ∙ sym (ap (λ (k : Course). k.edge) h.course);
-              turned = ap (λ (k : Course). k.ahead) c ∙ sym (ap (λ (k : Course). not k.ahead) h.course);
-            },
-            refl,
-            same,
-            refl,
-          )
+          (dart p (i - 1) j east, beside at h.course (c ∙ ap (λ n. course (steep p n j) true) same), refl, same, refl)
 
   -- A dart on an arc that no slot uses the other way round.
   pub record IsAlone (d : CellDart) (w : Slot) (o : ℕ) : Type 0 where
@@ -127,7 +109,7 @@ module _ (l : Layout) (x : Lengths) (laid : IsSurface l) (len : AreLengths l x) 
 
   pub across_or_alone : (d : CellDart) → IsDart l x d
       → ((e : CellDart) × IsAcross l x laid len d e) ⊎ ((w : Slot) × (o : ℕ) × IsAlone d w o)
-  across_or_alone d is = elim (sees l x laid len d is) [
+  across_or_alone d is = elim (sees l x laid len is) [
     | inl i ↦ inl ((across_within d i).0, (across_within d i).1)
     | inr b ↦ elim (laid.other b.0 b.2.is_slot) [
       | inl v ↦ inl (
@@ -139,8 +121,8 @@ module _ (l : Layout) (x : Lengths) (laid : IsSurface l) (len : AreLengths l x) 
   ]
 
   -- No dart runs the other way along such an arc.
-  pub alone_not_across : (d e : CellDart) (w : Slot) (o : ℕ) → IsAlone d w o → ¬ IsAcross l x laid len d e
-  alone_not_across d e w o alone across = elim (sees l x laid len e across.is_dart) [
+  pub alone_not_across : {d : CellDart} (e : CellDart) {w : Slot} {o : ℕ} → IsAlone d w o → ¬ IsAcross l x laid len d e
+  alone_not_across {d} e {w} {o} alone across = elim (sees l x laid len across.is_dart) [
     | inl i ↦ false≢true (sym (inner_no_arc l x laid len e.patch e.i e.j e.way)
         ∙ ap (λ (c : Course). is_arc c.edge) (sym i.course) ∙ ap is_arc across.edge
         ∙ ap (λ (c : Course). is_arc c.edge) here)
@@ -148,11 +130,11 @@ module _ (l : Layout) (x : Lengths) (laid : IsSurface l) (len : AreLengths l x) 
   ]
     where
       here : course_of l x d ≡ use_course l x (use_of l w) o
-      here = border_is l x laid len d w o alone.on_border
+      here = border_is l x laid len alone.on_border
 
       by_slot : (v : Slot) (k : ℕ) → IsOnBorder l x e v k → ⊥
       by_slot v k b =
-          let there : course_of l x e ≡ use_course l x (use_of l v) k = border_is l x laid len e v k b in
+          let there : course_of l x e ≡ use_course l x (use_of l v) k = border_is l x laid len b in
           let same = ap (λ (c : Course). c.edge) (sym there) ∙ across.edge ∙ ap (λ (c : Course). c.edge) here in
           let arcs : (use_of l v).arc ≡ (use_of l w).arc = cc in
           alone.alone v (
@@ -164,9 +146,9 @@ module _ (l : Layout) (x : Lengths) (laid : IsSurface l) (len : AreLengths l x) 
           )
 
   -- A dart across begins where the other one ends.
-  pub across_ends : (d e : CellDart) → IsDart l x d → IsAcross l x laid len d e → (dart_start l x e ≡ dart_end l x d)
+  pub across_ends : {d e : CellDart} → IsDart l x d → IsAcross l x laid len d e → (dart_start l x e ≡ dart_end l x d)
       × (dart_end l x e ≡ dart_start l x d)
-  across_ends d e is a = (
+  across_ends {d} {e} is a = (
     course_from l x laid len e a.is_dart ∙ (λ t. start_at l x (course (a.edge t) (a.turned t)))
         ∙ starts (course_of l x d).ahead ∙ sym (course_to l x laid len d is),
     course_to l x laid len e a.is_dart ∙ (λ t. end_at l x (course (a.edge t) (a.turned t)))
@@ -186,14 +168,14 @@ module _ (l : Layout) (x : Lengths) (laid : IsSurface l) (len : AreLengths l x) 
       → IsTwin (new_faces l x) (dart_number l x d) (dart_number l x e)
   across_is_twin d e is a = (
     dart_low l x e a.is_dart,
-    number_from l x e a.is_dart ∙ ap (vertex_number l x) (across_ends d e is a).0 ∙ sym (number_to l x d is),
-    number_to l x e a.is_dart ∙ ap (vertex_number l x) (across_ends d e is a).1 ∙ sym (number_from l x d is),
+    number_from l x e a.is_dart ∙ ap (vertex_number l x) (across_ends is a).0 ∙ sym (number_to l x d is),
+    number_to l x e a.is_dart ∙ ap (vertex_number l x) (across_ends is a).1 ∙ sym (number_from l x d is),
   )
 
   module _ (simple : IsSimple l x) where
     pub across_twin : (d e : CellDart) → IsDart l x d → IsAcross l x laid len d e
         → twin_of (new_faces l x) (dart_number l x d) ≡ Some (dart_number l x e)
-    across_twin d e is a = twin_found (new_faces l x) (edges_once l x laid len simple) (dart_number l x d)
+    across_twin d e is a = twin_found (new_faces l x) (edges_once laid len simple) (dart_number l x d)
         (dart_number l x e) (across_is_twin d e is a)
 
     pub twin_across : (d : CellDart) (n : ℕ) → IsDart l x d → twin_of (new_faces l x) (dart_number l x d) ≡ Some n
@@ -207,8 +189,8 @@ module _ (l : Layout) (x : Lengths) (laid : IsSurface l) (len : AreLengths l x) 
         let ends = number_same l x (dart_end l x a.0) (dart_start l x d)
         (from_is l x laid len (next a.0) (next_is l x a.0 a.1)) (from_is l x laid len d is)
         (sym (number_to l x a.0 a.1) ∙ ap (to_of (new_faces l x)) a.2 ∙ t.2 ∙ number_from l x d is) in
-        let r = reversed l x simple (course_of l x d) (course_of l x a.0) (course_is l x laid len d is)
-        (course_is l x laid len a.0 a.1) (sym (course_from l x laid len a.0 a.1) ∙ starts ∙ course_to l x laid len d is)
+        let r = reversed simple (course_of l x d) (course_of l x a.0) (course_is l x laid len is)
+        (course_is l x laid len a.1) (sym (course_from l x laid len a.0 a.1) ∙ starts ∙ course_to l x laid len d is)
         (sym (course_to l x laid len a.0 a.1) ∙ ends ∙ course_from l x laid len d is) in
         (a.0, record { is_dart = a.1; edge = r.0; turned = r.1 }, a.2)
 
@@ -219,5 +201,5 @@ module _ (l : Layout) (x : Lengths) (laid : IsSurface l) (len : AreLengths l x) 
         by_twin : (n : ℕ) → ¬ IsTwin (new_faces l x) (dart_number l x d) n
         by_twin n t =
             let a =
-            twin_across d n is (twin_found (new_faces l x) (edges_once l x laid len simple) (dart_number l x d) n t) in
-            alone_not_across d a.0 w o alone a.1
+            twin_across d n is (twin_found (new_faces l x) (edges_once laid len simple) (dart_number l x d) n t) in
+            alone_not_across a.0 alone a.1

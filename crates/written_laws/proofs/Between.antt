@@ -147,7 +147,7 @@ div_most n k d some le =
 pub rest_most : (n u : ℕ) → 0 < n → u ≤ ONE * n → rest_at n u ≤ ONE
 rest_most n u some le = omega (arith, le)
 
-module _ (l : Layout) (old new : Lengths) (spacing : ArcSpacing) (laid : IsSurface l) (o_len : AreLengths l old)
+module _ {l : Layout} {old new : Lengths} {spacing : ArcSpacing} (laid : IsSurface l) (o_len : AreLengths l old)
     (n_len : AreLengths l new) (spaced : IsSpacing l old new spacing) where
   arc_most : (a : ℕ) (forward : Bool) (k : ℕ) → a < l.arcs → k ≤ new a → spacing.parameter_of a forward k ≤ ONE * old a
   arc_most a forward k a_low le = elim (cases_eq k (new a)) [
@@ -265,4 +265,4 @@ module _ (l : Layout) (old new : Lengths) (spacing : ArcSpacing) (laid : IsSurfa
 
 pub between_law : BetweenLaw
 between_law l old new spacing at least greatest laid o_len n_len spaced bound =
-    place_within l old new spacing laid o_len n_len spaced at least greatest bound
+    place_within laid o_len n_len spaced at least greatest bound

@@ -42,13 +42,13 @@ module _ (l : Layout) (x : Lengths) where
 
   module _ (paved : HasWholeSides l) (len : AreLengths l x) where
     -- The border dart o after the beginning of a slot's arc.
-    pub at_low : (w : Slot) (o : ℕ) → IsSlot l w → o < x (use_of l w).arc
+    pub at_low : {w : Slot} (o : ℕ) → IsSlot l w → o < x (use_of l w).arc
         → reach l x w.patch w.side w.at + o < size l x w.patch w.side
-    at_low w o is less = omega (arith, reach_low l x w is)
+    at_low {w} o is less = omega (arith, reach_low l x w is)
 
     pub at_is : (w : Slot) (o : ℕ) → IsSlot l w → o < x (use_of l w).arc → IsDart l x (slot_dart l x w o)
-    at_is w o is less = rim_is l x paved len w.patch w.side (reach l x w.patch w.side w.at + o) is.patch_low
-        (at_low w o is less)
+    at_is w o is less = rim_is paved len w.patch w.side (reach l x w.patch w.side w.at + o) is.patch_low
+        (at_low o is less)
 
     -- The slot before another one.
     pub before_is : (w : Slot) → IsSlot l w → IsSlot l (slot_before l w.patch w.side w.at)
@@ -84,12 +84,12 @@ module _ (l : Layout) (x : Lengths) where
     pub at_from : (w : Slot) (o : ℕ) → IsSlot l w → o < x (use_of l w).arc
         → dart_start l x (slot_dart l x w o) ≡ use_point l x (use_of l w) o
     at_from w o is less = rim_from l x laid len w.patch w.side (reach l x w.patch w.side w.at + o) is.patch_low
-        (at_low laid.paved len w o is less) ∙ side_in l x w o is less
+        (at_low laid.paved len o is less) ∙ side_in l x o is less
 
     pub at_to : (w : Slot) (o : ℕ) → IsSlot l w → o < x (use_of l w).arc
         → dart_end l x (slot_dart l x w o) ≡ use_point l x (use_of l w) (o + 1)
     at_to w o is less = rim_to l x laid len w.patch w.side (reach l x w.patch w.side w.at + o) is.patch_low
-        (at_low laid.paved len w o is less) ∙ side_upto l x laid len w (o + 1) (reach l x w.patch w.side w.at + o + 1)
+        (at_low laid.paved len o is less) ∙ side_upto l x laid len w (o + 1) (reach l x w.patch w.side w.at + o + 1)
         is (omega arith) (omega arith)
 
     -- Over the border the dart runs the other way round.
@@ -123,10 +123,10 @@ module _ (l : Layout) (x : Lengths) where
 
     -- Each dart leaves an inner point of its patch, or a place of a slot's arc.
     pub sort_dart : (d : CellDart) → IsDart l x d
-        → IsInner l x laid.paved len d.patch (column_of d) (row_of d) ⊎ ((w : Slot) × (o : ℕ) × IsAt d w o)
-    sort_dart d is = elim (dart_on_rim l x laid.paved len d is) [ inl i ↦ inl i | inr b ↦ inr (on_border b.0 b.1 b.2) ]
+        → IsInner laid.paved len d.patch (column_of d) (row_of d) ⊎ ((w : Slot) × (o : ℕ) × IsAt d w o)
+    sort_dart d is = elim (dart_on_rim laid.paved len d is) [ inl i ↦ inl i | inr b ↦ inr (on_border b.0 b.1 b.2) ]
       where
-        on_border : (s : Way) (t : ℕ) → IsBorder l x laid.paved len d.patch (column_of d) (row_of d) s t → (w : Slot)
+        on_border : (s : Way) (t : ℕ) → IsBorder laid.paved len d.patch (column_of d) (row_of d) s t → (w : Slot)
             × (o : ℕ) × IsAt d w o
         on_border s t b =
             let on = place_on l x d.patch s t is.patch_low b.low in
@@ -141,12 +141,12 @@ module _ (l : Layout) (x : Lengths) where
                 row = b.row ∙ ap (side_row l x d.patch s) on.place;
                 leaves = (λ k. point l x d.patch (b.column k) (b.row k))
                     ∙ border_point l x laid len d.patch s t is.patch_low (omega (arith, b.low))
-                    ∙ ap (side_point l x d.patch s) on.place ∙ side_in l x w (offset_at l x d.patch s t) on.is_slot
+                    ∙ ap (side_point l x d.patch s) on.place ∙ side_in l x (offset_at l x d.patch s t) on.is_slot
                     on.inside;
               },
             )
 
-    pub inner_from : (d : CellDart) → IsInner l x laid.paved len d.patch (column_of d) (row_of d)
+    pub inner_from : (d : CellDart) → IsInner laid.paved len d.patch (column_of d) (row_of d)
         → dart_start l x d ≡ inside d.patch (column_of d) (row_of d)
     inner_from d i = point_inside l x laid len d.patch (column_of d) (row_of d) i.a_some i.a_low i.b_some i.b_low
 

@@ -94,8 +94,8 @@ module _ (l : Layout) (x : Lengths) where
           record { is_slot = on.is_slot; low = on.inside; dart = is ∙ ap (dart_along l x p s) on.place },
         )
 
-    pub sees : (d : CellDart) → IsDart l x d → IsWithin d ⊎ ((w : Slot) × (o : ℕ) × IsOnBorder d w o)
-    sees d is = by_way d.patch d.i d.j d.way is
+    pub sees : {d : CellDart} → IsDart l x d → IsWithin d ⊎ ((w : Slot) × (o : ℕ) × IsOnBorder d w o)
+    sees {d} is = by_way d.patch d.i d.j d.way is
       where
         by_way : (p i j : ℕ) (w : Way) → IsDart l x (dart p i j w) → IsWithin (dart p i j w)
             ⊎ ((v : Slot) × (o : ℕ) × IsOnBorder (dart p i j w) v o)
@@ -153,13 +153,13 @@ module _ (l : Layout) (x : Lengths) where
     at_course w o is less =
         let e : reach l x w.patch w.side w.at + o - reach l x w.patch w.side w.at ≡ o = omega arith in
         rim_course w.patch w.side (reach l x w.patch w.side w.at + o) is.patch_low
-        (at_low l x laid.paved len w o is less)
+        (at_low l x laid.paved len o is less)
         ∙ ap (λ m. use_course (l.use_at w.patch w.side m) (reach l x w.patch w.side w.at + o - reach l x w.patch w.side
         m)) (over_is l x w o is less)
         ∙ ap (use_course (use_of l w)) e
 
-    pub border_is : (d : CellDart) (w : Slot) (o : ℕ) → IsOnBorder d w o → course_of d ≡ use_course (use_of l w) o
-    border_is d w o b = ap course_of b.dart ∙ at_course w o b.is_slot b.low
+    pub border_is : {d : CellDart} {w : Slot} {o : ℕ} → IsOnBorder d w o → course_of d ≡ use_course (use_of l w) o
+    border_is {w} {o} b = ap course_of b.dart ∙ at_course w o b.is_slot b.low
 
     -- The courses of darts are those of edges.
     use_edge : (w : Slot) (o : ℕ) → IsSlot l w → o < x (use_of l w).arc → IsEdge l x (use_course (use_of l w) o).edge
@@ -168,10 +168,10 @@ module _ (l : Layout) (x : Lengths) where
         by_way : (a : ℕ) (b : Bool) → a < l.arcs → o < x a → IsEdge l x (on_arc a (cond b o (x a - 1 - o)))
         by_way a = elim [ true ↦ λ a_low o_low. (a_low, o_low) | false ↦ λ a_low o_low. (a_low, omega arith) ]
 
-    pub course_is : (d : CellDart) → IsDart l x d → IsEdge l x (course_of d).edge
-    course_is d is = elim (sees d is) [
+    pub course_is : {d : CellDart} → IsDart l x d → IsEdge l x (course_of d).edge
+    course_is {d} is = elim (sees is) [
       | inl i ↦ rw i.course i.is_edge
-      | inr b ↦ rw (border_is d b.0 b.1 b.2) (use_edge b.0 b.1 b.2.is_slot b.2.low)
+      | inr b ↦ rw (border_is b.2) (use_edge b.0 b.1 b.2.is_slot b.2.low)
     ]
 
     -- A dart begins and ends where its course does.
@@ -198,17 +198,17 @@ module _ (l : Layout) (x : Lengths) where
         by_way a false o_low = let e : x a - (o + 1) ≡ x a - 1 - o = omega arith in ap (arc_point l x a) e
 
     pub course_from : (d : CellDart) → IsDart l x d → dart_start l x d ≡ start_at (course_of d)
-    course_from d is = elim (sees d is) [
+    course_from d is = elim (sees is) [
       | inl i ↦ inner_from d.patch d.i d.j d.way ∙ ap start_at (sym i.course)
       | inr b ↦ ap (dart_start l x) b.2.dart ∙ at_from l x laid len b.0 b.1 b.2.is_slot b.2.low
-          ∙ use_from (use_of l b.0) b.1 b.2.low ∙ ap start_at (sym (border_is d b.0 b.1 b.2))
+          ∙ use_from (use_of l b.0) b.1 b.2.low ∙ ap start_at (sym (border_is b.2))
     ]
 
     pub course_to : (d : CellDart) → IsDart l x d → dart_end l x d ≡ end_at (course_of d)
-    course_to d is = elim (sees d is) [
+    course_to d is = elim (sees is) [
       | inl i ↦ inner_to d.patch d.i d.j d.way ∙ ap end_at (sym i.course)
       | inr b ↦ ap (dart_end l x) b.2.dart ∙ at_to l x laid len b.0 b.1 b.2.is_slot b.2.low
-          ∙ use_to (use_of l b.0) b.1 b.2.low ∙ ap end_at (sym (border_is d b.0 b.1 b.2))
+          ∙ use_to (use_of l b.0) b.1 b.2.low ∙ ap end_at (sym (border_is b.2))
     ]
 
     -- Darts with one course are one.
@@ -253,19 +253,19 @@ module _ (l : Layout) (x : Lengths) where
             ≡ cond b k (x (use_of l w).arc - 1 - k) → o ≡ k
         places = elim [ true ↦ λ e at. at | false ↦ λ e at. omega (arith, at, ap x arcs) ]
 
-    pub course_once : (d e : CellDart) → IsDart l x d → IsDart l x e → course_of d ≡ course_of e → d ≡ e
-    course_once d e is_d is_e same = elim (sees d is_d) [
-      | inl i ↦ elim (sees e is_e) [
+    pub course_once : {d e : CellDart} → IsDart l x d → IsDart l x e → course_of d ≡ course_of e → d ≡ e
+    course_once {d} {e} is_d is_e same = elim (sees is_d) [
+      | inl i ↦ elim (sees is_e) [
         | inl j ↦ sym (inner_back d.patch d.i d.j d.way) ∙ ap inner_dart (sym i.course ∙ same ∙ j.course)
             ∙ inner_back e.patch e.i e.j e.way
         | inr b ↦ absurd (false≢true (sym (inner_no_arc d.patch d.i d.j d.way)
-            ∙ ap (λ (c : Course). is_arc c.edge) (sym i.course ∙ same ∙ border_is e b.0 b.1 b.2)))
+            ∙ ap (λ (c : Course). is_arc c.edge) (sym i.course ∙ same ∙ border_is b.2)))
       ]
-      | inr a ↦ elim (sees e is_e) [
+      | inr a ↦ elim (sees is_e) [
         | inl j ↦ absurd (false≢true (sym (inner_no_arc e.patch e.i e.j e.way)
-            ∙ ap (λ (c : Course). is_arc c.edge) (sym j.course ∙ sym same ∙ border_is d a.0 a.1 a.2)))
+            ∙ ap (λ (c : Course). is_arc c.edge) (sym j.course ∙ sym same ∙ border_is a.2)))
         | inr b ↦ a.2.dart ∙ use_once a.0 b.0 a.1 b.1 a.2.is_slot b.2.is_slot a.2.low b.2.low
-            (sym (border_is d a.0 a.1 a.2) ∙ same ∙ border_is e b.0 b.1 b.2) ∙ sym b.2.dart
+            (sym (border_is a.2) ∙ same ∙ border_is b.2) ∙ sym b.2.dart
       ]
     ]
 

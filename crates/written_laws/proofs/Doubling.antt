@@ -90,7 +90,7 @@ module _ (l : Layout) (y : Lengths) where
       let e : 2 * t ≡ reach l (scale 2 y) p s (use_over l y p s t) + 2 * offset_at l y p s t =
       omega (arith, on.place, reach_scale 2 p s (use_over l y p s t)) in
       ap (side_point l (scale 2 y) p s) e
-      ∙ side_in l (scale 2 y) (slot p s (use_over l y p s t)) (2 * offset_at l y p s t) on.is_slot
+      ∙ side_in l (scale 2 y) (2 * offset_at l y p s t) on.is_slot
       (omega (arith, on.inside))
       ∙ use_double (l.use_at p s (use_over l y p s t)) (offset_at l y p s t) (omega (arith, on.inside))
 
@@ -101,7 +101,7 @@ module _ (l : Layout) (y : Lengths) where
       let e : 2 * t + 1 ≡ reach l (scale 2 y) p s (use_over l y p s t) + (2 * offset_at l y p s t + 1) =
       omega (arith, on.place, reach_scale 2 p s (use_over l y p s t)) in
       ap (side_point l (scale 2 y) p s) e
-      ∙ side_in l (scale 2 y) (slot p s (use_over l y p s t)) (2 * offset_at l y p s t + 1) on.is_slot
+      ∙ side_in l (scale 2 y) (2 * offset_at l y p s t + 1) on.is_slot
       (omega (arith, on.inside))
       ∙ use_inner l (scale 2 y) (l.use_at p s (use_over l y p s t)) (2 * offset_at l y p s t + 1) (omega arith)
       (omega (arith, on.inside))
@@ -129,22 +129,17 @@ module _ (l : Layout) (y : Lengths) where
     z_len = lengths_scale 2 (omega arith) len
 
     -- Two darts of different ways in one cell do not run along one edge from side to side.
-    no_shared_edge : (d e : CellDart) → IsDart l y d → IsDart l y e → d ≢ e → dart_start l y e ≢ dart_end l y d
+    no_shared_edge : {d e : CellDart} → IsDart l y d → IsDart l y e → d ≢ e → dart_start l y e ≢ dart_end l y d
         → (course_of l y e).edge ≢ (course_of l y d).edge
-    no_shared_edge d e is_d is_e apart ends edges = by_ways (course_of l y d).ahead (course_of l y e).ahead refl refl
+    no_shared_edge {d} {e} is_d is_e apart ends edges =
+        by_ways (course_of l y d).ahead (course_of l y e).ahead refl refl
       where
         alike : (course_of l y e).ahead ≡ (course_of l y d).ahead → ⊥
-        alike ways = apart (course_once l y laid len d e is_d is_e (λ t. record {
-          edge = sym edges t;
-          ahead = sym ways t;
-        }))
+        alike ways = apart (course_once l y laid len is_d is_e (λ t. record { edge = sym edges t; ahead = sym ways t }))
 
         turned : (course_of l y e).ahead ≡ not (course_of l y d).ahead → ⊥
-        turned ways = ends (across_ends l y laid len d e is_d (record {
-          is_dart = is_e;
-          edge = edges;
-          turned = ways;
-        })).0
+        turned ways =
+            ends (across_ends laid len {e = e} is_d (record { is_dart = is_e; edge = edges; turned = ways })).0
 
         by_ways : (a b : Bool) → (course_of l y d).ahead ≡ a → (course_of l y e).ahead ≡ b → ⊥
         by_ways true true a b = alike (b ∙ sym a)
@@ -164,7 +159,7 @@ module _ (l : Layout) (y : Lengths) where
 
         sides : side_point l (scale 2 y) p west (high l (scale 2 y) p - j) ≡ side_point l (scale 2 y) p east j
         sides = sym (point_west l (scale 2 y) laid z_len p j low (omega arith)) ∙ same
-            ∙ point_east l (scale 2 y) laid z_len p 2 j low (sym two) (omega arith)
+            ∙ point_east l (scale 2 y) laid z_len p j low (sym two) (omega arith)
 
         even : j % 2 ≡ 0 → ⊥
         even e =
@@ -176,7 +171,7 @@ module _ (l : Layout) (y : Lengths) where
             simple.no_loop (flat p 0 (j / 2)) (low, omega (arith, one), omega (arith, rows), omega (arith, rows))
             (point_west l y laid len p (j / 2) low (omega (arith, rows))
             ∙ double_same (side_point l y p west (high l y p - j / 2)) (side_point l y p east (j / 2)) points
-            ∙ sym (point_east l y laid len p 1 (j / 2) low (sym one) (omega (arith, rows))))
+            ∙ sym (point_east l y laid len p (j / 2) low (sym one) (omega (arith, rows))))
 
         odd : j % 2 ≡ 1 → ⊥
         odd e =
@@ -188,9 +183,9 @@ module _ (l : Layout) (y : Lengths) where
             ∙ side_odd p west (high l y p - 1 - j / 2) low (omega (arith, rows))) in
             let is : (w : Way) → IsDart l y (dart p 0 (j / 2) w) =
             λ w. record { patch_low = low; i_low = omega (arith, one); j_low = omega (arith, rows) } in
-            no_shared_edge (dart p 0 (j / 2) west) (dart p 0 (j / 2) east) (is west) (is east)
+            no_shared_edge (is west) (is east)
             (λ s. let w : west ≡ east = ap (λ (d : CellDart). d.way) s in cc)
-            (λ s. ends_differ l y laid len simple (dart p 0 (j / 2) south) (is south) (sym s))
+            (λ s. ends_differ laid len simple (is south) (sym s))
             (ap (λ (c : Course). c.edge) (cond-true (1 == wide l y p) (border_course l y p east (j / 2)) _
             (eq-eqb 1 (wide l y p) (sym one))) ∙ edges)
 
@@ -205,7 +200,7 @@ module _ (l : Layout) (y : Lengths) where
         columns = size_scale 2 p south
 
         sides : side_point l (scale 2 y) p south i ≡ side_point l (scale 2 y) p north (wide l (scale 2 y) p - i)
-        sides = same ∙ point_north l (scale 2 y) laid z_len p i 2 low (sym two)
+        sides = same ∙ point_north l (scale 2 y) laid z_len p i low (sym two)
 
         even : i % 2 ≡ 0 → ⊥
         even e =
@@ -216,7 +211,7 @@ module _ (l : Layout) (y : Lengths) where
             ∙ side_double p north (wide l y p - i / 2) low (omega (arith, columns, len.across p low)) in
             simple.no_loop (steep p (i / 2) 0) (low, omega (arith, columns), omega (arith, columns), omega (arith, one))
             (double_same (side_point l y p south (i / 2)) (side_point l y p north (wide l y p - i / 2)) points
-            ∙ sym (point_north l y laid len p (i / 2) 1 low (sym one)))
+            ∙ sym (point_north l y laid len p (i / 2) low (sym one)))
 
         odd : i % 2 ≡ 1 → ⊥
         odd e =
@@ -228,9 +223,9 @@ module _ (l : Layout) (y : Lengths) where
             ∙ side_odd p south (i / 2) low (omega (arith, columns))) in
             let is : (w : Way) → IsDart l y (dart p (i / 2) 0 w) =
             λ w. record { patch_low = low; i_low = omega (arith, columns); j_low = omega (arith, one) } in
-            no_shared_edge (dart p (i / 2) 0 south) (dart p (i / 2) 0 north) (is south) (is north)
+            no_shared_edge (is south) (is north)
             (λ s. let w : south ≡ north = ap (λ (d : CellDart). d.way) s in cc)
-            (λ s. ends_differ l y laid len simple (dart p (i / 2) 0 east) (is east) (sym s))
+            (λ s. ends_differ laid len simple (is east) (sym s))
             (ap (λ (c : Course). c.edge)
             (cond-true (1 == high l y p) (border_course l y p north (wide l y p - 1 - i / 2)) _
             (eq-eqb 1 (high l y p) (sym one))) ∙ edges)
@@ -245,12 +240,12 @@ module _ (l : Layout) (y : Lengths) where
     }
 
     pub simple_twice : IsSimple l (scale 2 y)
-    simple_twice = simple_open l (scale 2 y) laid z_len twice_open
+    simple_twice = simple_open laid z_len twice_open
 
-module _ (l : Layout) (x : Lengths) (laid : IsSurface l) (len : AreLengths l x) where
+module _ {l : Layout} {x : Lengths} (laid : IsSurface l) (len : AreLengths l x) where
   -- Lengths of at least 3 double no edge.
   pub simple_three : ((a : ℕ) → a < l.arcs → 3 ≤ x a) → IsSimple l x
-  simple_three three = simple_open l x laid len (record {
+  simple_three three = simple_open laid len (record {
     two = λ a low. omega (arith, three a low);
     arcs_open = λ a low e s. omega (arith, three a low, e);
     across = λ p j low e some less s. omega (arith, side_three p south low, e);
@@ -271,5 +266,5 @@ simple_multiple l y laid len simple (suc zero) some =
     let one : (a : ℕ) → y a ≡ 1 * y a = λ a. omega arith in subst (IsSimple l) (λ t a. one a t) simple
 simple_multiple l y laid len simple (suc (suc zero)) some = simple_twice l y laid len simple
 simple_multiple l y laid len simple (suc (suc (suc k))) some =
-    simple_three l (scale (suc (suc (suc k))) y) laid (lengths_scale l y (suc (suc (suc k))) some len)
+    simple_three laid (lengths_scale l y (suc (suc (suc k))) some len)
     (λ a low. let one : 1 ≤ y a = len.some a low in omega (arith, mul-le-mul_left (suc (suc (suc k))) one))

@@ -113,9 +113,9 @@ module _ (l : Layout) (x : Lengths) where
             sym h.place,
           )
 
-      by_flat : (m p o : ℕ) → n ≡ count_below x l.arcs + m → IsInRun flats l.patches m p o → (e : Edge) × IsEdge l x e
+      by_flat : {m p o : ℕ} → n ≡ count_below x l.arcs + m → IsInRun flats l.patches m p o → (e : Edge) × IsEdge l x e
           × (edge_number e ≡ n)
-      by_flat m p o is h =
+      by_flat {p} {o} is h =
           let r = in_rows (wide l x p) (high l x p - 1) o h.inside in
           let row : o / wide l x p + 1 - 1 ≡ o / wide l x p = omega arith in
           let place : (o / wide l x p + 1 - 1) * wide l x p ≡ o / wide l x p * wide l x p =
@@ -127,15 +127,12 @@ module _ (l : Layout) (x : Lengths) where
 
       on_flats : count_below x l.arcs ≤ n → n < count_below x l.arcs + count_below flats l.patches → (e : Edge)
           × IsEdge l x e × (edge_number e ≡ n)
-      on_flats more less =
-          by_flat (n - count_below x l.arcs) (run_at (count_below flats) l.patches (n - count_below x l.arcs))
-          (n - count_below x l.arcs - count_below flats
-          (run_at (count_below flats) l.patches (n - count_below x l.arcs)))
+      on_flats more less = by_flat
           (omega (arith, more)) (run_here flats l.patches (n - count_below x l.arcs) (omega (arith, more, less)))
 
-      by_steep : (m p o : ℕ) → n ≡ count_below x l.arcs + count_below flats l.patches + m
+      by_steep : {m p o : ℕ} → n ≡ count_below x l.arcs + count_below flats l.patches + m
           → IsInRun steeps l.patches m p o → (e : Edge) × IsEdge l x e × (edge_number e ≡ n)
-      by_steep m p o is h =
+      by_steep {p} {o} is h =
           let r = in_rows (wide l x p - 1) (high l x p) o h.inside in
           let column : o % (wide l x p - 1) + 1 - 1 ≡ o % (wide l x p - 1) = omega arith in (
             steep p (o % (wide l x p - 1) + 1) (o / (wide l x p - 1)),
@@ -145,10 +142,7 @@ module _ (l : Layout) (x : Lengths) where
 
       on_steeps : count_below x l.arcs + count_below flats l.patches ≤ n → (e : Edge) × IsEdge l x e
           × (edge_number e ≡ n)
-      on_steeps most = by_steep (n - (count_below x l.arcs + count_below flats l.patches))
-          (run_at (count_below steeps) l.patches (n - (count_below x l.arcs + count_below flats l.patches)))
-          (n - (count_below x l.arcs + count_below flats l.patches) - count_below steeps
-          (run_at (count_below steeps) l.patches (n - (count_below x l.arcs + count_below flats l.patches))))
+      on_steeps most = by_steep
           (omega (arith, most)) (run_here steeps l.patches (n - (count_below x l.arcs + count_below flats l.patches))
           (omega (arith, most, low)))
 
@@ -162,19 +156,18 @@ module _ (l : Layout) (x : Lengths) where
     ]
   ]
     where
-      by_arc : (m a o : ℕ) → n ≡ l.nodes + m → IsInRun (λ b. x b - 1) l.arcs m a o → (a : Point) × IsPoint l x a
+      by_arc : {m a o : ℕ} → n ≡ l.nodes + m → IsInRun (λ b. x b - 1) l.arcs m a o → (a : Point) × IsPoint l x a
           × (vertex_number l x a ≡ n)
-      by_arc m a o is h = (along a (o + 1), (h.low, omega arith, omega (arith, h.inside)), omega (arith, is, h.place))
+      by_arc {a} {o} is h = (along a (o + 1), (h.low, omega arith, omega (arith, h.inside)), omega (arith, is, h.place))
 
       on_arcs : l.nodes ≤ n → n < l.nodes + before_arc x l.arcs → (a : Point) × IsPoint l x a
           × (vertex_number l x a ≡ n)
-      on_arcs more less = by_arc (n - l.nodes) (run_at (count_below (λ b. x b - 1)) l.arcs (n - l.nodes))
-          (n - l.nodes - count_below (λ b. x b - 1) (run_at (count_below (λ b. x b - 1)) l.arcs (n - l.nodes)))
+      on_arcs more less = by_arc
           (omega (arith, more)) (run_here (λ b. x b - 1) l.arcs (n - l.nodes) (omega (arith, more, less)))
 
-      by_patch : (m p o : ℕ) → n ≡ l.nodes + before_arc x l.arcs + m → IsInRun (inner_points l x) l.patches m p o
+      by_patch : {m p o : ℕ} → n ≡ l.nodes + before_arc x l.arcs + m → IsInRun (inner_points l x) l.patches m p o
           → (a : Point) × IsPoint l x a × (vertex_number l x a ≡ n)
-      by_patch m p o is h =
+      by_patch {p} {o} is h =
           let less = rw (mul_comm (wide l x p - 1) (high l x p - 1)) at h.inside in
           let r = in_rows (wide l x p - 1) (high l x p - 1) o less in
           let row : o / (wide l x p - 1) + 1 - 1 ≡ o / (wide l x p - 1) = omega arith in
@@ -186,9 +179,5 @@ module _ (l : Layout) (x : Lengths) where
           )
 
       on_patches : l.nodes + before_arc x l.arcs ≤ n → (a : Point) × IsPoint l x a × (vertex_number l x a ≡ n)
-      on_patches most = by_patch (n - (l.nodes + before_arc x l.arcs))
-          (run_at (count_below (inner_points l x)) l.patches (n - (l.nodes + before_arc x l.arcs)))
-          (n - (l.nodes + before_arc x l.arcs) - count_below (inner_points l x)
-          (run_at (count_below (inner_points l x)) l.patches (n - (l.nodes + before_arc x l.arcs))))
-          (omega (arith, most)) (run_here (inner_points l x) l.patches (n - (l.nodes + before_arc x l.arcs))
-          (omega (arith, most, low)))
+      on_patches most = by_patch (omega (arith, most))
+          (run_here (inner_points l x) l.patches (n - (l.nodes + before_arc x l.arcs)) (omega (arith, most, low)))

@@ -15,14 +15,14 @@ use Rattle.written_laws.proofs.Rims.{column_of, row_of, rim_patch, rim_column, r
 use Rattle.written_laws.proofs.Rims.{darts_related, IsInner}
 use Rattle.written_laws.proofs.Borders.{at_is, IsAt, sort_dart, inner_from, use_not_inside, before_is}
 
-module _ (l : Layout) (x : Lengths) (paved : HasWholeSides l) (len : AreLengths l x) (R : CellDart → CellDart
-    → Type 0) (turning : IsTurning l x R) where
-  pub next_is : (d : CellDart) → IsDart l x d → IsDart l x (next d)
-  next_is d is = record { patch_low = is.patch_low; i_low = is.i_low; j_low = is.j_low }
+module _ {l : Layout} {x : Lengths} (paved : HasWholeSides l) (len : AreLengths l x) {R : CellDart → CellDart → Type 0}
+    (turning : IsTurning l x R) where
+  pub next_is : {d : CellDart} → IsDart l x d → IsDart l x (next d)
+  next_is is = record { patch_low = is.patch_low; i_low = is.i_low; j_low = is.j_low }
 
   pub rim_then : (p : ℕ) (s : Way) (t u : ℕ) → p < l.patches → u ≡ t + 1 → u < size l x p s
       → R (next (dart_along l x p s t)) (dart_along l x p s u)
-  rim_then p s t u low e less = rw e (rim_on l x paved len R turning p s t low (omega arith))
+  rim_then p s t u low e less = rw e (rim_on paved len turning p s t low (omega arith))
 
   -- The dart after the last one of an arc, and the first one of the next arc.
   pub before_related : (w : Slot) → IsSlot l w
@@ -31,13 +31,13 @@ module _ (l : Layout) (x : Lengths) (paved : HasWholeSides l) (len : AreLengths 
     where
       round : (s : Way) (t : ℕ) → t + 1 ≡ size l x w.patch (side_before s)
           → R (next (dart_along l x w.patch (side_before s) t)) (dart_along l x w.patch s (0 + 0))
-      round south t e = rim_round l x paved len R turning w.patch west t is.patch_low e
+      round south t e = rim_round paved len turning w.patch west t is.patch_low e
           (size_some l x paved len w.patch south is.patch_low)
-      round east t e = rim_round l x paved len R turning w.patch south t is.patch_low e
+      round east t e = rim_round paved len turning w.patch south t is.patch_low e
           (size_some l x paved len w.patch east is.patch_low)
-      round north t e = rim_round l x paved len R turning w.patch east t is.patch_low e
+      round north t e = rim_round paved len turning w.patch east t is.patch_low e
           (size_some l x paved len w.patch north is.patch_low)
-      round west t e = rim_round l x paved len R turning w.patch north t is.patch_low e
+      round west t e = rim_round paved len turning w.patch north t is.patch_low e
           (size_some l x paved len w.patch west is.patch_low)
 
       by_place : (m : ℕ) → m < l.many w.patch w.side
@@ -60,11 +60,11 @@ module _ (l : Layout) (x : Lengths) (paved : HasWholeSides l) (len : AreLengths 
           rim_then w.patch w.side (reach l x w.patch w.side m + (x (l.use_at w.patch w.side m).arc - 1))
           (reach l x w.patch w.side (suc m) + 0) is.patch_low (omega arith) (omega arith)
 
-module _ (l : Layout) (x : Lengths) (laid : IsSurface l) (len : AreLengths l x) (R : CellDart → CellDart
-    → Type 0) (turning : IsTurning l x R) where
+module _ {l : Layout} {x : Lengths} (laid : IsSurface l) (len : AreLengths l x) {R : CellDart → CellDart → Type 0}
+    (turning : IsTurning l x R) where
   -- A turn of the layout.
-  pub turn_related : (v w : Slot) → IsSlot l v → IsTurn l v w → R (slot_dart l x v 0) (slot_dart l x w 0)
-  turn_related v w is turn =
+  pub turn_related : {v w : Slot} → IsSlot l v → IsTurn l v w → R (slot_dart l x v 0) (slot_dart l x w 0)
+  turn_related {v} {w} is turn =
       let b : Slot = slot_before l v.patch v.side v.at in
       let is_b : IsSlot l b = before_is l x laid.paved len v is in
       let k : ℕ = x (use_of l b).arc - 1 in
@@ -73,8 +73,8 @@ module _ (l : Layout) (x : Lengths) (laid : IsSurface l) (len : AreLengths l x) 
       let over = turning.over b w k is_b (turn.is_slot, turn.reverse) (omega arith) in
       turning.on (slot_dart l x v 0) (next (slot_dart l x b k)) (slot_dart l x w 0)
       (turning.back (next (slot_dart l x b k)) (slot_dart l x v 0)
-      (next_is l x laid.paved len R turning (slot_dart l x b k) (at_is l x laid.paved len b k is_b (omega arith)))
-      (before_related l x laid.paved len R turning v is))
+      (next_is laid.paved len turning (at_is l x laid.paved len b k is_b (omega arith)))
+      (before_related laid.paved len turning v is))
       (rw zero_is at over)
 
   pub turns_related : (v w : Slot) (n : ℕ) → IsSlot l v → IsSlot l w → SlotTurns l v w n
@@ -85,9 +85,9 @@ module _ (l : Layout) (x : Lengths) (laid : IsSurface l) (len : AreLengths l x) 
       (slot_dart l x w 0) (turns_related v turns.0 n is_v turns.1 turns.2) (by_turn turns.3)
     where
       by_turn : IsTurn l turns.0 w ⊎ IsTurn l w turns.0 → R (slot_dart l x turns.0 0) (slot_dart l x w 0)
-      by_turn (inl t) = turn_related turns.0 w turns.1 t
+      by_turn (inl t) = turn_related turns.1 t
       by_turn (inr t) = turning.back (slot_dart l x w 0) (slot_dart l x turns.0 0)
-          (at_is l x laid.paved len w 0 is_w (use_some l x laid.paved len w is_w)) (turn_related w turns.0 is_w t)
+          (at_is l x laid.paved len w 0 is_w (use_some l x laid.paved len w is_w)) (turn_related is_w t)
 
   -- It holds for the first darts of arcs that begin at one node.
   abbrev pub AtNodes : Type 0
@@ -128,11 +128,11 @@ module _ (l : Layout) (x : Lengths) (laid : IsSurface l) (len : AreLengths l x) 
       turned ways e =
           let place_is : x (use_of l w).arc - 1 - (o - 1) ≡ k = omega arith in
           let over = turning.over w v (o - 1) is_w (is_v, record { arc = sym arcs; turned = ways }) (omega arith) in
-          let on = rim_then l x laid.paved len R turning w.patch w.side (reach l x w.patch w.side w.at + (o - 1))
+          let on = rim_then laid.paved len turning w.patch w.side (reach l x w.patch w.side w.at + (o - 1))
           (reach l x w.patch w.side w.at + o) is_w.patch_low (omega arith) (omega (arith, reach_low l x w is_w)) in
           turning.on (slot_dart l x w o) (next (slot_dart l x w (o - 1))) (slot_dart l x v k)
           (turning.back (next (slot_dart l x w (o - 1))) (slot_dart l x w o)
-          (next_is l x laid.paved len R turning (slot_dart l x w (o - 1))
+          (next_is laid.paved len turning
           (at_is l x laid.paved len w (o - 1) is_w (omega arith))) on)
           (rw place_is at over)
 
@@ -187,12 +187,12 @@ module _ (l : Layout) (x : Lengths) (laid : IsSurface l) (len : AreLengths l x) 
     at_related d w o is a =
         let low : reach l x w.patch w.side w.at + o < size l x w.patch w.side =
         omega (arith, reach_low l x w a.is_slot, a.low) in
-        darts_related l x laid.paved len R turning d (slot_dart l x w o) is
+        darts_related laid.paved len turning is
         (at_is l x laid.paved len w o a.is_slot a.low)
-        (a.patch ∙ sym (rim_patch l x laid.paved len w.patch w.side (reach l x w.patch w.side w.at + o)))
-        (a.column ∙ sym (rim_column l x laid.paved len w.patch w.side (reach l x w.patch w.side w.at + o)
+        (a.patch ∙ sym (rim_patch laid.paved len w.patch w.side (reach l x w.patch w.side w.at + o)))
+        (a.column ∙ sym (rim_column laid.paved len w.patch w.side (reach l x w.patch w.side w.at + o)
         a.is_slot.patch_low low))
-        (a.row ∙ sym (rim_row l x laid.paved len w.patch w.side (reach l x w.patch w.side w.at + o) a.is_slot.patch_low
+        (a.row ∙ sym (rim_row laid.paved len w.patch w.side (reach l x w.patch w.side w.at + o) a.is_slot.patch_low
         low))
 
     -- It holds for all darts that leave one point.
@@ -210,14 +210,14 @@ module _ (l : Layout) (x : Lengths) (laid : IsSurface l) (len : AreLengths l x) 
       ]
     ]
       where
-        both_inner : IsInner l x laid.paved len d.patch (column_of d) (row_of d)
-            → IsInner l x laid.paved len e.patch (column_of e) (row_of e) → R d e
+        both_inner : IsInner laid.paved len d.patch (column_of d) (row_of d)
+            → IsInner laid.paved len e.patch (column_of e) (row_of e) → R d e
         both_inner i j =
             let a = sym (inner_from l x laid len d i) ∙ same ∙ inner_from l x laid len e j in
             let p : d.patch ≡ e.patch = cc in
             let c : column_of d ≡ column_of e = cc in
             let r : row_of d ≡ row_of e = cc in
-            darts_related l x laid.paved len R turning d e is_d is_e p c r
+            darts_related laid.paved len turning is_d is_e p c r
 
         both_border : (w : Slot) (o : ℕ) → IsAt l x laid len d w o → (v : Slot) (k : ℕ) → IsAt l x laid len e v k
             → R d e

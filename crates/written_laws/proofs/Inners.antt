@@ -19,38 +19,38 @@ abbrev pub AreShared : (l : Layout) (x : Lengths) (a : Point) → Type 0
 AreShared l x a = (w : Slot) (o : ℕ) → IsSlot l w → o < x (use_of l w).arc
     → (use_point l x (use_of l w) o ≡ a) ⊎ (use_point l x (use_of l w) (o + 1) ≡ a) → (v : Slot) × IsOtherSlot l w v
 
-module _ (l : Layout) (x : Lengths) (laid : IsSurface l) (len : AreLengths l x) (F : Faces) (cell : CellDart
-    → ℕ) (model : IsModel F l x laid len cell) where
+module _ {l : Layout} {x : Lengths} {laid : IsSurface l} {len : AreLengths l x} {F : Faces} {cell : CellDart → ℕ}
+    (model : IsModel F l x laid len cell) where
   -- Vertex v of the model is point a.
   pub record IsVertex (a : Point) (v : ℕ) : Type 0 where
     pub there : (d : CellDart) → IsDart l x d → dart_start l x d ≡ a → from_of F (cell d) ≡ v
     pub back : (d : CellDart) → IsDart l x d → from_of F (cell d) ≡ v → dart_start l x d ≡ a
 
-  pub vertex_from : (d : CellDart) (a : Point) (v : ℕ) → IsDart l x d → dart_start l x d ≡ a → from_of F (cell d) ≡ v
+  pub vertex_from : {d : CellDart} {a : Point} (v : ℕ) → IsDart l x d → dart_start l x d ≡ a → from_of F (cell d) ≡ v
       → IsVertex a v
-  vertex_from d a v is leaves vertex = record {
+  vertex_from {d} v is leaves vertex = record {
     there = λ e is_e s. model.alike e d is_e is (s ∙ sym leaves) ∙ vertex;
     back = λ e is_e s. model.apart e d is_e is (s ∙ sym vertex) ∙ leaves;
   }
 
-  module _ (a : Point) (v : ℕ) (is_v : IsVertex a v) where
+  module _ {a : Point} {v : ℕ} (is_v : IsVertex a v) where
     ends_there : (d : CellDart) → IsDart l x d → to_of F (cell d) ≡ v → dart_end l x d ≡ a
     ends_there d is e = is_v.back (next d) (next_is l x d is) (ap (from_of F) (model.turned d is) ∙ e)
 
-    ends_back : (d : CellDart) → IsDart l x d → dart_end l x d ≡ a → to_of F (cell d) ≡ v
-    ends_back d is e = ap (from_of F) (sym (model.turned d is)) ∙ is_v.there (next d) (next_is l x d is) e
+    ends_back : {d : CellDart} → IsDart l x d → dart_end l x d ≡ a → to_of F (cell d) ≡ v
+    ends_back {d} is e = ap (from_of F) (sym (model.turned d is)) ∙ is_v.there (next d) (next_is l x d is) e
 
     pub inner_if : AreShared l x a → is_inner F v ≡ true
     inner_if shared = inner_from F v at
       where
         by_dart : (d : CellDart) → IsDart l x d → (dart_start l x d ≡ a) ⊎ (dart_end l x d ≡ a)
             → (t : ℕ) × (twin_of F (cell d) ≡ Some t)
-        by_dart d is ends = elim (across_or_alone l x laid len d is) [
+        by_dart d is ends = elim (across_or_alone laid len d is) [
           | inl e ↦ (cell e.0, model.across d e.0 is e.1)
           | inr s ↦ absurd (alone s.0 s.1 s.2)
         ]
           where
-            alone : (w : Slot) (o : ℕ) → IsAlone l x laid len d w o → ⊥
+            alone : (w : Slot) (o : ℕ) → IsAlone laid len d w o → ⊥
             alone w o s =
                 let other : (u : Slot) × IsOtherSlot l w u = shared w o s.on_border.is_slot s.on_border.low (at ends) in
                 s.alone other.0 other.1
@@ -78,10 +78,10 @@ module _ (l : Layout) (x : Lengths) (laid : IsSurface l) (len : AreLengths l x) 
       | inl u ↦ u
       | inr none ↦
           let t = inner_twin F v inner (cell (slot_dart l x w o)) (model.low (slot_dart l x w o) is_d) (at ends) in
-          let s : IsAlone l x laid len (slot_dart l x w o) w o =
+          let s : IsAlone laid len (slot_dart l x w o) w o =
           record { on_border = record { is_slot = is; low = less; dart = refl }; alone = none } in
           absurd (none-some t.0 (sym
-          (model.alone (slot_dart l x w o) is_d (λ e. alone_not_across l x laid len (slot_dart l x w o) e w o
+          (model.alone (slot_dart l x w o) is_d (λ e. alone_not_across laid len e
           s)) ∙ t.1))
     ]
       where
@@ -91,7 +91,7 @@ module _ (l : Layout) (x : Lengths) (laid : IsSurface l) (len : AreLengths l x) 
         at : (use_point l x (use_of l w) o ≡ a) ⊎ (use_point l x (use_of l w) (o + 1) ≡ a)
             → (from_of F (cell (slot_dart l x w o)) ≡ v) ⊎ (to_of F (cell (slot_dart l x w o)) ≡ v)
         at (inl e) = inl (is_v.there (slot_dart l x w o) is_d (at_from l x laid len w o is less ∙ e))
-        at (inr e) = inr (ends_back (slot_dart l x w o) is_d (at_to l x laid len w o is less ∙ e))
+        at (inr e) = inr (ends_back is_d (at_to l x laid len w o is less ∙ e))
 
     -- So many darts leave the vertex, where they are told by numbers.
     pub fan_most : (n : ℕ) (code : (d : CellDart) → IsDart l x d → dart_start l x d ≡ a → (k : ℕ) × (k < n))

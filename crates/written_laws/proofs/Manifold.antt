@@ -31,21 +31,21 @@ flat_or_steep p i j west e = cc
 pub before_after : (w : Way) → side_before (side_after w) ≡ w
 before_after = elim [ south ↦ refl | east ↦ refl | north ↦ refl | west ↦ refl ]
 
-module _ (l : Layout) (x : Lengths) (laid : IsSurface l) (len : AreLengths l x) where
+module _ {l : Layout} {x : Lengths} (laid : IsSurface l) (len : AreLengths l x) where
   -- Two border darts in a row lie on the last arc of a side and the first of the next one.
   corner_slots : (d : CellDart) (w v : Slot) (o k : ℕ) → IsOnBorder l x d w o → IsOnBorder l x (next d) v k
       → (v.at ≡ 0) × (slot_before l v.patch v.side v.at ≡ w)
   corner_slots d w v o k at_w at_v = (v_first, by_paths)
     where
       patches : v.patch ≡ w.patch
-      patches = sym (rim_patch l x laid.paved len v.patch v.side (reach l x v.patch v.side v.at + k))
+      patches = sym (rim_patch laid.paved len v.patch v.side (reach l x v.patch v.side v.at + k))
           ∙ ap (λ (e : CellDart). e.patch) (sym at_v.dart) ∙ ap (λ (e : CellDart). e.patch) at_w.dart
-          ∙ rim_patch l x laid.paved len w.patch w.side (reach l x w.patch w.side w.at + o)
+          ∙ rim_patch laid.paved len w.patch w.side (reach l x w.patch w.side w.at + o)
 
       sides : v.side ≡ side_after w.side
-      sides = sym (rim_way l x laid.paved len v.patch v.side (reach l x v.patch v.side v.at + k))
+      sides = sym (rim_way laid.paved len v.patch v.side (reach l x v.patch v.side v.at + k))
           ∙ ap (λ (e : CellDart). e.way) (sym at_v.dart) ∙ ap (λ (e : CellDart). side_after e.way) at_w.dart
-          ∙ ap side_after (rim_way l x laid.paved len w.patch w.side (reach l x w.patch w.side w.at + o))
+          ∙ ap side_after (rim_way laid.paved len w.patch w.side (reach l x w.patch w.side w.at + o))
 
       same_rim : slot_dart l x v k ≡ dart_along l x w.patch (side_after w.side) (reach l x v.patch v.side v.at + k)
       same_rim = λ r. dart_along l x (patches r) (sides r) (reach l x v.patch v.side v.at + k)
@@ -61,12 +61,12 @@ module _ (l : Layout) (x : Lengths) (laid : IsSurface l) (len : AreLengths l x) 
 
       v_less : reach l x v.patch v.side v.at + k < size l x w.patch (side_after w.side)
       v_less = subst (λ (n : ℕ). reach l x v.patch v.side v.at + k < n) (λ r. size l x (patches r) (sides r))
-          (at_low l x laid.paved len v k at_v.is_slot at_v.low)
+          (at_low l x laid.paved len k at_v.is_slot at_v.low)
 
       both : (reach l x w.patch w.side w.at + o + 1 ≡ size l x w.patch w.side) × (reach l x v.patch v.side v.at + k ≡ 0)
-      both = corner_cell l x laid.paved len w.patch w.side (reach l x w.patch w.side w.at + o)
+      both = corner_cell laid.paved len w.patch w.side (reach l x w.patch w.side w.at + o)
           (reach l x v.patch v.side v.at + k) at_w.is_slot.patch_low
-          (at_low l x laid.paved len w o at_w.is_slot at_w.low) v_less columns rows
+          (at_low l x laid.paved len o at_w.is_slot at_w.low) v_less columns rows
 
       v_first : v.at ≡ 0
       v_first = first_is l x laid.paved len v at_v.is_slot (omega (arith, both.1))
@@ -80,31 +80,31 @@ module _ (l : Layout) (x : Lengths) (laid : IsSurface l) (len : AreLengths l x) 
           ∙ (λ r. slot w.patch w.side (sym w_last r))
 
   module _ (simple : IsSimple l x) where
-    pub ends_differ : (d : CellDart) → IsDart l x d → dart_start l x d ≢ dart_end l x d
-    ends_differ d is same = ends_apart l x simple (course_of l x d) (course_is l x laid len d is)
+    pub ends_differ : {d : CellDart} → IsDart l x d → dart_start l x d ≢ dart_end l x d
+    ends_differ {d} is same = ends_apart simple (course_of l x d) (course_is l x laid len is)
         (sym (course_from l x laid len d is) ∙ same ∙ course_to l x laid len d is)
 
-    pub opposite_differ : (d : CellDart) → IsDart l x d → dart_start l x d ≢ dart_end l x (next d)
-    opposite_differ d is same = by_sight (sees l x laid len d is) (sees l x laid len (next d) is_next)
+    pub opposite_differ : {d : CellDart} → IsDart l x d → dart_start l x d ≢ dart_end l x (next d)
+    opposite_differ {d} is same = by_sight (sees l x laid len is) (sees l x laid len is_next)
       where
         is_next : IsDart l x (next d)
         is_next = next_is l x d is
 
         turned : ((course_of l x (next d)).edge ≡ (course_of l x d).edge)
             × ((course_of l x (next d)).ahead ≡ not (course_of l x d).ahead)
-        turned = reversed l x simple (course_of l x d) (course_of l x (next d)) (course_is l x laid len d is)
-            (course_is l x laid len (next d) is_next)
+        turned = reversed simple (course_of l x d) (course_of l x (next d)) (course_is l x laid len is)
+            (course_is l x laid len is_next)
             (sym (course_from l x laid len (next d) is_next) ∙ course_to l x laid len d is)
             (sym (course_to l x laid len (next d) is_next) ∙ sym same ∙ course_from l x laid len d is)
 
         by_corner : (w v : Slot) (o k : ℕ) → IsOnBorder l x d w o → IsOnBorder l x (next d) v k → ⊥
         by_corner w v o k at_w at_v =
             let c : (v.at ≡ 0) × (slot_before l v.patch v.side v.at ≡ w) = corner_slots d w v o k at_w at_v in
-            let e = ap (λ (g : Course). g.edge) (sym (border_is l x laid len (next d) v k at_v)) ∙ turned.0
-            ∙ ap (λ (g : Course). g.edge) (border_is l x laid len d w o at_w) in
+            let e = ap (λ (g : Course). g.edge) (sym (border_is l x laid len at_v)) ∙ turned.0
+            ∙ ap (λ (g : Course). g.edge) (border_is l x laid len at_w) in
             let arcs : (use_of l v).arc ≡ (use_of l w).arc = cc in
-            let ways = ap (λ (g : Course). g.ahead) (sym (border_is l x laid len (next d) v k at_v)) ∙ turned.1
-            ∙ ap (λ (g : Course). not g.ahead) (border_is l x laid len d w o at_w) in
+            let ways = ap (λ (g : Course). g.ahead) (sym (border_is l x laid len at_v)) ∙ turned.1
+            ∙ ap (λ (g : Course). not g.ahead) (border_is l x laid len at_w) in
             laid.no_fold v at_v.is_slot c.0
             (rw c.1 (record { arc = arcs; turned = ways }))
 
@@ -114,16 +114,16 @@ module _ (l : Layout) (x : Lengths) (laid : IsSurface l) (len : AreLengths l x) 
             (ap (λ (g : Course). g.edge) (sym j.course) ∙ turned.0 ∙ ap (λ (g : Course). g.edge) i.course)
         by_sight (inl i) (inr b) = false≢true (sym (inner_no_arc l x laid len d.patch d.i d.j d.way)
             ∙ ap (λ (g : Course). is_arc g.edge) (sym i.course) ∙ ap is_arc (sym turned.0)
-            ∙ ap (λ (g : Course). is_arc g.edge) (border_is l x laid len (next d) b.0 b.1 b.2))
+            ∙ ap (λ (g : Course). is_arc g.edge) (border_is l x laid len b.2))
         by_sight (inr a) (inl j) = false≢true (sym (inner_no_arc l x laid len d.patch d.i d.j (side_after d.way))
             ∙ ap (λ (g : Course). is_arc g.edge) (sym j.course) ∙ ap is_arc turned.0
-            ∙ ap (λ (g : Course). is_arc g.edge) (border_is l x laid len d a.0 a.1 a.2))
+            ∙ ap (λ (g : Course). is_arc g.edge) (border_is l x laid len a.2))
         by_sight (inr a) (inr b) = by_corner a.0 b.0 a.1 b.1 a.2 b.2
 
     -- Points apart have numbers apart.
-    numbers_differ : (d e : CellDart) → IsDart l x d → IsDart l x e → dart_start l x d ≢ dart_start l x e
+    numbers_differ : {d e : CellDart} → IsDart l x d → IsDart l x e → dart_start l x d ≢ dart_start l x e
         → vertex_number l x (dart_start l x d) ≢ vertex_number l x (dart_start l x e)
-    numbers_differ d e is_d is_e apart same =
+    numbers_differ {d} {e} is_d is_e apart same =
         apart (number_same l x (dart_start l x d) (dart_start l x e) (from_is l x laid len d is_d)
         (from_is l x laid len e is_e) same)
 
@@ -136,17 +136,15 @@ module _ (l : Layout) (x : Lengths) (laid : IsSurface l) (len : AreLengths l x) 
 
         side : (w v : Way) → dart_start l x (dart_of l x f w) ≢ dart_start l x (dart_of l x f v)
             → cell_vertex l x f w ≢ cell_vertex l x f v
-        side w v apart = numbers_differ (dart_of l x f w) (dart_of l x f v) (is w) (is v) apart
+        side w v apart = numbers_differ (is w) (is v) apart
 
         at : (i j : ℕ) → i < j → j < 4 → cell_vertex l x f (way_of i) ≢ cell_vertex l x f (way_of j)
-        at zero (suc zero) less four = side south east (ends_differ (dart_of l x f south) (is south))
-        at zero (suc (suc zero)) less four = side south north (opposite_differ (dart_of l x f south) (is south))
-        at zero (suc (suc (suc j))) less four =
-            side south west (λ e. ends_differ (dart_of l x f west) (is west) (sym e))
-        at (suc zero) (suc (suc zero)) less four = side east north (ends_differ (dart_of l x f east) (is east))
-        at (suc zero) (suc (suc (suc j))) less four = side east west (opposite_differ (dart_of l x f east) (is east))
-        at (suc (suc zero)) (suc (suc (suc j))) less four =
-            side north west (ends_differ (dart_of l x f north) (is north))
+        at zero (suc zero) less four = side south east (ends_differ (is south))
+        at zero (suc (suc zero)) less four = side south north (opposite_differ (is south))
+        at zero (suc (suc (suc j))) less four = side south west (λ e. ends_differ (is west) (sym e))
+        at (suc zero) (suc (suc zero)) less four = side east north (ends_differ (is east))
+        at (suc zero) (suc (suc (suc j))) less four = side east west (opposite_differ (is east))
+        at (suc (suc zero)) (suc (suc (suc j))) less four = side north west (ends_differ (is north))
         at _ _ less four = absurd (omega arith)
 
     pub repeat_free : IsRepeatFree (new_faces l x)
@@ -169,11 +167,11 @@ module _ (l : Layout) (x : Lengths) (laid : IsSurface l) (len : AreLengths l x) 
         (from_is l x laid len (next a.0) (next_is l x a.0 a.1)) (from_is l x laid len (next b.0) (next_is l x b.0 b.1))
         (sym (number_to l x a.0 a.1) ∙ ap (to_of (new_faces l x)) a.2 ∙ same.1 ∙ ap (to_of (new_faces l x)) (sym b.2)
         ∙ number_to l x b.0 b.1) in
-        let one = one_course l x simple (course_of l x a.0) (course_of l x b.0) (course_is l x laid len a.0 a.1)
-        (course_is l x laid len b.0 b.1) (sym (course_from l x laid len a.0 a.1) ∙ starts
+        let one = one_course simple (course_of l x a.0) (course_of l x b.0) (course_is l x laid len a.1)
+        (course_is l x laid len b.1) (sym (course_from l x laid len a.0 a.1) ∙ starts
         ∙ course_from l x laid len b.0 b.1) (sym (course_to l x laid len a.0 a.1) ∙ ends
         ∙ course_to l x laid len b.0 b.1) in
-        sym a.2 ∙ ap (dart_number l x) (course_once l x laid len a.0 b.0 a.1 b.1 one) ∙ b.2
+        sym a.2 ∙ ap (dart_number l x) (course_once l x laid len a.1 b.1 one) ∙ b.2
 
     pub manifold : HasFans l → IsManifold (new_faces l x)
     manifold fans = record { repeat_free = repeat_free; edges_once = edges_once; one_fan = one_fan l x laid len fans }

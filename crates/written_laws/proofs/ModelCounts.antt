@@ -28,11 +28,8 @@ use Rattle.mesh_laws.proofs.Vertices.{all_below}
 count_sums : (f g h k : ℕ → ℕ) (n : ℕ) → ((p : ℕ) → p < n → f p + g p ≡ h p + k p + 1)
     → count_below f n + count_below g n ≡ count_below h n + count_below k n + n
 count_sums f g h k zero same = refl
-count_sums f g h k (suc n) same = omega (
-  arith,
-  count_sums f g h k n (λ p l. same p (omega arith)),
-  same n (omega arith),
-)
+count_sums f g h k (suc n) same =
+    omega (arith, count_sums f g h k n (λ p l. same p (omega arith)), same n (omega arith))
 
 module _ (l : Layout) (x : Lengths) (laid : IsSurface l) (len : AreLengths l x) where
   -- The dart across is across the other way round.
@@ -128,26 +125,20 @@ module _ (l : Layout) (x : Lengths) (laid : IsSurface l) (len : AreLengths l x) 
     abbrev IsLesser : (d : CellDart) → Type 0
     IsLesser d = is_lesser (cell d) (twin_of F (cell d)) ≡ true
 
-    lesser_by : (k : ℕ) (t : Option ℕ) (n : ℕ) → t ≡ Some n → k < n → is_lesser k t ≡ true
-    lesser_by k t n is less = ap (is_lesser k) is ∙ lt-ltb k n less
+    lesser_by : (k : ℕ) {t : Option ℕ} {n : ℕ} → t ≡ Some n → k < n → is_lesser k t ≡ true
+    lesser_by k {n} is less = ap (is_lesser k) is ∙ lt-ltb k n less
 
-    lesser_less : (k : ℕ) (t : Option ℕ) (n : ℕ) → t ≡ Some n → is_lesser k t ≡ true → k < n
-    lesser_less k t n is on = ltb-true k n (ap (is_lesser k) (sym is) ∙ on)
+    lesser_less : (k : ℕ) {t : Option ℕ} {n : ℕ} → t ≡ Some n → is_lesser k t ≡ true → k < n
+    lesser_less k {n} is on = ltb-true k n (ap (is_lesser k) (sym is) ∙ on)
 
     lesser_dart : (e : Edge) → IsEdge l x e → (d : CellDart) × IsDart l x d × IsLesser d × ((course_of l x d).edge ≡ e)
-    lesser_dart e is = by_dart (edge_dart l x laid len e is).0 (edge_dart l x laid len e is).1
-        (edge_dart l x laid len e is).2
+    lesser_dart e is = by_dart (edge_dart l x laid len e is).1 (edge_dart l x laid len e is).2
       where
-        by_dart : (d : CellDart) → IsDart l x d → (course_of l x d).edge ≡ e → (d : CellDart) × IsDart l x d
+        by_dart : {d : CellDart} → IsDart l x d → (course_of l x d).edge ≡ e → (d : CellDart) × IsDart l x d
             × IsLesser d × ((course_of l x d).edge ≡ e)
-        by_dart d is_d edge = elim (across_or_alone l x laid len d is_d) [
+        by_dart {d} is_d edge = elim (across_or_alone laid len d is_d) [
           | inl a ↦ by_order a.0 a.1
-          | inr a ↦ (
-            d,
-            is_d,
-            ap (is_lesser (cell d)) (model.alone d is_d (λ c. alone_not_across l x laid len d c a.0 a.1 a.2)),
-            edge,
-          )
+          | inr a ↦ (d, is_d, ap (is_lesser (cell d)) (model.alone d is_d (λ c. alone_not_across laid len c a.2)), edge)
         ]
           where
             by_order : (c : CellDart) → IsAcross l x laid len d c → (d : CellDart) × IsDart l x d × IsLesser d
@@ -155,17 +146,11 @@ module _ (l : Layout) (x : Lengths) (laid : IsSurface l) (len : AreLengths l x) 
             by_order c a = elim (cases_order (cell d) (cell c)) [
               | inl s ↦ absurd (no_self d (subst (IsAcross l x laid len d) (sym (model.same d c is_d a.is_dart s)) a))
               | inr o ↦ elim o [
-                | inl less ↦ (
-                  d,
-                  is_d,
-                  lesser_by (cell d) (twin_of F (cell d)) (cell c) (model.across d c is_d a) less,
-                  edge,
-                )
+                | inl less ↦ (d, is_d, lesser_by (cell d) (model.across d c is_d a) less, edge)
                 | inr more ↦ (
                   c,
                   a.is_dart,
-                  lesser_by (cell c) (twin_of F (cell c)) (cell d) (model.across c d a.is_dart (across_back d c is_d a))
-                      more,
+                  lesser_by (cell c) (model.across c d a.is_dart (across_back d c is_d a)) more,
                   a.edge ∙ edge,
                 )
               ]
@@ -177,14 +162,13 @@ module _ (l : Layout) (x : Lengths) (laid : IsSurface l) (len : AreLengths l x) 
     lesser_once d e is_d is_e d_less e_less edges = by_ways (course_of l x d).ahead (course_of l x e).ahead refl refl
       where
         alike : (course_of l x d).ahead ≡ (course_of l x e).ahead → d ≡ e
-        alike ways = course_once l x laid len d e is_d is_e (λ t. course (edges t) (ways t))
+        alike ways = course_once l x laid len is_d is_e (λ t. course (edges t) (ways t))
 
         turned : (course_of l x e).ahead ≡ not (course_of l x d).ahead → d ≡ e
         turned ways =
             let a : IsAcross l x laid len d e = record { is_dart = is_e; edge = sym edges; turned = ways } in
-            let one = lesser_less (cell d) (twin_of F (cell d)) (cell e) (model.across d e is_d a) d_less in
-            let other = lesser_less (cell e) (twin_of F (cell e)) (cell d)
-            (model.across e d is_e (across_back d e is_d a)) e_less in
+            let one = lesser_less (cell d) (model.across d e is_d a) d_less in
+            let other = lesser_less (cell e) (model.across e d is_e (across_back d e is_d a)) e_less in
             absurd (omega (arith, one, other))
 
         by_ways : (a b : Bool) → (course_of l x d).ahead ≡ a → (course_of l x e).ahead ≡ b → d ≡ e
@@ -210,7 +194,7 @@ module _ (l : Layout) (x : Lengths) (laid : IsSurface l) (len : AreLengths l x) 
         most = passing_le (λ d. is_lesser d (twin_of F d)) (λ k. true) (darts F) (edge_total l x)
             (λ k low less. let d : (d : CellDart) × IsDart l x d × (cell d ≡ k) = model.onto k low in (
               edge_number l x (course_of l x d.0).edge,
-              edge_low l x (course_of l x d.0).edge (course_is l x laid len d.0 d.1),
+              edge_low l x (course_of l x d.0).edge (course_is l x laid len d.1),
               refl,
             ))
             (λ k m a less b too same. by_darts k m less too (model.onto k a) (model.onto m b) same)
@@ -221,8 +205,8 @@ module _ (l : Layout) (x : Lengths) (laid : IsSurface l) (len : AreLengths l x) 
                 → edge_number l x (course_of l x d.0).edge ≡ edge_number l x (course_of l x e.0).edge → k ≡ m
             by_darts k m less too d e same = sym d.2
                 ∙ ap cell (lesser_once d.0 e.0 d.1 e.1 (rw d.2 less) (rw e.2 too)
-                (edge_same l x (course_of l x d.0).edge (course_of l x e.0).edge (course_is l x laid len d.0 d.1)
-                (course_is l x laid len e.0 e.1) same)) ∙ e.2
+                (edge_same l x (course_of l x d.0).edge (course_of l x e.0).edge (course_is l x laid len d.1)
+                (course_is l x laid len e.1) same)) ∙ e.2
 
         least : passing (λ k. true) (edge_total l x) ≤ passing (λ d. is_lesser d (twin_of F d)) (darts F)
         least = passing_le (λ k. true) (λ d. is_lesser d (twin_of F d)) (edge_total l x) (darts F)
@@ -244,8 +228,8 @@ module _ (l : Layout) (x : Lengths) (laid : IsSurface l) (len : AreLengths l x) 
         let new : passing (λ k. true) (4 * face_count l x) ≡ 4 * face_count l x = passing_all (4 * face_count l x) in
         omega (arith, all, new, most, least)
       where
-        number_of : (d : CellDart) → IsDart l x d → dart_number l x d < 4 * face_count l x
-        number_of d is = omega (arith, dart_low l x d is, faces_long l x)
+        number_of : {d : CellDart} → IsDart l x d → dart_number l x d < 4 * face_count l x
+        number_of {d} is = omega (arith, dart_low l x d is, faces_long l x)
 
         dart_by : (n : ℕ) → n < 4 * face_count l x → (d : CellDart) × IsDart l x d × (dart_number l x d ≡ n)
         dart_by n low = at_number l x laid len n (omega (arith, faces_long l x))
@@ -253,7 +237,7 @@ module _ (l : Layout) (x : Lengths) (laid : IsSurface l) (len : AreLengths l x) 
         most : passing (λ k. true) (darts F) ≤ passing (λ k. true) (4 * face_count l x)
         most = passing_le (λ k. true) (λ k. true) (darts F) (4 * face_count l x) (λ k low on. (
           dart_number l x (model.onto k low).0,
-          number_of (model.onto k low).0 (model.onto k low).1,
+          number_of (model.onto k low).1,
           refl,
         )) (λ k m a on b too same. sym (model.onto k a).2
             ∙ ap cell (dart_same l x (model.onto k a).0 (model.onto m b).0 (model.onto k a).1 (model.onto m b).1 same)

@@ -104,13 +104,13 @@ module _ (l : Layout) (x : Lengths) (laid : IsSurface l) (len : AreLengths l x) 
     alike = λ d e is_d is_e s. number_from l x d is_d ∙ ap (vertex_number l x) s ∙ sym (number_from l x e is_e);
     apart = λ d e is_d is_e s. number_same l x (dart_start l x d) (dart_start l x e) (from_is l x laid len d is_d)
         (from_is l x laid len e is_e) (sym (number_from l x d is_d) ∙ s ∙ number_from l x e is_e);
-    across = across_twin l x laid len simple;
+    across = across_twin laid len simple;
     alone = alone;
   }
     where
       alone : (d : CellDart) → IsDart l x d → ((e : CellDart) → ¬ IsAcross l x laid len d e)
           → twin_of (new_faces l x) (dart_number l x d) ≡ None
-      alone d is none = elim (across_or_alone l x laid len d is) [
+      alone d is none = elim (across_or_alone laid len d is) [
         | inl a ↦ absurd (none a.0 a.1)
-        | inr a ↦ alone_no_twin l x laid len simple d a.0 a.1 is a.2
+        | inr a ↦ alone_no_twin laid len simple d a.0 a.1 is a.2
       ]

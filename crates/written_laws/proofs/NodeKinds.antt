@@ -17,7 +17,7 @@ use Rattle.written_laws.proofs.{Borders.inner_from, Spots.place_at, Spots.spot_d
 use Rattle.written_laws.proofs.{Spots.spot_at, Spots.sort_spot, Spots.spot_once, Models.IsModel, Inners.AreShared}
 use Rattle.written_laws.proofs.Inners.{IsVertex, inner_if, inner_only}
 
-module _ (l : Layout) (x : Lengths) (laid : IsSurface l) (len : AreLengths l x) where
+module _ {l : Layout} {x : Lengths} (laid : IsSurface l) (len : AreLengths l x) where
   -- A point of an arc that is a node is one of its ends.
   node_end : (u : SideArc) (o n : ℕ) → o ≤ x u.arc → 0 < x u.arc → use_point l x u o ≡ node n
       → ((o ≡ 0) × (start_node l u ≡ n)) ⊎ ((o ≡ x u.arc) × (end_node l u ≡ n))
@@ -42,9 +42,9 @@ module _ (l : Layout) (x : Lengths) (laid : IsSurface l) (len : AreLengths l x) 
     pub dart : d ≡ spot_dart l x w 0 b
     pub later : b ≡ true → 0 < w.at
 
-  pub node_sort : (n : ℕ) (d : CellDart) → IsDart l x d → dart_start l x d ≡ node n → (w : Slot) × (b : Bool)
+  pub node_sort : (n : ℕ) {d : CellDart} → IsDart l x d → dart_start l x d ≡ node n → (w : Slot) × (b : Bool)
       × IsAtNode n d w b
-  node_sort n d is leaves = elim (sort_dart l x laid len d is) [
+  node_sort n {d} is leaves = elim (sort_dart l x laid len d is) [
     | inl i ↦ let b : dart_start l x d ≡ inside d.patch (column_of d) (row_of d) =
         inner_from l x laid len d i in absurd cc
     | inr s ↦ elim (node_end (use_of l s.0) s.1 n (omega (arith, s.2.low))
@@ -58,7 +58,7 @@ module _ (l : Layout) (x : Lengths) (laid : IsSurface l) (len : AreLengths l x) 
           × (b : Bool) × IsAtNode n d w b
       at_slot w o at z start =
           let first : IsAt l x laid len d w 0 = rw z at at in
-          let b = sort_spot l x laid len d w 0 is first in
+          let b = sort_spot laid len d w 0 is first in
           (w, b.0, record { at = first; start = start; dart = b.1; later = λ e. by_at w.at refl (b.2 e) })
         where
           by_at : (m : ℕ) → w.at ≡ m → 0 < place_at l x w 0 → 0 < w.at
@@ -74,7 +74,7 @@ module _ (l : Layout) (x : Lengths) (laid : IsSurface l) (len : AreLengths l x) 
       let some : 0 < long_at l x w.patch w.side 0 = use_some l x laid.paved len (slot w.patch w.side 0) first in
       omega (arith, le, some)
 
-module _ (l : Layout) (laid : IsSurface l) (x y : Lengths) (len : AreLengths l x) (lon : AreLengths l y) where
+module _ {l : Layout} (laid : IsSurface l) {x y : Lengths} (len : AreLengths l x) (lon : AreLengths l y) where
   -- Whether arcs at a node are shared has nothing to do with lengths.
   node_shared : (n : ℕ) → AreShared l x (node n) → AreShared l y (node n)
   node_shared n shared w o is less = at
@@ -96,15 +96,13 @@ module _ (l : Layout) (laid : IsSurface l) (x y : Lengths) (len : AreLengths l x
 
       at : (use_point l y (use_of l w) o ≡ node n) ⊎ (use_point l y (use_of l w) (o + 1) ≡ node n) → (v : Slot)
           × IsOtherSlot l w v
-      at (inl e) = by_end o (node_end l y laid lon (use_of l w) o n (omega arith) (omega arith) e)
-      at (inr e) = by_end (o + 1) (node_end l y laid lon (use_of l w) (o + 1) n (omega arith) (omega arith) e)
+      at (inl e) = by_end o (node_end laid lon (use_of l w) o n (omega arith) (omega arith) e)
+      at (inr e) = by_end (o + 1) (node_end laid lon (use_of l w) (o + 1) n (omega arith) (omega arith) e)
 
-  module _ (F G : Faces) (cell new : CellDart → ℕ) (f : IsModel F l x laid len cell) (g : IsModel G l y laid lon new)
-      (n u v : ℕ) (is_u : IsVertex l x laid len F cell f (node n) u) (is_v : IsVertex l y laid lon G new g (node n)
-      v) where
+  module _ {F G : Faces} {cell new : CellDart → ℕ} {f : IsModel F l x laid len cell} {g : IsModel G l y laid lon new}
+      (n : ℕ) {u v : ℕ} (is_u : IsVertex f (node n) u) (is_v : IsVertex g (node n) v) where
     pub inner_to : is_inner F u ≡ true → is_inner G v ≡ true
-    inner_to inner = inner_if l y laid lon G new g (node n) v is_v
-        (node_shared n (inner_only l x laid len F cell f (node n) u is_u inner))
+    inner_to inner = inner_if g is_v (node_shared n (inner_only f is_u inner))
 
     pub faces_le : faces_at F u ≤ faces_at G v
     faces_le = omega (
@@ -115,37 +113,35 @@ module _ (l : Layout) (laid : IsSurface l) (x y : Lengths) (len : AreLengths l x
     )
       where
         sorted : (k : ℕ) (low : k < darts F) → (from_of F k == u) ≡ true → (w : Slot) × (b : Bool)
-            × IsAtNode l x laid len n (f.onto k low).0 w b
-        sorted k low s = node_sort l x laid len n (f.onto k low).0 (f.onto k low).1
+            × IsAtNode laid len n (f.onto k low).0 w b
+        sorted k low s = node_sort laid len n (f.onto k low).1
             (is_u.back (f.onto k low).0 (f.onto k low).1 (ap (from_of F) (f.onto k low).2 ∙ eqb-true (from_of F k) u s))
 
-        image : (d : CellDart) (w : Slot) (b : Bool) → IsAtNode l x laid len n d w b → IsDart l y (spot_dart l y w 0 b)
+        image : {d : CellDart} {w : Slot} {b : Bool} → IsAtNode laid len n d w b → IsDart l y (spot_dart l y w 0 b)
             × IsAt l y laid lon (spot_dart l y w 0 b) w 0 × (dart_start l y (spot_dart l y w 0 b) ≡ node n)
-        image d w b s =
+        image {w} {b} s =
             let some : 0 < y (use_of l w).arc = use_some l y laid.paved lon w s.at.is_slot in
-            let later : b ≡ true → 0 < place_at l y w 0 = later_place l y laid lon w b s.at.is_slot s.later in
-            let at : IsAt l y laid lon (spot_dart l y w 0 b) w 0
-            = spot_at l y laid lon w 0 b s.at.is_slot some later in (
-              spot_is l y laid lon w 0 b s.at.is_slot some later,
+            let later : b ≡ true → 0 < place_at l y w 0 = later_place laid lon w b s.at.is_slot s.later in
+            let at : IsAt l y laid lon (spot_dart l y w 0 b) w 0 = spot_at laid lon 0 b s.at.is_slot some later in (
+              spot_is laid lon w 0 b s.at.is_slot some later,
               at,
               at.leaves ∙ use_begins l y (use_of l w) some ∙ ap node s.start,
             )
 
-        once : (d e : CellDart) (s : (w : Slot) × (b : Bool) × IsAtNode l x laid len n d w b) (r : (w : Slot)
-            × (b : Bool) × IsAtNode l x laid len n e w b)
+        once : {d e : CellDart} (s : (w : Slot) × (b : Bool) × IsAtNode laid len n d w b)
+            (r : (w : Slot) × (b : Bool) × IsAtNode laid len n e w b)
             → spot_dart l y s.0 0 s.1 ≡ spot_dart l y r.0 0 r.1 → d ≡ e
-        once d e s r same =
-            let slots : s.0 ≡ r.0 = (at_once l y laid lon (spot_dart l y r.0 0 r.1) s.0 r.0 0 0
-            (rw same at (image d s.0 s.1 s.2).1) (image e r.0 r.1 r.2).1).0 in
-            let ways = spot_once l y laid lon r.0 0 s.1 r.1 ((λ t. spot_dart l y (sym slots t) 0 s.1) ∙ same) in
+        once {d} {e} s r same =
+            let slots : s.0 ≡ r.0 = (at_once laid lon {w = s.0} {o = 0} (rw same at (image s.2).1) (image r.2).1).0 in
+            let ways = spot_once laid lon r.0 0 s.1 r.1 ((λ t. spot_dart l y (sym slots t) 0 s.1) ∙ same) in
             s.2.dart ∙ (λ t. spot_dart l x (slots t) 0 (ways t)) ∙ sym r.2.dart
 
         to : (k : ℕ) (low : k < darts F) → (from_of F k == u) ≡ true → (m : ℕ) × (m < darts G)
             × ((from_of G m == v) ≡ true)
         to k low s =
-            let r : (w : Slot) × (b : Bool) × IsAtNode l x laid len n (f.onto k low).0 w b = sorted k low s in
+            let r : (w : Slot) × (b : Bool) × IsAtNode laid len n (f.onto k low).0 w b = sorted k low s in
             let i : IsDart l y (spot_dart l y r.0 0 r.1) × IsAt l y laid lon (spot_dart l y r.0 0 r.1) r.0 0
-            × (dart_start l y (spot_dart l y r.0 0 r.1) ≡ node n) = image (f.onto k low).0 r.0 r.1 r.2 in (
+            × (dart_start l y (spot_dart l y r.0 0 r.1) ≡ node n) = image r.2 in (
               new (spot_dart l y r.0 0 r.1),
               g.low (spot_dart l y r.0 0 r.1) i.0,
               eq-eqb (from_of G (new (spot_dart l y r.0 0 r.1))) v (is_v.there (spot_dart l y r.0 0 r.1) i.0 i.2),
@@ -154,23 +150,17 @@ module _ (l : Layout) (laid : IsSurface l) (x y : Lengths) (len : AreLengths l x
         most : passing (λ d. from_of F d == u) (darts F) ≤ passing (λ d. from_of G d == v) (darts G)
         most = passing_le (λ d. from_of F d == u) (λ d. from_of G d == v) (darts F) (darts G) to
             (λ k m low s less r same. sym (f.onto k low).2
-            ∙ ap cell (once (f.onto k low).0 (f.onto m less).0 (sorted k low s) (sorted m less r)
+            ∙ ap cell (once (sorted k low s) (sorted m less r)
             (g.same (spot_dart l y (sorted k low s).0 0 (sorted k low s).1)
-            (spot_dart l y (sorted m less r).0 0 (sorted m less r).1)
-            (image (f.onto k low).0 (sorted k low s).0 (sorted k low s).1 (sorted k low s).2).0
-            (image (f.onto m less).0 (sorted m less r).0 (sorted m less r).1 (sorted m less r).2).0 same))
-            ∙ (f.onto m less).2)
+            (spot_dart l y (sorted m less r).0 0 (sorted m less r).1) (image (sorted k low s).2).0
+            (image (sorted m less r).2).0 same)) ∙ (f.onto m less).2)
 
-module _ (l : Layout) (laid : IsSurface l) (x y : Lengths) (len : AreLengths l x) (lon : AreLengths l y) (F G : Faces)
-    (cell new : CellDart → ℕ) (f : IsModel F l x laid len cell) (g : IsModel G l y laid lon new) (n u v : ℕ)
-    (is_u : IsVertex l x laid len F cell f (node n) u) (is_v : IsVertex l y laid lon G new g (node n) v) where
+module _ {l : Layout} {laid : IsSurface l} {x y : Lengths} {len : AreLengths l x} {lon : AreLengths l y} {F G : Faces}
+    {cell new : CellDart → ℕ} {f : IsModel F l x laid len cell} {g : IsModel G l y laid lon new} (n : ℕ) {u v : ℕ}
+    (is_u : IsVertex f (node n) u) (is_v : IsVertex g (node n) v) where
   pub node_faces : faces_at F u ≡ faces_at G v
-  node_faces = omega (
-    arith,
-    faces_le l laid x y len lon F G cell new f g n u v is_u is_v,
-    faces_le l laid y x lon len G F new cell g f n v u is_v is_u,
-  )
+  node_faces = omega (arith, faces_le laid len lon n is_u is_v, faces_le laid lon len n is_v is_u)
 
   pub node_inner : is_inner F u ≡ is_inner G v
-  node_inner = same_test (is_inner F u) (is_inner G v) (inner_to l laid x y len lon F G cell new f g n u v is_u is_v)
-      (inner_to l laid y x lon len G F new cell g f n v u is_v is_u)
+  node_inner = same_test (is_inner F u) (is_inner G v) (inner_to laid len lon n is_u is_v)
+      (inner_to laid lon len n is_v is_u)

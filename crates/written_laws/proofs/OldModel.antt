@@ -32,19 +32,20 @@ next_prev d = by_way d.way
     by_way : (w : Way) → dart d.patch d.i d.j (side_after (side_before w)) ≡ dart d.patch d.i d.j w
     by_way = elim [ south ↦ refl | east ↦ refl | north ↦ refl | west ↦ refl ]
 
-module _ (l : Layout) (x : Lengths) (laid : IsSurface l) (len : AreLengths l x) where
+module _ {l : Layout} {x : Lengths} (laid : IsSurface l) (len : AreLengths l x) where
   -- One dart lies across.
-  across_unique : (d e c : CellDart) → IsAcross l x laid len d e → IsAcross l x laid len d c → e ≡ c
-  across_unique d e c a b = course_once l x laid len e c a.is_dart b.is_dart
+  across_unique : {d : CellDart} (e : CellDart) {c : CellDart} → IsAcross l x laid len d e → IsAcross l x laid len d c
+      → e ≡ c
+  across_unique e {c} a b = course_once l x laid len a.is_dart b.is_dart
       (λ t. course ((a.edge ∙ sym b.edge) t) ((a.turned ∙ sym b.turned) t))
 
   -- Inside a patch it leaves the grid point where the other dart ends.
   across_grid : (d e : CellDart) → IsWithin l x d → IsAcross l x laid len d e
       → (e.patch ≡ d.patch) × (column_of e ≡ column_of (next d)) × (row_of e ≡ row_of (next d))
   across_grid d e i a =
-      let c = across_within l x laid len d i in
+      let c = across_within laid len d i in
       subst (λ (b : CellDart). (b.patch ≡ d.patch) × (column_of b ≡ column_of (next d))
-      × (row_of b ≡ row_of (next d))) (across_unique d c.0 e c.1 a) (c.2, c.3, c.4)
+      × (row_of b ≡ row_of (next d))) (across_unique c.0 c.1 a) (c.2, c.3, c.4)
 
   -- The dart after a border dart that ends at a node leaves that node: its slot is the next one.
   after_border : (b u : Slot) (o : ℕ) → IsSlot l b → o < x (use_of l b).arc
@@ -52,10 +53,10 @@ module _ (l : Layout) (x : Lengths) (laid : IsSurface l) (len : AreLengths l x) 
       → (slot_before l u.patch u.side u.at ≡ b) × (o + 1 ≡ x (use_of l b).arc)
   after_border b u o is_b less at = elim (cases_lt (o + 1) (x (use_of l b).arc)) [
     | inl more ↦
-        let here = at_place l x laid len (next (slot_dart l x b o)) b (o + 1) is_b more
-        (rim_patch l x laid.paved len b.patch b.side (place_at l x b o))
+        let here = at_place laid len (next (slot_dart l x b o)) (o + 1) is_b more
+        (rim_patch laid.paved len b.patch b.side (place_at l x b o))
         (columns ∙ ap (side_column l x b.patch b.side) one) (rows ∙ ap (side_row l x b.patch b.side) one) in
-        absurd (omega (arith, (at_once l x laid len (next (slot_dart l x b o)) u b 0 (o + 1) at here).1))
+        absurd (omega (arith, (at_once laid len at here).1))
     | inr none ↦ elim (cases_lt (suc b.at) (l.many b.patch b.side)) [
       | inl another ↦ (by_next another none, omega (arith, less, none))
       | inr last ↦ (by_corner last none, omega (arith, less, none))
@@ -63,28 +64,28 @@ module _ (l : Layout) (x : Lengths) (laid : IsSurface l) (len : AreLengths l x) 
   ]
     where
       t_low : place_at l x b o < size l x b.patch b.side
-      t_low = at_low l x laid.paved len b o is_b less
+      t_low = at_low l x laid.paved len o is_b less
 
       one : place_at l x b o + 1 ≡ place_at l x b (o + 1)
       one = omega arith
 
       columns : column_of (next (slot_dart l x b o)) ≡ side_column l x b.patch b.side (place_at l x b o + 1)
-      columns = rim_next_column l x laid.paved len b.patch b.side (place_at l x b o) is_b.patch_low t_low
+      columns = rim_next_column laid.paved len b.patch b.side (place_at l x b o) is_b.patch_low t_low
 
       rows : row_of (next (slot_dart l x b o)) ≡ side_row l x b.patch b.side (place_at l x b o + 1)
-      rows = rim_next_row l x laid.paved len b.patch b.side (place_at l x b o) is_b.patch_low t_low
+      rows = rim_next_row laid.paved len b.patch b.side (place_at l x b o) is_b.patch_low t_low
 
       by_next : suc b.at < l.many b.patch b.side → x (use_of l b).arc ≤ o + 1 → slot_before l u.patch u.side u.at ≡ b
       by_next another none =
           let is_v : IsSlot l (slot b.patch b.side (suc b.at)) = record { patch_low = is_b.patch_low; low = another } in
           let place : place_at l x b o + 1 ≡ place_at l x (slot b.patch b.side (suc b.at)) 0 =
           omega (arith, less, none) in
-          let there = at_place l x laid len (next (slot_dart l x b o)) (slot b.patch b.side (suc b.at)) 0 is_v
+          let there = at_place laid len (next (slot_dart l x b o)) 0 is_v
           (use_some l x laid.paved len (slot b.patch b.side (suc b.at)) is_v)
-          (rim_patch l x laid.paved len b.patch b.side (place_at l x b o))
+          (rim_patch laid.paved len b.patch b.side (place_at l x b o))
           (columns ∙ ap (side_column l x b.patch b.side) place) (rows ∙ ap (side_row l x b.patch b.side) place) in
           ap (λ (w : Slot). slot_before l w.patch w.side w.at)
-          (at_once l x laid len (next (slot_dart l x b o)) u (slot b.patch b.side (suc b.at)) 0 0 at there).0
+          (at_once laid len at there).0
 
       by_corner : l.many b.patch b.side ≤ suc b.at → x (use_of l b).arc ≤ o + 1 → slot_before l u.patch u.side u.at ≡ b
       by_corner last none =
@@ -96,38 +97,37 @@ module _ (l : Layout) (x : Lengths) (laid : IsSurface l) (len : AreLengths l x) 
           let many : suc b.at ≡ l.many b.patch b.side = omega (arith, last, is_b.low) in
           let end : place_at l x b o + 1 ≡ size l x b.patch b.side =
           omega (arith, less, none, ap (reach l x b.patch b.side) many) in
-          let there = at_place l x laid len (next (slot_dart l x b o)) (slot b.patch (side_after b.side) 0) 0 is_v
+          let there = at_place laid len (next (slot_dart l x b o)) 0 is_v
           (use_some l x laid.paved len (slot b.patch (side_after b.side) 0) is_v)
-          (rim_patch l x laid.paved len b.patch b.side (place_at l x b o))
-          (columns ∙ corner_column l x laid.paved len b.patch b.side (place_at l x b o + 1) is_b.patch_low end)
-          (rows ∙ corner_row l x laid.paved len b.patch b.side (place_at l x b o + 1) is_b.patch_low end) in
+          (rim_patch laid.paved len b.patch b.side (place_at l x b o))
+          (columns ∙ corner_column laid.paved len b.patch b.side is_b.patch_low end)
+          (rows ∙ corner_row laid.paved len b.patch b.side is_b.patch_low end) in
           ap (λ (w : Slot). slot_before l w.patch w.side w.at)
-          (at_once l x laid len (next (slot_dart l x b o)) u (slot b.patch (side_after b.side) 0) 0 0 at there).0
+          (at_once laid len at there).0
           ∙ (λ t. slot b.patch (before_after b.side t) (l.many b.patch (before_after b.side t) - 1))
           ∙ (λ t. slot b.patch b.side (sym at_last t))
 
   -- A turn of the mesh at a node stays at a slot, or is a turn of the layout.
-  slot_turn : (d e : CellDart) (u w : Slot) → IsDart l x d → IsDart l x e → IsAt l x laid len d u 0
+  slot_turn : {d e : CellDart} {u w : Slot} → IsDart l x d → IsDart l x e → IsAt l x laid len d u 0
       → IsAt l x laid len e w 0 → IsAcross l x laid len (prev d) e → (u ≡ w) ⊎ IsTurn l u w
-  slot_turn d e u w is_d is_e at_u at_w a = by_sight (sees l x laid len (prev d) (prev_is l x d is_d))
+  slot_turn {d} {e} {u} {w} is_d is_e at_u at_w a = by_sight (sees l x laid len (prev_is l x d is_d))
     where
       within : IsWithin l x (prev d) → u ≡ w
       within i =
           let g = across_grid (prev d) e i a in
-          let here = at_place l x laid len e u 0 at_u.is_slot at_u.low (g.0 ∙ at_u.patch)
+          let here = at_place laid len e 0 at_u.is_slot at_u.low (g.0 ∙ at_u.patch)
           (g.1 ∙ ap column_of (next_prev d) ∙ at_u.column) (g.2 ∙ ap row_of (next_prev d) ∙ at_u.row) in
-          (at_once l x laid len e u w 0 0 here at_w).0
+          (at_once laid len here at_w).0
 
       over : (b v : Slot) (o : ℕ) → IsOnBorder l x (prev d) b o → IsOtherSlot l b v → IsTurn l u w
       over b v o on other =
           let follows : d ≡ next (slot_dart l x b o) = sym (next_prev d) ∙ ap next on.dart in
           let s = after_border b u o on.is_slot on.low (rw follows at at_u) in
           let z : x (use_of l b).arc - 1 - o ≡ 0 = omega (arith, s.1) in
-          let there = across_unique (slot_dart l x b o) e (slot_dart l x v (x (use_of l b).arc - 1 - o))
-          (rw on.dart at a) (across_border l x laid len b v o on.is_slot other on.low) in
+          let there = across_unique e (rw on.dart at a) (across_border laid len b v o on.is_slot other on.low) in
           let at_v : IsAt l x laid len e v 0 = rw (there ∙ ap (slot_dart l x v) z)
-          (rim_is_at l x laid len v 0 other.0 (use_some l x laid.paved len v other.0)) in
-          let same : v ≡ w = (at_once l x laid len e v w 0 0 at_v at_w).0 in
+          (rim_is_at laid len v 0 other.0 (use_some l x laid.paved len v other.0)) in
+          let same : v ≡ w = (at_once laid len at_v at_w).0 in
           record { is_slot = at_w.is_slot; reverse = rw s.0 (rw same at other.1) }
 
       by_sight : IsWithin l x (prev d) ⊎ ((b : Slot) × (o : ℕ) × IsOnBorder l x (prev d) b o) → (u ≡ w) ⊎ IsTurn l u w
@@ -136,8 +136,8 @@ module _ (l : Layout) (x : Lengths) (laid : IsSurface l) (len : AreLengths l x) 
         where
           by_other : ((v : Slot) × IsOtherSlot l on.0 v) ⊎ ((v : Slot) → ¬ IsOtherSlot l on.0 v) → IsTurn l u w
           by_other (inl v) = over on.0 v.0 on.1 on.2 v.1
-          by_other (inr none) =
-              absurd (alone_not_across l x laid len (prev d) e on.0 on.1 (record { on_border = on.2; alone = none }) a)
+          by_other (inr none) = absurd (alone_not_across laid len {d = prev d} e {w = on.0} {o = on.1}
+              (record { on_border = on.2; alone = none }) a)
 
 module _ (faces : Faces) (manifold : IsManifold faces) (l : Layout) (x : Lengths) (paved : HasWholeSides l)
     (len : AreLengths l x) (cell : CellDart → ℕ) (vertex : ℕ → ℕ) (arc_dart : ℕ → ℕ → ℕ)
@@ -153,20 +153,18 @@ module _ (faces : Faces) (manifold : IsManifold faces) (l : Layout) (x : Lengths
 
   alike : (d e : CellDart) → IsDart l x d → IsDart l x e → dart_start l x d ≡ dart_start l x e
       → m.from (cell d) ≡ m.from (cell e)
-  alike = point_related l x old_laid len (AreFromOne m laws l x paved len cell vertex arc_dart s)
-      (from_turning m laws l x paved len cell vertex arc_dart s)
+  alike = point_related old_laid len (from_turning m laws l x paved len cell vertex arc_dart s)
       (λ v w is_v is_w same. starts m laws l x paved len cell vertex arc_dart s v is_v ∙ ap vertex same
       ∙ sym (starts m laws l x paved len cell vertex arc_dart s w is_w))
 
   across_twin : (d e : CellDart) → IsDart l x d → IsAcross l x old_laid len d e → m.twin (cell d) ≡ Some (cell e)
   across_twin d e is a = laws.twin_found (cell d) (cell e) (s.low d is) (s.low e a.is_dart)
-      (alike e (next d) a.is_dart (next_is l x d is) (across_ends l x old_laid len d e is a).0 ∙ ap m.from (s.turned d))
-      (ap m.from (sym (s.turned e)) ∙ alike (next e) d (next_is l x e a.is_dart) is
-      (across_ends l x old_laid len d e is a).1)
+      (alike e (next d) a.is_dart (next_is l x d is) (across_ends old_laid len is a).0 ∙ ap m.from (s.turned d))
+      (ap m.from (sym (s.turned e)) ∙ alike (next e) d (next_is l x e a.is_dart) is (across_ends old_laid len is a).1)
 
   -- Where no slot uses an arc the other way round, its darts have no twin.
-  alone_twin : (d : CellDart) (w : Slot) (o : ℕ) → IsAlone l x old_laid len d w o → m.twin (cell d) ≡ None
-  alone_twin d w o a = ap (λ (c : CellDart). m.twin (cell c)) a.on_border.dart
+  alone_twin : {d : CellDart} {w : Slot} {o : ℕ} → IsAlone old_laid len d w o → m.twin (cell d) ≡ None
+  alone_twin {w} {o} a = ap (λ (c : CellDart). m.twin (cell c)) a.on_border.dart
       ∙ ap m.twin (s.ahead w o a.on_border.is_slot a.on_border.low w_forward)
       ∙ s.alone (use_of l w).arc o (paved.arc_low w a.on_border.is_slot) a.on_border.low all_forward
     where
@@ -193,33 +191,33 @@ module _ (faces : Faces) (manifold : IsManifold faces) (l : Layout) (x : Lengths
       ]
 
   alone : (d : CellDart) → IsDart l x d → ((e : CellDart) → ¬ IsAcross l x old_laid len d e) → m.twin (cell d) ≡ None
-  alone d is none = elim (across_or_alone l x old_laid len d is) [
+  alone d is none = elim (across_or_alone old_laid len d is) [
     | inl a ↦ absurd (none a.0 a.1)
-    | inr a ↦ alone_twin d a.0 a.1 a.2
+    | inr a ↦ alone_twin a.2
   ]
 
   -- What the mesh tells to be the twin lies across.
   pub twin_is_across : (d e : CellDart) → IsDart l x d → IsDart l x e → m.twin (cell d) ≡ Some (cell e)
       → IsAcross l x old_laid len d e
-  twin_is_across d e is_d is_e twin = elim (across_or_alone l x old_laid len d is_d) [
+  twin_is_across d e is_d is_e twin = elim (across_or_alone old_laid len d is_d) [
     | inl a ↦ subst (IsAcross l x old_laid len d)
         (s.same a.0 e a.1.is_dart is_e (same_Some (cell a.0) (cell e) (sym (across_twin d a.0 is_d a.1) ∙ twin))) a.1
-    | inr a ↦ absurd (none-some (cell e) (sym (alone_twin d a.0 a.1 a.2) ∙ twin))
+    | inr a ↦ absurd (none-some (cell e) (sym (alone_twin a.2) ∙ twin))
   ]
 
   prev_cell : (d : CellDart) → m.prev (cell d) ≡ cell (prev d)
   prev_cell d = ap (λ (c : CellDart). m.prev (cell c)) (sym (next_prev d)) ∙ ap m.prev (s.turned (prev d))
       ∙ laws.prev_next (cell (prev d))
 
-  turn_across : (d e : CellDart) → IsDart l x d → IsDart l x e → m.twin (m.prev (cell d)) ≡ Some (cell e)
+  turn_across : {d e : CellDart} → IsDart l x d → IsDart l x e → m.twin (m.prev (cell d)) ≡ Some (cell e)
       → IsAcross l x old_laid len (prev d) e
-  turn_across d e is_d is_e twin = twin_is_across (prev d) e (prev_is l x d is_d) is_e (ap m.twin (sym (prev_cell d))
-      ∙ twin)
+  turn_across {d} {e} is_d is_e twin =
+      twin_is_across (prev d) e (prev_is l x d is_d) is_e (ap m.twin (sym (prev_cell d)) ∙ twin)
 
   turn_point : (d e : CellDart) → IsDart l x d → IsDart l x e → m.twin (m.prev (cell d)) ≡ Some (cell e)
       → dart_start l x e ≡ dart_start l x d
-  turn_point d e is_d is_e twin = (across_ends l x old_laid len (prev d) e (prev_is l x d is_d)
-      (turn_across d e is_d is_e twin)).0 ∙ ap (dart_start l x) (next_prev d)
+  turn_point d e is_d is_e twin = (across_ends old_laid len (prev_is l x d is_d)
+      (turn_across is_d is_e twin)).0 ∙ ap (dart_start l x) (next_prev d)
 
   turned_point : (d e : CellDart) → IsDart l x d → IsDart l x e → AreTurned (half_edges faces) (cell d) (cell e)
       → dart_start l x d ≡ dart_start l x e
@@ -258,40 +256,40 @@ module _ (faces : Faces) (manifold : IsManifold faces) (l : Layout) (x : Lengths
   }
 
   -- The turns of the mesh round a node are turns of the layout.
-  layout_turns : (v : Slot) (n : ℕ) → IsSlot l v → (d : CellDart) (u : Slot) → IsDart l x d
-      → IsAt l x old_laid len d u 0
-      → MeshTurns (half_edges faces) (cell (slot_dart l x v 0)) (cell d) n → (k : ℕ) × SlotTurns l v u k
-  layout_turns v zero is_v d u is_d at_u t =
+  layout_turns : {v : Slot} (n : ℕ) → IsSlot l v → {d : CellDart} {u : Slot} → IsDart l x d
+      → IsAt l x old_laid len d u 0 → MeshTurns (half_edges faces) (cell (slot_dart l x v 0)) (cell d) n → (k : ℕ)
+      × SlotTurns l v u k
+  layout_turns {v} zero is_v {d} {u} is_d at_u t =
       let some : 0 < x (use_of l v).arc = use_some l x paved len v is_v in
       let same = s.same (slot_dart l x v 0) d (at_is l x paved len v 0 is_v some) is_d t in (
         zero,
-        (at_once l x old_laid len d v u 0 0 (rw same at (rim_is_at l x old_laid len v 0 is_v some)) at_u).0,
+        (at_once old_laid len {w = v} {o = 0} (rw same at (rim_is_at old_laid len v 0 is_v some)) at_u).0,
       )
-  layout_turns v (suc n) is_v d u is_d at_u t =
+  layout_turns {v} (suc n) is_v {d} {u} is_d at_u t =
       let some : 0 < x (use_of l v).arc = use_some l x paved len v is_v in
       let c = s.onto t.0 (turns_low (cell (slot_dart l x v 0)) t.0 n
       (s.low (slot_dart l x v 0) (at_is l x paved len v 0 is_v some)) t.1) in
       let turned : AreTurned (half_edges faces) (cell c.0) (cell d) = rw c.2 t.3 in
       let leaves = turned_point c.0 d c.1 is_d turned ∙ at_u.leaves ∙ use_begins l x (use_of l u) at_u.low in
-      let w = node_sort l x old_laid len (start_node l (use_of l u)) c.0 c.1 leaves in
-      let before = layout_turns v n is_v c.0 w.0 c.1 w.2.at (rw c.2 t.1) in
+      let w = node_sort old_laid len (start_node l (use_of l u)) c.1 leaves in
+      let before = layout_turns n is_v c.1 w.2.at (rw c.2 t.1) in
       elim turned [
-        | inl twin ↦ step c.0 w.0 w.2.at before
-            (elim (slot_turn l x old_laid len c.0 d w.0 u c.1 is_d w.2.at at_u (turn_across c.0 d c.1 is_d twin)) [
+        | inl twin ↦ step w.2.at before
+            (elim (slot_turn old_laid len c.1 is_d w.2.at at_u (turn_across c.1 is_d twin)) [
               | inl same ↦ inl same
               | inr turn ↦ inr (inl turn)
             ])
-        | inr twin ↦ step c.0 w.0 w.2.at before
-            (elim (slot_turn l x old_laid len d c.0 u w.0 is_d c.1 at_u w.2.at (turn_across d c.0 is_d c.1 twin)) [
+        | inr twin ↦ step w.2.at before
+            (elim (slot_turn old_laid len is_d c.1 at_u w.2.at (turn_across is_d c.1 twin)) [
               | inl same ↦ inl (sym same)
               | inr turn ↦ inr (inr turn)
             ])
       ]
     where
-      step : (c : CellDart) (w : Slot) → IsAt l x old_laid len c w 0 → (k : ℕ) × SlotTurns l v w k
-          → (w ≡ u) ⊎ (IsTurn l w u ⊎ IsTurn l u w) → (k : ℕ) × SlotTurns l v u k
-      step c w at_w before (inl same) = (before.0, rw same at before.1)
-      step c w at_w before (inr turn) = (suc before.0, (w, at_w.is_slot, before.1, turn))
+      step : {c : CellDart} {w : Slot} → IsAt l x old_laid len c w 0 → (k : ℕ) × SlotTurns l v w k → (w ≡ u)
+          ⊎ (IsTurn l w u ⊎ IsTurn l u w) → (k : ℕ) × SlotTurns l v u k
+      step at_w before (inl same) = (before.0, rw same at before.1)
+      step {w} at_w before (inr turn) = (suc before.0, (w, at_w.is_slot, before.1, turn))
 
   pub old_fans : HasFans l
   old_fans v w is_v is_w same =
@@ -302,5 +300,5 @@ module _ (faces : Faces) (manifold : IsManifold faces) (l : Layout) (x : Lengths
       (s.low (slot_dart l x w 0) (at_is l x paved len w 0 is_w w_some))
       (starts m laws l x paved len cell vertex arc_dart s v is_v ∙ ap vertex same
       ∙ sym (starts m laws l x paved len cell vertex arc_dart s w is_w)) in
-      layout_turns v t.0 is_v (slot_dart l x w 0) w (at_is l x paved len w 0 is_w w_some)
-      (rim_is_at l x old_laid len w 0 is_w w_some) t.1
+      layout_turns t.0 is_v (at_is l x paved len w 0 is_w w_some)
+      (rim_is_at old_laid len w 0 is_w w_some) t.1

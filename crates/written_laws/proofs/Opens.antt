@@ -16,7 +16,7 @@ use Rattle.written_laws.proofs.Spokes.{one_way, tip, Joins, joins_swap, arc_sort
 use Rattle.written_laws.proofs.Spokes.{point_sort, Inner, hub, tip_low, spoke_joins}
 use Rattle.written_laws.proofs.Spokes.{hub_edge, loop_at}
 
-module _ (l : Layout) (x : Lengths) (laid : IsSurface l) (len : AreLengths l x) (open_l : IsOpen l x) where
+module _ {l : Layout} {x : Lengths} (laid : IsSurface l) (len : AreLengths l x) (open_l : IsOpen l x) where
   side_two : (p : ℕ) (s : Way) → p < l.patches → 2 ≤ size l x p s
   side_two p s p_low =
       let first : IsSlot l (slot p s 0) = first_slot l x laid.paved len p s p_low in
@@ -34,42 +34,35 @@ module _ (l : Layout) (x : Lengths) (laid : IsSurface l) (len : AreLengths l x) 
       v : Slot
       v = slot p (side_after s) 0
 
-      is_w : IsSlot l (slot p s (l.many p s - 1))
+      is_w : IsSlot l w
       is_w = last_slot l x laid.paved len p s p_low
 
-      is_v : IsSlot l (slot p (side_after s) 0)
+      is_v : IsSlot l v
       is_v = first_slot l x laid.paved len p (side_after s) p_low
 
-      w_two : 2 ≤ x (use_of l (slot p s (l.many p s - 1))).arc
-      w_two = open_l.two (use_of l (slot p s (l.many p s - 1))).arc (laid.paved.arc_low (slot p s (l.many p s - 1))
-          is_w)
+      w_two : 2 ≤ x (use_of l w).arc
+      w_two = open_l.two (use_of l w).arc (laid.paved.arc_low w is_w)
 
-      v_two : 2 ≤ x (use_of l (slot p (side_after s) 0)).arc
-      v_two = open_l.two (use_of l (slot p (side_after s) 0)).arc (laid.paved.arc_low (slot p (side_after s) 0) is_v)
+      v_two : 2 ≤ x (use_of l v).arc
+      v_two = open_l.two (use_of l v).arc (laid.paved.arc_low v is_v)
 
-      place : t ≡ reach l x p s (l.many p s - 1) + (x (use_of l (slot p s (l.many p s - 1))).arc - 1)
+      place : t ≡ reach l x p s (l.many p s - 1) + (x (use_of l w).arc - 1)
       place = omega (arith, last_reach l x laid.paved len p s p_low, w_two)
 
-      w_point : side_point l x p s t ≡ along (use_of l (slot p s (l.many p s - 1))).arc
-          (cond (use_of l (slot p s (l.many p s - 1))).forward (x (use_of l (slot p s (l.many p s - 1))).arc - 1)
-          (x (use_of l (slot p s (l.many p s - 1))).arc - (x (use_of l (slot p s (l.many p s - 1))).arc - 1)))
-      w_point = ap (side_point l x p s) place ∙ side_in l x (slot p s (l.many p s - 1))
-          (x (use_of l (slot p s (l.many p s - 1))).arc - 1) is_w (omega (arith, w_two))
-          ∙ use_inner l x (use_of l (slot p s (l.many p s - 1))) (x (use_of l (slot p s (l.many p s - 1))).arc - 1)
-          (omega (arith, w_two)) (omega (arith, w_two))
+      w_point : side_point l x p s t ≡ along (use_of l w).arc
+          (cond (use_of l w).forward (x (use_of l w).arc - 1) (x (use_of l w).arc - (x (use_of l w).arc - 1)))
+      w_point = ap (side_point l x p s) place ∙ side_in l x (x (use_of l w).arc - 1) is_w (omega (arith, w_two))
+          ∙ use_inner l x (use_of l w) (x (use_of l w).arc - 1) (omega (arith, w_two)) (omega (arith, w_two))
 
-      v_point : side_point l x p (side_after s) 1 ≡ along (use_of l (slot p (side_after s) 0)).arc
-          (cond (use_of l (slot p (side_after s) 0)).forward 1 (x (use_of l (slot p (side_after s) 0)).arc - 1))
-      v_point = side_in l x (slot p (side_after s) 0) 1 is_v (omega (arith, v_two))
-          ∙ use_inner l x (use_of l (slot p (side_after s) 0)) 1 (omega arith) (omega (arith, v_two))
+      v_point : side_point l x p (side_after s) 1 ≡ along (use_of l v).arc
+          (cond (use_of l v).forward 1 (x (use_of l v).arc - 1))
+      v_point = side_in l x 1 is_v (omega (arith, v_two))
+          ∙ use_inner l x (use_of l v) 1 (omega arith) (omega (arith, v_two))
 
-      arcs : (use_of l (slot p s (l.many p s - 1))).arc ≡ (use_of l (slot p (side_after s) 0)).arc
-      arcs = let f : along (use_of l (slot p s (l.many p s - 1))).arc
-          (cond (use_of l (slot p s (l.many p s - 1))).forward (x (use_of l (slot p s (l.many p s - 1))).arc - 1)
-          (x (use_of l (slot p s (l.many p s - 1))).arc - (x (use_of l (slot p s (l.many p s - 1))).arc - 1)))
-          ≡ along (use_of l (slot p (side_after s) 0)).arc
-          (cond (use_of l (slot p (side_after s) 0)).forward 1 (x (use_of l (slot p (side_after s) 0)).arc - 1)) =
-          sym w_point ∙ same ∙ v_point in cc
+      arcs : (use_of l w).arc ≡ (use_of l v).arc
+      arcs = let f : along (use_of l w).arc (cond (use_of l w).forward (x (use_of l w).arc - 1)
+          (x (use_of l w).arc - (x (use_of l w).arc - 1))) ≡ along (use_of l v).arc
+          (cond (use_of l v).forward 1 (x (use_of l v).arc - 1)) = sym w_point ∙ same ∙ v_point in cc
 
       no_turn : (s : Way) → s ≢ side_after s
       no_turn south f = cc
@@ -77,17 +70,14 @@ module _ (l : Layout) (x : Lengths) (laid : IsSurface l) (len : AreLengths l x) 
       no_turn north f = cc
       no_turn west f = cc
 
-      alike : (use_of l (slot p s (l.many p s - 1))).forward ≡ (use_of l (slot p (side_after s) 0)).forward → ⊥
+      alike : (use_of l w).forward ≡ (use_of l v).forward → ⊥
       alike ways = no_turn s (ap (λ (u : Slot). u.side)
-          (laid.once (slot p s (l.many p s - 1)) (slot p (side_after s) 0) is_w is_v
-          (λ r. record { arc = arcs r; forward = ways r })))
+          (laid.once w v is_w is_v (λ r. record { arc = arcs r; forward = ways r })))
 
-      turned : (use_of l (slot p (side_after s) 0)).forward ≡ not (use_of l (slot p s (l.many p s - 1))).forward → ⊥
-      turned ways = laid.no_fold (slot p (side_after s) 0) is_v refl
-          (rw (before_after s) (record { arc = sym arcs; turned = ways }))
+      turned : (use_of l v).forward ≡ not (use_of l w).forward → ⊥
+      turned ways = laid.no_fold v is_v refl (rw (before_after s) (record { arc = sym arcs; turned = ways }))
 
-      by_ways : (f g : Bool) → (use_of l (slot p s (l.many p s - 1))).forward ≡ f
-          → (use_of l (slot p (side_after s) 0)).forward ≡ g → ⊥
+      by_ways : (f g : Bool) → (use_of l w).forward ≡ f → (use_of l v).forward ≡ g → ⊥
       by_ways true true f g = alike (f ∙ sym g)
       by_ways false false f g = alike (f ∙ sym g)
       by_ways true false f g = turned (g ∙ ap not (sym f))
@@ -104,41 +94,25 @@ module _ (l : Layout) (x : Lengths) (laid : IsSurface l) (len : AreLengths l x) 
       ⊎ Far p i j w
   tip_case p i j east n = elim (cases_eq (i + 1) (wide l x p)) [
     | inl e ↦ inr e
-    | inr less ↦ inl (
-      n.0,
-      record { a_some = omega arith; a_low = omega (arith, n.1.a_low); b_some = n.1.b_some; b_low = n.1.b_low },
-    )
+    | inr less ↦ inl
+        (n.0, record { a_some = omega arith; a_low = omega (arith, n.1.a_low); b_some = n.1.b_some; b_low = n.1.b_low })
   ]
   tip_case p i j north n = elim (cases_eq (j + 1) (high l x p)) [
     | inl e ↦ inr e
-    | inr less ↦ inl (
-      n.0,
-      record { a_some = n.1.a_some; a_low = n.1.a_low; b_some = omega arith; b_low = omega (arith, n.1.b_low) },
-    )
+    | inr less ↦ inl
+        (n.0, record { a_some = n.1.a_some; a_low = n.1.a_low; b_some = omega arith; b_low = omega (arith, n.1.b_low) })
   ]
   tip_case p i j west n = elim (cases_eq i 1) [
     | inl e ↦ inr e
-    | inr more ↦ inl (
-      n.0,
-      record {
-        a_some = omega (arith, n.1.a_some);
-        a_low = omega (arith, n.1.a_low);
-        b_some = n.1.b_some;
-        b_low = n.1.b_low;
-      },
-    )
+    | inr more ↦
+        let a : (0 < i - 1) × (i - 1 < wide l x p) = (omega (arith, n.1.a_some), omega (arith, n.1.a_low)) in
+        inl (n.0, record { a_some = a.0; a_low = a.1; b_some = n.1.b_some; b_low = n.1.b_low })
   ]
   tip_case p i j south n = elim (cases_eq j 1) [
     | inl e ↦ inr e
-    | inr more ↦ inl (
-      n.0,
-      record {
-        a_some = n.1.a_some;
-        a_low = n.1.a_low;
-        b_some = omega (arith, n.1.b_some);
-        b_low = omega (arith, n.1.b_low);
-      },
-    )
+    | inr more ↦
+        let b : (0 < j - 1) × (j - 1 < high l x p) = (omega (arith, n.1.b_some), omega (arith, n.1.b_low)) in
+        inl (n.0, record { a_some = n.1.a_some; a_low = n.1.a_low; b_some = b.0; b_low = b.1 })
   ]
 
   near_tips : (p i j : ℕ) (w v : Way) → Inner l x laid len p i j → Inner l x laid len p (tip_column i w) (tip_row j w)
@@ -154,8 +128,8 @@ module _ (l : Layout) (x : Lengths) (laid : IsSurface l) (len : AreLengths l x) 
   east_north p i j n e f same =
       let one : wide l x p - i ≡ 1 = omega arith in
       beside_corner p east j n.0 (omega (arith, len.upright p n.0))
-      (sym (point_east l x laid len p (i + 1) j n.0 e (omega arith)) ∙ same
-      ∙ point_north l x laid len p i (j + 1) n.0 f ∙ ap (side_point l x p north) one)
+      (sym (point_east l x laid len p j n.0 e (omega arith)) ∙ same
+      ∙ point_north l x laid len p i n.0 f ∙ ap (side_point l x p north) one)
 
   north_west : (p i j : ℕ) → Inner l x laid len p i j → Far p i j north → Far p i j west
       → tip l x p i j north ≢ tip l x p i j west
@@ -163,7 +137,7 @@ module _ (l : Layout) (x : Lengths) (laid : IsSurface l) (len : AreLengths l x) 
       let first : i - 1 ≡ 0 = omega arith in
       let one : high l x p - j ≡ 1 = omega arith in
       beside_corner p north (wide l x p - i) n.0 (omega (arith, n.1.a_low, len.across p n.0))
-      (sym (point_north l x laid len p i (j + 1) n.0 e) ∙ same
+      (sym (point_north l x laid len p i n.0 e) ∙ same
       ∙ ap (λ k. point l x p k j) first ∙ point_west l x laid len p j n.0 (omega arith)
       ∙ ap (side_point l x p west) one)
 
@@ -182,7 +156,7 @@ module _ (l : Layout) (x : Lengths) (laid : IsSurface l) (len : AreLengths l x) 
       let bottom : j - 1 ≡ 0 = omega arith in
       beside_corner p south i n.0 f
       (ap (point l x p i) (sym bottom) ∙ same
-      ∙ point_east l x laid len p (i + 1) j n.0 f (omega (arith, n.1.b_low)) ∙ ap (side_point l x p east) e)
+      ∙ point_east l x laid len p j n.0 f (omega (arith, n.1.b_low)) ∙ ap (side_point l x p east) e)
 
   east_west : (p i j : ℕ) → Inner l x laid len p i j → Far p i j east → Far p i j west
       → tip l x p i j east ≢ tip l x p i j west
@@ -233,43 +207,22 @@ module _ (l : Layout) (x : Lengths) (laid : IsSurface l) (len : AreLengths l x) 
       → (p : ℕ) × (i : ℕ) × (j : ℕ) × (w : Way) × Inner l x laid len p i j × (e ≡ spoke p i j w)
   edge_spoke (on_arc a k) is off = absurd cc
   edge_spoke (flat p i j) is off = elim (cases_eq i 0) [
-    | inl z ↦ (
-      p,
-      1,
-      j,
-      west,
-      (
-        is.0,
-        record { a_some = omega arith; a_low = omega (arith, side_two p south is.0); b_some = is.2; b_low = is.3 },
-      ),
-      ap (λ k. flat p k j) z,
-    )
-    | inr some ↦ (
-      p,
-      i,
-      j,
-      east,
-      (is.0, record { a_some = omega arith; a_low = is.1; b_some = is.2; b_low = is.3 }),
-      refl,
-    )
+    | inl z ↦
+        let a_low : 1 < wide l x p = omega (arith, side_two p south is.0) in
+        let n : Inner l x laid len p 1 j =
+        (is.0, record { a_some = omega arith; a_low = a_low; b_some = is.2; b_low = is.3 }) in
+        (p, 1, j, west, n, ap (λ k. flat p k j) z)
+    | inr some ↦
+        (p, i, j, east, (is.0, record { a_some = omega arith; a_low = is.1; b_some = is.2; b_low = is.3 }), refl)
   ]
   edge_spoke (steep p i j) is off = elim (cases_eq j 0) [
-    | inl z ↦ (
-      p,
-      i,
-      1,
-      south,
-      (is.0, record { a_some = is.1; a_low = is.2; b_some = omega arith; b_low = omega (arith, side_two p west is.0) }),
-      ap (steep p i) z,
-    )
-    | inr some ↦ (
-      p,
-      i,
-      j,
-      north,
-      (is.0, record { a_some = is.1; a_low = is.2; b_some = omega arith; b_low = is.3 }),
-      refl,
-    )
+    | inl z ↦
+        let b_low : 1 < high l x p = omega (arith, side_two p west is.0) in
+        let n : Inner l x laid len p i 1 =
+        (is.0, record { a_some = is.1; a_low = is.2; b_some = omega arith; b_low = b_low }) in
+        (p, i, 1, south, n, ap (steep p i) z)
+    | inr some ↦
+        (p, i, j, north, (is.0, record { a_some = is.1; a_low = is.2; b_some = omega arith; b_low = is.3 }), refl)
   ]
 
   -- An edge with the ends of a spoke is that spoke.

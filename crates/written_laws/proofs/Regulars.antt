@@ -83,7 +83,7 @@ code_back_first zero low = refl
 code_back_first (suc zero) low = refl
 code_back_first (suc (suc k)) low = absurd (omega arith)
 
-module _ (l : Layout) (x : Lengths) (laid : IsSurface l) (len : AreLengths l x) where
+module _ {l : Layout} {x : Lengths} (laid : IsSurface l) (len : AreLengths l x) where
   -- No point of an arc lies inside a patch.
   upto_not_inside : (u : SideArc) (o p i j : ℕ) → o ≤ x u.arc → 0 < x u.arc → use_point l x u o ≢ inside p i j
   upto_not_inside u o p i j le some e = elim (cases_eq o (x u.arc)) [
@@ -108,16 +108,16 @@ module _ (l : Layout) (x : Lengths) (laid : IsSurface l) (len : AreLengths l x) 
     ]
   ]
 
-  module _ (F : Faces) (cell : CellDart → ℕ) (model : IsModel F l x laid len cell) where
+  module _ {F : Faces} {cell : CellDart → ℕ} (model : IsModel F l x laid len cell) where
     -- A vertex with four faces and only shared arcs, or with two faces and an arc that is not shared, is regular.
-    regular_by : (v n : ℕ) (b : Bool) → faces_at F v ≡ n → is_inner F v ≡ b → n ≡ cond b 4 2 → is_regular F v ≡ true
-    regular_by v n b many inner is =
+    regular_by : (v : ℕ) {n : ℕ} {b : Bool} → faces_at F v ≡ n → is_inner F v ≡ b → n ≡ cond b 4 2
+        → is_regular F v ≡ true
+    regular_by v many inner is =
         eq-eqb (faces_at F v) (cond (is_inner F v) 4 2) (many ∙ is ∙ ap (λ (c : Bool). cond c 4 2) (sym inner))
 
-    pub inside_regular : (p i j v : ℕ) → IsPoint l x (inside p i j)
-        → IsVertex l x laid len F cell model (inside p i j) v → is_regular F v ≡ true
-    inside_regular p i j v is is_v =
-        regular_by v 4 true four (inner_if l x laid len F cell model (inside p i j) v is_v shared) refl
+    pub inside_regular : (p i j : ℕ) {v : ℕ} → IsPoint l x (inside p i j) → IsVertex model (inside p i j) v
+        → is_regular F v ≡ true
+    inside_regular p i j {v} is is_v = regular_by v four (inner_if model is_v shared) refl
       where
         shared : AreShared l x (inside p i j)
         shared w o is_w less (inl e) = absurd (upto_not_inside (use_of l w) o p i j (omega arith) (omega arith) e)
@@ -126,7 +126,7 @@ module _ (l : Layout) (x : Lengths) (laid : IsSurface l) (len : AreLengths l x) 
         place : (d : CellDart) → IsDart l x d → dart_start l x d ≡ inside p i j → (d.patch ≡ p) × (column_of d ≡ i)
             × (row_of d ≡ j)
         place d is_d leaves = point_sort l x laid len d.patch (column_of d) (row_of d) p i j is_d.patch_low
-            (corner_low l x laid.paved len d is_d).0 (corner_low l x laid.paved len d is_d).1 leaves
+            (corner_low laid.paved len d is_d).0 (corner_low laid.paved len d is_d).1 leaves
 
         once : (d e : CellDart) (b : IsDart l x d) (c : IsDart l x e) (f : dart_start l x d ≡ inside p i j)
             (g : dart_start l x e ≡ inside p i j) → turn d.way ≡ turn e.way → d ≡ e
@@ -161,216 +161,216 @@ module _ (l : Layout) (x : Lengths) (laid : IsSurface l) (len : AreLengths l x) 
         four = omega (arith, most, least)
           where
             most : faces_at F v ≤ 4
-            most = fan_most l x laid len F cell model (inside p i j) v is_v 4 (λ d is_d f. (turn d.way, turn_low d.way))
-                once
+            most = fan_most model is_v 4 (λ d is_d f. (turn d.way, turn_low d.way)) once
 
             least : 4 ≤ faces_at F v
-            least = fan_least l x laid len F cell model (inside p i j) v is_v 4
-                (λ k low. (hub_dart p i j (way_of k), (at_hub (way_of k)).0, (at_hub (way_of k)).1))
-                (λ k m low less same. sym (turn_way k low)
+            least = fan_least model is_v 4 (λ k low. (
+              hub_dart p i j (way_of k),
+              (at_hub (way_of k)).0,
+              (at_hub (way_of k)).1,
+            )) (λ k m low less same. sym (turn_way k low)
                 ∙ ap turn (sym (hub_way p i j (way_of k)) ∙ ap (λ (d : CellDart). d.way) same
                 ∙ hub_way p i j (way_of m)) ∙ turn_way m less)
 
-    module _ (a k v : ℕ) (is : IsPoint l x (along a k)) (is_v : IsVertex l x laid len F cell model (along a k) v) where
-      -- A dart at the point, by slot.
-      record IsAlong (d : CellDart) (w : Slot) (o : ℕ) (b : Bool) : Type 0 where
-        pub at : IsAt l x laid len d w o
-        pub arc : (use_of l w).arc ≡ a
-        pub place : cond (use_of l w).forward o (x (use_of l w).arc - o) ≡ k
-        pub dart : d ≡ spot_dart l x w o b
+    module _ (a k : ℕ) {v : ℕ} (is : IsPoint l x (along a k)) (is_v : IsVertex model (along a k) v)
+      where
+        -- A dart at the point, by slot.
+        record IsAlong (d : CellDart) (w : Slot) (o : ℕ) (b : Bool) : Type 0 where
+          pub at : IsAt l x laid len d w o
+          pub arc : (use_of l w).arc ≡ a
+          pub place : cond (use_of l w).forward o (x (use_of l w).arc - o) ≡ k
+          pub dart : d ≡ spot_dart l x w o b
 
-      along_sort : (d : CellDart) → IsDart l x d → dart_start l x d ≡ along a k → (w : Slot) × (o : ℕ) × (b : Bool)
-          × IsAlong d w o b
-      along_sort d is_d leaves = elim (sort_dart l x laid len d is_d) [
-        | inl i ↦ let b : dart_start l x d ≡ inside d.patch (column_of d) (row_of d) =
-            inner_from l x laid len d i in absurd cc
-        | inr s ↦ at_slot s.0 s.1 s.2
-      ]
-        where
-          at_slot : (w : Slot) (o : ℕ) → IsAt l x laid len d w o → (w : Slot) × (o : ℕ) × (b : Bool) × IsAlong d w o b
-          at_slot w o at =
-              let s =
-              arc_of (use_of l w) o a k (omega (arith, at.low)) (omega (arith, at.low)) (sym at.leaves ∙ leaves) in
-              let b = sort_spot l x laid len d w o is_d at in
-              (w, o, b.0, record { at = at; arc = s.0; place = s.3; dart = b.1 })
+        along_sort : {d : CellDart} → IsDart l x d → dart_start l x d ≡ along a k → (w : Slot) × (o : ℕ) × (b : Bool)
+            × IsAlong d w o b
+        along_sort {d} is_d leaves = elim (sort_dart l x laid len d is_d) [
+          | inl i ↦ let b : dart_start l x d ≡ inside d.patch (column_of d) (row_of d) =
+              inner_from l x laid len d i in absurd cc
+          | inr s ↦ at_slot s.0 s.1 s.2
+        ]
+          where
+            at_slot : (w : Slot) (o : ℕ) → IsAt l x laid len d w o → (w : Slot) × (o : ℕ) × (b : Bool) × IsAlong d w o b
+            at_slot w o at =
+                let s =
+                arc_of (use_of l w) o a k (omega (arith, at.low)) (omega (arith, at.low)) (sym at.leaves ∙ leaves) in
+                let b = sort_spot laid len d w o is_d at in
+                (w, o, b.0, record { at = at; arc = s.0; place = s.3; dart = b.1 })
 
-      along_once : (d e : CellDart) (w u : Slot) (o m : ℕ) (b c : Bool) → IsAlong d w o b → IsAlong e u m c
-          → (use_of l w).forward ≡ (use_of l u).forward → b ≡ c → d ≡ e
-      along_once d e w u o m b c s r ways same =
-          let slots =
-          laid.once w u s.at.is_slot r.at.is_slot (λ t. record { arc = (s.arc ∙ sym r.arc) t; forward = ways t }) in
-          let long : x (use_of l u).arc ≡ x (use_of l w).arc = ap x (r.arc ∙ sym s.arc) in
-          let places = s.place ∙ sym r.place ∙ (λ t. cond (sym ways t) m (long t - m)) in
-          let offsets =
-          by_way (use_of l w).forward (x (use_of l w).arc) s.at.low (omega (arith, long, r.at.low)) places in
-          s.dart ∙ (λ t. spot_dart l x (slots t) (offsets t) (same t)) ∙ sym r.dart
-        where
-          by_way : (f : Bool) (n : ℕ) → o < n → m < n → cond f o (n - o) ≡ cond f m (n - m) → o ≡ m
-          by_way = elim [ true ↦ λ n o_low m_low e. e | false ↦ λ n o_low m_low e. omega arith ]
+        along_once : {d e : CellDart} {w u : Slot} {o m : ℕ} {b c : Bool} → IsAlong d w o b → IsAlong e u m c
+            → (use_of l w).forward ≡ (use_of l u).forward → b ≡ c → d ≡ e
+        along_once {e} {w} {u} {o} {m} s r ways same =
+            let slots =
+            laid.once w u s.at.is_slot r.at.is_slot (λ t. record { arc = (s.arc ∙ sym r.arc) t; forward = ways t }) in
+            let long : x (use_of l u).arc ≡ x (use_of l w).arc = ap x (r.arc ∙ sym s.arc) in
+            let places = s.place ∙ sym r.place ∙ (λ t. cond (sym ways t) m (long t - m)) in
+            let offsets =
+            by_way (use_of l w).forward (x (use_of l w).arc) s.at.low (omega (arith, long, r.at.low)) places in
+            s.dart ∙ (λ t. spot_dart l x (slots t) (offsets t) (same t)) ∙ sym r.dart
+          where
+            by_way : (f : Bool) (n : ℕ) → o < n → m < n → cond f o (n - o) ≡ cond f m (n - m) → o ≡ m
+            by_way = elim [ true ↦ λ n o_low m_low e. e | false ↦ λ n o_low m_low e. omega arith ]
 
-      -- The slot of the arc as it runs.
-      first : (w : Slot) × IsSlot l w × (use_of l w ≡ record { arc = a; forward = true })
-      first = laid.forward a is.0
+        -- The slot of the arc as it runs.
+        first : (w : Slot) × IsSlot l w × (use_of l w ≡ record { arc = a; forward = true })
+        first = laid.forward a is.0
 
-      first_long : x (use_of l first.0).arc ≡ x a
-      first_long = ap (λ (u : SideArc). x u.arc) first.2
+        first_long : x (use_of l first.0).arc ≡ x a
+        first_long = ap (λ (u : SideArc). x u.arc) first.2
 
-      first_leaves : use_point l x (use_of l first.0) k ≡ along a k
-      first_leaves = ap (λ (u : SideArc). use_point l x u k) first.2 ∙ arc_inner l x a k is.1 is.2
+        first_leaves : use_point l x (use_of l first.0) k ≡ along a k
+        first_leaves = ap (λ (u : SideArc). use_point l x u k) first.2 ∙ arc_inner l x a k is.1 is.2
 
-      first_dart : (b : Bool) → IsDart l x (spot_dart l x first.0 k b)
-          × (dart_start l x (spot_dart l x first.0 k b) ≡ along a k)
-      first_dart b = (
-        spot_is l x laid len first.0 k b first.1 (omega (arith, first_long, is.2)) (λ e. omega (arith, is.1)),
-        (spot_at l x laid len first.0 k b first.1 (omega (arith, first_long, is.2)) (λ e. omega (arith, is.1))).leaves
-            ∙ first_leaves,
-      )
+        first_dart : (b : Bool) → IsDart l x (spot_dart l x first.0 k b)
+            × (dart_start l x (spot_dart l x first.0 k b) ≡ along a k)
+        first_dart b = (
+          spot_is laid len first.0 k b first.1 (omega (arith, first_long, is.2)) (λ e. omega (arith, is.1)),
+          (spot_at laid len k b first.1 (omega (arith, first_long, is.2)) (λ e. omega (arith, is.1))).leaves
+              ∙ first_leaves,
+        )
 
-      along_alone : ((u : Slot) → ¬ IsOtherSlot l first.0 u) → is_regular F v ≡ true
-      along_alone none = regular_by v 2 false two boundary refl
-        where
-          boundary : is_inner F v ≡ false
-          boundary = false_from_ne_true (is_inner F v) (λ inner.
-              let u = inner_only l x laid len F cell model (along a k) v is_v inner first.0 k first.1
-              (omega (arith, first_long, is.2)) (inl first_leaves) in
-              none u.0 u.1)
+        along_alone : ((u : Slot) → ¬ IsOtherSlot l first.0 u) → is_regular F v ≡ true
+        along_alone none = regular_by v two boundary refl
+          where
+            boundary : is_inner F v ≡ false
+            boundary = false_from_ne_true (is_inner F v) (λ inner.
+                let u = inner_only model is_v inner first.0 k first.1
+                (omega (arith, first_long, is.2)) (inl first_leaves) in
+                none u.0 u.1)
 
-          forward : (w : Slot) → IsSlot l w → (use_of l w).arc ≡ a → (use_of l w).forward ≡ true
-          forward w is_w arc = elim (cases_Bool (use_of l w).forward) [
-            | inl e ↦ e
-            | inr e ↦ absurd (none w (
-              is_w,
-              record {
-                arc = arc ∙ sym (ap (λ (u : SideArc). u.arc) first.2);
-                turned = e ∙ ap (λ (u : SideArc). not u.forward) (sym first.2);
-              },
-            ))
-          ]
+            forward : (w : Slot) → IsSlot l w → (use_of l w).arc ≡ a → (use_of l w).forward ≡ true
+            forward w is_w arc = elim (cases_Bool (use_of l w).forward) [
+              | inl e ↦ e
+              | inr e ↦ absurd (none w (
+                is_w,
+                record {
+                  arc = arc ∙ sym (ap (λ (u : SideArc). u.arc) first.2);
+                  turned = e ∙ ap (λ (u : SideArc). not u.forward) (sym first.2);
+                },
+              ))
+            ]
 
-          two : faces_at F v ≡ 2
-          two = omega (arith, most, least)
-            where
-              coded : (d : CellDart) → IsDart l x d → dart_start l x d ≡ along a k → (c : ℕ) × (c < 2)
-              coded d is_d leaves = (code true (along_sort d is_d leaves).2, code_first (along_sort d is_d leaves).2)
+            two : faces_at F v ≡ 2
+            two = omega (arith, most, least)
+              where
+                coded : (d : CellDart) → IsDart l x d → dart_start l x d ≡ along a k → (c : ℕ) × (c < 2)
+                coded d is_d leaves = (code true (along_sort is_d leaves).2, code_first (along_sort is_d leaves).2)
 
-              once : (d e : CellDart) (b : IsDart l x d) (c : IsDart l x e) (f : dart_start l x d ≡ along a k)
-                  (g : dart_start l x e ≡ along a k) → (coded d b f).0 ≡ (coded e c g).0 → d ≡ e
-              once d e b c f g same =
-                  let s = along_sort d b f in
-                  let r = along_sort e c g in
-                  along_once d e s.0 r.0 s.1 r.1 s.2 r.2 s.3 r.3
-                  (forward s.0 s.3.at.is_slot s.3.arc ∙ sym (forward r.0 r.3.at.is_slot r.3.arc))
-                  (sym (code_behind true s.2) ∙ ap behind_of same ∙ code_behind true r.2)
+                once : (d e : CellDart) (b : IsDart l x d) (c : IsDart l x e) (f : dart_start l x d ≡ along a k)
+                    (g : dart_start l x e ≡ along a k) → (coded d b f).0 ≡ (coded e c g).0 → d ≡ e
+                once d e b c f g same =
+                    let s = along_sort b f in
+                    let r = along_sort c g in
+                    along_once s.3 r.3
+                    (forward s.0 s.3.at.is_slot s.3.arc ∙ sym (forward r.0 r.3.at.is_slot r.3.arc))
+                    (sym (code_behind true s.2) ∙ ap behind_of same ∙ code_behind true r.2)
 
-              most : faces_at F v ≤ 2
-              most = fan_most l x laid len F cell model (along a k) v is_v 2 coded once
+                most : faces_at F v ≤ 2
+                most = fan_most model is_v 2 coded once
 
-              least : 2 ≤ faces_at F v
-              least = fan_least l x laid len F cell model (along a k) v is_v 2 (λ c low. (
-                spot_dart l x first.0 k (behind_of c),
-                (first_dart (behind_of c)).0,
-                (first_dart (behind_of c)).1,
-              )) (λ c m low less same. sym (code_back_first c low)
-                  ∙ ap (code true) (spot_once l x laid len first.0 k (behind_of c) (behind_of m) same)
-                  ∙ code_back_first m less)
+                least : 2 ≤ faces_at F v
+                least = fan_least model is_v 2 (λ c low. (
+                  spot_dart l x first.0 k (behind_of c),
+                  (first_dart (behind_of c)).0,
+                  (first_dart (behind_of c)).1,
+                )) (λ c m low less same. sym (code_back_first c low)
+                    ∙ ap (code true) (spot_once laid len first.0 k (behind_of c) (behind_of m) same)
+                    ∙ code_back_first m less)
 
-      along_shared : (u : Slot) → IsOtherSlot l first.0 u → is_regular F v ≡ true
-      along_shared u other = regular_by v 4 true four (inner_if l x laid len F cell model (along a k) v is_v shared)
-          refl
-        where
-          long : x (use_of l u).arc ≡ x a
-          long = ap x other.1.arc ∙ first_long
+        along_shared : (u : Slot) → IsOtherSlot l first.0 u → is_regular F v ≡ true
+        along_shared u other = regular_by v four (inner_if model is_v shared) refl
+          where
+            long : x (use_of l u).arc ≡ x a
+            long = ap x other.1.arc ∙ first_long
 
-          by_arc : (w : Slot) → IsSlot l w → (use_of l w).arc ≡ a → (z : Slot) × IsOtherSlot l w z
-          by_arc w is_w arc = elim (cases_Bool (use_of l w).forward) [
-            | inl e ↦
-                let one = laid.once first.0 w first.1 is_w
-                (λ t. record { arc = (same_arc ∙ sym arc) t; forward = (same_way ∙ sym e) t }) in
-                (u, rw one at other)
-            | inr e ↦ (first.0, (first.1, record { arc = same_arc ∙ sym arc; turned = same_way ∙ ap not (sym e) }))
-          ]
-            where
-              same_arc : (use_of l first.0).arc ≡ a
-              same_arc = ap (λ (z : SideArc). z.arc) first.2
+            by_arc : (w : Slot) → IsSlot l w → (use_of l w).arc ≡ a → (z : Slot) × IsOtherSlot l w z
+            by_arc w is_w arc = elim (cases_Bool (use_of l w).forward) [
+              | inl e ↦
+                  let one = laid.once first.0 w first.1 is_w
+                  (λ t. record { arc = (same_arc ∙ sym arc) t; forward = (same_way ∙ sym e) t }) in
+                  (u, rw one at other)
+              | inr e ↦ (first.0, (first.1, record { arc = same_arc ∙ sym arc; turned = same_way ∙ ap not (sym e) }))
+            ]
+              where
+                same_arc : (use_of l first.0).arc ≡ a
+                same_arc = ap (λ (z : SideArc). z.arc) first.2
 
-              same_way : (use_of l first.0).forward ≡ true
-              same_way = ap (λ (z : SideArc). z.forward) first.2
+                same_way : (use_of l first.0).forward ≡ true
+                same_way = ap (λ (z : SideArc). z.forward) first.2
 
-          shared : AreShared l x (along a k)
-          shared w o is_w less (inl e) = by_arc w is_w (arc_of (use_of l w) o a k (omega arith) (omega arith) e).0
-          shared w o is_w less (inr e) = by_arc w is_w (arc_of (use_of l w) (o + 1) a k (omega arith) (omega arith) e).0
+            shared : AreShared l x (along a k)
+            shared w o is_w less (inl e) = by_arc w is_w (arc_of (use_of l w) o a k (omega arith) (omega arith) e).0
+            shared w o is_w less (inr e) =
+                by_arc w is_w (arc_of (use_of l w) (o + 1) a k (omega arith) (omega arith) e).0
 
-          other_leaves : use_point l x (use_of l u) (x a - k) ≡ along a k
-          other_leaves =
-              let le : x a - k ≤ x (use_of l first.0).arc = omega (arith, first_long) in
-              let e : x (use_of l first.0).arc - (x a - k) ≡ k = omega (arith, first_long, is.2) in
-              use_back l x (use_of l first.0) (use_of l u) other.1 (x a - k) le
-              ∙ ap (use_point l x (use_of l first.0)) e ∙ first_leaves
+            other_leaves : use_point l x (use_of l u) (x a - k) ≡ along a k
+            other_leaves =
+                let le : x a - k ≤ x (use_of l first.0).arc = omega (arith, first_long) in
+                let e : x (use_of l first.0).arc - (x a - k) ≡ k = omega (arith, first_long, is.2) in
+                use_back l x (use_of l first.0) (use_of l u) other.1 (x a - k) le
+                ∙ ap (use_point l x (use_of l first.0)) e ∙ first_leaves
 
-          both : (f b : Bool) → CellDart
-          both true b = spot_dart l x first.0 k b
-          both false b = spot_dart l x u (x a - k) b
+            both : (f b : Bool) → CellDart
+            both true b = spot_dart l x first.0 k b
+            both false b = spot_dart l x u (x a - k) b
 
-          both_is : (f b : Bool) → IsDart l x (both f b) × (dart_start l x (both f b) ≡ along a k)
-          both_is true b = first_dart b
-          both_is false b = (
-            spot_is l x laid len u (x a - k) b other.0 (omega (arith, long, is.1, is.2)) (λ e. omega (arith, is.2)),
-            (spot_at l x laid len u (x a - k) b other.0 (omega (arith, long, is.1, is.2))
-                (λ e. omega (arith, is.2))).leaves ∙ other_leaves,
-          )
+            both_is : (f b : Bool) → IsDart l x (both f b) × (dart_start l x (both f b) ≡ along a k)
+            both_is true b = first_dart b
+            both_is false b = (
+              spot_is laid len u (x a - k) b other.0 (omega (arith, long, is.1, is.2)) (λ e. omega (arith, is.2)),
+              (spot_at laid len (x a - k) b other.0 (omega (arith, long, is.1, is.2))
+                  (λ e. omega (arith, is.2))).leaves ∙ other_leaves,
+            )
 
-          apart : first.0 ≢ u
-          apart e = by_way (use_of l first.0).forward (use_of l u).forward other.1.turned
-              (ap (λ (z : Slot). (use_of l z).forward) e)
-            where
-              by_way : (f g : Bool) → g ≡ not f → f ≡ g → ⊥
-              by_way = elim [ true ↦ λ g s r. absurd cc | false ↦ λ g s r. absurd cc ]
+            apart : first.0 ≢ u
+            apart e = by_way (use_of l first.0).forward (use_of l u).forward other.1.turned
+                (ap (λ (z : Slot). (use_of l z).forward) e)
+              where
+                by_way : (f g : Bool) → g ≡ not f → f ≡ g → ⊥
+                by_way = elim [ true ↦ λ g s r. absurd cc | false ↦ λ g s r. absurd cc ]
 
-          both_once : (f g b c : Bool) → both f b ≡ both g c → code f b ≡ code g c
-          both_once true true b c e = ap (code true) (spot_once l x laid len first.0 k b c e)
-          both_once false false b c e = ap (code false) (spot_once l x laid len u (x a - k) b c e)
-          both_once true false b c e =
-              absurd (apart (at_once l x laid len (both true b) first.0 u k (x a - k)
-              (spot_at l x laid len first.0 k b first.1 (omega (arith, first_long, is.2)) (λ s. omega (arith, is.1)))
-              (rw e (spot_at l x laid len u (x a - k) c other.0 (omega (arith, long, is.1, is.2))
-              (λ s. omega (arith, is.2))))).0)
-          both_once false true b c e =
-              absurd (apart (at_once l x laid len (both true c) first.0 u k (x a - k)
-              (spot_at l x laid len first.0 k c first.1 (omega (arith, first_long, is.2)) (λ s. omega (arith, is.1)))
-              (subst (λ (d : CellDart). IsAt l x laid len d u (x a - k)) e
-              (spot_at l x laid len u (x a - k) b other.0 (omega (arith, long, is.1, is.2))
-              (λ s. omega (arith, is.2))))).0)
+            both_once : (f g b c : Bool) → both f b ≡ both g c → code f b ≡ code g c
+            both_once true true b c e = ap (code true) (spot_once laid len first.0 k b c e)
+            both_once false false b c e = ap (code false) (spot_once laid len u (x a - k) b c e)
+            both_once true false b c e =
+                absurd (apart (at_once laid len {v = u} {k = x a - k}
+                (spot_at laid len k b first.1 (omega (arith, first_long, is.2)) (λ s. omega (arith, is.1)))
+                (rw e (spot_at laid len (x a - k) c other.0 (omega (arith, long, is.1, is.2))
+                (λ s. omega (arith, is.2))))).0)
+            both_once false true b c e = absurd (apart
+                (at_once laid len (spot_at laid len k c first.1 (omega (arith, first_long, is.2))
+                (λ s. omega (arith, is.1))) (subst (λ (d : CellDart). IsAt l x laid len d u (x a - k)) e
+                (spot_at laid len (x a - k) b other.0 (omega (arith, long, is.1, is.2)) (λ s. omega (arith, is.2))))).0)
 
-          four : faces_at F v ≡ 4
-          four = omega (arith, most, least)
-            where
-              coded : (d : CellDart) → IsDart l x d → dart_start l x d ≡ along a k → (c : ℕ) × (c < 4)
-              coded d is_d leaves = (
-                code (use_of l (along_sort d is_d leaves).0).forward (along_sort d is_d leaves).2,
-                code_low (use_of l (along_sort d is_d leaves).0).forward (along_sort d is_d leaves).2,
-              )
+            four : faces_at F v ≡ 4
+            four = omega (arith, most, least)
+              where
+                coded : (d : CellDart) → IsDart l x d → dart_start l x d ≡ along a k → (c : ℕ) × (c < 4)
+                coded d is_d leaves = (
+                  code (use_of l (along_sort is_d leaves).0).forward (along_sort is_d leaves).2,
+                  code_low (use_of l (along_sort is_d leaves).0).forward (along_sort is_d leaves).2,
+                )
 
-              once : (d e : CellDart) (b : IsDart l x d) (c : IsDart l x e) (f : dart_start l x d ≡ along a k)
-                  (g : dart_start l x e ≡ along a k) → (coded d b f).0 ≡ (coded e c g).0 → d ≡ e
-              once d e b c f g same =
-                  let s = along_sort d b f in
-                  let r = along_sort e c g in
-                  along_once d e s.0 r.0 s.1 r.1 s.2 r.2 s.3 r.3
-                  (sym (code_forward (use_of l s.0).forward s.2) ∙ ap forward_of same
-                  ∙ code_forward (use_of l r.0).forward r.2)
-                  (sym (code_behind (use_of l s.0).forward s.2) ∙ ap behind_of same
-                  ∙ code_behind (use_of l r.0).forward r.2)
+                once : (d e : CellDart) (b : IsDart l x d) (c : IsDart l x e) (f : dart_start l x d ≡ along a k)
+                    (g : dart_start l x e ≡ along a k) → (coded d b f).0 ≡ (coded e c g).0 → d ≡ e
+                once d e b c f g same =
+                    let s = along_sort b f in
+                    let r = along_sort c g in
+                    along_once s.3 r.3
+                    (sym (code_forward (use_of l s.0).forward s.2) ∙ ap forward_of same
+                    ∙ code_forward (use_of l r.0).forward r.2)
+                    (sym (code_behind (use_of l s.0).forward s.2) ∙ ap behind_of same
+                    ∙ code_behind (use_of l r.0).forward r.2)
 
-              most : faces_at F v ≤ 4
-              most = fan_most l x laid len F cell model (along a k) v is_v 4 coded once
+                most : faces_at F v ≤ 4
+                most = fan_most model is_v 4 coded once
 
-              least : 4 ≤ faces_at F v
-              least = fan_least l x laid len F cell model (along a k) v is_v 4 (λ c low. (
-                both (forward_of c) (behind_of c),
-                (both_is (forward_of c) (behind_of c)).0,
-                (both_is (forward_of c) (behind_of c)).1,
-              )) (λ c m low less same. sym (code_back c low)
-                  ∙ both_once (forward_of c) (forward_of m) (behind_of c) (behind_of m) same ∙ code_back m less)
+                least : 4 ≤ faces_at F v
+                least = fan_least model is_v 4 (λ c low. (
+                  both (forward_of c) (behind_of c),
+                  (both_is (forward_of c) (behind_of c)).0,
+                  (both_is (forward_of c) (behind_of c)).1,
+                )) (λ c m low less same. sym (code_back c low)
+                    ∙ both_once (forward_of c) (forward_of m) (behind_of c) (behind_of m) same ∙ code_back m less)
 
-      pub along_regular : is_regular F v ≡ true
-      along_regular = elim (laid.other first.0 first.1) [ inl u ↦ along_shared u.0 u.1 | inr none ↦ along_alone none ]
+        pub along_regular : is_regular F v ≡ true
+        along_regular = elim (laid.other first.0 first.1) [ inl u ↦ along_shared u.0 u.1 | inr none ↦ along_alone none ]

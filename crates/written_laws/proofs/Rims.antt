@@ -30,7 +30,7 @@ side_row l x p east t = t
 side_row l x p north t = high l x p
 side_row l x p west t = high l x p - t
 
-module _ (l : Layout) (x : Lengths) (paved : HasWholeSides l) (len : AreLengths l x) where
+module _ {l : Layout} {x : Lengths} (paved : HasWholeSides l) (len : AreLengths l x) where
   pub rim_is : (p : ℕ) (s : Way) (t : ℕ) → p < l.patches → t < size l x p s → IsDart l x (dart_along l x p s t)
   rim_is p south t low less = record { patch_low = low; i_low = less; j_low = high_some l x paved len p low }
   rim_is p east t low less = record {
@@ -82,19 +82,19 @@ module _ (l : Layout) (x : Lengths) (paved : HasWholeSides l) (len : AreLengths 
   rim_patch p = elim [ south ↦ λ t. refl | east ↦ λ t. refl | north ↦ λ t. refl | west ↦ λ t. refl ]
 
   -- A side ends where the next one begins.
-  pub corner_column : (p : ℕ) (s : Way) (t : ℕ) → p < l.patches → t ≡ size l x p s
+  pub corner_column : (p : ℕ) (s : Way) {t : ℕ} → p < l.patches → t ≡ size l x p s
       → side_column l x p s t ≡ side_column l x p (side_after s) 0
-  corner_column p south t low e = e
-  corner_column p east t low e = omega arith
-  corner_column p north t low e = omega (arith, len.across p low)
-  corner_column p west t low e = refl
+  corner_column p south low e = e
+  corner_column p east low e = omega arith
+  corner_column p north low e = omega (arith, len.across p low)
+  corner_column p west low e = refl
 
-  pub corner_row : (p : ℕ) (s : Way) (t : ℕ) → p < l.patches → t ≡ size l x p s
+  pub corner_row : (p : ℕ) (s : Way) {t : ℕ} → p < l.patches → t ≡ size l x p s
       → side_row l x p s t ≡ side_row l x p (side_after s) 0
-  corner_row p south t low e = refl
-  corner_row p east t low e = omega (arith, len.upright p low)
-  corner_row p north t low e = omega arith
-  corner_row p west t low e = omega arith
+  corner_row p south low e = refl
+  corner_row p east low e = omega (arith, len.upright p low)
+  corner_row p north low e = omega arith
+  corner_row p west low e = omega arith
 
   -- The border dart next to the last one of a side is the first one of the next side.
   pub corner_next : (p : ℕ) (s : Way) (t : ℕ) → p < l.patches → t + 1 ≡ size l x p s → next (dart_along l x p s t)
@@ -149,22 +149,15 @@ module _ (l : Layout) (x : Lengths) (paved : HasWholeSides l) (len : AreLengths 
     | inr some ↦ elim (cases_eq b (high l x p)) [
       | inl up ↦ elim (cases_eq a 0) [
         | inl first ↦ inr (west, 0, record { low = high_some l x paved len p low; column = first; row = omega arith })
-        | inr later ↦ inr (
-          north,
-          wide l x p - a,
-          record { low = omega (arith, len.across p low); column = omega arith; row = up },
-        )
+        | inr later ↦ inr
+            (north, wide l x p - a, record { low = omega (arith, len.across p low); column = omega arith; row = up })
       ]
       | inr less ↦ elim (cases_eq a 0) [
         | inl first ↦ inr (west, high l x p - b, record { low = omega arith; column = first; row = omega arith })
         | inr later ↦ elim (cases_eq a (wide l x p)) [
           | inl far ↦ inr (east, b, record { low = omega (arith, len.upright p low); column = far; row = refl })
-          | inr near ↦ inl (record {
-            a_some = omega arith;
-            a_low = omega arith;
-            b_some = omega arith;
-            b_low = omega arith;
-          })
+          | inr near ↦ inl
+              (record { a_some = omega arith; a_low = omega arith; b_some = omega arith; b_low = omega arith })
         ]
       ]
     ]
@@ -184,13 +177,13 @@ module _ (l : Layout) (x : Lengths) (paved : HasWholeSides l) (len : AreLengths 
       → IsInner d.patch (column_of d) (row_of d) ⊎ ((s : Way) × (t : ℕ) × IsBorder d.patch (column_of d) (row_of d) s t)
   dart_on_rim d is = on_rim d.patch (column_of d) (row_of d) is.patch_low (corner_low d is).0 (corner_low d is).1
 
-  module _ (R : CellDart → CellDart → Type 0) (turning : IsTurning l x R) where
+  module _ {R : CellDart → CellDart → Type 0} (turning : IsTurning l x R) where
     -- Darts of a patch that leave one grid point are related.
-    pub darts_related : (d e : CellDart) → IsDart l x d → IsDart l x e → d.patch ≡ e.patch
-        → column_of d ≡ column_of e → row_of d ≡ row_of e → R d e
-    darts_related d e is_d is_e same c r = turning.on d (dart e.patch d.i d.j d.way) e
+    pub darts_related : {d e : CellDart} → IsDart l x d → IsDart l x e → d.patch ≡ e.patch → column_of d ≡ column_of e
+        → row_of d ≡ row_of e → R d e
+    darts_related {d} {e} is_d is_e same c r = turning.on d (dart e.patch d.i d.j d.way) e
         (turning.self d (dart e.patch d.i d.j d.way) (λ t. dart (same t) d.i d.j d.way))
-        (grid_related l x R turning e.patch d.i d.j e.i e.j d.way e.way (record {
+        (grid_related turning e.patch d.i d.j e.i e.j d.way e.way (record {
           patch_low = is_e.patch_low;
           i_low = omega (arith, is_d.i_low, ap (wide l x) same);
           j_low = omega (arith, is_d.j_low, ap (high l x) same);
@@ -200,8 +193,7 @@ module _ (l : Layout) (x : Lengths) (paved : HasWholeSides l) (len : AreLengths 
     -- The dart after a border dart, and the next border dart.
     pub rim_on : (p : ℕ) (s : Way) (t : ℕ) → p < l.patches → t + 1 < size l x p s
         → R (next (dart_along l x p s t)) (dart_along l x p s (t + 1))
-    rim_on p s t low less = darts_related (next (dart_along l x p s t)) (dart_along l x p s (t + 1))
-        (next_is (rim_is p s t low (omega arith))) (rim_is p s (t + 1) low less)
+    rim_on p s t low less = darts_related (next_is (rim_is p s t low (omega arith))) (rim_is p s (t + 1) low less)
         (rim_patch p s t ∙ sym (rim_patch p s (t + 1)))
         (rim_next_column p s t low (omega arith) ∙ sym (rim_column p s (t + 1) low less))
         (rim_next_row p s t low (omega arith) ∙ sym (rim_row p s (t + 1) low less))
@@ -212,13 +204,11 @@ module _ (l : Layout) (x : Lengths) (paved : HasWholeSides l) (len : AreLengths 
     -- The same at the end of a side.
     pub rim_round : (p : ℕ) (s : Way) (t : ℕ) → p < l.patches → t + 1 ≡ size l x p s → 0 < size l x p (side_after s)
         → R (next (dart_along l x p s t)) (dart_along l x p (side_after s) 0)
-    rim_round p s t low e some = darts_related (next (dart_along l x p s t)) (dart_along l x p (side_after s) 0)
-        (next_is (rim_is p s t low (omega arith))) (rim_is p (side_after s) 0 low some)
-        (rim_patch p s t ∙ sym (rim_patch p (side_after s) 0))
-        (rim_next_column p s t low (omega arith) ∙ corner_column p s (t + 1) low e
+    rim_round p s t low e some = darts_related (next_is (rim_is p s t low (omega arith)))
+        (rim_is p (side_after s) 0 low some) (rim_patch p s t ∙ sym (rim_patch p (side_after s) 0))
+        (rim_next_column p s t low (omega arith) ∙ corner_column p s low e
         ∙ sym (rim_column p (side_after s) 0 low some))
-        (rim_next_row p s t low (omega arith) ∙ corner_row p s (t + 1) low e
-        ∙ sym (rim_row p (side_after s) 0 low some))
+        (rim_next_row p s t low (omega arith) ∙ corner_row p s low e ∙ sym (rim_row p (side_after s) 0 low some))
       where
         next_is : IsDart l x (dart_along l x p s t) → IsDart l x (next (dart_along l x p s t))
         next_is d = record { patch_low = d.patch_low; i_low = d.i_low; j_low = d.j_low }
@@ -227,20 +217,21 @@ module _ (l : Layout) (x : Lengths) (laid : IsSurface l) (len : AreLengths l x) 
   pub border_point : (p : ℕ) (s : Way) (t : ℕ) → p < l.patches → t ≤ size l x p s
       → point l x p (side_column l x p s t) (side_row l x p s t) ≡ side_point l x p s t
   border_point p south t low le = refl
-  border_point p east t low le = point_east l x laid len p (wide l x p) t low refl (omega (arith, len.upright p low))
-  border_point p north t low le = point_north l x laid len p (wide l x p - t) (high l x p) low refl
+  border_point p east t low le =
+      point_east l x laid len p {i = wide l x p} t low refl (omega (arith, len.upright p low))
+  border_point p north t low le = point_north l x laid len p (wide l x p - t) {j = high l x p} low refl
       ∙ ap (side_point l x p north) (omega (arith, len.across p low))
   border_point p west t low le =
       point_west l x laid len p (high l x p - t) low (omega arith) ∙ ap (side_point l x p west) (omega arith)
 
   pub rim_from : (p : ℕ) (s : Way) (t : ℕ) → p < l.patches → t < size l x p s
       → dart_start l x (dart_along l x p s t) ≡ side_point l x p s t
-  rim_from p s t low less = (λ k. point l x (rim_patch l x laid.paved len p s t k)
-      (rim_column l x laid.paved len p s t low less k) (rim_row l x laid.paved len p s t low less k))
+  rim_from p s t low less = (λ k. point l x (rim_patch laid.paved len p s t k)
+      (rim_column laid.paved len p s t low less k) (rim_row laid.paved len p s t low less k))
       ∙ border_point p s t low (omega arith)
 
   pub rim_to : (p : ℕ) (s : Way) (t : ℕ) → p < l.patches → t < size l x p s
       → dart_end l x (dart_along l x p s t) ≡ side_point l x p s (t + 1)
-  rim_to p s t low less = (λ k. point l x (rim_patch l x laid.paved len p s t k)
-      (rim_next_column l x laid.paved len p s t low less k) (rim_next_row l x laid.paved len p s t low less k))
+  rim_to p s t low less = (λ k. point l x (rim_patch laid.paved len p s t k)
+      (rim_next_column laid.paved len p s t low less k) (rim_next_row laid.paved len p s t low less k))
       ∙ border_point p s (t + 1) low (omega arith)

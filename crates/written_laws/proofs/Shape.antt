@@ -30,8 +30,8 @@ use Rattle.written_laws.proofs.{Inners.IsVertex, Inners.vertex_from, Regulars.in
 use Rattle.written_laws.proofs.{NodeKinds.node_faces, NodeKinds.node_inner, Sided.starts, OldModel.old_laid}
 use Rattle.written_laws.proofs.OldModel.{old_model, old_fans, twin_is_across}
 
-module _ (faces : Faces) (man : IsManifold faces) (l : Layout) (x : Lengths) (paved : HasWholeSides l)
-    (len : AreLengths l x) (cell : CellDart → ℕ) (vertex : ℕ → ℕ) (arc_dart : ℕ → ℕ → ℕ)
+module _ {faces : Faces} (man : IsManifold faces) {l : Layout} {x : Lengths} (paved : HasWholeSides l)
+    (len : AreLengths l x) {cell : CellDart → ℕ} {vertex : ℕ → ℕ} {arc_dart : ℕ → ℕ → ℕ}
     (s : IsEmbedding (half_edges faces) l x cell vertex arc_dart) where
   module _ (model : IsModel faces l x (old_laid faces man l x paved len cell vertex arc_dart s) len cell) where
     -- A dart that runs along an edge.
@@ -62,16 +62,16 @@ module _ (faces : Faces) (man : IsManifold faces) (l : Layout) (x : Lengths) (pa
         ∙ model.alike (next d) (next e) (next_is l x d is_d) (next_is l x e is_e) same
         ∙ ap (from_of faces) (model.turned e is_e)
 
-    same_way : (e f : Edge) (d c : CellDart) → (course_of l x d).edge ≡ e → (course_of l x c).edge ≡ f → IsDart l x d
+    same_way : {e f : Edge} {d c : CellDart} → (course_of l x d).edge ≡ e → (course_of l x c).edge ≡ f → IsDart l x d
         → IsDart l x c → dart_start l x d ≡ dart_start l x c → dart_end l x d ≡ dart_end l x c → e ≡ f
-    same_way e f d c d_edge c_edge is_d is_c starts_same ends_same =
+    same_way {d} {c} d_edge c_edge is_d is_c starts_same ends_same =
         let one = model.same d c is_d is_c (man.edges_once (cell d) (cell c) (model.low d is_d) (model.low c is_c)
         (model.alike d c is_d is_c starts_same, to_is d c is_d is_c ends_same)) in
         sym d_edge ∙ ap (λ (q : CellDart). (course_of l x q).edge) one ∙ c_edge
 
-    other_way : (e f : Edge) (d c : CellDart) → (course_of l x d).edge ≡ e → (course_of l x c).edge ≡ f → IsDart l x d
+    other_way : {e f : Edge} {d c : CellDart} → (course_of l x d).edge ≡ e → (course_of l x c).edge ≡ f → IsDart l x d
         → IsDart l x c → dart_start l x c ≡ dart_end l x d → dart_end l x c ≡ dart_start l x d → e ≡ f
-    other_way e f d c d_edge c_edge is_d is_c there back =
+    other_way {d} {c} d_edge c_edge is_d is_c there back =
         let laws : IsQuadManifold (half_edges faces) = manifold_law faces man in
         let twin = laws.twin_found (cell d) (cell c) (model.low d is_d) (model.low c is_c)
         (model.alike c (next d) is_c (next_is l x d is_d) there ∙ ap (from_of faces) (model.turned d is_d))
@@ -88,13 +88,13 @@ module _ (faces : Faces) (man : IsManifold faces) (l : Layout) (x : Lengths) (pa
             (runner f is_f).1 (runner e is_e).2 (runner f is_f).2
           where
             by_runners : (d c : CellDart) (a b : Bool) → IsRunner e d a → IsRunner f c b → e ≡ f
-            by_runners d c true true r q = same_way e f d c r.edge q.edge r.is_dart q.is_dart (r.start ∙ lows
+            by_runners d c true true r q = same_way r.edge q.edge r.is_dart q.is_dart (r.start ∙ lows
                 ∙ sym q.start) (r.end ∙ tops ∙ sym q.end)
-            by_runners d c false false r q = same_way e f d c r.edge q.edge r.is_dart q.is_dart (r.start ∙ tops
+            by_runners d c false false r q = same_way r.edge q.edge r.is_dart q.is_dart (r.start ∙ tops
                 ∙ sym q.start) (r.end ∙ lows ∙ sym q.end)
-            by_runners d c true false r q = other_way e f d c r.edge q.edge r.is_dart q.is_dart (q.start ∙ sym tops
+            by_runners d c true false r q = other_way r.edge q.edge r.is_dart q.is_dart (q.start ∙ sym tops
                 ∙ sym r.end) (q.end ∙ sym lows ∙ sym r.start)
-            by_runners d c false true r q = other_way e f d c r.edge q.edge r.is_dart q.is_dart (q.start ∙ sym lows
+            by_runners d c false true r q = other_way r.edge q.edge r.is_dart q.is_dart (q.start ∙ sym lows
                 ∙ sym r.end) (q.end ∙ sym tops ∙ sym r.start)
 
         crossed : (e f : Edge) → IsEdge l x e → IsEdge l x f → edge_start l x e ≡ edge_end l x f
@@ -103,25 +103,25 @@ module _ (faces : Faces) (man : IsManifold faces) (l : Layout) (x : Lengths) (pa
             (runner f is_f).1 (runner e is_e).2 (runner f is_f).2
           where
             by_runners : (d c : CellDart) (a b : Bool) → IsRunner e d a → IsRunner f c b → e ≡ f
-            by_runners d c true false r q = same_way e f d c r.edge q.edge r.is_dart q.is_dart (r.start ∙ lows
+            by_runners d c true false r q = same_way r.edge q.edge r.is_dart q.is_dart (r.start ∙ lows
                 ∙ sym q.start) (r.end ∙ tops ∙ sym q.end)
-            by_runners d c false true r q = same_way e f d c r.edge q.edge r.is_dart q.is_dart (r.start ∙ tops
+            by_runners d c false true r q = same_way r.edge q.edge r.is_dart q.is_dart (r.start ∙ tops
                 ∙ sym q.start) (r.end ∙ lows ∙ sym q.end)
-            by_runners d c true true r q = other_way e f d c r.edge q.edge r.is_dart q.is_dart (q.start ∙ sym tops
+            by_runners d c true true r q = other_way r.edge q.edge r.is_dart q.is_dart (q.start ∙ sym tops
                 ∙ sym r.end) (q.end ∙ sym lows ∙ sym r.start)
-            by_runners d c false false r q = other_way e f d c r.edge q.edge r.is_dart q.is_dart (q.start ∙ sym lows
+            by_runners d c false false r q = other_way r.edge q.edge r.is_dart q.is_dart (q.start ∙ sym lows
                 ∙ sym r.end) (q.end ∙ sym tops ∙ sym r.start)
 
         no_loop : (e : Edge) → IsEdge l x e → edge_start l x e ≢ edge_end l x e
-        no_loop e is loop = by_runner (runner e is).0 (runner e is).1 (runner e is).2
+        no_loop e is loop = by_runner (runner e is).1 (runner e is).2
           where
             apart : (d : CellDart) → IsDart l x d → dart_start l x d ≢ dart_end l x d
             apart d is_d same = ((manifold_law faces man).corners_differ (cell d) (model.low d is_d)).0
                 (model.alike d (next d) is_d (next_is l x d is_d) same ∙ ap (from_of faces) (model.turned d is_d))
 
-            by_runner : (d : CellDart) (a : Bool) → IsRunner e d a → ⊥
-            by_runner d true r = apart d r.is_dart (r.start ∙ loop ∙ sym r.end)
-            by_runner d false r = apart d r.is_dart (r.start ∙ sym loop ∙ sym r.end)
+            by_runner : {d : CellDart} (a : Bool) → IsRunner e d a → ⊥
+            by_runner {d} true r = apart d r.is_dart (r.start ∙ loop ∙ sym r.end)
+            by_runner {d} false r = apart d r.is_dart (r.start ∙ sym loop ∙ sym r.end)
 
 -- The kind of a vertex by what is counted there.
 kind_by : (inner : Bool) (many : ℕ) → Kind
@@ -132,8 +132,8 @@ kind_is : (F : Faces) (v : ℕ) → kind_of F v ≡ kind_by (is_inner F v) (face
 unfolding kind_by
 kind_is F v = refl
 
-module _ (l : Layout) (x : Lengths) (laid : IsSurface l) (len : AreLengths l x) (F : Faces) (cell : CellDart
-    → ℕ) (model : IsModel F l x laid len cell) where
+module _ {l : Layout} {x : Lengths} {laid : IsSurface l} {len : AreLengths l x} {F : Faces} {cell : CellDart → ℕ}
+    (model : IsModel F l x laid len cell) where
   -- A vertex of a model that is not regular is that of a node.
   irregular_node : (d : CellDart) → IsDart l x d → is_regular F (from_of F (cell d)) ≡ false
       → (n : ℕ) × (n < l.nodes) × (dart_start l x d ≡ node n)
@@ -142,14 +142,12 @@ module _ (l : Layout) (x : Lengths) (laid : IsSurface l) (len : AreLengths l x) 
       by_point : (a : Point) → dart_start l x d ≡ a → IsPoint l x a → (n : ℕ) × (n < l.nodes)
           × (dart_start l x d ≡ node n)
       by_point (node n) e is_a = (n, is_a, e)
-      by_point (along a k) e is_a =
-          absurd (false≢true (sym off ∙ along_regular l x laid len F cell model a k (from_of F (cell d)) is_a
-          (vertex_from l x laid len F cell model d (along a k) (from_of F (cell d)) is e refl)))
-      by_point (inside p i j) e is_a =
-          absurd (false≢true (sym off ∙ inside_regular l x laid len F cell model p i j (from_of F (cell d)) is_a
-          (vertex_from l x laid len F cell model d (inside p i j) (from_of F (cell d)) is e refl)))
+      by_point (along a k) e is_a = absurd (false≢true
+          (sym off ∙ along_regular laid len model a k is_a (vertex_from model (from_of F (cell d)) is e refl)))
+      by_point (inside p i j) e is_a = absurd (false≢true
+          (sym off ∙ inside_regular laid len model p i j is_a (vertex_from model (from_of F (cell d)) is e refl)))
 
-module _ (faces : Faces) (l : Layout) (x : Lengths) (vertex : ℕ → ℕ) (lies : LiesInMesh faces l x vertex) where
+module _ {faces : Faces} {l : Layout} {x : Lengths} {vertex : ℕ → ℕ} (lies : LiesInMesh faces l x vertex) where
   abbrev the_laid : IsSurface l
   the_laid = old_laid faces lies.manifold l x lies.paved lies.lengths lies.cell vertex lies.arc_dart lies.sided
 
@@ -161,38 +159,36 @@ module _ (faces : Faces) (l : Layout) (x : Lengths) (vertex : ℕ → ℕ) (lies
   the_fans = old_fans faces lies.manifold l x lies.paved lies.lengths lies.cell vertex lies.arc_dart lies.sided
 
   -- The vertex of a node.
-  node_vertex : (n : ℕ) → n < l.nodes → IsVertex l x the_laid lies.lengths faces lies.cell the_model (node n) (vertex n)
+  node_vertex : (n : ℕ) → n < l.nodes → IsVertex the_model (node n) (vertex n)
   node_vertex n low =
       let w = the_laid.reached n low in
       let some : 0 < x (use_of l w.0).arc = use_some l x lies.paved lies.lengths w.0 w.1 in
-      vertex_from l x the_laid lies.lengths faces lies.cell the_model (slot_dart l x w.0 0) (node n) (vertex n)
+      vertex_from the_model (vertex n)
       (at_is l x lies.paved lies.lengths w.0 0 w.1 some)
       (at_from l x the_laid lies.lengths w.0 0 w.1 some ∙ use_begins l x (use_of l w.0) some ∙ ap node w.2)
       (starts (half_edges faces) (manifold_law faces lies.manifold) l x lies.paved lies.lengths lies.cell vertex
       lies.arc_dart lies.sided w.0 w.1
       ∙ ap vertex w.2)
 
-  module _ (y : Lengths) (lon : AreLengths l y) (undoubled : IsUndoubled l y) where
+  module _ {y : Lengths} (lon : AreLengths l y) (undoubled : IsUndoubled l y) where
     new_is : IsModel (new_faces l y) l y the_laid lon (dart_number l y)
     new_is = new_model l y the_laid lon (simple_from l y undoubled)
 
     new_vertex : (d : CellDart) (a : Point) (v : ℕ) → IsDart l y d → dart_start l y d ≡ a → vertex_number l y a ≡ v
-        → IsVertex l y the_laid lon (new_faces l y) (dart_number l y) new_is a v
-    new_vertex d a v is leaves same = vertex_from l y the_laid lon (new_faces l y) (dart_number l y) new_is d a v is
+        → IsVertex new_is a v
+    new_vertex d a v is leaves same = vertex_from new_is v is
         leaves (number_from l y d is ∙ ap (vertex_number l y) leaves ∙ same)
 
-    new_node : (n : ℕ) → n < l.nodes → IsVertex l y the_laid lon (new_faces l y) (dart_number l y) new_is (node n) n
+    new_node : (n : ℕ) → n < l.nodes → IsVertex new_is (node n) n
     new_node n low =
         let d = point_dart l y the_laid lon (node n) low in
         new_vertex d.0 (node n) n d.1 d.2 refl
 
     same_faces : (n : ℕ) → n < l.nodes → faces_at (new_faces l y) n ≡ faces_at faces (vertex n)
-    same_faces n low = sym (node_faces l the_laid x y lies.lengths lon faces (new_faces l y) lies.cell (dart_number l y)
-        the_model new_is n (vertex n) n (node_vertex n low) (new_node n low))
+    same_faces n low = sym (node_faces n (node_vertex n low) (new_node n low))
 
     same_inner : (n : ℕ) → n < l.nodes → is_inner (new_faces l y) n ≡ is_inner faces (vertex n)
-    same_inner n low = sym (node_inner l the_laid x y lies.lengths lon faces (new_faces l y) lies.cell (dart_number l y)
-        the_model new_is n (vertex n) n (node_vertex n low) (new_node n low))
+    same_inner n low = sym (node_inner n (node_vertex n low) (new_node n low))
 
     kept : (n : ℕ) → n < l.nodes → IsKeptNode faces (new_faces l y) vertex n
     kept n low = record {
@@ -207,8 +203,7 @@ module _ (faces : Faces) (l : Layout) (x : Lengths) (vertex : ℕ → ℕ) (lies
         let k = used_dart faces v lies.quads (lies.used v low) in
         let d : (d : CellDart) × IsDart l x d × (lies.cell d ≡ k.0) = the_model.onto k.0 k.1 in
         let leaves = ap (from_of faces) d.2 ∙ k.2 in
-        let n = irregular_node l x the_laid lies.lengths faces lies.cell the_model d.0 d.1
-        (ap (is_regular faces) leaves ∙ off) in
+        let n = irregular_node the_model d.0 d.1 (ap (is_regular faces) leaves ∙ off) in
         (n.0, n.1, sym ((node_vertex n.0 n.1).there d.0 d.1 n.2) ∙ leaves, kept n.0 n.1)
 
     below : vertex_count (new_faces l y) ≤ vertices l y
@@ -226,8 +221,7 @@ module _ (faces : Faces) (l : Layout) (x : Lengths) (vertex : ℕ → ℕ) (lies
         let a = point_onto l y v (omega (arith, low, below)) in
         let d : (d : CellDart) × IsDart l y d × (dart_start l y d ≡ a.0) = point_dart l y the_laid lon a.0 a.1 in
         let vertex_is = number_from l y d.0 d.1 ∙ ap (vertex_number l y) d.2 ∙ a.2 in
-        let n = irregular_node l y the_laid lon (new_faces l y) (dart_number l y) new_is d.0 d.1
-        (ap (is_regular (new_faces l y)) vertex_is ∙ off) in
+        let n = irregular_node new_is d.0 d.1 (ap (is_regular (new_faces l y)) vertex_is ∙ off) in
         let e = sym (ap (vertex_number l y) n.2) ∙ ap (vertex_number l y) d.2 ∙ a.2 in
         let v_low : v < l.nodes = omega (arith, n.1, e) in
         (v_low, (λ t. (sym (same_faces v v_low) t) == cond (sym (same_inner v v_low) t) 4 2) ∙ off)
@@ -235,7 +229,7 @@ module _ (faces : Faces) (l : Layout) (x : Lengths) (vertex : ℕ → ℕ) (lies
     keeps : KeepsShape faces (new_faces l y) l.nodes vertex
     keeps = record {
       old_manifold = lies.manifold;
-      new_manifold = manifold l y the_laid lon (simple_from l y undoubled) the_fans;
+      new_manifold = manifold the_laid lon (simple_from l y undoubled) the_fans;
       euler = euler_is l y the_laid lon (new_faces l y) (dart_number l y) new_is
           ∙ sym (euler_is l x the_laid lies.lengths faces lies.cell the_model);
       irregular = irregular;
@@ -243,26 +237,25 @@ module _ (faces : Faces) (l : Layout) (x : Lengths) (vertex : ℕ → ℕ) (lies
     }
 
 pub laid_law : LaidLaw
-laid_law faces l x vertex lies = (the_laid faces l x vertex lies, the_fans faces l x vertex lies)
+laid_law faces l x vertex lies = (the_laid lies, the_fans lies)
 
 pub numbers_law : NumbersLaw
 numbers_law l x = record { low = number_low l x; same = number_same l x; onto = point_onto l x }
 
 pub new_manifold_law : NewManifoldLaw
-new_manifold_law l x laid fans len undoubled = manifold l x laid len (simple_from l x undoubled) fans
+new_manifold_law l x laid fans len undoubled = manifold laid len (simple_from l x undoubled) fans
 
 pub keeps_shape_law : KeepsShapeLaw
-keeps_shape_law faces l x vertex lies y lon undoubled = keeps faces l x vertex lies y lon undoubled
+keeps_shape_law faces l x vertex lies y lon undoubled = keeps lies lon undoubled
 
 pub three_law : ThreeLaw
-three_law l x laid len three = undoubled_from l x laid len (simple_three l x laid len three)
+three_law l x laid len three = undoubled_from l x laid len (simple_three laid len three)
 
 pub multiple_law : MultipleLaw
 multiple_law faces l x vertex lies k some =
     let lon : AreLengths l (scale k x) = lengths_scale l x k some lies.lengths in (
       lon,
-      undoubled_from l (scale k x) (the_laid faces l x vertex lies) lon
-          (simple_multiple l x (the_laid faces l x vertex lies) lies.lengths
-          (old_simple faces lies.manifold l x lies.paved lies.lengths lies.cell vertex lies.arc_dart lies.sided
-          (the_model faces l x vertex lies)) k some),
+      undoubled_from l (scale k x) (the_laid lies) lon
+          (simple_multiple l x (the_laid lies) lies.lengths
+          (old_simple lies.manifold lies.paved lies.lengths lies.sided (the_model lies)) k some),
     )

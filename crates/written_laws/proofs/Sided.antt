@@ -18,8 +18,8 @@ use Rattle.written_laws.proofs.{Borders.at_is, Borders.before_is, Fans.before_re
 module _ (m : HalfEdges) (laws : IsQuadManifold m) (l : Layout) (x : Lengths) (paved : HasWholeSides l)
     (len : AreLengths l x)
     (cell : CellDart → ℕ) (vertex : ℕ → ℕ) (arc_dart : ℕ → ℕ → ℕ) (s : IsEmbedding m l x cell vertex arc_dart) where
-  some : (w : Slot) → IsSlot l w → 0 < x (use_of l w).arc
-  some w is = use_some l x paved len w is
+  some : {w : Slot} → IsSlot l w → 0 < x (use_of l w).arc
+  some {w} is = use_some l x paved len w is
 
   low_at : (w : Slot) (o : ℕ) → IsSlot l w → o < x (use_of l w).arc → cell (slot_dart l x w o) < m.count
   low_at w o is less = s.low (slot_dart l x w o) (at_is l x paved len w o is less)
@@ -56,29 +56,26 @@ module _ (m : HalfEdges) (laws : IsQuadManifold m) (l : Layout) (x : Lengths) (p
   twin_before d e is back twin = ap (λ (c : CellDart). m.from (cell c)) (sym back) ∙ ap m.from (s.turned (prev d))
       ∙ sym (laws.twin_ends (cell (prev d)) (cell e) (s.low (prev d) is) twin).0
 
-  before_twin : (d e : CellDart) → IsDart l x e → next (prev d) ≡ d → m.twin (cell e) ≡ Some (cell (prev d))
-      → AreFromOne d e
-  before_twin d e is back twin = ap (λ (c : CellDart). m.from (cell c)) (sym back) ∙ ap m.from (s.turned (prev d))
+  before_twin : (d : CellDart) {e : CellDart} → IsDart l x e → next (prev d) ≡ d
+      → m.twin (cell e) ≡ Some (cell (prev d)) → AreFromOne d e
+  before_twin d {e} is back twin = ap (λ (c : CellDart). m.from (cell c)) (sym back) ∙ ap m.from (s.turned (prev d))
       ∙ (laws.twin_ends (cell e) (cell (prev d)) (s.low e is) twin).1
 
   left_from : (p i j k n : ℕ) (w : Way) → IsDart l x (dart p i j w) → IsDart l x (dart p k n (side_after w))
       → column i w ≡ column k (side_after w) → row j w ≡ row n (side_after w)
       → AreFromOne (dart p i j w) (dart p k n (side_after w))
-  left_from p i j k n south d e c r = before_twin (dart p i j south) (dart p k n east) e refl
+  left_from p i j k n south d e c r = before_twin (dart p i j south) e refl
       (s.east_of p k n d.patch_low (omega (arith, c, d.i_low)) e.j_low
       ∙ ap (λ (q : CellDart). Some (cell q)) (λ t. dart p (sym c t) (sym r t) west))
   left_from p i j k n east d e c r =
       let a : k ≡ i = omega (arith, c) in
-      before_twin (dart p i j east) (dart p k n north) e refl
+      before_twin (dart p i j east) e refl
       (s.north_of p k n d.patch_low e.i_low (omega (arith, r, d.j_low))
       ∙ ap (λ (q : CellDart). Some (cell q)) (λ t. dart p (a t) (sym r t) south))
   left_from p i j k n north d e c r =
       let b : j ≡ n = omega (arith, r) in
-      twin_before (dart p i j north) (dart p k n west) (record {
-        patch_low = d.patch_low;
-        i_low = d.i_low;
-        j_low = d.j_low;
-      }) refl
+      twin_before (dart p i j north) (dart p k n west)
+      (record { patch_low = d.patch_low; i_low = d.i_low; j_low = d.j_low }) refl
       (s.east_of p i j d.patch_low (omega (arith, c, e.i_low)) d.j_low
       ∙ ap (λ (q : CellDart). Some (cell q)) (λ t. dart p (c t) (b t) west))
   left_from p i j k n west d e c r = twin_before (dart p i j west) (dart p k n south) (record {
@@ -102,13 +99,13 @@ module _ (m : HalfEdges) (laws : IsQuadManifold m) (l : Layout) (x : Lengths) (p
   -- Arcs in use begin and end at the vertices of their nodes.
   pub starts : (w : Slot) → IsSlot l w → m.from (cell (slot_dart l x w 0)) ≡ vertex (start_node l (use_of l w))
   starts w is = elim (cases_Bool (use_of l w).forward) [
-    | inl e ↦ ap m.from (s.ahead w 0 is (some w is) e) ∙ s.first_at (use_of l w).arc (paved.arc_low w is)
+    | inl e ↦ ap m.from (s.ahead w 0 is (some is) e) ∙ s.first_at (use_of l w).arc (paved.arc_low w is)
         ∙ ap vertex (node (use_of l w) true e)
     | inr e ↦
         let z : x (use_of l w).arc - 1 - 0 ≡ x (use_of l w).arc - 1 = omega arith in
-        let low = s.arc_low (use_of l w).arc (x (use_of l w).arc - 1) (paved.arc_low w is) (omega (arith, some w is)) in
+        let low = s.arc_low (use_of l w).arc (x (use_of l w).arc - 1) (paved.arc_low w is) (omega (arith, some is)) in
         (laws.twin_ends (arc_dart (use_of l w).arc (x (use_of l w).arc - 1)) (cell (slot_dart l x w 0)) low
-        (ap (λ k. m.twin (arc_dart (use_of l w).arc k)) (sym z) ∙ s.behind w 0 is (some w is) e)).0
+        (ap (λ k. m.twin (arc_dart (use_of l w).arc k)) (sym z) ∙ s.behind w 0 is (some is) e)).0
         ∙ s.last_at (use_of l w).arc (paved.arc_low w is) ∙ ap vertex (node (use_of l w) false e)
   ]
     where
@@ -116,21 +113,21 @@ module _ (m : HalfEdges) (laws : IsQuadManifold m) (l : Layout) (x : Lengths) (p
           ≡ start_node l u
       node u f e = λ t. start_node l (record { arc = u.arc; forward = sym e t })
 
-  ends : (w : Slot) → IsSlot l w → m.from (m.next (cell (slot_dart l x w (x (use_of l w).arc - 1))))
-      ≡ vertex (end_node l (use_of l w))
-  ends w is = elim (cases_Bool (use_of l w).forward) [
+  ends : {w : Slot} → IsSlot l w → m.from (m.next (cell (slot_dart l x w (x (use_of l w).arc - 1)))) ≡ vertex
+      (end_node l (use_of l w))
+  ends {w} is = elim (cases_Bool (use_of l w).forward) [
     | inl e ↦ ap (λ c. m.from (m.next c)) (s.ahead w (x (use_of l w).arc - 1) is less e)
         ∙ s.last_at (use_of l w).arc (paved.arc_low w is) ∙ ap vertex (node (use_of l w) true e)
     | inr e ↦
         let z : x (use_of l w).arc - 1 - (x (use_of l w).arc - 1) ≡ 0 = omega arith in
-        let low = s.arc_low (use_of l w).arc 0 (paved.arc_low w is) (some w is) in
+        let low = s.arc_low (use_of l w).arc 0 (paved.arc_low w is) (some is) in
         (laws.twin_ends (arc_dart (use_of l w).arc 0) (cell (slot_dart l x w (x (use_of l w).arc - 1))) low
         (ap (λ k. m.twin (arc_dart (use_of l w).arc k)) (sym z) ∙ s.behind w (x (use_of l w).arc - 1) is less e)).1
         ∙ s.first_at (use_of l w).arc (paved.arc_low w is) ∙ ap vertex (node (use_of l w) false e)
   ]
     where
       less : x (use_of l w).arc - 1 < x (use_of l w).arc
-      less = omega (arith, some w is)
+      less = omega (arith, some is)
 
       node : (u : SideArc) (f : Bool) → u.forward ≡ f → end_node l (record { arc = u.arc; forward = f }) ≡ end_node l u
       node u f e = λ t. end_node l (record { arc = u.arc; forward = sym e t })
@@ -144,9 +141,9 @@ module _ (m : HalfEdges) (laws : IsQuadManifold m) (l : Layout) (x : Lengths) (p
       by_way a false less = (paved.last_low a less, paved.first_low a less)
 
   once : (v w : Slot) → IsSlot l v → IsSlot l w → use_of l v ≡ use_of l w → v ≡ w
-  once v w is_v is_w same = rim_slot l x paved len v w 0 0 is_v is_w (some v is_v) (some w is_w)
-      (s.same (slot_dart l x v 0) (slot_dart l x w 0) (at_is l x paved len v 0 is_v (some v is_v))
-      (at_is l x paved len w 0 is_w (some w is_w)) (by_way (use_of l v).forward refl))
+  once v w is_v is_w same = rim_slot paved len v w 0 0 is_v is_w (some is_v) (some is_w)
+      (s.same (slot_dart l x v 0) (slot_dart l x w 0) (at_is l x paved len v 0 is_v (some is_v))
+      (at_is l x paved len w 0 is_w (some is_w)) (by_way (use_of l v).forward refl))
     where
       arcs : (use_of l v).arc ≡ (use_of l w).arc
       arcs = ap (λ (u : SideArc). u.arc) same
@@ -155,11 +152,11 @@ module _ (m : HalfEdges) (laws : IsQuadManifold m) (l : Layout) (x : Lengths) (p
       ways = ap (λ (u : SideArc). u.forward) same
 
       by_way : (f : Bool) → (use_of l v).forward ≡ f → cell (slot_dart l x v 0) ≡ cell (slot_dart l x w 0)
-      by_way true e = s.ahead v 0 is_v (some v is_v) e ∙ ap (λ a. arc_dart a 0) arcs
-          ∙ sym (s.ahead w 0 is_w (some w is_w) (sym ways ∙ e))
+      by_way true e = s.ahead v 0 is_v (some is_v) e ∙ ap (λ a. arc_dart a 0) arcs
+          ∙ sym (s.ahead w 0 is_w (some is_w) (sym ways ∙ e))
       by_way false e = same_Some (cell (slot_dart l x v 0)) (cell (slot_dart l x w 0))
-          (sym (s.behind v 0 is_v (some v is_v) e) ∙ ap (λ a. m.twin (arc_dart a (x a - 1 - 0))) arcs
-          ∙ s.behind w 0 is_w (some w is_w) (sym ways ∙ e))
+          (sym (s.behind v 0 is_v (some is_v) e) ∙ ap (λ a. m.twin (arc_dart a (x a - 1 - 0))) arcs
+          ∙ s.behind w 0 is_w (some is_w) (sym ways ∙ e))
 
   meet : (w : Slot) → IsSlot l w → end_node l (use_before l w) ≡ start_node l (use_of l w)
   meet w is =
@@ -167,9 +164,9 @@ module _ (m : HalfEdges) (laws : IsQuadManifold m) (l : Layout) (x : Lengths) (p
       s.vertex_same (end_node l (use_before l w)) (start_node l (use_of l w))
       (start_low (use_before l w) (paved.arc_low (slot_before l w.patch w.side w.at) is_b)).1
       (start_low (use_of l w) (paved.arc_low w is)).0
-      (sym (ends (slot_before l w.patch w.side w.at) is_b)
+      (sym (ends is_b)
       ∙ ap m.from (sym (s.turned (slot_dart l x (slot_before l w.patch w.side w.at) (x (use_before l w).arc - 1))))
-      ∙ before_related l x paved len AreFromOne from_turning w is ∙ starts w is)
+      ∙ before_related paved len from_turning w is ∙ starts w is)
 
   no_fold : (w : Slot) → IsSlot l w → w.at ≡ 0 → ¬ AreReverse (use_before l w) (use_of l w)
   no_fold w is first rev = (laws.corners_differ (cell c) c_low).1 (sym back)
@@ -184,7 +181,7 @@ module _ (m : HalfEdges) (laws : IsQuadManifold m) (l : Layout) (x : Lengths) (p
       o = x (use_of l b).arc - 1
 
       o_low : o < x (use_of l b).arc
-      o_low = omega (arith, some b is_b)
+      o_low = omega (arith, some is_b)
 
       c : CellDart
       c = slot_dart l x b o
@@ -206,7 +203,7 @@ module _ (m : HalfEdges) (laws : IsQuadManifold m) (l : Layout) (x : Lengths) (p
               (omega (
                 arith,
                 last_reach l x paved len w.patch (side_before q) is.patch_low,
-                some (slot w.patch (side_before q) (l.many w.patch (side_before q) - 1)) (record {
+                some {w = slot w.patch (side_before q) (l.many w.patch (side_before q) - 1)} (record {
                   patch_low = is.patch_low;
                   low = omega (arith, paved.sides_full w.patch (side_before q) is.patch_low);
                 }),
@@ -214,10 +211,10 @@ module _ (m : HalfEdges) (laws : IsQuadManifold m) (l : Layout) (x : Lengths) (p
             where
               corner : (q : Way) (t : ℕ) → t + 1 ≡ size l x w.patch (side_before q)
                   → next (dart_along l x w.patch (side_before q) t) ≡ dart_along l x w.patch q 0
-              corner south t f = corner_next l x paved len w.patch west t is.patch_low f
-              corner east t f = corner_next l x paved len w.patch south t is.patch_low f
-              corner north t f = corner_next l x paved len w.patch east t is.patch_low f
-              corner west t f = corner_next l x paved len w.patch north t is.patch_low f
+              corner south t f = corner_next paved len w.patch west t is.patch_low f
+              corner east t f = corner_next paved len w.patch south t is.patch_low f
+              corner north t f = corner_next paved len w.patch east t is.patch_low f
+              corner west t f = corner_next paved len w.patch north t is.patch_low f
       before_first (suc k) e = absurd (omega arith)
 
       zero_is : x (use_of l b).arc - 1 - o ≡ 0

@@ -58,9 +58,9 @@ module _ (l : Layout) (x : Lengths) where
       → use_over l x w.patch w.side (reach l x w.patch w.side w.at + o) ≡ w.at
   over_is w o is less = run_place (long_at w.patch w.side) (l.many w.patch w.side) w.at o is.low less
 
-  pub side_in : (w : Slot) (o : ℕ) → IsSlot l w → o < x (use_of l w).arc
+  pub side_in : {w : Slot} (o : ℕ) → IsSlot l w → o < x (use_of l w).arc
       → side_point l x w.patch w.side (reach l x w.patch w.side w.at + o) ≡ use_point l x (use_of l w) o
-  side_in w o is less =
+  side_in {w} o is less =
       let t : ℕ = reach l x w.patch w.side w.at + o in
       ap (λ m. use_point l x (l.use_at w.patch w.side m) (t - reach l x w.patch w.side m)) (over_is w o is less)
       ∙ ap (use_point l x (use_of l w)) (omega arith)
@@ -104,7 +104,7 @@ module _ (l : Layout) (x : Lengths) where
     pub side_begin : (p : ℕ) (s : Way) → p < l.patches → side_point l x p s 0 ≡ node (start_node l (l.use_at p s 0))
     side_begin p s low =
         let some : 0 < x (l.use_at p s 0).arc = use_some (slot p s 0) (first_slot p s low) in
-        let in_side = side_in (slot p s 0) 0 (first_slot p s low) some in
+        let in_side = side_in 0 (first_slot p s low) some in
         in_side ∙ use_begins (l.use_at p s 0) some
 
     pub side_end : (p : ℕ) (s : Way) (t : ℕ) → p < l.patches → t ≡ size l x p s
@@ -158,7 +158,7 @@ module _ (l : Layout) (x : Lengths) where
     pub side_upto : (w : Slot) (o t : ℕ) → IsSlot l w → o ≤ x (use_of l w).arc → t ≡ reach l x w.patch w.side w.at + o
         → side_point l x w.patch w.side t ≡ use_point l x (use_of l w) o
     side_upto w o t is le e = elim (cases_lt o (x (use_of l w).arc)) [
-      | inl less ↦ ap (side_point l x w.patch w.side) e ∙ side_in w o is less
+      | inl less ↦ ap (side_point l x w.patch w.side) e ∙ side_in o is less
       | inr more ↦ elim (cases_lt (suc w.at) (l.many w.patch w.side)) [
         | inl another ↦ at_next more (record { patch_low = is.patch_low; low = another })
         | inr last ↦ at_end more last
@@ -170,7 +170,7 @@ module _ (l : Layout) (x : Lengths) where
         at_next more next =
             let same : t ≡ reach l x w.patch w.side (suc w.at) + 0 = omega arith in
             let some = use_some laid.paved len (slot w.patch w.side (suc w.at)) next in
-            ap (side_point l x w.patch w.side) same ∙ side_in (slot w.patch w.side (suc w.at)) 0 next some
+            ap (side_point l x w.patch w.side) same ∙ side_in 0 next some
             ∙ use_begins (l.use_at w.patch w.side (suc w.at)) some
             ∙ ap node (sym (laid.meet (slot w.patch w.side (suc w.at)) next))
             ∙ sym (use_ends (use_of l w) o (omega arith) (omega (arith, use_some laid.paved len w is)))

@@ -12,7 +12,7 @@ pub record IsSimple (l : Layout) (x : Lengths) : Type 0 where
       → edge_end l x e ≡ edge_start l x f → e ≡ f
   pub no_loop : (e : Edge) → IsEdge l x e → edge_start l x e ≢ edge_end l x e
 
-module _ (l : Layout) (x : Lengths) (simple : IsSimple l x) where
+module _ {l : Layout} {x : Lengths} (simple : IsSimple l x) where
   -- A course is told by its ends.
   pub one_course : (c k : Course) → IsEdge l x c.edge → IsEdge l x k.edge
       → start_at l x c ≡ start_at l x k → end_at l x c ≡ end_at l x k → c ≡ k

@@ -46,11 +46,11 @@ one_way i j west west i_some j_some c r = refl
 one_way i j south south i_some j_some c r = refl
 one_way i j _ _ i_some j_some c r = absurd (omega arith)
 
-pub no_tip_at_hub : (i j : ℕ) (w : Way) → 0 < i → 0 < j → tip_column i w ≡ i → tip_row j w ≡ j → ⊥
-no_tip_at_hub i j east i_some j_some c r = omega arith
-no_tip_at_hub i j north i_some j_some c r = omega arith
-no_tip_at_hub i j west i_some j_some c r = omega arith
-no_tip_at_hub i j south i_some j_some c r = omega arith
+pub no_tip_at_hub : {i j : ℕ} (w : Way) → 0 < i → 0 < j → tip_column i w ≡ i → tip_row j w ≡ j → ⊥
+no_tip_at_hub east i_some j_some c r = omega arith
+no_tip_at_hub north i_some j_some c r = omega arith
+no_tip_at_hub west i_some j_some c r = omega arith
+no_tip_at_hub south i_some j_some c r = omega arith
 
 module _ (l : Layout) (x : Lengths) where
   abbrev pub tip : (p i j : ℕ) (w : Way) → Point
@@ -85,14 +85,14 @@ module _ (l : Layout) (x : Lengths) where
     -- The grid point that lies inside.
     pub point_sort : (q k m p i j : ℕ) → q < l.patches → k ≤ wide l x q → m ≤ high l x q
         → point l x q k m ≡ inside p i j → (q ≡ p) × (k ≡ i) × (m ≡ j)
-    point_sort q k m p i j q_low k_le m_le e = elim (on_rim l x laid.paved len q k m q_low k_le m_le) [
+    point_sort q k m p i j q_low k_le m_le e = elim (on_rim laid.paved len q k m q_low k_le m_le) [
       | inl n ↦
           let s = sym (point_inside l x laid len q k m n.a_some n.a_low n.b_some n.b_low) ∙ e in
           (cc, cc, cc)
       | inr b ↦ absurd (at_border b.0 b.1 b.2)
     ]
       where
-        at_border : (s : Way) (t : ℕ) → IsBorder l x laid.paved len q k m s t → ⊥
+        at_border : (s : Way) (t : ℕ) → IsBorder laid.paved len q k m s t → ⊥
         at_border s t b =
             let on : IsOn l x q s t (use_over l x q s t) (offset_at l x q s t) = place_on l x q s t q_low b.low in
             use_not_inside l x (l.use_at q s (use_over l x q s t)) (offset_at l x q s t) p i j on.inside
@@ -100,7 +100,7 @@ module _ (l : Layout) (x : Lengths) where
             ∙ (λ r. point l x q (sym b.column r) (sym b.row r)) ∙ e)
 
     abbrev pub Inner : (p i j : ℕ) → Type 0
-    Inner p i j = (p < l.patches) × IsInner l x laid.paved len p i j
+    Inner p i j = (p < l.patches) × IsInner laid.paved len p i j
 
     pub hub : (p i j : ℕ) → Inner p i j → point l x p i j ≡ inside p i j
     hub p i j n = point_inside l x laid len p i j n.1.a_some n.1.a_low n.1.b_some n.1.b_low
@@ -153,4 +153,4 @@ module _ (l : Layout) (x : Lengths) where
         at_tip f =
             let s =
             point_sort p (tip_column i w) (tip_row j w) p i j n.0 (tip_low p i j w n).0 (tip_low p i j w n).1 f in
-            no_tip_at_hub i j w n.1.a_some n.1.b_some s.1 s.2
+            no_tip_at_hub w n.1.a_some n.1.b_some s.1 s.2

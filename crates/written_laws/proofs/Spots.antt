@@ -18,7 +18,7 @@ no_turn east e = cc
 no_turn north e = cc
 no_turn west e = cc
 
-module _ (l : Layout) (x : Lengths) (paved : HasWholeSides l) (len : AreLengths l x) where
+module _ {l : Layout} {x : Lengths} (paved : HasWholeSides l) (len : AreLengths l x) where
   -- Places of sides that lie at one grid point are one.
   pub place_once : (p : ℕ) (s r : Way) (t u : ℕ) → p < l.patches → t < size l x p s → u < size l x p r
       → side_column l x p s t ≡ side_column l x p r u → side_row l x p s t ≡ side_row l x p r u → (s ≡ r) × (t ≡ u)
@@ -42,7 +42,7 @@ module _ (l : Layout) (x : Lengths) (paved : HasWholeSides l) (len : AreLengths 
   pub rim_slot : (w v : Slot) (o k : ℕ) → IsSlot l w → IsSlot l v → o < x (use_of l w).arc → k < x (use_of l v).arc
       → slot_dart l x w o ≡ slot_dart l x v k → w ≡ v
   rim_slot w v o k is_w is_v o_low k_low same =
-      let e = (place_once w.patch w.side w.side t u is_w.patch_low (at_low l x paved len w o is_w o_low) u_low columns
+      let e = (place_once w.patch w.side w.side t u is_w.patch_low (at_low l x paved len o is_w o_low) u_low columns
       rows).1 in
       let k_inside = subst (λ (n : ℕ). k < n) (λ r. long_at l x (patches r) (sides r) v.at) k_low in
       let v_many = subst (λ (n : ℕ). v.at < n) (λ r. l.many (patches r) (sides r)) is_v.low in
@@ -57,26 +57,26 @@ module _ (l : Layout) (x : Lengths) (paved : HasWholeSides l) (len : AreLengths 
       u = reach l x v.patch v.side v.at + k
 
       patches : v.patch ≡ w.patch
-      patches = sym (rim_patch l x paved len v.patch v.side u) ∙ ap (λ (d : CellDart). d.patch) (sym same)
-          ∙ rim_patch l x paved len w.patch w.side t
+      patches = sym (rim_patch paved len v.patch v.side u) ∙ ap (λ (d : CellDart). d.patch) (sym same)
+          ∙ rim_patch paved len w.patch w.side t
 
       sides : v.side ≡ w.side
-      sides = sym (rim_way l x paved len v.patch v.side u) ∙ ap (λ (d : CellDart). d.way) (sym same)
-          ∙ rim_way l x paved len w.patch w.side t
+      sides = sym (rim_way paved len v.patch v.side u) ∙ ap (λ (d : CellDart). d.way) (sym same)
+          ∙ rim_way paved len w.patch w.side t
 
       u_low : u < size l x w.patch w.side
-      u_low = subst (λ (n : ℕ). u < n) (λ r. size l x (patches r) (sides r)) (at_low l x paved len v k is_v k_low)
+      u_low = subst (λ (n : ℕ). u < n) (λ r. size l x (patches r) (sides r)) (at_low l x paved len k is_v k_low)
 
       there : dart_along l x v.patch v.side u ≡ dart_along l x w.patch w.side u
       there = λ r. dart_along l x (patches r) (sides r) u
 
       columns : side_column l x w.patch w.side t ≡ side_column l x w.patch w.side u
-      columns = sym (rim_column l x paved len w.patch w.side t is_w.patch_low (at_low l x paved len w o is_w o_low))
-          ∙ ap column_of (same ∙ there) ∙ rim_column l x paved len w.patch w.side u is_w.patch_low u_low
+      columns = sym (rim_column paved len w.patch w.side t is_w.patch_low (at_low l x paved len o is_w o_low))
+          ∙ ap column_of (same ∙ there) ∙ rim_column paved len w.patch w.side u is_w.patch_low u_low
 
       rows : side_row l x w.patch w.side t ≡ side_row l x w.patch w.side u
-      rows = sym (rim_row l x paved len w.patch w.side t is_w.patch_low (at_low l x paved len w o is_w o_low))
-          ∙ ap row_of (same ∙ there) ∙ rim_row l x paved len w.patch w.side u is_w.patch_low u_low
+      rows = sym (rim_row paved len w.patch w.side t is_w.patch_low (at_low l x paved len o is_w o_low))
+          ∙ ap row_of (same ∙ there) ∙ rim_row paved len w.patch w.side u is_w.patch_low u_low
 
   -- A dart that leaves a place of a side lies on the border, or is next to the border dart before.
   border_dart : (p : ℕ) (s w : Way) (i j t : ℕ) → t < size l x p s → IsDart l x (dart p i j w)
@@ -121,12 +121,12 @@ abbrev pub spot_dart : (l : Layout) (x : Lengths) (w : Slot) (o : ℕ) (behind :
 spot_dart l x w o false = slot_dart l x w o
 spot_dart l x w o true = next (dart_along l x w.patch w.side (place_at l x w o - 1))
 
-module _ (l : Layout) (x : Lengths) (laid : IsSurface l) (len : AreLengths l x) where
+module _ {l : Layout} {x : Lengths} (laid : IsSurface l) (len : AreLengths l x) where
   -- A dart is at a slot's place where it leaves the grid point.
-  pub at_place : (d : CellDart) (w : Slot) (o : ℕ) → IsSlot l w → o < x (use_of l w).arc → d.patch ≡ w.patch
+  pub at_place : (d : CellDart) {w : Slot} (o : ℕ) → IsSlot l w → o < x (use_of l w).arc → d.patch ≡ w.patch
       → column_of d ≡ side_column l x w.patch w.side (place_at l x w o)
       → row_of d ≡ side_row l x w.patch w.side (place_at l x w o) → IsAt l x laid len d w o
-  at_place d w o is less patch c r = record {
+  at_place d {w} o is less patch c r = record {
     is_slot = is;
     low = less;
     patch = patch;
@@ -134,15 +134,15 @@ module _ (l : Layout) (x : Lengths) (laid : IsSurface l) (len : AreLengths l x) 
     row = r;
     leaves = (λ k. point l x (patch k) (c k) (r k))
         ∙ border_point l x laid len w.patch w.side (place_at l x w o) is.patch_low
-        (omega (arith, at_low l x laid.paved len w o is less)) ∙ side_in l x w o is less;
+        (omega (arith, at_low l x laid.paved len o is less)) ∙ side_in l x o is less;
   }
 
   -- It is at one place of one slot.
-  pub at_once : (d : CellDart) (w v : Slot) (o k : ℕ) → IsAt l x laid len d w o → IsAt l x laid len d v k
-      → (w ≡ v) × (o ≡ k)
-  at_once d w v o k a b =
-      let s = place_once l x laid.paved len w.patch w.side v.side (place_at l x w o)
-      (place_at l x v k) a.is_slot.patch_low (at_low l x laid.paved len w o a.is_slot a.low) v_low columns rows in
+  pub at_once : {d : CellDart} {w v : Slot} {o k : ℕ} → IsAt l x laid len d w o → IsAt l x laid len d v k → (w ≡ v)
+      × (o ≡ k)
+  at_once {w} {v} {o} {k} a b =
+      let s = place_once laid.paved len w.patch w.side v.side (place_at l x w o)
+      (place_at l x v k) a.is_slot.patch_low (at_low l x laid.paved len o a.is_slot a.low) v_low columns rows in
       let v_inside = subst (λ (n : ℕ). k < n) (λ t. long_at l x (patches t) (sym s.0 t) v.at) b.low in
       let v_many = subst (λ (n : ℕ). v.at < n) (λ t. l.many (patches t) (sym s.0 t)) b.is_slot.low in
       let place = s.1 ∙ (λ t. reach l x (patches t) (sym s.0 t) v.at + k) in
@@ -155,7 +155,7 @@ module _ (l : Layout) (x : Lengths) (laid : IsSurface l) (len : AreLengths l x) 
 
       v_low : place_at l x v k < size l x w.patch v.side
       v_low = subst (λ (n : ℕ). place_at l x v k < n) (λ t. size l x (patches t) v.side)
-          (at_low l x laid.paved len v k b.is_slot b.low)
+          (at_low l x laid.paved len k b.is_slot b.low)
 
       columns : side_column l x w.patch w.side (place_at l x w o) ≡ side_column l x w.patch v.side (place_at l x v k)
       columns = sym a.column ∙ b.column ∙ (λ t. side_column l x (patches t) v.side (place_at l x v k))
@@ -168,36 +168,33 @@ module _ (l : Layout) (x : Lengths) (laid : IsSurface l) (len : AreLengths l x) 
       → IsDart l x (spot_dart l x w o b)
   spot_is w o false is less some = at_is l x laid.paved len w o is less
   spot_is w o true is less some = next_is l x (dart_along l x w.patch w.side (place_at l x w o - 1))
-      (rim_is l x laid.paved len w.patch w.side (place_at l x w o - 1) is.patch_low
-      (omega (arith, at_low l x laid.paved len w o is less)))
+      (rim_is laid.paved len w.patch w.side (place_at l x w o - 1) is.patch_low
+      (omega (arith, at_low l x laid.paved len o is less)))
 
   pub rim_is_at : (w : Slot) (o : ℕ) → IsSlot l w → o < x (use_of l w).arc → IsAt l x laid len (slot_dart l x w o) w o
-  rim_is_at w o is less =
-      at_place (slot_dart l x w o) w o is less (rim_patch l x laid.paved len w.patch w.side (place_at l x w o))
-      (rim_column l x laid.paved len w.patch w.side (place_at l x w o) is.patch_low
-      (at_low l x laid.paved len w o is less))
-      (rim_row l x laid.paved len w.patch w.side (place_at l x w o) is.patch_low
-      (at_low l x laid.paved len w o is less))
+  rim_is_at w o is less = at_place (slot_dart l x w o) o is less
+      (rim_patch laid.paved len w.patch w.side (place_at l x w o))
+      (rim_column laid.paved len w.patch w.side (place_at l x w o) is.patch_low (at_low l x laid.paved len o is less))
+      (rim_row laid.paved len w.patch w.side (place_at l x w o) is.patch_low (at_low l x laid.paved len o is less))
 
-  pub spot_at : (w : Slot) (o : ℕ) (b : Bool) → IsSlot l w → o < x (use_of l w).arc → (b ≡ true → 0 < place_at l x w o)
+  pub spot_at : {w : Slot} (o : ℕ) (b : Bool) → IsSlot l w → o < x (use_of l w).arc → (b ≡ true → 0 < place_at l x w o)
       → IsAt l x laid len (spot_dart l x w o b) w o
-  spot_at w o false is less some = rim_is_at w o is less
-  spot_at w o true is less some =
-      let t_low : place_at l x w o - 1 < size l x w.patch w.side =
-      omega (arith, at_low l x laid.paved len w o is less) in
+  spot_at {w} o false is less some = rim_is_at w o is less
+  spot_at {w} o true is less some =
+      let t_low : place_at l x w o - 1 < size l x w.patch w.side = omega (arith, at_low l x laid.paved len o is less) in
       let one : place_at l x w o - 1 + 1 ≡ place_at l x w o = omega (arith, some refl) in
-      at_place (next (dart_along l x w.patch w.side (place_at l x w o - 1))) w o is less
-      (rim_patch l x laid.paved len w.patch w.side (place_at l x w o - 1))
-      (rim_next_column l x laid.paved len w.patch w.side (place_at l x w o - 1) is.patch_low t_low
+      at_place (next (dart_along l x w.patch w.side (place_at l x w o - 1))) o is less
+      (rim_patch laid.paved len w.patch w.side (place_at l x w o - 1))
+      (rim_next_column laid.paved len w.patch w.side (place_at l x w o - 1) is.patch_low t_low
       ∙ ap (side_column l x w.patch w.side) one)
-      (rim_next_row l x laid.paved len w.patch w.side (place_at l x w o - 1) is.patch_low t_low
+      (rim_next_row laid.paved len w.patch w.side (place_at l x w o - 1) is.patch_low t_low
       ∙ ap (side_row l x w.patch w.side) one)
 
   -- A dart at a place is one of the two.
   pub sort_spot : (d : CellDart) (w : Slot) (o : ℕ) → IsDart l x d → IsAt l x laid len d w o
       → (b : Bool) × (d ≡ spot_dart l x w o b) × ((b ≡ true) → 0 < place_at l x w o)
-  sort_spot d w o is a = elim (border_dart l x laid.paved len w.patch w.side d.way d.i d.j (place_at l x w o)
-      (at_low l x laid.paved len w o a.is_slot a.low) (record {
+  sort_spot d w o is a = elim (border_dart laid.paved len w.patch w.side d.way d.i d.j (place_at l x w o)
+      (at_low l x laid.paved len o a.is_slot a.low) (record {
         patch_low = a.is_slot.patch_low;
         i_low = rw (ap (wide l x) a.patch) at is.i_low;
         j_low = rw (ap (high l x) a.patch) at is.j_low;
@@ -212,8 +209,8 @@ module _ (l : Layout) (x : Lengths) (laid : IsSurface l) (len : AreLengths l x) 
   spot_once w o true true e = refl
   spot_once w o false false e = refl
   spot_once w o true false e = absurd (no_turn w.side
-      (sym (ap (λ (d : CellDart). d.way) e ∙ rim_way l x laid.paved len w.patch w.side (place_at l x w o))
-      ∙ ap side_after (rim_way l x laid.paved len w.patch w.side (place_at l x w o - 1))))
+      (sym (ap (λ (d : CellDart). d.way) e ∙ rim_way laid.paved len w.patch w.side (place_at l x w o))
+      ∙ ap side_after (rim_way laid.paved len w.patch w.side (place_at l x w o - 1))))
   spot_once w o false true e = absurd (no_turn w.side
-      (sym (rim_way l x laid.paved len w.patch w.side (place_at l x w o)) ∙ ap (λ (d : CellDart). d.way) e
-      ∙ ap side_after (rim_way l x laid.paved len w.patch w.side (place_at l x w o - 1))))
+      (sym (rim_way laid.paved len w.patch w.side (place_at l x w o)) ∙ ap (λ (d : CellDart). d.way) e
+      ∙ ap side_after (rim_way laid.paved len w.patch w.side (place_at l x w o - 1))))

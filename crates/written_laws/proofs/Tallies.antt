@@ -20,8 +20,8 @@ passing p n = count_below (λ k. one_if (p k)) n
 abbrev but : (p : ℕ → Bool) (u : ℕ) → ℕ → Bool
 but p u k = cond (k == u) false (p k)
 
-but_same : (p : ℕ → Bool) (u k : ℕ) → k ≢ u → but p u k ≡ p k
-but_same p u k apart = cond-false (k == u) false (p k) (ne_eqb k u apart)
+but_same : (p : ℕ → Bool) {u k : ℕ} → k ≢ u → but p u k ≡ p k
+but_same p {u} {k} apart = cond-false (k == u) false (p k) (ne_eqb k u apart)
 
 but_none : (p : ℕ → Bool) (u k : ℕ) → k ≡ u → but p u k ≡ false
 but_none p u k same = cond-true (k == u) false (p k) (eq-eqb k u same)
@@ -32,12 +32,12 @@ passing_but p zero u low on = absurd (omega arith)
 passing_but p (suc n) u low on = elim (cases_eq n u) [
   | inl e ↦
       let rest = count_below_same (λ k. one_if (p k)) (λ k. one_if (but p u k)) n
-      (λ k l. ap one_if (sym (but_same p u k (λ s. omega (arith, s, e))))) in
+      (λ k l. ap one_if (sym (but_same p {u = u} {k = k} (λ s. omega (arith, s, e))))) in
       let last : one_if (p n) ≡ 1 = ap one_if (ap p e ∙ on) in
       let none : one_if (but p u n) ≡ 0 = ap one_if (but_none p u n e) in
       omega (arith, rest, last, none)
   | inr apart ↦
-      let last : one_if (p n) ≡ one_if (but p u n) = ap one_if (sym (but_same p u n apart)) in
+      let last : one_if (p n) ≡ one_if (but p u n) = ap one_if (sym (but_same p apart)) in
       omega (arith, passing_but p n u (omega arith) on, last)
 ]
 
@@ -72,7 +72,7 @@ passing_le p q (suc m) n to once = elim (cases_Bool (p m)) [
             let less = rest (but q u) (λ i l s. (
               (to i (up i l) s).0,
               (to i (up i l) s).1,
-              but_same q u (to i (up i l) s).0 (apart i l s) ∙ (to i (up i l) s).2,
+              but_same q (apart i l s) ∙ (to i (up i l) s).2,
             )) (λ i j a b c d e. once i j (up i a) b (up j c) d e) in
             let one : one_if (p m) ≡ 1 = ap one_if on in
             omega (arith, less, one, passing_but q n u u_low u_on)

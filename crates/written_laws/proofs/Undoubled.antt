@@ -36,9 +36,9 @@ cases_edge (steep p i j) (flat q k m) = inr (λ e. cc)
 
 module _ (l : Layout) (x : Lengths) where
   -- Two edges with these ends double a pair.
-  pair_doubles : (e f : Edge) (u v : ℕ) → IsEdge l x e → IsEdge l x f → e ≢ f → HasEnds l x e u v → HasEnds l x f u v
+  pair_doubles : {e f : Edge} {u v : ℕ} → IsEdge l x e → IsEdge l x f → e ≢ f → HasEnds l x e u v → HasEnds l x f u v
       → ¬ IsUndoubled l x
-  pair_doubles e f u v is_e is_f apart e_ends f_ends undoubled = elim (cases_lt v u) [
+  pair_doubles {e} {f} {u} {v} is_e is_f apart e_ends f_ends undoubled = elim (cases_lt v u) [
     | inl less ↦ undoubled v u (omega arith, inr (e, f, is_e, is_f, apart, turned e e_ends, turned f f_ends))
     | inr le ↦ undoubled u v (le, inr (e, f, is_e, is_f, apart, e_ends, f_ends))
   ]
@@ -61,8 +61,7 @@ module _ (l : Layout) (x : Lengths) where
           → HasEnds l x f (vertex_number l x (edge_start l x e)) (vertex_number l x (edge_end l x e)) → e ≡ f
       one e f is_e is_f ends = elim (cases_edge e f) [
         | inl s ↦ s
-        | inr apart ↦ absurd (pair_doubles e f (vertex_number l x (edge_start l x e))
-            (vertex_number l x (edge_end l x e)) is_e is_f apart (inl (refl, refl)) ends undoubled)
+        | inr apart ↦ absurd (pair_doubles is_e is_f apart (inl (refl, refl)) ends undoubled)
       ]
 
   module _ (laid : IsSurface l) (len : AreLengths l x) where
