@@ -37,10 +37,10 @@ other_without mesh cut rest s t n without = record {
 -- Four faces go round a vertex, from wherever they are counted.
 pub cross_from : (mesh : HalfEdges) → IsQuadManifold mesh → (x d : ℕ) → x < mesh.count → d < mesh.count
     → mesh.from d ≡ mesh.from x → HasCross mesh x → HasCross mesh d
-cross_from mesh laws x d lx ld at cross = by_cross cross.0 cross.1 cross.2 cross.3
+cross_from mesh laws x d lx ld at cross = by_cross cross.3
   where
-    by_cross : (a b c : ℕ) → IsCross mesh x a b c → HasCross mesh d
-    by_cross a b c is = by_one (one_of_four mesh laws x a b c lx is d (record { low = ld; at = at }))
+    by_cross : {a b c : ℕ} → IsCross mesh x a b c → HasCross mesh d
+    by_cross {a} {b} {c} is = by_one (one_of_four mesh laws x a b c lx is d (record { low = ld; at = at }))
       where
         second : IsCross mesh a b c x
         second = rotated mesh laws x a b c lx is
@@ -59,8 +59,8 @@ cross_from mesh laws x d lx ld at cross = by_cross cross.0 cross.1 cross.2 cross
 
 module _ (mesh : HalfEdges) (laws : IsQuadManifold mesh) (cut : Cut) (full : IsCut mesh cut) where
   -- A joinable arc seen from its other side.
-  pub turned_glued : (s t n : ℕ) → AreGlued mesh cut s t n → AreGlued mesh cut t s n
-  turned_glued s t n g = record {
+  pub turned_glued : {s t n : ℕ} → AreGlued mesh cut s t n → AreGlued mesh cut t s n
+  turned_glued {s} {t} {n} g = record {
     near = g.far;
     far = g.near;
     across = λ k j e. laws.twin_twin (easts mesh s j) (easts mesh t k)
@@ -69,7 +69,7 @@ module _ (mesh : HalfEdges) (laws : IsQuadManifold mesh) (cut : Cut) (full : IsC
 
   pub turned_arc : (s t n : ℕ) → IsJoinable mesh cut s t n → IsJoinable mesh cut t s n
   turned_arc s t n arc = record {
-    glued = turned_glued s t n arc.glued;
+    glued = turned_glued arc.glued;
     apart = λ a. arc.apart (linked_back mesh laws cut full t s arc.glued.far.corner.0 a);
   }
 
@@ -86,9 +86,9 @@ module _ (mesh : HalfEdges) (laws : IsQuadManifold mesh) (cut : Cut) (full : IsC
   ]
 
   -- Its darts are paired.
-  pub on_twin : (s t n : ℕ) → AreGlued mesh cut s t n → (d : ℕ) → IsOnArc mesh s t n d → (e : ℕ)
+  pub on_twin : {s t n : ℕ} → AreGlued mesh cut s t n → (d : ℕ) → IsOnArc mesh s t n d → (e : ℕ)
       × (mesh.twin d ≡ Some e) × IsOnArc mesh s t n e
-  on_twin s t n g d o = elim o.2 [
+  on_twin {s} {t} {n} g d o = elim o.2 [
     | inl e ↦ (
       easts mesh t (n - suc o.0),
       ap mesh.twin e ∙ g.across o.0 (n - suc o.0) (omega arith),
@@ -96,7 +96,7 @@ module _ (mesh : HalfEdges) (laws : IsQuadManifold mesh) (cut : Cut) (full : IsC
     )
     | inr e ↦ (
       easts mesh s (n - suc o.0),
-      ap mesh.twin e ∙ (turned_glued s t n g).across o.0 (n - suc o.0) (omega arith),
+      ap mesh.twin e ∙ (turned_glued g).across o.0 (n - suc o.0) (omega arith),
       (n - suc o.0, omega arith, inl refl),
     )
   ]

@@ -98,10 +98,8 @@ pub one_name : (mesh : HalfEdges) (s t n a b : ℕ) → IsNameOf mesh s t n a �
 one_name mesh s t n a b one two = omega (arith, one.least b two.on, two.least a one.on)
 
 pub name_other : (mesh : HalfEdges) (s t n a : ℕ) → IsNameOf mesh s t n a → IsNameOf mesh t s n a
-name_other mesh s t n a is = record {
-  on = other_way mesh s t n a is.on;
-  least = λ d o. is.least d (other_way mesh t s n d o);
-}
+name_other mesh s t n a is =
+    record { on = other_way mesh s t n a is.on; least = λ d o. is.least d (other_way mesh t s n d o) }
 
 module _ (mesh : HalfEdges) (laws : IsQuadManifold mesh) (cut : Cut) (full : IsCut mesh cut) where
   -- The other side is told by the first.
@@ -115,9 +113,9 @@ module _ (mesh : HalfEdges) (laws : IsQuadManifold mesh) (cut : Cut) (full : IsC
       far = same_Some t u (sym (one.across (n - 1) 0 (omega (arith, one.near.some)))
           ∙ (ap (λ x. mesh.twin (easts mesh s (x - 1))) same ∙ two.across (m - 1) 0 (omega (arith, two.near.some))))
 
-  one_near : (s t n r u m k j : ℕ) → AreGlued mesh cut s t n → AreGlued mesh cut r u m → k < n → j < m
+  one_near : {s t n r u m : ℕ} (k j : ℕ) → AreGlued mesh cut s t n → AreGlued mesh cut r u m → k < n → j < m
       → easts mesh s k ≡ easts mesh r j → (s ≡ r) × (t ≡ u) × (n ≡ m)
-  one_near s t n r u m k j one two lk lj e =
+  one_near {s} {t} {n} {r} {u} {m} k j one two lk lj e =
       let start : s ≡ r = (one_place mesh laws cut full s n r m k j one.near two.near lk lj e).0 in
       let f : (t ≡ u) × (n ≡ m) = one_far s t u n m one (rw start two) in
       (start, f.0, f.1)
@@ -130,18 +128,18 @@ module _ (mesh : HalfEdges) (laws : IsQuadManifold mesh) (cut : Cut) (full : IsC
       by_sides : (k j : ℕ) → k < n → j < m → (d ≡ easts mesh s k) ⊎ (d ≡ easts mesh t k) → (d ≡ easts mesh r j)
           ⊎ (d ≡ easts mesh u j) → AreOneArc s t r u × (n ≡ m)
       by_sides k j lk lj (inl e) (inl f) = let p : (s ≡ r) × (t ≡ u) × (n ≡ m) =
-          one_near s t n r u m k j one two lk lj (sym e ∙ f) in (inl (p.0, p.1), p.2)
+          one_near k j one two lk lj (sym e ∙ f) in (inl (p.0, p.1), p.2)
       by_sides k j lk lj (inl e) (inr f) = let p : (s ≡ u) × (t ≡ r) × (n ≡ m) =
-          one_near s t n u r m k j one (turned_glued mesh laws cut full r u m two) lk lj (sym e ∙ f) in
+          one_near k j one (turned_glued mesh laws cut full two) lk lj (sym e ∙ f) in
           (inr (p.0, p.1), p.2)
       by_sides k j lk lj (inr e) (inl f) = let p : (t ≡ r) × (s ≡ u) × (n ≡ m) =
-          one_near t s n r u m k j (turned_glued mesh laws cut full s t n one) two lk lj (sym e ∙ f) in
+          one_near k j (turned_glued mesh laws cut full one) two lk lj (sym e ∙ f) in
           (inr (p.1, p.0), p.2)
       by_sides k j lk lj (inr e) (inr f) = let p : (t ≡ u) × (s ≡ r) × (n ≡ m) =
-          one_near t s n u r m k j (turned_glued mesh laws cut full s t n one)
-          (turned_glued mesh laws cut full r u m two) lk lj (sym e ∙ f) in (inl (p.1, p.0), p.2)
+          one_near k j (turned_glued mesh laws cut full one)
+          (turned_glued mesh laws cut full two) lk lj (sym e ∙ f) in (inl (p.1, p.0), p.2)
 
-  module _ (rest : Cut) (s t n : ℕ) (arc : IsJoinable mesh cut s t n) (without : IsWithout mesh cut rest s t n) where
+  module _ {rest : Cut} {s t n : ℕ} (arc : IsJoinable mesh cut s t n) (without : IsWithout mesh cut rest s t n) where
     full_rest : IsCut mesh rest
     full_rest = join_law mesh cut rest s t n laws full arc without
 
@@ -211,5 +209,4 @@ module _ (mesh : HalfEdges) (laws : IsQuadManifold mesh) (cut : Cut) (full : IsC
         by_sides (inr o) b = inr (elim o.2 [ inl e ↦ inl (o.0, o.1, inl e) | inr e ↦ inr (o.0, o.1, inl e) ])
 
 pub grown_law : GrownLaw
-grown_law mesh cut rest s t n r u m laws full arc without new =
-    grown_arc mesh laws cut full rest s t n arc without r u m new
+grown_law mesh cut rest s t n r u m laws full arc without new = grown_arc mesh laws cut full arc without r u m new

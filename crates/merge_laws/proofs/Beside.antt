@@ -86,9 +86,9 @@ without_long faces cut s t n = length-map (all_darts faces)
     (λ x. is_on cut x && not (is_on_arc (half_edges faces) s t n x)) ∙ length-range_with_len 0 (darts faces)
 
 -- The cut of a step is the one that is left.
-pub step_is : (faces : Faces) (marks cut rest : List Bool) → length cut ≡ darts faces
+pub step_is : {faces : Faces} (marks : List Bool) {cut rest : List Bool} → length cut ≡ darts faces
     → (step : IsStep faces (may_beside faces marks) cut rest) → rest ≡ without faces cut step.near step.far step.size
-step_is faces marks cut rest long step = ext_get_or false rest (without faces cut step.near step.far step.size)
+step_is {faces} marks {cut} {rest} long step = ext_get_or false rest (without faces cut step.near step.far step.size)
     (step.long ∙ (long ∙ sym (without_long faces cut step.near step.far step.size)))
     (λ d l. each d (omega (arith, l, step.long, long))
     (cases_Bool (is_on_arc (half_edges faces) step.near step.far step.size d)))
@@ -113,8 +113,8 @@ module _ (faces : Faces) (laws : IsQuadManifold (half_edges faces)) (marks : Lis
       → Steps faces (may_beside faces marks) cut rest i → keeps_lines faces marks rest ≡ true
   keeps_reached cut rest zero is keeps steps = ap (keeps_lines faces marks) (sym steps) ∙ keeps
   keeps_reached cut rest (suc i) is keeps steps =
-      let before : IsCutOf faces steps.0 = cut_reached faces (may_beside faces marks) laws cut steps.0 i is steps.1 in
-      ap (keeps_lines faces marks) (step_is faces marks steps.0 rest before.long steps.2) ∙ steps.2.first.free
+      let before : IsCutOf faces steps.0 = cut_reached faces (may_beside faces marks) laws steps.0 i is steps.1 in
+      ap (keeps_lines faces marks) (step_is marks before.long steps.2) ∙ steps.2.first.free
 
 -- So many steps keep marked lines.
 pub beside_reached : (faces : Faces) (marks cut rest : List Bool) (steps : ℕ) → IsManifold faces
@@ -132,7 +132,7 @@ beside_reached faces marks cut rest steps manifold beside reached = record {
     is = record { long = beside.full.long; full = ((full_cut_law faces cut manifold).0 beside.full).1 }
 
     after : IsCutOf faces rest
-    after = cut_reached faces (may_beside faces marks) laws cut rest steps is reached
+    after = cut_reached faces (may_beside faces marks) laws rest steps is reached
 
     keeps : keeps_lines faces marks rest ≡ true
     keeps = keeps_reached faces laws marks cut rest steps is (keeps_from faces marks cut beside.kept beside.turned)

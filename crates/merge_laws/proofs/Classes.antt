@@ -9,8 +9,8 @@ use Rattle.cut_laws.proofs.Classes.{In, AreLinked, closed}
 abbrev pub IsIn : (mesh : HalfEdges) (ps : List Rectangle) (p x : ℕ) → Type 0
 IsIn mesh ps p x = In mesh (patch_at ps p).w (patch_at ps p).h (cell_of (patch_at ps p)) x
 
-module _ (mesh : HalfEdges) (laws : IsQuadManifold mesh) (cut : Cut) (full : IsCut mesh cut) (face : ℕ → ℕ)
-    (ps : List Rectangle) (parts : IsPartition mesh cut face ps) where
+module _ {mesh : HalfEdges} (laws : IsQuadManifold mesh) {cut : Cut} (full : IsCut mesh cut) {face : ℕ → ℕ}
+    {ps : List Rectangle} (parts : IsPartition mesh cut face ps) where
   side_of : (p x : ℕ) (i : IsIn mesh ps p x) → IsSide mesh (patch_at ps p) i.1.a i.1.b i.0 x
   side_of p x i = record { i_low = i.1.a_low; j_low = i.1.b_low; is = i.1.is }
 

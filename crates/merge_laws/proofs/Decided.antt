@@ -17,7 +17,7 @@ found_or_not : (o : Option ℕ) (t : ℕ) → (o ≡ Some t) ⊎ (o ≡ Some t �
 found_or_not None t = inr (λ e. cc)
 found_or_not (Some x) t = elim (cases_eq x t) [ inl e ↦ inl (ap Some e) | inr ne ↦ inr (λ e. ne (same_Some x t e)) ]
 
-module _ (mesh : HalfEdges) (laws : IsQuadManifold mesh) (cut : Cut) (full : IsCut mesh cut) (may : Leave) where
+module _ {mesh : HalfEdges} (laws : IsQuadManifold mesh) {cut : Cut} (full : IsCut mesh cut) (may : Leave) where
   -- The arcs that join two patches from s.
   abbrev From : (s : ℕ) → Type 0
   From s = (t : ℕ) × (n : ℕ) × IsJoinable mesh cut s t n
@@ -124,10 +124,8 @@ module _ (mesh : HalfEdges) (laws : IsQuadManifold mesh) (cut : Cut) (full : IsC
                   (in_one_or_not s n t side there)
                 where
                   of_t : (f : From s) → (f.0 ≡ t) × (f.1 ≡ n)
-                  of_t f = (
-                    same_Some f.0 t (sym (far_is f) ∙ is),
-                    one_size mesh laws cut full s f.1 n f.2.glued.near side,
-                  )
+                  of_t f =
+                      (same_Some f.0 t (sym (far_is f) ∙ is), one_size mesh laws cut full s f.1 n f.2.glued.near side)
 
                   at_t : (f : From s) → IsJoinable mesh cut s t n
                   at_t f = subst (λ (x : ℕ). IsJoinable mesh cut s x n) (of_t f).0 (rw ((of_t f).1) at f.2)
@@ -179,9 +177,9 @@ module _ (mesh : HalfEdges) (laws : IsQuadManifold mesh) (cut : Cut) (full : IsC
           by_side : (c : ℕ) × (n : ℕ) × (k : ℕ) × StandsOn mesh cut c n k d → Over d ⊎ (Over d → ⊥)
           by_side (c, n, k, stand) = by_from (from_or_not c stand.side.corner)
             where
-              begins : (r u m : ℕ) → IsJoinable mesh cut r u m → (j : ℕ) → j < m → d ≡ easts mesh r j → (r ≡ c)
+              begins : {r u m : ℕ} → IsJoinable mesh cut r u m → (j : ℕ) → j < m → d ≡ easts mesh r j → (r ≡ c)
                   × (m ≡ n)
-              begins r u m arc j l e =
+              begins {r} {m} arc j l e =
                   let same : (r ≡ c) × (j ≡ k) = one_place mesh laws cut full r m c n j k arc.glued.near stand.side l
                   stand.low (sym e ∙ sym stand.at) in (
                     same.0,
@@ -193,13 +191,10 @@ module _ (mesh : HalfEdges) (laws : IsQuadManifold mesh) (cut : Cut) (full : IsC
                 where
                   none : Over d → ⊥
                   none (r, u, m, arc, free, (j, l, inl e)) = let same : (r ≡ c) × (m ≡ n) =
-                      begins r u m arc j l e in never (u, m, rw same.0 at arc)
+                      begins arc j l e in never (u, m, rw same.0 at arc)
                   none (r, u, m, arc, free, (j, l, inr e)) = let same : (u ≡ c) × (m ≡ n) =
-                      begins u r m (turned_arc mesh laws cut full r u m arc) j l e in never (
-                        r,
-                        m,
-                        rw same.0 at (turned_arc mesh laws cut full r u m arc),
-                      )
+                      begins (turned_arc mesh laws cut full r u m arc) j l e in never
+                      (r, m, rw same.0 at (turned_arc mesh laws cut full r u m arc))
               by_from (inl f) = by_tests (cases_Bool (may c f.0 n)) (cases_Bool (may f.0 c n))
                 where
                   here : IsJoinable mesh cut c f.0 n
@@ -214,14 +209,8 @@ module _ (mesh : HalfEdges) (laws : IsQuadManifold mesh) (cut : Cut) (full : IsC
                   by_tests : (may c f.0 n ≡ true) ⊎ (may c f.0 n ≡ false) → (may f.0 c n ≡ true) ⊎ (may f.0 c n ≡ false)
                       → Over d ⊎ (Over d → ⊥)
                   by_tests (inl free) other = inl (c, f.0, n, here, free, (k, stand.low, inl (sym stand.at)))
-                  by_tests (inr held) (inl free) = inl (
-                    f.0,
-                    c,
-                    n,
-                    turned_arc mesh laws cut full c f.0 n here,
-                    free,
-                    (k, stand.low, inr (sym stand.at)),
-                  )
+                  by_tests (inr held) (inl free) = inl
+                      (f.0, c, n, turned_arc mesh laws cut full c f.0 n here, free, (k, stand.low, inr (sym stand.at)))
                   by_tests (inr held) (inr turned) = inr none
                     where
                       at : (r u m : ℕ) → IsJoinable mesh cut r u m → (r ≡ c) × (m ≡ n) → (u ≡ f.0)
@@ -230,13 +219,13 @@ module _ (mesh : HalfEdges) (laws : IsQuadManifold mesh) (cut : Cut) (full : IsC
 
                       none : Over d → ⊥
                       none (r, u, m, arc, free, (j, l, inl e)) =
-                          let same : (r ≡ c) × (m ≡ n) = begins r u m arc j l e in
+                          let same : (r ≡ c) × (m ≡ n) = begins arc j l e in
                           let far : u ≡ f.0 = at r u m arc same in
                           true≢false
                           (sym (rw same.1 at (subst (λ (x : ℕ). may c x m ≡ true) far
                           (rw same.0 at free))) ∙ held)
                       none (r, u, m, arc, free, (j, l, inr e)) =
-                          let same : (u ≡ c) × (m ≡ n) = begins u r m (turned_arc mesh laws cut full r u m arc) j l e in
+                          let same : (u ≡ c) × (m ≡ n) = begins (turned_arc mesh laws cut full r u m arc) j l e in
                           let far : r ≡ f.0 = at u r m (turned_arc mesh laws cut full r u m arc) same in
                           true≢false
                           (sym (rw same.1 at (subst (λ (x : ℕ). may x c m ≡ true) far

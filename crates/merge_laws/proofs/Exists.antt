@@ -48,11 +48,10 @@ module _ (faces : Faces) (may : MayLeave) (laws : IsQuadManifold (half_edges fac
   step_or_end : (marks : List Bool) → IsCutOf faces marks
       → ((rest : List Bool) × IsStep faces may marks rest × (marked rest < marked marks))
       ⊎ ((s t n : ℕ) → IsJoinable mesh (is_on marks) s t n → may marks s t n ≡ true → ⊥)
-  step_or_end marks cut = by_least
-      (least_or_none mesh laws (is_on marks) cut.full (may marks) (darts faces) (omega arith))
+  step_or_end marks cut = by_least (least_or_none laws cut.full (may marks) (darts faces) (omega arith))
     where
       after : (d : ℕ) → d < darts faces → (s t n : ℕ) → IsJoinable mesh (is_on marks) s t n → may marks s t n ≡ true
-          → IsOnArc mesh s t n d → ((x : ℕ) → x < d → Over mesh laws (is_on marks) cut.full (may marks) x → ⊥)
+          → IsOnArc mesh s t n d → ((x : ℕ) → x < d → Over laws cut.full (may marks) x → ⊥)
           → (rest : List Bool) × IsStep faces may marks rest × (marked rest < marked marks)
       after d low s t n arc free on before = (without marks s t n, step, fewer)
         where
@@ -99,9 +98,9 @@ module _ (faces : Faces) (may : MayLeave) (laws : IsQuadManifold (half_edges fac
               let one_before : ◌≡◌ {A = ℕ} (cond (is_on marks d) 1 0) 1 = ap (λ (b : Bool). cond {A = ℕ} b 1 0) was in
               omega (arith, zero_now, one_before))
 
-      by_least : ((d : ℕ) × (d < darts faces) × Over mesh laws (is_on marks) cut.full (may marks) d
-          × ((x : ℕ) → x < d → Over mesh laws (is_on marks) cut.full (may marks) x → ⊥))
-          ⊎ ((x : ℕ) → x < darts faces → Over mesh laws (is_on marks) cut.full (may marks) x → ⊥)
+      by_least : ((d : ℕ) × (d < darts faces) × Over laws cut.full (may marks) d
+          × ((x : ℕ) → x < d → Over laws cut.full (may marks) x → ⊥))
+          ⊎ ((x : ℕ) → x < darts faces → Over laws cut.full (may marks) x → ⊥)
           → ((rest : List Bool) × IsStep faces may marks rest × (marked rest < marked marks))
           ⊎ ((s t n : ℕ) → IsJoinable mesh (is_on marks) s t n → may marks s t n ≡ true → ⊥)
       by_least (inl (d, low, (s, t, n, arc, free, on), before)) = inl (after d low s t n arc free on before)
@@ -109,15 +108,15 @@ module _ (faces : Faces) (may : MayLeave) (laws : IsQuadManifold (half_edges fac
           (s, t, n, arc, free, (0, arc.glued.near.some, inl refl)))
 
   -- A step in front of others.
-  in_front : (marks between rest : List Bool) (n : ℕ) → IsStep faces may marks between → Steps faces may between rest n
-      → Steps faces may marks rest (suc n)
-  in_front marks between rest zero step same = (marks, refl, rw same at step)
-  in_front marks between rest (suc n) step steps = (steps.0, in_front marks between steps.0 n step steps.1, steps.2)
+  in_front : {marks between : List Bool} (rest : List Bool) (n : ℕ) → IsStep faces may marks between
+      → Steps faces may between rest n → Steps faces may marks rest (suc n)
+  in_front {marks} rest zero step same = (marks, refl, rw same at step)
+  in_front {marks} {between} rest (suc n) step steps = (steps.0, in_front steps.0 n step steps.1, steps.2)
 
-  merged_from : (fuel : ℕ) (marks : List Bool) → IsCutOf faces marks → marked marks < fuel → (rest : List Bool)
+  merged_from : (fuel : ℕ) {marks : List Bool} → IsCutOf faces marks → marked marks < fuel → (rest : List Bool)
       × IsMergedBy faces may marks rest
-  merged_from zero marks cut le = absurd (omega arith)
-  merged_from (suc fuel) marks cut le = by_step (step_or_end marks cut) (λ rest c l. merged_from fuel rest c l)
+  merged_from zero cut le = absurd (omega arith)
+  merged_from (suc fuel) {marks} cut le = by_step (step_or_end marks cut) (λ rest c l. merged_from fuel c l)
     where
       by_step : ((rest : List Bool) × IsStep faces may marks rest × (marked rest < marked marks))
           ⊎ ((s t n : ℕ) → IsJoinable mesh (is_on marks) s t n → may marks s t n ≡ true → ⊥)
@@ -125,22 +124,18 @@ module _ (faces : Faces) (may : MayLeave) (laws : IsQuadManifold (half_edges fac
           × IsMergedBy faces may rest last) → (rest : List Bool) × IsMergedBy faces may marks rest
       by_step (inr none) go = (marks, record { steps = 0; reached = refl; merged = none })
       by_step (inl (between, step, fewer)) go =
-          after (go between (cut_after faces may laws marks between cut step) (omega (arith, fewer, le)))
+          after (go between (cut_after faces may laws cut step) (omega (arith, fewer, le)))
         where
           after : (last : List Bool) × IsMergedBy faces may between last → (rest : List Bool)
               × IsMergedBy faces may marks rest
           after (last, is) = (
             last,
-            record {
-              steps = suc is.steps;
-              reached = in_front marks between last is.steps step is.reached;
-              merged = is.merged;
-            },
+            record { steps = suc is.steps; reached = in_front last is.steps step is.reached; merged = is.merged },
           )
 
 pub merged_law : MergedLaw
 merged_law faces may marks manifold full =
-    merged_from faces may laws (suc (marked faces may laws marks)) marks cut (omega arith)
+    merged_from faces may laws (suc (marked faces may laws marks)) cut (omega arith)
   where
     laws : IsQuadManifold (half_edges faces)
     laws = manifold_law faces manifold

@@ -34,7 +34,7 @@ one_less u m low = omega (arith, parts, all, count_below_ones m, one)
         ∙ ap one_if (eq-eqb u u refl)
 
 -- The darts beside the arc, and what is linked without it.
-module _ (mesh : HalfEdges) (laws : IsQuadManifold mesh) (cut rest : Cut) (full : IsCut mesh cut) (s t n : ℕ)
+module _ {mesh : HalfEdges} (laws : IsQuadManifold mesh) {cut rest : Cut} (full : IsCut mesh cut) {s t n : ℕ}
     (arc : IsJoinable mesh cut s t n) (without : IsWithout mesh cut rest s t n) where
   abbrev Beside : ℕ → Type 0
   Beside x = AreInOne mesh cut s x ⊎ AreInOne mesh cut t x
@@ -98,7 +98,7 @@ module _ (mesh : HalfEdges) (laws : IsQuadManifold mesh) (cut rest : Cut) (full 
 
           beside_y : Beside y
           beside_y =
-              let p = on_twin mesh laws cut full s t n arc.glued c o in
+              let p = on_twin mesh laws cut full arc.glued c o in
               beside_on y (rw (same_Some p.0 y (sym p.1 ∙ is)) at p.2)
 
       by_step : (c : ℕ) → c < mesh.count → AreInOne mesh cut x c ⊎ (Beside x × Beside c)
@@ -111,8 +111,8 @@ module _ (mesh : HalfEdges) (laws : IsQuadManifold mesh) (cut rest : Cut) (full 
       ]
 
 -- Patches of a cut.
-module _ (mesh : HalfEdges) (laws : IsQuadManifold mesh) (cut : Cut) (full : IsCut mesh cut) (face : ℕ → ℕ)
-    (ps : List Rectangle) (parts : IsPartition mesh cut face ps) where
+module _ {mesh : HalfEdges} (laws : IsQuadManifold mesh) {cut : Cut} (full : IsCut mesh cut) {face : ℕ → ℕ}
+    {ps : List Rectangle} (parts : IsPartition mesh cut face ps) where
   -- The patch of a dart.
   pub in_patch : (x : ℕ) → x < mesh.count → (p : ℕ) × (p < length ps) × IsIn mesh ps p x
   in_patch x l = by_cell (parts.covers x l)
@@ -141,7 +141,7 @@ module _ (mesh : HalfEdges) (laws : IsQuadManifold mesh) (cut : Cut) (full : IsC
 
   pub one_of : (p q x y : ℕ) → p < length ps → q < length ps → IsIn mesh ps p x → IsIn mesh ps q y
       → AreInOne mesh cut x y → p ≡ q
-  one_of p q x y lp lq i j a = one_place_of mesh laws cut full face ps parts p q x y lp lq i j a
+  one_of p q x y lp lq i j a = one_place_of laws full parts p q x y lp lq i j a
 
 module _ (mesh : HalfEdges) (laws : IsQuadManifold mesh) (cut rest : Cut) (full : IsCut mesh cut)
     (after : IsCut mesh rest) (face : ℕ → ℕ) (s t n : ℕ) (arc : IsJoinable mesh cut s t n)
@@ -149,56 +149,54 @@ module _ (mesh : HalfEdges) (laws : IsQuadManifold mesh) (cut rest : Cut) (full 
     (whole : IsPartition mesh rest face qs) where
   -- The patches on both sides of the arc.
   near : (p : ℕ) × (p < length ps) × IsIn mesh ps p s
-  near = in_patch mesh laws cut full face ps parts s arc.glued.near.corner.0
+  near = in_patch laws full parts s arc.glued.near.corner.0
 
   far : (p : ℕ) × (p < length ps) × IsIn mesh ps p t
-  far = in_patch mesh laws cut full face ps parts t arc.glued.far.corner.0
+  far = in_patch laws full parts t arc.glued.far.corner.0
 
   abbrev old : (p : ℕ) → ℕ
-  old p = first_dart mesh laws cut full face ps parts p
+  old p = first_dart laws full parts p
 
   abbrev new : (q : ℕ) → ℕ
-  new q = first_dart mesh laws rest after face qs whole q
+  new q = first_dart laws after whole q
 
   apart : far.0 ≢ near.0
   apart same = arc.apart (links_join mesh laws cut s (old near.0) t
-      (linked_back mesh laws cut full (old near.0) s (first_low mesh laws cut full face ps parts near.0 near.1)
-      (first_linked mesh laws cut full face ps parts near.0 s near.1 near.2))
-      (rw same at (first_linked mesh laws cut full face ps parts far.0 t far.1 far.2)))
+      (linked_back mesh laws cut full (old near.0) s (first_low laws full parts near.0 near.1)
+      (first_linked laws full parts near.0 s near.1 near.2))
+      (rw same at (first_linked laws full parts far.0 t far.1 far.2)))
 
   -- A patch beside the arc is one of the two.
-  beside_is : (p x : ℕ) → p < length ps → IsIn mesh ps p x → Beside mesh laws cut rest full s t n arc without x
-      → (p ≡ near.0) ⊎ (p ≡ far.0)
-  beside_is p x l i (inl a) = inl (sym (one_of mesh laws cut full face ps parts near.0 p s x near.1 l near.2 i a))
-  beside_is p x l i (inr a) = inr (sym (one_of mesh laws cut full face ps parts far.0 p t x far.1 l far.2 i a))
+  beside_is : (p x : ℕ) → p < length ps → IsIn mesh ps p x → Beside laws full arc without x → (p ≡ near.0) ⊎ (p ≡ far.0)
+  beside_is p x l i (inl a) = inl (sym (one_of laws full parts near.0 p s x near.1 l near.2 i a))
+  beside_is p x l i (inr a) = inr (sym (one_of laws full parts far.0 p t x far.1 l far.2 i a))
 
   -- Old patches but the far one lie in different new ones.
   new_of : (p : ℕ) → (l : p < length ps) → (q : ℕ) × (q < length qs) × IsIn mesh qs q (old p)
-  new_of p l = in_patch mesh laws rest after face qs whole (old p) (first_low mesh laws cut full face ps parts p l)
+  new_of p l = in_patch laws after whole (old p) (first_low laws full parts p l)
 
   new_once : (p r : ℕ) (lp : p < length ps) (lr : r < length ps) → p ≢ far.0 → r ≢ far.0
       → (new_of p lp).0 ≡ (new_of r lr).0 → p ≡ r
-  new_once p r lp lr np nr same = elim (linked_or mesh laws cut rest full s t n arc without (old p) (old r) link.0
-      (first_low mesh laws cut full face ps parts p lp) link.1) [
-        | inl a ↦ one_of mesh laws cut full face ps parts p r (old p) (old r) lp lr
-            (first_in mesh laws cut full face ps parts p lp) (first_in mesh laws cut full face ps parts r lr) a
+  new_once p r lp lr np nr same = elim (linked_or laws full arc without (old p) (old r) link.0
+      (first_low laws full parts p lp) link.1) [
+        | inl a ↦ one_of laws full parts p r (old p) (old r) lp lr
+            (first_in laws full parts p lp) (first_in laws full parts r lr) a
         | inr b ↦ is_near p lp np b.0 ∙ sym (is_near r lr nr b.1)
       ]
     where
       to_p : AreInOne mesh rest (new (new_of p lp).0) (old p)
-      to_p = first_linked mesh laws rest after face qs whole (new_of p lp).0 (old p) (new_of p lp).1 (new_of p lp).2
+      to_p = first_linked laws after whole (new_of p lp).0 (old p) (new_of p lp).1 (new_of p lp).2
 
       to_r : AreInOne mesh rest (new (new_of r lr).0) (old r)
-      to_r = first_linked mesh laws rest after face qs whole (new_of r lr).0 (old r) (new_of r lr).1 (new_of r lr).2
+      to_r = first_linked laws after whole (new_of r lr).0 (old r) (new_of r lr).1 (new_of r lr).2
 
       link : AreInOne mesh rest (old p) (old r)
       link = links_join mesh laws rest (old p) (new (new_of p lp).0) (old r)
           (linked_back mesh laws rest after (new (new_of p lp).0) (old p)
-          (first_low mesh laws rest after face qs whole (new_of p lp).0 (new_of p lp).1) to_p) (rw same to_r)
+          (first_low laws after whole (new_of p lp).0 (new_of p lp).1) to_p) (rw same to_r)
 
-      is_near : (u : ℕ) (l : u < length ps) → u ≢ far.0 → Beside mesh laws cut rest full s t n arc without (old u)
-          → u ≡ near.0
-      is_near u l nu b = elim (beside_is u (old u) l (first_in mesh laws cut full face ps parts u l) b)
+      is_near : (u : ℕ) (l : u < length ps) → u ≢ far.0 → Beside laws full arc without (old u) → u ≡ near.0
+      is_near u l nu b = elim (beside_is u (old u) l (first_in laws full parts u l) b)
           [ inl e ↦ e | inr e ↦ absurd (nu e) ]
 
   -- New patches come from different old ones, where the far one is taken for the near one.
@@ -222,27 +220,26 @@ module _ (mesh : HalfEdges) (laws : IsQuadManifold mesh) (cut rest : Cut) (full 
   stands_for p x l i = elim (merged_is p) [
     | inl e ↦
         let from_t = links_join mesh laws cut t (old far.0) x
-        (linked_back mesh laws cut full (old far.0) t (first_low mesh laws cut full face ps parts far.0 far.1)
-        (first_linked mesh laws cut full face ps parts far.0 t far.1 far.2))
-        (rw e.0 at (first_linked mesh laws cut full face ps parts p x l i)) in
+        (linked_back mesh laws cut full (old far.0) t (first_low laws full parts far.0 far.1)
+        (first_linked laws full parts far.0 t far.1 far.2)) (rw e.0 at (first_linked laws full parts p x l i)) in
         let to_s : AreInOne mesh rest (old near.0) s = linked near.0 s near.1 near.2 in
-        let to_x = links_join mesh laws rest s t x (both mesh laws cut rest full s t n arc without)
-        (joined_less mesh laws cut rest full s t n arc without t x arc.glued.far.corner.0 from_t) in
+        let to_x = links_join mesh laws rest s t x (both laws full arc without)
+        (joined_less laws full arc without t x arc.glued.far.corner.0 from_t) in
         rw e.1 (links_join mesh laws rest (old near.0) s x to_s to_x)
     | inr e ↦ rw e.1 (linked p x l i)
   ]
     where
       linked : (u y : ℕ) → u < length ps → IsIn mesh ps u y → AreInOne mesh rest (old u) y
-      linked u y lu j = joined_less mesh laws cut rest full s t n arc without (old u) y
-          (first_low mesh laws cut full face ps parts u lu) (first_linked mesh laws cut full face ps parts u y lu j)
+      linked u y lu j = joined_less laws full arc without (old u) y
+          (first_low laws full parts u lu) (first_linked laws full parts u y lu j)
 
   old_of : (q : ℕ) → (l : q < length qs) → (p : ℕ) × (p < length ps) × IsIn mesh ps p (new q)
-  old_of q l = in_patch mesh laws cut full face ps parts (new q) (first_low mesh laws rest after face qs whole q l)
+  old_of q l = in_patch laws full parts (new q) (first_low laws after whole q l)
 
   old_once : (q r : ℕ) (lq : q < length qs) (lr : r < length qs) → merged (old_of q lq).0 ≡ merged (old_of r lr).0
       → q ≡ r
-  old_once q r lq lr same = one_of mesh laws rest after face qs whole q r (new q) (new r) lq lr
-      (first_in mesh laws rest after face qs whole q lq) (first_in mesh laws rest after face qs whole r lr) link
+  old_once q r lq lr same = one_of laws after whole q r (new q) (new r) lq lr
+      (first_in laws after whole q lq) (first_in laws after whole r lr) link
     where
       to_q : AreInOne mesh rest (old (merged (old_of q lq).0)) (new q)
       to_q = stands_for (old_of q lq).0 (new q) (old_of q lq).1 (old_of q lq).2
@@ -253,7 +250,7 @@ module _ (mesh : HalfEdges) (laws : IsQuadManifold mesh) (cut rest : Cut) (full 
       link : AreInOne mesh rest (new q) (new r)
       link = links_join mesh laws rest (new q) (old (merged (old_of q lq).0)) (new r)
           (linked_back mesh laws rest after (old (merged (old_of q lq).0)) (new q)
-          (first_low mesh laws cut full face ps parts (merged (old_of q lq).0)
+          (first_low laws full parts (merged (old_of q lq).0)
           (merged_low (old_of q lq).0 (old_of q lq).1).0) to_q) (rw same to_r)
 
   -- So there is one less.

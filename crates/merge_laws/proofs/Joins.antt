@@ -57,14 +57,14 @@ module _ (mesh : HalfEdges) (laws : IsQuadManifold mesh) (cut : Cut) (full : IsC
               (laws.next_low (easts mesh t i) (low_far i (omega arith)))
               (side_link mesh laws cut full t n arc.glued.far i (omega arith));
           last = ap mesh.twin (laws.prev_next (easts mesh t i))
-              ∙ (turned_glued mesh laws cut full s t n arc.glued).across i (suc k) (omega arith);
+              ∙ (turned_glued mesh laws cut full arc.glued).across i (suc k) (omega arith);
           apart = λ same. foreign (easts mesh s (suc k))
               (0, record { a = suc k; b = 0; a_low = l; b_low = grid.tall; is = refl })
               (0, record { a = suc i; b = 0; a_low = omega arith; b_low = other.tall; is = same });
         },
       )
 
-  module _ (rest : Cut) (without : IsWithout mesh cut rest s t n) where
+  module _ {rest : Cut} (without : IsWithout mesh cut rest s t n) where
     -- Where the cut came along the face to the arc, it goes straight on over its end.
     pub gap_over : (d : ℕ) → d < mesh.count → cut d ≡ true → (k : ℕ) → k < n → mesh.next d ≡ easts mesh s k
         → (rest_end : rest (mesh.next (easts mesh t (n - 1))) ≡ true) → GoesOn mesh rest d
@@ -189,22 +189,21 @@ module _ (mesh : HalfEdges) (laws : IsQuadManifold mesh) (cut : Cut) (full : IsC
       was = less mesh laws cut rest s t n without d l on
 
       near_end : rest (mesh.next (easts mesh s (n - 1))) ≡ true
-      near_end = end_stays mesh laws cut full s t n arc h g grid other rest without
+      near_end = end_stays mesh laws cut full s t n arc h g grid other without
 
       far_end : rest (mesh.next (easts mesh t (n - 1))) ≡ true
-      far_end = end_stays mesh laws cut full t s n back g h other grid rest without_back
+      far_end = end_stays mesh laws cut full t s n back g h other grid without_back
 
       over : (k : ℕ) → k < n → (mesh.next d ≡ easts mesh s k) ⊎ (mesh.next d ≡ easts mesh t k) → GoesOn mesh rest d
-      over k lk (inl e) = gap_over mesh laws cut full s t n arc h g grid other rest without d l was k lk e far_end
-      over k lk (inr e) = gap_over mesh laws cut full t s n back g h other grid rest without_back d l was k lk e
-          near_end
+      over k lk (inl e) = gap_over mesh laws cut full s t n arc h g grid other without d l was k lk e far_end
+      over k lk (inr e) = gap_over mesh laws cut full t s n back g h other grid without_back d l was k lk e near_end
 
       along : (e : ℕ) → cut (mesh.next d) ≡ false → mesh.twin (mesh.next d) ≡ Some e → (k : ℕ) → k < n
           → (mesh.next e ≡ easts mesh s k) ⊎ (mesh.next e ≡ easts mesh t k) → IsOnArc mesh s t n d
       along e off tw k lk (inl is) = let p : (j : ℕ) × (j < n) × (d ≡ easts mesh s j) =
-          gap_on mesh laws cut full s t n arc h g grid other rest without d e l off tw k lk is in (p.0, p.1, inl p.2)
+          gap_on mesh laws cut full s t n arc h g grid other without d e l off tw k lk is in (p.0, p.1, inl p.2)
       along e off tw k lk (inr is) = let p : (j : ℕ) × (j < n) × (d ≡ easts mesh t j) =
-          gap_on mesh laws cut full t s n back g h other grid rest without_back d e l off tw k lk is in
+          gap_on mesh laws cut full t s n back g h other grid without_back d e l off tw k lk is in
           (p.0, p.1, inr p.2)
 
       straight : cut (mesh.next d) ≡ false → GoesOn mesh cut d → GoesOn mesh rest d
@@ -230,13 +229,13 @@ module _ (mesh : HalfEdges) (laws : IsQuadManifold mesh) (cut : Cut) (full : IsC
           [ inl o ↦ o | inr none ↦ absurd (true≢false (sym (keeps x lx none c) ∙ r)) ]
 
       at : (k : ℕ) → k < n → (d ≡ easts mesh s k) ⊎ (d ≡ easts mesh t k) → HasCross mesh d
-      at k lk (inl e) = cross_on mesh laws cut full s t n arc h g grid other rest without d l off.1 k lk e
-      at k lk (inr e) = cross_on mesh laws cut full t s n back g h other grid rest without_back d l off.1 k lk e
+      at k lk (inl e) = cross_on mesh laws cut full s t n arc h g grid other without d l off.1 k lk e
+      at k lk (inr e) = cross_on mesh laws cut full t s n back g h other grid without_back d l off.1 k lk e
 
       after : cut d ≡ false → (k : ℕ) → k < n → (mesh.prev d ≡ easts mesh s k) ⊎ (mesh.prev d ≡ easts mesh t k)
           → HasCross mesh d
-      after c k lk (inl e) = cross_before mesh laws cut full s t n arc h g grid other rest without d l c k lk e
-      after c k lk (inr e) = cross_before mesh laws cut full t s n back g h other grid rest without_back d l c k lk e
+      after c k lk (inl e) = cross_before mesh laws cut full s t n arc h g grid other without d l c k lk e
+      after c k lk (inr e) = cross_before mesh laws cut full t s n back g h other grid without_back d l c k lk e
 
       by_edges : (cut d ≡ true) ⊎ (cut d ≡ false) → (cut (mesh.prev d) ≡ true) ⊎ (cut (mesh.prev d) ≡ false)
           → HasCross mesh d
@@ -251,16 +250,16 @@ module _ (mesh : HalfEdges) (laws : IsQuadManifold mesh) (cut : Cut) (full : IsC
     where
       lost_at : (e : ℕ) → AreLinked mesh cut d e → (k : ℕ) → k < n → (e ≡ easts mesh s k) ⊎ (e ≡ easts mesh t k)
           → CornerOf mesh rest d
-      lost_at e a k lk (inl is) = lost mesh laws cut full s t n arc h g grid other rest without d e l a
+      lost_at e a k lk (inl is) = lost mesh laws cut full s t n arc h g grid other without d e l a
           (0, record { a = k; b = 0; a_low = lk; b_low = grid.tall; is = is })
-      lost_at e a k lk (inr is) = lost mesh laws cut full t s n back g h other grid rest without_back d e l a
+      lost_at e a k lk (inr is) = lost mesh laws cut full t s n back g h other grid without_back d e l a
           (0, record { a = k; b = 0; a_low = lk; b_low = other.tall; is = is })
 
       lost_after : (e : ℕ) → AreLinked mesh cut d e → (k : ℕ) → k < n → (mesh.prev e ≡ easts mesh s k)
           ⊎ (mesh.prev e ≡ easts mesh t k) → CornerOf mesh rest d
-      lost_after e a k lk (inl is) = lost mesh laws cut full s t n arc h g grid other rest without d e l a
+      lost_after e a k lk (inl is) = lost mesh laws cut full s t n arc h g grid other without d e l a
           (1, record { a = k; b = 0; a_low = lk; b_low = grid.tall; is = sym (laws.next_prev e) ∙ ap mesh.next is })
-      lost_after e a k lk (inr is) = lost mesh laws cut full t s n back g h other grid rest without_back d e l a
+      lost_after e a k lk (inr is) = lost mesh laws cut full t s n back g h other grid without_back d e l a
           (1, record { a = k; b = 0; a_low = lk; b_low = other.tall; is = sym (laws.next_prev e) ∙ ap mesh.next is })
 
       by_corner : CornerOf mesh cut d → CornerOf mesh rest d
@@ -286,7 +285,7 @@ module _ (mesh : HalfEdges) (laws : IsQuadManifold mesh) (cut : Cut) (full : IsC
         where
           paired : (x y : ℕ) → mesh.twin x ≡ Some y → IsOnArc mesh s t n x → IsOnArc mesh s t n y
           paired x y is o = let p : (z : ℕ) × (mesh.twin x ≡ Some z) × IsOnArc mesh s t n z =
-              on_twin mesh laws cut full s t n arc.glued x o in subst (λ (z : ℕ). IsOnArc mesh s t n z)
+              on_twin mesh laws cut full arc.glued x o in subst (λ (z : ℕ). IsOnArc mesh s t n z)
               (same_Some p.0 y (sym p.1 ∙ is)) p.2
 
           by_on : IsOnArc mesh s t n d ⊎ (IsOnArc mesh s t n d → ⊥) → IsOnArc mesh s t n e ⊎ (IsOnArc mesh s t n e → ⊥)
@@ -302,7 +301,7 @@ module _ (mesh : HalfEdges) (laws : IsQuadManifold mesh) (cut : Cut) (full : IsC
         where
           none : IsOnArc mesh s t n d → ⊥
           none o = let p : (z : ℕ) × (mesh.twin d ≡ Some z) × IsOnArc mesh s t n z =
-              on_twin mesh laws cut full s t n arc.glued d o in let clash : None ≡ Some p.0 = sym is ∙ p.1 in absurd cc
+              on_twin mesh laws cut full arc.glued d o in let clash : None ≡ Some p.0 = sym is ∙ p.1 in absurd cc
 
 pub join_law : JoinLaw
 join_law mesh cut rest s t n laws full arc without =

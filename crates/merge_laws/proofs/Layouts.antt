@@ -75,15 +75,15 @@ module _ (mesh : HalfEdges) (laws : IsQuadManifold mesh) (cut : Cut) (full : IsC
     );
   }
 
-module _ (mesh : HalfEdges) (laws : IsQuadManifold mesh) (cut : Cut) (full : IsCut mesh cut) (node : ℕ → Bool)
-    (face : ℕ → ℕ) (vertices : ℕ) (plan : Plan) (lay : IsDartLayout mesh cut node face vertices plan) where
+module _ {mesh : HalfEdges} (laws : IsQuadManifold mesh) {cut : Cut} (full : IsCut mesh cut) {node : ℕ → Bool}
+    {face : ℕ → ℕ} {vertices : ℕ} {plan : Plan} (lay : IsDartLayout mesh cut node face vertices plan) where
   abbrev arc_of : (slot : Slot) → ℕ
   arc_of slot = (use_of (layout_of plan) slot).arc
 
-  grid_of : (slot : Slot) → IsSlot (layout_of plan) slot
+  grid_of : {slot : Slot} → IsSlot (layout_of plan) slot
       → IsGrid mesh cut (patch_at plan.patches slot.patch).w (patch_at plan.patches slot.patch).h
       (cell_of (patch_at plan.patches slot.patch))
-  grid_of slot is = (lay.patches.patch slot.patch is.patch_low).grid
+  grid_of {slot} is = (lay.patches.patch slot.patch is.patch_low).grid
 
   -- A slot that is alone on its side: its arc is as long as the side, and begins with it.
   module _ (slot : Slot) (is : IsSlot (layout_of plan) slot) (alone : (layout_of plan).many slot.patch slot.side ≡ 1)
@@ -111,12 +111,12 @@ module _ (mesh : HalfEdges) (laws : IsQuadManifold mesh) (cut : Cut) (full : IsC
           none = let same : 0 + o ≡ o = omega arith in ap
               (λ k. reach (layout_of plan) (long_at plan.arcs) slot.patch slot.side k + o) at_first ∙ same
 
-  module _ (one other : Slot) (are : IsJoinableAt (layout_of plan) one other) where
+  module _ {one other : Slot} (are : IsJoinableAt (layout_of plan) one other) where
     near : IsBorder mesh cut (patch_at plan.patches one.patch) one.side
-    near = border mesh laws cut full (patch_at plan.patches one.patch) (grid_of one are.slot) one.side
+    near = border mesh laws cut full (patch_at plan.patches one.patch) (grid_of are.slot) one.side
 
     far : IsBorder mesh cut (patch_at plan.patches other.patch) other.side
-    far = border mesh laws cut full (patch_at plan.patches other.patch) (grid_of other are.across.0) other.side
+    far = border mesh laws cut full (patch_at plan.patches other.patch) (grid_of are.across.0) other.side
 
     near_long : side_size (patch_at plan.patches one.patch) one.side ≡ long_at plan.arcs (arc_of one)
     near_long = sym (long one are.slot are.alone)
@@ -153,9 +153,8 @@ module _ (mesh : HalfEdges) (laws : IsQuadManifold mesh) (cut : Cut) (full : IsC
             (easts mesh (border_dart mesh (patch_at plan.patches other.patch) other.side 0) j)
         across k j sum =
             let lj : j < side_size (patch_at plan.patches other.patch) other.side = omega (arith, far_long) in
-            let low =
-            in_low mesh laws cut full (patch_at plan.patches other.patch).w (patch_at plan.patches other.patch).h
-            (cell_of (patch_at plan.patches other.patch)) (grid_of other are.across.0)
+            let low = in_low mesh laws cut full (patch_at plan.patches other.patch).w
+            (patch_at plan.patches other.patch).h (cell_of (patch_at plan.patches other.patch)) (grid_of are.across.0)
             (border_dart mesh (patch_at plan.patches other.patch) other.side j) (far.inside j lj) in
             ap mesh.twin (near.along k (omega (arith, near_long)))
             ∙ (paired (use_of (layout_of plan) one).forward k j
@@ -166,12 +165,11 @@ module _ (mesh : HalfEdges) (laws : IsQuadManifold mesh) (cut : Cut) (full : IsC
 
         apart : AreInOne mesh cut (border_dart mesh (patch_at plan.patches one.patch) one.side 0)
             (border_dart mesh (patch_at plan.patches other.patch) other.side 0) → ⊥
-        apart a = are.apart (one_place_of mesh laws cut full face plan.patches lay.patches one.patch other.patch
+        apart a = are.apart (one_place_of laws full lay.patches one.patch other.patch
             (border_dart mesh (patch_at plan.patches one.patch) one.side 0)
             (border_dart mesh (patch_at plan.patches other.patch) other.side 0) are.slot.patch_low
             are.across.0.patch_low (near.inside 0 near.whole.some) (far.inside 0 far.whole.some) a)
 
 pub joinable_law : JoinableLaw
 joinable_law faces marks plan manifold full lay one other are =
-    joined (half_edges faces) (manifold_law faces manifold) (is_on marks) ((full_cut_law faces marks manifold).0 full).1
-    (is_node faces marks) face_of (vertex_count faces) plan lay one other are
+    joined (manifold_law faces manifold) ((full_cut_law faces marks manifold).0 full).1 lay are

@@ -15,8 +15,8 @@ use Rattle.merge_laws.proofs.Beside.{keeps_from}
 -- Where the same arcs may leave the same cuts are merged.
 module _ (faces : Faces) (may other : MayLeave)
     (same : (cut : List Bool) (s t n : ℕ) → may cut s t n ≡ other cut s t n) where
-  step_alike : (cut rest : List Bool) → IsStep faces may cut rest → IsStep faces other cut rest
-  step_alike cut rest step = record {
+  step_alike : {cut rest : List Bool} → IsStep faces may cut rest → IsStep faces other cut rest
+  step_alike {cut} step = record {
     near = step.near;
     far = step.far;
     size = step.size;
@@ -33,8 +33,7 @@ module _ (faces : Faces) (may other : MayLeave)
 
   steps_alike : (cut rest : List Bool) (n : ℕ) → Steps faces may cut rest n → Steps faces other cut rest n
   steps_alike cut rest zero is = is
-  steps_alike cut rest (suc n) (between, before, step) =
-      (between, steps_alike cut between n before, step_alike between rest step)
+  steps_alike cut rest (suc n) (between, before, step) = (between, steps_alike cut between n before, step_alike step)
 
   pub merged_alike : (cut rest : List Bool) → IsMergedBy faces may cut rest → IsMergedBy faces other cut rest
   merged_alike cut rest is = record {

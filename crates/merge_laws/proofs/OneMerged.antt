@@ -14,11 +14,11 @@ use Rattle.def_merge.specs.{Joins.IsOnArc, Merged.IsStep, Merged.Steps, Merged.I
 use Rattle.def_merge.specs.{Merged.MayLeave, Laws.OneMergedLaw}
 
 -- An arc has the same darts from both sides.
-pub same_darts : (mesh : HalfEdges) (s t n r u m d : ℕ) → AreOneArc s t r u → n ≡ m → IsOnArc mesh s t n d
-    → IsOnArc mesh r u m d
-same_darts mesh s t n r u m d (inl p) e o = subst (λ (x : ℕ). IsOnArc mesh x u m d) p.0
+pub same_darts : (mesh : HalfEdges) (s t : ℕ) {n : ℕ} (r u : ℕ) {m : ℕ} (d : ℕ) → AreOneArc s t r u → n ≡ m
+    → IsOnArc mesh s t n d → IsOnArc mesh r u m d
+same_darts mesh s t r u {m} d (inl p) e o = subst (λ (x : ℕ). IsOnArc mesh x u m d) p.0
     (subst (λ (x : ℕ). IsOnArc mesh s x m d) p.1 (rw e at o))
-same_darts mesh s t n r u m d (inr p) e o =
+same_darts mesh s t r u {m} d (inr p) e o =
     other_way mesh u r m d (rw p.0 at (subst (λ (x : ℕ). IsOnArc mesh s x m d) p.1 (rw e at o)))
 
 -- A cut of these faces, as steps keep it.
@@ -30,8 +30,8 @@ module _ (faces : Faces) (may : MayLeave) (laws : IsQuadManifold (half_edges fac
   abbrev mesh : HalfEdges
   mesh = half_edges faces
 
-  pub cut_after : (marks rest : List Bool) → IsCutOf faces marks → IsStep faces may marks rest → IsCutOf faces rest
-  cut_after marks rest cut step = record {
+  pub cut_after : {marks rest : List Bool} → IsCutOf faces marks → IsStep faces may marks rest → IsCutOf faces rest
+  cut_after {marks} {rest} cut step = record {
     long = step.long ∙ cut.long;
     full = join_law mesh (is_on marks) (is_on rest) step.near step.far step.size laws cut.full step.first.joinable
         step.without;
@@ -59,14 +59,15 @@ module _ (faces : Faces) (may : MayLeave) (laws : IsQuadManifold (half_edges fac
       each : (d : ℕ) → d < darts faces → IsOnArc mesh one.near one.far one.size d
           ⊎ (IsOnArc mesh one.near one.far one.size d → ⊥) → is_on a d ≡ is_on b d
       each d l (inl o) = one.without.gone d o ∙ sym (two.without.gone d
-          (same_darts mesh one.near one.far one.size two.near two.far two.size d arcs.0 arcs.1 o))
+          (same_darts mesh one.near one.far two.near two.far d arcs.0 arcs.1 o))
       each d l (inr none) = one.without.kept d l none
-          ∙ sym (two.without.kept d l (λ o. none (same_darts mesh two.near two.far two.size one.near one.far one.size d
+          ∙ sym (two.without.kept d l (λ o. none (same_darts mesh two.near two.far one.near one.far d
           (back arcs.0) (sym arcs.1) o)))
 
-  pub cut_reached : (marks a : List Bool) (i : ℕ) → IsCutOf faces marks → Steps faces may marks a i → IsCutOf faces a
-  cut_reached marks a zero cut steps = subst (λ (x : List Bool). IsCutOf faces x) steps cut
-  cut_reached marks a (suc i) cut steps = cut_after steps.0 a (cut_reached marks steps.0 i cut steps.1) steps.2
+  pub cut_reached : {marks : List Bool} (a : List Bool) (i : ℕ) → IsCutOf faces marks → Steps faces may marks a i
+      → IsCutOf faces a
+  cut_reached a zero cut steps = subst (λ (x : List Bool). IsCutOf faces x) steps cut
+  cut_reached {marks} a (suc i) cut steps = cut_after (cut_reached steps.0 i cut steps.1) steps.2
 
   -- What is left is a part of the cut.
   pub part_reached : (marks a : List Bool) (i : ℕ) → IsCutOf faces marks → Steps faces may marks a i → (d : ℕ)
@@ -76,12 +77,12 @@ module _ (faces : Faces) (may : MayLeave) (laws : IsQuadManifold (half_edges fac
       (less mesh laws (is_on steps.0) (is_on a) steps.2.near steps.2.far steps.2.size steps.2.without d l on)
 
   -- So many steps lead to one cut.
-  same_reached : (marks a b : List Bool) (i : ℕ) → IsCutOf faces marks → Steps faces may marks a i
+  same_reached : {marks : List Bool} (a b : List Bool) (i : ℕ) → IsCutOf faces marks → Steps faces may marks a i
       → Steps faces may marks b i → a ≡ b
-  same_reached marks a b zero cut one two = sym one ∙ two
-  same_reached marks a b (suc i) cut one two =
-      let same : two.0 ≡ one.0 = same_reached marks two.0 one.0 i cut two.1 one.1 in
-      one_step one.0 a b (cut_reached marks one.0 i cut one.1) one.2
+  same_reached a b zero cut one two = sym one ∙ two
+  same_reached {marks} a b (suc i) cut one two =
+      let same : two.0 ≡ one.0 = same_reached two.0 one.0 i cut two.1 one.1 in
+      one_step one.0 a b (cut_reached one.0 i cut one.1) one.2
       (rw same at two.2)
 
   -- Fewer steps lead to a cut from which one more is taken.
@@ -100,13 +101,13 @@ module _ (faces : Faces) (may : MayLeave) (laws : IsQuadManifold (half_edges fac
   unfolding NextAt
   no_more marks a b i j cut one merged two l =
       let n = on_the_way marks b j i two l in
-      let here = rw (same_reached marks n.0 a i cut n.2 one) at n.3 in
+      let here = rw (same_reached n.0 a i cut n.2 one) at n.3 in
       merged here.near here.far here.size here.first.joinable here.first.free
 
   pub one_merged : (marks rest other : List Bool) → IsCutOf faces marks → IsMergedBy faces may marks rest
       → IsMergedBy faces may marks other → rest ≡ other
   one_merged marks rest other cut one two = elim (cases_order one.steps two.steps) [
-    | inl e ↦ same_reached marks rest other one.steps cut one.reached (rw e two.reached)
+    | inl e ↦ same_reached rest other one.steps cut one.reached (rw e two.reached)
     | inr o ↦ elim o [
       | inl l ↦ absurd (no_more marks rest other one.steps two.steps cut one.reached one.merged two.reached l)
       | inr l ↦ absurd (no_more marks other rest two.steps one.steps cut two.reached two.merged one.reached l)
@@ -126,4 +127,4 @@ one_merged_law faces may marks rest other manifold full one two = (
     cut = record { long = full.long; full = ((full_cut_law faces marks manifold).0 full).1 }
 
     after : IsCutOf faces rest
-    after = cut_reached faces may laws marks rest one.steps cut one.reached
+    after = cut_reached faces may laws rest one.steps cut one.reached

@@ -18,9 +18,9 @@ easts_front mesh d zero = refl
 easts_front mesh d (suc i) = ap (step_east mesh) (easts_front mesh d i)
 
 -- The next cell over a link.
-pub east_is : (mesh : HalfEdges) → IsQuadManifold mesh → (d e : ℕ) → mesh.twin (mesh.next d) ≡ Some (mesh.prev e)
+pub east_is : {mesh : HalfEdges} → IsQuadManifold mesh → (d e : ℕ) → mesh.twin (mesh.next d) ≡ Some (mesh.prev e)
     → step_east mesh d ≡ e
-east_is mesh laws d e is = ap (λ o. mesh.next (or_zero o)) is ∙ laws.next_prev e
+east_is {mesh} laws d e is = ap (λ o. mesh.next (or_zero o)) is ∙ laws.next_prev e
 
 -- The whole side of size n from c, with dart x at place k.
 pub record StandsOn (mesh : HalfEdges) (cut : Cut) (c n k x : ℕ) : Type 0 where
@@ -39,14 +39,14 @@ abbrev pub SideOver : (mesh : HalfEdges) (cut : Cut) (w h : ℕ) (cell : Cells) 
 SideOver mesh cut w h cell x = (c : ℕ) × (n : ℕ) × (k : ℕ) × StandsOn mesh cut c n k x × IsFirstDart mesh w h cell c
 
 module _ (mesh : HalfEdges) (laws : IsQuadManifold mesh) (cut : Cut) (full : IsCut mesh cut) where
-  pub row_of : (s n : ℕ) → IsWholeSide mesh cut s n → IsRow mesh cut s n
-  row_of s n side = record { wide = side.some; low = side.corner.0; inside = side.inside; ends = side.ends }
+  pub row_of : {s n : ℕ} → IsWholeSide mesh cut s n → IsRow mesh cut s n
+  row_of side = record { wide = side.some; low = side.corner.0; inside = side.inside; ends = side.ends }
 
   pub side_low : (s n : ℕ) → IsWholeSide mesh cut s n → (k : ℕ) → k < n → easts mesh s k < mesh.count
-  side_low s n side k l = row_low mesh laws cut full s n (row_of s n side) k l
+  side_low s n side k l = row_low mesh laws cut full s n (row_of side) k l
 
   pub side_on : (s n : ℕ) → IsWholeSide mesh cut s n → (k : ℕ) → k < n → cut (easts mesh s k) ≡ true
-  side_on s n side k l = row_south mesh laws cut full s n (row_of s n side) side.corner.1 k l
+  side_on s n side k l = row_south mesh laws cut full s n (row_of side) side.corner.1 k l
 
   pub side_link : (s n : ℕ) → IsWholeSide mesh cut s n → (k : ℕ) → suc k < n
       → mesh.twin (mesh.next (easts mesh s k)) ≡ Some (mesh.prev (easts mesh s (suc k)))
@@ -54,15 +54,15 @@ module _ (mesh : HalfEdges) (laws : IsQuadManifold mesh) (cut : Cut) (full : IsC
       (side.inside k l)
 
   -- Only its first dart leaves a corner.
-  pub side_before : (s n : ℕ) → IsWholeSide mesh cut s n → (k : ℕ) → suc k < n
+  pub side_before : {s n : ℕ} → IsWholeSide mesh cut s n → (k : ℕ) → suc k < n
       → cut (mesh.prev (easts mesh s (suc k))) ≡ false
-  side_before s n side k l = west_off mesh laws cut full (easts mesh s k) (side_low s n side k (omega arith))
+  side_before {s} {n} side k l = west_off mesh laws cut full (easts mesh s k) (side_low s n side k (omega arith))
       (side.inside k l)
 
   pub first_place : (s n : ℕ) → IsWholeSide mesh cut s n → (k : ℕ) → k < n → cut (mesh.prev (easts mesh s k)) ≡ true
       → k ≡ 0
   first_place s n side zero l on = refl
-  first_place s n side (suc k) l on = absurd (true≢false (sym on ∙ side_before s n side k l))
+  first_place s n side (suc k) l on = absurd (true≢false (sym on ∙ side_before side k l))
 
   pub side_from : (s n : ℕ) → IsWholeSide mesh cut s n → (k : ℕ) → suc k < n
       → mesh.from (easts mesh s (suc k)) ≡ mesh.from (mesh.next (easts mesh s k))
@@ -75,9 +75,9 @@ module _ (mesh : HalfEdges) (laws : IsQuadManifold mesh) (cut : Cut) (full : IsC
       → easts mesh s k ≡ easts mesh r j → (s ≡ r) × (k ≡ j)
   one_place s n r m zero zero one two lk lj e = (e, refl)
   one_place s n r m zero (suc j) one two lk lj e =
-      absurd (true≢false (sym one.corner.2 ∙ (ap (λ x. cut (mesh.prev x)) e ∙ side_before r m two j lj)))
+      absurd (true≢false (sym one.corner.2 ∙ (ap (λ x. cut (mesh.prev x)) e ∙ side_before two j lj)))
   one_place s n r m (suc k) zero one two lk lj e =
-      absurd (true≢false (sym two.corner.2 ∙ (ap (λ x. cut (mesh.prev x)) (sym e) ∙ side_before s n one k lk)))
+      absurd (true≢false (sym two.corner.2 ∙ (ap (λ x. cut (mesh.prev x)) (sym e) ∙ side_before one k lk)))
   one_place s n r m (suc k) (suc j) one two lk lj e =
       let lx : easts mesh s k < mesh.count = side_low s n one k (omega arith) in
       let ly : easts mesh r j < mesh.count = side_low r m two j (omega arith) in
@@ -88,14 +88,14 @@ module _ (mesh : HalfEdges) (laws : IsQuadManifold mesh) (cut : Cut) (full : IsC
       (next_same mesh laws (easts mesh s k) (easts mesh r j) same) in
       (p.0, ap suc p.1)
 
-  shorter : (s n m : ℕ) → IsWholeSide mesh cut s n → IsWholeSide mesh cut s m → n < m → ⊥
-  shorter s zero m one two l = absurd (let some : 0 < 0 = one.some in omega arith)
-  shorter s (suc k) m one two l = true≢false (sym (one.ends k refl) ∙ two.inside k (omega arith))
+  shorter : {s : ℕ} (n : ℕ) {m : ℕ} → IsWholeSide mesh cut s n → IsWholeSide mesh cut s m → n < m → ⊥
+  shorter zero one two l = absurd (let some : 0 < 0 = one.some in omega arith)
+  shorter (suc k) one two l = true≢false (sym (one.ends k refl) ∙ two.inside k (omega arith))
 
   pub one_size : (s n m : ℕ) → IsWholeSide mesh cut s n → IsWholeSide mesh cut s m → n ≡ m
   one_size s n m one two = elim (cases_order n m) [
     | inl e ↦ e
-    | inr o ↦ elim o [ inl l ↦ absurd (shorter s n m one two l) | inr l ↦ absurd (shorter s m n two one l) ]
+    | inr o ↦ elim o [ inl l ↦ absurd (shorter n one two l) | inr l ↦ absurd (shorter m two one l) ]
   ]
 
   -- The grid that stands on a whole side.
@@ -120,7 +120,7 @@ module _ (mesh : HalfEdges) (laws : IsQuadManifold mesh) (cut : Cut) (full : IsC
     pub along_south : (i : ℕ) → i < w → easts mesh (cell 0 0) i ≡ cell i 0
     along_south zero l = refl
     along_south (suc i) l = ap (step_east mesh) (along_south i (omega arith))
-        ∙ east_is mesh laws (cell i 0) (cell (suc i) 0) (grid.east i 0 l grid.tall)
+        ∙ east_is laws (cell i 0) (cell (suc i) 0) (grid.east i 0 l grid.tall)
 
     pub south_side : IsWholeSide mesh cut (cell 0 0) w
     south_side = record {
@@ -133,7 +133,7 @@ module _ (mesh : HalfEdges) (laws : IsQuadManifold mesh) (cut : Cut) (full : IsC
     pub along_east : (j : ℕ) → j < h → easts mesh (mesh.next (cell (w - 1) 0)) j ≡ mesh.next (cell (w - 1) j)
     along_east zero l = refl
     along_east (suc j) l = ap (step_east mesh) (along_east j (omega arith))
-        ∙ east_is mesh laws (mesh.next (cell (w - 1) j)) (mesh.next (cell (w - 1) (suc j)))
+        ∙ east_is laws (mesh.next (cell (w - 1) j)) (mesh.next (cell (w - 1) (suc j)))
         (grid.north (w - 1) j last_column l ∙ ap Some (sym (laws.prev_next (cell (w - 1) (suc j)))))
 
     pub east_side : IsWholeSide mesh cut (mesh.next (cell (w - 1) 0)) h
@@ -158,7 +158,7 @@ module _ (mesh : HalfEdges) (laws : IsQuadManifold mesh) (cut : Cut) (full : IsC
         ≡ mesh.next (mesh.next (cell i (h - 1)))
     along_north zero i e = let same : w - 1 ≡ i = omega arith in ap (λ x. mesh.next (mesh.next (cell x (h - 1)))) same
     along_north (suc k) i e = ap (step_east mesh) (along_north k (suc i) (omega arith))
-        ∙ east_is mesh laws (mesh.next (mesh.next (cell (suc i) (h - 1)))) (mesh.next (mesh.next (cell i (h - 1))))
+        ∙ east_is laws (mesh.next (mesh.next (cell (suc i) (h - 1)))) (mesh.next (mesh.next (cell i (h - 1))))
         (west_link i (h - 1) (omega arith) last_row)
 
     pub north_side : IsWholeSide mesh cut (mesh.next (mesh.next (cell (w - 1) (h - 1)))) w
@@ -193,7 +193,7 @@ module _ (mesh : HalfEdges) (laws : IsQuadManifold mesh) (cut : Cut) (full : IsC
     along_west zero j e = let same : h - 1 ≡ j =
         omega arith in ap (λ x. mesh.next (mesh.next (mesh.next (cell 0 x)))) same
     along_west (suc k) j e = ap (step_east mesh) (along_west k (suc j) (omega arith))
-        ∙ east_is mesh laws (mesh.next (mesh.next (mesh.next (cell 0 (suc j)))))
+        ∙ east_is laws (mesh.next (mesh.next (mesh.next (cell 0 (suc j)))))
         (mesh.next (mesh.next (mesh.next (cell 0 j)))) (south_link j (omega arith))
 
     pub west_side : IsWholeSide mesh cut (mesh.next (mesh.next (mesh.next (cell 0 (h - 1))))) h
@@ -218,13 +218,13 @@ module _ (mesh : HalfEdges) (laws : IsQuadManifold mesh) (cut : Cut) (full : IsC
             (omega arith))
 
     -- A cut dart of the grid stands on one of them.
-    pub stands_at : (q i j x : ℕ) → i < w → j < h → x ≡ spin mesh q (cell i j) → cut x ≡ true
+    pub stands_at : (q i j : ℕ) {x : ℕ} → i < w → j < h → x ≡ spin mesh q (cell i j) → cut x ≡ true
         → SideOver mesh cut w h cell x
-    stands_at zero i zero x li lj e on =
+    stands_at zero i zero li lj e on =
         (cell 0 0, w, i, record { side = south_side; low = li; at = along_south i li ∙ sym e }, inl refl)
-    stands_at zero i (suc j) x li lj e on =
+    stands_at zero i (suc j) li lj e on =
         absurd (true≢false (sym on ∙ (ap cut e ∙ south_open mesh laws cut full w h cell grid i j li lj)))
-    stands_at (suc zero) i j x li lj e on = elim (cases_eq (suc i) w) [
+    stands_at (suc zero) i j li lj e on = elim (cases_eq (suc i) w) [
       | inl z ↦ let same : w - 1 ≡ i = omega arith in (
         mesh.next (cell (w - 1) 0),
         h,
@@ -234,7 +234,7 @@ module _ (mesh : HalfEdges) (laws : IsQuadManifold mesh) (cut : Cut) (full : IsC
       )
       | inr ne ↦ absurd (true≢false (sym on ∙ (ap cut e ∙ grid.east_open i j (omega arith) lj)))
     ]
-    stands_at (suc (suc zero)) i j x li lj e on = elim (cases_eq (suc j) h) [
+    stands_at (suc (suc zero)) i j li lj e on = elim (cases_eq (suc j) h) [
       | inl z ↦ let same : h - 1 ≡ j = omega arith in (
         mesh.next (mesh.next (cell (w - 1) (h - 1))),
         w,
@@ -248,21 +248,21 @@ module _ (mesh : HalfEdges) (laws : IsQuadManifold mesh) (cut : Cut) (full : IsC
       )
       | inr ne ↦ absurd (true≢false (sym on ∙ (ap cut e ∙ grid.north_open i j li (omega arith))))
     ]
-    stands_at (suc (suc (suc zero))) zero j x li lj e on = (
+    stands_at (suc (suc (suc zero))) zero j li lj e on = (
       mesh.next (mesh.next (mesh.next (cell 0 (h - 1)))),
       h,
       h - suc j,
       record { side = west_side; low = omega arith; at = along_west (h - suc j) j (omega arith) ∙ sym e },
       inr (inr (inr refl)),
     )
-    stands_at (suc (suc (suc zero))) (suc i) j x li lj e on =
+    stands_at (suc (suc (suc zero))) (suc i) j li lj e on =
         absurd (true≢false (sym on ∙ (ap cut (e ∙ sym (prev_three mesh laws (cell (suc i) j)))
         ∙ west_open mesh laws cut full w h cell grid i j li lj)))
-    stands_at (suc (suc (suc (suc q)))) i j x li lj e on =
-        stands_at q i j x li lj (e ∙ laws.four_sides (spin mesh q (cell i j))) on
+    stands_at (suc (suc (suc (suc q)))) i j {x} li lj e on =
+        stands_at q i j li lj (e ∙ laws.four_sides (spin mesh q (cell i j))) on
 
     pub stands_in : (x : ℕ) → In mesh w h cell x → cut x ≡ true → SideOver mesh cut w h cell x
-    stands_in x i on = stands_at i.0 i.1.a i.1.b x i.1.a_low i.1.b_low i.1.is on
+    stands_in x i on = stands_at i.0 i.1.a i.1.b i.1.a_low i.1.b_low i.1.is on
 
     -- So a corner is the first dart of one.
     pub corner_in : (x : ℕ) → In mesh w h cell x → IsCorner mesh cut x → IsFirstDart mesh w h cell x

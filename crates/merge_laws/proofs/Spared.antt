@@ -66,7 +66,7 @@ module _ (faces : Faces) (m : IsManifold faces) (marks : List Bool) (marked : Ar
         lx = side_low mesh laws (is_on cut) full r n glued.near (suc k) l
 
         west : is_on cut (prev_of x) ≡ false
-        west = side_before mesh laws (is_on cut) full r n glued.near k l
+        west = side_before mesh laws (is_on cut) full glued.near k l
 
         far : (j : ℕ) → suc k + suc j ≡ n → (twin_of faces x ≡ Some (easts (half_edges faces) u j))
             × (is_on cut (next_of (easts (half_edges faces) u j)) ≡ false)
@@ -103,7 +103,7 @@ module _ (faces : Faces) (m : IsManifold faces) (marks : List Bool) (marked : Ar
     first_at d (suc k, l, inl e) y turn =
         absurd (no_turn s t arc.glued k turn.0 l (ap (λ z. is_break faces marks (from_of faces z)) (sym e) ∙ y) turn.1
         (turn.2 ∙ ap (from_of faces) e) turn.3 turn.4)
-    first_at d (suc k, l, inr e) y turn = absurd (no_turn t s (turned_glued mesh laws (is_on cut) full s t n arc.glued)
+    first_at d (suc k, l, inr e) y turn = absurd (no_turn t s (turned_glued mesh laws (is_on cut) full arc.glued)
         k turn.0 l (ap (λ z. is_break faces marks (from_of faces z)) (sym e) ∙ y) turn.1 (turn.2 ∙ ap (from_of faces) e)
         turn.3 turn.4)
 
@@ -321,7 +321,7 @@ module _ (faces : Faces) (m : IsManifold faces) (marks : List Bool) (marked : Ar
                     → IsOnArc (half_edges faces) s t n (prev_of e) ⊎ (IsOnArc (half_edges faces) s t n (prev_of e) → ⊥)
                     → Turn faces rest (from_of faces d)
                 by_on (inl o) p = leaves e o at
-                by_on (inr none) (inl o) = by_twin (on_twin mesh laws (is_on cut) full s t n arc.glued (prev_of e) o)
+                by_on (inr none) (inl o) = by_twin (on_twin mesh laws (is_on cut) full arc.glued (prev_of e) o)
                   where
                     by_twin : (z : ℕ) × (twin_of faces (prev_of e) ≡ Some z) × IsOnArc (half_edges faces) s t n z
                         → Turn faces rest (from_of faces d)
