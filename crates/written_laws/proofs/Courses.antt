@@ -235,13 +235,11 @@ module _ (l : Layout) (x : Lengths) where
         ways = ap (λ (c : Course). c.ahead) same
 
         arcs : (use_of l v).arc ≡ (use_of l w).arc
-        arcs = let e : on_arc (use_of l v).arc (cond (use_of l v).forward o (x (use_of l v).arc - 1 - o))
-            ≡ on_arc (use_of l w).arc (cond (use_of l w).forward k (x (use_of l w).arc - 1 - k)) = edges in cc
+        arcs = let e = edges in cc
 
         place : cond (use_of l v).forward o (x (use_of l v).arc - 1 - o)
             ≡ cond (use_of l v).forward k (x (use_of l w).arc - 1 - k)
-        place = let e : on_arc (use_of l v).arc (cond (use_of l v).forward o (x (use_of l v).arc - 1 - o))
-            ≡ on_arc (use_of l w).arc (cond (use_of l w).forward k (x (use_of l w).arc - 1 - k)) = edges in
+        place = let e = edges in
             let f : cond (use_of l v).forward o (x (use_of l v).arc - 1 - o)
             ≡ cond (use_of l w).forward k (x (use_of l w).arc - 1 - k) = cc in
             f ∙ ap (λ (b : Bool). cond b k (x (use_of l w).arc - 1 - k)) (sym ways)

@@ -110,13 +110,11 @@ module _ {l : Layout} {x : Lengths} (laid : IsSurface l) (len : AreLengths l x) 
       points = sym (use_inner l x (use_of l w) o o_some o_low) ∙ same ∙ use_inner l x (use_of l v) k k_some k_low
 
       arcs : (use_of l w).arc ≡ (use_of l v).arc
-      arcs = let e : along (use_of l w).arc (cond (use_of l w).forward o (x (use_of l w).arc - o))
-          ≡ along (use_of l v).arc (cond (use_of l v).forward k (x (use_of l v).arc - k)) = points in cc
+      arcs = let e = points in cc
 
       place : cond (use_of l w).forward o (x (use_of l w).arc - o)
           ≡ cond (use_of l v).forward k (x (use_of l v).arc - k)
-      place = let e : along (use_of l w).arc (cond (use_of l w).forward o (x (use_of l w).arc - o))
-          ≡ along (use_of l v).arc (cond (use_of l v).forward k (x (use_of l v).arc - k)) = points in cc
+      place = let e = points in cc
 
       alike : (use_of l w).forward ≡ (use_of l v).forward → o ≡ k → R (slot_dart l x w o) (slot_dart l x v k)
       alike ways e =

@@ -108,8 +108,7 @@ module _ (l : Layout) (x : Lengths) (laid : IsSurface l) (len : AreLengths l x) 
 
         least : passing (λ k. true) (vertices l x) ≤ passing (is_used F) (vertex_count F)
         least = passing_le (λ k. true) (is_used F) (vertices l x) (vertex_count F)
-            (λ n low on. let d : (d : CellDart) × IsDart l x d × (vertex_number l x (dart_start l x d) ≡ n) =
-            number_dart n low in (
+            (λ n low on. let d = number_dart n low in (
               from_of F (cell d.0),
               all_below F (cell d.0) (model.low d.0 d.1),
               dart_used F (cell d.0) model.quads (model.low d.0 d.1),
@@ -210,8 +209,7 @@ module _ (l : Layout) (x : Lengths) (laid : IsSurface l) (len : AreLengths l x) 
 
         least : passing (λ k. true) (edge_total l x) ≤ passing (λ d. is_lesser d (twin_of F d)) (darts F)
         least = passing_le (λ k. true) (λ d. is_lesser d (twin_of F d)) (edge_total l x) (darts F)
-            (λ n low on. let d : (d : CellDart) × IsDart l x d × IsLesser d
-            × (edge_number l x (course_of l x d).edge ≡ n) = number_edge n low in
+            (λ n low on. let d = number_edge n low in
             (cell d.0, model.low d.0 d.1, d.2))
             (λ n m a on b too same. by_darts n m (number_edge n a) (number_edge m b) same)
           where

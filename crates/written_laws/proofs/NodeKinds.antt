@@ -45,8 +45,7 @@ module _ {l : Layout} {x : Lengths} (laid : IsSurface l) (len : AreLengths l x) 
   pub node_sort : (n : ℕ) {d : CellDart} → IsDart l x d → dart_start l x d ≡ node n → (w : Slot) × (b : Bool)
       × IsAtNode n d w b
   node_sort n {d} is leaves = elim (sort_dart l x laid len d is) [
-    | inl i ↦ let b : dart_start l x d ≡ inside d.patch (column_of d) (row_of d) =
-        inner_from l x laid len d i in absurd cc
+    | inl i ↦ let b = inner_from l x laid len d i in absurd cc
     | inr s ↦ elim (node_end (use_of l s.0) s.1 n (omega (arith, s.2.low))
         (omega (arith, s.2.low)) (sym s.2.leaves ∙ leaves)) [
           | inl e ↦ at_slot s.0 s.1 s.2 e.0 e.1

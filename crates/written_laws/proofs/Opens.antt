@@ -60,9 +60,7 @@ module _ {l : Layout} {x : Lengths} (laid : IsSurface l) (len : AreLengths l x) 
           ∙ use_inner l x (use_of l v) 1 (omega arith) (omega (arith, v_two))
 
       arcs : (use_of l w).arc ≡ (use_of l v).arc
-      arcs = let f : along (use_of l w).arc (cond (use_of l w).forward (x (use_of l w).arc - 1)
-          (x (use_of l w).arc - (x (use_of l w).arc - 1))) ≡ along (use_of l v).arc
-          (cond (use_of l v).forward 1 (x (use_of l v).arc - 1)) = sym w_point ∙ same ∙ v_point in cc
+      arcs = let f = sym w_point ∙ same ∙ v_point in cc
 
       no_turn : (s : Way) → s ≢ side_after s
       no_turn south f = cc

@@ -184,8 +184,7 @@ module _ {l : Layout} {x : Lengths} (laid : IsSurface l) (len : AreLengths l x) 
         along_sort : {d : CellDart} → IsDart l x d → dart_start l x d ≡ along a k → (w : Slot) × (o : ℕ) × (b : Bool)
             × IsAlong d w o b
         along_sort {d} is_d leaves = elim (sort_dart l x laid len d is_d) [
-          | inl i ↦ let b : dart_start l x d ≡ inside d.patch (column_of d) (row_of d) =
-              inner_from l x laid len d i in absurd cc
+          | inl i ↦ let b = inner_from l x laid len d i in absurd cc
           | inr s ↦ at_slot s.0 s.1 s.2
         ]
           where

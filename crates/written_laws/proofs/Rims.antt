@@ -30,6 +30,10 @@ side_row l x p east t = t
 side_row l x p north t = high l x p
 side_row l x p west t = high l x p - t
 
+-- Darts at one place of a patch are one.
+pub dart_is : (p : ℕ) (w : Way) {i j k n : ℕ} → i ≡ k → j ≡ n → dart p i j w ≡ dart p k n w
+dart_is p w a b = λ t. dart p (a t) (b t) w
+
 module _ {l : Layout} {x : Lengths} (paved : HasWholeSides l) (len : AreLengths l x) where
   pub rim_is : (p : ℕ) (s : Way) (t : ℕ) → p < l.patches → t < size l x p s → IsDart l x (dart_along l x p s t)
   rim_is p south t low less = record { patch_low = low; i_low = less; j_low = high_some l x paved len p low }
@@ -99,17 +103,10 @@ module _ {l : Layout} {x : Lengths} (paved : HasWholeSides l) (len : AreLengths 
   -- The border dart next to the last one of a side is the first one of the next side.
   pub corner_next : (p : ℕ) (s : Way) (t : ℕ) → p < l.patches → t + 1 ≡ size l x p s → next (dart_along l x p s t)
       ≡ dart_along l x p (side_after s) 0
-  corner_next p south t low e =
-      let a : t ≡ wide l x p - 1 = omega arith in λ k. dart p (a k) 0 east
-  corner_next p east t low e =
-      let a : wide l x p - 1 ≡ wide l x p - 1 - 0 = omega arith in
-      let b : t ≡ high l x p - 1 = omega (arith, len.upright p low) in
-      λ k. dart p (a k) (b k) north
-  corner_next p north t low e =
-      let a : wide l x p - 1 - t ≡ 0 = omega (arith, len.across p low) in
-      let b : high l x p - 1 ≡ high l x p - 1 - 0 = omega arith in
-      λ k. dart p (a k) (b k) west
-  corner_next p west t low e = let b : high l x p - 1 - t ≡ 0 = omega arith in λ k. dart p 0 (b k) south
+  corner_next p south t low e = dart_is p east (omega arith) refl
+  corner_next p east t low e = dart_is p north (omega arith) (omega (arith, len.upright p low))
+  corner_next p north t low e = dart_is p west (omega (arith, len.across p low)) (omega arith)
+  corner_next p west t low e = dart_is p south refl (omega arith)
 
   -- A cell with two border darts in a row lies at the corner of its patch.
   pub corner_cell : (p : ℕ) (s : Way) (t u : ℕ) → p < l.patches → t < size l x p s → u < size l x p (side_after s)

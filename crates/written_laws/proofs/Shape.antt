@@ -62,55 +62,53 @@ module _ {faces : Faces} (man : IsManifold faces) {l : Layout} {x : Lengths} (pa
         ∙ model.alike (next d) (next e) (next_is l x d is_d) (next_is l x e is_e) same
         ∙ ap (from_of faces) (model.turned e is_e)
 
-    same_way : {e f : Edge} {d c : CellDart} → (course_of l x d).edge ≡ e → (course_of l x c).edge ≡ f → IsDart l x d
-        → IsDart l x c → dart_start l x d ≡ dart_start l x c → dart_end l x d ≡ dart_end l x c → e ≡ f
-    same_way {d} {c} d_edge c_edge is_d is_c starts_same ends_same =
-        let one = model.same d c is_d is_c (man.edges_once (cell d) (cell c) (model.low d is_d) (model.low c is_c)
-        (model.alike d c is_d is_c starts_same, to_is d c is_d is_c ends_same)) in
-        sym d_edge ∙ ap (λ (q : CellDart). (course_of l x q).edge) one ∙ c_edge
+    -- Runners with the same ends, or with exchanged ones, run along one edge.
+    same_way : {e f : Edge} {d c : CellDart} {a b : Bool} → IsRunner e d a → IsRunner f c b
+        → start_at l x (course e a) ≡ start_at l x (course f b) → end_at l x (course e a) ≡ end_at l x (course f b)
+        → e ≡ f
+    same_way {d} {c} r q starts_same ends_same =
+        let starts = model.alike d c r.is_dart q.is_dart (r.start ∙ starts_same ∙ sym q.start) in
+        let ends = to_is d c r.is_dart q.is_dart (r.end ∙ ends_same ∙ sym q.end) in
+        let one = model.same d c r.is_dart q.is_dart
+        (man.edges_once (cell d) (cell c) (model.low d r.is_dart) (model.low c q.is_dart) (starts, ends)) in
+        sym r.edge ∙ ap (λ (k : CellDart). (course_of l x k).edge) one ∙ q.edge
 
-    other_way : {e f : Edge} {d c : CellDart} → (course_of l x d).edge ≡ e → (course_of l x c).edge ≡ f → IsDart l x d
-        → IsDart l x c → dart_start l x c ≡ dart_end l x d → dart_end l x c ≡ dart_start l x d → e ≡ f
-    other_way {d} {c} d_edge c_edge is_d is_c there back =
-        let laws : IsQuadManifold (half_edges faces) = manifold_law faces man in
-        let twin = laws.twin_found (cell d) (cell c) (model.low d is_d) (model.low c is_c)
-        (model.alike c (next d) is_c (next_is l x d is_d) there ∙ ap (from_of faces) (model.turned d is_d))
-        (ap (from_of faces) (sym (model.turned c is_c)) ∙ model.alike (next c) d (next_is l x c is_c) is_d back) in
-        let a = twin_is_across faces man l x paved len cell vertex arc_dart s d c is_d is_c twin in
-        sym d_edge ∙ sym a.edge ∙ c_edge
+    other_way : {e f : Edge} {d c : CellDart} {a b : Bool} → IsRunner e d a → IsRunner f c b
+        → start_at l x (course f b) ≡ end_at l x (course e a) → end_at l x (course f b) ≡ start_at l x (course e a)
+        → e ≡ f
+    other_way {d} {c} r q there back =
+        let to = model.alike c (next d) q.is_dart (next_is l x d r.is_dart) (q.start ∙ there ∙ sym r.end) in
+        let from = model.alike (next c) d (next_is l x c q.is_dart) r.is_dart (q.end ∙ back ∙ sym r.start) in
+        let twin = (manifold_law faces man).twin_found (cell d) (cell c) (model.low d r.is_dart) (model.low c q.is_dart)
+        (to ∙ ap (from_of faces) (model.turned d r.is_dart))
+        (ap (from_of faces) (sym (model.turned c q.is_dart)) ∙ from) in
+        let a = twin_is_across faces man l x paved len cell vertex arc_dart s d c r.is_dart q.is_dart twin in
+        sym r.edge ∙ sym a.edge ∙ q.edge
 
     pub old_simple : IsSimple l x
     old_simple = record { same = same; crossed = crossed; no_loop = no_loop }
       where
         same : (e f : Edge) → IsEdge l x e → IsEdge l x f → edge_start l x e ≡ edge_start l x f
             → edge_end l x e ≡ edge_end l x f → e ≡ f
-        same e f is_e is_f lows tops = by_runners (runner e is_e).0 (runner f is_f).0 (runner e is_e).1
-            (runner f is_f).1 (runner e is_e).2 (runner f is_f).2
+        same e f is_e is_f lows tops =
+            by_runners (runner e is_e).1 (runner f is_f).1 (runner e is_e).2 (runner f is_f).2
           where
-            by_runners : (d c : CellDart) (a b : Bool) → IsRunner e d a → IsRunner f c b → e ≡ f
-            by_runners d c true true r q = same_way r.edge q.edge r.is_dart q.is_dart (r.start ∙ lows
-                ∙ sym q.start) (r.end ∙ tops ∙ sym q.end)
-            by_runners d c false false r q = same_way r.edge q.edge r.is_dart q.is_dart (r.start ∙ tops
-                ∙ sym q.start) (r.end ∙ lows ∙ sym q.end)
-            by_runners d c true false r q = other_way r.edge q.edge r.is_dart q.is_dart (q.start ∙ sym tops
-                ∙ sym r.end) (q.end ∙ sym lows ∙ sym r.start)
-            by_runners d c false true r q = other_way r.edge q.edge r.is_dart q.is_dart (q.start ∙ sym lows
-                ∙ sym r.end) (q.end ∙ sym tops ∙ sym r.start)
+            by_runners : {d c : CellDart} (a b : Bool) → IsRunner e d a → IsRunner f c b → e ≡ f
+            by_runners true true r q = same_way r q lows tops
+            by_runners false false r q = same_way r q tops lows
+            by_runners true false r q = other_way r q (sym tops) (sym lows)
+            by_runners false true r q = other_way r q (sym lows) (sym tops)
 
         crossed : (e f : Edge) → IsEdge l x e → IsEdge l x f → edge_start l x e ≡ edge_end l x f
             → edge_end l x e ≡ edge_start l x f → e ≡ f
-        crossed e f is_e is_f lows tops = by_runners (runner e is_e).0 (runner f is_f).0 (runner e is_e).1
-            (runner f is_f).1 (runner e is_e).2 (runner f is_f).2
+        crossed e f is_e is_f lows tops =
+            by_runners (runner e is_e).1 (runner f is_f).1 (runner e is_e).2 (runner f is_f).2
           where
-            by_runners : (d c : CellDart) (a b : Bool) → IsRunner e d a → IsRunner f c b → e ≡ f
-            by_runners d c true false r q = same_way r.edge q.edge r.is_dart q.is_dart (r.start ∙ lows
-                ∙ sym q.start) (r.end ∙ tops ∙ sym q.end)
-            by_runners d c false true r q = same_way r.edge q.edge r.is_dart q.is_dart (r.start ∙ tops
-                ∙ sym q.start) (r.end ∙ lows ∙ sym q.end)
-            by_runners d c true true r q = other_way r.edge q.edge r.is_dart q.is_dart (q.start ∙ sym tops
-                ∙ sym r.end) (q.end ∙ sym lows ∙ sym r.start)
-            by_runners d c false false r q = other_way r.edge q.edge r.is_dart q.is_dart (q.start ∙ sym lows
-                ∙ sym r.end) (q.end ∙ sym tops ∙ sym r.start)
+            by_runners : {d c : CellDart} (a b : Bool) → IsRunner e d a → IsRunner f c b → e ≡ f
+            by_runners true false r q = same_way r q lows tops
+            by_runners false true r q = same_way r q tops lows
+            by_runners true true r q = other_way r q (sym tops) (sym lows)
+            by_runners false false r q = other_way r q (sym lows) (sym tops)
 
         no_loop : (e : Edge) → IsEdge l x e → edge_start l x e ≢ edge_end l x e
         no_loop e is loop = by_runner (runner e is).1 (runner e is).2

@@ -131,8 +131,7 @@ module _ (share : ℕ → ℕ) (m n k : ℕ) (m_some : 0 < m) (all_some : 0 < co
 
       rest_some : edge ≡ 0 → 0 < ONE * (before - start edge) / (n * share edge)
       rest_some first = (le-div_iff_mul-le {k = n * share edge} {x = 1} {y = ONE * (before - start edge)} share_some).1
-          (let le : n * share edge ≤ ONE * (before - start edge) = mul-le n (share edge) ONE (before - start edge) few
-          (share_le first) in
+          (let le = mul-le n (share edge) ONE (before - start edge) few (share_le first) in
           omega (arith, le))
 
 module _ (l : Layout) (old new : Lengths) (shares : Shares) (o_len : AreLengths l old) (n_len : AreLengths l new) where

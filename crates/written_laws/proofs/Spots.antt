@@ -8,7 +8,7 @@ use Rattle.def_layout.specs.Cells.{CellDart, IsDart, dart, next, dart_along, slo
 use Rattle.def_written.specs.{Points.point, NewFaces.column, NewFaces.row}
 use Rattle.written_laws.proofs.{Runs.place_same, Sides.slot, Sides.long_at, Sides.side_in, Grid.wide_some}
 use Rattle.written_laws.proofs.{Grid.high_some, Rims.column_of, Rims.row_of, Rims.side_column, Rims.side_row}
-use Rattle.written_laws.proofs.Rims.{border_point, rim_is, rim_column, rim_row, rim_next_column}
+use Rattle.written_laws.proofs.Rims.{dart_is, border_point, rim_is, rim_column, rim_row, rim_next_column}
 use Rattle.written_laws.proofs.{Rims.rim_next_row, Rims.rim_patch, Rims.rim_way, Borders.at_low, Borders.at_is}
 use Rattle.written_laws.proofs.{Borders.IsAt, NewDarts.next_is}
 
@@ -82,34 +82,23 @@ module _ {l : Layout} {x : Lengths} (paved : HasWholeSides l) (len : AreLengths 
   border_dart : (p : ℕ) (s w : Way) (i j t : ℕ) → t < size l x p s → IsDart l x (dart p i j w)
       → column i w ≡ side_column l x p s t → row j w ≡ side_row l x p s t
       → (dart p i j w ≡ dart_along l x p s t) ⊎ ((0 < t) × (dart p i j w ≡ next (dart_along l x p s (t - 1))))
-  border_dart p south south i j t t_low is c r = inl (λ k. dart p (c k) (r k) south)
-  border_dart p south east i j t t_low is c r =
-      let a : i ≡ t - 1 = omega (arith, c) in inr (omega (arith, c), λ k. dart p (a k) (r k) east)
+  border_dart p south south i j t t_low is c r = inl (dart_is p south c r)
+  border_dart p south east i j t t_low is c r = inr (omega (arith, c), dart_is p east (omega (arith, c)) r)
   border_dart p east south i j t t_low is c r = absurd (omega (arith, c, is.i_low))
-  border_dart p east east i j t t_low is c r =
-      let a : i ≡ wide l x p - 1 = omega (arith, c) in inl (λ k. dart p (a k) (r k) east)
+  border_dart p east east i j t t_low is c r = inl (dart_is p east (omega (arith, c)) r)
   border_dart p east north i j t t_low is c r =
-      let a : i ≡ wide l x p - 1 = omega (arith, c) in
-      let b : j ≡ t - 1 = omega (arith, r) in
-      inr (omega (arith, r), λ k. dart p (a k) (b k) north)
+      inr (omega (arith, r), dart_is p north (omega (arith, c)) (omega (arith, r)))
   border_dart p east west i j t t_low is c r = absurd (omega (arith, c, is.i_low))
   border_dart p north south i j t t_low is c r = absurd (omega (arith, r, is.j_low))
   border_dart p north east i j t t_low is c r = absurd (omega (arith, r, is.j_low))
-  border_dart p north north i j t t_low is c r =
-      let a : i ≡ wide l x p - 1 - t = omega (arith, c) in
-      let b : j ≡ high l x p - 1 = omega (arith, r) in
-      inl (λ k. dart p (a k) (b k) north)
+  border_dart p north north i j t t_low is c r = inl (dart_is p north (omega (arith, c)) (omega (arith, r)))
   border_dart p north west i j t t_low is c r =
-      let a : i ≡ wide l x p - 1 - (t - 1) = omega (arith, c, is.i_low) in
-      let b : j ≡ high l x p - 1 = omega (arith, r) in
-      inr (omega (arith, c, is.i_low), λ k. dart p (a k) (b k) west)
+      inr (omega (arith, c, is.i_low), dart_is p west (omega (arith, c, is.i_low)) (omega (arith, r)))
   border_dart p west south i j t t_low is c r =
-      let b : j ≡ high l x p - 1 - (t - 1) = omega (arith, r, is.j_low) in
-      inr (omega (arith, r, is.j_low), λ k. dart p (c k) (b k) south)
+      inr (omega (arith, r, is.j_low), dart_is p south c (omega (arith, r, is.j_low)))
   border_dart p west east i j t t_low is c r = absurd (omega (arith, c))
   border_dart p west north i j t t_low is c r = absurd (omega (arith, c))
-  border_dart p west west i j t t_low is c r =
-      let b : j ≡ high l x p - 1 - t = omega (arith, r) in inl (λ k. dart p (c k) (b k) west)
+  border_dart p west west i j t t_low is c r = inl (dart_is p west c (omega (arith, r)))
   border_dart p south _ i j t t_low is c r = absurd (omega (arith, r))
 
 -- The place on its side that lies o after the beginning of a slot's arc.
