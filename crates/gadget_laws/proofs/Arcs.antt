@@ -28,12 +28,8 @@ any_active : (net : Network) (step v : ℕ) (a : Arc) (x k n : ℕ) (os : List B
     → active v (units_from net step a (low step a x) k n) os + trues os * arc_active v false a
     ≡ trues os * arc_active v true a + n * arc_active v false a
 any_active net step v a x k zero [] l = omega arith
-any_active net step v a x k (suc n) (true ∷ os) l = omega (
-  arith,
-  add-mul 1 (trues os) (arc_active v false a),
-  add-mul 1 (trues os) (arc_active v true a),
-  any_active net step v a x (k + 1) n os (omega arith),
-)
+any_active net step v a x k (suc n) (true ∷ os) l =
+    omega (arith, add-mul, any_active net step v a x (k + 1) n os (omega arith))
 any_active net step v a x k (suc n) (false ∷ os) l = omega (arith, any_active net step v a x (k + 1) n os (omega arith))
 any_active net step v a x k _ _ l = absurd (omega arith)
 
@@ -128,11 +124,11 @@ first_length : (net : Network) (step : ℕ) (a : Arc) (arcs : List Arc) (x : ℕ
     → length ons ≡ length (units net step (a ∷ arcs) (x ∷ xs)) → (length (take (cap step a x) ons) ≡ cap step a x)
     × (length (drop (cap step a x) ons) ≡ length (units net step arcs xs))
 first_length net step a arcs x xs ons l =
-    let whole : length ons ≡ cap step a x + length (units net step arcs xs) = omega (
+    let whole : length ons ≡ cap step a x + length (units net step arcs xs) =
+    omega (
       arith,
-      l,
       length-append (units_from net step a (low step a x) 0 (cap step a x)) (units net step arcs xs),
-      units_length net step a x 0 (cap step a x),
+      units_length,
     ) in
     (length-take-le (cap step a x) ons (omega (arith, whole)), omega (arith, whole, length-drop (cap step a x) ons))
 
@@ -185,11 +181,8 @@ ends_past nodes v on left right le at = grind (arith)
 active_past : (nodes v : ℕ) (us : List ArcUnit) (ons : List Bool) → nodes ≤ v → UnitsAt nodes us → active v us ons ≡ 0
 active_past nodes v [] ons le at = refl
 active_past nodes v (u ∷ us) [] le at = refl
-active_past nodes v (u ∷ us) (on ∷ ons) le at = omega (
-  arith,
-  ends_past nodes v on u.left u.right le at.0,
-  active_past nodes v us ons le at.1,
-)
+active_past nodes v (u ∷ us) (on ∷ ons) le at =
+    omega (arith, ends_past nodes v on u.left u.right le at.0, active_past nodes v us ons le at.1)
 
 -- The lows are as high as the floors, and so is each list of the box.
 low_high : (step : ℕ) (a : Arc) (x : ℕ) → a.floor ≤ x → a.floor ≤ low step a x
@@ -222,11 +215,8 @@ pub lengths_law : (net : Network) (step : ℕ) (xs m : List ℕ) → IsWithinBou
     → (length (lengths_told net step xs m) ≡ length net.arcs) × IsAdmissible net (entries (lengths_told net step xs m))
     × ((pos (deviation net (entries (lengths_told net step xs m))) -ℤ pos
     (deviation net (entries (lows net step xs)))) ≤ℤ matching_cost (matching_graph net step xs) m)
-lengths_law net step xs m bounds positive l ax perfect = (
-  count,
-  record { high = box_high step net.arcs xs js ys box ax.high; balanced = balanced },
-  dear,
-)
+lengths_law net step xs m bounds positive l ax perfect =
+    (count, record { high = box_high step net.arcs xs js ys box ax.high; balanced = balanced }, dear)
   where
     us : List ArcUnit
     us = units net step net.arcs xs

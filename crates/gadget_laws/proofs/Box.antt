@@ -64,14 +64,13 @@ by_raised step P none more _ _ _ _ box = absurd box
 -- There are as many states as units.
 pub states_count : (net : Network) (step : ℕ) (arcs : List Arc) (xs js ys : List ℕ) → IsRaised step arcs xs js ys
     → length (units net step arcs xs) ≡ length (states step arcs xs js)
-states_count net step = by_raised step (λ arcs xs js ys. length (units net step arcs xs)
-    ≡ length (states step arcs xs js)) refl (λ a arcs x j y xs js ys box again. omega (
+states_count net step = by_raised step (λ arcs xs js ys. length (units net step arcs xs) ≡ length
+    (states step arcs xs js)) refl (λ a arcs x j y xs js ys box again. omega (
       arith,
       length-append (units_from net step a (low step a x) 0 (cap step a x)) (units net step arcs xs),
       length-append (run j (cap step a x)) (states step arcs xs js),
-      units_length net step a x 0 (cap step a x),
-      run_length j (cap step a x),
-      again,
+      units_length,
+      run_length,
     ))
 
 active_append : (v : ℕ) (us vs : List ArcUnit) (ons os : List Bool) → length us ≡ length ons
@@ -108,13 +107,7 @@ box_active net step v = by_raised step (λ arcs xs js ys. active v (units net st
     (arcwise (cap step) arcs xs)) refl (λ a arcs x j y xs js ys box again.
     let same : length (units_from net step a (low step a x) 0 (cap step a x)) ≡ length (run j (cap step a x)) =
     omega (arith, units_length net step a x 0 (cap step a x), run_length j (cap step a x)) in
-    omega (
-      arith,
-      active_append v (units_from net step a (low step a x) 0 (cap step a x)) (units net step arcs xs)
-          (run j (cap step a x)) (states step arcs xs js) same,
-      run_active net step v a x 0 j (cap step a x) box.0,
-      again,
-    ))
+    omega (arith, active_append, run_active))
 
 -- A list of the box has the ends of its lows, and a step's worth for each unit.
 scaled : (l j s a : ℕ) → (l + j * s) * a ≡ l * a + s * (j * a)
@@ -139,13 +132,7 @@ end_side v y on e = grind (arith, ints)
 ends_side : (v y : ℕ) (on : Bool) (es : List End) → total (λ e. cond (is_on_side v on e) (pos y) (pos 0)) es
     ≡ pos (y * count (λ e. cond ((e.node == v) && is_active on e) 1 0) es)
 ends_side v y on [] = omega (arith, ints)
-ends_side v y on (e ∷ es) = omega (
-  arith,
-  ints,
-  end_side v y on e,
-  ends_side v y on es,
-  mul-add y (cond ((e.node == v) && is_active on e) 1 0) (count (λ f. cond ((f.node == v) && is_active on f) 1 0) es),
-)
+ends_side v y on (e ∷ es) = omega (arith, ints, end_side v y on e, ends_side v y on es, mul-add)
 
 pub side_list : (v : ℕ) (on : Bool) (arcs : List Arc) (ys : List ℕ) → length ys ≡ length arcs
     → side_sum arcs (entries ys) on v ≡ pos (weighted_ends v on arcs ys)
@@ -163,13 +150,8 @@ side_list v on _ _ l = absurd (omega arith)
 -- Balanced lists have equal ends of both signs.
 pub balanced_list : (arcs : List Arc) (ys : List ℕ) → length ys ≡ length arcs → IsBalanced arcs (entries ys) → (v : ℕ)
     → weighted_ends v true arcs ys ≡ weighted_ends v false arcs ys
-balanced_list arcs ys l balanced v = omega (
-  arith,
-  ints,
-  balanced v,
-  side_list v true arcs ys l,
-  side_list v false arcs ys l,
-)
+balanced_list arcs ys l balanced v =
+    omega (arith, ints, balanced v, side_list v true arcs ys l, side_list v false arcs ys l)
 
 pub box_length : (step : ℕ) (arcs : List Arc) (xs js ys : List ℕ) → IsRaised step arcs xs js ys
     → length ys ≡ length arcs
@@ -194,14 +176,16 @@ same_active net step xs js ys is zs positive box other by bz v =
     scaled_equal : step * (plus js + minus is) ≡ step * (minus js + plus is)
     scaled_equal = omega (
       arith,
-      mul-add step (plus js) (minus is),
-      mul-add step (minus js) (plus is),
+      mul-add,
       box_ends net step v true net.arcs xs js ys box,
-      box_ends net step v false net.arcs xs js ys box,
+      box_ends net step v false
+          net.arcs xs js ys box,
       box_ends net step v true net.arcs xs is zs other,
-      box_ends net step v false net.arcs xs is zs other,
+      box_ends net step v false net.arcs xs
+          is zs other,
       balanced_list net.arcs ys (box_length step net.arcs xs js ys box) by v,
-      balanced_list net.arcs zs (box_length step net.arcs xs is zs other) bz v,
+      balanced_list net.arcs zs
+          (box_length step net.arcs xs is zs other) bz v,
     )
 
     equal : plus js + minus is ≡ minus js + plus is

@@ -91,8 +91,7 @@ links_width copies_at b c left None = omega (
 links_width copies_at b c left (Some right) = grind (
   arith,
   ints,
-  length-append (to_copies copies_at b c left) (to_copies copies_at (b + 1) (pos 0) right
-      ++ inner_link b c left ∷ []),
+  length-append (to_copies copies_at b c left) (to_copies copies_at (b + 1) (pos 0) right ++ inner_link b c left ∷ []),
   length-append (to_copies copies_at (b + 1) (pos 0) right) (inner_link b c left ∷ []),
   first,
   second (b + 1) (pos 0),

@@ -70,12 +70,8 @@ pub box_fits : (net : Network) (step : ℕ) (xs js ys : List ℕ) → IsWithinBo
     → StatesFit net.nodes (λ v. active v (units net step net.arcs xs) (states_at net step xs))
     (rim_active (units net step net.arcs xs) (states_at net step xs) % 2 == 1) (units net step net.arcs xs)
     (states step net.arcs xs js)
-box_fits net step xs js ys bounds positive l bx by box = record {
-  count = count;
-  at_nodes = at;
-  fills = fills;
-  even = even;
-}
+box_fits net step xs js ys bounds positive l bx by box =
+    record { count = count; at_nodes = at; fills = fills; even = even }
   where
     us : List ArcUnit
     us = units net step net.arcs xs

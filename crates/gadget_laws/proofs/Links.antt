@@ -121,11 +121,8 @@ link_at n (suc k) (e ∷ es) are l = link_at n k es are.1 (omega arith)
 -- The graph of units at nodes is one.
 pub graph_lawful : (nodes : ℕ) (copies_at : ℕ → ℕ) (lone : Bool) (us : List ArcUnit) → UnitsAt nodes us
     → IsGraph (graph_by nodes copies_at lone us)
-graph_lawful nodes copies_at lone us at = record {
-  left = λ k l. (each k l).0;
-  right = λ k l. (each k l).1;
-  apart = λ k l. (each k l).2;
-}
+graph_lawful nodes copies_at lone us at =
+    record { left = λ k l. (each k l).0; right = λ k l. (each k l).1; apart = λ k l. (each k l).2 }
   where
     n : ℕ
     n = (graph_by nodes copies_at lone us).n

@@ -103,9 +103,9 @@ lone_ok nodes copies_at b c left ms at le first =
       arith,
       ints,
       lone_pick (at_ends (only b)) copies_at b c left (pos 1) ms worth,
-      first,
-      one_more (left_marks copies_at ms left) (lone_inner copies_at ms left)
-          (at_ends (only b) (inner_link b c left)) (inner_one b).0,
+      one_more
+          (left_marks copies_at ms left) (lone_inner copies_at ms left) (at_ends (only b) (inner_link b c left))
+          (inner_one b).0,
     )
 
 pair_ok : (nodes : ℕ) (copies_at : ℕ → ℕ) (b : ℕ) (c : ℤ) (left right : End) (ms : List Bool) → (left.node < nodes)
@@ -210,11 +210,8 @@ rung_zero : (w : ℕ → ℤ) (m fresh r : ℕ) (before : Option ℕ) → w r �
 rung_zero w m fresh r before nil high le past =
     let last : AreZero w (link fresh (fresh + 1) (pos 0) ∷ []) = (high fresh le, high (fresh + 1) (omega arith), tt) in
     let up : AreZero w (link_from before fresh) = from_zero w m fresh fresh before past high (high fresh le) in
-    zero_append w (link_from before r) _ (from_zero w m fresh r before past high nil) (
-      nil,
-      high fresh le,
-      zero_append w (link_from before fresh) _ up last,
-    )
+    zero_append w (link_from before r) _ (from_zero w m fresh r before past high nil)
+    (nil, high fresh le, zero_append w (link_from before fresh) _ up last)
 
 -- At the rim nothing weighs where neither its vertices do nor those past the units.
 pub rim_zero : (w : ℕ → ℤ) (m fresh : ℕ) (before : Option ℕ) (rs : List ℕ) → AreNil w rs
@@ -264,11 +261,8 @@ next_rim b u us rs h = by_right u.right h.is
           (omega arith, tt);
       is = e ∙ sym (append_assoc h.prefix ((b + 1) ∷ []) (rim (b + 2) us));
     }
-    by_right (Some right) e = record {
-      prefix = h.prefix;
-      below = below_more b _ h.prefix (omega arith) h.below;
-      is = e;
-    }
+    by_right (Some right) e =
+        record { prefix = h.prefix; below = below_more b _ h.prefix (omega arith) h.below; is = e }
 
 -- The units from b on, with what stays the same from unit to unit: the rest of the graph.
 module _ (n nodes : ℕ) (copies_at : ℕ → ℕ) (m : ℕ) (rs : List ℕ) (rest : List WEdge) (rms : List Bool) (within : m ≤ n)

@@ -38,11 +38,7 @@ fan_length u c a (suc n) = omega (arith, fan_length u c (a + 1) n)
 
 pub end_length : (copies_at used : ℕ → ℕ) (some : Bool) (e : End) (b : ℕ) (c : ℤ)
     → length (end_marks copies_at used some e) ≡ length (to_copies copies_at b c e)
-end_length copies_at used some e b c = omega (
-  arith,
-  choice_length some (used e.node) (copies_at e.node),
-  fan_length b (cond e.plus c (pos 0)) (count_below copies_at e.node) (copies_at e.node),
-)
+end_length copies_at used some e b c = omega (arith, choice_length, fan_length)
 
 -- Of a fan without a mark nothing is picked.
 pick_none : (f : WEdge → ℤ) (i n u : ℕ) (c : ℤ) (a : ℕ) → picked f (choice false i n) (fan u c a n) ≡ pos 0

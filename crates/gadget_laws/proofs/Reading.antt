@@ -42,11 +42,8 @@ places_marks k (suc n) (e ∷ m) increasing =
       | inl here ↦
           let rest = subst (λ (h : ℕ). IsIncreasing (k + 1) h m) high (rw here at increasing.2) in
           rw (eq-eqb e k here) (ap (λ l. k ∷ l) (ih m rest) ∙ ap (λ j. j ∷ m) (sym here))
-      | inr later ↦ rw (ne_eqb e k later) (ih (e ∷ m) (
-        omega (arith, increasing.0),
-        omega (arith, increasing.1),
-        rw high at increasing.2,
-      ))
+      | inr later ↦ rw (ne_eqb e k later) (ih (e ∷ m)
+          (omega (arith, increasing.0), omega (arith, increasing.1), rw high at increasing.2))
     ]
   where
     high : k + suc n ≡ k + 1 + n

@@ -100,11 +100,7 @@ caps_ends : (net : Network) (step v : ℕ) (arcs : List Arc) (xs : List ℕ) →
     → weighted_ends v false arcs (arcwise (cap step) arcs xs) ≡ weighted_ends v false arcs (arcwise (down step) arcs xs)
     + 2 * ends_on v false arcs
 caps_ends net step v [] [] l = refl
-caps_ends net step v (a ∷ arcs) (x ∷ xs) l = omega (
-  arith,
-  add-mul (down step a x) 2 (arc_active v false a),
-  caps_ends net step v arcs xs (omega arith),
-)
+caps_ends net step v (a ∷ arcs) (x ∷ xs) l = omega (arith, add-mul, caps_ends net step v arcs xs (omega arith))
 caps_ends net step v _ _ l = absurd (omega arith)
 
 downs_ends : (net : Network) (step v : ℕ) (arcs : List Arc) (xs : List ℕ)
@@ -149,14 +145,9 @@ arc_exchange f nodes left None at =
 arc_exchange f nodes left (Some right) at =
     let same : count_below (λ v. (cond (left.node == v) 1 0 + (cond (right.node == v) 1 0 + 0)) * f v)
     nodes ≡ count_below (λ v. cond (left.node == v) 1 0 * f v + cond (right.node == v) 1 0 * f v)
-    nodes = count_below_same _ _ nodes (λ v l. omega (
-      arith,
-      add-mul (cond (left.node == v) 1 0) (cond (right.node == v) 1 0 + 0) (f v),
-      add-mul (cond (right.node == v) 1 0) 0 (f v),
-    )) in
+    nodes = count_below_same _ _ nodes (λ v l. omega (arith, add-mul)) in
     omega (
       arith,
-      same,
       count_below_sum (λ v. cond (left.node == v) 1 0 * f v) (λ v. cond (right.node == v) 1 0 * f v) nodes,
       one_node f nodes left.node at.0,
       one_node f nodes right.node at.1,
@@ -280,12 +271,8 @@ ends_const c (e ∷ es) = omega (arith, mul-add c 1 (count (λ f. 1) es), ends_c
 
 along_const : (c : ℕ) (arcs : List Arc) → along_ends (λ v. c) arcs ≡ c * all_ends arcs
 along_const c [] = omega (arith, mul_comm c 0, zero-mul c)
-along_const c (a ∷ arcs) = omega (
-  arith,
-  mul-add c (count (λ e. 1) (ends a)) (all_ends arcs),
-  ends_const c (ends a),
-  along_const c arcs,
-)
+along_const c (a ∷ arcs) =
+    omega (arith, mul-add c (count (λ e. 1) (ends a)) (all_ends arcs), ends_const c (ends a), along_const c arcs)
 
 -- The vertices of a unit, and two at the rim for it where it has one end.
 abbrev size_and_rim : End → Option End → ℕ

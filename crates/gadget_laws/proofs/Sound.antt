@@ -47,11 +47,8 @@ near_one a y x high own near =
 near_box : (arcs : List Arc) (f : ℕ → ℤ) (xs : List ℕ) → length xs ≡ length arcs
     → IsNear (λ k. (arc_at arcs k).floor) f xs → IsRaised 1 arcs xs (units_on arcs f xs) (listed f xs)
 near_box [] f [] l near = tt
-near_box (a ∷ arcs) f (x ∷ xs) l near = (
-  here.0,
-  here.1,
-  near_box arcs (λ k. f (suc k)) xs (omega arith) (λ k lk. near (suc k) (omega arith)),
-)
+near_box (a ∷ arcs) f (x ∷ xs) l near =
+    (here.0, here.1, near_box arcs (λ k. f (suc k)) xs (omega arith) (λ k lk. near (suc k) (omega arith)))
   where
     first : (pos a.floor ≤ℤ f 0) × (pos a.floor ≤ℤ pos x) × (unsigned_abs (f 0 -ℤ pos x) ≤ 2)
     first = near 0 (omega arith)
@@ -78,15 +75,8 @@ same_deviation net x y same =
 near_not_better : (net : Network) (c : Certificate) → IsWithinBounds net → IsAccepted net c → (f : ℕ → ℤ)
     → IsAdmissible net f → ((k : ℕ) → k < length net.arcs → unsigned_abs (f k -ℤ entries c.x k) ≤ 2)
     → deviation net (entries c.x) ≤ deviation net f
-near_not_better net c bounds accepted f af near = omega (
-  arith,
-  ints,
-  accepted.sums,
-  weak,
-  told.1,
-  own_cost,
-  same_deviation net (entries ys) f same,
-)
+near_not_better net c bounds accepted f af near =
+    omega (arith, ints, accepted.sums, weak, told.1, own_cost, same_deviation net (entries ys) f same)
   where
     ys : List ℕ
     ys = listed f c.x

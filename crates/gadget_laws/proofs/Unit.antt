@@ -249,8 +249,7 @@ unit_length copies_at used b c on left (Some right) = grind (
   length-append (end_marks copies_at used (is_active on left) left)
       (end_marks copies_at next (is_active on right) right ++ not (is_active on left) ∷ []),
   length-append (end_marks copies_at next (is_active on right) right) (not (is_active on left) ∷ []),
-  length-append (to_copies copies_at b c left) (to_copies copies_at (b + 1) (pos 0) right ++ inner_link b c left
-      ∷ []),
+  length-append (to_copies copies_at b c left) (to_copies copies_at (b + 1) (pos 0) right ++ inner_link b c left ∷ []),
   length-append (to_copies copies_at (b + 1) (pos 0) right) (inner_link b c left ∷ []),
   end_length copies_at used (is_active on left) left b c,
   end_length copies_at next (is_active on right) right (b + 1) (pos 0),
