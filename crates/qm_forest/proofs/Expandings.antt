@@ -16,172 +16,179 @@ use Rattle.qm_forest.proofs.Openings.{inside as the_inside}
 use Rattle.qm_forest.proofs.Openings.{in_tree, joined, mate_is, part_low, ring_from}
 use Rattle.qm_forest.proofs.Openings.{first_in, last_in, tree_is}
 
-module _ {g : WeightedGraph} (is : IsSmallGraph g) {t0 : ForestTables} (valid : IsValidFor g t0) (b : ℕ)
-    (high : g.n ≤ b) (inner : (forest_of t0).label b ≡ Inner) (weightless : (forest_of t0).weight b ≡ pos 0) where
-  abbrev d : Darts
-  d = darts_of g
+module _ {g : WeightedGraph} {t0 : ForestTables} {b : ℕ} (ready : CanOpen g t0 b) where
+  -- The set is matched, and its darts are darts of the graph.
+  pub matched : (forest_of t0).mate b ≢ None
+  matched none = (let clash : ◌≡◌ {A = Option ℕ} (Some (in_tree ready).dart) None =
+      sym (in_tree ready).mate ∙ none in absurd (cc clash))
+
+  mate_dart_is : {x : ℕ} → x ≡ dart_or ((forest_of t0).mate b) → x ≡ (in_tree ready).dart
+  mate_dart_is e = e ∙ ap dart_or (in_tree ready).mate
+
+  pub mate_low : {x : ℕ} → x ≡ dart_or ((forest_of t0).mate b) → x < 2 * length g.edges
+  mate_low e = rw (mate_dart_is e) (mate_is ready).tight.low
+
+  pub link_low : {x : ℕ} → x ≡ (forest_of t0).link b → x < 2 * length g.edges
+  link_low e = rw e (in_tree ready).tight.low
+
+  pub vertex_low : {t2 : ForestTables} → HasOpened t0 t2 b → (v x : ℕ) → v ≡ (darts_of g).near x
+      → x < 2 * length g.edges → v < length t2.hand
+  vertex_low opened v x e l = rw (opened.hand, ap length opened.same.hand, ready.valid.vertices, e)
+      ((are ready).near_low x l)
+
+-- An inner set of weight 0 that has been opened: the darts by which it was matched and linked, the parts in which they
+-- begin, and how many parts there are.
+pub record Expanding (g : WeightedGraph) (t0 t2 : ForestTables) (b mate link first last many : ℕ) : Type 0 where
+  pub ready : CanOpen g t0 b
+  pub opened : HasOpened t0 t2 b
+  pub mate_is : mate ≡ dart_or ((forest_of t0).mate b)
+  pub link_is : link ≡ (forest_of t0).link b
+  pub first_is : first ≡ (forest_of t2).out ((darts_of g).near mate)
+  pub last_is : last ≡ (forest_of t2).out ((darts_of g).near link)
+  pub many_is : many ≡ (forest_of t0).nest.parts b
+
+module _ {g : WeightedGraph} {t0 t2 : ForestTables} {b mate link first last many : ℕ}
+    (it : Expanding g t0 t2 b mate link first last many) where
+  open it use {ready, ready.{is, valid}, opened, link_is, many_is}
+
+  abbrev f2 : Forest
+  f2 = forest_of t2
 
   abbrev f0 : Forest
   f0 = forest_of t0
 
-  abbrev ready : CanOpen g t0 b
-  ready = record { is = is; valid = valid; high = high; inner = inner; weightless = weightless }
+  abbrev d : Darts
+  d = darts_of g
 
-  abbrev m : ℕ
-  m = (in_tree ready).dart
+  hand2 : length t2.hand ≡ g.n
+  hand2 = opened.hand ∙ (ap length opened.same.hand ∙ valid.vertices)
 
-  -- The set is matched, and its darts are darts of the graph.
-  pub matched : f0.mate b ≢ None
-  matched none = (let clash : ◌≡◌ {A = Option ℕ} (Some m) None =
-      sym (in_tree ready).mate ∙ none in absurd (cc clash))
+  parted : IsParted g.n (mated (labelled f0 b Outside) b None) f2
+      (listed f0.nest.after (f0.nest.head b) (f0.nest.parts b)) b
+  parted = rw (ap length opened.same.hand ∙ valid.vertices) at (subst (λ (x : Forest).
+      IsParted (length opened.left.hand) x f2 (listed x.nest.after (x.nest.head b) (x.nest.parts b)) b)
+      opened.gone opened.is)
 
-  pub mate_dart_is : {x : ℕ} → x ≡ dart_or (f0.mate b) → x ≡ m
-  mate_dart_is e = e ∙ ap dart_or (in_tree ready).mate
+  abbrev inside : ℕ → Bool
+  inside = the_inside ready
 
-  pub mate_low : {x : ℕ} → x ≡ m → x < 2 * length g.edges
-  mate_low e = rw e (mate_is ready).tight.low
+  part_top : (x : ℕ) → inside x ≡ true → IsOutermostIn t2 x
+  part_top x on =
+      let j : IsJoined ready f2.out f2.nest.after f2.nest.joint x = joined ready parted x on in (
+        d.near (f2.nest.joint x),
+        vertex_low ready opened (d.near (f2.nest.joint x)) (f2.nest.joint x) refl j.tight.low,
+        j.near_part,
+      )
 
-  pub link_low : {x : ℕ} → x ≡ f0.link b → x < 2 * length g.edges
-  link_low e = rw e (in_tree ready).tight.low
+  low2 : (x : ℕ) → inside x ≡ true → x < length t2.up
+  low2 x on = rw parted.size (part_low ready x on)
 
-  module _ {t2 : ForestTables} (opened : HasOpened t0 t2 b) where
-    abbrev f2 : Forest
-    f2 = forest_of t2
+  joint_low : (x : ℕ) → inside x ≡ true → f2.nest.joint x < 2 ^ 31
+  joint_low x on = omega (arith, (joined ready parted x on).tight.low, is.edges)
 
-    left_size : length opened.left.hand ≡ g.n
-    left_size = ap length opened.same.hand ∙ valid.vertices
+  m_is : mate ≡ (in_tree ready).dart
+  m_is = mate_dart_is ready it.mate_is
 
-    hand2 : length t2.hand ≡ g.n
-    hand2 = opened.hand ∙ left_size
+  first_is : first ≡ f2.out (d.near (in_tree ready).dart)
+  first_is = it.first_is ∙ ap (λ x. f2.out (d.near x)) m_is
 
-    pub parted : IsParted g.n (mated (labelled f0 b Outside) b None) f2
-        (listed f0.nest.after (f0.nest.head b) (f0.nest.parts b)) b
-    parted = rw left_size at (subst (λ (x : Forest). IsParted (length opened.left.hand) x f2
-        (listed x.nest.after (x.nest.head b) (x.nest.parts b)) b) opened.gone opened.is)
+  last_is : last ≡ f2.out (d.near (f0.link b))
+  last_is = it.last_is ∙ ap (λ x. f2.out (d.near x)) link_is
 
-    pub vertex_low : (v x : ℕ) → v ≡ d.near x → x < 2 * length g.edges → v < length t2.hand
-    vertex_low v x e l = rw (hand2, e) ((are ready).near_low x l)
+  first_marked : inside first ≡ true
+  first_marked = ap inside first_is ∙ first_in ready parted
 
-    abbrev inside : ℕ → Bool
-    inside = the_inside ready
+  last_marked : inside last ≡ true
+  last_marked = ap inside last_is ∙ last_in ready parted
 
-    part_top : (x : ℕ) → inside x ≡ true → IsOutermostIn t2 x
-    part_top x on =
-        let j : IsJoined ready f2.out f2.nest.after f2.nest.joint x =
-        joined ready parted x on in (
-          d.near (f2.nest.joint x),
-          vertex_low (d.near (f2.nest.joint x)) (f2.nest.joint x) refl j.tight.low,
-          j.near_part,
-        )
+  circle_at : (x : ℕ) → inside x ≡ true → IsCircle f2.nest.after x (f0.nest.parts b) inside
+  circle_at = ring_from ready parted
 
-    low2 : (x : ℕ) → inside x ≡ true → x < length t2.up
-    low2 x on = rw parted.size (part_low ready x on)
+  pub some : 1 ≤ many
+  some = rw many_is (circle_at first first_marked).some
 
-    joint_low : (x : ℕ) → inside x ≡ true → f2.nest.joint x < 2 ^ 31
-    joint_low x on = omega (arith, (joined ready parted x on).tight.low, is.edges)
+  pub places_low : (k : ℕ) → k < many → walk f2.nest.after first k < length t2.up
+  places_low k l = low2 (walk f2.nest.after first k) ((circle_at first first_marked).marked k)
 
-    module _ {m' l' first' last' many' v' w' : ℕ} (m_is : m' ≡ m) (l_is : l' ≡ f0.link b) (v_is : v' ≡ d.near m')
-        (w_is : w' ≡ d.near l') (first_at : first' ≡ f2.out v') (last_at : last' ≡ f2.out w') (many_is : many'
-        ≡ f0.nest.parts b) where
-      first_is : first' ≡ f2.out (d.near m)
-      first_is = first_at ∙ (ap f2.out v_is ∙ ap (λ x. f2.out (d.near x)) m_is)
+  pub darts_low : (k : ℕ) → k < many → f2.nest.joint (walk f2.nest.after first k) < 2 ^ 31
+  darts_low k l = joint_low (walk f2.nest.after first k) ((circle_at first first_marked).marked k)
 
-      last_is : last' ≡ f2.out (d.near (f0.link b))
-      last_is = last_at ∙ (ap f2.out w_is ∙ ap (λ x. f2.out (d.near x)) l_is)
+  -- The parts are matched.
+  module _ {t3 : ForestTables} (seen3 : forest_of t3 ≡ mated (paired f2 first many) first (Some mate))
+      (same3 : HasSameNest t2 t3) where
+    after3 : (forest_of t3).nest.after ≡ f2.nest.after
+    after3 = ap (λ (f : Forest). f.nest.after) seen3
 
-      first_marked : inside first' ≡ true
-      first_marked = ap inside first_is ∙ first_in ready parted
+    at3 : (x k : ℕ) → walk (forest_of t3).nest.after x k ≡ walk f2.nest.after x k
+    at3 x k = ap (λ (h : ℕ → ℕ). walk h x k) after3
 
-      last_marked : inside last' ≡ true
-      last_marked = ap inside last_is ∙ last_in ready parted
+    up3 : length t3.up ≡ length t2.up
+    up3 = ap length same3.up
 
-      circle_at : (x : ℕ) → inside x ≡ true → IsCircle f2.nest.after x (f0.nest.parts b) inside
-      circle_at = ring_from ready parted
+    pub reached3 : (k : ℕ) × (k < many) × (walk (forest_of t3).nest.after first k ≡ last)
+    reached3 = (let w : (k : ℕ) × (k < f0.nest.parts b) × (walk f2.nest.after first k ≡ last) =
+        (circle_at first first_marked).all last last_marked in
+        (w.0, subst (λ n. w.0 < n) (sym many_is) w.1, at3 first w.0 ∙ w.2))
 
-      pub some : 1 ≤ many'
-      some = rw many_is (circle_at first' first_marked).some
+    low_from : (x : ℕ) → inside x ≡ true → (k : ℕ) → walk (forest_of t3).nest.after x k < length t3.up
+    low_from x on k = rw (up3, at3 x k) (low2 (walk f2.nest.after x k) ((circle_at x on).marked k))
 
-      pub places_low : (k : ℕ) → k < many' → walk f2.nest.after first' k < length t2.up
-      places_low k l = low2 (walk f2.nest.after first' k) ((circle_at first' first_marked).marked k)
+    pub low3 : (k : ℕ) → k < many → walk (forest_of t3).nest.after first k < length t3.up
+    low3 k l = low_from first first_marked k
 
-      pub darts_low : (k : ℕ) → k < many' → f2.nest.joint (walk f2.nest.after first' k) < 2 ^ 31
-      darts_low k l = joint_low (walk f2.nest.after first' k) ((circle_at first' first_marked).marked k)
+    -- And hung into the tree.
+    module _ {course : Course} (way : IsCourse (forest_of t3).nest.after first last many course) where
+      front_marked : inside course.front ≡ true
+      front_marked = elim way.way [
+        | inl w ↦ ap inside w.1 ∙ first_marked
+        | inr w ↦ ap inside w.1 ∙ last_marked
+      ]
 
-      -- The parts are matched.
-      module _ {t3 : ForestTables} (seen3 : forest_of t3 ≡ mated (paired f2 first' many') first' (Some m'))
-          (same3 : HasSameNest t2 t3) where
-        after3 : (forest_of t3).nest.after ≡ f2.nest.after
-        after3 = ap (λ (f : Forest). f.nest.after) seen3
+      pub tops3 : (k : ℕ) → k < course.many → IsOutermostIn t3 (walk (forest_of t3).nest.after course.front k)
+      tops3 k l = outermost_kept same3 (at3 course.front k)
+          (part_top (walk f2.nest.after course.front k) ((circle_at course.front front_marked).marked k))
 
-        at3 : (x k : ℕ) → walk (forest_of t3).nest.after x k ≡ walk f2.nest.after x k
-        at3 x k = ap (λ (h : ℕ → ℕ). walk h x k) after3
+      pub front_low : (k : ℕ) → k < course.many → walk (forest_of t3).nest.after course.front k < length t3.up
+      front_low k l = low_from course.front front_marked k
 
-        up3 : length t3.up ≡ length t2.up
-        up3 = ap length same3.up
+      pub joints3 : (k : ℕ) → k < course.many
+          → (forest_of t3).nest.joint (walk (forest_of t3).nest.after course.front k) < 2 ^ 31
+      joints3 k l = rw (
+        at3 course.front k,
+        ap (λ (f : Forest). f.nest.joint (walk f2.nest.after course.front k)) seen3,
+      )
+          (joint_low (walk f2.nest.after course.front k) ((circle_at course.front front_marked).marked k))
 
-        pub reached3 : (k : ℕ) × (k < many') × (walk (forest_of t3).nest.after first' k ≡ last')
-        reached3 = (let w : (k : ℕ) × (k < f0.nest.parts b) × (walk f2.nest.after first' k ≡ last') =
-            (circle_at first' first_marked).all last' last_marked in
-            (w.0, subst (λ n. w.0 < n) (sym many_is) w.1, at3 first' w.0 ∙ w.2))
+      way2 : IsCourse f2.nest.after (f2.out (d.near (in_tree ready).dart)) (f2.out (d.near (f0.link b)))
+          (f0.nest.parts b) course
+      way2 = rw (after3, first_is, last_is, many_is) at way
 
-        low_from : (x : ℕ) → inside x ≡ true → (k : ℕ) → walk (forest_of t3).nest.after x k < length t3.up
-        low_from x on k = rw (up3, at3 x k) (low2 (walk f2.nest.after x k) ((circle_at x on).marked k))
+      module _ {f6 : Forest} (t4 : ForestTables) (seen4 : forest_of t4
+          ≡ hung (forest_of t3) course.front course.many course.forward) (seen6 : f6
+          ≡ linked (forest_of t4) last link) where
+        done : f6 ≡ laid ready parted course.front course.many course.forward
+        done = seen6 ∙ (ap (λ (f : Forest). linked f last link)
+            (seen4 ∙ ap (λ (f : Forest). hung f course.front course.many course.forward) seen3)
+            ∙ rw (first_is, many_is, m_is, last_is, link_is))
 
-        pub low3 : (k : ℕ) → k < many' → walk (forest_of t3).nest.after first' k < length t3.up
-        low3 k l = low_from first' first_marked k
+        pub expanded : IsExpanding d f0 f6 b
+        expanded = expanding ready parted way2 done
 
-        -- And hung into the tree.
-        module _ {course : Course} (way : IsCourse (forest_of t3).nest.after first' last' many' course) where
-          front_marked : inside course.front ≡ true
-          front_marked = elim way.way [
-            | inl w ↦ ap inside w.1 ∙ first_marked
-            | inr w ↦ ap inside w.1 ∙ last_marked
-          ]
+        abbrev tree : (r : ℕ) × (t0.root ≡ Some r) × IsTree d f0 r
+        tree = tree_is ready
 
-          pub tops3 : (k : ℕ) → k < course.many → IsOutermostIn t3 (walk (forest_of t3).nest.after course.front k)
-          tops3 k l = outermost_kept same3 (at3 course.front k)
-              (part_top (walk f2.nest.after course.front k) ((circle_at course.front front_marked).marked k))
-
-          pub front_low : (k : ℕ) → k < course.many → walk (forest_of t3).nest.after course.front k < length t3.up
-          front_low k l = low_from course.front front_marked k
-
-          pub joints3 : (k : ℕ) → k < course.many
-              → (forest_of t3).nest.joint (walk (forest_of t3).nest.after course.front k) < 2 ^ 31
-          joints3 k l = rw (
-            at3 course.front k,
-            ap (λ (f : Forest). f.nest.joint (walk f2.nest.after course.front k)) seen3,
-          )
-              (joint_low (walk f2.nest.after course.front k) ((circle_at course.front front_marked).marked k))
-
-          way2 : IsCourse f2.nest.after (f2.out (d.near m)) (f2.out (d.near (f0.link b))) (f0.nest.parts b) course
-          way2 = rw (after3, first_is, last_is, many_is) at way
-
-          module _ {f6 : Forest} (t4 : ForestTables) (seen4 : forest_of t4
-              ≡ hung (forest_of t3) course.front course.many course.forward) (seen6 : f6
-              ≡ linked (forest_of t4) last' l') where
-            done : f6 ≡ laid ready parted course.front course.many course.forward
-            done = seen6 ∙ (ap (λ (f : Forest). linked f last' l')
-                (seen4 ∙ ap (λ (f : Forest). hung f course.front course.many course.forward) seen3)
-                ∙ rw (first_is, many_is, m_is, last_is, l_is))
-
-            pub expanded : IsExpanding d f0 f6 b
-            expanded = expanding ready parted way2 done
-
-            abbrev tree : (r : ℕ) × (t0.root ≡ Some r) × IsTree d f0 r
-            tree = tree_is ready
-
-            pub expanded_valid : (t6 : ForestTables) → forest_of t6 ≡ f6 → length t6.hand ≡ length t2.hand
-                → t6.root ≡ t0.root → fixed_of t6 ≡ fixed_of t2 → IsValidFor g t6
-            expanded_valid t6 seen hand root fixed = record {
-              darts = darts_kept t6 valid (fixed ∙ (opened.fixed ∙ opened.same.fixed));
-              ends = ends_kept t6 valid (fixed ∙ (opened.fixed ∙ opened.same.fixed));
-              room = room_kept t6 valid (fixed ∙ (opened.fixed ∙ opened.same.fixed));
-              vertices = hand ∙ hand2;
-              valid = rw (root, tree.1) (rw seen (opened_valid (record {
-                are = are ready;
-                valid = rw tree.1 at valid.valid;
-                tree = tree.2;
-                opening = expanded.opening;
-                is = expanded.opened;
-              })));
-            }
+        pub expanded_valid : (t6 : ForestTables) → forest_of t6 ≡ f6 → length t6.hand ≡ length t2.hand
+            → t6.root ≡ t0.root → fixed_of t6 ≡ fixed_of t2 → IsValidFor g t6
+        expanded_valid t6 seen hand root fixed = record {
+          darts = darts_kept t6 valid (fixed ∙ (opened.fixed ∙ opened.same.fixed));
+          ends = ends_kept t6 valid (fixed ∙ (opened.fixed ∙ opened.same.fixed));
+          room = room_kept t6 valid (fixed ∙ (opened.fixed ∙ opened.same.fixed));
+          vertices = hand ∙ hand2;
+          valid = rw (root, tree.1) (rw seen (opened_valid (record {
+            are = are ready;
+            valid = rw tree.1 at valid.valid;
+            tree = tree.2;
+            opening = expanded.opening;
+            is = expanded.opened;
+          })));
+        }

@@ -116,9 +116,9 @@ module _ {g : WeightedGraph} {t0 : ForestTables} {b : ℕ} (ready : CanOpen g t0
       (holds_up valid.valid.nested x v l (part_inner x on) held)))
 
   -- The tables, once the set has left the tree, can be parted.
-  partable_after : (t1 : ForestTables) → forest_of t1 ≡ mated (labelled f0 b Outside) b None → HasSameNest t0 t1
+  pub partable : (t1 : ForestTables) → forest_of t1 ≡ mated (labelled f0 b Outside) b None → HasSameNest t0 t1
       → IsPartable t1 b
-  partable_after t1 gone same = record {
+  partable t1 gone same = record {
     high = rw (same.hand, valid.vertices) high;
     low = rw same.up set_low;
     top = (set_top.0, rw same.hand set_top.1, ap (λ (f : Forest). f.out set_top.0) gone ∙ set_top.2);
@@ -268,10 +268,3 @@ module _ {g : WeightedGraph} {t0 : ForestTables} {b : ℕ} (ready : CanOpen g t0
       first = sym route.begins;
       last = sym ends;
     }
-
-pub partable : (g : WeightedGraph) (is : IsSmallGraph g) (t0 : ForestTables) (valid : IsValidFor g t0) (b : ℕ)
-    (high : g.n ≤ b) (inner : (forest_of t0).label b ≡ Inner) (weightless : (forest_of t0).weight b ≡ pos 0)
-    (t1 : ForestTables) → forest_of t1 ≡ mated (labelled (forest_of t0) b Outside) b None → HasSameNest t0 t1
-    → IsPartable t1 b
-partable g is t0 valid b high inner weightless =
-    partable_after (record { is = is; valid = valid; high = high; inner = inner; weightless = weightless })

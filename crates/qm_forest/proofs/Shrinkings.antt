@@ -31,13 +31,22 @@ set_same f h b x same y = elim (cases_eq y b) [
   | inr ne ↦ set_there f b y x ne ∙ (same y ne ∙ sym (set_there h b y x ne))
 ]
 
-module _ (g : WeightedGraph) (is : IsSmallGraph g) (t0 : ForestTables) (valid : IsValidFor g t0) (start : ℕ)
-    (tight : IsTight (darts_of g) (forest_of t0) start)
-    (outer_a : (forest_of t0).label ((forest_of t0).out ((darts_of g).near start)) ≡ Outer)
-    (outer_c : (forest_of t0).label ((forest_of t0).out (far (darts_of g) start)) ≡ Outer)
-    (apart : (forest_of t0).out ((darts_of g).near start) ≢ (forest_of t0).out (far (darts_of g) start))
-    (top left right : ℕ) (met : IsClimbing (darts_of g) (forest_of t0) ((forest_of t0).out ((darts_of g).near start))
-    ((forest_of t0).out (far (darts_of g) start)) top top left right) where
+-- A dart that closes a cycle in the tree of valid tables: it is tight, it leads from one outer blossom to another, and
+-- the ways from these two to the root meet.
+pub record Closing (g : WeightedGraph) (t0 : ForestTables) (start top left right : ℕ) : Type 0 where
+  pub is : IsSmallGraph g
+  pub valid : IsValidFor g t0
+  pub tight : IsTight (darts_of g) (forest_of t0) start
+  pub outer_a : (forest_of t0).label ((forest_of t0).out ((darts_of g).near start)) ≡ Outer
+  pub outer_c : (forest_of t0).label ((forest_of t0).out (far (darts_of g) start)) ≡ Outer
+  pub apart : (forest_of t0).out ((darts_of g).near start) ≢ (forest_of t0).out (far (darts_of g) start)
+  pub met : IsClimbing (darts_of g) (forest_of t0) ((forest_of t0).out ((darts_of g).near start))
+      ((forest_of t0).out (far (darts_of g) start)) top top left right
+
+module _ {g : WeightedGraph} {t0 : ForestTables} {start top left right : ℕ}
+    (closing : Closing g t0 start top left right) where
+  open closing use {is, valid, tight, outer_a, outer_c, apart, met}
+
   abbrev pub d : Darts
   d = darts_of g
 
@@ -120,7 +129,7 @@ module _ (g : WeightedGraph) (is : IsSmallGraph g) (t0 : ForestTables) (valid : 
   abbrev pub joint : ℕ → ℕ
   joint = (laid_ring d f start left right).nest.joint
 
-  after_at : (k : ℕ) → k < left + right + 1 → after (at k) ≡ at (suc k)
+  after_at : (k : ℕ) → k < many → after (at k) ≡ at (suc k)
   after_at k l = by_place (cases_lt k left) (cases_eq k left)
     where
       by_place : (k < left) ⊎ (left ≤ k) → (k ≡ left) ⊎ (k ≢ left) → after (at k) ≡ at (suc k)
@@ -133,7 +142,7 @@ module _ (g : WeightedGraph) (is : IsSmallGraph g) (t0 : ForestTables) (valid : 
           lain_right ways f.nest.after way_a c (λ i. way_c (suc i)) (k - left - 1) m
           (omega (arith, h, ne, l)) ∙ sym (right_is (suc k) (suc (k - left - 1)) (omega (arith, h, ne))))
 
-  joint_at : (k : ℕ) → k < left + right + 1 → joint (at k) ≡ ring_dart d f a c left start k
+  joint_at : (k : ℕ) → k < many → joint (at k) ≡ ring_dart d f a c left start k
   joint_at k l = by_place (cases_lt k left) (cases_eq k left)
     where
       by_place : (k < left) ⊎ (left ≤ k) → (k ≡ left) ⊎ (k ≢ left) → joint (at k) ≡ ring_dart d f a c left start k
@@ -225,7 +234,7 @@ module _ (g : WeightedGraph) (is : IsSmallGraph g) (t0 : ForestTables) (valid : 
 
   -- The ring that is laid is one of outermost blossoms.
   pub tops_laid : (t1 : ForestTables) → forest_of t1 ≡ laid_ring d f start left right
-      → IsRingedAlike t0 t1 → (k : ℕ) → k < left + right + 1 → IsOutermostIn t1 (walk (λ i. get_or t1.after i 0) top k)
+      → IsRingedAlike t0 t1 → (k : ℕ) → k < many → IsOutermostIn t1 (walk (λ i. get_or t1.after i 0) top k)
   tops_laid t1 laid alike k l =
       let w : IsOutermost g.n f (walk after top k) = spot_out k l in (
         w.0,
@@ -234,11 +243,11 @@ module _ (g : WeightedGraph) (is : IsSmallGraph g) (t0 : ForestTables) (valid : 
       )
 
   -- The tables after the ring is laid, and after its blossoms have left the tree.
-  module _ (t1 t2 : ForestTables) (laid : forest_of t1 ≡ laid_ring d f start left right)
-      (alike : IsRingedAlike t0 t1) (gone : forest_of t2 ≡ left_alone (forest_of t1) top (left + right + 1))
+  module _ {t1 t2 : ForestTables} (laid : forest_of t1 ≡ laid_ring d f start left right)
+      (alike : IsRingedAlike t0 t1) (gone : forest_of t2 ≡ left_alone (forest_of t1) top many)
       (same : HasSameNest t1 t2) where
-    was : forest_of t2 ≡ left_alone (laid_ring d f start left right) top (left + right + 1)
-    was = gone ∙ ap (λ (x : Forest). left_alone x top (left + right + 1)) laid
+    was : forest_of t2 ≡ left_alone (laid_ring d f start left right) top (many)
+    was = gone ∙ ap (λ (x : Forest). left_alone x top (many)) laid
 
     after_is : (λ k. get_or t2.after k 0) ≡ after
     after_is = ap (λ (x : Forest). x.nest.after) was
@@ -276,7 +285,7 @@ module _ (g : WeightedGraph) (is : IsSmallGraph g) (t0 : ForestTables) (valid : 
     no_weight x high none = valid.valid.nested.weightless x (rw n_is at high) (rw parts_same at none)
 
     -- The ring is free to be gathered.
-    pub free_ring : IsFreeRing t2 top (left + right + 1)
+    pub free_ring : IsFreeRing t2 top (many)
     free_ring = record {
       row = record {
         some = omega arith;
@@ -295,10 +304,10 @@ module _ (g : WeightedGraph) (is : IsSmallGraph g) (t0 : ForestTables) (valid : 
     -- And what has come of it is one outer blossom, matched as the top was.
     module _ (t5 : ForestTables) {mate : Option ℕ} (mate_was : mate ≡ f.mate top) (t3 : ForestTables)
         {b : ℕ} (v : ℕ) (gathered : IsGathered (length t2.hand) (forest_of t2) (forest_of t3)
-        (listed (λ i. get_or t2.after i 0) top (left + right + 1)) top (left + right + 1) b)
-        (v_is : (forest_of t3).out v ≡ b) (done : forest_of t5
-        ≡ mated (labelled (forest_of t3) ((forest_of t3).out v) Outer) b mate) (root : (r : ℕ) → t1.root ≡ Some r
-        → t5.root ≡ Some (cond (listed (λ i. get_or t2.after i 0) top (left + right + 1) r) b r))
+        (listed (λ i. get_or t2.after i 0) top many) top many b) (v_is : (forest_of t3).out v ≡ b)
+        (done : forest_of t5 ≡ mated (labelled (forest_of t3) ((forest_of t3).out v) Outer) b mate)
+        (root : (r : ℕ) → t1.root ≡ Some r
+        → t5.root ≡ Some (cond (listed (λ i. get_or t2.after i 0) top many r) b r))
         (hand : length t5.hand ≡ length t1.hand) where
       marks : (x : ℕ) → listed (λ i. get_or t2.after i 0) top many x ≡ inside x
       marks x = ap (λ (h : ℕ → ℕ). listed h top many x) after_is
@@ -312,7 +321,7 @@ module _ (g : WeightedGraph) (is : IsSmallGraph g) (t0 : ForestTables) (valid : 
       joint_now : (forest_of t5).nest.joint ≡ joint
       joint_now = ap (λ (y : Forest). y.nest.joint) done ∙ (gathered.joint ∙ ap (λ (y : Forest). y.nest.joint) was)
 
-      shrunk : IsShrunk g.n f (forest_of t5) inside top b top (left + right + 1)
+      shrunk : IsShrunk g.n f (forest_of t5) inside top b top (many)
       shrunk = record {
         size = ap (λ (y : Forest). y.size) now ∙ (gathered.size ∙ ap (λ (y : Forest). y.size) was);
         holds_new = λ u l. ap (λ (y : Forest). y.holds b u) now ∙ (gathered.holds_new u (low u l)
@@ -357,7 +366,7 @@ module _ (g : WeightedGraph) (is : IsSmallGraph g) (t0 : ForestTables) (valid : 
           low : (u : ℕ) → u < g.n → u < length t2.hand
           low u l = rw n_is l
 
-      row_is : IsClosedRow d f (forest_of t5).nest.after (forest_of t5).nest.joint inside top (left + right + 1)
+      row_is : IsClosedRow d f (forest_of t5).nest.after (forest_of t5).nest.joint inside top (many)
       row_is = rw (after_now, joint_now) ring_is
 
       unused : IsUnused g.n f b
@@ -404,7 +413,7 @@ module _ (g : WeightedGraph) (is : IsSmallGraph g) (t0 : ForestTables) (valid : 
         inside = inside;
         top = top;
         set = b;
-        many = left + right + 1;
+        many = many;
         begins = marked left a (omega arith)
             (left_is left (omega arith) ∙ ap way_a (let z : left - left ≡ 0 = omega arith in z));
         ends = elim (cases_eq right 0) [

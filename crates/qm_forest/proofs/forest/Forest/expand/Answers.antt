@@ -1,102 +1,108 @@
 use Rattle.std.proofs.Common.{length, refl, ◌∙◌, ap}
-use Rattle.qm_forest.proofs.Expandings.{matched, mate_dart_is, mate_low, link_low, vertex_low, places_low, darts_low}
+use Rattle.def_forest.specs.Tables.{forest_of}
+use Rattle.qm_forest.proofs.Expandings.{Expanding, matched, mate_low, link_low, vertex_low, places_low, darts_low}
 use Rattle.qm_forest.proofs.Expandings.{reached3, low3, tops3, front_low, joints3, expanded, expanded_valid}
-use Rattle.qm_forest.proofs.Openings.{partable}
+use Rattle.qm_forest.proofs.Openings.{CanOpen, partable}
+use Rattle.qm_forest.proofs.forest.Forest.expand.Goals.{After-parts-many, After-outermost-last}
 use Rattle.qm_forest.proofs.forest.Forest.expand.Goals as goal
 
+ready : (c : After-parts-many) → CanOpen c.args.g.now.graph c.args.self.now c.args.b
+ready c = record {
+  is = c.args.g.now.small;
+  valid = c.requires.valid;
+  high = c.requires.set;
+  inner = c.requires.inner;
+  weightless = c.requires.weightless;
+}
+
+opened : (c : After-outermost-last) → Expanding c.args.g.now.graph c.args.self.now c.open.new.self c.args.b
+    c.mate_dart-mate.result c.link-link.result c.outermost-first.result c.outermost-last.result c.parts-many.result
+opened c = record {
+  ready = record {
+    is = c.args.g.now.small;
+    valid = c.requires.valid;
+    high = c.requires.set;
+    inner = c.requires.inner;
+    weightless = c.requires.weightless;
+  };
+  opened = c.open.ensures;
+  mate_is = c.mate_dart-mate.ensures;
+  link_is = c.link-link.ensures;
+  first_is = c.outermost-first.ensures.value ∙ ap (forest_of c.open.new.self).out c.near.ensures;
+  last_is = c.outermost-last.ensures.value ∙ ap (forest_of c.open.new.self).out c.near-2.ensures;
+  many_is = c.parts-many.ensures;
+}
+
 pub mate_dart-mate-requires-clause-matched : goal.mate_dart-mate-requires-clause-matched
-mate_dart-mate-requires-clause-matched c = matched c.args.g.now.small
-    c.requires.valid c.args.b c.requires.set c.requires.inner c.requires.weightless
+mate_dart-mate-requires-clause-matched c =
+    matched (ready (goal.at.mate_dart-mate-requires-clause-matched c).After-parts-many)
 
 pub open-requires-clause-partable : goal.open-requires-clause-partable
-open-requires-clause-partable c = partable _ c.args.g.now.small _ c.requires.valid
-    c.args.b c.requires.set c.requires.inner c.requires.weightless
+open-requires-clause-partable c = partable (ready (goal.at.open-requires-clause-partable c).After-parts-many)
 
 pub near-requires : goal.near-requires
-near-requires c = mate_low c.args.g.now.small c.requires.valid c.args.b c.requires.set c.requires.inner
-    c.requires.weightless (mate_dart_is c.args.g.now.small c.requires.valid c.args.b
-    c.requires.set c.requires.inner c.requires.weightless c.mate_dart-mate.ensures)
+near-requires c = mate_low (ready (goal.at.near-requires c).After-parts-many) c.mate_dart-mate.ensures
 
 pub outermost-first-requires : goal.outermost-first-requires
-outermost-first-requires c = vertex_low c.args.g.now.small c.requires.valid c.args.b c.requires.set c.requires.inner
-    c.requires.weightless c.open.ensures c.near.result c.mate_dart-mate.result c.near.ensures
-    (mate_low c.args.g.now.small c.requires.valid c.args.b c.requires.set c.requires.inner c.requires.weightless
-    (mate_dart_is c.args.g.now.small c.requires.valid c.args.b c.requires.set c.requires.inner c.requires.weightless
-    c.mate_dart-mate.ensures))
+outermost-first-requires c =
+    let it = ready (goal.at.outermost-first-requires c).After-parts-many in
+    vertex_low it c.open.ensures c.near.result c.mate_dart-mate.result c.near.ensures
+    (mate_low it c.mate_dart-mate.ensures)
 
 pub near-requires-2 : goal.near-requires-2
-near-requires-2 c = link_low c.args.g.now.small c.requires.valid c.args.b
-    c.requires.set c.requires.inner c.requires.weightless c.link-link.ensures
+near-requires-2 c = link_low (ready (goal.at.near-requires-2 c).After-parts-many) c.link-link.ensures
 
 pub outermost-last-requires : goal.outermost-last-requires
-outermost-last-requires c = vertex_low c.args.g.now.small c.requires.valid c.args.b
-    c.requires.set c.requires.inner c.requires.weightless c.open.ensures c.near-2.result
-    c.link-link.result c.near-2.ensures (link_low c.args.g.now.small c.requires.valid
-    c.args.b c.requires.set c.requires.inner c.requires.weightless c.link-link.ensures)
+outermost-last-requires c =
+    let it = ready (goal.at.outermost-last-requires c).After-parts-many in
+    vertex_low it c.open.ensures c.near-2.result c.link-link.result c.near-2.ensures (link_low it c.link-link.ensures)
 
 pub match_parts-requires-clause-low : goal.match_parts-requires-clause-low
-match_parts-requires-clause-low c = places_low c.args.g.now.small c.requires.valid c.args.b c.requires.set
-    c.requires.inner c.requires.weightless c.open.ensures (mate_dart_is c.args.g.now.small c.requires.valid c.args.b
-    c.requires.set c.requires.inner c.requires.weightless c.mate_dart-mate.ensures) c.link-link.ensures c.near.ensures
-    c.near-2.ensures c.outermost-first.ensures.value c.outermost-last.ensures.value c.parts-many.ensures
+match_parts-requires-clause-low c =
+    places_low (opened (goal.at.match_parts-requires-clause-low c).After-outermost-last)
 
 pub match_parts-requires-clause-joints : goal.match_parts-requires-clause-joints
-match_parts-requires-clause-joints c = darts_low c.args.g.now.small c.requires.valid c.args.b c.requires.set
-    c.requires.inner c.requires.weightless c.open.ensures (mate_dart_is c.args.g.now.small c.requires.valid c.args.b
-    c.requires.set c.requires.inner c.requires.weightless c.mate_dart-mate.ensures) c.link-link.ensures c.near.ensures
-    c.near-2.ensures c.outermost-first.ensures.value c.outermost-last.ensures.value c.parts-many.ensures
+match_parts-requires-clause-joints c =
+    darts_low (opened (goal.at.match_parts-requires-clause-joints c).After-outermost-last)
 
 pub course-course-requires-clause-reached : goal.course-course-requires-clause-reached
-course-course-requires-clause-reached c = reached3 c.args.g.now.small c.requires.valid c.args.b c.requires.set
-    c.requires.inner c.requires.weightless c.open.ensures (mate_dart_is c.args.g.now.small c.requires.valid c.args.b
-    c.requires.set c.requires.inner c.requires.weightless c.mate_dart-mate.ensures) c.link-link.ensures c.near.ensures
-    c.near-2.ensures c.outermost-first.ensures.value c.outermost-last.ensures.value c.parts-many.ensures
+course-course-requires-clause-reached c =
+    reached3 (opened (goal.at.course-course-requires-clause-reached c).After-outermost-last)
     c.match_parts.ensures.seen c.match_parts.ensures.same
 
 pub course-course-requires-clause-low : goal.course-course-requires-clause-low
-course-course-requires-clause-low c = low3 c.args.g.now.small c.requires.valid c.args.b c.requires.set c.requires.inner
-    c.requires.weightless c.open.ensures (mate_dart_is c.args.g.now.small c.requires.valid c.args.b c.requires.set
-    c.requires.inner c.requires.weightless c.mate_dart-mate.ensures) c.link-link.ensures c.near.ensures c.near-2.ensures
-    c.outermost-first.ensures.value c.outermost-last.ensures.value c.parts-many.ensures c.match_parts.ensures.seen
-    c.match_parts.ensures.same
+course-course-requires-clause-low c =
+    low3 (opened (goal.at.course-course-requires-clause-low c).After-outermost-last)
+    c.match_parts.ensures.seen c.match_parts.ensures.same
 
 pub hang_parts-requires-clause-tops : goal.hang_parts-requires-clause-tops
-hang_parts-requires-clause-tops c = tops3 c.args.g.now.small c.requires.valid c.args.b c.requires.set c.requires.inner
-    c.requires.weightless c.open.ensures (mate_dart_is c.args.g.now.small c.requires.valid c.args.b c.requires.set
-    c.requires.inner c.requires.weightless c.mate_dart-mate.ensures) c.link-link.ensures c.near.ensures c.near-2.ensures
-    c.outermost-first.ensures.value c.outermost-last.ensures.value c.parts-many.ensures c.match_parts.ensures.seen
-    c.match_parts.ensures.same c.course-course.ensures
+hang_parts-requires-clause-tops c =
+    tops3 (opened (goal.at.hang_parts-requires-clause-tops c).After-outermost-last)
+    c.match_parts.ensures.seen c.match_parts.ensures.same c.course-course.ensures
 
 pub hang_parts-requires-clause-low : goal.hang_parts-requires-clause-low
-hang_parts-requires-clause-low c = front_low c.args.g.now.small c.requires.valid c.args.b c.requires.set
-    c.requires.inner c.requires.weightless c.open.ensures (mate_dart_is c.args.g.now.small c.requires.valid c.args.b
-    c.requires.set c.requires.inner c.requires.weightless c.mate_dart-mate.ensures) c.link-link.ensures c.near.ensures
-    c.near-2.ensures c.outermost-first.ensures.value c.outermost-last.ensures.value c.parts-many.ensures
+hang_parts-requires-clause-low c =
+    front_low (opened (goal.at.hang_parts-requires-clause-low c).After-outermost-last)
     c.match_parts.ensures.seen c.match_parts.ensures.same c.course-course.ensures
 
 pub hang_parts-requires-clause-joints : goal.hang_parts-requires-clause-joints
-hang_parts-requires-clause-joints c = joints3 c.args.g.now.small c.requires.valid c.args.b c.requires.set
-    c.requires.inner c.requires.weightless c.open.ensures (mate_dart_is c.args.g.now.small c.requires.valid c.args.b
-    c.requires.set c.requires.inner c.requires.weightless c.mate_dart-mate.ensures) c.link-link.ensures c.near.ensures
-    c.near-2.ensures c.outermost-first.ensures.value c.outermost-last.ensures.value c.parts-many.ensures
+hang_parts-requires-clause-joints c =
+    joints3 (opened (goal.at.hang_parts-requires-clause-joints c).After-outermost-last)
     c.match_parts.ensures.seen c.match_parts.ensures.same c.course-course.ensures
 
 pub returns-clause-changed : goal.returns-clause-changed
-returns-clause-changed c = expanded c.args.g.now.small c.requires.valid c.args.b c.requires.set c.requires.inner
-    c.requires.weightless c.open.ensures (mate_dart_is c.args.g.now.small c.requires.valid c.args.b c.requires.set
-    c.requires.inner c.requires.weightless c.mate_dart-mate.ensures) c.link-link.ensures c.near.ensures c.near-2.ensures
-    c.outermost-first.ensures.value c.outermost-last.ensures.value c.parts-many.ensures c.match_parts.ensures.seen
-    c.match_parts.ensures.same c.course-course.ensures c.hang_parts.new.self c.hang_parts.ensures.seen
-    c.set_link.ensures.seen
+returns-clause-changed c =
+    expanded (opened (goal.at.returns-clause-changed c).After-outermost-last)
+    c.match_parts.ensures.seen c.match_parts.ensures.same c.course-course.ensures c.hang_parts.new.self
+    c.hang_parts.ensures.seen c.set_link.ensures.seen
 
 pub returns-clause-valid : goal.returns-clause-valid
-returns-clause-valid c = expanded_valid c.args.g.now.small c.requires.valid c.args.b c.requires.set c.requires.inner
-    c.requires.weightless c.open.ensures (mate_dart_is c.args.g.now.small c.requires.valid c.args.b c.requires.set
-    c.requires.inner c.requires.weightless c.mate_dart-mate.ensures) c.link-link.ensures c.near.ensures c.near-2.ensures
-    c.outermost-first.ensures.value c.outermost-last.ensures.value c.parts-many.ensures c.match_parts.ensures.seen
-    c.match_parts.ensures.same c.course-course.ensures c.hang_parts.new.self c.hang_parts.ensures.seen
-    c.set_link.ensures.seen c.set_link.new.self refl (ap length (c.set_link.ensures.same.hand
-    ∙ (c.hang_parts.ensures.same.hand ∙ c.match_parts.ensures.same.hand)))
-    (c.set_link.ensures.same.root ∙ (c.hang_parts.ensures.same.root ∙
-    (c.match_parts.ensures.same.root ∙ (c.open.ensures.root ∙ c.open.ensures.same.root))))
-    (c.set_link.ensures.same.fixed ∙ (c.hang_parts.ensures.same.fixed ∙ c.match_parts.ensures.same.fixed))
+returns-clause-valid c =
+    let made = c.match_parts.ensures in
+    let hung = c.hang_parts.ensures in
+    let linked = c.set_link.ensures in
+    expanded_valid (opened (goal.at.returns-clause-valid c).After-outermost-last) made.seen made.same
+    c.course-course.ensures c.hang_parts.new.self hung.seen linked.seen c.set_link.new.self refl
+    (ap length (linked.same.hand ∙ (hung.same.hand ∙ made.same.hand)))
+    (linked.same.root ∙ (hung.same.root ∙ (made.same.root ∙ (c.open.ensures.root ∙ c.open.ensures.same.root))))
+    (linked.same.fixed ∙ (hung.same.fixed ∙ made.same.fixed))
