@@ -6,22 +6,22 @@ use Rattle.std.proofs.Math.ListN.{set}
 use Rattle.std.proofs.lemmas.Int.{ints}
 use Rattle.std.proofs.lemmas.Bool.{cases_eq, cases_Bool, cond-true, cond-false, eq-eqb, ne_eqb}
 use Rattle.def_forest.specs.Forests.{walk, ring_sum, set_at}
-use Rattle.def_forest.specs.Tables.{GraphSize, ForestTables, forest_of, climbs, label_at, out_of, up_at}
+use Rattle.def_forest.specs.Tables.{ForestTables, forest_of, climbs, label_at, out_of, up_at}
 use Rattle.def_forest.specs.declared.kinds.Label.TheVariants.{Outside}
 use Rattle.forest_laws.specs.Walks.{listed}
 use Rattle.forest_laws.proofs.Walks.{listed_place, writes_all, writes_at, writes_off}
 use Rattle.forest_laws.proofs.Writes.{set_here, set_there, true_false}
 use Rattle.qm_pool.specs.declared.pool.Node.{Node}
-use Rattle.qm_forest.specs.Gathers.{AreEnclosed, AreJoined, HasRenamedRow, IsGathered, TookSet}
+use Rattle.qm_forest.specs.Gathers.{AreEnclosed, AreJoined, HasRenamedRow, IsGathered, TookSet, root_around}
 use Rattle.qm_forest.specs.Ties.{AreTied, HiddenTables, HasSizes, HasNumbers, IsInUse, IsLaidOut, IsListed}
 use Rattle.qm_forest.specs.Ties.{IsPooled, IsTrailed, added, told}
-use Rattle.qm_forest.specs.{Views.tables_of, Views.hidden_of, declared.tables.Handles.Handles}
-use Rattle.qm_forest.specs.{declared.tables.Lists.Lists, declared.tables.Rings.Rings, declared.tables.Trail.Trail}
-use Rattle.qm_forest.specs.{declared.tables.Tree.Tree, declared.tables.Weights.Weights}
+use Rattle.qm_forest.specs.{declared.forest.Forest.TheInside.Inside, declared.tables.Handles.Handles}
+use Rattle.qm_forest.specs.{declared.tables.Lists.Lists, declared.tables.Rings.Rings}
 use Rattle.qm_forest.proofs.Enclosed.{Enclosing, climb_enclosed, holds_new, holds_same}
 use Rattle.qm_forest.proofs.GatheredRows.{FreeRow, alone, b_off, b_outside, big_in, handle_at, handle_top, in_row_out}
 use Rattle.qm_forest.proofs.GatheredRows.{lasts_differ, no_out, own_handle, own_list, row_ended, row_list, row_outside}
 use Rattle.qm_forest.proofs.GatheredRows.{row_top, unused}
+use Rattle.qm_forest.proofs.Insides.{seen_in, hidden_in}
 use Rattle.qm_forest.proofs.JoinedLists.{list_agrees, list_has_last, list_last, list_member, list_renamed, row_joined}
 use Rattle.qm_forest.proofs.{JoinedLists.walk_agrees, JoinedRows.ring_sum_above, KeptTies.numbers_kept}
 use Rattle.qm_forest.proofs.{KeptTies.tied_as, KeptTies.trail_kept, Nests.out_used, Nests.rank_few, Nests.rank_passed}
@@ -29,26 +29,24 @@ use Rattle.qm_forest.proofs.{Nests.rank_some, Pooled.pool_changed, Ranges.read_n
 
 -- A free ring that is gathered: its vertices got one handle, its lists were joined, and set b, which was free, is
 -- around its blossoms.
-pub record Gathering (h h2 : Handles) (l l2 : Lists) (r r2 : Rings) (trail : Trail) (w : Weights) (e : Tree)
-    (pool pool2 : List (Option Node)) (room : Option GraphSize) (root2 : Option ℕ) (front many b big : ℕ)
-    : Type 0 where
-  pub free : FreeRow (tables_of h l r trail w e room) (hidden_of h l trail pool) front many b big
-  pub took : TookSet pool pool2 (length h.hand.items) b
-  pub renamed : HasRenamedRow h h2 l r.after.items front many big
-  pub joined : AreJoined l l2 r.after.items front many b
-  pub enclosed : AreEnclosed r r2 front many b
-  pub root_is : root2 ≡ None → e.root ≡ None
+pub record Gathering (s : Inside) (h2 : Handles) (l2 : Lists) (r2 : Rings) (pool2 : List (Option Node))
+    (root2 : Option ℕ) (front many b big : ℕ) : Type 0 where
+  pub free : FreeRow (seen_in s) (hidden_in s) front many b big
+  pub took : TookSet s.pool pool2 (length s.handles.hand.items) b
+  pub renamed : HasRenamedRow s.handles h2 s.lists s.rings.after.items front many big
+  pub joined : AreJoined s.lists l2 s.rings.after.items front many b
+  pub enclosed : AreEnclosed s.rings r2 front many b
+  pub root_is : root2 ≡ root_around r2.up.items b s.tree.root
 
-module _ {h h2 : Handles} {l l2 : Lists} {r r2 : Rings} {trail : Trail} {w : Weights} {e : Tree}
-    {pool pool2 : List (Option Node)} {room : Option GraphSize} {root2 : Option ℕ} {front many b big : ℕ}
-    (gathering : Gathering h h2 l l2 r r2 trail w e pool pool2 room root2 front many b big) where
+module _ {s : Inside} {h2 : Handles} {l2 : Lists} {r2 : Rings} {pool2 : List (Option Node)} {root2 : Option ℕ}
+    {front many b big : ℕ} (gathering : Gathering s h2 l2 r2 pool2 root2 front many b big) where
   open gathering use {free, free.{tied, ring, high, low, dead}, took, renamed, joined, enclosed, root_is}
 
   abbrev t : ForestTables
-  t = tables_of h l r trail w e room
+  t = seen_in s
 
   abbrev hid : HiddenTables
-  hid = hidden_of h l trail pool
+  hid = hidden_in s
 
   abbrev n : ℕ
   n = length t.hand
@@ -353,8 +351,12 @@ module _ {h h2 : Handles} {l l2 : Lists} {r r2 : Rings} {trail : Trail} {w : Wei
 
   numbers_new : HasNumbers h2.hand.items (set t.top handle b) r2.up.items t.base t.label t.delta root2 h2.q.items
       hid.off
-  numbers_new = numbers_kept tied (ring.weightless b high dead) renamed.hands enclosed.size holds_old root_is told_new
-      moved_new
+  numbers_new = numbers_kept tied (ring.weightless b high dead) renamed.hands enclosed.size holds_old
+      (λ none. no_root s.tree.root (sym root_is ∙ none)) told_new moved_new
+    where
+      no_root : (o : Option ℕ) → root_around r2.up.items b o ≡ None → o ≡ None
+      no_root None n = refl
+      no_root (Some x) n = absurd (cc n)
 
   trail_new : IsTrailed n h2.hand.items (set t.top handle b) t.label t.trail hid.touched
   trail_new = trail_kept tied.trail (λ v lv named. elim (cases_Bool (inside (out v))) [

@@ -16,6 +16,7 @@ pub mod Enclosed
 pub mod JoinedLists
 pub mod RenamedRows
 pub mod JoinedRows
+pub mod Insides
 pub mod Nests
 pub mod Gathered
 pub mod GatheredRows

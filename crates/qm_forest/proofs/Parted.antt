@@ -5,17 +5,17 @@ use Rattle.std.proofs.Common.{inr, arith, length-set, get_or-set_same, get_or-se
 use Rattle.std.proofs.{Math.ListN.set, lemmas.Bool.cases_eq, lemmas.Bool.cases_Bool}
 use Rattle.std.specs.Prelude.{slice_get}
 use Rattle.def_forest.specs.{Forests.walk, Forests.set_at}
-use Rattle.def_forest.specs.Tables.{GraphSize, ForestTables, forest_of, climbs, label_at, out_of, up_at}
+use Rattle.def_forest.specs.Tables.{ForestTables, forest_of, climbs, label_at, out_of, up_at}
 use Rattle.forest_laws.specs.Walks.{listed, writes}
 use Rattle.forest_laws.proofs.Walks.{listed_place, writes_at, writes_off}
 use Rattle.forest_laws.proofs.Writes.{set_here, set_there, true_false}
 use Rattle.qm_pool.specs.declared.pool.Node.{Node}
 use Rattle.qm_forest.specs.Parts.{AreOpened, HasHandedRow, IsParted}
 use Rattle.qm_forest.specs.Ties.{AreTied, HiddenTables, HasSizes, HasNumbers, IsInUse, IsLaidOut, IsPooled, IsTrailed}
-use Rattle.qm_forest.specs.{Ties.added, Ties.told, Views.tables_of, Views.hidden_of, declared.tables.Handles.Handles}
-use Rattle.qm_forest.specs.{declared.tables.Lists.Lists, declared.tables.Rings.Rings, declared.tables.Trail.Trail}
-use Rattle.qm_forest.specs.{declared.tables.Tree.Tree, declared.tables.Weights.Weights}
-use Rattle.qm_forest.proofs.{JoinedLists.list_renamed, KeptTies.numbers_kept, KeptTies.tied_as, KeptTies.trail_kept}
+use Rattle.qm_forest.specs.{Ties.added, Ties.told, declared.tables.Handles.Handles}
+use Rattle.qm_forest.specs.{declared.forest.Forest.TheInside.Inside, declared.tables.Rings.Rings}
+use Rattle.qm_forest.proofs.{Insides.seen_in, Insides.hidden_in, JoinedLists.list_renamed}
+use Rattle.qm_forest.proofs.{KeptTies.numbers_kept, KeptTies.tied_as, KeptTies.trail_kept}
 use Rattle.qm_forest.proofs.{Nests.came_past, Nests.leader_out, Pooled.pool_changed, Ranges.read_nat}
 use Rattle.qm_forest.proofs.{TiedWrites.entry_set, PartedWays.PartedWay, PartedWays.alone, PartedWays.at_in}
 use Rattle.qm_forest.proofs.PartedWays.{climb_parted, fresh_part, fresh_place, fresh_together, holds_none, holds_old}
@@ -35,27 +35,26 @@ writes_has P f place value (suc k) x values was =
     by_place (inr ne) more = rw (set_there (writes f place value k) (place k) x (value k) ne) more
 
 -- A set that is parted: its vertices are handed over to its parts, and its number is given back.
-pub record Parting (h h2 : Handles) (l : Lists) (r r2 : Rings) (trail : Trail) (w : Weights) (e : Tree)
-    (pool pool2 : List (Option Node)) (room : Option GraphSize) (b : ℕ) : Type 0 where
-  pub way : PartedWay (tables_of h l r trail w e room) (hidden_of h l trail pool) b r2.up.items
-  pub handed : HasHandedRow h h2 l r.after.items (get_or r.head.items b 0) (get_or r.parts.items b 0) b
-  pub opened : AreOpened r r2 (get_or r.head.items b 0) (get_or r.parts.items b 0) b
+pub record Parting (s : Inside) (h2 : Handles) (r2 : Rings) (pool2 : List (Option Node)) (b : ℕ) : Type 0 where
+  pub way : PartedWay (seen_in s) (hidden_in s) b r2.up.items
+  pub handed : HasHandedRow s.handles h2 s.lists s.rings.after.items (get_or s.rings.head.items b 0)
+      (get_or s.rings.parts.items b 0) b
+  pub opened : AreOpened s.rings r2 (get_or s.rings.head.items b 0) (get_or s.rings.parts.items b 0) b
   pub id : ℕ
-  pub is : b ≡ length h.hand.items + id
+  pub is : b ≡ length s.handles.hand.items + id
   pub node : Node
-  pub was : slice_get pool id ≡ Some (Some node)
-  pub gave : pool2 ≡ set pool id None
+  pub was : slice_get s.pool id ≡ Some (Some node)
+  pub gave : pool2 ≡ set s.pool id None
 
-module _ {h h2 : Handles} {l : Lists} {r r2 : Rings} {trail : Trail} {w : Weights} {e : Tree}
-    {pool pool2 : List (Option Node)} {room : Option GraphSize} {b : ℕ}
-    (parting : Parting h h2 l r r2 trail w e pool pool2 room b) where
+module _ {s : Inside} {h2 : Handles} {r2 : Rings} {pool2 : List (Option Node)} {b : ℕ}
+    (parting : Parting s h2 r2 pool2 b) where
   open parting use {way, way.{tied, ready}, handed, opened}
 
   abbrev t : ForestTables
-  t = tables_of h l r trail w e room
+  t = seen_in s
 
   abbrev hid : HiddenTables
-  hid = hidden_of h l trail pool
+  hid = hidden_in s
 
   abbrev n : ℕ
   n = length t.hand
@@ -265,14 +264,17 @@ module _ {h h2 : Handles} {l : Lists} {r r2 : Rings} {trail : Trail} {w : Weight
   pool_new = rw (opened.parts, parting.gave) (pool_changed tied.pool parting.id ready.high ready.low tied.sizes.parts
       parting.is parting.was (inr (parting.node, refl, ready.live)) None 0 (inl (refl, refl)))
 
+  abbrev pub after_parting : Inside
+  after_parting = record s { handles = h2; rings = r2; pool = pool2 }
+
   -- The tie after a set was parted.
-  pub tied_parted : AreTied (tables_of h2 l r2 trail w e room) (hidden_of h2 l trail pool2)
+  pub tied_parted : AreTied (seen_in after_parting) (hidden_in after_parting)
   tied_parted = rw (opened.after, opened.joint, opened.head)
       (tied_as {t = parted} {hid = parted_hidden} handed.hands opened.size sizes_new nest_new numbers_new trail_new
       pool_new)
 
   -- What the forest sees.
-  pub parted_is : IsParted n (forest_of t) (forest_of (tables_of h2 l r2 trail w e room)) inside b
+  pub parted_is : IsParted n (forest_of t) (forest_of (seen_in after_parting)) inside b
   parted_is = rw (opened.after, opened.joint, opened.head) (record {
     size = opened.size;
     holds = λ x v ne lv. ap (λ m. climbs (up_at r2.up.items) m x v) handed.hands ∙ holds_old way x v ne lv;

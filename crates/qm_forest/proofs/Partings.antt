@@ -5,156 +5,125 @@ use Rattle.std.proofs.Math.ListN.{set}
 use Rattle.std.proofs.lemmas.Bool.{cases_eq, cases_lt}
 use Rattle.std.specs.Prelude.{slice_get}
 use Rattle.def_forest.specs.Forests.{Forest, walk}
-use Rattle.def_forest.specs.Tables.{GraphSize, ForestTables, forest_of, climbs, up_at}
+use Rattle.def_forest.specs.Tables.{ForestTables, forest_of, climbs, up_at}
 use Rattle.forest_laws.specs.Walks.{listed}
 use Rattle.forest_laws.proofs.Walks.{listed_place}
 use Rattle.qm_pool.specs.declared.pool.Node.{Node}
 use Rattle.qm_forest.specs.{Gathers.lists_at, Parts.HasHandedRow, Parts.HasPartLists, Parts.AreOpened, Parts.IsPartable}
-use Rattle.qm_forest.specs.{Parts.IsParted, Ties.AreTied, Ties.HiddenTables, Ties.IsListed}
-use Rattle.qm_forest.specs.{Views.tables_of, Views.hidden_of, declared.tables.Handles.Handles}
-use Rattle.qm_forest.specs.{declared.tables.Lists.Lists, declared.tables.Rings.Rings, declared.tables.Trail.Trail}
-use Rattle.qm_forest.specs.{declared.tables.Tree.Tree, declared.tables.Weights.Weights}
-use Rattle.qm_forest.proofs.{Gatherings.q_small, JoinedLists.list_few, Parted.Parting, Parted.tied_parted}
-use Rattle.qm_forest.proofs.{Parted.parted_is, PartedWays.PartedWay, PartedWays.part_fresh, PartedWays.part_used}
+use Rattle.qm_forest.specs.{Parts.IsParted, Ties.AreTied, Ties.IsListed}
+use Rattle.qm_forest.specs.{declared.forest.Forest.TheInside.Inside, declared.tables.Handles.Handles}
+use Rattle.qm_forest.specs.{declared.tables.Rings.Rings}
+use Rattle.qm_forest.proofs.{Gatherings.q_small, Insides.seen_in, Insides.hidden_in, JoinedLists.list_few}
+use Rattle.qm_forest.proofs.{Parted.Parting, PartedWays.PartedWay, PartedWays.part_fresh, PartedWays.part_used}
 use Rattle.qm_forest.proofs.PartedWays.{leader_in, out_in, at_in}
 
-module _ (h : Handles) (l : Lists) (r : Rings) (trail : Trail) (w : Weights) (e : Tree) (pool : List (Option Node))
-    (room : Option GraphSize) (tied : AreTied (tables_of h l r trail w e room) (hidden_of h l trail pool))
-    (b : ℕ) (ready : IsPartable (tables_of h l r trail w e room) b) where
-  abbrev t : ForestTables
-  t = tables_of h l r trail w e room
+-- A set of weight 0 outside the tree whose ring has been opened.
+pub record Opened (s : Inside) (r2 : Rings) (b : ℕ) : Type 0 where
+  pub tied : AreTied (seen_in s) (hidden_in s)
+  pub ready : IsPartable (seen_in s) b
+  pub opened : AreOpened s.rings r2 (get_or s.rings.head.items b 0) (get_or s.rings.parts.items b 0) b
 
-  abbrev hid : HiddenTables
-  hid = hidden_of h l trail pool
+module _ {s : Inside} {r2 : Rings} {b : ℕ} (it : Opened s r2 b) where
+  open it use {tied, ready, opened}
 
   abbrev n : ℕ
-  n = length h.hand.items
+  n = length s.handles.hand.items
 
   abbrev front : ℕ
-  front = get_or r.head.items b 0
+  front = get_or s.rings.head.items b 0
 
   abbrev many : ℕ
-  many = get_or r.parts.items b 0
+  many = get_or s.rings.parts.items b 0
 
   abbrev at : ℕ → ℕ
-  at k = walk (λ i. get_or r.after.items i 0) front k
+  at k = walk (λ i. get_or s.rings.after.items i 0) front k
 
-  pub set_live : (id : ℕ) × (b ≡ n + id) × (node : Node) × (slice_get pool id ≡ Some (Some node))
+  pub set_live : (id : ℕ) × (b ≡ n + id) × (node : Node) × (slice_get s.pool id ≡ Some (Some node))
   set_live =
       let is : b ≡ n + (b - n) = omega (arith, ready.high) in
-      let live : (node : Node) × (slice_get pool (b - n) ≡ Some (Some node)) =
-      tied.pool.live (b - n) (λ none. ready.live (ap (λ x. get_or r.parts.items x 0) is ∙ none)) in
+      let live : (node : Node) × (slice_get s.pool (b - n) ≡ Some (Some node)) =
+      tied.pool.live (b - n) (λ none. ready.live (ap (λ x. get_or s.rings.parts.items x 0) is ∙ none)) in
       (b - n, is, live.0, live.1)
 
-  module _ {r2 : Rings} (opened : AreOpened r r2 front many b) where
-    way : PartedWay t hid b r2.up.items
-    way = record { tied = tied; ready = ready; up_is = opened.up }
+  way : PartedWay (seen_in s) (hidden_in s) b r2.up.items
+  way = record { tied = tied; ready = ready; up_is = opened.up }
 
-    list_at : (k : ℕ) → k < many → IsListed n (λ i. get_or l.following.items i 0) (get_or l.first.items (at k) 0)
-        (get_or l.last.items (at k) 0) (get_or l.rank.items (at k) 0) (climbs (up_at r.up.items) n (at k))
-    list_at k lk = tied.nest.members (at k) (ready.row.low k lk) (part_used way k lk)
+  list_at : (k : ℕ) → k < many → IsListed n (λ i. get_or s.lists.following.items i 0)
+      (get_or s.lists.first.items (at k) 0) (get_or s.lists.last.items (at k) 0) (get_or s.lists.rank.items (at k) 0)
+      (climbs (up_at s.rings.up.items) n (at k))
+  list_at k lk = tied.nest.members (at k) (ready.row.low k lk) (part_used way k lk)
 
-    on_list : (k v : ℕ) → k < many → lists_at l (at k) v ≡ true
-        → (v < n) × (climbs (up_at r.up.items) n (at k) v ≡ true)
-    on_list k v lk on =
-        let p : (j : ℕ) × (j < get_or l.rank.items (at k) 0) × (walk (λ i. get_or l.following.items i 0)
-        (get_or l.first.items (at k) 0) j ≡ v) = listed_place _ _ _ v on in
-        let lv : v < n = rw p.2 at ((list_at k lk).low p.0 p.1) in
-        (lv, sym ((list_at k lk).all v lv) ∙ on)
+  on_list : (k v : ℕ) → k < many → lists_at s.lists (at k) v ≡ true
+      → (v < n) × (climbs (up_at s.rings.up.items) n (at k) v ≡ true)
+  on_list k v lk on =
+      let p : (j : ℕ) × (j < get_or s.lists.rank.items (at k) 0) × (walk (λ i. get_or s.lists.following.items i 0)
+      (get_or s.lists.first.items (at k) 0) j ≡ v) = listed_place _ _ _ v on in
+      let lv : v < n = rw p.2 at ((list_at k lk).low p.0 p.1) in
+      (lv, sym ((list_at k lk).all v lv) ∙ on)
 
-    fresh_at : (k v : ℕ) → k < many → lists_at l (at k) v ≡ true → walk (up_at r2.up.items) v n ≡ at k
-    fresh_at k v lk on = part_fresh way k v lk (on_list k v lk on).0 (on_list k v lk on).1
+  fresh_at : (k v : ℕ) → k < many → lists_at s.lists (at k) v ≡ true → walk (up_at r2.up.items) v n ≡ at k
+  fresh_at k v lk on = part_fresh way k v lk (on_list k v lk on).0 (on_list k v lk on).1
 
-    apart : (i j v : ℕ) → i < many → j < many → lists_at l (at i) v ≡ true → lists_at l (at j) v ≡ true → i ≡ j
-    apart i j v li lj oi oj = by_order (cases_eq i j) (cases_lt i j)
-      where
-        same : at i ≡ at j
-        same = sym (fresh_at i v li oi) ∙ fresh_at j v lj oj
+  apart : (i j v : ℕ) → i < many → j < many → lists_at s.lists (at i) v ≡ true → lists_at s.lists (at j) v ≡ true
+      → i ≡ j
+  apart i j v li lj oi oj = by_order (cases_eq i j) (cases_lt i j)
+    where
+      same : at i ≡ at j
+      same = sym (fresh_at i v li oi) ∙ fresh_at j v lj oj
 
-        by_order : (i ≡ j) ⊎ (i ≢ j) → (i < j) ⊎ (j ≤ i) → i ≡ j
-        by_order (inl e) y = e
-        by_order (inr ne) (inl lt) = absurd (ready.row.distinct i j lt lj same)
-        by_order (inr ne) (inr le) = absurd (ready.row.distinct j i (omega (arith, ne, le)) li (sym same))
+      by_order : (i ≡ j) ⊎ (i ≢ j) → (i < j) ⊎ (j ≤ i) → i ≡ j
+      by_order (inl e) y = e
+      by_order (inr ne) (inl lt) = absurd (ready.row.distinct i j lt lj same)
+      by_order (inr ne) (inr le) = absurd (ready.row.distinct j i (omega (arith, ne, le)) li (sym same))
 
-    led : (k v : ℕ) → k < many → lists_at l (at k) v ≡ true → get_or h.hand.items v 0 ≡ get_or l.leader.items b 0
-    led k v lk on = tied.nest.led v (on_list k v lk on).0 ∙ ap (λ x. get_or l.leader.items x 0) (out_in way v
-        (on_list k v lk on).0 (ap (listed (λ i. get_or r.after.items i 0) front many) (fresh_at k v lk on)
-        ∙ at_in way k lk))
+  led : (k v : ℕ) → k < many → lists_at s.lists (at k) v ≡ true
+      → get_or s.handles.hand.items v 0 ≡ get_or s.lists.leader.items b 0
+  led k v lk on = tied.nest.led v (on_list k v lk on).0 ∙ ap (λ x. get_or s.lists.leader.items x 0) (out_in way v
+      (on_list k v lk on).0 (ap (listed (λ i. get_or s.rings.after.items i 0) front many) (fresh_at k v lk on)
+      ∙ at_in way k lk))
 
-    pub part_lists : HasPartLists h l r2.after.items front many b
-    part_lists = rw opened.after (record {
-      each = λ k lk. record {
-        first = rw tied.sizes.first (ready.row.low k lk);
-        rank = rw tied.sizes.rank (ready.row.low k lk);
-        q = tied.sizes.q;
-        following = tied.sizes.following;
-        few = omega (arith, tied.sizes.few, tied.sizes.vertices);
-        many = list_few (list_at k lk);
-        low = (list_at k lk).low;
-        distinct = (list_at k lk).distinct;
-      };
-      apart = apart;
-      leader = tied.sizes.leader ∙ sym tied.sizes.after;
-      set_low = rw tied.sizes.after ready.low;
-      offs = tied.sizes.off;
-      tops = λ k lk. rw tied.sizes.top (leader_in way k lk).0;
-      set_top = rw tied.sizes.top (tied.nest.leaders b ready.low (inr ready.live)).0;
-      led = led;
-      small = λ v. omega (arith, q_small h l r trail w e pool room tied v);
-    })
+  pub part_lists : HasPartLists s.handles s.lists r2.after.items front many b
+  part_lists = rw opened.after (record {
+    each = λ k lk. record {
+      first = rw tied.sizes.first (ready.row.low k lk);
+      rank = rw tied.sizes.rank (ready.row.low k lk);
+      q = tied.sizes.q;
+      following = tied.sizes.following;
+      few = omega (arith, tied.sizes.few, tied.sizes.vertices);
+      many = list_few (list_at k lk);
+      low = (list_at k lk).low;
+      distinct = (list_at k lk).distinct;
+    };
+    apart = apart;
+    leader = tied.sizes.leader ∙ sym tied.sizes.after;
+    set_low = rw tied.sizes.after ready.low;
+    offs = tied.sizes.off;
+    tops = λ k lk. rw tied.sizes.top (leader_in way k lk).0;
+    set_top = rw tied.sizes.top (tied.nest.leaders b ready.low (inr ready.live)).0;
+    led = led;
+    small = λ v. omega (arith, q_small tied v);
+  })
 
-    module _ {h2 : Handles} (pool2 : List (Option Node)) (handed : HasHandedRow h h2 l r2.after.items front many b)
-        (gave : (id : ℕ) × (b ≡ n + id) × (pool2 ≡ set pool id None)) where
-      parting : Parting h h2 l r r2 trail w e pool pool2 room b
-      parting =
-          let live : (node : Node) × (slice_get pool gave.0 ≡ Some (Some node)) =
-          tied.pool.live gave.0 (λ none. ready.live (ap (λ x. get_or r.parts.items x 0) gave.1 ∙ none)) in
-          record {
-            way = way;
-            handed = rw opened.after at handed;
-            opened = opened;
-            id = gave.0;
-            is = gave.1;
-            node = live.0;
-            was = live.1;
-            gave = gave.2;
-          }
+  pub parting : {h2 : Handles} {pool2 : List (Option Node)}
+      → HasHandedRow s.handles h2 s.lists r2.after.items front many b
+      → ((id : ℕ) × (b ≡ n + id) × (pool2 ≡ set s.pool id None)) → Parting s h2 r2 pool2 b
+  parting handed gave =
+      let live : (node : Node) × (slice_get s.pool gave.0 ≡ Some (Some node)) =
+      tied.pool.live gave.0 (λ none. ready.live (ap (λ x. get_or s.rings.parts.items x 0) gave.1 ∙ none)) in
+      record {
+        way = way;
+        handed = rw opened.after at handed;
+        opened = opened;
+        id = gave.0;
+        is = gave.1;
+        node = live.0;
+        was = live.1;
+        gave = gave.2;
+      }
 
-      -- The tie after the loops.
-      pub tied_after : AreTied (tables_of h2 l r2 trail w e room) (hidden_of h2 l trail pool2)
-      tied_after = tied_parted parting
-
-      -- And what the forest sees.
-      pub seen_after : IsParted n (forest_of t) (forest_of (tables_of h2 l r2 trail w e room))
-          (listed (λ i. get_or r.after.items i 0) front many) b
-      seen_after = parted_is parting
-
-  -- The same where the ring is told by what was read.
-  module _ {r2 : Rings} {front' many' : ℕ} (front_is : front' ≡ get_or r.head.items b 0) (many_is : many'
-      ≡ get_or r.parts.items b 0) (opened : AreOpened r r2 front' many' b) {xs : List ℕ} (xs_is : xs
-      ≡ r2.after.items) where
-    pub opened_as : AreOpened r r2 (get_or r.head.items b 0) (get_or r.parts.items b 0) b
-    opened_as = rw (front_is, many_is) at opened
-
-    pub lists_as : HasPartLists h l xs front' many' b
-    lists_as = rw (xs_is, front_is, many_is) (part_lists opened_as)
-
-    pub handed_as : {h2 : Handles} → HasHandedRow h h2 l xs front' many' b
-        → HasHandedRow h h2 l r2.after.items (get_or r.head.items b 0) (get_or r.parts.items b 0) b
-    handed_as is = rw (xs_is, front_is, many_is) at is
-
+-- What the forest sees, said of the tables as contracts see them.
 pub parted_as : {t u : ForestTables} {new : Forest} {b : ℕ} → t ≡ u
     → IsParted (length t.hand) (forest_of t) new (listed (λ i. get_or t.after i 0) (get_or t.head b 0)
     (get_or t.parts b 0)) b → IsParted (length u.hand) (forest_of u) new
     (listed (λ i. get_or u.after i 0) (get_or u.head b 0) (get_or u.parts b 0)) b
 parted_as e is = rw e at is
-
--- The number of vertices, told otherwise.
-pub live_as : (pool : List (Option Node)) (b m n : ℕ) → m ≡ n
-    → ((id : ℕ) × (b ≡ m + id) × (node : Node) × (slice_get pool id ≡ Some (Some node))) → (id : ℕ) × (b ≡ n + id)
-    × (node : Node) × (slice_get pool id ≡ Some (Some node))
-live_as pool b m n e is = rw e at is
-
-pub gave_as : (pool pool2 : List (Option Node)) (b m n : ℕ) → m ≡ n
-    → ((id : ℕ) × (b ≡ m + id) × (pool2 ≡ set pool id None)) → (id : ℕ) × (b ≡ n + id) × (pool2 ≡ set pool id None)
-gave_as pool pool2 b m n e is = rw e at is

@@ -1,77 +1,58 @@
-use Rattle.std.proofs.{Common.◌<◌, Common.subst, Common.sym, Common.length, Common.arith, lemmas.List.get_or_read}
+use Rattle.std.proofs.{Common.◌≡◌, Common.◌<◌, Common.subst, Common.sym, Common.length, Common.get_or, Common.arith}
+use Rattle.std.proofs.lemmas.List.{get_or_read}
 use Rattle.def_forest.specs.Tables.{ForestTables}
 use Rattle.qm_forest.specs.Parts.{IsPartable}
-use Rattle.qm_forest.proofs.Partings.{set_live, tied_after, seen_after, opened_as, lists_as, handed_as, parted_as}
-use Rattle.qm_forest.proofs.Partings.{live_as, gave_as}
+use Rattle.qm_forest.proofs.{Insides.seen_in, Parted.Parting, Parted.tied_parted, Parted.parted_is}
+use Rattle.qm_forest.proofs.Partings.{Opened, set_live, part_lists, parting, parted_as}
+use Rattle.qm_forest.proofs.forest.Forest.part.Goals.{After-give_set, After-open_ring}
 use Rattle.qm_forest.proofs.forest.Forest.part.Goals as goal
+
+ready : (c : After-open_ring) → IsPartable (seen_in c.self.inside) c.args.b
+ready c = subst (λ (t : ForestTables). IsPartable t c.args.b) (sym c.self.view_is) c.requires
+
+front_is : (c : After-open_ring) → c.index-front.result.now ≡ get_or c.self.inside.rings.head.items c.args.b 0
+front_is c = get_or_read c.self.inside.rings.head.items c.args.b _ (rw c.self.invariant.sizes.head (ready c).low)
+    c.index-front.ensures 0
+
+many_is : (c : After-open_ring) → c.index-many.result.now ≡ get_or c.self.inside.rings.parts.items c.args.b 0
+many_is c = get_or_read c.self.inside.rings.parts.items c.args.b _ (rw c.self.invariant.sizes.parts (ready c).low)
+    c.index-many.ensures 0
+
+opened : (c : After-open_ring) → Opened c.self.inside c.open_ring.new.rings c.args.b
+opened c = record {
+  tied = c.self.invariant;
+  ready = ready c;
+  opened = rw (front_is c, many_is c) at c.open_ring.ensures;
+}
+
+parting_of : (c : After-give_set) → Opened c.self.inside c.open_ring.new.rings c.args.b
+    → c.index-front.result.now ≡ get_or c.self.inside.rings.head.items c.args.b 0
+    → c.index-many.result.now ≡ get_or c.self.inside.rings.parts.items c.args.b 0
+    → Parting c.self.inside c.hand_over_row.new.handles c.open_ring.new.rings c.give_set.new.pool c.args.b
+parting_of c opened front_is many_is =
+    let n_is : c.len.result ≡ length c.self.inside.handles.hand.items =
+    omega (arith, c.len.ensures, c.hand_over_row.new.handles.hand.ok.0, c.hand_over_row.ensures.hands) in
+    parting opened (rw (c.deref.ensures.value, front_is, many_is) at c.hand_over_row.ensures)
+    (rw n_is at c.give_set.ensures)
 
 pub hand_over_row-requires-clause-lists : goal.hand_over_row-requires-clause-lists
 hand_over_row-requires-clause-lists c =
-    let s = c.self.inside in
-    lists_as s.handles s.lists s.rings s.trail s.weights s.tree s.pool s.room c.self.invariant c.args.b
-    (subst (λ (t : ForestTables). IsPartable t c.args.b) (sym c.self.view_is) c.requires)
-    (get_or_read s.rings.head.items c.args.b _ (subst (λ m. c.args.b < m) (sym c.self.invariant.sizes.head)
-    (subst (λ (t : ForestTables). IsPartable t c.args.b) (sym c.self.view_is) c.requires).low) c.index-front.ensures 0)
-    (get_or_read s.rings.parts.items c.args.b _ (subst (λ m. c.args.b < m) (sym c.self.invariant.sizes.parts)
-    (subst (λ (t : ForestTables). IsPartable t c.args.b) (sym c.self.view_is) c.requires).low) c.index-many.ensures 0)
-    c.open_ring.ensures c.deref.ensures.value
+    let at = (goal.at.hand_over_row-requires-clause-lists c).After-open_ring in
+    rw (c.deref.ensures.value, front_is at, many_is at) (part_lists (opened at))
 
 pub give_set-requires : goal.give_set-requires
 give_set-requires c =
-    let s = c.self.inside in
-    live_as s.pool c.args.b (length s.handles.hand.items) c.len.result
-    (omega (arith, c.len.ensures, c.hand_over_row.new.handles.hand.ok.0, c.hand_over_row.ensures.hands))
-    (set_live s.handles s.lists s.rings s.trail s.weights s.tree s.pool s.room c.self.invariant c.args.b
-    (subst (λ (t : ForestTables). IsPartable t c.args.b) (sym c.self.view_is) c.requires))
+    let n_is : c.len.result ≡ length c.self.inside.handles.hand.items =
+    omega (arith, c.len.ensures, c.hand_over_row.new.handles.hand.ok.0, c.hand_over_row.ensures.hands) in
+    rw n_is (set_live (opened (goal.at.give_set-requires c).After-open_ring))
 
 pub invariant_of-self : goal.invariant_of-self
 invariant_of-self c =
-    let s = c.self.inside in
-    tied_after s.handles s.lists s.rings s.trail s.weights s.tree s.pool s.room c.self.invariant c.args.b
-    (subst (λ (t : ForestTables). IsPartable t c.args.b) (sym c.self.view_is) c.requires)
-    (opened_as s.handles s.lists s.rings s.trail s.weights s.tree s.pool s.room c.self.invariant c.args.b
-    (subst (λ (t : ForestTables). IsPartable t c.args.b) (sym c.self.view_is) c.requires)
-    (get_or_read s.rings.head.items c.args.b _ (subst (λ m. c.args.b < m) (sym c.self.invariant.sizes.head)
-    (subst (λ (t : ForestTables). IsPartable t c.args.b) (sym c.self.view_is) c.requires).low) c.index-front.ensures 0)
-    (get_or_read s.rings.parts.items c.args.b _ (subst (λ m. c.args.b < m) (sym c.self.invariant.sizes.parts)
-    (subst (λ (t : ForestTables). IsPartable t c.args.b) (sym c.self.view_is) c.requires).low) c.index-many.ensures 0)
-    c.open_ring.ensures c.deref.ensures.value) c.give_set.new.pool (handed_as s.handles s.lists s.rings s.trail
-    s.weights s.tree s.pool s.room c.self.invariant c.args.b (subst (λ (t : ForestTables). IsPartable t c.args.b)
-    (sym c.self.view_is) c.requires) (get_or_read s.rings.head.items c.args.b _
-    (subst (λ m. c.args.b < m) (sym c.self.invariant.sizes.head) (subst (λ (t : ForestTables). IsPartable t c.args.b)
-    (sym c.self.view_is) c.requires).low) c.index-front.ensures 0) (get_or_read s.rings.parts.items c.args.b _
-    (subst (λ m. c.args.b < m) (sym c.self.invariant.sizes.parts) (subst (λ (t : ForestTables). IsPartable t c.args.b)
-    (sym c.self.view_is) c.requires).low) c.index-many.ensures 0) c.open_ring.ensures c.deref.ensures.value
-    c.hand_over_row.ensures) (gave_as s.pool c.give_set.new.pool c.args.b c.len.result (length s.handles.hand.items)
-    (omega (
-      arith,
-      c.len.ensures,
-      c.hand_over_row.new.handles.hand.ok.0,
-      c.hand_over_row.ensures.hands,
-    )) c.give_set.ensures)
+    let at = (goal.at.invariant_of-self c).After-open_ring in
+    tied_parted (parting_of (goal.at.invariant_of-self c).After-give_set (opened at) (front_is at) (many_is at))
 
 pub returns-clause-parted : goal.returns-clause-parted
 returns-clause-parted c =
-    let s = c.self.inside in
-    parted_as c.self.view_is (seen_after s.handles s.lists s.rings s.trail s.weights s.tree s.pool s.room
-    c.self.invariant c.args.b (subst (λ (t : ForestTables). IsPartable t c.args.b) (sym c.self.view_is) c.requires)
-    (opened_as s.handles s.lists s.rings s.trail s.weights s.tree s.pool s.room c.self.invariant c.args.b
-    (subst (λ (t : ForestTables). IsPartable t c.args.b) (sym c.self.view_is) c.requires)
-    (get_or_read s.rings.head.items c.args.b _ (subst (λ m. c.args.b < m) (sym c.self.invariant.sizes.head)
-    (subst (λ (t : ForestTables). IsPartable t c.args.b) (sym c.self.view_is) c.requires).low) c.index-front.ensures 0)
-    (get_or_read s.rings.parts.items c.args.b _ (subst (λ m. c.args.b < m) (sym c.self.invariant.sizes.parts)
-    (subst (λ (t : ForestTables). IsPartable t c.args.b) (sym c.self.view_is) c.requires).low) c.index-many.ensures 0)
-    c.open_ring.ensures c.deref.ensures.value) c.give_set.new.pool (handed_as s.handles s.lists s.rings s.trail
-    s.weights s.tree s.pool s.room c.self.invariant c.args.b (subst (λ (t : ForestTables). IsPartable t c.args.b)
-    (sym c.self.view_is) c.requires) (get_or_read s.rings.head.items c.args.b _
-    (subst (λ m. c.args.b < m) (sym c.self.invariant.sizes.head) (subst (λ (t : ForestTables). IsPartable t c.args.b)
-    (sym c.self.view_is) c.requires).low) c.index-front.ensures 0) (get_or_read s.rings.parts.items c.args.b _
-    (subst (λ m. c.args.b < m) (sym c.self.invariant.sizes.parts) (subst (λ (t : ForestTables). IsPartable t c.args.b)
-    (sym c.self.view_is) c.requires).low) c.index-many.ensures 0) c.open_ring.ensures c.deref.ensures.value
-    c.hand_over_row.ensures) (gave_as s.pool c.give_set.new.pool c.args.b c.len.result (length s.handles.hand.items)
-    (omega (
-      arith,
-      c.len.ensures,
-      c.hand_over_row.new.handles.hand.ok.0,
-      c.hand_over_row.ensures.hands,
-    )) c.give_set.ensures))
+    let at = (goal.at.returns-clause-parted c).After-open_ring in
+    parted_as c.self.view_is
+    (parted_is (parting_of (goal.at.returns-clause-parted c).After-give_set (opened at) (front_is at) (many_is at)))
