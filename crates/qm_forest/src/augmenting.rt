@@ -46,16 +46,16 @@ impl Forest {
             (r : Blossom) → self.old.root ≡ Some r → IsValid (darts_of g.now.graph) rematched None
             × IsAugmented (darts_of g.now.graph) (forest_of self.old) rematched r start }
     {
-        let reached = self.outermost(near(g, twin(start)));
+        let reached = self.far_blossom(g, start);
         self.set_mate(reached, Some(twin(start)));
         let mut at = self.outermost(near(g, start));
         let mut next = start;
         while let Some(old) = self.mate(at) {
             self.set_mate(at, Some(next));
-            let inner = self.outermost(near(g, twin(old)));
+            let inner = self.far_blossom(g, old);
             let up = self.link(inner);
             self.set_mate(inner, Some(up));
-            at = self.outermost(near(g, twin(up)));
+            at = self.far_blossom(g, up);
             next = twin(up);
         }
         self.set_mate(at, Some(next));
