@@ -7,7 +7,7 @@ use Rattle.std.proofs.lemmas.Option.{none-some}
 use Rattle.std.proofs.lemmas.List.{get_or_append_left, get_or-append_right, length-replicate}
 use Rattle.def_math.specs.{Counts.count, Counts.count_below, Increasing.IsIncreasing}
 use Rattle.sum_laws.proofs.Counts.{count_append, count_below_none, count_below_same}
-use Rattle.def_matching.specs.Matching.{WeightedGraph, IsSmallGraph, edge_at, ends_at}
+use Rattle.def_matching.specs.Matching.{WeightedGraph, edge_at, ends_at}
 use Rattle.def_forest.specs.Forests.{bool_number, splits}
 use Rattle.def_forest.specs.Tables.{ForestTables, forest_of, MatchesBut}
 use Rattle.forest_laws.proofs.{Bounds.leaves_vertex, Graphs.dart_near, Graphs.near_odd}
@@ -82,18 +82,20 @@ round_begins t {marks} {left} m size rest marks_is left_is once = record {
       omega (arith, none, calm));
   entry = λ c v is. absurd (none-some v (sym (same_everywhere size None left_is c) ∙ is));
   once = once;
-  tight = λ g is valid e on. absurd (true_false on (same_everywhere m false marks_is e));
+  tight = λ g valid e on. absurd (true_false on (same_everywhere m false marks_is e));
 }
 
 pub room_begins : {E : Type 0} {t : ForestTables} (r : Result Round E) (m size : ℕ) → IsLaminar t
-    → length t.near ≡ 2 * m → size ≡ length t.up → IfOk r (λ round. round.marks.items ≡ replicate m false)
+    → (g : WeightedGraph) × IsSoundFor g t → length t.near ≡ 2 * m → size ≡ length t.up
+    → IfOk r (λ round. round.marks.items ≡ replicate m false)
     → IfOk r (λ round. round.left_out.items ≡ replicate size None) → IfOk r (λ round. HasRoom t round)
-room_begins (Ok round) m size known near up marks left = record {
+room_begins (Ok round) m size known sound near up marks left = record {
   laminar = known;
+  sound = sound;
   marks = omega (arith, ap length marks, length-replicate m false, near);
   left_out = ap length left ∙ (length-replicate size None ∙ up);
 }
-room_begins (Err e) m size known near up marks left = tt
+room_begins (Err e) m size known sound near up marks left = tt
 
 pub rounds_begin : {E : Type 0} (t : ForestTables) (r : Result Round E) (m size : ℕ)
     → IfOk r (λ round. round.marks.items ≡ replicate m false) → IfOk r
@@ -124,7 +126,7 @@ pub count_map : {X : Type 0} (f : X → ℕ) (h : ℕ → X) (xs : List ℕ) →
 count_map f h [] = refl
 count_map f h (x ∷ xs) = ap (λ m. f (h x) + m) (count_map f h xs)
 
-module _ {t : ForestTables} (known : IsLaminar t) {g : WeightedGraph} (is : IsSmallGraph g) (valid : IsSoundFor g t)
+module _ {t : ForestTables} (known : IsLaminar t) {g : WeightedGraph} (valid : IsSoundFor g t)
     {marks : List Bool} (size : length t.near ≡ 2 * length marks) {list : List ℕ}
     (are : AreMarked marks (length marks) list) where
   pub edges_is : length marks ≡ length g.edges
@@ -165,7 +167,7 @@ module _ {t : ForestTables} (known : IsLaminar t) {g : WeightedGraph} (is : IsSm
       counted low [] r = refl
       counted low (x ∷ xs) r =
           let here : bool_number (splits ((forest_of t).holds w) (edge_at g x).u (edge_at g x).v)
-          ≡ ends_at w (edge_at g x) = leaves_vertex is.lawful
+          ≡ ends_at w (edge_at g x) = leaves_vertex valid.small.lawful
           (rw valid.vertices at known.vertices) valid.valid.nested w x (rw valid.vertices at lw) r.1 in
           omega (arith, here, counted (x + 1) xs r.2)
 
@@ -175,11 +177,11 @@ module _ {t : ForestTables} (known : IsLaminar t) {g : WeightedGraph} (is : IsSm
       → MatchesBut g (forest_of t) b v list
   matches_but b v lv round ended = record {
     increasing = rw edges_is at are.increasing;
-    tight = λ k l. round.tight g is valid (get_or list k 0) (are.each k l);
+    tight = λ k l. round.tight g valid (get_or list k 0) (are.each k l);
     once = λ w lw. (
         let low : w < length t.hand = rw valid.vertices lw in
         let low_up : w < length t.up = omega (arith, low, known.vertices) in
         let other : waits_but t w b v ≡ cond ((forest_of t).holds b w) (cond (eqb w v) 0 1) 0 =
-        ap (λ (s : Bool). cond ((forest_of t).holds b w) (cond s 0 1) 0) (alone t known w v low lv) in
+        ap (λ (s : Bool). cond ((forest_of t).holds b w) (cond s 0 1) 0) (alone known w v low lv) in
         omega (arith, met_as_left w low, round_ends round ended w low_up, other));
   }

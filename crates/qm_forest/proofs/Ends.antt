@@ -5,7 +5,7 @@ use Rattle.std.proofs.lemmas.Bool.{cases_eq, cases_lt}
 use Rattle.std.proofs.Common.{get_or, ℤ, pos, ◌+ℤ◌, ◌*ℤ◌, Option, None, ◌⊎◌, refl, sym, ◌∙◌, ap, inl, inr, arith}
 use Rattle.def_math.specs.{Sums.total}
 use Rattle.sum_laws.proofs.Sums.{total_below_same, two_orders}
-use Rattle.def_matching.specs.Matching.{WeightedGraph, IsSmallGraph, IsPerfect, edge_at}
+use Rattle.def_matching.specs.Matching.{WeightedGraph, IsPerfect, edge_at}
 use Rattle.def_matching.specs.{Matching.matching_cost, Dual.crosses, declared.weighted.WEdge.WEdge}
 use Rattle.def_forest.specs.{Darts.darts_of, Forests.Forest, Forests.IsTight, Forests.dual_sum_of}
 use Rattle.def_forest.specs.{Forests.weight_between, Tables.ForestTables, Tables.forest_of}
@@ -38,9 +38,9 @@ loads_exact g f (x ∷ xs) tight =
     ∙ ((tight 0 (omega arith)).exact ∙ ap (λ (c : ℤ). c +ℤ c) (dart_cost g x))) in
     omega (arith, ints, rest, here)
 
-module _ (t : ForestTables) (known : IsLaminar t) (g : WeightedGraph) (is : IsSmallGraph g) (valid : IsSoundFor g t)
-    (marks : List Bool) (size : length t.near ≡ 2 * length marks) (list : List ℕ)
-    (are : AreMarked marks (length marks) list) (left : List (Option ℕ))
+module _ {t : ForestTables} (known : IsLaminar t) {g : WeightedGraph} (valid : IsSoundFor g t) {marks : List Bool}
+    (size : length t.near ≡ 2 * length marks) {list : List ℕ} (are : AreMarked marks (length marks) list)
+    {left : List (Option ℕ)}
     (round : IsRound t marks left (λ b. 0) (matched_by t (length marks))) (ended : (c : ℕ) → get_or left c None ≡ None)
     (matched : (v : ℕ) → v < g.n → (forest_of t).mate ((forest_of t).out v) ≢ None) where
   abbrev f : Forest
@@ -48,21 +48,21 @@ module _ (t : ForestTables) (known : IsLaminar t) (g : WeightedGraph) (is : IsSm
 
   left_once : (w : ℕ) → w < length t.hand → leaving t marks w ≡ 1
   left_once w l = round_ends round ended w (omega (arith, l, known.vertices))
-      ∙ due_one known is valid w l (edges_is known is valid size are) (matched w (rw valid.vertices at l))
+      ∙ due_one known valid w l (edges_is known valid size are) (matched w (rw valid.vertices at l))
 
   set_once : (b : ℕ) → length t.hand ≤ b → b < length t.up → get_or t.parts b 0 ≢ 0 → leaving t marks b ≡ 1
   set_once b high low live =
       let w : (v : ℕ) × (v < length t.hand) × (v ≢ 0) × (f.holds b v ≡ true) =
-      another t known g is valid b 0 high low live in
+      another known valid b 0 high low live in
       round_ends round ended b low
-      ∙ (due_same known is valid b w.0 (length marks) w.1 w.3 ∙ due_one known is valid w.0 w.1
-      (edges_is known is valid size are) (matched w.0 (rw valid.vertices at w.1)))
+      ∙ (due_same known valid b w.0 (length marks) w.1 w.3 ∙ due_one known valid w.0 w.1
+      (edges_is known valid size are) (matched w.0 (rw valid.vertices at w.1)))
 
   pub perfect : IsPerfect g list
   perfect = record {
-    increasing = rw (edges_is known is valid size are) at are.increasing;
+    increasing = rw (edges_is known valid size are) at are.increasing;
     once = λ w l. (let lw : w < length t.hand = rw valid.vertices l in
-        met_as_left known is valid size are w lw ∙ left_once w lw);
+        met_as_left known valid size are w lw ∙ left_once w lw);
   }
 
   abbrev es : List WEdge
@@ -73,7 +73,7 @@ module _ (t : ForestTables) (known : IsLaminar t) (g : WeightedGraph) (is : IsSm
 
   counted : (b : ℕ) → leaving t marks b ≡ 1 → total (adds b) es ≡ f.weight b
   counted b one = just_once (f.holds b) (f.weight b) es (count_map (λ (e : WEdge). cond (crosses (f.holds b) e) 1 0)
-      (edge_at g) list ∙ (sym (leaving_listed known is valid size are b) ∙ one))
+      (edge_at g) list ∙ (sym (leaving_listed known valid size are b) ∙ one))
 
   each : (b : ℕ) → b < f.size → (b < length t.hand) ⊎ (length t.hand ≤ b) → (get_or t.parts b 0 ≡ 0)
       ⊎ (get_or t.parts b 0 ≢ 0) → f.weight b ≡ total (adds b) es
@@ -87,4 +87,4 @@ module _ (t : ForestTables) (known : IsLaminar t) (g : WeightedGraph) (is : IsSm
   pub met : dual_sum_of f ≡ pos 2 *ℤ matching_cost g list
   met = total_below_same f.weight (λ b. total (adds b) es) f.size (λ b l. each b l (cases_lt b (length t.hand))
       (cases_eq (get_or t.parts b 0) 0)) ∙ (sym (two_orders adds f.size es)
-      ∙ loads_exact g f list (λ k l. round.tight g is valid (get_or list k 0) (are.each k l)))
+      ∙ loads_exact g f list (λ k l. round.tight g valid (get_or list k 0) (are.each k l)))

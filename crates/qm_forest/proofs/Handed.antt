@@ -21,16 +21,21 @@ in_some {X = X} x y e f = inside (sym e ∙ f)
 
 module _ (t : ForestTables) {u : ForestTables} (room : Option GraphSize) (same : u ≡ record t { room = room }) where
   -- It stays sound.
-  pub sound_still : {g : WeightedGraph} → IsValidFor g t → IsSoundFor g u
-  sound_still {g} valid = rw same
-      (record { vertices = valid.vertices; darts = valid.darts; ends = valid.ends; valid = valid.valid })
+  pub sound_still : {g : WeightedGraph} → IsSmallGraph g → IsValidFor g t → IsSoundFor g u
+  sound_still small valid = rw same (record {
+    small = small;
+    vertices = valid.vertices;
+    darts = valid.darts;
+    ends = valid.ends;
+    valid = valid.valid;
+  })
 
   module _ (known : IsLaminar u) {sets : List (ℕ × ℕ)} {d : DualLists} (outline : IsOutline u sets d) where
     pub yes_handed : (g : WeightedGraph) → IsSmallGraph g → IsValidFor g t → SaysYes g d
-    yes_handed g small valid = says_yes u known sets d outline small (sound_still valid)
+    yes_handed g small valid = says_yes u known sets d outline (sound_still small valid)
 
     pub dual_handed : {g : WeightedGraph} → IsSmallGraph g → IsValidFor g t → IsDualOf (length t.hand) (forest_of t) d
-    dual_handed small valid = rw same at (dual_is u known sets d outline small (sound_still valid))
+    dual_handed small valid = rw same at (dual_is u known sets d outline (sound_still small valid))
 
     pub few_handed : 2 * length d.z ≤ length t.hand
     few_handed = rw same at (few_is u known sets d outline)
@@ -40,10 +45,9 @@ module _ (t : ForestTables) {u : ForestTables} (room : Option GraphSize) (same :
         → IsValidFor g t → ((v : ℕ) → v < g.n → (forest_of t).mate ((forest_of t).out v) ≢ None)
         → IsPerfect g list × (dual_sum d ≡ pos 2 *ℤ matching_cost g list)
     perfect_handed {round} chosen {list} marked g small valid matched = (
-      perfect u known g small (sound_still valid) round.marks.items chosen.room.marks list marked round.left_out.items
-          chosen.done chosen.ended still,
-      (dual_is u known sets d outline small (sound_still valid)).sum ∙ met u known g small (sound_still valid)
-          round.marks.items chosen.room.marks list marked round.left_out.items chosen.done chosen.ended still,
+      perfect known (sound_still small valid) chosen.room.marks marked chosen.done chosen.ended still,
+      (dual_is u known sets d outline (sound_still small valid)).sum ∙ met known (sound_still small valid)
+          chosen.room.marks marked chosen.done chosen.ended still,
     )
       where
         still : (v : ℕ) → v < g.n → (forest_of u).mate ((forest_of u).out v) ≢ None

@@ -53,10 +53,16 @@ pub rising : {t : ForestTables} → IsLaminar t → IsRising (length t.hand) (up
 rising known = record { rises = known.rises }
 
 -- A valid forest is sound.
-pub sound : {g : WeightedGraph} {t : ForestTables} → IsValidFor g t → IsSoundFor g t
-sound valid = record { vertices = valid.vertices; darts = valid.darts; ends = valid.ends; valid = valid.valid }
+pub sound : {g : WeightedGraph} {t : ForestTables} → IsSmallGraph g → IsValidFor g t → IsSoundFor g t
+sound small valid = record {
+  small = small;
+  vertices = valid.vertices;
+  darts = valid.darts;
+  ends = valid.ends;
+  valid = valid.valid;
+}
 
-module _ (t : ForestTables) (known : IsLaminar t) where
+module _ {t : ForestTables} (known : IsLaminar t) where
   abbrev n : ℕ
   n = length t.hand
 
@@ -69,9 +75,9 @@ module _ (t : ForestTables) (known : IsLaminar t) where
         ∙ sym (ne_eqb v w ne)
   ]
 
-  module _ (g : WeightedGraph) (is : IsSmallGraph g) (valid : IsSoundFor g t) where
+  module _ {g : WeightedGraph} (valid : IsSoundFor g t) where
     abbrev are : AreDarts (darts_of g)
-    are = are_darts is.lawful
+    are = are_darts valid.small.lawful
 
     -- A set has another vertex than any one.
     pub another : (x w : ℕ) → length t.hand ≤ x → x < length t.up → get_or t.parts x 0 ≢ 0
@@ -109,7 +115,7 @@ module _ (t : ForestTables) (known : IsLaminar t) where
         ]
 
     -- A part and the next are joined.
-    module _ (x : ℕ) (inner : up_at t.up x ≢ x) where
+    module _ {x : ℕ} (inner : up_at t.up x ≢ x) where
       abbrev q : ℕ
       q = up_at t.up x
 
@@ -190,7 +196,7 @@ module _ (t : ForestTables) (known : IsLaminar t) where
       pub ring_pairing : IsPairing t x y d
       ring_pairing = record {
         dart = rw valid.darts d_low;
-        small = omega (arith, d_low, is.edges);
+        small = omega (arith, d_low, valid.small.edges);
         low_x = x_low;
         low_y = y_low;
         other = differ;
@@ -206,5 +212,5 @@ module _ (t : ForestTables) (known : IsLaminar t) where
             (far_at t d) refl next_around (λ s. inner (sym s)) next_other differ near_in far_in
             (known.passed x (near_at t d) near_ok near_in) (known.passed y (far_at t d) far_ok far_in) b
             (λ on. known.passed b (near_at t d) near_ok on) (λ on. known.passed b (far_at t d) far_ok on);
-        tight = λ h is' valid'. (valid'.valid.nested.joints x inner).tight;
+        tight = λ h valid'. (valid'.valid.nested.joints x inner).tight;
       }

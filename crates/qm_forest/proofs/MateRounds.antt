@@ -5,7 +5,7 @@ use Rattle.std.proofs.{Math.ListN.set, lemmas.Option.none-some}
 use Rattle.std.proofs.lemmas.Bool.{cases_Bool, cases_eq, cases_lt, cond-true, cond-false, eq-eqb, eqb-true, ne_eqb}
 use Rattle.std.proofs.lemmas.Bool.{false_from_ne_true}
 use Rattle.sum_laws.proofs.Counts.{count_below_none, count_below_one, count_below_same}
-use Rattle.def_matching.specs.Matching.{WeightedGraph, IsSmallGraph}
+use Rattle.def_matching.specs.Matching.{WeightedGraph}
 use Rattle.def_forest.specs.{Darts.AreDarts, Darts.darts_of, Darts.far, Darts.other_dart, Forests.Forest}
 use Rattle.def_forest.specs.{Forests.bool_number, Forests.splits, Forests.walk, Tables.ForestTables, Tables.forest_of}
 use Rattle.def_forest.specs.{Tables.up_at, Valid.IsMate}
@@ -13,17 +13,16 @@ use Rattle.forest_laws.proofs.{Graphs.are_darts, Graphs.twin_even, Graphs.twin_o
 use Rattle.forest_laws.proofs.Walks.{walk_fixed, walk_sum}
 use Rattle.qm_forest.specs.Rounds.{IsSoundFor, IsLaminar, IsPairing, IsRound, entered, far_at, is_dart, matched_by}
 use Rattle.qm_forest.specs.Rounds.{matches, near_at, waits_but, within}
-use Rattle.qm_forest.proofs.{Laminars.alone, Laminars.another, Laminars.rising, Pairings.option_cases}
+use Rattle.qm_forest.proofs.{Laminars.rising, Pairings.option_cases}
 use Rattle.qm_forest.proofs.{Pairings.paired_round, Withins.by_pair, Withins.in_line, Withins.in_where}
 use Rattle.qm_forest.proofs.Withins.{where_in}
 
-module _ {t : ForestTables} (known : IsLaminar t) {g : WeightedGraph} (is : IsSmallGraph g)
-    (valid : IsSoundFor g t) where
+module _ {t : ForestTables} (known : IsLaminar t) {g : WeightedGraph} (valid : IsSoundFor g t) where
   abbrev pub f : Forest
   f = forest_of t
 
   abbrev are : AreDarts (darts_of g)
-  are = are_darts is.lawful
+  are = are_darts valid.small.lawful
 
   -- The ends of an edge.
   abbrev pub from : ℕ → ℕ
@@ -128,7 +127,7 @@ module _ {t : ForestTables} (known : IsLaminar t) {g : WeightedGraph} (is : IsSm
     other = apart;
     pairing = record {
       dart = rw valid.darts m.tight.low;
-      small = omega (arith, m.tight.low, is.edges);
+      small = omega (arith, m.tight.low, valid.small.edges);
       low_x = valid.valid.outermost.out_low (from e) (low_in (from e) nl);
       low_y = valid.valid.outermost.out_low (to e) (low_in (to e) fl);
       other = apart;
@@ -140,7 +139,7 @@ module _ {t : ForestTables} (known : IsLaminar t) {g : WeightedGraph} (is : IsSm
       live_x = used_at (from e) nl;
       live_y = used_at (to e) fl;
       law = λ b l. rw far_same (tops_law (from e) (to e) b nl fl apart);
-      tight = λ h is' valid'. (valid'.valid.matched (out (from e)) (2 * e) mate).tight;
+      tight = λ h valid'. (valid'.valid.matched (out (from e)) (2 * e) mate).tight;
     };
   }
     where
@@ -299,7 +298,7 @@ module _ {t : ForestTables} (known : IsLaminar t) {g : WeightedGraph} (is : IsSm
       (far_at t (2 * e)) → IsRound t marks left (λ b. 0) (matched_by t e)
       → IsRound t marks2 left2 (λ b. 0) (matched_by t j)
   edge_more {marks} {left} {left2} e j j_is size_marks size_left mate marks_is left_is round =
-      rw (marks_is, left_is) (paired_round t known.vertices (alone t known) known.own (another t known g is valid) marks
+      rw (marks_is, left_is) (paired_round known valid marks
       left (out (from e)) (out (to e)) (2 * e) (λ b. 0) (matched_by t j) size_marks size_left (record {
         each = λ b l. omega (arith, round.each b l, step b);
         entry = round.entry;

@@ -202,9 +202,9 @@ module _ (t : ForestTables) (known : IsLaminar t) (sets : List (ℕ × ℕ)) (d 
   y_is : (v : ℕ) → v < n → y_at d v ≡ f.weight v
   y_is v l = is.y.each v l
 
-  module _ {g : WeightedGraph} (small : IsSmallGraph g) (valid : IsSoundFor g t) where
+  module _ {g : WeightedGraph} (valid : IsSoundFor g t) where
     abbrev are : AreDarts (darts_of g)
-    are = are_darts small.lawful
+    are = are_darts valid.small.lawful
 
     high_in : (b : ℕ) → n ≤ b → g.n ≤ b
     high_in b h = rw valid.vertices at h
@@ -297,8 +297,8 @@ module _ (t : ForestTables) (known : IsLaminar t) (sets : List (ℕ × ℕ)) (d 
         each : (w : ℕ) → w < n → cond (splits (f.holds w) u v) (f.weight w) (pos 0)
             ≡ cond (eqb w u) (f.weight w) (pos 0) +ℤ cond (eqb w v) (f.weight w) (pos 0)
         each w l = ap (λ (s : Bool). cond (cond s (not (f.holds w v)) (f.holds w v)) (f.weight w) (pos 0))
-            (alone t known w u l lu)
-            ∙ (ap (λ (s : Bool). cond (cond (eqb w u) (not s) s) (f.weight w) (pos 0)) (alone t known w v l lv)
+            (alone known w u l lu)
+            ∙ (ap (λ (s : Bool). cond (cond (eqb w u) (not s) s) (f.weight w) (pos 0)) (alone known w v l lv)
             ∙ by_two (eqb w u) (eqb w v) (f.weight w) (λ a c. ne (sym (eqb-true w u a) ∙ eqb-true w v c)))
 
     -- The load of an edge is what it was.
@@ -318,7 +318,7 @@ module _ (t : ForestTables) (known : IsLaminar t) (sets : List (ℕ × ℕ)) (d 
           ints,
           parts,
           sets_load,
-          ends_load u v u_low v_low (small.lawful.apart e l),
+          ends_load u v u_low v_low (valid.small.lawful.apart e l),
           y_is u u_low,
           y_is v v_low,
         )
@@ -330,10 +330,10 @@ module _ (t : ForestTables) (known : IsLaminar t) (sets : List (ℕ × ℕ)) (d 
         v = (edge_at g e).v
 
         u_low : u < n
-        u_low = low_in u (small.lawful.left e l)
+        u_low = low_in u (valid.small.lawful.left e l)
 
         v_low : v < n
-        v_low = low_in v (small.lawful.right e l)
+        v_low = low_in v (valid.small.lawful.right e l)
 
         added : ℕ → ℤ
         added b = cond (splits (f.holds b) u v) (f.weight b) (pos 0)

@@ -7,13 +7,14 @@ use Rattle.std.proofs.lemmas.Bool.{cases_eq, cases_lt, cases_Bool, cond-true, co
 use Rattle.std.proofs.lemmas.Bool.{le-ltb}
 use Rattle.def_math.specs.Counts.{count_below}
 use Rattle.sum_laws.proofs.Counts.{count_below_same}
-use Rattle.def_matching.specs.Matching.{WeightedGraph, IsSmallGraph}
+use Rattle.def_matching.specs.Matching.{WeightedGraph}
 use Rattle.def_forest.specs.{Darts.darts_of, Darts.other_dart, Forests.IsTight, Forests.bool_number, Forests.splits}
 use Rattle.def_forest.specs.Tables.{ForestTables, forest_of}
 use Rattle.forest_laws.proofs.{Facts.tight_twin, Graphs.are_darts, Graphs.twin_even, Graphs.twin_odd, Writes.by_order}
 use Rattle.forest_laws.proofs.Writes.{some_is}
-use Rattle.qm_forest.specs.Rounds.{IsSoundFor, IsEntry, IsPairing, IsRound, entered, far_at, leaving, near_at, waiting}
-use Rattle.qm_forest.specs.Rounds.{waits_but, waits_for, within}
+use Rattle.qm_forest.specs.Rounds.{IsSoundFor, IsEntry, IsLaminar, IsPairing, IsRound, entered, far_at, leaving}
+use Rattle.qm_forest.specs.Rounds.{near_at, waiting, waits_but, waits_for, within}
+use Rattle.qm_forest.proofs.Laminars.{alone, another}
 
 -- A term of a count.
 pub term_low : (f : ℕ → ℕ) (n k : ℕ) → k < n → f k ≤ count_below f n
@@ -49,216 +50,212 @@ pub option_cases : (o : Option ℕ) → (o ≡ None) ⊎ ((v : ℕ) × (o ≡ So
 option_cases None = inl refl
 option_cases (Some v) = inr (v, refl)
 
-module _ (t : ForestTables) (vertices : length t.hand ≤ length t.up)
-    (alone : (v w : ℕ) → v < length t.hand → w < length t.hand → (forest_of t).holds v w ≡ eqb v w)
-    (own : (b x : ℕ) → x < length t.hand → within t b x ≡ true → b ≡ x)
-    (more : (x w : ℕ) → length t.hand ≤ x → x < length t.up → get_or t.parts x 0 ≢ 0 → (v : ℕ) × (v < length t.hand)
-    × (v ≢ w) × ((forest_of t).holds x v ≡ true)) where
+-- One set more waits.
+entered_more : (t : ForestTables) (left : List (Option ℕ)) (x u b : ℕ) → x < length left
+    → (length t.hand ≤ x → get_or left x None ≡ None) → (x < length t.hand → waits_but t b x u ≡ 0)
+    → waiting t (entered (length t.hand) left x u) b ≡ waiting t left b + waits_but t b x u
+entered_more t left x u b low free zero' = elim (cases_lt x (length t.hand)) [
+  | inl l ↦ (ap (λ xs. waiting t xs b) (cond-true _ _ _ (lt-ltb x (length t.hand) l))
+      ∙ (let e : waiting t left b ≡ waiting t left b + waits_but t b x u = omega (arith, zero' l) in e))
+  | inr h ↦ ap (λ xs. waiting t xs b) (cond-false _ _ _ (le-ltb x (length t.hand) h))
+      ∙ (ap (count_below (λ c. waits_for t b c (get_or (set left x (Some u)) c None))) (length-set left x (Some u))
+      ∙ (count_more (λ c. waits_for t b c (get_or left c None))
+      (λ c. waits_for t b c (get_or (set left x (Some u)) c None)) (length left) x low (ap (waits_for t b x) (free h))
+      (λ c lc ne. ap (waits_for t b c) (get_or-set_other left x c (Some u) None ne))
+      ∙ ap (λ (o : Option ℕ). waiting t left b + waits_for t b x o) (get_or-set_same left x (Some u) None low)))
+]
+
+pub entered_size : (n : ℕ) (left : List (Option ℕ)) (x u : ℕ) → length (entered n left x u) ≡ length left
+entered_size n left x u = elim (cases_lt x n) [
+  | inl l ↦ ap length (cond-true _ _ _ (lt-ltb x n l))
+  | inr h ↦ ap length (cond-false _ _ _ (le-ltb x n h)) ∙ length-set left x (Some u)
+]
+
+-- Each entry is the new one, or was there.
+pub entry_cases : (n : ℕ) (left : List (Option ℕ)) (x u c : ℕ) → x < length left
+    → ((n ≤ x) × (c ≡ x) × (get_or (entered n left x u) c None ≡ Some u))
+    ⊎ (get_or (entered n left x u) c None ≡ get_or left c None)
+entry_cases n left x u c low = by_size (cases_lt x n) (cases_eq c x)
+  where
+    by_size : (x < n) ⊎ (n ≤ x) → (c ≡ x) ⊎ (c ≢ x) → ((n ≤ x) × (c ≡ x)
+        × (get_or (entered n left x u) c None ≡ Some u)) ⊎ (get_or (entered n left x u) c None ≡ get_or left c None)
+    by_size (inl l) y = inr (ap (λ xs. get_or xs c None) (cond-true _ _ _ (lt-ltb x n l)))
+    by_size (inr h) (inl e) = inl (
+      h,
+      e,
+      ap (λ xs. get_or xs c None) (cond-false _ _ _ (le-ltb x n h))
+          ∙ (ap (λ k. get_or (set left x (Some u)) k None) e ∙ get_or-set_same left x (Some u) None low),
+    )
+    by_size (inr h) (inr ne) = inr (ap (λ xs. get_or xs c None) (cond-false _ _ _ (le-ltb x n h))
+        ∙ get_or-set_other left x c (Some u) None ne)
+
+module _ {t : ForestTables} (known : IsLaminar t) {g : WeightedGraph} (valid : IsSoundFor g t) (marks : List Bool)
+    (left : List (Option ℕ)) (x y d : ℕ) (rest due : ℕ → ℕ) (size_marks : length t.near ≡ 2 * length marks)
+    (size_left : length left ≡ length t.up)
+    (round : IsRound t marks left (λ b. (bool_number (within t b x) + bool_number (within t b y)) + rest b) due)
+    (pairing : IsPairing t x y d) where
   abbrev n : ℕ
   n = length t.hand
 
-  -- One set more waits.
-  entered_more : (left : List (Option ℕ)) (x u b : ℕ) → x < length left → (n ≤ x → get_or left x None ≡ None)
-      → (x < n → waits_but t b x u ≡ 0) → waiting t (entered n left x u) b ≡ waiting t left b + waits_but t b x u
-  entered_more left x u b low free zero' = elim (cases_lt x n) [
-    | inl l ↦ (ap (λ xs. waiting t xs b) (cond-true _ _ _ (lt-ltb x n l))
-        ∙ (let e : waiting t left b ≡ waiting t left b + waits_but t b x u = omega (arith, zero' l) in e))
-    | inr h ↦ ap (λ xs. waiting t xs b) (cond-false _ _ _ (le-ltb x n h))
-        ∙ (ap (count_below (λ c. waits_for t b c (get_or (set left x (Some u)) c None))) (length-set left x (Some u))
-        ∙ (count_more (λ c. waits_for t b c (get_or left c None))
-        (λ c. waits_for t b c (get_or (set left x (Some u)) c None)) (length left) x low (ap (waits_for t b x) (free h))
-        (λ c lc ne. ap (waits_for t b c) (get_or-set_other left x c (Some u) None ne))
-        ∙ ap (λ (o : Option ℕ). waiting t left b + waits_for t b x o) (get_or-set_same left x (Some u) None low)))
+  abbrev e : ℕ
+  e = d / 2
+
+  abbrev u : ℕ
+  u = near_at t d
+
+  abbrev v : ℕ
+  v = far_at t d
+
+  e_low : e < length marks
+  e_low = omega (arith, size_marks, pairing.dart)
+
+  -- The edge's ends are those of the dart, in one order or the other.
+  sides : (b : ℕ) → splits ((forest_of t).holds b) (near_at t (2 * e)) (near_at t (2 * e + 1))
+      ≡ splits ((forest_of t).holds b) u v
+  sides b = elim (cases_eq (d % 2) 0) [
+    | inl z ↦ (let first : 2 * e ≡ d = omega (arith, z) in
+        let second : 2 * e + 1 ≡ other_dart d = (let s : 2 * e + 1 ≡ d + 1 = omega (arith, z) in
+        s ∙ sym (twin_even d z)) in
+        ap (λ k. splits ((forest_of t).holds b) (near_at t k) (near_at t (2 * e + 1))) first
+        ∙ ap (λ k. splits ((forest_of t).holds b) u (near_at t k)) second)
+    | inr nz ↦
+        (let first : 2 * e ≡ other_dart d = (let s : 2 * e ≡ d - 1 = omega (arith, nz) in s ∙ sym (twin_odd d nz)) in
+        let second : 2 * e + 1 ≡ d = omega (arith, nz) in
+        ap (λ k. splits ((forest_of t).holds b) (near_at t k) (near_at t (2 * e + 1))) first
+        ∙ (ap (λ k. splits ((forest_of t).holds b) v (near_at t k)) second
+        ∙ by_order ((forest_of t).holds b v) ((forest_of t).holds b u)))
   ]
 
-  pub entered_size : (left : List (Option ℕ)) (x u : ℕ) → length (entered n left x u) ≡ length left
-  entered_size left x u = elim (cases_lt x n) [
-    | inl l ↦ ap length (cond-true _ _ _ (lt-ltb x n l))
-    | inr h ↦ ap length (cond-false _ _ _ (le-ltb x n h)) ∙ length-set left x (Some u)
+  low_u : u < length t.up
+  low_u = omega (arith, pairing.near_low, known.vertices)
+
+  -- The edge was not chosen.
+  fresh : get_or marks e false ≡ false
+  fresh = elim (cases_Bool (get_or marks e false)) [
+    | inr off ↦ off
+    | inl on ↦ (let at_u : splits ((forest_of t).holds u) u v ≡ true = ap (λ (s : Bool). cond s
+        (not ((forest_of t).holds u v)) ((forest_of t).holds u v)) (alone known u u pairing.near_low pairing.near_low
+        ∙ eq-eqb u u refl) ∙ ap not (alone known u v pairing.near_low pairing.far_low ∙ ne_eqb u v pairing.apart) in
+        let one : bool_number (get_or marks e false && splits ((forest_of t).holds u) (near_at t (2 * e))
+        (near_at t (2 * e + 1))) ≡ 1 =
+        ap (λ (s : Bool). bool_number (s && splits ((forest_of t).holds u) (near_at t (2 * e))
+        (near_at t (2 * e + 1)))) on ∙ ap bool_number (sides u ∙ at_u) in
+        let some : bool_number (get_or marks e false && splits ((forest_of t).holds u) (near_at t (2 * e))
+        (near_at t (2 * e + 1))) ≤ leaving t marks u =
+        term_low (λ k. bool_number (get_or marks k false && splits ((forest_of t).holds u) (near_at t (2 * k))
+        (near_at t (2 * k + 1)))) (length marks) e e_low in
+        absurd (omega (
+          arith,
+          one,
+          some,
+          ap bool_number pairing.near_held,
+          round.each u low_u,
+          round.once u pairing.near_low,
+        )))
   ]
 
-  -- Each entry is the new one, or was there.
-  pub entry_cases : (left : List (Option ℕ)) (x u c : ℕ) → x < length left
-      → ((n ≤ x) × (c ≡ x) × (get_or (entered n left x u) c None ≡ Some u))
-      ⊎ (get_or (entered n left x u) c None ≡ get_or left c None)
-  entry_cases left x u c low = by_size (cases_lt x n) (cases_eq c x)
+  -- Neither blossom waited.
+  free_of : (c w : ℕ) → c < length t.up → (n ≤ c → get_or t.parts c 0 ≢ 0)
+      → ((b : ℕ) → bool_number (within t b c) ≤ bool_number (within t b x) + bool_number (within t b y)) → n ≤ c
+      → get_or left c None ≡ None
+  free_of c w low live covered high = elim (option_cases (get_or left c None)) [
+    | inl none ↦ none
+    | inr s ↦ (let other : (z : ℕ) × (z < n) × (z ≢ s.0) × ((forest_of t).holds c z ≡ true) =
+        another known valid c s.0 high low (live high) in
+        let entry : IsEntry t c s.0 = round.entry c s.0 s.1 in
+        let waits : waits_for t other.0 c (get_or left c None) ≡ 1 = ap (waits_for t other.0 c) s.1
+        ∙ (ap (λ (q : Bool). cond q (cond ((forest_of t).holds other.0 s.0) 0 1) 0) other.3
+        ∙ ap (λ (q : Bool). cond q 0 1) (alone known other.0 s.0 other.1 entry.low ∙ ne_eqb other.0 s.0 other.2)) in
+        let some : waits_for t other.0 c (get_or left c None) ≤ waiting t left other.0 =
+        term_low (λ k. waits_for t other.0 k (get_or left k None)) (length left) c (rw size_left low) in
+        let in_c : bool_number (within t other.0 c) ≡ 1 = ap bool_number other.3 in
+        let low_z : other.0 < length t.up = omega (arith, other.1, known.vertices) in
+        absurd (omega (
+          arith,
+          waits,
+          some,
+          in_c,
+          covered other.0,
+          round.each other.0 low_z,
+          round.once other.0 other.1,
+        )))
+  ]
+
+  free_x : n ≤ x → get_or left x None ≡ None
+  free_x = free_of x u pairing.low_x pairing.live_x (λ b. omega arith)
+
+  free_y : n ≤ y → get_or left y None ≡ None
+  free_y = free_of y v pairing.low_y pairing.live_y (λ b. omega arith)
+
+  zero_at : (c w b : ℕ) → (forest_of t).holds c w ≡ true → c < n → waits_but t b c w ≡ 0
+  zero_at c w b held low = elim (cases_Bool (within t b c)) [
+    | inr off ↦ ap (λ (s : Bool). cond s (cond ((forest_of t).holds b w) 0 1) 0) off
+    | inl on ↦ ap (λ (s : Bool). cond s (cond ((forest_of t).holds b w) 0 1) 0) on
+        ∙ ap (λ (s : Bool). cond s 0 1) (ap (λ z. (forest_of t).holds z w) (known.own b c low on) ∙ held)
+  ]
+
+  abbrev first_left : List (Option ℕ)
+  first_left = entered n left x u
+
+  free_y2 : n ≤ y → get_or first_left y None ≡ None
+  free_y2 high = elim (entry_cases n left x u y (rw size_left pairing.low_x))
+      [ inl w ↦ absurd (pairing.other (sym w.1)) | inr same ↦ same ∙ free_y high ]
+
+  waiting_now : (b : ℕ) → waiting t (entered n first_left y v) b ≡ (waiting t left b + waits_but t b x u) + waits_but
+      t b y v
+  waiting_now b = entered_more t first_left y v b (rw (entered_size n left x u ∙ size_left) pairing.low_y) free_y2
+      (zero_at y v b pairing.far_held) ∙ ap (λ m. m + waits_but t b y v)
+      (entered_more t left x u b (rw size_left pairing.low_x) free_x (zero_at x u b pairing.near_held))
+
+  leaving_now : (b : ℕ) → leaving t (set marks e true) b
+      ≡ leaving t marks b + bool_number (splits ((forest_of t).holds b) u v)
+  leaving_now b = ap (count_below (λ k. bool_number (get_or (set marks e true) k false && splits
+      ((forest_of t).holds b) (near_at t (2 * k)) (near_at t (2 * k + 1))))) (length-set marks e true)
+      ∙ (count_more (λ k. bool_number (get_or marks k false && splits ((forest_of t).holds b) (near_at t (2 * k))
+      (near_at t (2 * k + 1)))) (λ k. bool_number (get_or (set marks e true) k false && splits ((forest_of t).holds b)
+      (near_at t (2 * k)) (near_at t (2 * k + 1)))) (length marks) e e_low
+      (ap (λ (s : Bool). bool_number (s && splits ((forest_of t).holds b) (near_at t (2 * e))
+      (near_at t (2 * e + 1)))) fresh) (λ k lk ne. ap (λ (s : Bool). bool_number
+      (s && splits ((forest_of t).holds b) (near_at t (2 * k)) (near_at t (2 * k + 1))))
+      (get_or-set_other marks e k true false ne)) ∙ ap (λ m. leaving t marks b + m)
+      (ap (λ (s : Bool). bool_number (s && splits ((forest_of t).holds b) (near_at t (2 * e))
+      (near_at t (2 * e + 1)))) (get_or-set_same marks e true false e_low) ∙ ap bool_number (sides b)))
+
+  entry_now : (c w : ℕ) → get_or (entered n first_left y v) c None ≡ Some w → IsEntry t c w
+  entry_now c w is = by_last (entry_cases n first_left y v c (rw (entered_size n left x u ∙ size_left) pairing.low_y))
     where
-      by_size : (x < n) ⊎ (n ≤ x) → (c ≡ x) ⊎ (c ≢ x) → ((n ≤ x) × (c ≡ x)
-          × (get_or (entered n left x u) c None ≡ Some u)) ⊎ (get_or (entered n left x u) c None ≡ get_or left c None)
-      by_size (inl l) y = inr (ap (λ xs. get_or xs c None) (cond-true _ _ _ (lt-ltb x n l)))
-      by_size (inr h) (inl e) = inl (
-        h,
-        e,
-        ap (λ xs. get_or xs c None) (cond-false _ _ _ (le-ltb x n h))
-            ∙ (ap (λ k. get_or (set left x (Some u)) k None) e ∙ get_or-set_same left x (Some u) None low),
-      )
-      by_size (inr h) (inr ne) = inr (ap (λ xs. get_or xs c None) (cond-false _ _ _ (le-ltb x n h))
-          ∙ get_or-set_other left x c (Some u) None ne)
+      made : (z s : ℕ) → (n ≤ z) → c ≡ z → (n ≤ z → get_or t.parts z 0 ≢ 0) → s < n → (forest_of t).holds z s ≡ true
+          → s ≡ w → IsEntry t c w
+      made z s high at live low held same = subst (λ k. IsEntry t k w) (sym at)
+          (subst (IsEntry t z) same (record { high = high; live = live high; low = low; held = held }))
 
-  module _ (marks : List Bool) (left : List (Option ℕ)) (x y d : ℕ) (rest due : ℕ → ℕ) (size_marks : length t.near
-      ≡ 2 * length marks) (size_left : length left ≡ length t.up)
-      (round : IsRound t marks left (λ b. (bool_number (within t b x) + bool_number (within t b y)) + rest b) due)
-      (pairing : IsPairing t x y d) where
-    abbrev e : ℕ
-    e = d / 2
+      by_first : get_or first_left c None ≡ Some w → ((n ≤ x) × (c ≡ x) × (get_or first_left c None ≡ Some u))
+          ⊎ (get_or first_left c None ≡ get_or left c None) → IsEntry t c w
+      by_first now (inl s) = made x u s.0 s.1 pairing.live_x pairing.near_low pairing.near_held
+          (some_is u w (sym s.2 ∙ now))
+      by_first now (inr same) = round.entry c w (sym same ∙ now)
 
-    abbrev u : ℕ
-    u = near_at t d
+      by_last : ((n ≤ y) × (c ≡ y) × (get_or (entered n first_left y v) c None ≡ Some v))
+          ⊎ (get_or (entered n first_left y v) c None ≡ get_or first_left c None) → IsEntry t c w
+      by_last (inl s) = made y v s.0 s.1 pairing.live_y pairing.far_low pairing.far_held (some_is v w (sym s.2 ∙ is))
+      by_last (inr same) = by_first (sym same ∙ is) (entry_cases n left x u c (rw size_left pairing.low_x))
 
-    abbrev v : ℕ
-    v = far_at t d
-
-    e_low : e < length marks
-    e_low = omega (arith, size_marks, pairing.dart)
-
-    -- The edge's ends are those of the dart, in one order or the other.
-    sides : (b : ℕ) → splits ((forest_of t).holds b) (near_at t (2 * e)) (near_at t (2 * e + 1))
-        ≡ splits ((forest_of t).holds b) u v
-    sides b = elim (cases_eq (d % 2) 0) [
-      | inl z ↦ (let first : 2 * e ≡ d = omega (arith, z) in
-          let second : 2 * e + 1 ≡ other_dart d = (let s : 2 * e + 1 ≡ d + 1 = omega (arith, z) in
-          s ∙ sym (twin_even d z)) in
-          ap (λ k. splits ((forest_of t).holds b) (near_at t k) (near_at t (2 * e + 1))) first
-          ∙ ap (λ k. splits ((forest_of t).holds b) u (near_at t k)) second)
-      | inr nz ↦
-          (let first : 2 * e ≡ other_dart d = (let s : 2 * e ≡ d - 1 = omega (arith, nz) in s ∙ sym (twin_odd d nz)) in
-          let second : 2 * e + 1 ≡ d = omega (arith, nz) in
-          ap (λ k. splits ((forest_of t).holds b) (near_at t k) (near_at t (2 * e + 1))) first
-          ∙ (ap (λ k. splits ((forest_of t).holds b) v (near_at t k)) second
-          ∙ by_order ((forest_of t).holds b v) ((forest_of t).holds b u)))
-    ]
-
-    low_u : u < length t.up
-    low_u = omega (arith, pairing.near_low, vertices)
-
-    -- The edge was not chosen.
-    fresh : get_or marks e false ≡ false
-    fresh = elim (cases_Bool (get_or marks e false)) [
-      | inr off ↦ off
-      | inl on ↦ (let at_u : splits ((forest_of t).holds u) u v ≡ true = ap (λ (s : Bool). cond s
-          (not ((forest_of t).holds u v)) ((forest_of t).holds u v)) (alone u u pairing.near_low pairing.near_low
-          ∙ eq-eqb u u refl) ∙ ap not (alone u v pairing.near_low pairing.far_low ∙ ne_eqb u v pairing.apart) in
-          let one : bool_number (get_or marks e false && splits ((forest_of t).holds u) (near_at t (2 * e))
-          (near_at t (2 * e + 1))) ≡ 1 =
-          ap (λ (s : Bool). bool_number (s && splits ((forest_of t).holds u) (near_at t (2 * e))
-          (near_at t (2 * e + 1)))) on ∙ ap bool_number (sides u ∙ at_u) in
-          let some : bool_number (get_or marks e false && splits ((forest_of t).holds u) (near_at t (2 * e))
-          (near_at t (2 * e + 1))) ≤ leaving t marks u =
-          term_low (λ k. bool_number (get_or marks k false && splits ((forest_of t).holds u) (near_at t (2 * k))
-          (near_at t (2 * k + 1)))) (length marks) e e_low in
-          absurd (omega (
-            arith,
-            one,
-            some,
-            ap bool_number pairing.near_held,
-            round.each u low_u,
-            round.once u pairing.near_low,
-          )))
-    ]
-
-    -- Neither blossom waited.
-    free_of : (c w : ℕ) → c < length t.up → (n ≤ c → get_or t.parts c 0 ≢ 0)
-        → ((b : ℕ) → bool_number (within t b c) ≤ bool_number (within t b x) + bool_number (within t b y)) → n ≤ c
-        → get_or left c None ≡ None
-    free_of c w low live covered high = elim (option_cases (get_or left c None)) [
-      | inl none ↦ none
-      | inr s ↦ (let other : (z : ℕ) × (z < n) × (z ≢ s.0) × ((forest_of t).holds c z ≡ true) =
-          more c s.0 high low (live high) in
-          let entry : IsEntry t c s.0 = round.entry c s.0 s.1 in
-          let waits : waits_for t other.0 c (get_or left c None) ≡ 1 = ap (waits_for t other.0 c) s.1
-          ∙ (ap (λ (q : Bool). cond q (cond ((forest_of t).holds other.0 s.0) 0 1) 0) other.3
-          ∙ ap (λ (q : Bool). cond q 0 1) (alone other.0 s.0 other.1 entry.low ∙ ne_eqb other.0 s.0 other.2)) in
-          let some : waits_for t other.0 c (get_or left c None) ≤ waiting t left other.0 =
-          term_low (λ k. waits_for t other.0 k (get_or left k None)) (length left) c (rw size_left low) in
-          let in_c : bool_number (within t other.0 c) ≡ 1 = ap bool_number other.3 in
-          let low_z : other.0 < length t.up = omega (arith, other.1, vertices) in
-          absurd (omega (
-            arith,
-            waits,
-            some,
-            in_c,
-            covered other.0,
-            round.each other.0 low_z,
-            round.once other.0 other.1,
-          )))
-    ]
-
-    free_x : n ≤ x → get_or left x None ≡ None
-    free_x = free_of x u pairing.low_x pairing.live_x (λ b. omega arith)
-
-    free_y : n ≤ y → get_or left y None ≡ None
-    free_y = free_of y v pairing.low_y pairing.live_y (λ b. omega arith)
-
-    zero_at : (c w b : ℕ) → (forest_of t).holds c w ≡ true → c < n → waits_but t b c w ≡ 0
-    zero_at c w b held low = elim (cases_Bool (within t b c)) [
-      | inr off ↦ ap (λ (s : Bool). cond s (cond ((forest_of t).holds b w) 0 1) 0) off
-      | inl on ↦ ap (λ (s : Bool). cond s (cond ((forest_of t).holds b w) 0 1) 0) on
-          ∙ ap (λ (s : Bool). cond s 0 1) (ap (λ z. (forest_of t).holds z w) (own b c low on) ∙ held)
-    ]
-
-    abbrev first_left : List (Option ℕ)
-    first_left = entered n left x u
-
-    free_y2 : n ≤ y → get_or first_left y None ≡ None
-    free_y2 high = elim (entry_cases left x u y (rw size_left pairing.low_x))
-        [ inl w ↦ absurd (pairing.other (sym w.1)) | inr same ↦ same ∙ free_y high ]
-
-    waiting_now : (b : ℕ) → waiting t (entered n first_left y v) b ≡ (waiting t left b + waits_but t b x u) + waits_but
-        t b y v
-    waiting_now b = entered_more first_left y v b (rw (entered_size left x u ∙ size_left) pairing.low_y) free_y2
-        (zero_at y v b pairing.far_held) ∙ ap (λ m. m + waits_but t b y v)
-        (entered_more left x u b (rw size_left pairing.low_x) free_x (zero_at x u b pairing.near_held))
-
-    leaving_now : (b : ℕ) → leaving t (set marks e true) b
-        ≡ leaving t marks b + bool_number (splits ((forest_of t).holds b) u v)
-    leaving_now b = ap (count_below (λ k. bool_number (get_or (set marks e true) k false && splits
-        ((forest_of t).holds b) (near_at t (2 * k)) (near_at t (2 * k + 1))))) (length-set marks e true)
-        ∙ (count_more (λ k. bool_number (get_or marks k false && splits ((forest_of t).holds b) (near_at t (2 * k))
-        (near_at t (2 * k + 1)))) (λ k. bool_number (get_or (set marks e true) k false && splits ((forest_of t).holds b)
-        (near_at t (2 * k)) (near_at t (2 * k + 1)))) (length marks) e e_low
-        (ap (λ (s : Bool). bool_number (s && splits ((forest_of t).holds b) (near_at t (2 * e))
-        (near_at t (2 * e + 1)))) fresh) (λ k lk ne. ap (λ (s : Bool). bool_number
-        (s && splits ((forest_of t).holds b) (near_at t (2 * k)) (near_at t (2 * k + 1))))
-        (get_or-set_other marks e k true false ne)) ∙ ap (λ m. leaving t marks b + m)
-        (ap (λ (s : Bool). bool_number (s && splits ((forest_of t).holds b) (near_at t (2 * e))
-        (near_at t (2 * e + 1)))) (get_or-set_same marks e true false e_low) ∙ ap bool_number (sides b)))
-
-    entry_now : (c w : ℕ) → get_or (entered n first_left y v) c None ≡ Some w → IsEntry t c w
-    entry_now c w is = by_last (entry_cases first_left y v c (rw (entered_size left x u ∙ size_left) pairing.low_y))
-      where
-        made : (z s : ℕ) → (n ≤ z) → c ≡ z → (n ≤ z → get_or t.parts z 0 ≢ 0) → s < n → (forest_of t).holds z s ≡ true
-            → s ≡ w → IsEntry t c w
-        made z s high at live low held same = subst (λ k. IsEntry t k w) (sym at)
-            (subst (IsEntry t z) same (record { high = high; live = live high; low = low; held = held }))
-
-        by_first : get_or first_left c None ≡ Some w → ((n ≤ x) × (c ≡ x) × (get_or first_left c None ≡ Some u))
-            ⊎ (get_or first_left c None ≡ get_or left c None) → IsEntry t c w
-        by_first now (inl s) = made x u s.0 s.1 pairing.live_x pairing.near_low pairing.near_held
-            (some_is u w (sym s.2 ∙ now))
-        by_first now (inr same) = round.entry c w (sym same ∙ now)
-
-        by_last : ((n ≤ y) × (c ≡ y) × (get_or (entered n first_left y v) c None ≡ Some v))
-            ⊎ (get_or (entered n first_left y v) c None ≡ get_or first_left c None) → IsEntry t c w
-        by_last (inl s) = made y v s.0 s.1 pairing.live_y pairing.far_low pairing.far_held (some_is v w (sym s.2 ∙ is))
-        by_last (inr same) = by_first (sym same ∙ is) (entry_cases left x u c (rw size_left pairing.low_x))
-
-    pub paired_round : IsRound t (set marks (d / 2) true)
-        (entered (length t.hand) (entered (length t.hand) left x (near_at t d)) y (far_at t d)) rest due
-    paired_round = record {
-      each = λ b l. (omega (arith, pairing.law b l, round.each b l, leaving_now b, waiting_now b));
-      entry = entry_now;
-      once = round.once;
-      tight = λ g is valid k on. tight_now g is valid k on (cases_eq k e);
-    }
-      where
-        tight_now : (g : WeightedGraph) → IsSmallGraph g → IsSoundFor g t → (k : ℕ) → get_or (set marks e true) k false
-            ≡ true → (k ≡ e) ⊎ (k ≢ e) → IsTight (darts_of g) (forest_of t) (2 * k)
-        tight_now g is valid k on (inr ne) = round.tight g is valid k (sym (get_or-set_other marks e k true false ne)
-            ∙ on)
-        tight_now g is valid k on (inl at) = elim (cases_eq (d % 2) 0) [
-          | inl z ↦ (let s : d ≡ 2 * k = omega (arith, z, at) in
-              subst (IsTight (darts_of g) (forest_of t)) s (pairing.tight g is valid))
-          | inr nz ↦ (let s : d - 1 ≡ 2 * k = omega (arith, nz, at) in
-              subst (IsTight (darts_of g) (forest_of t)) (twin_odd d nz ∙ s)
-              (tight_twin (are_darts is.lawful) (pairing.tight g is valid)))
-        ]
+  pub paired_round : IsRound t (set marks (d / 2) true)
+      (entered (length t.hand) (entered (length t.hand) left x (near_at t d)) y (far_at t d)) rest due
+  paired_round = record {
+    each = λ b l. (omega (arith, pairing.law b l, round.each b l, leaving_now b, waiting_now b));
+    entry = entry_now;
+    once = round.once;
+    tight = λ h sound k on. tight_now h sound k on (cases_eq k e);
+  }
+    where
+      tight_now : (h : WeightedGraph) → IsSoundFor h t → (k : ℕ) → get_or (set marks e true) k false ≡ true
+          → (k ≡ e) ⊎ (k ≢ e) → IsTight (darts_of h) (forest_of t) (2 * k)
+      tight_now h sound k on (inr ne) = round.tight h sound k (sym (get_or-set_other marks e k true false ne) ∙ on)
+      tight_now h sound k on (inl at) = elim (cases_eq (d % 2) 0) [
+        | inl z ↦ (let s : d ≡ 2 * k = omega (arith, z, at) in
+            subst (IsTight (darts_of h) (forest_of t)) s (pairing.tight h sound))
+        | inr nz ↦ (let s : d - 1 ≡ 2 * k = omega (arith, nz, at) in
+            subst (IsTight (darts_of h) (forest_of t)) (twin_odd d nz ∙ s)
+            (tight_twin (are_darts sound.small.lawful) (pairing.tight h sound)))
+      ]

@@ -3,7 +3,7 @@ use Rattle.std.proofs.Common.{◌≡◌, ◌≢◌, ℕ, zero, suc, ◌+◌, ◌
 use Rattle.std.proofs.Common.{length, get_or, Option, Some, None, ◌⊎◌, refl, sym, ◌∙◌, ap, inl, inr, arith}
 use Rattle.std.proofs.Math.ListN.{set}
 use Rattle.std.proofs.lemmas.Bool.{cases_Bool, cond-true, cond-false}
-use Rattle.def_matching.specs.Matching.{WeightedGraph, IsSmallGraph}
+use Rattle.def_matching.specs.Matching.{WeightedGraph}
 use Rattle.def_forest.specs.{Darts.darts_of, Forests.bool_number, Forests.walk, Forests.ring_sum, Tables.ForestTables}
 use Rattle.def_forest.specs.{Tables.forest_of, Tables.up_at, Valid.IsRing}
 use Rattle.forest_laws.specs.Walks.{listed}
@@ -11,8 +11,8 @@ use Rattle.forest_laws.proofs.Circles.{IsCircle, circle_from}
 use Rattle.forest_laws.proofs.Walks.{listed_at, listed_closed, listed_place, walk_fixed, walk_front}
 use Rattle.qm_forest.specs.Rounds.{IsSoundFor, IsLaminar, IsPairing, IsRound, entered, far_at, near_at, waits_but}
 use Rattle.qm_forest.specs.Rounds.{within}
-use Rattle.qm_forest.proofs.{Enclosed.climbs_here, Nests.climbs_place, Laminars.alone}
-use Rattle.qm_forest.proofs.Laminars.{another, ring_around, ring_pairing, rising, x_low}
+use Rattle.qm_forest.proofs.{Enclosed.climbs_here, Nests.climbs_place}
+use Rattle.qm_forest.proofs.Laminars.{ring_around, ring_pairing, rising, x_low}
 use Rattle.qm_forest.proofs.{Pairings.entered_size, Pairings.entry_cases, Pairings.paired_round, Withins.climb_law}
 use Rattle.qm_forest.proofs.Withins.{in_where, rank_walk, ring_front}
 
@@ -27,8 +27,8 @@ round_rest rest2 same round = record {
   tight = round.tight;
 }
 
-module _ {t : ForestTables} (known : IsLaminar t) {g : WeightedGraph} (is_small : IsSmallGraph g)
-    (valid : IsSoundFor g t) (p : ℕ) (inner : up_at t.up p ≢ p) where
+module _ {t : ForestTables} (known : IsLaminar t) {g : WeightedGraph} (valid : IsSoundFor g t) {p : ℕ}
+    (inner : up_at t.up p ≢ p) where
   abbrev after : ℕ → ℕ
   after k = get_or t.after k 0
 
@@ -39,7 +39,7 @@ module _ {t : ForestTables} (known : IsLaminar t) {g : WeightedGraph} (is_small 
   many = get_or t.parts q 0
 
   ring : IsRing (darts_of g) (forest_of t) q
-  ring = ring_around t known g is_small valid p inner
+  ring = ring_around known valid inner
 
   abbrev inside : ℕ → Bool
   inside = listed (λ k. get_or t.after k 0) (get_or t.head (up_at t.up p) 0) (get_or t.parts (up_at t.up p) 0)
@@ -75,13 +75,13 @@ module _ {t : ForestTables} (known : IsLaminar t) {g : WeightedGraph} (is_small 
   at_in k = rw (walk_front after p k) at (circle.marked (suc k))
 
   pub at_low : (k : ℕ) → at k < length t.up
-  at_low k = x_low t known g is_small valid (at k) (inner_part (at k) (at_in k))
+  at_low k = x_low known valid (inner_part (at k) (at_in k))
 
   pub at_around : (k : ℕ) → up_at t.up (at k) ≡ q
   at_around k = (part (at k) (at_in k)).0
 
   pub at_pairing : (k : ℕ) → IsPairing t (at k) (after (at k)) (get_or t.joint (at k) 0)
-  at_pairing k = ring_pairing t known g is_small valid (at k) (inner_part (at k) (at_in k))
+  at_pairing k = ring_pairing known valid (inner_part (at k) (at_in k))
 
   abbrev sum_from : (x m b : ℕ) → ℕ
   sum_from x m b = ring_sum after (λ r. bool_number (within t b r)) x m
@@ -108,10 +108,8 @@ module _ {t : ForestTables} (known : IsLaminar t) {g : WeightedGraph} (is_small 
       → get_or left2 c None ≡ Some v → (get_or left c None ≡ Some v) ⊎
       (get_or t.rank c 0 < get_or t.rank (up_at t.up p) 0)
   turn_entries left k {x} {y} d c v x_is y_is size is low_x low_y e =
-      by_last (entry_cases t known.vertices (alone t known) known.own (another t known g is_small valid)
-      (entered (length t.hand) left x (near_at t d)) y (far_at t d) c
-      (rw (entered_size t known.vertices (alone t known) known.own
-      (another t known g is_small valid) left x (near_at t d) ∙ size) low_y))
+      by_last (entry_cases (length t.hand) (entered (length t.hand) left x (near_at t d)) y (far_at t d) c
+      (rw (entered_size (length t.hand) left x (near_at t d) ∙ size) low_y))
     where
       now : get_or (entered (length t.hand) (entered (length t.hand) left x (near_at t d)) y (far_at t d)) c None
           ≡ Some v
@@ -139,8 +137,8 @@ module _ {t : ForestTables} (known : IsLaminar t) {g : WeightedGraph} (is_small 
           (far_at t d)) c None ≡ get_or (entered (length t.hand) left x (near_at t d)) c None)
           → (get_or left c None ≡ Some v) ⊎ (get_or t.rank c 0 < get_or t.rank (up_at t.up p) 0)
       by_last (inl w) = inr (below y (suc (2 * k)) (y_is ∙ ap after x_is) w.1)
-      by_last (inr same) = by_first (entry_cases t known.vertices (alone t known) known.own
-          (another t known g is_small valid) left x (near_at t d) c (rw size low_x)) (sym same ∙ now)
+      by_last (inr same) = by_first (entry_cases (length t.hand) left x (near_at t d) c (rw size low_x))
+          (sym same ∙ now)
 
   -- One pair more.
   pub ring_turn : {marks : List Bool} {marks2 : List Bool} {left : List (Option ℕ)} {left2 : List (Option ℕ)}
@@ -150,8 +148,7 @@ module _ {t : ForestTables} (known : IsLaminar t) {g : WeightedGraph} (is_small 
       (far_at t d) → IsRound t marks left (λ b. sum_from x (many - 1 - 2 * k) b + rest b) due
       → IsRound t marks2 left2 (λ b. sum_from (after y) (many - 1 - 2 * j) b + rest b) due
   ring_turn {marks} {left} {left2} rest {due} k j {x} {y} {d} x_is low y_is d_is j_is size_marks size_left marks_is
-      left_is round = rw (marks_is, left_is) (paired_round t known.vertices (alone t known) known.own
-      (another t known g is_small valid) marks left x y d
+      left_is round = rw (marks_is, left_is) (paired_round known valid marks left x y d
       (λ b. sum_from (after y) (many - 1 - 2 * j) b + rest b) due size_marks size_left
       (round_rest (λ b. (bool_number (within t b x) + bool_number (within t b y)) +
       (sum_from (after y) (many - 1 - 2 * j) b + rest b)) (λ b l. peeled b) round) (turn_pairing k x_is y_is d_is))
@@ -202,7 +199,8 @@ module _ {t : ForestTables} (known : IsLaminar t) {g : WeightedGraph} (is_small 
       low x on = omega (arith, known.rises x (inner_part x on), ap (λ z. get_or t.rank z 0) (part x on).0, low_q)
 
 -- Going up from a vertex: at it, at each step, and at the end.
-module _ {t : ForestTables} (known : IsLaminar t) (v c : ℕ) (lv : v < length t.hand) (held : within t v c ≡ true) where
+module _ {t : ForestTables} (known : IsLaminar t) {v : ℕ} (c : ℕ) (lv : v < length t.hand)
+    (held : within t v c ≡ true) where
   pub top_rank : get_or t.rank c 0 ≤ length t.hand
   top_rank = known.passed c v lv held
 
@@ -238,7 +236,7 @@ module _ {t : ForestTables} (known : IsLaminar t) (v c : ℕ) (lv : v < length t
       none b true = refl
       none b false = refl
 
-  module _ (p : ℕ) (above : (j : ℕ) × (walk (up_at t.up) p j ≡ c)) (below : p ≢ c) where
+  module _ {p : ℕ} (above : (j : ℕ) × (walk (up_at t.up) p j ≡ c)) (below : p ≢ c) where
     pub climbs_on : up_at t.up p ≢ p
     climbs_on e = below (sym (walk_fixed (up_at t.up) above.0 e) ∙ above.1)
 

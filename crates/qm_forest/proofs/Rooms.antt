@@ -26,6 +26,7 @@ module _ {t : ForestTables} (known : IsLaminar t) (whole : length t.up ≡ lengt
   pub has_room : HasRoom t round
   has_room = record {
     laminar = known;
+    sound = (g, valid);
     marks = omega (arith, edges_is, valid.darts);
     left_out = ap length blank.left_out ∙ (length-replicate (n + n / 2) None ∙ omega (arith, n_is, half_is, whole));
   }

@@ -14,9 +14,10 @@ use Rattle.def_forest.specs.Tables.{ForestTables, forest_of, climbs, up_at}
 use Rattle.qm_forest.specs.Ties.{IsInUse}
 use Rattle.qm_forest.specs.declared.rounds.Round.{Round}
 
--- The forest is valid for a graph, whose darts begin where they do in the forest. There may be no room for what it
+-- The forest is valid for a small graph, whose darts begin where they do in the forest. There may be no room for what it
 -- comes to.
 pub record IsSoundFor (g : WeightedGraph) (t : ForestTables) : Type 0 where
+  pub small : IsSmallGraph g
   pub vertices : length t.hand ≡ g.n
   pub darts : length t.near ≡ 2 * length g.edges
   pub ends : (d : Dart) → d < 2 * length g.edges → slice_index t.near d ≡ (darts_of g).near d
@@ -64,7 +65,7 @@ pub record IsRound (t : ForestTables) (marks : List Bool) (left_out : List (Opti
   pub each : (b : Blossom) → b < length t.up → leaving t marks b + (waiting t left_out b + rest b) ≡ due b
   pub entry : (c : Blossom) (v : Vertex) → slice_index_or left_out c None ≡ Some v → IsEntry t c v
   pub once : (v : Vertex) → v < length t.hand → due v ≤ 1
-  pub tight : (g : WeightedGraph) → IsSmallGraph g → IsSoundFor g t → (e : ℕ) → slice_index_or marks e false ≡ true
+  pub tight : (g : WeightedGraph) → IsSoundFor g t → (e : ℕ) → slice_index_or marks e false ≡ true
       → IsTight (darts_of g) (forest_of t) (2 * e)
 
 -- What the tables say of how blossoms lie in each other: the way out rises, and ends soon.
@@ -82,9 +83,10 @@ pub record IsLaminar (t : ForestTables) : Type 0 where
       × (within t v x ≡ true)
   pub some : (x : Blossom) → x < length t.up → IsInUse (length t.hand) t.parts x → 1 ≤ slice_index t.rank x
 
--- There is a mark for each edge and an entry for each blossom.
+-- A sound forest, with a mark for each edge and an entry for each blossom.
 pub record HasRoom (t : ForestTables) (round : Round) : Type 0 where
   pub laminar : IsLaminar t
+  pub sound : (g : WeightedGraph) × IsSoundFor g t
   pub marks : length t.near ≡ 2 * length round.marks.items
   pub left_out : length round.left_out.items ≡ length t.up
 
@@ -106,7 +108,7 @@ pub record IsPairing (t : ForestTables) (x y : Blossom) (d : Dart) : Type 0 wher
       → bool_number (splits ((forest_of t).holds b) (near_at t d) (far_at t d))
       + (waits_but t b x (near_at t d) + waits_but t b y (far_at t d))
       ≡ bool_number (within t b x) + bool_number (within t b y)
-  pub tight : (g : WeightedGraph) → IsSmallGraph g → IsSoundFor g t → IsTight (darts_of g) (forest_of t) d
+  pub tight : (g : WeightedGraph) → IsSoundFor g t → IsTight (darts_of g) (forest_of t) d
 
 -- A set waits from now on; a single vertex does not.
 abbrev pub entered : (n : ℕ) (left_out : List (Option Vertex)) (c : Blossom) (v : Vertex) → List (Option Vertex)

@@ -5,7 +5,7 @@ ghost use Rattle.std.specs.Vec.{vec_capacity};
 ghost use Rattle.def_matching.specs.Matching.{WeightedGraph, IsSmallGraph, Vertex};
 ghost use Rattle.def_forest.specs.Forests.{Blossom};
 ghost use Rattle.def_forest.specs.Tables.{forest_of, IsValidFor, MatchesBut};
-ghost use Rattle.qm_forest.specs.Rounds.{IsRound, IsSoundFor, HasRoom, AreInOrder, AreMarked};
+ghost use Rattle.qm_forest.specs.Rounds.{IsRound, HasRoom, AreInOrder, AreMarked};
 ghost use Rattle.qm_forest.specs.Outlines.{IsChosen};
 
 use crate::forest::Forest;
@@ -36,7 +36,6 @@ impl Forest {
     /// Chooses the edges that match the matched blossoms and all within them, and lists the sets, those with fewer
     /// vertices first.
     pub(crate) fn choose(&self, sets: &mut Vec<(u32, u32)>, round: &mut Round)
-        requires valid { (g : WeightedGraph) × IsSmallGraph g × IsSoundFor g self.now }
         requires sets { length self.now.up ≤ length self.now.hand + vec_capacity sets.old }
         requires room { HasRoom self.now round.old }
         requires begun { IsRound self.now round.old.marks.items round.old.left_out.items (λ b. 0) (λ b. 0) }

@@ -4,9 +4,9 @@ ghost use Rattle.std.specs.Prelude.{◌≡◌, ◌≢◌, ◌+◌, ◌-◌, ◌*
 ghost use Rattle.std.specs.Prelude.{slice_index_or};
 ghost use Rattle.std.specs.Prelude.{slice_set, Some, None};
 ghost use Rattle.def_forest.specs.Forests.{Blossom, bool_number, ring_sum};
-ghost use Rattle.def_matching.specs.Matching.{WeightedGraph, IsSmallGraph, Vertex};
+ghost use Rattle.def_matching.specs.Matching.{Vertex};
 ghost use Rattle.def_forest.specs.Tables.{forest_of, up_at};
-ghost use Rattle.qm_forest.specs.Rounds.{IsSoundFor, IsRound, HasRoom, IsPairing};
+ghost use Rattle.qm_forest.specs.Rounds.{IsRound, HasRoom, IsPairing};
 ghost use Rattle.qm_forest.specs.Rounds.{AreInOrder, within, waits_but, entered};
 ghost use Rattle.qm_forest.specs.Rounds.{near_at, far_at, is_dart, matched_by};
 
@@ -66,7 +66,6 @@ impl Forest {
     /// Matches the parts of a set in pairs along the ring, but for one part.
     fn match_ring(&self, p: u32, round: &mut Round)
         requires room { HasRoom self.now round.old }
-        requires valid { (g : WeightedGraph) × IsSmallGraph g × IsSoundFor g self.now }
         requires inner { up_at self.now.up p ≢ p }
         requires low { p < length self.now.up }
         ensures room { HasRoom self.now round.new }
@@ -91,7 +90,6 @@ impl Forest {
     /// Matches all vertices of a blossom but one, going up from that one; parts that are sets wait.
     pub(crate) fn match_up(&self, c: u32, v: u32, round: &mut Round)
         requires room { HasRoom self.now round.old }
-        requires valid { (g : WeightedGraph) × IsSmallGraph g × IsSoundFor g self.now }
         requires low { c < length self.now.up }
         requires vertex { v < length self.now.hand }
         requires held { (forest_of self.now).holds c v ≡ true }
@@ -113,7 +111,6 @@ impl Forest {
     /// Matches the outermost blossoms as they are matched. All sets among them wait then.
     pub(crate) fn match_mates(&self, round: &mut Round)
         requires room { HasRoom self.now round.old }
-        requires valid { (g : WeightedGraph) × IsSmallGraph g × IsSoundFor g self.now }
         requires begun { IsRound self.now round.old.marks.items round.old.left_out.items (λ b. 0) (λ b. 0) }
         ensures room { HasRoom self.now round.new }
         ensures done { IsRound self.now round.new.marks.items round.new.left_out.items (λ b. 0)
@@ -127,7 +124,6 @@ impl Forest {
     /// Matches two outermost blossoms by an edge, if they are matched by it.
     fn match_edge(&self, e: u32, round: &mut Round)
         requires room { HasRoom self.now round.old }
-        requires valid { (g : WeightedGraph) × IsSmallGraph g × IsSoundFor g self.now }
         requires edge { e < length round.old.marks.items }
         requires begun { IsRound self.now round.old.marks.items round.old.left_out.items (λ b. 0)
             (matched_by self.now e) }
@@ -158,7 +154,6 @@ impl Forest {
     /// Matches a set that waits: from now on it does not, and parts of it may.
     fn match_set(&self, c: u32, round: &mut Round)
         requires room { HasRoom self.now round.old }
-        requires valid { (g : WeightedGraph) × IsSmallGraph g × IsSoundFor g self.now }
         requires begun { (rest : Blossom → ℕ) × (due : Blossom → ℕ)
             × IsRound self.now round.old.marks.items round.old.left_out.items rest due }
         requires low { c < length self.now.up }
@@ -179,7 +174,6 @@ impl Forest {
     /// Matches all sets that wait, and those that wait then: those with more vertices first.
     pub(crate) fn match_waiting(&self, sets: &[(u32, u32)], round: &mut Round)
         requires room { HasRoom self.now round.old }
-        requires valid { (g : WeightedGraph) × IsSmallGraph g × IsSoundFor g self.now }
         requires sets { AreInOrder self.now sets.now }
         requires begun { (rest : Blossom → ℕ) × (due : Blossom → ℕ)
             × IsRound self.now round.old.marks.items round.old.left_out.items rest due }

@@ -40,7 +40,7 @@ impl Forest {
     }
     /// Writes the matching and the dual into the room that there is.
     fn write_down(self, room: Room) -> (Vec<u32>, Dual)
-        requires valid { (g : WeightedGraph) × IsSmallGraph g × IsSoundFor g self × (room ≡ size_of g) }
+        requires valid { (g : WeightedGraph) × IsSoundFor g self × (room ≡ size_of g) }
         ensures laminar { IsLaminar self }
         ensures outline { (sets : List (ℕ × Blossom)) × IsOutline self sets (dual result.1) }
         ensures chosen { (round : Round) × IsChosen self round

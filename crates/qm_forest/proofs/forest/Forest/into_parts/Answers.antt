@@ -7,9 +7,8 @@ pub write_down-requires : goal.write_down-requires
 write_down-requires c = record {
   valid = (
     c.requires.valid.0,
-    c.requires.valid.1,
     sound_still c.args.self c.replace.new.dest (ap (λ (t : ForestTables). record t { room = c.replace.new.dest })
-        c.self.view_is) c.requires.valid.2,
+        c.self.view_is) c.requires.valid.1 c.requires.valid.2,
     in_some c.in-Some.room (size_of c.requires.valid.0) c.in-Some.is (c.replace.ensures.value
         ∙ (ap (λ (t : ForestTables). t.room) c.self.view_is ∙ c.requires.valid.2.room)),
   );

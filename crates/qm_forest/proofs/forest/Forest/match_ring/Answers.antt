@@ -1,64 +1,59 @@
-use Rattle.std.proofs.Common.{◌≡◌, suc, ◌+◌, ◌-◌, ◌*◌, ◌/◌, ◌<◌, ◌⊎◌, length, get_or, refl, sym, ◌∙◌, ap, subst, inl}
-use Rattle.std.proofs.Common.{inr, arith}
-use Rattle.def_forest.specs.{Forests.bool_number, Forests.ring_sum, Forests.walk, Tables.up_at}
-use Rattle.qm_forest.specs.Rounds.{IsPairing, IsRound, within}
+use Rattle.std.proofs.Common.{◌≡◌, suc, ◌+◌, ◌-◌, ◌*◌, ◌/◌, ◌<◌, ◌⊎◌, get_or, refl, ◌∙◌, ap, inl, inr, arith}
+use Rattle.def_forest.specs.{Forests.walk, Tables.up_at}
+use Rattle.qm_forest.specs.Rounds.{IsPairing}
 use Rattle.qm_forest.proofs.RingRounds.{at_low, ring_begun, ring_ended, ring_turn, turn_entries, turn_pairing}
+use Rattle.qm_forest.proofs.forest.Forest.match_ring.Goals.{After-joint-d, After-parts-end}
 use Rattle.qm_forest.proofs.forest.Forest.match_ring.Goals as goal
+
+parts_is : (c : After-parts-end) → c.parts-end.result
+    ≡ get_or c.args.self.now.parts (up_at c.args.self.now.up c.args.p) 0
+parts_is c = c.parts-end.ensures ∙ ap (λ z. get_or c.args.self.now.parts z 0) c.up_at.ensures.value
+
+pairing : (c : After-joint-d) → IsPairing c.args.self.now c.loop.x c.next-y.result c.joint-d.result
+pairing c = turn_pairing c.requires.room.laminar c.requires.room.sound.1 c.requires.inner c.loop.counter
+    c.loop.invariant.here c.next-y.ensures c.joint-d.ensures
 
 pub loop-init : goal.loop-init
 loop-init c = record {
   here = c.next-x.ensures;
   room = c.requires.room;
-  done = λ rest due r. ring_begun c.requires.room.laminar c.requires.valid.1 c.requires.valid.2 c.args.p
-      c.requires.inner rest 0 c.next-x.ensures refl r;
+  done = λ rest due r. ring_begun c.requires.room.laminar c.requires.room.sound.1 c.requires.inner rest 0
+      c.next-x.ensures refl r;
   entries = λ b v e. inl e;
 }
 
 pub next-y-requires : goal.next-y-requires
-next-y-requires c = subst (λ z. z < length c.args.self.now.up) (sym c.loop.invariant.here)
-    (at_low c.requires.room.laminar c.requires.valid.1 c.requires.valid.2 c.args.p
-    c.requires.inner (2 * c.loop.counter))
+next-y-requires c = rw c.loop.invariant.here
+    (at_low c.requires.room.laminar c.requires.room.sound.1 c.requires.inner (2 * c.loop.counter))
 
 pub joint-d-requires : goal.joint-d-requires
-joint-d-requires c = subst (λ z. z < length c.args.self.now.up) (sym c.loop.invariant.here)
-    (at_low c.requires.room.laminar c.requires.valid.1 c.requires.valid.2 c.args.p
-    c.requires.inner (2 * c.loop.counter))
+joint-d-requires c = rw c.loop.invariant.here
+    (at_low c.requires.room.laminar c.requires.room.sound.1 c.requires.inner (2 * c.loop.counter))
 
 pub pair-requires-clause-pairing : goal.pair-requires-clause-pairing
-pair-requires-clause-pairing c = turn_pairing c.requires.room.laminar c.requires.valid.1 c.requires.valid.2 c.args.p
-    c.requires.inner c.loop.counter c.loop.invariant.here c.next-y.ensures c.joint-d.ensures
+pair-requires-clause-pairing c = pairing (goal.at.pair-requires-clause-pairing c).After-joint-d
 
 pub next-x-requires-in-loop : goal.next-x-requires-in-loop
-next-x-requires-in-loop c = (turn_pairing c.requires.room.laminar c.requires.valid.1 c.requires.valid.2 c.args.p
-    c.requires.inner c.loop.counter c.loop.invariant.here c.next-y.ensures c.joint-d.ensures).low_y
+next-x-requires-in-loop c = (pairing (goal.at.next-x-requires-in-loop c).After-joint-d).low_y
 
 pub loop-preserved : goal.loop-preserved
 loop-preserved c =
-    let pairing : IsPairing c.args.self.now c.loop.x c.next-y.result c.joint-d.result = turn_pairing
-    c.requires.room.laminar c.requires.valid.1 c.requires.valid.2 c.args.p c.requires.inner c.loop.counter
-    c.loop.invariant.here c.next-y.ensures c.joint-d.ensures in
+    let it = pairing (goal.at.loop-preserved c).After-joint-d in
     let two : suc (suc (2 * c.loop.counter)) ≡ 2 * (c.loop.counter + 1) = omega arith in
-    let parts : c.parts-end.result ≡ get_or c.args.self.now.parts (up_at c.args.self.now.up c.args.p) 0 =
-    c.parts-end.ensures ∙ ap (λ z. get_or c.args.self.now.parts z 0) c.up_at.ensures.value in
     let low : c.loop.counter < get_or c.args.self.now.parts (up_at c.args.self.now.up c.args.p) 0 / 2 =
-    omega (arith, c.loop-test.true, parts) in
+    omega (arith, c.loop-test.true, parts_is (goal.at.loop-preserved c).After-parts-end) in
     record {
       here = c.next-x-in-loop.ensures ∙ (ap (λ z. get_or c.args.self.now.after z 0)
           (c.next-y.ensures ∙ ap (λ z. get_or c.args.self.now.after z 0) c.loop.invariant.here)
           ∙ ap (walk (λ k. get_or c.args.self.now.after k 0) (get_or c.args.self.now.after c.args.p 0)) two);
       room = c.pair.ensures.room;
-      done = λ rest due r. subst (λ z. IsRound c.args.self.now c.pair.new.round.marks.items
-          c.pair.new.round.left_out.items (λ b. ring_sum (λ k. get_or c.args.self.now.after k 0)
-          (λ s. bool_number (within c.args.self.now b s)) z (get_or c.args.self.now.parts
-          (up_at c.args.self.now.up c.args.p) 0 - 1 - 2 * (c.loop.counter + 1)) + rest b) due)
-          (sym c.next-x-in-loop.ensures) (ring_turn c.requires.room.laminar c.requires.valid.1 c.requires.valid.2
-          c.args.p c.requires.inner rest c.loop.counter (c.loop.counter + 1) c.loop.invariant.here low c.next-y.ensures
+      done = λ rest due r. rw c.next-x-in-loop.ensures (ring_turn c.requires.room.laminar c.requires.room.sound.1
+          c.requires.inner rest c.loop.counter (c.loop.counter + 1) c.loop.invariant.here low c.next-y.ensures
           c.joint-d.ensures refl c.loop.invariant.room.marks c.loop.invariant.room.left_out c.pair.ensures.marks
           c.pair.ensures.left_out (c.loop.invariant.done rest due r));
-      entries = λ b v e. by_turn (turn_entries c.requires.room.laminar c.requires.valid.1 c.requires.valid.2 c.args.p
-          c.requires.inner c.loop.round.left_out.items c.loop.counter c.joint-d.result b v c.loop.invariant.here
-          c.next-y.ensures c.loop.invariant.room.left_out c.pair.ensures.left_out pairing.low_x pairing.low_y e)
-          (c.loop.invariant.entries b v);
+      entries = λ b v e. by_turn (turn_entries c.requires.room.laminar c.requires.room.sound.1 c.requires.inner
+          c.loop.round.left_out.items c.loop.counter c.joint-d.result b v c.loop.invariant.here c.next-y.ensures
+          c.loop.invariant.room.left_out c.pair.ensures.left_out it.low_x it.low_y e) (c.loop.invariant.entries b v);
     }
   where
     by_turn : {P Q R : Type 0} → P ⊎ Q → (P → R ⊎ Q) → R ⊎ Q
@@ -66,9 +61,7 @@ loop-preserved c =
     by_turn (inr y) f = inr y
 
 pub returns-clause-done : goal.returns-clause-done
-returns-clause-done c =
-    let parts : c.parts-end.result ≡ get_or c.args.self.now.parts (up_at c.args.self.now.up c.args.p) 0 =
-    c.parts-end.ensures ∙ ap (λ z. get_or c.args.self.now.parts z 0) c.up_at.ensures.value in
-    λ rest due r. ring_ended c.requires.room.laminar c.requires.valid.1 c.requires.valid.2 c.args.p c.requires.inner
-    rest c.loop.counter c.loop.x (omega (arith, c.loop-test.false, c.loop.auto.counter-end, parts))
-    (c.loop.invariant.done rest due r)
+returns-clause-done c rest due r =
+    let parts = parts_is (goal.at.returns-clause-done c).After-parts-end in
+    ring_ended c.requires.room.laminar c.requires.room.sound.1 c.requires.inner rest c.loop.counter c.loop.x
+    (omega (arith, c.loop-test.false, c.loop.auto.counter-end, parts)) (c.loop.invariant.done rest due r)

@@ -1,7 +1,6 @@
-use Rattle.std.proofs.Common.{◌≡◌, ℕ, ◌+◌, ◌<◌, ◌⊎◌, cond, length, get_or, sym, ◌∙◌, ap, subst, inl, inr, arith, Some}
-use Rattle.std.proofs.Common.{None}
-use Rattle.def_forest.specs.{Forests.walk, Tables.up_at}
-use Rattle.qm_forest.specs.Rounds.{IsRound, waits_but, within}
+use Rattle.std.proofs.Common.{◌≡◌, ℕ, ◌<◌, ◌⊎◌, get_or, ◌∙◌, ap, inl, inr, arith, Some, None, length}
+use Rattle.def_forest.specs.Tables.{up_at}
+use Rattle.qm_forest.specs.Rounds.{within}
 use Rattle.qm_forest.proofs.{Enclosed.climbs_here, Nests.climbs_place, RingRounds.above_more, RingRounds.climb_begins}
 use Rattle.qm_forest.proofs.RingRounds.{climb_ends, climbs_on, held_more, next_rank}
 use Rattle.qm_forest.proofs.RingRounds.{ring_climb, rises_here, top_rank}
@@ -13,72 +12,48 @@ loop-p-init c = record {
   held = climbs_here (up_at c.args.self.now.up) (length c.args.self.now.hand) c.args.v;
   low = omega (arith, c.requires.vertex, c.requires.room.laminar.vertices);
   room = c.requires.room;
-  done = λ rest due r. climb_begins c.requires.room.laminar c.args.v c.args.c c.requires.vertex c.requires.held rest r;
+  done = λ rest due r. climb_begins c.requires.room.laminar c.args.c c.requires.vertex c.requires.held rest r;
   entries = λ b w e. inl e;
 }
 
 pub match_ring-requires-clause-inner : goal.match_ring-requires-clause-inner
-match_ring-requires-clause-inner c = climbs_on c.requires.room.laminar c.args.v c.args.c
-    c.requires.vertex c.requires.held c.loop-p.p c.loop-p.invariant.above c.loop-p-test.true
+match_ring-requires-clause-inner c = climbs_on c.requires.room.laminar c.args.c c.requires.vertex c.requires.held
+    c.loop-p.invariant.above c.loop-p-test.true
 
 pub loop-p-smaller : goal.loop-p-smaller
-loop-p-smaller c =
-    let next : get_or c.args.self.now.rank c.up_at-p.result 0 ≡ get_or c.args.self.now.rank
-    (up_at c.args.self.now.up c.loop-p.p) 0 = ap (λ z. get_or c.args.self.now.rank z 0) c.up_at-p.ensures.value in
-    omega (
-      arith,
-      next,
-      rises_here c.requires.room.laminar c.args.v c.args.c c.requires.vertex
-          c.requires.held c.loop-p.p c.loop-p.invariant.above c.loop-p-test.true,
-      next_rank c.requires.room.laminar c.args.v c.args.c c.requires.vertex c.requires.held
-          c.loop-p.p c.loop-p.invariant.above c.loop-p-test.true,
-    )
+loop-p-smaller c = omega (
+  arith,
+  ap (λ z. get_or c.args.self.now.rank z 0) c.up_at-p.ensures.value,
+  rises_here c.requires.room.laminar c.args.c c.requires.vertex c.requires.held c.loop-p.invariant.above
+      c.loop-p-test.true,
+  next_rank c.requires.room.laminar c.args.c c.requires.vertex c.requires.held c.loop-p.invariant.above
+      c.loop-p-test.true,
+)
 
 pub loop-p-preserved : goal.loop-p-preserved
-loop-p-preserved c = record {
-  above = subst (λ z. (j : ℕ) × (walk (up_at c.args.self.now.up) z j ≡ c.args.c)) (sym c.up_at-p.ensures.value)
-      (above_more c.requires.room.laminar c.args.v c.args.c c.requires.vertex c.requires.held c.loop-p.p
-      c.loop-p.invariant.above c.loop-p-test.true);
-  held = ap (within c.args.self.now c.args.v) c.up_at-p.ensures.value
-      ∙ held_more c.requires.room.laminar c.args.v c.args.c c.requires.vertex c.requires.held c.loop-p.p
-      c.loop-p.invariant.above c.loop-p-test.true c.loop-p.invariant.held;
-  low = c.up_at-p.ensures.low;
-  room = c.match_ring.ensures.room;
-  done = λ rest due r. subst (λ z. IsRound c.args.self.now c.match_ring.new.round.marks.items
-      c.match_ring.new.round.left_out.items (λ b. cond (within c.args.self.now b z) 0
-      (waits_but c.args.self.now b c.args.c c.args.v) + rest b) due) (sym c.up_at-p.ensures.value)
-      (c.match_ring.ensures.done (λ b. cond (within c.args.self.now b (up_at c.args.self.now.up c.loop-p.p)) 0
-      (waits_but c.args.self.now b c.args.c c.args.v) + rest b) due (ring_climb c.requires.room.laminar
-      c.requires.valid.1 c.requires.valid.2 c.loop-p.p (climbs_on c.requires.room.laminar c.args.v c.args.c
-      c.requires.vertex c.requires.held c.loop-p.p c.loop-p.invariant.above c.loop-p-test.true) rest c.args.v
-      (above_more c.requires.room.laminar c.args.v c.args.c c.requires.vertex c.requires.held c.loop-p.p
-      c.loop-p.invariant.above c.loop-p-test.true).0 c.loop-p.invariant.held c.requires.vertex
-      (above_more c.requires.room.laminar c.args.v c.args.c c.requires.vertex c.requires.held c.loop-p.p
-      c.loop-p.invariant.above c.loop-p-test.true).1 (top_rank c.requires.room.laminar c.args.v c.args.c
-      c.requires.vertex c.requires.held) (omega (
-        arith,
-        next_rank c.requires.room.laminar c.args.v c.args.c
-            c.requires.vertex c.requires.held c.loop-p.p c.loop-p.invariant.above c.loop-p-test.true,
-        top_rank c.requires.room.laminar c.args.v c.args.c c.requires.vertex c.requires.held,
-      )) (c.loop-p.invariant.done rest due r)));
-  entries = λ b w e. by_ring b w (c.match_ring.ensures.entries b w e) (c.loop-p.invariant.entries b w);
-}
-  where
-    by_ring : (b w : ℕ) → (get_or c.loop-p.round.left_out.items b None ≡ Some w)
-        ⊎ (get_or c.args.self.now.rank b 0 < get_or c.args.self.now.rank (up_at c.args.self.now.up c.loop-p.p) 0)
-        → (get_or c.loop-p.round.left_out.items b None ≡ Some w
-        → (get_or c.args.round.now.left_out.items b None ≡ Some w)
-        ⊎ (get_or c.args.self.now.rank b 0 < get_or c.args.self.now.rank c.args.c 0))
-        → (get_or c.args.round.now.left_out.items b None ≡ Some w)
-        ⊎ (get_or c.args.self.now.rank b 0 < get_or c.args.self.now.rank c.args.c 0)
-    by_ring b w (inl was) more = more was
-    by_ring b w (inr low) more = inr (omega (
-      arith,
-      low,
-      next_rank c.requires.room.laminar c.args.v c.args.c c.requires.vertex
-          c.requires.held c.loop-p.p c.loop-p.invariant.above c.loop-p-test.true,
-    ))
+loop-p-preserved c =
+    let known = c.requires.room.laminar in
+    let lv = c.requires.vertex in
+    let more = above_more known c.args.c lv c.requires.held c.loop-p.invariant.above c.loop-p-test.true in
+    let next = next_rank known c.args.c lv c.requires.held c.loop-p.invariant.above c.loop-p-test.true in
+    record {
+      above = rw c.up_at-p.ensures.value more;
+      held = ap (within c.args.self.now c.args.v) c.up_at-p.ensures.value
+          ∙ held_more known c.args.c lv c.requires.held c.loop-p.invariant.above c.loop-p-test.true
+          c.loop-p.invariant.held;
+      low = c.up_at-p.ensures.low;
+      room = c.match_ring.ensures.room;
+      done = λ rest due r. rw c.up_at-p.ensures.value (c.match_ring.ensures.done _ due
+          (ring_climb known c.requires.room.sound.1
+          (climbs_on known c.args.c lv c.requires.held c.loop-p.invariant.above c.loop-p-test.true) rest c.args.v more.0
+          c.loop-p.invariant.held lv more.1 (top_rank known c.args.c lv c.requires.held)
+          (omega (arith, next, top_rank known c.args.c lv c.requires.held)) (c.loop-p.invariant.done rest due r)));
+      entries = λ b w e. elim (c.match_ring.ensures.entries b w e) [
+        | inl was ↦ c.loop-p.invariant.entries b w was
+        | inr low ↦ inr (omega (arith, low, next))
+      ];
+    }
 
 pub returns-clause-done : goal.returns-clause-done
-returns-clause-done c = λ rest due r. climb_ends c.requires.room.laminar c.args.v c.args.c c.requires.vertex
-    c.requires.held rest c.loop-p-test.false (c.loop-p.invariant.done rest due r)
+returns-clause-done c rest due r = climb_ends c.requires.room.laminar c.args.c c.requires.vertex c.requires.held rest
+    c.loop-p-test.false (c.loop-p.invariant.done rest due r)

@@ -22,6 +22,6 @@ returns c =
     (c.in_ok-round.ensures.begun (λ b. waits_but c.args.self.now b c.args.b c.args.v + 0)
     (λ w l. (let low : waits_but c.args.self.now w c.args.b c.args.v ≤ 1 =
     waits_low c.args.self.now w c.args.b c.args.v in omega (arith, low))))) in
-    λ g is valid. matches_but c.match_waiting.ensures.room.laminar is (sound valid) c.match_waiting.ensures.room.marks
+    λ g is valid. matches_but c.match_waiting.ensures.room.laminar (sound is valid) c.match_waiting.ensures.room.marks
     (subst (λ xs. AreMarked xs (length xs) c.list_marked.new.list.items) c.deref-2.ensures.value c.list_marked.ensures)
     c.args.b c.args.v c.requires.vertex round c.match_waiting.ensures.ended

@@ -13,7 +13,7 @@ choose-requires-clause-room c =
     let whole : length c.args.self.up ≡ length c.args.self.hand + length c.args.self.hand / 2 =
     subst (λ (t : ForestTables). length t.up ≡ length t.hand + length t.hand / 2) c.self.view_is
     (whole_is c.self.invariant) in
-    has_room known whole c.requires.valid.2 c.room.invariant c.room.view_is c.requires.valid.3
+    has_room known whole c.requires.valid.1 c.room.invariant c.room.view_is c.requires.valid.2
 
 pub choose-requires-clause-begun : goal.choose-requires-clause-begun
 choose-requires-clause-begun c =
@@ -22,7 +22,7 @@ choose-requires-clause-begun c =
     let whole : length c.args.self.up ≡ length c.args.self.hand + length c.args.self.hand / 2 =
     subst (λ (t : ForestTables). length t.up ≡ length t.hand + length t.hand / 2) c.self.view_is
     (whole_is c.self.invariant) in
-    room_begun known whole c.requires.valid.2 c.room.invariant c.room.view_is c.requires.valid.3
+    room_begun known whole c.requires.valid.1 c.room.invariant c.room.view_is c.requires.valid.2
 
 pub list_set_weights-requires-clause-low : goal.list_set_weights-requires-clause-low
 list_set_weights-requires-clause-low c = subst (λ (xs : List (ℕ × ℕ)). (k : ℕ) → k < length xs

@@ -1,0 +1,27 @@
+use Rattle.std.proofs.Common.{true, ◌/◌, ◌∙◌, ap, length, length-set, arith}
+use Rattle.qm_forest.proofs.Pairings.{entered_size}
+use Rattle.qm_forest.proofs.forest.Forest.pair.Goals as goal
+
+pub enter-requires-2 : goal.enter-requires-2
+enter-requires-2 c = omega (
+  arith,
+  c.requires.pairing.low_y,
+  c.requires.room.left_out,
+  ap length c.enter.ensures.left_out,
+  entered_size,
+)
+
+pub returns-clause-room : goal.returns-clause-room
+returns-clause-room c = record {
+  laminar = c.requires.room.laminar;
+  sound = c.requires.room.sound;
+  marks = omega (
+    arith,
+    c.requires.room.marks,
+    length-set c.args.round.now.marks.items (c.args.d / 2) true,
+    ap (λ o. length o.items) c.enter.ensures.marks,
+    ap (λ o. length o.items) c.enter-2.ensures.marks,
+  );
+  left_out = ap length c.enter-2.ensures.left_out ∙ (entered_size _ _ _ _ ∙ (ap length c.enter.ensures.left_out
+      ∙ (entered_size _ _ _ _ ∙ c.requires.room.left_out)));
+}
