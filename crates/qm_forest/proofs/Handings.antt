@@ -23,7 +23,7 @@ writes_keep f place a (suc k) = by_place (cases_eq a (place k)) (writes_keep f p
         ∙ set_here (writes f place (λ j. f a) k) (place k) (f a)
     by_place (inr ne) was = set_there (writes f place (λ j. f a) k) (place k) a (f a) ne ∙ was
 
-module _ (h0 h1 : Handles) (lists : Lists) (after : List ℕ) (front many set' k x : ℕ)
+module _ {h0 h1 : Handles} {lists : Lists} {after : List ℕ} {front many set' k x : ℕ}
     (has : HasPartLists h0 lists after front many set') (l : k < many) (x_is : x ≡ walk (λ i. get_or after i 0) front k)
     (done : HasHandedRow h0 h1 lists after front k set') (row : IsRow (length after) after front many) where
   abbrev at : ℕ → ℕ

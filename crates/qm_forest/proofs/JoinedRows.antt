@@ -2,10 +2,11 @@
 use Rattle.std.proofs.Common.{◌≡◌, ◌≢◌, ℕ, zero, suc, ◌+◌, ◌-◌, ◌<◌, ◌≤◌, ◌⊎◌, List, length, get_or, sym, ◌∙◌, ap}
 use Rattle.std.proofs.Common.{inl, inr, arith}
 use Rattle.std.proofs.Math.ListN.{set}
-use Rattle.std.proofs.lemmas.Bool.{cases_eq}
+use Rattle.std.proofs.lemmas.{Bool.cases_eq, List.get_or_read}
 use Rattle.def_forest.specs.Forests.{walk, ring_sum, set_at}
 use Rattle.forest_laws.specs.Walks.{writes}
-use Rattle.qm_forest.proofs.TiedWrites.{entry_set}
+use Rattle.qm_forest.specs.Gathers.{IsRow}
+use Rattle.qm_forest.proofs.{RenamedRows.row_place, TiedWrites.entry_set}
 
 -- A sum over fewer places is no greater.
 pub ring_sum_low : (next f : ℕ → ℕ) (from k m : ℕ) → ring_sum next f from k ≤ ring_sum next f from (k + m)
@@ -49,3 +50,13 @@ written_more xs ys place value k {p} {v} low was p_is v_is j_is = entry_set xs p
     ∙ (ap (λ (f : ℕ → ℕ). set_at f p v) was ∙ (ap (λ e. set_at (writes (λ i. get_or ys i 0) place value k) e v) p_is
     ∙ (ap (set_at (writes (λ i. get_or ys i 0) place value k) (place k)) v_is
     ∙ ap (writes (λ i. get_or ys i 0) place value) (sym j_is))))
+
+-- A table that has not changed, with an entry for each blossom, has one for each of a row; and what is read there.
+module _ {after : List ℕ} {front many : ℕ} (k : ℕ) {x : ℕ} (row : IsRow (length after) after front many) (l : k < many)
+    (x_is : x ≡ walk (λ i. get_or after i 0) front k) {xs ys : List ℕ} (same : xs ≡ ys)
+    (size : length ys ≡ length after) where
+  pub entry_low : x < length xs
+  entry_low = rw (same, size) (row_place k row l x_is)
+
+  pub entry_read : {v : ℕ} → v ≡ get_or xs x v → v ≡ get_or ys (walk (λ i. get_or after i 0) front k) 0
+  entry_read {v} read = get_or_read xs x v entry_low read 0 ∙ rw (same, x_is)

@@ -1,5 +1,4 @@
-use Rattle.std.proofs.Common.{◌≡◌, suc, ◌+◌, ◌<◌, ◌∙◌, length, get_or, sym, subst, ap, arith}
-use Rattle.def_forest.specs.Forests.{walk}
+use Rattle.std.proofs.Common.{add-one, ◌<◌, length, sym, subst, arith}
 use Rattle.qm_forest.proofs.RenamedRows.{row_place, row_larger, row_most}
 use Rattle.qm_forest.proofs.gathering.largest.Goals as goal
 
@@ -16,10 +15,8 @@ bounds-after-x c = row_place c.loop.counter c.requires.row c.loop-test.true c.lo
 
 pub loop-preserved : goal.loop-preserved
 loop-preserved c =
-    let one : suc c.loop.counter ≡ c.loop.counter + 1 = omega arith in
     record {
-      here = ap (λ x. get_or c.args.after.now x 0) c.loop.invariant.here
-          ∙ ap (walk (λ k. get_or c.args.after.now k 0) c.args.front) one;
+      here = rw (add-one c.loop.counter, c.loop.invariant.here);
       best = row_larger c.args.after.now c.args.front c.args.many c.loop.counter c.loop.best c.larger-best.result
           c.loop-test.true c.loop.invariant.here c.loop.invariant.best c.larger-best.ensures.either;
       most = row_most c.args.after.now c.args.rank.now c.args.front c.loop.counter c.loop.best c.larger-best.result

@@ -1,72 +1,53 @@
-use Rattle.std.proofs.Common.{length-set, ◌≡◌, suc, ◌+◌, ◌<◌, ◌∙◌, length, get_or, refl, sym, subst, ap, arith, pos}
+use Rattle.std.proofs.Common.{length-set, add-one, ◌≡◌, ◌<◌, ◌∙◌, get_or, refl, arith, pos}
 use Rattle.std.proofs.lemmas.Int.{ints}
 use Rattle.std.proofs.lemmas.List.{get_or_read}
-use Rattle.def_forest.specs.Forests.{walk}
 use Rattle.forest_laws.specs.Walks.{listed}
 use Rattle.qm_forest.proofs.Ranges.{kept_in_bits}
-use Rattle.qm_forest.proofs.RenamedRows.{one_more_at, next_old, next_small, more_as}
+use Rattle.qm_forest.proofs.RenamedRows.{next_low, next_old, next_written, more_as}
+use Rattle.qm_forest.proofs.gathering.rename.Goals.{After-index-end, After-index_mut-in-loop}
 use Rattle.qm_forest.proofs.gathering.rename.Goals as goal
+
+many_is : (c : After-index-end) → c.index-end.result.now ≡ get_or c.args.lists.now.rank.items c.args.x 0
+many_is c = get_or_read c.args.lists.now.rank.items c.args.x _ c.requires.lists.rank c.index-end.ensures 0
+
+-- The number of the vertex at hand has not been changed.
+read : (c : After-index_mut-in-loop) → c.loop.counter < get_or c.args.lists.now.rank.items c.args.x 0
+    → c.index_mut-in-loop.result.now ≡ get_or c.args.handles.now.q.items c.loop.v (pos 0)
+read c l = get_or_read c.loop.handles.q.items c.loop.v _ (rw (c.loop.invariant.qs, c.requires.lists.q)
+    (next_low c.requires.lists l c.loop.invariant.here)) c.index_mut-in-loop.ensures.value (pos 0)
+    ∙ next_old c.requires.lists l c.loop.invariant.here (λ u. get_or c.loop.handles.q.items u (pos 0)) _
+    (λ u. get_or c.args.handles.now.q.items u (pos 0)) c.loop.invariant.q
 
 pub overflow_add-index_mut : goal.overflow_add-index_mut
 overflow_add-index_mut c =
-    let end : c.index-end.result.now ≡ get_or c.args.lists.now.rank.items c.args.x 0 =
-    get_or_read c.args.lists.now.rank.items c.args.x _ c.requires.lists.rank c.index-end.ensures 0 in
-    let lk : c.loop.counter < get_or c.args.lists.now.rank.items c.args.x 0 = omega (arith, c.loop-test.true, end) in
-    let low : c.loop.v < length c.loop.handles.q.items = subst (λ n. c.loop.v < n)
-    (sym (c.loop.invariant.qs ∙ c.requires.lists.q)) (subst (λ v. v < length c.args.handles.now.hand.items)
-    (sym c.loop.invariant.here) (c.requires.lists.low c.loop.counter lk)) in
-    let read : c.index_mut-in-loop.result.now ≡ get_or c.loop.handles.q.items c.loop.v (pos 0) =
-    get_or_read c.loop.handles.q.items c.loop.v _ low c.index_mut-in-loop.ensures.value (pos 0) in
+    let at = goal.at.overflow_add-index_mut c in
     omega (
       arith,
       ints,
-      read,
-      next_small c.loop.handles.q.items c.args.handles.now.q.items _ _ c.loop.counter _ c.loop.invariant.here
-          (λ i j lij lj. c.requires.lists.distinct i j lij (omega (arith, lj, lk))) c.loop.invariant.q c.requires.small,
+      read at.After-index_mut-in-loop (omega (arith, c.loop-test.true, many_is at.After-index-end)),
+      c.requires.small c.loop.v,
       c.requires.more,
     )
 
 pub loop-preserved : goal.loop-preserved
 loop-preserved c =
-    let end : c.index-end.result.now ≡ get_or c.args.lists.now.rank.items c.args.x 0 =
-    get_or_read c.args.lists.now.rank.items c.args.x _ c.requires.lists.rank c.index-end.ensures 0 in
-    let lk : c.loop.counter < get_or c.args.lists.now.rank.items c.args.x 0 = omega (arith, c.loop-test.true, end) in
-    let low_at : walk (λ k. get_or c.args.lists.now.following.items k 0) (get_or c.args.lists.now.first.items c.args.x
-    0) c.loop.counter < length c.args.handles.now.hand.items = c.requires.lists.low c.loop.counter lk in
-    let low : c.loop.v < length c.args.handles.now.hand.items =
-    subst (λ v. v < length c.args.handles.now.hand.items) (sym c.loop.invariant.here) low_at in
-    let low_q : c.loop.v < length c.loop.handles.q.items =
-    subst (λ n. c.loop.v < n) (sym (c.loop.invariant.qs ∙ c.requires.lists.q)) low in
-    let read : c.index_mut-in-loop.result.now ≡ get_or c.loop.handles.q.items c.loop.v (pos 0) =
-    get_or_read c.loop.handles.q.items c.loop.v _ low_q c.index_mut-in-loop.ensures.value (pos 0) in
-    let one : c.loop.counter + 1 ≡ suc c.loop.counter = omega arith in
+    let at = goal.at.loop-preserved c in
+    let l : c.loop.counter < get_or c.args.lists.now.rank.items c.args.x 0 =
+    omega (arith, c.loop-test.true, many_is at.After-index-end) in
+    let low = next_low c.requires.lists l c.loop.invariant.here in
     record {
-      here = get_or_read c.args.lists.now.following.items c.loop.v _
-          (subst (λ n. c.loop.v < n) (sym c.requires.lists.following) low) c.index-v-in-loop.ensures 0
-          ∙ (ap (λ v. get_or c.args.lists.now.following.items v 0) c.loop.invariant.here
-          ∙ ap (walk (λ k. get_or c.args.lists.now.following.items k 0) (get_or c.args.lists.now.first.items c.args.x
-          0)) (sym one));
-      hand = one_more_at c.loop.handles.hand.items 0 _ _ c.loop.counter
-          (λ v. c.args.handle) (λ v. get_or c.args.handles.now.hand.items v 0) c.loop.invariant.here one
-          (subst (λ n. walk (λ k. get_or c.args.lists.now.following.items k 0)
-          (get_or c.args.lists.now.first.items c.args.x 0) c.loop.counter < n) (sym c.loop.invariant.hands)
-          low_at) (λ i j lij lj. c.requires.lists.distinct i j lij (omega (arith, lj, lk))) c.loop.invariant.hand
-          c.args.handle refl;
-      q = one_more_at c.loop.handles.q.items (pos 0) _ _ c.loop.counter _
-          (λ v. get_or c.args.handles.now.q.items v (pos 0)) c.loop.invariant.here one
-          (subst (λ n. walk (λ k. get_or c.args.lists.now.following.items k 0)
-          (get_or c.args.lists.now.first.items c.args.x 0) c.loop.counter < n)
-          (sym (c.loop.invariant.qs ∙ c.requires.lists.q)) low_at) (λ i j lij lj. c.requires.lists.distinct i j lij
-          (omega (arith, lj, lk))) c.loop.invariant.q _ (omega (
+      here = get_or_read c.args.lists.now.following.items c.loop.v _ (rw c.requires.lists.following low)
+          c.index-v-in-loop.ensures 0 ∙ rw (add-one c.loop.counter, c.loop.invariant.here);
+      hand = next_written c.requires.lists l c.loop.invariant.here c.loop.handles.hand.items 0 (λ v. c.args.handle)
+          (λ v. get_or c.args.handles.now.hand.items v 0) (rw c.loop.invariant.hands low) c.loop.invariant.hand
+          (add-one c.loop.counter) refl;
+      q = next_written c.requires.lists l c.loop.invariant.here c.loop.handles.q.items (pos 0) _
+          (λ v. get_or c.args.handles.now.q.items v (pos 0)) (rw (c.loop.invariant.qs, c.requires.lists.q) low)
+          c.loop.invariant.q (add-one c.loop.counter) (omega (
             arith,
             ints,
-            read,
-            ap (λ v. get_or c.loop.handles.q.items v (pos 0)) c.loop.invariant.here,
-            next_old (λ v. get_or c.loop.handles.q.items v (pos 0)) _ _ c.loop.counter _
-                (λ v. get_or c.args.handles.now.q.items v (pos 0)) (λ i j lij lj. c.requires.lists.distinct i j lij
-                (omega (arith, lj, lk))) c.loop.invariant.q,
-            c.requires.small (walk (λ k. get_or c.args.lists.now.following.items k 0)
-                (get_or c.args.lists.now.first.items c.args.x 0) c.loop.counter),
+            read at.After-index_mut-in-loop l,
+            c.requires.small c.loop.v,
             c.requires.more,
           ));
       hands = length-set c.loop.handles.hand.items c.loop.v c.args.handle ∙ c.loop.invariant.hands;
@@ -77,10 +58,12 @@ loop-preserved c =
 
 pub returns : goal.returns
 returns c =
-    let end : c.index-end.result.now ≡ get_or c.args.lists.now.rank.items c.args.x 0 =
-    get_or_read c.args.lists.now.rank.items c.args.x _ c.requires.lists.rank c.index-end.ensures 0 in
-    let all : c.loop.counter ≡ get_or c.args.lists.now.rank.items c.args.x 0 =
-    omega (arith, c.loop-test.false, c.loop.auto.counter-end, end) in
+    let all : c.loop.counter ≡ get_or c.args.lists.now.rank.items c.args.x 0 = omega (
+      arith,
+      c.loop-test.false,
+      c.loop.auto.counter-end,
+      many_is (goal.at.returns c).After-index-end,
+    ) in
     record {
       hand = λ v. rw (← all) (c.loop.invariant.hand v);
       q = λ v. rw (← all) (more_as (λ u. get_or c.loop.handles.q.items u (pos 0))
