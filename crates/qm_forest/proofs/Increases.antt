@@ -13,7 +13,7 @@ use Rattle.forest_laws.proofs.{Levels.level_zero, Levels.on_way, Levels.step_up,
 use Rattle.forest_laws.proofs.WayLaws.{some_none}
 use Rattle.qm_forest.specs.Rings.{AreOnBoth, HasClimbed}
 
-module _ (g : WeightedGraph) (is : IsSmallGraph g) (s : ForestTables) (valid : IsValidFor g s) where
+module _ {g : WeightedGraph} (is : IsSmallGraph g) {s : ForestTables} (valid : IsValidFor g s) where
   abbrev pub darts : Darts
   darts = darts_of g
 
@@ -129,14 +129,14 @@ module _ (g : WeightedGraph) (is : IsSmallGraph g) (s : ForestTables) (valid : I
     climb_named {i} is = rw is.x_is (way_named a named_a i is.x_low)
 
     module _ (named_c : f.label c ≢ Outside) where
-      pub climb_low : {x y i j : ℕ} → IsClimbing darts f a c x y i j → x ≢ y → level c - j ≤ level a - i → i < level a
+      climb_low : {x y i j : ℕ} → IsClimbing darts f a c x y i j → x ≢ y → level c - j ≤ level a - i → i < level a
       climb_low is ne high = can_climb are (rooted_here a named_a) (the_tree a named_a).2 a c named_a named_c is ne high
 
-      pub climb_rises : {x y i j : ℕ} → IsClimbing darts f a c x y i j → x ≢ y → level c - j ≤ level a - i
+      climb_rises : {x y i j : ℕ} → IsClimbing darts f a c x y i j → x ≢ y → level c - j ≤ level a - i
           → rise x ≢ None
       climb_rises {i} is ne high = rw is.x_is (place_rises a named_a i (climb_low is ne high))
 
-      pub climb_turn : {x y : ℕ} {x2 : ℕ} {i j : ℕ} → IsClimbing darts f a c x y i j → x ≢ y → level c - j ≤ level a - i
+      climb_turn : {x y : ℕ} {x2 : ℕ} {i j : ℕ} → IsClimbing darts f a c x y i j → x ≢ y → level c - j ≤ level a - i
           → x2 ≡ above x → IsClimbing darts f a c x2 y (i + 1) j
       climb_turn {y} {x2} {i} {j} is ne high x2_is =
           let one : suc i ≡ i + 1 = omega arith in
@@ -161,8 +161,15 @@ module _ (g : WeightedGraph) (is : IsSmallGraph g) (s : ForestTables) (valid : I
     )
 
     -- The higher climber.
-    pub both_order : {x y i j : ℕ} → IsClimbing darts f a c x y i j → low - j ≤ high - i → level c - j ≤ level a - i
+    both_order : {x y i j : ℕ} → IsClimbing darts f a c x y i j → low - j ≤ high - i → level c - j ≤ level a - i
     both_order is order = omega (arith, order, both_level, (both_last is).0, (both_last is).1, is.x_low, is.y_low)
+
+    pub both_rises : {x y i j : ℕ} → IsClimbing darts f a c x y i j → x ≢ y → low - j ≤ high - i → rise x ≢ None
+    both_rises is ne order = climb_rises a c named_a named_c is ne (both_order is order)
+
+    pub both_turn : {x y x2 i j : ℕ} → IsClimbing darts f a c x y i j → x ≢ y → low - j ≤ high - i → x2 ≡ above x
+        → IsClimbing darts f a c x2 y (i + 1) j
+    both_turn is ne order x2_is = climb_turn a c named_a named_c is ne (both_order is order) x2_is
 
   -- One climb after another.
   pub climbed_on : {b : ℕ} → f.label b ≢ Outside → {at first : ℕ} {x : ℕ} (more : ℕ)
@@ -200,13 +207,14 @@ module _ (g : WeightedGraph) (is : IsSmallGraph g) (s : ForestTables) (valid : I
       (climbed_named named_a is) off).0 in
       record { met = sym is.way ∙ (here ∙ sym end); left_low = is.low; right_low = omega arith }
 
-pub some_rise : (o : Option ℕ) → is_some o ≡ true → (d : ℕ) × (o ≡ Some d)
-some_rise None e = absurd (false≢true e)
-some_rise (Some d) e = (d, refl)
+-- What is in an option.
+pub some_of : (o : Option ℕ) → is_some o ≡ true → (d : ℕ) × (o ≡ Some d)
+some_of None e = absurd (false≢true e)
+some_of (Some d) e = (d, refl)
 
-pub no_rise : (o : Option ℕ) → is_some o ≡ false → o ≡ None
-no_rise None e = refl
-no_rise (Some d) e = absurd (false≢true (sym e))
+pub none_of : (o : Option ℕ) → is_some o ≡ false → o ≡ None
+none_of None e = refl
+none_of (Some d) e = absurd (false≢true (sym e))
 
 -- The two may change places.
 pub both_swapped : {g : Darts} {f : Forest} {a c left right : ℕ} → AreOnBoth g f a c left right

@@ -45,13 +45,13 @@ laid_place {g} is t0 a steps may i l {x} x_is t alike = by_first may.0 may.1 may
         let next_is : way_of (darts_of g) (forest_of t0) a (suc i) ≡ way_of (darts_of g) (forest_of s) a (suc i) =
         ap (λ (u : ForestTables). way_of (darts_of g) (forest_of u) a (suc i)) first in
         record {
-          low = rw (up, here) (place_low g is s valid a named i li);
-          some = λ e. place_rises g is s valid a named i li (sym rise ∙ e);
+          low = rw (up, here) (place_low is valid a named i li);
+          some = λ e. place_rises is valid a named i li (sym rise ∙ e);
           vertices = ap length hand ∙ valid.vertices;
-          dart = rw rise (place_dart g is s valid a named i li);
+          dart = rw rise (place_dart is valid a named i li);
           next = ap (λ (u : ForestTables). (forest_of u).out (far (darts_of g) (dart_or (rise_of (forest_of t) x))))
               both ∙ (ap (λ o. (forest_of s).out (far (darts_of g) (dart_or o))) rise ∙ sym next_is);
-          next_low = rw (up, next_is) (next_low g is s valid a named i li);
+          next_low = rw (up, next_is) (next_low is valid a named i li);
           same = ap (λ (u : ForestTables). rise_of (forest_of u) x) alike ∙ ap (rise_of (forest_of t0)) x_is;
         }
 
@@ -59,24 +59,12 @@ laid_place {g} is t0 a steps may i l {x} x_is t alike = by_first may.0 may.1 may
 pub laid_more_down : (g : Darts) (f0 : Forest) {f1 f2 : Forest} (a i : ℕ) {x y d e : ℕ} → f1 ≡ laid_down g f0 a i → f2
     ≡ ringed f1 (set_at f1.nest.after y x) (set_at f1.nest.joint y e) → x ≡ way_of g f0 a i → y ≡ way_of g f0 a (suc i)
     → e ≡ g.twin d → d ≡ dart_or (rise_of f0 (way_of g f0 a i)) → f2 ≡ laid_down g f0 a (suc i)
-laid_more_down g f0 a i {x} {y} {e} e1 e2 x_is y_is e_is d_is = e2
-    ∙ (ap (λ (f : Forest). ringed f (set_at f.nest.after y x) (set_at f.nest.joint y e)) e1
-    ∙ (ap (λ z. ringed (laid_down g f0 a i) (set_at (laid_down g f0 a i).nest.after z x)
-    (set_at (laid_down g f0 a i).nest.joint z e)) y_is ∙ (ap (λ z. ringed (laid_down g f0 a i)
-    (set_at (laid_down g f0 a i).nest.after (way_of g f0 a (suc i)) z)
-    (set_at (laid_down g f0 a i).nest.joint (way_of g f0 a (suc i)) e)) x_is
-    ∙ ap (λ z. ringed (laid_down g f0 a i) (set_at (laid_down g f0 a i).nest.after (way_of g f0 a (suc i))
-    (way_of g f0 a i)) (set_at (laid_down g f0 a i).nest.joint (way_of g f0 a (suc i)) z)) (e_is ∙ ap g.twin d_is))))
+laid_more_down g f0 a i e1 e2 x_is y_is e_is d_is = e2 ∙ rw (e1, y_is, x_is, e_is, d_is)
 
 pub laid_more_up : (g : Darts) (f0 : Forest) {f1 f2 : Forest} (c i : ℕ) {x y d : ℕ} → f1 ≡ laid_up g f0 c i → f2
     ≡ ringed f1 (set_at f1.nest.after x y) (set_at f1.nest.joint x d) → x ≡ way_of g f0 c i → y ≡ way_of g f0 c (suc i)
     → d ≡ dart_or (rise_of f0 (way_of g f0 c i)) → f2 ≡ laid_up g f0 c (suc i)
-laid_more_up g f0 c i {x} {y} {d} e1 e2 x_is y_is d_is = e2 ∙ (ap (λ (f : Forest). ringed f (set_at f.nest.after x y)
-    (set_at f.nest.joint x d)) e1 ∙ (ap (λ z. ringed (laid_up g f0 c i) (set_at (laid_up g f0 c i).nest.after z y)
-    (set_at (laid_up g f0 c i).nest.joint z d)) x_is ∙ (ap (λ z. ringed (laid_up g f0 c i)
-    (set_at (laid_up g f0 c i).nest.after (way_of g f0 c i) z) (set_at (laid_up g f0 c i).nest.joint (way_of g f0 c i)
-    d)) y_is ∙ ap (λ z. ringed (laid_up g f0 c i) (set_at (laid_up g f0 c i).nest.after (way_of g f0 c i)
-    (way_of g f0 c (suc i))) (set_at (laid_up g f0 c i).nest.joint (way_of g f0 c i) z)) d_is)))
+laid_more_up g f0 c i e1 e2 x_is y_is d_is = e2 ∙ rw (e1, x_is, y_is, d_is)
 
 -- The forest sees what is laid.
 pub seen_lay : {t : ForestTables} {hid : HiddenTables} → AreTied t hid → (x next dart : ℕ) → x < length t.up

@@ -4,38 +4,37 @@ use Rattle.qm_forest.proofs.Increases.{climbed_level}
 use Rattle.qm_forest.proofs.forest.Forest.climb.Goals as goal
 
 pub rise-requires : goal.rise-requires
-rise-requires c = named_low _ c.args.g.now.small _ c.requires.valid c.loop-d.at
-    (climbed_named _ c.args.g.now.small _ c.requires.valid c.requires.named
-    c.loop-d.invariant.climbed)
+rise-requires c = named_low c.args.g.now.small c.requires.valid c.loop-d.at
+    (climbed_named c.args.g.now.small c.requires.valid c.requires.named c.loop-d.invariant.climbed)
 
 pub far_blossom-at-requires-clause-dart : goal.far_blossom-at-requires-clause-dart
-far_blossom-at-requires-clause-dart c = rise_low _ c.args.g.now.small _ c.requires.valid
-    c.loop-d.at (climbed_named _ c.args.g.now.small _ c.requires.valid c.requires.named
-    c.loop-d.invariant.climbed) c.in-Some.d (sym c.rise.ensures.value ∙ c.in-Some.is)
+far_blossom-at-requires-clause-dart c = rise_low c.args.g.now.small c.requires.valid c.loop-d.at
+    (climbed_named c.args.g.now.small c.requires.valid c.requires.named c.loop-d.invariant.climbed) c.in-Some.d
+    (sym c.rise.ensures.value ∙ c.in-Some.is)
 
 pub loop-d-smaller : goal.loop-d-smaller
-loop-d-smaller c = omega (
-  arith,
-  (far_level _ c.args.g.now.small _ c.requires.valid c.loop-d.at
-      (climbed_named _ c.args.g.now.small _ c.requires.valid c.requires.named
-      c.loop-d.invariant.climbed) c.in-Some.d (sym c.rise.ensures.value ∙ c.in-Some.is)
-      c.far_blossom-at.ensures.value).1,
-)
+loop-d-smaller c =
+    let named = climbed_named c.args.g.now.small c.requires.valid c.requires.named c.loop-d.invariant.climbed in
+    omega (
+      arith,
+      (far_level c.args.g.now.small c.requires.valid c.loop-d.at named c.in-Some.d
+          (sym c.rise.ensures.value ∙ c.in-Some.is) c.far_blossom-at.ensures.value).1,
+    )
 
 pub loop-d-preserved : goal.loop-d-preserved
 loop-d-preserved c = record {
-  climbed = far_way _ c.args.g.now.small _ c.requires.valid c.requires.named c.in-Some.d
-      c.loop-d.invariant.climbed (sym c.rise.ensures.value ∙ c.in-Some.is) c.far_blossom-at.ensures.value;
+  climbed = far_way c.args.g.now.small c.requires.valid c.requires.named c.in-Some.d c.loop-d.invariant.climbed
+      (sym c.rise.ensures.value ∙ c.in-Some.is) c.far_blossom-at.ensures.value;
   few = omega (arith, c.loop-d.invariant.few, c.if-count-most.false);
 }
 
 pub returns-clause-steps : goal.returns-clause-steps
-returns-clause-steps c = omega (
-  arith,
-  c.loop-d.invariant.few,
-  climbed_level _ c.args.g.now.small
-      _ c.requires.valid c.args.b c.requires.named c.loop-d.at c.loop-d.count c.loop-d.invariant.climbed,
-  root_level _ c.args.g.now.small _ c.requires.valid c.loop-d.at
-      (climbed_named _ c.args.g.now.small _ c.requires.valid c.requires.named
-      c.loop-d.invariant.climbed) (sym c.rise.ensures.value ∙ c.in_default.is),
-)
+returns-clause-steps c =
+    let named = climbed_named c.args.g.now.small c.requires.valid c.requires.named c.loop-d.invariant.climbed in
+    omega (
+      arith,
+      c.loop-d.invariant.few,
+      climbed_level c.args.g.now.small c.requires.valid c.args.b c.requires.named c.loop-d.at c.loop-d.count
+          c.loop-d.invariant.climbed,
+      root_level c.args.g.now.small c.requires.valid c.loop-d.at named (sym c.rise.ensures.value ∙ c.in_default.is),
+    )

@@ -3,23 +3,23 @@ use Rattle.qm_forest.proofs.Increases.{named_low, rise_low, far_level, far_way, 
 use Rattle.qm_forest.proofs.forest.Forest.steps_to.Goals as goal
 
 pub rise-requires : goal.rise-requires
-rise-requires c = named_low _ c.args.g.now.small _ c.requires.valid c.loop-at.at
-    (climbed_named _ c.args.g.now.small _ c.requires.valid c.requires.named
-    c.loop-at.invariant)
+rise-requires c = named_low c.args.g.now.small c.requires.valid c.loop-at.at
+    (climbed_named c.args.g.now.small c.requires.valid c.requires.named c.loop-at.invariant)
 
 pub far_blossom-at-requires-clause-dart : goal.far_blossom-at-requires-clause-dart
-far_blossom-at-requires-clause-dart c = rise_low _ c.args.g.now.small _ c.requires.valid
-    c.loop-at.at (climbed_named _ c.args.g.now.small _ c.requires.valid c.requires.named
-    c.loop-at.invariant) c.in-Some.d (sym c.rise.ensures.value ∙ c.in-Some.is)
+far_blossom-at-requires-clause-dart c = rise_low c.args.g.now.small c.requires.valid c.loop-at.at
+    (climbed_named c.args.g.now.small c.requires.valid c.requires.named c.loop-at.invariant) c.in-Some.d
+    (sym c.rise.ensures.value ∙ c.in-Some.is)
 
 pub loop-at-smaller : goal.loop-at-smaller
-loop-at-smaller c = omega (
-  arith,
-  (far_level _ c.args.g.now.small _ c.requires.valid c.loop-at.at
-      (climbed_named _ c.args.g.now.small _ c.requires.valid c.requires.named
-      c.loop-at.invariant) c.in-Some.d (sym c.rise.ensures.value ∙ c.in-Some.is) c.far_blossom-at.ensures.value).1,
-)
+loop-at-smaller c =
+    let named = climbed_named c.args.g.now.small c.requires.valid c.requires.named c.loop-at.invariant in
+    omega (
+      arith,
+      (far_level c.args.g.now.small c.requires.valid c.loop-at.at named c.in-Some.d
+          (sym c.rise.ensures.value ∙ c.in-Some.is) c.far_blossom-at.ensures.value).1,
+    )
 
 pub loop-at-preserved : goal.loop-at-preserved
-loop-at-preserved c = far_way _ c.args.g.now.small _ c.requires.valid c.requires.named
-    c.in-Some.d c.loop-at.invariant (sym c.rise.ensures.value ∙ c.in-Some.is) c.far_blossom-at.ensures.value
+loop-at-preserved c = far_way c.args.g.now.small c.requires.valid c.requires.named c.in-Some.d c.loop-at.invariant
+    (sym c.rise.ensures.value ∙ c.in-Some.is) c.far_blossom-at.ensures.value
