@@ -1,13 +1,13 @@
 -- The list that the vertices of a blossom are copied to.
-use Rattle.std.proofs.Common.{◌≡◌, ℕ, ◌+◌, ◌<◌, ◌≤◌, ◌++◌, true, List, [], ◌∷◌, length, get_or, sym, ◌∙◌, ap}
-use Rattle.std.proofs.Common.{subst, inl, inr, arith}
+use Rattle.std.proofs.Common.{◌≡◌, ℕ, ◌+◌, ◌<◌, ◌++◌, true, List, [], ◌∷◌, length, get_or, ◌∙◌, ap}
+use Rattle.std.proofs.Common.{inl, inr, arith}
 use Rattle.std.proofs.lemmas.Bool.{cases_lt}
 use Rattle.std.proofs.lemmas.List.{get_or_append_left, get_or_push}
 use Rattle.def_forest.specs.{Forests.walk, Tables.ForestTables, Tables.climbs, Tables.up_at}
 use Rattle.forest_laws.proofs.Walks.{listed_place}
-use Rattle.qm_forest.specs.{Gathers.IsListAt, Ties.AreTied, Ties.HiddenTables, Ties.IsInUse, Ties.IsListed}
-use Rattle.qm_forest.specs.declared.tables.Lists.{Lists}
-use Rattle.qm_forest.proofs.JoinedLists.{list_few}
+use Rattle.qm_forest.specs.{Gathers.IsListAt, Ties.AreTied, Ties.HiddenTables, Ties.IsInUse}
+use Rattle.qm_forest.specs.declared.forest.Forest.TheInside.{Inside}
+use Rattle.qm_forest.proofs.{Insides.seen_in, Insides.hidden_in, JoinedLists.list_few}
 
 -- One vertex more.
 pub copied_more : (list : List ℕ) {pushed : List ℕ} (next : ℕ → ℕ) (from : ℕ) {k v : ℕ} → pushed ≡ list ++ v ∷ []
@@ -20,26 +20,14 @@ copied_more list {pushed} next from {k} {v} is size here each j l = elim (cases_
 ]
 
 -- The list of a blossom that is in use.
-pub list_at : {t : ForestTables} {hid : HiddenTables} → AreTied t hid → (l : Lists) → hid.first ≡ l.first.items
-    → t.rank ≡ l.rank.items → hid.following ≡ l.following.items → (x : ℕ) → x < length t.up
-    → IsInUse (length t.hand) t.parts x → IsListAt (length l.following.items) l x
-list_at {t} {hid} tied l first rank following x low used = record {
-  first = subst (λ (xs : List ℕ). x < length xs) first (subst (λ n. x < n) (sym tied.sizes.first) low);
-  rank = subst (λ (xs : List ℕ). x < length xs) rank (subst (λ n. x < n) (sym tied.sizes.rank) low);
-  many = subst (λ (xs : List ℕ). get_or xs x 0 ≤ length l.following.items) rank
-      (subst (λ n. get_or t.rank x 0 ≤ n) size (list_few is));
-  low = λ k lk. subst (λ n. walk (λ i. get_or l.following.items i 0) (get_or l.first.items x 0) k < n) size
-      (subst (λ (xs : List ℕ). walk (λ i. get_or xs i 0) (get_or l.first.items x 0) k < length t.hand) following
-      (subst (λ (xs : List ℕ). walk (λ i. get_or hid.following i 0) (get_or xs x 0) k < length t.hand) first
-      (is.low k (subst (λ (xs : List ℕ). k < get_or xs x 0) (sym rank) lk))));
+pub list_at : (s : Inside) → AreTied (seen_in s) (hidden_in s) → (x : ℕ) → x < length s.rings.up.items
+    → IsInUse (length s.handles.hand.items) s.rings.parts.items x → IsListAt (length s.lists.following.items) s.lists x
+list_at s tied x low used = record {
+  first = rw tied.sizes.first low;
+  rank = rw tied.sizes.rank low;
+  many = rw tied.sizes.following (list_few (tied.nest.members x low used));
+  low = λ k l. rw tied.sizes.following ((tied.nest.members x low used).low k l);
 }
-  where
-    is : IsListed (length t.hand) (λ i. get_or hid.following i 0) (get_or hid.first x 0) (get_or hid.last x 0)
-        (get_or t.rank x 0) (climbs (up_at t.up) (length t.hand) x)
-    is = tied.nest.members x low used
-
-    size : length t.hand ≡ length l.following.items
-    size = sym tied.sizes.following ∙ ap (λ (xs : List ℕ). length xs) following
 
 -- Each vertex of the blossom is listed.
 pub copied_all : {t : ForestTables} {hid : HiddenTables} → AreTied t hid → (x : ℕ) → x < length t.up

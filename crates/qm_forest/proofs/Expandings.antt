@@ -1,16 +1,16 @@
 -- Expanding, step by step: what each of its calls needs, and the forest after all of them.
-use Rattle.std.proofs.Common.{◌≡◌, ◌≢◌, ℕ, ◌*◌, ◌<◌, ◌≤◌, ◌^◌, Bool, true, length, pos, Option}
+use Rattle.std.proofs.Common.{◌≡◌, ◌≢◌, ℕ, ◌*◌, ◌<◌, ◌≤◌, ◌^◌, Bool, true, length, Option}
 use Rattle.std.proofs.Common.{Some, None, refl, sym, ◌∙◌, ap, subst, inl, inr, arith}
-use Rattle.def_matching.specs.Matching.{WeightedGraph, IsSmallGraph}
+use Rattle.def_matching.specs.Matching.{WeightedGraph}
 use Rattle.def_forest.specs.{Darts.Darts, Darts.darts_of, Forests.Forest, Forests.walk, Opened.IsExpanding}
 use Rattle.def_forest.specs.Tables.{ForestTables, forest_of, IsOutermostIn, IsValidFor}
-use Rattle.def_forest.specs.{Valid.IsTree, Ways.dart_or, declared.kinds.Label.TheVariants.Inner}
+use Rattle.def_forest.specs.{Valid.IsTree, Ways.dart_or}
 use Rattle.def_forest.specs.declared.kinds.Label.TheVariants.{Outside}
 use Rattle.forest_laws.specs.Walks.{listed}
 use Rattle.forest_laws.proofs.{Circles.IsCircle, ExpandedTrees.opened_valid}
 use Rattle.qm_forest.specs.{Parts.HasOpened, Parts.IsCourse, Parts.IsParted, Parts.hung, Parts.paired, Ties.fixed_of}
 use Rattle.qm_forest.specs.{Ties.HasSameNest, Ties.labelled, Ties.linked, Ties.mated, declared.expanding.Course.Course}
-use Rattle.qm_forest.proofs.{Leavings.outermost_kept, OnWays.darts_kept, OnWays.ends_kept, OnWays.room_kept}
+use Rattle.qm_forest.proofs.{Leavings.outermost_kept, OnWays.valid_as}
 use Rattle.qm_forest.proofs.{Openeds.expanding, Openeds.laid, Openings.CanOpen, Openings.IsJoined, Openings.are}
 use Rattle.qm_forest.proofs.Openings.{inside as the_inside}
 use Rattle.qm_forest.proofs.Openings.{in_tree, joined, mate_is, part_low, ring_from}
@@ -59,9 +59,6 @@ module _ {g : WeightedGraph} {t0 t2 : ForestTables} {b mate link first last many
 
   abbrev d : Darts
   d = darts_of g
-
-  hand2 : length t2.hand ≡ g.n
-  hand2 = opened.hand ∙ (ap length opened.same.hand ∙ valid.vertices)
 
   parted : IsParted g.n (mated (labelled f0 b Outside) b None) f2
       (listed f0.nest.after (f0.nest.head b) (f0.nest.parts b)) b
@@ -179,16 +176,11 @@ module _ {g : WeightedGraph} {t0 t2 : ForestTables} {b mate link first last many
 
         pub expanded_valid : (t6 : ForestTables) → forest_of t6 ≡ f6 → length t6.hand ≡ length t2.hand
             → t6.root ≡ t0.root → fixed_of t6 ≡ fixed_of t2 → IsValidFor g t6
-        expanded_valid t6 seen hand root fixed = record {
-          darts = darts_kept t6 valid (fixed ∙ (opened.fixed ∙ opened.same.fixed));
-          ends = ends_kept t6 valid (fixed ∙ (opened.fixed ∙ opened.same.fixed));
-          room = room_kept t6 valid (fixed ∙ (opened.fixed ∙ opened.same.fixed));
-          vertices = hand ∙ hand2;
-          valid = rw (root, tree.1) (rw seen (opened_valid (record {
-            are = are ready;
-            valid = rw tree.1 at valid.valid;
-            tree = tree.2;
-            opening = expanded.opening;
-            is = expanded.opened;
-          })));
-        }
+        expanded_valid t6 seen hand root fixed = valid_as t6 valid (fixed ∙ (opened.fixed ∙ opened.same.fixed))
+            (hand ∙ (opened.hand ∙ ap length opened.same.hand)) (rw (root, tree.1) (rw seen (opened_valid (record {
+              are = are ready;
+              valid = rw tree.1 at valid.valid;
+              tree = tree.2;
+              opening = expanded.opening;
+              is = expanded.opened;
+            }))))

@@ -10,14 +10,14 @@ use Rattle.def_forest.specs.Steps.{weight_change}
 use Rattle.def_forest.specs.Tables.{ForestTables, forest_of, label_at, out_of, IsOutermostIn}
 use Rattle.forest_laws.specs.Walks.{listed}
 use Rattle.qm_pool.specs.declared.pool.Node.{Node}
-use Rattle.qm_forest.specs.Gathers.{HasListsOf, HasRenamedRow, AreJoinable, AreJoined}
-use Rattle.qm_forest.specs.Gathers.{AreEnclosed, TookSet, IsFreeRing, IsGathered}
+use Rattle.qm_forest.specs.Gathers.{HasListsOf, AreJoinable}
+use Rattle.qm_forest.specs.Gathers.{TookSet, IsFreeRing, IsGathered}
 use Rattle.qm_forest.specs.{Gathers.root_around, Ties.AreTied, Ties.HiddenTables, Ties.added, Ties.told}
 use Rattle.qm_forest.specs.{Views.tables_of, Views.hidden_of, declared.tables.Handles.Handles}
 use Rattle.qm_forest.specs.{declared.forest.Forest.TheInside.Inside, declared.tables.Lists.Lists}
 use Rattle.qm_forest.specs.{declared.tables.Rings.Rings}
 use Rattle.qm_forest.proofs.Gathered.{Gathering, gathered_is, root_new, tied_gathered}
-use Rattle.qm_forest.proofs.GatheredRows.{FreeRow, handle_top, last_in, leader_at, no_out, own_list, row_list}
+use Rattle.qm_forest.proofs.GatheredRows.{FreeRow, last_in, leader_at, no_out, own_list, row_list}
 use Rattle.qm_forest.proofs.Insides.{seen_in, hidden_in}
 use Rattle.qm_forest.proofs.JoinedLists.{list_few, row_few}
 use Rattle.qm_forest.proofs.Ranges.{added_small, change_small, delta_small, outermost_low, told_small}

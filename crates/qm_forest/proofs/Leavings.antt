@@ -21,10 +21,7 @@ outermost_kept {t} {u} same e w = (
 pub left_more : (f0 : Forest) {f1 f2 : Forest} (front k : ℕ) {j x : ℕ} (v : ℕ) → f1 ≡ left_alone f0 front k
     → f2 ≡ mated (labelled f1 (f1.out v) Outside) x None → f1.out v ≡ x → x ≡ walk f0.nest.after front k → j ≡ suc k
     → f2 ≡ left_alone f0 front j
-left_more f0 {f1} front k {x} v e1 e2 v_is x_is j_is =
-    e2 ∙ (ap (λ y. mated (labelled f1 y Outside) x None) v_is ∙ (ap (λ y. mated (labelled f1 y Outside) y None) x_is
-    ∙ (ap (λ (f : Forest). mated (labelled f (walk f0.nest.after front k) Outside) (walk f0.nest.after front k) None) e1
-    ∙ ap (left_alone f0 front) (sym j_is))))
+left_more f0 front k v e1 e2 v_is x_is j_is = e2 ∙ rw (v_is, x_is, e1, j_is)
 
 -- The set that was gathered is outermost.
 pub gathered_outermost : {t : ForestTables} (u : ForestTables) {front many b : ℕ} → IsFreeRing t front many

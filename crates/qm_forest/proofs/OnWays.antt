@@ -1,11 +1,11 @@
 -- Steps of the tree in the tables: growing, and changing the matching along the way to the root.
-use Rattle.std.proofs.Common.{◌≡◌, ◌≢◌, ℕ, suc, ◌+◌, ◌*◌, ◌<◌, List, length, get_or, Option, Some, None, true, false}
+use Rattle.std.proofs.Common.{◌≡◌, ◌≢◌, ℕ, suc, ◌+◌, ◌*◌, ◌<◌, List, length, get_or, Option, Some, None, true}
 use Rattle.std.proofs.Common.{is_some, refl, sym, ◌∙◌, ap, ◌⊎◌, inl, inr, arith}
 use Rattle.std.proofs.lemmas.Bool.{cases_eq}
 use Rattle.def_matching.specs.Matching.{IsSmallGraph, WeightedGraph}
 use Rattle.def_forest.specs.{Darts.Darts, Darts.AreDarts, Darts.darts_of, Darts.far, Forests.Forest}
 use Rattle.def_forest.specs.{Forests.IsOutermost, Forests.set_at}
-use Rattle.def_forest.specs.{Steps.grown, Steps.with_mates, Steps.IsAugmented, Tables.GraphSize, Tables.size_of}
+use Rattle.def_forest.specs.{Steps.grown, Steps.with_mates, Steps.IsAugmented, Tables.GraphSize}
 use Rattle.def_forest.specs.{Tables.ForestTables, Tables.forest_of, Tables.IsValidFor, Valid.IsValid, Valid.IsTree}
 use Rattle.def_forest.specs.{declared.kinds.Label.Label}
 use Rattle.def_forest.specs.{declared.kinds.Label.TheVariants.Outside, Ways.Reaches, Ways.steps}
@@ -26,36 +26,25 @@ pub is_some_ne : (o : Option ℕ) → is_some o ≡ true → o ≢ None
 is_some_ne None e = absurd (cc e)
 is_some_ne (Some x) e = λ off. some_none (Some x) x refl off
 
-pub none_is : (o : Option ℕ) → is_some o ≡ false → o ≡ None
-none_is None e = refl
-none_is (Some x) e = absurd (cc e)
-
--- Darts begin where they did.
-pub ends_kept : {g : WeightedGraph} {t : ForestTables} (u : ForestTables) → IsValidFor g t → fixed_of u ≡ fixed_of t
-    → (d : ℕ) → d < 2 * length g.edges → get_or u.near d 0 ≡ (darts_of g).near d
-ends_kept u valid fixed d l = ap (λ (p : List ℕ × Option GraphSize). get_or p.0 d 0) fixed ∙ valid.ends d l
-
-pub darts_kept : {g : WeightedGraph} {t : ForestTables} (u : ForestTables) → IsValidFor g t → fixed_of u ≡ fixed_of t
-    → length u.near ≡ 2 * length g.edges
-darts_kept u valid fixed = ap (λ (p : List ℕ × Option GraphSize). length p.0) fixed ∙ valid.darts
-
-pub room_kept : {g : WeightedGraph} {t : ForestTables} (u : ForestTables) → IsValidFor g t → fixed_of u ≡ fixed_of t
-    → u.room ≡ Some (size_of g)
-room_kept u valid fixed = ap (λ (p : List ℕ × Option GraphSize). p.1) fixed ∙ valid.room
+-- Tables are valid whose forest is, where darts begin where they did.
+pub valid_as : {g : WeightedGraph} {t : ForestTables} (u : ForestTables) → IsValidFor g t → fixed_of u ≡ fixed_of t
+    → length u.hand ≡ length t.hand → IsValid (darts_of g) (forest_of u) u.root → IsValidFor g u
+valid_as u valid fixed hand whole = record {
+  vertices = hand ∙ valid.vertices;
+  darts = ap (λ (p : List ℕ × Option GraphSize). length p.0) fixed ∙ valid.darts;
+  ends = λ d l. ap (λ (p : List ℕ × Option GraphSize). get_or p.0 d 0) fixed ∙ valid.ends d l;
+  room = ap (λ (p : List ℕ × Option GraphSize). p.1) fixed ∙ valid.room;
+  valid = whole;
+}
 
 -- The forest is valid after the tree has grown.
 pub valid_grown : {t : ForestTables} (u : ForestTables) {g : WeightedGraph} → IsSmallGraph g → IsValidFor g t
     → {d : ℕ} (m : ℕ) → Reaches (darts_of g) (forest_of t) d → (forest_of t).mate
     ((forest_of t).out (far (darts_of g) d)) ≡ Some m → forest_of u ≡ grown (darts_of g) (forest_of t) d m → u.hand
     ≡ t.hand → u.root ≡ t.root → fixed_of u ≡ fixed_of t → IsValidFor g u
-valid_grown {t} u {g} is valid {d} m reach mate seen hand root fixed = record {
-  vertices = ap length hand ∙ valid.vertices;
-  darts = darts_kept u valid fixed;
-  ends = ends_kept u valid fixed;
-  room = room_kept u valid fixed;
-  valid = by_tree (tree_of (are_darts is.lawful) valid.valid
-      ((forest_of t).out ((darts_of g).near d)) (outer_named reach.outer));
-}
+valid_grown {t} u {g} is valid {d} m reach mate seen hand root fixed = valid_as u valid fixed (ap length hand)
+    (by_tree (tree_of (are_darts is.lawful) valid.valid
+    ((forest_of t).out ((darts_of g).near d)) (outer_named reach.outer)))
   where
     by_tree : (r : ℕ) × (t.root ≡ Some r) × IsTree (darts_of g) (forest_of t) r
         → IsValid (darts_of g) (forest_of u) u.root
@@ -225,13 +214,8 @@ one_more_outside f1 trail k {v} v_is e2 done i l = ap (λ (f : Forest). f.label 
 pub valid_augmented : {t : ForestTables} (u : ForestTables) {g : WeightedGraph} → IsValidFor g t → (mate : ℕ → Option ℕ)
     → IsValid (darts_of g) (with_mates (forest_of t) mate) None → forest_of u ≡ with_mates (forest_of t) mate
     → u.hand ≡ t.hand → u.root ≡ None → fixed_of u ≡ fixed_of t → IsValidFor g u
-valid_augmented {t} u {g} valid mate whole seen hand root fixed = record {
-  vertices = ap length hand ∙ valid.vertices;
-  darts = darts_kept u valid fixed;
-  ends = ends_kept u valid fixed;
-  room = room_kept u valid fixed;
-  valid = rw (seen, root) whole;
-}
+valid_augmented u valid mate whole seen hand root fixed = valid_as u valid fixed (ap length hand)
+    (rw (seen, root) whole)
 
 -- What has come of an augmentation.
 pub augmented : {t : ForestTables} (s u : ForestTables) {g : WeightedGraph} → IsSmallGraph g → IsValidFor g t

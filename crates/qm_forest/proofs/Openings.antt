@@ -48,7 +48,7 @@ module _ {g : WeightedGraph} {t0 : ForestTables} {b : ℕ} (ready : CanOpen g t0
   set_top = (top_is.0, rw valid.vertices top_is.1, top_is.2)
 
   pub set_low : b < length t0.up
-  set_low = named_low g is t0 valid b (inner_named inner)
+  set_low = named_low is valid b (inner_named inner)
 
   held_b : (v : ℕ) → v < g.n → f0.holds b v ≡ eqb (f0.out v) b
   held_b v l = rw top_is.2 at (valid.valid.outermost.held top_is.0 v top_is.1 l)

@@ -11,7 +11,7 @@ use Rattle.def_math.specs.Sums.{total, total_below}
 use Rattle.sum_laws.proofs.{Counts.count_below_same, Sums.total_below_one, Sums.total_below_same, Sums.total_below_sum}
 use Rattle.sum_laws.proofs.Tests.{same_test}
 use Rattle.qm_dual.proofs.Entries.{total_entries}
-use Rattle.def_matching.specs.Matching.{WeightedGraph, IsSmallGraph, edge_at}
+use Rattle.def_matching.specs.Matching.{WeightedGraph, edge_at}
 use Rattle.def_matching.specs.Dual.{DualLists, SaysYes, AreNestedSets, crosses, dual_sum, holds, is_odd_size, is_up}
 use Rattle.def_matching.specs.Dual.{load as dual_load, set_size, sets_from, y_at, z_at}
 use Rattle.def_forest.specs.Darts.{AreDarts, darts_of}

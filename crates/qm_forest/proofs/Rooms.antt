@@ -7,49 +7,51 @@ use Rattle.def_matching.specs.Matching.{WeightedGraph}
 use Rattle.def_forest.specs.Tables.{ForestTables, GraphSize, size_of, up_at}
 use Rattle.qm_forest.specs.{Outlines.IsBlank, Rounds.HasRoom, Rounds.IsLaminar, Rounds.IsRound, Rounds.IsSoundFor}
 use Rattle.qm_forest.specs.{declared.rounds.Round.Round, Ties.AreTied, Ties.HiddenTables}
-use Rattle.qm_forest.proofs.Chosens.{round_begins}
+use Rattle.qm_forest.proofs.{Chosens.round_begins, Laminars.laminar}
+
+-- What tied tables say of the way out.
+pub record IsPlaced (t : ForestTables) : Type 0 where
+  pub known : IsLaminar t
+  pub whole : length t.up ≡ length t.hand + length t.hand / 2
+  pub around : (x : ℕ) → up_at t.up x ≢ x → (length t.hand ≤ up_at t.up x) × (up_at t.up x < length t.up)
+      × (get_or t.parts (up_at t.up x) 0 ≢ 0)
+  pub inner : (x : ℕ) → up_at t.up x ≢ x → x < length t.up
+  pub live : (x : ℕ) → up_at t.up x ≢ x → length t.hand ≤ x → get_or t.parts x 0 ≢ 0
+
+pub placed : {t : ForestTables} {hid : HiddenTables} → AreTied t hid → IsPlaced t
+placed {t} tied = record {
+  known = laminar tied;
+  whole = omega (arith, tied.pool.room, tied.pool.half);
+  around = λ x ne. (
+    (tied.nest.around x ne).0,
+    rw (get_or_default_zero t.up x x (inner_low x ne)) (tied.nest.ups x (inner_low x ne)),
+    (tied.nest.around x ne).1,
+  );
+  inner = inner_low;
+  live = λ x ne high none. ne (tied.nest.idle x high none);
+}
+  where
+    inner_low : (x : ℕ) → up_at t.up x ≢ x → x < length t.up
+    inner_low x ne = elim (cases_lt x (length t.up)) [ inl l ↦ l | inr h ↦ absurd (ne (get_or_past t.up x x h)) ]
 
 -- The room of a forest is as large as what it comes to.
-module _ {t : ForestTables} (known : IsLaminar t) (whole : length t.up ≡ length t.hand + length t.hand / 2)
-    {g : WeightedGraph} (valid : IsSoundFor g t) {n : ℕ} {round : Round} {sets y z : ℕ}
-    (blank : IsBlank n round sets y z) {s : GraphSize} (view_is : ◌≡◌ {A = GraphSize}
+module _ {t : ForestTables} (it : IsPlaced t) {g : WeightedGraph} (valid : IsSoundFor g t) {n : ℕ} {round : Round}
+    {sets y z : ℕ} (blank : IsBlank n round sets y z) {s : GraphSize} (view_is : ◌≡◌ {A = GraphSize}
     (record { vertices = n; edges = length round.marks.items }) s) (room : s ≡ size_of g) where
   n_is : n ≡ length t.hand
   n_is = ap (λ (r : GraphSize). r.vertices) (view_is ∙ room) ∙ sym valid.vertices
-
-  edges_is : length round.marks.items ≡ length g.edges
-  edges_is = ap (λ (r : GraphSize). r.edges) (view_is ∙ room)
 
   half_is : n / 2 ≡ length t.hand / 2
   half_is = ap (λ k. k / 2) n_is
 
   pub has_room : HasRoom t round
   has_room = record {
-    laminar = known;
+    laminar = it.known;
     sound = (g, valid);
-    marks = omega (arith, edges_is, valid.darts);
-    left_out = ap length blank.left_out ∙ (length-replicate (n + n / 2) None ∙ omega (arith, n_is, half_is, whole));
+    marks = omega (arith, ap (λ (r : GraphSize). r.edges) (view_is ∙ room), valid.darts);
+    left_out = ap length blank.left_out ∙ (length-replicate (n + n / 2) None ∙ omega (arith, n_is, half_is, it.whole));
   }
 
   pub room_begun : IsRound t round.marks.items round.left_out.items (λ b. 0) (λ b. 0)
   room_begun = round_begins t (length round.marks.items) (n + n / 2) (λ b. 0)
       blank.marks blank.left_out (λ v l. omega arith)
-
--- What tied tables say of the way out.
-module _ {t : ForestTables} {hid : HiddenTables} (tied : AreTied t hid) where
-  pub whole_is : length t.up ≡ length t.hand + length t.hand / 2
-  whole_is = omega (arith, tied.pool.room, tied.pool.half)
-
-  pub inner_low : (x : ℕ) → up_at t.up x ≢ x → x < length t.up
-  inner_low x ne = elim (cases_lt x (length t.up)) [ inl l ↦ l | inr h ↦ absurd (ne (get_or_past t.up x x h)) ]
-
-  pub around_used : (x : ℕ) → up_at t.up x ≢ x → (length t.hand ≤ up_at t.up x) × (up_at t.up x < length t.up)
-      × (get_or t.parts (up_at t.up x) 0 ≢ 0)
-  around_used x ne = (
-    (tied.nest.around x ne).0,
-    (rw (get_or_default_zero t.up x x (inner_low x ne)) (tied.nest.ups x (inner_low x ne))),
-    (tied.nest.around x ne).1,
-  )
-
-  pub inner_live : (x : ℕ) → up_at t.up x ≢ x → length t.hand ≤ x → get_or t.parts x 0 ≢ 0
-  inner_live x ne high none = ne (tied.nest.idle x high none)

@@ -1,6 +1,6 @@
 -- What a shift does to the tables.
-use Rattle.std.proofs.Common.{◌≡◌, ℕ, ◌<◌, ◌≤◌, ◌^◌, length, ℤ, pos, ◌+ℤ◌, ◌≤ℤ◌, Option, Some, None, is_some, true}
-use Rattle.std.proofs.Common.{false, refl, sym, ◌∙◌, ap, subst, arith}
+use Rattle.std.proofs.Common.{◌≡◌, ℕ, ◌<◌, ◌≤◌, ◌^◌, length, ℤ, pos, ◌+ℤ◌, ◌≤ℤ◌, Some, None}
+use Rattle.std.proofs.Common.{refl, sym, ◌∙◌, ap, subst, arith}
 use Rattle.std.proofs.lemmas.Int.{ints}
 use Rattle.std.specs.Prelude.{unsigned_abs}
 use Rattle.def_matching.specs.Matching.{WeightedGraph, IsGraph}
@@ -12,7 +12,7 @@ use Rattle.def_forest.specs.declared.kinds.Label.TheVariants.{Outside}
 use Rattle.forest_laws.proofs.{Graphs.are_darts, Loads.potential_shifted, Rises.sum_rises, Shifts.shift_valid}
 use Rattle.forest_laws.proofs.Grows.{rooted_valid}
 use Rattle.qm_forest.specs.Ties.{fixed_of, AreTied, HiddenTables, potential, added, told}
-use Rattle.qm_forest.proofs.{TiedWrites.sizes_kept, OnWays.darts_kept, OnWays.ends_kept, OnWays.room_kept}
+use Rattle.qm_forest.proofs.{TiedWrites.sizes_kept, OnWays.valid_as}
 
 -- A shift after another.
 change_sum : (l : Label) (d s : ℤ) → weight_change l (d +ℤ s) ≡ weight_change l d +ℤ weight_change l s
@@ -111,39 +111,17 @@ module _ {t : ForestTables} {hid : HiddenTables} (tied : AreTied t hid) {g : Wei
 pub valid_shift : {t : ForestTables} (u : ForestTables) {g : WeightedGraph} (s : ℤ) → IsGraph g → IsValidFor g t
     → IsFeasible (darts_of g) (shifted (forest_of t) s) → forest_of u ≡ shifted (forest_of t) s → u.hand ≡ t.hand
     → u.root ≡ t.root → fixed_of u ≡ fixed_of t → IsValidFor g u
-valid_shift {t} u {g} s is valid feasible seen hand root fixed = record {
-  vertices = ap length hand ∙ valid.vertices;
-  darts = darts_kept u valid fixed;
-  ends = ends_kept u valid fixed;
-  room = room_kept u valid fixed;
-  valid = rw (seen, root) (shift_valid (are_darts is) valid.valid s feasible);
-}
+valid_shift u s is valid feasible seen hand root fixed = valid_as u valid fixed (ap length hand)
+    (rw (seen, root) (shift_valid (are_darts is) valid.valid s feasible))
 
 -- The forest is valid after a blossom has become the root.
 pub valid_rooted : {t : ForestTables} (u : ForestTables) {g : WeightedGraph} → IsGraph g → IsValidFor g t → (v : ℕ)
     → v < length t.hand → t.root ≡ None → (forest_of t).mate ((forest_of t).out v) ≡ None → forest_of u
     ≡ rooted (forest_of t) ((forest_of t).out v) → u.hand ≡ t.hand → u.root ≡ Some ((forest_of t).out v) → fixed_of u
     ≡ fixed_of t → IsValidFor g u
-valid_rooted {t} u {g} is valid v low none free seen hand root fixed = record {
-  vertices = ap length hand ∙ valid.vertices;
-  darts = darts_kept u valid fixed;
-  ends = ends_kept u valid fixed;
-  room = room_kept u valid fixed;
-  valid = rw (seen, root) (rooted_valid (are_darts is) (rw none at valid.valid) ((forest_of t).out v) (
-    v,
-    (rw valid.vertices at low),
-    refl,
-  ) free);
-}
-
--- An option that is not empty has something in it.
-pub some_of : (o : Option ℕ) → is_some o ≡ true → (r : ℕ) × (o ≡ Some r)
-some_of None e = absurd (cc e)
-some_of (Some r) e = (r, refl)
-
-pub none_of : (o : Option ℕ) → is_some o ≡ false → o ≡ None
-none_of None e = refl
-none_of (Some r) e = absurd (cc e)
+valid_rooted {t} u is valid v low none free seen hand root fixed = valid_as u valid fixed (ap length hand)
+    (rw (seen, root) (rooted_valid (are_darts is) (rw none at valid.valid) ((forest_of t).out v)
+    (v, rw valid.vertices at low, refl) free))
 
 -- The forest sees the shift, of tables that are tied.
 pub seen_shift_tied : {t : ForestTables} {hid : HiddenTables} → AreTied t hid → (s d : ℤ) → d ≡ t.delta +ℤ s

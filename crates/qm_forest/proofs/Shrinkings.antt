@@ -19,7 +19,7 @@ use Rattle.forest_laws.proofs.Writes.{outer_named, set_here, set_there, true_fal
 use Rattle.qm_forest.specs.Gathers.{IsFreeRing, IsGathered, live_sets}
 use Rattle.qm_forest.specs.Rings.{IsRingedAlike, laid_ring}
 use Rattle.qm_forest.specs.Ties.{fixed_of, HasSameNest, labelled, mated, left_alone}
-use Rattle.qm_forest.proofs.OnWays.{darts_kept, ends_kept, room_kept}
+use Rattle.qm_forest.proofs.OnWays.{valid_as}
 use Rattle.qm_forest.proofs.Increases.{the_tree, named_low}
 use Rattle.qm_forest.proofs.WritesAlong.{IsForked, lain_left, lain_over, lain_right, lain_off}
 
@@ -69,7 +69,7 @@ module _ {g : WeightedGraph} {t0 : ForestTables} {start top left right : ℕ}
   named_c = outer_named outer_c
 
   pub tree_is : (r : ℕ) × (t0.root ≡ Some r) × IsTree d f r
-  tree_is = the_tree g is t0 valid a named_a
+  tree_is = the_tree is valid a named_a
 
   whole : IsValid d f (Some tree_is.0)
   whole = rw tree_is.1 at valid.valid
@@ -195,7 +195,7 @@ module _ {g : WeightedGraph} {t0 : ForestTables} {start top left right : ℕ}
   spot_out k l = valid.valid.outermost.named (walk after top k) (walk_named k l)
 
   spot_low : (k : ℕ) → k < many → walk after top k < length t0.up
-  spot_low k l = named_low g is t0 valid (walk after top k) (walk_named k l)
+  spot_low k l = named_low is valid (walk after top k) (walk_named k l)
 
   spot_top : (k : ℕ) → k < many → f.nest.up (walk after top k) ≡ walk after top k
   spot_top k l = (let w : IsOutermost g.n f (walk after top k) = spot_out k l in
@@ -213,7 +213,7 @@ module _ {g : WeightedGraph} {t0 : ForestTables} {start top left right : ℕ}
 
   -- The top is in the tree.
   pub top_low : top < length t0.up
-  top_low = named_low g is t0 valid top (outer_named (top_outer are whole tree_is.2 a c named_a named_c
+  top_low = named_low is valid top (outer_named (top_outer are whole tree_is.2 a c named_a named_c
       top left right met outer_a outer_c))
 
   three_many : 3 ≤ many
@@ -432,10 +432,6 @@ module _ {g : WeightedGraph} {t0 : ForestTables} {start top left right : ℕ}
 
       -- And the forest is valid.
       pub shrunk_tables : fixed_of t5 ≡ fixed_of t1 → IsValidFor g t5
-      shrunk_tables fixed = record {
-        darts = darts_kept t5 valid (fixed ∙ ap fixed_of alike);
-        ends = ends_kept t5 valid (fixed ∙ ap fixed_of alike);
-        room = room_kept t5 valid (fixed ∙ ap fixed_of alike);
-        vertices = hand ∙ (ap (λ (t : ForestTables). length t.hand) alike ∙ valid.vertices);
-        valid = rw new_root (shrunk_valid are whole tree_is.2 cycle_is unused row_is shrunk);
-      }
+      shrunk_tables fixed = valid_as t5 valid (fixed ∙ ap fixed_of alike)
+          (hand ∙ ap (λ (t : ForestTables). length t.hand) alike)
+          (rw new_root (shrunk_valid are whole tree_is.2 cycle_is unused row_is shrunk))

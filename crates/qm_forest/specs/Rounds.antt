@@ -14,8 +14,8 @@ use Rattle.def_forest.specs.Tables.{ForestTables, forest_of, climbs, up_at}
 use Rattle.qm_forest.specs.Ties.{IsInUse}
 use Rattle.qm_forest.specs.declared.rounds.Round.{Round}
 
--- The forest is valid for a small graph, whose darts begin where they do in the forest. There may be no room for what it
--- comes to.
+-- The forest is valid for a small graph, whose darts begin where they do in the forest. There may be no room for what
+-- it comes to.
 pub record IsSoundFor (g : WeightedGraph) (t : ForestTables) : Type 0 where
   pub small : IsSmallGraph g
   pub vertices : length t.hand ≡ g.n

@@ -1,7 +1,6 @@
-use Rattle.std.proofs.Common.{◌≡◌, suc, ◌+◌, ◌<◌, ◌++◌, ◌∙◌, [], ◌∷◌, length, get_or, sym, subst, ap, arith}
+use Rattle.std.proofs.Common.{add-one, ◌≡◌, ◌+◌, ◌<◌, ◌++◌, ◌∙◌, [], ◌∷◌, length, get_or, sym, subst, ap, arith}
 use Rattle.std.proofs.lemmas.Grind.{common_steps}
 use Rattle.std.proofs.lemmas.List.{get_or_read, length_push}
-use Rattle.def_forest.specs.Forests.{walk}
 use Rattle.qm_forest.proofs.Copied.{copied_more}
 use Rattle.qm_forest.proofs.members.list_members.Goals as goal
 
@@ -13,12 +12,9 @@ loop-preserved c =
     subst (λ v. v < length c.args.lists.now.following.items) (sym c.loop.invariant.here)
     (c.requires.lists.low c.loop.counter (omega (arith, c.loop-test.true, end))) in
     let pushed : c.push.new.self.items ≡ c.loop.list.items ++ c.loop.v ∷ [] = grind (arith, common_steps) in
-    let one : suc c.loop.counter ≡ c.loop.counter + 1 = omega arith in
     record {
       here = get_or_read c.args.lists.now.following.items c.loop.v _ low c.index-v-in-loop.ensures 0
-          ∙ (ap (λ v. get_or c.args.lists.now.following.items v 0) c.loop.invariant.here
-          ∙ ap (walk (λ k. get_or c.args.lists.now.following.items k 0) (get_or c.args.lists.now.first.items c.args.x
-          0)) one);
+          ∙ rw (add-one c.loop.counter, c.loop.invariant.here);
       count = ap length pushed ∙ (length_push c.loop.list.items c.loop.v
           ∙ (let e : length c.loop.list.items + 1 ≡ c.loop.counter + 1 = omega (arith, c.loop.invariant.count) in e));
       each = copied_more c.loop.list.items _ _ pushed c.loop.invariant.count

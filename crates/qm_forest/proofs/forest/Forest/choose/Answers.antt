@@ -1,5 +1,5 @@
-use Rattle.std.proofs.Common.{◌≡◌, length, subst, arith}
-use Rattle.qm_forest.specs.Rounds.{IsRound, matched_by}
+use Rattle.std.proofs.Common.{◌≡◌, length, arith}
+use Rattle.qm_forest.specs.Rounds.{matched_by}
 use Rattle.qm_forest.proofs.forest.Forest.choose.Goals as goal
 
 pub match_waiting-requires-clause-begun : goal.match_waiting-requires-clause-begun
@@ -7,12 +7,11 @@ match_waiting-requires-clause-begun c =
     (λ b. 0, matched_by c.args.self.now (length c.match_mates.new.round.marks.items), c.match_mates.ensures.done)
 
 pub returns-clause-chosen : goal.returns-clause-chosen
-returns-clause-chosen c = record {
-  room = c.match_waiting.ensures.room;
-  done = (let same : length c.match_mates.new.round.marks.items ≡ length c.match_waiting.new.round.marks.items =
-      omega (arith, c.match_mates.ensures.room.marks, c.match_waiting.ensures.room.marks) in
-      subst (λ m. IsRound c.args.self.now c.match_waiting.new.round.marks.items c.match_waiting.new.round.left_out.items
-      (λ b. 0) (matched_by c.args.self.now m)) same (c.match_waiting.ensures.done (λ b. 0)
-      (matched_by c.args.self.now (length c.match_mates.new.round.marks.items)) c.match_mates.ensures.done));
-  ended = c.match_waiting.ensures.ended;
-}
+returns-clause-chosen c =
+    let same : length c.match_mates.new.round.marks.items ≡ length c.match_waiting.new.round.marks.items =
+    omega (arith, c.match_mates.ensures.room.marks, c.match_waiting.ensures.room.marks) in
+    record {
+      room = c.match_waiting.ensures.room;
+      done = rw (← same) (c.match_waiting.ensures.done _ _ c.match_mates.ensures.done);
+      ended = c.match_waiting.ensures.ended;
+    }

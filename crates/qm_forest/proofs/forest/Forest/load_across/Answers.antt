@@ -1,4 +1,4 @@
-use Rattle.std.proofs.{Common.arith, Common.subst, Common.◌<◌, lemmas.Int.ints}
+use Rattle.std.proofs.{Common.arith, lemmas.Int.ints}
 use Rattle.forest_laws.proofs.Loads.{load_across}
 use Rattle.qm_forest.proofs.forest.Forest.load_across.Goals as goal
 
@@ -10,7 +10,6 @@ returns-clause-value c = omega (
   c.potential.ensures.small,
   c.potential-2.ensures.value,
   c.potential-2.ensures.small,
-  load_across c.requires.valid.valid.outermost c.args.u c.args.v
-      (subst (λ n. c.args.u < n) c.requires.valid.vertices c.requires.vertices.0)
-      (subst (λ n. c.args.v < n) c.requires.valid.vertices c.requires.vertices.1) c.requires.apart,
+  load_across c.requires.valid.valid.outermost c.args.u c.args.v (rw c.requires.valid.vertices at c.requires.vertices.0)
+      (rw c.requires.valid.vertices at c.requires.vertices.1) c.requires.apart,
 )

@@ -2,7 +2,7 @@ use Rattle.std.proofs.Common.{◌≡◌, ◌+◌, ◌*◌, true, false, refl, sy
 use Rattle.def_forest.specs.Tables.{forest_of}
 use Rattle.forest_laws.proofs.Writes.{true_false}
 use Rattle.qm_forest.specs.Rounds.{is_dart, matches, near_at}
-use Rattle.qm_forest.proofs.MateRounds.{IsMateEdge, dart_is, edge_more, edge_same, matches_is}
+use Rattle.qm_forest.proofs.MateRounds.{dart_is, edge_more, edge_same, matches_is}
 use Rattle.qm_forest.proofs.forest.Forest.match_edge.Goals.{After-is_mate-matched, After-outermost-b}
 use Rattle.qm_forest.proofs.forest.Forest.match_edge.Goals as goal
 

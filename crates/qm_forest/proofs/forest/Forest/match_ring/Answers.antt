@@ -1,4 +1,4 @@
-use Rattle.std.proofs.Common.{◌≡◌, suc, ◌+◌, ◌-◌, ◌*◌, ◌/◌, ◌<◌, ◌⊎◌, get_or, refl, ◌∙◌, ap, inl, inr, arith}
+use Rattle.std.proofs.Common.{◌≡◌, suc, ◌+◌, ◌*◌, ◌/◌, ◌<◌, ◌⊎◌, get_or, refl, ◌∙◌, ap, inl, inr, arith}
 use Rattle.def_forest.specs.{Forests.walk, Tables.up_at}
 use Rattle.qm_forest.specs.Rounds.{IsPairing}
 use Rattle.qm_forest.proofs.RingRounds.{at_low, ring_begun, ring_ended, ring_turn, turn_entries, turn_pairing}

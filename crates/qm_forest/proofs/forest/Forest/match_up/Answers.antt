@@ -1,4 +1,4 @@
-use Rattle.std.proofs.Common.{◌≡◌, ℕ, ◌<◌, ◌⊎◌, get_or, ◌∙◌, ap, inl, inr, arith, Some, None, length}
+use Rattle.std.proofs.Common.{get_or, ◌∙◌, ap, inl, inr, arith, length}
 use Rattle.def_forest.specs.Tables.{up_at}
 use Rattle.qm_forest.specs.Rounds.{within}
 use Rattle.qm_forest.proofs.{Enclosed.climbs_here, Nests.climbs_place, RingRounds.above_more, RingRounds.climb_begins}

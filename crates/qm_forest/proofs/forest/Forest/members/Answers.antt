@@ -1,11 +1,11 @@
-use Rattle.std.proofs.Common.{refl, sym, subst, ◌<◌, ◌≡◌, ℕ, length, get_or, true}
+use Rattle.std.proofs.Common.{sym, subst, ◌<◌, ◌≡◌, ℕ, length, get_or, true}
 use Rattle.def_forest.specs.Tables.{ForestTables, climbs, up_at}
 use Rattle.qm_forest.specs.Ties.{IsInUse}
 use Rattle.qm_forest.proofs.Copied.{list_at, copied_all}
 use Rattle.qm_forest.proofs.forest.Forest.members.Goals as goal
 
 pub list_members-requires-clause-lists : goal.list_members-requires-clause-lists
-list_members-requires-clause-lists c = list_at c.self.invariant c.self.inside.lists refl refl refl c.args.b
+list_members-requires-clause-lists c = list_at c.self.inside c.self.invariant c.args.b
     (subst (λ (t : ForestTables). c.args.b < length t.up) (sym c.self.view_is) c.requires.low)
     (subst (λ (t : ForestTables). IsInUse (length t.hand) t.parts c.args.b) (sym c.self.view_is) c.requires.used)
 

@@ -1,4 +1,4 @@
-use Rattle.std.proofs.{Common.◌≡◌, Common.◌<◌, Common.subst, Common.sym, Common.length, Common.get_or, Common.arith}
+use Rattle.std.proofs.{Common.◌≡◌, Common.subst, Common.sym, Common.length, Common.get_or, Common.arith}
 use Rattle.std.proofs.lemmas.List.{get_or_read}
 use Rattle.def_forest.specs.Tables.{ForestTables}
 use Rattle.qm_forest.specs.Parts.{IsPartable}

@@ -4,79 +4,71 @@ use mir.Syntax.{w128}
 use mir.Val.{to_z, of_z}
 use Rattle.def_forest.specs.{Steps.weight_change, Tables.ForestTables, Tables.forest_of}
 use Rattle.qm_forest.specs.Ties.{added, potential}
-use Rattle.qm_forest.proofs.Ranges.{delta_small, added_small, added_bound, told_bound, potential_small, kept_in_bits}
+use Rattle.qm_forest.proofs.{Insides.seen_in, Ranges.delta_small, Ranges.added_small, Ranges.added_bound}
+use Rattle.qm_forest.proofs.Ranges.{told_bound, potential_small, kept_in_bits}
+use Rattle.qm_forest.proofs.forest.Forest.potential.Goals.{After-deref-5, After-deref-6}
 use Rattle.qm_forest.proofs.forest.Forest.potential.Goals as goal
+
+-- What the handle of the vertex adds.
+more_is : (c : After-deref-5) → c.args.v < length c.self.inside.handles.hand.items
+    → get_or c.deref-5.result.now c.hand_of-handle.result (pos 0) +ℤ weight_change c.label_of-label.result
+    (to_z w128 (of_z w128 c.self.inside.weights.delta)) ≡ added c.self.inside.handles.hand.items
+    c.self.inside.handles.top.items c.self.inside.handles.off.items c.self.inside.tree.label.items
+    c.self.inside.weights.delta c.args.v
+more_is c low = added_bound c.self.invariant c.args.v low _ _ c.deref-5.ensures.value (cc) (cc)
+    (kept_in_bits _ (omega (arith, delta_small c.self.invariant)))
+
+low : (c : After-deref-5) → c.args.v < length c.self.inside.handles.hand.items
+low c = subst (λ (t : ForestTables). c.args.v < length t.hand) (sym c.self.view_is) c.requires
+
+-- With the number of the vertex it is the potential.
+told : (c : After-deref-6) → c.args.v < length c.self.inside.handles.hand.items
+    → get_or c.deref-5.result.now c.hand_of-handle.result (pos 0) +ℤ weight_change c.label_of-label.result
+    (to_z w128 (of_z w128 c.self.inside.weights.delta)) ≡ added c.self.inside.handles.hand.items
+    c.self.inside.handles.top.items c.self.inside.handles.off.items c.self.inside.tree.label.items
+    c.self.inside.weights.delta c.args.v
+    → get_or c.deref-6.result.now c.args.v (pos 0) +ℤ to_z w128 (of_z w128 c.added_at-more.result)
+    ≡ potential (forest_of (seen_in c.self.inside)) c.args.v
+told c low more = told_bound c.self.invariant c.args.v low c.deref-6.ensures.value
+    (omega (arith, ints, more, c.added_at-more.ensures, added_small c.self.invariant c.args.v low))
 
 pub added_at-more-requires-clause-delta : goal.added_at-more-requires-clause-delta
 added_at-more-requires-clause-delta c = omega (arith, ints, delta_small c.self.invariant)
 
 pub added_at-more-requires-clause-small : goal.added_at-more-requires-clause-small
 added_at-more-requires-clause-small c =
-    let s = c.self.inside in
-    let low : c.args.v < length s.handles.hand.items =
-    subst (λ (t : ForestTables). c.args.v < length t.hand) (sym c.self.view_is) c.requires in
-    let more : get_or c.deref-5.result.now c.hand_of-handle.result (pos 0) +ℤ weight_change c.label_of-label.result
-    (to_z w128 (of_z w128 s.weights.delta)) ≡ added s.handles.hand.items s.handles.top.items s.handles.off.items
-    s.tree.label.items s.weights.delta c.args.v = added_bound c.self.invariant c.args.v low _ _ c.deref-5.ensures.value
-    (cc) (cc) (kept_in_bits _ (omega (arith, delta_small c.self.invariant))) in
-    omega (arith, ints, more, added_small c.self.invariant c.args.v low)
+    let at = (goal.at.added_at-more-requires-clause-small c).After-deref-5 in
+    omega (arith, ints, more_is at (low at), added_small c.self.invariant c.args.v (low at))
 
 pub sum_at-requires-clause-small : goal.sum_at-requires-clause-small
 sum_at-requires-clause-small c =
-    let s = c.self.inside in
-    let low : c.args.v < length s.handles.hand.items =
-    subst (λ (t : ForestTables). c.args.v < length t.hand) (sym c.self.view_is) c.requires in
-    let more : get_or c.deref-5.result.now c.hand_of-handle.result (pos 0) +ℤ weight_change c.label_of-label.result
-    (to_z w128 (of_z w128 s.weights.delta)) ≡ added s.handles.hand.items s.handles.top.items s.handles.off.items
-    s.tree.label.items s.weights.delta c.args.v = added_bound c.self.invariant c.args.v low _ _ c.deref-5.ensures.value
-    (cc) (cc) (kept_in_bits _ (omega (arith, delta_small c.self.invariant))) in
-    let kept : to_z w128 (of_z w128 c.added_at-more.result) ≡ added s.handles.hand.items s.handles.top.items
-    s.handles.off.items s.tree.label.items s.weights.delta c.args.v = omega
-    (arith, ints, more, c.added_at-more.ensures, added_small c.self.invariant c.args.v low) in
+    let at = (goal.at.sum_at-requires-clause-small c).After-deref-5 in
     omega (
       arith,
       ints,
-      told_bound c.self.invariant c.args.v low c.deref-6.ensures.value kept,
+      told (goal.at.sum_at-requires-clause-small c).After-deref-6 (low at) (more_is at (low at)),
       potential_small c.self.invariant c.args.v,
     )
 
 pub returns-clause-small : goal.returns-clause-small
 returns-clause-small c =
-    let s = c.self.inside in
-    let low : c.args.v < length s.handles.hand.items =
-    subst (λ (t : ForestTables). c.args.v < length t.hand) (sym c.self.view_is) c.requires in
-    let more : get_or c.deref-5.result.now c.hand_of-handle.result (pos 0) +ℤ weight_change c.label_of-label.result
-    (to_z w128 (of_z w128 s.weights.delta)) ≡ added s.handles.hand.items s.handles.top.items s.handles.off.items
-    s.tree.label.items s.weights.delta c.args.v = added_bound c.self.invariant c.args.v low _ _ c.deref-5.ensures.value
-    (cc) (cc) (kept_in_bits _ (omega (arith, delta_small c.self.invariant))) in
-    let kept : to_z w128 (of_z w128 c.added_at-more.result) ≡ added s.handles.hand.items s.handles.top.items
-    s.handles.off.items s.tree.label.items s.weights.delta c.args.v = omega
-    (arith, ints, more, c.added_at-more.ensures, added_small c.self.invariant c.args.v low) in
+    let at = (goal.at.returns-clause-small c).After-deref-5 in
     omega (
       arith,
       ints,
       c.sum_at.ensures,
-      told_bound c.self.invariant c.args.v low c.deref-6.ensures.value kept,
+      told (goal.at.returns-clause-small c).After-deref-6 (low at) (more_is at (low at)),
       potential_small c.self.invariant c.args.v,
     )
 
 pub returns-clause-value : goal.returns-clause-value
 returns-clause-value c =
-    let s = c.self.inside in
-    let low : c.args.v < length s.handles.hand.items =
-    subst (λ (t : ForestTables). c.args.v < length t.hand) (sym c.self.view_is) c.requires in
-    let more : get_or c.deref-5.result.now c.hand_of-handle.result (pos 0) +ℤ weight_change c.label_of-label.result
-    (to_z w128 (of_z w128 s.weights.delta)) ≡ added s.handles.hand.items s.handles.top.items s.handles.off.items
-    s.tree.label.items s.weights.delta c.args.v = added_bound c.self.invariant c.args.v low _ _ c.deref-5.ensures.value
-    (cc) (cc) (kept_in_bits _ (omega (arith, delta_small c.self.invariant))) in
-    let kept : to_z w128 (of_z w128 c.added_at-more.result) ≡ added s.handles.hand.items s.handles.top.items
-    s.handles.off.items s.tree.label.items s.weights.delta c.args.v = omega
-    (arith, ints, more, c.added_at-more.ensures, added_small c.self.invariant c.args.v low) in
+    let at = (goal.at.returns-clause-value c).After-deref-5 in
     omega (
       arith,
       ints,
       c.sum_at.ensures,
-      told_bound c.self.invariant c.args.v low c.deref-6.ensures.value kept,
+      told (goal.at.returns-clause-value c).After-deref-6 (low at) (more_is at (low at)),
       potential_small c.self.invariant c.args.v,
       ap (λ (t : ForestTables). potential (forest_of t) c.args.v) c.self.view_is,
     )

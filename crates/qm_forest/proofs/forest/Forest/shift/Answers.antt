@@ -4,7 +4,8 @@ use Rattle.std.specs.Prelude.{unsigned_abs}
 use Rattle.def_forest.specs.{Darts.darts_of, Steps.shifted, Tables.ForestTables, Tables.forest_of, Tables.IsValidFor}
 use Rattle.def_forest.specs.Valid.{IsFeasible}
 use Rattle.qm_forest.proofs.Ranges.{delta_small}
-use Rattle.qm_forest.proofs.Shifted.{seen_shift_tied, seen_still, tied_shift, valid_shift, some_of, none_of}
+use Rattle.qm_forest.proofs.Increases.{none_of, some_of}
+use Rattle.qm_forest.proofs.Shifted.{seen_shift_tied, seen_still, tied_shift, valid_shift}
 use Rattle.qm_forest.proofs.forest.Forest.shift.Goals as goal
 
 pub overflow_add-self : goal.overflow_add-self

@@ -1,4 +1,4 @@
-use Rattle.std.proofs.Common.{ℕ, ◌+◌, ◌*◌, ◌≤◌, ◌^◌, ◌∙◌, ap, arith}
+use Rattle.std.proofs.Common.{◌+◌, ◌*◌, ◌≤◌, ◌^◌, ◌∙◌, ap, arith}
 use Rattle.def_forest.specs.{Darts.darts_of, Tables.forest_of}
 use Rattle.forest_laws.proofs.{Levels.level_few, Writes.outer_named}
 use Rattle.qm_forest.proofs.{EdgeKinds.shrinks, Increases.met_at, Shrinkings.Closing, Shrinkings.top_low}

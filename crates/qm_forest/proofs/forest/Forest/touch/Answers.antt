@@ -3,35 +3,32 @@ use Rattle.std.proofs.lemmas.Grind.{common_steps}
 use Rattle.def_forest.specs.Tables.{ForestTables}
 use Rattle.qm_forest.specs.Ties.{IsOnTrail}
 use Rattle.qm_forest.proofs.{Ranges.mark_read, Trails.trail_room, Trails.tied_touched}
+use Rattle.qm_forest.proofs.forest.Forest.touch.Goals.{After-index}
 use Rattle.qm_forest.proofs.forest.Forest.touch.Goals as goal
+
+low : (c : After-index) → c.args.v < length c.self.inside.handles.hand.items
+low c = subst (λ (t : ForestTables). c.args.v < length t.hand) (sym c.self.view_is) c.requires
+
+mark_is : (c : After-index) → get_or c.self.inside.trail.touched.items c.args.v false ≡ c.index.result.now
+mark_is c = mark_read _ c.args.v false (rw c.self.invariant.sizes.touched (low c)) c.index.ensures
 
 pub unwrap-requires : goal.unwrap-requires
 unwrap-requires c =
-    let low : c.args.v < length c.self.inside.handles.hand.items =
-    subst (λ (t : ForestTables). c.args.v < length t.hand) (sym c.self.view_is) c.requires in
-    let off : get_or c.self.inside.trail.touched.items c.args.v false ≡ false =
-    mark_read _ c.args.v false (subst (λ n. c.args.v < n) (sym c.self.invariant.sizes.touched) low)
-    c.index.ensures ∙ c.if-not-index.true in
+    let at = (goal.at.unwrap-requires c).After-index in
     c.push.ensures.succeeds (omega (
       arith,
-      trail_room c.self.invariant c.args.v low off,
+      trail_room c.self.invariant c.args.v (low at) (mark_is at ∙ c.if-not-index.true),
       c.self.inside.trail.vertices.ok.0,
     ))
 
 pub invariant_of-self : goal.invariant_of-self
 invariant_of-self c =
-    let low : c.args.v < length c.self.inside.handles.hand.items =
-    subst (λ (t : ForestTables). c.args.v < length t.hand) (sym c.self.view_is) c.requires in
-    let off : get_or c.self.inside.trail.touched.items c.args.v false ≡ false =
-    mark_read _ c.args.v false (subst (λ n. c.args.v < n) (sym c.self.invariant.sizes.touched) low)
-    c.index.ensures ∙ c.if-not-index.true in
-    tied_touched c.self.invariant c.args.v low off _ (grind (arith, common_steps)) _
-    (omega (arith, c.push.ensures.capacity))
+    let at = (goal.at.invariant_of-self c).After-index in
+    tied_touched c.self.invariant c.args.v (low at) (mark_is at ∙ c.if-not-index.true) _
+    (grind (arith, common_steps)) _ (omega (arith, c.push.ensures.capacity))
 
 pub returns-else-not-index-clause-here : goal.returns-else-not-index-clause-here
 returns-else-not-index-clause-here c =
-    let low : c.args.v < length c.self.inside.handles.hand.items =
-    subst (λ (t : ForestTables). c.args.v < length t.hand) (sym c.self.view_is) c.requires in
+    let at = (goal.at.returns-else-not-index-clause-here c).After-index in
     subst (λ (t : ForestTables). IsOnTrail t.trail c.args.v) c.self.view_is
-    (c.self.invariant.trail.marked c.args.v (mark_read _ c.args.v false
-    (subst (λ n. c.args.v < n) (sym c.self.invariant.sizes.touched) low) c.index.ensures ∙ c.if-not-index.false))
+    (c.self.invariant.trail.marked c.args.v (mark_is at ∙ c.if-not-index.false))
