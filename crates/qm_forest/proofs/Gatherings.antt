@@ -77,6 +77,7 @@ module _ {s : Inside} {pool2 : List (Option Node)} {front many b : ℕ} (taken :
 
   pub lists_of_row : HasListsOf s.handles s.lists s.rings.after.items front many
   lists_of_row = record {
+    row = rw tied.sizes.after ring.row;
     each = λ k lk. record {
       first = rw tied.sizes.first (ring.row.low k lk);
       rank = rw tied.sizes.rank (ring.row.low k lk);
@@ -86,6 +87,7 @@ module _ {s : Inside} {pool2 : List (Option Node)} {front many b : ℕ} (taken :
       many = list_few (row_list free k lk);
       low = (row_list free k lk).low;
       distinct = (row_list free k lk).distinct;
+      small = λ v. omega (arith, q_small tied v);
     };
     own = λ k v lk lv. (own_list free k lk).all v lv;
     leader = tied.sizes.leader ∙ sym tied.sizes.after;
@@ -100,6 +102,7 @@ module _ {s : Inside} {pool2 : List (Option Node)} {front many b : ℕ} (taken :
 
   pub joinable : AreJoinable s.lists s.rings.after.items front many
   joinable = record {
+    row = rw tied.sizes.after ring.row;
     first = tied.sizes.first ∙ sym tied.sizes.after;
     last = tied.sizes.last ∙ sym tied.sizes.after;
     rank = tied.sizes.rank ∙ sym tied.sizes.after;

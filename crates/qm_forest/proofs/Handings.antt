@@ -1,13 +1,12 @@
 -- Handing the vertices of the parts of a set over to their own leaders, one part after another.
-use Rattle.std.proofs.Common.{◌≡◌, ◌≢◌, ℕ, zero, suc, ◌<◌, ◌≤◌, ◌^◌, true, false, List, length, get_or, ℤ, pos}
+use Rattle.std.proofs.Common.{◌≡◌, ◌≢◌, ℕ, zero, suc, ◌<◌, true, false, List, length, get_or, ℤ, pos}
 use Rattle.std.proofs.Common.{◌⊎◌, refl, sym, ◌∙◌, ap, inl, inr, arith, length-set}
 use Rattle.std.proofs.Math.ListN.{set}
 use Rattle.std.proofs.lemmas.Bool.{cases_eq, cases_Bool, cond-true, cond-false}
-use Rattle.std.specs.Prelude.{unsigned_abs}
 use Rattle.def_forest.specs.Forests.{walk, set_at}
 use Rattle.forest_laws.specs.Walks.{writes}
 use Rattle.forest_laws.proofs.Writes.{set_here, set_there}
-use Rattle.qm_forest.specs.{Gathers.HasListAt, Gathers.IsRow, Gathers.lists_at, Parts.HasHandedOver, Parts.HasHandedRow}
+use Rattle.qm_forest.specs.{Gathers.HasListAt, Gathers.lists_at, Parts.HasHandedOver, Parts.HasHandedRow}
 use Rattle.qm_forest.specs.{Parts.HasOwnLeader, Parts.HasPartLists, declared.tables.Handles.Handles}
 use Rattle.qm_forest.specs.declared.tables.Lists.{Lists}
 use Rattle.qm_forest.proofs.TiedWrites.{entry_set}
@@ -25,7 +24,7 @@ writes_keep f place a (suc k) = by_place (cases_eq a (place k)) (writes_keep f p
 
 module _ {h0 h1 : Handles} {lists : Lists} {after : List ℕ} {front many set' k x : ℕ}
     (has : HasPartLists h0 lists after front many set') (l : k < many) (x_is : x ≡ walk (λ i. get_or after i 0) front k)
-    (done : HasHandedRow h0 h1 lists after front k set') (row : IsRow (length after) after front many) where
+    (done : HasHandedRow h0 h1 lists after front k set') where
   abbrev at : ℕ → ℕ
   at i = walk (λ i. get_or after i 0) front i
 
@@ -42,6 +41,7 @@ module _ {h0 h1 : Handles} {lists : Lists} {after : List ℕ} {front many set' k
     many = omega (arith, was.many, done.hands);
     low = λ j lj. rw done.hands (was.low j lj);
     distinct = was.distinct;
+    small = λ v. rw (done.q v) (was.small v);
   })
 
   -- A vertex of this part is in none before.
@@ -53,16 +53,13 @@ module _ {h0 h1 : Handles} {lists : Lists} {after : List ℕ} {front many set' k
 
   pub part_leader : HasOwnLeader h1 lists x set'
   part_leader = rw x_is (record {
-    low_x = rw has.leader (row.low k l);
+    low_x = rw has.leader (has.row.low k l);
     low_set = rw has.leader has.set_low;
     top = rw done.tops (has.tops k l);
     off = rw (done.offs ∙ has.offs) (has.tops k l);
     set_off = rw (done.offs ∙ has.offs) has.set_top;
     same = λ e v on. done.other v (first_off v on) ∙ (has.led k v l on ∙ sym e);
   })
-
-  pub part_small : (v : ℕ) → unsigned_abs (get_or h1.q.items v (pos 0)) ≤ 2 ^ 100
-  part_small v = rw (done.q v) (has.small v)
 
   -- One part more.
   pub row_more : {h2 : Handles} {j : ℕ} → j ≡ suc k → HasHandedOver h1 h2 lists x set'

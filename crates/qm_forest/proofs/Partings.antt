@@ -84,6 +84,7 @@ module _ {s : Inside} {r2 : Rings} {b : ℕ} (it : Opened s r2 b) where
 
   pub part_lists : HasPartLists s.handles s.lists r2.after.items front many b
   part_lists = rw opened.after (record {
+    row = rw tied.sizes.after ready.row;
     each = λ k lk. record {
       first = rw tied.sizes.first (ready.row.low k lk);
       rank = rw tied.sizes.rank (ready.row.low k lk);
@@ -93,6 +94,7 @@ module _ {s : Inside} {r2 : Rings} {b : ℕ} (it : Opened s r2 b) where
       many = list_few (list_at k lk);
       low = (list_at k lk).low;
       distinct = (list_at k lk).distinct;
+      small = λ v. omega (arith, q_small tied v);
     };
     apart = apart;
     leader = tied.sizes.leader ∙ sym tied.sizes.after;
@@ -101,7 +103,6 @@ module _ {s : Inside} {r2 : Rings} {b : ℕ} (it : Opened s r2 b) where
     tops = λ k lk. rw tied.sizes.top (leader_in way k lk).0;
     set_top = rw tied.sizes.top (tied.nest.leaders b ready.low (inr ready.live)).0;
     led = led;
-    small = λ v. omega (arith, q_small tied v);
   })
 
   pub parting : {h2 : Handles} {pool2 : List (Option Node)}

@@ -64,8 +64,10 @@ module _ {h : Handles} {lists : Lists} {x : ℕ} (has : HasListAt h lists x) {k 
 
 -- Some blossoms of a row are renamed: what the loop over the row has at the next one, and what holds after it.
 module _ {h0 h1 : Handles} {lists : Lists} {after : List ℕ} {front many k x big : ℕ}
-    (has : HasListsOf h0 lists after front many) (row : IsRow (length after) after front many) (l : k < many)
-    (x_is : x ≡ walk (λ i. get_or after i 0) front k) (done : HasRenamedRow h0 h1 lists after front k big) where
+    (has : HasListsOf h0 lists after front many) (l : k < many) (x_is : x ≡ walk (λ i. get_or after i 0) front k)
+    (done : HasRenamedRow h0 h1 lists after front k big) where
+  open has use {row}
+
   abbrev at : ℕ → ℕ
   at i = walk (λ i. get_or after i 0) front i
 
@@ -84,21 +86,6 @@ module _ {h0 h1 : Handles} {lists : Lists} {after : List ℕ} {front many k x bi
 
   before_off : (v : ℕ) → out v ≡ at k → in_row h0 after front k v ≡ false
   before_off v e = listed_off (λ i. get_or after i 0) front k (out v) (λ j lj w. row.distinct j k lj l (w ∙ e))
-
-  pub row_lists : HasListAt h1 lists x
-  row_lists = rw x_is (record {
-    first = was.first;
-    rank = was.rank;
-    q = done.qs ∙ (was.q ∙ sym done.hands);
-    following = was.following ∙ sym done.hands;
-    few = omega (arith, was.few, done.hands);
-    many = omega (arith, was.many, done.hands);
-    low = λ j lj. rw done.hands (was.low j lj);
-    distinct = was.distinct;
-  })
-    where
-      was : HasListAt h0 lists (at k)
-      was = has.each k l
 
   -- The greatest has its own handle all the while.
   own_handle : at k ≡ big → (v : ℕ) → lists_at lists (at k) v ≡ true → get_or h1.hand.items v 0 ≡ handle
@@ -123,7 +110,7 @@ module _ {h0 h1 : Handles} {lists : Lists} {after : List ℕ} {front many k x bi
   })
 
   -- The numbers stay small all the while.
-  pub row_small : ((j : ℕ) × (j < many) × (at j ≡ big)) → (v : ℕ) → unsigned_abs (get_or h1.q.items v (pos 0)) ≤ 2 ^ 100
+  row_small : ((j : ℕ) × (j < many) × (at j ≡ big)) → (v : ℕ) → unsigned_abs (get_or h1.q.items v (pos 0)) ≤ 2 ^ 100
   row_small on v = elim (cases_lt v (length h0.hand.items)) [
     | inl lv ↦ by_test lv (in_row h0 after front k v) (done.q v lv)
     | inr h ↦ omega (arith, ints, get_or_past h1.q.items v (pos 0) (rw (done.qs ∙ (has.each k l).q) h))
@@ -137,6 +124,22 @@ module _ {h0 h1 : Handles} {lists : Lists} {after : List ℕ} {front many k x bi
           → unsigned_abs (get_or h1.q.items v (pos 0)) ≤ 2 ^ 100
       by_test lv true e = omega (arith, ints, e, has.small_q v, has.small_off v lv, small_handle)
       by_test lv false e = omega (arith, ints, e, has.small_q v)
+
+  pub row_lists : ((j : ℕ) × (j < many) × (at j ≡ big)) → HasListAt h1 lists x
+  row_lists on = rw x_is (record {
+    first = was.first;
+    rank = was.rank;
+    q = done.qs ∙ (was.q ∙ sym done.hands);
+    following = was.following ∙ sym done.hands;
+    few = omega (arith, was.few, done.hands);
+    many = omega (arith, was.many, done.hands);
+    low = λ j lj. rw done.hands (was.low j lj);
+    distinct = was.distinct;
+    small = row_small on;
+  })
+    where
+      was : HasListAt h0 lists (at k)
+      was = has.each k l
 
   -- A blossom of the row more is renamed.
   module _ {h2 : Handles} (renamed : HasRenamed h1 h2 lists x handle (differ_by h1 lists x big)) where

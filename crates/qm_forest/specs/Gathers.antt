@@ -26,7 +26,7 @@ abbrev pub lists_at : (lists : Lists) (x : Blossom) (v : Vertex) → Bool
 lists_at lists x v =
     listed (slice_index lists.following.items) (slice_index lists.first.items x) (slice_index lists.rank.items x) v
 
--- The list of a blossom is one of vertices, each of which has a handle and a number.
+-- The list of a blossom is one of vertices, each of which has a handle and a small number.
 pub record HasListAt (handles : Handles) (lists : Lists) (x : Blossom) : Type 0 where
   pub first : x < length lists.first.items
   pub rank : x < length lists.rank.items
@@ -39,6 +39,7 @@ pub record HasListAt (handles : Handles) (lists : Lists) (x : Blossom) : Type 0 
   pub distinct : (i j : ℕ) → i < j → j < slice_index lists.rank.items x
       → walk (slice_index lists.following.items) (slice_index lists.first.items x) i
       ≢ walk (slice_index lists.following.items) (slice_index lists.first.items x) j
+  pub small : (v : Vertex) → unsigned_abs (slice_index_or handles.q.items v (pos 0)) ≤ 2 ^ 100
 
 -- The list of a blossom is one of vertices.
 pub record IsListAt (n : ℕ) (lists : Lists) (x : Blossom) : Type 0 where
@@ -79,6 +80,7 @@ pub record HasRenamed (old new : Handles) (lists : Lists) (x : Blossom) (handle 
 
 -- The blossoms of a row have the lists of the vertices that are theirs, and leaders by which these are handled.
 pub record HasListsOf (handles : Handles) (lists : Lists) (after : List Blossom) (front many : ℕ) : Type 0 where
+  pub row : IsRow (length after) after front many
   pub each : (k : ℕ) → k < many → HasListAt handles lists (walk (slice_index after) front k)
   pub own : (k : ℕ) (v : Vertex) → k < many → v < length handles.hand.items
       → lists_at lists (walk (slice_index after) front k) v
@@ -117,6 +119,7 @@ pub record HasRenamedRow (old new : Handles) (lists : Lists) (after : List Bloss
 
 -- The lists of a row can be joined: each end has a next vertex, and the numbers of all do not overflow.
 pub record AreJoinable (lists : Lists) (after : List Blossom) (front many : ℕ) : Type 0 where
+  pub row : IsRow (length after) after front many
   pub first : length lists.first.items ≡ length after
   pub last : length lists.last.items ≡ length after
   pub rank : length lists.rank.items ≡ length after
@@ -137,8 +140,10 @@ pub record AreJoined (old new : Lists) (after : List Blossom) (front many set : 
       (ring_sum (slice_index after) (slice_index old.rank.items) front many)
   pub leader : new.leader ≡ old.leader
 
--- All tables of the rings are as long as there are numbers of blossoms.
-pub record AreRings (rings : Rings) : Type 0 where
+-- A row of the rings and the number of a set, where all tables are as long as there are numbers of blossoms.
+pub record IsRowOf (rings : Rings) (front many set : ℕ) : Type 0 where
+  pub row : IsRow (length rings.up.items) rings.after.items front many
+  pub low : set < length rings.up.items
   pub after : length rings.after.items ≡ length rings.up.items
   pub head : length rings.head.items ≡ length rings.up.items
   pub parts : length rings.parts.items ≡ length rings.up.items

@@ -1,6 +1,6 @@
 -- What parting a set into the blossoms of its ring needs, and what it leaves.
-use Rattle.std.specs.Prelude.{◌≡◌, ◌≢◌, ℕ, ◌+◌, ◌-◌, ◌%◌, ◌<◌, ◌≤◌, ◌^◌, ◌==◌, ◌⊎◌, Bool, true, false, if◌then◌else◌}
-use Rattle.std.specs.Prelude.{List, length, slice_index, slice_index_or, slice_set, pos, unsigned_abs, Some, None}
+use Rattle.std.specs.Prelude.{◌≡◌, ◌≢◌, ℕ, ◌+◌, ◌-◌, ◌%◌, ◌<◌, ◌≤◌, ◌==◌, ◌⊎◌, Bool, true, false, if◌then◌else◌}
+use Rattle.std.specs.Prelude.{List, length, slice_index, slice_index_or, slice_set, pos, Some, None}
 use Rattle.def_matching.specs.Matching.{Vertex}
 use Rattle.def_forest.specs.Darts.{Dart, other_dart}
 use Rattle.def_forest.specs.Forests.{Blossom, Forest, walk, set_at}
@@ -38,6 +38,7 @@ pub record HasHandedOver (old new : Handles) (lists : Lists) (x set : Blossom) :
 
 -- The blossoms of a row have lists without a common vertex, leaders that are handles, and one handle: that of a set.
 pub record HasPartLists (handles : Handles) (lists : Lists) (after : List Blossom) (front many set : ℕ) : Type 0 where
+  pub row : IsRow (length after) after front many
   pub each : (k : ℕ) → k < many → HasListAt handles lists (walk (slice_index after) front k)
   pub apart : (i j : ℕ) (v : Vertex) → i < many → j < many → lists_at lists (walk (slice_index after) front i) v ≡ true
       → lists_at lists (walk (slice_index after) front j) v ≡ true → i ≡ j
@@ -49,7 +50,6 @@ pub record HasPartLists (handles : Handles) (lists : Lists) (after : List Blosso
   pub set_top : slice_index lists.leader.items set < length handles.top.items
   pub led : (k : ℕ) (v : Vertex) → k < many → lists_at lists (walk (slice_index after) front k) v ≡ true
       → slice_index handles.hand.items v ≡ slice_index lists.leader.items set
-  pub small : (v : Vertex) → unsigned_abs (slice_index_or handles.q.items v (pos 0)) ≤ 2 ^ 100
 
 -- The vertices of all blossoms of a row got their own leaders as handles.
 pub record HasHandedRow (old new : Handles) (lists : Lists) (after : List Blossom) (front many set : ℕ) : Type 0 where

@@ -8,7 +8,7 @@ ghost use Rattle.forest_laws.specs.Walks.{listed};
 ghost use Rattle.qm_forest.specs.Gathers.{HasRenamed, IsRow, HasListAt, HasListsOf, HasRenamedRow};
 ghost use Rattle.qm_forest.specs.Gathers.{TookSet, IsFreeRing, IsGathered, root_around};
 ghost use Rattle.qm_forest.specs.Ties.{fixed_of};
-ghost use Rattle.qm_forest.specs.Gathers.{HasLeaders, differ_by, AreJoinable, AreJoined, AreRings, AreEnclosed};
+ghost use Rattle.qm_forest.specs.Gathers.{HasLeaders, differ_by, AreJoinable, AreJoined, IsRowOf, AreEnclosed};
 
 use crate::forest::Forest;
 use crate::tables::{Handles, Lists, Rings};
@@ -48,7 +48,6 @@ fn larger(rank: &[u32], x: u32, y: u32) -> u32
 /// The vertices of a blossom get another handle, and their numbers change by as much as the handles differ.
 pub(crate) fn rename(handles: &mut Handles, lists: &Lists, x: u32, handle: u32, more: i128)
     requires lists { HasListAt handles.old lists.now x }
-    requires small { (v : ℕ) → unsigned_abs (slice_index_or handles.old.q.items v (pos 0)) ≤ 2 ^ 100 }
     requires more { unsigned_abs more ≤ 2 ^ 100 }
     ensures { HasRenamed handles.old handles.new lists.now x handle more }
 {
@@ -64,7 +63,6 @@ pub(crate) fn rename(handles: &mut Handles, lists: &Lists, x: u32, handle: u32, 
 fn rename_to(handles: &mut Handles, lists: &Lists, x: u32, big: u32)
     requires lists { HasListAt handles.old lists.now x }
     requires leaders { HasLeaders handles.old lists.now x big }
-    requires small { (v : ℕ) → unsigned_abs (slice_index_or handles.old.q.items v (pos 0)) ≤ 2 ^ 100 }
     ensures { HasRenamed handles.old handles.new lists.now x (slice_index lists.now.leader.items big)
         (differ_by handles.old lists.now x big) }
 {
@@ -91,8 +89,7 @@ pub(crate) fn rename_row(
     front: u32,
     many: u32,
 ) -> u32
-    requires row { IsRow (length after.now) after.now front many }
-    requires lists { HasListsOf handles.old lists.now after.now front many }
+    requires { HasListsOf handles.old lists.now after.now front many }
     ensures on { (k : ℕ) × (k < many) × (walk (slice_index after.now) front k ≡ result) }
     ensures renamed { HasRenamedRow handles.old handles.new lists.now after.now front many result }
 {
@@ -107,7 +104,6 @@ pub(crate) fn rename_row(
 
 /// The lists of the blossoms of a ring become one list, that of a set.
 pub(crate) fn join_lists(lists: &mut Lists, after: &[u32], front: u32, many: u32, set: u32)
-    requires row { IsRow (length after.now) after.now front many }
     requires lists { AreJoinable lists.old after.now front many }
     requires set { set < length after.now }
     ensures { AreJoined lists.old lists.new after.now front many set }
@@ -128,9 +124,7 @@ pub(crate) fn join_lists(lists: &mut Lists, after: &[u32], front: u32, many: u32
 
 /// The blossoms of a ring get a set around them.
 pub(crate) fn enclose(rings: &mut Rings, front: u32, many: u32, set: u32)
-    requires row { IsRow (length rings.old.up.items) rings.old.after.items front many }
-    requires sizes { AreRings rings.old }
-    requires set { set < length rings.old.up.items }
+    requires { IsRowOf rings.old front many set }
     ensures { AreEnclosed rings.old rings.new front many set }
 {
     let mut x = front;

@@ -1,10 +1,9 @@
 //! Parting a set: the blossoms of its ring become outermost, each with its own leader as the handle.
 
-ghost use Rattle.std.specs.Prelude.{◌≡◌, ◌+◌, ◌^◌, ◌<◌, ◌≤◌, ℕ, pos, Some, None, length};
-ghost use Rattle.std.specs.Prelude.{slice_get, slice_index, slice_index_or, slice_set, unsigned_abs};
+ghost use Rattle.std.specs.Prelude.{◌≡◌, ◌+◌, ℕ, Some, None, length, slice_get, slice_index, slice_set};
 ghost use Rattle.def_forest.specs.Tables.{forest_of};
 ghost use Rattle.forest_laws.specs.Walks.{listed};
-ghost use Rattle.qm_forest.specs.Gathers.{HasListAt, IsRow, AreRings};
+ghost use Rattle.qm_forest.specs.Gathers.{HasListAt, IsRowOf};
 ghost use Rattle.qm_forest.specs.Parts.{HasOwnLeader, HasHandedOver, HasPartLists, HasHandedRow, AreOpened};
 ghost use Rattle.qm_forest.specs.Parts.{IsPartable, IsParted};
 ghost use Rattle.qm_forest.specs.Ties.{fixed_of};
@@ -26,7 +25,6 @@ struct Row {
 fn hand_over(handles: &mut Handles, lists: &Lists, x: u32, set: u32)
     requires lists { HasListAt handles.old lists.now x }
     requires leaders { HasOwnLeader handles.old lists.now x set }
-    requires small { (v : ℕ) → unsigned_abs (slice_index_or handles.old.q.items v (pos 0)) ≤ 2 ^ 100 }
     ensures { HasHandedOver handles.old handles.new lists.now x set }
 {
     let handle = lists.leader[x as usize];
@@ -41,8 +39,7 @@ fn hand_over(handles: &mut Handles, lists: &Lists, x: u32, set: u32)
 
 /// The vertices of all parts of a set get their own leaders as handles. Their potentials stay.
 fn hand_over_row(handles: &mut Handles, lists: &Lists, after: &[u32], row: Row, set: u32)
-    requires row { IsRow (length after.now) after.now row.front row.many }
-    requires lists { HasPartLists handles.old lists.now after.now row.front row.many set }
+    requires { HasPartLists handles.old lists.now after.now row.front row.many set }
     ensures { HasHandedRow handles.old handles.new lists.now after.now row.front row.many set }
 {
     let mut x = row.front;
@@ -54,9 +51,7 @@ fn hand_over_row(handles: &mut Handles, lists: &Lists, after: &[u32], row: Row, 
 
 /// The blossoms of a ring have no set around them any more.
 fn open_ring(rings: &mut Rings, front: u32, many: u32, set: u32)
-    requires row { IsRow (length rings.old.up.items) rings.old.after.items front many }
-    requires sizes { AreRings rings.old }
-    requires set { set < length rings.old.up.items }
+    requires { IsRowOf rings.old front many set }
     ensures { AreOpened rings.old rings.new front many set }
 {
     let mut x = front;

@@ -8,25 +8,25 @@ use Rattle.qm_forest.proofs.gathering.join_lists.Goals as goal
 -- What is read: the end of the list at hand, and the beginning and the length of the next one.
 end_is : (c : After-index-end) → c.index-end.result.now
     ≡ get_or c.args.lists.now.last.items (walk (λ k. get_or c.args.after.now k 0) c.args.front c.loop.counter) 0
-end_is c = entry_read c.loop.counter c.requires.row (omega (arith, c.loop-test.true)) c.loop.invariant.here
+end_is c = entry_read c.loop.counter c.requires.lists.row (omega (arith, c.loop-test.true)) c.loop.invariant.here
     (ap (λ o. o.items) c.loop.invariant.last) c.requires.lists.last c.index-end.ensures
 
 first_is : (c : After-index) → c.index.result.now
     ≡ get_or c.args.lists.now.first.items (walk (λ k. get_or c.args.after.now k 0) c.args.front (suc c.loop.counter)) 0
-first_is c = entry_read (suc c.loop.counter) c.requires.row (omega (arith, c.loop-test.true))
+first_is c = entry_read (suc c.loop.counter) c.requires.lists.row (omega (arith, c.loop-test.true))
     (ap (λ x. get_or c.args.after.now x 0) c.loop.invariant.here) (ap (λ o. o.items) c.loop.invariant.first)
     c.requires.lists.first c.index.ensures
 
 more_is : (c : After-index-in-loop) → c.index-in-loop.result.now
     ≡ get_or c.args.lists.now.rank.items (walk (λ k. get_or c.args.after.now k 0) c.args.front (suc c.loop.counter)) 0
-more_is c = entry_read (suc c.loop.counter) c.requires.row (omega (arith, c.loop-test.true))
+more_is c = entry_read (suc c.loop.counter) c.requires.lists.row (omega (arith, c.loop-test.true))
     (ap (λ x. get_or c.args.after.now x 0) c.loop.invariant.here) (ap (λ o. o.items) c.loop.invariant.rank)
     c.requires.lists.rank c.index-in-loop.ensures
 
 pub index-end-requires : goal.index-end-requires
 index-end-requires c = omega (
   arith,
-  entry_low c.loop.counter c.requires.row (omega (arith, c.loop-test.true)) c.loop.invariant.here
+  entry_low c.loop.counter c.requires.lists.row (omega (arith, c.loop-test.true)) c.loop.invariant.here
       (ap (λ o. o.items) c.loop.invariant.last) c.requires.lists.last,
   c.loop.lists.last.ok.0,
 )
@@ -34,7 +34,7 @@ index-end-requires c = omega (
 pub index-requires : goal.index-requires
 index-requires c = omega (
   arith,
-  entry_low (suc c.loop.counter) c.requires.row (omega (arith, c.loop-test.true))
+  entry_low (suc c.loop.counter) c.requires.lists.row (omega (arith, c.loop-test.true))
       (ap (λ x. get_or c.args.after.now x 0) c.loop.invariant.here) (ap (λ o. o.items) c.loop.invariant.first)
       c.requires.lists.first,
   c.loop.lists.first.ok.0,
@@ -52,7 +52,7 @@ index_mut-requires c = omega (
 pub index-requires-in-loop : goal.index-requires-in-loop
 index-requires-in-loop c = omega (
   arith,
-  entry_low (suc c.loop.counter) c.requires.row (omega (arith, c.loop-test.true))
+  entry_low (suc c.loop.counter) c.requires.lists.row (omega (arith, c.loop-test.true))
       (ap (λ x. get_or c.args.after.now x 0) c.loop.invariant.here) (ap (λ o. o.items) c.loop.invariant.rank)
       c.requires.lists.rank,
   c.loop.lists.rank.ok.0,
@@ -96,14 +96,15 @@ loop-preserved c =
 pub returns : goal.returns
 returns c =
     let all : c.loop.counter ≡ c.args.many - 1 = omega (arith, c.loop-test.false, c.loop.auto.counter-end) in
-    let some : suc c.loop.counter ≡ c.args.many = omega (arith, all, c.requires.row.some) in
+    let some : suc c.loop.counter ≡ c.args.many = omega (arith, all, c.requires.lists.row.some) in
     let front_is : c.index-2.result.now ≡ get_or c.args.lists.now.first.items c.args.front 0 =
-    entry_read 0 c.requires.row c.requires.row.some refl (ap (λ o. o.items) c.loop.invariant.first)
+    entry_read 0 c.requires.lists.row c.requires.lists.row.some refl (ap (λ o. o.items) c.loop.invariant.first)
     c.requires.lists.first c.index-2.ensures in
     let last_is : c.index-3.result.now ≡ get_or c.args.lists.now.last.items
     (walk (λ k. get_or c.args.after.now k 0) c.args.front (c.args.many - 1)) 0 =
-    entry_read (c.args.many - 1) c.requires.row (omega (arith, c.requires.row.some)) (rw (← all) c.loop.invariant.here)
-    (ap (λ o. o.items) c.loop.invariant.last) c.requires.lists.last c.index-3.ensures in
+    entry_read (c.args.many - 1) c.requires.lists.row (omega (arith, c.requires.lists.row.some))
+    (rw (← all) c.loop.invariant.here) (ap (λ o. o.items) c.loop.invariant.last) c.requires.lists.last
+    c.index-3.ensures in
     record {
       following = rw (← all) c.loop.invariant.following;
       size = c.loop.invariant.size;

@@ -25,7 +25,7 @@ overflow_add-index_mut c =
       arith,
       ints,
       read at.After-index_mut-in-loop (omega (arith, c.loop-test.true, many_is at.After-index-end)),
-      c.requires.small c.loop.v,
+      c.requires.lists.small c.loop.v,
       c.requires.more,
     )
 
@@ -47,7 +47,7 @@ loop-preserved c =
             arith,
             ints,
             read at.After-index_mut-in-loop l,
-            c.requires.small c.loop.v,
+            c.requires.lists.small c.loop.v,
             c.requires.more,
           ));
       hands = length-set c.loop.handles.hand.items c.loop.v c.args.handle ∙ c.loop.invariant.hands;

@@ -1,22 +1,18 @@
 use Rattle.std.proofs.Common.{add-one}
-use Rattle.qm_forest.proofs.RenamedRows.{row_lists, row_leaders, row_small, row_more}
+use Rattle.qm_forest.proofs.RenamedRows.{row_lists, row_leaders, row_more}
 use Rattle.qm_forest.proofs.gathering.rename_row.Goals as goal
 
 pub rename_to-requires-clause-lists : goal.rename_to-requires-clause-lists
-rename_to-requires-clause-lists c = row_lists c.requires.lists c.requires.row c.loop-test.true c.loop.invariant.here
-    c.loop.invariant.done
+rename_to-requires-clause-lists c = row_lists c.requires c.loop-test.true c.loop.invariant.here c.loop.invariant.done
+    c.largest-big.ensures.on
 
 pub rename_to-requires-clause-leaders : goal.rename_to-requires-clause-leaders
-rename_to-requires-clause-leaders c = row_leaders c.requires.lists c.requires.row c.loop-test.true
-    c.loop.invariant.here c.loop.invariant.done c.largest-big.ensures.on
-
-pub rename_to-requires-clause-small : goal.rename_to-requires-clause-small
-rename_to-requires-clause-small c = row_small c.requires.lists c.requires.row c.loop-test.true c.loop.invariant.here
+rename_to-requires-clause-leaders c = row_leaders c.requires c.loop-test.true c.loop.invariant.here
     c.loop.invariant.done c.largest-big.ensures.on
 
 pub loop-preserved : goal.loop-preserved
 loop-preserved c = record {
   here = rw (add-one c.loop.counter, c.loop.invariant.here);
-  done = row_more c.requires.lists c.requires.row c.loop-test.true c.loop.invariant.here c.loop.invariant.done
+  done = row_more c.requires c.loop-test.true c.loop.invariant.here c.loop.invariant.done
       c.rename_to.ensures (add-one c.loop.counter);
 }

@@ -46,9 +46,9 @@ gathering c taken on = record {
   root_is = rw c.deref-3.ensures.value at c.enclosed_root-self-inside.ensures;
 }
 
-pub rename_row-big-requires-clause-lists : goal.rename_row-big-requires-clause-lists
-rename_row-big-requires-clause-lists c = rw c.deref.ensures.value
-    (lists_of_row (taken (goal.at.rename_row-big-requires-clause-lists c).After-take_set-set))
+pub rename_row-big-requires : goal.rename_row-big-requires
+rename_row-big-requires c = rw c.deref.ensures.value
+    (lists_of_row (taken (goal.at.rename_row-big-requires c).After-take_set-set))
 
 pub index_mut-requires : goal.index_mut-requires
 index_mut-requires c =
@@ -79,8 +79,16 @@ index_mut-requires-2 c = omega (
   c.join_lists.new.lists.leader.ok.0,
 )
 
-pub enclose-requires-clause-set : goal.enclose-requires-clause-set
-enclose-requires-clause-set c = set_low (taken (goal.at.enclose-requires-clause-set c).After-take_set-set)
+pub enclose-requires : goal.enclose-requires
+enclose-requires c =
+    let it = taken (goal.at.enclose-requires c).After-take_set-set in
+    record {
+      row = it.ring.row;
+      low = set_low it;
+      after = it.tied.sizes.after;
+      head = it.tied.sizes.head;
+      parts = it.tied.sizes.parts;
+    }
 
 pub invariant_of-self : goal.invariant_of-self
 invariant_of-self c =

@@ -35,9 +35,9 @@ parting_of c opened front_is many_is =
     parting opened (rw (c.deref.ensures.value, front_is, many_is) at c.hand_over_row.ensures)
     (rw n_is at c.give_set.ensures)
 
-pub hand_over_row-requires-clause-lists : goal.hand_over_row-requires-clause-lists
-hand_over_row-requires-clause-lists c =
-    let at = (goal.at.hand_over_row-requires-clause-lists c).After-open_ring in
+pub hand_over_row-requires : goal.hand_over_row-requires
+hand_over_row-requires c =
+    let at = (goal.at.hand_over_row-requires c).After-open_ring in
     rw (c.deref.ensures.value, front_is at, many_is at) (part_lists (opened at))
 
 pub give_set-requires : goal.give_set-requires
