@@ -57,8 +57,7 @@ first_at faces marks starts riders covered taken nowhere left stood marked is_st
       covered_long = ap length is_covered ∙ marked.long;
       taken_long = ap length is_taken ∙ length-replicate (darts faces) false;
       stood_is = λ v l. stood_is v ∙ ap (λ b. b || list_any (λ d. is_on marks d && is_end faces v d) (all_darts faces))
-          (left_is v
-          ∙ (ap (λ (xs : List Bool). is_on xs v || list_any (λ d. eqb (from_of faces d) v) starts) is_nowhere
+          (left_is v ∙ (ap (λ (xs : List Bool). is_on xs v || list_any (λ d. eqb (from_of faces d) v) starts) is_nowhere
           ∙ (ap (λ b. b || list_any (λ d. eqb (from_of faces d) v) starts) (none_on (vertex_count faces) v)
           ∙ ap (λ (ds : List ℕ). list_any (λ d. eqb (from_of faces d) v) ds) is_starts)));
       covered_is = λ d l. ap (λ (xs : List Bool). is_on xs d) is_covered;

@@ -1,154 +1,116 @@
 -- What the calls of a motion make of its tables.
-use Rattle.std.proofs.Common.{◌≡◌, ℕ, ◌<◌, Bool, true, false, cond, eqb, ◌||◌, List, map, length, set, replicate}
-use Rattle.std.proofs.Common.{Option, Some, None, sym, ap, ◌∙◌, refl, arith}
+use Rattle.std.proofs.Common.{◌≡◌, ℕ, Bool, true, false, eqb, List, map, length, set, replicate, Option, Some, None}
+use Rattle.std.proofs.Common.{sym, ap, ◌∙◌, refl, arith, ◌+◌, ◌||◌}
 use Rattle.std.proofs.Math.Bool.{or-false}
-use Rattle.std.proofs.lemmas.List.{ext_get_or, length-map, length-replicate}
+use Rattle.std.proofs.lemmas.List.{ext_get_or, length-map, length-replicate, length-set}
 use Rattle.std.specs.List.{list_any}
-use Rattle.def_mesh.specs.{Faces.Faces, Darts.all_darts, Darts.from_of, Darts.to_of, Darts.twin_of, Manifold.IsManifold}
-use Rattle.def_mesh.specs.{Vertices.vertex_count, Components.start_darts}
-use Rattle.def_cut.specs.{FullCut.is_on, declared.moving.Moving.Moving, Motion.begun, Motion.is_among}
-use Rattle.def_cut.specs.{Traced.last_state, Traced.terrain_of, Traced.traced_marks, Events.EventState}
-use Rattle.def_cut.specs.Events.{NobodyRuns, IsMotionOf, after_ride_of, after_settling}
-use Rattle.def_cut.specs.Events.{closed, darts_in, decided_at, are_ends_settled, mark_twin}
-use Rattle.def_cut.specs.Events.{marked_from, may_settle, note_at, ridden_once_more}
-use Rattle.def_cut.specs.{Events.rider_at, Events.waiting, Views.MotionView}
+use Rattle.def_mesh.specs.Darts.{all_darts, from_of, twin_of}
+use Rattle.def_mesh.specs.{Faces.Faces, Manifold.IsManifold, Vertices.vertex_count, Components.start_darts}
+use Rattle.def_cut.specs.Traced.{last_state, terrain_of, traced_marks}
+use Rattle.def_cut.specs.Events.{EventState, NobodyRuns, after_ride_of, mark_twin, marked_from, ridden_once_more}
+use Rattle.def_cut.specs.Events.{rider_at, waiting}
+use Rattle.def_cut.specs.{FullCut.is_on, declared.moving.Moving.Moving, Motion.begun, Views.MotionView}
 use Rattle.motion_laws.proofs.Marks.{from_marks, marked_long, none_on}
 use Rattle.mesh_laws.proofs.Vertices.{all_below}
 use Rattle.site_laws.proofs.{Laws.order_law, Sites.started}
-use Rattle.qm_trace.specs.{declared.telling.Riders.Riders, Motions.AreCounted, Motions.is_untold, Motions.runs_on}
-use Rattle.qm_trace.specs.{Motions.tally, Tables.is_closed_at}
-use Rattle.qm_trace.proofs.{Ends.cut_is, Counting.all_run, Counting.all_wait, Counting.none_untold, Counting.tally_runs}
-use Rattle.qm_trace.proofs.{Reaching.noted_where, Settled.are_ends, Settled.ends_decided}
+use Rattle.qm_trace.specs.{declared.telling.Riders.Riders, Motions.AreCounted, Tables.is_closed_at}
+use Rattle.qm_trace.proofs.Counting.{all_run, all_wait, none_untold, tally_runs, ride_runs_on, ride_untold, ride_waits}
+use Rattle.qm_trace.proofs.Reaching.{MayRide, Reached, as_long, ride_fresh, ride_runs}
+use Rattle.qm_trace.proofs.Ends.{cut_is}
 
 -- A motion with this state.
 abbrev pub made : (starts : List ℕ) (state : EventState) → MotionView
 made starts state = record { state = state; starts = starts }
 
--- The state where an instant has ended, and where it has not.
-pub closed_state : (faces : Faces) (x : EventState) (v : ℕ) (riders : List Moving) (stood : List Bool)
-    (noted : List (Option ℕ)) (settled : List Bool) → riders ≡ (decided_at (terrain_of faces) x v).riders
-    → stood ≡ (decided_at (terrain_of faces) x v).stood
-    → noted ≡ replicate (length x.noted) None → settled ≡ replicate (length (set x.settled v true)) false
-    → are_ends_settled (terrain_of faces) (set x.settled v true) (darts_in x.noted) ≡ true
-    → ◌≡◌ {A = EventState} (record {
-      riders = riders;
-      stood = stood;
-      covered = x.covered;
-      noted = noted;
-      settled =
-          settled;
-    }) (after_settling (terrain_of faces) x v)
-closed_state faces x v riders stood noted settled r s n t on =
-    rw (r, s, n, t) (sym (ap (λ (b : Bool). cond b (closed (decided_at (terrain_of faces) x v))
-    (decided_at (terrain_of faces) x v)) on))
-
-pub open_state : (faces : Faces) (x : EventState) (v : ℕ) (riders : List Moving) (stood : List Bool)
-    → riders ≡ (decided_at (terrain_of faces) x v).riders → stood ≡ (decided_at (terrain_of faces) x v).stood
-    → are_ends_settled (terrain_of faces) (set x.settled v true) (darts_in x.noted) ≡ false
-    → ◌≡◌ {A = EventState} (record {
-      riders = riders;
-      stood = stood;
-      covered = x.covered;
-      noted = x.noted;
-      settled =
-          set x.settled v true;
-    }) (after_settling (terrain_of faces) x v)
-open_state faces x v riders stood r s off =
-    rw (r, s) (sym (ap (λ (b : Bool). cond b (closed (decided_at (terrain_of faces) x v))
-    (decided_at (terrain_of faces) x v)) off))
-
--- Each vertex that is settled then is the end of a noted dart.
-pub ends_now : (faces : Faces) → IsManifold faces → (x : EventState) → IsMotionOf faces x → (v : ℕ)
-    → may_settle (terrain_of faces) x v ≡ true → (u : ℕ) → is_on (set x.settled v true) u ≡ true → (r : ℕ) × (d : ℕ)
-    × (note_at x.noted r ≡ Some d) × (to_of faces d ≡ u)
-ends_now faces m x z v may u on = by_dart (ends_decided faces m x z v may (are_ends faces m x z) u on)
-  where
-    by_dart : (d : ℕ) × (is_among d (darts_in x.noted) ≡ true) × (to_of faces d ≡ u) → (r : ℕ) × (d : ℕ)
-        × (note_at x.noted r ≡ Some d) × (to_of faces d ≡ u)
-    by_dart (d, n, e) = let r : (r : ℕ) × (r < length x.noted) × (note_at x.noted r ≡ Some d) =
-        noted_where x.noted d n in (r.0, d, r.2, e)
-
 -- Where nobody runs, the riders and the covered darts are those of the end of the motion.
-pub end_riders : (faces : Faces) → IsManifold faces → (x : EventState) → IsMotionOf faces x → NobodyRuns x
-    → x.riders ≡ (last_state faces).riders
-end_riders faces m x z none = (order_law faces m z.0 x z.1).same_riders none
+module _ {faces : Faces} {x : EventState} (now : Reached faces x) (none : NobodyRuns x) where
+  pub end_riders : x.riders ≡ (last_state faces).riders
+  end_riders = (order_law faces now.mesh now.led.0 x now.led.1).same_riders none
 
-pub end_cut : (faces : Faces) → IsManifold faces → (x : EventState) → IsMotionOf faces x → NobodyRuns x
-    → map (is_closed_at faces x.covered) (all_darts faces) ≡ traced_marks faces
-end_cut faces m x z none = cut_is faces (last_state faces) x.covered ((order_law faces m z.0 x z.1).same_edges none)
+  pub end_cut : map (is_closed_at faces x.covered) (all_darts faces) ≡ traced_marks faces
+  end_cut = cut_is faces (last_state faces) x.covered ((order_law faces now.mesh now.led.0 x now.led.1).same_edges none)
 
 -- The first state.
-pub first_stood : (faces : Faces) → IsManifold faces → (nowhere stood : List Bool) (starts : List ℕ)
+pub first_stood : {faces : Faces} → IsManifold faces → {nowhere stood : List Bool} {starts : List ℕ}
     → nowhere ≡ replicate (vertex_count faces) false → length stood ≡ length nowhere → starts ≡ start_darts faces
     → ((v : ℕ) → is_on stood v ≡ (is_on nowhere v || list_any (λ d. eqb (from_of faces d) v) starts))
     → stood ≡ marked_from (terrain_of faces) (start_darts faces) (replicate (vertex_count faces) false)
-first_stood faces m nowhere stood starts is long same each =
-    ext_get_or false stood (marked_from (terrain_of faces) (start_darts faces) (replicate (vertex_count faces) false))
-    (long ∙ (ap length is ∙ sym (marked_long (terrain_of faces) (start_darts faces)
-    (replicate (vertex_count faces) false)))) (λ v l. at v)
+first_stood {faces} m {nowhere} {stood} {starts} is long same each = ext_get_or false stood _
+    (long ∙ (ap length is ∙ sym (marked_long (terrain_of faces) (start_darts faces) nobody))) (λ v l. at v)
   where
-    at : (v : ℕ) → is_on stood v
-        ≡ is_on (marked_from (terrain_of faces) (start_darts faces) (replicate (vertex_count faces) false)) v
-    at v =
-        each v
-        ∙ (ap (λ (xs : List Bool). is_on xs v || list_any (λ d. eqb (from_of faces d) v) starts) is
-        ∙ (ap (λ b. b || list_any (λ d. eqb (from_of faces d) v) starts) (none_on (vertex_count faces) v)
-        ∙ (ap (λ (ds : List ℕ). list_any (λ d. eqb (from_of faces d) v) ds) same
-        ∙ sym (from_marks (terrain_of faces) (start_darts faces) (replicate (vertex_count faces) false) v
-        (λ d n. omega (
-          arith,
-          all_below faces d ((started faces m).low d n),
-          length-replicate (vertex_count faces) false,
-        ))
-        ∙ (ap (λ b. list_any (λ d. eqb (from_of faces d) v) (start_darts faces) || b) (none_on (vertex_count faces) v)
-        ∙ or-false (list_any (λ d. eqb (from_of faces d) v) (start_darts faces)))))))
+    nobody : List Bool
+    nobody = replicate (vertex_count faces) false
 
-pub first_counted : (riders : Riders) (noted : List (Option ℕ)) (starts : List ℕ) → riders.list.items ≡ map begun starts
+    at : (v : ℕ) → is_on stood v ≡ is_on (marked_from (terrain_of faces) (start_darts faces) nobody) v
+    at v = each v ∙ rw (
+      is,
+      same,
+      from_marks (terrain_of faces) (start_darts faces) nobody v (λ d n. omega (
+        arith,
+        all_below faces d ((started faces m).low d n),
+        length-replicate (vertex_count faces) false,
+      )),
+      none_on (vertex_count faces) v,
+    ) (sym (or-false _))
+
+pub first_counted : {riders : Riders} {noted : List (Option ℕ)} (starts : List ℕ) → riders.list.items ≡ map begun starts
     → riders.running ≡ length starts → riders.untold ≡ 0 → noted ≡ replicate (length starts) None
     → AreCounted riders noted
-first_counted riders noted starts list run untold is = record {
-  long = ap length is ∙ (length-replicate (length starts) None ∙ sym (ap length list ∙ length-map starts begun));
-  running = run ∙ sym (ap (λ (rs : List Moving). tally runs_on rs noted) list
-      ∙ (ap (λ ns. tally runs_on (map begun starts) ns) is ∙ all_run starts));
-  untold = untold ∙ sym (ap (λ ns. tally is_untold riders.list.items ns) is
-      ∙ none_untold riders.list.items (length starts));
+first_counted {riders} {noted} starts list run untold is = record {
+  long = rw (is, list) (length-replicate (length starts) None ∙ sym (length-map starts begun));
+  running = rw (is, list) (run ∙ sym (all_run starts));
+  untold = rw is (untold ∙ sym (none_untold riders.list.items (length starts)));
 }
 
 pub first_waits : (list : List Moving) (noted : List (Option ℕ)) (starts : List ℕ) → list ≡ map begun starts
     → noted ≡ replicate (length starts) None → length starts ≡ waiting list noted
 first_waits list noted starts l n =
-    sym (ap (λ (rs : List Moving). waiting rs noted) l ∙ (ap (λ ns. waiting (map begun starts) ns) n
-    ∙ (ap (λ k. waiting (map begun starts) (replicate k None)) (sym (length-replicate (length starts) None))
-    ∙ (all_wait (map begun starts) (replicate (length starts) None) (length-replicate (length starts) None
-    ∙ sym (length-map starts begun)) ∙ all_run starts))))
+    let long = length-replicate (length starts) None in
+    rw (l, n) (sym (ap (λ k. waiting (map begun starts) (replicate k None)) (sym long)
+    ∙ (all_wait (map begun starts) (replicate (length starts) None) (long ∙ sym (length-map starts begun))
+    ∙ all_run starts)))
 
 -- At the end of an instant all who run wait again.
-pub counted_again : (riders : Riders) (noted new : List (Option ℕ)) → AreCounted riders noted
-    → new ≡ replicate (length noted) None → riders.untold ≡ 0 → AreCounted riders new
-counted_again riders noted new k is none = record {
-  long = ap length is ∙ (length-replicate (length noted) None ∙ k.long);
-  running = k.running ∙ tally_runs riders.list.items noted new
-      (sym (ap length is ∙ length-replicate (length noted) None));
-  untold = none ∙ sym (ap (λ ns. tally is_untold riders.list.items ns) is
-      ∙ none_untold riders.list.items (length noted));
-}
+module _ {riders : Riders} {noted new : List (Option ℕ)} (k : AreCounted riders noted)
+    (is : new ≡ replicate (length noted) None) where
+  pub counted_again : riders.untold ≡ 0 → AreCounted riders new
+  counted_again none = record {
+    long = ap length is ∙ (length-replicate (length noted) None ∙ k.long);
+    running = k.running ∙ tally_runs riders.list.items noted new
+        (sym (ap length is ∙ length-replicate (length noted) None));
+    untold = rw is (none ∙ sym (none_untold riders.list.items (length noted)));
+  }
 
-pub waits_again : (riders : Riders) (noted new : List (Option ℕ)) → AreCounted riders noted
-    → new ≡ replicate (length noted) None → riders.running ≡ waiting riders.list.items new
-waits_again riders noted new k is =
-    k.running ∙ sym (ap (waiting riders.list.items) is ∙ all_wait riders.list.items noted k.long)
+  pub waits_again : riders.running ≡ waiting riders.list.items new
+  waits_again = rw is (k.running ∙ sym (all_wait riders.list.items noted k.long))
 
--- The state after a ride.
-pub ride_state : (faces : Faces) (x : EventState) (r : ℕ) (riders : List Moving) (covered : List Bool)
-    (noted : List (Option ℕ)) → riders ≡ set x.riders r (ridden_once_more (rider_at x.riders r))
-    → covered ≡ mark_twin (twin_of faces (rider_at x.riders r).dart) (set x.covered (rider_at x.riders r).dart true)
-    → noted ≡ set x.noted r (Some (rider_at x.riders r).dart)
-    → ◌≡◌ {A = EventState} (record {
-      riders = riders;
-      stood = x.stood;
-      covered = covered;
-      noted = noted;
-      settled =
-          x.settled;
-    }) (after_ride_of (terrain_of faces) x r)
-ride_state faces x r riders covered noted a b d = rw (a, b, d) refl
+-- A ride of the rider that was read.
+module _ {faces : Faces} {x : EventState} {r : ℕ} (k : MayRide faces x r) {read : Moving}
+    (same : read ≡ rider_at x.riders r) {noted : List (Option ℕ)} (is : noted ≡ set x.noted r (Some read.dart)) where
+  long : length x.noted ≡ length x.riders
+  long = omega (arith, as_long k.now)
+
+  pub rode_waits : waiting (set x.riders r (ridden_once_more read)) noted + 1 ≡ waiting x.riders x.noted
+  rode_waits = rw (is, same) (ride_waits x.riders x.noted r k.low long (ride_runs k) (ride_fresh k))
+
+  pub rode_counted : {riders new : Riders} → AreCounted riders x.noted → riders.list.items ≡ x.riders
+      → new.list.items ≡ set x.riders r (ridden_once_more read) → new.running ≡ riders.running
+      → new.untold ≡ riders.untold + 1 → AreCounted new noted
+  rode_counted counted old list run more = record {
+    long = rw (is, list) (length-set x.noted r _ ∙ (long ∙ sym (length-set x.riders r _)));
+    running = rw (is, list, same) (run ∙ (rw old at counted.running
+        ∙ sym (ride_runs_on x.riders x.noted r k.low long (ride_runs k) (ride_fresh k))));
+    untold = rw (is, list, same) (more ∙ (ap (λ n. n + 1) (rw old at counted.untold)
+        ∙ sym (ride_untold x.riders x.noted r k.low long (ride_runs k) (ride_fresh k))));
+  }
+
+  -- The state after it.
+  pub ride_state : {riders : List Moving} {covered : List Bool} → riders ≡ set x.riders r (ridden_once_more read)
+      → covered ≡ mark_twin (twin_of faces read.dart) (set x.covered read.dart true) → ◌≡◌ {A = EventState} (record {
+        riders = riders;
+        stood = x.stood;
+        covered = covered;
+        noted = noted;
+        settled = x.settled;
+      }) (after_ride_of (terrain_of faces) x r)
+  ride_state a b = rw (a, b, is, same) refl

@@ -1,17 +1,17 @@
 -- How many riders pass a test with their notes.
-use Rattle.std.proofs.Common.{◌≡◌, ◌≢◌, ◌↔◌, ℕ, zero, suc, ◌+◌, ◌<◌, ◌≤◌, Bool, true, false, cond, eqb, ◌&&◌, List, []}
-use Rattle.std.proofs.Common.{◌∷◌, map, length, set, replicate, Option, Some, None, sym, subst, ap, ◌∙◌, refl, arith}
+use Rattle.std.proofs.Common.{◌≡◌, ◌≢◌, ◌↔◌, ℕ, zero, suc, ◌+◌, ◌<◌, ◌≤◌, Bool, true, false, cond, eqb, ◌&&◌, List, ◌∷◌}
+use Rattle.std.proofs.Common.{map, length, set, replicate, Option, Some, None, sym, subst, ap, ◌∙◌, refl, arith, []}
 use Rattle.std.proofs.lemmas.Bool.{eq-eqb, ne_eqb, eqb-true}
 use Rattle.std.proofs.lemmas.List.{set-get_or}
 use Rattle.std.specs.List.{list_all}
-use Rattle.def_cut.specs.declared.graph.Stop.{Stop}
-use Rattle.def_cut.specs.declared.moving.Moving.{Moving}
 use Rattle.def_cut.specs.Motion.{Terrain, end_of, is_among, begun, stop_of, or_else, straight, after_ride}
 use Rattle.def_cut.specs.Events.{all_told, darts_in, is_waiting, more_if, note_at, rider_at, ridden_once_more, told_at}
 use Rattle.def_cut.specs.Events.{waiting, with_note}
-use Rattle.motion_laws.proofs.{Among.among_here, Among.among_later, Shown.AreShown, Shown.IsNoted, Shown.shown_by}
-use Rattle.qm_trace.specs.{declared.telling.Riders.Riders, Motions.AreCounted, Motions.is_untold, Motions.is_untold_by}
-use Rattle.qm_trace.specs.{Motions.runs_on, Motions.tally, Tables.is_running}
+use Rattle.def_cut.specs.{declared.graph.Stop.Stop, declared.moving.Moving.Moving}
+use Rattle.motion_laws.proofs.Shown.{AreShown, IsNoted, shown_by}
+use Rattle.motion_laws.proofs.Among.{among_here, among_later}
+use Rattle.qm_trace.specs.Motions.{AreCounted, is_untold, is_untold_by, runs_on, tally}
+use Rattle.qm_trace.specs.{declared.telling.Riders.Riders, Tables.is_running}
 
 -- One rider and its note changed.
 pub tally_set : (p : Moving → Option ℕ → Bool) (rs : List Moving) (ns : List (Option ℕ)) (r : ℕ) (x : Moving)
@@ -36,13 +36,11 @@ tally_set p (q ∷ rs) (k ∷ ns) (suc r) x n l h = behind (p q k) (tally_set p 
 tally_set p _ _ r x n l h = absurd (omega arith)
 
 pub tally_rider : (p : Moving → Option ℕ → Bool) (rs : List Moving) (ns : List (Option ℕ)) (r : ℕ) (x : Moving)
-    → r < length rs → r < length ns
-    → tally p (set rs r x) ns + more_if (p (rider_at rs r) (note_at ns r)) 0
+    → r < length rs → r < length ns → tally p (set rs r x) ns + more_if (p (rider_at rs r) (note_at ns r)) 0
     ≡ tally p rs ns + more_if (p x (note_at ns r)) 0
 tally_rider p rs ns r x l h =
     subst (λ (ms : List (Option ℕ)). tally p (set rs r x) ms + more_if (p (rider_at rs r) (note_at ns r)) 0
-    ≡ tally p rs ns + more_if (p x (note_at ns r)) 0) (set-get_or ns r None)
-    (tally_set p rs ns r x (note_at ns r) l h)
+    ≡ tally p rs ns + more_if (p x (note_at ns r)) 0) (set-get_or ns r None) (tally_set p rs ns r x (note_at ns r) l h)
 
 -- Who passes is counted.
 pub tally_some : (p : Moving → Option ℕ → Bool) (rs : List Moving) (ns : List (Option ℕ)) (r : ℕ) → r < length rs
@@ -166,8 +164,7 @@ untold_is g stood ds V (b ∷ bs) (r ∷ rs) (n ∷ ns) a onward =
     by_end : (d : ℕ) (t : Bool) → V (end_of g d) ≡ t → (b.stop ≡ None) × (d ≡ b.dart)
         → r ≡ cond t (after_ride g d b.rides (stop_of g stood ds d)) (ridden_once_more b)
         → (stop_of g stood ds d ≡ None → or_else (straight g d) d ≢ d) → eqb (tally is_untold rs ns) 0
-        ≡ list_all (λ e. V (end_of g e)) (darts_in ns)
-        → eqb (more_if (is_untold r (Some d)) (tally is_untold rs ns)) 0
+        ≡ list_all (λ e. V (end_of g e)) (darts_in ns) → eqb (more_if (is_untold r (Some d)) (tally is_untold rs ns)) 0
         ≡ (t && list_all (λ e. V (end_of g e)) (darts_in ns))
     by_end d true is i s f rest = ap (λ (q : Bool). eqb (more_if q (tally is_untold rs ns)) 0)
         (ap (λ (x : Moving). is_untold x (Some d)) s ∙ was_told d (stop_of g stood ds d) f) ∙ rest
@@ -179,8 +176,7 @@ untold_is g stood ds V (b ∷ bs) (r ∷ rs) (n ∷ ns) a onward =
 
     at : (n : Option ℕ) → IsNoted b n → r ≡ shown_by g stood ds V b n
         → ((d : ℕ) → is_among d (with_note n (darts_in ns)) ≡ true → stop_of g stood ds d ≡ None
-        → or_else (straight g d) d ≢ d)
-        → eqb (tally is_untold rs ns) 0 ≡ list_all (λ d. V (end_of g d)) (darts_in ns)
+        → or_else (straight g d) d ≢ d) → eqb (tally is_untold rs ns) 0 ≡ list_all (λ d. V (end_of g d)) (darts_in ns)
         → eqb (more_if (is_untold r n) (tally is_untold rs ns)) 0
         ≡ list_all (λ d. V (end_of g d)) (with_note n (darts_in ns))
     at None i s f rest = ap (λ (q : Bool). eqb (more_if q (tally is_untold rs ns)) 0) (not_noted r.stop r.dart) ∙ rest
@@ -222,46 +218,31 @@ tally_few p (q ∷ rs) (k ∷ ns) = at (p q k) (tally_few p rs ns)
     at false e = omega (arith, e)
 
 -- A ride: as many run, one more is untold, and one less waits.
-module _ (rs : List Moving) (ns : List (Option ℕ)) (r : ℕ) (x : Moving) (d : ℕ) (low : r < length rs) (long : length ns
-    ≡ length rs) (runs : (rider_at rs r).stop ≡ None) (fresh : note_at ns r ≡ None) (x_runs : x.stop ≡ None)
-    (x_dart : x.dart ≡ d) where
-  pub ride_runs_on : tally runs_on (set rs r x) (set ns r (Some d)) ≡ tally runs_on rs ns
-  ride_runs_on =
-      let a : more_if (runs_on (rider_at rs r) (note_at ns r)) 0 ≡ 1 =
-      ap (λ (o : Option Stop). more_if (is_running o) 0) runs in
-      let b : more_if (runs_on x (Some d)) 0 ≡ 1 = ap (λ (o : Option Stop). more_if (is_running o) 0) x_runs in
-      omega (arith, a, b, tally_set runs_on rs ns r x (Some d) low (omega (arith, low, long)))
+module _ (rs : List Moving) (ns : List (Option ℕ)) (r : ℕ) (low : r < length rs) (long : length ns ≡ length rs)
+    (runs : (rider_at rs r).stop ≡ None) (fresh : note_at ns r ≡ None) where
+  abbrev pub ridden_by : List Moving
+  ridden_by = set rs r (ridden_once_more (rider_at rs r))
 
-  pub ride_untold : tally is_untold (set rs r x) (set ns r (Some d)) ≡ tally is_untold rs ns + 1
+  abbrev pub noted_by : List (Option ℕ)
+  noted_by = set ns r (Some (rider_at rs r).dart)
+
+  -- One rider and its note count no more, but those that it has now do.
+  changed : (p : Moving → Option ℕ → Bool) → tally p ridden_by noted_by + more_if (p (rider_at rs r) (note_at ns r)) 0
+      ≡ tally p rs ns + more_if (p (ridden_once_more (rider_at rs r)) (Some (rider_at rs r).dart)) 0
+  changed p = tally_set p rs ns r _ _ low (omega (arith, low, long))
+
+  pub ride_runs_on : tally runs_on ridden_by noted_by ≡ tally runs_on rs ns
+  ride_runs_on = omega (arith, changed runs_on, ap (λ (o : Option Stop). more_if (is_running o) 0) runs)
+
+  pub ride_untold : tally is_untold ridden_by noted_by ≡ tally is_untold rs ns + 1
   ride_untold =
-      let a : more_if (is_untold (rider_at rs r) (note_at ns r)) 0 ≡ 0 =
-      ap (λ (n : Option ℕ). more_if (is_untold (rider_at rs r) n) 0) fresh
-      ∙ not_noted (rider_at rs r).stop (rider_at rs r).dart in
-      let b : more_if (is_untold x (Some d)) 0 ≡ 1 =
-      ap (λ (q : Bool). more_if q 0) (ap (λ (o : Option Stop). is_untold_by o x.dart (Some d)) x_runs
-      ∙ eq-eqb x.dart d x_dart) in
-      omega (arith, a, b, tally_set is_untold rs ns r x (Some d) low (omega (arith, low, long)))
-    where
-      not_noted : (o : Option Stop) (e : ℕ) → more_if (is_untold_by o e None) 0 ≡ 0
-      not_noted None e = refl
-      not_noted (Some s) e = refl
+      let old : more_if (is_untold (rider_at rs r) (note_at ns r)) 0 ≡ 0 = rw (runs, fresh) refl in
+      let new : more_if (is_untold (ridden_once_more (rider_at rs r)) (Some (rider_at rs r).dart)) 0 ≡ 1 =
+      rw (runs, eq-eqb (rider_at rs r).dart (rider_at rs r).dart refl) refl in
+      omega (arith, changed is_untold, old, new)
 
-  some_wait : more_if (is_waiting (rider_at rs r).stop (note_at ns r)) 0 ≡ 1
-  some_wait = ap (λ (o : Option Stop). more_if (is_waiting o (note_at ns r)) 0) runs
-      ∙ ap (λ (n : Option ℕ). more_if (is_waiting None n) 0) fresh
-
-  pub ride_waits : waiting (set rs r x) (set ns r (Some d)) + 1 ≡ waiting rs ns
+  pub ride_waits : waiting ridden_by noted_by + 1 ≡ waiting rs ns
   ride_waits =
-      let b : more_if (is_waiting x.stop (Some d)) 0 ≡ 0 = noted x.stop in
-      omega (
-        arith,
-        some_wait,
-        b,
-        waiting_is rs ns,
-        waiting_is (set rs r x) (set ns r (Some d)),
-        tally_set waits_now rs ns r x (Some d) low (omega (arith, low, long)),
-      )
-    where
-      noted : (o : Option Stop) → more_if (is_waiting o (Some d)) 0 ≡ 0
-      noted None = refl
-      noted (Some s) = refl
+      let old : more_if (is_waiting (rider_at rs r).stop (note_at ns r)) 0 ≡ 1 = rw (runs, fresh) refl in
+      let new : more_if (is_waiting (rider_at rs r).stop (Some (rider_at rs r).dart)) 0 ≡ 0 = rw runs refl in
+      omega (arith, changed waits_now, old, new, waiting_is rs ns, waiting_is ridden_by noted_by)

@@ -1,24 +1,24 @@
 -- The queue of the next instant, and the end of the motion.
-use Rattle.std.proofs.Common.{◌≡◌, ℕ, zero, suc, ◌+◌, ◌-◌, ◌<◌, ◌≤◌, Bool, true, false, not, eqb, is_some, ◌||◌, List}
-use Rattle.std.proofs.Common.{[], ◌∷◌, ◌++◌, length, get_or, map, Option, Some, None, sym, ap, ◌∙◌, refl, arith}
+use Rattle.std.proofs.Common.{◌≡◌, ℕ, zero, suc, ◌+◌, ◌-◌, ◌<◌, ◌≤◌, Bool, true, false, not, eqb, is_some, List, ◌∷◌}
+use Rattle.std.proofs.Common.{◌++◌, length, get_or, map, Option, Some, None, sym, ap, ◌∙◌, refl, arith, [], ◌||◌}
 use Rattle.std.proofs.lemmas.Bool.{false≢true}
 use Rattle.std.proofs.lemmas.List.{ext_get_or, get_or-map, length-map}
 use Rattle.std.proofs.lemmas.List.FromFn.{length-range_with_len, get_or-map-range_with_len}
 use Rattle.std.specs.List.{filter}
-use Rattle.def_mesh.specs.{Faces.Faces, Darts.darts, Darts.all_darts, Darts.twin_of, Manifold.IsManifold}
-use Rattle.def_mesh.specs.{Vertices.vertex_count, Components.start_darts}
+use Rattle.def_mesh.specs.Darts.{darts, all_darts, twin_of}
+use Rattle.def_mesh.specs.{Faces.Faces, Manifold.IsManifold, Vertices.vertex_count}
+use Rattle.def_cut.specs.Motion.{Terrain, State, ridden, is_among, ride_on, ride, begun, step}
+use Rattle.def_cut.specs.Traced.{AreRiders, IsRiderOf, finish, is_cut, terrain_of}
 use Rattle.def_cut.specs.{FullCut.is_on, declared.graph.Rider.Rider, declared.graph.Stop.Stop}
-use Rattle.def_cut.specs.{declared.moving.Moving.Moving, Motion.Terrain, Motion.State, Motion.ridden, Motion.is_among}
-use Rattle.def_cut.specs.Motion.{ride_on, ride, begun, step, start, later}
-use Rattle.def_cut.specs.Traced.{AreRiders, IsRiderOf, finish, is_cut, last_state}
-use Rattle.def_cut.specs.{Traced.terrain_of, Events.rider_at}
-use Rattle.def_feature.specs.{Marks.AreMarks, Marked.marked_starts, Marked.marked_first, Marked.marked_last}
+use Rattle.def_cut.specs.{declared.moving.Moving.Moving, Events.rider_at}
+use Rattle.def_feature.specs.{Marked.marked_starts, Marked.marked_first, Marked.marked_last, Marks.AreMarks}
 use Rattle.mesh_laws.proofs.Vertices.{all_below}
 use Rattle.motion_laws.proofs.Among.{among_here, apart_filter, from_filter, in_filter}
-use Rattle.motion_laws.proofs.{Order.runs_ridden, Onward.at_rest, Onward.last_rests, Onward.runs_on}
+use Rattle.motion_laws.proofs.{Onward.at_rest, Onward.last_rests, Onward.runs_on, Order.runs_ridden}
 use Rattle.site_laws.proofs.Sites.{terrain}
 use Rattle.feature_laws.proofs.{Breaks.begins, First.marked_begin}
 use Rattle.qm_trace.specs.Tables.{HaveStopped, IsEnd, IsOnItsWay, IsQueue, IsTableAt, is_running, is_closed_at}
+use Rattle.qm_trace.specs.Tables.{state_at}
 use Rattle.qm_trace.proofs.{Beginnings.all_apart, Beginnings.each_once, Steps.ridden_where}
 
 runs_by : (o : Option Stop) → is_running o ≡ true → o ≡ None
@@ -35,53 +35,44 @@ ran : (g : Terrain) (stood : ℕ → Bool) (ds : List ℕ) (x : Moving) (o : Opt
 ran g stood ds x None e is = is
 ran g stood ds x (Some s) e is = e
 
--- The queue of the riders that still run.
-pub next_queue : (faces : Faces) (marks : List Bool) (k : ℕ) (riders new : List Moving) (queue : List ℕ)
-    → riders ≡ (later (terrain_of faces) (marked_first faces marks) k).riders
-    → new ≡ (later (terrain_of faces) (marked_first faces marks) (suc k)).riders
-    → IsQueue riders queue → IsQueue new (filter (λ r. is_running (rider_at new r).stop) queue)
-next_queue faces marks k riders new queue old now q = record {
-  runs = λ r m. let p : (is_among r queue ≡ true) × (is_running (rider_at new r).stop ≡ true) =
-      from_filter (λ x. is_running (rider_at new x).stop) r queue m in
-      (omega (arith, (q.runs r p.0).0, long), runs_by (rider_at new r).stop p.1);
-  all = λ r l runs. in_filter (λ x. is_running (rider_at new x).stop) r queue
-      (q.all r (omega (arith, l, long)) (before r l runs)) (ap is_running runs);
-  apart = each_once (filter (λ r. is_running (rider_at new r).stop) queue)
-      (apart_filter (λ r. is_running (rider_at new r).stop) queue (all_apart queue q.apart));
-}
-  where
-    f : Moving → Moving
-    f = ride (terrain_of faces) (later (terrain_of faces) (marked_first faces marks) k).stood
-        (ridden (later (terrain_of faces) (marked_first faces marks) k).riders)
+-- The tables after k steps and after one more, and the queue of those who ran.
+module _ {faces : Faces} {marks : List Bool} {k : ℕ} {riders new : List Moving} {queue : List ℕ}
+    {stood stood2 covered covered2 taken taken2 : List Bool} (old : IsTableAt faces marks k riders stood covered taken)
+    (now : IsTableAt faces marks (suc k) new stood2 covered2 taken2) (q : IsQueue riders queue) where
+  abbrev then : State
+  then = state_at faces marks k
 
-    next : new ≡ map f riders
-    next = now ∙ sym (ap (map f) old)
+  moved : Moving → Moving
+  moved = ride (terrain_of faces) then.stood (ridden then.riders)
 
-    long : length new ≡ length riders
-    long = ap length next ∙ length-map riders f
+  next : new ≡ map moved riders
+  unfolding moved
+  next = now.riders_are ∙ sym (ap (map moved) old.riders_are)
 
-    before : (r : ℕ) → r < length new → (rider_at new r).stop ≡ None → (rider_at riders r).stop ≡ None
-    before r l runs = ran (terrain_of faces) (later (terrain_of faces) (marked_first faces marks) k).stood
-        (ridden (later (terrain_of faces) (marked_first faces marks) k).riders) (rider_at riders r)
-        (rider_at riders r).stop
-        (sym (ap (λ (rs : List Moving). (rider_at rs r).stop) next
-        ∙ ap (λ (x : Moving). x.stop) (get_or-map f riders r (begun 0) (begun 0) (omega (arith, l, long))))
-        ∙ runs) refl
+  long : length new ≡ length riders
+  long = ap length next ∙ length-map riders moved
 
--- The riders of the queue are riders after the step too.
-pub queue_low : (faces : Faces) (marks : List Bool) (k : ℕ) (riders new : List Moving) (queue : List ℕ)
-    → riders ≡ (later (terrain_of faces) (marked_first faces marks) k).riders
-    → new ≡ (later (terrain_of faces) (marked_first faces marks) (suc k)).riders
-    → IsQueue riders queue → (r : ℕ) → is_among r queue ≡ true → r < length new
-queue_low faces marks k riders new queue old now q r m = omega (
-  arith,
-  (q.runs r m).0,
-  ap length old,
-  ap length now,
-  length-map (later (terrain_of faces) (marked_first faces marks) k).riders
-      (ride (terrain_of faces) (later (terrain_of faces) (marked_first faces marks) k).stood
-      (ridden (later (terrain_of faces) (marked_first faces marks) k).riders)),
-)
+  -- The riders of the queue are riders after the step too.
+  pub queue_low : (r : ℕ) → is_among r queue ≡ true → r < length new
+  queue_low r m = omega (arith, (q.runs r m).0, long)
+
+  before : (r : ℕ) → r < length new → (rider_at new r).stop ≡ None → (rider_at riders r).stop ≡ None
+  unfolding moved
+  before r l runs = ran (terrain_of faces) then.stood (ridden then.riders) (rider_at riders r) (rider_at riders r).stop
+      (sym (ap (λ (rs : List Moving). (rider_at rs r).stop) next
+      ∙ ap (λ (x : Moving). x.stop) (get_or-map moved riders r (begun 0) (begun 0) (omega (arith, l, long))))
+      ∙ runs) refl
+
+  -- The queue of the riders that still run.
+  pub next_queue : IsQueue new (filter (λ r. is_running (rider_at new r).stop) queue)
+  next_queue = record {
+    runs = λ r m. let p = from_filter (λ x. is_running (rider_at new x).stop) r queue m in
+        (queue_low r p.0, runs_by (rider_at new r).stop p.1);
+    all = λ r l runs. in_filter (λ x. is_running (rider_at new x).stop) r queue
+        (q.all r (omega (arith, l, long)) (before r l runs)) (ap is_running runs);
+    apart = each_once (filter (λ r. is_running (rider_at new r).stop) queue)
+        (apart_filter (λ r. is_running (rider_at new r).stop) queue (all_apart queue q.apart));
+  }
 
 -- Nobody waits in the queue, so nobody rides.
 pub none_ride : (riders : List Moving) (queue : List ℕ) → IsQueue riders queue → length queue ≡ 0 → ridden riders ≡ []
@@ -91,8 +82,7 @@ none_ride riders [] q none = at (ridden riders) refl
     at : (ds : List ℕ) → ridden riders ≡ ds → ridden riders ≡ []
     at [] is = is
     at (d ∷ ds) is =
-        let r : (r : ℕ) × (r < length riders) × ((rider_at riders r).stop ≡ None) × ((rider_at riders r).dart ≡ d) =
-        ridden_where riders d (ap (is_among d) is ∙ among_here d d ds refl) in
+        let r = ridden_where riders d (ap (is_among d) is ∙ among_here d d ds refl) in
         absurd (false≢true (q.all r.0 r.1 r.2))
 
 pub first_on : (faces : Faces) (marks : List Bool) → IsOnItsWay faces marks 0
@@ -100,52 +90,49 @@ first_on faces marks more e = let s : more ≡ suc (vertex_count faces) = omega 
     ap (λ k. finish (terrain_of faces) k (marked_first faces marks)) s
 
 -- A step further on.
-pub next_on : (faces : Faces) (marks : List Bool) (k : ℕ) (riders : List Moving) (queue : List ℕ)
-    → riders ≡ (later (terrain_of faces) (marked_first faces marks) k).riders → IsQueue riders queue → 0 < length queue
+pub next_on : {faces : Faces} {marks : List Bool} {k : ℕ} {riders : List Moving} {stood covered taken : List Bool}
+    {queue : List ℕ} → IsTableAt faces marks k riders stood covered taken → IsQueue riders queue → 0 < length queue
     → IsOnItsWay faces marks k → IsOnItsWay faces marks (k + 1)
-next_on faces marks k riders [] is q some way more e = absurd (omega arith)
-next_on faces marks k riders (r ∷ queue) is q some way more e =
-    at (ridden (later (terrain_of faces) (marked_first faces marks) k).riders) refl
+next_on {queue = []} t q some way more e = absurd (omega arith)
+next_on {faces} {marks} {k} {riders} {queue = r ∷ queue} t q some way more e = at (ridden now.riders) refl
   where
-    there : is_among (rider_at riders r).dart (ridden (later (terrain_of faces) (marked_first faces marks) k).riders)
-        ≡ true
-    there = let p : (r < length riders) × ((rider_at riders r).stop ≡ None) = q.runs r (among_here r r queue refl) in
-        sym (ap (λ (rs : List Moving). is_among (rider_at riders r).dart (ridden rs)) is) ∙ runs_ridden riders r p.0 p.1
+    now : State
+    now = state_at faces marks k
+
+    there : is_among (rider_at riders r).dart (ridden (state_at faces marks k).riders) ≡ true
+    there = let p = q.runs r (among_here r r queue refl) in
+        sym (ap (λ (rs : List Moving). is_among (rider_at riders r).dart (ridden rs)) t.riders_are)
+        ∙ runs_ridden riders r p.0 p.1
 
     plus : k + 1 ≡ suc k
     plus = omega arith
 
-    at : (ds : List ℕ) → ridden (later (terrain_of faces) (marked_first faces marks) k).riders ≡ ds
-        → finish (terrain_of faces) more (later (terrain_of faces) (marked_first faces marks) (k + 1))
-        ≡ marked_last faces marks
+    at : (ds : List ℕ) → ridden now.riders ≡ ds
+        → finish (terrain_of faces) more (state_at faces marks (k + 1)) ≡ marked_last faces marks
     at [] none = absurd (false≢true (sym (ap (is_among (rider_at riders r).dart) none) ∙ there))
-    at (d ∷ ds) some = ap (λ n. finish (terrain_of faces) more (later (terrain_of faces) (marked_first faces marks) n))
-        plus
-        ∙ (sym (runs_on (terrain_of faces) more d ds (later (terrain_of faces) (marked_first faces marks) k) some)
-        ∙ way (suc more) (omega (arith, e)))
+    at (d ∷ ds) some = rw plus (sym (runs_on (terrain_of faces) more d ds now some) ∙ way (suc more) (omega (arith, e)))
 
 -- Where nobody rides, the tables are those of the end.
-pub end_at : (faces : Faces) (marks : List Bool) (k : ℕ) (riders : List Moving) (stood covered taken : List Bool)
+pub end_at : {faces : Faces} {marks : List Bool} {k : ℕ} {riders : List Moving} {stood covered taken : List Bool}
     → IsTableAt faces marks k riders stood covered taken → IsOnItsWay faces marks k → k ≤ vertex_count faces
     → ridden riders ≡ [] → IsEnd faces marks riders covered
-end_at faces marks k riders stood covered taken t way low none = record {
+end_at {faces} {marks} {k} t way low none = record {
   riders_are = t.riders_are ∙ ap (λ (s : State). s.riders) same;
   covered_long = t.covered_long;
   covered_is = λ d l. t.covered_is d l ∙ ap (λ (s : State). s.covered d) same;
 }
   where
-    rest : finish (terrain_of faces) (suc (vertex_count faces) - k) (later (terrain_of faces) (marked_first faces marks)
-        k) ≡ later (terrain_of faces) (marked_first faces marks) k
-    rest = at_rest (terrain_of faces) (suc (vertex_count faces) - k)
-        (later (terrain_of faces) (marked_first faces marks) k) (sym (ap ridden t.riders_are) ∙ none)
+    left : ℕ
+    left = suc (vertex_count faces) - k
 
-    same : later (terrain_of faces) (marked_first faces marks) k ≡ marked_last faces marks
-    same = sym rest ∙ way (suc (vertex_count faces) - k) (omega (arith, low))
+    same : state_at faces marks k ≡ marked_last faces marks
+    same = sym (at_rest (terrain_of faces) left (state_at faces marks k) (sym (ap ridden t.riders_are) ∙ none))
+        ∙ way left (omega (arith, low))
 
 -- After as many steps as there are vertices nobody rides.
-pub all_over : (faces : Faces) → IsManifold faces → (marks : List Bool) → AreMarks faces marks → (riders : List Moving)
-    → riders ≡ (later (terrain_of faces) (marked_first faces marks) (vertex_count faces)).riders → ridden riders ≡ []
-all_over faces m marks marked riders is = ap ridden is ∙ last_rests (terrain_of faces) (terrain faces m)
+pub all_over : {faces : Faces} → IsManifold faces → {marks : List Bool} → AreMarks faces marks → {riders : List Moving}
+    → riders ≡ (state_at faces marks (vertex_count faces)).riders → ridden riders ≡ []
+all_over {faces} m {marks} marked is = ap ridden is ∙ last_rests (terrain_of faces) (terrain faces m)
     (begins faces marks) (marked_first faces marks) (marked_begin faces m marks marked) (vertex_count faces)
     (all_below faces)
 
@@ -171,8 +158,7 @@ pub cut_is : (faces : Faces) (s : State) (covered : List Bool)
 cut_is faces s covered same = ext_get_or false (map (is_closed_at faces covered) (all_darts faces))
     (map (is_cut (terrain_of faces) s) (all_darts faces))
     (closed_long faces covered ∙ sym (length-map (all_darts faces) (is_cut (terrain_of faces) s)
-    ∙ length-range_with_len 0 (darts faces)))
-    (λ d l. at d (omega (arith, l, closed_long faces covered)))
+    ∙ length-range_with_len 0 (darts faces))) (λ d l. at d (omega (arith, l, closed_long faces covered)))
   where
     at : (d : ℕ) → d < darts faces → get_or (map (is_closed_at faces covered) (all_darts faces)) d false
         ≡ get_or (map (is_cut (terrain_of faces) s) (all_darts faces)) d false
@@ -194,10 +180,6 @@ pub last_long : (faces : Faces) (marks : List Bool) → length (marked_last face
     ≡ length (marked_starts faces marks)
 last_long faces marks = finish_long (terrain_of faces) (suc (vertex_count faces)) (marked_first faces marks)
     ∙ length-map (marked_starts faces marks) begun
-
-pub traced_long : (faces : Faces) → length (last_state faces).riders ≡ length (start_darts faces)
-traced_long faces = finish_long (terrain_of faces) (suc (vertex_count faces))
-    (start (terrain_of faces) (start_darts faces)) ∙ length-map (start_darts faces) begun
 
 -- Where nobody rides, each rider has stopped.
 pub have_stopped : (riders : List Moving) → ridden riders ≡ [] → HaveStopped riders

@@ -46,8 +46,7 @@ marks_more ds i value marks old l low each d = elim (cases_eq d (get_or ds i 0))
       ∙ (ap (λ b. is_among d (take i ds) || b) (eq-eqb d (get_or ds i 0) e) ∙ on (is_among d (take i ds))))))
   | inr ne ↦ get_or-set_other marks (get_or ds i 0) d value false ne
       ∙ (each d ∙ sym (ap (λ (b : Bool). cond b value (is_on old d)) (among_more ds i d l
-      ∙ (ap (λ b. is_among d (take i ds) || b) (ne_eqb d (get_or ds i 0) ne)
-      ∙ or-false (is_among d (take i ds))))))
+      ∙ (ap (λ b. is_among d (take i ds) || b) (ne_eqb d (get_or ds i 0) ne) ∙ or-false (is_among d (take i ds))))))
 ]
   where
     on : (b : Bool) → (b || true) ≡ true
@@ -80,8 +79,7 @@ shuffle false false false a b = refl
 
 pub cover_more : (faces : Faces) → IsManifold faces → (ds : List ℕ) (i : ℕ) (covered old now : List Bool)
     → i < length ds → get_or ds i 0 < darts faces → length covered ≡ darts faces
-    → now ≡ mark_twin (twin_of faces (get_or ds i 0)) (set covered (get_or ds i 0) true)
-    → ((d : ℕ) → d < darts faces
+    → now ≡ mark_twin (twin_of faces (get_or ds i 0)) (set covered (get_or ds i 0) true) → ((d : ℕ) → d < darts faces
     → is_on covered d ≡ (is_on old d || (is_among d (take i ds) || is_found (twin_of faces d) (take i ds)))) → (d : ℕ)
     → d < darts faces → is_on now d
     ≡ (is_on old d || (is_among d (take (i + 1) ds) || is_found (twin_of faces d) (take (i + 1) ds)))

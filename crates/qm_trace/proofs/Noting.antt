@@ -1,15 +1,17 @@
 -- Notes that are made, and taken back.
-use Rattle.std.proofs.Common.{◌≡◌, ◌≢◌, ◌⊎◌, ℕ, suc, ◌+◌, ◌<◌, ◌≤◌, Bool, true, false, cond, eqb, ◌||◌, List, [], ◌∷◌}
-use Rattle.std.proofs.Common.{◌++◌, length, get_or, set, take, replicate, Option, Some, None, sym, subst, ap, ◌∙◌, refl}
-use Rattle.std.proofs.Common.{inl, inr, arith}
+use Rattle.std.proofs.Common.{◌≡◌, ◌≢◌, ◌⊎◌, ℕ, suc, ◌+◌, ◌<◌, ◌≤◌, Bool, true, false, cond, eqb, List, ◌∷◌, ◌++◌}
+use Rattle.std.proofs.Common.{length, get_or, set, take, replicate, Option, Some, None, sym, subst, ap, ◌∙◌, refl, inl}
+use Rattle.std.proofs.Common.{inr, arith, [], ◌||◌}
 use Rattle.std.proofs.lemmas.Option.{none-some, same_Some}
 use Rattle.std.proofs.lemmas.Bool.{cases_eq, eq-eqb, ne_eqb, false≢true, false_from_ne_true, or_right}
-use Rattle.std.proofs.lemmas.List.{get_or-set_same, get_or-set_other, length-set, length-replicate}
+use Rattle.std.proofs.lemmas.List.{get_or-set_same, get_or-set_other, length-set, length-replicate, get_or_default}
 use Rattle.std.specs.Vec.{vec_capacity}
-use Rattle.def_mesh.specs.{Faces.Faces, Darts.to_of}
+use Rattle.std.proofs.Math.Bool.{or-false}
+use Rattle.def_mesh.specs.{Faces.Faces, Darts.darts, Darts.to_of}
 use Rattle.def_cut.specs.{FullCut.is_on, Motion.is_among, Events.darts_in, Events.note_at}
 use Rattle.motion_laws.proofs.Among.{among_here, among_later, among_cases}
-use Rattle.motion_laws.proofs.Marks.{among_append, apart_append, apart_few, mark_is, no_darts, noted_more}
+use Rattle.motion_laws.proofs.Marks.{among_append, apart_append, apart_few, mark_is, no_darts, noted_more, among_at}
+use Rattle.motion_laws.proofs.Order.{v_low}
 use Rattle.qm_trace.specs.{declared.notes.Notes.Notes, Motions.AreNotes, Tables.AreEachOnce}
 use Rattle.qm_trace.proofs.{Beginnings.all_apart, Beginnings.each_once, Marking.among_more, Reaching.noted_among}
 use Rattle.qm_trace.proofs.{Reaching.noted_short, Riding.once}
@@ -60,16 +62,13 @@ among_last q (x ∷ xs) = among_later q x (xs ++ q ∷ []) (among_last q xs)
 -- One note more.
 pub one_note : (notes new : Notes) (r d : ℕ) → AreNotes notes → r < length notes.noted.items
     → d < length notes.taken.items → note_at notes.noted.items r ≡ None → is_among d (darts_in notes.noted.items)
-    ≡ false
-    → new.noted.items ≡ set notes.noted.items r (Some d) → new.taken.items ≡ set notes.taken.items d true
+    ≡ false → new.noted.items ≡ set notes.noted.items r (Some d) → new.taken.items ≡ set notes.taken.items d true
     → new.places.items ≡ set notes.places.items d r → new.queue.items ≡ notes.queue.items ++ r ∷ []
     → vec_capacity notes.queue ≤ vec_capacity new.queue → AreNotes new
 one_note notes new r d are low d_low fresh alone is_noted is_taken is_places is_queue room = record {
-  places_long = ap length is_places
-      ∙ (length-set notes.places.items d r
+  places_long = ap length is_places ∙ (length-set notes.places.items d r
       ∙ (are.places_long ∙ sym (ap length is_taken ∙ length-set notes.taken.items d true)));
-  taken_is = λ e. ap (λ (xs : List Bool). is_on xs e) is_taken
-      ∙ (mark_is notes.taken.items d e d_low
+  taken_is = λ e. ap (λ (xs : List Bool). is_on xs e) is_taken ∙ (mark_is notes.taken.items d e d_low
       ∙ (ap (λ b. b || eqb e d) (are.taken_is e) ∙ sym (ap (λ ns. is_among e (darts_in ns)) is_noted
       ∙ noted_more notes.noted.items r d e low fresh)));
   slot = λ q e n. ap (λ (xs : List ℕ). get_or xs e 0) is_places ∙ slot_at q e (sym (ap (λ ns. note_at ns q) is_noted)
@@ -78,8 +77,7 @@ one_note notes new r d are low d_low fresh alone is_noted is_taken is_places is_
   queue_is = λ q a. let e : (e : ℕ) × (note_at (set notes.noted.items r (Some d)) q ≡ Some e) =
       is_at q (among_append q notes.queue.items (r ∷ []) (sym (ap (is_among q) is_queue) ∙ a)) in
       (e.0, ap (λ ns. note_at ns q) is_noted ∙ e.1);
-  queue_apart = subst AreEachOnce (sym is_queue)
-      (each_once (notes.queue.items ++ r ∷ [])
+  queue_apart = subst AreEachOnce (sym is_queue) (each_once (notes.queue.items ++ r ∷ [])
       (apart_append notes.queue.items (r ∷ []) (all_apart notes.queue.items are.queue_apart) (
         refl,
         tt,
@@ -122,8 +120,7 @@ one_note notes new r d are low d_low fresh alone is_noted is_taken is_places is_
     is_at q (inr b) = elim (among_cases q r [] b) [
       | inl s ↦ (
         d,
-        ap (note_at (set notes.noted.items r (Some d))) s ∙ get_or-set_same notes.noted.items r (Some d)
-            None low,
+        ap (note_at (set notes.noted.items r (Some d))) s ∙ get_or-set_same notes.noted.items r (Some d) None low,
       )
       | inr c ↦ absurd (false≢true c)
     ]
@@ -153,63 +150,86 @@ are_none notes ns is off long empty room = record {
     none : (d : ℕ) → is_among d (darts_in notes.noted.items) ≡ true → ⊥
     none d a = false≢true (sym (ap (is_among d) (ap darts_in is ∙ no_darts (length ns))) ∙ a)
 
--- One note is taken back.
-module _ (faces : Faces) (queue : List ℕ) (i r d : ℕ) (first noted : List (Option ℕ)) (apart : AreEachOnce queue)
-    (low : i < length queue) (r_is : r ≡ get_or queue i 0) (before : (q : ℕ)
-    → note_at noted q ≡ cond (is_among q (take i queue)) None (note_at first q)) (is : note_at first r ≡ Some d) where
-  pub still_noted : note_at noted r ≡ Some d
-  still_noted = before r ∙ (ap (λ (b : Bool). cond b None (note_at first r)) (ap (λ x. is_among x (take i queue)) r_is
-      ∙ once queue i apart low) ∙ is)
+-- The rider at place i of the queue has a note, which is taken back after those before it.
+pub record NoteBack (faces : Faces) (queue : List ℕ) (i : ℕ) (first noted : List (Option ℕ)) : Type 0 where
+  pub apart : AreEachOnce queue
+  pub place : i < length queue
+  pub before : (q : ℕ) → note_at noted q ≡ cond (is_among q (take i queue)) None (note_at first q)
+  pub note : (d : ℕ) × (note_at first (get_or queue i 0) ≡ Some d) × (d < darts faces)
 
-  pub taken_back : (q : ℕ) → note_at (set noted r None) q ≡ cond (is_among q (take (i + 1) queue)) None
-      (note_at first q)
+pub note_back : {faces : Faces} {queue : List ℕ} {i : ℕ} {first noted : List (Option ℕ)} → AreEachOnce queue
+    → i < length queue → ((q : ℕ) → note_at noted q ≡ cond (is_among q (take i queue)) None (note_at first q))
+    → ((r : ℕ) → is_among r queue ≡ true → (d : ℕ) × (note_at first r ≡ Some d) × (d < darts faces))
+    → NoteBack faces queue i first noted
+note_back {faces} {queue} {i} apart place before notes =
+    record { apart = apart; place = place; before = before; note = notes (get_or queue i 0) (among_at queue i place) }
+
+module _ {faces : Faces} {queue : List ℕ} {i : ℕ} {first noted : List (Option ℕ)}
+    (back : NoteBack faces queue i first noted) where
+  open back use {apart, place, before, note}
+
+  abbrev r : ℕ
+  r = get_or queue i 0
+
+  abbrev pub d : ℕ
+  d = note.0
+
+  still_noted : note_at noted r ≡ Some d
+  still_noted = before r ∙ rw (once queue i apart place) note.1
+
+  pub back_short : get_or queue i 0 < length noted
+  back_short = noted_short noted r d still_noted
+
+  -- The note, where it was read.
+  pub note_read : {read : Option ℕ} → read ≡ get_or noted (get_or queue i 0) read → read ≡ Some note.0
+  note_read {read} e = e ∙ (get_or_default noted r read None back_short ∙ still_noted)
+
+  pub dart_read : {read : Option ℕ} {dart : ℕ} → read ≡ get_or noted (get_or queue i 0) read → read ≡ Some dart
+      → dart ≡ note.0
+  dart_read e is = same_Some _ _ (sym is ∙ note_read e)
+
+  pub taken_back : (q : ℕ) → note_at (set noted (get_or queue i 0) None) q
+      ≡ cond (is_among q (take (i + 1) queue)) None (note_at first q)
   taken_back q = elim (cases_eq q r) [
-    | inl s ↦ ap (note_at (set noted r None)) s ∙ (get_or-set_same noted r None None (noted_short noted r d still_noted)
-        ∙ sym (ap (λ (b : Bool). cond b None (note_at first q)) (among_more queue i q low
-        ∙ or_right (is_among q (take i queue)) (eqb q (get_or queue i 0))
-        (eq-eqb q (get_or queue i 0) (s ∙ r_is)))))
-    | inr ne ↦ get_or-set_other noted r q None None ne
-        ∙ (before q ∙ sym (ap (λ (b : Bool). cond b None (note_at first q)) (among_more queue i q low
-        ∙ (ap (λ b. is_among q (take i queue) || b) (ne_eqb q (get_or queue i 0) (λ s. ne (s ∙ sym r_is)))
-        ∙ Rattle.std.proofs.Math.Bool.or-false (is_among q (take i queue))))))
+    | inl s ↦ rw (
+      s,
+      get_or-set_same noted r None None back_short,
+      among_more queue i r place,
+      or_right _ _ (eq-eqb r r refl),
+    ) refl
+    | inr ne ↦ get_or-set_other noted r q None None ne ∙ (before q ∙ rw (
+      among_more queue i q place,
+      ne_eqb q r ne,
+      or-false (is_among q (take i queue)),
+    ) refl)
   ]
 
+  -- Another note stays.
+  stays : (q e : ℕ) → note_at noted q ≡ Some e → e ≢ d → note_at (set noted r None) q ≡ Some e
+  stays q e n differ = get_or-set_other noted r q None None
+      (λ s. differ (same_Some e d (sym n ∙ (ap (note_at noted) s ∙ still_noted)))) ∙ n
+
   -- A mark that stays belongs to another note.
-  pub marks_back : (taken : List Bool) → d < length taken
-      → ((e : ℕ) → is_on taken e ≡ true → (q : ℕ) × (note_at noted q ≡ Some e)) → (e : ℕ) → is_on (set taken d false) e
-      ≡ true → (q : ℕ) × (note_at (set noted r None) q ≡ Some e)
-  marks_back taken d_low old e on = by_note (old e (sym (get_or-set_other taken d e false false differ) ∙ on))
+  pub marks_back : (taken : List Bool) → note.0 < length taken
+      → ((e : ℕ) → is_on taken e ≡ true → (q : ℕ) × (note_at noted q ≡ Some e)) → (e : ℕ)
+      → is_on (set taken note.0 false) e ≡ true → (q : ℕ) × (note_at (set noted (get_or queue i 0) None) q ≡ Some e)
+  marks_back taken d_low old e on =
+      let q = old e (sym (get_or-set_other taken d e false false differ) ∙ on) in (q.0, stays q.0 e q.1 differ)
     where
       differ : e ≢ d
       differ s = false≢true (sym (ap (is_on (set taken d false)) s ∙ get_or-set_same taken d false false d_low) ∙ on)
 
-      by_note : (q : ℕ) × (note_at noted q ≡ Some e) → (q : ℕ) × (note_at (set noted r None) q ≡ Some e)
-      by_note (q, n) = (
-        q,
-        get_or-set_other noted r q None None
-            (λ s. differ (same_Some e d (sym n ∙ (ap (note_at noted) s ∙ still_noted)))) ∙ n,
-      )
-
-  pub ends_back : (settled : List Bool) (v : ℕ) → v ≡ to_of faces d → v < length settled
+  pub ends_back : (settled : List Bool) {v : ℕ} → v ≡ to_of faces note.0 → v < length settled
       → ((u : ℕ) → is_on settled u ≡ true → (q : ℕ) × (e : ℕ) × (note_at noted q ≡ Some e) × (to_of faces e ≡ u))
-      → (u : ℕ) → is_on (set settled v false) u ≡ true → (q : ℕ) × (e : ℕ) × (note_at (set noted r None) q ≡ Some e)
-      × (to_of faces e ≡ u)
-  ends_back settled v v_is v_low old u on = by_note (old u (sym (get_or-set_other settled v u false false differ) ∙ on))
+      → (u : ℕ) → is_on (set settled v false) u ≡ true
+      → (q : ℕ) × (e : ℕ) × (note_at (set noted (get_or queue i 0) None) q ≡ Some e) × (to_of faces e ≡ u)
+  ends_back settled {v} v_is v_low old u on =
+      let q = old u (sym (get_or-set_other settled v u false false differ) ∙ on) in
+      (q.0, q.1, stays q.0 q.1 q.2 (λ s. differ (sym q.3 ∙ (ap (to_of faces) s ∙ sym v_is))), q.3)
     where
       differ : u ≢ v
       differ s = false≢true (sym (ap (is_on (set settled v false)) s ∙ get_or-set_same settled v false false v_low)
           ∙ on)
-
-      by_note : (q : ℕ) × (e : ℕ) × (note_at noted q ≡ Some e) × (to_of faces e ≡ u) → (q : ℕ) × (e : ℕ)
-          × (note_at (set noted r None) q ≡ Some e) × (to_of faces e ≡ u)
-      by_note (q, e, n, t) = (
-        q,
-        e,
-        get_or-set_other noted r q None None
-            (λ s. differ (sym t ∙ (ap (to_of faces) (same_Some e d (sym n ∙ (ap (note_at noted) s ∙ still_noted)))
-            ∙ sym v_is))) ∙ n,
-        t,
-      )
 
 -- Where the notes of the riders in the queue are taken back, none is left.
 pub cleared : (notes : Notes) (new : List (Option ℕ)) → AreNotes notes

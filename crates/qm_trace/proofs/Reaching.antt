@@ -1,23 +1,21 @@
 -- The states that events reach on a mesh: what is noted, how riders stand, and how they are told.
-use Rattle.std.proofs.Common.{◌≡◌, ℕ, zero, suc, ◌+◌, ◌-◌, ◌<◌, Bool, true, false, cond, List, [], ◌∷◌, ◌++◌, length}
-use Rattle.std.proofs.Common.{Option, Some, None, sym, subst, ap, ◌∙◌, refl, inl, inr, arith}
+use Rattle.std.proofs.Common.{add-zero, add-suc, ◌≡◌, ℕ, zero, suc, ◌+◌, ◌-◌, ◌<◌, Bool, true, false, cond, List, ◌∷◌}
+use Rattle.std.proofs.Common.{◌++◌, length, Option, Some, None, sym, subst, ap, ◌∙◌, refl, inl, inr, arith, []}
 use Rattle.std.proofs.lemmas.Option.{none-some, same_Some}
 use Rattle.std.proofs.lemmas.Bool.{cases_lt, false≢true, false_from_ne_true}
 use Rattle.def_mesh.specs.{Faces.Faces, Darts.darts, Manifold.IsManifold, Vertices.vertex_count, Components.start_darts}
-use Rattle.def_cut.specs.{FullCut.is_on, declared.graph.Stop.Stop, declared.graph.Stop.TheVariants.Middle}
-use Rattle.def_cut.specs.declared.graph.Stop.TheVariants.{Boundary, Singular}
-use Rattle.def_cut.specs.declared.graph.Stop.TheVariants.{Trail, Tie}
-use Rattle.def_cut.specs.{declared.moving.Moving.Moving, Motion.Terrain, Motion.end_of, Motion.with_next, Motion.ridden}
-use Rattle.def_cut.specs.Motion.{is_among, is_met, arrivals, goes_on, stop_of, start}
-use Rattle.def_cut.specs.{Motion.after_steps, Traced.terrain_of, Events.EventState, Events.darts_in, Events.rider_at}
-use Rattle.def_cut.specs.Events.{note_at, may_ride, after_ride_of, told_at, all_told}
-use Rattle.def_cut.specs.Events.{Event, May, after_event, Leads, rides_in}
-use Rattle.def_cut.specs.{Events.first_event_state, Events.IsMotionOf, Events.Event.Ride}
+use Rattle.def_cut.specs.declared.graph.Stop.TheVariants.{Middle, Boundary, Singular, Trail, Tie}
+use Rattle.def_cut.specs.Motion.{Terrain, end_of, with_next, ridden, is_among, is_met, arrivals, goes_on, stop_of}
+use Rattle.def_cut.specs.Motion.{start, after_steps, State}
+use Rattle.def_cut.specs.Events.{EventState, darts_in, rider_at, note_at, may_ride, after_ride_of, told_at, all_told}
+use Rattle.def_cut.specs.Events.{Event, May, after_event, Leads, rides_in, first_event_state, IsMotionOf}
+use Rattle.def_cut.specs.{FullCut.is_on, declared.graph.Stop.Stop, declared.moving.Moving.Moving, Traced.terrain_of}
+use Rattle.def_cut.specs.Events.Event.{Ride}
 use Rattle.mesh_laws.proofs.Vertices.{all_below}
-use Rattle.motion_laws.proofs.{Among.AreApart, Among.among_here, Among.among_later, Among.among_cases, Order.IsWithin}
-use Rattle.motion_laws.proofs.Order.{within, rode, rode_low, at_last, runs_ridden}
-use Rattle.motion_laws.proofs.{Shown.AreShown, Shown.IsNoted, Shown.long, Shown.shown_by, Steps.next_is}
-use Rattle.motion_laws.proofs.{Terrains.IsReached, Traced.after_reached}
+use Rattle.motion_laws.proofs.Among.{AreApart, among_here, among_later, among_cases}
+use Rattle.motion_laws.proofs.Order.{IsWithin, within, rode, at_last, runs_ridden}
+use Rattle.motion_laws.proofs.Shown.{AreShown, IsNoted, long, shown_by, IsShown, waits_runs}
+use Rattle.motion_laws.proofs.{Steps.next_is, Terrains.IsReached, Traced.after_reached}
 use Rattle.site_laws.proofs.Sites.{terrain, started}
 use Rattle.qm_trace.proofs.Steps.{begun_low, rides_low}
 
@@ -32,12 +30,10 @@ leads_more g a x (f ∷ es) e l may = (l.0, leads_more g (after_event g a f) x e
 pub noted_where : (ns : List (Option ℕ)) (d : ℕ) → is_among d (darts_in ns) ≡ true → (r : ℕ) × (r < length ns)
     × (note_at ns r ≡ Some d)
 noted_where [] d m = absurd (false≢true m)
-noted_where (None ∷ ns) d m = let r : (r : ℕ) × (r < length ns) × (note_at ns r ≡ Some d) = noted_where ns d m in
-    (suc r.0, omega (arith, r.1), r.2)
+noted_where (None ∷ ns) d m = let r = noted_where ns d m in (suc r.0, omega (arith, r.1), r.2)
 noted_where (Some e ∷ ns) d m = elim (among_cases d e (darts_in ns) m) [
   | inl s ↦ (0, omega arith, ap Some (sym s))
-  | inr k ↦ let r : (r : ℕ) × (r < length ns) × (note_at ns r ≡ Some d) = noted_where ns d k in
-      (suc r.0, omega (arith, r.1), r.2)
+  | inr k ↦ let r = noted_where ns d k in (suc r.0, omega (arith, r.1), r.2)
 ]
 
 pub noted_among : (ns : List (Option ℕ)) (r d : ℕ) → note_at ns r ≡ Some d → is_among d (darts_in ns) ≡ true
@@ -62,21 +58,18 @@ shown_at g stood ds V (b ∷ bs) (q ∷ rs) (n ∷ ns) a (suc r) l = shown_at g 
 shown_at g stood ds V _ [] ns a r l = absurd (omega arith)
 
 -- At most one rider runs along a dart.
+not_twice : (o : Option Stop) {d : ℕ} (rs : List Moving) (j : ℕ) → o ≡ None → AreApart (with_next o d (ridden rs))
+    → j < length rs → (rider_at rs j).stop ≡ None → d ≡ (rider_at rs j).dart → ⊥
+not_twice None rs j is a l runs e = false≢true (sym a.0 ∙ (ap (λ d. is_among d (ridden rs)) e
+    ∙ runs_ridden rs j l runs))
+not_twice (Some s) rs j is a l runs e = none-some s (sym is)
+
 pub one_rider_on : (rs : List Moving) → AreApart (ridden rs) → (i j : ℕ) → i < length rs → j < length rs
     → (rider_at rs i).stop ≡ None → (rider_at rs j).stop ≡ None → (rider_at rs i).dart ≡ (rider_at rs j).dart → i ≡ j
 one_rider_on [] a i j li lj ri rj e = absurd (omega arith)
 one_rider_on (q ∷ rs) a zero zero li lj ri rj e = refl
-one_rider_on (q ∷ rs) a zero (suc j) li lj ri rj e = absurd (twice q.stop ri a)
-  where
-    twice : (o : Option Stop) → o ≡ None → AreApart (with_next o q.dart (ridden rs)) → ⊥
-    twice None is a = false≢true (sym a.0 ∙ (ap (λ d. is_among d (ridden rs)) e ∙ runs_ridden rs j (omega arith) rj))
-    twice (Some s) is a = none-some s (sym is)
-one_rider_on (q ∷ rs) a (suc i) zero li lj ri rj e = absurd (twice q.stop rj a)
-  where
-    twice : (o : Option Stop) → o ≡ None → AreApart (with_next o q.dart (ridden rs)) → ⊥
-    twice None is a = false≢true (sym a.0
-        ∙ (ap (λ d. is_among d (ridden rs)) (sym e) ∙ runs_ridden rs i (omega arith) ri))
-    twice (Some s) is a = none-some s (sym is)
+one_rider_on (q ∷ rs) a zero (suc j) li lj ri rj e = absurd (not_twice q.stop rs j ri a (omega arith) rj e)
+one_rider_on (q ∷ rs) a (suc i) zero li lj ri rj e = absurd (not_twice q.stop rs i rj a (omega arith) ri (sym e))
 one_rider_on (q ∷ rs) a (suc i) (suc j) li lj ri rj e =
     ap suc (one_rider_on rs (rest q.stop a) i j (omega arith) (omega arith) ri rj e)
   where
@@ -101,159 +94,136 @@ told_place g stood ds v (q ∷ rs) (n ∷ ns) zero e l = refl
 told_place g stood ds v (q ∷ rs) (n ∷ ns) (suc r) e l = told_place g stood ds v rs ns r (omega arith) (omega arith)
 told_place g stood ds v _ _ r e l = absurd (omega arith)
 
-module _ (faces : Faces) (m : IsManifold faces) where
-  -- A state to which events lead stands within an instant.
-  pub within_of : (x : EventState) (z : IsMotionOf faces x)
-      → IsWithin (terrain_of faces) (terrain faces m) (start_darts faces) (started faces m) (vertex_count faces)
-      (all_below faces) x (rides_in z.0)
-  within_of x z = within (terrain_of faces) (terrain faces m) (start_darts faces) (started faces m) (vertex_count faces)
-      (all_below faces) z.0 x z.1
+-- The state after k steps of the motion, and the darts that are ridden next.
+abbrev pub after : (faces : Faces) (k : ℕ) → State
+after faces k = after_steps (terrain_of faces) (start_darts faces) k
 
-  pub covered_long : (x : EventState) → IsMotionOf faces x → length x.covered ≡ darts faces
-  covered_long x z = (within_of x z).shown.covered_long
+abbrev pub ridden_at : (faces : Faces) (k : ℕ) → List ℕ
+ridden_at faces k = ridden (after faces k).riders
 
-  pub stood_long : (x : EventState) → IsMotionOf faces x → length x.stood ≡ vertex_count faces
-  stood_long x z = (within_of x z).shown.stood_long
+-- A state to which events lead stands within the instant that begins after some steps.
+pub record Reached (faces : Faces) (x : EventState) : Type 0 where
+  pub mesh : IsManifold faces
+  pub led : IsMotionOf faces x
+  pub steps : ℕ
+  pub shown : IsShown (terrain_of faces) (vertex_count faces) (after faces steps) x
 
-  pub settled_long : (x : EventState) → IsMotionOf faces x → length x.settled ≡ vertex_count faces
-  settled_long x z = (within_of x z).shown.settled_long
+pub reached : {faces : Faces} → IsManifold faces → (x : EventState) → IsMotionOf faces x → Reached faces x
+reached {faces} m x z = record { mesh = m; led = z; steps = w.instant; shown = w.shown }
+  where
+    w : IsWithin (terrain_of faces) (terrain faces m) (start_darts faces) (started faces m) (vertex_count faces)
+        (all_below faces) x (rides_in z.0)
+    w = within (terrain_of faces) (terrain faces m) (start_darts faces) (started faces m) (vertex_count faces)
+        (all_below faces) z.0 x z.1
 
-  pub reached_at : (k : ℕ)
-      → IsReached (terrain_of faces) (start_darts faces) (after_steps (terrain_of faces) (start_darts faces) k)
+module _ {faces : Faces} (m : IsManifold faces) where
+  pub reached_at : (k : ℕ) → IsReached (terrain_of faces) (start_darts faces) (after faces k)
   reached_at = after_reached (terrain_of faces) (terrain faces m) (start_darts faces) (started faces m)
 
   -- Whoever rides after more steps, somebody rode before.
-  rode_before : (k j e : ℕ) → is_among e (ridden (after_steps (terrain_of faces) (start_darts faces) (j + k)).riders)
-      ≡ true → (d : ℕ) × (is_among d (ridden (after_steps (terrain_of faces) (start_darts faces) k).riders) ≡ true)
-  rode_before k zero e n = let s : 0 + k ≡ k = omega arith in
-      (e, ap (λ i. is_among e (ridden (after_steps (terrain_of faces) (start_darts faces) i).riders)) (sym s) ∙ n)
+  rode_before : (k j e : ℕ) → is_among e (ridden_at faces (k + j)) ≡ true
+      → (d : ℕ) × (is_among d (ridden_at faces k) ≡ true)
+  rode_before k zero e n = (e, rw add-zero at n)
   rode_before k (suc j) e n =
-      let s : suc j + k ≡ suc (j + k) = omega arith in
-      let m2 : is_among e (ridden (after_steps (terrain_of faces) (start_darts faces) (suc (j + k))).riders) ≡ true =
-      ap (λ i. is_among e (ridden (after_steps (terrain_of faces) (start_darts faces) i).riders)) (sym s) ∙ n in
-      by_dart (next_is (terrain_of faces) (terrain faces m) (λ x. is_among x (start_darts faces))
-      (start (terrain_of faces) (start_darts faces)) (after_steps (terrain_of faces) (start_darts faces) (j + k))
-      (reached_at (j + k)) e m2) (rode_before k j)
-    where
-      by_dart : (d : ℕ) × (is_among d (ridden (after_steps (terrain_of faces) (start_darts faces) (j + k)).riders)
-          ≡ true) × Rattle.motion_laws.proofs.Steps.IsNext (terrain_of faces) (terrain faces m)
-          (after_steps (terrain_of faces) (start_darts faces) (j + k)).stood
-          (ridden (after_steps (terrain_of faces) (start_darts faces) (j + k)).riders) d e
-          → ((c : ℕ) → is_among c (ridden (after_steps (terrain_of faces) (start_darts faces) (j + k)).riders) ≡ true
-          → (d : ℕ) × (is_among d (ridden (after_steps (terrain_of faces) (start_darts faces) k).riders) ≡ true))
-          → (d : ℕ) × (is_among d (ridden (after_steps (terrain_of faces) (start_darts faces) k).riders) ≡ true)
-      by_dart (d, h, x) rest = rest d h
+      let d = next_is (terrain_of faces) (terrain faces m) (λ x. is_among x (start_darts faces))
+      (start (terrain_of faces) (start_darts faces)) (after faces (k + j)) (reached_at (k + j)) e (rw add-suc at n) in
+      rode_before k j d.0 d.1
 
   -- While somebody rides, fewer steps were made than there are vertices.
-  steps_few : (k e : ℕ) → is_among e (ridden (after_steps (terrain_of faces) (start_darts faces) k).riders) ≡ true
-      → k < vertex_count faces
+  steps_few : (k e : ℕ) → is_among e (ridden_at faces k) ≡ true → k < vertex_count faces
   steps_few k e n = elim (cases_lt k (vertex_count faces)) [
     | inl l ↦ l
-    | inr h ↦ absurd (
-        let s : (k - vertex_count faces) + vertex_count faces ≡ k = omega arith in
-        let d : (d : ℕ) × (is_among d
-        (ridden (after_steps (terrain_of faces) (start_darts faces) (vertex_count faces)).riders) ≡ true) =
-        rode_before (vertex_count faces) (k - vertex_count faces) e
-        (ap (λ i. is_among e (ridden (after_steps (terrain_of faces) (start_darts faces) i).riders)) s ∙ n) in
-        false≢true (sym (ap (is_among d.0) (at_last (terrain_of faces) (terrain faces m) (start_darts faces)
+    | inr h ↦
+        let s : vertex_count faces + (k - vertex_count faces) ≡ k = omega arith in
+        let d = rode_before (vertex_count faces) (k - vertex_count faces) e
+        (ap (λ i. is_among e (ridden_at faces i)) s ∙ n) in
+        absurd (false≢true (sym (ap (is_among d.0) (at_last (terrain_of faces) (terrain faces m) (start_darts faces)
         (started faces m) (vertex_count faces) (all_below faces))) ∙ d.1))
   ]
 
-  -- A ride of r.
-  module _ (x : EventState) (z : IsMotionOf faces x) (r : ℕ) (low : r < length x.riders) (may : may_ride x r
-      ≡ true) where
-    abbrev k : ℕ
-    k = (within_of x z).instant
+module _ {faces : Faces} {x : EventState} (now : Reached faces x) where
+  open now use {mesh, steps, shown}
 
-    ride_rode : (note_at x.noted r ≡ None)
-        × (is_among (rider_at x.riders r).dart
-        (ridden (after_steps (terrain_of faces) (start_darts faces) (within_of x z).instant).riders) ≡ true)
-    ride_rode = rode (terrain_of faces) (terrain faces m) (start_darts faces) (started faces m) (vertex_count faces)
-        (all_below faces) (after_steps (terrain_of faces) (start_darts faces) (within_of x z).instant)
-        (reached_at (within_of x z).instant) x (within_of x z).shown r low may
+  pub covered_long : length x.covered ≡ darts faces
+  covered_long = shown.covered_long
 
-    pub ride_fresh : note_at x.noted r ≡ None
-    ride_fresh = ride_rode.0
+  pub stood_long : length x.stood ≡ vertex_count faces
+  stood_long = shown.stood_long
 
-    pub ride_dart : (rider_at x.riders r).dart < darts faces
-    ride_dart = rode_low (terrain_of faces) (terrain faces m) (start_darts faces) (started faces m) (vertex_count faces)
-        (all_below faces) (after_steps (terrain_of faces) (start_darts faces) (within_of x z).instant)
-        (reached_at (within_of x z).instant) x (within_of x z).shown r low may
+  pub settled_long : length x.settled ≡ vertex_count faces
+  settled_long = shown.settled_long
 
-    lengths : (length x.riders
-        ≡ length (after_steps (terrain_of faces) (start_darts faces) (within_of x z).instant).riders)
-        × (length x.noted ≡ length (after_steps (terrain_of faces) (start_darts faces) (within_of x z).instant).riders)
-    lengths = long (terrain_of faces) (after_steps (terrain_of faces) (start_darts faces) (within_of x z).instant).stood
-        (ridden (after_steps (terrain_of faces) (start_darts faces) (within_of x z).instant).riders) (is_on x.settled)
-        (after_steps (terrain_of faces) (start_darts faces) (within_of x z).instant).riders x.riders x.noted
-        (within_of x z).shown.riders
+  pub as_long : (length x.riders ≡ length (after faces steps).riders)
+      × (length x.noted ≡ length (after faces steps).riders)
+  as_long = long (terrain_of faces) (after faces steps).stood (ridden_at faces steps) (is_on x.settled)
+      (after faces steps).riders x.riders x.noted shown.riders
 
-    pub ride_noted : r < length x.noted
-    ride_noted = omega (arith, low, lengths.0, lengths.1)
+  -- What rider r shows.
+  pub rider_shown : (r : ℕ) → r < length x.riders → IsNoted (rider_at (after faces steps).riders r) (note_at x.noted r)
+      × (rider_at x.riders r ≡ shown_by (terrain_of faces) (after faces steps).stood (ridden_at faces steps)
+      (is_on x.settled) (rider_at (after faces steps).riders r) (note_at x.noted r))
+  rider_shown = shown_at (terrain_of faces) (after faces steps).stood (ridden_at faces steps) (is_on x.settled)
+      (after faces steps).riders x.riders x.noted shown.riders
 
-    shown_r : (q : ℕ) → q < length x.riders
-        → IsNoted (rider_at (after_steps (terrain_of faces) (start_darts faces) (within_of x z).instant).riders q)
-        (note_at x.noted q)
-        × (rider_at x.riders q ≡ shown_by (terrain_of faces) (after_steps (terrain_of faces) (start_darts faces)
-        (within_of x z).instant).stood
-        (ridden (after_steps (terrain_of faces) (start_darts faces) (within_of x z).instant).riders)
-        (is_on x.settled) (rider_at (after_steps (terrain_of faces) (start_darts faces)
-        (within_of x z).instant).riders q) (note_at x.noted q))
-    shown_r q l = shown_at (terrain_of faces) (after_steps (terrain_of faces) (start_darts faces)
-        (within_of x z).instant).stood
-        (ridden (after_steps (terrain_of faces) (start_darts faces) (within_of x z).instant).riders) (is_on x.settled)
-        (after_steps (terrain_of faces) (start_darts faces) (within_of x z).instant).riders x.riders x.noted
-        (within_of x z).shown.riders q l
+-- A rider that may ride.
+pub record MayRide (faces : Faces) (x : EventState) (r : ℕ) : Type 0 where
+  pub now : Reached faces x
+  pub low : r < length x.riders
+  pub may : may_ride x r ≡ true
 
-    -- The rider is as it was when the instant began.
-    as_begun : rider_at x.riders r
-        ≡ rider_at (after_steps (terrain_of faces) (start_darts faces) (within_of x z).instant).riders r
-    as_begun = (shown_r r low).1
-        ∙ ap (shown_by (terrain_of faces) (after_steps (terrain_of faces) (start_darts faces)
-        (within_of x z).instant).stood
-        (ridden (after_steps (terrain_of faces) (start_darts faces) (within_of x z).instant).riders) (is_on x.settled)
-        (rider_at (after_steps (terrain_of faces) (start_darts faces) (within_of x z).instant).riders r)) ride_fresh
+module _ {faces : Faces} {x : EventState} {r : ℕ} (k : MayRide faces x r) where
+  open k use {now, low, may, now.{mesh, steps, shown}}
 
-    pub ride_few : (rider_at x.riders r).rides < vertex_count faces
-    ride_few = omega (
-      arith,
-      ap (λ (q : Moving). q.rides) as_begun,
-      rides_low (terrain_of faces) (start (terrain_of faces) (start_darts faces)) (begun_low (start_darts faces))
-          (within_of x z).instant r,
-      steps_few (within_of x z).instant (rider_at x.riders r).dart ride_rode.1,
-    )
+  abbrev rider : Moving
+  rider = rider_at x.riders r
 
-    pub ride_runs : (rider_at x.riders r).stop ≡ None
-    ride_runs = (Rattle.motion_laws.proofs.Shown.waits_runs (terrain_of faces)
-        (after_steps (terrain_of faces) (start_darts faces) (within_of x z).instant).stood
-        (ridden (after_steps (terrain_of faces) (start_darts faces) (within_of x z).instant).riders)
-        (rider_at x.riders r).stop (note_at x.noted r) may).0
+  rode_then : (note_at x.noted r ≡ None) × (is_among rider.dart (ridden_at faces steps) ≡ true)
+  rode_then = rode (terrain_of faces) (terrain faces mesh) (start_darts faces) (started faces mesh) (vertex_count faces)
+      (all_below faces) (after faces steps) (reached_at mesh steps) x shown r low may
 
-    -- Nobody else has its dart noted.
-    pub ride_alone : is_among (rider_at x.riders r).dart (darts_in x.noted) ≡ false
-    ride_alone = false_from_ne_true _ (λ a. by_note (noted_where x.noted (rider_at x.riders r).dart a))
-      where
-        by_note : (q : ℕ) × (q < length x.noted) × (note_at x.noted q ≡ Some (rider_at x.riders r).dart) → ⊥
-        by_note (q, l, n) =
-            let lq : q < length x.riders = omega (arith, l, lengths.0, lengths.1) in
-            let f : ((rider_at (after_steps (terrain_of faces) (start_darts faces) (within_of x z).instant).riders
-            q).stop ≡ None) × ((rider_at x.riders r).dart
-            ≡ (rider_at (after_steps (terrain_of faces) (start_darts faces) (within_of x z).instant).riders
-            q).dart) = subst (IsNoted
-            (rider_at (after_steps (terrain_of faces) (start_darts faces) (within_of x z).instant).riders q)) n
-            (shown_r q lq).0 in
-            let same : r ≡ q = one_rider_on (after_steps (terrain_of faces) (start_darts faces)
-            (within_of x z).instant).riders (reached_at (within_of x z).instant).apart r q
-            (omega (arith, low, lengths.0)) (omega (arith, lq, lengths.0))
-            (ap (λ (b : Moving). b.stop) (sym as_begun) ∙ ride_runs) f.0 (ap (λ (b : Moving). b.dart) (sym as_begun)
-            ∙ f.1) in
-            none-some (rider_at x.riders r).dart (sym ride_fresh ∙ (ap (note_at x.noted) same ∙ n))
+  pub ride_fresh : note_at x.noted r ≡ None
+  ride_fresh = rode_then.0
 
-    pub ride_reached : IsMotionOf faces (after_ride_of (terrain_of faces) x r)
-    ride_reached = (
-      z.0 ++ Ride r ∷ [],
-      leads_more (terrain_of faces) (first_event_state faces) x z.0 (Ride r) z.1 (
-        low,
-        may,
-      ),
-    )
+  pub ride_dart : (rider_at x.riders r).dart < darts faces
+  ride_dart = (reached_at mesh steps).low rider.dart rode_then.1
+
+  pub ride_noted : r < length x.noted
+  ride_noted = omega (arith, low, as_long now)
+
+  -- The rider is as it was when the instant began.
+  as_begun : rider ≡ rider_at (after faces steps).riders r
+  as_begun = (rider_shown now r low).1 ∙ ap (shown_by (terrain_of faces) (after faces steps).stood
+      (ridden_at faces steps) (is_on x.settled) (rider_at (after faces steps).riders r)) ride_fresh
+
+  pub ride_few : (rider_at x.riders r).rides < vertex_count faces
+  ride_few = omega (
+    arith,
+    ap (λ (q : Moving). q.rides) as_begun,
+    rides_low (terrain_of faces) (start (terrain_of faces) (start_darts faces)) (begun_low (start_darts faces)) steps r,
+    steps_few mesh steps rider.dart rode_then.1,
+  )
+
+  pub ride_runs : (rider_at x.riders r).stop ≡ None
+  ride_runs = (waits_runs (terrain_of faces) (after faces steps).stood (ridden_at faces steps) rider.stop
+      (note_at x.noted r) may).0
+
+  -- Nobody else has its dart noted.
+  pub ride_alone : is_among (rider_at x.riders r).dart (darts_in x.noted) ≡ false
+  ride_alone = false_from_ne_true _ (λ a. by_note (noted_where x.noted rider.dart a))
+    where
+      by_note : (q : ℕ) × (q < length x.noted) × (note_at x.noted q ≡ Some rider.dart) → ⊥
+      by_note (q, l, n) =
+          let both = as_long now in
+          let begun = rider_at (after faces steps).riders q in
+          let f : (begun.stop ≡ None) × (rider.dart ≡ begun.dart) =
+          subst (IsNoted begun) n (rider_shown now q (omega (arith, l, both))).0 in
+          let same : r ≡ q = one_rider_on (after faces steps).riders (reached_at mesh steps).apart r q
+          (omega (arith, low, both)) (omega (arith, l, both)) (sym (ap (λ (b : Moving). b.stop) as_begun) ∙ ride_runs)
+          f.0 (sym (ap (λ (b : Moving). b.dart) as_begun) ∙ f.1) in
+          none-some rider.dart (sym ride_fresh ∙ (ap (note_at x.noted) same ∙ n))
+
+  pub ride_reached : IsMotionOf faces (after_ride_of (terrain_of faces) x r)
+  ride_reached = (
+    now.led.0 ++ Ride r ∷ [],
+    leads_more (terrain_of faces) (first_event_state faces) x now.led.0 (Ride r) now.led.1 (low, may),
+  )

@@ -1,11 +1,10 @@
 -- The queue, rider by rider.
-use Rattle.std.proofs.Common.{◌≡◌, ℕ, zero, suc, ◌+◌, ◌<◌, Bool, true, false, cond, eqb, ◌||◌, List, [], ◌∷◌, ◌++◌}
-use Rattle.std.proofs.Common.{length, get_or, set, take, sym, ap, ◌∙◌, refl, inl, inr, arith}
+use Rattle.std.proofs.Common.{◌≡◌, ℕ, zero, suc, ◌+◌, ◌<◌, Bool, true, false, cond, List, ◌∷◌, ◌++◌, length, get_or}
+use Rattle.std.proofs.Common.{set, take, sym, ap, ◌∙◌, refl, inl, inr, arith, []}
 use Rattle.std.proofs.Math.Bool.{or-false}
 use Rattle.std.proofs.lemmas.Bool.{cases_eq, eq-eqb, ne_eqb, false≢true, false_from_ne_true, or_right}
-use Rattle.std.proofs.lemmas.List.{take_more, get_or-set_same, get_or-set_other}
+use Rattle.std.proofs.lemmas.List.{take_more, get_or-set_same, get_or-set_other, append-nil}
 use Rattle.std.proofs.lemmas.List.Elements.{filter-append}
-use Rattle.std.proofs.lemmas.List.{append-nil}
 use Rattle.std.specs.List.{filter}
 use Rattle.def_mesh.specs.Faces.{Faces}
 use Rattle.def_cut.specs.{Motion.is_among, Motion.begun, Events.rider_at, declared.moving.Moving.Moving}
@@ -22,36 +21,29 @@ once (x ∷ xs) (suc i) a l = false_from_ne_true _ (λ m. elim (among_cases (get
   | inr k ↦ false≢true (sym (once xs i a.1 (omega arith)) ∙ k)
 ])
 
--- A rider of the queue that has not ridden yet.
-pub unmoved : (faces : Faces) (stood now : List Bool) (q : List ℕ) (i : ℕ) (old riders : List Moving) → AreEachOnce q
-    → i < length q → get_or q i 0 < length old → AreRode faces stood now (take i q) old riders
-    → rider_at riders (get_or q i 0) ≡ rider_at old (get_or q i 0)
-unmoved faces stood now q i old riders a l low each = each (get_or q i 0) low
-    ∙ ap (λ (b : Bool). cond b (rode faces stood now (rider_at old (get_or q i 0))) (rider_at old (get_or q i 0)))
-    (once q i a l)
+-- The queue has been ridden through as far as place i.
+module _ (faces : Faces) (stood now : List Bool) (q : List ℕ) (i : ℕ) (old riders : List Moving) (a : AreEachOnce q)
+    (l : i < length q) (low : get_or q i 0 < length old) (each : AreRode faces stood now (take i q) old riders) where
+  -- The rider there has not ridden yet.
+  pub unmoved : rider_at riders (get_or q i 0) ≡ rider_at old (get_or q i 0)
+  unmoved = each (get_or q i 0) low ∙ rw (once q i a l) refl
 
--- One rider more has ridden.
-pub rode_more : (faces : Faces) (stood now : List Bool) (q : List ℕ) (i : ℕ) (old riders : List Moving) (rider : Moving)
-    → AreEachOnce q → i < length q → get_or q i 0 < length old → length riders ≡ length old
-    → rider ≡ rode faces stood now (rider_at riders (get_or q i 0)) → AreRode faces stood now (take i q) old riders
-    → AreRode faces stood now (take (i + 1) q) old (set riders (get_or q i 0) rider)
-rode_more faces stood now q i old riders rider a l low long is each r lr = elim (cases_eq r (get_or q i 0)) [
-  | inl e ↦ ap (λ x. get_or (set riders (get_or q i 0) rider) x (begun 0)) e
-      ∙ (get_or-set_same riders (get_or q i 0) rider (begun 0) (omega (arith, low, long))
-      ∙ (is ∙ (ap (rode faces stood now) was
-      ∙ sym (ap (λ (b : Bool). cond b (rode faces stood now (rider_at old r)) (rider_at old r)) (on e)
-      ∙ ap (λ x. rode faces stood now (rider_at old x)) e))))
-  | inr ne ↦ get_or-set_other riders (get_or q i 0) r rider (begun 0) ne
-      ∙ (each r lr ∙ sym (ap (λ (b : Bool). cond b (rode faces stood now (rider_at old r)) (rider_at old r))
-      (among_more q i r l ∙ (ap (λ b. is_among r (take i q) || b) (ne_eqb r (get_or q i 0) ne)
-      ∙ or-false (is_among r (take i q))))))
-]
-  where
-    on : r ≡ get_or q i 0 → is_among r (take (i + 1) q) ≡ true
-    on e = among_more q i r l ∙ or_right (is_among r (take i q)) (eqb r (get_or q i 0)) (eq-eqb r (get_or q i 0) e)
-
-    was : rider_at riders (get_or q i 0) ≡ rider_at old (get_or q i 0)
-    was = unmoved faces stood now q i old riders a l low each
+  -- Where it has ridden, one more has.
+  pub rode_more : {rider : Moving} → length riders ≡ length old
+      → rider ≡ rode faces stood now (rider_at riders (get_or q i 0))
+      → AreRode faces stood now (take (i + 1) q) old (set riders (get_or q i 0) rider)
+  rode_more {rider} long is r lr = elim (cases_eq r (get_or q i 0)) [
+    | inl e ↦ rw (
+      e,
+      get_or-set_same riders (get_or q i 0) rider (begun 0) (omega (arith, low, long)),
+      is,
+      unmoved,
+      among_more q i (get_or q i 0) l,
+      or_right _ _ (eq-eqb (get_or q i 0) (get_or q i 0) refl),
+    ) refl
+    | inr ne ↦ get_or-set_other riders (get_or q i 0) r rider (begun 0) ne
+        ∙ (each r lr ∙ rw (among_more q i r l, ne_eqb r (get_or q i 0) ne, or-false (is_among r (take i q))) refl)
+  ]
 
 pub running_more : (p : ℕ → Bool) (q : List ℕ) (i : ℕ) → i < length q → filter p (take (i + 1) q) ≡ filter p (take i q)
     ++ cond (p (get_or q i 0)) (get_or q i 0 ∷ []) []

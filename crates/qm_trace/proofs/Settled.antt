@@ -1,34 +1,32 @@
 -- A settling: which riders it tells, how, and when the instant ends.
-use Rattle.std.proofs.Common.{◌≡◌, ◌≢◌, ℕ, ◌<◌, Bool, true, false, not, cond, eqb, ◌||◌, List, [], ◌∷◌, ◌++◌, length}
-use Rattle.std.proofs.Common.{set, Option, Some, None, sym, subst, ap, ◌∙◌, refl, inl, inr, arith}
+use Rattle.std.proofs.Common.{replicate, ◌≡◌, ◌≢◌, ℕ, ◌<◌, Bool, true, false, not, cond, eqb, List, ◌∷◌, ◌++◌, length}
+use Rattle.std.proofs.Common.{set, Option, Some, None, sym, subst, ap, ◌∙◌, refl, inl, inr, arith, []}
 use Rattle.std.proofs.lemmas.Bool.{cases_eq, eq-eqb, ne_eqb, eqb-true, false≢true, or_left}
 use Rattle.std.proofs.lemmas.List.{ext_get_or, get_or-set_same, get_or-set_other}
 use Rattle.std.specs.List.{list_any}
-use Rattle.sum_laws.proofs.Tests.{same_test}
-use Rattle.def_mesh.specs.{Faces.Faces, Darts.darts, Darts.all_darts, Darts.from_of, Darts.next_of, Darts.prev_of}
-use Rattle.def_mesh.specs.{Darts.to_of, Manifold.IsManifold, Vertices.fan_of, Vertices.vertex_count}
-use Rattle.def_mesh.specs.Components.{start_darts}
-use Rattle.def_cut.specs.{FullCut.is_on, declared.moving.Moving.Moving, Motion.State, Motion.end_of, Motion.ridden}
-use Rattle.def_cut.specs.Motion.{is_among, arrives_at, stop_of, or_else, straight}
-use Rattle.def_cut.specs.{Motion.begun, Motion.step, Motion.start, Motion.after_steps, Traced.terrain_of}
-use Rattle.def_cut.specs.Events.{EventState, waiting, darts_in, rider_at, note_at}
-use Rattle.def_cut.specs.Events.{may_ride, after_ride_of, leads_to, may_settle, told}
-use Rattle.def_cut.specs.Events.{told_at, all_told, decided_at, are_ends_settled, closed}
-use Rattle.def_cut.specs.Events.{after_settling, Event, Leads, first_event_state}
-use Rattle.def_cut.specs.{Events.ridden_once_more, Events.IsMotionOf, Events.Event.Ride, Events.Event.Settle}
-use Rattle.mesh_laws.proofs.{Darts.next_of-prev_of, Darts.prev_of-next_of, Vertices.all_below}
+use Rattle.motion_laws.proofs.Order.{v_low, all_ridden, parts, stood_then}
 use Rattle.motion_laws.proofs.Among.{any_at, any_where, among_range, in_filter, from_filter}
-use Rattle.motion_laws.proofs.Marks.{none_on, noted_more}
-use Rattle.motion_laws.proofs.Order.{all_ridden, parts, stood_then, v_low}
-use Rattle.motion_laws.proofs.Shown.{AreShown, IsNoted, long, noted_rides, shown_by, told_shown, told_long}
-use Rattle.motion_laws.proofs.Steps.{IsNext, is_next, stands}
+use Rattle.motion_laws.proofs.Shown.{IsNoted, noted_rides, shown_by, told_shown, told_long}
+use Rattle.motion_laws.proofs.{Marks.none_on, Marks.noted_more, Steps.is_next, Steps.stands, Terrains.IsReached}
+use Rattle.sum_laws.proofs.Tests.{same_test}
+use Rattle.def_mesh.specs.Darts.{darts, all_darts, from_of, next_of, prev_of, to_of}
+use Rattle.def_mesh.specs.{Faces.Faces, Manifold.IsManifold, Vertices.fan_of, Vertices.vertex_count}
+use Rattle.def_mesh.specs.{Components.start_darts, Kinds.is_inner, Kinds.is_singular}
+use Rattle.def_cut.specs.Motion.{State, ridden, is_among, stop_of, or_else, straight, begun, step, start, Terrain}
+use Rattle.def_cut.specs.Events.{EventState, waiting, darts_in, rider_at, note_at, after_ride_of, leads_to, may_settle}
+use Rattle.def_cut.specs.Events.{told, told_at, decided_at, are_ends_settled, closed, after_settling, Event, Leads}
+use Rattle.def_cut.specs.Events.{first_event_state, ridden_once_more, IsMotionOf}
+use Rattle.def_cut.specs.{FullCut.is_on, declared.moving.Moving.Moving, Traced.terrain_of, Events.Event.Ride}
+use Rattle.def_cut.specs.Events.Event.{Settle}
+use Rattle.mesh_laws.proofs.{Darts.next_of-prev_of, Darts.prev_of-next_of, Vertices.all_below}
 use Rattle.site_laws.proofs.Sites.{terrain, started}
-use Rattle.qm_trace.specs.{declared.ground.Site.Site, declared.notes.Notes.Notes, declared.telling.Riders.Riders}
-use Rattle.qm_trace.specs.Motions.{AreNotes, CanTell, is_untold, tally, told_by}
+use Rattle.qm_trace.proofs.Reaching.{after, reached, leads_more, noted_among, reached_at, ride_fresh, ride_noted}
+use Rattle.qm_trace.proofs.Reaching.{stop_alike, told_place, MayRide, Reached, as_long, noted_short, noted_where}
+use Rattle.qm_trace.proofs.Reaching.{ridden_at, ride_reached, rider_shown}
+use Rattle.qm_trace.proofs.{Counting.untold_is, Counting.waiting_told, Instants.stop_same}
+use Rattle.qm_trace.specs.Motions.{AreNotes, CanTell, is_untold, tally, told_by, AreCounted}
 use Rattle.qm_trace.specs.Tables.{IsSite, stop_by, stop_here}
-use Rattle.qm_trace.proofs.{Counting.untold_is, Instants.IsTold, Instants.stop_same, Reaching.leads_more}
-use Rattle.qm_trace.proofs.Reaching.{noted_among, reached_at, ride_fresh, ride_noted}
-use Rattle.qm_trace.proofs.Reaching.{shown_at, stop_alike, told_place, within_of}
+use Rattle.qm_trace.specs.{declared.ground.Site.Site, declared.notes.Notes.Notes, declared.telling.Riders.Riders}
 
 -- Some noted dart ends at v, by the marks at the darts before those that leave v.
 pub end_is : (faces : Faces) (v : ℕ) (ds : List ℕ) (taken : List Bool) → ((d : ℕ) → is_on taken d ≡ is_among d ds)
@@ -58,333 +56,248 @@ end_is faces v ds taken is low m = same_test _ _ to from
             (omega (arith, (terrain faces m).half.next_low d (low d n)))) t)
             (ap (is_on taken) (prev_of-next_of d) ∙ (is d ∙ n))
 
-module _ (faces : Faces) (m : IsManifold faces) where
-  -- Each settled vertex is the end of a noted dart.
-  abbrev pub AreEnds : (x : EventState) → Type 0
-  AreEnds x = (v : ℕ) → is_on x.settled v ≡ true → (d : ℕ) × (is_among d (darts_in x.noted) ≡ true)
-      × (end_of (terrain_of faces) d ≡ v)
+-- Each settled vertex is the end of a noted dart.
+abbrev pub AreEnds : (faces : Faces) (x : EventState) → Type 0
+AreEnds faces x = (v : ℕ) → is_on x.settled v ≡ true → (d : ℕ) × (is_among d (darts_in x.noted) ≡ true)
+    × (to_of faces d ≡ v)
 
-  ends_ride : (x : EventState) (z : IsMotionOf faces x) (r : ℕ) → r < length x.riders → may_ride x r ≡ true → AreEnds x
-      → AreEnds (after_ride_of (terrain_of faces) x r)
-  ends_ride x z r l may old v on = by_dart (old v on)
-    where
-      by_dart : (d : ℕ) × (is_among d (darts_in x.noted) ≡ true) × (end_of (terrain_of faces) d ≡ v)
-          → (d : ℕ) × (is_among d (darts_in (set x.noted r (Some (rider_at x.riders r).dart))) ≡ true)
-          × (end_of (terrain_of faces) d ≡ v)
-      by_dart (d, n, e) = (
-        d,
-        noted_more x.noted r (rider_at x.riders r).dart d (ride_noted faces m x z r l may)
-            (ride_fresh faces m x z r l may) ∙ or_left (is_among d (darts_in x.noted))
-            (eqb d (rider_at x.riders r).dart) n,
-        e,
-      )
+ends_ride : {faces : Faces} {x : EventState} {r : ℕ} → MayRide faces x r → AreEnds faces x
+    → AreEnds faces (after_ride_of (terrain_of faces) x r)
+ends_ride {faces} {x} {r} k old v on = let d = old v on in (
+  d.0,
+  noted_more x.noted r (rider_at x.riders r).dart d.0 (ride_noted k) (ride_fresh k) ∙ or_left _ _ d.1,
+  d.2,
+)
 
-  pub settle_low : (x : EventState) (z : IsMotionOf faces x) (v : ℕ) → may_settle (terrain_of faces) x v ≡ true
-      → v < vertex_count faces
-  settle_low x z v may = v_low (terrain_of faces) (terrain faces m) (start_darts faces) (started faces m)
-      (vertex_count faces) (all_below faces) (after_steps (terrain_of faces) (start_darts faces)
-      (within_of faces m x z).instant) (reached_at faces m (within_of faces m x z).instant) x
-      (within_of faces m x z).shown v may
+-- A vertex that may be settled.
+pub record MaySettle (faces : Faces) (x : EventState) (v : ℕ) : Type 0 where
+  pub now : Reached faces x
+  pub may : may_settle (terrain_of faces) x v ≡ true
 
-  pub settle_parts : (x : EventState) (z : IsMotionOf faces x) (v : ℕ) → may_settle (terrain_of faces) x v ≡ true
-      → (waiting x.riders x.noted ≡ 0) × (list_any (leads_to (terrain_of faces) v) (darts_in x.noted) ≡ true)
-      × (is_on x.settled v ≡ false)
-  settle_parts x z v may = parts (terrain_of faces) (terrain faces m) (start_darts faces) (started faces m)
-      (vertex_count faces) (all_below faces) (after_steps (terrain_of faces) (start_darts faces)
-      (within_of faces m x z).instant) (reached_at faces m (within_of faces m x z).instant) x
-      (within_of faces m x z).shown v may
+module _ {faces : Faces} {x : EventState} {v : ℕ} (k : MaySettle faces x v) where
+  open k use {now, may, now.{mesh, steps, shown}}
 
-  pub ends_decided : (x : EventState) (z : IsMotionOf faces x) (v : ℕ) → may_settle (terrain_of faces) x v ≡ true
-      → AreEnds x → AreEnds (decided_at (terrain_of faces) x v)
-  ends_decided x z v may old u on = elim (cases_eq u v) [
-    | inl e ↦ by_dart e (any_where (leads_to (terrain_of faces) v) (darts_in x.noted) (settle_parts x z v may).1)
+  pub settle_low : v < vertex_count faces
+  settle_low = v_low (terrain_of faces) (terrain faces mesh) (start_darts faces) (started faces mesh)
+      (vertex_count faces) (all_below faces) (after faces steps) (reached_at mesh steps) x shown v may
+
+  pub settle_parts : (waiting x.riders x.noted ≡ 0)
+      × (list_any (leads_to (terrain_of faces) v) (darts_in x.noted) ≡ true) × (is_on x.settled v ≡ false)
+  settle_parts = parts (terrain_of faces) (terrain faces mesh) (start_darts faces) (started faces mesh)
+      (vertex_count faces) (all_below faces) (after faces steps) (reached_at mesh steps) x shown v may
+
+  -- A noted dart ends there.
+  pub some_end : (d : ℕ) × (is_among d (darts_in x.noted) ≡ true) × (to_of faces d ≡ v)
+  some_end = let d = any_where (leads_to (terrain_of faces) v) (darts_in x.noted) settle_parts.1 in
+      (d.0, d.1, eqb-true (to_of faces d.0) v d.2)
+
+  pub ends_decided : AreEnds faces x → AreEnds faces (decided_at (terrain_of faces) x v)
+  ends_decided old u on = elim (cases_eq u v) [
+    | inl e ↦ (some_end.0, some_end.1, some_end.2 ∙ sym e)
     | inr ne ↦ old u (sym (get_or-set_other x.settled v u true false ne) ∙ on)
   ]
-    where
-      by_dart : u ≡ v → (d : ℕ) × (is_among d (darts_in x.noted) ≡ true) × (leads_to (terrain_of faces) v d ≡ true)
-          → (d : ℕ) × (is_among d (darts_in x.noted) ≡ true) × (end_of (terrain_of faces) d ≡ u)
-      by_dart e (d, n, t) = (d, n, eqb-true (end_of (terrain_of faces) d) v t ∙ sym e)
 
-  ends_settle : (x : EventState) (z : IsMotionOf faces x) (v : ℕ) → may_settle (terrain_of faces) x v ≡ true → AreEnds x
-      → AreEnds (after_settling (terrain_of faces) x v)
-  ends_settle x z v may old = at (are_ends_settled (terrain_of faces) (set x.settled v true) (darts_in x.noted))
+  ends_settle : AreEnds faces x → AreEnds faces (after_settling (terrain_of faces) x v)
+  ends_settle old = at (are_ends_settled (terrain_of faces) (set x.settled v true) (darts_in x.noted))
     where
-      at : (b : Bool) → AreEnds (cond b (closed (decided_at (terrain_of faces) x v))
+      at : (b : Bool) → AreEnds faces (cond b (closed (decided_at (terrain_of faces) x v))
           (decided_at (terrain_of faces) x v))
       at true u on = absurd (false≢true (sym (none_on (length (set x.settled v true)) u) ∙ on))
-      at false u on = ends_decided x z v may old u on
+      at false u on = ends_decided old u on
 
+  pub ends_now : AreEnds faces x → (u : ℕ) → is_on (set x.settled v true) u ≡ true
+      → (r : ℕ) × (d : ℕ) × (note_at x.noted r ≡ Some d) × (to_of faces d ≡ u)
+  ends_now old u on =
+      let d = ends_decided old u on in
+      let r = noted_where x.noted d.0 d.1 in
+      (r.0, d.0, r.2, d.2)
+
+  pub settle_reached : IsMotionOf faces (after_settling (terrain_of faces) x v)
+  settle_reached = (
+    now.led.0 ++ Settle v ∷ [],
+    leads_more (terrain_of faces) (first_event_state faces) x now.led.0 (Settle v) now.led.1 may,
+  )
+
+module _ {faces : Faces} (m : IsManifold faces) where
   ends_from : (done es : List Event) (x y : EventState) → Leads (terrain_of faces) (first_event_state faces) done x
-      → AreEnds x → Leads (terrain_of faces) x es y → AreEnds y
-  ends_from done [] x y l old e = subst AreEnds e old
-  ends_from done (Ride r ∷ es) x y l old e = ends_from (done ++ Ride r ∷ []) es (after_ride_of (terrain_of faces) x r) y
-      (leads_more (terrain_of faces) (first_event_state faces) x done (Ride r) l e.0)
-      (ends_ride x (done, l) r e.0.0 e.0.1 old) e.1
+      → AreEnds faces x → Leads (terrain_of faces) x es y → AreEnds faces y
+  ends_from done [] x y l old e = subst (AreEnds faces) e old
+  ends_from done (Ride r ∷ es) x y l old e =
+      let k : MayRide faces x r = record { now = reached m x (done, l); low = e.0.0; may = e.0.1 } in
+      ends_from (ride_reached k).0 es (after_ride_of (terrain_of faces) x r) y (ride_reached k).1 (ends_ride k old) e.1
   ends_from done (Settle v ∷ es) x y l old e =
-      ends_from (done ++ Settle v ∷ []) es (after_settling (terrain_of faces) x v) y
-      (leads_more (terrain_of faces) (first_event_state faces) x done (Settle v) l e.0)
-      (ends_settle x (done, l) v e.0 old) e.1
+      let k : MaySettle faces x v = record { now = reached m x (done, l); may = e.0 } in
+      ends_from (settle_reached k).0 es (after_settling (terrain_of faces) x v) y (settle_reached k).1
+      (ends_settle k old) e.1
 
-  pub are_ends : (x : EventState) → IsMotionOf faces x → AreEnds x
-  are_ends x z = ends_from [] z.0 (first_event_state faces) x refl
-      (λ v on. absurd (false≢true (sym (none_on (vertex_count faces) v) ∙ on))) z.1
+pub are_ends : {faces : Faces} {x : EventState} → Reached faces x → AreEnds faces x
+are_ends {faces} {x} now = ends_from now.mesh [] now.led.0 (first_event_state faces) x refl
+    (λ v on. absurd (false≢true (sym (none_on (vertex_count faces) v) ∙ on))) now.led.1
 
-  -- A noted dart is one that is ridden in the instant.
-  pub noted_low_at : (x : EventState) → IsMotionOf faces x → (d : ℕ) → is_among d (darts_in x.noted) ≡ true
-      → d < darts faces
-  noted_low_at x z d n = (reached_at faces m (within_of faces m x z).instant).low d
-      (noted_rides (terrain_of faces) (after_steps (terrain_of faces) (start_darts faces)
-      (within_of faces m x z).instant).stood
-      (ridden (after_steps (terrain_of faces) (start_darts faces) (within_of faces m x z).instant).riders)
-      (is_on x.settled) (after_steps (terrain_of faces) (start_darts faces) (within_of faces m x z).instant).riders
-      x.riders x.noted d (within_of faces m x z).shown.riders n)
+-- A noted dart is one that is ridden in the instant.
+pub noted_low_at : {faces : Faces} {x : EventState} → Reached faces x → (d : ℕ) → is_among d (darts_in x.noted) ≡ true
+    → d < darts faces
+noted_low_at {faces} {x} now d n = (reached_at now.mesh now.steps).low d (noted_rides (terrain_of faces)
+    (after faces now.steps).stood (ridden_at faces now.steps) (is_on x.settled) (after faces now.steps).riders x.riders
+    x.noted d now.shown.riders n)
 
-  -- A settling of v.
-  module _ (x : EventState) (z : IsMotionOf faces x) (v : ℕ) (may : may_settle (terrain_of faces) x v ≡ true)
-      (notes : Notes) (noted_is : notes.noted.items ≡ x.noted) (are : AreNotes notes)
-      (taken_long : length notes.taken.items ≡ length x.covered) (site : Site)
-      (at_v : IsSite faces (is_on x.stood v) v site) where
-    abbrev s : State
-    s = after_steps (terrain_of faces) (start_darts faces) (within_of faces m x z).instant
+-- A settling, with the notes of the state and what is known of the vertex.
+pub record Settling (faces : Faces) (x : EventState) (v : ℕ) (notes : Notes) (site : Site) : Type 0 where
+  pub k : MaySettle faces x v
+  pub noted_is : notes.noted.items ≡ x.noted
+  pub are : AreNotes notes
+  pub taken_long : length notes.taken.items ≡ length x.covered
+  pub at_v : IsSite faces (is_on x.stood v) v site
 
-    -- All noted darts are ridden in this instant, and no others.
-    all_noted : darts_in x.noted
-        ≡ ridden (after_steps (terrain_of faces) (start_darts faces) (within_of faces m x z).instant).riders
-    all_noted = all_ridden (terrain_of faces) (terrain faces m) (start_darts faces) (started faces m)
-        (vertex_count faces) (all_below faces) (after_steps (terrain_of faces) (start_darts faces)
-        (within_of faces m x z).instant) (reached_at faces m (within_of faces m x z).instant) x
-        (within_of faces m x z).shown (settle_parts x z v may).0
+module _ {faces : Faces} {x : EventState} {v : ℕ} {notes : Notes} {site : Site}
+    (at : Settling faces x v notes site) where
+  open at use {k, noted_is, are, taken_long, at_v, k.{now, now.{mesh, steps, shown}}}
 
-    among_ridden : (d : ℕ) → is_among d (darts_in x.noted) ≡ true
-        → is_among d (ridden (after_steps (terrain_of faces) (start_darts faces)
-        (within_of faces m x z).instant).riders) ≡ true
-    among_ridden d n = sym (ap (is_among d) all_noted) ∙ n
+  abbrev g : Terrain
+  g = terrain_of faces
 
-    then : is_on x.stood v ≡ (after_steps (terrain_of faces) (start_darts faces) (within_of faces m x z).instant).stood
-        v
-    then = stood_then (terrain_of faces) (terrain faces m) (start_darts faces) (started faces m) (vertex_count faces)
-        (all_below faces) (after_steps (terrain_of faces) (start_darts faces) (within_of faces m x z).instant)
-        (reached_at faces m (within_of faces m x z).instant) x (within_of faces m x z).shown (settle_parts x z v may).0
-        v (settle_low x z v may) (settle_parts x z v may).2
+  abbrev s : State
+  s = after faces steps
 
-    marked : (d : ℕ) → is_on notes.taken.items d
-        ≡ is_among d (ridden (after_steps (terrain_of faces) (start_darts faces)
-        (within_of faces m x z).instant).riders)
-    marked d = are.taken_is d ∙ ap (is_among d) (ap darts_in noted_is ∙ all_noted)
+  abbrev ds : List ℕ
+  ds = ridden s.riders
 
-    told_now : IsTold faces (after_steps (terrain_of faces) (start_darts faces) (within_of faces m x z).instant)
-    told_now = record {
-      apart = (reached_at faces m (within_of faces m x z).instant).apart;
-      low =
-          (reached_at faces m (within_of faces m x z).instant).low;
-      left =
-          (reached_at faces m (within_of faces m x z).instant).left;
-    }
+  since : IsReached g (start_darts faces) s
+  since = reached_at mesh steps
 
-    -- Why a rider that ends at v stops, by the tables, by the motion and by the events.
-    stop_then : (d : ℕ) → is_among d (darts_in x.noted) ≡ true → to_of faces d ≡ v
-        → stop_here faces site notes.taken.items d
-        ≡ stop_of (terrain_of faces) (after_steps (terrain_of faces) (start_darts faces)
-        (within_of faces m x z).instant).stood
-        (ridden (after_steps (terrain_of faces) (start_darts faces) (within_of faces m x z).instant).riders) d
-    stop_then d n e = by_site
-        ∙ stop_same faces m (after_steps (terrain_of faces) (start_darts faces) (within_of faces m x z).instant)
-        told_now notes.taken.items marked d (is_on x.stood v) (among_ridden d n) (then
-        ∙ ap (after_steps (terrain_of faces) (start_darts faces) (within_of faces m x z).instant).stood (sym e))
+  -- All noted darts are ridden in this instant, and no others.
+  all_noted : darts_in x.noted ≡ ds
+  all_noted = all_ridden g (terrain faces mesh) (start_darts faces) (started faces mesh) (vertex_count faces)
+      (all_below faces) s since x shown (settle_parts k).0
+
+  among_ridden : (d : ℕ) → is_among d (darts_in x.noted) ≡ true → is_among d ds ≡ true
+  among_ridden d n = sym (ap (is_among d) all_noted) ∙ n
+
+  then : is_on x.stood v ≡ s.stood v
+  then = stood_then g (terrain faces mesh) (start_darts faces) (started faces mesh) (vertex_count faces)
+      (all_below faces) s since x shown (settle_parts k).0 v (settle_low k) (settle_parts k).2
+
+  marked : (d : ℕ) → is_on notes.taken.items d ≡ is_among d ds
+  marked d = are.taken_is d ∙ ap (is_among d) (ap darts_in noted_is ∙ all_noted)
+
+  -- Why a rider that ends at v stops, by the tables, by the motion and by the events.
+  stop_then : (d : ℕ) → is_among d (darts_in x.noted) ≡ true → to_of faces d ≡ v
+      → stop_here faces site notes.taken.items d ≡ stop_of g s.stood ds d
+  stop_then d n e = by_site ∙ stop_same mesh since notes.taken.items marked d (is_on x.stood v) (among_ridden d n)
+      (then ∙ ap s.stood (sym e))
+    where
+      by_site : stop_here faces site notes.taken.items d ≡ stop_by faces (not (is_inner faces (to_of faces d)))
+          (is_singular faces (to_of faces d)) (is_on x.stood v) notes.taken.items d
+      by_site = rw (at_v.boundary, at_v.singular, at_v.stood_is, e) refl
+
+  stop_now_is : (d : ℕ) → is_among d (darts_in x.noted) ≡ true → to_of faces d ≡ v
+      → stop_here faces site notes.taken.items d ≡ stop_of g (is_on x.stood) (darts_in x.noted) d
+  stop_now_is d n e = stop_then d n e ∙ (ap (λ (ds : List ℕ). stop_of g s.stood ds d) (sym all_noted)
+      ∙ stop_alike g s.stood (is_on x.stood) (darts_in x.noted) d
+      (ap s.stood e ∙ (sym then ∙ ap (is_on x.stood) (sym e))))
+
+  -- Who goes on leaves its dart.
+  leaves : (d : ℕ) → is_among d ds ≡ true → stop_of g s.stood ds d ≡ None → or_else (straight g d) d ≢ d
+  leaves d n go same =
+      let next = is_next g (terrain faces mesh) s.stood ds d (or_else (straight g d) d) (since.low d n) go refl in
+      ((terrain faces mesh).half.corners_differ d (since.low d n)).0 (ap (from_of faces) (sym same) ∙ next.at)
+
+  -- A rider with a note whose end is not settled runs along its noted dart.
+  still : (r d : ℕ) → note_at x.noted r ≡ Some d → to_of faces d ≡ v → ((rider_at x.riders r).stop ≡ None)
+      × ((rider_at x.riders r).dart ≡ d)
+  still r d n e = (ap (λ (q : Moving). q.stop) as_ridden ∙ was.0, ap (λ (q : Moving). q.dart) as_ridden ∙ sym was.1)
+    where
+      before : Moving
+      before = rider_at s.riders r
+
+      shows : IsNoted before (note_at x.noted r)
+          × (rider_at x.riders r ≡ shown_by g s.stood ds (is_on x.settled) before (note_at x.noted r))
+      shows = rider_shown now r (omega (arith, noted_short x.noted r d n, as_long now))
+
+      was : (before.stop ≡ None) × (d ≡ before.dart)
+      was = subst (IsNoted before) n shows.0
+
+      as_ridden : rider_at x.riders r ≡ ridden_once_more before
+      as_ridden = shows.1 ∙ rw (n, e, (settle_parts k).2) refl
+
+  pub can_tell : (riders : Riders) → riders.list.items ≡ x.riders → CanTell faces site v notes riders
+  can_tell riders is = record {
+    taken_long = taken_long ∙ shown.covered_long;
+    low = λ d n. noted_low_at now d (noted d n);
+    untold = λ r d n e. let t = still r d (sym (ap (λ ns. note_at ns r) noted_is) ∙ n) e in (
+      ap (λ (rs : List Moving). (rider_at rs r).stop) is ∙ t.0,
+      ap (λ (rs : List Moving). (rider_at rs r).dart) is ∙ t.1,
+    );
+    onward = λ d n e go. leaves d (among_ridden d (noted d n)) (sym (stop_then d (noted d n) e) ∙ go);
+  }
+    where
+      noted : (d : ℕ) → is_among d (darts_in notes.noted.items) ≡ true → is_among d (darts_in x.noted) ≡ true
+      noted d n = sym (ap (λ ns. is_among d (darts_in ns)) noted_is) ∙ n
+
+  -- Somebody stands at v from now on.
+  stands_then : set x.stood v true ≡ (decided_at g x v).stood
+  stands_then = ap (set x.stood v) (sym (rw (then, all_noted) (ap (step g s).stood (sym (some_end k).2)
+      ∙ stands g (terrain faces mesh) (λ e. is_among e (start_darts faces)) (start g (start_darts faces)) s since
+      (some_end k).0 (among_ridden (some_end k).0 (some_end k).1))))
+
+  -- The instant ends where nobody is untold.
+  closed_where : eqb (tally is_untold (decided_at g x v).riders x.noted) 0
+      ≡ are_ends_settled g (set x.settled v true) (darts_in x.noted)
+  closed_where = untold_is g s.stood ds (is_on (set x.settled v true)) s.riders (decided_at g x v).riders x.noted
+      (rw all_noted (told_shown g s.stood ds (is_on x.settled) (is_on (set x.settled v true)) v (is_on x.stood)
+      (λ u ne. get_or-set_other x.settled v u true false ne)
+      (get_or-set_same x.settled v true false (omega (arith, settle_low k, shown.settled_long)))
+      (settle_parts k).2 then s.riders x.riders x.noted shown.riders)) (λ d n. leaves d (among_ridden d n))
+
+  -- The riders told so are those of the settling.
+  module _ {new : Riders} (counted : AreCounted new x.noted)
+      (told_so : (r : ℕ) → rider_at new.list.items r
+      ≡ told_by faces site notes.taken.items v (note_at x.noted r) (rider_at x.riders r)) where
+    riders_are : new.list.items ≡ (decided_at g x v).riders
+    riders_are = ext_get_or (begun 0) new.list.items (decided_at g x v).riders
+        (sym counted.long ∙ (same ∙ sym (told_long g (is_on x.stood) (darts_in x.noted) (is_on x.stood) v x.riders
+        x.noted same))) (λ r h. at_rider r (omega (arith, h, same, counted.long)))
       where
-        by_site : stop_here faces site notes.taken.items d
-            ≡ stop_by faces (not (Rattle.def_mesh.specs.Kinds.is_inner faces (to_of faces d)))
-            (Rattle.def_mesh.specs.Kinds.is_singular faces (to_of faces d)) (is_on x.stood v) notes.taken.items d
-        by_site = rw (at_v.boundary, at_v.singular, at_v.stood_is, e) refl
+        same : length x.noted ≡ length x.riders
+        same = omega (arith, as_long now)
 
-    stop_now_is : (d : ℕ) → is_among d (darts_in x.noted) ≡ true → to_of faces d ≡ v
-        → stop_here faces site notes.taken.items d ≡ stop_of (terrain_of faces) (is_on x.stood) (darts_in x.noted) d
-    stop_now_is d n e =
-        stop_then d n e
-        ∙ (ap (λ (ds : List ℕ). stop_of (terrain_of faces) (after_steps (terrain_of faces) (start_darts faces)
-        (within_of faces m x z).instant).stood ds d) (sym all_noted)
-        ∙ stop_alike (terrain_of faces) (after_steps (terrain_of faces) (start_darts faces)
-        (within_of faces m x z).instant).stood (is_on x.stood) (darts_in x.noted) d
-        (ap (after_steps (terrain_of faces) (start_darts faces) (within_of faces m x z).instant).stood e
-        ∙ (sym then ∙ ap (is_on x.stood) (sym e))))
-
-    -- Who goes on leaves its dart.
-    leaves : (d : ℕ) → is_among d
-        (ridden (after_steps (terrain_of faces) (start_darts faces) (within_of faces m x z).instant).riders) ≡ true
-        → stop_of (terrain_of faces) (after_steps (terrain_of faces) (start_darts faces)
-        (within_of faces m x z).instant).stood
-        (ridden (after_steps (terrain_of faces) (start_darts faces) (within_of faces m x z).instant).riders) d ≡ None
-        → or_else (straight (terrain_of faces) d) d ≢ d
-    leaves d n go same =
-        let low : d < darts faces = (reached_at faces m (within_of faces m x z).instant).low d n in
-        let next : IsNext (terrain_of faces) (terrain faces m) (after_steps (terrain_of faces) (start_darts faces)
-        (within_of faces m x z).instant).stood
-        (ridden (after_steps (terrain_of faces) (start_darts faces) (within_of faces m x z).instant).riders) d
-        (or_else (straight (terrain_of faces) d) d) =
-        is_next (terrain_of faces) (terrain faces m) (after_steps (terrain_of faces) (start_darts faces)
-        (within_of faces m x z).instant).stood
-        (ridden (after_steps (terrain_of faces) (start_darts faces) (within_of faces m x z).instant).riders) d
-        (or_else (straight (terrain_of faces) d) d) low go refl in
-        ((terrain faces m).half.corners_differ d low).0 (ap (from_of faces) (sym same) ∙ next.at)
-
-    lengths : (length x.riders
-        ≡ length (after_steps (terrain_of faces) (start_darts faces) (within_of faces m x z).instant).riders)
-        × (length x.noted ≡ length (after_steps (terrain_of faces) (start_darts faces)
-        (within_of faces m x z).instant).riders)
-    lengths = long (terrain_of faces) (after_steps (terrain_of faces) (start_darts faces)
-        (within_of faces m x z).instant).stood
-        (ridden (after_steps (terrain_of faces) (start_darts faces) (within_of faces m x z).instant).riders)
-        (is_on x.settled) (after_steps (terrain_of faces) (start_darts faces) (within_of faces m x z).instant).riders
-        x.riders x.noted (within_of faces m x z).shown.riders
-
-    -- A rider with a note whose end is not settled runs along its noted dart.
-    still : (r d : ℕ) → note_at x.noted r ≡ Some d → to_of faces d ≡ v → ((rider_at x.riders r).stop ≡ None)
-        × ((rider_at x.riders r).dart ≡ d)
-    still r d n e = (ap (λ (q : Moving). q.stop) as_ridden ∙ was.0, ap (λ (q : Moving). q.dart) as_ridden ∙ sym was.1)
-      where
-        low : r < length x.riders
-        low = omega (arith, Rattle.qm_trace.proofs.Reaching.noted_short x.noted r d n, lengths.0, lengths.1)
-
-        shows : IsNoted (rider_at (after_steps (terrain_of faces) (start_darts faces)
-            (within_of faces m x z).instant).riders r) (note_at x.noted r)
-            × (rider_at x.riders r ≡ shown_by (terrain_of faces) (after_steps (terrain_of faces) (start_darts faces)
-            (within_of faces m x z).instant).stood
-            (ridden (after_steps (terrain_of faces) (start_darts faces) (within_of faces m x z).instant).riders)
-            (is_on x.settled) (rider_at (after_steps (terrain_of faces) (start_darts faces)
-            (within_of faces m x z).instant).riders r) (note_at x.noted r))
-        shows = shown_at (terrain_of faces) (after_steps (terrain_of faces) (start_darts faces)
-            (within_of faces m x z).instant).stood
-            (ridden (after_steps (terrain_of faces) (start_darts faces) (within_of faces m x z).instant).riders)
-            (is_on x.settled) (after_steps (terrain_of faces) (start_darts faces)
-            (within_of faces m x z).instant).riders x.riders x.noted (within_of faces m x z).shown.riders r low
-
-        was : ((rider_at (after_steps (terrain_of faces) (start_darts faces) (within_of faces m x z).instant).riders
-            r).stop ≡ None) × (d ≡ (rider_at (after_steps (terrain_of faces) (start_darts faces)
-            (within_of faces m x z).instant).riders r).dart)
-        was = subst (IsNoted (rider_at (after_steps (terrain_of faces) (start_darts faces)
-            (within_of faces m x z).instant).riders r)) n shows.0
-
-        as_ridden : rider_at x.riders r
-            ≡ ridden_once_more (rider_at (after_steps (terrain_of faces) (start_darts faces)
-            (within_of faces m x z).instant).riders r)
-        as_ridden = shows.1
-            ∙ (ap (shown_by (terrain_of faces) (after_steps (terrain_of faces) (start_darts faces)
-            (within_of faces m x z).instant).stood
-            (ridden (after_steps (terrain_of faces) (start_darts faces) (within_of faces m x z).instant).riders)
-            (is_on x.settled) (rider_at (after_steps (terrain_of faces) (start_darts faces)
-            (within_of faces m x z).instant).riders r)) n
-            ∙ ap (λ (b : Bool). cond b (Rattle.def_cut.specs.Motion.after_ride (terrain_of faces) d
-            (rider_at (after_steps (terrain_of faces) (start_darts faces)
-            (within_of faces m x z).instant).riders r).rides
-            (stop_of (terrain_of faces) (after_steps (terrain_of faces) (start_darts faces)
-            (within_of faces m x z).instant).stood
-            (ridden (after_steps (terrain_of faces) (start_darts faces)
-            (within_of faces m x z).instant).riders) d))
-            (ridden_once_more (rider_at (after_steps (terrain_of faces) (start_darts faces)
-            (within_of faces m x z).instant).riders r)))
-            (ap (is_on x.settled) e ∙ (settle_parts x z v may).2))
-
-    pub can_tell : (riders : Riders) → riders.list.items ≡ x.riders → CanTell faces site v notes riders
-    can_tell riders is = record {
-      taken_long = taken_long ∙ (within_of faces m x z).shown.covered_long;
-      low = λ d n. noted_low_at x z d (sym (ap (λ ns. is_among d (darts_in ns)) noted_is) ∙ n);
-      untold = λ r d n e. let t : ((rider_at x.riders r).stop ≡ None) × ((rider_at x.riders r).dart ≡ d) =
-          still r d (sym (ap (λ ns. note_at ns r) noted_is) ∙ n) e in (
-            ap (λ (rs : List Moving). (rider_at rs r).stop) is ∙ t.0,
-            ap (λ (rs : List Moving). (rider_at rs r).dart) is
-                ∙ t.1,
-          );
-      onward = λ d n e go. let a : is_among d (darts_in x.noted) ≡ true =
-          sym (ap (λ ns. is_among d (darts_in ns)) noted_is) ∙ n in
-          leaves d (among_ridden d a) (sym (stop_then d a e) ∙ go);
-    }
-
-    -- The riders told so are those of the settling.
-    pub told_are : (new : List Moving) → length new ≡ length x.riders
-        → ((r : ℕ) → rider_at new r ≡ told_by faces site notes.taken.items v (note_at x.noted r) (rider_at x.riders r))
-        → new ≡ (decided_at (terrain_of faces) x v).riders
-    told_are new l each =
-        ext_get_or (begun 0) new (decided_at (terrain_of faces) x v).riders
-        (l ∙ sym (told_long (terrain_of faces) (is_on x.stood) (darts_in x.noted) (is_on x.stood) v x.riders x.noted
-        (omega (arith, lengths.0, lengths.1)))) (λ r h. at r (omega (arith, h, l)))
-      where
         by_note : (r : ℕ) (n : Option ℕ) → note_at x.noted r ≡ n
             → told_by faces site notes.taken.items v n (rider_at x.riders r)
-            ≡ told_at (terrain_of faces) (is_on x.stood) (darts_in x.noted) v (rider_at x.riders r) n
+            ≡ told_at g (is_on x.stood) (darts_in x.noted) v (rider_at x.riders r) n
         by_note r None is = refl
         by_note r (Some d) is = elim (cases_eq (to_of faces d) v) [
-          | inl e ↦ rw (eq-eqb (to_of faces d) v e) (ap (told (terrain_of faces) d (rider_at x.riders r))
+          | inl e ↦ rw (eq-eqb (to_of faces d) v e) (ap (told g d (rider_at x.riders r))
               (stop_now_is d (noted_among x.noted r d is) e))
           | inr ne ↦ rw (ne_eqb (to_of faces d) v ne) refl
         ]
 
-        at : (r : ℕ) → r < length x.riders → rider_at new r ≡ rider_at (decided_at (terrain_of faces) x v).riders r
-        at r h = each r ∙ (by_note r (note_at x.noted r) refl
-            ∙ sym (told_place (terrain_of faces) (is_on x.stood) (darts_in x.noted) v x.riders x.noted r
-            (omega (arith, lengths.0, lengths.1)) h))
+        at_rider : (r : ℕ) → r < length x.riders → rider_at new.list.items r ≡ rider_at (decided_at g x v).riders r
+        at_rider r h = told_so r ∙ (by_note r (note_at x.noted r) refl
+            ∙ sym (told_place g (is_on x.stood) (darts_in x.noted) v x.riders x.noted r same h))
 
-    -- Somebody stands at v from now on.
-    pub stood_is : (is_on x.stood v || list_any (arrives_at (terrain_of faces) (darts_in x.noted) v) (darts_in x.noted))
-        ≡ true
-    stood_is = by_dart (any_where (leads_to (terrain_of faces) v) (darts_in x.noted) (settle_parts x z v may).1)
-      where
-        by_dart : (d : ℕ) × (is_among d (darts_in x.noted) ≡ true) × (leads_to (terrain_of faces) v d ≡ true)
-            → (is_on x.stood v || list_any (arrives_at (terrain_of faces) (darts_in x.noted) v) (darts_in x.noted))
-            ≡ true
-        by_dart (d, n, t) =
-            ap (λ b. b || list_any (arrives_at (terrain_of faces) (darts_in x.noted) v) (darts_in x.noted)) then
-            ∙ (ap (λ (ds : List ℕ). (after_steps (terrain_of faces) (start_darts faces)
-            (within_of faces m x z).instant).stood v || list_any (arrives_at (terrain_of faces) ds v) ds)
-            all_noted
-            ∙ (ap (step (terrain_of faces) (after_steps (terrain_of faces) (start_darts faces)
-            (within_of faces m x z).instant)).stood (sym (eqb-true (end_of (terrain_of faces) d) v t))
-            ∙ stands (terrain_of faces) (terrain faces m) (λ e. is_among e (start_darts faces))
-            (start (terrain_of faces) (start_darts faces)) (after_steps (terrain_of faces) (start_darts faces)
-            (within_of faces m x z).instant) (reached_at faces m (within_of faces m x z).instant) d
-            (among_ridden d n)))
+    pub still_wait : waiting x.riders x.noted ≡ waiting new.list.items x.noted
+    still_wait = sym (rw riders_are (waiting_told g (is_on x.stood) (darts_in x.noted) v x.riders x.noted))
 
-    -- The instant ends where nobody is untold.
-    pub closed_where : eqb (tally is_untold (decided_at (terrain_of faces) x v).riders x.noted) 0
-        ≡ are_ends_settled (terrain_of faces) (set x.settled v true) (darts_in x.noted)
-    closed_where = untold_is (terrain_of faces) (after_steps (terrain_of faces) (start_darts faces)
-        (within_of faces m x z).instant).stood
-        (ridden (after_steps (terrain_of faces) (start_darts faces) (within_of faces m x z).instant).riders)
-        (is_on (set x.settled v true))
-        (after_steps (terrain_of faces) (start_darts faces) (within_of faces m x z).instant).riders
-        (decided_at (terrain_of faces) x v).riders x.noted shown_now (λ d n. leaves d (among_ridden d n))
-      where
-        told_now : AreShown (terrain_of faces) (after_steps (terrain_of faces) (start_darts faces)
-            (within_of faces m x z).instant).stood
-            (ridden (after_steps (terrain_of faces) (start_darts faces) (within_of faces m x z).instant).riders)
-            (is_on (set x.settled v true)) (after_steps (terrain_of faces) (start_darts faces)
-            (within_of faces m x z).instant).riders
-            (all_told (terrain_of faces) (is_on x.stood)
-            (ridden (after_steps (terrain_of faces) (start_darts faces) (within_of faces m x z).instant).riders) v
-            x.riders x.noted) x.noted
-        told_now = told_shown (terrain_of faces) (after_steps (terrain_of faces) (start_darts faces)
-            (within_of faces m x z).instant).stood
-            (ridden (after_steps (terrain_of faces) (start_darts faces) (within_of faces m x z).instant).riders)
-            (is_on x.settled) (is_on (set x.settled v true)) v (is_on x.stood)
-            (λ u ne. get_or-set_other x.settled v u true false ne)
-            (get_or-set_same x.settled v true false
-            (omega (arith, settle_low x z v may, (within_of faces m x z).shown.settled_long)))
-            (settle_parts x z v may).2 then
-            (after_steps (terrain_of faces) (start_darts faces) (within_of faces m x z).instant).riders x.riders x.noted
-            (within_of faces m x z).shown.riders
+    closes : are_ends_settled g (set x.settled v true) (darts_in x.noted) ≡ eqb new.untold 0
+    closes = sym (rw (counted.untold, riders_are) closed_where)
 
-        shown_now : AreShown (terrain_of faces) (after_steps (terrain_of faces) (start_darts faces)
-            (within_of faces m x z).instant).stood
-            (ridden (after_steps (terrain_of faces) (start_darts faces) (within_of faces m x z).instant).riders)
-            (is_on (set x.settled v true)) (after_steps (terrain_of faces) (start_darts faces)
-            (within_of faces m x z).instant).riders (decided_at (terrain_of faces) x v).riders x.noted
-        shown_now = subst (λ (ds : List ℕ). AreShown (terrain_of faces)
-            (after_steps (terrain_of faces) (start_darts faces) (within_of faces m x z).instant).stood
-            (ridden (after_steps (terrain_of faces) (start_darts faces) (within_of faces m x z).instant).riders)
-            (is_on (set x.settled v true)) (after_steps (terrain_of faces) (start_darts faces)
-            (within_of faces m x z).instant).riders (all_told (terrain_of faces) (is_on x.stood) ds v x.riders
-            x.noted) x.noted) (sym all_noted) told_now
+    -- The state where the instant has ended, and where it has not.
+    pub closed_state : {noted : List (Option ℕ)} {settled : List Bool} → new.untold ≡ 0
+        → noted ≡ replicate (length x.noted) None → settled ≡ replicate (length (set x.settled v true)) false
+        → ◌≡◌ {A = EventState} (record {
+          riders = new.list.items;
+          stood = set x.stood v true;
+          covered = x.covered;
+          noted = noted;
+          settled = settled;
+        }) (after_settling (terrain_of faces) x v)
+    closed_state over n t = rw (closes, over, riders_are, stands_then, n, t) refl
 
-  pub settle_reached : (x : EventState) (z : IsMotionOf faces x) (v : ℕ) → may_settle (terrain_of faces) x v ≡ true
-      → IsMotionOf faces (after_settling (terrain_of faces) x v)
-  settle_reached x z v may =
-      (z.0 ++ Settle v ∷ [], leads_more (terrain_of faces) (first_event_state faces) x z.0 (Settle v) z.1 may)
+    pub open_state : new.untold ≢ 0 → ◌≡◌ {A = EventState} (record {
+      riders = new.list.items;
+      stood = set x.stood v true;
+      covered = x.covered;
+      noted = x.noted;
+      settled = set x.settled v true;
+    }) (after_settling (terrain_of faces) x v)
+    open_state some = rw (closes, ne_eqb new.untold 0 some, riders_are, stands_then) refl

@@ -10,7 +10,7 @@ use Rattle.def_cut.specs.declared.graph.Stop.{Stop}
 use Rattle.def_cut.specs.declared.graph.Stop.TheVariants.{Middle, Boundary, Singular, Trail, Tie}
 use Rattle.def_cut.specs.declared.moving.Moving.{Moving}
 use Rattle.qm_trace.specs.declared.ground.Site.{Site}
-use Rattle.def_cut.specs.Motion.{end_of, ridden, is_among, after_ride, later}
+use Rattle.def_cut.specs.Motion.{end_of, ridden, is_among, after_ride, later, State}
 use Rattle.def_cut.specs.Events.{rider_at}
 use Rattle.def_cut.specs.Traced.{finish, terrain_of}
 use Rattle.def_feature.specs.Marks.{AreMarks}
@@ -81,15 +81,19 @@ pub record IsQueue (riders : List Moving) (queue : List ℕ) : Type 0 where
   pub all : (r : ℕ) → r < length riders → (rider_at riders r).stop ≡ None → is_among r queue ≡ true
   pub apart : AreEachOnce queue
 
+-- The state after k steps of the motion beside these marked edges.
+abbrev pub state_at : (faces : Faces) (marks : List Bool) (k : ℕ) → State
+state_at faces marks k = later (terrain_of faces) (marked_first faces marks) k
+
 -- The riders after k steps of the motion, with marks where riders have stood and at the darts that are ridden next.
 pub record IsInstant
     (faces : Faces) (marks : List Bool) (k : ℕ) (riders : List Moving) (queue : List ℕ) (stood taken : List Bool)
     : Type 0 where
   pub marked : AreMarks faces marks
-  pub riders_are : riders ≡ (later (terrain_of faces) (marked_first faces marks) k).riders
+  pub riders_are : riders ≡ (state_at faces marks k).riders
   pub waits : IsQueue riders queue
   pub stood_is : (v : ℕ) → v < vertex_count faces
-      → is_on stood v ≡ (later (terrain_of faces) (marked_first faces marks) k).stood v
+      → is_on stood v ≡ (state_at faces marks k).stood v
   pub taken_is : (d : ℕ) → is_on taken d ≡ is_among d (ridden riders)
 
 -- Each of these darts is a dart.
@@ -118,14 +122,14 @@ pub record IsTableAt
     (faces : Faces) (marks : List Bool) (k : ℕ) (riders : List Moving) (stood covered taken : List Bool)
     : Type 0 where
   pub marked : AreMarks faces marks
-  pub riders_are : riders ≡ (later (terrain_of faces) (marked_first faces marks) k).riders
+  pub riders_are : riders ≡ (state_at faces marks k).riders
   pub stood_long : length stood ≡ vertex_count faces
   pub covered_long : length covered ≡ darts faces
   pub taken_long : length taken ≡ darts faces
   pub stood_is : (v : ℕ) → v < vertex_count faces
-      → is_on stood v ≡ (later (terrain_of faces) (marked_first faces marks) k).stood v
+      → is_on stood v ≡ (state_at faces marks k).stood v
   pub covered_is : (d : ℕ) → d < darts faces
-      → is_on covered d ≡ (later (terrain_of faces) (marked_first faces marks) k).covered d
+      → is_on covered d ≡ (state_at faces marks k).covered d
   pub taken_none : (d : ℕ) → is_on taken d ≡ false
 
 -- The marks with that of d, where there is no twin.
@@ -150,4 +154,4 @@ pub record IsEnd (faces : Faces) (marks : List Bool) (riders : List Moving) (cov
 -- The motion, on from k steps, comes to its last state.
 abbrev pub IsOnItsWay : (faces : Faces) (marks : List Bool) (k : ℕ) → Type 0
 IsOnItsWay faces marks k = (more : ℕ) → k + more ≡ suc (vertex_count faces)
-    → finish (terrain_of faces) more (later (terrain_of faces) (marked_first faces marks) k) ≡ marked_last faces marks
+    → finish (terrain_of faces) more (state_at faces marks k) ≡ marked_last faces marks

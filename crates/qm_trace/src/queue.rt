@@ -3,12 +3,10 @@
 ghost use Rattle.std.specs.Prelude.{◌≡◌, ◌<◌, ◌+◌, ◌^◌, ℕ, suc, Bool, List, length, map, filter, true, IfOk};
 ghost use Rattle.std.specs.List.{range_with_len};
 ghost use Rattle.def_cut.specs.Events.{rider_at};
-ghost use Rattle.def_cut.specs.Motion.{begun, is_among, later};
-ghost use Rattle.def_cut.specs.Traced.{terrain_of};
-ghost use Rattle.def_feature.specs.Marked.{marked_first};
+ghost use Rattle.def_cut.specs.Motion.{begun, is_among};
 ghost use Rattle.def_mesh.specs.Darts.{darts};
 ghost use Rattle.def_mesh.specs.Vertices.{vertex_count};
-ghost use Rattle.qm_trace.specs.Tables.{AreRode, CanRide, IsGround, IsInstant, dart_of, is_running, rode};
+ghost use Rattle.qm_trace.specs.Tables.{AreRode, CanRide, IsGround, IsInstant, dart_of, is_running, rode, state_at};
 
 use crate::Memory;
 use crate::deciding::ride;
@@ -100,7 +98,7 @@ pub(crate) fn ride_all(mesh: &Mesh, sight: &Sight, queue: &[u32], riders: &mut V
     requires taken { length sight.now.taken.items ≡ darts mesh.now }
     ensures { (marks : List Bool) (k : ℕ)
         → IsInstant mesh.now marks k riders.old.items queue.now sight.now.stood.items sight.now.taken.items
-        → riders.new.items ≡ (later (terrain_of mesh.now) (marked_first mesh.now marks) (suc k)).riders }
+        → riders.new.items ≡ (state_at mesh.now marks (suc k)).riders }
 {
     let _known = mesh.faces();
     ride_each(mesh, sight, queue, riders);

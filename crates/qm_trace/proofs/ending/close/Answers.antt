@@ -1,4 +1,4 @@
-use Rattle.std.proofs.Common.{◌||◌, not, is_some, Bool, List, length, ap, ◌∙◌}
+use Rattle.std.proofs.Common.{not, is_some, Bool, List, length, ap, ◌∙◌, ◌||◌}
 use Rattle.std.proofs.lemmas.List.{with_items_is}
 use Rattle.def_mesh.specs.Darts.{twin_of}
 use Rattle.def_cut.specs.FullCut.{is_on}

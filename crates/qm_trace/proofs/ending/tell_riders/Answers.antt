@@ -1,8 +1,7 @@
-use Rattle.std.proofs.Common.{cond, Bool, ◌≡◌, ◌<◌, ◌≤◌, ◌++◌, ◌∷◌, [], List, ℕ, length, get_or, take, subst, ap, ◌∙◌}
-use Rattle.std.proofs.Common.{arith}
+use Rattle.std.proofs.Common.{◌<◌, ◌≤◌, length, ap, arith}
 use Rattle.std.proofs.lemmas.List.{length_push, take_more, take_all}
 use Rattle.std.specs.Vec.{vec_capacity, vec_len}
-use Rattle.def_cut.specs.{Motion.begun, Traced.AreRiders, declared.moving.Moving.Moving}
+use Rattle.def_cut.specs.Motion.{begun}
 use Rattle.qm_trace.proofs.Ends.{riders_more}
 use Rattle.qm_trace.proofs.ending.tell_riders.Goals as goal
 
@@ -15,23 +14,15 @@ rider_of-requires c = c.requires.stopped c.loop-r.r (omega (arith, c.loop-r-test
 pub loop-r-preserved : goal.loop-r-preserved
 loop-r-preserved c =
     let low : c.loop-r.r < length c.args.riders.now = omega (arith, c.loop-r-test.true, c.requires.each) in
-    let more : AreRiders (take c.loop-r.r c.args.riders.now ++ get_or c.args.riders.now c.loop-r.r (begun 0) ∷ [])
-    (take c.loop-r.r c.args.starts.now ++ get_or c.args.starts.now c.loop-r.r 0 ∷ []) (c.loop-r.told.items
-    ++ c.rider_of.result ∷ []) =
-    riders_more (take c.loop-r.r c.args.riders.now) (take c.loop-r.r c.args.starts.now) c.loop-r.told.items
-    (get_or c.args.riders.now c.loop-r.r (begun 0)) (get_or c.args.starts.now c.loop-r.r 0) c.rider_of.result
-    c.loop-r.invariant.told c.rider_of.ensures in
     let few : vec_len c.loop-r.told < vec_capacity c.loop-r.told =
     omega (arith, c.loop-r-test.true, c.loop-r.invariant.many, c.loop-r.invariant.room, c.loop-r.told.ok.0) in
-    let items : c.push.new.self.items ≡ c.loop-r.told.items ++ c.rider_of.result ∷ [] = c.push.ensures.items
-    ∙ ap (λ (b : Bool). cond b (c.loop-r.told.items ++ c.rider_of.result ∷ []) c.loop-r.told.items)
-    (c.push.ensures.succeeds few) in
+    let items = rw (c.push.ensures.succeeds few) at c.push.ensures.items in
     record {
       told = rw (
         take_more c.args.riders.now c.loop-r.r (begun 0) low,
         take_more c.args.starts.now c.loop-r.r 0 c.loop-r-test.true,
         items,
-      ) more;
+      ) (riders_more _ _ _ _ _ _ c.loop-r.invariant.told c.rider_of.ensures);
       many = omega (arith, ap length items, length_push c.loop-r.told.items c.rider_of.result, c.loop-r.invariant.many);
       room = omega (arith, c.loop-r.invariant.room, c.push.ensures.capacity);
     }
@@ -39,12 +30,10 @@ loop-r-preserved c =
 pub returns : goal.returns
 returns c =
     let end : length c.args.starts.now ≤ c.loop-r.r = omega (arith, c.loop-r-test.false) in
-    let riders : take c.loop-r.r c.args.riders.now ≡ c.args.riders.now =
-    take_all c.loop-r.r c.args.riders.now (omega (arith, end, c.requires.each)) in
-    let starts : take c.loop-r.r c.args.starts.now ≡ c.args.starts.now = take_all c.loop-r.r c.args.starts.now end in
-    subst (λ (ms : List Moving). AreRiders ms c.args.starts.now c.loop-r.told.items) riders
-    (subst (λ (ds : List ℕ). AreRiders (take c.loop-r.r c.args.riders.now) ds c.loop-r.told.items) starts
-    c.loop-r.invariant.told)
+    rw (
+      take_all c.loop-r.r c.args.riders.now (omega (arith, end, c.requires.each)),
+      take_all c.loop-r.r c.args.starts.now end,
+    ) at c.loop-r.invariant.told
 
 pub unwrap-requires : goal.unwrap-requires
 unwrap-requires c = c.push.ensures.succeeds (omega (

@@ -12,7 +12,6 @@ returns-clause-long c = ap length (with_items_is c.args.stood c.stand_ends.new.s
 pub returns-clause-each : goal.returns-clause-each
 returns-clause-each c v =
     ap (λ (xs : List Bool). is_on xs v) (with_items_is c.args.stood c.stand_ends.new.stood (c.stand_ends.auto.stood
-    ∙ c.deref_mut.ensures.len))
-    ∙ (c.stand_ends.ensures v ∙ ap (λ (xs : List Bool). is_on xs v
+    ∙ c.deref_mut.ensures.len)) ∙ (c.stand_ends.ensures v ∙ ap (λ (xs : List Bool). is_on xs v
     || list_any (λ d. is_on c.args.marks.now d && is_end c.args.mesh.now v d) (all_darts c.args.mesh.now))
     c.deref_mut.ensures.value)

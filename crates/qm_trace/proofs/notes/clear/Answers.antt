@@ -23,8 +23,7 @@ pub returns-clause-noted : goal.returns-clause-noted
 returns-clause-noted c =
     all_none c.clear_each.new.noted.items (cleared c.args.notes.now c.clear_each.new.noted.items c.requires.notes
     (λ r. c.clear_each.ensures.noted r ∙ ap (λ (b : Bool). cond b None (note_at c.args.notes.now.noted.items r))
-    (ap (is_among r) c.deref.ensures.value)))
-    ∙ ap (λ n. replicate n None) c.clear_each.ensures.long
+    (ap (is_among r) c.deref.ensures.value))) ∙ ap (λ n. replicate n None) c.clear_each.ensures.long
 
 pub returns-clause-settled : goal.returns-clause-settled
 returns-clause-settled c =

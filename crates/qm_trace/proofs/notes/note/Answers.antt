@@ -4,12 +4,11 @@ use Rattle.qm_trace.proofs.Noting.{has_room, one_note}
 use Rattle.qm_trace.proofs.notes.note.Goals as goal
 
 pub unwrap-requires : goal.unwrap-requires
-unwrap-requires c = c.push.ensures.succeeds
-    (omega (
-      arith,
-      has_room c.args.notes.now c.args.r c.requires.notes c.requires.rider c.requires.fresh,
-      c.args.notes.now.queue.ok.0,
-    ))
+unwrap-requires c = c.push.ensures.succeeds (omega (
+  arith,
+  has_room c.args.notes.now c.args.r c.requires.notes c.requires.rider c.requires.fresh,
+  c.args.notes.now.queue.ok.0,
+))
 
 pub returns-clause-notes : goal.returns-clause-notes
 returns-clause-notes c =

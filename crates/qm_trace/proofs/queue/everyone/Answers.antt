@@ -1,4 +1,4 @@
-use Rattle.std.proofs.Common.{◌++◌, ◌∷◌, [], sym, ap, ◌∙◌}
+use Rattle.std.proofs.Common.{◌++◌, ◌∷◌, sym, ap, ◌∙◌, []}
 use Rattle.list_laws.proofs.Filters.{range_more}
 use Rattle.qm_trace.proofs.queue.everyone.Goals as goal
 

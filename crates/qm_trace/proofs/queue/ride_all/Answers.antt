@@ -1,6 +1,5 @@
-use Rattle.std.proofs.{Common.List, Common.length, Common.ap, Common.subst, Common.◌∙◌, lemmas.List.with_items_is}
-use Rattle.def_cut.specs.declared.moving.Moving.{Moving}
-use Rattle.qm_trace.specs.Tables.{AreRode}
+use Rattle.std.proofs.Common.{length, ap, ◌∙◌}
+use Rattle.std.proofs.lemmas.List.{with_items_is}
 use Rattle.qm_trace.proofs.Instants.{next_riders}
 use Rattle.qm_trace.proofs.queue.ride_all.Goals as goal
 
@@ -10,8 +9,6 @@ ride_each-requires-clause-can c = rw c.deref_mut.ensures.value c.requires.can
 pub returns : goal.returns
 returns c marks k i =
     with_items_is c.args.riders.now c.ride_each.new.riders (c.ride_each.auto.riders ∙ c.deref_mut.ensures.len)
-    ∙ next_riders c.args.mesh.now c.faces-known.ensures.mesh.manifold marks k c.args.riders.now.items
-    c.ride_each.new.riders c.args.queue.now c.args.sight.now.stood.items c.args.sight.now.taken.items i
+    ∙ next_riders c.faces-known.ensures.mesh.manifold i c.ride_each.new.riders
     (c.ride_each.auto.riders ∙ ap length c.deref_mut.ensures.value)
-    (subst (λ (xs : List Moving). AreRode c.args.mesh.now c.args.sight.now.stood.items c.args.sight.now.taken.items
-    c.args.queue.now xs c.ride_each.new.riders) c.deref_mut.ensures.value c.ride_each.ensures)
+    (rw c.deref_mut.ensures.value at c.ride_each.ensures)

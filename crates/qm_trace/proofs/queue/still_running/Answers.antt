@@ -1,7 +1,7 @@
-use Rattle.std.proofs.Common.{get_or, ◌++◌, ◌∷◌, [], sym, ap, ◌∙◌}
+use Rattle.std.proofs.Common.{get_or, ◌++◌, ◌∷◌, sym, ap, ◌∙◌, []}
 use Rattle.def_cut.specs.Events.{rider_at}
-use Rattle.qm_trace.specs.Tables.{is_running}
 use Rattle.motion_laws.proofs.Marks.{among_at}
+use Rattle.qm_trace.specs.Tables.{is_running}
 use Rattle.qm_trace.proofs.Riding.{running_on, running_off}
 use Rattle.qm_trace.proofs.queue.still_running.Goals.{then-runs+in_ok-push, else-runs}
 use Rattle.qm_trace.proofs.queue.still_running.Goals as goal

@@ -1,11 +1,10 @@
-use Rattle.std.proofs.Common.{◌≡◌, ◌<◌, true, false, List, ℕ, length, get_or, take, sym, ap, ◌∙◌, arith}
+use Rattle.std.proofs.Common.{◌<◌, length, sym, ap, ◌∙◌, arith}
 use Rattle.std.proofs.lemmas.List.{get_or_default, length-set, take_all}
 use Rattle.mesh_laws.proofs.Fans.{is_fan}
-use Rattle.def_mesh.specs.{Darts.prev_of, Vertices.fan_of}
-use Rattle.def_cut.specs.{FullCut.is_on, declared.moving.Moving.Moving, Events.note_at, Events.rider_at}
-use Rattle.qm_trace.specs.Motions.{told_along}
-use Rattle.qm_trace.proofs.Tellings.{none_here, noted_here, one_here, onward_here, runs_here, told_all_along}
-use Rattle.qm_trace.proofs.Tellings.{untold_here}
+use Rattle.def_mesh.specs.Vertices.{fan_of}
+use Rattle.def_cut.specs.Events.{rider_at}
+use Rattle.qm_trace.proofs.Tellings.{none_here, noted_here, one_here, told_all_along, Turn, may_tell}
+use Rattle.qm_trace.proofs.Stops.{read_on}
 use Rattle.qm_trace.proofs.telling.tell_all.Goals.{then-index, else-index}
 use Rattle.qm_trace.proofs.telling.tell_all.Goals as goal
 
@@ -15,99 +14,58 @@ prev-d-requires c = (is_fan c.args.mesh.now c.args.v c.fan-e-items.result.now c.
 
 pub tell_one-requires-clause-may : goal.tell_one-requires-clause-may
 tell_one-requires-clause-may c =
-    let fan : c.loop-e.e-index < length (fan_of c.args.mesh.now c.args.v) =
-    omega (arith, c.loop-e-test.true, ap length c.fan-e-items.ensures) in
-    let dart : c.prev-d.result ≡ prev_of (get_or (fan_of c.args.mesh.now c.args.v) c.loop-e.e-index 0) =
-    c.prev-d.ensures.value ∙ ap (λ (xs : List ℕ). prev_of (get_or xs c.loop-e.e-index 0)) c.fan-e-items.ensures in
-    let on : is_on c.args.notes.now.taken.items c.prev-d.result ≡ true =
-    sym (c.index.ensures ∙ get_or_default c.args.notes.now.taken.items c.prev-d.result c.index.result.now false
-    (omega (arith, c.prev-d.ensures.dart, c.requires.can.taken_long))) ∙ c.if-index.true in
-    let place : c.index-then-index.result.now ≡ get_or c.args.notes.now.places.items c.prev-d.result 0 =
-    c.index-then-index.ensures ∙ get_or_default c.args.notes.now.places.items c.prev-d.result
-    c.index-then-index.result.now 0 (omega (
+    let turn : Turn c.args.mesh.now c.args.site c.args.v c.args.notes.now c.args.riders.now c.loop-e.riders.list.items
+    c.loop-e.e-index c.prev-d.result = record {
+      can = c.requires.can;
+      are = c.requires.notes;
+      low = omega (arith, c.loop-e-test.true, ap length c.fan-e-items.ensures);
+      before = c.loop-e.invariant.told;
+      d_is = rw (← c.fan-e-items.ensures) c.prev-d.ensures.value;
+    } in
+    let on = read_on c.args.notes.now.taken.items c.prev-d.result c.index.result.now
+    (omega (arith, c.prev-d.ensures.dart, c.requires.can.taken_long)) c.index.ensures in
+    let place = c.index-then-index.ensures ∙ get_or_default c.args.notes.now.places.items c.prev-d.result _ 0
+    (omega (arith, c.prev-d.ensures.dart, c.requires.can.taken_long, c.requires.notes.places_long)) in
+    may_tell turn (sym on ∙ c.if-index.true) place (omega (
       arith,
-      c.prev-d.ensures.dart,
-      c.requires.can.taken_long,
-      c.requires.notes.places_long,
-    )) in
-    record {
-      rider = omega (
-        arith,
-        (noted_here c.args.mesh.now c.args.site c.args.v c.args.notes.now c.args.riders.now
-            c.loop-e.riders.list.items c.loop-e.e-index c.requires.can c.requires.notes fan c.loop-e.invariant.told
-            c.prev-d.result dart on c.index-then-index.result.now place).1,
-        c.loop-e.invariant.counted.long,
-      );
-      dart = omega (
-        arith,
-        (runs_here c.args.mesh.now c.args.site c.args.v c.args.notes.now c.args.riders.now
-            c.loop-e.riders.list.items c.loop-e.e-index c.requires.can c.requires.notes fan c.loop-e.invariant.told
-            c.prev-d.result dart on c.index-then-index.result.now place).1,
-        c.prev-d.ensures.dart,
-      );
-      untold = untold_here c.args.mesh.now c.args.site c.args.v c.args.notes.now c.args.riders.now
-          c.loop-e.riders.list.items c.loop-e.e-index c.requires.can c.requires.notes fan c.loop-e.invariant.told
-          c.prev-d.result dart on c.index-then-index.result.now place;
-      onward = onward_here c.args.mesh.now c.args.site c.args.v c.args.notes.now c.args.riders.now
-          c.loop-e.riders.list.items c.loop-e.e-index c.requires.can c.requires.notes fan c.loop-e.invariant.told
-          c.prev-d.result dart on c.index-then-index.result.now place;
-    }
+      (noted_here turn (sym on ∙ c.if-index.true) place).1,
+      c.loop-e.invariant.counted.long,
+    )) c.prev-d.ensures.dart
 
 pub loop-e-preserved : goal.loop-e-preserved
 loop-e-preserved c =
-    let fan : c.loop-e.e-index < length (fan_of c.args.mesh.now c.args.v) =
-    omega (arith, c.loop-e-test.true, ap length c.fan-e-items.ensures) in
-    let dart : c.prev-d.result ≡ prev_of (get_or (fan_of c.args.mesh.now c.args.v) c.loop-e.e-index 0) =
-    c.prev-d.ensures.value ∙ ap (λ (xs : List ℕ). prev_of (get_or xs c.loop-e.e-index 0)) c.fan-e-items.ensures in
-    let mark : is_on c.args.notes.now.taken.items c.prev-d.result ≡ c.index.result.now =
-    sym (c.index.ensures ∙ get_or_default c.args.notes.now.taken.items c.prev-d.result c.index.result.now false
-    (omega (arith, c.prev-d.ensures.dart, c.requires.can.taken_long))) in
+    let turn : Turn c.args.mesh.now c.args.site c.args.v c.args.notes.now c.args.riders.now c.loop-e.riders.list.items
+    c.loop-e.e-index c.prev-d.result = record {
+      can = c.requires.can;
+      are = c.requires.notes;
+      low = omega (arith, c.loop-e-test.true, ap length c.fan-e-items.ensures);
+      before = c.loop-e.invariant.told;
+      d_is = rw (← c.fan-e-items.ensures) c.prev-d.ensures.value;
+    } in
+    let mark = read_on c.args.notes.now.taken.items c.prev-d.result c.index.result.now
+    (omega (arith, c.prev-d.ensures.dart, c.requires.can.taken_long)) c.index.ensures in
     elim c.if-index.branch [
       | then-index w ↦
-          let on : is_on c.args.notes.now.taken.items c.prev-d.result ≡ true = mark ∙ w.if-index.true in
-          let place : w.index-then-index.result.now ≡ get_or c.args.notes.now.places.items c.prev-d.result 0 =
-          w.index-then-index.ensures ∙ get_or_default c.args.notes.now.places.items c.prev-d.result
-          w.index-then-index.result.now 0 (omega (
-            arith,
-            c.prev-d.ensures.dart,
-            c.requires.can.taken_long,
-            c.requires.notes.places_long,
-          )) in
+          let on = sym mark ∙ w.if-index.true in
+          let place = w.index-then-index.ensures ∙ get_or_default c.args.notes.now.places.items c.prev-d.result _ 0
+          (omega (arith, c.prev-d.ensures.dart, c.requires.can.taken_long, c.requires.notes.places_long)) in
           let low : w.index-then-index.result.now < length c.loop-e.riders.list.items =
-          omega (
-            arith,
-            (noted_here c.args.mesh.now c.args.site c.args.v c.args.notes.now c.args.riders.now
-                c.loop-e.riders.list.items c.loop-e.e-index c.requires.can c.requires.notes fan
-                c.loop-e.invariant.told c.prev-d.result dart on w.index-then-index.result.now place).1,
-            c.loop-e.invariant.counted.long,
-          ) in
+          omega (arith, (noted_here turn on place).1, c.loop-e.invariant.counted.long) in
           rw w.riders-is (record {
-            told = λ r. ap (λ (qs : List Moving). rider_at qs r) w.tell_one.ensures.list
-                ∙ one_here c.args.mesh.now c.args.site c.args.v c.args.notes.now c.args.riders.now
-                c.loop-e.riders.list.items c.loop-e.e-index c.requires.can c.requires.notes fan c.loop-e.invariant.told
-                c.prev-d.result dart on w.index-then-index.result.now place low r;
+            told = λ r. rw w.tell_one.ensures.list (one_here turn on place low r);
             counted = w.tell_one.ensures.counted;
-            many = ap length w.tell_one.ensures.list
-                ∙ (length-set c.loop-e.riders.list.items w.index-then-index.result.now _ ∙ c.loop-e.invariant.many);
+            many = rw w.tell_one.ensures.list
+                (length-set c.loop-e.riders.list.items w.index-then-index.result.now _ ∙ c.loop-e.invariant.many);
           })
-      | else-index w ↦ rw w.riders-is
-          (record {
-            told = none_here c.args.mesh.now c.args.site c.args.v c.args.notes.now c.args.riders.now
-                c.loop-e.riders.list.items c.loop-e.e-index c.requires.can c.requires.notes fan c.loop-e.invariant.told
-                c.prev-d.result dart (mark ∙ w.if-index.false);
-            counted = c.loop-e.invariant.counted;
-            many =
-                c.loop-e.invariant.many;
-          })
+      | else-index w ↦ rw w.riders-is (record {
+        told = none_here turn (sym mark ∙ w.if-index.false);
+        counted = c.loop-e.invariant.counted;
+        many = c.loop-e.invariant.many;
+      })
     ]
 
 pub returns-clause-told : goal.returns-clause-told
 returns-clause-told c r =
-    let all : take c.loop-e.e-index (fan_of c.args.mesh.now c.args.v) ≡ fan_of c.args.mesh.now c.args.v =
-    take_all c.loop-e.e-index (fan_of c.args.mesh.now c.args.v)
+    let all = take_all c.loop-e.e-index (fan_of c.args.mesh.now c.args.v)
     (omega (arith, c.loop-e-test.false, ap length c.fan-e-items.ensures)) in
-    c.loop-e.invariant.told r
-    ∙ (ap (λ (xs : List ℕ). told_along c.args.mesh.now c.args.site c.args.notes.now.taken.items xs
-    (note_at c.args.notes.now.noted.items r) (rider_at c.args.riders.now.list.items r)) all
-    ∙ told_all_along c.args.mesh.now c.args.site c.args.v c.args.notes.now c.args.riders.now c.requires.can r
-    (rider_at c.args.riders.now.list.items r))
+    rw all at (c.loop-e.invariant.told r) ∙ told_all_along c.requires.can r (rider_at c.args.riders.now.list.items r)

@@ -1,8 +1,9 @@
-use Rattle.std.proofs.Common.{ℕ, Bool, List, length, sym, subst, ap, ◌∙◌, arith}
-use Rattle.def_cut.specs.{FullCut.IsFullCut, Motion.ridden, Traced.AreRiders, declared.moving.Moving.Moving}
+use Rattle.std.proofs.Common.{length, sym, ap, ◌∙◌, arith}
+use Rattle.def_cut.specs.Motion.{ridden}
 use Rattle.def_feature.specs.Marked.{marked_last}
 use Rattle.feature_laws.proofs.Laws.{marked_law}
-use Rattle.qm_trace.proofs.{Beginnings.marked_few, Ends.cut_is, Ends.have_stopped, Ends.last_long}
+use Rattle.qm_trace.proofs.Ends.{cut_is, have_stopped, last_long}
+use Rattle.qm_trace.proofs.Beginnings.{marked_few}
 use Rattle.qm_trace.proofs.tracing.graph_from.Goals as goal
 
 pub tell_riders-requires-clause-few : goal.tell_riders-requires-clause-few
@@ -22,15 +23,9 @@ pub returns-clause-graph : goal.returns-clause-graph
 returns-clause-graph c = record {
   covered = c.close-covered.ensures ∙ cut_is c.args.mesh.now (marked_last c.args.mesh.now c.args.marks.now)
       c.in_ok-end.end.covered.items c.in_ok-end.ensures.covered_is;
-  riders = subst (λ (ds : List ℕ). AreRiders (marked_last c.args.mesh.now c.args.marks.now).riders ds
-      c.tell_riders.new.told.items) c.requires.starts
-      (subst (λ (ms : List Moving). AreRiders ms c.args.starts.now c.tell_riders.new.told.items) (c.deref.ensures.value
-      ∙ c.in_ok-end.ensures.riders_are) c.tell_riders.ensures);
+  riders = rw (c.deref.ensures.value ∙ c.in_ok-end.ensures.riders_are, c.requires.starts) at c.tell_riders.ensures;
 }
 
 pub returns-clause-cut : goal.returns-clause-cut
-returns-clause-cut c =
-    subst (λ (marks : List Bool). IsFullCut c.args.mesh.now marks)
-    (sym (c.close-covered.ensures ∙ cut_is c.args.mesh.now (marked_last c.args.mesh.now c.args.marks.now)
-    c.in_ok-end.end.covered.items c.in_ok-end.ensures.covered_is))
+returns-clause-cut c = rw (returns-clause-graph c).covered
     (marked_law c.args.mesh.now c.args.marks.now c.faces-known.ensures.mesh.manifold c.requires.marks).full

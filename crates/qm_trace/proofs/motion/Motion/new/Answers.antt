@@ -1,9 +1,10 @@
-use Rattle.std.proofs.Common.{rules, ◌≡◌, false, List, [], None, ℕ, length, map, replicate, sym, ap, ◌∙◌, refl, arith}
+use Rattle.std.proofs.Common.{rules, ◌≡◌, false, List, ℕ, length, replicate, sym, ap, ◌∙◌, refl, arith, [], None}
+use Rattle.std.proofs.Common.{map}
 use Rattle.std.proofs.lemmas.List.{length-map, length-replicate}
 use Rattle.def_mesh.specs.{Darts.darts, Vertices.vertex_count, Components.start_darts}
 use Rattle.def_cut.specs.Motion.{begun, is_among}
-use Rattle.qm_trace.proofs.Beginnings.{starts_few, starts_low}
 use Rattle.qm_trace.proofs.Calls.{first_counted, first_stood, first_waits}
+use Rattle.qm_trace.proofs.Beginnings.{starts_few, starts_low}
 use Rattle.qm_trace.proofs.motion.Motion.new.Goals as goal
 
 pub leave-stood-requires-clause-darts : goal.leave-stood-requires-clause-darts
@@ -12,15 +13,14 @@ leave-stood-requires-clause-darts c d n =
     (sym (ap (is_among d) (c.deref-2.ensures.value ∙ c.requires.starts)) ∙ n)
 
 pub overflow_cast-riders : goal.overflow_cast-riders
-overflow_cast-riders c = let e = c.len-many.ensures in
-    omega (
-      arith,
-      e,
-      c.args.src.now.starts.ok.0,
-      ap length c.requires.starts,
-      starts_few c.args.mesh.now c.faces.ensures.mesh.manifold,
-      c.faces.ensures.mesh.few,
-    )
+overflow_cast-riders c = omega (
+  arith,
+  c.len-many.ensures,
+  c.args.src.now.starts.ok.0,
+  ap length c.requires.starts,
+  starts_few c.args.mesh.now c.faces.ensures.mesh.manifold,
+  c.faces.ensures.mesh.few,
+)
 
 pub overflow_cast-result : goal.overflow_cast-result
 overflow_cast-result c = omega (
@@ -36,21 +36,16 @@ pub invariant_of-result : goal.invariant_of-result
 invariant_of-result c =
     let many : c.len-many.result ≡ length c.args.src.now.starts.items =
     c.len-many.ensures ∙ c.args.src.now.starts.ok.0 in
-    let list : c.in_ok-list.list.items ≡ map begun c.args.src.now.starts.items = c.in_ok-list.ensures
-    ∙ ap (map begun) c.deref.ensures.value in
-    let noted : c.in_ok-notes.notes.noted.items ≡ replicate (length c.args.src.now.starts.items) None =
-    c.in_ok-notes.ensures.none ∙ ap (λ n. replicate n None) many in
+    let list = rw c.deref.ensures.value at c.in_ok-list.ensures in
+    let noted = rw many at c.in_ok-notes.ensures.none in
     let covered : c.in_ok-covered.covered.items ≡ replicate (darts c.args.mesh.now) false = search rules in
-    let starts : c.in_ok-starts.starts.items ≡ c.args.src.now.starts.items = c.in_ok-starts.ensures.items
-    ∙ c.deref-3.ensures.value in
+    let starts = c.in_ok-starts.ensures.items ∙ c.deref-3.ensures.value in
     record {
       notes_are = c.in_ok-notes.ensures.notes;
-      taken_long = c.in_ok-notes.ensures.long
-          ∙ sym (ap length covered ∙ (length-replicate (darts c.args.mesh.now) false
-          ∙ sym (ap (λ (xs : List (List ℕ)). darts xs) c.faces.ensures.value)));
-      counted = first_counted _ c.in_ok-notes.notes.noted.items c.args.src.now.starts.items list many refl noted;
-      waits_is = many ∙ first_waits c.in_ok-list.list.items c.in_ok-notes.notes.noted.items c.args.src.now.starts.items
-          list noted;
+      taken_long = c.in_ok-notes.ensures.long ∙ (ap (λ (xs : List (List ℕ)). darts xs) c.faces.ensures.value
+          ∙ sym (ap length covered ∙ length-replicate (darts c.args.mesh.now) false));
+      counted = first_counted c.args.src.now.starts.items list many refl noted;
+      waits_is = many ∙ first_waits _ _ c.args.src.now.starts.items list noted;
       starts_long = ap length starts ∙ sym (ap length list ∙ length-map c.args.src.now.starts.items begun);
       untold_yet = c.in_ok-told.ensures.items;
       has_room = omega (arith, ap length starts, many, c.in_ok-told.ensures.capacity);
@@ -72,9 +67,8 @@ returns-clause-first c =
       noted,
       covered,
       settled,
-      first_stood c.args.mesh.now c.faces.ensures.mesh.manifold
-          c.in_ok-nowhere.nowhere.items c.leave-stood.result.items c.deref-2.result.now nowhere
-          c.leave-stood.ensures.long (c.deref-2.ensures.value ∙ c.requires.starts) c.leave-stood.ensures.each,
+      first_stood c.faces.ensures.mesh.manifold nowhere c.leave-stood.ensures.long
+          (c.deref-2.ensures.value ∙ c.requires.starts) c.leave-stood.ensures.each,
     ) refl
 
 pub returns-clause-motion : goal.returns-clause-motion
