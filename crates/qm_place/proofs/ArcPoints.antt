@@ -1,57 +1,36 @@
 -- The points of arcs by shares, as their table tells them.
-use Rattle.std.proofs.Common.{
-  ◌≡◌,
-  ℕ,
-  ◌+◌,
-  ◌-◌,
-  ◌*◌,
-  ◌/◌,
-  ◌%◌,
-  ◌^◌,
-  ◌<◌,
-  ◌≤◌,
-  List,
-  length,
-  get_or,
-  true,
-  Option,
-  Some,
-  refl,
-  sym,
-  ◌∙◌,
-  ap,
-  subst,
-  arith,
-}
+use Rattle.std.proofs.Common.{◌≡◌, ℕ, ◌+◌, ◌-◌, ◌/◌, ◌%◌, ◌^◌, ◌<◌, ◌≤◌, List, length, get_or, true, Option, Some, refl}
+use Rattle.std.proofs.Common.{sym, ◌∙◌, ap, subst, arith}
 use Rattle.std.specs.Prelude.{◌==◌, slice_index}
-use Rattle.std.proofs.{lemmas.Bool.cond_both, lemmas.List.get_or_read, lemmas.List.length-map}
-use Rattle.def_layout.specs.{Arcs.dart_at, Arcs.long_at, Arcs.path, Lengths.Lengths, Plans.Plan, Plans.layout_of}
-use Rattle.def_layout.specs.{Plans.plan, declared.tmesh.TArc.TArc, declared.tmesh.TMesh.TMesh}
+use Rattle.std.proofs.lemmas.Bool.{cond_both}
+use Rattle.std.proofs.lemmas.List.{get_or_read, length-map}
+use Rattle.def_layout.specs.{Arcs.dart_at, Arcs.long_at, Arcs.path, Plans.Plan, Plans.layout_of, Plans.plan}
+use Rattle.def_layout.specs.{Lengths.Lengths, declared.tmesh.TArc.TArc, declared.tmesh.TMesh.TMesh}
 use Rattle.def_layoutnet.specs.MeshLayouts.{IsSomeLayout}
 use Rattle.def_map.specs.{Spots.edge_spot, declared.spot.EdgeSpot.EdgeSpot}
-use Rattle.def_written.specs.{Numbers.before_arc, Places.ONE, Places.Step, Spacings.edge_begin, Spacings.shared_step}
-use Rattle.def_written.specs.Spacings.{step_parameter, IsSpacing, Shares}
+use Rattle.def_written.specs.Spacings.{edge_begin, shared_step, step_parameter, IsSpacing, Shares}
+use Rattle.def_written.specs.{Numbers.before_arc, Places.ONE, Places.Step}
 use Rattle.def_remesh.specs.{Placings.shares_in, Placings.IsSpaced, Spaced.shares_along, Spaced.spacing_by}
 use Rattle.def_remesh.specs.{declared.places.Spaced.Spaced, NewPoints.lengths_in}
 use Rattle.plan_laws.proofs.{Bounds.vertices_few, MeshLayouts.laid_of}
+use Rattle.written_laws.proofs.Runs.{place_low}
 use Rattle.qm_place.specs.ArcTables.{AreFine}
 use Rattle.qm_place.proofs.Rims.{old_read, old_short}
-use Rattle.written_laws.proofs.Runs.{place_low}
 
 -- An arc that is read is short.
-pub read_short : (t : TMesh) (a : ℕ) (arc : TArc) → IsSomeLayout (plan t) → a < length t.arcs.items
+pub read_short : (t : TMesh) {a : ℕ} {arc : TArc} → IsSomeLayout (plan t) → a < length t.arcs.items
     → arc ≡ get_or t.arcs.items a arc → length arc.darts.items ≤ 2 ^ 21
-read_short t a arc is low read =
+read_short t {a} {arc} is low read =
     omega (
       arith,
-      old_read t a arc low read,
+      old_read t low read,
       old_short (plan t) is a (omega (arith, low, length-map t.arcs.items path)),
     )
 
 -- Inner points of arcs are few.
-pub points_few : (plan : Plan) (list : List ℕ) → AreFine plan list → (arc place : ℕ) → arc < length plan.arcs
+pub points_few : {plan : Plan} {list : List ℕ} → AreFine plan list → {arc place : ℕ} → arc < length plan.arcs
     → place < lengths_in list arc - 1 → before_arc (lengths_in list) arc + place < 2 ^ 23
-points_few plan list fine arc place low less =
+points_few {plan} {list} fine {arc} {place} low less =
     omega (
       arith,
       place_low (λ b. lengths_in list b - 1) (length plan.arcs) arc place low less,
@@ -76,10 +55,10 @@ module _ (plan : Plan) (new : Lengths) (o : Option Spaced) (told : IsSpaced plan
       ∙ ap (λ (p : Option Spaced). (spacing_by plan (shares_in p) new).parameter_of arc true k) (sym is)
 
   -- What is read there.
-  pub read_inner : (index read : ℕ) → index ≡ before_arc new arc + k - 1
+  pub read_inner : {index read : ℕ} → index ≡ before_arc new arc + k - 1
       → read ≡ get_or spaced.parameters.items index read
       → read ≡ (spacing_by plan (shares_in o) new).parameter_of arc true k
-  read_inner index read place same =
+  read_inner {index} {read} place same =
       get_or_read spaced.parameters.items index read (omega (arith, place, inner_low)) same 0
       ∙ ap (slice_index spaced.parameters.items) place ∙ inner_value
 
@@ -97,15 +76,14 @@ some_told : (step : Step) → step.some < ONE → step_parameter step % ONE ≡ 
 some_told step less = omega (arith, less)
 
 -- Where a point of an arc lies, by its parameter.
-pub spot_told : (plan : Plan) (new : Lengths) (o : Option Spaced) (spaced : Spaced) → o ≡ Some spaced
-    → IsSpacing (layout_of plan) (long_at plan.arcs) new (spacing_by plan (shares_in o) new) → (arc k parameter : ℕ)
+pub spot_told : (plan : Plan) {new : Lengths} {o : Option Spaced} (spaced : Spaced) → o ≡ Some spaced
+    → IsSpacing (layout_of plan) (long_at plan.arcs) new (spacing_by plan (shares_in o) new) → {arc k parameter : ℕ}
     → arc < length plan.arcs → k < new arc
-    → parameter ≡ (spacing_by plan (shares_in o) new).parameter_of arc true k → (spot : EdgeSpot)
+    → parameter ≡ (spacing_by plan (shares_in o) new).parameter_of arc true k → {spot : EdgeSpot}
     → spot ≡ record { dart = dart_at plan.arcs arc (parameter / ONE); some = parameter % ONE; parts = ONE }
     → spot ≡ edge_spot plan (spacing_by plan (shares_in o) new) arc k
-spot_told plan new o spaced is spacing arc k parameter low less told spot spot_is =
-    spot_is
-    ∙ (λ i. record {
+spot_told plan {new} spaced is spacing {arc} {k} {parameter} low less told spot_is =
+    spot_is ∙ (λ i. record {
       dart = dart_at plan.arcs arc ((ap (λ n. n / ONE) here ∙ edge_told step some) i);
       some = (ap (λ n. n % ONE) here ∙ some_told step some) i;
       parts = sym parts i;

@@ -5,16 +5,15 @@ use Rattle.def_mesh.specs.{Faces.Faces, Vertices.vertex_count}
 use Rattle.def_layout.specs.{Arcs.long_at, Lengths.Lengths, Lengths.AreLengths, Plans.Plan, Plans.layout_of}
 use Rattle.def_text.specs.Types.{Positions}
 use Rattle.def_written.specs.{Numbers.vertices, Spacings.IsSpacing}
-use Rattle.def_remesh.specs.{NewPoints.point_at, NewSoup.coordinate, NewSoup.new_coordinate, NewSoup.spaced_place}
-use Rattle.def_remesh.specs.{Placings.coordinate_in, Placings.IsMeshLayout, Placings.LiesBetween, Spaced.spacing_by}
+use Rattle.def_remesh.specs.{NewSoup.coordinate, NewSoup.new_coordinate, NewSoup.spaced_place, Placings.coordinate_in}
+use Rattle.def_remesh.specs.{Placings.IsMeshLayout, Placings.LiesBetween, NewPoints.point_at, Spaced.spacing_by}
 use Rattle.map_laws.proofs.{Numbered.is_point, OldPoints.old_low}
 use Rattle.qm_offsets.proofs.Whole.{laid_of, lengths_of}
 use Rattle.written_laws.proofs.Between.{between_law}
 
 -- One of the three coordinates of a new vertex.
 axis_of : (faces : Faces) (plan : Plan) (places : Positions) (shares : Option (List ℕ)) (new : ℕ → ℕ) (v axis : ℕ)
-    → axis < 3
-    → coordinate_in (spaced_place faces plan places shares new v) axis
+    → axis < 3 → coordinate_in (spaced_place faces plan places shares new v) axis
     ≡ new_coordinate faces plan places shares new (point_at (layout_of plan) new v) axis
 axis_of faces plan places shares new v zero low = refl
 axis_of faces plan places shares new v (suc zero) low = refl
@@ -24,10 +23,9 @@ axis_of faces plan places shares new v (suc (suc (suc axis))) low = absurd (omeg
 module _ (faces : Faces) (plan : Plan) (shares : Option (List ℕ)) (new : Lengths) (layout : IsMeshLayout faces plan)
     (lengths : AreLengths (layout_of plan) new)
     (spaced : IsSpacing (layout_of plan) (long_at plan.arcs) new (spacing_by plan shares new)) where
-  pub lies_between : (places : Positions) (v : ℕ) → length places ≡ vertex_count faces
-      → v < vertices (layout_of plan) new
-      → LiesBetween places (spaced_place faces plan places shares new v)
-  lies_between places v all low axis axis_low least greatest bound =
+  pub lies_between : (places : Positions) {v : ℕ} → length places ≡ vertex_count faces
+      → v < vertices (layout_of plan) new → LiesBetween places (spaced_place faces plan places shares new v)
+  lies_between places {v} all low axis axis_low least greatest bound =
       subst (λ z. (least ≤ℤ z) × (z ≤ℤ greatest)) (sym (axis_of faces plan places shares new v axis axis_low))
       (subst (λ (F : Faces). (least ≤ℤ new_coordinate F plan places shares new (point_at (layout_of plan) new v) axis)
       × (new_coordinate F plan places shares new (point_at (layout_of plan) new v) axis ≤ℤ greatest)) layout.1

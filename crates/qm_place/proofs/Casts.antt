@@ -1,7 +1,10 @@
 -- Numbers that fit their type, and products of such.
 use Rattle.std.proofs.Common.{◌≡◌, ℕ, zero, suc, ◌-◌, ◌*◌, ◌^◌, ◌<◌, ◌≤◌, ℤ, pos, negsuc, ◌+ℤ◌, ◌-ℤ◌, ◌*ℤ◌, to_z, of_z}
-use Rattle.std.proofs.{Common.◌∙◌, Common.ap, Common.arith, lemmas.Int.ints, lemmas.Nat.mul-le}
-use Rattle.std.specs.{Prelude.◌≤ℤ◌, Prelude.unsigned_abs, Prelude.neg_ℤ, Int.int_div_euclid, Int.w64, Int.w128}
+use Rattle.std.proofs.Common.{◌∙◌, ap, arith}
+use Rattle.std.proofs.lemmas.Int.{ints}
+use Rattle.std.proofs.lemmas.Nat.{mul-le}
+use Rattle.std.specs.Prelude.{◌≤ℤ◌, unsigned_abs, neg_ℤ}
+use Rattle.std.specs.Int.{int_div_euclid, w64, w128}
 use Rattle.def_written.specs.Places.{on_the_way, ONE, blend}
 use Rattle.written_laws.proofs.Between.{way_within, blend_within}
 
@@ -12,8 +15,8 @@ kept z small = omega (arith, ints, small)
 pub kept_half : (z : ℤ) → unsigned_abs z ≤ 2 ^ 60 → to_z w64 (of_z w64 z) ≡ z
 kept_half z small = omega (arith, ints, small)
 
-pub natural : (n : ℕ) → n ≤ 2 ^ 120 → to_z w128 n ≡ pos n
-natural n small = omega (arith, ints, small)
+pub natural : {n : ℕ} → n ≤ 2 ^ 120 → to_z w128 n ≡ pos n
+natural small = omega (arith, ints, small)
 
 -- The size of a product.
 negated : (n : ℕ) → unsigned_abs (neg_ℤ (pos n)) ≡ n
@@ -26,9 +29,9 @@ times_few k m (negsuc n) b k_le z_le =
     omega (arith, negated (k * suc n), mul-le k (suc n) m b k_le (omega (arith, z_le)))
 
 -- A part of the way is no longer than the way may be.
-pub part_few : (way : ℤ) (some parts : ℕ) → some < parts → unsigned_abs way ≤ 2 ^ 52
+pub part_few : (way : ℤ) {some parts : ℕ} → some < parts → unsigned_abs way ≤ 2 ^ 52
     → unsigned_abs (int_div_euclid ((pos (2 * some) *ℤ way) +ℤ pos parts) (pos (2 * parts))) ≤ 2 ^ 52
-part_few way some parts less small =
+part_few way {some} {parts} less small =
     by_bounds (way_within (pos 0) way (neg_ℤ (pos (2 ^ 52))) (pos (2 ^ 52)) some parts (omega arith) (omega arith)
     (omega (arith, ints)) (omega (arith, ints)) (omega (arith, ints, small)) (omega (arith, ints, small)))
   where
@@ -45,10 +48,9 @@ part_few way some parts less small =
         omega (arith, ints, b.0, b.1, e)
 
 -- Between coordinates lies a coordinate.
-pub way_micro : (p q : ℤ) (some parts : ℕ) → some < parts → unsigned_abs p ≤ 999999999999999
-    → unsigned_abs q ≤ 999999999999999
-    → unsigned_abs (on_the_way p q some parts) ≤ 999999999999999
-way_micro p q some parts less p_small q_small =
+pub way_micro : (p q : ℤ) {some parts : ℕ} → some < parts → unsigned_abs p ≤ 999999999999999
+    → unsigned_abs q ≤ 999999999999999 → unsigned_abs (on_the_way p q some parts) ≤ 999999999999999
+way_micro p q {some} {parts} less p_small q_small =
     by_bounds (way_within p q (neg_ℤ (pos 999999999999999)) (pos 999999999999999) some parts (omega arith) (omega arith)
     (omega (arith, ints, p_small)) (omega (arith, ints, p_small)) (omega (arith, ints, q_small))
     (omega (arith, ints, q_small)))
@@ -58,11 +60,11 @@ way_micro p q some parts less p_small q_small =
         → unsigned_abs (on_the_way p q some parts) ≤ 999999999999999
     by_bounds b = omega (arith, ints, b.0, b.1)
 
-pub blend_micro : (s t : ℕ) (a b c d : ℤ) → s ≤ ONE → t ≤ ONE → unsigned_abs a ≤ 999999999999999
+pub blend_micro : {s t : ℕ} (a b c d : ℤ) → s ≤ ONE → t ≤ ONE → unsigned_abs a ≤ 999999999999999
     → unsigned_abs b ≤ 999999999999999
     → unsigned_abs c ≤ 999999999999999 → unsigned_abs d ≤ 999999999999999 → unsigned_abs (blend s t a b c d)
     ≤ 999999999999999
-blend_micro s t a b c d s_le t_le a_small b_small c_small d_small =
+blend_micro {s} {t} a b c d s_le t_le a_small b_small c_small d_small =
     by_bounds (blend_within s t a b c d (neg_ℤ (pos 999999999999999)) (pos 999999999999999) s_le t_le
     (omega (arith, ints, a_small)) (omega (arith, ints, b_small)) (omega (arith, ints, c_small))
     (omega (arith, ints, d_small))
@@ -74,11 +76,11 @@ blend_micro s t a b c d s_le t_le a_small b_small c_small d_small =
     by_bounds e = omega (arith, ints, e.0, e.1)
 
 -- What the calls of `weighed`, `part_of` and `blend` compute.
-pub weighed_is : (a b f g : ℕ) (n m : ℤ) → f ≡ a → g ≡ b → m ≡ to_z w64 (of_z w64 n) → a ≤ ONE → b ≤ ONE
+pub weighed_is : {a b f g : ℕ} (n : ℤ) {m : ℤ} → f ≡ a → g ≡ b → m ≡ to_z w64 (of_z w64 n) → a ≤ ONE → b ≤ ONE
     → unsigned_abs n < 2 ^ 52
     → (to_z w128 (of_z w128 (to_z w128 (f * g) *ℤ to_z w128 (of_z w128 m))) ≡ pos (a * b) *ℤ n)
     × (unsigned_abs (pos (a * b) *ℤ n) ≤ 2 ^ 116)
-weighed_is a b f g n m f_is g_is m_is a_le b_le small =
+weighed_is {a} {b} {f} {g} n {m} f_is g_is m_is a_le b_le small =
     ((λ i. to_z w128 (of_z w128 (weight i *ℤ number i))) ∙ kept (pos (a * b) *ℤ n) (omega (arith, few)), few)
   where
     product : a * b ≤ ONE * ONE
@@ -89,21 +91,20 @@ weighed_is a b f g n m f_is g_is m_is a_le b_le small =
         times_few (a * b) (ONE * ONE) n (2 ^ 52) product (omega (arith, small)) in omega (arith, e)
 
     weight : to_z w128 (f * g) ≡ pos (a * b)
-    weight = (λ i. to_z w128 (f_is i * g_is i)) ∙ natural (a * b) (omega (arith, product))
+    weight = (λ i. to_z w128 (f_is i * g_is i)) ∙ natural (omega (arith, product))
 
     number : to_z w128 (of_z w128 m) ≡ n
     number = ap (λ z. to_z w128 (of_z w128 z)) (m_is ∙ kept_half n (omega (arith, small)))
         ∙ kept n (omega (arith, small))
 
-pub part_is : (way q twice one double : ℤ) (some parts : ℕ) → (some < parts) → parts ≤ ONE
+pub part_is : (way : ℤ) {q twice one double : ℤ} (some : ℕ) {parts : ℕ} → (some < parts) → parts ≤ ONE
     → unsigned_abs way < 2 ^ 52
     → twice ≡ pos (some * 2) *ℤ to_z w64 (of_z w64 way) → one ≡ pos parts → double ≡ pos (2 * parts)
     → q ≡ int_div_euclid (to_z w128 (of_z w128 (to_z w128 (of_z w128 twice) +ℤ to_z w128 (of_z w128 one))))
     (to_z w128 (of_z w128 double))
     → (to_z w64 (of_z w64 (to_z w128 (of_z w128 q))) ≡ int_div_euclid ((pos (2 * some) *ℤ way) +ℤ pos parts)
-    (pos (2 * parts)))
-    × (unsigned_abs q ≤ 2 ^ 52)
-part_is way q twice one double some parts less le small twice_is one_is double_is q_is =
+    (pos (2 * parts))) × (unsigned_abs q ≤ 2 ^ 52)
+part_is way {q} {twice} {one} {double} some {parts} less le small twice_is one_is double_is q_is =
     (ap (λ z. to_z w64 (of_z w64 z)) (kept q (omega (arith, few))) ∙ kept_half q (omega (arith, few)) ∙ quotient, few)
   where
     plain : twice ≡ pos (2 * some) *ℤ way
@@ -129,15 +130,14 @@ part_is way q twice one double some parts less le small twice_is one_is double_i
     quotient = q_is ∙ (λ i. int_div_euclid (sum i) (bottom i))
 
     few : unsigned_abs q ≤ 2 ^ 52
-    few = omega (arith, part_few way some parts less (omega (arith, small)), ap unsigned_abs quotient)
+    few = omega (arith, part_few way less (omega (arith, small)), ap unsigned_abs quotient)
 
-pub way_is : (p q r : ℤ) (some parts : ℕ) → some < parts → unsigned_abs p ≤ 999999999999999
+pub way_is : (p q : ℤ) {r : ℤ} {some : ℕ} {parts : ℕ} → some < parts → unsigned_abs p ≤ 999999999999999
     → unsigned_abs q ≤ 999999999999999
     → r ≡ int_div_euclid ((pos (2 * some) *ℤ to_z w64 (of_z w64 (to_z w64 (of_z w64 q) -ℤ to_z w64 (of_z w64 p)))) +ℤ
-    pos parts) (pos (2 * parts))
-    → unsigned_abs r ≤ 2 ^ 52
+    pos parts) (pos (2 * parts)) → unsigned_abs r ≤ 2 ^ 52
     → to_z w64 (of_z w64 (to_z w64 (of_z w64 p) +ℤ to_z w64 (of_z w64 r))) ≡ on_the_way p q some parts
-way_is p q r some parts less p_small q_small r_is r_small =
+way_is p q {r} {some} {parts} less p_small q_small r_is r_small =
     (λ i. to_z w64 (of_z w64 (kept_half p (omega (arith, p_small)) i +ℤ kept_half r (omega (arith, r_small)) i)))
     ∙ kept_half (p +ℤ r) (omega (arith, ints, p_small, r_small))
     ∙ ap (λ z. p +ℤ z) (r_is ∙ ap (λ z. int_div_euclid ((pos (2 * some) *ℤ z) +ℤ pos parts) (pos (2 * parts))) gap)
@@ -150,8 +150,7 @@ way_is p q r some parts less p_small q_small r_is r_small =
 pub sum_is : (a b c d : ℤ) → unsigned_abs a ≤ 2 ^ 116 → unsigned_abs b ≤ 2 ^ 116 → unsigned_abs c ≤ 2 ^ 116
     → unsigned_abs d ≤ 2 ^ 116
     → to_z w128 (of_z w128 (to_z w128 (of_z w128 (to_z w128 (of_z w128 a) +ℤ to_z w128 (of_z w128 b))) +ℤ to_z w128
-    (of_z w128 (to_z w128 (of_z w128 c) +ℤ to_z w128 (of_z w128 d)))))
-    ≡ (a +ℤ b) +ℤ (c +ℤ d)
+    (of_z w128 (to_z w128 (of_z w128 c) +ℤ to_z w128 (of_z w128 d))))) ≡ (a +ℤ b) +ℤ (c +ℤ d)
 sum_is a b c d a_small b_small c_small d_small =
     (λ i. to_z w128 (of_z w128 (two a b a_small b_small i +ℤ two c d c_small d_small i)))
     ∙ kept ((a +ℤ b) +ℤ (c +ℤ d)) (omega (arith, ints, a_small, b_small, c_small, d_small))
@@ -163,8 +162,7 @@ sum_is a b c d a_small b_small c_small d_small =
         ∙ kept (y +ℤ z) (omega (arith, ints, y_small, z_small))
 
 pub sum_fits : (a b c d : ℤ) → unsigned_abs a ≤ 2 ^ 116 → unsigned_abs b ≤ 2 ^ 116 → unsigned_abs c ≤ 2 ^ 116
-    → unsigned_abs d ≤ 2 ^ 116
-    → unsigned_abs ((a +ℤ b) +ℤ (c +ℤ d)) ≤ 2 ^ 118
+    → unsigned_abs d ≤ 2 ^ 116 → unsigned_abs ((a +ℤ b) +ℤ (c +ℤ d)) ≤ 2 ^ 118
 sum_fits a b c d a_small b_small c_small d_small = omega (arith, ints, a_small, b_small, c_small, d_small)
 
 -- The four corners with their weights.
@@ -184,16 +182,15 @@ pub record AreWeighed (s t : ℕ) (a b c d wa wb wc wd : ℤ) : Type 0 where
   pub c_short : unsigned_abs wc ≤ 2 ^ 116
   pub d_short : unsigned_abs wd ≤ 2 ^ 116
 
-pub mean_is : (s t : ℕ) (a b c d wa wb wc wd mean : ℤ) → AreWeighed s t a b c d wa wb wc wd
+pub mean_is : {s t : ℕ} {a : ℤ} {b c d wa wb wc wd mean : ℤ} → AreWeighed s t a b c d wa wb wc wd
     → mean ≡ int_div_euclid (to_z w128
     (of_z w128 (to_z w128 (of_z w128 (to_z w128 (of_z w128 (to_z w128 (of_z w128 wa) +ℤ to_z w128 (of_z w128 wb)))
     +ℤ to_z w128 (of_z w128 (to_z w128 (of_z w128 wc) +ℤ to_z w128 (of_z w128 wd))))) +ℤ pos (2 ^ 63)))) (pos (2 ^ 64))
     → mean ≡ blend s t a b c d
-mean_is s t a b c d wa wb wc wd mean are is =
+mean_is {s} {t} {a} {b} {c} {d} {wa} {wb} {wc} {wd} are is =
     is ∙ (λ i. int_div_euclid
     (to_z w128 (of_z w128 (sum_is wa wb wc wd are.a_short are.b_short are.c_short are.d_short i +ℤ pos (2 ^ 63))))
-    (pos (2 ^ 64)))
-    ∙ ap (λ z. int_div_euclid z (pos (2 ^ 64))) (kept (((wa +ℤ wb) +ℤ (wc +ℤ wd)) +ℤ pos (2 ^ 63))
+    (pos (2 ^ 64))) ∙ ap (λ z. int_div_euclid z (pos (2 ^ 64))) (kept (((wa +ℤ wb) +ℤ (wc +ℤ wd)) +ℤ pos (2 ^ 63))
     (omega (arith, ints, sum_fits wa wb wc wd are.a_short are.b_short are.c_short are.d_short)))
     ∙ (λ i. int_div_euclid (((term a wa ((ONE - s) * (ONE - t)) are.a_small are.a_is i +ℤ term b wb (s * (ONE - t))
     are.b_small are.b_is i)

@@ -1,33 +1,32 @@
 -- What is read of the tables and of the layout.
-use Rattle.std.proofs.Common.{◌≡◌, ℕ, zero, suc, ◌+◌, ◌-◌, ◌*◌, ◌<◌, ◌≤◌, List, [], length, get_or, sym, ◌∙◌, ap, subst}
-use Rattle.std.proofs.Common.{arith, ◌^◌}
+use Rattle.std.proofs.Common.{◌≡◌, ℕ, zero, suc, ◌+◌, ◌-◌, ◌*◌, ◌<◌, ◌≤◌, List, [], length, get_or, sym, ◌∙◌, ap, arith}
+use Rattle.std.proofs.Common.{◌^◌}
 use Rattle.std.proofs.lemmas.List.{get_or_read, get_or-map, length-map}
 use Rattle.std.proofs.lemmas.Nat.{mul-le}
 use Rattle.std.specs.Prelude.{slice_index}
 use Rattle.def_cut.specs.{Grids.Rectangle, Grids.cell_of, Grids.patch_at, Grids.rectangle, declared.patch.Patch.Patch}
-use Rattle.def_layout.specs.{Arcs.Path, Arcs.dart_at, Arcs.long_at, Arcs.path, Layouts.west, Lengths.wide, Lengths.high}
-use Rattle.def_layout.specs.{Plans.Plan, Plans.layout_of, Plans.plan, declared.tmesh.TArc.TArc}
-use Rattle.def_layout.specs.declared.tmesh.TMesh.{TMesh}
+use Rattle.def_layout.specs.Arcs.{Path, dart_at, long_at, path}
+use Rattle.def_layout.specs.{Plans.Plan, Plans.layout_of, Plans.plan, Layouts.west, Lengths.wide, Lengths.high}
+use Rattle.def_layout.specs.{declared.tmesh.TArc.TArc, declared.tmesh.TMesh.TMesh}
 use Rattle.def_written.specs.Numbers.{before_patch}
-use Rattle.def_remesh.specs.{NewPoints.lengths_in, Numberings.AreRunStarts, Placings.rim_at, Placings.spacing_in}
-use Rattle.def_remesh.specs.{Placings.IsRim, declared.places.PlaceTables.PlaceTables, declared.places.Rim.Rim}
+use Rattle.def_remesh.specs.{Placings.rim_at, Placings.spacing_in, Placings.IsRim, NewPoints.lengths_in}
+use Rattle.def_remesh.specs.{Numberings.AreRunStarts, declared.places.PlaceTables.PlaceTables, declared.places.Rim.Rim}
 use Rattle.def_math.specs.Counts.{count_below}
+use Rattle.qm_offsets.proofs.Spots.{last_is}
 use Rattle.qm_place.proofs.Rims.{old_read}
 use Rattle.qm_place.specs.{Placed.ArePlaced, Spots.HasRoom}
-use Rattle.qm_offsets.proofs.Spots.{last_is}
 
 -- Where a run begins.
-pub start_read : (f : ℕ → ℕ) (n k v : ℕ) (starts : List ℕ) → AreRunStarts f n starts → k < n → v ≡ get_or starts k v
-    → v ≡ count_below f k
-start_read f n k v starts are low read = get_or_read starts k v (omega (arith, low, are.count)) read 0
+pub start_read : {f : ℕ → ℕ} {n : ℕ} {k v : ℕ} {starts : List ℕ} → AreRunStarts f n starts → k < n → v
+    ≡ get_or starts k v → v ≡ count_below f k
+start_read {k} {v} {starts} are low read = get_or_read starts k v (omega (arith, low, are.count)) read 0
     ∙ are.each k (omega (arith, low))
 
 -- A dart of an arc.
-pub dart_read : (t : TMesh) (a i j : ℕ) (arc : TArc) (d : ℕ) → a < length t.arcs.items → arc ≡ get_or t.arcs.items a arc
+pub dart_read : (t : TMesh) {a i j : ℕ} {arc : TArc} {d : ℕ} → a < length t.arcs.items → arc ≡ get_or t.arcs.items a arc
     → i < length arc.darts.items → d ≡ get_or arc.darts.items i d → i ≡ j → d ≡ dart_at (plan t).arcs a j
-dart_read t a i j arc d low same i_low read place =
-    get_or_read arc.darts.items i d i_low read 0
-    ∙ ap (λ (q : Path). slice_index q.darts i) (ap path same
+dart_read t {a} {i} {arc} {d} low same i_low read place =
+    get_or_read arc.darts.items i d i_low read 0 ∙ ap (λ (q : Path). slice_index q.darts i) (ap path same
     ∙ sym (get_or-map path t.arcs.items a arc (record { first = 0; last = 0; darts = [] }) low))
     ∙ ap (dart_at (plan t).arcs a) place
 
@@ -36,10 +35,10 @@ pub record IsOldArc (t : TMesh) (a : ℕ) (arc : TArc) : Type 0 where
   pub long : length arc.darts.items ≡ long_at (plan t).arcs a
   pub short : long_at (plan t).arcs a ≤ 2 ^ 21
 
-pub arc_read : (t : TMesh) (tables : PlaceTables) (a : ℕ) (arc : TArc) → ArePlaced (plan t) tables
+pub arc_read : (t : TMesh) {tables : PlaceTables} {a : ℕ} {arc : TArc} → ArePlaced (plan t) tables
     → a < length t.arcs.items → arc ≡ get_or t.arcs.items a arc → IsOldArc t a arc
-arc_read t tables a arc is low read = record {
-  long = old_read t a arc low read;
+arc_read t {a} {arc} is low read = record {
+  long = old_read t low read;
   short = is.arcs a a_low;
 }
   where
@@ -55,10 +54,9 @@ pub record IsOldPatch (t : TMesh) (p : ℕ) (patch : Patch) : Type 0 where
   pub tall : 0 < patch.h
   pub cells : length patch.cells.items ≡ patch.h * patch.w
 
-pub patch_read : (t : TMesh) (tables : PlaceTables) (p : ℕ) (patch : Patch) → ArePlaced (plan t) tables
-    → p < length t.patches.items → patch ≡ get_or t.patches.items p patch
-    → IsOldPatch t p patch
-patch_read t tables p patch is low read = record {
+pub patch_read : (t : TMesh) {tables : PlaceTables} {p : ℕ} {patch : Patch} → ArePlaced (plan t) tables
+    → p < length t.patches.items → patch ≡ get_or t.patches.items p patch → IsOldPatch t p patch
+patch_read t {p = p} {patch = patch} is low read = record {
   same = same;
   wide = wide_is;
   high = high_is;
@@ -82,25 +80,24 @@ patch_read t tables p patch is low read = record {
     high_is = ap (λ (r : Rectangle). r.h) same ∙ (is.patches p p_low).height
 
 -- A cell of a patch.
-pub cell_low : (t : TMesh) (p a b : ℕ) (patch : Patch) → IsOldPatch t p patch → a < patch.w → b < patch.h
+pub cell_low : {t : TMesh} {p : ℕ} {a b : ℕ} {patch : Patch} → IsOldPatch t p patch → a < patch.w → b < patch.h
     → b * patch.w + a < length patch.cells.items
-cell_low t p a b patch is a_low b_low = by_parts patch.w patch.h a b (length patch.cells.items) a_low b_low is.cells
+cell_low {a} {b} {patch} is a_low b_low = by_parts patch.w patch.h a b (length patch.cells.items) a_low b_low is.cells
   where
     by_parts : (w h a b n : ℕ) → a < w → b < h → n ≡ h * w → b * w + a < n
     by_parts w h a b n a_less b_less e = let le : (b + 1) * w ≤ h * w =
         mul-le (b + 1) w h w (omega arith) (omega arith) in omega (arith, le)
 
-pub cell_read : (t : TMesh) (p a b d : ℕ) (patch : Patch) → IsOldPatch t p patch → a < patch.w → b < patch.h
+pub cell_read : {t : TMesh} {p : ℕ} {a b d : ℕ} {patch : Patch} → IsOldPatch t p patch → a < patch.w → b < patch.h
     → d ≡ get_or patch.cells.items (b * patch.w + a) d → d ≡ cell_of (patch_at (plan t).patches p) a b
-cell_read t p a b d patch is a_low b_low read =
-    get_or_read patch.cells.items (b * patch.w + a) d (cell_low t p a b patch is a_low b_low) read 0
+cell_read {t} {p} {a} {b} {d} {patch} is a_low b_low read =
+    get_or_read patch.cells.items (b * patch.w + a) d (cell_low is a_low b_low) read 0
     ∙ ap (λ (r : Rectangle). cell_of r a b) is.same
 
 -- The rim of a patch.
-pub rim_read : (plan : Plan) (tables : PlaceTables) (p : ℕ) (rim : Rim) → length tables.rims.items ≡ length plan.patches
-    → p < length plan.patches
-    → rim ≡ get_or tables.rims.items p rim → rim ≡ rim_at tables.rims.items p
-rim_read plan tables p rim rimmed low read = get_or_read tables.rims.items p rim (omega (arith, rimmed, low)) read
+pub rim_read : (plan : Plan) (tables : PlaceTables) {p : ℕ} {rim : Rim} → length tables.rims.items ≡ length plan.patches
+    → p < length plan.patches → rim ≡ get_or tables.rims.items p rim → rim ≡ rim_at tables.rims.items p
+rim_read plan tables {p} {rim} rimmed low read = get_or_read tables.rims.items p rim (omega (arith, rimmed, low)) read
     (record { wide = 0; high = 0; begin = 0 })
 
 pub record IsRimRead (t : TMesh) (tables : PlaceTables) (p : ℕ) (rim : Rim) : Type 0 where
@@ -108,56 +105,49 @@ pub record IsRimRead (t : TMesh) (tables : PlaceTables) (p : ℕ) (rim : Rim) : 
   pub same : rim ≡ rim_at tables.rims.items p
   pub is : IsRim (plan t) (lengths_in tables.lengths.items) (spacing_in (plan t) tables) p rim tables.parameters.items
 
-pub rim_here : (t : TMesh) (tables : PlaceTables) (p : ℕ) (rim : Rim) → ArePlaced (plan t) tables
-    → p < length t.patches.items → rim ≡ get_or tables.rims.items p rim
-    → IsRimRead t tables p rim
-rim_here t tables p rim are low read = record {
+pub rim_here : (t : TMesh) {tables : PlaceTables} {p : ℕ} {rim : Rim} → ArePlaced (plan t) tables
+    → p < length t.patches.items → rim ≡ get_or tables.rims.items p rim → IsRimRead t tables p rim
+rim_here t {tables} {p} {rim} are low read = record {
   low = p_low;
   same = same;
-  is = subst (λ (r : Rim). IsRim (plan t) (lengths_in tables.lengths.items) (spacing_in (plan t) tables) p r
-      tables.parameters.items) (sym same)
-      (are.rims p p_low);
+  is = rw same (are.rims p p_low);
 }
   where
     p_low : p < length (plan t).patches
     p_low = omega (arith, low, length-map t.patches.items rectangle)
 
     same : rim ≡ rim_at tables.rims.items p
-    same = rim_read (plan t) tables p rim are.rimmed p_low read
+    same = rim_read (plan t) tables are.rimmed p_low read
 
-pub rim_room : (plan : Plan) (tables : PlaceTables) (p : ℕ) (rim : Rim) (list : List ℕ) → p < length plan.patches
+pub rim_room : {plan : Plan} (tables : PlaceTables) {p : ℕ} {rim : Rim} {list : List ℕ} → p < length plan.patches
     → IsRim plan (lengths_in tables.lengths.items) (spacing_in plan tables) p rim tables.parameters.items
-    → list ≡ tables.parameters.items
-    → HasRoom rim list
-rim_room plan tables p rim list low is same =
+    → list ≡ tables.parameters.items → HasRoom rim list
+rim_room tables low is same =
     omega (arith, (is.sides west).room, is.wide, is.high, ap (λ (xs : List ℕ). length xs) same)
 
 -- Where the last run ends.
-pub end_read : (f : ℕ → ℕ) (n len v : ℕ) (starts : List ℕ) → AreRunStarts f n starts → len ≡ length starts
+pub end_read : {f : ℕ → ℕ} {n : ℕ} {len v : ℕ} {starts : List ℕ} → AreRunStarts f n starts → len ≡ length starts
     → v ≡ get_or starts (len - 1) v → v ≡ count_below f n
-end_read f n len v starts are long read =
+end_read {f} {n} {len} {v} {starts} are long read =
     let last : len - 1 ≡ length starts - 1 = ap (λ k. k - 1) long in
     get_or_read starts (len - 1) v (omega (arith, long, are.count)) read 0 ∙ ap (slice_index starts) last
     ∙ last_is f n starts are
 
 -- Where a place lies in runs there is a run.
-pub some_runs : (f : ℕ → ℕ) (n t : ℕ) → t < count_below f n → 0 < n
-some_runs f zero t less = absurd (omega arith)
-some_runs f (suc n) t less = omega arith
+pub some_runs : (f : ℕ → ℕ) (n : ℕ) {t : ℕ} → t < count_below f n → 0 < n
+some_runs f zero less = absurd (omega arith)
+some_runs f (suc n) less = omega arith
 
 -- Where the inner points of a patch begin, and how wide it is.
 pub record IsOffset (plan : Plan) (tables : PlaceTables) (patch begin columns : ℕ) : Type 0 where
   pub begin_is : begin ≡ before_patch (layout_of plan) (lengths_in tables.lengths.items) patch
   pub columns_are : columns ≡ wide (layout_of plan) (lengths_in tables.lengths.items) patch
 
-pub offset_read : (plan : Plan) (tables : PlaceTables) (are : ArePlaced plan tables) (patch begin : ℕ) (rim : Rim)
+pub offset_read : {plan : Plan} {tables : PlaceTables} (are : ArePlaced plan tables) {patch begin : ℕ} {rim : Rim}
     → patch < length plan.patches
     → begin ≡ get_or tables.inside.begin.items patch begin → rim ≡ get_or tables.rims.items patch rim
     → IsOffset plan tables patch begin rim.wide
-offset_read plan tables are patch begin rim low begin_read rim_is = record {
-  begin_is = start_read (λ p. (wide (layout_of plan) (lengths_in tables.lengths.items) p - 1) *
-      (high (layout_of plan) (lengths_in tables.lengths.items) p - 1))
-      (length plan.patches) patch begin tables.inside.begin.items are.inside low begin_read;
-  columns_are = ap (λ (r : Rim). r.wide) (rim_read plan tables patch rim are.rimmed low rim_is)
-      ∙ (are.rims patch low).wide;
+offset_read {plan} {tables} are {patch} {begin} {rim} low begin_read rim_is = record {
+  begin_is = start_read are.inside low begin_read;
+  columns_are = ap (λ (r : Rim). r.wide) (rim_read plan tables are.rimmed low rim_is) ∙ (are.rims patch low).wide;
 }

@@ -1,59 +1,38 @@
 -- Where the vertices of the new mesh lie, as the tables tell.
-use Rattle.std.proofs.Common.{
-  ◌≡◌,
-  ℕ,
-  ◌+◌,
-  ◌-◌,
-  ◌*◌,
-  ◌/◌,
-  ◌%◌,
-  ◌^◌,
-  ◌<◌,
-  ◌≤◌,
-  List,
-  length,
-  Option,
-  None,
-  Some,
-  sym,
-  ◌∙◌,
-  ap,
-  subst,
-  arith,
-}
+use Rattle.std.proofs.Common.{◌≡◌, ℕ, ◌+◌, ◌-◌, ◌*◌, ◌/◌, ◌%◌, ◌^◌, ◌<◌, ◌≤◌, List, length, Option, None, Some, sym}
+use Rattle.std.proofs.Common.{◌∙◌, ap, subst, arith}
 use Rattle.std.proofs.Math.Nat.{mul_comm}
 use Rattle.def_math.specs.Runs.{run_at}
 use Rattle.def_mesh.specs.Faces.{Faces}
-use Rattle.def_layout.specs.{Arcs.long_at, Layouts.Layout, Layouts.south, Layouts.east, Layouts.north, Layouts.west}
-use Rattle.def_layout.specs.{Lengths.Lengths, Lengths.wide, Lengths.high, Lengths.AreLengths, Plans.Plan}
-use Rattle.def_layout.specs.Plans.{layout_of, vertex_at}
+use Rattle.def_layout.specs.Layouts.{Layout, south, east, north, west}
+use Rattle.def_layout.specs.Lengths.{Lengths, wide, high, AreLengths}
+use Rattle.def_layout.specs.{Plans.Plan, Plans.layout_of, Plans.vertex_at, Arcs.long_at}
 use Rattle.def_layoutnet.specs.MeshLayouts.{IsSomeLayout}
-use Rattle.def_written.specs.{Numbers.before_arc, Numbers.before_patch, Numbers.vertices, Places.ONE, Places.parameter}
-use Rattle.def_written.specs.{Places.parameter_back, Places.ArcSpacing, Spacings.IsSpacing, Points.Point, Points.node}
-use Rattle.def_written.specs.Points.{along, inside, IsPoint}
+use Rattle.def_written.specs.Places.{ONE, parameter, parameter_back, ArcSpacing}
+use Rattle.def_written.specs.Points.{Point, node, along, inside, IsPoint}
+use Rattle.def_written.specs.{Numbers.before_arc, Numbers.before_patch, Numbers.vertices, Spacings.IsSpacing}
 use Rattle.def_map.specs.Spots.{edge_spot, face_spot, spot_at, spot_of}
-use Rattle.def_map.specs.declared.spot.EdgeSpot.{EdgeSpot}
-use Rattle.def_map.specs.declared.spot.FaceSpot.{FaceSpot}
 use Rattle.def_map.specs.declared.spot.Spot.TheVariants.{AtVertex, InFace, OnEdge}
+use Rattle.def_map.specs.{declared.spot.EdgeSpot.EdgeSpot, declared.spot.FaceSpot.FaceSpot}
 use Rattle.def_remesh.specs.NewPoints.{along_arcs, inside_patches, lengths_in, point_at}
-use Rattle.def_remesh.specs.{Placings.shares_in, Placings.spacing_in, Placings.ArePlaces, Spaced.shares_along}
-use Rattle.def_remesh.specs.{Spaced.spacing_by, declared.places.PlaceTables.PlaceTables}
+use Rattle.def_remesh.specs.Placings.{shares_in, spacing_in, ArePlaces}
+use Rattle.def_remesh.specs.{Spaced.shares_along, Spaced.spacing_by, declared.places.PlaceTables.PlaceTables}
 use Rattle.map_laws.proofs.Numbered.{at_arc, at_node, at_patch, is_point}
 use Rattle.map_laws.proofs.Parameters.{ahead_end, back_end, u_upto, v_upto}
 use Rattle.map_laws.proofs.Spaced.{spacing_is}
 use Rattle.written_laws.proofs.{Spacings.even_edge, Spacings.step_is, Runs.run_here, Runs.IsInRun, EdgeNumbers.in_rows}
 use Rattle.written_laws.proofs.Grid.{wide_some, high_some}
-use Rattle.qm_place.proofs.Rims.{old_few, old_short}
-use Rattle.qm_place.specs.Placed.{ArePlaced, IsSized}
-use Rattle.qm_place.specs.Spots.{grid_point, HasEnds, IsAlong, IsInside, IsShort, IsSmall}
 use Rattle.plan_laws.proofs.Bounds.{side_few, vertices_few}
 use Rattle.qm_offsets.proofs.{Spots.term_room, Whole.laid_of, Whole.lengths_of}
+use Rattle.qm_place.proofs.Rims.{old_few, old_short}
+use Rattle.qm_place.specs.Spots.{grid_point, HasEnds, IsAlong, IsInside, IsShort, IsSmall}
+use Rattle.qm_place.specs.Placed.{ArePlaced, IsSized}
 
 module _ (plan : Plan) (shares : Option (List ℕ)) (new : Lengths) where
   -- Where a number of a vertex leads.
-  pub on_arc : (place arc : ℕ) → place < before_arc new (length plan.arcs)
+  pub on_arc : {place arc : ℕ} → place < before_arc new (length plan.arcs)
       → arc ≡ run_at (before_arc new) (length plan.arcs) place → IsAlong plan new arc place
-  on_arc place arc low same = subst (λ a. IsAlong plan new a place) (sym same) (record {
+  on_arc {place} low same = subst (λ a. IsAlong plan new a place) (sym same) (record {
     low = here.low;
     from = omega (arith, here.place);
     upto = omega (arith, here.inside);
@@ -63,10 +42,9 @@ module _ (plan : Plan) (shares : Option (List ℕ)) (new : Lengths) where
           (place - before_arc new (run_at (before_arc new) (length plan.arcs) place))
       here = run_here (λ b. new b - 1) (length plan.arcs) place low
 
-  pub in_patch : (place patch : ℕ) → place < before_patch (layout_of plan) new (length plan.patches)
-      → patch ≡ run_at (before_patch (layout_of plan) new) (length plan.patches) place
-      → IsInside plan new patch place
-  in_patch place patch low same =
+  pub in_patch : {place patch : ℕ} → place < before_patch (layout_of plan) new (length plan.patches)
+      → patch ≡ run_at (before_patch (layout_of plan) new) (length plan.patches) place → IsInside plan new patch place
+  in_patch {place} low same =
       subst (λ p. IsInside plan new p place) (sym same)
       (by_run _ _ (run_here (λ q. (wide (layout_of plan) new q - 1) * (high (layout_of plan) new q - 1))
       (length plan.patches) place low))
@@ -88,16 +66,16 @@ module _ (plan : Plan) (shares : Option (List ℕ)) (new : Lengths) where
           }
 
   -- A node, by its number.
-  pub found_at : (v u : ℕ) → v < length plan.nodes → u ≡ vertex_at plan v → AtVertex u ≡ spot_at plan shares new v
-  found_at v u low same = ap AtVertex same ∙ ap (spot_of plan new (spacing_by plan shares new))
+  pub found_at : {v u : ℕ} → v < length plan.nodes → u ≡ vertex_at plan v → AtVertex u ≡ spot_at plan shares new v
+  found_at {v} low same = ap AtVertex same ∙ ap (spot_of plan new (spacing_by plan shares new))
       (sym (at_node (layout_of plan) new v low))
 
   -- A vertex on an arc.
-  pub found_on : (v place arc : ℕ) (spot : EdgeSpot) → length plan.nodes ≤ v → place ≡ v - length plan.nodes
+  pub found_on : {v place arc : ℕ} {spot : EdgeSpot} → length plan.nodes ≤ v → place ≡ v - length plan.nodes
       → place < before_arc new (length plan.arcs) → arc ≡ run_at (before_arc new) (length plan.arcs) place
       → spot ≡ edge_spot plan (spacing_by plan shares new) arc (place - before_arc new arc + 1)
       → OnEdge spot ≡ spot_at plan shares new v
-  found_on v place arc spot from place_is low same spot_is =
+  found_on {v} {place} from place_is low same spot_is =
       ap OnEdge spot_is
       ∙ (λ t. spot_of plan new (spacing_by plan shares new) (along (same t) (place - before_arc new (same t) + 1)))
       ∙ ap (λ k. spot_of plan new (spacing_by plan shares new) (along_arcs (layout_of plan) new k)) place_is
@@ -105,42 +83,41 @@ module _ (plan : Plan) (shares : Option (List ℕ)) (new : Lengths) where
       (sym (at_arc (layout_of plan) new v from (omega (arith, from, low, place_is))))
 
   -- A vertex inside a patch.
-  pub found_in : (v place patch : ℕ) (spot : FaceSpot) → length plan.nodes + before_arc new (length plan.arcs) ≤ v
+  pub found_in : {v place patch : ℕ} {spot : FaceSpot} → length plan.nodes + before_arc new (length plan.arcs) ≤ v
       → place ≡ v - (length plan.nodes + before_arc new (length plan.arcs))
       → patch ≡ run_at (before_patch (layout_of plan) new) (length plan.patches) place
       → spot ≡ face_spot plan new (spacing_by plan shares new) patch
       ((place - before_patch (layout_of plan) new patch) % (wide (layout_of plan) new patch - 1) + 1)
       ((place - before_patch (layout_of plan) new patch) / (wide (layout_of plan) new patch - 1) + 1)
       → InFace spot ≡ spot_at plan shares new v
-  found_in v place patch spot from place_is same spot_is =
-      ap InFace spot_is
-      ∙ (λ t. spot_of plan new (spacing_by plan shares new) (inside (same t)
+  found_in {v} {place} from place_is same spot_is =
+      ap InFace spot_is ∙ (λ t. spot_of plan new (spacing_by plan shares new) (inside (same t)
       ((place - before_patch (layout_of plan) new (same t)) % (wide (layout_of plan) new (same t) - 1) + 1)
       ((place - before_patch (layout_of plan) new (same t)) / (wide (layout_of plan) new (same t) - 1) + 1)))
       ∙ ap (λ k. spot_of plan new (spacing_by plan shares new) (inside_patches (layout_of plan) new k)) place_is
       ∙ ap (spot_of plan new (spacing_by plan shares new)) (sym (at_patch (layout_of plan) new v from))
 
 -- Edges are divided in few parts.
-pub short_step : (plan : Plan) (shares : Option (List ℕ)) (new : Lengths) → IsSomeLayout plan
+pub short_step : {plan : Plan} (shares : Option (List ℕ)) {new : Lengths} → IsSomeLayout plan
     → AreLengths (layout_of plan) new → ((arc : ℕ) → arc < length plan.arcs → new arc ≤ 2 ^ 24)
-    → (arc k : ℕ) → arc < length plan.arcs → k < new arc → ((spacing_by plan shares new).step arc k).parts ≤ ONE
-short_step plan None new is len short arc k low less = omega (arith, short arc low)
-short_step plan (Some shares) new is len short arc k low less =
+    → {arc k : ℕ} → arc < length plan.arcs → k < new arc → ((spacing_by plan shares new).step arc k).parts ≤ ONE
+short_step None is len short {arc} {k} low less = omega (arith, short arc low)
+short_step {plan} (Some shares) {new} is len short {arc} {k} low less =
     omega (
       arith,
       (step_is (layout_of plan) (long_at plan.arcs) new (shares_along plan shares) (lengths_of plan is) len
           arc k low less).parts,
     )
 
-pub short_spot : (plan : Plan) (shares : Option (List ℕ)) (new : Lengths) → IsSomeLayout plan
-    → AreLengths (layout_of plan) new → ((arc : ℕ) → arc < length plan.arcs → new arc ≤ 2 ^ 24) → (v : ℕ)
+pub short_spot : {plan : Plan} (shares : Option (List ℕ)) {new : Lengths} → IsSomeLayout plan
+    → AreLengths (layout_of plan) new → ((arc : ℕ) → arc < length plan.arcs → new arc ≤ 2 ^ 24) → {v : ℕ}
     → v < vertices (layout_of plan) new → IsShort (spot_at plan shares new v)
-short_spot plan shares new is len short v low =
+short_spot {plan} shares {new} is len short {v} low =
     by_point (point_at (layout_of plan) new v) (is_point (layout_of plan) new v low)
   where
     by_point : (a : Point) → IsPoint (layout_of plan) new a → IsShort (spot_of plan new (spacing_by plan shares new) a)
     by_point (node n) is_a = tt
-    by_point (along arc k) is_a = short_step plan shares new is len short arc k is_a.0 is_a.2
+    by_point (along arc k) is_a = short_step shares is len short is_a.0 is_a.2
     by_point (inside p i j) is_a = tt
 
 module _ (faces : Faces) (plan : Plan) (tables : PlaceTables) (are : ArePlaces faces plan tables) where
@@ -183,8 +160,8 @@ module _ (faces : Faces) (plan : Plan) (tables : PlaceTables) (are : ArePlaces f
     height = sym (is.laid.sizes p west low);
     some = wide_some l old (laid_of plan is).paved (lengths_of plan is) p low;
     tall = high_some l old (laid_of plan is).paved (lengths_of plan is) p low;
-    few_columns = old_few plan is p south low;
-    few_rows = old_few plan is p west low;
+    few_columns = old_few is south low;
+    few_rows = old_few is west low;
     cells = is.laid.patches.sized p low;
   }
 
@@ -206,12 +183,12 @@ module _ (faces : Faces) (plan : Plan) (tables : PlaceTables) (are : ArePlaces f
     omega (
       arith,
       u_upto l old new spacing (laid_of plan is) (lengths_of plan is) are.lengths spaced p i j low i_le j_le,
-      old_few plan is p south low,
+      old_few is south low,
     ),
     omega (
       arith,
       v_upto l old new spacing (laid_of plan is) (lengths_of plan is) are.lengths spaced p i j low i_le j_le,
-      old_few plan is p west low,
+      old_few is west low,
     ),
   )
 

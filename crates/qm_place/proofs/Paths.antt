@@ -1,41 +1,16 @@
 -- Walks along the old edges of an arc, and the parameters that they give.
-use Rattle.std.proofs.Common.{
-  ◌≡◌,
-  ℕ,
-  zero,
-  suc,
-  ◌+◌,
-  ◌-◌,
-  ◌*◌,
-  ◌/◌,
-  ◌^◌,
-  ◌<◌,
-  ◌≤◌,
-  Bool,
-  true,
-  false,
-  List,
-  length,
-  refl,
-  sym,
-  ◌∙◌,
-  ap,
-  subst,
-  inl,
-  inr,
-  mul-add,
-  arith,
-}
+use Rattle.std.proofs.Common.{◌≡◌, ℕ, zero, suc, ◌+◌, ◌-◌, ◌*◌, ◌/◌, ◌<◌, ◌≤◌, false, List, length, sym, ◌∙◌, ap, subst}
+use Rattle.std.proofs.Common.{inl, inr, mul-add, arith}
 use Rattle.std.specs.Prelude.{nat_lt, ◌==◌}
 use Rattle.std.proofs.lemmas.Bool.{cases_eq, cond-true, cond-false, lt-ltb, le-ltb, ne_eqb}
 use Rattle.std.proofs.lemmas.Nat.{mul-le}
 use Rattle.def_math.specs.{Counts.count_below, Runs.run_at}
-use Rattle.def_written.specs.Places.{ONE}
 use Rattle.def_written.specs.Spacings.{counted, edge_begin, inner_step, shared_step, step_parameter}
+use Rattle.def_written.specs.Places.{ONE}
 use Rattle.def_layout.specs.{Arcs.long_at, Arcs.path_at, Lengths.Lengths, Plans.Plan}
 use Rattle.def_remesh.specs.Spaced.{shares_along}
-use Rattle.qm_place.specs.Paths.{share_by}
 use Rattle.written_laws.proofs.{Runs.count_rises, Runs.run_to, Spacings.div_less}
+use Rattle.qm_place.specs.Paths.{share_by}
 
 -- The run that begins at or before a place, and ends after it, is the one that is found.
 run_is : (start : ℕ → ℕ) (n t e : ℕ) → ((a b : ℕ) → a ≤ b → start a ≤ start b) → e < n → start e ≤ t
@@ -72,8 +47,7 @@ module _ (share : ℕ → ℕ) (m n k : ℕ) (all : ℕ) (whole : all ≡ count_
       sym (run_is (λ i. n * count_below share i) m (k * count_below share m) e
       (λ a b le. mul-le n (count_below share a) n (count_below share b) (omega arith) (count_rises share a b le)) low
       (subst (λ z. n * z ≤ k * count_below share m) before_is (subst (λ z. n * before ≤ k * z) whole from))
-      (subst (λ z. k * count_below share m < n * z) next
-      (subst (λ z. k * z < n * (before + share e)) whole to)))
+      (subst (λ z. k * count_below share m < n * z) next (subst (λ z. k * z < n * (before + share e)) whole to)))
     where
       next : before + share e ≡ count_below share (suc e)
       next = omega (arith, before_is)
@@ -107,16 +81,14 @@ module _ (share : ℕ → ℕ) (m n k : ℕ) (all : ℕ) (whole : all ≡ count_
       (omega (arith, rest_low from same))
 
 -- The parameter of an inner point of an arc of a layout is that of the path of its darts.
-pub arc_parameter : (plan : Plan) (new : Lengths) (shares : List ℕ) (arc k : ℕ) (darts : List ℕ)
+pub arc_parameter : (plan : Plan) (new : Lengths) (shares : List ℕ) (arc : ℕ) {k : ℕ} {darts : List ℕ}
     → darts ≡ (path_at plan.arcs arc).darts → 0 < k → k < new arc
     → step_parameter (inner_step (counted (share_by darts shares false) (length darts)) (length darts) (new arc)
-    (k - 1 + 1))
-    ≡ step_parameter (shared_step (long_at plan.arcs) new (shares_along plan shares) arc k)
-arc_parameter plan new shares arc k darts same some less =
+    (k - 1 + 1)) ≡ step_parameter (shared_step (long_at plan.arcs) new (shares_along plan shares) arc k)
+arc_parameter plan new shares arc {k} same some less =
     let place : k - 1 + 1 ≡ k = omega (arith, some) in
     (λ i. step_parameter (inner_step (counted (share_by (same i) shares false) (length (same i))) (length (same i))
-    (new arc) (place i)))
-    ∙ ap step_parameter (sym inside)
+    (new arc) (place i))) ∙ ap step_parameter (sym inside)
   where
     inside : shared_step (long_at plan.arcs) new (shares_along plan shares) arc k
         ≡ inner_step (counted (shares_along plan shares arc) (long_at plan.arcs arc)) (long_at plan.arcs arc) (new arc)

@@ -1,22 +1,23 @@
 -- Lists that grow at their end, and the parameters of a side that are put there arc by arc.
-use Rattle.std.proofs.Common.{◌≡◌, ℕ, ◌+◌, ◌-◌, ◌*◌, ◌/◌, ◌<◌, ◌≤◌}
-use Rattle.std.proofs.Common.{Bool, true, false, cond, not, List, []}
-use Rattle.std.proofs.Common.{◌∷◌, ◌++◌, length, length-append, sym, ◌∙◌, ap}
-use Rattle.std.proofs.{Common.subst, Common.inl, Common.inr, Common.arith, lemmas.Bool.cases_lt}
-use Rattle.std.proofs.{lemmas.List.get_or_append_left, lemmas.List.get_or_push, lemmas.Nat.mul-le, Math.Nat.mul_comm}
+use Rattle.std.proofs.Common.{◌≡◌, ℕ, ◌+◌, ◌-◌, ◌*◌, ◌/◌, ◌<◌, ◌≤◌, Bool, true, false, cond, not, List, [], ◌∷◌, ◌++◌}
+use Rattle.std.proofs.Common.{length, length-append, sym, ◌∙◌, ap, subst, inl, inr, arith}
+use Rattle.std.proofs.lemmas.Bool.{cases_lt}
+use Rattle.std.proofs.lemmas.List.{get_or_append_left, get_or_push}
+use Rattle.std.proofs.lemmas.Nat.{mul-le}
+use Rattle.std.proofs.Math.Nat.{mul_comm}
 use Rattle.std.specs.Prelude.{slice_index}
-use Rattle.def_layout.specs.{Arcs.long_at, declared.tmesh.SideArc.SideArc, Layouts.Way, Layouts.south, Layouts.east}
-use Rattle.def_layout.specs.{Layouts.north, Layouts.west, Layouts.Layout, Layouts.IsSlot, Lengths.Lengths}
-use Rattle.def_layout.specs.{Lengths.reach, Lengths.size, Plans.Plan, Plans.layout_of, Plans.plan}
+use Rattle.def_layout.specs.Layouts.{Way, south, east, north, west, Layout, IsSlot}
+use Rattle.def_layout.specs.{Lengths.Lengths, Lengths.reach, Lengths.size, Plans.Plan, Plans.layout_of, Plans.plan}
+use Rattle.def_layout.specs.{Arcs.long_at, declared.tmesh.SideArc.SideArc}
 use Rattle.def_written.specs.{Places.ONE, Places.parameter, Places.parameter_back, Places.ArcSpacing, Points.use_over}
 use Rattle.def_remesh.specs.Placings.{side_parameter, AreParameters}
-use Rattle.qm_place.specs.Pushed.{on_arc, ArePushed, IsKept}
 use Rattle.qm_offsets.proofs.Spots.{count_step}
 use Rattle.written_laws.proofs.{Between.div_most, Sides.slot, Sides.over_is}
+use Rattle.qm_place.specs.Pushed.{on_arc, ArePushed, IsKept}
 
-pub pushed_join : (a b c : List ℕ) (n m : ℕ) (f g : ℕ → ℕ) → ArePushed a b n f → ArePushed b c m g
+pub pushed_join : {a b c : List ℕ} {n : ℕ} {m : ℕ} {f : ℕ → ℕ} {g : ℕ → ℕ} → ArePushed a b n f → ArePushed b c m g
     → ((k : ℕ) → k < m → g k ≡ f (n + k)) → ArePushed a c (n + m) f
-pushed_join a b c n m f g p q same = record {
+pushed_join {a} {b} {c} {n} {f} p q same = record {
   long = omega (arith, p.long, q.long);
   kept = λ k low. q.kept k (omega (arith, low, p.long)) ∙ p.kept k low;
   each = λ k low. elim (cases_lt k n) [
@@ -30,51 +31,47 @@ pushed_join a b c n m f g p q same = record {
 }
 
 -- Another number behind them.
-pub pushed_more : (z a b : List ℕ) (n x : ℕ) (f : ℕ → ℕ) → ArePushed z a n f → b ≡ a ++ x ∷ [] → x ≡ f n
+pub pushed_more : {z a b : List ℕ} {n : ℕ} {x : ℕ} {f : ℕ → ℕ} → ArePushed z a n f → b ≡ a ++ x ∷ [] → x ≡ f n
     → ArePushed z b (n + 1) f
-pushed_more z a b n x f p same value = pushed_join z a b n 1 f (λ k. x) p (record {
+pushed_more {z} {a} {b} {n} {x} {f} p same value = pushed_join p (record {
   long = ap length same ∙ length-append a (x ∷ []);
   kept = λ k low. ap (λ (xs : List ℕ). slice_index xs k) same ∙ get_or_append_left a (x ∷ []) 0 k low;
   each = λ k low. ap (λ (xs : List ℕ). slice_index xs (length a + k)) same
       ∙ get_or_push a x 0 (length a + k) (omega (arith, low));
 }) (λ k low. let none : n ≡ n + k = omega (arith, low) in value ∙ ap f none)
 
-pub pushed_kept : (a b : List ℕ) (n : ℕ) (f : ℕ → ℕ) → ArePushed a b n f → IsKept a b
-pushed_kept a b n f p = record { long = omega (arith, p.long); kept = p.kept }
+pub pushed_kept : {a b : List ℕ} {n : ℕ} {f : ℕ → ℕ} → ArePushed a b n f → IsKept a b
+pushed_kept p = record { long = omega (arith, p.long); kept = p.kept }
 
-pub kept_on : (a b c : List ℕ) → IsKept a b → IsKept b c → IsKept a c
-kept_on a b c p q = record {
+pub kept_on : {a b c : List ℕ} → IsKept a b → IsKept b c → IsKept a c
+kept_on p q = record {
   long = omega (arith, p.long, q.long);
-  kept = λ k low. q.kept k (omega (arith, low, p.long))
-      ∙ p.kept k low;
+  kept = λ k low. q.kept k (omega (arith, low, p.long)) ∙ p.kept k low;
 }
 
 -- A parameter is at most that of the end of the arc.
-pub part_most : (k old new : ℕ) → k ≤ new → 0 < new → ONE * k * old / new ≤ ONE * old
-part_most k old new le some =
-    div_most (ONE * k * old) (ONE * old) new some (by_parts k old new le)
+pub part_most : {k : ℕ} (old : ℕ) {new : ℕ} → k ≤ new → 0 < new → ONE * k * old / new ≤ ONE * old
+part_most {k} old {new} le some = div_most (ONE * k * old) (ONE * old) new some (by_parts k old new le)
   where
     by_parts : (i m n : ℕ) → i ≤ n → ONE * i * m ≤ ONE * m * n
     by_parts i m n less = let e : i * m ≤ m * n =
         subst (λ z. i * m ≤ z) (mul_comm n m) (mul-le i m n m less (omega arith)) in omega (arith, e)
 
 -- Parameters that were put behind others, and stay there.
-pub parameters_in : (plan : Plan) (new : Lengths) (spacing : ArcSpacing) (p : ℕ) (s : Way) (begin : ℕ) (a b c : List ℕ)
-    → begin ≡ length a
-    → ArePushed a b (size (layout_of plan) new p s) (side_parameter plan new spacing p s)
-    → IsKept b c
-    → AreParameters plan new spacing p s begin c
-parameters_in plan new spacing p s begin a b c here p_ed kept = record {
+pub parameters_in : (plan : Plan) (new : Lengths) (spacing : ArcSpacing) (p : ℕ) (s : Way) {begin : ℕ} {a : List ℕ}
+    {b c : List ℕ}
+    → begin ≡ length a → ArePushed a b (size (layout_of plan) new p s) (side_parameter plan new spacing p s)
+    → IsKept b c → AreParameters plan new spacing p s begin c
+parameters_in plan new spacing p s {begin} {a} {c} here p_ed kept = record {
   room = omega (arith, here, p_ed.long, kept.long);
   each = λ k low.
       let place : begin + k ≡ length a + k = omega (arith, here) in
       ap (slice_index c) place ∙ kept.kept (length a + k) (omega (arith, low, p_ed.long)) ∙ p_ed.each k low;
 }
 
-pub parameters_kept : (plan : Plan) (new : Lengths) (spacing : ArcSpacing) (p : ℕ) (s : Way) (begin : ℕ) (a b : List ℕ)
-    → IsKept a b
-    → AreParameters plan new spacing p s begin a → AreParameters plan new spacing p s begin b
-parameters_kept plan new spacing p s begin a b kept are = record {
+pub parameters_kept : {plan : Plan} {new : Lengths} {spacing : ArcSpacing} {p : ℕ} {s : Way} {begin : ℕ} {a b : List ℕ}
+    → IsKept a b → AreParameters plan new spacing p s begin a → AreParameters plan new spacing p s begin b
+parameters_kept {begin} kept are = record {
   room = omega (arith, are.room, kept.long);
   each = λ k low. kept.kept (begin + k) (omega (arith, low, are.room)) ∙ are.each k low;
 }
@@ -118,13 +115,13 @@ module _ (l : Layout) (old new : Lengths) (spacing : ArcSpacing) (p i : ℕ) (s 
       ∙ (λ t. ONE * left t + spacing.parameter_of used.arc (not used.forward) (new used.arc - rest t))
 
   -- The parameter of a place of the arc at a slot, counted along the side or against it.
-  pub along_slot : (start : ℕ) → start ≡ reach l old p s i
+  pub along_slot : {start : ℕ} → start ≡ reach l old p s i
       → on_arc spacing start (new used.arc) used false o ≡ parameter l old new spacing p s (reach l new p s i + o)
-  along_slot start e = ap (λ n. on_arc spacing n (new used.arc) used false o) e ∙ sym ahead
+  along_slot e = ap (λ n. on_arc spacing n (new used.arc) used false o) e ∙ sym ahead
 
-  pub against_slot : (start : ℕ) → start ≡ size l old p s - reach l old p s i - old used.arc
+  pub against_slot : {start : ℕ} → start ≡ size l old p s - reach l old p s i - old used.arc
       → on_arc spacing start (new used.arc) used true o ≡ parameter_back l old new spacing p s (reach l new p s i + o)
-  against_slot start e = ap (λ n. on_arc spacing n (new used.arc) used true o) e ∙ sym behind
+  against_slot e = ap (λ n. on_arc spacing n (new used.arc) used true o) e ∙ sym behind
 
 -- Where the parameters of the arc at a slot begin: so much of the side lies before the arc, counted from the same end.
 abbrev pub start_by : (l : Layout) (old : Lengths) (p i : ℕ) (s : Way) → ℕ
@@ -138,11 +135,10 @@ module _ (plan : Plan) (new : Lengths) (spacing : ArcSpacing) (p i : ℕ) where
   abbrev old : Lengths
   old = long_at plan.arcs
 
-  pub slot_parameter : (s : Way) → IsSlot l (slot p s i) → (o start : ℕ) → o < new (l.use_at p s i).arc
-      → start ≡ start_by l old p i s
-      → on_arc spacing start (new (l.use_at p s i).arc) (l.use_at p s i) (is_back s) o
+  pub slot_parameter : (s : Way) → IsSlot l (slot p s i) → {o start : ℕ} → o < new (l.use_at p s i).arc
+      → start ≡ start_by l old p i s → on_arc spacing start (new (l.use_at p s i).arc) (l.use_at p s i) (is_back s) o
       ≡ side_parameter plan new spacing p s (reach l new p s i + o)
-  slot_parameter south is o start low e = along_slot l old new spacing p i south is o low start e
-  slot_parameter east is o start low e = along_slot l old new spacing p i east is o low start e
-  slot_parameter north is o start low e = against_slot l old new spacing p i north is o low start e
-  slot_parameter west is o start low e = against_slot l old new spacing p i west is o low start e
+  slot_parameter south is {o} {start} low e = along_slot l old new spacing p i south is o low e
+  slot_parameter east is {o} {start} low e = along_slot l old new spacing p i east is o low e
+  slot_parameter north is {o} {start} low e = against_slot l old new spacing p i north is o low e
+  slot_parameter west is {o} {start} low e = against_slot l old new spacing p i west is o low e

@@ -1,38 +1,37 @@
 -- The parameters of all sides, as they are put one after the other.
 use Rattle.std.proofs.Common.{◌≡◌, ℕ, ◌+◌, ◌-◌, ◌^◌, ◌<◌, ◌≤◌, Bool, true, false, cond, List, [], length, get_or, refl}
-use Rattle.std.proofs.Common.{sym, ◌∙◌, ap, subst, arith}
+use Rattle.std.proofs.Common.{sym, ◌∙◌, ap, arith}
 use Rattle.std.proofs.lemmas.List.{get_or_default, get_or-map, length-map}
 use Rattle.std.specs.Prelude.{nat_le}
 use Rattle.def_cut.specs.Grids.{rectangle}
-use Rattle.def_layout.specs.{Arcs.Path, Arcs.long_at, Arcs.path, Layouts.Way, Layouts.south, Layouts.east}
-use Rattle.def_layout.specs.{Layouts.north, Layouts.west, Layouts.Slot, Layouts.IsSlot, Layouts.use_of, Lengths.Lengths}
-use Rattle.def_layout.specs.{Lengths.reach, Lengths.size, Plans.Plan, Plans.layout_of, Plans.way_number, Plans.plan}
-use Rattle.def_layout.specs.{Plans.side_at, declared.tmesh.SideArc.SideArc, declared.tmesh.TArc.TArc}
-use Rattle.def_layout.specs.declared.tmesh.TMesh.{TMesh}
+use Rattle.def_layout.specs.Layouts.{Way, south, east, north, west, Slot, IsSlot, use_of}
+use Rattle.def_layout.specs.Plans.{Plan, layout_of, way_number, plan, side_at}
+use Rattle.def_layout.specs.{Arcs.Path, Arcs.long_at, Arcs.path, Lengths.Lengths, Lengths.reach, Lengths.size}
+use Rattle.def_layout.specs.{declared.tmesh.SideArc.SideArc, declared.tmesh.TArc.TArc, declared.tmesh.TMesh.TMesh}
 use Rattle.def_layoutnet.specs.MeshLayouts.{IsSomeLayout}
 use Rattle.def_written.specs.Places.{ArcSpacing}
-use Rattle.def_remesh.specs.{NewPoints.lengths_in, Placings.parameters_from, Placings.side_parameter}
-use Rattle.def_remesh.specs.{Placings.AreParameters, Placings.IsRim, declared.places.Rim.Rim}
-use Rattle.qm_place.specs.{ArcTables.AreFine, Pushed.on_arc, Pushed.ArePushed, Pushed.IsKept}
-use Rattle.qm_place.proofs.Pushes.{is_back, kept_on, parameters_in, parameters_kept, pushed_join, pushed_kept}
-use Rattle.qm_place.proofs.Pushes.{slot_parameter, start_by}
+use Rattle.def_remesh.specs.Placings.{parameters_from, side_parameter, AreParameters, IsRim}
+use Rattle.def_remesh.specs.{NewPoints.lengths_in, declared.places.Rim.Rim}
 use Rattle.plan_laws.proofs.Bounds.{old_faces, side_few}
 use Rattle.qm_offsets.proofs.{Spots.count_step, Whole.laid_of, Whole.lengths_of}
 use Rattle.written_laws.proofs.Sides.{reach_low, slot}
+use Rattle.qm_place.specs.{Pushed.on_arc, Pushed.ArePushed, Pushed.IsKept, ArcTables.AreFine}
+use Rattle.qm_place.proofs.Pushes.{is_back, kept_on, parameters_in, parameters_kept, pushed_join, pushed_kept}
+use Rattle.qm_place.proofs.Pushes.{slot_parameter, start_by}
 
 -- Sides are short.
-pub old_few : (plan : Plan) → IsSomeLayout plan → (p : ℕ) (s : Way) → p < length plan.patches
+pub old_few : {plan : Plan} → IsSomeLayout plan → {p : ℕ} (s : Way) → p < length plan.patches
     → size (layout_of plan) (long_at plan.arcs) p s ≤ 2 ^ 21
-old_few plan is p s low =
+old_few {plan} is {p} s low =
     omega (
       arith,
       side_few (layout_of plan) (long_at plan.arcs) (laid_of plan is) (lengths_of plan is) p s low,
       old_faces plan is,
     )
 
-pub new_few : (plan : Plan) (list : List ℕ) → AreFine plan list → (p : ℕ) (s : Way) → p < length plan.patches
+pub new_few : {plan : Plan} {list : List ℕ} → AreFine plan list → {p : ℕ} (s : Way) → p < length plan.patches
     → size (layout_of plan) (lengths_in list) p s ≤ 2 ^ 21
-new_few plan list fine p s low =
+new_few {plan} {list} fine {p} s low =
     omega (arith, side_few (layout_of plan) (lengths_in list) (laid_of plan fine.mesh) fine.lengths p s low, fine.few)
 
 -- Arcs are short.
@@ -45,16 +44,15 @@ old_short plan is arc low = by_slot ((laid_of plan is).forward arc low)
         omega (
           arith,
           reach_low (layout_of plan) (long_at plan.arcs) f.0 f.1,
-          old_few plan is f.0.patch f.0.side f.1.patch_low,
+          old_few is f.0.side f.1.patch_low,
           ap (λ (u : SideArc). long_at plan.arcs u.arc) f.2,
         )
 
 -- What is read of an arc.
-pub old_read : (t : TMesh) (a : ℕ) (arc : TArc) → a < length t.arcs.items → arc ≡ get_or t.arcs.items a arc
+pub old_read : (t : TMesh) {a : ℕ} {arc : TArc} → a < length t.arcs.items → arc ≡ get_or t.arcs.items a arc
     → length arc.darts.items ≡ long_at (plan t).arcs a
-old_read t a arc low same =
-    ap (λ (z : TArc). length z.darts.items) same
-    ∙ sym (ap (λ (q : Path). length q.darts)
+old_read t {a} {arc} low same =
+    ap (λ (z : TArc). length z.darts.items) same ∙ sym (ap (λ (q : Path). length q.darts)
     (get_or-map path t.arcs.items a arc (record { first = 0; last = 0; darts = [] }) low))
 
 -- The arc at a place of a side, as it is read.
@@ -71,11 +69,11 @@ pub record IsRead (t : TMesh) (list : List ℕ) (p i : ℕ) (s : Way) (used : Si
   pub new_next : reach (layout_of (plan t)) (lengths_in list) p s (i + 1)
       ≡ reach (layout_of (plan t)) (lengths_in list) p s i + lengths_in list used.arc
 
-pub read : (t : TMesh) (list : List ℕ) (p i side : ℕ) (s : Way) (us : List SideArc) → AreFine (plan t) list
+pub read : (t : TMesh) {list : List ℕ} {p i side : ℕ} {s : Way} {us : List SideArc} → AreFine (plan t) list
     → p < length t.patches.items
     → us ≡ get_or (get_or (plan t).sides p []) side [] → i < length us → way_number s ≡ side
     → IsRead t list p i s (get_or us i (record { arc = 0; forward = false }))
-read t list p i side s us fine low us_is i_low way = record {
+read t {list} {p} {i} {side} {s} {us} fine low us_is i_low way = record {
   is_slot = is_slot;
   arc_low = omega (arith, arc, arc_less, length-map t.arcs.items path);
   listed = omega (arith, arc, arc_less, fine.long);
@@ -85,7 +83,7 @@ read t list p i side s us fine low us_is i_low way = record {
     reach_low (layout_of (plan t)) (long_at (plan t).arcs) (slot p s i) is_slot,
     ap (long_at (plan t).arcs) arc,
   );
-  old_short = old_few (plan t) fine.mesh p s p_low;
+  old_short = old_few fine.mesh s p_low;
   old_next = count_step (λ k. long_at (plan t).arcs ((layout_of (plan t)).use_at p s k).arc) i
       ∙ ap (λ a. reach (layout_of (plan t)) (long_at (plan t).arcs) p s i + long_at (plan t).arcs a) (sym arc);
   new_next = count_step (λ k. lengths_in list ((layout_of (plan t)).use_at p s k).arc) i
@@ -113,8 +111,8 @@ read t list p i side s us fine low us_is i_low way = record {
     arc_less = (laid_of (plan t) fine.mesh).paved.arc_low (slot p s i) is_slot
 
 -- North and west are the sides numbered from 2 on.
-pub back_by : (s : Way) (side : ℕ) → way_number s ≡ side → nat_le 2 side ≡ is_back s
-back_by s side way = ap (λ k. nat_le 2 k) (sym way) ∙ by_way s
+pub back_by : (s : Way) {side : ℕ} → way_number s ≡ side → nat_le 2 side ≡ is_back s
+back_by s way = ap (λ k. nat_le 2 k) (sym way) ∙ by_way s
   where
     by_way : (w : Way) → nat_le 2 (way_number w) ≡ is_back w
     by_way south = refl
@@ -123,37 +121,31 @@ back_by s side way = ap (λ k. nat_le 2 k) (sym way) ∙ by_way s
     by_way west = refl
 
 -- Another arc of a side is put there.
-pub side_more : (t : TMesh) (list : List ℕ) (spacing : ArcSpacing) (p i : ℕ) (s : Way) (used : SideArc) (z a b : List ℕ)
-    (start : ℕ) (back : Bool)
-    → IsRead t list p i s used → back ≡ is_back s
+pub side_more : {t : TMesh} {list : List ℕ} (spacing : ArcSpacing) {p i : ℕ} {s : Way} {used : SideArc} {z : List ℕ}
+    {a b : List ℕ} {start : ℕ} {back : Bool} → IsRead t list p i s used → back ≡ is_back s
     → start ≡ start_by (layout_of (plan t)) (long_at (plan t).arcs) p i s
     → ArePushed z a (reach (layout_of (plan t)) (lengths_in list) p s i)
     (side_parameter (plan t) (lengths_in list) spacing p s)
     → ArePushed a b (lengths_in list used.arc) (on_arc spacing start (lengths_in list used.arc) used back)
     → ArePushed z b (reach (layout_of (plan t)) (lengths_in list) p s (i + 1))
     (side_parameter (plan t) (lengths_in list) spacing p s)
-side_more t list spacing p i s used z a b start back is back_is start_is before more =
-    subst (λ n. ArePushed z b n (side_parameter (plan t) (lengths_in list) spacing p s)) (sym is.new_next)
-    (pushed_join z a b (reach (layout_of (plan t)) (lengths_in list) p s i) (lengths_in list used.arc)
-    (side_parameter (plan t) (lengths_in list) spacing p s)
-    (on_arc spacing start (lengths_in list used.arc) used back) before more same)
+side_more {t} {list} spacing {p} {i} {s} {used} {z} {a} {b} {start} {back} is back_is start_is before more =
+    rw is.new_next (pushed_join before more same)
   where
-    same : (o : ℕ) → o < lengths_in list used.arc
-        → on_arc spacing start (lengths_in list used.arc) used back o
+    same : (o : ℕ) → o < lengths_in list used.arc → on_arc spacing start (lengths_in list used.arc) used back o
         ≡ side_parameter (plan t) (lengths_in list) spacing p s (reach (layout_of (plan t)) (lengths_in list) p s i + o)
     same o low =
         (λ k. on_arc spacing start (lengths_in list (is.same k).arc) (is.same k) (back_is k) o)
-        ∙ slot_parameter (plan t) (lengths_in list) spacing p i s is.is_slot o start
+        ∙ slot_parameter (plan t) (lengths_in list) spacing p i s is.is_slot
         (omega (arith, low, ap (λ (u : SideArc). lengths_in list u.arc) is.same)) start_is
 
-pub start_few : (w b o : ℕ) (back : Bool) → b + o ≤ w → w ≤ 2 ^ 21 → cond back (w - b - o) b ≤ 2 ^ 21
-start_few w b o true le few = omega arith
-start_few w b o false le few = omega arith
+pub start_few : {w : ℕ} (b o : ℕ) (back : Bool) → b + o ≤ w → w ≤ 2 ^ 21 → cond back (w - b - o) b ≤ 2 ^ 21
+start_few b o true le few = omega arith
+start_few b o false le few = omega arith
 
 -- The four sides of a patch.
-pub rim_built : (plan : Plan) (list : List ℕ) (spacing : ArcSpacing) → AreFine plan list → (p : ℕ)
-    → p < length plan.patches
-    → (z a b c d : List ℕ) (begin w h : ℕ)
+pub rim_built : {plan : Plan} {list : List ℕ} (spacing : ArcSpacing) → AreFine plan list → {p : ℕ}
+    → p < length plan.patches → {z a b c d : List ℕ} {begin : ℕ} {w h : ℕ}
     → ArePushed z a (size (layout_of plan) (lengths_in list) p south)
     (side_parameter plan (lengths_in list) spacing p south)
     → ArePushed a b (size (layout_of plan) (lengths_in list) p east)
@@ -164,37 +156,37 @@ pub rim_built : (plan : Plan) (list : List ℕ) (spacing : ArcSpacing) → AreFi
     (side_parameter plan (lengths_in list) spacing p west)
     → begin ≡ length z → w ≡ length a - begin → h ≡ length b - begin - w
     → IsRim plan (lengths_in list) spacing p (record { wide = w; high = h; begin = begin }) d
-rim_built plan list spacing fine p low z a b c d begin w h first second third fourth begin_is w_is h_is = record {
-  wide = omega (arith, first.long, begin_is, w_is);
-  high = omega (arith, first.long, second.long, begin_is, w_is, h_is, fine.lengths.upright p low);
-  sides = sides;
-}
+rim_built {plan} {list} spacing fine {p} low {z} {a} {b} {c} {d} {begin} {w} {h} first second third fourth begin_is
+    w_is h_is = record {
+      wide = omega (arith, first.long, begin_is, w_is);
+      high = omega (arith, first.long, second.long, begin_is, w_is, h_is, fine.lengths.upright p low);
+      sides = sides;
+    }
   where
     from_c : IsKept c d
-    from_c = pushed_kept c d _ _ fourth
+    from_c = pushed_kept fourth
 
     from_b : IsKept b d
-    from_b = kept_on b c d (pushed_kept b c _ _ third) from_c
+    from_b = kept_on (pushed_kept third) from_c
 
     from_a : IsKept a d
-    from_a = kept_on a b d (pushed_kept a b _ _ second) from_b
+    from_a = kept_on (pushed_kept second) from_b
 
     itself : IsKept d d
     itself = record { long = omega arith; kept = λ k less. refl }
 
     sides : (s : Way) → AreParameters plan (lengths_in list) spacing p s
         (parameters_from (record { wide = w; high = h; begin = begin }) s) d
-    sides south = parameters_in plan (lengths_in list) spacing p south begin z a d begin_is first from_a
-    sides east = parameters_in plan (lengths_in list) spacing p east (begin + w) a b d
+    sides south = parameters_in plan (lengths_in list) spacing p south begin_is first from_a
+    sides east = parameters_in plan (lengths_in list) spacing p east
         (omega (arith, first.long, begin_is, w_is)) second from_b
-    sides north = parameters_in plan (lengths_in list) spacing p north (begin + w + h) b c d
+    sides north = parameters_in plan (lengths_in list) spacing p north
         (omega (arith, first.long, second.long, begin_is, w_is, h_is)) third from_c
-    sides west = parameters_in plan (lengths_in list) spacing p west (begin + w + h + w) c d d
+    sides west = parameters_in plan (lengths_in list) spacing p west
         (omega (arith, first.long, second.long, third.long, begin_is, w_is, h_is, fine.lengths.across p low)) fourth
         itself
 
-pub rim_kept : (plan : Plan) (new : Lengths) (spacing : ArcSpacing) (p : ℕ) (rim : Rim) (a b : List ℕ) → IsKept a b
-    → IsRim plan new spacing p rim a
-    → IsRim plan new spacing p rim b
-rim_kept plan new spacing p rim a b kept is =
-    record { wide = is.wide; high = is.high; sides = λ s. parameters_kept plan new spacing p s _ a b kept (is.sides s) }
+pub rim_kept : {plan : Plan} {new : Lengths} {spacing : ArcSpacing} {p : ℕ} {rim : Rim} {a : List ℕ} {b : List ℕ}
+    → IsKept a b → IsRim plan new spacing p rim a → IsRim plan new spacing p rim b
+rim_kept {plan} {new} {spacing} {p} {a} {b} kept is =
+    record { wide = is.wide; high = is.high; sides = λ s. parameters_kept kept (is.sides s) }

@@ -46,7 +46,7 @@ pub(crate) fn find(placed: &Placed, v: u32, near: &mut Near) -> Spot
 /// How many vertices are nodes or lie on arcs.
 fn arcs_end(placed: &Placed) -> u32
     ensures { result ≡ length placed.now.t.now.nodes.items
-        + before_arc (lengths_by placed.now) (length placed.now.t.now.arcs.items) }
+        + before_arc (lengths_by placed.now) (length (plan_in placed.now).arcs) }
 {
     let along = &placed.tables.along.begin;
     placed.t.nodes.len() as u32 + along[along.len() - 1]

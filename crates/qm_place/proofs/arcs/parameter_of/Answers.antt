@@ -1,4 +1,5 @@
-use Rattle.std.proofs.{Common.◌∙◌, Common.arith, lemmas.List.length-map}
+use Rattle.std.proofs.Common.{◌∙◌, arith}
+use Rattle.std.proofs.lemmas.List.{length-map}
 use Rattle.def_layout.specs.{Arcs.path, Plans.plan}
 use Rattle.qm_place.proofs.{ArcPoints.read_short, Rims.old_short}
 use Rattle.qm_place.proofs.arcs.parameter_of.Goals as goal
@@ -8,8 +9,7 @@ part_of_arc-requires-clause-short c =
     omega (
       arith,
       c.len-old.ensures ∙ c.index.result.now.darts.ok.0,
-      read_short c.args.places.now.t.now c.args.used.arc c.index.result.now c.requires.are.fine.mesh c.requires.arc
-          c.index.ensures,
+      read_short c.args.places.now.t.now c.requires.are.fine.mesh c.requires.arc c.index.ensures,
     )
 
 pub overflow_mul-result : goal.overflow_mul-result
@@ -17,8 +17,7 @@ overflow_mul-result c =
     omega (
       arith,
       c.len-old.ensures ∙ c.index.result.now.darts.ok.0,
-      read_short c.args.places.now.t.now c.args.used.arc c.index.result.now c.requires.are.fine.mesh c.requires.arc
-          c.index.ensures,
+      read_short c.args.places.now.t.now c.requires.are.fine.mesh c.requires.arc c.index.ensures,
     )
 
 pub returns-in-None-clause-low : goal.returns-in-None-clause-low
@@ -27,8 +26,7 @@ returns-in-None-clause-low c =
       arith,
       c.part_of_arc.ensures.low,
       c.len-old.ensures ∙ c.index.result.now.darts.ok.0,
-      read_short c.args.places.now.t.now c.args.used.arc c.index.result.now c.requires.are.fine.mesh c.requires.arc
-          c.index.ensures,
+      read_short c.args.places.now.t.now c.requires.are.fine.mesh c.requires.arc c.index.ensures,
     )
 
 pub returns-then-used-clause-low : goal.returns-then-used-clause-low
@@ -45,6 +43,5 @@ returns-else-used-clause-low c =
     omega (
       arith,
       c.len-old.ensures ∙ c.index.result.now.darts.ok.0,
-      read_short c.args.places.now.t.now c.args.used.arc c.index.result.now c.requires.are.fine.mesh c.requires.arc
-          c.index.ensures,
+      read_short c.args.places.now.t.now c.requires.are.fine.mesh c.requires.arc c.index.ensures,
     )

@@ -8,4 +8,4 @@ returns-clause-low c =
     let same : c.from.result * c.from-2.result * c.from-3.result / c.from-4.result
     ≡ ONE * c.args.k * c.args.old / c.args.new =
     λ i. c.from.ensures i * c.from-2.ensures i * c.from-3.ensures i / c.from-4.ensures i in
-    omega (arith, same, part_most c.args.k c.args.old c.args.new c.requires.place.0 c.requires.place.1)
+    omega (arith, same, part_most c.args.old c.requires.place.0 c.requires.place.1)

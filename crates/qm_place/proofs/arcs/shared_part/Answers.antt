@@ -26,9 +26,7 @@ index c =
     let low : c.args.arc < length (plan c.args.places.now.t.now).arcs =
     omega (arith, c.requires.arc, length-map c.args.places.now.t.now.arcs.items path) in
     let begin : c.index-2.result.now ≡ before_arc (lengths_in c.args.places.now.lengths.now) c.args.arc =
-    start_read (λ b. lengths_in c.args.places.now.lengths.now b - 1)
-    (length (plan c.args.places.now.t.now).arcs) c.args.arc c.index-2.result.now
-    c.args.places.now.along.now.begin.items c.requires.are.along low c.index-2.ensures in
+    start_read c.requires.are.along low c.index-2.ensures in
     ap (λ n. n + c.args.k - 1) begin
 
 pub overflow_mul-result : goal.overflow_mul-result
@@ -36,8 +34,7 @@ overflow_mul-result c =
     omega (
       arith,
       c.len.ensures ∙ c.index.result.now.darts.ok.0,
-      read_short c.args.places.now.t.now c.args.arc c.index.result.now c.requires.are.fine.mesh c.requires.arc
-          c.index.ensures,
+      read_short c.args.places.now.t.now c.requires.are.fine.mesh c.requires.arc c.index.ensures,
     )
 
 pub overflow_add-index : goal.overflow_add-index
@@ -47,8 +44,7 @@ overflow_add-index c =
       arith,
       index (goal.at.overflow_add-index c).After-index-2,
       some at,
-      points_few (plan c.args.places.now.t.now) c.args.places.now.lengths.now c.requires.are.fine c.args.arc
-          (c.args.k - 1) (low at) (omega (arith, some at, less at)),
+      points_few c.requires.are.fine {place = c.args.k - 1} (low at) (omega (arith, some at, less at)),
     )
 
 pub index-requires-3 : goal.index-requires-3
@@ -67,7 +63,6 @@ returns-clause-value c =
     let at = (goal.at.returns-clause-value c).Else-k-places in
     read_inner (plan c.args.places.now.t.now) (lengths_in c.args.places.now.lengths.now) c.args.places.now.spaced.now
     c.requires.are.inner c.args.spaced.now c.requires.spaced c.args.arc c.args.k (low at) (some at) (less at)
-    (c.index-2.result.now + c.args.k - 1) c.index-3.result.now
     (index (goal.at.returns-clause-value c).After-index-2) c.index-3.ensures
 
 pub returns-clause-low : goal.returns-clause-low
@@ -75,9 +70,8 @@ returns-clause-low c =
     let at = (goal.at.returns-clause-low c).Else-k-places in
     let fine = c.requires.are.fine in
     let value = read_inner (plan c.args.places.now.t.now) (lengths_in c.args.places.now.lengths.now)
-    c.args.places.now.spaced.now c.requires.are.inner c.args.spaced.now c.requires.spaced c.args.arc c.args.k (low at)
-    (some at) (less at) (c.index-2.result.now + c.args.k - 1) c.index-3.result.now
-    (index (goal.at.returns-clause-low c).After-index-2) c.index-3.ensures in
+    c.args.places.now.spaced.now c.requires.are.inner c.args.spaced.now c.requires.spaced c.args.arc c.args.k
+    (low at) (some at) (less at) (index (goal.at.returns-clause-low c).After-index-2) c.index-3.ensures in
     omega (
       arith,
       value,

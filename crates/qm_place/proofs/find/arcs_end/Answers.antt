@@ -1,21 +1,18 @@
-use Rattle.std.proofs.Common.{◌≡◌, ◌-◌, length, ◌∙◌, ap, arith}
-use Rattle.std.proofs.lemmas.List.{length-map}
-use Rattle.def_layout.specs.{Arcs.path, Plans.plan}
+use Rattle.std.proofs.Common.{◌≡◌, length, ◌∙◌, arith}
+use Rattle.def_layout.specs.Plans.{plan}
 use Rattle.def_written.specs.Numbers.{before_arc}
 use Rattle.def_remesh.specs.NewPoints.{lengths_in}
 use Rattle.qm_place.proofs.Entries.{end_read}
 use Rattle.qm_place.proofs.find.arcs_end.Goals as goal
 
 pub overflow_cast-result : goal.overflow_cast-result
-overflow_cast-result c =
-    omega (arith, c.args.placed.now.placed.few, c.len.ensures, c.args.placed.now.t.now.nodes.ok.0)
+overflow_cast-result c = omega (arith, c.args.placed.now.placed.few, c.len.ensures, c.args.placed.now.t.now.nodes.ok.0)
 
 pub overflow_add-result : goal.overflow_add-result
 overflow_add-result c =
     let x = lengths_in c.args.placed.now.tables.now.lengths.items in
     let end : c.index.result.now ≡ before_arc x (length (plan c.args.placed.now.t.now).arcs) =
-    end_read (λ b. x b - 1) (length (plan c.args.placed.now.t.now).arcs) c.len-2.result c.index.result.now
-    c.args.placed.now.tables.now.along.begin.items c.args.placed.now.placed.along (c.len-2.ensures
+    end_read c.args.placed.now.placed.along (c.len-2.ensures
     ∙ c.args.placed.now.tables.now.along.begin.ok.0) c.index.ensures in
     omega (arith, end, c.args.placed.now.placed.few, c.len.ensures, c.args.placed.now.t.now.nodes.ok.0)
 
@@ -23,10 +20,6 @@ pub returns : goal.returns
 returns c =
     let x = lengths_in c.args.placed.now.tables.now.lengths.items in
     let end : c.index.result.now ≡ before_arc x (length (plan c.args.placed.now.t.now).arcs) =
-    end_read (λ b. x b - 1) (length (plan c.args.placed.now.t.now).arcs) c.len-2.result c.index.result.now
-    c.args.placed.now.tables.now.along.begin.items c.args.placed.now.placed.along (c.len-2.ensures
+    end_read c.args.placed.now.placed.along (c.len-2.ensures
     ∙ c.args.placed.now.tables.now.along.begin.ok.0) c.index.ensures in
-    let arcs : before_arc x (length (plan c.args.placed.now.t.now).arcs)
-    ≡ before_arc x (length c.args.placed.now.t.now.arcs.items) =
-    ap (before_arc x) (length-map c.args.placed.now.t.now.arcs.items path) in
-    omega (arith, end, arcs, c.len.ensures, c.args.placed.now.t.now.nodes.ok.0)
+    omega (arith, end, c.len.ensures, c.args.placed.now.t.now.nodes.ok.0)

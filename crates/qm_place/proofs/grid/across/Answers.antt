@@ -11,9 +11,7 @@ returns c plan new spacing p low len is ends columns =
       | inl less ↦ c.at_place-south.ensures.before less ∙ (is.sides south).each c.args.i (omega (arith, less, is.wide))
       | inr more ↦
           let end : c.args.i ≡ wide (layout_of plan) new p = omega (arith, more, c.requires.grid.0, is.wide) in
-          c.at_place-south.ensures.end more
-          ∙ (λ k. ONE * (c.from.ensures ∙ columns) k)
-          ∙ sym ends.south
+          c.at_place-south.ensures.end more ∙ (λ k. ONE * (c.from.ensures ∙ columns) k) ∙ sym ends.south
           ∙ ap (parameter (layout_of plan) (long_at plan.arcs) new spacing p south) (sym end)
     ] in
     let far : c.at_place-north.result ≡ parameter_back (layout_of plan) (long_at plan.arcs) new spacing p north
@@ -25,8 +23,7 @@ returns c plan new spacing p low len is ends columns =
       | inr more ↦
           let end : wide (layout_of plan) new p ≡ wide (layout_of plan) new p - c.args.i =
           omega (arith, more, c.requires.grid.2, is.wide) in
-          c.at_place-north.ensures.end more
-          ∙ sym ends.north
+          c.at_place-north.ensures.end more ∙ sym ends.north
           ∙ ap (parameter_back (layout_of plan) (long_at plan.arcs) new spacing p north) end
     ] in
     c.mean.ensures ∙ (λ k. (near k * (is.high k - c.args.j) + far k * c.args.j) / is.high k)

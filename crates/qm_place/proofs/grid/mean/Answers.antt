@@ -12,5 +12,4 @@ returns-then-near-far c =
     sym (ap (λ far. (c.args.near * (c.args.parts - c.args.some) + far * c.args.some) / c.args.parts)
     (sym c.if-near-far.true)
     ∙ (ap (λ sum. sum / c.args.parts) (whole c.args.near c.args.some (c.args.parts - c.args.some)
-    ∙ ap (λ n. c.args.near * n) parts)
-    ∙ mul-div_cancel c.args.near c.requires.1))
+    ∙ ap (λ n. c.args.near * n) parts) ∙ mul-div_cancel c.args.near c.requires.1))

@@ -12,9 +12,7 @@ returns c plan new spacing p low len is ends rows =
           ∙ (is.sides east).each c.args.j (omega (arith, less, is.high, len.upright p low))
       | inr more ↦
           let end : c.args.j ≡ high (layout_of plan) new p = omega (arith, more, c.requires.grid.1, is.high) in
-          c.at_place-east.ensures.end more
-          ∙ (λ k. ONE * (c.from.ensures ∙ rows) k)
-          ∙ sym ends.east
+          c.at_place-east.ensures.end more ∙ (λ k. ONE * (c.from.ensures ∙ rows) k) ∙ sym ends.east
           ∙ ap (parameter (layout_of plan) (long_at plan.arcs) new spacing p east) (sym end)
     ] in
     let near : c.at_place-west.result ≡ parameter_back (layout_of plan) (long_at plan.arcs) new spacing p west
@@ -26,8 +24,7 @@ returns c plan new spacing p low len is ends rows =
       | inr more ↦
           let end : high (layout_of plan) new p ≡ high (layout_of plan) new p - c.args.j =
           omega (arith, more, c.requires.grid.3, is.high) in
-          c.at_place-west.ensures.end more
-          ∙ sym ends.west
+          c.at_place-west.ensures.end more ∙ sym ends.west
           ∙ ap (parameter_back (layout_of plan) (long_at plan.arcs) new spacing p west) end
     ] in
     c.mean.ensures ∙ (λ k. (near k * (is.wide k - c.args.i) + far k * c.args.i) / is.wide k)

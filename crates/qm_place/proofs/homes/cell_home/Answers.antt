@@ -1,8 +1,8 @@
 use Rattle.std.proofs.Common.{◌≡◌, ℕ, ◌+◌, ◌/◌, ◌^◌, ◌<◌, ◌≤◌, length, get_or, [], ◌∷◌, ◌∙◌, arith}
 use Rattle.std.proofs.lemmas.List.{length-map}
 use Rattle.def_cut.specs.{Grids.cell_of, Grids.patch_at, Grids.rectangle, declared.patch.Patch.Patch}
-use Rattle.def_layout.specs.{Layouts.south, Layouts.east, Layouts.north, Layouts.west, Lengths.wide, Lengths.high}
-use Rattle.def_layout.specs.{Plans.layout_of, Plans.plan, declared.tmesh.TMesh.TMesh}
+use Rattle.def_layout.specs.Layouts.{south, east, north, west}
+use Rattle.def_layout.specs.{Lengths.wide, Lengths.high, Plans.layout_of, Plans.plan, declared.tmesh.TMesh.TMesh}
 use Rattle.def_map.specs.Homes.{corner_u, corner_v, home_column, home_row, mean_corner, seen_corner}
 use Rattle.def_remesh.specs.{NewPoints.lengths_in, Placings.rim_at, declared.places.PlaceTables.PlaceTables}
 use Rattle.def_written.specs.Places.{cell_at}
@@ -11,11 +11,11 @@ use Rattle.qm_place.proofs.Entries.{cell_low, cell_read, patch_read}
 use Rattle.qm_place.proofs.homes.cell_home.Goals as goal
 
 -- A corner of the cell is one of the patch's grid points.
-on_grid : (t : TMesh) (tables : PlaceTables) (p i j a b : ℕ) → ArePlaced (plan t) tables → p < length t.patches.items
-    → i < wide (layout_of (plan t)) (lengths_in tables.lengths.items) p
+on_grid : (t : TMesh) {tables : PlaceTables} {p : ℕ} {i j a b : ℕ} → ArePlaced (plan t) tables
+    → p < length t.patches.items → i < wide (layout_of (plan t)) (lengths_in tables.lengths.items) p
     → j < high (layout_of (plan t)) (lengths_in tables.lengths.items) p
     → a ≤ i + 1 → b ≤ j + 1 → IsOnGrid (rim_at tables.rims.items p) a b
-on_grid t tables p i j a b are low i_low j_low a_le b_le =
+on_grid t {p} are low i_low j_low a_le b_le =
     let p_low : p < length (plan t).patches = omega (arith, low, length-map t.patches.items rectangle) in
     let is = are.rims p p_low in (
       omega (arith, is.wide, i_low, a_le),
@@ -24,14 +24,14 @@ on_grid t tables p i j a b are low i_low j_low a_le b_le =
       omega (arith, is.high, j_low),
     )
 
--- A patch has few columns and rows.
-cell_few : (t : TMesh) (tables : PlaceTables) (p : ℕ) (patch : Patch) → ArePlaced (plan t) tables
-    → p < length t.patches.items
-    → patch ≡ get_or t.patches.items p patch → (patch.w ≤ 2 ^ 21) × (patch.h ≤ 2 ^ 21)
-cell_few t tables p patch are low read =
-    let old = patch_read t tables p patch are low read in
+-- A cell of a patch stands in a low column and row.
+cell_few : (t : TMesh) {tables : PlaceTables} {p : ℕ} {patch : Patch} → ArePlaced (plan t) tables
+    → p < length t.patches.items → patch ≡ get_or t.patches.items p patch → {a b : ℕ} → a < patch.w → b < patch.h
+    → (a ≤ 2 ^ 21) × (b ≤ 2 ^ 21)
+cell_few t {tables} {p} {patch} are low read a_low b_low =
+    let old = patch_read t are low read in
     let sized = are.patches p (omega (arith, low, length-map t.patches.items rectangle)) in
-    (omega (arith, old.wide, sized.few_columns), omega (arith, old.high, sized.few_rows))
+    (omega (arith, old.wide, sized.few_columns, a_low), omega (arith, old.high, sized.few_rows, b_low))
 
 pub overflow_add-j-2 : goal.overflow_add-j-2
 overflow_add-j-2 c =
@@ -44,79 +44,69 @@ overflow_add-j-2 c =
 
 pub grid_point-south_west-requires-clause-grid : goal.grid_point-south_west-requires-clause-grid
 grid_point-south_west-requires-clause-grid c =
-    on_grid c.args.placed.now.t.now c.args.placed.now.tables.now c.args.patch c.args.i c.args.j c.args.i c.args.j
-    c.args.placed.now.placed c.requires.patch c.requires.column c.requires.row (omega arith) (omega arith)
+    on_grid c.args.placed.now.t.now c.args.placed.now.placed c.requires.patch c.requires.column c.requires.row
+    (omega arith) (omega arith)
 
 pub grid_point-south_east-requires-clause-grid : goal.grid_point-south_east-requires-clause-grid
 grid_point-south_east-requires-clause-grid c =
-    on_grid c.args.placed.now.t.now c.args.placed.now.tables.now c.args.patch c.args.i c.args.j (c.args.i + 1) c.args.j
-    c.args.placed.now.placed c.requires.patch c.requires.column c.requires.row (omega arith) (omega arith)
+    on_grid c.args.placed.now.t.now c.args.placed.now.placed c.requires.patch c.requires.column c.requires.row
+    (omega arith) (omega arith)
 
 pub grid_point-north_east-requires-clause-grid : goal.grid_point-north_east-requires-clause-grid
 grid_point-north_east-requires-clause-grid c =
-    on_grid c.args.placed.now.t.now c.args.placed.now.tables.now c.args.patch c.args.i c.args.j (c.args.i + 1)
-    (c.args.j + 1) c.args.placed.now.placed c.requires.patch c.requires.column c.requires.row (omega arith)
-    (omega arith)
+    on_grid c.args.placed.now.t.now c.args.placed.now.placed c.requires.patch c.requires.column c.requires.row
+    (omega arith) (omega arith)
 
 pub grid_point-north_west-requires-clause-grid : goal.grid_point-north_west-requires-clause-grid
 grid_point-north_west-requires-clause-grid c =
-    on_grid c.args.placed.now.t.now c.args.placed.now.tables.now c.args.patch c.args.i c.args.j c.args.i (c.args.j + 1)
-    c.args.placed.now.placed c.requires.patch c.requires.column c.requires.row (omega arith) (omega arith)
+    on_grid c.args.placed.now.t.now c.args.placed.now.placed c.requires.patch c.requires.column c.requires.row
+    (omega arith) (omega arith)
 
 pub cell_at-a-requires : goal.cell_at-a-requires
 cell_at-a-requires c =
-    let old = patch_read c.args.placed.now.t.now c.args.placed.now.tables.now c.args.patch c.index-old.result.now
-    c.args.placed.now.placed c.requires.patch c.index-old.ensures in
+    let old = patch_read c.args.placed.now.t.now c.args.placed.now.placed c.requires.patch c.index-old.ensures in
     old.some
 
 pub cell_at-b-requires : goal.cell_at-b-requires
 cell_at-b-requires c =
-    let old = patch_read c.args.placed.now.t.now c.args.placed.now.tables.now c.args.patch c.index-old.result.now
-    c.args.placed.now.placed c.requires.patch c.index-old.ensures in
+    let old = patch_read c.args.placed.now.t.now c.args.placed.now.placed c.requires.patch c.index-old.ensures in
     old.tall
 
 pub index-requires : goal.index-requires
 index-requires c =
-    let old = patch_read c.args.placed.now.t.now c.args.placed.now.tables.now c.args.patch c.index-old.result.now
-    c.args.placed.now.placed c.requires.patch c.index-old.ensures in
+    let old = patch_read c.args.placed.now.t.now c.args.placed.now.placed c.requires.patch c.index-old.ensures in
     omega (
       arith,
-      cell_low c.args.placed.now.t.now c.args.patch c.cell_at-a.result c.cell_at-b.result c.index-old.result.now old
-          c.cell_at-a.ensures.low c.cell_at-b.ensures.low,
+      cell_low old c.cell_at-a.ensures.low c.cell_at-b.ensures.low,
       c.index-old.result.now.cells.ok.0,
     )
 
 pub seen_from-requires-clause-cell : goal.seen_from-requires-clause-cell
 seen_from-requires-clause-cell c =
-    let few = cell_few c.args.placed.now.t.now c.args.placed.now.tables.now c.args.patch c.index-old.result.now
-    c.args.placed.now.placed c.requires.patch c.index-old.ensures in
-    (omega (arith, few.0, c.cell_at-a.ensures.low), omega (arith, few.1, c.cell_at-b.ensures.low))
+    cell_few c.args.placed.now.t.now c.args.placed.now.placed c.requires.patch c.index-old.ensures
+    c.cell_at-a.ensures.low c.cell_at-b.ensures.low
 
 pub seen_from-requires-2-clause-cell : goal.seen_from-requires-2-clause-cell
 seen_from-requires-2-clause-cell c =
-    let few = cell_few c.args.placed.now.t.now c.args.placed.now.tables.now c.args.patch c.index-old.result.now
-    c.args.placed.now.placed c.requires.patch c.index-old.ensures in
-    (omega (arith, few.0, c.cell_at-a.ensures.low), omega (arith, few.1, c.cell_at-b.ensures.low))
+    cell_few c.args.placed.now.t.now c.args.placed.now.placed c.requires.patch c.index-old.ensures
+    c.cell_at-a.ensures.low c.cell_at-b.ensures.low
 
 pub seen_from-requires-3-clause-cell : goal.seen_from-requires-3-clause-cell
 seen_from-requires-3-clause-cell c =
-    let few = cell_few c.args.placed.now.t.now c.args.placed.now.tables.now c.args.patch c.index-old.result.now
-    c.args.placed.now.placed c.requires.patch c.index-old.ensures in
-    (omega (arith, few.0, c.cell_at-a.ensures.low), omega (arith, few.1, c.cell_at-b.ensures.low))
+    cell_few c.args.placed.now.t.now c.args.placed.now.placed c.requires.patch c.index-old.ensures
+    c.cell_at-a.ensures.low c.cell_at-b.ensures.low
 
 pub seen_from-requires-4-clause-cell : goal.seen_from-requires-4-clause-cell
 seen_from-requires-4-clause-cell c =
-    let few = cell_few c.args.placed.now.t.now c.args.placed.now.tables.now c.args.patch c.index-old.result.now
-    c.args.placed.now.placed c.requires.patch c.index-old.ensures in
-    (omega (arith, few.0, c.cell_at-a.ensures.low), omega (arith, few.1, c.cell_at-b.ensures.low))
+    cell_few c.args.placed.now.t.now c.args.placed.now.placed c.requires.patch c.index-old.ensures
+    c.cell_at-a.ensures.low c.cell_at-b.ensures.low
 
 pub returns : goal.returns
 returns c =
     let x = lengths_in c.args.placed.now.tables.now.lengths.items in
     let t = plan c.args.placed.now.t.now in
     let shares = shares_by c.args.placed.now in
-    let old = patch_read c.args.placed.now.t.now c.args.placed.now.tables.now c.args.patch c.index-old.result.now
-    c.args.placed.now.placed c.requires.patch c.index-old.ensures in
+    let old = patch_read c.args.placed.now.t.now c.args.placed.now.placed c.requires.patch c.index-old.ensures in
     let sw = c.grid_point-south_west.ensures.value in
     let se = c.grid_point-south_east.ensures.value in
     let ne = c.grid_point-north_east.ensures.value in
@@ -129,9 +119,7 @@ returns c =
     ∙ (λ k. cell_at (old.wide k) (u k)) in
     let b : c.cell_at-b.result ≡ home_row t shares x c.args.patch c.args.i c.args.j = c.cell_at-b.ensures.value
     ∙ (λ k. cell_at (old.high k) (v k)) in
-    let dart = cell_read c.args.placed.now.t.now c.args.patch c.cell_at-a.result c.cell_at-b.result c.index.result.now
-    c.index-old.result.now old
-    c.cell_at-a.ensures.low c.cell_at-b.ensures.low c.index.ensures
+    let dart = cell_read old c.cell_at-a.ensures.low c.cell_at-b.ensures.low c.index.ensures
     ∙ (λ k. cell_of (patch_at t.patches c.args.patch) (a k) (b k)) in
     let s0 : c.seen_from.result ≡ seen_corner t shares x c.args.patch c.args.i c.args.j south =
     c.seen_from.ensures ∙ (λ k. seen_from (sw k) (a k) (b k)) in

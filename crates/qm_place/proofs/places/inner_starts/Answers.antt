@@ -1,14 +1,13 @@
 use Rattle.std.proofs.Common.{length, arith}
-use Rattle.qm_place.specs.Spots.{inner_of}
 use Rattle.qm_offsets.proofs.Spots.{next_room, term_room}
+use Rattle.qm_place.specs.Spots.{inner_of}
 use Rattle.qm_place.proofs.places.inner_starts.Goals as goal
 
 pub overflow_mul-rim : goal.overflow_mul-rim
 overflow_mul-rim c =
     omega (
       arith,
-      term_room (inner_of c.args.rims.now) (length c.args.rims.now) c.loop-rim.rim-index
-          c.loop-rim-test.true,
+      term_room (inner_of c.args.rims.now) (length c.args.rims.now) c.loop-rim.rim-index c.loop-rim-test.true,
       c.requires.small,
     )
 

@@ -2,7 +2,7 @@ use Rattle.std.proofs.Common.{◌≡◌, ◌+◌, ◌-◌, ◌*◌, cond, not, s
 use Rattle.std.proofs.lemmas.Bool.{cond-true, cond-false}
 use Rattle.def_remesh.specs.NewPoints.{lengths_in}
 use Rattle.def_written.specs.Places.{ONE}
-use Rattle.qm_place.specs.{OnArcs.spacing_on, Pushed.on_arc}
+use Rattle.qm_place.specs.OnArcs.{spacing_on}
 use Rattle.qm_place.proofs.Pushes.{pushed_more}
 use Rattle.qm_place.proofs.sides.push_arc.Goals.{then-back, else-back, then-back-2, else-back-2}
 use Rattle.qm_place.proofs.sides.push_arc.Goals as goal
@@ -20,9 +20,6 @@ loop-offset-preserved c =
       | then-back-2 w ↦ w.k-is ∙ sym (cond-true c.args.back _ _ w.if-back-2.true)
       | else-back-2 w ↦ w.k-is ∙ sym (cond-false c.args.back _ _ w.if-back-2.false)
     ] in
-    pushed_more c.args.parameters.now.items c.loop-offset.parameters.items c.push.new.self.items c.loop-offset.offset
-    (ONE * c.args.before + c.parameter_of.result)
-    (on_arc (spacing_on c.args.places.now) c.args.before new c.args.used c.args.back) c.loop-offset.invariant
-    c.in_ok-push.ensures.items
+    pushed_more c.loop-offset.invariant c.in_ok-push.ensures.items
     (λ i. ONE * c.args.before + (c.parameter_of.ensures.value
     ∙ (λ j. (spacing_on c.args.places.now).parameter_of c.args.used.arc (forward j) (place j))) i)

@@ -1,6 +1,7 @@
-use Rattle.std.proofs.{Common.◌-◌, Common.refl, Common.◌∙◌, Common.ap, Common.arith, lemmas.List.length-map}
+use Rattle.std.proofs.Common.{◌-◌, refl, ◌∙◌, ap, arith}
+use Rattle.std.proofs.lemmas.List.{length-map}
 use Rattle.def_cut.specs.Grids.{rectangle}
-use Rattle.def_layout.specs.{Layouts.south, Layouts.east, Layouts.north, Layouts.west, Plans.plan}
+use Rattle.def_layout.specs.Layouts.{south, east, north, west}
 use Rattle.qm_place.specs.OnArcs.{spacing_on}
 use Rattle.qm_place.proofs.{Pushes.kept_on, Pushes.pushed_kept, Rims.new_few, Rims.rim_built}
 use Rattle.qm_place.proofs.sides.push_patch.Goals as goal
@@ -49,7 +50,7 @@ overflow_cast-result c =
       c.len.ensures,
       c.push_side.new.parameters.ok.0,
       (c.in_ok-push_side.ensures south refl).long,
-      new_few (plan c.args.places.now.t.now) c.args.places.now.lengths.now c.requires.are.fine c.args.patch south
+      new_few c.requires.are.fine {p = c.args.patch} south
           (omega (arith, c.requires.low, length-map c.args.places.now.t.now.patches.items rectangle)),
     )
 
@@ -65,19 +66,14 @@ overflow_cast-result-2 c =
       c.push_side-2.new.parameters.ok.0,
       (c.in_ok-push_side.ensures south refl).long,
       (c.in_ok-push_side-2.ensures east refl).long,
-      new_few (plan c.args.places.now.t.now) c.args.places.now.lengths.now c.requires.are.fine c.args.patch east
+      new_few c.requires.are.fine {p = c.args.patch} east
           (omega (arith, c.requires.low, length-map c.args.places.now.t.now.patches.items rectangle)),
     )
 
 pub returns-clause-rim : goal.returns-clause-rim
 returns-clause-rim c =
-    rim_built (plan c.args.places.now.t.now) c.args.places.now.lengths.now (spacing_on c.args.places.now)
-    c.requires.are.fine c.args.patch
+    rim_built (spacing_on c.args.places.now) c.requires.are.fine
     (omega (arith, c.requires.low, length-map c.args.places.now.t.now.patches.items rectangle))
-    c.args.parameters.now.items c.push_side.new.parameters.items c.push_side-2.new.parameters.items
-    c.push_side-3.new.parameters.items c.push_side-4.new.parameters.items
-    c.len-begin.result (c.len.result - c.len-begin.result)
-    (c.len-2.result - c.len-begin.result - (c.len.result - c.len-begin.result))
     (c.in_ok-push_side.ensures south refl) (c.in_ok-push_side-2.ensures east refl)
     (c.in_ok-push_side-3.ensures north refl) (c.in_ok-push_side-4.ensures west refl)
     (c.len-begin.ensures ∙ c.args.parameters.now.ok.0)
@@ -87,7 +83,7 @@ returns-clause-rim c =
 
 pub returns-clause-kept : goal.returns-clause-kept
 returns-clause-kept c =
-    kept_on _ _ _ (pushed_kept _ _ _ _ (c.in_ok-push_side.ensures south refl))
-    (kept_on _ _ _ (pushed_kept _ _ _ _ (c.in_ok-push_side-2.ensures east refl))
-    (kept_on _ _ _ (pushed_kept _ _ _ _ (c.in_ok-push_side-3.ensures north refl))
-    (pushed_kept _ _ _ _ (c.in_ok-push_side-4.ensures west refl))))
+    kept_on (pushed_kept (c.in_ok-push_side.ensures south refl))
+    (kept_on (pushed_kept (c.in_ok-push_side-2.ensures east refl))
+    (kept_on (pushed_kept (c.in_ok-push_side-3.ensures north refl))
+    (pushed_kept (c.in_ok-push_side-4.ensures west refl))))

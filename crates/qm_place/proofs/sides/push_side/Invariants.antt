@@ -1,5 +1,5 @@
 use Rattle.std.proofs.Common.{◌≡◌}
-use Rattle.def_layout.specs.{Arcs.long_at, Layouts.Way, Lengths.reach, Plans.layout_of, Plans.way_number, Plans.plan}
+use Rattle.def_layout.specs.{Plans.layout_of, Plans.way_number, Plans.plan, Arcs.long_at, Layouts.Way, Lengths.reach}
 use Rattle.def_remesh.specs.{NewPoints.lengths_in, Placings.side_parameter}
 use Rattle.qm_place.specs.{OnArcs.spacing_on, Pushed.ArePushed}
 use Rattle.qm_place.proofs.sides.push_side.Given as goal

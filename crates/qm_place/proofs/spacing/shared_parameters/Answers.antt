@@ -1,4 +1,4 @@
-use Rattle.std.proofs.Common.{◌≡◌, ◌+◌, ◌-◌, ◌<◌, ◌≤◌, ℕ, suc, List, [], length, sym, ◌∙◌, ap, subst, inl, inr, arith}
+use Rattle.std.proofs.Common.{◌≡◌, ◌+◌, ◌-◌, ◌<◌, ℕ, suc, List, [], length, sym, ◌∙◌, ap, subst, inl, inr, arith}
 use Rattle.std.proofs.lemmas.Bool.{cases_lt}
 use Rattle.std.proofs.lemmas.List.{get_or-map, length-map}
 use Rattle.std.specs.Prelude.{slice_index}
@@ -7,7 +7,7 @@ use Rattle.def_remesh.specs.{NewPoints.lengths_in, Spaced.shares_along}
 use Rattle.def_written.specs.{Numbers.before_arc, Spacings.shared_step, Spacings.step_parameter}
 use Rattle.plan_laws.proofs.MeshLayouts.{lengths_of}
 use Rattle.written_laws.proofs.Runs.{place_low}
-use Rattle.qm_place.proofs.{ArcPoints.read_short, Paths.arc_parameter, Rims.old_read}
+use Rattle.qm_place.proofs.{ArcPoints.read_short, Paths.arc_parameter}
 use Rattle.qm_place.proofs.spacing.shared_parameters.Goals.{After-deref}
 use Rattle.qm_place.proofs.spacing.shared_parameters.Goals as goal
 
@@ -37,7 +37,7 @@ push_shared-requires-clause-few c =
     omega (
       arith,
       ap (λ (ds : List ℕ). length ds) c.deref.ensures.value,
-      read_short c.args.t.now c.loop-arc.arc c.index.result.now c.requires.fine.mesh (arc_low at) c.index.ensures,
+      read_short c.args.t.now c.requires.fine.mesh (arc_low at) c.index.ensures,
     )
 
 pub push_shared-requires-clause-new : goal.push_shared-requires-clause-new
@@ -56,8 +56,7 @@ loop-arc-preserved c = record {
   );
   each = λ arc k low some less. elim (cases_lt arc c.loop-arc.arc) [
     | inl before ↦
-        c.in_ok-push_shared.ensures.kept (before_arc (lengths_in c.args.lengths.now) arc + k - 1)
-        (omega (
+        c.in_ok-push_shared.ensures.kept (before_arc (lengths_in c.args.lengths.now) arc + k - 1) (omega (
           arith,
           c.loop-arc.invariant.long,
           some,
@@ -68,8 +67,7 @@ loop-arc-preserved c = record {
     | inr more ↦
         let same : c.loop-arc.arc ≡ arc = omega (arith, low, more) in
         subst (λ a. slice_index c.push_shared.new.parameters.items (before_arc (lengths_in c.args.lengths.now) a
-        + k - 1)
-        ≡ step_parameter (shared_step (long_at (plan c.args.t.now).arcs) (lengths_in c.args.lengths.now)
+        + k - 1) ≡ step_parameter (shared_step (long_at (plan c.args.t.now).arcs) (lengths_in c.args.lengths.now)
         (shares_along (plan c.args.t.now) c.args.shares.now) a k)) same
         (here k some (subst (λ a. k < lengths_in c.args.lengths.now a) (sym same) less))
   ];
@@ -85,8 +83,8 @@ loop-arc-preserved c = record {
         ≡ length c.loop-arc.parameters.items + (k - 1) = omega (arith, c.loop-arc.invariant.long, some) in
         ap (slice_index c.push_shared.new.parameters.items) place
         ∙ c.in_ok-push_shared.ensures.each (k - 1) (omega (arith, some, less))
-        ∙ arc_parameter (plan c.args.t.now) (lengths_in c.args.lengths.now) c.args.shares.now c.loop-arc.arc k
-        c.deref.result.now (darts (goal.at.loop-arc-preserved c).After-deref) some less
+        ∙ arc_parameter (plan c.args.t.now) (lengths_in c.args.lengths.now) c.args.shares.now c.loop-arc.arc
+        (darts (goal.at.loop-arc-preserved c).After-deref) some less
 
 pub returns : goal.returns
 returns c = record {

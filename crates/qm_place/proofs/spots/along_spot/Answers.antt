@@ -1,12 +1,11 @@
-use Rattle.std.proofs.Common.{◌≡◌, ◌+◌, ◌-◌, ◌*◌, ◌/◌, ◌%◌, ◌<◌, true, length, Option, sym, ◌∙◌, ap, subst, arith}
+use Rattle.std.proofs.Common.{◌≡◌, ◌+◌, ◌-◌, ◌*◌, ◌/◌, ◌%◌, ◌<◌, true, length, Option, sym, ◌∙◌, ap, arith}
 use Rattle.std.proofs.lemmas.List.{get_or_read}
 use Rattle.def_layout.specs.Arcs.{dart_at, long_at}
 use Rattle.def_map.specs.Spots.{edge_spot}
 use Rattle.def_written.specs.Numbers.{before_arc}
 use Rattle.def_remesh.specs.{Placings.shares_in, Spaced.spacing_by, declared.places.Spaced.Spaced}
 use Rattle.qm_place.specs.Lengthened.{lengths_by, plan_in, spacing_at}
-use Rattle.qm_place.proofs.ArcPoints.{inner_low, read_inner, spot_told}
-use Rattle.qm_place.proofs.Entries.{start_read}
+use Rattle.qm_place.proofs.{ArcPoints.inner_low, ArcPoints.read_inner, ArcPoints.spot_told, Entries.start_read}
 use Rattle.qm_place.proofs.spots.along_spot.Goals.{In-Some, After-index, After-index-in-None, After-index-in-None-2}
 use Rattle.qm_place.proofs.spots.along_spot.Goals as goal
 
@@ -26,8 +25,7 @@ value c =
     let placed = c.args.placed.now in
     read_inner (plan_in placed) (lengths_by placed) placed.tables.now.spaced placed.placed.spaced c.in-Some.spaced
     c.in-Some.is c.args.arc (c.args.place - before_arc (lengths_by placed) c.args.arc + 1) c.requires.along.low
-    (omega arith) c.requires.along.upto c.args.place c.index.result.now (omega (arith, c.requires.along.from))
-    c.index.ensures
+    (omega arith) c.requires.along.upto (omega (arith, c.requires.along.from)) c.index.ensures
 
 pub index-requires : goal.index-requires
 index-requires c =
@@ -51,18 +49,15 @@ shared_spot-requires-clause-low c =
 pub returns-in-Some : goal.returns-in-Some
 returns-in-Some c =
     let placed = c.args.placed.now in
-    spot_told (plan_in placed) (lengths_by placed) placed.tables.now.spaced c.in-Some.spaced c.in-Some.is
-    placed.placed.spacing c.args.arc (c.args.place - before_arc (lengths_by placed) c.args.arc + 1)
-    c.index.result.now c.requires.along.low c.requires.along.upto
-    (value (goal.at.returns-in-Some c).After-index) c.shared_spot.result c.shared_spot.ensures
+    spot_told (plan_in placed) c.in-Some.spaced c.in-Some.is
+    placed.placed.spacing c.requires.along.low c.requires.along.upto
+    (value (goal.at.returns-in-Some c).After-index) c.shared_spot.ensures
 
 -- Where the points of the arc begin, and its new length.
-begins : (c : After-index-in-None) → c.index-in-None.result.now
-    ≡ before_arc (lengths_by c.args.placed.now) c.args.arc
+begins : (c : After-index-in-None) → c.index-in-None.result.now ≡ before_arc (lengths_by c.args.placed.now) c.args.arc
 begins c =
     let placed = c.args.placed.now in
-    start_read (λ b. lengths_by placed b - 1) (length (plan_in placed).arcs) c.args.arc c.index-in-None.result.now
-    placed.tables.now.along.begin.items placed.placed.along c.requires.along.low c.index-in-None.ensures
+    start_read placed.placed.along c.requires.along.low c.index-in-None.ensures
 
 parts : (c : After-index-in-None-2) → c.index-in-None-2.result.now ≡ lengths_by c.args.placed.now c.args.arc
 parts c =

@@ -9,32 +9,27 @@ use Rattle.qm_place.proofs.spots.cell_spot.Goals as goal
 
 pub cell_at-a-requires : goal.cell_at-a-requires
 cell_at-a-requires c =
-    let old = patch_read c.args.placed.now.t.now c.args.placed.now.tables.now c.args.patch c.index-old.result.now
-    c.args.placed.now.placed c.requires.patch c.index-old.ensures in
+    let old = patch_read c.args.placed.now.t.now c.args.placed.now.placed c.requires.patch c.index-old.ensures in
     old.some
 
 pub cell_at-b-requires : goal.cell_at-b-requires
 cell_at-b-requires c =
-    let old = patch_read c.args.placed.now.t.now c.args.placed.now.tables.now c.args.patch c.index-old.result.now
-    c.args.placed.now.placed c.requires.patch c.index-old.ensures in
+    let old = patch_read c.args.placed.now.t.now c.args.placed.now.placed c.requires.patch c.index-old.ensures in
     old.tall
 
 pub index-requires : goal.index-requires
 index-requires c =
-    let old = patch_read c.args.placed.now.t.now c.args.placed.now.tables.now c.args.patch c.index-old.result.now
-    c.args.placed.now.placed c.requires.patch c.index-old.ensures in
+    let old = patch_read c.args.placed.now.t.now c.args.placed.now.placed c.requires.patch c.index-old.ensures in
     omega (
       arith,
-      cell_low c.args.placed.now.t.now c.args.patch c.cell_at-a.result c.cell_at-b.result c.index-old.result.now old
-          c.cell_at-a.ensures.low c.cell_at-b.ensures.low,
+      cell_low old c.cell_at-a.ensures.low c.cell_at-b.ensures.low,
       c.index-old.result.now.cells.ok.0,
     )
 
 pub returns : goal.returns
 returns c =
     let x = lengths_in c.args.placed.now.tables.now.lengths.items in
-    let old = patch_read c.args.placed.now.t.now c.args.placed.now.tables.now c.args.patch c.index-old.result.now
-    c.args.placed.now.placed c.requires.patch c.index-old.ensures in
+    let old = patch_read c.args.placed.now.t.now c.args.placed.now.placed c.requires.patch c.index-old.ensures in
     let l = layout_of (plan c.args.placed.now.t.now) in
     let o = long_at (plan c.args.placed.now.t.now).arcs in
     let u : c.grid_point-point.result.u ≡ parameter_u l o x (spacing_at c.args.placed.now) c.args.patch c.args.i
@@ -51,8 +46,6 @@ returns c =
     ≡ cell_at (high l o c.args.patch) (parameter_v l o x (spacing_at c.args.placed.now) c.args.patch c.args.i
     c.args.j) =
     c.cell_at-b.ensures.value ∙ (λ k. cell_at (old.high k) (v k)) in
-    let dart = cell_read c.args.placed.now.t.now c.args.patch c.cell_at-a.result c.cell_at-b.result c.index.result.now
-    c.index-old.result.now old
-    c.cell_at-a.ensures.low c.cell_at-b.ensures.low c.index.ensures
+    let dart = cell_read old c.cell_at-a.ensures.low c.cell_at-b.ensures.low c.index.ensures
     ∙ (λ k. cell_of (patch_at (plan c.args.placed.now.t.now).patches c.args.patch) (a k) (b k)) in
     λ k. record { dart = dart k; s = u k - (c.from.ensures ∙ a) k * ONE; t = v k - (c.from-2.ensures ∙ b) k * ONE }

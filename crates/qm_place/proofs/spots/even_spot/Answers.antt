@@ -6,8 +6,7 @@ use Rattle.qm_place.proofs.spots.even_spot.Goals as goal
 
 pub overflow_mul-way : goal.overflow_mul-way
 overflow_mul-way c =
-    let old = arc_read c.args.placed.now.t.now c.args.placed.now.tables.now c.args.arc c.index.result.now
-    c.args.placed.now.placed c.requires.arc c.index.ensures in
+    let old = arc_read c.args.placed.now.t.now c.args.placed.now.placed c.requires.arc c.index.ensures in
     let long = c.len.ensures ∙ c.index.result.now.darts.ok.0 ∙ old.long in
     omega (
       arith,
@@ -21,8 +20,7 @@ overflow_mul-way c =
 
 pub index-requires-2 : goal.index-requires-2
 index-requires-2 c =
-    let old = arc_read c.args.placed.now.t.now c.args.placed.now.tables.now c.args.arc c.index.result.now
-    c.args.placed.now.placed c.requires.arc c.index.ensures in
+    let old = arc_read c.args.placed.now.t.now c.args.placed.now.placed c.requires.arc c.index.ensures in
     let long = c.len.ensures ∙ c.index.result.now.darts.ok.0 ∙ old.long in
     let place : c.from.result * c.len.result / c.from-parts.result
     ≡ c.args.k * long_at (plan c.args.placed.now.t.now).arcs
@@ -32,8 +30,7 @@ index-requires-2 c =
 
 pub returns-clause-dart : goal.returns-clause-dart
 returns-clause-dart c =
-    let old = arc_read c.args.placed.now.t.now c.args.placed.now.tables.now c.args.arc c.index.result.now
-    c.args.placed.now.placed c.requires.arc c.index.ensures in
+    let old = arc_read c.args.placed.now.t.now c.args.placed.now.placed c.requires.arc c.index.ensures in
     let long = c.len.ensures ∙ c.index.result.now.darts.ok.0 ∙ old.long in
     let place : c.from.result * c.len.result / c.from-parts.result
     ≡ c.args.k * long_at (plan c.args.placed.now.t.now).arcs
@@ -41,12 +38,10 @@ returns-clause-dart c =
     λ i. c.from.ensures i * long i / c.from-parts.ensures i in
     let less : c.from.result * c.len.result / c.from-parts.result < length c.index.result.now.darts.items =
     omega (arith, place, c.requires.low, old.long) in
-    dart_read c.args.placed.now.t.now c.args.arc _ _ c.index.result.now c.index-2.result.now c.requires.arc
-    c.index.ensures less c.index-2.ensures place
+    dart_read c.args.placed.now.t.now c.requires.arc c.index.ensures less c.index-2.ensures place
 
 pub returns-clause-some : goal.returns-clause-some
 returns-clause-some c =
-    let old = arc_read c.args.placed.now.t.now c.args.placed.now.tables.now c.args.arc c.index.result.now
-    c.args.placed.now.placed c.requires.arc c.index.ensures in
+    let old = arc_read c.args.placed.now.t.now c.args.placed.now.placed c.requires.arc c.index.ensures in
     let long = c.len.ensures ∙ c.index.result.now.darts.ok.0 ∙ old.long in
     λ i. c.from.ensures i * long i % c.from-parts.ensures i

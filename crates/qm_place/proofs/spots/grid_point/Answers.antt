@@ -1,78 +1,59 @@
-use Rattle.std.proofs.Common.{◌≡◌, ℕ, List, sym, ap, subst, arith}
+use Rattle.std.proofs.Common.{◌≡◌, ap, arith}
 use Rattle.def_layout.specs.{Arcs.long_at, Plans.layout_of, Plans.plan}
-use Rattle.def_remesh.specs.{NewPoints.lengths_in, Placings.IsRim, declared.places.Rim.Rim}
+use Rattle.def_remesh.specs.{NewPoints.lengths_in, declared.places.Rim.Rim}
 use Rattle.def_written.specs.Places.{parameter_u, parameter_v}
-use Rattle.qm_place.specs.{Lengthened.spacing_at, Spots.IsOnGrid}
+use Rattle.qm_place.specs.Lengthened.{spacing_at}
 use Rattle.qm_place.proofs.Entries.{patch_read, rim_here, rim_room}
 use Rattle.qm_place.proofs.spots.grid_point.Goals as goal
 
 pub across-u-requires-clause-room : goal.across-u-requires-clause-room
 across-u-requires-clause-room c =
-    let rim = rim_here c.args.placed.now.t.now c.args.placed.now.tables.now c.args.patch c.index-rim.result.now
-    c.args.placed.now.placed c.requires.patch c.index-rim.ensures in
-    rim_room (plan c.args.placed.now.t.now) c.args.placed.now.tables.now c.args.patch c.index-rim.result.now
-    c.deref.result.now rim.low rim.is c.deref.ensures.value
+    let rim = rim_here c.args.placed.now.t.now c.args.placed.now.placed c.requires.patch c.index-rim.ensures in
+    rim_room c.args.placed.now.tables.now rim.low rim.is c.deref.ensures.value
 
 pub across-u-requires-clause-grid : goal.across-u-requires-clause-grid
 across-u-requires-clause-grid c =
-    let rim = rim_here c.args.placed.now.t.now c.args.placed.now.tables.now c.args.patch c.index-rim.result.now
-    c.args.placed.now.placed c.requires.patch c.index-rim.ensures in
-    subst (λ (r : Rim). IsOnGrid r c.args.i c.args.j) (sym rim.same) c.requires.grid
+    let rim = rim_here c.args.placed.now.t.now c.args.placed.now.placed c.requires.patch c.index-rim.ensures in
+    rw rim.same c.requires.grid
 
 pub upright-v-requires-clause-room : goal.upright-v-requires-clause-room
 upright-v-requires-clause-room c =
-    let rim = rim_here c.args.placed.now.t.now c.args.placed.now.tables.now c.args.patch c.index-rim.result.now
-    c.args.placed.now.placed c.requires.patch c.index-rim.ensures in
-    rim_room (plan c.args.placed.now.t.now) c.args.placed.now.tables.now c.args.patch c.index-rim.result.now
-    c.deref-2.result.now rim.low rim.is c.deref-2.ensures.value
+    let rim = rim_here c.args.placed.now.t.now c.args.placed.now.placed c.requires.patch c.index-rim.ensures in
+    rim_room c.args.placed.now.tables.now rim.low rim.is c.deref-2.ensures.value
 
 pub upright-v-requires-clause-grid : goal.upright-v-requires-clause-grid
 upright-v-requires-clause-grid c =
-    let rim = rim_here c.args.placed.now.t.now c.args.placed.now.tables.now c.args.patch c.index-rim.result.now
-    c.args.placed.now.placed c.requires.patch c.index-rim.ensures in
-    subst (λ (r : Rim). IsOnGrid r c.args.i c.args.j) (sym rim.same) c.requires.grid
+    let rim = rim_here c.args.placed.now.t.now c.args.placed.now.placed c.requires.patch c.index-rim.ensures in
+    rw rim.same c.requires.grid
 
 u_is : (c : goal.After-upright-v) → c.across-u.result
     ≡ parameter_u (layout_of (plan c.args.placed.now.t.now)) (long_at (plan c.args.placed.now.t.now).arcs)
     (lengths_in c.args.placed.now.tables.now.lengths.items) (spacing_at c.args.placed.now) c.args.patch c.args.i
     c.args.j
 u_is c =
-    let rim = rim_here c.args.placed.now.t.now c.args.placed.now.tables.now c.args.patch c.index-rim.result.now
-    c.args.placed.now.placed c.requires.patch c.index-rim.ensures in
-    let old = patch_read c.args.placed.now.t.now c.args.placed.now.tables.now c.args.patch c.index-old.result.now
-    c.args.placed.now.placed c.requires.patch c.index-old.ensures in
+    let rim = rim_here c.args.placed.now.t.now c.args.placed.now.placed c.requires.patch c.index-rim.ensures in
+    let old = patch_read c.args.placed.now.t.now c.args.placed.now.placed c.requires.patch c.index-old.ensures in
     c.across-u.ensures (plan c.args.placed.now.t.now) (lengths_in c.args.placed.now.tables.now.lengths.items)
     (spacing_at c.args.placed.now) c.args.patch rim.low c.args.placed.now.placed.lengths
-    (subst (λ (xs : List ℕ). IsRim (plan c.args.placed.now.t.now)
-    (lengths_in c.args.placed.now.tables.now.lengths.items) (spacing_at c.args.placed.now) c.args.patch
-    c.index-rim.result.now xs)
-    (sym c.deref.ensures.value) rim.is)
-    (c.args.placed.now.placed.ends c.args.patch rim.low) old.wide
+    (rw c.deref.ensures.value rim.is) (c.args.placed.now.placed.ends c.args.patch rim.low) old.wide
 
 v_is : (c : goal.After-upright-v) → c.upright-v.result
     ≡ parameter_v (layout_of (plan c.args.placed.now.t.now)) (long_at (plan c.args.placed.now.t.now).arcs)
     (lengths_in c.args.placed.now.tables.now.lengths.items) (spacing_at c.args.placed.now) c.args.patch c.args.i
     c.args.j
 v_is c =
-    let rim = rim_here c.args.placed.now.t.now c.args.placed.now.tables.now c.args.patch c.index-rim.result.now
-    c.args.placed.now.placed c.requires.patch c.index-rim.ensures in
-    let old = patch_read c.args.placed.now.t.now c.args.placed.now.tables.now c.args.patch c.index-old.result.now
-    c.args.placed.now.placed c.requires.patch c.index-old.ensures in
+    let rim = rim_here c.args.placed.now.t.now c.args.placed.now.placed c.requires.patch c.index-rim.ensures in
+    let old = patch_read c.args.placed.now.t.now c.args.placed.now.placed c.requires.patch c.index-old.ensures in
     c.upright-v.ensures (plan c.args.placed.now.t.now) (lengths_in c.args.placed.now.tables.now.lengths.items)
     (spacing_at c.args.placed.now) c.args.patch rim.low c.args.placed.now.placed.lengths
-    (subst (λ (xs : List ℕ). IsRim (plan c.args.placed.now.t.now)
-    (lengths_in c.args.placed.now.tables.now.lengths.items) (spacing_at c.args.placed.now) c.args.patch
-    c.index-rim.result.now xs)
-    (sym c.deref-2.ensures.value) rim.is)
-    (c.args.placed.now.placed.ends c.args.patch rim.low) old.high
+    (rw c.deref-2.ensures.value rim.is) (c.args.placed.now.placed.ends c.args.patch rim.low) old.high
 
 pub returns-clause-value : goal.returns-clause-value
 returns-clause-value c = λ k. record { u = u_is c k; v = v_is c k }
 
 pub returns-clause-small : goal.returns-clause-small
 returns-clause-small c =
-    let rim = rim_here c.args.placed.now.t.now c.args.placed.now.tables.now c.args.patch c.index-rim.result.now
-    c.args.placed.now.placed c.requires.patch c.index-rim.ensures in
+    let rim = rim_here c.args.placed.now.t.now c.args.placed.now.placed c.requires.patch c.index-rim.ensures in
     let small = c.args.placed.now.placed.small c.args.patch c.args.i c.args.j rim.low
     (omega (arith, c.requires.grid.0, ap (λ (r : Rim). r.wide) rim.same, rim.is.wide))
     (omega (arith, c.requires.grid.1, ap (λ (r : Rim). r.high) rim.same, rim.is.high)) in

@@ -12,8 +12,7 @@ overflow_add-offset-2 c =
     let are = c.args.placed.now.placed in
     let x = lengths_in c.args.placed.now.tables.now.lengths.items in
     let l = layout_of (plan c.args.placed.now.t.now) in
-    let at = offset_read (plan c.args.placed.now.t.now) c.args.placed.now.tables.now are c.args.patch c.index.result.now
-    c.index-2.result.now c.requires.inside.low c.index.ensures c.index-2.ensures in
+    let at = offset_read are c.requires.inside.low c.index.ensures c.index-2.ensures in
     let row : (c.args.place - c.index.result.now) / (c.index-2.result.now.wide - 1)
     ≡ (c.args.place - before_patch l x c.args.patch) / (wide l x c.args.patch - 1) =
     λ k. (c.args.place - at.begin_is k) / (at.columns_are k - 1) in
@@ -24,8 +23,7 @@ cell_spot-requires-clause-grid c =
     let are = c.args.placed.now.placed in
     let x = lengths_in c.args.placed.now.tables.now.lengths.items in
     let l = layout_of (plan c.args.placed.now.t.now) in
-    let at = offset_read (plan c.args.placed.now.t.now) c.args.placed.now.tables.now are c.args.patch c.index.result.now
-    c.index-2.result.now c.requires.inside.low c.index.ensures c.index-2.ensures in
+    let at = offset_read are c.requires.inside.low c.index.ensures c.index-2.ensures in
     let column : (c.args.place - c.index.result.now) % (c.index-2.result.now.wide - 1)
     ≡ (c.args.place - before_patch l x c.args.patch) % (wide l x c.args.patch - 1) =
     λ k. (c.args.place - at.begin_is k) % (at.columns_are k - 1) in
@@ -44,9 +42,7 @@ returns c =
     let are = c.args.placed.now.placed in
     let x = lengths_in c.args.placed.now.tables.now.lengths.items in
     let l = layout_of (plan c.args.placed.now.t.now) in
-    let at = offset_read (plan c.args.placed.now.t.now) c.args.placed.now.tables.now are c.args.patch c.index.result.now
-    c.index-2.result.now c.requires.inside.low c.index.ensures c.index-2.ensures in
-    c.cell_spot.ensures
-    ∙ (λ k. face_spot (plan c.args.placed.now.t.now) x (spacing_at c.args.placed.now) c.args.patch
+    let at = offset_read are c.requires.inside.low c.index.ensures c.index-2.ensures in
+    c.cell_spot.ensures ∙ (λ k. face_spot (plan c.args.placed.now.t.now) x (spacing_at c.args.placed.now) c.args.patch
     ((c.args.place - at.begin_is k) % (at.columns_are k - 1) + 1)
     ((c.args.place - at.begin_is k) / (at.columns_are k - 1) + 1))

@@ -2,7 +2,8 @@ use Rattle.std.proofs.Common.{◌≡◌, ◌-◌, ◌*◌, ◌/◌, ◌^◌, ◌
 use Rattle.std.proofs.lemmas.Nat.{mul-le}
 use Rattle.def_written.specs.Places.{ONE}
 use Rattle.qm_place.specs.Walks.{share_in}
-use Rattle.qm_place.proofs.{Paths.part_low, Paths.rest_low, walk.parameter_at.Goals.After-from-5}
+use Rattle.qm_place.proofs.Paths.{part_low, rest_low}
+use Rattle.qm_place.proofs.walk.parameter_at.Goals.{After-from-5}
 use Rattle.qm_place.proofs.walk.parameter_at.Goals as goal
 
 -- The rest of the place, and the share of the edge, as they are computed.
@@ -10,8 +11,7 @@ rest : (c : After-from-5) → c.from.result * c.args.path.now.all - c.from-2.res
     ≡ c.args.k * c.args.path.now.all - c.args.new * c.args.at.before
 rest c = λ i. c.from.ensures i * c.args.path.now.all - c.from-2.ensures i * c.args.at.before
 
-share : (c : After-from-5) → c.from-3.result * c.from-4.result ≡ c.args.new * share_in c.args.path.now
-    c.args.at.edge
+share : (c : After-from-5) → c.from-3.result * c.from-4.result ≡ c.args.new * share_in c.args.path.now c.args.at.edge
 share c = λ i. c.from-3.ensures i * (c.from-4.ensures ∙ c.share_at.ensures.value) i
 
 less : (c : After-from-5) → c.args.k * c.args.path.now.all - c.args.new * c.args.at.before
@@ -27,8 +27,7 @@ few c =
     mul-le c.args.new (share_in c.args.path.now c.args.at.edge) (2 ^ 32) (2 ^ 62) (omega (arith, c.ranges.new.fits))
     (omega (arith, c.share_at.ensures.small, c.share_at.ensures.value))
 
-part : (c : After-from-5)
-    → c.from-5.result * (c.from.result * c.args.path.now.all - c.from-2.result * c.args.at.before)
+part : (c : After-from-5) → c.from-5.result * (c.from.result * c.args.path.now.all - c.from-2.result * c.args.at.before)
     / (c.from-3.result * c.from-4.result) < ONE
 part c =
     let path = c.args.path.now in

@@ -1,9 +1,9 @@
-use Rattle.std.proofs.Common.{◌≡◌, ◌+◌, ◌*◌, ◌^◌, ◌<◌, ◌≤◌, length, ◌∙◌, ap, arith}
+use Rattle.std.proofs.Common.{◌≡◌, ◌+◌, ◌*◌, ◌^◌, ◌≤◌, length, ◌∙◌, ap, arith}
 use Rattle.std.proofs.lemmas.Nat.{mul-le}
-use Rattle.def_math.specs.Counts.{count_below}
 use Rattle.written_laws.proofs.Runs.{count_rises}
 use Rattle.qm_place.specs.Walks.{share_in}
-use Rattle.qm_place.proofs.{Paths.edge_is, Paths.next_is, Paths.next_low, walk.reach.Goals.After-from-in-edges-2}
+use Rattle.qm_place.proofs.Paths.{edge_is, next_is, next_low}
+use Rattle.qm_place.proofs.walk.reach.Goals.{After-from-in-edges-2}
 use Rattle.qm_place.proofs.walk.reach.Goals as goal
 
 -- No more shares lie before the edge than in all.
@@ -22,8 +22,7 @@ few c =
 -- What is compared, as it is computed.
 upto : (c : After-from-in-edges-2) → c.from-in-edges.result * (c.edges.at.before + c.from-in-edges-2.result)
     ≡ c.args.new * (c.edges.at.before + share_in c.args.path.now c.edges.at.edge)
-upto c = λ i. c.from-in-edges.ensures i
-    * (c.edges.at.before + (c.from-in-edges-2.ensures ∙ c.edges.invariant.share) i)
+upto c = λ i. c.from-in-edges.ensures i * (c.edges.at.before + (c.from-in-edges-2.ensures ∙ c.edges.invariant.share) i)
 
 wish : (c : After-from-in-edges-2) → c.from.result * c.args.path.now.all ≡ c.args.k * c.args.path.now.all
 wish c = λ i. c.from.ensures i * c.args.path.now.all
@@ -42,8 +41,7 @@ overflow_mul-from c =
     omega (
       arith,
       mul-le c.from-in-edges.result (c.edges.at.before + c.from-in-edges-2.result) (2 ^ 32) (2 ^ 84)
-          (omega (arith, c.from-in-edges.ensures, c.ranges.new.fits))
-          (omega (
+          (omega (arith, c.from-in-edges.ensures, c.ranges.new.fits)) (omega (
             arith,
             few (goal.at.overflow_mul-from c).After-from-in-edges-2,
             c.from-in-edges-2.ensures,

@@ -1,13 +1,13 @@
 use Rattle.std.proofs.Common.{rules, ◌≡◌, ◌≤◌, ◌^◌, ℤ, pos, ◌+ℤ◌, FitsSigned, length, to_z, of_z, ◌∙◌, ap, arith}
 use Rattle.std.proofs.lemmas.Int.{ints}
 use Rattle.std.proofs.lemmas.List.{get_or_default}
-use Rattle.std.specs.{Prelude.unsigned_abs, Int.w128}
+use Rattle.std.specs.Prelude.{unsigned_abs}
+use Rattle.std.specs.Int.{w128}
 use Rattle.def_written.specs.Places.{blend}
 use Rattle.qm_place.proofs.Casts.{blend_micro, sum_is, sum_fits, mean_is, cast_micro}
 use Rattle.qm_place.proofs.ways.blend.Goals as goal
 
-sum : (c : goal.After-weigh-4)
-    → to_z w128 (of_z w128 (to_z w128
+sum : (c : goal.After-weigh-4) → to_z w128 (of_z w128 (to_z w128
     (of_z w128 (to_z w128 (of_z w128 c.weigh.result) +ℤ to_z w128 (of_z w128 c.weigh-2.result)))
     +ℤ to_z w128 (of_z w128 (to_z w128 (of_z w128 c.weigh-3.result) +ℤ to_z w128 (of_z w128 c.weigh-4.result)))))
     ≡ (c.weigh.result +ℤ c.weigh-2.result) +ℤ (c.weigh-3.result +ℤ c.weigh-4.result)
@@ -37,30 +37,28 @@ overflow_add-south-3 c = fits _ _ (sum c) (few c)
 
 is : (c : goal.After-div_euclid-mean) → c.div_euclid-mean.result ≡ blend c.args.s c.args.t c.p00.inside.n c.p10.inside.n
     c.p01.inside.n c.p11.inside.n
-is c = mean_is c.args.s c.args.t c.p00.inside.n c.p10.inside.n c.p01.inside.n c.p11.inside.n
-    c.weigh.result c.weigh-2.result c.weigh-3.result c.weigh-4.result c.div_euclid-mean.result
-    (record {
-      s_le = c.requires.0;
-      t_le = c.requires.1;
-      a_small = c.p00.invariant;
-      b_small = c.p10.invariant;
-      c_small = c.p01.invariant;
-      d_small = c.p11.invariant;
-      a_is = c.weigh.ensures.value;
-      b_is = c.weigh-2.ensures.value;
-      c_is = c.weigh-3.ensures.value;
-      d_is = c.weigh-4.ensures.value;
-      a_short = c.weigh.ensures.short;
-      b_short = c.weigh-2.ensures.short;
-      c_short = c.weigh-3.ensures.short;
-      d_short = c.weigh-4.ensures.short;
-    }) c.div_euclid-mean.ensures
+is c = mean_is (record {
+  s_le = c.requires.0;
+  t_le = c.requires.1;
+  a_small = c.p00.invariant;
+  b_small = c.p10.invariant;
+  c_small = c.p01.invariant;
+  d_small = c.p11.invariant;
+  a_is = c.weigh.ensures.value;
+  b_is = c.weigh-2.ensures.value;
+  c_is = c.weigh-3.ensures.value;
+  d_is = c.weigh-4.ensures.value;
+  a_short = c.weigh.ensures.short;
+  b_short = c.weigh-2.ensures.short;
+  c_short = c.weigh-3.ensures.short;
+  d_short = c.weigh-4.ensures.short;
+}) c.div_euclid-mean.ensures
 
 small : (c : goal.After-div_euclid-mean) → unsigned_abs c.div_euclid-mean.result ≤ 999999999999999
 small c = omega (
   arith,
   ap unsigned_abs (is c),
-  blend_micro c.args.s c.args.t c.p00.inside.n c.p10.inside.n c.p01.inside.n c.p11.inside.n c.requires.0 c.requires.1
+  blend_micro c.p00.inside.n c.p10.inside.n c.p01.inside.n c.p11.inside.n c.requires.0 c.requires.1
       c.p00.invariant c.p10.invariant c.p01.invariant c.p11.invariant,
 )
 

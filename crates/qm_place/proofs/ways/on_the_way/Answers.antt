@@ -1,5 +1,6 @@
 use Rattle.std.proofs.Common.{◌≡◌, ◌+ℤ◌, to_z, of_z, ◌∙◌, ap, arith}
-use Rattle.std.specs.{Prelude.unsigned_abs, Int.w64}
+use Rattle.std.specs.Prelude.{unsigned_abs}
+use Rattle.std.specs.Int.{w64}
 use Rattle.def_written.specs.Places.{on_the_way}
 use Rattle.qm_place.proofs.Casts.{way_micro, way_is}
 use Rattle.qm_place.proofs.ways.on_the_way.Goals as goal
@@ -7,8 +8,7 @@ use Rattle.qm_place.proofs.ways.on_the_way.Goals as goal
 here : (c : goal.After-struct_told-3-1)
     → to_z w64 (of_z w64 (to_z w64 (of_z w64 c.p.inside.n) +ℤ to_z w64 (of_z w64 c.part_of-part.result)))
     ≡ on_the_way c.p.inside.n c.q.inside.n c.args.some c.args.parts
-here c = way_is c.p.inside.n c.q.inside.n c.part_of-part.result c.args.some c.args.parts c.requires.0 c.p.invariant
-    c.q.invariant
+here c = way_is c.p.inside.n c.q.inside.n c.requires.0 c.p.invariant c.q.invariant
     c.part_of-part.ensures.value c.part_of-part.ensures.short
 
 pub invariant_of-result : goal.invariant_of-result
@@ -16,8 +16,7 @@ invariant_of-result c =
     omega (
       arith,
       ap unsigned_abs (here c),
-      way_micro c.p.inside.n c.q.inside.n c.args.some c.args.parts c.requires.0
-          c.p.invariant c.q.invariant,
+      way_micro c.p.inside.n c.q.inside.n c.requires.0 c.p.invariant c.q.invariant,
     )
 
 pub returns : goal.returns

@@ -1,5 +1,6 @@
 use Rattle.std.proofs.Common.{◌≡◌, ◌≤◌, ◌^◌, ◌*◌, pos, ◌+ℤ◌, ◌*ℤ◌, to_z, of_z, arith}
-use Rattle.std.specs.{Prelude.unsigned_abs, Int.int_div_euclid, Int.w64, Int.w128}
+use Rattle.std.specs.Prelude.{unsigned_abs}
+use Rattle.std.specs.Int.{int_div_euclid, w64, w128}
 use Rattle.std.proofs.lemmas.Int.{ints}
 use Rattle.qm_place.proofs.Casts.{part_is}
 use Rattle.qm_place.proofs.ways.part_of.Goals as goal
@@ -7,13 +8,11 @@ use Rattle.qm_place.proofs.ways.part_of.Goals as goal
 pub weigh-twice-requires-clause-weights : goal.weigh-twice-requires-clause-weights
 weigh-twice-requires-clause-weights c = (omega (arith, c.requires.some.0, c.requires.some.1), omega arith)
 
-here : (c : goal.After-div_euclid-part)
-    → (to_z w64 (of_z w64 (to_z w128 (of_z w128 c.div_euclid-part.result)))
+here : (c : goal.After-div_euclid-part) → (to_z w64 (of_z w64 (to_z w128 (of_z w128 c.div_euclid-part.result)))
     ≡ int_div_euclid ((pos (2 * c.args.some) *ℤ c.args.way) +ℤ pos c.args.parts) (pos (2 * c.args.parts)))
     × (unsigned_abs c.div_euclid-part.result ≤ 2 ^ 52)
-here c = part_is c.args.way c.div_euclid-part.result c.weigh-twice.result c.from.result c.from-2.result c.args.some
-    c.args.parts c.requires.some.0 c.requires.some.1 c.requires.short c.weigh-twice.ensures.value c.from.ensures
-    c.from-2.ensures c.div_euclid-part.ensures
+here c = part_is c.args.way c.args.some c.requires.some.0 c.requires.some.1 c.requires.short
+    c.weigh-twice.ensures.value c.from.ensures c.from-2.ensures c.div_euclid-part.ensures
 
 pub overflow_cast-result : goal.overflow_cast-result
 overflow_cast-result c = omega (arith, ints, (here c).1)

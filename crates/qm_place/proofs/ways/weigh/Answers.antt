@@ -1,14 +1,13 @@
 use Rattle.std.proofs.Common.{◌≡◌, ◌≤◌, ◌^◌, ◌*◌, pos, ◌*ℤ◌, to_z, of_z, ap, arith}
-use Rattle.std.specs.{Prelude.unsigned_abs, Int.w128}
+use Rattle.std.specs.Prelude.{unsigned_abs}
+use Rattle.std.specs.Int.{w128}
 use Rattle.qm_place.proofs.Casts.{weighed_is}
 use Rattle.qm_place.proofs.ways.weigh.Goals as goal
 
 here : (c : goal.After-from-3)
     → (to_z w128 (of_z w128 (to_z w128 (c.from.result * c.from-2.result) *ℤ to_z w128 (of_z w128 c.from-3.result)))
-    ≡ pos (c.args.a * c.args.b) *ℤ c.args.n)
-    × (unsigned_abs (pos (c.args.a * c.args.b) *ℤ c.args.n) ≤ 2 ^ 116)
-here c = weighed_is c.args.a c.args.b c.from.result c.from-2.result c.args.n c.from-3.result c.from.ensures
-    c.from-2.ensures c.from-3.ensures
+    ≡ pos (c.args.a * c.args.b) *ℤ c.args.n) × (unsigned_abs (pos (c.args.a * c.args.b) *ℤ c.args.n) ≤ 2 ^ 116)
+here c = weighed_is c.args.n c.from.ensures c.from-2.ensures c.from-3.ensures
     c.requires.weights.0 c.requires.weights.1 c.requires.short
 
 pub returns-clause-value : goal.returns-clause-value

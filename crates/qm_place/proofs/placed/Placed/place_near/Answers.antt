@@ -16,16 +16,15 @@ place_there-requires-clause-spot c =
 pub place_there-requires-clause-short : goal.place_there-requires-clause-short
 place_there-requires-clause-short c =
     let placed = c.args.self.now in
-    subst IsShort (sym c.find.ensures) (short_spot (plan_in placed) (shares_by placed) (lengths_by placed)
-    c.requires.layout.0 placed.placed.lengths placed.placed.short c.args.v c.requires.vertex)
+    subst IsShort (sym c.find.ensures) (short_spot (shares_by placed)
+    c.requires.layout.0 placed.placed.lengths placed.placed.short c.requires.vertex)
 
 value : (c : goal.After-place_there)
     → c.place_there.result ≡ spaced_place c.args.mesh.now (plan_in c.args.self.now) c.args.pos.now
     (shares_by c.args.self.now) (lengths_by c.args.self.now) c.args.v
 value c =
     let placed = c.args.self.now in
-    c.place_there.ensures
-    ∙ ap (spot_place c.args.mesh.now c.args.pos.now) c.find.ensures
+    c.place_there.ensures ∙ ap (spot_place c.args.mesh.now c.args.pos.now) c.find.ensures
     ∙ (spot_law c.args.mesh.now (plan_in placed) (shares_by placed) (lengths_by placed) c.requires.layout
     placed.placed.lengths placed.placed.spacing c.args.v c.requires.vertex).1 c.args.pos.now
 
@@ -37,4 +36,4 @@ returns-clause-between c =
     let placed = c.args.self.now in
     subst (LiesBetween c.args.pos.now) (sym (value c))
     (lies_between c.args.mesh.now (plan_in placed) (shares_by placed) (lengths_by placed) c.requires.layout
-    placed.placed.lengths placed.placed.spacing c.args.pos.now c.args.v c.requires.positions c.requires.vertex)
+    placed.placed.lengths placed.placed.spacing c.args.pos.now c.requires.positions c.requires.vertex)

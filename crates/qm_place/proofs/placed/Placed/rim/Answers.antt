@@ -1,15 +1,15 @@
 use Rattle.std.proofs.Common.{◌≡◌, ◌*◌, length, arith}
 use Rattle.def_layout.specs.{Lengths.wide, Lengths.high, Plans.layout_of, Plans.plan}
 use Rattle.def_remesh.specs.NewPoints.{lengths_in}
-use Rattle.qm_place.proofs.{Entries.rim_here, Entries.IsRimRead, placed.Placed.rim.Goals.After-index}
 use Rattle.qm_offsets.proofs.Spots.{term_room}
+use Rattle.qm_place.proofs.Entries.{rim_here, IsRimRead}
+use Rattle.qm_place.proofs.placed.Placed.rim.Goals.{After-index}
 use Rattle.qm_place.proofs.placed.Placed.rim.Goals as goal
 
 read : (c : After-index) → IsRimRead c.args.self.now.t.now c.args.self.now.tables.now c.args.patch c.index.result.now
 read c =
     let placed = c.args.self.now in
-    rim_here placed.t.now placed.tables.now c.args.patch c.index.result.now placed.placed c.requires.patch
-    c.index.ensures
+    rim_here placed.t.now placed.placed c.requires.patch c.index.ensures
 
 pub returns-clause-few : goal.returns-clause-few
 returns-clause-few c =
@@ -22,8 +22,7 @@ returns-clause-few c =
     omega (
       arith,
       product,
-      term_room (λ p. wide l x p * high l x p) (length (plan placed.t.now).patches) c.args.patch
-          at.low,
+      term_room (λ p. wide l x p * high l x p) (length (plan placed.t.now).patches) c.args.patch at.low,
       placed.placed.few_faces,
     )
 
