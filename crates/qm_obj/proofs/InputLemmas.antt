@@ -21,9 +21,9 @@ refused limit source bytes _ whole calm said = (
 )
 
 -- A source gave one piece more to a feed.
-pub fed_more : (before mid now : Told) (old new : Fed) (count more : ℕ) → FedTo before mid count old
+pub fed_more : {before mid now : Told} {old new : Fed} {count more : ℕ} → FedTo before mid count old
     → FedPiece mid now old new more → FedTo before now (count + more) new
-fed_more before mid now old new count more fed piece = record {
+fed_more {before} {mid} {now} fed piece = record {
   text = fed.text ++ piece.piece;
   given = gave_more before mid now fed.text piece.piece (fed.text ++ piece.piece) refl fed.given piece.moved;
   many = omega (arith, length-append fed.text piece.piece, fed.many, piece.many);
@@ -31,18 +31,18 @@ fed_more before mid now old new count more fed piece = record {
 }
 
 -- It gave its last piece.
-pub fed_whole : (limit count : ℕ) (before now : Told) (fed : Fed) → FedTo before now count fed → count ≤ limit
+pub fed_whole : {limit count : ℕ} {before now : Told} {fed : Fed} → FedTo before now count fed → count ≤ limit
     → IsEmptied now → FedWhole limit before now fed
-fed_whole limit count before now fed to few ended = record {
+fed_whole to few ended = record {
   text = to.text;
   whole = record { given = to.given; ended = ended; few = omega (arith, to.many) };
   stands = to.stands;
 }
 
 -- It gave more than it may.
-pub gave_beyond : (limit room : ℕ) (before mid now : Told) (fed : Fed) → FedTo before mid (limit - room) fed
+pub gave_beyond : {limit room : ℕ} {before mid now : Told} {fed : Fed} → FedTo before mid (limit - room) fed
     → room ≤ limit → GaveMore room mid now → GaveMore limit before now
-gave_beyond limit room before mid now fed to few more = record {
+gave_beyond {before = before} {mid} {now} to few more = record {
   piece = to.text ++ more.piece;
   many = omega (arith, length-append to.text more.piece, to.many, more.many);
   moved = gave_more before mid now to.text more.piece (to.text ++ more.piece) refl to.given more.moved;

@@ -3,13 +3,20 @@ use Rattle.std.proofs.Common.{◌≡◌, ℕ, zero, suc, ◌+◌, ◌-◌, ◌<�
 use Rattle.std.proofs.Common.{length, take, get_or, refl, sym, ap, ◌∙◌, arith, subst, eqb}
 use Rattle.std.proofs.lemmas.Bool.Decides.{nat_tests}
 use Rattle.std.proofs.lemmas.Bool.{and_parts, false≢true, not-true, or_from, or_parts}
-use Rattle.std.proofs.lemmas.List.{append_assoc, drop_more, length-append, length-take}
+use Rattle.std.proofs.lemmas.List.{append_assoc, length-append, length-take}
 use Rattle.std.proofs.lemmas.List.Folds.{list_any-append}
 use Rattle.std.specs.{List.before_first, List.list_any, List.position_or_len, Prelude.slice_range}
-use Rattle.def_text.specs.Logical.{continues, is_hash, with_space}
-use Rattle.qm_obj.specs.{Ahead.text_ahead, Ahead.size_ahead, Ahead.span, Lines.first_logical, Lines.uncommented}
+use Rattle.def_text.specs.Logical.{continues, is_hash, with_space, Logical}
+use Rattle.qm_obj.specs.{Ahead.text_ahead, Ahead.size_ahead, Ahead.span, Lines.first_logical}
+use Rattle.qm_obj.specs.{Lines.line_as, Lines.uncommented}
+use Rattle.qm_obj.proofs.Ranges.{here, range_cons}
 use Rattle.qm_obj.proofs.WordLemmas.{uncommented_is, uncommented_none}
 use Rattle.def_io.specs.Bytes.{Lines}
+use Rattle.def_mesh.specs.Faces.{Faces}
+use Rattle.def_text.specs.Types.{Positions}
+use Rattle.def_text.specs.declared.reading.Reading.TheVariants.{Refused}
+use Rattle.def_text.specs.declared.refusal.ObjFail.{ObjFail}
+use Rattle.qm_obj.specs.Lines.{Took, next_said}
 
 -- A comment is found before the end exactly where there is one.
 pub no_hash : (line : List ℕ) → eqb (position_or_len is_hash line) (length line) ≡ not (list_any is_hash line)
@@ -25,17 +32,6 @@ length-with_space (b ∷ bs) on = omega (
   length-take (suc (length bs) - 1) (b ∷ bs),
 )
 
--- A part of a list by its first element.
-pub range_cons : {X : Type 0} (xs : List X) (i b : ℕ) (d : X) → i < b → b ≤ length xs → slice_range xs i b
-    ≡ get_or xs i d ∷ slice_range xs (i + 1) b
-range_cons xs i b d lt within =
-    let there : i < length xs = omega arith in
-    let e : b - i ≡ suc (b - (i + 1)) = omega arith in
-    rw (drop_more xs i d there, e) refl
-
-pub range_none : {X : Type 0} (xs : List X) (b : ℕ) → slice_range xs b b ≡ []
-range_none xs b = let e : b - b ≡ 0 = omega arith in rw e refl
-
 -- The physical lines up to this one are text_ahead, and each of them continues.
 pub record IsJoining (all : Lines) (i next after : ℕ) (bytes : List ℕ) : Type 0 where
   pub from : i ≤ next
@@ -49,52 +45,41 @@ pub record IsJoined (all : Lines) (i next after : ℕ) (bytes : List ℕ) (size 
   pub count : next ≡ i + span (slice_range all i after)
   pub bytes_are : size ≡ size_ahead (slice_range all i after)
 
--- One line more, that continues.
-pub joining_more : (all : Lines) (i next after : ℕ) (bytes line : List ℕ) → next < after → after ≤ length all
-    → line ≡ get_or all next [] → continues line ≡ true
-    → IsJoining all i next after bytes → IsJoining all i (next + 1) after (bytes ++ with_space line)
-joining_more all i next after bytes line lt within is on so_far =
-    let cut : slice_range all next after ≡ line ∷ slice_range all (next + 1) after =
-    range_cons all next after [] lt within ∙ ap (λ l. l ∷ slice_range all (next + 1) after) (sym is) in
-    let text : text_ahead (slice_range all next after) ≡ with_space line
-    ++ text_ahead (slice_range all (next + 1) after) = ap text_ahead cut ∙ rw on refl in
-    let count : span (slice_range all next after) ≡ 1 + span (slice_range all (next + 1) after) =
-    ap span cut ∙ rw on refl in
-    let size : size_ahead (slice_range all next after) ≡ length line + size_ahead (slice_range all (next + 1) after) =
-    ap size_ahead cut ∙ rw on refl in
-    record {
-      from = omega (arith, so_far.from);
-      within = omega arith;
-      text = append_assoc bytes (with_space line) (text_ahead (slice_range all (next + 1) after))
-          ∙ ap (λ rest. bytes ++ rest) (sym text) ∙ so_far.text;
-      count = omega (arith, so_far.count);
-      size = omega (arith, so_far.size, length-append bytes (with_space line), length-with_space line on);
-    }
+module _ {all : Lines} {i next after : ℕ} {bytes line : List ℕ} (lt : next < after) (within : after ≤ length all)
+    (is : line ≡ get_or all next []) (so_far : IsJoining all i next after bytes) where
+  joining_cut : slice_range all next after ≡ line ∷ slice_range all (next + 1) after
+  joining_cut = rw is (range_cons all next after lt within)
 
--- The last line, that does not continue.
-pub joined_last : (all : Lines) (i next after : ℕ) (bytes line : List ℕ) → next < after → after ≤ length all
-    → line ≡ get_or all next [] → continues line ≡ false
-    → IsJoining all i next after bytes → IsJoined all i (next + 1) after (bytes ++ before_first is_hash line)
-    (length bytes + length line)
-joined_last all i next after bytes line lt within is off so_far =
-    let cut : slice_range all next after ≡ line ∷ slice_range all (next + 1) after =
-    range_cons all next after [] lt within ∙ ap (λ l. l ∷ slice_range all (next + 1) after) (sym is) in
-    let text : text_ahead (slice_range all next after) ≡ before_first is_hash line = ap text_ahead cut ∙ rw off refl in
-    let count : span (slice_range all next after) ≡ 1 = ap span cut ∙ rw off refl in
-    let size : size_ahead (slice_range all next after) ≡ length line = ap size_ahead cut ∙ rw off refl in
-    record {
-      text = ap (λ rest. bytes ++ rest) (sym text) ∙ so_far.text;
-      count = omega (arith, so_far.count);
-      bytes_are = omega (arith, so_far.size);
-    }
+  -- One line more, that continues.
+  pub joining_more : continues line ≡ true → IsJoining all i (next + 1) after (bytes ++ with_space line)
+  joining_more on =
+      let text : text_ahead (slice_range all next after) ≡ with_space line
+      ++ text_ahead (slice_range all (next + 1) after) = rw (joining_cut, on) refl in
+      let count : span (slice_range all next after) ≡ 1 + span (slice_range all (next + 1) after) =
+      rw (joining_cut, on) refl in
+      let size : size_ahead (slice_range all next after) ≡ length line + size_ahead (slice_range all (next + 1) after) =
+      rw (joining_cut, on) refl in
+      record {
+        from = omega (arith, so_far.from);
+        within = omega arith;
+        text = rw (append_assoc bytes (with_space line) (text_ahead (slice_range all (next + 1) after)), ← text)
+            so_far.text;
+        count = omega (arith, so_far.count);
+        size = omega (arith, so_far.size, length-append bytes (with_space line), length-with_space line on);
+      }
 
--- At least one physical line is in a logical line, and no more than there are.
-pub span_some : (line : List ℕ) (lines : Lines) → 1 ≤ span (line ∷ lines)
-span_some line lines = grind (arith)
-
-pub span_few : (lines : Lines) → span lines ≤ length lines
-span_few [] = omega arith
-span_few (line ∷ lines) = grind (arith, span_few lines)
+  -- The last line, that does not continue.
+  pub joined_last : continues line ≡ false
+      → IsJoined all i (next + 1) after (bytes ++ before_first is_hash line) (length bytes + length line)
+  joined_last off =
+      let text : text_ahead (slice_range all next after) ≡ before_first is_hash line = rw (joining_cut, off) refl in
+      let count : span (slice_range all next after) ≡ 1 = rw (joining_cut, off) refl in
+      let size : size_ahead (slice_range all next after) ≡ length line = rw (joining_cut, off) refl in
+      record {
+        text = rw (← text) so_far.text;
+        count = omega (arith, so_far.count);
+        bytes_are = omega (arith, so_far.size);
+      }
 
 -- What is left to read is no longer than the physical lines.
 pub joined_short : (lines : Lines) → length (text_ahead lines) ≤ size_ahead lines
@@ -108,22 +93,11 @@ joined_short (line ∷ lines) = by_more (continues line) refl (joined_short line
     by_more false off short = omega (arith, length-take (position_or_len is_hash line) line)
 
 -- A physical line that does not continue is a logical line.
-pub single_span : (all : Lines) (i after : ℕ) (line : List ℕ) → i < after → after ≤ length all → line ≡ get_or all i []
-    → continues line ≡ false → 1 ≡ span (slice_range all i after)
-single_span all i after line lt within is off =
-    let cut : slice_range all i after ≡ line ∷ slice_range all (i + 1) after = range_cons all i after [] lt within
-    ∙ ap (λ l. l ∷ slice_range all (i + 1) after) (sym is) in
-    sym (ap span cut ∙ rw off refl)
-
-pub single_logical : (all : Lines) (i after : ℕ) (line : List ℕ) → i < after → after ≤ length all
+pub single_logical : (all : Lines) (i after : ℕ) (lt : i < after) (within : after ≤ length all) (line : List ℕ)
     → line ≡ get_or all i [] → continues line ≡ false
-    → record { number = i + 1; size = length line; text = uncommented line }
-    ≡ first_logical (i + 1) (slice_range all i after)
-single_logical all i after line lt within is off =
-    let cut : slice_range all i after ≡ line ∷ slice_range all (i + 1) after = range_cons all i after [] lt within
-    ∙ ap (λ l. l ∷ slice_range all (i + 1) after) (sym is) in
-    ap (λ text. record { number = i + 1; size = length line; text = text }) (uncommented_is line)
-    ∙ sym (ap (first_logical (i + 1)) cut ∙ rw off refl)
+    → line_as (i + 1) (length line) line ≡ first_logical (i + 1) (slice_range all i after)
+single_logical all i after lt within line is off = rw (here all i after lt within line is off, off, uncommented_is line)
+    refl
 
 -- What is left to read of a logical line has no comment.
 pub any_take : (n : ℕ) (xs : List ℕ) → list_any is_hash xs ≡ false → list_any is_hash (take n xs) ≡ false
@@ -152,16 +126,23 @@ joined_none (line ∷ lines) = by_more (continues line) refl (joined_none lines)
         list_any-append is_hash (with_space line) (text_ahead lines)
         ∙ or_from _ _ (list_any-append is_hash (take (length line - 1) line) (32 ∷ [])
         ∙ or_from _ _ (any_take (length line - 1) line bare) refl) again
-    by_more false off again = subst (λ (xs : List ℕ). list_any is_hash xs ≡ false) (uncommented_is line) (cut_none line)
+    by_more false off again = rw (← uncommented_is line) (cut_none line)
 
 pub joined_uncommented : (lines : Lines) → uncommented (text_ahead lines) ≡ text_ahead lines
 joined_uncommented lines = uncommented_none (text_ahead lines) (joined_none lines)
 
 -- Joined bytes and their size are the first logical line.
-pub joined_logical : (lines : Lines) (number size : ℕ) (bytes : List ℕ) → size ≡ size_ahead lines
-    → bytes ≡ text_ahead lines
-    → record { number = number; size = size; text = uncommented bytes } ≡ first_logical number lines
-joined_logical lines number size bytes sizes are =
-    ap (λ n. record { number = number; size = n; text = uncommented bytes }) sizes
-    ∙ ap (λ text. record { number = number; size = size_ahead lines; text = text }) (ap uncommented are
-    ∙ joined_uncommented lines)
+pub joined_logical : (lines : Lines) (number : ℕ) {size : ℕ} {bytes : List ℕ} → size ≡ size_ahead lines
+    → bytes ≡ text_ahead lines → line_as number size bytes ≡ first_logical number lines
+joined_logical lines number sizes are = rw (sizes, are, joined_uncommented lines) refl
+
+-- What is kept behind a logical line, and its refusal, are those of the same line.
+module _ {a b : Logical} (same : a ≡ b) where
+  pub same_took : {p p' : Positions} {c c' : Faces} {l l' : List ℕ} → Took p p' c c' l l' (next_said p c a)
+      → Took p p' c c' l l' (next_said p c b)
+  same_took {p} {p'} {c} {c'} {l} {l'} took =
+      subst (λ (one : Logical). Took p p' c c' l l' (next_said p c one)) same took
+
+  pub same_refused : (p : Positions) (c : Faces) {fail : ObjFail} → next_said p c a ≡ Refused fail
+      → next_said p c b ≡ Refused fail
+  same_refused p c stops = ap (next_said p c) (sym same) ∙ stops

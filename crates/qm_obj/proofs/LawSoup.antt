@@ -1,8 +1,8 @@
 -- What the lines of a canonical text say, and the soup that they have.
 use Rattle.std.proofs.Common.{◌≡◌, ℕ, ℤ, pos, zero, suc, ◌+◌, ◌-◌, ◌^◌, ◌<◌, ◌≤◌, Bool, true, false, cond, not, ◌&&◌}
-use Rattle.std.proofs.Common.{List, [], ◌∷◌, ◌++◌, length, take, map, get_or, refl, sym, ap, ◌∙◌, arith, subst, eqb}
+use Rattle.std.proofs.Common.{List, [], ◌∷◌, ◌++◌, length, take, map, get_or, refl, sym, ap, ◌∙◌, arith, eqb}
 use Rattle.std.proofs.Common.{ltb, add-one, Ok}
-use Rattle.std.proofs.lemmas.Bool.{and_from, and_parts, cond-false, eqb-true, le-ltb, lt-leb, ltb-false, ltb-true}
+use Rattle.std.proofs.lemmas.Bool.{and_from, and_parts, cond-false, eqb-true, le-ltb, ltb-false, ltb-true}
 use Rattle.std.proofs.lemmas.Bool.{ne_eqb, not-true, or_from}
 use Rattle.std.proofs.lemmas.List.{append-nil, append_assoc, get_or-map, get_or_default, length-map, same_lists}
 use Rattle.std.proofs.lemmas.List.{take_all}
@@ -19,18 +19,18 @@ use Rattle.def_text.specs.{Corner.used_index, Decimal.is_decimal, Decimal.is_far
 use Rattle.def_text.specs.{Digits.is_number, Digits.is_signed, Digits.number_written, Digits.unsigned, FaceSet.FaceSet}
 use Rattle.def_text.specs.{FaceSet.IsSoup, Logical.Logical, Logical.logical_lines, Reading.begins_with}
 use Rattle.def_text.specs.Reading.{is_face_line, is_position_count, is_vertex_line, reading}
-use Rattle.def_text.specs.{Reading.words_reading, Text.face_in, Text.face_set, Text.faces, Text.first_refusal}
+use Rattle.def_text.specs.{Reading.words_reading, Text.face_in, Text.face_set, Text.faces}
 use Rattle.def_text.specs.Text.{late_in, numbers_to, position_in, position_of, readings}
 use Rattle.def_text.specs.{Text.refusal_in, Text.soup_of, Text.text_soup, Text.used_to, Text.line_vertex, Words.words}
 use Rattle.def_text.specs.{declared.reading.Reading.Reading, declared.reading.Reading.TheVariants.Position}
-use Rattle.def_text.specs.declared.reading.Reading.TheVariants.{Face, Refused}
-use Rattle.def_text.specs.{declared.refusal.ObjFail.TheVariants.Limit, declared.refusal.Which.TheVariants.Line}
+use Rattle.def_text.specs.declared.reading.Reading.TheVariants.{Face}
 use Rattle.def_text.specs.{Laws.ReadsBack, Laws.is_position, Laws.is_quad, Types.Positions}
 use Rattle.def_mesh.specs.{Vertices.is_used, Faces.Faces}
 use Rattle.def_io.specs.{Lines.lines_of, Bytes.Lines}
 use Rattle.qm_obj.proofs.CornerLemmas.{behind_none, digits_index, no_slash, whole_word}
 use Rattle.qm_obj.proofs.LawText.{IsLine, IsWord, decimal_word, line_tame, line_text, line_words, lines_split}
 use Rattle.qm_obj.proofs.LawText.{logical_plain, micro_word, plain_lines}
+use Rattle.qm_obj.proofs.KeptLemmas.{positions_said, positions_silent}
 use Rattle.qm_obj.proofs.LineLemmas.{face_rest, vertex_rest}
 use Rattle.qm_obj.proofs.ListLemmas.{passes_at}
 use Rattle.qm_obj.proofs.ReadLemmas.{readings_append}
@@ -48,8 +48,7 @@ each_both P (x ∷ xs) ys d a b (suc k) l = each_both P xs ys d (λ j m. a (suc 
 pub each_map : {X Y : Type 0} (P : Y → Type 0) (f : X → Y) (xs : List X) (c : X) (d : Y)
     → ((k : ℕ) → k < length xs → P (f (get_or xs k c))) → (k : ℕ) → k < length (map f xs) → P (get_or (map f xs) k d)
 each_map {X} {Y} P f xs c d each k l =
-    let there : k < length xs = omega (arith, length-map xs f) in
-    subst (λ (y : Y). P y) (sym (get_or-map f xs k c d there)) (each k there)
+    let there : k < length xs = omega (arith, length-map xs f) in rw (get_or-map f xs k c d there) (each k there)
 
 -- The lines of the canonical text, without their ends.
 abbrev pub position_line : List ℤ → List ℕ
@@ -91,22 +90,31 @@ position_words position is =
     each_map IsWord micro_text position (pos 0) [] (λ k l. micro_word (get_or position k (pos 0))
     (near position is k (pos 0) l))
 
-position_back : (position : List ℤ) → list_all (λ z. not (is_far z)) position ≡ true
-    → (list_all is_decimal (map micro_text position) ≡ true)
-    × (list_any (λ w. is_far (rounded w)) (map micro_text position) ≡ false)
-    × (map rounded (map micro_text position) ≡ position)
-position_back [] all = (refl, refl, refl)
+record PositionBack (position : List ℤ) : Type 0 where
+  right : list_all is_decimal (map micro_text position) ≡ true
+  near : list_any (λ w. is_far (rounded w)) (map micro_text position) ≡ false
+  same : map rounded (map micro_text position) ≡ position
+
+position_back : (position : List ℤ) → list_all (λ z. not (is_far z)) position ≡ true → PositionBack position
+position_back [] all = record { right = refl; near = refl; same = refl }
 position_back (z ∷ zs) all =
     let parts : (not (is_far z) ≡ true) × (list_all (λ z. not (is_far z)) zs ≡ true) = and_parts _ _ all in
     let back : (is_decimal (micro_text z) ≡ true) × (rounded (micro_text z) ≡ z) =
     canonical_law z (ltb-false _ _ (not-true _ parts.0)) in
-    let again : (list_all is_decimal (map micro_text zs) ≡ true)
-    × (list_any (λ w. is_far (rounded w)) (map micro_text zs) ≡ false) × (map rounded (map micro_text zs) ≡ zs) =
-    position_back zs parts.1 in (
-      and_from _ _ back.0 again.0,
-      or_from _ _ (ap is_far back.1 ∙ not-true _ parts.0) again.1,
-      rw (back.1, again.2) refl,
-    )
+    let again : PositionBack zs = position_back zs parts.1 in
+    record {
+      right = and_from _ _ back.0 again.right;
+      near = or_from _ _ (ap is_far back.1 ∙ not-true _ parts.0) again.near;
+      same = rw (back.1, again.same) refl;
+    }
+
+abbrev plain_line : ℕ → List ℕ → Logical
+plain_line n l = record { number = n; size = length l; text = l }
+
+-- A line that is not too long says what its words say.
+said_by_words : {line : List ℕ} (vertices faces n : ℕ) {said : Reading} → IsLine line
+    → words_reading n vertices faces (words line) ≡ said → reading vertices faces (plain_line n line) ≡ said
+said_by_words vertices faces n is said = rw (le-ltb _ _ is.short) said
 
 pub position_line_is : (position : List ℤ) → is_position position ≡ true → IsLine (position_line position)
 position_line_is position is =
@@ -115,33 +123,19 @@ position_line_is position is =
     (position_words position is)
 
 position_said : (vertices faces n : ℕ) (position : List ℤ) → vertices < 2 ^ 21 → is_position position ≡ true
-    → reading vertices faces (record {
-      number = n;
-      size = length (position_line position);
-      text =
-          position_line position;
-    }) ≡ Position position
+    → reading vertices faces (plain_line n (position_line position)) ≡ Position position
 position_said vertices faces n position few is =
     let parts : (eqb (length position) 3 ≡ true) × (list_all (λ z. not (is_far z)) position ≡ true) =
     and_parts _ _ is in
     let three : length (map micro_text position) ≡ 3 = length-map position micro_text ∙ eqb-true _ _ parts.0 in
-    let back : (list_all is_decimal (map micro_text position) ≡ true)
-    × (list_any (λ w. is_far (rounded w)) (map micro_text position) ≡ false)
-    × (map rounded (map micro_text position) ≡ position) = position_back position parts.1 in
-    let short : ltb 65536 (length (position_line position)) ≡ false = le-ltb _ _ (position_line_is position is).short in
+    let back : PositionBack position = position_back position parts.1 in
     let right : (is_position_count (length (map micro_text position)) && list_all is_decimal (map micro_text position))
-    ≡ true = and_from _ _ (ap is_position_count three) back.0 in
+    ≡ true = and_from _ _ (ap is_position_count three) back.right in
     let all : take 3 (map micro_text position) ≡ map micro_text position =
     take_all 3 (map micro_text position) (omega arith) in
-    by_size (ltb 65536 (length (position_line position))) short
+    said_by_words vertices faces n (position_line_is position is)
     (ap (words_reading n vertices faces) (line_words 118 (map micro_text position) refl (position_words position is))
-    ∙ vertex_rest n vertices (map micro_text position) (lt-leb _ _ few) right
-    ∙ rw (all, back.1, back.2) refl)
-  where
-    by_size : (t : Bool) → t ≡ false → words_reading n vertices faces (words (position_line position))
-        ≡ Position position → cond t (Refused (Limit Line n))
-        (words_reading n vertices faces (words (position_line position))) ≡ Position position
-    by_size t off said = rw off said
+    ∙ vertex_rest n vertices (map micro_text position) few right ∙ rw (all, back.near, back.same) refl)
 
 -- The words of a face.
 record NamesVertex (vertices : ℕ) (word : List ℕ) (n : ℕ) : Type 0 where
@@ -170,21 +164,25 @@ names_vertex vertices n some small = by_word (decimal n) (decimal_digits n small
           names = ap (resolved vertices) used ∙ cond-false _ _ _ index.1 ∙ value';
         }
 
+record FaceBack (vertices : ℕ) (face : List ℕ) : Type 0 where
+  corners : list_all is_corner_word (map vertex_word face) ≡ true
+  inside : list_any (λ w. is_out vertices (used_index w)) (map vertex_word face) ≡ false
+  same : map (λ w. resolved vertices (used_index w)) (map vertex_word face) ≡ map (λ v. v + 1) face
+
 face_back : (vertices : ℕ) (face : List ℕ) → vertices ≤ 2 ^ 21 → are_below vertices face ≡ true
-    → (list_all is_corner_word (map vertex_word face) ≡ true)
-    × (list_any (λ w. is_out vertices (used_index w)) (map vertex_word face) ≡ false)
-    × (map (λ w. resolved vertices (used_index w)) (map vertex_word face) ≡ map (λ v. v + 1) face)
-face_back vertices [] few all = (refl, refl, refl)
+    → FaceBack vertices face
+face_back vertices [] few all = record { corners = refl; inside = refl; same = refl }
 face_back vertices (v ∷ vs) few all =
     let parts : (ltb v vertices ≡ true) × (are_below vertices vs ≡ true) = and_parts _ _ all in
     let low : v < vertices = ltb-true _ _ parts.0 in
     let first : NamesVertex vertices (vertex_word v) (v + 1) =
     names_vertex vertices (v + 1) (omega arith) (omega arith) in
-    let again : (list_all is_corner_word (map vertex_word vs) ≡ true)
-    × (list_any (λ w. is_out vertices (used_index w)) (map vertex_word vs) ≡ false)
-    × (map (λ w. resolved vertices (used_index w)) (map vertex_word vs) ≡ map (λ v. v + 1) vs) =
-    face_back vertices vs few parts.1 in
-    (and_from _ _ first.form again.0, or_from _ _ first.inside again.1, rw (first.names, again.2) refl)
+    let again : FaceBack vertices vs = face_back vertices vs few parts.1 in
+    record {
+      corners = and_from _ _ first.form again.corners;
+      inside = or_from _ _ first.inside again.inside;
+      same = rw (first.names, again.same) refl;
+    }
 
 face_words : (vertices : ℕ) (face : List ℕ) → vertices ≤ 2 ^ 21 → are_below vertices face ≡ true → (k : ℕ)
     → k < length (map vertex_word face) → IsWord (get_or (map vertex_word face) k [])
@@ -201,35 +199,19 @@ face_line_is vertices face few is all =
 
 face_said : (vertices faces n : ℕ) (face : List ℕ) → vertices ≤ 2 ^ 21 → faces < 2 ^ 20 → is_quad face ≡ true
     → are_below vertices face ≡ true
-    → reading vertices faces (record { number = n; size = length (face_line face); text = face_line face })
-    ≡ Face n (map (λ v. v + 1) face)
+    → reading vertices faces (plain_line n (face_line face)) ≡ Face n (map (λ v. v + 1) face)
 face_said vertices faces n face few room is all =
     let four : eqb (length (map vertex_word face)) 4 ≡ true = ap (λ m. eqb m 4) (length-map face vertex_word) ∙ is in
-    let back : (list_all is_corner_word (map vertex_word face) ≡ true)
-    × (list_any (λ w. is_out vertices (used_index w)) (map vertex_word face) ≡ false)
-    × (map (λ w. resolved vertices (used_index w)) (map vertex_word face) ≡ map (λ v. v + 1) face) =
-    face_back vertices face few all in
-    let short : ltb 65536 (length (face_line face)) ≡ false =
-    le-ltb _ _ (face_line_is vertices face few is all).short in
-    by_size (ltb 65536 (length (face_line face))) short
+    let back : FaceBack vertices face = face_back vertices face few all in
+    said_by_words vertices faces n (face_line_is vertices face few is all)
     (ap (words_reading n vertices faces) (line_words 102 (map vertex_word face) refl (face_words vertices face few all))
-    ∙ face_rest n vertices faces (map vertex_word face) (lt-leb _ _ room) back.0 four
-    ∙ rw (back.1, back.2) refl)
-  where
-    by_size : (t : Bool) → t ≡ false → words_reading n vertices faces (words (face_line face))
-        ≡ Face n (map (λ v. v + 1) face)
-        → cond t (Refused (Limit Line n)) (words_reading n vertices faces (words (face_line face)))
-        ≡ Face n (map (λ v. v + 1) face)
-    by_size t off said = rw off said
+    ∙ face_rest n vertices faces (map vertex_word face) room back.corners four ∙ rw (back.inside, back.same) refl)
 
 -- Plain lines one behind the other.
 plain_append : (n : ℕ) (xs ys : Lines) → plain_lines n (xs ++ ys) ≡ plain_lines n xs ++ plain_lines (n + length xs) ys
 plain_append n [] ys = let e : n + 0 ≡ n = omega arith in rw e refl
 plain_append n (x ∷ xs) ys = let e : n + suc (length xs) ≡ n + 1 + length xs = omega arith in
     rw (e, plain_append (n + 1) xs ys) refl
-
-abbrev plain_line : ℕ → List ℕ → Logical
-plain_line n l = record { number = n; size = length l; text = l }
 
 one_more : (p : Logical → Bool) (before : List Logical) (line : Logical) → count_by p (before ++ line ∷ [])
     ≡ count_by p before + cond (p line) 1 0
@@ -251,18 +233,20 @@ face_kind vertices n face few all =
     (ap (begins_with 118) ws, ap (begins_with 102) ws)
 
 -- What the lines of all positions say, and how many they are.
-positions_said : (before : List Logical) (n : ℕ) (ps : Positions) → list_all is_position ps ≡ true
-    → count_by is_vertex_line before + length ps ≤ 2 ^ 21
-    → (readings before (plain_lines n (map position_line ps)) ≡ map Position ps)
-    × (count_by is_vertex_line (before ++ plain_lines n (map position_line ps)) ≡ count_by is_vertex_line before
-    + length ps)
-    × (count_by is_face_line (before ++ plain_lines n (map position_line ps)) ≡ count_by is_face_line before)
-positions_said before n [] all few = (
-  refl,
-  ap (count_by is_vertex_line) (append-nil before) ∙ omega arith,
-  ap (count_by is_face_line) (append-nil before),
-)
-positions_said before n (p ∷ ps) all few =
+record PositionsSaid (before : List Logical) (n : ℕ) (ps : Positions) : Type 0 where
+  are : readings before (plain_lines n (map position_line ps)) ≡ map Position ps
+  vertices : count_by is_vertex_line (before ++ plain_lines n (map position_line ps))
+      ≡ count_by is_vertex_line before + length ps
+  no_faces : count_by is_face_line (before ++ plain_lines n (map position_line ps)) ≡ count_by is_face_line before
+
+positions_are_said : (before : List Logical) (n : ℕ) (ps : Positions) → list_all is_position ps ≡ true
+    → count_by is_vertex_line before + length ps ≤ 2 ^ 21 → PositionsSaid before n ps
+positions_are_said before n [] all few = record {
+  are = refl;
+  vertices = rw (append-nil before) (omega arith);
+  no_faces = rw (append-nil before) refl;
+}
+positions_are_said before n (p ∷ ps) all few =
     let parts : (is_position p ≡ true) × (list_all is_position ps ≡ true) = and_parts _ _ all in
     let line = plain_line n (position_line p) in
     let kind : (is_vertex_line line ≡ true) × (is_face_line line ≡ false) = position_kind n p parts.0 in
@@ -270,22 +254,18 @@ positions_said before n (p ∷ ps) all few =
     one_more is_vertex_line before line ∙ rw kind.0 refl in
     let f : count_by is_face_line (before ++ line ∷ []) ≡ count_by is_face_line before =
     one_more is_face_line before line ∙ rw kind.1 (omega arith) in
-    let again : (readings (before ++ line ∷ []) (plain_lines (n + 1) (map position_line ps)) ≡ map Position ps)
-    × (count_by is_vertex_line ((before ++ line ∷ []) ++ plain_lines (n + 1) (map position_line ps))
-    ≡ count_by is_vertex_line (before ++ line ∷ []) + length ps)
-    × (count_by is_face_line ((before ++ line ∷ []) ++ plain_lines (n + 1) (map position_line ps))
-    ≡ count_by is_face_line (before ++ line ∷ [])) =
-    positions_said (before ++ line ∷ []) (n + 1) ps parts.1 (omega arith) in
-    let same : (before ++ line ∷ []) ++ plain_lines (n + 1) (map position_line ps)
-    ≡ before ++ line ∷ plain_lines (n + 1) (map position_line ps) =
-    append_assoc before (line ∷ []) (plain_lines (n + 1) (map position_line ps)) in (
-      rw (
-        position_said (count_by is_vertex_line before) (count_by is_face_line before) n p (omega arith) parts.0,
-        again.0,
-      ) refl,
-      ap (count_by is_vertex_line) (sym same) ∙ again.1 ∙ omega arith,
-      ap (count_by is_face_line) (sym same) ∙ again.2 ∙ f,
-    )
+    let again : PositionsSaid (before ++ line ∷ []) (n + 1) ps =
+    positions_are_said (before ++ line ∷ []) (n + 1) ps parts.1 (omega arith) in
+    let same : before ++ line ∷ plain_lines (n + 1) (map position_line ps)
+    ≡ (before ++ line ∷ []) ++ plain_lines (n + 1) (map position_line ps) =
+    sym (append_assoc before (line ∷ []) (plain_lines (n + 1) (map position_line ps))) in
+    let first : reading (count_by is_vertex_line before) (count_by is_face_line before) line ≡ Position p =
+    position_said (count_by is_vertex_line before) (count_by is_face_line before) n p (omega arith) parts.0 in
+    record {
+      are = rw (first, again.are) refl;
+      vertices = ap (count_by is_vertex_line) same ∙ again.vertices ∙ omega arith;
+      no_faces = ap (count_by is_face_line) same ∙ again.no_faces ∙ f;
+    }
 
 -- What the lines of all faces say.
 abbrev faces_from : ℕ → Faces → List Reading
@@ -313,22 +293,6 @@ faces_said vertices before n (f ∷ fs) few many quads below room =
     rw (first, faces_said vertices (before ++ line ∷ []) (n + 1) fs few v q.1 b.1 (omega arith)) refl
 
 -- What these readings have.
-positions_of_positions : (ps : Positions) → flat_map position_in (map Position ps) ≡ ps
-positions_of_positions [] = refl
-positions_of_positions (p ∷ ps) = ap (λ xs. p ∷ xs) (positions_of_positions ps)
-
-faces_of_positions : (ps : Positions) → flat_map face_in (map Position ps) ≡ []
-faces_of_positions [] = refl
-faces_of_positions (p ∷ ps) = faces_of_positions ps
-
-refusals_of_positions : (ps : Positions) → flat_map refusal_in (map Position ps) ≡ []
-refusals_of_positions [] = refl
-refusals_of_positions (p ∷ ps) = refusals_of_positions ps
-
-late_of_positions : (n : ℕ) (ps : Positions) → flat_map (late_in n) (map Position ps) ≡ []
-late_of_positions n [] = refl
-late_of_positions n (p ∷ ps) = late_of_positions n ps
-
 positions_of_faces : (n : ℕ) (fs : Faces) → flat_map position_in (faces_from n fs) ≡ []
 positions_of_faces n [] = refl
 positions_of_faces n (f ∷ fs) = positions_of_faces (n + 1) fs
@@ -360,20 +324,16 @@ soup_said : (ps : Positions) (fs : Faces) (n : ℕ) → list_all (are_below (len
 soup_said ps fs n below =
     let said = map Position ps ++ faces_from n fs in
     let p : flat_map position_in said ≡ ps = flat_map-append position_in (map Position ps) (faces_from n fs)
-    ∙ rw (positions_of_positions ps, positions_of_faces n fs) (append-nil ps) in
+    ∙ rw (positions_said ps, positions_of_faces n fs) (append-nil ps) in
     let f : flat_map face_in said ≡ map (λ f. map (λ v. v + 1) f) fs =
-    flat_map-append face_in (map Position ps) (faces_from n fs) ∙ rw (faces_of_positions ps, faces_of_faces n fs)
-    refl in
+    flat_map-append face_in (map Position ps) (faces_from n fs)
+    ∙ rw (positions_silent face_in (λ _. refl) ps, faces_of_faces n fs) refl in
     let r : flat_map refusal_in said ≡ [] = flat_map-append refusal_in (map Position ps) (faces_from n fs)
-    ∙ rw (refusals_of_positions ps, refusals_of_faces n fs) refl in
-    let l : flat_map (late_in (length ps)) said ≡ [] =
-    flat_map-append (late_in (length ps)) (map Position ps) (faces_from n fs)
-    ∙ rw (late_of_positions (length ps) ps, late_of_faces (length ps) n fs below) refl in
-    ap (λ fails. first_refusal (fails ++ flat_map (late_in (length (flat_map position_in said))) said)
-    (face_set (flat_map position_in said) (flat_map face_in said))) r
-    ∙ ap (λ xs. first_refusal (flat_map (late_in (length xs)) said) (face_set xs (flat_map face_in said))) p
-    ∙ ap (λ fails. first_refusal fails (face_set ps (flat_map face_in said))) l
-    ∙ ap (λ xs. Ok (face_set ps xs)) f
+    ∙ rw (positions_silent refusal_in (λ _. refl) ps, refusals_of_faces n fs) refl in
+    let late = late_in (length ps) in
+    let l : flat_map late said ≡ [] = flat_map-append late (map Position ps) (faces_from n fs)
+    ∙ rw (positions_silent late (λ _. refl) ps, late_of_faces (length ps) n fs below) refl in
+    rw (p, f, r, l) refl
 
 -- Where all are used, all are kept.
 keeps_all : (p : ℕ → Bool) (n : ℕ) → ((k : ℕ) → k < n → p (k + 1) ≡ true) → filter p (numbers_to n) ≡ numbers_to n
@@ -435,19 +395,15 @@ text_back s is =
     let logical : logical_lines 1 lines ≡ plain_lines 1 (map position_line s.pos)
     ++ plain_lines (1 + length (map position_line s.pos)) (map face_line s.faces) =
     logical_plain 1 lines each ∙ plain_append 1 (map position_line s.pos) (map face_line s.faces) in
-    let prefix : (readings [] (plain_lines 1 (map position_line s.pos)) ≡ map Position s.pos)
-    × (count_by is_vertex_line ([] ++ plain_lines 1 (map position_line s.pos))
-    ≡ count_by is_vertex_line [] + length s.pos)
-    × (count_by is_face_line ([] ++ plain_lines 1 (map position_line s.pos)) ≡ count_by is_face_line []) =
-    positions_said [] 1 s.pos is.positions (omega arith) in
+    let prefix : PositionsSaid [] 1 s.pos = positions_are_said [] 1 s.pos is.positions (omega arith) in
     let behind : readings (plain_lines 1 (map position_line s.pos)) (plain_lines (1 + length (map position_line s.pos))
     (map face_line s.faces)) ≡ faces_from (1 + length (map position_line s.pos)) s.faces =
     faces_said (length s.pos) (plain_lines 1 (map position_line s.pos)) (1 + length (map position_line s.pos)) s.faces
-    is.few_vertices (prefix.1 ∙ omega arith) is.quads soup.in_range (omega (arith, prefix.2)) in
+    is.few_vertices (prefix.vertices ∙ omega arith) is.quads soup.in_range (omega (arith, prefix.no_faces)) in
     let said : readings [] (logical_lines 1 lines) ≡ map Position s.pos
     ++ faces_from (1 + length (map position_line s.pos)) s.faces =
     ap (readings []) logical ∙ readings_append [] (plain_lines 1 (map position_line s.pos))
-    (plain_lines (1 + length (map position_line s.pos)) (map face_line s.faces)) ∙ rw (prefix.0, behind) refl in
+    (plain_lines (1 + length (map position_line s.pos)) (map face_line s.faces)) ∙ rw (prefix.are, behind) refl in
     let used : AllUsed (map (λ f. map (λ v. v + 1) f) s.faces) (length s.pos) = all_used_to s soup in
     let names : used_to (map (λ f. map (λ v. v + 1) f) s.faces) (length s.pos) ≡ numbers_to (length s.pos) =
     used.kept (length s.pos) (omega arith) in

@@ -9,9 +9,11 @@ pub mod LawSoup
 pub mod LawText
 mod LineLemmas
 pub mod ListLemmas
+mod RangeLemmas
+pub mod Ranges
 mod ReadLemmas
 pub mod SoupLemmas
 mod SuitLemmas
 mod TailLemmas
 mod UsedLemmas
-mod WordLemmas
+pub mod WordLemmas

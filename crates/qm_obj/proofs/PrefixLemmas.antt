@@ -9,7 +9,7 @@ use Rattle.def_feed.specs.Kept.{KeptText, logical_behind, with_front, with_joine
 use Rattle.def_io.specs.Bytes.{Bytes, Lines}
 use Rattle.def_text.specs.Logical.{Logical, continues, groups_of, is_hash, joined, logical, logical_lines}
 use Rattle.def_text.specs.Logical.{numbered_groups, part_of, with_line, with_space}
-use Rattle.qm_obj.specs.{Ahead.size_ahead, Feeding.number_by, Lines.first_logical, Lines.uncommented}
+use Rattle.qm_obj.specs.{Ahead.size_ahead, Feeding.number_by, Lines.first_logical, Lines.line_as}
 use Rattle.qm_obj.proofs.{Groups.logical_step, JoinLemmas.any_take, JoinLemmas.cut_none, JoinLemmas.length-with_space}
 use Rattle.qm_obj.proofs.WordLemmas.{uncommented_is, uncommented_none}
 
@@ -154,42 +154,29 @@ behind_held kept line lines on = by_joined kept.joined
         ∙ sym (joined_some kept.begun (b ∷ bs ++ with_space line) (logical_lines (kept.next + 1) lines) (some (b ∷ bs)))
 
 -- A line that ends, alone and behind what is joined.
-pub behind_alone : (kept : KeptText) (line : Bytes) (lines : Lines) → continues line ≡ false → kept.joined ≡ []
-    → logical_behind kept (line ∷ lines) ≡ record { number = kept.next; size = length line; text = uncommented line }
-    ∷ logical_lines (kept.next + 1) lines
-behind_alone kept line lines off none =
-    ap (λ prefix. with_joined kept.begun prefix (logical_lines kept.next (line ∷ lines))) none
-    ∙ logical_ends kept.next line lines off
-    ∙ ap (λ text. record { number = kept.next; size = length line; text = text } ∷ logical_lines (kept.next + 1) lines)
-    (sym (uncommented_is line))
-
-pub behind_joined : (kept : KeptText) (line : Bytes) (lines : Lines) → continues line ≡ false → 0 < length kept.joined
-    → list_any is_hash kept.joined ≡ false
+pub behind_alone : (kept : KeptText) (line : Bytes) → continues line ≡ false → kept.joined ≡ [] → (lines : Lines)
     → logical_behind kept (line ∷ lines)
-    ≡ record {
-      number = kept.begun;
-      size = length kept.joined + length line;
-      text =
-          uncommented (kept.joined ++ before_first is_hash line);
-    } ∷ logical_lines (kept.next + 1) lines
-behind_joined kept line lines off some bare =
+    ≡ line_as kept.next (length line) line ∷ logical_lines (kept.next + 1) lines
+behind_alone kept line off none lines = rw (none, uncommented_is line) (logical_ends kept.next line lines off)
+
+pub behind_joined : (kept : KeptText) (line : Bytes) → continues line ≡ false → 0 < length kept.joined
+    → list_any is_hash kept.joined ≡ false → (lines : Lines) → logical_behind kept (line ∷ lines)
+    ≡ line_as kept.begun (length kept.joined + length line) (kept.joined ++ before_first is_hash line)
+    ∷ logical_lines (kept.next + 1) lines
+behind_joined kept line off some bare lines =
     let behind = before_first is_hash line in
-    let cut : list_any is_hash behind ≡ false = sym (ap (list_any is_hash) (uncommented_is line)) ∙ cut_none line in
+    let cut : list_any is_hash behind ≡ false = rw (← uncommented_is line) (cut_none line) in
     let none : list_any is_hash (kept.joined ++ behind) ≡ false = list_any-append is_hash kept.joined behind
     ∙ or_from _ _ bare cut in
     joined_some kept.begun kept.joined (logical_lines kept.next (line ∷ lines)) some
-    ∙ ap (with_front kept.begun kept.joined) (logical_ends kept.next line lines off)
-    ∙ ap (λ text. record { number = kept.begun; size = length kept.joined + length line; text = text }
-    ∷ logical_lines (kept.next + 1) lines) (sym (uncommented_none (kept.joined ++ behind) none))
+    ∙ rw (uncommented_none (kept.joined ++ behind) none)
+    (ap (with_front kept.begun kept.joined) (logical_ends kept.next line lines off))
 
 -- What is joined, where no line comes behind.
 pub behind_nothing : (kept : KeptText) → 0 < length kept.joined → list_any is_hash kept.joined ≡ false
-    → logical_behind kept [] ≡ record { number = kept.begun; size = length kept.joined; text = uncommented kept.joined }
-    ∷ []
+    → logical_behind kept [] ≡ line_as kept.begun (length kept.joined) kept.joined ∷ []
 behind_nothing kept some bare =
-    joined_some kept.begun kept.joined [] some
-    ∙ ap (λ text. record { number = kept.begun; size = length kept.joined; text = text } ∷ [])
-    (sym (uncommented_none kept.joined bare))
+    rw (uncommented_none kept.joined bare) (joined_some kept.begun kept.joined [] some)
 
 -- What is joined has no comment, with a line more that goes on.
 pub bare_more : (prefix line : Bytes) → list_any is_hash prefix ≡ false → continues line ≡ true

@@ -30,12 +30,12 @@ chosen_no marks k off =
     filter_numbers (λ k. get_or marks (k - 1) false) k ∙ rw p (append-nil _)
 
 -- One position more, that is kept.
-pub kept_mark : (marks : List Bool) (old positions : Positions) (names : List ℕ) (k : ℕ) → k < length marks
+pub kept_mark : {marks : List Bool} {old positions : Positions} {names : List ℕ} {k : ℕ} → k < length marks
     → get_or marks k false ≡ true
     → IsKept marks old positions names k → IsKept marks old (set positions (length names) (get_or positions k []))
     (names ++ (k + 1) ∷ []) (k + 1)
-kept_mark marks old positions names k there on kept = record {
-  names_are = ap (λ (xs : List ℕ). xs ++ (k + 1) ∷ []) kept.names_are ∙ sym (chosen_yes marks k on);
+kept_mark {marks} {old} {positions} {names} {k} there on kept = record {
+  names_are = rw (kept.names_are, chosen_yes marks k on) refl;
   few = omega (arith, length_push names (k + 1), kept.few);
   size = length-set positions (length names) (get_or positions k []) ∙ kept.size;
   prefix =
@@ -43,16 +43,15 @@ kept_mark marks old positions names k there on kept = record {
       let room : length names < length positions = omega (arith, kept.few, kept.size) in
       let e : k + 1 - 1 ≡ k = omega arith in
       let same : get_or positions k [] ≡ position_of old (k + 1) = rw e (at_back positions old k [] kept.back) in
-      rw n (take_more_set positions (length names) (get_or positions k []) room
-      ∙ rw (kept.prefix, same) (sym (map_push (position_of old) (chosen marks k) (k + 1))
-      ∙ ap (map (position_of old)) (sym (chosen_yes marks k on))));
+      rw (n, chosen_yes marks k on) (take_more_set positions (length names) (get_or positions k []) room
+      ∙ rw (kept.prefix, same) (sym (map_push (position_of old) (chosen marks k) (k + 1))));
   back = back_more positions old k (length names) (get_or positions k []) kept.few kept.back;
 }
 
 -- One position more, that is dropped.
-pub kept_skip : (marks : List Bool) (old positions : Positions) (names : List ℕ) (k : ℕ) → get_or marks k false ≡ false
+pub kept_skip : {marks : List Bool} {old positions : Positions} {names : List ℕ} {k : ℕ} → get_or marks k false ≡ false
     → IsKept marks old positions names k → IsKept marks old positions names (k + 1)
-kept_skip marks old positions names k off kept = record {
+kept_skip {marks} {old} {positions} {k = k} off kept = record {
   names_are = kept.names_are ∙ sym (chosen_no marks k off);
   few = omega (arith, kept.few);
   size = kept.size;
@@ -93,11 +92,8 @@ map_faces f g n same (x ∷ xs) all =
 pub late_more : (vertices : ℕ) (faces : Faces) (lines : List ℕ) (i : ℕ) → i < length faces → length lines ≡ length faces
     → list_any (λ corner. ltb vertices corner) (get_or faces i []) ≡ false
     → first_late vertices (drop (i + 1) faces) (drop (i + 1) lines) ≡ first_late vertices (drop i faces) (drop i lines)
-late_more vertices faces lines i there size calm = rw (
-  drop_more faces i [] there,
-  drop_more lines i 0 (omega arith),
-  calm,
-) refl
+late_more vertices faces lines i there size calm =
+    rw (drop_more faces i [] there, drop_more lines i 0 (omega arith), calm) refl
 
 -- What was kept, counted and renumbered is the soup.
 pub made_of : (positions : Positions) (faces : Faces) (marks : List Bool) (made : FaceSet) (vertices : List ℕ)

@@ -109,6 +109,10 @@ words_few (b ∷ bs) = by_blank (is_blank b) (words_few bs)
         ≤ suc (length bs)
     by_blank t few = grind (arith)
 
+-- Nor has a line more words than bytes in front of its comment.
+pub words_short : (line : List ℕ) → length (words (uncommented line)) ≤ length line
+words_short line = omega (arith, words_few (uncommented line), uncommented_short line)
+
 -- Where the next word is one, it is the word at this position.
 pub record IsNext (all : Words) (count : ℕ) (word : List ℕ) (after : Words) : Type 0 where
   pub there : count < length all
@@ -172,19 +176,24 @@ pub none_from : {X : Type 0} (t : Bool) (x : X) → cond t (Some x) None ≡ Non
 none_from t x is = grind (arith)
 
 -- Where the next word is one, fewer are left behind it.
-pub fewer_left : (word : List ℕ) (after rest : Words) → with_word word after ≡ rest → eqb (length word) 0 ≡ false
+pub fewer_left : (word : List ℕ) (after : Words) {rest : Words} → with_word word after ≡ rest → eqb (length word) 0
+    ≡ false
     → length after < length rest
-fewer_left word after rest first some = grind (arith, ap length first)
+fewer_left word after first some = grind (arith, ap length first)
 
-module _ {X : Type 0} (test : List ℕ → Bool) (says : List ℕ → X) (all : Words) (size count : ℕ) (rest : Words)
-    (slots : List X) (word : List ℕ) (after : Words)
-    (read : IsReadTo test says all size count rest slots) (first : with_word word after ≡ rest) where
-  -- The next word passes the test, and what it says is put into its slot.
-  pub read_more : (x : X) → eqb (length word) 0 ≡ false → cond (test word) (Some (says word)) None ≡ Some x
+module _ {X : Type 0} {test : List ℕ → Bool} {says : List ℕ → X} {all : Words} {size count : ℕ} {rest : Words}
+    {slots : List X} (read : IsReadTo test says all size count rest slots)
+    (word : List ℕ) (after : Words) (first : with_word word after ≡ rest) where
+  -- The next word is there.
+  pub next_read : eqb (length word) 0 ≡ false → IsNext all count word after
+  next_read some = next_is all count word after (first ∙ read.rest_is) some
+
+  -- It passes the test, and what it says is put into its slot.
+  pub read_more : {x : X} → eqb (length word) 0 ≡ false → cond (test word) (Some (says word)) None ≡ Some x
       → IsReadTo test says all size (count + 1) after (set slots count x)
-  read_more x some is =
-      let next : IsNext all count word after = next_is all count word after (first ∙ read.rest_is) some in
-      let got : (test word ≡ true) × (x ≡ says word) = some_from (test word) (says word) x is in
+  read_more {x} some is =
+      let next = next_read some in
+      let got = some_from (test word) (says word) x is in
       record {
         within = omega (arith, next.there);
         rest_is = next.behind;
@@ -192,12 +201,11 @@ module _ {X : Type 0} (test : List ℕ → Bool) (says : List ℕ → X) (all : 
         filled = filled_more says all count size slots x (got.1 ∙ ap says (sym next.here)) read.filled;
       }
 
-  -- The next word does not pass it.
+  -- It does not pass it.
   pub read_bad : eqb (length word) 0 ≡ false → cond (test word) (Some (says word)) None ≡ None
       → list_all test all ≡ false
-  read_bad some is =
-      let next : IsNext all count word after = next_is all count word after (first ∙ read.rest_is) some in
-      list_all_at test all count [] next.there (ap test next.here ∙ none_from (test word) (says word) is)
+  read_bad some is = list_all_at test all count [] (next_read some).there
+      (ap test (next_read some).here ∙ none_from (test word) (says word) is)
 
   -- No word is left, so all are read.
   pub all_read : eqb (length word) 0 ≡ true → AreRead test says all size count slots

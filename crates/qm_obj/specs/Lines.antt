@@ -1,17 +1,17 @@
 -- Words one after another, and what a reader keeps of the lines.
 use Rattle.std.specs.Prelude.{◌≡◌, ◌<◌, ◌≤◌, ◌||◌, ℕ, Bool, true, if◌then◌else◌}
-use Rattle.std.specs.Prelude.{List, [], ◌∷◌, ◌++◌, length, map, take, drop}
+use Rattle.std.specs.Prelude.{List, [], ◌∷◌, ◌++◌, length, take, drop}
 use Rattle.std.specs.Prelude.{slice_index_or}
-use Rattle.std.specs.List.{flat_map, list_all}
+use Rattle.std.specs.List.{list_all}
 use Rattle.def_io.specs.Bytes.{Bytes, Lines}
 use Rattle.def_text.specs.Logical.{Logical, is_hash}
 use Rattle.qm_obj.specs.Ahead.{text_ahead, size_ahead}
 use Rattle.def_text.specs.Reading.{reading}
-use Rattle.def_text.specs.Text.{face_in, faces, position_in, positions, readings, refusal_in}
+use Rattle.def_text.specs.Text.{face_in, position_in, refusal_in}
 use Rattle.def_text.specs.Words.{is_blank}
 use Rattle.def_text.specs.declared.reading.Reading.{Reading}
 use Rattle.def_text.specs.declared.reading.Reading.TheVariants.{Passed, Position, Face, Refused}
-use Rattle.qm_obj.specs.Indices.{clamped, with_clamped}
+use Rattle.qm_obj.specs.Indices.{with_clamped}
 use Rattle.def_text.specs.Types.{Positions, Words}
 use Rattle.def_mesh.specs.Faces.{Faces}
 
@@ -24,6 +24,10 @@ with_word (byte ∷ bytes) rest = (byte ∷ bytes) ∷ rest
 abbrev pub uncommented : (line : Bytes) → Bytes
 uncommented [] = []
 uncommented (byte ∷ bytes) = if is_hash byte then [] else byte ∷ uncommented bytes
+
+-- A logical line of this number and this size, with these bytes up to their comment.
+abbrev pub line_as : (number size : ℕ) (bytes : Bytes) → Logical
+line_as number size bytes = record { number = number; size = size; text = uncommented bytes }
 
 -- A byte at which a word ends.
 abbrev pub is_end : (byte : ℕ) → Bool
@@ -51,20 +55,6 @@ pub record Took (positions positions' : Positions) (faces faces' : Faces) (lines
   pub position : positions' ≡ positions ++ position_in said
   pub face : faces' ≡ faces ++ face_in said
   pub line : lines' ≡ lines ++ line_in said
-
--- These are all positions, all faces with clamped corners, and the lines of the faces in some logical lines, none of
--- which is refused.
-pub record HasRead (lines : List Logical) (kept : Positions) (corners : Faces) (numbers : List ℕ) : Type 0 where
-  pub accepted : flat_map refusal_in (readings [] lines) ≡ []
-  pub positions_are : kept ≡ positions (readings [] lines)
-  pub faces_are : corners ≡ map (λ face. map clamped face) (faces (readings [] lines))
-  pub lines_are : numbers ≡ flat_map line_in (readings [] lines)
-
--- The same of the prefix of all logical lines, of which these are the rest.
-pub record HasReadTo (all rest : List Logical) (kept : Positions) (corners : Faces) (numbers : List ℕ) : Type 0 where
-  pub done : List Logical
-  pub split : all ≡ done ++ rest
-  pub has : HasRead done kept corners numbers
 
 -- The slot at k has what the word at k says, as far as so many words and the slots go.
 pub record IsFilled {X : Type 0} (says : List ℕ → X) (words : Words) (count size : ℕ) (slots : List X) : Type 0 where

@@ -5,7 +5,7 @@ ghost use Rattle.std.specs.List.{list_any};
 ghost use Rattle.def_text.specs.Reading.{face_reading, is_letter, is_position_count, reading, vertex_reading};
 ghost use Rattle.def_text.specs.Words.{words};
 ghost use Rattle.qm_obj.specs.Indices.{with_clamped};
-ghost use Rattle.qm_obj.specs.Lines.{uncommented};
+ghost use Rattle.qm_obj.specs.Lines.{line_as, uncommented};
 
 use crate::corner::read_corner;
 use crate::position::{Coordinate, read_coordinate, read_position};
@@ -16,8 +16,7 @@ use def_text::{FACE, MAX_F_LINES, MAX_LINE, MAX_V_LINES, ObjFail, Reading, VERTE
 #[tactic(auto, using(crate::proofs::WordLemmas::by_first_word))]
 pub(crate) fn read_line(line: u32, vertices: u32, faces: u32, size: usize, text: &[u8]) -> Reading
     requires { length text.now ≤ size }
-    ensures { result
-        ≡ with_clamped (reading vertices faces (record { number = line; size = size; text = uncommented text.now })) }
+    ensures { result ≡ with_clamped (reading vertices faces (line_as line size text.now)) }
 {
     if size > MAX_LINE {
         return Reading::Refused(ObjFail::Limit {

@@ -5,7 +5,7 @@ ghost use Rattle.std.specs.Prelude.{IfErr};
 ghost use Rattle.std.specs.List.{list_all};
 ghost use Rattle.def_text.specs.Text.{face_set};
 ghost use Rattle.qm_obj.specs.Kept.{first_late, IsLate};
-ghost use Rattle.qm_obj.specs.Lines.{next_said, Took, uncommented};
+ghost use Rattle.qm_obj.specs.Lines.{line_as, next_said, Took};
 
 use crate::Memory;
 use crate::line::read_line;
@@ -42,11 +42,10 @@ impl Reader {
         ensures kept { OnOk result
             (Took self.old.positions.items self.new.positions.items self.old.faces.items self.new.faces.items
             self.old.lines.items self.new.lines.items
-            (next_said self.old.positions.items self.old.faces.items
-            (record { number = line; size = size; text = uncommented text.now }))) }
+            (next_said self.old.positions.items self.old.faces.items (line_as line size text.now))) }
         ensures refused { IfErr result (λ fail. fail ≢ ObjFail.Memory →
-            next_said self.old.positions.items self.old.faces.items
-            (record { number = line; size = size; text = uncommented text.now }) ≡ Reading.Refused fail) }
+            next_said self.old.positions.items self.old.faces.items (line_as line size text.now)
+            ≡ Reading.Refused fail) }
     {
         match read_line(
             line,

@@ -1,31 +1,30 @@
-use Rattle.std.proofs.Common.{◌+◌, ◌∙◌, sym, ap, length, ◌++◌}
+use Rattle.std.proofs.Common.{◌+◌, ◌∙◌, sym, length, ◌++◌, ◌≡◌, false}
 use Rattle.def_io.specs.Lines.{lines_of}
-use Rattle.qm_obj.proofs.JoinLemmas.{joined_last, joining_more}
+use Rattle.std.specs.List.{before_first}
+use Rattle.def_text.specs.Logical.{is_hash}
+use Rattle.qm_obj.proofs.JoinLemmas.{IsJoined, joined_last, joining_more}
+use Rattle.qm_obj.proofs.joining.join.Goals.{After-goes_on}
 use Rattle.qm_obj.proofs.joining.join.Goals as goal
 
+-- The last line is read.
+last : (c : After-goes_on) → c.goes_on.result ≡ false → IsJoined (lines_of c.args.lines.now) c.args.i
+    (c.loop-next.next + 1) c.args.after (c.loop-next.bytes.items ++ before_first is_hash c.line-line.result.now)
+    (length c.loop-next.bytes.items + length c.line-line.result.now)
+last c off = joined_last c.loop-next-test.true c.requires.within c.line-line.ensures c.loop-next.invariant
+    (sym c.goes_on.ensures ∙ off)
+
 pub returns-then-not-goes_on-clause-bytes : goal.returns-then-not-goes_on-clause-bytes
-returns-then-not-goes_on-clause-bytes c =
-    c.in_ok-extend_from_slice.ensures.items ∙ ap (λ text. c.loop-next.bytes.items ++ text) c.before_comment.ensures
-    ∙ (joined_last (lines_of c.args.lines.now) c.args.i c.loop-next.next c.args.after c.loop-next.bytes.items
-    c.line-line.result.now c.loop-next-test.true c.requires.within c.line-line.ensures (sym c.goes_on.ensures
-    ∙ c.if-not-goes_on.true) c.loop-next.invariant).text
+returns-then-not-goes_on-clause-bytes c = rw (c.in_ok-extend_from_slice.ensures.items, c.before_comment.ensures)
+    (last (goal.at.returns-then-not-goes_on-clause-bytes c).After-goes_on c.if-not-goes_on.true).text
 
 pub returns-then-not-goes_on-clause-next : goal.returns-then-not-goes_on-clause-next
 returns-then-not-goes_on-clause-next c =
-    (joined_last (lines_of c.args.lines.now) c.args.i c.loop-next.next c.args.after c.loop-next.bytes.items
-    c.line-line.result.now c.loop-next-test.true c.requires.within c.line-line.ensures (sym c.goes_on.ensures
-    ∙ c.if-not-goes_on.true) c.loop-next.invariant).count
+    (last (goal.at.returns-then-not-goes_on-clause-next c).After-goes_on c.if-not-goes_on.true).count
 
 pub returns-then-not-goes_on-clause-size : goal.returns-then-not-goes_on-clause-size
-returns-then-not-goes_on-clause-size c =
-    ap (λ n. n + length c.line-line.result.now) (c.len.ensures ∙ c.loop-next.bytes.ok.0)
-    ∙ (joined_last (lines_of c.args.lines.now) c.args.i c.loop-next.next c.args.after c.loop-next.bytes.items
-    c.line-line.result.now c.loop-next-test.true c.requires.within c.line-line.ensures (sym c.goes_on.ensures
-    ∙ c.if-not-goes_on.true) c.loop-next.invariant).bytes_are
+returns-then-not-goes_on-clause-size c = rw (c.len.ensures ∙ c.loop-next.bytes.ok.0)
+    (last (goal.at.returns-then-not-goes_on-clause-size c).After-goes_on c.if-not-goes_on.true).bytes_are
 
 pub loop-next-preserved : goal.loop-next-preserved
-loop-next-preserved c =
-    rw c.in_ok-push_spaced.ensures
-    (joining_more (lines_of c.args.lines.now) c.args.i c.loop-next.next c.args.after c.loop-next.bytes.items
-    c.line-line.result.now c.loop-next-test.true c.requires.within c.line-line.ensures (sym c.goes_on.ensures
-    ∙ c.if-not-goes_on.false) c.loop-next.invariant)
+loop-next-preserved c = rw c.in_ok-push_spaced.ensures (joining_more c.loop-next-test.true c.requires.within
+    c.line-line.ensures c.loop-next.invariant (sym c.goes_on.ensures ∙ c.if-not-goes_on.false))

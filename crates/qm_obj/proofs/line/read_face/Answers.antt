@@ -1,87 +1,72 @@
-use Rattle.std.proofs.Common.{◌≡◌, true, map, arith, sym, ◌∙◌, ap, eqb}
-use Rattle.std.proofs.{lemmas.Bool.eq-eqb, lemmas.Bool.lt-leb, lemmas.Bool.ne_eqb, lemmas.List.take_all}
-use Rattle.std.specs.List.{list_any}
+use Rattle.std.proofs.Common.{◌≡◌, true, map, arith, sym, ◌∙◌, ap}
+use Rattle.std.proofs.{lemmas.Bool.eq-eqb, lemmas.Bool.ne_eqb, lemmas.List.take_all}
 use Rattle.def_text.specs.{Corner.is_corner_word, declared.reading.Reading.TheVariants.Face}
 use Rattle.def_text.specs.{declared.reading.Reading.TheVariants.Refused, declared.refusal.ObjFail.TheVariants.NotQuad}
 use Rattle.def_text.specs.Words.{words}
 use Rattle.qm_obj.specs.{Indices.corner_of, Lines.uncommented}
 use Rattle.qm_obj.proofs.LineLemmas.{face_count, face_in, face_out, face_syntax}
-use Rattle.qm_obj.proofs.WordLemmas.{AreRead, IsNext, all_read, fewer_left, next_is, read_bad, read_more, words_few}
-use Rattle.qm_obj.proofs.WordLemmas.{uncommented_short}
+use Rattle.qm_obj.proofs.WordLemmas.{AreRead, all_read, fewer_left, read_bad, read_more}
+use Rattle.qm_obj.proofs.WordLemmas.{next_read, words_short}
 use Rattle.qm_obj.proofs.line.read_face.Goals.{After-is_empty}
 use Rattle.qm_obj.proofs.line.read_face.Goals as goal
 
 pub words-smaller : goal.words-smaller
-words-smaller c = fewer_left _ _ _ (sym c.next_word.ensures.first) (sym c.is_empty.ensures ∙ c.if-is_empty.false)
+words-smaller c = fewer_left _ _ (sym c.next_word.ensures.first) (sym c.is_empty.ensures ∙ c.if-is_empty.false)
 
 pub overflow_add-count : goal.overflow_add-count
 overflow_add-count c =
-    let next : IsNext (words (uncommented c.args.text.now)) c.words.count c.next_word.result.0.now
-    (words (uncommented c.next_word.result.1.now)) =
-    next_is _ _ _ _ (sym c.next_word.ensures.first ∙ c.words.invariant.rest_is) (sym c.is_empty.ensures
-    ∙ c.if-is_empty.false) in
-    omega (arith, next.there, words_few (uncommented c.args.text.now), uncommented_short c.args.text.now)
+    let next = next_read c.words.invariant _ _ (sym c.next_word.ensures.first)
+    (sym c.is_empty.ensures ∙ c.if-is_empty.false) in
+    omega (arith, next.there, words_short c.args.text.now)
 
 pub words-preserved : goal.words-preserved
-words-preserved c = rw c.put.ensures (read_more _ _ _ _ _ _ _ _ _ c.words.invariant (sym c.next_word.ensures.first) _
+words-preserved c = rw c.put.ensures (read_more c.words.invariant _ _ (sym c.next_word.ensures.first)
     (sym c.is_empty.ensures ∙ c.if-is_empty.false) (sym c.read_corner.ensures ∙ c.in-Some.is))
 
 pub returns-in_default : goal.returns-in_default
 returns-in_default c =
-    face_syntax c.args.line c.args.vertices c.args.faces (words (uncommented c.args.text.now))
-    (lt-leb _ _ (omega arith))
-    (read_bad _ _ _ _ _ _ _ _ _ c.words.invariant (sym c.next_word.ensures.first) (sym c.is_empty.ensures
-    ∙ c.if-is_empty.false) (sym c.read_corner.ensures ∙ c.in_default.is))
+    face_syntax c.args.line c.args.vertices c.args.faces (words (uncommented c.args.text.now)) (omega arith)
+    (read_bad c.words.invariant _ _ (sym c.next_word.ensures.first) (sym c.is_empty.ensures ∙ c.if-is_empty.false)
+    (sym c.read_corner.ensures ∙ c.in_default.is))
 
 -- Where no word is left, all are corners.
 read : (c : After-is_empty) → c.is_empty.result ≡ true
     → AreRead is_corner_word (corner_of c.args.vertices) (words (uncommented c.args.text.now)) 4 c.words.count
     c.words.corners
-read c empty = all_read _ _ _ _ _ _ _ _ _ c.words.invariant (sym c.next_word.ensures.first) (sym c.is_empty.ensures
-    ∙ empty)
+read c empty = all_read c.words.invariant _ _ (sym c.next_word.ensures.first) (sym c.is_empty.ensures ∙ empty)
 
 -- Four corners are the numbers that the four words name.
 four : (c : After-is_empty) → c.is_empty.result ≡ true → c.words.count ≡ 4
     → c.words.corners ≡ map (corner_of c.args.vertices) (words (uncommented c.args.text.now))
 four c empty is =
-    (read c empty).filled (omega arith)
-    ∙ ap (map (corner_of c.args.vertices)) (take_all 4 (words (uncommented c.args.text.now))
-    (omega (arith, (read c empty).many)))
+    rw (← take_all 4 (words (uncommented c.args.text.now)) (omega (arith, (read c empty).many)))
+    ((read c empty).filled (omega arith))
 
 pub returns-then-count-ne4 : goal.returns-then-count-ne4
 returns-then-count-ne4 c =
-    let all : AreRead is_corner_word (corner_of c.args.vertices) (words (uncommented c.args.text.now)) 4 c.words.count
-    c.words.corners = read (goal.at.returns-then-count-ne4 c).After-is_empty c.if-is_empty.true in
+    let all = read (goal.at.returns-then-count-ne4 c).After-is_empty c.if-is_empty.true in
     ap (λ n. Refused (NotQuad c.args.line n)) (sym all.many)
-    ∙ face_count c.args.line c.args.vertices c.args.faces (words (uncommented c.args.text.now))
-    (lt-leb _ _ (omega arith)) all.passed (ne_eqb _ _ (λ e. c.if-count-ne4.true (sym all.many ∙ e)))
+    ∙ face_count c.args.line c.args.vertices c.args.faces (words (uncommented c.args.text.now)) (omega arith)
+    all.passed (ne_eqb _ _ (λ e. c.if-count-ne4.true (sym all.many ∙ e)))
 
 pub returns-then-names_none : goal.returns-then-names_none
 returns-then-names_none c =
-    let at : After-is_empty = (goal.at.returns-then-names_none c).After-is_empty in
-    let all : AreRead is_corner_word (corner_of c.args.vertices) (words (uncommented c.args.text.now)) 4 c.words.count
-    c.words.corners = read at c.if-is_empty.true in
-    face_out c.args.line c.args.vertices c.args.faces (words (uncommented c.args.text.now)) (lt-leb _ _ (omega arith))
+    let at = (goal.at.returns-then-names_none c).After-is_empty in
+    let all = read at c.if-is_empty.true in
+    face_out c.args.line c.args.vertices c.args.faces (words (uncommented c.args.text.now)) (omega arith)
     all.passed (eq-eqb _ _ (omega (arith, all.many)))
-    (ap (list_any (λ corner. eqb corner 0)) (sym (four at c.if-is_empty.true (omega arith))) ∙ sym c.names_none.ensures
-    ∙ c.if-names_none.true)
+    (rw (← four at c.if-is_empty.true (omega arith)) (sym c.names_none.ensures ∙ c.if-names_none.true))
 
 pub returns : goal.returns
 returns c =
-    let at : After-is_empty = (goal.at.returns c).After-is_empty in
-    let all : AreRead is_corner_word (corner_of c.args.vertices) (words (uncommented c.args.text.now)) 4 c.words.count
-    c.words.corners = read at c.if-is_empty.true in
-    ap (Face c.args.line) (four at c.if-is_empty.true (omega arith))
-    ∙ face_in c.args.line c.args.vertices c.args.faces (words (uncommented c.args.text.now)) (lt-leb _ _ (omega arith))
+    let at = (goal.at.returns c).After-is_empty in
+    let all = read at c.if-is_empty.true in
+    let are : c.words.corners ≡ map (corner_of c.args.vertices) (words (uncommented c.args.text.now)) =
+    four at c.if-is_empty.true (omega arith) in
+    ap (Face c.args.line) are
+    ∙ face_in c.args.line c.args.vertices c.args.faces (words (uncommented c.args.text.now)) (omega arith)
     all.passed (eq-eqb _ _ (omega (arith, all.many)))
-    (ap (list_any (λ corner. eqb corner 0)) (sym (four at c.if-is_empty.true (omega arith))) ∙ sym c.names_none.ensures
-    ∙ c.if-names_none.false)
+    (rw (← are) (sym c.names_none.ensures ∙ c.if-names_none.false))
 
 pub overflow_cast-result : goal.overflow_cast-result
-overflow_cast-result c = omega (
-  arith,
-  c.words.invariant.within,
-  words_few (uncommented c.args.text.now),
-  uncommented_short c.args.text.now,
-  c.requires,
-)
+overflow_cast-result c = omega (arith, c.words.invariant.within, words_short c.args.text.now, c.requires)

@@ -1,70 +1,66 @@
 use Rattle.std.proofs.Common.{◌≡◌, ◌&&◌, true, length, map, take, arith, sym, ◌∙◌, ap}
-use Rattle.std.proofs.lemmas.Bool.{and_from, and_left, and_right, lt-leb}
+use Rattle.std.proofs.lemmas.Bool.{and_from, and_left, and_right}
 use Rattle.std.specs.List.{list_all}
 use Rattle.def_text.specs.{Decimal.is_decimal, Reading.is_position_count, Words.words}
 use Rattle.qm_obj.specs.{Positions.all_near, Positions.coordinate, Lines.uncommented}
 use Rattle.qm_obj.proofs.LineLemmas.{position_words, vertex_far, vertex_position, vertex_syntax}
-use Rattle.qm_obj.proofs.WordLemmas.{AreRead, IsNext, all_read, fewer_left, next_is, read_bad, read_more, words_few}
-use Rattle.qm_obj.proofs.WordLemmas.{uncommented_short}
+use Rattle.qm_obj.proofs.WordLemmas.{AreRead, all_read, fewer_left, read_bad, read_more}
+use Rattle.qm_obj.proofs.WordLemmas.{next_read, words_short}
 use Rattle.qm_obj.proofs.line.read_vertex.Goals.{After-is_empty}
 use Rattle.qm_obj.proofs.line.read_vertex.Goals as goal
 
 pub words-smaller : goal.words-smaller
-words-smaller c = fewer_left _ _ _ (sym c.next_word.ensures.first) (sym c.is_empty.ensures ∙ c.if-is_empty.false)
+words-smaller c = fewer_left _ _ (sym c.next_word.ensures.first) (sym c.is_empty.ensures ∙ c.if-is_empty.false)
 
 pub overflow_add-count : goal.overflow_add-count
 overflow_add-count c =
-    let next : IsNext (words (uncommented c.args.text.now)) c.words.count c.next_word.result.0.now
-    (words (uncommented c.next_word.result.1.now)) =
-    next_is _ _ _ _ (sym c.next_word.ensures.first ∙ c.words.invariant.rest_is) (sym c.is_empty.ensures
-    ∙ c.if-is_empty.false) in
-    omega (arith, next.there, words_few (uncommented c.args.text.now), uncommented_short c.args.text.now)
+    let next = next_read c.words.invariant _ _ (sym c.next_word.ensures.first)
+    (sym c.is_empty.ensures ∙ c.if-is_empty.false) in
+    omega (arith, next.there, words_short c.args.text.now)
 
 pub words-preserved : goal.words-preserved
-words-preserved c = rw c.put.ensures (read_more _ _ _ _ _ _ _ _ _ c.words.invariant (sym c.next_word.ensures.first) _
+words-preserved c = rw c.put.ensures (read_more c.words.invariant _ _ (sym c.next_word.ensures.first)
     (sym c.is_empty.ensures ∙ c.if-is_empty.false) (sym c.read_coordinate.ensures ∙ c.in-Some.is))
 
 pub returns-in_default : goal.returns-in_default
 returns-in_default c =
-    vertex_syntax c.args.line c.args.vertices (words (uncommented c.args.text.now)) (lt-leb _ _ (omega arith))
-    (and_right _ _ (read_bad _ _ _ _ _ _ _ _ _ c.words.invariant (sym c.next_word.ensures.first) (sym c.is_empty.ensures
+    vertex_syntax c.args.line c.args.vertices (words (uncommented c.args.text.now)) (omega arith)
+    (and_right _ _ (read_bad c.words.invariant _ _ (sym c.next_word.ensures.first) (sym c.is_empty.ensures
     ∙ c.if-is_empty.false) (sym c.read_coordinate.ensures ∙ c.in_default.is)))
 
 -- Where no word is left, all are decimals.
 read : (c : After-is_empty) → c.is_empty.result ≡ true
     → AreRead is_decimal coordinate (words (uncommented c.args.text.now)) 3 c.words.count c.words.slots
-read c empty = all_read _ _ _ _ _ _ _ _ _ c.words.invariant (sym c.next_word.ensures.first) (sym c.is_empty.ensures
-    ∙ empty)
+read c empty = all_read c.words.invariant _ _ (sym c.next_word.ensures.first) (sym c.is_empty.ensures ∙ empty)
 
 pub returns-then-not-is_right_count : goal.returns-then-not-is_right_count
 returns-then-not-is_right_count c =
-    let all : AreRead is_decimal coordinate (words (uncommented c.args.text.now)) 3 c.words.count c.words.slots =
-    read (goal.at.returns-then-not-is_right_count c).After-is_empty c.if-is_empty.true in
-    vertex_syntax c.args.line c.args.vertices (words (uncommented c.args.text.now)) (lt-leb _ _ (omega arith))
+    let all = read (goal.at.returns-then-not-is_right_count c).After-is_empty c.if-is_empty.true in
+    vertex_syntax c.args.line c.args.vertices (words (uncommented c.args.text.now)) (omega arith)
     (and_left _ _ (ap is_position_count all.many ∙ sym c.is_right_count.ensures ∙ c.if-not-is_right_count.true))
 
 -- As many decimals as a position has, of which the slots have the first three.
 right : (c : After-is_empty) → c.is_empty.result ≡ true → is_position_count c.words.count ≡ true
     → (is_position_count (length (words (uncommented c.args.text.now)))
     && list_all is_decimal (words (uncommented c.args.text.now))) ≡ true
-right c empty many = and_from _ _ (ap is_position_count (read c empty).many ∙ many) (read c empty).passed
+right c empty many = and_from _ _ (rw (read c empty).many many) (read c empty).passed
 
 slots : (c : After-is_empty) → c.is_empty.result ≡ true → is_position_count c.words.count ≡ true
-    → c.words.slots ≡ map coordinate (take 3 (words (uncommented c.args.text.now)))
-slots c empty many = (read c empty).filled (position_words c.words.count many)
+    → map coordinate (take 3 (words (uncommented c.args.text.now))) ≡ c.words.slots
+slots c empty many = sym ((read c empty).filled (position_words c.words.count many))
 
 pub returns-in-Some-read_position : goal.returns-in-Some-read_position
 returns-in-Some-read_position c =
-    let at : After-is_empty = (goal.at.returns-in-Some-read_position c).After-is_empty in
-    let many : is_position_count c.words.count ≡ true = sym c.is_right_count.ensures ∙ c.if-not-is_right_count.false in
-    vertex_position c.args.line c.args.vertices (words (uncommented c.args.text.now)) c.in-Some-read_position.position
-    (lt-leb _ _ (omega arith)) (right at c.if-is_empty.true many)
-    (ap all_near (sym (slots at c.if-is_empty.true many)) ∙ sym c.read_position.ensures ∙ c.in-Some-read_position.is)
+    let at = (goal.at.returns-in-Some-read_position c).After-is_empty in
+    let many = sym c.is_right_count.ensures ∙ c.if-not-is_right_count.false in
+    vertex_position c.args.line c.args.vertices (words (uncommented c.args.text.now)) (omega arith)
+    (right at c.if-is_empty.true many)
+    (ap all_near (slots at c.if-is_empty.true many) ∙ sym c.read_position.ensures ∙ c.in-Some-read_position.is)
 
 pub returns-in-None : goal.returns-in-None
 returns-in-None c =
-    let at : After-is_empty = (goal.at.returns-in-None c).After-is_empty in
-    let many : is_position_count c.words.count ≡ true = sym c.is_right_count.ensures ∙ c.if-not-is_right_count.false in
-    vertex_far c.args.line c.args.vertices (words (uncommented c.args.text.now)) (lt-leb _ _ (omega arith))
+    let at = (goal.at.returns-in-None c).After-is_empty in
+    let many = sym c.is_right_count.ensures ∙ c.if-not-is_right_count.false in
+    vertex_far c.args.line c.args.vertices (words (uncommented c.args.text.now)) (omega arith)
     (right at c.if-is_empty.true many)
-    (ap all_near (sym (slots at c.if-is_empty.true many)) ∙ sym c.read_position.ensures ∙ c.in-None.is)
+    (ap all_near (slots at c.if-is_empty.true many) ∙ sym c.read_position.ensures ∙ c.in-None.is)

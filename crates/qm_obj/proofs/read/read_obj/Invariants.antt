@@ -1,6 +1,6 @@
 use Rattle.std.proofs.Common.{◌-◌}
 use Rattle.def_io.specs.Lines.{lines_of}
-use Rattle.qm_obj.proofs.ReadLemmas.{IsAt}
+use Rattle.qm_obj.proofs.RangeLemmas.{IsAt}
 use Rattle.qm_obj.proofs.read.read_obj.Given as goal
 
 abbrev pub invariant-loop-i : goal.invariant-loop-i

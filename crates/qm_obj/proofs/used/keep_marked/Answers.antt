@@ -1,7 +1,7 @@
 use Rattle.std.proofs.Common.{◌≡◌, ◌+◌, ◌∷◌, ◌++◌, [], length, get_or, arith, ◌∙◌, ap, below_more}
 use Rattle.std.proofs.lemmas.Grind.{common_steps}
 use Rattle.std.proofs.lemmas.List.{length_push, get_or_push, get_or_append_left}
-use Rattle.qm_obj.specs.Kept.{chosen, IsKept}
+use Rattle.qm_obj.specs.Kept.{chosen}
 use Rattle.qm_obj.proofs.UsedLemmas.{kept_mark, kept_skip}
 use Rattle.qm_obj.proofs.used.keep_marked.Goals.{then-marks-k+in_ok-keep_position, else-marks-k}
 use Rattle.qm_obj.proofs.used.keep_marked.Goals as goal
@@ -10,22 +10,14 @@ pub loop-k-preserved : goal.loop-k-preserved
 loop-k-preserved c =
     let pushed : c.push.new.self.items ≡ c.loop-k.vertices.items ++ length c.loop-k.names.items ∷ [] =
     grind (arith, common_steps) in
-    let before : IsKept c.args.marks.now c.args.positions.now.items c.loop-k.positions.items c.loop-k.names.items
-    c.loop-k.k = c.loop-k.invariant.kept in
+    let before = c.loop-k.invariant.kept in
     let count : length c.loop-k.vertices.items ≡ c.loop-k.k = c.loop-k.invariant.count in
     record {
       kept = elim c.if-marks-k.branch [
-        | then-marks-k+in_ok-keep_position w ↦ rw (
-          w.positions-is,
-          w.names-is,
-          w.in_ok-keep_position.ensures.positions,
-          w.in_ok-keep_position.ensures.names,
-        )
-            (kept_mark c.args.marks.now c.args.positions.now.items c.loop-k.positions.items c.loop-k.names.items
-            c.loop-k.k c.loop-k-test.true w.if-marks-k.true before)
-        | else-marks-k w ↦ rw (w.positions-is, w.names-is)
-            (kept_skip c.args.marks.now c.args.positions.now.items c.loop-k.positions.items c.loop-k.names.items
-            c.loop-k.k w.if-marks-k.false before)
+        | then-marks-k+in_ok-keep_position w ↦ let kept = w.in_ok-keep_position.ensures in
+            rw (w.positions-is, w.names-is, kept.positions, kept.names)
+            (kept_mark c.loop-k-test.true w.if-marks-k.true before)
+        | else-marks-k w ↦ rw (w.positions-is, w.names-is) (kept_skip w.if-marks-k.false before)
       ];
       count = ap length pushed ∙ length_push c.loop-k.vertices.items (length c.loop-k.names.items)
           ∙ ap (λ n. n + 1) count;

@@ -6,18 +6,15 @@ use Rattle.qm_obj.proofs.feed.ObjFeed.feed.Goals as goal
 
 pub returns-then-is_some : goal.returns-then-is_some
 returns-then-is_some c =
-    rw (← c.self.view_is) (λ text stands. stands_still (kept_at c.self.inside.progress) c.self.inside.refused
-    c.args.piece.now text c.if-is_some.ensures stands)
+    rw (← c.self.view_is) (λ text stands. stands_still c.args.piece.now c.if-is_some.ensures stands)
 
 pub returns-in-Ok : goal.returns-in-Ok
 returns-in-Ok c =
-    rw (← c.self.view_is) (λ text stands. stands_more (kept_at c.self.inside.progress) (kept_at c.take.new.self)
-    c.self.inside.refused c.args.piece.now text c.if-is_some.ensures c.in-Ok.ensures.took stands)
+    rw (← c.self.view_is) (λ text stands. stands_more c.if-is_some.ensures c.in-Ok.ensures.took stands)
 
 pub returns-in-Err : goal.returns-in-Err
 returns-in-Err c =
-    rw (← c.self.view_is) (on_ok_weaker c.only_memory.result
-    (λ (other : c.in-Err.fail ≢ Memory) text stands. stands_refused (kept_at c.self.inside.progress)
-    (kept_at c.drop_line.new.self) c.self.inside.refused c.args.piece.now text c.in-Err.fail c.if-is_some.ensures
+    rw (← c.self.view_is) (on_ok_weaker c.only_memory.result (λ (other : c.in-Err.fail ≢ Memory) text stands.
+    stands_refused (kept_at c.drop_line.new.self) c.args.piece.now c.if-is_some.ensures
     (c.in-Err.ensures.refused other) stands)
     c.only_memory.ensures)

@@ -1,30 +1,23 @@
-use Rattle.std.proofs.Common.{◌≡◌, ◌≢◌, ◌∙◌, [], Err, refl, ap}
+use Rattle.std.proofs.Common.{◌∙◌, refl, ap, [], ◌≢◌}
 use Rattle.std.proofs.lemmas.Result.{IfErr-weaker, on_ok_weaker}
-use Rattle.def_feed.specs.Kept.{soup_with}
 use Rattle.def_io.specs.Lines.{line_of}
-use Rattle.def_text.specs.declared.refusal.ObjFail.TheVariants.{Memory}
-use Rattle.qm_obj.specs.{Feeding.RefusesLine, Feeding.TookLine, Views.kept_at, Views.kept_of}
 use Rattle.qm_obj.proofs.FeedLemmas.{ended_tail, is_nothing, is_something}
 use Rattle.qm_obj.proofs.progress.Progress.end.Goals as goal
+use Rattle.def_text.specs.declared.refusal.ObjFail.TheVariants.{Memory}
+use Rattle.qm_obj.specs.Feeding.{RefusesLine, TookLine}
+use Rattle.qm_obj.specs.Views.{kept_of}
 
 pub returns-then-is_empty-clause-same : goal.returns-then-is_empty-clause-same
-returns-then-is_empty-clause-same c = rw (is_nothing _ _ c.if-is_empty.ensures c.args.self.now.tail.ok.0) refl
+returns-then-is_empty-clause-same c = rw (is_nothing c.if-is_empty.ensures c.args.self.now.tail.ok.0) refl
 
 pub returns-clause-same : goal.returns-clause-same
-returns-clause-same c =
-    on_ok_weaker c.take.result
+returns-clause-same c = on_ok_weaker c.take.result
     (λ (took : TookLine (kept_of c.args.self.now.joiner []) (kept_of c.take.new.self []) c.line_of.result.now).
-    ended_tail (kept_at c.args.self.now) c.line_of.result.now c.requires.sound
-    (is_something _ _ c.if-is_empty.ensures c.args.self.now.tail.ok.0) (c.line_of.ensures
-    ∙ ap line_of c.deref.ensures.value) ∙ took.same [])
-    c.take.ensures.took
+    ended_tail c.requires.sound (is_something _ c.if-is_empty.ensures c.args.self.now.tail.ok.0)
+    (c.line_of.ensures ∙ ap line_of c.deref.ensures.value) ∙ took.same []) c.take.ensures.took
 
 pub returns-clause-refused : goal.returns-clause-refused
-returns-clause-refused c =
-    IfErr-weaker c.take.result (λ fail. fail ≢ Memory
-    → RefusesLine (kept_of c.args.self.now.joiner []) c.line_of.result.now fail) (λ fail. fail ≢ Memory
-    → soup_with (kept_at c.args.self.now) [] ≡ Err fail)
-    (λ fail is other. ended_tail (kept_at c.args.self.now) c.line_of.result.now c.requires.sound
-    (is_something _ _ c.if-is_empty.ensures c.args.self.now.tail.ok.0) (c.line_of.ensures
-    ∙ ap line_of c.deref.ensures.value) ∙ is other [])
-    c.take.ensures.refused
+returns-clause-refused c = IfErr-weaker c.take.result _ _
+    (λ fail (is : fail ≢ Memory → RefusesLine (kept_of c.args.self.now.joiner []) c.line_of.result.now fail) other.
+    ended_tail c.requires.sound (is_something _ c.if-is_empty.ensures c.args.self.now.tail.ok.0)
+    (c.line_of.ensures ∙ ap line_of c.deref.ensures.value) ∙ is other []) c.take.ensures.refused
